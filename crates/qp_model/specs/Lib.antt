@@ -1,0 +1,17 @@
+pub mod Range
+pub mod Design
+pub mod Trajectory
+pub mod Cost
+pub mod Residual
+pub mod Box
+pub mod Parts
+pub mod Condensed
+pub mod Curvature
+pub mod GoodSolution
+pub mod Errors
+pub mod Controller
+pub mod Machine
+pub mod AbsoluteSums
+pub mod ValuesMet
+pub mod Lines
+pub mod ControllerText

@@ -1,0 +1,84 @@
+-- A design's numbers as a design, and their shapes and ranges.
+use Rattle.std.specs.Prelude.{◌≡◌, ℕ, ◌+◌, ◌≤◌, ◌<◌, ℤ, pos, ◌≤ℤ◌, List, length, All, unsigned_abs}
+use Rattle.integer_algebra.specs.Sums.{at, none}
+use Rattle.mat_int.specs.Matrix.{Matrix, entry_of}
+use Rattle.qp_model.specs.Design.{Design, CostRow, LimitRow}
+use Rattle.qp_model.specs.Range.{LiesIn, IsDenominator, IsNumerator, IsPositive}
+use Rattle.qp_model.specs.declared.design_parts.DesignParts.{DesignParts}
+
+-- row r of a matrix as a cost row of n coefficients, its target and its weight
+abbrev pub cost_row : Matrix → ℕ → ℕ → CostRow
+cost_row m n r = record { coefficient = entry_of m r; target = entry_of m r n; weight = entry_of m r (n + 1) }
+
+-- as a limit row of n numbers of the state, p of the input, and its bound
+abbrev pub limit_row : Matrix → ℕ → ℕ → ℕ → LimitRow
+limit_row m n p r = record { of_state = entry_of m r; of_input = λ l. entry_of m r (n + l); bound = entry_of m r (n + p) }
+
+-- the same with no part of the input
+abbrev pub final_row : Matrix → ℕ → ℕ → LimitRow
+final_row m n r = record { of_state = entry_of m r; of_input = none; bound = entry_of m r n }
+
+-- the design with these numbers
+abbrev pub design_of : DesignParts → Design
+design_of p = record {
+  states = p.states;
+  inputs = p.inputs;
+  stages = p.stages;
+  plant_denominator = unsigned_abs p.plant_den;
+  plant_a = entry_of p.a;
+  plant_b = entry_of p.b;
+  cost_denominator = unsigned_abs p.cost_den;
+  row_denominator = unsigned_abs p.row_den;
+  input_weight = at p.input_weights.items;
+  stage_costs = length p.stage_cost.rows;
+  stage_cost = cost_row p.stage_cost p.states;
+  final_costs = length p.final_cost.rows;
+  final_cost = cost_row p.final_cost p.states;
+  limit_denominator = unsigned_abs p.limit_den;
+  stage_limits = length p.stage_rows.rows;
+  stage_limit = limit_row p.stage_rows p.states p.inputs;
+  final_limits = length p.final_rows.rows;
+  final_limit = final_row p.final_rows p.states;
+  grid = p.grid;
+  low = at p.lo.items;
+  high = at p.hi.items;
+}
+
+-- ---- shapes and ranges
+-- a matrix of numerators
+pub record IsTable (m : Matrix) (low high width : ℕ) : Type 0 where
+  pub rows : LiesIn low high (length m.rows)
+  pub cols : m.cols ≡ width
+  pub numbers : All (All IsNumerator) m.rows
+
+-- a list of numerators
+pub record IsLine (xs : List ℤ) (n : ℕ) : Type 0 where
+  pub long : length xs ≡ n
+  pub numbers : All IsNumerator xs
+
+pub record IsDesign (p : DesignParts) : Type 0 where
+  pub states : LiesIn 1 4 p.states
+  pub inputs : LiesIn 1 3 p.inputs
+  pub stages : LiesIn 1 20 p.stages
+  pub plant_den : IsDenominator p.plant_den
+  pub a : IsTable p.a p.states p.states p.states
+  pub b : IsTable p.b p.states p.states p.inputs
+  pub cost_den : IsDenominator p.cost_den
+  pub row_den : IsDenominator p.row_den
+  pub input_count : length p.input_weights.items ≡ p.inputs
+  pub input_weights : All IsPositive p.input_weights.items
+  pub stage_cost : IsTable p.stage_cost 0 12 (p.states + 2)
+  pub stage_weights : (r : ℕ) → r < length p.stage_cost.rows → pos 0 ≤ℤ entry_of p.stage_cost r (p.states + 1)
+  pub final_cost : IsTable p.final_cost 0 12 (p.states + 2)
+  pub final_weights : (r : ℕ) → r < length p.final_cost.rows → pos 0 ≤ℤ entry_of p.final_cost r (p.states + 1)
+  pub limit_den : IsDenominator p.limit_den
+  pub stage_rows : IsTable p.stage_rows 0 12 (p.states + p.inputs + 1)
+  pub final_rows : IsTable p.final_rows 0 12 (p.states + 1)
+  pub some_row : 1 ≤ length p.stage_rows.rows + length p.final_rows.rows
+  pub grid : p.grid ≤ 24
+  pub lo : IsLine p.lo.items p.states
+  pub hi : IsLine p.hi.items p.states
+  pub box : (i : ℕ) → i < p.states → at p.lo.items i ≤ℤ at p.hi.items i
+  pub target_den : IsDenominator p.target_den
+  pub violation : IsPositive p.violation
+  pub gap : IsPositive p.gap

@@ -1,0 +1,35 @@
+/// What the policy shows at the corners of the box.
+#[derive(Clone, Copy, Debug, PartialEq, Eq)]
+pub struct Margin {
+    /// The least slack of all corners and rows in units of `2^-16`, rounded down.
+    pub units: i128,
+    /// The greatest cost of all corners, rounded up to a whole number.
+    pub cost: i128,
+}
+
+/// What a report prints of a controller.
+#[derive(Clone, Copy, Debug, PartialEq, Eq)]
+pub struct Bounds {
+    /// The corners' least slack, over `2^16`.
+    pub margin: i128,
+    /// The corners' greatest cost.
+    pub cost: i128,
+    /// R: half the greatest multiplier.
+    pub multiplier: i128,
+    /// s: a step is `2^-s`.
+    pub step: u32,
+    /// K, the steps of a run.
+    pub steps: u32,
+    /// f, the fraction bits.
+    pub bits: u32,
+    /// w, the width of a word in bits.
+    pub width: u32,
+    /// The words of memory that a run needs.
+    pub words: usize,
+    /// By how much a plan exceeds a constraint at most, over `2^40`.
+    pub violation: i128,
+    /// How much more than any feasible plan it costs at most, over `2^40`.
+    pub gap: i128,
+    /// How much more than it some feasible plan costs at most, over `2^40`.
+    pub undercut: i128,
+}

@@ -1,0 +1,22 @@
+use thiserror::Error;
+
+/// The numbers that must not pass `2^126`.
+#[derive(Clone, Copy, Debug, PartialEq, Eq)]
+pub enum Quantity {
+    Prediction,
+    CornerSlack,
+    CornerCost,
+    Multiplier,
+    Hessian,
+    Rows,
+    Curvature,
+    Error,
+    Descent,
+    Width,
+    Turn,
+}
+
+/// A quantity that passes `2^126`.
+#[derive(Clone, Copy, Debug, PartialEq, Eq, Error)]
+#[error("wide")]
+pub struct Wide(pub Quantity);
