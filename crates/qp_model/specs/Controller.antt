@@ -53,8 +53,8 @@ pub record IsShaped (c : Numbers) : Type 0 where
   pub state_rows : HasShape c.state_rows c.rows c.states
   pub bounds : length c.bounds ≡ c.rows
 
--- the ranges of a controller's numbers
-pub record IsInForm (c : Numbers) : Type 0 where
+-- the shapes and ranges of a controller's numbers, but for the width
+pub record IsSized (c : Numbers) : Type 0 where
   pub states : LiesIn 1 4 c.states
   pub inputs : LiesIn 1 3 c.inputs
   pub stages : LiesIn 1 20 c.stages
@@ -62,7 +62,6 @@ pub record IsInForm (c : Numbers) : Type 0 where
   pub grid_bits : c.grid_bits ≤ 24
   pub fraction_bits : LiesIn c.grid_bits 48 c.fraction_bits
   pub step_exponent : c.step_exponent ≤ 40
-  pub width : LiesIn 2 128 c.width
   pub steps : LiesIn 1 4194304 c.steps
   pub clamp_low : pos 0 ≤ℤ c.clamp
   pub clamp_high : c.clamp ≤ℤ pos (2 ^ 126)
@@ -71,6 +70,11 @@ pub record IsInForm (c : Numbers) : Type 0 where
   pub low : All IsNumerator c.low
   pub high : All IsNumerator c.high
   pub box : (i : ℕ) → i < c.states → at c.low i ≤ℤ at c.high i
+
+-- the same with the width
+pub record IsInForm (c : Numbers) : Type 0 where
+  pub sized : IsSized c
+  pub width : LiesIn 2 128 c.width
 
 -- each number fits a word of 128 bits
 pub record FitsWord (c : Numbers) : Type 0 where
