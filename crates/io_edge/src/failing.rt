@@ -1,0 +1,17 @@
+// The writes of a store in memory that are to fail.
+ghost use Rattle.std.specs.Prelude.{◌≡◌};
+ghost use Rattle.io_edge.specs.Failing.{keep_of};
+
+// A write that is to fail, and how many bytes it keeps.
+#[derive(Clone, Copy, Debug, PartialEq, Eq)]
+pub struct FailingWrite {
+    pub call: usize,
+    pub keep: usize,
+}
+
+// How many bytes the write of this number is to keep, where it is listed.
+pub fn keep_of(failing: &[FailingWrite], call: usize) -> Option<usize>
+    ensures { result ≡ keep_of failing.now call }
+{
+    failing.iter().find(|w| w.call == call).map(|w| w.keep)
+}
