@@ -14,4 +14,5 @@ pub mod Machine
 pub mod AbsoluteSums
 pub mod ValuesMet
 pub mod Lines
+pub mod Spelling
 pub mod ControllerText

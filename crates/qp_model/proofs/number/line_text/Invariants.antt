@@ -1,0 +1,6 @@
+use Rattle.std.proofs.Common.{◌≡◌, take, string_bytes}
+use Rattle.qp_model.specs.Lines.{line_of}
+use Rattle.qp_model.proofs.number.line_text.Given as goal
+
+abbrev pub invariant-loop-number : goal.invariant-loop-number
+invariant-loop-number l = string_bytes l.text ≡ line_of l.key (take l.number-index l.numbers)
