@@ -15,3 +15,6 @@ pub mod AbsoluteSums
 pub mod ValuesMet
 pub mod Lines
 pub mod ControllerText
+pub mod Condensing
+pub mod Runs
+pub mod Scaling

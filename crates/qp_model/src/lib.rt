@@ -5,6 +5,7 @@ mod bounds;
 mod controller_parts;
 mod design;
 mod design_parts;
+mod laws;
 mod policy;
 mod quantity;
 mod text_fault;
@@ -13,6 +14,10 @@ pub use bounds::{Bounds, Margin};
 pub use controller_parts::ControllerParts;
 pub use design::Design;
 pub use design_parts::DesignParts;
+pub use laws::{
+    agrees_law, condensing_law, gram_law, residual_law, response_law, row_bound_law, run_law,
+    scaling_law, trajectory_law,
+};
 pub use policy::Policy;
 pub use quantity::{Quantity, Wide};
 pub use text_fault::TextFault;
