@@ -18,3 +18,5 @@ pub mod ControllerText
 pub mod Condensing
 pub mod Runs
 pub mod Scaling
+pub mod Sound
+pub mod CostShape

@@ -1,6 +1,7 @@
 // What the definitions give, each as the contract of a function with nothing to do.
 ghost use Rattle.qp_model.specs.Condensing.{CondensingLaw, TrajectoryLaw};
 ghost use Rattle.qp_model.specs.Runs.{RunLaw, ResponseLaw, ResidualLaw, RowBoundLaw, GramLaw, AgreesLaw};
+ghost use Rattle.qp_model.specs.CostShape.{ExpansionLaw, HessianLaw, CurvatureLaw, AverageLaw};
 ghost use Rattle.qp_model.specs.Scaling.{ScalingLaw};
 
 /// Each state of a trajectory is the free state plus the responses times the plan.
@@ -46,4 +47,24 @@ pub fn gram_law()
 /// Numbers that agree with a design's below its sizes are its condensed form.
 pub fn agrees_law()
     ensures { AgreesLaw }
+{}
+
+/// The cost after a step is the cost before, the gradient along the step, and the step's own curvature.
+pub fn expansion_law()
+    ensures { ExpansionLaw }
+{}
+
+/// Twice the curvature of a step is the hessian's form of it.
+pub fn hessian_law()
+    ensures { HessianLaw }
+{}
+
+/// The curvature of a step is at least the least input weight times the squares of its entries.
+pub fn curvature_law()
+    ensures { CurvatureLaw }
+{}
+
+/// The average of some plans costs at most the average of their costs.
+pub fn average_law()
+    ensures { AverageLaw }
 {}
