@@ -20,6 +20,10 @@ pub record Condensed : Type 0 where
 abbrev pub slope_at : Design → Condensed → (ℕ → ℤ) → ℕ → ℤ
 slope_at d k xi j = image d.states k.linear xi j +ℤ pos (2 ^ d.grid) *ℤ k.constant j
 
+-- entry j of H u + F x + h0, the gradient of the cost at a plan u over q, as a numerator over `cost_scale d` * q
+abbrev pub gradient_at : Design → Condensed → ℤ → (xi u : ℕ → ℤ) → ℕ → ℤ
+gradient_at d k q xi u j = pos (4 ^ d.grid) *ℤ image (entries d) k.hessian u j +ℤ (pos (2 ^ d.grid) *ℤ q) *ℤ slope_at d k xi j
+
 -- what makes numbers the condensed form: two equations, at every state and plan
 pub record IsCondensed (d : Design) (k : Condensed) : Type 0 where
   pub symmetric : (i j : ℕ) → i < entries d → j < entries d → k.hessian i j ≡ k.hessian j i

@@ -16,3 +16,8 @@ pub mod ValuesMet
 pub mod Lines
 pub mod Spelling
 pub mod ControllerText
+pub mod Condensing
+pub mod Runs
+pub mod Scaling
+pub mod Sound
+pub mod CostShape

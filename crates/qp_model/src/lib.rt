@@ -6,6 +6,7 @@ mod controller_parts;
 mod design;
 mod design_parts;
 mod number;
+mod laws;
 mod policy;
 mod quantity;
 mod text_fault;
@@ -15,6 +16,10 @@ pub use controller_parts::ControllerParts;
 pub use design::Design;
 pub use design_parts::DesignParts;
 pub use number::{line_text, number_word, spaced_text};
+pub use laws::{
+    agrees_law, average_law, condensing_law, curvature_law, expansion_law, gram_law, hessian_law,
+    residual_law, response_law, row_bound_law, run_law, scaling_law, trajectory_law,
+};
 pub use policy::Policy;
 pub use quantity::{Quantity, Wide};
 pub use text_fault::TextFault;
