@@ -42,9 +42,9 @@ pub record IsLeastInput (d : Design) (rho : ℤ) : Type 0 where
   pub below : (l : ℕ) → l < d.inputs → rho ≤ℤ d.input_weight l
   pub met : (l : ℕ) × ((l < d.inputs) × (rho ≡ d.input_weight l))
 
--- row_denominator * plant_denominator^stages
-abbrev pub cost_scale : Design → ℕ
-cost_scale d = d.row_denominator * d.plant_denominator ^ d.stages
+-- what the responses of the cost rows are over
+abbrev pub response_scale : Design → ℕ
+response_scale d = d.row_denominator * d.plant_denominator ^ d.stages
 
 -- the denominators of the form and of the design, and the least input weight
 pub record HasDenominators (d : Design) (c : Condensed) : Type 0 where
@@ -52,10 +52,10 @@ pub record HasDenominators (d : Design) (c : Condensed) : Type 0 where
   pub weight_den : c.weight_den ≡ pos d.cost_denominator
   pub cost_row_den : c.cost_row_den ≡ pos d.row_denominator
   pub limit_den : c.limit_den ≡ pos d.limit_denominator
-  pub hess_den : c.hess_den ≡ pos (d.cost_denominator * cost_scale d ^ 2)
+  pub hess_den : c.hess_den ≡ pos (d.cost_denominator * response_scale d ^ 2)
   pub row_den : c.row_den ≡ pos (d.limit_denominator * d.plant_denominator ^ d.stages)
   pub input_floor : IsLeastInput d c.input_floor
-  pub floor : c.floor ≡ pos (min (2 * d.limit_denominator * cost_scale d ^ 2 * unsigned_abs c.input_floor) (2 ^ 126))
+  pub floor : c.floor ≡ pos (min (2 * d.limit_denominator * response_scale d ^ 2 * unsigned_abs c.input_floor) (2 ^ 126))
 
 -- each number of the cost and of the limits is small, and the two quantities are within their limit
 pub record HasSizes (d : Design) (c : Condensed) : Type 0 where
