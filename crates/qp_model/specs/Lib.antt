@@ -21,3 +21,5 @@ pub mod Runs
 pub mod Scaling
 pub mod Sound
 pub mod CostShape
+pub mod Quantities
+pub mod Convex

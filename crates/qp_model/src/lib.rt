@@ -9,6 +9,7 @@ mod number;
 mod laws;
 mod policy;
 mod quantity;
+mod sizes;
 mod text_fault;
 
 pub use bounds::{Bounds, Margin};
@@ -22,4 +23,8 @@ pub use laws::{
 };
 pub use policy::Policy;
 pub use quantity::{Quantity, Wide};
+pub use sizes::{
+    cost_width, growth, hessian_size, limit_width, limited_area, limited_power, limited_product,
+    prediction_size, rows_size, weight_sum,
+};
 pub use text_fault::TextFault;
