@@ -8,7 +8,6 @@ pub mod Parts
 pub mod Condensed
 pub mod Curvature
 pub mod GoodSolution
-pub mod Errors
 pub mod Controller
 pub mod Machine
 pub mod AbsoluteSums
@@ -23,3 +22,6 @@ pub mod Sound
 pub mod CostShape
 pub mod Quantities
 pub mod Convex
+pub mod Columns
+pub mod Errors
+pub mod Certified

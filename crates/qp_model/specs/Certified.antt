@@ -1,0 +1,43 @@
+-- What a controller is certified for: the promise of the whole program. It speaks of the plant's trajectories, costs and limits, of all plans over
+-- any denominator, and of nothing of the method.
+use Rattle.std.specs.Prelude.{◌≡◌, ℕ, ◌*◌, ◌^◌, ◌<◌, ℤ, pos, ◌+ℤ◌, ◌*ℤ◌, ◌≤ℤ◌, ◌<ℤ◌, List, length}
+use Rattle.integer_algebra.specs.Sums.{at, square}
+use Rattle.qp_model.specs.declared.bounds.Bounds.{Bounds}
+use Rattle.qp_model.specs.Design.{Design, rows}
+use Rattle.qp_model.specs.Cost.{cost, cost_scale}
+use Rattle.qp_model.specs.Residual.{residual, residual_scale, IsFeasible}
+use Rattle.qp_model.specs.Box.{IsGridState}
+use Rattle.qp_model.specs.Controller.{Numbers}
+use Rattle.qp_model.specs.Machine.{average_denominator, averaged_plan}
+use Rattle.qp_model.specs.ValuesMet.{RunFits}
+
+-- at the state xi the plan u over q exceeds row i by at most excess / 2^40
+abbrev pub ExceedsAtMost : Design → (xi : ℕ → ℤ) → (q : ℤ) → (u : ℕ → ℤ) → ℕ → ℤ → Type 0
+ExceedsAtMost d xi q u i excess = (pos (2 ^ 40) *ℤ residual d q xi u i) ≤ℤ (excess *ℤ pos (residual_scale d) *ℤ q)
+
+-- the plan u over q costs at most more / 2^40 more than the plan t over r
+abbrev pub CostsAtMost : Design → (xi : ℕ → ℤ) → (q : ℤ) → (u : ℕ → ℤ) → (r : ℤ) → (t : ℕ → ℤ) → ℤ → Type 0
+CostsAtMost d xi q u r t more =
+    (pos (2 ^ 40) *ℤ cost d q xi u *ℤ square r) ≤ℤ
+    ((pos (2 ^ 40) *ℤ cost d r xi t +ℤ more *ℤ pos (cost_scale d) *ℤ square r) *ℤ square q)
+
+-- some plan is feasible and costs at most more / 2^40 more than the plan u over q
+pub record HasFeasible (d : Design) (xi : ℕ → ℤ) (q : ℤ) (u : ℕ → ℤ) (more : ℤ) : Type 0 where
+  pub denominator : ℤ
+  pub plan : ℕ → ℤ
+  pub positive : pos 0 <ℤ denominator
+  pub feasible : IsFeasible d denominator xi plan
+  pub cheap : CostsAtMost d xi denominator plan q u more
+
+-- the run from a state: each value fits the printed width, and the steps are the printed ones; the averaged plan exceeds each row by at most the
+-- printed violation, costs at most the printed gap more than any feasible plan, and some feasible plan costs at most the printed undercut more
+pub record IsCertifiedAt (d : Design) (c : Numbers) (b : Bounds) (xi : List ℤ) : Type 0 where
+  pub values : RunFits b.width c xi
+  pub steps : c.steps ≡ b.steps
+  pub rows : (i : ℕ) → i < rows d → ExceedsAtMost d (at xi) (pos (average_denominator c)) (at (averaged_plan c xi)) i b.violation
+  pub costs : (r : ℤ) (t : ℕ → ℤ) → pos 0 <ℤ r → IsFeasible d r (at xi) t → CostsAtMost d (at xi) (pos (average_denominator c)) (at (averaged_plan c xi)) r t b.gap
+  pub repair : HasFeasible d (at xi) (pos (average_denominator c)) (at (averaged_plan c xi)) b.undercut
+
+-- at every grid state of the box
+abbrev pub IsCertified : Design → Numbers → Bounds → Type 0
+IsCertified d c b = (xi : List ℤ) → length xi ≡ d.states → IsGridState d (at xi) → IsCertifiedAt d c b xi
