@@ -1,0 +1,183 @@
+-- The definitions, tried on one small design and its controller, whose numbers were worked out by hand: the plant x+ = x + u, the cost
+-- u^2 + (x+)^2, and the rows u <= 1, -u <= 1 and x+ <= 1/4, at the states 0 and 1.
+use Rattle.std.proofs.Common.{◌≡◌, ℕ, zero, suc, ◌^◌, ◌*◌, ◌+◌, ℤ, pos, negsuc, neg_ℤ, List, [], ◌∷◌, refl, map, length}
+use Rattle.integer_algebra.specs.Sums.{at, none}
+use Rattle.mat_int.specs.Matrix.{Matrix}
+use Rattle.qp_model.specs.Design.{Design, CostRow, LimitRow, rows, entries}
+use Rattle.qp_model.specs.Trajectory.{trajectory}
+use Rattle.qp_model.specs.Cost.{cost, cost_scale}
+use Rattle.qp_model.specs.Residual.{residual, residual_scale, slack}
+use Rattle.qp_model.specs.Box.{corner}
+use Rattle.qp_model.specs.Condensed.{Condensed}
+use Rattle.qp_model.specs.Condensing.{numbers_of}
+use Rattle.qp_model.specs.Columns.{solve_column, solve_matrix, solve_floor, column_bound}
+use Rattle.qp_model.specs.Errors.{error_sums_of, plan_bound, residual_error, epsilon}
+use Rattle.qp_model.specs.Controller.{Numbers}
+use Rattle.qp_model.specs.Machine.{loaded, after, entry_sum, averaged_plan, average_denominator}
+use Rattle.qp_model.specs.AbsoluteSums.{greatest_sum, entry_reach, plan_reach, sum_reach}
+
+-- x's only coefficient
+one : ℕ → ℤ
+one j = pos 1
+
+abbrev limit : ℤ → ℤ → ℤ → LimitRow
+limit x u b = record { of_state = λ j. x; of_input = λ l. u; bound = b }
+
+-- the two stage rows
+abbrev stage_rows : ℕ → LimitRow
+stage_rows zero = limit (pos 0) (pos 4) (pos 4)
+stage_rows (suc r) = limit (pos 0) (negsuc 3) (pos 4)
+
+abbrev base : Design
+base = record {
+  states = 1;
+  inputs = 1;
+  stages = 1;
+  plant_denominator = 1;
+  plant_a = λ i j. pos 1;
+  plant_b = λ i l. pos 1;
+  cost_denominator = 1;
+  row_denominator = 1;
+  input_weight = λ l. pos 1;
+  stage_costs = 1;
+  stage_cost = λ r. record { coefficient = λ j. pos 1; target = pos 0; weight = pos 1 };
+  final_costs = 0;
+  final_cost = λ r. record { coefficient = λ j. pos 0; target = pos 0; weight = pos 0 };
+  limit_denominator = 4;
+  stage_limits = 2;
+  stage_limit = stage_rows;
+  final_limits = 1;
+  final_limit = λ r. limit (pos 4) (pos 0) (pos 1);
+  grid = 0;
+  low = λ i. pos 0;
+  high = λ i. pos 1;
+}
+
+-- ---- corners, slacks and costs: at corner 2, the state 1, the plan -7/8 costs 50/64 and leaves 1/8 to the rows 2 and 3
+corner_two : corner base 2 0 ≡ pos 1
+corner_two = refl
+
+state_one : trajectory base (pos 8) (λ i. pos 1) (λ j. negsuc 6) 1 0 ≡ pos 1
+state_one = refl
+
+cost_two : cost base (pos 8) (λ i. pos 1) (λ j. negsuc 6) ≡ pos 50
+cost_two = refl
+
+slack_two : slack base (pos 8) (λ i. pos 1) (λ j. negsuc 6) 1 ≡ pos 4
+slack_two = refl
+
+slack_three : slack base (pos 8) (λ i. pos 1) (λ j. negsuc 6) 2 ≡ pos 4
+slack_three = refl
+
+slack_scale : residual_scale base ≡ 4
+slack_scale = refl
+
+-- ---- condensed numbers
+hessian : (numbers_of base).hessian 0 0 ≡ pos 4
+hessian = refl
+
+linear : (numbers_of base).linear 0 0 ≡ pos 2
+linear = refl
+
+last_row : (numbers_of base).by_plan 2 0 ≡ pos 4
+last_row = refl
+
+last_state : (numbers_of base).by_state 2 0 ≡ pos 4
+last_state = refl
+
+last_bound : (numbers_of base).bound 2 ≡ pos 1
+last_bound = refl
+
+floor : solve_floor base ≡ 8
+floor = refl
+
+-- ---- errors, for multipliers up to 16
+first : (error_sums_of base 8).first ≡ 5408
+first = refl
+
+lead : (error_sums_of base 8).lead ≡ 25
+lead = refl
+
+tail : (error_sums_of base 8).tail ≡ 200
+tail = refl
+
+plans : plan_bound (error_sums_of base 8) 10 ≡ 27
+plans = refl
+
+residuals : residual_error (error_sums_of base 8) 10 ≡ 31
+residuals = refl
+
+errors : epsilon (error_sums_of base 8) 10 ≡ 804534616064
+errors = refl
+
+-- ---- the controller and its machine
+abbrev matrix : ℕ → List (List ℤ) → Matrix
+matrix n lines = record { cols = n; rows = lines }
+
+abbrev first_controller : Numbers
+first_controller = record {
+  states = 1;
+  inputs = 1;
+  stages = 1;
+  rows = 3;
+  fraction_bits = 10;
+  grid_bits = 0;
+  step_exponent = 1;
+  width = 26;
+  steps = 4;
+  clamp = pos 32768;
+  words = 6;
+  low = pos 0 ∷ [];
+  high = pos 1 ∷ [];
+  state_gains = matrix 1 ((pos 512 ∷ []) ∷ []);
+  offsets = pos 0 ∷ [];
+  dual_gains = matrix 3 ((pos 256 ∷ negsuc 255 ∷ pos 256 ∷ []) ∷ []);
+  plan_rows = matrix 1 ((pos 1024 ∷ []) ∷ (negsuc 1023 ∷ []) ∷ (pos 1024 ∷ []) ∷ []);
+  state_rows = matrix 1 ((pos 0 ∷ []) ∷ (pos 0 ∷ []) ∷ (pos 1024 ∷ []) ∷ []);
+  bounds = pos 1024 ∷ pos 1024 ∷ pos 256 ∷ [];
+}
+
+-- the entry's absolute sum is 26214400, the greatest of all
+absolute : greatest_sum first_controller ≡ 26214400
+absolute = refl
+
+plan_reaches : plan_reach first_controller ≡ 12800 ∷ []
+plan_reaches = refl
+
+sum_reaches : sum_reach first_controller 0 ≡ 51200
+sum_reaches = refl
+
+-- the four plans from the state 1
+plan_one : (after first_controller (loaded first_controller (pos 1 ∷ [])) 1).plan ≡ negsuc 511 ∷ []
+unfolding after
+plan_one = refl
+
+plan_two : (after first_controller (loaded first_controller (pos 1 ∷ [])) 2).plan ≡ negsuc 543 ∷ []
+unfolding after
+plan_two = refl
+
+plan_three : (after first_controller (loaded first_controller (pos 1 ∷ [])) 3).plan ≡ negsuc 571 ∷ []
+unfolding after
+plan_three = refl
+
+plan_four : (after first_controller (loaded first_controller (pos 1 ∷ [])) 4).plan ≡ negsuc 595 ∷ []
+unfolding after
+plan_four = refl
+
+-- the third multiplier after each step
+multipliers : map (λ k. at (after first_controller (loaded first_controller (pos 1 ∷ [])) k).multipliers 2) (1 ∷ 2 ∷ 3 ∷ 4 ∷ []) ≡ pos 256 ∷ pos 480 ∷ pos 676 ∷ pos 848 ∷ []
+unfolding after
+multipliers = refl
+
+-- the sum that the last plan entry is the floor of: 1221632 over 2048 is 596.5
+last_sum : entry_sum first_controller (loaded first_controller (pos 1 ∷ [])) (after first_controller (loaded first_controller (pos 1 ∷ [])) 3).multipliers 0 ≡ pos 1221632
+unfolding after
+last_sum = refl
+
+-- the averaged plan: -2224 over 4096
+average : averaged_plan first_controller (pos 1 ∷ []) ≡ negsuc 2223 ∷ []
+unfolding after
+average = refl
+
+over : average_denominator first_controller ≡ 4096
+over = refl
