@@ -1,0 +1,46 @@
+-- The lengths that a controller's sizes give.
+use Rattle.std.proofs.Common.{◌≡◌, ℕ, zero, suc, ◌-◌, ◌*◌, ◌^◌, ◌<◌, ◌≤◌, max, ℤ, pos, List, [], ◌∷◌, length, get_or, unsigned_abs, refl, sym, subst, arith}
+use Rattle.std.specs.Prelude.{All}
+use Rattle.std.proofs.lemmas.Nat.{mul-le, mul-lt, pow_below}
+use Rattle.std.proofs.lemmas.List.{length-replicate}
+use Rattle.std.proofs.lemmas.List.FromFn.{length-map-range_with_len}
+use Rattle.qp_model.specs.Range.{IsNumerator}
+use Rattle.qp_model.specs.Controller.{Numbers, IsSized}
+use Rattle.qp_model.specs.AbsoluteSums.{reach_of, state_reach, clamp_reach, plan_reach}
+
+-- ---- lengths of the reaches
+pub length-reach_of : (k : ℕ) (lows highs : List ℤ) → length lows ≡ length highs → length (reach_of k lows highs) ≡ length lows
+length-reach_of k [] highs e = refl
+length-reach_of k (low ∷ lows) [] e = absurd (omega arith)
+length-reach_of k (low ∷ lows) (high ∷ highs) e = omega (arith, length-reach_of k lows highs (omega arith))
+
+pub get_or-reach_of : (k : ℕ) (lows highs : List ℤ) (i : ℕ) → i < length lows → length lows ≡ length highs →
+    get_or (reach_of k lows highs) i 0 ≡ max (unsigned_abs (get_or lows i (pos 0))) (unsigned_abs (get_or highs i (pos 0))) * 2 ^ k
+get_or-reach_of k [] highs i h e = absurd (omega arith)
+get_or-reach_of k (low ∷ lows) [] i h e = absurd (omega arith)
+get_or-reach_of k (low ∷ lows) (high ∷ highs) zero h e = refl
+get_or-reach_of k (low ∷ lows) (high ∷ highs) (suc i) h e = get_or-reach_of k lows highs i (omega arith) (omega arith)
+
+pub length-state_reach : (c : Numbers) → IsSized c → length (state_reach c) ≡ c.states
+length-state_reach c s =
+    omega (arith, length-reach_of (c.fraction_bits - c.grid_bits) c.low c.high (omega (arith, s.shaped.low, s.shaped.high)), s.shaped.low)
+
+pub length-clamp_reach : (c : Numbers) → length (clamp_reach c) ≡ length c.bounds
+length-clamp_reach c = length-replicate (length c.bounds) (unsigned_abs c.clamp)
+
+pub length-plan_reach : (c : Numbers) → length (plan_reach c) ≡ length c.offsets
+length-plan_reach c = length-map-range_with_len _ 0 (length c.offsets)
+
+-- ---- limits
+pub entries_le : (c : Numbers) → IsSized c → length c.offsets ≤ 60
+entries_le c s = omega (arith, s.shaped.offsets, mul-le c.inputs c.stages 3 20 s.inputs.1 s.stages.1)
+
+pub rows_le : (c : Numbers) → IsSized c → length c.bounds ≤ 252
+rows_le c s = omega (arith, s.shaped.bounds, s.rows)
+
+-- ---- numbers read
+pub numerator_read : (xs : List ℤ) (i : ℕ) (x : ℤ) → All IsNumerator xs → i < length xs → x ≡ get_or xs i x → unsigned_abs x < 2 ^ 31
+numerator_read xs i x all lt e = subst (λ (z : ℤ). unsigned_abs z < 2 ^ 31) (sym e) (all i x lt)
+
+pub reach_below : (a b k : ℕ) → a < 2 ^ 31 → b < 2 ^ 31 → k ≤ 48 → max a b * 2 ^ k < 2 ^ 80
+reach_below a b k h l m = mul-lt (max a b) (2 ^ k) (2 ^ 31) (2 ^ 49) (omega arith) (pow_below k 49 (omega arith))

@@ -1,0 +1,67 @@
+// Controllers whose values stay within their width.
+ghost use Rattle.std.specs.Prelude.{◌≡◌, ◌↔◌, IsOk, IfOk, OnOk};
+ghost use Rattle.qp_model.specs.Controller.{numbers, IsInForm};
+ghost use Rattle.qp_model.specs.AbsoluteSums.{IsController};
+
+use crate::form::is_in_form;
+use crate::reach::{greatest_sum, two_to};
+use qp_model::ControllerParts;
+use std::marker::Model;
+use thiserror::Error;
+
+/// Why numbers are no controller.
+#[derive(Clone, Copy, Debug, PartialEq, Eq, Error)]
+pub enum BadParts {
+    /// A shape or a range is broken.
+    #[error("form")]
+    Form,
+    /// The greatest absolute sum is above `2^(w-1) - 1` or above `2^126`.
+    #[error("unsafe")]
+    Unsafe,
+}
+
+/// Numbers of a controller, none of whose values leaves its width in a run from a state of its box.
+#[derive(Debug, Drop)]
+pub struct Controller {
+    parts: ControllerParts,
+}
+
+impl Model for Controller {
+    ghost use Rattle.qp_model.specs.Controller.{Numbers, numbers};
+    ghost use Rattle.qp_model.specs.AbsoluteSums.{IsController};
+
+    ghost Value = { Numbers };
+
+    ghost view = { λ c. numbers c.parts };
+
+    ghost invariant = { λ c. IsController (numbers c.parts) };
+}
+
+impl Controller {
+    /// The controller of these numbers. `Form` where a shape or a range is broken, else `Unsafe` where the greatest
+    /// absolute sum is above `2^(w-1) - 1` or above `2^126`. The numbers are dropped on a refusal.
+    pub fn from_parts(parts: ControllerParts) -> Result<Controller, BadParts>
+        ensures kept { IfOk result (λ c. c ≡ numbers parts) }
+        ensures ok { IsOk result ↔ IsController (numbers parts) }
+        ensures form { (result ≡ Err BadParts.Form) ↔ (¬ IsInForm (numbers parts)) }
+        ensures wide { (result ≡ Err BadParts.Unsafe) ↔ (IsInForm (numbers parts) × (¬ IsController (numbers parts))) }
+    {
+        if !is_in_form(&parts) {
+            return Err(BadParts::Form);
+        }
+        match greatest_sum(&parts) {
+            Some(greatest) if greatest.unsigned_abs() < two_to(parts.w - 1) => Ok(Controller {
+                parts,
+            }),
+            _ => Err(BadParts::Unsafe),
+        }
+    }
+
+    /// Its numbers, which are those of a controller.
+    pub fn parts(&self) -> &ControllerParts
+        ensures value { numbers result.now ≡ self.now }
+        ensures sound { IsController self.now }
+    {
+        &self.parts
+    }
+}

@@ -1,0 +1,91 @@
+// Whether numbers are a controller's.
+ghost use Rattle.std.specs.Prelude.{◌≡◌, ◌≤◌, ◌<◌, ◌+◌, ◌*◌, ◌^◌, ◌≤ℤ◌, ◌↔◌, ℕ, pos, length, All, IsTrue};
+ghost use Rattle.integer_algebra.specs.Sums.{at};
+ghost use Rattle.qp_model.specs.Range.{LiesIn, IsNumerator};
+ghost use Rattle.qp_model.specs.Controller.{numbers, plan_length, HasShape, IsShaped, IsSized, IsInForm};
+
+use mat_int::Mat;
+use qp_model::ControllerParts;
+
+// Whether the sizes lie in their ranges.
+fn are_sizes_in_range(c: &ControllerParts) -> bool
+    ensures { IsTrue result ↔ (LiesIn 1 4 c.now.n × LiesIn 1 3 c.now.p × LiesIn 1 20 c.now.stages × LiesIn 1 252 c.now.m) }
+{
+    (1..=4).contains(&c.n)
+        && (1..=3).contains(&c.p)
+        && (1..=20).contains(&c.stages)
+        && (1..=252).contains(&c.m)
+}
+
+// Whether the numbers of bits lie in their ranges.
+fn are_bits_in_range(c: &ControllerParts) -> bool
+    ensures { IsTrue result ↔ ((c.now.g ≤ 24) × LiesIn c.now.g 48 c.now.f × (c.now.s ≤ 40) × LiesIn 2 128 c.now.w) }
+{
+    c.g <= 24 && (c.g..=48).contains(&c.f) && c.s <= 40 && (2..=128).contains(&c.w)
+}
+
+// Whether the clamp lies in its range.
+fn is_clamp(clamp: i128) -> bool
+    ensures { IsTrue result ↔ ((pos 0 ≤ℤ clamp) × (clamp ≤ℤ pos (2 ^ 126))) }
+{
+    0 <= clamp && clamp <= 1 << 126
+}
+
+// Whether a matrix has this shape.
+fn has_shape(a: &Mat, rows: usize, cols: usize) -> bool
+    ensures { IsTrue result ↔ HasShape a.now rows cols }
+{
+    a.rows() == rows && a.cols() == cols
+}
+
+// Whether the lists and matrices have the lengths of the sizes, with `nu` plan entries.
+fn is_shaped(c: &ControllerParts, nu: usize) -> bool
+    requires { nu ≡ plan_length (numbers c.now) }
+    ensures { IsTrue result ↔ IsShaped (numbers c.now) }
+{
+    c.lo.len() == c.n
+        && c.hi.len() == c.n
+        && has_shape(&c.p_mat, nu, c.n)
+        && c.t.len() == nu
+        && has_shape(&c.w_mat, nu, c.m)
+        && has_shape(&c.g_mat, c.m, nu)
+        && has_shape(&c.e_mat, c.m, c.n)
+        && c.bound.len() == c.m
+}
+
+// Whether each number is below `2^31` in absolute value.
+fn are_numerators(xs: &[i128]) -> bool
+    ensures { IsTrue result ↔ All IsNumerator xs.now }
+{
+    xs.iter().all(|x| x.unsigned_abs() < 1 << 31)
+}
+
+// Whether each lower bound is at most its upper one.
+fn is_box(lo: &[i128], hi: &[i128]) -> bool
+    requires { length lo.now ≡ length hi.now }
+    ensures { IsTrue result ↔ ((i : ℕ) → i < length lo.now → at lo.now i ≤ℤ at hi.now i) }
+{
+    for (i, low) in lo.iter().enumerate() {
+        if *low > hi[i] {
+            return false;
+        }
+    }
+    true
+}
+
+// Whether the shapes and ranges of a controller hold.
+pub fn is_in_form(c: &ControllerParts) -> bool
+    ensures { IsTrue result ↔ IsInForm (numbers c.now) }
+{
+    if !are_sizes_in_range(c) || !are_bits_in_range(c) {
+        return false;
+    }
+    let nu = c.p * c.stages;
+    (1..=4194304).contains(&c.steps)
+        && is_clamp(c.clamp)
+        && c.words == c.n + c.m + 2 * nu
+        && is_shaped(c, nu)
+        && are_numerators(&c.lo)
+        && are_numerators(&c.hi)
+        && is_box(&c.lo, &c.hi)
+}

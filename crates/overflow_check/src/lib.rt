@@ -1,0 +1,11 @@
+//! The absolute sums of a controller, which bound each value that its machine meets, and the controllers that they let pass.
+#![tactic(auto)]
+
+mod controller;
+mod form;
+mod reach;
+mod word_width;
+
+pub use controller::{BadParts, Controller};
+pub use reach::greatest_sum;
+pub use word_width::width;

@@ -1,0 +1,30 @@
+// The width of a word that holds each value.
+ghost use Rattle.std.specs.Prelude.{◌≤◌, ◌^◌, ◌↔◌, IsSome, IfSome};
+ghost use Rattle.qp_model.specs.Controller.{numbers, IsSized};
+ghost use Rattle.qp_model.specs.AbsoluteSums.{greatest_sum};
+ghost use Rattle.overflow_check.specs.Width.{IsWidth};
+
+use crate::reach::{greatest_sum, two_to};
+use qp_model::ControllerParts;
+
+/// The least width, from 2, of a signed word that holds the greatest absolute sum: at most `2^(w-1) - 1`. None where that
+/// sum is above `2^126`.
+pub fn width(parts: &ControllerParts) -> Option<u32>
+    requires { IsSized (numbers parts.now) }
+    ensures least { IfSome result (IsWidth (greatest_sum (numbers parts.now))) }
+    ensures found { IsSome result ↔ (greatest_sum (numbers parts.now) ≤ 2 ^ 126) }
+{
+    Some(width_of(greatest_sum(parts)?.unsigned_abs()))
+}
+
+// The least width, from 2, of a signed word that holds this number.
+fn width_of(greatest: u128) -> u32
+    requires { greatest ≤ 2 ^ 126 }
+    ensures { IsWidth greatest result }
+{
+    let mut w = 2;
+    while two_to(w - 1) <= greatest {
+        w += 1;
+    }
+    w
+}
