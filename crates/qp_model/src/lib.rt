@@ -5,8 +5,8 @@ mod bounds;
 mod controller_parts;
 mod design;
 mod design_parts;
-mod number;
 mod laws;
+mod number;
 mod policy;
 mod quantity;
 mod text_fault;
@@ -15,11 +15,11 @@ pub use bounds::{Bounds, Margin};
 pub use controller_parts::ControllerParts;
 pub use design::Design;
 pub use design_parts::DesignParts;
-pub use number::{line_text, number_word, spaced_text};
 pub use laws::{
     agrees_law, average_law, condensing_law, curvature_law, expansion_law, gram_law, hessian_law,
     residual_law, response_law, row_bound_law, run_law, scaling_law, trajectory_law,
 };
+pub use number::{line_text, number_word, numbers_of, pieces_of, spaced_text};
 pub use policy::Policy;
 pub use quantity::{Quantity, Wide};
 pub use text_fault::TextFault;
