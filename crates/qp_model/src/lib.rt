@@ -21,6 +21,7 @@ pub use laws::{
     residual_law, response_law, row_bound_law, run_law, scaling_law, trajectory_law,
 };
 pub use number::{line_text, number_word, spaced_text};
+pub use number::{line_text, number_word, numbers_of, pieces_of, spaced_text};
 pub use policy::Policy;
 pub use quantity::{Quantity, Wide};
 pub use sizes::{

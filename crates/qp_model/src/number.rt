@@ -1,4 +1,5 @@
-ghost use Rattle.std.specs.Prelude.{◌≡◌, ℤ, IfOk, IfSome, Some, FitsSigned, string_bytes};
+ghost use Rattle.std.specs.Prelude.{◌≡◌, ◌==◌, ℤ, List, IfOk, IfSome, IsSomeAnd, Some, All, FitsSigned, map, string_bytes};
+ghost use Rattle.std.specs.List.{slice_split};
 ghost use Rattle.std.specs.Int.{w128};
 ghost use Rattle.std.specs.Fmt.{signed_decimal};
 ghost use Rattle.qp_model.specs.Lines.{spaced, line_of};
@@ -32,6 +33,31 @@ fn is_plain(word: &[u8]) -> bool
         [b'-', first, ..] => (b'1'..=b'9').contains(first),
         [first, ..] => (b'1'..=b'9').contains(first),
     }
+}
+
+/// The pieces of a text between the bytes that equal `separator`, and what is before the first and after the last: one piece
+/// more than there are such bytes.
+pub fn pieces_of(alloc: Global, text: &[u8], separator: u8) -> Result<Vec<&[u8]>, AllocError>
+    ensures { IfOk result (λ v. map (λ x. x.now) v.items ≡ slice_split (λ b. b == separator) text.now) }
+{
+    text.split(|b| *b == separator).collect(alloc)
+}
+
+/// The numbers that these words spell, if each spells one.
+pub fn numbers_of(alloc: Global, words: &[&[u8]]) -> Result<Option<Vec<i128>>, AllocError>
+    // What is read is spelled so.
+    ensures found { IfOk result (λ o. IfSome o (λ v. map signed_decimal v.items ≡ map (λ x. x.now) words.now)) }
+    // What is spelled so is read.
+    ensures only { (zs : List ℤ) → All (FitsSigned w128) zs → map (λ x. x.now) words.now ≡ map signed_decimal zs → IfOk result (λ o. IsSomeAnd o (λ v. v.items ≡ zs)) }
+{
+    let mut numbers = Vec::new(alloc);
+    for word in words {
+        let Some(number) = number_word(word) else {
+            return Ok(None);
+        };
+        numbers.push(number)?;
+    }
+    Ok(Some(numbers))
 }
 
 /// The numbers in decimal, one space between two.
@@ -101,6 +127,27 @@ mod tests {
             assert_eq!(rt; number_word(word.as_bytes()), number, "{word:?}");
         }
         assert_eq!(rt; number_word(&[49, 255]), None);
+        Ok(())
+    }
+
+    // A text cut at commas, and the numbers of the pieces, if each piece is one.
+    #[test]
+    fn lists(rt: HostRuntime) -> Result<(), Fail> {
+        let cases = [
+            ("8,-7,0", 3, Some(-7)),
+            ("8,", 2, None),
+            ("8", 1, None),
+            ("8,-07", 2, None),
+            ("", 1, None),
+            ("1,2,", 3, None),
+        ];
+        for (text, count, second) in cases {
+            let pieces = pieces_of(rt.alloc(), text.as_bytes(), b',')?;
+            assert_eq!(rt; pieces.len(), count, "{text:?}");
+            let numbers = numbers_of(rt.alloc(), pieces.as_slice())?;
+            let found = numbers.as_ref().and_then(|v| v.get(1).copied());
+            assert_eq!(rt; found, second, "{text:?}");
+        }
         Ok(())
     }
 
