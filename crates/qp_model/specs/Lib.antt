@@ -25,3 +25,4 @@ pub mod Convex
 pub mod Columns
 pub mod Errors
 pub mod Certified
+pub mod Built

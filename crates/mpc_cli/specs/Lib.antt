@@ -1,0 +1,3 @@
+pub mod Words
+pub mod Solve
+pub mod Status

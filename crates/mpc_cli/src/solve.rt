@@ -1,0 +1,42 @@
+// `solve`: a controller on one state.
+ghost use Rattle.std.specs.Prelude.{◌≡◌, ℕ, ℤ, List, Option, Some, IfSome, IsSomeAnd, IfOk, IfErr, IsErrOf, OnOk, OnErr, ◌⊎◌, ◌++◌};
+ghost use Rattle.io_edge.specs.Faults.{Rose, NoneFalls, GrowsByPart};
+ghost use Rattle.qp_model.specs.Machine.{IsGridState};
+ghost use Rattle.qp_model.specs.ControllerText.{IsControllerText, plan_line};
+ghost use Rattle.qp_model.specs.StateText.{IsStateText};
+ghost use Rattle.mpc_cli.specs.Solve.{HoldsController, HoldsState, NoController, NoState};
+
+use crate::status::Status;
+use controller_file::read_controller;
+use fixed_kernel::Kernel;
+use io_edge::{ReadRefusal, Sink, Store};
+use overflow_check::Controller;
+use primal_average::plan_line;
+use state_text::read_state;
+use std::alloc::Global;
+
+/// The most bytes of a file.
+const FILE_LIMIT: usize = 4194304;
+
+// The controller under a name, or the status that ends the run.
+pub fn controller_in<S: Store>(alloc: Global, name: &str, store: &mut S) -> Result<Controller, Status>
+    ensures ok { IfOk result (λ c. IfSome (S.held store.old) (λ files. IsSomeAnd (files name.now) (λ bytes. HoldsController bytes c))) }
+    ensures unbuilt { IsErrOf result (Status.Unbuilt 1) → IfSome (S.held store.old) (λ files. IsSomeAnd (files name.now) NoController) }
+    ensures failed { IsErrOf result (Status.ReadFault 1) → Rose (S.read_faults store.old name.now) (S.read_faults store.new name.now) }
+    ensures only { IfErr result (λ e. (e ≡ Status.Memory) ⊎ (e ≡ Status.ReadFault 1) ⊎ (e ≡ Status.Unbuilt 1)) }
+    ensures held { S.held store.new ≡ S.held store.old }
+    ensures reads { NoneFalls (S.read_faults store.old) (S.read_faults store.new) }
+    ensures writes { NoneFalls (S.write_faults store.old) (S.write_faults store.new) }
+{
+    let bytes = match store.read_all(alloc, name, FILE_LIMIT) {
+        Ok(bytes) => bytes,
+        Err(ReadRefusal::Failed) => return Err(Status::ReadFault { file: 1 }),
+        Err(ReadRefusal::Long) => return Err(Status::Unbuilt { part: 1 }),
+        Err(ReadRefusal::Memory) => return Err(Status::Memory),
+    };
+    match read_controller(alloc, &bytes) {
+        Ok(Some(controller)) => Ok(controller),
+        Ok(None) => Err(Status::Unbuilt { part: 1 }),
+        Err(_) => Err(Status::Memory),
+    }
+}
