@@ -20,9 +20,7 @@ pub use laws::{
     agrees_law, average_law, condensing_law, curvature_law, expansion_law, gram_law, hessian_law,
     residual_law, response_law, row_bound_law, run_law, scaling_law, trajectory_law,
 };
-pub use number::{
-    line_text, line_text, number_word, number_word, numbers_of, pieces_of, spaced_text, spaced_text,
-};
+pub use number::{line_text, number_word, numbers_of, pieces_of, spaced_text};
 pub use policy::Policy;
 pub use quantity::{Quantity, Wide};
 pub use sizes::{
