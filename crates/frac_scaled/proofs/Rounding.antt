@@ -1,11 +1,14 @@
 -- Rounding to the nearest by two floors.
-use Rattle.std.proofs.Common.{◌≡◌, ℕ, zero, suc, ◌+◌, ◌-◌, ◌*◌, ◌/◌, ◌^◌, ◌<◌, ◌≤◌, ℤ, pos, negsuc, ◌+ℤ◌, ◌-ℤ◌, ◌*ℤ◌, inl, inr, arith, refl, sym, ap, ◌∙◌, FitsSigned}
+use Rattle.std.proofs.Common.{◌≡◌, ℕ, zero, suc, ◌+◌, ◌-◌, ◌*◌, ◌/◌, ◌^◌, ◌<◌, ℤ, pos, negsuc, ◌+ℤ◌, ◌-ℤ◌, ◌*ℤ◌, inl, inr, arith, refl, sym, ap, ◌∙◌, FitsSigned, unsigned_abs, ◌≤ℤ◌, ◌<ℤ◌, [], ◌∷◌}
 use Rattle.std.proofs.lemmas.Bool.{cases_lt}
 use Rattle.std.proofs.lemmas.Int.{ints}
-use Rattle.std.proofs.Math.Nat.{pow-succ', div-div-eq-div-mul, mul-div-mul_left, add-div_right}
-use Rattle.std.specs.Int.{w128}
+use Rattle.std.proofs.Math.Nat.{pow-succ', div-div-eq-div-mul, add-div_right}
+use Rattle.std.specs.Int.{w128, int_rem_euclid}
 use Rattle.std.specs.Int.Signed.{mag_shr}
 use Rattle.integer_algebra.specs.Division.{floor_of, round_of}
+use Rattle.integer_algebra.proofs.DivisionLaws.{floor_unique}
+use Rattle.integer_algebra.proofs.OrderLaws.{le_by, lt_by, add_nonneg_z}
+use Rattle.integer_algebra.proofs.Quoting.{by_ring, quotes}
 
 -- (2 x + 1) / 4 e is x / 2 e, and 2 x / 4 e too
 quarter : (x r e : ℕ) → r < 2 → (2 * x + r) / (2 * (2 * e)) ≡ x / (2 * e)
@@ -62,3 +65,47 @@ half_up_fits (negsuc a) h = omega (arith, ints)
 pub twice_pow : (k : ℕ) → 0 < k → 2 * 2 ^ (k - 1) ≡ 2 ^ k
 twice_pow zero h = absurd (omega arith)
 twice_pow (suc k) h = let e : suc k - 1 ≡ k = omega arith in rw e (sym (pow-succ' 2 k))
+
+-- ---- by the quotient rounded down and the rest
+-- the rest of a division
+pub quotient_rest : (z : ℤ) (d : ℕ) → 0 < d → z ≡ floor_of z d *ℤ pos d +ℤ int_rem_euclid z (pos d)
+quotient_rest (pos a) d h = omega (arith, ints)
+quotient_rest (negsuc a) d h = omega (arith, ints)
+
+-- a rest below half of the divisor
+pub nearest_down : (z q r : ℤ) (d : ℕ) → 0 < d → z ≡ q *ℤ pos d +ℤ r → pos 0 ≤ℤ r → r <ℤ (pos d -ℤ r) → q ≡ round_of z d
+nearest_down z q r d p e h k = floor_unique (pos 2 *ℤ z +ℤ pos d) (2 * d) q (omega arith) (record {
+  least = least z q r (pos d) (pos (2 * d)) refl e h (omega (arith, ints));
+  greatest = greatest z q r (pos d) (pos (2 * d)) refl e k;
+})
+  where
+    least : (z q r e f : ℤ) → f ≡ pos 2 *ℤ e → z ≡ q *ℤ e +ℤ r → pos 0 ≤ℤ r → pos 0 ≤ℤ e → (q *ℤ f) ≤ℤ (pos 2 *ℤ z +ℤ e)
+    least z q r e f g i h k = rw (g, i) (le_by (add_nonneg_z (add_nonneg_z h h) k) (by_ring (q ∷ r ∷ e ∷ []) (search quotes depth 60 fits 20000) refl))
+
+    greatest : (z q r e f : ℤ) → f ≡ pos 2 *ℤ e → z ≡ q *ℤ e +ℤ r → r <ℤ (e -ℤ r) → (pos 2 *ℤ z +ℤ e) <ℤ ((q +ℤ pos 1) *ℤ f)
+    greatest z q r e f g i k = rw (g, i) (lt_by k (by_ring (q ∷ r ∷ e ∷ []) (search quotes depth 60 fits 20000) refl))
+
+-- and one that is not below it
+pub nearest_up : (z q r : ℤ) (d : ℕ) → 0 < d → z ≡ q *ℤ pos d +ℤ r → r <ℤ pos d → (pos d -ℤ r) ≤ℤ r → q +ℤ pos 1 ≡ round_of z d
+nearest_up z q r d p e h k = floor_unique (pos 2 *ℤ z +ℤ pos d) (2 * d) (q +ℤ pos 1) (omega arith) (record {
+  least = least z q r (pos d) (pos (2 * d)) refl e k;
+  greatest = greatest z q r (pos d) (pos (2 * d)) refl e h (omega (arith, ints));
+})
+  where
+    least : (z q r e f : ℤ) → f ≡ pos 2 *ℤ e → z ≡ q *ℤ e +ℤ r → (e -ℤ r) ≤ℤ r → ((q +ℤ pos 1) *ℤ f) ≤ℤ (pos 2 *ℤ z +ℤ e)
+    least z q r e f g i k = rw (g, i) (le_by k (by_ring (q ∷ r ∷ e ∷ []) (search quotes depth 60 fits 20000) refl))
+
+    greatest : (z q r e f : ℤ) → f ≡ pos 2 *ℤ e → z ≡ q *ℤ e +ℤ r → r <ℤ e → pos 0 <ℤ e → (pos 2 *ℤ z +ℤ e) <ℤ ((q +ℤ pos 1 +ℤ pos 1) *ℤ f)
+    greatest z q r e f g i h k = rw (g, i) (lt_by (above r e h k) (by_ring (q ∷ r ∷ e ∷ []) (search quotes depth 60 fits 20000) refl))
+      where
+        above : (r e : ℤ) → r <ℤ e → pos 0 <ℤ e → (r +ℤ r) <ℤ (e +ℤ e +ℤ e)
+        above r e h k = omega (arith, ints)
+
+-- the same at a divisor that is an integer, and its quotient and rest as code has them
+pub rounded_down : (z b q r : ℤ) → pos 1 ≤ℤ b → q ≡ floor_of z (unsigned_abs b) → r ≡ int_rem_euclid z b → pos 0 ≤ℤ r → r <ℤ (b -ℤ r) → q ≡ round_of z (unsigned_abs b)
+rounded_down z (pos d) q r p e f h k = nearest_down z q r d (omega (arith, ints)) (rw (e, f) (quotient_rest z d (omega (arith, ints)))) h k
+rounded_down z (negsuc d) q r p e f h k = absurd p.le
+
+pub rounded_up : (z b q r : ℤ) → pos 1 ≤ℤ b → q ≡ floor_of z (unsigned_abs b) → r ≡ int_rem_euclid z b → r <ℤ b → (b -ℤ r) ≤ℤ r → q +ℤ pos 1 ≡ round_of z (unsigned_abs b)
+rounded_up z (pos d) q r p e f h k = nearest_up z q r d (omega (arith, ints)) (rw (e, f) (quotient_rest z d (omega (arith, ints)))) h k
+rounded_up z (negsuc d) q r p e f h k = absurd p.le

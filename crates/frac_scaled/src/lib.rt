@@ -1,10 +1,16 @@
-// Whole numbers of 128 bits: quotients made whole, and sums that are checked.
+//! Whole numbers of 128 bits: quotients made whole, the square root, checked sums and products, and fractions.
 #![tactic(auto)]
 
 ghost use Rattle.std.specs.Prelude.{◌≡◌, ◌≤◌, ◌^◌, pos, ◌+ℤ◌, ◌*ℤ◌, ◌<ℤ◌, ◌≤ℤ◌, FitsSigned, unsigned_abs};
-ghost use Rattle.std.specs.Int.{w128};
+ghost use Rattle.std.specs.Int.{w128, IsIsqrt};
 ghost use Rattle.std.specs.Option.{SomeIff};
 ghost use Rattle.integer_algebra.specs.Division.{floor_of, ceil_of, round_of, IsFloor};
+
+mod fraction;
+#[cfg(test)]
+mod tests;
+
+pub use fraction::{Frac, floor_scaled};
 
 /// `v / 2^k`, rounded down.
 pub fn floor_shift(v: i128, k: u32) -> i128
@@ -29,6 +35,28 @@ pub fn ceil_div(a: i128, b: i128) -> i128
     ensures { result ≡ ceil_of a (unsigned_abs b) }
 {
     if a <= 0 { a / b } else { (a - 1) / b + 1 }
+}
+
+/// `a / b`, rounded to the nearest, and a tie upward.
+pub fn round_div(a: i128, b: i128) -> i128
+    requires { pos 1 ≤ℤ b }
+    ensures { result ≡ round_of a (unsigned_abs b) }
+{
+    let quotient = floor_div(a, b);
+    let rest = a.rem_euclid(b);
+    if rest < b - rest {
+        quotient
+    } else {
+        quotient + 1
+    }
+}
+
+/// The square root of `v`, rounded down.
+pub fn isqrt(v: i128) -> i128
+    requires { pos 0 ≤ℤ v }
+    ensures { IsIsqrt v result }
+{
+    v.isqrt()
 }
 
 /// `v / 2^k`, rounded to the nearest, and a tie upward.

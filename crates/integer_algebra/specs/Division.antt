@@ -1,5 +1,6 @@
 -- Quotients of whole numbers, made whole.
-use Rattle.std.specs.Prelude.{ℕ, ◌+◌, ◌-◌, ◌*◌, ◌/◌, ℤ, pos, negsuc, ◌+ℤ◌, ◌*ℤ◌, neg_ℤ, ◌≤ℤ◌, ◌<ℤ◌}
+use Rattle.std.specs.Prelude.{ℕ, ◌+◌, ◌-◌, ◌*◌, ◌/◌, ℤ, pos, negsuc, ◌+ℤ◌, ◌-ℤ◌, ◌*ℤ◌, neg_ℤ, ◌≤ℤ◌, ◌<ℤ◌}
+use Rattle.integer_algebra.specs.Bounds.{absolute}
 
 -- a / b, rounded up
 abbrev pub ceil_div : ℕ → ℕ → ℕ
@@ -22,3 +23,13 @@ round_of z d = floor_of (pos 2 *ℤ z +ℤ pos d) (2 * d)
 pub record IsFloor (z : ℤ) (d : ℕ) (q : ℤ) : Type 0 where
   pub least : (q *ℤ pos d) ≤ℤ z
   pub greatest : z <ℤ ((q +ℤ pos 1) *ℤ pos d)
+
+-- q is the least whole number with q * d at least z
+pub record IsCeiling (z : ℤ) (d : ℕ) (q : ℤ) : Type 0 where
+  pub greatest : z ≤ℤ (q *ℤ pos d)
+  pub least : ((q -ℤ pos 1) *ℤ pos d) <ℤ z
+
+-- no whole number is nearer to z / d than q, and none above q is as near
+pub record IsNearest (z : ℤ) (d : ℕ) (q : ℤ) : Type 0 where
+  pub near : (k : ℤ) → absolute (q *ℤ pos d -ℤ z) ≤ℤ absolute (k *ℤ pos d -ℤ z)
+  pub upward : (k : ℤ) → q <ℤ k → absolute (q *ℤ pos d -ℤ z) <ℤ absolute (k *ℤ pos d -ℤ z)
