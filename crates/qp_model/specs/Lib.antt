@@ -5,6 +5,7 @@ pub mod Cost
 pub mod Residual
 pub mod Box
 pub mod Parts
+pub mod Policy
 pub mod Condensed
 pub mod Curvature
 pub mod GoodSolution

@@ -1,0 +1,6 @@
+use Rattle.std.proofs.Common.{ℕ, ◌<◌, get_or}
+use Rattle.std.specs.Int.{IsInRange}
+use Rattle.policy_file.proofs.number.digits_before.Given as goal
+
+abbrev pub invariant-loop-i : goal.invariant-loop-i
+invariant-loop-i l = (k : ℕ) → k < l.i → IsInRange 48 57 (get_or l.bytes k 0)

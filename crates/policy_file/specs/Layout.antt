@@ -1,0 +1,17 @@
+-- Which numbers a text's records hold.
+use Rattle.std.specs.Prelude.{◌≡◌, ⊤, ℕ, ℤ}
+use Rattle.qp_model.specs.Policy.{IsPlanDenominator}
+use Rattle.policy_file.specs.Records.{Rule}
+use Rattle.policy_file.specs.StatesText.{state_rule}
+use Rattle.policy_file.specs.PolicyText.{policy_rule}
+use Rattle.policy_file.specs.declared.record.Layout.{Layout}
+use Rattle.policy_file.specs.declared.record.Layout.TheVariants.{States, Policy}
+
+abbrev pub rule_of : Layout → Rule
+rule_of States = state_rule
+rule_of Policy = policy_rule
+
+-- what it asks of a number beside its bytes
+abbrev pub IsInRange : Layout → ℕ → ℤ → Type 0
+IsInRange States i z = ⊤
+IsInRange Policy i z = i ≡ 0 → IsPlanDenominator z

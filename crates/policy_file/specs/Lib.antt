@@ -1,0 +1,6 @@
+pub mod NumberField
+pub mod Records
+pub mod StatesText
+pub mod PolicyText
+pub mod Layout
+pub mod Rows

@@ -1,0 +1,37 @@
+-- A policy text: for each corner of the box a record of a denominator and the numerators of a plan.
+use Rattle.std.specs.Prelude.{◌≡◌, ◌≢◌, ◌⊎◌, ℕ, ◌+◌, ◌*◌, ◌^◌, ◌<◌, ℤ, pos, ◌≤ℤ◌, List, ◌∷◌, length}
+use Rattle.integer_algebra.specs.Sums.{at}
+use Rattle.mat_int.specs.Matrix.{row_of}
+use Rattle.qp_model.specs.Design.{Design, entries}
+use Rattle.qp_model.specs.declared.text_fault.TextFault.{TextFault}
+use Rattle.qp_model.specs.declared.text_fault.TextFault.TheVariants.{Count}
+use Rattle.qp_model.specs.Policy.{Plans, IsPlanDenominator}
+use Rattle.policy_file.specs.NumberField.{IsNumberField}
+use Rattle.policy_file.specs.Records.{Rule, HoldsNumbers, HoldUpTo, IsFirstFault, records_of, record_at}
+
+-- a number is right in each field, and in the first it is a denominator
+abbrev pub policy_rule : Rule
+policy_rule i field z = IsNumberField field z × (i ≡ 0 → IsPlanDenominator z)
+
+-- the fields of a record
+abbrev pub record_length : Design → ℕ
+record_length d = entries d + 1
+
+-- the bytes are the text of these plans for the design
+pub record IsPolicyText (bytes : List ℕ) (d : Design) (plans : Plans) : Type 0 where
+  pub records : length (records_of bytes) ≡ 2 ^ d.states
+  pub count : length plans.denominators ≡ 2 ^ d.states
+  pub rows : length plans.numerators.rows ≡ 2 ^ d.states
+  pub cols : plans.numerators.cols ≡ entries d
+  pub each : (e : ℕ) → e < 2 ^ d.states →
+      HoldsNumbers policy_rule (record_length d) (record_at (records_of bytes) e) (at plans.denominators e ∷ row_of plans.numerators e)
+
+-- each record is right, and there are so many of them, which isn't one for each corner
+pub record IsCountFault (rows : List (List (List ℕ))) (d : Design) (fault : TextFault) : Type 0 where
+  pub each : HoldUpTo policy_rule (record_length d) rows (length rows)
+  pub here : length rows ≢ 2 ^ d.states
+  pub told : fault ≡ Count (length rows)
+
+-- the bytes are no such text, and this is their first fault: that of the first record that has one, and else the count of records
+abbrev pub IsPolicyFault : List ℕ → Design → TextFault → Type 0
+IsPolicyFault bytes d fault = IsFirstFault policy_rule (record_length d) (records_of bytes) fault ⊎ IsCountFault (records_of bytes) d fault

@@ -1,0 +1,10 @@
+//! The policy text and the states text: records of whole numbers, read with their first fault.
+#![tactic(auto)]
+
+mod number;
+mod read;
+mod record;
+mod text;
+
+pub use number::number_field;
+pub use read::{read_policy, read_states};

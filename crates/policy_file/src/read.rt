@@ -1,0 +1,113 @@
+// Texts of records as matrices.
+ghost use Rattle.std.specs.Prelude.{◌≡◌, ◌⊎◌, ℕ, ◌<◌, ◌≤◌, ◌^◌, length, IfOk, IfErr, MatchResult};
+ghost use Rattle.mat_int.specs.Matrix.{Matrix, row_of};
+ghost use Rattle.qp_model.specs.Parts.{design_of, IsDesign};
+ghost use Rattle.qp_model.specs.Policy.{Plans, plans_of, IsPolicyFor};
+ghost use Rattle.qp_model.specs.declared.text_fault.TextFault.{TextFault};
+ghost use Rattle.qp_model.specs.declared.text_fault.TextFault.TheVariants.{Memory};
+ghost use Rattle.policy_file.specs.Rows.{with_row};
+ghost use Rattle.policy_file.specs.StatesText.{IsStatesText, IsStatesFault};
+ghost use Rattle.policy_file.specs.PolicyText.{IsPolicyText, IsPolicyFault};
+
+use crate::record::{Layout, numbers_of};
+use crate::text::all_records;
+use mat_int::Mat;
+use qp_model::{Design, DesignParts, Policy, TextFault};
+use std::alloc::Global;
+
+/// The states of a text of records of `n` numbers over `2^grid`, a row for each record. The text has fewer than `2^32` bytes.
+///
+/// # Errors
+/// The first fault: for the records in turn `Fields` where one has another number of fields, then `Number` for its first field that
+/// holds no number.
+pub fn read_states(alloc: Global, bytes: &[u8], n: usize) -> Result<Mat, TextFault>
+    requires { length bytes.now < 2 ^ 32 }
+    ensures found { IfOk result (IsStatesText bytes.now n) }
+    ensures fault { IfErr result (λ e. (e ≡ Memory) ⊎ IsStatesFault bytes.now n e) }
+
+    // The other way round, with nothing but want of memory in between.
+    ensures right { (states : Matrix) → IsStatesText bytes.now n states → MatchResult result (λ m. m ≡ states) (λ e. e ≡ Memory) }
+    ensures first { (told : TextFault) → IsStatesFault bytes.now n told → MatchResult result (λ _. ⊥) (λ e. (e ≡ told) ⊎ (e ≡ Memory)) }
+{
+    states_of(alloc, bytes, n)
+}
+
+// The same, said one way.
+fn states_of(alloc: Global, bytes: &[u8], n: usize) -> Result<Mat, TextFault>
+    requires { length bytes.now < 2 ^ 32 }
+    ensures found { IfOk result (IsStatesText bytes.now n) }
+    ensures fault { IfErr result (λ e. (e ≡ Memory) ⊎ IsStatesFault bytes.now n e) }
+{
+    let records = all_records(alloc, bytes)?;
+    let mut states = Mat::zero(alloc, records.len(), n)?;
+    for (i, record) in records.iter().enumerate() {
+        let numbers = numbers_of(alloc, record, Layout::States, n, i as u32 + 1)?;
+        set_row(&mut states, i, &numbers);
+    }
+    Ok(states)
+}
+
+/// The plans of a text of `2^n` records, one for each corner of the box, of a denominator `1 .. 2^40` and the numerators of a plan,
+/// stage by stage. The text has fewer than `2^32` bytes.
+///
+/// # Errors
+/// The first fault: for the records in turn `Fields` where one has another number of fields, then `Number` for its first field that
+/// holds no number, or no denominator where that is wanted. After all records `Count` where there isn't one for each corner.
+pub fn read_policy(alloc: Global, bytes: &[u8], design: &Design) -> Result<Policy, TextFault>
+    requires { length bytes.now < 2 ^ 32 }
+    ensures found { IfOk result (λ p. IsPolicyText bytes.now (design_of design.now.parts) (plans_of p)) }
+    ensures sized { IfOk result (λ p. IsPolicyFor (design_of design.now.parts) (plans_of p)) }
+    ensures fault { IfErr result (λ e. (e ≡ Memory) ⊎ IsPolicyFault bytes.now (design_of design.now.parts) e) }
+
+    // The other way round, with nothing but want of memory in between.
+    ensures right { (plans : Plans) → IsPolicyText bytes.now (design_of design.now.parts) plans → MatchResult result (λ p. plans_of p ≡ plans) (λ e. e ≡ Memory) }
+    ensures first { (told : TextFault) → IsPolicyFault bytes.now (design_of design.now.parts) told → MatchResult result (λ _. ⊥) (λ e. (e ≡ told) ⊎ (e ≡ Memory)) }
+{
+    policy_of(alloc, bytes, design.parts())
+}
+
+// The same, said one way.
+fn policy_of(alloc: Global, bytes: &[u8], parts: &DesignParts) -> Result<Policy, TextFault>
+    requires small { length bytes.now < 2 ^ 32 }
+    requires design { IsDesign parts.now }
+    ensures found { IfOk result (λ p. IsPolicyText bytes.now (design_of parts.now) (plans_of p)) }
+    ensures fault { IfErr result (λ e. (e ≡ Memory) ⊎ IsPolicyFault bytes.now (design_of parts.now) e) }
+{
+    let entries = parts.stages * parts.inputs;
+    let records = all_records(alloc, bytes)?;
+    let mut dens = Vec::new(alloc);
+    let mut plans = Mat::zero(alloc, records.len(), entries)?;
+    for (i, record) in records.iter().enumerate() {
+        let numbers = numbers_of(alloc, record, Layout::Policy, entries + 1, i as u32 + 1)?;
+        if dens.push(numbers[0]).is_err() {
+            return Err(TextFault::Memory);
+        }
+        set_row(&mut plans, i, &numbers[1..]);
+    }
+    if records.len() != corner_count(parts.states) {
+        return Err(TextFault::Count {
+            entries: records.len() as u32,
+        });
+    }
+    Ok(Policy { dens, plans })
+}
+
+// How many corners a box of so many states has.
+fn corner_count(states: usize) -> usize
+    requires { states ≤ 4 }
+    ensures { result ≡ 2 ^ states }
+{
+    1 << states
+}
+
+// Puts numbers into row `i`.
+fn set_row(mat: &mut Mat, i: usize, numbers: &[i128])
+    requires row { i < length mat.old.rows }
+    requires width { length numbers.now ≡ mat.old.cols }
+    requires even { length (row_of mat.old i) ≡ mat.old.cols }
+    ensures { mat.new ≡ with_row mat.old i numbers.now }
+{
+    for j in 0..numbers.len() {
+        mat.set(i, j, numbers[j]);
+    }
+}

@@ -1,0 +1,81 @@
+// One record of numbers.
+ghost use Rattle.std.specs.Prelude.{◌≡◌, ◌⊎◌, ℕ, ℤ, ◌+◌, ◌≤◌, ◌^◌, IfOk, IfErr, IfSome, IsTrue, ◌↔◌, Some};
+ghost use Rattle.csv.specs.Records.{fields_of};
+ghost use Rattle.policy_file.specs.Records.{HoldsNumbers, IsRecordFault, room_of};
+ghost use Rattle.policy_file.specs.Layout.{rule_of, IsInRange};
+ghost use Rattle.qp_model.specs.declared.text_fault.TextFault.TheVariants.{Memory};
+
+use crate::number::number_field;
+use csv::ByteRecord;
+use qp_model::TextFault;
+use std::alloc::Global;
+
+/// The greatest denominator of a plan.
+const MOST_DENOMINATOR: i128 = 1 << 40;
+
+/// What the records of a text hold.
+#[derive(Clone, Copy)]
+pub(crate) enum Layout {
+    /// The numbers of a state.
+    States,
+    /// A denominator, and the numerators of a plan.
+    Policy,
+}
+
+// The number that field `i` of a record, from 0, holds, where it is right there.
+fn number_at(layout: Layout, i: usize, field: &[u8]) -> Option<i128>
+    ensures found { IfSome result (rule_of layout i field.now) }
+    ensures only { (z : ℤ) → rule_of layout i field.now z → result ≡ Some z }
+{
+    let Some(number) = number_field(field) else {
+        return None;
+    };
+    if is_in_range(layout, i, number) {
+        Some(number)
+    } else {
+        None
+    }
+}
+
+// Whether a number lies in the range of field `i`.
+fn is_in_range(layout: Layout, i: usize, number: i128) -> bool
+    ensures { IsTrue result ↔ IsInRange layout i number }
+{
+    match layout {
+        Layout::States => true,
+        Layout::Policy => i > 0 || (1 <= number && number <= MOST_DENOMINATOR),
+    }
+}
+
+/// The numbers of a record of `count` fields, which is entry number `entry` of the text, from 1.
+pub(crate) fn numbers_of(
+    alloc: Global,
+    record: &ByteRecord,
+    layout: Layout,
+    count: usize,
+    entry: u32,
+) -> Result<Vec<i128>, TextFault>
+    requires { room_of (fields_of record.now) ≤ 2 ^ 32 }
+    ensures found { IfOk result (λ v. HoldsNumbers (rule_of layout) count (fields_of record.now) v.items) }
+    ensures fault { IfErr result (λ e. (e ≡ Memory) ⊎ IsRecordFault (rule_of layout) count entry (fields_of record.now) e) }
+{
+    if record.len() != count {
+        return Err(TextFault::Fields { entry });
+    }
+    let mut numbers = Vec::new(alloc);
+    for i in 0..count {
+        let Some(field) = record.get(i) else {
+            unreachable!();
+        };
+        let Some(number) = number_at(layout, i, field) else {
+            return Err(TextFault::Number {
+                entry,
+                field: i as u32 + 1,
+            });
+        };
+        if numbers.push(number).is_err() {
+            return Err(TextFault::Memory);
+        }
+    }
+    Ok(numbers)
+}
