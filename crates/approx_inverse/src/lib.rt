@@ -1,0 +1,8 @@
+//! Lists of whole numbers that solve a system of equations as near as steps of single entries reach.
+#![tactic(auto)]
+
+mod column;
+mod descent;
+mod room;
+
+pub use column::solve_column;
