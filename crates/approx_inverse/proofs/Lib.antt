@@ -1,3 +1,4 @@
 pub mod MoveLaws
 pub mod WordLaws
 pub mod BoundLaws
+pub mod StepLaws

@@ -22,6 +22,22 @@ fn nearest(r: i128, d: i128) -> i128
     (2 * r + d).div_euclid(2 * d)
 }
 
+// By how much entry j moves to where the value is least.
+fn step_of(h: &Mat, region: &Region, r: &Span, j: usize) -> i128
+    requires square { h.now.cols ≡ length h.now.rows }
+    requires len { r.now.len ≡ length h.now.rows }
+    requires live { IsLive region.now r.now }
+    requires inside { j < r.now.len }
+    requires positive { pos 1 ≤ℤ entry_of h.now j j }
+    requires diagonal { entry_of h.now j j ≤ℤ pos (2 ^ 125) }
+    requires small { unsigned_abs (cells region.now.words r.now.start j) ≤ 2 ^ 125 }
+    ensures { IsNearest (cells region.now.words r.now.start j) (entry_of h.now j j) result }
+{
+    let rest = region.word(r, j);
+    let diagonal = h.at(j, j);
+    nearest(rest, diagonal)
+}
+
 // Whether 2 |r| is above d.
 fn is_wide(r: i128, d: i128) -> bool
     requires { unsigned_abs r ≤ 2 ^ 125 }
@@ -122,9 +138,7 @@ fn move_entry(
         value (length c.now) (entry_of h.now) (aim f c.now) (cells region.old.words x.now.start) }
     ensures kept { AreKept region.old region.new x.now r.now }
 {
-    let rest = region.word(r, j);
-    let diagonal = h.at(j, j);
-    let t = nearest(rest, diagonal);
+    let t = step_of(h, region, r, j);
     let old = region.word(x, j);
     region.set_word(x, j, old - t);
     take_row(region, r, t, h.row(j));
