@@ -2,3 +2,4 @@ pub mod MoveLaws
 pub mod WordLaws
 pub mod BoundLaws
 pub mod StepLaws
+pub mod StartLaws

@@ -1,10 +1,13 @@
 -- Words that change, and words that stay.
-use Rattle.std.proofs.Common.{◌≡◌, ◌≢◌, ℕ, ◌+◌, ◌<◌, ◌≤◌, ℤ, pos, ◌-ℤ◌, ◌*ℤ◌, List, length, set, get_or-set_same, get_or-set_other, below_more, arith, ap, ◌∙◌}
+use Rattle.std.proofs.Common.{refl, take, drop, ◌≡◌, ◌≢◌, ℕ, ◌+◌, ◌-◌, ◌<◌, ◌≤◌, ℤ, pos, ◌-ℤ◌, ◌*ℤ◌, List, length, set, get_or-set_same, get_or-set_other, below_more, arith, ap, ◌∙◌}
 use Rattle.std.proofs.Math.ListN.{length-set}
+use Rattle.std.proofs.lemmas.List.{get_or-take, get_or-drop}
 use Rattle.integer_algebra.specs.Sums.{at}
 use Rattle.word_region.specs.Words.{Words}
 use Rattle.word_region.specs.declared.Span.{Span}
-use Rattle.approx_inverse.specs.Spans.{cells, ArePlaced, AreKept, IsWritten}
+use Rattle.word_region.specs.Lending.{written_over}
+use Rattle.word_region.proofs.LendingLaws.{written}
+use Rattle.approx_inverse.specs.Spans.{cells, ArePlaced, AreKept, IsWritten, StaysOutside}
 
 pub at_same : (ws ns : List ℤ) (p : ℕ) (z : ℤ) → ns ≡ set ws p z → p < length ws → at ns p ≡ z
 at_same ws ns p z e l = rw e (get_or-set_same ws p z (pos 0) l)
@@ -102,3 +105,25 @@ kept_on w0 w1 w2 x r a b = record {
   between = λ k m o. b.between k m o ∙ a.between k m o;
   above = λ k m. b.above k m ∙ a.above k m;
 }
+
+-- what was lent and filled
+pub lent : (old : Words) (s : Span) (ws : List ℤ) → s.start + s.len ≤ length old.words → length ws ≡ s.len →
+    IsWritten old (record old { words = written_over old.words s.start ws }) s (at ws)
+lent old s ws inside e =
+    let there = written old.words ws s.start (omega arith) in
+    record {
+      used = refl;
+      size = there.size;
+      done = λ k l. there.inside k (omega arith);
+      below = there.below;
+      above = λ k l. there.above k (omega arith);
+    }
+
+pub lent_outside : (old : Words) (s : Span) (ws : List ℤ) → s.start + s.len ≤ length old.words → length ws ≡ s.len →
+    StaysOutside old (record old { words = written_over old.words s.start ws }) s
+lent_outside old s ws inside e = let there = lent old s ws inside e in
+    record { used = refl; size = there.size; below = there.below; above = there.above }
+
+-- the slice of n words at a
+pub at-slice : (ws : List ℤ) (a n j : ℕ) → j < n → at (take (a + n - a) (drop a ws)) j ≡ cells ws a j
+at-slice ws a n j l = let e : a + n - a ≡ n = omega arith in rw e (get_or-take n (drop a ws) j (pos 0) l ∙ get_or-drop a ws j (pos 0))

@@ -24,6 +24,13 @@ pub record IsWritten (old new : Words) (s : Span) (g : ℕ → ℤ) : Type 0 whe
   pub below : (k : ℕ) → k < s.start → at new.words k ≡ at old.words k
   pub above : (k : ℕ) → s.start + s.len ≤ k → at new.words k ≡ at old.words k
 
+-- no word outside a span changed
+pub record StaysOutside (old new : Words) (s : Span) : Type 0 where
+  pub used : new.used ≡ old.used
+  pub size : length new.words ≡ length old.words
+  pub below : (k : ℕ) → k < s.start → at new.words k ≡ at old.words k
+  pub above : (k : ℕ) → s.start + s.len ≤ k → at new.words k ≡ at old.words k
+
 -- no word outside x and r changed
 pub record AreKept (old new : Words) (x r : Span) : Type 0 where
   pub used : new.used ≡ old.used

@@ -4,5 +4,6 @@
 mod column;
 mod descent;
 mod room;
+mod start;
 
 pub use column::solve_column;
