@@ -14,6 +14,7 @@ ghost use Rattle.approx_inverse.specs.DescentSize.{entry_bound, column_size, Eac
 
 use crate::descent::settle;
 use crate::room::has_room;
+use crate::start::begin;
 use mat_int::Mat;
 use qp_model::{Quantity, Wide};
 use word_region::{Region, Span};
@@ -85,6 +86,23 @@ fn solve_within(h: &Mat, c: &[i128], floor: i128, f: u32, region: &mut Region, x
     }
 }
 
+// Finds a good solution at f bits, from a guess where that is a start.
+fn descend(h: &Mat, c: &[i128], floor: i128, f: u32, guess: &[i128], region: &mut Region, x: &Span, r: &Span)
+    requires bits { f ≤ 48 }
+    requires task { (l : ℕ) → l ≤ f → IsTask h.now c.now floor l }
+    requires placed { ArePlaced region.old x.now r.now (length c.now) }
+    requires column_small { size (length c.now) (at c.now) ≤ 2 ^ 126 }
+    ensures descent { IsDescent (length c.now) (entry_of h.now) (aim f c.now) (cells region.new.words x.now.start) (cells region.new.words r.now.start) }
+    ensures good { IsSettled (length c.now) (entry_of h.now) (cells region.new.words r.now.start) }
+    ensures kept { AreKept region.old region.new x.now r.now }
+{
+    if begin(h, c, f, guess, region, x, r) {
+        settle(h, c, floor, f, region, x, r);
+    } else {
+        solve_within(h, c, floor, f, region, x, r);
+    }
+}
+
 /// Puts whole numbers X into the words of x so that twice each entry of hX - 2^f c is at most the diagonal's entry, in absolute
 /// value. `floor` is a bound below on the curvature of h. `Wide` where numbers of the descent might pass `2^126`. It takes no memory.
 pub fn solve_column(
@@ -108,6 +126,32 @@ pub fn solve_column(
     ensures wide { IfErr result (λ e. (e.0 ≡ Descent) × (2 ^ 126 < column_size (length c.now) (entry_of h.now) (at c.now) floor f)) }
     ensures kept { OnErr result (region.new ≡ region.old) }
 {
+    solve_near(h, c, floor, f, &[], region, x)
+}
+
+// The same from a guess, which may be any numbers.
+pub fn solve_near(
+    h: &Mat,
+    c: &[i128],
+    floor: i128,
+    f: u32,
+    guess: &[i128],
+    region: &mut Region,
+    x: &Span,
+) -> Result<(), Wide>
+    requires system { IsSystem h.now (length c.now) floor }
+    requires column_small { size (length c.now) (at c.now) ≤ 2 ^ 126 }
+    requires bits { f ≤ 48 }
+    requires live { IsLive region.old x.now }
+    requires len { x.now.len ≡ length c.now }
+    requires free { length c.now ≤ length region.old.words - region.old.used }
+    ensures good { OnOk result (IsGood (length c.now) (entry_of h.now) f (at c.now) (cells region.new.words x.now.start)) }
+    ensures within { OnOk result (EachWithin (length c.now) (entry_bound (length c.now) (at c.now) floor f) (cells region.new.words x.now.start)) }
+    ensures only { IsOnlyIn region.old region.new x.now }
+    ensures fits { IsOk result ↔ (column_size (length c.now) (entry_of h.now) (at c.now) floor f ≤ 2 ^ 126) }
+    ensures wide { IfErr result (λ e. (e.0 ≡ Descent) × (2 ^ 126 < column_size (length c.now) (entry_of h.now) (at c.now) floor f)) }
+    ensures kept { OnErr result (region.new ≡ region.old) }
+{
     if !has_room(h, c, floor, f) {
         return Err(Wide(Quantity::Descent));
     }
@@ -115,7 +159,7 @@ pub fn solve_column(
     let Some(r) = region.take(c.len()) else {
         unreachable!();
     };
-    solve_within(h, c, floor, f, region, x, &r);
+    descend(h, c, floor, f, guess, region, x, &r);
     region.release(mark);
     Ok(())
 }

@@ -7,10 +7,10 @@ use Rattle.word_region.specs.Words.{Words}
 use Rattle.approx_inverse.specs.Spans.{cells}
 use Rattle.approx_inverse.specs.DescentSize.{column_size}
 use Rattle.approx_inverse.proofs.BoundLaws.{roomy_from, entry_within, good_from}
-use Rattle.approx_inverse.proofs.column.solve_column.Goals as goal
+use Rattle.approx_inverse.proofs.column.solve_near.Goals as goal
 
-pub solve_within-requires-clause-task : goal.solve_within-requires-clause-task
-solve_within-requires-clause-task c =
+pub descend-requires-clause-task : goal.descend-requires-clause-task
+descend-requires-clause-task c =
     let n = length c.args.c.now in
     let h = entry_of c.args.h.now in
     let system = c.requires.system in
@@ -24,11 +24,11 @@ solve_within-requires-clause-task c =
 
 pub returns-clause-good : goal.returns-clause-good
 returns-clause-good c =
-    let ws : c.release.new.self.words ≡ c.solve_within.new.region.words = ap (λ (w : Words). w.words) c.release.ensures in
-    rw ws (good_from (length c.args.c.now) (entry_of c.args.h.now) c.args.f c.args.c.now _ _ c.solve_within.ensures.descent c.solve_within.ensures.good)
+    let ws : c.release.new.self.words ≡ c.descend.new.region.words = ap (λ (w : Words). w.words) c.release.ensures in
+    rw ws (good_from (length c.args.c.now) (entry_of c.args.h.now) c.args.f c.args.c.now _ _ c.descend.ensures.descent c.descend.ensures.good)
 
 pub returns-clause-within : goal.returns-clause-within
 returns-clause-within c = λ j l.
-    let ws : c.release.new.self.words ≡ c.solve_within.new.region.words = ap (λ (w : Words). w.words) c.release.ensures in
-    rw ws (entry_within (length c.args.c.now) (entry_of c.args.h.now) c.args.c.now (cells c.solve_within.new.region.words c.args.x.now.start) c.args.floor c.args.f c.args.f
-    c.requires.system.convex (omega arith) c.solve_within.ensures.descent.low j l)
+    let ws : c.release.new.self.words ≡ c.descend.new.region.words = ap (λ (w : Words). w.words) c.release.ensures in
+    rw ws (entry_within (length c.args.c.now) (entry_of c.args.h.now) c.args.c.now (cells c.descend.new.region.words c.args.x.now.start) c.args.floor c.args.f c.args.f
+    c.requires.system.convex (omega arith) c.descend.ensures.descent.low j l)
