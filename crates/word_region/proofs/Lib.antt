@@ -1,1 +1,1 @@
-mod LendingLaws
+pub mod LendingLaws

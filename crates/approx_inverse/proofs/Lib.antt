@@ -1,0 +1,5 @@
+pub mod MoveLaws
+pub mod WordLaws
+pub mod BoundLaws
+pub mod StepLaws
+pub mod StartLaws

@@ -1,0 +1,21 @@
+use Rattle.std.proofs.Common.{rules, ◌≡◌, ◌*◌, ◌^◌, ◌*ℤ◌, ◌+ℤ◌, ◌-ℤ◌, ◌≤ℤ◌, FitsSigned, pos, refl, to_z}
+use Rattle.std.specs.Int.{w128}
+use Rattle.std.proofs.lemmas.Int.{to_z-of_z}
+use Rattle.integer_algebra.specs.Sums.{at}
+use Rattle.approx_inverse.specs.Descent.{aim}
+use Rattle.approx_inverse.proofs.StartLaws.{sum_more, low_from}
+use Rattle.approx_inverse.proofs.start.is_low_at.Goals as goal
+
+pub loop-i-preserved : goal.loop-i-preserved
+loop-i-preserved c =
+    let i = c.loop-i.i in
+    let x : FitsSigned w128 (at c.args.x.now i) = search rules in
+    let r : FitsSigned w128 (at c.args.rest.now i) = search rules in
+    let v : FitsSigned w128 (at c.args.c.now i) = search rules in
+    let t : FitsSigned w128 c.in-Some.term = search rules in
+    let n : FitsSigned w128 c.in-Some-checked_add.next = search rules in
+    let term = rw (to_z-of_z w128 _ x, to_z-of_z w128 _ r, to_z-of_z w128 _ v) at c.in-Some.ensures in
+    let is : c.in-Some-checked_add.next ≡ to_z w128 c.loop-i.sum-bits +ℤ c.in-Some.term = rw (to_z-of_z w128 _ t) at c.in-Some-checked_add.ensures.1 in
+    rw (to_z-of_z w128 _ n, is)
+    (sum_more i (λ k. at c.args.x.now k *ℤ (at c.args.rest.now k -ℤ aim c.args.f c.args.c.now k)) (pos (2 ^ c.args.p) *ℤ pos (2 ^ c.args.q))
+    (to_z w128 c.loop-i.sum-bits) c.in-Some.term _ c.loop-i.invariant refl term)

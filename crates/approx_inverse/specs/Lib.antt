@@ -1,0 +1,4 @@
+pub mod System
+pub mod Descent
+pub mod Spans
+pub mod DescentSize

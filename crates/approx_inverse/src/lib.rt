@@ -1,0 +1,9 @@
+//! Lists of whole numbers that solve a system of equations as near as steps of single entries reach.
+#![tactic(auto)]
+
+mod column;
+mod descent;
+mod room;
+mod start;
+
+pub use column::solve_column;
