@@ -4,7 +4,7 @@ use Rattle.mat_int.specs.Matrix.{Matrix, row_of}
 use Rattle.std.specs.Int.{IsIsqrt, int_max, int_min}
 use Rattle.integer_algebra.specs.Sums.{total, dot, square}
 use Rattle.integer_algebra.specs.Division.{floor_of}
-use Rattle.hessian_check.specs.Passing.{amount}
+use Rattle.integer_algebra.specs.Sizes.{amount}
 
 -- the greatest diagonal entry of a matrix whose diagonal is positive
 abbrev pub top : ℕ → (ℕ → ℕ → ℤ) → ℤ
