@@ -72,12 +72,12 @@ pub record Ready (n : ℕ) (m : ℕ → ℕ → ℤ) (up : ℤ) : Type 0 where
   pub small : IsSmall n (scaled_up up m) (margin up n m)
   pub positive : (a : ℕ) → a < n → pos 0 ≤ℤ scaled_up up m a a
 
-pub top_positive : (n : ℕ) (m : ℕ → ℕ → ℤ) → 1 ≤ n → IsStart n m → pos 1 ≤ℤ top n m
-top_positive n m h s = le_trans_z (s.positive 0 (omega arith)) (at-top_le n m 0 (omega arith))
+pub top_positive : (n : ℕ) (m : ℕ → ℕ → ℤ) → IsStart n m → pos 1 ≤ℤ top n m
+top_positive n m s = le_trans_z (s.positive 0 s.filled) (at-top_le n m 0 s.filled)
 
-pub ready : (n : ℕ) (m : ℕ → ℕ → ℤ) (h : ℕ) → 1 ≤ n → IsStart n m → IsShift (top n m) h → Ready n m (pos (4 ^ h))
-ready n m h o s k =
-    let t = top_positive n m o s in
+pub ready : (n : ℕ) (m : ℕ → ℕ → ℤ) (h : ℕ) → IsStart n m → IsShift (top n m) h → Ready n m (pos (4 ^ h))
+ready n m h s k =
+    let t = top_positive n m s in
     let b = low_bounds (top n m) n m t s.positive in
     let u : pos 0 ≤ℤ pos (4 ^ h) = omega (arith, ints) in
     let w = scaled-top_lt (top n m) h s.small k in
@@ -118,8 +118,8 @@ pub shape_zero : (t w : Matrix) → t.cols ≡ length t.rows → w ≡ zero_matr
 shape_zero t w h e = record { mat_cols = h; root_cols = rw e refl; root_rows = rw e (length-replicate (length t.rows) (replicate (length t.rows) (pos 0))) }
 
 -- ---- where there is no root
-pub no_root : (n : ℕ) (m : ℕ → ℕ → ℤ) (h : ℕ) → 1 ≤ n → IsStart n m → IsShift (top n m) h → NoRows n (scaled_up (pos (4 ^ h)) m) (margin (pos (4 ^ h)) n m) → NoRoot n m
-no_root n m h o s k none g r root = none r (rw (← (shift_same (top n m) g h (top_positive n m o s) root.shift k)) root.rows)
+pub no_root : (n : ℕ) (m : ℕ → ℕ → ℤ) (h : ℕ) → IsStart n m → IsShift (top n m) h → NoRows n (scaled_up (pos (4 ^ h)) m) (margin (pos (4 ^ h)) n m) → NoRoot n m
+no_root n m h s k none g r root = none r (rw (← (shift_same (top n m) g h (top_positive n m s) root.shift k)) root.rows)
 
 pub least_fits : (n : ℕ) (m : ℕ → ℕ → ℤ) (up : ℤ) → Ready n m up → FitsSigned w128 (up *ℤ low (top n m) n m)
 least_fits n m up r = numbers _ r.least_low r.least_high

@@ -20,8 +20,9 @@ low t (suc n) m = int_min (low t n m) (m n n)
 abbrev pub IsInside : ℕ → (ℕ → ℕ → ℤ) → ℤ → ℕ → Type 0
 IsInside n m t i = (j : ℕ) → j < n → pos (unsigned_abs (m i j)) ≤ℤ t
 
--- the diagonal is positive and below 2^116, and no entry is greater in absolute value than the greatest of the diagonal
+-- there is a diagonal, it is positive and below 2^116, and no entry is greater in absolute value than the greatest of the diagonal
 pub record IsStart (n : ℕ) (m : ℕ → ℕ → ℤ) : Type 0 where
+  pub filled : 1 ≤ n
   pub positive : (i : ℕ) → i < n → pos 1 ≤ℤ m i i
   pub small : top n m <ℤ pos (2 ^ 116)
   pub inside : (i : ℕ) → i < n → IsInside n m (top n m) i
