@@ -1,13 +1,15 @@
 -- The tests read the entries below the size alone.
-use Rattle.std.proofs.Common.{◌≡◌, ℕ, zero, suc, ◌+◌, ◌<◌, ◌≤◌, ◌^◌, ℤ, pos, ◌*ℤ◌, ◌-ℤ◌, ◌≤ℤ◌, unsigned_abs, nat_eq, length, Bool, IsTrue, ◌↔◌, if◌then◌else◌, arith, ap, ap₂, sym, ◌∙◌, refl}
+use Rattle.std.proofs.Common.{◌≡◌, ℕ, zero, suc, ◌+◌, ◌*◌, ◌<◌, ◌≤◌, ◌^◌, [], ◌∷◌, ℤ, pos, ◌*ℤ◌, ◌-ℤ◌, ◌≤ℤ◌, unsigned_abs, nat_eq, length, Bool, IsTrue, ◌↔◌, if◌then◌else◌, arith, ap, ap₂, sym, ◌∙◌, refl}
 use Rattle.std.specs.Int.{int_max, int_min}
+use Rattle.std.proofs.lemmas.Int.{unsigned_abs-mul}
+use Rattle.integer_algebra.proofs.Quoting.{by_ring, quotes}
 use Rattle.integer_algebra.specs.Bounds.{absolute}
 use Rattle.integer_algebra.specs.Sums.{total, square, dot}
 use Rattle.integer_algebra.proofs.SumLaws.{total_same}
 use Rattle.integer_algebra.specs.Division.{floor_of}
 use Rattle.mat_int.specs.Matrix.{Matrix, entry_of}
-use Rattle.hessian_check.specs.Gaps.{HasEntries}
-use Rattle.hessian_check.specs.Dominance.{others, IsDominant}
+use Rattle.hessian_check.specs.Gaps.{HasEntries, mixed}
+use Rattle.hessian_check.specs.Dominance.{others, IsDominant, IsSymmetric}
 use Rattle.hessian_check.specs.Recipe.{top, low, left, quotient, IsStart, IsShift, IsPart, IsRow, IsRoot, margin, scaled_up}
 use Rattle.hessian_check.specs.Curvature.{IsCertified, IsLeast}
 use Rattle.hessian_check.proofs.PassLaws.{AreSame, passes_same, same_back}
@@ -95,3 +97,16 @@ certified_told n m f b e h t =
 -- the least number that a loop finds
 pub found : (p : ℕ → Type 0) (s end : ℕ) → s < end → ((k : ℕ) → k < s → ¬ p k) → p s → (s < end) × IsLeast p s
 found p s end l none y = (l, record { holds = y; least = none })
+
+-- a matrix with a factor, as a difference
+pub raised_same : (n : ℕ) (m w : Matrix) (p : ℤ) → length w.rows ≡ n → HasEntries w (mixed p (entry_of m) (pos 0) (entry_of m)) → AreSame n (entry_of w) (scaled_up p (entry_of m))
+raised_same n m w p e h = record { is = λ i j k l. h i j (rw e k) (rw e l) ∙ less (p *ℤ entry_of m i j) (entry_of m i j) }
+  where
+    less : (x y : ℤ) → x -ℤ pos 0 *ℤ y ≡ x
+    less x y = by_ring (x ∷ y ∷ []) (search quotes depth 60 fits 20000) refl
+
+pub raised_turned : (n : ℕ) (m w : Matrix) (p : ℤ) → AreSame n (entry_of w) (scaled_up p (entry_of m)) → IsSymmetric n (entry_of m) → IsSymmetric n (entry_of w)
+raised_turned n m w p h s i j k l = h.is i j k l ∙ ap (λ (z : ℤ). p *ℤ z) (s i j k l) ∙ sym (h.is j i l k)
+
+pub raised_room : (x y : ℤ) → unsigned_abs (x *ℤ y) < 2 ^ 117 → unsigned_abs x * unsigned_abs y + 0 * unsigned_abs y < 2 ^ 127
+raised_room x y h = let e = unsigned_abs-mul x y in omega (arith, e, h)

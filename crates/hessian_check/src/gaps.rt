@@ -36,7 +36,7 @@ impl Gaps {
 }
 
 /// `x * a - y * b`.
-fn mix(alloc: Global, x: i128, a: &Mat, y: i128, b: &Mat) -> Result<Mat, AllocError>
+pub fn mix(alloc: Global, x: i128, a: &Mat, y: i128, b: &Mat) -> Result<Mat, AllocError>
     requires shape { AreSquare a.now b.now }
     requires room { IsMixable x a.now y b.now }
     ensures shape { IfOk result (λ m. AreSquare a.now m) }
