@@ -7,6 +7,7 @@ pub mod Box
 pub mod Parts
 pub mod Condensed
 pub mod Curvature
+pub mod CurvatureSize
 pub mod GoodSolution
 pub mod Controller
 pub mod Machine
