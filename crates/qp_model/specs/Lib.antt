@@ -8,6 +8,7 @@ pub mod Parts
 pub mod Policy
 pub mod Condensed
 pub mod Curvature
+pub mod CurvatureSize
 pub mod GoodSolution
 pub mod Controller
 pub mod Machine

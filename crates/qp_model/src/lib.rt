@@ -24,7 +24,7 @@ pub use number::{line_text, number_word, numbers_of, pieces_of, spaced_text};
 pub use policy::Policy;
 pub use quantity::{Quantity, Wide};
 pub use sizes::{
-    cost_width, growth, hessian_size, limit_width, limited_area, limited_power, limited_product,
-    prediction_size, rows_size, weight_sum,
+    cost_width, curvature_of, growth, hessian_size, limit_width, limited_area, limited_power,
+    limited_product, prediction_size, rows_size, weight_sum,
 };
 pub use text_fault::TextFault;

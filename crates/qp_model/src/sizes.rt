@@ -6,6 +6,7 @@ ghost use Rattle.integer_algebra.specs.Sizes.{size};
 ghost use Rattle.mat_int.specs.Matrix.{entry_of};
 ghost use Rattle.qp_model.specs.Parts.{IsDesign, design_of};
 ghost use Rattle.qp_model.specs.Quantities.{greatest, growth, cost_width, limit_width, weight_sum, prediction_size, hessian_size, rows_size};
+ghost use Rattle.qp_model.specs.CurvatureSize.{curvature_of};
 
 use crate::design_parts::DesignParts;
 use mat_int::Mat;
@@ -161,4 +162,28 @@ pub fn rows_size(parts: &DesignParts) -> Option<u128>
     let count = ((entries + parts.states + 1) * rows) as u128;
     let entry = limited_product(limit_width(parts), prediction_size(parts)?)?;
     limited_area(count, entry)
+}
+
+/// The quantity `curvature`, by the exponent that the squares ask, the denominators, and the quantities `hessian` and `rows`.
+pub fn curvature_of(
+    exponent: u32,
+    limit_den: u128,
+    hessian: u128,
+    weight_den: u128,
+    cost_row_den: u128,
+    rows: u128,
+) -> Option<u128>
+    requires exponent { exponent ≤ 40 }
+    requires limit_den { limit_den ≤ 2 ^ 20 }
+    requires weight_den { weight_den ≤ 2 ^ 20 }
+    requires cost_row_den { cost_row_den ≤ 2 ^ 20 }
+    ensures { let size = curvature_of exponent limit_den hessian weight_den cost_row_den rows in SomeIff result (size ≤ 2 ^ 126) size }
+{
+    let cost = limited_product((1 << exponent) * (limit_den * limit_den), hessian)?;
+    let limits = limited_product(weight_den * (cost_row_den * cost_row_den), rows)?;
+    if cost + limits <= 1 << 126 {
+        Some(cost + limits)
+    } else {
+        None
+    }
 }

@@ -1,0 +1,112 @@
+-- The tests read the entries below the size alone.
+use Rattle.std.proofs.Common.{◌≡◌, ℕ, zero, suc, ◌+◌, ◌*◌, ◌<◌, ◌≤◌, ◌^◌, [], ◌∷◌, ℤ, pos, ◌*ℤ◌, ◌-ℤ◌, ◌≤ℤ◌, unsigned_abs, nat_eq, length, Bool, IsTrue, ◌↔◌, if◌then◌else◌, arith, ap, ap₂, sym, ◌∙◌, refl}
+use Rattle.std.specs.Int.{int_max, int_min}
+use Rattle.std.proofs.lemmas.Int.{unsigned_abs-mul}
+use Rattle.integer_algebra.proofs.Quoting.{by_ring, quotes}
+use Rattle.integer_algebra.specs.Bounds.{absolute}
+use Rattle.integer_algebra.specs.Sums.{total, square, dot}
+use Rattle.integer_algebra.proofs.SumLaws.{total_same}
+use Rattle.integer_algebra.specs.Division.{floor_of}
+use Rattle.mat_int.specs.Matrix.{Matrix, entry_of}
+use Rattle.hessian_check.specs.Gaps.{HasEntries, mixed}
+use Rattle.hessian_check.specs.Dominance.{others, IsDominant, IsSymmetric}
+use Rattle.hessian_check.specs.Recipe.{top, low, left, quotient, IsStart, IsShift, IsPart, IsRow, IsRoot, margin, scaled_up}
+use Rattle.hessian_check.specs.Curvature.{IsCertified, IsLeast}
+use Rattle.hessian_check.proofs.PassLaws.{AreSame, passes_same, same_back}
+
+-- a factor
+pub same_scaled : (n : ℕ) (p : ℤ) (m w : ℕ → ℕ → ℤ) → AreSame n m w → AreSame n (scaled_up p m) (scaled_up p w)
+same_scaled n p m w h = record { is = λ i j k l. ap (λ (z : ℤ). p *ℤ z) (h.is i j k l) }
+
+pub dominant_moved : (n : ℕ) (m w : ℕ → ℕ → ℤ) → AreSame n m w → IsDominant n m → IsDominant n w
+dominant_moved n m w h p i k = rw (← (h.is i i k k), ← others_same) (p i k)
+  where
+    others_same : others n m i ≡ others n w i
+    others_same = total_same n _ _ (λ j l. ap (λ (x : ℤ). if nat_eq j i then pos 0 else absolute x) (h.is i j k l))
+
+top_same : (n k : ℕ) (m w : ℕ → ℕ → ℤ) → k ≤ n → AreSame n m w → top k m ≡ top k w
+top_same n zero m w l h = refl
+top_same n (suc k) m w l h = ap₂ int_max (top_same n k m w (omega arith) h) (h.is k k (omega arith) (omega arith))
+
+low_same : (t u : ℤ) (n k : ℕ) (m w : ℕ → ℕ → ℤ) → t ≡ u → k ≤ n → AreSame n m w → low t k m ≡ low u k w
+low_same t u n zero m w e l h = e
+low_same t u n (suc k) m w e l h = ap₂ int_min (low_same t u n k m w e (omega arith) h) (h.is k k (omega arith) (omega arith))
+
+start_moved : (n : ℕ) (m w : ℕ → ℕ → ℤ) → AreSame n m w → IsStart n m → IsStart n w
+start_moved n m w h s =
+    let e = top_same n n m w (omega arith) h in
+    record {
+      filled = s.filled;
+      positive = λ i l. rw (← (h.is i i l l)) (s.positive i l);
+      small = rw (← e) s.small;
+      inside = λ i k j l. rw (← (h.is i j k l), ← e) (s.inside i k j l);
+    }
+
+part_moved : (n : ℕ) (b c : ℕ → ℕ → ℤ) (mu : ℤ) (r : ℕ → ℕ → ℤ) (i j : ℕ) → i < n → j ≤ i → AreSame n b c → IsPart b mu r i j → IsPart c mu r i j
+part_moved n b c mu r i j l o h p = record {
+  made = λ k t. p.made k t ∙ ap (λ (z : ℤ). floor_of (z -ℤ dot k (r i) (r k)) (unsigned_abs (r k k))) (h.is i k l (omega arith));
+  small = p.small;
+  stays = λ k t. rw (← (h.is i i l l)) (p.stays k t);
+}
+
+row_moved : (n : ℕ) (b c : ℕ → ℕ → ℤ) (mu : ℤ) (r : ℕ → ℕ → ℤ) (i : ℕ) → i < n → AreSame n b c → IsRow n b mu r i → IsRow n c mu r i
+row_moved n b c mu r i l h p = record {
+  part = part_moved n b c mu r i i l (omega arith) h p.part;
+  positive = rw (← (h.is i i l l)) p.positive;
+  own = rw (← (h.is i i l l)) p.own;
+  nonzero = p.nonzero;
+  above = p.above;
+}
+
+pub root_moved : (n : ℕ) (m w : ℕ → ℕ → ℤ) (s : ℕ) (r : ℕ → ℕ → ℤ) → AreSame n m w → IsRoot n m s r → IsRoot n w s r
+root_moved n m w s r h p =
+    let e = top_same n n m w (omega arith) h in
+    let mu : margin (pos (4 ^ s)) n m ≡ margin (pos (4 ^ s)) n w =
+        ap (λ (z : ℤ). floor_of (pos (4 ^ s) *ℤ z) 4096) (low_same (top n m) (top n w) n n m w e (omega arith) h) in
+    record {
+      start = start_moved n m w h p.start;
+      shift = rw (← e) p.shift;
+      rows = λ i l. rw (← mu) (row_moved n (scaled_up (pos (4 ^ s)) m) (scaled_up (pos (4 ^ s)) w) (margin (pos (4 ^ s)) n m) r i l (same_scaled n (pos (4 ^ s)) m w h) (p.rows i l));
+    }
+
+pub certified_moved : (n : ℕ) (m w : ℕ → ℕ → ℤ) → AreSame n m w → IsCertified n m → IsCertified n w
+certified_moved n m w h c = record {
+  shift = c.shift;
+  root = c.root;
+  is_root = root_moved n m w c.shift c.root h c.is_root;
+  passes = passes_same n (scaled_up (pos (4 ^ c.shift)) m) (scaled_up (pos (4 ^ c.shift)) w) c.root c.root (same_scaled n (pos (4 ^ c.shift)) m w h) (record { is = λ i j k l. refl }) c.passes;
+}
+
+-- a matrix with the entries of an index function
+pub has_same : (n : ℕ) (m : Matrix) (f : ℕ → ℕ → ℤ) → length m.rows ≡ n → HasEntries m f → AreSame n (entry_of m) f
+has_same n m f e h = record { is = λ i j k l. h i j (rw e k) (rw e l) }
+
+-- so what a test tells of it, it tells of the function
+pub dominant_told : (n : ℕ) (m : Matrix) (f : ℕ → ℕ → ℤ) (b : Bool) → length m.rows ≡ n → HasEntries m f →
+    (IsTrue b ↔ IsDominant (length m.rows) (entry_of m)) → IsTrue b ↔ IsDominant n f
+dominant_told n m f b e h t =
+    let s = has_same n m f e h in
+    (λ y. dominant_moved n (entry_of m) f s (rw e at (t.0 y)), λ d. t.1 (rw e (dominant_moved n f (entry_of m) (same_back n (entry_of m) f s) d)))
+
+pub certified_told : (n : ℕ) (m : Matrix) (f : ℕ → ℕ → ℤ) (b : Bool) → length m.rows ≡ n → HasEntries m f →
+    (IsTrue b ↔ IsCertified (length m.rows) (entry_of m)) → IsTrue b ↔ IsCertified n f
+certified_told n m f b e h t =
+    let s = has_same n m f e h in
+    (λ y. certified_moved n (entry_of m) f s (rw e at (t.0 y)), λ d. t.1 (rw e (certified_moved n f (entry_of m) (same_back n (entry_of m) f s) d)))
+
+-- the least number that a loop finds
+pub found : (p : ℕ → Type 0) (s end : ℕ) → s < end → ((k : ℕ) → k < s → ¬ p k) → p s → (s < end) × IsLeast p s
+found p s end l none y = (l, record { holds = y; least = none })
+
+-- a matrix with a factor, as a difference
+pub raised_same : (n : ℕ) (m w : Matrix) (p : ℤ) → length w.rows ≡ n → HasEntries w (mixed p (entry_of m) (pos 0) (entry_of m)) → AreSame n (entry_of w) (scaled_up p (entry_of m))
+raised_same n m w p e h = record { is = λ i j k l. h i j (rw e k) (rw e l) ∙ less (p *ℤ entry_of m i j) (entry_of m i j) }
+  where
+    less : (x y : ℤ) → x -ℤ pos 0 *ℤ y ≡ x
+    less x y = by_ring (x ∷ y ∷ []) (search quotes depth 60 fits 20000) refl
+
+pub raised_turned : (n : ℕ) (m w : Matrix) (p : ℤ) → AreSame n (entry_of w) (scaled_up p (entry_of m)) → IsSymmetric n (entry_of m) → IsSymmetric n (entry_of w)
+raised_turned n m w p h s i j k l = h.is i j k l ∙ ap (λ (z : ℤ). p *ℤ z) (s i j k l) ∙ sym (h.is j i l k)
+
+pub raised_room : (x y : ℤ) → unsigned_abs (x *ℤ y) < 2 ^ 117 → unsigned_abs x * unsigned_abs y + 0 * unsigned_abs y < 2 ^ 127
+raised_room x y h = let e = unsigned_abs-mul x y in omega (arith, e, h)

@@ -1,0 +1,35 @@
+// What the choice of exponents answers.
+ghost use Rattle.std.specs.Prelude.{◌≡◌};
+ghost use Rattle.hessian_check.specs.declared.fault.CurvatureFault.TheVariants.{Memory};
+
+use qp_model::Quantity;
+use std::alloc::AllocError;
+use thiserror::Error;
+
+/// Two exponents of the step: `s`, and the one that needs no certificate.
+#[derive(Clone, Copy, Debug, PartialEq, Eq)]
+pub struct StepExponents {
+    /// The least number below `s1` whose gap has a certificate, or `s1`.
+    pub s: u32,
+    /// The least number whose gap is dominant or that bounds the rows by the sum of all their squares, up to 40.
+    pub s1: u32,
+}
+
+/// Why there are no exponents.
+#[derive(Clone, Copy, Debug, PartialEq, Eq, Error)]
+pub enum CurvatureFault {
+    #[error("memory")]
+    Memory,
+    #[error("too wide")]
+    TooWide { quantity: Quantity },
+    #[error("no step")]
+    NoStep,
+}
+
+impl From<AllocError> for CurvatureFault {
+    ghost from_gives = { λ _ e. e ≡ Memory };
+
+    fn from(_error: AllocError) -> CurvatureFault {
+        CurvatureFault::Memory
+    }
+}
