@@ -4,7 +4,7 @@ ghost use Rattle.integer_algebra.specs.Sums.{at};
 ghost use Rattle.qp_model.specs.Controller.{numbers};
 ghost use Rattle.qp_model.specs.Machine.{plan_entry, plan_of, next_multiplier, next_multipliers, added, step_of};
 ghost use Rattle.qp_model.specs.AbsoluteSums.{IsController, clamp_reach, state_reach, plan_reach};
-ghost use Rattle.fixed_kernel.specs.Within.{AreWithin};
+ghost use Rattle.overflow_check.specs.Within.{AreWithin};
 
 use crate::entry::{entry_from, multiplier_from};
 use mat_int::dot;
