@@ -1,2 +1,6 @@
+pub mod Absolute
 pub mod Greatest
 pub mod Sizes
+pub mod SumLaws
+pub mod Runs
+pub mod ValuesMet

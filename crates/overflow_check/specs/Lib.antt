@@ -1,2 +1,3 @@
 pub mod Width
+pub mod Within
 pub mod Laws

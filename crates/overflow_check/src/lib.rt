@@ -3,9 +3,11 @@
 
 mod controller;
 mod form;
+mod laws;
 mod reach;
 mod word_width;
 
 pub use controller::{BadParts, Controller};
+pub use laws::values_law;
 pub use reach::greatest_sum;
 pub use word_width::width;

@@ -1,0 +1,156 @@
+// The machine's state, its steps and its runs.
+ghost use Rattle.std.specs.Prelude.{◌≡◌, ◌<◌, ◌≤◌, ◌+◌, ◌↔◌, length, IsOk, IfOk, IfErr, OnOk, OnErr};
+ghost use Rattle.integer_algebra.specs.Sums.{at};
+ghost use Rattle.qp_model.specs.Controller.{plan_length};
+ghost use Rattle.qp_model.specs.Machine.{IsGridState, loaded, step_of, run_of};
+ghost use Rattle.fixed_kernel.specs.Outside.{IsFirstOutside};
+
+use crate::state::{OutsideBox, clear, first_outside, load_state};
+use crate::step::advance;
+use overflow_check::Controller;
+use std::alloc::{AllocError, Global};
+use std::marker::Model;
+
+/// A controller at work on one state. It is seen as the controller, the grid state and the number of steps made; plan,
+/// multipliers and sums are those of the machine after that many steps from that state.
+#[derive(Debug, Drop)]
+pub struct Kernel<'a> {
+    controller: &'a Controller,
+    state: Vec<i128>,
+    plan: Vec<i128>,
+    multipliers: Vec<i128>,
+    sums: Vec<i128>,
+    made: u32,
+}
+
+impl<'a> Model for Kernel<'a> {
+    ghost use Rattle.fixed_kernel.specs.Progress.{Progress, progress_of, IsReached};
+
+    ghost Value = { Progress };
+
+    ghost view = { progress_of };
+
+    ghost invariant = { IsReached };
+}
+
+impl<'a> Kernel<'a> {
+    ghost use Rattle.fixed_kernel.specs.Progress.{values_of};
+
+    /// A kernel with the least state of the box loaded and no step made. It takes all the memory that the kernel ever uses.
+    pub fn prepare(alloc: Global, controller: &'a Controller) -> Result<Kernel<'a>, AllocError>
+        ensures { IfOk result (λ k. k ≡ record { controller = controller.now; state = controller.now.low; made = 0 }) }
+    {
+        let c = controller.parts();
+        let mut state = vec![in alloc; 0; c.n]?;
+        load_state(c, &c.lo, &mut state);
+        Ok(Kernel {
+            controller,
+            state,
+            plan: vec![in alloc; 0; c.t.len()]?,
+            multipliers: vec![in alloc; 0; c.m]?,
+            sums: vec![in alloc; 0; c.t.len()]?,
+            made: 0,
+        })
+    }
+
+    /// Loads a state, over `2^g`, with no step made. Refused exactly where a coordinate lies outside the box, and then
+    /// nothing changes.
+    pub fn load(&mut self, state: &[i128]) -> Result<(), OutsideBox>
+        requires { length state.now ≡ self.old.controller.states }
+        ensures inside { IsOk result ↔ IsGridState self.old.controller state.now }
+        ensures first { IfErr result (λ e. IsFirstOutside self.old.controller state.now e.coordinate) }
+        ensures ok { OnOk result (self.new ≡ record self.old { state = state.now; made = 0 }) }
+        ensures err { OnErr result (self.new ≡ self.old) }
+    {
+        let c = self.controller.parts();
+        if let Some(coordinate) = first_outside(c, state) {
+            return Err(OutsideBox { coordinate });
+        }
+        load_state(c, state, &mut self.state);
+        clear(&mut self.plan);
+        clear(&mut self.multipliers);
+        clear(&mut self.sums);
+        self.made = 0;
+        Ok(())
+    }
+
+    /// One step of the machine.
+    pub fn step(&mut self)
+        requires { self.old.made < self.old.controller.steps }
+        ensures made { self.new ≡ record self.old { made = self.old.made + 1 } }
+        ensures values { values_of self.new ≡ step_of self.old.controller (loaded self.old.controller self.old.state) (values_of self.old) }
+    {
+        advance(
+            self.controller.parts(),
+            &self.state,
+            &mut self.plan,
+            &mut self.multipliers,
+            &mut self.sums,
+        );
+        self.made += 1;
+    }
+
+    // The steps that are left.
+    fn finish(&mut self)
+        ensures { self.new ≡ record self.old { made = self.old.controller.steps } }
+    {
+        for _ in self.made..self.controller.parts().steps {
+            self.step();
+        }
+    }
+
+    /// Loads a state, over `2^g`, and makes all steps. Refused exactly where a coordinate lies outside the box, and then
+    /// nothing changes.
+    pub fn run(&mut self, state: &[i128]) -> Result<(), OutsideBox>
+        requires { length state.now ≡ self.old.controller.states }
+        ensures inside { IsOk result ↔ IsGridState self.old.controller state.now }
+        ensures first { IfErr result (λ e. IsFirstOutside self.old.controller state.now e.coordinate) }
+        ensures ok { OnOk result (self.new ≡ record self.old { state = state.now; made = self.old.controller.steps }) }
+        ensures values { OnOk result (values_of self.new ≡ run_of self.old.controller state.now) }
+        ensures err { OnErr result (self.new ≡ self.old) }
+    {
+        self.load(state)?;
+        self.finish();
+        Ok(())
+    }
+
+    /// The number of steps made.
+    pub fn made(&self) -> u32
+        ensures value { result ≡ self.now.made }
+        ensures within { result ≤ self.now.controller.steps }
+    {
+        self.made
+    }
+
+    /// The sum of plan entry `j` over the steps made, over `2^f`.
+    pub fn sum(&self, j: usize) -> i128
+        requires { j < plan_length self.now.controller }
+        ensures { result ≡ at (values_of self.now).sums j }
+    {
+        self.sums[j]
+    }
+
+    /// Multiplier `i`, over `2^(f+s)`.
+    pub fn multiplier(&self, i: usize) -> i128
+        requires { i < self.now.controller.rows }
+        ensures { result ≡ at (values_of self.now).multipliers i }
+    {
+        self.multipliers[i]
+    }
+
+    /// Entry `j` of the last plan, over `2^f`.
+    pub fn last(&self, j: usize) -> i128
+        requires { j < plan_length self.now.controller }
+        ensures { result ≡ at (values_of self.now).plan j }
+    {
+        self.plan[j]
+    }
+
+    /// The controller. The kernel's state lies in its box.
+    pub fn controller(&self) -> &Controller
+        ensures value { result.now ≡ self.now.controller }
+        ensures state { IsGridState self.now.controller self.now.state }
+    {
+        self.controller
+    }
+}

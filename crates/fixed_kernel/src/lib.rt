@@ -1,0 +1,10 @@
+//! The machine at work: a controller's steps from a state, in memory that is taken once.
+#![tactic(auto)]
+
+mod entry;
+mod kernel;
+mod state;
+mod step;
+
+pub use kernel::Kernel;
+pub use state::OutsideBox;
