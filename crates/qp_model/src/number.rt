@@ -47,6 +47,7 @@ pub fn pieces_of(alloc: Global, text: &[u8], separator: u8) -> Result<Vec<&[u8]>
 pub fn numbers_of(alloc: Global, words: &[&[u8]]) -> Result<Option<Vec<i128>>, AllocError>
     // What is read is spelled so.
     ensures found { IfOk result (λ o. IfSome o (λ v. map signed_decimal v.items ≡ map (λ x. x.now) words.now)) }
+    ensures word { IfOk result (λ o. IfSome o (λ v. All (FitsSigned w128) v.items)) }
     // What is spelled so is read.
     ensures only { (zs : List ℤ) → All (FitsSigned w128) zs → map (λ x. x.now) words.now ≡ map signed_decimal zs → IfOk result (λ o. IsSomeAnd o (λ v. v.items ≡ zs)) }
 {

@@ -2,6 +2,7 @@ use Rattle.std.proofs.Common.{◌≡◌, ◌<◌, ℕ, ℤ, pos, List, [], ◌�
 use Rattle.std.specs.Int.{w128}
 use Rattle.std.specs.Fmt.{signed_decimal}
 use Rattle.std.proofs.lemmas.List.{get_or-map, length-map, take_more, map-append}
+use Rattle.std.proofs.lemmas.Grind.{common_steps}
 use Rattle.qp_model.proofs.Words.{same_at}
 use Rattle.qp_model.proofs.number.numbers_of.Goals as goal
 
@@ -29,7 +30,9 @@ loop-word-preserved c =
     let old = c.loop-word.numbers.items in
     let items : c.push.new.self.items ≡ old ++ c.in-Some.number ∷ [] = search rules in
     let spelled : signed_decimal c.in-Some.number ≡ (get_or words i none).now = sym c.in-Some.ensures.found ∙ word ∙ get_or-map (λ (x : Bor (List ℕ)). x.now) words i none [] lt in
+    let fits : FitsSigned w128 c.in-Some.number = search rules in
     record {
+      word = grind (arith, common_steps);
       found = rw (items, map-append signed_decimal old (c.in-Some.number ∷ []), c.loop-word.invariant.found, take_more words i none lt, map-append (λ (x : Bor (List ℕ)). x.now) (take i words) (get_or words i none ∷ []), spelled) refl;
       only = λ zs fits e.
           let at = same_at texts zs i e long in

@@ -7,5 +7,6 @@ use Rattle.qp_model.proofs.number.numbers_of.Given as goal
 abbrev pub invariant-loop-word : goal.invariant-loop-word
 invariant-loop-word l = record {
   found : map signed_decimal l.numbers.items ≡ map (λ x. x.now) (take l.word-index l.words);
+  word : All (FitsSigned w128) l.numbers.items;
   only : (zs : List ℤ) → All (FitsSigned w128) zs → map (λ x. x.now) l.words ≡ map signed_decimal zs → l.numbers.items ≡ take l.word-index zs;
 }

@@ -1,0 +1,42 @@
+-- Lines as words and numbers, and those of a controller.
+use Rattle.std.specs.Prelude.{◌≡◌, ℕ, ℤ, pos, List, [], ◌∷◌, ◌++◌, map, codes, All, FitsSigned}
+use Rattle.std.specs.Int.{w128}
+use Rattle.mat_int.specs.Matrix.{Matrix}
+use Rattle.qp_model.specs.Lines.{line_of}
+use Rattle.qp_model.specs.Controller.{Numbers}
+use Rattle.controller_file.specs.declared.line.Line.{Line}
+
+-- a line's word and its numbers
+pub record Keyed : Type 0 where
+  pub key : List ℕ
+  pub numbers : List ℤ
+
+abbrev pub view : Line → Keyed
+view l = record { key = l.key.now; numbers = l.numbers.items }
+
+abbrev pub views : List Line → List Keyed
+views ls = map view ls
+
+-- the bytes of a line, but for its line feed
+abbrev pub spelled : Keyed → List ℕ
+spelled l = line_of l.key l.numbers
+
+-- each of its numbers fits a word of 128 bits
+abbrev pub Fits : Keyed → Type 0
+Fits l = All (FitsSigned w128) l.numbers
+
+-- the lines of one word for each row
+abbrev pub row_lines : List ℕ → List (List ℤ) → List Keyed
+row_lines key rows = map (λ row. record { key = key; numbers = row }) rows
+
+abbrev pub line : List ℕ → List ℤ → Keyed
+line key numbers = record { key = key; numbers = numbers }
+
+abbrev pub head_lines : Numbers → List Keyed
+head_lines c =
+    line (codes "mpc-controller") (pos 1 ∷ [])
+    ∷ line (codes "size") (pos c.states ∷ pos c.inputs ∷ pos c.stages ∷ pos c.rows ∷ [])
+    ∷ line (codes "bits") (pos c.fraction_bits ∷ pos c.grid_bits ∷ pos c.step_exponent ∷ pos c.width ∷ [])
+    ∷ line (codes "steps") (pos c.steps ∷ [])
+    ∷ line (codes "clamp") (c.clamp ∷ [])
+    ∷ line (codes "words") (pos c.words ∷ []) ∷ []

@@ -1,0 +1,197 @@
+// A controller's numbers from the lines of its text.
+ghost use Rattle.std.specs.Prelude.{◌≡◌, length, IfOk};
+ghost use Rattle.qp_model.specs.Controller.{numbers};
+ghost use Rattle.controller_file.specs.Lines.{view, views};
+ghost use Rattle.controller_file.specs.Reading.{Gives, natural, numbers_in, numbers_at, natural_at, four_at, all_rows_at, matrix_at, head_at, parts_at};
+
+use crate::fault::LineFault;
+use crate::line::{Line, lines_of};
+use mat_int::Mat;
+use qp_model::ControllerParts;
+use std::alloc::Global;
+
+pub fn read_parts(alloc: Global, text: &[u8]) -> Result<ControllerParts, LineFault>
+{
+    let lines = lines_of(alloc, text)?;
+    parts_of(alloc, &lines)
+}
+
+// What the lines before the lists say.
+#[derive(Clone, Copy)]
+struct Head {
+    n: u32,
+    p: u32,
+    stages: u32,
+    m: u32,
+    f: u32,
+    g: u32,
+    s: u32,
+    w: u32,
+    steps: u32,
+    clamp: i128,
+    words: u32,
+}
+
+// The controller that these lines are, line by line.
+#[tactic(auto, unfolding(crate::specs::Reading::parts_at, crate::specs::Reading::lists_at))]
+fn parts_of(alloc: Global, lines: &[Line]) -> Result<ControllerParts, LineFault>
+    ensures { Gives (λ x. numbers x) result (parts_at (views lines.now)) }
+{
+    let (head, lines) = read_head(lines)?;
+    let n = head.n as usize;
+    let m = head.m as usize;
+    let nu = head.p as usize * head.stages as usize;
+    let (lo, lines) = read_list(alloc, "lo", n, lines)?;
+    let (hi, lines) = read_list(alloc, "hi", n, lines)?;
+    let (p_mat, lines) = read_matrix(alloc, "P", nu, n, lines)?;
+    let (t, lines) = read_list(alloc, "T", nu, lines)?;
+    let (w_mat, lines) = read_matrix(alloc, "W", nu, m, lines)?;
+    let (g_mat, lines) = read_matrix(alloc, "G", m, nu, lines)?;
+    let (e_mat, lines) = read_matrix(alloc, "E", m, n, lines)?;
+    let (bound, lines) = read_list(alloc, "b", m, lines)?;
+    let (_, lines) = read_numbers("end", 0, lines)?;
+    if !lines.is_empty() {
+        return Err(LineFault::Form);
+    }
+    Ok(ControllerParts {
+        n,
+        p: head.p as usize,
+        stages: head.stages as usize,
+        m,
+        f: head.f,
+        g: head.g,
+        s: head.s,
+        w: head.w,
+        steps: head.steps,
+        clamp: head.clamp,
+        words: head.words as usize,
+        lo,
+        hi,
+        p_mat,
+        t,
+        w_mat,
+        g_mat,
+        e_mat,
+        bound,
+    })
+}
+
+// The first six lines, and the others.
+#[tactic(auto, unfolding(crate::specs::Reading::head_at))]
+fn read_head<'a, 't>(lines: &'a [Line<'t>]) -> Result<(Head, &'a [Line<'t>]), LineFault>
+    ensures { Gives (λ x. (x.0, views x.1.now)) result (head_at (views lines.now)) }
+{
+    let (version, lines) = read_natural("mpc-controller", lines)?;
+    if version != 1 {
+        return Err(LineFault::Form);
+    }
+    let ((n, p, stages, m), lines) = read_four("size", lines)?;
+    let ((f, g, s, w), lines) = read_four("bits", lines)?;
+    let (steps, lines) = read_natural("steps", lines)?;
+    let (clamp, lines) = read_numbers("clamp", 1, lines)?;
+    let (words, lines) = read_natural("words", lines)?;
+    Ok((
+        Head {
+            n,
+            p,
+            stages,
+            m,
+            f,
+            g,
+            s,
+            w,
+            steps,
+            clamp: clamp[0],
+            words,
+        },
+        lines,
+    ))
+}
+
+// The numbers of so many lines with this word, as rows, and the other lines.
+#[tactic(auto, unfolding(crate::specs::Reading::matrix_at))]
+fn read_matrix<'a, 't>(alloc: Global, key: &str, rows: usize, cols: usize, lines: &'a [Line<'t>]) -> Result<(Mat, &'a [Line<'t>]), LineFault>
+    ensures { Gives (λ x. (x.0, views x.1.now)) result (matrix_at key.now rows cols (views lines.now)) }
+{
+    if lines.len() < rows {
+        return Err(LineFault::Form);
+    }
+    let (front, rest) = lines.split_at(rows);
+    Ok((read_rows(alloc, key, cols, front)?, rest))
+}
+
+// The numbers of these lines with this word, as rows.
+fn read_rows(alloc: Global, key: &str, cols: usize, lines: &[Line]) -> Result<Mat, LineFault>
+    ensures { Gives (λ m. m) result (all_rows_at key.now cols (views lines.now)) }
+{
+    let mut matrix = Mat::zero(alloc, 0, cols)?;
+    for line in lines {
+        matrix.push_row(alloc, numbers_of(key, cols, line)?)?;
+    }
+    Ok(matrix)
+}
+
+// The numbers of the first line as a list, and the other lines.
+fn read_list<'a, 't>(alloc: Global, key: &str, count: usize, lines: &'a [Line<'t>]) -> Result<(Vec<i128>, &'a [Line<'t>]), LineFault>
+    ensures { Gives (λ x. (x.0.items, views x.1.now)) result (numbers_at key.now count (views lines.now)) }
+{
+    let (numbers, lines) = read_numbers(key, count, lines)?;
+    Ok((numbers.to_vec(alloc)?, lines))
+}
+
+// The natural numbers of the first line, which has four, and the other lines.
+#[tactic(auto, unfolding(crate::specs::Reading::four_at))]
+fn read_four<'a, 't>(key: &str, lines: &'a [Line<'t>]) -> Result<((u32, u32, u32, u32), &'a [Line<'t>]), LineFault>
+    ensures { Gives (λ x. (x.0, views x.1.now)) result (four_at key.now (views lines.now)) }
+{
+    let (numbers, lines) = read_numbers(key, 4, lines)?;
+    let first = read_small(numbers[0])?;
+    let second = read_small(numbers[1])?;
+    let third = read_small(numbers[2])?;
+    let fourth = read_small(numbers[3])?;
+    Ok(((first, second, third, fourth), lines))
+}
+
+// The natural number of the first line, which has one, and the other lines.
+#[tactic(auto, unfolding(crate::specs::Reading::natural_at))]
+fn read_natural<'a, 't>(key: &str, lines: &'a [Line<'t>]) -> Result<(u32, &'a [Line<'t>]), LineFault>
+    ensures { Gives (λ x. (x.0, views x.1.now)) result (natural_at key.now (views lines.now)) }
+{
+    let (numbers, lines) = read_numbers(key, 1, lines)?;
+    Ok((read_small(numbers[0])?, lines))
+}
+
+// The numbers of the first line, and the other lines.
+#[tactic(auto, unfolding(crate::specs::Reading::numbers_at))]
+fn read_numbers<'a, 't>(key: &str, count: usize, lines: &'a [Line<'t>]) -> Result<(&'a [i128], &'a [Line<'t>]), LineFault>
+    ensures value { Gives (λ x. (x.0.now, views x.1.now)) result (numbers_at key.now count (views lines.now)) }
+    ensures count { IfOk result (λ x. length x.0.now ≡ count) }
+{
+    let (line, rest) = lines.split_first().ok_or(LineFault::Form)?;
+    Ok((numbers_of(key, count, line)?, rest))
+}
+
+// The numbers of a line, which begins with this word and has so many.
+#[tactic(auto, unfolding(crate::specs::Reading::numbers_in))]
+fn numbers_of<'a, 't>(key: &str, count: usize, line: &'a Line<'t>) -> Result<&'a [i128], LineFault>
+    ensures value { Gives (λ x. x.now) result (numbers_in key.now count (view line.now)) }
+    ensures count { IfOk result (λ x. length x.now ≡ count) }
+{
+    if line.key != key.as_bytes() {
+        return Err(LineFault::Form);
+    }
+    if line.numbers.len() != count {
+        return Err(LineFault::Form);
+    }
+    Ok(&line.numbers)
+}
+
+// A number of 32 bits that isn't negative.
+fn read_small(number: i128) -> Result<u32, LineFault>
+    ensures { Gives (λ x. x) result (natural number) }
+{
+    if number < 0 || number >= 1 << 32 {
+        return Err(LineFault::Form);
+    }
+    Ok(number as u32)
+}
