@@ -6,3 +6,4 @@ pub mod RowFacts
 pub mod ColumnFacts
 pub mod PowerFacts
 pub mod SumFacts
+pub mod WeighedFacts
