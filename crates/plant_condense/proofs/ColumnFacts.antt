@@ -1,14 +1,19 @@
 -- Unit lists, and matrices filled by columns.
-use Rattle.std.proofs.Common.{◌≡◌, inl, inr, ◌≢◌, ℕ, zero, suc, ◌+◌, ◌<◌, ◌≤◌, ℤ, pos, List, [], length, set, replicate, unsigned_abs, below_more, arith, sym, subst, ◌∙◌, refl}
+use Rattle.std.proofs.Common.{◌≡◌, inl, inr, ◌≢◌, ℕ, zero, suc, ◌+◌, ◌*◌, ◌^◌, ◌<◌, ◌≤◌, ℤ, pos, List, [], length, set, replicate, unsigned_abs, below_more, arith, sym, subst, ◌∙◌, refl}
 use mathlib.Core.Path.{fun_ext}
 use Rattle.std.proofs.lemmas.Bool.{cases_eq}
 use Rattle.std.proofs.lemmas.Bool.Decides.{eqb_tells}
 use Rattle.std.proofs.lemmas.List.{length-set, length-replicate, get_or-replicate, get_or-set_other, get_or-set_same}
 use Rattle.integer_algebra.specs.Sums.{at, none}
 use Rattle.mat_int.specs.Matrix.{Matrix, row_of, entry_of, with_entry, zero_matrix}
+use Rattle.qp_model.specs.declared.design_parts.DesignParts.{DesignParts}
 use Rattle.qp_model.specs.Design.{Design}
+use Rattle.qp_model.specs.Parts.{design_of, IsDesign}
+use Rattle.qp_model.specs.Quantities.{growth, cost_width, response_size}
+use Rattle.qp_model.proofs.QuantityLaws.{tame, slim, unit_small}
+use Rattle.qp_model.proofs.SizeFacts.{some_cost}
 use Rattle.qp_model.specs.Runs.{unit, Holds}
-use Rattle.plant_condense.specs.Lists.{HoldsMatrix, with_column, RowsFit, UnitsFit}
+use Rattle.plant_condense.specs.Lists.{HoldsMatrix, with_column, RowsFit, CostsFit, UnitsFit}
 
 zeros : (n i : ℕ) → at (replicate n (pos 0)) i ≡ pos 0
 zeros zero i = refl
@@ -29,8 +34,8 @@ unit_at n j i h = elim (eqb_tells j i) [
 pub at-unit : (n j : ℕ) → j < n → at (set (replicate n (pos 0)) j (pos 1)) ≡ unit j
 at-unit n j h = fun_ext (λ i. unit_at n j i h)
 
-unit_le : (j i : ℕ) → unsigned_abs (unit j i) ≤ 1
-unit_le j i = elim (eqb_tells j i) [ inl e ↦ rw e.0 (omega arith) | inr e ↦ rw e.0 (omega arith) ]
+once : (w z t : ℕ) → w * z ≤ t → w * (1 * z) ≤ t
+once w z t h = omega arith
 
 -- what units' rows need
 pub plan_fits : (d : Design) → UnitsFit d → (j : ℕ) → RowsFit d none (unit j)
@@ -38,7 +43,7 @@ plan_fits d f j = record {
   width = f.width;
   some = f.some;
   narrow = f.narrow;
-  fits = record { alpha = f.alpha; z = 1; tame = f.tame; state = λ i l. (omega arith); plan = λ i l. unit_le j i; fits = omega (arith, f.fits) };
+  fits = record { alpha = f.alpha; z = 1; tame = f.tame; state = λ i l. (omega arith); plan = λ i l. unit_small j i; fits = omega (arith, f.fits) };
 }
 
 pub state_fits : (d : Design) → UnitsFit d → (j : ℕ) → RowsFit d (unit j) none
@@ -46,7 +51,24 @@ state_fits d f j = record {
   width = f.width;
   some = f.some;
   narrow = f.narrow;
-  fits = record { alpha = f.alpha; z = 1; tame = f.tame; state = λ i l. unit_le j i; plan = λ i l. (omega arith); fits = omega (arith, f.fits) };
+  fits = record { alpha = f.alpha; z = 1; tame = f.tame; state = λ i l. unit_small j i; plan = λ i l. (omega arith); fits = omega (arith, f.fits) };
+}
+
+-- what units' cost rows need
+pub plan_costs_fit : (p : DesignParts) → IsDesign p → response_size (design_of p) ≤ 2 ^ 126 → (j : ℕ) → CostsFit (design_of p) none (unit j)
+plan_costs_fit p h k j = record {
+  width = cost_width (design_of p);
+  some = some_cost p h;
+  slim = slim (design_of p);
+  fits = record { alpha = growth (design_of p); z = 1; tame = tame (design_of p); state = λ i l. (omega arith); plan = λ i l. unit_small j i; fits = once _ _ _ k };
+}
+
+pub state_costs_fit : (p : DesignParts) → IsDesign p → response_size (design_of p) ≤ 2 ^ 126 → (i : ℕ) → CostsFit (design_of p) (unit i) none
+state_costs_fit p h k i = record {
+  width = cost_width (design_of p);
+  some = some_cost p h;
+  slim = slim (design_of p);
+  fits = record { alpha = growth (design_of p); z = 1; tame = tame (design_of p); state = λ j l. unit_small i j; plan = λ j l. (omega arith); fits = once _ _ _ k };
 }
 
 -- ---- columns

@@ -21,13 +21,20 @@ length-part xs a c h = let e : a + c - a ≡ c = omega arith in rw e (simp (leng
 pub at-tail : (xs : List ℤ) (a j : ℕ) → a + j < length xs → at (take (length xs - a) (drop a xs)) j ≡ at xs (a + j)
 at-tail xs a j l = get_or-take (length xs - a) (drop a xs) j (pos 0) (omega arith) ∙ get_or-drop a xs j (pos 0)
 
+-- ---- a row and a state that was made
+pub held_size : (n : ℕ) (row now : List ℤ) (x : ℕ → ℤ) → Holds now n x → product_size (length now) (at row) (at now) ≡ product_size n (at row) x
+held_size n row now x h = rw h.long (size_same n _ _ (λ j l. ap (λ (z : ℤ). at row j *ℤ z) (h.is j l)))
+
+pub held_dot : (n : ℕ) (row now : List ℤ) (x : ℕ → ℤ) → Holds now n x → dot (length now) (at row) (at now) ≡ dot n (at row) x
+held_dot n row now x h = rw h.long (total_same n _ _ (λ j l. ap (λ (z : ℤ). at row j *ℤ z) (h.is j l)))
+
 module _ (n p stages k : ℕ) (row now plan : List ℤ) (x : ℕ → ℤ) (hr : length row ≡ n + p + 1) (hn : Holds now n x)
     (hp : length plan ≡ stages * p) (hk : k < stages) where
   pub state_size : product_size (length now) (at row) (at now) ≡ product_size n (at row) x
-  state_size = rw hn.long (size_same n _ _ (λ j l. ap (λ (z : ℤ). at row j *ℤ z) (hn.is j l)))
+  state_size = held_size n row now x hn
 
   pub state_dot : dot (length now) (at row) (at now) ≡ dot n (at row) x
-  state_dot = rw hn.long (total_same n _ _ (λ j l. ap (λ (z : ℤ). at row j *ℤ z) (hn.is j l)))
+  state_dot = held_dot n row now x hn
 
   term : (l : ℕ) → l < p → at (take (length row - n) (drop n row)) l *ℤ at (take (k * p + p - k * p) (drop (k * p) plan)) l ≡ at row (n + l) *ℤ at plan (k * p + l)
   term l o = rw (at-tail row n l (omega arith), at-part plan (k * p) p l o) refl

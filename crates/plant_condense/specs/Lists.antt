@@ -6,7 +6,7 @@ use Rattle.integer_algebra.specs.Sizes.{product_size}
 use Rattle.qp_model.specs.Design.{Design, LimitRow, rows, entries}
 use Rattle.qp_model.specs.declared.design_parts.DesignParts.{DesignParts}
 use Rattle.qp_model.specs.Parts.{design_of, IsDesign}
-use Rattle.qp_model.specs.Runs.{run, bound_at, Holds, RunFits, IsNarrow, IsTame}
+use Rattle.qp_model.specs.Runs.{run, bound_at, Holds, RunFits, IsNarrow, IsSlim, IsTame}
 
 -- m rows of n numbers
 pub record HoldsRows (rows : List (List ℤ)) (m n : ℕ) (f : ℕ → ℕ → ℤ) : Type 0 where
@@ -35,6 +35,13 @@ pub record RowsFit (d : Design) (x v : ℕ → ℤ) : Type 0 where
   pub narrow : IsNarrow d width
   pub fits : RunFits d x v width
 
+-- the cost rows' values of a run fit
+pub record CostsFit (d : Design) (x v : ℕ → ℤ) : Type 0 where
+  pub width : ℕ
+  pub some : 1 ≤ width
+  pub slim : IsSlim d width
+  pub fits : RunFits d x v width
+
 -- a run that was made
 pub record IsMade (p : DesignParts) (a x v : List ℤ) (rows : List (List ℤ)) : Type 0 where
   pub ready : IsReady p a x v
@@ -48,6 +55,10 @@ row_of_numbers p row = record { of_state = at row; of_input = λ l. at row (p.st
 abbrev pub RowFits : DesignParts → List ℤ → (x v : ℕ → ℤ) → ℕ → Type 0
 RowFits p row x v k = unsigned_abs p.plant_den ^ (p.stages - k) * (product_size p.states (at row) (run (design_of p) x v k) +
     unsigned_abs p.plant_den ^ k * product_size p.inputs (λ l. at row (p.states + l)) (λ l. v (k * p.inputs + l))) ≤ 2 ^ 126
+
+-- a cost row's sum at a stage of a run, times what lifts it
+abbrev pub CostRowFits : DesignParts → List ℤ → (x v : ℕ → ℤ) → ℕ → Type 0
+CostRowFits p row x v k = unsigned_abs p.plant_den ^ (p.stages - k) * product_size p.states (at row) (run (design_of p) x v k) ≤ 2 ^ 126
 
 -- the rows' values of unit states and unit plans fit
 pub record UnitsFit (d : Design) : Type 0 where

@@ -4,6 +4,7 @@
 mod bounds;
 mod columns;
 mod condensed;
+mod counted;
 mod fault;
 mod limits;
 mod powers;

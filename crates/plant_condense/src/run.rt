@@ -19,13 +19,14 @@ pub struct Run<'a> {
 }
 
 impl<'a> Run<'a> {
-    ghost use Rattle.std.specs.Prelude.{◌≡◌, ◌≤◌, ◌<◌, ◌+◌, ℕ, length, IfOk};
-    ghost use Rattle.integer_algebra.specs.Sums.{at};
+    ghost use Rattle.std.specs.Prelude.{◌≡◌, ◌≤◌, ◌<◌, ◌+◌, ◌*ℤ◌, ℕ, length, IfOk};
+    ghost use Rattle.integer_algebra.specs.Sums.{at, dot};
     ghost use Rattle.integer_algebra.specs.Sizes.{size};
     ghost use Rattle.qp_model.specs.Design.{rows};
     ghost use Rattle.qp_model.specs.Parts.{design_of};
-    ghost use Rattle.qp_model.specs.Runs.{row_at, limit_at, RunFits, Holds};
-    ghost use Rattle.plant_condense.specs.Lists.{IsReady, row_of_numbers, RowFits, RowsFit};
+    ghost use Rattle.qp_model.specs.Runs.{run, row_at, limit_at, cost_run, counted, counts, RunFits, Holds};
+    ghost use Rattle.qp_model.specs.Trajectory.{lift};
+    ghost use Rattle.plant_condense.specs.Lists.{IsReady, row_of_numbers, RowFits, RowsFit, CostRowFits, CostsFit};
 
     /// The run.
     pub fn new(
@@ -95,6 +96,46 @@ impl<'a> Run<'a> {
         let mut out = Vec::new(alloc);
         for i in 0..count {
             out.push(self.row(i))?;
+        }
+        Ok(out)
+    }
+
+    // What a cost row has of the run at a stage.
+    fn cost_row(&self, row: &[i128], k: usize) -> i128
+        requires stage { k ≤ self.now.parts.now.stages }
+        requires row { length row.now ≡ self.now.parts.now.states + 2 }
+        requires slim { CostRowFits self.now.parts.now row.now (at self.now.start.now) (at self.now.plan.now) k }
+        ensures { result ≡ lift (design_of self.now.parts.now) k *ℤ
+            dot self.now.parts.now.states (at row.now) (run (design_of self.now.parts.now) (at self.now.start.now) (at self.now.plan.now) k) }
+    {
+        self.powers[self.parts.stages - k] * product(row, &self.states[k])
+    }
+
+    /// What counted cost row `c` has of the run.
+    pub fn cost(&self, c: usize) -> i128
+        requires row { c < counts (design_of self.now.parts.now) }
+        requires fits { CostsFit (design_of self.now.parts.now) (at self.now.start.now) (at self.now.plan.now) }
+        ensures { result ≡ counted (design_of self.now.parts.now) (cost_run (design_of self.now.parts.now) (at self.now.start.now) (at self.now.plan.now)) c }
+    {
+        let rows = self.parts.stage_cost.rows();
+        let stage_rows = self.parts.stages * rows;
+        if c < stage_rows {
+            self.cost_row(self.parts.stage_cost.row(c % rows), c / rows + 1)
+        } else {
+            self.cost_row(self.parts.final_cost.row(c - stage_rows), self.parts.stages)
+        }
+    }
+
+    /// What each counted cost row has of the run.
+    pub fn costs(&self, alloc: Global) -> Result<Vec<i128>, AllocError>
+        requires { CostsFit (design_of self.now.parts.now) (at self.now.start.now) (at self.now.plan.now) }
+        ensures { IfOk result (λ v. Holds v.items (counts (design_of self.now.parts.now))
+            (counted (design_of self.now.parts.now) (cost_run (design_of self.now.parts.now) (at self.now.start.now) (at self.now.plan.now)))) }
+    {
+        let count = self.parts.stages * self.parts.stage_cost.rows() + self.parts.final_cost.rows();
+        let mut out = Vec::new(alloc);
+        for c in 0..count {
+            out.push(self.cost(c))?;
         }
         Ok(out)
     }
