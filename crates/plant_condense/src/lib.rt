@@ -1,8 +1,18 @@
 //! A design's cost and limits as functions of the plan alone.
 #![tactic(auto)]
 
+mod bounds;
+mod columns;
 mod condensed;
+mod counted;
 mod fault;
+mod limits;
+mod powers;
+mod run;
+mod states;
+mod sums;
 
 pub use condensed::Condensed;
 pub use fault::CondenseFault;
+pub use limits::{LimitNumbers, limit_numbers};
+pub use run::Run;

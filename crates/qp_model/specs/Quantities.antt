@@ -47,9 +47,13 @@ weight_sum d = d.cost_denominator +
 abbrev pub prediction_size : Design → ℕ
 prediction_size d = growth d ^ d.stages
 
+-- what a cost row has of an entry of the plan, of a state or of its target at most
+abbrev pub response_size : Design → ℕ
+response_size d = cost_width d * prediction_size d
+
 -- a number of the condensed cost at most
 abbrev pub cost_entry_size : Design → ℕ
-cost_entry_size d = 2 * weight_sum d * (cost_width d * prediction_size d) ^ 2
+cost_entry_size d = 2 * weight_sum d * response_size d ^ 2
 
 -- a number of the condensed limits at most
 abbrev pub limit_entry_size : Design → ℕ

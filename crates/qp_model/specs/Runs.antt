@@ -115,6 +115,17 @@ counted d f c =
 abbrev pub counts : Design → ℕ
 counts d = d.stages * d.stage_costs + d.final_costs
 
+-- each cost row's absolute sum, without its target, is at most `width`
+pub record IsSlim (d : Design) (width : ℕ) : Type 0 where
+  pub stage : (r : ℕ) → r < d.stage_costs → size d.states (d.stage_cost r).coefficient ≤ width
+  pub final : (r : ℕ) → r < d.final_costs → size d.states (d.final_cost r).coefficient ≤ width
+
+-- cost rows of runs stay within bounds
+abbrev pub CostBoundLaw : Type 0
+CostBoundLaw = (d : Design) (alpha z width : ℕ) (x v : ℕ → ℤ) → IsTame d alpha → IsSlim d width →
+    ((i : ℕ) → i < d.states → unsigned_abs (x i) ≤ z) → ((j : ℕ) → j < entries d → unsigned_abs (v j) ≤ z) →
+    (c : ℕ) → c < counts d → unsigned_abs (counted d (cost_run d x v) c) ≤ width * (z * alpha ^ d.stages)
+
 -- the condensed costs are weighted sums over the counted rows of products of responses
 pub record IsGram (d : Design) : Type 0 where
   pub hessian : (i j : ℕ) → 1 ≤ d.inputs → (numbers_of d).hessian i j ≡

@@ -1,6 +1,6 @@
 // What the definitions give, each as the contract of a function with nothing to do.
 ghost use Rattle.qp_model.specs.Condensing.{CondensingLaw, TrajectoryLaw};
-ghost use Rattle.qp_model.specs.Runs.{RunLaw, ResponseLaw, ResidualLaw, RowBoundLaw, GramLaw, AgreesLaw};
+ghost use Rattle.qp_model.specs.Runs.{RunLaw, ResponseLaw, ResidualLaw, RowBoundLaw, GramLaw, AgreesLaw, CostBoundLaw};
 ghost use Rattle.qp_model.specs.CostShape.{ExpansionLaw, HessianLaw, CurvatureLaw, AverageLaw};
 ghost use Rattle.qp_model.specs.Scaling.{ScalingLaw};
 
@@ -67,4 +67,9 @@ pub fn curvature_law()
 /// The average of some plans costs at most the average of their costs.
 pub fn average_law()
     ensures { AverageLaw }
+{}
+
+/// What cost rows have of runs stays within bounds.
+pub fn cost_bound_law()
+    ensures { CostBoundLaw }
 {}

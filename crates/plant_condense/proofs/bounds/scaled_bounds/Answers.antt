@@ -1,0 +1,33 @@
+use Rattle.std.proofs.Common.{◌≡◌, ◌*◌, ◌<◌, ◌≤◌, ℤ, ◌*ℤ◌, unsigned_abs, arith, ap, ◌∙◌, rules, refl}
+use Rattle.std.specs.Int.{w128}
+use mir.Val.{SFits}
+use Rattle.std.proofs.lemmas.Int.{to_z-of_z}
+use Rattle.qp_model.specs.Design.{rows}
+use Rattle.qp_model.specs.Parts.{design_of}
+use Rattle.qp_model.specs.Runs.{bound_at}
+use Rattle.plant_condense.proofs.Rooms.{read}
+use Rattle.plant_condense.proofs.Pushes.{pushed, holds_to}
+use Rattle.plant_condense.proofs.StageFacts.{lifted_fits, lifted}
+use Rattle.plant_condense.proofs.bounds.scaled_bounds.Goals as goal
+
+pub overflow_mul-scale : goal.overflow_mul-scale
+overflow_mul-scale c =
+    let s : SFits w128 c.bound_of.result = search rules in
+    let small : unsigned_abs c.bound_of.result ≤ unsigned_abs (bound_at (design_of c.args.parts.now) c.loop-i.i) = rw c.bound_of.ensures (omega arith) in
+    let inside : c.loop-i.i < rows (design_of c.args.parts.now) = omega (arith, c.loop-i-test.true, ap (λ n. c.args.parts.now.stages * n) c.rows.ensures.count, c.rows-2.ensures.count) in
+    lifted_fits c.args.scale c.bound_of.result _ c.ranges.scale s small (c.requires.fits c.loop-i.i inside)
+
+pub loop-i-preserved : goal.loop-i-preserved
+loop-i-preserved c =
+    let s : SFits w128 c.bound_of.result = search rules in
+    let small : unsigned_abs c.bound_of.result ≤ unsigned_abs (bound_at (design_of c.args.parts.now) c.loop-i.i) = rw c.bound_of.ensures (omega arith) in
+    let inside : c.loop-i.i < rows (design_of c.args.parts.now) = omega (arith, c.loop-i-test.true, ap (λ n. c.args.parts.now.stages * n) c.rows.ensures.count, c.rows-2.ensures.count) in
+    pushed _ _ _ c.loop-i.i (λ i. read c.args.scale *ℤ bound_at (design_of c.args.parts.now) i) c.in_ok-push.ensures.items
+    (lifted c.args.scale c.bound_of.result _ c.ranges.scale s small (c.requires.fits c.loop-i.i inside) ∙ rw (to_z-of_z w128 _ c.ranges.scale, c.bound_of.ensures) refl)
+    c.loop-i.invariant
+
+pub returns : goal.returns
+returns c =
+    let all : c.loop-i.i ≡ rows (design_of c.args.parts.now) = omega (arith, c.loop-i-test.false, ap (λ n. c.args.parts.now.stages * n) c.rows.ensures.count, c.rows-2.ensures.count) in
+    holds_to _ _ _ (λ i. read c.args.scale *ℤ bound_at (design_of c.args.parts.now) i) (λ i. c.args.scale *ℤ bound_at (design_of c.args.parts.now) i)
+    c.loop-i.invariant all (λ i l. ap (λ (z : ℤ). z *ℤ bound_at (design_of c.args.parts.now) i) (to_z-of_z w128 _ c.ranges.scale))

@@ -1,0 +1,33 @@
+use Rattle.std.proofs.Common.{◌≡◌, ◌*◌, ◌<◌, ◌≤◌, ℤ, ◌*ℤ◌, unsigned_abs, arith, ap, ◌∙◌, rules, refl}
+use Rattle.std.specs.Int.{w128}
+use mir.Val.{SFits}
+use Rattle.std.proofs.lemmas.Int.{to_z-of_z}
+use Rattle.qp_model.specs.Parts.{design_of}
+use Rattle.qp_model.specs.Runs.{counts}
+use Rattle.plant_condense.specs.Costs.{target_of}
+use Rattle.plant_condense.proofs.Rooms.{read}
+use Rattle.plant_condense.proofs.Pushes.{pushed, holds_to}
+use Rattle.plant_condense.proofs.StageFacts.{lifted_fits, lifted}
+use Rattle.plant_condense.proofs.counted.scaled_targets.Goals as goal
+
+pub overflow_mul-scale : goal.overflow_mul-scale
+overflow_mul-scale c =
+    let s : SFits w128 c.target_at.result = search rules in
+    let small : unsigned_abs c.target_at.result ≤ unsigned_abs (target_of (design_of c.args.parts.now) c.loop-c.c) = rw c.target_at.ensures (omega arith) in
+    let inside : c.loop-c.c < counts (design_of c.args.parts.now) = omega (arith, c.loop-c-test.true, ap (λ n. c.args.parts.now.stages * n) c.rows.ensures.count, c.rows-2.ensures.count) in
+    lifted_fits c.args.scale c.target_at.result _ c.ranges.scale s small (c.requires.fits c.loop-c.c inside)
+
+pub loop-c-preserved : goal.loop-c-preserved
+loop-c-preserved c =
+    let s : SFits w128 c.target_at.result = search rules in
+    let small : unsigned_abs c.target_at.result ≤ unsigned_abs (target_of (design_of c.args.parts.now) c.loop-c.c) = rw c.target_at.ensures (omega arith) in
+    let inside : c.loop-c.c < counts (design_of c.args.parts.now) = omega (arith, c.loop-c-test.true, ap (λ n. c.args.parts.now.stages * n) c.rows.ensures.count, c.rows-2.ensures.count) in
+    pushed _ _ _ c.loop-c.c (λ i. read c.args.scale *ℤ target_of (design_of c.args.parts.now) i) c.in_ok-push.ensures.items
+    (lifted c.args.scale c.target_at.result _ c.ranges.scale s small (c.requires.fits c.loop-c.c inside) ∙ rw (to_z-of_z w128 _ c.ranges.scale, c.target_at.ensures) refl)
+    c.loop-c.invariant
+
+pub returns : goal.returns
+returns c =
+    let all : c.loop-c.c ≡ counts (design_of c.args.parts.now) = omega (arith, c.loop-c-test.false, ap (λ n. c.args.parts.now.stages * n) c.rows.ensures.count, c.rows-2.ensures.count) in
+    holds_to _ _ _ (λ i. read c.args.scale *ℤ target_of (design_of c.args.parts.now) i) (λ i. c.args.scale *ℤ target_of (design_of c.args.parts.now) i)
+    c.loop-c.invariant all (λ i l. ap (λ (z : ℤ). z *ℤ target_of (design_of c.args.parts.now) i) (to_z-of_z w128 _ c.ranges.scale))

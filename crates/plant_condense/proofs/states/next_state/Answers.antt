@@ -1,0 +1,22 @@
+use Rattle.std.proofs.Common.{rules, ◌+ℤ◌, ◌*ℤ◌, ◌∙◌, refl}
+use Rattle.std.specs.Int.{w128}
+use mir.Val.{SFits}
+use Rattle.std.proofs.lemmas.Int.{to_z-of_z}
+use Rattle.integer_algebra.specs.Sums.{at, image}
+use Rattle.mat_int.specs.Matrix.{entry_of}
+use Rattle.plant_condense.proofs.Rooms.{read}
+use Rattle.plant_condense.proofs.Pushes.{pushed}
+use Rattle.plant_condense.proofs.states.next_state.Goals as goal
+
+pub mixed-requires-clause-fits : goal.mixed-requires-clause-fits
+mixed-requires-clause-fits c =
+    rw (to_z-of_z w128 _ c.ranges.scale, c.requires.state, c.requires.input, c.row.ensures.value, c.row-in-loop-i.ensures.value) (c.requires.fits c.loop-i.i c.loop-i-test.true)
+
+pub loop-i-preserved : goal.loop-i-preserved
+loop-i-preserved c =
+    let r : SFits w128 c.mixed.result = search rules in
+    pushed _ _ _ c.loop-i.i (λ i. image c.args.parts.now.states (entry_of c.args.parts.now.a) (at c.args.state.now) i +ℤ read c.args.scale *ℤ image c.args.parts.now.inputs (entry_of c.args.parts.now.b) (at c.args.input.now) i)
+    c.in_ok-push.ensures.items
+    (to_z-of_z w128 c.mixed.result r ∙ c.mixed.ensures ∙
+    rw (c.requires.state, c.requires.input, c.row.ensures.value, c.row-in-loop-i.ensures.value) refl)
+    c.loop-i.invariant

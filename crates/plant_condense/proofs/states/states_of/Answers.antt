@@ -1,0 +1,52 @@
+use Rattle.std.proofs.Common.{rules, ◌≡◌, ℕ, ◌+◌, ◌*◌, pos, get_or, unsigned_abs, arith, ◌∙◌, subst}
+use Rattle.std.specs.Int.{w128}
+use mir.Val.{SFits}
+use Rattle.std.proofs.lemmas.Int.{to_z-of_z}
+use Rattle.integer_algebra.specs.Sums.{at}
+use Rattle.mat_int.specs.Lines.{lists}
+use Rattle.qp_model.specs.Parts.{design_of}
+use Rattle.qp_model.specs.Runs.{run}
+use Rattle.plant_condense.proofs.Pushes.{pushed_vec, row_held}
+use Rattle.plant_condense.proofs.StateFacts.{at-part, next_fits, next_is, power_positive, denominator_positive}
+use Rattle.plant_condense.specs.Lists.{HoldsRows}
+use Rattle.plant_condense.proofs.states.states_of.Goals as goal
+
+pub next_state-requires-clause-state : goal.next_state-requires-clause-state
+next_state-requires-clause-state c =
+    (row_held c.loop-k.states.items c.index.result.now c.deref.result.now c.loop-k.k (c.loop-k.k + 1) c.args.parts.now.states
+    (run (design_of c.args.parts.now) (at c.args.start.now) (at c.args.plan.now)) c.loop-k.invariant (omega arith) c.index.ensures c.deref.ensures.value).long
+
+pub next_state-requires-clause-scale : goal.next_state-requires-clause-scale
+next_state-requires-clause-scale c =
+    let f : SFits w128 (get_or c.args.powers.now c.loop-k.k (pos 0)) = search rules in
+    power_positive _ (unsigned_abs c.args.parts.now.plant_den) c.loop-k.k
+    (to_z-of_z w128 _ f ∙ c.requires.powers.is c.loop-k.k (omega arith)) (denominator_positive c.args.parts.now.plant_den c.requires.design.plant_den.low)
+
+pub next_state-requires-clause-fits : goal.next_state-requires-clause-fits
+next_state-requires-clause-fits c =
+    let f : SFits w128 (get_or c.args.powers.now c.loop-k.k (pos 0)) = search rules in
+    rw (to_z-of_z w128 _ f, c.requires.powers.is c.loop-k.k (omega arith))
+    (next_fits (design_of c.args.parts.now) (at c.args.start.now) (at c.args.plan.now) c.deref.result.now _ c.loop-k.k
+    (denominator_positive c.args.parts.now.plant_den c.requires.design.plant_den.low) c.requires.fits c.loop-k-test.true
+    (row_held c.loop-k.states.items c.index.result.now c.deref.result.now c.loop-k.k (c.loop-k.k + 1) c.args.parts.now.states
+    (run (design_of c.args.parts.now) (at c.args.start.now) (at c.args.plan.now)) c.loop-k.invariant (omega arith) c.index.ensures c.deref.ensures.value)
+    (at-part c.args.plan.now (c.loop-k.k * c.args.parts.now.inputs) c.args.parts.now.inputs))
+
+pub loop-k-preserved : goal.loop-k-preserved
+loop-k-preserved c =
+    let f : SFits w128 (get_or c.args.powers.now c.loop-k.k (pos 0)) = search rules in
+    pushed_vec c.loop-k.states.items _ c.in_ok-next.next (c.loop-k.k + 1) c.args.parts.now.states
+    (run (design_of c.args.parts.now) (at c.args.start.now) (at c.args.plan.now)) c.in_ok-push-2.ensures.items
+    (next_is (design_of c.args.parts.now) (at c.args.start.now) (at c.args.plan.now) c.deref.result.now _ c.in_ok-next.next.items c.loop-k.k _
+    (to_z-of_z w128 _ f ∙ c.requires.powers.is c.loop-k.k (omega arith))
+    (row_held c.loop-k.states.items c.index.result.now c.deref.result.now c.loop-k.k (c.loop-k.k + 1) c.args.parts.now.states
+    (run (design_of c.args.parts.now) (at c.args.start.now) (at c.args.plan.now)) c.loop-k.invariant (omega arith) c.index.ensures c.deref.ensures.value)
+    (at-part c.args.plan.now (c.loop-k.k * c.args.parts.now.inputs) c.args.parts.now.inputs)
+    c.in_ok-next.ensures)
+    c.loop-k.invariant
+
+pub returns : goal.returns
+returns c =
+    let e : c.loop-k.k ≡ c.args.parts.now.stages = omega arith in
+    subst (λ (n : ℕ). HoldsRows (lists c.loop-k.states.items) (n + 1) c.args.parts.now.states (run (design_of c.args.parts.now) (at c.args.start.now) (at c.args.plan.now)))
+    e c.loop-k.invariant

@@ -1,0 +1,113 @@
+// The limit rows' responses, column by column.
+ghost use Rattle.std.specs.Prelude.{◌≡◌, ◌≤◌, ◌<◌, ◌+◌, ◌*◌, ◌^◌, ℕ, length, IfOk};
+ghost use Rattle.integer_algebra.specs.Sums.{at, none};
+ghost use Rattle.qp_model.specs.Design.{rows};
+ghost use Rattle.mat_int.specs.Matrix.{entry_of};
+ghost use Rattle.qp_model.specs.Parts.{design_of, IsDesign};
+ghost use Rattle.qp_model.specs.Runs.{row_at, unit, Holds};
+ghost use Rattle.plant_condense.specs.Lists.{IsReady, RowsFit, ArePowers, UnitsFit, HoldsMatrix, with_column};
+
+use crate::run::Run;
+use mat_int::Mat;
+use qp_model::DesignParts;
+use std::alloc::{AllocError, Global};
+
+// Puts a list into column `j`.
+fn set_column(mat: &mut Mat, j: usize, column: &[i128])
+    requires rows { length column.now ≡ length mat.old.rows }
+    requires column { j < mat.old.cols }
+    ensures { mat.new ≡ with_column (length column.now) mat.old j column.now }
+{
+    for i in 0..column.len() {
+        mat.set(i, j, column[i]);
+    }
+}
+
+/// What the rows have of the run from `start` under `plan`.
+pub fn column_of(
+    alloc: Global,
+    parts: &DesignParts,
+    powers: &[i128],
+    start: &[i128],
+    plan: &[i128],
+) -> Result<Vec<i128>, AllocError>
+    requires ready { IsReady parts.now powers.now start.now plan.now }
+    requires fits { RowsFit (design_of parts.now) (at start.now) (at plan.now) }
+    ensures { IfOk result (λ v. Holds v.items (rows (design_of parts.now)) (row_at (design_of parts.now) (at start.now) (at plan.now))) }
+{
+    let run = Run::new(alloc, parts, powers, start, plan)?;
+    run.rows(alloc)
+}
+
+// What they have of entry `j` of the plan.
+fn plan_column(
+    alloc: Global,
+    parts: &DesignParts,
+    powers: &[i128],
+    j: usize,
+) -> Result<Vec<i128>, AllocError>
+    requires design { IsDesign parts.now }
+    requires powers { ArePowers parts.now powers.now }
+    requires entry { j < parts.now.stages * parts.now.inputs }
+    requires fits { UnitsFit (design_of parts.now) }
+    ensures { IfOk result (λ v. Holds v.items (rows (design_of parts.now)) (row_at (design_of parts.now) none (unit j))) }
+{
+    let start = vec![in alloc; 0; parts.states]?;
+    let mut plan = vec![in alloc; 0; parts.stages * parts.inputs]?;
+    plan[j] = 1;
+    column_of(alloc, parts, powers, &start, &plan)
+}
+
+// What they have of state `j`.
+fn state_column(
+    alloc: Global,
+    parts: &DesignParts,
+    powers: &[i128],
+    j: usize,
+) -> Result<Vec<i128>, AllocError>
+    requires design { IsDesign parts.now }
+    requires powers { ArePowers parts.now powers.now }
+    requires entry { j < parts.now.states }
+    requires fits { UnitsFit (design_of parts.now) }
+    ensures { IfOk result (λ v. Holds v.items (rows (design_of parts.now)) (row_at (design_of parts.now) (unit j) none)) }
+{
+    let mut start = vec![in alloc; 0; parts.states]?;
+    start[j] = 1;
+    let plan = vec![in alloc; 0; parts.stages * parts.inputs]?;
+    column_of(alloc, parts, powers, &start, &plan)
+}
+
+/// What the rows have of each entry of the plan.
+pub fn plan_columns(alloc: Global, parts: &DesignParts, powers: &[i128]) -> Result<Mat, AllocError>
+    requires design { IsDesign parts.now }
+    requires powers { ArePowers parts.now powers.now }
+    requires fits { UnitsFit (design_of parts.now) }
+    ensures { IfOk result (λ m. HoldsMatrix m (rows (design_of parts.now)) (parts.now.stages * parts.now.inputs) (parts.now.stages * parts.now.inputs)
+        (λ i j. row_at (design_of parts.now) none (unit j) i)) }
+{
+    let count = parts.stages * parts.inputs;
+    let rows = parts.stages * parts.stage_rows.rows() + parts.final_rows.rows();
+    let mut mat = Mat::zero(alloc, rows, count)?;
+    for j in 0..count {
+        let column = plan_column(alloc, parts, powers, j)?;
+        set_column(&mut mat, j, &column);
+    }
+    Ok(mat)
+}
+
+/// What the rows have of each state.
+pub fn state_columns(alloc: Global, parts: &DesignParts, powers: &[i128]) -> Result<Mat, AllocError>
+    requires design { IsDesign parts.now }
+    requires powers { ArePowers parts.now powers.now }
+    requires fits { UnitsFit (design_of parts.now) }
+    ensures { IfOk result (λ m. HoldsMatrix m (rows (design_of parts.now)) parts.now.states parts.now.states
+        (λ i j. row_at (design_of parts.now) (unit j) none i)) }
+{
+    let rows = parts.stages * parts.stage_rows.rows() + parts.final_rows.rows();
+    let mut mat = Mat::zero(alloc, rows, parts.states)?;
+    for j in 0..parts.states {
+        let column = state_column(alloc, parts, powers, j)?;
+        set_column(&mut mat, j, &column);
+    }
+    Ok(mat)
+}
