@@ -5,7 +5,7 @@ ghost use Rattle.qp_model.specs.Controller.{plan_length};
 ghost use Rattle.qp_model.specs.Machine.{IsGridState, loaded, step_of, run_of};
 ghost use Rattle.fixed_kernel.specs.Outside.{IsFirstOutside};
 
-use crate::state::{OutsideBox, clear, first_outside, load_state};
+use crate::state::{OutsideBox, clear, first_outside, load_state, zeros};
 use crate::step::advance;
 use overflow_check::Controller;
 use std::alloc::{AllocError, Global};
@@ -41,14 +41,17 @@ impl<'a> Kernel<'a> {
         ensures { IfOk result (λ k. k ≡ record { controller = controller.now; state = controller.now.low; made = 0 }) }
     {
         let c = controller.parts();
-        let mut state = vec![in alloc; 0; c.n]?;
+        let mut state = zeros(alloc, c.n)?;
+        let plan = zeros(alloc, c.t.len())?;
+        let multipliers = zeros(alloc, c.m)?;
+        let sums = zeros(alloc, c.t.len())?;
         load_state(c, &c.lo, &mut state);
         Ok(Kernel {
             controller,
             state,
-            plan: vec![in alloc; 0; c.t.len()]?,
-            multipliers: vec![in alloc; 0; c.m]?,
-            sums: vec![in alloc; 0; c.t.len()]?,
+            plan,
+            multipliers,
+            sums,
             made: 0,
         })
     }

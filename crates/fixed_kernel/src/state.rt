@@ -1,5 +1,5 @@
 // States of the box.
-ghost use Rattle.std.specs.Prelude.{◌≡◌, ◌↔◌, length, pos, replicate, IsNone, IfSome};
+ghost use Rattle.std.specs.Prelude.{◌≡◌, ◌↔◌, length, pos, replicate, IsNone, IfSome, IfOk};
 ghost use Rattle.qp_model.specs.Controller.{numbers};
 ghost use Rattle.qp_model.specs.Machine.{IsGridState, loaded};
 ghost use Rattle.qp_model.specs.AbsoluteSums.{IsController};
@@ -7,6 +7,7 @@ ghost use Rattle.fixed_kernel.specs.Outside.{IsFirstOutside};
 
 use frac_scaled::scaled;
 use qp_model::ControllerParts;
+use std::alloc::{AllocError, Global};
 use thiserror::Error;
 
 /// A state that lies outside the box.
@@ -44,6 +45,13 @@ pub fn load_state(c: &ControllerParts, state: &[i128], out: &mut [i128])
     for (i, x) in state.iter().enumerate() {
         out[i] = scaled(*x, c.f - c.g);
     }
+}
+
+// A list of zeros.
+pub fn zeros(alloc: Global, n: usize) -> Result<Vec<i128>, AllocError>
+    ensures { IfOk result (λ v. v.items ≡ replicate n (pos 0)) }
+{
+    vec![in alloc; 0; n]
 }
 
 // Puts zeros.

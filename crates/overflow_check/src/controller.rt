@@ -60,7 +60,7 @@ impl Controller {
     /// Its numbers, which are those of a controller.
     pub fn parts(&self) -> &ControllerParts
         ensures value { numbers result.now ≡ self.now }
-        ensures sound { IsController self.now }
+        ensures sound { IsController (numbers result.now) }
     {
         &self.parts
     }

@@ -1,0 +1,4 @@
+pub mod Fits
+pub mod Rooms
+pub mod States
+pub mod Reached

@@ -1,0 +1,22 @@
+use Rattle.std.proofs.Common.{◌≡◌, ◌-◌, ◌^◌, ◌*ℤ◌, length, get_or, pos, arith, rules, FitsSigned, sym, ◌∙◌, ℤ}
+use Rattle.std.specs.Int.{w128}
+use Rattle.std.proofs.lemmas.Int.{to_z-of_z}
+use Rattle.std.proofs.lemmas.List.{ext_get_or, length-map, get_or-map}
+use Rattle.qp_model.specs.Controller.{numbers}
+use Rattle.qp_model.specs.Machine.{loaded}
+use Rattle.fixed_kernel.proofs.States.{coordinate_fits}
+use Rattle.fixed_kernel.proofs.state.load_state.Goals as goal
+
+pub scaled-requires-clause-fits : goal.scaled-requires-clause-fits
+scaled-requires-clause-fits c =
+    let x : FitsSigned w128 (get_or c.args.state.now c.loop-i.i (pos 0)) = search rules in
+    rw (to_z-of_z w128 _ x) (coordinate_fits (numbers c.args.c.now) c.args.state.now c.loop-i.i c.requires.sound.form.sized c.requires.inside (omega (arith, c.requires.inside.long)))
+
+pub returns : goal.returns
+returns c =
+    let n = numbers c.args.c.now in
+    let xs = c.args.state.now in
+    let f : ℤ → ℤ = λ x. x *ℤ pos (2 ^ (n.fraction_bits - n.grid_bits)) in
+    let long : length (loaded n xs) ≡ length xs = length-map xs f in
+    ext_get_or (pos 0) c.loop-i.out (loaded n xs) (omega (arith, long, c.requires.inside.long))
+    (λ i h. c.loop-i.invariant i (omega (arith, h, c.requires.inside.long)) ∙ sym (get_or-map f xs i (pos 0) (pos 0) (omega (arith, h, c.requires.inside.long))))
