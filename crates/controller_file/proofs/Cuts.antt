@@ -3,14 +3,15 @@ use Rattle.std.proofs.Common.{◌≡◌, ℕ, zero, suc, ◌+◌, ◌<◌, ◌�
 use Rattle.std.specs.Prelude.{All, IfSome, IsSomeAnd}
 use Rattle.std.specs.Option.{MatchOption, ok_or}
 use Rattle.std.specs.Global.{Vec}
-use Rattle.std.specs.List.{join_with_byte, slice_split, IsFirstAndRest}
+use Rattle.std.specs.List.{join_with_byte, slice_split, IsFirstAndRest, IsLastAndRest}
 use Rattle.std.specs.Int.{w128}
 use Rattle.std.specs.Fmt.{signed_decimal}
 use Rattle.std.proofs.lemmas.List.Splits.{join_with_byte-slice_split, length-slice_split}
-use Rattle.std.proofs.lemmas.List.{length-map, get_or-map, take_more, map-append}
+use Rattle.std.proofs.lemmas.List.{length-map, get_or-map, take_more, map-append, same_from_push}
 use Rattle.std.proofs.lemmas.List.Elements.{All-append}
 use Rattle.std.proofs.lemmas.Option.{MatchOption-at_some, MatchOption-at_none}
-use Rattle.qp_model.proofs.Pieces.{piece_above, number_pieces, split_joined}
+use Rattle.qp_model.specs.Lines.{text_of}
+use Rattle.qp_model.proofs.Pieces.{IsPiece, ArePieces, piece_above, number_pieces, joined_piece, split_joined, split_text}
 use Rattle.controller_file.specs.declared.fault.LineFault.{LineFault}
 use Rattle.controller_file.specs.declared.line.Line.{Line}
 use Rattle.controller_file.specs.Lines.{Keyed, line, view, views, Fits, IsLine, spelled}
@@ -49,11 +50,18 @@ first_words o p d words ts same cases e =
     let first = MatchOption-at_some (length words ≡ 0) (Found words) p (some_of o p d e) cases in
     sym same ∙ ap (map (λ (x : Bor (List ℕ)). x.now)) first.0
 
-pub no_words : (o : Option (Bor (Bor (List ℕ)) × Bor (List (Bor (List ℕ))))) (f d : LineFault) (words : List (Bor (List ℕ))) (c : ℕ) (piece : List ℕ)
-    → map (λ x. x.now) words ≡ slice_split (λ b. eqb b c) piece → MatchOption o (length words ≡ 0) (Found words) → Err f ≡ ok_or o d → ⊥
-no_words o f d words c piece same cases e =
-    let none = MatchOption-at_none (length words ≡ 0) (Found words) (none_of o f d e) cases in
+pub no_words : {X : Type 0} (o : Option X) (P : X → Type 0) (f d : LineFault) (words : List (Bor (List ℕ))) (c : ℕ) (piece : List ℕ)
+    → map (λ x. x.now) words ≡ slice_split (λ b. eqb b c) piece → MatchOption o (length words ≡ 0) P → Err f ≡ ok_or o d → ⊥
+no_words o P f d words c piece same cases e =
+    let none = MatchOption-at_none (length words ≡ 0) P (none_of o f d e) cases in
     omega (arith, none, length-map words (λ (x : Bor (List ℕ)). x.now), ap length same, cut_some c piece)
+
+-- the last of the pieces and the others
+pub last_piece : (o : Option (Bor (Bor (List ℕ)) × Bor (List (Bor (List ℕ))))) (p : Bor (Bor (List ℕ)) × Bor (List (Bor (List ℕ)))) (d : LineFault) (pieces : List (Bor (List ℕ))) (ts : List (List ℕ))
+    → map (λ x. x.now) pieces ≡ ts → MatchOption o (length pieces ≡ 0) (λ q. IsLastAndRest pieces q.0.now q.1.now) → Ok p ≡ ok_or o d → ts ≡ map (λ (x : Bor (List ℕ)). x.now) p.1.now ++ p.0.now.now ∷ []
+last_piece o p d pieces ts same cases e =
+    let last = MatchOption-at_some (length pieces ≡ 0) (λ q. IsLastAndRest pieces q.0.now q.1.now) p (some_of o p d e) cases in
+    sym same ∙ ap (map (λ (x : Bor (List ℕ)). x.now)) last.0 ∙ map-append (λ (x : Bor (List ℕ)). x.now) p.1.now (p.0.now ∷ [])
 
 -- numbers that are found
 pub found_numbers : (o : Option (Vec ℤ)) (v : Vec ℤ) (d : LineFault) (P : Vec ℤ → Type 0) → IfSome o P → Ok v ≡ ok_or o d → P v
@@ -66,6 +74,19 @@ numbers_are None v d zs h e = absurd cc
 pub numbers_missing : (o : Option (Vec ℤ)) (f d : LineFault) (zs : List ℤ) → IsSomeAnd o (λ w. w.items ≡ zs) → Err f ≡ ok_or o d → ⊥
 numbers_missing (Some w) f d zs h e = cc
 numbers_missing None f d zs h e = h
+
+-- ---- a text of lines
+
+line_piece : (l : Keyed) → IsLine l → IsPiece 10 (spelled l)
+line_piece l good = joined_piece 10 32 (l.key ∷ map signed_decimal l.numbers) (omega arith) (piece_above 10 32 l.key (omega arith) good.key, number_pieces 10 l.numbers (omega arith) good.fits)
+
+line_pieces : (ls : List Keyed) → All IsLine ls → ArePieces 10 (map spelled ls)
+line_pieces [] good = tt
+line_pieces (l ∷ ls) good = (line_piece l (good 0 l (omega arith)), line_pieces ls (λ k e lt. good (suc k) e (omega arith)))
+
+-- its pieces
+pub text_cut : (text : List ℕ) (ls : List Keyed) (pieces : List (List ℕ)) (last : List ℕ) → All IsLine ls → text ≡ text_of (map spelled ls) → slice_split (λ b. eqb b 10) text ≡ pieces ++ last ∷ [] → (pieces ≡ map spelled ls) × (last ≡ [])
+text_cut text ls pieces last good e cut = same_from_push pieces (map spelled ls) last [] (sym cut ∙ ap (slice_split (λ b. eqb b 10)) e ∙ split_text (map spelled ls) (line_pieces ls good))
 
 -- ---- lines that are read one by one
 

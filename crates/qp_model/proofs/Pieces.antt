@@ -9,6 +9,7 @@ use Rattle.std.proofs.lemmas.Bool.{ne_eqb}
 use Rattle.std.proofs.lemmas.Str.Parse.{digit_at}
 use Rattle.std.proofs.lemmas.Fmt.{decimal_is_IsNumeral_wide}
 use Rattle.std.proofs.lemmas.List.{get_or_default}
+use Rattle.std.proofs.lemmas.List.Elements.{All-append}
 use Rattle.std.proofs.lemmas.List.Splits.{slice_split_none, slice_split_at, join_with_byte-slice_split}
 use Rattle.qp_model.specs.Lines.{text_of}
 
@@ -33,10 +34,6 @@ pub number_above : (z : ℤ) → FitsSigned w128 z → IsAbove 44 (signed_decima
 number_above (pos n) fits = digits_above (decimal n) (decimal_is_IsNumeral_wide n (omega (arith, fits.sfits))).0.1
 number_above (negsuc n) fits = minus_above (decimal (suc n)) (digits_above (decimal (suc n)) (decimal_is_IsNumeral_wide (suc n) (omega (arith, fits.sfits))).0.1)
 
--- two small numbers with one spelling are one
-pub decimal_one : (m n : ℕ) → m < 10 ^ 64 → n < 10 ^ 64 → decimal m ≡ decimal n → m ≡ n
-decimal_one m n small other e = sym (decimal_is_IsNumeral_wide m small).1 ∙ ap (digits_value 10) e ∙ (decimal_is_IsNumeral_wide n other).1
-
 -- ---- pieces without their separator
 
 -- this byte isn't in it
@@ -51,6 +48,16 @@ piece_above c d word le h k e lt =
 abbrev pub ArePieces : ℕ → List (List ℕ) → Type 0
 ArePieces c [] = Unit {0}
 ArePieces c (w ∷ ws) = IsPiece c w × ArePieces c ws
+
+-- nor in what pieces make that are joined by a greater one
+pub joined_piece : (c d : ℕ) (ws : List (List ℕ)) → c < d → ArePieces c ws → IsPiece c (join_with_byte d ws)
+joined_piece c d [] lt h = λ k e within. absurd (omega arith)
+joined_piece c d (w ∷ []) lt h = h.0
+joined_piece c d (w ∷ v ∷ ws) lt h = All-append (λ b. eqb b c ≡ false) w (d ∷ join_with_byte d (v ∷ ws)) h.0 (front (join_with_byte d (v ∷ ws)) (joined_piece c d (v ∷ ws) lt h.1))
+  where
+    front : (rest : List ℕ) → IsPiece c rest → IsPiece c (d ∷ rest)
+    front rest h zero e within = ne_eqb d c (λ same. omega arith)
+    front rest h (suc k) e within = h k e (omega arith)
 
 pub number_pieces : (c : ℕ) (zs : List ℤ) → c ≤ 44 → All (FitsSigned w128) zs → ArePieces c (map signed_decimal zs)
 number_pieces c [] le fits = tt

@@ -3,13 +3,13 @@ use Rattle.std.specs.List.{slice_split}
 use Rattle.std.specs.Fmt.{signed_decimal}
 use Rattle.controller_file.specs.declared.fault.LineFault.TheVariants.{Form}
 use Rattle.controller_file.specs.Lines.{Keyed, view, line}
-use Rattle.controller_file.proofs.Cuts.{line_cut, line_from_cut, no_words, first_words, found_numbers, numbers_are, numbers_missing}
+use Rattle.controller_file.proofs.Cuts.{line_cut, line_from_cut, no_words, Found, first_words, found_numbers, numbers_are, numbers_missing}
 use Rattle.controller_file.proofs.line.line_of.Goals as goal
 
 pub returns-in_err-key-clause-only : goal.returns-in_err-key-clause-only
 returns-in_err-key-clause-only c = λ l good e.
     let cut : map (λ (x : Bor (List ℕ)). x.now) c.deref.result.now ≡ slice_split (λ b. eqb b 32) c.args.piece.now = rw c.deref.ensures.value c.in_ok-words.ensures in
-    absurd (no_words c.split_first.result c.in_err-key.field-0.0 Form c.deref.result.now 32 c.args.piece.now cut c.split_first.ensures.cases c.in_err-key.ensures.value)
+    absurd (no_words c.split_first.result (Found c.deref.result.now) c.in_err-key.field-0.0 Form c.deref.result.now 32 c.args.piece.now cut c.split_first.ensures.cases c.in_err-key.ensures.value)
 
 pub returns-in_err-numbers-clause-only : goal.returns-in_err-numbers-clause-only
 returns-in_err-numbers-clause-only c = λ l good e.
