@@ -1,7 +1,6 @@
 -- Lines as words and numbers, and those of a controller.
-use Rattle.std.specs.Prelude.{◌≡◌, ℕ, ℤ, pos, List, [], ◌∷◌, ◌++◌, map, codes, All, FitsSigned}
+use Rattle.std.specs.Prelude.{◌≡◌, ℕ, ◌<◌, ℤ, pos, List, [], ◌∷◌, ◌++◌, map, codes, All, FitsSigned}
 use Rattle.std.specs.Int.{w128}
-use Rattle.mat_int.specs.Matrix.{Matrix}
 use Rattle.qp_model.specs.Lines.{line_of}
 use Rattle.qp_model.specs.Controller.{Numbers}
 use Rattle.controller_file.specs.declared.line.Line.{Line}
@@ -11,8 +10,12 @@ pub record Keyed : Type 0 where
   pub key : List ℕ
   pub numbers : List ℤ
 
+abbrev pub line : List ℕ → List ℤ → Keyed
+line key numbers = record { key = key; numbers = numbers }
+
+-- a line without where it lies in memory
 abbrev pub view : Line → Keyed
-view l = record { key = l.key.now; numbers = l.numbers.items }
+view l = line l.key.now l.numbers.items
 
 abbrev pub views : List Line → List Keyed
 views ls = map view ls
@@ -25,13 +28,16 @@ spelled l = line_of l.key l.numbers
 abbrev pub Fits : Keyed → Type 0
 Fits l = All (FitsSigned w128) l.numbers
 
--- the lines of one word for each row
+-- its word has neither a space nor a line feed, and its numbers fit
+pub record IsLine (l : Keyed) : Type 0 where
+  pub key : All (λ b. 32 < b) l.key
+  pub fits : Fits l
+
+-- a line for each row
 abbrev pub row_lines : List ℕ → List (List ℤ) → List Keyed
-row_lines key rows = map (λ row. record { key = key; numbers = row }) rows
+row_lines key rows = map (line key) rows
 
-abbrev pub line : List ℕ → List ℤ → Keyed
-line key numbers = record { key = key; numbers = numbers }
-
+-- the first six lines of a controller
 abbrev pub head_lines : Numbers → List Keyed
 head_lines c =
     line (codes "mpc-controller") (pos 1 ∷ [])
@@ -40,3 +46,16 @@ head_lines c =
     ∷ line (codes "steps") (pos c.steps ∷ [])
     ∷ line (codes "clamp") (c.clamp ∷ [])
     ∷ line (codes "words") (pos c.words ∷ []) ∷ []
+
+-- and the others
+abbrev pub list_lines : Numbers → List Keyed
+list_lines c =
+    line (codes "lo") c.low ∷ line (codes "hi") c.high
+    ∷ (row_lines (codes "P") c.state_gains.rows
+    ++ (line (codes "T") c.offsets ∷ (row_lines (codes "W") c.dual_gains.rows
+    ++ (row_lines (codes "G") c.plan_rows.rows
+    ++ (row_lines (codes "E") c.state_rows.rows
+    ++ (line (codes "b") c.bounds ∷ line (codes "end") [] ∷ []))))))
+
+abbrev pub keyed_lines : Numbers → List Keyed
+keyed_lines c = head_lines c ++ list_lines c
