@@ -10,34 +10,39 @@ use Rattle.qp_model.specs.Design.{Design, entries}
 use Rattle.qp_model.specs.Policy.{Plans}
 use Rattle.policy_file.specs.Records.{HoldsNumbers, IsFirstFault, records_of, record_at}
 use Rattle.policy_file.specs.PolicyText.{policy_rule, record_length, IsPolicyText, IsPolicyFault}
-use Rattle.policy_file.specs.Rows.{with_row}
-use Rattle.policy_file.proofs.MatrixFacts.{Filled, rows_more}
+use Rattle.policy_file.proofs.MatrixFacts.{Filled, row_pushed}
 use Rattle.policy_file.proofs.TextFacts.{records_count}
 
 pub first_and_rest : (zs : List ℤ) → 0 < length zs → at zs 0 ∷ drop 1 zs ≡ zs
 first_and_rest [] l = absurd (omega arith)
 first_and_rest (z ∷ zs) l = refl
 
--- the records so far, with one more
-pub plans_more : (text : List ℕ) (count i : ℕ) (dens new : List ℤ) (q : ℤ) (plans : Matrix) (zs : List ℤ) → new ≡ dens ++ q ∷ [] → q ≡ at zs 0 → length dens ≡ i → i < length plans.rows →
-    HoldsNumbers policy_rule (count + 1) (record_at (records_of text) i) zs →
-    ((e : ℕ) → e < i → HoldsNumbers policy_rule (count + 1) (record_at (records_of text) e) (at dens e ∷ row_of plans e)) →
-    (e : ℕ) → e < i + 1 → HoldsNumbers policy_rule (count + 1) (record_at (records_of text) e) (at new e ∷ row_of (with_row plans i (drop 1 zs)) e)
-plans_more text count i dens new q plans zs n f l o here before =
-    rows_more (λ e xs. HoldsNumbers policy_rule (count + 1) (record_at (records_of text) e) (at new e ∷ xs)) plans i (drop 1 zs) o
+-- what each record so far holds
+abbrev pub IsPlan : List ℕ → ℕ → List ℤ → ℕ → List ℤ → Type 0
+IsPlan text count dens e xs = HoldsNumbers policy_rule (count + 1) (record_at (records_of text) e) (at dens e ∷ xs)
+
+-- with one more
+pub plans_more : (text : List ℕ) (count i : ℕ) (dens more : List ℤ) (q : ℤ) (plans new : Matrix) (zs : List ℤ) → more ≡ dens ++ q ∷ [] → q ≡ at zs 0 → length dens ≡ i →
+    HoldsNumbers policy_rule (count + 1) (record_at (records_of text) i) zs → new ≡ record plans { rows = plans.rows ++ drop 1 zs ∷ [] } →
+    Filled (IsPlan text count dens) plans count i → Filled (IsPlan text count more) new count (i + 1)
+plans_more text count i dens more q plans new zs n f l here e h =
+    row_pushed (IsPlan text count more) plans new count i (drop 1 zs) e
     (rw (n, get_or_push dens q (pos 0) i l, f, first_and_rest zs (omega (arith, here.numbers))) here)
-    (λ e m. rw (n, get_or_append_left dens (q ∷ []) (pos 0) e (omega (arith, l))) (before e m))
+    (record {
+      long = h.long;
+      cols = h.cols;
+      each = λ k m. rw (n, get_or_append_left dens (q ∷ []) (pos 0) k (omega (arith, l))) (h.each k m);
+    })
 
 -- all of them
 pub plans_found : (text : List ℕ) (d : Design) (rows : List Row) (p : Plans) (i : ℕ) → map fields_of rows ≡ records_of text → length rows ≤ i → length rows ≡ 2 ^ d.states →
-    Filled p.numerators (length (records_of text)) (entries d) → length p.denominators ≡ i → i ≤ length rows →
-    ((e : ℕ) → e < i → HoldsNumbers policy_rule (record_length d) (record_at (records_of text) e) (at p.denominators e ∷ row_of p.numerators e)) → IsPolicyText text d p
-plans_found text d rows p i e l n f k m h = record {
+    Filled (IsPlan text (entries d) p.denominators) p.numerators (entries d) i → length p.denominators ≡ i → i ≤ length rows → IsPolicyText text d p
+plans_found text d rows p i e l n f k m = record {
   records = omega (arith, records_count rows text e);
   count = omega arith;
-  rows = omega (arith, f.long, records_count rows text e);
+  rows = omega (arith, f.long);
   cols = f.cols;
-  each = λ j o. h j (omega arith);
+  each = λ j o. f.each j (omega arith);
 }
 
 -- too many, or too few

@@ -3,4 +3,3 @@ pub mod Records
 pub mod StatesText
 pub mod PolicyText
 pub mod Layout
-pub mod Rows

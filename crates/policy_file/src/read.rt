@@ -1,11 +1,10 @@
 // Texts of records as matrices.
 ghost use Rattle.std.specs.Prelude.{◌≡◌, ◌⊎◌, ℕ, ◌<◌, ◌≤◌, ◌^◌, length, IfOk, IfErr, MatchResult};
-ghost use Rattle.mat_int.specs.Matrix.{Matrix, row_of};
+ghost use Rattle.mat_int.specs.Matrix.{Matrix};
 ghost use Rattle.qp_model.specs.Parts.{design_of, IsDesign};
 ghost use Rattle.qp_model.specs.Policy.{Plans, plans_of, IsPolicyFor};
 ghost use Rattle.qp_model.specs.declared.text_fault.TextFault.{TextFault};
 ghost use Rattle.qp_model.specs.declared.text_fault.TextFault.TheVariants.{Memory};
-ghost use Rattle.policy_file.specs.Rows.{with_row};
 ghost use Rattle.policy_file.specs.StatesText.{IsStatesText, IsStatesFault};
 ghost use Rattle.policy_file.specs.PolicyText.{IsPolicyText, IsPolicyFault};
 
@@ -39,10 +38,10 @@ fn states_of(alloc: Global, bytes: &[u8], n: usize) -> Result<Mat, TextFault>
     ensures fault { IfErr result (λ e. (e ≡ Memory) ⊎ IsStatesFault bytes.now n e) }
 {
     let records = all_records(alloc, bytes)?;
-    let mut states = Mat::zero(alloc, records.len(), n)?;
+    let mut states = Mat::zero(alloc, 0, n)?;
     for (i, record) in records.iter().enumerate() {
         let numbers = numbers_of(alloc, record, Layout::States, n, i as u32 + 1)?;
-        set_row(&mut states, i, &numbers);
+        states.push_row(alloc, &numbers)?;
     }
     Ok(states)
 }
@@ -76,13 +75,13 @@ fn policy_of(alloc: Global, bytes: &[u8], parts: &DesignParts) -> Result<Policy,
     let entries = parts.stages * parts.inputs;
     let records = all_records(alloc, bytes)?;
     let mut dens = Vec::new(alloc);
-    let mut plans = Mat::zero(alloc, records.len(), entries)?;
+    let mut plans = Mat::zero(alloc, 0, entries)?;
     for (i, record) in records.iter().enumerate() {
         let numbers = numbers_of(alloc, record, Layout::Policy, entries + 1, i as u32 + 1)?;
         if dens.push(numbers[0]).is_err() {
             return Err(TextFault::Memory);
         }
-        set_row(&mut plans, i, &numbers[1..]);
+        plans.push_row(alloc, &numbers[1..])?;
     }
     if records.len() != corner_count(parts.states) {
         return Err(TextFault::Count {
@@ -98,16 +97,4 @@ fn corner_count(states: usize) -> usize
     ensures { result ≡ 2 ^ states }
 {
     1 << states
-}
-
-// Puts numbers into row `i`.
-fn set_row(mat: &mut Mat, i: usize, numbers: &[i128])
-    requires row { i < length mat.old.rows }
-    requires width { length numbers.now ≡ mat.old.cols }
-    requires even { length (row_of mat.old i) ≡ mat.old.cols }
-    ensures { mat.new ≡ with_row mat.old i numbers.now }
-{
-    for j in 0..numbers.len() {
-        mat.set(i, j, numbers[j]);
-    }
 }

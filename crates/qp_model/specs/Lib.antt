@@ -6,6 +6,9 @@ pub mod Residual
 pub mod Box
 pub mod Parts
 pub mod Policy
+pub mod CornerSizes
+pub mod Margin
+pub mod Choices
 pub mod Condensed
 pub mod Curvature
 pub mod CurvatureSize

@@ -10,7 +10,6 @@ use Rattle.mat_int.specs.Matrix.{row_of}
 use Rattle.qp_model.specs.Parts.{design_of}
 use Rattle.policy_file.specs.Records.{HoldsNumbers, records_of, record_at}
 use Rattle.policy_file.specs.PolicyText.{policy_rule}
-use Rattle.policy_file.proofs.MatrixFacts.{row_filled}
 use Rattle.policy_file.proofs.TextFacts.{record_is, records_count, entry_small, room_small, passed_on, first_fault}
 use Rattle.policy_file.proofs.RecordFacts.{records_few}
 use Rattle.policy_file.proofs.PolicyFacts.{plans_more, plans_found, count_fault, either_fault}
@@ -41,19 +40,13 @@ returns-in_err-numbers-clause-fault c =
     (either_fault c.args.bytes.now (design_of c.args.parts.now) _
     (first_fault policy_rule (c.args.parts.now.stages * c.args.parts.now.inputs + 1) c.in_ok-records.records.items c.args.bytes.now c.record-item.result c.loop-i.i _
     (λ e. at c.loop-i.dens.items e ∷ row_of c.loop-i.plans e) c.in_ok-records.ensures lt (rw (← c.deref-record-items.ensures.value) c.record-item.is)
-    c.loop-i.invariant.each c.in_err-numbers.ensures.fault))
-
-pub set_row-requires-clause-even : goal.set_row-requires-clause-even
-set_row-requires-clause-even c =
-    let inside : c.loop-i.i < length (records_of c.args.bytes.now) = omega (arith, records_count c.in_ok-records.records.items c.args.bytes.now c.in_ok-records.ensures) in
-    c.loop-i.invariant.shape.even c.loop-i.i inside ∙ sym c.loop-i.invariant.shape.cols
+    c.loop-i.invariant.plans.each c.in_err-numbers.ensures.fault))
 
 pub loop-i-preserved : goal.loop-i-preserved
 loop-i-preserved c =
     let rows = c.in_ok-records.records.items in
     let zs = c.in_ok-numbers.numbers.items in
     let lt : c.loop-i.i < length rows = omega arith in
-    let inside : c.loop-i.i < length (records_of c.args.bytes.now) = omega (arith, records_count rows c.args.bytes.now c.in_ok-records.ensures) in
     let found = rw (record_is rows c.args.bytes.now c.record-item.result c.loop-i.i c.in_ok-records.ensures lt (rw (← c.deref-record-items.ensures.value) c.record-item.is)) at c.in_ok-numbers.ensures.found in
     let some : 0 < length zs = omega (arith, found.numbers) in
     let first : c.index.result.now ≡ at zs 0 = get_or_read zs 0 _ some c.index.ensures (pos 0) in
@@ -61,12 +54,11 @@ loop-i-preserved c =
     let good : is_ok c.push.result ≡ true = search rules in
     let items : c.push.new.self.items ≡ c.loop-i.dens.items ++ c.index.result.now ∷ [] =
     (rw good at c.push.ensures.items) ∙ ap (λ (z : ℤ). c.loop-i.dens.items ++ z ∷ []) (to_z-of_z w128 c.index.result.now f) in
-    rw (c.set_row.ensures, c.deref.ensures.value, take_rest zs 1) (record {
-      shape = row_filled c.loop-i.plans (length (records_of c.args.bytes.now)) _ c.loop-i.i (drop 1 zs) c.loop-i.invariant.shape inside (omega (arith, length-drop 1 zs, found.numbers));
+    record {
       dens = ap length items ∙ length_push c.loop-i.dens.items c.index.result.now ∙ ap (λ (n : ℕ). n + 1) c.loop-i.invariant.dens;
-      each = plans_more c.args.bytes.now (c.args.parts.now.stages * c.args.parts.now.inputs) c.loop-i.i c.loop-i.dens.items c.push.new.self.items c.index.result.now c.loop-i.plans zs
-          items first c.loop-i.invariant.dens (rw c.loop-i.invariant.shape.long inside) found c.loop-i.invariant.each;
-    })
+      plans = plans_more c.args.bytes.now (c.args.parts.now.stages * c.args.parts.now.inputs) c.loop-i.i c.loop-i.dens.items c.push.new.self.items c.index.result.now c.loop-i.plans _ zs
+          items first c.loop-i.invariant.dens found (rw (← take_rest zs 1, ← c.deref.ensures.value) c.in_ok-push_row.ensures.ok) c.loop-i.invariant.plans;
+    }
 
 pub overflow_cast-result : goal.overflow_cast-result
 overflow_cast-result c =
@@ -77,9 +69,8 @@ overflow_cast-result c =
 pub returns-then-len-corner_count-clause-fault : goal.returns-then-len-corner_count-clause-fault
 returns-then-len-corner_count-clause-fault c =
     count_fault c.args.bytes.now (design_of c.args.parts.now) c.in_ok-records.records.items _ c.loop-i.i c.loop-i.dens.items c.loop-i.plans c.in_ok-records.ensures (search rules) (omega arith) (λ q. absurd (omega (arith, q, c.if-len-corner_count.true)))
-    c.loop-i.invariant.each
+    c.loop-i.invariant.plans.each
 
 pub returns-clause-found : goal.returns-clause-found
 returns-clause-found c =
-    plans_found c.args.bytes.now (design_of c.args.parts.now) c.in_ok-records.records.items _ c.loop-i.i c.in_ok-records.ensures (omega arith) (omega (arith, c.corner_count.ensures, c.len-2.ensures)) c.loop-i.invariant.shape c.loop-i.invariant.dens (omega arith)
-    c.loop-i.invariant.each
+    plans_found c.args.bytes.now (design_of c.args.parts.now) c.in_ok-records.records.items _ c.loop-i.i c.in_ok-records.ensures (omega arith) (omega (arith, c.corner_count.ensures, c.len.ensures)) c.loop-i.invariant.plans c.loop-i.invariant.dens (omega arith)

@@ -3,7 +3,7 @@ use Rattle.csv.specs.Records.{fields_of}
 use Rattle.mat_int.specs.Matrix.{row_of}
 use Rattle.policy_file.specs.Records.{HoldsNumbers, records_of, record_at}
 use Rattle.policy_file.specs.StatesText.{state_rule}
-use Rattle.policy_file.proofs.MatrixFacts.{row_filled, rows_more}
+use Rattle.policy_file.proofs.MatrixFacts.{row_pushed}
 use Rattle.policy_file.proofs.TextFacts.{record_is, records_count, entry_small, room_small, passed_on, first_fault}
 use Rattle.policy_file.proofs.read.states_of.Goals as goal
 
@@ -35,10 +35,6 @@ pub loop-i-preserved : goal.loop-i-preserved
 loop-i-preserved c =
     let rows = c.in_ok-records.records.items in
     let lt : c.loop-i.i < length rows = omega arith in
-    let inside : c.loop-i.i < length (records_of c.args.bytes.now) = rw (← records_count rows c.args.bytes.now c.in_ok-records.ensures) lt in
     let found = rw (record_is rows c.args.bytes.now c.record-item.result c.loop-i.i c.in_ok-records.ensures lt (rw (← c.deref-record-items.ensures.value) c.record-item.is)) at c.in_ok-numbers.ensures.found in
-    rw (c.set_row.ensures, c.deref.ensures.value) (record {
-      shape = row_filled c.loop-i.states (length (records_of c.args.bytes.now)) c.args.n c.loop-i.i c.in_ok-numbers.numbers.items c.loop-i.invariant.shape inside found.numbers;
-      each = rows_more (λ e xs. HoldsNumbers state_rule c.args.n (record_at (records_of c.args.bytes.now) e) xs) c.loop-i.states c.loop-i.i c.in_ok-numbers.numbers.items
-          (rw c.loop-i.invariant.shape.long inside) found c.loop-i.invariant.each;
-    })
+    row_pushed (λ e xs. HoldsNumbers state_rule c.args.n (record_at (records_of c.args.bytes.now) e) xs) c.loop-i.states _ c.args.n c.loop-i.i c.in_ok-numbers.numbers.items
+    (rw (← c.deref.ensures.value) c.in_ok-push_row.ensures.ok) found c.loop-i.invariant

@@ -1,0 +1,23 @@
+-- The multiplier bound, the number of steps, and the bounds that are printed.
+use Rattle.std.specs.Prelude.{ℕ, ◌+◌, ◌*◌, ◌^◌, max}
+use Rattle.integer_algebra.specs.Division.{ceil_div}
+
+-- R: the least whole number from 1 on that is at least the greatest cost over the least slack, where that is units / 2^16
+abbrev pub multiplier_bound : (units cost : ℕ) → ℕ
+multiplier_bound units cost = max 1 (ceil_div (2 ^ 16 * cost) units)
+
+-- `multiplier`
+abbrev pub multiplier_size : (units cost : ℕ) → ℕ
+multiplier_size units cost = max (2 ^ 16 * cost) (2 ^ 82 * multiplier_bound units cost)
+
+-- K: the steps of a run after which 2^s R / K is at most the half of the violation's target, in units of 2^-41
+abbrev pub step_count : (s r half_target : ℕ) → ℕ
+step_count s r half_target = ceil_div (2 ^ (s + 41) * r) half_target
+
+-- by how much a plan exceeds a row at most, in units of 2^-40
+abbrev pub violation_bound : (s r k eps : ℕ) → ℕ
+violation_bound s r k eps = ceil_div (2 ^ (s + 41) * r) k + ceil_div eps r
+
+-- how much more than it some feasible plan costs at most, in units of 2^-40
+abbrev pub undercut_bound : (r violation : ℕ) → ℕ
+undercut_bound r violation = r * violation
