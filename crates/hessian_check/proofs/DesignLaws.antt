@@ -1,0 +1,167 @@
+-- What the exponents of a design's matrices are for its trajectories.
+use Rattle.std.proofs.Common.{◌≡◌, inl, inr, ℕ, zero, suc, ◌+◌, ◌-◌, ◌*◌, ◌/◌, ◌%◌, ◌^◌, ◌<◌, ◌≤◌, [], ◌∷◌, ℤ, pos, negsuc, ◌+ℤ◌, ◌-ℤ◌, ◌*ℤ◌, ◌≤ℤ◌, ◌<ℤ◌, unsigned_abs, arith, ap, sym, ◌∙◌, refl}
+use Rattle.std.proofs.lemmas.Int.{ints}
+use Rattle.std.proofs.lemmas.Nat.{pow_pos}
+use Rattle.std.proofs.Math.Nat.{one-le-mul}
+use Rattle.integer_algebra.specs.Division.{floor_of}
+use Rattle.integer_algebra.specs.Sizes.{amount}
+use Rattle.integer_algebra.specs.Sums.{total, dot, image, square, none}
+use Rattle.integer_algebra.proofs.OrderLaws.{le_by, square_nonneg_z, mul-le-mul_left_z, cancel-le_z, pos_positive, mul_pos_z}
+use Rattle.integer_algebra.proofs.PowerLaws.{pow-two, four-pow}
+use Rattle.integer_algebra.proofs.Quoting.{by_ring, quotes}
+use Rattle.integer_algebra.proofs.SumLaws.{total_same, total_scale}
+use Rattle.integer_algebra.proofs.VectorLaws.{dot_same, image_none, quadratic_scale}
+use Rattle.qp_model.specs.Design.{Design, CostRow, entries, rows}
+use Rattle.qp_model.specs.Condensed.{Condensed, IsCondensed}
+use Rattle.qp_model.specs.Condensing.{numbers_of, over_costs, cost_plan, own_input}
+use Rattle.qp_model.specs.Columns.{input_floor}
+use Rattle.qp_model.specs.Cost.{cost_scale}
+use Rattle.qp_model.specs.CurvatureSize.{CoversSquares, limit_squares, floor_times}
+use Rattle.qp_model.specs.Curvature as design
+use Rattle.qp_model.specs.Curvature.{curvature, row_change}
+use Rattle.qp_model.specs.Residual.{residual, residual_scale}
+use Rattle.qp_model.specs.Sound.{IsSound}
+use Rattle.qp_model.proofs.CurvatureLaws.{hessian_law, curvature_law}
+use Rattle.hessian_check.specs.Dominance.{IsSymmetric, form}
+use Rattle.hessian_check.specs.Curvature.{Curved, gap, row_squares, IsExponent, IsFloored, CoversAll}
+use Rattle.hessian_check.specs.Steps.{curved_of, floor_of_design}
+
+-- ---- half the hessian
+half_two : (x : ℤ) → floor_of (pos 2 *ℤ x) 2 ≡ x
+half_two (pos n) = omega (arith, ints)
+half_two (negsuc n) = let e : pos 2 *ℤ negsuc n ≡ negsuc (2 * n + 1) = omega (arith, ints) in rw e (ap negsuc (omega arith))
+
+costs_two : (d : Design) (f : ℕ → CostRow → ℤ) → over_costs d (λ k r. pos 2 *ℤ f k r) ≡ pos 2 *ℤ over_costs d f
+costs_two d f = joined (total d.stages (λ k. total d.stage_costs (λ r. f (suc k) (d.stage_cost r)))) (total d.final_costs (λ r. f d.stages (d.final_cost r)))
+    (total_same d.stages _ _ (λ k l. total_scale d.stage_costs (pos 2) (λ r. f (suc k) (d.stage_cost r))) ∙
+    total_scale d.stages (pos 2) (λ k. total d.stage_costs (λ r. f (suc k) (d.stage_cost r))))
+    (total_scale d.final_costs (pos 2) (λ r. f d.stages (d.final_cost r)))
+  where
+    joined : (x y : ℤ) {a b : ℤ} → a ≡ pos 2 *ℤ x → b ≡ pos 2 *ℤ y → a +ℤ b ≡ pos 2 *ℤ (x +ℤ y)
+    joined x y e g = omega (arith, ints, e, g)
+
+-- the hessian is even
+pub hessian_even : (d : Design) (i j : ℕ) → (numbers_of d).hessian i j ≡ pos 2 *ℤ (curved_of d).half i j
+hessian_even d i j = doubled _ (over_costs d (λ k r. r.weight *ℤ (cost_plan d k r i *ℤ cost_plan d k r j)) +ℤ
+    total d.stages (λ k. total d.inputs (λ l. d.input_weight l *ℤ (own_input d k l i *ℤ own_input d k l j)))) (joined
+    (over_costs d (λ k r. r.weight *ℤ (cost_plan d k r i *ℤ cost_plan d k r j)))
+    (total d.stages (λ k. total d.inputs (λ l. d.input_weight l *ℤ (own_input d k l i *ℤ own_input d k l j))))
+    (costs_two d (λ k r. r.weight *ℤ (cost_plan d k r i *ℤ cost_plan d k r j)))
+    (total_same d.stages _ _ (λ k l. total_scale d.inputs (pos 2) (λ l. d.input_weight l *ℤ (own_input d k l i *ℤ own_input d k l j))) ∙
+    total_scale d.stages (pos 2) (λ k. total d.inputs (λ l. d.input_weight l *ℤ (own_input d k l i *ℤ own_input d k l j)))))
+  where
+    joined : (x y : ℤ) {a b : ℤ} → a ≡ pos 2 *ℤ x → b ≡ pos 2 *ℤ y → a +ℤ b ≡ pos 2 *ℤ (x +ℤ y)
+    joined x y e g = omega (arith, ints, e, g)
+
+    doubled : (h x : ℤ) → h ≡ pos 2 *ℤ x → h ≡ pos 2 *ℤ floor_of h 2
+    doubled h x e = rw (e, half_two x) refl
+
+pub half_turned : (d : Design) → IsCondensed d (numbers_of d) → IsSymmetric (entries d) (curved_of d).half
+half_turned d c i j l m = ap (λ (z : ℤ). floor_of z 2) (c.symmetric i j l m)
+
+-- ---- rows and cost of a plan
+-- the change of a row is that of the condensed rows
+change_is : (d : Design) (k : Condensed) → IsCondensed d k → (v : ℕ → ℤ) (i : ℕ) → i < rows d →
+    row_change d v i ≡ pos (2 ^ d.grid) *ℤ image (entries d) k.by_plan v i
+change_is d k c v i l =
+    closed (pos (2 ^ d.grid)) (image (entries d) k.by_plan v i) (image (entries d) k.by_plan none i)
+    (pos 1 *ℤ (image d.states k.by_state none i -ℤ pos (2 ^ d.grid) *ℤ k.bound i)) (residual d (pos 1) none v i) (residual d (pos 1) none none i)
+    (c.rows (pos 1) none v i l) (c.rows (pos 1) none none i l) (image_none (entries d) k.by_plan i)
+  where
+    closed : (g x n o a b : ℤ) → a ≡ g *ℤ x +ℤ o → b ≡ g *ℤ n +ℤ o → n ≡ pos 0 → a -ℤ b ≡ g *ℤ x
+    closed g x n o a b e f h = rw (e, f, h) (by_ring (g ∷ x ∷ o ∷ []) (search quotes depth 60 fits 20000) refl)
+
+-- the squares of all of them
+changes_are : (d : Design) (k : Condensed) → IsCondensed d k → (v : ℕ → ℤ) →
+    total (rows d) (λ i. square (row_change d v i)) ≡ square (pos (2 ^ d.grid)) *ℤ total (rows d) (λ i. square (image (entries d) k.by_plan v i))
+changes_are d k c v =
+    total_same (rows d) _ _ (λ i l. ap square (change_is d k c v i l) ∙ apart (pos (2 ^ d.grid)) (image (entries d) k.by_plan v i)) ∙
+    total_scale (rows d) (square (pos (2 ^ d.grid))) (λ i. square (image (entries d) k.by_plan v i))
+  where
+    apart : (g x : ℤ) → square (g *ℤ x) ≡ square g *ℤ square x
+    apart g x = by_ring (g ∷ x ∷ []) (search quotes depth 60 fits 20000) refl
+
+-- the form of the hessian is twice that of its half
+form_two : (d : Design) (v : ℕ → ℤ) → form (entries d) (numbers_of d).hessian v ≡ pos 2 *ℤ form (entries d) (curved_of d).half v
+form_two d v =
+    dot_same (entries d) v _ _ (λ i l. total_same (entries d) _ _ (λ j m. ap (λ (z : ℤ). z *ℤ v j) (hessian_even d i j))) ∙
+    quadratic_scale (entries d) (pos 2) (curved_of d).half v
+
+curvature_is : (d : Design) → IsCondensed d (numbers_of d) → (v : ℕ → ℤ) → curvature d v ≡ square (pos (2 ^ d.grid)) *ℤ form (entries d) (curved_of d).half v
+curvature_is d c v = halved (curvature d v) (square (pos (2 ^ d.grid))) (form (entries d) (curved_of d).half v) _ _
+    (hessian_law d (numbers_of d) c v) (ap pos (four-pow d.grid)) (form_two d v)
+  where
+    halved : (x g f h q : ℤ) → pos 2 *ℤ x ≡ q *ℤ h → q ≡ g → h ≡ pos 2 *ℤ f → x ≡ g *ℤ f
+    halved x g f h q e i l =
+        let t : pos 2 *ℤ x ≡ g *ℤ (pos 2 *ℤ f) = rw (← i, ← l) e in
+        let u = turn g f in
+        omega (arith, ints, t, u)
+      where
+        turn : (g f : ℤ) → g *ℤ (pos 2 *ℤ f) ≡ pos 2 *ℤ (g *ℤ f)
+        turn g f = by_ring (g ∷ f ∷ []) (search quotes depth 60 fits 20000) refl
+
+-- ---- the scales
+cost_scale_is : (d : Design) → pos (cost_scale d) ≡ pos d.cost_denominator *ℤ square (pos d.row_denominator *ℤ pos (2 ^ d.grid) *ℤ pos (d.plant_denominator ^ d.stages))
+cost_scale_is d = ap pos (ap (λ n. d.cost_denominator * n) (pow-two (d.row_denominator * 2 ^ d.grid * d.plant_denominator ^ d.stages)))
+
+residual_scale_is : (d : Design) (s : ℕ) → pos (2 ^ s * residual_scale d ^ 2) ≡
+    pos (2 ^ s) *ℤ square (pos d.limit_denominator *ℤ pos (2 ^ d.grid) *ℤ pos (d.plant_denominator ^ d.stages))
+residual_scale_is d s = ap pos (ap (λ n. 2 ^ s * n) (pow-two (residual_scale d)))
+
+-- ---- an exponent of the matrices is one of the trajectories
+pub exponent_of : (d : Design) (s : ℕ) → IsCondensed d (numbers_of d) → IsExponent (curved_of d) s → design.IsExponent d s
+exponent_of d s c h v = closed (pos (cost_scale d)) (pos (2 ^ s * residual_scale d ^ 2)) _ (curvature d v)
+    (pos d.cost_denominator) (pos d.row_denominator) (pos (2 ^ d.grid)) (pos (d.plant_denominator ^ d.stages)) (pos d.limit_denominator) (pos (2 ^ s))
+    (total (rows d) (λ i. square (image (entries d) (numbers_of d).by_plan v i))) (form (entries d) (curved_of d).half v)
+    (cost_scale_is d) (residual_scale_is d s) (changes_are d (numbers_of d) c v) (curvature_is d c v) (h v)
+  where
+    closed : (y z t u w r g a l p x f : ℤ) → y ≡ w *ℤ square (r *ℤ g *ℤ a) → z ≡ p *ℤ square (l *ℤ g *ℤ a) → t ≡ square g *ℤ x → u ≡ square g *ℤ f →
+        (w *ℤ square r *ℤ x) ≤ℤ (p *ℤ square l *ℤ f) → (y *ℤ t) ≤ℤ (z *ℤ u)
+    closed y z t u w r g a l p x f ey ez et eu h = rw (ey, ez, et, eu) (le_by (mul-le-mul_left_z (square (g *ℤ a *ℤ g)) (square_nonneg_z (g *ℤ a *ℤ g)) h)
+        (by_ring (w ∷ r ∷ g ∷ a ∷ l ∷ p ∷ x ∷ f ∷ []) (search quotes depth 60 fits 20000) refl))
+
+-- ---- the floor of the cost
+pub floored : (d : Design) → IsSound d (input_floor d) → IsCondensed d (numbers_of d) → IsFloored (curved_of d) (floor_of_design d)
+floored d sound c v = closed (pos (cost_scale d)) (curvature d v) (pos (input_floor d * (d.plant_denominator ^ d.stages) ^ 2))
+    (pos d.cost_denominator) (pos d.row_denominator) (pos (2 ^ d.grid)) (pos (d.plant_denominator ^ d.stages)) (pos (input_floor d))
+    (total (entries d) (λ j. square (v j))) (form (entries d) (curved_of d).half v)
+    (mul_pos_z _ _ (pos_positive d.cost_denominator sound.cost_denominator) (pos_positive (2 ^ d.grid * 2 ^ d.grid) (one-le-mul (pow_pos d.grid) (pow_pos d.grid))))
+    (cost_scale_is d) (curvature_is d c v) (ap pos (ap (λ n. input_floor d * n) (pow-two (d.plant_denominator ^ d.stages)))) (curvature_law d (input_floor d) sound v)
+  where
+    closed : (y u q w r g a o x f : ℤ) → pos 0 <ℤ (w *ℤ square g) → y ≡ w *ℤ square (r *ℤ g *ℤ a) → u ≡ square g *ℤ f → q ≡ o *ℤ square a →
+        (o *ℤ y *ℤ x) ≤ℤ (w *ℤ u) → (square r *ℤ q *ℤ x) ≤ℤ f
+    closed y u q w r g a o x f k ey eu eq h = cancel-le_z (w *ℤ square g) _ _ k (le_by (rw (ey, eu) at h)
+        (rw eq (by_ring (w ∷ r ∷ g ∷ a ∷ o ∷ x ∷ f ∷ []) (search quotes depth 60 fits 20000) refl)))
+
+-- ---- the test of the squares
+squares_are : (m n : ℕ) (g : ℕ → ℕ → ℤ) → total m (λ i. total n (λ j. square (g i j))) ≡ pos (amount m (λ i. amount n (λ j. unsigned_abs (g i j) ^ 2)))
+squares_are zero n g = refl
+squares_are (suc m) n g = joined _ _ (squares_are m n g) (row n (g m))
+  where
+    joined : (x y : ℕ) {a b : ℤ} → a ≡ pos x → b ≡ pos y → a +ℤ b ≡ pos (x + y)
+    joined x y e f = omega (arith, ints, e, f)
+
+    one : (z : ℤ) → square z ≡ pos (unsigned_abs z ^ 2)
+    one (pos n) = ap pos (sym (pow-two n))
+    one (negsuc n) = ap pos (sym (pow-two (suc n)))
+
+    row : (n : ℕ) (f : ℕ → ℤ) → total n (λ j. square (f j)) ≡ pos (amount n (λ j. unsigned_abs (f j) ^ 2))
+    row zero f = refl
+    row (suc n) f = joined _ _ (row n f) (one (f n))
+
+pub covers : (d : Design) (s : ℕ) → CoversSquares d s → CoversAll (curved_of d) (floor_of_design d) s
+covers d s h = closed (pos d.cost_denominator) (row_squares (curved_of d)) (limit_squares d) (squares_are (rows d) (entries d) (numbers_of d).by_plan) (raised h)
+  where
+    closed : (w x : ℤ) (y : ℕ) → x ≡ pos y → (w *ℤ pos y) ≤ℤ (pos (2 ^ s) *ℤ square (pos d.limit_denominator) *ℤ floor_of_design d) →
+        (w *ℤ x) ≤ℤ (pos (2 ^ s) *ℤ square (pos d.limit_denominator) *ℤ floor_of_design d)
+    closed w x y e k = rw e k
+
+    raised : d.cost_denominator * limit_squares d ≤ floor_times d s →
+        pos (d.cost_denominator * limit_squares d) ≤ℤ pos (2 ^ s * (d.limit_denominator * d.limit_denominator) * (input_floor d * (d.plant_denominator ^ d.stages) ^ 2))
+    raised k = let e = turn (2 ^ s) (input_floor d) d.limit_denominator ((d.plant_denominator ^ d.stages) ^ 2) (pow-two d.limit_denominator) in numbers _ _ _ k e
+      where
+        numbers : (a b c : ℕ) → a ≤ b → b ≡ c → pos a ≤ℤ pos c
+        numbers a b c h e = omega (arith, ints, h, e)
+
+        turn : (p i l q : ℕ) → l ^ 2 ≡ l * l → p * (i * l ^ 2) * q ≡ p * (l * l) * (i * q)
+        turn p i l q e = rw e (omega arith)
