@@ -21,9 +21,9 @@ bounded : (a b e g p q u v : ℤ) → pos 0 ≤ℤ e → pos 0 ≤ℤ g → pos 
     ((a *ℤ p +ℤ e) *ℤ (b *ℤ q +ℤ g)) ≤ℤ (p *ℤ q *ℤ (a *ℤ b +ℤ (u +ℤ v +ℤ pos 1)))
 bounded a b e g p q u v he hg hpe hqg hp hq hu hv hua hvb =
     let first = add_nonneg_z
-            (mul_nonneg_z p (u *ℤ (q -ℤ g)) hp (mul_nonneg_z u (q -ℤ g) hu hqg)) (mul_nonneg_z p ((u -ℤ a) *ℤ g) hp (mul_nonneg_z (u -ℤ a) g hua hg)) in
+    (mul_nonneg_z p (u *ℤ (q -ℤ g)) hp (mul_nonneg_z u (q -ℤ g) hu hqg)) (mul_nonneg_z p ((u -ℤ a) *ℤ g) hp (mul_nonneg_z (u -ℤ a) g hua hg)) in
     let second = add_nonneg_z
-            (mul_nonneg_z q (v *ℤ (p -ℤ e)) hq (mul_nonneg_z v (p -ℤ e) hv hpe)) (mul_nonneg_z q ((v -ℤ b) *ℤ e) hq (mul_nonneg_z (v -ℤ b) e hvb he)) in
+    (mul_nonneg_z q (v *ℤ (p -ℤ e)) hq (mul_nonneg_z v (p -ℤ e) hv hpe)) (mul_nonneg_z q ((v -ℤ b) *ℤ e) hq (mul_nonneg_z (v -ℤ b) e hvb he)) in
     let third = add_nonneg_z (mul_nonneg_z p (q -ℤ g) hp hqg) (mul_nonneg_z g (p -ℤ e) hg hpe) in
     le_by (add-le-add_z first (add-le-add_z second third)) (by_ring (a ∷ b ∷ e ∷ g ∷ p ∷ q ∷ u ∷ v ∷ []) (search quotes depth 60 fits 20000) refl)
 

@@ -1,4 +1,5 @@
 pub mod System
 pub mod Descent
 pub mod Spans
+pub mod Root
 pub mod DescentSize

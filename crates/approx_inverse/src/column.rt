@@ -87,7 +87,16 @@ fn solve_within(h: &Mat, c: &[i128], floor: i128, f: u32, region: &mut Region, x
 }
 
 // Finds a good solution at f bits, from a guess where that is a start.
-fn descend(h: &Mat, c: &[i128], floor: i128, f: u32, guess: &[i128], region: &mut Region, x: &Span, r: &Span)
+fn descend(
+    h: &Mat,
+    c: &[i128],
+    floor: i128,
+    f: u32,
+    guess: &[i128],
+    region: &mut Region,
+    x: &Span,
+    r: &Span,
+)
     requires bits { f ≤ 48 }
     requires task { (l : ℕ) → l ≤ f → IsTask h.now c.now floor l }
     requires placed { ArePlaced region.old x.now r.now (length c.now) }

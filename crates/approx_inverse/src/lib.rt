@@ -3,6 +3,7 @@
 
 mod column;
 mod descent;
+mod guess;
 mod room;
 mod start;
 

@@ -120,9 +120,7 @@ fn is_low(c: &[i128], f: u32, x: &[i128], rest: &[i128]) -> bool
     ensures { IsTrue result → total (length c.now) (λ i. at x.now i *ℤ (at rest.now i -ℤ aim f c.now i)) ≤ℤ pos 0 }
 {
     let p = bits_of(x).saturating_sub(KEPT_BITS);
-    let q = bits_of(rest)
-        .max(bits_of(c) + f)
-        .saturating_sub(KEPT_BITS);
+    let q = bits_of(rest).max(bits_of(c) + f).saturating_sub(KEPT_BITS);
     is_low_at(c, f, x, rest, p, q.min(126))
 }
 
@@ -151,7 +149,15 @@ fn put_rest(h: &Mat, c: &[i128], f: u32, x: &[i128], region: &mut Region, r: &Sp
 }
 
 // Puts a guess and its residual into x and r, if it is a start. Else they hold anything.
-pub fn begin(h: &Mat, c: &[i128], f: u32, guess: &[i128], region: &mut Region, x: &Span, r: &Span) -> bool
+pub fn begin(
+    h: &Mat,
+    c: &[i128],
+    f: u32,
+    guess: &[i128],
+    region: &mut Region,
+    x: &Span,
+    r: &Span,
+) -> bool
     requires rows { length h.now.rows ≡ length c.now }
     requires cols { h.now.cols ≡ length c.now }
     requires bits { f ≤ 48 }

@@ -53,7 +53,7 @@ returns c =
     let z = to_z w128 (of_z w128 (to_z w128 (of_z w128 c.word-old.result) -ℤ to_z w128 (of_z w128 t))) in
     let is : z ≡ cells w.words x.start j -ℤ t = rw (to_z-of_z w128 _ of, c.word-old.ensures, to_z-of_z w128 _ tf, to_z-of_z w128 _ room) refl in
     let taken : IsWritten c.set_word.new.self c.take_row.new.region r (λ k. cells c.set_word.new.self.words r.start k -ℤ t *ℤ at (row_of h j) k) =
-        rw (to_z-of_z w128 _ tf, c.row.ensures.value) at c.take_row.ensures in
+    rw (to_z-of_z w128 _ tf, c.row.ensures.value) at c.take_row.ensures in
     let there = stepped h c.args.c.now c.args.floor c.args.f w x r j t q.task q.placed q.descent q.inside near q.wide c.set_word.new.self z c.set_word.ensures.put
-        c.take_row.new.region is taken in
+    c.take_row.new.region is taken in
     record { descent = there.descent; lower = there.lower; kept = there.kept }

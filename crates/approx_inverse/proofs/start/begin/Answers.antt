@@ -10,11 +10,11 @@ use Rattle.approx_inverse.proofs.start.begin.Goals.{then-put_rest, else-put_rest
 pub returns-clause-descent : goal.returns-clause-descent
 returns-clause-descent c = λ yes. elim c.if-put_rest.branch [
   | then-put_rest w ↦
-    let r = c.args.r.now in
-    started (length c.args.c.now) (entry_of c.args.h.now) (aim c.args.f c.args.c.now) c.args.guess.now w.cells.result.now
-    c.args.region.now c.put_rest.new.region c.put.new.region c.args.x.now r c.requires.placed
-    (c.put_rest.ensures.rest w.if-put_rest.true)
-    (λ i l. ap (λ ws. at ws i) w.cells.ensures.value ∙ at-slice c.put_rest.new.region.words r.start r.len i (omega (arith, c.requires.placed.r_len)))
-    (w.is_low-is_start.ensures (rw w.is_start-is at yes)) c.put.ensures
+      let r = c.args.r.now in
+      started (length c.args.c.now) (entry_of c.args.h.now) (aim c.args.f c.args.c.now) c.args.guess.now w.cells.result.now
+      c.args.region.now c.put_rest.new.region c.put.new.region c.args.x.now r c.requires.placed
+      (c.put_rest.ensures.rest w.if-put_rest.true)
+      (λ i l. ap (λ ws. at ws i) w.cells.ensures.value ∙ at-slice c.put_rest.new.region.words r.start r.len i (omega (arith, c.requires.placed.r_len)))
+      (w.is_low-is_start.ensures (rw w.is_start-is at yes)) c.put.ensures
   | else-put_rest w ↦ absurd (let e = rw (w.is_start-is, w.if-put_rest.false) at yes in cc)
 ]

@@ -13,7 +13,7 @@ loop-i-preserved c =
     let e : FitsSigned w128 c.in-Some.entry = search rules in
     let v : FitsSigned w128 (at c.args.c.now i) = search rules in
     let is : c.in-Some.entry ≡ residual (length c.args.c.now) (entry_of c.args.h.now) (aim c.args.f c.args.c.now) (at c.args.x.now) i =
-        rw (to_z-of_z w128 _ v, c.row.ensures.value, c.requires.len) at c.in-Some.ensures in
+    rw (to_z-of_z w128 _ v, c.row.ensures.value, c.requires.len) at c.in-Some.ensures in
     below_more _ _
     (λ k l. get_or-set_other old i k _ (pos 0) (omega arith) ∙ c.loop-i.invariant k l)
     (get_or-set_same old i _ (pos 0) (omega (arith, c.loop-i.auto.rest)) ∙ to_z-of_z w128 _ e ∙ is)
