@@ -7,3 +7,4 @@ pub mod ColumnFacts
 pub mod PowerFacts
 pub mod SumFacts
 pub mod WeighedFacts
+pub mod CostFacts

@@ -12,8 +12,8 @@ use mat_int::Mat;
 use qp_model::DesignParts;
 use std::alloc::{AllocError, Global};
 
-// Puts a list into column `j`.
-fn set_column(mat: &mut Mat, j: usize, column: &[i128])
+/// Puts a list into column `j`.
+pub fn set_column(mat: &mut Mat, j: usize, column: &[i128])
     requires rows { length column.now ≡ length mat.old.rows }
     requires column { j < mat.old.cols }
     ensures { mat.new ≡ with_column (length column.now) mat.old j column.now }

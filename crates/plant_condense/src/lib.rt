@@ -4,6 +4,7 @@
 mod bounds;
 mod columns;
 mod condensed;
+// mod costs;
 mod counted;
 mod fault;
 mod limits;
