@@ -1,10 +1,10 @@
 // `solve`: a controller on one state.
-ghost use Rattle.std.specs.Prelude.{◌≡◌, ℕ, ℤ, List, Option, Some, IfSome, IsSomeAnd, IfOk, IfErr, IsErrOf, OnOk, OnErr, ◌⊎◌, ◌++◌};
+ghost use Rattle.std.specs.Prelude.{◌≡◌, ℕ, ℤ, List, Option, Some, IfSome, IsSomeAnd, IfOk, IfErr, IsErrOf, OnOk, OnErr, IsSome, ◌⊎◌, ◌++◌, ◌≤◌, ◌<◌, ◌↔◌, length};
 ghost use Rattle.io_edge.specs.Faults.{Rose, NoneFalls, GrowsByPart};
 ghost use Rattle.qp_model.specs.Machine.{IsGridState};
 ghost use Rattle.qp_model.specs.ControllerText.{IsControllerText, plan_line};
 ghost use Rattle.qp_model.specs.StateText.{IsStateText};
-ghost use Rattle.mpc_cli.specs.Solve.{HoldsController, HoldsState, NoController, NoState};
+ghost use Rattle.mpc_cli.specs.Solve.{file_limit, HoldsController, HoldsState, NoController, NoState};
 
 use crate::status::Status;
 use controller_file::read_controller;
@@ -13,7 +13,7 @@ use io_edge::{ReadRefusal, Sink, Store};
 use overflow_check::Controller;
 use primal_average::plan_line;
 use state_text::read_state;
-use std::alloc::Global;
+use std::alloc::{AllocError, Global};
 
 /// The most bytes of a file.
 const FILE_LIMIT: usize = 4194304;
@@ -39,4 +39,40 @@ pub fn controller_in<S: Store>(alloc: Global, name: &str, store: &mut S) -> Resu
         Ok(None) => Err(Status::Unbuilt { part: 1 }),
         Err(_) => Err(Status::Memory),
     }
+}
+
+// The numbers of the state under a name, or the status that ends the run.
+pub fn state_in<S: Store>(alloc: Global, name: &str, n: usize, store: &mut S) -> Result<Vec<i128>, Status>
+    ensures ok { IfOk result (λ xi. IfSome (S.held store.old) (λ files. IsSomeAnd (files name.now) (λ bytes. (length bytes ≤ file_limit) × IsStateText n bytes xi.items))) }
+    ensures unbuilt { IsErrOf result (Status.Unbuilt 2) → IfSome (S.held store.old) (λ files. IsSomeAnd (files name.now) (λ bytes. (file_limit < length bytes) ⊎ ((xi : List ℤ) → ¬ IsStateText n bytes xi))) }
+    ensures failed { IsErrOf result (Status.ReadFault 2) → Rose (S.read_faults store.old name.now) (S.read_faults store.new name.now) }
+    ensures only { IfErr result (λ e. (e ≡ Status.Memory) ⊎ (e ≡ Status.ReadFault 2) ⊎ (e ≡ Status.Unbuilt 2)) }
+    ensures held { S.held store.new ≡ S.held store.old }
+    ensures reads { NoneFalls (S.read_faults store.old) (S.read_faults store.new) }
+    ensures writes { NoneFalls (S.write_faults store.old) (S.write_faults store.new) }
+{
+    let bytes = match store.read_all(alloc, name, FILE_LIMIT) {
+        Ok(bytes) => bytes,
+        Err(ReadRefusal::Failed) => return Err(Status::ReadFault { file: 2 }),
+        Err(ReadRefusal::Long) => return Err(Status::Unbuilt { part: 2 }),
+        Err(ReadRefusal::Memory) => return Err(Status::Memory),
+    };
+    match read_state(alloc, n, &bytes) {
+        Ok(Some(state)) => Ok(state),
+        Ok(None) => Err(Status::Unbuilt { part: 2 }),
+        Err(_) => Err(Status::Memory),
+    }
+}
+
+// The line of the averaged plan from a state; None where the state lies outside the box.
+pub fn line_from(alloc: Global, controller: &Controller, state: &[i128]) -> Result<Option<Vec<u8>>, AllocError>
+    requires { length state.now ≡ controller.now.states }
+    ensures line { IfOk result (λ o. IfSome o (λ line. line.items ≡ plan_line controller.now state.now)) }
+    ensures inside { IfOk result (λ o. IsSome o ↔ IsGridState controller.now state.now) }
+{
+    let mut kernel = Kernel::prepare(alloc, controller)?;
+    if kernel.run(state).is_err() {
+        return Ok(None);
+    }
+    Ok(Some(plan_line(alloc, &kernel)?))
 }
