@@ -73,7 +73,7 @@ pub numbers_again : (key : List ℕ) (count : ℕ) (ns : List ℤ) (rest : List 
 unfolding numbers_at
 numbers_again key count ns rest len = rw (numbers_in_again key count ns len) refl
 
-one_of : (zs : List ℤ) → length zs ≡ 1 → zs ≡ get_or zs 0 (pos 0) ∷ []
+pub one_of : (zs : List ℤ) → length zs ≡ 1 → zs ≡ get_or zs 0 (pos 0) ∷ []
 one_of [] len = absurd (omega arith)
 one_of (a ∷ []) len = refl
 one_of (a ∷ b ∷ zs) len = absurd (omega arith)

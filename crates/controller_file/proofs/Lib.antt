@@ -1,3 +1,4 @@
 pub mod Loop
 pub mod Cuts
 pub mod Fields
+pub mod Whole
