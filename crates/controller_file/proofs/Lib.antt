@@ -2,3 +2,4 @@ pub mod Loop
 pub mod Cuts
 pub mod Fields
 pub mod Whole
+pub mod Texts
