@@ -3,3 +3,4 @@ pub mod Cuts
 pub mod Fields
 pub mod Whole
 pub mod Texts
+pub mod Answered
