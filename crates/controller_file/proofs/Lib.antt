@@ -1,2 +1,6 @@
 pub mod Loop
 pub mod Cuts
+pub mod Fields
+pub mod Whole
+pub mod Texts
+pub mod Answered

@@ -3,6 +3,7 @@ use Rattle.std.specs.Prelude.{◌≡◌, ℕ, ◌<◌, ℤ, pos, List, [], ◌�
 use Rattle.std.specs.Int.{w128}
 use Rattle.qp_model.specs.Lines.{line_of}
 use Rattle.qp_model.specs.Controller.{Numbers}
+use Rattle.controller_file.specs.declared.parts.Head.{Head}
 use Rattle.controller_file.specs.declared.line.Line.{Line}
 
 -- a line's word and its numbers
@@ -37,17 +38,21 @@ pub record IsLine (l : Keyed) : Type 0 where
 abbrev pub row_lines : List ℕ → List (List ℤ) → List Keyed
 row_lines key rows = map (line key) rows
 
--- the first six lines of a controller
-abbrev pub head_lines : Numbers → List Keyed
-head_lines c =
-    line (codes "mpc-controller") (pos 1 ∷ [])
-    ∷ line (codes "size") (pos c.states ∷ pos c.inputs ∷ pos c.stages ∷ pos c.rows ∷ [])
-    ∷ line (codes "bits") (pos c.fraction_bits ∷ pos c.grid_bits ∷ pos c.step_exponent ∷ pos c.width ∷ [])
-    ∷ line (codes "steps") (pos c.steps ∷ [])
-    ∷ line (codes "clamp") (c.clamp ∷ [])
-    ∷ line (codes "words") (pos c.words ∷ []) ∷ []
+-- the numbers of a controller that stand before its lists
+abbrev pub head_of : Numbers → Head
+head_of c = record { n = c.states; p = c.inputs; stages = c.stages; m = c.rows; f = c.fraction_bits; g = c.grid_bits; s = c.step_exponent; w = c.width; steps = c.steps; clamp = c.clamp; words = c.words }
 
--- and the others
+-- their lines
+abbrev pub head_lines : Head → List Keyed
+head_lines h =
+    line (codes "mpc-controller") (pos 1 ∷ [])
+    ∷ line (codes "size") (pos h.n ∷ pos h.p ∷ pos h.stages ∷ pos h.m ∷ [])
+    ∷ line (codes "bits") (pos h.f ∷ pos h.g ∷ pos h.s ∷ pos h.w ∷ [])
+    ∷ line (codes "steps") (pos h.steps ∷ [])
+    ∷ line (codes "clamp") (h.clamp ∷ [])
+    ∷ line (codes "words") (pos h.words ∷ []) ∷ []
+
+-- the lines of its lists
 abbrev pub list_lines : Numbers → List Keyed
 list_lines c =
     line (codes "lo") c.low ∷ line (codes "hi") c.high
@@ -58,4 +63,4 @@ list_lines c =
     ++ (line (codes "b") c.bounds ∷ line (codes "end") [] ∷ []))))))
 
 abbrev pub keyed_lines : Numbers → List Keyed
-keyed_lines c = head_lines c ++ list_lines c
+keyed_lines c = head_lines (head_of c) ++ list_lines c

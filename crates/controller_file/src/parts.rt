@@ -1,6 +1,8 @@
 // A controller's numbers from the lines of its text.
-ghost use Rattle.std.specs.Prelude.{◌≡◌, length, IfOk};
-ghost use Rattle.qp_model.specs.Controller.{numbers};
+ghost use Rattle.std.specs.Prelude.{◌≡◌, length, IfOk, MatchResult};
+ghost use Rattle.qp_model.specs.Controller.{Numbers, numbers, IsShaped, IsInForm, FitsWord};
+ghost use Rattle.qp_model.specs.ControllerText.{controller_text};
+ghost use Rattle.controller_file.specs.declared.fault.LineFault.TheVariants.{Memory};
 ghost use Rattle.controller_file.specs.Lines.{view, views};
 ghost use Rattle.controller_file.specs.Reading.{Gives, natural, numbers_in, numbers_at, natural_at, four_at, all_rows_at, matrix_at, head_at, parts_at};
 
@@ -11,6 +13,12 @@ use qp_model::ControllerParts;
 use std::alloc::Global;
 
 pub fn read_parts(alloc: Global, text: &[u8]) -> Result<ControllerParts, LineFault>
+    // What is read is spelled so.
+    ensures found { IfOk result (λ parts. text.now ≡ controller_text (numbers parts)) }
+    ensures shaped { IfOk result (λ parts. IsShaped (numbers parts)) }
+    ensures word { IfOk result (λ parts. FitsWord (numbers parts)) }
+    // What is spelled so is read.
+    ensures only { (c : Numbers) → IsInForm c → FitsWord c → text.now ≡ controller_text c → MatchResult result (λ parts. numbers parts ≡ c) (λ e. e ≡ Memory) }
 {
     let lines = lines_of(alloc, text)?;
     parts_of(alloc, &lines)
