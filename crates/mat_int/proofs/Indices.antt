@@ -1,10 +1,11 @@
 -- Sums along lists as sums over indices.
-use Rattle.std.proofs.Common.{◌≡◌, ℕ, zero, suc, ◌+◌, ◌*◌, ◌<◌, ◌≤◌, ℤ, pos, ◌+ℤ◌, ◌*ℤ◌, List, [], ◌∷◌, length, take, get_or, unsigned_abs, refl, sym, ap, ◌∙◌, arith}
+use Rattle.std.proofs.Common.{◌≡◌, ℕ, zero, suc, ◌+◌, ◌*◌, ◌≤◌, ℤ, ◌+ℤ◌, ◌*ℤ◌, List, length, take, unsigned_abs, refl, sym, ap, ◌∙◌, arith}
 use Rattle.std.proofs.Math.Seq.{take-length}
 use Rattle.integer_algebra.specs.Sums.{dot, at}
 use Rattle.integer_algebra.specs.Sizes.{amount, size}
 use Rattle.mat_int.specs.Row as lists
-use Rattle.mat_int.proofs.Dots.{dot-take_suc, abs_dot-take_suc}
+use Rattle.mat_int.specs.Matrix.{Matrix, row_of, entry_of}
+use Rattle.mat_int.proofs.Dots.{dot-take_suc, abs_dot-take_suc, abs_sum-take_suc}
 
 -- the first i of both lists
 pub dot-take_is : (i : ℕ) (xs ys : List ℤ) → i ≤ length xs → i ≤ length ys → lists.dot (take i xs) (take i ys) ≡ dot i (at xs) (at ys)
@@ -32,12 +33,6 @@ abs_dot_is n xs ys h k =
     let whole : lists.abs_dot (take (length xs) xs) (take (length xs) ys) ≡ lists.abs_dot xs ys = rw (take-length xs, h, ← k, take-length ys) refl in
     rw (← h) (sym whole ∙ abs_dot-take_is (length xs) xs ys (omega arith) (omega arith))
 
--- one more entry
-pub abs_sum-take_suc : (xs : List ℤ) (i : ℕ) → i < length xs → lists.abs_sum (take (suc i) xs) ≡ lists.abs_sum (take i xs) + unsigned_abs (at xs i)
-abs_sum-take_suc [] i p = absurd (omega arith)
-abs_sum-take_suc (x ∷ xs) zero p = omega arith
-abs_sum-take_suc (x ∷ xs) (suc i) p = let again = abs_sum-take_suc xs i (omega arith) in omega (arith, again)
-
 -- the first i of a list
 pub abs_sum-take_is : (i : ℕ) (xs : List ℤ) → i ≤ length xs → lists.abs_sum (take i xs) ≡ size i (at xs)
 abs_sum-take_is zero xs p = refl
@@ -48,3 +43,8 @@ pub abs_sum_is : (n : ℕ) (xs : List ℤ) → length xs ≡ n → lists.abs_sum
 abs_sum_is n xs h =
     let whole : lists.abs_sum (take (length xs) xs) ≡ lists.abs_sum xs = rw (take-length xs) refl in
     rw (← h) (sym whole ∙ abs_sum-take_is (length xs) xs (omega arith))
+
+-- ---- rows of a matrix
+-- the absolute sum of a row of n
+pub row_size : (n : ℕ) (m : Matrix) (i : ℕ) → length (row_of m i) ≡ n → lists.abs_sum (row_of m i) ≡ size n (entry_of m i)
+row_size n m i h = abs_sum_is n (row_of m i) h

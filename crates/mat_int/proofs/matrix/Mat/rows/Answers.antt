@@ -1,4 +1,4 @@
-use Rattle.std.proofs.Common.{◌≡◌, ap, sym, subst, List, ℤ, length, FitsSigned}
+use Rattle.std.proofs.Common.{◌≡◌, subst, length, FitsSigned}
 use Rattle.std.specs.Prelude.{All}
 use Rattle.std.specs.Int.{w128}
 use Rattle.std.proofs.lemmas.List.Elements.{All-map}
