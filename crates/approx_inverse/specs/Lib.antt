@@ -3,3 +3,4 @@ pub mod Descent
 pub mod Spans
 pub mod Root
 pub mod DescentSize
+pub mod Condensed

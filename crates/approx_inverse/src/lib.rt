@@ -6,5 +6,6 @@ mod descent;
 mod guess;
 mod room;
 mod start;
+mod system;
 
 pub use column::solve_column;
