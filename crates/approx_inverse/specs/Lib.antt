@@ -4,3 +4,5 @@ pub mod Spans
 pub mod Root
 pub mod DescentSize
 pub mod Condensed
+pub mod Fault
+pub mod Inverse

@@ -1,13 +1,19 @@
 // The matrix and the columns of a condensed form, scaled to one denominator.
-ghost use Rattle.std.specs.Prelude.{ℕ, ℤ, pos, ◌≡◌, ◌<◌, ◌≤◌, ◌+◌, ◌^◌, ◌≤ℤ◌, ◌*ℤ◌, length, unsigned_abs, IsTrue, IsFalse};
+ghost use Rattle.std.specs.Prelude.{ℕ, ℤ, pos, ◌≡◌, ◌<◌, ◌≤◌, ◌+◌, ◌^◌, ◌≤ℤ◌, ◌*ℤ◌, length, unsigned_abs, IsTrue, IsFalse, IfOk, IfErr};
 ghost use Rattle.std.specs.Option.{SomeIff};
 ghost use Rattle.integer_algebra.specs.Sums.{at};
 ghost use Rattle.integer_algebra.specs.Sizes.{size};
 ghost use Rattle.mat_int.specs.Matrix.{entry_of};
-ghost use Rattle.approx_inverse.specs.Condensed.{IsSolvable, row_factor, column_of};
+ghost use Rattle.plant_condense.specs.Form.{solve_matrix};
+ghost use Rattle.approx_inverse.specs.Condensed.{IsSolvable, IsMatrixOf, entries_of, columns_of, column_of};
+ghost use Rattle.approx_inverse.specs.DescentSize.{greatest_row};
+ghost use Rattle.approx_inverse.specs.Fault.{IsFault};
 
+use crate::fault::SolveFault;
 use mat_int::Mat;
 use plant_condense::Condensed;
+use qp_model::Quantity;
+use std::alloc::Global;
 
 // k v, where it is at most `2^126` in absolute value.
 fn limited_multiple(k: i128, v: i128) -> Option<i128>
@@ -61,4 +67,46 @@ fn scale_row(xs: &mut [i128], w: i128, r: i128, p: i128) -> bool
     ensures wide { IsFalse result → 2 ^ 126 < size (length xs.old) (λ j. p *ℤ (r *ℤ (r *ℤ w)) *ℤ at xs.old j) }
 {
     scale_twice(xs, w, r) && scale_twice(xs, r, p)
+}
+
+/// Puts column i into a list. False where a number of it is above `2^126` in absolute value; then the list holds anything.
+pub fn put_column(c: &Condensed, i: usize, out: &mut [i128]) -> bool
+    requires solvable { IsSolvable c.now }
+    requires column { i < columns_of c.now }
+    requires len { length out.old ≡ entries_of c.now }
+    ensures done { IsTrue result → (j : ℕ) → j < length out.old → at out.new j ≡ column_of c.now i j }
+    ensures wide { IsFalse result → 2 ^ 126 < size (length out.old) (column_of c.now i) }
+{
+    let states = c.lin.cols();
+    if i < states {
+        copy_column(&c.lin, i, out);
+        scale(out, c.limit_den)
+    } else if i == states {
+        out.copy_from_slice(&c.off);
+        scale(out, c.limit_den)
+    } else {
+        out.copy_from_slice(c.g.row(i - (states + 1)));
+        scale_row(out, c.weight_den, c.cost_row_den, c.power)
+    }
+}
+
+/// The matrix. `TooWide` where a number of it is above `2^126` in absolute value. `line` is for a row.
+pub fn matrix_of(alloc: Global, c: &Condensed, line: &mut [i128]) -> Result<Mat, SolveFault>
+    requires solvable { IsSolvable c.now }
+    requires len { length line.old ≡ entries_of c.now }
+    ensures ok { IfOk result (IsMatrixOf c.now) }
+    ensures err { IfErr result (λ e. IsFault e (2 ^ 126 < greatest_row (entries_of c.now) (entries_of c.now) (solve_matrix c.now))) }
+{
+    let entries = c.hess.rows();
+    let mut mat = Mat::zero(alloc, 0, entries)?;
+    for i in 0..entries {
+        line.copy_from_slice(c.hess.row(i));
+        if !scale(line, c.limit_den) {
+            return Err(SolveFault::TooWide {
+                quantity: Quantity::Descent,
+            });
+        }
+        mat.push_row(alloc, line)?;
+    }
+    Ok(mat)
 }
