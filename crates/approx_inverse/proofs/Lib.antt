@@ -4,3 +4,4 @@ pub mod BoundLaws
 pub mod StepLaws
 pub mod StartLaws
 pub mod SystemLaws
+pub mod MatrixLaws

@@ -21,12 +21,11 @@ pub struct Inverse {
 
 // Puts a list into column k of a matrix.
 fn set_column(mat: &mut Mat, k: usize, numbers: &[i128])
-    requires rows { length mat.old.rows ≡ length numbers.now }
+    requires shape { HasShape mat.old (length numbers.now) mat.old.cols }
     requires column { k < mat.old.cols }
+    ensures shape { HasShape mat.new (length numbers.now) mat.old.cols }
     ensures put { (j : ℕ) → j < length numbers.now → entry_of mat.new j k ≡ at numbers.now j }
     ensures others { (j i : ℕ) → i ≢ k → entry_of mat.new j i ≡ entry_of mat.old j i }
-    ensures rows { length mat.new.rows ≡ length mat.old.rows }
-    ensures cols { mat.new.cols ≡ mat.old.cols }
 {
     for (j, v) in numbers.iter().enumerate() {
         mat.set(j, k, *v);
@@ -43,5 +42,23 @@ impl Inverse {
             t: vec![in alloc; 0; entries]?,
             w_mat: Mat::zero(alloc, entries, rows)?,
         })
+    }
+
+    // Puts the solution for column i.
+    fn put(&mut self, i: usize, numbers: &[i128])
+        requires sizes { HasSizes self.old (length numbers.now) self.old.p_mat.cols self.old.w_mat.cols }
+        requires column { i < self.old.p_mat.cols + 1 + self.old.w_mat.cols }
+        ensures sizes { HasSizes self.new (length numbers.now) self.old.p_mat.cols self.old.w_mat.cols }
+        ensures put { (j : ℕ) → j < length numbers.now → solution_of self.new i j ≡ at numbers.now j }
+        ensures others { (k j : ℕ) → k ≢ i → solution_of self.new k j ≡ solution_of self.old k j }
+    {
+        let states = self.p_mat.cols();
+        if i < states {
+            set_column(&mut self.p_mat, i, numbers);
+        } else if i == states {
+            self.t.copy_from_slice(numbers);
+        } else {
+            set_column(&mut self.w_mat, i - (states + 1), numbers);
+        }
     }
 }
