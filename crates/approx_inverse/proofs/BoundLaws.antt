@@ -19,8 +19,9 @@ use Rattle.integer_algebra.proofs.PowerLaws.{two-pow-more}
 use Rattle.approx_inverse.specs.Descent.{residual, value, aim, IsDescent, IsRoomy, IsSettled}
 use Rattle.integer_algebra.specs.Bounds.{absolute}
 use Rattle.qp_model.specs.GoodSolution.{IsGood}
-use Rattle.approx_inverse.specs.System.{IsConvex}
-use Rattle.approx_inverse.specs.DescentSize.{greatest_row, entry_bound, column_size}
+use Rattle.qp_model.specs.Convex.{IsConvex}
+use Rattle.approx_inverse.specs.DescentSize.{greatest_row, entry_bound, descent_of_column}
+use Rattle.qp_model.proofs.SizeFacts.{greatest_term}
 use Rattle.approx_inverse.proofs.MoveLaws.{diagonal_positive, value_same, residual_same}
 
 -- ---- sums of products
@@ -184,13 +185,6 @@ entry_within n h c y floor l f convex order low i k =
     close : (u s o p q c : ℕ) → u ≤ 2 * s → s ≡ o * c → o ≤ p → q ≡ 2 * p → u ≤ q * c
     close u s o p q c h e g f = rw f (omega (arith, ap (λ (n : ℕ). 2 * n) e, mul-le-mul_right c g))
 
-pub row_below : (k n : ℕ) (h : ℕ → ℕ → ℤ) (i : ℕ) → i < k → size n (h i) ≤ greatest_row k n h
-row_below zero n h i l = absurd (omega arith)
-row_below (suc k) n h i l = elim (cases_lt i k) [
-  | inl o ↦ omega (arith, row_below k n h i o)
-  | inr o ↦ (let e : i ≡ k = omega arith in rw e (omega arith))
-]
-
 -- the numbers of the quantity
 room : (hm row x c1 l f q e r d : ℕ) → 1 ≤ d → d ≤ row → row ≤ hm → l ≤ f → q ≡ 2 * f → 2 * hm * (x + 1) + q * c1 ≤ 2 ^ 126 → e ≤ x → r ≤ row * x + l * c1 →
     (e ≤ 2 ^ 125) × (r ≤ 2 ^ 125) × (d ≤ 2 ^ 125)
@@ -202,7 +196,7 @@ room hm row x c1 l f q e r d d1 dr rm lf qf all ex rr =
     let w : q * c1 ≡ 2 * (f * c1) = rw qf (omega arith) in
     (omega (arith, g), omega (arith, a, b, w), omega (arith, g))
 
-pub roomy_from : (n : ℕ) (h : ℕ → ℕ → ℤ) (c : List ℤ) (floor : ℤ) (l f : ℕ) → IsConvex n h floor → l ≤ f → column_size n h (at c) floor f ≤ 2 ^ 126 → IsRoomy n h (aim l c)
+pub roomy_from : (n : ℕ) (h : ℕ → ℕ → ℤ) (c : List ℤ) (floor : ℤ) (l f : ℕ) → IsConvex n h floor → l ≤ f → descent_of_column n h (at c) floor f ≤ 2 ^ 126 → IsRoomy n h (aim l c)
 roomy_from n h c floor l f convex order all =
     record {
       entry = λ y low i k. (numbers y low i k).0;
@@ -222,7 +216,7 @@ roomy_from n h c floor l f convex order all =
         let x = entry_bound n (at c) floor f in
         let within : (j : ℕ) → j < n → unsigned_abs (y j) ≤ x = λ j m. entry_within n h c y floor l f convex order low j m in
         room (greatest_row n n h) (size n (h i)) x (size n (at c)) (2 ^ l) (2 ^ f) (2 ^ (f + 1)) (unsigned_abs (y i)) (unsigned_abs (residual n h (aim l c) y i)) (unsigned_abs (h i i))
-        (positive (h i i) (diagonal_positive n h floor i k convex)) (at_size i n (h i) k) (row_below n n h i k) (powers l f order) (two-pow-more f) all
+        (positive (h i i) (diagonal_positive n h floor i k convex)) (at_size i n (h i) k) (greatest_term i n (λ k. size n (h k)) k) (powers l f order) (two-pow-more f) all
         (within i k) (rw (← (size_aim n l c)) (rest_bounded n h (aim l c) y x i k within))
 
     diagonal : (i : ℕ) → i < n → h i i ≤ℤ pos (2 ^ 125)
@@ -241,23 +235,6 @@ size_part k (suc n) f h = elim (cases_lt n k) [
 
 pub size_more : (k : ℕ) (f : ℕ → ℤ) → size (k + 1) f ≡ size k f + unsigned_abs (f k)
 size_more k f = rw add-one refl
-
--- the sum so far and the next absolute value are within the whole sum
-pub size_next : (k n : ℕ) (f : ℕ → ℤ) → k < n → size k f + unsigned_abs (f k) ≤ size n f
-size_next k n f h = omega (arith, size_part (k + 1) n f (omega arith), size_more k f)
-
-pub greatest_more : (k n : ℕ) (h : ℕ → ℕ → ℤ) → greatest_row (k + 1) n h ≡ max (greatest_row k n h) (size n (h k))
-greatest_more k n h = rw add-one refl
-
-pub greatest_within : (k n : ℕ) (h : ℕ → ℕ → ℤ) (top : ℕ) → ((i : ℕ) → i < k → size n (h i) ≤ top) → greatest_row k n h ≤ top
-greatest_within zero n h top p = omega arith
-greatest_within (suc k) n h top p = omega (arith, greatest_within k n h top (λ i l. p i (omega arith)), p k (omega arith))
-
-pub next_sum_fits : (s a t u m : ℕ) → s ≡ t → a ≡ u → t + u ≤ m → m ≤ 2 ^ 126 → Fits mir.Syntax.w128 (s + a)
-next_sum_fits s a t u m e f g h = rw (e, f) (close (t + u) (omega arith))
-  where
-    close : (n : ℕ) → n ≤ 2 ^ 126 → Fits mir.Syntax.w128 n
-    close n h = omega arith
 
 pub negated_fits : (n : ℕ) (c : ℕ → ℤ) (k : ℕ) → size n c ≤ 2 ^ 126 → k < n → FitsSigned w128 (neg_ℤ (c k))
 negated_fits n c k h l = close (c k) (omega (arith, at_size k n c l))
@@ -288,3 +265,13 @@ good_from n h f c x r at_x settled = λ j l. close (r j) (image n h x j) (aim f 
   where
     close : (r m a d : ℤ) → r ≡ m -ℤ a → (pos 2 *ℤ absolute r) ≤ℤ d → ((pos 2 *ℤ (m -ℤ a)) ≤ℤ d) × ((pos 2 *ℤ (a -ℤ m)) ≤ℤ d)
     close r m a d e k = (omega (arith, ints), omega (arith, ints))
+
+-- the absolute sum of a column that has room
+pub column_small : (n : ℕ) (h : ℕ → ℕ → ℤ) (c : ℕ → ℤ) (floor : ℤ) (f : ℕ) → descent_of_column n h c floor f ≤ 2 ^ 126 → size n c ≤ 2 ^ 126
+column_small n h c floor f room = close (2 * greatest_row n n h * (entry_bound n c floor f + 1)) (2 ^ (f + 1)) (2 ^ f) (size n c) (2 ^ 126) (two-pow-more f) (one-le-pow f) room
+  where
+    one-le-pow : (f : ℕ) → 1 ≤ 2 ^ f
+    one-le-pow f = powers 0 f (omega arith)
+
+    close : (a p q s m : ℕ) → p ≡ 2 * q → 1 ≤ q → a + p * s ≤ m → s ≤ m
+    close a p q s m e o h = let g = mul-le-mul_right s o in let k : p * s ≡ 2 * (q * s) = rw e (omega arith) in omega (arith, g, k)

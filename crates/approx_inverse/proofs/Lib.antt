@@ -3,3 +3,5 @@ pub mod WordLaws
 pub mod BoundLaws
 pub mod StepLaws
 pub mod StartLaws
+pub mod SystemLaws
+pub mod MatrixLaws

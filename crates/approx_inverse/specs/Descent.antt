@@ -3,7 +3,7 @@ use Rattle.std.specs.Prelude.{◌≡◌, ℕ, ◌+◌, ◌*◌, ◌^◌, ◌<◌
 use Rattle.integer_algebra.specs.Sums.{dot, image, at}
 use Rattle.integer_algebra.specs.Bounds.{absolute}
 use Rattle.mat_int.specs.Matrix.{Matrix, entry_of}
-use Rattle.approx_inverse.specs.System.{IsConvex}
+use Rattle.qp_model.specs.Convex.{IsConvex}
 
 -- 2^f times a column
 abbrev pub aim : ℕ → List ℤ → ℕ → ℤ

@@ -10,7 +10,7 @@ ghost use Rattle.approx_inverse.specs.Descent.{IsSettled, IsDescent, IsTask, aim
 ghost use Rattle.approx_inverse.specs.Spans.{IsWritten, IsOnlyIn, ArePlaced, AreKept, cells};
 ghost use Rattle.qp_model.specs.GoodSolution.{IsGood};
 ghost use Rattle.qp_model.specs.declared.quantity.Quantity.TheVariants.{Descent};
-ghost use Rattle.approx_inverse.specs.DescentSize.{entry_bound, column_size, EachWithin};
+ghost use Rattle.approx_inverse.specs.DescentSize.{entry_bound, descent_of_column, EachWithin};
 
 use crate::descent::settle;
 use crate::room::has_room;
@@ -123,7 +123,6 @@ pub fn solve_column(
     x: &Span,
 ) -> Result<(), Wide>
     requires system { IsSystem h.now (length c.now) floor }
-    requires column_small { size (length c.now) (at c.now) ≤ 2 ^ 126 }
     requires bits { f ≤ 48 }
     requires live { IsLive region.old x.now }
     requires len { x.now.len ≡ length c.now }
@@ -131,8 +130,8 @@ pub fn solve_column(
     ensures good { OnOk result (IsGood (length c.now) (entry_of h.now) f (at c.now) (cells region.new.words x.now.start)) }
     ensures within { OnOk result (EachWithin (length c.now) (entry_bound (length c.now) (at c.now) floor f) (cells region.new.words x.now.start)) }
     ensures only { IsOnlyIn region.old region.new x.now }
-    ensures fits { IsOk result ↔ (column_size (length c.now) (entry_of h.now) (at c.now) floor f ≤ 2 ^ 126) }
-    ensures wide { IfErr result (λ e. (e.0 ≡ Descent) × (2 ^ 126 < column_size (length c.now) (entry_of h.now) (at c.now) floor f)) }
+    ensures fits { IsOk result ↔ (descent_of_column (length c.now) (entry_of h.now) (at c.now) floor f ≤ 2 ^ 126) }
+    ensures wide { IfErr result (λ e. (e.0 ≡ Descent) × (2 ^ 126 < descent_of_column (length c.now) (entry_of h.now) (at c.now) floor f)) }
     ensures kept { OnErr result (region.new ≡ region.old) }
 {
     solve_near(h, c, floor, f, &[], region, x)
@@ -149,7 +148,6 @@ pub fn solve_near(
     x: &Span,
 ) -> Result<(), Wide>
     requires system { IsSystem h.now (length c.now) floor }
-    requires column_small { size (length c.now) (at c.now) ≤ 2 ^ 126 }
     requires bits { f ≤ 48 }
     requires live { IsLive region.old x.now }
     requires len { x.now.len ≡ length c.now }
@@ -157,8 +155,8 @@ pub fn solve_near(
     ensures good { OnOk result (IsGood (length c.now) (entry_of h.now) f (at c.now) (cells region.new.words x.now.start)) }
     ensures within { OnOk result (EachWithin (length c.now) (entry_bound (length c.now) (at c.now) floor f) (cells region.new.words x.now.start)) }
     ensures only { IsOnlyIn region.old region.new x.now }
-    ensures fits { IsOk result ↔ (column_size (length c.now) (entry_of h.now) (at c.now) floor f ≤ 2 ^ 126) }
-    ensures wide { IfErr result (λ e. (e.0 ≡ Descent) × (2 ^ 126 < column_size (length c.now) (entry_of h.now) (at c.now) floor f)) }
+    ensures fits { IsOk result ↔ (descent_of_column (length c.now) (entry_of h.now) (at c.now) floor f ≤ 2 ^ 126) }
+    ensures wide { IfErr result (λ e. (e.0 ≡ Descent) × (2 ^ 126 < descent_of_column (length c.now) (entry_of h.now) (at c.now) floor f)) }
     ensures kept { OnErr result (region.new ≡ region.old) }
 {
     if !has_room(h, c, floor, f) {

@@ -3,8 +3,13 @@
 
 mod column;
 mod descent;
+mod fault;
 mod guess;
+mod inverse;
 mod room;
 mod start;
+mod system;
 
 pub use column::solve_column;
+pub use fault::SolveFault;
+pub use inverse::Inverse;
