@@ -6,7 +6,7 @@ use Rattle.std.specs.Char.{digit_value}
 use Rattle.std.specs.Fmt.{decimal, signed_decimal}
 use Rattle.std.specs.Str.{IsAscii, IsUtf8}
 use Rattle.std.specs.Str.Parse.{AllDigits, digits_value_after, digits_value, ParsesSigned}
-use Rattle.std.specs.Prelude.{IfSome}
+use Rattle.std.specs.Prelude.{All, IfSome}
 use Rattle.std.specs.Result.{OkIff, result_ok}
 use Rattle.std.proofs.lemmas.Bool.{cases_eq, cases_lt}
 use Rattle.std.proofs.lemmas.Bool.Decides.{nat_tests}
@@ -15,6 +15,7 @@ use Rattle.std.proofs.lemmas.Str.{digit_value_digit, IsUtf8-from_ascii}
 use Rattle.std.proofs.lemmas.Str.Parse.{numerals_by_value, tells_digits, digit_from_value, parse_signed_minus, parse_signed_plain, parse_signed_digits}
 use Rattle.std.proofs.lemmas.Fmt.{decimal_digit, decimal_step_wide, decimal_by_steps_wide, decimal_is_IsNumeral_wide, IsAscii-decimal_wide}
 use Rattle.std.proofs.lemmas.List.{append-nil, get_or_append_left, length-map, get_or-map, take_more, map-append, length-take}
+use Rattle.std.proofs.lemmas.List.Elements.{All-append}
 use Rattle.qp_model.specs.Lines.{line_of}
 use Rattle.qp_model.specs.Spelling.{is_plain}
 
@@ -179,3 +180,11 @@ line_of_more key zs i h =
     let word : List ℕ = signed_decimal (get_or zs i (pos 0)) in
     let push = join_with_byte-push 32 (key ∷ map signed_decimal (take i zs)) word (omega arith) in
     ap (λ (ws : List (List ℕ)). join_with_byte 32 (key ∷ ws)) (spelled_more zs i h) ∙ push ∙ sym (append_assoc (line_of key (take i zs)) (32 ∷ []) word)
+
+-- one number more fits
+pub fits_more : (zs : List ℤ) (i : ℕ) → i < length zs → All (FitsSigned w128) (take i zs) → FitsSigned w128 (get_or zs i (pos 0)) → All (FitsSigned w128) (take (i + 1) zs)
+fits_more zs i lt all one = rw (take_more zs i (pos 0) lt) (All-append (FitsSigned w128) (take i zs) (get_or zs i (pos 0) ∷ []) all (single (get_or zs i (pos 0)) one))
+  where
+    single : (z : ℤ) → FitsSigned w128 z → All (FitsSigned w128) (z ∷ [])
+    single z one zero d lt = one
+    single z one (suc k) d lt = absurd (omega arith)

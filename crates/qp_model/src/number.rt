@@ -1,4 +1,4 @@
-ghost use Rattle.std.specs.Prelude.{◌≡◌, ◌==◌, ℤ, List, IfOk, IfSome, IsSomeAnd, Some, All, FitsSigned, map, string_bytes};
+ghost use Rattle.std.specs.Prelude.{◌≡◌, ◌==◌, ℤ, List, IfOk, OnOk, IfSome, IsSomeAnd, Some, All, FitsSigned, map, string_bytes};
 ghost use Rattle.std.specs.List.{slice_split};
 ghost use Rattle.std.specs.Int.{w128};
 ghost use Rattle.std.specs.Fmt.{signed_decimal};
@@ -78,10 +78,11 @@ pub fn spaced_text(alloc: Global, numbers: &[i128]) -> Result<String, AllocError
 
 /// A word and the numbers, one space between two.
 pub fn line_text(alloc: Global, key: &str, numbers: &[i128]) -> Result<String, AllocError>
-    ensures { IfOk result (λ text. string_bytes text ≡ line_of key.now numbers.now) }
+    ensures value { IfOk result (λ text. string_bytes text ≡ line_of key.now numbers.now) }
+    ensures word { OnOk result (All (FitsSigned w128) numbers.now) }
 {
     let mut text = String::from_str(alloc, key)?;
-    for number in numbers {
+    for &number in numbers {
         let word = number.to_string(alloc)?;
         text.push(' ')?;
         text.push_str(word.as_str())?;
