@@ -4,7 +4,7 @@
 mod bounds;
 mod columns;
 mod condensed;
-// mod costs;
+mod costs;
 mod counted;
 mod fault;
 mod limits;
