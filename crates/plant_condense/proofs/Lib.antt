@@ -8,3 +8,4 @@ pub mod PowerFacts
 pub mod SumFacts
 pub mod WeighedFacts
 pub mod CostFacts
+pub mod DenominatorFacts

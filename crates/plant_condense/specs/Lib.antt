@@ -1,3 +1,4 @@
 pub mod Form
 pub mod Lists
 pub mod Costs
+pub mod Fault

@@ -6,6 +6,7 @@ mod columns;
 mod condensed;
 mod costs;
 mod counted;
+mod denominators;
 mod fault;
 mod limits;
 mod powers;
