@@ -11,7 +11,7 @@ use Rattle.qp_model.specs.declared.design_parts.DesignParts.{DesignParts}
 use Rattle.qp_model.specs.Parts.{design_of, IsDesign}
 use Rattle.qp_model.specs.Range.{IsDenominator, IsPositive}
 use Rattle.qp_model.specs.Runs.{counts}
-use Rattle.qp_model.specs.Quantities.{weight_sum, cost_width, response_size, cost_entry_size}
+use Rattle.qp_model.specs.Quantities.{weight_sum, cost_width, limit_width, response_size, cost_entry_size, limit_entry_size}
 use Rattle.qp_model.proofs.SizeFacts.{some_weight}
 use Rattle.qp_model.proofs.QuantityLaws.{powered_size, weights_size}
 use Rattle.plant_condense.specs.Form.{IsLeastInput, response_scale}
@@ -78,3 +78,25 @@ floor_none d s r a b t e g h = joined (rw (e, g) turn)
 
     joined : a * b ≡ 2 * d * s * r → t ≡ min (2 * d * s * r) t
     joined x = omega arith
+
+-- ---- the denominators of the form
+pub hess_den_room : (p : DesignParts) → IsDesign p → cost_entry_size (design_of p) ≤ 2 ^ 126 → unsigned_abs p.cost_den * response_scale (design_of p) ^ 2 ≤ 2 ^ 126
+hess_den_room p h k = last _ _ (weight_sum (design_of p)) _ (pow-le-pow_left (scale_size p) 2) weight k
+  where
+    weight : unsigned_abs p.cost_den ≤ weight_sum (design_of p)
+    weight = omega arith
+
+    last : (c a w b : ℕ) → a ≤ b → c ≤ w → 2 * w * b ≤ 2 ^ 126 → c * a ≤ 2 ^ 126
+    last c a w b h k l = omega (arith, mul-le-mul_left c h, mul-le-mul_left b k, l)
+
+pub row_den_room : (p : DesignParts) → limit_entry_size (design_of p) ≤ 2 ^ 126 → unsigned_abs p.limit_den * unsigned_abs p.plant_den ^ p.stages ≤ 2 ^ 126
+row_den_room p k = last _ _ _ (powered_size (design_of p) (limit_width (design_of p)) (unsigned_abs p.limit_den) wide) k
+  where
+    wide : unsigned_abs p.limit_den ≤ limit_width (design_of p)
+    wide = omega arith
+
+    last : (a b c : ℕ) → b * a ≤ c → c ≤ 2 ^ 126 → a * b ≤ 2 ^ 126
+    last a b c h k = omega arith
+
+pub size_fits : (z : ℤ) (n : ℕ) → z ≡ pos n → n ≤ 2 ^ 126 → FitsSigned w128 z
+size_fits z n e h = rw e (narrow (pos n) h)

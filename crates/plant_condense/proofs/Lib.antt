@@ -9,3 +9,5 @@ pub mod SumFacts
 pub mod WeighedFacts
 pub mod CostFacts
 pub mod DenominatorFacts
+pub mod FormLaws
+pub mod FaultFacts

@@ -2,3 +2,4 @@ pub mod Form
 pub mod Lists
 pub mod Costs
 pub mod Fault
+pub mod Numbers
