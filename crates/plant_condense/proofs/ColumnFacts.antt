@@ -9,9 +9,9 @@ use Rattle.mat_int.specs.Matrix.{Matrix, row_of, entry_of, with_entry, zero_matr
 use Rattle.qp_model.specs.declared.design_parts.DesignParts.{DesignParts}
 use Rattle.qp_model.specs.Design.{Design}
 use Rattle.qp_model.specs.Parts.{design_of, IsDesign}
-use Rattle.qp_model.specs.Quantities.{growth, cost_width, response_size}
-use Rattle.qp_model.proofs.QuantityLaws.{tame, slim, unit_small}
-use Rattle.qp_model.proofs.SizeFacts.{some_cost}
+use Rattle.qp_model.specs.Quantities.{growth, cost_width, limit_width, response_size, limit_entry_size}
+use Rattle.qp_model.proofs.QuantityLaws.{tame, slim, narrow, unit_small}
+use Rattle.qp_model.proofs.SizeFacts.{some_cost, some_limit}
 use Rattle.qp_model.specs.Runs.{unit, Holds}
 use Rattle.plant_condense.specs.Lists.{HoldsMatrix, with_column, RowsFit, CostsFit, UnitsFit}
 
@@ -53,6 +53,10 @@ state_fits d f j = record {
   narrow = f.narrow;
   fits = record { alpha = f.alpha; z = 1; tame = f.tame; state = λ i l. unit_small j i; plan = λ i l. (omega arith); fits = omega (arith, f.fits) };
 }
+
+-- what units' rows need, where the limits' numbers are within the limit
+pub units_fit : (p : DesignParts) → IsDesign p → limit_entry_size (design_of p) ≤ 2 ^ 126 → UnitsFit (design_of p)
+units_fit p h k = record { width = limit_width (design_of p); alpha = growth (design_of p); some = some_limit p h; narrow = narrow (design_of p); tame = tame (design_of p); fits = k }
 
 -- what units' cost rows need
 pub plan_costs_fit : (p : DesignParts) → IsDesign p → response_size (design_of p) ≤ 2 ^ 126 → (j : ℕ) → CostsFit (design_of p) none (unit j)

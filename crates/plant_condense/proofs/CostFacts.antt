@@ -1,8 +1,10 @@
 -- The sums of the condensed cost fit.
-use Rattle.std.proofs.Common.{◌≡◌, ◌≢◌, inl, inr, ℕ, zero, suc, ◌+◌, ◌*◌, ◌%◌, ◌^◌, ◌<◌, ◌≤◌, ℤ, pos, ◌+ℤ◌, ◌*ℤ◌, neg_ℤ, List, length, set, nat_eq, if◌then◌else◌, unsigned_abs, arith, ap, sym, ◌∙◌, refl}
+use Rattle.std.proofs.Common.{◌≡◌, ◌≢◌, inl, inr, ℕ, zero, suc, ◌+◌, ◌*◌, ◌%◌, ◌^◌, ◌<◌, ◌≤◌, ℤ, pos, ◌+ℤ◌, ◌*ℤ◌, neg_ℤ, List, length, set, nat_eq, if◌then◌else◌, unsigned_abs, All, FitsSigned, arith, ap, sym, subst, ◌∙◌, refl}
+use mathlib.Core.Path.{fun_ext}
 use Rattle.std.proofs.lemmas.Int.{ints, unsigned_abs-mul}
 use Rattle.std.proofs.lemmas.Bool.{cases_eq, eq-eqb}
 use Rattle.std.proofs.lemmas.Bool.Decides.{eqb_tells}
+use Rattle.std.proofs.lemmas.List.Elements.{All-get_or}
 use Rattle.std.proofs.lemmas.List.{length-set, get_or-set_other, get_or-set_same}
 use Rattle.std.proofs.Math.Nat.{mul-le-mul_left, pow-le-pow_left}
 use Rattle.integer_algebra.specs.Sums.{total, dot, at, square}
@@ -13,17 +15,21 @@ use Rattle.integer_algebra.proofs.PowerLaws.{pow-two}
 use Rattle.qp_model.specs.declared.design_parts.DesignParts.{DesignParts}
 use Rattle.qp_model.specs.Design.{Design, entries}
 use Rattle.qp_model.specs.Parts.{design_of, IsDesign}
+use Rattle.qp_model.specs.Range.{IsPositive}
+use Rattle.std.specs.Int.{w128}
 use Rattle.qp_model.specs.Quantities.{weight_sum, response_size, cost_width, prediction_size, cost_entry_size}
 use Rattle.qp_model.specs.Runs.{counts, Holds}
 use Rattle.qp_model.proofs.RunLaws.{abs-add_le}
-use Rattle.qp_model.proofs.SizeFacts.{some_weight}
+use Rattle.qp_model.proofs.SizeFacts.{some_weight, some_cost}
 use Rattle.qp_model.proofs.QuantityLaws.{weights_size, plan_cost_size, state_cost_size, target_width, powered_size}
+use Rattle.mat_int.specs.Matrix.{Matrix}
 use Rattle.plant_condense.specs.Form.{response_scale}
+use Rattle.plant_condense.specs.Numbers.{AreCostNumbers}
 use Rattle.plant_condense.specs.Costs.{plan_cost, state_cost, weight_of, target_of, weighed, own_cost}
 use Rattle.plant_condense.proofs.WeighedFacts.{products_room}
 
 -- ---- plain numbers
-square_le : (x : ℕ) → x ≤ x ^ 2
+pub square_le : (x : ℕ) → x ≤ x ^ 2
 square_le zero = omega arith
 square_le (suc x) = rw (pow-two (suc x)) (omega (arith, mul-le-mul_left (suc x) (one x)))
   where
@@ -176,3 +182,52 @@ diagonal_added xs n j v f g h l e k = record {
 
 pub own_elsewhere : (d : Design) (j i : ℕ) → i ≢ j → own_cost d i j ≡ pos 0
 own_elsewhere d j i ne = elim (eqb_tells i j) [ inl e ↦ absurd (ne e.1) | inr e ↦ rw e.0 refl ]
+
+-- half of it
+pub halved : (x : ℕ) → 2 * x ≤ 2 ^ 126 → x ≤ 2 ^ 126
+halved x h = omega arith
+
+-- numbers that are responses to a state
+pub held_small : (n top : ℕ) (xs : List ℤ) (f : ℕ → ℤ) → Holds xs n f → ((c : ℕ) → c < n → unsigned_abs (f c) ≤ top) → (c : ℕ) → c < n → unsigned_abs (at xs c) ≤ top
+held_small n top xs f h k c l = rw (h.is c l) (k c l)
+
+-- sums with values that a list holds
+pub weighed_list : (d : Design) (xs ys : List ℤ) (f : ℕ → ℤ) → Holds xs (counts d) f → Holds ys (entries d) (λ j. weighed d j (at xs)) → Holds ys (entries d) (λ j. weighed d j f)
+weighed_list d xs ys f h k = record { long = k.long; is = λ j l. k.is j l ∙ weighed_same d j (at xs) f h.is }
+
+-- an input's weight fits
+pub weight_fits : (p : DesignParts) → IsDesign p → (l : ℕ) → l < p.inputs → FitsSigned w128 (at p.input_weights.items l)
+weight_fits p h l o = small _ (positive_at p.input_weights.items h.input_weights l (rw h.input_count o))
+  where
+    small : (z : ℤ) → IsPositive z → FitsSigned w128 z
+    small z k = omega (arith, ints, k.low, k.high)
+
+    positive_at : (xs : List ℤ) → All IsPositive xs → (i : ℕ) → i < length xs → IsPositive (at xs i)
+    positive_at xs h i l = All-get_or IsPositive xs i (pos 0) l h
+
+-- ---- the targets
+-- the denominator's power is within the limit
+pub power_room : (p : DesignParts) → IsDesign p → cost_entry_size (design_of p) ≤ 2 ^ 126 → unsigned_abs p.plant_den ^ p.stages ≤ 2 ^ 126
+power_room p h k = last _ _ (powered_size (design_of p) (cost_width (design_of p)) 1 (some_cost p h)) (response_room p h k)
+  where
+    last : (a b : ℕ) → a * 1 ≤ b → b ≤ 2 ^ 126 → a ≤ 2 ^ 126
+    last a b h k = omega arith
+
+-- and each target times it
+pub target_size : (d : Design) (s : ℤ) (c : ℕ) → unsigned_abs s ≡ d.plant_denominator ^ d.stages → c < counts d → unsigned_abs s * unsigned_abs (target_of d c) ≤ response_size d
+target_size d s c e l = rw e (powered_size d (cost_width d) _ (target_width d c l))
+
+pub scaled_target_size : (d : Design) (s : ℤ) (c : ℕ) → unsigned_abs s ≡ d.plant_denominator ^ d.stages → c < counts d → unsigned_abs (s *ℤ target_of d c) ≤ response_size d
+scaled_target_size d s c e l = rw (unsigned_abs-mul s (target_of d c)) (target_size d s c e l)
+
+pub abs-neg : (m : ℕ) → unsigned_abs (neg_ℤ (pos m)) ≡ m
+abs-neg m = omega (arith, ints)
+
+-- sums with values that a list holds, as functions
+pub weighed_function : (d : Design) (xs : List ℤ) (f : ℕ → ℤ) → Holds xs (counts d) f →
+    (let g : ℕ → ℤ = λ j. weighed d j (at xs) in let h : ℕ → ℤ = λ j. weighed d j f in g ≡ h)
+weighed_function d xs f h = fun_ext (λ j. weighed_same d j (at xs) f h.is)
+
+-- the same numbers of an equal design
+pub carried : (p q : DesignParts) → p ≡ q → (h l : Matrix) (o : List ℤ) → AreCostNumbers (design_of p) h l o → AreCostNumbers (design_of q) h l o
+carried p q e h l o k = subst (λ (x : DesignParts). AreCostNumbers (design_of x) h l o) e k

@@ -8,3 +8,6 @@ pub mod PowerFacts
 pub mod SumFacts
 pub mod WeighedFacts
 pub mod CostFacts
+pub mod DenominatorFacts
+pub mod FormLaws
+pub mod FaultFacts

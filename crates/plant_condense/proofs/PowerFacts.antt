@@ -28,10 +28,3 @@ power_fits p z k n f h e l t =
 
     last : (a b : ℕ) → a ≤ b → b ≤ 2 ^ 126 → a ≤ 2 ^ 126
     last a b h k = omega arith
-
--- the last power fits where units' rows do
-pub units_power : (d : Design) → UnitsFit d → d.plant_denominator ^ d.stages ≤ 2 ^ 126
-units_power d f = last _ (f.alpha ^ d.stages) f.width (pow-le-pow_left f.tame.denominator d.stages) f.some f.fits
-  where
-    last : (a b w : ℕ) → a ≤ b → 1 ≤ w → w * b ≤ 2 ^ 126 → a ≤ 2 ^ 126
-    last a b w h k l = omega (arith, mul-le-mul_left b k)

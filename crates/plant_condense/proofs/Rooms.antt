@@ -1,5 +1,5 @@
 -- Sums that fit. In these lemmas each number is as code reads it, from its bits.
-use Rattle.std.proofs.Common.{◌≡◌, ℕ, ◌+◌, ◌*◌, ◌≤◌, ◌^◌, ℤ, pos, ◌+ℤ◌, ◌-ℤ◌, ◌*ℤ◌, neg_ℤ, unsigned_abs, arith, FitsSigned, to_z, of_z}
+use Rattle.std.proofs.Common.{◌≡◌, ℕ, ◌+◌, ◌*◌, ◌≤◌, ◌^◌, ℤ, pos, ◌+ℤ◌, ◌-ℤ◌, ◌*ℤ◌, neg_ℤ, unsigned_abs, arith, FitsSigned, to_z, of_z, ◌∙◌}
 use Rattle.std.specs.Int.{w128}
 use Rattle.std.proofs.lemmas.Int.{ints, unsigned_abs-mul, to_z-of_z}
 use Rattle.std.proofs.Math.Nat.{mul-le-mul_left}
@@ -77,3 +77,13 @@ module _ (x y : ℤ) (fx : FitsSigned w128 x) (fy : FitsSigned w128 y) (h : 2 * 
 
   pub doubled_product : read (pos 2 *ℤ read (read x *ℤ read y)) ≡ pos 2 *ℤ (x *ℤ y)
   doubled_product = rw (to_z-of_z w128 x fx, to_z-of_z w128 y fy) (doubled (x *ℤ y) _ once_fits small h)
+
+-- a negated natural
+pub negated : (z : ℤ) (m : ℕ) → FitsSigned w128 z → z ≡ pos m → m ≤ 2 ^ 126 → read (pos 0 -ℤ read z) ≡ neg_ℤ (pos m)
+negated z m f e h = rw (to_z-of_z w128 z f, e) (to_z-of_z w128 (pos 0 -ℤ pos m) small ∙ less (pos m))
+  where
+    small : FitsSigned w128 (pos 0 -ℤ pos m)
+    small = omega (arith, ints)
+
+    less : (z : ℤ) → pos 0 -ℤ z ≡ neg_ℤ z
+    less z = omega (arith, ints)

@@ -1,3 +1,5 @@
 pub mod Form
 pub mod Lists
 pub mod Costs
+pub mod Fault
+pub mod Numbers

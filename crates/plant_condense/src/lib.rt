@@ -4,9 +4,12 @@
 mod bounds;
 mod columns;
 mod condensed;
-// mod costs;
+mod cost_form;
+mod costs;
 mod counted;
+mod denominators;
 mod fault;
+mod form;
 mod limits;
 mod powers;
 mod run;
@@ -15,5 +18,5 @@ mod sums;
 
 pub use condensed::Condensed;
 pub use fault::CondenseFault;
-pub use limits::{LimitNumbers, limit_numbers};
+pub use form::condense;
 pub use run::Run;

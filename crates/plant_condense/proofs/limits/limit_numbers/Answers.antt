@@ -1,25 +1,36 @@
-use Rattle.std.proofs.Common.{ℤ, ◌*ℤ◌, ap, ◌∙◌, rules}
+use Rattle.std.proofs.Common.{ℕ, ◌^◌, ◌≤◌, ℤ, ◌*ℤ◌, unsigned_abs, arith, ap, ◌∙◌, rules}
 use Rattle.std.specs.Int.{w128}
 use mir.Val.{SFits}
 use Rattle.std.proofs.lemmas.Int.{to_z-of_z}
 use Rattle.qp_model.specs.Parts.{design_of}
+use Rattle.qp_model.specs.Quantities.{limit_width}
 use Rattle.qp_model.specs.Runs.{bound_at}
-use Rattle.plant_condense.proofs.PowerFacts.{units_power}
+use Rattle.qp_model.proofs.QuantityLaws.{bound_width, powered_size}
+use Rattle.plant_condense.proofs.Rooms.{read}
+use Rattle.plant_condense.proofs.Pushes.{holds_to}
+use Rattle.plant_condense.proofs.ColumnFacts.{units_fit}
 use Rattle.plant_condense.proofs.limits.limit_numbers.Goals as goal
 
-pub powers_of-requires-clause-fits : goal.powers_of-requires-clause-fits
-powers_of-requires-clause-fits c = units_power (design_of c.args.parts.now) c.requires.fits
+last : (a b : ℕ) → a ≤ b → b ≤ 2 ^ 126 → a ≤ 2 ^ 126
+last a b h k = omega arith
+
+pub plan_columns-requires-clause-fits : goal.plan_columns-requires-clause-fits
+plan_columns-requires-clause-fits c = units_fit c.args.parts.now c.requires.design c.requires.fits
+
+pub state_columns-requires-clause-fits : goal.state_columns-requires-clause-fits
+state_columns-requires-clause-fits c = units_fit c.args.parts.now c.requires.design c.requires.fits
 
 pub scaled_bounds-requires-clause-fits : goal.scaled_bounds-requires-clause-fits
 scaled_bounds-requires-clause-fits c =
+    let d = design_of c.args.parts.now in
     let f : SFits w128 c.last_power.result = search rules in
-    rw (to_z-of_z w128 _ f, c.last_power.ensures) c.requires.bounds
+    rw (to_z-of_z w128 _ f, c.last_power.ensures) (λ i l. last _ _ (powered_size d (limit_width d) (unsigned_abs (bound_at d i)) (bound_width d i l)) c.requires.fits)
 
 pub returns : goal.returns
 returns c =
     let f : SFits w128 c.last_power.result = search rules in
     record {
-      plan = c.in_ok-g.ensures.is;
-      state = c.in_ok-e.ensures.is;
-      bound = λ i l. c.in_ok-bound.ensures.is i l ∙ ap (λ (z : ℤ). z *ℤ bound_at (design_of c.args.parts.now) i) (to_z-of_z w128 _ f ∙ c.last_power.ensures);
+      plan = c.in_ok-g.ensures;
+      state = c.in_ok-e.ensures;
+      bound = rw (to_z-of_z w128 _ f, c.last_power.ensures) at c.in_ok-bound.ensures;
     }

@@ -1,0 +1,221 @@
+-- The numbers of a design as its condensed form.
+use Rattle.std.proofs.Common.{◌≡◌, inl, inr, ℕ, ◌+◌, ◌*◌, ◌^◌, ◌<◌, ◌≤◌, min, [], ◌∷◌, List, length, get_or, All, ℤ, pos, negsuc, ◌+ℤ◌, ◌*ℤ◌, ◌≤ℤ◌, ◌<ℤ◌, unsigned_abs, arith, ap, sym, ◌∙◌, refl}
+use Rattle.std.proofs.lemmas.Int.{ints, unsigned_abs-mul}
+use Rattle.std.proofs.lemmas.List.Elements.{All-from_get_or}
+use Rattle.std.proofs.lemmas.Nat.{pow_pos}
+use Rattle.std.proofs.Math.Nat.{mul-le-mul_left, one-le-mul}
+use Rattle.integer_algebra.specs.Sums.{total, dot, image, at, square}
+use Rattle.integer_algebra.proofs.OrderLaws.{pos_positive, mul_pos_z, le_by, add-le-add_z, mul-le-mul_left_z, mul-le-mul_right_z, cancel-le_z, square_nonneg_z}
+use Rattle.integer_algebra.proofs.SumLaws.{total_nonneg}
+use Rattle.integer_algebra.proofs.VectorLaws.{quadratic_scale}
+use Rattle.integer_algebra.proofs.PowerLaws.{pow-two, pow_positive, four-pow}
+use Rattle.integer_algebra.proofs.Quoting.{by_ring, quotes}
+use Rattle.mat_int.specs.Matrix.{Matrix, entry_of}
+use Rattle.qp_model.specs.declared.design_parts.DesignParts.{DesignParts}
+use Rattle.qp_model.specs.Design.{Design, entries, rows}
+use Rattle.qp_model.specs.Parts.{design_of, IsDesign}
+use Rattle.qp_model.specs.Sound.{IsSound}
+use Rattle.qp_model.specs.Controller.{HasShape}
+use Rattle.qp_model.specs.Cost as cost
+use Rattle.qp_model.specs.Condensed as form
+use Rattle.qp_model.specs.Condensed.{IsCondensed}
+use Rattle.qp_model.specs.Curvature.{curvature}
+use Rattle.qp_model.specs.Convex.{IsConvex}
+use Rattle.qp_model.specs.Runs.{Agrees, bound_at}
+use Rattle.qp_model.specs.Quantities.{cost_entry_size, limit_entry_size, hessian_size, rows_size, limit_width}
+use Rattle.qp_model.proofs.CurvatureLaws.{hessian_law, curvature_law}
+use Rattle.qp_model.proofs.AgreesLaws.{agrees_law}
+use Rattle.qp_model.proofs.SizeFacts.{some_entry, some_row}
+use Rattle.qp_model.proofs.QuantityLaws.{plan_cost_size, state_cost_size, plan_row_size, state_row_size, bound_width, powered_size}
+use Rattle.plant_condense.specs.declared.condensed.Condensed.{Condensed}
+use Rattle.plant_condense.specs.Form.{condensed_of, solve_matrix, HasShapes, IsLeastInput, response_scale, HasDenominators, HasSizes, IsFormOf}
+use Rattle.plant_condense.specs.Fault.{AreSizes}
+use Rattle.plant_condense.specs.Lists.{HoldsMatrix}
+use Rattle.plant_condense.specs.Numbers.{AreCostNumbers, AreLimitNumbers}
+use Rattle.plant_condense.proofs.WeighedFacts.{hessian_is, linear_is, constant_is}
+use Rattle.plant_condense.proofs.CostFacts.{square_le, diagonal_small, weighed_small, scaled_target_size, abs-neg}
+use Rattle.plant_condense.proofs.DenominatorFacts.{natural, least_is}
+
+-- ---- shapes
+pub shape_of : (m : Matrix) (height width known : ℕ) (f : ℕ → ℕ → ℤ) → HoldsMatrix m height width known f → HasShape m height width
+shape_of m height width known f h = record {
+  rows = h.long;
+  cols = h.wide;
+  each = All-from_get_or (λ (row : List ℤ). length row ≡ width) m.rows [] (λ i l. h.regular i (rw (← h.long) l));
+}
+
+shapes : (p : DesignParts) (c : Condensed) → AreCostNumbers (design_of p) c.hess c.lin c.off.items → AreLimitNumbers (design_of p) c.g c.e c.bound.items →
+    HasShapes c (entries (design_of p)) p.states (rows (design_of p))
+shapes p c k l = record {
+  hess = shape_of _ _ _ _ _ k.hessian;
+  lin = shape_of _ _ _ _ _ k.linear;
+  off = k.constant.long;
+  g = shape_of _ _ _ _ _ l.plan;
+  e = shape_of _ _ _ _ _ l.state;
+  bound = l.bound.long;
+}
+
+-- ---- the formulas
+agrees : (p : DesignParts) (c : Condensed) → IsDesign p → AreCostNumbers (design_of p) c.hess c.lin c.off.items → AreLimitNumbers (design_of p) c.g c.e c.bound.items →
+    Agrees (design_of p) (condensed_of c)
+agrees p c h k l = record {
+  hessian = λ i j a b. k.hessian.is i j a b ∙ sym (hessian_is (design_of p) i j h.inputs.0 a);
+  linear = λ j i a b. k.linear.is j i a b ∙ sym (linear_is (design_of p) j i h.inputs.0);
+  constant = λ j a. k.constant.is j a ∙ sym (constant_is (design_of p) j h.inputs.0);
+  limits = record { plan = l.plan.is; state = l.state.is; bound = l.bound.is };
+}
+
+-- ---- sizes
+entry_within : (n a x t : ℕ) → 1 ≤ n → n * x ≤ t → x ≤ t
+entry_within n a x t h k = omega (arith, mul-le-mul_left x h)
+
+pub cost_room : (p : DesignParts) → IsDesign p → hessian_size (design_of p) ≤ 2 ^ 126 → cost_entry_size (design_of p) ≤ 2 ^ 126
+cost_room p h k = entry_within (entries (design_of p) * (entries (design_of p) + p.states + 1)) 0 (cost_entry_size (design_of p)) _ (one-le-mul (some_entry p h) (omega arith)) k
+
+pub limit_room : (p : DesignParts) → IsDesign p → rows_size (design_of p) ≤ 2 ^ 126 → limit_entry_size (design_of p) ≤ 2 ^ 126
+limit_room p h k = under (limit_entry_size (design_of p)) (entry_within ((entries (design_of p) + p.states + 1) * rows (design_of p)) 0 (limit_entry_size (design_of p) ^ 2) _ (one-le-mul (grown (entries (design_of p)) p.states) (some_row p h)) k)
+  where
+    grown : (e n : ℕ) → 1 ≤ e + n + 1
+    grown e n = omega arith
+
+    under : (x : ℕ) → x ^ 2 ≤ 2 ^ 126 → x ≤ 2 ^ 126
+    under x h = omega (arith, square_le x, h)
+
+small_at : (z : ℤ) (y : ℤ) (t : ℕ) → z ≡ y → unsigned_abs y ≤ t → unsigned_abs z ≤ t
+small_at z y t e h = rw e h
+
+sizes : (p : DesignParts) (c : Condensed) → IsDesign p → AreSizes (design_of p) c.hess_size c.rows_size → AreCostNumbers (design_of p) c.hess c.lin c.off.items →
+    AreLimitNumbers (design_of p) c.g c.e c.bound.items → HasSizes (design_of p) c
+sizes p c h s k l = record {
+  cost_size = s.cost_is;
+  cost_room = s.cost_room;
+  limit_size = s.limit_is;
+  limit_room = s.limit_room;
+  hess = λ i j a b. small_at _ _ _ (k.hessian.is i j a b) (diagonal_small p h i j);
+  lin = λ j i a b. small_at _ _ _ (k.linear.is j i a b) (weighed_small d j _ (state_cost_size d i));
+  off = λ j a. small_at _ _ _ (k.constant.is j a) (weighed_small d j _ (λ i b. scaled_target_size d _ i (abs-neg (d.plant_denominator ^ d.stages)) b));
+  g = λ i j a b. small_at _ _ _ (l.plan.is i j a b) (plan_row_size d j i one a);
+  e = λ i j a b. small_at _ _ _ (l.state.is i j a b) (state_row_size d j i one a);
+  bound = λ i a. small_at _ _ _ (l.bound.is i a) (scaled (d.plant_denominator ^ d.stages) (bound_at d i) _ (powered_size d (limit_width d) _ (bound_width d i a)));
+}
+  where
+    d : Design
+    d = design_of p
+
+    one : 1 ≤ unsigned_abs p.plant_den
+    one = omega (arith, ints, h.plant_den.low)
+
+    scaled : (m : ℕ) (z : ℤ) (t : ℕ) → m * unsigned_abs z ≤ t → unsigned_abs (pos m *ℤ z) ≤ t
+    scaled m z t k = rw (unsigned_abs-mul (pos m) z) k
+
+-- ---- the curvature
+pub sound_of : (p : DesignParts) (rho : ℤ) → IsDesign p → IsLeastInput (design_of p) rho → IsSound (design_of p) (unsigned_abs rho)
+sound_of p rho h k = record {
+  plant_denominator = omega (arith, ints, h.plant_den.low);
+  cost_denominator = omega (arith, ints, h.cost_den.low);
+  row_denominator = omega (arith, ints, h.row_den.low);
+  limit_denominator = omega (arith, ints, h.limit_den.low);
+  rho_positive = omega (arith, ints, (least_is p h rho k).low);
+  inputs = h.inputs.0;
+  input_weight = λ l o. along (natural rho (least_is p h rho k).low) (k.below l o);
+  stage_weight = h.stage_weights;
+  final_weight = h.final_weights;
+}
+  where
+    along : {z w y : ℤ} → z ≡ w → z ≤ℤ y → w ≤ℤ y
+    along e h = rw (← e) h
+
+scale_is : (a r g n : ℕ) → a * (r * g * n) ^ 2 ≡ a * (g * g * (r * n) ^ 2)
+scale_is a r g n = rw (pow-two (r * g * n), pow-two (r * n)) (omega arith)
+
+-- d'H d is at least twice the response scale's square times rho times the squares of d
+bent : (d : Design) (k : form.Condensed) (rho : ℕ) → IsSound d rho → IsCondensed d k → (v : ℕ → ℤ) →
+    (pos 2 *ℤ (pos rho *ℤ pos (response_scale d ^ 2)) *ℤ total (entries d) (λ j. square (v j))) ≤ℤ dot (entries d) v (image (entries d) k.hessian v)
+bent d k rho sound c v = closed (pos d.cost_denominator) (pos (4 ^ d.grid)) (pos rho) (pos (response_scale d ^ 2)) (total (entries d) (λ j. square (v j)))
+    (curvature d v) (dot (entries d) v (image (entries d) k.hessian v)) (pos (cost.cost_scale d))
+    (pos_positive d.cost_denominator sound.cost_denominator) (pos_positive (4 ^ d.grid) (pow_positive 4 d.grid (omega arith)))
+    (ap pos (scale_is d.cost_denominator d.row_denominator (2 ^ d.grid) (d.plant_denominator ^ d.stages) ∙ turn d.cost_denominator (2 ^ d.grid * 2 ^ d.grid) (4 ^ d.grid) (response_scale d ^ 2) (four-pow d.grid)))
+    (hessian_law d k c v) (curvature_law d rho sound v)
+  where
+    turn : (a x y s : ℕ) → y ≡ x → a * (x * s) ≡ a * y * s
+    turn a x y s e = rw e (omega arith)
+
+    closed : (a g r s x u q t : ℤ) → pos 0 <ℤ a → pos 0 <ℤ g → t ≡ a *ℤ g *ℤ s → pos 2 *ℤ u ≡ g *ℤ q → (r *ℤ t *ℤ x) ≤ℤ (a *ℤ u) → (pos 2 *ℤ (r *ℤ s) *ℤ x) ≤ℤ q
+    closed a g r s x u q t pa pg e f h = cancel-le_z (a *ℤ g) _ q (mul_pos_z a g pa pg)
+        (le_by (mul-le-mul_left_z (pos 2) (omega (arith, ints)) h) (rw e (both a g r s x u q f)))
+      where
+        both : (a g r s x u q : ℤ) → pos 2 *ℤ u ≡ g *ℤ q → a *ℤ g *ℤ q +ℤ pos 2 *ℤ (r *ℤ (a *ℤ g *ℤ s) *ℤ x) ≡ a *ℤ g *ℤ (pos 2 *ℤ (r *ℤ s) *ℤ x) +ℤ pos 2 *ℤ (a *ℤ u)
+        both a g r s x u q f = first a g q (pos 2 *ℤ (r *ℤ (a *ℤ g *ℤ s) *ℤ x)) ∙ ap (λ (z : ℤ). a *ℤ z +ℤ pos 2 *ℤ (r *ℤ (a *ℤ g *ℤ s) *ℤ x)) (sym f) ∙ second a g r s x u
+          where
+            first : (a g q y : ℤ) → a *ℤ g *ℤ q +ℤ y ≡ a *ℤ (g *ℤ q) +ℤ y
+            first a g q y = by_ring (a ∷ g ∷ q ∷ y ∷ []) (search quotes depth 60 fits 20000) refl
+
+            second : (a g r s x u : ℤ) → a *ℤ (pos 2 *ℤ u) +ℤ pos 2 *ℤ (r *ℤ (a *ℤ g *ℤ s) *ℤ x) ≡ a *ℤ g *ℤ (pos 2 *ℤ (r *ℤ s) *ℤ x) +ℤ pos 2 *ℤ (a *ℤ u)
+            second a g r s x u = by_ring (a ∷ g ∷ r ∷ s ∷ x ∷ u ∷ []) (search quotes depth 60 fits 20000) refl
+
+-- a smaller number times the squares, and a greater times the form
+bounded : (f m x : ℤ) (q l b : ℤ) → pos 0 ≤ℤ x → pos 0 ≤ℤ l → f ≤ℤ (l *ℤ m) → (m *ℤ x) ≤ℤ q → b ≡ l *ℤ q → (f *ℤ x) ≤ℤ b
+bounded f m x q l b px pl h k e = rw e (le_by (add-le-add_z (mul-le-mul_right_z x px h) (mul-le-mul_left_z l pl k))
+    (by_ring (f ∷ m ∷ x ∷ q ∷ l ∷ []) (search quotes depth 60 fits 20000) refl))
+
+convex : (p : DesignParts) (c : Condensed) → IsDesign p → HasDenominators (design_of p) c → IsCondensed (design_of p) (condensed_of c) →
+    IsConvex (entries (design_of p)) (solve_matrix c) c.floor
+convex p c h e k = record {
+  positive = rw e.floor (positive_pos _ (some (unsigned_abs p.limit_den) (response_scale d ^ 2) (unsigned_abs c.input_floor) sound.limit_denominator
+      (pow_positive (response_scale d) 2 (one-le-mul sound.row_denominator (pow_positive d.plant_denominator d.stages sound.plant_denominator))) sound.rho_positive));
+  symmetric = λ i j l m. ap (λ (z : ℤ). c.limit_den *ℤ z) (k.symmetric i j l m);
+  curved = λ v. bounded c.floor (pos 2 *ℤ (pos (unsigned_abs c.input_floor) *ℤ pos (response_scale d ^ 2))) (total (entries d) (λ j. square (v j)))
+      (dot (entries d) v (image (entries d) (entry_of c.hess) v)) c.limit_den _
+      (total_nonneg (entries d) _ (λ j l. square_nonneg_z (v j))) (rw e.limit_den (natural_nonneg (unsigned_abs p.limit_den)))
+      (rw (e.floor, e.limit_den) (floor_le (unsigned_abs p.limit_den) (response_scale d ^ 2) (unsigned_abs c.input_floor) (2 ^ 126)))
+      (bent d (condensed_of c) (unsigned_abs c.input_floor) sound k v) (quadratic_scale (entries d) c.limit_den (entry_of c.hess) v);
+}
+  where
+    d : Design
+    d = design_of p
+
+    sound : IsSound d (unsigned_abs c.input_floor)
+    sound = sound_of p c.input_floor h e.input_floor
+
+    natural_nonneg : (n : ℕ) → pos 0 ≤ℤ pos n
+    natural_nonneg n = omega (arith, ints)
+
+    positive_pos : (n : ℕ) → 1 ≤ n → pos 1 ≤ℤ pos n
+    positive_pos n h = omega (arith, ints)
+
+    some : (l s r : ℕ) → 1 ≤ l → 1 ≤ s → 1 ≤ r → 1 ≤ min (2 * l * s * r) (2 ^ 126)
+    some l s r hl hs hr = least (one-le-mul (one-le-mul (one-le-mul two hl) hs) hr)
+      where
+        two : 1 ≤ 2
+        two = omega arith
+
+        least : 1 ≤ 2 * l * s * r → 1 ≤ min (2 * l * s * r) (2 ^ 126)
+        least h = omega arith
+
+    floor_le : (l s r t : ℕ) → pos (min (2 * l * s * r) t) ≤ℤ (pos l *ℤ (pos 2 *ℤ (pos r *ℤ pos s)))
+    floor_le l s r t = le_naturals _ _ (under (turn l s r))
+      where
+        turn : (l s r : ℕ) → 2 * l * s * r ≡ l * (2 * (r * s))
+        turn l s r = omega arith
+
+        under : 2 * l * s * r ≡ l * (2 * (r * s)) → min (2 * l * s * r) t ≤ l * (2 * (r * s))
+        under e = omega arith
+
+        le_naturals : (a b : ℕ) → a ≤ b → pos a ≤ℤ pos b
+        le_naturals a b h = omega (arith, ints)
+
+-- ---- all
+pub form_of : (p : DesignParts) (c : Condensed) → IsDesign p → AreSizes (design_of p) c.hess_size c.rows_size → AreCostNumbers (design_of p) c.hess c.lin c.off.items →
+    AreLimitNumbers (design_of p) c.g c.e c.bound.items → HasDenominators (design_of p) c → IsFormOf p c
+form_of p c h s k l e =
+    let a = agrees p c h k l in
+    let i = agrees_law (design_of p) (condensed_of c) h.inputs.0 a in
+    record {
+      design = h;
+      shapes = shapes p c k l;
+      numbers = a;
+      condensed = i;
+      denominators = e;
+      convex = convex p c h e i;
+      sizes = sizes p c h s k l;
+    }

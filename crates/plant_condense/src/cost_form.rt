@@ -1,0 +1,41 @@
+// The condensed cost.
+ghost use Rattle.std.specs.Prelude.{◌≤◌, ◌^◌, IfOk};
+ghost use Rattle.qp_model.specs.Parts.{design_of, IsDesign};
+ghost use Rattle.qp_model.specs.Quantities.{cost_entry_size};
+ghost use Rattle.plant_condense.specs.Lists.{ArePowers};
+ghost use Rattle.plant_condense.specs.Numbers.{AreCostNumbers};
+
+use crate::costs::Costs;
+use crate::denominators::square_scale;
+use crate::powers::last_power;
+use mat_int::Mat;
+use qp_model::DesignParts;
+use std::alloc::{AllocError, Global};
+
+/// The hessian, and the parts of the cost that are linear in the plan, over `cost_den` times the square of what the responses of
+/// the cost rows are over.
+#[derive(Drop)]
+pub struct CostNumbers {
+    pub hess: Mat,
+    pub lin: Mat,
+    pub off: Vec<i128>,
+}
+
+/// The condensed cost of a design.
+pub fn cost_numbers(
+    alloc: Global,
+    parts: &DesignParts,
+    powers: &[i128],
+) -> Result<CostNumbers, AllocError>
+    requires design { IsDesign parts.now }
+    requires powers { ArePowers parts.now powers.now }
+    requires fits { cost_entry_size (design_of parts.now) ≤ 2 ^ 126 }
+    ensures { IfOk result (λ r. AreCostNumbers (design_of parts.now) r.hess r.lin r.off.items) }
+{
+    let power = last_power(parts, powers);
+    let costs = Costs::new(alloc, parts, powers)?;
+    let hess = costs.hessian(alloc, square_scale(parts, power))?;
+    let lin = costs.linear(alloc, powers)?;
+    let off = costs.constant(alloc, power)?;
+    Ok(CostNumbers { hess, lin, off })
+}

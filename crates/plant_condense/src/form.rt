@@ -1,0 +1,104 @@
+// A design, condensed.
+ghost use Rattle.std.specs.Prelude.{◌≡◌, ◌≢◌, ◌↔◌, ◌≤◌, ◌^◌, pos, unsigned_abs, IfOk, Err};
+ghost use Rattle.qp_model.specs.declared.quantity.Quantity.{Quantity};
+ghost use Rattle.qp_model.specs.Parts.{design_of, IsDesign};
+ghost use Rattle.qp_model.specs.Quantities.{cost_entry_size, limit_entry_size, hessian_size, rows_size};
+ghost use Rattle.plant_condense.specs.Form.{IsFormOf};
+ghost use Rattle.plant_condense.specs.Fault.{IsFirstWide, AreSizes};
+ghost use Rattle.plant_condense.specs.Numbers.{AreCostNumbers, AreLimitNumbers};
+
+use crate::condensed::Condensed;
+use crate::cost_form::{CostNumbers, cost_numbers};
+use crate::denominators::{bend_floor, least_input, square_scale};
+use crate::fault::CondenseFault;
+use crate::limits::{LimitNumbers, limit_numbers};
+use crate::powers::{last_power, powers_of};
+use qp_model::{Design, DesignParts, Quantity, hessian_size, prediction_size, rows_size};
+use std::alloc::Global;
+
+// The quantities `hessian` and `rows` of a design.
+#[derive(Clone, Copy)]
+struct Sizes {
+    cost: i128,
+    limit: i128,
+}
+
+// The quantities, or the first of `prediction`, `hessian` and `rows` that is above its limit.
+fn sizes_of(parts: &DesignParts) -> Result<Sizes, CondenseFault>
+    requires { IsDesign parts.now }
+    ensures sizes { IfOk result (λ sizes. AreSizes (design_of parts.now) sizes.cost sizes.limit) }
+    ensures wide { (quantity : Quantity) → (result ≡ Err (CondenseFault.TooWide quantity)) ↔ IsFirstWide (design_of parts.now) quantity }
+    ensures memory { result ≢ Err CondenseFault.Memory }
+{
+    if prediction_size(parts).is_none() {
+        return Err(CondenseFault::TooWide {
+            quantity: Quantity::Prediction,
+        });
+    }
+    let Some(cost) = hessian_size(parts) else {
+        return Err(CondenseFault::TooWide {
+            quantity: Quantity::Hessian,
+        });
+    };
+    let Some(limit) = rows_size(parts) else {
+        return Err(CondenseFault::TooWide {
+            quantity: Quantity::Rows,
+        });
+    };
+    Ok(Sizes {
+        cost: cost as i128,
+        limit: limit as i128,
+    })
+}
+
+// The condensed form of these numbers. `power` is the plant's denominator to the power of the stages.
+fn assembled(
+    parts: &DesignParts,
+    power: i128,
+    sizes: Sizes,
+    costs: CostNumbers,
+    limits: LimitNumbers,
+) -> Condensed
+    requires design { IsDesign parts.now }
+    requires power { power ≡ pos (unsigned_abs parts.now.plant_den ^ parts.now.stages) }
+    requires sizes { AreSizes (design_of parts.now) sizes.cost sizes.limit }
+    requires costs { AreCostNumbers (design_of parts.now) costs.hess costs.lin costs.off.items }
+    requires limits { AreLimitNumbers (design_of parts.now) limits.g limits.e limits.bound.items }
+    ensures { IsFormOf parts.now result }
+{
+    let square = square_scale(parts, power);
+    let input_floor = least_input(parts);
+    Condensed {
+        hess: costs.hess,
+        lin: costs.lin,
+        off: costs.off,
+        hess_den: parts.cost_den * square,
+        g: limits.g,
+        e: limits.e,
+        bound: limits.bound,
+        row_den: parts.limit_den * power,
+        floor: bend_floor(parts, square, input_floor),
+        power,
+        weight_den: parts.cost_den,
+        cost_row_den: parts.row_den,
+        limit_den: parts.limit_den,
+        input_floor,
+        hess_size: sizes.cost,
+        rows_size: sizes.limit,
+    }
+}
+
+/// The condensed form of a design: whole numbers that give the residuals and the cost of every plan at every state. It refuses a
+/// design of which a quantity, `prediction`, `hessian` or `rows`, is above `2^126`, and names the first. (Substituting the
+/// prediction into cost and limits, as in Rawlings, Mayne and Diehl, Model Predictive Control.)
+pub fn condense(alloc: Global, design: &Design) -> Result<Condensed, CondenseFault>
+    ensures form { IfOk result (λ condensed. IsFormOf design.now.parts condensed) }
+    ensures wide { (quantity : Quantity) → (result ≡ Err (CondenseFault.TooWide quantity)) ↔ IsFirstWide (design_of design.now.parts) quantity }
+{
+    let parts = design.parts();
+    let sizes = sizes_of(parts)?;
+    let powers = powers_of(alloc, parts)?;
+    let costs = cost_numbers(alloc, parts, &powers)?;
+    let limits = limit_numbers(alloc, parts, &powers)?;
+    Ok(assembled(parts, last_power(parts, &powers), sizes, costs, limits))
+}
