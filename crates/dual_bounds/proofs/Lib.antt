@@ -1,0 +1,4 @@
+pub mod NumberFacts
+pub mod DesignMix
+pub mod MixLaws
+pub mod ViolationLaws

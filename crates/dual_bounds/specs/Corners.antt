@@ -1,0 +1,51 @@
+-- What a margin at the corners of the box gives at every state of it.
+use Rattle.std.specs.Prelude.{ℕ, ◌^◌, ◌<◌, ℤ, pos, ◌+ℤ◌, ◌*ℤ◌, ◌≤ℤ◌, ◌<ℤ◌, unsigned_abs}
+use Rattle.integer_algebra.specs.Sums.{square}
+use Rattle.qp_model.specs.Design.{Design, rows}
+use Rattle.qp_model.specs.Sound.{IsSound}
+use Rattle.qp_model.specs.Box.{IsGridState}
+use Rattle.qp_model.specs.Cost.{cost, cost_scale}
+use Rattle.qp_model.specs.Residual.{residual, slack, residual_scale, IsFeasible}
+use Rattle.qp_model.specs.Policy.{Plans, IsPolicyFor}
+use Rattle.qp_model.specs.Margin.{IsMargin}
+use Rattle.qp_model.specs.Choices.{multiplier_bound}
+use Rattle.qp_model.specs.declared.bounds.Margin.{Margin}
+
+-- some plan has at the state xi a slack of at least units / 2^16 in each row, and costs at most the margin's cost
+pub record HasMarginAt (d : Design) (m : Margin) (xi : ℕ → ℤ) : Type 0 where
+  pub denominator : ℤ
+  pub plan : ℕ → ℤ
+  pub positive : pos 0 <ℤ denominator
+  pub slacks : (i : ℕ) → i < rows d → (m.units *ℤ (pos (residual_scale d) *ℤ denominator)) ≤ℤ (pos (2 ^ 16) *ℤ slack d denominator xi plan i)
+  pub cheap : cost d denominator xi plan ≤ℤ (m.cost *ℤ (pos (cost_scale d) *ℤ square denominator))
+
+-- the plan u over q exceeds no row by more than over / over_denominator
+abbrev pub ExceedsNoMore : Design → (xi : ℕ → ℤ) → (q : ℤ) → (u : ℕ → ℤ) → (over over_denominator : ℤ) → Type 0
+ExceedsNoMore d xi q u over over_denominator = (i : ℕ) → i < rows d →
+    (over_denominator *ℤ residual d q xi u i) ≤ℤ (over *ℤ pos (residual_scale d) *ℤ q)
+
+-- some plan is feasible and costs at most more / more_denominator more than the plan u over q
+pub record HasRepair (d : Design) (xi : ℕ → ℤ) (q : ℤ) (u : ℕ → ℤ) (more more_denominator : ℤ) : Type 0 where
+  pub denominator : ℤ
+  pub plan : ℕ → ℤ
+  pub positive : pos 0 <ℤ denominator
+  pub feasible : IsFeasible d denominator xi plan
+  pub cheap : (more_denominator *ℤ cost d denominator xi plan *ℤ square q) ≤ℤ
+      ((more_denominator *ℤ cost d q xi u +ℤ more *ℤ pos (cost_scale d) *ℤ square q) *ℤ square denominator)
+
+-- R, of the margin
+abbrev pub bound_of : Margin → ℤ
+bound_of m = pos (multiplier_bound (unsigned_abs m.units) (unsigned_abs m.cost))
+
+-- At every grid state of the box some plan has the margin of the corners' plans.
+abbrev pub BoxLaw : Type 0
+BoxLaw = (d : Design) (rho : ℕ) (p : Plans) (m : Margin) → IsSound d rho → IsPolicyFor d p → IsMargin d p m →
+    (xi : ℕ → ℤ) → IsGridState d xi → HasMarginAt d m xi
+
+-- And where the margin is one of slack, a plan there that exceeds each row by at most `over` has a feasible plan that costs at most R * over
+-- more.
+abbrev pub RepairLaw : Type 0
+RepairLaw = (d : Design) (rho : ℕ) (p : Plans) (m : Margin) → IsSound d rho → IsPolicyFor d p → IsMargin d p m → pos 1 ≤ℤ m.units →
+    (xi : ℕ → ℤ) → IsGridState d xi → (q : ℤ) (u : ℕ → ℤ) → pos 0 <ℤ q →
+    (over over_denominator : ℤ) → pos 0 ≤ℤ over → pos 0 <ℤ over_denominator → ExceedsNoMore d xi q u over over_denominator →
+    HasRepair d xi q u (bound_of m *ℤ over) over_denominator

@@ -1,0 +1,98 @@
+// The numbers that follow from a margin.
+ghost use Rattle.std.specs.Prelude.{◌≡◌, ℕ, ◌+◌, ◌*◌, ◌^◌, ◌≤◌, pos, ◌≤ℤ◌, unsigned_abs, IfErr};
+ghost use Rattle.std.specs.Result.{OkIff};
+ghost use Rattle.qp_model.specs.Choices.{multiplier_bound, multiplier_size, step_count, violation_bound, undercut_bound};
+ghost use Rattle.qp_model.specs.declared.quantity.Quantity.TheVariants.{Multiplier};
+
+use frac_scaled::scaled;
+use qp_model::{Margin, Quantity, Wide};
+use thiserror::Error;
+
+/// A run would need `k` steps, more than 4194304.
+#[derive(Clone, Copy, Debug, PartialEq, Eq, Error)]
+#[error("too many steps")]
+pub struct TooManySteps {
+    pub k: i128,
+}
+
+/// R, which bounds the multipliers: the greatest cost over the least slack, rounded up, and at least 1.
+///
+/// # Errors
+/// `multiplier` is above `2^126`.
+pub fn multiplier(margin: &Margin) -> Result<i128, Wide>
+    requires units { pos 1 ≤ℤ margin.now.units }
+    requires cost { pos 0 ≤ℤ margin.now.cost }
+    ensures value { OkIff result (multiplier_size (unsigned_abs margin.now.units) (unsigned_abs margin.now.cost) ≤ 2 ^ 126)
+        (pos (multiplier_bound (unsigned_abs margin.now.units) (unsigned_abs margin.now.cost))) }
+    ensures named { IfErr result (λ e. e.0 ≡ Multiplier) }
+{
+    if margin.cost > 1 << 110 {
+        return Err(Wide(Quantity::Multiplier));
+    }
+    let cost = margin.cost.unsigned_abs() * 65536;
+    let units = margin.units.unsigned_abs();
+    let bound = cost.div_ceil(units).max(1);
+    if bound > 1 << 44 {
+        return Err(Wide(Quantity::Multiplier));
+    }
+    Ok(bound as i128)
+}
+
+/// K, the steps of a run: `2^(s+41) r / half_target`, rounded up, for the step exponent `s`, the multiplier bound `r` and half the target
+/// of the violation over `2^40`.
+///
+/// # Errors
+/// K is above 4194304.
+pub fn steps(s: u32, r: i128, half_target: i128) -> Result<u32, TooManySteps>
+    requires exponent { s ≤ 40 }
+    requires some { pos 1 ≤ℤ r }
+    requires narrow { r ≤ℤ pos (2 ^ 44) }
+    requires target { pos 1 ≤ℤ half_target }
+    ensures value { OkIff result (step_count s (unsigned_abs r) (unsigned_abs half_target) ≤ 2 ^ 22) (step_count s (unsigned_abs r) (unsigned_abs half_target)) }
+    ensures told { IfErr result (λ e. e.k ≡ pos (step_count s (unsigned_abs r) (unsigned_abs half_target))) }
+{
+    let target = half_target.unsigned_abs();
+    let count = whole(s, r).div_ceil(target);
+    if count > 1 << 22 {
+        return Err(TooManySteps { k: count as i128 });
+    }
+    Ok(count as u32)
+}
+
+/// By how much a plan exceeds a row at most, over `2^40`: after `k` steps with the step exponent `s`, the multiplier bound `r` and the
+/// errors `eps` over `2^40`.
+pub fn violation(s: u32, r: i128, k: u32, eps: i128) -> i128
+    requires exponent { s ≤ 40 }
+    requires some { pos 1 ≤ℤ r }
+    requires narrow { r ≤ℤ pos (2 ^ 44) }
+    requires steps { 1 ≤ k }
+    requires errors { pos 0 ≤ℤ eps }
+    requires small { eps ≤ℤ pos (2 ^ 114) }
+    ensures { result ≡ pos (violation_bound s (unsigned_abs r) k (unsigned_abs eps)) }
+{
+    let of_steps = whole(s, r).div_ceil(u128::from(k));
+    let bound = r.unsigned_abs();
+    let of_errors = eps.unsigned_abs().div_ceil(bound);
+    (of_steps + of_errors) as i128
+}
+
+/// How much more than a plan that exceeds each row by at most `violation` some feasible plan costs at most, over `2^40`.
+pub fn undercut(r: i128, violation: i128) -> i128
+    requires some { pos 1 ≤ℤ r }
+    requires rows { pos 0 ≤ℤ violation }
+    requires fits { unsigned_abs r * unsigned_abs violation ≤ 2 ^ 126 }
+    ensures { result ≡ pos (undercut_bound (unsigned_abs r) (unsigned_abs violation)) }
+{
+    r * violation
+}
+
+// `2^(s+41) r`.
+fn whole(s: u32, r: i128) -> u128
+    requires exponent { s ≤ 40 }
+    requires some { pos 1 ≤ℤ r }
+    requires narrow { r ≤ℤ pos (2 ^ 44) }
+    ensures value { result ≡ 2 ^ (s + 41) * unsigned_abs r }
+    ensures small { result ≤ 2 ^ 125 }
+{
+    scaled(r, s + 41).unsigned_abs()
+}
