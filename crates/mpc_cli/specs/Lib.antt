@@ -1,3 +1,4 @@
 pub mod Words
 pub mod Solve
 pub mod Status
+pub mod Lines

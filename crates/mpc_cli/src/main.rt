@@ -3,6 +3,7 @@
 
 mod command;
 mod solve;
+mod state_text;
 mod status;
 
 use command::run;

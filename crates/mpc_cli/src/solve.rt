@@ -12,7 +12,7 @@ use fixed_kernel::Kernel;
 use io_edge::{ReadRefusal, Sink, Store};
 use overflow_check::Controller;
 use primal_average::plan_line;
-use state_text::read_state;
+use crate::state_text::read_state;
 use std::alloc::{AllocError, Global};
 
 /// The most bytes of a file.

@@ -31,3 +31,4 @@ pub mod Columns
 pub mod Errors
 pub mod Certified
 pub mod Built
+pub mod StateText
