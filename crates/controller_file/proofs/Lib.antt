@@ -4,3 +4,4 @@ pub mod Fields
 pub mod Whole
 pub mod Texts
 pub mod Answered
+pub mod Pushed

@@ -1,7 +1,7 @@
 -- Lines as words and numbers, and those of a controller.
 use Rattle.std.specs.Prelude.{◌≡◌, ℕ, ◌<◌, ℤ, pos, List, [], ◌∷◌, ◌++◌, map, codes, All, FitsSigned}
 use Rattle.std.specs.Int.{w128}
-use Rattle.qp_model.specs.Lines.{line_of}
+use Rattle.qp_model.specs.Lines.{line_of, text_of}
 use Rattle.qp_model.specs.Controller.{Numbers}
 use Rattle.controller_file.specs.declared.parts.Head.{Head}
 use Rattle.controller_file.specs.declared.line.Line.{Line}
@@ -64,3 +64,13 @@ list_lines c =
 
 abbrev pub keyed_lines : Numbers → List Keyed
 keyed_lines c = head_lines (head_of c) ++ list_lines c
+
+-- the bytes of the first six lines of a controller's text
+abbrev pub head_text : Numbers → List ℕ
+head_text c = text_of (
+    codes "mpc-controller 1"
+    ∷ line_of (codes "size") (pos c.states ∷ pos c.inputs ∷ pos c.stages ∷ pos c.rows ∷ [])
+    ∷ line_of (codes "bits") (pos c.fraction_bits ∷ pos c.grid_bits ∷ pos c.step_exponent ∷ pos c.width ∷ [])
+    ∷ line_of (codes "steps") (pos c.steps ∷ [])
+    ∷ line_of (codes "clamp") (c.clamp ∷ [])
+    ∷ line_of (codes "words") (pos c.words ∷ []) ∷ [])

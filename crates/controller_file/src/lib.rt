@@ -4,5 +4,8 @@
 mod fault;
 mod line;
 mod parts;
+mod reader;
+mod writer;
 
-pub use parts::read_parts;
+pub use reader::read_controller;
+pub use writer::write_controller;

@@ -1,0 +1,11 @@
+use Rattle.std.proofs.Common.{◌≡◌, ◌<◌, ◌++◌, ◌∷◌, [], length, get_or, ap, ◌∙◌, string_bytes, List, ℕ, ℤ, rules, arith}
+use Rattle.qp_model.specs.Lines.{line_of, text_of}
+use Rattle.controller_file.proofs.Pushed.{row_pushed}
+use Rattle.controller_file.proofs.writer.push_rows.Goals as goal
+
+pub loop-i-preserved : goal.loop-i-preserved
+loop-i-preserved c =
+    let rows = c.args.rows.now.rows in
+    let lt : c.loop-i.i < length rows = omega arith in
+    let grown = c.in_ok-push_line.ensures.text ∙ ap (λ (row : List ℤ). string_bytes c.loop-i.text ++ text_of (line_of c.args.key.now row ∷ [])) c.row.ensures.value in
+    row_pushed c.args.key.now rows c.loop-i.i (string_bytes c.args.text.now) (string_bytes c.loop-i.text) (string_bytes c.push_line.new.text) lt c.loop-i.invariant grown
