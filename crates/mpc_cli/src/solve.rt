@@ -1,6 +1,7 @@
 // `solve`: a controller on one state.
 ghost use Rattle.std.specs.Prelude.{◌≡◌, ℕ, ℤ, List, Option, Some, IfSome, IsSomeAnd, IfOk, IfErr, IsErrOf, OnOk, OnErr, IsSome, ◌⊎◌, ◌++◌, ◌≤◌, ◌<◌, ◌↔◌, length};
 ghost use Rattle.io_edge.specs.Faults.{Rose, NoneFalls, GrowsByPart};
+ghost use Rattle.qp_model.specs.Controller.{Numbers};
 ghost use Rattle.qp_model.specs.Machine.{IsGridState};
 ghost use Rattle.qp_model.specs.ControllerText.{IsControllerText, plan_line};
 ghost use Rattle.qp_model.specs.StateText.{IsStateText};
@@ -21,6 +22,7 @@ const FILE_LIMIT: usize = 4194304;
 // The controller under a name, or the status that ends the run.
 pub fn controller_in<S: Store>(alloc: Global, name: &str, store: &mut S) -> Result<Controller, Status>
     ensures ok { IfOk result (λ c. IfSome (S.held store.old) (λ files. IsSomeAnd (files name.now) (λ bytes. HoldsController bytes c))) }
+    ensures one { IfOk result (λ c. IfSome (S.held store.old) (λ files. IsSomeAnd (files name.now) (λ bytes. (d : Numbers) → IsControllerText bytes d → c ≡ d))) }
     ensures unbuilt { IsErrOf result (Status.Unbuilt 1) → IfSome (S.held store.old) (λ files. IsSomeAnd (files name.now) NoController) }
     ensures failed { IsErrOf result (Status.ReadFault 1) → Rose (S.read_faults store.old name.now) (S.read_faults store.new name.now) }
     ensures only { IfErr result (λ e. (e ≡ Status.Memory) ⊎ (e ≡ Status.ReadFault 1) ⊎ (e ≡ Status.Unbuilt 1)) }
@@ -44,6 +46,8 @@ pub fn controller_in<S: Store>(alloc: Global, name: &str, store: &mut S) -> Resu
 // The numbers of the state under a name, or the status that ends the run.
 pub fn state_in<S: Store>(alloc: Global, name: &str, n: usize, store: &mut S) -> Result<Vec<i128>, Status>
     ensures ok { IfOk result (λ xi. IfSome (S.held store.old) (λ files. IsSomeAnd (files name.now) (λ bytes. (length bytes ≤ file_limit) × IsStateText n bytes xi.items))) }
+    ensures count { IfOk result (λ xi. length xi.items ≡ n) }
+    ensures one { IfOk result (λ xi. IfSome (S.held store.old) (λ files. IsSomeAnd (files name.now) (λ bytes. (xs : List ℤ) → IsStateText n bytes xs → xi.items ≡ xs))) }
     ensures unbuilt { IsErrOf result (Status.Unbuilt 2) → IfSome (S.held store.old) (λ files. IsSomeAnd (files name.now) (λ bytes. (file_limit < length bytes) ⊎ ((xi : List ℤ) → ¬ IsStateText n bytes xi))) }
     ensures failed { IsErrOf result (Status.ReadFault 2) → Rose (S.read_faults store.old name.now) (S.read_faults store.new name.now) }
     ensures only { IfErr result (λ e. (e ≡ Status.Memory) ⊎ (e ≡ Status.ReadFault 2) ⊎ (e ≡ Status.Unbuilt 2)) }

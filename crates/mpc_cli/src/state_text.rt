@@ -1,5 +1,5 @@
 // The text of one state.
-ghost use Rattle.std.specs.Prelude.{◌≡◌, ℤ, List, [], ◌∷◌, ◌++◌, Some, IfOk, IfSome, IfNone, IsSomeAnd, ◌⊎◌, map, option_map};
+ghost use Rattle.std.specs.Prelude.{◌≡◌, ℤ, List, IfOk, IfSome, IsSomeAnd, ◌≤◌, map, option_map};
 ghost use Rattle.qp_model.specs.StateText.{IsStateText};
 ghost use Rattle.mpc_cli.specs.Lines.{only_line};
 
@@ -9,6 +9,7 @@ use std::alloc::{AllocError, Global};
 /// The numbers of a state's text: so many as `n`, each in its one spelling, one comma between two, with a line feed at the end or
 /// without. None exactly where the bytes are no such text.
 pub fn read_state(alloc: Global, n: usize, bytes: &[u8]) -> Result<Option<Vec<i128>>, AllocError>
+    requires { 1 ≤ n }
     ensures found { IfOk result (λ o. IfSome o (λ v. IsStateText n bytes.now v.items)) }
     ensures only { (xs : List ℤ) → IsStateText n bytes.now xs → IfOk result (λ o. IsSomeAnd o (λ v. v.items ≡ xs)) }
 {
