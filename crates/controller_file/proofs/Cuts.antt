@@ -80,7 +80,7 @@ numbers_missing None f d zs h e = h
 line_piece : (l : Keyed) → IsLine l → IsPiece 10 (spelled l)
 line_piece l good = joined_piece 10 32 (l.key ∷ map signed_decimal l.numbers) (omega arith) (piece_above 10 32 l.key (omega arith) good.key, number_pieces 10 l.numbers (omega arith) good.fits)
 
-line_pieces : (ls : List Keyed) → All IsLine ls → ArePieces 10 (map spelled ls)
+pub line_pieces : (ls : List Keyed) → All IsLine ls → ArePieces 10 (map spelled ls)
 line_pieces [] good = tt
 line_pieces (l ∷ ls) good = (line_piece l (good 0 l (omega arith)), line_pieces ls (λ k e lt. good (suc k) e (omega arith)))
 

@@ -5,3 +5,4 @@ pub mod Whole
 pub mod Texts
 pub mod Answered
 pub mod Pushed
+pub mod Uniqueness

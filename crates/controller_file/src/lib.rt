@@ -2,10 +2,12 @@
 #![tactic(auto)]
 
 mod fault;
+mod laws;
 mod line;
 mod parts;
 mod reader;
 mod writer;
 
+pub use laws::{one_controller_law, prefix_law};
 pub use reader::read_controller;
 pub use writer::write_controller;

@@ -1,0 +1,135 @@
+-- A text has one controller, and no text goes on where another ends.
+use Rattle.std.proofs.Common.{◌≡◌, ℕ, zero, suc, ◌+◌, ◌*◌, ◌^◌, ◌<◌, ◌≤◌, ℤ, pos, negsuc, List, [], ◌∷◌, ◌++◌, length, get_or, take, drop, map, eqb, Option, Some, None, FitsSigned, refl, sym, ap, ◌∙◌, append_assoc, arith}
+use Rattle.std.specs.Prelude.{All, codes}
+use Rattle.std.specs.Int.{w128}
+use Rattle.std.specs.List.{slice_split, join_with_byte, AllByRecursion}
+use Rattle.std.specs.Fmt.{decimal, signed_decimal}
+use Rattle.std.specs.Str.Parse.{digits_value, AllDigits}
+use Rattle.std.proofs.lemmas.Fmt.{decimal_injective, decimal_is_IsNumeral_wide}
+use Rattle.std.proofs.lemmas.Str.Parse.{digit_at}
+use Rattle.std.proofs.lemmas.List.{append-nil, drop_at, length-append, length-map, same_from_push}
+use Rattle.std.proofs.lemmas.List.Splits.{slice_split_at, join_with_byte-slice_split}
+use Rattle.std.proofs.lemmas.List.Elements.{recursion_from_All}
+use Rattle.qp_model.specs.Lines.{text_of, line_of}
+use Rattle.qp_model.specs.Controller.{Numbers, IsShaped, IsInForm, FitsWord}
+use Rattle.qp_model.specs.ControllerText.{IsControllerText, controller_text}
+use Rattle.qp_model.proofs.Pieces.{ArePieces, split_text}
+use Rattle.controller_file.specs.Laws.{HasOneController, HasNoPrefix}
+use Rattle.controller_file.specs.Lines.{Keyed, line, IsLine, spelled, row_lines, head_of, head_lines, list_lines, keyed_lines}
+use Rattle.controller_file.specs.Reading.{parts_at}
+use Rattle.controller_file.proofs.Cuts.{line_cut, line_pieces}
+use Rattle.controller_file.proofs.Fields.{some_is}
+use Rattle.controller_file.proofs.Whole.{parts_again}
+use Rattle.controller_file.proofs.Texts.{keyed_text, small_form, good_lines}
+
+-- ---- numbers
+
+-- a digit is no minus
+no_minus : (n : ℕ) (ds : List ℕ) → n < 10 ^ 64 → decimal n ≡ 45 ∷ ds → ⊥
+no_minus n ds small e =
+    let k = decimal_is_IsNumeral_wide n small in
+    let range = digit_at (decimal n) 0 k.0.1 k.0.0 in
+    omega (arith, ap (λ (l : List ℕ). get_or l 0 0) e)
+
+one_decimal : (m n : ℕ) → m < 10 ^ 64 → n < 10 ^ 64 → decimal m ≡ decimal n → m ≡ n
+one_decimal m n f g e = sym (decimal_is_IsNumeral_wide m f).1 ∙ ap (digits_value 10) e ∙ (decimal_is_IsNumeral_wide n g).1
+
+one_number : (y z : ℤ) → FitsSigned w128 y → FitsSigned w128 z → signed_decimal y ≡ signed_decimal z → y ≡ z
+one_number (pos m) (pos n) f g e = ap pos (one_decimal m n (omega (arith, f.sfits)) (omega (arith, g.sfits)) e)
+one_number (pos m) (negsuc n) f g e = absurd (no_minus m (decimal (suc n)) (omega (arith, f.sfits)) e)
+one_number (negsuc m) (pos n) f g e = absurd (no_minus n (decimal (suc m)) (omega (arith, g.sfits)) (sym e))
+one_number (negsuc m) (negsuc n) f g e =
+    let same : decimal (suc m) ≡ decimal (suc n) = ap (drop 1) e in
+    let sizes : suc m ≡ suc n = one_decimal (suc m) (suc n) (omega (arith, f.sfits)) (omega (arith, g.sfits)) same in
+    ap negsuc (omega (arith, sizes))
+
+one_list : (ys zs : List ℤ) → All (FitsSigned w128) ys → All (FitsSigned w128) zs → map signed_decimal ys ≡ map signed_decimal zs → ys ≡ zs
+one_list [] [] f g e = refl
+one_list [] (z ∷ zs) f g e = absurd cc
+one_list (y ∷ ys) [] f g e = absurd cc
+one_list (y ∷ ys) (z ∷ zs) f g e =
+    let first = one_number y z (f 0 y (omega arith)) (g 0 z (omega arith)) (ap (λ (l : List (List ℕ)). get_or l 0 []) e) in
+    let rest = one_list ys zs (λ k d lt. f (suc k) d (omega arith)) (λ k d lt. g (suc k) d (omega arith)) (ap (drop 1) e) in
+    (λ i. first i ∷ rest i)
+
+-- ---- lines
+
+one_line : (k l : Keyed) → IsLine k → IsLine l → spelled k ≡ spelled l → k ≡ l
+one_line k l f g e =
+    let words : k.key ∷ map signed_decimal k.numbers ≡ l.key ∷ map signed_decimal l.numbers = sym (line_cut (spelled k) k f refl) ∙ line_cut (spelled k) l g e in
+    let key : k.key ≡ l.key = cc words in
+    let spelling : map signed_decimal k.numbers ≡ map signed_decimal l.numbers = cc words in
+    let numbers = one_list k.numbers l.numbers f.fits g.fits spelling in
+    (λ i. record { key = key i; numbers = numbers i })
+
+one_lines : (ks ls : List Keyed) → All IsLine ks → All IsLine ls → map spelled ks ≡ map spelled ls → ks ≡ ls
+one_lines [] [] f g e = refl
+one_lines [] (l ∷ ls) f g e = absurd cc
+one_lines (k ∷ ks) [] f g e = absurd cc
+one_lines (k ∷ ks) (l ∷ ls) f g e =
+    let first = one_line k l (f 0 k (omega arith)) (g 0 l (omega arith)) (ap (λ (t : List (List ℕ)). get_or t 0 []) e) in
+    let rest = one_lines ks ls (λ j d lt. f (suc j) d (omega arith)) (λ j d lt. g (suc j) d (omega arith)) (ap (drop 1) e) in
+    (λ i. first i ∷ rest i)
+
+-- the pieces of a text of lines that goes on
+split_more : (ls : List (List ℕ)) (more : List ℕ) → ArePieces 10 ls → slice_split (λ b. eqb b 10) (text_of ls ++ more) ≡ ls ++ slice_split (λ b. eqb b 10) more
+split_more [] more h = refl
+split_more (l ∷ ls) more h =
+    let regrouped : text_of (l ∷ ls) ++ more ≡ l ++ 10 ∷ (text_of ls ++ more) = append_assoc (l ++ 10 ∷ []) (text_of ls) more ∙ append_assoc l (10 ∷ []) (text_of ls ++ more) in
+    ap (slice_split (λ b. eqb b 10)) regrouped ∙ slice_split_at (λ b. eqb b 10) l 10 (text_of ls ++ more) h.0 refl ∙ ap (λ (r : List (List ℕ)). l ∷ r) (split_more ls more h.1)
+
+pieces_of : (c : Numbers) → IsInForm c → FitsWord c → ArePieces 10 (map spelled (keyed_lines c))
+pieces_of c form fits = line_pieces (keyed_lines c) (good_lines c form fits)
+
+-- ---- one controller
+
+pub one_controller : HasOneController
+one_controller bytes c d p q =
+    let form = p.controller.form in
+    let other = q.controller.form in
+    let texts : text_of (map spelled (keyed_lines c)) ≡ text_of (map spelled (keyed_lines d)) = keyed_text c ∙ sym p.text ∙ q.text ∙ sym (keyed_text d) in
+    let cut = sym (split_text (map spelled (keyed_lines c)) (pieces_of c form p.word)) ∙ ap (slice_split (λ b. eqb b 10)) texts ∙ split_text (map spelled (keyed_lines d)) (pieces_of d other q.word) in
+    let spellings = (same_from_push (map spelled (keyed_lines c)) (map spelled (keyed_lines d)) [] [] cut).0 in
+    let lines = one_lines (keyed_lines c) (keyed_lines d) (good_lines c form p.word) (good_lines d other q.word) spellings in
+    some_is (sym (parts_again c (small_form c form) form.sized.shaped) ∙ ap parts_at lines ∙ parts_again d (small_form d other) other.sized.shaped)
+
+-- ---- no prefix
+
+-- how many lines a controller of these sizes has
+line_count : (c : Numbers) → IsShaped c → length (keyed_lines c) ≡ 11 + 2 * (c.inputs * c.stages) + 2 * c.rows
+line_count c shaped =
+    let last : List Keyed = line (codes "b") c.bounds ∷ line (codes "end") [] ∷ [] in
+    let r6 = row_lines (codes "E") c.state_rows.rows ++ last in
+    let r5 = row_lines (codes "G") c.plan_rows.rows ++ r6 in
+    let r4 = row_lines (codes "W") c.dual_gains.rows ++ r5 in
+    let e6 = length-append (row_lines (codes "E") c.state_rows.rows) last in
+    let e5 = length-append (row_lines (codes "G") c.plan_rows.rows) r6 in
+    let e4 = length-append (row_lines (codes "W") c.dual_gains.rows) r5 in
+    let e3 = length-append (row_lines (codes "P") c.state_gains.rows) (line (codes "T") c.offsets ∷ r4) in
+    omega (arith, e6, e5, e4, e3, length-map c.state_rows.rows (line (codes "E")), length-map c.plan_rows.rows (line (codes "G")), length-map c.dual_gains.rows (line (codes "W")), length-map c.state_gains.rows (line (codes "P")),
+    shaped.state_rows.rows, shaped.plan_rows.rows, shaped.dual_gains.rows, shaped.state_gains.rows)
+
+-- the line of the sizes
+abbrev size_line : Numbers → Keyed
+size_line c = line (codes "size") (pos c.states ∷ pos c.inputs ∷ pos c.stages ∷ pos c.rows ∷ [])
+
+same_sizes : (c d : Numbers) → size_line c ≡ size_line d → (c.inputs * c.stages ≡ d.inputs * d.stages) × (c.rows ≡ d.rows)
+same_sizes c d e =
+    let numbers : pos c.states ∷ pos c.inputs ∷ pos c.stages ∷ pos c.rows ∷ [] ≡ pos d.states ∷ pos d.inputs ∷ pos d.stages ∷ pos d.rows ∷ [] = ap (λ (k : Keyed). k.numbers) e in
+    let inputs : c.inputs ≡ d.inputs = cc numbers in
+    let stages : c.stages ≡ d.stages = cc numbers in
+    ((λ i. inputs i * stages i), cc numbers)
+
+pub no_prefix : HasNoPrefix
+no_prefix bytes more c d p q =
+    let form = p.controller.form in
+    let other = q.controller.form in
+    let kc = keyed_lines c in
+    let kd = keyed_lines d in
+    let texts : text_of (map spelled kc) ++ more ≡ text_of (map spelled kd) = ap (λ (t : List ℕ). t ++ more) (keyed_text c ∙ sym p.text) ∙ q.text ∙ sym (keyed_text d) in
+    let cut : map spelled kc ++ slice_split (λ b. eqb b 10) more ≡ map spelled kd ++ [] ∷ [] = sym (split_more (map spelled kc) more (pieces_of c form p.word)) ∙ ap (slice_split (λ b. eqb b 10)) texts ∙ split_text (map spelled kd) (pieces_of d other q.word) in
+    let second : spelled (size_line c) ≡ spelled (size_line d) = ap (λ (l : List (List ℕ)). get_or l 1 []) cut in
+    let sizes = same_sizes c d (one_line (size_line c) (size_line d) (good_lines c form p.word 1 (size_line c) (omega arith)) (good_lines d other q.word 1 (size_line d) (omega arith)) second) in
+    let count : length (map spelled kc) ≡ length (map spelled kd) = omega (arith, length-map kc spelled, length-map kd spelled, line_count c form.sized.shaped, line_count d other.sized.shaped, sizes.0, sizes.1) in
+    let rest : slice_split (λ b. eqb b 10) more ≡ [] ∷ [] = sym (drop_at (map spelled kc) (slice_split (λ b. eqb b 10) more) (length (map spelled kd)) count) ∙ ap (drop (length (map spelled kd))) cut ∙ drop_at (map spelled kd) ([] ∷ []) (length (map spelled kd)) refl in
+    sym (join_with_byte-slice_split 10 more) ∙ ap (join_with_byte 10) rest
