@@ -4,7 +4,7 @@ ghost use Rattle.io_edge.specs.Faults.{Rose, NoneFalls};
 ghost use Rattle.mpc_cli.specs.Words.{word_of, IsSolve};
 ghost use Rattle.mpc_cli.specs.Solve.{Shows, Causes};
 
-use crate::solve::{controller_in, line_from, state_in};
+use crate::solve::line_for;
 use crate::status::Status;
 use io_edge::{Sink, Store, Words};
 use std::alloc::Global;
@@ -32,18 +32,9 @@ pub fn run<S: Store, O: Sink>(alloc: Global, words: &Words, store: &mut S, out: 
     if words.count() != 3 || words.at(0) != "solve" {
         return Status::Unbuilt { part: 0 };
     }
-    let controller = match controller_in(alloc, words.at(1), store) {
-        Ok(controller) => controller,
+    let line = match line_for(alloc, words.at(1), words.at(2), store) {
+        Ok(line) => line,
         Err(status) => return status,
-    };
-    let state = match state_in(alloc, words.at(2), controller.parts().n, store) {
-        Ok(state) => state,
-        Err(status) => return status,
-    };
-    let line = match line_from(alloc, &controller, &state) {
-        Ok(Some(line)) => line,
-        Ok(None) => return Status::Unbuilt { part: 2 },
-        Err(_) => return Status::Memory,
     };
     match out.put(&line) {
         Ok(()) => Status::Done,

@@ -1,11 +1,9 @@
 // `solve`: a controller on one state.
 ghost use Rattle.std.specs.Prelude.{◌≡◌, ℕ, ℤ, List, Option, Some, IfSome, IsSomeAnd, IfOk, IfErr, IsErrOf, OnOk, OnErr, IsSome, ◌⊎◌, ◌++◌, ◌≤◌, ◌<◌, ◌↔◌, length};
 ghost use Rattle.io_edge.specs.Faults.{Rose, NoneFalls, GrowsByPart};
-ghost use Rattle.qp_model.specs.Controller.{Numbers};
 ghost use Rattle.qp_model.specs.Machine.{IsGridState};
-ghost use Rattle.qp_model.specs.ControllerText.{IsControllerText, plan_line};
-ghost use Rattle.qp_model.specs.StateText.{IsStateText};
-ghost use Rattle.mpc_cli.specs.Solve.{file_limit, HoldsController, HoldsState, NoController, NoState};
+ghost use Rattle.qp_model.specs.ControllerText.{plan_line};
+ghost use Rattle.mpc_cli.specs.Solve.{HoldsController, HasText, LacksText, HoldsLine, HoldsPlan, Refuses, NoController, NoState};
 
 use crate::status::Status;
 use controller_file::read_controller;
@@ -22,7 +20,6 @@ const FILE_LIMIT: usize = 4194304;
 // The controller under a name, or the status that ends the run.
 pub fn controller_in<S: Store>(alloc: Global, name: &str, store: &mut S) -> Result<Controller, Status>
     ensures ok { IfOk result (λ c. IfSome (S.held store.old) (λ files. IsSomeAnd (files name.now) (λ bytes. HoldsController bytes c))) }
-    ensures one { IfOk result (λ c. IfSome (S.held store.old) (λ files. IsSomeAnd (files name.now) (λ bytes. (d : Numbers) → IsControllerText bytes d → c ≡ d))) }
     ensures unbuilt { IsErrOf result (Status.Unbuilt 1) → IfSome (S.held store.old) (λ files. IsSomeAnd (files name.now) NoController) }
     ensures failed { IsErrOf result (Status.ReadFault 1) → Rose (S.read_faults store.old name.now) (S.read_faults store.new name.now) }
     ensures only { IfErr result (λ e. (e ≡ Status.Memory) ⊎ (e ≡ Status.ReadFault 1) ⊎ (e ≡ Status.Unbuilt 1)) }
@@ -45,10 +42,10 @@ pub fn controller_in<S: Store>(alloc: Global, name: &str, store: &mut S) -> Resu
 
 // The numbers of the state under a name, or the status that ends the run.
 pub fn state_in<S: Store>(alloc: Global, name: &str, n: usize, store: &mut S) -> Result<Vec<i128>, Status>
-    ensures ok { IfOk result (λ xi. IfSome (S.held store.old) (λ files. IsSomeAnd (files name.now) (λ bytes. (length bytes ≤ file_limit) × IsStateText n bytes xi.items))) }
+    requires { 1 ≤ n }
+    ensures ok { IfOk result (λ xi. IfSome (S.held store.old) (λ files. IsSomeAnd (files name.now) (λ bytes. HasText n bytes xi.items))) }
     ensures count { IfOk result (λ xi. length xi.items ≡ n) }
-    ensures one { IfOk result (λ xi. IfSome (S.held store.old) (λ files. IsSomeAnd (files name.now) (λ bytes. (xs : List ℤ) → IsStateText n bytes xs → xi.items ≡ xs))) }
-    ensures unbuilt { IsErrOf result (Status.Unbuilt 2) → IfSome (S.held store.old) (λ files. IsSomeAnd (files name.now) (λ bytes. (file_limit < length bytes) ⊎ ((xi : List ℤ) → ¬ IsStateText n bytes xi))) }
+    ensures unbuilt { IsErrOf result (Status.Unbuilt 2) → IfSome (S.held store.old) (λ files. IsSomeAnd (files name.now) (LacksText n)) }
     ensures failed { IsErrOf result (Status.ReadFault 2) → Rose (S.read_faults store.old name.now) (S.read_faults store.new name.now) }
     ensures only { IfErr result (λ e. (e ≡ Status.Memory) ⊎ (e ≡ Status.ReadFault 2) ⊎ (e ≡ Status.Unbuilt 2)) }
     ensures held { S.held store.new ≡ S.held store.old }
@@ -79,4 +76,35 @@ pub fn line_from(alloc: Global, controller: &Controller, state: &[i128]) -> Resu
         return Ok(None);
     }
     Ok(Some(plan_line(alloc, &kernel)?))
+}
+
+// The line of the averaged plan from the state under a name, or the status that ends the run.
+pub fn line_at<S: Store>(alloc: Global, controller: &Controller, name: &str, store: &mut S) -> Result<Vec<u8>, Status>
+    ensures ok { IfOk result (λ line. IfSome (S.held store.old) (λ files. IsSomeAnd (files name.now) (HoldsLine controller.now line.items))) }
+    ensures unbuilt { IsErrOf result (Status.Unbuilt 2) → IfSome (S.held store.old) (λ files. IsSomeAnd (files name.now) (NoState controller.now)) }
+    ensures failed { IsErrOf result (Status.ReadFault 2) → Rose (S.read_faults store.old name.now) (S.read_faults store.new name.now) }
+    ensures only { IfErr result (λ e. (e ≡ Status.Memory) ⊎ (e ≡ Status.ReadFault 2) ⊎ (e ≡ Status.Unbuilt 2)) }
+    ensures held { S.held store.new ≡ S.held store.old }
+    ensures reads { NoneFalls (S.read_faults store.old) (S.read_faults store.new) }
+    ensures writes { NoneFalls (S.write_faults store.old) (S.write_faults store.new) }
+{
+    let state = state_in(alloc, name, controller.parts().n, store)?;
+    match line_from(alloc, controller, &state) {
+        Ok(Some(line)) => Ok(line),
+        Ok(None) => Err(Status::Unbuilt { part: 2 }),
+        Err(_) => Err(Status::Memory),
+    }
+}
+
+// The line of the averaged plan of the controller and the state under two names, or the status that ends the run.
+pub fn line_for<S: Store>(alloc: Global, first: &str, second: &str, store: &mut S) -> Result<Vec<u8>, Status>
+    ensures ok { IfOk result (λ line. IfSome (S.held store.old) (λ files. HoldsPlan files first.now second.now line.items)) }
+    ensures refused { IfErr result (λ e. IfSome (S.held store.old) (λ files. Refuses files first.now second.now e)) }
+    ensures no_write { (file : ℕ) → ¬ IsErrOf result (Status.WriteFault file) }
+    ensures read_fault { (file : ℕ) → IsErrOf result (Status.ReadFault file) → ((file ≡ 1) × Rose (S.read_faults store.old first.now) (S.read_faults store.new first.now)) ⊎ ((file ≡ 2) × Rose (S.read_faults store.old second.now) (S.read_faults store.new second.now)) }
+    ensures held { S.held store.new ≡ S.held store.old }
+    ensures writes { NoneFalls (S.write_faults store.old) (S.write_faults store.new) }
+{
+    let controller = controller_in(alloc, first, store)?;
+    line_at(alloc, &controller, second, store)
 }
