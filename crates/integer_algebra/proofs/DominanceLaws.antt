@@ -1,9 +1,8 @@
 -- The other entries of a row.
-use Rattle.std.proofs.Common.{◌≡◌, ℕ, zero, suc, ◌<◌, Bool, true, false, nat_eq, if◌then◌else◌, ℤ, pos, ◌+ℤ◌, ◌-ℤ◌, unsigned_abs, arith, ap, sym, ◌∙◌, refl}
+use Rattle.std.proofs.Common.{◌≡◌, ℕ, ◌<◌, Bool, true, false, nat_eq, if◌then◌else◌, ℤ, pos, ◌+ℤ◌, unsigned_abs, arith, ap, sym, ◌∙◌}
 use Rattle.std.proofs.lemmas.Int.{ints}
 use Rattle.integer_algebra.specs.Bounds.{absolute}
-use Rattle.integer_algebra.specs.Sums.{total}
-use Rattle.integer_algebra.specs.Sizes.{amount, size}
+use Rattle.integer_algebra.specs.Sizes.{size}
 use Rattle.integer_algebra.specs.Matrices.{weight, others}
 use Rattle.integer_algebra.proofs.SumLaws.{total_same, total_add}
 use Rattle.integer_algebra.proofs.BlockLaws.{total_single}
