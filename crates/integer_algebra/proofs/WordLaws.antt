@@ -9,6 +9,7 @@ use Rattle.integer_algebra.proofs.MachineLaws.{machine_is}
 abbrev limits : List Interval
 limits = let word = all_of w64 in word ∷ word ∷ word ∷ word ∷ []
 
+-- they lie there
 bounds : (a b c d : ℤ) → SFits w64 a → SFits w64 b → SFits w64 c → SFits w64 d → Bounded (a ∷ b ∷ c ∷ d ∷ []) limits
 bounds a b c d h k l m = (all_by_fits w64 a h, (all_by_fits w64 b k, (all_by_fits w64 c l, (all_by_fits w64 d m, tt))))
 
