@@ -14,7 +14,7 @@ pub lagrange : (a b c d e f : ℤ) →
     square (a *ℤ d +ℤ b *ℤ e +ℤ c *ℤ f) +ℤ (square (a *ℤ e -ℤ b *ℤ d) +ℤ square (a *ℤ f -ℤ c *ℤ d) +ℤ square (b *ℤ f -ℤ c *ℤ e))
 lagrange a b c d e f = by_ring (a ∷ b ∷ c ∷ d ∷ e ∷ f ∷ []) (search quotes depth 60 fits 20000) refl
 
--- the square of a scalar product in three coordinates
+-- the square of a scalar product in three coordinates is at most the product of the squares: by three squares as hints
 pub cauchy_three : (a b c d e f : ℤ) →
     square (a *ℤ d +ℤ b *ℤ e +ℤ c *ℤ f) ≤ℤ ((square a +ℤ square b +ℤ square c) *ℤ (square d +ℤ square e +ℤ square f))
 cauchy_three a b c d e f =
@@ -22,7 +22,7 @@ cauchy_three a b c d e f =
     le_by_omega ρ (search quotes depth 60 fits 20000)
     (omega (arith, square_hint ρ (v 0 ⊗ v 4 ⊖ v 1 ⊗ v 3), square_hint ρ (v 0 ⊗ v 5 ⊖ v 2 ⊗ v 3), square_hint ρ (v 1 ⊗ v 5 ⊖ v 2 ⊗ v 4)))
 
--- in n coordinates
+-- the square of a scalar product in n coordinates is at most the product of the squares (Cauchy and Schwarz)
 pub cauchy : (n : ℕ) (f g : ℕ → ℤ) → square (dot n f g) ≤ℤ (dot n f f *ℤ dot n g g)
 cauchy zero f g = omega (arith, ints)
 cauchy (suc n) f g =
