@@ -16,20 +16,25 @@ quarter x r e h =
     let front : (2 * x + r) / 2 ≡ x = omega arith in
     sym (div-div-eq-div-mul (2 * x + r) 2 (2 * e)) ∙ ap (λ (y : ℕ). y / (2 * e)) front
 
+-- a quotient and a half, rounded down
 half_of_more : (a e : ℕ) → 0 < e → (a + e) / (2 * e) ≡ (a / e + 1) / 2
 half_of_more a e h =
     let swap : 2 * e ≡ e * 2 = omega arith in
     ap (λ (y : ℕ). (a + e) / y) swap ∙ sym (div-div-eq-div-mul (a + e) e 2) ∙ ap (λ (y : ℕ). y / 2) (add-div_right a h)
 
+-- a quotient below 1
 below : (a e : ℕ) → a < e → a / e ≡ 0
 below a e h = grind arith
 
+-- the rounded quotient, where twice the number and the divisor are not negative together
 at_sum : (z : ℤ) (e n r : ℕ) → r < 2 → pos 2 *ℤ z +ℤ pos (2 * e) ≡ pos (2 * n + r) → round_of z (2 * e) ≡ pos (n / (2 * e))
 at_sum z e n r h is = ap (λ (y : ℤ). floor_of y (2 * (2 * e))) is ∙ ap pos (quarter n r e h)
 
+-- and where they are negative
 at_minus : (z : ℤ) (e n r : ℕ) → r < 2 → pos 2 *ℤ z +ℤ pos (2 * e) ≡ negsuc (2 * n + r) → round_of z (2 * e) ≡ negsuc (n / (2 * e))
 at_minus z e n r h is = ap (λ (y : ℤ). floor_of y (2 * (2 * e))) is ∙ ap negsuc (quarter n r e h)
 
+-- the floor at half the divisor, less half of itself, rounds at the divisor
 pub half_up : (z : ℤ) (e : ℕ) → 0 < e → floor_of z e -ℤ floor_of (floor_of z e) 2 ≡ round_of z (2 * e)
 half_up (pos a) e h =
     let right = at_sum (pos a) e (a + e) 0 (omega arith) (omega (arith, ints)) in
@@ -55,13 +60,16 @@ half_up (negsuc a) e h =
           left ∙ ap negsuc (sym middle) ∙ sym right
     ]
 
+-- a floor fits where the number does
 pub floor_fits : (z : ℤ) (d : ℕ) → FitsSigned w128 z → FitsSigned w128 (floor_of z d)
 floor_fits z d h = record { sfits = omega (arith, mag_shr z d, h.sfits) }
 
+-- and so does what is left of a number without its half
 pub half_up_fits : (z : ℤ) → FitsSigned w128 z → FitsSigned w128 (z -ℤ floor_of z 2)
 half_up_fits (pos a) h = omega (arith, ints)
 half_up_fits (negsuc a) h = omega (arith, ints)
 
+-- a power of two from the one below it
 pub twice_pow : (k : ℕ) → 0 < k → 2 * 2 ^ (k - 1) ≡ 2 ^ k
 twice_pow zero h = absurd (omega arith)
 twice_pow (suc k) h = let e : suc k - 1 ≡ k = omega arith in rw e (sym (pow-succ' 2 k))
@@ -106,6 +114,7 @@ pub rounded_down : (z b q r : ℤ) → pos 1 ≤ℤ b → q ≡ floor_of z (unsi
 rounded_down z (pos d) q r p e f h k = nearest_down z q r d (omega (arith, ints)) (rw (e, f) (quotient_rest z d (omega (arith, ints)))) h k
 rounded_down z (negsuc d) q r p e f h k = absurd p.le
 
+-- and where the rest is not below half of it
 pub rounded_up : (z b q r : ℤ) → pos 1 ≤ℤ b → q ≡ floor_of z (unsigned_abs b) → r ≡ int_rem_euclid z b → r <ℤ b → (b -ℤ r) ≤ℤ r → q +ℤ pos 1 ≡ round_of z (unsigned_abs b)
 rounded_up z (pos d) q r p e f h k = nearest_up z q r d (omega (arith, ints)) (rw (e, f) (quotient_rest z d (omega (arith, ints)))) h k
 rounded_up z (negsuc d) q r p e f h k = absurd p.le

@@ -6,8 +6,8 @@ ghost use Rattle.integer_algebra.specs.Division.{floor_of};
 
 use crate::{floor_div, shift_left};
 
-/// A numerator over a denominator that is at least 1. It isn't reduced.
-#[derive(Clone, Copy, Debug)]
+/// A numerator over a denominator that is at least 1. It isn't reduced, and `==` compares the two numbers.
+#[derive(Clone, Copy, Debug, PartialEq, Eq)]
 pub struct Frac {
     pub num: i128,
     pub den: i128,

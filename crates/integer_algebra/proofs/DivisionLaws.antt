@@ -14,18 +14,18 @@ use Rattle.integer_algebra.proofs.Quoting.{by_ring, quotes}
 pub le-mul-ceil_div : (a b : ℕ) → 0 < b → a ≤ b * ceil_div a b
 le-mul-ceil_div a b h = omega arith
 
--- and less than a + b
+-- b times the quotient rounded up is less than a + b
 pub mul-ceil_div-lt : (a b : ℕ) → 0 < b → b * ceil_div a b < a + b
 mul-ceil_div-lt a b h = omega arith
 
--- it is the least such number
+-- the quotient rounded up is the least n with a at most b n
 pub ceil_div-le : (a b n : ℕ) → 0 < b → a ≤ b * n → ceil_div a b ≤ n
 ceil_div-le a b n h k =
     let l : a + (b - 1) < (n + 1) * b = omega arith in
     omega (arith, div_below (a + (b - 1)) b (n + 1) h l)
 
 -- ---- integers, rounded down
--- the quotient, as two bounds
+-- the quotient rounded down, as two bounds
 pub floor_of_is : (z : ℤ) (d : ℕ) → 0 < d → IsFloor z d (floor_of z d)
 floor_of_is (pos a) d h = record { least = omega (arith, ints); greatest = omega (arith, ints) }
 floor_of_is (negsuc a) d h = record { least = omega (arith, ints); greatest = rw (next (a / d)) (omega (arith, ints)) }
@@ -43,7 +43,7 @@ floor_least z d q r h k = by_lt_z r q
     clash : (a b z : ℤ) → a ≤ℤ b → b ≤ℤ z → z <ℤ a → ⊥
     clash a b z h k l = omega (arith, ints)
 
--- there is one alone
+-- a number between the two bounds is the quotient rounded down
 pub floor_unique : (z : ℤ) (d : ℕ) (q : ℤ) → 0 < d → IsFloor z d q → q ≡ floor_of z d
 floor_unique z d q p h =
     let k = floor_of_is z d p in
@@ -53,6 +53,7 @@ floor_unique z d q p h =
     same a b h k = omega (arith, ints)
 
 -- ---- rounded up
+-- the quotient rounded up, as two bounds
 pub ceil_of_is : (z : ℤ) (d : ℕ) → 0 < d → IsCeiling z d (ceil_of z d)
 ceil_of_is z d h =
     let k = floor_of_is (neg_ℤ z) d h in
@@ -65,7 +66,7 @@ ceil_of_is z d h =
     turned_below z q e h = lt_by h (by_ring (z ∷ q ∷ e ∷ []) (search quotes depth 60 fits 20000) refl)
 
 -- ---- rounded to the nearest, and a tie upward
--- twice the quotient, as two bounds
+-- twice the quotient rounded to the nearest, as two bounds
 pub round_of_bounds : (z : ℤ) (d : ℕ) → 0 < d →
     ((pos 2 *ℤ (round_of z d *ℤ pos d)) ≤ℤ (pos 2 *ℤ z +ℤ pos d)) ×
     ((pos 2 *ℤ z +ℤ pos d) <ℤ (pos 2 *ℤ (round_of z d *ℤ pos d) +ℤ pos 2 *ℤ pos d))
@@ -80,7 +81,7 @@ round_of_bounds z d h =
       lt_by (rw g at k) (by_ring (x ∷ q ∷ e ∷ []) (search quotes depth 60 fits 20000) refl),
     )
 
--- no whole number is nearer, and none above is as near
+-- no whole number is nearer than the rounded quotient, and none above it is as near
 pub round_of_is : (z : ℤ) (d : ℕ) → 0 < d → IsNearest z d (round_of z d)
 round_of_is z d h =
     let q = round_of z d in

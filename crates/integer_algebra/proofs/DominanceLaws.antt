@@ -1,15 +1,14 @@
 -- The other entries of a row.
-use Rattle.std.proofs.Common.{◌≡◌, ℕ, zero, suc, ◌<◌, Bool, true, false, nat_eq, if◌then◌else◌, ℤ, pos, ◌+ℤ◌, ◌-ℤ◌, unsigned_abs, arith, ap, sym, ◌∙◌, refl}
+use Rattle.std.proofs.Common.{◌≡◌, ℕ, ◌<◌, Bool, true, false, nat_eq, if◌then◌else◌, ℤ, pos, ◌+ℤ◌, unsigned_abs, arith, ap, sym, ◌∙◌}
 use Rattle.std.proofs.lemmas.Int.{ints}
 use Rattle.integer_algebra.specs.Bounds.{absolute}
-use Rattle.integer_algebra.specs.Sums.{total}
-use Rattle.integer_algebra.specs.Sizes.{amount, size}
+use Rattle.integer_algebra.specs.Sizes.{size}
 use Rattle.integer_algebra.specs.Matrices.{weight, others}
 use Rattle.integer_algebra.proofs.SumLaws.{total_same, total_add}
 use Rattle.integer_algebra.proofs.BlockLaws.{total_single}
 use Rattle.integer_algebra.proofs.SizeLaws.{total_amount}
 
--- with the entry on the diagonal they are the whole row
+-- the other entries of a row and the one on the diagonal, in absolute values, are together the size of the row
 pub others_and_own : (n : ℕ) (a : ℕ → ℕ → ℤ) (i : ℕ) → i < n → others n a i +ℤ absolute (a i i) ≡ pos (size n (a i))
 others_and_own n a i h =
     ap (λ (z : ℤ). others n a i +ℤ z) (sym (total_single n i (λ j. absolute (a i j)) h)) ∙

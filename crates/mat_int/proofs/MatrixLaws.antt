@@ -88,9 +88,11 @@ module _ (a b : Matrix) (same : a.cols ≡ b.cols) (even_a : All (λ row. length
 pub entries_same : (h w : ℕ) (f g : ℕ → ℕ → ℤ) (m : Matrix) → ((i j : ℕ) → i < h → j < w → f i j ≡ g i j) → HasEntries h w f m → HasEntries h w g m
 entries_same h w f g m same k = record { rows = k.rows; cols = k.cols; even = k.even; entries = λ i j p q. k.entries i j p q ∙ same i j p q }
 
+-- sums that leave room
 pub fit_same : (h w : ℕ) (f g : ℕ → ℕ → ℕ) → ((i j : ℕ) → i < h → j < w → f i j ≡ g i j) → AllFit h w f → AllFit h w g
 fit_same h w f g same k = λ i j p q. rw (← same i j p q) (k i j p q)
 
+-- and one that doesn't
 pub wide_same : (h w : ℕ) (f g : ℕ → ℕ → ℕ) → ((i j : ℕ) → i < h → j < w → f i j ≡ g i j) → SomeIsWide h w f → SomeIsWide h w g
 wide_same h w f g same k = record {
   row = k.row;
@@ -107,6 +109,7 @@ module _ (b t : Matrix) (h : HasEntries b.cols (length b.rows) (transpose_of b) 
       matrix_product a.cols (entry_of a) (transpose_of t) i j ≡ matrix_product a.cols (entry_of a) (entry_of b) i j
   product_same a e i j q = total_same a.cols _ _ (λ k l. ap (λ (z : ℤ). entry_of a i k *ℤ z) (h.entries j k q (omega (arith, e))))
 
+  -- and its absolute sum
   pub product_size_same : (a : Matrix) → a.cols ≡ length b.rows → (i j : ℕ) → j < b.cols →
       matrix_product_size a.cols (entry_of a) (transpose_of t) i j ≡ matrix_product_size a.cols (entry_of a) (entry_of b) i j
   product_size_same a e i j q =
@@ -116,6 +119,7 @@ module _ (b t : Matrix) (h : HasEntries b.cols (length b.rows) (transpose_of b) 
   pub gram_same : (i j : ℕ) → i < b.cols → j < b.cols → matrix_product t.cols (entry_of t) (transpose_of t) i j ≡ gram (length b.rows) (entry_of b) i j
   gram_same i j p q = rw h.cols (total_same (length b.rows) _ _ (λ l o. ap₂ (λ (x y : ℤ). x *ℤ y) (h.entries i l p o) (h.entries j l q o)))
 
+  -- and its absolute sum
   pub gram_size_same : (i j : ℕ) → i < b.cols → j < b.cols → matrix_product_size t.cols (entry_of t) (transpose_of t) i j ≡ gram_size (length b.rows) (entry_of b) i j
   gram_size_same i j p q =
       rw h.cols (amount_same (length b.rows) _ _ (λ l o. ap₂ (λ (x y : ℤ). unsigned_abs x * unsigned_abs y) (h.entries i l p o) (h.entries j l q o)))

@@ -8,6 +8,7 @@ use thiserror::Error;
 /// Why the product of two matrices is refused.
 #[derive(Clone, Copy, Debug, PartialEq, Eq, Error)]
 pub enum MatFault {
+    /// No memory was left.
     #[error("memory")]
     Memory,
     /// The absolute values that some entry adds up are together above `2^127 - 1`.

@@ -7,7 +7,8 @@ use crate::fault::MatFault;
 use crate::matrix::{Mat, times_vec};
 use std::alloc::Global;
 
-/// The product of two matrices.
+/// The product of two matrices: the rows of `a` by the columns of `b`. Wide where the absolute values of the products that some entry adds up are
+/// together above `2^127 - 1`.
 pub fn mul(alloc: Global, a: &Mat, b: &Mat) -> Result<Mat, MatFault>
     requires { a.now.cols ≡ length b.now.rows }
     ensures value { let n = a.now.cols in
@@ -21,7 +22,7 @@ pub fn mul(alloc: Global, a: &Mat, b: &Mat) -> Result<Mat, MatFault>
     row_products(alloc, a, &columns)
 }
 
-/// The transpose of a matrix times the matrix: the products of its columns.
+/// The transpose of a matrix times the matrix: the products of its columns, by which it is square. Wide as `mul` is.
 pub fn gram(alloc: Global, g: &Mat) -> Result<Mat, MatFault>
     ensures value { let n = length g.now.rows in IfOk result (HasEntries g.now.cols g.now.cols (gram n (entry_of g.now))) }
     ensures fits { let n = length g.now.rows in OnOk result (AllFit g.now.cols g.now.cols (gram_size n (entry_of g.now))) }
