@@ -64,6 +64,7 @@ impl<'a> Kernel<'a> {
         ensures first { IfErr result (λ e. IsFirstOutside self.old.controller state.now e.coordinate) }
         ensures ok { OnOk result (self.new ≡ record self.old { state = state.now; made = 0 }) }
         ensures err { OnErr result (self.new ≡ self.old) }
+        ensures controller { self.new.controller ≡ self.old.controller }
     {
         let c = self.controller.parts();
         if let Some(coordinate) = first_outside(c, state) {
@@ -111,6 +112,7 @@ impl<'a> Kernel<'a> {
         ensures ok { OnOk result (self.new ≡ record self.old { state = state.now; made = self.old.controller.steps }) }
         ensures values { OnOk result (values_of self.new ≡ run_of self.old.controller state.now) }
         ensures err { OnErr result (self.new ≡ self.old) }
+        ensures controller { self.new.controller ≡ self.old.controller }
     {
         self.load(state)?;
         self.finish();

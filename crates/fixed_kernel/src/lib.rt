@@ -8,3 +8,6 @@ mod step;
 
 pub use kernel::Kernel;
 pub use state::OutsideBox;
+
+#[cfg(test)]
+mod tests;

@@ -11,3 +11,6 @@ pub use controller::{BadParts, Controller};
 pub use laws::values_law;
 pub use reach::greatest_sum;
 pub use word_width::width;
+
+#[cfg(test)]
+mod tests;

@@ -1,0 +1,10 @@
+use Rattle.std.proofs.Common.{◌≡◌}
+use Rattle.qp_model.specs.Controller.{plan_length}
+use Rattle.fixed_kernel.proofs.tests.runs.Given as goal
+
+abbrev pub invariant-loop-state : goal.invariant-loop-state
+invariant-loop-state g l = record {
+  states : l.kernel.controller.states ≡ 1;
+  entries : plan_length l.kernel.controller ≡ 1;
+  rows : l.kernel.controller.rows ≡ 3;
+}
