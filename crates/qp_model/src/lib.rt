@@ -3,6 +3,7 @@
 
 mod bounds;
 mod controller_parts;
+mod corner_sizes;
 mod design;
 mod design_parts;
 mod laws;
@@ -14,6 +15,7 @@ mod text_fault;
 
 pub use bounds::{Bounds, Margin};
 pub use controller_parts::ControllerParts;
+pub use corner_sizes::{corner_cost_size, corner_slack_size, policy_reach};
 pub use design::Design;
 pub use design_parts::DesignParts;
 pub use laws::{

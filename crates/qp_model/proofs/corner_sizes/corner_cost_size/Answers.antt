@@ -1,0 +1,15 @@
+use Rattle.qp_model.specs.Policy.{plans_of}
+use Rattle.qp_model.proofs.CornerFacts.{cost_parts}
+use Rattle.qp_model.proofs.corner_sizes.corner_cost_size.Goals as goal
+
+pub returns-in_err-prediction_size : goal.returns-in_err-prediction_size
+returns-in_err-prediction_size c = rw c.from_residual.ensures (λ h. c.in_err-prediction_size.ensures
+    (cost_parts c.args.parts.now (plans_of c.args.policy.now) c.requires.design c.requires.plans h).2)
+
+pub returns-in_err-response : goal.returns-in_err-response
+returns-in_err-response c = rw c.from_residual-in_err-response.ensures (λ h. c.in_err-response.ensures
+    (rw (c.cost_width.ensures, c.in_ok-prediction_size.ensures.1) (cost_parts c.args.parts.now (plans_of c.args.policy.now) c.requires.design c.requires.plans h).1))
+
+pub returns-in_err-row : goal.returns-in_err-row
+returns-in_err-row c = rw c.from_residual-in_err-row.ensures (λ h. c.in_err-row.ensures
+    (rw (c.in_ok-response.ensures.1, c.cost_width.ensures, c.in_ok-prediction_size.ensures.1, c.policy_reach.ensures) (cost_parts c.args.parts.now (plans_of c.args.policy.now) c.requires.design c.requires.plans h).0))
