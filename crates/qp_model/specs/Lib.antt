@@ -5,6 +5,8 @@ pub mod Cost
 pub mod Residual
 pub mod Box
 pub mod Parts
+pub mod Rules
+pub mod PartRules
 pub mod Condensed
 pub mod Curvature
 pub mod GoodSolution

@@ -5,8 +5,11 @@ mod bounds;
 mod controller_parts;
 mod design;
 mod design_parts;
+mod part_rules;
 mod policy;
 mod quantity;
+pub mod range;
+pub mod rules;
 mod text_fault;
 
 pub use bounds::{Bounds, Margin};
