@@ -7,6 +7,10 @@ pub record Rule : Type 1 where
   pub holds : Type 0
   pub fault : TextFault
 
+-- the key of a place stands there; place 0 stands for keys that are none of a design text's
+abbrev pub key : ℕ → Type 0 → Rule
+key place holds = record { holds = holds; fault = Key place }
+
 -- what stands at a place has its shape, and its numbers lie in their range
 abbrev pub shape : ℕ → Type 0 → Rule
 shape place holds = record { holds = holds; fault = Shape place }

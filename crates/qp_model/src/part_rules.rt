@@ -5,7 +5,8 @@ ghost use Rattle.qp_model.specs.PartRules.{HasSize, size_rules, plant_rules, cos
 
 use crate::design_parts::DesignParts;
 use crate::range::{
-    are_costs, are_highs, are_numerators, are_positive, has_numerators, is_denominator, is_positive,
+    are_costs, are_highs, are_numerators, are_positive, has_numerators, is_denominator,
+    is_positive, lies_in,
 };
 use crate::rules::{in_range, in_shape};
 use crate::text_fault::TextFault;
@@ -27,15 +28,15 @@ pub fn test_parts(p: &DesignParts) -> Result<(), TextFault>
 fn has_size(m: &Mat, low: usize, high: usize, width: usize) -> bool
     ensures { IsTrue result ↔ HasSize m.now low high width }
 {
-    low <= m.rows() && m.rows() <= high && m.cols() == width
+    lies_in(low, high, m.rows()) && m.cols() == width
 }
 
 fn test_sizes(p: &DesignParts) -> Result<(), TextFault>
     ensures { Tests result (size_rules p.now) }
 {
-    in_range(2, 1 <= p.states && p.states <= 4)?;
-    in_range(3, 1 <= p.inputs && p.inputs <= 3)?;
-    in_range(4, 1 <= p.stages && p.stages <= 20)
+    in_range(2, lies_in(1, 4, p.states))?;
+    in_range(3, lies_in(1, 3, p.inputs))?;
+    in_range(4, lies_in(1, 20, p.stages))
 }
 
 fn test_plant(p: &DesignParts) -> Result<(), TextFault>

@@ -2,10 +2,17 @@
 ghost use Rattle.std.specs.Prelude.{◌≡◌, ◌<◌, ℕ, ◌≤ℤ◌, pos, ◌↔◌, IsTrue, All, length};
 ghost use Rattle.integer_algebra.specs.Sums.{at};
 ghost use Rattle.mat_int.specs.Matrix.{entry_of};
-ghost use Rattle.qp_model.specs.Range.{IsNumerator, IsDenominator, IsPositive};
+ghost use Rattle.qp_model.specs.Range.{LiesIn, IsNumerator, IsDenominator, IsPositive};
 ghost use Rattle.qp_model.specs.PartRules.{AreCosts, AreHighs};
 
 use mat_int::Mat;
+
+/// Whether a number lies from low to high.
+pub fn lies_in(low: usize, high: usize, n: usize) -> bool
+    ensures { IsTrue result ↔ LiesIn low high n }
+{
+    low <= n && n <= high
+}
 
 /// Whether a number lies in -2147483647 .. 2147483647.
 pub fn is_numerator(z: i128) -> bool
