@@ -8,7 +8,7 @@ use Rattle.qp_model.specs.declared.text_fault.TextFault.{TextFault}
 use Rattle.qp_model.specs.declared.text_fault.TextFault.TheVariants.{NotToml, Memory}
 use Rattle.design_files.specs.Document.{document_of}
 use Rattle.design_files.specs.Numbers.{number_in, list_in, lists_in}
-use Rattle.design_files.specs.Values.{Values, values_of, HasNoFurtherKey}
+use Rattle.design_files.specs.Values.{Values, values_of, further_keys}
 use Rattle.design_files.specs.Places.{key_rules, place_rules}
 
 -- the values are the numbers p
@@ -38,7 +38,7 @@ pub record HasNumbers (v : Values) (p : DesignParts) : Type 0 where
 -- a document with the keys of a design text and no further one, whose numbers are a design's, p
 pub record IsDesignDocument (p : DesignParts) (document : Members) : Type 0 where
   pub numbers : HasNumbers (values_of document) p
-  pub keys : HasNoFurtherKey document
+  pub keys : AllHold (further_keys document)
   pub design : IsDesign p
 
 abbrev pub IsDesignText : List ℕ → DesignParts → Type 0

@@ -1,5 +1,6 @@
 pub mod Document
 pub mod Numbers
 pub mod Values
+pub mod Keys
 pub mod Places
 pub mod DesignText

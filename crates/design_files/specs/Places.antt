@@ -2,10 +2,10 @@
 use Rattle.std.specs.Prelude.{ℕ, ◌+◌, ℤ, pos, ◌≤ℤ◌, List, [], ◌∷◌, ◌++◌, All, Option}
 use Rattle.toml.specs.Data.{Data, Members}
 use Rattle.qp_model.specs.Range.{IsDenominator, IsNumerator, IsPositive}
-use Rattle.qp_model.specs.Rules.{Rule, shape, range, key}
+use Rattle.qp_model.specs.Rules.{Rule, shape, range}
 use Rattle.qp_model.specs.PartRules.{AreCosts, AreLimits, AreHighs}
 use Rattle.design_files.specs.Numbers.{IsNumber, IsList, IsLists, number_of, count_of, list_of, lists_of}
-use Rattle.design_files.specs.Values.{Values, values_of, HasNoFurtherKey, top_keys, plant_keys, cost_keys, limit_keys, box_keys, target_keys}
+use Rattle.design_files.specs.Values.{Values, values_of, top_keys, plant_keys, cost_keys, limit_keys, box_keys, target_keys, further_keys}
 
 -- an integer from low to high
 abbrev pub count_rules : ℕ → ℕ → ℕ → Option Data → List Rule
@@ -80,4 +80,4 @@ place_rules v =
 unfoldable pub key_rules : Members → List Rule
 key_rules document =
     let v = values_of document in
-    top_keys v ++ (plant_keys v ++ (cost_keys v ++ (limit_keys v ++ (box_keys v ++ (target_keys v ++ (key 0 (HasNoFurtherKey document) ∷ []))))))
+    top_keys v ++ (plant_keys v ++ (cost_keys v ++ (limit_keys v ++ (box_keys v ++ (target_keys v ++ further_keys document)))))

@@ -1,5 +1,5 @@
 -- The keys of a design text, in the order of their places, and the values that stand there.
-use Rattle.std.specs.Prelude.{ℕ, List, [], ◌∷◌, codes, Contains, Option, IsSome, IfSome}
+use Rattle.std.specs.Prelude.{ℕ, List, [], ◌∷◌, codes, All, Contains, Option, IsSome, IfSome}
 use Rattle.toml.specs.Data.{Data, Members, no_members, member, get_member}
 use Rattle.qp_model.specs.Rules.{Rule, key}
 use Rattle.design_files.specs.Document.{table_at, value_at}
@@ -52,19 +52,24 @@ values_of document = record {
   gap = value_at (codes "targets") (codes "gap") document;
 }
 
+abbrev pub keys_of : Members → List (List ℕ)
+keys_of no_members = []
+keys_of (member name value members) = name ∷ keys_of members
+
 -- each key is one of the names
 abbrev pub HasOnly : List (List ℕ) → Members → Type 0
-HasOnly names no_members = Unit {0}
-HasOnly names (member name value members) = Contains names name × HasOnly names members
+HasOnly names members = All (Contains names) (keys_of members)
 
--- no further key stands at the top, or in one of the five tables
-pub record HasNoFurtherKey (document : Members) : Type 0 where
-  pub top : HasOnly (codes "version" ∷ codes "states" ∷ codes "inputs" ∷ codes "stages" ∷ codes "plant" ∷ codes "cost" ∷ codes "limits" ∷ codes "box" ∷ codes "targets" ∷ []) document
-  pub plant : IfSome (table_at (codes "plant") document) (HasOnly (codes "den" ∷ codes "a" ∷ codes "b" ∷ []))
-  pub cost : IfSome (table_at (codes "cost") document) (HasOnly (codes "den" ∷ codes "row_den" ∷ codes "input" ∷ codes "stage" ∷ codes "final" ∷ []))
-  pub limits : IfSome (table_at (codes "limits") document) (HasOnly (codes "den" ∷ codes "stage" ∷ codes "final" ∷ []))
-  pub box : IfSome (table_at (codes "box") document) (HasOnly (codes "grid" ∷ codes "lo" ∷ codes "hi" ∷ []))
-  pub targets : IfSome (table_at (codes "targets") document) (HasOnly (codes "den" ∷ codes "violation" ∷ codes "gap" ∷ []))
+-- no further key stands at the top, and none in one of the five tables
+abbrev pub further_keys : Members → List Rule
+further_keys document =
+    key 0 (HasOnly (codes "version" ∷ codes "states" ∷ codes "inputs" ∷ codes "stages" ∷ codes "plant" ∷ codes "cost" ∷ codes "limits" ∷ codes "box" ∷ codes "targets" ∷ []) document)
+    ∷ key 0 (IfSome (table_at (codes "plant") document) (HasOnly (codes "den" ∷ codes "a" ∷ codes "b" ∷ [])))
+    ∷ key 0 (IfSome (table_at (codes "cost") document) (HasOnly (codes "den" ∷ codes "row_den" ∷ codes "input" ∷ codes "stage" ∷ codes "final" ∷ [])))
+    ∷ key 0 (IfSome (table_at (codes "limits") document) (HasOnly (codes "den" ∷ codes "stage" ∷ codes "final" ∷ [])))
+    ∷ key 0 (IfSome (table_at (codes "box") document) (HasOnly (codes "grid" ∷ codes "lo" ∷ codes "hi" ∷ [])))
+    ∷ key 0 (IfSome (table_at (codes "targets") document) (HasOnly (codes "den" ∷ codes "violation" ∷ codes "gap" ∷ [])))
+    ∷ []
 
 -- ---- that all stand there, by tables
 abbrev pub top_keys : Values → List Rule

@@ -1,4 +1,17 @@
 //! The values at a design text's keys.
+ghost use Rattle.std.specs.Prelude.{◌≡◌, ◌↔◌, Some, None, IfOk, OnOk, IfErr, IsTrue, map, string_bytes};
+ghost use Rattle.std.specs.List.{list_any, list_all};
+ghost use Rattle.std.specs.Str.{bytes_eq};
+ghost use Rattle.std.specs.BTreeMap.{keys};
+ghost use Rattle.toml.specs.Data.{get_member};
+ghost use Rattle.toml.specs.View.{view, table_view};
+ghost use Rattle.qp_model.specs.Rules.{Tests};
+ghost use Rattle.design_files.specs.Document.{table_at};
+ghost use Rattle.design_files.specs.Values.{values_of, HasOnly, top_keys, plant_keys, cost_keys, limit_keys, box_keys, target_keys, further_keys};
+ghost use Rattle.design_files.specs.Keys.{seen, AreTop, ArePlant, AreCost, AreLimits, AreBox, AreTargets};
+ghost use Rattle.design_files.specs.Places.{key_rules};
+ghost use Rattle.design_files.specs.DesignText.{Reads};
+
 use qp_model::TextFault;
 use toml::{Table, Value};
 
@@ -64,111 +77,165 @@ pub struct TargetsKeys<'a> {
 }
 
 /// The values at all keys, where all stand there and no further one.
-pub fn find_keys(document: &Table) -> Result<Keys<'_>, TextFault> {
+pub fn find_keys(document: &Table) -> Result<Keys<'_>, TextFault>
+    ensures { Reads result (λ keys. values_of (table_view document.now) ≡ seen keys) (key_rules (table_view document.now)) }
+{
     let keys = Keys {
-        top: top_keys(document)?,
-        plant: plant_keys(document)?,
-        cost: cost_keys(document)?,
-        limits: limits_keys(document)?,
-        box_: box_keys(document)?,
-        targets: targets_keys(document)?,
+        top: find_top_keys(document)?,
+        plant: find_plant_keys(document)?,
+        cost: find_cost_keys(document)?,
+        limits: find_limits_keys(document)?,
+        box_: find_box_keys(document)?,
+        targets: find_targets_keys(document)?,
     };
-    if has_further_key(document, &keys) {
-        return Err(TextFault::Key { place: 0 });
-    }
+    refuse_further_keys(document, &keys)?;
     Ok(keys)
 }
 
-fn top_keys(document: &Table) -> Result<TopKeys<'_>, TextFault> {
+fn find_top_keys(document: &Table) -> Result<TopKeys<'_>, TextFault>
+    ensures { let seen = table_view document.now in Reads result (AreTop seen) (top_keys (values_of seen)) }
+{
     Ok(TopKeys {
-        version: value_at(1, document, "version")?,
-        states: value_at(2, document, "states")?,
-        inputs: value_at(3, document, "inputs")?,
-        stages: value_at(4, document, "stages")?,
+        version: find_value(1, document, "version")?,
+        states: find_value(2, document, "states")?,
+        inputs: find_value(3, document, "inputs")?,
+        stages: find_value(4, document, "stages")?,
     })
 }
 
-fn plant_keys(document: &Table) -> Result<PlantKeys<'_>, TextFault> {
-    let table = table_at(5, document, "plant")?;
+fn find_plant_keys(document: &Table) -> Result<PlantKeys<'_>, TextFault>
+    ensures { let seen = table_view document.now in Reads result (ArePlant seen) (plant_keys (values_of seen)) }
+{
+    let table = find_table(5, document, "plant")?;
     Ok(PlantKeys {
         table,
-        den: value_at(5, table, "den")?,
-        a: value_at(6, table, "a")?,
-        b: value_at(7, table, "b")?,
+        den: find_value(5, table, "den")?,
+        a: find_value(6, table, "a")?,
+        b: find_value(7, table, "b")?,
     })
 }
 
-fn cost_keys(document: &Table) -> Result<CostKeys<'_>, TextFault> {
-    let table = table_at(8, document, "cost")?;
+fn find_cost_keys(document: &Table) -> Result<CostKeys<'_>, TextFault>
+    ensures { let seen = table_view document.now in Reads result (AreCost seen) (cost_keys (values_of seen)) }
+{
+    let table = find_table(8, document, "cost")?;
     Ok(CostKeys {
         table,
-        den: value_at(8, table, "den")?,
-        row_den: value_at(9, table, "row_den")?,
-        input: value_at(10, table, "input")?,
-        stage: value_at(11, table, "stage")?,
-        final_: value_at(12, table, "final")?,
+        den: find_value(8, table, "den")?,
+        row_den: find_value(9, table, "row_den")?,
+        input: find_value(10, table, "input")?,
+        stage: find_value(11, table, "stage")?,
+        final_: find_value(12, table, "final")?,
     })
 }
 
-fn limits_keys(document: &Table) -> Result<LimitsKeys<'_>, TextFault> {
-    let table = table_at(13, document, "limits")?;
+fn find_limits_keys(document: &Table) -> Result<LimitsKeys<'_>, TextFault>
+    ensures { let seen = table_view document.now in Reads result (AreLimits seen) (limit_keys (values_of seen)) }
+{
+    let table = find_table(13, document, "limits")?;
     Ok(LimitsKeys {
         table,
-        den: value_at(13, table, "den")?,
-        stage: value_at(14, table, "stage")?,
-        final_: value_at(15, table, "final")?,
+        den: find_value(13, table, "den")?,
+        stage: find_value(14, table, "stage")?,
+        final_: find_value(15, table, "final")?,
     })
 }
 
-fn box_keys(document: &Table) -> Result<BoxKeys<'_>, TextFault> {
-    let table = table_at(16, document, "box")?;
+fn find_box_keys(document: &Table) -> Result<BoxKeys<'_>, TextFault>
+    ensures { let seen = table_view document.now in Reads result (AreBox seen) (box_keys (values_of seen)) }
+{
+    let table = find_table(16, document, "box")?;
     Ok(BoxKeys {
         table,
-        grid: value_at(16, table, "grid")?,
-        lo: value_at(17, table, "lo")?,
-        hi: value_at(18, table, "hi")?,
+        grid: find_value(16, table, "grid")?,
+        lo: find_value(17, table, "lo")?,
+        hi: find_value(18, table, "hi")?,
     })
 }
 
-fn targets_keys(document: &Table) -> Result<TargetsKeys<'_>, TextFault> {
-    let table = table_at(19, document, "targets")?;
+fn find_targets_keys(document: &Table) -> Result<TargetsKeys<'_>, TextFault>
+    ensures { let seen = table_view document.now in Reads result (AreTargets seen) (target_keys (values_of seen)) }
+{
+    let table = find_table(19, document, "targets")?;
     Ok(TargetsKeys {
         table,
-        den: value_at(19, table, "den")?,
-        violation: value_at(20, table, "violation")?,
-        gap: value_at(21, table, "gap")?,
+        den: find_value(19, table, "den")?,
+        violation: find_value(20, table, "violation")?,
+        gap: find_value(21, table, "gap")?,
     })
 }
 
 // The table of a name, or the fault of the first key in it.
-fn table_at<'a>(place: u32, document: &'a Table, name: &str) -> Result<&'a Table, TextFault> {
-    match document.get(name) {
-        Some(value) => value.as_table().ok_or(TextFault::Key { place }),
+fn find_table<'a>(place: u32, document: &'a Table, name: &str) -> Result<&'a Table, TextFault>
+    ensures ok { IfOk result (λ table. table_at name.now (table_view document.now) ≡ Some (table_view table.now)) }
+    ensures err { IfErr result (λ fault. (fault ≡ TextFault.Key place) × (table_at name.now (table_view document.now) ≡ None)) }
+{
+    match find_value(place, document, name)?.as_table() {
+        Some(table) => Ok(table),
         None => Err(TextFault::Key { place }),
     }
 }
 
-fn value_at<'a>(place: u32, table: &'a Table, key: &str) -> Result<&'a Value, TextFault> {
-    table.get(key).ok_or(TextFault::Key { place })
+// The value at a key of a table.
+fn find_value<'a>(place: u32, table: &'a Table, key: &str) -> Result<&'a Value, TextFault>
+    ensures ok { IfOk result (λ value. get_member key.now (table_view table.now) ≡ Some (view value.now)) }
+    ensures err { IfErr result (λ fault. (fault ≡ TextFault.Key place) × (get_member key.now (table_view table.now) ≡ None)) }
+{
+    match table.get(key) {
+        Some(value) => Ok(value),
+        None => Err(TextFault::Key { place }),
+    }
 }
 
-fn has_further_key(document: &Table, keys: &Keys) -> bool {
-    !(has_only(
-        document,
-        &[
-            "version", "states", "inputs", "stages", "plant", "cost", "limits", "box", "targets",
-        ],
-    ) && has_only(keys.plant.table, &["den", "a", "b"])
-        && has_only(
-            keys.cost.table,
-            &["den", "row_den", "input", "stage", "final"],
-        )
-        && has_only(keys.limits.table, &["den", "stage", "final"])
-        && has_only(keys.box_.table, &["grid", "lo", "hi"])
-        && has_only(keys.targets.table, &["den", "violation", "gap"]))
+// The fault where a further key stands at the top, or in one of the tables.
+fn refuse_further_keys(document: &Table, keys: &Keys) -> Result<(), TextFault>
+    requires plant { ArePlant (table_view document.now) keys.now.plant }
+    requires cost { AreCost (table_view document.now) keys.now.cost }
+    requires limits { AreLimits (table_view document.now) keys.now.limits }
+    requires box_ { AreBox (table_view document.now) keys.now.box_ }
+    requires targets { AreTargets (table_view document.now) keys.now.targets }
+    ensures { Tests result (further_keys (table_view document.now)) }
+{
+    let top = [
+        "version", "states", "inputs", "stages", "plant", "cost", "limits", "box", "targets",
+    ];
+    let cost = ["den", "row_den", "input", "stage", "final"];
+    refuse_others(document, &top)?;
+    refuse_others(keys.plant.table, &["den", "a", "b"])?;
+    refuse_others(keys.cost.table, &cost)?;
+    refuse_others(keys.limits.table, &["den", "stage", "final"])?;
+    refuse_others(keys.box_.table, &["grid", "lo", "hi"])?;
+    refuse_others(keys.targets.table, &["den", "violation", "gap"])
+}
+
+// The fault where a key of the table is none of these.
+fn refuse_others(table: &Table, names: &[&str]) -> Result<(), TextFault>
+    ensures ok { OnOk result (HasOnly (map (λ name. name.now) names.now) (table_view table.now)) }
+    ensures err { IfErr result (λ fault. (fault ≡ TextFault.Key 0)
+        × ¬ HasOnly (map (λ name. name.now) names.now) (table_view table.now)) }
+{
+    if has_only(table, names) {
+        Ok(())
+    } else {
+        Err(TextFault::Key { place: 0 })
+    }
 }
 
 // Whether each key of a table is one of these.
-fn has_only(table: &Table, keys: &[&str]) -> bool {
-    table.keys().all(|key| keys.contains(&key.as_str()))
+fn has_only(table: &Table, names: &[&str]) -> bool
+    ensures { IsTrue result ↔ HasOnly (map (λ name. name.now) names.now) (table_view table.now) }
+{
+    are_names(table, names)
+}
+
+fn are_names(table: &Table, names: &[&str]) -> bool
+    ensures { result ≡ list_all (λ key. list_any (λ name. bytes_eq name.now (string_bytes key)) names.now) (keys table.now) }
+{
+    table.keys().all(|key| is_one_of(key.as_str(), names))
+}
+
+fn is_one_of(key: &str, names: &[&str]) -> bool
+    ensures { result ≡ list_any (λ name. bytes_eq name.now key.now) names.now }
+{
+    names.iter().any(|name| *name == key)
 }
