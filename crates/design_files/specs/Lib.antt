@@ -4,3 +4,4 @@ pub mod Values
 pub mod Keys
 pub mod Places
 pub mod DesignText
+pub mod Sections

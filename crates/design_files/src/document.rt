@@ -1,5 +1,5 @@
 //! The TOML document that bytes are.
-ghost use Rattle.std.specs.Prelude.{◌≡◌, ◌≢◌, Some, None, IfOk, IfErr};
+ghost use Rattle.std.specs.Prelude.{◌≡◌, ◌⊎◌, Some, None, IfOk, IfErr};
 ghost use Rattle.toml.specs.View.{table_view};
 ghost use Rattle.design_files.specs.Document.{document_of};
 
@@ -8,10 +8,10 @@ use std::alloc::Global;
 use toml::Table;
 
 /// The document that the bytes are.
-pub fn document(alloc: Global, bytes: &[u8]) -> Result<Table, TextFault>
+pub fn read_document(alloc: Global, bytes: &[u8]) -> Result<Table, TextFault>
     ensures ok { IfOk result (λ t. document_of bytes.now ≡ Some (table_view t)) }
-    ensures err { IfErr result (λ fault. fault ≢ TextFault.Memory
-        → (fault ≡ TextFault.NotToml) × (document_of bytes.now ≡ None)) }
+    ensures err { IfErr result (λ fault. (fault ≡ TextFault.Memory)
+        ⊎ ((fault ≡ TextFault.NotToml) × (document_of bytes.now ≡ None))) }
 {
     let Ok(text) = str::from_utf8(bytes) else {
         return Err(TextFault::NotToml);

@@ -1,20 +1,32 @@
 //! The places of a design text, read in their order.
-use crate::document::document;
+ghost use Rattle.std.specs.Prelude.{◌≡◌, ◌≤◌, ◌+◌, Some, pos};
+ghost use Rattle.toml.specs.View.{view};
+ghost use Rattle.qp_model.specs.Range.{LiesIn};
+ghost use Rattle.qp_model.specs.Parts.{IsDesign};
+ghost use Rattle.design_files.specs.Document.{document_of};
+ghost use Rattle.design_files.specs.Keys.{seen};
+ghost use Rattle.design_files.specs.Places.{count_rules, denominator_rules, positive_rules, table_rules, cost_row_rules, input_rules, final_row_rules, low_rules, high_rules, size_rules, plant_rules, cost_rules, limit_rules, box_rules, target_rules, place_rules};
+ghost use Rattle.design_files.specs.Sections.{HasCount, HasDenominator, HasPositive, HasTable, HasCosts, HasInputs, HasLine, HasSizes, HasPlant, HasCost, HasLimits, HasBox, HasTargets};
+ghost use Rattle.design_files.specs.DesignText.{HasNumbers, Reads};
+
+use crate::document::read_document;
 use crate::keys::{
     BoxKeys, CostKeys, Keys, LimitsKeys, PlantKeys, TargetsKeys, TopKeys, find_keys,
 };
 use crate::numbers::{list, lists, number};
 use mat_int::Mat;
 use qp_model::range::{
-    are_costs, are_highs, are_numerators, are_positive, has_numerators, is_denominator, is_positive,
+    are_costs, are_highs, are_limits, are_numerators, are_positive, has_numerators, is_denominator,
+    is_positive,
 };
 use qp_model::rules::in_range;
 use qp_model::{Design, DesignParts, TextFault};
 use std::alloc::Global;
+use toml::Value;
 
 /// Reads a design text.
 pub fn read_design(alloc: Global, bytes: &[u8]) -> Result<Design, TextFault> {
-    let document = document(alloc, bytes)?;
+    let document = read_document(alloc, bytes)?;
     let keys = find_keys(&document)?;
     Ok(Design::new(read_parts(alloc, &keys)?))
 }
@@ -63,13 +75,15 @@ struct TargetNumbers {
     gap: i128,
 }
 
-fn read_parts(alloc: Global, keys: &Keys) -> Result<DesignParts, TextFault> {
-    let sizes = read_sizes(&keys.top)?;
-    let plant = read_plant(alloc, &keys.plant, sizes.states, sizes.inputs)?;
-    let cost = read_cost(alloc, &keys.cost, sizes.states, sizes.inputs)?;
-    let limits = read_limits(alloc, &keys.limits, sizes.states, sizes.inputs)?;
-    let bounds = read_bounds(alloc, &keys.box_, sizes.states)?;
-    let targets = read_targets(&keys.targets)?;
+fn read_parts(alloc: Global, keys: &Keys) -> Result<DesignParts, TextFault>
+    ensures { let v = seen keys.now in Reads result (λ p. HasNumbers v p × IsDesign p) (place_rules v) }
+{
+    let sizes = read_sizes(keys)?;
+    let plant = read_plant(alloc, keys, sizes.states, sizes.inputs)?;
+    let cost = read_cost(alloc, keys, sizes.states, sizes.inputs)?;
+    let limits = read_limits(alloc, keys, sizes.states, sizes.inputs)?;
+    let bounds = read_box(alloc, keys, sizes.states)?;
+    let targets = read_targets(keys)?;
     Ok(DesignParts {
         states: sizes.states,
         inputs: sizes.inputs,
@@ -94,60 +108,96 @@ fn read_parts(alloc: Global, keys: &Keys) -> Result<DesignParts, TextFault> {
     })
 }
 
-// The number at a place, which lies from low to high.
-fn read_count(place: u32, value: &toml::Value, low: i128, high: i128) -> Result<i128, TextFault> {
+/// The integer at a place that lies from low to high.
+fn read_count(place: u32, value: &Value, low: usize, high: usize) -> Result<usize, TextFault>
+    ensures { let seen = Some (view value.now) in
+        Reads result (HasCount seen low high) (count_rules place low high seen) }
+{
     let z = number(place, value)?;
-    in_range(place, low <= z && z <= high)?;
-    Ok(z)
+    in_range(place, low as i128 <= z && z <= high as i128)?;
+    Ok(z as usize)
 }
 
-fn read_denominator(place: u32, value: &toml::Value) -> Result<i128, TextFault> {
+fn read_denominator(place: u32, value: &Value) -> Result<i128, TextFault>
+    ensures { let seen = Some (view value.now) in
+        Reads result (HasDenominator seen) (denominator_rules place seen) }
+{
     let z = number(place, value)?;
     in_range(place, is_denominator(z))?;
     Ok(z)
 }
 
-fn read_positive(place: u32, value: &toml::Value) -> Result<i128, TextFault> {
+fn read_positive(place: u32, value: &Value) -> Result<i128, TextFault>
+    ensures { let seen = Some (view value.now) in
+        Reads result (HasPositive seen) (positive_rules place seen) }
+{
     let z = number(place, value)?;
     in_range(place, is_positive(z))?;
     Ok(z)
 }
 
-fn read_sizes(keys: &TopKeys) -> Result<Sizes, TextFault> {
-    read_count(1, keys.version, 1, 1)?;
-    Ok(Sizes {
-        states: read_count(2, keys.states, 1, 4)? as usize,
-        inputs: read_count(3, keys.inputs, 1, 3)? as usize,
-        stages: read_count(4, keys.stages, 1, 20)? as usize,
-    })
-}
-
-// A list of lists of numerators.
+// Low to high lists of so many numerators each.
 fn read_table(
     alloc: Global,
     place: u32,
-    value: &toml::Value,
+    value: &Value,
     low: usize,
     high: usize,
     width: usize,
-) -> Result<Mat, TextFault> {
+) -> Result<Mat, TextFault>
+    ensures { let seen = Some (view value.now) in
+        Reads result (HasTable seen low high width) (table_rules place low high width seen) }
+{
     let m = lists(alloc, place, value, low, high, width)?;
     in_range(place, has_numerators(&m))?;
     Ok(m)
 }
 
-fn read_costs(alloc: Global, place: u32, value: &toml::Value, n: usize) -> Result<Mat, TextFault> {
+// Rows of n coefficients, a target and a weight.
+fn read_cost_rows(alloc: Global, place: u32, value: &Value, n: usize) -> Result<Mat, TextFault>
+    requires { n ≤ 4 }
+    ensures { let seen = Some (view value.now) in
+        Reads result (HasCosts seen n) (cost_row_rules place n seen) }
+{
     let m = lists(alloc, place, value, 0, 12, n + 2)?;
     in_range(place, are_costs(&m, n + 1))?;
     Ok(m)
 }
 
-fn read_plant(
-    alloc: Global,
-    keys: &PlantKeys,
-    n: usize,
-    p: usize,
-) -> Result<PlantNumbers, TextFault> {
+fn read_inputs(alloc: Global, value: &Value, p: usize) -> Result<Vec<i128>, TextFault>
+    ensures { let seen = Some (view value.now) in
+        Reads result (λ zs. HasInputs seen p zs.items) (input_rules p seen) }
+{
+    let weights = list(alloc, 10, value, p)?;
+    in_range(10, are_positive(&weights))?;
+    Ok(weights)
+}
+
+fn read_low(alloc: Global, value: &Value, n: usize) -> Result<Vec<i128>, TextFault>
+    ensures { let seen = Some (view value.now) in
+        Reads result (λ zs. HasLine seen n zs.items) (low_rules n seen) }
+{
+    let low = list(alloc, 17, value, n)?;
+    in_range(17, are_numerators(&low))?;
+    Ok(low)
+}
+
+fn read_sizes(keys: &Keys) -> Result<Sizes, TextFault>
+    ensures { let v = seen keys.now in Reads result (HasSizes v) (size_rules v) }
+{
+    let keys = &keys.top;
+    read_count(1, keys.version, 1, 1)?;
+    Ok(Sizes {
+        states: read_count(2, keys.states, 1, 4)?,
+        inputs: read_count(3, keys.inputs, 1, 3)?,
+        stages: read_count(4, keys.stages, 1, 20)?,
+    })
+}
+
+fn read_plant(alloc: Global, keys: &Keys, n: usize, p: usize) -> Result<PlantNumbers, TextFault>
+    ensures { let v = seen keys.now in Reads result (HasPlant v n p) (plant_rules n p v) }
+{
+    let keys = &keys.plant;
     Ok(PlantNumbers {
         den: read_denominator(5, keys.den)?,
         a: read_table(alloc, 6, keys.a, n, n, n)?,
@@ -155,46 +205,48 @@ fn read_plant(
     })
 }
 
-fn read_cost(alloc: Global, keys: &CostKeys, n: usize, p: usize) -> Result<CostNumbers, TextFault> {
-    let den = read_denominator(8, keys.den)?;
-    let row_den = read_denominator(9, keys.row_den)?;
-    let input = list(alloc, 10, keys.input, p)?;
-    in_range(10, are_positive(&input))?;
-    let stage = read_costs(alloc, 11, keys.stage, n)?;
-    let final_ = read_costs(alloc, 12, keys.final_, n)?;
+fn read_cost(alloc: Global, keys: &Keys, n: usize, p: usize) -> Result<CostNumbers, TextFault>
+    requires { n ≤ 4 }
+    ensures { let v = seen keys.now in Reads result (HasCost v n p) (cost_rules n p v) }
+{
+    let keys = &keys.cost;
     Ok(CostNumbers {
-        den,
-        row_den,
-        input,
-        stage,
-        final_,
+        den: read_denominator(8, keys.den)?,
+        row_den: read_denominator(9, keys.row_den)?,
+        input: read_inputs(alloc, keys.input, p)?,
+        stage: read_cost_rows(alloc, 11, keys.stage, n)?,
+        final_: read_cost_rows(alloc, 12, keys.final_, n)?,
     })
 }
 
-fn read_limits(
-    alloc: Global,
-    keys: &LimitsKeys,
-    n: usize,
-    p: usize,
-) -> Result<LimitNumbers, TextFault> {
+fn read_limits(alloc: Global, keys: &Keys, n: usize, p: usize) -> Result<LimitNumbers, TextFault>
+    requires states { n ≤ 4 }
+    requires inputs { p ≤ 3 }
+    ensures { let v = seen keys.now in Reads result (HasLimits v n p) (limit_rules n p v) }
+{
+    let keys = &keys.limits;
     let den = read_denominator(13, keys.den)?;
     let stage = read_table(alloc, 14, keys.stage, 0, 12, n + p + 1)?;
     let final_ = lists(alloc, 15, keys.final_, 0, 12, n + 1)?;
-    let some_row = stage.rows() != 0 || final_.rows() != 0;
-    in_range(15, has_numerators(&final_) && some_row)?;
+    in_range(15, are_limits(&final_, &stage))?;
     Ok(LimitNumbers { den, stage, final_ })
 }
 
-fn read_bounds(alloc: Global, keys: &BoxKeys, n: usize) -> Result<BoxNumbers, TextFault> {
+fn read_box(alloc: Global, keys: &Keys, n: usize) -> Result<BoxNumbers, TextFault>
+    ensures { let v = seen keys.now in Reads result (HasBox v n) (box_rules n v) }
+{
+    let keys = &keys.box_;
     let grid = read_count(16, keys.grid, 0, 24)? as u32;
-    let lo = list(alloc, 17, keys.lo, n)?;
-    in_range(17, are_numerators(&lo))?;
+    let lo = read_low(alloc, keys.lo, n)?;
     let hi = list(alloc, 18, keys.hi, n)?;
     in_range(18, are_highs(&hi, &lo))?;
     Ok(BoxNumbers { grid, lo, hi })
 }
 
-fn read_targets(keys: &TargetsKeys) -> Result<TargetNumbers, TextFault> {
+fn read_targets(keys: &Keys) -> Result<TargetNumbers, TextFault>
+    ensures { let v = seen keys.now in Reads result (HasTargets v) (target_rules v) }
+{
+    let keys = &keys.targets;
     Ok(TargetNumbers {
         den: read_denominator(19, keys.den)?,
         violation: read_positive(20, keys.violation)?,

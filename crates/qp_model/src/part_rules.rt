@@ -5,7 +5,7 @@ ghost use Rattle.qp_model.specs.PartRules.{HasSize, size_rules, plant_rules, cos
 
 use crate::design_parts::DesignParts;
 use crate::range::{
-    are_costs, are_highs, are_numerators, are_positive, has_numerators, is_denominator,
+    are_costs, are_highs, are_limits, are_numerators, are_positive, has_numerators, is_denominator,
     is_positive, lies_in,
 };
 use crate::rules::{in_range, in_shape};
@@ -69,12 +69,11 @@ fn test_limits(p: &DesignParts) -> Result<(), TextFault>
     requires { AllHold (size_rules p.now) }
     ensures { Tests result (limit_rules p.now) }
 {
-    let some_row = p.stage_rows.rows() != 0 || p.final_rows.rows() != 0;
     in_range(13, is_denominator(p.limit_den))?;
     in_shape(14, has_size(&p.stage_rows, 0, 12, p.states + p.inputs + 1))?;
     in_range(14, has_numerators(&p.stage_rows))?;
     in_shape(15, has_size(&p.final_rows, 0, 12, p.states + 1))?;
-    in_range(15, has_numerators(&p.final_rows) && some_row)
+    in_range(15, are_limits(&p.final_rows, &p.stage_rows))
 }
 
 fn test_box(p: &DesignParts) -> Result<(), TextFault>

@@ -3,7 +3,7 @@ ghost use Rattle.std.specs.Prelude.{◌≡◌, ◌<◌, ℕ, ◌≤ℤ◌, pos, 
 ghost use Rattle.integer_algebra.specs.Sums.{at};
 ghost use Rattle.mat_int.specs.Matrix.{entry_of};
 ghost use Rattle.qp_model.specs.Range.{LiesIn, IsNumerator, IsDenominator, IsPositive};
-ghost use Rattle.qp_model.specs.PartRules.{AreCosts, AreHighs};
+ghost use Rattle.qp_model.specs.PartRules.{AreCosts, AreLimits, AreHighs};
 
 use mat_int::Mat;
 
@@ -93,6 +93,13 @@ pub fn are_costs(m: &Mat, j: usize) -> bool
     ensures { IsTrue result ↔ AreCosts m.now.rows j }
 {
     has_numerators(m) && has_no_negative(m, j)
+}
+
+/// Whether each entry is a numerator, and there is a row here or among the others.
+pub fn are_limits(m: &Mat, others: &Mat) -> bool
+    ensures { IsTrue result ↔ AreLimits m.now.rows others.now.rows }
+{
+    has_numerators(m) && (others.rows() != 0 || m.rows() != 0)
 }
 
 /// Whether each number is a numerator and at least the low one at its place.
