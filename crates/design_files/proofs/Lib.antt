@@ -1,3 +1,4 @@
 pub mod NumberLaws
 pub mod ReadLaws
 pub mod KeyLaws
+pub mod PlaceLaws

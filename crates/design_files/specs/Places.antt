@@ -70,11 +70,12 @@ box_rules n v = count_rules 16 0 24 v.grid ++ (low_rules n v.lo ++ high_rules n 
 abbrev pub target_rules : Values → List Rule
 target_rules v = denominator_rules 19 v.target_den ++ (positive_rules 20 v.violation ++ positive_rules 21 v.gap)
 
-unfoldable pub place_rules : Values → List Rule
-place_rules v =
-    let n = count_of v.states in
-    let p = count_of v.inputs in
-    size_rules v ++ (plant_rules n p v ++ (cost_rules n p v ++ (limit_rules n p v ++ (box_rules n v ++ target_rules v))))
+-- all places
+unfoldable pub rules_for : ℕ → ℕ → Values → List Rule
+rules_for n p v = size_rules v ++ (plant_rules n p v ++ (cost_rules n p v ++ (limit_rules n p v ++ (box_rules n v ++ target_rules v))))
+
+abbrev pub place_rules : Values → List Rule
+place_rules v = rules_for (count_of v.states) (count_of v.inputs) v
 
 -- that the keys stand there, and no further one
 unfoldable pub key_rules : Members → List Rule
