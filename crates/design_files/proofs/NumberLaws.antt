@@ -5,7 +5,7 @@ use Rattle.std.specs.declared.alloc.Global.{Global}
 use Rattle.std.specs.Option.{option_and_then}
 use Rattle.std.proofs.lemmas.Option.{same_Some, none-some, option_and_then_some}
 use Rattle.mat_int.specs.Matrix.{Matrix, with_entry}
-use Rattle.toml.specs.Data.{Data, Items, no_items, item, as_integer}
+use Rattle.toml.specs.Data.{Data, Items, no_items, item, as_integer, as_array}
 use Rattle.toml.specs.View.{view, items_view}
 use Rattle.toml.specs.declared.value.Value.{Value}
 use Rattle.qp_model.specs.Range.{LiesIn}
@@ -13,7 +13,7 @@ use Rattle.qp_model.specs.declared.text_fault.TextFault.{TextFault}
 use Rattle.qp_model.specs.Rules.{Rule, IsFirstBroken, shape}
 use Rattle.design_files.specs.DesignText.{Reads}
 use Rattle.design_files.proofs.ReadLaws.{reads_as}
-use Rattle.design_files.specs.Numbers.{integers_of, rows_of, list_in}
+use Rattle.design_files.specs.Numbers.{integers_of, rows_of, list_in, lists_in, IsLists, IsMatrix}
 
 -- one more number of xs written over a row
 overwrite : (xs row : List ℤ) (j : ℕ) (d : ℤ) → j < length xs → length xs ≡ length row → set (take j xs ++ drop j row) j (get_or xs j d) ≡ take (suc j) xs ++ drop (suc j) row
@@ -100,17 +100,18 @@ lists_count vs low high width h =
     let (rows, (is, sized)) = some_and (rows_of (items_view vs)) (λ rows. LiesIn low high (length rows) × All (λ row. length row ≡ width) rows) h in
     rw (← rows_length vs rows is) sized.0
 
-pub lists_reads : (vs : List Value) (place low high width : ℕ) (answer : Result Matrix TextFault) → LiesIn low high (length vs)
-    → Reads answer (λ m. (m.cols ≡ width) × (rows_of (items_view vs) ≡ Some m.rows)) (shape place (IsSomeAnd (rows_of (items_view vs)) (All (λ row. length row ≡ width))) ∷ [])
-    → Reads answer (λ m. (m.cols ≡ width) × (rows_of (items_view vs) ≡ Some m.rows)) (shape place (IsSomeAnd (rows_of (items_view vs)) (λ rows. LiesIn low high (length rows) × All (λ row. length row ≡ width) rows)) ∷ [])
-lists_reads vs place low high width answer many read =
+pub lists_reads : (d : Data) (vs : List Value) (place low high width : ℕ) (answer : Result Matrix TextFault) → as_array d ≡ Some (items_view vs) → LiesIn low high (length vs)
+    → Reads answer (λ m. (m.cols ≡ width) × (rows_of (items_view vs) ≡ Some m.rows) × All (λ row. length row ≡ m.cols) m.rows) (shape place (IsSomeAnd (rows_of (items_view vs)) (All (λ row. length row ≡ width))) ∷ [])
+    → Reads answer (λ m. (m.cols ≡ width) × IsMatrix (Some d) m) (shape place (IsLists low high width (Some d)) ∷ [])
+lists_reads d vs place low high width answer shown many read =
     reads_as answer _ _ _ _
     (λ m held is.
     let count : LiesIn low high (length m.rows) = rw (rows_length vs m.rows is.1) many in
     let sized : All (λ row. length row ≡ width) m.rows = rw is.1 at held.0 in
-    ((rw is.1 (count, sized), tt), is))
+    let here : lists_in (Some d) ≡ Some m.rows = rw shown is.1 in
+    ((rw here (count, sized), tt), (is.0, record { rows = here; even = is.2 })))
     (λ fault broken. elim broken [
-      | inl here ↦ inl (λ is. here.0 (and_less (rows_of (items_view vs)) (λ rows. LiesIn low high (length rows) × All (λ row. length row ≡ width) rows) (All (λ row. length row ≡ width)) (λ rows both. both.1) is), here.1)
+      | inl here ↦ inl (λ is. here.0 (and_less (rows_of (items_view vs)) (λ rows. LiesIn low high (length rows) × All (λ row. length row ≡ width) rows) (All (λ row. length row ≡ width)) (λ rows both. both.1) (rw shown at is)), here.1)
       | inr later ↦ absurd later.1
     ])
     read

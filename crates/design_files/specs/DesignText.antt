@@ -7,7 +7,7 @@ use Rattle.qp_model.specs.declared.design_parts.DesignParts.{DesignParts}
 use Rattle.qp_model.specs.declared.text_fault.TextFault.{TextFault}
 use Rattle.qp_model.specs.declared.text_fault.TextFault.TheVariants.{NotToml, Memory}
 use Rattle.design_files.specs.Document.{document_of}
-use Rattle.design_files.specs.Numbers.{number_in, list_in, lists_in}
+use Rattle.design_files.specs.Numbers.{number_in, list_in, IsMatrix}
 use Rattle.design_files.specs.Values.{Values, values_of, further_keys}
 use Rattle.design_files.specs.Places.{key_rules, place_rules}
 
@@ -18,16 +18,16 @@ pub record HasNumbers (v : Values) (p : DesignParts) : Type 0 where
   pub inputs : number_in v.inputs ≡ Some (pos p.inputs)
   pub stages : number_in v.stages ≡ Some (pos p.stages)
   pub plant_den : number_in v.plant_den ≡ Some p.plant_den
-  pub a : lists_in v.a ≡ Some p.a.rows
-  pub b : lists_in v.b ≡ Some p.b.rows
+  pub a : IsMatrix v.a p.a
+  pub b : IsMatrix v.b p.b
   pub cost_den : number_in v.cost_den ≡ Some p.cost_den
   pub row_den : number_in v.row_den ≡ Some p.row_den
   pub input : list_in v.input ≡ Some p.input_weights.items
-  pub stage_cost : lists_in v.stage_cost ≡ Some p.stage_cost.rows
-  pub final_cost : lists_in v.final_cost ≡ Some p.final_cost.rows
+  pub stage_cost : IsMatrix v.stage_cost p.stage_cost
+  pub final_cost : IsMatrix v.final_cost p.final_cost
   pub limit_den : number_in v.limit_den ≡ Some p.limit_den
-  pub stage_rows : lists_in v.stage_rows ≡ Some p.stage_rows.rows
-  pub final_rows : lists_in v.final_rows ≡ Some p.final_rows.rows
+  pub stage_rows : IsMatrix v.stage_rows p.stage_rows
+  pub final_rows : IsMatrix v.final_rows p.final_rows
   pub grid : number_in v.grid ≡ Some (pos p.grid)
   pub lo : list_in v.lo ≡ Some p.lo.items
   pub hi : list_in v.hi ≡ Some p.hi.items

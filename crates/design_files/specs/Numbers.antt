@@ -2,6 +2,7 @@
 use Rattle.std.specs.Prelude.{◌≡◌, ℕ, ℤ, pos, List, [], ◌∷◌, length, All, Option, Some, None, IsSome, IsSomeAnd, unwrap_or, unsigned_abs}
 use Rattle.std.specs.Option.{option_and_then, option_map}
 use Rattle.toml.specs.Data.{Data, Items, no_items, item, as_integer, as_array}
+use Rattle.mat_int.specs.Matrix.{Matrix}
 use Rattle.qp_model.specs.Range.{LiesIn}
 
 -- the integer that a value is
@@ -25,6 +26,11 @@ rows_of (item value items) = option_and_then (λ row. option_map (λ rows. row �
 -- the list of lists of integers that a value is
 abbrev pub lists_in : Option Data → Option (List (List ℤ))
 lists_in value = option_and_then rows_of (option_and_then as_array value)
+
+-- the value is the list of a matrix's rows, each as long as the matrix is wide
+pub record IsMatrix (value : Option Data) (m : Matrix) : Type 0 where
+  pub rows : lists_in value ≡ Some m.rows
+  pub even : All (λ row. length row ≡ m.cols) m.rows
 
 -- ---- shapes
 abbrev pub IsNumber : Option Data → Type 0

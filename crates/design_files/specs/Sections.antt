@@ -5,7 +5,7 @@ use Rattle.mat_int.specs.Matrix.{Matrix, entry_of}
 use Rattle.toml.specs.Data.{Data}
 use Rattle.qp_model.specs.Range.{LiesIn, IsDenominator, IsNumerator, IsPositive}
 use Rattle.qp_model.specs.Parts.{IsTable, IsLine}
-use Rattle.design_files.specs.Numbers.{number_in, list_in, lists_in}
+use Rattle.design_files.specs.Numbers.{number_in, list_in, IsMatrix}
 use Rattle.design_files.specs.Values.{Values}
 use Rattle.design_files.specs.declared.places.Sizes.{Sizes}
 use Rattle.design_files.specs.declared.places.PlantNumbers.{PlantNumbers}
@@ -27,11 +27,11 @@ pub record HasPositive (value : Option Data) (z : ℤ) : Type 0 where
   pub fits : IsPositive z
 
 pub record HasTable (value : Option Data) (low high width : ℕ) (m : Matrix) : Type 0 where
-  pub numbers : lists_in value ≡ Some m.rows
+  pub numbers : IsMatrix value m
   pub fits : IsTable m low high width
 
 pub record HasCosts (value : Option Data) (n : ℕ) (m : Matrix) : Type 0 where
-  pub numbers : lists_in value ≡ Some m.rows
+  pub numbers : IsMatrix value m
   pub fits : IsTable m 0 12 (n + 2)
   pub weights : (r : ℕ) → r < length m.rows → pos 0 ≤ℤ entry_of m r (n + 1)
 

@@ -3,7 +3,7 @@ ghost use Rattle.std.specs.Prelude.{All, IsSome, IsSomeAnd, ◌≡◌, ◌<◌, 
 ghost use Rattle.mat_int.specs.Matrix.{row_of};
 ghost use Rattle.toml.specs.View.{view, items_view};
 ghost use Rattle.qp_model.specs.Rules.{shape};
-ghost use Rattle.design_files.specs.Numbers.{number_in, integers_of, list_in, rows_of, lists_in, IsNumber, IsList, IsLists};
+ghost use Rattle.design_files.specs.Numbers.{number_in, integers_of, list_in, rows_of, IsMatrix, IsNumber, IsList, IsLists};
 ghost use Rattle.design_files.specs.DesignText.{Reads};
 
 use mat_int::Mat;
@@ -63,7 +63,7 @@ fn set_row(matrix: &mut Mat, i: usize, numbers: &[i128])
 // The matrix whose rows are a place's items, lists of so many integers each.
 fn rows(alloc: Global, place: u32, items: &[Value], width: usize) -> Result<Mat, TextFault>
     ensures { let seen = rows_of (items_view items.now) in
-        Reads result (λ m. (m.cols ≡ width) × (seen ≡ Some m.rows)) (shape place (IsSomeAnd seen (All (λ row. length row ≡ width))) ∷ []) }
+        Reads result (λ m. (m.cols ≡ width) × (seen ≡ Some m.rows) × All (λ row. length row ≡ m.cols) m.rows) (shape place (IsSomeAnd seen (All (λ row. length row ≡ width))) ∷ []) }
 {
     let mut matrix = Mat::zero(alloc, items.len(), width)?;
     for (i, item) in items.iter().enumerate() {
@@ -82,7 +82,7 @@ pub fn lists(
     width: usize,
 ) -> Result<Mat, TextFault>
     ensures { let seen = Some (view value.now) in
-        Reads result (λ m. (m.cols ≡ width) × (lists_in seen ≡ Some m.rows)) (shape place (IsLists low high width seen) ∷ []) }
+        Reads result (λ m. (m.cols ≡ width) × IsMatrix seen m) (shape place (IsLists low high width seen) ∷ []) }
 {
     let Some(items) = value.as_array() else {
         return Err(TextFault::Shape { place });

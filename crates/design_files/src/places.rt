@@ -1,13 +1,14 @@
 //! The places of a design text, read in their order.
-ghost use Rattle.std.specs.Prelude.{◌≡◌, ◌≤◌, ◌+◌, Some, pos};
+ghost use Rattle.std.specs.Prelude.{◌≡◌, ◌⊎◌, ◌≤◌, ◌+◌, Some, Err, IfOk, IfErr, IsOkAnd};
 ghost use Rattle.toml.specs.View.{view};
-ghost use Rattle.qp_model.specs.Range.{LiesIn};
-ghost use Rattle.qp_model.specs.Parts.{IsDesign};
+ghost use Rattle.qp_model.specs.declared.design_parts.DesignParts.{DesignParts};
+ghost use Rattle.qp_model.specs.declared.text_fault.TextFault.{TextFault};
+ghost use Rattle.qp_model.specs.Parts.{IsDesign, design_numbers};
 ghost use Rattle.design_files.specs.Document.{document_of};
 ghost use Rattle.design_files.specs.Keys.{seen};
 ghost use Rattle.design_files.specs.Places.{count_rules, denominator_rules, positive_rules, table_rules, cost_row_rules, input_rules, final_row_rules, low_rules, high_rules, size_rules, plant_rules, cost_rules, limit_rules, box_rules, target_rules, place_rules};
 ghost use Rattle.design_files.specs.Sections.{HasCount, HasDenominator, HasPositive, HasTable, HasCosts, HasInputs, HasLine, HasSizes, HasPlant, HasCost, HasLimits, HasBox, HasTargets};
-ghost use Rattle.design_files.specs.DesignText.{HasNumbers, Reads};
+ghost use Rattle.design_files.specs.DesignText.{HasNumbers, Reads, IsDesignText, IsFirstFault};
 
 use crate::document::read_document;
 use crate::keys::{
@@ -24,8 +25,26 @@ use qp_model::{Design, DesignParts, TextFault};
 use std::alloc::Global;
 use toml::Value;
 
-/// Reads a design text.
-pub fn read_design(alloc: Global, bytes: &[u8]) -> Result<Design, TextFault> {
+/// The design that a text writes, or the text's first fault: that it is no TOML document, then the first key in the order of the
+/// places that is absent, then a further key, and then for each place in turn the shape of its value and the range of its numbers.
+pub fn read_design(alloc: Global, bytes: &[u8]) -> Result<Design, TextFault>
+    ensures text { IfOk result (λ design. IsDesignText bytes.now design.parts) }
+    ensures fault { IfErr result (λ fault. (fault ≡ TextFault.Memory) ⊎ IsFirstFault bytes.now fault) }
+
+    // The other way round, unless memory runs out.
+    ensures every_text { (p : DesignParts) → IsDesignText bytes.now p
+        → (result ≡ Err TextFault.Memory) ⊎ IsOkAnd result (λ design. design_numbers design.parts ≡ design_numbers p) }
+    ensures every_fault { (fault : TextFault) → IsFirstFault bytes.now fault
+        → (result ≡ Err TextFault.Memory) ⊎ (result ≡ Err fault) }
+{
+    read_text(alloc, bytes)
+}
+
+// The same, where the other way round follows.
+fn read_text(alloc: Global, bytes: &[u8]) -> Result<Design, TextFault>
+    ensures text { IfOk result (λ design. IsDesignText bytes.now design.parts) }
+    ensures fault { IfErr result (λ fault. (fault ≡ TextFault.Memory) ⊎ IsFirstFault bytes.now fault) }
+{
     let document = read_document(alloc, bytes)?;
     let keys = find_keys(&document)?;
     Ok(Design::new(read_parts(alloc, &keys)?))

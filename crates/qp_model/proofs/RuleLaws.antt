@@ -35,3 +35,8 @@ one_fault (rule ∷ rules) a b first second =
 pub test_after : (rules more : List Rule) (answer : Result (Unit {0}) TextFault) → AllHold rules → Tests answer more → Tests answer (rules ++ more)
 test_after rules more (Ok done) held others = all_hold rules more held others
 test_after rules more (Err fault) held broken = broken_after rules more fault held broken
+
+-- of rules that all hold the last ones do
+pub held_after : (rules more : List Rule) → AllHold (rules ++ more) → AllHold more
+held_after [] more held = held
+held_after (rule ∷ rules) more held = held_after rules more held.1

@@ -20,4 +20,4 @@ returns c =
     let shown : as_array (view c.args.value.now) ≡ Some (items_view vs) = sym (rw c.in-Some.is at c.as_array.ensures) in
     let same : c.len.result ≡ length vs = omega (arith, c.in-Some.items.now.ok.0) in
     let many : LiesIn c.args.low c.args.high (length vs) = rw (← same) (c.lies_in.ensures.0 c.in_ok-in_shape.ensures.ok) in
-    rw shown (lists_reads vs c.args.place c.args.low c.args.high c.args.width c.rows.result many (rw c.deref.ensures.value at c.rows.ensures))
+    lists_reads (view c.args.value.now) vs c.args.place c.args.low c.args.high c.args.width c.rows.result shown many (rw c.deref.ensures.value at c.rows.ensures)
