@@ -9,6 +9,8 @@ pub mod Policy
 pub mod CornerSizes
 pub mod Margin
 pub mod Choices
+pub mod Rules
+pub mod PartRules
 pub mod Condensed
 pub mod Curvature
 pub mod CurvatureSize

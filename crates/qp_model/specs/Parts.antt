@@ -44,6 +44,53 @@ design_of p = record {
   high = at p.hi.items;
 }
 
+-- the numbers alone: two values of `DesignParts` with the same are the same design
+pub record DesignNumbers : Type 0 where
+  pub states : ℕ
+  pub inputs : ℕ
+  pub stages : ℕ
+  pub plant_den : ℤ
+  pub a : Matrix
+  pub b : Matrix
+  pub cost_den : ℤ
+  pub row_den : ℤ
+  pub input_weights : List ℤ
+  pub stage_cost : Matrix
+  pub final_cost : Matrix
+  pub limit_den : ℤ
+  pub stage_rows : Matrix
+  pub final_rows : Matrix
+  pub grid : ℕ
+  pub lo : List ℤ
+  pub hi : List ℤ
+  pub target_den : ℤ
+  pub violation : ℤ
+  pub gap : ℤ
+
+abbrev pub design_numbers : DesignParts → DesignNumbers
+design_numbers p = record {
+  states = p.states;
+  inputs = p.inputs;
+  stages = p.stages;
+  plant_den = p.plant_den;
+  a = p.a;
+  b = p.b;
+  cost_den = p.cost_den;
+  row_den = p.row_den;
+  input_weights = p.input_weights.items;
+  stage_cost = p.stage_cost;
+  final_cost = p.final_cost;
+  limit_den = p.limit_den;
+  stage_rows = p.stage_rows;
+  final_rows = p.final_rows;
+  grid = p.grid;
+  lo = p.lo.items;
+  hi = p.hi.items;
+  target_den = p.target_den;
+  violation = p.violation;
+  gap = p.gap;
+}
+
 -- ---- shapes and ranges
 -- a matrix of numerators
 pub record IsTable (m : Matrix) (low high width : ℕ) : Type 0 where

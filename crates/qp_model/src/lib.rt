@@ -11,6 +11,11 @@ mod number;
 mod policy;
 mod quantity;
 mod sizes;
+mod part_rules;
+mod policy;
+mod quantity;
+pub mod range;
+pub mod rules;
 mod text_fault;
 
 pub use bounds::{Bounds, Margin};

@@ -32,3 +32,11 @@ impl From<AllocError> for TextFault {
         TextFault::Memory
     }
 }
+
+impl<T: Drop> From<AllocFailed<T>> for TextFault {
+    ghost from_gives = { λ _ e. e ≡ text_memory };
+
+    fn from(_: AllocFailed<T>) -> Self {
+        TextFault::Memory
+    }
+}

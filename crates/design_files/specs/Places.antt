@@ -1,0 +1,84 @@
+-- The rules of a design text's places: the shape of the value at each, and then the range of its numbers.
+use Rattle.std.specs.Prelude.{ℕ, ◌+◌, ℤ, pos, ◌≤ℤ◌, List, [], ◌∷◌, ◌++◌, All, Option}
+use Rattle.toml.specs.Data.{Data, Members}
+use Rattle.qp_model.specs.Range.{IsDenominator, IsNumerator, IsPositive}
+use Rattle.qp_model.specs.Rules.{Rule, shape, range}
+use Rattle.qp_model.specs.PartRules.{AreCosts, AreLimits, AreHighs}
+use Rattle.design_files.specs.Numbers.{IsNumber, IsList, IsLists, number_of, count_of, list_of, lists_of}
+use Rattle.design_files.specs.Values.{Values, values_of, top_keys, plant_keys, cost_keys, limit_keys, box_keys, target_keys, further_keys}
+
+-- an integer from low to high
+abbrev pub count_rules : ℕ → ℕ → ℕ → Option Data → List Rule
+count_rules place low high value =
+    shape place (IsNumber value)
+    ∷ range place ((pos low ≤ℤ number_of value) × (number_of value ≤ℤ pos high))
+    ∷ []
+
+abbrev pub denominator_rules : ℕ → Option Data → List Rule
+denominator_rules place value = shape place (IsNumber value) ∷ range place (IsDenominator (number_of value)) ∷ []
+
+abbrev pub positive_rules : ℕ → Option Data → List Rule
+positive_rules place value = shape place (IsNumber value) ∷ range place (IsPositive (number_of value)) ∷ []
+
+-- low to high lists of so many numerators each
+abbrev pub table_rules : ℕ → ℕ → ℕ → ℕ → Option Data → List Rule
+table_rules place low high width value =
+    shape place (IsLists low high width value)
+    ∷ range place (All (All IsNumerator) (lists_of value))
+    ∷ []
+
+-- rows of n coefficients, a target and a weight
+abbrev pub cost_row_rules : ℕ → ℕ → Option Data → List Rule
+cost_row_rules place n value =
+    shape place (IsLists 0 12 (n + 2) value)
+    ∷ range place (AreCosts (lists_of value) (n + 1))
+    ∷ []
+
+abbrev pub input_rules : ℕ → Option Data → List Rule
+input_rules p value = shape 10 (IsList p value) ∷ range 10 (All IsPositive (list_of value)) ∷ []
+
+-- rows of n coefficients and a bound, where there is one here or among the others
+abbrev pub final_row_rules : ℕ → Option Data → Option Data → List Rule
+final_row_rules n others value =
+    shape 15 (IsLists 0 12 (n + 1) value)
+    ∷ range 15 (AreLimits (lists_of value) (lists_of others))
+    ∷ []
+
+abbrev pub low_rules : ℕ → Option Data → List Rule
+low_rules n value = shape 17 (IsList n value) ∷ range 17 (All IsNumerator (list_of value)) ∷ []
+
+abbrev pub high_rules : ℕ → Option Data → Option Data → List Rule
+high_rules n low value = shape 18 (IsList n value) ∷ range 18 (AreHighs (list_of value) (list_of low) n) ∷ []
+
+-- ---- the places, by tables, for n states and p inputs
+abbrev pub size_rules : Values → List Rule
+size_rules v = count_rules 1 1 1 v.version ++ (count_rules 2 1 4 v.states ++ (count_rules 3 1 3 v.inputs ++ count_rules 4 1 20 v.stages))
+
+abbrev pub plant_rules : ℕ → ℕ → Values → List Rule
+plant_rules n p v = denominator_rules 5 v.plant_den ++ (table_rules 6 n n n v.a ++ table_rules 7 n n p v.b)
+
+abbrev pub cost_rules : ℕ → ℕ → Values → List Rule
+cost_rules n p v =
+    denominator_rules 8 v.cost_den ++ (denominator_rules 9 v.row_den ++ (input_rules p v.input ++ (cost_row_rules 11 n v.stage_cost ++ cost_row_rules 12 n v.final_cost)))
+
+abbrev pub limit_rules : ℕ → ℕ → Values → List Rule
+limit_rules n p v = denominator_rules 13 v.limit_den ++ (table_rules 14 0 12 (n + p + 1) v.stage_rows ++ final_row_rules n v.stage_rows v.final_rows)
+
+abbrev pub box_rules : ℕ → Values → List Rule
+box_rules n v = count_rules 16 0 24 v.grid ++ (low_rules n v.lo ++ high_rules n v.lo v.hi)
+
+abbrev pub target_rules : Values → List Rule
+target_rules v = denominator_rules 19 v.target_den ++ (positive_rules 20 v.violation ++ positive_rules 21 v.gap)
+
+-- all places
+unfoldable pub rules_for : ℕ → ℕ → Values → List Rule
+rules_for n p v = size_rules v ++ (plant_rules n p v ++ (cost_rules n p v ++ (limit_rules n p v ++ (box_rules n v ++ target_rules v))))
+
+abbrev pub place_rules : Values → List Rule
+place_rules v = rules_for (count_of v.states) (count_of v.inputs) v
+
+-- that the keys stand there, and no further one
+unfoldable pub key_rules : Members → List Rule
+key_rules document =
+    let v = values_of document in
+    top_keys v ++ (plant_keys v ++ (cost_keys v ++ (limit_keys v ++ (box_keys v ++ (target_keys v ++ further_keys document)))))

@@ -1,0 +1,241 @@
+//! The values at a design text's keys.
+ghost use Rattle.std.specs.Prelude.{◌≡◌, ◌↔◌, Some, None, IfOk, OnOk, IfErr, IsTrue, map, string_bytes};
+ghost use Rattle.std.specs.List.{list_any, list_all};
+ghost use Rattle.std.specs.Str.{bytes_eq};
+ghost use Rattle.std.specs.BTreeMap.{keys};
+ghost use Rattle.toml.specs.Data.{get_member};
+ghost use Rattle.toml.specs.View.{view, table_view};
+ghost use Rattle.qp_model.specs.Rules.{Tests};
+ghost use Rattle.design_files.specs.Document.{table_at};
+ghost use Rattle.design_files.specs.Values.{values_of, HasOnly, top_keys, plant_keys, cost_keys, limit_keys, box_keys, target_keys, further_keys};
+ghost use Rattle.design_files.specs.Keys.{seen, AreTop, ArePlant, AreCost, AreLimits, AreBox, AreTargets};
+ghost use Rattle.design_files.specs.Places.{key_rules};
+ghost use Rattle.design_files.specs.DesignText.{Reads};
+
+use qp_model::TextFault;
+use toml::{Table, Value};
+
+/// The values at the keys of a design text, by its tables.
+#[derive(Clone, Copy)]
+pub struct Keys<'a> {
+    pub top: TopKeys<'a>,
+    pub plant: PlantKeys<'a>,
+    pub cost: CostKeys<'a>,
+    pub limits: LimitsKeys<'a>,
+    pub box_: BoxKeys<'a>,
+    pub targets: TargetsKeys<'a>,
+}
+
+#[derive(Clone, Copy)]
+pub struct TopKeys<'a> {
+    pub version: &'a Value,
+    pub states: &'a Value,
+    pub inputs: &'a Value,
+    pub stages: &'a Value,
+}
+
+#[derive(Clone, Copy)]
+pub struct PlantKeys<'a> {
+    table: &'a Table,
+    pub den: &'a Value,
+    pub a: &'a Value,
+    pub b: &'a Value,
+}
+
+#[derive(Clone, Copy)]
+pub struct CostKeys<'a> {
+    table: &'a Table,
+    pub den: &'a Value,
+    pub row_den: &'a Value,
+    pub input: &'a Value,
+    pub stage: &'a Value,
+    pub final_: &'a Value,
+}
+
+#[derive(Clone, Copy)]
+pub struct LimitsKeys<'a> {
+    table: &'a Table,
+    pub den: &'a Value,
+    pub stage: &'a Value,
+    pub final_: &'a Value,
+}
+
+#[derive(Clone, Copy)]
+pub struct BoxKeys<'a> {
+    table: &'a Table,
+    pub grid: &'a Value,
+    pub lo: &'a Value,
+    pub hi: &'a Value,
+}
+
+#[derive(Clone, Copy)]
+pub struct TargetsKeys<'a> {
+    table: &'a Table,
+    pub den: &'a Value,
+    pub violation: &'a Value,
+    pub gap: &'a Value,
+}
+
+/// The values at all keys, where all stand there and no further one.
+pub fn find_keys(document: &Table) -> Result<Keys<'_>, TextFault>
+    ensures { Reads result (λ keys. values_of (table_view document.now) ≡ seen keys) (key_rules (table_view document.now)) }
+{
+    let keys = Keys {
+        top: find_top_keys(document)?,
+        plant: find_plant_keys(document)?,
+        cost: find_cost_keys(document)?,
+        limits: find_limits_keys(document)?,
+        box_: find_box_keys(document)?,
+        targets: find_targets_keys(document)?,
+    };
+    refuse_further_keys(document, &keys)?;
+    Ok(keys)
+}
+
+fn find_top_keys(document: &Table) -> Result<TopKeys<'_>, TextFault>
+    ensures { let seen = table_view document.now in Reads result (AreTop seen) (top_keys (values_of seen)) }
+{
+    Ok(TopKeys {
+        version: find_value(1, document, "version")?,
+        states: find_value(2, document, "states")?,
+        inputs: find_value(3, document, "inputs")?,
+        stages: find_value(4, document, "stages")?,
+    })
+}
+
+fn find_plant_keys(document: &Table) -> Result<PlantKeys<'_>, TextFault>
+    ensures { let seen = table_view document.now in Reads result (ArePlant seen) (plant_keys (values_of seen)) }
+{
+    let table = find_table(5, document, "plant")?;
+    Ok(PlantKeys {
+        table,
+        den: find_value(5, table, "den")?,
+        a: find_value(6, table, "a")?,
+        b: find_value(7, table, "b")?,
+    })
+}
+
+fn find_cost_keys(document: &Table) -> Result<CostKeys<'_>, TextFault>
+    ensures { let seen = table_view document.now in Reads result (AreCost seen) (cost_keys (values_of seen)) }
+{
+    let table = find_table(8, document, "cost")?;
+    Ok(CostKeys {
+        table,
+        den: find_value(8, table, "den")?,
+        row_den: find_value(9, table, "row_den")?,
+        input: find_value(10, table, "input")?,
+        stage: find_value(11, table, "stage")?,
+        final_: find_value(12, table, "final")?,
+    })
+}
+
+fn find_limits_keys(document: &Table) -> Result<LimitsKeys<'_>, TextFault>
+    ensures { let seen = table_view document.now in Reads result (AreLimits seen) (limit_keys (values_of seen)) }
+{
+    let table = find_table(13, document, "limits")?;
+    Ok(LimitsKeys {
+        table,
+        den: find_value(13, table, "den")?,
+        stage: find_value(14, table, "stage")?,
+        final_: find_value(15, table, "final")?,
+    })
+}
+
+fn find_box_keys(document: &Table) -> Result<BoxKeys<'_>, TextFault>
+    ensures { let seen = table_view document.now in Reads result (AreBox seen) (box_keys (values_of seen)) }
+{
+    let table = find_table(16, document, "box")?;
+    Ok(BoxKeys {
+        table,
+        grid: find_value(16, table, "grid")?,
+        lo: find_value(17, table, "lo")?,
+        hi: find_value(18, table, "hi")?,
+    })
+}
+
+fn find_targets_keys(document: &Table) -> Result<TargetsKeys<'_>, TextFault>
+    ensures { let seen = table_view document.now in Reads result (AreTargets seen) (target_keys (values_of seen)) }
+{
+    let table = find_table(19, document, "targets")?;
+    Ok(TargetsKeys {
+        table,
+        den: find_value(19, table, "den")?,
+        violation: find_value(20, table, "violation")?,
+        gap: find_value(21, table, "gap")?,
+    })
+}
+
+// The table of a name, or the fault of the first key in it.
+fn find_table<'a>(place: u32, document: &'a Table, name: &str) -> Result<&'a Table, TextFault>
+    ensures ok { IfOk result (λ table. table_at name.now (table_view document.now) ≡ Some (table_view table.now)) }
+    ensures err { IfErr result (λ fault. (fault ≡ TextFault.Key place) × (table_at name.now (table_view document.now) ≡ None)) }
+{
+    match find_value(place, document, name)?.as_table() {
+        Some(table) => Ok(table),
+        None => Err(TextFault::Key { place }),
+    }
+}
+
+// The value at a key of a table.
+fn find_value<'a>(place: u32, table: &'a Table, key: &str) -> Result<&'a Value, TextFault>
+    ensures ok { IfOk result (λ value. get_member key.now (table_view table.now) ≡ Some (view value.now)) }
+    ensures err { IfErr result (λ fault. (fault ≡ TextFault.Key place) × (get_member key.now (table_view table.now) ≡ None)) }
+{
+    match table.get(key) {
+        Some(value) => Ok(value),
+        None => Err(TextFault::Key { place }),
+    }
+}
+
+// The fault where a further key stands at the top, or in one of the tables.
+fn refuse_further_keys(document: &Table, keys: &Keys) -> Result<(), TextFault>
+    requires plant { ArePlant (table_view document.now) keys.now.plant }
+    requires cost { AreCost (table_view document.now) keys.now.cost }
+    requires limits { AreLimits (table_view document.now) keys.now.limits }
+    requires box_ { AreBox (table_view document.now) keys.now.box_ }
+    requires targets { AreTargets (table_view document.now) keys.now.targets }
+    ensures { Tests result (further_keys (table_view document.now)) }
+{
+    let top = [
+        "version", "states", "inputs", "stages", "plant", "cost", "limits", "box", "targets",
+    ];
+    let cost = ["den", "row_den", "input", "stage", "final"];
+    refuse_others(document, &top)?;
+    refuse_others(keys.plant.table, &["den", "a", "b"])?;
+    refuse_others(keys.cost.table, &cost)?;
+    refuse_others(keys.limits.table, &["den", "stage", "final"])?;
+    refuse_others(keys.box_.table, &["grid", "lo", "hi"])?;
+    refuse_others(keys.targets.table, &["den", "violation", "gap"])
+}
+
+// The fault where a key of the table is none of these.
+fn refuse_others(table: &Table, names: &[&str]) -> Result<(), TextFault>
+    ensures ok { OnOk result (HasOnly (map (λ name. name.now) names.now) (table_view table.now)) }
+    ensures err { IfErr result (λ fault. (fault ≡ TextFault.Key 0)
+        × ¬ HasOnly (map (λ name. name.now) names.now) (table_view table.now)) }
+{
+    if has_only(table, names) {
+        Ok(())
+    } else {
+        Err(TextFault::Key { place: 0 })
+    }
+}
+
+// Whether each key of a table is one of these.
+fn has_only(table: &Table, names: &[&str]) -> bool
+    ensures { IsTrue result ↔ HasOnly (map (λ name. name.now) names.now) (table_view table.now) }
+{
+    are_names(table, names)
+}
+
+fn are_names(table: &Table, names: &[&str]) -> bool
+    ensures { result ≡ list_all (λ key. list_any (λ name. bytes_eq name.now (string_bytes key)) names.now) (keys table.now) }
+{
+    table.keys().all(|key| is_one_of(key.as_str(), names))
+}
+
+fn is_one_of(key: &str, names: &[&str]) -> bool
+    ensures { result ≡ list_any (λ name. bytes_eq name.now key.now) names.now }
+{
+    names.iter().any(|name| *name == key)
+}

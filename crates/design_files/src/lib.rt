@@ -1,0 +1,12 @@
+//! Reading of design texts.
+#![tactic(auto)]
+
+mod document;
+mod keys;
+mod numbers;
+mod places;
+
+pub use places::read_design;
+
+#[cfg(test)]
+mod tests;

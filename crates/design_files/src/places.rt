@@ -1,0 +1,274 @@
+//! The places of a design text, read in their order.
+ghost use Rattle.std.specs.Prelude.{◌≡◌, ◌⊎◌, ◌≤◌, ◌+◌, Some, Err, IfOk, IfErr, IsOkAnd};
+ghost use Rattle.toml.specs.View.{view};
+ghost use Rattle.qp_model.specs.declared.design_parts.DesignParts.{DesignParts};
+ghost use Rattle.qp_model.specs.declared.text_fault.TextFault.{TextFault};
+ghost use Rattle.qp_model.specs.Parts.{IsDesign, design_numbers};
+ghost use Rattle.design_files.specs.Document.{document_of};
+ghost use Rattle.design_files.specs.Keys.{seen};
+ghost use Rattle.design_files.specs.Places.{count_rules, denominator_rules, positive_rules, table_rules, cost_row_rules, input_rules, final_row_rules, low_rules, high_rules, size_rules, plant_rules, cost_rules, limit_rules, box_rules, target_rules, place_rules};
+ghost use Rattle.design_files.specs.Sections.{HasCount, HasDenominator, HasPositive, HasTable, HasCosts, HasInputs, HasLine, HasSizes, HasPlant, HasCost, HasLimits, HasBox, HasTargets};
+ghost use Rattle.design_files.specs.DesignText.{HasNumbers, Reads, IsDesignText, IsFirstFault};
+
+use crate::document::read_document;
+use crate::keys::{
+    BoxKeys, CostKeys, Keys, LimitsKeys, PlantKeys, TargetsKeys, TopKeys, find_keys,
+};
+use crate::numbers::{list, lists, number};
+use mat_int::Mat;
+use qp_model::range::{
+    are_costs, are_highs, are_limits, are_numerators, are_positive, has_numerators, is_denominator,
+    is_positive,
+};
+use qp_model::rules::in_range;
+use qp_model::{Design, DesignParts, TextFault};
+use std::alloc::Global;
+use toml::Value;
+
+/// The design that a text writes, or the text's first fault: that it is no TOML document, then the first key in the order of the
+/// places that is absent, then a further key, and then for each place in turn the shape of its value and the range of its numbers.
+pub fn read_design(alloc: Global, bytes: &[u8]) -> Result<Design, TextFault>
+    ensures text { IfOk result (λ design. IsDesignText bytes.now design.parts) }
+    ensures fault { IfErr result (λ fault. (fault ≡ TextFault.Memory) ⊎ IsFirstFault bytes.now fault) }
+
+    // The other way round, unless memory runs out.
+    ensures every_text { (p : DesignParts) → IsDesignText bytes.now p
+        → (result ≡ Err TextFault.Memory) ⊎ IsOkAnd result (λ design. design_numbers design.parts ≡ design_numbers p) }
+    ensures every_fault { (fault : TextFault) → IsFirstFault bytes.now fault
+        → (result ≡ Err TextFault.Memory) ⊎ (result ≡ Err fault) }
+{
+    read_text(alloc, bytes)
+}
+
+// The same, where the other way round follows.
+fn read_text(alloc: Global, bytes: &[u8]) -> Result<Design, TextFault>
+    ensures text { IfOk result (λ design. IsDesignText bytes.now design.parts) }
+    ensures fault { IfErr result (λ fault. (fault ≡ TextFault.Memory) ⊎ IsFirstFault bytes.now fault) }
+{
+    let document = read_document(alloc, bytes)?;
+    let keys = find_keys(&document)?;
+    Ok(Design::new(read_parts(alloc, &keys)?))
+}
+
+#[derive(Clone, Copy)]
+struct Sizes {
+    states: usize,
+    inputs: usize,
+    stages: usize,
+}
+
+#[derive(Drop)]
+struct PlantNumbers {
+    den: i128,
+    a: Mat,
+    b: Mat,
+}
+
+#[derive(Drop)]
+struct CostNumbers {
+    den: i128,
+    row_den: i128,
+    input: Vec<i128>,
+    stage: Mat,
+    final_: Mat,
+}
+
+#[derive(Drop)]
+struct LimitNumbers {
+    den: i128,
+    stage: Mat,
+    final_: Mat,
+}
+
+#[derive(Drop)]
+struct BoxNumbers {
+    grid: u32,
+    lo: Vec<i128>,
+    hi: Vec<i128>,
+}
+
+#[derive(Clone, Copy)]
+struct TargetNumbers {
+    den: i128,
+    violation: i128,
+    gap: i128,
+}
+
+fn read_parts(alloc: Global, keys: &Keys) -> Result<DesignParts, TextFault>
+    ensures { let v = seen keys.now in Reads result (λ p. HasNumbers v p × IsDesign p) (place_rules v) }
+{
+    let sizes = read_sizes(keys)?;
+    let plant = read_plant(alloc, keys, sizes.states, sizes.inputs)?;
+    let cost = read_cost(alloc, keys, sizes.states, sizes.inputs)?;
+    let limits = read_limits(alloc, keys, sizes.states, sizes.inputs)?;
+    let bounds = read_box(alloc, keys, sizes.states)?;
+    let targets = read_targets(keys)?;
+    Ok(DesignParts {
+        states: sizes.states,
+        inputs: sizes.inputs,
+        stages: sizes.stages,
+        plant_den: plant.den,
+        a: plant.a,
+        b: plant.b,
+        cost_den: cost.den,
+        row_den: cost.row_den,
+        input_weights: cost.input,
+        stage_cost: cost.stage,
+        final_cost: cost.final_,
+        limit_den: limits.den,
+        stage_rows: limits.stage,
+        final_rows: limits.final_,
+        grid: bounds.grid,
+        lo: bounds.lo,
+        hi: bounds.hi,
+        target_den: targets.den,
+        violation: targets.violation,
+        gap: targets.gap,
+    })
+}
+
+/// The integer at a place that lies from low to high.
+fn read_count(place: u32, value: &Value, low: usize, high: usize) -> Result<usize, TextFault>
+    ensures { let seen = Some (view value.now) in
+        Reads result (HasCount seen low high) (count_rules place low high seen) }
+{
+    let z = number(place, value)?;
+    in_range(place, low as i128 <= z && z <= high as i128)?;
+    Ok(z as usize)
+}
+
+fn read_denominator(place: u32, value: &Value) -> Result<i128, TextFault>
+    ensures { let seen = Some (view value.now) in
+        Reads result (HasDenominator seen) (denominator_rules place seen) }
+{
+    let z = number(place, value)?;
+    in_range(place, is_denominator(z))?;
+    Ok(z)
+}
+
+fn read_positive(place: u32, value: &Value) -> Result<i128, TextFault>
+    ensures { let seen = Some (view value.now) in
+        Reads result (HasPositive seen) (positive_rules place seen) }
+{
+    let z = number(place, value)?;
+    in_range(place, is_positive(z))?;
+    Ok(z)
+}
+
+// Low to high lists of so many numerators each.
+fn read_table(
+    alloc: Global,
+    place: u32,
+    value: &Value,
+    low: usize,
+    high: usize,
+    width: usize,
+) -> Result<Mat, TextFault>
+    ensures { let seen = Some (view value.now) in
+        Reads result (HasTable seen low high width) (table_rules place low high width seen) }
+{
+    let m = lists(alloc, place, value, low, high, width)?;
+    in_range(place, has_numerators(&m))?;
+    Ok(m)
+}
+
+// Rows of n coefficients, a target and a weight.
+fn read_cost_rows(alloc: Global, place: u32, value: &Value, n: usize) -> Result<Mat, TextFault>
+    requires { n ≤ 4 }
+    ensures { let seen = Some (view value.now) in
+        Reads result (HasCosts seen n) (cost_row_rules place n seen) }
+{
+    let m = lists(alloc, place, value, 0, 12, n + 2)?;
+    in_range(place, are_costs(&m, n + 1))?;
+    Ok(m)
+}
+
+fn read_inputs(alloc: Global, value: &Value, p: usize) -> Result<Vec<i128>, TextFault>
+    ensures { let seen = Some (view value.now) in
+        Reads result (λ zs. HasInputs seen p zs.items) (input_rules p seen) }
+{
+    let weights = list(alloc, 10, value, p)?;
+    in_range(10, are_positive(&weights))?;
+    Ok(weights)
+}
+
+fn read_low(alloc: Global, value: &Value, n: usize) -> Result<Vec<i128>, TextFault>
+    ensures { let seen = Some (view value.now) in
+        Reads result (λ zs. HasLine seen n zs.items) (low_rules n seen) }
+{
+    let low = list(alloc, 17, value, n)?;
+    in_range(17, are_numerators(&low))?;
+    Ok(low)
+}
+
+fn read_sizes(keys: &Keys) -> Result<Sizes, TextFault>
+    ensures { let v = seen keys.now in Reads result (HasSizes v) (size_rules v) }
+{
+    let keys = &keys.top;
+    read_count(1, keys.version, 1, 1)?;
+    Ok(Sizes {
+        states: read_count(2, keys.states, 1, 4)?,
+        inputs: read_count(3, keys.inputs, 1, 3)?,
+        stages: read_count(4, keys.stages, 1, 20)?,
+    })
+}
+
+fn read_plant(alloc: Global, keys: &Keys, n: usize, p: usize) -> Result<PlantNumbers, TextFault>
+    ensures { let v = seen keys.now in Reads result (HasPlant v n p) (plant_rules n p v) }
+{
+    let keys = &keys.plant;
+    Ok(PlantNumbers {
+        den: read_denominator(5, keys.den)?,
+        a: read_table(alloc, 6, keys.a, n, n, n)?,
+        b: read_table(alloc, 7, keys.b, n, n, p)?,
+    })
+}
+
+fn read_cost(alloc: Global, keys: &Keys, n: usize, p: usize) -> Result<CostNumbers, TextFault>
+    requires { n ≤ 4 }
+    ensures { let v = seen keys.now in Reads result (HasCost v n p) (cost_rules n p v) }
+{
+    let keys = &keys.cost;
+    Ok(CostNumbers {
+        den: read_denominator(8, keys.den)?,
+        row_den: read_denominator(9, keys.row_den)?,
+        input: read_inputs(alloc, keys.input, p)?,
+        stage: read_cost_rows(alloc, 11, keys.stage, n)?,
+        final_: read_cost_rows(alloc, 12, keys.final_, n)?,
+    })
+}
+
+fn read_limits(alloc: Global, keys: &Keys, n: usize, p: usize) -> Result<LimitNumbers, TextFault>
+    requires states { n ≤ 4 }
+    requires inputs { p ≤ 3 }
+    ensures { let v = seen keys.now in Reads result (HasLimits v n p) (limit_rules n p v) }
+{
+    let keys = &keys.limits;
+    let den = read_denominator(13, keys.den)?;
+    let stage = read_table(alloc, 14, keys.stage, 0, 12, n + p + 1)?;
+    let final_ = lists(alloc, 15, keys.final_, 0, 12, n + 1)?;
+    in_range(15, are_limits(&final_, &stage))?;
+    Ok(LimitNumbers { den, stage, final_ })
+}
+
+fn read_box(alloc: Global, keys: &Keys, n: usize) -> Result<BoxNumbers, TextFault>
+    ensures { let v = seen keys.now in Reads result (HasBox v n) (box_rules n v) }
+{
+    let keys = &keys.box_;
+    let grid = read_count(16, keys.grid, 0, 24)? as u32;
+    let lo = read_low(alloc, keys.lo, n)?;
+    let hi = list(alloc, 18, keys.hi, n)?;
+    in_range(18, are_highs(&hi, &lo))?;
+    Ok(BoxNumbers { grid, lo, hi })
+}
+
+fn read_targets(keys: &Keys) -> Result<TargetNumbers, TextFault>
+    ensures { let v = seen keys.now in Reads result (HasTargets v) (target_rules v) }
+{
+    let keys = &keys.targets;
+    Ok(TargetNumbers {
+        den: read_denominator(19, keys.den)?,
+        violation: read_positive(20, keys.violation)?,
+        gap: read_positive(21, keys.gap)?,
+    })
+}
