@@ -74,8 +74,8 @@ pub fn scaled_targets(
     Ok(out)
 }
 
-// What the counted cost rows have of the run from `start` under `plan`.
-fn costs_of(
+/// What the counted cost rows have of the run from `start` under `plan`, over `row_den * plant_den^N`.
+pub fn costs_of(
     alloc: Global,
     parts: &DesignParts,
     powers: &[i128],
