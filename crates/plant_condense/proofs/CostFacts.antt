@@ -1,5 +1,5 @@
 -- The sums of the condensed cost fit.
-use Rattle.std.proofs.Common.{◌≡◌, ◌≢◌, inl, inr, ℕ, zero, suc, ◌+◌, ◌*◌, ◌%◌, ◌^◌, ◌<◌, ◌≤◌, ℤ, pos, ◌+ℤ◌, ◌*ℤ◌, neg_ℤ, List, length, set, nat_eq, if◌then◌else◌, unsigned_abs, All, FitsSigned, arith, ap, sym, subst, ◌∙◌, refl}
+use Rattle.std.proofs.Common.{◌≡◌, ◌≢◌, inl, inr, ℕ, zero, suc, ◌+◌, ◌*◌, ◌%◌, ◌^◌, ◌<◌, ◌≤◌, ℤ, pos, ◌+ℤ◌, ◌*ℤ◌, neg_ℤ, List, length, set, unsigned_abs, All, FitsSigned, arith, ap, sym, subst, ◌∙◌, refl}
 use mathlib.Core.Path.{fun_ext}
 use Rattle.std.proofs.lemmas.Int.{ints, unsigned_abs-mul}
 use Rattle.std.proofs.lemmas.Bool.{cases_eq, eq-eqb}
@@ -17,15 +17,15 @@ use Rattle.qp_model.specs.Design.{Design, entries}
 use Rattle.qp_model.specs.Parts.{design_of, IsDesign}
 use Rattle.qp_model.specs.Range.{IsPositive}
 use Rattle.std.specs.Int.{w128}
-use Rattle.qp_model.specs.Quantities.{weight_sum, response_size, cost_width, prediction_size, cost_entry_size}
+use Rattle.qp_model.specs.Quantities.{weight_sum, response_size, cost_width, cost_entry_size}
 use Rattle.qp_model.specs.Runs.{counts, Holds}
 use Rattle.qp_model.proofs.RunLaws.{abs-add_le}
 use Rattle.qp_model.proofs.SizeFacts.{some_weight, some_cost}
-use Rattle.qp_model.proofs.QuantityLaws.{weights_size, plan_cost_size, state_cost_size, target_width, powered_size}
+use Rattle.qp_model.proofs.QuantityLaws.{weights_size, plan_cost_size, target_width, powered_size}
 use Rattle.mat_int.specs.Matrix.{Matrix}
 use Rattle.plant_condense.specs.Form.{response_scale}
 use Rattle.plant_condense.specs.Numbers.{AreCostNumbers}
-use Rattle.plant_condense.specs.Costs.{plan_cost, state_cost, weight_of, target_of, weighed, own_cost}
+use Rattle.plant_condense.specs.Costs.{plan_cost, weight_of, target_of, weighed, own_cost}
 use Rattle.plant_condense.proofs.WeighedFacts.{products_room}
 
 -- ---- plain numbers

@@ -1,22 +1,19 @@
 -- The denominators fit.
-use Rattle.std.proofs.Common.{◌≡◌, ℕ, ◌+◌, ◌*◌, ◌^◌, ◌<◌, ◌≤◌, min, ℤ, pos, negsuc, ◌*ℤ◌, ◌≤ℤ◌, unsigned_abs, length, FitsSigned, arith, ap, sym, ◌∙◌, refl}
+use Rattle.std.proofs.Common.{◌≡◌, ℕ, ◌*◌, ◌^◌, ◌<◌, ◌≤◌, min, ℤ, pos, negsuc, ◌*ℤ◌, ◌≤ℤ◌, unsigned_abs, FitsSigned, arith, ◌∙◌, refl}
 use Rattle.std.specs.Int.{w128}
-use Rattle.std.proofs.lemmas.Int.{ints, unsigned_abs-mul, to_z-of_z}
+use Rattle.std.proofs.lemmas.Int.{ints, to_z-of_z}
 use Rattle.std.proofs.lemmas.List.Elements.{All-get_or}
 use Rattle.std.proofs.Math.Nat.{mul-le-mul_left, pow-le-pow_left}
-use Rattle.integer_algebra.specs.Sums.{at}
-use Rattle.integer_algebra.specs.Sizes.{size}
 use Rattle.integer_algebra.proofs.PowerLaws.{pow-two}
 use Rattle.qp_model.specs.declared.design_parts.DesignParts.{DesignParts}
 use Rattle.qp_model.specs.Parts.{design_of, IsDesign}
 use Rattle.qp_model.specs.Range.{IsDenominator, IsPositive}
-use Rattle.qp_model.specs.Runs.{counts}
 use Rattle.qp_model.specs.Quantities.{weight_sum, cost_width, limit_width, response_size, cost_entry_size, limit_entry_size}
 use Rattle.qp_model.proofs.SizeFacts.{some_weight}
-use Rattle.qp_model.proofs.QuantityLaws.{powered_size, weights_size}
+use Rattle.qp_model.proofs.QuantityLaws.{powered_size}
 use Rattle.plant_condense.specs.Form.{IsLeastInput, response_scale}
 use Rattle.plant_condense.proofs.Rooms.{read, narrow}
-use Rattle.plant_condense.proofs.CostFacts.{response_room, own_room}
+use Rattle.plant_condense.proofs.CostFacts.{own_room}
 
 -- ---- naturals as integers
 pub natural : (z : ℤ) → pos 1 ≤ℤ z → z ≡ pos (unsigned_abs z)

@@ -2,7 +2,7 @@
 use Rattle.std.proofs.Common.{◌≡◌, ℕ, ◌^◌, ◌<◌, ◌≤◌, Option, Some, None, is_some, true, arith, refl}
 use Rattle.std.specs.Option.{SomeIff}
 use Rattle.qp_model.specs.declared.quantity.Quantity.{Quantity}
-use Rattle.qp_model.specs.declared.quantity.Quantity.TheVariants.{Prediction, CornerSlack, CornerCost, Multiplier, Hessian, Rows, Curvature, Error, Descent, Width, Turn}
+use Rattle.qp_model.specs.declared.quantity.Quantity.TheVariants.{Prediction, Hessian, Rows}
 use Rattle.qp_model.specs.Design.{Design}
 use Rattle.qp_model.specs.Quantities.{prediction_size, hessian_size}
 use Rattle.plant_condense.specs.Fault.{IsFirstWide}

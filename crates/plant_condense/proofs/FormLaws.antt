@@ -1,10 +1,9 @@
 -- The numbers of a design as its condensed form.
-use Rattle.std.proofs.Common.{◌≡◌, inl, inr, ℕ, ◌+◌, ◌*◌, ◌^◌, ◌<◌, ◌≤◌, min, [], ◌∷◌, List, length, get_or, All, ℤ, pos, negsuc, ◌+ℤ◌, ◌*ℤ◌, ◌≤ℤ◌, ◌<ℤ◌, unsigned_abs, arith, ap, sym, ◌∙◌, refl}
+use Rattle.std.proofs.Common.{◌≡◌, ℕ, ◌+◌, ◌*◌, ◌^◌, ◌≤◌, min, [], ◌∷◌, List, length, ℤ, pos, ◌+ℤ◌, ◌*ℤ◌, ◌≤ℤ◌, ◌<ℤ◌, unsigned_abs, arith, ap, sym, ◌∙◌, refl}
 use Rattle.std.proofs.lemmas.Int.{ints, unsigned_abs-mul}
 use Rattle.std.proofs.lemmas.List.Elements.{All-from_get_or}
-use Rattle.std.proofs.lemmas.Nat.{pow_pos}
 use Rattle.std.proofs.Math.Nat.{mul-le-mul_left, one-le-mul}
-use Rattle.integer_algebra.specs.Sums.{total, dot, image, at, square}
+use Rattle.integer_algebra.specs.Sums.{total, dot, image, square}
 use Rattle.integer_algebra.proofs.OrderLaws.{pos_positive, mul_pos_z, le_by, add-le-add_z, mul-le-mul_left_z, mul-le-mul_right_z, cancel-le_z, square_nonneg_z}
 use Rattle.integer_algebra.proofs.SumLaws.{total_nonneg}
 use Rattle.integer_algebra.proofs.VectorLaws.{quadratic_scale}
@@ -26,7 +25,7 @@ use Rattle.qp_model.specs.Quantities.{cost_entry_size, limit_entry_size, hessian
 use Rattle.qp_model.proofs.CurvatureLaws.{hessian_law, curvature_law}
 use Rattle.qp_model.proofs.AgreesLaws.{agrees_law}
 use Rattle.qp_model.proofs.SizeFacts.{some_entry, some_row}
-use Rattle.qp_model.proofs.QuantityLaws.{plan_cost_size, state_cost_size, plan_row_size, state_row_size, bound_width, powered_size}
+use Rattle.qp_model.proofs.QuantityLaws.{state_cost_size, plan_row_size, state_row_size, bound_width, powered_size}
 use Rattle.plant_condense.specs.declared.condensed.Condensed.{Condensed}
 use Rattle.plant_condense.specs.Form.{condensed_of, solve_matrix, HasShapes, IsLeastInput, response_scale, HasDenominators, HasSizes, IsFormOf}
 use Rattle.plant_condense.specs.Fault.{AreSizes}

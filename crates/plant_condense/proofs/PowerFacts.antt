@@ -1,10 +1,8 @@
 -- Powers of the denominator.
-use Rattle.std.proofs.Common.{◌≡◌, ℕ, ◌+◌, ◌*◌, ◌^◌, ◌<◌, ◌≤◌, ℤ, pos, negsuc, ◌*ℤ◌, ◌≤ℤ◌, unsigned_abs, arith, FitsSigned, add-one, refl}
+use Rattle.std.proofs.Common.{◌≡◌, ℕ, ◌+◌, ◌^◌, ◌<◌, ◌≤◌, ℤ, pos, negsuc, ◌*ℤ◌, ◌≤ℤ◌, unsigned_abs, arith, FitsSigned, add-one, refl}
 use Rattle.std.specs.Int.{w128}
 use Rattle.std.proofs.lemmas.Int.{ints, to_z-of_z}
-use Rattle.std.proofs.Math.Nat.{mul-le-mul_left, pow-suc, pow-le-pow_left, pow-le-pow_right}
-use Rattle.qp_model.specs.Design.{Design}
-use Rattle.plant_condense.specs.Lists.{UnitsFit}
+use Rattle.std.proofs.Math.Nat.{pow-suc, pow-le-pow_right}
 use Rattle.plant_condense.proofs.Rooms.{read, narrow}
 
 -- the next power

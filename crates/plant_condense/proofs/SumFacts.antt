@@ -2,7 +2,7 @@
 use Rattle.std.proofs.Common.{◌≡◌, ℕ, ◌*◌, ◌^◌, ◌<◌, ◌≤◌, ℤ, pos, ◌*ℤ◌, List, length, take, unsigned_abs, arith, ap, sym, ◌∙◌, refl}
 use Rattle.std.proofs.lemmas.List.{get_or-take, length-take-le}
 use Rattle.integer_algebra.specs.Sums.{at, dot}
-use Rattle.integer_algebra.specs.Sizes.{amount, product_size}
+use Rattle.integer_algebra.specs.Sizes.{product_size}
 use Rattle.integer_algebra.proofs.SumLaws.{total_same}
 use Rattle.integer_algebra.proofs.SizeLaws.{amount_same, product_size_is}
 use Rattle.mat_int.specs.Row as lists

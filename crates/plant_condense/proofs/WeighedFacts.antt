@@ -1,22 +1,18 @@
 -- The condensed cost as weighted sums over counted rows, and their bounds.
-use Rattle.std.proofs.Common.{◌≡◌, inl, inr, ℕ, zero, suc, ◌+◌, ◌-◌, ◌*◌, ◌/◌, ◌%◌, ◌^◌, ◌<◌, ◌≤◌, [], ◌∷◌, Bool, true, false, ℤ, pos, ◌+ℤ◌, ◌*ℤ◌, neg_ℤ, nat_lt, if◌then◌else◌, unsigned_abs, arith, ap, ◌∙◌, refl}
+use Rattle.std.proofs.Common.{◌≡◌, inl, inr, ℕ, zero, suc, ◌+◌, ◌-◌, ◌*◌, ◌/◌, ◌%◌, ◌^◌, ◌<◌, ◌≤◌, [], ◌∷◌, Bool, true, false, ℤ, pos, ◌+ℤ◌, ◌*ℤ◌, neg_ℤ, nat_lt, if◌then◌else◌, unsigned_abs, arith, ◌∙◌, refl}
 use Rattle.std.proofs.lemmas.Bool.{cases_lt, lt-ltb, le-ltb}
-use Rattle.std.proofs.lemmas.Int.{ints, unsigned_abs-mul}
+use Rattle.std.proofs.lemmas.Int.{unsigned_abs-mul}
 use Rattle.std.proofs.Math.Nat.{mul-le-mul_left}
-use Rattle.integer_algebra.specs.Sums.{total, dot, none, square}
+use Rattle.integer_algebra.specs.Sums.{total, none}
 use Rattle.integer_algebra.specs.Sizes.{size, product_size}
 use Rattle.integer_algebra.proofs.RingLaws.{add_equations}
 use Rattle.integer_algebra.proofs.SumLaws.{total_same, total_scale}
-use Rattle.integer_algebra.proofs.SizeLaws.{total_size}
 use Rattle.integer_algebra.proofs.PowerLaws.{pow-two}
 use Rattle.integer_algebra.proofs.Quoting.{by_ring, quotes}
 use Rattle.qp_model.specs.Design.{Design, CostRow, entries}
-use Rattle.qp_model.specs.Trajectory.{lift}
 use Rattle.qp_model.specs.Condensing.{numbers_of, cost_target}
 use Rattle.qp_model.specs.Runs.{unit, cost_run, counted, counts}
-use Rattle.qp_model.proofs.RunLaws.{product_within}
 use Rattle.qp_model.proofs.RowLaws.{lift_power, stage_inside}
-use Rattle.qp_model.proofs.CountLaws.{counted_all}
 use Rattle.qp_model.proofs.GramLaws.{gram_law, own_diagonal}
 use Rattle.plant_condense.specs.Costs.{plan_cost, state_cost, weight_of, target_of, weighed, own_cost}
 

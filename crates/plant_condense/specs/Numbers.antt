@@ -1,5 +1,5 @@
 -- The condensed cost and the condensed limits as matrices and lists.
-use Rattle.std.specs.Prelude.{◌≡◌, ℕ, ◌+◌, ◌*◌, ◌^◌, ℤ, pos, ◌+ℤ◌, ◌*ℤ◌, neg_ℤ, List}
+use Rattle.std.specs.Prelude.{◌^◌, ℤ, pos, ◌+ℤ◌, ◌*ℤ◌, neg_ℤ, List}
 use Rattle.integer_algebra.specs.Sums.{none}
 use Rattle.mat_int.specs.Matrix.{Matrix}
 use Rattle.qp_model.specs.Design.{Design, entries, rows}

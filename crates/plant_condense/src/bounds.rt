@@ -22,7 +22,7 @@ fn bound_of(parts: &DesignParts, i: usize) -> i128
     }
 }
 
-/// Each limit row's bound, times `scale`.
+/// Each limit row's bound, which is over `limit_den`, times `scale`.
 pub fn scaled_bounds(
     alloc: Global,
     parts: &DesignParts,

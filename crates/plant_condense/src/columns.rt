@@ -23,7 +23,7 @@ pub fn set_column(mat: &mut Mat, j: usize, column: &[i128])
     }
 }
 
-/// What the rows have of the run from `start` under `plan`.
+/// What the rows have of the run from `start` under `plan`, over `limit_den * plant_den^N`.
 pub fn column_of(
     alloc: Global,
     parts: &DesignParts,
@@ -77,7 +77,7 @@ fn state_column(
     column_of(alloc, parts, powers, &start, &plan)
 }
 
-/// What the rows have of each entry of the plan.
+/// What the rows have of each entry of the plan, over `limit_den * plant_den^N`: m rows of nu numbers.
 pub fn plan_columns(alloc: Global, parts: &DesignParts, powers: &[i128]) -> Result<Mat, AllocError>
     requires design { IsDesign parts.now }
     requires powers { ArePowers parts.now powers.now }
@@ -95,7 +95,7 @@ pub fn plan_columns(alloc: Global, parts: &DesignParts, powers: &[i128]) -> Resu
     Ok(mat)
 }
 
-/// What the rows have of each state.
+/// What the rows have of each state, over `limit_den * plant_den^N`: m rows of n numbers.
 pub fn state_columns(alloc: Global, parts: &DesignParts, powers: &[i128]) -> Result<Mat, AllocError>
     requires design { IsDesign parts.now }
     requires powers { ArePowers parts.now powers.now }

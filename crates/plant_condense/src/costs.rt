@@ -84,7 +84,7 @@ impl<'a> Costs<'a> {
         Ok(column)
     }
 
-    /// The hessian. `square` is the square of what the responses are over.
+    /// The hessian, nu by nu, over `cost_den * square`, where `square` is the square of what the responses are over.
     pub fn hessian(&self, alloc: Global, square: i128) -> Result<Mat, AllocError>
         requires { square ≡ pos (response_scale (design_of self.now.parts.now) ^ 2) }
         ensures { IfOk result (λ m. HoldsMatrix m (entries (design_of self.now.parts.now)) (entries (design_of self.now.parts.now)) (entries (design_of self.now.parts.now))
@@ -99,7 +99,7 @@ impl<'a> Costs<'a> {
         Ok(mat)
     }
 
-    /// The cost's part that is linear in the plan and in the state.
+    /// The cost's part that is linear in the plan and in the state, nu by n, over what the hessian is over.
     pub fn linear(&self, alloc: Global, powers: &[i128]) -> Result<Mat, AllocError>
         requires { ArePowers self.now.parts.now powers.now }
         ensures { IfOk result (λ m. HoldsMatrix m (entries (design_of self.now.parts.now)) self.now.parts.now.states self.now.parts.now.states
@@ -114,7 +114,7 @@ impl<'a> Costs<'a> {
         Ok(mat)
     }
 
-    /// The cost's part that is linear in the plan alone. `power` is the plant's denominator to the power of the stages.
+    /// The cost's part that is linear in the plan alone, nu numbers over what the hessian is over. `power` is `plant_den^N`.
     pub fn constant(&self, alloc: Global, power: i128) -> Result<Vec<i128>, AllocError>
         requires { power ≡ pos (unsigned_abs self.now.parts.now.plant_den ^ self.now.parts.now.stages) }
         ensures { IfOk result (λ v. Holds v.items (entries (design_of self.now.parts.now)) (λ j. weighed (design_of self.now.parts.now) j (λ c.

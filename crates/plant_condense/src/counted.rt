@@ -56,7 +56,7 @@ pub fn weights_of(alloc: Global, parts: &DesignParts) -> Result<Vec<i128>, Alloc
     Ok(out)
 }
 
-/// The target of each counted cost row, times `scale`.
+/// The target of each counted cost row, which is over `row_den`, times `scale`.
 pub fn scaled_targets(
     alloc: Global,
     parts: &DesignParts,
@@ -74,8 +74,8 @@ pub fn scaled_targets(
     Ok(out)
 }
 
-// What the counted cost rows have of the run from `start` under `plan`.
-fn costs_of(
+/// What the counted cost rows have of the run from `start` under `plan`, over `row_den * plant_den^N`.
+pub fn costs_of(
     alloc: Global,
     parts: &DesignParts,
     powers: &[i128],
@@ -109,7 +109,7 @@ fn plan_costs(
     costs_of(alloc, parts, powers, &start, &plan)
 }
 
-/// What the counted cost rows have of state `i`.
+/// What the counted cost rows have of state `i`, over `row_den * plant_den^N`.
 pub fn state_costs(
     alloc: Global,
     parts: &DesignParts,
@@ -128,7 +128,7 @@ pub fn state_costs(
     costs_of(alloc, parts, powers, &start, &plan)
 }
 
-/// What the counted cost rows have of each entry of the plan, a list for each.
+/// What the counted cost rows have of each entry of the plan, a list for each, over `row_den * plant_den^N`.
 pub fn all_plan_costs(
     alloc: Global,
     parts: &DesignParts,

@@ -16,7 +16,11 @@ mod run;
 mod states;
 mod sums;
 
+pub use bounds::scaled_bounds;
+pub use columns::column_of;
 pub use condensed::Condensed;
+pub use counted::{costs_of, scaled_targets, weights_of};
 pub use fault::CondenseFault;
 pub use form::condense;
+pub use powers::{last_power, powers_of};
 pub use run::Run;

@@ -6,7 +6,7 @@ ghost use Rattle.plant_condense.specs.Lists.{ArePowers};
 use qp_model::DesignParts;
 use std::alloc::{AllocError, Global};
 
-/// The powers up to the number of stages.
+/// The powers of `plant_den`, from 1 up to that of the number of stages.
 pub fn powers_of(alloc: Global, parts: &DesignParts) -> Result<Vec<i128>, AllocError>
     requires design { IsDesign parts.now }
     requires fits { unsigned_abs parts.now.plant_den ^ parts.now.stages ≤ 2 ^ 126 }
@@ -22,7 +22,7 @@ pub fn powers_of(alloc: Global, parts: &DesignParts) -> Result<Vec<i128>, AllocE
     Ok(out)
 }
 
-/// The last of them.
+/// The last of them, `plant_den^N`.
 pub fn last_power(parts: &DesignParts, powers: &[i128]) -> i128
     requires { ArePowers parts.now powers.now }
     ensures { result ≡ pos (unsigned_abs parts.now.plant_den ^ parts.now.stages) }

@@ -1,4 +1,4 @@
-// A run of the plant, and what the limit rows have of it.
+// A run of the plant from whole numbers, and what rows have of it. The state at stage k is over plant_den^k.
 ghost use Rattle.mat_int.specs.Lines.{lists};
 ghost use Rattle.plant_condense.specs.Lists.{IsMade};
 
@@ -7,7 +7,8 @@ use crate::sums::{mixed, product};
 use qp_model::DesignParts;
 use std::alloc::{AllocError, Global};
 
-/// The states of a run from `start` under `plan`.
+/// The states of a run from `start` under `plan`: n numbers, and the inputs of stage 0, of stage 1 and so on. Both are numerators over
+/// one denominator, and so is what rows have of the run, times `plant_den^N`.
 #[derive(Drop)]
 pub struct Run<'a> {
     parts: &'a DesignParts,
@@ -28,7 +29,7 @@ impl<'a> Run<'a> {
     ghost use Rattle.qp_model.specs.Trajectory.{lift};
     ghost use Rattle.plant_condense.specs.Lists.{IsReady, row_of_numbers, RowFits, RowsFit, CostRowFits, CostsFit};
 
-    /// The run.
+    /// The run. `powers` are those of `plant_den`, up to the number of stages.
     pub fn new(
         alloc: Global,
         parts: &'a DesignParts,
@@ -69,7 +70,8 @@ impl<'a> Run<'a> {
         self.powers[self.parts.stages - k] * sum
     }
 
-    /// What limit row `i` has of the run.
+    /// What limit row `i` has of the run, without its bound, over `limit_den * plant_den^N`: the stage rows of stage 0, of stage 1 and
+    /// so on, then the final rows.
     pub fn row(&self, i: usize) -> i128
         requires row { i < rows (design_of self.now.parts.now) }
         requires fits { RowsFit (design_of self.now.parts.now) (at self.now.start.now) (at self.now.plan.now) }
@@ -87,7 +89,7 @@ impl<'a> Run<'a> {
         }
     }
 
-    /// What each limit row has of the run.
+    /// What each limit row has of the run, over `limit_den * plant_den^N`.
     pub fn rows(&self, alloc: Global) -> Result<Vec<i128>, AllocError>
         requires { RowsFit (design_of self.now.parts.now) (at self.now.start.now) (at self.now.plan.now) }
         ensures { IfOk result (λ v. Holds v.items (rows (design_of self.now.parts.now)) (row_at (design_of self.now.parts.now) (at self.now.start.now) (at self.now.plan.now))) }
@@ -111,7 +113,8 @@ impl<'a> Run<'a> {
         self.powers[self.parts.stages - k] * product(row, &self.states[k])
     }
 
-    /// What counted cost row `c` has of the run.
+    /// What counted cost row `c` has of the run, without its target, over `row_den * plant_den^N`: the stage rows of stage 1, of
+    /// stage 2 and so on, then the final rows.
     pub fn cost(&self, c: usize) -> i128
         requires row { c < counts (design_of self.now.parts.now) }
         requires fits { CostsFit (design_of self.now.parts.now) (at self.now.start.now) (at self.now.plan.now) }
@@ -126,7 +129,7 @@ impl<'a> Run<'a> {
         }
     }
 
-    /// What each counted cost row has of the run.
+    /// What each counted cost row has of the run, over `row_den * plant_den^N`.
     pub fn costs(&self, alloc: Global) -> Result<Vec<i128>, AllocError>
         requires { CostsFit (design_of self.now.parts.now) (at self.now.start.now) (at self.now.plan.now) }
         ensures { IfOk result (λ v. Holds v.items (counts (design_of self.now.parts.now))

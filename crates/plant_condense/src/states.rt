@@ -12,7 +12,7 @@ use crate::sums::mixed;
 use qp_model::DesignParts;
 use std::alloc::{AllocError, Global};
 
-/// The next state of the plant.
+/// The next state of the plant, over `plant_den` times what the state is over. `scale` brings the input over what the state is over.
 pub fn next_state(
     alloc: Global,
     parts: &DesignParts,
@@ -35,7 +35,7 @@ pub fn next_state(
     Ok(out)
 }
 
-/// The states of a run from `start` under `plan`, stage by stage.
+/// The states of a run from `start` under `plan`, stage by stage, each over the stage's power of `plant_den`.
 pub fn states_of(
     alloc: Global,
     parts: &DesignParts,

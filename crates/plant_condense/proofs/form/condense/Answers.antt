@@ -1,7 +1,3 @@
-use Rattle.std.proofs.Common.{◌≡◌, ◌^◌, ◌≤◌, unsigned_abs, Ok, Err, ap, sym, ◌∙◌}
-use Rattle.qp_model.specs.declared.quantity.Quantity.{Quantity}
-use Rattle.qp_model.specs.declared.design_parts.DesignParts.{DesignParts}
-use Rattle.plant_condense.specs.declared.fault.CondenseFault.TheVariants.{TooWide}
 use Rattle.qp_model.specs.Parts.{design_of}
 use Rattle.plant_condense.specs.Fault.{IsFirstWide}
 use Rattle.plant_condense.proofs.CostFacts.{power_room}

@@ -1,4 +1,4 @@
-use Rattle.std.proofs.Common.{◌≡◌, ◌^◌, ◌≤◌, Err, ap, rules}
+use Rattle.std.proofs.Common.{◌≡◌, ◌^◌, ◌≤◌, Err, ap}
 use Rattle.qp_model.specs.declared.quantity.Quantity.{Quantity}
 use Rattle.qp_model.specs.declared.quantity.Quantity.TheVariants.{Hessian}
 use Rattle.plant_condense.specs.declared.fault.CondenseFault.TheVariants.{TooWide}

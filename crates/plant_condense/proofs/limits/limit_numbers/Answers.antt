@@ -1,4 +1,4 @@
-use Rattle.std.proofs.Common.{ℕ, ◌^◌, ◌≤◌, ℤ, ◌*ℤ◌, unsigned_abs, arith, ap, ◌∙◌, rules}
+use Rattle.std.proofs.Common.{ℕ, ◌^◌, ◌≤◌, unsigned_abs, arith, rules}
 use Rattle.std.specs.Int.{w128}
 use mir.Val.{SFits}
 use Rattle.std.proofs.lemmas.Int.{to_z-of_z}
@@ -6,8 +6,6 @@ use Rattle.qp_model.specs.Parts.{design_of}
 use Rattle.qp_model.specs.Quantities.{limit_width}
 use Rattle.qp_model.specs.Runs.{bound_at}
 use Rattle.qp_model.proofs.QuantityLaws.{bound_width, powered_size}
-use Rattle.plant_condense.proofs.Rooms.{read}
-use Rattle.plant_condense.proofs.Pushes.{holds_to}
 use Rattle.plant_condense.proofs.ColumnFacts.{units_fit}
 use Rattle.plant_condense.proofs.limits.limit_numbers.Goals as goal
 

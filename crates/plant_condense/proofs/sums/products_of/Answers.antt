@@ -1,9 +1,9 @@
-use Rattle.std.proofs.Common.{◌*ℤ◌, rules, get_or, pos, unsigned_abs, ◌≤◌, arith, refl}
+use Rattle.std.proofs.Common.{◌*ℤ◌, rules, get_or, pos, arith}
 use Rattle.std.specs.Int.{w128}
 use mir.Val.{SFits}
 use Rattle.integer_algebra.specs.Sums.{at}
 use Rattle.plant_condense.proofs.Pushes.{pushed}
-use Rattle.plant_condense.proofs.StageFacts.{lifted_fits, lifted}
+use Rattle.plant_condense.proofs.StageFacts.{lifted}
 use Rattle.plant_condense.proofs.sums.products_of.Goals as goal
 
 pub loop-i-preserved : goal.loop-i-preserved

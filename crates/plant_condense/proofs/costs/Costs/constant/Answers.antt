@@ -3,7 +3,7 @@ use Rattle.qp_model.specs.Design.{entries}
 use Rattle.qp_model.specs.Parts.{design_of}
 use Rattle.qp_model.specs.Quantities.{response_size}
 use Rattle.qp_model.specs.Runs.{counts, Holds}
-use Rattle.plant_condense.specs.Costs.{target_of, weighed}
+use Rattle.plant_condense.specs.Costs.{target_of}
 use Rattle.plant_condense.proofs.Rooms.{read, negated}
 use Rattle.plant_condense.proofs.Pushes.{holds_to}
 use Rattle.plant_condense.proofs.CostFacts.{response_room, power_room, target_size, scaled_target_size, abs-neg, held_small, weighed_function}

@@ -1,5 +1,3 @@
-use Rattle.std.proofs.Common.{length, ap, ◌∙◌, ◌≡◌}
-use Rattle.integer_algebra.specs.Sums.{at}
 use Rattle.qp_model.specs.Design.{entries}
 use Rattle.qp_model.specs.Parts.{design_of}
 use Rattle.qp_model.specs.Quantities.{response_size}

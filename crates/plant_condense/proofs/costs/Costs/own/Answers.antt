@@ -1,11 +1,9 @@
-use Rattle.std.proofs.Common.{rules, ◌≡◌, ◌<◌, ◌%◌, ◌*◌, ◌^◌, ◌≤◌, pos, length, unsigned_abs, arith, ◌∙◌}
+use Rattle.std.proofs.Common.{◌≡◌, ◌<◌, ◌%◌, ◌*◌, ◌^◌, ◌≤◌, pos, length, unsigned_abs, arith, ◌∙◌}
 use Rattle.std.specs.Int.{w128}
 use mir.Val.{SFits}
 use Rattle.std.proofs.lemmas.List.{get_or_default}
 use Rattle.integer_algebra.specs.Sums.{at}
 use Rattle.plant_condense.proofs.Rooms.{product_fits, doubled_product_fits, doubled_product}
-use Rattle.qp_model.specs.Parts.{design_of}
-use Rattle.plant_condense.specs.Form.{response_scale}
 use Rattle.plant_condense.proofs.CostFacts.{own_room, own_value, weight_fits}
 use Rattle.plant_condense.proofs.costs.Costs.own.Goals as goal
 
