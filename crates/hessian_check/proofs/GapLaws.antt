@@ -4,10 +4,10 @@ use Rattle.std.specs.Prelude.{Result, Ok, Err, IfOk}
 use Rattle.std.specs.declared.alloc.AllocError.{AllocError}
 use Rattle.mat_int.specs.Matrix.{Matrix, entry_of}
 use Rattle.hessian_check.specs.declared.gaps.Gaps.{Gaps}
-use Rattle.hessian_check.specs.Dominance.{IsSymmetric}
+use Rattle.hessian_check.specs.Dominance.{AreSame, IsSymmetric}
 use Rattle.hessian_check.specs.GapRoom.{gap_at, HasRoom}
-use Rattle.hessian_check.proofs.PassLaws.{AreSame}
-use Rattle.hessian_check.specs.Gaps.{HasEntries, mixed}
+use Rattle.hessian_check.specs.Filling.{HasEntries}
+use Rattle.hessian_check.specs.Gaps.{mixed}
 use Rattle.std.specs.Int.{w128}
 use Rattle.std.proofs.lemmas.Int.{ints, unsigned_abs-mul, fits_signed_from_abs}
 use Rattle.std.proofs.Math.Nat.{mul-le-mul_left, pow-le-pow_right}
@@ -51,10 +51,10 @@ turned_factor p a x y = by_ring (p ∷ a ∷ x ∷ y ∷ []) (search quotes dept
 pub factor_fits : (a : ℤ) → pos 0 ≤ℤ a → a ≤ℤ pos (2 ^ 40) → FitsSigned w128 a
 factor_fits a h k = omega (arith, ints)
 
-pub entries_as : (r : Result Matrix AllocError) (p a b : ℤ) (f g : ℕ → ℕ → ℤ) → IfOk r (λ m. HasEntries m (mixed (a *ℤ p) f b g)) →
-    IfOk r (λ m. HasEntries m (λ i j. p *ℤ a *ℤ f i j -ℤ b *ℤ g i j))
-entries_as (Ok m) p a b f g h = λ i j k l. h i j k l ∙ turned_factor p a (f i j) (b *ℤ g i j)
-entries_as (Err e) p a b f g h = h
+pub entries_as : (r : Result Matrix AllocError) (n : ℕ) (p a b : ℤ) (f g : ℕ → ℕ → ℤ) → IfOk r (HasEntries n n (mixed (a *ℤ p) f b g)) →
+    IfOk r (HasEntries n n (λ i j. p *ℤ a *ℤ f i j -ℤ b *ℤ g i j))
+entries_as (Ok m) n p a b f g h = record { rows = h.rows; cols = h.cols; even = h.even; entries = λ i j k l. h.entries i j k l ∙ turned_factor p a (f i j) (b *ℤ g i j) }
+entries_as (Err e) n p a b f g h = h
 
 -- the absolute values of a row of a difference
 size-mixed_le : (n p q : ℕ) (x y : ℤ) (f g : ℕ → ℤ) → unsigned_abs x ≡ p → unsigned_abs y ≡ q →

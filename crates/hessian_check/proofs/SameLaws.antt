@@ -8,11 +8,12 @@ use Rattle.integer_algebra.specs.Sums.{total, square, dot}
 use Rattle.integer_algebra.proofs.SumLaws.{total_same}
 use Rattle.integer_algebra.specs.Division.{floor_of}
 use Rattle.mat_int.specs.Matrix.{Matrix, entry_of}
-use Rattle.hessian_check.specs.Gaps.{HasEntries, mixed}
-use Rattle.hessian_check.specs.Dominance.{others, IsDominant, IsSymmetric}
+use Rattle.hessian_check.specs.Filling.{HasEntries}
+use Rattle.hessian_check.specs.Gaps.{mixed}
+use Rattle.hessian_check.specs.Dominance.{AreSame, others, IsDominant, IsSymmetric}
 use Rattle.hessian_check.specs.Recipe.{top, low, left, quotient, IsStart, IsShift, IsPart, IsRow, IsRoot, margin, scaled_up}
 use Rattle.hessian_check.specs.Curvature.{IsCertified, IsLeast}
-use Rattle.hessian_check.proofs.PassLaws.{AreSame, passes_same, same_back}
+use Rattle.hessian_check.proofs.PassLaws.{passes_same, same_back}
 
 -- a factor
 pub same_scaled : (n : ℕ) (p : ℤ) (m w : ℕ → ℕ → ℤ) → AreSame n m w → AreSame n (scaled_up p m) (scaled_up p w)
@@ -78,29 +79,29 @@ certified_moved n m w h c = record {
 }
 
 -- a matrix with the entries of an index function
-pub has_same : (n : ℕ) (m : Matrix) (f : ℕ → ℕ → ℤ) → length m.rows ≡ n → HasEntries m f → AreSame n (entry_of m) f
-has_same n m f e h = record { is = λ i j k l. h i j (rw e k) (rw e l) }
+pub has_same : (n : ℕ) (f : ℕ → ℕ → ℤ) (m : Matrix) → HasEntries n n f m → AreSame n (entry_of m) f
+has_same n f m h = record { is = h.entries }
 
--- so what a test tells of it, it tells of the function
-pub dominant_told : (n : ℕ) (m : Matrix) (f : ℕ → ℕ → ℤ) (b : Bool) → length m.rows ≡ n → HasEntries m f →
+-- what a test tells of it, it tells of the function
+pub dominant_told : (n : ℕ) (f : ℕ → ℕ → ℤ) (m : Matrix) (b : Bool) → HasEntries n n f m →
     (IsTrue b ↔ IsDominant (length m.rows) (entry_of m)) → IsTrue b ↔ IsDominant n f
-dominant_told n m f b e h t =
-    let s = has_same n m f e h in
-    (λ y. dominant_moved n (entry_of m) f s (rw e at (t.0 y)), λ d. t.1 (rw e (dominant_moved n f (entry_of m) (same_back n (entry_of m) f s) d)))
+dominant_told n f m b h t =
+    let s = has_same n f m h in
+    (λ y. dominant_moved n (entry_of m) f s (rw h.rows at (t.0 y)), λ d. t.1 (rw h.rows (dominant_moved n f (entry_of m) (same_back n (entry_of m) f s) d)))
 
-pub certified_told : (n : ℕ) (m : Matrix) (f : ℕ → ℕ → ℤ) (b : Bool) → length m.rows ≡ n → HasEntries m f →
+pub certified_told : (n : ℕ) (f : ℕ → ℕ → ℤ) (m : Matrix) (b : Bool) → HasEntries n n f m →
     (IsTrue b ↔ IsCertified (length m.rows) (entry_of m)) → IsTrue b ↔ IsCertified n f
-certified_told n m f b e h t =
-    let s = has_same n m f e h in
-    (λ y. certified_moved n (entry_of m) f s (rw e at (t.0 y)), λ d. t.1 (rw e (certified_moved n f (entry_of m) (same_back n (entry_of m) f s) d)))
+certified_told n f m b h t =
+    let s = has_same n f m h in
+    (λ y. certified_moved n (entry_of m) f s (rw h.rows at (t.0 y)), λ d. t.1 (rw h.rows (certified_moved n f (entry_of m) (same_back n (entry_of m) f s) d)))
 
 -- the least number that a loop finds
 pub found : (p : ℕ → Type 0) (s end : ℕ) → s < end → ((k : ℕ) → k < s → ¬ p k) → p s → (s < end) × IsLeast p s
 found p s end l none y = (l, record { holds = y; least = none })
 
 -- a matrix with a factor, as a difference
-pub raised_same : (n : ℕ) (m w : Matrix) (p : ℤ) → length w.rows ≡ n → HasEntries w (mixed p (entry_of m) (pos 0) (entry_of m)) → AreSame n (entry_of w) (scaled_up p (entry_of m))
-raised_same n m w p e h = record { is = λ i j k l. h i j (rw e k) (rw e l) ∙ less (p *ℤ entry_of m i j) (entry_of m i j) }
+pub raised_same : (n : ℕ) (m w : Matrix) (p : ℤ) → HasEntries n n (mixed p (entry_of m) (pos 0) (entry_of m)) w → AreSame n (entry_of w) (scaled_up p (entry_of m))
+raised_same n m w p h = record { is = λ i j k l. h.entries i j k l ∙ less (p *ℤ entry_of m i j) (entry_of m i j) }
   where
     less : (x y : ℤ) → x -ℤ pos 0 *ℤ y ≡ x
     less x y = by_ring (x ∷ y ∷ []) (search quotes depth 60 fits 20000) refl
