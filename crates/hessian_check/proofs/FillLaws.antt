@@ -5,7 +5,8 @@ use Rattle.std.proofs.lemmas.Bool.{cases_lt, cases_eq}
 use Rattle.std.proofs.lemmas.List.{length-set, length-replicate, get_or-replicate}
 use Rattle.std.proofs.lemmas.List.Elements.{All-get_or, All-from_get_or}
 use Rattle.mat_int.specs.Matrix.{Matrix, row_of, entry_of, with_entry, zero_matrix}
-use Rattle.hessian_check.specs.Filling.{HasEntries, HasFirstRows, HasFirst}
+use Rattle.mat_int.specs.Matrix.{HasEntries}
+use Rattle.hessian_check.specs.Filling.{HasFirstRows, HasFirst}
 use Rattle.hessian_check.specs.Recipe.{IsWritten}
 use Rattle.hessian_check.proofs.StepLaws.{written}
 

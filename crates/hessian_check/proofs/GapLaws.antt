@@ -1,12 +1,15 @@
 -- What code computes of a difference.
 use Rattle.std.proofs.Common.{◌≡◌, ℕ, zero, suc, ◌+◌, ◌*◌, ◌<◌, ◌≤◌, ◌^◌, [], ◌∷◌, ℤ, pos, ◌-ℤ◌, ◌*ℤ◌, ◌≤ℤ◌, unsigned_abs, length, arith, FitsSigned, refl, ap, ap₂, sym, ◌∙◌}
-use Rattle.std.specs.Prelude.{Result, Ok, Err, IfOk}
+use Rattle.std.specs.Prelude.{All, Result, Ok, Err, IfOk}
+use Rattle.std.proofs.lemmas.List.Elements.{All-get_or, All-from_get_or}
+use Rattle.mat_int.specs.Row.{abs_sum}
+use Rattle.mat_int.proofs.Indices.{row_size}
 use Rattle.std.specs.declared.alloc.AllocError.{AllocError}
 use Rattle.mat_int.specs.Matrix.{Matrix, entry_of}
 use Rattle.hessian_check.specs.declared.gaps.Gaps.{Gaps}
 use Rattle.hessian_check.specs.Dominance.{AreSame, IsSymmetric}
 use Rattle.hessian_check.specs.GapRoom.{gap_at, HasRoom}
-use Rattle.hessian_check.specs.Filling.{HasEntries}
+use Rattle.mat_int.specs.Matrix.{HasEntries}
 use Rattle.hessian_check.specs.Gaps.{mixed}
 use Rattle.std.specs.Int.{w128}
 use Rattle.std.proofs.lemmas.Int.{ints, unsigned_abs-mul, fits_signed_from_abs}
@@ -77,3 +80,8 @@ pub gap_turned : (n : ℕ) (g : Gaps) (s : ℕ) (m : Matrix) → length g.cost.r
 gap_turned n g s m e h i j k l = h.is i j k l ∙
     ap₂ (λ (x : ℤ) (y : ℤ). pos (2 ^ s) *ℤ g.cost_factor *ℤ x -ℤ g.row_factor *ℤ y) (g.sound.cost_turned i j (rw e k) (rw e l)) (g.sound.rows_turned i j (rw e k) (rw e l)) ∙
     sym (h.is j i l k)
+
+-- rows that leave room, as lists
+pub all_narrow : (n : ℕ) (f : ℕ → ℕ → ℤ) (m : Matrix) → HasEntries n n f m → ((i : ℕ) → i < n → size n (entry_of m i) < 2 ^ 127) → All (λ row. abs_sum row < 2 ^ 127) m.rows
+all_narrow n f m h r = All-from_get_or (λ row. abs_sum row < 2 ^ 127) m.rows [] (λ i l.
+    rw (row_size n m i (All-get_or (λ row. length row ≡ n) m.rows i [] l h.even)) (r i (rw (← h.rows) l)))

@@ -2,13 +2,6 @@
 use Rattle.std.specs.Prelude.{◌≡◌, ℕ, ◌<◌, ℤ, All, length}
 use Rattle.mat_int.specs.Matrix.{Matrix, entry_of}
 
--- m has this shape and these entries
-pub record HasEntries (height width : ℕ) (entry : ℕ → ℕ → ℤ) (m : Matrix) : Type 0 where
-  pub rows : length m.rows ≡ height
-  pub cols : m.cols ≡ width
-  pub even : All (λ row. length row ≡ width) m.rows
-  pub entries : (i j : ℕ) → i < height → j < width → entry_of m i j ≡ entry i j
-
 -- m is square, and its first i rows have these entries
 pub record HasFirstRows (n : ℕ) (entry : ℕ → ℕ → ℤ) (m : Matrix) (i : ℕ) : Type 0 where
   pub rows : length m.rows ≡ n

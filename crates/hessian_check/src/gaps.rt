@@ -2,7 +2,8 @@
 ghost use Rattle.std.specs.Prelude.{◌≡◌, ◌+◌, ◌*◌, ◌<◌, ◌≤◌, ◌^◌, ℕ, ℤ, pos, ◌-ℤ◌, ◌*ℤ◌, ◌≤ℤ◌, unsigned_abs, length, IfOk};
 ghost use Rattle.mat_int.specs.Matrix.{entry_of};
 ghost use Rattle.hessian_check.specs.Passing.{AreSquare};
-ghost use Rattle.hessian_check.specs.Filling.{HasEntries, HasFirstRows};
+ghost use Rattle.mat_int.specs.Matrix.{HasEntries};
+ghost use Rattle.hessian_check.specs.Filling.{HasFirstRows};
 ghost use Rattle.hessian_check.specs.Gaps.{mixed, AreGaps, IsMixable};
 
 use frac_scaled::scaled;

@@ -1,24 +1,23 @@
 // The exponents of a design's step.
-ghost use Rattle.std.specs.Prelude.{◌≡◌, ◌<◌, ◌≤◌, ◌^◌, ◌↔◌, ℕ, length, unsigned_abs, unwrap_or, IsTrue, IfOk, IsOk, IsErrOf};
+ghost use Rattle.std.specs.Prelude.{◌≡◌, ◌+◌, ◌<◌, ◌≤◌, ◌^◌, ◌↔◌, ℕ, length, unsigned_abs, unwrap_or, IsTrue, IfOk, IsOk, IsErrOf};
 ghost use Rattle.integer_algebra.specs.Sizes.{amount};
-ghost use Rattle.integer_algebra.specs.Division.{floor_of};
 ghost use Rattle.mat_int.specs.Matrix.{entry_of};
 ghost use Rattle.qp_model.specs.CurvatureSize.{CoversSquares, curvature_size};
 ghost use Rattle.qp_model.specs.Curvature.{IsExponent};
 ghost use Rattle.plant_condense.specs.Form.{IsForm};
-ghost use Rattle.hessian_check.specs.Curvature.{IsLeastBelow, gram, gram_size};
-ghost use Rattle.hessian_check.specs.Gaps.{HasEntries};
-ghost use Rattle.hessian_check.specs.Passing.{AreSquare};
-ghost use Rattle.hessian_check.specs.Recipe.{IsEven};
-ghost use Rattle.hessian_check.specs.Steps.{IsPlainExponent, IsStepExponent, OfDesign};
-ghost use Rattle.hessian_check.specs.DesignGaps.{AreGapsOf, curvature_at};
+ghost use Rattle.hessian_check.specs.Curvature.{IsLeastBelow};
+ghost use Rattle.integer_algebra.specs.Matrices.{gram, gram_size};
+ghost use Rattle.mat_int.specs.Matrix.{HasEntries};
+ghost use Rattle.hessian_check.specs.Filling.{HasFirstRows};
+ghost use Rattle.hessian_check.specs.Steps.{half_of, IsPlainExponent, IsStepExponent, HasNoStep, OfDesign};
+ghost use Rattle.hessian_check.specs.DesignGaps.{AreGapsOf, curvature_at, IsScales};
 
 use crate::exponents::exponents_of;
 use crate::fault::{CurvatureFault, StepExponents};
 use crate::gaps::Gaps;
 use crate::squares::squares_exponent;
 use frac_scaled::floor_shift;
-use mat_int::{Mat, dot};
+use mat_int::{Mat, MatFault, dot, gram};
 use plant_condense::Condensed;
 use qp_model::{Quantity, curvature_of};
 use std::alloc::{AllocError, Global};
@@ -28,7 +27,7 @@ use std::alloc::{AllocError, Global};
 pub fn curvature(alloc: Global, c: &Condensed) -> Result<StepExponents, CurvatureFault>
     requires { IsForm c.now }
     ensures plain { OfDesign c.now (λ d. IfOk result (λ e. IsPlainExponent d e.s1)) }
-    ensures step { OfDesign c.now (λ d. IfOk result (λ e. IsStepExponent d e.s1 e.s)) }
+    ensures certified { OfDesign c.now (λ d. IfOk result (λ e. IsStepExponent d e.s1 e.s)) }
     ensures exponents { OfDesign c.now (λ d. IfOk result (λ e. IsExponent d e.s × IsExponent d e.s1)) }
     ensures order { IfOk result (λ e. (e.s ≤ e.s1) × (e.s1 ≤ 40)) }
 
@@ -37,11 +36,11 @@ pub fn curvature(alloc: Global, c: &Condensed) -> Result<StepExponents, Curvatur
     ensures no_other { (q : Quantity) → IsErrOf result (CurvatureFault.TooWide q) → q ≡ Quantity.Curvature }
 
     // Exactly where it isn't and s1 is above 40.
-    ensures no_step { OfDesign c.now (λ d. IsErrOf result CurvatureFault.NoStep → (s1 : ℕ) × IsPlainExponent d s1 × (40 < s1)) }
-    ensures step_found { OfDesign c.now (λ d. (s1 : ℕ) → IsPlainExponent d s1 → 40 < s1 → ¬ IsOk result) }
+    ensures no_step { OfDesign c.now (λ d. IsErrOf result CurvatureFault.NoStep → HasNoStep d) }
+    ensures step { OfDesign c.now (λ d. HasNoStep d → ¬ IsOk result) }
 {
     let squares = squares_of(c);
-    if !is_narrow(c, squares.unwrap_or(40)) {
+    if !is_limited(c, squares.unwrap_or(40)) {
         return Err(CurvatureFault::TooWide {
             quantity: Quantity::Curvature,
         });
@@ -50,20 +49,42 @@ pub fn curvature(alloc: Global, c: &Condensed) -> Result<StepExponents, Curvatur
     exponents_of(alloc, &gaps, squares)
 }
 
+// The denominators, the least input weight and two quantities, which are not negative.
+#[derive(Clone, Copy)]
+struct Scales {
+    weight_den: u128,
+    cost_row_den: u128,
+    limit_den: u128,
+    power: u128,
+    input_floor: u128,
+    hessian: u128,
+    rows: u128,
+}
+
+fn scales_of(c: &Condensed) -> Scales
+    requires { IsForm c.now }
+    ensures { OfDesign c.now (IsScales result) }
+{
+    Scales {
+        weight_den: c.weight_den.unsigned_abs(),
+        cost_row_den: c.cost_row_den.unsigned_abs(),
+        limit_den: c.limit_den.unsigned_abs(),
+        power: c.power.unsigned_abs(),
+        input_floor: c.input_floor.unsigned_abs(),
+        hessian: c.hess_size.unsigned_abs(),
+        rows: c.rows_size.unsigned_abs(),
+    }
+}
+
 // The least number up to 40 that covers the squares of the rows.
 fn squares_of(c: &Condensed) -> Option<u32>
     requires { IsForm c.now }
     ensures { OfDesign c.now (λ d. IsLeastBelow 41 (CoversSquares d) result) }
 {
-    let limit_den = c.limit_den.unsigned_abs();
-    let power = c.power.unsigned_abs();
-    let unit = c.input_floor.unsigned_abs() * (limit_den * limit_den);
-    squares_exponent(
-        c.weight_den.unsigned_abs(),
-        sum_of_squares(&c.g),
-        unit,
-        power * power,
-    )
+    let scales = scales_of(c);
+    let unit = scales.input_floor * (scales.limit_den * scales.limit_den);
+    let part = scales.power * scales.power;
+    squares_exponent(scales.weight_den, sum_of_squares(&c.g), unit, part)
 }
 
 // The squares of all entries.
@@ -80,20 +101,21 @@ fn sum_of_squares(g: &Mat) -> u128
 }
 
 // Whether the quantity `curvature` is within its limit, where the squares ask this exponent.
-fn is_narrow(c: &Condensed, exponent: u32) -> bool
+fn is_limited(c: &Condensed, exponent: u32) -> bool
     requires form { IsForm c.now }
     requires small { exponent ≤ 40 }
     ensures { OfDesign c.now (λ d. IsTrue result ↔ (curvature_at d exponent ≤ 2 ^ 126)) }
 {
-    curvature_of(
+    let scales = scales_of(c);
+    let size = curvature_of(
         exponent,
-        c.limit_den.unsigned_abs(),
-        c.hess_size.unsigned_abs(),
-        c.weight_den.unsigned_abs(),
-        c.cost_row_den.unsigned_abs(),
-        c.rows_size.unsigned_abs(),
-    )
-    .is_some()
+        scales.limit_den,
+        scales.hessian,
+        scales.weight_den,
+        scales.cost_row_den,
+        scales.rows,
+    );
+    size.is_some()
 }
 
 // The gaps of the cost and the rows.
@@ -101,19 +123,21 @@ fn gaps_of(alloc: Global, c: &Condensed) -> Result<Gaps, AllocError>
     requires { IsForm c.now }
     ensures { OfDesign c.now (λ d. IfOk result (AreGapsOf d)) }
 {
+    let cost = halved(alloc, &c.hess)?;
+    let rows = gram_of(alloc, &c.g)?;
+    let scales = scales_of(c);
     Ok(Gaps {
-        cost: halved(alloc, &c.hess)?,
-        rows: gram_of(alloc, &c.g)?,
-        cost_factor: c.limit_den * c.limit_den,
-        row_factor: c.weight_den * (c.cost_row_den * c.cost_row_den),
+        cost,
+        rows,
+        cost_factor: (scales.limit_den * scales.limit_den) as i128,
+        row_factor: (scales.weight_den * (scales.cost_row_den * scales.cost_row_den)) as i128,
     })
 }
 
 // Half a square matrix of even entries.
 fn halved(alloc: Global, mat: &Mat) -> Result<Mat, AllocError>
     requires { mat.now.cols ≡ length mat.now.rows }
-    ensures shape { IfOk result (λ m. AreSquare mat.now m) }
-    ensures entries { IfOk result (λ m. HasEntries m (λ i j. floor_of (entry_of mat.now i j) 2)) }
+    ensures { let n = length mat.now.rows in IfOk result (HasEntries n n (half_of (entry_of mat.now))) }
 {
     let mut out = Mat::zero(alloc, mat.rows(), mat.rows())?;
     for i in 0..mat.rows() {
@@ -122,15 +146,12 @@ fn halved(alloc: Global, mat: &Mat) -> Result<Mat, AllocError>
     Ok(out)
 }
 
-// Row i of it.
+// Row i of it, where the rows before it are made.
 fn halve_row(mat: &Mat, out: &mut Mat, i: usize)
-    requires shape { AreSquare mat.now out.old }
-    requires even { IsEven out.old }
+    requires square { mat.now.cols ≡ length mat.now.rows }
     requires inside { i < length mat.now.rows }
-    ensures shape { AreSquare mat.now out.new }
-    ensures even { IsEven out.new }
-    ensures here { (j : ℕ) → j < length mat.now.rows → entry_of out.new i j ≡ floor_of (entry_of mat.now i j) 2 }
-    ensures elsewhere { (k j : ℕ) → k < i → entry_of out.new k j ≡ entry_of out.old k j }
+    requires before { HasFirstRows (length mat.now.rows) (half_of (entry_of mat.now)) out.old i }
+    ensures { HasFirstRows (length mat.now.rows) (half_of (entry_of mat.now)) out.new (i + 1) }
 {
     for j in 0..mat.rows() {
         out.set(i, j, floor_shift(mat.at(i, j), 1));
@@ -140,8 +161,11 @@ fn halve_row(mat: &Mat, out: &mut Mat, i: usize)
 // The products of the columns.
 fn gram_of(alloc: Global, g: &Mat) -> Result<Mat, AllocError>
     requires { (i j : ℕ) → i < g.now.cols → j < g.now.cols → gram_size (length g.now.rows) (entry_of g.now) i j < 2 ^ 127 }
-    ensures size { IfOk result (λ m. (length m.rows ≡ g.now.cols) × (m.cols ≡ g.now.cols)) }
-    ensures entries { IfOk result (λ m. HasEntries m (gram (length g.now.rows) (entry_of g.now))) }
+    ensures { let n = g.now.cols in IfOk result (HasEntries n n (gram (length g.now.rows) (entry_of g.now))) }
 {
-    Mat::zero(alloc, g.cols(), g.cols())
+    match gram(alloc, g) {
+        Ok(products) => Ok(products),
+        Err(MatFault::Memory) => Err(AllocError),
+        Err(MatFault::Wide) => unreachable!(),
+    }
 }
