@@ -25,6 +25,7 @@ use Rattle.qp_model.proofs.CurvatureLaws.{hessian_law, curvature_law}
 use Rattle.hessian_check.specs.Dominance.{IsSymmetric, form}
 use Rattle.hessian_check.specs.Curvature.{Curved, gap, row_squares, IsExponent, IsFloored, CoversAll}
 use Rattle.hessian_check.specs.Steps.{curved_of, floor_of_design}
+use Rattle.hessian_check.proofs.SquareLaws.{squares_row, sum_pos}
 
 -- ---- half the hessian
 half_two : (x : ℤ) → floor_of (pos 2 *ℤ x) 2 ≡ x
@@ -61,7 +62,7 @@ half_turned d c i j l m = ap (λ (z : ℤ). floor_of z 2) (c.symmetric i j l m)
 
 -- ---- rows and cost of a plan
 -- the change of a row is that of the condensed rows
-change_is : (d : Design) (k : Condensed) → IsCondensed d k → (v : ℕ → ℤ) (i : ℕ) → i < rows d →
+pub change_is : (d : Design) (k : Condensed) → IsCondensed d k → (v : ℕ → ℤ) (i : ℕ) → i < rows d →
     row_change d v i ≡ pos (2 ^ d.grid) *ℤ image (entries d) k.by_plan v i
 change_is d k c v i l =
     closed (pos (2 ^ d.grid)) (image (entries d) k.by_plan v i) (image (entries d) k.by_plan none i)
@@ -136,18 +137,7 @@ floored d sound c v = closed (pos (cost_scale d)) (curvature d v) (pos (input_fl
 -- ---- the test of the squares
 squares_are : (m n : ℕ) (g : ℕ → ℕ → ℤ) → total m (λ i. total n (λ j. square (g i j))) ≡ pos (amount m (λ i. amount n (λ j. unsigned_abs (g i j) ^ 2)))
 squares_are zero n g = refl
-squares_are (suc m) n g = joined _ _ (squares_are m n g) (row n (g m))
-  where
-    joined : (x y : ℕ) {a b : ℤ} → a ≡ pos x → b ≡ pos y → a +ℤ b ≡ pos (x + y)
-    joined x y e f = omega (arith, ints, e, f)
-
-    one : (z : ℤ) → square z ≡ pos (unsigned_abs z ^ 2)
-    one (pos n) = ap pos (sym (pow-two n))
-    one (negsuc n) = ap pos (sym (pow-two (suc n)))
-
-    row : (n : ℕ) (f : ℕ → ℤ) → total n (λ j. square (f j)) ≡ pos (amount n (λ j. unsigned_abs (f j) ^ 2))
-    row zero f = refl
-    row (suc n) f = joined _ _ (row n f) (one (f n))
+squares_are (suc m) n g = sum_pos _ _ (squares_are m n g) (squares_row n (g m))
 
 pub covers : (d : Design) (s : ℕ) → CoversSquares d s → CoversAll (curved_of d) (floor_of_design d) s
 covers d s h = closed (pos d.cost_denominator) (row_squares (curved_of d)) (limit_squares d) (squares_are (rows d) (entries d) (numbers_of d).by_plan) (raised h)

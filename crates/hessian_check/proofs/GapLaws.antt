@@ -1,13 +1,16 @@
 -- What code computes of a difference.
 use Rattle.std.proofs.Common.{◌≡◌, ℕ, zero, suc, ◌+◌, ◌*◌, ◌<◌, ◌≤◌, ◌^◌, [], ◌∷◌, ℤ, pos, ◌-ℤ◌, ◌*ℤ◌, ◌≤ℤ◌, unsigned_abs, length, arith, FitsSigned, refl, ap, ap₂, sym, ◌∙◌}
-use Rattle.std.specs.Prelude.{Result, Ok, Err, IfOk}
+use Rattle.std.specs.Prelude.{All, Result, Ok, Err, IfOk}
+use Rattle.std.proofs.lemmas.List.Elements.{All-get_or, All-from_get_or}
+use Rattle.mat_int.specs.Row.{abs_sum}
+use Rattle.mat_int.proofs.Indices.{row_size}
 use Rattle.std.specs.declared.alloc.AllocError.{AllocError}
 use Rattle.mat_int.specs.Matrix.{Matrix, entry_of}
 use Rattle.hessian_check.specs.declared.gaps.Gaps.{Gaps}
-use Rattle.hessian_check.specs.Dominance.{IsSymmetric}
+use Rattle.hessian_check.specs.Dominance.{AreSame, IsSymmetric}
 use Rattle.hessian_check.specs.GapRoom.{gap_at, HasRoom}
-use Rattle.hessian_check.proofs.PassLaws.{AreSame}
-use Rattle.hessian_check.specs.Gaps.{HasEntries, mixed}
+use Rattle.mat_int.specs.Matrix.{HasEntries}
+use Rattle.hessian_check.specs.Gaps.{mixed}
 use Rattle.std.specs.Int.{w128}
 use Rattle.std.proofs.lemmas.Int.{ints, unsigned_abs-mul, fits_signed_from_abs}
 use Rattle.std.proofs.Math.Nat.{mul-le-mul_left, pow-le-pow_right}
@@ -51,10 +54,10 @@ turned_factor p a x y = by_ring (p ∷ a ∷ x ∷ y ∷ []) (search quotes dept
 pub factor_fits : (a : ℤ) → pos 0 ≤ℤ a → a ≤ℤ pos (2 ^ 40) → FitsSigned w128 a
 factor_fits a h k = omega (arith, ints)
 
-pub entries_as : (r : Result Matrix AllocError) (p a b : ℤ) (f g : ℕ → ℕ → ℤ) → IfOk r (λ m. HasEntries m (mixed (a *ℤ p) f b g)) →
-    IfOk r (λ m. HasEntries m (λ i j. p *ℤ a *ℤ f i j -ℤ b *ℤ g i j))
-entries_as (Ok m) p a b f g h = λ i j k l. h i j k l ∙ turned_factor p a (f i j) (b *ℤ g i j)
-entries_as (Err e) p a b f g h = h
+pub entries_as : (r : Result Matrix AllocError) (n : ℕ) (p a b : ℤ) (f g : ℕ → ℕ → ℤ) → IfOk r (HasEntries n n (mixed (a *ℤ p) f b g)) →
+    IfOk r (HasEntries n n (λ i j. p *ℤ a *ℤ f i j -ℤ b *ℤ g i j))
+entries_as (Ok m) n p a b f g h = record { rows = h.rows; cols = h.cols; even = h.even; entries = λ i j k l. h.entries i j k l ∙ turned_factor p a (f i j) (b *ℤ g i j) }
+entries_as (Err e) n p a b f g h = h
 
 -- the absolute values of a row of a difference
 size-mixed_le : (n p q : ℕ) (x y : ℤ) (f g : ℕ → ℤ) → unsigned_abs x ≡ p → unsigned_abs y ≡ q →
@@ -77,3 +80,8 @@ pub gap_turned : (n : ℕ) (g : Gaps) (s : ℕ) (m : Matrix) → length g.cost.r
 gap_turned n g s m e h i j k l = h.is i j k l ∙
     ap₂ (λ (x : ℤ) (y : ℤ). pos (2 ^ s) *ℤ g.cost_factor *ℤ x -ℤ g.row_factor *ℤ y) (g.sound.cost_turned i j (rw e k) (rw e l)) (g.sound.rows_turned i j (rw e k) (rw e l)) ∙
     sym (h.is j i l k)
+
+-- rows that leave room, as lists
+pub all_narrow : (n : ℕ) (f : ℕ → ℕ → ℤ) (m : Matrix) → HasEntries n n f m → ((i : ℕ) → i < n → size n (entry_of m i) < 2 ^ 127) → All (λ row. abs_sum row < 2 ^ 127) m.rows
+all_narrow n f m h r = All-from_get_or (λ row. abs_sum row < 2 ^ 127) m.rows [] (λ i l.
+    rw (row_size n m i (All-get_or (λ row. length row ≡ n) m.rows i [] l h.even)) (r i (rw (← h.rows) l)))

@@ -1,5 +1,5 @@
 -- The tests read the entries below the size alone.
-use Rattle.std.proofs.Common.{◌≡◌, ℕ, zero, suc, ◌+◌, ◌*◌, ◌<◌, ◌≤◌, ◌^◌, [], ◌∷◌, ℤ, pos, ◌*ℤ◌, ◌-ℤ◌, ◌≤ℤ◌, unsigned_abs, nat_eq, length, Bool, IsTrue, ◌↔◌, if◌then◌else◌, arith, ap, ap₂, sym, ◌∙◌, refl}
+use Rattle.std.proofs.Common.{◌≡◌, inl, inr, ℕ, zero, suc, ◌+◌, ◌*◌, ◌<◌, ◌≤◌, ◌^◌, [], ◌∷◌, ℤ, pos, ◌*ℤ◌, ◌-ℤ◌, ◌≤ℤ◌, unsigned_abs, nat_eq, length, Bool, IsTrue, ◌↔◌, if◌then◌else◌, arith, ap, ap₂, sym, ◌∙◌, refl}
 use Rattle.std.specs.Int.{int_max, int_min}
 use Rattle.std.proofs.lemmas.Int.{unsigned_abs-mul}
 use Rattle.integer_algebra.proofs.Quoting.{by_ring, quotes}
@@ -8,11 +8,13 @@ use Rattle.integer_algebra.specs.Sums.{total, square, dot}
 use Rattle.integer_algebra.proofs.SumLaws.{total_same}
 use Rattle.integer_algebra.specs.Division.{floor_of}
 use Rattle.mat_int.specs.Matrix.{Matrix, entry_of}
-use Rattle.hessian_check.specs.Gaps.{HasEntries, mixed}
-use Rattle.hessian_check.specs.Dominance.{others, IsDominant, IsSymmetric}
+use Rattle.mat_int.specs.Matrix.{HasEntries}
+use Rattle.hessian_check.specs.Gaps.{mixed}
+use Rattle.hessian_check.specs.Dominance.{AreSame, IsSymmetric}
+use Rattle.integer_algebra.specs.Matrices.{others, IsDominant}
 use Rattle.hessian_check.specs.Recipe.{top, low, left, quotient, IsStart, IsShift, IsPart, IsRow, IsRoot, margin, scaled_up}
-use Rattle.hessian_check.specs.Curvature.{IsCertified, IsLeast}
-use Rattle.hessian_check.proofs.PassLaws.{AreSame, passes_same, same_back}
+use Rattle.hessian_check.specs.Curvature.{IsCertified, IsCertifiedBelow, IsChosen, IsDominantAt, IsFirst, IsLeast}
+use Rattle.hessian_check.proofs.PassLaws.{passes_same, same_back}
 
 -- a factor
 pub same_scaled : (n : ℕ) (p : ℤ) (m w : ℕ → ℕ → ℤ) → AreSame n m w → AreSame n (scaled_up p m) (scaled_up p w)
@@ -78,29 +80,29 @@ certified_moved n m w h c = record {
 }
 
 -- a matrix with the entries of an index function
-pub has_same : (n : ℕ) (m : Matrix) (f : ℕ → ℕ → ℤ) → length m.rows ≡ n → HasEntries m f → AreSame n (entry_of m) f
-has_same n m f e h = record { is = λ i j k l. h i j (rw e k) (rw e l) }
+pub has_same : (n : ℕ) (f : ℕ → ℕ → ℤ) (m : Matrix) → HasEntries n n f m → AreSame n (entry_of m) f
+has_same n f m h = record { is = h.entries }
 
--- so what a test tells of it, it tells of the function
-pub dominant_told : (n : ℕ) (m : Matrix) (f : ℕ → ℕ → ℤ) (b : Bool) → length m.rows ≡ n → HasEntries m f →
+-- what a test tells of it, it tells of the function
+pub dominant_told : (n : ℕ) (f : ℕ → ℕ → ℤ) (m : Matrix) (b : Bool) → HasEntries n n f m →
     (IsTrue b ↔ IsDominant (length m.rows) (entry_of m)) → IsTrue b ↔ IsDominant n f
-dominant_told n m f b e h t =
-    let s = has_same n m f e h in
-    (λ y. dominant_moved n (entry_of m) f s (rw e at (t.0 y)), λ d. t.1 (rw e (dominant_moved n f (entry_of m) (same_back n (entry_of m) f s) d)))
+dominant_told n f m b h t =
+    let s = has_same n f m h in
+    (λ y. dominant_moved n (entry_of m) f s (rw h.rows at (t.0 y)), λ d. t.1 (rw h.rows (dominant_moved n f (entry_of m) (same_back n (entry_of m) f s) d)))
 
-pub certified_told : (n : ℕ) (m : Matrix) (f : ℕ → ℕ → ℤ) (b : Bool) → length m.rows ≡ n → HasEntries m f →
+pub certified_told : (n : ℕ) (f : ℕ → ℕ → ℤ) (m : Matrix) (b : Bool) → HasEntries n n f m →
     (IsTrue b ↔ IsCertified (length m.rows) (entry_of m)) → IsTrue b ↔ IsCertified n f
-certified_told n m f b e h t =
-    let s = has_same n m f e h in
-    (λ y. certified_moved n (entry_of m) f s (rw e at (t.0 y)), λ d. t.1 (rw e (certified_moved n f (entry_of m) (same_back n (entry_of m) f s) d)))
+certified_told n f m b h t =
+    let s = has_same n f m h in
+    (λ y. certified_moved n (entry_of m) f s (rw h.rows at (t.0 y)), λ d. t.1 (rw h.rows (certified_moved n f (entry_of m) (same_back n (entry_of m) f s) d)))
 
 -- the least number that a loop finds
 pub found : (p : ℕ → Type 0) (s end : ℕ) → s < end → ((k : ℕ) → k < s → ¬ p k) → p s → (s < end) × IsLeast p s
 found p s end l none y = (l, record { holds = y; least = none })
 
 -- a matrix with a factor, as a difference
-pub raised_same : (n : ℕ) (m w : Matrix) (p : ℤ) → length w.rows ≡ n → HasEntries w (mixed p (entry_of m) (pos 0) (entry_of m)) → AreSame n (entry_of w) (scaled_up p (entry_of m))
-raised_same n m w p e h = record { is = λ i j k l. h i j (rw e k) (rw e l) ∙ less (p *ℤ entry_of m i j) (entry_of m i j) }
+pub raised_same : (n : ℕ) (m w : Matrix) (p : ℤ) → HasEntries n n (mixed p (entry_of m) (pos 0) (entry_of m)) w → AreSame n (entry_of w) (scaled_up p (entry_of m))
+raised_same n m w p h = record { is = λ i j k l. h.entries i j k l ∙ less (p *ℤ entry_of m i j) (entry_of m i j) }
   where
     less : (x y : ℤ) → x -ℤ pos 0 *ℤ y ≡ x
     less x y = by_ring (x ∷ y ∷ []) (search quotes depth 60 fits 20000) refl
@@ -110,3 +112,30 @@ raised_turned n m w p h s i j k l = h.is i j k l ∙ ap (λ (z : ℤ). p *ℤ z)
 
 pub raised_room : (x y : ℤ) → unsigned_abs (x *ℤ y) < 2 ^ 117 → unsigned_abs x * unsigned_abs y + 0 * unsigned_abs y < 2 ^ 127
 raised_room x y h = let e = unsigned_abs-mul x y in omega (arith, e, h)
+
+-- ---- families of matrices
+least_moved : (p q : ℕ → Type 0) (s : ℕ) → ((k : ℕ) → p k → q k) → ((k : ℕ) → q k → p k) → IsLeast p s → IsLeast q s
+least_moved p q s f g h = record { holds = f s h.holds; least = λ k l t. h.least k l (g k t) }
+
+pub first_moved : (n : ℕ) (m w : ℕ → ℕ → ℕ → ℤ) (covers : ℕ → Type 0) (s1 : ℕ) → ((s : ℕ) → AreSame n (m s) (w s)) → IsFirst n m covers s1 → IsFirst n w covers s1
+first_moved n m w covers s1 h f = record {
+  squares = f.squares;
+  by_squares = f.by_squares;
+  lesser = elim f.lesser [
+    | inl d ↦ inl (d.0, least_moved (IsDominantAt n m) (IsDominantAt n w) d.0 there back d.1, d.2)
+    | inr d ↦ inr ((λ k t. d.0 k (back k t)), d.1)
+  ];
+}
+  where
+    there : (k : ℕ) → IsDominantAt n m k → IsDominantAt n w k
+    there k t = (t.0, dominant_moved n (m k) (w k) (h k) t.1)
+
+    back : (k : ℕ) → IsDominantAt n w k → IsDominantAt n m k
+    back k t = (t.0, dominant_moved n (w k) (m k) (same_back n (m k) (w k) (h k)) t.1)
+
+pub chosen_moved : (n : ℕ) (m w : ℕ → ℕ → ℕ → ℤ) (s1 s : ℕ) → ((s : ℕ) → AreSame n (m s) (w s)) → IsChosen n m s1 s → IsChosen n w s1 s
+chosen_moved n m w s1 s h c = elim c [
+  | inl k ↦ inl (least_moved (IsCertifiedBelow n m s1) (IsCertifiedBelow n w s1) s
+      (λ k t. (t.0, certified_moved n (m k) (w k) (h k) t.1)) (λ k t. (t.0, certified_moved n (w k) (m k) (same_back n (m k) (w k) (h k)) t.1)) k)
+  | inr k ↦ inr ((λ j t. k.0 j (t.0, certified_moved n (w j) (m j) (same_back n (m j) (w j) (h j)) t.1)), k.1)
+]

@@ -1,11 +1,18 @@
 -- The least power of two that makes up for a quotient.
-use Rattle.std.proofs.Common.{◌≡◌, inl, inr, ℕ, zero, suc, ◌+◌, ◌*◌, ◌/◌, ◌%◌, ◌<◌, ◌≤◌, ◌^◌, Option, Some, None, arith, ap, sym, ◌∙◌, refl, Fits}
+use Rattle.std.proofs.Common.{◌≡◌, inl, inr, ℕ, zero, suc, ◌+◌, ◌*◌, ◌/◌, ◌%◌, ◌<◌, ◌≤◌, ◌^◌, List, length, Option, Some, None, ℤ, pos, negsuc, ◌+ℤ◌, unsigned_abs, arith, ap, sym, ◌∙◌, refl, Fits}
 use Rattle.std.specs.Int.{div_ceil, w128}
 use Rattle.std.specs.Option.{SomeIff}
 use Rattle.std.proofs.lemmas.Bool.{cases_lt}
 use Rattle.std.proofs.lemmas.Grind.{div_ceil_times}
 use Rattle.std.proofs.Math.Nat.{mul-le-mul_left, mul-le-mul_right, mul-le-mul, pow-le-pow_right}
+use Rattle.std.proofs.lemmas.Int.{ints}
+use Rattle.integer_algebra.specs.Sums.{at, square, total}
+use Rattle.integer_algebra.specs.Sizes.{amount}
 use Rattle.integer_algebra.specs.Division.{ceil_div}
+use Rattle.integer_algebra.proofs.PowerLaws.{pow-two}
+use Rattle.integer_algebra.proofs.SizeLaws.{amount_same}
+use Rattle.mat_int.specs.Row as lists
+use Rattle.mat_int.proofs.Indices.{abs_dot_is, dot_is}
 use Rattle.integer_algebra.proofs.DivisionLaws.{le-mul-ceil_div, ceil_div-le}
 use Rattle.hessian_check.specs.Curvature.{IsLeast, IsLeastBelow}
 
@@ -47,3 +54,23 @@ none_divided a u p h l g k m t =
     let b = (divided a u p k h).1 t in
     let q = (power_small k u m l).1 in
     omega (arith, b, q, g)
+
+-- ---- squares
+pub sum_pos : (x y : ℕ) {a b : ℤ} → a ≡ pos x → b ≡ pos y → a +ℤ b ≡ pos (x + y)
+sum_pos x y e f = omega (arith, ints, e, f)
+
+square_pos : (z : ℤ) → square z ≡ pos (unsigned_abs z ^ 2)
+square_pos (pos n) = ap pos (sym (pow-two n))
+square_pos (negsuc n) = ap pos (sym (pow-two (suc n)))
+
+-- those of the first n entries of a row
+pub squares_row : (n : ℕ) (f : ℕ → ℤ) → total n (λ j. square (f j)) ≡ pos (amount n (λ j. unsigned_abs (f j) ^ 2))
+squares_row zero f = refl
+squares_row (suc n) f = sum_pos _ _ (squares_row n f) (square_pos (f n))
+
+-- what code computes of them
+pub abs_row : (n : ℕ) (xs : List ℤ) → length xs ≡ n → lists.abs_dot xs xs ≡ amount n (λ j. unsigned_abs (at xs j) ^ 2)
+abs_row n xs e = abs_dot_is n xs xs e e ∙ amount_same n _ _ (λ j l. sym (pow-two (unsigned_abs (at xs j))))
+
+pub dot_row : (n : ℕ) (xs : List ℤ) → length xs ≡ n → unsigned_abs (lists.dot xs xs) ≡ amount n (λ j. unsigned_abs (at xs j) ^ 2)
+dot_row n xs e = ap unsigned_abs (dot_is n xs xs e e ∙ squares_row n (at xs))

@@ -1,7 +1,7 @@
 -- What the choice among gaps answers.
 use Rattle.std.specs.Prelude.{◌≡◌, ◌⊎◌, ℕ, ◌+◌, ◌<◌, ◌≤◌, ℤ, Option, Some, None, Result, Ok, Err, unwrap_or}
 use Rattle.hessian_check.specs.Curvature.{IsCertified, IsChosen, IsLeast, IsLeastBelow}
-use Rattle.hessian_check.specs.Dominance.{IsDominant}
+use Rattle.integer_algebra.specs.Matrices.{IsDominant}
 use Rattle.hessian_check.specs.declared.fault.CurvatureFault.{CurvatureFault}
 use Rattle.hessian_check.specs.declared.fault.CurvatureFault.TheVariants.{Memory, TooWide, NoStep}
 use Rattle.hessian_check.specs.declared.fault.StepExponents.{StepExponents}

@@ -8,10 +8,6 @@ use Rattle.hessian_check.specs.Passing.{AreSquare}
 abbrev pub mixed : ℤ → (ℕ → ℕ → ℤ) → ℤ → (ℕ → ℕ → ℤ) → ℕ → ℕ → ℤ
 mixed x a y b i j = x *ℤ a i j -ℤ y *ℤ b i j
 
--- the entries of a square matrix
-abbrev pub HasEntries : Matrix → (ℕ → ℕ → ℤ) → Type 0
-HasEntries m f = (i j : ℕ) → i < length m.rows → j < length m.rows → entry_of m i j ≡ f i j
-
 -- the absolute values that an entry of the difference adds up leave room
 abbrev pub IsMixable : ℤ → Matrix → ℤ → Matrix → Type 0
 IsMixable x a y b = (i j : ℕ) → i < length a.rows → j < length a.rows →

@@ -1,5 +1,5 @@
 -- The exponents of a design's step.
-use Rattle.std.specs.Prelude.{ℕ, ◌*◌, ◌^◌, ℤ, pos}
+use Rattle.std.specs.Prelude.{ℕ, ◌*◌, ◌^◌, ◌<◌, ℤ, pos}
 use Rattle.integer_algebra.specs.Division.{floor_of}
 use Rattle.qp_model.specs.Design.{Design, entries, rows}
 use Rattle.qp_model.specs.Condensing.{numbers_of}
@@ -11,12 +11,16 @@ use Rattle.plant_condense.specs.declared.condensed.Condensed.{Condensed}
 use Rattle.plant_condense.specs.Form.{IsFormOf}
 use Rattle.hessian_check.specs.Curvature.{Curved, gap, IsFirst, IsChosen}
 
+-- half a matrix of even entries
+abbrev pub half_of : (ℕ → ℕ → ℤ) → ℕ → ℕ → ℤ
+half_of a i j = floor_of (a i j) 2
+
 -- half the condensed hessian, which is even, the condensed rows, and the denominators
 abbrev pub curved_of : Design → Curved
 curved_of d = record {
   entries = entries d;
   count = rows d;
-  half = λ i j. floor_of ((numbers_of d).hessian i j) 2;
+  half = half_of (numbers_of d).hessian;
   row = (numbers_of d).by_plan;
   limit_den = pos d.limit_denominator;
   weight_den = pos d.cost_denominator;
@@ -34,6 +38,12 @@ IsPlainExponent d s1 = IsFirst (entries d) (gap (curved_of d)) (CoversSquares d)
 -- s: the least number below s1 whose gap has a root that the test passes, or s1
 abbrev pub IsStepExponent : Design → ℕ → ℕ → Type 0
 IsStepExponent d s1 s = IsChosen (entries d) (gap (curved_of d)) s1 s
+
+-- s1 is above 40
+pub record HasNoStep (d : Design) : Type 0 where
+  pub s1 : ℕ
+  pub plain : IsPlainExponent d s1
+  pub above : 40 < s1
 
 -- what holds of each design that the numbers are the condensed form of
 abbrev pub OfDesign : Condensed → (Design → Type 0) → Type 0

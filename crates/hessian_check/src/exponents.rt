@@ -1,12 +1,11 @@
 // The numbers that are chosen among the gaps.
 ghost use Rattle.std.specs.Prelude.{◌≡◌, ◌⊎◌, ◌<◌, ◌≤◌, ℕ, length, IfOk, unwrap_or, IsErrOf};
 ghost use Rattle.hessian_check.specs.Curvature.{IsCertified, IsLeastBelow};
-ghost use Rattle.hessian_check.specs.Dominance.{IsDominant};
+ghost use Rattle.integer_algebra.specs.Matrices.{IsDominant};
 ghost use Rattle.hessian_check.specs.GapRoom.{HasRoom, gap_at};
 ghost use Rattle.hessian_check.specs.Exponents.{IsOutcome};
 
 use crate::certificate::is_certified;
-use crate::dominant::is_dominant;
 use crate::fault::{CurvatureFault, StepExponents};
 use crate::gaps::Gaps;
 use std::alloc::{AllocError, Global};
@@ -33,7 +32,7 @@ fn first_dominant(alloc: Global, gaps: &Gaps, end: u32) -> Result<Option<u32>, A
 {
     for s in 0..end {
         let gap = gaps.at(alloc, s)?;
-        if is_dominant(&gap) {
+        if gap.is_dominant().unwrap() {
             return Ok(Some(s));
         }
     }

@@ -2,8 +2,9 @@
 ghost use Rattle.std.specs.Prelude.{◌≡◌, ◌+◌, ◌*◌, ◌<◌, ◌≤◌, ◌^◌, ℕ, ℤ, pos, ◌-ℤ◌, ◌*ℤ◌, ◌≤ℤ◌, unsigned_abs, length, IfOk};
 ghost use Rattle.mat_int.specs.Matrix.{entry_of};
 ghost use Rattle.hessian_check.specs.Passing.{AreSquare};
-ghost use Rattle.hessian_check.specs.Recipe.{IsEven};
-ghost use Rattle.hessian_check.specs.Gaps.{mixed, AreGaps, HasEntries, IsMixable};
+ghost use Rattle.mat_int.specs.Matrix.{HasEntries};
+ghost use Rattle.hessian_check.specs.Filling.{HasFirstRows};
+ghost use Rattle.hessian_check.specs.Gaps.{mixed, AreGaps, IsMixable};
 
 use frac_scaled::scaled;
 use mat_int::Mat;
@@ -28,8 +29,7 @@ impl Gaps {
     pub fn at(&self, alloc: Global, s: u32) -> Result<Mat, AllocError>
         requires small { s ≤ 40 }
         requires room { HasRoom self.now s }
-        ensures shape { IfOk result (λ m. AreSquare self.now.cost m) }
-        ensures entries { IfOk result (λ m. HasEntries m (gap_at self.now s)) }
+        ensures { let n = length self.now.cost.rows in IfOk result (HasEntries n n (gap_at self.now s)) }
     {
         mix(alloc, scaled(self.cost_factor, s), &self.cost, self.row_factor, &self.rows)
     }
@@ -39,8 +39,7 @@ impl Gaps {
 pub fn mix(alloc: Global, x: i128, a: &Mat, y: i128, b: &Mat) -> Result<Mat, AllocError>
     requires shape { AreSquare a.now b.now }
     requires room { IsMixable x a.now y b.now }
-    ensures shape { IfOk result (λ m. AreSquare a.now m) }
-    ensures entries { IfOk result (λ m. HasEntries m (mixed x (entry_of a.now) y (entry_of b.now))) }
+    ensures { let n = length a.now.rows in IfOk result (HasEntries n n (mixed x (entry_of a.now) y (entry_of b.now))) }
 {
     let mut out = Mat::zero(alloc, a.rows(), a.rows())?;
     for i in 0..a.rows() {
@@ -49,17 +48,13 @@ pub fn mix(alloc: Global, x: i128, a: &Mat, y: i128, b: &Mat) -> Result<Mat, All
     Ok(out)
 }
 
-// Row i of it.
+// Row i of it, where the rows before it are made.
 fn mix_row(x: i128, a: &Mat, y: i128, b: &Mat, out: &mut Mat, i: usize)
     requires shape { AreSquare a.now b.now }
-    requires target { AreSquare a.now out.old }
-    requires even { IsEven out.old }
-    requires inside { i < length a.now.rows }
     requires room { IsMixable x a.now y b.now }
-    ensures target { AreSquare a.now out.new }
-    ensures even { IsEven out.new }
-    ensures here { (j : ℕ) → j < length a.now.rows → entry_of out.new i j ≡ mixed x (entry_of a.now) y (entry_of b.now) i j }
-    ensures elsewhere { (k j : ℕ) → k < i → entry_of out.new k j ≡ entry_of out.old k j }
+    requires inside { i < length a.now.rows }
+    requires before { HasFirstRows (length a.now.rows) (mixed x (entry_of a.now) y (entry_of b.now)) out.old i }
+    ensures { HasFirstRows (length a.now.rows) (mixed x (entry_of a.now) y (entry_of b.now)) out.new (i + 1) }
 {
     for j in 0..a.rows() {
         out.set(i, j, x * a.at(i, j) - y * b.at(i, j));

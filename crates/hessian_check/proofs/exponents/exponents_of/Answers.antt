@@ -2,7 +2,7 @@ use Rattle.std.proofs.Common.{◌≡◌, ◌+◌, Some, length}
 use Rattle.std.specs.Prelude.{unwrap_or}
 use Rattle.std.specs.Option.{option_or}
 use Rattle.hessian_check.specs.Curvature.{IsLeastBelow}
-use Rattle.hessian_check.specs.Dominance.{IsDominant}
+use Rattle.integer_algebra.specs.Matrices.{IsDominant}
 use Rattle.hessian_check.specs.GapRoom.{gap_at}
 use Rattle.hessian_check.proofs.ChoiceLaws.{either_made, chosen_made}
 use Rattle.hessian_check.proofs.exponents.exponents_of.Goals as goal

@@ -10,22 +10,22 @@ pub is_certified-requires-clause-symmetric : goal.is_certified-requires-clause-s
 is_certified-requires-clause-symmetric c =
     let g = c.args.gaps.now in
     let m = c.in_ok-gap.gap in
-    let e = c.in_ok-gap.ensures.shape.root_rows in
-    rw e (gap_turned (length g.cost.rows) g c.loop-s.s m refl (has_same (length g.cost.rows) m (gap_at g c.loop-s.s) e c.in_ok-gap.ensures.entries))
+    let e = c.in_ok-gap.ensures.rows in
+    rw e (gap_turned (length g.cost.rows) g c.loop-s.s m refl (has_same (length g.cost.rows) (gap_at g c.loop-s.s) m c.in_ok-gap.ensures))
 
 pub returns-then-branch : goal.returns-then-branch
 returns-then-branch c =
     let n = length c.args.gaps.now.cost.rows in
     let f = gap_at c.args.gaps.now in
     let t : IsTrue c.in_ok-is_certified.field-0 = rw c.if-branch.true (search rules) in
-    let told = certified_told n c.in_ok-gap.gap (f c.loop-s.s) c.in_ok-is_certified.field-0 c.in_ok-gap.ensures.shape.root_rows c.in_ok-gap.ensures.entries c.in_ok-is_certified.ensures in
+    let told = certified_told n (f c.loop-s.s) c.in_ok-gap.gap c.in_ok-is_certified.field-0 c.in_ok-gap.ensures c.in_ok-is_certified.ensures in
     found (λ s. IsCertified n (f s)) c.loop-s.s c.args.end (omega arith) c.loop-s.invariant (told.0 t)
 
 pub loop-s-preserved : goal.loop-s-preserved
 loop-s-preserved c =
     let n = length c.args.gaps.now.cost.rows in
     let f = gap_at c.args.gaps.now in
-    let told = certified_told n c.in_ok-gap.gap (f c.loop-s.s) c.in_ok-is_certified.field-0 c.in_ok-gap.ensures.shape.root_rows c.in_ok-gap.ensures.entries c.in_ok-is_certified.ensures in
+    let told = certified_told n (f c.loop-s.s) c.in_ok-gap.gap c.in_ok-is_certified.field-0 c.in_ok-gap.ensures c.in_ok-is_certified.ensures in
     below_more _ _ c.loop-s.invariant (λ d. not_true (rw c.if-branch.false at (told.1 d)))
 
 pub returns : goal.returns

@@ -1,5 +1,5 @@
 use Rattle.std.proofs.Common.{ℕ, ◌<◌, length}
-use Rattle.hessian_check.specs.Dominance.{IsDominant}
+use Rattle.integer_algebra.specs.Matrices.{IsDominant}
 use Rattle.hessian_check.specs.GapRoom.{gap_at}
 use Rattle.hessian_check.proofs.exponents.first_dominant.Given as goal
 

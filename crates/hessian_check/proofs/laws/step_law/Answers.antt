@@ -1,17 +1,5 @@
-use Rattle.std.proofs.Common.{rules}
-use Rattle.qp_model.specs.Parts.{design_of}
-use Rattle.qp_model.specs.CurvatureSize.{CoversSquares}
-use Rattle.qp_model.proofs.CostLaws.{condensing}
-use Rattle.hessian_check.specs.Steps.{curved_of, floor_of_design}
-use Rattle.hessian_check.proofs.CurvatureLaws.{first_by, chosen_law, squares_law}
-use Rattle.hessian_check.proofs.DesignLaws.{exponent_of, half_turned, floored, covers}
-use Rattle.hessian_check.proofs.SoundLaws.{sound}
+use Rattle.hessian_check.proofs.ExponentLaws as laws
 use Rattle.hessian_check.proofs.laws.step_law.Goals as goal
 
 pub returns : goal.returns
-returns c = λ p h s1 s f k.
-    let d = design_of p in
-    let e = condensing d h.inputs.0 in
-    let t = half_turned d e in
-    let one = first_by (curved_of d) (CoversSquares d) s1 (λ s y. squares_law (curved_of d) (floor_of_design d) s (search rules) (floored d (sound p h) e) (covers d s y)) t f in
-    (exponent_of d s1 e one, exponent_of d s e (chosen_law (curved_of d) s1 s t one k))
+returns c = laws.step_law

@@ -3,7 +3,7 @@ use Rattle.std.specs.Prelude.{IfOk}
 use Rattle.std.specs.Int.{w128}
 use Rattle.std.proofs.lemmas.Int.{ints, to_z-of_z, unsigned_abs-mul}
 use Rattle.mat_int.specs.Matrix.{entry_of}
-use Rattle.hessian_check.specs.Gaps.{HasEntries, mixed}
+use Rattle.hessian_check.specs.Gaps.{mixed}
 use Rattle.hessian_check.proofs.GapLaws.{scaled_fits, factor_fits, entry_room, turned_factor, entries_as}
 use Rattle.hessian_check.proofs.gaps.Gaps.at.Goals as goal
 
@@ -25,12 +25,12 @@ mix-requires-clause-room c =
     entry_room (2 ^ c.args.s) (unsigned_abs g.cost_factor) (unsigned_abs g.row_factor) n (entry_of g.cost i) (entry_of g.rows i) c.scaled.result j l
     (ap unsigned_abs e ∙ unsigned_abs-mul g.cost_factor (pos (2 ^ c.args.s))) (c.requires.room i k))
 
-pub returns-clause-entries : goal.returns-clause-entries
-returns-clause-entries c =
+pub returns : goal.returns
+returns c =
     let g = c.args.self.now in
     let a = factor_fits g.cost_factor g.sound.cost_low g.sound.cost_high in
     let b : FitsSigned w128 g.row_factor = search rules in
     let x : FitsSigned w128 c.scaled.result = search rules in
     let e : c.scaled.result ≡ g.cost_factor *ℤ pos (2 ^ c.args.s) = rw (to_z-of_z w128 _ a) at c.scaled.ensures in
-    entries_as c.mix.result (pos (2 ^ c.args.s)) g.cost_factor g.row_factor (entry_of g.cost) (entry_of g.rows)
-    (rw (to_z-of_z w128 _ x, to_z-of_z w128 _ b, e) at c.mix.ensures.entries)
+    entries_as c.mix.result (length g.cost.rows) (pos (2 ^ c.args.s)) g.cost_factor g.row_factor (entry_of g.cost) (entry_of g.rows)
+    (rw (to_z-of_z w128 _ x, to_z-of_z w128 _ b, e) at c.mix.ensures)

@@ -1,0 +1,65 @@
+-- A square matrix that is filled row by row.
+use Rattle.std.proofs.Common.{◌≡◌, inl, inr, ℕ, ◌+◌, ◌<◌, ◌≤◌, [], ℤ, pos, length, replicate, arith, ap, sym, ◌∙◌, refl, get_or-set_other, get_or-set_same, slice_set}
+use Rattle.std.specs.Prelude.{All}
+use Rattle.std.proofs.lemmas.Bool.{cases_lt, cases_eq}
+use Rattle.std.proofs.lemmas.List.{length-set, length-replicate, get_or-replicate}
+use Rattle.std.proofs.lemmas.List.Elements.{All-get_or, All-from_get_or}
+use Rattle.mat_int.specs.Matrix.{Matrix, row_of, entry_of, with_entry, zero_matrix}
+use Rattle.mat_int.specs.Matrix.{HasEntries}
+use Rattle.hessian_check.specs.Filling.{HasFirstRows, HasFirst}
+use Rattle.hessian_check.specs.Recipe.{IsWritten}
+use Rattle.hessian_check.proofs.StepLaws.{written}
+
+even_set : (m : Matrix) (n i j : ℕ) (v : ℤ) → i < length m.rows → All (λ row. length row ≡ n) m.rows → All (λ row. length row ≡ n) (with_entry m i j v).rows
+even_set m n i j v p h = All-from_get_or (λ row. length row ≡ n) (with_entry m i j v).rows [] (λ a l. elim (cases_eq a i) [
+  | inl e ↦ rw (e, get_or-set_same m.rows i _ [] p, length-set) (All-get_or (λ row. length row ≡ n) m.rows i [] p h)
+  | inr e ↦ rw (get_or-set_other m.rows i a _ [] e) (All-get_or (λ row. length row ≡ n) m.rows a [] (let q = length-set m.rows i (slice_set (row_of m i) j v) in omega (arith, l, q)) h)
+])
+
+-- zeros
+pub first_zero : (n : ℕ) (f : ℕ → ℕ → ℤ) (w : Matrix) → w ≡ zero_matrix n n → HasFirstRows n f w 0
+first_zero n f w e = rw e (record {
+  rows = length-replicate n (replicate n (pos 0));
+  cols = refl;
+  even = All-from_get_or (λ row. length row ≡ n) (replicate n (replicate n (pos 0))) [] (λ a l.
+      rw (get_or-replicate n a (replicate n (pos 0)) [] (let q = length-replicate n (replicate n (pos 0)) in omega (arith, q, l))) (length-replicate n (pos 0)));
+  made = λ k j l. absurd (omega arith);
+})
+
+pub first_start : (n : ℕ) (f : ℕ → ℕ → ℤ) (m : Matrix) (i : ℕ) → HasFirstRows n f m i → HasFirst n f m i 0
+first_start n f m i h = record { before = h; here = λ k l. absurd (omega arith) }
+
+-- one more entry
+pub first_more : (n : ℕ) (f : ℕ → ℕ → ℤ) (m w : Matrix) (i j : ℕ) (v : ℤ) → i < n → j < n → w ≡ with_entry m i j v → v ≡ f i j →
+    HasFirst n f m i j → HasFirst n f w i (j + 1)
+first_more n f m w i j v p q e g h =
+    let row : i < length m.rows = omega (arith, h.before.rows, p) in
+    let long = All-get_or (λ row. length row ≡ n) m.rows i [] row h.before.even in
+    let t : IsWritten (entry_of m) (entry_of (with_entry m i j v)) i j v = written m i j v row (omega (arith, long, q)) in
+    rw e (record {
+      before = record {
+        rows = length-set m.rows i _ ∙ h.before.rows;
+        cols = h.before.cols;
+        even = even_set m n i j v row h.before.even;
+        made = λ k l o y. t.elsewhere k l (omega arith) ∙ h.before.made k l o y;
+      };
+      here = λ k l. elim (cases_lt k j) [
+        | inl o ↦ t.beside k (omega arith) ∙ h.here k o
+        | inr o ↦ (let y : k ≡ j = omega arith in rw y (t.here ∙ g))
+      ];
+    })
+
+-- one more row
+pub first_row : (n : ℕ) (f : ℕ → ℕ → ℤ) (m : Matrix) (i j : ℕ) → n ≤ j → HasFirst n f m i j → HasFirstRows n f m (i + 1)
+first_row n f m i j q h = record {
+  rows = h.before.rows;
+  cols = h.before.cols;
+  even = h.before.even;
+  made = λ k l o y. elim (cases_lt k i) [
+    | inl t ↦ h.before.made k l t y
+    | inr t ↦ (let e : k ≡ i = omega arith in rw e (h.here l (omega arith)))
+  ];
+}
+
+pub first_all : (n : ℕ) (f : ℕ → ℕ → ℤ) (m : Matrix) (i : ℕ) → n ≤ i → HasFirstRows n f m i → HasEntries n n f m
+first_all n f m i q h = record { rows = h.rows; cols = h.cols; even = h.even; entries = λ k j l o. h.made k j (omega arith) o }

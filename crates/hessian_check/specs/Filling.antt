@@ -1,0 +1,15 @@
+-- Square matrices that are filled row by row.
+use Rattle.std.specs.Prelude.{◌≡◌, ℕ, ◌<◌, ℤ, All, length}
+use Rattle.mat_int.specs.Matrix.{Matrix, entry_of}
+
+-- m is square, and its first i rows have these entries
+pub record HasFirstRows (n : ℕ) (entry : ℕ → ℕ → ℤ) (m : Matrix) (i : ℕ) : Type 0 where
+  pub rows : length m.rows ≡ n
+  pub cols : m.cols ≡ n
+  pub even : All (λ row. length row ≡ n) m.rows
+  pub made : (k j : ℕ) → k < i → j < n → entry_of m k j ≡ entry k j
+
+-- and the first j entries of the next row
+pub record HasFirst (n : ℕ) (entry : ℕ → ℕ → ℤ) (m : Matrix) (i j : ℕ) : Type 0 where
+  pub before : HasFirstRows n entry m i
+  pub here : (k : ℕ) → k < j → entry_of m i k ≡ entry i k
