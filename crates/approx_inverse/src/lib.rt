@@ -9,6 +9,7 @@ mod inverse;
 mod room;
 mod start;
 mod system;
+mod workspace;
 
 pub use column::solve_column;
 pub use fault::SolveFault;
