@@ -100,7 +100,9 @@ pub columns_same : (n : ℕ) (h k : ℕ → ℕ → ℤ) (count : ℕ) (c d : �
     ((i j : ℕ) → i < count → j < n → c i j ≡ d i j) → descent_of_columns n h count c floor f ≡ descent_of_columns n k count d floor f
 columns_same n h k count c d floor f e g =
     let sizes : (i : ℕ) → i < count → size n (c i) ≡ size n (d i) = λ i l. size_same n (c i) (d i) (λ j m. g i j l m) in
-    rw (greatest_same n (λ i. size n (h i)) (λ i. size n (k i)) (λ i l. size_same n (h i) (k i) (λ j m. e i j l m)),
-    greatest_same count (λ i. size n (c i)) (λ i. size n (d i)) sizes,
-    greatest_same count (λ i. entry_bound n (c i) floor f) (λ i. entry_bound n (d i) floor f)
-    (λ i l. ap (λ (s : ℕ). ceil_div (2 ^ (f + 1) * s) (unsigned_abs floor)) (sizes i l))) refl
+    rw (
+      greatest_same n (λ i. size n (h i)) (λ i. size n (k i)) (λ i l. size_same n (h i) (k i) (λ j m. e i j l m)),
+      greatest_same count (λ i. size n (c i)) (λ i. size n (d i)) sizes,
+      greatest_same count (λ i. entry_bound n (c i) floor f) (λ i. entry_bound n (d i) floor f)
+          (λ i l. ap (λ (s : ℕ). ceil_div (2 ^ (f + 1) * s) (unsigned_abs floor)) (sizes i l)),
+    ) refl

@@ -63,6 +63,15 @@ impl Workspace {
             return false;
         }
         root.guess(h, &self.column, f, &mut self.guess, &mut self.rest);
-        solve_near(h, &self.column, c.floor, f, &self.guess, &mut self.region, &self.solution).is_ok()
+        solve_near(
+            h,
+            &self.column,
+            c.floor,
+            f,
+            &self.guess,
+            &mut self.region,
+            &self.solution,
+        )
+        .is_ok()
     }
 }
