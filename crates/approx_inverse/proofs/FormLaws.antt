@@ -79,3 +79,11 @@ not_fit n b e h = elim (cases_lt (2 ^ 126) n) [
   | inl l ↦ l
   | inr l ↦ absurd (let k = h l in let g = sym e ∙ k in cc)
 ]
+
+-- a solution's numbers, under another name
+pub solution_kept : (c : Condensed) (f i : ℕ) (x y : ℕ → ℤ) → ((j : ℕ) → j < entries_of c → x j ≡ y j) → IsSolution c f i x → IsSolution c f i y
+solution_kept c f i x y e is = record {
+  good = good_same (entries_of c) (solve_matrix c) (solve_matrix c) f (column_of c i) (column_of c i) x y (λ i j l m. refl) (λ j l. refl) e is.good;
+  within = within_same (entries_of c) _ _ x y refl e is.within;
+  room = is.room;
+}

@@ -7,3 +7,4 @@ pub mod SystemLaws
 pub mod MatrixLaws
 pub mod SizeLaws
 pub mod FormLaws
+pub mod DesignLaws
