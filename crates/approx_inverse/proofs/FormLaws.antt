@@ -1,5 +1,5 @@
 -- What holds of the matrix and the columns as code has them, holds of the condensed form's.
-use Rattle.std.specs.Prelude.{Result, Ok, Err, OnOk, is_ok, Bool, true, false}
+use Rattle.std.specs.Prelude.{Result, Ok, Err, OnOk, IfOk, IfErr, is_ok, Bool, true, false}
 use Rattle.std.proofs.lemmas.Bool.{cases_lt}
 use Rattle.std.proofs.Common.{inl, inr, ◌≡◌, ℕ, ◌+◌, ◌<◌, ◌≤◌, ◌^◌, ℤ, pos, ◌-ℤ◌, ◌*ℤ◌, ◌≤ℤ◌, List, length, unsigned_abs, arith, ap, sym, ◌∙◌, refl}
 use Rattle.integer_algebra.specs.Sums.{total, dot, image, at}
@@ -12,10 +12,14 @@ use Rattle.qp_model.specs.GoodSolution.{IsGood}
 use Rattle.plant_condense.specs.Form.{solve_matrix}
 use Rattle.plant_condense.specs.declared.condensed.Condensed.{Condensed}
 use Rattle.approx_inverse.specs.System.{IsSystem}
-use Rattle.approx_inverse.specs.Condensed.{IsMatrixOf, IsSolvable, column_of, columns_of, entries_of}
+use Rattle.approx_inverse.specs.Condensed.{IsMatrixOf, IsSolvable, column_of, columns_of, entries_of, rows_of, states_of}
 use Rattle.approx_inverse.specs.DescentSize.{EachWithin, entry_bound, descent_of_column}
-use Rattle.approx_inverse.specs.Inverse.{IsSolution, descent_of}
-use Rattle.approx_inverse.proofs.SizeLaws.{column_among, column_same, wide_column}
+use Rattle.approx_inverse.specs.Inverse.{IsSolution, SolvesForm, descent_of}
+use Rattle.approx_inverse.specs.Fault.{IsFault}
+use Rattle.approx_inverse.specs.declared.fault.SolveFault.{SolveFault}
+use Rattle.approx_inverse.specs.declared.fault.SolveFault.TheVariants.{Memory, TooWide}
+use Rattle.approx_inverse.specs.declared.inverse.Inverse.{Inverse}
+use Rattle.approx_inverse.proofs.SizeLaws.{all_fit, column_among, column_same, wide_column}
 
 -- ---- equal numbers
 pub image_equal : (n : ℕ) (h k : ℕ → ℕ → ℤ) (x y : ℕ → ℤ) (i : ℕ) → i < n → ((i j : ℕ) → i < n → j < n → h i j ≡ k i j) → ((j : ℕ) → j < n → x j ≡ y j) →
@@ -87,3 +91,28 @@ solution_kept c f i x y e is = record {
   within = within_same (entries_of c) _ _ x y refl e is.within;
   room = is.room;
 }
+
+pub if_ok : {T E : Type 0} (r : Result T E) {P Q : T → Type 0} → ((v : T) → P v → Q v) → IfOk r P → IfOk r Q
+if_ok (Ok v) h p = h v p
+if_ok (Err e) h p = tt
+
+pub if_err : {T E : Type 0} (r : Result T E) {P Q : E → Type 0} → ((e : E) → P e → Q e) → IfErr r P → IfErr r Q
+if_err (Ok v) h p = tt
+if_err (Err e) h p = h e p
+
+pub ok_gives : {T E : Type 0} (r : Result T E) {P : T → Type 0} {Q : Type 0} → ((v : T) → P v → Q) → IfOk r P → OnOk r Q
+ok_gives (Ok v) h p = h v p
+ok_gives (Err e) h p = tt
+
+-- a fault tells more
+pub fault_gives : (e : SolveFault) {P Q : Type 0} → (P → Q) → IsFault e P → IsFault e Q
+fault_gives Memory h p = tt
+fault_gives (TooWide q) h p = (p.0, h p.1)
+
+-- where each column has a solution, all have room
+pub room_from : (c : Condensed) (f : ℕ) (v : Inverse) → IsSolvable c → SolvesForm c f v → descent_of c f ≤ 2 ^ 126
+room_from c f v solvable solves =
+    all_fit (entries_of c) (solve_matrix c) (columns_of c) (column_of c) c.floor f solvable.convex.positive (some (states_of c) (rows_of c)) (λ i l. (solves.solved i l).room)
+  where
+    some : (a b : ℕ) → 0 < a + 1 + b
+    some a b = omega arith
