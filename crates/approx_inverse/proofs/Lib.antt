@@ -8,3 +8,4 @@ pub mod MatrixLaws
 pub mod SizeLaws
 pub mod FormLaws
 pub mod DesignLaws
+pub mod EntryLaws

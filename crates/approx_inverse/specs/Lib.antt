@@ -7,3 +7,4 @@ pub mod Condensed
 pub mod Fault
 pub mod Inverse
 pub mod Workspace
+pub mod Laws
