@@ -5,3 +5,7 @@ pub mod StepLaws
 pub mod StartLaws
 pub mod SystemLaws
 pub mod MatrixLaws
+pub mod SizeLaws
+pub mod FormLaws
+pub mod DesignLaws
+pub mod EntryLaws

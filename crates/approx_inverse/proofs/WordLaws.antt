@@ -1,7 +1,8 @@
 -- Words that change, and words that stay.
-use Rattle.std.proofs.Common.{refl, take, drop, ◌≡◌, ◌≢◌, ℕ, ◌+◌, ◌-◌, ◌<◌, ◌≤◌, ℤ, pos, ◌-ℤ◌, ◌*ℤ◌, List, length, set, get_or-set_same, get_or-set_other, below_more, arith, ap, ◌∙◌}
+use Rattle.std.proofs.Common.{refl, take, drop, ◌++◌, ◌≡◌, ◌≢◌, ℕ, ◌+◌, ◌-◌, ◌<◌, ◌≤◌, ℤ, pos, ◌-ℤ◌, ◌*ℤ◌, List, length, set, get_or-set_same, get_or-set_other, below_more, arith, ap, ◌∙◌}
 use Rattle.std.proofs.Math.ListN.{length-set}
-use Rattle.std.proofs.lemmas.List.{get_or-take, get_or-drop}
+use Rattle.std.proofs.Math.Seq.{take-length}
+use Rattle.std.proofs.lemmas.List.{get_or-take, get_or-drop, take-append-le}
 use Rattle.integer_algebra.specs.Sums.{at}
 use Rattle.word_region.specs.Words.{Words}
 use Rattle.word_region.specs.declared.Span.{Span}
@@ -127,3 +128,7 @@ lent_outside old s ws inside e = let there = lent old s ws inside e in
 -- the slice of n words at a
 pub at-slice : (ws : List ℤ) (a n j : ℕ) → j < n → at (take (a + n - a) (drop a ws)) j ≡ cells ws a j
 at-slice ws a n j l = let e : a + n - a ≡ n = omega arith in rw e (get_or-take n (drop a ws) j (pos 0) l ∙ get_or-drop a ws j (pos 0))
+
+-- a list that was filled
+pub filled : (n : ℕ) (out items : List ℤ) → length out ≡ n → take n (out ++ drop (length out) items) ≡ out
+filled n out items e = take-append-le n out (drop (length out) items) (omega arith) ∙ rw (← e) (take-length out)

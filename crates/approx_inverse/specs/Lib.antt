@@ -6,3 +6,5 @@ pub mod DescentSize
 pub mod Condensed
 pub mod Fault
 pub mod Inverse
+pub mod Workspace
+pub mod Laws

@@ -34,7 +34,12 @@ fn set_column(mat: &mut Mat, k: usize, numbers: &[i128])
 
 impl Inverse {
     /// Each number is 0.
-    fn zero(alloc: Global, entries: usize, states: usize, rows: usize) -> Result<Inverse, AllocError>
+    pub fn zero(
+        alloc: Global,
+        entries: usize,
+        states: usize,
+        rows: usize,
+    ) -> Result<Inverse, AllocError>
         ensures { IfOk result (λ v. HasSizes v entries states rows) }
     {
         Ok(Inverse {
@@ -45,7 +50,7 @@ impl Inverse {
     }
 
     // Puts the solution for column i.
-    fn put(&mut self, i: usize, numbers: &[i128])
+    pub fn put(&mut self, i: usize, numbers: &[i128])
         requires sizes { HasSizes self.old (length numbers.now) self.old.p_mat.cols self.old.w_mat.cols }
         requires column { i < self.old.p_mat.cols + 1 + self.old.w_mat.cols }
         ensures sizes { HasSizes self.new (length numbers.now) self.old.p_mat.cols self.old.w_mat.cols }

@@ -66,7 +66,7 @@ residual_law d q xi u i = elim (cases_lt i (d.stages * d.stage_limits)) [
 ]
 
 -- ---- responses
-plan_number : (d : Design) (i j : ℕ) → 1 ≤ d.inputs → (numbers_of d).by_plan i j ≡ row_at d none (unit j) i
+pub plan_number : (d : Design) (i j : ℕ) → 1 ≤ d.inputs → (numbers_of d).by_plan i j ≡ row_at d none (unit j) i
 plan_number d i j h = elim (cases_lt i (d.stages * d.stage_limits)) [
   | inl l ↦ rw (lt-ltb i (d.stages * d.stage_limits) l) (next (nat_eq (j / d.inputs) (i / d.stage_limits)) (lift d (i / d.stage_limits))
       (pos (d.plant_denominator ^ (i / d.stage_limits))) _ _ _ _

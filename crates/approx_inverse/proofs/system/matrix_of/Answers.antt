@@ -15,7 +15,7 @@ returns-then-not-scale-clause-err c =
     let fits : FitsSigned w128 c.args.c.now.limit_den = search rules in
     let n = entries_of c.args.c.now in
     let w = (rw (c.copy_from_slice.ensures.after, c.row.ensures.len, c.requires.solvable.shapes.hess.cols, c.row.ensures.value, to_z-of_z w128 _ fits)
-        at c.if-not-scale.ensures.wide) refl in
+    at c.if-not-scale.ensures.wide) refl in
     (refl, omega (arith, w, greatest_term c.loop-i.i n (λ i. size n (solve_matrix c.args.c.now i)) (omega arith)))
 
 pub loop-i-preserved : goal.loop-i-preserved
@@ -25,7 +25,7 @@ loop-i-preserved c =
     let inv = c.loop-i.invariant in
     let e = c.in_ok-push_row.ensures.ok in
     let made = rw (c.copy_from_slice.ensures.after, c.row.ensures.len, c.requires.solvable.shapes.hess.cols, c.row.ensures.value, to_z-of_z w128 _ fits)
-        at c.if-not-scale.ensures.done in
+    at c.if-not-scale.ensures.done in
     record {
       rows = ap (λ (x : Matrix). length x.rows) e ∙ length_push old.rows c.scale.new.xs ∙ ap (λ n. n + 1) inv.rows;
       cols = ap (λ (x : Matrix). x.cols) e ∙ inv.cols;

@@ -20,7 +20,7 @@ loop-x-preserved c =
     let p : FitsSigned w128 c.in-Some.product = search rules in
     let k = to_z-of_z w128 _ c.ranges.k in
     let is : c.in-Some.product ≡ c.args.k *ℤ at c.args.xs.now i =
-        rw (to_z-of_z w128 _ x, k, c.loop-x.invariant.left i (omega arith)) at c.in-Some.ensures.1 in
+    rw (to_z-of_z w128 _ x, k, c.loop-x.invariant.left i (omega arith)) at c.in-Some.ensures.1 in
     rw k (record {
       done = below_more _ _
           (λ j l. get_or-set_other old i j _ (pos 0) (omega arith) ∙ (rw k at c.loop-x.invariant.done) j l)

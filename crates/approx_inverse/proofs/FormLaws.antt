@@ -1,0 +1,118 @@
+-- What holds of the matrix and the columns as code has them, holds of the condensed form's.
+use Rattle.std.specs.Prelude.{Result, Ok, Err, OnOk, IfOk, IfErr, is_ok, Bool, true, false}
+use Rattle.std.proofs.lemmas.Bool.{cases_lt}
+use Rattle.std.proofs.Common.{inl, inr, ◌≡◌, ℕ, ◌+◌, ◌<◌, ◌≤◌, ◌^◌, ℤ, pos, ◌-ℤ◌, ◌*ℤ◌, ◌≤ℤ◌, List, length, unsigned_abs, arith, ap, sym, ◌∙◌, refl}
+use Rattle.integer_algebra.specs.Sums.{total, dot, image, at}
+use Rattle.integer_algebra.specs.Sizes.{size}
+use Rattle.integer_algebra.proofs.SumLaws.{total_same}
+use Rattle.integer_algebra.proofs.SizeLaws.{size_same}
+use Rattle.mat_int.specs.Matrix.{Matrix, entry_of}
+use Rattle.qp_model.specs.Convex.{IsConvex}
+use Rattle.qp_model.specs.GoodSolution.{IsGood}
+use Rattle.plant_condense.specs.Form.{solve_matrix}
+use Rattle.plant_condense.specs.declared.condensed.Condensed.{Condensed}
+use Rattle.approx_inverse.specs.System.{IsSystem}
+use Rattle.approx_inverse.specs.Condensed.{IsMatrixOf, IsSolvable, column_of, columns_of, entries_of, rows_of, states_of}
+use Rattle.approx_inverse.specs.DescentSize.{EachWithin, entry_bound, descent_of_column}
+use Rattle.approx_inverse.specs.Inverse.{IsSolution, SolvesForm, descent_of}
+use Rattle.approx_inverse.specs.Fault.{IsFault}
+use Rattle.approx_inverse.specs.declared.fault.SolveFault.{SolveFault}
+use Rattle.approx_inverse.specs.declared.fault.SolveFault.TheVariants.{Memory, TooWide}
+use Rattle.approx_inverse.specs.declared.inverse.Inverse.{Inverse}
+use Rattle.approx_inverse.proofs.SizeLaws.{all_fit, column_among, column_same, wide_column}
+
+-- ---- equal numbers
+pub image_equal : (n : ℕ) (h k : ℕ → ℕ → ℤ) (x y : ℕ → ℤ) (i : ℕ) → i < n → ((i j : ℕ) → i < n → j < n → h i j ≡ k i j) → ((j : ℕ) → j < n → x j ≡ y j) →
+    image n h x i ≡ image n k y i
+image_equal n h k x y i l e g = total_same n _ _ (λ j m. ap (λ (z : ℤ). z *ℤ x j) (e i j l m) ∙ ap (λ (z : ℤ). k i j *ℤ z) (g j m))
+
+pub convex_same : (n : ℕ) (h k : ℕ → ℕ → ℤ) (floor : ℤ) → ((i j : ℕ) → i < n → j < n → h i j ≡ k i j) → IsConvex n h floor → IsConvex n k floor
+convex_same n h k floor e convex = record {
+  positive = convex.positive;
+  symmetric = λ i j l m. sym (e i j l m) ∙ convex.symmetric i j l m ∙ e j i m l;
+  curved = λ d. rw (← (total_same n (λ i. d i *ℤ image n h d i) (λ i. d i *ℤ image n k d i)
+      (λ i l. ap (λ (z : ℤ). d i *ℤ z) (image_equal n h k d d i l e (λ j m. refl))))) (convex.curved d);
+}
+
+pub good_same : (n : ℕ) (h k : ℕ → ℕ → ℤ) (f : ℕ) (c d x y : ℕ → ℤ) → ((i j : ℕ) → i < n → j < n → h i j ≡ k i j) → ((j : ℕ) → j < n → c j ≡ d j) →
+    ((j : ℕ) → j < n → x j ≡ y j) → IsGood n h f c x → IsGood n k f d y
+good_same n h k f c d x y e g s good = λ j l. rw (← (image_equal n h k x y j l e s), ← (g j l), ← (e j j l l)) (good j l)
+
+pub within_same : (n a b : ℕ) (x y : ℕ → ℤ) → a ≡ b → ((j : ℕ) → j < n → x j ≡ y j) → EachWithin n a x → EachWithin n b y
+within_same n a b x y e s within = λ j l. rw (← e, ← (s j l)) (within j l)
+
+pub bound_same : (n : ℕ) (c d : ℕ → ℤ) (floor : ℤ) (f : ℕ) → ((j : ℕ) → j < n → c j ≡ d j) → entry_bound n c floor f ≡ entry_bound n d floor f
+bound_same n c d floor f e = rw (size_same n c d e) refl
+
+-- ---- one column
+pub system_from : (c : Condensed) (h : Matrix) → IsSolvable c → IsMatrixOf c h → IsSystem h (entries_of c) c.floor
+system_from c h solvable matrix = record {
+  rows = matrix.rows;
+  cols = matrix.cols;
+  convex = convex_same (entries_of c) (solve_matrix c) (entry_of h) c.floor (λ i j l m. sym (matrix.entry i j l m)) solvable.convex;
+}
+
+pub solution_from : (c : Condensed) (f i : ℕ) (h : Matrix) (column : List ℤ) (x : ℕ → ℤ) → IsMatrixOf c h → ((j : ℕ) → j < entries_of c → at column j ≡ column_of c i j) →
+    IsGood (entries_of c) (entry_of h) f (at column) x → EachWithin (entries_of c) (entry_bound (entries_of c) (at column) c.floor f) x →
+    descent_of_column (entries_of c) (entry_of h) (at column) c.floor f ≤ 2 ^ 126 → IsSolution c f i x
+solution_from c f i h column x matrix e good within room =
+    let n = entries_of c in
+    record {
+      good = good_same n (entry_of h) (solve_matrix c) f (at column) (column_of c i) x x matrix.entry e (λ j l. refl) good;
+      within = rw (← (bound_same n (at column) (column_of c i) c.floor f e)) within;
+      room = rw (← (column_same n (entry_of h) (solve_matrix c) (at column) (column_of c i) c.floor f matrix.entry e)) room;
+    }
+
+-- a column without room
+pub wide_from : (c : Condensed) (f i : ℕ) (h : Matrix) (column : List ℤ) → IsMatrixOf c h → i < columns_of c → ((j : ℕ) → j < entries_of c → at column j ≡ column_of c i j) →
+    2 ^ 126 < descent_of_column (entries_of c) (entry_of h) (at column) c.floor f → 2 ^ 126 < descent_of c f
+wide_from c f i h column matrix l e wide =
+    let n = entries_of c in
+    let w = rw (column_same n (entry_of h) (solve_matrix c) (at column) (column_of c i) c.floor f matrix.entry e) at wide in
+    let k = column_among n (solve_matrix c) (columns_of c) (column_of c) c.floor f i l in
+    omega (arith, w, k)
+
+-- ---- answers
+pub on_ok : {T E : Type 0} (r : Result T E) {P : Type 0} → is_ok r ≡ true → OnOk r P → P
+on_ok (Ok x) e p = p
+on_ok (Err x) e p = absurd (cc)
+
+-- what fits exactly where a call succeeds doesn't fit where it fails
+pub not_fit : (n : ℕ) (b : Bool) → b ≡ false → (n ≤ 2 ^ 126 → b ≡ true) → 2 ^ 126 < n
+not_fit n b e h = elim (cases_lt (2 ^ 126) n) [
+  | inl l ↦ l
+  | inr l ↦ absurd (let k = h l in let g = sym e ∙ k in cc)
+]
+
+-- a solution's numbers, under another name
+pub solution_kept : (c : Condensed) (f i : ℕ) (x y : ℕ → ℤ) → ((j : ℕ) → j < entries_of c → x j ≡ y j) → IsSolution c f i x → IsSolution c f i y
+solution_kept c f i x y e is = record {
+  good = good_same (entries_of c) (solve_matrix c) (solve_matrix c) f (column_of c i) (column_of c i) x y (λ i j l m. refl) (λ j l. refl) e is.good;
+  within = within_same (entries_of c) _ _ x y refl e is.within;
+  room = is.room;
+}
+
+pub if_ok : {T E : Type 0} (r : Result T E) {P Q : T → Type 0} → ((v : T) → P v → Q v) → IfOk r P → IfOk r Q
+if_ok (Ok v) h p = h v p
+if_ok (Err e) h p = tt
+
+pub if_err : {T E : Type 0} (r : Result T E) {P Q : E → Type 0} → ((e : E) → P e → Q e) → IfErr r P → IfErr r Q
+if_err (Ok v) h p = tt
+if_err (Err e) h p = h e p
+
+pub ok_gives : {T E : Type 0} (r : Result T E) {P : T → Type 0} {Q : Type 0} → ((v : T) → P v → Q) → IfOk r P → OnOk r Q
+ok_gives (Ok v) h p = h v p
+ok_gives (Err e) h p = tt
+
+-- a fault tells more
+pub fault_gives : (e : SolveFault) {P Q : Type 0} → (P → Q) → IsFault e P → IsFault e Q
+fault_gives Memory h p = tt
+fault_gives (TooWide q) h p = (p.0, h p.1)
+
+-- where each column has a solution, all have room
+pub room_from : (c : Condensed) (f : ℕ) (v : Inverse) → IsSolvable c → SolvesForm c f v → descent_of c f ≤ 2 ^ 126
+room_from c f v solvable solves =
+    all_fit (entries_of c) (solve_matrix c) (columns_of c) (column_of c) c.floor f solvable.convex.positive (some (states_of c) (rows_of c)) (λ i l. (solves.solved i l).room)
+  where
+    some : (a b : ℕ) → 0 < a + 1 + b
+    some a b = omega arith

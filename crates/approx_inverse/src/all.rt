@@ -1,0 +1,53 @@
+// All columns of a condensed form.
+ghost use Rattle.std.specs.Prelude.{ℕ, ◌<◌, ◌≤◌, ◌^◌, IfOk, OnOk, IfErr};
+ghost use Rattle.qp_model.specs.declared.design_parts.DesignParts.{DesignParts};
+ghost use Rattle.qp_model.specs.Parts.{design_of};
+ghost use Rattle.qp_model.specs.Columns.{descent_size};
+ghost use Rattle.plant_condense.specs.Form.{IsForm, IsFormOf};
+ghost use Rattle.approx_inverse.specs.Condensed.{IsSolvable};
+ghost use Rattle.approx_inverse.specs.Inverse.{IsInverseOf, SolvesForm, descent_of};
+ghost use Rattle.approx_inverse.specs.Fault.{IsFault};
+
+use crate::fault::SolveFault;
+use crate::guess::Root;
+use crate::inverse::Inverse;
+use crate::system::matrix_of;
+use crate::workspace::Workspace;
+use plant_condense::Condensed;
+use qp_model::Quantity;
+use std::alloc::Global;
+
+// Solves each column.
+fn solve_form(alloc: Global, c: &Condensed, f: u32) -> Result<Inverse, SolveFault>
+    requires solvable { IsSolvable c.now }
+    requires bits { f ≤ 48 }
+    ensures solved { IfOk result (SolvesForm c.now f) }
+    ensures wide { IfErr result (λ e. IsFault e (2 ^ 126 < descent_of c.now f)) }
+{
+    let (entries, states, rows) = (c.hess.rows(), c.lin.cols(), c.g.rows());
+    let mut work = Workspace::with_entries(alloc, entries)?;
+    let h = matrix_of(alloc, c, &mut work.column)?;
+    let root = Root::of(alloc, &h)?;
+    let mut found = Inverse::zero(alloc, entries, states, rows)?;
+    for i in 0..states + 1 + rows {
+        if !work.solve(c, i, f, &h, &root) {
+            return Err(SolveFault::TooWide {
+                quantity: Quantity::Descent,
+            });
+        }
+        found.put(i, work.region.cells(&work.solution));
+    }
+    Ok(found)
+}
+
+/// The gains of a controller over `2^f`, before they are signed: for each column of the condensed form a good solution, no entry of which
+/// is above its bound. `TooWide` exactly where the quantity `descent` is above `2^126`.
+pub fn solve_all(alloc: Global, c: &Condensed, f: u32) -> Result<Inverse, SolveFault>
+    requires form { IsForm c.now }
+    requires bits { f ≤ 48 }
+    ensures solved { IfOk result (λ v. (p : DesignParts) → IsFormOf p c.now → IsInverseOf (design_of p) f v) }
+    ensures fits { OnOk result ((p : DesignParts) → IsFormOf p c.now → descent_size (design_of p) f ≤ 2 ^ 126) }
+    ensures wide { IfErr result (λ e. (p : DesignParts) → IsFormOf p c.now → IsFault e (2 ^ 126 < descent_size (design_of p) f)) }
+{
+    solve_form(alloc, c, f)
+}
