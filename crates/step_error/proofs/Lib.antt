@@ -1,1 +1,3 @@
 pub mod DesignLaws
+pub mod CarriedLaws
+pub mod EntryLaws
