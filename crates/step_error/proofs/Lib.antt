@@ -1,3 +1,4 @@
 pub mod DesignLaws
 pub mod CarriedLaws
 pub mod EntryLaws
+pub mod Gains
