@@ -35,23 +35,23 @@ other : (i n : ℕ) (x y : ℤ) → n < i → (if i == n then x else y) ≡ y
 other i n x y h = rw (let ne : (i ≡ n → ⊥) = λ e. omega arith in ne_eqb i n ne) refl
 
 -- ---- each column
-state_gain : (c : Numbers) (i j : ℕ) → i < c.states → gain_column c i j ≡ entry_of c.state_gains j i
+pub state_gain : (c : Numbers) (i j : ℕ) → i < c.states → gain_column c i j ≡ entry_of c.state_gains j i
 state_gain c i j h = below i c.states _ _ h
 
-own_gain : (c : Numbers) (j : ℕ) → gain_column c c.states j ≡ at c.offsets j
+pub own_gain : (c : Numbers) (j : ℕ) → gain_column c c.states j ≡ at c.offsets j
 own_gain c j = beyond c.states c.states _ _ (omega arith) ∙ same c.states c.states _ _ refl
 
-row_gain : (c : Numbers) (i j : ℕ) → gain_column c (c.states + 1 + i) j ≡ entry_of c.dual_gains j i
+pub row_gain : (c : Numbers) (i j : ℕ) → gain_column c (c.states + 1 + i) j ≡ entry_of c.dual_gains j i
 row_gain c i j = beyond (c.states + 1 + i) c.states _ _ (omega arith) ∙ other (c.states + 1 + i) c.states _ _ (omega arith)
     ∙ ap (λ (k : ℕ). entry_of c.dual_gains j k) (let e : c.states + 1 + i - (c.states + 1) ≡ i = omega arith in e)
 
-state_pull : (c : Numbers) (x l : List ℤ) (i : ℕ) → i < c.states → pulls c x l i ≡ pos (2 ^ c.step_exponent) *ℤ at x i
+pub state_pull : (c : Numbers) (x l : List ℤ) (i : ℕ) → i < c.states → pulls c x l i ≡ pos (2 ^ c.step_exponent) *ℤ at x i
 state_pull c x l i h = below i c.states _ _ h
 
-own_pull : (c : Numbers) (x l : List ℤ) → pulls c x l c.states ≡ pos (2 ^ (c.fraction_bits + c.step_exponent))
+pub own_pull : (c : Numbers) (x l : List ℤ) → pulls c x l c.states ≡ pos (2 ^ (c.fraction_bits + c.step_exponent))
 own_pull c x l = beyond c.states c.states _ _ (omega arith) ∙ same c.states c.states _ _ refl
 
-row_pull : (c : Numbers) (x l : List ℤ) (i : ℕ) → pulls c x l (c.states + 1 + i) ≡ at l i
+pub row_pull : (c : Numbers) (x l : List ℤ) (i : ℕ) → pulls c x l (c.states + 1 + i) ≡ at l i
 row_pull c x l i = beyond (c.states + 1 + i) c.states _ _ (omega arith) ∙ other (c.states + 1 + i) c.states _ _ (omega arith)
     ∙ ap (λ (k : ℕ). at l k) (let e : c.states + 1 + i - (c.states + 1) ≡ i = omega arith in e)
 

@@ -2,3 +2,5 @@ pub mod DesignLaws
 pub mod CarriedLaws
 pub mod EntryLaws
 pub mod Gains
+pub mod Pulls
+pub mod Gradients
