@@ -22,16 +22,16 @@ use Rattle.qp_model.specs.Built.{gain_column}
 use Rattle.step_error.specs.Machine.{pulls}
 
 -- ---- a branch that is taken, and one that isn't
-below : (i n : ℕ) (x y : ℤ) → i < n → (if nat_lt i n then x else y) ≡ x
+pub below : (i n : ℕ) (x y : ℤ) → i < n → (if nat_lt i n then x else y) ≡ x
 below i n x y h = rw (lt-ltb i n h) refl
 
-beyond : (i n : ℕ) (x y : ℤ) → n ≤ i → (if nat_lt i n then x else y) ≡ y
+pub beyond : (i n : ℕ) (x y : ℤ) → n ≤ i → (if nat_lt i n then x else y) ≡ y
 beyond i n x y h = rw (le-ltb i n h) refl
 
-same : (i n : ℕ) (x y : ℤ) → i ≡ n → (if i == n then x else y) ≡ x
+pub same : (i n : ℕ) (x y : ℤ) → i ≡ n → (if i == n then x else y) ≡ x
 same i n x y h = rw (eq-eqb i n h) refl
 
-other : (i n : ℕ) (x y : ℤ) → n < i → (if i == n then x else y) ≡ y
+pub other : (i n : ℕ) (x y : ℤ) → n < i → (if i == n then x else y) ≡ y
 other i n x y h = rw (let ne : (i ≡ n → ⊥) = λ e. omega arith in ne_eqb i n ne) refl
 
 -- ---- each column

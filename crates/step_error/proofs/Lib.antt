@@ -4,3 +4,4 @@ pub mod EntryLaws
 pub mod Gains
 pub mod Pulls
 pub mod Gradients
+pub mod Slants
