@@ -5,3 +5,4 @@ pub mod Gains
 pub mod Pulls
 pub mod Gradients
 pub mod Slants
+pub mod Slopes
