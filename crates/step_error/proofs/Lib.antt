@@ -6,3 +6,4 @@ pub mod Pulls
 pub mod Gradients
 pub mod Slants
 pub mod Slopes
+pub mod Residuals
