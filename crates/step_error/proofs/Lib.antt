@@ -7,3 +7,4 @@ pub mod Gradients
 pub mod Slants
 pub mod Slopes
 pub mod Residuals
+pub mod RowErrors

@@ -14,7 +14,7 @@ use Rattle.integer_algebra.proofs.Quoting.{by_ring, quotes}
 use Rattle.step_error.proofs.Slopes.{within_cancel, within_factor, within_same}
 
 -- ---- one number rounded to the nearest: twice what it misses is at most the divisor
-rounded_within : (z : ℤ) (d : ℕ) → 0 < d → IsWithin (pos d) (pos 2 *ℤ (round_of z d *ℤ pos d -ℤ z))
+pub rounded_within : (z : ℤ) (d : ℕ) → 0 < d → IsWithin (pos d) (pos 2 *ℤ (round_of z d *ℤ pos d -ℤ z))
 rounded_within z d h = let b = round_of_bounds z d h in record { below = low (round_of z d *ℤ pos d) z (pos d) b.0; above = high (round_of z d *ℤ pos d) z (pos d) b.1 }
   where
     low : (q z e : ℤ) → (pos 2 *ℤ q) ≤ℤ (pos 2 *ℤ z +ℤ e) → (pos 2 *ℤ (q -ℤ z)) ≤ℤ e
@@ -44,7 +44,7 @@ rounded_dot n g r u d f p is =
     collected = total_same n _ _ (λ j h. turn (r j) (pos d) f (g j) (u j)) ∙ spread n (pos 2 *ℤ pos d) (negsuc 1 *ℤ f) (λ j. r j *ℤ u j) (λ j. g j *ℤ u j) ∙ closed (pos d) f (dot n r u) (dot n g u)
 
 -- ---- the floor of a row's sum: it misses the sum by less than the divisor
-floor_within : (z : ℤ) (d : ℕ) → 0 < d → IsWithin (pos d) (pos d *ℤ floor_of z d -ℤ z)
+pub floor_within : (z : ℤ) (d : ℕ) → 0 < d → IsWithin (pos d) (pos d *ℤ floor_of z d -ℤ z)
 floor_within z d h = let k = floor_of_is z d h in record { below = low (floor_of z d) z (pos d) (omega (arith, ints)) k.least; above = high (floor_of z d) z (pos d) k.greatest }
   where
     low : (q z e : ℤ) → pos 0 ≤ℤ e → (q *ℤ e) ≤ℤ z → (e *ℤ q -ℤ z) ≤ℤ e
