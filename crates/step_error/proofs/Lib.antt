@@ -8,3 +8,4 @@ pub mod Slants
 pub mod Slopes
 pub mod Residuals
 pub mod RowErrors
+pub mod Convexity
