@@ -30,7 +30,7 @@ pub record AreReached (d : Design) (r : ℕ) (c : Numbers) (x l : List ℤ) : Ty
   pub multipliers : (i : ℕ) → i < c.rows → unsigned_abs (at l i) ≤ 2 * r * 2 ^ (c.fraction_bits + c.step_exponent)
 
 -- both inequalities of a good solution as one
-good_within : (n : ℕ) (h : ℕ → ℕ → ℤ) (f : ℕ) (c x : ℕ → ℤ) → IsGood n h f c x → (j : ℕ) → j < n →
+pub good_within : (n : ℕ) (h : ℕ → ℕ → ℤ) (f : ℕ) (c x : ℕ → ℤ) → IsGood n h f c x → (j : ℕ) → j < n →
     IsWithin (h j j) (pos 2 *ℤ (total n (λ l. h j l *ℤ x l) -ℤ pos (2 ^ f) *ℤ c j))
 good_within n h f c x good j inside = record { below = (good j inside).0; above = turned (h j j) (image n h x j) (pos (2 ^ f) *ℤ c j) (good j inside).1 }
   where

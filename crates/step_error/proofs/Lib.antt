@@ -9,3 +9,4 @@ pub mod Slopes
 pub mod Residuals
 pub mod RowErrors
 pub mod Convexity
+pub mod Entries
