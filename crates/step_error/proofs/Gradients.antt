@@ -45,7 +45,7 @@ module _ (d : Design) (r : ℕ) (c : Numbers) (x l : List ℤ) (made : IsMadeFor
   abbrev scale : ℤ
   scale = pos (2 ^ (c.fraction_bits + c.step_exponent))
 
-  length_is : plan_length c ≡ entries d
+  pub length_is : plan_length c ≡ entries d
   length_is = let e = made.sizes.inputs in let f = made.sizes.stages in rw (e, f) (mul_comm d.inputs d.stages)
 
   pub gradient_within : (j : ℕ) → j < entries d →

@@ -10,3 +10,4 @@ pub mod Residuals
 pub mod RowErrors
 pub mod Convexity
 pub mod Entries
+pub mod Plans

@@ -14,6 +14,16 @@ use Rattle.qp_model.specs.Controller.{Numbers}
 use Rattle.step_error.specs.Machine.{pulls}
 use Rattle.step_error.proofs.Gains.{over_columns, state_pull, own_pull, row_pull}
 
+-- a power of two times a number
+scaled : (s f a : ℕ) (z : ℤ) → unsigned_abs z ≤ a * 2 ^ f → absolute (pos (2 ^ s) *ℤ z) ≤ℤ pos (a * 2 ^ (f + s))
+scaled s f a z h = let p = pow-add 2 f s in let m = mul-le-mul_left (2 ^ s) h in
+    (let e : unsigned_abs (pos (2 ^ s) *ℤ z) ≤ a * 2 ^ (f + s) = rw (unsigned_abs-mul (pos (2 ^ s)) z, p) (omega (arith, m)) in omega (arith, ints, e))
+
+-- one of the state
+pub state_pull_reach : (c : Numbers) (x l : List ℤ) (b i : ℕ) → i < c.states → unsigned_abs (at x i) ≤ b * 2 ^ c.fraction_bits →
+    absolute (pulls c x l i) ≤ℤ pos (b * 2 ^ (c.fraction_bits + c.step_exponent))
+state_pull_reach c x l b i h k = rw (state_pull c x l i h) (scaled c.step_exponent c.fraction_bits b (at x i) k)
+
 -- the absolute values of all pulls, from bounds on those of the state and of the multipliers
 pub pulls_reach : (c : Numbers) (x l : List ℤ) (b y : ℕ) →
     ((i : ℕ) → i < c.states → unsigned_abs (at x i) ≤ b * 2 ^ c.fraction_bits) →
@@ -23,10 +33,6 @@ pulls_reach c x l b y hx hl =
     rw (over_columns c.states c.rows (λ i. absolute (pulls c x l i)))
     (summed _ _ _ (2 ^ (c.fraction_bits + c.step_exponent)) c.states c.rows b y states own rows)
   where
-    scaled : (s f a : ℕ) (z : ℤ) → unsigned_abs z ≤ a * 2 ^ f → absolute (pos (2 ^ s) *ℤ z) ≤ℤ pos (a * 2 ^ (f + s))
-    scaled s f a z h = let p = pow-add 2 f s in let m = mul-le-mul_left (2 ^ s) h in
-        (let e : unsigned_abs (pos (2 ^ s) *ℤ z) ≤ a * 2 ^ (f + s) = rw (unsigned_abs-mul (pos (2 ^ s)) z, p) (omega (arith, m)) in omega (arith, ints, e))
-
     states : total c.states (λ i. absolute (pulls c x l i)) ≤ℤ (pos c.states *ℤ pos (b * 2 ^ (c.fraction_bits + c.step_exponent)))
     states = rw (← (total_const c.states (pos (b * 2 ^ (c.fraction_bits + c.step_exponent)))))
         (total_mono c.states _ _ (λ i h. rw (state_pull c x l i h) (scaled c.step_exponent c.fraction_bits b (at x i) (hx i h))))

@@ -22,13 +22,13 @@ use Rattle.step_error.specs.Machine.{pulls}
 use Rattle.step_error.proofs.Gains.{over_columns, state_pull, own_pull, row_pull, below, beyond, same, other}
 
 -- ---- the columns of the systems
-state_column : (d : Design) (i j : ℕ) → i < d.states → solve_column d i j ≡ pos d.limit_denominator *ℤ (numbers_of d).linear j i
+pub state_column : (d : Design) (i j : ℕ) → i < d.states → solve_column d i j ≡ pos d.limit_denominator *ℤ (numbers_of d).linear j i
 state_column d i j h = below i d.states _ _ h
 
-own_column : (d : Design) (j : ℕ) → solve_column d d.states j ≡ pos d.limit_denominator *ℤ (numbers_of d).constant j
+pub own_column : (d : Design) (j : ℕ) → solve_column d d.states j ≡ pos d.limit_denominator *ℤ (numbers_of d).constant j
 own_column d j = beyond d.states d.states _ _ (omega arith) ∙ same d.states d.states _ _ refl
 
-row_column : (d : Design) (i j : ℕ) →
+pub row_column : (d : Design) (i j : ℕ) →
     solve_column d (d.states + 1 + i) j ≡ pos (d.cost_denominator * d.row_denominator ^ 2 * d.plant_denominator ^ d.stages) *ℤ (numbers_of d).by_plan i j
 row_column d i j = beyond (d.states + 1 + i) d.states _ _ (omega arith) ∙ other (d.states + 1 + i) d.states _ _ (omega arith)
     ∙ ap (λ (k : ℕ). pos (d.cost_denominator * d.row_denominator ^ 2 * d.plant_denominator ^ d.stages) *ℤ (numbers_of d).by_plan k j)
