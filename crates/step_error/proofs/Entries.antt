@@ -60,7 +60,7 @@ absolute_total n f = let w = within_total n (λ i. absolute (f i)) f (λ i l. ow
     most : (b z : ℤ) → z ≤ℤ b → neg_ℤ b ≤ℤ z → absolute z ≤ℤ b
     most b z h k = omega (arith, ints, h, k)
 
-absolute_mul : (a b : ℤ) → absolute (a *ℤ b) ≡ absolute a *ℤ absolute b
+pub absolute_mul : (a b : ℤ) → absolute (a *ℤ b) ≡ absolute a *ℤ absolute b
 absolute_mul a b = ap pos (unsigned_abs-mul a b)
 
 -- entry j of the columns' solutions against v: 2 floor |S_j| ≤ 2^(f+1) sum |C_i| |v_i| + trace sum |v_i|

@@ -10,7 +10,7 @@ use Rattle.integer_algebra.specs.Bounds.{absolute, IsWithin}
 use Rattle.integer_algebra.specs.Division.{ceil_div}
 use Rattle.integer_algebra.proofs.OrderLaws.{le_by, mul-le-mul_left_z, mul-le-mul_right_z, cancel-le_z, le_trans_z, add-le-add_z, mul_nonneg_z, mul_pos_z}
 use Rattle.integer_algebra.proofs.SumLaws.{total_same, total_scale, total_scale_right, total_mono, total_swap, total_nonneg}
-use Rattle.integer_algebra.proofs.BoundLaws.{absolute_nonneg}
+use Rattle.integer_algebra.proofs.BoundLaws.{absolute_nonneg, within_nonneg}
 use Rattle.integer_algebra.proofs.DivisionLaws.{le-mul-ceil_div}
 use Rattle.integer_algebra.proofs.PowerLaws.{pow_positive, pow-two}
 use Rattle.integer_algebra.proofs.Quoting.{by_ring, quotes}
@@ -27,10 +27,10 @@ use Rattle.step_error.specs.Machine.{pulls}
 use Rattle.step_error.proofs.Gains.{over_columns, state_pull, own_pull, row_pull, plan_entry_is}
 use Rattle.step_error.proofs.Slants.{state_column, own_column, row_column}
 use Rattle.step_error.proofs.Slopes.{total_absolute, size_factor}
-use Rattle.step_error.proofs.Gradients.{AreReached, length_is}
+use Rattle.step_error.proofs.Gradients.{AreReached, length_is, good_within}
 use Rattle.step_error.proofs.Pulls.{pulls_reach, state_pull_reach}
 use Rattle.step_error.proofs.Convexity.{true_floor, solve_matrix_convex}
-use Rattle.step_error.proofs.Entries.{solutions_sum}
+use Rattle.step_error.proofs.Entries.{solutions_sum, absolute_mul}
 
 -- the absolute sum of column i of the linear part, and of row i of the limits
 abbrev linear_size : Design → ℕ → ℤ
@@ -171,3 +171,113 @@ plan_closed limit cost p2 rho q f n lin con y row tr z s u weight trace reach le
 
     product : (a b : ℤ) → pos 0 ≤ℤ a → pos 0 ≤ℤ b → pos 0 ≤ℤ (a *ℤ b)
     product a b h k = mul_nonneg_z a b h k
+
+-- ---- the plan
+pub positive_product : (a b : ℕ) → 1 ≤ a → 1 ≤ b → 1 ≤ a * b
+positive_product a b h k = omega (arith, mul-le-mul_left a k, h)
+
+-- the limits' scale times what a row's column is times
+row_factor : (d : Design) → (d.cost_denominator * d.row_denominator ^ 2 * d.plant_denominator ^ d.stages) * rows_scale d ≡ d.limit_denominator * hessian_scale d
+row_factor d = rw (pow-two d.row_denominator, pow-two (d.row_denominator * d.plant_denominator ^ d.stages)) (closed d.cost_denominator d.row_denominator (d.plant_denominator ^ d.stages) d.limit_denominator)
+  where
+    closed : (m k a n : ℕ) → m * (k * k) * a * (n * a) ≡ n * (m * (k * a * (k * a)))
+    closed m k a n = omega arith
+
+-- the columns' weight, by the sums that are rounded up
+weight_le : (d : Design) (r : ℕ) (c : Numbers) (x l : List ℤ) → HasSizesOf d c → AreReached d r c x l → 0 < hessian_scale d → 0 < rows_scale d →
+    total (c.states + 1 + c.rows) (λ i. total (entries d) (λ j. absolute (solve_column d i j)) *ℤ absolute (pulls c x l i)) ≤ℤ
+    (pos (2 ^ (c.fraction_bits + c.step_exponent)) *ℤ (pos d.limit_denominator *ℤ pos (hessian_scale d) *ℤ
+    (pos (state_bound d) *ℤ pos (linear_sum d) +ℤ pos (constant_sum d) +ℤ pos (2 * r) *ℤ pos (plan_row_sum d))))
+weight_le d r c x l sizes reached ph pr =
+    le_trans_z (columns_weight d r c x l sizes reached)
+    (closed (pos (2 ^ (c.fraction_bits + c.step_exponent))) (pos d.limit_denominator) (pos (hessian_scale d)) (pos (d.cost_denominator * d.row_denominator ^ 2 * d.plant_denominator ^ d.stages)) (pos (rows_scale d))
+    (pos (state_bound d)) (pos (2 * r)) (total d.states (linear_size d)) (constant_size d) (total (rows d) (row_size d)) (pos (linear_sum d)) (pos (constant_sum d)) (pos (plan_row_sum d))
+    (omega (arith, ints)) (omega (arith, ints)) (omega (arith, ints)) (omega (arith, ints)) (omega (arith, ints)) (ap pos (row_factor d)) (linear_le d ph) (constant_le d ph) (rows_le d pr))
+  where
+    closed : (q limit h k g n y f1 h1 g1 lin con row : ℤ) → pos 0 ≤ℤ q → pos 0 ≤ℤ limit → pos 0 ≤ℤ k → pos 0 ≤ℤ n → pos 0 ≤ℤ y → k *ℤ g ≡ limit *ℤ h →
+        f1 ≤ℤ (h *ℤ lin) → h1 ≤ℤ (h *ℤ con) → g1 ≤ℤ (g *ℤ row) →
+        (q *ℤ (limit *ℤ (n *ℤ f1 +ℤ h1) +ℤ k *ℤ (y *ℤ g1))) ≤ℤ (q *ℤ (limit *ℤ h *ℤ (n *ℤ lin +ℤ con +ℤ y *ℤ row)))
+    closed q limit h k g n y f1 h1 g1 lin con row pq pl pk pn py is a b e =
+        mul-le-mul_left_z q pq (le_same refl (sym (ring limit h n lin con y row k g is))
+        (add-le-add_z (mul-le-mul_left_z limit pl (add-le-add_z (mul-le-mul_left_z n pn a) b)) (mul-le-mul_left_z k pk (mul-le-mul_left_z y py e))))
+      where
+        ring : (limit h n lin con y row k g : ℤ) → k *ℤ g ≡ limit *ℤ h →
+            limit *ℤ (n *ℤ (h *ℤ lin) +ℤ h *ℤ con) +ℤ k *ℤ (y *ℤ (g *ℤ row)) ≡ limit *ℤ h *ℤ (n *ℤ lin +ℤ con +ℤ y *ℤ row)
+        ring limit h n lin con y row k g is =
+            let turn : k *ℤ (y *ℤ (g *ℤ row)) ≡ (k *ℤ g) *ℤ (y *ℤ row) = by_ring (k ∷ y ∷ g ∷ row ∷ []) (search quotes depth 60 fits 20000) refl in
+            rw (turn, is) (by_ring (limit ∷ h ∷ n ∷ lin ∷ con ∷ y ∷ row ∷ []) (search quotes depth 60 fits 20000) refl)
+
+pub plan_small : (d : Design) (r : ℕ) (c : Numbers) (x l : List ℤ) → IsMadeFor d r c → IsShaped c → AreReached d r c x l → IsSound d (input_floor d) →
+    IsCondensed d (numbers_of d) → (j : ℕ) → j < entries d → unsigned_abs (plan_entry c x l j) ≤ plan_bound (error_sums_of d r) c.fraction_bits * 2 ^ c.fraction_bits
+plan_small d r c x l made shaped reached sound condensed j inside =
+    last (unsigned_abs (plan_entry c x l j)) (plan_bound (error_sums_of d r) c.fraction_bits) (2 ^ c.fraction_bits)
+    (plan_closed (pos d.limit_denominator) (pos d.cost_denominator) (pos ((d.row_denominator * d.plant_denominator ^ d.stages) ^ 2)) (pos (input_floor d)) (pos (2 ^ (c.fraction_bits + c.step_exponent)))
+    (pos (2 ^ c.fraction_bits)) (pos (state_bound d)) (pos (linear_sum d)) (pos (constant_sum d)) (pos (2 * r)) (pos (plan_row_sum d)) (pos (trace_sum d)) (pos (reach_bound d r))
+    (absolute sum) (absolute (plan_entry c x l j)) weight (total (entries d) (λ j. solve_matrix d j j)) reach (pos (error_sums_of d r).lead) (pos extra)
+    (let o = sound.limit_denominator in omega (arith, ints, o)) (let o = square_positive in omega (arith, ints, o)) (let o = sound.rho_positive in omega (arith, ints, o))
+    (let o = pow_positive 2 (c.fraction_bits + c.step_exponent) (omega arith) in omega (arith, ints, o)) (let o = pow_positive 2 c.fraction_bits (omega arith) in omega (arith, ints, o))
+    (total_nonneg (entries d) (λ j. solve_matrix d j j) diagonal) (omega (arith, ints)) (omega (arith, ints)) main
+    (weight_le d r c x l made.sizes reached hessian_positive rows_positive) (trace_le d hessian_positive) reach_le rounding_le
+    (rounded_up (pull d r) (2 * input_floor d) (let o = sound.rho_positive in omega (arith, o))) extra_le)
+  where
+    denominator_positive : 1 ≤ d.row_denominator * d.plant_denominator ^ d.stages
+    denominator_positive = positive_product d.row_denominator (d.plant_denominator ^ d.stages) sound.row_denominator (pow_positive d.plant_denominator d.stages sound.plant_denominator)
+
+    square_positive : 1 ≤ (d.row_denominator * d.plant_denominator ^ d.stages) ^ 2
+    square_positive = pow_positive (d.row_denominator * d.plant_denominator ^ d.stages) 2 denominator_positive
+
+    hessian_positive : 0 < hessian_scale d
+    hessian_positive = positive_product d.cost_denominator ((d.row_denominator * d.plant_denominator ^ d.stages) ^ 2) sound.cost_denominator square_positive
+
+    rows_positive : 0 < rows_scale d
+    rows_positive = positive_product d.limit_denominator (d.plant_denominator ^ d.stages) sound.limit_denominator (pow_positive d.plant_denominator d.stages sound.plant_denominator)
+
+    column_in : (i : ℕ) → i < c.states + 1 + c.rows → i < columns d
+    column_in i h = omega (arith, h, made.sizes.states, made.sizes.rows)
+
+    diagonal : (j : ℕ) → j < entries d → pos 0 ≤ℤ solve_matrix d j j
+    diagonal j h = within_nonneg (good_within (entries d) (solve_matrix d) c.fraction_bits (solve_column d 0) (gain_column c 0) (made.gains 0 (column_in 0 (omega arith))) j h)
+
+    main : (pos 2 *ℤ true_floor d (input_floor d) *ℤ absolute (image (c.states + 1 + c.rows) (λ j i. gain_column c i j) (pulls c x l) j)) ≤ℤ
+        (pos 2 *ℤ pos (2 ^ c.fraction_bits) *ℤ total (c.states + 1 + c.rows) (λ i. total (entries d) (λ j. absolute (solve_column d i j)) *ℤ absolute (pulls c x l i)) +ℤ
+        total (entries d) (λ j. solve_matrix d j j) *ℤ total (c.states + 1 + c.rows) (λ i. absolute (pulls c x l i)))
+    main = solutions_sum (entries d) (c.states + 1 + c.rows) (solve_matrix d) c.fraction_bits (solve_column d) (gain_column c) (pulls c x l) (true_floor d (input_floor d)) (omega (arith, ints))
+        (solve_matrix_convex d (input_floor d) sound condensed) (λ i h. made.gains i (column_in i h)) j inside
+
+    reach_le : total (c.states + 1 + c.rows) (λ i. absolute (pulls c x l i)) ≤ℤ (pos (2 ^ (c.fraction_bits + c.step_exponent)) *ℤ pos (reach_bound d r))
+    reach_le = let e = made.sizes.states in let f = made.sizes.rows in
+        le_same refl (ap (λ (n : ℕ). pos (2 ^ (c.fraction_bits + c.step_exponent)) *ℤ pos n) (let z : reach_bound d r ≡ c.states * state_bound d + 1 + c.rows * (2 * r) = rw (e, f) refl in z))
+        (pulls_reach c x l (state_bound d) (2 * r) reached.state reached.multipliers)
+
+    rounding_le : (pos (2 ^ (c.fraction_bits + c.step_exponent)) *ℤ absolute (plan_entry c x l j)) ≤ℤ
+        (absolute (image (c.states + 1 + c.rows) (λ j i. gain_column c i j) (pulls c x l) j) +ℤ pos (2 ^ (c.fraction_bits + c.step_exponent)))
+    rounding_le =
+        let k = plan_entry_is c x l j shaped reached.state_length reached.multiplier_length (rw (length_is d r c x l made shaped reached) inside) in
+        le_same (sym (absolute_mul (pos (2 ^ (c.fraction_bits + c.step_exponent))) (plan_entry c x l j))) refl
+        (near (pos (2 ^ (c.fraction_bits + c.step_exponent)) *ℤ plan_entry c x l j) (image (c.states + 1 + c.rows) (λ j i. gain_column c i j) (pulls c x l) j) (2 ^ (c.fraction_bits + c.step_exponent)) k.0 k.1)
+      where
+        near : (t s : ℤ) (q : ℕ) → pos 0 ≤ℤ (t +ℤ s) → (t +ℤ s) ≤ℤ pos q → absolute t ≤ℤ (absolute s +ℤ pos q)
+        near t s q h k = omega (arith, ints, h, k)
+
+    extra_le : (pos d.cost_denominator *ℤ pos (reach_bound d r) *ℤ pos (trace_sum d)) ≤ℤ
+        (pos 4 *ℤ pos (2 ^ c.fraction_bits) *ℤ pos (input_floor d) *ℤ pos (ceil_div (error_sums_of d r).tail (2 ^ (c.fraction_bits + 2) * input_floor d)))
+    extra_le = le_same refl (ap (λ (n : ℕ). pos (n * input_floor d) *ℤ pos (ceil_div (error_sums_of d r).tail (2 ^ (c.fraction_bits + 2) * input_floor d))) four_times)
+        (rounded_up (error_sums_of d r).tail (2 ^ (c.fraction_bits + 2) * input_floor d) (positive_product (2 ^ (c.fraction_bits + 2)) (input_floor d) (pow_positive 2 (c.fraction_bits + 2) (omega arith)) sound.rho_positive))
+      where
+        four_times : 4 * 2 ^ c.fraction_bits ≡ 2 ^ (c.fraction_bits + 2)
+        four_times = let e = pow-add 2 c.fraction_bits 2 in rw e (omega arith)
+
+    sum : ℤ
+    sum = image (c.states + 1 + c.rows) (λ j i. gain_column c i j) (pulls c x l) j
+
+    weight : ℤ
+    weight = total (c.states + 1 + c.rows) (λ i. total (entries d) (λ j. absolute (solve_column d i j)) *ℤ absolute (pulls c x l i))
+
+    reach : ℤ
+    reach = total (c.states + 1 + c.rows) (λ i. absolute (pulls c x l i))
+
+    extra : ℕ
+    extra = ceil_div (error_sums_of d r).tail (2 ^ (c.fraction_bits + 2) * input_floor d)
+
+    last : (u b f : ℕ) → pos u ≤ℤ (pos f *ℤ pos b) → u ≤ b * f
+    last u b f h = omega (arith, ints, h)
