@@ -1,1 +1,13 @@
 pub mod DesignLaws
+pub mod CarriedLaws
+pub mod EntryLaws
+pub mod Gains
+pub mod Pulls
+pub mod Gradients
+pub mod Slants
+pub mod Slopes
+pub mod Residuals
+pub mod RowErrors
+pub mod Convexity
+pub mod Entries
+pub mod Plans
