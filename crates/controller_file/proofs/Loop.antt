@@ -28,7 +28,7 @@ pub goes_on : (front : List (List ℤ)) (key : List ℕ) (cols : ℕ) (ls : List
 unfolding all_rows_in
 goes_on front key cols ls i l row total lt is read so_far =
     let one : with_front front (all_rows_in key cols (drop i (views ls))) ≡ with_front (front ++ row ∷ []) (all_rows_in key cols (drop (i + 1) (views ls)))
-        = rw (next ls i l lt is, read) (regroup front row (all_rows_in key cols (drop (i + 1) (views ls)))) in
+    = rw (next ls i l lt is, read) (regroup front row (all_rows_in key cols (drop (i + 1) (views ls)))) in
     sym one ∙ so_far
 
 pub ends : (e : LineFault) (front : List (List ℤ)) (key : List ℕ) (cols : ℕ) (ls : List Line) (i : ℕ) (l : Line) (total : Option (List (List ℤ))) → i < length ls → l ≡ get_or ls i l → Fails e (numbers_in key cols (view l))

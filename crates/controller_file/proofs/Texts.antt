@@ -96,7 +96,6 @@ above : (key : List ℕ) → list_all (λ b. ltb 32 b) key ≡ true → AllByRec
 above [] h = tt
 above (b ∷ key) h = (first b key h, above key (others b key h))
 
-
 -- a word of bytes above the space
 word : (key : List ℕ) → list_all (λ b. ltb 32 b) key ≡ true → All (λ b. 32 < b) key
 word key h = All-from_recursion (λ b. 32 < b) key (above key h)
@@ -128,13 +127,22 @@ numerators_fit zs h k d lt = numerator_fits (get_or zs k d) (h k d lt)
 
 head_good : (c : Numbers) → IsInForm c → AllByRecursion IsLine (head_lines (head_of c))
 head_good c form =
-    let small = small_form c form in
-    (good (codes "mpc-controller") (pos 1 ∷ []) refl (natural_fits 1 (omega arith), tt),
-    (good (codes "size") (pos c.states ∷ pos c.inputs ∷ pos c.stages ∷ pos c.rows ∷ []) refl (natural_fits c.states small.n, (natural_fits c.inputs small.p, (natural_fits c.stages small.stages, (natural_fits c.rows small.m, tt)))),
-    (good (codes "bits") (pos c.fraction_bits ∷ pos c.grid_bits ∷ pos c.step_exponent ∷ pos c.width ∷ []) refl (natural_fits c.fraction_bits small.f, (natural_fits c.grid_bits small.g, (natural_fits c.step_exponent small.s, (natural_fits c.width small.w, tt)))),
-    (good (codes "steps") (pos c.steps ∷ []) refl (natural_fits c.steps small.steps, tt),
-    (good (codes "clamp") (c.clamp ∷ []) refl (clamp_fits c.clamp form.sized.clamp_low form.sized.clamp_high, tt),
-    (good (codes "words") (pos c.words ∷ []) refl (natural_fits c.words small.words, tt), tt))))))
+    let small = small_form c form in (
+      good (codes "mpc-controller") (pos 1 ∷ []) refl (natural_fits 1 (omega arith), tt),
+      (
+        good (codes "size") (pos c.states ∷ pos c.inputs ∷ pos c.stages ∷ pos c.rows ∷ []) refl (natural_fits c.states small.n, (natural_fits c.inputs small.p, (natural_fits c.stages small.stages, (natural_fits c.rows small.m, tt)))),
+        (
+          good (codes "bits") (pos c.fraction_bits ∷ pos c.grid_bits ∷ pos c.step_exponent ∷ pos c.width ∷ []) refl (natural_fits c.fraction_bits small.f, (natural_fits c.grid_bits small.g, (natural_fits c.step_exponent small.s, (natural_fits c.width small.w, tt)))),
+          (
+            good (codes "steps") (pos c.steps ∷ []) refl (natural_fits c.steps small.steps, tt),
+            (
+              good (codes "clamp") (c.clamp ∷ []) refl (clamp_fits c.clamp form.sized.clamp_low form.sized.clamp_high, tt),
+              (good (codes "words") (pos c.words ∷ []) refl (natural_fits c.words small.words, tt), tt),
+            ),
+          ),
+        ),
+      ),
+    )
 
 lists_good : (c : Numbers) → IsInForm c → FitsWord c → AllByRecursion IsLine (list_lines c)
 lists_good c form fits =
@@ -148,10 +156,13 @@ lists_good c form fits =
     let g6 : AllByRecursion IsLine r6 = all_append IsLine (row_lines (codes "E") c.state_rows.rows) last (rows (codes "E") c.state_rows refl fits.state_rows) g7 in
     let g5 : AllByRecursion IsLine r5 = all_append IsLine (row_lines (codes "G") c.plan_rows.rows) r6 (rows (codes "G") c.plan_rows refl fits.plan_rows) g6 in
     let g4 : AllByRecursion IsLine r4 = all_append IsLine (row_lines (codes "W") c.dual_gains.rows) r5 (rows (codes "W") c.dual_gains refl fits.dual_gains) g5 in
-    let g3 : AllByRecursion IsLine (line (codes "T") c.offsets ∷ r4) = (record { key = word (codes "T") refl; fits = fits.offsets }, g4) in
-    (record { key = word (codes "lo") refl; fits = numerators_fit c.low form.sized.low },
-    (record { key = word (codes "hi") refl; fits = numerators_fit c.high form.sized.high },
-    all_append IsLine (row_lines (codes "P") c.state_gains.rows) (line (codes "T") c.offsets ∷ r4) (rows (codes "P") c.state_gains refl fits.state_gains) g3))
+    let g3 : AllByRecursion IsLine (line (codes "T") c.offsets ∷ r4) = (record { key = word (codes "T") refl; fits = fits.offsets }, g4) in (
+      record { key = word (codes "lo") refl; fits = numerators_fit c.low form.sized.low },
+      (
+        record { key = word (codes "hi") refl; fits = numerators_fit c.high form.sized.high },
+        all_append IsLine (row_lines (codes "P") c.state_gains.rows) (line (codes "T") c.offsets ∷ r4) (rows (codes "P") c.state_gains refl fits.state_gains) g3,
+      ),
+    )
 
 -- each line of a controller can be read
 pub good_lines : (c : Numbers) → IsInForm c → FitsWord c → All IsLine (keyed_lines c)

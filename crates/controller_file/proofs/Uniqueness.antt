@@ -106,8 +106,21 @@ line_count c shaped =
     let e5 = length-append (row_lines (codes "G") c.plan_rows.rows) r6 in
     let e4 = length-append (row_lines (codes "W") c.dual_gains.rows) r5 in
     let e3 = length-append (row_lines (codes "P") c.state_gains.rows) (line (codes "T") c.offsets ∷ r4) in
-    omega (arith, e6, e5, e4, e3, length-map c.state_rows.rows (line (codes "E")), length-map c.plan_rows.rows (line (codes "G")), length-map c.dual_gains.rows (line (codes "W")), length-map c.state_gains.rows (line (codes "P")),
-    shaped.state_rows.rows, shaped.plan_rows.rows, shaped.dual_gains.rows, shaped.state_gains.rows)
+    omega (
+      arith,
+      e6,
+      e5,
+      e4,
+      e3,
+      length-map c.state_rows.rows (line (codes "E")),
+      length-map c.plan_rows.rows (line (codes "G")),
+      length-map c.dual_gains.rows (line (codes "W")),
+      length-map c.state_gains.rows (line (codes "P")),
+      shaped.state_rows.rows,
+      shaped.plan_rows.rows,
+      shaped.dual_gains.rows,
+      shaped.state_gains.rows,
+    )
 
 -- the line of the sizes
 abbrev size_line : Numbers → Keyed

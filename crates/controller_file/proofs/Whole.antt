@@ -66,12 +66,14 @@ head_again h rest small =
     let line3 = line (codes "steps") (pos h.steps ∷ []) in
     let line4 = line (codes "clamp") (h.clamp ∷ []) in
     let line5 = line (codes "words") (pos h.words ∷ []) in
-    rw (natural_at_again (codes "mpc-controller") 1 (line1 ∷ line2 ∷ line3 ∷ line4 ∷ line5 ∷ rest) (omega arith),
-    four_again (codes "size") h.n h.p h.stages h.m (line2 ∷ line3 ∷ line4 ∷ line5 ∷ rest) small.n small.p small.stages small.m,
-    four_again (codes "bits") h.f h.g h.s h.w (line3 ∷ line4 ∷ line5 ∷ rest) small.f small.g small.s small.w,
-    natural_at_again (codes "steps") h.steps (line4 ∷ line5 ∷ rest) small.steps,
-    numbers_again (codes "clamp") 1 (h.clamp ∷ []) (line5 ∷ rest) refl,
-    natural_at_again (codes "words") h.words rest small.words) refl
+    rw (
+      natural_at_again (codes "mpc-controller") 1 (line1 ∷ line2 ∷ line3 ∷ line4 ∷ line5 ∷ rest) (omega arith),
+      four_again (codes "size") h.n h.p h.stages h.m (line2 ∷ line3 ∷ line4 ∷ line5 ∷ rest) small.n small.p small.stages small.m,
+      four_again (codes "bits") h.f h.g h.s h.w (line3 ∷ line4 ∷ line5 ∷ rest) small.f small.g small.s small.w,
+      natural_at_again (codes "steps") h.steps (line4 ∷ line5 ∷ rest) small.steps,
+      numbers_again (codes "clamp") 1 (h.clamp ∷ []) (line5 ∷ rest) refl,
+      natural_at_again (codes "words") h.words rest small.words,
+    ) refl
 
 -- ---- the lists
 
@@ -142,15 +144,17 @@ lists_again c shaped =
     let r3 = line (codes "T") c.offsets ∷ r4 in
     let r2 = row_lines (codes "P") c.state_gains.rows ++ r3 in
     let r1 = line (codes "hi") c.high ∷ r2 in
-    rw (numbers_again (codes "lo") c.states c.low r1 shaped.low,
-    numbers_again (codes "hi") c.states c.high r2 shaped.high,
-    matrix_again (codes "P") nu c.states c.state_gains r3 shaped.state_gains,
-    numbers_again (codes "T") nu c.offsets r4 shaped.offsets,
-    matrix_again (codes "W") nu c.rows c.dual_gains r5 shaped.dual_gains,
-    matrix_again (codes "G") c.rows nu c.plan_rows r6 shaped.plan_rows,
-    matrix_again (codes "E") c.rows c.states c.state_rows r7 shaped.state_rows,
-    numbers_again (codes "b") c.rows c.bounds r8 shaped.bounds,
-    numbers_again (codes "end") 0 [] [] refl) refl
+    rw (
+      numbers_again (codes "lo") c.states c.low r1 shaped.low,
+      numbers_again (codes "hi") c.states c.high r2 shaped.high,
+      matrix_again (codes "P") nu c.states c.state_gains r3 shaped.state_gains,
+      numbers_again (codes "T") nu c.offsets r4 shaped.offsets,
+      matrix_again (codes "W") nu c.rows c.dual_gains r5 shaped.dual_gains,
+      matrix_again (codes "G") c.rows nu c.plan_rows r6 shaped.plan_rows,
+      matrix_again (codes "E") c.rows c.states c.state_rows r7 shaped.state_rows,
+      numbers_again (codes "b") c.rows c.bounds r8 shaped.bounds,
+      numbers_again (codes "end") 0 [] [] refl,
+    ) refl
 
 -- ---- the whole
 

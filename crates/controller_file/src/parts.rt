@@ -118,7 +118,13 @@ fn read_head<'a, 't>(lines: &'a [Line<'t>]) -> Result<(Head, &'a [Line<'t>]), Li
 
 // The numbers of so many lines with this word, as rows, and the other lines.
 #[tactic(auto, unfolding(crate::specs::Reading::matrix_at))]
-fn read_matrix<'a, 't>(alloc: Global, key: &str, rows: usize, cols: usize, lines: &'a [Line<'t>]) -> Result<(Mat, &'a [Line<'t>]), LineFault>
+fn read_matrix<'a, 't>(
+    alloc: Global,
+    key: &str,
+    rows: usize,
+    cols: usize,
+    lines: &'a [Line<'t>],
+) -> Result<(Mat, &'a [Line<'t>]), LineFault>
     ensures { Gives (λ x. (x.0, views x.1.now)) result (matrix_at key.now rows cols (views lines.now)) }
 {
     if lines.len() < rows {
@@ -140,7 +146,12 @@ fn read_rows(alloc: Global, key: &str, cols: usize, lines: &[Line]) -> Result<Ma
 }
 
 // The numbers of the first line as a list, and the other lines.
-fn read_list<'a, 't>(alloc: Global, key: &str, count: usize, lines: &'a [Line<'t>]) -> Result<(Vec<i128>, &'a [Line<'t>]), LineFault>
+fn read_list<'a, 't>(
+    alloc: Global,
+    key: &str,
+    count: usize,
+    lines: &'a [Line<'t>],
+) -> Result<(Vec<i128>, &'a [Line<'t>]), LineFault>
     ensures { Gives (λ x. (x.0.items, views x.1.now)) result (numbers_at key.now count (views lines.now)) }
 {
     let (numbers, lines) = read_numbers(key, count, lines)?;
@@ -149,7 +160,10 @@ fn read_list<'a, 't>(alloc: Global, key: &str, count: usize, lines: &'a [Line<'t
 
 // The natural numbers of the first line, which has four, and the other lines.
 #[tactic(auto, unfolding(crate::specs::Reading::four_at))]
-fn read_four<'a, 't>(key: &str, lines: &'a [Line<'t>]) -> Result<((u32, u32, u32, u32), &'a [Line<'t>]), LineFault>
+fn read_four<'a, 't>(
+    key: &str,
+    lines: &'a [Line<'t>],
+) -> Result<((u32, u32, u32, u32), &'a [Line<'t>]), LineFault>
     ensures { Gives (λ x. (x.0, views x.1.now)) result (four_at key.now (views lines.now)) }
 {
     let (numbers, lines) = read_numbers(key, 4, lines)?;
@@ -162,7 +176,10 @@ fn read_four<'a, 't>(key: &str, lines: &'a [Line<'t>]) -> Result<((u32, u32, u32
 
 // The natural number of the first line, which has one, and the other lines.
 #[tactic(auto, unfolding(crate::specs::Reading::natural_at))]
-fn read_natural<'a, 't>(key: &str, lines: &'a [Line<'t>]) -> Result<(u32, &'a [Line<'t>]), LineFault>
+fn read_natural<'a, 't>(
+    key: &str,
+    lines: &'a [Line<'t>],
+) -> Result<(u32, &'a [Line<'t>]), LineFault>
     ensures { Gives (λ x. (x.0, views x.1.now)) result (natural_at key.now (views lines.now)) }
 {
     let (numbers, lines) = read_numbers(key, 1, lines)?;
@@ -171,7 +188,11 @@ fn read_natural<'a, 't>(key: &str, lines: &'a [Line<'t>]) -> Result<(u32, &'a [L
 
 // The numbers of the first line, and the other lines.
 #[tactic(auto, unfolding(crate::specs::Reading::numbers_at))]
-fn read_numbers<'a, 't>(key: &str, count: usize, lines: &'a [Line<'t>]) -> Result<(&'a [i128], &'a [Line<'t>]), LineFault>
+fn read_numbers<'a, 't>(
+    key: &str,
+    count: usize,
+    lines: &'a [Line<'t>],
+) -> Result<(&'a [i128], &'a [Line<'t>]), LineFault>
     ensures value { Gives (λ x. (x.0.now, views x.1.now)) result (numbers_at key.now count (views lines.now)) }
     ensures count { IfOk result (λ x. length x.0.now ≡ count) }
 {

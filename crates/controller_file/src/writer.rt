@@ -73,7 +73,12 @@ fn push_rows(alloc: Global, text: &mut String, key: &str, rows: &Mat) -> Result<
 }
 
 // A line, at the end.
-fn push_line(alloc: Global, text: &mut String, key: &str, numbers: &[i128]) -> Result<(), AllocError>
+fn push_line(
+    alloc: Global,
+    text: &mut String,
+    key: &str,
+    numbers: &[i128],
+) -> Result<(), AllocError>
     ensures text { OnOk result (string_bytes text.new ≡ string_bytes text.old ++ text_of (line_of key.now numbers.now ∷ [])) }
     ensures word { OnOk result (All (FitsSigned w128) numbers.now) }
 {

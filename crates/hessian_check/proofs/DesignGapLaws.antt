@@ -53,7 +53,7 @@ half_row p c f m h i k =
     let d = design_of p in
     let n = entries d in
     let b = amount-le n (λ j. unsigned_abs (entry_of m i j)) (cost_entry_size d) (λ j l.
-        (let e = ap unsigned_abs (h.entries i j (rw f.shapes.hess.rows k) (rw f.shapes.hess.rows l)) in omega (arith, e, half-le (entry_of c.hess i j), f.sizes.hess i j k l))) in
+    (let e = ap unsigned_abs (h.entries i j (rw f.shapes.hess.rows k) (rw f.shapes.hess.rows l)) in omega (arith, e, half-le (entry_of c.hess i j), f.sizes.hess i j k l))) in
     let w : n * 1 ≤ n * (n + d.states + 1) = mul-le-mul_left n (omega arith) in
     let q = mul-le-mul_right (cost_entry_size d) w in
     omega (arith, b, q)
@@ -79,10 +79,10 @@ rows_row p c f m h i k =
     let n = entries d in
     let w = rows d * limit_entry_size d ^ 2 in
     let b = amount-le n (λ j. unsigned_abs (entry_of m i j)) w (λ j l.
-        (let e : entry_of m i j ≡ gram (rows d) (entry_of c.g) i j = rw (← f.shapes.g.rows) (h.entries i j (rw f.shapes.g.cols k) (rw f.shapes.g.cols l)) in
-        let t = dot_bound (rows d) (λ r. entry_of c.g r i) (λ r. entry_of c.g r j) in
-        let q = ap unsigned_abs e in
-        omega (arith, q, t, products-le p c f i j k l))) in
+    (let e : entry_of m i j ≡ gram (rows d) (entry_of c.g) i j = rw (← f.shapes.g.rows) (h.entries i j (rw f.shapes.g.cols k) (rw f.shapes.g.cols l)) in
+    let t = dot_bound (rows d) (λ r. entry_of c.g r i) (λ r. entry_of c.g r j) in
+    let q = ap unsigned_abs e in
+    omega (arith, q, t, products-le p c f i j k l))) in
     let r = products_room (rows d) n (n + d.states + 1) (limit_entry_size d ^ 2) (omega arith) in
     omega (arith, b, r)
 

@@ -172,10 +172,13 @@ covers_as d s w q f l a ew eq ef el ea = (λ t. moved (w * q) _ (d.cost_denomina
 pub covers_by : (d : Design) (o : Option ℕ) (w q f l a : ℕ) → w ≡ d.cost_denominator → q ≡ limit_squares d → f ≡ input_floor d → l ≡ d.limit_denominator →
     a ≡ d.plant_denominator ^ d.stages → IsLeastBelow 41 (λ s. w * q ≤ 2 ^ s * (f * (l * l)) * (a * a)) o → IsLeastBelow 41 (CoversSquares d) o
 covers_by d None w q f l a ew eq ef el ea h = λ k m t. h k m ((covers_as d k w q f l a ew eq ef el ea).1 t)
-covers_by d (Some s) w q f l a ew eq ef el ea h = (h.0, record {
-  holds = (covers_as d s w q f l a ew eq ef el ea).0 h.1.holds;
-  least = λ k m t. h.1.least k m ((covers_as d k w q f l a ew eq ef el ea).1 t);
-})
+covers_by d (Some s) w q f l a ew eq ef el ea h = (
+  h.0,
+  record {
+    holds = (covers_as d s w q f l a ew eq ef el ea).0 h.1.holds;
+    least = λ k m t. h.1.least k m ((covers_as d k w q f l a ew eq ef el ea).1 t);
+  },
+)
 
 pub limited_by : (r : Option ℕ) (b : Bool) (n : ℕ) → b ≡ is_some r → SomeIff r (n ≤ 2 ^ 126) n → IsTrue b ↔ (n ≤ 2 ^ 126)
 limited_by None b n e h = rw e (λ t. absurd (not_true t), λ l. absurd (h l))

@@ -26,9 +26,11 @@ pub mixed_fits : (x a y b : ℤ) → unsigned_abs x * unsigned_abs a + unsigned_
     FitsSigned w128 (x *ℤ a) × FitsSigned w128 (y *ℤ b) × FitsSigned w128 (x *ℤ a -ℤ y *ℤ b)
 mixed_fits x a y b h =
     let p = unsigned_abs-mul x a in
-    let q = unsigned_abs-mul y b in
-    (fits_signed_from_abs w128 _ (omega (arith, p, h)), fits_signed_from_abs w128 _ (omega (arith, q, h)),
-    fits_signed_from_abs w128 _ (omega (arith, abs-sub_le (x *ℤ a) (y *ℤ b), p, q, h)))
+    let q = unsigned_abs-mul y b in (
+      fits_signed_from_abs w128 _ (omega (arith, p, h)),
+      fits_signed_from_abs w128 _ (omega (arith, q, h)),
+      fits_signed_from_abs w128 _ (omega (arith, abs-sub_le (x *ℤ a) (y *ℤ b), p, q, h)),
+    )
 
 -- the factor of the cost at s
 pub scaled_fits : (a : ℤ) (s : ℕ) → pos 0 ≤ℤ a → a ≤ℤ pos (2 ^ 40) → s ≤ 40 → FitsSigned w128 (a *ℤ pos (2 ^ s))
@@ -71,7 +73,7 @@ size-mixed_le (suc n) p q x y f g d e =
 pub row_room : (n : ℕ) (g : Gaps) (s : ℕ) (m : Matrix) → length g.cost.rows ≡ n → AreSame n (entry_of m) (gap_at g s) → HasRoom g s → (i : ℕ) → i < n → size n (entry_of m i) < 2 ^ 127
 row_room n g s m e h r i k =
     let b = size-mixed_le n (2 ^ s * unsigned_abs g.cost_factor) (unsigned_abs g.row_factor) (pos (2 ^ s) *ℤ g.cost_factor) g.row_factor (entry_of g.cost i) (entry_of g.rows i)
-        (unsigned_abs-mul (pos (2 ^ s)) g.cost_factor) refl in
+    (unsigned_abs-mul (pos (2 ^ s)) g.cost_factor) refl in
     let o : 2 ^ s * unsigned_abs g.cost_factor * size n (entry_of g.cost i) + unsigned_abs g.row_factor * size n (entry_of g.rows i) < 2 ^ 127 = rw e at (r i (rw e k)) in
     rw (size_same n (entry_of m i) (gap_at g s i) (λ j l. h.is i j k l)) (omega (arith, b, o))
 

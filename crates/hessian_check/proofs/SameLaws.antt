@@ -64,7 +64,7 @@ pub root_moved : (n : ℕ) (m w : ℕ → ℕ → ℤ) (s : ℕ) (r : ℕ → �
 root_moved n m w s r h p =
     let e = top_same n n m w (omega arith) h in
     let mu : margin (pos (4 ^ s)) n m ≡ margin (pos (4 ^ s)) n w =
-        ap (λ (z : ℤ). floor_of (pos (4 ^ s) *ℤ z) 4096) (low_same (top n m) (top n w) n n m w e (omega arith) h) in
+    ap (λ (z : ℤ). floor_of (pos (4 ^ s) *ℤ z) 4096) (low_same (top n m) (top n w) n n m w e (omega arith) h) in
     record {
       start = start_moved n m w h p.start;
       shift = rw (← e) p.shift;

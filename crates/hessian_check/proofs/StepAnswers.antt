@@ -82,7 +82,7 @@ no_step_of d g o r h t e =
     let k : Outcome g o (Err NoStep) = rw e at t in
     let b : IsLeastBelow 41 (CoversSquares d) None = rw k.1 at h.squares in
     let a = first_above (entries d) (gap (curved_of d)) (CoversSquares d) h.some b
-        (λ s l m. k.0 s l (rw h.gaps.size (dominant_moved (entries d) (gap (curved_of d) s) (gap_at g s) (same_back (entries d) (gap_at g s) (gap (curved_of d) s) (h.gaps.same s)) m))) in
+    (λ s l m. k.0 s l (rw h.gaps.size (dominant_moved (entries d) (gap (curved_of d) s) (gap_at g s) (same_back (entries d) (gap_at g s) (gap (curved_of d) s) (h.gaps.same s)) m))) in
     record { s1 = h.some.number; plain = a.0; above = a.1 }
 
 pub found_of : (d : Design) (g : Gaps) (o : Option ℕ) (r : Result StepExponents CurvatureFault) → Chosen d g o → Outcome g o r →

@@ -11,7 +11,11 @@ use crate::gaps::Gaps;
 use std::alloc::{AllocError, Global};
 
 /// The exponents of gaps, where `squares` is the least number up to 40 that passes the test of all squares.
-pub fn exponents_of(alloc: Global, gaps: &Gaps, squares: Option<u32>) -> Result<StepExponents, CurvatureFault>
+pub fn exponents_of(
+    alloc: Global,
+    gaps: &Gaps,
+    squares: Option<u32>,
+) -> Result<StepExponents, CurvatureFault>
     requires small { unwrap_or squares 40 ≤ 40 }
     requires room { (s : ℕ) → s ≤ unwrap_or squares 40 → HasRoom gaps.now s }
     ensures { IsOutcome (length gaps.now.cost.rows) (gap_at gaps.now) squares result }

@@ -31,7 +31,13 @@ impl Gaps {
         requires room { HasRoom self.now s }
         ensures { let n = length self.now.cost.rows in IfOk result (HasEntries n n (gap_at self.now s)) }
     {
-        mix(alloc, scaled(self.cost_factor, s), &self.cost, self.row_factor, &self.rows)
+        mix(
+            alloc,
+            scaled(self.cost_factor, s),
+            &self.cost,
+            self.row_factor,
+            &self.rows,
+        )
     }
 }
 

@@ -10,10 +10,22 @@ fn listed_reads(rt: HostRuntime) -> Result<(), Fail> {
     store.hold("a", b"abc")?;
     store.reserve("b", 5)?;
     store.fail_read(2)?;
-    assert_eq!(rt; store.read_all(alloc, "a", 3)?.as_slice(), b"abc".as_slice());
-    assert_eq!(rt; store.read_all(alloc, "a", 3).err(), Some(ReadRefusal::Failed));
-    assert_eq!(rt; store.read_all(alloc, "a", 2).err(), Some(ReadRefusal::Long));
-    assert_eq!(rt; store.read_all(alloc, "b", 9).err(), Some(ReadRefusal::Failed));
+    assert_eq!(rt;
+        store.read_all(alloc, "a", 3)?.as_slice(),
+        b"abc".as_slice()
+    );
+    assert_eq!(rt;
+        store.read_all(alloc, "a", 3).err(),
+        Some(ReadRefusal::Failed)
+    );
+    assert_eq!(rt;
+        store.read_all(alloc, "a", 2).err(),
+        Some(ReadRefusal::Long)
+    );
+    assert_eq!(rt;
+        store.read_all(alloc, "b", 9).err(),
+        Some(ReadRefusal::Failed)
+    );
     Ok(())
 }
 
@@ -27,10 +39,16 @@ fn listed_writes(rt: HostRuntime) -> Result<(), Fail> {
     store.fail_write(2, 1)?;
     assert_eq!(rt; store.write_all("b", b"12345"), Ok(()));
     assert_eq!(rt; store.write_all("b", b"6789"), Err(Failed));
-    assert_eq!(rt; store.read_all(alloc, "b", 9)?.as_slice(), b"678".as_slice());
+    assert_eq!(rt;
+        store.read_all(alloc, "b", 9)?.as_slice(),
+        b"678".as_slice()
+    );
     assert_eq!(rt; store.write_all("b", b"123456"), Err(Failed));
     assert_eq!(rt; store.write_all("c", b""), Err(Failed));
-    assert_eq!(rt; store.read_all(alloc, "b", 9)?.as_slice(), b"678".as_slice());
+    assert_eq!(rt;
+        store.read_all(alloc, "b", 9)?.as_slice(),
+        b"678".as_slice()
+    );
     Ok(())
 }
 
@@ -76,9 +94,20 @@ fn words(rt: HostRuntime) -> Result<(), Fail> {
 fn real_files(rt: HostRuntime) -> Result<(), Fail> {
     let mut store = HostStore::new(&rt);
     assert_eq!(rt; store.write_all("io_edge_real_file", b"0123456789"), Ok(()));
-    assert_eq!(rt; store.read_all(rt.alloc(), "io_edge_real_file", 10)?.as_slice(), b"0123456789".as_slice());
-    assert_eq!(rt; store.read_all(rt.alloc(), "io_edge_real_file", 9).err(), Some(ReadRefusal::Long));
-    assert_eq!(rt; store.read_all(rt.alloc(), "io_edge_no_such_file", 9).err(), Some(ReadRefusal::Failed));
+    assert_eq!(rt;
+        store
+            .read_all(rt.alloc(), "io_edge_real_file", 10)?
+            .as_slice(),
+        b"0123456789".as_slice()
+    );
+    assert_eq!(rt;
+        store.read_all(rt.alloc(), "io_edge_real_file", 9).err(),
+        Some(ReadRefusal::Long)
+    );
+    assert_eq!(rt;
+        store.read_all(rt.alloc(), "io_edge_no_such_file", 9).err(),
+        Some(ReadRefusal::Failed)
+    );
     Ok(())
 }
 

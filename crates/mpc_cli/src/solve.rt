@@ -5,20 +5,24 @@ ghost use Rattle.qp_model.specs.Machine.{IsGridState};
 ghost use Rattle.qp_model.specs.ControllerText.{plan_line};
 ghost use Rattle.mpc_cli.specs.Solve.{HoldsController, HasText, LacksText, HoldsLine, HoldsPlan, Refuses, NoController, NoState};
 
+use crate::state_text::read_state;
 use crate::status::Status;
 use controller_file::read_controller;
 use fixed_kernel::Kernel;
 use io_edge::{ReadRefusal, Sink, Store};
 use overflow_check::Controller;
 use primal_average::plan_line;
-use crate::state_text::read_state;
 use std::alloc::{AllocError, Global};
 
 /// The most bytes of a file.
 const FILE_LIMIT: usize = 4194304;
 
 // The controller under a name, or the status that ends the run.
-pub fn controller_in<S: Store>(alloc: Global, name: &str, store: &mut S) -> Result<Controller, Status>
+pub fn controller_in<S: Store>(
+    alloc: Global,
+    name: &str,
+    store: &mut S,
+) -> Result<Controller, Status>
     ensures ok { IfOk result (λ c. IfSome (S.held store.old) (λ files. IsSomeAnd (files name.now) (λ bytes. HoldsController bytes c))) }
     ensures unbuilt { IsErrOf result (Status.Unbuilt 1) → IfSome (S.held store.old) (λ files. IsSomeAnd (files name.now) NoController) }
     ensures failed { IsErrOf result (Status.ReadFault 1) → Rose (S.read_faults store.old name.now) (S.read_faults store.new name.now) }
@@ -41,7 +45,12 @@ pub fn controller_in<S: Store>(alloc: Global, name: &str, store: &mut S) -> Resu
 }
 
 // The numbers of the state under a name, or the status that ends the run.
-pub fn state_in<S: Store>(alloc: Global, name: &str, n: usize, store: &mut S) -> Result<Vec<i128>, Status>
+pub fn state_in<S: Store>(
+    alloc: Global,
+    name: &str,
+    n: usize,
+    store: &mut S,
+) -> Result<Vec<i128>, Status>
     requires { 1 ≤ n }
     ensures ok { IfOk result (λ xi. IfSome (S.held store.old) (λ files. IsSomeAnd (files name.now) (λ bytes. HasText n bytes xi.items))) }
     ensures count { IfOk result (λ xi. length xi.items ≡ n) }
@@ -66,7 +75,11 @@ pub fn state_in<S: Store>(alloc: Global, name: &str, n: usize, store: &mut S) ->
 }
 
 // The line of the averaged plan from a state; None where the state lies outside the box.
-pub fn line_from(alloc: Global, controller: &Controller, state: &[i128]) -> Result<Option<Vec<u8>>, AllocError>
+pub fn line_from(
+    alloc: Global,
+    controller: &Controller,
+    state: &[i128],
+) -> Result<Option<Vec<u8>>, AllocError>
     requires { length state.now ≡ controller.now.states }
     ensures line { IfOk result (λ o. IfSome o (λ line. line.items ≡ plan_line controller.now state.now)) }
     ensures inside { IfOk result (λ o. IsSome o ↔ IsGridState controller.now state.now) }
@@ -79,7 +92,12 @@ pub fn line_from(alloc: Global, controller: &Controller, state: &[i128]) -> Resu
 }
 
 // The line of the averaged plan from the state under a name, or the status that ends the run.
-pub fn line_at<S: Store>(alloc: Global, controller: &Controller, name: &str, store: &mut S) -> Result<Vec<u8>, Status>
+pub fn line_at<S: Store>(
+    alloc: Global,
+    controller: &Controller,
+    name: &str,
+    store: &mut S,
+) -> Result<Vec<u8>, Status>
     ensures ok { IfOk result (λ line. IfSome (S.held store.old) (λ files. IsSomeAnd (files name.now) (HoldsLine controller.now line.items))) }
     ensures unbuilt { IsErrOf result (Status.Unbuilt 2) → IfSome (S.held store.old) (λ files. IsSomeAnd (files name.now) (NoState controller.now)) }
     ensures failed { IsErrOf result (Status.ReadFault 2) → Rose (S.read_faults store.old name.now) (S.read_faults store.new name.now) }
@@ -97,7 +115,12 @@ pub fn line_at<S: Store>(alloc: Global, controller: &Controller, name: &str, sto
 }
 
 // The line of the averaged plan of the controller and the state under two names, or the status that ends the run.
-pub fn line_for<S: Store>(alloc: Global, first: &str, second: &str, store: &mut S) -> Result<Vec<u8>, Status>
+pub fn line_for<S: Store>(
+    alloc: Global,
+    first: &str,
+    second: &str,
+    store: &mut S,
+) -> Result<Vec<u8>, Status>
     ensures ok { IfOk result (λ line. IfSome (S.held store.old) (λ files. HoldsPlan files first.now second.now line.items)) }
     ensures refused { IfErr result (λ e. IfSome (S.held store.old) (λ files. Refuses files first.now second.now e)) }
     ensures no_write { (file : ℕ) → ¬ IsErrOf result (Status.WriteFault file) }

@@ -206,12 +206,12 @@ policy_sized bytes d p h = record {
   cols = h.cols;
   regular = λ e row l. (let m : e < 2 ^ d.states = omega (arith, h.rows) in rw (get_or_default p.numerators.rows e row [] l) (omega (arith, (h.each e m).numbers)));
   numerators = λ e row l i z k. (
-    let m : e < 2 ^ d.states = omega (arith, h.rows) in
-    let r : get_or p.numerators.rows e row ≡ row_of p.numerators e = get_or_default p.numerators.rows e row [] l in
-    let o : i < length (row_of p.numerators e) = rw (← r) k in
-    rw (r, get_or_default (row_of p.numerators e) i z (pos 0) o)
-    (field_range _ _ ((h.each e m).each (suc i) (omega (arith, o, (h.each e m).numbers))).0)
-  );
+      let m : e < 2 ^ d.states = omega (arith, h.rows) in
+      let r : get_or p.numerators.rows e row ≡ row_of p.numerators e = get_or_default p.numerators.rows e row [] l in
+      let o : i < length (row_of p.numerators e) = rw (← r) k in
+      rw (r, get_or_default (row_of p.numerators e) i z (pos 0) o)
+      (field_range _ _ ((h.each e m).each (suc i) (omega (arith, o, (h.each e m).numbers))).0)
+      );
 }
 
 pub policy_all_sized : (bytes : List ℕ) (d : Design) (r : Result Policy TextFault) → IfOk r (λ p. IsPolicyText bytes d (plans_of p)) → IfOk r (λ p. IsPolicyFor d (plans_of p))

@@ -74,6 +74,10 @@ fn faults(rt: HostRuntime) {
         (b"1\n1\t\n", 1, TextFault::Number { entry: 2, field: 1 }),
     ];
     for (text, n, fault) in texts {
-        assert_eq!(rt; read_states(rt.alloc(), text, n).err(), Some(fault), "at {text:?}");
+        assert_eq!(rt;
+            read_states(rt.alloc(), text, n).err(),
+            Some(fault),
+            "at {text:?}"
+        );
     }
 }

@@ -8,14 +8,12 @@ mod design;
 mod design_parts;
 mod laws;
 mod number;
-mod policy;
-mod quantity;
-mod sizes;
 mod part_rules;
 mod policy;
 mod quantity;
 pub mod range;
 pub mod rules;
+mod sizes;
 mod text_fault;
 
 pub use bounds::{Bounds, Margin};

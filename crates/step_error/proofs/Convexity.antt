@@ -38,7 +38,7 @@ solve_matrix_convex d rho sound condensed v =
         let a = rw is at h in
         let b = rw four_is at k in
         let m = cancel-le_z (cost *ℤ (w *ℤ w)) (pos 2 *ℤ rho *ℤ (row *ℤ plant *ℤ (row *ℤ plant)) *ℤ t) form (mul_pos_z cost (w *ℤ w) pc (mul_pos_z w w pw pw))
-            (le_by (add-le-add_z a (add-le-add_z a (same_le b))) (by_ring (cost ∷ w ∷ row ∷ plant ∷ rho ∷ t ∷ curve ∷ form ∷ []) (search quotes depth 90 fits 20000) refl)) in
+        (le_by (add-le-add_z a (add-le-add_z a (same_le b))) (by_ring (cost ∷ w ∷ row ∷ plant ∷ rho ∷ t ∷ curve ∷ form ∷ []) (search quotes depth 90 fits 20000) refl)) in
         le_by (mul-le-mul_left_z limit pl m) (by_ring (limit ∷ row ∷ plant ∷ rho ∷ t ∷ form ∷ []) (search quotes depth 90 fits 20000) refl)
       where
         same_le : {a b : ℤ} → a ≡ b → (cost *ℤ a) ≤ℤ (cost *ℤ b)

@@ -38,7 +38,6 @@ good_within n h f c x good j inside = record { below = (good j inside).0; above 
     turned h a b k = omega (arith, ints)
 
 module _ (d : Design) (r : ℕ) (c : Numbers) (x l : List ℤ) (made : IsMadeFor d r c) (shaped : IsShaped c) (reached : AreReached d r c x l) where
-
   abbrev plan : ℕ → ℤ
   plan j = plan_entry c x l j
 

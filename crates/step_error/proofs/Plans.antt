@@ -149,12 +149,12 @@ plan_closed : (limit cost p2 rho q f n lin con y row tr z s u weight trace reach
     u ≤ℤ (f *ℤ (lead +ℤ extra +ℤ pos 1))
 plan_closed limit cost p2 rho q f n lin con y row tr z s u weight trace reach lead extra pl pp pr pq pf pt pc pz main weight_le trace_le reach_le rounding lead_le extra_le =
     let a : (limit *ℤ p2 *ℤ (pos 4 *ℤ rho *ℤ s)) ≤ℤ (limit *ℤ p2 *ℤ (q *ℤ (pos 2 *ℤ f *ℤ (cost *ℤ (n *ℤ lin +ℤ con +ℤ y *ℤ row)) +ℤ cost *ℤ z *ℤ tr))) =
-        le_by (add-le-add_z main (add-le-add_z (mul-le-mul_left_z (pos 2 *ℤ f) (twice f pf) weight_le) (add-le-add_z (mul-le-mul_left_z trace pt reach_le) (mul-le-mul_left_z (q *ℤ z) (product q z (less q pq) pz) trace_le))))
-        (by_ring (limit ∷ cost ∷ p2 ∷ rho ∷ q ∷ f ∷ n ∷ lin ∷ con ∷ y ∷ row ∷ tr ∷ z ∷ s ∷ weight ∷ trace ∷ reach ∷ []) (search quotes depth 90 fits 20000) refl) in
+    le_by (add-le-add_z main (add-le-add_z (mul-le-mul_left_z (pos 2 *ℤ f) (twice f pf) weight_le) (add-le-add_z (mul-le-mul_left_z trace pt reach_le) (mul-le-mul_left_z (q *ℤ z) (product q z (less q pq) pz) trace_le))))
+    (by_ring (limit ∷ cost ∷ p2 ∷ rho ∷ q ∷ f ∷ n ∷ lin ∷ con ∷ y ∷ row ∷ tr ∷ z ∷ s ∷ weight ∷ trace ∷ reach ∷ []) (search quotes depth 90 fits 20000) refl) in
     let b = cancel-le_z (limit *ℤ p2) (pos 4 *ℤ rho *ℤ s) (q *ℤ (pos 2 *ℤ f *ℤ (cost *ℤ (n *ℤ lin +ℤ con +ℤ y *ℤ row)) +ℤ cost *ℤ z *ℤ tr)) (mul_pos_z limit p2 pl pp) a in
     let m : (pos 4 *ℤ rho *ℤ s) ≤ℤ (pos 4 *ℤ rho *ℤ (q *ℤ (f *ℤ (lead +ℤ extra)))) =
-        le_by (add-le-add_z b (mul-le-mul_left_z q (less q pq) (add-le-add_z (mul-le-mul_left_z (pos 2 *ℤ f) (twice f pf) lead_le) extra_le)))
-        (by_ring (cost ∷ rho ∷ q ∷ f ∷ n ∷ lin ∷ con ∷ y ∷ row ∷ tr ∷ z ∷ s ∷ lead ∷ extra ∷ []) (search quotes depth 90 fits 20000) refl) in
+    le_by (add-le-add_z b (mul-le-mul_left_z q (less q pq) (add-le-add_z (mul-le-mul_left_z (pos 2 *ℤ f) (twice f pf) lead_le) extra_le)))
+    (by_ring (cost ∷ rho ∷ q ∷ f ∷ n ∷ lin ∷ con ∷ y ∷ row ∷ tr ∷ z ∷ s ∷ lead ∷ extra ∷ []) (search quotes depth 90 fits 20000) refl) in
     let e = cancel-le_z (pos 4 *ℤ rho) s (q *ℤ (f *ℤ (lead +ℤ extra))) (four rho pr) m in
     cancel-le_z q u (f *ℤ (lead +ℤ extra +ℤ pos 1)) pq
     (le_by (add-le-add_z rounding (add-le-add_z e (mul-le-mul_left_z q (less q pq) pf)))

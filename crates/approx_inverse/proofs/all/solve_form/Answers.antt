@@ -13,7 +13,7 @@ loop-i-preserved c =
     let long : length c.cells.result.now ≡ entries_of c.args.c.now = c.cells.ensures.len ∙ work.len in
     let s = c.solve.new.self.solution.start in
     let same : (j : ℕ) → j < entries_of c.args.c.now → at c.cells.result.now j ≡ cells c.solve.new.self.region.words s j = λ j l.
-        ap (λ ws. at ws j) c.cells.ensures.value ∙ at-slice c.solve.new.self.region.words s c.solve.new.self.solution.len j (omega (arith, work.len)) in
+    ap (λ ws. at ws j) c.cells.ensures.value ∙ at-slice c.solve.new.self.region.words s c.solve.new.self.solution.len j (omega (arith, work.len)) in
     record {
       work = work;
       sizes = rw (long, inv.sizes.p_mat.cols, inv.sizes.w_mat.cols) at c.put.ensures.sizes;

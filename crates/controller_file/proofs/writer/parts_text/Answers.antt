@@ -9,12 +9,12 @@ pub returns-clause-text : goal.returns-clause-text
 returns-clause-text c =
     let p = c.args.parts.now in
     let head : List (List ℕ) =
-        codes "mpc-controller 1"
-        ∷ line_of (codes "size") (pos p.n ∷ pos p.p ∷ pos p.stages ∷ pos p.m ∷ [])
-        ∷ line_of (codes "bits") (pos p.f ∷ pos p.g ∷ pos p.s ∷ pos p.w ∷ [])
-        ∷ line_of (codes "steps") (pos p.steps ∷ [])
-        ∷ line_of (codes "clamp") (p.clamp ∷ [])
-        ∷ line_of (codes "words") (pos p.words ∷ []) ∷ [] in
+    codes "mpc-controller 1"
+    ∷ line_of (codes "size") (pos p.n ∷ pos p.p ∷ pos p.stages ∷ pos p.m ∷ [])
+    ∷ line_of (codes "bits") (pos p.f ∷ pos p.g ∷ pos p.s ∷ pos p.w ∷ [])
+    ∷ line_of (codes "steps") (pos p.steps ∷ [])
+    ∷ line_of (codes "clamp") (p.clamp ∷ [])
+    ∷ line_of (codes "words") (pos p.words ∷ []) ∷ [] in
     let lo = c.deref.ensures.value in
     let hi = c.deref-2.ensures.value in
     let t = c.deref-3.ensures.value in

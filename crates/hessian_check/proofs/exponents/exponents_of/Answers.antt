@@ -13,6 +13,7 @@ returns c =
     let m = gap_at c.args.gaps.now in
     let o = c.in_ok-first_dominant.field-0 in
     let e : option_or o c.args.squares ≡ Some c.in-Some.s1 = cc (c.or.ensures, c.in-Some.is) in
-    let h : IsLeastBelow (unwrap_or c.args.squares 40 + 1) (λ s. IsDominant n (m s)) o = rw c.unwrap_or-last.ensures at c.in_ok-first_dominant.ensures in
-    (either_made n m o c.args.squares c.in-Some.s1 e h,
-    rw c.unwrap_or-s.ensures (chosen_made n m c.in-Some.s1 c.in_ok-first_certified.field-0 c.in_ok-first_certified.ensures))
+    let h : IsLeastBelow (unwrap_or c.args.squares 40 + 1) (λ s. IsDominant n (m s)) o = rw c.unwrap_or-last.ensures at c.in_ok-first_dominant.ensures in (
+      either_made n m o c.args.squares c.in-Some.s1 e h,
+      rw c.unwrap_or-s.ensures (chosen_made n m c.in-Some.s1 c.in_ok-first_certified.field-0 c.in_ok-first_certified.ensures),
+    )

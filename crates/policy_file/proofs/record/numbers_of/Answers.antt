@@ -25,9 +25,13 @@ overflow_add-result c =
 
 pub returns-in_default-number_at-clause-fault : goal.returns-in_default-number_at-clause-fault
 returns-in_default-number_at-clause-fault c =
-    inr (refl, (omega arith), first_wrong (rule_of c.args.layout) c.args.count c.loop-i.i (fields_of c.args.record.now) c.in-Some.field.now c.loop-i.numbers.items
-    (omega arith) c.in-Some.ensures.value (omega arith) c.loop-i.invariant.each
-    (λ z r. let none = c.in_default-number_at.ensures.only z r in cc none))
+    inr (
+      refl,
+      (omega arith),
+      first_wrong (rule_of c.args.layout) c.args.count c.loop-i.i (fields_of c.args.record.now) c.in-Some.field.now c.loop-i.numbers.items
+          (omega arith) c.in-Some.ensures.value (omega arith) c.loop-i.invariant.each
+          (λ z r. let none = c.in_default-number_at.ensures.only z r in cc none),
+    )
 
 pub loop-i-preserved : goal.loop-i-preserved
 loop-i-preserved c =
