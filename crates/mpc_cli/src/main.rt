@@ -30,3 +30,6 @@ fn main(rt: HostRuntime) -> ExitCode {
     let status = run(rt.alloc(), &words, &mut store, &mut out);
     ExitCode::from(status_number(&status))
 }
+
+#[cfg(test)]
+mod tests;
