@@ -11,3 +11,6 @@ mod writer;
 pub use laws::{one_controller_law, prefix_law};
 pub use reader::read_controller;
 pub use writer::write_controller;
+
+#[cfg(test)]
+mod tests;

@@ -87,17 +87,17 @@ pub answers_done : (A B C : Type 0) (held : Option Files) (words : List (List �
 answers_done A B C (Some files) words line solve plan = λ s cause a b c. inl (decided files words Done s solve (plan.0, plan.1, plan.2) cause)
 answers_done A B C None words line solve plan = tt
 
-refused : {R1 R2 : Type 0} (files : Files) (words : List (List ℕ)) (status : Status) → IsSolve words → Refuses files (word_of words 1) (word_of words 2) status →
-    ((file : ℕ) → status ≡ ReadFault file → ((file ≡ 1) × R1) ⊎ ((file ≡ 2) × R2)) → (s : Status) → Causes files words s → (R1 → ⊥) → (R2 → ⊥) → (status ≡ s) ⊎ (status ≡ Memory)
+refused : {First Second : Type 0} (files : Files) (words : List (List ℕ)) (status : Status) → IsSolve words → Refuses files (word_of words 1) (word_of words 2) status →
+    ((file : ℕ) → status ≡ ReadFault file → ((file ≡ 1) × First) ⊎ ((file ≡ 2) × Second)) → (s : Status) → Causes files words s → (First → ⊥) → (Second → ⊥) → (status ≡ s) ⊎ (status ≡ Memory)
 refused files words Done solve why fault s cause no1 no2 = absurd why
 refused files words Memory solve why fault s cause no1 no2 = inr refl
 refused files words (ReadFault file) solve why fault s cause no1 no2 = elim (fault file refl) [ inl r ↦ absurd (no1 r.1) | inr r ↦ absurd (no2 r.1) ]
 refused files words (WriteFault file) solve why fault s cause no1 no2 = absurd why
 refused files words (Unbuilt part) solve why fault s cause no1 no2 = inl (decided files words (Unbuilt part) s solve why cause)
 
-pub answers_refused : (C R1 R2 : Type 0) (held : Option Files) (words : List (List ℕ)) (status : Status) → IsSolve words →
+pub answers_refused : (C First Second : Type 0) (held : Option Files) (words : List (List ℕ)) (status : Status) → IsSolve words →
     IfSome held (λ files. Refuses files (word_of words 1) (word_of words 2) status) →
-    ((file : ℕ) → status ≡ ReadFault file → ((file ≡ 1) × R1) ⊎ ((file ≡ 2) × R2)) →
-    IfSome held (λ files. (s : Status) → Causes files words s → (R1 → ⊥) → (R2 → ⊥) → C → (status ≡ s) ⊎ (status ≡ Memory))
-answers_refused C R1 R2 (Some files) words status solve why fault = λ s cause no1 no2 c. refused files words status solve why fault s cause no1 no2
-answers_refused C R1 R2 None words status solve why fault = tt
+    ((file : ℕ) → status ≡ ReadFault file → ((file ≡ 1) × First) ⊎ ((file ≡ 2) × Second)) →
+    IfSome held (λ files. (s : Status) → Causes files words s → (First → ⊥) → (Second → ⊥) → C → (status ≡ s) ⊎ (status ≡ Memory))
+answers_refused C First Second (Some files) words status solve why fault = λ s cause no1 no2 c. refused files words status solve why fault s cause no1 no2
+answers_refused C First Second None words status solve why fault = tt
