@@ -107,6 +107,22 @@ def exponents(d):
     return s, s1, s2, sd
 
 
+def quantities(d):
+    """`hessian`, `rows` and `curvature`."""
+    n, nu, N = d['states'], d['inputs'] * d['stages'], d['stages']
+    size = lambda row: sum(abs(x) for x in row)
+    alpha = max([d['a_den']] + [size(a) + size(b) for a, b in zip(d['A'], d['B'])])
+    costs, limits = d['stage_cost'] + d['final_cost'], d['stage_rows'] + d['final_rows']
+    C = max([d['row_den']] + [size(r[:-1]) for r in costs])
+    L = max([d['limit_den']] + [size(r) for r in limits])
+    Wt = d['cost_den'] + N * (sum(r[-1] for r in d['stage_cost']) + sum(d['input'])) + sum(r[-1] for r in d['final_cost'])
+    m = N * len(d['stage_rows']) + len(d['final_rows'])
+    hessian = 2 * nu * (nu + n + 1) * Wt * (C * alpha ** N) ** 2
+    rows = (nu + n + 1) * m * (L * alpha ** N) ** 2
+    s2 = exponents(d)[2]
+    return hessian, rows, 2 ** min(s2, 40) * d['limit_den'] ** 2 * hessian + d['cost_den'] * d['row_den'] ** 2 * rows
+
+
 def read(name):
     import tomllib
     t = tomllib.load(open(name, 'rb'))
@@ -125,8 +141,16 @@ SATELLITE = dict(states=2, inputs=1, stages=5, a_den=8, A=[[8, 4], [0, 8]], B=[[
                  stage_cost=[[1, 0, 0, 1], [0, 1, 0, 1]], final_cost=[], limit_den=1,
                  stage_rows=[[0, 0, 1, 4], [0, 0, -1, 4], [1, 0, 0, 8], [-1, 0, 0, 8], [0, 1, 0, 2], [0, -1, 0, 2]],
                  final_rows=[[1, 0, 8], [-1, 0, 8], [0, 1, 2], [0, -1, 2]])
-ROOTS = [[[1]], [[4]], [[5, 3], [3, 9]], [[1, 2], [2, 1]], [[0, 0], [0, 1]], [[2 ** 116, 0], [0, 1]],
-         [[2 ** 100, 2 ** 70], [2 ** 70, 2 ** 99]], [[7, -3, 1], [-3, 8, -2], [1, -2, 9]]]
+WIDE = dict(BASE, stages=2, a_den=1048576, A=[[1048576]], B=[[1048576]], limit_den=131072,
+            stage_rows=[[0, 131072, 131072], [0, -131072, 131072]], final_rows=[[131072, 32768]])
+CHECKS = [([[0, 1], [1, 0]], [[0, 0], [0, 0]]), ([[1]], [[1]]), ([[5, 3], [3, 9]], [[2, 0], [1, 2]]),
+          ([[4, 0], [0, 4]], [[2, 0], [1, 2]]), ([[1, -1], [-1, 1]], [[0, 0], [0, 0]]), ([[1, -2], [-2, 2]], [[0, 0], [0, 0]]),
+          ([[2, -2], [-2, 1]], [[0, 0], [0, 0]]), ([[0]], [[0]]), ([[-1]], [[0]]), ([[2 ** 126]], [[0]]),
+          ([[2 ** 126]], [[2 ** 63]]), ([[2 ** 126, 2 ** 126 - 1], [2 ** 126 - 1, 2 ** 126]], [[0, 0], [0, 0]]),
+          ([[2 ** 126, 2 ** 126], [2 ** 126, 2 ** 126]], [[0, 0], [0, 0]])]
+ROOTS = [[[1]], [[4]], [[2 ** 62]], [[2 ** 60 - 1]], [[2 ** 116 - 1]], [[2 ** 116, 0], [0, 1]], [[1, 2], [2, 1]],
+         [[0, 0], [0, 1]], [[9, -9], [-9, 9]], [[10, -9], [-9, 10]], [[4, 2, -2], [2, 10, 2], [-2, 2, 14]],
+         [[2 ** 100, 2 ** 70], [2 ** 70, 2 ** 99]]]
 
 if __name__ == '__main__':
     if len(sys.argv) > 1:
@@ -134,8 +158,10 @@ if __name__ == '__main__':
         sys.exit()
     for name, d in [('base', BASE), ('steep', dict(STEEP, stage_rows=[[0, 1400000, 1400000]])),
                     ('steeper', dict(STEEP, stage_rows=[[0, 1500000, 1500000]])), ('certified', CERTIFIED),
-                    ('satellite', SATELLITE)]:
+                    ('satellite', SATELLITE), ('wide', WIDE)]:
         s, s1, s2, sd = exponents(d)
-        print(f'{name}: s {s} s1 {s1} s2 {s2} sd {sd}')
+        print(f'{name}: s {s} s1 {s1} s2 {s2} sd {sd}, above 2^126:', [x > 2 ** 126 for x in quantities(d)])
+    for m, r in CHECKS:
+        print('check', m, r, check(m, r))
     for m in ROOTS:
-        print('root of', m, 'is', root(m), 'certified', certified(m))
+        print('root of', m, 'is', root(m))

@@ -9,3 +9,4 @@ pub mod SizeLaws
 pub mod FormLaws
 pub mod DesignLaws
 pub mod EntryLaws
+pub mod SingleLaws

@@ -40,8 +40,8 @@ fn solve_form(alloc: Global, c: &Condensed, f: u32) -> Result<Inverse, SolveFaul
     Ok(found)
 }
 
-/// The gains of a controller over `2^f`, before they are signed: for each column of the condensed form a good solution, no entry of which
-/// is above its bound. `TooWide` exactly where the quantity `descent` is above `2^126`.
+/// Solves all columns of a condensed form at f bits: each becomes a good solution, no entry of which is above its bound. `TooWide`
+/// exactly where the quantity `descent` is above `2^126`.
 pub fn solve_all(alloc: Global, c: &Condensed, f: u32) -> Result<Inverse, SolveFault>
     requires form { IsForm c.now }
     requires bits { f ≤ 48 }

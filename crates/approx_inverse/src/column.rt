@@ -112,8 +112,9 @@ fn descend(
     }
 }
 
-/// Puts whole numbers X into the words of x so that twice each entry of hX - 2^f c is at most the diagonal's entry, in absolute
-/// value. `floor` is a bound below on the curvature of h. `Wide` where numbers of the descent might pass `2^126`. It takes no memory.
+/// Puts whole numbers X into the words of x so that twice each entry of `h X - 2^f c` is at most the diagonal's entry, in absolute
+/// value: single entries move by whole steps, each of which lowers `X'h X - 2 2^f c'X`. The form of h is at least `floor` times the
+/// sum of the squares. `Wide` exactly where the numbers of a descent might pass `2^126`; then nothing changes. It takes no memory.
 pub fn solve_column(
     h: &Mat,
     c: &[i128],

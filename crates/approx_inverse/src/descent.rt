@@ -8,6 +8,7 @@ ghost use Rattle.word_region.specs.Words.{IsLive};
 ghost use Rattle.approx_inverse.specs.Descent.{IsNearest, IsSettled, IsDescent, IsTask, aim, value};
 ghost use Rattle.approx_inverse.specs.Spans.{IsWritten, ArePlaced, AreKept, cells};
 
+use crate::bits::bits;
 use mat_int::Mat;
 use word_region::{Region, Span};
 
@@ -51,7 +52,7 @@ fn is_wide(r: i128, d: i128) -> bool
 fn excess(x: u128) -> u32
     ensures { result ≤ 88 }
 {
-    (128 - x.leading_zeros()).saturating_sub(40)
+    bits(x).saturating_sub(40)
 }
 
 // Whether r^2 / d is above s^2 / e, as far as their upper bits tell.

@@ -1,8 +1,9 @@
 // Guesses of solutions, by a rough root of the matrix. Nothing is claimed of them: numbers may wrap round or be cut off, and
 // whatever a guess is, the descent goes from it, or from 0, to a good solution.
-ghost use Rattle.std.specs.Prelude.{◌≡◌, ◌<◌, ◌≤◌, pos, ◌≤ℤ◌, length, IfOk};
+ghost use Rattle.std.specs.Prelude.{◌≡◌, ◌<◌, ◌≤◌, length, IfOk};
 ghost use Rattle.approx_inverse.specs.Root.{IsRoot};
 
+use crate::bits::{bits, bits_of};
 use mat_int::Mat;
 use std::alloc::{AllocError, Global};
 
@@ -23,14 +24,6 @@ pub struct Root {
     upper: Mat,
     diagonal: Vec<i128>,
     shifts: Vec<u8>,
-}
-
-// How many bits a number has.
-fn bits(x: u128) -> i32
-    ensures low { pos 0 ≤ℤ result }
-    ensures high { result ≤ℤ pos 128 }
-{
-    128 - x.leading_zeros() as i32
 }
 
 // About v 2^k.
@@ -59,25 +52,21 @@ fn wrapped_dot(xs: &[i128], ys: &[i128]) -> i128 {
 
 // Scales a list to VECTOR_BITS bits, and answers by how many bits.
 fn normalise(xs: &mut [i128]) -> i32 {
-    let mut seen = 0u128;
-    for x in xs.iter() {
-        seen |= x.unsigned_abs();
-    }
-    let shift = VECTOR_BITS - bits(seen);
+    let shift = VECTOR_BITS - bits_of(xs) as i32;
     for x in xs.iter_mut() {
         *x = scaled(*x, shift);
     }
     shift
 }
 
-// For each row, half the bits of the diagonal.
+// For each row, half the bits of its diagonal entry.
 fn shifts_of(alloc: Global, h: &Mat) -> Result<Vec<u8>, AllocError>
     requires { h.now.cols ≡ length h.now.rows }
     ensures { IfOk result (λ v. length v.items ≡ length h.now.rows) }
 {
     let mut shifts = Vec::new(alloc);
     for i in 0..h.rows() {
-        let half = (129 - h.at(i, i).unsigned_abs().leading_zeros()) / 2;
+        let half = (bits(h.at(i, i).unsigned_abs()) + 1) / 2;
         shifts.push(half as u8)?;
     }
     Ok(shifts)
@@ -134,7 +123,7 @@ impl Root {
         self.diagonal[i] = square.isqrt();
     }
 
-    // Solves R y = 2^ROOT_BITS b in place.
+    // Solves R y = 2^ROOT_BITS b in place, row after row.
     fn forward(&self, y: &mut [i128])
         requires { IsRoot (length y.old) self.now }
     {
@@ -147,7 +136,7 @@ impl Root {
         }
     }
 
-    // Solves R' y = 2^ROOT_BITS b in place.
+    // Solves R' y = 2^ROOT_BITS b in place, from the last row on.
     fn backward(&self, y: &mut [i128])
         requires { IsRoot (length y.old) self.now }
     {
@@ -173,19 +162,41 @@ fn wrapped_rest(h: &Mat, c: &[i128], f: u32, x: &[i128], rest: &mut [i128])
 }
 
 impl Root {
-    // Brings the rows of a list to the scale of the root, and the list to VECTOR_BITS bits. Answers the shift.
-    fn lower_scale(&self, rest: &mut [i128]) -> i32
+    // The bits of the greatest number of a list, once its rows are at the scale of the root.
+    fn scaled_bits(&self, rest: &[i128]) -> i32
+        requires { IsRoot (length rest.now) self.now }
+    {
+        let mut most = -128;
+        for (i, r) in rest.iter().enumerate() {
+            most = most.max(bits(r.unsigned_abs()) as i32 - i32::from(self.shifts[i]));
+        }
+        most
+    }
+
+    // Brings the rows of a list to the scale of the root, and the list to VECTOR_BITS bits. Answers by how many bits.
+    fn bring_down(&self, rest: &mut [i128]) -> i32
         requires { IsRoot (length rest.old) self.now }
     {
-        let mut top = -128;
-        for (i, r) in rest.iter().enumerate() {
-            top = top.max(bits(r.unsigned_abs()) - i32::from(self.shifts[i]));
-        }
-        let shift = VECTOR_BITS.wrapping_sub(top);
+        let shift = VECTOR_BITS.wrapping_sub(self.scaled_bits(rest));
         for (i, r) in rest.iter_mut().enumerate() {
             *r = scaled(*r, shift.wrapping_sub(i32::from(self.shifts[i])));
         }
         shift
+    }
+
+    // Takes the solution for the residual from a guess. False where nothing moved.
+    fn take_solution(&self, rest: &[i128], shift: i32, x: &mut [i128]) -> bool
+        requires rest { IsRoot (length rest.now) self.now }
+        requires x { length x.old ≡ length rest.now }
+    {
+        let mut is_moved = false;
+        for (i, r) in rest.iter().enumerate() {
+            let back = i32::from(self.shifts[i]).wrapping_add(shift);
+            let entry = scaled(*r, back.wrapping_neg());
+            x[i] = x[i].wrapping_sub(entry);
+            is_moved |= entry != 0;
+        }
+        is_moved
     }
 
     // Corrects a guess by its residual, which it overwrites. False where nothing moved.
@@ -193,21 +204,11 @@ impl Root {
         requires rest { IsRoot (length rest.old) self.now }
         requires x { length x.old ≡ length rest.old }
     {
-        let first = self.lower_scale(rest);
+        let first = self.bring_down(rest);
         self.forward(rest);
         let second = normalise(rest);
         self.backward(rest);
-        let shift = first.wrapping_add(second);
-        let mut is_moved = false;
-        for (i, r) in rest.iter().enumerate() {
-            let move_by = scaled(
-                *r,
-                i32::from(self.shifts[i]).wrapping_add(shift).wrapping_neg(),
-            );
-            x[i] = x[i].wrapping_sub(move_by);
-            is_moved |= move_by != 0;
-        }
-        is_moved
+        self.take_solution(rest, first.wrapping_add(second), x)
     }
 
     /// Makes x a guess for 2^f c. `rest` is for the residual.

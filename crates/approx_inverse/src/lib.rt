@@ -1,7 +1,8 @@
-//! Lists of whole numbers that solve a system of equations as near as steps of single entries reach.
+//! Whole numbers that solve a system of equations as near as steps of single entries reach.
 #![tactic(auto)]
 
 mod all;
+mod bits;
 mod column;
 mod descent;
 mod fault;
@@ -18,3 +19,6 @@ pub use column::solve_column;
 pub use fault::SolveFault;
 pub use inverse::Inverse;
 pub use laws::entry_law;
+
+#[cfg(test)]
+mod tests;

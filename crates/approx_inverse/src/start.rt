@@ -7,6 +7,7 @@ ghost use Rattle.approx_inverse.specs.Descent.{IsDescent, aim, residual};
 ghost use Rattle.word_region.specs.Words.{IsLive};
 ghost use Rattle.approx_inverse.specs.Spans.{ArePlaced, AreKept, IsWritten, StaysOutside, cells};
 
+use crate::bits::bits_of;
 use frac_scaled::{floor_shift, shift_left};
 use mat_int::{Mat, try_dot};
 use word_region::{Region, Span};
@@ -48,17 +49,6 @@ fn make_rest(h: &Mat, c: &[i128], f: u32, x: &[i128], rest: &mut [i128]) -> bool
         rest[i] = entry;
     }
     true
-}
-
-// How many bits the greatest number of a list has.
-fn bits_of(xs: &[i128]) -> u32
-    ensures { result ≤ 128 }
-{
-    let mut seen = 0u128;
-    for x in xs {
-        seen |= x.unsigned_abs();
-    }
-    128 - seen.leading_zeros()
 }
 
 // a b + |a| + |b| + 1, where it fits.

@@ -104,19 +104,6 @@ ready n m h s k =
     entry : (p : ℕ) (x t : ℤ) → pos (unsigned_abs x) ≤ℤ t → (pos p *ℤ t) <ℤ pos (2 ^ 116) → unsigned_abs (pos p *ℤ x) < 2 ^ 117
     entry p x t h k = let a = mul-le-mul_left_z (pos p) (omega (arith, ints)) h in let e = unsigned_abs-mul (pos p) x in omega (arith, ints, a, e)
 
--- ---- the matrix of zeros
-zero_row : (n a : ℕ) → a < n → row_of (zero_matrix n n) a ≡ replicate n (pos 0)
-zero_row n a l = get_or-replicate n a (replicate n (pos 0)) [] l
-
-pub blank_zero : (n : ℕ) (w : Matrix) → w ≡ zero_matrix n n → IsBlank n (entry_of w) 0
-blank_zero n w e a k o l m = rw e (ap (λ (x : List ℤ). get_or x k (pos 0)) (zero_row n a l) ∙ get_or-replicate n k (pos 0) (pos 0) m)
-
-pub even_zero : (n : ℕ) (w : Matrix) → w ≡ zero_matrix n n → IsEven w
-even_zero n w e = rw e (λ a l. ap length (zero_row n a (let q = length-replicate n (replicate n (pos 0)) in omega (arith, q, l))) ∙ length-replicate n (pos 0))
-
-pub shape_zero : (t w : Matrix) → t.cols ≡ length t.rows → w ≡ zero_matrix (length t.rows) (length t.rows) → AreSquare t w
-shape_zero t w h e = record { mat_cols = h; root_cols = rw e refl; root_rows = rw e (length-replicate (length t.rows) (replicate (length t.rows) (pos 0))) }
-
 -- ---- where there is no root
 pub no_root : (n : ℕ) (m : ℕ → ℕ → ℤ) (h : ℕ) → IsStart n m → IsShift (top n m) h → NoRows n (scaled_up (pos (4 ^ h)) m) (margin (pos (4 ^ h)) n m) → NoRoot n m
 no_root n m h s k none g r root = none r (rw (← (shift_same (top n m) g h (top_positive n m s) root.shift k)) root.rows)
