@@ -7,8 +7,8 @@ ghost use Rattle.plant_condense.specs.Form.{IsLeastInput, response_scale};
 
 use qp_model::{DesignParts, limited_product};
 
-// The least of some numbers.
-fn least_of(numbers: &[i128]) -> i128
+/// The least of some numbers.
+pub fn least_of(numbers: &[i128]) -> i128
     requires { 1 ≤ length numbers.now }
     ensures below { (l : ℕ) → l < length numbers.now → result ≤ℤ at numbers.now l }
     ensures met { (l : ℕ) × ((l < length numbers.now) × (result ≡ at numbers.now l)) }

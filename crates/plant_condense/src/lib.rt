@@ -20,7 +20,11 @@ pub use bounds::scaled_bounds;
 pub use columns::column_of;
 pub use condensed::Condensed;
 pub use counted::{costs_of, scaled_targets, weights_of};
+pub use denominators::least_of;
 pub use fault::CondenseFault;
 pub use form::condense;
 pub use powers::{last_power, powers_of};
 pub use run::Run;
+
+#[cfg(test)]
+mod tests;
