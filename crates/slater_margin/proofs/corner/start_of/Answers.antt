@@ -1,0 +1,24 @@
+use Rattle.std.proofs.Common.{◌≤◌, ◌+◌, ◌*ℤ◌, unsigned_abs, arith, ◌∙◌, rules, refl}
+use Rattle.std.specs.Int.{w128}
+use mir.Val.{SFits}
+use Rattle.std.proofs.lemmas.Int.{to_z-of_z}
+use Rattle.qp_model.specs.Box.{corner}
+use Rattle.qp_model.specs.Parts.{design_of}
+use Rattle.plant_condense.proofs.Rooms.{read}
+use Rattle.plant_condense.proofs.Pushes.{pushed}
+use Rattle.plant_condense.proofs.StageFacts.{lifted_fits, lifted}
+use Rattle.slater_margin.proofs.corner.start_of.Goals as goal
+
+pub overflow_mul-over : goal.overflow_mul-over
+overflow_mul-over c =
+    let s : SFits w128 c.coordinate.result = search rules in
+    let small : unsigned_abs c.coordinate.result ≤ unsigned_abs (corner (design_of c.args.parts.now) (c.args.c + 1) c.loop-i.i) = rw c.coordinate.ensures (omega arith) in
+    lifted_fits c.args.over c.coordinate.result _ c.ranges.over s small (c.requires.fits c.loop-i.i c.loop-i-test.true)
+
+pub loop-i-preserved : goal.loop-i-preserved
+loop-i-preserved c =
+    let s : SFits w128 c.coordinate.result = search rules in
+    let small : unsigned_abs c.coordinate.result ≤ unsigned_abs (corner (design_of c.args.parts.now) (c.args.c + 1) c.loop-i.i) = rw c.coordinate.ensures (omega arith) in
+    pushed _ _ _ c.loop-i.i (λ i. read c.args.over *ℤ corner (design_of c.args.parts.now) (c.args.c + 1) i) c.in_ok-push.ensures.items
+    (lifted c.args.over c.coordinate.result _ c.ranges.over s small (c.requires.fits c.loop-i.i c.loop-i-test.true) ∙ rw (to_z-of_z w128 _ c.ranges.over, c.coordinate.ensures) refl)
+    c.loop-i.invariant

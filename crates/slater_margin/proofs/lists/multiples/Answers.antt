@@ -1,0 +1,17 @@
+use Rattle.std.proofs.Common.{◌≤◌, pos, ◌*ℤ◌, get_or, unsigned_abs, arith, ◌∙◌, rules, refl}
+use Rattle.std.specs.Int.{w128}
+use mir.Val.{SFits}
+use Rattle.std.proofs.lemmas.Int.{to_z-of_z}
+use Rattle.integer_algebra.specs.Sums.{at}
+use Rattle.plant_condense.proofs.Rooms.{read}
+use Rattle.plant_condense.proofs.Pushes.{pushed}
+use Rattle.plant_condense.proofs.StageFacts.{lifted}
+use Rattle.slater_margin.proofs.lists.multiples.Goals as goal
+
+pub loop-i-preserved : goal.loop-i-preserved
+loop-i-preserved c =
+    let x : SFits w128 (get_or c.args.xs.now c.loop-i.i (pos 0)) = search rules in
+    let small : unsigned_abs (at c.args.xs.now c.loop-i.i) ≤ unsigned_abs (at c.args.xs.now c.loop-i.i) = omega arith in
+    pushed _ _ _ c.loop-i.i (λ i. read c.args.scale *ℤ at c.args.xs.now i) c.in_ok-push.ensures.items
+    (lifted c.args.scale (at c.args.xs.now c.loop-i.i) _ c.ranges.scale x small (c.requires c.loop-i.i c.loop-i-test.true) ∙ rw (to_z-of_z w128 _ c.ranges.scale) refl)
+    c.loop-i.invariant

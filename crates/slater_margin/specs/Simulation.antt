@@ -1,0 +1,82 @@
+-- The plan of one corner as whole numbers, and what it shows. A corner's number c counts from 1, but from 0 in `IsCorner`.
+use Rattle.std.specs.Prelude.{◌≡◌, ℕ, suc, ◌+◌, ◌-◌, ◌*◌, ◌^◌, ◌<◌, ◌≤◌, ℤ, pos, ◌+ℤ◌, ◌-ℤ◌, ◌*ℤ◌, ◌≤ℤ◌, ◌<ℤ◌, List, unsigned_abs}
+use Rattle.integer_algebra.specs.Sums.{at, total, square}
+use Rattle.integer_algebra.specs.Sizes.{size}
+use Rattle.frac_scaled.specs.declared.fraction.Frac.{Frac}
+use Rattle.qp_model.specs.declared.design_parts.DesignParts.{DesignParts}
+use Rattle.qp_model.specs.declared.bounds.Margin.{Margin}
+use Rattle.qp_model.specs.Design.{Design, rows, entries}
+use Rattle.qp_model.specs.Parts.{design_of, IsDesign}
+use Rattle.mat_int.specs.Matrix.{entry_of}
+use Rattle.qp_model.specs.Box.{corner}
+use Rattle.qp_model.specs.Cost.{cost_term}
+use Rattle.qp_model.specs.Policy.{Plans, IsPolicyFor}
+use Rattle.qp_model.specs.Runs.{Holds}
+use Rattle.qp_model.specs.Margin.{corner_denominator, corner_plan, corner_slack, slack_scale, corner_cost, corner_cost_scale, HasSlack, HasCost}
+use Rattle.plant_condense.specs.Lists.{ArePowers}
+use Rattle.slater_margin.specs.Corners.{HasRoom, AllSlack}
+
+-- ---- what a corner is simulated from
+-- a design with room for its policy, and the powers of its plant's denominator
+pub record IsSetting (p : DesignParts) (s : Plans) (powers : List ℤ) : Type 0 where
+  pub design : IsDesign p
+  pub policy : IsPolicyFor (design_of p) s
+  pub powers_are : ArePowers p powers
+  pub room : HasRoom (design_of p) s
+
+-- the corner times its plan's denominator, the plan times 2^grid, and what bounds and targets are times
+pub record IsCorner (p : DesignParts) (s : Plans) (powers : List ℤ) (c : ℕ) (start plan : List ℤ) (unit : ℤ) : Type 0 where
+  pub setting : IsSetting p s powers
+  pub inside : c < 2 ^ p.states
+  pub start_is : Holds start p.states (λ i. at s.denominators c *ℤ corner (design_of p) (c + 1) i)
+  pub plan_is : Holds plan (entries (design_of p)) (λ j. pos (2 ^ p.grid) *ℤ entry_of s.numerators c j)
+  pub unit_is : unit ≡ at s.denominators c *ℤ pos (2 ^ p.grid * (design_of p).plant_denominator ^ p.stages)
+
+-- ---- what a corner shows
+-- each row has a slack of at least units / 2^16, some row has less than (units + 1) / 2^16
+pub record HasUnits (d : Design) (p : Plans) (c : ℕ) (units : ℤ) : Type 0 where
+  pub some : pos 1 ≤ℤ units
+  pub slacks : (i : ℕ) → i < rows d → HasSlack d p units c i
+  pub row : ℕ
+  pub inside : row < rows d
+  pub short : (pos (2 ^ 16) *ℤ corner_slack d p c row) <ℤ ((units +ℤ pos 1) *ℤ slack_scale d p c)
+
+-- the cost is at most `most`, and above `most` - 1
+pub record CostsAtMost (d : Design) (p : Plans) (c : ℕ) (most : ℤ) : Type 0 where
+  pub some : pos 0 ≤ℤ most
+  pub cost : HasCost d p most c
+  pub dear : ((most -ℤ pos 1) *ℤ corner_cost_scale d p c) <ℤ corner_cost d p c
+
+pub record IsCornerMargin (d : Design) (p : Plans) (c : ℕ) (m : Margin) : Type 0 where
+  pub units : HasUnits d p c m.units
+  pub cost : CostsAtMost d p c m.cost
+
+-- row number r, from 1, is the first with less slack than 2^-16, and `slack` is that slack
+pub record IsShortRow (d : Design) (p : Plans) (c r : ℕ) (slack : Frac) : Type 0 where
+  pub first : 1 ≤ r
+  pub last : r ≤ rows d
+  pub before : AllSlack d p c (r - 1)
+  pub short : (pos (2 ^ 16) *ℤ corner_slack d p c (r - 1)) <ℤ slack_scale d p c
+  pub numerator : slack.num ≡ corner_slack d p c (r - 1)
+  pub denominator : slack.den ≡ slack_scale d p c
+
+-- ---- the cost
+-- what the rows of all stages and the final rows cost
+abbrev pub row_part : Design → Plans → ℕ → ℤ
+row_part d p c =
+    total d.stages (λ k. total d.stage_costs (λ r. cost_term d (corner_denominator p c) (corner d c) (corner_plan p c) (suc k) (d.stage_cost r))) +ℤ
+    total d.final_costs (λ r. cost_term d (corner_denominator p c) (corner d c) (corner_plan p c) d.stages (d.final_cost r))
+
+-- what the inputs cost
+abbrev pub input_part : Design → Plans → ℕ → ℤ
+input_part d p c =
+    total d.stages (λ k. total d.inputs (λ l. d.input_weight l *ℤ
+    square (pos (d.row_denominator * 2 ^ d.grid * d.plant_denominator ^ d.stages) *ℤ corner_plan p c (k * d.inputs + l))))
+
+-- ---- sums of squares
+-- weighted squares of numbers of at most `side`
+pub record SquaresFit (n : ℕ) (w x : ℕ → ℤ) : Type 0 where
+  pub side : ℕ
+  pub small : (i : ℕ) → i < n → unsigned_abs (x i) ≤ side
+  pub square : side ^ 2 ≤ 2 ^ 126
+  pub sum : size n w * side ^ 2 ≤ 2 ^ 126
