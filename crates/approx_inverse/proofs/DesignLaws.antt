@@ -15,7 +15,7 @@ use Rattle.qp_model.specs.Parts.{IsDesign, design_of}
 use Rattle.qp_model.specs.Range.{IsPositive}
 use Rattle.qp_model.specs.GoodSolution.{IsGood}
 use Rattle.qp_model.specs.Condensing.{numbers_of}
-use Rattle.qp_model.specs.Columns.{columns, solve_matrix, solve_column, solve_floor, input_floor, least, descent_size}
+use Rattle.qp_model.specs.Columns.{columns, column_bound, solve_matrix, solve_column, solve_floor, input_floor, least, descent_size}
 use Rattle.qp_model.proofs.RowLaws.{plan_number}
 use Rattle.plant_condense.specs.Form as form
 use Rattle.plant_condense.specs.Form.{IsFormOf, IsLeastInput, response_scale}
@@ -187,3 +187,13 @@ inverse_from p c f v is solves = record {
 
     resized : (v : Inverse) (n k m x y z : ℕ) → x ≡ n → y ≡ k → z ≡ m → HasSizes v x y z → HasSizes v n k m
     resized v n k m x y z e g h sizes = rw (← e, ← g, ← h) sizes
+
+-- a column's bound is the design's
+pub bound_equal : (p : DesignParts) (c : Condensed) (f i : ℕ) → IsFormOf p c → i < columns (design_of p) →
+    entry_bound (entries_of c) (column_of c i) c.floor f ≡ column_bound (design_of p) f i
+bound_equal p c f i is l =
+    renamed _ _ (column_of c i) _ _ f is.shapes.hess.rows (floor_equal p c is) ∙
+    bound_same (entries (design_of p)) (column_of c i) (solve_column (design_of p) i) (pos (solve_floor (design_of p))) f (λ j m. column_equal p c is i j l m)
+  where
+    renamed : (n m : ℕ) (c : ℕ → ℤ) (a b : ℤ) (f : ℕ) → n ≡ m → a ≡ b → entry_bound n c a f ≡ entry_bound m c b f
+    renamed n m c a b f e g = rw (e, g) refl

@@ -19,6 +19,7 @@ pub use column::solve_column;
 pub use fault::SolveFault;
 pub use inverse::Inverse;
 pub use laws::entry_law;
+pub use system::put_column;
 
 #[cfg(test)]
 mod tests;
