@@ -1,19 +1,18 @@
 -- How large the gains and a plan of the machine are.
-use Rattle.std.proofs.Common.{◌≡◌, ℕ, zero, suc, ◌+◌, ◌-◌, ◌*◌, ◌^◌, ◌<◌, ◌≤◌, [], ◌∷◌, ℤ, pos, negsuc, ◌+ℤ◌, ◌-ℤ◌, ◌*ℤ◌, neg_ℤ, ◌≤ℤ◌, ◌<ℤ◌, List, length, unsigned_abs, arith, ap, sym, ◌∙◌, refl}
+use Rattle.std.proofs.Common.{◌≡◌, ℕ, ◌^◌, ◌<◌, [], ◌∷◌, ℤ, pos, ◌+ℤ◌, ◌-ℤ◌, ◌*ℤ◌, neg_ℤ, ◌≤ℤ◌, arith, ap, sym, ◌∙◌, refl}
 use Rattle.std.proofs.lemmas.Int.{ints, unsigned_abs-mul}
 use Rattle.std.specs.Int.Signed.{≤ℤ_refl}
-use Rattle.integer_algebra.specs.Sums.{total, dot, image, square, at}
-use Rattle.integer_algebra.specs.Sizes.{amount, size}
+use Rattle.integer_algebra.specs.Sums.{total, dot, image, square}
 use Rattle.integer_algebra.specs.Bounds.{absolute, IsWithin}
-use Rattle.integer_algebra.proofs.OrderLaws.{le_by, mul-le-mul_left_z, mul-le-mul_right_z, cancel-le_z, le_trans_z, add-le-add_z}
-use Rattle.integer_algebra.proofs.SumLaws.{total_same, total_add, total_scale, total_scale_right, total_mono, total_swap}
+use Rattle.integer_algebra.proofs.OrderLaws.{mul-le-mul_left_z, mul-le-mul_right_z, le_trans_z}
+use Rattle.integer_algebra.proofs.SumLaws.{total_same, total_add, total_scale, total_mono}
 use Rattle.integer_algebra.proofs.VectorLaws.{quadratic_scale, matrix_scale}
 use Rattle.integer_algebra.proofs.BoundLaws.{within_sum, within_total, absolute_nonneg}
 use Rattle.integer_algebra.proofs.Quoting.{by_ring, quotes}
 use Rattle.qp_model.specs.GoodSolution.{IsGood}
 use Rattle.step_error.proofs.EntryLaws.{entry}
 use Rattle.step_error.proofs.Gradients.{good_within}
-use Rattle.step_error.proofs.Slopes.{within_same, within_factor, total_absolute}
+use Rattle.step_error.proofs.Slopes.{within_same, within_factor}
 
 -- ---- good solutions
 -- each entry of a good solution: twice the floor times it is at most 2^(f+1) times the column's absolute sum, and the trace

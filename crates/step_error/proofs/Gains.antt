@@ -1,8 +1,7 @@
 -- The sum that a plan entry is the floor of, as the gains of all columns against what they are times.
-use Rattle.std.proofs.Common.{◌≡◌, ℕ, suc, ◌+◌, ◌-◌, ◌*◌, ◌^◌, ◌<◌, ◌≤◌, [], ◌∷◌, ℤ, pos, ◌+ℤ◌, ◌-ℤ◌, ◌*ℤ◌, ◌≤ℤ◌, ◌<ℤ◌, neg_ℤ, List, length, nat_lt, arith, ap, sym, ◌∙◌, refl}
+use Rattle.std.proofs.Common.{◌≡◌, ℕ, ◌+◌, ◌-◌, ◌^◌, ◌<◌, ◌≤◌, [], ◌∷◌, ℤ, pos, ◌+ℤ◌, ◌*ℤ◌, ◌≤ℤ◌, neg_ℤ, List, length, nat_lt, arith, ap, sym, ◌∙◌, refl}
 use Rattle.std.specs.Prelude.{◌==◌, if◌then◌else◌}
 use Rattle.std.proofs.lemmas.Bool.{lt-ltb, le-ltb, eq-eqb, ne_eqb}
-use Rattle.std.proofs.lemmas.Int.{ints}
 use Rattle.integer_algebra.specs.Sums.{total, dot, image, at}
 use Rattle.integer_algebra.specs.Division.{floor_of}
 use Rattle.integer_algebra.proofs.SumLaws.{total_same, total_more, total_scale}
@@ -13,7 +12,6 @@ use Rattle.std.proofs.lemmas.List.Elements.{All-get_or}
 use Rattle.integer_algebra.proofs.OrderLaws.{le_by, le_of_lt_z}
 use Rattle.integer_algebra.proofs.PowerLaws.{pow_positive}
 use Rattle.integer_algebra.proofs.Quoting.{by_ring, quotes}
-use Rattle.mat_int.specs.Row as lists
 use Rattle.mat_int.specs.Matrix.{Matrix, row_of, entry_of}
 use Rattle.mat_int.proofs.Indices.{dot_is}
 use Rattle.qp_model.specs.Controller.{Numbers, HasShape, IsShaped, plan_length}

@@ -1,21 +1,17 @@
 -- The gradient at a plan of the machine.
-use Rattle.std.proofs.Common.{◌≡◌, ℕ, suc, ◌+◌, ◌-◌, ◌*◌, ◌^◌, ◌<◌, ◌≤◌, [], ◌∷◌, ℤ, pos, negsuc, ◌+ℤ◌, ◌-ℤ◌, ◌*ℤ◌, neg_ℤ, ◌≤ℤ◌, ◌<ℤ◌, List, length, unsigned_abs, arith, ap, sym, ◌∙◌, refl}
+use Rattle.std.proofs.Common.{◌≡◌, ℕ, ◌+◌, ◌*◌, ◌^◌, ◌<◌, ◌≤◌, ℤ, pos, ◌+ℤ◌, ◌-ℤ◌, ◌*ℤ◌, neg_ℤ, ◌≤ℤ◌, List, length, unsigned_abs, arith}
 use Rattle.std.proofs.lemmas.Int.{ints}
-use Rattle.std.proofs.lemmas.Nat.{pow-add}
 use Rattle.std.proofs.Math.Nat.{mul_comm}
-use Rattle.integer_algebra.specs.Sums.{total, image, coimage, at}
+use Rattle.integer_algebra.specs.Sums.{total, image, at}
 use Rattle.integer_algebra.specs.Bounds.{absolute, IsWithin}
-use Rattle.integer_algebra.proofs.OrderLaws.{le_by, mul-le-mul_left_z, cancel-le_z, add-le-add_z}
-use Rattle.integer_algebra.proofs.BoundLaws.{within_nonneg, within_more}
-use Rattle.integer_algebra.proofs.PowerLaws.{pow_positive}
-use Rattle.integer_algebra.proofs.Quoting.{by_ring, quotes}
-use Rattle.qp_model.specs.Design.{Design, entries, rows}
+use Rattle.integer_algebra.proofs.BoundLaws.{within_nonneg}
+use Rattle.qp_model.specs.Design.{Design, entries}
 use Rattle.qp_model.specs.Controller.{Numbers, IsShaped, plan_length}
 use Rattle.qp_model.specs.Machine.{plan_entry}
 use Rattle.qp_model.specs.GoodSolution.{IsGood}
-use Rattle.qp_model.specs.Columns.{columns, solve_matrix, solve_column}
-use Rattle.qp_model.specs.Errors.{state_bound, reach_bound}
-use Rattle.qp_model.specs.Built.{gain_column, HasSizesOf, IsMadeFor}
+use Rattle.qp_model.specs.Columns.{solve_matrix, solve_column}
+use Rattle.qp_model.specs.Errors.{state_bound}
+use Rattle.qp_model.specs.Built.{gain_column, IsMadeFor}
 use Rattle.step_error.specs.Carried.{AreGood, IsRounded}
 use Rattle.step_error.specs.Machine.{pulls}
 use Rattle.step_error.proofs.CarriedLaws.{gradient}

@@ -11,3 +11,17 @@ pub mod RowErrors
 pub mod Convexity
 pub mod Entries
 pub mod Plans
+pub mod MachineSums
+pub mod Reaches
+pub mod StepErrors
+pub mod MachineErrors
+mod WorkedErrors
+pub mod MachineSteps
+pub mod MachineScales
+pub mod MachineStepLaws
+pub mod MachineRuns
+pub mod Ceilings
+pub mod FallingLaws
+pub mod SumFacts
+pub mod DesignSums
+pub mod SumAnswers

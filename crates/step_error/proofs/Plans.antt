@@ -1,14 +1,14 @@
 -- Each plan entry of the machine is small.
-use Rattle.std.proofs.Common.{◌≡◌, ℕ, zero, suc, ◌+◌, ◌-◌, ◌*◌, ◌^◌, ◌<◌, ◌≤◌, [], ◌∷◌, ℤ, pos, negsuc, ◌+ℤ◌, ◌-ℤ◌, ◌*ℤ◌, neg_ℤ, ◌≤ℤ◌, ◌<ℤ◌, List, length, unsigned_abs, arith, ap, sym, ◌∙◌, refl}
+use Rattle.std.proofs.Common.{◌≡◌, ℕ, zero, suc, ◌+◌, ◌*◌, ◌^◌, ◌<◌, ◌≤◌, [], ◌∷◌, ℤ, pos, ◌+ℤ◌, ◌*ℤ◌, ◌≤ℤ◌, ◌<ℤ◌, List, unsigned_abs, arith, ap, sym, ◌∙◌, refl}
 use Rattle.std.proofs.lemmas.Int.{ints, unsigned_abs-mul}
 use Rattle.std.proofs.lemmas.Nat.{pow-add}
 use Rattle.std.specs.Int.Signed.{≤ℤ_refl}
 use Rattle.std.proofs.Math.Nat.{mul-le-mul_left}
-use Rattle.integer_algebra.specs.Sums.{total, dot, image, square, at}
+use Rattle.integer_algebra.specs.Sums.{total, image}
 use Rattle.integer_algebra.specs.Sizes.{amount, size}
-use Rattle.integer_algebra.specs.Bounds.{absolute, IsWithin}
+use Rattle.integer_algebra.specs.Bounds.{absolute}
 use Rattle.integer_algebra.specs.Division.{ceil_div}
-use Rattle.integer_algebra.proofs.OrderLaws.{le_by, mul-le-mul_left_z, mul-le-mul_right_z, cancel-le_z, le_trans_z, add-le-add_z, mul_nonneg_z, mul_pos_z}
+use Rattle.integer_algebra.proofs.OrderLaws.{le_by, mul-le-mul_left_z, cancel-le_z, le_trans_z, add-le-add_z, mul_nonneg_z, mul_pos_z}
 use Rattle.integer_algebra.proofs.SumLaws.{total_same, total_scale, total_scale_right, total_mono, total_swap, total_nonneg}
 use Rattle.integer_algebra.proofs.BoundLaws.{absolute_nonneg, within_nonneg}
 use Rattle.integer_algebra.proofs.DivisionLaws.{le-mul-ceil_div}
@@ -18,15 +18,15 @@ use Rattle.qp_model.specs.Design.{Design, entries, rows}
 use Rattle.qp_model.specs.Sound.{IsSound}
 use Rattle.qp_model.specs.Condensed.{IsCondensed}
 use Rattle.qp_model.specs.Condensing.{numbers_of}
-use Rattle.qp_model.specs.Controller.{Numbers, IsShaped, plan_length}
+use Rattle.qp_model.specs.Controller.{Numbers, IsShaped}
 use Rattle.qp_model.specs.Machine.{plan_entry}
 use Rattle.qp_model.specs.Columns.{solve_matrix, solve_column, columns, hessian_scale, rows_scale, input_floor}
-use Rattle.qp_model.specs.Errors.{state_bound, reach_bound, linear_sum, constant_sum, plan_row_sum, trace_sum, pull, ErrorSums, error_sums_of, plan_bound}
+use Rattle.qp_model.specs.Errors.{state_bound, reach_bound, linear_sum, constant_sum, plan_row_sum, trace_sum, pull, error_sums_of, plan_bound}
 use Rattle.qp_model.specs.Built.{gain_column, HasSizesOf, IsMadeFor}
 use Rattle.step_error.specs.Machine.{pulls}
-use Rattle.step_error.proofs.Gains.{over_columns, state_pull, own_pull, row_pull, plan_entry_is}
+use Rattle.step_error.proofs.Gains.{over_columns, own_pull, row_pull, plan_entry_is}
 use Rattle.step_error.proofs.Slants.{state_column, own_column, row_column}
-use Rattle.step_error.proofs.Slopes.{total_absolute, size_factor}
+use Rattle.step_error.proofs.Slopes.{total_absolute}
 use Rattle.step_error.proofs.Gradients.{AreReached, length_is, good_within}
 use Rattle.step_error.proofs.Pulls.{pulls_reach, state_pull_reach}
 use Rattle.step_error.proofs.Convexity.{true_floor, solve_matrix_convex}

@@ -1,15 +1,11 @@
 -- How far the state and the multipliers reach.
-use Rattle.std.proofs.Common.{◌≡◌, ℕ, suc, ◌+◌, ◌-◌, ◌*◌, ◌^◌, ◌<◌, ◌≤◌, [], ◌∷◌, ℤ, pos, ◌+ℤ◌, ◌-ℤ◌, ◌*ℤ◌, ◌≤ℤ◌, List, length, map, unsigned_abs, max, arith, ap, sym, ◌∙◌, refl}
+use Rattle.std.proofs.Common.{◌≡◌, ℕ, ◌+◌, ◌*◌, ◌^◌, ◌<◌, ◌≤◌, ℤ, pos, ◌+ℤ◌, ◌*ℤ◌, ◌≤ℤ◌, List, unsigned_abs, arith, refl}
 use Rattle.std.proofs.lemmas.Int.{ints, unsigned_abs-mul}
 use Rattle.std.proofs.lemmas.Nat.{pow-add}
-use Rattle.std.proofs.Math.Nat.{mul-le-mul_left, mul-le-mul_right}
+use Rattle.std.proofs.Math.Nat.{mul-le-mul_left}
 use Rattle.integer_algebra.specs.Sums.{total, at}
 use Rattle.integer_algebra.specs.Bounds.{absolute}
-use Rattle.integer_algebra.specs.Division.{ceil_div}
 use Rattle.integer_algebra.proofs.SumLaws.{total_mono, total_const}
-use Rattle.integer_algebra.proofs.OrderLaws.{add-le-add_z}
-use Rattle.integer_algebra.proofs.DivisionLaws.{le-mul-ceil_div}
-use Rattle.integer_algebra.proofs.PowerLaws.{pow_positive}
 use Rattle.qp_model.specs.Controller.{Numbers}
 use Rattle.step_error.specs.Machine.{pulls}
 use Rattle.step_error.proofs.Gains.{over_columns, state_pull, own_pull, row_pull}

@@ -1,17 +1,15 @@
 -- How far the residuals that a step uses are from the true ones.
-use Rattle.std.proofs.Common.{◌≡◌, ℕ, zero, suc, ◌+◌, ◌-◌, ◌*◌, ◌^◌, ◌<◌, ◌≤◌, [], ◌∷◌, ℤ, pos, negsuc, ◌+ℤ◌, ◌-ℤ◌, ◌*ℤ◌, neg_ℤ, ◌≤ℤ◌, ◌<ℤ◌, List, length, unsigned_abs, arith, ap, sym, ◌∙◌, refl}
+use Rattle.std.proofs.Common.{◌≡◌, ℕ, ◌<◌, [], ◌∷◌, ℤ, pos, negsuc, ◌+ℤ◌, ◌-ℤ◌, ◌*ℤ◌, neg_ℤ, ◌≤ℤ◌, ◌<ℤ◌, arith, ◌∙◌, refl}
 use Rattle.std.proofs.lemmas.Int.{ints}
-use Rattle.std.proofs.lemmas.Nat.{pow-add}
-use Rattle.std.proofs.Math.IntN.{*ℤ_comm}
-use Rattle.integer_algebra.specs.Sums.{total, dot, image, at}
+use Rattle.integer_algebra.specs.Sums.{total, dot}
 use Rattle.integer_algebra.specs.Bounds.{absolute, IsWithin}
 use Rattle.integer_algebra.specs.Division.{floor_of, round_of}
-use Rattle.integer_algebra.proofs.OrderLaws.{le_by, lt_by, mul-le-mul_left_z, cancel-le_z, le_trans_z, le_of_lt_z, add-le-add_z}
-use Rattle.integer_algebra.proofs.SumLaws.{total_same, total_scale, total_add, total_mono, total_const}
-use Rattle.integer_algebra.proofs.BoundLaws.{within_more, within_sum, within_total, within_times, within_neg}
+use Rattle.integer_algebra.proofs.OrderLaws.{le_by, le_of_lt_z, add-le-add_z}
+use Rattle.integer_algebra.proofs.SumLaws.{total_same, total_scale, total_add}
+use Rattle.integer_algebra.proofs.BoundLaws.{within_total, within_times}
 use Rattle.integer_algebra.proofs.DivisionLaws.{floor_of_is, round_of_bounds}
 use Rattle.integer_algebra.proofs.Quoting.{by_ring, quotes}
-use Rattle.step_error.proofs.Slopes.{within_cancel, within_factor, within_same}
+use Rattle.step_error.proofs.Slopes.{within_same}
 
 -- ---- one number rounded to the nearest: twice what it misses is at most the divisor
 pub rounded_within : (z : ℤ) (d : ℕ) → 0 < d → IsWithin (pos d) (pos 2 *ℤ (round_of z d *ℤ pos d -ℤ z))

@@ -1,20 +1,18 @@
 -- The residual that a step of the machine uses, against the true one.
-use Rattle.std.proofs.Common.{◌≡◌, ℕ, zero, suc, ◌+◌, ◌-◌, ◌*◌, ◌^◌, ◌<◌, ◌≤◌, [], ◌∷◌, ℤ, pos, negsuc, ◌+ℤ◌, ◌-ℤ◌, ◌*ℤ◌, neg_ℤ, ◌≤ℤ◌, ◌<ℤ◌, List, length, map, unsigned_abs, arith, ap, sym, ◌∙◌, refl}
-use Rattle.std.specs.List.{range_with_len}
+use Rattle.std.proofs.Common.{◌≡◌, ℕ, ◌+◌, ◌-◌, ◌*◌, ◌^◌, ◌<◌, ◌≤◌, [], ◌∷◌, ℤ, pos, ◌+ℤ◌, ◌-ℤ◌, ◌*ℤ◌, neg_ℤ, ◌≤ℤ◌, ◌<ℤ◌, List, length, unsigned_abs, arith, ap, sym, ◌∙◌, refl}
 use Rattle.std.proofs.lemmas.Int.{ints}
 use Rattle.std.proofs.lemmas.Nat.{pow-add}
 use Rattle.std.proofs.lemmas.List.FromFn.{length-map-range_with_len, get_or-map-range_with_len}
 use Rattle.std.proofs.Math.Nat.{mul_comm}
 use Rattle.integer_algebra.specs.Sums.{total, dot, image, at}
 use Rattle.integer_algebra.specs.Bounds.{absolute, IsWithin}
-use Rattle.integer_algebra.specs.Division.{floor_of, round_of}
-use Rattle.integer_algebra.proofs.OrderLaws.{le_by, mul-le-mul_left_z, add-le-add_z}
+use Rattle.integer_algebra.specs.Division.{floor_of}
+use Rattle.integer_algebra.proofs.OrderLaws.{le_by, mul-le-mul_left_z}
 use Rattle.integer_algebra.proofs.SumLaws.{total_same, total_scale, total_mono, total_const}
 use Rattle.integer_algebra.proofs.VectorLaws.{dot_same, image_scale}
-use Rattle.integer_algebra.proofs.BoundLaws.{within_more, within_sum, within_neg, within_double}
+use Rattle.integer_algebra.proofs.BoundLaws.{within_more, within_sum, within_neg}
 use Rattle.integer_algebra.proofs.PowerLaws.{pow_positive}
 use Rattle.integer_algebra.proofs.Quoting.{by_ring, quotes}
-use Rattle.mat_int.specs.Row as lists
 use Rattle.mat_int.specs.Matrix.{row_of, entry_of}
 use Rattle.mat_int.proofs.Indices.{dot_is}
 use Rattle.qp_model.specs.Design.{Design, entries, rows}
@@ -25,7 +23,7 @@ use Rattle.qp_model.specs.Controller.{Numbers, IsShaped, plan_length}
 use Rattle.qp_model.specs.Machine.{plan_entry, plan_of, row_sum}
 use Rattle.qp_model.specs.Columns.{rows_scale}
 use Rattle.qp_model.specs.Errors.{state_bound}
-use Rattle.qp_model.specs.Built.{HasSizesOf, HasRowsOf, IsMadeFor}
+use Rattle.qp_model.specs.Built.{IsMadeFor}
 use Rattle.step_error.proofs.Gains.{row_length}
 use Rattle.step_error.proofs.Slopes.{within_cancel, within_factor, within_same}
 use Rattle.step_error.proofs.Residuals.{rounded_dot, rounded_within, floor_within}

@@ -1,10 +1,7 @@
 -- The gradient of the Lagrangian at a plan of the machine, in the design's words.
-use Rattle.std.proofs.Common.{◌≡◌, ℕ, suc, ◌+◌, ◌-◌, ◌*◌, ◌^◌, ◌<◌, ◌≤◌, [], ◌∷◌, ℤ, pos, negsuc, ◌+ℤ◌, ◌-ℤ◌, ◌*ℤ◌, neg_ℤ, ◌≤ℤ◌, ◌<ℤ◌, List, length, nat_lt, unsigned_abs, arith, ap, sym, ◌∙◌, refl}
-use Rattle.std.specs.Prelude.{◌==◌, if◌then◌else◌}
-use Rattle.std.proofs.lemmas.Bool.{lt-ltb, le-ltb, eq-eqb, ne_eqb}
-use Rattle.std.proofs.lemmas.Int.{ints}
+use Rattle.std.proofs.Common.{◌≡◌, ℕ, ◌+◌, ◌-◌, ◌*◌, ◌^◌, ◌<◌, ◌≤◌, [], ◌∷◌, ℤ, pos, ◌+ℤ◌, ◌*ℤ◌, List, arith, ap, ◌∙◌, refl}
 use Rattle.std.proofs.lemmas.Nat.{pow-add}
-use Rattle.integer_algebra.specs.Sums.{total, dot, image, coimage, at}
+use Rattle.integer_algebra.specs.Sums.{total, image, coimage, at}
 use Rattle.integer_algebra.proofs.SumLaws.{total_same, total_scale}
 use Rattle.integer_algebra.proofs.VectorLaws.{image_scale, matrix_scale}
 use Rattle.integer_algebra.proofs.PowerLaws.{pow-two, four-pow}
@@ -12,7 +9,6 @@ use Rattle.integer_algebra.proofs.Quoting.{by_ring, quotes}
 use Rattle.qp_model.specs.Design.{Design, entries, rows}
 use Rattle.qp_model.specs.Cost.{cost_scale}
 use Rattle.qp_model.specs.Residual.{residual_scale}
-use Rattle.qp_model.specs.Condensed.{slope_at}
 use Rattle.qp_model.specs.Condensing.{numbers_of}
 use Rattle.qp_model.specs.Controller.{Numbers}
 use Rattle.qp_model.specs.Columns.{solve_matrix, solve_column}

@@ -1,18 +1,18 @@
 -- Each entry of the gradient of the Lagrangian at a plan of the machine is small.
-use Rattle.std.proofs.Common.{◌≡◌, ℕ, zero, suc, ◌+◌, ◌-◌, ◌*◌, ◌^◌, ◌<◌, ◌≤◌, [], ◌∷◌, ℤ, pos, negsuc, ◌+ℤ◌, ◌-ℤ◌, ◌*ℤ◌, neg_ℤ, ◌≤ℤ◌, ◌<ℤ◌, List, length, unsigned_abs, arith, ap, sym, ◌∙◌, refl}
+use Rattle.std.proofs.Common.{◌≡◌, ℕ, zero, suc, ◌+◌, ◌-◌, ◌*◌, ◌^◌, ◌<◌, ◌≤◌, [], ◌∷◌, ℤ, pos, ◌+ℤ◌, ◌*ℤ◌, neg_ℤ, ◌≤ℤ◌, ◌<ℤ◌, List, unsigned_abs, arith, ap, sym, ◌∙◌, refl}
 use Rattle.std.proofs.lemmas.Int.{ints, unsigned_abs-mul}
 use Rattle.std.proofs.lemmas.Nat.{pow-add}
 use Rattle.std.proofs.Math.Nat.{mul-le-mul_left, mul-le-mul_right}
 use Rattle.integer_algebra.specs.Sums.{total, image, at}
-use Rattle.integer_algebra.specs.Sizes.{amount, size}
+use Rattle.integer_algebra.specs.Sizes.{size}
 use Rattle.integer_algebra.specs.Bounds.{absolute, IsWithin}
 use Rattle.integer_algebra.specs.Division.{ceil_div}
-use Rattle.integer_algebra.proofs.OrderLaws.{le_by, mul-le-mul_left_z, cancel-le_z, le_trans_z}
+use Rattle.integer_algebra.proofs.OrderLaws.{le_by, mul-le-mul_left_z, cancel-le_z}
 use Rattle.integer_algebra.proofs.BoundLaws.{within_more}
 use Rattle.integer_algebra.proofs.DivisionLaws.{le-mul-ceil_div}
 use Rattle.integer_algebra.proofs.PowerLaws.{pow_positive, pow-two}
 use Rattle.integer_algebra.proofs.Quoting.{by_ring, quotes}
-use Rattle.qp_model.specs.Design.{Design, entries, rows}
+use Rattle.qp_model.specs.Design.{Design, entries}
 use Rattle.qp_model.specs.Cost.{cost_scale}
 use Rattle.qp_model.specs.Residual.{residual_scale}
 use Rattle.qp_model.specs.Condensing.{numbers_of}
@@ -20,7 +20,7 @@ use Rattle.qp_model.specs.Controller.{Numbers, IsShaped}
 use Rattle.qp_model.specs.Machine.{plan_entry}
 use Rattle.qp_model.specs.Columns.{solve_matrix, solve_column, hessian_scale}
 use Rattle.qp_model.specs.Errors.{state_bound, reach_bound, gradient_error}
-use Rattle.qp_model.specs.Built.{HasSizesOf, IsMadeFor}
+use Rattle.qp_model.specs.Built.{IsMadeFor}
 use Rattle.step_error.specs.Laws.{slant}
 use Rattle.step_error.specs.Machine.{pulls}
 use Rattle.step_error.proofs.Gradients.{AreReached, gradient_within}

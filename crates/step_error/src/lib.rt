@@ -3,6 +3,13 @@
 
 ghost use Rattle.step_error.specs.Laws.{DesignStepLaw, DesignRunLaw};
 ghost use Rattle.step_error.specs.Carried.{GradientLaw, EntryLaw, EpsilonLaw};
+ghost use Rattle.step_error.specs.MachineLaws.{CarriedLaw, MachineStepLaw, MachineRunLaw};
+
+mod errors;
+mod sums;
+
+pub use errors::{epsilon, plan_bound, residual_error};
+pub use sums::{ErrorSums, error_sums};
 
 /// One inexact step bounds the Lagrangian of the design at its plan.
 pub fn design_step_law()
@@ -28,3 +35,22 @@ pub fn entry_law()
 pub fn epsilon_law()
     ensures { EpsilonLaw }
 {}
+
+/// Each step of the machine of a controller that is made for a design has its multipliers in 0 .. 2 r, its plan within the plan bound, and
+/// its gradient and residuals within their errors.
+pub fn carried_law()
+    ensures { CarriedLaw }
+{}
+
+/// One step of such a machine bounds the Lagrangian of its design at the step's plan, against every feasible plan and all multipliers in 0 .. 2 r.
+pub fn machine_step_law()
+    ensures { MachineStepLaw }
+{}
+
+/// A whole run of it bounds the Lagrangian at the averaged plan.
+pub fn machine_run_law()
+    ensures { MachineRunLaw }
+{}
+
+#[cfg(test)]
+mod tests;

@@ -1,0 +1,184 @@
+-- A step of the machine is a step of the method on its design: all numbers are brought over one denominator, 2 b times the machine's scale.
+use Rattle.std.proofs.Common.{◌≡◌, inl, inr, ℕ, suc, ◌+◌, ◌-◌, ◌*◌, ◌^◌, ◌<◌, [], ◌∷◌, ℤ, pos, ◌+ℤ◌, ◌-ℤ◌, ◌*ℤ◌, ◌≤ℤ◌, List, length, arith, ap, sym, ◌∙◌, refl}
+use Rattle.std.specs.Int.{int_max, int_min}
+use Rattle.std.proofs.lemmas.Int.{ints, clamps}
+use Rattle.std.proofs.lemmas.Nat.{pow-add}
+use Rattle.std.proofs.Math.Nat.{mul_comm}
+use Rattle.integer_algebra.specs.Sums.{total, image, coimage, square, at}
+use Rattle.integer_algebra.specs.Bounds.{clamped}
+use Rattle.integer_algebra.proofs.OrderLaws.{le_by, mul-le-mul_left_z, mul_nonneg_z}
+use Rattle.integer_algebra.proofs.SumLaws.{total_same}
+use Rattle.integer_algebra.proofs.VectorLaws.{image_scale, dot_scale_right}
+use Rattle.integer_algebra.proofs.BoundLaws.{clamped_cases, clamped_low, clamped_high}
+use Rattle.integer_algebra.proofs.Quoting.{by_ring, quotes}
+use Rattle.qp_model.specs.Design.{Design, entries, rows}
+use Rattle.qp_model.specs.Cost.{cost_scale}
+use Rattle.qp_model.specs.Residual.{residual, residual_scale}
+use Rattle.qp_model.specs.Condensed.{Condensed, slope_at}
+use Rattle.qp_model.specs.Condensing.{numbers_of}
+use Rattle.qp_model.specs.Curvature.{IsExponent, curvature, row_change}
+use Rattle.qp_model.specs.Controller.{Numbers, IsShaped}
+use Rattle.qp_model.specs.Machine.{loaded}
+use Rattle.qp_model.specs.Errors.{gradient_error, residual_error, error_sums_of}
+use Rattle.qp_model.specs.Built.{IsMadeFor}
+use Rattle.qp_model.proofs.ScalingLaws.{scaling_law}
+use Rattle.step_error.specs.Laws.{AreExponents, slant, IsDesignStep}
+use Rattle.step_error.specs.MachineLaws.{HasErrors, multipliers_at, plan_at, used_residual, machine_scale, lifted_plan}
+use Rattle.step_error.proofs.MachineSums.{multiplier_after}
+use Rattle.step_error.proofs.Slopes.{within_factor, within_same}
+
+-- ---- over one denominator
+-- 2 b times the machine's scale; a plan, the multipliers and the residuals used of step k, over it
+abbrev pub scale_over : Numbers → ℤ → ℤ
+scale_over c b = pos 2 *ℤ b *ℤ machine_scale c
+
+abbrev pub plan_over : Numbers → List ℤ → ℤ → ℕ → ℕ → ℤ
+plan_over c xi b k j = pos 2 *ℤ b *ℤ lifted_plan c xi k j
+
+abbrev pub multipliers_over : Numbers → List ℤ → ℤ → ℕ → ℕ → ℤ
+multipliers_over c xi b k i = pos 2 *ℤ b *ℤ at (multipliers_at c xi k) i
+
+abbrev pub residuals_over : Numbers → List ℤ → ℤ → ℕ → ℕ → ℤ
+residuals_over c xi b k i = pos 2 *ℤ b *ℤ (pos (2 ^ c.step_exponent) *ℤ used_residual c xi k i)
+
+-- what bounds the gradient's entries, and what the residuals used miss
+abbrev pub gradient_over : Design → ℕ → Numbers → ℤ → ℕ → ℤ
+gradient_over d r c b j = pos 2 *ℤ b *ℤ pos (2 ^ c.step_exponent * gradient_error d r j)
+
+abbrev pub misses_over : Design → ℕ → Numbers → ℤ → ℕ → ℤ
+misses_over d r c b i = b *ℤ pos (2 ^ c.step_exponent * residual_error (error_sums_of d r) c.fraction_bits)
+
+-- ---- the exponents
+-- one exponent for all rows
+pub exponents : (d : Design) (s : ℕ) → IsExponent d s → AreExponents d (λ i. s) s
+exponents d s h = record {
+  bounded = λ i l. omega arith;
+  descent = λ v. same (pos (cost_scale d)) (total (rows d) (λ i. pos (2 ^ (s - s)) *ℤ square (row_change d v i)))
+      (total (rows d) (λ i. square (row_change d v i))) (pos (2 ^ s * residual_scale d ^ 2) *ℤ curvature d v)
+      (total_same (rows d) _ _ (λ i l. one (2 ^ (s - s)) (square (row_change d v i)) (ap (λ (n : ℕ). 2 ^ n) (none s)))) (h v);
+}
+  where
+    none : (s : ℕ) → s - s ≡ 0
+    none s = omega arith
+
+    one : (n : ℕ) (z : ℤ) → n ≡ 1 → pos n *ℤ z ≡ z
+    one n z e = rw e (omega (arith, ints))
+
+    same : (a b e f : ℤ) → b ≡ e → (a *ℤ e) ≤ℤ f → (a *ℤ b) ≤ℤ f
+    same a b e f h k = rw h k
+
+-- ---- factors
+-- the slant of numbers times a factor
+slant_scaled : (d : Design) (k : Condensed) (a q : ℤ) (xi u y : ℕ → ℤ) (j : ℕ) →
+    slant d k (a *ℤ q) xi (λ j. a *ℤ u j) (λ i. a *ℤ y i) j ≡ a *ℤ slant d k q xi u y j
+slant_scaled d k a q xi u y j = closed a q (pos (residual_scale d)) (pos (cost_scale d)) (pos (4 ^ d.grid)) (pos (2 ^ d.grid))
+    (image (entries d) k.hessian u j) (slope_at d k xi j) (coimage (rows d) k.by_plan y j)
+    (image_scale (entries d) k.hessian a u j) (dot_scale_right (rows d) a (λ i. k.by_plan i j) y)
+  where
+    closed : (a q r c f g h s y : ℤ) {m n : ℤ} → m ≡ a *ℤ h → n ≡ a *ℤ y →
+        r *ℤ (f *ℤ m +ℤ (g *ℤ (a *ℤ q)) *ℤ s) +ℤ c *ℤ (g *ℤ n) ≡ a *ℤ (r *ℤ (f *ℤ h +ℤ (g *ℤ q) *ℤ s) +ℤ c *ℤ (g *ℤ y))
+    closed a q r c f g h s y e i = rw (e, i) (by_ring (a ∷ q ∷ r ∷ c ∷ f ∷ g ∷ h ∷ s ∷ y ∷ []) (search quotes depth 60 fits 20000) refl)
+
+-- the nearest number of a box times a factor
+clamped_scaled : (g top b : ℤ) → pos 0 ≤ℤ g → pos 0 ≤ℤ top → clamped (g *ℤ top) (g *ℤ b) ≡ g *ℤ clamped top b
+clamped_scaled g top b pg pt = elim (clamped_cases top b pt) [
+  | inl e ↦ middle (g *ℤ top) (g *ℤ b) (g *ℤ clamped top b) (ap (λ (z : ℤ). g *ℤ z) e)
+      (mul_nonneg_z g (clamped top b) pg (clamped_low top b pt)) (mul-le-mul_left_z g pg (clamped_high top b pt))
+  | inr s ↦ elim s [
+    | inl e ↦ above (g *ℤ top) (g *ℤ b) (g *ℤ clamped top b) (ap (λ (z : ℤ). g *ℤ z) e.0) (mul_nonneg_z g top pg pt) (mul-le-mul_left_z g pg e.1)
+    | inr e ↦ below (g *ℤ top) (g *ℤ b) (g *ℤ clamped top b) (ap (λ (z : ℤ). g *ℤ z) e.0 ∙ none g) (mul_nonneg_z g top pg pt) (under g b pg e.1)
+  ]
+]
+  where
+    none : (g : ℤ) → g *ℤ pos 0 ≡ pos 0
+    none g = by_ring (g ∷ []) (search quotes depth 60 fits 20000) refl
+
+    under : (g b : ℤ) → pos 0 ≤ℤ g → b ≤ℤ pos 0 → (g *ℤ b) ≤ℤ pos 0
+    under g b p h = le_by (mul-le-mul_left_z g p h) (by_ring (g ∷ b ∷ []) (search quotes depth 60 fits 20000) refl)
+
+    middle : (t b m : ℤ) → m ≡ b → pos 0 ≤ℤ m → m ≤ℤ t → clamped t b ≡ m
+    middle t b m e h k = omega (arith, ints, clamps)
+
+    above : (t b m : ℤ) → m ≡ t → pos 0 ≤ℤ t → t ≤ℤ b → clamped t b ≡ m
+    above t b m e h k = omega (arith, ints, clamps)
+
+    below : (t b m : ℤ) → m ≡ pos 0 → pos 0 ≤ℤ t → b ≤ℤ pos 0 → clamped t b ≡ m
+    below t b m e h k = omega (arith, ints, clamps)
+
+-- ---- one step
+-- the number of rows that the machine has
+rows_inside : (d : Design) (r : ℕ) (c : Numbers) → IsMadeFor d r c → IsShaped c → (i : ℕ) → i < rows d → i < length c.bounds
+rows_inside d r c made shaped i l = omega (arith, l, made.sizes.rows, shaped.bounds)
+
+-- the next multiplier is the moved one, kept in the box
+moves : (d : Design) (r : ℕ) (c : Numbers) (xi : List ℤ) (k : ℕ) → IsMadeFor d r c → IsShaped c → (i : ℕ) → i < rows d →
+    at (multipliers_at c xi (suc k)) i ≡ clamped (pos (2 * r) *ℤ machine_scale c) (at (multipliers_at c xi k) i +ℤ used_residual c xi k i)
+moves d r c xi k made shaped i l =
+    multiplier_after c (loaded c xi) k i (rows_inside d r c made shaped i l)
+    ∙ turned c.clamp (pos (2 * r) *ℤ machine_scale c) (at (multipliers_at c xi k) i +ℤ used_residual c xi k i) made.clamp
+  where
+    turned : (a t b : ℤ) → a ≡ t → int_min a (int_max b (pos 0)) ≡ clamped t b
+    turned a t b e = rw e (omega (arith, ints, clamps))
+
+-- the residuals of the lifted plan
+lifted_residual : (d : Design) (c : Numbers) (xi : List ℤ) (b : ℤ) (k i : ℕ) →
+    residual d (scale_over c b) (at xi) (plan_over c xi b k) i ≡
+    pos 2 *ℤ b *ℤ (pos (2 ^ c.step_exponent) *ℤ residual d (pos (2 ^ c.fraction_bits)) (at xi) (at (plan_at c xi k)) i)
+lifted_residual d c xi b k i =
+    (scaling_law d (pos 2 *ℤ b) (machine_scale c) (at xi) (lifted_plan c xi k)).residuals i
+    ∙ ap (λ (q : ℤ). pos 2 *ℤ b *ℤ residual d q (at xi) (lifted_plan c xi k) i) (split c.fraction_bits c.step_exponent)
+    ∙ ap (λ (z : ℤ). pos 2 *ℤ b *ℤ z) ((scaling_law d (pos (2 ^ c.step_exponent)) (pos (2 ^ c.fraction_bits)) (at xi) (at (plan_at c xi k))).residuals i)
+  where
+    split : (f s : ℕ) → pos (2 ^ (f + s)) ≡ pos (2 ^ s) *ℤ pos (2 ^ f)
+    split f s = ap pos (pow-add 2 f s ∙ mul_comm (2 ^ f) (2 ^ s))
+
+pub step_is : (d : Design) (r : ℕ) (c : Numbers) (xi : List ℤ) (b : ℤ) (k : ℕ) → pos 0 ≤ℤ b → IsMadeFor d r c → IsShaped c → HasErrors d r c xi k →
+    IsDesignStep d (numbers_of d) (λ i. c.step_exponent) (pos (2 * r) *ℤ scale_over c b) (scale_over c b) (at xi)
+    (plan_over c xi b k) (multipliers_over c xi b k) (residuals_over c xi b k) (multipliers_over c xi b (suc k)) (gradient_over d r c b) (misses_over d r c b)
+step_is d r c xi b k pb made shaped errors = record {
+  box = record {
+    low = λ i l. mul_nonneg_z (pos 2 *ℤ b) (at (multipliers_at c xi k) i) (twice b pb) (errors.multipliers.low i l);
+    high = λ i l. le_by (mul-le-mul_left_z (pos 2 *ℤ b) (twice b pb) (errors.multipliers.high i l))
+        (raised b (at (multipliers_at c xi k) i) (pos (2 * r)) (machine_scale c));
+  };
+  moved = λ i l. moved b (pos (2 ^ c.step_exponent)) (at (multipliers_at c xi k) i) (used_residual c xi k i) (pos (2 * r)) (machine_scale c) pb
+      (omega (arith, ints)) (omega (arith, ints)) (moves d r c xi k made shaped i l);
+  gradient_error = λ j l. within_same (placed b (pos (cost_scale d)) (pos (residual_scale d)) (pos (2 ^ c.step_exponent * gradient_error d r j)))
+      (sym (slant_scaled d (numbers_of d) (pos 2 *ℤ b) (machine_scale c) (at xi) (lifted_plan c xi k) (at (multipliers_at c xi k)) j))
+      (within_factor (pos 2 *ℤ b) _ _ (twice b pb) (errors.gradient j l));
+  row_error = λ i l. within_same (placed_row b (pos (2 ^ c.step_exponent)) (pos (residual_scale d)) (pos (residual_error (error_sums_of d r) c.fraction_bits)))
+      (used b (pos (2 ^ c.step_exponent)) (pos (residual_scale d)) (used_residual c xi k i)
+      (residual d (pos (2 ^ c.fraction_bits)) (at xi) (at (plan_at c xi k)) i) (lifted_residual d c xi b k i))
+      (within_factor (b *ℤ pos (2 ^ c.step_exponent)) _ _ (mul_nonneg_z b (pos (2 ^ c.step_exponent)) pb (omega (arith, ints))) (errors.residuals i l));
+}
+  where
+    twice : (b : ℤ) → pos 0 ≤ℤ b → pos 0 ≤ℤ (pos 2 *ℤ b)
+    twice b h = omega (arith, ints, h)
+
+    raised : (b y t m : ℤ) → t *ℤ (pos 2 *ℤ b *ℤ m) +ℤ (pos 2 *ℤ b) *ℤ y ≡ pos 2 *ℤ b *ℤ y +ℤ (pos 2 *ℤ b) *ℤ (t *ℤ m)
+    raised b y t m = by_ring (b ∷ y ∷ t ∷ m ∷ []) (search quotes depth 60 fits 20000) refl
+
+    moved : (b s y v t m : ℤ) {z : ℤ} → pos 0 ≤ℤ b → pos 0 ≤ℤ s → pos 0 ≤ℤ (t *ℤ m) → z ≡ clamped (t *ℤ m) (y +ℤ v) →
+        s *ℤ (pos 2 *ℤ b *ℤ z) ≡ clamped (s *ℤ (t *ℤ (pos 2 *ℤ b *ℤ m))) (s *ℤ (pos 2 *ℤ b *ℤ y) +ℤ pos 2 *ℤ b *ℤ (s *ℤ v))
+    moved b s y v t m {z} pb ps pt e =
+        rw (top, inner) (left z ∙ ap (λ (x : ℤ). pos 2 *ℤ b *ℤ s *ℤ x) e
+        ∙ sym (clamped_scaled (pos 2 *ℤ b *ℤ s) (t *ℤ m) (y +ℤ v) (mul_nonneg_z (pos 2 *ℤ b) s (twice b pb) ps) pt))
+      where
+        top : s *ℤ (t *ℤ (pos 2 *ℤ b *ℤ m)) ≡ pos 2 *ℤ b *ℤ s *ℤ (t *ℤ m)
+        top = by_ring (b ∷ s ∷ t ∷ m ∷ []) (search quotes depth 60 fits 20000) refl
+
+        inner : s *ℤ (pos 2 *ℤ b *ℤ y) +ℤ pos 2 *ℤ b *ℤ (s *ℤ v) ≡ pos 2 *ℤ b *ℤ s *ℤ (y +ℤ v)
+        inner = by_ring (b ∷ s ∷ y ∷ v ∷ []) (search quotes depth 60 fits 20000) refl
+
+        left : (z : ℤ) → s *ℤ (pos 2 *ℤ b *ℤ z) ≡ pos 2 *ℤ b *ℤ s *ℤ z
+        left z = by_ring (b ∷ s ∷ z ∷ []) (search quotes depth 60 fits 20000) refl
+
+    placed : (b c r e : ℤ) → pos 2 *ℤ b *ℤ (c *ℤ r *ℤ e) ≡ c *ℤ r *ℤ (pos 2 *ℤ b *ℤ e)
+    placed b c r e = by_ring (b ∷ c ∷ r ∷ e ∷ []) (search quotes depth 60 fits 20000) refl
+
+    placed_row : (b s r e : ℤ) → b *ℤ s *ℤ (r *ℤ e) ≡ r *ℤ (b *ℤ (s *ℤ e))
+    placed_row b s r e = by_ring (b ∷ s ∷ r ∷ e ∷ []) (search quotes depth 60 fits 20000) refl
+
+    used : (b s r v e : ℤ) {f : ℤ} → f ≡ pos 2 *ℤ b *ℤ (s *ℤ e) →
+        b *ℤ s *ℤ (pos 2 *ℤ (r *ℤ v -ℤ e)) ≡ r *ℤ (pos 2 *ℤ b *ℤ (s *ℤ v)) -ℤ f
+    used b s r v e h = rw h (by_ring (b ∷ s ∷ r ∷ v ∷ e ∷ []) (search quotes depth 60 fits 20000) refl)

@@ -1,0 +1,261 @@
+-- The law of the errors, tried on one small design and its controller, whose numbers were worked out by hand: the plant x+ = x + u, the cost
+-- u^2 + (x+)^2, and the rows u <= 1, -u <= 1 and x+ <= 1/4, at the states 0 and 1. The design is sound, the controller has its sizes and is made
+-- for it, and the bounds are the worked ones. That its numbers are a `DesignParts` and keep its width isn't tried here.
+use Rattle.std.proofs.Common.{◌≡◌, ℕ, zero, suc, ◌^◌, ◌<◌, ◌≤◌, [], ◌∷◌, ℤ, pos, negsuc, ◌+ℤ◌, ◌-ℤ◌, ◌*ℤ◌, ◌≤ℤ◌, List, length, unsigned_abs, arith, refl}
+use Rattle.std.specs.Prelude.{All}
+use Rattle.std.proofs.lemmas.Int.{ints}
+use Rattle.integer_algebra.specs.Sums.{total, image, square, at}
+use Rattle.integer_algebra.specs.Bounds.{IsWithin}
+use Rattle.integer_algebra.specs.Division.{round_of}
+use Rattle.integer_algebra.proofs.OrderLaws.{le_by, square_nonneg_z, mul-le-mul_left_z}
+use Rattle.integer_algebra.proofs.Quoting.{by_ring, quotes}
+use Rattle.mat_int.specs.Matrix.{Matrix, entry_of}
+use Rattle.qp_model.specs.Design.{Design, LimitRow}
+use Rattle.qp_model.specs.Sound.{IsSound}
+use Rattle.qp_model.specs.Box.{IsGridState}
+use Rattle.qp_model.specs.Curvature.{IsExponent, curvature, row_change}
+use Rattle.qp_model.specs.GoodSolution.{IsGood}
+use Rattle.qp_model.specs.Columns.{columns, solve_matrix, solve_column, input_floor}
+use Rattle.qp_model.specs.Condensing.{numbers_of}
+use Rattle.qp_model.specs.Controller.{Numbers, IsShaped, IsSized}
+use Rattle.qp_model.specs.Built.{gain_column, HasSizesOf, IsMadeFor}
+use Rattle.qp_model.proofs.CostLaws.{condensing}
+use Rattle.step_error.specs.MachineLaws.{multipliers_at, plan_at, used_residual, HasErrors}
+use Rattle.step_error.proofs.Slopes.{within_same}
+use Rattle.step_error.proofs.StepErrors.{errors}
+
+abbrev limit : ℤ → ℤ → ℤ → LimitRow
+limit x u b = record { of_state = λ j. x; of_input = λ l. u; bound = b }
+
+-- the two stage rows
+abbrev stage_rows : ℕ → LimitRow
+stage_rows zero = limit (pos 0) (pos 4) (pos 4)
+stage_rows (suc r) = limit (pos 0) (negsuc 3) (pos 4)
+
+abbrev base : Design
+base = record {
+  states = 1;
+  inputs = 1;
+  stages = 1;
+  plant_denominator = 1;
+  plant_a = λ i j. pos 1;
+  plant_b = λ i l. pos 1;
+  cost_denominator = 1;
+  row_denominator = 1;
+  input_weight = λ l. pos 1;
+  stage_costs = 1;
+  stage_cost = λ r. record { coefficient = λ j. pos 1; target = pos 0; weight = pos 1 };
+  final_costs = 0;
+  final_cost = λ r. record { coefficient = λ j. pos 0; target = pos 0; weight = pos 0 };
+  limit_denominator = 4;
+  stage_limits = 2;
+  stage_limit = stage_rows;
+  final_limits = 1;
+  final_limit = λ r. limit (pos 4) (pos 0) (pos 1);
+  grid = 0;
+  low = λ i. pos 0;
+  high = λ i. pos 1;
+}
+
+abbrev matrix : ℕ → List (List ℤ) → Matrix
+matrix n lines = record { cols = n; rows = lines }
+
+abbrev controller : Numbers
+controller = record {
+  states = 1;
+  inputs = 1;
+  stages = 1;
+  rows = 3;
+  fraction_bits = 10;
+  grid_bits = 0;
+  step_exponent = 1;
+  width = 26;
+  steps = 4;
+  clamp = pos 32768;
+  words = 6;
+  low = pos 0 ∷ [];
+  high = pos 1 ∷ [];
+  state_gains = matrix 1 ((pos 512 ∷ []) ∷ []);
+  offsets = pos 0 ∷ [];
+  dual_gains = matrix 3 ((pos 256 ∷ negsuc 255 ∷ pos 256 ∷ []) ∷ []);
+  plan_rows = matrix 1 ((pos 1024 ∷ []) ∷ (negsuc 1023 ∷ []) ∷ (pos 1024 ∷ []) ∷ []);
+  state_rows = matrix 1 ((pos 0 ∷ []) ∷ (pos 0 ∷ []) ∷ (pos 1024 ∷ []) ∷ []);
+  bounds = pos 1024 ∷ pos 1024 ∷ pos 256 ∷ [];
+}
+
+-- ---- the premises
+sound : IsSound base (input_floor base)
+sound = record {
+  plant_denominator = omega arith;
+  cost_denominator = omega arith;
+  row_denominator = omega arith;
+  limit_denominator = omega arith;
+  rho_positive = omega arith;
+  inputs = omega arith;
+  input_weight = λ l h. omega (arith, ints);
+  stage_weight = λ r h. omega (arith, ints);
+  final_weight = λ r h. omega (arith, ints);
+}
+
+one_line : (x : ℤ) → All (λ row. length row ≡ 1) ((x ∷ []) ∷ [])
+one_line x zero d h = refl
+one_line x (suc k) d h = absurd (omega arith)
+
+wide_line : All (λ row. length row ≡ 3) controller.dual_gains.rows
+wide_line zero d h = refl
+wide_line (suc k) d h = absurd (omega arith)
+
+three_lines : (x y z : ℤ) → All (λ row. length row ≡ 1) ((x ∷ []) ∷ (y ∷ []) ∷ (z ∷ []) ∷ [])
+three_lines x y z zero d h = refl
+three_lines x y z (suc zero) d h = refl
+three_lines x y z (suc (suc zero)) d h = refl
+three_lines x y z (suc (suc (suc k))) d h = absurd (omega arith)
+
+small_number : (x : ℤ) → unsigned_abs x ≤ 1 → All (λ z. unsigned_abs z < 2 ^ 31) (x ∷ [])
+small_number x p zero d h = omega (arith, p)
+small_number x p (suc k) d h = absurd (omega arith)
+
+ordered : (i : ℕ) → i < 1 → at controller.low i ≤ℤ at controller.high i
+ordered zero h = omega (arith, ints)
+ordered (suc i) h = absurd (omega arith)
+
+shaped : IsShaped controller
+shaped = record {
+  low = refl;
+  high = refl;
+  state_gains = record { rows = refl; cols = refl; each = one_line (pos 512) };
+  offsets = refl;
+  dual_gains = record { rows = refl; cols = refl; each = wide_line };
+  plan_rows = record { rows = refl; cols = refl; each = three_lines (pos 1024) (negsuc 1023) (pos 1024) };
+  state_rows = record { rows = refl; cols = refl; each = three_lines (pos 0) (pos 0) (pos 1024) };
+  bounds = refl;
+}
+
+sized : IsSized controller
+sized = record {
+  states = (omega arith, omega arith);
+  inputs = (omega arith, omega arith);
+  stages = (omega arith, omega arith);
+  rows = (omega arith, omega arith);
+  grid_bits = omega arith;
+  fraction_bits = (omega arith, omega arith);
+  step_exponent = omega arith;
+  steps = (omega arith, omega arith);
+  clamp_low = omega (arith, ints);
+  clamp_high = omega (arith, ints);
+  words = refl;
+  shaped = shaped;
+  low = small_number (pos 0) (omega arith);
+  high = small_number (pos 1) (omega arith);
+  box = ordered;
+}
+
+same_low : (i : ℕ) → i < 1 → at controller.low i ≡ base.low i
+same_low zero h = refl
+same_low (suc i) h = absurd (omega arith)
+
+same_high : (i : ℕ) → i < 1 → at controller.high i ≡ base.high i
+same_high zero h = refl
+same_high (suc i) h = absurd (omega arith)
+
+sizes : HasSizesOf base controller
+sizes = record { states = refl; inputs = refl; stages = refl; rows = refl; grid = refl; low = same_low; high = same_high }
+
+plan_rows_are : (i j : ℕ) → i < 3 → j < 1 → entry_of controller.plan_rows i j ≡ round_of (pos 1024 *ℤ (numbers_of base).by_plan i j) 4
+plan_rows_are zero zero h l = refl
+plan_rows_are (suc zero) zero h l = refl
+plan_rows_are (suc (suc zero)) zero h l = refl
+plan_rows_are (suc (suc (suc i))) zero h l = absurd (omega arith)
+plan_rows_are i (suc j) h l = absurd (omega arith)
+
+state_rows_are : (i j : ℕ) → i < 3 → j < 1 → entry_of controller.state_rows i j ≡ round_of (pos 1024 *ℤ (numbers_of base).by_state i j) 4
+state_rows_are zero zero h l = refl
+state_rows_are (suc zero) zero h l = refl
+state_rows_are (suc (suc zero)) zero h l = refl
+state_rows_are (suc (suc (suc i))) zero h l = absurd (omega arith)
+state_rows_are i (suc j) h l = absurd (omega arith)
+
+bounds_are : (i : ℕ) → i < 3 → at controller.bounds i ≡ round_of (pos 1024 *ℤ (numbers_of base).bound i) 4
+bounds_are zero h = refl
+bounds_are (suc zero) h = refl
+bounds_are (suc (suc zero)) h = refl
+bounds_are (suc (suc (suc i))) h = absurd (omega arith)
+
+-- each gain solves its system: 16 times it is 2^10 times the column's number
+gains_are : (i j : ℕ) → i < 5 → j < 1 → image 1 (solve_matrix base) (gain_column controller i) j ≡ pos 1024 *ℤ solve_column base i j
+gains_are zero zero h l = refl
+gains_are (suc zero) zero h l = refl
+gains_are (suc (suc zero)) zero h l = refl
+gains_are (suc (suc (suc zero))) zero h l = refl
+gains_are (suc (suc (suc (suc zero)))) zero h l = refl
+gains_are (suc (suc (suc (suc (suc i))))) zero h l = absurd (omega arith)
+gains_are i (suc j) h l = absurd (omega arith)
+
+diagonal : (j : ℕ) → j < 1 → solve_matrix base j j ≡ pos 16
+diagonal zero l = refl
+diagonal (suc j) l = absurd (omega arith)
+
+good : (i : ℕ) → i < columns base → IsGood 1 (solve_matrix base) 10 (solve_column base i) (gain_column controller i)
+good i h j l = (
+  rw (gains_are i j h l, diagonal j l) (exact (pos 1024 *ℤ solve_column base i j)),
+  rw (gains_are i j h l, diagonal j l) (exact (pos 1024 *ℤ solve_column base i j)),
+)
+  where
+    exact : (z : ℤ) → (pos 2 *ℤ (z -ℤ z)) ≤ℤ pos 16
+    exact z = omega (arith, ints)
+
+-- the rows change by 4 v, -4 v and 4 v over 4, and Vq(v) is 2 v^2: 3 v^2 is at most 2 * 2 v^2
+exponent : IsExponent base 1
+exponent v = le_by (mul-le-mul_left_z (pos 16) (omega (arith, ints)) (square_nonneg_z (v 0))) (closed (v 0))
+  where
+    closed : (x : ℤ) → pos 32 *ℤ curvature base (λ j. x) +ℤ pos 16 *ℤ pos 0 ≡ pos 1 *ℤ total 3 (λ i. square (row_change base (λ j. x) i)) +ℤ pos 16 *ℤ square x
+    closed x = by_ring (x ∷ []) (search quotes depth 90 fits 20000) refl
+
+made : IsMadeFor base 8 controller
+made = record {
+  sizes = sizes;
+  rows = record { plan_rows = plan_rows_are; state_rows = state_rows_are; bounds = bounds_are };
+  gains = good;
+  exponent = exponent;
+  clamp = refl;
+}
+
+-- ---- the bounds, over 2^11 and 2^10: multipliers up to 16, a plan up to 27, a gradient up to 2^-10 * 104, and residuals up to 2^-11 * 31
+inside : IsGridState base (at (pos 1 ∷ []))
+inside zero h = (omega (arith, ints), omega (arith, ints))
+inside (suc i) h = absurd (omega arith)
+
+run : (k : ℕ) → HasErrors base 8 controller (pos 1 ∷ []) k
+run k = errors base 8 controller (pos 1 ∷ []) sound (condensing base (omega arith)) made sized refl inside k
+
+module _ (k : ℕ) where
+  abbrev plan : ℤ
+  plan = at (plan_at controller (pos 1 ∷ []) k) 0
+
+  abbrev multiplier : ℕ → ℤ
+  multiplier i = at (multipliers_at controller (pos 1 ∷ []) k) i
+
+  multipliers_worked : (i : ℕ) → i < 3 → (pos 0 ≤ℤ multiplier i) × (multiplier i ≤ℤ pos 32768)
+  multipliers_worked i h = ((run k).multipliers.low i h, (run k).multipliers.high i h)
+
+  plan_worked : unsigned_abs plan ≤ 27648
+  plan_worked = (run k).plan 0 (omega arith)
+
+  -- 4 times (4 u + 2 x + y1 - y2 + y3)
+  gradient_worked : IsWithin (pos 832) (pos 4 *ℤ (pos 8 *ℤ plan +ℤ pos 4096 +ℤ multiplier 0 -ℤ multiplier 1 +ℤ multiplier 2))
+  gradient_worked = within_same refl (closed plan (multiplier 0) (multiplier 1) (multiplier 2)) ((run k).gradient 0 (omega arith))
+    where
+      closed : (u a b e : ℤ) →
+          pos 4 *ℤ (pos 1 *ℤ (pos 0 +ℤ pos 4 *ℤ (pos 2 *ℤ u)) +ℤ (pos 1 *ℤ pos 2048) *ℤ (pos 2 *ℤ pos 1)) +ℤ
+          pos 1 *ℤ (pos 1 *ℤ (pos 0 +ℤ pos 4 *ℤ a +ℤ negsuc 3 *ℤ b +ℤ pos 4 *ℤ e)) ≡ pos 4 *ℤ (pos 8 *ℤ u +ℤ pos 4096 +ℤ a -ℤ b +ℤ e)
+      closed u a b e = by_ring (u ∷ a ∷ b ∷ e ∷ []) (search quotes depth 90 fits 20000) refl
+
+  -- the last row: 4 times (x + u - 1/4)
+  residual_worked : IsWithin (pos 124) (pos 2 *ℤ (pos 4 *ℤ used_residual controller (pos 1 ∷ []) k 2 -ℤ (pos 4 *ℤ plan +ℤ pos 3072)))
+  residual_worked = within_same refl (closed (used_residual controller (pos 1 ∷ []) k 2) plan) ((run k).residuals 2 (omega arith))
+    where
+      closed : (w u : ℤ) →
+          pos 2 *ℤ (pos 4 *ℤ w -ℤ (pos 0 +ℤ pos 4 *ℤ (pos 0 +ℤ pos 1 *ℤ (pos 1024 *ℤ pos 1) +ℤ pos 1 *ℤ (pos 0 +ℤ pos 1 *ℤ u)) -ℤ
+          pos 1 *ℤ pos 1024 *ℤ pos 1 *ℤ pos 1)) ≡
+          pos 2 *ℤ (pos 4 *ℤ w -ℤ (pos 4 *ℤ u +ℤ pos 3072))
+      closed w u = by_ring (w ∷ u ∷ []) (search quotes depth 90 fits 20000) refl

@@ -1,0 +1,102 @@
+-- What the machine of a controller that is made for a design promises: its errors at each step, one step, and a whole run.
+use Rattle.std.specs.Prelude.{◌≡◌, ℕ, suc, ◌+◌, ◌*◌, ◌^◌, ◌<◌, ◌≤◌, ℤ, pos, ◌+ℤ◌, ◌-ℤ◌, ◌*ℤ◌, ◌≤ℤ◌, ◌<ℤ◌, List, length, unsigned_abs}
+use Rattle.integer_algebra.specs.Sums.{at, total, dot, square}
+use Rattle.integer_algebra.specs.Bounds.{IsWithin}
+use Rattle.integer_algebra.specs.Division.{floor_of}
+use Rattle.dual_method.specs.Dual.{InBox}
+use Rattle.qp_model.specs.Design.{Design, entries, rows}
+use Rattle.qp_model.specs.Parts.{IsDesign, design_of}
+use Rattle.qp_model.specs.Box.{IsGridState}
+use Rattle.qp_model.specs.Cost.{cost, cost_scale}
+use Rattle.qp_model.specs.Residual.{residual, residual_scale, IsFeasible}
+use Rattle.qp_model.specs.Condensing.{numbers_of}
+use Rattle.qp_model.specs.Controller.{Numbers}
+use Rattle.qp_model.specs.AbsoluteSums.{IsController}
+use Rattle.qp_model.specs.Machine.{loaded, plan_of, row_sum, after, average_denominator, averaged_plan}
+use Rattle.qp_model.specs.Built.{IsMadeFor}
+use Rattle.qp_model.specs.Errors.{gradient_error, error_sums_of, plan_bound, residual_error, epsilon}
+use Rattle.qp_model.specs.declared.design_parts.DesignParts.{DesignParts}
+use Rattle.step_error.specs.Laws.{slant}
+
+-- ---- the numbers of step k from a grid state
+-- the multipliers before it, over 2^(fraction_bits + step_exponent)
+abbrev pub multipliers_at : Numbers → List ℤ → ℕ → List ℤ
+multipliers_at c xi k = (after c (loaded c xi) k).multipliers
+
+-- its plan, over 2^fraction_bits
+abbrev pub plan_at : Numbers → List ℤ → ℕ → List ℤ
+plan_at c xi k = plan_of c (loaded c xi) (multipliers_at c xi k)
+
+-- the residual of row i that it uses, over 2^fraction_bits
+abbrev pub used_residual : Numbers → List ℤ → ℕ → ℕ → ℤ
+used_residual c xi k i = floor_of (row_sum c (loaded c xi) (plan_at c xi k) i) (2 ^ c.fraction_bits)
+
+-- what multipliers are over, and the plan brought over it
+abbrev pub machine_scale : Numbers → ℤ
+machine_scale c = pos (2 ^ (c.fraction_bits + c.step_exponent))
+
+abbrev pub lifted_plan : Numbers → List ℤ → ℕ → ℕ → ℤ
+lifted_plan c xi k j = pos (2 ^ c.step_exponent) *ℤ at (plan_at c xi k) j
+
+-- ---- errors
+-- each multiplier lies in 0 .. 2 r, each plan entry is at most the plan bound, each entry of H u + F x + h0 + G'y is at most
+-- 2^-fraction_bits times its gradient error, and each residual used is within 2^-(fraction_bits + 1) times the residual error of the plan's
+pub record HasErrors (d : Design) (r : ℕ) (c : Numbers) (xi : List ℤ) (k : ℕ) : Type 0 where
+  pub multipliers : InBox (rows d) (pos (2 * r) *ℤ machine_scale c) (at (multipliers_at c xi k))
+  pub plan : (j : ℕ) → j < entries d → unsigned_abs (at (plan_at c xi k) j) ≤ 2 ^ c.fraction_bits * plan_bound (error_sums_of d r) c.fraction_bits
+  pub gradient : (j : ℕ) → j < entries d →
+      IsWithin (pos (cost_scale d) *ℤ pos (residual_scale d) *ℤ pos (2 ^ c.step_exponent * gradient_error d r j))
+      (slant d (numbers_of d) (machine_scale c) (at xi) (lifted_plan c xi k) (at (multipliers_at c xi k)) j)
+  pub residuals : (i : ℕ) → i < rows d →
+      IsWithin (pos (residual_scale d * residual_error (error_sums_of d r) c.fraction_bits))
+      (pos 2 *ℤ (pos (residual_scale d) *ℤ used_residual c xi k i -ℤ residual d (pos (2 ^ c.fraction_bits)) (at xi) (at (plan_at c xi k)) i))
+
+-- a controller that is made for a design with multipliers up to 2 r, and a grid state of the design's box
+pub record IsRunOf (p : DesignParts) (r : ℕ) (c : Numbers) (xi : List ℤ) : Type 0 where
+  pub design : IsDesign p
+  pub bound : 1 ≤ r
+  pub controller : IsController c
+  pub made : IsMadeFor (design_of p) r c
+  pub long : length xi ≡ (design_of p).states
+  pub inside : IsGridState (design_of p) (at xi)
+
+-- each step has its errors
+abbrev pub CarriedLaw : Type 0
+CarriedLaw = (p : DesignParts) (r : ℕ) (c : Numbers) (xi : List ℤ) → IsRunOf p r c xi → (k : ℕ) → HasErrors (design_of p) r c xi k
+
+-- ---- one step
+-- V(u) + w'c(u) ≤ V(t) + 2^(s - 1) (|w - y|^2 - |w - z|^2) + epsilon / 2^40, for the plan u of step k and the multipliers y before it and z
+-- after it, the multipliers w and the plan t over q; times 2^41 cost_scale residual_scale q^2 scale^2, with the machine's scale
+abbrev pub MachineStepBound : (d : Design) (r : ℕ) (c : Numbers) (xi : List ℤ) (k : ℕ) (q : ℤ) (t w : ℕ → ℤ) → Type 0
+MachineStepBound d r c xi k q t w =
+    (pos (2 ^ 41) *ℤ pos (residual_scale d) *ℤ square q *ℤ cost d (machine_scale c) (at xi) (lifted_plan c xi k) +ℤ
+    pos (2 ^ 41) *ℤ pos (cost_scale d) *ℤ machine_scale c *ℤ q *ℤ dot (rows d) w (residual d (machine_scale c) (at xi) (lifted_plan c xi k))) ≤ℤ
+    (pos (2 ^ 41) *ℤ pos (residual_scale d) *ℤ square (machine_scale c) *ℤ cost d q (at xi) t +ℤ
+    pos (2 ^ 40 * 2 ^ c.step_exponent) *ℤ pos (cost_scale d) *ℤ pos (residual_scale d) *ℤ
+    (total (rows d) (λ i. square (machine_scale c *ℤ w i -ℤ q *ℤ at (multipliers_at c xi k) i)) -ℤ
+    total (rows d) (λ i. square (machine_scale c *ℤ w i -ℤ q *ℤ at (multipliers_at c xi (suc k)) i))) +ℤ
+    pos 2 *ℤ pos (cost_scale d) *ℤ pos (residual_scale d) *ℤ square q *ℤ square (machine_scale c) *ℤ pos (epsilon (error_sums_of d r) c.fraction_bits))
+
+abbrev pub MachineStepLaw : Type 0
+MachineStepLaw = (p : DesignParts) (r : ℕ) (c : Numbers) (xi : List ℤ) → IsRunOf p r c xi → (k : ℕ) →
+    (q : ℤ) (t w : ℕ → ℤ) → pos 0 <ℤ q → IsFeasible (design_of p) q (at xi) t → InBox (rows (design_of p)) (pos (2 * r) *ℤ q) w →
+    MachineStepBound (design_of p) r c xi k q t w
+
+-- ---- a whole run
+-- V(avg) + w'c(avg) ≤ V(t) + 2^s |w|^2 / (2 K) + epsilon / 2^40, for the averaged plan, the multipliers w and the plan t over q; times
+-- 2^41 K cost_scale residual_scale q^2 (K 2^fraction_bits)^2
+abbrev pub MachineRunBound : (d : Design) (r : ℕ) (c : Numbers) (xi : List ℤ) (q : ℤ) (t w : ℕ → ℤ) → Type 0
+MachineRunBound d r c xi q t w =
+    (pos (2 ^ 41) *ℤ pos c.steps *ℤ pos (residual_scale d) *ℤ square q *ℤ cost d (pos (average_denominator c)) (at xi) (at (averaged_plan c xi)) +ℤ
+    pos (2 ^ 41) *ℤ pos c.steps *ℤ pos (cost_scale d) *ℤ pos (average_denominator c) *ℤ q *ℤ
+    dot (rows d) w (residual d (pos (average_denominator c)) (at xi) (at (averaged_plan c xi)))) ≤ℤ
+    (pos (2 ^ 41) *ℤ pos c.steps *ℤ pos (residual_scale d) *ℤ square (pos (average_denominator c)) *ℤ cost d q (at xi) t +ℤ
+    pos (2 ^ 40 * 2 ^ c.step_exponent) *ℤ pos (cost_scale d) *ℤ pos (residual_scale d) *ℤ square (pos (average_denominator c)) *ℤ
+    total (rows d) (λ i. square (w i)) +ℤ
+    pos 2 *ℤ pos c.steps *ℤ pos (cost_scale d) *ℤ pos (residual_scale d) *ℤ square q *ℤ square (pos (average_denominator c)) *ℤ
+    pos (epsilon (error_sums_of d r) c.fraction_bits))
+
+abbrev pub MachineRunLaw : Type 0
+MachineRunLaw = (p : DesignParts) (r : ℕ) (c : Numbers) (xi : List ℤ) → IsRunOf p r c xi →
+    (q : ℤ) (t w : ℕ → ℤ) → pos 0 <ℤ q → IsFeasible (design_of p) q (at xi) t → InBox (rows (design_of p)) (pos (2 * r) *ℤ q) w →
+    MachineRunBound (design_of p) r c xi q t w
