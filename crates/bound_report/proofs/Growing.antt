@@ -1,0 +1,11 @@
+-- A text that grows line by line.
+use Rattle.std.proofs.Common.{◌≡◌, ℕ, List, [], ◌∷◌, ◌++◌, refl, sym, ap, ◌∙◌, append_assoc}
+use Rattle.qp_model.specs.Lines.{text_of}
+
+text_append : (xs ys : List (List ℕ)) → text_of (xs ++ ys) ≡ text_of xs ++ text_of ys
+text_append [] ys = refl
+text_append (x ∷ xs) ys = ap (λ (t : List ℕ). x ++ 10 ∷ [] ++ t) (text_append xs ys) ∙ sym (append_assoc (x ++ 10 ∷ []) (text_of xs) (text_of ys))
+
+-- lines at the end of lines
+pub pushed : (ls ms : List (List ℕ)) (t u : List ℕ) → t ≡ text_of ls → u ≡ t ++ text_of ms → u ≡ text_of (ls ++ ms)
+pushed ls ms t u before grown = grown ∙ ap (λ (s : List ℕ). s ++ text_of ms) before ∙ sym (text_append ls ms)

@@ -1,0 +1,30 @@
+-- The text of a report.
+use Rattle.std.specs.Prelude.{ℕ, pos, List, [], ◌∷◌, ◌++◌, codes}
+use Rattle.qp_model.specs.Lines.{line_of, text_of}
+use Rattle.qp_model.specs.declared.bounds.Bounds.{Bounds}
+
+-- a word and its number each, and beside a number that is over 2^16 that power
+abbrev pub head_lines : Bounds → List (List ℕ)
+head_lines b =
+    codes "mpc-report 1"
+    ∷ line_of (codes "margin") (b.margin ∷ pos 65536 ∷ [])
+    ∷ line_of (codes "cost") (b.cost ∷ [])
+    ∷ line_of (codes "multiplier") (b.multiplier ∷ [])
+    ∷ line_of (codes "step") (pos b.step ∷ [])
+    ∷ line_of (codes "steps") (pos b.steps ∷ [])
+    ∷ line_of (codes "bits") (pos b.bits ∷ [])
+    ∷ line_of (codes "width") (pos b.width ∷ [])
+    ∷ line_of (codes "words") (pos b.words ∷ [])
+    ∷ []
+
+-- what is promised, over 2^40
+abbrev pub bound_lines : Bounds → List (List ℕ)
+bound_lines b =
+    line_of (codes "violation") (b.violation ∷ pos 1099511627776 ∷ [])
+    ∷ line_of (codes "gap") (b.gap ∷ pos 1099511627776 ∷ [])
+    ∷ line_of (codes "undercut") (b.undercut ∷ pos 1099511627776 ∷ [])
+    ∷ []
+
+-- all lines, each with its line feed
+abbrev pub report_text : Bounds → List ℕ
+report_text b = text_of (head_lines b ++ bound_lines b ++ codes "end" ∷ [])
