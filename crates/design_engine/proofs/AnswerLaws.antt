@@ -1,0 +1,66 @@
+-- What an answer says of the tests, and what is certified for what is built.
+use Rattle.std.proofs.Common.{◌≡◌, inl, inr, ◌⊎◌, ℕ, refl, ap, rules, Result, Ok, Err}
+use Rattle.std.specs.Prelude.{IfOk, IfErr, OnOk, IsOk}
+use Rattle.std.specs.Result.{IsErr}
+use Rattle.qp_model.specs.Parts.{IsDesign, design_of}
+use Rattle.qp_model.specs.Policy.{Plans, IsPolicyFor}
+use Rattle.qp_model.specs.Controller.{Numbers}
+use Rattle.qp_model.specs.Certified.{IsCertified}
+use Rattle.qp_model.specs.declared.design_parts.DesignParts.{DesignParts}
+use Rattle.qp_model.specs.declared.bounds.Bounds.{Bounds}
+use Rattle.qp_model.specs.declared.bounds.Margin.{Margin}
+use Rattle.step_error.proofs.MachineErrors.{carried}
+use Rattle.step_error.proofs.MachineRuns.{run_from}
+use Rattle.design_engine.specs.Targets.{Targets, targets_of, IsWithinTargets}
+use Rattle.design_engine.specs.Built.{IsBuilt}
+use Rattle.design_engine.specs.Refusals.{PassesAll, HasCause, IsRefused}
+use Rattle.design_engine.specs.declared.refusal.Refusal.{Refusal}
+use Rattle.design_engine.specs.declared.refusal.Refusal.TheVariants.{Memory}
+use Rattle.design_engine.proofs.CauseLaws.{one_cause, no_cause}
+use Rattle.design_engine.proofs.PromiseLaws.{certified_from}
+use Rattle.design_engine.proofs.TargetLaws.{targets_law}
+
+-- ---- results
+pub ok_map : {T E : Type 0} (r : Result T E) (p q : T → Type 0) → IfOk r p → ((x : T) → p x → q x) → IfOk r q
+ok_map (Ok x) p q h f = f x h
+ok_map (Err e) p q h f = h
+
+pub ok_of_error : {T E : Type 0} (r : Result T E) (p : Type 0) → IsErr r → OnOk r p
+ok_of_error (Ok x) p h = absurd (search rules)
+ok_of_error (Err e) p h = tt
+
+-- ---- each cause is answered, and so is what passes every test
+-- some numbers pass every test
+pub record IsPassed (p : DesignParts) (t : Targets) (plans : Plans) : Type 0 where
+  pub margin : Margin
+  pub exponent : ℕ
+  pub bits : ℕ
+  pub passes : PassesAll (design_of p) t plans margin exponent bits
+
+module _ (p : DesignParts) (t : Targets) (plans : Plans) (design : IsDesign p) (policy : IsPolicyFor (design_of p) plans) where
+  pub every_from : {T : Type 0} (r : Result T Refusal) → IfErr r (IsRefused (design_of p) t plans) → OnOk r (IsPassed p t plans) →
+      (e : Refusal) → HasCause (design_of p) t plans e → (r ≡ Err e) ⊎ (r ≡ Err Memory)
+  every_from (Ok x) refused h e cause = absurd (no_cause p plans t h.margin h.exponent h.bits e design policy h.passes cause)
+  every_from (Err o) (inl memory) h e cause = inr (ap Err memory)
+  every_from (Err o) (inr other) h e cause = inl (ap Err (one_cause p plans t o e design policy other cause))
+
+  pub accepted_from : {T : Type 0} (r : Result T Refusal) → IfErr r (IsRefused (design_of p) t plans) →
+      (m : Margin) (s f : ℕ) → PassesAll (design_of p) t plans m s f → IsOk r ⊎ (r ≡ Err Memory)
+  accepted_from (Ok x) refused m s f passes = inl refl
+  accepted_from (Err o) (inl memory) m s f passes = inr (ap Err memory)
+  accepted_from (Err o) (inr other) m s f passes = absurd (no_cause p plans t m s f o design policy passes other)
+
+-- ---- what is built
+pub built_certified : (p : DesignParts) (plans : Plans) (c : Numbers) (b : Bounds) → IsBuilt p plans c b → IsCertified (design_of p) c b
+built_certified p plans c b h = certified_from (run_from carried) p plans c b (record {
+  design = h.design;
+  policy = h.policy;
+  margin = h.margin;
+  slack = h.slack;
+  controller = h.controller;
+  made = h.made;
+  bounds = h.bounds;
+})
+
+pub built_within : (p : DesignParts) (plans : Plans) (c : Numbers) (b : Bounds) → IsBuilt p plans c b → IsWithinTargets (targets_of p) b
+built_within p plans c b h = targets_law p c b (record { design = h.design; steps = h.steps; errors = h.bits.within; bounds = h.bounds })

@@ -1,0 +1,49 @@
+-- What passes every test is built.
+use Rattle.std.proofs.Common.{◌≡◌, ℕ, ◌+◌, ◌*◌, ◌^◌, ◌≤◌, ℤ, pos, ◌≤ℤ◌, unsigned_abs, refl, ap, sym, arith, ◌∙◌}
+use Rattle.std.proofs.lemmas.Int.{ints}
+use Rattle.qp_model.specs.Parts.{IsDesign, design_of}
+use Rattle.qp_model.specs.Policy.{Plans, IsPolicyFor}
+use Rattle.qp_model.specs.Curvature.{IsExponent}
+use Rattle.qp_model.specs.Choices.{step_count}
+use Rattle.qp_model.specs.Controller.{Numbers}
+use Rattle.qp_model.specs.AbsoluteSums.{IsController}
+use Rattle.qp_model.specs.declared.design_parts.DesignParts.{DesignParts}
+use Rattle.qp_model.specs.declared.bounds.Bounds.{Bounds}
+use Rattle.qp_model.specs.declared.bounds.Margin.{Margin}
+use Rattle.design_engine.specs.Targets.{targets_of, half_target, error_limit}
+use Rattle.design_engine.specs.Bounds.{margin_of, bound_of, AreBoundsOf}
+use Rattle.design_engine.specs.Assembled.{IsAssembled}
+use Rattle.design_engine.specs.Built.{IsBuilt}
+use Rattle.design_engine.specs.Refusals.{PassesMargin, PassesBits}
+
+pub built_from : (p : DesignParts) (plans : Plans) (c : Numbers) (b : Bounds) (m : Margin) (r s k f : ℕ) → IsDesign p → IsPolicyFor (design_of p) plans →
+    PassesBits (design_of p) (targets_of p) plans m s f → IsExponent (design_of p) s → r ≡ bound_of m → k ≡ step_count s (bound_of m) (half_target (targets_of p)) →
+    margin_of b ≡ m → IsController c → IsAssembled (design_of p) r s k f c → AreBoundsOf (design_of p) c b → IsBuilt p plans c b
+built_from p plans c b m r s k f design policy passes curved is count same sound a bounds = record {
+  design = design;
+  policy = policy;
+  margin = rw (units, cost) margin.margin;
+  slack = rw units margin.slack;
+  controller = sound;
+  made = record {
+    sizes = a.sizes;
+    rows = a.rows;
+    gains = a.gains;
+    exponent = rw a.step_exponent curved;
+    clamp = a.clamp ∙ rw (is, a.fraction_bits, a.step_exponent, units, cost) refl;
+  };
+  exponent = rw a.step_exponent passes.before.exponent;
+  steps = a.steps ∙ count ∙ rw (a.step_exponent, units, cost) refl;
+  bits = rw (a.fraction_bits, units, cost) passes.choice;
+  width = a.width;
+  bounds = bounds;
+}
+  where
+    margin : PassesMargin (design_of p) (targets_of p) plans m
+    margin = passes.before.before.before
+
+    units : b.margin ≡ m.units
+    units = ap (λ (x : Margin). x.units) same
+
+    cost : b.cost ≡ m.cost
+    cost = ap (λ (x : Margin). x.cost) same

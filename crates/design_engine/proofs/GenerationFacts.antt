@@ -1,0 +1,120 @@
+-- What the tests' numbers are within.
+use Rattle.std.proofs.Common.{◌≡◌, inl, inr, ◌⊎◌, ℕ, zero, suc, ◌+◌, ◌*◌, ◌/◌, ◌^◌, ◌<◌, ◌≤◌, min, max, ℤ, pos, negsuc, ◌*ℤ◌, ◌≤ℤ◌, ◌<ℤ◌, unsigned_abs, arith, refl, sym, ap, ◌∙◌, FitsSigned, to_z, of_z}
+use Rattle.std.proofs.lemmas.Int.{ints, to_z-of_z}
+use Rattle.std.proofs.lemmas.Nat.{pow_pos, mul-le}
+use Rattle.std.proofs.Math.Nat.{mul-le-mul_left, mul-le-mul_right, div-le_self}
+use Rattle.std.specs.Int.{w128, int_min}
+use mir.Val.{SFits}
+use Rattle.integer_algebra.specs.Division.{ceil_div}
+use Rattle.integer_algebra.proofs.DivisionLaws.{ceil_div-le, le-mul-ceil_div}
+use Rattle.qp_model.specs.Parts.{IsDesign, design_of}
+use Rattle.qp_model.specs.Range.{IsDenominator, IsPositive}
+use Rattle.qp_model.specs.Choices.{multiplier_bound, multiplier_size, step_count, violation_bound, undercut_bound}
+use Rattle.qp_model.specs.declared.design_parts.DesignParts.{DesignParts}
+use Rattle.qp_model.specs.declared.bounds.Margin.{Margin}
+use Rattle.design_engine.specs.Targets.{Targets, targets_of, half_target, gap_target, error_limit}
+use Rattle.design_engine.specs.Bounds.{bound_of}
+use Rattle.design_engine.proofs.TargetLaws.{quotient_some, some_of, size_of, halves}
+
+-- ---- the targets
+pub half_small : (p : DesignParts) → IsDesign p → half_target (targets_of p) ≤ 2 ^ 70
+half_small p h = close (unsigned_abs p.violation) (unsigned_abs p.target_den) (positive_small p.violation h.violation)
+  where
+    close : (v d : ℕ) → v ≤ 2 ^ 31 → 2 ^ 39 * v / d ≤ 2 ^ 70
+    close v d l = omega (arith, div-le_self (2 ^ 39 * v) d, l)
+
+    positive_small : (z : ℤ) → IsPositive z → unsigned_abs z ≤ 2 ^ 31
+    positive_small z h = omega (arith, ints, h.low, h.high)
+
+pub gap_small : (p : DesignParts) → IsDesign p → gap_target (targets_of p) ≤ 2 ^ 71
+gap_small p h = close (unsigned_abs p.gap) (unsigned_abs p.target_den) (positive_small p.gap h.gap)
+  where
+    close : (v d : ℕ) → v ≤ 2 ^ 31 → 2 ^ 40 * v / d ≤ 2 ^ 71
+    close v d l = omega (arith, div-le_self (2 ^ 40 * v) d, l)
+
+    positive_small : (z : ℤ) → IsPositive z → unsigned_abs z ≤ 2 ^ 31
+    positive_small z h = omega (arith, ints, h.low, h.high)
+
+denominator_small : (z : ℤ) → IsDenominator z → unsigned_abs z ≤ 2 ^ 20
+denominator_small z h = size_of z (2 ^ 20) h.low h.high
+
+pub half_some : (p : DesignParts) → IsDesign p → 1 ≤ half_target (targets_of p)
+half_some p h = quotient_some (2 ^ 39 * unsigned_abs p.violation) (unsigned_abs p.target_den) (some_of p.target_den h.target_den.low)
+    (omega (arith, denominator_small p.target_den h.target_den, some_of p.violation h.violation.low))
+
+pub gap_some : (p : DesignParts) → IsDesign p → 1 ≤ gap_target (targets_of p)
+gap_some p h = quotient_some (2 ^ 40 * unsigned_abs p.gap) (unsigned_abs p.target_den) (some_of p.target_den h.target_den.low)
+    (omega (arith, denominator_small p.target_den h.target_den, some_of p.gap h.gap.low))
+
+pub limit_some : (p : DesignParts) (r : ℕ) → IsDesign p → 1 ≤ r → 1 ≤ error_limit (targets_of p) r
+limit_some p r h o = close _ _ _ (gap_some p h) (half_some p h) o
+  where
+    close : (g k r : ℕ) → 1 ≤ g → 1 ≤ k → 1 ≤ r → 1 ≤ min g (r * k)
+    close g k r a b c = omega (arith, a, mul-le 1 1 r k c b)
+
+pub limit_small : (p : DesignParts) (r : ℕ) → IsDesign p → error_limit (targets_of p) r ≤ 2 ^ 71
+limit_small p r h = omega (arith, gap_small p h)
+
+-- ---- R
+pub bound_some : (m : Margin) → 1 ≤ bound_of m
+bound_some m = omega arith
+
+pub bound_narrow : (m : Margin) → multiplier_size (unsigned_abs m.units) (unsigned_abs m.cost) ≤ 2 ^ 126 → bound_of m ≤ 2 ^ 44
+bound_narrow m h = close _ (bound_of m) h
+  where
+    close : (x r : ℕ) → max x (2 ^ 82 * r) ≤ 2 ^ 126 → r ≤ 2 ^ 44
+    close x r h = omega (arith, h)
+
+-- ---- the steps
+pub steps_some : (s r k : ℕ) → 1 ≤ r → 1 ≤ k → 1 ≤ step_count s r k
+steps_some s r k o h = close (2 ^ (s + 41) * r) k (ceil_div (2 ^ (s + 41) * r) k) (one-le (2 ^ (s + 41)) r (pow_pos (s + 41)) o) (le-mul-ceil_div (2 ^ (s + 41) * r) k h)
+  where
+    one-le : (a b : ℕ) → 1 ≤ a → 1 ≤ b → 1 ≤ a * b
+    one-le a b h k = omega (arith, mul-le 1 1 a b h k)
+
+    close : (a k q : ℕ) → 1 ≤ a → a ≤ k * q → 1 ≤ q
+    close a k zero h l = absurd (omega (arith, h, l))
+    close a k (suc q) h l = omega arith
+
+-- ---- the printed bounds
+pub undercut_small : (s r h e : ℕ) → 1 ≤ r → r ≤ 2 ^ 44 → 1 ≤ h → h ≤ 2 ^ 70 → e ≤ r * h → undercut_bound r (violation_bound s r (step_count s r h) e) ≤ 2 ^ 126
+undercut_small s r h e o n l k i = close r (violation_bound s r (step_count s r h) e) h n k (halves s r h e o l i)
+  where
+    close : (r v h : ℕ) → r ≤ 2 ^ 44 → h ≤ 2 ^ 70 → v ≤ 2 * h → r * v ≤ 2 ^ 126
+    close r v h a b c = omega (arith, mul-le r v (2 ^ 44) (2 ^ 71) a (omega (arith, b, c)))
+
+-- ---- numbers of 128 bits that the code reads
+pub whole_is : (z : ℤ) (n : ℕ) → SFits w128 z → z ≡ pos n → unsigned_abs (to_z w128 (of_z w128 z)) ≡ n
+whole_is z n f e = ap unsigned_abs (to_z-of_z w128 z f ∙ e)
+
+pub whole_some : (z : ℤ) (n : ℕ) → SFits w128 z → z ≡ pos n → 1 ≤ n → pos 1 ≤ℤ to_z w128 (of_z w128 z)
+whole_some z n f e h = rw (to_z-of_z w128 z f, e) (omega (arith, ints, h))
+
+-- R times half the target
+pub product_fits : (r z : ℤ) (h : ℕ) → SFits w128 r → SFits w128 z → pos 1 ≤ℤ r → r ≤ℤ pos (2 ^ 44) → z ≡ pos h → h ≤ 2 ^ 70 →
+    SFits w128 (to_z w128 (of_z w128 r) *ℤ to_z w128 (of_z w128 z))
+product_fits r z h f g some narrow e l = rw (to_z-of_z w128 r f, to_z-of_z w128 z g, e) (close r some narrow)
+  where
+    close : (r : ℤ) → pos 1 ≤ℤ r → r ≤ℤ pos (2 ^ 44) → SFits w128 (r *ℤ pos h)
+    close (pos r) o n = close_nat r (omega (arith, ints, n))
+      where
+        close_nat : (r : ℕ) → r ≤ 2 ^ 44 → SFits w128 (pos r *ℤ pos h)
+        close_nat r o = omega (arith, ints, mul-le r h (2 ^ 44) (2 ^ 70) o l)
+    close (negsuc r) o n = absurd (omega (arith, ints, o))
+
+-- the lesser of two
+pub least_is : (a b : ℕ) → int_min (pos a) (pos b) ≡ pos (min a b)
+least_is a b = grind (arith, ints)
+
+pub product_is : (r z : ℤ) (h : ℕ) → SFits w128 r → SFits w128 z → pos 1 ≤ℤ r → r ≤ℤ pos (2 ^ 44) → z ≡ pos h → h ≤ 2 ^ 70 →
+    to_z w128 (of_z w128 (to_z w128 (of_z w128 r) *ℤ to_z w128 (of_z w128 z))) ≡ pos (unsigned_abs r * h)
+product_is r z h f g some narrow e l =
+    to_z-of_z w128 _ (product_fits r z h f g some narrow e l) ∙ rw (to_z-of_z w128 r f, to_z-of_z w128 z g, e) (close r some)
+  where
+    close : (r : ℤ) → pos 1 ≤ℤ r → r *ℤ pos h ≡ pos (unsigned_abs r * h)
+    close (pos r) o = omega (arith, ints)
+    close (negsuc r) o = absurd (omega (arith, ints, o))
+
+-- a cost that is within a limit
+pub at_most : (z : ℤ) (n : ℕ) {k : ℕ} → z ≡ pos n → n ≤ k → k ≤ 2 ^ 71 → z ≤ℤ pos (2 ^ 114)
+at_most z n {k} e h l = rw e (omega (arith, ints, h, l))

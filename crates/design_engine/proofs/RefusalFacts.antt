@@ -1,0 +1,177 @@
+-- A fault of a part has its cause as a refusal.
+use Rattle.std.proofs.Common.{◌≡◌, inl, inr, ◌⊎◌, ◌↔◌, ℕ, ◌^◌, ◌<◌, ◌≤◌, ℤ, pos, ◌≤ℤ◌, unsigned_abs, arith, refl, rules, Result, Ok, Err}
+use Rattle.std.specs.Prelude.{IfErr}
+use Rattle.std.specs.Result.{IsErrAnd, IsErrOf, IsErr}
+use Rattle.std.proofs.lemmas.Bool.{cases_lt}
+use Rattle.frac_scaled.specs.declared.fraction.Frac.{Frac}
+use Rattle.qp_model.specs.Design.{Design}
+use Rattle.qp_model.specs.Policy.{Plans}
+use Rattle.qp_model.specs.Margin.{IsMargin}
+use Rattle.qp_model.specs.Choices.{multiplier_size, step_count}
+use Rattle.qp_model.specs.Quantities.{hessian_size, rows_size}
+use Rattle.qp_model.specs.CurvatureSize.{curvature_size}
+use Rattle.qp_model.specs.Columns.{descent_size}
+use Rattle.qp_model.specs.Errors as errors
+use Rattle.qp_model.specs.Errors.{error_size, error_sums_of, epsilon}
+use Rattle.qp_model.specs.declared.bounds.Margin.{Margin}
+use Rattle.qp_model.specs.declared.quantity.Quantity.{Quantity}
+use Rattle.qp_model.specs.declared.quantity.Quantity.TheVariants.{Prediction, CornerSlack, CornerCost, Multiplier, Hessian, Rows, Curvature as curvature_quantity, Error, Descent, Width, Turn}
+use Rattle.slater_margin.specs.Corners as corners
+use Rattle.slater_margin.specs.Corners.{HasRoom, IsFirstShort}
+use Rattle.slater_margin.specs.declared.fault.MarginFault.{MarginFault}
+use Rattle.slater_margin.specs.declared.fault.MarginFault.TheVariants.{Memory as margin_memory, TooWide as margin_wide, NoMargin as margin_none}
+use Rattle.plant_condense.specs.Fault as condensing
+use Rattle.plant_condense.specs.declared.condensed.Condensed.{Condensed}
+use Rattle.plant_condense.specs.declared.fault.CondenseFault.{CondenseFault}
+use Rattle.plant_condense.specs.declared.fault.CondenseFault.TheVariants.{Memory as condense_memory, TooWide as condense_wide}
+use Rattle.hessian_check.specs.Steps.{HasNoStep}
+use Rattle.hessian_check.specs.declared.fault.StepExponents.{StepExponents}
+use Rattle.hessian_check.specs.declared.fault.CurvatureFault.{CurvatureFault}
+use Rattle.hessian_check.specs.declared.fault.CurvatureFault.TheVariants.{Memory as curvature_memory, TooWide as curvature_wide, NoStep}
+use Rattle.bit_choice.specs.Choice.{IsChoice}
+use Rattle.approx_inverse.specs.Fault.{IsFault}
+use Rattle.approx_inverse.specs.declared.fault.SolveFault.{SolveFault}
+use Rattle.approx_inverse.specs.declared.fault.SolveFault.TheVariants.{Memory as solve_memory, TooWide as solve_wide}
+use Rattle.design_engine.specs.Targets.{Targets, half_target, error_limit}
+use Rattle.design_engine.specs.Widest.{width_size}
+use Rattle.design_engine.specs.Bounds.{bound_of, errors_cost}
+use Rattle.design_engine.specs.Built.{IsExponentOf}
+use Rattle.design_engine.specs.Fault.{IsWidthFault}
+use Rattle.design_engine.specs.Faults.{of_margin, of_condense, of_curvature, of_solve, of_width}
+use Rattle.design_engine.specs.Refusals.{PassesMargin, PassesSizes, PassesSteps, PassesBits, HasCause, IsRefused, IsTooWide}
+use Rattle.design_engine.specs.declared.fault.WidthFault.{WidthFault}
+use Rattle.design_engine.specs.declared.fault.WidthFault.TheVariants.{Memory as width_memory, TooWide as width_wide}
+use Rattle.design_engine.specs.declared.refusal.Refusal.{Refusal}
+use Rattle.design_engine.specs.declared.refusal.Refusal.TheVariants.{Memory, NoMargin, Curvature, TooManySteps, TooFine, TooWide}
+
+-- the error that a fault becomes
+pub refused_by : {T : Type 0} (r : Result T Refusal) (from p : Refusal → Type 0) → IsErrAnd r from → ((e : Refusal) → from e → p e) → IfErr r p
+refused_by (Ok x) from p h f = absurd h
+refused_by (Err e) from p h f = f e h
+
+-- a size that is not above its limit
+pub room_from : (n : ℕ) (p : Type 0) → p ↔ (2 ^ 126 < n) → (p → ⊥) → n ≤ 2 ^ 126
+room_from n p h refuted = elim (cases_lt (2 ^ 126) n) [ inl l ↦ absurd (refuted (h.1 l)) | inr l ↦ l ]
+
+module _ (d : Design) (t : Targets) (plans : Plans) where
+  -- ---- the margin
+  corner_wide : (quantity : Quantity) → corners.IsFirstWide d plans quantity → IsTooWide d t plans quantity
+  corner_wide Prediction h = h
+  corner_wide CornerSlack h = h
+  corner_wide CornerCost h = h
+  corner_wide Multiplier h = absurd h
+  corner_wide Hessian h = absurd h
+  corner_wide Rows h = absurd h
+  corner_wide curvature_quantity h = absurd h
+  corner_wide Error h = absurd h
+  corner_wide Descent h = absurd h
+  corner_wide Width h = absurd h
+  corner_wide Turn h = absurd h
+
+  pub margin_refused : (r : Result Margin MarginFault) (fault : MarginFault) → r ≡ Err fault →
+      ((quantity : Quantity) → (r ≡ Err (margin_wide quantity)) ↔ corners.IsFirstWide d plans quantity) →
+      ((corner row : ℕ) (slack : Frac) → r ≡ Err (margin_none corner row slack) → HasRoom d plans × IsFirstShort d plans corner row slack) →
+      (e : Refusal) → e ≡ of_margin fault → IsRefused d t plans e
+  margin_refused r margin_memory is wide short e f = inl f
+  margin_refused r (margin_wide quantity) is wide short e f = rw f (inr (corner_wide quantity ((wide quantity).0 is)))
+  margin_refused r (margin_none corner row slack) is wide short e f = rw f (inr (short corner row slack is))
+
+  -- ---- R
+  pub multiplier_refused : (m : Margin) (quantity : Quantity) → PassesMargin d t plans m →
+      (multiplier_size (unsigned_abs m.units) (unsigned_abs m.cost) ≤ 2 ^ 126 → ⊥) → quantity ≡ Multiplier →
+      (e : Refusal) → e ≡ TooWide quantity → IsRefused d t plans e
+  multiplier_refused m quantity h refuted g e f = rw (f, g) (inr (m, h, omega (arith, refuted)))
+
+  -- ---- the condensed form
+  form_wide : (m : Margin) → PassesMargin d t plans m → multiplier_size (unsigned_abs m.units) (unsigned_abs m.cost) ≤ 2 ^ 126 → (quantity : Quantity) →
+      condensing.IsFirstWide d quantity → IsTooWide d t plans quantity
+  form_wide m h r Prediction k = absurd (omega (arith, h.room.prediction, k))
+  form_wide m h r CornerSlack k = absurd k
+  form_wide m h r CornerCost k = absurd k
+  form_wide m h r Multiplier k = absurd k
+  form_wide m h r Hessian k = (m, h, r, k.1)
+  form_wide m h r Rows k = (m, h, r, k.1.0, k.1.1)
+  form_wide m h r curvature_quantity k = absurd k
+  form_wide m h r Error k = absurd k
+  form_wide m h r Descent k = absurd k
+  form_wide m h r Width k = absurd k
+  form_wide m h r Turn k = absurd k
+
+  pub condense_refused : (m : Margin) → PassesMargin d t plans m → multiplier_size (unsigned_abs m.units) (unsigned_abs m.cost) ≤ 2 ^ 126 →
+      (r : Result Condensed CondenseFault) (fault : CondenseFault) → r ≡ Err fault →
+      ((quantity : Quantity) → (r ≡ Err (condense_wide quantity)) ↔ condensing.IsFirstWide d quantity) →
+      (e : Refusal) → e ≡ of_condense fault → IsRefused d t plans e
+  condense_refused m h n r condense_memory is wide e f = inl f
+  condense_refused m h n r (condense_wide quantity) is wide e f = rw f (inr (form_wide m h n quantity ((wide quantity).0 is)))
+
+  -- ---- the step exponent
+  pub curvature_refused : (m : Margin) → PassesMargin d t plans m → multiplier_size (unsigned_abs m.units) (unsigned_abs m.cost) ≤ 2 ^ 126 →
+      hessian_size d ≤ 2 ^ 126 → rows_size d ≤ 2 ^ 126 →
+      (r : Result StepExponents CurvatureFault) (fault : CurvatureFault) → r ≡ Err fault →
+      IsErrOf r (curvature_wide curvature_quantity) ↔ (2 ^ 126 < curvature_size d) →
+      ((quantity : Quantity) → IsErrOf r (curvature_wide quantity) → quantity ≡ curvature_quantity) →
+      (IsErrOf r NoStep → HasNoStep d) →
+      (e : Refusal) → e ≡ of_curvature fault → IsRefused d t plans e
+  curvature_refused m h n k l r curvature_memory is wide other flat e f = inl f
+  curvature_refused m h n k l r (curvature_wide quantity) is wide other flat e f =
+      let g = other quantity is in rw (f, g) (inr (m, h, n, k, l, wide.0 (rw g at is)))
+  curvature_refused m h n k l r NoStep is wide other flat e f = rw f (inr (
+    m,
+    record {
+      before = h;
+      multiplier = n;
+      hessian = k;
+      rows = l;
+      curvature = room_from (curvature_size d) _ wide (λ g. differ (rw is at g));
+    },
+    flat is,
+  ))
+    where
+      differ : ◌≡◌ {A = Result StepExponents CurvatureFault} (Err NoStep) (Err (curvature_wide curvature_quantity)) → ⊥
+      differ g = search rules
+
+  -- ---- the steps
+  pub steps_refused : (m : Margin) (s r h : ℕ) (k : ℤ) → PassesSizes d t plans m → IsExponentOf d s → r ≡ bound_of m → h ≡ half_target t →
+      (step_count s r h ≤ 2 ^ 22 → ⊥) → k ≡ pos (step_count s r h) →
+      (e : Refusal) → e ≡ TooManySteps k → HasCause d t plans e
+  steps_refused m s r h k passes exponent f g refuted is e j = rw j (m, s, passes, exponent, rw (f, g) at (above (step_count s r h) refuted), rw (f, g) at is)
+    where
+      above : (n : ℕ) → (n ≤ 2 ^ 22 → ⊥) → 2 ^ 22 < n
+      above n refuted = omega (arith, refuted)
+
+  -- ---- the errors
+  pub sums_refused : (m : Margin) (s r : ℕ) (quantity : Quantity) → PassesSteps d t plans m s → r ≡ bound_of m → (error_size d r ≤ 2 ^ 126 → ⊥) → quantity ≡ Error →
+      (e : Refusal) → e ≡ TooWide quantity → HasCause d t plans e
+  sums_refused m s r quantity passes f refuted g e j = rw (j, g) (m, s, passes, rw f at (above (error_size d r) refuted))
+    where
+      above : (n : ℕ) → (n ≤ 2 ^ 126 → ⊥) → 2 ^ 126 < n
+      above n refuted = omega (arith, refuted)
+
+  pub choice_refused : (m : Margin) (s r limit : ℕ) (sums : errors.ErrorSums) (eps : ℤ) → PassesSteps d t plans m s → r ≡ bound_of m → limit ≡ error_limit t (bound_of m) →
+      error_size d r ≤ 2 ^ 126 → sums ≡ error_sums_of d r → limit < epsilon sums 48 → eps ≡ pos (epsilon sums 48) →
+      (e : Refusal) → e ≡ TooFine eps → HasCause d t plans e
+  choice_refused m s r limit sums eps passes f g size k fine is e j = rw j (m, s, passes, rw f at size, rw (k, f, g) at fine, rw (k, f) at is)
+
+  -- ---- the gains and the width
+  pub solve_refused : (m : Margin) (s f : ℕ) → PassesBits d t plans m s f → (fault : SolveFault) → IsFault fault (2 ^ 126 < descent_size d f) →
+      (e : Refusal) → e ≡ of_solve fault → IsRefused d t plans e
+  solve_refused m s f passes solve_memory h e j = inl j
+  solve_refused m s f passes (solve_wide quantity) h e j = rw (j, h.0) (inr (m, s, f, passes, h.1))
+
+  pub width_refused : (m : Margin) (s f : ℕ) (r k : ℕ) → PassesBits d t plans m s f → descent_size d f ≤ 2 ^ 126 → r ≡ bound_of m →
+      k ≡ step_count s (bound_of m) (half_target t) → (fault : WidthFault) → IsWidthFault fault (2 ^ 126 < width_size d r s k f) →
+      (e : Refusal) → e ≡ of_width fault → IsRefused d t plans e
+  width_refused m s f r k passes size g i width_memory h e j = inl j
+  width_refused m s f r k passes size g i (width_wide quantity) h e j = rw (j, h.0) (inr (m, s, f, passes, size, rw (g, i) at h.1))
+
+-- a choice, by other names of its numbers
+pub choice_same : (sums other : errors.ErrorSums) (low from limit most f : ℕ) → sums ≡ other → low ≡ from → limit ≡ most → IsChoice sums low limit f → IsChoice other from most f
+choice_same sums other low from limit most f e g h is = record {
+  from = rw g at is.from;
+  to = is.to;
+  within = rw (e, h) at is.within;
+  least = λ k l n. rw (e, h) at (is.least k (rw g l) n);
+}
+
+pub no_error : (x : StepExponents) (fault : CurvatureFault) → IsErrOf {T = StepExponents} {E = CurvatureFault} (Ok x) fault → ⊥
+no_error x fault g = search rules

@@ -1,0 +1,83 @@
+-- The bounds are within the design's targets.
+use Rattle.std.proofs.Common.{◌≡◌, ℕ, zero, suc, ◌+◌, ◌*◌, ◌/◌, ◌^◌, ◌<◌, ◌≤◌, ℤ, pos, negsuc, ◌*ℤ◌, ◌≤ℤ◌, unsigned_abs, arith, refl}
+use Rattle.std.proofs.lemmas.Int.{ints}
+use Rattle.std.proofs.lemmas.Nat.{pow_pos}
+use Rattle.std.proofs.Math.Nat.{mul-le-mul_left, mul-le-mul_right, div-mul-le_self}
+use Rattle.integer_algebra.specs.Division.{ceil_div}
+use Rattle.integer_algebra.proofs.DivisionLaws.{le-mul-ceil_div, ceil_div-le}
+use Rattle.qp_model.specs.Choices.{step_count, violation_bound}
+use Rattle.qp_model.specs.Parts.{design_of}
+use Rattle.design_engine.specs.Targets.{targets_of, half_target}
+use Rattle.design_engine.specs.Bounds.{margin_of, bound_of, errors_cost}
+use Rattle.design_engine.specs.Promise.{TargetsLaw}
+
+-- a divisor that is not too large leaves a quotient of at least 1
+pub quotient_some : (a d : ℕ) → 1 ≤ d → d ≤ a → 1 ≤ a / d
+quotient_some a d h k = more (a / d) (omega arith) k
+  where
+    more : (q : ℕ) → a < d * (q + 1) → d ≤ a → 1 ≤ q
+    more zero l m = absurd (omega (arith, l))
+    more (suc q) l m = omega arith
+
+-- after the chosen steps the first part of the violation is at most the half target
+steps_enough : (a h : ℕ) → 1 ≤ a → 1 ≤ h → ceil_div a (ceil_div a h) ≤ h
+steps_enough a h o l =
+    let e = le-mul-ceil_div a h l in
+    let some : 0 < ceil_div a h = positive a h (ceil_div a h) o e in
+    ceil_div-le a (ceil_div a h) h some (omega (arith, e))
+  where
+    positive : (a h k : ℕ) → 1 ≤ a → a ≤ h * k → 0 < k
+    positive a h zero o e = absurd (omega (arith, e))
+    positive a h (suc k) o e = omega arith
+
+-- both parts
+pub halves : (s r h e : ℕ) → 1 ≤ r → 1 ≤ h → e ≤ r * h → violation_bound s r (step_count s r h) e ≤ 2 * h
+halves s r h e o l k =
+    let some : 0 < 2 ^ (s + 41) = pow_pos (s + 41) in
+    let whole : 1 ≤ 2 ^ (s + 41) * r = omega (arith, mul-le-mul_left (2 ^ (s + 41)) o, some) in
+    omega (arith, steps_enough (2 ^ (s + 41) * r) h whole l, ceil_div-le e r h (omega arith) k)
+
+-- a bound over 2^40 that is at most a target's, as the law says it
+as_targets : (bound : ℤ) (n den target : ℕ) → bound ≡ pos n → n * den ≤ 2 ^ 40 * target → (bound *ℤ pos den) ≤ℤ (pos (2 ^ 40) *ℤ pos target)
+as_targets bound n den target e l = rw e (omega (arith, ints, l))
+
+-- half a target, twice, times its denominator
+twice_half : (n h v d : ℕ) → n ≤ 2 * h → h ≡ 2 ^ 39 * v / d → n * d ≤ 2 ^ 40 * v
+twice_half n h v d l e =
+    let f : h * d ≤ 2 ^ 39 * v = rw e (div-mul-le_self (2 ^ 39 * v) d) in
+    omega (arith, mul-le-mul_right d l, f)
+
+-- a whole target, times its denominator
+whole_target : (n v d : ℕ) → n ≤ 2 ^ 40 * v / d → n * d ≤ 2 ^ 40 * v
+whole_target n v d l = omega (arith, mul-le-mul_right d l, div-mul-le_self (2 ^ 40 * v) d)
+
+-- a positive number, by its size
+pub some_of : (z : ℤ) → pos 1 ≤ℤ z → 1 ≤ unsigned_abs z
+some_of z h = omega (arith, ints)
+
+pub size_of : (z : ℤ) (n : ℕ) → pos 1 ≤ℤ z → z ≤ℤ pos n → unsigned_abs z ≤ n
+size_of z n h k = omega (arith, ints)
+
+pub targets_law : TargetsLaw
+targets_law p c b h = record {
+  violation = as_targets b.violation _ (unsigned_abs p.target_den) (unsigned_abs p.violation) h.bounds.violation
+      (twice_half _ (half_target (targets_of p)) (unsigned_abs p.violation) (unsigned_abs p.target_den) (rw h.steps parts) refl);
+  gap = as_targets b.gap _ (unsigned_abs p.target_den) (unsigned_abs p.gap) h.bounds.gap
+      (whole_target _ (unsigned_abs p.gap) (unsigned_abs p.target_den) (omega (arith, h.errors)));
+}
+  where
+    r : ℕ
+    r = bound_of (margin_of b)
+
+    e : ℕ
+    e = errors_cost (design_of p) (bound_of (margin_of b)) c.fraction_bits
+
+    den : 1 ≤ unsigned_abs p.target_den
+    den = some_of p.target_den h.design.target_den.low
+
+    half_some : 1 ≤ half_target (targets_of p)
+    half_some = quotient_some (2 ^ 39 * unsigned_abs p.violation) (unsigned_abs p.target_den) den
+        (omega (arith, size_of p.target_den (2 ^ 20) h.design.target_den.low h.design.target_den.high, some_of p.violation h.design.violation.low))
+
+    parts : violation_bound c.step_exponent r (step_count c.step_exponent r (half_target (targets_of p))) e ≤ 2 * half_target (targets_of p)
+    parts = halves c.step_exponent r (half_target (targets_of p)) e (omega arith) half_some (omega (arith, h.errors))

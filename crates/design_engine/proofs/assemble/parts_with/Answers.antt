@@ -1,0 +1,14 @@
+use Rattle.std.proofs.Common.{◌≡◌, FitsSigned, rules, refl, arith}
+use Rattle.std.specs.Int.{w128}
+use Rattle.std.proofs.lemmas.Int.{to_z-of_z}
+use Rattle.std.proofs.lemmas.List.Elements.{same_from_all_zip}
+use Rattle.design_engine.proofs.Frames.{frame_from}
+use Rattle.design_engine.proofs.assemble.parts_with.Goals as goal
+
+pub returns-clause-frame : goal.returns-clause-frame
+returns-clause-frame c = λ r e.
+    let f : FitsSigned w128 c.args.chosen.clamp = search rules in
+    let lo : c.in_ok-clone.field-0.items ≡ c.args.parts.now.lo.items = same_from_all_zip _ _ _ c.in_ok-clone.ensures.cases.0 (λ x y h. h) in
+    let hi : c.in_ok-clone-2.field-0.items ≡ c.args.parts.now.hi.items = same_from_all_zip _ _ _ c.in_ok-clone-2.ensures.cases.0 (λ x y h. h) in
+    rw (to_z-of_z w128 _ f) (frame_from c.args.parts.now r c.args.chosen.s c.args.chosen.steps c.args.chosen.f _ c.args.rows c.requires.design c.requires.rows
+    refl refl refl c.rows-m.ensures.count refl refl refl refl e (omega (arith, c.rows-m.ensures.count, c.cols-nu.ensures)) lo hi refl refl refl)

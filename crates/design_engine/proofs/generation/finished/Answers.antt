@@ -1,0 +1,62 @@
+use Rattle.std.proofs.Common.{rules, ◌≡◌, ◌≤◌, ◌^◌, ◌*◌, ℕ, ℤ, pos, ◌≤ℤ◌, unsigned_abs, arith, ap, refl, ◌∙◌, to_z, of_z}
+use Rattle.std.specs.Int.{w128}
+use Rattle.std.proofs.lemmas.Int.{ints, to_z-of_z}
+use mir.Val.{SFits}
+use Rattle.qp_model.specs.Parts.{design_of}
+use Rattle.design_engine.specs.Targets.{targets_of, half_target, error_limit}
+use Rattle.design_engine.specs.Bounds.{bound_of}
+use Rattle.design_engine.proofs.RefusalFacts.{refused_by, solve_refused, width_refused}
+use Rattle.design_engine.proofs.GenerationFacts.{half_some, half_small, limit_small, bound_some, steps_some, undercut_small, whole_is, at_most}
+use Rattle.design_engine.proofs.BuiltFacts.{built_from}
+use Rattle.design_engine.proofs.generation.finished.Goals as goal
+
+pub returns-in_err-gains-clause-refused : goal.returns-in_err-gains-clause-refused
+returns-in_err-gains-clause-refused c plans passes =
+    refused_by c.from_residual.result _ _ c.from_residual.ensures.1
+    (solve_refused _ _ plans c.args.scaled.now.margin c.args.scaled.now.s c.args.plan.now.choice.f passes _ (c.in_err-gains.ensures.wide _ c.requires.form))
+
+pub controller_of-requires-clause-gains : goal.controller_of-requires-clause-gains
+controller_of-requires-clause-gains c = c.in_ok-gains.ensures.solved _ c.requires.form
+
+pub controller_of-requires-clause-room : goal.controller_of-requires-clause-room
+controller_of-requires-clause-room c = c.in_ok-gains.ensures.fits _ c.requires.form
+
+pub controller_of-requires-clause-steps : goal.controller_of-requires-clause-steps
+controller_of-requires-clause-steps c =
+    let some = steps_some c.args.scaled.now.s (bound_of c.args.scaled.now.margin) _ (bound_some c.args.scaled.now.margin) (half_some c.args.design.now.parts c.requires.form.design) in
+    (rw c.requires.steps some, c.requires.few)
+
+pub returns-in_err-controller-clause-refused : goal.returns-in_err-controller-clause-refused
+returns-in_err-controller-clause-refused c plans passes =
+    let r : SFits w128 c.args.scaled.now.r = search rules in
+    refused_by c.from_residual-in_err-controller.result _ _ c.from_residual-in_err-controller.ensures.1
+    (width_refused _ _ plans c.args.scaled.now.margin c.args.scaled.now.s c.args.plan.now.choice.f _ _ passes (c.in_ok-gains.ensures.fits _ c.requires.form)
+    (whole_is c.args.scaled.now.r _ r c.requires.multiplier) c.requires.steps _ c.in_err-controller.ensures.wide)
+
+pub bounds_of-bounds-requires-clause-small : goal.bounds_of-bounds-requires-clause-small
+bounds_of-bounds-requires-clause-small c =
+    at_most _ _ c.requires.cost c.requires.choice.within (limit_small c.args.design.now.parts (bound_of c.args.scaled.now.margin) c.requires.form.design)
+
+pub bounds_of-bounds-requires-clause-fits : goal.bounds_of-bounds-requires-clause-fits
+bounds_of-bounds-requires-clause-fits c = rw (c.requires.steps, c.requires.cost)
+    (undercut_small c.args.scaled.now.s (bound_of c.args.scaled.now.margin) (half_target (targets_of c.args.design.now.parts)) _
+    (bound_some c.args.scaled.now.margin) c.requires.narrow (half_some c.args.design.now.parts c.requires.form.design)
+    (half_small c.args.design.now.parts c.requires.form.design) (omega (arith, c.requires.choice.within)))
+
+pub returns-clause-built : goal.returns-clause-built
+returns-clause-built c plans policy passes =
+    let r : SFits w128 c.args.scaled.now.r = search rules in
+    let made = c.in_ok-controller.ensures.made in
+    built_from c.args.design.now.parts plans c.in_ok-controller.controller c.bounds_of-bounds.result c.args.scaled.now.margin _ _ _ _
+    c.requires.form.design policy passes c.requires.curved (whole_is c.args.scaled.now.r _ r c.requires.multiplier) c.requires.steps c.bounds_of-bounds.ensures.margin
+    (search rules) made
+    (c.bounds_of-bounds.ensures.bounds (design_of c.args.design.now.parts) c.requires.cost made.step_exponent made.steps made.fraction_bits)
+
+pub returns-clause-passes : goal.returns-clause-passes
+returns-clause-passes c plans passes =
+    let r : SFits w128 c.args.scaled.now.r = search rules in
+    record {
+      before = passes;
+      descent = c.in_ok-gains.ensures.fits _ c.requires.form;
+      width = rw (whole_is c.args.scaled.now.r _ r c.requires.multiplier, c.requires.steps) at c.in_ok-controller.ensures.fits;
+    }

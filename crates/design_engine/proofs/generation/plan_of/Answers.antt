@@ -1,0 +1,83 @@
+use Rattle.std.proofs.Common.{rules, ◌≡◌, ℕ, pos, unsigned_abs, ap, ◌∙◌, ◌≤◌, arith, refl, to_z, of_z}
+use Rattle.std.specs.Int.{w128}
+use Rattle.std.proofs.lemmas.Int.{ints, to_z-of_z}
+use mir.Val.{SFits}
+use Rattle.qp_model.specs.Errors.{ErrorSums, epsilon}
+use Rattle.step_error.specs.ErrorSums.{sums_of}
+use Rattle.qp_model.specs.declared.design_parts.DesignParts.{DesignParts}
+use Rattle.design_engine.proofs.RefusalFacts.{refused_by, steps_refused, sums_refused, choice_refused, choice_same}
+use Rattle.design_engine.proofs.GenerationFacts.{half_some, limit_some, bound_some, whole_is, whole_some}
+use Rattle.design_engine.proofs.generation.plan_of.Goals as goal
+
+pub steps-requires-clause-target : goal.steps-requires-clause-target
+steps-requires-clause-target c =
+    let f : SFits w128 c.half_target.result = search rules in
+    whole_some c.half_target.result _ f c.half_target.ensures (half_some c.parts-parts.result.now c.parts-parts.ensures.sound)
+
+pub returns-in_err-steps-clause-refused : goal.returns-in_err-steps-clause-refused
+returns-in_err-steps-clause-refused c plans passes =
+    let r : SFits w128 c.args.scaled.now.r = search rules in
+    let h : SFits w128 c.half_target.result = search rules in
+    refused_by c.from_residual.result _ _ c.from_residual.ensures.1
+    (steps_refused _ _ plans c.args.scaled.now.margin c.args.scaled.now.s _ _ _ passes c.requires.exponent
+    (whole_is c.args.scaled.now.r _ r c.requires.multiplier) (whole_is c.half_target.result _ h (rw c.parts-parts.ensures.value at c.half_target.ensures))
+    c.in_err-steps.ensures.value c.in_err-steps.ensures.told)
+
+pub returns-in_err-sums-clause-refused : goal.returns-in_err-sums-clause-refused
+returns-in_err-sums-clause-refused c plans passes =
+    let r : SFits w128 c.args.scaled.now.r = search rules in
+    let h : SFits w128 c.half_target.result = search rules in
+    let count = rw (whole_is c.args.scaled.now.r _ r c.requires.multiplier, whole_is c.half_target.result _ h (rw c.parts-parts.ensures.value at c.half_target.ensures))
+    at c.in_ok-steps.ensures.value in
+    refused_by c.from_residual-in_err-sums.result _ _ c.from_residual-in_err-sums.ensures.1
+    (sums_refused _ _ plans c.args.scaled.now.margin c.args.scaled.now.s _ _ (record { before = passes; exponent = c.requires.exponent; steps = count.0 })
+    (whole_is c.args.scaled.now.r _ r c.requires.multiplier) c.in_err-sums.ensures.value c.in_err-sums.ensures.named)
+
+pub choose_bits-requires-clause-some : goal.choose_bits-requires-clause-some
+choose_bits-requires-clause-some c =
+    let r : SFits w128 c.args.scaled.now.r = search rules in
+    let l : SFits w128 c.error_limit.result = search rules in
+    whole_some c.error_limit.result _ l c.error_limit.ensures (limit_some c.parts-parts.result.now _ c.parts-parts.ensures.sound
+    (rw (whole_is c.args.scaled.now.r _ r c.requires.multiplier) (bound_some c.args.scaled.now.margin)))
+
+pub returns-in_err-choice-clause-refused : goal.returns-in_err-choice-clause-refused
+returns-in_err-choice-clause-refused c plans passes =
+    let r : SFits w128 c.args.scaled.now.r = search rules in
+    let h : SFits w128 c.half_target.result = search rules in
+    let l : SFits w128 c.error_limit.result = search rules in
+    let bound = whole_is c.args.scaled.now.r _ r c.requires.multiplier in
+    let count = rw (bound, whole_is c.half_target.result _ h (rw c.parts-parts.ensures.value at c.half_target.ensures)) at c.in_ok-steps.ensures.value in
+    let limit = whole_is c.error_limit.result _ l (rw (c.parts-parts.ensures.value, bound) at c.error_limit.ensures) in
+    refused_by c.from_residual-in_err-choice.result _ _ c.from_residual-in_err-choice.ensures.1
+    (choice_refused _ _ plans c.args.scaled.now.margin c.args.scaled.now.s _ _ (sums_of c.in_ok-sums.sums) _
+    (record { before = passes; exponent = c.requires.exponent; steps = count.0 }) bound limit c.in_ok-sums.ensures.value.0
+    (ap sums_of c.in_ok-sums.ensures.value.1) (c.in_err-choice.ensures.fine.0 refl) c.in_err-choice.ensures.told)
+
+pub returns-clause-passes : goal.returns-clause-passes
+returns-clause-passes c plans passes =
+    let r : SFits w128 c.args.scaled.now.r = search rules in
+    let h : SFits w128 c.half_target.result = search rules in
+    let l : SFits w128 c.error_limit.result = search rules in
+    let bound = whole_is c.args.scaled.now.r _ r c.requires.multiplier in
+    let count = rw (bound, whole_is c.half_target.result _ h (rw c.parts-parts.ensures.value at c.half_target.ensures)) at c.in_ok-steps.ensures.value in
+    let limit = whole_is c.error_limit.result _ l (rw (c.parts-parts.ensures.value, bound) at c.error_limit.ensures) in
+    record {
+      before = record { before = passes; exponent = c.requires.exponent; steps = count.0 };
+      error = rw bound at c.in_ok-sums.ensures.value.0;
+      choice = choice_same _ _ _ _ _ _ c.in_ok-choice.choice.f (rw bound at (ap sums_of c.in_ok-sums.ensures.value.1))
+          (ap (λ (p : DesignParts). p.grid) c.parts-parts.ensures.value) limit c.in_ok-choice.ensures.choice;
+    }
+
+pub returns-clause-steps : goal.returns-clause-steps
+returns-clause-steps c =
+    let r : SFits w128 c.args.scaled.now.r = search rules in
+    let h : SFits w128 c.half_target.result = search rules in
+    let count = rw (whole_is c.args.scaled.now.r _ r c.requires.multiplier, whole_is c.half_target.result _ h (rw c.parts-parts.ensures.value at c.half_target.ensures))
+    at c.in_ok-steps.ensures.value in
+    count.1
+
+pub returns-clause-cost : goal.returns-clause-cost
+returns-clause-cost c =
+    let r : SFits w128 c.args.scaled.now.r = search rules in
+    c.in_ok-choice.ensures.cost ∙ ap (λ (sums : ErrorSums). pos (epsilon sums c.in_ok-choice.choice.f))
+    (rw (whole_is c.args.scaled.now.r _ r c.requires.multiplier) at (ap sums_of c.in_ok-sums.ensures.value.1))

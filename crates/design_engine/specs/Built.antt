@@ -1,0 +1,40 @@
+-- A controller and its bounds as they are made of a design and a policy. All but the gains, and the width that follows from them, is a function
+-- of these two.
+use Rattle.std.specs.Prelude.{◌≡◌, ℕ, ◌≤◌, pos, ◌≤ℤ◌}
+use Rattle.qp_model.specs.Design.{Design}
+use Rattle.qp_model.specs.Parts.{IsDesign, design_of}
+use Rattle.qp_model.specs.Policy.{Plans, IsPolicyFor}
+use Rattle.qp_model.specs.Margin.{IsMargin}
+use Rattle.qp_model.specs.Choices.{step_count}
+use Rattle.qp_model.specs.Errors.{error_sums_of}
+use Rattle.qp_model.specs.Built.{IsMadeFor}
+use Rattle.qp_model.specs.Controller.{Numbers}
+use Rattle.qp_model.specs.AbsoluteSums.{IsController, greatest_sum}
+use Rattle.qp_model.specs.declared.design_parts.DesignParts.{DesignParts}
+use Rattle.qp_model.specs.declared.bounds.Bounds.{Bounds}
+use Rattle.overflow_check.specs.Width.{IsWidth}
+use Rattle.hessian_check.specs.Steps.{IsPlainExponent, IsStepExponent}
+use Rattle.bit_choice.specs.Choice.{IsChoice}
+use Rattle.design_engine.specs.Targets.{targets_of, half_target, error_limit}
+use Rattle.design_engine.specs.Bounds.{margin_of, bound_of, AreBoundsOf}
+
+-- s is the step exponent of the design: the least number whose certificate the recipe finds, or the plain exponent, which is at most 40
+pub record IsExponentOf (d : Design) (s : ℕ) : Type 0 where
+  pub plain : ℕ
+  pub is_plain : IsPlainExponent d plain
+  pub limit : plain ≤ 40
+  pub is_step : IsStepExponent d plain s
+
+-- the controller and the bounds are those of a design and a policy
+pub record IsBuilt (p : DesignParts) (plans : Plans) (c : Numbers) (b : Bounds) : Type 0 where
+  pub design : IsDesign p
+  pub policy : IsPolicyFor (design_of p) plans
+  pub margin : IsMargin (design_of p) plans (margin_of b)
+  pub slack : pos 1 ≤ℤ b.margin
+  pub controller : IsController c
+  pub made : IsMadeFor (design_of p) (bound_of (margin_of b)) c
+  pub exponent : IsExponentOf (design_of p) c.step_exponent
+  pub steps : c.steps ≡ step_count c.step_exponent (bound_of (margin_of b)) (half_target (targets_of p))
+  pub bits : IsChoice (error_sums_of (design_of p) (bound_of (margin_of b))) (design_of p).grid (error_limit (targets_of p) (bound_of (margin_of b))) c.fraction_bits
+  pub width : IsWidth (greatest_sum c) c.width
+  pub bounds : AreBoundsOf (design_of p) c b

@@ -1,0 +1,10 @@
+pub mod Targets
+pub mod Bounds
+pub mod Promise
+pub mod Widest
+pub mod Fault
+pub mod Assembled
+pub mod Built
+pub mod Refusals
+pub mod Order
+pub mod Faults

@@ -1,0 +1,216 @@
+// From a design and a policy to a controller and its bounds.
+ghost use Rattle.std.specs.Prelude.{◌≡◌, ◌⊎◌, ◌≤◌, ◌≤ℤ◌, ◌^◌, ℕ, pos, unsigned_abs, IfOk, IfErr, IsOk, OnOk, Err};
+ghost use Rattle.qp_model.specs.Design as model;
+ghost use Rattle.qp_model.specs.Parts.{IsDesign, design_of};
+ghost use Rattle.qp_model.specs.Policy.{Plans, plans_of, IsPolicyFor};
+ghost use Rattle.qp_model.specs.Curvature.{IsExponent};
+ghost use Rattle.qp_model.specs.Choices.{step_count, violation_bound, undercut_bound};
+ghost use Rattle.qp_model.specs.Errors.{error_sums_of};
+ghost use Rattle.qp_model.specs.Certified.{IsCertified};
+ghost use Rattle.qp_model.specs.declared.bounds.Margin.{Margin};
+ghost use Rattle.plant_condense.specs.Form.{IsFormOf};
+ghost use Rattle.bit_choice.specs.Choice.{IsChoice};
+ghost use Rattle.design_engine.specs.Targets.{targets_of, half_target, gap_target, error_limit, IsWithinTargets};
+ghost use Rattle.design_engine.specs.Bounds.{margin_of, bound_of, errors_cost, AreBoundsOf};
+ghost use Rattle.design_engine.specs.Built.{IsBuilt, IsExponentOf};
+ghost use Rattle.design_engine.specs.Refusals.{HasCause, IsRefused, PassesSizes, PassesBits, PassesAll};
+
+use crate::assemble::controller_of;
+use crate::refusal::Refusal;
+use approx_inverse::solve_all;
+use bit_choice::{Choice, choose_bits};
+use dual_bounds::{multiplier, steps, undercut, violation};
+use hessian_check::curvature;
+use overflow_check::Controller;
+use plant_condense::{Condensed, condense};
+use qp_model::{Bounds, Design, DesignParts, Margin, Policy};
+use slater_margin::margins;
+use std::alloc::Global;
+use step_error::error_sums;
+
+/// A controller and its bounds.
+#[derive(Debug, Drop)]
+pub struct Made {
+    pub controller: Controller,
+    pub bounds: Bounds,
+}
+
+// A design's margin, R, its condensed form and its step exponent.
+#[derive(Drop)]
+struct Scaled {
+    margin: Margin,
+    r: i128,
+    condensed: Condensed,
+    s: u32,
+}
+
+// The number of steps, and the fraction bits with what the errors of a step cost.
+#[derive(Clone, Copy)]
+struct Plan {
+    steps: u32,
+    choice: Choice,
+}
+
+// Half the target of the violation, over `2^40`, rounded down.
+fn half_target(parts: &DesignParts) -> i128
+    requires { IsDesign parts.now }
+    ensures { result ≡ pos (half_target (targets_of parts.now)) }
+{
+    (parts.violation << 39) / parts.target_den
+}
+
+// The target of the gap, over `2^40`, rounded down.
+fn gap_target(parts: &DesignParts) -> i128
+    requires { IsDesign parts.now }
+    ensures { result ≡ pos (gap_target (targets_of parts.now)) }
+{
+    (parts.gap << 40) / parts.target_den
+}
+
+// What the errors of a step may cost, over `2^40`.
+fn error_limit(parts: &DesignParts, r: i128) -> i128
+    requires design { IsDesign parts.now }
+    requires some { pos 1 ≤ℤ r }
+    requires narrow { r ≤ℤ pos (2 ^ 44) }
+    ensures { result ≡ pos (error_limit (targets_of parts.now) (unsigned_abs r)) }
+{
+    gap_target(parts).min(r * half_target(parts))
+}
+
+// The first tests, up to the step exponent.
+fn scaled_of(alloc: Global, design: &Design, policy: &Policy) -> Result<Scaled, Refusal>
+    requires { IsPolicyFor (design_of design.now.parts) (plans_of policy.now) }
+    ensures passes { IfOk result (λ x. PassesSizes (design_of design.now.parts) (targets_of design.now.parts) (plans_of policy.now) x.margin) }
+    ensures multiplier { IfOk result (λ x. x.r ≡ pos (bound_of x.margin)) }
+    ensures form { IfOk result (λ x. IsFormOf design.now.parts x.condensed) }
+    ensures exponent { IfOk result (λ x. IsExponentOf (design_of design.now.parts) x.s) }
+    ensures curved { IfOk result (λ x. IsExponent (design_of design.now.parts) x.s) }
+    ensures refused { IfErr result (IsRefused (design_of design.now.parts) (targets_of design.now.parts) (plans_of policy.now)) }
+{
+    let margin = margins(alloc, design, policy)?;
+    let r = multiplier(&margin)?;
+    let condensed = condense(alloc, design)?;
+    let exponents = curvature(alloc, &condensed)?;
+    Ok(Scaled {
+        margin,
+        r,
+        condensed,
+        s: exponents.s,
+    })
+}
+
+// The number of steps and the fraction bits. It takes no memory.
+fn plan_of(design: &Design, scaled: &Scaled) -> Result<Plan, Refusal>
+    requires multiplier { scaled.now.r ≡ pos (bound_of scaled.now.margin) }
+    requires narrow { bound_of scaled.now.margin ≤ 2 ^ 44 }
+    requires form { IsFormOf design.now.parts scaled.now.condensed }
+    requires exponent { IsExponentOf (design_of design.now.parts) scaled.now.s }
+    ensures passes { (plans : Plans) → PassesSizes (design_of design.now.parts) (targets_of design.now.parts) plans scaled.now.margin →
+        IfOk result (λ x. PassesBits (design_of design.now.parts) (targets_of design.now.parts) plans scaled.now.margin scaled.now.s x.choice.f) }
+    ensures steps { IfOk result (λ x. x.steps ≡ step_count scaled.now.s (bound_of scaled.now.margin) (half_target (targets_of design.now.parts))) }
+    ensures cost { IfOk result (λ x. x.choice.eps ≡ pos (errors_cost (design_of design.now.parts) (bound_of scaled.now.margin) x.choice.f)) }
+    ensures refused { (plans : Plans) → PassesSizes (design_of design.now.parts) (targets_of design.now.parts) plans scaled.now.margin →
+        IfErr result (HasCause (design_of design.now.parts) (targets_of design.now.parts) plans) }
+{
+    let parts = design.parts();
+    let steps = steps(scaled.s, scaled.r, half_target(parts))?;
+    let sums = error_sums(&scaled.condensed, design, scaled.r)?;
+    let choice = choose_bits(&sums, parts.grid, error_limit(parts, scaled.r))?;
+    Ok(Plan { steps, choice })
+}
+
+// The bounds of a controller.
+fn bounds_of(scaled: &Scaled, plan: &Plan, controller: &Controller) -> Bounds
+    requires multiplier { scaled.now.r ≡ pos (bound_of scaled.now.margin) }
+    requires narrow { bound_of scaled.now.margin ≤ 2 ^ 44 }
+    requires exponent { scaled.now.s ≤ 40 }
+    requires steps { 1 ≤ plan.now.steps }
+    requires errors { pos 0 ≤ℤ plan.now.choice.eps }
+    requires small { plan.now.choice.eps ≤ℤ pos (2 ^ 114) }
+    requires fits { let r = bound_of scaled.now.margin in
+        undercut_bound r (violation_bound scaled.now.s r plan.now.steps (unsigned_abs plan.now.choice.eps)) ≤ 2 ^ 126 }
+    ensures margin { margin_of result ≡ scaled.now.margin }
+    ensures bounds { (d : model.Design) → plan.now.choice.eps ≡ pos (errors_cost d (bound_of scaled.now.margin) plan.now.choice.f) →
+        controller.now.step_exponent ≡ scaled.now.s → controller.now.steps ≡ plan.now.steps → controller.now.fraction_bits ≡ plan.now.choice.f →
+        AreBoundsOf d controller.now result }
+{
+    let (s, r, eps) = (scaled.s, scaled.r, plan.choice.eps);
+    let violation = violation(s, r, plan.steps, eps);
+    let parts = controller.parts();
+    Bounds {
+        margin: scaled.margin.units,
+        cost: scaled.margin.cost,
+        multiplier: r,
+        step: s,
+        steps: plan.steps,
+        bits: plan.choice.f,
+        width: parts.w,
+        words: parts.words,
+        violation,
+        gap: eps,
+        undercut: undercut(r, violation),
+    }
+}
+
+// The last tests, and the controller with its bounds.
+fn finished(alloc: Global, design: &Design, scaled: &Scaled, plan: &Plan) -> Result<Made, Refusal>
+    requires multiplier { scaled.now.r ≡ pos (bound_of scaled.now.margin) }
+    requires narrow { bound_of scaled.now.margin ≤ 2 ^ 44 }
+    requires form { IsFormOf design.now.parts scaled.now.condensed }
+    requires exponent { IsExponentOf (design_of design.now.parts) scaled.now.s }
+    requires curved { IsExponent (design_of design.now.parts) scaled.now.s }
+    requires steps { plan.now.steps ≡ step_count scaled.now.s (bound_of scaled.now.margin) (half_target (targets_of design.now.parts)) }
+    requires few { plan.now.steps ≤ 2 ^ 22 }
+    requires choice { IsChoice (error_sums_of (design_of design.now.parts) (bound_of scaled.now.margin)) (design_of design.now.parts).grid
+        (error_limit (targets_of design.now.parts) (bound_of scaled.now.margin)) plan.now.choice.f }
+    requires cost { plan.now.choice.eps ≡ pos (errors_cost (design_of design.now.parts) (bound_of scaled.now.margin) plan.now.choice.f) }
+    ensures built { (plans : Plans) → IsPolicyFor (design_of design.now.parts) plans →
+        PassesBits (design_of design.now.parts) (targets_of design.now.parts) plans scaled.now.margin scaled.now.s plan.now.choice.f →
+        IfOk result (λ made. IsBuilt design.now.parts plans made.controller made.bounds) }
+    ensures passes { (plans : Plans) →
+        PassesBits (design_of design.now.parts) (targets_of design.now.parts) plans scaled.now.margin scaled.now.s plan.now.choice.f →
+        OnOk result (PassesAll (design_of design.now.parts) (targets_of design.now.parts) plans scaled.now.margin scaled.now.s plan.now.choice.f) }
+    ensures refused { (plans : Plans) →
+        PassesBits (design_of design.now.parts) (targets_of design.now.parts) plans scaled.now.margin scaled.now.s plan.now.choice.f →
+        IfErr result (IsRefused (design_of design.now.parts) (targets_of design.now.parts) plans) }
+{
+    let gains = solve_all(alloc, &scaled.condensed, plan.choice.f)?;
+    let controller = controller_of(
+        alloc,
+        design,
+        &scaled.condensed,
+        scaled.s,
+        plan.choice.f,
+        plan.steps,
+        scaled.r,
+        gains,
+    )?;
+    let bounds = bounds_of(scaled, plan, &controller);
+    Ok(Made { controller, bounds })
+}
+
+/// The controller of a design with a policy, which has one plan for each corner of the box, and its bounds.
+///
+/// # Errors
+/// The first test that they fail, in this order: `TooWide` with `prediction`, `corner_slack` or `corner_cost`; `NoMargin`; `TooWide` with
+/// `multiplier`, `hessian`, `rows` or `curvature`; `Curvature`; `TooManySteps`; `TooWide` with `error`; `TooFine`; `TooWide` with `descent`
+/// or `width`. `Memory` where memory runs out before.
+pub fn generate(alloc: Global, design: &Design, policy: &Policy) -> Result<Made, Refusal>
+    requires { IsPolicyFor (design_of design.now.parts) (plans_of policy.now) }
+
+    // What is made, and what it is certified for.
+    ensures built { IfOk result (λ made. IsBuilt design.now.parts (plans_of policy.now) made.controller made.bounds) }
+    ensures certified { IfOk result (λ made. IsCertified (design_of design.now.parts) made.controller made.bounds) }
+    ensures targets { IfOk result (λ made. IsWithinTargets (targets_of design.now.parts) made.bounds) }
+
+    // The cause of a refusal; and the other way round, with nothing but want of memory in between.
+    ensures refused { IfErr result (λ e. (e ≡ Refusal.Memory) ⊎ HasCause (design_of design.now.parts) (targets_of design.now.parts) (plans_of policy.now) e) }
+    ensures every_refusal { (e : Refusal) → HasCause (design_of design.now.parts) (targets_of design.now.parts) (plans_of policy.now) e
+        → (result ≡ Err e) ⊎ (result ≡ Err Refusal.Memory) }
+    ensures accepted { (m : Margin) (s f : ℕ) → PassesAll (design_of design.now.parts) (targets_of design.now.parts) (plans_of policy.now) m s f
+        → IsOk result ⊎ (result ≡ Err Refusal.Memory) }
+{
+    let scaled = scaled_of(alloc, design, policy)?;
+    let plan = plan_of(design, &scaled)?;
+    finished(alloc, design, &scaled, &plan)
+}

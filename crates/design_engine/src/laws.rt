@@ -1,0 +1,20 @@
+// What a controller that is made for a design promises, why its bounds meet the design's targets, and that a refusal has one cause.
+ghost use Rattle.design_engine.specs.Order.{CausesLaw, PassingLaw};
+ghost use Rattle.design_engine.specs.Promise.{CertifiedLaw, TargetsLaw};
+
+/// A controller that is made for a design, with the margin of a policy, keeps the whole promise of the bounds that are printed of
+/// it, at every state of the box.
+pub fn certified_law()
+    ensures { CertifiedLaw }
+{}
+
+/// With the steps and the errors that the targets ask for, the printed violation and gap are at most the targets.
+pub fn targets_law()
+    ensures { TargetsLaw }
+{}
+
+/// A design with a policy has at most one refusal with a cause, and none where it passes every test.
+pub fn causes_law()
+    ensures one { CausesLaw }
+    ensures none { PassingLaw }
+{}

@@ -1,0 +1,20 @@
+//! The generator: from a design and a policy to a controller and its bounds, and why the controller keeps them.
+#![tactic(auto)]
+
+mod assemble;
+mod fault;
+mod generation;
+mod laws;
+mod refusal;
+mod refused;
+mod rounding;
+mod widest;
+
+pub use assemble::controller_of;
+pub use fault::WidthFault;
+pub use generation::{Made, generate};
+pub use laws::{causes_law, certified_law, targets_law};
+pub use refusal::Refusal;
+
+#[cfg(test)]
+mod tests;

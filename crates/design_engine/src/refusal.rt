@@ -1,0 +1,25 @@
+use frac_scaled::Frac;
+use qp_model::Quantity;
+use thiserror::Error;
+
+/// Why a design with a policy has no controller.
+#[derive(Clone, Copy, Debug, PartialEq, Eq, Error)]
+pub enum Refusal {
+    #[error("memory")]
+    Memory,
+    /// The plan of that corner has less slack than `2^-16` in that row, both counted from 1; it is the first.
+    #[error("no margin")]
+    NoMargin { corner: u32, row: u32, slack: Frac },
+    /// No exponent of the step is at most 40.
+    #[error("curvature")]
+    Curvature,
+    /// A run would need `k` steps, more than 4194304.
+    #[error("too many steps")]
+    TooManySteps { k: i128 },
+    /// The errors of a step cost `eps` over `2^40` with the most bits, which is more than the targets leave.
+    #[error("too fine")]
+    TooFine { eps: i128 },
+    /// The quantity is above `2^126`.
+    #[error("too wide")]
+    TooWide { quantity: Quantity },
+}
