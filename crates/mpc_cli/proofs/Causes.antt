@@ -1,13 +1,17 @@
--- What the files hold decides the answer: the causes exclude one another.
-use Rattle.std.proofs.Common.{◌≡◌, ◌⊎◌, inl, inr, ℕ, zero, suc, ◌<◌, ◌≤◌, ℤ, List, length, Option, Some, None, IfSome, IsSomeAnd, refl, sym, subst, arith}
+-- What the words and the files hold decides the answer: the causes exclude one another.
+use Rattle.std.proofs.Common.{◌≡◌, inl, inr, ℕ, ℤ, List, length, Option, Some, None, sym, ap, ◌∙◌, subst, arith}
+use Rattle.std.specs.Prelude.{IsSomeAnd, codes}
 use Rattle.io_edge.specs.Faults.{Files}
 use Rattle.qp_model.specs.Controller.{Numbers}
 use Rattle.controller_file.proofs.Uniqueness.{one_controller}
-use Rattle.mpc_cli.specs.Words.{word_of, IsSolve}
-use Rattle.mpc_cli.specs.Solve.{file_limit, HoldsController, HoldsState, NoController, NoState, HoldsBoth, HoldsFirst, HoldsPlan, FilesCause, Refuses, Causes}
+use Rattle.mpc_cli.specs.Words.{word_of, IsSolve, AsksToGenerate, IsGenerate, IsJson, IsTextGenerate}
+use Rattle.mpc_cli.specs.Solve.{HoldsController, HoldsState, NoController, NoState, HoldsBoth, HoldsFirst, SolveCause}
+use Rattle.mpc_cli.specs.Generate.{GenerateCause}
+use Rattle.mpc_cli.specs.Causes.{Causes, WordsCause}
 use Rattle.mpc_cli.specs.declared.status.Status.{Status}
-use Rattle.mpc_cli.specs.declared.status.Status.TheVariants.{Done, Memory, ReadFault, WriteFault, Unbuilt}
+use Rattle.mpc_cli.specs.declared.status.Status.TheVariants.{Usage, Unbuilt}
 
+-- ---- the files of `solve`
 -- no bytes hold a controller and none
 clash_first : (o : Option (List ℕ)) (c : Numbers) → IsSomeAnd o (λ bytes. HoldsController bytes c) → IsSomeAnd o NoController → ⊥
 clash_first (Some bytes) c holds (inl long) = omega (arith, holds.short, long)
@@ -31,73 +35,70 @@ both_clash files first second c d xi holds lacks =
     clash_second (files second) c xi holds.state (subst (λ (x : Numbers). IsSomeAnd (files second) (NoState x)) e lacks.state)
 
 -- of two causes in the files
-files_exclusive : (files : Files) (first second : List ℕ) (t s : Status) → FilesCause files first second t → FilesCause files first second s → t ≡ s
-files_exclusive files first second Done Done h k = refl
-files_exclusive files first second Done (Unbuilt zero) h k = absurd k
-files_exclusive files first second Done (Unbuilt (suc zero)) h k = absurd (clash_first (files first) h.0 h.2.controller k)
-files_exclusive files first second Done (Unbuilt (suc (suc zero))) h k = absurd (both_clash files first second h.0 k.0 h.1 h.2 k.1)
-files_exclusive files first second Done (Unbuilt (suc (suc (suc part)))) h k = absurd k
-files_exclusive files first second Done Memory h k = absurd k
-files_exclusive files first second Done (ReadFault file) h k = absurd k
-files_exclusive files first second Done (WriteFault file) h k = absurd k
-files_exclusive files first second (Unbuilt zero) s h k = absurd h
-files_exclusive files first second (Unbuilt (suc zero)) Done h k = absurd (clash_first (files first) k.0 k.2.controller h)
-files_exclusive files first second (Unbuilt (suc zero)) (Unbuilt zero) h k = absurd k
-files_exclusive files first second (Unbuilt (suc zero)) (Unbuilt (suc zero)) h k = refl
-files_exclusive files first second (Unbuilt (suc zero)) (Unbuilt (suc (suc zero))) h k = absurd (clash_first (files first) k.0 k.1.controller h)
-files_exclusive files first second (Unbuilt (suc zero)) (Unbuilt (suc (suc (suc part)))) h k = absurd k
-files_exclusive files first second (Unbuilt (suc zero)) Memory h k = absurd k
-files_exclusive files first second (Unbuilt (suc zero)) (ReadFault file) h k = absurd k
-files_exclusive files first second (Unbuilt (suc zero)) (WriteFault file) h k = absurd k
-files_exclusive files first second (Unbuilt (suc (suc zero))) Done h k = absurd (both_clash files first second k.0 h.0 k.1 k.2 h.1)
-files_exclusive files first second (Unbuilt (suc (suc zero))) (Unbuilt zero) h k = absurd k
-files_exclusive files first second (Unbuilt (suc (suc zero))) (Unbuilt (suc zero)) h k = absurd (clash_first (files first) h.0 h.1.controller k)
-files_exclusive files first second (Unbuilt (suc (suc zero))) (Unbuilt (suc (suc zero))) h k = refl
-files_exclusive files first second (Unbuilt (suc (suc zero))) (Unbuilt (suc (suc (suc part)))) h k = absurd k
-files_exclusive files first second (Unbuilt (suc (suc zero))) Memory h k = absurd k
-files_exclusive files first second (Unbuilt (suc (suc zero))) (ReadFault file) h k = absurd k
-files_exclusive files first second (Unbuilt (suc (suc zero))) (WriteFault file) h k = absurd k
-files_exclusive files first second (Unbuilt (suc (suc (suc part)))) s h k = absurd h
-files_exclusive files first second Memory s h k = absurd h
-files_exclusive files first second (ReadFault file) s h k = absurd h
-files_exclusive files first second (WriteFault file) s h k = absurd h
+pub solve_decided : (files : Files) (first second : List ℕ) (t s : Status) → SolveCause files first second t → SolveCause files first second s → t ≡ s
+solve_decided files first second t s (inl h) (inl k) = h.0 ∙ sym k.0
+solve_decided files first second t s (inl h) (inr (inl k)) = absurd (clash_first (files first) h.1 h.3.controller k.1)
+solve_decided files first second t s (inl h) (inr (inr k)) = absurd (both_clash files first second h.1 k.1 h.2 h.3 k.2)
+solve_decided files first second t s (inr (inl h)) (inl k) = absurd (clash_first (files first) k.1 k.3.controller h.1)
+solve_decided files first second t s (inr (inl h)) (inr (inl k)) = h.0 ∙ sym k.0
+solve_decided files first second t s (inr (inl h)) (inr (inr k)) = absurd (clash_first (files first) k.1 k.2.controller h.1)
+solve_decided files first second t s (inr (inr h)) (inl k) = absurd (both_clash files first second k.1 h.1 k.2 k.3 h.2)
+solve_decided files first second t s (inr (inr h)) (inr (inl k)) = absurd (clash_first (files first) h.1 h.2.controller k.1)
+solve_decided files first second t s (inr (inr h)) (inr (inr k)) = h.0 ∙ sym k.0
 
--- where the words are a solve and the files show t, no other answer has its cause
-pub decided : (files : Files) (words : List (List ℕ)) (t s : Status) → IsSolve words → FilesCause files (word_of words 1) (word_of words 2) t → Causes files words s → t ≡ s
-decided files words t Done solve h k = files_exclusive files (word_of words 1) (word_of words 2) t Done h k.1
-decided files words t (Unbuilt zero) solve h k = absurd (k solve)
-decided files words t (Unbuilt (suc part)) solve h k = files_exclusive files (word_of words 1) (word_of words 2) t (Unbuilt (suc part)) h k.1
-decided files words t Memory solve h k = absurd k
-decided files words t (ReadFault file) solve h k = absurd k
-decided files words t (WriteFault file) solve h k = absurd k
+-- ---- the words
+-- no words are both
+apart : (words : List (List ℕ)) → word_of words 0 ≡ codes "solve" → word_of words 0 ≡ codes "generate" → ⊥
+apart words solve generate =
+    let e : codes "solve" ≡ codes "generate" = sym solve ∙ generate in
+    let lengths : 5 ≡ 8 = ap length e in
+    omega (arith, lengths)
 
--- where they are none, it is part 0 alone
-pub no_solve : (files : Files) (words : List (List ℕ)) (s : Status) → ¬ IsSolve words → Causes files words s → Unbuilt 0 ≡ s
-no_solve files words Done other k = absurd (other k.0)
-no_solve files words (Unbuilt zero) other k = refl
-no_solve files words (Unbuilt (suc part)) other k = absurd (other k.0)
-no_solve files words Memory other k = absurd k
-no_solve files words (ReadFault file) other k = absurd k
-no_solve files words (WriteFault file) other k = absurd k
+pub solve_alone : (files : Files) (words : List (List ℕ)) (s : Status) → IsSolve words → Causes files words s → SolveCause files (word_of words 1) (word_of words 2) s
+solve_alone files words s solve (inl (inl k)) = absurd (k.1 solve)
+solve_alone files words s solve (inl (inr (inl k))) = absurd (apart words solve.command k.1)
+solve_alone files words s solve (inl (inr (inr k))) = absurd (apart words solve.command k.1.command)
+solve_alone files words s solve (inr (inl k)) = k.1
+solve_alone files words s solve (inr (inr k)) = absurd (apart words solve.command k.0.generate.command)
 
--- ---- what `run` answers, for a store that tells
-pub answers_done : (A B C : Type 0) (held : Option Files) (words : List (List ℕ)) (line : List ℕ) → IsSolve words →
-    IfSome held (λ files. HoldsPlan files (word_of words 1) (word_of words 2) line) →
-    IfSome held (λ files. (s : Status) → Causes files words s → A → B → C → (Done ≡ s) ⊎ (Done ≡ Memory))
-answers_done A B C (Some files) words line solve plan = λ s cause a b c. inl (decided files words Done s solve (plan.0, plan.1, plan.2) cause)
-answers_done A B C None words line solve plan = tt
+pub generate_alone : (files : Files) (words : List (List ℕ)) (s : Status) → IsTextGenerate words → Causes files words s → GenerateCause files (word_of words 1) (word_of words 2) s
+generate_alone files words s text (inl (inl k)) = absurd (k.2 text.generate.command)
+generate_alone files words s text (inl (inr (inl k))) = absurd (k.2 text.generate)
+generate_alone files words s text (inl (inr (inr k))) = absurd (text.text k.2)
+generate_alone files words s text (inr (inl k)) = absurd (apart words k.0.command text.generate.command)
+generate_alone files words s text (inr (inr k)) = k.1
 
-refused : {First Second : Type 0} (files : Files) (words : List (List ℕ)) (status : Status) → IsSolve words → Refuses files (word_of words 1) (word_of words 2) status →
-    ((file : ℕ) → status ≡ ReadFault file → ((file ≡ 1) × First) ⊎ ((file ≡ 2) × Second)) → (s : Status) → Causes files words s → (First → ⊥) → (Second → ⊥) → (status ≡ s) ⊎ (status ≡ Memory)
-refused files words Done solve why fault s cause no1 no2 = absurd why
-refused files words Memory solve why fault s cause no1 no2 = inr refl
-refused files words (ReadFault file) solve why fault s cause no1 no2 = elim (fault file refl) [ inl r ↦ absurd (no1 r.1) | inr r ↦ absurd (no2 r.1) ]
-refused files words (WriteFault file) solve why fault s cause no1 no2 = absurd why
-refused files words (Unbuilt part) solve why fault s cause no1 no2 = inl (decided files words (Unbuilt part) s solve why cause)
+pub usage_alone : (files : Files) (words : List (List ℕ)) (s : Status) → AsksToGenerate words → ¬ IsGenerate words → Causes files words s → Usage ≡ s
+usage_alone files words s asks other (inl (inl k)) = absurd (k.2 asks)
+usage_alone files words s asks other (inl (inr (inl k))) = sym k.0
+usage_alone files words s asks other (inl (inr (inr k))) = absurd (other k.1)
+usage_alone files words s asks other (inr (inl k)) = absurd (apart words k.0.command asks)
+usage_alone files words s asks other (inr (inr k)) = absurd (other k.0.generate)
 
-pub answers_refused : (C First Second : Type 0) (held : Option Files) (words : List (List ℕ)) (status : Status) → IsSolve words →
-    IfSome held (λ files. Refuses files (word_of words 1) (word_of words 2) status) →
-    ((file : ℕ) → status ≡ ReadFault file → ((file ≡ 1) × First) ⊎ ((file ≡ 2) × Second)) →
-    IfSome held (λ files. (s : Status) → Causes files words s → (First → ⊥) → (Second → ⊥) → C → (status ≡ s) ⊎ (status ≡ Memory))
-answers_refused C First Second (Some files) words status solve why fault = λ s cause no1 no2 c. refused files words status solve why fault s cause no1 no2
-answers_refused C First Second None words status solve why fault = tt
+pub json_alone : (files : Files) (words : List (List ℕ)) (s : Status) → IsGenerate words → IsJson (word_of words 4) → Causes files words s → Unbuilt 3 ≡ s
+json_alone files words s generate json (inl (inl k)) = absurd (k.2 generate.command)
+json_alone files words s generate json (inl (inr (inl k))) = absurd (k.2 generate)
+json_alone files words s generate json (inl (inr (inr k))) = sym k.0
+json_alone files words s generate json (inr (inl k)) = absurd (apart words k.0.command generate.command)
+json_alone files words s generate json (inr (inr k)) = absurd (k.0.text json)
+
+pub none_alone : (files : Files) (words : List (List ℕ)) (s : Status) → ¬ IsSolve words → ¬ AsksToGenerate words → Causes files words s → Unbuilt 0 ≡ s
+none_alone files words s solve generate (inl (inl k)) = sym k.0
+none_alone files words s solve generate (inl (inr (inl k))) = absurd (generate k.1)
+none_alone files words s solve generate (inl (inr (inr k))) = absurd (generate k.1.command)
+none_alone files words s solve generate (inr (inl k)) = absurd (solve k.0)
+none_alone files words s solve generate (inr (inr k)) = absurd (generate k.0.generate.command)
+
+-- the words of a command that reads files are no cause
+pub solve_no_cause : (words : List (List ℕ)) (s : Status) → IsSolve words → WordsCause words s → ⊥
+solve_no_cause words s solve (inl k) = k.1 solve
+solve_no_cause words s solve (inr (inl k)) = apart words solve.command k.1
+solve_no_cause words s solve (inr (inr k)) = apart words solve.command k.1.command
+
+pub generate_no_cause : (words : List (List ℕ)) (s : Status) → IsTextGenerate words → WordsCause words s → ⊥
+generate_no_cause words s text (inl k) = k.2 text.generate.command
+generate_no_cause words s text (inr (inl k)) = k.2 text.generate
+generate_no_cause words s text (inr (inr k)) = text.text k.2
+
+pub no_solve : (words : List (List ℕ)) → AsksToGenerate words → IsSolve words → ⊥
+no_solve words asks solve = apart words solve.command asks

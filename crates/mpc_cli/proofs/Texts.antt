@@ -1,13 +1,12 @@
 -- A state's text as its only line, and that line as words.
-use Rattle.std.proofs.Common.{◌≡◌, ◌⊎◌, inl, inr, ℕ, zero, suc, ◌<◌, ◌≤◌, ℤ, List, [], ◌∷◌, ◌++◌, length, map, Option, Some, None, eqb, refl, sym, ap, ◌∙◌, arith, append-nil, Bor, FitsSigned}
+use Rattle.std.proofs.Common.{◌≡◌, ◌⊎◌, inl, inr, ℕ, ◌<◌, ◌≤◌, ℤ, List, [], ◌∷◌, ◌++◌, length, map, Option, Some, eqb, sym, ap, ◌∙◌, arith, append-nil, Bor, FitsSigned}
 use Rattle.std.specs.Prelude.{All, option_map}
 use Rattle.std.specs.Int.{w128}
 use Rattle.std.specs.List.{join_with_byte, slice_split}
 use Rattle.std.specs.Fmt.{signed_decimal}
 use Rattle.std.proofs.lemmas.List.Splits.{slice_split_none, join_with_byte-slice_split}
-use Rattle.qp_model.specs.Lines.{text_of}
 use Rattle.qp_model.specs.StateText.{IsStateText, comma_separated}
-use Rattle.qp_model.proofs.Pieces.{IsPiece, ArePieces, joined_piece, number_pieces, split_joined, split_text}
+use Rattle.qp_model.proofs.Pieces.{IsPiece, joined_piece, number_pieces, split_joined, split_text}
 use Rattle.mpc_cli.specs.Lines.{only_line}
 
 -- a text whose only line is this one

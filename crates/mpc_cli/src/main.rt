@@ -2,9 +2,12 @@
 #![tactic(auto)]
 
 mod command;
+mod files;
+mod generate;
 mod solve;
 mod state_text;
 mod status;
+mod words;
 
 use command::run;
 use io_edge::{HostStore, StdSink, Words};
@@ -33,3 +36,7 @@ fn main(rt: HostRuntime) -> ExitCode {
 
 #[cfg(test)]
 mod tests;
+#[cfg(test)]
+mod tests_generate;
+#[cfg(test)]
+mod tests_texts;

@@ -3,8 +3,10 @@ ghost use Rattle.std.specs.Prelude.{◌≡◌, ℕ, ℤ, List, Option, Some, IfS
 ghost use Rattle.io_edge.specs.Faults.{Rose, NoneFalls, GrowsByPart};
 ghost use Rattle.qp_model.specs.Machine.{IsGridState};
 ghost use Rattle.qp_model.specs.ControllerText.{plan_line};
+ghost use Rattle.qp_model.specs.Controller.{Numbers};
 ghost use Rattle.mpc_cli.specs.Solve.{HoldsController, HasText, LacksText, HoldsLine, HoldsPlan, Refuses, NoController, NoState};
 
+use crate::files::FILE_LIMIT;
 use crate::state_text::read_state;
 use crate::status::Status;
 use controller_file::read_controller;
@@ -13,9 +15,6 @@ use io_edge::{ReadRefusal, Sink, Store};
 use overflow_check::Controller;
 use primal_average::plan_line;
 use std::alloc::{AllocError, Global};
-
-/// The most bytes of a file.
-const FILE_LIMIT: usize = 4194304;
 
 // The controller under a name, or the status that ends the run.
 pub fn controller_in<S: Store>(
@@ -123,9 +122,12 @@ pub fn line_for<S: Store>(
 ) -> Result<Vec<u8>, Status>
     ensures ok { IfOk result (λ line. IfSome (S.held store.old) (λ files. HoldsPlan files first.now second.now line.items)) }
     ensures refused { IfErr result (λ e. IfSome (S.held store.old) (λ files. Refuses files first.now second.now e)) }
+    ensures not_done { ¬ IsErrOf result Status.Done }
     ensures no_write { (file : ℕ) → ¬ IsErrOf result (Status.WriteFault file) }
     ensures read_fault { (file : ℕ) → IsErrOf result (Status.ReadFault file) → ((file ≡ 1) × Rose (S.read_faults store.old first.now) (S.read_faults store.new first.now)) ⊎ ((file ≡ 2) × Rose (S.read_faults store.old second.now) (S.read_faults store.new second.now)) }
+    ensures in_order { IsErrOf result (Status.ReadFault 2) → IfSome (S.held store.old) (λ files. (c : Numbers) × IsSomeAnd (files first.now) (λ bytes. HoldsController bytes c)) }
     ensures held { S.held store.new ≡ S.held store.old }
+    ensures reads { NoneFalls (S.read_faults store.old) (S.read_faults store.new) }
     ensures writes { NoneFalls (S.write_faults store.old) (S.write_faults store.new) }
 {
     let controller = controller_in(alloc, first, store)?;

@@ -1,4 +1,4 @@
-use Rattle.std.proofs.Common.{◌≡◌, ℕ, ℤ, List, Option, Some, None, map, length, vec_len, rules, refl, sym, ap, ◌∙◌, arith}
+use Rattle.std.proofs.Common.{◌≡◌, length, vec_len, rules, ◌∙◌}
 use Rattle.mpc_cli.proofs.Texts.{read_line, read_words, read_text}
 use Rattle.mpc_cli.proofs.state_text.read_state.Goals as goal
 use Rattle.mpc_cli.proofs.state_text.read_state.Goals.{in_default-2-via-in-Some-2+else-len-n, in_default-2-via-in_default-2}
