@@ -1,0 +1,346 @@
+"""An independent model of `generate`, in exact whole numbers and fractions: what a design and a policy text are answered with.
+
+It simulates the plant, condenses, chooses and bounds by the definitions of docs/DEFINITIONS.md, and shares no code with the program. Only the gains are
+left out, since any good solutions will do; so the width, which follows from them, is bounded and not told.
+"""
+import csv
+import io
+import re
+import tomllib
+from fractions import Fraction
+from math import isqrt
+
+LIMIT = 2**126
+NUMERATOR = 2**31 - 1
+TABLES = ["plant", "cost", "limits", "box", "targets"]
+KEYS = {
+    "": ["version", "states", "inputs", "stages"],
+    "plant": ["den", "a", "b"],
+    "cost": ["den", "row_den", "input", "stage", "final"],
+    "limits": ["den", "stage", "final"],
+    "box": ["grid", "lo", "hi"],
+    "targets": ["den", "violation", "gap"],
+}
+
+
+class Refused(Exception):
+    """The status, and what it carries."""
+
+
+def ceil_div(a, b):
+    return -((-a) // b)
+
+
+# ---- texts
+
+
+def is_integer(v):
+    return isinstance(v, int) and not isinstance(v, bool)
+
+
+def is_list(v, count):
+    return isinstance(v, list) and len(v) == count and all(map(is_integer, v))
+
+
+def is_table(v, low, high, width):
+    return isinstance(v, list) and low <= len(v) <= high and all(is_list(r, width) for r in v)
+
+
+def read_design(data):
+    """The design, or the status 5 with the first fault."""
+    try:
+        text = data.decode("utf-8").removeprefix("\ufeff")
+        top = tomllib.loads(text)
+    except (UnicodeDecodeError, tomllib.TOMLDecodeError, RecursionError):
+        raise Refused(5, "not-toml")
+
+    def too_large(v):
+        if isinstance(v, dict):
+            return any(map(too_large, v.values()))
+        if isinstance(v, list):
+            return any(map(too_large, v))
+        return is_integer(v) and not -(2**63) <= v < 2**63 or isinstance(v, float) and v in (float("inf"), float("-inf"))
+
+    if too_large(top):
+        raise Refused(5, "not-toml")
+    place, values, further = 0, [], set(top) - set(KEYS[""]) - set(TABLES)
+    for table, keys in KEYS.items():
+        inside = top.get(table) if table else top
+        for key in keys:
+            place += 1
+            if not isinstance(inside, dict) or key not in inside:
+                raise Refused(5, "key", place)
+            values.append(inside[key])
+        if table:
+            further |= set(inside) - set(keys)
+    if further:
+        raise Refused(5, "key", 0)
+
+    def need(holds, fault, place):
+        if not holds:
+            raise Refused(5, fault, place)
+
+    def number(place, low, high):
+        v = values[place - 1]
+        need(is_integer(v), "shape", place)
+        need(low <= v <= high, "range", place)
+        return v
+
+    def numerators(place, rows):
+        need(all(abs(v) <= NUMERATOR for r in rows for v in r), "range", place)
+
+    number(1, 1, 1)
+    n, p, stages = number(2, 1, 4), number(3, 1, 3), number(4, 1, 20)
+    number(5, 1, 2**20)
+    a, b = values[5], values[6]
+    need(is_table(a, n, n, n), "shape", 6)
+    numerators(6, a)
+    need(is_table(b, n, n, p), "shape", 7)
+    numerators(7, b)
+    number(8, 1, 2**20)
+    number(9, 1, 2**20)
+    need(is_list(values[9], p), "shape", 10)
+    need(all(1 <= v <= NUMERATOR for v in values[9]), "range", 10)
+    for place in (11, 12):
+        need(is_table(values[place - 1], 0, 12, n + 2), "shape", place)
+        numerators(place, values[place - 1])
+        need(all(r[-1] >= 0 for r in values[place - 1]), "range", place)
+    number(13, 1, 2**20)
+    need(is_table(values[13], 0, 12, n + p + 1), "shape", 14)
+    numerators(14, values[13])
+    need(is_table(values[14], 0, 12, n + 1), "shape", 15)
+    numerators(15, values[14])
+    need(values[13] or values[14], "range", 15)
+    number(16, 0, 24)
+    for place in (17, 18):
+        need(is_list(values[place - 1], n), "shape", place)
+        numerators(place, [values[place - 1]])
+        need(place == 17 or all(h >= l for l, h in zip(values[16], values[17])), "range", 18)
+    number(19, 1, 2**20)
+    number(20, 1, NUMERATOR)
+    number(21, 1, NUMERATOR)
+    return Design(values)
+
+
+def read_policy(data, design):
+    """The plans, each with its denominator, or the status 5 with the first fault."""
+    text = data.removeprefix(b"\xef\xbb\xbf").decode("latin-1")
+    records = [r for r in csv.reader(io.StringIO(text, newline="")) if r]
+    plans = []
+    for entry, record in enumerate(records, 1):
+        if len(record) != design.entries + 1:
+            raise Refused(5, "fields", entry)
+        numbers = []
+        for field, word in enumerate(record, 1):
+            found = re.fullmatch(r" *(-?[0-9]{1,19}) *", word)
+            value = int(found[1]) if found else None
+            if value is None or abs(value) > 2**63 - 1 or field == 1 and not 1 <= value <= 2**40:
+                raise Refused(5, "number", entry, field)
+            numbers.append(value)
+        plans.append((numbers[0], numbers[1:]))
+    if len(plans) != 2**design.states:
+        raise Refused(5, "count", len(plans))
+    return plans
+
+
+class Design:
+    def __init__(self, v):
+        _, self.states, self.inputs, self.stages, self.plant_den, self.a, self.b = v[:7]
+        self.cost_den, self.row_den, self.input_weights, self.stage_cost, self.final_cost = v[7:12]
+        self.limit_den, self.stage_rows, self.final_rows, self.grid, self.lo, self.hi = v[12:18]
+        self.target_den, self.violation, self.gap = v[18:]
+        self.entries = self.inputs * self.stages
+        self.rows = self.stages * len(self.stage_rows) + len(self.final_rows)
+
+    def trajectory(self, x, u):
+        states = [x]
+        for k in range(self.stages):
+            now, inputs = states[-1], u[k * self.inputs : (k + 1) * self.inputs]
+            states.append([
+                (sum(c * s for c, s in zip(self.a[i], now)) + sum(c * s for c, s in zip(self.b[i], inputs))) / Fraction(self.plant_den)
+                for i in range(self.states)
+            ])
+        return states
+
+    def cost(self, x, u):
+        states, n = self.trajectory(x, u), self.states
+        counted = [(r, k) for k in range(1, self.stages + 1) for r in self.stage_cost] + [(r, self.stages) for r in self.final_cost]
+        value = sum(Fraction(r[n + 1], self.cost_den) * ((sum(c * s for c, s in zip(r, states[k])) - r[n]) / Fraction(self.row_den)) ** 2 for r, k in counted)
+        return value + sum(Fraction(self.input_weights[j % self.inputs], self.cost_den) * u[j] ** 2 for j in range(self.entries))
+
+    def residuals(self, x, u):
+        states, n, p = self.trajectory(x, u), self.states, self.inputs
+        out = []
+        for k in range(self.stages):
+            for r in self.stage_rows:
+                out.append((sum(r[i] * states[k][i] for i in range(n)) + sum(r[n + l] * u[k * p + l] for l in range(p)) - r[-1]) / Fraction(self.limit_den))
+        for r in self.final_rows:
+            out.append((sum(r[i] * states[-1][i] for i in range(n)) - r[-1]) / Fraction(self.limit_den))
+        return out
+
+    def corners(self):
+        for c in range(2**self.states):
+            yield [Fraction(self.hi[i] if c >> i & 1 else self.lo[i], 2**self.grid) for i in range(self.states)]
+
+    def condensed(self):
+        """Q (half the hessian), F, h0, G, E and b, as whole numbers."""
+        n, p, nu, a = self.states, self.inputs, self.entries, self.plant_den
+        free = [[[int(i == j) for j in range(n)] for i in range(n)]]
+        response = [[[0] * nu for _ in range(n)]]
+        for k in range(self.stages):
+            free.append([[sum(self.a[i][h] * free[-1][h][j] for h in range(n)) for j in range(n)] for i in range(n)])
+            response.append([[
+                sum(self.a[i][h] * response[-1][h][j] for h in range(n)) + (a**k * self.b[i][j % p] if j // p == k else 0) for j in range(nu)
+            ] for i in range(n)])
+        power = a**self.stages
+        lift = lambda k: a ** (self.stages - k)
+        of = lambda r, m, k, j: lift(k) * sum(r[i] * m[k][i][j] for i in range(n))
+        counted = [(r, k) for k in range(1, self.stages + 1) for r in self.stage_cost] + [(r, self.stages) for r in self.final_cost]
+        plan = [[of(r, response, k, j) for j in range(nu)] for r, k in counted]
+        state = [[of(r, free, k, j) for j in range(n)] for r, k in counted]
+        weight = [r[n + 1] for r, _ in counted]
+        target = [power * r[n] for r, _ in counted]
+        every = range(len(counted))
+        q = [[sum(weight[c] * plan[c][i] * plan[c][j] for c in every) + (self.input_weights[i % p] * (self.row_den * power) ** 2 if i == j else 0)
+              for j in range(nu)] for i in range(nu)]
+        f = [[2 * sum(weight[c] * plan[c][j] * state[c][i] for c in every) for i in range(n)] for j in range(nu)]
+        h0 = [-2 * sum(weight[c] * plan[c][j] * target[c] for c in every) for j in range(nu)]
+        g, e, b = [], [], []
+        for k in range(self.stages):
+            for r in self.stage_rows:
+                g.append([of(r, response, k, j) + (lift(k) * a**k * r[n + j % p] if j // p == k else 0) for j in range(nu)])
+                e.append([of(r, free, k, j) for j in range(n)])
+                b.append(power * r[-1])
+        for r in self.final_rows:
+            g.append([of(r, response, self.stages, j) for j in range(nu)])
+            e.append([of(r, free, self.stages, j) for j in range(n)])
+            b.append(power * r[-1])
+        return q, f, h0, g, e, b
+
+
+# ---- the step exponent
+
+
+def is_dominant(m):
+    return all(m[i][i] >= sum(abs(v) for j, v in enumerate(m[i]) if j != i) for i in range(len(m)))
+
+
+def has_certificate(m):
+    size = range(len(m))
+    greatest = max(m[i][i] for i in size)
+    if min(m[i][i] for i in size) <= 0 or greatest >= 2**116 or any(abs(v) > greatest for r in m for v in r):
+        return False
+    h = 0
+    while 4 ** (h + 1) * greatest < 2**62:
+        h += 1
+    b = [[4**h * v for v in r] for r in m]
+    mu = min(b[i][i] for i in size) // 4096
+    rest = [b[i][i] - mu for i in size]
+    root = [[0] * len(m) for _ in size]
+    for j in size:
+        if rest[j] <= 0:
+            return False
+        root[j][j] = isqrt(rest[j])
+        for i in range(j + 1, len(m)):
+            root[i][j] = (b[i][j] - sum(root[i][k] * root[j][k] for k in range(j))) // root[j][j]
+            rest[i] -= root[i][j] ** 2
+            if abs(root[i][j]) >= 2**62 or rest[i] <= 0:
+                return False
+    return is_dominant([[b[i][j] - sum(root[i][k] * root[j][k] for k in size) for j in size] for i in size])
+
+
+def step_exponent(d, q, g, hessian, rows):
+    nu, power = d.entries, d.plant_den**d.stages
+    squares = sum(v * v for r in g for v in r)
+    covers = lambda s: d.cost_den * squares <= 2**s * min(d.input_weights) * d.limit_den**2 * power**2
+    by_squares = 0
+    while not covers(by_squares):
+        by_squares += 1
+    if 2 ** min(by_squares, 40) * d.limit_den**2 * hessian + d.cost_den * d.row_den**2 * rows > LIMIT:
+        raise Refused(10, "curvature")
+    gram = [[sum(r[i] * r[j] for r in g) for j in range(nu)] for i in range(nu)]
+    gap = lambda s: [[2**s * d.limit_den**2 * q[i][j] - d.cost_den * d.row_den**2 * gram[i][j] for j in range(nu)] for i in range(nu)]
+    plain = next((s for s in range(min(by_squares, 40) + 1) if is_dominant(gap(s))), by_squares)
+    plain = min(plain, by_squares)
+    if plain > 40:
+        raise Refused(7)
+    return next((s for s in range(plain) if has_certificate(gap(s))), plain)
+
+
+# ---- the whole
+
+
+def limited(value, name):
+    if value > LIMIT:
+        raise Refused(10, name)
+    return value
+
+
+def generate(design_text, policy_text):
+    """The report's numbers but for the width, and the greatest width there can be; or Refused."""
+    d = read_design(design_text)
+    plans = read_policy(policy_text, d)
+    n, nu, m, g = d.states, d.entries, d.rows, d.grid
+    total = lambda rows: max((sum(map(abs, r)) for r in rows), default=0)
+    growth = max(d.plant_den, *(sum(map(abs, d.a[i])) + sum(map(abs, d.b[i])) for i in range(n)))
+    big = limited(growth**d.stages, "prediction")
+    reach = max(map(abs, d.lo + d.hi))
+    z = max(max(q * 2**g, q * reach, 2**g * max(map(abs, u))) for q, u in plans)
+    width = max(d.limit_den, total(d.stage_rows + d.final_rows))
+    cost_width = max(d.row_den, total([r[:-1] for r in d.stage_cost + d.final_cost]))
+    weights = d.cost_den + d.stages * (sum(r[-1] for r in d.stage_cost) + sum(d.input_weights)) + sum(r[-1] for r in d.final_cost)
+    limited(2**17 * width * big * z, "corner_slack")
+    limited(weights * (cost_width * big * z) ** 2, "corner_cost")
+    slack, dearest = None, Fraction(0)
+    for c, x in enumerate(d.corners(), 1):
+        u = [Fraction(v, plans[c - 1][0]) for v in plans[c - 1][1]]
+        for row, residual in enumerate(d.residuals(x, u), 1):
+            if -residual < Fraction(1, 2**16):
+                raise Refused(6, c, row)
+            slack = -residual if slack is None else min(slack, -residual)
+        dearest = max(dearest, d.cost(x, u))
+    margin, cost = (2**16 * slack).__floor__(), dearest.__ceil__()
+    r = max(1, ceil_div(2**16 * cost, margin))
+    limited(max(2**16 * cost, 2**82 * r), "multiplier")
+    hessian = limited(2 * nu * (nu + n + 1) * weights * (cost_width * big) ** 2, "hessian")
+    rows = limited((nu + n + 1) * m * (width * big) ** 2, "rows")
+    q, f_rows, h0, g_rows, e_rows, b = d.condensed()
+    s = step_exponent(d, q, g_rows, hessian, rows)
+    half, gap_target = 2**39 * d.violation // d.target_den, 2**40 * d.gap // d.target_den
+    k = ceil_div(2 ** (s + 41) * r, half)
+    if k > 2**22:
+        raise Refused(8, k)
+    rho, power = min(d.input_weights), d.plant_den**d.stages
+    hess_den, row_den, top = d.cost_den * (d.row_den * power) ** 2, d.limit_den * power, 2 * r
+    box = ceil_div(reach, 2**g)
+    spread = n * box + 1 + m * top
+    sums = lambda rs, den: ceil_div(sum(abs(v) for row in rs for v in row), den)
+    pull = d.cost_den * (box * sums(f_rows, hess_den) + sums([h0], hess_den) + top * sums(g_rows, row_den))
+    trace = ceil_div(sum(2 * q[j][j] for j in range(nu)), hess_den)
+    errors = [ceil_div(2 * q[j][j], 2 * hess_den) * spread + ceil_div(sum(2 * abs(v) for v in q[j]), hess_den) for j in range(nu)]
+    squares = d.cost_den * sum(v * v for v in errors)
+    first = ceil_div(squares, 2 * rho)
+    bound = lambda f: ceil_div(pull, 2 * rho) + ceil_div(d.cost_den * spread * trace, 2 ** (f + 2) * rho) + 1
+    epsilon = lambda f: ceil_div(2**40 * first, 4**f) + ceil_div(2**40 * top * m * (nu * bound(f) + n * box + 3), 2 ** (f + 1))
+    limited(pull + d.cost_den * spread * trace + squares + 2**40 * (first + top * m * (nu * bound(0) + n * box + 3)), "error")
+    f = next((f for f in range(g, 49) if epsilon(f) <= min(gap_target, r * half)), None)
+    if f is None:
+        raise Refused(9, epsilon(48))
+    matrix = [[2 * d.limit_den * v for v in row] for row in q]
+    columns = [[d.limit_den * f_rows[j][i] for j in range(nu)] for i in range(n)] + [[d.limit_den * v for v in h0]]
+    columns += [[d.cost_den * d.row_den**2 * power * v for v in row] for row in g_rows]
+    floor = min(2 * d.limit_den * (d.row_den * power) ** 2 * rho, LIMIT)
+    sizes = [sum(map(abs, c)) for c in columns]
+    bounds = [ceil_div(2 ** (f + 1) * c, floor) for c in sizes]
+    limited(2 * total(matrix) * (max(bounds) + 1) + 2 ** (f + 1) * max(sizes), "descent")
+    nearest = lambda v: (2 * 2**f * v + row_den) // (2 * row_den)
+    clamp = top * 2 ** (f + s)
+    reaches = [max(abs(l), abs(h)) * 2 ** (f - g) for l, h in zip(d.lo, d.hi)]
+    entry = 2**s * (sum(c * x for c, x in zip(bounds, reaches)) + bounds[n] * 2**f) + sum(bounds[n + 1 :]) * clamp
+    plan = ceil_div(entry, 2 ** (f + s))
+    row_sums = [sum(abs(nearest(v)) * plan for v in g_rows[i]) + sum(abs(nearest(v)) * x for v, x in zip(e_rows[i], reaches)) + 2**f * abs(nearest(b[i])) for i in range(m)]
+    greatest = limited(max(reaches + [entry, k * plan] + row_sums + [clamp + ceil_div(v, 2**f) for v in row_sums]), "width")
+    violation = ceil_div(2 ** (s + 41) * r, k) + ceil_div(epsilon(f), r)
+    report = {"margin": margin, "cost": cost, "multiplier": r, "step": s, "steps": k, "bits": f, "words": n + m + 2 * nu,
+              "violation": violation, "gap": epsilon(f), "undercut": r * violation}
+    return report, greatest.bit_length() + 1
