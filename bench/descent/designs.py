@@ -1,5 +1,5 @@
 #!/usr/bin/env python3
-"""designs.py FOLDER: writes four designs of 60 plan entries and 252 limit rows into the folder, and prints for each the condition of
+"""designs.py FOLDER: writes designs of 60 plan entries and 252 limit rows into the folder, and prints for each its name and the condition of
 its hessian, the greatest eigenvalue over the least.
 
 The plant is two double integrators under three inputs, over 20 stages. The designs differ in their weights alone."""
@@ -14,10 +14,13 @@ ENTRIES = STAGES * INPUTS
 
 # name, input weights, weight of each state at each stage, weight of the first state at the end
 DESIGNS = [
-    ("mild", [1000, 1000, 1000], 1, 100),
-    ("steep", [1, 1, 1], 1, 100),
-    ("steeper", [1, 1, 1], 40, 4000),
-    ("scaled", [1, 1000, 1], 1000000, 100000),
+    ("condition_8", [75700] * 3, 1, 100),
+    ("condition_68", [7910] * 3, 1, 100),
+    ("condition_877", [605] * 3, 1, 100),
+    ("condition_17000", [31] * 3, 1, 100),
+    ("condition_1000000", [1] * 3, 2, 200),
+    ("condition_20000000", [1] * 3, 40, 4000),
+    ("uneven_inputs", [1, 1000, 1], 1000000, 100000),
 ]
 
 
@@ -119,4 +122,4 @@ def condition(h):
 for name, inputs, stage, final in DESIGNS:
     with open(f"{sys.argv[1]}/{name}.toml", "w") as out:
         out.write(text(inputs, stage, final))
-    print(f"{name}: condition {condition(hessian(inputs, stage, final)):.2g}")
+    print(f"{name} {condition(hessian(inputs, stage, final)):.2g}")
