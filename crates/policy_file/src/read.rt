@@ -22,6 +22,7 @@ use std::alloc::Global;
 pub fn read_states(alloc: Global, bytes: &[u8], n: usize) -> Result<Mat, TextFault>
     requires { length bytes.now < 2 ^ 32 }
     ensures found { IfOk result (IsStatesText bytes.now n) }
+    ensures count { IfOk result (λ m. length m.rows < 2 ^ 32) }
     ensures fault { IfErr result (λ e. (e ≡ Memory) ⊎ IsStatesFault bytes.now n e) }
 
     // The other way round, with nothing but want of memory in between.
