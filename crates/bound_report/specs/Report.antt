@@ -1,5 +1,7 @@
--- The text of a report.
-use Rattle.std.specs.Prelude.{ℕ, pos, List, [], ◌∷◌, ◌++◌, codes}
+-- The texts of a report.
+use Rattle.std.specs.Prelude.{ℕ, ℤ, pos, List, [], ◌∷◌, ◌++◌, map, codes}
+use Rattle.std.specs.List.{join_with_byte}
+use Rattle.std.specs.Fmt.{signed_decimal}
 use Rattle.qp_model.specs.Lines.{line_of, text_of}
 use Rattle.qp_model.specs.declared.bounds.Bounds.{Bounds}
 
@@ -28,3 +30,30 @@ bound_lines b =
 -- all lines, each with its line feed
 abbrev pub report_text : Bounds → List ℕ
 report_text b = text_of (head_lines b ++ bound_lines b ++ codes "end" ∷ [])
+
+-- ---- as JSON
+
+-- each key and its number; the margin is over 2^16, and what is promised over 2^40
+abbrev pub json_members : Bounds → List (List ℕ × ℤ)
+json_members b =
+    (codes "bits", pos b.bits)
+    ∷ (codes "cost", b.cost)
+    ∷ (codes "gap", b.gap)
+    ∷ (codes "margin", b.margin)
+    ∷ (codes "multiplier", b.multiplier)
+    ∷ (codes "step", pos b.step)
+    ∷ (codes "steps", pos b.steps)
+    ∷ (codes "undercut", b.undercut)
+    ∷ (codes "version", pos 1)
+    ∷ (codes "violation", b.violation)
+    ∷ (codes "width", pos b.width)
+    ∷ (codes "words", pos b.words)
+    ∷ []
+
+-- the key and the number in decimal, each between quotes, and a colon between the two
+abbrev pub member : List ℕ → ℤ → List ℕ
+member key z = codes "\"" ++ key ++ codes "\":\"" ++ signed_decimal z ++ codes "\""
+
+-- the members between braces, a comma between two, and a line feed
+abbrev pub report_json : Bounds → List ℕ
+report_json b = codes "{" ++ join_with_byte 44 (map (λ m. member m.0 m.1) (json_members b)) ++ codes "}\n"
