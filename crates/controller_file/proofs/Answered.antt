@@ -1,5 +1,5 @@
 -- What is read of a text.
-use Rattle.std.proofs.Common.{◌≡◌, ℕ, List, ◌++◌, map, Option, Some, None, Result, Ok, Err, refl, sym, ap, subst, ◌∙◌}
+use Rattle.std.proofs.Common.{◌≡◌, ℕ, List, map, Option, Some, Result, Ok, Err, refl, ap, subst, ◌∙◌}
 use Rattle.std.specs.Prelude.{All, IfOk, MatchResult}
 use Rattle.qp_model.specs.declared.controller_parts.ControllerParts.{ControllerParts}
 use Rattle.qp_model.specs.Lines.{text_of}

@@ -1,10 +1,9 @@
 -- Lines cut into words, and texts cut into lines.
-use Rattle.std.proofs.Common.{◌≡◌, ℕ, zero, suc, ◌+◌, ◌<◌, ◌≤◌, ℤ, List, [], ◌∷◌, ◌++◌, length, take, get_or, eqb, map, Bor, Option, Some, None, Result, Ok, Err, FitsSigned, refl, sym, ap, ◌∙◌, arith}
+use Rattle.std.proofs.Common.{◌≡◌, ℕ, zero, suc, ◌+◌, ◌<◌, ℤ, List, [], ◌∷◌, ◌++◌, length, take, get_or, eqb, map, Bor, Option, Some, None, Ok, Err, refl, sym, ap, ◌∙◌, arith}
 use Rattle.std.specs.Prelude.{All, IfSome, IsSomeAnd}
 use Rattle.std.specs.Option.{MatchOption, ok_or}
 use Rattle.std.specs.Global.{Vec}
 use Rattle.std.specs.List.{join_with_byte, slice_split, IsFirstAndRest, IsLastAndRest}
-use Rattle.std.specs.Int.{w128}
 use Rattle.std.specs.Fmt.{signed_decimal}
 use Rattle.std.proofs.lemmas.List.Splits.{join_with_byte-slice_split, length-slice_split}
 use Rattle.std.proofs.lemmas.List.{length-map, get_or-map, take_more, map-append, same_from_push}

@@ -1,6 +1,5 @@
 -- What is read of lines is what stands there, and what stands there is read.
-use Rattle.std.proofs.Common.{◌≡◌, ℕ, zero, suc, ◌*◌, ◌^◌, ◌<◌, ◌≤◌, Bool, true, false, cond, eqb, ltb, ℤ, pos, negsuc, List, [], ◌∷◌, ◌++◌, length, get_or, take, drop, map, Option, Some, None, refl, sym, ap, subst, ◌∙◌, append_assoc, arith, eq-eqb}
-use Rattle.std.specs.Prelude.{All}
+use Rattle.std.proofs.Common.{◌≡◌, ℕ, ◌^◌, ◌<◌, ◌≤◌, Bool, true, false, cond, eqb, ltb, ℤ, pos, negsuc, List, [], ◌∷◌, ◌++◌, length, get_or, take, drop, Option, Some, None, refl, sym, ap, subst, ◌∙◌, arith, eq-eqb}
 use Rattle.std.specs.Str.{bytes_eq}
 use Rattle.std.proofs.lemmas.Bool.{eqb-true, ltb-false, le-ltb}
 use Rattle.std.proofs.lemmas.Bool.Decides.{nat_tests}
@@ -9,8 +8,8 @@ use Rattle.std.proofs.lemmas.List.{take_at, drop_at, take-append-drop, length-ap
 use Rattle.std.proofs.lemmas.List.Elements.{All-from_recursion, recursion_from_All}
 use Rattle.std.specs.List.{AllByRecursion}
 use Rattle.mat_int.specs.Matrix.{Matrix}
-use Rattle.qp_model.specs.Controller.{Numbers, HasShape, IsShaped}
-use Rattle.controller_file.specs.Lines.{Keyed, line, row_lines}
+use Rattle.qp_model.specs.Controller.{HasShape}
+use Rattle.controller_file.specs.Lines.{Keyed, line, row_lines, Place, place, place_of}
 use Rattle.controller_file.specs.Reading.{◌>>=◌, natural, numbers_in, numbers_at, natural_at, four_at, all_rows_in, all_rows_at, matrix_at}
 
 -- the value of a step that did not fail
@@ -58,6 +57,15 @@ numbers_in_again key count ns len =
     let long : eqb (length ns) count ≡ true = eq-eqb (length ns) count len in
     rw (same, long) refl
 
+pub key_is : (l : Keyed) (key : List ℕ) (count : ℕ) → place_of l ≡ place key count → l ≡ line key l.numbers
+key_is l key count e = let same : l.key ≡ key = ap (λ (p : Place). p.key) e in (λ i. line (same i) l.numbers)
+
+pub count_is : (l : Keyed) (key : List ℕ) (count : ℕ) → place_of l ≡ place key count → length l.numbers ≡ count
+count_is l key count e = ap (λ (p : Place). p.count) e
+
+pub numbers_at_place : (key : List ℕ) (count : ℕ) (l : Keyed) → place_of l ≡ place key count → numbers_in key count l ≡ Some l.numbers
+numbers_at_place key count l e = ap (numbers_in key count) (key_is l key count e) ∙ numbers_in_again key count l.numbers (count_is l key count e)
+
 -- ---- the first line
 
 pub numbers_take : (key : List ℕ) (count : ℕ) (ls : List Keyed) (x : List ℤ × List Keyed) → numbers_at key count ls ≡ Some x → (ls ≡ line key x.0 ∷ x.1) × (length x.0 ≡ count)
@@ -78,7 +86,7 @@ one_of [] len = absurd (omega arith)
 one_of (a ∷ []) len = refl
 one_of (a ∷ b ∷ zs) len = absurd (omega arith)
 
-four_of : (zs : List ℤ) → length zs ≡ 4 → zs ≡ get_or zs 0 (pos 0) ∷ get_or zs 1 (pos 0) ∷ get_or zs 2 (pos 0) ∷ get_or zs 3 (pos 0) ∷ []
+pub four_of : (zs : List ℤ) → length zs ≡ 4 → zs ≡ get_or zs 0 (pos 0) ∷ get_or zs 1 (pos 0) ∷ get_or zs 2 (pos 0) ∷ get_or zs 3 (pos 0) ∷ []
 four_of [] len = absurd (omega arith)
 four_of (a ∷ []) len = absurd (omega arith)
 four_of (a ∷ b ∷ []) len = absurd (omega arith)

@@ -6,3 +6,9 @@ pub mod Texts
 pub mod Answered
 pub mod Pushed
 pub mod Uniqueness
+pub mod Spread
+pub mod Beginnings
+pub mod Blank
+pub mod HeadLines
+pub mod ListLines
+pub mod FirstLines

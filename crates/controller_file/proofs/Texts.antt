@@ -1,6 +1,6 @@
 -- The lines of a controller are its text, and each of them can be read.
-use Rattle.std.proofs.Common.{◌≡◌, ℕ, zero, suc, ◌+◌, ◌*◌, ◌^◌, ◌<◌, ◌≤◌, Bool, true, false, ltb, ◌&&◌, ℤ, pos, negsuc, List, [], ◌∷◌, ◌++◌, length, get_or, map, FitsSigned, refl, sym, ap, ◌∙◌, append_assoc, arith}
-use Rattle.std.specs.Prelude.{All, codes, ◌≤ℤ◌, unsigned_abs}
+use Rattle.std.proofs.Common.{◌≡◌, ℕ, ◌*◌, ◌^◌, ◌<◌, ◌≤◌, true, ltb, ℤ, pos, negsuc, List, [], ◌∷◌, ◌++◌, get_or, map, FitsSigned, refl, ap, ◌∙◌, append_assoc, arith}
+use Rattle.std.specs.Prelude.{All, codes, ◌≤ℤ◌}
 use Rattle.std.specs.Int.{w128}
 use Rattle.std.specs.List.{list_all, AllByRecursion, join_with_byte}
 use Rattle.std.proofs.Math.Nat.{mul-le-mul}
@@ -12,8 +12,8 @@ use Rattle.std.proofs.lemmas.Fmt.{decimal_digit}
 use Rattle.mat_int.specs.Matrix.{Matrix}
 use Rattle.qp_model.specs.Range.{IsNumerator}
 use Rattle.qp_model.specs.Lines.{line_of, text_of}
-use Rattle.qp_model.specs.Controller.{Numbers, IsSized, IsInForm, FitsWord}
-use Rattle.qp_model.specs.ControllerText.{matrix_lines, controller_lines, controller_text}
+use Rattle.qp_model.specs.Controller.{Numbers, IsInForm, FitsWord}
+use Rattle.qp_model.specs.ControllerText.{matrix_lines, controller_text}
 use Rattle.controller_file.specs.Lines.{Keyed, line, spelled, Fits, IsLine, row_lines, head_of, head_lines, list_lines, keyed_lines}
 use Rattle.controller_file.proofs.Whole.{IsSmall}
 
@@ -100,11 +100,11 @@ above (b ∷ key) h = (first b key h, above key (others b key h))
 word : (key : List ℕ) → list_all (λ b. ltb 32 b) key ≡ true → All (λ b. 32 < b) key
 word key h = All-from_recursion (λ b. 32 < b) key (above key h)
 
-all_append : {X : Type 0} (P : X → Type 0) (xs ys : List X) → AllByRecursion P xs → AllByRecursion P ys → AllByRecursion P (xs ++ ys)
+pub all_append : {X : Type 0} (P : X → Type 0) (xs ys : List X) → AllByRecursion P xs → AllByRecursion P ys → AllByRecursion P (xs ++ ys)
 all_append P [] ys h k = k
 all_append P (x ∷ xs) ys h k = (h.0, all_append P xs ys h.1 k)
 
-all_parts : {X : Type 0} (P : X → Type 0) (xs ys : List X) → AllByRecursion P (xs ++ ys) → AllByRecursion P xs × AllByRecursion P ys
+pub all_parts : {X : Type 0} (P : X → Type 0) (xs ys : List X) → AllByRecursion P (xs ++ ys) → AllByRecursion P xs × AllByRecursion P ys
 all_parts P [] ys h = (tt, h)
 all_parts P (x ∷ xs) ys h = let rest = all_parts P xs ys h.1 in ((h.0, rest.0), rest.1)
 

@@ -1,21 +1,21 @@
 -- A text has one controller, and no text goes on where another ends.
-use Rattle.std.proofs.Common.{◌≡◌, ℕ, zero, suc, ◌+◌, ◌*◌, ◌^◌, ◌<◌, ◌≤◌, ℤ, pos, negsuc, List, [], ◌∷◌, ◌++◌, length, get_or, take, drop, map, eqb, Option, Some, None, FitsSigned, refl, sym, ap, ◌∙◌, append_assoc, arith}
+use Rattle.std.proofs.Common.{◌≡◌, ℕ, suc, ◌+◌, ◌*◌, ◌^◌, ◌<◌, ℤ, pos, negsuc, List, [], ◌∷◌, ◌++◌, length, get_or, drop, map, eqb, FitsSigned, refl, sym, ap, ◌∙◌, append_assoc, arith}
 use Rattle.std.specs.Prelude.{All, codes}
 use Rattle.std.specs.Int.{w128}
-use Rattle.std.specs.List.{slice_split, join_with_byte, AllByRecursion}
+use Rattle.std.specs.List.{slice_split, join_with_byte}
 use Rattle.std.specs.Fmt.{decimal, signed_decimal}
-use Rattle.std.specs.Str.Parse.{digits_value, AllDigits}
-use Rattle.std.proofs.lemmas.Fmt.{decimal_injective, decimal_is_IsNumeral_wide}
+use Rattle.std.specs.Str.Parse.{digits_value}
+use Rattle.std.proofs.lemmas.Fmt.{decimal_is_IsNumeral_wide}
 use Rattle.std.proofs.lemmas.Str.Parse.{digit_at}
-use Rattle.std.proofs.lemmas.List.{append-nil, drop_at, length-append, length-map, same_from_push}
+use Rattle.std.proofs.lemmas.List.{drop_at, length-append, length-map, same_from_push}
 use Rattle.std.proofs.lemmas.List.Splits.{slice_split_at, join_with_byte-slice_split}
-use Rattle.std.proofs.lemmas.List.Elements.{recursion_from_All}
-use Rattle.qp_model.specs.Lines.{text_of, line_of}
+use Rattle.qp_model.specs.Lines.{text_of}
 use Rattle.qp_model.specs.Controller.{Numbers, IsShaped, IsInForm, FitsWord}
-use Rattle.qp_model.specs.ControllerText.{IsControllerText, controller_text}
+use Rattle.qp_model.specs.ControllerText.{IsControllerText}
 use Rattle.qp_model.proofs.Pieces.{ArePieces, split_text}
+use Rattle.controller_file.specs.FirstLine.{IsTextInForm}
 use Rattle.controller_file.specs.Laws.{HasOneController, HasNoPrefix}
-use Rattle.controller_file.specs.Lines.{Keyed, line, IsLine, spelled, row_lines, head_of, head_lines, list_lines, keyed_lines}
+use Rattle.controller_file.specs.Lines.{Keyed, line, IsLine, spelled, row_lines, keyed_lines}
 use Rattle.controller_file.specs.Reading.{parts_at}
 use Rattle.controller_file.proofs.Cuts.{line_cut, line_pieces}
 use Rattle.controller_file.proofs.Fields.{some_is}
@@ -62,7 +62,7 @@ one_line k l f g e =
     let numbers = one_list k.numbers l.numbers f.fits g.fits spelling in
     (λ i. record { key = key i; numbers = numbers i })
 
-one_lines : (ks ls : List Keyed) → All IsLine ks → All IsLine ls → map spelled ks ≡ map spelled ls → ks ≡ ls
+pub one_lines : (ks ls : List Keyed) → All IsLine ks → All IsLine ls → map spelled ks ≡ map spelled ls → ks ≡ ls
 one_lines [] [] f g e = refl
 one_lines [] (l ∷ ls) f g e = absurd cc
 one_lines (k ∷ ks) [] f g e = absurd cc
@@ -72,26 +72,32 @@ one_lines (k ∷ ks) (l ∷ ls) f g e =
     (λ i. first i ∷ rest i)
 
 -- the pieces of a text of lines that goes on
-split_more : (ls : List (List ℕ)) (more : List ℕ) → ArePieces 10 ls → slice_split (λ b. eqb b 10) (text_of ls ++ more) ≡ ls ++ slice_split (λ b. eqb b 10) more
+pub split_more : (ls : List (List ℕ)) (more : List ℕ) → ArePieces 10 ls → slice_split (λ b. eqb b 10) (text_of ls ++ more) ≡ ls ++ slice_split (λ b. eqb b 10) more
 split_more [] more h = refl
 split_more (l ∷ ls) more h =
     let regrouped : text_of (l ∷ ls) ++ more ≡ l ++ 10 ∷ (text_of ls ++ more) = append_assoc (l ++ 10 ∷ []) (text_of ls) more ∙ append_assoc l (10 ∷ []) (text_of ls ++ more) in
     ap (slice_split (λ b. eqb b 10)) regrouped ∙ slice_split_at (λ b. eqb b 10) l 10 (text_of ls ++ more) h.0 refl ∙ ap (λ (r : List (List ℕ)). l ∷ r) (split_more ls more h.1)
 
-pieces_of : (c : Numbers) → IsInForm c → FitsWord c → ArePieces 10 (map spelled (keyed_lines c))
+pub pieces_of : (c : Numbers) → IsInForm c → FitsWord c → ArePieces 10 (map spelled (keyed_lines c))
 pieces_of c form fits = line_pieces (keyed_lines c) (good_lines c form fits)
 
 -- ---- one controller
 
-pub one_controller : HasOneController
-one_controller bytes c d p q =
-    let form = p.controller.form in
-    let other = q.controller.form in
+-- a text in form is the text of one choice of numbers
+pub one_form : (bytes : List ℕ) (c d : Numbers) → IsTextInForm bytes c → IsTextInForm bytes d → c ≡ d
+one_form bytes c d p q =
     let texts : text_of (map spelled (keyed_lines c)) ≡ text_of (map spelled (keyed_lines d)) = keyed_text c ∙ sym p.text ∙ q.text ∙ sym (keyed_text d) in
-    let cut = sym (split_text (map spelled (keyed_lines c)) (pieces_of c form p.word)) ∙ ap (slice_split (λ b. eqb b 10)) texts ∙ split_text (map spelled (keyed_lines d)) (pieces_of d other q.word) in
+    let cut = sym (split_text (map spelled (keyed_lines c)) (pieces_of c p.form p.word)) ∙ ap (slice_split (λ b. eqb b 10)) texts ∙ split_text (map spelled (keyed_lines d)) (pieces_of d q.form q.word) in
     let spellings = (same_from_push (map spelled (keyed_lines c)) (map spelled (keyed_lines d)) [] [] cut).0 in
-    let lines = one_lines (keyed_lines c) (keyed_lines d) (good_lines c form p.word) (good_lines d other q.word) spellings in
-    some_is (sym (parts_again c (small_form c form) form.sized.shaped) ∙ ap parts_at lines ∙ parts_again d (small_form d other) other.sized.shaped)
+    let lines = one_lines (keyed_lines c) (keyed_lines d) (good_lines c p.form p.word) (good_lines d q.form q.word) spellings in
+    some_is (sym (parts_again c (small_form c p.form) p.form.sized.shaped) ∙ ap parts_at lines ∙ parts_again d (small_form d q.form) q.form.sized.shaped)
+
+-- a controller's text is one in form
+pub in_form : (bytes : List ℕ) (c : Numbers) → IsControllerText bytes c → IsTextInForm bytes c
+in_form bytes c p = record { form = p.controller.form; word = p.word; text = p.text }
+
+pub one_controller : HasOneController
+one_controller bytes c d p q = one_form bytes c d (in_form bytes c p) (in_form bytes d q)
 
 -- ---- no prefix
 

@@ -1,5 +1,5 @@
 -- The lines of a controller from the first to the last: what is read is what stands there, and what stands there is read.
-use Rattle.std.proofs.Common.{◌≡◌, ℕ, suc, ◌*◌, ◌^◌, ◌<◌, ℤ, pos, List, [], ◌∷◌, ◌++◌, length, get_or, map, Option, Some, None, refl, sym, ap, subst, ◌∙◌, arith, eqb, eq-eqb}
+use Rattle.std.proofs.Common.{◌≡◌, ◌*◌, ◌^◌, ◌<◌, ℤ, pos, List, [], ◌∷◌, ◌++◌, length, get_or, Some, refl, sym, ap, subst, ◌∙◌, arith}
 use Rattle.std.specs.Prelude.{codes}
 use Rattle.std.proofs.lemmas.Bool.{eqb-true}
 use Rattle.std.proofs.lemmas.List.{nil_from_length}
@@ -7,7 +7,7 @@ use Rattle.mat_int.specs.Matrix.{Matrix}
 use Rattle.qp_model.specs.Controller.{Numbers, IsShaped}
 use Rattle.controller_file.specs.declared.parts.Head.{Head}
 use Rattle.controller_file.specs.Lines.{Keyed, line, row_lines, head_of, head_lines, list_lines, keyed_lines}
-use Rattle.controller_file.specs.Reading.{◌>>=◌, numbers_at, natural_at, four_at, matrix_at, head_at, lists_at, parts_at}
+use Rattle.controller_file.specs.Reading.{head_at, lists_at, parts_at}
 use Rattle.controller_file.proofs.Fields.{bind_some, guard_some, some_is, one_of, numbers_take, numbers_again, natural_take, natural_at_again, four_take, four_again, matrix_take, matrix_again}
 
 -- each of the sizes is a number of 32 bits
@@ -82,7 +82,7 @@ abbrev pub made_of : Head → List ℤ → List ℤ → Matrix → List ℤ → 
 made_of h low high p t w g e b = record { states = h.n; inputs = h.p; stages = h.stages; rows = h.m; fraction_bits = h.f; grid_bits = h.g; step_exponent = h.s; width = h.w; steps = h.steps; clamp = h.clamp; words = h.words; low = low; high = high; state_gains = p; offsets = t; dual_gains = w; plan_rows = g; state_rows = e; bounds = b }
 
 -- a list of lines that are there, one after the other
-joined : (low high : List ℤ) (p : Matrix) (t : List ℤ) (w g e : Matrix) (b none : List ℤ) (r0 r1 r2 r3 r4 r5 r6 r7 r8 r9 : List Keyed)
+pub joined : (low high : List ℤ) (p : Matrix) (t : List ℤ) (w g e : Matrix) (b none : List ℤ) (r0 r1 r2 r3 r4 r5 r6 r7 r8 r9 : List Keyed)
     → r0 ≡ line (codes "lo") low ∷ r1 → r1 ≡ line (codes "hi") high ∷ r2 → r2 ≡ row_lines (codes "P") p.rows ++ r3 → r3 ≡ line (codes "T") t ∷ r4
     → r4 ≡ row_lines (codes "W") w.rows ++ r5 → r5 ≡ row_lines (codes "G") g.rows ++ r6 → r6 ≡ row_lines (codes "E") e.rows ++ r7 → r7 ≡ line (codes "b") b ∷ r8
     → r8 ≡ line (codes "end") none ∷ r9 → length none ≡ 0 → length r9 ≡ 0

@@ -1,5 +1,5 @@
 -- Lines as words and numbers, and those of a controller.
-use Rattle.std.specs.Prelude.{◌≡◌, ℕ, ◌<◌, ℤ, pos, List, [], ◌∷◌, ◌++◌, map, codes, All, FitsSigned}
+use Rattle.std.specs.Prelude.{ℕ, ◌<◌, ℤ, pos, List, [], ◌∷◌, ◌++◌, length, map, codes, All, FitsSigned}
 use Rattle.std.specs.Int.{w128}
 use Rattle.qp_model.specs.Lines.{line_of, text_of}
 use Rattle.qp_model.specs.Controller.{Numbers}
@@ -33,6 +33,17 @@ Fits l = All (FitsSigned w128) l.numbers
 pub record IsLine (l : Keyed) : Type 0 where
   pub key : All (λ b. 32 < b) l.key
   pub fits : Fits l
+
+-- a word and how many numbers are after it
+pub record Place : Type 0 where
+  pub key : List ℕ
+  pub count : ℕ
+
+abbrev pub place : List ℕ → ℕ → Place
+place key count = record { key = key; count = count }
+
+abbrev pub place_of : Keyed → Place
+place_of l = place l.key (length l.numbers)
 
 -- a line for each row
 abbrev pub row_lines : List ℕ → List (List ℤ) → List Keyed

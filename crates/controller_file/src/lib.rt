@@ -1,13 +1,17 @@
 //! The one text of a controller: written, and read back exactly where the bytes are such a text.
 #![tactic(auto)]
 
+mod bad_controller;
+mod bad_line;
 mod fault;
+mod following;
 mod laws;
 mod line;
 mod parts;
 mod reader;
 mod writer;
 
+pub use bad_controller::BadController;
 pub use laws::{one_controller_law, prefix_law};
 pub use reader::read_controller;
 pub use writer::write_controller;

@@ -1,8 +1,8 @@
 // The lines of a text: a word and numbers each.
-ghost use Rattle.std.specs.Prelude.{◌≡◌, List, All, IfOk, MatchResult, map};
+ghost use Rattle.std.specs.Prelude.{◌≡◌, ◌↔◌, List, All, IsTrue, IfOk, MatchResult, map};
 ghost use Rattle.qp_model.specs.Lines.{text_of};
 ghost use Rattle.controller_file.specs.declared.fault.LineFault.TheVariants.{Memory};
-ghost use Rattle.controller_file.specs.Lines.{Keyed, view, views, spelled, Fits, IsLine};
+ghost use Rattle.controller_file.specs.Lines.{Keyed, view, views, spelled, Fits, IsLine, place, place_of};
 
 use crate::fault::LineFault;
 use qp_model::{numbers_of, pieces_of};
@@ -44,8 +44,8 @@ fn lines_from<'a>(alloc: Global, pieces: &[&'a [u8]]) -> Result<Vec<Line<'a>>, L
     Ok(lines)
 }
 
-// The line that this piece is.
-fn line_of<'a>(alloc: Global, piece: &'a [u8]) -> Result<Line<'a>, LineFault>
+/// The line that this piece is.
+pub fn line_of<'a>(alloc: Global, piece: &'a [u8]) -> Result<Line<'a>, LineFault>
     ensures found { IfOk result (λ l. piece.now ≡ spelled (view l)) }
     ensures fits { IfOk result (λ l. Fits (view l)) }
     ensures only { (l : Keyed) → IsLine l → piece.now ≡ spelled l → MatchResult result (λ r. view r ≡ l) (λ e. e ≡ Memory) }
@@ -54,4 +54,11 @@ fn line_of<'a>(alloc: Global, piece: &'a [u8]) -> Result<Line<'a>, LineFault>
     let (key, rest) = words.split_first().ok_or(LineFault::Form)?;
     let numbers = numbers_of(alloc, rest)?.ok_or(LineFault::Form)?;
     Ok(Line { key, numbers })
+}
+
+/// Whether a line has this word and so many numbers.
+pub fn has_place(line: &Line, key: &str, count: usize) -> bool
+    ensures { IsTrue result ↔ (place_of (view line.now) ≡ place key.now count) }
+{
+    line.key == key.as_bytes() && line.numbers.len() == count
 }

@@ -7,7 +7,7 @@ ghost use Rattle.controller_file.specs.Lines.{view, views};
 ghost use Rattle.controller_file.specs.Reading.{Gives, natural, numbers_in, numbers_at, natural_at, four_at, all_rows_at, matrix_at, head_at, parts_at};
 
 use crate::fault::LineFault;
-use crate::line::{Line, lines_of};
+use crate::line::{Line, has_place, lines_of};
 use mat_int::Mat;
 use qp_model::ControllerParts;
 use std::alloc::Global;
@@ -206,10 +206,7 @@ fn numbers_of<'a, 't>(key: &str, count: usize, line: &'a Line<'t>) -> Result<&'a
     ensures value { Gives (λ x. x.now) result (numbers_in key.now count (view line.now)) }
     ensures count { IfOk result (λ x. length x.now ≡ count) }
 {
-    if line.key != key.as_bytes() {
-        return Err(LineFault::Form);
-    }
-    if line.numbers.len() != count {
+    if !has_place(line, key, count) {
         return Err(LineFault::Form);
     }
     Ok(&line.numbers)

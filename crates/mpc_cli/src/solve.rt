@@ -9,7 +9,7 @@ ghost use Rattle.mpc_cli.specs.Solve.{HoldsController, HasText, LacksText, Holds
 use crate::files::FILE_LIMIT;
 use crate::state_text::read_state;
 use crate::status::Status;
-use controller_file::read_controller;
+use controller_file::{BadController, read_controller};
 use fixed_kernel::Kernel;
 use io_edge::{ReadRefusal, Sink, Store};
 use overflow_check::Controller;
@@ -37,9 +37,9 @@ pub fn controller_in<S: Store>(
         Err(ReadRefusal::Memory) => return Err(Status::Memory),
     };
     match read_controller(alloc, &bytes) {
-        Ok(Some(controller)) => Ok(controller),
-        Ok(None) => Err(Status::Unbuilt { part: 1 }),
-        Err(_) => Err(Status::Memory),
+        Ok(controller) => Ok(controller),
+        Err(BadController::Memory) => Err(Status::Memory),
+        Err(_) => Err(Status::Unbuilt { part: 1 }),
     }
 }
 

@@ -1,8 +1,7 @@
-use Rattle.std.proofs.Common.{◌≡◌, ℕ, ℤ, List, [], ◌∷◌, length, map, eqb, Bor, sym, ap, ◌∙◌, rules, refl, Vec, Global}
+use Rattle.std.proofs.Common.{◌≡◌, ℕ, List, ◌∷◌, map, eqb, Bor, sym, ap, ◌∙◌, refl}
 use Rattle.std.specs.List.{slice_split}
 use Rattle.std.specs.Fmt.{signed_decimal}
 use Rattle.controller_file.specs.declared.fault.LineFault.TheVariants.{Form}
-use Rattle.controller_file.specs.Lines.{Keyed, view, line}
 use Rattle.controller_file.proofs.Cuts.{line_cut, line_from_cut, no_words, Found, first_words, found_numbers, numbers_are, numbers_missing}
 use Rattle.controller_file.proofs.line.line_of.Goals as goal
 

@@ -1,8 +1,7 @@
-use Rattle.std.proofs.Common.{◌≡◌, ◌<◌, ℕ, List, [], ◌∷◌, ◌++◌, map, take, length, get_or, Bor, sym, ap, ◌∙◌, arith, refl, rules}
+use Rattle.std.proofs.Common.{◌≡◌, ℕ, List, [], ◌∷◌, ◌++◌, get_or, Bor, ap, ◌∙◌, refl, rules}
 use Rattle.std.proofs.lemmas.Result.{err_from_is_err_and}
 use Rattle.std.proofs.lemmas.List.{take_more}
-use Rattle.controller_file.specs.declared.line.Line.{Line}
-use Rattle.controller_file.specs.Lines.{Keyed, view, views}
+use Rattle.controller_file.specs.Lines.{view, views}
 use Rattle.controller_file.proofs.Cuts.{none, same_at, one_fits, views_more, spelled_more}
 use Rattle.controller_file.proofs.line.lines_from.Goals as goal
 

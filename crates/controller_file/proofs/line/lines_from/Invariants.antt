@@ -1,4 +1,4 @@
-use Rattle.std.proofs.Common.{◌≡◌, ℕ, List, map, take, Bor}
+use Rattle.std.proofs.Common.{◌≡◌, List, map, take}
 use Rattle.std.specs.Prelude.{All}
 use Rattle.controller_file.specs.Lines.{Keyed, views, spelled, Fits, IsLine}
 use Rattle.controller_file.proofs.line.lines_from.Given as goal

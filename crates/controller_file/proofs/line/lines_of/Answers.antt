@@ -1,4 +1,4 @@
-use Rattle.std.proofs.Common.{◌≡◌, ℕ, List, [], ◌∷◌, ◌++◌, length, map, eqb, Bor, sym, ap, ◌∙◌, rules, refl, arith, subst}
+use Rattle.std.proofs.Common.{◌≡◌, ℕ, List, [], ◌∷◌, ◌++◌, map, eqb, Bor, sym, ap, ◌∙◌}
 use Rattle.std.specs.List.{slice_split, IsLastAndRest}
 use Rattle.std.proofs.lemmas.Bool.{eqb-true}
 use Rattle.std.proofs.lemmas.List.{nil_from_length}
@@ -6,7 +6,7 @@ use Rattle.std.proofs.lemmas.Result.{IfOk-weaker}
 use Rattle.qp_model.specs.Lines.{text_of}
 use Rattle.qp_model.proofs.Pieces.{text_of_split}
 use Rattle.controller_file.specs.declared.fault.LineFault.TheVariants.{Form}
-use Rattle.controller_file.specs.Lines.{Keyed, views, spelled}
+use Rattle.controller_file.specs.Lines.{views, spelled}
 use Rattle.controller_file.proofs.Cuts.{no_words, last_piece, text_cut}
 use Rattle.controller_file.proofs.line.lines_of.Goals as goal
 

@@ -1,9 +1,6 @@
-use Rattle.std.proofs.Common.{◌≡◌, sym, ap, ◌∙◌, rules}
-use Rattle.std.specs.Prelude.{All}
+use Rattle.std.proofs.Common.{sym, ap, ◌∙◌}
 use Rattle.std.proofs.lemmas.Result.{err_from_is_err_and}
-use Rattle.controller_file.specs.Lines.{views, keyed_lines, Fits}
-use Rattle.controller_file.specs.Reading.{Gives, parts_at}
-use Rattle.qp_model.specs.Controller.{numbers}
+use Rattle.controller_file.specs.Lines.{views, keyed_lines}
 use Rattle.controller_file.proofs.Texts.{keyed_text, good_lines}
 use Rattle.controller_file.proofs.Answered.{text_found, shape_found, word_found, text_read}
 use Rattle.controller_file.proofs.parts.read_parts.Goals as goal

@@ -1,8 +1,7 @@
-use Rattle.std.proofs.Common.{◌≡◌, ◌∙◌, ◌++◌, ◌∷◌, [], ap, sym, Some, refl, rules}
+use Rattle.std.proofs.Common.{◌≡◌, ◌++◌, ◌∷◌, []}
 use Rattle.std.proofs.lemmas.Result.{err_from_is_err_and}
-use Rattle.mat_int.specs.Matrix.{Matrix}
 use Rattle.controller_file.specs.Lines.{views}
-use Rattle.controller_file.specs.Reading.{all_rows_in, all_rows_at}
+use Rattle.controller_file.specs.Reading.{all_rows_in}
 use Rattle.controller_file.proofs.Loop.{goes_on, ends, is_done, fails_at, gives_at}
 use Rattle.controller_file.proofs.parts.read_rows.Goals as goal
 

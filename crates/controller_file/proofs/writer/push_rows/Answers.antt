@@ -1,4 +1,4 @@
-use Rattle.std.proofs.Common.{◌≡◌, ◌<◌, ◌++◌, ◌∷◌, [], length, get_or, ap, ◌∙◌, string_bytes, List, ℕ, ℤ, rules, arith}
+use Rattle.std.proofs.Common.{◌<◌, ◌++◌, ◌∷◌, [], length, ap, ◌∙◌, string_bytes, List, ℤ, arith}
 use Rattle.qp_model.specs.Lines.{line_of, text_of}
 use Rattle.controller_file.proofs.Pushed.{row_pushed}
 use Rattle.controller_file.proofs.writer.push_rows.Goals as goal

@@ -1,5 +1,4 @@
-use Rattle.std.proofs.Common.{◌≡◌, ◌++◌, take, string_bytes, map, All, FitsSigned}
-use Rattle.std.specs.Int.{w128}
+use Rattle.std.proofs.Common.{◌≡◌, ◌++◌, take, string_bytes, map}
 use Rattle.qp_model.specs.Lines.{line_of, text_of}
 use Rattle.controller_file.proofs.writer.push_rows.Given as goal
 

@@ -1,0 +1,48 @@
+-- Lines with which a text in form begins.
+use Rattle.std.proofs.Common.{◌≡◌, ℕ, ◌<◌, List, [], ◌∷◌, ◌++◌, length, get_or, take, drop, refl, sym, ap, subst, ◌∙◌, append_assoc, arith}
+use Rattle.std.specs.Prelude.{◌↔◌, All}
+use Rattle.std.proofs.lemmas.List.{get_or_at, get_or_append_left, length-append, take_at, take-append-drop}
+use Rattle.qp_model.specs.Controller.{Numbers, IsInForm, FitsWord}
+use Rattle.controller_file.specs.Lines.{Keyed, IsLine, keyed_lines}
+use Rattle.controller_file.specs.Following.{IsBeginning}
+use Rattle.controller_file.proofs.Cuts.{none}
+use Rattle.controller_file.proofs.Texts.{good_lines}
+
+-- one line more
+pub grown : (ls : List Keyed) (l : Keyed) (c : Numbers) (more : List Keyed) → IsInForm c → FitsWord c → keyed_lines c ≡ ls ++ (l ∷ more) → IsBeginning (ls ++ l ∷ [])
+grown ls l c more form word e = record { numbers = c; form = form; word = word; more = more; lines = e ∙ sym (append_assoc ls (l ∷ []) more) }
+
+-- fewer lines
+abbrev pub fewer : (ls ms : List Keyed) → IsBeginning (ls ++ ms) → IsBeginning ls
+fewer ls ms b = record { numbers = b.numbers; form = b.form; word = b.word; more = ms ++ b.more; lines = b.lines ∙ append_assoc ls ms b.more }
+
+pub shorter : (k : ℕ) (ls : List Keyed) → IsBeginning ls → IsBeginning (take k ls)
+shorter k ls b = fewer (take k ls) (drop k ls) (subst (λ (ms : List Keyed). IsBeginning ms) (sym (take-append-drop k ls)) b)
+
+-- a text in form and its first lines
+pub begins : (k : ℕ) (c : Numbers) → IsInForm c → FitsWord c → IsBeginning (take k (keyed_lines c))
+begins k c form word = record { numbers = c; form = form; word = word; more = drop k (keyed_lines c); lines = sym (take-append-drop k (keyed_lines c)) }
+
+-- the lines of the text
+pub front_is : (ls : List Keyed) (b : IsBeginning ls) (k : ℕ) → length ls ≡ k → take k (keyed_lines b.numbers) ≡ ls
+front_is ls b k len = ap (take k) b.lines ∙ take_at ls b.more k len
+
+pub line_is : (ls : List Keyed) (b : IsBeginning ls) (k : ℕ) → k < length ls → get_or (keyed_lines b.numbers) k none ≡ get_or ls k none
+line_is ls b k lt = ap (λ (ms : List Keyed). get_or ms k none) b.lines ∙ get_or_append_left ls b.more none k lt
+
+pub last_is : (ls : List Keyed) (l : Keyed) (b : IsBeginning (ls ++ l ∷ [])) (k : ℕ) → length ls ≡ k → get_or (keyed_lines b.numbers) k none ≡ l
+last_is ls l b k len = ap (λ (ms : List Keyed). get_or ms k none) (b.lines ∙ append_assoc ls (l ∷ []) b.more) ∙ get_or_at ls l b.more none k len
+
+-- each of them can be read
+pub lines_good : (ls : List Keyed) → IsBeginning ls → All IsLine ls
+lines_good ls b k d lt =
+    let all : All IsLine (ls ++ b.more) = subst (λ (ms : List Keyed). All IsLine ms) b.lines (good_lines b.numbers b.form b.word) in
+    subst IsLine (get_or_append_left ls b.more d k lt) (all k d (omega (arith, length-append ls b.more)))
+
+-- what a test decides, by what it says
+pub through : {A B C : Type 0} → (A ↔ B) → (B ↔ C) → (A ↔ C)
+through h k = (λ a. k.0 (h.0 a), λ c. h.1 (k.1 c))
+
+-- the line at the end can be read
+pub last_good : (ls : List Keyed) (l : Keyed) → IsBeginning (ls ++ l ∷ []) → IsLine l
+last_good ls l b = subst IsLine (get_or_at ls l [] l (length ls) refl) (lines_good (ls ++ l ∷ []) b (length ls) l (omega (arith, length-append ls (l ∷ []))))

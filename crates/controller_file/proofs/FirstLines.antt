@@ -1,0 +1,175 @@
+-- The first line at which bytes are no text in form, by the pieces between their line feeds.
+use Rattle.std.proofs.Common.{◌≡◌, ◌≢◌, ℕ, zero, suc, ◌+◌, ◌-◌, ◌<◌, ◌≤◌, Bor, eqb, List, [], ◌∷◌, ◌++◌, length, get_or, take, drop, map, refl, sym, ap, subst, ◌∙◌, append_assoc, arith, eq-eqb, add-one}
+use Rattle.std.specs.Prelude.{All}
+use Rattle.std.specs.List.{join_with_byte, slice_split}
+use Rattle.std.proofs.lemmas.Bool.{ne_eqb, false≢true}
+use Rattle.std.proofs.lemmas.List.{take_at, take_all, take_more, take-take, take-map, take-append-le, take-append-drop, length-append, length-map, length-take, length-take-le, get_or-take, get_or-map, map-append}
+use Rattle.std.proofs.lemmas.List.Splits.{join_with_byte-slice_split, length-slice_split}
+use Rattle.std.proofs.lemmas.List.Sums.{count_by-le-length}
+use Rattle.qp_model.specs.Lines.{text_of}
+use Rattle.qp_model.proofs.Pieces.{IsPiece, ArePieces, split_text}
+use Rattle.controller_file.specs.FirstLine.{IsOneLine, BeginsInForm, IsFirstLine}
+use Rattle.controller_file.specs.Lines.{Keyed, spelled, keyed_lines}
+use Rattle.controller_file.specs.Following.{IsBeginning, BeginsWith, IsMost}
+use Rattle.controller_file.proofs.Cuts.{none, cut_some, line_pieces}
+use Rattle.controller_file.proofs.Texts.{keyed_text}
+use Rattle.controller_file.proofs.Pushed.{text_append}
+use Rattle.controller_file.proofs.Uniqueness.{one_lines, split_more, pieces_of}
+use Rattle.controller_file.proofs.Beginnings.{shorter, begins, lines_good}
+use Rattle.controller_file.proofs.Blank.{blank, blank_form, blank_fits}
+
+abbrev pub pieces : List ℕ → List (List ℕ)
+pieces bytes = slice_split (λ b. eqb b 10) bytes
+
+-- ---- lines as pieces
+
+piece_from : (line : List ℕ) → IsOneLine line → IsPiece 10 line
+piece_from line h k d lt = ne_eqb (get_or line k d) 10 (h k d lt)
+
+one_line_from : (line : List ℕ) → IsPiece 10 line → IsOneLine line
+one_line_from line h k d lt = λ same. false≢true (sym (h k d lt) ∙ eq-eqb (get_or line k d) 10 same)
+
+pieces_from : (ls : List (List ℕ)) → All IsOneLine ls → ArePieces 10 ls
+pieces_from [] h = tt
+pieces_from (l ∷ ls) h = (piece_from l (h 0 l (omega arith)), pieces_from ls (λ k d lt. h (suc k) d (omega arith)))
+
+lines_from : (ls : List (List ℕ)) → ArePieces 10 ls → All IsOneLine ls
+lines_from [] h k d lt = absurd (omega arith)
+lines_from (l ∷ ls) h zero d lt = one_line_from l h.0
+lines_from (l ∷ ls) h (suc k) d lt = lines_from ls h.1 k d (omega arith)
+
+-- lines and what is after them
+joined_front : (ls rest : List (List ℕ)) → 0 < length rest → join_with_byte 10 (ls ++ rest) ≡ text_of ls ++ join_with_byte 10 rest
+joined_front [] rest some = refl
+joined_front (l ∷ []) [] some = absurd (omega arith)
+joined_front (l ∷ []) (r ∷ rs) some = last l (join_with_byte 10 (r ∷ rs))
+  where
+    last : (l rest : List ℕ) → l ++ (10 ∷ rest) ≡ l ++ 10 ∷ [] ++ [] ++ rest
+    last l rest = simp append_assoc
+joined_front (l ∷ m ∷ ls) rest some = ap (λ (t : List ℕ). l ++ (10 ∷ t)) (joined_front (m ∷ ls) rest some) ∙ one l (text_of (m ∷ ls)) (join_with_byte 10 rest)
+  where
+    one : (l front rest : List ℕ) → l ++ (10 ∷ (front ++ rest)) ≡ l ++ 10 ∷ [] ++ front ++ rest
+    one l front rest = simp append_assoc
+
+front_lines : (xs ys zs : List (List ℕ)) (x : List ℕ) → xs ++ x ∷ [] ≡ ys ++ zs → 0 < length zs → (length ys ≤ length xs) × (take (length ys) xs ≡ ys)
+front_lines xs ys zs x e some =
+    let le : length ys ≤ length xs = omega (arith, ap length e, length-append xs (x ∷ []), length-append ys zs, some) in
+    (le, sym (take-append-le (length ys) xs (x ∷ []) le) ∙ ap (take (length ys)) e ∙ take_at ys zs (length ys) refl)
+
+-- ---- some text in form begins with lines of bytes, and with pieces of them
+
+fewer_pieces : (ps : List (List ℕ)) (k j : ℕ) → BeginsWith ps k → j ≤ k → BeginsWith ps j
+fewer_pieces ps k j w le = record {
+  lines = take j w.lines;
+  beginning = shorter j w.lines w.beginning;
+  within = omega (arith, w.within, le);
+  spelling = sym (take-map spelled j w.lines) ∙ ap (take j) w.spelling ∙ take-take j k ps le;
+}
+
+begins_in : (bytes : List ℕ) (whole : List (List ℕ)) (last : List ℕ) (k : ℕ) → pieces bytes ≡ whole ++ last ∷ [] → BeginsWith whole k → BeginsInForm bytes k
+begins_in bytes whole last k cut w =
+    let b = w.beginning in
+    let lines = map spelled w.lines in
+    let rest = drop k whole ++ last ∷ [] in
+    let parts : pieces bytes ≡ lines ++ rest =
+    cut ∙ ap (λ (ps : List (List ℕ)). ps ++ last ∷ []) (sym (take-append-drop k whole)) ∙ append_assoc (take k whole) (drop k whole) (last ∷ []) ∙ ap (λ (ps : List (List ℕ)). ps ++ rest) (sym w.spelling) in
+    let some : 0 < length rest = omega (arith, length-append (drop k whole) (last ∷ [])) in
+    record {
+      lines = lines;
+      count = ap length w.spelling ∙ length-take-le k whole w.within;
+      each = lines_from lines (line_pieces w.lines (lines_good w.lines b));
+      rest = join_with_byte 10 rest;
+      split = sym (join_with_byte-slice_split 10 bytes) ∙ ap (join_with_byte 10) parts ∙ joined_front lines rest some;
+      numbers = b.numbers;
+      more = text_of (map spelled b.more);
+      form = record {
+        form = b.form;
+        word = b.word;
+        text = sym (text_append lines (map spelled b.more)) ∙ ap text_of (sym (map-append spelled w.lines b.more)) ∙ ap (λ (ls : List Keyed). text_of (map spelled ls)) (sym b.lines) ∙ keyed_text b.numbers;
+      };
+    }
+
+begins_with : (bytes : List ℕ) (whole : List (List ℕ)) (last : List ℕ) (k : ℕ) → pieces bytes ≡ whole ++ last ∷ [] → BeginsInForm bytes k → BeginsWith whole k
+begins_with bytes whole last k cut b =
+    let f = b.form in
+    let c = b.numbers in
+    let ls = keyed_lines c in
+    let apart = pieces_from b.lines b.each in
+    let here : whole ++ last ∷ [] ≡ b.lines ++ pieces b.rest = sym cut ∙ ap pieces b.split ∙ split_more b.lines b.rest apart in
+    let there : map spelled ls ++ [] ∷ [] ≡ b.lines ++ pieces b.more = sym (split_text (map spelled ls) (pieces_of c f.form f.word)) ∙ ap pieces (keyed_text c ∙ sym f.text) ∙ split_more b.lines b.more apart in
+    let front = front_lines whole b.lines (pieces b.rest) last here (cut_some 10 b.rest) in
+    let lines = front_lines (map spelled ls) b.lines (pieces b.more) [] there (cut_some 10 b.more) in
+    let begun : BeginsWith whole (length b.lines) = record {
+      lines = take (length b.lines) ls;
+      beginning = begins (length b.lines) c f.form f.word;
+      within = front.0;
+      spelling = sym (take-map spelled (length b.lines) ls) ∙ lines.1 ∙ sym front.1;
+    } in
+    subst (λ (n : ℕ). BeginsWith whole n) b.count begun
+
+-- the line after the most that are right
+pub most_first : (bytes : List ℕ) (whole : List (List ℕ)) (last : List ℕ) (k : ℕ) → pieces bytes ≡ whole ++ last ∷ [] → IsMost whole k → IsFirstLine bytes (k + 1)
+most_first bytes whole last k cut m = record {
+  low = omega arith;
+  before = λ j lt. begins_in bytes whole last j cut (fewer_pieces whole k j m.these (omega (arith, lt)));
+  here = λ b. m.no_more (subst (λ (n : ℕ). BeginsWith whole n) (add-one k) (begins_with bytes whole last (k + 1) cut b));
+}
+
+-- ---- pieces that are read one by one
+
+-- where no line follows, none does
+pub stuck : (ps : List (List ℕ)) (ls : List Keyed) (i : ℕ) → IsBeginning ls → i < length ps → map spelled ls ≡ take i ps → ((l : Keyed) → IsBeginning (ls ++ l ∷ []) → get_or ps i [] ≢ spelled l) → ¬ BeginsWith ps (suc i)
+stuck ps ls i b lt so_far none_follows w =
+    let ms = w.lines in
+    let count : length ms ≡ suc i = sym (length-map ms spelled) ∙ ap length w.spelling ∙ length-take-le (suc i) ps w.within in
+    let within : i < length ms = omega (arith, count) in
+    let m = get_or ms i none in
+    let parts : ms ≡ take i ms ++ m ∷ [] = sym (take_all (i + 1) ms (omega (arith, count))) ∙ take_more ms i none within in
+    let front : map spelled (take i ms) ≡ map spelled ls = sym (take-map spelled i ms) ∙ ap (take i) w.spelling ∙ take-take i (suc i) ps (omega arith) ∙ sym so_far in
+    let same : take i ms ≡ ls = one_lines (take i ms) ls (lines_good (take i ms) (shorter i ms w.beginning)) (lines_good ls b) front in
+    let here : get_or ps i [] ≡ spelled m = sym (get_or-take (suc i) ps i [] (omega arith)) ∙ ap (λ (qs : List (List ℕ)). get_or qs i []) (sym w.spelling) ∙ get_or-map spelled ms i none [] within in
+    none_follows m (subst (λ (ks : List Keyed). IsBeginning ks) (parts ∙ ap (λ (ks : List Keyed). ks ++ m ∷ []) same) w.beginning) here
+
+pub most_from : (ps : List (List ℕ)) (ls : List Keyed) (i n : ℕ) → IsBeginning ls → i ≤ length ps → map spelled ls ≡ take i ps → length ls ≡ n → ¬ BeginsWith ps (suc i) → IsMost ps n
+most_from ps ls i n b le so_far len none_more =
+    let same : i ≡ n = sym (length-take-le i ps le) ∙ ap length (sym so_far) ∙ length-map ls spelled ∙ len in
+    subst (λ (k : ℕ). IsMost ps k) same (record { these = record { lines = ls; beginning = b; within = le; spelling = so_far }; no_more = none_more })
+
+pub all_right : (ps : List (List ℕ)) (i : ℕ) → length ps ≤ i → ¬ BeginsWith ps (suc i)
+all_right ps i le w = omega (arith, w.within)
+
+pub nothing : IsBeginning []
+nothing = begins 0 (blank 1 1 1 1) (blank_form 1 1 1 1 (omega arith, omega arith) (omega arith, omega arith) (omega arith, omega arith) (omega arith, omega arith)) (blank_fits 1 1 1 1)
+
+-- one piece more
+pub one_more : (ps : List (List ℕ)) (ls : List Keyed) (i : ℕ) (l : Keyed) → i < length ps → map spelled ls ≡ take i ps → get_or ps i [] ≡ spelled l → map spelled (ls ++ l ∷ []) ≡ take (i + 1) ps
+one_more ps ls i l lt so_far here = map-append spelled ls (l ∷ []) ∙ (λ j. so_far j ++ (sym here j ∷ [])) ∙ sym (take_more ps i [] lt)
+
+-- ---- pieces as they are read
+
+abbrev pub none_read : Bor (List ℕ)
+none_read = record { ref_ptr = (0, 0); now = [] }
+
+pub whole_pieces : (bytes : List ℕ) (ps : List (Bor (List ℕ))) (k : ℕ) → map (λ x. x.now) ps ≡ pieces bytes → length ps ≡ k → pieces bytes ≡ map (λ x. x.now) (take (k - 1) ps) ++ (get_or ps (k - 1) none_read).now ∷ []
+whole_pieces bytes ps k same count =
+    let some : 0 < k = omega (arith, cut_some 10 bytes, ap length same, length-map ps (λ (x : Bor (List ℕ)). x.now), count) in
+    let all : take (k - 1 + 1) ps ≡ ps = take_all (k - 1 + 1) ps (omega (arith, count, some)) in
+    sym same ∙ ap (map (λ (x : Bor (List ℕ)). x.now)) (sym all ∙ take_more ps (k - 1) none_read (omega (arith, count, some))) ∙ map-append (λ (x : Bor (List ℕ)). x.now) (take (k - 1) ps) (get_or ps (k - 1) none_read ∷ [])
+
+-- there is a piece, and there are few
+pub some_piece : (bytes : List ℕ) (ps : List (Bor (List ℕ))) → map (λ x. x.now) ps ≡ pieces bytes → 0 < length ps
+some_piece bytes ps same = omega (arith, cut_some 10 bytes, ap length same, length-map ps (λ (x : Bor (List ℕ)). x.now))
+
+pub few_right : (bytes : List ℕ) (ps : List (Bor (List ℕ))) (k n : ℕ) → map (λ x. x.now) ps ≡ pieces bytes → length ps ≡ k → IsMost (map (λ x. x.now) (take (k - 1) ps)) n → n ≤ length bytes
+few_right bytes ps k n same count m =
+    omega (
+      arith,
+      m.these.within,
+      length-map (take (k - 1) ps) (λ (x : Bor (List ℕ)). x.now),
+      length-take (k - 1) ps,
+      count,
+      ap length same,
+      length-map ps (λ (x : Bor (List ℕ)). x.now),
+      length-slice_split (λ b. eqb b 10) bytes,
+      count_by-le-length (λ b. eqb b 10) bytes,
+    )

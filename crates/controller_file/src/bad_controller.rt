@@ -1,0 +1,27 @@
+ghost use Rattle.std.specs.Prelude.{◌≡◌};
+ghost use Rattle.controller_file.specs.declared.bad_controller.BadController.TheVariants.{Memory};
+
+use std::alloc::AllocError;
+use thiserror::Error;
+
+/// Why bytes are no controller's text.
+#[derive(Clone, Copy, Debug, PartialEq, Eq, Error)]
+pub enum BadController {
+    #[error("memory")]
+    Memory,
+    /// The line with this number, from 1, is the first that no controller text in form has there, after the lines before it. A last piece without a
+    /// line feed is such a line, an absent line counts as the next, and so do bytes after the line `end`.
+    #[error("line {line}")]
+    Line { line: u32 },
+    /// All lines are in form, but the absolute sums of the numbers don't fit the width that the text says.
+    #[error("unsafe")]
+    Unsafe,
+}
+
+impl From<AllocError> for BadController {
+    ghost from_gives = { λ _ e. e ≡ Memory };
+
+    fn from(_: AllocError) -> Self {
+        BadController::Memory
+    }
+}
