@@ -1,10 +1,10 @@
 -- What `solve` answers.
-use Rattle.std.proofs.Common.{◌≡◌, ◌⊎◌, inl, inr, ℕ, List, length, Option, Some, None, refl, arith}
+use Rattle.std.proofs.Common.{◌≡◌, ◌⊎◌, inl, inr, ℕ, List, length, Option, Some, None, refl}
 use Rattle.std.specs.Prelude.{IfSome}
 use Rattle.io_edge.specs.Faults.{Files, Rose}
 use Rattle.mpc_cli.specs.Words.{word_of}
 use Rattle.mpc_cli.specs.Solve.{SolveCause, HoldsPlan, Refuses}
-use Rattle.mpc_cli.specs.Reading.{NoneRose}
+use Rattle.mpc_cli.specs.Reading.{NoReadFailed}
 use Rattle.mpc_cli.specs.declared.status.Status.{Status}
 use Rattle.mpc_cli.specs.declared.status.Status.TheVariants.{Done, Memory, ReadFault}
 use Rattle.mpc_cli.proofs.Causes.{solve_decided}
@@ -18,17 +18,17 @@ abbrev pub Fault : List (List ℕ) → (before now : List ℕ → ℕ) → Statu
 Fault words before now status =
     (file : ℕ) → status ≡ ReadFault file → ((file ≡ 1) × Rose (before (word_of words 1)) (now (word_of words 1))) ⊎ ((file ≡ 2) × Rose (before (word_of words 2)) (now (word_of words 2)))
 
-no_fault : (words : List (List ℕ)) (before now : List ℕ → ℕ) (status : Status) → length words ≡ 3 → Fault words before now status → NoneRose words before now → (file : ℕ) → status ≡ ReadFault file → ⊥
-no_fault words before now status few fault none file is = elim (fault file is) [ inl r ↦ none 1 (omega (arith, few)) r.1 | inr r ↦ none 2 (omega (arith, few)) r.1 ]
+no_fault : (words : List (List ℕ)) (before now : List ℕ → ℕ) (status : Status) → Fault words before now status → NoReadFailed words before now → (file : ℕ) → status ≡ ReadFault file → ⊥
+no_fault words before now status fault none file is = elim (fault file is) [ inl r ↦ none 1 (inl refl) r.1 | inr r ↦ none 2 (inr refl) r.1 ]
 
-refused : (files : Files) (words : List (List ℕ)) (before now : List ℕ → ℕ) (status s : Status) → length words ≡ 3 → Refuses files (word_of words 1) (word_of words 2) status → Fault words before now status →
-    SolveCause files (word_of words 1) (word_of words 2) s → NoneRose words before now → (status ≡ s) ⊎ (status ≡ Memory)
-refused files words before now status s few (inl memory) fault cause none = inr memory
-refused files words before now status s few (inr (inl (inl failed))) fault cause none = absurd (no_fault words before now status few fault none 1 failed)
-refused files words before now status s few (inr (inl (inr failed))) fault cause none = absurd (no_fault words before now status few fault none 2 failed)
-refused files words before now status s few (inr (inr why)) fault cause none = inl (solve_decided files (word_of words 1) (word_of words 2) status s why.1 cause)
+refused : (files : Files) (words : List (List ℕ)) (before now : List ℕ → ℕ) (status s : Status) → Refuses files (word_of words 1) (word_of words 2) status → Fault words before now status →
+    SolveCause files (word_of words 1) (word_of words 2) s → NoReadFailed words before now → (status ≡ s) ⊎ (status ≡ Memory)
+refused files words before now status s (inl memory) fault cause none = inr memory
+refused files words before now status s (inr (inl (inl failed))) fault cause none = absurd (no_fault words before now status fault none 1 failed)
+refused files words before now status s (inr (inl (inr failed))) fault cause none = absurd (no_fault words before now status fault none 2 failed)
+refused files words before now status s (inr (inr why)) fault cause none = inl (solve_decided files (word_of words 1) (word_of words 2) status s why.1 cause)
 
-pub answers_refused : (D : Type 0) (held : Option Files) (words : List (List ℕ)) (before now : List ℕ → ℕ) (status : Status) → length words ≡ 3 → IfSome held (λ files. Refuses files (word_of words 1) (word_of words 2) status) →
-    Fault words before now status → IfSome held (λ files. (s : Status) → SolveCause files (word_of words 1) (word_of words 2) s → NoneRose words before now → D → (status ≡ s) ⊎ (status ≡ Memory))
-answers_refused D (Some files) words before now status few why fault = λ s cause none d. refused files words before now status s few why fault cause none
-answers_refused D None words before now status few why fault = tt
+pub answers_refused : (D : Type 0) (held : Option Files) (words : List (List ℕ)) (before now : List ℕ → ℕ) (status : Status) → IfSome held (λ files. Refuses files (word_of words 1) (word_of words 2) status) →
+    Fault words before now status → IfSome held (λ files. (s : Status) → SolveCause files (word_of words 1) (word_of words 2) s → NoReadFailed words before now → D → (status ≡ s) ⊎ (status ≡ Memory))
+answers_refused D (Some files) words before now status why fault = λ s cause none d. refused files words before now status s why fault cause none
+answers_refused D None words before now status why fault = tt

@@ -1,5 +1,5 @@
 -- What the parts of a run answer on the way.
-use Rattle.std.specs.Prelude.{◌≡◌, ◌⊎◌, ℕ, ◌<◌, List, length, Result, Err, IsOk}
+use Rattle.std.specs.Prelude.{◌≡◌, ◌⊎◌, ℕ, List, Result, Err, IsOk}
 use Rattle.io_edge.specs.Faults.{Files, Rose, IsWritten, IsCutShort}
 use Rattle.qp_model.specs.Policy.{Plans}
 use Rattle.qp_model.specs.Controller.{Numbers}
@@ -15,7 +15,7 @@ use Rattle.design_files.specs.DesignText.{IsFirstFault}
 use Rattle.design_engine.specs.Targets.{targets_of, IsWithinTargets}
 use Rattle.design_engine.specs.Built.{IsBuilt}
 use Rattle.design_engine.specs.Refusals.{PassesAll}
-use Rattle.mpc_cli.specs.Words.{word_of}
+use Rattle.mpc_cli.specs.Words.{word_of, IsTextGenerate}
 use Rattle.mpc_cli.specs.Generate.{IsMade, IsFileRefused, IsPolicyRefused, IsRefused}
 use Rattle.mpc_cli.specs.declared.status.Status.{Status}
 use Rattle.mpc_cli.specs.declared.status.Status.TheVariants.{Done, Memory, ReadFault, WriteFault, Text, Long}
@@ -32,9 +32,13 @@ Stops file s P = P ⊎ ((s ≡ Memory) ⊎ (s ≡ ReadFault file))
 abbrev pub TellsOfFile : ℕ → Status → Type 0
 TellsOfFile file s = (s ≡ Long file) ⊎ ((fault : TextFault) × (s ≡ Text file fault))
 
--- no count of a word's faults rose
-abbrev pub NoneRose : List (List ℕ) → (before now : List ℕ → ℕ) → Type 0
-NoneRose words before now = (file : ℕ) → file < length words → ¬ Rose (before (word_of words file)) (now (word_of words file))
+-- no count of failed reads rose of a file that the command reads
+abbrev pub NoReadFailed : List (List ℕ) → (before now : List ℕ → ℕ) → Type 0
+NoReadFailed words before now = (file : ℕ) → (file ≡ 1) ⊎ (file ≡ 2) → ¬ Rose (before (word_of words file)) (now (word_of words file))
+
+-- no count of failed writes rose of a file that the command writes
+abbrev pub NoWriteFailed : List (List ℕ) → (before now : List ℕ → ℕ) → Type 0
+NoWriteFailed words before now = IsTextGenerate words → (file : ℕ) → (file ≡ 3) ⊎ (file ≡ 4) → ¬ Rose (before (word_of words file)) (now (word_of words file))
 
 -- the text of a controller, and the report of its bounds, both built of a design with a policy
 pub record AreTextsOf (p : DesignParts) (plans : Plans) (text report : List ℕ) : Type 0 where

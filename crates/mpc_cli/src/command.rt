@@ -1,11 +1,11 @@
 // The command line's words, the files and the output.
-ghost use Rattle.std.specs.Prelude.{◌≡◌, ◌≢◌, ◌⊎◌, ◌<◌, ℕ, length, IfSome, IsSomeAnd};
+ghost use Rattle.std.specs.Prelude.{◌≡◌, ◌⊎◌, ℕ, IfSome, IsSomeAnd};
 ghost use Rattle.io_edge.specs.Faults.{Rose, NoneFalls};
 ghost use Rattle.qp_model.specs.Controller.{Numbers};
 ghost use Rattle.mpc_cli.specs.Words.{word_of, IsSolve, AsksToGenerate, IsTextGenerate};
 ghost use Rattle.mpc_cli.specs.Solve.{HoldsController, SolveCause};
 ghost use Rattle.mpc_cli.specs.Generate.{IsGenerated, IsControllerCut, IsReportCut};
-ghost use Rattle.mpc_cli.specs.Reading.{NoneRose};
+ghost use Rattle.mpc_cli.specs.Reading.{NoReadFailed, NoWriteFailed};
 ghost use Rattle.mpc_cli.specs.Causes.{Causes, IsCaused, IsShown, HasFirst, MayWrite, WordsCause};
 
 use crate::generate::generate_from;
@@ -37,10 +37,10 @@ pub fn run<S: Store, O: Sink>(alloc: Global, words: &Words, store: &mut S, out: 
     // Every answer but want of memory and a fault has its cause in the words and the files.
     ensures causes { IsCaused result → IfSome (S.held store.old) (λ files. Causes files words.now result) }
 
-    // It doesn't give up: where no count rises, the answer is the one that the words and the files call for, or there was no memory.
+    // It doesn't give up: where no count rises of a file that the command reads or writes, nor that of the output, the answer is the one that the
+    // words and the files call for, or there was no memory.
     ensures answers { IfSome (S.held store.old) (λ files. (s : Status) → Causes files words.now s
-        → ((file : ℕ) → file < length words.now → ¬ Rose (S.read_faults store.old (word_of words.now file)) (S.read_faults store.new (word_of words.now file)))
-        → ((file : ℕ) → file < length words.now → ¬ Rose (S.write_faults store.old (word_of words.now file)) (S.write_faults store.new (word_of words.now file)))
+        → NoReadFailed words.now (S.read_faults store.old) (S.read_faults store.new) → NoWriteFailed words.now (S.write_faults store.old) (S.write_faults store.new)
         → ¬ Rose (O.faults out.old) (O.faults out.new)
         → (result ≡ s) ⊎ (result ≡ Status.Memory)) }
 
@@ -75,7 +75,7 @@ fn generate_by<S: Store>(alloc: Global, words: &Words, store: &mut S) -> Status
     ensures report_cut { result ≡ Status.WriteFault 4 → IfSome (S.held store.old) (λ files. IsSomeAnd (S.held store.new) (IsReportCut words.now files)) }
     ensures causes { IsCaused result → IfSome (S.held store.old) (λ files. Causes files words.now result) }
     ensures answers { IfSome (S.held store.old) (λ files. (s : Status) → Causes files words.now s
-        → NoneRose words.now (S.read_faults store.old) (S.read_faults store.new) → NoneRose words.now (S.write_faults store.old) (S.write_faults store.new)
+        → NoReadFailed words.now (S.read_faults store.old) (S.read_faults store.new) → NoWriteFailed words.now (S.write_faults store.old) (S.write_faults store.new)
         → (result ≡ s) ⊎ (result ≡ Status.Memory)) }
     ensures read_fault { (file : ℕ) → result ≡ Status.ReadFault file → IsTextGenerate words.now × ((file ≡ 1) ⊎ (file ≡ 2))
         × Rose (S.read_faults store.old (word_of words.now file)) (S.read_faults store.new (word_of words.now file)) }
@@ -102,7 +102,7 @@ fn solve_by<S: Store, O: Sink>(alloc: Global, words: &Words, store: &mut S, out:
     ensures shows { IfSome (S.held store.old) (λ files. IfSome (O.got out.old) (λ old. IsSomeAnd (O.got out.new) (IsShown files words.now result old))) }
     ensures causes { IsCaused result → IfSome (S.held store.old) (λ files. SolveCause files (word_of words.now 1) (word_of words.now 2) result) }
     ensures answers { IfSome (S.held store.old) (λ files. (s : Status) → SolveCause files (word_of words.now 1) (word_of words.now 2) s
-        → NoneRose words.now (S.read_faults store.old) (S.read_faults store.new) → ¬ Rose (O.faults out.old) (O.faults out.new)
+        → NoReadFailed words.now (S.read_faults store.old) (S.read_faults store.new) → ¬ Rose (O.faults out.old) (O.faults out.new)
         → (result ≡ s) ⊎ (result ≡ Status.Memory)) }
     ensures read_fault { (file : ℕ) → result ≡ Status.ReadFault file → ((file ≡ 1) ⊎ (file ≡ 2))
         × Rose (S.read_faults store.old (word_of words.now file)) (S.read_faults store.new (word_of words.now file)) }

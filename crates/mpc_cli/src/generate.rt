@@ -13,7 +13,7 @@ ghost use Rattle.design_engine.specs.declared.refusal.Refusal.{Refusal};
 ghost use Rattle.mpc_cli.specs.Words.{word_of, IsTextGenerate};
 ghost use Rattle.mpc_cli.specs.Limit.{file_limit};
 ghost use Rattle.mpc_cli.specs.Generate.{HoldsDesign, HoldsPolicy, IsFileRefused, IsAccepted, GenerateCause, status_of, IsGenerated, IsControllerCut, IsReportCut};
-ghost use Rattle.mpc_cli.specs.Reading.{Unless, Stops, TellsOfFile, NoneRose, AreTextsOf, Passes, AreTexts, IsTurnedDown, Answered, Writes, AreWritten, IsSecondCut};
+ghost use Rattle.mpc_cli.specs.Reading.{Unless, Stops, TellsOfFile, NoReadFailed, NoWriteFailed, AreTextsOf, Passes, AreTexts, IsTurnedDown, Answered, Writes, AreWritten, IsSecondCut};
 ghost use Rattle.mpc_cli.specs.Causes.{IsCaused};
 
 use crate::files::bytes_in;
@@ -205,7 +205,7 @@ pub fn generate_from<S: Store>(alloc: Global, words: &Words, store: &mut S) -> S
     ensures report_cut { result ≡ Status.WriteFault 4 → IfSome (S.held store.old) (λ files. IsSomeAnd (S.held store.new) (IsReportCut words.now files)) }
     ensures causes { IsCaused result → IfSome (S.held store.old) (λ files. GenerateCause files (word_of words.now 1) (word_of words.now 2) result) }
     ensures answers { IfSome (S.held store.old) (λ files. (s : Status) → GenerateCause files (word_of words.now 1) (word_of words.now 2) s
-        → NoneRose words.now (S.read_faults store.old) (S.read_faults store.new) → NoneRose words.now (S.write_faults store.old) (S.write_faults store.new)
+        → NoReadFailed words.now (S.read_faults store.old) (S.read_faults store.new) → NoWriteFailed words.now (S.write_faults store.old) (S.write_faults store.new)
         → (result ≡ s) ⊎ (result ≡ Status.Memory)) }
     ensures read_fault { (file : ℕ) → result ≡ Status.ReadFault file → ((file ≡ 1) ⊎ (file ≡ 2))
         × Rose (S.read_faults store.old (word_of words.now file)) (S.read_faults store.new (word_of words.now file)) }

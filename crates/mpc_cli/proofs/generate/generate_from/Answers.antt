@@ -55,7 +55,7 @@ returns-in-Ok-clause-answers g c =
     let answers = rw (c.at.ensures, c.at-2.ensures) at c.in-Ok.ensures.answers in
     let third = rw c.at-in-Ok.ensures at c.put_texts.ensures.third_failed in
     let fourth = rw c.at-in-Ok-2.ensures at c.put_texts.ensures.fourth_failed in
-    put_answers _ (g.S.Store.held c.args.store.now) words before now (Ok c.in-Ok.texts) c.in-Ok.texts c.put_texts.result c.requires.generate.count refl c.put_texts.ensures.only
+    put_answers _ (g.S.Store.held c.args.store.now) words before now (Ok c.in-Ok.texts) c.in-Ok.texts c.put_texts.result c.requires refl c.put_texts.ensures.only
     (λ is. rose_later (before (word_of words 3)) (mid (word_of words 3)) (now (word_of words 3)) (c.in-Ok.ensures.writes.each (word_of words 3)) (c.put_texts.ensures.writes.each (word_of words 3)) (third is))
     (λ is. rose_later (before (word_of words 4)) (mid (word_of words 4)) (now (word_of words 4)) (c.in-Ok.ensures.writes.each (word_of words 4)) (c.put_texts.ensures.writes.each (word_of words 4)) (fourth is))
     answers
@@ -69,7 +69,7 @@ pub returns-in-Err-clause-answers : goal.returns-in-Err-clause-answers
 returns-in-Err-clause-answers g c =
     let fault = rw (c.at.ensures, c.at-2.ensures) at c.in-Err.ensures.read_fault in
     let answers = rw (c.at.ensures, c.at-2.ensures) at c.in-Err.ensures.answers in
-    stop_answers _ (g.S.Store.held c.args.store.now) c.args.words.now (g.S.Store.read_faults c.args.store.now) (g.S.Store.read_faults c.texts_for.new.store) (Err c.in-Err.status) c.in-Err.status c.requires.generate.count refl
+    stop_answers _ (g.S.Store.held c.args.store.now) c.args.words.now (g.S.Store.read_faults c.args.store.now) (g.S.Store.read_faults c.texts_for.new.store) (Err c.in-Err.status) c.in-Err.status refl
     (λ file is. fault file (ap Err is)) answers
 
 pub returns-in-Err-clause-in_order : goal.returns-in-Err-clause-in_order
