@@ -1,8 +1,11 @@
 pub mod Words
+pub mod Commands
 pub mod Limit
+pub mod FileRefused
 pub mod Solve
 pub mod Generate
 pub mod Reading
+pub mod Running
 pub mod Causes
 pub mod Status
-pub mod Lines
+pub mod StatusLine
