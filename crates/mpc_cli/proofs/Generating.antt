@@ -11,6 +11,7 @@ use Rattle.integer_algebra.specs.Sums.{at}
 use Rattle.mat_int.specs.Matrix.{entry_of}
 use Rattle.std.proofs.Common.{unsigned_abs}
 use Rattle.qp_model.specs.Parts.{cost_row, limit_row, final_row}
+use Rattle.bound_report.specs.Report.{report_text}
 use Rattle.design_files.specs.DesignText.{IsFirstFault}
 use Rattle.policy_file.specs.PolicyText.{IsPolicyFault}
 use Rattle.design_engine.specs.Targets.{Targets, targets_of}
@@ -18,8 +19,7 @@ use Rattle.design_engine.specs.Refusals.{HasCause, PassesAll}
 use Rattle.design_engine.specs.declared.refusal.Refusal.{Refusal}
 use Rattle.design_engine.specs.declared.refusal.Refusal.TheVariants as refusals
 use Rattle.mpc_cli.specs.Words.{word_of, IsGenerate}
-use Rattle.mpc_cli.specs.Generate.{HoldsDesign, HoldsPolicy, HoldsInputs, IsAccepted, GenerateCause, status_of, IsGenerated, IsControllerCut, IsReportCut}
-use Rattle.mpc_cli.specs.FileRefused.{IsFileRefused}
+use Rattle.mpc_cli.specs.Generate.{HoldsDesign, HoldsPolicy, HoldsInputs, IsFileRefused, IsAccepted, GenerateCause, status_of, IsGenerated, IsControllerCut, IsReportCut}
 use Rattle.mpc_cli.specs.Reading.{Unless, Stops, TellsOfFile, AreTextsOf, Passes, AreTexts, IsTurnedDown, Answered, AreWritten, IsSecondCut}
 use Rattle.mpc_cli.specs.Causes.{IsCaused}
 use Rattle.mpc_cli.specs.declared.status.Status.{Status}
@@ -136,9 +136,9 @@ turned_down held first second p plans e inputs (inl memory) caused = absurd (cau
 turned_down held first second p plans e inputs (inr why) caused = both_turned_down held first second p plans e why.0 inputs why.1 why.2
 
 -- ---- what is made
-pub texts_made : (held : Option Files) (first second name : List ℕ) (p : DesignParts) (plans : Plans) (text report : List ℕ) → Inputs held first second p plans → AreTextsOf p plans name text report →
-    IfSome held (λ files. AreTexts files first second name text report)
-texts_made (Some files) first second name p plans text report inputs texts = record {
+pub texts_made : (held : Option Files) (first second : List ℕ) (p : DesignParts) (plans : Plans) (text report : List ℕ) → Inputs held first second p plans → AreTextsOf p plans text report →
+    IfSome held (λ files. AreTexts files first second text report)
+texts_made (Some files) first second p plans text report inputs texts = record {
   controller = texts.controller;
   bounds = texts.bounds;
   made = record {
@@ -152,7 +152,7 @@ texts_made (Some files) first second name p plans text report inputs texts = rec
   is_text = texts.is_text;
   is_report = texts.is_report;
 }
-texts_made None first second name p plans text report inputs texts = tt
+texts_made None first second p plans text report inputs texts = tt
 
 pub made_accepted : (held : Option Files) (first second : List ℕ) (p : DesignParts) (plans : Plans) → Inputs held first second p plans →
     Passes p plans → IfSome held (λ files. IsAccepted files first second)
@@ -312,7 +312,7 @@ carried held held1 held2 P Q R same each p q = go held held2 p (subst (λ (o : O
     go (Some files) None p q = q
     go None two p q = tt
 
-pub generated : (words : List (List ℕ)) (text report : List ℕ) → IsGenerate words → (files new : Files) → AreTexts files (word_of words 1) (word_of words 2) (word_of words 4) text report →
+pub generated : (words : List (List ℕ)) (text report : List ℕ) → IsGenerate words → (files new : Files) → AreTexts files (word_of words 1) (word_of words 2) text report →
     AreWritten files new (word_of words 3) (word_of words 4) text report → IsGenerated words files new
 generated words text report generate files new texts written = record {
   controller = texts.controller;
@@ -320,18 +320,16 @@ generated words text report generate files new texts written = record {
   made = texts.made;
   text = text;
   is_text = texts.is_text;
-  report = report;
-  is_report = texts.is_report;
   controller_file = written.second.others (word_of words 3) (λ e. generate.report_controller (sym e)) ∙ written.first.here;
-  report_file = written.second.here;
+  report_file = written.second.here ∙ ap Some texts.is_report;
   others = λ q third fourth. written.second.others q fourth ∙ written.first.others q third;
 }
 
-pub controller_cut : (words : List (List ℕ)) (text report : List ℕ) → (files new : Files) → AreTexts files (word_of words 1) (word_of words 2) (word_of words 4) text report →
+pub controller_cut : (words : List (List ℕ)) (text report : List ℕ) → (files new : Files) → AreTexts files (word_of words 1) (word_of words 2) text report →
     IsCutShort files new (word_of words 3) text → IsControllerCut words files new
 controller_cut words text report files new texts cut = record { controller = texts.controller; bounds = texts.bounds; made = texts.made; text = text; is_text = texts.is_text; cut = cut }
 
-pub report_cut : (words : List (List ℕ)) (text report : List ℕ) → IsGenerate words → (files new : Files) → AreTexts files (word_of words 1) (word_of words 2) (word_of words 4) text report →
+pub report_cut : (words : List (List ℕ)) (text report : List ℕ) → IsGenerate words → (files new : Files) → AreTexts files (word_of words 1) (word_of words 2) text report →
     IsSecondCut files new (word_of words 3) (word_of words 4) text report → IsReportCut words files new
 report_cut words text report generate files new texts written = record {
   controller = texts.controller;
@@ -339,14 +337,12 @@ report_cut words text report generate files new texts written = record {
   made = texts.made;
   text = text;
   is_text = texts.is_text;
-  report = report;
-  is_report = texts.is_report;
   controller_file = written.second.others (word_of words 3) (λ e. generate.report_controller (sym e)) ∙ written.first.here;
   report_file = kept written.second.here;
   others = λ q third fourth. written.second.others q fourth ∙ written.first.others q third;
 }
   where
     kept : (new (word_of words 4) ≡ written.mid (word_of words 4)) ⊎ IsSomeAnd (new (word_of words 4)) (IsProperFront report) →
-        (new (word_of words 4) ≡ files (word_of words 4)) ⊎ IsSomeAnd (new (word_of words 4)) (IsProperFront report)
+        (new (word_of words 4) ≡ files (word_of words 4)) ⊎ IsSomeAnd (new (word_of words 4)) (IsProperFront (report_text texts.bounds))
     kept (inl same) = inl (same ∙ written.first.others (word_of words 4) generate.report_controller)
-    kept (inr front) = inr front
+    kept (inr front) = inr (subst (λ (bytes : List ℕ). IsSomeAnd (new (word_of words 4)) (IsProperFront bytes)) texts.is_report front)

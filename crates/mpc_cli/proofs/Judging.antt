@@ -6,14 +6,14 @@ use Rattle.io_edge.specs.Faults.{Files, Rose}
 use Rattle.qp_model.specs.declared.design_parts.DesignParts.{DesignParts}
 use Rattle.design_engine.specs.declared.refusal.Refusal.{Refusal}
 use Rattle.design_engine.specs.declared.refusal.Refusal.TheVariants as refusals
-use Rattle.mpc_cli.specs.Words.{word_of, IsGenerate}
+use Rattle.mpc_cli.specs.Words.{word_of, IsTextGenerate}
 use Rattle.mpc_cli.specs.Generate.{HoldsDesign, IsAccepted, GenerateCause, status_of}
 use Rattle.mpc_cli.specs.Reading.{NoReadFailed, NoWriteFailed, IsTurnedDown, Writes}
 use Rattle.mpc_cli.specs.Causes.{IsCaused}
 use Rattle.mpc_cli.specs.declared.status.Status.{Status}
 use Rattle.mpc_cli.specs.declared.status.Status.TheVariants.{Done, Memory, ReadFault, WriteFault}
-use Rattle.mpc_cli.proofs.Counts.{Fault, no_fault}
 use Rattle.mpc_cli.proofs.Generating.{Called}
+use Rattle.mpc_cli.proofs.Solving.{Fault}
 
 -- ---- what `?` and the generator give
 pub err_same : {Y : Type 0} (r : Result Y Status) (d : Status) → IsErrAnd r (λ e. e ≡ d) → r ≡ Err d
@@ -59,6 +59,9 @@ err_not_ok : {X : Type 0} (a : Result X Status) (e : Status) → a ≡ Err e →
 err_not_ok (Ok x) e is ok = cc
 err_not_ok (Err d) e is ok = cc
 
+no_fault : (words : List (List ℕ)) (before now : List ℕ → ℕ) (e : Status) → Fault words before now e → NoReadFailed words before now → (file : ℕ) → e ≡ ReadFault file → ⊥
+no_fault words before now e fault none file is = elim (fault file is) [ inl r ↦ none 1 (inl refl) r.1 | inr r ↦ none 2 (inr refl) r.1 ]
+
 pub same_err : {X : Type 0} (a : Result X Status) (e s : Status) → a ≡ Err e → a ≡ Err s → e ≡ s
 same_err a e s x y = cc
 
@@ -76,11 +79,11 @@ pub stop_answers : {X : Type 0} (D : Type 0) (held : Option Files) (words : List
 stop_answers D (Some files) words before now a e is fault called = λ s cause none d. stop_called words before now a e s is fault none (called s cause)
 stop_answers D None words before now a e is fault called = tt
 
-put_done : (words : List (List ℕ)) (before now : List ℕ → ℕ) (t s : Status) → IsGenerate words → Writes t → (t ≡ WriteFault 3 → Rose (before (word_of words 3)) (now (word_of words 3))) →
+put_done : (words : List (List ℕ)) (before now : List ℕ → ℕ) (t s : Status) → IsTextGenerate words → Writes t → (t ≡ WriteFault 3 → Rose (before (word_of words 3)) (now (word_of words 3))) →
     (t ≡ WriteFault 4 → Rose (before (word_of words 4)) (now (word_of words 4))) → NoWriteFailed words before now → s ≡ Done → (t ≡ s) ⊎ (t ≡ Memory)
-put_done words before now t s generate (inl done) third fourth none is = inl (done ∙ sym is)
-put_done words before now t s generate (inr (inl cut)) third fourth none is = absurd (none generate 3 (inl refl) (third cut))
-put_done words before now t s generate (inr (inr cut)) third fourth none is = absurd (none generate 4 (inr refl) (fourth cut))
+put_done words before now t s text (inl done) third fourth none is = inl (done ∙ sym is)
+put_done words before now t s text (inr (inl cut)) third fourth none is = absurd (none text 3 (inl refl) (third cut))
+put_done words before now t s text (inr (inr cut)) third fourth none is = absurd (none text 4 (inr refl) (fourth cut))
 
 ok_called : {X : Type 0} (a : Result X Status) (x : X) (s : Status) → a ≡ Ok x → Called a s → s ≡ Done
 ok_called a x s is (inl (inl (inl told))) = absurd (let never : ⊥ = cc in never)
@@ -90,9 +93,9 @@ ok_called a x s is (inl (inr (inr failed))) = absurd (let never : ⊥ = cc in ne
 ok_called a x s is (inr (inl memory)) = absurd (let never : ⊥ = cc in never)
 ok_called a x s is (inr (inr failed)) = absurd (let never : ⊥ = cc in never)
 
-pub put_answers : {X : Type 0} (C : Type 0) (held : Option Files) (words : List (List ℕ)) (before now : List ℕ → ℕ) (a : Result X Status) (x : X) (t : Status) → IsGenerate words → a ≡ Ok x → Writes t →
+pub put_answers : {X : Type 0} (C : Type 0) (held : Option Files) (words : List (List ℕ)) (before now : List ℕ → ℕ) (a : Result X Status) (x : X) (t : Status) → IsTextGenerate words → a ≡ Ok x → Writes t →
     (t ≡ WriteFault 3 → Rose (before (word_of words 3)) (now (word_of words 3))) → (t ≡ WriteFault 4 → Rose (before (word_of words 4)) (now (word_of words 4))) →
     IfSome held (λ files. (s : Status) → GenerateCause files (word_of words 1) (word_of words 2) s → Called a s) →
     IfSome held (λ files. (s : Status) → GenerateCause files (word_of words 1) (word_of words 2) s → C → NoWriteFailed words before now → (t ≡ s) ⊎ (t ≡ Memory))
-put_answers C (Some files) words before now a x t generate is only third fourth called = λ s cause c none. put_done words before now t s generate only third fourth none (ok_called a x s is (called s cause))
-put_answers C None words before now a x t generate is only third fourth called = tt
+put_answers C (Some files) words before now a x t text is only third fourth called = λ s cause c none. put_done words before now t s text only third fourth none (ok_called a x s is (called s cause))
+put_answers C None words before now a x t text is only third fourth called = tt

@@ -1,14 +1,9 @@
-pub mod Numerals
+pub mod Texts
 pub mod Causes
 pub mod Reading
 pub mod Passing
 pub mod Counts
 pub mod Generating
-pub mod Opening
-pub mod Controllers
-pub mod PlanLines
-pub mod Outside
 pub mod Solving
-pub mod Running
 pub mod Judging
 pub mod Commands

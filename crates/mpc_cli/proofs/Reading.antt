@@ -5,7 +5,7 @@ use Rattle.io_edge.specs.Faults.{Files}
 use Rattle.qp_model.specs.declared.text_fault.TextFault.{TextFault}
 use Rattle.qp_model.specs.declared.text_fault.TextFault.TheVariants.{Memory as no_room}
 use Rattle.mpc_cli.specs.Limit.{file_limit}
-use Rattle.mpc_cli.specs.FileRefused.{HasFault, IsFileRefused}
+use Rattle.mpc_cli.specs.Generate.{HasFault, IsFileRefused}
 use Rattle.mpc_cli.specs.Reading.{Unless, Stops, TellsOfFile}
 use Rattle.mpc_cli.specs.declared.status.Status.{Status}
 use Rattle.mpc_cli.specs.declared.status.Status.TheVariants.{Memory, ReadFault, Text, Long}

@@ -3,31 +3,32 @@ use Rattle.std.specs.Prelude.{◌≡◌, ◌≢◌, ◌⊎◌, ℕ, List, ◌++�
 use Rattle.io_edge.specs.Faults.{Files, GrowsByPart}
 use Rattle.qp_model.specs.Controller.{Numbers}
 use Rattle.qp_model.specs.declared.design_parts.DesignParts.{DesignParts}
-use Rattle.mpc_cli.specs.Words.{word_of, IsSolve, IsGenerate, IsLoop, IsDemo}
-use Rattle.mpc_cli.specs.Commands.{IsNoCommand}
-use Rattle.mpc_cli.specs.Solve.{HoldsController, HoldsPlans, IsStopped, SolveCause}
+use Rattle.mpc_cli.specs.Words.{word_of, IsSolve, AsksToGenerate, IsGenerate, IsJson, IsTextGenerate}
+use Rattle.mpc_cli.specs.Solve.{HoldsController, HoldsPlan, SolveCause}
 use Rattle.mpc_cli.specs.Generate.{HoldsDesign, GenerateCause}
 use Rattle.mpc_cli.specs.declared.status.Status.{Status}
 use Rattle.mpc_cli.specs.declared.status.Status.TheVariants.{Done, Memory, Usage, ReadFault, WriteFault, Unbuilt}
 
--- the words are those of no command, or of one that isn't built
+-- The words ask for nothing that is done: no command, a `generate` with other words than it needs, or one whose report has another form.
 abbrev pub WordsCause : List (List ℕ) → Status → Type 0
-WordsCause words s = ((s ≡ Usage) × IsNoCommand words) ⊎ ((s ≡ Unbuilt 0) × (IsLoop words ⊎ IsDemo words))
+WordsCause words s =
+    ((s ≡ Unbuilt 0) × (¬ IsSolve words) × (¬ AsksToGenerate words)) ⊎
+    (((s ≡ Usage) × AsksToGenerate words × (¬ IsGenerate words)) ⊎
+    ((s ≡ Unbuilt 3) × IsGenerate words × IsJson (word_of words 4)))
 
 -- What the words and the files are where this status is the answer. Want of memory and faults have no cause in them.
 abbrev pub Causes : Files → List (List ℕ) → Status → Type 0
 Causes files words s =
     WordsCause words s ⊎
     ((IsSolve words × SolveCause files (word_of words 1) (word_of words 2) s) ⊎
-    (IsGenerate words × GenerateCause files (word_of words 1) (word_of words 2) s))
+    (IsTextGenerate words × GenerateCause files (word_of words 1) (word_of words 2) s))
 
--- what the output got from `solve`: the lines of all states, a front of them where the output failed, those of some first states where memory was short,
--- and nothing for any other answer
+-- what the output got: the line of the averaged plan, a front of it where the output failed, and nothing for any other answer
 pub record IsShown (files : Files) (words : List (List ℕ)) (s : Status) (old new : List ℕ) : Type 0 where
-  pub done : s ≡ Done → (text : List ℕ) × HoldsPlans files (word_of words 1) (word_of words 2) text × (new ≡ old ++ text)
-  pub fault : s ≡ WriteFault 0 → (text : List ℕ) × HoldsPlans files (word_of words 1) (word_of words 2) text × GrowsByPart old new text
-  pub memory : s ≡ Memory → IsStopped files (word_of words 1) (word_of words 2) old new
-  pub other : s ≢ Done → s ≢ WriteFault 0 → s ≢ Memory → new ≡ old
+  pub done : s ≡ Done → IsSolve words → (line : List ℕ) × HoldsPlan files (word_of words 1) (word_of words 2) line × (new ≡ old ++ line)
+  pub fault : s ≡ WriteFault 0 → IsSolve words × ((line : List ℕ) × HoldsPlan files (word_of words 1) (word_of words 2) line × GrowsByPart old new line)
+  pub generate : AsksToGenerate words → new ≡ old
+  pub other : s ≢ Done → s ≢ WriteFault 0 → new ≡ old
 
 -- an answer that has a cause in the words and the files
 pub record IsCaused (s : Status) : Type 0 where
@@ -39,8 +40,8 @@ pub record IsCaused (s : Status) : Type 0 where
 abbrev pub HasFirst : Files → List (List ℕ) → Type 0
 HasFirst files words =
     (IsSolve words × ((c : Numbers) × IsSomeAnd (files (word_of words 1)) (λ bytes. HoldsController bytes c))) ⊎
-    (IsGenerate words × ((p : DesignParts) × IsSomeAnd (files (word_of words 1)) (λ bytes. HoldsDesign bytes p)))
+    (IsTextGenerate words × ((p : DesignParts) × IsSomeAnd (files (word_of words 1)) (λ bytes. HoldsDesign bytes p)))
 
 -- an answer after which files may differ
 abbrev pub MayWrite : List (List ℕ) → Status → Type 0
-MayWrite words s = IsGenerate words × ((s ≡ Done) ⊎ ((s ≡ WriteFault 3) ⊎ (s ≡ WriteFault 4)))
+MayWrite words s = IsTextGenerate words × ((s ≡ Done) ⊎ ((s ≡ WriteFault 3) ⊎ (s ≡ WriteFault 4)))

@@ -10,19 +10,19 @@ use Rattle.qp_model.specs.ControllerText.{IsControllerText}
 use Rattle.qp_model.specs.declared.design_parts.DesignParts.{DesignParts}
 use Rattle.qp_model.specs.declared.bounds.Bounds.{Bounds}
 use Rattle.qp_model.specs.declared.bounds.Margin.{Margin}
+use Rattle.qp_model.specs.declared.text_fault.TextFault.{TextFault}
 use Rattle.design_files.specs.DesignText.{IsDesignText, IsFirstFault}
 use Rattle.policy_file.specs.PolicyText.{IsPolicyText, IsPolicyFault}
-use Rattle.bound_report.specs.Report.{report_text, report_json}
+use Rattle.bound_report.specs.Report.{report_text}
 use Rattle.design_engine.specs.Targets.{targets_of, IsWithinTargets}
 use Rattle.design_engine.specs.Built.{IsBuilt}
 use Rattle.design_engine.specs.Refusals.{HasCause, PassesAll}
 use Rattle.design_engine.specs.declared.refusal.Refusal.{Refusal}
 use Rattle.design_engine.specs.declared.refusal.Refusal.TheVariants as refusals
-use Rattle.mpc_cli.specs.Words.{word_of, IsJson}
+use Rattle.mpc_cli.specs.Words.{word_of}
 use Rattle.mpc_cli.specs.Limit.{file_limit}
-use Rattle.mpc_cli.specs.FileRefused.{IsFileRefused}
 use Rattle.mpc_cli.specs.declared.status.Status.{Status}
-use Rattle.mpc_cli.specs.declared.status.Status.TheVariants.{Done, Memory, NoMargin, Curvature, TooManySteps, TooFine, TooWide}
+use Rattle.mpc_cli.specs.declared.status.Status.TheVariants.{Done, Memory, Text, NoMargin, Curvature, TooManySteps, TooFine, TooWide, Long}
 
 -- ---- what the files hold
 -- the bytes are the text of this design
@@ -41,6 +41,17 @@ pub record HoldsInputs (files : Files) (first second : List ℕ) (p : DesignPart
   pub policy : IsSomeAnd (files second) (λ bytes. HoldsPolicy (design_of p) bytes plans)
 
 -- ---- why they are refused
+-- the bytes have this as their first fault
+pub record HasFault (Fault : List ℕ → TextFault → Type 0) (fault : TextFault) (bytes : List ℕ) : Type 0 where
+  pub short : length bytes ≤ file_limit
+  pub first : Fault bytes fault
+
+-- the file at a position holds too many bytes, or bytes with a fault, and the status tells which
+abbrev pub IsFileRefused : ℕ → (List ℕ → TextFault → Type 0) → Option (List ℕ) → Status → Type 0
+IsFileRefused file Fault held s =
+    ((s ≡ Long file) × IsSomeAnd held (λ bytes. file_limit < length bytes)) ⊎
+    ((fault : TextFault) × (s ≡ Text file fault) × IsSomeAnd held (HasFault Fault fault))
+
 -- the status that tells of a refusal
 abbrev pub status_of : Refusal → Status
 status_of refusals.Memory = Memory
@@ -84,10 +95,6 @@ GenerateCause files first second s =
     ((s ≡ Done) × IsAccepted files first second)))
 
 -- ---- what is written
--- the bytes are the report of these bounds, in the form that the name asks for
-abbrev pub IsReport : List ℕ → Bounds → List ℕ → Type 0
-IsReport name b bytes = (IsJson name × (bytes ≡ report_json b)) ⊎ ((¬ IsJson name) × (bytes ≡ report_text b))
-
 -- the controller and its bounds are built of the design and the policy in the files, and certified, and the bounds are within the targets
 pub record IsMade (files : Files) (first second : List ℕ) (c : Numbers) (b : Bounds) : Type 0 where
   pub p : DesignParts
@@ -105,10 +112,8 @@ pub record IsGenerated (words : List (List ℕ)) (files new : Files) : Type 0 wh
   pub made : IsMade files (word_of words 1) (word_of words 2) controller bounds
   pub text : List ℕ
   pub is_text : IsControllerText text controller
-  pub report : List ℕ
-  pub is_report : IsReport (word_of words 4) bounds report
   pub controller_file : new (word_of words 3) ≡ Some text
-  pub report_file : new (word_of words 4) ≡ Some report
+  pub report_file : new (word_of words 4) ≡ Some (report_text bounds)
   pub others : (q : List ℕ) → q ≢ word_of words 3 → q ≢ word_of words 4 → new q ≡ files q
 
 -- the controller's text was cut short, and every other name holds what it held
@@ -127,8 +132,6 @@ pub record IsReportCut (words : List (List ℕ)) (files new : Files) : Type 0 wh
   pub made : IsMade files (word_of words 1) (word_of words 2) controller bounds
   pub text : List ℕ
   pub is_text : IsControllerText text controller
-  pub report : List ℕ
-  pub is_report : IsReport (word_of words 4) bounds report
   pub controller_file : new (word_of words 3) ≡ Some text
-  pub report_file : (new (word_of words 4) ≡ files (word_of words 4)) ⊎ IsSomeAnd (new (word_of words 4)) (IsProperFront report)
+  pub report_file : (new (word_of words 4) ≡ files (word_of words 4)) ⊎ IsSomeAnd (new (word_of words 4)) (IsProperFront (report_text bounds))
   pub others : (q : List ℕ) → q ≢ word_of words 3 → q ≢ word_of words 4 → new q ≡ files q

@@ -1,11 +1,8 @@
 pub mod Words
-pub mod Commands
 pub mod Limit
-pub mod FileRefused
 pub mod Solve
 pub mod Generate
 pub mod Reading
-pub mod Running
 pub mod Causes
 pub mod Status
-pub mod StatusLine
+pub mod Lines

@@ -10,13 +10,13 @@ use Rattle.qp_model.specs.declared.design_parts.DesignParts.{DesignParts}
 use Rattle.qp_model.specs.declared.bounds.Bounds.{Bounds}
 use Rattle.qp_model.specs.declared.bounds.Margin.{Margin}
 use Rattle.qp_model.specs.declared.text_fault.TextFault.{TextFault}
+use Rattle.bound_report.specs.Report.{report_text}
 use Rattle.design_files.specs.DesignText.{IsFirstFault}
 use Rattle.design_engine.specs.Targets.{targets_of, IsWithinTargets}
 use Rattle.design_engine.specs.Built.{IsBuilt}
 use Rattle.design_engine.specs.Refusals.{PassesAll}
-use Rattle.mpc_cli.specs.Words.{word_of, IsGenerate}
-use Rattle.mpc_cli.specs.Generate.{IsMade, IsReport, IsPolicyRefused, IsRefused}
-use Rattle.mpc_cli.specs.FileRefused.{IsFileRefused}
+use Rattle.mpc_cli.specs.Words.{word_of, IsTextGenerate}
+use Rattle.mpc_cli.specs.Generate.{IsMade, IsFileRefused, IsPolicyRefused, IsRefused}
 use Rattle.mpc_cli.specs.declared.status.Status.{Status}
 use Rattle.mpc_cli.specs.declared.status.Status.TheVariants.{Done, Memory, ReadFault, WriteFault, Text, Long}
 
@@ -38,17 +38,17 @@ NoReadFailed words before now = (file : ℕ) → (file ≡ 1) ⊎ (file ≡ 2) �
 
 -- no count of failed writes rose of a file that the command writes
 abbrev pub NoWriteFailed : List (List ℕ) → (before now : List ℕ → ℕ) → Type 0
-NoWriteFailed words before now = IsGenerate words → (file : ℕ) → (file ≡ 3) ⊎ (file ≡ 4) → ¬ Rose (before (word_of words file)) (now (word_of words file))
+NoWriteFailed words before now = IsTextGenerate words → (file : ℕ) → (file ≡ 3) ⊎ (file ≡ 4) → ¬ Rose (before (word_of words file)) (now (word_of words file))
 
--- the text of a controller, and the report of its bounds in the form that a name asks for, both built of a design with a policy
-pub record AreTextsOf (p : DesignParts) (plans : Plans) (name text report : List ℕ) : Type 0 where
+-- the text of a controller, and the report of its bounds, both built of a design with a policy
+pub record AreTextsOf (p : DesignParts) (plans : Plans) (text report : List ℕ) : Type 0 where
   pub controller : Numbers
   pub bounds : Bounds
   pub built : IsBuilt p plans controller bounds
   pub certified : IsCertified (design_of p) controller bounds
   pub targets : IsWithinTargets (targets_of p) bounds
   pub is_text : IsControllerText text controller
-  pub is_report : IsReport name bounds report
+  pub is_report : report ≡ report_text bounds
 
 -- a design with a policy passes every test
 pub record Passes (p : DesignParts) (plans : Plans) : Type 0 where
@@ -58,12 +58,12 @@ pub record Passes (p : DesignParts) (plans : Plans) : Type 0 where
   pub all : PassesAll (design_of p) (targets_of p) plans margin exponent bits
 
 -- the texts, of the design and the policy in two files
-pub record AreTexts (files : Files) (first second name text report : List ℕ) : Type 0 where
+pub record AreTexts (files : Files) (first second text report : List ℕ) : Type 0 where
   pub controller : Numbers
   pub bounds : Bounds
   pub made : IsMade files first second controller bounds
   pub is_text : IsControllerText text controller
-  pub is_report : IsReport name bounds report
+  pub is_report : report ≡ report_text bounds
 
 -- two files are no design and policy for which there is a controller
 abbrev pub IsTurnedDown : Files → (first second : List ℕ) → Status → Type 0

@@ -1,7 +1,7 @@
 -- The exit status of each answer.
 use Rattle.std.specs.Prelude.{ℕ}
 use Rattle.mpc_cli.specs.declared.status.Status.{Status}
-use Rattle.mpc_cli.specs.declared.status.Status.TheVariants.{Done, Memory, Usage, ReadFault, WriteFault, Text, NoMargin, Curvature, TooManySteps, TooFine, TooWide, Controller, OutsideBox, Long, Unbuilt}
+use Rattle.mpc_cli.specs.declared.status.Status.TheVariants.{Done, Memory, Usage, ReadFault, WriteFault, Text, NoMargin, Curvature, TooManySteps, TooFine, TooWide, Long, Unbuilt}
 
 abbrev pub number_of : Status → ℕ
 number_of Done = 0
@@ -15,7 +15,5 @@ number_of Curvature = 7
 number_of (TooManySteps k) = 8
 number_of (TooFine eps) = 9
 number_of (TooWide quantity) = 10
-number_of (Controller file fault) = 11
-number_of (OutsideBox entry turn coordinate) = 12
 number_of (Long file) = 13
 number_of (Unbuilt part) = 15

@@ -1,12 +1,11 @@
 -- The words of a command line.
-use Rattle.std.specs.Prelude.{◌≡◌, ◌≢◌, ℕ, ◌≤◌, pos, List, [], ◌++◌, length, codes, slice_index_or}
-use Rattle.std.specs.Fmt.{signed_decimal}
+use Rattle.std.specs.Prelude.{◌≡◌, ◌≢◌, ℕ, List, [], ◌++◌, length, codes, slice_index_or}
 
 -- word i, counted from 0
 abbrev pub word_of : List (List ℕ) → ℕ → List ℕ
 word_of words i = slice_index_or words i []
 
--- the words are `solve` and the names of a controller file and of a states file
+-- the words are `solve` and the names of a controller file and of a state file
 pub record IsSolve (words : List (List ℕ)) : Type 0 where
   pub count : length words ≡ 3
   pub command : word_of words 0 ≡ codes "solve"
@@ -29,18 +28,7 @@ pub record IsGenerate (words : List (List ℕ)) : Type 0 where
 abbrev pub IsJson : List ℕ → Type 0
 IsJson name = (front : List ℕ) × (name ≡ front ++ codes ".json")
 
--- a word is a number in decimal, at most this: digits with no sign, and no zero before others
-abbrev pub IsCount : ℕ → List ℕ → Type 0
-IsCount most word = (n : ℕ) × (n ≤ most) × (word ≡ signed_decimal (pos n))
-
--- the words are `loop`, the names of a design file, a controller file and a states file, and a number of turns
-pub record IsLoop (words : List (List ℕ)) : Type 0 where
-  pub count : length words ≡ 5
-  pub command : word_of words 0 ≡ codes "loop"
-  pub turns : IsCount 1000000 (word_of words 4)
-
--- the words are `demo` and the number of a design
-pub record IsDemo (words : List (List ℕ)) : Type 0 where
-  pub count : length words ≡ 2
-  pub command : word_of words 0 ≡ codes "demo"
-  pub number : IsCount 4294967295 (word_of words 1)
+-- the words are a `generate` whose report is a text
+pub record IsTextGenerate (words : List (List ℕ)) : Type 0 where
+  pub generate : IsGenerate words
+  pub text : ¬ IsJson (word_of words 4)

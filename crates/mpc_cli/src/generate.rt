@@ -10,24 +10,22 @@ ghost use Rattle.policy_file.specs.PolicyText.{IsPolicyFault};
 ghost use Rattle.design_engine.specs.Targets.{targets_of};
 ghost use Rattle.design_engine.specs.Refusals.{HasCause, PassesAll};
 ghost use Rattle.design_engine.specs.declared.refusal.Refusal.{Refusal};
-ghost use Rattle.mpc_cli.specs.Words.{word_of, IsGenerate};
+ghost use Rattle.mpc_cli.specs.Words.{word_of, IsTextGenerate};
 ghost use Rattle.mpc_cli.specs.Limit.{file_limit};
-ghost use Rattle.mpc_cli.specs.Generate.{HoldsDesign, HoldsPolicy, IsReport, IsAccepted, GenerateCause, status_of, IsGenerated, IsControllerCut, IsReportCut};
-ghost use Rattle.mpc_cli.specs.FileRefused.{IsFileRefused};
+ghost use Rattle.mpc_cli.specs.Generate.{HoldsDesign, HoldsPolicy, IsFileRefused, IsAccepted, GenerateCause, status_of, IsGenerated, IsControllerCut, IsReportCut};
 ghost use Rattle.mpc_cli.specs.Reading.{Unless, Stops, TellsOfFile, NoReadFailed, NoWriteFailed, AreTextsOf, Passes, AreTexts, IsTurnedDown, Answered, Writes, AreWritten, IsSecondCut};
 ghost use Rattle.mpc_cli.specs.Causes.{IsCaused};
 
 use crate::files::bytes_in;
 use crate::status::Status;
-use crate::words::is_json;
-use bound_report::{report_json, report_text};
+use bound_report::report_text;
 use controller_file::write_controller;
 use design_engine::{Refusal, generate};
 use design_files::read_design;
 use io_edge::{Store, Words};
 use policy_file::read_policy;
-use qp_model::{Bounds, Design, Policy, TextFault};
-use std::alloc::{AllocError, Global};
+use qp_model::{Design, Policy, TextFault};
+use std::alloc::Global;
 
 /// The texts that are written.
 #[derive(Debug, Drop)]
@@ -130,21 +128,10 @@ fn policy_in<S: Store>(
     policy_from(alloc, &bytes, design)
 }
 
-// The report of these bounds, in the form that the name asks for.
-fn report_for(alloc: Global, name: &str, bounds: &Bounds) -> Result<Vec<u8>, AllocError>
-    ensures { IfOk result (λ v. IsReport name.now bounds.now v.items) }
-{
-    if is_json(name) {
-        report_json(alloc, bounds)
-    } else {
-        report_text(alloc, bounds)
-    }
-}
-
-// The controller's text and the report under this name of a design with a policy, or the status that ends the run.
-fn texts_of(alloc: Global, design: &Design, policy: &Policy, name: &str) -> Result<Texts, Status>
+// The controller's text and the report of a design with a policy, or the status that ends the run.
+fn texts_of(alloc: Global, design: &Design, policy: &Policy) -> Result<Texts, Status>
     requires { IsPolicyFor (design_of design.now.parts) (plans_of policy.now) }
-    ensures ok { IfOk result (λ t. AreTextsOf design.now.parts (plans_of policy.now) name.now t.controller.items t.report.items) }
+    ensures ok { IfOk result (λ t. AreTextsOf design.now.parts (plans_of policy.now) t.controller.items t.report.items) }
     ensures passes { IfOk result (λ _. Passes design.now.parts (plans_of policy.now)) }
     ensures refused { IfErr result (λ e. (e ≡ Status.Memory)
         ⊎ ((r : Refusal) × HasCause (design_of design.now.parts) (targets_of design.now.parts) (plans_of policy.now) r × (e ≡ status_of r))) }
@@ -158,19 +145,18 @@ fn texts_of(alloc: Global, design: &Design, policy: &Policy, name: &str) -> Resu
         Err(refusal) => return Err(refusal_status(refusal)),
     };
     let controller = write_controller(alloc, &made.controller)?;
-    let report = report_for(alloc, name, &made.bounds)?;
+    let report = report_text(alloc, &made.bounds)?;
     Ok(Texts { controller, report })
 }
 
-// The texts of the design and the policy under two names, the report's in the form that a further name asks for.
+// The texts of the design and the policy under two names.
 fn texts_for<S: Store>(
     alloc: Global,
     first: &str,
     second: &str,
-    report: &str,
     store: &mut S,
 ) -> Result<Texts, Status>
-    ensures ok { IfOk result (λ t. IfSome (S.held store.old) (λ files. AreTexts files first.now second.now report.now t.controller.items t.report.items)) }
+    ensures ok { IfOk result (λ t. IfSome (S.held store.old) (λ files. AreTexts files first.now second.now t.controller.items t.report.items)) }
     ensures accepted { IfOk result (λ _. IfSome (S.held store.old) (λ files. IsAccepted files first.now second.now)) }
     ensures not_done { ¬ IsErrOf result Status.Done }
     ensures no_write { (file : ℕ) → ¬ IsErrOf result (Status.WriteFault file) }
@@ -185,7 +171,7 @@ fn texts_for<S: Store>(
 {
     let design = design_in(alloc, first, store)?;
     let policy = policy_in(alloc, second, &design, store)?;
-    texts_of(alloc, &design, &policy, report)
+    texts_of(alloc, &design, &policy)
 }
 
 // Writes both texts, the controller's first. It takes no memory.
@@ -213,7 +199,7 @@ fn put_texts<S: Store>(third: &str, fourth: &str, texts: &Texts, store: &mut S) 
 
 /// Reads the design and the policy, and writes the controller and the report.
 pub fn generate_from<S: Store>(alloc: Global, words: &Words, store: &mut S) -> Status
-    requires { IsGenerate words.now }
+    requires { IsTextGenerate words.now }
     ensures generated { result ≡ Status.Done → IfSome (S.held store.old) (λ files. IsSomeAnd (S.held store.new) (IsGenerated words.now files)) }
     ensures controller_cut { result ≡ Status.WriteFault 3 → IfSome (S.held store.old) (λ files. IsSomeAnd (S.held store.new) (IsControllerCut words.now files)) }
     ensures report_cut { result ≡ Status.WriteFault 4 → IfSome (S.held store.old) (λ files. IsSomeAnd (S.held store.new) (IsReportCut words.now files)) }
@@ -230,7 +216,7 @@ pub fn generate_from<S: Store>(alloc: Global, words: &Words, store: &mut S) -> S
     ensures reads { NoneFalls (S.read_faults store.old) (S.read_faults store.new) }
     ensures writes { NoneFalls (S.write_faults store.old) (S.write_faults store.new) }
 {
-    match texts_for(alloc, words.at(1), words.at(2), words.at(4), store) {
+    match texts_for(alloc, words.at(1), words.at(2), store) {
         Ok(texts) => put_texts(words.at(3), words.at(4), &texts, store),
         Err(status) => status,
     }

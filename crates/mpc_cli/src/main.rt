@@ -1,56 +1,36 @@
 //! The program: a controller at work, from files.
 #![tactic(auto)]
 
-ghost use Rattle.std.specs.Prelude.{◌≡◌, IfOk, drop, map, string_bytes};
-ghost use Rattle.std.specs.Vec.Iter.{into_iter_items};
-
 mod command;
 mod files;
 mod generate;
 mod solve;
+mod state_text;
 mod status;
-mod status_line;
 mod words;
 
 use command::run;
 use io_edge::{HostStore, StdSink, Words};
 use status::{Status, status_number};
-use status_line::status_line;
-use std::alloc::{AllocError, Global};
 use std::env;
-use std::io::Print;
 use std::process::ExitCode;
 
 /// The exit status where the runtime doesn't give the words.
 const NO_WORDS: u8 = 99;
 
-// The words after the program's name.
-fn words_of(alloc: Global, all: env::Args) -> Result<Words, AllocError>
-    ensures { IfOk result (λ words. words ≡ map string_bytes (drop 1 (into_iter_items all))) }
-{
-    let mut words = Words::empty(alloc);
-    for word in all.skip(1) {
-        words.push(word.as_str())?;
-    }
-    Ok(words)
-}
-
 fn main(rt: HostRuntime) -> ExitCode {
     let Ok(all) = env::args(&rt) else {
         return ExitCode::from(NO_WORDS);
     };
-    let status = match words_of(rt.alloc(), all) {
-        Ok(words) => {
-            let mut store = HostStore::new(&rt);
-            let mut out = StdSink::new(&rt);
-            run(rt.alloc(), &words, &mut store, &mut out)
+    let mut words = Words::empty(rt.alloc());
+    for word in all.skip(1) {
+        if words.push(word.as_str()).is_err() {
+            return ExitCode::from(status_number(&Status::Memory));
         }
-        Err(_) => Status::Memory,
-    };
-    // The exit status tells of the answer too, so a line that can't be made or written changes nothing.
-    if let Ok(line) = status_line(rt.alloc(), &status) {
-        let _ = rt.stderr().write_all(&line);
     }
+    let mut store = HostStore::new(&rt);
+    let mut out = StdSink::new(&rt);
+    let status = run(rt.alloc(), &words, &mut store, &mut out);
     ExitCode::from(status_number(&status))
 }
 
@@ -58,7 +38,5 @@ fn main(rt: HostRuntime) -> ExitCode {
 mod tests;
 #[cfg(test)]
 mod tests_generate;
-#[cfg(test)]
-mod tests_lines;
 #[cfg(test)]
 mod tests_texts;

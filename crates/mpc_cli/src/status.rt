@@ -2,7 +2,6 @@ ghost use Rattle.std.specs.Prelude.{◌≡◌};
 ghost use Rattle.mpc_cli.specs.Status.{number_of};
 ghost use Rattle.mpc_cli.specs.declared.status.Status.TheVariants.{Memory as no_memory};
 
-use controller_file::BadController;
 use frac_scaled::Frac;
 use qp_model::{Quantity, TextFault};
 use std::alloc::AllocError;
@@ -17,57 +16,26 @@ pub enum Status {
     /// The words are not those that the command needs.
     Usage,
     /// The file at this position among the words was not read. The command is at position 0.
-    ReadFault {
-        file: u32,
-    },
+    ReadFault { file: u32 },
     /// The file at this position was not written; 0 is the output.
-    WriteFault {
-        file: u32,
-    },
+    WriteFault { file: u32 },
     /// The file at this position has this as its first fault.
-    Text {
-        file: u32,
-        fault: TextFault,
-    },
+    Text { file: u32, fault: TextFault },
     /// The plan of that corner has in that row, both counted from 1, less slack than `2^-16`; it is the first.
-    NoMargin {
-        corner: u32,
-        row: u32,
-        slack: Frac,
-    },
+    NoMargin { corner: u32, row: u32, slack: Frac },
     /// No exponent of the step is at most 40.
     Curvature,
     /// A run would need `k` steps, more than 4194304.
-    TooManySteps {
-        k: i128,
-    },
+    TooManySteps { k: i128 },
     /// With the most bits the errors of a step cost `eps` over `2^40`, more than the targets leave.
-    TooFine {
-        eps: i128,
-    },
+    TooFine { eps: i128 },
     /// The quantity is above `2^126`.
-    TooWide {
-        quantity: Quantity,
-    },
-    /// The bytes of the file at this position are no controller's text.
-    Controller {
-        file: u32,
-        fault: BadController,
-    },
-    /// That coordinate of the state of the record with the number `entry` lies outside the controller's box, both counted from 1; it is the first. `turn` is 0.
-    OutsideBox {
-        entry: u32,
-        turn: u32,
-        coordinate: u32,
-    },
+    TooWide { quantity: Quantity },
     /// The file at this position holds more than 4194304 bytes.
-    Long {
-        file: u32,
-    },
-    /// The words ask for a command that isn't built; the part is 0.
-    Unbuilt {
-        part: u32,
-    },
+    Long { file: u32 },
+    /// 0: the words are no command that is built. 1: the first file holds no controller. 2: the second file holds no state of its box. 3: the
+    /// report's name asks for a form that isn't built.
+    Unbuilt { part: u32 },
 }
 
 impl From<AllocError> for Status {
@@ -94,8 +62,6 @@ pub fn status_number(status: &Status) -> u8
         Status::TooManySteps { .. } => 8,
         Status::TooFine { .. } => 9,
         Status::TooWide { .. } => 10,
-        Status::Controller { .. } => 11,
-        Status::OutsideBox { .. } => 12,
         Status::Long { .. } => 13,
         Status::Unbuilt { .. } => 15,
     }

@@ -112,11 +112,11 @@ fn policy_faults(rt: HostRuntime) -> Result<(), Fail> {
     Ok(())
 }
 
-// Words that `generate` doesn't take, and a design that is too long; nothing is read or written.
+// Words that `generate` doesn't take, another form of the report, and a design that is too long; nothing is read or written.
 #[test]
 fn other_names(rt: HostRuntime) -> Result<(), Fail> {
     let alloc = rt.alloc();
-    let cases: [(&[&str], Status); 8] = [
+    let cases: [(&[&str], Status); 9] = [
         (&[], Status::Usage),
         (&["d", "p", "c"], Status::Usage),
         (&["d", "p", "c", "r", "r"], Status::Usage),
@@ -125,6 +125,7 @@ fn other_names(rt: HostRuntime) -> Result<(), Fail> {
         (&["d", "p", "p", "r"], Status::Usage),
         (&["d", "p", "c", "d"], Status::Usage),
         (&["d", "p", "c", "p"], Status::Usage),
+        (&["d", "p", "c", "r.json"], Status::Unbuilt { part: 3 }),
     ];
     for (names, status) in cases {
         let mut store = store_of(alloc, DESIGN, POLICY)?;

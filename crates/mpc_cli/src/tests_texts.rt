@@ -1,6 +1,6 @@
 // `generate` on worked designs: its texts, what the generator refuses, and writes that fail.
 use crate::status::Status;
-use crate::tests_generate::{DESIGN, POLICY, ROOM, answer, answer_of, changed, held, store_of};
+use crate::tests_generate::{DESIGN, POLICY, answer, answer_of, changed, held, store_of};
 use frac_scaled::Frac;
 use std::alloc::Global;
 use std::test::Fail;
@@ -38,28 +38,6 @@ fn first_texts(rt: HostRuntime) -> Result<(), Fail> {
         CONTROLLER.as_bytes()
     );
     assert_eq!(rt; held(alloc, &mut store, "r")?.as_slice(), REPORT.as_bytes());
-    Ok(())
-}
-
-const JSON: &str =
-    "{\"bits\":\"10\",\"cost\":\"1\",\"gap\":\"804534616064\",\"margin\":\"8192\",\"multiplier\":\"8\",\"step\":\"1\",\"steps\":\"4\",\"undercut\":\"71173278793728\",\"version\":\"1\",\"violation\":\"8896659849216\",\"width\":\"26\",\"words\":\"6\"}\n";
-
-// The same with a report whose name asks for JSON.
-#[test]
-fn json_report(rt: HostRuntime) -> Result<(), Fail> {
-    let alloc = rt.alloc();
-    let mut store = store_of(alloc, DESIGN, POLICY)?;
-    store.reserve("r.json", ROOM)?;
-    let status = answer(alloc, &mut store, &["d", "p", "c", "r.json"])?;
-    assert_eq!(rt; status, Status::Done);
-    assert_eq!(rt;
-        held(alloc, &mut store, "c")?.as_slice(),
-        CONTROLLER.as_bytes()
-    );
-    assert_eq!(rt;
-        held(alloc, &mut store, "r.json")?.as_slice(),
-        JSON.as_bytes()
-    );
     Ok(())
 }
 

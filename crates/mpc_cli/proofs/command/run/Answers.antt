@@ -1,34 +1,29 @@
-use Rattle.std.proofs.Common.{inl, inr, rules}
-use Rattle.mpc_cli.specs.Words.{IsSolve, IsGenerate}
-use Rattle.mpc_cli.proofs.Commands.{generate_causes, generate_answers, solve_causes, solve_answers}
+use Rattle.std.proofs.Common.{◌≡◌, ◌⊎◌, inl, inr, ℕ, refl, rules, arith}
+use Rattle.mpc_cli.specs.Words.{IsSolve, AsksToGenerate}
+use Rattle.mpc_cli.specs.Causes.{Causes}
+use Rattle.mpc_cli.proofs.Commands.{nothing_shown, quiet_answers, solve_answers}
 use Rattle.mpc_cli.proofs.command.run.Goals as goal
 
-pub returns-in-Some-Generate-clause-causes : goal.returns-in-Some-Generate-clause-causes
-returns-in-Some-Generate-clause-causes g c =
-    let generate : IsGenerate c.args.words.now = search rules in
-    λ caused. generate_causes (g.S.Store.held c.args.store.now) c.args.words.now c.generate_from.result generate (c.generate_from.ensures.causes caused)
+no_file : (P Q : Type 0) (file : ℕ) → file ≡ 0 → P × ((file ≡ 3) ⊎ (file ≡ 4)) × Q → ⊥
+no_file P Q file zero h = elim (h.1) [ inl e ↦ omega (arith, e) | inr e ↦ omega (arith, e) ]
 
-pub returns-in-Some-Generate-clause-answers : goal.returns-in-Some-Generate-clause-answers
-returns-in-Some-Generate-clause-answers g c =
-    let generate : IsGenerate c.args.words.now = search rules in
-    generate_answers _ _ _ _ (g.S.Store.held c.args.store.now) c.args.words.now generate c.generate_from.ensures.answers
+pub returns-then-asks_to_generate-clause-shows : goal.returns-then-asks_to_generate-clause-shows
+returns-then-asks_to_generate-clause-shows g c =
+    let asks : AsksToGenerate c.args.words.now = search rules in
+    nothing_shown (g.S.Store.held c.args.store.now) (g.O.Sink.got c.args.out.now) c.args.words.now c.generate_by.result asks (λ is. no_file _ _ 0 refl (c.generate_by.ensures.write_fault 0 is))
 
-pub returns-in-Some-Generate-clause-read_fault : goal.returns-in-Some-Generate-clause-read_fault
-returns-in-Some-Generate-clause-read_fault g c =
-    let generate : IsGenerate c.args.words.now = search rules in
-    λ file is. let f = c.generate_from.ensures.read_fault file is in (inr generate, f.0, f.1)
+pub returns-then-asks_to_generate-clause-answers : goal.returns-then-asks_to_generate-clause-answers
+returns-then-asks_to_generate-clause-answers g c = quiet_answers _ _ _ (λ files s. Causes files c.args.words.now s) _ (g.S.Store.held c.args.store.now) c.generate_by.ensures.answers
 
-pub returns-in-Some-Solve-clause-causes : goal.returns-in-Some-Solve-clause-causes
-returns-in-Some-Solve-clause-causes g c =
+pub returns-then-asks_to_generate-clause-read_fault : goal.returns-then-asks_to_generate-clause-read_fault
+returns-then-asks_to_generate-clause-read_fault g c = λ file is. let f = c.generate_by.ensures.read_fault file is in (inr f.0, f.1, f.2)
+
+pub returns-clause-answers : goal.returns-clause-answers
+returns-clause-answers g c =
     let solve : IsSolve c.args.words.now = search rules in
-    λ caused. solve_causes (g.S.Store.held c.args.store.now) c.args.words.now c.solve_from.result solve (c.solve_from.ensures.causes caused)
+    solve_answers _ _ _ _ (g.S.Store.held c.args.store.now) c.args.words.now solve c.solve_by.ensures.answers
 
-pub returns-in-Some-Solve-clause-answers : goal.returns-in-Some-Solve-clause-answers
-returns-in-Some-Solve-clause-answers g c =
+pub returns-clause-read_fault : goal.returns-clause-read_fault
+returns-clause-read_fault g c =
     let solve : IsSolve c.args.words.now = search rules in
-    solve_answers _ _ _ _ (g.S.Store.held c.args.store.now) c.args.words.now solve c.solve_from.ensures.answers
-
-pub returns-in-Some-Solve-clause-read_fault : goal.returns-in-Some-Solve-clause-read_fault
-returns-in-Some-Solve-clause-read_fault g c =
-    let solve : IsSolve c.args.words.now = search rules in
-    λ file is. let f = c.solve_from.ensures.read_fault file is in (inl solve, f.0, f.1)
+    λ file is. let f = c.solve_by.ensures.read_fault file is in (inl solve, f.0, f.1)

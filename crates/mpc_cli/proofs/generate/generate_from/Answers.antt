@@ -13,21 +13,21 @@ returns-in-Ok-clause-generated g c =
     let words = c.args.words.now in
     let text = c.in-Ok.texts.controller.items in
     let report = c.in-Ok.texts.report.items in
-    let made = rw (c.at.ensures, c.at-2.ensures, c.at-3.ensures) at c.in-Ok.ensures.ok in
+    let made = rw (c.at.ensures, c.at-2.ensures) at c.in-Ok.ensures.ok in
     let written = rw (c.at-in-Ok.ensures, c.at-in-Ok-2.ensures) at c.put_texts.ensures.done in
     λ done.
-    carried (g.S.Store.held c.args.store.now) (g.S.Store.held c.texts_for.new.store) (g.S.Store.held c.put_texts.new.store) (λ files. AreTexts files (word_of words 1) (word_of words 2) (word_of words 4) text report)
-    (λ files new. AreWritten files new (word_of words 3) (word_of words 4) text report) (λ files new. IsGenerated words files new) c.in-Ok.ensures.held (generated words text report c.requires) made (written done)
+    carried (g.S.Store.held c.args.store.now) (g.S.Store.held c.texts_for.new.store) (g.S.Store.held c.put_texts.new.store) (λ files. AreTexts files (word_of words 1) (word_of words 2) text report)
+    (λ files new. AreWritten files new (word_of words 3) (word_of words 4) text report) (λ files new. IsGenerated words files new) c.in-Ok.ensures.held (generated words text report c.requires.generate) made (written done)
 
 pub returns-in-Ok-clause-controller_cut : goal.returns-in-Ok-clause-controller_cut
 returns-in-Ok-clause-controller_cut g c =
     let words = c.args.words.now in
     let text = c.in-Ok.texts.controller.items in
     let report = c.in-Ok.texts.report.items in
-    let made = rw (c.at.ensures, c.at-2.ensures, c.at-3.ensures) at c.in-Ok.ensures.ok in
+    let made = rw (c.at.ensures, c.at-2.ensures) at c.in-Ok.ensures.ok in
     let cut = rw c.at-in-Ok.ensures at c.put_texts.ensures.controller_cut in
     λ is.
-    carried (g.S.Store.held c.args.store.now) (g.S.Store.held c.texts_for.new.store) (g.S.Store.held c.put_texts.new.store) (λ files. AreTexts files (word_of words 1) (word_of words 2) (word_of words 4) text report)
+    carried (g.S.Store.held c.args.store.now) (g.S.Store.held c.texts_for.new.store) (g.S.Store.held c.put_texts.new.store) (λ files. AreTexts files (word_of words 1) (word_of words 2) text report)
     (λ files new. IsCutShort files new (word_of words 3) text) (λ files new. IsControllerCut words files new) c.in-Ok.ensures.held (controller_cut words text report) made (cut is)
 
 pub returns-in-Ok-clause-report_cut : goal.returns-in-Ok-clause-report_cut
@@ -35,11 +35,11 @@ returns-in-Ok-clause-report_cut g c =
     let words = c.args.words.now in
     let text = c.in-Ok.texts.controller.items in
     let report = c.in-Ok.texts.report.items in
-    let made = rw (c.at.ensures, c.at-2.ensures, c.at-3.ensures) at c.in-Ok.ensures.ok in
+    let made = rw (c.at.ensures, c.at-2.ensures) at c.in-Ok.ensures.ok in
     let cut = rw (c.at-in-Ok.ensures, c.at-in-Ok-2.ensures) at c.put_texts.ensures.report_cut in
     λ is.
-    carried (g.S.Store.held c.args.store.now) (g.S.Store.held c.texts_for.new.store) (g.S.Store.held c.put_texts.new.store) (λ files. AreTexts files (word_of words 1) (word_of words 2) (word_of words 4) text report)
-    (λ files new. IsSecondCut files new (word_of words 3) (word_of words 4) text report) (λ files new. IsReportCut words files new) c.in-Ok.ensures.held (report_cut words text report c.requires) made (cut is)
+    carried (g.S.Store.held c.args.store.now) (g.S.Store.held c.texts_for.new.store) (g.S.Store.held c.put_texts.new.store) (λ files. AreTexts files (word_of words 1) (word_of words 2) text report)
+    (λ files new. IsSecondCut files new (word_of words 3) (word_of words 4) text report) (λ files new. IsReportCut words files new) c.in-Ok.ensures.held (report_cut words text report c.requires.generate) made (cut is)
 
 pub returns-in-Ok-clause-causes : goal.returns-in-Ok-clause-causes
 returns-in-Ok-clause-causes g c =

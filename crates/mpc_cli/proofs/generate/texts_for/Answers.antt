@@ -42,7 +42,7 @@ returns-clause-ok g c =
     let policy = rw c.in_ok-design.ensures.held at c.in_ok-policy.ensures.ok in
     let inputs : Inputs (g.S.Store.held c.args.store.now) c.args.first.now c.args.second.now c.in_ok-design.design.parts (plans_of c.in_ok-policy.policy) = record { design = c.in_ok-design.ensures.ok; policy = policy } in
     IfOk-weaker c.texts_of.result _ _
-    (λ t made. texts_made (g.S.Store.held c.args.store.now) c.args.first.now c.args.second.now c.args.report.now c.in_ok-design.design.parts (plans_of c.in_ok-policy.policy) t.controller.items t.report.items inputs made)
+    (λ t made. texts_made (g.S.Store.held c.args.store.now) c.args.first.now c.args.second.now c.in_ok-design.design.parts (plans_of c.in_ok-policy.policy) t.controller.items t.report.items inputs made)
     c.texts_of.ensures.ok
 
 pub returns-clause-accepted : goal.returns-clause-accepted

@@ -1,9 +1,0 @@
-use Rattle.std.proofs.Common.{◌≡◌}
-use Rattle.mpc_cli.specs.Solve.{AreInside}
-use Rattle.mpc_cli.proofs.solve.all_inside.Given as goal
-
-abbrev pub invariant-loop-i : goal.invariant-loop-i
-invariant-loop-i l = record {
-  controller : l.kernel.controller ≡ l.fn.kernel.controller;
-  inside : AreInside l.fn.kernel.controller l.states l.i;
-}
