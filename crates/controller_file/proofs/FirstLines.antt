@@ -1,11 +1,11 @@
 -- The first line at which bytes are no text in form, by the pieces between their line feeds.
 use Rattle.std.proofs.Common.{◌≡◌, ◌≢◌, ℕ, zero, suc, ◌+◌, ◌-◌, ◌<◌, ◌≤◌, Bor, eqb, List, [], ◌∷◌, ◌++◌, length, get_or, take, drop, map, refl, sym, ap, subst, ◌∙◌, append_assoc, arith, eq-eqb, add-one}
 use Rattle.std.specs.Prelude.{All}
+use Rattle.std.proofs.Math.Nat.{mul-le-mul}
 use Rattle.std.specs.List.{join_with_byte, slice_split}
 use Rattle.std.proofs.lemmas.Bool.{ne_eqb, false≢true}
-use Rattle.std.proofs.lemmas.List.{take_at, take_all, take_more, take-take, take-map, take-append-le, take-append-drop, length-append, length-map, length-take, length-take-le, get_or-take, get_or-map, map-append}
-use Rattle.std.proofs.lemmas.List.Splits.{join_with_byte-slice_split, length-slice_split}
-use Rattle.std.proofs.lemmas.List.Sums.{count_by-le-length}
+use Rattle.std.proofs.lemmas.List.{take_at, take_all, take_more, take-take, take-map, take-append-le, take-append-drop, length-append, length-map, length-take-le, get_or-take, get_or-map, map-append}
+use Rattle.std.proofs.lemmas.List.Splits.{join_with_byte-slice_split}
 use Rattle.qp_model.specs.Lines.{text_of}
 use Rattle.qp_model.proofs.Pieces.{IsPiece, ArePieces, split_text}
 use Rattle.controller_file.specs.FirstLine.{IsOneLine, BeginsInForm, IsFirstLine}
@@ -14,7 +14,7 @@ use Rattle.controller_file.specs.Following.{IsBeginning, BeginsWith, IsMost}
 use Rattle.controller_file.proofs.Cuts.{none, cut_some, line_pieces}
 use Rattle.controller_file.proofs.Texts.{keyed_text}
 use Rattle.controller_file.proofs.Pushed.{text_append}
-use Rattle.controller_file.proofs.Uniqueness.{one_lines, split_more, pieces_of}
+use Rattle.controller_file.proofs.Uniqueness.{one_lines, split_more, pieces_of, line_count}
 use Rattle.controller_file.proofs.Beginnings.{shorter, begins, lines_good}
 use Rattle.controller_file.proofs.Blank.{blank, blank_form, blank_fits}
 
@@ -160,16 +160,20 @@ whole_pieces bytes ps k same count =
 pub some_piece : (bytes : List ℕ) (ps : List (Bor (List ℕ))) → map (λ x. x.now) ps ≡ pieces bytes → 0 < length ps
 some_piece bytes ps same = omega (arith, cut_some 10 bytes, ap length same, length-map ps (λ (x : Bor (List ℕ)). x.now))
 
-pub few_right : (bytes : List ℕ) (ps : List (Bor (List ℕ))) (k n : ℕ) → map (λ x. x.now) ps ≡ pieces bytes → length ps ≡ k → IsMost (map (λ x. x.now) (take (k - 1) ps)) n → n ≤ length bytes
-few_right bytes ps k n same count m =
+-- however many pieces there are, few are the lines of a text in form: no such text has more
+pub few_right : (ps : List (List ℕ)) (n : ℕ) → IsMost ps n → n ≤ 635
+few_right ps n m =
+    let b = m.these in
+    let c = b.beginning.numbers in
+    let sized = b.beginning.form.sized in
     omega (
       arith,
-      m.these.within,
-      length-map (take (k - 1) ps) (λ (x : Bor (List ℕ)). x.now),
-      length-take (k - 1) ps,
-      count,
-      ap length same,
-      length-map ps (λ (x : Bor (List ℕ)). x.now),
-      length-slice_split (λ b. eqb b 10) bytes,
-      count_by-le-length (λ b. eqb b 10) bytes,
+      ap length b.spelling,
+      length-map b.lines spelled,
+      length-take-le n ps b.within,
+      ap length b.beginning.lines,
+      length-append b.lines b.beginning.more,
+      line_count c sized.shaped,
+      mul-le-mul sized.inputs.1 sized.stages.1,
+      sized.rows.1,
     )

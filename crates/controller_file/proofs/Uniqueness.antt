@@ -102,7 +102,7 @@ one_controller bytes c d p q = one_form bytes c d (in_form bytes c p) (in_form b
 -- ---- no prefix
 
 -- how many lines a controller of these sizes has
-line_count : (c : Numbers) → IsShaped c → length (keyed_lines c) ≡ 11 + 2 * (c.inputs * c.stages) + 2 * c.rows
+pub line_count : (c : Numbers) → IsShaped c → length (keyed_lines c) ≡ 11 + 2 * (c.inputs * c.stages) + 2 * c.rows
 line_count c shaped =
     let last : List Keyed = line (codes "b") c.bounds ∷ line (codes "end") [] ∷ [] in
     let r6 = row_lines (codes "E") c.state_rows.rows ++ last in

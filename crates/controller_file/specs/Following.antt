@@ -62,6 +62,7 @@ IsClampLine l = (place_of l ≡ place (codes "clamp") 1) × IsFrom (pos 0) (pos 
 abbrev pub second_of : List Keyed → Keyed
 second_of ls = slice_index_or ls 1 (line [] [])
 
+-- each size lies in its range
 pub record AreInRange (sizes : Sizes) : Type 0 where
   pub n : LiesIn 1 4 sizes.n
   pub p : LiesIn 1 3 sizes.p

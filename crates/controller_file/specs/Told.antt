@@ -1,4 +1,4 @@
--- What is told of bytes before the line is sought at which they are no text in form.
+-- What reading bytes tells before their first bad line is sought.
 use Rattle.std.specs.Prelude.{ℕ, List, Result, Ok, Err}
 use Rattle.overflow_check.specs.declared.controller.BadParts.{BadParts}
 use Rattle.overflow_check.specs.declared.controller.BadParts.TheVariants.{Form, Unsafe}

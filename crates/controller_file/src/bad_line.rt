@@ -1,5 +1,5 @@
 // The first line at which bytes are no controller text.
-ghost use Rattle.std.specs.Prelude.{◌≡◌, ◌≢◌, ◌-◌, ◌<◌, ◌^◌, [], ◌∷◌, ◌++◌, length, map, IfOk, IfSome, IfNone};
+ghost use Rattle.std.specs.Prelude.{◌≡◌, ◌≢◌, [], ◌∷◌, ◌++◌, map, IfOk, IfSome, IfNone};
 ghost use Rattle.controller_file.specs.FirstLine.{IsFirstLine};
 ghost use Rattle.controller_file.specs.Lines.{Keyed, view, views, spelled};
 ghost use Rattle.controller_file.specs.Following.{IsBeginning, IsMost};
@@ -12,7 +12,6 @@ use std::alloc::{AllocError, Global};
 
 /// The number of the first line, from 1, with which, after those before it, no text in form begins.
 pub fn first_bad_line(alloc: Global, bytes: &[u8]) -> Result<u32, AllocError>
-    requires { length bytes.now < 2 ^ 32 - 1 }
     ensures { IfOk result (IsFirstLine bytes.now) }
 {
     let pieces = pieces_of(alloc, bytes, b'\n')?;

@@ -1,5 +1,5 @@
 // A controller from its text.
-ghost use Rattle.std.specs.Prelude.{◌≡◌, ◌⊎◌, ℕ, ◌-◌, ◌<◌, ◌^◌, Err, length, IfOk, MatchResult};
+ghost use Rattle.std.specs.Prelude.{◌≡◌, ◌⊎◌, ℕ, Err, IfOk, MatchResult};
 ghost use Rattle.qp_model.specs.Controller.{Numbers};
 ghost use Rattle.qp_model.specs.ControllerText.{IsControllerText};
 ghost use Rattle.controller_file.specs.FirstLine.{IsBadLine, IsUnsafe};
@@ -12,14 +12,13 @@ use crate::parts::read_parts;
 use overflow_check::{BadParts, Controller};
 use std::alloc::{AllocError, Global};
 
-/// The controller whose text the bytes are. The bytes are fewer than `2^32 - 1`.
+/// The controller whose text the bytes are.
 ///
 /// # Errors
 /// `Line` exactly where the bytes are no controller text in form: a line isn't the one that has its place, a number has another spelling or breaks its
 /// range, a line is absent, or bytes are left. It names the first line with which, after those before it, no text in form begins. `Unsafe` exactly where
 /// the bytes are in form and the absolute sums of the numbers don't fit the width that the text says.
 pub fn read_controller(alloc: Global, bytes: &[u8]) -> Result<Controller, BadController>
-    requires { length bytes.now < 2 ^ 32 - 1 }
     ensures found { IfOk result (IsControllerText bytes.now) }
     ensures bad_line { (l : ℕ) → result ≡ Err (BadController.Line l) → IsBadLine bytes.now l }
     ensures wide { result ≡ Err BadController.Unsafe → IsUnsafe bytes.now }

@@ -1,7 +1,4 @@
 use super::*;
-use overflow_check::Controller;
-use std::alloc::Global;
-use std::process::Abort;
 use std::test::Fail;
 
 fn one() -> &'static str {
@@ -61,16 +58,10 @@ fn changes() -> [(&'static str, &'static str, Option<BadController>); 36] {
     ]
 }
 
-// What is read of bytes that are few.
-fn read(rt: &impl Abort, alloc: Global, bytes: &[u8]) -> Result<Controller, BadController> {
-    assert!(rt; bytes.len() < 4096);
-    read_controller(alloc, bytes)
-}
-
 // The numbers of a text, each at its place.
 #[test]
 fn numbers(rt: HostRuntime) -> Result<(), Fail> {
-    let controller = read(&rt, rt.alloc(), two().as_bytes())?;
+    let controller = read_controller(rt.alloc(), two().as_bytes())?;
     let parts = controller.parts();
     assert_eq!(rt; parts.lo.as_slice(), [-16, -3].as_slice());
     assert_eq!(rt; parts.hi.as_slice(), [16, 5].as_slice());
@@ -86,7 +77,7 @@ fn numbers(rt: HostRuntime) -> Result<(), Fail> {
 #[test]
 fn written_back(rt: HostRuntime) -> Result<(), Fail> {
     for text in [one(), two()] {
-        let controller = read(&rt, rt.alloc(), text.as_bytes())?;
+        let controller = read_controller(rt.alloc(), text.as_bytes())?;
         let written = write_controller(rt.alloc(), &controller)?;
         assert_eq!(rt; written.as_slice(), text.as_bytes());
     }
@@ -97,19 +88,19 @@ fn written_back(rt: HostRuntime) -> Result<(), Fail> {
 fn changed(rt: HostRuntime) -> Result<(), Fail> {
     for (old, new, answer) in changes() {
         let text = one().replace(rt.alloc(), old, new)?;
-        let read = read(&rt, rt.alloc(), text.as_bytes());
+        let read = read_controller(rt.alloc(), text.as_bytes());
         assert_eq!(rt; read.err(), answer, "{old:?} {new:?}");
     }
     Ok(())
 }
 
-// A text that is cut has no line where it ends, nor have bytes that are no text.
+// The first bad line of a text that is cut is the one where it ends.
 #[test]
 fn other_bytes(rt: HostRuntime) -> Result<(), Fail> {
     let bytes = one().as_bytes();
     let mut line = 1u32;
     for (k, byte) in bytes.iter().enumerate() {
-        let read = read(&rt, rt.alloc(), &bytes[..k]);
+        let read = read_controller(rt.alloc(), &bytes[..k]);
         assert_eq!(rt; read.err(), Some(BadController::Line { line }), "{k}");
         if *byte == b'\n' {
             line = line.saturating_add(1);
@@ -117,7 +108,7 @@ fn other_bytes(rt: HostRuntime) -> Result<(), Fail> {
     }
     assert!(rt; 20 < bytes.len());
     for (bytes, line) in [(&bytes[..0], 1), (&bytes[..20], 2), (&[255], 1)] {
-        let read = read(&rt, rt.alloc(), bytes);
+        let read = read_controller(rt.alloc(), bytes);
         assert_eq!(rt; read.err(), Some(BadController::Line { line }));
     }
     Ok(())

@@ -8,16 +8,12 @@ slice_bounds-whole-count c =
 
 pub overflow_cast-result : goal.overflow_cast-result
 overflow_cast-result c =
-    let ps = c.deref.result.now in
-    let cut : map (λ (x : Bor (List ℕ)). x.now) ps ≡ pieces c.args.bytes.now = ap (map (λ (x : Bor (List ℕ)). x.now)) c.deref.ensures.value ∙ c.in_ok-pieces.ensures in
-    let few = few_right c.args.bytes.now ps c.len.result c.in_ok-right_lines.field-0 cut (omega (arith, c.deref.ensures.len, c.len.ensures)) c.in_ok-right_lines.ensures in
+    let few = few_right (map (λ (x : Bor (List ℕ)). x.now) (take (c.len.result - 1) c.deref.result.now)) c.in_ok-right_lines.field-0 c.in_ok-right_lines.ensures in
     record { fits = omega arith }
 
 pub overflow_add-result : goal.overflow_add-result
 overflow_add-result c =
-    let ps = c.deref.result.now in
-    let cut : map (λ (x : Bor (List ℕ)). x.now) ps ≡ pieces c.args.bytes.now = ap (map (λ (x : Bor (List ℕ)). x.now)) c.deref.ensures.value ∙ c.in_ok-pieces.ensures in
-    let few = few_right c.args.bytes.now ps c.len.result c.in_ok-right_lines.field-0 cut (omega (arith, c.deref.ensures.len, c.len.ensures)) c.in_ok-right_lines.ensures in
+    let few = few_right (map (λ (x : Bor (List ℕ)). x.now) (take (c.len.result - 1) c.deref.result.now)) c.in_ok-right_lines.field-0 c.in_ok-right_lines.ensures in
     record { fits = omega arith }
 
 pub returns : goal.returns
