@@ -10,7 +10,8 @@ use Rattle.qp_model.specs.Controller.{Numbers, IsShaped, IsInForm, FitsWord}
 use Rattle.controller_file.specs.declared.following.Sizes.{Sizes}
 use Rattle.controller_file.specs.declared.line.Line.{Line}
 use Rattle.controller_file.specs.Lines.{Keyed, line, view, views, keyed_lines, place, place_of}
-use Rattle.controller_file.specs.Following.{IsBeginning, IsFrom, IsVersionLine, IsSizeLine, IsBitsLine, IsStepsLine, IsClampLine, second_of, Says, IsWordsLine, IsLowLine, AreInOrder, IsHighLine}
+use Rattle.controller_file.specs.Following.{IsBeginning, IsFrom, IsVersionLine, IsSizeLine, IsBitsLine, IsStepsLine, IsClampLine, second_of, Says, IsWordsLine, IsLowLine, IsHighLine}
+use Rattle.qp_model.specs.PartRules.{AreHighs}
 use Rattle.controller_file.proofs.Cuts.{none}
 use Rattle.controller_file.proofs.Fields.{key_is, count_is, one_of, four_of}
 use Rattle.controller_file.proofs.Beginnings.{grown, fewer, front_is, line_is, last_is}
@@ -285,16 +286,16 @@ high_follows ls l b len = (
       let lows = lows_are ls b (omega (arith, len)) in
       let d = boxed c c.low l.numbers in
       let count : length l.numbers ≡ c.states = count_is l (codes "hi") (length (low_of ls)) h.0 ∙ ap length (sym lows) ∙ shaped.low in
-      let order : AreInOrder c.low l.numbers = subst (λ (low : List ℤ). AreInOrder low l.numbers) (sym lows) h.2 in
+      let highs : AreHighs l.numbers c.low (length c.low) = subst (λ (low : List ℤ). AreHighs l.numbers low (length low)) (sym lows) h.1 in
       let front = front_is ls b 7 len in
       let last = sym (key_is l (codes "hi") (length (low_of ls)) h.0) in
-      grown ls l d (drop 8 (keyed_lines d)) (boxed_form c c.low l.numbers b.form shaped.low count b.form.sized.low h.1 (λ i lt. order i (omega (arith, lt, shaped.low)))) (boxed_fits c c.low l.numbers b.word)
+      grown ls l d (drop 8 (keyed_lines d)) (boxed_form c c.low l.numbers b.form shaped.low count b.form.sized.low highs.numbers (λ i lt. highs.box i (omega (arith, lt, shaped.low)))) (boxed_fits c c.low l.numbers b.word)
       (λ i. front i ++ (last i ∷ drop 8 (keyed_lines d))),
   λ more.
       let c = more.numbers in
       let sized = more.form.sized in
       let lows = lows_are ls (fewer ls (l ∷ []) more) (omega (arith, len)) in
-      let order : AreInOrder c.low c.high = λ i lt. sized.box i (omega (arith, lt, sized.shaped.low)) in
+      let highs : AreHighs c.high c.low (length c.low) = record { numbers = sized.high; box = λ i lt. sized.box i (omega (arith, lt, sized.shaped.low)) } in
       subst (IsHighLine (low_of ls)) (last_is ls l more 7 len)
-      (ap (place (codes "hi")) (sized.shaped.high ∙ sym sized.shaped.low ∙ ap length lows), sized.high, subst (λ (low : List ℤ). AreInOrder low c.high) lows order),
+      (ap (place (codes "hi")) (sized.shaped.high ∙ sym sized.shaped.low ∙ ap length lows), subst (λ (low : List ℤ). AreHighs c.high low (length low)) lows highs),
 )

@@ -1,7 +1,8 @@
 -- Lines with which a text in form begins, and what each line must be.
-use Rattle.std.specs.Prelude.{◌≡◌, ℕ, suc, ◌+◌, ◌*◌, ◌^◌, ◌<◌, ◌≤◌, ℤ, pos, ◌≤ℤ◌, List, [], ◌∷◌, ◌++◌, length, map, take, replicate, codes, All, slice_index_or}
+use Rattle.std.specs.Prelude.{◌≡◌, ℕ, suc, ◌+◌, ◌*◌, ◌^◌, ◌≤◌, ℤ, pos, ◌≤ℤ◌, List, [], ◌∷◌, ◌++◌, length, map, take, replicate, codes, All, slice_index_or}
 use Rattle.integer_algebra.specs.Sums.{at}
 use Rattle.qp_model.specs.Range.{LiesIn, IsNumerator}
+use Rattle.qp_model.specs.PartRules.{AreHighs}
 use Rattle.qp_model.specs.Controller.{Numbers, IsInForm, FitsWord}
 use Rattle.controller_file.specs.declared.following.Sizes.{Sizes}
 use Rattle.controller_file.specs.Lines.{Keyed, line, keyed_lines, spelled, Place, place, place_of}
@@ -80,12 +81,8 @@ IsWordsLine sizes l = (place_of l ≡ place (codes "words") 1) × (at l.numbers 
 abbrev pub IsLowLine : Sizes → Keyed → Type 0
 IsLowLine sizes l = (place_of l ≡ place (codes "lo") sizes.n) × All IsNumerator l.numbers
 
--- each is at most the other at its index
-abbrev pub AreInOrder : List ℤ → List ℤ → Type 0
-AreInOrder low high = (i : ℕ) → i < length low → at low i ≤ℤ at high i
-
 abbrev pub IsHighLine : List ℤ → Keyed → Type 0
-IsHighLine low l = (place_of l ≡ place (codes "hi") (length low)) × All IsNumerator l.numbers × AreInOrder low l.numbers
+IsHighLine low l = (place_of l ≡ place (codes "hi") (length low)) × AreHighs l.numbers low (length low)
 
 -- the lines after `hi`
 abbrev pub list_places : ℕ → ℕ → ℕ → List Place

@@ -2,9 +2,10 @@
 ghost use Rattle.std.specs.Prelude.{◌≡◌, ◌↔◌, ◌≤◌, ◌<◌, [], ◌∷◌, ◌++◌, length, All, Some, None, IsTrue, MatchOption, slice_get};
 ghost use Rattle.qp_model.specs.Range.{IsNumerator};
 ghost use Rattle.controller_file.specs.Lines.{view, views, Fits, place, place_of};
-ghost use Rattle.controller_file.specs.Following.{IsBeginning, IsVersionLine, AreSizes, IsSizeLine, IsFrom, AreBits, IsBitsLine, IsStepsLine, IsClampLine, second_of, AreInRange, Says, IsWordsLine, IsLowLine, AreInOrder, IsHighLine, places_after};
+ghost use Rattle.controller_file.specs.Following.{IsBeginning, IsVersionLine, AreSizes, IsSizeLine, IsFrom, AreBits, IsBitsLine, IsStepsLine, IsClampLine, second_of, AreInRange, Says, IsWordsLine, IsLowLine, IsHighLine, places_after};
 
 use crate::line::{Line, has_place};
+use qp_model::range::{are_highs, are_numerators};
 
 /// Whether a text in form has this line after these, which are the first lines of one.
 pub fn can_follow(before: &[Line], line: &Line) -> bool
@@ -132,22 +133,7 @@ fn is_low(sizes: Sizes, line: &Line) -> bool
 fn is_high(low: &[i128], line: &Line) -> bool
     ensures { IsTrue result ↔ IsHighLine low.now (view line.now) }
 {
-    has_place(line, "hi", low.len())
-        && are_numerators(&line.numbers)
-        && are_in_order(low, &line.numbers)
-}
-
-// Whether each number is at most the other with its index.
-fn are_in_order(low: &[i128], high: &[i128]) -> bool
-    requires { length low.now ≡ length high.now }
-    ensures { IsTrue result ↔ AreInOrder low.now high.now }
-{
-    for (i, number) in low.iter().enumerate() {
-        if *number > high[i] {
-            return false;
-        }
-    }
-    true
+    has_place(line, "hi", low.len()) && are_highs(&line.numbers, low)
 }
 
 // Whether a number is one from `low` to `high`.
@@ -155,13 +141,6 @@ fn is_from(low: i128, high: i128, number: i128) -> bool
     ensures { IsTrue result ↔ IsFrom low high number }
 {
     low <= number && number <= high
-}
-
-// Whether each number is below `2^31` in absolute value.
-fn are_numerators(numbers: &[i128]) -> bool
-    ensures { IsTrue result ↔ All IsNumerator numbers.now }
-{
-    numbers.iter().all(|x| x.unsigned_abs() < 1 << 31)
 }
 
 // Whether a line has the word and the count of the line with this index after `hi`.
