@@ -1,5 +1,5 @@
 -- What a kernel's fields are, by its rule.
-use Rattle.std.proofs.Common.{◌≡◌, ℕ, ◌+◌, ◌*◌, ◌≤◌, ◌<◌, ◌^◌, pos, List, ℤ, length, get_or, replicate, unsigned_abs, ap, sym, subst, ◌∙◌, arith, refl}
+use Rattle.std.proofs.Common.{◌≡◌, ℕ, ◌+◌, ◌*◌, ◌≤◌, ◌<◌, ◌^◌, pos, List, ℤ, length, get_or, replicate, unsigned_abs, ap, sym, subst, ◌∙◌, arith, refl, IsTrue}
 use Rattle.std.proofs.lemmas.Nat.{mul-le}
 use Rattle.integer_algebra.specs.Sums.{at}
 use Rattle.qp_model.specs.Controller.{Numbers}
@@ -8,6 +8,7 @@ use Rattle.qp_model.specs.AbsoluteSums.{state_reach, clamp_reach, plan_reach, Is
 use Rattle.overflow_check.specs.Within.{AreWithin}
 use Rattle.overflow_check.proofs.Runs.{state_within, after_multipliers, after_plan_length, after_multipliers_length, after_sums_length, after_sums_le, after_zero}
 use Rattle.fixed_kernel.specs.declared.kernel.Kernel.TheInside.{Inside}
+use Rattle.fixed_kernel.specs.Factors.{HasNarrowFactors}
 use Rattle.fixed_kernel.specs.Progress.{unloaded, progress_of, IsReached}
 use Rattle.fixed_kernel.proofs.Rooms.{fit}
 use Rattle.fixed_kernel.proofs.States.{unloaded-loaded}
@@ -46,9 +47,9 @@ sums_room k r lt j h =
 -- ---- a fresh start
 -- a kernel that holds a state of the box, and zeros, has made no step from it
 pub fresh : (k : Inside) (n : Numbers) (xi : List ℤ) → n ≡ k.controller.now → IsController n → IsGridState n xi → k.state.items ≡ loaded n xi → k.made ≡ 0 →
-    k.plan.items ≡ replicate (length n.offsets) (pos 0) → k.multipliers.items ≡ replicate (length n.bounds) (pos 0) → k.sums.items ≡ replicate (length n.offsets) (pos 0) →
+    k.plan.items ≡ replicate (length n.offsets) (pos 0) → k.multipliers.items ≡ replicate (length n.bounds) (pos 0) → k.sums.items ≡ replicate (length n.offsets) (pos 0) → (IsTrue k.narrow → HasNarrowFactors n) →
     IsReached k × (progress_of k ≡ record { controller = k.controller.now; state = xi; made = 0 })
-fresh k n xi e sound grid state made plan multipliers sums =
+fresh k n xi e sound grid state made plan multipliers sums narrow =
     let c = k.controller.now in
     let held = state ∙ ap (λ (m : Numbers). loaded m xi) e in
     let same : unloaded c k.state.items ≡ xi = ap (unloaded c) held ∙ unloaded-loaded c xi in
@@ -59,6 +60,7 @@ fresh k n xi e sound grid state made plan multipliers sums =
         grid = subst (IsGridState c) (sym same) (subst (λ (m : Numbers). IsGridState m xi) e grid);
         state = held ∙ ap (loaded c) (sym same);
         values = first ∙ ap start_of e ∙ sym (after_zero c (loaded c (unloaded c k.state.items))) ∙ ap (after c (loaded c (unloaded c k.state.items))) (sym made);
+        narrow = λ t. subst HasNarrowFactors e (narrow t);
       },
       rw (same, made) refl,
     )

@@ -1,2 +1,4 @@
 pub mod Outside
 pub mod Progress
+pub mod Factors
+pub mod InHalves

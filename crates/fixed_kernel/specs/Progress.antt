@@ -1,9 +1,10 @@
 -- A kernel as its controller, the grid state that it runs from and the number of steps made.
-use Rattle.std.specs.Prelude.{◌≡◌, ℕ, ◌-◌, ◌^◌, ◌≤◌, ℤ, List, map}
+use Rattle.std.specs.Prelude.{◌≡◌, ℕ, ◌-◌, ◌^◌, ◌≤◌, ℤ, List, map, IsTrue}
 use Rattle.integer_algebra.specs.Division.{floor_of}
 use Rattle.qp_model.specs.Controller.{Numbers}
 use Rattle.qp_model.specs.Machine.{Made, IsGridState, loaded, after}
 use Rattle.qp_model.specs.AbsoluteSums.{IsController}
+use Rattle.fixed_kernel.specs.Factors.{HasNarrowFactors}
 use Rattle.fixed_kernel.specs.declared.kernel.Kernel.TheInside.{Inside}
 
 -- the state is in whole numbers over 2^grid_bits
@@ -23,10 +24,12 @@ unloaded c xs = map (λ x. floor_of x (2 ^ (c.fraction_bits - c.grid_bits))) xs
 abbrev pub progress_of : Inside → Progress
 progress_of k = record { controller = k.controller.now; state = unloaded k.controller.now k.state.items; made = k.made }
 
--- the rule of a kernel: its state is that of a grid state of the box, and its lists are the machine's after the steps made
+-- the rule of a kernel: its state is that of a grid state of the box, its lists are the machine's after the steps made, and its factors are narrow
+-- where it says so
 pub record IsReached (k : Inside) : Type 0 where
   pub sound : IsController k.controller.now
   pub made : k.made ≤ k.controller.now.steps
   pub grid : IsGridState k.controller.now (unloaded k.controller.now k.state.items)
   pub state : k.state.items ≡ loaded k.controller.now (unloaded k.controller.now k.state.items)
   pub values : record { plan = k.plan.items; multipliers = k.multipliers.items; sums = k.sums.items } ≡ values_of (progress_of k)
+  pub narrow : IsTrue k.narrow → HasNarrowFactors k.controller.now

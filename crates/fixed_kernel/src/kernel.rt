@@ -5,6 +5,7 @@ ghost use Rattle.qp_model.specs.Controller.{plan_length};
 ghost use Rattle.qp_model.specs.Machine.{IsGridState, loaded, step_of, run_of};
 ghost use Rattle.fixed_kernel.specs.Outside.{IsFirstOutside};
 
+use crate::narrow::has_narrow_factors;
 use crate::state::{OutsideBox, clear, first_outside, load_state, zeros};
 use crate::step::advance;
 use overflow_check::Controller;
@@ -21,6 +22,8 @@ pub struct Kernel<'a> {
     multipliers: Vec<i128>,
     sums: Vec<i128>,
     made: u32,
+    // Only where each factor of the machine's products fits 64 bits.
+    narrow: bool,
 }
 
 impl<'a> Model for Kernel<'a> {
@@ -53,6 +56,7 @@ impl<'a> Kernel<'a> {
             multipliers,
             sums,
             made: 0,
+            narrow: has_narrow_factors(c),
         })
     }
 
@@ -86,6 +90,7 @@ impl<'a> Kernel<'a> {
     {
         advance(
             self.controller.parts(),
+            self.narrow,
             &self.state,
             &mut self.plan,
             &mut self.multipliers,

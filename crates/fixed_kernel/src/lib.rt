@@ -3,6 +3,7 @@
 
 mod entry;
 mod kernel;
+mod narrow;
 mod state;
 mod step;
 

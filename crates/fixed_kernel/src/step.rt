@@ -1,65 +1,95 @@
 // Plan entries, multipliers and sums.
-ghost use Rattle.std.specs.Prelude.{◌≡◌, ◌≤◌, ◌<◌, ◌+◌, ◌^◌, ℕ, length, unsigned_abs, slice_index_or};
+ghost use Rattle.std.specs.Prelude.{◌≡◌, ◌≤◌, ◌<◌, ◌+◌, ◌^◌, ℕ, length, unsigned_abs, slice_index_or, IsTrue};
 ghost use Rattle.integer_algebra.specs.Sums.{at};
 ghost use Rattle.qp_model.specs.Controller.{numbers};
 ghost use Rattle.qp_model.specs.Machine.{plan_entry, plan_of, next_multiplier, next_multipliers, added, step_of};
 ghost use Rattle.qp_model.specs.AbsoluteSums.{IsController, clamp_reach, state_reach, plan_reach};
 ghost use Rattle.overflow_check.specs.Within.{AreWithin};
+ghost use Rattle.fixed_kernel.specs.Factors.{HasNarrowFactors};
 
 use crate::entry::{entry_from, multiplier_from};
-use mat_int::dot;
+use crate::narrow::sum_of_products;
 use qp_model::ControllerParts;
 
 // One plan entry.
-fn entry_at(c: &ControllerParts, state: &[i128], multipliers: &[i128], j: usize) -> i128
+fn entry_at(
+    c: &ControllerParts,
+    narrow: bool,
+    state: &[i128],
+    multipliers: &[i128],
+    j: usize,
+) -> i128
     requires sound { IsController (numbers c.now) }
+    requires narrow { IsTrue narrow → HasNarrowFactors (numbers c.now) }
     requires state { AreWithin state.now (state_reach (numbers c.now)) }
     requires multipliers { AreWithin multipliers.now (clamp_reach (numbers c.now)) }
     requires in_range { j < length c.now.t.items }
     ensures { result ≡ plan_entry (numbers c.now) state.now multipliers.now j }
 {
-    let own = dot(c.p_mat.row(j), state);
-    let dual = dot(c.w_mat.row(j), multipliers);
+    let own = sum_of_products(narrow, c.p_mat.row(j), state);
+    let dual = sum_of_products(narrow, c.w_mat.row(j), multipliers);
     entry_from(own, c.t[j], dual, c.f, c.s)
 }
 
 // The plan at a state and multipliers.
-fn make_plan(c: &ControllerParts, state: &[i128], multipliers: &[i128], plan: &mut [i128])
+fn make_plan(
+    c: &ControllerParts,
+    narrow: bool,
+    state: &[i128],
+    multipliers: &[i128],
+    plan: &mut [i128],
+)
     requires sound { IsController (numbers c.now) }
+    requires narrow { IsTrue narrow → HasNarrowFactors (numbers c.now) }
     requires state { AreWithin state.now (state_reach (numbers c.now)) }
     requires multipliers { AreWithin multipliers.now (clamp_reach (numbers c.now)) }
     requires plan { length plan.old ≡ length c.now.t.items }
     ensures { plan.new ≡ plan_of (numbers c.now) state.now multipliers.now }
 {
     for j in 0..plan.len() {
-        plan[j] = entry_at(c, state, multipliers, j);
+        plan[j] = entry_at(c, narrow, state, multipliers, j);
     }
 }
 
 // One multiplier.
-fn multiplier_at(c: &ControllerParts, state: &[i128], plan: &[i128], old: i128, i: usize) -> i128
+fn multiplier_at(
+    c: &ControllerParts,
+    narrow: bool,
+    state: &[i128],
+    plan: &[i128],
+    old: i128,
+    i: usize,
+) -> i128
     requires sound { IsController (numbers c.now) }
+    requires narrow { IsTrue narrow → HasNarrowFactors (numbers c.now) }
     requires state { AreWithin state.now (state_reach (numbers c.now)) }
     requires plan { AreWithin plan.now (plan_reach (numbers c.now)) }
     requires old { unsigned_abs old ≤ unsigned_abs c.now.clamp }
     requires in_range { i < length c.now.bound.items }
     ensures { result ≡ next_multiplier (numbers c.now) state.now plan.now old i }
 {
-    let row = dot(c.g_mat.row(i), plan);
-    let own = dot(c.e_mat.row(i), state);
+    let row = sum_of_products(narrow, c.g_mat.row(i), plan);
+    let own = sum_of_products(narrow, c.e_mat.row(i), state);
     multiplier_from(row, own, c.bound[i], old, c.clamp, c.f)
 }
 
 // The multipliers after a plan.
-fn move_multipliers(c: &ControllerParts, state: &[i128], plan: &[i128], multipliers: &mut [i128])
+fn move_multipliers(
+    c: &ControllerParts,
+    narrow: bool,
+    state: &[i128],
+    plan: &[i128],
+    multipliers: &mut [i128],
+)
     requires sound { IsController (numbers c.now) }
+    requires narrow { IsTrue narrow → HasNarrowFactors (numbers c.now) }
     requires state { AreWithin state.now (state_reach (numbers c.now)) }
     requires plan { AreWithin plan.now (plan_reach (numbers c.now)) }
     requires multipliers { AreWithin multipliers.old (clamp_reach (numbers c.now)) }
     ensures { multipliers.new ≡ next_multipliers (numbers c.now) state.now plan.now multipliers.old }
 {
     for (i, l) in multipliers.iter_mut().enumerate() {
-        *l = multiplier_at(c, state, plan, *l, i);
+        *l = multiplier_at(c, narrow, state, plan, *l, i);
     }
 }
 
@@ -74,15 +104,17 @@ fn add_plan(plan: &[i128], sums: &mut [i128])
     }
 }
 
-// One step of the machine.
+// One step of the machine. Where its factors are narrow, `narrow` may say so, and the step is faster.
 pub fn advance(
     c: &ControllerParts,
+    narrow: bool,
     state: &[i128],
     plan: &mut [i128],
     multipliers: &mut [i128],
     sums: &mut [i128],
 )
     requires sound { IsController (numbers c.now) }
+    requires narrow { IsTrue narrow → HasNarrowFactors (numbers c.now) }
     requires state { AreWithin state.now (state_reach (numbers c.now)) }
     requires plan { length plan.old ≡ length c.now.t.items }
     requires multipliers { AreWithin multipliers.old (clamp_reach (numbers c.now)) }
@@ -90,7 +122,7 @@ pub fn advance(
     requires room { (k : ℕ) → k < length c.now.t.items → unsigned_abs (at sums.old k) + slice_index_or (plan_reach (numbers c.now)) k 0 ≤ 2 ^ 126 }
     ensures { record { plan = plan.new; multipliers = multipliers.new; sums = sums.new } ≡ step_of (numbers c.now) state.now (record { plan = plan.old; multipliers = multipliers.old; sums = sums.old }) }
 {
-    make_plan(c, state, multipliers, plan);
-    move_multipliers(c, state, plan, multipliers);
+    make_plan(c, narrow, state, multipliers, plan);
+    move_multipliers(c, narrow, state, plan, multipliers);
     add_plan(plan, sums);
 }

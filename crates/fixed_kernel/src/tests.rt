@@ -6,6 +6,7 @@ use mat_int::Mat;
 use overflow_check::Controller;
 use qp_model::ControllerParts;
 use std::alloc::Global;
+use std::process::Abort;
 use std::test::Fail;
 
 // A matrix of these rows.
@@ -20,7 +21,7 @@ fn matrix<const COLS: usize>(alloc: Global, rows: &[[i128; COLS]]) -> Result<Mat
 }
 
 // One input at one stage of one state, with three rows and four steps.
-fn one_stage(alloc: Global) -> Result<Controller, Fail>
+fn one_stage(alloc: Global, clamp: i128, w: u32) -> Result<Controller, Fail>
     ensures states { IfOk result (λ c. c.states ≡ 1) }
     ensures entries { IfOk result (λ c. plan_length c ≡ 1) }
     ensures rows { IfOk result (λ c. c.rows ≡ 3) }
@@ -33,9 +34,9 @@ fn one_stage(alloc: Global) -> Result<Controller, Fail>
         f: 10,
         g: 0,
         s: 1,
-        w: 26,
+        w,
         steps: 4,
-        clamp: 32768,
+        clamp,
         words: 6,
         lo: vec![in alloc; 0]?,
         hi: vec![in alloc; 1]?,
@@ -59,10 +60,9 @@ fn step(kernel: &mut Kernel)
 }
 
 // Each step's plan and third multiplier from the state 1, and the sums so far.
-#[test]
-fn steps(rt: HostRuntime) -> Result<(), Fail> {
-    let controller = one_stage(rt.alloc())?;
-    let mut kernel = Kernel::prepare(rt.alloc(), &controller)?;
+fn expect_steps(rt: &impl Abort, alloc: Global, clamp: i128, w: u32) -> Result<(), Fail> {
+    let controller = one_stage(alloc, clamp, w)?;
+    let mut kernel = Kernel::prepare(alloc, &controller)?;
     kernel.load(&[1])?;
     for (made, plan, multiplier, sum) in [
         (1, -512, 256, -512),
@@ -79,10 +79,17 @@ fn steps(rt: HostRuntime) -> Result<(), Fail> {
     Ok(())
 }
 
+// The steps are the same where the clamp, which no multiplier reaches, fits 64 bits and where it doesn't.
+#[test]
+fn steps(rt: HostRuntime) -> Result<(), Fail> {
+    expect_steps(&rt, rt.alloc(), 32768, 26)?;
+    expect_steps(&rt, rt.alloc(), 1 << 63, 80)
+}
+
 // Runs, one after another; a state outside the box leaves the last one.
 #[test]
 fn runs(rt: HostRuntime) -> Result<(), Fail> {
-    let controller = one_stage(rt.alloc())?;
+    let controller = one_stage(rt.alloc(), 32768, 26)?;
     let mut kernel = Kernel::prepare(rt.alloc(), &controller)?;
     assert_eq!(rt; kernel.made(), 0);
     let outside = OutsideBox { coordinate: 1 };

@@ -6,6 +6,7 @@ use Rattle.qp_model.specs.Machine.{Made, loaded, step_of, after}
 use Rattle.qp_model.specs.AbsoluteSums.{state_reach, clamp_reach, plan_reach}
 use Rattle.overflow_check.specs.Within.{AreWithin}
 use Rattle.overflow_check.proofs.Runs.{after_suc}
+use Rattle.fixed_kernel.specs.Factors.{HasNarrowFactors}
 use Rattle.fixed_kernel.specs.Progress.{Progress, values_of, unloaded}
 use Rattle.fixed_kernel.proofs.Reached.{plan_length, sums_length, state_reached, multipliers_reached, sums_room, values_held}
 use Rattle.fixed_kernel.proofs.kernel.Kernel.step.Goals as goal
@@ -13,6 +14,9 @@ use Rattle.fixed_kernel.proofs.kernel.Kernel.step.Goals as goal
 pub advance-requires-clause-state : goal.advance-requires-clause-state
 advance-requires-clause-state c =
     subst (λ (n : Numbers). AreWithin c.deref.result.now (state_reach n)) (sym c.parts.ensures.value) (rw c.deref.ensures.value (state_reached c.self.inside c.self.invariant))
+
+pub advance-requires-clause-narrow : goal.advance-requires-clause-narrow
+advance-requires-clause-narrow c = λ t. subst HasNarrowFactors (sym c.parts.ensures.value) (c.self.invariant.narrow t)
 
 pub advance-requires-clause-plan : goal.advance-requires-clause-plan
 advance-requires-clause-plan c =
@@ -53,6 +57,7 @@ invariant_of-self c =
       made = omega (arith, lt);
       grid = r.grid;
       state = r.state;
+      narrow = r.narrow;
       values =
           rw (with_items_is k.plan new.plan plan_kept, with_items_is k.multipliers new.multipliers multipliers_kept, with_items_is k.sums new.sums sums_kept)
           (step ∙ ap (step_of n k.state.items) (values_held k r) ∙ sym (after_suc n k.state.items k.made) ∙ ap (λ (s : List ℤ). after n s (k.made + 1)) r.state);

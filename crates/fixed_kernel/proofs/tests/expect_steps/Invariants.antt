@@ -1,6 +1,6 @@
 use Rattle.std.proofs.Common.{◌≡◌}
 use Rattle.qp_model.specs.Controller.{plan_length}
-use Rattle.fixed_kernel.proofs.tests.steps.Given as goal
+use Rattle.fixed_kernel.proofs.tests.expect_steps.Given as goal
 
 abbrev pub invariant-loop-made : goal.invariant-loop-made
 invariant-loop-made g l = record {
