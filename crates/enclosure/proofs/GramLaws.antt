@@ -1,0 +1,108 @@
+-- Products of columns, and matrices made row by row.
+use Rattle.std.proofs.Common.{◌≡◌, ℕ, zero, suc, ◌+◌, ◌*◌, ◌^◌, ◌<◌, ◌≤◌, ℤ, pos, negsuc, ◌+ℤ◌, ◌*ℤ◌, ◌≤ℤ◌, List, [], ◌∷◌, ◌++◌, length, get_or, unsigned_abs, arith, sym, ap, ◌∙◌, below_more, lit<, set, inl, inr}
+use Rattle.std.specs.Prelude.{All}
+use Rattle.std.proofs.lemmas.Int.{unsigned_abs-mul}
+use Rattle.std.proofs.lemmas.Bool.{cases_eq, cases_lt}
+use Rattle.std.proofs.lemmas.List.{length_push, get_or_push, get_or_append_left, length-set, set_past, get_or-set_same, get_or-set_other}
+use Rattle.std.proofs.lemmas.List.Elements.{All-append}
+use Rattle.integer_algebra.specs.Bounds.{absolute}
+use Rattle.integer_algebra.specs.Sums.{at}
+use Rattle.integer_algebra.proofs.BoundLaws.{absolute_nonneg}
+use Rattle.integer_algebra.proofs.OrderLaws.{add_nonneg_z, mul_nonneg_z}
+use Rattle.integer_algebra.proofs.SumLaws.{total_same, total_nonneg}
+use Rattle.integer_algebra.proofs.SizeLaws.{total_amount}
+use Rattle.frac_scaled.specs.Enclosures.{Enclosure, whole_product, reach}
+use Rattle.mat_int.specs.Matrix.{Matrix, row_of, entry_of, with_entry, HasEntries}
+use Rattle.mat_int.specs.Enclosures.{gram_sum, weighted_gram, gram_reach, AreEnclosures}
+use Rattle.enclosure.specs.Rows.{HasRow}
+use Rattle.enclosure.proofs.RoomLaws.{reach_mul_is, ceil_small, inexact_small}
+use Rattle.enclosure.proofs.SumLaws.{combination_size}
+
+-- ---- products
+-- what a product reaches
+pub product_reach : (a b : Enclosure) → pos 0 ≤ℤ a.rad → pos 0 ≤ℤ b.rad →
+    unsigned_abs (whole_product a b).mid + unsigned_abs (whole_product a b).rad ≡
+    (unsigned_abs a.mid + unsigned_abs a.rad) * (unsigned_abs b.mid + unsigned_abs b.rad)
+product_reach a b h k = apart a.mid a.rad b.mid b.rad h k
+  where
+    apart : (m r n s : ℤ) → pos 0 ≤ℤ r → pos 0 ≤ℤ s →
+        unsigned_abs (m *ℤ n) + unsigned_abs (absolute m *ℤ s +ℤ r *ℤ absolute n +ℤ r *ℤ s) ≡ (unsigned_abs m + unsigned_abs r) * (unsigned_abs n + unsigned_abs s)
+    apart m (pos r) n (pos s) h k = omega (arith, unsigned_abs-mul m n)
+    apart m (negsuc r) n s h k = absurd h.le
+    apart m (pos r) n (negsuc s) h k = absurd k.le
+
+-- and its radius isn't negative
+pub product_nonneg : (a b : Enclosure) → pos 0 ≤ℤ a.rad → pos 0 ≤ℤ b.rad → pos 0 ≤ℤ (whole_product a b).rad
+product_nonneg a b h k =
+    add_nonneg_z (add_nonneg_z (mul_nonneg_z _ _ (absolute_nonneg a.mid) k) (mul_nonneg_z _ _ h (absolute_nonneg b.mid))) (mul_nonneg_z _ _ h k)
+
+-- one that is taken at least once
+pub once : (w n m : ℕ) → 0 < w → w * n ≤ m → n ≤ m
+once zero n m h k = absurd (omega arith)
+once (suc w) n m h k = omega (arith, k)
+
+-- the terms of an entry reach together what `gram_reach` says
+pub gram_reach_is : (n : ℕ) (w : ℕ → ℤ) (x : ℕ → ℕ → Enclosure) (j l : ℕ) → ((i : ℕ) → i < n → pos 0 ≤ℤ w i) →
+    ((i : ℕ) → i < n → (pos 0 ≤ℤ (x i j).rad) × (pos 0 ≤ℤ (x i l).rad)) →
+    gram_reach n w x j l ≡ pos (combination_size n w (λ i. whole_product (x i j) (x i l)))
+gram_reach_is n w x j l h k =
+    total_same n _ _ (λ i s. term (w i) (x i j) (x i l) (h i s) (k i s).0 (k i s).1) ∙
+    total_amount n (λ i. unsigned_abs (w i) * (unsigned_abs (whole_product (x i j) (x i l)).mid + unsigned_abs (whole_product (x i j) (x i l)).rad))
+  where
+    term : (w : ℤ) (a b : Enclosure) → pos 0 ≤ℤ w → pos 0 ≤ℤ a.rad → pos 0 ≤ℤ b.rad →
+        w *ℤ (reach a *ℤ reach b) ≡ pos (unsigned_abs w * (unsigned_abs (whole_product a b).mid + unsigned_abs (whole_product a b).rad))
+    term (pos w) a b h k l =
+        ap (λ (z : ℤ). pos w *ℤ z) (reach_mul_is a.mid a.rad b.mid b.rad k l) ∙ ap (λ (n : ℕ). pos (w * n)) (sym (product_reach a b k l))
+    term (negsuc w) a b h k l = absurd h.le
+
+-- no radius of an entry is negative
+pub gram_nonneg : (n : ℕ) (w : ℕ → ℤ) (x : ℕ → ℕ → Enclosure) (j l : ℕ) →
+    ((i : ℕ) → i < n → (pos 0 ≤ℤ (x i j).rad) × (pos 0 ≤ℤ (x i l).rad)) → pos 0 ≤ℤ (weighted_gram n w x j l).rad
+gram_nonneg n w x j l h =
+    add_nonneg_z (ceil_small (gram_sum n w x j l).rad (2 ^ 40) (total_nonneg n _ (λ i s. mul_nonneg_z _ _ (absolute_nonneg (w i)) (product_nonneg (x i j) (x i l) (h i s).0 (h i s).1))) (lit< tt)).0
+    (inexact_small (gram_sum n w x j l).mid (2 ^ 40)).0
+
+-- ---- matrices
+-- one row more
+pub pushed : (h w : ℕ) (f : ℕ → ℕ → ℤ) (m n : Matrix) (row : List ℤ) → n ≡ record m { rows = m.rows ++ row ∷ [] } → HasEntries h w f m → HasRow w (f h) row →
+    HasEntries (h + 1) w f n
+pushed h w f m n row e k r =
+    let all : (i : ℕ) → i < h + 1 → (j : ℕ) → j < w → at (get_or (m.rows ++ row ∷ []) i []) j ≡ f i j = below_more _ _
+    (λ i p j q. ap (λ (row : List ℤ). at row j) (get_or_append_left m.rows (row ∷ []) [] i (omega (arith, k.rows))) ∙ k.entries i j p q)
+    (λ j q. ap (λ (row : List ℤ). at row j) (get_or_push m.rows row [] h k.rows) ∙ r.entries j q) in
+    let last : All (λ row. length row ≡ w) (row ∷ []) = λ i d p. (let first : i ≡ 0 = omega (arith, p) in rw first r.long) in
+    rw e (record {
+      rows = length_push m.rows row ∙ ap (λ n. n + 1) k.rows;
+      cols = k.cols;
+      even = All-append (λ row. length row ≡ w) m.rows (row ∷ []) k.even last;
+      entries = λ i j p q. all i p j q;
+    })
+
+-- a fact of an element and of what is put into the list
+set_keeps : {X : Type 0} (P : X → Type 0) (xs : List X) (i k : ℕ) (y d : X) → P y → P (get_or xs k d) → P (get_or (set xs i y) k d)
+set_keeps P xs i k y d h o = elim (cases_eq k i) [
+  | inl e ↦ elim (cases_lt i (length xs)) [
+    | inl l ↦ rw (e, get_or-set_same xs i y d l) h
+    | inr l ↦ rw (set_past xs i y l) o
+  ]
+  | inr n ↦ rw (get_or-set_other xs i k y d n) o
+]
+
+-- one entry put
+pub entry_put : (mid rad : Matrix) (i j : ℕ) (u v : ℤ) → pos 0 ≤ℤ v → AreEnclosures mid rad → AreEnclosures (with_entry mid i j u) (with_entry rad i j v)
+entry_put mid rad i j u v h s =
+    let rads = length-set rad.rows i (set (row_of rad i) j v) in
+    let mids = length-set mid.rows i (set (row_of mid i) j u) in
+    record {
+      rows = rads ∙ s.rows ∙ sym mids;
+      cols = s.cols;
+      nonnegative = λ k l p q.
+          (let inside : k < length mid.rows = omega (arith, mids, p) in
+          put k l (s.nonnegative k l inside q) (λ e. (let here : i < length mid.rows = omega (arith, e, inside) in s.nonnegative i l here q)));
+    }
+  where
+    put : (k l : ℕ) → pos 0 ≤ℤ entry_of rad k l → (k ≡ i → pos 0 ≤ℤ entry_of rad i l) → pos 0 ≤ℤ entry_of (with_entry rad i j v) k l
+    put k l o n = elim (cases_eq k i) [
+      | inl e ↦ set_keeps (λ row. pos 0 ≤ℤ at row l) rad.rows i k (set (row_of rad i) j v) [] (set_keeps (λ z. pos 0 ≤ℤ z) (row_of rad i) j l v (pos 0) h (n e)) o
+      | inr e ↦ rw (get_or-set_other rad.rows i k (set (row_of rad i) j v) [] e) o
+    ]

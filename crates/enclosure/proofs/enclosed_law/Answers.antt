@@ -1,0 +1,5 @@
+use Rattle.frac_scaled.proofs.EnclosureLaws as laws
+use Rattle.enclosure.proofs.enclosed_law.Goals as goal
+
+pub returns : goal.returns
+returns c = laws.enclosed_law

@@ -1,0 +1,29 @@
+use Rattle.std.proofs.Common.{◌+ℤ◌, rules, arith, ap₂, ℤ, sym, FitsSigned}
+use Rattle.std.specs.Int.{w128}
+use Rattle.std.proofs.lemmas.Int.{ints}
+use Rattle.enclosure.proofs.RoomLaws.{same_pair, reach_is, refused}
+use Rattle.std.proofs.Common.{subst}
+use Rattle.frac_scaled.specs.Enclosures.{Enclosure}
+use Rattle.frac_scaled.proofs.EnclosureLaws.{sum_law}
+use Rattle.enclosure.specs.Values.{pair}
+use Rattle.enclosure.specs.Laws.{EnclosesSum}
+use Rattle.enclosure.proofs.single.add.Goals as goal
+
+pub returns-in_err-limited_sum-clause-room : goal.returns-in_err-limited_sum-clause-room
+returns-in_err-limited_sum-clause-room c =
+    refused c.from_residual.result _ _ c.from_residual.ensures
+    (ap₂ (λ (x y : ℤ). x +ℤ y) (reach_is c.args.a.mid c.args.a.rad c.args.a.nonnegative) (reach_is c.args.b.mid c.args.b.rad c.args.b.nonnegative))
+    (rw (c.reach.ensures, c.reach-2.ensures) at c.in_err-limited_sum.ensures)
+
+pub returns-clause-value : goal.returns-clause-value
+returns-clause-value c =
+    let f : FitsSigned w128 c.args.a.mid = search rules in
+    let g : FitsSigned w128 c.args.b.mid = search rules in
+    let h : FitsSigned w128 c.args.a.rad = search rules in
+    let k : FitsSigned w128 c.args.b.rad = search rules in
+    let room = c.in_ok-limited_sum.ensures.0 in
+    same_pair (omega (arith, ints, room, c.reach.ensures, c.reach-2.ensures)) (omega (arith, ints, room, c.reach.ensures, c.reach-2.ensures))
+
+pub returns-clause-encloses : goal.returns-clause-encloses
+returns-clause-encloses c =
+    subst (λ (e : Enclosure). EnclosesSum (pair c.args.a) (pair c.args.b) e) (sym (returns-clause-value c)) (sum_law (pair c.args.a) (pair c.args.b))
