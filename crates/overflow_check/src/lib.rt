@@ -9,7 +9,7 @@ mod word_width;
 
 pub use controller::{BadParts, Controller};
 pub use laws::values_law;
-pub use reach::greatest_sum;
+pub use reach::{greatest_sum, plan_entry_reach};
 pub use word_width::width;
 
 #[cfg(test)]

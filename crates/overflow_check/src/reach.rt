@@ -4,7 +4,7 @@ ghost use Rattle.std.specs.List.{range_with_len};
 ghost use Rattle.std.specs.Option.{SomeIff};
 ghost use Rattle.integer_algebra.specs.Division.{ceil_div};
 ghost use Rattle.qp_model.specs.Controller.{numbers, IsSized};
-ghost use Rattle.qp_model.specs.AbsoluteSums.{reach_sum, state_reach, clamp_reach, entry_reach, plan_reach, row_reach, next_reach, sum_reach, greatest_of, greatest_sum};
+ghost use Rattle.qp_model.specs.AbsoluteSums.{IsController, reach_sum, state_reach, clamp_reach, entry_reach, plan_reach, row_reach, next_reach, sum_reach, greatest_of, greatest_sum};
 
 use qp_model::ControllerParts;
 
@@ -215,4 +215,18 @@ pub fn greatest_sum(parts: &ControllerParts) -> Option<i128>
     let states = state_reaches(parts);
     let clamps = clamp_reaches(parts);
     greatest_within(parts, &states[..parts.n], &clamps[..parts.m])
+}
+
+/// How far plan entry `j` lies from 0 at most in a run from a state of the box, over `2^f`.
+pub fn plan_entry_reach(parts: &ControllerParts, j: usize) -> u128
+    requires sound { IsController (numbers parts.now) }
+    requires in_range { j < length parts.now.t.items }
+    ensures { result ≡ slice_index_or (plan_reach (numbers parts.now)) j 0 }
+{
+    let states = state_reaches(parts);
+    let clamps = clamp_reaches(parts);
+    match entry_reach(parts, &states[..parts.n], &clamps[..parts.m], j) {
+        Some(sum) => ceil_shift(sum, parts.f + parts.s),
+        None => unreachable!(),
+    }
 }

@@ -34,3 +34,6 @@ pub mod Errors
 pub mod Certified
 pub mod Built
 pub mod StateText
+pub mod Successor
+pub mod LoopSize
+pub mod LoopLines

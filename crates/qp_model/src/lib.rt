@@ -31,6 +31,6 @@ pub use policy::Policy;
 pub use quantity::{Quantity, Wide};
 pub use sizes::{
     cost_width, curvature_of, growth, hessian_size, limit_width, limited_area, limited_power,
-    limited_product, prediction_size, rows_size, weight_sum,
+    limited_product, limited_sum, prediction_size, rows_size, weight_sum,
 };
 pub use text_fault::TextFault;

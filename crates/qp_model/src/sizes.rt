@@ -21,6 +21,16 @@ pub fn limited_product(a: u128, b: u128) -> Option<u128>
     }
 }
 
+/// `a + b`, where it is at most `2^126`.
+pub fn limited_sum(a: u128, b: u128) -> Option<u128>
+    ensures { SomeIff result (a + b ≤ 2 ^ 126) (a + b) }
+{
+    match a.checked_add(b) {
+        Some(sum) if sum <= 1 << 126 => Some(sum),
+        _ => None,
+    }
+}
+
 /// `base^exponent`, where it is at most `2^126`.
 pub fn limited_power(base: u128, exponent: usize) -> Option<u128>
     requires { 1 ≤ base }

@@ -1,0 +1,155 @@
+-- What the turns of a loop put and show.
+use Rattle.std.proofs.Common.{◌≡◌, ◌⊎◌, inl, inr, ℕ, ◌+◌, ◌-◌, ◌<◌, ◌≤◌, ℤ, List, [], ◌++◌, Option, Some, None, option_map, Result, Ok, Err, IfErr, IsErrAnd, OnOk, IfSome, IsSomeAnd, arith, ap, sym, subst, refl, ◌∙◌, add-one, append_assoc}
+use Rattle.std.proofs.lemmas.Bool.{cases_lt}
+use Rattle.std.proofs.lemmas.List.{append-nil}
+use Rattle.io_edge.specs.Faults.{Rose, GrowsByPart}
+use Rattle.qp_model.specs.Design.{Design}
+use Rattle.qp_model.specs.Controller.{Numbers}
+use Rattle.qp_model.specs.Machine.{IsGridState}
+use Rattle.qp_model.specs.Successor.{successor, state_after}
+use Rattle.qp_model.specs.LoopLines.{loop_line, loop_text}
+use Rattle.fixed_kernel.specs.Outside.{IsFirstOutside}
+use Rattle.closed_loop.specs.Answers.{StaysInside, LeavesAt, GrowsByTurns, GrowsByFront}
+use Rattle.closed_loop.specs.Shows.{TurnShows, LoopShows}
+use Rattle.closed_loop.specs.declared.fault.LoopFault.{LoopFault}
+use Rattle.closed_loop.specs.declared.fault.LoopFault.TheVariants.{Memory, TooWide, OutsideBox, WriteFault}
+
+-- ---- states and lines, one turn more
+pub state_zero : (d : Design) (c : Numbers) (start : List ℤ) → state_after d c start 0 ≡ start
+unfolding state_after
+state_zero d c start = refl
+
+pub state_more : (d : Design) (c : Numbers) (start : List ℤ) (k : ℕ) → state_after d c start (k + 1) ≡ successor d c (state_after d c start k)
+unfolding state_after
+state_more d c start k = rw add-one refl
+
+pub text_zero : (d : Design) (c : Numbers) (entry : ℕ) (start : List ℤ) → loop_text d c entry start 0 ≡ []
+unfolding loop_text
+text_zero d c entry start = refl
+
+pub text_more : (d : Design) (c : Numbers) (entry : ℕ) (start : List ℤ) (k : ℕ) →
+    loop_text d c entry start (k + 1) ≡ loop_text d c entry start k ++ loop_line c entry (k + 1) (state_after d c start k)
+unfolding loop_text
+text_more d c entry start k = rw add-one refl
+
+-- ---- the states so far
+pub inside_none : (d : Design) (c : Numbers) (start : List ℤ) → StaysInside d c start 0
+inside_none d c start = record { each = λ k h. absurd (omega (arith, h)) }
+
+pub inside_more : (d : Design) (c : Numbers) (start : List ℤ) (k : ℕ) → StaysInside d c start k → IsGridState c (state_after d c start k) → StaysInside d c start (k + 1)
+inside_more d c start k s g = record {
+  each = λ j h. elim (cases_lt j k) [
+    | inl lt ↦ s.each j lt
+    | inr le ↦ (let e : k ≡ j = omega (arith, h) in subst (λ (i : ℕ). IsGridState c (state_after d c start i)) e g)
+  ];
+}
+
+-- ---- what was put so far
+pub put_none : (d : Design) (c : Numbers) (entry : ℕ) (start : List ℤ) (first : Option (List ℕ)) → first ≡ option_map (λ o. o ++ loop_text d c entry start 0) first
+put_none d c entry start None = refl
+put_none d c entry start (Some o) = rw (text_zero, append-nil) refl
+
+pub put_more : (d : Design) (c : Numbers) (entry : ℕ) (start : List ℤ) (k : ℕ) (first mid new : Option (List ℕ)) → mid ≡ option_map (λ o. o ++ loop_text d c entry start k) first →
+    new ≡ option_map (λ o. o ++ loop_line c entry (k + 1) (state_after d c start k)) mid → new ≡ option_map (λ o. o ++ loop_text d c entry start (k + 1)) first
+put_more d c entry start k None mid new e h = h ∙ ap (option_map (λ o. o ++ loop_line c entry (k + 1) (state_after d c start k))) e
+put_more d c entry start k (Some o) mid new e h =
+    h ∙ ap (option_map (λ o. o ++ loop_line c entry (k + 1) (state_after d c start k))) e
+    ∙ ap Some (append_assoc o (loop_text d c entry start k) (loop_line c entry (k + 1) (state_after d c start k)) ∙ ap (λ (t : List ℕ). o ++ t) (sym (text_more d c entry start k)))
+
+-- ---- refusals
+pub given : (r : Result (Unit {0}) LoopFault) (p : LoopFault → Type 0) (fault : LoopFault) → IsErrAnd r (λ e. e ≡ fault) → p fault → IfErr r p
+given (Ok done) p fault e h = absurd e
+given (Err x) p fault e h = subst p (sym e) h
+
+rose_from : (first mid new : ℕ) → first ≤ mid → mid ≤ new → Rose mid new → Rose first new
+rose_from first mid new h l r = elim r.rise [
+  | inl lt ↦ record { rise = inl (omega (arith, h, lt)) }
+  | inr top ↦ elim (cases_lt first mid) [
+    | inl lt ↦ record { rise = inl (omega (arith, lt, l)) }
+    | inr le ↦ record { rise = inr (omega (arith, h, le, top)) }
+  ]
+]
+
+pub grows_by_turns : (d : Design) (c : Numbers) (entry : ℕ) (start : List ℤ) (turns k : ℕ) (first new : Option (List ℕ)) → k ≤ turns → StaysInside d c start k →
+    new ≡ option_map (λ o. o ++ loop_text d c entry start k) first → IfSome first (λ o. IsSomeAnd new (GrowsByTurns d c entry start turns o))
+grows_by_turns d c entry start turns k None new h s e = tt
+grows_by_turns d c entry start turns k (Some o) new h s e =
+    subst (λ (n : Option (List ℕ)). IsSomeAnd n (GrowsByTurns d c entry start turns o)) (sym e) (record { done = k; within = h; inside = s; grown = refl })
+
+front_of : (d : Design) (c : Numbers) (entry : ℕ) (start : List ℤ) (turns k : ℕ) (o : List ℕ) (new : Option (List ℕ)) → k < turns → StaysInside d c start (k + 1) →
+    IsSomeAnd new (λ n. GrowsByPart (o ++ loop_text d c entry start k) n (loop_line c entry (k + 1) (state_after d c start k))) → IsSomeAnd new (GrowsByFront d c entry start turns o)
+front_of d c entry start turns k o None h s g = absurd g
+front_of d c entry start turns k o (Some n) h s g = record {
+  done = k + 1;
+  within = omega (arith, h);
+  inside = s;
+  part = loop_text d c entry start k ++ g.part;
+  rest = g.rest;
+  is = text_more d c entry start k ∙ ap (λ (t : List ℕ). loop_text d c entry start k ++ t) g.is ∙ sym (append_assoc (loop_text d c entry start k) g.part g.rest);
+  grown = g.grown ∙ append_assoc o (loop_text d c entry start k) g.part;
+}
+
+grows_by_front : (d : Design) (c : Numbers) (entry : ℕ) (start : List ℤ) (turns k : ℕ) (first mid new : Option (List ℕ)) → k < turns → StaysInside d c start (k + 1) →
+    mid ≡ option_map (λ o. o ++ loop_text d c entry start k) first → IfSome mid (λ o. IsSomeAnd new (λ n. GrowsByPart o n (loop_line c entry (k + 1) (state_after d c start k)))) →
+    IfSome first (λ o. IsSomeAnd new (GrowsByFront d c entry start turns o))
+grows_by_front d c entry start turns k None mid new h s e g = tt
+grows_by_front d c entry start turns k (Some o) mid new h s e g =
+    front_of d c entry start turns k o new h s (subst (λ (m : Option (List ℕ)). IfSome m (λ o. IsSomeAnd new (λ n. GrowsByPart o n (loop_line c entry (k + 1) (state_after d c start k))))) e g)
+
+-- what a turn shows, a loop shows that came to it
+pub turn_shows : (d : Design) (c : Numbers) (entry : ℕ) (start : List ℤ) (turns k : ℕ) (first mid new : Option (List ℕ)) (before between now : ℕ) (fault : LoopFault) → k < turns →
+    StaysInside d c start k → mid ≡ option_map (λ o. o ++ loop_text d c entry start k) first → before ≤ between → between ≤ now →
+    TurnShows c entry (k + 1) (state_after d c start k) mid new between now fault → LoopShows d c entry start turns first new before now fault
+turn_shows d c entry start turns k first mid new before between now Memory h s e l m t = grows_by_turns d c entry start turns k first new (omega (arith, h)) s (t.1 ∙ e)
+turn_shows d c entry start turns k first mid new before between now (TooWide quantity) h s e l m t = absurd t
+turn_shows d c entry start turns k first mid new before between now (OutsideBox turn coordinate) h s e l m t =
+    let gone : k ≡ turn - 1 = omega (arith, t.0) in (
+      record { gone = k; is = t.0; within = omega (arith, t.0, h); before = s; outside = t.1 },
+      t.2 ∙ e ∙ ap (λ (j : ℕ). option_map (λ o. o ++ loop_text d c entry start j) first) gone,
+    )
+turn_shows d c entry start turns k first mid new before between now WriteFault h s e l m t =
+    (grows_by_front d c entry start turns k first mid new h (inside_more d c start k s t.0) e t.1, rose_from before between now l m t.2)
+
+-- ---- the first state outside the box is one
+not_inside : (c : Numbers) (xi : List ℤ) (k : ℕ) → IsFirstOutside c xi k → IsGridState c xi → ⊥
+not_inside c xi k o g = o.outside (k - 1) (omega (arith, o.low)) (g.each (k - 1) (omega (arith, o.low, o.high)))
+
+coordinate_before : (c : Numbers) (xi : List ℤ) (j k : ℕ) → IsFirstOutside c xi j → IsFirstOutside c xi k → j < k → ⊥
+coordinate_before c xi j k o p h = o.outside (j - 1) (omega (arith, o.low)) (p.before (j - 1) (omega (arith, o.low, h)))
+
+coordinate_one : (c : Numbers) (xi : List ℤ) (j k : ℕ) → IsFirstOutside c xi j → IsFirstOutside c xi k → j ≡ k
+coordinate_one c xi j k o p = elim (cases_lt j k) [
+  | inl lt ↦ absurd (coordinate_before c xi j k o p lt)
+  | inr le ↦ elim (cases_lt k j) [
+    | inl lt ↦ absurd (coordinate_before c xi k j p o lt)
+    | inr ge ↦ omega (arith, le, ge)
+  ]
+]
+
+gone_one : (d : Design) (c : Numbers) (start : List ℤ) (turns t i u j : ℕ) (a : LeavesAt d c start turns t i) (b : LeavesAt d c start turns u j) → a.gone ≡ b.gone
+gone_one d c start turns t i u j a b = elim (cases_lt a.gone b.gone) [
+  | inl lt ↦ absurd (not_inside c (state_after d c start a.gone) i a.outside (b.before.each a.gone lt))
+  | inr le ↦ elim (cases_lt b.gone a.gone) [
+    | inl lt ↦ absurd (not_inside c (state_after d c start b.gone) j b.outside (a.before.each b.gone lt))
+    | inr ge ↦ omega (arith, le, ge)
+  ]
+]
+
+turn_one : (d : Design) (c : Numbers) (start : List ℤ) (turns t i u j : ℕ) → LeavesAt d c start turns t i → LeavesAt d c start turns u j → t ≡ u
+turn_one d c start turns t i u j a b = omega (arith, a.is, b.is, gone_one d c start turns t i u j a b)
+
+first_one : (d : Design) (c : Numbers) (start : List ℤ) (turns t i u j : ℕ) → LeavesAt d c start turns t i → LeavesAt d c start turns u j → i ≡ j
+first_one d c start turns t i u j a b =
+    coordinate_one c (state_after d c start b.gone) i j (subst (λ (k : ℕ). IsFirstOutside c (state_after d c start k) i) (gone_one d c start turns t i u j a b) a.outside) b.outside
+
+-- what a loop that came to its limit or went on answers where some state leaves the box
+pub leaves : (d : Design) (c : Numbers) (entry : ℕ) (start : List ℤ) (turns : ℕ) (first new : Option (List ℕ)) (before now : ℕ) (r : Result (Unit {0}) LoopFault) →
+    OnOk r (StaysInside d c start turns) → IfErr r (LoopShows d c entry start turns first new before now) → (turn coordinate : ℕ) → LeavesAt d c start turns turn coordinate →
+    (r ≡ Err (OutsideBox turn coordinate)) ⊎ ((r ≡ Err Memory) ⊎ (r ≡ Err WriteFault))
+leaves d c entry start turns first new before now (Ok done) s e turn coordinate l =
+    absurd (not_inside c (state_after d c start l.gone) coordinate l.outside (s.each l.gone (omega (arith, l.is, l.within))))
+leaves d c entry start turns first new before now (Err Memory) s e turn coordinate l = inr (inl refl)
+leaves d c entry start turns first new before now (Err (TooWide quantity)) s e turn coordinate l = absurd e
+leaves d c entry start turns first new before now (Err (OutsideBox t i)) s e turn coordinate l =
+    inl (rw (turn_one d c start turns t i turn coordinate e.0 l, first_one d c start turns t i turn coordinate e.0 l) refl)
+leaves d c entry start turns first new before now (Err WriteFault) s e turn coordinate l = inr (inr refl)

@@ -1,0 +1,84 @@
+use Rattle.std.proofs.Common.{◌≡◌, ◌<◌, ◌*◌, ◌^◌, ◌∙◌, ap, sym, subst, ℕ, ℤ, pos, ◌*ℤ◌, List, length, unsigned_abs, arith, rules, refl, FitsSigned}
+use Rattle.std.specs.Int.{w128}
+use Rattle.std.proofs.lemmas.Int.{to_z-of_z, fits_signed_from_abs}
+use Rattle.integer_algebra.specs.Sums.{at, dot, image}
+use Rattle.integer_algebra.specs.Sizes.{amount}
+use Rattle.mat_int.proofs.Indices.{dot_is, abs_dot_is}
+use Rattle.qp_model.specs.Controller.{Numbers, numbers}
+use Rattle.qp_model.specs.Machine.{IsGridState, averaged_plan}
+use Rattle.qp_model.specs.AbsoluteSums.{IsController}
+use Rattle.qp_model.specs.Parts.{design_of}
+use Rattle.qp_model.specs.Successor.{grid_scale, next_sum}
+use Rattle.closed_loop.proofs.Reaches.{dot_room, own_le, next_fits}
+use Rattle.closed_loop.proofs.successor.next_sum.Goals as goal
+
+pub dot-requires-clause-room : goal.dot-requires-clause-room
+dot-requires-clause-room c =
+    let d = design_of c.args.design.now in
+    let n = c.args.k.now.controller in
+    let xi = c.args.state.now in
+    let same : numbers c.parts-c.result.now ≡ n = c.parts-c.ensures.value ∙ c.controller.ensures.value in
+    let sound : IsController n = subst IsController same c.parts-c.ensures.sound in
+    let inside : IsGridState n xi = subst (IsGridState n) c.requires.state c.controller.ensures.state in
+    let len : length c.row.result.now ≡ d.states = c.row.ensures.len ∙ c.requires.design.a.cols in
+    let long : length xi ≡ d.states = inside.long ∙ sym c.requires.matched.states in
+    subst (λ (m : ℕ). m < 2 ^ 127) (sym (abs_dot_is d.states c.row.result.now xi len long))
+    (subst (λ (row : List ℤ). amount d.states (λ k. unsigned_abs (at row k) * unsigned_abs (at xi k)) < 2 ^ 127) (sym c.row.ensures.value)
+    (dot_room d n xi c.args.i c.requires.matched sound inside c.requires.narrow c.requires.in_range))
+
+pub overflow_mul-own : goal.overflow_mul-own
+overflow_mul-own c =
+    let d = design_of c.args.design.now in
+    let n = c.args.k.now.controller in
+    let xi = c.args.state.now in
+    let same : numbers c.parts-c.result.now ≡ n = c.parts-c.ensures.value ∙ c.controller.ensures.value in
+    let sound : IsController n = subst IsController same c.parts-c.ensures.sound in
+    let inside : IsGridState n xi = subst (IsGridState n) c.requires.state c.controller.ensures.state in
+    let len : length c.row.result.now ≡ d.states = c.row.ensures.len ∙ c.requires.design.a.cols in
+    let long : length xi ≡ d.states = inside.long ∙ sym c.requires.matched.states in
+    let dotted : FitsSigned w128 c.dot.result = search rules in
+    let scale : FitsSigned w128 c.grid_scale.result = search rules in
+    let scale_is : c.grid_scale.result ≡ pos (grid_scale n) = c.grid_scale.ensures.value ∙ ap (λ (m : Numbers). pos (grid_scale m)) same in
+    let own : c.dot.result ≡ image d.states d.plant_a (at xi) c.args.i = c.dot.ensures ∙ dot_is d.states c.row.result.now xi len long ∙ ap (λ (row : List ℤ). dot d.states (at row) (at xi)) c.row.ensures.value in
+    let product : FitsSigned w128 (image d.states d.plant_a (at xi) c.args.i *ℤ pos (grid_scale n)) = fits_signed_from_abs w128 _ (omega (arith, own_le d n xi c.args.i c.requires.matched sound inside c.requires.narrow c.requires.in_range)) in
+    rw (to_z-of_z w128 _ dotted, to_z-of_z w128 _ scale, own, scale_is) product
+
+pub overflow_add-result : goal.overflow_add-result
+overflow_add-result c =
+    let d = design_of c.args.design.now in
+    let n = c.args.k.now.controller in
+    let xi = c.args.state.now in
+    let same : numbers c.parts-c.result.now ≡ n = c.parts-c.ensures.value ∙ c.controller.ensures.value in
+    let sound : IsController n = subst IsController same c.parts-c.ensures.sound in
+    let inside : IsGridState n xi = subst (IsGridState n) c.requires.state c.controller.ensures.state in
+    let len : length c.row.result.now ≡ d.states = c.row.ensures.len ∙ c.requires.design.a.cols in
+    let long : length xi ≡ d.states = inside.long ∙ sym c.requires.matched.states in
+    let dotted : FitsSigned w128 c.dot.result = search rules in
+    let scale : FitsSigned w128 c.grid_scale.result = search rules in
+    let scale_is : c.grid_scale.result ≡ pos (grid_scale n) = c.grid_scale.ensures.value ∙ ap (λ (m : Numbers). pos (grid_scale m)) same in
+    let own : c.dot.result ≡ image d.states d.plant_a (at xi) c.args.i = c.dot.ensures ∙ dot_is d.states c.row.result.now xi len long ∙ ap (λ (row : List ℤ). dot d.states (at row) (at xi)) c.row.ensures.value in
+    let product : FitsSigned w128 (image d.states d.plant_a (at xi) c.args.i *ℤ pos (grid_scale n)) = fits_signed_from_abs w128 _ (omega (arith, own_le d n xi c.args.i c.requires.matched sound inside c.requires.narrow c.requires.in_range)) in
+    let added : FitsSigned w128 c.input_sum.result = search rules in
+    let input : c.input_sum.result ≡ image d.inputs d.plant_b (at (averaged_plan n xi)) c.args.i = c.input_sum.ensures ∙ ap (λ (s : List ℤ). image d.inputs d.plant_b (at (averaged_plan n s)) c.args.i) c.requires.state in
+    let whole : FitsSigned w128 (next_sum d n xi c.args.i) = next_fits d n xi c.args.i c.requires.matched sound inside c.requires.narrow c.requires.in_range in
+    rw (to_z-of_z w128 _ dotted, to_z-of_z w128 _ scale, to_z-of_z w128 _ added, own, scale_is, input, to_z-of_z w128 _ product) whole
+
+pub returns : goal.returns
+returns c =
+    let d = design_of c.args.design.now in
+    let n = c.args.k.now.controller in
+    let xi = c.args.state.now in
+    let same : numbers c.parts-c.result.now ≡ n = c.parts-c.ensures.value ∙ c.controller.ensures.value in
+    let sound : IsController n = subst IsController same c.parts-c.ensures.sound in
+    let inside : IsGridState n xi = subst (IsGridState n) c.requires.state c.controller.ensures.state in
+    let len : length c.row.result.now ≡ d.states = c.row.ensures.len ∙ c.requires.design.a.cols in
+    let long : length xi ≡ d.states = inside.long ∙ sym c.requires.matched.states in
+    let dotted : FitsSigned w128 c.dot.result = search rules in
+    let scale : FitsSigned w128 c.grid_scale.result = search rules in
+    let scale_is : c.grid_scale.result ≡ pos (grid_scale n) = c.grid_scale.ensures.value ∙ ap (λ (m : Numbers). pos (grid_scale m)) same in
+    let own : c.dot.result ≡ image d.states d.plant_a (at xi) c.args.i = c.dot.ensures ∙ dot_is d.states c.row.result.now xi len long ∙ ap (λ (row : List ℤ). dot d.states (at row) (at xi)) c.row.ensures.value in
+    let product : FitsSigned w128 (image d.states d.plant_a (at xi) c.args.i *ℤ pos (grid_scale n)) = fits_signed_from_abs w128 _ (omega (arith, own_le d n xi c.args.i c.requires.matched sound inside c.requires.narrow c.requires.in_range)) in
+    let added : FitsSigned w128 c.input_sum.result = search rules in
+    let input : c.input_sum.result ≡ image d.inputs d.plant_b (at (averaged_plan n xi)) c.args.i = c.input_sum.ensures ∙ ap (λ (s : List ℤ). image d.inputs d.plant_b (at (averaged_plan n s)) c.args.i) c.requires.state in
+    let whole : FitsSigned w128 (next_sum d n xi c.args.i) = next_fits d n xi c.args.i c.requires.matched sound inside c.requires.narrow c.requires.in_range in
+    rw (to_z-of_z w128 _ dotted, to_z-of_z w128 _ scale, to_z-of_z w128 _ added, own, scale_is, input, to_z-of_z w128 _ product, to_z-of_z w128 _ whole) refl

@@ -1,0 +1,88 @@
+use Rattle.std.proofs.Common.{◌≡◌, ◌+◌, ◌++◌, ◌∙◌, ap, sym, subst, refl, le_refl, ℤ, List, Vec, Global, length, option_map, arith}
+use Rattle.std.proofs.lemmas.List.{with_items_is}
+use Rattle.std.proofs.lemmas.List.FromFn.{length-map-range_with_len}
+use Rattle.qp_model.specs.Controller.{Numbers}
+use Rattle.qp_model.specs.Machine.{IsGridState}
+use Rattle.qp_model.specs.Successor.{successor, state_after}
+use Rattle.qp_model.specs.LoopLines.{loop_line}
+use Rattle.qp_model.specs.Parts.{design_of}
+use Rattle.closed_loop.specs.Shows.{TurnShows, LoopShows}
+use Rattle.closed_loop.specs.declared.fault.LoopFault.TheVariants.{Memory}
+use Rattle.closed_loop.proofs.Showing.{state_zero, state_more, inside_none, inside_more, put_none, put_more, grows_by_turns, given, turn_shows}
+use Rattle.closed_loop.proofs.turns.run_turns.Goals as goal
+
+pub returns-in_err-state-clause-refused : goal.returns-in_err-state-clause-refused
+returns-in_err-state-clause-refused g c =
+    let d = design_of c.args.design.now.parts in
+    let n = c.args.k.now.controller in
+    let start = c.args.start.now in
+    let got = g.O.Sink.got c.args.out.now in
+    given c.from_residual.result (LoopShows d n c.args.entry start c.args.turns got got (g.O.Sink.faults c.args.out.now) (g.O.Sink.faults c.args.out.now)) Memory c.from_residual.ensures.1
+    (grows_by_turns d n c.args.entry start c.args.turns 0 got got (omega arith) (inside_none d n start) (put_none d n c.args.entry start got))
+
+pub returns-in_err-next-clause-refused : goal.returns-in_err-next-clause-refused
+returns-in_err-next-clause-refused g c =
+    let d = design_of c.args.design.now.parts in
+    let n = c.args.k.now.controller in
+    let start = c.args.start.now in
+    let got = g.O.Sink.got c.args.out.now in
+    given c.from_residual-in_err-next.result (LoopShows d n c.args.entry start c.args.turns got got (g.O.Sink.faults c.args.out.now) (g.O.Sink.faults c.args.out.now)) Memory c.from_residual-in_err-next.ensures.1
+    (grows_by_turns d n c.args.entry start c.args.turns 0 got got (omega arith) (inside_none d n start) (put_none d n c.args.entry start got))
+
+pub loop-gone-init : goal.loop-gone-init
+loop-gone-init g c =
+    let d = design_of c.args.design.now.parts in
+    let n = c.args.k.now.controller in
+    let start = c.args.start.now in
+    record {
+      state = c.in_ok-state.ensures.items ∙ sym (state_zero d n start);
+      next = ap (λ (xs : List ℤ). length xs) c.in_ok-next.ensures.items ∙ c.requires.start;
+      long = ap (λ (xs : List ℤ). length xs) c.in_ok-state.ensures.items ∙ c.requires.start;
+      inside = inside_none d n start;
+      put = put_none d n c.args.entry start (g.O.Sink.got c.args.out.now);
+      no_fewer = le_refl (g.O.Sink.faults c.args.out.now);
+      controller = refl;
+    }
+
+pub returns-in_err-make_turn-clause-refused : goal.returns-in_err-make_turn-clause-refused
+returns-in_err-make_turn-clause-refused g c =
+    let d = design_of c.args.design.now.parts in
+    let n = c.args.k.now.controller in
+    let start = c.args.start.now in
+    let gone = c.loop-gone.gone in
+    let got = g.O.Sink.got in
+    let faults = g.O.Sink.faults in
+    let fault = c.in_err-make_turn.field-0.0 in
+    let same : c.deref.result.now ≡ state_after d n start gone = c.deref.ensures.value ∙ c.loop-gone.invariant.state in
+    let shows : TurnShows n c.args.entry (gone + 1) (state_after d n start gone) (got c.loop-gone.out) (got c.make_turn.new.out) (faults c.loop-gone.out) (faults c.make_turn.new.out) fault =
+    subst (λ (m : Numbers). TurnShows m c.args.entry (gone + 1) (state_after d n start gone) (got c.loop-gone.out) (got c.make_turn.new.out) (faults c.loop-gone.out) (faults c.make_turn.new.out) fault) c.loop-gone.invariant.controller
+    (subst (λ (s : List ℤ). TurnShows c.loop-gone.k.controller c.args.entry (gone + 1) s (got c.loop-gone.out) (got c.make_turn.new.out) (faults c.loop-gone.out) (faults c.make_turn.new.out) fault) same c.in_err-make_turn.ensures.refused) in
+    given c.from_residual-in_err-make_turn.result (LoopShows d n c.args.entry start c.args.turns (got c.args.out.now) (got c.make_turn.new.out) (faults c.args.out.now) (faults c.make_turn.new.out)) fault c.from_residual-in_err-make_turn.ensures.1
+    (turn_shows d n c.args.entry start c.args.turns gone (got c.args.out.now) (got c.loop-gone.out) (got c.make_turn.new.out) (faults c.args.out.now) (faults c.loop-gone.out) (faults c.make_turn.new.out) fault
+    (omega arith) c.loop-gone.invariant.inside c.loop-gone.invariant.put c.loop-gone.invariant.no_fewer c.make_turn.ensures.no_fewer shows)
+
+pub loop-gone-preserved : goal.loop-gone-preserved
+loop-gone-preserved g c =
+    let d = design_of c.args.design.now.parts in
+    let n = c.args.k.now.controller in
+    let start = c.args.start.now in
+    let gone = c.loop-gone.gone in
+    let same : c.deref.result.now ≡ state_after d n start gone = c.deref.ensures.value ∙ c.loop-gone.invariant.state in
+    let kept : c.make_turn.new.k.controller ≡ n = c.make_turn.ensures.controller ∙ c.loop-gone.invariant.controller in
+    let inside : IsGridState n (state_after d n start gone) = subst (IsGridState n) same (subst (λ (m : Numbers). IsGridState m c.deref.result.now) c.loop-gone.invariant.controller c.in_ok-make_turn.ensures.inside) in
+    let put = subst (λ (m : Numbers). g.O.Sink.got c.make_turn.new.out ≡ option_map (λ o. o ++ loop_line m c.args.entry (gone + 1) (state_after d n start gone)) (g.O.Sink.got c.loop-gone.out)) c.loop-gone.invariant.controller
+    (subst (λ (s : List ℤ). g.O.Sink.got c.make_turn.new.out ≡ option_map (λ o. o ++ loop_line c.loop-gone.k.controller c.args.entry (gone + 1) s) (g.O.Sink.got c.loop-gone.out)) same c.in_ok-make_turn.ensures.put) in
+    let again : c.deref-in-loop-gone.result.now ≡ state_after d n start gone = c.deref-in-loop-gone.ensures.value ∙ c.loop-gone.invariant.state in
+    let next : c.next_state.new.next ≡ state_after d n start (gone + 1) =
+    c.next_state.ensures.value ∙ ap (λ (m : Numbers). successor d m c.deref-in-loop-gone.result.now) kept ∙ ap (successor d n) again ∙ sym (state_more d n start gone) in
+    let count : length c.next_state.new.next ≡ d.states = ap (λ (xs : List ℤ). length xs) c.next_state.ensures.value ∙ length-map-range_with_len _ 0 d.states in
+    let items : c.swap.new.x.items ≡ c.next_state.new.next = ap (λ (v : Vec ℤ Global). v.items) c.swap.ensures.x_after ∙ with_items_is c.loop-gone.next c.next_state.new.next (count ∙ c.requires.matched.states ∙ sym c.loop-gone.invariant.next ∙ sym c.loop-gone.next.ok.0) in
+    record {
+      state = items ∙ next;
+      next = ap (λ (v : Vec ℤ Global). length v.items) c.swap.ensures.y_after ∙ c.loop-gone.invariant.long;
+      long = ap (λ (xs : List ℤ). length xs) items ∙ count ∙ c.requires.matched.states;
+      inside = inside_more d n start gone c.loop-gone.invariant.inside inside;
+      put = put_more d n c.args.entry start gone (g.O.Sink.got c.args.out.now) (g.O.Sink.got c.loop-gone.out) (g.O.Sink.got c.make_turn.new.out) c.loop-gone.invariant.put put;
+      no_fewer = omega (arith, c.loop-gone.invariant.no_fewer, c.make_turn.ensures.no_fewer);
+      controller = kept;
+    }

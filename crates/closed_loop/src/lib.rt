@@ -1,0 +1,16 @@
+//! A controller and the plant of its design in a closed loop, turn by turn.
+#![tactic(auto)]
+
+mod fault;
+mod line;
+mod size;
+mod successor;
+mod turns;
+
+pub use fault::LoopFault;
+pub use size::turn_size;
+pub use successor::next_state;
+pub use turns::run_loop;
+
+#[cfg(test)]
+mod tests;

@@ -1,0 +1,81 @@
+// The plant's next state.
+ghost use Rattle.std.specs.Prelude.{◌≡◌, ℕ, ◌≤◌, ◌<◌, ◌^◌, length};
+ghost use Rattle.integer_algebra.specs.Sums.{at, image};
+ghost use Rattle.integer_algebra.specs.Division.{round_of, IsNearest};
+ghost use Rattle.qp_model.specs.AbsoluteSums.{IsController};
+ghost use Rattle.qp_model.specs.Machine.{IsGridState, averaged_plan};
+ghost use Rattle.qp_model.specs.Parts.{IsDesign, design_of};
+ghost use Rattle.qp_model.specs.Successor.{IsFor, next_sum, next_over, successor};
+ghost use Rattle.qp_model.specs.LoopSize.{turn_size};
+
+use crate::size::{grid_scale, next_over};
+use fixed_kernel::Kernel;
+use frac_scaled::round_div;
+use mat_int::dot;
+use primal_average::first_input;
+use qp_model::{Design, DesignParts};
+
+// Row `i` of the plant's inputs, at the first inputs' sums.
+fn input_sum(design: &DesignParts, k: &Kernel, i: usize) -> i128
+    requires design { IsDesign design.now }
+    requires sound { IsController k.now.controller }
+    requires inside { IsGridState k.now.controller k.now.state }
+    requires made { k.now.made ≡ k.now.controller.steps }
+    requires matched { IsFor k.now.controller (design_of design.now) }
+    requires narrow { turn_size (design_of design.now) k.now.controller ≤ 2 ^ 126 }
+    requires in_range { i < design.now.states }
+    ensures { result ≡ image design.now.inputs (design_of design.now).plant_b (at (averaged_plan k.now.controller k.now.state)) i }
+{
+    let mut sum = 0;
+    for l in 0..design.inputs {
+        sum += design.b.at(i, l) * first_input(k, l);
+    }
+    sum
+}
+
+// Coordinate `i` of the next state over `2^g`, as a numerator over `next_over`.
+fn next_sum(design: &DesignParts, k: &Kernel, state: &[i128], i: usize) -> i128
+    requires design { IsDesign design.now }
+    requires made { k.now.made ≡ k.now.controller.steps }
+    requires state { k.now.state ≡ state.now }
+    requires matched { IsFor k.now.controller (design_of design.now) }
+    requires narrow { turn_size (design_of design.now) k.now.controller ≤ 2 ^ 126 }
+    requires in_range { i < design.now.states }
+    ensures { result ≡ next_sum (design_of design.now) k.now.controller state.now i }
+{
+    let c = k.controller().parts();
+    let own = dot(design.a.row(i), state) * grid_scale(c);
+    own + input_sum(design, k, i)
+}
+
+// Coordinate `i` of the next state, over `2^g`.
+fn next_coordinate(design: &DesignParts, k: &Kernel, state: &[i128], i: usize) -> i128
+    requires design { IsDesign design.now }
+    requires made { k.now.made ≡ k.now.controller.steps }
+    requires state { k.now.state ≡ state.now }
+    requires matched { IsFor k.now.controller (design_of design.now) }
+    requires narrow { turn_size (design_of design.now) k.now.controller ≤ 2 ^ 126 }
+    requires in_range { i < design.now.states }
+    ensures value { result ≡ round_of (next_sum (design_of design.now) k.now.controller state.now i) (next_over (design_of design.now) k.now.controller) }
+    ensures nearest { IsNearest (next_sum (design_of design.now) k.now.controller state.now i) (next_over (design_of design.now) k.now.controller) result }
+{
+    let over = next_over(design, k.controller().parts());
+    round_div(next_sum(design, k, state, i), over)
+}
+
+/// The state of the plant, over `2^g`, after the state that all steps were made from: under the first inputs of the averaged
+/// plan, to the nearest whole numbers, and a tie upward.
+pub fn next_state(design: &Design, k: &Kernel, state: &[i128], next: &mut [i128])
+    requires made { k.now.made ≡ k.now.controller.steps }
+    requires state { k.now.state ≡ state.now }
+    requires matched { IsFor k.now.controller (design_of design.now.parts) }
+    requires narrow { turn_size (design_of design.now.parts) k.now.controller ≤ 2 ^ 126 }
+    requires next { length next.old ≡ k.now.controller.states }
+    ensures value { next.new ≡ successor (design_of design.now.parts) k.now.controller state.now }
+    ensures nearest { (i : ℕ) → i < k.now.controller.states → IsNearest (next_sum (design_of design.now.parts) k.now.controller state.now i) (next_over (design_of design.now.parts) k.now.controller) (at next.new i) }
+{
+    let parts = design.parts();
+    for i in 0..next.len() {
+        next[i] = next_coordinate(parts, k, state, i);
+    }
+}

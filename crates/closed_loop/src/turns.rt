@@ -1,0 +1,120 @@
+// A closed loop, turn by turn.
+ghost use Rattle.std.specs.Prelude.{◌≡◌, ℕ, ◌≤◌, ◌<◌, ◌-◌, ◌^◌, ◌↔◌, ◌⊎◌, ◌++◌, length, Err, option_map, OnOk, IfErr, IfSome, IsSomeAnd};
+ghost use Rattle.io_edge.specs.Faults.{Rose};
+ghost use Rattle.qp_model.specs.Machine.{IsGridState};
+ghost use Rattle.qp_model.specs.Parts.{design_of};
+ghost use Rattle.qp_model.specs.Successor.{IsFor};
+ghost use Rattle.qp_model.specs.LoopSize.{turn_size};
+ghost use Rattle.qp_model.specs.LoopLines.{loop_line, loop_text};
+ghost use Rattle.closed_loop.specs.Answers.{StaysInside, LeavesAt, GrowsByTurns, GrowsByFront};
+ghost use Rattle.closed_loop.specs.Shows.{TurnShows, LoopShows};
+
+use crate::fault::LoopFault;
+use crate::line::loop_line;
+use crate::size::turn_size;
+use crate::successor::next_state;
+use fixed_kernel::Kernel;
+use io_edge::Sink;
+use qp_model::{Design, Quantity};
+use std::alloc::Global;
+use std::mem::swap;
+
+// A turn at a state: the state is tested, all steps are made from it, and the line is put.
+fn make_turn<O: Sink>(
+    alloc: Global,
+    k: &mut Kernel,
+    entry: u32,
+    turn: u32,
+    state: &[i128],
+    out: &mut O,
+) -> Result<(), LoopFault>
+    requires { length state.now ≡ k.old.controller.states }
+    ensures inside { OnOk result (IsGridState k.old.controller state.now) }
+    ensures made { OnOk result (k.new ≡ record { controller = k.old.controller; state = state.now; made = k.old.controller.steps }) }
+    ensures put { OnOk result (O.got out.new ≡ option_map (λ old. old ++ loop_line k.old.controller entry turn state.now) (O.got out.old)) }
+    ensures refused { IfErr result (TurnShows k.old.controller entry turn state.now (O.got out.old) (O.got out.new) (O.faults out.old) (O.faults out.new)) }
+    ensures no_fewer { O.faults out.old ≤ O.faults out.new }
+    ensures controller { k.new.controller ≡ k.old.controller }
+{
+    if let Err(refusal) = k.run(state) {
+        return Err(LoopFault::OutsideBox {
+            turn,
+            coordinate: refusal.coordinate,
+        });
+    }
+    let line = loop_line(alloc, k, entry, turn, state)?;
+    match out.put(&line) {
+        Ok(()) => Ok(()),
+        Err(_) => Err(LoopFault::WriteFault),
+    }
+}
+
+// The turns from a start, where the quantity `turn` is within its limit.
+fn run_turns<O: Sink>(
+    alloc: Global,
+    design: &Design,
+    k: &mut Kernel,
+    entry: u32,
+    start: &[i128],
+    turns: u32,
+    out: &mut O,
+) -> Result<(), LoopFault>
+    requires matched { IsFor k.old.controller (design_of design.now.parts) }
+    requires narrow { turn_size (design_of design.now.parts) k.old.controller ≤ 2 ^ 126 }
+    requires start { length start.now ≡ k.old.controller.states }
+    ensures inside { OnOk result (StaysInside (design_of design.now.parts) k.old.controller start.now turns) }
+    ensures put { OnOk result (O.got out.new ≡ option_map (λ old. old ++ loop_text (design_of design.now.parts) k.old.controller entry start.now turns) (O.got out.old)) }
+    ensures refused { IfErr result (LoopShows (design_of design.now.parts) k.old.controller entry start.now turns (O.got out.old) (O.got out.new) (O.faults out.old) (O.faults out.new)) }
+    ensures no_fewer { O.faults out.old ≤ O.faults out.new }
+    ensures controller { k.new.controller ≡ k.old.controller }
+{
+    let mut state = Vec::from_slice(alloc, start)?;
+    let mut next = Vec::from_slice(alloc, start)?;
+    for gone in 0..turns {
+        make_turn(alloc, k, entry, gone + 1, &state, out)?;
+        next_state(design, k, &state, &mut next);
+        swap(&mut state, &mut next);
+    }
+    Ok(())
+}
+
+/// The lines of a record's closed loop from a start, over `2^g`, turn by turn, to a sink: the controller is run on the state,
+/// the line is put, and the plant goes on. `TooWide` where the quantity `turn` is above `2^126`, before any line;
+/// `OutsideBox` at the first turn whose state lies outside the box, with the lines of the turns before it put.
+pub fn run_loop<O: Sink>(
+    alloc: Global,
+    design: &Design,
+    k: &mut Kernel,
+    entry: u32,
+    start: &[i128],
+    turns: u32,
+    out: &mut O,
+) -> Result<(), LoopFault>
+    requires matched { IsFor k.old.controller (design_of design.now.parts) }
+    requires start { length start.now ≡ k.old.controller.states }
+    // All turns were made.
+    ensures inside { OnOk result (StaysInside (design_of design.now.parts) k.old.controller start.now turns) }
+    ensures put { OnOk result (O.got out.new ≡ option_map (λ old. old ++ loop_text (design_of design.now.parts) k.old.controller entry start.now turns) (O.got out.old)) }
+    // The quantity `turn`, before any line.
+    ensures wide { (quantity : Quantity) → (result ≡ Err (LoopFault.TooWide quantity)) ↔ ((quantity ≡ Quantity.Turn) × (2 ^ 126 < turn_size (design_of design.now.parts) k.old.controller)) }
+    ensures wide_put { 2 ^ 126 < turn_size (design_of design.now.parts) k.old.controller → out.new ≡ out.old }
+    // A state outside the box.
+    ensures outside { (turn coordinate : ℕ) → result ≡ Err (LoopFault.OutsideBox turn coordinate) → LeavesAt (design_of design.now.parts) k.old.controller start.now turns turn coordinate }
+    ensures outside_put { (turn coordinate : ℕ) → result ≡ Err (LoopFault.OutsideBox turn coordinate) → O.got out.new ≡ option_map (λ old. old ++ loop_text (design_of design.now.parts) k.old.controller entry start.now (turn - 1)) (O.got out.old) }
+    ensures leaves { (turn coordinate : ℕ) → LeavesAt (design_of design.now.parts) k.old.controller start.now turns turn coordinate → turn_size (design_of design.now.parts) k.old.controller ≤ 2 ^ 126
+        → (result ≡ Err (LoopFault.OutsideBox turn coordinate)) ⊎ (result ≡ Err LoopFault.Memory) ⊎ (result ≡ Err LoopFault.WriteFault) }
+    // A fault of the sink.
+    ensures failed { result ≡ Err LoopFault.WriteFault → Rose (O.faults out.old) (O.faults out.new) }
+    ensures cut { result ≡ Err LoopFault.WriteFault → IfSome (O.got out.old) (λ old. IsSomeAnd (O.got out.new) (GrowsByFront (design_of design.now.parts) k.old.controller entry start.now turns old)) }
+    ensures no_fewer { O.faults out.old ≤ O.faults out.new }
+    // Want of memory.
+    ensures memory { result ≡ Err LoopFault.Memory → IfSome (O.got out.old) (λ old. IsSomeAnd (O.got out.new) (GrowsByTurns (design_of design.now.parts) k.old.controller entry start.now turns old)) }
+    ensures controller { k.new.controller ≡ k.old.controller }
+{
+    if turn_size(design, k.controller()).is_none() {
+        return Err(LoopFault::TooWide {
+            quantity: Quantity::Turn,
+        });
+    }
+    run_turns(alloc, design, k, entry, start, turns, out)
+}
