@@ -7,7 +7,7 @@ use Rattle.mat_int.specs.Matrix.{Matrix}
 use Rattle.qp_model.specs.Controller.{Numbers, IsShaped}
 use Rattle.controller_file.specs.declared.parts.Head.{Head}
 use Rattle.controller_file.specs.Lines.{Keyed, line, row_lines, head_of, head_lines, list_lines, keyed_lines}
-use Rattle.controller_file.specs.Reading.{head_at, lists_at, parts_at}
+use Rattle.controller_file.specs.Reading.{head_at, lists_at, rest_at, parts_at}
 use Rattle.controller_file.proofs.Fields.{bind_some, guard_some, some_is, one_of, numbers_take, numbers_again, natural_take, natural_at_again, four_take, four_again, matrix_take, matrix_again}
 
 -- each of the sizes is a number of 32 bits
@@ -106,7 +106,7 @@ lists_are : (h : Head) (ls : List Keyed) (made c : Numbers) → made ≡ c → L
 lists_are h ls made c same l = subst (λ (d : Numbers). Lists h ls d) same l
 
 lists_take : (h : Head) (ls : List Keyed) (c : Numbers) → lists_at h ls ≡ Some c → Lists h ls c
-unfolding lists_at
+unfolding lists_at rest_at
 lists_take h ls c e =
     let nu = h.p * h.stages in
     let low = bind_some e in
@@ -133,7 +133,7 @@ lists_take h ls c e =
     (record { head = refl; lines = lines; shaped = record { low = t0.1; high = t1.1; state_gains = t2.1; offsets = t3.1; dual_gains = t4.1; plan_rows = t5.1; state_rows = t6.1; bounds = t7.1 } })
 
 lists_again : (c : Numbers) → IsShaped c → lists_at (head_of c) (list_lines c) ≡ Some c
-unfolding lists_at
+unfolding lists_at rest_at
 lists_again c shaped =
     let nu = c.inputs * c.stages in
     let r8 = line (codes "end") [] ∷ [] in

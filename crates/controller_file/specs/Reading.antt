@@ -81,6 +81,16 @@ head_at ls = do
   words ← natural_at (codes "words") clamp.1
   Some (record { n = size.0.0; p = size.0.1; stages = size.0.2; m = size.0.3; f = bits.0.0; g = bits.0.1; s = bits.0.2; w = bits.0.3; steps = steps.0; clamp = slice_index_or clamp.0 0 (pos 0); words = words.0 }, words.1)
 
+-- the lines after the offsets, to the last
+unfoldable pub rest_at : Head → List ℤ → List ℤ → Matrix → List ℤ → List Keyed → Option Numbers
+rest_at head low high p t ls = do
+  w ← matrix_at (codes "W") (head.p * head.stages) head.m ls
+  g ← matrix_at (codes "G") head.m (head.p * head.stages) w.1
+  e ← matrix_at (codes "E") head.m head.n g.1
+  bound ← numbers_at (codes "b") head.m e.1
+  end ← numbers_at (codes "end") 0 bound.1
+  if length end.1 == 0 then Some (record { states = head.n; inputs = head.p; stages = head.stages; rows = head.m; fraction_bits = head.f; grid_bits = head.g; step_exponent = head.s; width = head.w; steps = head.steps; clamp = head.clamp; words = head.words; low = low; high = high; state_gains = p; offsets = t; dual_gains = w.0; plan_rows = g.0; state_rows = e.0; bounds = bound.0 }) else None
+
 -- the lines after these, to the last
 unfoldable pub lists_at : Head → List Keyed → Option Numbers
 lists_at head ls = do
@@ -88,12 +98,7 @@ lists_at head ls = do
   high ← numbers_at (codes "hi") head.n low.1
   p ← matrix_at (codes "P") (head.p * head.stages) head.n high.1
   t ← numbers_at (codes "T") (head.p * head.stages) p.1
-  w ← matrix_at (codes "W") (head.p * head.stages) head.m t.1
-  g ← matrix_at (codes "G") head.m (head.p * head.stages) w.1
-  e ← matrix_at (codes "E") head.m head.n g.1
-  bound ← numbers_at (codes "b") head.m e.1
-  end ← numbers_at (codes "end") 0 bound.1
-  if length end.1 == 0 then Some (record { states = head.n; inputs = head.p; stages = head.stages; rows = head.m; fraction_bits = head.f; grid_bits = head.g; step_exponent = head.s; width = head.w; steps = head.steps; clamp = head.clamp; words = head.words; low = low.0; high = high.0; state_gains = p.0; offsets = t.0; dual_gains = w.0; plan_rows = g.0; state_rows = e.0; bounds = bound.0 }) else None
+  rest_at head low.0 high.0 p.0 t.0 t.1
 
 unfoldable pub parts_at : List Keyed → Option Numbers
 parts_at ls = do

@@ -4,7 +4,7 @@ ghost use Rattle.qp_model.specs.Controller.{Numbers, numbers, IsShaped, IsInForm
 ghost use Rattle.qp_model.specs.ControllerText.{controller_text};
 ghost use Rattle.controller_file.specs.declared.fault.LineFault.TheVariants.{Memory};
 ghost use Rattle.controller_file.specs.Lines.{view, views};
-ghost use Rattle.controller_file.specs.Reading.{Gives, natural, numbers_in, numbers_at, natural_at, four_at, all_rows_at, matrix_at, head_at, parts_at};
+ghost use Rattle.controller_file.specs.Reading.{Gives, natural, numbers_in, numbers_at, natural_at, four_at, all_rows_at, matrix_at, head_at, rest_at, parts_at};
 
 use crate::fault::LineFault;
 use crate::line::{Line, has_place, lines_of};
@@ -47,14 +47,38 @@ fn parts_of(alloc: Global, lines: &[Line]) -> Result<ControllerParts, LineFault>
 {
     let (head, lines) = read_head(lines)?;
     let n = head.n as usize;
-    let m = head.m as usize;
     let nu = head.p as usize * head.stages as usize;
     let (lo, lines) = read_list(alloc, "lo", n, lines)?;
     let (hi, lines) = read_list(alloc, "hi", n, lines)?;
     let (p_mat, lines) = read_matrix(alloc, "P", nu, n, lines)?;
     let (t, lines) = read_list(alloc, "T", nu, lines)?;
-    let (w_mat, lines) = read_matrix(alloc, "W", nu, m, lines)?;
-    let (g_mat, lines) = read_matrix(alloc, "G", m, nu, lines)?;
+    rest_of(alloc, head, Front { lo, hi, p_mat, t }, lines)
+}
+
+// The first four lists.
+#[derive(Drop)]
+struct Front {
+    lo: Vec<i128>,
+    hi: Vec<i128>,
+    p_mat: Mat,
+    t: Vec<i128>,
+}
+
+// The controller of this head and these lists whose other lists are these lines.
+#[tactic(auto, unfolding(crate::specs::Reading::rest_at))]
+fn rest_of(
+    alloc: Global,
+    head: Head,
+    front: Front,
+    lines: &[Line],
+) -> Result<ControllerParts, LineFault>
+    ensures { Gives (λ x. numbers x) result (rest_at head front.lo.items front.hi.items front.p_mat front.t.items (views lines.now)) }
+{
+    let n = head.n as usize;
+    let m = head.m as usize;
+    let plan = head.p as usize * head.stages as usize;
+    let (w_mat, lines) = read_matrix(alloc, "W", plan, m, lines)?;
+    let (g_mat, lines) = read_matrix(alloc, "G", m, plan, lines)?;
     let (e_mat, lines) = read_matrix(alloc, "E", m, n, lines)?;
     let (bound, lines) = read_list(alloc, "b", m, lines)?;
     let (_, lines) = read_numbers("end", 0, lines)?;
@@ -73,10 +97,10 @@ fn parts_of(alloc: Global, lines: &[Line]) -> Result<ControllerParts, LineFault>
         steps: head.steps,
         clamp: head.clamp,
         words: head.words as usize,
-        lo,
-        hi,
-        p_mat,
-        t,
+        lo: front.lo,
+        hi: front.hi,
+        p_mat: front.p_mat,
+        t: front.t,
         w_mat,
         g_mat,
         e_mat,

@@ -5,8 +5,14 @@ use Rattle.std.proofs.lemmas.Int.{to_z-of_z}
 use Rattle.integer_algebra.specs.Sums.{at}
 use Rattle.plant_condense.proofs.Rooms.{read}
 use Rattle.plant_condense.proofs.Pushes.{pushed}
-use Rattle.plant_condense.proofs.StageFacts.{lifted}
+use Rattle.plant_condense.proofs.StageFacts.{lifted, lifted_fits}
 use Rattle.slater_margin.proofs.lists.multiples.Goals as goal
+
+pub overflow_mul-scale : goal.overflow_mul-scale
+overflow_mul-scale c =
+    let x : SFits w128 (get_or c.args.xs.now c.loop-i.i (pos 0)) = search rules in
+    let small : unsigned_abs (at c.args.xs.now c.loop-i.i) ≤ unsigned_abs (at c.args.xs.now c.loop-i.i) = omega arith in
+    lifted_fits c.args.scale (at c.args.xs.now c.loop-i.i) _ c.ranges.scale x small (c.requires c.loop-i.i c.loop-i-test.true)
 
 pub loop-i-preserved : goal.loop-i-preserved
 loop-i-preserved c =
