@@ -82,7 +82,7 @@ def main():
         tell(model, den)
     if len(dens) == 1:
         whole_a, whole_b = rounded(*model.scaled(), dens[0])
-        print(f"\n[plant]\nden = {dens[0]}\na = {whole_a.tolist()}\nb = {whole_b.tolist()}")
+        print(f"[plant]\nden = {dens[0]}\na = {whole_a.tolist()}\nb = {whole_b.tolist()}")
     return 0
 
 

@@ -67,7 +67,7 @@ def cost_words(controller, period, clock, cycles):
     run = used * c.steps
     time = run * cycles / (clock * 1e6)
     share = f", {plain(100 * time / period)} % of a stage of {plain(period)} s" if period else ""
-    yield f"a run has {run} products ({gains * c.steps}; {plain_step * c.steps}): {plain(time * 1e3)} ms at {plain(clock)} MHz and {plain(cycles)} cycles a product{share}"
+    yield f"a run has {run} products ({gains * c.steps}; {plain_step * c.steps}): {plain(time * 1e3)} ms at {plain(clock)} MHz and {plain(cycles)} {'cycle' if cycles == 1 else 'cycles'} a product{share}"
     multiplier, plan = bits_of([c.clamp]), plan_bits(c)
     yield (f"signed words: gains W {bits_of(flat(c.W))} bits, P {bits_of(flat(c.P))}, rows G {bits_of(flat(c.G))}, E {bits_of(flat(c.E))}, multipliers {multiplier}, "
            f"plan {plan}")

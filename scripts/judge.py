@@ -57,7 +57,9 @@ def main():
     kind, number, _ = design.place_of_row(row)
     print(f"at {len(found)} states, at {sum(f[3] for f in found)} of which a limit binds:")
     print(f"greatest violation {plain(max(excess, 0))}, that is {design.name(kind, number).shown(max(excess, 0))}, in {design.row_words(row)}")
-    print(f"greatest gap {plain(max(0.0, max(f[2] for f in found)))}, greatest undercut {plain(max(0.0, -min(f[2] for f in found)))}")
+    # the exact problem is solved in floating point, so what is below a thousandth says nothing
+    gap, undercut = max(0.0, max(f[2] for f in found)), max(0.0, -min(f[2] for f in found))
+    print(f"greatest gap {plain(round(gap, 3))}, greatest undercut {plain(round(undercut, 3))}")
     return 0
 
 

@@ -3,8 +3,8 @@
 
     scripts/pages.py PAGE ..
 
-A line that begins with four spaces and ./ is a command, run at the top of the repository; the block of lines of four spaces that follows it is what it prints. A
-command that needs a library which isn't there (those of scripts/ but for explain) is left out, and told.
+A block of lines of four spaces that begins with ./ has commands, run at the top of the repository; the next such block is what they print. Commands that need a
+library which isn't there (those of scripts/) are left out, and told.
 """
 import os
 import subprocess
@@ -28,13 +28,11 @@ def blocks_of(text):
 
 
 def commands_of(text):
-    """Each command with the lines that it prints: those of the next block, or none where the next is a command too."""
+    """Each block of commands with the lines that it prints: those of the next block, or none where the next has commands too."""
     blocks = blocks_of(text)
     for block, after in zip(blocks, blocks[1:] + [[]]):
         if block[0].startswith("./"):
-            for command in block[:-1]:
-                yield command, []
-            yield block[-1], [] if after and after[0].startswith("./") else after
+            yield "\n".join(block), [] if after and after[0].startswith("./") else after
 
 
 def needs_libraries(command):
@@ -42,7 +40,7 @@ def needs_libraries(command):
 
 
 def wrong_in(text, lacking, run):
-    """What is wrong: a line for each command that prints something else."""
+    """What is wrong: a line for each block of commands that prints something else."""
     for command, printed in commands_of(text):
         if lacking and needs_libraries(command):
             print(f"pages: left out, for want of {', '.join(PACKAGES[name] for name in lacking)}: {command}")

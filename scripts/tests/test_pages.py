@@ -10,7 +10,7 @@ PAGE = "Text\n\n    ./one a && ./two b\n\nprints\n\n    first\n      second\n\nT
 
 class Pages(unittest.TestCase):
     def test_commands(self):
-        self.assertEqual(list(pages.commands_of(PAGE)), [("./one a && ./two b", ["first", "  second"]), ("./three", []), ("./four", []), ("./scripts/five", ["version = 1"])])
+        self.assertEqual(list(pages.commands_of(PAGE)), [("./one a && ./two b", ["first", "  second"]), ("./three\n./four", []), ("./scripts/five", ["version = 1"])])
 
     def wrong(self, printed, lacking=()):
         with contextlib.redirect_stdout(io.StringIO()):
@@ -23,7 +23,7 @@ class Pages(unittest.TestCase):
         self.assertEqual(len(self.wrong({"./one a && ./two b": ["first", "second"], "./scripts/five": ["version = 1"]})), 1)
 
     def test_a_line_where_none_is_said(self):
-        self.assertEqual(len(self.wrong({"./one a && ./two b": ["first", "  second"], "./three": ["x"], "./scripts/five": ["version = 1"]})), 1)
+        self.assertEqual(len(self.wrong({"./one a && ./two b": ["first", "  second"], "./three\n./four": ["x"], "./scripts/five": ["version = 1"]})), 1)
 
     def test_left_out_without_libraries(self):
         self.assertEqual(self.wrong({"./one a && ./two b": ["first", "  second"]}, ["numpy"]), [])
