@@ -8,9 +8,8 @@ responses of the stages are off; and it warns of each coupling that is rounded t
 of the design. How a model is written: scripts/draft.py --help.
 """
 import argparse
-import sys
 
-from libraries import need
+from libraries import need, run
 
 need("numpy", "scipy")
 import numpy
@@ -87,4 +86,4 @@ def main():
 
 
 if __name__ == "__main__":
-    sys.exit(main())
+    run(main)

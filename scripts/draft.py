@@ -14,7 +14,7 @@ import math
 import sys
 
 import models
-from libraries import need
+from libraries import need, run
 
 need("numpy", "scipy", "cvxopt")
 import numpy
@@ -153,4 +153,4 @@ def main():
 
 
 if __name__ == "__main__":
-    sys.exit(main())
+    run(main)

@@ -5,10 +5,9 @@
 
 Each turn takes the first inputs of the best plan (cvxopt), and rounds the next state to the grid as `loop` does. Inputs are over 2^40. Nothing rests on it.
 """
-import signal
 import sys
 
-from libraries import need
+from libraries import need, run
 
 need("numpy", "cvxopt")
 from design_text import read_design
@@ -36,5 +35,4 @@ def main(arguments):
 
 
 if __name__ == "__main__":
-    signal.signal(signal.SIGPIPE, signal.SIG_DFL)
-    sys.exit(main(sys.argv[1:]))
+    run(lambda: main(sys.argv[1:]))

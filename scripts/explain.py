@@ -14,14 +14,13 @@ The files come in any order; each is known by what it holds. FILE alone will do,
 It computes anew, in Python, what it says of a design and a policy, and changes nothing; the program's report is what counts.
 """
 import argparse
-import signal
-import sys
 from fractions import Fraction
 
 import sizes
 from condensed import condense, curvature
 from corners import corners_of, half_target, margin_of, multiplier_of, steps_of
 from design_text import design_of, plain
+from libraries import run
 from texts import controller_of, kind_of, read_text, records_of, report_of
 
 
@@ -172,19 +171,12 @@ def main():
     given = parser.parse_args()
     files = {}
     for path in given.files:
-        try:
-            text = read_text(path)
-        except OSError as fault:
-            sys.exit(f"explain: {path}: {fault.strerror}")
+        text = read_text(path)
         files[kind_of(text)] = text
-    try:
-        for words in explain(files, given.clock, given.cycles):
-            print(words)
-    except (ValueError, KeyError, IndexError) as fault:
-        sys.exit(f"explain: these files are no texts of one design: {fault}")
+    for words in explain(files, given.clock, given.cycles):
+        print(words)
     return 0
 
 
 if __name__ == "__main__":
-    signal.signal(signal.SIGPIPE, signal.SIG_DFL)
-    sys.exit(main())
+    run(main)

@@ -8,10 +8,9 @@ each. The report's bounds hold at every state; what is measured is mostly far be
 """
 import argparse
 import random
-import sys
 from fractions import Fraction
 
-from libraries import need
+from libraries import need, run
 
 need("numpy", "cvxopt")
 from corners import slacks_of
@@ -64,4 +63,4 @@ def main():
 
 
 if __name__ == "__main__":
-    sys.exit(main())
+    run(main)

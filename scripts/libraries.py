@@ -1,6 +1,7 @@
-"""The field's libraries, or the name of the package that brings one."""
+"""The field's libraries, or the name of the package that brings one; and a script's end without a traceback."""
 import importlib.util
 import os
+import signal
 import sys
 
 PACKAGES = {"numpy": "python3-numpy", "scipy": "python3-scipy", "cvxopt": "python3-cvxopt", "matplotlib": "python3-matplotlib"}
@@ -24,3 +25,17 @@ def need(*names):
         os.execv(SYSTEM, [SYSTEM] + sys.argv)
     packages = " ".join(PACKAGES[name] for name in lacking)
     sys.exit(f"{os.path.basename(sys.argv[0])}: {sys.executable} has no {' and no '.join(lacking)}: apt-get install {packages}")
+
+
+def run(main):
+    """Ends with the answer of `main`, or with a line where a file can't be read or isn't of the form that it should have. A closed pipe ends it quietly."""
+    signal.signal(signal.SIGPIPE, signal.SIG_DFL)
+    name = os.path.basename(sys.argv[0])
+    try:
+        sys.exit(main())
+    except OSError as fault:
+        sys.exit(f"{name}: {fault.filename}: {fault.strerror}")
+    except KeyError as fault:
+        sys.exit(f"{name}: a file lacks {fault}: {name} --help says what it should have")
+    except (ValueError, TypeError, IndexError) as fault:
+        sys.exit(f"{name}: a file has not the form that it should have: {fault}")

@@ -6,10 +6,10 @@
 
 prints the lines that `./mpc solve` and `./mpc loop` print. It is slower by far, and serves to compare.
 """
-import signal
 import sys
 
 from design_text import read_design
+from libraries import run
 from texts import controller_of, read_text, records_of
 
 
@@ -109,5 +109,4 @@ def main(arguments):
 
 
 if __name__ == "__main__":
-    signal.signal(signal.SIGPIPE, signal.SIG_DFL)
-    sys.exit(main(sys.argv[1:]))
+    run(lambda: main(sys.argv[1:]))

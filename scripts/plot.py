@@ -12,9 +12,8 @@ units and the period come from the design's comments. Grey lines are the box, re
 """
 import argparse
 import os
-import sys
 
-from libraries import need
+from libraries import need, run
 
 need("matplotlib")
 import matplotlib
@@ -97,4 +96,4 @@ def main():
 
 
 if __name__ == "__main__":
-    sys.exit(main())
+    run(main)

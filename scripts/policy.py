@@ -17,7 +17,7 @@ simulates the policy in whole numbers.
 import argparse
 import sys
 
-from libraries import need
+from libraries import need, run
 
 need("numpy", "cvxopt")
 from condensed import condense, curvature
@@ -145,4 +145,4 @@ def main():
 
 
 if __name__ == "__main__":
-    sys.exit(main())
+    run(main)

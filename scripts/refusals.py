@@ -2,11 +2,14 @@
 """Says in words why the program refused: the launcher runs it below the program's own line.
 
     scripts/refusals.py STATUS LINE WORD..
+    scripts/refusals.py --table
 
 STATUS is the exit status, LINE what the program printed on standard error (empty where it printed nothing), and the words are those that the program was given. It
-prints one or two sentences, with names in place of numbers as far as the files that the words name can be read, and nothing where there is nothing to say.
+prints one or two sentences, with names in place of numbers as far as the files that the words name can be read, and nothing where there is nothing to say. --table
+prints docs/REFUSALS.md.
 """
 import os
+import re
 import sys
 import tomllib
 from fractions import Fraction
@@ -40,7 +43,7 @@ TEXTS = {
     "too-fine": "The gap target asks for more than 48 fraction bits: rounding at 48 bits may cost {epsilon}, {hint}. A larger gap target, or a policy with a smaller R "
                 "(docs/DESIGNING.md, \"What K is made of\").",
     "too-wide": "`{name}`, {what}, passes 2^126{size}: {help} (docs/DESIGNING.md, \"Sizes\").",
-    "controller-line": "{file} is no controller text: line {line}{fault} is not what should stand there, {wanted}. `generate` writes such files; docs/FORMATS.md has the form.",
+    "controller-line": "{file} is no controller text: line {line}{fault} should be {wanted}. `generate` writes such files; docs/FORMATS.md has the form.",
     "controller-unsafe": "{file} has the form of a controller text, but a sum of its numbers could leave the width that it says itself, so it is not run: a number was changed.",
     "outside-box": "State {entry} of {file} is outside the controller's box in coordinate {name}{fault}. The promises hold inside the box alone: a larger box in the design, or "
                    "a state in steps of {step}.",
@@ -220,7 +223,7 @@ def text_fault(call, file, fault, numbers):
         return TEXTS[fault].format(file=name, key=key, fault=lacking, shape=shape_words(shape, path), range=ranged)
     design, records = call.design(), call.records(kind)
     entry = numbers[0]
-    line = records[entry - 1] if entry <= len(records) else ""
+    line = records[entry - 1] if 0 < entry <= len(records) else ""
     if fault == "count":
         return TEXTS[fault].format(file=name, entries=entry, wanted=2**design.states if design else "2^states")
     if fault == "fields":
@@ -282,7 +285,7 @@ def controller_lines(text):
         return head
     entries = min(p * stages, 60)
     return (head + [f"`P` and {n} numbers"] * entries + [f"`T` and {entries} numbers"] + [f"`W` and {rows} numbers"] * entries
-            + [f"`G` and {entries} numbers"] * min(rows, 252) + [f"`E` and {n} numbers"] * min(rows, 252) + [f"`b` and {rows} numbers", "`end`", "nothing after `end`"])
+            + [f"`G` and {entries} numbers"] * min(rows, 252) + [f"`E` and {n} numbers"] * min(rows, 252) + [f"`b` and {rows} numbers", "`end`", "absent: nothing follows `end`"])
 
 
 def controller_fault(call, file, fault, numbers):
@@ -293,7 +296,7 @@ def controller_fault(call, file, fault, numbers):
         text = read_text(call.path(call.kind(file)))
     except (OSError, TypeError):
         text = ""
-    lines, found, wanted = controller_lines(text), text.split("\n"), "a line of the form"
+    lines, found, wanted = controller_lines(text), text.split("\n"), "another"
     if numbers[0] <= len(lines):
         wanted = lines[numbers[0] - 1]
     shown = f" (`{found[numbers[0] - 1][:40]}`)" if numbers[0] <= len(found) and found[numbers[0] - 1] else ""
@@ -348,15 +351,54 @@ def explanation(status, line, words):
     return too_wide(call, rest[0]) if name == "too-wide" else TEXTS.get(name, "")
 
 
+STATUSES = [
+    (1, "memory", ["memory"]), (2, "usage", ["usage"]), (3, "read-fault FILE", ["read-fault"]), (4, "write-fault FILE", ["write-fault"]), (5, "text FILE not-toml", ["not-toml"]),
+    (5, "text FILE key PLACE", ["key", "further-key"]), (5, "text FILE shape PLACE", ["shape"]), (5, "text FILE range PLACE", ["range"]), (5, "text FILE fields ENTRY", ["fields"]),
+    (5, "text FILE number ENTRY FIELD", ["number"]), (5, "text FILE count ENTRIES", ["count"]), (6, "no-margin CORNER ROW NUMERATOR DENOMINATOR", ["no-margin"]),
+    (7, "curvature", ["curvature"]), (8, "too-many-steps K", ["too-many-steps"]), (9, "too-fine E", ["too-fine"]), (10, "too-wide NAME", ["too-wide"]),
+    (11, "controller FILE line LINE", ["controller-line"]), (11, "controller FILE unsafe", ["controller-unsafe"]), (12, "outside-box ENTRY TURN COORDINATE", ["outside-box", "left-box"]),
+    (13, "long FILE", ["long"]), (14, "mismatch WORD DESIGN CONTROLLER", ["mismatch"]), (98, "", ["unbuilt"]),
+]
+
+
+def table():
+    """The page of all refusals, made of the texts."""
+    yield "# Refusals"
+    yield ""
+    yield "What the program prints where it refuses, `error`, the exit status, a name and numbers; and what the launcher says below it, with names and numbers of your files in"
+    yield "the braces. A file is told by the position of its name among the arguments, 0 is standard output. Made by `scripts/refusals.py --table`."
+    yield ""
+    yield "| Line | What the launcher says |"
+    yield "|---|---|"
+    for status, line, names in STATUSES:
+        shown = f"`error {status} {line}`" if line else f"(status {status}, no line)"
+        yield f"| {shown} | {'; or: '.join(TEXTS[name] for name in names)} |"
+    yield ""
+    yield "The places of a design text (`key`, `shape`, `range`), in their order: " + ", ".join(f"{i} `{key}`" for i, (key, _, _) in enumerate(PLACES, 1)) + "."
+    yield ""
+    yield "| Quantity | What it is | What helps |"
+    yield "|---|---|---|"
+    for name, (what, helps) in QUANTITIES.items():
+        yield f"| `{name}` | {what} | {helps} |"
+
+
 def main(arguments):
     if not arguments or arguments[0] == "--help":
         print(__doc__.strip())
         return 0
+    if arguments[0] == "--table":
+        print("\n".join(table()).replace("|a| + |b|", "\\|a\\| + \\|b\\|"))
+        return 0
     told = explanation(int(arguments[0]), arguments[1], arguments[2:])
     if told:
-        print(told[0].upper() + told[1:], file=sys.stderr)
+        print(re.sub(r"\b1 (list|integer|number|field|record|time)s\b", r"1 \1", told[0].upper() + told[1:]), file=sys.stderr)
     return 0
 
 
 if __name__ == "__main__":
-    sys.exit(main(sys.argv[1:]))
+    try:
+        main(sys.argv[1:])
+    except Exception as fault:  # an explanation is a help: the program's own line stands above it, and no traceback belongs below
+        if os.environ.get("MPC_REFUSALS_RAISE"):
+            raise
+        print(f"(no explanation: {fault})", file=sys.stderr)

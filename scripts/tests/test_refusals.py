@@ -1,7 +1,9 @@
 """Every refusal has words: one case a line that the program can print."""
 import os
+import shlex
 import shutil
 import subprocess
+import sys
 import unittest
 
 import refusals
@@ -102,6 +104,9 @@ class Explained(unittest.TestCase):
     def test_policy_count(self):
         self.assertIn("has 3 records, and the design has 2 corners", self.generate("error 5 text 2 count 3", policy="1,0\n8,-7\n8,-7\n"))
 
+    def test_empty_policy(self):
+        self.assertIn("has 0 records", self.generate("error 5 text 2 count 0", policy=""))
+
     def test_states_fields(self):
         self.assertIn("one number a state", self.solve("error 5 text 2 fields 1", states="1,1\n"))
 
@@ -146,7 +151,7 @@ class Explained(unittest.TestCase):
         self.assertIn("line 19", self.solve("error 11 controller 1 line 19", FIRST_CONTROLLER[:-4]))
 
     def test_controller_with_more(self):
-        self.assertIn("nothing after `end`", self.solve("error 11 controller 1 line 20", FIRST_CONTROLLER + "x"))
+        self.assertIn("nothing follows `end`", self.solve("error 11 controller 1 line 20", FIRST_CONTROLLER + "x"))
 
     def test_controller_unsafe(self):
         self.assertIn("could leave the width", self.solve("error 11 controller 1 unsafe"))
@@ -175,10 +180,21 @@ class Explained(unittest.TestCase):
             self.assertTrue(self.generate(line, b"\xff[", b"\xff,,\n"))
 
 
+class Page(unittest.TestCase):
+    def test_page_is_made_of_the_texts(self):
+        printed = subprocess.run([sys.executable, os.path.join(TOP, "scripts", "refusals.py"), "--table"], capture_output=True, text=True).stdout
+        with open(os.path.join(TOP, "docs", "REFUSALS.md"), encoding="utf-8") as file:
+            self.assertEqual(file.read(), printed)
+
+    def test_every_text_stands_on_the_page(self):
+        self.assertEqual({name for _, _, names in refusals.STATUSES for name in names}, set(refusals.TEXTS))
+
+
 class Launcher(unittest.TestCase):
     """The launcher passes on what a program says. The program is a stand-in."""
 
-    def launched(self, body, *words):
+    def folder(self, body):
+        """A folder with the launcher, the scripts and a stand-in of the program."""
         folder, _ = folder_with(self)
         for part in ("crates/mpc_cli/out", "crates/mpc_cli/src", "crates/mpc_cli/specs", "crates/mpc_cli/proofs", "docs"):
             os.makedirs(os.path.join(folder, part))
@@ -190,7 +206,11 @@ class Launcher(unittest.TestCase):
         with open(program, "w") as file:
             file.write("#!/bin/bash\n" + body)
         os.chmod(program, 0o755)
-        return subprocess.run([os.path.join(folder, "mpc"), *words], capture_output=True, text=True)
+        return folder
+
+    def launched(self, body, *words, redirected=""):
+        command = " ".join([shlex.quote(os.path.join(self.folder(body), "mpc")), *map(shlex.quote, words), redirected])
+        return subprocess.run(command, shell=True, capture_output=True, text=True)
 
     def test_done(self):
         got = self.launched('echo "$1 $2"', "solve", "c d")
@@ -205,6 +225,32 @@ class Launcher(unittest.TestCase):
     def test_silent_refusal(self):
         got = self.launched("exit 12", "solve", "c", "s")
         self.assertEqual((got.returncode, got.stdout, got.stderr), (12, "", ""))
+
+    def test_closed_output(self):
+        got = self.launched("echo there || { echo error 4 write-fault 0 >&2; exit 4; }", "demo", "7", redirected=">&-")
+        self.assertEqual((got.returncode, got.stderr.split("\n")[-2]), (4, "error 4 write-fault 0"))
+
+    def test_progress_of_a_build(self):
+        """A stand-in for the toolchain proves two crates and then builds the program."""
+        folder = self.folder("exit 0")
+        os.remove(os.path.join(folder, "crates/mpc_cli/out/mpc_cli"))
+        os.makedirs(os.path.join(folder, "crates/low/out"))
+        os.makedirs(os.path.join(folder, "bin"))
+        with open(os.path.join(folder, "crates.txt"), "w") as file:
+            file.write("low:\nmpc_cli: low\n")
+        with open(os.path.join(folder, "bin", "rt"), "w") as file:
+            file.write("""#!/bin/bash
+if [ "$1" = all ]; then
+    sleep 1; mkdir -p crates/low/out/incremental; sleep 6; echo "== low"; echo "logic=proved functions=1"; sleep 6; exit
+fi
+echo "== mpc_cli"; echo "logic=proved functions=1"; printf '#!/bin/bash\\necho built\\n' > out/mpc_cli; chmod +x out/mpc_cli
+""")
+        os.chmod(os.path.join(folder, "bin", "rt"), 0o755)
+        got = subprocess.run([os.path.join(folder, "mpc"), "solve"], capture_output=True, text=True, env=os.environ | {"PATH": os.path.join(folder, "bin") + ":" + os.environ["PATH"]})
+        self.assertEqual((got.returncode, got.stdout), (0, "built\n"))
+        self.assertIn("mpc: 0 of 2 crates are proved; low\n", got.stderr)
+        self.assertIn("mpc: 1 of 2 crates are proved\n", got.stderr)
+        self.assertFalse(os.path.exists(os.path.join(folder, "crates/mpc_cli/build.log.begun")))
 
     def test_input_reaches_the_program(self):
         self.assertEqual(self.launched("cat; exit 0", "solve").stdout, "")
