@@ -124,6 +124,9 @@ def size_words(design, policy, report):
             step = report["step"] if report else 0
             found["width"] = sizes.greatest_width(design, bound, step, steps_of(design, step, bound), f, bounds)
     yield "sizes in bits, at most 126 each: " + ", ".join(f"{name} {sizes.bits(value):.1f}" for name, value in found.items())
+    wide = [name for name, value in found.items() if value > sizes.LIMIT]
+    if wide:
+        yield f"too wide: {', '.join(wide)} (docs/DESIGNING.md, \"Sizes\")"
 
 
 def line_words(line, design):
