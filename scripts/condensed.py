@@ -46,8 +46,16 @@ def condense(design):
     for (row, k), out in zip(limits, rows):
         for l in range(p if k < design.stages else 0):
             out[k * p + l] += power * row[n + l]
-    return Condensed(hess, lin, off, rows, [of(row, free, k) for row, k in limits], [power * row[-1] for row, _ in limits],
-                     design.cost_den * (design.row_den * power) ** 2, design.limit_den * power)
+    return Condensed(
+        hess,
+        lin,
+        off,
+        rows,
+        [of(row, free, k) for row, k in limits],
+        [power * row[-1] for row, _ in limits],
+        design.cost_den * (design.row_den * power) ** 2,
+        design.limit_den * power,
+    )
 
 
 def factor(matrix):

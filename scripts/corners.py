@@ -44,8 +44,11 @@ def cost_of(design, state, plan):
 def slacks_of(design, state, plan):
     """The slack in each limit row, in the plan's order; a negative one is a limit that is exceeded."""
     states, p = trajectory(design, state, plan), design.inputs
-    out = [(row[-1] - dot(row[:-1], states[k] + list(plan[k * p : (k + 1) * p]))) / Fraction(design.limit_den)
-           for k in range(design.stages) for row in design.stage_rows]
+    out = [
+        (row[-1] - dot(row[:-1], states[k] + list(plan[k * p : (k + 1) * p]))) / Fraction(design.limit_den)
+        for k in range(design.stages)
+        for row in design.stage_rows
+    ]
     return out + [(row[-1] - dot(row[:-1], states[-1])) / Fraction(design.limit_den) for row in design.final_rows]
 
 

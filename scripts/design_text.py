@@ -112,9 +112,28 @@ def read_design(path):
 def design_of(text):
     t = tomllib.loads(text)
     plant, cost, limits, box, targets = t["plant"], t["cost"], t["limits"], t["box"], t["targets"]
-    design = Design(t["states"], t["inputs"], t["stages"], plant["den"], plant["a"], plant["b"], cost["den"], cost["row_den"], cost["input"], cost["stage"],
-                    cost["final"], limits["den"], limits["stage"], limits["final"], box["grid"], box["lo"], box["hi"], targets["den"], targets["violation"],
-                    targets["gap"])
+    design = Design(
+        t["states"],
+        t["inputs"],
+        t["stages"],
+        plant["den"],
+        plant["a"],
+        plant["b"],
+        cost["den"],
+        cost["row_den"],
+        cost["input"],
+        cost["stage"],
+        cost["final"],
+        limits["den"],
+        limits["stage"],
+        limits["final"],
+        box["grid"],
+        box["lo"],
+        box["hi"],
+        targets["den"],
+        targets["violation"],
+        targets["gap"],
+    )
     for line in text.splitlines():
         named, lasts = NAMED.match(line.strip()), LASTS.match(line.strip())
         if named:
@@ -134,8 +153,15 @@ def text_of(design, title=""):
     rows = lambda table: "[" + ", ".join(str([int(v) for v in row]) for row in table) + "]"
     lines += ["version = 1", f"states = {design.states}", f"inputs = {design.inputs}", f"stages = {design.stages}"]
     lines += ["", "[plant]", f"den = {design.plant_den}", f"a = {rows(design.a)}", f"b = {rows(design.b)}"]
-    lines += ["", "[cost]", f"den = {design.cost_den}", f"row_den = {design.row_den}", f"input = {[int(v) for v in design.input_weights]}",
-              f"stage = {rows(design.stage_cost)}", f"final = {rows(design.final_cost)}"]
+    lines += [
+        "",
+        "[cost]",
+        f"den = {design.cost_den}",
+        f"row_den = {design.row_den}",
+        f"input = {[int(v) for v in design.input_weights]}",
+        f"stage = {rows(design.stage_cost)}",
+        f"final = {rows(design.final_cost)}",
+    ]
     lines += ["", "[limits]", f"den = {design.limit_den}", f"stage = {rows(design.stage_rows)}", f"final = {rows(design.final_rows)}"]
     lines += ["", "[box]", f"grid = {design.grid}", f"lo = {list(design.lo)}", f"hi = {list(design.hi)}"]
     lines += ["", "[targets]", f"den = {design.target_den}", f"violation = {design.violation}", f"gap = {design.gap}"]

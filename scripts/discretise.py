@@ -55,15 +55,19 @@ def row_sum(a, b, den):
 
 
 def poles(a):
-    return ", ".join(plain(v.real) if abs(v.imag) < 1e-9 else f"{plain(v.real)}{'+' if v.imag > 0 else '-'}{plain(abs(v.imag))}j"
-                     for v in sorted(numpy.linalg.eigvals(a), key=lambda v: (-abs(v), v.imag)))
+    return ", ".join(
+        plain(v.real) if abs(v.imag) < 1e-9 else f"{plain(v.real)}{'+' if v.imag > 0 else '-'}{plain(abs(v.imag))}j"
+        for v in sorted(numpy.linalg.eigvals(a), key=lambda v: (-abs(v), v.imag))
+    )
 
 
 def tell(model, den):
     a, b = model.scaled()
     sum_, stages = row_sum(a, b, den), model.stages
-    print(f"den {den}: row sums up to {sum_}/{den}, {stages} stages of it pass {plain(numpy.log2(max(sum_, den)) * stages)} bits of 126; "
-          f"step responses off by {plain(100 * response_error(a, b, den, stages))} %")
+    print(
+        f"den {den}: row sums up to {sum_}/{den}, {stages} stages of it pass {plain(numpy.log2(max(sum_, den)) * stages)} bits of 126; "
+        f"step responses off by {plain(100 * response_error(a, b, den, stages))} %"
+    )
     print(f"  poles {poles(a)} -> {poles(rounded(a, b, den)[0] / den)}")
     for word in lost(a, b, den):
         print(f"  warning: {word} is rounded to 0: a finer denominator or other units are needed")

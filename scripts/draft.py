@@ -3,8 +3,8 @@
 
     scripts/draft.py MODEL [DESIGN] [--gap PART] [--keep-weights]
 
-It samples and rounds the plant, divides each limit row by its tolerance (so that the violation target is 1 for all), holds limits on states at the next state, takes
-all weights by one factor so that the curvature is just below 1 (step 0), and asks for a gap of PART (0.1) of the greatest cost. The design goes to DESIGN, or is
+It samples and rounds the plant, divides each limit row by its tolerance (so that the violation target is 1 for all), holds limits on states at the next state,
+takes all weights by one factor so that the curvature is just below 1 (step 0), and asks for a gap of PART (0.1) of the greatest cost. The design goes to DESIGN, or is
 printed; what was done goes to standard error. The policy is the next step: scripts/policy.py DESIGN POLICY.
 
     --keep-weights    takes the weights as they are, in whole 16ths
@@ -88,9 +88,13 @@ def fit_weights(design, inputs, stage, final):
 def names_of(model, limits):
     names = {("state", i + 1): named(words, size) for i, (words, size) in enumerate(zip(model.names, model.state_units))}
     names |= {("input", i + 1): named(words, size) for i, (words, size) in enumerate(zip(model.input_names, model.input_units))}
-    unit = lambda limit: [u for f, (_, u) in zip(limit.get("input", []), model.input_names) if f] or [u for f, (_, u) in zip(limit.get("state", []), model.names) if f]
-    return names | {("stage row", i + 1): Name(limit.get("name", f"limit {i + 1}"), float(limit["tolerance"]), (unit(limit) or ["units"])[0] or "units")
-                    for i, limit in enumerate(limits)}
+    unit = lambda limit: [u for f, (_, u) in zip(limit.get("input", []), model.input_names) if f] or [
+        u for f, (_, u) in zip(limit.get("state", []), model.names) if f
+    ]
+    return names | {
+        ("stage row", i + 1): Name(limit.get("name", f"limit {i + 1}"), float(limit["tolerance"]), (unit(limit) or ["units"])[0] or "units")
+        for i, limit in enumerate(limits)
+    }
 
 
 def draft(model, part=0.1, keep=False):
@@ -102,8 +106,30 @@ def draft(model, part=0.1, keep=False):
     grid = box.get("grid", 4)
     hi = [int(round(v / u * 2**grid)) for v, u in zip(box["hi"], model.state_units)]
     lo = [int(round(v / u * 2**grid)) for v, u in zip(box["lo"], model.state_units)] if "lo" in box else [-v for v in hi]
-    design = Design(model.n, model.p, model.stages, den, rounded(*model.scaled(), den)[0].tolist(), rounded(*model.scaled(), den)[1].tolist(), 1, 1, [1] * model.p,
-                    [], [], limit_den, rows, [], grid, lo, hi, 1, 1, 1, names_of(model, limits), model.period)
+    design = Design(
+        model.n,
+        model.p,
+        model.stages,
+        den,
+        rounded(*model.scaled(), den)[0].tolist(),
+        rounded(*model.scaled(), den)[1].tolist(),
+        1,
+        1,
+        [1] * model.p,
+        [],
+        [],
+        limit_den,
+        rows,
+        [],
+        grid,
+        lo,
+        hi,
+        1,
+        1,
+        1,
+        names_of(model, limits),
+        model.period,
+    )
     inputs = [w * u**2 for w, u in zip(cost["input"], model.input_units)]
     stage, final = cost_rows(model, cost.get("rows", [])), cost_rows(model, cost.get("final", []))
     if keep:
@@ -128,8 +154,10 @@ def greatest_cost(design):
 
 
 def main():
-    parser = argparse.ArgumentParser(description=__doc__ + "A model is\n" + models.__doc__.split("\n", 1)[0].lower()[2:] + "\n" + models.__doc__.split("\n", 1)[1],
-                                     formatter_class=argparse.RawDescriptionHelpFormatter)
+    parser = argparse.ArgumentParser(
+        description=__doc__ + "A model is\n" + models.__doc__.split("\n", 1)[0].lower()[2:] + "\n" + models.__doc__.split("\n", 1)[1],
+        formatter_class=argparse.RawDescriptionHelpFormatter,
+    )
     parser.add_argument("model")
     parser.add_argument("design", nargs="?")
     parser.add_argument("--gap", type=float, default=0.1)

@@ -18,7 +18,7 @@ from fractions import Fraction
 
 import sizes
 from condensed import condense, curvature
-from corners import corners_of, half_target, margin_of, multiplier_of, steps_of
+from corners import corners_of, dot, half_target, margin_of, multiplier_of, steps_of
 from design_text import design_of, plain
 from libraries import run
 from texts import controller_of, kind_of, read_text, records_of, report_of
@@ -68,8 +68,10 @@ def cost_words(controller, period, clock, cycles):
     share = f", {plain(100 * time / period)} % of a stage of {plain(period)} s" if period else ""
     yield f"a run has {run} products ({gains * c.steps}; {plain_step * c.steps}): {plain(time * 1e3)} ms at {plain(clock)} MHz and {plain(cycles)} {'cycle' if cycles == 1 else 'cycles'} a product{share}"
     multiplier, plan = bits_of([c.clamp]), plan_bits(c)
-    yield (f"signed words: gains W {bits_of(flat(c.W))} bits, P {bits_of(flat(c.P))}, rows G {bits_of(flat(c.G))}, E {bits_of(flat(c.E))}, multipliers {multiplier}, "
-           f"plan {plan}")
+    yield (
+        f"signed words: gains W {bits_of(flat(c.W))} bits, P {bits_of(flat(c.P))}, rows G {bits_of(flat(c.G))}, E {bits_of(flat(c.E))}, multipliers {multiplier}, "
+        f"plan {plan}"
+    )
     factors = max(bits_of(flat(c.W) + flat(c.G)), multiplier, plan)
     if factors <= 32 and c.width <= 64:
         yield f"each product is of two 32-bit factors and each sum fits 64 bits (width {c.width}): one multiply-accumulate"
@@ -96,8 +98,10 @@ def bound_words(design, policy, report):
     if bound is None:
         yield f"there is no margin: the plan of {design.corner_words(least.number)} breaks {design.row_words(least.least[1])}"
         return
-    yield (f"R = {bound}: cost {cost} (from {design.corner_words(dearest.number)}) over margin {plain(Fraction(margin, 2**16))} "
-           f"(from {design.corner_words(least.number)}, {design.row_words(least.least[1])})")
+    yield (
+        f"R = {bound}: cost {cost} (from {design.corner_words(dearest.number)}) over margin {plain(Fraction(margin, 2**16))} "
+        f"(from {design.corner_words(least.number)}, {design.row_words(least.least[1])})"
+    )
     if cost < 10:
         yield "the greatest cost is below 10 and is rounded up to a whole number: all weights by one greater factor lose less"
     steep, step = curvature(design, condense(design)), report["step"] if report else None
@@ -106,7 +110,8 @@ def bound_words(design, policy, report):
         while 2**step < steep:
             step += 1
     yield f"the curvature is {plain(steep)}, and the step needs 2^{step} = {2**step}: " + (
-        "nothing is lost" if steep > 0.9 * 2**step else f"all weights by {plain(steep * 1.003 / 2**step)} would cost nothing and take K by that factor")
+        "nothing is lost" if steep > 0.9 * 2**step else f"all weights by {plain(steep * 1.003 / 2**step)} would cost nothing and take K by that factor"
+    )
     yield f"K = 2^(s+2) R / target = {plain(2 ** (step + 2))} * {bound} / {plain(Fraction(design.violation, design.target_den))} = {steps_of(design, step, bound)}"
 
 
@@ -129,6 +134,17 @@ def size_words(design, policy, report):
         yield f"too wide: {', '.join(wide)} (docs/DESIGNING.md, \"Sizes\")"
 
 
+def exceeded(design, state, inputs):
+    """The stage rows that a state and inputs exceed, and by how much, as words; where the state isn't known, the rows on inputs alone."""
+    for number, row in enumerate(design.stage_rows, 1):
+        if state is None and any(row[: design.states]):
+            continue
+        excess = (dot(row[:-1], (state or [0] * design.states) + inputs) - row[-1]) / Fraction(design.limit_den)
+        if excess > 0:
+            name = design.name("stage row", number)
+            yield f"; {name.word} is exceeded by {name.shown(excess)}"
+
+
 def line_words(line, design):
     """A line of `solve` or `loop` in decimals."""
     numbers = [int(word) for word in line.split()]
@@ -136,13 +152,20 @@ def line_words(line, design):
         yield " ".join(plain(Fraction(v, numbers[0])) for v in numbers[1:]) if numbers and numbers[0] > 0 else line
         return
     n, p = design.states, design.inputs
-    inputs = lambda sums, den: ", ".join(f"{design.name('input', l + 1).word} {design.name('input', l + 1).shown(Fraction(v, den))}" for l, v in enumerate(sums))
+
+    def told(sums, den, state=None):
+        values = [Fraction(v, den) for v in sums]
+        names = [design.name("input", l + 1) for l in range(p)]
+        return ", ".join(f"{name.word} {name.shown(v)}" for name, v in zip(names, values)) + "".join(exceeded(design, state, values))
+
     if len(numbers) == 1 + design.entries:
         for k in range(design.stages):
-            yield f"stage {k}: {inputs(numbers[1 + k * p : 1 + (k + 1) * p], numbers[0])}"
+            yield f"stage {k}: {told(numbers[1 + k * p : 1 + (k + 1) * p], numbers[0])}"
     elif len(numbers) == n + p + 3:
-        state = ", ".join(f"{design.name('state', i + 1).word} {design.name('state', i + 1).shown(Fraction(v, 2**design.grid))}" for i, v in enumerate(numbers[2 : 2 + n]))
-        yield f"start {numbers[0]}, turn {numbers[1]}: {state}; {inputs(numbers[3 + n :], numbers[2 + n])}"
+        state = [Fraction(v, 2**design.grid) for v in numbers[2 : 2 + n]]
+        names = [design.name("state", i + 1) for i in range(n)]
+        shown = ", ".join(f"{name.word} {name.shown(v)}" for name, v in zip(names, state))
+        yield f"start {numbers[0]}, turn {numbers[1]}: {shown}; {told(numbers[3 + n :], numbers[2 + n], state)}"
     else:
         yield f"{len(numbers)} numbers: no line of this design"
 
@@ -166,8 +189,12 @@ def explain(files, clock=100.0, cycles=1.0):
 
 
 def main():
-    parser = argparse.ArgumentParser(prog="./mpc explain", usage="./mpc explain FILE [DESIGN] [POLICY] [CONTROLLER] [REPORT]", description=__doc__,
-                                     formatter_class=argparse.RawDescriptionHelpFormatter)
+    parser = argparse.ArgumentParser(
+        prog="./mpc explain",
+        usage="./mpc explain FILE [DESIGN] [POLICY] [CONTROLLER] [REPORT]",
+        description=__doc__,
+        formatter_class=argparse.RawDescriptionHelpFormatter,
+    )
     parser.add_argument("files", nargs="+")
     parser.add_argument("--clock", type=float, default=100.0)
     parser.add_argument("--cycles", type=float, default=1.0)

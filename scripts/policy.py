@@ -116,13 +116,17 @@ def tell(design, policy, turns):
         step += 1
     least, dearest = min(corners, key=lambda c: c.least[0]), max(corners, key=lambda c: c.cost)
     say(f"plans over {policy[0][0]}: least slack {plain(least.least[0])} at {design.corner_words(least.number)} in {design.row_words(least.least[1])}")
-    say(f"greatest cost {plain(dearest.cost)} at {design.corner_words(dearest.number)}; R {bound}, curvature {plain(steep)}, so step {step} and K about {steps_of(design, step, bound)}")
+    say(
+        f"greatest cost {plain(dearest.cost)} at {design.corner_words(dearest.number)}; R {bound}, curvature {plain(steep)}, so step {step} and K about {steps_of(design, step, bound)}"
+    )
     for words in size_words(design, policy, None):
         say(words)
     if turns:
         far = reach_of(design, turns)
-        say(f"with the best plans, the loops of {turns} turns from the corners reach {', '.join(plain(v) for v in far)} of the box"
-            + ("" if max(far) <= 1 else ": they leave it, and `loop` will end there"))
+        say(
+            f"with the best plans, the loops of {turns} turns from the corners reach {', '.join(plain(v) for v in far)} of the box"
+            + ("" if max(far) <= 1 else ": they leave it, and `loop` will end there")
+        )
 
 
 def main():

@@ -4,9 +4,9 @@
     scripts/refusals.py STATUS LINE WORD..
     scripts/refusals.py --table
 
-STATUS is the exit status, LINE what the program printed on standard error (empty where it printed nothing), and the words are those that the program was given. It
-prints one or two sentences, with names in place of numbers as far as the files that the words name can be read, and nothing where there is nothing to say. --table
-prints docs/REFUSALS.md.
+STATUS is the exit status, LINE what the program printed on standard error (empty where it printed nothing), and the words are those that the program was given.
+It prints one or two sentences, with names in place of numbers as far as the files that the words name can be read, and nothing where there is nothing to say.
+--table prints docs/REFUSALS.md.
 """
 import os
 import re
@@ -35,39 +35,55 @@ TEXTS = {
     "number": "Field {field} of record {entry} in {file}{fault} is no number that may stand there: {wanted}.",
     "count": "{file} has {entries} records, and the design has {wanted} corners: one plan for each, in the order low low, high low, low high, high high.",
     "no-margin": "At {corner} the policy's plan leaves too little room in {row}: slack {slack}, at least 0.0000153 (2^-16) is needed. "
-                 "{hint} scripts/policy.py finds a policy with room, or says which row and corner are to blame (docs/DESIGNING.md, \"Margins\").",
+    '{hint} scripts/policy.py finds a policy with room, or says which row and corner are to blame (docs/DESIGNING.md, "Margins").',
     "curvature": "The limits are too steep for the cost: no step 2^-s with s up to 40 is small enough. Divide the rows by their tolerances, or take larger weights "
-                 "(docs/DESIGNING.md, \"Weights\").",
+    '(docs/DESIGNING.md, "Weights").',
     "too-many-steps": "A run would take K = {steps} steps, and at most 4194304 are accepted. K = 2^(s+2) R / target: take a larger violation target{hint}, or a policy with "
-                      "a larger margin or a smaller cost (docs/DESIGNING.md, \"What K is made of\").",
+    'a larger margin or a smaller cost (docs/DESIGNING.md, "What K is made of").',
     "too-fine": "The gap target asks for more than 48 fraction bits: rounding at 48 bits may cost {epsilon}, {hint}. A larger gap target, or a policy with a smaller R "
-                "(docs/DESIGNING.md, \"What K is made of\").",
-    "too-wide": "`{name}`, {what}, passes 2^126{size}: {help} (docs/DESIGNING.md, \"Sizes\").",
+    '(docs/DESIGNING.md, "What K is made of").',
+    "too-wide": '`{name}`, {what}, passes 2^126{size}: {help} (docs/DESIGNING.md, "Sizes").',
     "controller-line": "{file} is no controller text: line {line}{fault} should be {wanted}. `generate` writes such files; docs/FORMATS.md has the form.",
     "controller-unsafe": "{file} has the form of a controller text, but a sum of its numbers could leave the width that it says itself, so it is not run: a number was changed.",
     "outside-box": "State {entry} of {file} is outside the controller's box in coordinate {name}{fault}. The promises hold inside the box alone: a larger box in the design, or "
-                   "a state in steps of {step}.",
+    "a state in steps of {step}.",
     "left-box": "The loop from state {entry} left the box before turn {turn}, in coordinate {name}. Nothing promises that a loop stays: limits at the next state, or coordinates in which "
-                "the box is nearly invariant (docs/DESIGNING.md, \"Boxes that loops stay in\").",
+    'the box is nearly invariant (docs/DESIGNING.md, "Boxes that loops stay in").',
     "long": "{file} is longer than 4194304 bytes, and no file of the tool is.",
     "mismatch": "The controller was not made for this design: its {field} are {controller}, and the design's are {design}. Run `generate` on this design.",
     "unbuilt": "The launcher could not build the program: crates/mpc_cli/build.log has the reason.",
 }
 
-LEFT = {"controller": "Nothing stands in it, or the first part of the text.", "report": "The controller file stands whole.", "output": "The lines before it were printed whole."}
+LEFT = {
+    "controller": "Nothing stands in it, or the first part of the text.",
+    "report": "The controller file stands whole.",
+    "output": "The lines before it were printed whole.",
+}
 
 DENOMINATOR, NUMERATOR = "a denominator, 1 to 1048576", "-2147483647 to 2147483647"
 # key, shape, range: by the place in a design text
 PLACES = [
-    ("version", "an integer", "1"), ("states", "an integer", "1 to 4"), ("inputs", "an integer", "1 to 3"), ("stages", "an integer", "1 to 20"),
-    ("plant.den", "an integer", DENOMINATOR), ("plant.a", "{n} lists of {n} integers", NUMERATOR), ("plant.b", "{n} lists of {p} integers", NUMERATOR),
-    ("cost.den", "an integer", DENOMINATOR), ("cost.row_den", "an integer", DENOMINATOR), ("cost.input", "a list of {p} integers", "1 to 2147483647"),
+    ("version", "an integer", "1"),
+    ("states", "an integer", "1 to 4"),
+    ("inputs", "an integer", "1 to 3"),
+    ("stages", "an integer", "1 to 20"),
+    ("plant.den", "an integer", DENOMINATOR),
+    ("plant.a", "{n} lists of {n} integers", NUMERATOR),
+    ("plant.b", "{n} lists of {p} integers", NUMERATOR),
+    ("cost.den", "an integer", DENOMINATOR),
+    ("cost.row_den", "an integer", DENOMINATOR),
+    ("cost.input", "a list of {p} integers", "1 to 2147483647"),
     ("cost.stage", "up to 12 lists of {n2} integers", NUMERATOR + ", and each weight, the last of its list, at least 0"),
     ("cost.final", "up to 12 lists of {n2} integers", NUMERATOR + ", and each weight, the last of its list, at least 0"),
-    ("limits.den", "an integer", DENOMINATOR), ("limits.stage", "up to 12 lists of {np1} integers", NUMERATOR),
-    ("limits.final", "up to 12 lists of {n1} integers", NUMERATOR + ", and there is a row at limits.stage or here"), ("box.grid", "an integer", "0 to 24"),
-    ("box.lo", "a list of {n} integers", NUMERATOR), ("box.hi", "a list of {n} integers", NUMERATOR + ", each at least its box.lo"),
-    ("targets.den", "an integer", DENOMINATOR), ("targets.violation", "an integer", "1 to 2147483647"), ("targets.gap", "an integer", "1 to 2147483647"),
+    ("limits.den", "an integer", DENOMINATOR),
+    ("limits.stage", "up to 12 lists of {np1} integers", NUMERATOR),
+    ("limits.final", "up to 12 lists of {n1} integers", NUMERATOR + ", and there is a row at limits.stage or here"),
+    ("box.grid", "an integer", "0 to 24"),
+    ("box.lo", "a list of {n} integers", NUMERATOR),
+    ("box.hi", "a list of {n} integers", NUMERATOR + ", each at least its box.lo"),
+    ("targets.den", "an integer", DENOMINATOR),
+    ("targets.violation", "an integer", "1 to 2147483647"),
+    ("targets.gap", "an integer", "1 to 2147483647"),
 ]
 TABLES = ["plant", "cost", "limits", "box", "targets"]
 
@@ -204,7 +220,9 @@ def shape_words(words, path):
         with open(path, "rb") as file:
             top = tomllib.load(file)
         n, p = int(top["states"]), int(top["inputs"])
-        return words.format(n=n, p=p, n1=f"{n + 1} (states and a bound)", n2=f"{n + 2} (states, a target and a weight)", np1=f"{n + p + 1} (states, inputs and a bound)")
+        return words.format(
+            n=n, p=p, n1=f"{n + 1} (states and a bound)", n2=f"{n + 2} (states, a target and a weight)", np1=f"{n + p + 1} (states, inputs and a bound)"
+        )
     except (OSError, ValueError, KeyError, TypeError):
         return words.format(n="`states`", p="`inputs`", n1="`states` + 1", n2="`states` + 2", np1="`states` + `inputs` + 1")
 
@@ -227,11 +245,24 @@ def text_fault(call, file, fault, numbers):
     if fault == "count":
         return TEXTS[fault].format(file=name, entries=entry, wanted=2**design.states if design else "2^states")
     if fault == "fields":
-        wanted = f"{design.states} numbers, one a state" if kind == "states" and design else "one number a state" if kind == "states" else (
-            f"{1 + design.entries} numbers, a denominator and {design.stages} times {design.inputs} inputs" if design else "a denominator and an input for each stage")
+        wanted = (
+            f"{design.states} numbers, one a state"
+            if kind == "states" and design
+            else "one number a state"
+            if kind == "states"
+            else (
+                f"{1 + design.entries} numbers, a denominator and {design.stages} times {design.inputs} inputs"
+                if design
+                else "a denominator and an input for each stage"
+            )
+        )
         return TEXTS[fault].format(entry=entry, file=name, fault=f"{line.count(',') + 1} fields" if line else "another number of fields", wanted=wanted)
     word = line.split(",")[numbers[1] - 1] if line.count(",") >= numbers[1] - 1 else ""
-    wanted = "a denominator is 1 to 1099511627776" if kind == "policy" and numbers[1] == 1 else "a whole number in decimal, of an absolute value of at most 9223372036854775807"
+    wanted = (
+        "a denominator is 1 to 1099511627776"
+        if kind == "policy" and numbers[1] == 1
+        else "a whole number in decimal, of an absolute value of at most 9223372036854775807"
+    )
     return TEXTS["number"].format(field=numbers[1], entry=entry, file=name, fault=f", `{word.strip()[:40]}`," if word else "", wanted=wanted)
 
 
@@ -243,8 +274,15 @@ def no_margin(call, corner, row, above, below):
     kind, _, stage = design.place_of_row(row)
     rule = design.stage_rows[(row - 1) % len(design.stage_rows)] if kind == "stage row" else None
     alone = stage == 0 and rule is not None and not any(rule[design.states : -1])
-    hint = ("The row holds for the state alone, and at stage 0 that is the corner itself: a smaller box, or the limit at the next state." if alone else
-            "The plan exceeds the limit." if slack < 0 else "The plan touches the limit." if slack == 0 else "The plan all but touches the limit.")
+    hint = (
+        "The row holds for the state alone, and at stage 0 that is the corner itself: a smaller box, or the limit at the next state."
+        if alone
+        else "The plan exceeds the limit."
+        if slack < 0
+        else "The plan touches the limit."
+        if slack == 0
+        else "The plan all but touches the limit."
+    )
     return TEXTS["no-margin"].format(corner=design.corner_words(corner), row=design.row_words(row), slack=shown, hint=hint)
 
 
@@ -277,15 +315,30 @@ def too_wide(call, name):
 
 def controller_lines(text):
     """What should stand in each line, as far as the second line tells the sizes."""
-    head = ["`mpc-controller 1`", "`size` and n, p, N, m", "`bits` and f, g, s, w", "`steps` and K", "`clamp` and the greatest multiplier", "`words` and n + m + 2 p N",
-            "`lo` and a number for each state", "`hi` and a number for each state, at least its `lo`"]
+    head = [
+        "`mpc-controller 1`",
+        "`size` and n, p, N, m",
+        "`bits` and f, g, s, w",
+        "`steps` and K",
+        "`clamp` and the greatest multiplier",
+        "`words` and n + m + 2 p N",
+        "`lo` and a number for each state",
+        "`hi` and a number for each state, at least its `lo`",
+    ]
     try:
         n, p, stages, rows = (int(word) for word in text.splitlines()[1].split(" ")[1:])
     except (ValueError, IndexError):
         return head
     entries = min(p * stages, 60)
-    return (head + [f"`P` and {n} numbers"] * entries + [f"`T` and {entries} numbers"] + [f"`W` and {rows} numbers"] * entries
-            + [f"`G` and {entries} numbers"] * min(rows, 252) + [f"`E` and {n} numbers"] * min(rows, 252) + [f"`b` and {rows} numbers", "`end`", "absent: nothing follows `end`"])
+    return (
+        head
+        + [f"`P` and {n} numbers"] * entries
+        + [f"`T` and {entries} numbers"]
+        + [f"`W` and {rows} numbers"] * entries
+        + [f"`G` and {entries} numbers"] * min(rows, 252)
+        + [f"`E` and {n} numbers"] * min(rows, 252)
+        + [f"`b` and {rows} numbers", "`end`", "absent: nothing follows `end`"]
+    )
 
 
 def controller_fault(call, file, fault, numbers):
@@ -352,12 +405,28 @@ def explanation(status, line, words):
 
 
 STATUSES = [
-    (1, "memory", ["memory"]), (2, "usage", ["usage"]), (3, "read-fault FILE", ["read-fault"]), (4, "write-fault FILE", ["write-fault"]), (5, "text FILE not-toml", ["not-toml"]),
-    (5, "text FILE key PLACE", ["key", "further-key"]), (5, "text FILE shape PLACE", ["shape"]), (5, "text FILE range PLACE", ["range"]), (5, "text FILE fields ENTRY", ["fields"]),
-    (5, "text FILE number ENTRY FIELD", ["number"]), (5, "text FILE count ENTRIES", ["count"]), (6, "no-margin CORNER ROW NUMERATOR DENOMINATOR", ["no-margin"]),
-    (7, "curvature", ["curvature"]), (8, "too-many-steps K", ["too-many-steps"]), (9, "too-fine E", ["too-fine"]), (10, "too-wide NAME", ["too-wide"]),
-    (11, "controller FILE line LINE", ["controller-line"]), (11, "controller FILE unsafe", ["controller-unsafe"]), (12, "outside-box ENTRY TURN COORDINATE", ["outside-box", "left-box"]),
-    (13, "long FILE", ["long"]), (14, "mismatch WORD DESIGN CONTROLLER", ["mismatch"]), (98, "", ["unbuilt"]),
+    (1, "memory", ["memory"]),
+    (2, "usage", ["usage"]),
+    (3, "read-fault FILE", ["read-fault"]),
+    (4, "write-fault FILE", ["write-fault"]),
+    (5, "text FILE not-toml", ["not-toml"]),
+    (5, "text FILE key PLACE", ["key", "further-key"]),
+    (5, "text FILE shape PLACE", ["shape"]),
+    (5, "text FILE range PLACE", ["range"]),
+    (5, "text FILE fields ENTRY", ["fields"]),
+    (5, "text FILE number ENTRY FIELD", ["number"]),
+    (5, "text FILE count ENTRIES", ["count"]),
+    (6, "no-margin CORNER ROW NUMERATOR DENOMINATOR", ["no-margin"]),
+    (7, "curvature", ["curvature"]),
+    (8, "too-many-steps K", ["too-many-steps"]),
+    (9, "too-fine E", ["too-fine"]),
+    (10, "too-wide NAME", ["too-wide"]),
+    (11, "controller FILE line LINE", ["controller-line"]),
+    (11, "controller FILE unsafe", ["controller-unsafe"]),
+    (12, "outside-box ENTRY TURN COORDINATE", ["outside-box", "left-box"]),
+    (13, "long FILE", ["long"]),
+    (14, "mismatch WORD DESIGN CONTROLLER", ["mismatch"]),
+    (98, "", ["unbuilt"]),
 ]
 
 

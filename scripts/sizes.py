@@ -92,6 +92,8 @@ def greatest_width(design, multiplier, step, steps, f, bounds):
     entry = 2**step * (sum(c * x for c, x in zip(bounds, reaches)) + bounds[n] * 2**f) + sum(bounds[n + 1 :]) * clamp
     plan = ceil(Fraction(entry, 2 ** (f + step)))
     near = lambda v: abs((2 * 2**f * v + form.row_den) // (2 * form.row_den))
-    sums = [sum(near(v) * plan for v in form.rows[i]) + sum(near(v) * x for v, x in zip(form.state_rows[i], reaches)) + 2**f * near(form.bounds[i])
-            for i in range(design.rows)]
+    sums = [
+        sum(near(v) * plan for v in form.rows[i]) + sum(near(v) * x for v, x in zip(form.state_rows[i], reaches)) + 2**f * near(form.bounds[i])
+        for i in range(design.rows)
+    ]
     return max(reaches + [entry, steps * plan] + sums + [clamp + ceil(Fraction(v, 2**f)) for v in sums])

@@ -53,8 +53,27 @@ def controller_of(text):
         word, *numbers = line.split(" ")
         lines.setdefault(word, []).append([int(n) for n in numbers])
     (states, inputs, stages, rows), (bits, grid, step, width) = lines["size"][0], lines["bits"][0]
-    return Controller(states, inputs, stages, rows, bits, grid, step, width, lines["steps"][0][0], lines["clamp"][0][0], lines["words"][0][0], lines["lo"][0],
-                      lines["hi"][0], lines["P"], lines["T"][0], lines["W"], lines["G"], lines["E"], lines["b"][0])
+    return Controller(
+        states,
+        inputs,
+        stages,
+        rows,
+        bits,
+        grid,
+        step,
+        width,
+        lines["steps"][0][0],
+        lines["clamp"][0][0],
+        lines["words"][0][0],
+        lines["lo"][0],
+        lines["hi"][0],
+        lines["P"],
+        lines["T"][0],
+        lines["W"],
+        lines["G"],
+        lines["E"],
+        lines["b"][0],
+    )
 
 
 def report_of(text):

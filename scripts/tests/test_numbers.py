@@ -53,8 +53,14 @@ class Sizes(unittest.TestCase):
         self.assertEqual(sizes.errors_of(design_of(AXIS), 159)[1](28), 699629521553)
 
     def test_curvature_size_of_a_fine_plant(self):
-        design = design_of(FIRST.replace("stages = 1", "stages = 2").replace("[plant]\nden = 1\na = [[1]]\nb = [[1]]", "[plant]\nden = 1048576\na = [[1048576]]\nb = [[1048576]]")
-                           .replace("den = 4\nstage = [[0, 4, 4], [0, -4, 4]]\nfinal = [[4, 1]]", "den = 131072\nstage = [[0, 131072, 131072], [0, -131072, 131072]]\nfinal = [[131072, 32768]]"))
+        design = design_of(
+            FIRST.replace("stages = 1", "stages = 2")
+            .replace("[plant]\nden = 1\na = [[1]]\nb = [[1]]", "[plant]\nden = 1048576\na = [[1048576]]\nb = [[1048576]]")
+            .replace(
+                "den = 4\nstage = [[0, 4, 4], [0, -4, 4]]\nfinal = [[4, 1]]",
+                "den = 131072\nstage = [[0, 131072, 131072], [0, -131072, 131072]]\nfinal = [[131072, 32768]]",
+            )
+        )
         self.assertGreater(sizes.form_sizes(design, 8192, 1, 8)["curvature"], sizes.LIMIT)
 
     def test_width_covers_the_first_controller(self):
@@ -93,12 +99,16 @@ class Machine(unittest.TestCase):
 
 class Texts(unittest.TestCase):
     def test_kinds(self):
-        self.assertEqual([kind_of(t) for t in (FIRST, FIRST_POLICY, FIRST_CONTROLLER, FIRST_REPORT, "4096 -2224\n", '{"bits":"10"}\n', "# a comment\n" + FIRST)],
-                         ["design", "policy", "controller", "report", "lines", "report", "design"])
+        self.assertEqual(
+            [kind_of(t) for t in (FIRST, FIRST_POLICY, FIRST_CONTROLLER, FIRST_REPORT, "4096 -2224\n", '{"bits":"10"}\n', "# a comment\n" + FIRST)],
+            ["design", "policy", "controller", "report", "lines", "report", "design"],
+        )
 
     def test_report_as_json(self):
-        text = ('{"bits":"10","cost":"1","gap":"804534616064","margin":"8192","multiplier":"8","step":"1","steps":"4","undercut":"71173278793728","version":"1",'
-                '"violation":"8896659849216","width":"26","words":"6"}\n')
+        text = (
+            '{"bits":"10","cost":"1","gap":"804534616064","margin":"8192","multiplier":"8","step":"1","steps":"4","undercut":"71173278793728","version":"1",'
+            '"violation":"8896659849216","width":"26","words":"6"}\n'
+        )
         self.assertEqual(report_of(text), report_of(FIRST_REPORT))
 
     def test_design_text_is_read_as_written(self):
@@ -119,7 +129,9 @@ class Texts(unittest.TestCase):
             loop_lines_of("1 1 1 4096 -2224\n", 2, 1, 0)
 
     def test_plain(self):
-        self.assertEqual([plain(v) for v in (0, 1, 16.0118, -0.00012346, 123456, 1e9, Fraction(1, 8))], ["0", "1", "16.01", "-0.0001235", "123456", "1e+09", "0.125"])
+        self.assertEqual(
+            [plain(v) for v in (0, 1, 16.0118, -0.00012346, 123456, 1e9, Fraction(1, 8))], ["0", "1", "16.01", "-0.0001235", "123456", "1e+09", "0.125"]
+        )
 
 
 class Explain(unittest.TestCase):
@@ -151,6 +163,11 @@ class Explain(unittest.TestCase):
 
     def test_loop_line(self):
         self.assertEqual(self.told(design=FIRST, lines="1 1 1 4096 -2224\n"), "start 1, turn 1: x1 1; u1 -0.543")
+
+    def test_exceeded_limit(self):
+        design = "# stage row 1: force above, 1 is 3 N\n" + FIRST
+        self.assertEqual(self.told(design=design, lines="1 1 1 4096 6144\n"), "start 1, turn 1: x1 1; u1 1.5; force above is exceeded by 1.5 N")
+        self.assertEqual(self.told(design=design, lines="4096 6144\n"), "stage 0: u1 1.5; force above is exceeded by 1.5 N")
 
     def test_line_of_another_design(self):
         self.assertIn("no line of this design", self.told(design=AXIS, lines="4096 -2224\n"))

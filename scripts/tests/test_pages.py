@@ -10,7 +10,9 @@ PAGE = "Text\n\n    ./one a && ./two b\n\nprints\n\n    first\n      second\n\nT
 
 class Pages(unittest.TestCase):
     def test_commands(self):
-        self.assertEqual(list(pages.commands_of(PAGE)), [("./one a && ./two b", ["first", "  second"]), ("./three\n./four", []), ("./scripts/five", ["version = 1"])])
+        self.assertEqual(
+            list(pages.commands_of(PAGE)), [("./one a && ./two b", ["first", "  second"]), ("./three\n./four", []), ("./scripts/five", ["version = 1"])]
+        )
 
     def wrong(self, printed, lacking=()):
         with contextlib.redirect_stdout(io.StringIO()):

@@ -47,7 +47,10 @@ class Explained(unittest.TestCase):
         self.assertIn("`4294967296` is no number", self.words("error 2 usage", "demo", "4294967296"))
 
     def test_file_not_there(self):
-        self.assertIn("the policy file nowhere could not be read: there is no such file", self.words("error 3 read-fault 2", "generate", "d", "nowhere", "c", "r", d=FIRST))
+        self.assertIn(
+            "the policy file nowhere could not be read: there is no such file",
+            self.words("error 3 read-fault 2", "generate", "d", "nowhere", "c", "r", d=FIRST),
+        )
 
     def test_file_is_a_folder(self):
         self.assertIn("it is a folder", self.words("error 3 read-fault 1", "solve", TOP, "s"))
@@ -239,14 +242,21 @@ class Launcher(unittest.TestCase):
         with open(os.path.join(folder, "crates.txt"), "w") as file:
             file.write("low:\nmpc_cli: low\n")
         with open(os.path.join(folder, "bin", "rt"), "w") as file:
-            file.write("""#!/bin/bash
+            file.write(
+                """#!/bin/bash
 if [ "$1" = all ]; then
     sleep 1; mkdir -p crates/low/out/incremental; sleep 6; echo "== low"; echo "logic=proved functions=1"; sleep 6; exit
 fi
 echo "== mpc_cli"; echo "logic=proved functions=1"; printf '#!/bin/bash\\necho built\\n' > out/mpc_cli; chmod +x out/mpc_cli
-""")
+"""
+            )
         os.chmod(os.path.join(folder, "bin", "rt"), 0o755)
-        got = subprocess.run([os.path.join(folder, "mpc"), "solve"], capture_output=True, text=True, env=os.environ | {"PATH": os.path.join(folder, "bin") + ":" + os.environ["PATH"]})
+        got = subprocess.run(
+            [os.path.join(folder, "mpc"), "solve"],
+            capture_output=True,
+            text=True,
+            env=os.environ | {"PATH": os.path.join(folder, "bin") + ":" + os.environ["PATH"]},
+        )
         self.assertEqual((got.returncode, got.stdout), (0, "built\n"))
         self.assertIn("mpc: 0 of 2 crates are proved; low\n", got.stderr)
         self.assertIn("mpc: 1 of 2 crates are proved\n", got.stderr)

@@ -99,7 +99,9 @@ gap = 16
 """
 AXIS_POLICY = "1,0,0,0,0,0\n" * 4
 # an axis over ten stages with denominators of 2^16, whose `prediction` passes the limit
-FINE_AXIS = (AXIS.replace("stages = 5", "stages = 10").replace("den = 8\na = [[8, 4], [0, 8]]\nb = [[1], [4]]", "den = 65536\na = [[65536, 32768], [0, 65536]]\nb = [[8192], [32768]]"))
+FINE_AXIS = AXIS.replace("stages = 5", "stages = 10").replace(
+    "den = 8\na = [[8, 4], [0, 8]]\nb = [[1], [4]]", "den = 65536\na = [[65536, 32768], [0, 65536]]\nb = [[8192], [32768]]"
+)
 FINE_AXIS_POLICY = "1" + ",0" * 10 + "\n"
 
 
