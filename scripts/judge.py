@@ -3,11 +3,15 @@
 
     scripts/judge.py DESIGN CONTROLLER [--states N] [--seed N]
 
-It runs the controller (scripts/machine.py, in whole numbers) at every corner of the box and at N random grid states of it (96), and the exact problem (cvxopt) beside
-each. The report's bounds hold at every state; what is measured is mostly far below.
+`./mpc solve` runs the controller at every corner of the box and at N random grid states of it (96); the exact problem (cvxopt) stands beside each. The report's bounds
+hold at every state; what is measured is mostly far below.
 """
 import argparse
+import os
 import random
+import subprocess
+import sys
+import tempfile
 from fractions import Fraction
 
 from libraries import need, run
@@ -15,9 +19,7 @@ from libraries import need, run
 need("numpy", "cvxopt")
 from corners import slacks_of
 from design_text import plain, read_design
-from machine import Machine
 from programs import Programs
-from texts import controller_of, read_text
 
 
 def chosen(design, count, seed):
@@ -27,12 +29,25 @@ def chosen(design, count, seed):
     return corners + [[draw.randint(l, h) for l, h in zip(design.lo, design.hi)] for _ in range(count)]
 
 
-def judge(design, controller, states):
+def solved(controller, states):
+    """The lines that the program prints for these states."""
+    launcher = os.path.join(os.path.dirname(os.path.dirname(os.path.abspath(__file__))), "mpc")
+    with tempfile.NamedTemporaryFile("w", suffix=".csv") as file:
+        file.write("".join(",".join(map(str, state)) + "\n" for state in states))
+        file.flush()
+        got = subprocess.run([launcher, "solve", controller, file.name], stdout=subprocess.PIPE, text=True)
+    if got.returncode:
+        sys.exit(got.returncode)
+    return got.stdout.splitlines()
+
+
+def judge(design, states, lines):
     """For each state whose problem has a plan: the greatest excess of a row with its row, the controller's cost over the best, and whether a limit binds."""
-    programs, machine, out = Programs(design), Machine(controller), []
-    for grid_state in states:
+    programs, out = Programs(design), []
+    for grid_state, line in zip(states, lines):
         state = [Fraction(v, 2**design.grid) for v in grid_state]
-        plan = [Fraction(v, machine.denominator) for v in machine.run(grid_state)]
+        scale, *sums = map(int, line.split())
+        plan = [Fraction(v, scale) for v in sums]
         best = programs.best([float(v) for v in state])
         if best is None:
             continue
@@ -51,7 +66,8 @@ def main():
     parser.add_argument("--seed", type=int, default=1)
     given = parser.parse_args()
     design = read_design(given.design)
-    found = judge(design, controller_of(read_text(given.controller)), chosen(design, given.states, given.seed))
+    states = chosen(design, given.states, given.seed)
+    found = judge(design, states, solved(given.controller, states))
     excess, row, _, _ = max(found)
     kind, number, _ = design.place_of_row(row)
     print(f"at {len(found)} states, at {sum(f[3] for f in found)} of which a limit binds:")

@@ -9,7 +9,7 @@ import unittest
 import xml.dom.minidom
 
 from libraries import PACKAGES, missing
-from tests.worked import AXIS, AXIS_POLICY, EXAMPLES, FIRST, FIRST_CONTROLLER, TOP, folder_with
+from tests.worked import AXIS, AXIS_POLICY, EXAMPLES, FIRST, TOP, folder_with
 
 LACKING = missing(*PACKAGES)
 if not LACKING:
@@ -25,7 +25,7 @@ if not LACKING:
     import programs
     from corners import corners_of, margin_of
     from design_text import design_of, read_design
-    from texts import controller_of, loop_lines_of, records_of
+    from texts import loop_lines_of, records_of
 
 DOUBLE = "period = 0.5\nstages = 5\na = [[0.0, 1.0], [0.0, 0.0]]\nb = [[0.0], [1.0]]\n"
 
@@ -125,7 +125,7 @@ class Drafts(unittest.TestCase):
             self.assertLessEqual(max(programs.reach_of(self.design(name))), 1)
 
     def test_judge_of_the_first(self):
-        found = judge.judge(design_of(FIRST), controller_of(FIRST_CONTROLLER), [[0], [1]])
+        found = judge.judge(design_of(FIRST), [[0], [1]], ["4096 0", "4096 -2224"])
         self.assertEqual(float(max(found)[0]), 1 - 2224 / 4096 - 0.25)
 
     def drawn(self, lines):
@@ -161,7 +161,7 @@ class Libraries(unittest.TestCase):
     def test_every_script_has_help(self):
         import subprocess
 
-        for name in ("refusals", "machine"):
+        for name in ("refusals", "pages"):
             got = subprocess.run([sys.executable, os.path.join(TOP, "scripts", name + ".py"), "--help"], capture_output=True, text=True)
             self.assertEqual((got.returncode, f"scripts/{name}.py" in got.stdout), (0, True))
 

@@ -3,13 +3,12 @@ import os
 import unittest
 from fractions import Fraction
 
-import machine
 import sizes
 from condensed import condense, curvature
 from corners import corners_of, margin_of, multiplier_of, slacks_of, steps_of
 from design_text import design_of, plain, read_design, text_of
 from explain import explain
-from texts import controller_of, kind_of, loop_lines_of, records_of, report_of
+from texts import kind_of, loop_lines_of, records_of, report_of
 from tests.worked import AXIS, AXIS_POLICY, EXAMPLES, FINE_AXIS, FINE_AXIS_POLICY, FIRST, FIRST_CONTROLLER, FIRST_POLICY, FIRST_REPORT
 
 
@@ -67,34 +66,6 @@ class Sizes(unittest.TestCase):
         design = design_of(FIRST)
         _, bounds = sizes.gain_bounds(design, 10)
         self.assertGreaterEqual(sizes.greatest_width(design, 8, 1, 4, 10, bounds), 26214400)
-
-
-class Machine(unittest.TestCase):
-    def loop(self, design, turns, states="1"):
-        return list(machine.loop_lines(design_of(design), controller_of(FIRST_CONTROLLER), records_of(states), turns))
-
-    def test_solve(self):
-        self.assertEqual(list(machine.solve_lines(controller_of(FIRST_CONTROLLER), [[1], [0]])), ["4096 -2224", "4096 0"])
-
-    def test_loop(self):
-        self.assertEqual(self.loop(FIRST, 3), ["1 1 1 4096 -2224", "1 2 0 4096 0", "1 3 0 4096 0"])
-
-    def test_no_turns(self):
-        self.assertEqual(self.loop(FIRST, 0), [])
-
-    def test_loop_leaves_the_box(self):
-        with self.assertRaises(machine.OutsideBox) as raised:
-            self.loop(FIRST.replace("a = [[1]]", "a = [[3]]"), 5)
-        self.assertEqual(raised.exception.args, (1, 2, 1))
-
-    def test_state_outside(self):
-        with self.assertRaises(machine.OutsideBox) as raised:
-            list(machine.solve_lines(controller_of(FIRST_CONTROLLER), [[1], [2]]))
-        self.assertEqual(raised.exception.args, (2, 0, 1))
-
-    def test_ties_upward(self):
-        self.assertEqual(machine.next_state(design_of(FIRST), [0], [-1], 2), [0])
-        self.assertEqual(machine.next_state(design_of(FIRST), [0], [1], 2), [1])
 
 
 class Texts(unittest.TestCase):
