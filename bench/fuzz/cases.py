@@ -110,10 +110,10 @@ def random_design(pick):
     some = lambda count, reach: [pick.randrange(-reach, reach + 1) for _ in range(count)]
     grid = pick.choice([0, 0, 1, 4, 12, 24])
     side = pick.choice([0, 1, 1, 2]) << grid
-    limit_den = pick.choice([1, 1, 2, 4, 100, 1048576])
+    limit_den = pick.choice([1, 1, 2, 4, 100, 65536, 1048576])
     v = {"n": n, "p": p, "stages": stages, "den": den, "a": [some(n, max(1, den // n)) for _ in range(n)], "b": [some(p, 2 * den) for _ in range(n)],
          "cost_den": pick.choice([1, 1, 1, 8, 256, 1048576]), "row_den": pick.choice([1, 1, 2, 16]), "input": [pick.randrange(1, 9) * large for _ in range(p)]}
-    cost = lambda: [*some(n, 3), pick.choice([0, 0, 1, -2]), pick.randrange(0, 5) * large]
+    cost = lambda: [*some(n, 3), pick.choice([0, 0, 1, -2, -large]), pick.randrange(0, 5) * large]
     reach = lambda row: sum(map(abs, row)) * max(1, side >> grid) + pick.choice([0, 1, 1, 2, limit_den, limit_den, 3 * limit_den])
     stage_row = lambda: (lambda sigma, phi: [*sigma, *phi, reach(sigma)])(some(n, pick.choice([0, 1, 3, limit_den])), some(p, pick.choice([1, 2, limit_den])))
     final_row = lambda: (lambda sigma: [*sigma, reach(sigma)])(some(n, pick.choice([1, 3, limit_den])))
@@ -123,6 +123,27 @@ def random_design(pick):
           "target_den": pick.choice([1, 1, 4, 65536, 1048576]), "violation": pick.choice([1, 16, 1000, 10**6, 2**31 - 1]), "gap": pick.choice([1, 1, 100, 2**20, 2**31 - 1])}
     plan = pick.choice([0, 0, 0, 1, -1])
     policy = "".join(",".join([str(pick.choice([1, 1, 8, 1000, 2**40])), *[str(plan)] * (p * stages)]) + "\n" for _ in range(2**n))
+    return design_text(v), policy.encode()
+
+
+def large_design(pick):
+    """A design whose numbers are of any magnitude, so that each quantity comes near its limit now and then. The corners mostly stand within the limits."""
+    n, p, stages = pick.choice([1, 1, 1, 2, 3]), pick.choice([1, 1, 2]), pick.choice([1, 1, 1, 2, 3, 5, 9])
+    power = lambda most: min(2**most, (1 << pick.randrange(most + 1)) + pick.choice([0, 0, 0, 1, -1]) or 1)
+    top = 2**31 - 1
+    den, limit_den, grid = power(20), power(20), pick.choice([0, 0, 0, 0, 3, 24])
+    plant = pick.choice([den, den, min(top, power(30))])
+    number = lambda reach: pick.choice([-1, 1, 1]) * min(top, max(1, reach))
+    v = {"n": n, "p": p, "stages": stages, "den": den, "a": [[number(plant) if i == j else 0 for j in range(n)] for i in range(n)],
+         "b": [[number(pick.choice([plant, 1, power(30)])) for _ in range(p)] for _ in range(n)], "cost_den": power(20), "row_den": power(20),
+         "input": [min(top, power(31)) for _ in range(p)], "final_cost": []}
+    side = pick.choice([0, 0, 1]) << grid
+    cost = lambda: [*[pick.choice([0, 1, power(20)]) for _ in range(n)], pick.choice([0, 0, power(30)]), min(top, power(31))]
+    v |= {"cost": [cost() for _ in range(pick.choice([0, 1, 1, 3]))], "limit_den": limit_den, "grid": grid, "lo": [0] * n, "hi": [side] * n}
+    phi = lambda: [pick.choice([0, number(limit_den), number(power(31))]) for _ in range(p)]
+    v |= {"rows": [[*[0] * n, *phi(), min(top, power(31))] for _ in range(pick.choice([1, 1, 2, 12]))], "final_rows": [],
+          "target_den": power(20), "violation": min(top, power(31)), "gap": min(top, power(31))}
+    policy = "".join(",".join(["1", *["0"] * (p * stages)]) + "\n" for _ in range(2**n))
     return design_text(v), policy.encode()
 
 
@@ -137,8 +158,10 @@ def design_and_policy(pick, base):
     how = pick.random()
     if how < 0.45:
         design, policy = pick.choice(base)
-    elif how < 0.6:
+    elif how < 0.55:
         design, policy, _ = program.make(pick.randrange(2**32), pick.choice([1, 1, 2]))
+    elif how < 0.7:
+        return large_design(pick)
     else:
         design, policy = random_design(pick)
         if pick.random() < 0.6:
@@ -185,7 +208,7 @@ def random_controller(pick):
     c = control.Controller(n, p, stages, m, f, g, s, 128, pick.choice([1, 1, 2, 3, 5, 9]), clamp, lo, hi, matrix(nu, n), [number() for _ in range(nu)], matrix(nu, m),
                            matrix(m, nu), matrix(m, n), [number() for _ in range(m)])
     any_number = lambda: pick.choice([-(2**127), 2**127 - 1, pick.randrange(-(2**127), 2**127)])
-    kind = pick.choice(["plain", "plain", "near", "idle"])
+    kind = pick.choice(["plain", "plain", "near", "near", "idle"])
     if kind == "idle":
         make_idle(pick, c, any_number)
     if kind == "near":
@@ -245,3 +268,17 @@ def states_text(pick, c, most=4):
             rows.append([pick.choice([low - 1, low, high, high + 1]) for low, high in zip(c.lo, c.hi)])
     end = pick.choice([b"\n", b"\n", b"\n", b"\r\n", b"\n\n"])
     return end.join(",".join(map(str, row)).encode() for row in rows) + pick.choice([end, b""] if rows else [b""])
+
+
+def design_beside(pick, c):
+    """A design of any plant with a controller's sizes and grid, or one of them another."""
+    n, p, g = c.n, c.p, c.g
+    if pick.random() < 0.15:
+        n, p, g = pick.choice([(n % 4 + 1, p, g), (n, p % 3 + 1, g), (n, p, pick.choice([0, 1, 24])), (n % 4 + 1, p % 3 + 1, g + 1 if g < 24 else 0)])
+    is_wide = control.greatest_sum(c) > 2**92
+    reach = 2**31 - 1 if is_wide and pick.random() < 0.8 else pick.choice([1, 2, 9, 1000, 2**31 - 1])
+    some = lambda count: [pick.randrange(-reach, reach + 1) for _ in range(count)]
+    v = {"n": n, "p": p, "stages": pick.randrange(1, 21), "den": pick.choice([1, 2, 3, 7, 1000, 1048575, 1048576]), "a": [some(n) for _ in range(n)],
+         "b": [some(p) for _ in range(n)], "cost_den": 1, "row_den": 1, "input": [1] * p, "cost": [], "final_cost": [], "limit_den": 1, "rows": [[0] * (n + p) + [1]],
+         "final_rows": [], "grid": g, "lo": [0] * n, "hi": [0] * n, "target_den": 1, "violation": 1, "gap": 1}
+    return design_text(v)

@@ -62,7 +62,7 @@ class Maker:
     def rename(self, pick, made):
         """Gives a command another name for one of its files: a missing one, a folder, none, one in a folder that isn't there, or that of another file."""
         at = pick.randrange(1, len(made.words))
-        made.words[at] = pick.choice(["missing", ".", "", "no/file", pick.choice(made.words), "./" + pick.choice(made.words[1:])])
+        made.words[at] = pick.choice(["missing", ".", "", "no/file", pick.choice(made.words), "./" + pick.choice(made.words[1:3])])
 
     def generate(self, pick):
         design, policy = cases.design_and_policy(pick, self.designs)
@@ -90,8 +90,12 @@ class Maker:
     def loop(self, pick):
         design, text = pick.choice(self.controllers)
         c = control.read_controller(text)
-        if pick.random() < 0.15:
+        how = pick.random()
+        if how < 0.1:
             text = pick.choice(self.controllers)[1]
+        elif how < 0.4:
+            c = cases.random_controller(pick)[1]
+            design, text = cases.design_beside(pick, c), control.text_of(c)
         states = cases.states_text(pick, c, 3)
         turns = str(pick.choice([0, 1, 2, 3, 5, 9, 40]))
         how = pick.random()
