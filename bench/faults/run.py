@@ -29,6 +29,8 @@ import program as model_program
 
 EXAMPLES = os.path.join(HERE, "..", "..", "examples")
 MEMORY = b"error 1 memory\n"
+# of each group, so many faults are told
+SHOWN = 20
 OLD = {"c": b"an old controller\n", "r": b"an old report\n", "r.json": b"an old report\n"}
 
 
@@ -174,7 +176,8 @@ def memory(options, library):
                     counts[kind] += 1
                     if fault:
                         wrong += 1
-                        print(f"  request {at}{' and later' if refuses_all else ''} refused: {fault}")
+                        if wrong <= SHOWN:
+                            print(f"  request {at}{' and later' if refuses_all else ''} refused: {fault}")
             ran, left, _, refused, _ = refused_run(command, library, asked + 1, refuses_all)
             if refused or judged(command, ran, left, refuses_all)[0] != "the right answer all the same":
                 wrong += 1
@@ -208,7 +211,8 @@ class Checks:
         self.count += 1
         if not holds:
             self.wrong += 1
-            print(f"  {what}: {told}")
+            if self.wrong <= SHOWN:
+                print(f"  {what}: {told}")
 
     def ended(self, what, ran, status, line):
         self.expect(what, ran.returncode == status and ran.stderr == line, f"status {ran.returncode} {ran.stderr[:200]}, not {status} {line}")
@@ -245,7 +249,7 @@ def solve_what_is_left(checks, what, command, folder):
 def files(options, _):
     checks = Checks()
     given = list(commands(options.program))
-    text, json, _, axis, *_ = given
+    text, json, *_ = given
     for command in (text, json):
         command.learn()
         for size in range(max(map(len, command.made.values())) + 2):
@@ -257,8 +261,9 @@ def files(options, _):
                 if ran.returncode == 4 and command is text:
                     solve_what_is_left(checks, f"{what}, then solve", command, folder)
     print(f"a limit on a file's size: {checks.count} checks, {checks.wrong} wrong", flush=True)
-    axis.learn()
-    full_disk(checks, axis)
+    large = Command(options.program, "generate, six stages", text.words, dict(zip("dp", model_program.make(7, 6))))
+    large.learn()
+    full_disk(checks, large)
     where = {"/dev/full": (4, 3), "no/c": (4, 3), ".": (4, 3), "": (4, 3)}
     for name, (status, file) in where.items():
         for at in (3, 4):

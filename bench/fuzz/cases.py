@@ -41,6 +41,20 @@ def number_changed(pick, data, most=None):
     return data[: it.start()] + str(new).encode() + data[it.end() :]
 
 
+def spelling_changed(pick, data):
+    """One of the text's numbers is spelled in another way, which may or may not be one that is read."""
+    found = list(re.finditer(rb"-?[0-9]+", data))
+    if not found:
+        return data
+    it = pick.choice(found)
+    sign, digits = (b"-", it[0][1:]) if it[0].startswith(b"-") else (b"", it[0])
+    zeros = b"0" * (pick.choice([19, 19, 20, 20, 21, 39, 40]) - len(digits))
+    new = pick.choice([sign + b"0" + digits, sign + zeros + digits, sign + zeros + digits, b" " + it[0], it[0] + b"  ", b"\t" + it[0], it[0] + b"\t", sign + b" " + digits, b"+" + digits,
+                       b"-" + it[0], b"--" + digits, b'"' + it[0] + b'"', b'" ' + it[0] + b'"', b'"' + it[0] + b'" ', b"'" + it[0] + b"'", sign + b"0x" + digits, it[0] + b".0", it[0] + b"e0",
+                       sign + digits[:1] + b"_" + digits[1:], b"-0", b"00", b"", b" ", b"\xc2\xa0" + it[0], it[0] + b"\x00", b"\xd9\xa1"])
+    return data[: it.start()] + new + data[it.end() :]
+
+
 def line_changed(pick, data):
     lines = data.split(b"\n")
     at, other = pick.randrange(len(lines)), pick.randrange(len(lines))
@@ -60,10 +74,12 @@ def changed(pick, data):
     how = pick.random()
     if how < 0.15:
         return data
-    if how < 0.6:
+    if how < 0.45:
         for _ in range(pick.choice([1, 1, 2])):
             data = number_changed(pick, data)
         return data
+    if how < 0.65:
+        return spelling_changed(pick, data)
     return bytes_changed(pick, data) if how < 0.9 else line_changed(pick, data)
 
 

@@ -133,7 +133,7 @@ def longest_chain(crates, seconds):
 
 
 def table(crates, said, wall, total):
-    spent, memory, others, edits, lost = collections.Counter(), collections.Counter(), collections.Counter(), collections.Counter(), 0
+    spent, memory, others, lost = collections.Counter(), collections.Counter(), collections.Counter(), 0
     for it in RUNS:
         if it.seconds is None:
             lost += 1
@@ -144,8 +144,7 @@ def table(crates, said, wall, total):
             continue
         spent[crate, part] += it.seconds
         memory[crate, part] = max(memory[crate, part], it.memory)
-        edits[crate] += part == "edits"
-    # a crate's edits are tried over one check of the crate itself, which is none of them
+    # besides its edits a crate is checked as it stands, over what they proved, which counts with them
     named = collections.Counter(re.findall(r"^rt: must-fail (\w+)/", said, re.M))
     cell = lambda crate, part: f"{spent[crate, part]:.0f} | {memory[crate, part] / 2**20:.0f}" if spent[crate, part] else " | "
     print("\n| Crate | Proof, s | MB | Tests, s | MB | Edits | s | MB | Together, s |\n|---|--:|--:|--:|--:|--:|--:|--:|--:|")
