@@ -1,0 +1,90 @@
+#!/usr/bin/env python3
+"""Samples a continuous model and rounds it to whole numerators over a denominator, and says what rounding does.
+
+    scripts/discretise.py MODEL [--den D ..]
+
+For each denominator (8 to 1024 where none is given) it prints the greatest row sum of |a| + |b| over den, the poles before and after, and by how much the step
+responses of the stages are off; and it warns of each coupling that is rounded to 0. With one denominator, given or named by the model, it prints the plant table
+of the design. How a model is written: scripts/draft.py --help.
+"""
+import argparse
+import sys
+
+from libraries import need
+
+need("numpy", "scipy")
+import numpy
+
+from design_text import plain
+from models import read_model
+
+
+def rounded(a, b, den):
+    """The numerators over den."""
+    return numpy.rint(a * den).astype(int), numpy.rint(b * den).astype(int)
+
+
+def lost(a, b, den):
+    """The couplings that are rounded to 0, as words."""
+    out = []
+    for word, exact, whole in zip("ab", (a, b), rounded(a, b, den)):
+        for (i, j), v in numpy.ndenumerate(exact):
+            if whole[i, j] == 0 and abs(v) > max(1e-9, 1e-3 * abs(exact).max()):
+                out.append(f"{word}[{i + 1}][{j + 1}] = {plain(v)}")
+    return out
+
+
+def step_responses(a, b, stages):
+    state, out = numpy.zeros(b.shape), []
+    for _ in range(stages):
+        state = a @ state + b
+        out.append(state)
+    return numpy.array(out)
+
+
+def response_error(a, b, den, stages):
+    """By how much the step responses are off, as a part of each state's greatest."""
+    whole_a, whole_b = rounded(a, b, den)
+    exact, other = step_responses(a, b, stages), step_responses(whole_a / den, whole_b / den, stages)
+    return float((abs(exact - other).max((0, 2)) / (abs(exact).max((0, 2)) + 1e-12)).max())
+
+
+def row_sum(a, b, den):
+    """The greatest row sum of |a| + |b|, of numerators."""
+    whole_a, whole_b = rounded(a, b, den)
+    return int((abs(whole_a).sum(1) + abs(whole_b).sum(1)).max())
+
+
+def poles(a):
+    return ", ".join(plain(v.real) if abs(v.imag) < 1e-9 else f"{plain(v.real)}{'+' if v.imag > 0 else '-'}{plain(abs(v.imag))}j"
+                     for v in sorted(numpy.linalg.eigvals(a), key=lambda v: (-abs(v), v.imag)))
+
+
+def tell(model, den):
+    a, b = model.scaled()
+    sum_, stages = row_sum(a, b, den), model.stages
+    print(f"den {den}: row sums up to {sum_}/{den}, {stages} stages of it pass {plain(numpy.log2(max(sum_, den)) * stages)} bits of 126; "
+          f"step responses off by {plain(100 * response_error(a, b, den, stages))} %")
+    print(f"  poles {poles(a)} -> {poles(rounded(a, b, den)[0] / den)}")
+    for word in lost(a, b, den):
+        print(f"  warning: {word} is rounded to 0: a finer denominator or other units are needed")
+
+
+def main():
+    parser = argparse.ArgumentParser(description=__doc__, formatter_class=argparse.RawDescriptionHelpFormatter)
+    parser.add_argument("model")
+    parser.add_argument("--den", type=int, nargs="+")
+    given = parser.parse_args()
+    model = read_model(given.model)
+    dens = given.den or ([model.den] if model.den else [2**k for k in range(3, 11)])
+    print("units of states", ", ".join(map(plain, model.state_units)) + "; of inputs", ", ".join(map(plain, model.input_units)))
+    for den in dens:
+        tell(model, den)
+    if len(dens) == 1:
+        whole_a, whole_b = rounded(*model.scaled(), dens[0])
+        print(f"\n[plant]\nden = {dens[0]}\na = {whole_a.tolist()}\nb = {whole_b.tolist()}")
+    return 0
+
+
+if __name__ == "__main__":
+    sys.exit(main())

@@ -1,0 +1,190 @@
+#!/usr/bin/env python3
+"""Says what a report, a controller, a design with its policy, or the lines of `solve` and `loop` hold, in decimals and in the design's units.
+
+    ./mpc explain FILE [DESIGN] [POLICY] [CONTROLLER] [REPORT] [--clock MHZ] [--cycles N]
+
+The files come in any order; each is known by what it holds. FILE alone will do, and each further one adds what follows from it:
+
+    a report          every bound in decimals, and K = 2^(s+2) R over the violation target
+    with a controller the products of a run and its time at a clock (100 MHz, one cycle a product), and the bits of gains, multipliers and plan
+    with a design     bounds in the units that its comments name, and the sizes in bits of 126
+    with its policy   where R comes from: the corner and row of the least slack, the corner of the greatest cost, the step against the curvature
+    lines             each number as a decimal; with a design, by name and unit
+
+It computes anew, in Python, what it says of a design and a policy, and changes nothing; the program's report is what counts.
+"""
+import argparse
+import signal
+import sys
+from fractions import Fraction
+
+import sizes
+from condensed import condense, curvature
+from corners import corners_of, half_target, margin_of, multiplier_of, steps_of
+from design_text import design_of, plain
+from texts import controller_of, kind_of, read_text, records_of, report_of
+
+
+def bits_of(numbers):
+    """The bits of a signed word that holds each of these."""
+    return max((v if v >= 0 else -v - 1).bit_length() + 1 for v in numbers)
+
+
+def flat(rows):
+    return [v for row in rows for v in row]
+
+
+def report_words(report, design):
+    """A report's lines in decimals."""
+    yield f"every run takes K = {report['steps']} steps, a step is 2^-{report['step']}, plans and gains have f = {report['bits']} fraction bits"
+    yield f"no product and no partial sum leaves a signed word of {report['width']} bits; {report['words']} words hold all that changes"
+    yield (f"R = {report['multiplier']}: the greatest cost {report['cost']} over the least slack {plain(report['margin'])}, rounded up")
+    if design is None:
+        yield f"a limit is exceeded by at most {plain(report['violation'])}, in the unit of its row"
+    else:
+        for number in range(1, len(design.stage_rows) + 1):
+            yield violation_words(report, design, "stage row", number)
+        for number in range(1, len(design.final_rows) + 1):
+            yield violation_words(report, design, "final row", number)
+    part = f", {plain(100 * report['gap'] / report['cost'])} % of the corners' greatest cost" if report["cost"] else ""
+    yield f"the plan costs at most {plain(report['gap'])} more than any feasible plan{part}"
+    yield f"and some feasible plan costs at most {plain(report['undercut'])} more than it (R times the violation, loose)"
+
+
+def violation_words(report, design, kind, number):
+    name = design.name(kind, number)
+    word = f"{kind} {number} ({name.word})" if (kind, number) in design.names else f"{kind} {number}"
+    return f"{word} is exceeded by at most {name.shown(report['violation'])}, at any state of the box"
+
+
+def cost_words(controller, period, clock, cycles):
+    """What a run costs."""
+    c = controller
+    plain_step = c.entries * (c.states + c.rows) + c.rows * (c.entries + c.states)
+    gains = c.entries * c.rows * 2
+    used = sum(v != 0 for v in flat(c.W) + flat(c.G))
+    yield f"a step has {plain_step} products as the machine is written; {gains} where the state's share is made once a run; {used} of these are not with 0"
+    run = used * c.steps
+    time = run * cycles / (clock * 1e6)
+    share = f", {plain(100 * time / period)} % of a stage of {plain(period)} s" if period else ""
+    yield f"a run has {run} products ({gains * c.steps}; {plain_step * c.steps}): {plain(time * 1e3)} ms at {plain(clock)} MHz and {plain(cycles)} cycles a product{share}"
+    multiplier, plan = bits_of([c.clamp]), plan_bits(c)
+    yield (f"signed words: gains W {bits_of(flat(c.W))} bits, P {bits_of(flat(c.P))}, rows G {bits_of(flat(c.G))}, E {bits_of(flat(c.E))}, multipliers {multiplier}, "
+           f"plan {plan}")
+    factors = max(bits_of(flat(c.W) + flat(c.G)), multiplier, plan)
+    if factors <= 32 and c.width <= 64:
+        yield f"each product is of two 32-bit factors and each sum fits 64 bits (width {c.width}): one multiply-accumulate"
+    else:
+        yield f"32-bit factors and 64-bit sums do not serve: the greatest factor has {factors} bits, the greatest sum {c.width}"
+
+
+def plan_bits(c):
+    """The bits of the greatest plan entry that the gains allow over the box."""
+    reach = [max(abs(l), abs(h)) * 2 ** (c.bits - c.grid) for l, h in zip(c.lo, c.hi)]
+    entry = lambda j: 2**c.step * (sum(abs(g) * x for g, x in zip(c.P[j], reach)) + abs(c.T[j]) * 2**c.bits) + sum(map(abs, c.W[j])) * c.clamp
+    return bits_of([-((-entry(j)) >> (c.bits + c.step)) for j in range(c.entries)])
+
+
+def bound_words(design, policy, report):
+    """Where R, the step and K come from."""
+    corners = corners_of(design, policy)
+    margin, cost = margin_of(corners)
+    for corner in corners:
+        slack, row = corner.least
+        yield f"{design.corner_words(corner.number)}: cost {plain(corner.cost)}, least slack {plain(slack)} in {design.row_words(row)}"
+    least, dearest = min(corners, key=lambda c: c.least[0]), max(corners, key=lambda c: c.cost)
+    bound = multiplier_of(margin, cost)
+    if bound is None:
+        yield f"there is no margin: the plan of {design.corner_words(least.number)} breaks {design.row_words(least.least[1])}"
+        return
+    yield (f"R = {bound}: cost {cost} (from {design.corner_words(dearest.number)}) over margin {plain(Fraction(margin, 2**16))} "
+           f"(from {design.corner_words(least.number)}, {design.row_words(least.least[1])})")
+    if cost < 10:
+        yield "the greatest cost is below 10 and is rounded up to a whole number: all weights by one greater factor lose less"
+    steep, step = curvature(design, condense(design)), report["step"] if report else None
+    if step is None:
+        step = 0
+        while 2**step < steep:
+            step += 1
+    yield f"the curvature is {plain(steep)}, and the step needs 2^{step} = {2**step}: " + (
+        "nothing is lost" if steep > 0.9 * 2**step else f"all weights by {plain(steep * 1.003 / 2**step)} would cost nothing and take K by that factor")
+    yield f"K = 2^(s+2) R / target = {plain(2 ** (step + 2))} * {bound} / {plain(Fraction(design.violation, design.target_den))} = {steps_of(design, step, bound)}"
+
+
+def size_words(design, policy, report):
+    """Each quantity in bits of 126."""
+    margin, cost = margin_of(corners_of(design, policy))
+    bound, found = multiplier_of(margin, cost), sizes.early_sizes(design, policy)
+    if bound is not None:
+        found |= sizes.form_sizes(design, margin, cost, bound)
+        found["error"], epsilon = sizes.errors_of(design, bound)
+        target = min(2**40 * design.gap // design.target_den, bound * half_target(design))
+        f = next((f for f in range(design.grid, 49) if epsilon(f) <= target), None)
+        if f is not None:
+            found["descent"], bounds = sizes.gain_bounds(design, f)
+            step = report["step"] if report else 0
+            found["width"] = sizes.greatest_width(design, bound, step, steps_of(design, step, bound), f, bounds)
+    yield "sizes in bits, at most 126 each: " + ", ".join(f"{name} {sizes.bits(value):.1f}" for name, value in found.items())
+
+
+def line_words(line, design):
+    """A line of `solve` or `loop` in decimals."""
+    numbers = [int(word) for word in line.split()]
+    if design is None:
+        yield " ".join(plain(Fraction(v, numbers[0])) for v in numbers[1:]) if numbers and numbers[0] > 0 else line
+        return
+    n, p = design.states, design.inputs
+    inputs = lambda sums, den: ", ".join(f"{design.name('input', l + 1).word} {design.name('input', l + 1).shown(Fraction(v, den))}" for l, v in enumerate(sums))
+    if len(numbers) == 1 + design.entries:
+        for k in range(design.stages):
+            yield f"stage {k}: {inputs(numbers[1 + k * p : 1 + (k + 1) * p], numbers[0])}"
+    elif len(numbers) == n + p + 3:
+        state = ", ".join(f"{design.name('state', i + 1).word} {design.name('state', i + 1).shown(Fraction(v, 2**design.grid))}" for i, v in enumerate(numbers[2 : 2 + n]))
+        yield f"start {numbers[0]}, turn {numbers[1]}: {state}; {inputs(numbers[3 + n :], numbers[2 + n])}"
+    else:
+        yield f"{len(numbers)} numbers: no line of this design"
+
+
+def explain(files, clock=100.0, cycles=1.0):
+    """The words for these texts, by kind."""
+    design = design_of(files["design"]) if "design" in files else None
+    report = report_of(files["report"]) if "report" in files else None
+    policy = records_of(files["policy"]) if "policy" in files else None
+    if report:
+        yield from report_words(report, design)
+    if "controller" in files:
+        yield from cost_words(controller_of(files["controller"]), design.period if design else None, clock, cycles)
+    if design and policy:
+        yield from bound_words(design, policy, report)
+        yield from size_words(design, policy, report)
+    for line in files.get("lines", "").splitlines():
+        yield from line_words(line, design)
+    if design and len(files) == 1:
+        yield f"{design.states} states, {design.inputs} inputs, {design.stages} stages, {design.rows} limit rows; name its policy or its report, too"
+
+
+def main():
+    parser = argparse.ArgumentParser(prog="./mpc explain", usage="./mpc explain FILE [DESIGN] [POLICY] [CONTROLLER] [REPORT]", description=__doc__,
+                                     formatter_class=argparse.RawDescriptionHelpFormatter)
+    parser.add_argument("files", nargs="+")
+    parser.add_argument("--clock", type=float, default=100.0)
+    parser.add_argument("--cycles", type=float, default=1.0)
+    given = parser.parse_args()
+    files = {}
+    for path in given.files:
+        try:
+            text = read_text(path)
+        except OSError as fault:
+            sys.exit(f"explain: {path}: {fault.strerror}")
+        files[kind_of(text)] = text
+    try:
+        for words in explain(files, given.clock, given.cycles):
+            print(words)
+    except (ValueError, KeyError, IndexError) as fault:
+        sys.exit(f"explain: these files are no texts of one design: {fault}")
+    return 0
+
+
+if __name__ == "__main__":
+    signal.signal(signal.SIGPIPE, signal.SIG_DFL)
+    sys.exit(main())

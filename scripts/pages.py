@@ -1,0 +1,74 @@
+#!/usr/bin/env python3
+"""Runs the commands of pages, and compares what they print with what the page says.
+
+    scripts/pages.py PAGE ..
+
+A line that begins with four spaces and ./ is a command, run at the top of the repository; the block of lines of four spaces that follows it is what it prints. A
+command that needs a library which isn't there (those of scripts/ but for explain) is left out, and told.
+"""
+import os
+import subprocess
+import sys
+
+from libraries import PACKAGES, missing
+
+TOP = os.path.dirname(os.path.dirname(os.path.abspath(__file__)))
+
+
+def blocks_of(text):
+    """The blocks of lines that begin with four spaces."""
+    blocks, block = [], []
+    for line in text.split("\n") + [""]:
+        if line.startswith("    "):
+            block.append(line[4:])
+        elif block:
+            blocks.append(block)
+            block = []
+    return blocks
+
+
+def commands_of(text):
+    """Each command with the lines that it prints: those of the next block, or none where the next is a command too."""
+    blocks = blocks_of(text)
+    for block, after in zip(blocks, blocks[1:] + [[]]):
+        if block[0].startswith("./"):
+            for command in block[:-1]:
+                yield command, []
+            yield block[-1], [] if after and after[0].startswith("./") else after
+
+
+def needs_libraries(command):
+    return "./scripts/" in command
+
+
+def wrong_in(text, lacking, run):
+    """What is wrong: a line for each command that prints something else."""
+    for command, printed in commands_of(text):
+        if lacking and needs_libraries(command):
+            print(f"pages: left out, for want of {', '.join(PACKAGES[name] for name in lacking)}: {command}")
+            continue
+        got = run(command)
+        if got != printed:
+            yield f"{command} printed {got}, and the page says {printed}"
+
+
+def run_at_top(command):
+    text = subprocess.run(command, shell=True, capture_output=True, text=True, cwd=TOP).stdout.rstrip("\n")
+    return text.split("\n") if text else []
+
+
+def main(pages):
+    if pages in ([], ["--help"]):
+        print(__doc__.strip())
+        return 0
+    failed = 0
+    for page in pages:
+        with open(page, encoding="utf-8") as file:
+            for wrong in wrong_in(file.read(), missing(*PACKAGES), run_at_top):
+                print(f"{page}: {wrong}")
+                failed = 1
+    return failed
+
+
+if __name__ == "__main__":
+    sys.exit(main(sys.argv[1:]))

@@ -1,0 +1,148 @@
+#!/usr/bin/env python3
+"""Finds a policy for a design: a plan for each corner of the box, with the least multiplier bound R.
+
+    scripts/policy.py DESIGN [POLICY] [--denominator Q] [--margin T] [--turns N]
+
+R is the greatest cost over the least slack, and the steps K grow with it. For each corner one convex problem gives the plan of least cost that keeps every limit
+with a slack T, and a search over T finds the least R. The plans are rounded to the shortest denominator that costs at most 4 % of R. The policy goes to POLICY,
+or is printed; what was found goes to standard error.
+
+    --denominator Q   this denominator and no other
+    --margin T        this slack, in the units of the rows, with no search
+    --turns N         how many turns the loops with the best plans are followed to see whether they stay in the box (50; 0 for none)
+
+Where no plan keeps every limit at some corner, it names the corner and the rows to blame, and ends with status 6. Nothing rests on the solver: `generate`
+simulates the policy in whole numbers.
+"""
+import argparse
+import sys
+
+from libraries import need
+
+need("numpy", "cvxopt")
+from condensed import condense, curvature
+from corners import corners_of, margin_of, multiplier_of, steps_of
+from design_text import plain, read_design
+from programs import Programs, reach_of
+
+FINE = 2**24
+MOST = 1024
+GOLDEN = (5**0.5 - 1) / 2
+
+
+def say(*words):
+    print(*words, file=sys.stderr)
+
+
+def plans_with(programs, slack):
+    """The corners' plans of least cost with this slack, and their R; None where a corner has none."""
+    design = programs.design
+    states = [[float(v) for v in design.corner(c)] for c in range(1, 2**design.states + 1)]
+    plans = []
+    for state in states:
+        plan = programs.best(state, slack)
+        if plan is None:
+            return None, float("inf")
+        plans.append(plan)
+    return plans, max(programs.cost(x, u) for x, u in zip(states, plans)) / slack
+
+
+def search(programs, most):
+    """The slack below `most` with the least R."""
+    low, high = 0.02 * most, 0.985 * most
+    for _ in range(16):
+        first, second = high - GOLDEN * (high - low), low + GOLDEN * (high - low)
+        if plans_with(programs, first)[1] < plans_with(programs, second)[1]:
+            high = second
+        else:
+            low = first
+    return (low + high) / 2
+
+
+def rounded(plans, denominator):
+    return [[denominator] + [int(round(float(u) * denominator)) for u in plan] for plan in plans]
+
+
+def bound_of(design, policy):
+    """R of a rounded policy, before R itself is rounded; infinite where a limit isn't kept."""
+    margin, cost = margin_of(corners_of(design, policy))
+    return cost * 2**16 / margin if margin > 0 else float("inf")
+
+
+def shortest(design, plans):
+    """The policy with the shortest denominator that costs at most 4 % of R."""
+    best = bound_of(design, rounded(plans, FINE))
+    denominator = 1
+    while denominator < MOST and bound_of(design, rounded(plans, denominator)) > 1.04 * best:
+        denominator *= 2
+    return rounded(plans, denominator)
+
+
+def blame(design, programs):
+    """The least, over the corners, of the greatest slack; and words for the corner and the rows."""
+    found = []
+    for corner in range(1, 2**design.states + 1):
+        slack, rows = programs.most_slack([float(v) for v in design.corner(corner)])
+        found.append((slack, corner, rows))
+    slack, corner, rows = min(found)
+    return slack, f"{design.corner_words(corner)}: {', '.join(design.row_words(row) for row in rows[:4])}"
+
+
+def find(design, margin=None, denominator=None):
+    """The policy, or None with the reason said."""
+    programs = Programs(design)
+    most, where = blame(design, programs)
+    if most <= 2**-16:
+        say(f"no plan keeps every limit with a slack of 2^-16: at most {plain(most)} is possible at {where}")
+        say("a smaller box, wider limits or more stages before the limit holds; a state row at stage 0 limits the box itself (docs/DESIGNING.md)")
+        return None
+    slack = margin if margin else search(programs, most)
+    plans, _ = plans_with(programs, slack)
+    if plans is None:
+        say(f"no plan keeps every limit with a slack of {plain(slack)}: at most {plain(most)} is possible at {where}")
+        return None
+    say(f"margin {plain(slack)} of at most {plain(most)}, which is stopped at {where}")
+    return rounded(plans, denominator) if denominator else shortest(design, plans)
+
+
+def tell(design, policy, turns):
+    """What the policy makes of R and K, and whether the loops stay in the box."""
+    corners = corners_of(design, policy)
+    margin, cost = margin_of(corners)
+    bound, steep = multiplier_of(margin, cost), curvature(design, condense(design))
+    step = 0
+    while 2**step < steep:
+        step += 1
+    least, dearest = min(corners, key=lambda c: c.least[0]), max(corners, key=lambda c: c.cost)
+    say(f"plans over {policy[0][0]}: least slack {plain(least.least[0])} at {design.corner_words(least.number)} in {design.row_words(least.least[1])}")
+    say(f"greatest cost {plain(dearest.cost)} at {design.corner_words(dearest.number)}; R {bound}, curvature {plain(steep)}, so step {step} and K about {steps_of(design, step, bound)}")
+    if turns:
+        far = reach_of(design, turns)
+        say(f"with the best plans, the loops of {turns} turns from the corners reach {', '.join(plain(v) for v in far)} of the box"
+            + ("" if max(far) <= 1 else ": they leave it, and `loop` will end there"))
+
+
+def main():
+    parser = argparse.ArgumentParser(description=__doc__, formatter_class=argparse.RawDescriptionHelpFormatter)
+    parser.add_argument("design")
+    parser.add_argument("policy", nargs="?")
+    parser.add_argument("--denominator", type=int)
+    parser.add_argument("--margin", type=float)
+    parser.add_argument("--turns", type=int, default=50)
+    given = parser.parse_args()
+    design = read_design(given.design)
+    policy = find(design, given.margin, given.denominator)
+    if policy is None:
+        return 6
+    tell(design, policy, given.turns)
+    text = "".join(",".join(map(str, record)) + "\n" for record in policy)
+    if given.policy:
+        with open(given.policy, "w", encoding="ascii") as file:
+            file.write(text)
+    else:
+        sys.stdout.write(text)
+    return 0
+
+
+if __name__ == "__main__":
+    sys.exit(main())

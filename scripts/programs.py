@@ -1,0 +1,90 @@
+"""The convex problems of a design in floating point: the best plan from a state, with a slack in every limit. Nothing of the tool rests on them."""
+from libraries import need
+
+need("numpy", "cvxopt")
+import cvxopt
+import numpy
+
+from condensed import condense
+from corners import cost_of
+
+cvxopt.solvers.options.update(show_progress=False, abstol=1e-10, reltol=1e-9, feastol=1e-9, maxiters=200)
+
+
+class Programs:
+    """A design's condensed form as arrays of floats."""
+
+    def __init__(self, design):
+        form = condense(design)
+        floats = lambda rows, den: numpy.array([[v / den for v in row] for row in rows])
+        self.design = design
+        self.hess, self.lin = floats(form.hess, form.hess_den), floats(form.lin, form.hess_den)
+        self.off = numpy.array([v / form.hess_den for v in form.off])
+        self.rows, self.state_rows = floats(form.rows, form.row_den), floats(form.state_rows, form.row_den)
+        self.bounds = numpy.array([v / form.row_den for v in form.bounds])
+
+    def pull(self, state):
+        return self.lin @ numpy.array(state, float) + self.off
+
+    def room(self, state):
+        """What each row leaves for the plan."""
+        return self.bounds - self.state_rows @ numpy.array(state, float)
+
+    def best(self, state, slack=0.0):
+        """The plan of least cost that keeps each limit with this slack, or None where there is none."""
+        matrix = cvxopt.matrix
+        try:
+            found = cvxopt.solvers.qp(matrix(self.hess), matrix(self.pull(state)), matrix(self.rows), matrix(self.room(state) - slack))
+        except (ValueError, ArithmeticError):
+            return None
+        plan = numpy.array(found["x"]).ravel()
+        kept = (self.room(state) - self.rows @ plan).min() > slack - 1e-6 * (1 + abs(self.bounds).max())
+        return plan if kept else None
+
+    def unlimited(self, state):
+        """The plan of least cost where there are no limits."""
+        return -numpy.linalg.solve(self.hess, self.pull(state))
+
+    def most_slack(self, state):
+        """The greatest slack that one plan keeps in every limit, and the rows that stop it there, from 1, the one that weighs most first."""
+        count = self.rows.shape[1]
+        matrix = cvxopt.matrix
+        rows = numpy.hstack([self.rows, numpy.ones((len(self.bounds), 1))])
+        # a box of any size keeps the program bounded where no limit does
+        far = 1e6 * (1 + abs(self.bounds).max())
+        rows = numpy.vstack([rows, numpy.eye(1, count + 1, count)])
+        found = cvxopt.solvers.lp(matrix(numpy.r_[numpy.zeros(count), -1.0]), matrix(rows), matrix(numpy.r_[self.room(state), far]))
+        weights = numpy.array(found["z"]).ravel()[:-1]
+        blamed = [int(i) + 1 for i in numpy.argsort(-weights) if weights[i] > 0.01 * weights.max()]
+        return float(-found["primal objective"]), blamed
+
+    def cost(self, state, plan):
+        return float(cost_of(self.design, [float(v) for v in state], [float(v) for v in plan]))
+
+
+def exact_loop(design, state, turns, programs=None):
+    """The closed loop with the best plan of each turn from a grid state, each next state rounded to the grid as `loop` does: (state, input) a turn, as floats."""
+    programs = programs or Programs(design)
+    a, b = numpy.array(design.a) / design.plant_den, numpy.array(design.b) / design.plant_den
+    scale, out = 2**design.grid, []
+    for _ in range(turns):
+        now = numpy.array(state) / scale
+        plan = programs.best(now)
+        if plan is None:
+            plan = programs.unlimited(now)
+        inputs = plan[: design.inputs]
+        out.append((now, inputs))
+        state = numpy.floor((a @ now + b @ inputs) * scale + 0.5)
+    return out
+
+
+def reach_of(design, turns=50, programs=None):
+    """How far the closed loops with the best plans go from each corner, in each coordinate, as a part of the box from its middle: above 1 a loop leaves it."""
+    lo, hi = numpy.array(design.lo) / 2**design.grid, numpy.array(design.hi) / 2**design.grid
+    middle, half = (lo + hi) / 2, numpy.maximum((hi - lo) / 2, 1e-12)
+    far = numpy.zeros(design.states)
+    for number in range(1, 2**design.states + 1):
+        start = [int(v * 2**design.grid) for v in design.corner(number)]
+        for state, _ in exact_loop(design, start, turns, programs):
+            far = numpy.maximum(far, abs(state - middle) / half)
+    return far

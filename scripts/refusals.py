@@ -1,0 +1,362 @@
+#!/usr/bin/env python3
+"""Says in words why the program refused: the launcher runs it below the program's own line.
+
+    scripts/refusals.py STATUS LINE WORD..
+
+STATUS is the exit status, LINE what the program printed on standard error (empty where it printed nothing), and the words are those that the program was given. It
+prints one or two sentences, with names in place of numbers as far as the files that the words name can be read, and nothing where there is nothing to say.
+"""
+import os
+import sys
+import tomllib
+from fractions import Fraction
+
+import sizes
+from corners import corners_of, margin_of, multiplier_of
+from design_text import plain, read_design
+from texts import read_text, records_of
+
+# ---- the texts: one for each status, and one for each fault that a status carries
+
+TEXTS = {
+    "memory": "The machine had no memory left for this. Some megabytes are enough: free them and run it again.",
+    "usage": "{fault} `./mpc --help` lists the commands.",
+    "read-fault": "{file} could not be read: {fault}.",
+    "write-fault": "{file} could not be written: {fault}. {left}",
+    "not-toml": "{file} is no TOML document{fault}. docs/FORMATS.md has the form of a design.",
+    "key": "{file} lacks `{key}`{fault}. docs/FORMATS.md lists the 21 keys.",
+    "further-key": "{file} has {fault}, which no design has: a misspelling, or a key of another table. docs/FORMATS.md lists the 21 keys.",
+    "shape": "`{key}` of {file} is not {shape}. Numbers are written without a point.",
+    "range": "A number of `{key}` in {file} is out of its range: {range}.",
+    "fields": "Record {entry} of {file} has {fault}: a record holds {wanted}. docs/FORMATS.md has the form.",
+    "number": "Field {field} of record {entry} in {file}{fault} is no number that may stand there: {wanted}.",
+    "count": "{file} has {entries} records, and the design has {wanted} corners: one plan for each, in the order low low, high low, low high, high high.",
+    "no-margin": "At {corner} the policy's plan leaves too little room in {row}: slack {slack}, at least 0.0000153 (2^-16) is needed. "
+                 "{hint} scripts/policy.py finds a policy with room, or says which row and corner are to blame (docs/DESIGNING.md, \"Margins\").",
+    "curvature": "The limits are too steep for the cost: no step 2^-s with s up to 40 is small enough. Divide the rows by their tolerances, or take larger weights "
+                 "(docs/DESIGNING.md, \"Weights\").",
+    "too-many-steps": "A run would take K = {steps} steps, and at most 4194304 are accepted. K = 2^(s+2) R / target: take a larger violation target{hint}, or a policy with "
+                      "a larger margin or a smaller cost (docs/DESIGNING.md, \"What K is made of\").",
+    "too-fine": "The gap target asks for more than 48 fraction bits: rounding at 48 bits may cost {epsilon}, {hint}. A larger gap target, or a policy with a smaller R "
+                "(docs/DESIGNING.md, \"What K is made of\").",
+    "too-wide": "`{name}`, {what}, passes 2^126{size}: {help} (docs/DESIGNING.md, \"Sizes\").",
+    "controller-line": "{file} is no controller text: line {line}{fault} is not what should stand there, {wanted}. `generate` writes such files; docs/FORMATS.md has the form.",
+    "controller-unsafe": "{file} has the form of a controller text, but a sum of its numbers could leave the width that it says itself, so it is not run: a number was changed.",
+    "outside-box": "State {entry} of {file} is outside the controller's box in coordinate {name}{fault}. The promises hold inside the box alone: a larger box in the design, or "
+                   "a state in steps of {step}.",
+    "left-box": "The loop from state {entry} left the box before turn {turn}, in coordinate {name}. Nothing promises that a loop stays: limits at the next state, or coordinates in which "
+                "the box is nearly invariant (docs/DESIGNING.md, \"Boxes that loops stay in\").",
+    "long": "{file} is longer than 4194304 bytes, and no file of the tool is.",
+    "mismatch": "The controller was not made for this design: its {field} are {controller}, and the design's are {design}. Run `generate` on this design.",
+    "unbuilt": "The launcher could not build the program: crates/mpc_cli/build.log has the reason.",
+}
+
+LEFT = {"controller": "Nothing stands in it, or the first part of the text.", "report": "The controller file stands whole.", "output": "The lines before it were printed whole."}
+
+DENOMINATOR, NUMERATOR = "a denominator, 1 to 1048576", "-2147483647 to 2147483647"
+# key, shape, range: by the place in a design text
+PLACES = [
+    ("version", "an integer", "1"), ("states", "an integer", "1 to 4"), ("inputs", "an integer", "1 to 3"), ("stages", "an integer", "1 to 20"),
+    ("plant.den", "an integer", DENOMINATOR), ("plant.a", "{n} lists of {n} integers", NUMERATOR), ("plant.b", "{n} lists of {p} integers", NUMERATOR),
+    ("cost.den", "an integer", DENOMINATOR), ("cost.row_den", "an integer", DENOMINATOR), ("cost.input", "a list of {p} integers", "1 to 2147483647"),
+    ("cost.stage", "up to 12 lists of {n2} integers", NUMERATOR + ", and each weight, the last of its list, at least 0"),
+    ("cost.final", "up to 12 lists of {n2} integers", NUMERATOR + ", and each weight, the last of its list, at least 0"),
+    ("limits.den", "an integer", DENOMINATOR), ("limits.stage", "up to 12 lists of {np1} integers", NUMERATOR),
+    ("limits.final", "up to 12 lists of {n1} integers", NUMERATOR + ", and there is a row at limits.stage or here"), ("box.grid", "an integer", "0 to 24"),
+    ("box.lo", "a list of {n} integers", NUMERATOR), ("box.hi", "a list of {n} integers", NUMERATOR + ", each at least its box.lo"),
+    ("targets.den", "an integer", DENOMINATOR), ("targets.violation", "an integer", "1 to 2147483647"), ("targets.gap", "an integer", "1 to 2147483647"),
+]
+TABLES = ["plant", "cost", "limits", "box", "targets"]
+
+FEWER = "fewer stages, a smaller plant.den, or units in which the row sums of |a| + |b| are nearer to plant.den"
+QUANTITIES = {
+    "prediction": ("the plant's growth over the horizon", FEWER),
+    "corner_slack": ("the numbers of the corners' slacks", FEWER + ", a shorter denominator of the policy, a coarser box.grid"),
+    "corner_cost": ("the numbers of the corners' costs", "fewer stages, smaller denominators of plant and policy, coarser numerators, a coarser box.grid"),
+    "multiplier": ("the bound on the multipliers", "a policy with a larger margin or a smaller cost"),
+    "hessian": ("the numbers of the condensed cost", FEWER + ", smaller weights or cost.row_den"),
+    "rows": ("the numbers of the condensed limits", FEWER + ", a smaller limits.den"),
+    "curvature": ("the comparison of limits and cost", FEWER + ", smaller weights or limits.den"),
+    "error": ("the sum of the rounding errors", "a policy with a larger margin, a smaller box, smaller weights"),
+    "descent": ("the numbers of the gains", FEWER + ", a larger gap target"),
+    "width": ("the greatest sum of a run", "a policy with a larger margin, a larger gap target, a smaller box"),
+    "turn": ("the next state of a loop", "a smaller plant.den, or a controller with fewer steps or bits"),
+}
+
+# file names by command: the names' kinds in the order of the words
+FILES = {"generate": ["design", "policy", "controller", "report"], "solve": ["controller", "states"], "loop": ["design", "controller", "states"]}
+COUNTS = {"generate": 4, "solve": 2, "loop": 4, "demo": 1}
+
+
+# ---- what the texts are filled with
+
+
+class Call:
+    """The words of a command, with what its files say."""
+
+    def __init__(self, words):
+        self.words = words
+        self.command = words[0] if words else ""
+
+    def kind(self, number):
+        kinds = FILES.get(self.command, [])
+        return kinds[number - 1] if 0 < number <= len(kinds) else "output"
+
+    def path(self, kind):
+        kinds = FILES.get(self.command, [])
+        return self.words[1 + kinds.index(kind)] if kind in kinds and len(self.words) > 1 + kinds.index(kind) else None
+
+    def named(self, number):
+        """A file as 'the design file NAME'."""
+        kind = self.kind(number)
+        return "standard output" if kind == "output" else f"the {kind} file {self.path(kind)}"
+
+    def design(self):
+        try:
+            return read_design(self.path("design"))
+        except (OSError, ValueError, KeyError, TypeError):
+            return None
+
+    def records(self, kind):
+        """The lines that are records of a policy or states file."""
+        try:
+            return [line for line in read_text(self.path(kind)).splitlines() if line]
+        except (OSError, TypeError):
+            return []
+
+    def policy(self):
+        try:
+            return records_of(read_text(self.path("policy")))
+        except (OSError, ValueError, TypeError):
+            return None
+
+
+def number_of(word, most):
+    return word.isascii() and word.isdigit() and str(int(word)) == word and int(word) <= most
+
+
+def usage(call):
+    words, command = call.words, call.command
+    if not words:
+        return "A command is needed."
+    if command not in COUNTS:
+        return f"`{command}` is no command: generate, solve, loop or demo is needed."
+    if len(words) - 1 != COUNTS[command]:
+        return f"`{command}` takes {COUNTS[command]} arguments, and {len(words) - 1} were given."
+    if command == "generate":
+        return "The controller's or the report's name is that of another file of the four: each needs its own."
+    if command == "loop":
+        return f"The turns `{words[4]}` are no number from 0 to 1000000 without sign or leading zero."
+    return f"`{words[1]}` is no number from 0 to 4294967295 without sign or leading zero."
+
+
+def reading_fault(path):
+    if path is None or not os.path.exists(path):
+        return "there is no such file"
+    if os.path.isdir(path):
+        return "it is a folder"
+    return "it may not be read" if not os.access(path, os.R_OK) else "reading it failed"
+
+
+def writing_fault(path):
+    if path is None:
+        return "it is closed, or its device is full"
+    folder = os.path.dirname(path) or "."
+    if not os.path.isdir(folder):
+        return f"there is no folder {folder}"
+    if os.path.isdir(path):
+        return "it is a folder"
+    return "it may not be written" if not os.access(path if os.path.exists(path) else folder, os.W_OK) else "writing it failed, as on a full disk"
+
+
+def toml_fault(path):
+    """Where Python's reader stops, which reads nearly the same TOML."""
+    try:
+        with open(path, "rb") as file:
+            tomllib.loads(file.read().decode("utf-8-sig"))
+    except UnicodeDecodeError:
+        return ": its bytes are no UTF-8 text"
+    except tomllib.TOMLDecodeError as fault:
+        return f": {fault}"
+    except (OSError, TypeError, RecursionError):
+        pass
+    return ": a number lies outside 64 bits, a float is too large, or it is nested too deep"
+
+
+def further_key(path):
+    known = {key for key, _, _ in PLACES} | set(TABLES)
+    try:
+        with open(path, "rb") as file:
+            top = tomllib.load(file)
+    except (OSError, ValueError, TypeError):
+        return "a further key"
+    keys = [f"{table}.{key}" for table in TABLES if isinstance(top.get(table), dict) for key in top[table]] + list(top)
+    extra = [key for key in keys if key not in known]
+    return "the key `" + "`, `".join(extra) + "`" if extra else "a further key"
+
+
+def shape_words(words, path):
+    """A shape with the design's numbers of states and inputs, where they can be read."""
+    try:
+        with open(path, "rb") as file:
+            top = tomllib.load(file)
+        n, p = int(top["states"]), int(top["inputs"])
+        return words.format(n=n, p=p, n1=f"{n + 1} (states and a bound)", n2=f"{n + 2} (states, a target and a weight)", np1=f"{n + p + 1} (states, inputs and a bound)")
+    except (OSError, ValueError, KeyError, TypeError):
+        return words.format(n="`states`", p="`inputs`", n1="`states` + 1", n2="`states` + 2", np1="`states` + `inputs` + 1")
+
+
+def text_fault(call, file, fault, numbers):
+    """Status 5."""
+    kind, name = call.kind(file), call.named(file)
+    path = call.path(kind)
+    if fault == "not-toml":
+        return TEXTS[fault].format(file=name, fault=toml_fault(path))
+    if fault == "key" and numbers[0] == 0:
+        return TEXTS["further-key"].format(file=name, fault=further_key(path))
+    if fault in ("key", "shape", "range"):
+        key, shape, ranged = PLACES[numbers[0] - 1]
+        lacking = f" (or the whole table [{key.split('.')[0]}])" if "." in key else ""
+        return TEXTS[fault].format(file=name, key=key, fault=lacking, shape=shape_words(shape, path), range=ranged)
+    design, records = call.design(), call.records(kind)
+    entry = numbers[0]
+    line = records[entry - 1] if entry <= len(records) else ""
+    if fault == "count":
+        return TEXTS[fault].format(file=name, entries=entry, wanted=2**design.states if design else "2^states")
+    if fault == "fields":
+        wanted = f"{design.states} numbers, one a state" if kind == "states" and design else "one number a state" if kind == "states" else (
+            f"{1 + design.entries} numbers, a denominator and {design.stages} times {design.inputs} inputs" if design else "a denominator and an input for each stage")
+        return TEXTS[fault].format(entry=entry, file=name, fault=f"{line.count(',') + 1} fields" if line else "another number of fields", wanted=wanted)
+    word = line.split(",")[numbers[1] - 1] if line.count(",") >= numbers[1] - 1 else ""
+    wanted = "a denominator is 1 to 1099511627776" if kind == "policy" and numbers[1] == 1 else "a whole number in decimal, of an absolute value of at most 9223372036854775807"
+    return TEXTS["number"].format(field=numbers[1], entry=entry, file=name, fault=f", `{word.strip()[:40]}`," if word else "", wanted=wanted)
+
+
+def no_margin(call, corner, row, above, below):
+    design, slack = call.design(), Fraction(above, below)
+    shown = f"{above}/{below} = {float(slack):.7f}" if slack else "0"
+    if design is None or row > design.rows:
+        return TEXTS["no-margin"].format(corner=f"corner {corner}", row=f"row {row}", slack=shown, hint="")
+    kind, _, stage = design.place_of_row(row)
+    rule = design.stage_rows[(row - 1) % len(design.stage_rows)] if kind == "stage row" else None
+    alone = stage == 0 and rule is not None and not any(rule[design.states : -1])
+    hint = ("The row holds for the state alone, and at stage 0 that is the corner itself: a smaller box, or the limit at the next state." if alone else
+            "The plan exceeds the limit." if slack < 0 else "The plan touches the limit." if slack == 0 else "The plan all but touches the limit.")
+    return TEXTS["no-margin"].format(corner=design.corner_words(corner), row=design.row_words(row), slack=shown, hint=hint)
+
+
+def too_many_steps(call, steps):
+    design = call.design()
+    hint = f" (at least {plain(Fraction(design.violation * steps, design.target_den * 2**22))})" if design else ""
+    return TEXTS["too-many-steps"].format(steps=steps, hint=hint)
+
+
+def too_fine(call, epsilon):
+    design = call.design()
+    hint = f"and the target is {plain(Fraction(design.gap, design.target_den))}" if design else "and the target is less"
+    return TEXTS["too-fine"].format(epsilon=plain(Fraction(epsilon, 2**40)), hint=hint)
+
+
+def too_wide(call, name):
+    """Status 10, with the size in bits where the files give it."""
+    what, helps = QUANTITIES.get(name, ("a number of the design", "a smaller design"))
+    design, policy, size = call.design(), call.policy(), ""
+    try:
+        found = sizes.early_sizes(design, policy)
+        if name not in found and name in ("multiplier", "hessian", "rows", "curvature", "error"):
+            margin, cost = margin_of(corners_of(design, policy))
+            found |= sizes.form_sizes(design, margin, cost, multiplier_of(margin, cost)) | {"error": sizes.errors_of(design, multiplier_of(margin, cost))[0]}
+        size = f" (it is 2^{sizes.bits(found[name]):.1f})"
+    except (KeyError, TypeError, AttributeError, IndexError, ValueError):
+        pass
+    return TEXTS["too-wide"].format(name=name, what=what, size=size, help=helps)
+
+
+def controller_lines(text):
+    """What should stand in each line, as far as the second line tells the sizes."""
+    head = ["`mpc-controller 1`", "`size` and n, p, N, m", "`bits` and f, g, s, w", "`steps` and K", "`clamp` and the greatest multiplier", "`words` and n + m + 2 p N",
+            "`lo` and a number for each state", "`hi` and a number for each state, at least its `lo`"]
+    try:
+        n, p, stages, rows = (int(word) for word in text.splitlines()[1].split(" ")[1:])
+    except (ValueError, IndexError):
+        return head
+    entries = min(p * stages, 60)
+    return (head + [f"`P` and {n} numbers"] * entries + [f"`T` and {entries} numbers"] + [f"`W` and {rows} numbers"] * entries
+            + [f"`G` and {entries} numbers"] * min(rows, 252) + [f"`E` and {n} numbers"] * min(rows, 252) + [f"`b` and {rows} numbers", "`end`", "nothing after `end`"])
+
+
+def controller_fault(call, file, fault, numbers):
+    name = call.named(file)
+    if fault == "unsafe":
+        return TEXTS["controller-unsafe"].format(file=name)
+    try:
+        text = read_text(call.path(call.kind(file)))
+    except (OSError, TypeError):
+        text = ""
+    lines, found, wanted = controller_lines(text), text.split("\n"), "a line of the form"
+    if numbers[0] <= len(lines):
+        wanted = lines[numbers[0] - 1]
+    shown = f" (`{found[numbers[0] - 1][:40]}`)" if numbers[0] <= len(found) and found[numbers[0] - 1] else ""
+    return TEXTS["controller-line"].format(file=name, line=numbers[0], fault=shown, wanted=wanted)
+
+
+def outside_box(call, entry, turn, coordinate):
+    design = call.design()
+    name = design.name("state", coordinate).word if design else f"x{coordinate}"
+    if turn > 1:
+        return TEXTS["left-box"].format(entry=entry, turn=turn, name=name)
+    records, fault, step = call.records("states"), "", "1/2^grid"
+    try:
+        value = int(records[entry - 1].split(",")[coordinate - 1])
+        lines = {line.split(" ")[0]: line.split(" ")[1:] for line in read_text(call.path("controller")).splitlines()[:8]}
+        fault = f" ({value}, and the box is {lines['lo'][coordinate - 1]} to {lines['hi'][coordinate - 1]})"
+        step = f"1/{2 ** int(lines['bits'][1])}"
+    except (IndexError, ValueError, KeyError, OSError, TypeError):
+        pass
+    return TEXTS["outside-box"].format(entry=entry, file=call.named(3 if call.command == "loop" else 2), name=name, fault=fault, step=step)
+
+
+def explanation(status, line, words):
+    """The sentences for a status, the program's line and its words; empty where there is nothing to say."""
+    call, fields = Call(words), line.split()
+    if status == 98:
+        return TEXTS["unbuilt"]
+    if status == 1:
+        return TEXTS["memory"]
+    if status == 2:
+        return TEXTS["usage"].format(fault=usage(call))
+    if len(fields) < 3 or fields[0] != "error" or fields[1] != str(status):
+        return TEXTS["curvature"] if status == 7 else ""
+    name, rest = fields[2], fields[3:]
+    numbers = [int(word) for word in rest if word.lstrip("-").isdigit()]
+    if name == "read-fault":
+        return TEXTS[name].format(file=call.named(numbers[0]), fault=reading_fault(call.path(call.kind(numbers[0]))))
+    if name == "write-fault":
+        kind = call.kind(numbers[0]) if numbers[0] else "output"
+        return TEXTS[name].format(file=call.named(numbers[0]), fault=writing_fault(call.path(kind)), left=LEFT[kind])
+    if name == "text":
+        return text_fault(call, numbers[0], rest[1], numbers[1:])
+    if name == "controller":
+        return controller_fault(call, numbers[0], rest[1], numbers[1:])
+    if name == "long":
+        return TEXTS[name].format(file=call.named(numbers[0]))
+    if name == "mismatch":
+        return TEXTS[name].format(field=rest[0] if rest[0] != "grid" else "grid bits", design=rest[1], controller=rest[2])
+    fill = {"no-margin": no_margin, "too-many-steps": too_many_steps, "too-fine": too_fine, "outside-box": outside_box}
+    if name in fill:
+        return fill[name](call, *numbers)
+    return too_wide(call, rest[0]) if name == "too-wide" else TEXTS.get(name, "")
+
+
+def main(arguments):
+    if not arguments or arguments[0] == "--help":
+        print(__doc__.strip())
+        return 0
+    told = explanation(int(arguments[0]), arguments[1], arguments[2:])
+    if told:
+        print(told[0].upper() + told[1:], file=sys.stderr)
+    return 0
+
+
+if __name__ == "__main__":
+    sys.exit(main(sys.argv[1:]))

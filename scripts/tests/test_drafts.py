@@ -1,0 +1,178 @@
+"""From a continuous model to a design, its policy and its picture: what needs the field's libraries."""
+import contextlib
+import io
+import math
+import os
+import re
+import sys
+import unittest
+import xml.dom.minidom
+
+from libraries import PACKAGES, missing
+from tests.worked import AXIS, AXIS_POLICY, EXAMPLES, FIRST, FIRST_CONTROLLER, TOP, folder_with
+
+LACKING = missing(*PACKAGES)
+if not LACKING:
+    import numpy
+
+    import discretise
+    import draft
+    import exact_loop
+    import judge
+    import models
+    import plot
+    import policy
+    import programs
+    from corners import corners_of, margin_of
+    from design_text import design_of, read_design
+    from texts import controller_of, loop_lines_of, records_of
+
+DOUBLE = "period = 0.5\nstages = 5\na = [[0.0, 1.0], [0.0, 0.0]]\nb = [[0.0], [1.0]]\n"
+
+
+@unittest.skipIf(LACKING, f"missing: {', '.join(LACKING)}")
+class Drafts(unittest.TestCase):
+    def quiet(self, call, *arguments):
+        """What a call answers, and what it said on standard error."""
+        with contextlib.redirect_stderr(io.StringIO()) as said:
+            answer = call(*arguments)
+        return answer, said.getvalue()
+
+    def model(self, name):
+        return models.read_model(os.path.join(EXAMPLES, name, "model.toml"))
+
+    def design(self, name):
+        return read_design(os.path.join(EXAMPLES, name, "design.toml"))
+
+    def test_hold_of_a_double_integrator(self):
+        a, b = models.hold(numpy.array([[0.0, 1.0], [0.0, 0.0]]), numpy.array([[0.0], [1.0]]), 0.5)
+        self.assertTrue(numpy.allclose(a, [[1, 0.5], [0, 1]]))
+        self.assertTrue(numpy.allclose(b, [[0.125], [0.5]]))
+
+    def test_hold_of_a_lag(self):
+        a, b = models.hold(numpy.array([[-2.0]]), numpy.array([[3.0]]), 0.1)
+        self.assertAlmostEqual(a[0][0], math.exp(-0.2))
+        self.assertAlmostEqual(b[0][0], 1.5 * (1 - math.exp(-0.2)))
+
+    def test_coordinates_and_units(self):
+        a, b = self.model("satellite").scaled()
+        self.assertTrue(numpy.allclose(a, [[1, 1], [0, 1]]))
+        self.assertTrue(numpy.allclose(b, [[3], [1]]))
+
+    def test_units_that_are_left_out_keep_row_sums_small(self):
+        model = models.Model(DOUBLE + "[box]\nhi = [100.0, 0.001]\n")
+        self.assertLess(max(abs(numpy.hstack(model.scaled())).sum(1)), 2)
+
+    def test_lost_coupling(self):
+        a, b = self.model("pmsm").scaled()
+        self.assertEqual(len(discretise.lost(a, b, 16)), 2)
+        self.assertEqual(discretise.lost(a, b, 256), [])
+
+    def test_rounding_of_whole_plants_is_exact(self):
+        a, b = self.model("satellite").scaled()
+        self.assertLess(discretise.response_error(a, b, 1, 10), 1e-9)
+
+    def test_examples_are_what_their_models_give(self):
+        for name in ("motor", "pmsm", "satellite"):
+            self.assertEqual(draft.draft(self.model(name)), self.design(name))
+
+    def test_curvature_is_just_below_one(self):
+        for name in ("motor", "pmsm", "satellite"):
+            self.assertTrue(0.98 < draft.curvature(self.design(name)) <= 1)
+
+    def test_state_limit_holds_for_the_next_state(self):
+        design = self.design("pmsm")
+        row, scale = design.stage_rows[6], design.limit_den / design.plant_den
+        for given, exact in zip(row, [v * scale for v in design.a[1] + design.b[1]] + [7 * design.limit_den]):
+            self.assertLessEqual(abs(given - exact), 0.5)
+
+    def test_policies_of_the_examples(self):
+        for name in ("motor", "pmsm", "satellite"):
+            found, _ = self.quiet(policy.find, self.design(name))
+            with open(os.path.join(EXAMPLES, name, "policy.csv"), encoding="ascii") as file:
+                self.assertEqual(found, records_of(file.read()))
+
+    def test_policy_is_better_than_coasting(self):
+        design = design_of(AXIS)
+        found, _ = self.quiet(policy.find, design)
+        self.assertLess(policy.bound_of(design, found), policy.bound_of(design, records_of(AXIS_POLICY)))
+
+    def test_denominator_that_is_asked_for(self):
+        found, _ = self.quiet(policy.find, design_of(FIRST), None, 1024)
+        self.assertEqual([record[0] for record in found], [1024, 1024])
+        self.assertGreater(margin_of(corners_of(design_of(FIRST), found))[0], 0)
+
+    def test_no_policy_names_corner_and_row(self):
+        found, said = self.quiet(policy.find, design_of(AXIS.replace("lo = [-64, -16]", "lo = [-144, -16]")))
+        self.assertIsNone(found)
+        self.assertIn("corner 1 (x1 low, x2 low): stage row 4 at stage 0", said)
+
+    def test_margin_that_is_too_large(self):
+        found, said = self.quiet(policy.find, design_of(FIRST), 2.0)
+        self.assertIsNone(found)
+        self.assertIn("no plan keeps every limit with a slack of 2", said)
+
+    def test_best_plan_at_a_limit(self):
+        self.assertAlmostEqual(float(programs.Programs(design_of(FIRST)).best([1.0])[0]), -0.75, places=6)
+
+    def test_exact_loop_lines(self):
+        found = loop_lines_of("\n".join(exact_loop.lines(design_of(FIRST), [[1]], 2)), 1, 1, 0)
+        self.assertAlmostEqual(float(found[1][0][1][0]), -0.75, places=6)
+        self.assertEqual(found[1][1][0], [0])
+
+    def test_loops_of_the_examples_stay(self):
+        for name in ("motor", "pmsm", "satellite"):
+            self.assertLessEqual(max(programs.reach_of(self.design(name))), 1)
+
+    def test_judge_of_the_first(self):
+        found = judge.judge(design_of(FIRST), controller_of(FIRST_CONTROLLER), [[0], [1]])
+        self.assertEqual(float(max(found)[0]), 1 - 2224 / 4096 - 0.25)
+
+    def drawn(self, lines):
+        """The picture of loop lines of the first design, as a document."""
+        folder, paths = folder_with(self, d=FIRST, lines=lines)
+        out, words = os.path.join(folder, "out.svg"), sys.argv
+        sys.argv = ["plot.py", paths["d"], paths["lines"], "--out", out]
+        try:
+            plot.main()
+        finally:
+            sys.argv = words
+        with open(out, encoding="utf-8") as file:
+            return file.read()
+
+    def test_picture(self):
+        text = self.drawn("1 1 1 4096 -2224\n1 2 0 4096 0\n2 1 0 4096 0\n2 2 0 4096 0\n")
+        self.assertEqual(xml.dom.minidom.parseString(text).documentElement.tagName, "svg")
+        self.assertEqual(len(re.findall("stroke: #(1f77b4|ff7f0e)", text)), 6)
+
+    def test_same_lines_same_picture(self):
+        self.assertEqual(self.drawn("1 1 1 4096 -2224\n"), self.drawn("1 1 1 4096 -2224\n"))
+
+
+class Libraries(unittest.TestCase):
+    def test_missing_library_names_its_package(self):
+        import subprocess
+
+        code = "import sys; sys.argv = ['policy.py']; import libraries; libraries.SYSTEM = '/nowhere'; libraries.PACKAGES['no_such'] = 'python3-no-such'; libraries.need('no_such')"
+        got = subprocess.run([sys.executable, "-c", code], cwd=os.path.join(TOP, "scripts"), capture_output=True, text=True)
+        self.assertEqual(got.returncode, 1)
+        self.assertIn("has no no_such: apt-get install python3-no-such", got.stderr)
+
+    def test_every_script_has_help(self):
+        import subprocess
+
+        for name in ("refusals", "machine"):
+            got = subprocess.run([sys.executable, os.path.join(TOP, "scripts", name + ".py"), "--help"], capture_output=True, text=True)
+            self.assertEqual((got.returncode, f"scripts/{name}.py" in got.stdout), (0, True))
+
+    @unittest.skipIf(LACKING, f"missing: {', '.join(LACKING)}")
+    def test_every_script_with_libraries_has_help(self):
+        import subprocess
+
+        for name in ("discretise", "draft", "policy", "exact_loop", "plot", "judge", "explain"):
+            got = subprocess.run([sys.executable, os.path.join(TOP, "scripts", name + ".py"), "--help"], capture_output=True, text=True)
+            self.assertEqual((got.returncode, len(got.stdout) > 200), (0, True), name)
+
+
+if __name__ == "__main__":
+    unittest.main()

@@ -1,0 +1,214 @@
+"""Every refusal has words: one case a line that the program can print."""
+import os
+import shutil
+import subprocess
+import unittest
+
+import refusals
+from tests.worked import AXIS, AXIS_POLICY, FINE_AXIS, FINE_AXIS_POLICY, FIRST, FIRST_CONTROLLER, FIRST_POLICY, TOP, folder_with
+
+NAMED = "# state 1: angle, 1 is 2 deg\n# state 2: rate, 1 is 1 deg/s\n# stage row 3: angle above, 1 is 2 deg\n"
+
+
+class Explained(unittest.TestCase):
+    def words(self, line, *words, **files):
+        """The explanation of a line, where the words that name a file of this case become its path."""
+        _, paths = folder_with(self, **files)
+        status = int(line.split()[1])
+        return refusals.explanation(status, line, [paths.get(word, word) for word in words])
+
+    def generate(self, line, design=FIRST, policy=FIRST_POLICY):
+        return self.words(line, "generate", "d", "p", "c", "r", d=design, p=policy)
+
+    def solve(self, line, controller=FIRST_CONTROLLER, states="1\n"):
+        return self.words(line, "solve", "c", "s", c=controller, s=states)
+
+    def test_memory(self):
+        self.assertIn("memory", self.words("error 1 memory", "demo", "7"))
+
+    def test_no_command(self):
+        self.assertIn("A command is needed", self.words("error 2 usage"))
+
+    def test_unknown_command(self):
+        self.assertIn("`frob` is no command", self.words("error 2 usage", "frob"))
+
+    def test_too_few_arguments(self):
+        self.assertIn("takes 2 arguments, and 1 were given", self.words("error 2 usage", "solve", "c"))
+
+    def test_same_name_twice(self):
+        self.assertIn("name is that of another file", self.words("error 2 usage", "generate", "d", "p", "c", "c"))
+
+    def test_turns_with_a_leading_zero(self):
+        self.assertIn("`01` are no number from 0 to 1000000", self.words("error 2 usage", "loop", "d", "c", "s", "01"))
+
+    def test_demo_number_too_large(self):
+        self.assertIn("`4294967296` is no number", self.words("error 2 usage", "demo", "4294967296"))
+
+    def test_file_not_there(self):
+        self.assertIn("the policy file nowhere could not be read: there is no such file", self.words("error 3 read-fault 2", "generate", "d", "nowhere", "c", "r", d=FIRST))
+
+    def test_file_is_a_folder(self):
+        self.assertIn("it is a folder", self.words("error 3 read-fault 1", "solve", TOP, "s"))
+
+    def test_report_not_written(self):
+        told = self.words("error 4 write-fault 4", "generate", "d", "p", "c", "/nowhere/r", d=FIRST, p=FIRST_POLICY)
+        self.assertIn("there is no folder /nowhere", told)
+        self.assertIn("The controller file stands whole", told)
+
+    def test_output_closed(self):
+        self.assertIn("standard output could not be written", self.words("error 4 write-fault 0", "solve", "c", "s"))
+
+    def test_no_toml(self):
+        self.assertIn("line 2", self.generate("error 5 text 1 not-toml", "version = 1\nx = = 3\n"))
+
+    def test_no_utf8(self):
+        self.assertIn("no UTF-8", self.generate("error 5 text 1 not-toml", b"\xff\xff"))
+
+    def test_integer_beyond_64_bits(self):
+        self.assertIn("outside 64 bits", self.generate("error 5 text 1 not-toml", FIRST.replace("states = 1", "states = 9223372036854775808")))
+
+    def test_key_missing(self):
+        self.assertIn("lacks `limits.den`", self.generate("error 5 text 1 key 13", FIRST.replace("[limits]\nden = 4", "[limits]")))
+
+    def test_further_key(self):
+        self.assertIn("the key `note`", self.generate("error 5 text 1 key 0", "note = 1\n" + FIRST))
+
+    def test_shape_of_b(self):
+        self.assertIn("`plant.b` of", self.generate("error 5 text 1 shape 7", AXIS))
+        self.assertIn("2 lists of 1 integers", self.generate("error 5 text 1 shape 7", AXIS))
+
+    def test_shape_of_limits(self):
+        self.assertIn("4 (states, inputs and a bound)", self.generate("error 5 text 1 shape 14", AXIS))
+
+    def test_range(self):
+        self.assertIn("`cost.input`", self.generate("error 5 text 1 range 10", FIRST.replace("input = [1]", "input = [0]")))
+
+    def test_every_place_has_words(self):
+        for place in range(1, 22):
+            for fault in ("key", "shape", "range"):
+                self.assertIn(f"`{refusals.PLACES[place - 1][0]}`", self.generate(f"error 5 text 1 {fault} {place}"))
+
+    def test_policy_fields(self):
+        told = self.generate("error 5 text 2 fields 2", policy="1,0\n8\n")
+        self.assertIn("Record 2", told)
+        self.assertIn("has 1 fields: a record holds 2 numbers", told)
+
+    def test_policy_number(self):
+        self.assertIn("`x`, is no number", self.generate("error 5 text 2 number 2 2", policy="1,0\n8,x\n"))
+
+    def test_policy_denominator(self):
+        self.assertIn("a denominator is 1 to 1099511627776", self.generate("error 5 text 2 number 1 1", policy="0,0\n8,-7\n"))
+
+    def test_policy_count(self):
+        self.assertIn("has 3 records, and the design has 2 corners", self.generate("error 5 text 2 count 3", policy="1,0\n8,-7\n8,-7\n"))
+
+    def test_states_fields(self):
+        self.assertIn("one number a state", self.solve("error 5 text 2 fields 1", states="1,1\n"))
+
+    def test_no_margin_by_names(self):
+        told = self.generate("error 6 no-margin 2 15 4 524288", NAMED + AXIS, AXIS_POLICY)
+        self.assertIn("corner 2 (angle high, rate low)", told)
+        self.assertIn("stage row 3 (angle above) at stage 2: slack 4/524288 = 0.0000076, at least 0.0000153", told)
+
+    def test_no_margin_without_names(self):
+        self.assertIn("corner 2 (x1 high, x2 low)", self.generate("error 6 no-margin 2 15 -1 4", AXIS, AXIS_POLICY))
+
+    def test_no_margin_in_a_final_row(self):
+        self.assertIn("final row 4 at stage 5", self.generate("error 6 no-margin 1 34 0 1", AXIS, AXIS_POLICY))
+
+    def test_state_row_at_stage_0(self):
+        self.assertIn("at stage 0 that is the corner itself", self.generate("error 6 no-margin 2 3 0 32", AXIS, AXIS_POLICY))
+
+    def test_curvature(self):
+        self.assertIn("too steep", self.generate("error 7 curvature"))
+
+    def test_too_many_steps(self):
+        told = self.generate("error 8 too-many-steps 8388608")
+        self.assertIn("K = 8388608", told)
+        self.assertIn("at least 32", told)
+
+    def test_too_fine(self):
+        self.assertIn("more than 48 fraction bits", self.generate("error 9 too-fine 151000321"))
+
+    def test_every_quantity_has_words(self):
+        for name in ("prediction", "corner_slack", "corner_cost", "multiplier", "hessian", "rows", "curvature", "error", "descent", "width", "turn"):
+            self.assertIn(f"`{name}`, {refusals.QUANTITIES[name][0]}, passes 2^126", self.generate(f"error 10 too-wide {name}"))
+
+    def test_size_of_the_quantity(self):
+        self.assertIn("(it is 2^167.0)", self.generate("error 10 too-wide prediction", FINE_AXIS, FINE_AXIS_POLICY * 4))
+
+    def test_controller_line(self):
+        told = self.solve("error 11 controller 1 line 10", FIRST_CONTROLLER.replace("T 0", "T -0"))
+        self.assertIn("line 10 (`T -0`)", told)
+        self.assertIn("`T` and 1 numbers", told)
+
+    def test_controller_cut_short(self):
+        self.assertIn("line 19", self.solve("error 11 controller 1 line 19", FIRST_CONTROLLER[:-4]))
+
+    def test_controller_with_more(self):
+        self.assertIn("nothing after `end`", self.solve("error 11 controller 1 line 20", FIRST_CONTROLLER + "x"))
+
+    def test_controller_unsafe(self):
+        self.assertIn("could leave the width", self.solve("error 11 controller 1 unsafe"))
+
+    def test_outside_box(self):
+        told = self.solve("error 12 outside-box 2 0 1", states="1\n2\n")
+        self.assertIn("coordinate x1 (2, and the box is 0 to 1)", told)
+        self.assertIn("steps of 1/1", told)
+
+    def test_loop_left_the_box(self):
+        told = self.words("error 12 outside-box 2 5 1", "loop", "d", "c", "s", "9", d=NAMED + AXIS, c=FIRST_CONTROLLER, s="1\n")
+        self.assertIn("left the box before turn 5, in coordinate angle", told)
+
+    def test_long(self):
+        self.assertIn("longer than 4194304 bytes", self.generate("error 13 long 1"))
+
+    def test_mismatch(self):
+        told = self.words("error 14 mismatch states 2 1", "loop", "d", "c", "s", "1", d=AXIS, c=FIRST_CONTROLLER, s="1")
+        self.assertIn("its states are 1, and the design's are 2", told)
+
+    def test_no_line(self):
+        self.assertEqual(refusals.explanation(12, "", ["solve", "c", "s"]), "")
+
+    def test_files_of_any_bytes(self):
+        for line in ("error 5 text 1 shape 6", "error 5 text 2 number 1 1", "error 6 no-margin 1 1 0 1", "error 10 too-wide error", "error 8 too-many-steps 9"):
+            self.assertTrue(self.generate(line, b"\xff[", b"\xff,,\n"))
+
+
+class Launcher(unittest.TestCase):
+    """The launcher passes on what a program says. The program is a stand-in."""
+
+    def launched(self, body, *words):
+        folder, _ = folder_with(self)
+        for part in ("crates/mpc_cli/out", "crates/mpc_cli/src", "crates/mpc_cli/specs", "crates/mpc_cli/proofs", "docs"):
+            os.makedirs(os.path.join(folder, part))
+        shutil.copy(os.path.join(TOP, "mpc"), folder)
+        shutil.copytree(os.path.join(TOP, "scripts"), os.path.join(folder, "scripts"), ignore=shutil.ignore_patterns("__pycache__", "tests"))
+        with open(os.path.join(folder, "crates.txt"), "w"):
+            pass
+        program = os.path.join(folder, "crates/mpc_cli/out/mpc_cli")
+        with open(program, "w") as file:
+            file.write("#!/bin/bash\n" + body)
+        os.chmod(program, 0o755)
+        return subprocess.run([os.path.join(folder, "mpc"), *words], capture_output=True, text=True)
+
+    def test_done(self):
+        got = self.launched('echo "$1 $2"', "solve", "c d")
+        self.assertEqual((got.returncode, got.stdout, got.stderr), (0, "solve c d\n", ""))
+
+    def test_line_and_status_stay(self):
+        got = self.launched("echo 1 2; echo error 13 long 1 >&2; exit 13", "solve", "c", "s")
+        self.assertEqual((got.returncode, got.stdout), (13, "1 2\n"))
+        self.assertEqual(got.stderr.split("\n")[0], "error 13 long 1")
+        self.assertIn("longer than 4194304 bytes", got.stderr.split("\n")[1])
+
+    def test_silent_refusal(self):
+        got = self.launched("exit 12", "solve", "c", "s")
+        self.assertEqual((got.returncode, got.stdout, got.stderr), (12, "", ""))
+
+    def test_input_reaches_the_program(self):
+        self.assertEqual(self.launched("cat; exit 0", "solve").stdout, "")
+
+
+if __name__ == "__main__":
+    unittest.main()

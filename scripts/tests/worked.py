@@ -1,0 +1,115 @@
+"""Worked designs whose numbers were computed by hand or by another program, and a place to put files."""
+import os
+import tempfile
+
+HERE = os.path.dirname(os.path.abspath(__file__))
+TOP = os.path.dirname(os.path.dirname(HERE))
+EXAMPLES = os.path.join(TOP, "examples")
+
+# x+ = x + u from 0 to 1: least slack 1/8, greatest cost 50/64, R 8, K 4
+FIRST = """version = 1
+states = 1
+inputs = 1
+stages = 1
+[plant]
+den = 1
+a = [[1]]
+b = [[1]]
+[cost]
+den = 1
+row_den = 1
+input = [1]
+stage = [[1, 0, 1]]
+final = []
+[limits]
+den = 4
+stage = [[0, 4, 4], [0, -4, 4]]
+final = [[4, 1]]
+[box]
+grid = 0
+lo = [0]
+hi = [1]
+[targets]
+den = 1
+violation = 16
+gap = 1
+"""
+FIRST_POLICY = "1,0\n8,-7\n"
+FIRST_CONTROLLER = """mpc-controller 1
+size 1 1 1 3
+bits 10 0 1 26
+steps 4
+clamp 32768
+words 6
+lo 0
+hi 1
+P 512
+T 0
+W 256 -256 256
+G 1024
+G -1024
+G 1024
+E 0
+E 0
+E 1024
+b 1024 1024 256
+end
+"""
+FIRST_REPORT = """mpc-report 1
+margin 8192 65536
+cost 1
+multiplier 8
+step 1
+steps 4
+bits 10
+width 26
+words 6
+violation 8896659849216 1099511627776
+gap 804534616064 1099511627776
+undercut 71173278793728 1099511627776
+end
+"""
+# an axis that coasts: margin 1, cost 158.75, R 159, step 1, K 20352, f 28 with a gap of 699629521553 over 2^40
+AXIS = """version = 1
+states = 2
+inputs = 1
+stages = 5
+[plant]
+den = 8
+a = [[8, 4], [0, 8]]
+b = [[1], [4]]
+[cost]
+den = 1
+row_den = 1
+input = [1]
+stage = [[1, 0, 0, 1], [0, 1, 0, 1]]
+final = []
+[limits]
+den = 1
+stage = [[0, 0, 1, 4], [0, 0, -1, 4], [1, 0, 0, 8], [-1, 0, 0, 8], [0, 1, 0, 2], [0, -1, 0, 2]]
+final = [[1, 0, 8], [-1, 0, 8], [0, 1, 2], [0, -1, 2]]
+[box]
+grid = 4
+lo = [-64, -16]
+hi = [64, 16]
+[targets]
+den = 16
+violation = 1
+gap = 16
+"""
+AXIS_POLICY = "1,0,0,0,0,0\n" * 4
+# an axis over ten stages with denominators of 2^16, whose `prediction` passes the limit
+FINE_AXIS = (AXIS.replace("stages = 5", "stages = 10").replace("den = 8\na = [[8, 4], [0, 8]]\nb = [[1], [4]]", "den = 65536\na = [[65536, 32768], [0, 65536]]\nb = [[8192], [32768]]"))
+FINE_AXIS_POLICY = "1" + ",0" * 10 + "\n"
+
+
+def folder_with(case, **files):
+    """A folder with these files, which goes with the test case; name -> path."""
+    held = tempfile.TemporaryDirectory()
+    case.addCleanup(held.cleanup)
+    paths = {}
+    for name, text in files.items():
+        paths[name] = os.path.join(held.name, name)
+        with open(paths[name], "wb") as file:
+            file.write(text if isinstance(text, bytes) else text.encode())
+    return held.name, paths
