@@ -1,14 +1,19 @@
-"""An independent model of `generate`, in exact whole numbers and fractions: what a design and a policy text are answered with.
+"""An independent model of a design: what a design and a policy text are answered with, in exact whole numbers and fractions.
 
-It simulates the plant, condenses, chooses and bounds by the definitions of docs/DEFINITIONS.md, and shares no code with the program. Only the gains are
-left out, since any good solutions will do; so the width, which follows from them, is bounded and not told.
+It simulates the plant, condenses, chooses and bounds by the definitions of docs/DEFINITIONS.md, and shares no code with the program. The gains are left out,
+since any good solutions will do: `Choice` says which systems they must solve and which bound they keep, and control.py takes them from there.
 """
 import csv
 import io
 import re
+import sys
 import tomllib
+from dataclasses import dataclass
 from fractions import Fraction
 from math import isqrt
+
+sys.set_int_max_str_digits(0)
+csv.field_size_limit(2**31 - 1)
 
 LIMIT = 2**126
 NUMERATOR = 2**31 - 1
@@ -24,7 +29,7 @@ KEYS = {
 
 
 class Refused(Exception):
-    """The status, and what it carries."""
+    """The status, and the words that its line carries."""
 
 
 def ceil_div(a, b):
@@ -51,7 +56,7 @@ def read_design(data):
     try:
         text = data.decode("utf-8").removeprefix("\ufeff")
         top = tomllib.loads(text)
-    except (UnicodeDecodeError, tomllib.TOMLDecodeError, RecursionError):
+    except (UnicodeDecodeError, ValueError, RecursionError):
         raise Refused(5, "not-toml")
 
     def too_large(v):
@@ -122,25 +127,38 @@ def read_design(data):
     return Design(values)
 
 
+def records(data):
+    """The records of a text of comma-separated fields; an empty line is none."""
+    text = data.removeprefix(b"\xef\xbb\xbf").decode("latin-1")
+    return [r for r in csv.reader(io.StringIO(text, newline="")) if r]
+
+
+def number_field(word):
+    found = re.fullmatch(r" *(-?[0-9]{1,19}) *", word)
+    value = int(found[1]) if found else None
+    return value if found and abs(value) <= 2**63 - 1 else None
+
+
+def read_records(data, width, is_in_range=lambda field, value: True):
+    """Lists of numbers, or the status 5 with the first fault."""
+    rows = []
+    for entry, record in enumerate(records(data), 1):
+        if len(record) != width:
+            raise Refused(5, "fields", entry)
+        row = [number_field(word) for word in record]
+        for field, value in enumerate(row, 1):
+            if value is None or not is_in_range(field, value):
+                raise Refused(5, "number", entry, field)
+        rows.append(row)
+    return rows
+
+
 def read_policy(data, design):
     """The plans, each with its denominator, or the status 5 with the first fault."""
-    text = data.removeprefix(b"\xef\xbb\xbf").decode("latin-1")
-    records = [r for r in csv.reader(io.StringIO(text, newline="")) if r]
-    plans = []
-    for entry, record in enumerate(records, 1):
-        if len(record) != design.entries + 1:
-            raise Refused(5, "fields", entry)
-        numbers = []
-        for field, word in enumerate(record, 1):
-            found = re.fullmatch(r" *(-?[0-9]{1,19}) *", word)
-            value = int(found[1]) if found else None
-            if value is None or abs(value) > 2**63 - 1 or field == 1 and not 1 <= value <= 2**40:
-                raise Refused(5, "number", entry, field)
-            numbers.append(value)
-        plans.append((numbers[0], numbers[1:]))
-    if len(plans) != 2**design.states:
-        raise Refused(5, "count", len(plans))
-    return plans
+    rows = read_records(data, design.entries + 1, lambda field, value: field > 1 or 1 <= value <= 2**40)
+    if len(rows) != 2**design.states:
+        raise Refused(5, "count", len(rows))
+    return [(row[0], row[1:]) for row in rows]
 
 
 class Design:
@@ -276,10 +294,25 @@ def limited(value, name):
     return value
 
 
-def generate(design_text, policy_text):
-    """The report's numbers but for the width, and the greatest width there can be; or Refused."""
-    d = read_design(design_text)
-    plans = read_policy(policy_text, d)
+@dataclass
+class Choice:
+    """What a design and a policy make of a controller, but for the gains: each column of them solves 2 |matrix X - 2^bits column|_j <= matrix_jj, with no
+    entry beyond the column's bound. The columns are those of P, then that of T, then those of W."""
+
+    design: Design
+    report: dict
+    clamp: int
+    rows: list
+    states: list
+    bounds: list
+    matrix: list
+    columns: list
+    entry_bounds: list
+    greatest: int
+
+
+def choose(d, plans):
+    """The choice, or Refused."""
     n, nu, m, g = d.states, d.entries, d.rows, d.grid
     total = lambda rows: max((sum(map(abs, r)) for r in rows), default=0)
     growth = max(d.plant_den, *(sum(map(abs, d.a[i])) + sum(map(abs, d.b[i])) for i in range(n)))
@@ -296,7 +329,8 @@ def generate(design_text, policy_text):
         u = [Fraction(v, plans[c - 1][0]) for v in plans[c - 1][1]]
         for row, residual in enumerate(d.residuals(x, u), 1):
             if -residual < Fraction(1, 2**16):
-                raise Refused(6, c, row)
+                over = d.limit_den * plans[c - 1][0] * 2**g * d.plant_den**d.stages
+                raise Refused(6, c, row, int(-residual * over), over)
             slack = -residual if slack is None else min(slack, -residual)
         dearest = max(dearest, d.cost(x, u))
     margin, cost = (2**16 * slack).__floor__(), dearest.__ceil__()
@@ -343,4 +377,40 @@ def generate(design_text, policy_text):
     violation = ceil_div(2 ** (s + 41) * r, k) + ceil_div(epsilon(f), r)
     report = {"margin": margin, "cost": cost, "multiplier": r, "step": s, "steps": k, "bits": f, "words": n + m + 2 * nu,
               "violation": violation, "gap": epsilon(f), "undercut": r * violation}
-    return report, greatest.bit_length() + 1
+    scaled = lambda rs: [[nearest(v) for v in row] for row in rs]
+    return Choice(d, report, clamp, scaled(g_rows), scaled(e_rows), scaled([b])[0], matrix, columns, bounds, greatest)
+
+
+def why_no_gains(choice, solutions):
+    """What is wrong with these solutions of the choice's columns, or None."""
+    f, matrix = choice.report["bits"], choice.matrix
+    for number, (x, column, bound) in enumerate(zip(solutions, choice.columns, choice.entry_bounds), 1):
+        for j, row in enumerate(matrix):
+            if 2 * abs(sum(h * v for h, v in zip(row, x)) - 2**f * column[j]) > row[j]:
+                return f"entry {j + 1} of gain column {number} is no good solution"
+            if abs(x[j]) > bound:
+                return f"entry {j + 1} of gain column {number} is beyond its bound"
+    return None
+
+
+def exact_gains(choice):
+    """Good solutions by elimination over fractions, each rounded to the nearest; where the rounding isn't good enough, entries are moved until it is."""
+    f, matrix, size = choice.report["bits"], choice.matrix, len(choice.matrix)
+    rows = [[Fraction(v) for v in row] + [Fraction(2**f * column[j]) for column in choice.columns] for j, row in enumerate(matrix)]
+    for j in range(size):
+        rows[j] = [v / rows[j][j] for v in rows[j]]
+        for i in range(size):
+            if i != j and rows[i][j]:
+                factor = rows[i][j]
+                rows[i] = [a - factor * b for a, b in zip(rows[i], rows[j])]
+    solutions = []
+    for number, column in enumerate(choice.columns):
+        x = [(2 * rows[j][size + number] + 1).__floor__() // 2 for j in range(size)]
+        while True:
+            rest = [sum(h * v for h, v in zip(row, x)) - 2**f * c for row, c in zip(matrix, column)]
+            j = max(range(size), key=lambda j: Fraction(abs(rest[j]), matrix[j][j]))
+            if 2 * abs(rest[j]) <= matrix[j][j]:
+                break
+            x[j] -= (2 * rest[j] + matrix[j][j]) // (2 * matrix[j][j])
+        solutions.append(x)
+    return solutions

@@ -1,110 +1,341 @@
 #!/usr/bin/env python3
-"""Changes design and policy texts at random, runs `generate` on them, and compares each answer with the independent model beside this file.
+"""Runs the program's commands on changed and random texts, and compares each answer with the independent model beside this file, to the byte.
 
-    bench/fuzz/run.py PROGRAM [COUNT [SEED]]
+    bench/fuzz/run.py PROGRAM [--cases COUNT] [--seed SEED] [--jobs JOBS] [--kind KIND] [--case NUMBER]
 
-For each of COUNT (1000) changes of the examples the exit status must be the model's, no file may be there but after the status 0, and then the report must hold
-the model's numbers, the controller the model's sizes, and `solve` must answer at a corner. A change that TOML 1.1 reads and Python's reader (1.0) doesn't is
-counted apart, and must still end with a status.
+For each of COUNT (1000) cases the exit status, the line on standard error, standard output and every file that is left must be the model's. A design's gains aren't
+determined: they are taken from the controller that the program wrote, once they are known to solve their systems. Each controller of the kind `controller` that
+is accepted is run with every product and partial sum traced: all must fit its width.
+
+A case is made of the seed and its number alone. --case runs one again and shows it; --kind makes all cases of that kind: generate, solve, controller, loop, demo, usage.
+Two sorts of case are counted apart. A design that TOML 1.1 reads and Python's reader (1.0) doesn't must still end with a status of generate. Where a run would be
+too long for the model, its status, its line and the number of lines are compared, and not the sums.
 """
+import argparse
+import collections
+import multiprocessing
 import os
 import random
+import shutil
 import subprocess
 import sys
 import tempfile
 
 sys.path.insert(0, os.path.dirname(os.path.abspath(__file__)))
+import cases
+import control
 import model
+import program
 
-PROGRAM = os.path.abspath(sys.argv[1])
-COUNT = int(sys.argv[2]) if len(sys.argv) > 2 else 1000
-RANDOM = random.Random(int(sys.argv[3]) if len(sys.argv) > 3 else 1)
-EXAMPLES = os.path.join(os.path.dirname(os.path.abspath(__file__)), "..", "..", "examples")
-PIECES = [b"-", b"0", b"1", b"9", b",", b" ", b"\n", b"\r", b"\"", b"[", b"]", b".", b"=", b"#", b"\xff", b"_", b"x", b"e", b"4294967296", b"9223372036854775808"]
+KINDS = ["generate"] * 34 + ["solve"] * 26 + ["controller"] * 18 + ["loop"] * 18 + ["usage"] * 4
+DEMO_EVERY = 2500
+# the most products that the model makes in a case
+MOST_PRODUCTS = 3_000_000
 
 
-def changed(data):
-    data = bytearray(data)
-    for _ in range(RANDOM.choice([0, 1, 1, 1, 2, 3])):
-        at, how = RANDOM.randrange(len(data) + 1), RANDOM.randrange(6)
-        if how == 0:
-            data[at:at] = RANDOM.choice(PIECES)
+class TooLong(Exception):
+    """The model won't run this controller for as long."""
+
+
+class Case:
+    def __init__(self, kind, words, files):
+        self.kind, self.words, self.files = kind, words, files
+        self.is_traced = False
+
+
+class Maker:
+    """Makes cases by their numbers."""
+
+    def __init__(self, seed, kind):
+        self.seed, self.kind = seed, kind
+        self.designs = list(cases.examples())
+        self.controllers = list(cases.small_controllers(self.designs))
+
+    def case(self, number):
+        pick = random.Random(f"{self.seed} {number}")
+        kind = self.kind or ("demo" if number % DEMO_EVERY == DEMO_EVERY - 1 else pick.choice(KINDS))
+        made = getattr(self, kind)(pick)
+        if kind in ("generate", "solve", "loop") and pick.random() < 0.03:
+            self.rename(pick, made)
+        return made
+
+    def rename(self, pick, made):
+        """Gives a command another name for one of its files: a missing one, a folder, none, one in a folder that isn't there, or that of another file."""
+        at = pick.randrange(1, len(made.words))
+        made.words[at] = pick.choice(["missing", ".", "", "no/file", pick.choice(made.words), "./" + pick.choice(made.words[1:3])])
+
+    def generate(self, pick):
+        design, policy = cases.design_and_policy(pick, self.designs)
+        return Case("generate", ["generate", "d", "p", "c", pick.choice(["r", "r", "r.json", ".json", "r.JSON", "json"])], {"d": design, "p": policy})
+
+    def solve(self, pick):
+        text = pick.choice(self.controllers)[1]
+        c = control.read_controller(text)
+        states = cases.states_text(pick, c)
+        how = pick.random()
+        if how < 0.55:
+            text = cases.changed(pick, text)
+        elif how < 0.9:
+            states = cases.changed(pick, states)
+        if pick.random() < 0.001:
+            states += b"\n" * (control.EVERY_FILE + pick.choice([0, 1]) - len(states))
+        return Case("solve", ["solve", "c", "s"], {"c": text, "s": states})
+
+    def controller(self, pick):
+        _, c = cases.random_controller(pick)
+        made = Case("controller", ["solve", "c", "s"], {"c": control.text_of(c), "s": cases.states_text(pick, c)})
+        made.is_traced = True
+        return made
+
+    def loop(self, pick):
+        design, text = pick.choice(self.controllers)
+        c = control.read_controller(text)
+        how = pick.random()
+        if how < 0.1:
+            text = pick.choice(self.controllers)[1]
+        elif how < 0.4:
+            c = cases.random_controller(pick)[1]
+            design, text = cases.design_beside(pick, c), control.text_of(c)
+        states = cases.states_text(pick, c, 3)
+        turns = str(pick.choice([0, 1, 2, 3, 5, 9, 40]))
+        how = pick.random()
+        if how < 0.35:
+            design = cases.changed(pick, design)
+        elif how < 0.55:
+            text = cases.changed(pick, text)
+        elif how < 0.7:
+            states = cases.changed(pick, states)
+        elif how < 0.75:
+            turns = pick.choice(["01", "-1", "", "+1", "1000001", "1000000", " 1", "1 ", "0x1", "١", "00", "1e1"])
+        return Case("loop", ["loop", "d", "c", "s", turns], {"d": design, "c": text, "s": states})
+
+    def demo(self, pick):
+        return Case("demo", ["demo", str(pick.choice([pick.randrange(2**32), 0, 7, 2**32 - 1, 2**31]))], {})
+
+    def usage(self, pick):
+        design, policy = self.designs[0]
+        text = self.controllers[0][1]
+        words = pick.choice([["generate", "d", "p", "c", "r"], ["solve", "c", "s"], ["loop", "d", "c", "s", "1"], ["demo", "1"], []])
+        words = list(words)
+        how = pick.randrange(4)
+        if how == 0 and words:
+            del words[pick.randrange(len(words))]
         elif how == 1:
-            del data[at : at + RANDOM.choice([1, 1, 2, 9])]
-        elif how == 2:
-            data[at : at + 1] = RANDOM.choice(PIECES)
-        else:
-            digits = [i for i, c in enumerate(data) if 48 <= c <= 57]
-            if digits:
-                i = RANDOM.choice(digits)
-                data[i : i + 1] = str(RANDOM.choice([0, 1, 2, 3, 5, 7, 9, 16, 255, 1048576, 2147483647])).encode()
-    return bytes(data)
+            words.insert(pick.randrange(len(words) + 1), pick.choice(["c", "1", "", "solve", "demo"]))
+        elif how == 2 and words:
+            words[pick.randrange(len(words))] = pick.choice(["", "Solve", "generate", "stay", "c", "d", "01", "4294967296", "-1", "1000001", "99999999999999999999999"])
+        elif words:
+            words[-1] = pick.choice(["01", "-0", "4294967296", "4294967295 ", "x", "", "1000001", "d", "p", "c"])
+        if words[:1] == ["demo"] and words[1:] in (["1"],):
+            words = ["demo", "1", "1"]
+        return Case("usage", words, {"d": design, "p": policy, "c": text, "s": b"0\n"})
 
 
-def answer(design, policy):
+def products(c):
+    return c.steps * (c.nu * (c.n + c.m) + c.m * (c.nu + c.n))
+
+
+class Runner:
+    """Runs cases in a folder of its own."""
+
+    def __init__(self, executable, folder):
+        self.executable, self.folder = executable, folder
+
+    def path(self, name):
+        return os.path.join(self.folder, name)
+
+    def clear(self):
+        for name in os.listdir(self.folder):
+            os.remove(self.path(name))
+
+    def lay(self, files):
+        self.clear()
+        for name, data in files.items():
+            with open(self.path(name), "wb") as file:
+                file.write(data)
+
+    def started(self, words):
+        return subprocess.run([self.executable, *words], cwd=self.folder, stdin=subprocess.DEVNULL, stdout=subprocess.PIPE, stderr=subprocess.PIPE, timeout=600)
+
+    def left(self):
+        found = {}
+        for name in os.listdir(self.folder):
+            with open(self.path(name), "rb") as file:
+                found[name] = file.read()
+        return found
+
+    def check(self, case):
+        """What is wrong, or None; the status; and what the case is counted as besides."""
+        if case.kind == "demo":
+            return self.check_demo(case)
+        self.lay(case.files)
+        ran = self.started(case.words)
+        left = self.left()
+        read = lambda name: case.files.get(os.path.normpath(name)) if name else None
+        write = lambda name: name not in ("", ".", "./", "./.") and "no/" not in name
+        written = lambda: next((left[name] for name in map(os.path.normpath, case.words[3:4]) if name in left), None)
+        return self.compare(case, ran, left, read, write, lambda choice: gains_of(choice, written()))
+
+    def compare(self, case, ran, left, read, write, gains):
+        budget, notes = [MOST_PRODUCTS], []
+
+        def run(c, state):
+            budget[0] -= products(c)
+            if budget[0] < 0:
+                raise TooLong
+            if not case.is_traced:
+                return control.run(c, state)
+            sums, least, greatest = control.traced(c, state)
+            if not (-(2 ** (c.w - 1)) <= least and greatest <= 2 ** (c.w - 1) - 1):
+                raise ValueError(f"a value of {least} .. {greatest} leaves the width {c.w}")
+            notes.append("traced run")
+            return sums
+
+        told = program.Program(case.words, read, write, gains, run)
+        try:
+            said = told.go()
+        except TooLong:
+            lines = ran.stdout.splitlines()
+            begins = b"".join(told.answer.out)
+            well = ran.returncode in (0, 12) and ran.stdout.startswith(begins) and len(lines) >= len(told.answer.out)
+            return None if well else f"status {ran.returncode}, which begins otherwise than the model", ran.returncode, ["too long for the model"]
+        except ValueError as why:
+            return str(why), ran.returncode, notes
+        if case.is_traced and said.status != 11:
+            notes.append("accepted controller")
+        if said.line.endswith(b"not-toml\n") and not ran.stderr.endswith(b"not-toml\n"):
+            well = ran.returncode in (0, 3, 5, 6, 7, 8, 9, 10, 11, 12, 13, 14)
+            return None if well else f"status {ran.returncode}", ran.returncode, ["read by TOML 1.1 alone"]
+        wrong = []
+        if ran.returncode != said.status:
+            wrong.append(f"status {ran.returncode}, not {said.status}")
+        if ran.stderr != said.line:
+            wrong.append(f"line {ran.stderr[:200]!r}, not {said.line!r}")
+        out = b"".join(said.out)
+        if ran.stdout != out:
+            wrong.append(f"output {ran.stdout[:300]!r}, not {out[:300]!r}")
+        files = dict(case.files)
+        for name, data in said.written.items():
+            files[os.path.normpath(name)] = data
+        for name in sorted({*files, *left}):
+            if files.get(name) != left.get(name):
+                wrong.append(f"file {name} {str(left.get(name))[:400]}, not {str(files.get(name))[:400]}")
+        return "; ".join(wrong) or None, said.status, notes
+
+    def check_demo(self, case):
+        """A demo has the gains of the design that it makes, which `generate` writes."""
+        design, policy, _ = program.make(int(case.words[1]), 6)
+        fault, status, _ = self.check(Case("generate", ["generate", "d", "p", "c", "r"], {"d": design, "p": policy}))
+        if fault or status:
+            return f"generate on the made design: status {status}, {fault}", status, []
+        written = self.left()["c"]
+        self.clear()
+        ran = self.started(case.words)
+        gains = lambda choice: gains_of(choice, written)
+        said = program.answer(case.words, None, None, gains)
+        well = (ran.returncode, ran.stderr, ran.stdout, self.left()) == (said.status, said.line, b"".join(said.out), {})
+        return None if well else f"status {ran.returncode} {ran.stderr[:200]!r} {ran.stdout[:400]!r}, not {said.status} {b''.join(said.out)[:400]!r}", said.status, []
+
+
+def gains_of(choice, text):
+    """The gains that a written controller has, if they are good ones; where none was written, the model's own."""
+    if text is None:
+        return model.exact_gains(choice)
     try:
-        return 0, model.generate(design, policy)
+        c = control.read_controller(text)
     except model.Refused as refused:
-        return refused.args[0], refused.args[1:]
+        raise ValueError(f"the controller that was written is none: {refused}")
+    sizes = (c.n, c.m, c.nu)
+    wanted = (choice.design.states, choice.design.rows, choice.design.entries)
+    if sizes != wanted:
+        raise ValueError(f"the controller that was written has the sizes {sizes}, not {wanted}")
+    solutions = [*map(list, zip(*c.p_mat)), c.t, *map(list, zip(*c.w_mat))]
+    why = model.why_no_gains(choice, solutions)
+    if why:
+        raise ValueError(why)
+    return solutions
 
 
-def check(folder, design, policy):
-    """What is wrong with the program's answer, or None; and the status."""
-    for name, data in (("d", design), ("p", policy)):
-        with open(os.path.join(folder, name), "wb") as file:
-            file.write(data)
-    got = subprocess.run([PROGRAM, "generate", "d", "p", "c", "r"], cwd=folder, capture_output=True, timeout=300).returncode
-    status, told = answer(design, policy)
-    there = [name for name in "cr" if os.path.exists(os.path.join(folder, name))]
-    if status == 5 and told == ("not-toml",) and got != 5:
-        return None if got in (0, 6, 7, 8, 9, 10) else f"status {got}", "other reader"
-    if got != status:
-        return f"status {got}, and the model says {status} {told}", status
-    if got != 0:
-        return (f"{there} after status {got}" if there else None), status
-    report, widest = told
-    with open(os.path.join(folder, "r")) as file:
-        lines = dict(line.split()[:2] for line in file.read().splitlines()[:-1])
-    wrong = [key for key, value in report.items() if lines.get(key) != str(value)]
-    if wrong or not 2 <= int(lines["width"]) <= widest:
-        return f"the report differs from the model's in {wrong or 'width'}", status
-    d = model.read_design(design)
-    with open(os.path.join(folder, "s"), "w") as file:
-        file.write(",".join(map(str, d.lo)))
-    run = subprocess.run([PROGRAM, "solve", "c", "s"], cwd=folder, capture_output=True, timeout=300)
-    plan = run.stdout.split()
-    if run.returncode or len(plan) != d.entries + 1:
-        return f"solve answers {run.returncode} {run.stdout[:80]!r}", status
-    average = [model.Fraction(int(v), int(plan[0])) for v in plan[1:]]
-    corner = next(d.corners())
-    over = max(d.residuals(corner, average))
-    if over * 2**40 > report["violation"]:
-        return f"the averaged plan exceeds a row by {float(over)}", status
-    return None, status
+def work(options, numbers, results):
+    maker = Maker(options.seed, options.kind)
+    folder = tempfile.mkdtemp(prefix="fuzz-", dir=options.room)
+    runner = Runner(options.program, folder)
+    while True:
+        first = numbers.get()
+        if first is None:
+            break
+        for number in range(first, min(first + 50, options.cases)):
+            case = maker.case(number)
+            try:
+                fault, status, notes = runner.check(case)
+            except Exception as error:
+                fault, status, notes = f"{type(error).__name__}: {error}", "none", []
+            results.put((number, case.kind, status, notes, fault, case.words if fault else None))
+    shutil.rmtree(folder)
+    results.put(None)
+
+
+def show(options):
+    """Runs one case again, and shows it."""
+    case = Maker(options.seed, options.kind).case(options.case)
+    with tempfile.TemporaryDirectory() as folder:
+        fault, status, notes = Runner(options.program, folder).check(case)
+    print(f"case {options.case} of seed {options.seed}: {case.kind} {case.words}")
+    for name, data in case.files.items():
+        print(f"--- {name}, {len(data)} bytes\n{data[:4000].decode('latin-1')}")
+    print(f"--- status {status}, {', '.join(notes) or 'nothing besides'}\n{fault or 'as the model says'}")
+    sys.exit(fault is not None)
 
 
 def main():
-    names = sorted(os.listdir(EXAMPLES))
-    counts, wrong = {}, 0
-    for number in range(COUNT):
-        name = RANDOM.choice(names)
-        with open(os.path.join(EXAMPLES, name, "design.toml"), "rb") as file:
-            design = file.read()
-        with open(os.path.join(EXAMPLES, name, "policy.csv"), "rb") as file:
-            policy = file.read()
-        if RANDOM.random() < 0.7:
-            design = changed(design)
-        else:
-            policy = changed(policy)
-        with tempfile.TemporaryDirectory() as folder:
-            fault, status = check(folder, design, policy)
-            counts[status] = counts.get(status, 0) + 1
-            if fault:
-                wrong += 1
-                print(f"{name}, change {number}: {fault}\n{design.decode('latin-1')}\n{policy.decode('latin-1')}")
-    print("answers:", ", ".join(f"{count} of status {status}" for status, count in sorted(counts.items(), key=str)))
-    print(f"{COUNT - wrong} as the model says, {wrong} not")
-    sys.exit(wrong > 0)
+    parser = argparse.ArgumentParser(description=__doc__, formatter_class=argparse.RawDescriptionHelpFormatter)
+    parser.add_argument("program")
+    parser.add_argument("--cases", type=int, default=1000)
+    parser.add_argument("--seed", type=int, default=1)
+    parser.add_argument("--jobs", type=int, default=os.cpu_count())
+    parser.add_argument("--kind", choices=["generate", "solve", "controller", "loop", "demo", "usage"])
+    parser.add_argument("--case", type=int)
+    options = parser.parse_args()
+    options.program = os.path.abspath(options.program)
+    if options.case is not None:
+        show(options)
+    with tempfile.TemporaryDirectory(prefix="fuzz-") as options.room:
+        sys.exit(run_all(options))
 
 
-main()
+def run_all(options):
+    numbers, results = multiprocessing.Queue(), multiprocessing.Queue()
+    for first in range(0, options.cases, 50):
+        numbers.put(first)
+    for _ in range(options.jobs):
+        numbers.put(None)
+    workers = [multiprocessing.Process(target=work, args=(options, numbers, results)) for _ in range(options.jobs)]
+    for it in workers:
+        it.start()
+    statuses, apart, wrong, done, ended = collections.Counter(), collections.Counter(), [], 0, 0
+    while ended < options.jobs:
+        result = results.get()
+        if result is None:
+            ended += 1
+            continue
+        number, kind, status, notes, fault, words = result
+        done += 1
+        statuses[kind, status] += 1
+        apart.update(set(notes))
+        if fault:
+            wrong.append(number)
+            print(f"case {number} of seed {options.seed}, {words}: {fault}", flush=True)
+        if done % 10000 == 0:
+            print(f"{done} of {options.cases} cases, {len(wrong)} wrong", file=sys.stderr, flush=True)
+    print(f"seed {options.seed}, {done} cases")
+    for kind in sorted({kind for kind, _ in statuses}):
+        found = sorted(((str(status), count) for (it, status), count in statuses.items() if it == kind), key=lambda it: (len(it[0]), it[0]))
+        print(f"  {kind}: " + ", ".join(f"{count} of status {status}" for status, count in found))
+    for what, count in sorted(apart.items()):
+        print(f"  {count} cases: {what}")
+    print(f"{done - len(wrong)} as the model says, {len(wrong)} not")
+    return 1 if wrong or done != options.cases else 0
+
+
+if __name__ == "__main__":
+    main()

@@ -1,0 +1,391 @@
+#!/usr/bin/env python3
+"""Runs the built program while memory, files and its output fail, and checks what stands afterwards.
+
+    bench/faults/run.py PROGRAM [--jobs JOBS] [--only memory|files|output]
+
+Memory: under an allocator that refuses one request, the n-th, for every n that the run makes, and again one that refuses the n-th and all later ones. Each run
+must end with the status 1 and its line, or with the right answer; `generate` leaves both files as they were, the others have put some first lines. Where the
+request is the runtime's own, for the arguments, the program ends with 99 and no word. Where all later requests are refused, the line may be missing.
+Files: a limit on a file's size at every number of bytes, a full disk, /dev/full, folders that aren't there, names that can't be read or never end.
+Output: closed, full, limited at every number of bytes, a pipe that nobody reads.
+Each `generate`, `solve`, `loop` and `demo` is compared with the model in ../fuzz.
+"""
+import argparse
+import collections
+import concurrent.futures
+import os
+import resource
+import signal
+import struct
+import subprocess
+import sys
+import tempfile
+
+HERE = os.path.dirname(os.path.abspath(__file__))
+sys.path.insert(0, os.path.join(HERE, "..", "fuzz"))
+import control
+import model
+import program as model_program
+
+EXAMPLES = os.path.join(HERE, "..", "..", "examples")
+MEMORY = b"error 1 memory\n"
+# of each group, so many faults are told
+SHOWN = 20
+OLD = {"c": b"an old controller\n", "r": b"an old report\n", "r.json": b"an old report\n"}
+
+
+def example(name, file):
+    with open(os.path.join(EXAMPLES, name, file), "rb") as it:
+        return it.read()
+
+
+FIRST = {"d": example("first", "design.toml"), "p": example("first", "policy.csv"), "k": example("first", "controller.txt"), "s": b"1\n0\n1\n"}
+# a plant of two states and two inputs, small enough to be run in a moment
+MADE = dict(zip("dps", model_program.make(7, 2)))
+
+
+class Command:
+    """A command with its files, and what the program answers where nothing fails."""
+
+    def __init__(self, executable, name, words, files):
+        self.executable, self.name, self.words, self.files = executable, name, words, files
+        self.outputs = [word for word in words[3:5]] if words[0] == "generate" else []
+
+    def lay(self, folder):
+        for name, data in {**self.files, **{it: OLD[it] for it in self.outputs}}.items():
+            with open(os.path.join(folder, name), "wb") as file:
+                file.write(data)
+
+    def run(self, folder, **how):
+        how = {"stdout": subprocess.PIPE, "stderr": subprocess.PIPE, "stdin": subprocess.DEVNULL, "cwd": folder, "timeout": 600, **how}
+        return subprocess.run([self.executable, *self.words], **how)
+
+    def left(self, folder, names=None):
+        found = {}
+        for name in self.outputs if names is None else names:
+            path = os.path.join(folder, name)
+            if os.path.isfile(path):
+                with open(path, "rb") as file:
+                    found[name] = file.read()
+        return found
+
+    def learn(self):
+        """Takes the right answer from a run where nothing fails, once it is known to be the model's."""
+        with tempfile.TemporaryDirectory() as folder:
+            self.lay(folder)
+            ran = self.run(folder)
+            self.out, self.made = ran.stdout, self.left(folder)
+            problem = self.differs(folder, ran)
+        if problem:
+            sys.exit(f"{self.name}: where nothing fails, {problem}")
+
+    def differs(self, folder, ran):
+        written = self.made.get(self.outputs[0]) if self.outputs else None
+        if self.words[0] == "demo":
+            # its gains are those of the design that it makes
+            design, policy, _ = model_program.make(int(self.words[1]), 6)
+            inner = Command(self.executable, "", ["generate", "d", "p", "c", "r"], {"d": design, "p": policy})
+            inner.lay(folder)
+            inner.run(folder)
+            written = inner.left(folder)["c"]
+
+        def gains(choice):
+            c = control.read_controller(written)
+            solutions = [*map(list, zip(*c.p_mat)), c.t, *map(list, zip(*c.w_mat))]
+            why = model.why_no_gains(choice, solutions)
+            if why:
+                raise ValueError(why)
+            return solutions
+
+        said = model_program.answer(self.words, self.files.get, lambda name: True, gains)
+        if (ran.returncode, ran.stderr, ran.stdout, self.made) != (said.status, said.line, b"".join(said.out), said.written):
+            return f"status {ran.returncode} {ran.stderr} {ran.stdout[:200]} is not the model's {said.status} {said.line} {b''.join(said.out)[:200]}"
+        return None
+
+
+def commands(executable):
+    axis = example("axis", "design.toml"), example("axis", "policy.csv")
+    yield Command(executable, "generate", ["generate", "d", "p", "c", "r"], FIRST)
+    yield Command(executable, "generate, JSON", ["generate", "d", "p", "c", "r.json"], FIRST)
+    yield Command(executable, "generate, two inputs", ["generate", "d", "p", "c", "r"], MADE)
+    yield Command(executable, "generate, an axis", ["generate", "d", "p", "c", "r"], dict(zip("dp", axis)))
+    yield Command(executable, "solve", ["solve", "k", "s"], FIRST)
+    yield Command(executable, "loop", ["loop", "d", "k", "s", "4"], FIRST)
+    yield Command(executable, "demo", ["demo", "7"], {})
+
+
+# ---- memory
+
+
+def compiled(folder):
+    library = os.path.join(folder, "refuse.so")
+    subprocess.run(["cc", "-O2", "-shared", "-fPIC", "-fno-builtin", "-o", library, os.path.join(HERE, "refuse.c")], check=True)
+    return library
+
+
+def refused_run(command, library, at, refuses_all):
+    """The run, what was left, and how many requests were made and refused, and the most bytes lent."""
+    with tempfile.TemporaryDirectory() as folder:
+        command.lay(folder)
+        report = os.path.join(folder, "report-of-the-allocator")
+        env = {"PATH": os.environ.get("PATH", ""), "LD_PRELOAD": library, "REFUSE_REPORT": report, "REFUSE_AT": str(at)}
+        if refuses_all:
+            env["REFUSE_ALL"] = "1"
+        ran = command.run(folder, env=env)
+        with open(report, "rb") as file:
+            asked, refused, peak = struct.unpack("QQQ", file.read())
+        return ran, command.left(folder), asked, refused, peak
+
+
+def judged(command, ran, left, refuses_all):
+    """What the run is counted as, or what is wrong with it."""
+    as_before = {name: OLD[name] for name in command.outputs}
+    if ran.returncode == 0 and (ran.stderr, ran.stdout, left) == (b"", command.out, command.made):
+        return "the right answer all the same", None
+    if ran.returncode == 99 and (ran.stderr, ran.stdout, left) == (b"", b"", as_before):
+        return "no arguments (99)", None
+    if ran.returncode != 1 or ran.stderr not in ([MEMORY, b""] if refuses_all else [MEMORY]):
+        return None, f"status {ran.returncode}, line {ran.stderr[:200]}"
+    if left != as_before:
+        return None, f"files are {left}"
+    if not command.out.startswith(ran.stdout):
+        return None, f"output {ran.stdout[:200]}"
+    if ran.stdout and not ran.stdout.endswith(b"\n") and command.words[0] != "demo":
+        return None, f"output ends within a line: {ran.stdout[-80:]}"
+    return "memory (1)" if ran.stderr else "memory (1), no line", None
+
+
+def memory(options, library):
+    wrong = 0
+    for command in commands(options.program):
+        command.learn()
+        _, _, asked, refused, peak = refused_run(command, library, 0, False)
+        print(f"{command.name}: {asked} requests, at most {peak} bytes at a time")
+        for refuses_all in (False, True):
+
+            def one(at):
+                ran, left, _, refused, _ = refused_run(command, library, at, refuses_all)
+                kind, fault = judged(command, ran, left, refuses_all)
+                if not fault and not refused:
+                    kind, fault = None, "nothing was refused"
+                return at, kind, fault
+
+            counts = collections.Counter()
+            with concurrent.futures.ThreadPoolExecutor(options.jobs) as pool:
+                for at, kind, fault in pool.map(one, range(1, asked + 1)):
+                    counts[kind] += 1
+                    if fault:
+                        wrong += 1
+                        if wrong <= SHOWN:
+                            print(f"  request {at}{' and later' if refuses_all else ''} refused: {fault}")
+            ran, left, _, refused, _ = refused_run(command, library, asked + 1, refuses_all)
+            if refused or judged(command, ran, left, refuses_all)[0] != "the right answer all the same":
+                wrong += 1
+                print(f"  with request {asked + 1} refused, which isn't made: status {ran.returncode}")
+            print(f"  {'the n-th and all later ones' if refuses_all else 'the n-th'} refused: " + ", ".join(f"{count} {kind}" for kind, count in counts.most_common()), flush=True)
+    return wrong
+
+
+# ---- files and output
+
+
+def limited(size):
+    """A limit on the size of each file that is written; without its signal the write is answered with an error."""
+
+    def set_limit():
+        signal.signal(signal.SIGXFSZ, signal.SIG_IGN)
+        resource.setrlimit(resource.RLIMIT_FSIZE, (size, size))
+
+    return set_limit
+
+
+def is_proper_prefix(some, whole):
+    return len(some) < len(whole) and whole.startswith(some)
+
+
+class Checks:
+    def __init__(self):
+        self.count, self.wrong = 0, 0
+
+    def expect(self, what, holds, told=""):
+        self.count += 1
+        if not holds:
+            self.wrong += 1
+            if self.wrong <= SHOWN:
+                print(f"  {what}: {told}")
+
+    def ended(self, what, ran, status, line):
+        self.expect(what, ran.returncode == status and ran.stderr == line, f"status {ran.returncode} {ran.stderr[:200]}, not {status} {line}")
+
+
+def after_limit(checks, what, command, ran, left, size):
+    """generate, where no file may grow beyond so many bytes."""
+    c, r = command.outputs
+    whole_c, whole_r = command.made[c], command.made[r]
+    if size < len(whole_c):
+        checks.ended(what, ran, 4, b"error 4 write-fault 3\n")
+        checks.expect(what, left.get(c) == OLD[c] or is_proper_prefix(left.get(c, b"?"), whole_c), f"the controller file holds {left.get(c)}")
+        checks.expect(what, left.get(r) == OLD[r], f"the report file holds {left.get(r)}")
+    elif size < len(whole_r):
+        checks.ended(what, ran, 4, b"error 4 write-fault 4\n")
+        checks.expect(what, left.get(c) == whole_c, "the controller isn't whole")
+        checks.expect(what, left.get(r) == OLD[r] or is_proper_prefix(left.get(r, b"?"), whole_r), f"the report file holds {left.get(r)}")
+    else:
+        checks.ended(what, ran, 0, b"")
+        checks.expect(what, left == command.made, "the files aren't whole")
+
+
+def solve_what_is_left(checks, what, command, folder):
+    """A part of a controller is refused at the line where it ends."""
+    with open(os.path.join(folder, command.outputs[0]), "rb") as file:
+        held = file.read()
+    with open(os.path.join(folder, "s"), "wb") as file:
+        file.write(b"1\n")
+    ran = Command(command.executable, "", ["solve", command.outputs[0], "s"], {}).run(folder)
+    said = model_program.answer(["solve", "c", "s"], {"c": held, "s": b"1\n"}.get, None, None)
+    checks.ended(what, ran, said.status, said.line)
+
+
+def files(options, _):
+    checks = Checks()
+    given = list(commands(options.program))
+    text, json, *_ = given
+    for command in (text, json):
+        command.learn()
+        for size in range(max(map(len, command.made.values())) + 2):
+            with tempfile.TemporaryDirectory() as folder:
+                command.lay(folder)
+                ran = command.run(folder, preexec_fn=limited(size))
+                what = f"{command.name}, files of at most {size} bytes"
+                after_limit(checks, what, command, ran, command.left(folder), size)
+                if ran.returncode == 4 and command is text:
+                    solve_what_is_left(checks, f"{what}, then solve", command, folder)
+    print(f"a limit on a file's size: {checks.count} checks, {checks.wrong} wrong", flush=True)
+    large = Command(options.program, "generate, six stages", text.words, dict(zip("dp", model_program.make(7, 6))))
+    large.learn()
+    full_disk(checks, large)
+    where = {"/dev/full": (4, 3), "no/c": (4, 3), ".": (4, 3), "": (4, 3)}
+    for name, (status, file) in where.items():
+        for at in (3, 4):
+            words = list(text.words)
+            words[at] = name
+            with tempfile.TemporaryDirectory() as folder:
+                text.lay(folder)
+                ran = Command(options.program, "", words, {}).run(folder)
+                left = text.left(folder)
+            what = f"{words}"
+            checks.ended(what, ran, status, f"error {status} write-fault {at}\n".encode())
+            wanted = {"c": text.made["c"] if at == 4 else OLD["c"], "r": OLD["r"]}
+            checks.expect(what, left == wanted, f"the files hold {left}")
+    for name, status, line in (("missing", 3, "read-fault"), (".", 3, "read-fault"), ("", 3, "read-fault"), ("/proc/self/mem", 3, "read-fault"), ("/dev/zero", 13, "long")):
+        for command in given:
+            for at in {"generate": (1, 2), "solve": (1, 2), "loop": (1, 2, 3)}.get(command.words[0], ()):
+                words = list(command.words)
+                words[at] = name
+                with tempfile.TemporaryDirectory() as folder:
+                    command.lay(folder)
+                    ran = Command(options.program, "", words, {}).run(folder)
+                    left = command.left(folder)
+                checks.ended(f"{words}", ran, status, f"error {status} {line} {at}\n".encode())
+                checks.expect(f"{words}", ran.stdout == b"" and left == {it: OLD[it] for it in command.outputs}, "something was written")
+    print(f"files: {checks.count} checks, {checks.wrong} wrong", flush=True)
+    return checks.wrong
+
+
+def full_disk(checks, command):
+    """generate on a file system in memory on which so many pages are free."""
+    page, told = resource.getpagesize(), []
+    whole = command.made[command.outputs[0]]
+    for pages in range(len(whole) // page + 3):
+        with tempfile.TemporaryDirectory() as folder:
+            command.lay(folder)
+            words = " ".join(f"'{word}'" for word in [command.executable, "generate", "d", "p", "full/c", "full/r"])
+            # a file takes the other pages; the copies are made before the file system is gone
+            script = f"""set -e
+mkdir full && mount -t tmpfs -o size={page * (pages + 2)} none full
+head -c {page} /dev/zero >full/filler
+head -c {page} /dev/zero >full/filler2
+status=0; {words} >out 2>err || status=$?
+cp full/c c-left 2>/dev/null || true; cp full/r r-left 2>/dev/null || true
+echo $status >status"""
+            ran = subprocess.run(["unshare", "--user", "--map-root-user", "--mount", "sh", "-c", script], cwd=folder, capture_output=True)
+            if ran.returncode:
+                print(f"a full disk: not tried, since no file system can be mounted here ({ran.stderr.decode().strip()[:200]})")
+                return
+            found = command.left(folder, ["out", "err", "status", "c-left", "r-left"])
+        status, line = int(found["status"]), found["err"]
+        c, r = found.get("c-left", b""), found.get("r-left", b"")
+        what = f"a disk with {pages} pages"
+        told.append(status)
+        if pages * page < len(whole):
+            checks.expect(what, (status, line) == (4, b"error 4 write-fault 3\n"), f"status {status} {line}")
+            checks.expect(what, is_proper_prefix(c, whole) and r == b"", f"the controller file has {len(c)} bytes, the report file {len(r)}")
+        elif pages * page < -(-len(whole) // page) * page + page:
+            checks.expect(what, (status, line) == (4, b"error 4 write-fault 4\n"), f"status {status} {line}")
+            checks.expect(what, c == whole and is_proper_prefix(r, command.made[command.outputs[1]]), "the controller isn't whole")
+        else:
+            checks.expect(what, (status, line, c, r) == (0, b"", whole, command.made[command.outputs[1]]), f"status {status} {line}")
+    print(f"a full disk, from 0 free pages on: statuses {told}", flush=True)
+
+
+def output(options, _):
+    checks = Checks()
+    fault = b"error 4 write-fault 0\n"
+    for command in commands(options.program):
+        if command.words[0] == "generate":
+            continue
+        command.learn()
+        with tempfile.TemporaryDirectory() as folder:
+            command.lay(folder)
+            # (an output that is closed is none to subprocess, so the child closes it itself)
+            checks.ended(f"{command.name}, output closed", command.run(folder, stdout=None, preexec_fn=lambda: os.close(1)), 4, fault)
+            with open("/dev/full", "wb") as full:
+                checks.ended(f"{command.name} to /dev/full", command.run(folder, stdout=full), 4, fault)
+            reads, writes = os.pipe()
+            os.close(reads)
+            checks.ended(f"{command.name} to a pipe that nobody reads", command.run(folder, stdout=writes), 4, fault)
+            os.close(writes)
+            both = command.run(folder, stdout=None, stderr=None, preexec_fn=lambda: (os.close(1), os.close(2)))
+            checks.expect(f"{command.name}, both outputs closed", both.returncode == 4, f"status {both.returncode}")
+            sizes = range(len(command.out) + 2) if len(command.out) < 600 else [*range(0, len(command.out), 97), len(command.out) - 1, len(command.out)]
+            for size in sizes:
+                out = os.path.join(folder, "out")
+                with open(out, "wb") as file:
+                    ran = command.run(folder, stdout=file, preexec_fn=limited(size))
+                with open(out, "rb") as file:
+                    held = file.read()
+                what = f"{command.name}, output of at most {size} bytes"
+                if size < len(command.out):
+                    checks.ended(what, ran, 4, fault)
+                    checks.expect(what, is_proper_prefix(held, command.out), f"it holds {held[:200]}")
+                else:
+                    checks.ended(what, ran, 0, b"")
+                    checks.expect(what, held == command.out, f"it holds {held[:200]}")
+    generate = next(commands(options.program))
+    generate.learn()
+    with tempfile.TemporaryDirectory() as folder:
+        generate.lay(folder)
+        ran = generate.run(folder, stdout=None, preexec_fn=lambda: os.close(1))
+        checks.expect("generate, output closed", ran.returncode == 0 and generate.left(folder) == generate.made, f"status {ran.returncode} {ran.stderr}")
+    print(f"output: {checks.count} checks, {checks.wrong} wrong", flush=True)
+    return checks.wrong
+
+
+def main():
+    parser = argparse.ArgumentParser(description=__doc__, formatter_class=argparse.RawDescriptionHelpFormatter)
+    parser.add_argument("program")
+    parser.add_argument("--jobs", type=int, default=os.cpu_count())
+    parser.add_argument("--only", choices=["memory", "files", "output"])
+    options = parser.parse_args()
+    options.program = os.path.abspath(options.program)
+    wrong = 0
+    with tempfile.TemporaryDirectory() as folder:
+        library = compiled(folder)
+        for name, check in (("files", files), ("output", output), ("memory", memory)):
+            if options.only in (None, name):
+                wrong += check(options, library)
+    print(f"{wrong} wrong")
+    sys.exit(wrong > 0)
+
+
+main()

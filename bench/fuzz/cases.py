@@ -1,0 +1,300 @@
+"""Changed and random texts for run.py: designs, policies, controllers and states, most of them near to what is accepted."""
+import os
+import re
+
+import control
+import model
+import program
+
+EXAMPLES = os.path.join(os.path.dirname(os.path.abspath(__file__)), "..", "..", "examples")
+PIECES = [b"-", b"0", b"1", b"9", b",", b" ", b"\n", b"\r", b"\r\n", b'"', b"[", b"]", b".", b"=", b"#", b"\xff", b"\x00", b"_", b"x", b"e", b"\t", b"'", b"{", b"}",
+          b"\xef\xbb\xbf", b"+1", b"4294967296", b"9223372036854775808"]
+NUMBERS = [0, 0, 1, 1, 2, 3, 4, 5, 7, 8, 9, 12, 13, 16, 20, 21, 24, 25, 40, 41, 48, 49, 64, 128, 129, 252, 253, 255, 1000, 4096, 65536, 1048576, 1048577, 4194304, 4194305, 2147483647,
+           2147483648, 2**40, 2**40 + 1, 2**62, 2**63 - 1, 2**63, 2**126, 2**126 + 1, 2**127 - 1, 2**127]
+
+
+def bytes_changed(pick, data):
+    data = bytearray(data)
+    for _ in range(pick.choice([1, 1, 1, 2, 3])):
+        at, how = pick.randrange(len(data) + 1), pick.randrange(5)
+        if how == 0:
+            data[at:at] = pick.choice(PIECES)
+        elif how == 1:
+            del data[at : at + pick.choice([1, 1, 2, 9])]
+        elif how == 2:
+            data[at : at + 1] = pick.choice(PIECES)
+        elif how == 3:
+            data[at : at + 1] = bytes([pick.randrange(256)])
+        elif pick.random() < 0.3:
+            del data[at:]
+    return bytes(data)
+
+
+def number_changed(pick, data, most=None):
+    """One of the text's numbers is made another."""
+    found = list(re.finditer(rb"-?[0-9]+", data))
+    if not found:
+        return data
+    it = pick.choice(found)
+    old = int(it[0])
+    new = pick.choice([pick.choice(NUMBERS), pick.choice(NUMBERS), -pick.choice(NUMBERS), old + 1, old - 1, 2 * old, old // 2, pick.randrange(-9, 10)])
+    return data[: it.start()] + str(new).encode() + data[it.end() :]
+
+
+def spelling_changed(pick, data):
+    """One of the text's numbers is spelled in another way, which may or may not be one that is read."""
+    found = list(re.finditer(rb"-?[0-9]+", data))
+    if not found:
+        return data
+    it = pick.choice(found)
+    sign, digits = (b"-", it[0][1:]) if it[0].startswith(b"-") else (b"", it[0])
+    zeros = b"0" * (pick.choice([19, 19, 20, 20, 21, 39, 40]) - len(digits))
+    new = pick.choice([sign + b"0" + digits, sign + zeros + digits, sign + zeros + digits, b" " + it[0], it[0] + b"  ", b"\t" + it[0], it[0] + b"\t", sign + b" " + digits, b"+" + digits,
+                       b"-" + it[0], b"--" + digits, b'"' + it[0] + b'"', b'" ' + it[0] + b'"', b'"' + it[0] + b'" ', b"'" + it[0] + b"'", sign + b"0x" + digits, it[0] + b".0", it[0] + b"e0",
+                       sign + digits[:1] + b"_" + digits[1:], b"-0", b"00", b"", b" ", b"\xc2\xa0" + it[0], it[0] + b"\x00", b"\xd9\xa1"])
+    return data[: it.start()] + new + data[it.end() :]
+
+
+def line_changed(pick, data):
+    lines = data.split(b"\n")
+    at, other = pick.randrange(len(lines)), pick.randrange(len(lines))
+    how = pick.randrange(4)
+    if how == 0:
+        del lines[at]
+    elif how == 1:
+        lines.insert(at, lines[other])
+    elif how == 2:
+        lines[at], lines[other] = lines[other], lines[at]
+    else:
+        lines.insert(at, b"")
+    return b"\n".join(lines)
+
+
+def changed(pick, data):
+    how = pick.random()
+    if how < 0.15:
+        return data
+    if how < 0.45:
+        for _ in range(pick.choice([1, 1, 2])):
+            data = number_changed(pick, data)
+        return data
+    if how < 0.65:
+        return spelling_changed(pick, data)
+    return bytes_changed(pick, data) if how < 0.9 else line_changed(pick, data)
+
+
+# ---- designs
+
+
+def design_text(v):
+    """The text of a design's values, by their places."""
+    table = lambda rows: "[" + ", ".join(f"[{', '.join(map(str, row))}]" for row in rows) + "]"
+    return f"""version = 1
+states = {v["n"]}
+inputs = {v["p"]}
+stages = {v["stages"]}
+[plant]
+den = {v["den"]}
+a = {table(v["a"])}
+b = {table(v["b"])}
+[cost]
+den = {v["cost_den"]}
+row_den = {v["row_den"]}
+input = {v["input"]}
+stage = {table(v["cost"])}
+final = {table(v["final_cost"])}
+[limits]
+den = {v["limit_den"]}
+stage = {table(v["rows"])}
+final = {table(v["final_rows"])}
+[box]
+grid = {v["grid"]}
+lo = {v["lo"]}
+hi = {v["hi"]}
+[targets]
+den = {v["target_den"]}
+violation = {v["violation"]}
+gap = {v["gap"]}
+""".encode()
+
+
+def random_design(pick):
+    """A design of any sizes with a policy of no input, whose corners mostly stand within the limits; now and then its numbers are so large that a quantity is."""
+    n, p, stages = pick.choice([1, 1, 2, 2, 3, 4]), pick.choice([1, 1, 2, 3]), pick.choice([1, 1, 2, 3, 4])
+    den = pick.choice([1, 2, 4, 8, 10, 1000, 65536, 1048576])
+    large = pick.choice([1, 1, 1, 1, 1, 10, 10**4, 2**20])
+    some = lambda count, reach: [pick.randrange(-reach, reach + 1) for _ in range(count)]
+    grid = pick.choice([0, 0, 1, 4, 12, 24])
+    side = pick.choice([0, 1, 1, 2]) << grid
+    limit_den = pick.choice([1, 1, 2, 4, 100, 65536, 1048576])
+    v = {"n": n, "p": p, "stages": stages, "den": den, "a": [some(n, max(1, den // n)) for _ in range(n)], "b": [some(p, 2 * den) for _ in range(n)],
+         "cost_den": pick.choice([1, 1, 1, 8, 256, 1048576]), "row_den": pick.choice([1, 1, 2, 16]), "input": [pick.randrange(1, 9) * large for _ in range(p)]}
+    cost = lambda: [*some(n, 3), pick.choice([0, 0, 1, -2, -large]), pick.randrange(0, 5) * large]
+    reach = lambda row: sum(map(abs, row)) * max(1, side >> grid) + pick.choice([0, 1, 1, 2, limit_den, limit_den, 3 * limit_den])
+    stage_row = lambda: (lambda sigma, phi: [*sigma, *phi, reach(sigma)])(some(n, pick.choice([0, 1, 3, limit_den])), some(p, pick.choice([1, 2, limit_den])))
+    final_row = lambda: (lambda sigma: [*sigma, reach(sigma)])(some(n, pick.choice([1, 3, limit_den])))
+    v |= {"cost": [cost() for _ in range(pick.choice([0, 1, 2]))], "final_cost": [cost() for _ in range(pick.choice([0, 0, 1]))], "limit_den": limit_den,
+          "rows": [stage_row() for _ in range(pick.choice([0, 1, 2, 3]))], "final_rows": [final_row() for _ in range(pick.choice([0, 1, 2]))], "grid": grid,
+          "lo": [pick.choice([-side, 0]) for _ in range(n)], "hi": [pick.choice([side, side, 0]) for _ in range(n)],
+          "target_den": pick.choice([1, 1, 4, 65536, 1048576]), "violation": pick.choice([1, 16, 1000, 10**6, 2**31 - 1]), "gap": pick.choice([1, 1, 100, 2**20, 2**31 - 1])}
+    plan = pick.choice([0, 0, 0, 1, -1])
+    policy = "".join(",".join([str(pick.choice([1, 1, 8, 1000, 2**40])), *[str(plan)] * (p * stages)]) + "\n" for _ in range(2**n))
+    return design_text(v), policy.encode()
+
+
+def large_design(pick):
+    """A design whose numbers are of any magnitude, so that each quantity comes near its limit now and then. The corners mostly stand within the limits."""
+    n, p, stages = pick.choice([1, 1, 1, 2, 3]), pick.choice([1, 1, 2]), pick.choice([1, 1, 1, 2, 3, 5, 9])
+    power = lambda most: min(2**most, (1 << pick.randrange(most + 1)) + pick.choice([0, 0, 0, 1, -1]) or 1)
+    top = 2**31 - 1
+    den, limit_den, grid = power(20), power(20), pick.choice([0, 0, 0, 0, 3, 24])
+    plant = pick.choice([den, den, min(top, power(30))])
+    number = lambda reach: pick.choice([-1, 1, 1]) * min(top, max(1, reach))
+    v = {"n": n, "p": p, "stages": stages, "den": den, "a": [[number(plant) if i == j else 0 for j in range(n)] for i in range(n)],
+         "b": [[number(pick.choice([plant, 1, power(30)])) for _ in range(p)] for _ in range(n)], "cost_den": power(20), "row_den": power(20),
+         "input": [min(top, power(31)) for _ in range(p)], "final_cost": []}
+    side = pick.choice([0, 0, 1]) << grid
+    cost = lambda: [*[pick.choice([0, 1, power(20)]) for _ in range(n)], pick.choice([0, 0, power(30)]), min(top, power(31))]
+    v |= {"cost": [cost() for _ in range(pick.choice([0, 1, 1, 3]))], "limit_den": limit_den, "grid": grid, "lo": [0] * n, "hi": [side] * n}
+    phi = lambda: [pick.choice([0, number(limit_den), number(power(31))]) for _ in range(p)]
+    v |= {"rows": [[*[0] * n, *phi(), min(top, power(31))] for _ in range(pick.choice([1, 1, 2, 12]))], "final_rows": [],
+          "target_den": power(20), "violation": min(top, power(31)), "gap": min(top, power(31))}
+    policy = "".join(",".join(["1", *["0"] * (p * stages)]) + "\n" for _ in range(2**n))
+    return design_text(v), policy.encode()
+
+
+def examples():
+    for name in sorted(os.listdir(EXAMPLES)):
+        texts = [os.path.join(EXAMPLES, name, file) for file in ("design.toml", "policy.csv")]
+        if all(map(os.path.isfile, texts)):
+            yield tuple(open(text, "rb").read() for text in texts)
+
+
+def design_and_policy(pick, base):
+    how = pick.random()
+    if how < 0.45:
+        design, policy = pick.choice(base)
+    elif how < 0.55:
+        design, policy, _ = program.make(pick.randrange(2**32), pick.choice([1, 1, 2]))
+    elif how < 0.7:
+        return large_design(pick)
+    else:
+        design, policy = random_design(pick)
+        if pick.random() < 0.6:
+            return design, policy
+    if pick.random() < 0.65:
+        design = changed(pick, design)
+    else:
+        policy = changed(pick, policy)
+    if pick.random() < 0.002:
+        design += b"#" * (control.EVERY_FILE + pick.choice([0, 1]) - len(design))
+    return design, policy
+
+
+# ---- controllers
+
+
+def small_controllers(base):
+    """Controllers of designs whose targets are so coarse that a run has few steps."""
+    for design, policy in [*base, *(program.make(number, stages)[:2] for number, stages in ((1, 1), (7, 2), (9, 1)))]:
+        coarse = re.sub(rb"violation = [0-9]+\ngap = [0-9]+", b"violation = 2147483647\ngap = 2147483647", re.sub(rb"(targets\]\nden = )[0-9]+", rb"\g<1>1", design))
+        for text in (design, coarse):
+            try:
+                d = model.read_design(text)
+                choice = model.choose(d, model.read_policy(policy, d))
+            except model.Refused:
+                continue
+            if choice.report["steps"] <= 64:
+                yield text, control.text_of(program.generate(d, model.read_policy(policy, d), model.exact_gains)[0])
+                break
+
+
+def random_controller(pick):
+    """A controller in form whose width is near the least one. Some have sums near 2^126, some entries of any size that are only ever multiplied by 0."""
+    n, p, stages, m = pick.choice([1, 1, 2, 3, 4]), pick.choice([1, 1, 2, 3]), pick.choice([1, 1, 2, 3]), pick.choice([1, 1, 2, 3, 5, 8])
+    g = pick.choice([0, 0, 2, 4, 24])
+    f, s, nu = pick.choice([g, pick.randrange(g, 49), min(48, g + 6), 48]), pick.choice([0, 0, 1, 2, 7, 40]), p * stages
+    room = pick.choice([3, 8, 16, 31, 40, 60, 80])
+    number = lambda: pick.randrange(-(1 << pick.randrange(1, room + 1)), (1 << pick.randrange(1, room + 1)) + 1)
+    matrix = lambda rows, cols: [[number() for _ in range(cols)] for _ in range(rows)]
+    side = pick.choice([0, 1, 5, 1 << g, 2**31 - 1])
+    lo = [pick.choice([-side, 0, -pick.randrange(side + 1)]) for _ in range(n)]
+    hi = [pick.choice([side, max(low, 0), pick.randrange(low, side + 1)]) for low in lo]
+    clamp = pick.choice([0, 1, 1 << f, pick.randrange(1 << room), 1 << min(126, f + s + 5)])
+    c = control.Controller(n, p, stages, m, f, g, s, 128, pick.choice([1, 1, 2, 3, 5, 9]), clamp, lo, hi, matrix(nu, n), [number() for _ in range(nu)], matrix(nu, m),
+                           matrix(m, nu), matrix(m, n), [number() for _ in range(m)])
+    any_number = lambda: pick.choice([-(2**127), 2**127 - 1, pick.randrange(-(2**127), 2**127)])
+    kind = pick.choice(["plain", "plain", "near", "near", "idle"])
+    if kind == "idle":
+        make_idle(pick, c, any_number)
+    if kind == "near":
+        bring_near(pick, c)
+    greatest = control.greatest_sum(c)
+    least = max(2, greatest.bit_length() + 1)
+    c.w = min(128, max(2, pick.choice([least, least, least, least, least + 1, least + 9, 128, least - 1])))
+    return kind, c
+
+
+def make_idle(pick, c, any_number):
+    """Makes what some entries are multiplied by 0, and those entries any numbers of 128 bits."""
+    i = pick.randrange(c.n)
+    c.lo[i] = c.hi[i] = 0
+    for row in c.p_mat + c.e_mat:
+        row[i] = any_number()
+    if pick.random() < 0.5:
+        c.clamp = 0
+        c.w_mat = [[any_number() for _ in row] for row in c.w_mat]
+        # with no pull of its own, an input stays 0
+        if pick.random() < 0.5:
+            j = pick.randrange(c.nu)
+            c.p_mat[j] = [any_number() if high == low == 0 else 0 for low, high in zip(c.lo, c.hi)]
+            c.t[j] = 0
+            for row in c.g_mat:
+                row[j] = any_number()
+
+
+def bring_near(pick, c):
+    """Brings a residual's absolute sum to 2^126, or to the next numbers below and above that a change of its bound or of a gain gives."""
+    near = pick.choice([2**126, 2**126, 2**126, 2**100, 2**62, 2**63])
+    how = pick.randrange(2)
+    _, a, _, rows, _, _ = control.absolute_sums(c)
+    if how == 0:
+        i = pick.randrange(c.m)
+        rest = rows[i] - 2**c.f * abs(c.bound[i])
+        if rest <= near:
+            c.bound[i] = pick.choice([-1, 1]) * ((near - rest) // 2**c.f + pick.choice([-1, 0, 0, 1]))
+    else:
+        j = pick.randrange(c.nu)
+        unit = 2 ** (c.f + c.s)
+        rest = a[j] - unit * abs(c.t[j])
+        if rest <= near:
+            c.t[j] = pick.choice([-1, 1]) * ((near - rest) // unit + pick.choice([-1, 0, 0, 1]))
+
+
+def states_text(pick, c, most=4):
+    """Records of states, most of them in the box."""
+    rows = []
+    for _ in range(pick.choice([0, 1, 1, 2, 3, most])):
+        how = pick.random()
+        if how < 0.4:
+            rows.append([pick.choice([low, high]) for low, high in zip(c.lo, c.hi)])
+        elif how < 0.9:
+            rows.append([pick.randrange(low, high + 1) for low, high in zip(c.lo, c.hi)])
+        else:
+            rows.append([pick.choice([low - 1, low, high, high + 1]) for low, high in zip(c.lo, c.hi)])
+    end = pick.choice([b"\n", b"\n", b"\n", b"\r\n", b"\n\n"])
+    return end.join(",".join(map(str, row)).encode() for row in rows) + pick.choice([end, b""] if rows else [b""])
+
+
+def design_beside(pick, c):
+    """A design of any plant with a controller's sizes and grid, or one of them another."""
+    n, p, g = c.n, c.p, c.g
+    if pick.random() < 0.15:
+        n, p, g = pick.choice([(n % 4 + 1, p, g), (n, p % 3 + 1, g), (n, p, pick.choice([0, 1, 24])), (n % 4 + 1, p % 3 + 1, g + 1 if g < 24 else 0)])
+    is_wide = control.greatest_sum(c) > 2**92
+    reach = 2**31 - 1 if is_wide and pick.random() < 0.8 else pick.choice([1, 2, 9, 1000, 2**31 - 1])
+    some = lambda count: [pick.randrange(-reach, reach + 1) for _ in range(count)]
+    v = {"n": n, "p": p, "stages": pick.randrange(1, 21), "den": pick.choice([1, 2, 3, 7, 1000, 1048575, 1048576]), "a": [some(n) for _ in range(n)],
+         "b": [some(p) for _ in range(n)], "cost_den": 1, "row_den": 1, "input": [1] * p, "cost": [], "final_cost": [], "limit_den": 1, "rows": [[0] * (n + p) + [1]],
+         "final_rows": [], "grid": g, "lo": [0] * n, "hi": [0] * n, "target_den": 1, "violation": 1, "gap": 1}
+    return design_text(v)

@@ -1,0 +1,251 @@
+"""An independent model of a controller at work: its text, its absolute sums, the machine with every value that it meets, plan lines and closed loops.
+
+All in exact whole numbers, by docs/FORMATS.md and docs/DEFINITIONS.md, and with no code of the program's.
+"""
+import re
+from dataclasses import dataclass
+from operator import mul
+
+from model import LIMIT, Refused, ceil_div
+
+EVERY_FILE = 4194304
+
+
+@dataclass
+class Controller:
+    n: int
+    p: int
+    stages: int
+    m: int
+    f: int
+    g: int
+    s: int
+    w: int
+    steps: int
+    clamp: int
+    lo: list
+    hi: list
+    p_mat: list
+    t: list
+    w_mat: list
+    g_mat: list
+    e_mat: list
+    bound: list
+
+    @property
+    def nu(self):
+        return self.p * self.stages
+
+    @property
+    def words(self):
+        return self.n + self.m + 2 * self.nu
+
+
+# ---- the text
+
+
+def lines_of(c):
+    """The text's lines: a name and numbers each."""
+    yield "mpc-controller", [1]
+    yield "size", [c.n, c.p, c.stages, c.m]
+    yield "bits", [c.f, c.g, c.s, c.w]
+    yield "steps", [c.steps]
+    yield "clamp", [c.clamp]
+    yield "words", [c.words]
+    yield "lo", c.lo
+    yield "hi", c.hi
+    yield from (("P", row) for row in c.p_mat)
+    yield "T", c.t
+    yield from (("W", row) for row in c.w_mat)
+    yield from (("G", row) for row in c.g_mat)
+    yield from (("E", row) for row in c.e_mat)
+    yield "b", c.bound
+    yield "end", []
+
+
+def text_of(c):
+    return "".join(" ".join([name, *map(str, numbers)]) + "\n" for name, numbers in lines_of(c)).encode()
+
+
+class Reader:
+    """Takes one line after the other; the first that isn't as it must be ends the reading with its number."""
+
+    def __init__(self, data):
+        *self.lines, self.rest = data.split(b"\n")
+        self.at = 0
+
+    def refuse(self):
+        raise Refused(11, "line", self.at)
+
+    def take(self, name, count, holds=lambda numbers: True):
+        self.at += 1
+        if self.at > len(self.lines):
+            self.refuse()
+        words = self.lines[self.at - 1].split(b" ")
+        numbers = [int(word) if re.fullmatch(rb"0|-?[1-9][0-9]*", word) else None for word in words[1:]]
+        if words[0] != name or len(numbers) != count or not all(v is not None and -(2**127) <= v < 2**127 for v in numbers) or not holds(numbers):
+            self.refuse()
+        return numbers
+
+    def rows(self, name, count, width):
+        return [self.take(name, width) for _ in range(count)]
+
+    def end(self):
+        self.take(b"end", 0)
+        self.at += 1
+        if self.at <= len(self.lines) or self.rest:
+            self.refuse()
+
+
+def read_controller(data):
+    """The controller, or the status 11 with the first line that no controller text has there, or unsafe."""
+    text = Reader(data)
+    within = lambda *ranges: lambda numbers: all(low <= v <= high for v, (low, high) in zip(numbers, ranges))
+    text.take(b"mpc-controller", 1, within((1, 1)))
+    n, p, stages, m = text.take(b"size", 4, within((1, 4), (1, 3), (1, 20), (1, 252)))
+    f, g, s, w = text.take(b"bits", 4, lambda v: within((v[1], 48), (0, 24), (0, 40), (2, 128))(v))
+    (steps,) = text.take(b"steps", 1, within((1, 2**22)))
+    (clamp,) = text.take(b"clamp", 1, within((0, LIMIT)))
+    nu = p * stages
+    text.take(b"words", 1, within((n + m + 2 * nu, n + m + 2 * nu)))
+    side = (-(2**31) + 1, 2**31 - 1)
+    lo = text.take(b"lo", n, within(*[side] * n))
+    hi = text.take(b"hi", n, within(*[(low, 2**31 - 1) for low in lo]))
+    c = Controller(n, p, stages, m, f, g, s, w, steps, clamp, lo, hi, text.rows(b"P", nu, n), text.take(b"T", nu), text.rows(b"W", nu, m),
+                   text.rows(b"G", m, nu), text.rows(b"E", m, n), text.take(b"b", m))
+    text.end()
+    greatest = greatest_sum(c)
+    if greatest > LIMIT or greatest > 2 ** (w - 1) - 1:
+        raise Refused(11, "unsafe")
+    return c
+
+
+# ---- the absolute sums
+
+
+def absolute_sums(c):
+    """The lists X, A, U, c, d and e."""
+    dot = lambda xs, ys: sum(abs(x) * y for x, y in zip(xs, ys))
+    x = [max(abs(low), abs(high)) * 2 ** (c.f - c.g) for low, high in zip(c.lo, c.hi)]
+    a = [2**c.s * (dot(c.p_mat[j], x) + abs(c.t[j]) * 2**c.f) + dot(c.w_mat[j], [c.clamp] * c.m) for j in range(c.nu)]
+    u = [ceil_div(v, 2 ** (c.f + c.s)) for v in a]
+    rows = [dot(c.g_mat[i], u) + dot(c.e_mat[i], x) + 2**c.f * abs(c.bound[i]) for i in range(c.m)]
+    d = [c.clamp + ceil_div(v, 2**c.f) for v in rows]
+    e = [c.steps * v for v in u]
+    return x, a, u, rows, d, e
+
+
+def greatest_sum(c):
+    x, a, _, rows, d, e = absolute_sums(c)
+    return max(x + a + rows + d + e)
+
+
+def least_width(c):
+    """The least width from 2 that the sums fit, or None where they pass the limit."""
+    greatest = greatest_sum(c)
+    return None if greatest > LIMIT else max(2, greatest.bit_length() + 1)
+
+
+# ---- the machine
+
+
+def run(c, state):
+    """The sums of all plans."""
+    x = [v << (c.f - c.g) for v in state]
+    # what the state alone decides stands still over the steps
+    pull = [(sum(map(mul, row, x)) + t * 2**c.f) << c.s for row, t in zip(c.p_mat, c.t)]
+    rest = [sum(map(mul, row, x)) - (b << c.f) for row, b in zip(c.e_mat, c.bound)]
+    shift, f, clamp = c.f + c.s, c.f, c.clamp
+    multipliers, sums = [0] * c.m, [0] * c.nu
+    for _ in range(c.steps):
+        plan = [-((fixed + sum(map(mul, row, multipliers))) >> shift) for fixed, row in zip(pull, c.w_mat)]
+        multipliers = [min(clamp, max(0, old + ((fixed + sum(map(mul, row, plan))) >> f))) for old, fixed, row in zip(multipliers, rest, c.g_mat)]
+        sums = [old + new for old, new in zip(sums, plan)]
+    return sums
+
+
+def traced(c, state):
+    """The sums of all plans, and the least and the greatest value that the run meets: every product, every partial sum in the written order, every value before
+    and after a floor, and the sums."""
+    met = [0, 0]
+
+    def meet(v):
+        if v < met[0]:
+            met[0] = v
+        elif v > met[1]:
+            met[1] = v
+        return v
+
+    def total(start, factors, values):
+        """start + the products, one after the other, from the left."""
+        for factor, value in zip(factors, values):
+            start = meet(start + meet(factor * value))
+        return start
+
+    x = [meet(v * 2 ** (c.f - c.g)) for v in state]
+    multipliers, sums = [0] * c.m, [0] * c.nu
+    for _ in range(c.steps):
+        plan = []
+        for j in range(c.nu):
+            pull = meet(total(0, c.p_mat[j], x) + meet(c.t[j] * 2**c.f))
+            whole = total(meet(2**c.s * pull), c.w_mat[j], multipliers)
+            # the part of the multipliers by itself, too
+            total(0, c.w_mat[j], multipliers)
+            plan.append(meet(-meet(whole // 2 ** (c.f + c.s))))
+        new = []
+        for i in range(c.m):
+            residual = total(total(0, c.g_mat[i], plan), c.e_mat[i], x)
+            total(0, c.e_mat[i], x)
+            residual = meet(residual - meet(2**c.f * c.bound[i]))
+            new.append(min(c.clamp, max(0, meet(multipliers[i] + meet(residual // 2**c.f)))))
+        multipliers = [meet(v) for v in new]
+        sums = [meet(old + v) for old, v in zip(sums, plan)]
+    return sums, met[0], met[1]
+
+
+def outside(c, state):
+    """The first coordinate, from 1, that lies outside the box, or None."""
+    return next((i for i, (low, v, high) in enumerate(zip(c.lo, state, c.hi), 1) if not low <= v <= high), None)
+
+
+def line(numbers):
+    return " ".join(map(str, numbers)).encode() + b"\n"
+
+
+def plan_line(c, state, run=run):
+    return line([c.steps << c.f, *run(c, state)])
+
+
+# ---- the closed loop
+
+
+def turn_size(design, c):
+    """The quantity `turn`: what the next state's numerator and denominator can come to."""
+    over = c.steps * 2 ** (c.f - c.g)
+    greatest_inputs = absolute_sums(c)[2]
+    dot = lambda xs, ys: sum(abs(x) * y for x, y in zip(xs, ys))
+    box = [max(abs(low), abs(high)) * over for low, high in zip(c.lo, c.hi)]
+    rows = [dot(design.a[i], box) + dot(design.b[i], [c.steps * v for v in greatest_inputs]) for i in range(c.n)]
+    return 2 * max(rows) + design.plant_den * over
+
+
+def next_state(design, c, state, sums):
+    over = c.steps * 2 ** (c.f - c.g)
+    den = design.plant_den * over
+    exact = [sum(map(mul, design.a[i], state)) * over + sum(map(mul, design.b[i], sums)) for i in range(c.n)]
+    return [(2 * v + den) // (2 * den) for v in exact]
+
+
+def loop_lines(design, c, entry, start, turns, seen, run=run):
+    """The lines of a start state's turns, or after some of them Refused with the turn whose state is outside. A run from a state that `seen` holds isn't made
+    again."""
+    state = start
+    for turn in range(1, turns + 1):
+        coordinate = outside(c, state)
+        if coordinate:
+            raise Refused(12, entry, turn, coordinate)
+        if tuple(state) not in seen:
+            seen[tuple(state)] = run(c, state)
+        sums = seen[tuple(state)]
+        yield line([entry, turn, *state, c.steps << c.f, *sums[: c.p]])
+        state = next_state(design, c, state, sums)

@@ -1,0 +1,218 @@
+#!/usr/bin/env python3
+"""An independent model of the whole program: what each command answers with, to the byte.
+
+    bench/fuzz/program.py COMMAND ..    runs the command as the program does, in the present folder
+
+The one thing that isn't determined is which good solutions a design's gains are. So `answer` is told them by `gains`, a function of the choice; run as a
+program, it takes its own. Everything else is exact: the status, its line on standard error, standard output, and what each file holds.
+"""
+import os
+import sys
+from dataclasses import dataclass, field
+
+sys.path.insert(0, os.path.dirname(os.path.abspath(__file__)))
+import control
+import model
+from model import LIMIT, Refused
+
+NAMES = {1: "memory", 2: "usage", 3: "read-fault", 4: "write-fault", 5: "text", 6: "no-margin", 7: "curvature", 8: "too-many-steps", 9: "too-fine", 10: "too-wide",
+         11: "controller", 12: "outside-box", 13: "long", 14: "mismatch"}
+COUNTS = {"generate": 4, "solve": 2, "loop": 4, "demo": 1}
+OVER = 2**40
+
+
+@dataclass
+class Answer:
+    """The status, its line, standard output in pieces of a line each, and the files that were written."""
+
+    status: int = 0
+    line: bytes = b""
+    out: list = field(default_factory=list)
+    written: dict = field(default_factory=dict)
+
+
+def status_line(status, words):
+    return " ".join(["error", str(status), NAMES[status], *map(str, words)]).encode() + b"\n"
+
+
+def decimal(word, most):
+    """The number, or None: digits with no sign and no leading zero."""
+    is_one = word == "0" or word.isascii() and word.isdigit() and word[0] != "0"
+    return int(word) if is_one and int(word) <= most else None
+
+
+# ---- the texts that are written
+
+
+def report_text(b):
+    rows = [("mpc-report", 1), ("margin", b["margin"], 65536), ("cost", b["cost"]), ("multiplier", b["multiplier"]), ("step", b["step"]), ("steps", b["steps"]),
+            ("bits", b["bits"]), ("width", b["width"]), ("words", b["words"]), ("violation", b["violation"], OVER), ("gap", b["gap"], OVER),
+            ("undercut", b["undercut"], OVER), ("end",)]
+    return "".join(" ".join(map(str, row)) + "\n" for row in rows).encode()
+
+
+def report_json(b):
+    return ("{" + ",".join(f'"{key}":"{value}"' for key, value in sorted({**b, "version": 1}.items())) + "}\n").encode()
+
+
+def make(number, stages):
+    """The design, policy and states texts of a number."""
+    z, drawn = number % 2**31, []
+    for count in (3, 3, 3, 3, 4, 4, 3, 4, 3, 4):
+        z = (1103515245 * z + 12345) % 2**31
+        drawn.append(z // 65536 % count)
+    a11, a12, a21, a22, i1, i2, t1, w1, t2, w2 = (v + low for v, low in zip(drawn, (1, -1, -1, 1, 1, 1, 0, 1, 0, 1)))
+    design = f"""version = 1
+states = 2
+inputs = 2
+stages = {stages}
+[plant]
+den = 4
+a = [[{a11}, {a12}], [{a21}, {a22}]]
+b = [[4, 0], [0, 4]]
+[cost]
+den = 1
+row_den = 1
+input = [{i1}, {i2}]
+stage = [[1, 0, {t1}, {w1}], [0, 1, {t2}, {w2}]]
+final = []
+[limits]
+den = 4
+stage = [[0, 0, 4, 0, 4], [0, 0, -4, 0, 4], [0, 0, 0, 4, 4], [0, 0, 0, -4, 4], [4, 0, 0, 0, 5], [-4, 0, 0, 0, 5], [0, 4, 0, 0, 5], [0, -4, 0, 0, 5]]
+final = [[4, 0, 5], [-4, 0, 5], [0, 4, 5], [0, -4, 5]]
+[box]
+grid = 4
+lo = [-16, -16]
+hi = [16, 16]
+[targets]
+den = 4
+violation = 1
+gap = 4
+"""
+    policy = ("1" + ",0" * 2 * stages + "\n") * 4
+    return design.encode(), policy.encode(), b"-16,-16\n16,-16\n-16,16\n16,16\n"
+
+
+# ---- the commands
+
+
+def generate(d, plans, gains):
+    """The controller and its bounds, or Refused."""
+    choice = model.choose(d, plans)
+    columns, n, r = gains(choice), d.states, choice.report
+    side_by_side = lambda some: [list(row) for row in zip(*some)]
+    c = control.Controller(n, d.inputs, d.stages, d.rows, r["bits"], d.grid, r["step"], 2, r["steps"], choice.clamp, list(d.lo), list(d.hi),
+                           side_by_side(columns[:n]), list(columns[n]), side_by_side(columns[n + 1 :]), choice.rows, choice.states, choice.bounds)
+    c.w = control.least_width(c)
+    return c, {**r, "width": c.w}
+
+
+class Program:
+    """The words are texts, the first of them the command; `read` gives a name's bytes, or None where it can't be read; `write` tells whether a name could be
+    written. `run` gives a controller's sums from a state."""
+
+    def __init__(self, words, read, write, gains, run=control.run, put=None):
+        self.words, self.read, self.write, self.gains, self.run = words, read, write, gains, run
+        self.answer = Answer()
+        self.put = put or self.answer.out.append
+
+    def text(self, file, reader):
+        """What the reader makes of the file at this place among the words."""
+        data = self.read(self.words[file])
+        if data is None:
+            raise Refused(3, file)
+        if len(data) > control.EVERY_FILE:
+            raise Refused(13, file)
+        try:
+            return reader(data)
+        except Refused as refused:
+            raise Refused(refused.args[0], file, *refused.args[1:])
+
+    def usage(self):
+        words = self.words
+        if not words or COUNTS.get(words[0]) != len(words) - 1:
+            raise Refused(2)
+        names = words[1:]
+        if words[0] == "generate" and (names.count(names[2]) > 1 or names.count(names[3]) > 1):
+            raise Refused(2)
+        if words[0] == "loop" and decimal(names[3], 1000000) is None or words[0] == "demo" and decimal(names[0], 2**32 - 1) is None:
+            raise Refused(2)
+
+    def go(self):
+        try:
+            self.usage()
+            getattr(self, self.words[0])()
+        except Refused as refused:
+            status, *words = refused.args
+            self.answer.status, self.answer.line = status, status_line(status, words)
+        return self.answer
+
+    def generate(self):
+        d = self.text(1, model.read_design)
+        plans = self.text(2, lambda data: model.read_policy(data, d))
+        c, b = generate(d, plans, self.gains)
+        told = report_json if self.words[4].endswith(".json") else report_text
+        for file, data in ((3, control.text_of(c)), (4, told(b))):
+            if not self.write(self.words[file]):
+                raise Refused(4, file)
+            self.answer.written[self.words[file]] = data
+
+    def solve(self):
+        c = self.text(1, control.read_controller)
+        rows = self.text(2, lambda data: model.read_records(data, c.n))
+        for entry, row in enumerate(rows, 1):
+            if control.outside(c, row):
+                raise Refused(12, entry, 0, control.outside(c, row))
+        for row in rows:
+            self.put(control.plan_line(c, row, self.run))
+
+    def loop(self):
+        d = self.text(1, model.read_design)
+        c = self.text(2, control.read_controller)
+        for name, design, controller in (("states", d.states, c.n), ("inputs", d.inputs, c.p), ("grid", d.grid, c.g)):
+            if design != controller:
+                raise Refused(14, name, design, controller)
+        rows = self.text(3, lambda data: model.read_records(data, c.n))
+        if rows and control.turn_size(d, c) > LIMIT:
+            raise Refused(10, "turn")
+        seen = {}
+        for entry, row in enumerate(rows, 1):
+            for line in control.loop_lines(d, c, entry, row, int(self.words[4]), seen, self.run):
+                self.put(line)
+
+    def demo(self):
+        design, policy, states = make(int(self.words[1]), 6)
+        d = model.read_design(design)
+        c, b = generate(d, model.read_policy(policy, d), self.gains)
+        self.put(report_text(b))
+        for row in model.read_records(states, 2):
+            self.put(control.plan_line(c, row, self.run))
+
+
+def answer(words, read, write, gains, run=control.run):
+    return Program(words, read, write, gains, run).go()
+
+
+def main():
+    def read(name):
+        try:
+            with open(name, "rb") as file:
+                return file.read()
+        except OSError:
+            return None
+
+    def write(name):
+        return name != "" and os.path.isdir(os.path.dirname(name) or ".") and not os.path.isdir(name)
+
+    said = answer(sys.argv[1:], read, write, model.exact_gains)
+    for name, data in said.written.items():
+        with open(name, "wb") as file:
+            file.write(data)
+    sys.stdout.buffer.write(b"".join(said.out))
+    sys.stdout.flush()
+    sys.stderr.buffer.write(said.line)
+    sys.exit(said.status)
+
+
+if __name__ == "__main__":
+    main()

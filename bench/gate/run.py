@@ -1,0 +1,231 @@
+#!/usr/bin/env python3
+"""Proves everything from nothing in a fresh clone, and prints what it took, crate by crate.
+
+    bench/gate/run.py [--lanes N] [--log FILE] [NAME ..]     the gate, `rt ci`: every proof, every test, every must-fail edit
+    bench/gate/run.py --first                                the first answer: ./mpc, which proves and builds the program
+
+What is measured is what is committed. The clone has no kept work, and the gate reads none: it proves over the kit's built library alone. With names, these crates
+and those below them are proved, and the others are taken out of the clone. --lanes N proves N crates side by side with one process each, whatever memory there is;
+without it the gate chooses by processors and memory, and a proof may share several processors, which costs some more processor time.
+
+Processor time is that of the prover's processes, as the system counts it, and memory the most that one process held. The longest chain is that of the proofs'
+times, each crate after those that it stands on: no number of processors gives the first answer sooner.
+"""
+import argparse
+import collections
+import importlib.machinery
+import importlib.util
+import os
+import re
+import resource
+import shutil
+import subprocess
+import sys
+import tempfile
+import time
+
+# the marks, in seconds of processor time
+PROOF, TESTS, WHOLE, FIRST = 120, 180, 150 * 60, 25 * 60
+FIRST_WALL = 8 * 60
+PARTS = ("proof", "tests", "edits")
+
+
+class Run:
+    """A command that was started, what it works for, and what it took."""
+
+    def __init__(self, words, folder, pid):
+        self.words, self.folder, self.pid, self.began = [str(it) for it in words], str(folder or os.getcwd()), pid, time.monotonic()
+        self.seconds = self.memory = self.wall = None
+
+    def end(self, usage):
+        self.seconds, self.memory, self.wall = usage.ru_utime + usage.ru_stime, usage.ru_maxrss * 1024, time.monotonic() - self.began
+
+    def work(self):
+        """The crate and the part of the gate, or None and what else it is."""
+        if "--crate-name" in self.words:
+            crate = self.words[self.words.index("--crate-name") + 1]
+            return crate, "tests" if "--test" in self.words else "edits" if "rt-edit-" in self.folder else "proof"
+        tools = [os.path.basename(it) for it in self.words]
+        if "rattle-link" in tools:
+            return None, "linking"
+        return None, "layout" if "fmt" in self.words else "runs of programs and tests, and the rest"
+
+
+RUNS = []
+
+
+def watch():
+    """Has each command that this process starts counted."""
+    started, waits = subprocess.Popen, os.wait4
+
+    class Watched(started):
+        def __init__(self, args, *given, **named):
+            super().__init__(args, *given, **named)
+            RUNS.append(Run(args if isinstance(args, (list, tuple)) else [args], named.get("cwd"), self.pid))
+
+    def waitpid(pid, options):
+        found, status, usage = waits(pid, options)
+        for it in reversed(RUNS if found else ()):
+            if it.pid == found and it.seconds is None:
+                it.end(usage)
+                break
+        return found, status
+
+    subprocess.Popen, os.waitpid = Watched, waitpid
+
+
+def tool():
+    """rt, as a module of this process."""
+    path = os.path.realpath(shutil.which("rt") or sys.exit("rt isn't on the path"))
+    loader = importlib.machinery.SourceFileLoader("rt", path)
+    module = importlib.util.module_from_spec(importlib.util.spec_from_loader("rt", loader))
+    sys.modules["rt"] = module
+    loader.exec_module(module)
+    return module
+
+
+def crates_in(root):
+    """Each crate with those of the repository that it stands on."""
+    with open(f"{root}/crates.txt") as file:
+        rows = [line.partition("#")[0].partition(":") for line in file if line.partition("#")[0].strip()]
+    named = {name.split()[0]: below.split() for name, _, below in rows}
+    return {name: [it for it in below if it in named] for name, below in named.items()}
+
+
+def below(crates, name):
+    return {name}.union(*(below(crates, it) for it in crates[name]))
+
+
+def keep_only(root, names):
+    crates = crates_in(root)
+    unknown = [it for it in names if it not in crates]
+    if unknown:
+        sys.exit(f"no crate {', '.join(unknown)} in crates.txt")
+    kept = set().union(*(below(crates, it) for it in names))
+    with open(f"{root}/crates.txt") as file:
+        lines = [line for line in file if line.split(":")[0].split(" ")[0].strip() in kept]
+    with open(f"{root}/crates.txt", "w") as file:
+        file.writelines(lines)
+    for it in crates:
+        if it not in kept:
+            shutil.rmtree(f"{root}/crates/{it}")
+
+
+def clone(to):
+    top = subprocess.run(["git", "rev-parse", "--show-toplevel"], cwd=os.path.dirname(os.path.abspath(__file__)), check=True, capture_output=True, text=True).stdout.strip()
+    if subprocess.run(["git", "status", "--porcelain"], cwd=top, check=True, capture_output=True).stdout:
+        print("note: what isn't committed isn't measured", file=sys.stderr)
+    subprocess.run(["git", "clone", "-q", "--no-local", top, to], check=True)
+    return subprocess.run(["git", "log", "-1", "--format=%h %s"], cwd=to, check=True, capture_output=True, text=True).stdout.strip()
+
+
+def longest_chain(crates, seconds):
+    """The chain of crates with the most proof time, and that time."""
+    best = {}
+
+    def chain(name):
+        if name not in best:
+            longest = max(map(chain, crates[name]), key=lambda it: it[0], default=(0, []))
+            best[name] = longest[0] + seconds[name], [*longest[1], name]
+        return best[name]
+
+    return max(map(chain, crates), key=lambda it: it[0])
+
+
+def table(crates, said, wall, total):
+    spent, memory, others, lost = collections.Counter(), collections.Counter(), collections.Counter(), 0
+    for it in RUNS:
+        if it.seconds is None:
+            lost += 1
+            continue
+        crate, part = it.work()
+        if crate is None:
+            others[part] += it.seconds
+            continue
+        spent[crate, part] += it.seconds
+        memory[crate, part] = max(memory[crate, part], it.memory)
+    # besides its edits a crate is checked as it stands, over what they proved, which counts with them
+    named = collections.Counter(re.findall(r"^rt: must-fail (\w+)/", said, re.M))
+    cell = lambda crate, part: f"{spent[crate, part]:.0f} | {memory[crate, part] / 2**20:.0f}" if spent[crate, part] else " | "
+    print("\n| Crate | Proof, s | MB | Tests, s | MB | Edits | s | MB | Together, s |\n|---|--:|--:|--:|--:|--:|--:|--:|--:|")
+    sums = {part: sum(spent[crate, part] for crate in crates) for part in PARTS}
+    order = sorted(crates, key=lambda crate: len(below(crates, crate)))
+    for crate in order:
+        together = sum(spent[crate, part] for part in PARTS)
+        print(f"| `{crate}` | {cell(crate, 'proof')} | {cell(crate, 'tests')} | {named[crate] or ''} | {cell(crate, 'edits')} | {together:.0f} |")
+    most = max(memory.values(), default=0) / 2**20
+    print(f"| all | {sums['proof']:.0f} | | {sums['tests']:.0f} | | {sum(named.values())} | {sums['edits']:.0f} | {most:.0f} | {sum(sums.values()):.0f} |\n")
+    for what, seconds in sorted(others.items()):
+        print(f"{what}: {seconds:.0f} s")
+    rest = total - sum(sums.values()) - sum(others.values())
+    print(f"all: {total / 60:.1f} processor minutes in {wall / 60:.1f} minutes, {rest:.0f} s of it in no command above" + (f"; {lost} commands weren't counted" if lost else ""))
+    length, chain = longest_chain(crates, {crate: spent[crate, "proof"] for crate in crates})
+    steps = [f"{it} {spent[it, 'proof']:.0f}" for it in chain]
+    print(f"longest chain of proofs: {length:.0f} s: {', '.join(steps)}")
+    beyond = [f"the proof of {crate}" for crate in order if spent[crate, "proof"] > PROOF] + [f"the tests of {crate}" for crate in order if spent[crate, "tests"] > TESTS]
+    beyond += ["the whole"] * (total > WHOLE)
+    print("beyond its mark: " + (", ".join(beyond) or "nothing"))
+
+
+def gate(options):
+    with tempfile.TemporaryDirectory(prefix="gate-") as room:
+        root = f"{room}/clone"
+        commit = clone(root)
+        if options.names:
+            keep_only(root, options.names)
+        crates = crates_in(root)
+        print(f"{commit}\n{len(crates)} crates, {os.cpu_count()} processors", flush=True)
+        if options.lanes:
+            os.environ["RT_JOBS"] = str(options.lanes)
+        log = open(options.log, "w") if options.log else tempfile.TemporaryFile("w+")
+        with log:
+            sys.stdout.flush()
+            kept = os.dup(1)
+            # what rt and its commands print goes to the log
+            os.dup2(log.fileno(), 1)
+            os.chdir(root)
+            before, began = resource.getrusage(resource.RUSAGE_CHILDREN), time.monotonic()
+            watch()
+            try:
+                status = tool().main(["ci"])
+            except SystemExit as ended:
+                status = ended.code
+            finally:
+                sys.stdout.flush()
+                os.dup2(kept, 1)
+                os.chdir("/")
+            wall, after = time.monotonic() - began, resource.getrusage(resource.RUSAGE_CHILDREN)
+            with open(log.name if options.log else f"/proc/self/fd/{log.fileno()}") as file:
+                file.seek(0)
+                said = file.read()
+        last = said.rstrip("\n").split("\n")
+        print("\n".join(last[-40:] if status else last[-1:]))
+        table(crates, said, wall, after.ru_utime + after.ru_stime - before.ru_utime - before.ru_stime)
+        return status
+
+
+def first():
+    with tempfile.TemporaryDirectory(prefix="gate-") as room:
+        print(clone(f"{room}/clone"), flush=True)
+        began = time.monotonic()
+        words = ["./mpc", "generate", "examples/first/design.toml", "examples/first/policy.csv", f"{room}/controller", f"{room}/report"]
+        started = subprocess.Popen(words, cwd=f"{room}/clone")
+        _, status, usage = os.wait4(started.pid, 0)
+        wall, spent = time.monotonic() - began, usage.ru_utime + usage.ru_stime
+    well = os.waitstatus_to_exitcode(status) == 0
+    print(f"the first answer: {'given' if well else 'none'}, {spent / 60:.1f} processor minutes (mark {FIRST // 60}), {wall / 60:.1f} minutes (mark {FIRST_WALL // 60})")
+    return 0 if well else 1
+
+
+def main():
+    parser = argparse.ArgumentParser(description=__doc__, formatter_class=argparse.RawDescriptionHelpFormatter)
+    parser.add_argument("names", nargs="*", metavar="NAME")
+    parser.add_argument("--lanes", type=int)
+    parser.add_argument("--log")
+    parser.add_argument("--first", action="store_true")
+    options = parser.parse_args()
+    options.log = options.log and os.path.abspath(options.log)
+    sys.exit(first() if options.first else gate(options))
+
+
+main()

@@ -1,0 +1,247 @@
+#!/usr/bin/env python3
+"""Runs worked examples whose answers were computed by hand, as commands over files, and compares the status, both outputs and every file.
+
+    bench/rows/run.py PROGRAM [--valgrind]
+
+With --valgrind each runs under valgrind's memory checker, which must have nothing to report: no invalid read or write, no branch on what was never written, no
+block that is lost.
+"""
+import os
+import subprocess
+import sys
+import tempfile
+
+PROGRAM = os.path.abspath(sys.argv[1])
+VALGRIND = "--valgrind" in sys.argv[2:]
+LIMITS = "den = 4\nstage = [[0, 4, 4], [0, -4, 4]]\nfinal = [[4, 1]]\n"
+TARGETS = "den = 1\nviolation = 16\ngap = 1\n"
+BASE = f"""version = 1
+states = 1
+inputs = 1
+stages = 1
+[plant]
+den = 1
+a = [[1]]
+b = [[1]]
+[cost]
+den = 1
+row_den = 1
+input = [1]
+stage = [[1, 0, 1]]
+final = []
+[limits]
+{LIMITS}[box]
+grid = 0
+lo = [0]
+hi = [1]
+[targets]
+{TARGETS}"""
+POLICY = "1,0\n8,-7\n"
+FIRST = """mpc-controller 1
+size 1 1 1 3
+bits 10 0 1 26
+steps 4
+clamp 32768
+words 6
+lo 0
+hi 1
+P 512
+T 0
+W 256 -256 256
+G 1024
+G -1024
+G 1024
+E 0
+E 0
+E 1024
+b 1024 1024 256
+end
+"""
+REPORT = """mpc-report 1
+margin 8192 65536
+cost 1
+multiplier 8
+step 1
+steps 4
+bits 10
+width 26
+words 6
+violation 8896659849216 1099511627776
+gap 804534616064 1099511627776
+undercut 71173278793728 1099511627776
+end
+"""
+JSON = '{"bits":"10","cost":"1","gap":"804534616064","margin":"8192","multiplier":"8","step":"1","steps":"4","undercut":"71173278793728","version":"1",' \
+    '"violation":"8896659849216","width":"26","words":"6"}\n'
+AXIS = """version = 1
+states = 2
+inputs = 1
+stages = 5
+[plant]
+den = 8
+a = [[8, 4], [0, 8]]
+b = [[1], [4]]
+[cost]
+den = 1
+row_den = 1
+input = [1]
+stage = [[1, 0, 0, 1], [0, 1, 0, 1]]
+final = []
+[limits]
+den = 1
+stage = [[0, 0, 1, 4], [0, 0, -1, 4], [1, 0, 0, 8], [-1, 0, 0, 8], [0, 1, 0, 2], [0, -1, 0, 2]]
+final = [[1, 0, 8], [-1, 0, 8], [0, 1, 2], [0, -1, 2]]
+[box]
+grid = 4
+lo = [-64, -16]
+hi = [64, 16]
+[targets]
+den = 16
+violation = 1
+gap = 16
+"""
+COAST = "1,0,0,0,0,0\n" * 4
+GENERATE = ["generate", "d", "p", "c", "r"]
+SOLVE = ["solve", "c", "s"]
+
+
+def sub(text, *pairs):
+    for old, new in pairs:
+        assert text.count(old) == 1, (old, text.count(old))
+        text = text.replace(old, new)
+    return text
+
+
+def targets(den, violation, gap):
+    return TARGETS, f"den = {den}\nviolation = {violation}\ngap = {gap}\n"
+
+
+def steep(n):
+    return sub(BASE, (LIMITS, f"den = 1\nstage = [[0, {n}, {n}]]\nfinal = []\n"), targets(1, 1048576, 1))
+
+
+def refused(words, files, status, line):
+    return words, files, status, "", f"error {status} {line}\n", {}, {}
+
+
+def written(design, policy, **lines):
+    """A design that is accepted, with lines of the report and the controller."""
+    return GENERATE, {"d": design, "p": policy}, 0, "", "", {}, lines
+
+
+def put(words, files, out):
+    return words, files, 0, out, "", {}, {}
+
+
+def rows():
+    """The name, and then the words, the files, the status, both outputs, whole files that are left, and lines of such files."""
+    base = {"d": BASE, "p": POLICY}
+    yield "first design", (GENERATE, base, 0, "", "", {"c": FIRST, "r": REPORT}, {})
+    yield "first design, JSON", (["generate", "d", "p", "c", "r.json"], base, 0, "", "", {"c": FIRST, "r.json": JSON}, {})
+    yield "first controller at 1", put(SOLVE, {"c": FIRST, "s": "1"}, "4096 -2224\n")
+    yield "first controller at 0", put(SOLVE, {"c": FIRST, "s": "0\n"}, "4096 0\n")
+    yield "both states", put(SOLVE, {"c": FIRST, "s": "1\r\n0\r\n"}, "4096 -2224\n4096 0\n")
+    yield "no states", put(SOLVE, {"c": FIRST, "s": ""}, "")
+    yield "finer targets", written(sub(BASE, targets(10, 1, 10)), POLICY, c=["clamp 65536"], r=[
+        "steps 641", "bits 11", "width 28", "violation 104996020212 1099511627776", "gap 400849633280 1099511627776"])
+    yield "least slack", written(BASE, "1,0\n65536,-65535\n", r=["margin 1 65536", "cost 1", "multiplier 65536", "steps 32768", "bits 36"])
+    yield "half that slack", refused(GENERATE, {"d": BASE, "p": "1,0\n131072,-131071\n"}, 6, "no-margin 2 2 4 524288")
+    yield "a box of one point", (GENERATE, {"d": sub(BASE, ("lo = [0]", "lo = [1]")), "p": "8,-7\n8,-7\n"}, 0, "", "",
+                                 {"c": sub(FIRST, ("lo 0\n", "lo 1\n")), "r": REPORT}, {})
+    yield "no cost", written(sub(BASE, ("hi = [1]", "hi = [0]")), "1,0\n1,0\n", c=["P 16", "T 0", "W 8 -8 8", "clamp 128"], r=[
+        "margin 16384 65536", "multiplier 1", "steps 1", "bits 5", "width 13", "violation 5396626407424 1099511627776", "gap 998579896320 1099511627776"])
+    yield "a row that no input moves", written(sub(BASE, ("[0, -4, 4]]", "[0, -4, 4], [4, 0, 5]]")), POLICY, r=["margin 8192 65536", "steps 4", "bits 10"])
+    yield "a row that no corner keeps", refused(GENERATE, {"d": sub(BASE, ("[0, -4, 4]]", "[0, -4, 4], [4, 0, 4]]")), "p": POLICY}, 6, "no-margin 2 3 0 32")
+    yield "the most steps", written(sub(BASE, targets(65536, 1, 65536)), POLICY, r=["steps 4194304", "bits 24", "width 54"])
+    yield "too many steps", refused(GENERATE, {"d": sub(BASE, targets(131072, 1, 131072)), "p": POLICY}, 8, "too-many-steps 8388608")
+    yield "the steepest rows", written(steep(1400000), "1,0\n1,0\n", r=["step 40", "multiplier 1", "steps 4194304", "bits 21", "width 103"])
+    yield "steeper rows", refused(GENERATE, {"d": steep(1500000), "p": "1,0\n1,0\n"}, 7, "curvature")
+    yield "a certificate", written(sub(BASE, ("stages = 1\n", "stages = 2\n"), ("a = [[1]]", "a = [[2]]"), ("stage = [[1, 0, 1]]", "stage = []"), ("final = []", "final = [[1, 0, 100]]"), (
+        LIMITS, "den = 1\nstage = [[0, 1, 1], [0, 1, 2], [0, -1, 1]]\nfinal = []\n"), targets(1, 16, 16)), "1,0,0\n1,0,0\n", r=[
+        "margin 65536 65536", "cost 1600", "multiplier 1600", "step 2", "steps 1600", "bits 24", "gap 13717765934507 1099511627776"])
+    yield "one axis of a satellite", written(AXIS, COAST, r=[
+        "margin 65536 65536", "cost 159", "multiplier 159", "step 1", "steps 20352", "bits 28", "words 46", "violation 38759924039 1099511627776",
+        "gap 699629521553 1099511627776", "undercut 6162827922201 1099511627776"])
+    yield "too fine", refused(GENERATE, {"d": sub(BASE, targets(1048576, 16777216, 1)), "p": "1,0\n65536,-65535\n"}, 9, "too-fine 151000321")
+    yield "a large plant", refused(GENERATE, {"d": sub(BASE, ("stages = 1\n", "stages = 20\n"), ("a = [[1]]", "a = [[2147483647]]")), "p": ("1" + ",0" * 20 + "\n") * 2},
+                                   10, "too-wide prediction")
+    for line, old, new in ((19, "end\n", ""), (2, "size 1 1", "size 1  1"), (10, "T 0", "T -0"), (4, "steps 4", "steps 04"), (20, "end\n", "end\nx"), (6, "words 6", "words 7"),
+                           (1, "mpc-controller 1", "mpc-controller 1\r"), (5, "clamp 32768", "clamp 85070591730234615865843651857942052865")):
+        yield f"controller: {new or 'no end'}", refused(SOLVE, {"c": sub(FIRST, (old, new)), "s": "1"}, 11, f"controller 1 line {line}")
+    yield "gains too large", refused(SOLVE, {"c": sub(FIRST, ("W 256 -256", "W 512 -256")), "s": "1"}, 11, "controller 1 unsafe")
+    yield "an outside state", refused(SOLVE, {"c": FIRST, "s": "1\n2\n"}, 12, "outside-box 2 0 1")
+    yield "no controller", refused(SOLVE, {"s": "1"}, 3, "read-fault 1")
+    yield "no states file", refused(SOLVE, {"c": FIRST}, 3, "read-fault 2")
+    yield "no design", refused(GENERATE, {"p": POLICY}, 3, "read-fault 1")
+    yield "no policy file", refused(GENERATE, {"d": BASE}, 3, "read-fault 2")
+    yield "a long design", refused(GENERATE, {"d": BASE + "#" * (4194305 - len(BASE)), "p": POLICY}, 13, "long 1")
+    yield "the longest design", (GENERATE, {"d": BASE + "#" * (4194304 - len(BASE)), "p": POLICY}, 0, "", "", {"c": FIRST, "r": REPORT}, {})
+    yield "long states", refused(SOLVE, {"c": FIRST, "s": "\n" * 4194305}, 13, "long 2")
+    for fault, design in (("not-toml", "x ="), ("key 13", sub(BASE, ("[limits]\nden = 4\n", "[limits]\n"))), ("key 0", "note = 1\n" + BASE), ("shape 6", sub(BASE, ("a = [[1]]", "a = [[1, 2]]"))),
+                          ("shape 21", sub(BASE, ("gap = 1", "gap = 1.0"))), ("range 10", sub(BASE, ("input = [1]", "input = [0]"))), ("range 18", sub(BASE, ("lo = [0]", "lo = [2]"))),
+                          ("range 2", sub(BASE, ("states = 1", "states = 5"))), ("not-toml", sub(BASE, ("states = 1", "states = 9223372036854775808")))):
+        yield f"design: {fault}", refused(GENERATE, {"d": design, "p": POLICY}, 5, f"text 1 {fault}")
+    for fault, policy in (("fields 2", "1,0\n8\n"), ("number 2 2", "1,0\n8,x\n"), ("number 1 1", "0,0\n8,-7\n"), ("count 3", POLICY + "8,-7\n"), ("count 0", "")):
+        yield f"policy: {fault}", refused(GENERATE, {"d": BASE, "p": policy}, 5, f"text 2 {fault}")
+    for policy in ("1,0\n8,-07\n", "1,0\n8, -7\n", "\r\n\n1,0\r\n\r\n8,-7"):
+        yield f"policy {policy!r}", (GENERATE, {"d": BASE, "p": policy}, 0, "", "", {"c": FIRST, "r": REPORT}, {})
+    loop, files = ["loop", "d", "c", "s"], {"d": BASE, "c": FIRST, "s": "1"}
+    for turns, out in (("0", ""), ("1", "1 1 1 4096 -2224\n"), ("3", "1 1 1 4096 -2224\n1 2 0 4096 0\n1 3 0 4096 0\n")):
+        yield f"loop of {turns} turns", put([*loop, turns], files, out)
+    yield "a loop that leaves the box", ([*loop, "5"], {**files, "d": sub(BASE, ("a = [[1]]", "a = [[3]]"))}, 12, "1 1 1 4096 -2224\n", "error 12 outside-box 1 2 1\n", {}, {})
+    yield "a loop of two sizes", refused([*loop, "1"], {**files, "d": AXIS}, 14, "mismatch states 2 1")
+    for words in ([], ["solve", "c"], ["generate", "d", "p", "c", "c"], ["generate", "d", "p", "d", "r"], [*loop, "01"], [*loop, "1000001"], ["demo", "-1"], ["demo", "4294967296"], ["frob"]):
+        yield f"usage: {words}", refused(words, {**base, **files}, 2, "usage")
+    yield "made design", (["demo", "7"], {}, 0, None, "", {}, {"": [
+        "mpc-report 1", "margin 16384 65536", "cost 63", "multiplier 252", "step 1", "steps 8064", "bits 31", "words 78", "end"]})
+
+
+def wrong(words, files, status, out, line, whole, lines):
+    """What isn't as it must be."""
+    with tempfile.TemporaryDirectory() as folder:
+        for name, text in files.items():
+            with open(os.path.join(folder, name), "w", newline="") as file:
+                file.write(text)
+        under, log = [], folder + ".valgrind"
+        if VALGRIND:
+            under = ["valgrind", "-q", f"--log-file={log}", "--leak-check=full", "--errors-for-leak-kinds=definite", "--track-origins=yes"]
+        ran = subprocess.run([*under, PROGRAM, *words], cwd=folder, stdin=subprocess.DEVNULL, capture_output=True, text=True)
+        left = {}
+        for name in os.listdir(folder):
+            with open(os.path.join(folder, name), newline="") as file:
+                left[name] = file.read()
+    found = []
+    if VALGRIND:
+        with open(log) as file:
+            told = file.read()
+        os.remove(log)
+        if told:
+            found.append(f"valgrind reports {told[:2000]}")
+    if ran.returncode != status:
+        found.append(f"status {ran.returncode}, not {status}")
+    if ran.stderr != line:
+        found.append(f"line {ran.stderr!r}, not {line!r}")
+    if out is not None and ran.stdout != out:
+        found.append(f"output {ran.stdout[:300]!r}, not {out!r}")
+    texts = {**left, "": ran.stdout}
+    missing = {name: [it for it in some if it not in texts.get(name, "").split("\n")] for name, some in lines.items()}
+    found += [f"{name or 'output'} lacks {some}" for name, some in missing.items() if some]
+    wanted = {**files, **whole}
+    wanted |= {name: left.get(name) for name in ("c", "r") if words[:1] == ["generate"] and status == 0 and name not in wanted}
+    found += [f"file {name} {str(left.get(name))[:300]!r}" for name in {*wanted, *left} if wanted.get(name) != left.get(name)]
+    return found
+
+
+def main():
+    failed = count = 0
+    for name, row in rows():
+        count += 1
+        found = wrong(*row)
+        if found:
+            failed += 1
+            print(f"{name}: {'; '.join(found)}")
+    print(f"{count - failed} rows as they must be{', with no report of valgrind' if VALGRIND else ''}, {failed} not")
+    sys.exit(failed > 0)
+
+
+main()
