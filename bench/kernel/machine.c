@@ -1,10 +1,18 @@
 /* The same machine in plain C, with sizes and shifts at run time and no test of any value.
-   It reads a controller text and a states text and puts the plan line of each state. */
+   It reads a controller text and a states text and puts the plan line of each state.
+   A factor is a word of 128 bits, or, with -DFACTOR=int64_t, one of 64: then the matrices, the state, the multipliers and the plan are
+   copied to such words, and sums keep 128 bits. */
+#include <stdint.h>
 #include <stdio.h>
 #include <stdlib.h>
 #include <string.h>
 
 typedef __int128 word;
+
+#ifndef FACTOR
+#define FACTOR word
+#endif
+typedef FACTOR factor;
 
 static FILE *text;
 
@@ -47,26 +55,32 @@ static word *zeros(size_t count) {
     return list;
 }
 
+static factor *factors(size_t count) {
+    factor *list = calloc(count, sizeof(factor));
+    if (!list) fail("memory");
+    return list;
+}
+
 /* A matrix: each row on a line of its own behind its key. */
-static word *matrix(const char *name, int rows, int cols) {
-    word *a = zeros((size_t)rows * cols);
+static factor *matrix(const char *name, int rows, int cols) {
+    factor *a = factors((size_t)rows * cols);
     for (int i = 0; i < rows; i++) {
         key(name);
-        for (int j = 0; j < cols; j++) a[(size_t)i * cols + j] = number();
+        for (int j = 0; j < cols; j++) a[(size_t)i * cols + j] = (factor)number();
     }
     return a;
 }
 
-static word dot(const word *xs, const word *ys, int count) {
+static word dot(const factor *xs, const factor *ys, int count) {
     word sum = 0;
-    for (int i = 0; i < count; i++) sum += xs[i] * ys[i];
+    for (int i = 0; i < count; i++) sum += (word)xs[i] * ys[i];
     return sum;
 }
 
 static struct {
     int n, nu, m, f, g, s, steps;
     word clamp;
-    word *P, *T, *W, *G, *E, *b;
+    factor *P, *T, *W, *G, *E, *b;
 } c;
 
 static void read_controller(const char *name) {
@@ -102,17 +116,19 @@ static void read_controller(const char *name) {
     fclose(text);
 }
 
-static void step(const word *x, word *u, word *l, word *sums) {
-    for (int j = 0; j < c.nu; j++) {
-        word sum = dot(c.P + (size_t)j * c.n, x, c.n) + c.T[j] * ((word)1 << c.f);
-        sum = sum * ((word)1 << c.s) + dot(c.W + (size_t)j * c.m, l, c.m);
-        u[j] = -(sum >> (c.f + c.s));
-    }
+/* What a run's state adds to each sum is the same in all its steps, and is computed once, in nu + m words more than the machine has. */
+static void load(const factor *x, word *own, word *row) {
+    for (int j = 0; j < c.nu; j++)
+        own[j] = (dot(c.P + (size_t)j * c.n, x, c.n) + (word)c.T[j] * ((word)1 << c.f)) * ((word)1 << c.s);
+    for (int i = 0; i < c.m; i++) row[i] = dot(c.E + (size_t)i * c.n, x, c.n) - (word)c.b[i] * ((word)1 << c.f);
+}
+
+static void step(const word *own, const word *row, factor *u, factor *l, word *sums) {
+    for (int j = 0; j < c.nu; j++) u[j] = (factor)-((own[j] + dot(c.W + (size_t)j * c.m, l, c.m)) >> (c.f + c.s));
     for (int i = 0; i < c.m; i++) {
-        word row = dot(c.G + (size_t)i * c.nu, u, c.nu) + dot(c.E + (size_t)i * c.n, x, c.n) - c.b[i] * ((word)1 << c.f);
-        word next = l[i] + (row >> c.f);
+        word next = l[i] + ((dot(c.G + (size_t)i * c.nu, u, c.nu) + row[i]) >> c.f);
         next = next > 0 ? next : 0;
-        l[i] = next < c.clamp ? next : c.clamp;
+        l[i] = (factor)(next < c.clamp ? next : c.clamp);
     }
     for (int j = 0; j < c.nu; j++) sums[j] += u[j];
 }
@@ -120,18 +136,20 @@ static void step(const word *x, word *u, word *l, word *sums) {
 int main(int count, char **words) {
     if (count != 3) fail("usage: machine CONTROLLER STATES");
     read_controller(words[1]);
-    word *x = zeros(c.n), *u = zeros(c.nu), *l = zeros(c.m), *sums = zeros(c.nu);
+    factor *x = factors(c.n), *u = factors(c.nu), *l = factors(c.m);
+    word *sums = zeros(c.nu), *own = zeros(c.nu), *row = zeros(c.m);
     text = fopen(words[2], "r");
     if (!text) fail(words[2]);
     while (fscanf(text, " %*[^-0-9]"), !feof(text)) {
         for (int i = 0; i < c.n; i++) {
-            x[i] = number() * ((word)1 << (c.f - c.g));
+            x[i] = (factor)(number() * ((word)1 << (c.f - c.g)));
             if (fscanf(text, ",") != 0) break;
         }
-        memset(u, 0, c.nu * sizeof(word));
-        memset(l, 0, c.m * sizeof(word));
+        memset(u, 0, c.nu * sizeof(factor));
+        memset(l, 0, c.m * sizeof(factor));
         memset(sums, 0, c.nu * sizeof(word));
-        for (int k = 0; k < c.steps; k++) step(x, u, l, sums);
+        load(x, own, row);
+        for (int k = 0; k < c.steps; k++) step(own, row, u, l, sums);
         put((word)c.steps << c.f);
         for (int j = 0; j < c.nu; j++) {
             putchar(' ');

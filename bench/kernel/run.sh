@@ -1,36 +1,55 @@
 #!/usr/bin/env bash
-# run.sh PROGRAM [STATES] [RUNS]: times `PROGRAM solve CONTROLLER STATES` against the same machine in plain C, on the same
-# files, and compares what they put. It prints the least user time of several runs of each, and the ratio; the mark is 1.1.
+# run.sh PROGRAM [RUNS]: times `PROGRAM solve CONTROLLER STATES` against the same machine in plain C, on the same files, and compares
+# what they put. C is built twice by gcc -O3 for this very processor: with all words of 128 bits, and with factors copied to 64. For each of three sizes it prints the
+# least user time of several runs of each, which take turns, and the program's ratios; the marks are ratios to C with 128 bits.
 set -euo pipefail
 program=$(realpath "$1")
-states=${2:-1}
-runs=${3:-15}
+runs=${2:-15}
 here=$(dirname "$(realpath "$0")")
 work=$(mktemp -d)
 trap 'rm -rf "$work"' EXIT
 
-"${CC:-gcc}" -O3 -o "$work/machine" "$here/machine.c"
-python3 "$here/make.py" "$work" "$states"
+"${CC:-gcc}" -O3 -march=native -o "$work/wide" "$here/machine.c"
+"${CC:-gcc}" -O3 -march=native -DFACTOR=int64_t -o "$work/copies" "$here/machine.c"
 cd "$work"
 TIMEFORMAT=%U
 
-# The least user time, in seconds, of a command whose output goes to a file.
-least() {
-    local out=$1
+# The user time, in seconds, of a command, added to a list; its output goes to a file beside that.
+timed() {
+    local name=$1
     shift
-    for _ in $(seq "$runs"); do
-        { time "$@" >"$out" 2>"$out.err"; } 2>&1
-    done | sort -n | head -1
+    { time "$@" >"$name.lines" 2>"$name.errors"; } 2>>"$name.times"
 }
 
-of_c=$(least lines.c ./machine controller states)
-of_program=$(least lines.program "$program" solve controller states)
-if ! cmp -s lines.c lines.program; then
-    echo "the lines differ" >&2
-    diff lines.c lines.program >&2 || true
-    exit 1
-fi
-awk -v c="$of_c" -v program="$of_program" 'BEGIN {
-    printf "C %.3f s, program %.3f s, ratio %.3f\n", c, program, program / c
-    exit program > 1.1 * c
-}'
+least() {
+    sort -n "$1.times" | head -1
+}
+
+# One size: states, inputs, stages, rows, bits, steps, and the mark.
+size() {
+    python3 "$here/make.py" "$work" "${@:1:6}"
+    rm -f ./*.times
+    for _ in $(seq "$runs"); do
+        timed of_wide ./wide controller states
+        timed of_copies ./copies controller states
+        timed of_program "$program" solve controller states
+    done
+    for other in of_wide of_copies; do
+        if ! cmp -s "$other.lines" of_program.lines; then
+            echo "the lines differ" >&2
+            diff "$other.lines" of_program.lines >&2 || true
+            return 1
+        fi
+    done
+    awk -v rows="$4" -v entries="$(($2 * $3))" -v steps="$6" -v mark="$7" -v wide="$(least of_wide)" -v copies="$(least of_copies)" -v program="$(least of_program)" 'BEGIN {
+        printf "%d rows, %d plan entries, %d steps: program %.3f s; C with 128 bits %.3f s, ratio %.2f, mark %.2f; C with copies of 64 bits %.3f s, ratio %.2f\n", \
+            rows, entries, steps, program, wide, program / wide, mark, copies, program / copies
+        exit program > mark * wide
+    }'
+}
+
+failed=0
+size 2 1 5 34 28 1000000 0.85 || failed=1
+size 2 1 10 64 36 400000 0.8 || failed=1
+size 4 3 20 252 36 30000 0.7 || failed=1
+exit "$failed"

@@ -1,7 +1,7 @@
-pub mod Carries
 pub mod Floors
 pub mod Fits
 pub mod Rooms
 pub mod States
 pub mod NarrowFactors
+pub mod Words
 pub mod Reached

@@ -7,12 +7,13 @@ use Rattle.std.proofs.lemmas.List.{get_or_default, get_or-replicate}
 use Rattle.std.proofs.lemmas.List.FromFn.{get_or-map-range_with_len}
 use Rattle.integer_algebra.specs.Division.{ceil_div}
 use Rattle.integer_algebra.proofs.DivisionLaws.{ceil_div-le}
+use Rattle.mat_int.specs.Narrow.{IsNarrow}
 use Rattle.qp_model.specs.Controller.{Numbers}
 use Rattle.qp_model.specs.AbsoluteSums.{state_reach, clamp_reach, plan_reach, entry_reach, IsController}
 use Rattle.overflow_check.specs.Within.{AreWithin}
 use Rattle.overflow_check.proofs.SumLaws.{sums_fit}
 use Rattle.overflow_check.proofs.Sizes.{length-state_reach, length-clamp_reach, length-plan_reach, get_or-reach_of}
-use Rattle.fixed_kernel.specs.Factors.{IsNarrow, HasNarrowFactors}
+use Rattle.fixed_kernel.specs.Factors.{HasNarrowFactors}
 
 -- ---- lists within reach
 -- numbers within narrow reaches are narrow

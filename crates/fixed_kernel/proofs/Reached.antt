@@ -1,66 +1,192 @@
--- What a kernel's fields are, by its rule.
-use Rattle.std.proofs.Common.{◌≡◌, ℕ, ◌+◌, ◌*◌, ◌≤◌, ◌<◌, ◌^◌, pos, List, ℤ, length, get_or, replicate, unsigned_abs, ap, sym, subst, ◌∙◌, arith, refl, IsTrue}
+-- What a kernel's words are, by its rule.
+use Rattle.std.proofs.Common.{◌≡◌, ℕ, ◌+◌, ◌*◌, ◌≤◌, ◌<◌, ◌^◌, List, ℤ, length, get_or, unsigned_abs, ap, sym, subst, ◌∙◌, arith, refl, IsTrue}
 use Rattle.std.proofs.lemmas.Nat.{mul-le}
+use Rattle.std.proofs.lemmas.List.{length-map}
 use Rattle.integer_algebra.specs.Sums.{at}
-use Rattle.qp_model.specs.Controller.{Numbers}
-use Rattle.qp_model.specs.Machine.{Made, IsGridState, loaded, start_of, after}
+use Rattle.qp_model.specs.Controller.{Numbers, plan_length}
+use Rattle.qp_model.specs.Machine.{Made, IsGridState, loaded, start_of, step_of, after}
 use Rattle.qp_model.specs.AbsoluteSums.{state_reach, clamp_reach, plan_reach, IsController}
 use Rattle.overflow_check.specs.Within.{AreWithin}
-use Rattle.overflow_check.proofs.Runs.{state_within, after_multipliers, after_plan_length, after_multipliers_length, after_sums_length, after_sums_le, after_zero}
+use Rattle.overflow_check.proofs.Runs.{state_within, after_multipliers, after_plan_length, after_multipliers_length, after_sums_length, after_sums_le, after_suc, after_zero}
+use Rattle.std.specs.Prelude.{slice_range}
+use Rattle.word_region.specs.Words.{Words}
+use Rattle.word_region.specs.Lending.{written_over}
+use Rattle.word_region.specs.declared.Span.{Span}
 use Rattle.fixed_kernel.specs.declared.kernel.Kernel.TheInside.{Inside}
 use Rattle.fixed_kernel.specs.Factors.{HasNarrowFactors}
-use Rattle.fixed_kernel.specs.Progress.{unloaded, progress_of, IsReached}
+use Rattle.fixed_kernel.specs.Spans.{words_of, spans_of, state_in, made_in}
+use Rattle.fixed_kernel.specs.Ready.{IsReady}
+use Rattle.fixed_kernel.specs.Progress.{Progress, values_of, region_of, unloaded, progress_of, IsReached}
 use Rattle.fixed_kernel.proofs.Rooms.{fit}
 use Rattle.fixed_kernel.proofs.States.{unloaded-loaded}
+use Rattle.fixed_kernel.proofs.Words.{state_back, made_back, words_long, written_whole, lent_whole}
 
--- ---- the machine's values after the steps made, from the state as it is held
-pub values_held : (k : Inside) → IsReached k → record { plan = k.plan.items; multipliers = k.multipliers.items; sums = k.sums.items } ≡ after k.controller.now k.state.items k.made
-values_held k r = r.values ∙ ap (λ (s : List ℤ). after k.controller.now s k.made) (sym r.state)
+-- ---- the machine's values after some steps from a state
+-- a controller, a state of its box, and steps that it has
+pub record Goes (p : Progress) : Type 0 where
+  pub sound : IsController p.controller
+  pub grid : IsGridState p.controller p.state
+  pub steps : p.made ≤ p.controller.steps
 
-pub plan_length : (k : Inside) → IsReached k → length k.plan.items ≡ length k.controller.now.offsets
-plan_length k r = ap (λ (m : Made). length m.plan) (values_held k r) ∙ after_plan_length k.controller.now k.state.items k.made
+pub loaded_long : (p : Progress) → Goes p → length (loaded p.controller p.state) ≡ p.controller.states
+loaded_long p g = length-map p.state _ ∙ g.grid.long
 
-pub multipliers_length : (k : Inside) → IsReached k → length k.multipliers.items ≡ length k.controller.now.bounds
-multipliers_length k r = ap (λ (m : Made). length m.multipliers) (values_held k r) ∙ after_multipliers_length k.controller.now k.state.items k.made
+pub multipliers_long : (p : Progress) → Goes p → length (values_of p).multipliers ≡ p.controller.rows
+multipliers_long p g = after_multipliers_length p.controller (loaded p.controller p.state) p.made ∙ g.sound.form.sized.shaped.bounds
 
-pub sums_length : (k : Inside) → IsReached k → length k.sums.items ≡ length k.controller.now.offsets
-sums_length k r = ap (λ (m : Made). length m.sums) (values_held k r) ∙ after_sums_length k.controller.now k.state.items k.made
+pub plan_long : (p : Progress) → length (values_of p).plan ≡ length p.controller.offsets
+plan_long p = after_plan_length p.controller (loaded p.controller p.state) p.made
 
-pub state_reached : (k : Inside) → IsReached k → AreWithin k.state.items (state_reach k.controller.now)
-state_reached k r =
-    subst (λ (s : List ℤ). AreWithin s (state_reach k.controller.now)) (sym r.state)
-    (state_within k.controller.now (unloaded k.controller.now k.state.items) r.sound.form.sized.shaped.low r.sound.form.sized.shaped.high r.grid)
+pub plan_entries : (p : Progress) → Goes p → length (values_of p).plan ≡ plan_length p.controller
+plan_entries p g = plan_long p ∙ g.sound.form.sized.shaped.offsets
 
-pub multipliers_reached : (k : Inside) → IsReached k → AreWithin k.multipliers.items (clamp_reach k.controller.now)
-multipliers_reached k r =
-    subst (λ (m : Made). AreWithin m.multipliers (clamp_reach k.controller.now)) (sym (values_held k r)) (after_multipliers k.controller.now k.state.items k.made r.sound.form.sized.clamp_low)
+pub sums_entries : (p : Progress) → Goes p → length (values_of p).sums ≡ plan_length p.controller
+sums_entries p g = after_sums_length p.controller (loaded p.controller p.state) p.made ∙ g.sound.form.sized.shaped.offsets
 
-pub sums_room : (k : Inside) → IsReached k → k.made < k.controller.now.steps → (j : ℕ) → j < length k.controller.now.offsets → unsigned_abs (at k.sums.items j) + get_or (plan_reach k.controller.now) j 0 ≤ 2 ^ 126
-sums_room k r lt j h =
-    let c = k.controller.now in
+-- the region has as many words as the controller says
+pub region_long : (p : Progress) → Goes p → length (region_of p).words ≡ p.controller.words
+region_long p g =
+    words_long p.controller.states p.controller.rows (plan_length p.controller) p.controller.words (loaded p.controller p.state) (values_of p) g.sound.form.sized.words
+    (loaded_long p g) (multipliers_long p g) (plan_entries p g) (sums_entries p g)
+
+state_reached : (p : Progress) → Goes p → AreWithin (loaded p.controller p.state) (state_reach p.controller)
+state_reached p g = state_within p.controller p.state g.sound.form.sized.shaped.low g.sound.form.sized.shaped.high g.grid
+
+sums_room : (p : Progress) → Goes p → p.made < p.controller.steps → (j : ℕ) → j < length p.controller.offsets → unsigned_abs (at (values_of p).sums j) + get_or (plan_reach p.controller) j 0 ≤ 2 ^ 126
+sums_room p g lt j h =
+    let c = p.controller in
     let u = get_or (plan_reach c) j 0 in
-    let sum : unsigned_abs (at k.sums.items j) ≤ k.made * u =
-    subst (λ (m : Made). unsigned_abs (at m.sums j) ≤ k.made * u) (sym (values_held k r)) (after_sums_le c k.state.items k.made j r.sound.form.sized.clamp_low (state_reached k r) h) in
-    let all : (k.made + 1) * u ≤ c.steps * u = mul-le (k.made + 1) u c.steps u (omega (arith, lt)) (omega arith) in
-    omega (arith, sum, all, (fit c r.sound).sums j h)
+    let sum = after_sums_le c (loaded c p.state) p.made j g.sound.form.sized.clamp_low (state_reached p g) h in
+    let all : (p.made + 1) * u ≤ c.steps * u = mul-le (p.made + 1) u c.steps u (omega (arith, lt)) (omega arith) in
+    omega (arith, sum, all, (fit c g.sound).sums j h)
 
--- ---- a fresh start
--- a kernel that holds a state of the box, and zeros, has made no step from it
-pub fresh : (k : Inside) (n : Numbers) (xi : List ℤ) → n ≡ k.controller.now → IsController n → IsGridState n xi → k.state.items ≡ loaded n xi → k.made ≡ 0 →
-    k.plan.items ≡ replicate (length n.offsets) (pos 0) → k.multipliers.items ≡ replicate (length n.bounds) (pos 0) → k.sums.items ≡ replicate (length n.offsets) (pos 0) → (IsTrue k.narrow → HasNarrowFactors n) →
-    IsReached k × (progress_of k ≡ record { controller = k.controller.now; state = xi; made = 0 })
-fresh k n xi e sound grid state made plan multipliers sums narrow =
+-- one more step may be made
+ready : (p : Progress) → Goes p → p.made < p.controller.steps → IsReady p.controller (loaded p.controller p.state) (values_of p)
+ready p g lt = record {
+  state_within = state_reached p g;
+  multipliers_within = after_multipliers p.controller (loaded p.controller p.state) p.made g.sound.form.sized.clamp_low;
+  plan_long = plan_long p;
+  sums_long = after_sums_length p.controller (loaded p.controller p.state) p.made;
+  room = sums_room p g lt;
+}
+
+-- what the region's words hold
+pub state_held : (p : Progress) → Goes p → state_in p.controller (region_of p).words ≡ loaded p.controller p.state
+state_held p g = state_back p.controller (loaded p.controller p.state) (values_of p) (loaded_long p g)
+
+pub made_held : (p : Progress) → Goes p → made_in p.controller (region_of p).words ≡ values_of p
+made_held p g = made_back p.controller (loaded p.controller p.state) (values_of p) (loaded_long p g) (multipliers_long p g) (plan_long p)
+
+pub ready_held : (p : Progress) → Goes p → p.made < p.controller.steps → IsReady p.controller (state_in p.controller (region_of p).words) (made_in p.controller (region_of p).words)
+ready_held p g lt =
+    subst (λ (s : List ℤ). IsReady p.controller s (made_in p.controller (region_of p).words)) (sym (state_held p g))
+    (subst (λ (m : Made). IsReady p.controller (loaded p.controller p.state) m) (sym (made_held p g)) (ready p g lt))
+
+-- the words after one more step
+pub words_after : (p : Progress) → Goes p →
+    words_of (state_in p.controller (region_of p).words) (step_of p.controller (state_in p.controller (region_of p).words) (made_in p.controller (region_of p).words)) ≡ (region_of (record p { made = p.made + 1 })).words
+words_after p g =
+    ap (λ (s : List ℤ). words_of s (step_of p.controller s (made_in p.controller (region_of p).words))) (state_held p g) ∙
+    ap (λ (m : Made). words_of (loaded p.controller p.state) (step_of p.controller (loaded p.controller p.state) m)) (made_held p g) ∙
+    ap (words_of (loaded p.controller p.state)) (sym (after_suc p.controller (loaded p.controller p.state) p.made))
+
+-- the words at the start
+pub words_first : (c : Numbers) (xi : List ℤ) → words_of (loaded c xi) (start_of c) ≡ (region_of (record { controller = c; state = xi; made = 0 })).words
+words_first c xi = ap (words_of (loaded c xi)) (sym (after_zero c (loaded c xi)))
+
+-- ---- a kernel that stands there
+pub record Stands (k : Inside) (p : Progress) : Type 0 where
+  pub controller : k.controller.now ≡ p.controller
+  pub made : k.made ≡ p.made
+  pub goes : Goes p
+  pub region : k.region ≡ region_of p
+  pub spans : k.spans ≡ spans_of p.controller
+  pub narrow : IsTrue k.narrow → HasNarrowFactors p.controller
+
+pub seen : (k : Inside) (p : Progress) → Stands k p → progress_of k ≡ p
+seen k p s =
+    let state : (progress_of k).state ≡ p.state =
+    ap (λ (m : Numbers). unloaded m (state_in m k.region.words)) s.controller ∙ ap (λ (w : Words). unloaded p.controller (state_in p.controller w.words)) s.region ∙
+    ap (unloaded p.controller) (state_held p s.goes) ∙ unloaded-loaded p.controller p.state in
+    rw (state, s.controller, s.made) refl
+
+pub reached : (k : Inside) (p : Progress) → Stands k p → IsReached k
+reached k p s =
+    let e = seen k p s in
+    record {
+      sound = subst IsController (sym s.controller) s.goes.sound;
+      made = subst (λ (q : Progress). q.made ≤ q.controller.steps) (sym e) s.goes.steps;
+      grid = subst (λ (q : Progress). IsGridState q.controller q.state) (sym e) s.goes.grid;
+      region = s.region ∙ ap region_of (sym e);
+      spans = s.spans ∙ ap spans_of (sym s.controller);
+      narrow = λ t. subst HasNarrowFactors (sym s.controller) (s.narrow t);
+    }
+
+-- a kernel by its rule
+pub goes : (k : Inside) → IsReached k → Goes (progress_of k)
+goes k r = record { sound = r.sound; grid = r.grid; steps = r.made }
+
+-- a region whose words are all written
+pub written_region : (old : Words) (start : ℕ) (ws : List ℤ) (p : Progress) → start ≡ 0 → length old.words ≡ p.controller.words → Goes p → old.used ≡ p.controller.words → ws ≡ (region_of p).words →
+    record { words = written_over old.words start ws; used = old.used } ≡ region_of p
+written_region old start ws p e l g u h =
+    let long : length ws ≡ length old.words = ap length h ∙ region_long p g ∙ sym l in
+    rw (e, written_whole old.words ws long, h, u) refl
+
+-- a kernel with words written, and so many steps made
+abbrev pub kernel_with : Inside → ℕ → List ℤ → ℕ → Inside
+kernel_with k start ws made = record k { region = record { words = written_over k.region.words start ws; used = k.region.used }; made = made }
+
+held_long : (k : Inside) → IsReached k → length k.region.words ≡ k.controller.now.words
+held_long k r = ap (λ (w : Words). length w.words) r.region ∙ region_long (progress_of k) (goes k r)
+
+-- a state is loaded
+pub loaded_stands : (k : Inside) → IsReached k → (n : Numbers) (xi : List ℤ) (start : ℕ) (ws : List ℤ) → start ≡ 0 → n ≡ k.controller.now → IsGridState n xi → ws ≡ words_of (loaded n xi) (start_of n) →
+    Stands (kernel_with k start ws 0) (record { controller = k.controller.now; state = xi; made = 0 })
+loaded_stands k r n xi start ws e same grid h =
     let c = k.controller.now in
-    let held = state ∙ ap (λ (m : Numbers). loaded m xi) e in
-    let same : unloaded c k.state.items ≡ xi = ap (unloaded c) held ∙ unloaded-loaded c xi in
-    let first : record { plan = k.plan.items; multipliers = k.multipliers.items; sums = k.sums.items } ≡ start_of n = rw (plan, multipliers, sums) refl in (
-      record {
-        sound = subst IsController e sound;
-        made = omega (arith, made);
-        grid = subst (IsGridState c) (sym same) (subst (λ (m : Numbers). IsGridState m xi) e grid);
-        state = held ∙ ap (loaded c) (sym same);
-        values = first ∙ ap start_of e ∙ sym (after_zero c (loaded c (unloaded c k.state.items))) ∙ ap (after c (loaded c (unloaded c k.state.items))) (sym made);
-        narrow = λ t. subst HasNarrowFactors e (narrow t);
-      },
-      rw (same, made) refl,
-    )
+    let p : Progress = record { controller = c; state = xi; made = 0 } in
+    let g : Goes p = record { sound = r.sound; grid = subst (λ (m : Numbers). IsGridState m xi) same grid; steps = omega arith } in
+    record {
+      controller = refl;
+      made = refl;
+      goes = g;
+      region = written_region k.region start ws p e (held_long k r) g (ap (λ (w : Words). w.used) r.region) (h ∙ ap (λ (m : Numbers). words_of (loaded m xi) (start_of m)) same ∙ words_first c xi);
+      spans = r.spans;
+      narrow = r.narrow;
+    }
+
+-- a step is made
+pub stepped_stands : (k : Inside) → IsReached k → k.made < k.controller.now.steps → (n : Numbers) (start : ℕ) (lent ws : List ℤ) → start ≡ 0 → n ≡ k.controller.now → lent ≡ k.region.words →
+    ws ≡ words_of (state_in n lent) (step_of n (state_in n lent) (made_in n lent)) →
+    Stands (kernel_with k start ws (k.made + 1)) (record (progress_of k) { made = k.made + 1 })
+stepped_stands k r lt n start lent ws e same taken h =
+    let c = k.controller.now in
+    let p : Progress = record (progress_of k) { made = k.made + 1 } in
+    let g : Goes p = record { sound = r.sound; grid = r.grid; steps = omega (arith, lt) } in
+    let was : lent ≡ (region_of (progress_of k)).words = taken ∙ ap (λ (w : Words). w.words) r.region in
+    record {
+      controller = refl;
+      made = refl;
+      goes = g;
+      region = written_region k.region start ws p e (held_long k r) g (ap (λ (w : Words). w.used) r.region)
+          (h ∙ ap (λ (m : Numbers). words_of (state_in m lent) (step_of m (state_in m lent) (made_in m lent))) same ∙
+          ap (λ (w : List ℤ). words_of (state_in c w) (step_of c (state_in c w) (made_in c w))) was ∙ words_after (progress_of k) (goes k r));
+      spans = r.spans;
+      narrow = r.narrow;
+    }
+
+-- all words are lent
+pub lent_held : (k : Inside) → IsReached k → (s : Span) (lent : List ℤ) (n : Numbers) → n ≡ k.controller.now → s ≡ record { start = 0; len = n.words } → lent ≡ slice_range k.region.words s.start (s.start + s.len) → lent ≡ k.region.words
+lent_held k r s lent n same e h =
+    h ∙ ap (λ (t : Span). slice_range k.region.words t.start (t.start + t.len)) e ∙ lent_whole k.region.words n.words (held_long k r ∙ ap (λ (m : Numbers). m.words) (sym same))
+
+pub ready_lent : (k : Inside) → IsReached k → k.made < k.controller.now.steps → (n : Numbers) (lent : List ℤ) → n ≡ k.controller.now → lent ≡ k.region.words → IsReady n (state_in n lent) (made_in n lent)
+ready_lent k r lt n lent same h =
+    subst (λ (m : Numbers). IsReady m (state_in m lent) (made_in m lent)) (sym same)
+    (subst (λ (w : List ℤ). IsReady k.controller.now (state_in k.controller.now w) (made_in k.controller.now w)) (sym (h ∙ ap (λ (w : Words). w.words) r.region)) (ready_held (progress_of k) (goes k r) lt))
+
+-- ---- single words
+-- word i of the region, where the machine's values have it
+pub word_held : (k : Inside) → IsReached k → (i : ℕ) → at k.region.words i ≡ at (region_of (progress_of k)).words i
+word_held k r i = ap (λ (w : Words). at w.words i) r.region

@@ -1,10 +1,7 @@
--- Factors that fit words of 64 bits, so that each product is one multiplication of a processor with such words.
+-- Factors that fit words of 64 bits.
 use Rattle.std.specs.Prelude.{◌+◌, ◌-◌, ◌^◌, ◌≤◌, ◌<◌, ℤ, All, unsigned_abs}
+use Rattle.mat_int.specs.Narrow.{IsNarrow}
 use Rattle.qp_model.specs.Controller.{Numbers}
-
--- a number that fits such a word, as its negative does
-abbrev pub IsNarrow : ℤ → Type 0
-IsNarrow z = unsigned_abs z < 2 ^ 63
 
 -- a coordinate of the box that does over 2^fraction_bits
 abbrev pub IsNarrowCoordinate : Numbers → ℤ → Type 0

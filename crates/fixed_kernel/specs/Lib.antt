@@ -1,4 +1,5 @@
 pub mod Outside
+pub mod Spans
 pub mod Progress
 pub mod Factors
-pub mod InHalves
+pub mod Ready

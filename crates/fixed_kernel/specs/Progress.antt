@@ -4,7 +4,9 @@ use Rattle.integer_algebra.specs.Division.{floor_of}
 use Rattle.qp_model.specs.Controller.{Numbers}
 use Rattle.qp_model.specs.Machine.{Made, IsGridState, loaded, after}
 use Rattle.qp_model.specs.AbsoluteSums.{IsController}
+use Rattle.word_region.specs.Words.{Words}
 use Rattle.fixed_kernel.specs.Factors.{HasNarrowFactors}
+use Rattle.fixed_kernel.specs.Spans.{words_of, spans_of, state_in}
 use Rattle.fixed_kernel.specs.declared.kernel.Kernel.TheInside.{Inside}
 
 -- the state is in whole numbers over 2^grid_bits
@@ -21,15 +23,19 @@ values_of k = after k.controller (loaded k.controller k.state) k.made
 abbrev pub unloaded : Numbers → List ℤ → List ℤ
 unloaded c xs = map (λ x. floor_of x (2 ^ (c.fraction_bits - c.grid_bits))) xs
 
-abbrev pub progress_of : Inside → Progress
-progress_of k = record { controller = k.controller.now; state = unloaded k.controller.now k.state.items; made = k.made }
+-- the region's words, all of which are in use
+abbrev pub region_of : Progress → Words
+region_of k = record { words = words_of (loaded k.controller k.state) (values_of k); used = k.controller.words }
 
--- the rule of a kernel: its state is that of a grid state of the box, its lists are the machine's after the steps made, and its factors are narrow
--- where it says so
+abbrev pub progress_of : Inside → Progress
+progress_of k = record { controller = k.controller.now; state = unloaded k.controller.now (state_in k.controller.now k.region.words); made = k.made }
+
+-- the rule of a kernel: its state is that of a grid state of the box, its region's words are the machine's after the steps made, its spans are the four, and
+-- its factors are narrow where it says so
 pub record IsReached (k : Inside) : Type 0 where
   pub sound : IsController k.controller.now
   pub made : k.made ≤ k.controller.now.steps
-  pub grid : IsGridState k.controller.now (unloaded k.controller.now k.state.items)
-  pub state : k.state.items ≡ loaded k.controller.now (unloaded k.controller.now k.state.items)
-  pub values : record { plan = k.plan.items; multipliers = k.multipliers.items; sums = k.sums.items } ≡ values_of (progress_of k)
+  pub grid : IsGridState k.controller.now (progress_of k).state
+  pub region : k.region ≡ region_of (progress_of k)
+  pub spans : k.spans ≡ spans_of k.controller.now
   pub narrow : IsTrue k.narrow → HasNarrowFactors k.controller.now

@@ -4,23 +4,29 @@ ghost use Rattle.integer_algebra.specs.Sums.{at};
 ghost use Rattle.qp_model.specs.Controller.{plan_length};
 ghost use Rattle.qp_model.specs.Machine.{IsGridState, loaded, step_of, run_of};
 ghost use Rattle.fixed_kernel.specs.Outside.{IsFirstOutside};
+ghost use Rattle.fixed_kernel.specs.Spans.{multipliers_span, plan_span, sums_span};
 
 use crate::narrow::has_narrow_factors;
-use crate::state::{OutsideBox, clear, first_outside, load_state, zeros};
+use crate::spans::{Spans, take_spans};
+use crate::state::{OutsideBox, first_outside, put_start};
 use crate::step::advance;
 use overflow_check::Controller;
+use qp_model::ControllerParts;
 use std::alloc::{AllocError, Global};
 use std::marker::Model;
+use word_region::{Region, Span};
 
 /// A controller at work on one state. It is seen as the controller, the grid state and the number of steps made; plan,
-/// multipliers and sums are those of the machine after that many steps from that state.
+/// multipliers and sums are those of the machine after that many steps from that state. They and the state are the words of one
+/// region, and it has no others.
+///
+/// Each answer is the written machine's, and the promise that no value leaves the controller's width speaks of that machine. On the way to
+/// them the code meets some other values, as a floor of one part of a sum alone; that these fit 128 bits is proved here.
 #[derive(Debug, Drop)]
 pub struct Kernel<'a> {
     controller: &'a Controller,
-    state: Vec<i128>,
-    plan: Vec<i128>,
-    multipliers: Vec<i128>,
-    sums: Vec<i128>,
+    region: Region,
+    spans: Spans,
     made: u32,
     // Only where each factor of the machine's products fits 64 bits.
     narrow: bool,
@@ -37,24 +43,20 @@ impl<'a> Model for Kernel<'a> {
 }
 
 impl<'a> Kernel<'a> {
-    ghost use Rattle.fixed_kernel.specs.Progress.{values_of};
+    ghost use Rattle.fixed_kernel.specs.Progress.{values_of, region_of};
 
     /// A kernel with the least state of the box loaded and no step made. It takes all the memory that the kernel ever uses.
     pub fn prepare(alloc: Global, controller: &'a Controller) -> Result<Kernel<'a>, AllocError>
         ensures { IfOk result (λ k. k ≡ record { controller = controller.now; state = controller.now.low; made = 0 }) }
     {
         let c = controller.parts();
-        let mut state = zeros(alloc, c.n)?;
-        let plan = zeros(alloc, c.t.len())?;
-        let multipliers = zeros(alloc, c.m)?;
-        let sums = zeros(alloc, c.t.len())?;
-        load_state(c, &c.lo, &mut state);
+        let mut region = Region::with_words(alloc, c.words)?;
+        let spans = take_spans(&mut region, c);
+        put_start(c, &c.lo, region.cells_mut(&all_of(c)));
         Ok(Kernel {
             controller,
-            state,
-            plan,
-            multipliers,
-            sums,
+            region,
+            spans,
             made: 0,
             narrow: has_narrow_factors(c),
         })
@@ -74,10 +76,7 @@ impl<'a> Kernel<'a> {
         if let Some(coordinate) = first_outside(c, state) {
             return Err(OutsideBox { coordinate });
         }
-        load_state(c, state, &mut self.state);
-        clear(&mut self.plan);
-        clear(&mut self.multipliers);
-        clear(&mut self.sums);
+        put_start(c, state, self.region.cells_mut(&all_of(c)));
         self.made = 0;
         Ok(())
     }
@@ -88,14 +87,8 @@ impl<'a> Kernel<'a> {
         ensures made { self.new ≡ record self.old { made = self.old.made + 1 } }
         ensures values { values_of self.new ≡ step_of self.old.controller (loaded self.old.controller self.old.state) (values_of self.old) }
     {
-        advance(
-            self.controller.parts(),
-            self.narrow,
-            &self.state,
-            &mut self.plan,
-            &mut self.multipliers,
-            &mut self.sums,
-        );
+        let c = self.controller.parts();
+        advance(c, self.narrow, self.region.cells_mut(&all_of(c)));
         self.made += 1;
     }
 
@@ -135,25 +128,28 @@ impl<'a> Kernel<'a> {
     /// The sum of plan entry `j` over the steps made, over `2^f`.
     pub fn sum(&self, j: usize) -> i128
         requires { j < plan_length self.now.controller }
-        ensures { result ≡ at (values_of self.now).sums j }
+        ensures value { result ≡ at (values_of self.now).sums j }
+        ensures word { result ≡ at (region_of self.now).words ((sums_span self.now.controller).start + j) }
     {
-        self.sums[j]
+        self.region.word(&self.spans.sums, j)
     }
 
     /// Multiplier `i`, over `2^(f+s)`.
     pub fn multiplier(&self, i: usize) -> i128
         requires { i < self.now.controller.rows }
-        ensures { result ≡ at (values_of self.now).multipliers i }
+        ensures value { result ≡ at (values_of self.now).multipliers i }
+        ensures word { result ≡ at (region_of self.now).words ((multipliers_span self.now.controller).start + i) }
     {
-        self.multipliers[i]
+        self.region.word(&self.spans.multipliers, i)
     }
 
     /// Entry `j` of the last plan, over `2^f`.
     pub fn last(&self, j: usize) -> i128
         requires { j < plan_length self.now.controller }
-        ensures { result ≡ at (values_of self.now).plan j }
+        ensures value { result ≡ at (values_of self.now).plan j }
+        ensures word { result ≡ at (region_of self.now).words ((plan_span self.now.controller).start + j) }
     {
-        self.plan[j]
+        self.region.word(&self.spans.plan, j)
     }
 
     /// The controller. The kernel's state lies in its box.
@@ -162,5 +158,25 @@ impl<'a> Kernel<'a> {
         ensures state { IsGridState self.now.controller self.now.state }
     {
         self.controller
+    }
+
+    /// All the memory that the kernel ever uses: the words of the state over `2^f`, of the multipliers, of the last plan and of the sums, one
+    /// behind the other.
+    pub fn region(&self) -> &Region
+        ensures words { result.now ≡ region_of self.now }
+        ensures size { length result.now.words ≡ self.now.controller.words }
+        ensures used { result.now.used ≡ self.now.controller.words }
+    {
+        &self.region
+    }
+}
+
+// The words of all four spans.
+fn all_of(c: &ControllerParts) -> Span
+    ensures { result ≡ record { start = 0; len = c.now.words } }
+{
+    Span {
+        start: 0,
+        len: c.words,
     }
 }

@@ -4,6 +4,7 @@
 mod entry;
 mod kernel;
 mod narrow;
+mod spans;
 mod state;
 mod step;
 

@@ -1,13 +1,13 @@
 // States of the box.
-ghost use Rattle.std.specs.Prelude.{◌≡◌, ◌↔◌, length, pos, replicate, IsNone, IfSome, IfOk};
+ghost use Rattle.std.specs.Prelude.{◌≡◌, ◌↔◌, length, pos, replicate, IsNone, IfSome};
 ghost use Rattle.qp_model.specs.Controller.{numbers};
-ghost use Rattle.qp_model.specs.Machine.{IsGridState, loaded};
+ghost use Rattle.qp_model.specs.Machine.{IsGridState, loaded, start_of};
 ghost use Rattle.qp_model.specs.AbsoluteSums.{IsController};
 ghost use Rattle.fixed_kernel.specs.Outside.{IsFirstOutside};
+ghost use Rattle.fixed_kernel.specs.Spans.{words_of};
 
 use frac_scaled::scaled;
 use qp_model::ControllerParts;
-use std::alloc::{AllocError, Global};
 use thiserror::Error;
 
 /// A state that lies outside the box.
@@ -36,7 +36,7 @@ pub fn first_outside(c: &ControllerParts, state: &[i128]) -> Option<u32>
 }
 
 // Puts a grid state over `2^f`.
-pub fn load_state(c: &ControllerParts, state: &[i128], out: &mut [i128])
+fn load_state(c: &ControllerParts, state: &[i128], out: &mut [i128])
     requires sound { IsController (numbers c.now) }
     requires inside { IsGridState (numbers c.now) state.now }
     requires long { length out.old ≡ c.now.n }
@@ -47,18 +47,23 @@ pub fn load_state(c: &ControllerParts, state: &[i128], out: &mut [i128])
     }
 }
 
-// A list of zeros.
-pub fn zeros(alloc: Global, n: usize) -> Result<Vec<i128>, AllocError>
-    ensures { IfOk result (λ v. v.items ≡ replicate n (pos 0)) }
-{
-    vec![in alloc; 0; n]
-}
-
 // Puts zeros.
-pub fn clear(numbers: &mut [i128])
+fn clear(numbers: &mut [i128])
     ensures { numbers.new ≡ replicate (length numbers.old) (pos 0) }
 {
     for x in numbers.iter_mut() {
         *x = 0;
     }
+}
+
+// Puts the words of a fresh start from a grid state: the state over `2^f`, and zeros.
+pub fn put_start(c: &ControllerParts, state: &[i128], words: &mut [i128])
+    requires sound { IsController (numbers c.now) }
+    requires inside { IsGridState (numbers c.now) state.now }
+    requires long { length words.old ≡ c.now.words }
+    ensures { words.new ≡ words_of (loaded (numbers c.now) state.now) (start_of (numbers c.now)) }
+{
+    let (first, rest) = words.split_at_mut(c.n);
+    load_state(c, state, first);
+    clear(rest);
 }

@@ -1,17 +1,19 @@
 // Plan entries, multipliers and sums.
-ghost use Rattle.std.specs.Prelude.{◌≡◌, ◌≤◌, ◌<◌, ◌+◌, ◌^◌, ℕ, length, unsigned_abs, slice_index_or, IsTrue};
+ghost use Rattle.std.specs.Prelude.{◌≡◌, ◌≤◌, ◌<◌, ◌+◌, ◌^◌, ℕ, length, unsigned_abs, IsTrue};
 ghost use Rattle.integer_algebra.specs.Sums.{at};
 ghost use Rattle.qp_model.specs.Controller.{numbers};
 ghost use Rattle.qp_model.specs.Machine.{plan_entry, plan_of, next_multiplier, next_multipliers, added, step_of};
 ghost use Rattle.qp_model.specs.AbsoluteSums.{IsController, clamp_reach, state_reach, plan_reach};
 ghost use Rattle.overflow_check.specs.Within.{AreWithin};
 ghost use Rattle.fixed_kernel.specs.Factors.{HasNarrowFactors};
+ghost use Rattle.fixed_kernel.specs.Spans.{words_of, state_in, made_in};
+ghost use Rattle.fixed_kernel.specs.Ready.{IsReady};
 
-use crate::entry::{entry_from, multiplier_from};
+use crate::entry::{entry_from, multiplier_from, short_shift};
 use crate::narrow::sum_of_products;
 use qp_model::ControllerParts;
 
-// One plan entry.
+// One plan entry. One running sum goes through the multipliers' products, is shifted, and goes on through the state's.
 fn entry_at(
     c: &ControllerParts,
     narrow: bool,
@@ -26,9 +28,9 @@ fn entry_at(
     requires in_range { j < length c.now.t.items }
     ensures { result ≡ plan_entry (numbers c.now) state.now multipliers.now j }
 {
-    let own = sum_of_products(narrow, c.p_mat.row(j), state);
-    let dual = sum_of_products(narrow, c.w_mat.row(j), multipliers);
-    entry_from(own, c.t[j], dual, c.f, c.s)
+    let dual = sum_of_products(narrow, 0, c.w_mat.row(j), multipliers);
+    let sum = sum_of_products(narrow, short_shift(dual, c.s), c.p_mat.row(j), state);
+    entry_from(sum, c.t[j], c.f)
 }
 
 // The plan at a state and multipliers.
@@ -51,7 +53,7 @@ fn make_plan(
     }
 }
 
-// One multiplier.
+// One multiplier. One running sum goes through both parts of its row.
 fn multiplier_at(
     c: &ControllerParts,
     narrow: bool,
@@ -68,9 +70,9 @@ fn multiplier_at(
     requires in_range { i < length c.now.bound.items }
     ensures { result ≡ next_multiplier (numbers c.now) state.now plan.now old i }
 {
-    let row = sum_of_products(narrow, c.g_mat.row(i), plan);
-    let own = sum_of_products(narrow, c.e_mat.row(i), state);
-    multiplier_from(row, own, c.bound[i], old, c.clamp, c.f)
+    let planned = sum_of_products(narrow, 0, c.g_mat.row(i), plan);
+    let row = sum_of_products(narrow, planned, c.e_mat.row(i), state);
+    multiplier_from(row, c.bound[i], old, c.clamp, c.f)
 }
 
 // The multipliers after a plan.
@@ -104,25 +106,36 @@ fn add_plan(plan: &[i128], sums: &mut [i128])
     }
 }
 
-// One step of the machine. Where its factors are narrow, `narrow` may say so, and the step is faster.
-pub fn advance(
+// One step, in the four parts of the region's words.
+fn make_step(
     c: &ControllerParts,
     narrow: bool,
     state: &[i128],
-    plan: &mut [i128],
     multipliers: &mut [i128],
+    plan: &mut [i128],
     sums: &mut [i128],
 )
     requires sound { IsController (numbers c.now) }
     requires narrow { IsTrue narrow → HasNarrowFactors (numbers c.now) }
-    requires state { AreWithin state.now (state_reach (numbers c.now)) }
-    requires plan { length plan.old ≡ length c.now.t.items }
-    requires multipliers { AreWithin multipliers.old (clamp_reach (numbers c.now)) }
-    requires sums { length sums.old ≡ length c.now.t.items }
-    requires room { (k : ℕ) → k < length c.now.t.items → unsigned_abs (at sums.old k) + slice_index_or (plan_reach (numbers c.now)) k 0 ≤ 2 ^ 126 }
+    requires ready { IsReady (numbers c.now) state.now (record { plan = plan.old; multipliers = multipliers.old; sums = sums.old }) }
     ensures { record { plan = plan.new; multipliers = multipliers.new; sums = sums.new } ≡ step_of (numbers c.now) state.now (record { plan = plan.old; multipliers = multipliers.old; sums = sums.old }) }
 {
     make_plan(c, narrow, state, multipliers, plan);
     move_multipliers(c, narrow, state, plan, multipliers);
     add_plan(plan, sums);
+}
+
+// One step of the machine, in its region's words, which are lent in four parts. Where its factors are narrow, `narrow` may say so, and the
+// step is faster.
+pub fn advance(c: &ControllerParts, narrow: bool, words: &mut [i128])
+    requires sound { IsController (numbers c.now) }
+    requires narrow { IsTrue narrow → HasNarrowFactors (numbers c.now) }
+    requires long { length words.old ≡ c.now.words }
+    requires ready { IsReady (numbers c.now) (state_in (numbers c.now) words.old) (made_in (numbers c.now) words.old) }
+    ensures { let state = state_in (numbers c.now) words.old in words.new ≡ words_of state (step_of (numbers c.now) state (made_in (numbers c.now) words.old)) }
+{
+    let (state, rest) = words.split_at_mut(c.n);
+    let (multipliers, rest) = rest.split_at_mut(c.m);
+    let (plan, sums) = rest.split_at_mut(c.t.len());
+    make_step(c, narrow, state, multipliers, plan, sums);
 }

@@ -8,6 +8,7 @@ use qp_model::ControllerParts;
 use std::alloc::Global;
 use std::process::Abort;
 use std::test::Fail;
+use word_region::Span;
 
 // A matrix of these rows.
 fn matrix<const COLS: usize>(alloc: Global, rows: &[[i128; COLS]]) -> Result<Mat, Fail> {
@@ -25,6 +26,7 @@ fn one_stage(alloc: Global, clamp: i128, w: u32) -> Result<Controller, Fail>
     ensures states { IfOk result (λ c. c.states ≡ 1) }
     ensures entries { IfOk result (λ c. plan_length c ≡ 1) }
     ensures rows { IfOk result (λ c. c.rows ≡ 3) }
+    ensures words { IfOk result (λ c. c.words ≡ 6) }
 {
     let parts = ControllerParts {
         n: 1,
@@ -105,5 +107,19 @@ fn runs(rt: HostRuntime) -> Result<(), Fail> {
         assert_eq!(rt; kernel.sum(0), sum, "{state}");
         assert_eq!(rt; kernel.multiplier(2), multiplier, "{state}");
     }
+    Ok(())
+}
+
+// The kernel's words are its state, its multipliers, its last plan and its sums, and no others.
+#[test]
+fn region(rt: HostRuntime) -> Result<(), Fail> {
+    let controller = one_stage(rt.alloc(), 32768, 26)?;
+    let mut kernel = Kernel::prepare(rt.alloc(), &controller)?;
+    kernel.run(&[1])?;
+    let all = Span { start: 0, len: 6 };
+    assert_eq!(rt;
+        kernel.region().cells(&all),
+        [1024, 0, 0, 848, -596, -2224].as_slice()
+    );
     Ok(())
 }

@@ -13,7 +13,7 @@ loop-j-preserved c =
     let n = c.args.k.now.controller in
     let xi = c.args.k.now.state in
     let fits : FitsSigned w128 c.sum.result = search rules in
-    let sum : c.sum.result ≡ at (averaged_plan n xi) c.loop-j.j = c.sum.ensures ∙ ap (λ (m : ℕ). at (after n (loaded n xi) m).sums c.loop-j.j) c.requires in
+    let sum : c.sum.result ≡ at (averaged_plan n xi) c.loop-j.j = c.sum.ensures.value ∙ ap (λ (m : ℕ). at (after n (loaded n xi) m).sums c.loop-j.j) c.requires in
     record {
       end = c.loop-j.invariant.end;
       numbers = rw (c.in_ok-push-2.ensures.items, to_z-of_z w128 _ fits, sum, c.loop-j.invariant.numbers, map-range_with_len_more (at (averaged_plan n xi)) 0 c.loop-j.j c.loop-j.j (zero-add c.loop-j.j)) refl;

@@ -1,25 +1,24 @@
-use Rattle.std.proofs.Common.{◌≡◌, ◌<◌, ap, sym, ◌∙◌, arith, pos, get_or, FitsSigned, rules, subst}
+use Rattle.std.proofs.Common.{◌≡◌, ◌+◌, ◌<◌, pos, ap, sym, subst, ◌∙◌, rules, FitsSigned}
+use Rattle.std.specs.Prelude.{slice_index_or}
 use Rattle.std.specs.Int.{w128}
 use Rattle.std.proofs.lemmas.Int.{to_z-of_z}
-use Rattle.std.proofs.lemmas.List.{get_or_read}
 use Rattle.integer_algebra.specs.Sums.{at}
-use Rattle.qp_model.specs.Controller.{plan_length as entries}
-use Rattle.qp_model.specs.Machine.{Made}
-use Rattle.fixed_kernel.specs.Progress.{Progress, values_of}
-use Rattle.fixed_kernel.proofs.Reached.{plan_length}
+use Rattle.qp_model.specs.Controller.{plan_length}
+use Rattle.qp_model.specs.Machine.{loaded}
+use Rattle.fixed_kernel.specs.declared.spans.Spans.{Spans}
+use Rattle.fixed_kernel.specs.Progress.{Progress, values_of, progress_of}
+use Rattle.fixed_kernel.proofs.Words.{at_plan}
+use Rattle.fixed_kernel.proofs.Reached.{goes, loaded_long, multipliers_long, plan_entries, word_held}
 use Rattle.fixed_kernel.proofs.kernel.Kernel.last.Goals as goal
 
-pub index-requires : goal.index-requires
-index-requires c =
+pub returns-clause-value : goal.returns-clause-value
+returns-clause-value c =
     let k = c.self.inside in
-    let lt : c.args.j < entries k.controller.now = subst (λ (p : Progress). c.args.j < entries p.controller) (sym c.self.view_is) c.requires in
-    omega (arith, lt, c.self.invariant.sound.form.sized.shaped.offsets, plan_length k c.self.invariant, k.plan.ok.0)
-
-pub returns : goal.returns
-returns c =
-    let k = c.self.inside in
-    let lt : c.args.j < entries k.controller.now = subst (λ (p : Progress). c.args.j < entries p.controller) (sym c.self.view_is) c.requires in
-    let fits : FitsSigned w128 c.index.result.now = search rules in
-    let read : c.index.result.now ≡ get_or k.plan.items c.args.j (pos 0) =
-    get_or_read k.plan.items c.args.j c.index.result.now (omega (arith, lt, c.self.invariant.sound.form.sized.shaped.offsets, plan_length k c.self.invariant)) c.index.ensures (pos 0) in
-    to_z-of_z w128 _ fits ∙ read ∙ ap (λ (m : Made). at m.plan c.args.j) c.self.invariant.values ∙ ap (λ (p : Progress). at (values_of p).plan c.args.j) c.self.view_is
+    let r = c.self.invariant in
+    let p = progress_of k in
+    let g = goes k r in
+    let lt : c.args.j < plan_length p.controller = subst (λ (q : Progress). c.args.j < plan_length q.controller) (sym c.self.view_is) c.requires in
+    let fits : FitsSigned w128 c.word.result = search rules in
+    to_z-of_z w128 _ fits ∙ c.word.ensures ∙ ap (λ (s : Spans). slice_index_or k.region.words (s.plan.start + c.args.j) (pos 0)) r.spans ∙ word_held k r (p.controller.states + p.controller.rows + c.args.j) ∙
+    at_plan p.controller.states p.controller.rows (plan_length p.controller) c.args.j (loaded p.controller p.state) (values_of p) (loaded_long p g) (multipliers_long p g) (plan_entries p g) lt ∙
+    ap (λ (q : Progress). at (values_of q).plan c.args.j) c.self.view_is

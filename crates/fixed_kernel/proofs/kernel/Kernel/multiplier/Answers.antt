@@ -1,24 +1,24 @@
-use Rattle.std.proofs.Common.{◌≡◌, ◌<◌, ap, sym, ◌∙◌, arith, pos, get_or, FitsSigned, rules, subst}
+use Rattle.std.proofs.Common.{◌≡◌, ◌+◌, ◌<◌, pos, ap, sym, subst, ◌∙◌, rules, FitsSigned}
+use Rattle.std.specs.Prelude.{slice_index_or}
 use Rattle.std.specs.Int.{w128}
 use Rattle.std.proofs.lemmas.Int.{to_z-of_z}
-use Rattle.std.proofs.lemmas.List.{get_or_read}
 use Rattle.integer_algebra.specs.Sums.{at}
-use Rattle.qp_model.specs.Machine.{Made}
-use Rattle.fixed_kernel.specs.Progress.{Progress, values_of}
-use Rattle.fixed_kernel.proofs.Reached.{multipliers_length}
+use Rattle.qp_model.specs.Controller.{plan_length}
+use Rattle.qp_model.specs.Machine.{loaded}
+use Rattle.fixed_kernel.specs.declared.spans.Spans.{Spans}
+use Rattle.fixed_kernel.specs.Progress.{Progress, values_of, progress_of}
+use Rattle.fixed_kernel.proofs.Words.{at_multipliers}
+use Rattle.fixed_kernel.proofs.Reached.{goes, loaded_long, multipliers_long, plan_entries, word_held}
 use Rattle.fixed_kernel.proofs.kernel.Kernel.multiplier.Goals as goal
 
-pub index-requires : goal.index-requires
-index-requires c =
+pub returns-clause-value : goal.returns-clause-value
+returns-clause-value c =
     let k = c.self.inside in
-    let lt : c.args.i < k.controller.now.rows = subst (λ (p : Progress). c.args.i < p.controller.rows) (sym c.self.view_is) c.requires in
-    omega (arith, lt, c.self.invariant.sound.form.sized.shaped.bounds, multipliers_length k c.self.invariant, k.multipliers.ok.0)
-
-pub returns : goal.returns
-returns c =
-    let k = c.self.inside in
-    let lt : c.args.i < k.controller.now.rows = subst (λ (p : Progress). c.args.i < p.controller.rows) (sym c.self.view_is) c.requires in
-    let fits : FitsSigned w128 c.index.result.now = search rules in
-    let read : c.index.result.now ≡ get_or k.multipliers.items c.args.i (pos 0) =
-    get_or_read k.multipliers.items c.args.i c.index.result.now (omega (arith, lt, c.self.invariant.sound.form.sized.shaped.bounds, multipliers_length k c.self.invariant)) c.index.ensures (pos 0) in
-    to_z-of_z w128 _ fits ∙ read ∙ ap (λ (m : Made). at m.multipliers c.args.i) c.self.invariant.values ∙ ap (λ (p : Progress). at (values_of p).multipliers c.args.i) c.self.view_is
+    let r = c.self.invariant in
+    let p = progress_of k in
+    let g = goes k r in
+    let lt : c.args.i < p.controller.rows = subst (λ (q : Progress). c.args.i < q.controller.rows) (sym c.self.view_is) c.requires in
+    let fits : FitsSigned w128 c.word.result = search rules in
+    to_z-of_z w128 _ fits ∙ c.word.ensures ∙ ap (λ (s : Spans). slice_index_or k.region.words (s.multipliers.start + c.args.i) (pos 0)) r.spans ∙ word_held k r (p.controller.states + c.args.i) ∙
+    at_multipliers p.controller.states p.controller.rows c.args.i (loaded p.controller p.state) (values_of p) (loaded_long p g) (multipliers_long p g) lt ∙
+    ap (λ (q : Progress). at (values_of q).multipliers c.args.i) c.self.view_is

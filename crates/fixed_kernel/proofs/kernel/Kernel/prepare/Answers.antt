@@ -1,38 +1,53 @@
-use Rattle.std.proofs.Common.{◌≡◌, length, replicate, ap, sym, ◌∙◌, arith, ℕ, pos, subst, refl}
-use Rattle.std.specs.Vec.{with_items}
-use Rattle.std.proofs.lemmas.List.{with_items_is}
+use Rattle.std.proofs.Common.{◌≡◌, length, pos, ap, subst, sym, ◌∙◌, arith, ℕ, refl}
+use Rattle.std.proofs.lemmas.List.{length-replicate}
 use Rattle.qp_model.specs.Controller.{Numbers, numbers}
-use Rattle.qp_model.specs.Machine.{loaded, IsGridState}
+use Rattle.qp_model.specs.Machine.{IsGridState, loaded, start_of}
+use Rattle.qp_model.specs.AbsoluteSums.{IsController}
+use Rattle.word_region.specs.declared.Span.{Span}
+use Rattle.word_region.specs.Words.{Words}
+use Rattle.word_region.specs.Lending.{written_over}
 use Rattle.fixed_kernel.specs.declared.kernel.Kernel.TheInside.{Inside}
-use Rattle.fixed_kernel.specs.Progress.{progress_of, IsReached}
+use Rattle.fixed_kernel.specs.Factors.{HasNarrowFactors}
+use Rattle.fixed_kernel.specs.Spans.{words_of, spans_of}
+use Rattle.fixed_kernel.specs.Progress.{Progress}
 use Rattle.fixed_kernel.proofs.States.{low_inside}
-use Rattle.fixed_kernel.proofs.Reached.{fresh}
+use Rattle.fixed_kernel.proofs.Reached.{Goes, Stands, reached, seen, written_region, words_first}
 use Rattle.fixed_kernel.proofs.kernel.Kernel.prepare.Goals as goal
 
-pub load_state-requires-clause-inside : goal.load_state-requires-clause-inside
-load_state-requires-clause-inside c = rw c.deref.ensures.value (low_inside (numbers c.parts-c.result.now) c.parts-c.ensures.sound.form.sized)
+-- the fields
+abbrev made_kernel : goal.After-has_narrow_factors → Inside
+made_kernel c = record {
+  controller = c.args.controller;
+  region = record { words = written_over c.take_spans-spans.new.region.words c.all_of.result.start c.put_start.new.words; used = c.take_spans-spans.new.region.used };
+  spans = c.take_spans-spans.result;
+  made = 0;
+  narrow = c.has_narrow_factors.result;
+}
 
--- the fields, which are those of a fresh start
-start : (c : goal.After-has_narrow_factors) →
-    let k : Inside = record { controller = c.args.controller; state = with_items c.in_ok-state.state c.load_state.new.out; plan = c.in_ok-plan.plan; multipliers = c.in_ok-multipliers.multipliers; sums = c.in_ok-sums.sums; made = 0; narrow = c.has_narrow_factors.result } in
-    IsReached k × (progress_of k ≡ record { controller = k.controller.now; state = c.args.controller.now.low; made = 0 })
-start c =
+abbrev first : goal.After-has_narrow_factors → Progress
+first c = record { controller = c.args.controller.now; state = c.args.controller.now.low; made = 0 }
+
+fresh : (c : goal.After-has_narrow_factors) → Stands (made_kernel c) (first c)
+fresh c =
     let n = numbers c.parts-c.result.now in
-    let sized = c.parts-c.ensures.sound.form.sized in
-    let k : Inside = record { controller = c.args.controller; state = with_items c.in_ok-state.state c.load_state.new.out; plan = c.in_ok-plan.plan; multipliers = c.in_ok-multipliers.multipliers; sums = c.in_ok-sums.sums; made = 0; narrow = c.has_narrow_factors.result } in
-    let kept : length c.load_state.new.out ≡ c.in_ok-state.state.len = omega (arith, c.load_state.auto.out, c.deref_mut.ensures.len) in
-    let low : n.low ≡ c.args.controller.now.low = ap (λ (m : Numbers). m.low) c.parts-c.ensures.value in
-    let state : k.state.items ≡ loaded n c.args.controller.now.low =
-    with_items_is c.in_ok-state.state c.load_state.new.out kept ∙ c.load_state.ensures ∙ ap (loaded n) (c.deref.ensures.value ∙ low) in
-    let inside : IsGridState n c.args.controller.now.low = subst (IsGridState n) low (low_inside n sized) in
-    fresh k n c.args.controller.now.low c.parts-c.ensures.value c.parts-c.ensures.sound inside state refl
-    (c.in_ok-plan.ensures ∙ ap (λ (i : ℕ). replicate i (pos 0)) (omega arith))
-    (c.in_ok-multipliers.ensures ∙ ap (λ (i : ℕ). replicate i (pos 0)) (sym sized.shaped.bounds))
-    (c.in_ok-sums.ensures ∙ ap (λ (i : ℕ). replicate i (pos 0)) (omega arith))
-    c.has_narrow_factors.ensures.0
+    let e = c.parts-c.ensures.value in
+    let sound = subst IsController e c.parts-c.ensures.sound in
+    let xi = c.args.controller.now.low in
+    let words : n.words ≡ c.args.controller.now.words = ap (λ (m : Numbers). m.words) e in
+    let g : Goes (first c) = record { sound = sound; grid = low_inside c.args.controller.now sound.form.sized; steps = omega arith } in
+    let low : c.deref.result.now ≡ xi = c.deref.ensures.value ∙ ap (λ (m : Numbers). m.low) e in
+    let made = c.put_start.ensures ∙ ap (λ (ys : _). words_of (loaded n ys) (start_of n)) low ∙ ap (λ (m : Numbers). words_of (loaded m xi) (start_of m)) e ∙ words_first c.args.controller.now xi in
+    record {
+      controller = refl;
+      made = refl;
+      goes = g;
+      region = written_region c.take_spans-spans.new.region c.all_of.result.start c.put_start.new.words (first c) (ap (λ (s : Span). s.start) c.all_of.ensures) (c.take_spans-spans.ensures.size ∙ ap (λ (w : Words). length w.words) c.in_ok-region.ensures ∙ length-replicate c.parts-c.result.now.words (pos 0) ∙ words) g (c.take_spans-spans.ensures.used ∙ words) made;
+      spans = c.take_spans-spans.ensures.spans ∙ ap spans_of e;
+      narrow = λ t. subst HasNarrowFactors e (c.has_narrow_factors.ensures.0 t);
+    }
 
 pub invariant_of-result : goal.invariant_of-result
-invariant_of-result c = (start c).0
+invariant_of-result c = reached (made_kernel c) (first c) (fresh c)
 
 pub returns : goal.returns
-returns c = (start c).1
+returns c = seen (made_kernel c) (first c) (fresh c)

@@ -1,70 +1,42 @@
-use Rattle.std.proofs.Common.{◌≡◌, ◌+◌, ◌≤◌, ◌<◌, length, ap, sym, subst, ◌∙◌, arith, refl, ℤ, ℕ, List, get_or, unsigned_abs, ◌^◌}
-use Rattle.std.proofs.lemmas.List.{with_items_is}
-use Rattle.integer_algebra.specs.Sums.{at}
-use Rattle.qp_model.specs.Controller.{Numbers, numbers}
-use Rattle.qp_model.specs.Machine.{Made, loaded, step_of, after}
-use Rattle.qp_model.specs.AbsoluteSums.{state_reach, clamp_reach, plan_reach}
-use Rattle.overflow_check.specs.Within.{AreWithin}
+use Rattle.std.proofs.Common.{◌≡◌, ◌+◌, ◌<◌, ap, sym, subst, ◌∙◌, ℕ}
+use Rattle.qp_model.specs.Controller.{numbers}
+use Rattle.qp_model.specs.Machine.{loaded, step_of}
 use Rattle.overflow_check.proofs.Runs.{after_suc}
-use Rattle.fixed_kernel.specs.Factors.{HasNarrowFactors}
-use Rattle.fixed_kernel.specs.Progress.{Progress, values_of, unloaded}
-use Rattle.fixed_kernel.proofs.Reached.{plan_length, sums_length, state_reached, multipliers_reached, sums_room, values_held}
+use Rattle.word_region.specs.declared.Span.{Span}
+use Rattle.fixed_kernel.specs.Progress.{Progress, values_of, progress_of}
+use Rattle.fixed_kernel.proofs.Reached.{reached, seen, kernel_with, stepped_stands, lent_held, ready_lent}
 use Rattle.fixed_kernel.proofs.kernel.Kernel.step.Goals as goal
 
-pub advance-requires-clause-state : goal.advance-requires-clause-state
-advance-requires-clause-state c =
-    subst (λ (n : Numbers). AreWithin c.deref.result.now (state_reach n)) (sym c.parts.ensures.value) (rw c.deref.ensures.value (state_reached c.self.inside c.self.invariant))
-
-pub advance-requires-clause-narrow : goal.advance-requires-clause-narrow
-advance-requires-clause-narrow c = λ t. subst HasNarrowFactors (sym c.parts.ensures.value) (c.self.invariant.narrow t)
-
-pub advance-requires-clause-plan : goal.advance-requires-clause-plan
-advance-requires-clause-plan c =
-    ap length c.deref_mut.ensures.value ∙ plan_length c.self.inside c.self.invariant ∙ ap (λ (n : Numbers). length n.offsets) (sym c.parts.ensures.value)
-
-pub advance-requires-clause-sums : goal.advance-requires-clause-sums
-advance-requires-clause-sums c =
-    ap length c.deref_mut-3.ensures.value ∙ sums_length c.self.inside c.self.invariant ∙ ap (λ (n : Numbers). length n.offsets) (sym c.parts.ensures.value)
-
-pub advance-requires-clause-multipliers : goal.advance-requires-clause-multipliers
-advance-requires-clause-multipliers c =
-    subst (λ (n : Numbers). AreWithin c.deref_mut-2.result.now (clamp_reach n)) (sym c.parts.ensures.value) (rw c.deref_mut-2.ensures.value (multipliers_reached c.self.inside c.self.invariant))
-
-pub advance-requires-clause-room : goal.advance-requires-clause-room
-advance-requires-clause-room c =
-    let lt : c.self.inside.made < c.self.inside.controller.now.steps = subst (λ (p : Progress). p.made < p.controller.steps) (sym c.self.view_is) c.requires in
-    subst (λ (n : Numbers). (k : ℕ) → k < length n.offsets → unsigned_abs (at c.deref_mut-3.result.now k) + get_or (plan_reach n) k 0 ≤ 2 ^ 126) (sym c.parts.ensures.value)
-    (rw c.deref_mut-3.ensures.value (sums_room c.self.inside c.self.invariant lt))
+pub advance-requires-clause-ready : goal.advance-requires-clause-ready
+advance-requires-clause-ready c =
+    let k = c.self.inside in
+    let r = c.self.invariant in
+    let n = numbers c.parts-c.result.now in
+    let lt : k.made < k.controller.now.steps = subst (λ (p : Progress). p.made < p.controller.steps) (sym c.self.view_is) c.requires in
+    let lent = lent_held k r c.all_of.result c.cells_mut.result.now n c.parts-c.ensures.value c.all_of.ensures c.cells_mut.ensures.value in
+    ready_lent k r lt n c.cells_mut.result.now c.parts-c.ensures.value lent
 
 pub invariant_of-self : goal.invariant_of-self
 invariant_of-self c =
     let k = c.self.inside in
     let r = c.self.invariant in
-    let n = k.controller.now in
-    let lt : k.made < n.steps = subst (λ (p : Progress). p.made < p.controller.steps) (sym c.self.view_is) c.requires in
-    let new : Made = record { plan = c.advance.new.plan; multipliers = c.advance.new.multipliers; sums = c.advance.new.sums } in
-    let old : Made = record { plan = c.deref_mut.result.now; multipliers = c.deref_mut-2.result.now; sums = c.deref_mut-3.result.now } in
-    let held : Made = record { plan = k.plan.items; multipliers = k.multipliers.items; sums = k.sums.items } in
-    let same : old ≡ held = rw (c.deref_mut.ensures.value, c.deref_mut-2.ensures.value, c.deref_mut-3.ensures.value) refl in
-    let first : new ≡ step_of (numbers c.parts.result.now) c.deref.result.now old = c.advance.ensures in
-    let step : new ≡ step_of n k.state.items held =
-    first ∙ ap (λ (m : Numbers). step_of m c.deref.result.now old) c.parts.ensures.value ∙ ap (λ (s : List ℤ). step_of n s old) c.deref.ensures.value ∙ ap (step_of n k.state.items) same in
-    let plan_kept : length new.plan ≡ k.plan.len = omega (arith, c.advance.auto.plan, c.deref_mut.ensures.len) in
-    let multipliers_kept : length new.multipliers ≡ k.multipliers.len = omega (arith, c.advance.auto.multipliers, c.deref_mut-2.ensures.len) in
-    let sums_kept : length new.sums ≡ k.sums.len = omega (arith, c.advance.auto.sums, c.deref_mut-3.ensures.len) in
-    record {
-      sound = r.sound;
-      made = omega (arith, lt);
-      grid = r.grid;
-      state = r.state;
-      narrow = r.narrow;
-      values =
-          rw (with_items_is k.plan new.plan plan_kept, with_items_is k.multipliers new.multipliers multipliers_kept, with_items_is k.sums new.sums sums_kept)
-          (step ∙ ap (step_of n k.state.items) (values_held k r) ∙ sym (after_suc n k.state.items k.made) ∙ ap (λ (s : List ℤ). after n s (k.made + 1)) r.state);
-    }
+    let n = numbers c.parts-c.result.now in
+    let lt : k.made < k.controller.now.steps = subst (λ (p : Progress). p.made < p.controller.steps) (sym c.self.view_is) c.requires in
+    let lent = lent_held k r c.all_of.result c.cells_mut.result.now n c.parts-c.ensures.value c.all_of.ensures c.cells_mut.ensures.value in
+    let start : c.all_of.result.start ≡ 0 = ap (λ (s : Span). s.start) c.all_of.ensures in
+    let stands = stepped_stands k r lt n c.all_of.result.start c.cells_mut.result.now c.advance.new.words start c.parts-c.ensures.value lent c.advance.ensures in
+    reached (kernel_with k c.all_of.result.start c.advance.new.words (k.made + 1)) (record (progress_of k) { made = k.made + 1 }) stands
 
 pub returns-clause-values : goal.returns-clause-values
 returns-clause-values c =
     let k = c.self.inside in
-    let n = k.controller.now in
-    after_suc n (loaded n (unloaded n k.state.items)) k.made ∙ ap (λ (p : Progress). step_of p.controller (loaded p.controller p.state) (values_of p)) c.self.view_is
+    let r = c.self.invariant in
+    let n = numbers c.parts-c.result.now in
+    let lt : k.made < k.controller.now.steps = subst (λ (p : Progress). p.made < p.controller.steps) (sym c.self.view_is) c.requires in
+    let lent = lent_held k r c.all_of.result c.cells_mut.result.now n c.parts-c.ensures.value c.all_of.ensures c.cells_mut.ensures.value in
+    let start : c.all_of.result.start ≡ 0 = ap (λ (s : Span). s.start) c.all_of.ensures in
+    let stands = stepped_stands k r lt n c.all_of.result.start c.cells_mut.result.now c.advance.new.words start c.parts-c.ensures.value lent c.advance.ensures in
+    let p = progress_of k in
+    ap values_of (seen (kernel_with k c.all_of.result.start c.advance.new.words (k.made + 1)) (record p { made = k.made + 1 }) stands) ∙
+    after_suc p.controller (loaded p.controller p.state) p.made ∙
+    ap (λ (q : Progress). step_of q.controller (loaded q.controller q.state) (values_of q)) c.self.view_is

@@ -1,7 +1,7 @@
 use Rattle.std.proofs.Common.{◌≡◌, ◌*ℤ◌, ◌^◌, refl, arith, FitsSigned}
 use Rattle.std.specs.Int.{w128}
 use Rattle.std.proofs.lemmas.Int.{ints, to_z-of_z, fits_signed_mul}
-use Rattle.fixed_kernel.proofs.narrow.narrow_product.Goals as goal
+use Rattle.mat_int.proofs.narrow.narrow_product.Goals as goal
 
 pub returns : goal.returns
 returns c =
