@@ -1,4 +1,4 @@
-use Rattle.std.proofs.Common.{◌++◌, take, rules, arith}
+use Rattle.std.proofs.Common.{◌++◌, take, arith}
 use Rattle.std.proofs.lemmas.Grind.{common_steps}
 use Rattle.std.proofs.KnownBytes.{Consumes-trans}
 use Rattle.io_edge.proofs.pieces.read_to_limit.Goals as goal

@@ -1,4 +1,4 @@
-use Rattle.std.proofs.Common.{rules, arith}
+use Rattle.std.proofs.Common.{arith}
 use Rattle.std.proofs.lemmas.Grind.{common_steps}
 use Rattle.io_edge.proofs.Passing.{written_more}
 use Rattle.io_edge.proofs.pieces.write_to_end.Goals as goal
