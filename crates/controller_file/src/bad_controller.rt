@@ -11,7 +11,7 @@ pub enum BadController {
     Memory,
     /// The line with this number, from 1, is the first that no controller text in form has there, after the lines before it. A last piece without a
     /// line feed is such a line, an absent line counts as the next, and so do bytes after the line `end`.
-    #[error("line {line}")]
+    #[error("line")]
     Line { line: u32 },
     /// All lines are in form, but the absolute sums of the numbers don't fit the width that the text says.
     #[error("unsafe")]

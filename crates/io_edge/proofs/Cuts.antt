@@ -1,5 +1,5 @@
 -- A write that failed left what was there, or a proper front of the bytes.
-use Rattle.std.proofs.Common.{◌≡◌, ◌⊎◌, ◌↔◌, ℕ, suc, ◌+◌, ◌-◌, ◌<◌, ◌≤◌, min, List, [], ◌∷◌, ◌++◌, length, take, drop, Option, Some, None, Result, Ok, Err, IsOk, OnErr, IsSomeAnd, inl, inr, refl, sym, arith, nat_lt, true, false}
+use Rattle.std.proofs.Common.{◌≡◌, ◌⊎◌, ◌↔◌, ℕ, min, List, [], ◌∷◌, length, take, drop, Option, Some, None, Result, Ok, Err, IsOk, OnErr, IsSomeAnd, inl, inr, refl, sym, arith}
 use Rattle.std.proofs.lemmas.Bool.{cases_lt, lt-ltb, le-ltb}
 use Rattle.std.proofs.lemmas.List.{take-append-drop, length-drop}
 use Rattle.io_edge.specs.Faults.{IsProperFront}

@@ -1,2 +1,4 @@
 pub mod Names
 pub mod Cuts
+pub mod Passing
+pub mod Slots

@@ -1,5 +1,5 @@
-// The stores and sinks at work: listed calls, room, and the real files and output.
-use crate::{Failed, HostStore, MemSink, MemStore, ReadRefusal, Sink, StdSink, Store, Words};
+// The stores and sinks in memory at work: listed calls and room.
+use crate::{Failed, MemSink, MemStore, ReadRefusal, Sink, Store, Words};
 use std::test::Fail;
 
 // Reads of a store in memory, by their numbers.
@@ -86,34 +86,5 @@ fn words(rt: HostRuntime) -> Result<(), Fail> {
     assert_eq!(rt; words.count(), 2);
     assert_eq!(rt; words.at(0), "solve");
     assert_eq!(rt; words.at(1), "");
-    Ok(())
-}
-
-// The real files: what is written is read, a longer file is told, and a name that nothing holds fails.
-#[test]
-fn real_files(rt: HostRuntime) -> Result<(), Fail> {
-    let mut store = HostStore::new(&rt);
-    assert_eq!(rt; store.write_all("io_edge_real_file", b"0123456789"), Ok(()));
-    assert_eq!(rt;
-        store
-            .read_all(rt.alloc(), "io_edge_real_file", 10)?
-            .as_slice(),
-        b"0123456789".as_slice()
-    );
-    assert_eq!(rt;
-        store.read_all(rt.alloc(), "io_edge_real_file", 9).err(),
-        Some(ReadRefusal::Long)
-    );
-    assert_eq!(rt;
-        store.read_all(rt.alloc(), "io_edge_no_such_file", 9).err(),
-        Some(ReadRefusal::Failed)
-    );
-    Ok(())
-}
-
-#[test]
-fn real_output(rt: HostRuntime) -> Result<(), Fail> {
-    let mut out = StdSink::new(&rt);
-    assert_eq!(rt; out.put(b"to the standard output\n"), Ok(()));
     Ok(())
 }

@@ -1,4 +1,3 @@
-use Rattle.std.proofs.Common.{rules, arith}
 use Rattle.io_edge.proofs.Cuts.{write_cut, on_err_from}
 use Rattle.io_edge.proofs.mem_store.MemStoreStore.write_all.Goals as goal
 
