@@ -12,8 +12,8 @@ abbrev pub margin_of : Bounds → Margin
 margin_of b = record { units = b.margin; cost = b.cost }
 
 -- R, of a margin
-abbrev pub bound_of : Margin → ℕ
-bound_of m = multiplier_bound (unsigned_abs m.units) (unsigned_abs m.cost)
+abbrev pub multiplier_of : Margin → ℕ
+multiplier_of m = multiplier_bound (unsigned_abs m.units) (unsigned_abs m.cost)
 
 -- what the errors of a step cost, over 2^40
 abbrev pub errors_cost : Design → ℕ → ℕ → ℕ
@@ -21,12 +21,12 @@ errors_cost d r f = epsilon (error_sums_of d r) f
 
 -- the bounds print the controller's numbers, and the three bounds over 2^40
 pub record AreBoundsOf (d : Design) (c : Numbers) (b : Bounds) : Type 0 where
-  pub multiplier : b.multiplier ≡ pos (bound_of (margin_of b))
+  pub multiplier : b.multiplier ≡ pos (multiplier_of (margin_of b))
   pub step : b.step ≡ c.step_exponent
   pub steps : b.steps ≡ c.steps
   pub bits : b.bits ≡ c.fraction_bits
   pub width : b.width ≡ c.width
   pub words : b.words ≡ c.words
-  pub violation : b.violation ≡ pos (violation_bound c.step_exponent (bound_of (margin_of b)) c.steps (errors_cost d (bound_of (margin_of b)) c.fraction_bits))
-  pub gap : b.gap ≡ pos (errors_cost d (bound_of (margin_of b)) c.fraction_bits)
-  pub undercut : b.undercut ≡ pos (undercut_bound (bound_of (margin_of b)) (unsigned_abs b.violation))
+  pub violation : b.violation ≡ pos (violation_bound c.step_exponent (multiplier_of (margin_of b)) c.steps (errors_cost d (multiplier_of (margin_of b)) c.fraction_bits))
+  pub gap : b.gap ≡ pos (errors_cost d (multiplier_of (margin_of b)) c.fraction_bits)
+  pub undercut : b.undercut ≡ pos (undercut_bound (multiplier_of (margin_of b)) (unsigned_abs b.violation))

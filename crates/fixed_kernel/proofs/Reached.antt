@@ -4,19 +4,19 @@ use Rattle.std.proofs.lemmas.Nat.{mul-le}
 use Rattle.std.proofs.lemmas.List.{length-map}
 use Rattle.integer_algebra.specs.Sums.{at}
 use Rattle.qp_model.specs.Controller.{Numbers, plan_length}
-use Rattle.qp_model.specs.Machine.{Made, IsGridState, loaded, start_of, step_of, after}
-use Rattle.qp_model.specs.AbsoluteSums.{state_reach, clamp_reach, plan_reach, IsController}
+use Rattle.qp_model.specs.Machine.{Iterate, IsAdmissible, loaded, start_of, step_of, after}
+use Rattle.qp_model.specs.AbsoluteSums.{state_magnitudes, clamp_magnitudes, plan_magnitudes, IsController}
 use Rattle.overflow_check.specs.Within.{AreWithin}
 use Rattle.overflow_check.proofs.Runs.{state_within, after_multipliers, after_plan_length, after_multipliers_length, after_sums_length, after_sums_le, after_suc, after_zero}
 use Rattle.std.specs.Prelude.{slice_range}
-use Rattle.word_region.specs.Words.{Words}
+use Rattle.word_region.specs.Words.{RegionWords}
 use Rattle.word_region.specs.Lending.{written_over}
 use Rattle.word_region.specs.declared.Span.{Span}
 use Rattle.fixed_kernel.specs.declared.kernel.Kernel.TheInside.{Inside}
 use Rattle.fixed_kernel.specs.Factors.{HasNarrowFactors}
 use Rattle.fixed_kernel.specs.Spans.{words_of, spans_of, state_in, made_in}
 use Rattle.fixed_kernel.specs.Ready.{IsReady}
-use Rattle.fixed_kernel.specs.Progress.{Progress, values_of, region_of, unloaded, progress_of, IsReached}
+use Rattle.fixed_kernel.specs.Progress.{Progress, iterate_of, region_of, unloaded, progress_of, IsReached}
 use Rattle.fixed_kernel.proofs.Rooms.{fit}
 use Rattle.fixed_kernel.proofs.States.{unloaded-loaded}
 use Rattle.fixed_kernel.proofs.Words.{state_back, made_back, words_long, written_whole, lent_whole}
@@ -25,43 +25,43 @@ use Rattle.fixed_kernel.proofs.Words.{state_back, made_back, words_long, written
 -- a controller, a state of its box, and steps that it has
 pub record Goes (p : Progress) : Type 0 where
   pub sound : IsController p.controller
-  pub grid : IsGridState p.controller p.state
+  pub grid : IsAdmissible p.controller p.state
   pub steps : p.made ≤ p.controller.steps
 
 pub loaded_long : (p : Progress) → Goes p → length (loaded p.controller p.state) ≡ p.controller.states
 loaded_long p g = length-map p.state _ ∙ g.grid.long
 
-pub multipliers_long : (p : Progress) → Goes p → length (values_of p).multipliers ≡ p.controller.rows
+pub multipliers_long : (p : Progress) → Goes p → length (iterate_of p).multipliers ≡ p.controller.rows
 multipliers_long p g = after_multipliers_length p.controller (loaded p.controller p.state) p.made ∙ g.sound.form.sized.shaped.bounds
 
-pub plan_long : (p : Progress) → length (values_of p).plan ≡ length p.controller.offsets
+pub plan_long : (p : Progress) → length (iterate_of p).plan ≡ length p.controller.offsets
 plan_long p = after_plan_length p.controller (loaded p.controller p.state) p.made
 
-pub plan_entries : (p : Progress) → Goes p → length (values_of p).plan ≡ plan_length p.controller
+pub plan_entries : (p : Progress) → Goes p → length (iterate_of p).plan ≡ plan_length p.controller
 plan_entries p g = plan_long p ∙ g.sound.form.sized.shaped.offsets
 
-pub sums_entries : (p : Progress) → Goes p → length (values_of p).sums ≡ plan_length p.controller
+pub sums_entries : (p : Progress) → Goes p → length (iterate_of p).sums ≡ plan_length p.controller
 sums_entries p g = after_sums_length p.controller (loaded p.controller p.state) p.made ∙ g.sound.form.sized.shaped.offsets
 
 -- the region has as many words as the controller says
 pub region_long : (p : Progress) → Goes p → length (region_of p).words ≡ p.controller.words
 region_long p g =
-    words_long p.controller.states p.controller.rows (plan_length p.controller) p.controller.words (loaded p.controller p.state) (values_of p) g.sound.form.sized.words
+    words_long p.controller.states p.controller.rows (plan_length p.controller) p.controller.words (loaded p.controller p.state) (iterate_of p) g.sound.form.sized.words
     (loaded_long p g) (multipliers_long p g) (plan_entries p g) (sums_entries p g)
 
-state_reached : (p : Progress) → Goes p → AreWithin (loaded p.controller p.state) (state_reach p.controller)
+state_reached : (p : Progress) → Goes p → AreWithin (loaded p.controller p.state) (state_magnitudes p.controller)
 state_reached p g = state_within p.controller p.state g.sound.form.sized.shaped.low g.sound.form.sized.shaped.high g.grid
 
-sums_room : (p : Progress) → Goes p → p.made < p.controller.steps → (j : ℕ) → j < length p.controller.offsets → unsigned_abs (at (values_of p).sums j) + get_or (plan_reach p.controller) j 0 ≤ 2 ^ 126
+sums_room : (p : Progress) → Goes p → p.made < p.controller.steps → (j : ℕ) → j < length p.controller.offsets → unsigned_abs (at (iterate_of p).sums j) + get_or (plan_magnitudes p.controller) j 0 ≤ 2 ^ 126
 sums_room p g lt j h =
     let c = p.controller in
-    let u = get_or (plan_reach c) j 0 in
+    let u = get_or (plan_magnitudes c) j 0 in
     let sum = after_sums_le c (loaded c p.state) p.made j g.sound.form.sized.clamp_low (state_reached p g) h in
     let all : (p.made + 1) * u ≤ c.steps * u = mul-le (p.made + 1) u c.steps u (omega (arith, lt)) (omega arith) in
     omega (arith, sum, all, (fit c g.sound).sums j h)
 
 -- one more step may be made
-ready : (p : Progress) → Goes p → p.made < p.controller.steps → IsReady p.controller (loaded p.controller p.state) (values_of p)
+ready : (p : Progress) → Goes p → p.made < p.controller.steps → IsReady p.controller (loaded p.controller p.state) (iterate_of p)
 ready p g lt = record {
   state_within = state_reached p g;
   multipliers_within = after_multipliers p.controller (loaded p.controller p.state) p.made g.sound.form.sized.clamp_low;
@@ -72,22 +72,22 @@ ready p g lt = record {
 
 -- what the region's words hold
 pub state_held : (p : Progress) → Goes p → state_in p.controller (region_of p).words ≡ loaded p.controller p.state
-state_held p g = state_back p.controller (loaded p.controller p.state) (values_of p) (loaded_long p g)
+state_held p g = state_back p.controller (loaded p.controller p.state) (iterate_of p) (loaded_long p g)
 
-pub made_held : (p : Progress) → Goes p → made_in p.controller (region_of p).words ≡ values_of p
-made_held p g = made_back p.controller (loaded p.controller p.state) (values_of p) (loaded_long p g) (multipliers_long p g) (plan_long p)
+pub made_held : (p : Progress) → Goes p → made_in p.controller (region_of p).words ≡ iterate_of p
+made_held p g = made_back p.controller (loaded p.controller p.state) (iterate_of p) (loaded_long p g) (multipliers_long p g) (plan_long p)
 
 pub ready_held : (p : Progress) → Goes p → p.made < p.controller.steps → IsReady p.controller (state_in p.controller (region_of p).words) (made_in p.controller (region_of p).words)
 ready_held p g lt =
     subst (λ (s : List ℤ). IsReady p.controller s (made_in p.controller (region_of p).words)) (sym (state_held p g))
-    (subst (λ (m : Made). IsReady p.controller (loaded p.controller p.state) m) (sym (made_held p g)) (ready p g lt))
+    (subst (λ (m : Iterate). IsReady p.controller (loaded p.controller p.state) m) (sym (made_held p g)) (ready p g lt))
 
 -- the words after one more step
 pub words_after : (p : Progress) → Goes p →
     words_of (state_in p.controller (region_of p).words) (step_of p.controller (state_in p.controller (region_of p).words) (made_in p.controller (region_of p).words)) ≡ (region_of (record p { made = p.made + 1 })).words
 words_after p g =
     ap (λ (s : List ℤ). words_of s (step_of p.controller s (made_in p.controller (region_of p).words))) (state_held p g) ∙
-    ap (λ (m : Made). words_of (loaded p.controller p.state) (step_of p.controller (loaded p.controller p.state) m)) (made_held p g) ∙
+    ap (λ (m : Iterate). words_of (loaded p.controller p.state) (step_of p.controller (loaded p.controller p.state) m)) (made_held p g) ∙
     ap (words_of (loaded p.controller p.state)) (sym (after_suc p.controller (loaded p.controller p.state) p.made))
 
 -- the words at the start
@@ -106,7 +106,7 @@ pub record Stands (k : Inside) (p : Progress) : Type 0 where
 pub seen : (k : Inside) (p : Progress) → Stands k p → progress_of k ≡ p
 seen k p s =
     let state : (progress_of k).state ≡ p.state =
-    ap (λ (m : Numbers). unloaded m (state_in m k.region.words)) s.controller ∙ ap (λ (w : Words). unloaded p.controller (state_in p.controller w.words)) s.region ∙
+    ap (λ (m : Numbers). unloaded m (state_in m k.region.words)) s.controller ∙ ap (λ (w : RegionWords). unloaded p.controller (state_in p.controller w.words)) s.region ∙
     ap (unloaded p.controller) (state_held p s.goes) ∙ unloaded-loaded p.controller p.state in
     rw (state, s.controller, s.made) refl
 
@@ -116,7 +116,7 @@ reached k p s =
     record {
       sound = subst IsController (sym s.controller) s.goes.sound;
       made = subst (λ (q : Progress). q.made ≤ q.controller.steps) (sym e) s.goes.steps;
-      grid = subst (λ (q : Progress). IsGridState q.controller q.state) (sym e) s.goes.grid;
+      grid = subst (λ (q : Progress). IsAdmissible q.controller q.state) (sym e) s.goes.grid;
       region = s.region ∙ ap region_of (sym e);
       spans = s.spans ∙ ap spans_of (sym s.controller);
       narrow = λ t. subst HasNarrowFactors (sym s.controller) (s.narrow t);
@@ -127,7 +127,7 @@ pub goes : (k : Inside) → IsReached k → Goes (progress_of k)
 goes k r = record { sound = r.sound; grid = r.grid; steps = r.made }
 
 -- a region whose words are all written
-pub written_region : (old : Words) (start : ℕ) (ws : List ℤ) (p : Progress) → start ≡ 0 → length old.words ≡ p.controller.words → Goes p → old.used ≡ p.controller.words → ws ≡ (region_of p).words →
+pub written_region : (old : RegionWords) (start : ℕ) (ws : List ℤ) (p : Progress) → start ≡ 0 → length old.words ≡ p.controller.words → Goes p → old.used ≡ p.controller.words → ws ≡ (region_of p).words →
     record { words = written_over old.words start ws; used = old.used } ≡ region_of p
 written_region old start ws p e l g u h =
     let long : length ws ≡ length old.words = ap length h ∙ region_long p g ∙ sym l in
@@ -138,20 +138,20 @@ abbrev pub kernel_with : Inside → ℕ → List ℤ → ℕ → Inside
 kernel_with k start ws made = record k { region = record { words = written_over k.region.words start ws; used = k.region.used }; made = made }
 
 held_long : (k : Inside) → IsReached k → length k.region.words ≡ k.controller.now.words
-held_long k r = ap (λ (w : Words). length w.words) r.region ∙ region_long (progress_of k) (goes k r)
+held_long k r = ap (λ (w : RegionWords). length w.words) r.region ∙ region_long (progress_of k) (goes k r)
 
 -- a state is loaded
-pub loaded_stands : (k : Inside) → IsReached k → (n : Numbers) (xi : List ℤ) (start : ℕ) (ws : List ℤ) → start ≡ 0 → n ≡ k.controller.now → IsGridState n xi → ws ≡ words_of (loaded n xi) (start_of n) →
+pub loaded_stands : (k : Inside) → IsReached k → (n : Numbers) (xi : List ℤ) (start : ℕ) (ws : List ℤ) → start ≡ 0 → n ≡ k.controller.now → IsAdmissible n xi → ws ≡ words_of (loaded n xi) (start_of n) →
     Stands (kernel_with k start ws 0) (record { controller = k.controller.now; state = xi; made = 0 })
 loaded_stands k r n xi start ws e same grid h =
     let c = k.controller.now in
     let p : Progress = record { controller = c; state = xi; made = 0 } in
-    let g : Goes p = record { sound = r.sound; grid = subst (λ (m : Numbers). IsGridState m xi) same grid; steps = omega arith } in
+    let g : Goes p = record { sound = r.sound; grid = subst (λ (m : Numbers). IsAdmissible m xi) same grid; steps = omega arith } in
     record {
       controller = refl;
       made = refl;
       goes = g;
-      region = written_region k.region start ws p e (held_long k r) g (ap (λ (w : Words). w.used) r.region) (h ∙ ap (λ (m : Numbers). words_of (loaded m xi) (start_of m)) same ∙ words_first c xi);
+      region = written_region k.region start ws p e (held_long k r) g (ap (λ (w : RegionWords). w.used) r.region) (h ∙ ap (λ (m : Numbers). words_of (loaded m xi) (start_of m)) same ∙ words_first c xi);
       spans = r.spans;
       narrow = r.narrow;
     }
@@ -164,12 +164,12 @@ stepped_stands k r lt n start lent ws e same taken h =
     let c = k.controller.now in
     let p : Progress = record (progress_of k) { made = k.made + 1 } in
     let g : Goes p = record { sound = r.sound; grid = r.grid; steps = omega (arith, lt) } in
-    let was : lent ≡ (region_of (progress_of k)).words = taken ∙ ap (λ (w : Words). w.words) r.region in
+    let was : lent ≡ (region_of (progress_of k)).words = taken ∙ ap (λ (w : RegionWords). w.words) r.region in
     record {
       controller = refl;
       made = refl;
       goes = g;
-      region = written_region k.region start ws p e (held_long k r) g (ap (λ (w : Words). w.used) r.region)
+      region = written_region k.region start ws p e (held_long k r) g (ap (λ (w : RegionWords). w.used) r.region)
           (h ∙ ap (λ (m : Numbers). words_of (state_in m lent) (step_of m (state_in m lent) (made_in m lent))) same ∙
           ap (λ (w : List ℤ). words_of (state_in c w) (step_of c (state_in c w) (made_in c w))) was ∙ words_after (progress_of k) (goes k r));
       spans = r.spans;
@@ -184,9 +184,9 @@ lent_held k r s lent n same e h =
 pub ready_lent : (k : Inside) → IsReached k → k.made < k.controller.now.steps → (n : Numbers) (lent : List ℤ) → n ≡ k.controller.now → lent ≡ k.region.words → IsReady n (state_in n lent) (made_in n lent)
 ready_lent k r lt n lent same h =
     subst (λ (m : Numbers). IsReady m (state_in m lent) (made_in m lent)) (sym same)
-    (subst (λ (w : List ℤ). IsReady k.controller.now (state_in k.controller.now w) (made_in k.controller.now w)) (sym (h ∙ ap (λ (w : Words). w.words) r.region)) (ready_held (progress_of k) (goes k r) lt))
+    (subst (λ (w : List ℤ). IsReady k.controller.now (state_in k.controller.now w) (made_in k.controller.now w)) (sym (h ∙ ap (λ (w : RegionWords). w.words) r.region)) (ready_held (progress_of k) (goes k r) lt))
 
 -- ---- single words
 -- word i of the region, where the machine's values have it
 pub word_held : (k : Inside) → IsReached k → (i : ℕ) → at k.region.words i ≡ at (region_of (progress_of k)).words i
-word_held k r i = ap (λ (w : Words). at w.words i) r.region
+word_held k r i = ap (λ (w : RegionWords). at w.words i) r.region

@@ -5,7 +5,7 @@ use Rattle.std.proofs.Math.Seq.{take-append_seam, drop-append_seam}
 use Rattle.std.proofs.lemmas.List.{ext_get_or, get_or-append_right, get_or_append_left, length-append, length-take-le, take_all}
 use Rattle.integer_algebra.specs.Sums.{at}
 use Rattle.qp_model.specs.Controller.{Numbers}
-use Rattle.qp_model.specs.Machine.{Made}
+use Rattle.qp_model.specs.Machine.{Iterate}
 use Rattle.word_region.specs.Lending.{written_over}
 use Rattle.word_region.proofs.LendingLaws.{written}
 use Rattle.fixed_kernel.specs.Spans.{words_of, state_in, made_in}
@@ -17,10 +17,10 @@ state_seam n xs rest h = rw (← h) (take-append_seam xs rest)
 behind_seam : (n : ℕ) (xs rest : List ℤ) → length xs ≡ n → drop n (xs ++ rest) ≡ rest
 behind_seam n xs rest h = rw (← h) (drop-append_seam xs rest)
 
-pub state_back : (c : Numbers) (state : List ℤ) (made : Made) → length state ≡ c.states → state_in c (words_of state made) ≡ state
+pub state_back : (c : Numbers) (state : List ℤ) (made : Iterate) → length state ≡ c.states → state_in c (words_of state made) ≡ state
 state_back c state made h = state_seam c.states state _ h
 
-pub made_back : (c : Numbers) (state : List ℤ) (made : Made) → length state ≡ c.states → length made.multipliers ≡ c.rows → length made.plan ≡ length c.offsets → made_in c (words_of state made) ≡ made
+pub made_back : (c : Numbers) (state : List ℤ) (made : Iterate) → length state ≡ c.states → length made.multipliers ≡ c.rows → length made.plan ≡ length c.offsets → made_in c (words_of state made) ≡ made
 made_back c state made h m p =
     rw (
       behind_seam c.states state (made.multipliers ++ (made.plan ++ made.sums)) h,
@@ -31,28 +31,28 @@ made_back c state made h m p =
     ) refl
 
 -- ---- read
-pub at_multipliers : (n m i : ℕ) (state : List ℤ) (made : Made) → length state ≡ n → length made.multipliers ≡ m → i < m → at (words_of state made) (n + i) ≡ at made.multipliers i
+pub at_multipliers : (n m i : ℕ) (state : List ℤ) (made : Iterate) → length state ≡ n → length made.multipliers ≡ m → i < m → at (words_of state made) (n + i) ≡ at made.multipliers i
 at_multipliers n m i state made a b l =
     get_or-append_right state (made.multipliers ++ (made.plan ++ made.sums)) n (n + i) (pos 0) a (omega arith) ∙
     ap (at (made.multipliers ++ (made.plan ++ made.sums))) (let e : n + i - n ≡ i = omega arith in e) ∙
     get_or_append_left made.multipliers (made.plan ++ made.sums) (pos 0) i (omega (arith, b, l))
 
-at_behind : (n m i : ℕ) (state : List ℤ) (made : Made) → length state ≡ n → length made.multipliers ≡ m → at (words_of state made) (n + m + i) ≡ at (made.plan ++ made.sums) i
+at_behind : (n m i : ℕ) (state : List ℤ) (made : Iterate) → length state ≡ n → length made.multipliers ≡ m → at (words_of state made) (n + m + i) ≡ at (made.plan ++ made.sums) i
 at_behind n m i state made a b =
     get_or-append_right state (made.multipliers ++ (made.plan ++ made.sums)) n (n + m + i) (pos 0) a (omega arith) ∙
     get_or-append_right made.multipliers (made.plan ++ made.sums) m (n + m + i - n) (pos 0) b (omega arith) ∙
     ap (at (made.plan ++ made.sums)) (let e : n + m + i - n - m ≡ i = omega arith in e)
 
-pub at_plan : (n m p j : ℕ) (state : List ℤ) (made : Made) → length state ≡ n → length made.multipliers ≡ m → length made.plan ≡ p → j < p → at (words_of state made) (n + m + j) ≡ at made.plan j
+pub at_plan : (n m p j : ℕ) (state : List ℤ) (made : Iterate) → length state ≡ n → length made.multipliers ≡ m → length made.plan ≡ p → j < p → at (words_of state made) (n + m + j) ≡ at made.plan j
 at_plan n m p j state made a b d l = at_behind n m j state made a b ∙ get_or_append_left made.plan made.sums (pos 0) j (omega (arith, d, l))
 
-pub at_sums : (n m p j : ℕ) (state : List ℤ) (made : Made) → length state ≡ n → length made.multipliers ≡ m → length made.plan ≡ p → at (words_of state made) (n + m + p + j) ≡ at made.sums j
+pub at_sums : (n m p j : ℕ) (state : List ℤ) (made : Iterate) → length state ≡ n → length made.multipliers ≡ m → length made.plan ≡ p → at (words_of state made) (n + m + p + j) ≡ at made.sums j
 at_sums n m p j state made a b d =
     ap (at (words_of state made)) (let e : n + m + p + j ≡ n + m + (p + j) = omega arith in e) ∙ at_behind n m (p + j) state made a b ∙
     get_or-append_right made.plan made.sums p (p + j) (pos 0) d (omega arith) ∙ ap (at made.sums) (let e : p + j - p ≡ j = omega arith in e)
 
 -- ---- all of them
-pub words_long : (n m p w : ℕ) (state : List ℤ) (made : Made) → w ≡ n + m + 2 * p → length state ≡ n → length made.multipliers ≡ m → length made.plan ≡ p → length made.sums ≡ p → length (words_of state made) ≡ w
+pub words_long : (n m p w : ℕ) (state : List ℤ) (made : Iterate) → w ≡ n + m + 2 * p → length state ≡ n → length made.multipliers ≡ m → length made.plan ≡ p → length made.sums ≡ p → length (words_of state made) ≡ w
 words_long n m p w state made e a b d f =
     omega (arith, e, a, b, d, f, length-append state (made.multipliers ++ (made.plan ++ made.sums)), length-append made.multipliers (made.plan ++ made.sums), length-append made.plan made.sums)
 

@@ -2,9 +2,9 @@
 use Rattle.std.specs.Prelude.{◌≡◌, ℕ, ◌-◌, ◌^◌, ◌≤◌, ℤ, List, map, IsTrue}
 use Rattle.integer_algebra.specs.Division.{floor_of}
 use Rattle.qp_model.specs.Controller.{Numbers}
-use Rattle.qp_model.specs.Machine.{Made, IsGridState, loaded, after}
+use Rattle.qp_model.specs.Machine.{Iterate, IsAdmissible, loaded, after}
 use Rattle.qp_model.specs.AbsoluteSums.{IsController}
-use Rattle.word_region.specs.Words.{Words}
+use Rattle.word_region.specs.Words.{RegionWords}
 use Rattle.fixed_kernel.specs.Factors.{HasNarrowFactors}
 use Rattle.fixed_kernel.specs.Spans.{words_of, spans_of, state_in}
 use Rattle.fixed_kernel.specs.declared.kernel.Kernel.TheInside.{Inside}
@@ -16,16 +16,16 @@ pub record Progress : Type 0 where
   pub made : ℕ
 
 -- the plan, the multipliers and the sums after so many steps
-abbrev pub values_of : Progress → Made
-values_of k = after k.controller (loaded k.controller k.state) k.made
+abbrev pub iterate_of : Progress → Iterate
+iterate_of k = after k.controller (loaded k.controller k.state) k.made
 
 -- the grid state of a state over 2^fraction_bits
 abbrev pub unloaded : Numbers → List ℤ → List ℤ
 unloaded c xs = map (λ x. floor_of x (2 ^ (c.fraction_bits - c.grid_bits))) xs
 
 -- the region's words, all of which are in use
-abbrev pub region_of : Progress → Words
-region_of k = record { words = words_of (loaded k.controller k.state) (values_of k); used = k.controller.words }
+abbrev pub region_of : Progress → RegionWords
+region_of k = record { words = words_of (loaded k.controller k.state) (iterate_of k); used = k.controller.words }
 
 abbrev pub progress_of : Inside → Progress
 progress_of k = record { controller = k.controller.now; state = unloaded k.controller.now (state_in k.controller.now k.region.words); made = k.made }
@@ -35,7 +35,7 @@ progress_of k = record { controller = k.controller.now; state = unloaded k.contr
 pub record IsReached (k : Inside) : Type 0 where
   pub sound : IsController k.controller.now
   pub made : k.made ≤ k.controller.now.steps
-  pub grid : IsGridState k.controller.now (progress_of k).state
+  pub grid : IsAdmissible k.controller.now (progress_of k).state
   pub region : k.region ≡ region_of (progress_of k)
   pub spans : k.spans ≡ spans_of k.controller.now
   pub narrow : IsTrue k.narrow → HasNarrowFactors k.controller.now

@@ -1,7 +1,7 @@
 -- The words of a kernel's region: the state, the multipliers, the plan and the sums, one behind the other.
 use Rattle.std.specs.Prelude.{ℕ, ◌+◌, ℤ, List, ◌++◌, length, take, drop}
 use Rattle.qp_model.specs.Controller.{Numbers, plan_length}
-use Rattle.qp_model.specs.Machine.{Made}
+use Rattle.qp_model.specs.Machine.{Iterate}
 use Rattle.word_region.specs.declared.Span.{Span}
 use Rattle.fixed_kernel.specs.declared.spans.Spans.{Spans}
 
@@ -23,7 +23,7 @@ spans_of c = record { state = state_span c; multipliers = multipliers_span c; pl
 
 -- ---- what they hold
 -- the words of a state over 2^fraction_bits and of what the machine has made from it
-abbrev pub words_of : List ℤ → Made → List ℤ
+abbrev pub words_of : List ℤ → Iterate → List ℤ
 words_of state made = state ++ (made.multipliers ++ (made.plan ++ made.sums))
 
 -- the state among a region's words
@@ -31,7 +31,7 @@ abbrev pub state_in : Numbers → List ℤ → List ℤ
 state_in c words = take c.states words
 
 -- and what the machine has made
-abbrev pub made_in : Numbers → List ℤ → Made
+abbrev pub made_in : Numbers → List ℤ → Iterate
 made_in c words =
     let behind_state = drop c.states words in
     let behind_multipliers = drop c.rows behind_state in

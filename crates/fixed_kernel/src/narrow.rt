@@ -1,6 +1,6 @@
 // Whether a controller's factors fit words of 64 bits, and sums of products that are made by such words where they do.
 ghost use Rattle.std.specs.Prelude.{◌≡◌, ◌<◌, ◌+◌, ◌^◌, ◌↔◌, IsTrue, All, length, ◌+ℤ◌, unsigned_abs};
-ghost use Rattle.mat_int.specs.Row.{dot, abs_dot};
+ghost use Rattle.mat_int.specs.Row.{list_dot, abs_dot};
 ghost use Rattle.mat_int.specs.Narrow.{IsNarrow};
 ghost use Rattle.qp_model.specs.Controller.{numbers, IsSized};
 ghost use Rattle.fixed_kernel.specs.Factors.{IsNarrowCoordinate, HasNarrowFactors};
@@ -37,7 +37,7 @@ pub fn sum_of_products(narrow: bool, start: i128, xs: &[i128], ys: &[i128]) -> i
     requires left { IsTrue narrow → All IsNarrow xs.now }
     requires right { IsTrue narrow → All IsNarrow ys.now }
     requires room { unsigned_abs start + abs_dot xs.now ys.now < 2 ^ 127 }
-    ensures { result ≡ start +ℤ dot xs.now ys.now }
+    ensures { result ≡ start +ℤ list_dot xs.now ys.now }
 {
     if narrow {
         narrow_dot(start, xs, ys)

@@ -1,7 +1,7 @@
 -- What a reader gave and a writer got, where they tell.
 use Rattle.std.specs.Prelude.{◌≤◌, ℕ, List, length, Option}
 use Rattle.std.specs.Io.KnownBytes.{Consumes, Appends}
-use Rattle.io_edge.specs.Faults.{IsProperFront}
+use Rattle.io_edge.specs.Faults.{IsProperPrefix}
 
 -- a reader gave its first bytes, at most so many of them
 pub record TakesAtMost (old new : Option (List ℕ)) (most : ℕ) : Type 0 where
@@ -12,5 +12,5 @@ pub record TakesAtMost (old new : Option (List ℕ)) (most : ℕ) : Type 0 where
 -- a writer got a front of these bytes, and not all of them
 pub record AppendsProperFront (old new : Option (List ℕ)) (bytes : List ℕ) : Type 0 where
   pub part : List ℕ
-  pub front : IsProperFront bytes part
+  pub front : IsProperPrefix bytes part
   pub grown : Appends old new part

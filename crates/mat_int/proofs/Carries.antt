@@ -2,7 +2,7 @@
 use Rattle.std.proofs.Common.{◌≡◌, ℕ, suc, ◌+◌, ◌*◌, ◌%◌, ◌^◌, ◌<◌, ℤ, pos, ◌+ℤ◌, ◌-ℤ◌, ◌*ℤ◌, ◌≤ℤ◌, ◌<ℤ◌, List, length, take, get_or, unsigned_abs, FitsSigned, arith}
 use Rattle.std.specs.Int.{w64, w128}
 use Rattle.std.proofs.lemmas.Int.{ints, fits_signed_from_abs, to_z-of_z}
-use Rattle.mat_int.specs.Row.{dot, abs_dot}
+use Rattle.mat_int.specs.Row.{list_dot, abs_dot}
 use Rattle.mat_int.proofs.Dots.{abs-add_le, abs-dot_le, abs_dot-take_le, dot-take_suc, dot-take_more, product_fits}
 use mir.Val.{bool_byte}
 use lib.Dec.{ltb}
@@ -34,10 +34,10 @@ added_whole h q a l low le =
 -- ---- a number and the products up to an index
 -- the next sum fits where the absolute values leave room
 pub started_fits : (start : ℤ) (xs ys : List ℤ) (i : ℕ) → i < length xs → i < length ys → unsigned_abs start + abs_dot xs ys < 2 ^ 127 →
-    FitsSigned w128 (start +ℤ dot (take i xs) (take i ys) +ℤ get_or xs i (pos 0) *ℤ get_or ys i (pos 0))
+    FitsSigned w128 (start +ℤ list_dot (take i xs) (take i ys) +ℤ get_or xs i (pos 0) *ℤ get_or ys i (pos 0))
 started_fits start xs ys i p q room =
-    let le = abs-add_le start (dot (take (suc i) xs) (take (suc i) ys)) in
-    let same : start +ℤ dot (take i xs) (take i ys) +ℤ get_or xs i (pos 0) *ℤ get_or ys i (pos 0) ≡ start +ℤ dot (take (suc i) xs) (take (suc i) ys) =
+    let le = abs-add_le start (list_dot (take (suc i) xs) (take (suc i) ys)) in
+    let same : start +ℤ list_dot (take i xs) (take i ys) +ℤ get_or xs i (pos 0) *ℤ get_or ys i (pos 0) ≡ start +ℤ list_dot (take (suc i) xs) (take (suc i) ys) =
     omega (arith, ints, dot-take_suc xs ys i p q) in
     rw same (fits_signed_from_abs w128 _ (omega (arith, le, abs-dot_le (take (suc i) xs) (take (suc i) ys), abs_dot-take_le xs ys (suc i), room)))
 

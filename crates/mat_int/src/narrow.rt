@@ -1,7 +1,7 @@
 // Sums of products whose factors fit words of 64 bits: each product is then one multiplication of the processor's, in place of three.
 ghost use Rattle.std.specs.Prelude.{◌≡◌, ◌<◌, ◌+◌, ◌^◌, ◌↔◌, IsTrue, All, length, ◌+ℤ◌, ◌*ℤ◌, unsigned_abs, FitsSigned};
 ghost use Rattle.std.specs.Int.{w128};
-ghost use Rattle.mat_int.specs.Row.{dot, abs_dot};
+ghost use Rattle.mat_int.specs.Row.{list_dot, abs_dot};
 ghost use Rattle.mat_int.specs.Narrow.{IsNarrow};
 ghost use Rattle.mat_int.specs.InHalves.{whole};
 
@@ -84,7 +84,7 @@ pub fn narrow_dot(start: i128, xs: &[i128], ys: &[i128]) -> i128
     requires left { All IsNarrow xs.now }
     requires right { All IsNarrow ys.now }
     requires room { unsigned_abs start + abs_dot xs.now ys.now < 2 ^ 127 }
-    ensures { result ≡ start +ℤ dot xs.now ys.now }
+    ensures { result ≡ start +ℤ list_dot xs.now ys.now }
 {
     let mut sum = Halves::of(start);
     for (i, x) in xs.iter().enumerate() {

@@ -4,7 +4,7 @@ use Rattle.std.proofs.lemmas.Int.{ints, to_z-of_z}
 use Rattle.std.proofs.lemmas.List.{get_or_read}
 use Rattle.integer_algebra.specs.Division.{floor_of}
 use Rattle.integer_algebra.specs.Sums.{at}
-use Rattle.mat_int.specs.Row.{dot}
+use Rattle.mat_int.specs.Row.{list_dot}
 use Rattle.mat_int.specs.Matrix.{row_of}
 use Rattle.qp_model.specs.Controller.{numbers}
 use Rattle.fixed_kernel.proofs.Rooms.{state_long, multipliers_long, dual_room, inner_room, entry_room}
@@ -50,7 +50,7 @@ sum_of_products-sum-requires-clause-right c = λ t. state_narrow (numbers c.args
 pub sum_of_products-sum-requires-clause-room : goal.sum_of_products-sum-requires-clause-room
 sum_of_products-sum-requires-clause-room c =
     let n = numbers c.args.c.now in
-    let products = dot (row_of n.dual_gains c.args.j) c.args.multipliers.now in
+    let products = list_dot (row_of n.dual_gains c.args.j) c.args.multipliers.now in
     let made : FitsSigned w128 c.sum_of_products-dual.result = search rules in
     let shifted : FitsSigned w128 c.short_shift.result = search rules in
     let dual : c.sum_of_products-dual.result ≡ products = rw c.row.ensures.value at c.sum_of_products-dual.ensures ∙ from_zero products in
@@ -61,7 +61,7 @@ sum_of_products-sum-requires-clause-room c =
 pub entry_from-requires-clause-fits : goal.entry_from-requires-clause-fits
 entry_from-requires-clause-fits c =
     let n = numbers c.args.c.now in
-    let products = dot (row_of n.dual_gains c.args.j) c.args.multipliers.now in
+    let products = list_dot (row_of n.dual_gains c.args.j) c.args.multipliers.now in
     let made : FitsSigned w128 c.sum_of_products-dual.result = search rules in
     let shifted : FitsSigned w128 c.short_shift.result = search rules in
     let sum : FitsSigned w128 c.sum_of_products-sum.result = search rules in
@@ -74,8 +74,8 @@ entry_from-requires-clause-fits c =
 pub returns : goal.returns
 returns c =
     let n = numbers c.args.c.now in
-    let own = dot (row_of n.state_gains c.args.j) c.args.state.now in
-    let products = dot (row_of n.dual_gains c.args.j) c.args.multipliers.now in
+    let own = list_dot (row_of n.state_gains c.args.j) c.args.state.now in
+    let products = list_dot (row_of n.dual_gains c.args.j) c.args.multipliers.now in
     let shift = floor_of products (2 ^ n.step_exponent) in
     let entry : FitsSigned w128 c.entry_from.result = search rules in
     let made : FitsSigned w128 c.sum_of_products-dual.result = search rules in

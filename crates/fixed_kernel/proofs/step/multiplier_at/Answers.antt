@@ -2,7 +2,7 @@ use Rattle.std.proofs.Common.{◌≡◌, ℤ, ◌+ℤ◌, pos, get_or, rules, Fi
 use Rattle.std.specs.Int.{w128}
 use Rattle.std.proofs.lemmas.Int.{ints, to_z-of_z}
 use Rattle.std.proofs.lemmas.List.{get_or_read}
-use Rattle.mat_int.specs.Row.{dot}
+use Rattle.mat_int.specs.Row.{list_dot}
 use Rattle.mat_int.specs.Matrix.{row_of}
 use Rattle.qp_model.specs.Controller.{numbers}
 use Rattle.fixed_kernel.proofs.Rooms.{state_long, plan_long, planned_room, state_room, row_room, next_room}
@@ -45,7 +45,7 @@ pub sum_of_products-row-requires-clause-room : goal.sum_of_products-row-requires
 sum_of_products-row-requires-clause-room c =
     let n = numbers c.args.c.now in
     let made : FitsSigned w128 c.sum_of_products-planned.result = search rules in
-    let planned : c.sum_of_products-planned.result ≡ dot (row_of n.plan_rows c.args.i) c.args.plan.now = rw c.row.ensures.value at c.sum_of_products-planned.ensures ∙ from_zero _ in
+    let planned : c.sum_of_products-planned.result ≡ list_dot (row_of n.plan_rows c.args.i) c.args.plan.now = rw c.row.ensures.value at c.sum_of_products-planned.ensures ∙ from_zero _ in
     rw (to_z-of_z w128 _ made, planned, c.row-2.ensures.value) (state_room n c.args.state.now c.args.plan.now c.args.i c.requires.sound c.requires.in_range c.requires.state c.requires.plan)
 
 -- ---- the multiplier
@@ -56,7 +56,7 @@ multiplier_from-requires-clause-row c =
     let row : FitsSigned w128 c.sum_of_products-row.result = search rules in
     let bound : FitsSigned w128 c.index.result.now = search rules in
     let read : c.index.result.now ≡ get_or c.args.c.now.bound.items c.args.i (pos 0) = get_or_read _ _ _ c.requires.in_range c.index.ensures (pos 0) in
-    let planned : c.sum_of_products-planned.result ≡ dot (row_of n.plan_rows c.args.i) c.args.plan.now = rw c.row.ensures.value at c.sum_of_products-planned.ensures ∙ from_zero _ in
+    let planned : c.sum_of_products-planned.result ≡ list_dot (row_of n.plan_rows c.args.i) c.args.plan.now = rw c.row.ensures.value at c.sum_of_products-planned.ensures ∙ from_zero _ in
     rw (to_z-of_z w128 _ row, to_z-of_z w128 _ bound, read, c.sum_of_products-row.ensures, to_z-of_z w128 _ made, planned, c.row-2.ensures.value)
     (row_room n c.args.state.now c.args.plan.now c.args.i c.requires.sound c.requires.in_range c.requires.state c.requires.plan)
 
@@ -67,7 +67,7 @@ multiplier_from-requires-clause-next c =
     let row : FitsSigned w128 c.sum_of_products-row.result = search rules in
     let bound : FitsSigned w128 c.index.result.now = search rules in
     let read : c.index.result.now ≡ get_or c.args.c.now.bound.items c.args.i (pos 0) = get_or_read _ _ _ c.requires.in_range c.index.ensures (pos 0) in
-    let planned : c.sum_of_products-planned.result ≡ dot (row_of n.plan_rows c.args.i) c.args.plan.now = rw c.row.ensures.value at c.sum_of_products-planned.ensures ∙ from_zero _ in
+    let planned : c.sum_of_products-planned.result ≡ list_dot (row_of n.plan_rows c.args.i) c.args.plan.now = rw c.row.ensures.value at c.sum_of_products-planned.ensures ∙ from_zero _ in
     rw (to_z-of_z w128 _ row, to_z-of_z w128 _ bound, to_z-of_z w128 _ c.ranges.old, read, c.sum_of_products-row.ensures, to_z-of_z w128 _ made, planned, c.row-2.ensures.value)
     (next_room n c.args.state.now c.args.plan.now c.args.old c.args.i c.requires.sound c.requires.in_range c.requires.old c.requires.state c.requires.plan)
 
@@ -80,5 +80,5 @@ returns c =
     let bound : FitsSigned w128 c.index.result.now = search rules in
     let clamp : FitsSigned w128 n.clamp = search rules in
     let read : c.index.result.now ≡ get_or c.args.c.now.bound.items c.args.i (pos 0) = get_or_read _ _ _ c.requires.in_range c.index.ensures (pos 0) in
-    let planned : c.sum_of_products-planned.result ≡ dot (row_of n.plan_rows c.args.i) c.args.plan.now = rw c.row.ensures.value at c.sum_of_products-planned.ensures ∙ from_zero _ in
+    let planned : c.sum_of_products-planned.result ≡ list_dot (row_of n.plan_rows c.args.i) c.args.plan.now = rw c.row.ensures.value at c.sum_of_products-planned.ensures ∙ from_zero _ in
     rw (to_z-of_z w128 _ result, c.multiplier_from.ensures, to_z-of_z w128 _ clamp, to_z-of_z w128 _ c.ranges.old, to_z-of_z w128 _ row, to_z-of_z w128 _ bound, read, c.sum_of_products-row.ensures, to_z-of_z w128 _ made, planned, c.row-2.ensures.value) refl

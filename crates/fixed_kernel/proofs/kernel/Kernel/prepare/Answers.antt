@@ -1,10 +1,10 @@
 use Rattle.std.proofs.Common.{◌≡◌, length, pos, ap, subst, sym, ◌∙◌, arith, ℕ, refl}
 use Rattle.std.proofs.lemmas.List.{length-replicate}
 use Rattle.qp_model.specs.Controller.{Numbers, numbers}
-use Rattle.qp_model.specs.Machine.{IsGridState, loaded, start_of}
+use Rattle.qp_model.specs.Machine.{IsAdmissible, loaded, start_of}
 use Rattle.qp_model.specs.AbsoluteSums.{IsController}
 use Rattle.word_region.specs.declared.Span.{Span}
-use Rattle.word_region.specs.Words.{Words}
+use Rattle.word_region.specs.Words.{RegionWords}
 use Rattle.word_region.specs.Lending.{written_over}
 use Rattle.fixed_kernel.specs.declared.kernel.Kernel.TheInside.{Inside}
 use Rattle.fixed_kernel.specs.Factors.{HasNarrowFactors}
@@ -41,7 +41,7 @@ fresh c =
       controller = refl;
       made = refl;
       goes = g;
-      region = written_region c.take_spans-spans.new.region c.all_of.result.start c.put_start.new.words (first c) (ap (λ (s : Span). s.start) c.all_of.ensures) (c.take_spans-spans.ensures.size ∙ ap (λ (w : Words). length w.words) c.in_ok-region.ensures ∙ length-replicate c.parts-c.result.now.words (pos 0) ∙ words) g (c.take_spans-spans.ensures.used ∙ words) made;
+      region = written_region c.take_spans-spans.new.region c.all_of.result.start c.put_start.new.words (first c) (ap (λ (s : Span). s.start) c.all_of.ensures) (c.take_spans-spans.ensures.size ∙ ap (λ (w : RegionWords). length w.words) c.in_ok-region.ensures ∙ length-replicate c.parts-c.result.now.words (pos 0) ∙ words) g (c.take_spans-spans.ensures.used ∙ words) made;
       spans = c.take_spans-spans.ensures.spans ∙ ap spans_of e;
       narrow = λ t. subst HasNarrowFactors e (c.has_narrow_factors.ensures.0 t);
     }

@@ -3,7 +3,7 @@ use Rattle.qp_model.specs.Controller.{numbers}
 use Rattle.qp_model.specs.Machine.{loaded, step_of}
 use Rattle.overflow_check.proofs.Runs.{after_suc}
 use Rattle.word_region.specs.declared.Span.{Span}
-use Rattle.fixed_kernel.specs.Progress.{Progress, values_of, progress_of}
+use Rattle.fixed_kernel.specs.Progress.{Progress, iterate_of, progress_of}
 use Rattle.fixed_kernel.proofs.Reached.{reached, seen, kernel_with, stepped_stands, lent_held, ready_lent}
 use Rattle.fixed_kernel.proofs.kernel.Kernel.step.Goals as goal
 
@@ -37,6 +37,6 @@ returns-clause-values c =
     let start : c.all_of.result.start ≡ 0 = ap (λ (s : Span). s.start) c.all_of.ensures in
     let stands = stepped_stands k r lt n c.all_of.result.start c.cells_mut.result.now c.advance.new.words start c.parts-c.ensures.value lent c.advance.ensures in
     let p = progress_of k in
-    ap values_of (seen (kernel_with k c.all_of.result.start c.advance.new.words (k.made + 1)) (record p { made = k.made + 1 }) stands) ∙
+    ap iterate_of (seen (kernel_with k c.all_of.result.start c.advance.new.words (k.made + 1)) (record p { made = k.made + 1 }) stands) ∙
     after_suc p.controller (loaded p.controller p.state) p.made ∙
-    ap (λ (q : Progress). step_of q.controller (loaded q.controller q.state) (values_of q)) c.self.view_is
+    ap (λ (q : Progress). step_of q.controller (loaded q.controller q.state) (iterate_of q)) c.self.view_is
