@@ -16,7 +16,7 @@ use Rattle.integer_algebra.proofs.OrderLaws.{square_nonneg_z, mul-le-mul_left_z,
 use Rattle.integer_algebra.proofs.VectorLaws.{dot_comm, dot_same, dot_scale, dot_scale_right, dot_none, image_scale, image_none, image_same}
 use Rattle.integer_algebra.proofs.SizeLaws.{at_size}
 use Rattle.integer_algebra.proofs.PowerLaws.{two-pow-more}
-use Rattle.approx_inverse.specs.Descent.{residual, value, aim, IsDescent, IsRoomy, IsSettled}
+use Rattle.approx_inverse.specs.Descent.{system_residual, value, aim, IsDescent, IsRoomy, IsSettled}
 use Rattle.integer_algebra.specs.Bounds.{absolute}
 use Rattle.qp_model.specs.GoodSolution.{IsGood}
 use Rattle.qp_model.specs.Convex.{IsConvex}
@@ -81,7 +81,7 @@ aim_more l c j = rw (two-pow-more l) (close (2 ^ l) (at c j))
     close : (p : ℕ) (z : ℤ) → pos (2 * p) *ℤ z ≡ pos 2 *ℤ (pos p *ℤ z)
     close p z = mul_assoc_z (pos 2) (pos p) z
 
-pub doubled_residual : (n : ℕ) (h : ℕ → ℕ → ℤ) (c : List ℤ) (l : ℕ) (x : ℕ → ℤ) (i : ℕ) → residual n h (aim (l + 1) c) (λ k. pos 2 *ℤ x k) i ≡ pos 2 *ℤ residual n h (aim l c) x i
+pub doubled_residual : (n : ℕ) (h : ℕ → ℕ → ℤ) (c : List ℤ) (l : ℕ) (x : ℕ → ℤ) (i : ℕ) → system_residual n h (aim (l + 1) c) (λ k. pos 2 *ℤ x k) i ≡ pos 2 *ℤ system_residual n h (aim l c) x i
 doubled_residual n h c l x i = close _ _ (image n h x i) (aim l c i) (image_scale n h (pos 2) x i) (aim_more l c i)
   where
     close : (m a p b : ℤ) → m ≡ pos 2 *ℤ p → a ≡ pos 2 *ℤ b → m -ℤ a ≡ pos 2 *ℤ (p -ℤ b)
@@ -148,7 +148,7 @@ entry_bounded (suc n) h b y floor convex low i l =
     omega (arith, top_bounded (suc n) h b y floor convex low g.index g.inside g.most, mul-le-mul_left (unsigned_abs floor) (g.most i l))
 
 pub rest_bounded : (n : ℕ) (h : ℕ → ℕ → ℤ) (b y : ℕ → ℤ) (m : ℕ) (i : ℕ) → i < n → ((j : ℕ) → j < n → unsigned_abs (y j) ≤ m) →
-    unsigned_abs (residual n h b y i) ≤ size n (h i) * m + size n b
+    unsigned_abs (system_residual n h b y i) ≤ size n (h i) * m + size n b
 rest_bounded n h b y m i l k = close (image n h y i) (b i) _ _ (dot_bounded n (h i) y m k) (at_size i n b l)
   where
     close : (p q : ℤ) (u v : ℕ) → unsigned_abs p ≤ u → unsigned_abs q ≤ v → unsigned_abs (p -ℤ q) ≤ u + v
@@ -211,11 +211,11 @@ roomy_from n h c floor l f convex order all =
     back z h = omega (arith, ints)
 
     numbers : (y : ℕ → ℤ) → value n h (aim l c) y ≤ℤ pos 0 → (i : ℕ) → i < n →
-        (unsigned_abs (y i) ≤ 2 ^ 125) × (unsigned_abs (residual n h (aim l c) y i) ≤ 2 ^ 125) × (unsigned_abs (h i i) ≤ 2 ^ 125)
+        (unsigned_abs (y i) ≤ 2 ^ 125) × (unsigned_abs (system_residual n h (aim l c) y i) ≤ 2 ^ 125) × (unsigned_abs (h i i) ≤ 2 ^ 125)
     numbers y low i k =
         let x = entry_bound n (at c) floor f in
         let within : (j : ℕ) → j < n → unsigned_abs (y j) ≤ x = λ j m. entry_within n h c y floor l f convex order low j m in
-        room (greatest_row n n h) (size n (h i)) x (size n (at c)) (2 ^ l) (2 ^ f) (2 ^ (f + 1)) (unsigned_abs (y i)) (unsigned_abs (residual n h (aim l c) y i)) (unsigned_abs (h i i))
+        room (greatest_row n n h) (size n (h i)) x (size n (at c)) (2 ^ l) (2 ^ f) (2 ^ (f + 1)) (unsigned_abs (y i)) (unsigned_abs (system_residual n h (aim l c) y i)) (unsigned_abs (h i i))
         (positive (h i i) (diagonal_positive n h floor i k convex)) (at_size i n (h i) k) (greatest_term i n (λ k. size n (h k)) k) (powers l f order) (two-pow-more f) all
         (within i k) (rw (← (size_aim n l c)) (rest_bounded n h (aim l c) y x i k within))
 
@@ -247,7 +247,7 @@ pub double_fits : (n : ℕ) (h : ℕ → ℕ → ℤ) (c : List ℤ) (l : ℕ) (
     (k : ℕ) → k < n → FitsSigned w128 (pos 2 *ℤ x k) × FitsSigned w128 (pos 2 *ℤ r k)
 double_fits n h c l x r roomy at_x k m = (
   close (pos 2 *ℤ x k) (roomy.entry (λ k. pos 2 *ℤ x k) low k m),
-  rw (at_x.rest k m, ← (doubled_residual n h c l x k)) (close (residual n h (aim (l + 1) c) (λ k. pos 2 *ℤ x k) k) (roomy.rest (λ k. pos 2 *ℤ x k) low k m)),
+  rw (at_x.rest k m, ← (doubled_residual n h c l x k)) (close (system_residual n h (aim (l + 1) c) (λ k. pos 2 *ℤ x k) k) (roomy.rest (λ k. pos 2 *ℤ x k) low k m)),
 )
   where
     low : value n h (aim (l + 1) c) (λ k. pos 2 *ℤ x k) ≤ℤ pos 0

@@ -14,15 +14,15 @@ use Rattle.qp_model.specs.Design.{Design, entries, rows}
 use Rattle.qp_model.specs.Parts.{IsDesign, design_of}
 use Rattle.qp_model.specs.Range.{IsPositive}
 use Rattle.qp_model.specs.GoodSolution.{IsGood}
-use Rattle.qp_model.specs.Condensing.{numbers_of}
+use Rattle.qp_model.specs.Condensing.{condensed_of}
 use Rattle.qp_model.specs.Columns.{columns, column_bound, solve_matrix, solve_column, solve_floor, input_floor, least, descent_size}
 use Rattle.qp_model.proofs.RowLaws.{plan_number}
 use Rattle.plant_condense.specs.Form as form
 use Rattle.plant_condense.specs.Form.{IsFormOf, IsLeastInput, response_scale}
 use Rattle.plant_condense.specs.declared.condensed.Condensed.{Condensed}
-use Rattle.approx_inverse.specs.Condensed.{IsSolvable, column_of, columns_of, entries_of, rows_of, row_factor, states_of}
+use Rattle.approx_inverse.specs.Condensed.{IsSolvable, system_column, columns_of, entries_of, limit_count, row_factor, states_of}
 use Rattle.approx_inverse.specs.DescentSize.{EachWithin, entry_bound, descent_of_columns}
-use Rattle.approx_inverse.specs.Inverse.{HasSizes, IsInverseOf, IsSolution, SolvesForm, solution_of, descent_of}
+use Rattle.approx_inverse.specs.Inverse.{HasGainSizes, IsInverseOf, IsSolution, SolvesForm, solution_of, descent_of}
 use Rattle.approx_inverse.specs.declared.inverse.Inverse.{Inverse}
 use Rattle.approx_inverse.proofs.SizeLaws.{columns_same}
 use Rattle.approx_inverse.proofs.FormLaws.{good_same, within_same, bound_same}
@@ -55,7 +55,7 @@ factor_equal p c is = rw (is.denominators.power, is.denominators.cost_row_den, i
     turn a r w = ap (λ (n : ℕ). pos n) (let e : a * (r * (r * w)) ≡ w * (r * r) * a = omega arith in e)
 
 column_equal : (p : DesignParts) (c : Condensed) → IsFormOf p c → (i j : ℕ) → i < columns (design_of p) → j < entries (design_of p) →
-    column_of c i j ≡ solve_column (design_of p) i j
+    system_column c i j ≡ solve_column (design_of p) i j
 column_equal p c is i j l m =
     rw is.shapes.lin.cols
     (choose_equal i p.states _ _ _ _ _ _
@@ -148,8 +148,8 @@ solvable_from p c is = let q = few p is.design in record {
 -- ---- what solving gives
 pub descent_equal : (p : DesignParts) (c : Condensed) (f : ℕ) → IsFormOf p c → descent_of c f ≡ descent_size (design_of p) f
 descent_equal p c f is =
-    resized _ _ (form.solve_matrix c) _ _ (column_of c) _ _ f is.shapes.hess.rows (count _ _ _ _ is.shapes.lin.cols is.shapes.g.rows) (floor_equal p c is) ∙
-    columns_same (entries (design_of p)) (form.solve_matrix c) (solve_matrix (design_of p)) (columns (design_of p)) (column_of c) (solve_column (design_of p))
+    resized _ _ (form.solve_matrix c) _ _ (system_column c) _ _ f is.shapes.hess.rows (count _ _ _ _ is.shapes.lin.cols is.shapes.g.rows) (floor_equal p c is) ∙
+    columns_same (entries (design_of p)) (form.solve_matrix c) (solve_matrix (design_of p)) (columns (design_of p)) (system_column c) (solve_column (design_of p))
     (pos (solve_floor (design_of p))) f (matrix_equal p c is) (column_equal p c is)
   where
     resized : (n m : ℕ) (h : ℕ → ℕ → ℤ) (k l : ℕ) (cs : ℕ → ℕ → ℤ) (a b : ℤ) (f : ℕ) → n ≡ m → k ≡ l → a ≡ b →
@@ -168,12 +168,12 @@ rebound n m c a b f x e g within = rw (e, g) at within
 pub inverse_from : (p : DesignParts) (c : Condensed) (f : ℕ) (v : Inverse) → IsFormOf p c → SolvesForm c f v → IsInverseOf (design_of p) f v
 inverse_from p c f v is solves = record {
   sizes = resized v _ _ _ _ _ _ is.shapes.hess.rows is.shapes.lin.cols is.shapes.g.rows solves.sizes;
-  good = λ i l. good_same n (form.solve_matrix c) (solve_matrix (design_of p)) f (column_of c i) (solve_column (design_of p) i) (solution_of v i) (solution_of v i)
+  good = λ i l. good_same n (form.solve_matrix c) (solve_matrix (design_of p)) f (system_column c i) (solve_column (design_of p) i) (solution_of v i) (solution_of v i)
       (matrix_equal p c is) (λ j m. column_equal p c is i j l m) (λ j m. refl)
-      (resize _ _ (form.solve_matrix c) f (column_of c i) (solution_of v i) is.shapes.hess.rows (solved i l).good);
+      (resize _ _ (form.solve_matrix c) f (system_column c i) (solution_of v i) is.shapes.hess.rows (solved i l).good);
   within = λ i l. within_same n _ _ (solution_of v i) (solution_of v i)
-      (bound_same n (column_of c i) (solve_column (design_of p) i) (pos (solve_floor (design_of p))) f (λ j m. column_equal p c is i j l m)) (λ j m. refl)
-      (rebound _ _ (column_of c i) _ _ f (solution_of v i) is.shapes.hess.rows (floor_equal p c is) (solved i l).within);
+      (bound_same n (system_column c i) (solve_column (design_of p) i) (pos (solve_floor (design_of p))) f (λ j m. column_equal p c is i j l m)) (λ j m. refl)
+      (rebound _ _ (system_column c i) _ _ f (solution_of v i) is.shapes.hess.rows (floor_equal p c is) (solved i l).within);
 }
   where
     n : ℕ
@@ -185,15 +185,15 @@ inverse_from p c f v is solves = record {
     solved : (i : ℕ) → i < columns (design_of p) → IsSolution c f i (solution_of v i)
     solved i l = solves.solved i (inside i _ _ _ _ is.shapes.lin.cols is.shapes.g.rows l)
 
-    resized : (v : Inverse) (n k m x y z : ℕ) → x ≡ n → y ≡ k → z ≡ m → HasSizes v x y z → HasSizes v n k m
+    resized : (v : Inverse) (n k m x y z : ℕ) → x ≡ n → y ≡ k → z ≡ m → HasGainSizes v x y z → HasGainSizes v n k m
     resized v n k m x y z e g h sizes = rw (← e, ← g, ← h) sizes
 
 -- a column's bound is the design's
 pub bound_equal : (p : DesignParts) (c : Condensed) (f i : ℕ) → IsFormOf p c → i < columns (design_of p) →
-    entry_bound (entries_of c) (column_of c i) c.floor f ≡ column_bound (design_of p) f i
+    entry_bound (entries_of c) (system_column c i) c.floor f ≡ column_bound (design_of p) f i
 bound_equal p c f i is l =
-    renamed _ _ (column_of c i) _ _ f is.shapes.hess.rows (floor_equal p c is) ∙
-    bound_same (entries (design_of p)) (column_of c i) (solve_column (design_of p) i) (pos (solve_floor (design_of p))) f (λ j m. column_equal p c is i j l m)
+    renamed _ _ (system_column c i) _ _ f is.shapes.hess.rows (floor_equal p c is) ∙
+    bound_same (entries (design_of p)) (system_column c i) (solve_column (design_of p) i) (pos (solve_floor (design_of p))) f (λ j m. column_equal p c is i j l m)
   where
     renamed : (n m : ℕ) (c : ℕ → ℤ) (a b : ℤ) (f : ℕ) → n ≡ m → a ≡ b → entry_bound n c a f ≡ entry_bound m c b f
     renamed n m c a b f e g = rw (e, g) refl

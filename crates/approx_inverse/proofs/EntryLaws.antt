@@ -13,7 +13,7 @@ use Rattle.integer_algebra.proofs.PowerLaws.{two-pow-more}
 use Rattle.integer_algebra.proofs.Quoting.{by_ring, quotes}
 use Rattle.qp_model.specs.Convex.{IsConvex}
 use Rattle.qp_model.specs.GoodSolution.{IsGood}
-use Rattle.approx_inverse.specs.Laws.{EntryLaw}
+use Rattle.approx_inverse.specs.Laws.{GoodEntryLaw}
 
 -- the numbers of the greatest entry m: least m^2 ≤ m sum b, so least m ≤ sum b
 shrunk : (least m squares form bounds : ℤ) → pos 0 ≤ℤ least → pos 0 ≤ℤ m → pos 0 ≤ℤ bounds → square m ≤ℤ squares → (least *ℤ squares) ≤ℤ form → form ≤ℤ (m *ℤ bounds) →
@@ -71,7 +71,7 @@ within_of m d c p q e h k =
     close : (m d t a b u : ℤ) → a ≡ pos 2 *ℤ t → b ≡ neg_ℤ a → a ≤ℤ u → b ≤ℤ u → (pos 2 *ℤ (m -ℤ t)) ≤ℤ d → (pos 2 *ℤ (t -ℤ m)) ≤ℤ d → IsWithin (u +ℤ d) (pos 2 *ℤ m)
     close m d t a b u e g x y h k = record { below = omega (arith, ints); above = omega (arith, ints) }
 
-pub entry : EntryLaw
+pub entry : GoodEntryLaw
 entry zero h floor f c x convex good j l = absurd (omega arith)
 entry (suc n) h floor f c x convex good j l =
     rw (← (sum_of_bounds (suc n) h f c))

@@ -12,7 +12,7 @@ use Rattle.qp_model.specs.GoodSolution.{IsGood}
 use Rattle.plant_condense.specs.Form.{solve_matrix}
 use Rattle.plant_condense.specs.declared.condensed.Condensed.{Condensed}
 use Rattle.approx_inverse.specs.System.{IsSystem}
-use Rattle.approx_inverse.specs.Condensed.{IsMatrixOf, IsSolvable, column_of, columns_of, entries_of, rows_of, states_of}
+use Rattle.approx_inverse.specs.Condensed.{IsMatrixOf, IsSolvable, system_column, columns_of, entries_of, limit_count, states_of}
 use Rattle.approx_inverse.specs.DescentSize.{EachWithin, entry_bound, descent_of_column}
 use Rattle.approx_inverse.specs.Inverse.{IsSolution, SolvesForm, descent_of}
 use Rattle.approx_inverse.specs.Fault.{IsFault}
@@ -52,24 +52,24 @@ system_from c h solvable matrix = record {
   convex = convex_same (entries_of c) (solve_matrix c) (entry_of h) c.floor (λ i j l m. sym (matrix.entry i j l m)) solvable.convex;
 }
 
-pub solution_from : (c : Condensed) (f i : ℕ) (h : Matrix) (column : List ℤ) (x : ℕ → ℤ) → IsMatrixOf c h → ((j : ℕ) → j < entries_of c → at column j ≡ column_of c i j) →
+pub solution_from : (c : Condensed) (f i : ℕ) (h : Matrix) (column : List ℤ) (x : ℕ → ℤ) → IsMatrixOf c h → ((j : ℕ) → j < entries_of c → at column j ≡ system_column c i j) →
     IsGood (entries_of c) (entry_of h) f (at column) x → EachWithin (entries_of c) (entry_bound (entries_of c) (at column) c.floor f) x →
     descent_of_column (entries_of c) (entry_of h) (at column) c.floor f ≤ 2 ^ 126 → IsSolution c f i x
 solution_from c f i h column x matrix e good within room =
     let n = entries_of c in
     record {
-      good = good_same n (entry_of h) (solve_matrix c) f (at column) (column_of c i) x x matrix.entry e (λ j l. refl) good;
-      within = rw (← (bound_same n (at column) (column_of c i) c.floor f e)) within;
-      room = rw (← (column_same n (entry_of h) (solve_matrix c) (at column) (column_of c i) c.floor f matrix.entry e)) room;
+      good = good_same n (entry_of h) (solve_matrix c) f (at column) (system_column c i) x x matrix.entry e (λ j l. refl) good;
+      within = rw (← (bound_same n (at column) (system_column c i) c.floor f e)) within;
+      room = rw (← (column_same n (entry_of h) (solve_matrix c) (at column) (system_column c i) c.floor f matrix.entry e)) room;
     }
 
 -- a column without room
-pub wide_from : (c : Condensed) (f i : ℕ) (h : Matrix) (column : List ℤ) → IsMatrixOf c h → i < columns_of c → ((j : ℕ) → j < entries_of c → at column j ≡ column_of c i j) →
+pub wide_from : (c : Condensed) (f i : ℕ) (h : Matrix) (column : List ℤ) → IsMatrixOf c h → i < columns_of c → ((j : ℕ) → j < entries_of c → at column j ≡ system_column c i j) →
     2 ^ 126 < descent_of_column (entries_of c) (entry_of h) (at column) c.floor f → 2 ^ 126 < descent_of c f
 wide_from c f i h column matrix l e wide =
     let n = entries_of c in
-    let w = rw (column_same n (entry_of h) (solve_matrix c) (at column) (column_of c i) c.floor f matrix.entry e) at wide in
-    let k = column_among n (solve_matrix c) (columns_of c) (column_of c) c.floor f i l in
+    let w = rw (column_same n (entry_of h) (solve_matrix c) (at column) (system_column c i) c.floor f matrix.entry e) at wide in
+    let k = column_among n (solve_matrix c) (columns_of c) (system_column c) c.floor f i l in
     omega (arith, w, k)
 
 -- ---- answers
@@ -87,7 +87,7 @@ not_fit n b e h = elim (cases_lt (2 ^ 126) n) [
 -- a solution's numbers, under another name
 pub solution_kept : (c : Condensed) (f i : ℕ) (x y : ℕ → ℤ) → ((j : ℕ) → j < entries_of c → x j ≡ y j) → IsSolution c f i x → IsSolution c f i y
 solution_kept c f i x y e is = record {
-  good = good_same (entries_of c) (solve_matrix c) (solve_matrix c) f (column_of c i) (column_of c i) x y (λ i j l m. refl) (λ j l. refl) e is.good;
+  good = good_same (entries_of c) (solve_matrix c) (solve_matrix c) f (system_column c i) (system_column c i) x y (λ i j l m. refl) (λ j l. refl) e is.good;
   within = within_same (entries_of c) _ _ x y refl e is.within;
   room = is.room;
 }
@@ -112,7 +112,7 @@ fault_gives (TooWide q) h p = (p.0, h p.1)
 -- where each column has a solution, all have room
 pub room_from : (c : Condensed) (f : ℕ) (v : Inverse) → IsSolvable c → SolvesForm c f v → descent_of c f ≤ 2 ^ 126
 room_from c f v solvable solves =
-    all_fit (entries_of c) (solve_matrix c) (columns_of c) (column_of c) c.floor f solvable.convex.positive (some (states_of c) (rows_of c)) (λ i l. (solves.solved i l).room)
+    all_fit (entries_of c) (solve_matrix c) (columns_of c) (system_column c) c.floor f solvable.convex.positive (some (states_of c) (limit_count c)) (λ i l. (solves.solved i l).room)
   where
     some : (a b : ℕ) → 0 < a + 1 + b
     some a b = omega arith

@@ -12,7 +12,7 @@ use Rattle.integer_algebra.proofs.SumLaws.{total_same, total_nonneg, total_add, 
 use Rattle.integer_algebra.proofs.BlockLaws.{total_single, choose_times}
 use Rattle.integer_algebra.proofs.VectorLaws.{dot_comm, dot_same, dot_add, dot_add_right, image_same, image_add}
 use Rattle.integer_algebra.proofs.Quoting.{by_ring, quotes}
-use Rattle.approx_inverse.specs.Descent.{residual, value, IsNearest, IsDescent, IsRoomy}
+use Rattle.approx_inverse.specs.Descent.{system_residual, value, IsNearestQuotient, IsDescent, IsRoomy}
 use Rattle.qp_model.specs.Convex.{IsConvex}
 
 -- t at j, and 0 elsewhere
@@ -27,7 +27,7 @@ image_point n h j t i l = dot_comm n (h i) (point j t) ∙ dot_point n j t (h i)
 
 -- the residual after x_j grew by t
 pub moved_residual : (n : ℕ) (h : ℕ → ℕ → ℤ) (b x : ℕ → ℤ) (j : ℕ) (t : ℤ) (i : ℕ) → j < n →
-    residual n h b (λ k. x k +ℤ point j t k) i ≡ residual n h b x i +ℤ t *ℤ h i j
+    system_residual n h b (λ k. x k +ℤ point j t k) i ≡ system_residual n h b x i +ℤ t *ℤ h i j
 moved_residual n h b x j t i l =
     together _ _ _ _ (b i) (image_add n h x (point j t) i) (image_point n h j t i l)
   where
@@ -37,7 +37,7 @@ moved_residual n h b x j t i l =
 -- the value
 pub moved_value : (n : ℕ) (h : ℕ → ℕ → ℤ) (b x : ℕ → ℤ) (j : ℕ) (t : ℤ) → j < n →
     ((i k : ℕ) → i < n → k < n → h i k ≡ h k i) →
-    value n h b (λ k. x k +ℤ point j t k) ≡ value n h b x +ℤ (pos 2 *ℤ t *ℤ residual n h b x j +ℤ t *ℤ t *ℤ h j j)
+    value n h b (λ k. x k +ℤ point j t k) ≡ value n h b x +ℤ (pos 2 *ℤ t *ℤ system_residual n h b x j +ℤ t *ℤ t *ℤ h j j)
 moved_value n h b x j t l sym_h =
     let d = point j t in
     let y = λ (k : ℕ). x k +ℤ d k in
@@ -65,7 +65,7 @@ sign_down : (q d : ℤ) → pos 0 ≤ℤ d → (q *ℤ d) <ℤ pos 0 → q <ℤ 
 sign_down q d p h = by_lt_z q (pos 0) (λ l. l) (λ l. absurd (let k = mul-le-mul_right_z d {a = pos 0} {b = q} p l in omega (arith, ints, k)))
 
 -- a step to the nearest lowers the value
-pub falls : (r d q : ℤ) → IsNearest r d q → pos 1 ≤ℤ d → d <ℤ (pos 2 *ℤ absolute r) → (pos 2 *ℤ neg_ℤ q *ℤ r +ℤ neg_ℤ q *ℤ neg_ℤ q *ℤ d) <ℤ pos 0
+pub falls : (r d q : ℤ) → IsNearestQuotient r d q → pos 1 ≤ℤ d → d <ℤ (pos 2 *ℤ absolute r) → (pos 2 *ℤ neg_ℤ q *ℤ r +ℤ neg_ℤ q *ℤ neg_ℤ q *ℤ d) <ℤ pos 0
 falls r d q near p h = by_lt_z r (pos 0)
     (λ l. down r d q (q *ℤ d) refl near.low near.high p (omega (arith, ints)))
     (λ l. up r d q (q *ℤ d) refl near.low near.high p (omega (arith, ints)))
@@ -120,7 +120,7 @@ div_floor (negsuc a) (pos (suc b)) h = (omega (arith, ints), omega (arith, ints)
 div_floor (pos a) (negsuc b) h = absurd h.le
 div_floor (negsuc a) (negsuc b) h = absurd h.le
 
-pub nearest_is : (r d : ℤ) → pos 1 ≤ℤ d → IsNearest r d (int_div_euclid (pos 2 *ℤ r +ℤ d) (pos 2 *ℤ d))
+pub nearest_is : (r d : ℤ) → pos 1 ≤ℤ d → IsNearestQuotient r d (int_div_euclid (pos 2 *ℤ r +ℤ d) (pos 2 *ℤ d))
 nearest_is r d h =
     let q = int_div_euclid (pos 2 *ℤ r +ℤ d) (pos 2 *ℤ d) in
     let k = div_floor (pos 2 *ℤ r +ℤ d) (pos 2 *ℤ d) (omega (arith, ints)) in
@@ -129,7 +129,7 @@ nearest_is r d h =
     turn : (q d : ℤ) → q *ℤ (pos 2 *ℤ d) ≡ pos 2 *ℤ (q *ℤ d)
     turn q d = by_ring (q ∷ d ∷ []) (search quotes depth 60 fits 20000) refl
 
-    close : (r d m w q : ℤ) → m ≡ q *ℤ d → w ≡ pos 2 *ℤ m → w ≤ℤ (pos 2 *ℤ r +ℤ d) → (pos 2 *ℤ r +ℤ d) <ℤ (w +ℤ pos 2 *ℤ d) → IsNearest r d q
+    close : (r d m w q : ℤ) → m ≡ q *ℤ d → w ≡ pos 2 *ℤ m → w ≤ℤ (pos 2 *ℤ r +ℤ d) → (pos 2 *ℤ r +ℤ d) <ℤ (w +ℤ pos 2 *ℤ d) → IsNearestQuotient r d q
     close r d m w q e f h k = record { low = rw (← e) (omega (arith, ints)); high = rw (← e) (omega (arith, ints)) }
 
 -- ---- the diagonal
@@ -147,7 +147,7 @@ diagonal_positive n h floor j l convex =
     together floor d s q p e f h = let k = rw (e, f) at h in omega (arith, ints, k)
 
 -- ---- vectors that are equal below n
-pub residual_same : (n : ℕ) (h : ℕ → ℕ → ℤ) (b x y : ℕ → ℤ) (i : ℕ) → ((k : ℕ) → k < n → x k ≡ y k) → residual n h b x i ≡ residual n h b y i
+pub residual_same : (n : ℕ) (h : ℕ → ℕ → ℤ) (b x y : ℕ → ℤ) (i : ℕ) → ((k : ℕ) → k < n → x k ≡ y k) → system_residual n h b x i ≡ system_residual n h b y i
 residual_same n h b x y i e = ap (λ (z : ℤ). z -ℤ b i) (image_same n h x y i e)
 
 pub value_same : (n : ℕ) (h : ℕ → ℕ → ℤ) (b x y : ℕ → ℤ) → ((k : ℕ) → k < n → x k ≡ y k) → value n h b x ≡ value n h b y
@@ -161,7 +161,7 @@ value_same n h b x y e =
 
 -- ---- a whole move
 module _ (n : ℕ) (h : ℕ → ℕ → ℤ) (b x r : ℕ → ℤ) (j : ℕ) (t floor : ℤ) (l : j < n) (convex : IsConvex n h floor) (at_x : IsDescent n h b x r)
-    (near : IsNearest (r j) (h j j) t) (wide : h j j <ℤ (pos 2 *ℤ absolute (r j))) where
+    (near : IsNearestQuotient (r j) (h j j) t) (wide : h j j <ℤ (pos 2 *ℤ absolute (r j))) where
   abbrev pub next : ℕ → ℤ
   next k = x k +ℤ point j (neg_ℤ t) k
 
@@ -175,7 +175,7 @@ module _ (n : ℕ) (h : ℕ → ℕ → ℤ) (b x r : ℕ → ℤ) (j : ℕ) (t 
   pub next_low : value n h b next ≤ℤ pos 0
   next_low = let a = next_lower in let b = at_x.low in omega (arith, ints)
 
-  pub next_rest : (i : ℕ) → i < n → r i -ℤ t *ℤ h j i ≡ residual n h b next i
+  pub next_rest : (i : ℕ) → i < n → r i -ℤ t *ℤ h j i ≡ system_residual n h b next i
   next_rest i k = together _ _ _ _ t (at_x.rest i k) (convex.symmetric i j k l) (moved_residual n h b x j (neg_ℤ t) i l)
     where
       turn : (p c t : ℤ) → p +ℤ neg_ℤ t *ℤ c ≡ p -ℤ t *ℤ c
@@ -201,13 +201,13 @@ module _ (n : ℕ) (h : ℕ → ℕ → ℤ) (b x r : ℕ → ℤ) (j : ℕ) (t 
         small z k = omega (arith, ints)
 
     pub rest_fits : (i : ℕ) → i < n → FitsSigned w128 (r i -ℤ t *ℤ h j i)
-    rest_fits i k = rw (next_rest i k) (small (residual n h b next i) (roomy.rest next next_low i k))
+    rest_fits i k = rw (next_rest i k) (small (system_residual n h b next i) (roomy.rest next next_low i k))
       where
         small : (z : ℤ) → unsigned_abs z ≤ 2 ^ 125 → FitsSigned w128 z
         small z k = omega (arith, ints)
 
     pub product_fits : (i : ℕ) → i < n → FitsSigned w128 (t *ℤ h j i)
-    product_fits i k = small (t *ℤ h j i) (r i) (residual n h b next i) (next_rest i k)
+    product_fits i k = small (t *ℤ h j i) (r i) (system_residual n h b next i) (next_rest i k)
         (rw (at_x.rest i k) (roomy.rest x at_x.low i k)) (roomy.rest next next_low i k)
       where
         small : (p u v : ℤ) → u -ℤ p ≡ v → unsigned_abs u ≤ 2 ^ 125 → unsigned_abs v ≤ 2 ^ 125 → FitsSigned w128 p

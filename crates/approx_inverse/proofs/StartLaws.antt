@@ -3,10 +3,10 @@ use Rattle.std.proofs.Common.{◌≡◌, ℕ, ◌+◌, ◌*◌, ◌^◌, ◌<◌
 use Rattle.std.proofs.lemmas.Int.{ints}
 use Rattle.std.specs.Prelude.{Option, None, Some, IfSome}
 use Rattle.integer_algebra.specs.Sums.{total, dot, image, at}
-use Rattle.word_region.specs.Words.{Words}
+use Rattle.word_region.specs.Words.{RegionWords}
 use Rattle.word_region.specs.declared.Span.{Span}
-use Rattle.approx_inverse.specs.Descent.{IsDescent, residual, value}
-use Rattle.approx_inverse.specs.Spans.{ArePlaced, IsWritten, cells}
+use Rattle.approx_inverse.specs.Descent.{IsDescent, system_residual, value}
+use Rattle.approx_inverse.specs.Spans.{ArePlaced, IsSpanWritten, cells}
 use Rattle.approx_inverse.proofs.MoveLaws.{residual_same, value_same}
 use Rattle.integer_algebra.proofs.RingLaws.{mul-add_z}
 use Rattle.integer_algebra.proofs.SumLaws.{total_same, total_add, total_scale, total_more}
@@ -72,7 +72,7 @@ low_from u s t h k l = close (u *ℤ s) (u *ℤ pos 0) t (mul-le-mul_left_z u h 
     close a b t h e l = omega (arith, ints)
 
 -- the value by the residual: x'(r - b), where r = h x - b
-pub value_by : (n : ℕ) (h : ℕ → ℕ → ℤ) (b x r : ℕ → ℤ) → ((i : ℕ) → i < n → r i ≡ residual n h b x i) → total n (λ i. x i *ℤ (r i -ℤ b i)) ≡ value n h b x
+pub value_by : (n : ℕ) (h : ℕ → ℕ → ℤ) (b x r : ℕ → ℤ) → ((i : ℕ) → i < n → r i ≡ system_residual n h b x i) → total n (λ i. x i *ℤ (r i -ℤ b i)) ≡ value n h b x
 value_by n h b x r e =
     total_same n _ _ (λ i l. term (x i) (r i) (b i) (image n h x i) (e i l)) ∙
     (total_add n (λ i. x i *ℤ image n h x i) (λ i. negsuc 1 *ℤ (b i *ℤ x i)) ∙ ap (λ (z : ℤ). dot n x (image n h x) +ℤ z) (total_scale n (negsuc 1) (λ i. b i *ℤ x i))) ∙
@@ -85,9 +85,9 @@ value_by n h b x r e =
     close p q = by_ring (p ∷ q ∷ []) (search quotes depth 60 fits 20000) refl
 
 -- a guess and its residual, on the words of a region: w1 has the residual, w2 the guess too
-pub started : (n : ℕ) (h : ℕ → ℕ → ℤ) (b : ℕ → ℤ) (g rest : List ℤ) (w0 w1 w2 : Words) (x r : Span) → ArePlaced w0 x r n →
-    ((i : ℕ) → i < n → cells w1.words r.start i ≡ residual n h b (at g) i) → ((i : ℕ) → i < n → at rest i ≡ cells w1.words r.start i) →
-    total n (λ i. at g i *ℤ (at rest i -ℤ b i)) ≤ℤ pos 0 → IsWritten w1 w2 x (at g) →
+pub started : (n : ℕ) (h : ℕ → ℕ → ℤ) (b : ℕ → ℤ) (g rest : List ℤ) (w0 w1 w2 : RegionWords) (x r : Span) → ArePlaced w0 x r n →
+    ((i : ℕ) → i < n → cells w1.words r.start i ≡ system_residual n h b (at g) i) → ((i : ℕ) → i < n → at rest i ≡ cells w1.words r.start i) →
+    total n (λ i. at g i *ℤ (at rest i -ℤ b i)) ≤ℤ pos 0 → IsSpanWritten w1 w2 x (at g) →
     IsDescent n h b (cells w2.words x.start) (cells w2.words r.start)
 started n h b g rest w0 w1 w2 x r placed at_g same low put =
     let is : (k : ℕ) → k < n → cells w2.words x.start k ≡ at g k = λ k l. put.done k (omega (arith, placed.x_len)) in

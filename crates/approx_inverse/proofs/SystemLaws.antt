@@ -9,7 +9,7 @@ use Rattle.integer_algebra.specs.Sums.{at}
 use Rattle.mat_int.specs.Matrix.{Matrix, entry_of}
 use Rattle.plant_condense.specs.Form.{solve_matrix}
 use Rattle.plant_condense.specs.declared.condensed.Condensed.{Condensed}
-use Rattle.approx_inverse.specs.Condensed.{column_of, entries_of, row_factor, states_of}
+use Rattle.approx_inverse.specs.Condensed.{system_column, entries_of, row_factor, states_of}
 use Rattle.std.proofs.Math.Nat.{mul-le-mul_right}
 use Rattle.integer_algebra.specs.Sizes.{size}
 use Rattle.integer_algebra.proofs.SizeLaws.{at_size, size_same}
@@ -43,13 +43,13 @@ pub factors : (p r w g : ℤ) → p *ℤ (r *ℤ (r *ℤ (w *ℤ g))) ≡ p *ℤ
 factors p r w g = by_ring (p ∷ r ∷ w ∷ g ∷ []) (search quotes depth 60 fits 20000) refl
 
 -- ---- the columns of a condensed form
-pub column_of_state : (c : Condensed) (i j : ℕ) → i < states_of c → column_of c i j ≡ c.limit_den *ℤ entry_of c.lin j i
+pub column_of_state : (c : Condensed) (i j : ℕ) → i < states_of c → system_column c i j ≡ c.limit_den *ℤ entry_of c.lin j i
 column_of_state c i j l = grind (arith, nat_tests)
 
-pub column_of_constant : (c : Condensed) (i j : ℕ) → i ≡ states_of c → column_of c i j ≡ c.limit_den *ℤ at c.off.items j
+pub column_of_constant : (c : Condensed) (i j : ℕ) → i ≡ states_of c → system_column c i j ≡ c.limit_den *ℤ at c.off.items j
 column_of_constant c i j e = grind (arith, nat_tests)
 
-pub column_of_row : (c : Condensed) (i j : ℕ) → states_of c < i → column_of c i j ≡ row_factor c *ℤ entry_of c.g (i - (states_of c + 1)) j
+pub column_of_row : (c : Condensed) (i j : ℕ) → states_of c < i → system_column c i j ≡ row_factor c *ℤ entry_of c.g (i - (states_of c + 1)) j
 column_of_row c i j l = grind (arith, nat_tests)
 
 -- one more row of the matrix

@@ -4,11 +4,11 @@ use Rattle.std.proofs.Math.ListN.{length-set}
 use Rattle.std.proofs.Math.Seq.{take-length}
 use Rattle.std.proofs.lemmas.List.{get_or-take, get_or-drop, take-append-le}
 use Rattle.integer_algebra.specs.Sums.{at}
-use Rattle.word_region.specs.Words.{Words}
+use Rattle.word_region.specs.Words.{RegionWords}
 use Rattle.word_region.specs.declared.Span.{Span}
 use Rattle.word_region.specs.Lending.{written_over}
 use Rattle.word_region.proofs.LendingLaws.{written}
-use Rattle.approx_inverse.specs.Spans.{cells, ArePlaced, AreKept, IsWritten, StaysOutside}
+use Rattle.approx_inverse.specs.Spans.{cells, ArePlaced, AreKept, IsSpanWritten, StaysOutside}
 
 pub at_same : (ws ns : List ℤ) (p : ℕ) (z : ℤ) → ns ≡ set ws p z → p < length ws → at ns p ≡ z
 at_same ws ns p z e l = rw e (get_or-set_same ws p z (pos 0) l)
@@ -36,18 +36,18 @@ pub step_above : (ws0 ws ns : List ℤ) (p low high : ℕ) (z : ℤ) → ns ≡ 
 step_above ws0 ws ns p low high z e l o same k m = at_other ws ns p k z e (omega arith) ∙ same k (omega arith)
 
 -- a word of x changed, and then a row was taken from r
-pub record IsMoved (w0 w1 w2 : Words) (x r : Span) (n j : ℕ) (t z : ℤ) (row : List ℤ) : Type 0 where
+pub record IsMoved (w0 w1 w2 : RegionWords) (x r : Span) (n j : ℕ) (t z : ℤ) (row : List ℤ) : Type 0 where
   pub kept : AreKept w0 w2 x r
   pub at_j : cells w2.words x.start j ≡ z
   pub others : (k : ℕ) → k < n → k ≢ j → cells w2.words x.start k ≡ cells w0.words x.start k
   pub rest : (k : ℕ) → k < n → cells w2.words r.start k ≡ cells w0.words r.start k -ℤ t *ℤ at row k
 
-pub moved : (w0 w1 w2 : Words) (x r : Span) (n j : ℕ) (t z : ℤ) (row : List ℤ) → ArePlaced w0 x r n → j < n →
-    w1 ≡ record w0 { words = set w0.words (x.start + j) z } → IsWritten w1 w2 r (λ k. cells w1.words r.start k -ℤ t *ℤ at row k) → IsMoved w0 w1 w2 x r n j t z row
+pub moved : (w0 w1 w2 : RegionWords) (x r : Span) (n j : ℕ) (t z : ℤ) (row : List ℤ) → ArePlaced w0 x r n → j < n →
+    w1 ≡ record w0 { words = set w0.words (x.start + j) z } → IsSpanWritten w1 w2 r (λ k. cells w1.words r.start k -ℤ t *ℤ at row k) → IsMoved w0 w1 w2 x r n j t z row
 moved w0 w1 w2 x r n j t z row placed l e taken =
     let p = x.start + j in
-    let ws : w1.words ≡ set w0.words p z = ap (λ (w : Words). w.words) e in
-    let used : w1.used ≡ w0.used = ap (λ (w : Words). w.used) e in
+    let ws : w1.words ≡ set w0.words p z = ap (λ (w : RegionWords). w.words) e in
+    let used : w1.used ≡ w0.used = ap (λ (w : RegionWords). w.used) e in
     let size : length w1.words ≡ length w0.words = ap length ws ∙ length-set w0.words p z in
     record {
       kept = record {
@@ -63,10 +63,10 @@ moved w0 w1 w2 x r n j t z row placed l e taken =
     }
 
 -- the words of r while one of x changed
-pub rest_stays : (w0 w1 : Words) (x r : Span) (n j k : ℕ) (z : ℤ) → ArePlaced w0 x r n → j < n →
+pub rest_stays : (w0 w1 : RegionWords) (x r : Span) (n j k : ℕ) (z : ℤ) → ArePlaced w0 x r n → j < n →
     w1 ≡ record w0 { words = set w0.words (x.start + j) z } → cells w1.words r.start k ≡ cells w0.words r.start k
 rest_stays w0 w1 x r n j k z placed l e =
-    at_other w0.words w1.words (x.start + j) (r.start + k) z (ap (λ (w : Words). w.words) e) (omega arith)
+    at_other w0.words w1.words (x.start + j) (r.start + k) z (ap (λ (w : RegionWords). w.words) e) (omega arith)
 
 -- one more word of a span
 pub write_step : (ws ns : List ℤ) (start i : ℕ) (z : ℤ) (g : ℕ → ℤ) → ns ≡ set ws (start + i) z → start + i < length ws → z ≡ g i →
@@ -75,12 +75,12 @@ write_step ws ns start i z g e l is done =
     below_more _ _ (λ k m. at_other ws ns (start + i) (start + k) z e (omega arith) ∙ done k m) (at_same ws ns (start + i) z e l ∙ is)
 
 -- x was written, and then r
-pub record AreWritten (w0 w2 : Words) (x r : Span) (n : ℕ) (g q : ℕ → ℤ) : Type 0 where
+pub record AreWritten (w0 w2 : RegionWords) (x r : Span) (n : ℕ) (g q : ℕ → ℤ) : Type 0 where
   pub kept : AreKept w0 w2 x r
   pub first : (k : ℕ) → k < n → cells w2.words x.start k ≡ g k
   pub second : (k : ℕ) → k < n → cells w2.words r.start k ≡ q k
 
-pub both_written : (w0 w1 w2 : Words) (x r : Span) (n : ℕ) (g q : ℕ → ℤ) → ArePlaced w0 x r n → IsWritten w0 w1 x g → IsWritten w1 w2 r q → AreWritten w0 w2 x r n g q
+pub both_written : (w0 w1 w2 : RegionWords) (x r : Span) (n : ℕ) (g q : ℕ → ℤ) → ArePlaced w0 x r n → IsSpanWritten w0 w1 x g → IsSpanWritten w1 w2 r q → AreWritten w0 w2 x r n g q
 both_written w0 w1 w2 x r n g q placed a b = record {
   kept = record {
     used = b.used ∙ a.used;
@@ -94,11 +94,11 @@ both_written w0 w1 w2 x r n g q placed a b = record {
 }
 
 -- the words of r while x is written
-pub second_stays : (w0 w1 : Words) (x r : Span) (n : ℕ) (g : ℕ → ℤ) (k : ℕ) → ArePlaced w0 x r n → IsWritten w0 w1 x g → cells w1.words r.start k ≡ cells w0.words r.start k
+pub second_stays : (w0 w1 : RegionWords) (x r : Span) (n : ℕ) (g : ℕ → ℤ) (k : ℕ) → ArePlaced w0 x r n → IsSpanWritten w0 w1 x g → cells w1.words r.start k ≡ cells w0.words r.start k
 second_stays w0 w1 x r n g k placed a = a.above (r.start + k) (omega arith)
 
 -- changes, one after the other
-pub kept_on : (w0 w1 w2 : Words) (x r : Span) → AreKept w0 w1 x r → AreKept w1 w2 x r → AreKept w0 w2 x r
+pub kept_on : (w0 w1 w2 : RegionWords) (x r : Span) → AreKept w0 w1 x r → AreKept w1 w2 x r → AreKept w0 w2 x r
 kept_on w0 w1 w2 x r a b = record {
   used = b.used ∙ a.used;
   size = b.size ∙ a.size;
@@ -108,8 +108,8 @@ kept_on w0 w1 w2 x r a b = record {
 }
 
 -- what was lent and filled
-pub lent : (old : Words) (s : Span) (ws : List ℤ) → s.start + s.len ≤ length old.words → length ws ≡ s.len →
-    IsWritten old (record old { words = written_over old.words s.start ws }) s (at ws)
+pub lent : (old : RegionWords) (s : Span) (ws : List ℤ) → s.start + s.len ≤ length old.words → length ws ≡ s.len →
+    IsSpanWritten old (record old { words = written_over old.words s.start ws }) s (at ws)
 lent old s ws inside e =
     let there = written old.words ws s.start (omega arith) in
     record {
@@ -120,7 +120,7 @@ lent old s ws inside e =
       above = λ k l. there.above k (omega arith);
     }
 
-pub lent_outside : (old : Words) (s : Span) (ws : List ℤ) → s.start + s.len ≤ length old.words → length ws ≡ s.len →
+pub lent_outside : (old : RegionWords) (s : Span) (ws : List ℤ) → s.start + s.len ≤ length old.words → length ws ≡ s.len →
     StaysOutside old (record old { words = written_over old.words s.start ws }) s
 lent_outside old s ws inside e = let there = lent old s ws inside e in
     record { used = refl; size = there.size; below = there.below; above = there.above }

@@ -13,34 +13,34 @@ entries_of c = length c.hess.rows
 abbrev pub states_of : Condensed → ℕ
 states_of c = c.lin.cols
 
-abbrev pub rows_of : Condensed → ℕ
-rows_of c = length c.g.rows
+abbrev pub limit_count : Condensed → ℕ
+limit_count c = length c.g.rows
 
 -- how many columns there are
 abbrev pub columns_of : Condensed → ℕ
-columns_of c = states_of c + 1 + rows_of c
+columns_of c = states_of c + 1 + limit_count c
 
 -- what brings the limit rows to the matrix's denominator
 abbrev pub row_factor : Condensed → ℤ
 row_factor c = c.power *ℤ (c.cost_row_den *ℤ (c.cost_row_den *ℤ c.weight_den))
 
 -- entry j of column i
-abbrev pub column_of : Condensed → ℕ → ℕ → ℤ
-column_of c i j =
+abbrev pub system_column : Condensed → ℕ → ℕ → ℤ
+system_column c i j =
     if nat_lt i (states_of c) then c.limit_den *ℤ entry_of c.lin j i
     else if i == states_of c then c.limit_den *ℤ at c.off.items j
     else row_factor c *ℤ entry_of c.g (i - (states_of c + 1)) j
 
 -- numbers of a design's condensed form, as far as solving goes
 pub record IsSolvable (c : Condensed) : Type 0 where
-  pub shapes : HasShapes c (entries_of c) (states_of c) (rows_of c)
+  pub shapes : HasShapes c (entries_of c) (states_of c) (limit_count c)
   pub convex : IsConvex (entries_of c) (solve_matrix c) c.floor
   pub limit_den : pos 1 ≤ℤ c.limit_den
   pub cost_row_den : pos 1 ≤ℤ c.cost_row_den
   pub power : pos 1 ≤ℤ c.power
   pub few_entries : entries_of c < 2 ^ 32
   pub few_states : states_of c < 2 ^ 32
-  pub few_rows : rows_of c < 2 ^ 32
+  pub few_rows : limit_count c < 2 ^ 32
 
 -- the matrix that the columns are solved with
 pub record IsMatrixOf (c : Condensed) (m : Matrix) : Type 0 where

@@ -7,6 +7,6 @@ use Rattle.qp_model.specs.Convex.{IsConvex}
 use Rattle.qp_model.specs.GoodSolution.{IsGood}
 
 -- twice the floor times an entry is at most 2^(f+1) times the column's absolute sum and the trace of the matrix
-abbrev pub EntryLaw : Type 0
-EntryLaw = (n : ℕ) (h : ℕ → ℕ → ℤ) (floor : ℤ) (f : ℕ) (c x : ℕ → ℤ) → IsConvex n h floor → IsGood n h f c x →
+abbrev pub GoodEntryLaw : Type 0
+GoodEntryLaw = (n : ℕ) (h : ℕ → ℕ → ℤ) (floor : ℤ) (f : ℕ) (c x : ℕ → ℤ) → IsConvex n h floor → IsGood n h f c x →
     (j : ℕ) → j < n → (pos 2 *ℤ floor *ℤ absolute (x j)) ≤ℤ (pos (2 ^ (f + 1) * size n c) +ℤ total n (λ i. h i i))

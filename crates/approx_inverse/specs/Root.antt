@@ -3,7 +3,7 @@ use Rattle.std.specs.Prelude.{◌≡◌, ℕ, length, vec_len}
 use Rattle.approx_inverse.specs.declared.guess.Root.{Root}
 
 -- it has n rows, of n entries
-pub record IsRoot (n : ℕ) (r : Root) : Type 0 where
+pub record HasRootSizes (n : ℕ) (r : Root) : Type 0 where
   pub lower_rows : length r.lower.rows ≡ n
   pub lower_cols : r.lower.cols ≡ n
   pub upper_rows : length r.upper.rows ≡ n

@@ -1,7 +1,7 @@
 -- Words of spans that change, and words that stay.
 use Rattle.std.specs.Prelude.{◌≡◌, ℕ, ◌+◌, ◌<◌, ◌≤◌, ℤ, List, length}
 use Rattle.integer_algebra.specs.Sums.{at}
-use Rattle.word_region.specs.Words.{Words}
+use Rattle.word_region.specs.Words.{RegionWords}
 use Rattle.word_region.specs.declared.Span.{Span}
 
 -- words from start on, as a vector
@@ -9,7 +9,7 @@ abbrev pub cells : List ℤ → ℕ → ℕ → ℤ
 cells ws start j = at ws (start + j)
 
 -- x and, behind it, r are spans of n words in use
-pub record ArePlaced (w : Words) (x r : Span) (n : ℕ) : Type 0 where
+pub record ArePlaced (w : RegionWords) (x r : Span) (n : ℕ) : Type 0 where
   pub x_len : x.len ≡ n
   pub r_len : r.len ≡ n
   pub order : x.start + n ≤ r.start
@@ -17,7 +17,7 @@ pub record ArePlaced (w : Words) (x r : Span) (n : ℕ) : Type 0 where
   pub inside : r.start + n ≤ length w.words
 
 -- the words of a span became g, and no other word changed
-pub record IsWritten (old new : Words) (s : Span) (g : ℕ → ℤ) : Type 0 where
+pub record IsSpanWritten (old new : RegionWords) (s : Span) (g : ℕ → ℤ) : Type 0 where
   pub used : new.used ≡ old.used
   pub size : length new.words ≡ length old.words
   pub done : (k : ℕ) → k < s.len → cells new.words s.start k ≡ g k
@@ -25,14 +25,14 @@ pub record IsWritten (old new : Words) (s : Span) (g : ℕ → ℤ) : Type 0 whe
   pub above : (k : ℕ) → s.start + s.len ≤ k → at new.words k ≡ at old.words k
 
 -- no word outside a span changed
-pub record StaysOutside (old new : Words) (s : Span) : Type 0 where
+pub record StaysOutside (old new : RegionWords) (s : Span) : Type 0 where
   pub used : new.used ≡ old.used
   pub size : length new.words ≡ length old.words
   pub below : (k : ℕ) → k < s.start → at new.words k ≡ at old.words k
   pub above : (k : ℕ) → s.start + s.len ≤ k → at new.words k ≡ at old.words k
 
 -- no word outside x and r changed
-pub record AreKept (old new : Words) (x r : Span) : Type 0 where
+pub record AreKept (old new : RegionWords) (x r : Span) : Type 0 where
   pub used : new.used ≡ old.used
   pub size : length new.words ≡ length old.words
   pub below : (k : ℕ) → k < x.start → at new.words k ≡ at old.words k
@@ -40,7 +40,7 @@ pub record AreKept (old new : Words) (x r : Span) : Type 0 where
   pub above : (k : ℕ) → r.start + r.len ≤ k → at new.words k ≡ at old.words k
 
 -- of the words in use none outside x changed, and none came or went
-pub record IsOnlyIn (old new : Words) (x : Span) : Type 0 where
+pub record IsOnlyIn (old new : RegionWords) (x : Span) : Type 0 where
   pub used : new.used ≡ old.used
   pub size : length new.words ≡ length old.words
   pub below : (k : ℕ) → k < x.start → at new.words k ≡ at old.words k

@@ -6,8 +6,8 @@ ghost use Rattle.integer_algebra.specs.Sizes.{size};
 ghost use Rattle.mat_int.specs.Matrix.{entry_of};
 ghost use Rattle.word_region.specs.Words.{IsLive};
 ghost use Rattle.approx_inverse.specs.System.{IsSystem};
-ghost use Rattle.approx_inverse.specs.Descent.{IsSettled, IsDescent, IsTask, aim, residual};
-ghost use Rattle.approx_inverse.specs.Spans.{IsWritten, IsOnlyIn, ArePlaced, AreKept, cells};
+ghost use Rattle.approx_inverse.specs.Descent.{IsSettled, IsDescent, IsTask, aim, system_residual};
+ghost use Rattle.approx_inverse.specs.Spans.{IsSpanWritten, IsOnlyIn, ArePlaced, AreKept, cells};
 ghost use Rattle.qp_model.specs.GoodSolution.{IsGood};
 ghost use Rattle.qp_model.specs.declared.quantity.Quantity.TheVariants.{Descent};
 ghost use Rattle.approx_inverse.specs.DescentSize.{entry_bound, descent_of_column, EachWithin};
@@ -22,7 +22,7 @@ use word_region::{Region, Span};
 // Puts 0 into the words of a span.
 fn clear(region: &mut Region, s: &Span)
     requires { IsLive region.old s.now }
-    ensures { IsWritten region.old region.new s.now (λ k. pos 0) }
+    ensures { IsSpanWritten region.old region.new s.now (λ k. pos 0) }
 {
     for i in 0..s.len {
         region.set_word(s, i, 0);
@@ -34,7 +34,7 @@ fn negate(region: &mut Region, s: &Span, c: &[i128])
     requires live { IsLive region.old s.now }
     requires len { length c.now ≡ s.now.len }
     requires fits { (k : ℕ) → k < s.now.len → FitsSigned w128 (neg_ℤ (at c.now k)) }
-    ensures { IsWritten region.old region.new s.now (λ k. neg_ℤ (at c.now k)) }
+    ensures { IsSpanWritten region.old region.new s.now (λ k. neg_ℤ (at c.now k)) }
 {
     for (i, v) in c.iter().enumerate() {
         region.set_word(s, i, -v);
@@ -45,7 +45,7 @@ fn negate(region: &mut Region, s: &Span, c: &[i128])
 fn double(region: &mut Region, s: &Span)
     requires live { IsLive region.old s.now }
     requires fits { (k : ℕ) → k < s.now.len → FitsSigned w128 (pos 2 *ℤ cells region.old.words s.now.start k) }
-    ensures { IsWritten region.old region.new s.now (λ k. pos 2 *ℤ cells region.old.words s.now.start k) }
+    ensures { IsSpanWritten region.old region.new s.now (λ k. pos 2 *ℤ cells region.old.words s.now.start k) }
 {
     for i in 0..s.len {
         let old = region.word(s, i);

@@ -5,8 +5,8 @@ ghost use Rattle.integer_algebra.specs.Sums.{at};
 ghost use Rattle.integer_algebra.specs.Bounds.{absolute};
 ghost use Rattle.mat_int.specs.Matrix.{entry_of};
 ghost use Rattle.word_region.specs.Words.{IsLive};
-ghost use Rattle.approx_inverse.specs.Descent.{IsNearest, IsSettled, IsDescent, IsTask, aim, value};
-ghost use Rattle.approx_inverse.specs.Spans.{IsWritten, ArePlaced, AreKept, cells};
+ghost use Rattle.approx_inverse.specs.Descent.{IsNearestQuotient, IsSettled, IsDescent, IsTask, aim, value};
+ghost use Rattle.approx_inverse.specs.Spans.{IsSpanWritten, ArePlaced, AreKept, cells};
 
 use crate::bits::bits;
 use mat_int::Mat;
@@ -18,7 +18,7 @@ fn nearest(r: i128, d: i128) -> i128
     requires doubled { FitsSigned w128 (pos 2 *ℤ d) }
     requires sum { FitsSigned w128 (pos 2 *ℤ r +ℤ d) }
     requires twice { FitsSigned w128 (pos 2 *ℤ r) }
-    ensures { IsNearest r d result }
+    ensures { IsNearestQuotient r d result }
 {
     (2 * r + d).div_euclid(2 * d)
 }
@@ -32,7 +32,7 @@ fn step_of(h: &Mat, region: &Region, r: &Span, j: usize) -> i128
     requires positive { pos 1 ≤ℤ entry_of h.now j j }
     requires diagonal { entry_of h.now j j ≤ℤ pos (2 ^ 125) }
     requires small { unsigned_abs (cells region.now.words r.now.start j) ≤ 2 ^ 125 }
-    ensures { IsNearest (cells region.now.words r.now.start j) (entry_of h.now j j) result }
+    ensures { IsNearestQuotient (cells region.now.words r.now.start j) (entry_of h.now j j) result }
 {
     let rest = region.word(r, j);
     let diagonal = h.at(j, j);
@@ -109,7 +109,7 @@ fn take_row(region: &mut Region, r: &Span, t: i128, row: &[i128])
     requires len { length row.now ≡ r.now.len }
     requires products { (k : ℕ) → k < r.now.len → FitsSigned w128 (t *ℤ at row.now k) }
     requires results { (k : ℕ) → k < r.now.len → FitsSigned w128 (cells region.old.words r.now.start k -ℤ t *ℤ at row.now k) }
-    ensures { IsWritten region.old region.new r.now (λ k. cells region.old.words r.now.start k -ℤ t *ℤ at row.now k) }
+    ensures { IsSpanWritten region.old region.new r.now (λ k. cells region.old.words r.now.start k -ℤ t *ℤ at row.now k) }
 {
     for (i, v) in row.iter().enumerate() {
         let old = region.word(r, i);

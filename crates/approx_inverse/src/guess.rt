@@ -1,7 +1,7 @@
 // Guesses of solutions, by a rough root of the matrix. Nothing is claimed of them: numbers may wrap round or be cut off, and
 // whatever a guess is, the descent goes from it, or from 0, to a good solution.
 ghost use Rattle.std.specs.Prelude.{◌≡◌, ◌<◌, ◌≤◌, length, IfOk};
-ghost use Rattle.approx_inverse.specs.Root.{IsRoot};
+ghost use Rattle.approx_inverse.specs.Root.{HasRootSizes};
 
 use crate::bits::{bits, bits_of};
 use mat_int::Mat;
@@ -76,7 +76,7 @@ impl Root {
     /// Takes memory for the root, and makes it.
     pub fn of(alloc: Global, h: &Mat) -> Result<Root, AllocError>
         requires { h.now.cols ≡ length h.now.rows }
-        ensures { IfOk result (IsRoot (length h.now.rows)) }
+        ensures { IfOk result (HasRootSizes (length h.now.rows)) }
     {
         let n = h.rows();
         let lower = Mat::zero(alloc, n, n)?;
@@ -98,7 +98,7 @@ impl Root {
     // An entry of D h D, over 2^(2 ROOT_BITS), less what the entries before it in both rows account for.
     fn left_over(&self, h: &Mat, i: usize, j: usize) -> i128
         requires square { h.now.cols ≡ length h.now.rows }
-        requires sizes { IsRoot (length h.now.rows) self.now }
+        requires sizes { HasRootSizes (length h.now.rows) self.now }
         requires row_in { i < length h.now.rows }
         requires col_in { j < length h.now.rows }
     {
@@ -110,9 +110,9 @@ impl Root {
     // Makes row i, after those above it.
     fn add_row(&mut self, h: &Mat, i: usize)
         requires square { h.now.cols ≡ length h.now.rows }
-        requires sizes { IsRoot (length h.now.rows) self.old }
+        requires sizes { HasRootSizes (length h.now.rows) self.old }
         requires row_in { i < length h.now.rows }
-        ensures { IsRoot (length h.now.rows) self.new }
+        ensures { HasRootSizes (length h.now.rows) self.new }
     {
         for j in 0..i {
             let entry = quotient(self.left_over(h, i, j), self.diagonal[j]);
@@ -125,7 +125,7 @@ impl Root {
 
     // Solves R y = 2^ROOT_BITS b in place, row after row.
     fn forward(&self, y: &mut [i128])
-        requires { IsRoot (length y.old) self.now }
+        requires { HasRootSizes (length y.old) self.now }
     {
         for i in 0..y.len() {
             let known = wrapped_dot(self.lower.row(i), y);
@@ -138,7 +138,7 @@ impl Root {
 
     // Solves R' y = 2^ROOT_BITS b in place, from the last row on.
     fn backward(&self, y: &mut [i128])
-        requires { IsRoot (length y.old) self.now }
+        requires { HasRootSizes (length y.old) self.now }
     {
         for i in (0..y.len()).rev() {
             let known = wrapped_dot(self.upper.row(i), y);
@@ -164,7 +164,7 @@ fn wrapped_rest(h: &Mat, c: &[i128], f: u32, x: &[i128], rest: &mut [i128])
 impl Root {
     // The bits of the greatest number of a list, once its rows are at the scale of the root.
     fn scaled_bits(&self, rest: &[i128]) -> i32
-        requires { IsRoot (length rest.now) self.now }
+        requires { HasRootSizes (length rest.now) self.now }
     {
         let mut most = -128;
         for (i, r) in rest.iter().enumerate() {
@@ -175,7 +175,7 @@ impl Root {
 
     // Brings the rows of a list to the scale of the root, and the list to VECTOR_BITS bits. Answers by how many bits.
     fn bring_down(&self, rest: &mut [i128]) -> i32
-        requires { IsRoot (length rest.old) self.now }
+        requires { HasRootSizes (length rest.old) self.now }
     {
         let shift = VECTOR_BITS.wrapping_sub(self.scaled_bits(rest));
         for (i, r) in rest.iter_mut().enumerate() {
@@ -186,7 +186,7 @@ impl Root {
 
     // Takes the solution for the residual from a guess. False where nothing moved.
     fn take_solution(&self, rest: &[i128], shift: i32, x: &mut [i128]) -> bool
-        requires rest { IsRoot (length rest.now) self.now }
+        requires rest { HasRootSizes (length rest.now) self.now }
         requires x { length x.old ≡ length rest.now }
     {
         let mut is_moved = false;
@@ -201,7 +201,7 @@ impl Root {
 
     // Corrects a guess by its residual, which it overwrites. False where nothing moved.
     fn correct(&self, rest: &mut [i128], x: &mut [i128]) -> bool
-        requires rest { IsRoot (length rest.old) self.now }
+        requires rest { HasRootSizes (length rest.old) self.now }
         requires x { length x.old ≡ length rest.old }
     {
         let first = self.bring_down(rest);
@@ -214,7 +214,7 @@ impl Root {
     /// Makes x a guess for 2^f c. `rest` is for the residual.
     pub fn guess(&self, h: &Mat, c: &[i128], f: u32, x: &mut [i128], rest: &mut [i128])
         requires rows { length h.now.rows ≡ length c.now }
-        requires sizes { IsRoot (length c.now) self.now }
+        requires sizes { HasRootSizes (length c.now) self.now }
         requires bits { f ≤ 48 }
         requires len { length x.old ≡ length c.now }
         requires rest_len { length rest.old ≡ length c.now }

@@ -3,7 +3,7 @@ ghost use Rattle.std.specs.Prelude.{ℕ, ◌≡◌, ◌≢◌, ◌<◌, ◌≤�
 ghost use Rattle.integer_algebra.specs.Sums.{at};
 ghost use Rattle.mat_int.specs.Matrix.{entry_of};
 ghost use Rattle.qp_model.specs.Controller.{HasShape};
-ghost use Rattle.approx_inverse.specs.Inverse.{HasSizes, solution_of};
+ghost use Rattle.approx_inverse.specs.Inverse.{HasGainSizes, solution_of};
 
 use mat_int::Mat;
 use std::alloc::{AllocError, Global};
@@ -40,7 +40,7 @@ impl Inverse {
         states: usize,
         rows: usize,
     ) -> Result<Inverse, AllocError>
-        ensures { IfOk result (λ v. HasSizes v entries states rows) }
+        ensures { IfOk result (λ v. HasGainSizes v entries states rows) }
     {
         Ok(Inverse {
             p_mat: Mat::zero(alloc, entries, states)?,
@@ -51,9 +51,9 @@ impl Inverse {
 
     // Puts the solution for column i.
     pub fn put(&mut self, i: usize, numbers: &[i128])
-        requires sizes { HasSizes self.old (length numbers.now) self.old.p_mat.cols self.old.w_mat.cols }
+        requires sizes { HasGainSizes self.old (length numbers.now) self.old.p_mat.cols self.old.w_mat.cols }
         requires column { i < self.old.p_mat.cols + 1 + self.old.w_mat.cols }
-        ensures sizes { HasSizes self.new (length numbers.now) self.old.p_mat.cols self.old.w_mat.cols }
+        ensures sizes { HasGainSizes self.new (length numbers.now) self.old.p_mat.cols self.old.w_mat.cols }
         ensures put { (j : ℕ) → j < length numbers.now → solution_of self.new i j ≡ at numbers.now j }
         ensures others { (k j : ℕ) → k ≢ i → solution_of self.new k j ≡ solution_of self.old k j }
     {

@@ -3,9 +3,9 @@ ghost use Rattle.std.specs.Prelude.{ℕ, ℤ, pos, ◌≡◌, ◌<◌, ◌≤◌
 ghost use Rattle.integer_algebra.specs.Sums.{at, dot, total};
 ghost use Rattle.integer_algebra.specs.Bounds.{absolute};
 ghost use Rattle.mat_int.specs.Matrix.{entry_of};
-ghost use Rattle.approx_inverse.specs.Descent.{IsDescent, aim, residual};
+ghost use Rattle.approx_inverse.specs.Descent.{IsDescent, aim, system_residual};
 ghost use Rattle.word_region.specs.Words.{IsLive};
-ghost use Rattle.approx_inverse.specs.Spans.{ArePlaced, AreKept, IsWritten, StaysOutside, cells};
+ghost use Rattle.approx_inverse.specs.Spans.{ArePlaced, AreKept, IsSpanWritten, StaysOutside, cells};
 
 use crate::bits::bits_of;
 use frac_scaled::{floor_shift, shift_left};
@@ -40,7 +40,7 @@ fn make_rest(h: &Mat, c: &[i128], f: u32, x: &[i128], rest: &mut [i128]) -> bool
     requires len { length x.now ≡ length c.now }
     requires rest_len { length rest.old ≡ length c.now }
     ensures { IsTrue result → (i : ℕ) → i < length c.now →
-        at rest.new i ≡ residual (length c.now) (entry_of h.now) (aim f c.now) (at x.now) i }
+        at rest.new i ≡ system_residual (length c.now) (entry_of h.now) (aim f c.now) (at x.now) i }
 {
     for (i, v) in c.iter().enumerate() {
         let Some(entry) = rest_entry(h.row(i), x, *v, f) else {
@@ -118,7 +118,7 @@ fn is_low(c: &[i128], f: u32, x: &[i128], rest: &[i128]) -> bool
 fn put(region: &mut Region, s: &Span, numbers: &[i128])
     requires live { IsLive region.old s.now }
     requires len { length numbers.now ≡ s.now.len }
-    ensures { IsWritten region.old region.new s.now (at numbers.now) }
+    ensures { IsSpanWritten region.old region.new s.now (at numbers.now) }
 {
     region.cells_mut(s).copy_from_slice(numbers);
 }
@@ -132,7 +132,7 @@ fn put_rest(h: &Mat, c: &[i128], f: u32, x: &[i128], region: &mut Region, r: &Sp
     requires live { IsLive region.old r.now }
     requires rest_len { r.now.len ≡ length c.now }
     ensures rest { IsTrue result → (i : ℕ) → i < length c.now →
-        cells region.new.words r.now.start i ≡ residual (length c.now) (entry_of h.now) (aim f c.now) (at x.now) i }
+        cells region.new.words r.now.start i ≡ system_residual (length c.now) (entry_of h.now) (aim f c.now) (at x.now) i }
     ensures kept { StaysOutside region.old region.new r.now }
 {
     make_rest(h, c, f, x, region.cells_mut(r))

@@ -5,7 +5,7 @@ ghost use Rattle.integer_algebra.specs.Sums.{at};
 ghost use Rattle.integer_algebra.specs.Sizes.{size};
 ghost use Rattle.mat_int.specs.Matrix.{entry_of};
 ghost use Rattle.plant_condense.specs.Form.{solve_matrix};
-ghost use Rattle.approx_inverse.specs.Condensed.{IsSolvable, IsMatrixOf, entries_of, columns_of, column_of};
+ghost use Rattle.approx_inverse.specs.Condensed.{IsSolvable, IsMatrixOf, entries_of, columns_of, system_column};
 ghost use Rattle.approx_inverse.specs.DescentSize.{greatest_row};
 ghost use Rattle.approx_inverse.specs.Fault.{IsFault};
 
@@ -74,8 +74,8 @@ pub fn put_column(c: &Condensed, i: usize, out: &mut [i128]) -> bool
     requires solvable { IsSolvable c.now }
     requires column { i < columns_of c.now }
     requires len { length out.old ≡ entries_of c.now }
-    ensures done { IsTrue result → (j : ℕ) → j < length out.old → at out.new j ≡ column_of c.now i j }
-    ensures wide { IsFalse result → 2 ^ 126 < size (length out.old) (column_of c.now i) }
+    ensures done { IsTrue result → (j : ℕ) → j < length out.old → at out.new j ≡ system_column c.now i j }
+    ensures wide { IsFalse result → 2 ^ 126 < size (length out.old) (system_column c.now i) }
 {
     let states = c.lin.cols();
     if i < states {

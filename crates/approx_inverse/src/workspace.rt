@@ -2,7 +2,7 @@
 ghost use Rattle.std.specs.Prelude.{ℕ, ◌≡◌, ◌<◌, ◌≤◌, ◌+◌, ◌^◌, length, IsTrue, IsFalse, IfOk};
 ghost use Rattle.approx_inverse.specs.Condensed.{IsSolvable, IsMatrixOf, entries_of, columns_of};
 ghost use Rattle.approx_inverse.specs.Spans.{cells};
-ghost use Rattle.approx_inverse.specs.Root.{IsRoot};
+ghost use Rattle.approx_inverse.specs.Root.{HasRootSizes};
 
 use crate::column::solve_near;
 use crate::guess::Root;
@@ -51,7 +51,7 @@ impl Workspace {
     pub fn solve(&mut self, c: &Condensed, i: usize, f: u32, h: &Mat, root: &Root) -> bool
         requires solvable { IsSolvable c.now }
         requires matrix { IsMatrixOf c.now h.now }
-        requires root { IsRoot (entries_of c.now) root.now }
+        requires root { HasRootSizes (entries_of c.now) root.now }
         requires work { IsWorkspace (entries_of c.now) self.old }
         requires column { i < columns_of c.now }
         requires bits { f ≤ 48 }

@@ -6,8 +6,8 @@ use Rattle.qp_model.specs.Lines.{line_of, text_of}
 use Rattle.qp_model.specs.declared.bounds.Bounds.{Bounds}
 
 -- a word and its number each, and beside a number that is over 2^16 that power
-abbrev pub head_lines : Bounds → List (List ℕ)
-head_lines b =
+abbrev pub report_head : Bounds → List (List ℕ)
+report_head b =
     codes "mpc-report 1"
     ∷ line_of (codes "margin") (b.margin ∷ pos 65536 ∷ [])
     ∷ line_of (codes "cost") (b.cost ∷ [])
@@ -29,7 +29,7 @@ bound_lines b =
 
 -- all lines, each with its line feed
 abbrev pub report_text : Bounds → List ℕ
-report_text b = text_of (head_lines b ++ bound_lines b ++ codes "end" ∷ [])
+report_text b = text_of (report_head b ++ bound_lines b ++ codes "end" ∷ [])
 
 -- ---- as JSON
 

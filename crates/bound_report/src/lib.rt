@@ -4,7 +4,7 @@
 ghost use Rattle.std.specs.Prelude.{◌≡◌, ◌++◌, ◌∷◌, [], IfOk, OnOk, string_bytes};
 ghost use Rattle.std.specs.Fmt.{signed_decimal};
 ghost use Rattle.qp_model.specs.Lines.{line_of, text_of};
-ghost use Rattle.bound_report.specs.Report.{head_lines, bound_lines, report_text, json_members, report_json};
+ghost use Rattle.bound_report.specs.Report.{report_head, bound_lines, report_text, json_members, report_json};
 ghost use Rattle.bound_report.specs.Document.{members_of, object_of, IsJsonLine};
 ghost use Rattle.serde_json.specs.Data.{string, put};
 ghost use Rattle.serde_json.specs.View.{members_view};
@@ -72,7 +72,7 @@ fn put_number(
 
 // The header, the margin and what was chosen.
 fn head_text(alloc: Global, b: &Bounds) -> Result<String, AllocError>
-    ensures { IfOk result (λ text. string_bytes text ≡ text_of (head_lines b.now)) }
+    ensures { IfOk result (λ text. string_bytes text ≡ text_of (report_head b.now)) }
 {
     let mut text = String::from_str(alloc, "mpc-report 1\n")?;
     push_line(alloc, &mut text, "margin", &[b.margin, 1 << 16])?;

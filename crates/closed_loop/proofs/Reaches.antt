@@ -14,10 +14,10 @@ use Rattle.mat_int.proofs.Dots.{abs-add_le}
 use Rattle.qp_model.specs.Range.{IsNumerator}
 use Rattle.qp_model.specs.Design.{Design}
 use Rattle.qp_model.specs.Controller.{Numbers, IsSized}
-use Rattle.qp_model.specs.Machine.{IsGridState, loaded, averaged_plan}
-use Rattle.qp_model.specs.AbsoluteSums.{IsController, plan_reach}
+use Rattle.qp_model.specs.Machine.{IsAdmissible, loaded, averaged_plan}
+use Rattle.qp_model.specs.AbsoluteSums.{IsController, plan_magnitudes}
 use Rattle.qp_model.specs.Successor.{IsFor, grid_scale, next_sum}
-use Rattle.qp_model.specs.LoopSize.{coordinate_reach, state_part, input_part, turn_reach, turn_size}
+use Rattle.qp_model.specs.LoopSize.{coordinate_magnitude, state_absolute_sum, input_absolute_sum, turn_absolute_sum, turn_size}
 use Rattle.qp_model.proofs.SizeFacts.{greatest_term}
 use Rattle.overflow_check.proofs.Runs.{state_within, after_sums_le}
 use Rattle.fixed_kernel.proofs.Rooms.{fit}
@@ -53,50 +53,50 @@ input_in c l s h = omega (arith, s.shaped.offsets, mul-le c.inputs 1 c.inputs c.
 pub inputs_le : (c : Numbers) → IsSized c → c.inputs ≤ length c.offsets
 inputs_le c s = omega (arith, s.shaped.offsets, mul-le c.inputs 1 c.inputs c.stages (le_refl c.inputs) s.stages.0)
 
-pub input_room : (c : Numbers) (l : ℕ) → IsController c → l < c.inputs → c.steps * get_or (plan_reach c) l 0 ≤ 2 ^ 126
+pub input_room : (c : Numbers) (l : ℕ) → IsController c → l < c.inputs → c.steps * get_or (plan_magnitudes c) l 0 ≤ 2 ^ 126
 input_room c l s h = (fit c s).sums l (input_in c l s.form.sized h)
 
-pub reach_under : (d : Design) (c : Numbers) (i : ℕ) → i < d.states → turn_size d c ≤ 2 ^ 126 → turn_reach d c i ≤ 2 ^ 125
-reach_under d c i h l = omega (arith, greatest_term i d.states (turn_reach d c) h, l)
+pub reach_under : (d : Design) (c : Numbers) (i : ℕ) → i < d.states → turn_size d c ≤ 2 ^ 126 → turn_absolute_sum d c i ≤ 2 ^ 125
+reach_under d c i h l = omega (arith, greatest_term i d.states (turn_absolute_sum d c) h, l)
 
 -- ---- what a run gives stays within them
 between : (low x high : ℤ) → low ≤ℤ x → x ≤ℤ high → unsigned_abs x ≤ max (unsigned_abs low) (unsigned_abs high)
 between low x high h l = omega (arith, ints, h, l)
 
-coordinate_within : (c : Numbers) (xi : List ℤ) (j : ℕ) → IsGridState c xi → j < c.states → unsigned_abs (at xi j) ≤ coordinate_reach c j
+coordinate_within : (c : Numbers) (xi : List ℤ) (j : ℕ) → IsAdmissible c xi → j < c.states → unsigned_abs (at xi j) ≤ coordinate_magnitude c j
 coordinate_within c xi j g h = between (at c.low j) (at xi j) (at c.high j) (g.each j h).low (g.each j h).high
 
-sum_within : (c : Numbers) (xi : List ℤ) (l : ℕ) → IsController c → IsGridState c xi → l < c.inputs → unsigned_abs (at (averaged_plan c xi) l) ≤ c.steps * get_or (plan_reach c) l 0
+sum_within : (c : Numbers) (xi : List ℤ) (l : ℕ) → IsController c → IsAdmissible c xi → l < c.inputs → unsigned_abs (at (averaged_plan c xi) l) ≤ c.steps * get_or (plan_magnitudes c) l 0
 sum_within c xi l s g h =
     after_sums_le c (loaded c xi) c.steps l s.form.sized.clamp_low (state_within c xi s.form.sized.shaped.low s.form.sized.shaped.high g) (input_in c l s.form.sized h)
 
-pub states_within : (d : Design) (c : Numbers) (xi : List ℤ) (i : ℕ) → IsFor c d → IsGridState c xi → amount d.states (λ j. unsigned_abs (d.plant_a i j) * unsigned_abs (at xi j)) ≤ state_part d c i
+pub states_within : (d : Design) (c : Numbers) (xi : List ℤ) (i : ℕ) → IsFor c d → IsAdmissible c xi → amount d.states (λ j. unsigned_abs (d.plant_a i j) * unsigned_abs (at xi j)) ≤ state_absolute_sum d c i
 states_within d c xi i m g =
-    amount_mono d.states _ _ (λ j h. mul-le (unsigned_abs (d.plant_a i j)) (unsigned_abs (at xi j)) (unsigned_abs (d.plant_a i j)) (coordinate_reach c j) (le_refl (unsigned_abs (d.plant_a i j))) (coordinate_within c xi j g (omega (arith, m.states))))
+    amount_mono d.states _ _ (λ j h. mul-le (unsigned_abs (d.plant_a i j)) (unsigned_abs (at xi j)) (unsigned_abs (d.plant_a i j)) (coordinate_magnitude c j) (le_refl (unsigned_abs (d.plant_a i j))) (coordinate_within c xi j g (omega (arith, m.states))))
 
-pub inputs_within : (d : Design) (c : Numbers) (xi : List ℤ) (i : ℕ) → IsFor c d → IsController c → IsGridState c xi → amount d.inputs (λ l. unsigned_abs (d.plant_b i l) * unsigned_abs (at (averaged_plan c xi) l)) ≤ input_part d c i
+pub inputs_within : (d : Design) (c : Numbers) (xi : List ℤ) (i : ℕ) → IsFor c d → IsController c → IsAdmissible c xi → amount d.inputs (λ l. unsigned_abs (d.plant_b i l) * unsigned_abs (at (averaged_plan c xi) l)) ≤ input_absolute_sum d c i
 inputs_within d c xi i m s g =
-    amount_mono d.inputs _ _ (λ l h. mul-le (unsigned_abs (d.plant_b i l)) (unsigned_abs (at (averaged_plan c xi) l)) (unsigned_abs (d.plant_b i l)) (c.steps * get_or (plan_reach c) l 0) (le_refl (unsigned_abs (d.plant_b i l))) (sum_within c xi l s g (omega (arith, m.inputs))))
+    amount_mono d.inputs _ _ (λ l h. mul-le (unsigned_abs (d.plant_b i l)) (unsigned_abs (at (averaged_plan c xi) l)) (unsigned_abs (d.plant_b i l)) (c.steps * get_or (plan_magnitudes c) l 0) (le_refl (unsigned_abs (d.plant_b i l))) (sum_within c xi l s g (omega (arith, m.inputs))))
 
 -- the products of the inputs leave room
-pub inputs_room : (d : Design) (c : Numbers) (xi : List ℤ) (i : ℕ) → IsFor c d → IsController c → IsGridState c xi → turn_size d c ≤ 2 ^ 126 → i < d.states →
+pub inputs_room : (d : Design) (c : Numbers) (xi : List ℤ) (i : ℕ) → IsFor c d → IsController c → IsAdmissible c xi → turn_size d c ≤ 2 ^ 126 → i < d.states →
     amount d.inputs (λ l. unsigned_abs (d.plant_b i l) * unsigned_abs (at (averaged_plan c xi) l)) < 2 ^ 127
 inputs_room d c xi i m s g n h = omega (arith, inputs_within d c xi i m s g, reach_under d c i h n)
 
 -- those of the state, also when they are times the scale
-pub states_room : (d : Design) (c : Numbers) (xi : List ℤ) (i : ℕ) → IsFor c d → IsController c → IsGridState c xi → turn_size d c ≤ 2 ^ 126 → i < d.states →
+pub states_room : (d : Design) (c : Numbers) (xi : List ℤ) (i : ℕ) → IsFor c d → IsController c → IsAdmissible c xi → turn_size d c ≤ 2 ^ 126 → i < d.states →
     amount d.states (λ j. unsigned_abs (d.plant_a i j) * unsigned_abs (at xi j)) * grid_scale c ≤ 2 ^ 125
 states_room d c xi i m s g n h =
-    omega (arith, mul-le (amount d.states (λ j. unsigned_abs (d.plant_a i j) * unsigned_abs (at xi j))) (grid_scale c) (state_part d c i) (grid_scale c) (states_within d c xi i m g) (le_refl (grid_scale c)), reach_under d c i h n)
+    omega (arith, mul-le (amount d.states (λ j. unsigned_abs (d.plant_a i j) * unsigned_abs (at xi j))) (grid_scale c) (state_absolute_sum d c i) (grid_scale c) (states_within d c xi i m g) (le_refl (grid_scale c)), reach_under d c i h n)
 
-pub dot_room : (d : Design) (c : Numbers) (xi : List ℤ) (i : ℕ) → IsFor c d → IsController c → IsGridState c xi → turn_size d c ≤ 2 ^ 126 → i < d.states →
+pub dot_room : (d : Design) (c : Numbers) (xi : List ℤ) (i : ℕ) → IsFor c d → IsController c → IsAdmissible c xi → turn_size d c ≤ 2 ^ 126 → i < d.states →
     amount d.states (λ j. unsigned_abs (d.plant_a i j) * unsigned_abs (at xi j)) < 2 ^ 127
 dot_room d c xi i m s g n h =
     let sum = amount d.states (λ j. unsigned_abs (d.plant_a i j) * unsigned_abs (at xi j)) in
     omega (arith, mul-le sum 1 sum (grid_scale c) (le_refl sum) (scale_some c s.form.sized), states_room d c xi i m s g n h)
 
 -- the state's part of the next state
-pub own_le : (d : Design) (c : Numbers) (xi : List ℤ) (i : ℕ) → IsFor c d → IsController c → IsGridState c xi → turn_size d c ≤ 2 ^ 126 → i < d.states →
+pub own_le : (d : Design) (c : Numbers) (xi : List ℤ) (i : ℕ) → IsFor c d → IsController c → IsAdmissible c xi → turn_size d c ≤ 2 ^ 126 → i < d.states →
     unsigned_abs (image d.states d.plant_a (at xi) i *ℤ pos (grid_scale c)) ≤ 2 ^ 125
 own_le d c xi i m s g n h =
     let sum = amount d.states (λ j. unsigned_abs (d.plant_a i j) * unsigned_abs (at xi j)) in
@@ -104,7 +104,7 @@ own_le d c xi i m s g n h =
     (omega (arith, mul-le (unsigned_abs (image d.states d.plant_a (at xi) i)) (grid_scale c) sum (grid_scale c) (dot_bound d.states (d.plant_a i) (at xi)) (le_refl (grid_scale c)), states_room d c xi i m s g n h))
 
 -- the whole
-pub next_fits : (d : Design) (c : Numbers) (xi : List ℤ) (i : ℕ) → IsFor c d → IsController c → IsGridState c xi → turn_size d c ≤ 2 ^ 126 → i < d.states → FitsSigned w128 (next_sum d c xi i)
+pub next_fits : (d : Design) (c : Numbers) (xi : List ℤ) (i : ℕ) → IsFor c d → IsController c → IsAdmissible c xi → turn_size d c ≤ 2 ^ 126 → i < d.states → FitsSigned w128 (next_sum d c xi i)
 next_fits d c xi i m s g n h =
     let own = image d.states d.plant_a (at xi) i *ℤ pos (grid_scale c) in
     let input = image d.inputs d.plant_b (at (averaged_plan c xi)) i in

@@ -5,11 +5,11 @@ use Rattle.std.proofs.lemmas.List.{append-nil}
 use Rattle.io_edge.specs.Faults.{Rose, GrowsByPart}
 use Rattle.qp_model.specs.Design.{Design}
 use Rattle.qp_model.specs.Controller.{Numbers}
-use Rattle.qp_model.specs.Machine.{IsGridState}
+use Rattle.qp_model.specs.Machine.{IsAdmissible}
 use Rattle.qp_model.specs.Successor.{successor, state_after}
 use Rattle.qp_model.specs.LoopLines.{loop_line, loop_text}
 use Rattle.fixed_kernel.specs.Outside.{IsFirstOutside}
-use Rattle.closed_loop.specs.Answers.{StaysInside, LeavesAt, GrowsByTurns, GrowsByFront}
+use Rattle.closed_loop.specs.Answers.{StaysInside, LeavesAt, GrowsByTurns, GrowsByPrefix}
 use Rattle.closed_loop.specs.Shows.{TurnShows, LoopShows}
 use Rattle.closed_loop.specs.declared.fault.LoopFault.{LoopFault}
 use Rattle.closed_loop.specs.declared.fault.LoopFault.TheVariants.{Memory, TooWide, OutsideBox, WriteFault}
@@ -36,11 +36,11 @@ text_more d c entry start k = rw add-one refl
 pub inside_none : (d : Design) (c : Numbers) (start : List ℤ) → StaysInside d c start 0
 inside_none d c start = record { each = λ k h. absurd (omega (arith, h)) }
 
-pub inside_more : (d : Design) (c : Numbers) (start : List ℤ) (k : ℕ) → StaysInside d c start k → IsGridState c (state_after d c start k) → StaysInside d c start (k + 1)
+pub inside_more : (d : Design) (c : Numbers) (start : List ℤ) (k : ℕ) → StaysInside d c start k → IsAdmissible c (state_after d c start k) → StaysInside d c start (k + 1)
 inside_more d c start k s g = record {
   each = λ j h. elim (cases_lt j k) [
     | inl lt ↦ s.each j lt
-    | inr le ↦ (let e : k ≡ j = omega (arith, h) in subst (λ (i : ℕ). IsGridState c (state_after d c start i)) e g)
+    | inr le ↦ (let e : k ≡ j = omega (arith, h) in subst (λ (i : ℕ). IsAdmissible c (state_after d c start i)) e g)
   ];
 }
 
@@ -77,7 +77,7 @@ grows_by_turns d c entry start turns k (Some o) new h s e =
     subst (λ (n : Option (List ℕ)). IsSomeAnd n (GrowsByTurns d c entry start turns o)) (sym e) (record { done = k; within = h; inside = s; grown = refl })
 
 front_of : (d : Design) (c : Numbers) (entry : ℕ) (start : List ℤ) (turns k : ℕ) (o : List ℕ) (new : Option (List ℕ)) → k < turns → StaysInside d c start (k + 1) →
-    IsSomeAnd new (λ n. GrowsByPart (o ++ loop_text d c entry start k) n (loop_line c entry (k + 1) (state_after d c start k))) → IsSomeAnd new (GrowsByFront d c entry start turns o)
+    IsSomeAnd new (λ n. GrowsByPart (o ++ loop_text d c entry start k) n (loop_line c entry (k + 1) (state_after d c start k))) → IsSomeAnd new (GrowsByPrefix d c entry start turns o)
 front_of d c entry start turns k o None h s g = absurd g
 front_of d c entry start turns k o (Some n) h s g = record {
   done = k + 1;
@@ -91,7 +91,7 @@ front_of d c entry start turns k o (Some n) h s g = record {
 
 grows_by_front : (d : Design) (c : Numbers) (entry : ℕ) (start : List ℤ) (turns k : ℕ) (first mid new : Option (List ℕ)) → k < turns → StaysInside d c start (k + 1) →
     mid ≡ option_map (λ o. o ++ loop_text d c entry start k) first → IfSome mid (λ o. IsSomeAnd new (λ n. GrowsByPart o n (loop_line c entry (k + 1) (state_after d c start k)))) →
-    IfSome first (λ o. IsSomeAnd new (GrowsByFront d c entry start turns o))
+    IfSome first (λ o. IsSomeAnd new (GrowsByPrefix d c entry start turns o))
 grows_by_front d c entry start turns k None mid new h s e g = tt
 grows_by_front d c entry start turns k (Some o) mid new h s e g =
     front_of d c entry start turns k o new h s (subst (λ (m : Option (List ℕ)). IfSome m (λ o. IsSomeAnd new (λ n. GrowsByPart o n (loop_line c entry (k + 1) (state_after d c start k))))) e g)
@@ -111,7 +111,7 @@ turn_shows d c entry start turns k first mid new before between now WriteFault h
     (grows_by_front d c entry start turns k first mid new h (inside_more d c start k s t.0) e t.1, rose_from before between now l m t.2)
 
 -- ---- the first state outside the box is one
-not_inside : (c : Numbers) (xi : List ℤ) (k : ℕ) → IsFirstOutside c xi k → IsGridState c xi → ⊥
+not_inside : (c : Numbers) (xi : List ℤ) (k : ℕ) → IsFirstOutside c xi k → IsAdmissible c xi → ⊥
 not_inside c xi k o g = o.outside (k - 1) (omega (arith, o.low)) (g.each (k - 1) (omega (arith, o.low, o.high)))
 
 coordinate_before : (c : Numbers) (xi : List ℤ) (j k : ℕ) → IsFirstOutside c xi j → IsFirstOutside c xi k → j < k → ⊥

@@ -2,14 +2,14 @@
 use Rattle.std.specs.Prelude.{◌≡◌, ℕ, ◌+◌, ◌≤◌, ◌<◌, ℤ, List, ◌++◌}
 use Rattle.qp_model.specs.Design.{Design}
 use Rattle.qp_model.specs.Controller.{Numbers}
-use Rattle.qp_model.specs.Machine.{IsGridState}
+use Rattle.qp_model.specs.Machine.{IsAdmissible}
 use Rattle.fixed_kernel.specs.Outside.{IsFirstOutside}
 use Rattle.qp_model.specs.Successor.{state_after}
 use Rattle.qp_model.specs.LoopLines.{loop_text}
 
 -- the states of the first turns lie in the box
 pub record StaysInside (d : Design) (c : Numbers) (start : List ℤ) (turns : ℕ) : Type 0 where
-  pub each : (k : ℕ) → k < turns → IsGridState c (state_after d c start k)
+  pub each : (k : ℕ) → k < turns → IsAdmissible c (state_after d c start k)
 
 -- among so many turns, the state of this one, counted from 1, is the first outside the box, and this coordinate its first
 pub record LeavesAt (d : Design) (c : Numbers) (start : List ℤ) (turns turn coordinate : ℕ) : Type 0 where
@@ -27,7 +27,7 @@ pub record GrowsByTurns (d : Design) (c : Numbers) (entry : ℕ) (start : List �
   pub grown : new ≡ old ++ loop_text d c entry start done
 
 -- the same, where the last line may be cut off
-pub record GrowsByFront (d : Design) (c : Numbers) (entry : ℕ) (start : List ℤ) (turns : ℕ) (old new : List ℕ) : Type 0 where
+pub record GrowsByPrefix (d : Design) (c : Numbers) (entry : ℕ) (start : List ℤ) (turns : ℕ) (old new : List ℕ) : Type 0 where
   pub done : ℕ
   pub within : done ≤ turns
   pub inside : StaysInside d c start done

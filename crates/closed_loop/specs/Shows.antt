@@ -3,27 +3,27 @@ use Rattle.std.specs.Prelude.{◌≡◌, ℕ, ◌-◌, ℤ, List, ◌++◌, Opti
 use Rattle.io_edge.specs.Faults.{Rose, GrowsByPart}
 use Rattle.qp_model.specs.Design.{Design}
 use Rattle.qp_model.specs.Controller.{Numbers}
-use Rattle.qp_model.specs.Machine.{IsGridState}
+use Rattle.qp_model.specs.Machine.{IsAdmissible}
 use Rattle.qp_model.specs.LoopLines.{loop_line, loop_text}
 use Rattle.fixed_kernel.specs.Outside.{IsFirstOutside}
-use Rattle.closed_loop.specs.Answers.{LeavesAt, GrowsByTurns, GrowsByFront}
+use Rattle.closed_loop.specs.Answers.{LeavesAt, GrowsByTurns, GrowsByPrefix}
 use Rattle.closed_loop.specs.declared.fault.LoopFault.{LoopFault}
 use Rattle.closed_loop.specs.declared.fault.LoopFault.TheVariants.{Memory, TooWide, OutsideBox, WriteFault}
 
 -- of a turn at a state: what the sink had and has, and its counts of faults
 abbrev pub TurnShows : Numbers → (entry turn : ℕ) → List ℤ → (old new : Option (List ℕ)) → (before now : ℕ) → LoopFault → Type 0
-TurnShows c entry turn xi old new before now Memory = IsGridState c xi × (new ≡ old)
+TurnShows c entry turn xi old new before now Memory = IsAdmissible c xi × (new ≡ old)
 TurnShows c entry turn xi old new before now (TooWide quantity) = ⊥
 TurnShows c entry turn xi old new before now (OutsideBox at coordinate) = (at ≡ turn) × IsFirstOutside c xi coordinate × (new ≡ old)
 TurnShows c entry turn xi old new before now WriteFault =
-    IsGridState c xi × IfSome old (λ o. IsSomeAnd new (λ n. GrowsByPart o n (loop_line c entry turn xi))) × Rose before now
+    IsAdmissible c xi × IfSome old (λ o. IsSomeAnd new (λ n. GrowsByPart o n (loop_line c entry turn xi))) × Rose before now
 
 -- of a loop: after want of memory the lines of some first turns were put, at a state outside the box those of all turns before it, and
--- after a fault of the sink a front of the lines
+-- after a fault of the sink a prefix of the lines
 abbrev pub LoopShows : Design → Numbers → ℕ → List ℤ → ℕ → (old new : Option (List ℕ)) → (before now : ℕ) → LoopFault → Type 0
 LoopShows d c entry start turns old new before now Memory = IfSome old (λ o. IsSomeAnd new (GrowsByTurns d c entry start turns o))
 LoopShows d c entry start turns old new before now (TooWide quantity) = ⊥
 LoopShows d c entry start turns old new before now (OutsideBox turn coordinate) =
     LeavesAt d c start turns turn coordinate × (new ≡ option_map (λ o. o ++ loop_text d c entry start (turn - 1)) old)
 LoopShows d c entry start turns old new before now WriteFault =
-    IfSome old (λ o. IsSomeAnd new (GrowsByFront d c entry start turns o)) × Rose before now
+    IfSome old (λ o. IsSomeAnd new (GrowsByPrefix d c entry start turns o)) × Rose before now

@@ -2,14 +2,14 @@
 ghost use Rattle.std.specs.Prelude.{◌≡◌, ◌≤◌, ◌<◌, ◌*◌, ◌^◌, pos, unsigned_abs, slice_index_or};
 ghost use Rattle.std.specs.Option.{SomeIff};
 ghost use Rattle.qp_model.specs.Controller.{numbers};
-ghost use Rattle.qp_model.specs.AbsoluteSums.{IsController, plan_reach};
+ghost use Rattle.qp_model.specs.AbsoluteSums.{IsController, plan_magnitudes};
 ghost use Rattle.qp_model.specs.Parts.{IsDesign, design_of};
 ghost use Rattle.qp_model.specs.Quantities.{greatest};
 ghost use Rattle.qp_model.specs.Successor.{IsFor, grid_scale, next_over};
-ghost use Rattle.qp_model.specs.LoopSize.{coordinate_reach, state_part, input_part, turn_reach, turn_size};
+ghost use Rattle.qp_model.specs.LoopSize.{coordinate_magnitude, state_absolute_sum, input_absolute_sum, turn_absolute_sum, turn_size};
 
 use frac_scaled::scaled;
-use overflow_check::{Controller, plan_entry_reach};
+use overflow_check::{Controller, plan_entry_magnitude};
 use qp_model::{ControllerParts, Design, DesignParts, limited_product, limited_sum};
 
 // What a number over `2^g` is times, to be over the averaged plan's denominator.
@@ -31,26 +31,26 @@ pub fn next_over(design: &DesignParts, c: &ControllerParts) -> i128
 }
 
 // How far coordinate `j` of a state of the box lies from 0, over `2^g`.
-fn coordinate_reach(c: &ControllerParts, j: usize) -> u128
+fn coordinate_magnitude(c: &ControllerParts, j: usize) -> u128
     requires sound { IsController (numbers c.now) }
     requires in_range { j < c.now.n }
-    ensures value { result ≡ coordinate_reach (numbers c.now) j }
+    ensures value { result ≡ coordinate_magnitude (numbers c.now) j }
     ensures small { result < 2 ^ 31 }
 {
     c.lo[j].unsigned_abs().max(c.hi[j].unsigned_abs())
 }
 
 // Row `i` of the plant at the farthest states.
-fn state_part(design: &DesignParts, c: &ControllerParts, i: usize) -> u128
+fn state_absolute_sum(design: &DesignParts, c: &ControllerParts, i: usize) -> u128
     requires design { IsDesign design.now }
     requires sound { IsController (numbers c.now) }
     requires matched { IsFor (numbers c.now) (design_of design.now) }
     requires in_range { i < design.now.states }
-    ensures { result ≡ state_part (design_of design.now) (numbers c.now) i }
+    ensures { result ≡ state_absolute_sum (design_of design.now) (numbers c.now) i }
 {
     let mut sum = 0;
     for j in 0..design.states {
-        sum += design.a.at(i, j).unsigned_abs() * coordinate_reach(c, j);
+        sum += design.a.at(i, j).unsigned_abs() * coordinate_magnitude(c, j);
     }
     sum
 }
@@ -62,19 +62,19 @@ fn input_term(design: &DesignParts, c: &ControllerParts, i: usize, l: usize) -> 
     requires matched { IsFor (numbers c.now) (design_of design.now) }
     requires row { i < design.now.states }
     requires column { l < design.now.inputs }
-    ensures { let term = unsigned_abs ((design_of design.now).plant_b i l) * (c.now.steps * slice_index_or (plan_reach (numbers c.now)) l 0) in SomeIff result (term ≤ 2 ^ 126) term }
+    ensures { let term = unsigned_abs ((design_of design.now).plant_b i l) * (c.now.steps * slice_index_or (plan_magnitudes (numbers c.now)) l 0) in SomeIff result (term ≤ 2 ^ 126) term }
 {
-    let most = u128::from(c.steps) * plan_entry_reach(c, l);
+    let most = u128::from(c.steps) * plan_entry_magnitude(c, l);
     limited_product(design.b.at(i, l).unsigned_abs(), most)
 }
 
 // What the inputs add to coordinate `i` at most.
-fn input_part(design: &DesignParts, c: &ControllerParts, i: usize) -> Option<u128>
+fn input_absolute_sum(design: &DesignParts, c: &ControllerParts, i: usize) -> Option<u128>
     requires design { IsDesign design.now }
     requires sound { IsController (numbers c.now) }
     requires matched { IsFor (numbers c.now) (design_of design.now) }
     requires in_range { i < design.now.states }
-    ensures { let part = input_part (design_of design.now) (numbers c.now) i in SomeIff result (part ≤ 2 ^ 126) part }
+    ensures { let part = input_absolute_sum (design_of design.now) (numbers c.now) i in SomeIff result (part ≤ 2 ^ 126) part }
 {
     let mut sum = 0;
     for l in 0..design.inputs {
@@ -84,27 +84,27 @@ fn input_part(design: &DesignParts, c: &ControllerParts, i: usize) -> Option<u12
 }
 
 // Both, over the averaged plan's denominator.
-fn turn_reach(design: &DesignParts, c: &ControllerParts, i: usize) -> Option<u128>
+fn turn_absolute_sum(design: &DesignParts, c: &ControllerParts, i: usize) -> Option<u128>
     requires design { IsDesign design.now }
     requires sound { IsController (numbers c.now) }
     requires matched { IsFor (numbers c.now) (design_of design.now) }
     requires in_range { i < design.now.states }
-    ensures { let reach = turn_reach (design_of design.now) (numbers c.now) i in SomeIff result (reach ≤ 2 ^ 126) reach }
+    ensures { let reach = turn_absolute_sum (design_of design.now) (numbers c.now) i in SomeIff result (reach ≤ 2 ^ 126) reach }
 {
-    let own = limited_product(state_part(design, c, i), grid_scale(c).unsigned_abs())?;
-    limited_sum(own, input_part(design, c, i)?)
+    let own = limited_product(state_absolute_sum(design, c, i), grid_scale(c).unsigned_abs())?;
+    limited_sum(own, input_absolute_sum(design, c, i)?)
 }
 
 // The greatest of them.
-fn greatest_reach(design: &DesignParts, c: &ControllerParts) -> Option<u128>
+fn greatest_turn_sum(design: &DesignParts, c: &ControllerParts) -> Option<u128>
     requires design { IsDesign design.now }
     requires sound { IsController (numbers c.now) }
     requires matched { IsFor (numbers c.now) (design_of design.now) }
-    ensures { let most = greatest design.now.states (turn_reach (design_of design.now) (numbers c.now)) in SomeIff result (most ≤ 2 ^ 126) most }
+    ensures { let most = greatest design.now.states (turn_absolute_sum (design_of design.now) (numbers c.now)) in SomeIff result (most ≤ 2 ^ 126) most }
 {
     let mut most = 0u128;
     for i in 0..design.states {
-        most = most.max(turn_reach(design, c, i)?);
+        most = most.max(turn_absolute_sum(design, c, i)?);
     }
     Some(most)
 }
@@ -117,5 +117,5 @@ pub fn turn_size(design: &Design, controller: &Controller) -> Option<u128>
 {
     let (d, c) = (design.parts(), controller.parts());
     let over = next_over(d, c).unsigned_abs();
-    limited_sum(greatest_reach(d, c)? * 2, over)
+    limited_sum(greatest_turn_sum(d, c)? * 2, over)
 }

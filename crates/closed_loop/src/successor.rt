@@ -3,7 +3,7 @@ ghost use Rattle.std.specs.Prelude.{◌≡◌, ℕ, ◌≤◌, ◌<◌, ◌^◌,
 ghost use Rattle.integer_algebra.specs.Sums.{at, image};
 ghost use Rattle.integer_algebra.specs.Division.{round_of, IsNearest};
 ghost use Rattle.qp_model.specs.AbsoluteSums.{IsController};
-ghost use Rattle.qp_model.specs.Machine.{IsGridState, averaged_plan};
+ghost use Rattle.qp_model.specs.Machine.{IsAdmissible, averaged_plan};
 ghost use Rattle.qp_model.specs.Parts.{IsDesign, design_of};
 ghost use Rattle.qp_model.specs.Successor.{IsFor, next_sum, next_over, successor};
 ghost use Rattle.qp_model.specs.LoopSize.{turn_size};
@@ -19,7 +19,7 @@ use qp_model::{Design, DesignParts};
 fn input_sum(design: &DesignParts, k: &Kernel, i: usize) -> i128
     requires design { IsDesign design.now }
     requires sound { IsController k.now.controller }
-    requires inside { IsGridState k.now.controller k.now.state }
+    requires inside { IsAdmissible k.now.controller k.now.state }
     requires made { k.now.made ≡ k.now.controller.steps }
     requires matched { IsFor k.now.controller (design_of design.now) }
     requires narrow { turn_size (design_of design.now) k.now.controller ≤ 2 ^ 126 }

@@ -1,12 +1,12 @@
 // A closed loop, turn by turn.
 ghost use Rattle.std.specs.Prelude.{◌≡◌, ℕ, ◌≤◌, ◌<◌, ◌-◌, ◌^◌, ◌↔◌, ◌⊎◌, ◌++◌, length, Err, option_map, OnOk, IfErr, IfSome, IsSomeAnd};
 ghost use Rattle.io_edge.specs.Faults.{Rose};
-ghost use Rattle.qp_model.specs.Machine.{IsGridState};
+ghost use Rattle.qp_model.specs.Machine.{IsAdmissible};
 ghost use Rattle.qp_model.specs.Parts.{design_of};
 ghost use Rattle.qp_model.specs.Successor.{IsFor};
 ghost use Rattle.qp_model.specs.LoopSize.{turn_size};
 ghost use Rattle.qp_model.specs.LoopLines.{loop_line, loop_text};
-ghost use Rattle.closed_loop.specs.Answers.{StaysInside, LeavesAt, GrowsByTurns, GrowsByFront};
+ghost use Rattle.closed_loop.specs.Answers.{StaysInside, LeavesAt, GrowsByTurns, GrowsByPrefix};
 ghost use Rattle.closed_loop.specs.Shows.{TurnShows, LoopShows};
 
 use crate::fault::LoopFault;
@@ -29,7 +29,7 @@ fn make_turn<O: Sink>(
     out: &mut O,
 ) -> Result<(), LoopFault>
     requires { length state.now ≡ k.old.controller.states }
-    ensures inside { OnOk result (IsGridState k.old.controller state.now) }
+    ensures inside { OnOk result (IsAdmissible k.old.controller state.now) }
     ensures made { OnOk result (k.new ≡ record { controller = k.old.controller; state = state.now; made = k.old.controller.steps }) }
     ensures put { OnOk result (O.got out.new ≡ option_map (λ old. old ++ loop_line k.old.controller entry turn state.now) (O.got out.old)) }
     ensures refused { IfErr result (TurnShows k.old.controller entry turn state.now (O.got out.old) (O.got out.new) (O.faults out.old) (O.faults out.new)) }
@@ -105,7 +105,7 @@ pub fn run_loop<O: Sink>(
         → (result ≡ Err (LoopFault.OutsideBox turn coordinate)) ⊎ (result ≡ Err LoopFault.Memory) ⊎ (result ≡ Err LoopFault.WriteFault) }
     // A fault of the sink.
     ensures failed { result ≡ Err LoopFault.WriteFault → Rose (O.faults out.old) (O.faults out.new) }
-    ensures cut { result ≡ Err LoopFault.WriteFault → IfSome (O.got out.old) (λ old. IsSomeAnd (O.got out.new) (GrowsByFront (design_of design.now.parts) k.old.controller entry start.now turns old)) }
+    ensures cut { result ≡ Err LoopFault.WriteFault → IfSome (O.got out.old) (λ old. IsSomeAnd (O.got out.new) (GrowsByPrefix (design_of design.now.parts) k.old.controller entry start.now turns old)) }
     ensures no_fewer { O.faults out.old ≤ O.faults out.new }
     // Want of memory.
     ensures memory { result ≡ Err LoopFault.Memory → IfSome (O.got out.old) (λ old. IsSomeAnd (O.got out.new) (GrowsByTurns (design_of design.now.parts) k.old.controller entry start.now turns old)) }

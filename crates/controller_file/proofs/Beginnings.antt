@@ -3,7 +3,7 @@ use Rattle.std.proofs.Common.{◌≡◌, ℕ, ◌<◌, List, [], ◌∷◌, ◌+
 use Rattle.std.specs.Prelude.{◌↔◌, All}
 use Rattle.std.proofs.lemmas.List.{get_or_at, get_or_append_left, length-append, take_at, take-append-drop}
 use Rattle.qp_model.specs.Controller.{Numbers, IsInForm, FitsWord}
-use Rattle.controller_file.specs.Lines.{Keyed, IsLine, keyed_lines}
+use Rattle.controller_file.specs.Lines.{Keyed, IsKeyedLine, keyed_lines}
 use Rattle.controller_file.specs.Following.{IsBeginning}
 use Rattle.controller_file.proofs.Cuts.{none}
 use Rattle.controller_file.proofs.Texts.{good_lines}
@@ -34,15 +34,15 @@ pub last_is : (ls : List Keyed) (l : Keyed) (b : IsBeginning (ls ++ l ∷ [])) (
 last_is ls l b k len = ap (λ (ms : List Keyed). get_or ms k none) (b.lines ∙ append_assoc ls (l ∷ []) b.more) ∙ get_or_at ls l b.more none k len
 
 -- each of them can be read
-pub lines_good : (ls : List Keyed) → IsBeginning ls → All IsLine ls
+pub lines_good : (ls : List Keyed) → IsBeginning ls → All IsKeyedLine ls
 lines_good ls b k d lt =
-    let all : All IsLine (ls ++ b.more) = subst (λ (ms : List Keyed). All IsLine ms) b.lines (good_lines b.numbers b.form b.word) in
-    subst IsLine (get_or_append_left ls b.more d k lt) (all k d (omega (arith, length-append ls b.more)))
+    let all : All IsKeyedLine (ls ++ b.more) = subst (λ (ms : List Keyed). All IsKeyedLine ms) b.lines (good_lines b.numbers b.form b.word) in
+    subst IsKeyedLine (get_or_append_left ls b.more d k lt) (all k d (omega (arith, length-append ls b.more)))
 
 -- what a test decides, by what it says
 pub through : {A B C : Type 0} → (A ↔ B) → (B ↔ C) → (A ↔ C)
 through h k = (λ a. k.0 (h.0 a), λ c. h.1 (k.1 c))
 
 -- the line at the end can be read
-pub last_good : (ls : List Keyed) (l : Keyed) → IsBeginning (ls ++ l ∷ []) → IsLine l
-last_good ls l b = subst IsLine (get_or_at ls l [] l (length ls) refl) (lines_good (ls ++ l ∷ []) b (length ls) l (omega (arith, length-append ls (l ∷ []))))
+pub last_good : (ls : List Keyed) (l : Keyed) → IsBeginning (ls ++ l ∷ []) → IsKeyedLine l
+last_good ls l b = subst IsKeyedLine (get_or_at ls l [] l (length ls) refl) (lines_good (ls ++ l ∷ []) b (length ls) l (omega (arith, length-append ls (l ∷ []))))

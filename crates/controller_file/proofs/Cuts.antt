@@ -13,10 +13,10 @@ use Rattle.qp_model.specs.Lines.{text_of}
 use Rattle.qp_model.proofs.Pieces.{IsPiece, ArePieces, piece_above, number_pieces, joined_piece, split_joined, split_text}
 use Rattle.controller_file.specs.declared.fault.LineFault.{LineFault}
 use Rattle.controller_file.specs.declared.line.Line.{Line}
-use Rattle.controller_file.specs.Lines.{Keyed, line, view, views, Fits, IsLine, spelled}
+use Rattle.controller_file.specs.Lines.{Keyed, keyed_line, view, views, Fits, IsKeyedLine, spelled}
 
 -- the words of a line
-pub line_cut : (piece : List ℕ) (l : Keyed) → IsLine l → piece ≡ spelled l → slice_split (λ b. eqb b 32) piece ≡ l.key ∷ map signed_decimal l.numbers
+pub line_cut : (piece : List ℕ) (l : Keyed) → IsKeyedLine l → piece ≡ spelled l → slice_split (λ b. eqb b 32) piece ≡ l.key ∷ map signed_decimal l.numbers
 line_cut piece l good e =
     ap (slice_split (λ b. eqb b 32)) e
     ∙ split_joined 32 l.key (map signed_decimal l.numbers) (piece_above 32 32 l.key (omega arith) good.key) (number_pieces 32 l.numbers (omega arith) good.fits)
@@ -76,21 +76,21 @@ numbers_missing None f d zs h e = h
 
 -- ---- a text of lines
 
-line_piece : (l : Keyed) → IsLine l → IsPiece 10 (spelled l)
+line_piece : (l : Keyed) → IsKeyedLine l → IsPiece 10 (spelled l)
 line_piece l good = joined_piece 10 32 (l.key ∷ map signed_decimal l.numbers) (omega arith) (piece_above 10 32 l.key (omega arith) good.key, number_pieces 10 l.numbers (omega arith) good.fits)
 
-pub line_pieces : (ls : List Keyed) → All IsLine ls → ArePieces 10 (map spelled ls)
+pub line_pieces : (ls : List Keyed) → All IsKeyedLine ls → ArePieces 10 (map spelled ls)
 line_pieces [] good = tt
 line_pieces (l ∷ ls) good = (line_piece l (good 0 l (omega arith)), line_pieces ls (λ k e lt. good (suc k) e (omega arith)))
 
 -- its pieces
-pub text_cut : (text : List ℕ) (ls : List Keyed) (pieces : List (List ℕ)) (last : List ℕ) → All IsLine ls → text ≡ text_of (map spelled ls) → slice_split (λ b. eqb b 10) text ≡ pieces ++ last ∷ [] → (pieces ≡ map spelled ls) × (last ≡ [])
+pub text_cut : (text : List ℕ) (ls : List Keyed) (pieces : List (List ℕ)) (last : List ℕ) → All IsKeyedLine ls → text ≡ text_of (map spelled ls) → slice_split (λ b. eqb b 10) text ≡ pieces ++ last ∷ [] → (pieces ≡ map spelled ls) × (last ≡ [])
 text_cut text ls pieces last good e cut = same_from_push pieces (map spelled ls) last [] (sym cut ∙ ap (slice_split (λ b. eqb b 10)) e ∙ split_text (map spelled ls) (line_pieces ls good))
 
 -- ---- lines that are read one by one
 
 abbrev pub none : Keyed
-none = line [] []
+none = keyed_line [] []
 
 pub same_at : (ps : List (Bor (List ℕ))) (d : Bor (List ℕ)) (ls : List Keyed) (i : ℕ) → map (λ x. x.now) ps ≡ map spelled ls → i < length ps → (i < length ls) × ((get_or ps i d).now ≡ spelled (get_or ls i none))
 same_at ps d ls i e lt =

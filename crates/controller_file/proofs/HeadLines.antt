@@ -9,7 +9,7 @@ use Rattle.qp_model.specs.Range.{LiesIn, IsNumerator}
 use Rattle.qp_model.specs.Controller.{Numbers, IsShaped, IsInForm, FitsWord}
 use Rattle.controller_file.specs.declared.following.Sizes.{Sizes}
 use Rattle.controller_file.specs.declared.line.Line.{Line}
-use Rattle.controller_file.specs.Lines.{Keyed, line, view, views, keyed_lines, place, place_of}
+use Rattle.controller_file.specs.Lines.{Keyed, keyed_line, view, views, keyed_lines, place, place_of}
 use Rattle.controller_file.specs.Following.{IsBeginning, IsFrom, IsVersionLine, IsSizeLine, IsBitsLine, IsStepsLine, IsClampLine, second_of, Says, IsWordsLine, IsLowLine, IsHighLine}
 use Rattle.qp_model.specs.PartRules.{AreHighs}
 use Rattle.controller_file.proofs.Cuts.{none}
@@ -28,12 +28,12 @@ from_natural : (low high n : ℕ) → LiesIn low high n → IsFrom (pos low) (po
 from_natural low high n h = record { least = omega (arith, ints, h.0); greatest = omega (arith, ints, h.1) }
 
 -- a line of one number
-one_is : (l : Keyed) (key : List ℕ) (z : ℤ) → place_of l ≡ place key 1 → at l.numbers 0 ≡ z → l ≡ line key (z ∷ [])
-one_is l key z e h = key_is l key 1 e ∙ ap (line key) (one_of l.numbers (count_is l key 1 e) ∙ ap (λ (y : ℤ). y ∷ []) h)
+one_is : (l : Keyed) (key : List ℕ) (z : ℤ) → place_of l ≡ place key 1 → at l.numbers 0 ≡ z → l ≡ keyed_line key (z ∷ [])
+one_is l key z e h = key_is l key 1 e ∙ ap (keyed_line key) (one_of l.numbers (count_is l key 1 e) ∙ ap (λ (y : ℤ). y ∷ []) h)
 
 -- a line of four
-four_is : (l : Keyed) (key : List ℕ) (a b c d : ℤ) → place_of l ≡ place key 4 → at l.numbers 0 ≡ a → at l.numbers 1 ≡ b → at l.numbers 2 ≡ c → at l.numbers 3 ≡ d → l ≡ line key (a ∷ b ∷ c ∷ d ∷ [])
-four_is l key a b c d e ha hb hc hd = key_is l key 4 e ∙ ap (line key) (four_of l.numbers (count_is l key 4 e) ∙ (λ i. ha i ∷ hb i ∷ hc i ∷ hd i ∷ []))
+four_is : (l : Keyed) (key : List ℕ) (a b c d : ℤ) → place_of l ≡ place key 4 → at l.numbers 0 ≡ a → at l.numbers 1 ≡ b → at l.numbers 2 ≡ c → at l.numbers 3 ≡ d → l ≡ keyed_line key (a ∷ b ∷ c ∷ d ∷ [])
+four_is l key a b c d e ha hb hc hd = key_is l key 4 e ∙ ap (keyed_line key) (four_of l.numbers (count_is l key 4 e) ∙ (λ i. ha i ∷ hb i ∷ hc i ∷ hd i ∷ []))
 
 -- ---- the same lists under another head
 
@@ -182,7 +182,7 @@ sizes_said l a b c d h fa fb fc fd ea eb ec ed =
     let stages = size_read 1 20 c fc (subst (λ (z : ℤ). IsFrom (pos 1) (pos 20) z) ec h.1.2) in
     let m = size_read 1 252 d fd (subst (λ (z : ℤ). IsFrom (pos 1) (pos 252) z) ed h.1.3) in
     record {
-      line = four_is l (codes "size") (pos (size_of a)) (pos (size_of b)) (pos (size_of c)) (pos (size_of d)) h.0 (ea ∙ n.0) (eb ∙ p.0) (ec ∙ stages.0) (ed ∙ m.0);
+      keyed_line = four_is l (codes "size") (pos (size_of a)) (pos (size_of b)) (pos (size_of c)) (pos (size_of d)) h.0 (ea ∙ n.0) (eb ∙ p.0) (ec ∙ stages.0) (ed ∙ m.0);
       range = record { n = n.1; p = p.1; stages = stages.1; m = m.1 };
     }
 
@@ -197,7 +197,7 @@ size_at ls r i z lt h within read =
 pub sizes_are : (ls : List Keyed) (b : IsBeginning ls) (sizes : Sizes) → 1 < length ls → Says (second_of ls) sizes → (b.numbers.states ≡ sizes.n) × (b.numbers.inputs ≡ sizes.p) × (b.numbers.stages ≡ sizes.stages) × (b.numbers.rows ≡ sizes.m)
 sizes_are ls b sizes lt says =
     let c = b.numbers in
-    let same : line (codes "size") (pos c.states ∷ pos c.inputs ∷ pos c.stages ∷ pos c.rows ∷ []) ≡ line (codes "size") (pos sizes.n ∷ pos sizes.p ∷ pos sizes.stages ∷ pos sizes.m ∷ []) = line_is ls b 1 lt ∙ says.line in
+    let same : keyed_line (codes "size") (pos c.states ∷ pos c.inputs ∷ pos c.stages ∷ pos c.rows ∷ []) ≡ keyed_line (codes "size") (pos sizes.n ∷ pos sizes.p ∷ pos sizes.stages ∷ pos sizes.m ∷ []) = line_is ls b 1 lt ∙ says.line in
     let numbers : pos c.states ∷ pos c.inputs ∷ pos c.stages ∷ pos c.rows ∷ [] ≡ pos sizes.n ∷ pos sizes.p ∷ pos sizes.stages ∷ pos sizes.m ∷ [] = ap (λ (k : Keyed). k.numbers) same in
     (cc numbers, cc numbers, cc numbers, cc numbers)
 

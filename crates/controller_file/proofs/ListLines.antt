@@ -7,7 +7,7 @@ use Rattle.std.proofs.lemmas.List.Elements.{All-from_recursion, recursion_from_A
 use Rattle.mat_int.specs.Matrix.{Matrix}
 use Rattle.qp_model.specs.Controller.{Numbers, plan_length, HasShape, IsShaped, IsInForm, FitsWord}
 use Rattle.controller_file.specs.declared.following.Sizes.{Sizes}
-use Rattle.controller_file.specs.Lines.{Keyed, line, row_lines, Fits, head_of, head_lines, keyed_lines, Place, place, place_of}
+use Rattle.controller_file.specs.Lines.{Keyed, keyed_line, row_lines, Fits, head_of, head_lines, keyed_lines, Place, place, place_of}
 use Rattle.controller_file.specs.Following.{IsBeginning, second_of, Says, list_places, places_after}
 use Rattle.controller_file.proofs.Fields.{key_is, count_is}
 use Rattle.controller_file.proofs.Beginnings.{grown, fewer}
@@ -19,10 +19,10 @@ use Rattle.controller_file.proofs.Texts.{good_lines, fits_word, all_append, all_
 abbrev tail_lines : Numbers → List Keyed
 tail_lines c =
     row_lines (codes "P") c.state_gains.rows
-    ++ (line (codes "T") c.offsets ∷ (row_lines (codes "W") c.dual_gains.rows
+    ++ (keyed_line (codes "T") c.offsets ∷ (row_lines (codes "W") c.dual_gains.rows
     ++ (row_lines (codes "G") c.plan_rows.rows
     ++ (row_lines (codes "E") c.state_rows.rows
-    ++ (line (codes "b") c.bounds ∷ line (codes "end") [] ∷ [])))))
+    ++ (keyed_line (codes "b") c.bounds ∷ keyed_line (codes "end") [] ∷ [])))))
 
 -- ---- their places
 
@@ -42,7 +42,7 @@ tail_places : (c : Numbers) → IsShaped c → map place_of (tail_lines c) ≡ l
 tail_places c h =
     let nu = plan_length c in
     let m = c.rows in
-    let last = line (codes "b") c.bounds ∷ line (codes "end") [] ∷ [] in
+    let last = keyed_line (codes "b") c.bounds ∷ keyed_line (codes "end") [] ∷ [] in
     let r6 = row_lines (codes "E") c.state_rows.rows ++ last in
     let r5 = row_lines (codes "G") c.plan_rows.rows ++ r6 in
     let r4 = row_lines (codes "W") c.dual_gains.rows ++ r5 in
@@ -56,8 +56,8 @@ tail_places c h =
     let e6 = matrix_places (codes "E") m c.states c.state_rows last p7 h.state_rows e7 in
     let e5 = matrix_places (codes "G") m nu c.plan_rows r6 p6 h.plan_rows e6 in
     let e4 = matrix_places (codes "W") nu m c.dual_gains r5 p5 h.dual_gains e5 in
-    let e3 : map place_of (line (codes "T") c.offsets ∷ r4) ≡ place (codes "T") nu ∷ p4 = (λ i. place (codes "T") (offsets i) ∷ e4 i) in
-    matrix_places (codes "P") nu c.states c.state_gains (line (codes "T") c.offsets ∷ r4) (place (codes "T") nu ∷ p4) h.state_gains e3
+    let e3 : map place_of (keyed_line (codes "T") c.offsets ∷ r4) ≡ place (codes "T") nu ∷ p4 = (λ i. place (codes "T") (offsets i) ∷ e4 i) in
+    matrix_places (codes "P") nu c.states c.state_gains (keyed_line (codes "T") c.offsets ∷ r4) (place (codes "T") nu ∷ p4) h.state_gains e3
 
 -- ---- lines in such places are lists
 
@@ -107,7 +107,7 @@ rows_from key height breadth ms others e =
 record One (key : List ℕ) (size : ℕ) (ms : List Keyed) (others : List Place) : Type 0 where
   numbers : List ℤ
   rest : List Keyed
-  lines : ms ≡ line key numbers ∷ rest
+  lines : ms ≡ keyed_line key numbers ∷ rest
   count : length numbers ≡ size
   places : map place_of rest ≡ others
 
@@ -139,8 +139,8 @@ remade c ms form e =
     let b = one_from (codes "b") m r.rest (place (codes "end") 0 ∷ []) r.places in
     let end = one_from (codes "end") 0 b.rest [] b.places in
     let over : length end.rest ≡ 0 = sym (length-map end.rest place_of) ∙ ap length end.places in
-    let hi = line (codes "hi") c.high ∷ ms in
-    let lines = joined c.low c.high p.matrix t.numbers w.matrix g.matrix r.matrix b.numbers end.numbers (line (codes "lo") c.low ∷ hi) hi ms p.rest t.rest w.rest g.rest r.rest b.rest end.rest refl refl p.lines t.lines w.lines g.lines r.lines b.lines end.lines end.count over in
+    let hi = keyed_line (codes "hi") c.high ∷ ms in
+    let lines = joined c.low c.high p.matrix t.numbers w.matrix g.matrix r.matrix b.numbers end.numbers (keyed_line (codes "lo") c.low ∷ hi) hi ms p.rest t.rest w.rest g.rest r.rest b.rest end.rest refl refl p.lines t.lines w.lines g.lines r.lines b.lines end.lines end.count over in
     let sized = form.sized in
     record {
       numbers = record c { state_gains = p.matrix; offsets = t.numbers; dual_gains = w.matrix; plan_rows = g.matrix; state_rows = r.matrix; bounds = b.numbers };

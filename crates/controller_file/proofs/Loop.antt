@@ -6,7 +6,7 @@ use Rattle.controller_file.specs.declared.fault.LineFault.{LineFault}
 use Rattle.controller_file.specs.declared.fault.LineFault.TheVariants as faults
 use Rattle.controller_file.specs.declared.line.Line.{Line}
 use Rattle.controller_file.specs.Lines.{Keyed, view, views}
-use Rattle.controller_file.specs.Reading.{◌>>=◌, Fails, numbers_in, all_rows_in, all_rows_at}
+use Rattle.controller_file.specs.Reading.{◌>>=◌, FailsAt, numbers_in, all_rows_in, all_rows_at}
 
 -- what was read before, and what is still read
 abbrev pub with_front : List (List ℤ) → Option (List (List ℤ)) → Option (List (List ℤ))
@@ -31,8 +31,8 @@ goes_on front key cols ls i l row total lt is read so_far =
     = rw (next ls i l lt is, read) (regroup front row (all_rows_in key cols (drop (i + 1) (views ls)))) in
     sym one ∙ so_far
 
-pub ends : (e : LineFault) (front : List (List ℤ)) (key : List ℕ) (cols : ℕ) (ls : List Line) (i : ℕ) (l : Line) (total : Option (List (List ℤ))) → i < length ls → l ≡ get_or ls i l → Fails e (numbers_in key cols (view l))
-    → with_front front (all_rows_in key cols (drop i (views ls))) ≡ total → Fails e total
+pub ends : (e : LineFault) (front : List (List ℤ)) (key : List ℕ) (cols : ℕ) (ls : List Line) (i : ℕ) (l : Line) (total : Option (List (List ℤ))) → i < length ls → l ≡ get_or ls i l → FailsAt e (numbers_in key cols (view l))
+    → with_front front (all_rows_in key cols (drop i (views ls))) ≡ total → FailsAt e total
 unfolding all_rows_in
 ends faults.Memory front key cols ls i l total lt is read so_far = tt
 ends faults.Form front key cols ls i l total lt is read so_far =
@@ -46,7 +46,7 @@ is_done front key cols ls i total le so_far =
     let one : with_front front (all_rows_in key cols (drop i (views ls))) ≡ Some front = rw none (ap (λ (rs : List (List ℤ)). Some rs) (append-nil front)) in
     sym so_far ∙ one
 
-pub fails_at : (e : LineFault) (key : List ℕ) (cols : ℕ) (ls : List Keyed) → Fails e (all_rows_in key cols ls) → Fails e (all_rows_at key cols ls)
+pub fails_at : (e : LineFault) (key : List ℕ) (cols : ℕ) (ls : List Keyed) → FailsAt e (all_rows_in key cols ls) → FailsAt e (all_rows_at key cols ls)
 unfolding all_rows_at
 fails_at faults.Memory key cols ls h = tt
 fails_at faults.Form key cols ls h = rw h refl

@@ -14,7 +14,7 @@ use Rattle.qp_model.specs.Range.{IsNumerator}
 use Rattle.qp_model.specs.Lines.{line_of, text_of}
 use Rattle.qp_model.specs.Controller.{Numbers, IsInForm, FitsWord}
 use Rattle.qp_model.specs.ControllerText.{matrix_lines, controller_text}
-use Rattle.controller_file.specs.Lines.{Keyed, line, spelled, Fits, IsLine, row_lines, head_of, head_lines, list_lines, keyed_lines}
+use Rattle.controller_file.specs.Lines.{Keyed, keyed_line, spelled, Fits, IsKeyedLine, row_lines, head_of, head_lines, list_lines, keyed_lines}
 use Rattle.controller_file.proofs.Whole.{IsSmall}
 
 -- ---- the text
@@ -31,11 +31,11 @@ five p w g e last t = simp append_assoc
 
 lists_spelled : (c : Numbers) → map spelled (list_lines c) ≡ line_of (codes "lo") c.low ∷ line_of (codes "hi") c.high ∷ (matrix_lines (codes "P") c.state_gains ++ line_of (codes "T") c.offsets ∷ [] ++ matrix_lines (codes "W") c.dual_gains ++ matrix_lines (codes "G") c.plan_rows ++ matrix_lines (codes "E") c.state_rows ++ line_of (codes "b") c.bounds ∷ codes "end" ∷ [])
 lists_spelled c =
-    let last = line (codes "b") c.bounds ∷ line (codes "end") [] ∷ [] in
+    let last = keyed_line (codes "b") c.bounds ∷ keyed_line (codes "end") [] ∷ [] in
     let e6 = spelled_front (codes "E") c.state_rows.rows last in
     let e5 = spelled_front (codes "G") c.plan_rows.rows (row_lines (codes "E") c.state_rows.rows ++ last) ∙ ap (λ (ls : List (List ℕ)). map (line_of (codes "G")) c.plan_rows.rows ++ ls) e6 in
     let e4 = spelled_front (codes "W") c.dual_gains.rows (row_lines (codes "G") c.plan_rows.rows ++ (row_lines (codes "E") c.state_rows.rows ++ last)) ∙ ap (λ (ls : List (List ℕ)). map (line_of (codes "W")) c.dual_gains.rows ++ ls) e5 in
-    let e2 = spelled_front (codes "P") c.state_gains.rows (line (codes "T") c.offsets ∷ (row_lines (codes "W") c.dual_gains.rows ++ (row_lines (codes "G") c.plan_rows.rows ++ (row_lines (codes "E") c.state_rows.rows ++ last)))) ∙ ap (λ (ls : List (List ℕ)). map (line_of (codes "P")) c.state_gains.rows ++ (line_of (codes "T") c.offsets ∷ ls)) e4 in
+    let e2 = spelled_front (codes "P") c.state_gains.rows (keyed_line (codes "T") c.offsets ∷ (row_lines (codes "W") c.dual_gains.rows ++ (row_lines (codes "G") c.plan_rows.rows ++ (row_lines (codes "E") c.state_rows.rows ++ last)))) ∙ ap (λ (ls : List (List ℕ)). map (line_of (codes "P")) c.state_gains.rows ++ (line_of (codes "T") c.offsets ∷ ls)) e4 in
     let regrouped = five (matrix_lines (codes "P") c.state_gains) (matrix_lines (codes "W") c.dual_gains) (matrix_lines (codes "G") c.plan_rows) (matrix_lines (codes "E") c.state_rows) (line_of (codes "b") c.bounds ∷ codes "end" ∷ []) (line_of (codes "T") c.offsets) in
     ap (λ (ls : List (List ℕ)). line_of (codes "lo") c.low ∷ line_of (codes "hi") c.high ∷ ls) (e2 ∙ regrouped)
 
@@ -108,7 +108,7 @@ pub all_parts : {X : Type 0} (P : X → Type 0) (xs ys : List X) → AllByRecurs
 all_parts P [] ys h = (tt, h)
 all_parts P (x ∷ xs) ys h = let rest = all_parts P xs ys h.1 in ((h.0, rest.0), rest.1)
 
-rows_good : (key : List ℕ) (rows : List (List ℤ)) → list_all (λ b. ltb 32 b) key ≡ true → AllByRecursion (All (FitsSigned w128)) rows → AllByRecursion IsLine (row_lines key rows)
+rows_good : (key : List ℕ) (rows : List (List ℤ)) → list_all (λ b. ltb 32 b) key ≡ true → AllByRecursion (All (FitsSigned w128)) rows → AllByRecursion IsKeyedLine (row_lines key rows)
 rows_good key [] h fits = tt
 rows_good key (row ∷ rows) h fits = (record { key = word key h; fits = fits.0 }, rows_good key rows h fits.1)
 
@@ -119,13 +119,13 @@ rows_fit key (row ∷ rows) h = (h.0, rows_fit key rows h.1)
 abbrev FitAll : List ℤ → Type 0
 FitAll zs = AllByRecursion (FitsSigned w128) zs
 
-good : (key : List ℕ) (zs : List ℤ) → list_all (λ b. ltb 32 b) key ≡ true → FitAll zs → IsLine (line key zs)
+good : (key : List ℕ) (zs : List ℤ) → list_all (λ b. ltb 32 b) key ≡ true → FitAll zs → IsKeyedLine (keyed_line key zs)
 good key zs h fits = record { key = word key h; fits = All-from_recursion (FitsSigned w128) zs fits }
 
 numerators_fit : (zs : List ℤ) → All IsNumerator zs → All (FitsSigned w128) zs
 numerators_fit zs h k d lt = numerator_fits (get_or zs k d) (h k d lt)
 
-head_good : (c : Numbers) → IsInForm c → AllByRecursion IsLine (head_lines (head_of c))
+head_good : (c : Numbers) → IsInForm c → AllByRecursion IsKeyedLine (head_lines (head_of c))
 head_good c form =
     let small = small_form c form in (
       good (codes "mpc-controller") (pos 1 ∷ []) refl (natural_fits 1 (omega arith), tt),
@@ -144,39 +144,39 @@ head_good c form =
       ),
     )
 
-lists_good : (c : Numbers) → IsInForm c → FitsWord c → AllByRecursion IsLine (list_lines c)
+lists_good : (c : Numbers) → IsInForm c → FitsWord c → AllByRecursion IsKeyedLine (list_lines c)
 lists_good c form fits =
-    let rows : (key : List ℕ) (a : Matrix) → list_all (λ b. ltb 32 b) key ≡ true → All (All (FitsSigned w128)) a.rows → AllByRecursion IsLine (row_lines key a.rows) = λ key a h all. rows_good key a.rows h (recursion_from_All (All (FitsSigned w128)) a.rows all) in
-    let end : Keyed = line (codes "end") [] in
-    let last = line (codes "b") c.bounds ∷ end ∷ [] in
+    let rows : (key : List ℕ) (a : Matrix) → list_all (λ b. ltb 32 b) key ≡ true → All (All (FitsSigned w128)) a.rows → AllByRecursion IsKeyedLine (row_lines key a.rows) = λ key a h all. rows_good key a.rows h (recursion_from_All (All (FitsSigned w128)) a.rows all) in
+    let end : Keyed = keyed_line (codes "end") [] in
+    let last = keyed_line (codes "b") c.bounds ∷ end ∷ [] in
     let r6 = row_lines (codes "E") c.state_rows.rows ++ last in
     let r5 = row_lines (codes "G") c.plan_rows.rows ++ r6 in
     let r4 = row_lines (codes "W") c.dual_gains.rows ++ r5 in
-    let g7 : AllByRecursion IsLine last = (record { key = word (codes "b") refl; fits = fits.bounds }, (good (codes "end") [] refl tt, tt)) in
-    let g6 : AllByRecursion IsLine r6 = all_append IsLine (row_lines (codes "E") c.state_rows.rows) last (rows (codes "E") c.state_rows refl fits.state_rows) g7 in
-    let g5 : AllByRecursion IsLine r5 = all_append IsLine (row_lines (codes "G") c.plan_rows.rows) r6 (rows (codes "G") c.plan_rows refl fits.plan_rows) g6 in
-    let g4 : AllByRecursion IsLine r4 = all_append IsLine (row_lines (codes "W") c.dual_gains.rows) r5 (rows (codes "W") c.dual_gains refl fits.dual_gains) g5 in
-    let g3 : AllByRecursion IsLine (line (codes "T") c.offsets ∷ r4) = (record { key = word (codes "T") refl; fits = fits.offsets }, g4) in (
+    let g7 : AllByRecursion IsKeyedLine last = (record { key = word (codes "b") refl; fits = fits.bounds }, (good (codes "end") [] refl tt, tt)) in
+    let g6 : AllByRecursion IsKeyedLine r6 = all_append IsKeyedLine (row_lines (codes "E") c.state_rows.rows) last (rows (codes "E") c.state_rows refl fits.state_rows) g7 in
+    let g5 : AllByRecursion IsKeyedLine r5 = all_append IsKeyedLine (row_lines (codes "G") c.plan_rows.rows) r6 (rows (codes "G") c.plan_rows refl fits.plan_rows) g6 in
+    let g4 : AllByRecursion IsKeyedLine r4 = all_append IsKeyedLine (row_lines (codes "W") c.dual_gains.rows) r5 (rows (codes "W") c.dual_gains refl fits.dual_gains) g5 in
+    let g3 : AllByRecursion IsKeyedLine (keyed_line (codes "T") c.offsets ∷ r4) = (record { key = word (codes "T") refl; fits = fits.offsets }, g4) in (
       record { key = word (codes "lo") refl; fits = numerators_fit c.low form.sized.low },
       (
         record { key = word (codes "hi") refl; fits = numerators_fit c.high form.sized.high },
-        all_append IsLine (row_lines (codes "P") c.state_gains.rows) (line (codes "T") c.offsets ∷ r4) (rows (codes "P") c.state_gains refl fits.state_gains) g3,
+        all_append IsKeyedLine (row_lines (codes "P") c.state_gains.rows) (keyed_line (codes "T") c.offsets ∷ r4) (rows (codes "P") c.state_gains refl fits.state_gains) g3,
       ),
     )
 
 -- each line of a controller can be read
-pub good_lines : (c : Numbers) → IsInForm c → FitsWord c → All IsLine (keyed_lines c)
-good_lines c form fits = All-from_recursion IsLine (keyed_lines c) (all_append IsLine (head_lines (head_of c)) (list_lines c) (head_good c form) (lists_good c form fits))
+pub good_lines : (c : Numbers) → IsInForm c → FitsWord c → All IsKeyedLine (keyed_lines c)
+good_lines c form fits = All-from_recursion IsKeyedLine (keyed_lines c) (all_append IsKeyedLine (head_lines (head_of c)) (list_lines c) (head_good c form) (lists_good c form fits))
 
 -- the numbers of lines that were read fit
 pub fits_word : (c : Numbers) → All Fits (keyed_lines c) → FitsWord c
 fits_word c all =
     let lists = (all_parts Fits (head_lines (head_of c)) (list_lines c) (recursion_from_All Fits (keyed_lines c) all)).1 in
-    let last = line (codes "b") c.bounds ∷ line (codes "end") [] ∷ [] in
+    let last = keyed_line (codes "b") c.bounds ∷ keyed_line (codes "end") [] ∷ [] in
     let r6 = row_lines (codes "E") c.state_rows.rows ++ last in
     let r5 = row_lines (codes "G") c.plan_rows.rows ++ r6 in
     let r4 = row_lines (codes "W") c.dual_gains.rows ++ r5 in
-    let p = all_parts Fits (row_lines (codes "P") c.state_gains.rows) (line (codes "T") c.offsets ∷ r4) lists.1.1 in
+    let p = all_parts Fits (row_lines (codes "P") c.state_gains.rows) (keyed_line (codes "T") c.offsets ∷ r4) lists.1.1 in
     let w = all_parts Fits (row_lines (codes "W") c.dual_gains.rows) r5 p.1.1 in
     let g = all_parts Fits (row_lines (codes "G") c.plan_rows.rows) r6 w.1 in
     let e = all_parts Fits (row_lines (codes "E") c.state_rows.rows) last g.1 in

@@ -15,7 +15,7 @@ use Rattle.qp_model.specs.ControllerText.{IsControllerText}
 use Rattle.qp_model.proofs.Pieces.{ArePieces, split_text}
 use Rattle.controller_file.specs.FirstLine.{IsTextInForm}
 use Rattle.controller_file.specs.Laws.{HasOneController, HasNoPrefix}
-use Rattle.controller_file.specs.Lines.{Keyed, line, IsLine, spelled, row_lines, keyed_lines}
+use Rattle.controller_file.specs.Lines.{Keyed, keyed_line, IsKeyedLine, spelled, row_lines, keyed_lines}
 use Rattle.controller_file.specs.Reading.{parts_at}
 use Rattle.controller_file.proofs.Cuts.{line_cut, line_pieces}
 use Rattle.controller_file.proofs.Fields.{some_is}
@@ -54,7 +54,7 @@ one_list (y ∷ ys) (z ∷ zs) f g e =
 
 -- ---- lines
 
-one_line : (k l : Keyed) → IsLine k → IsLine l → spelled k ≡ spelled l → k ≡ l
+one_line : (k l : Keyed) → IsKeyedLine k → IsKeyedLine l → spelled k ≡ spelled l → k ≡ l
 one_line k l f g e =
     let words : k.key ∷ map signed_decimal k.numbers ≡ l.key ∷ map signed_decimal l.numbers = sym (line_cut (spelled k) k f refl) ∙ line_cut (spelled k) l g e in
     let key : k.key ≡ l.key = cc words in
@@ -62,7 +62,7 @@ one_line k l f g e =
     let numbers = one_list k.numbers l.numbers f.fits g.fits spelling in
     (λ i. record { key = key i; numbers = numbers i })
 
-pub one_lines : (ks ls : List Keyed) → All IsLine ks → All IsLine ls → map spelled ks ≡ map spelled ls → ks ≡ ls
+pub one_lines : (ks ls : List Keyed) → All IsKeyedLine ks → All IsKeyedLine ls → map spelled ks ≡ map spelled ls → ks ≡ ls
 one_lines [] [] f g e = refl
 one_lines [] (l ∷ ls) f g e = absurd cc
 one_lines (k ∷ ks) [] f g e = absurd cc
@@ -104,24 +104,24 @@ one_controller bytes c d p q = one_form bytes c d (in_form bytes c p) (in_form b
 -- how many lines a controller of these sizes has
 pub line_count : (c : Numbers) → IsShaped c → length (keyed_lines c) ≡ 11 + 2 * (c.inputs * c.stages) + 2 * c.rows
 line_count c shaped =
-    let last : List Keyed = line (codes "b") c.bounds ∷ line (codes "end") [] ∷ [] in
+    let last : List Keyed = keyed_line (codes "b") c.bounds ∷ keyed_line (codes "end") [] ∷ [] in
     let r6 = row_lines (codes "E") c.state_rows.rows ++ last in
     let r5 = row_lines (codes "G") c.plan_rows.rows ++ r6 in
     let r4 = row_lines (codes "W") c.dual_gains.rows ++ r5 in
     let e6 = length-append (row_lines (codes "E") c.state_rows.rows) last in
     let e5 = length-append (row_lines (codes "G") c.plan_rows.rows) r6 in
     let e4 = length-append (row_lines (codes "W") c.dual_gains.rows) r5 in
-    let e3 = length-append (row_lines (codes "P") c.state_gains.rows) (line (codes "T") c.offsets ∷ r4) in
+    let e3 = length-append (row_lines (codes "P") c.state_gains.rows) (keyed_line (codes "T") c.offsets ∷ r4) in
     omega (
       arith,
       e6,
       e5,
       e4,
       e3,
-      length-map c.state_rows.rows (line (codes "E")),
-      length-map c.plan_rows.rows (line (codes "G")),
-      length-map c.dual_gains.rows (line (codes "W")),
-      length-map c.state_gains.rows (line (codes "P")),
+      length-map c.state_rows.rows (keyed_line (codes "E")),
+      length-map c.plan_rows.rows (keyed_line (codes "G")),
+      length-map c.dual_gains.rows (keyed_line (codes "W")),
+      length-map c.state_gains.rows (keyed_line (codes "P")),
       shaped.state_rows.rows,
       shaped.plan_rows.rows,
       shaped.dual_gains.rows,
@@ -130,7 +130,7 @@ line_count c shaped =
 
 -- the line of the sizes
 abbrev size_line : Numbers → Keyed
-size_line c = line (codes "size") (pos c.states ∷ pos c.inputs ∷ pos c.stages ∷ pos c.rows ∷ [])
+size_line c = keyed_line (codes "size") (pos c.states ∷ pos c.inputs ∷ pos c.stages ∷ pos c.rows ∷ [])
 
 same_sizes : (c d : Numbers) → size_line c ≡ size_line d → (c.inputs * c.stages ≡ d.inputs * d.stages) × (c.rows ≡ d.rows)
 same_sizes c d e =

@@ -6,7 +6,7 @@ use Rattle.std.proofs.lemmas.List.{nil_from_length}
 use Rattle.mat_int.specs.Matrix.{Matrix}
 use Rattle.qp_model.specs.Controller.{Numbers, IsShaped}
 use Rattle.controller_file.specs.declared.parts.Head.{Head}
-use Rattle.controller_file.specs.Lines.{Keyed, line, row_lines, head_of, head_lines, list_lines, keyed_lines}
+use Rattle.controller_file.specs.Lines.{Keyed, keyed_line, row_lines, head_of, head_lines, list_lines, keyed_lines}
 use Rattle.controller_file.specs.Reading.{head_at, lists_at, rest_at, parts_at}
 use Rattle.controller_file.proofs.Fields.{bind_some, guard_some, some_is, one_of, numbers_take, numbers_again, natural_take, natural_at_again, four_take, four_again, matrix_take, matrix_again}
 
@@ -45,27 +45,27 @@ head_take ls x e =
     let t4 = numbers_take (codes "clamp") 1 steps.0.1 clamp.0 clamp.1 in
     let t5 = natural_take (codes "words") clamp.0.1 words.0 words.1 in
     let single = one_of clamp.0.0 t4.1 in
-    let line0 = line (codes "mpc-controller") (pos 1 ∷ []) in
-    let line1 = line (codes "size") (pos h.n ∷ pos h.p ∷ pos h.stages ∷ pos h.m ∷ []) in
-    let line2 = line (codes "bits") (pos h.f ∷ pos h.g ∷ pos h.s ∷ pos h.w ∷ []) in
-    let line3 = line (codes "steps") (pos h.steps ∷ []) in
-    let line4 = line (codes "clamp") (h.clamp ∷ []) in
-    let line5 = line (codes "words") (pos h.words ∷ []) in
-    let r4 : steps.0.1 ≡ line4 ∷ line5 ∷ words.0.1 = t4.0 ∙ (λ i. line (codes "clamp") (single i) ∷ t5 i) in
+    let line0 = keyed_line (codes "mpc-controller") (pos 1 ∷ []) in
+    let line1 = keyed_line (codes "size") (pos h.n ∷ pos h.p ∷ pos h.stages ∷ pos h.m ∷ []) in
+    let line2 = keyed_line (codes "bits") (pos h.f ∷ pos h.g ∷ pos h.s ∷ pos h.w ∷ []) in
+    let line3 = keyed_line (codes "steps") (pos h.steps ∷ []) in
+    let line4 = keyed_line (codes "clamp") (h.clamp ∷ []) in
+    let line5 = keyed_line (codes "words") (pos h.words ∷ []) in
+    let r4 : steps.0.1 ≡ line4 ∷ line5 ∷ words.0.1 = t4.0 ∙ (λ i. keyed_line (codes "clamp") (single i) ∷ t5 i) in
     let r3 : bits.0.1 ≡ line3 ∷ line4 ∷ line5 ∷ words.0.1 = t3 ∙ ap (λ (r : List Keyed). line3 ∷ r) r4 in
     let r2 : size.0.1 ≡ line2 ∷ line3 ∷ line4 ∷ line5 ∷ words.0.1 = t2 ∙ ap (λ (r : List Keyed). line2 ∷ r) r3 in
     let r1 : version.0.1 ≡ line1 ∷ line2 ∷ line3 ∷ line4 ∷ line5 ∷ words.0.1 = t1 ∙ ap (λ (r : List Keyed). line1 ∷ r) r2 in
-    let r0 : ls ≡ line0 ∷ line1 ∷ line2 ∷ line3 ∷ line4 ∷ line5 ∷ words.0.1 = t0 ∙ (λ i. line (codes "mpc-controller") (pos (one i) ∷ []) ∷ r1 i) in
+    let r0 : ls ≡ line0 ∷ line1 ∷ line2 ∷ line3 ∷ line4 ∷ line5 ∷ words.0.1 = t0 ∙ (λ i. keyed_line (codes "mpc-controller") (pos (one i) ∷ []) ∷ r1 i) in
     subst (λ (y : Head × List Keyed). ls ≡ head_lines y.0 ++ y.1) same r0
 
 head_again : (h : Head) (rest : List Keyed) → IsSmall h → head_at (head_lines h ++ rest) ≡ Some (h, rest)
 unfolding head_at
 head_again h rest small =
-    let line1 = line (codes "size") (pos h.n ∷ pos h.p ∷ pos h.stages ∷ pos h.m ∷ []) in
-    let line2 = line (codes "bits") (pos h.f ∷ pos h.g ∷ pos h.s ∷ pos h.w ∷ []) in
-    let line3 = line (codes "steps") (pos h.steps ∷ []) in
-    let line4 = line (codes "clamp") (h.clamp ∷ []) in
-    let line5 = line (codes "words") (pos h.words ∷ []) in
+    let line1 = keyed_line (codes "size") (pos h.n ∷ pos h.p ∷ pos h.stages ∷ pos h.m ∷ []) in
+    let line2 = keyed_line (codes "bits") (pos h.f ∷ pos h.g ∷ pos h.s ∷ pos h.w ∷ []) in
+    let line3 = keyed_line (codes "steps") (pos h.steps ∷ []) in
+    let line4 = keyed_line (codes "clamp") (h.clamp ∷ []) in
+    let line5 = keyed_line (codes "words") (pos h.words ∷ []) in
     rw (
       natural_at_again (codes "mpc-controller") 1 (line1 ∷ line2 ∷ line3 ∷ line4 ∷ line5 ∷ rest) (omega arith),
       four_again (codes "size") h.n h.p h.stages h.m (line2 ∷ line3 ∷ line4 ∷ line5 ∷ rest) small.n small.p small.stages small.m,
@@ -83,18 +83,18 @@ made_of h low high p t w g e b = record { states = h.n; inputs = h.p; stages = h
 
 -- a list of lines that are there, one after the other
 pub joined : (low high : List ℤ) (p : Matrix) (t : List ℤ) (w g e : Matrix) (b none : List ℤ) (r0 r1 r2 r3 r4 r5 r6 r7 r8 r9 : List Keyed)
-    → r0 ≡ line (codes "lo") low ∷ r1 → r1 ≡ line (codes "hi") high ∷ r2 → r2 ≡ row_lines (codes "P") p.rows ++ r3 → r3 ≡ line (codes "T") t ∷ r4
-    → r4 ≡ row_lines (codes "W") w.rows ++ r5 → r5 ≡ row_lines (codes "G") g.rows ++ r6 → r6 ≡ row_lines (codes "E") e.rows ++ r7 → r7 ≡ line (codes "b") b ∷ r8
-    → r8 ≡ line (codes "end") none ∷ r9 → length none ≡ 0 → length r9 ≡ 0
-    → r0 ≡ line (codes "lo") low ∷ line (codes "hi") high ∷ (row_lines (codes "P") p.rows ++ (line (codes "T") t ∷ (row_lines (codes "W") w.rows ++ (row_lines (codes "G") g.rows ++ (row_lines (codes "E") e.rows ++ (line (codes "b") b ∷ line (codes "end") [] ∷ []))))))
+    → r0 ≡ keyed_line (codes "lo") low ∷ r1 → r1 ≡ keyed_line (codes "hi") high ∷ r2 → r2 ≡ row_lines (codes "P") p.rows ++ r3 → r3 ≡ keyed_line (codes "T") t ∷ r4
+    → r4 ≡ row_lines (codes "W") w.rows ++ r5 → r5 ≡ row_lines (codes "G") g.rows ++ r6 → r6 ≡ row_lines (codes "E") e.rows ++ r7 → r7 ≡ keyed_line (codes "b") b ∷ r8
+    → r8 ≡ keyed_line (codes "end") none ∷ r9 → length none ≡ 0 → length r9 ≡ 0
+    → r0 ≡ keyed_line (codes "lo") low ∷ keyed_line (codes "hi") high ∷ (row_lines (codes "P") p.rows ++ (keyed_line (codes "T") t ∷ (row_lines (codes "W") w.rows ++ (row_lines (codes "G") g.rows ++ (row_lines (codes "E") e.rows ++ (keyed_line (codes "b") b ∷ keyed_line (codes "end") [] ∷ []))))))
 joined low high p t w g e b none r0 r1 r2 r3 r4 r5 r6 r7 r8 r9 t0 t1 t2 t3 t4 t5 t6 t7 t8 empty over =
     let no_numbers : none ≡ [] = nil_from_length none empty in
     let no_lines : r9 ≡ [] = nil_from_length r9 over in
-    let e8 : r8 ≡ line (codes "end") [] ∷ [] = t8 ∙ (λ i. line (codes "end") (no_numbers i) ∷ no_lines i) in
-    let e6 = t6 ∙ ap (λ (r : List Keyed). row_lines (codes "E") e.rows ++ r) (t7 ∙ ap (λ (r : List Keyed). line (codes "b") b ∷ r) e8) in
+    let e8 : r8 ≡ keyed_line (codes "end") [] ∷ [] = t8 ∙ (λ i. keyed_line (codes "end") (no_numbers i) ∷ no_lines i) in
+    let e6 = t6 ∙ ap (λ (r : List Keyed). row_lines (codes "E") e.rows ++ r) (t7 ∙ ap (λ (r : List Keyed). keyed_line (codes "b") b ∷ r) e8) in
     let e4 = t4 ∙ ap (λ (r : List Keyed). row_lines (codes "W") w.rows ++ r) (t5 ∙ ap (λ (r : List Keyed). row_lines (codes "G") g.rows ++ r) e6) in
-    let e2 = t2 ∙ ap (λ (r : List Keyed). row_lines (codes "P") p.rows ++ r) (t3 ∙ ap (λ (r : List Keyed). line (codes "T") t ∷ r) e4) in
-    t0 ∙ ap (λ (r : List Keyed). line (codes "lo") low ∷ r) (t1 ∙ ap (λ (r : List Keyed). line (codes "hi") high ∷ r) e2)
+    let e2 = t2 ∙ ap (λ (r : List Keyed). row_lines (codes "P") p.rows ++ r) (t3 ∙ ap (λ (r : List Keyed). keyed_line (codes "T") t ∷ r) e4) in
+    t0 ∙ ap (λ (r : List Keyed). keyed_line (codes "lo") low ∷ r) (t1 ∙ ap (λ (r : List Keyed). keyed_line (codes "hi") high ∷ r) e2)
 
 -- what is read
 pub record Lists (h : Head) (ls : List Keyed) (c : Numbers) : Type 0 where
@@ -136,14 +136,14 @@ lists_again : (c : Numbers) → IsShaped c → lists_at (head_of c) (list_lines 
 unfolding lists_at rest_at
 lists_again c shaped =
     let nu = c.inputs * c.stages in
-    let r8 = line (codes "end") [] ∷ [] in
-    let r7 = line (codes "b") c.bounds ∷ r8 in
+    let r8 = keyed_line (codes "end") [] ∷ [] in
+    let r7 = keyed_line (codes "b") c.bounds ∷ r8 in
     let r6 = row_lines (codes "E") c.state_rows.rows ++ r7 in
     let r5 = row_lines (codes "G") c.plan_rows.rows ++ r6 in
     let r4 = row_lines (codes "W") c.dual_gains.rows ++ r5 in
-    let r3 = line (codes "T") c.offsets ∷ r4 in
+    let r3 = keyed_line (codes "T") c.offsets ∷ r4 in
     let r2 = row_lines (codes "P") c.state_gains.rows ++ r3 in
-    let r1 = line (codes "hi") c.high ∷ r2 in
+    let r1 = keyed_line (codes "hi") c.high ∷ r2 in
     rw (
       numbers_again (codes "lo") c.states c.low r1 shaped.low,
       numbers_again (codes "hi") c.states c.high r2 shaped.high,

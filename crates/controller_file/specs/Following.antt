@@ -5,7 +5,7 @@ use Rattle.qp_model.specs.Range.{LiesIn, IsNumerator}
 use Rattle.qp_model.specs.PartRules.{AreHighs}
 use Rattle.qp_model.specs.Controller.{Numbers, IsInForm, FitsWord}
 use Rattle.controller_file.specs.declared.following.Sizes.{Sizes}
-use Rattle.controller_file.specs.Lines.{Keyed, line, keyed_lines, spelled, Place, place, place_of}
+use Rattle.controller_file.specs.Lines.{Keyed, keyed_line, keyed_lines, spelled, Place, place, place_of}
 
 -- some text in form begins with these lines
 pub record IsBeginning (ls : List Keyed) : Type 0 where
@@ -38,11 +38,11 @@ abbrev pub IsVersionLine : Keyed → Type 0
 IsVersionLine l = (place_of l ≡ place (codes "mpc-controller") 1) × (at l.numbers 0 ≡ pos 1)
 
 -- n, p, stages and m
-abbrev pub AreSizes : List ℤ → Type 0
-AreSizes zs = IsFrom (pos 1) (pos 4) (at zs 0) × IsFrom (pos 1) (pos 3) (at zs 1) × IsFrom (pos 1) (pos 20) (at zs 2) × IsFrom (pos 1) (pos 252) (at zs 3)
+abbrev pub AreHeadSizes : List ℤ → Type 0
+AreHeadSizes zs = IsFrom (pos 1) (pos 4) (at zs 0) × IsFrom (pos 1) (pos 3) (at zs 1) × IsFrom (pos 1) (pos 20) (at zs 2) × IsFrom (pos 1) (pos 252) (at zs 3)
 
 abbrev pub IsSizeLine : Keyed → Type 0
-IsSizeLine l = (place_of l ≡ place (codes "size") 4) × AreSizes l.numbers
+IsSizeLine l = (place_of l ≡ place (codes "size") 4) × AreHeadSizes l.numbers
 
 -- f, g, s and w
 abbrev pub AreBits : List ℤ → Type 0
@@ -61,7 +61,7 @@ IsClampLine l = (place_of l ≡ place (codes "clamp") 1) × IsFrom (pos 0) (pos 
 
 -- the line of the sizes
 abbrev pub second_of : List Keyed → Keyed
-second_of ls = slice_index_or ls 1 (line [] [])
+second_of ls = slice_index_or ls 1 (keyed_line [] [])
 
 -- each size lies in its range
 pub record AreInRange (sizes : Sizes) : Type 0 where
@@ -72,7 +72,7 @@ pub record AreInRange (sizes : Sizes) : Type 0 where
 
 -- a line says these sizes
 pub record Says (l : Keyed) (sizes : Sizes) : Type 0 where
-  pub line : l ≡ line (codes "size") (pos sizes.n ∷ pos sizes.p ∷ pos sizes.stages ∷ pos sizes.m ∷ [])
+  pub keyed_line : l ≡ keyed_line (codes "size") (pos sizes.n ∷ pos sizes.p ∷ pos sizes.stages ∷ pos sizes.m ∷ [])
   pub range : AreInRange sizes
 
 abbrev pub IsWordsLine : Sizes → Keyed → Type 0

@@ -11,12 +11,12 @@ pub record Keyed : Type 0 where
   pub key : List ℕ
   pub numbers : List ℤ
 
-abbrev pub line : List ℕ → List ℤ → Keyed
-line key numbers = record { key = key; numbers = numbers }
+abbrev pub keyed_line : List ℕ → List ℤ → Keyed
+keyed_line key numbers = record { key = key; numbers = numbers }
 
 -- a line without where it lies in memory
 abbrev pub view : Line → Keyed
-view l = line l.key.now l.numbers.items
+view l = keyed_line l.key.now l.numbers.items
 
 abbrev pub views : List Line → List Keyed
 views ls = map view ls
@@ -30,7 +30,7 @@ abbrev pub Fits : Keyed → Type 0
 Fits l = All (FitsSigned w128) l.numbers
 
 -- its word has neither a space nor a line feed, and its numbers fit
-pub record IsLine (l : Keyed) : Type 0 where
+pub record IsKeyedLine (l : Keyed) : Type 0 where
   pub key : All (λ b. 32 < b) l.key
   pub fits : Fits l
 
@@ -47,7 +47,7 @@ place_of l = place l.key (length l.numbers)
 
 -- a line for each row
 abbrev pub row_lines : List ℕ → List (List ℤ) → List Keyed
-row_lines key rows = map (line key) rows
+row_lines key rows = map (keyed_line key) rows
 
 -- the numbers of a controller that stand before its lists
 abbrev pub head_of : Numbers → Head
@@ -56,22 +56,22 @@ head_of c = record { n = c.states; p = c.inputs; stages = c.stages; m = c.rows; 
 -- their lines
 abbrev pub head_lines : Head → List Keyed
 head_lines h =
-    line (codes "mpc-controller") (pos 1 ∷ [])
-    ∷ line (codes "size") (pos h.n ∷ pos h.p ∷ pos h.stages ∷ pos h.m ∷ [])
-    ∷ line (codes "bits") (pos h.f ∷ pos h.g ∷ pos h.s ∷ pos h.w ∷ [])
-    ∷ line (codes "steps") (pos h.steps ∷ [])
-    ∷ line (codes "clamp") (h.clamp ∷ [])
-    ∷ line (codes "words") (pos h.words ∷ []) ∷ []
+    keyed_line (codes "mpc-controller") (pos 1 ∷ [])
+    ∷ keyed_line (codes "size") (pos h.n ∷ pos h.p ∷ pos h.stages ∷ pos h.m ∷ [])
+    ∷ keyed_line (codes "bits") (pos h.f ∷ pos h.g ∷ pos h.s ∷ pos h.w ∷ [])
+    ∷ keyed_line (codes "steps") (pos h.steps ∷ [])
+    ∷ keyed_line (codes "clamp") (h.clamp ∷ [])
+    ∷ keyed_line (codes "words") (pos h.words ∷ []) ∷ []
 
 -- the lines of its lists
 abbrev pub list_lines : Numbers → List Keyed
 list_lines c =
-    line (codes "lo") c.low ∷ line (codes "hi") c.high
+    keyed_line (codes "lo") c.low ∷ keyed_line (codes "hi") c.high
     ∷ (row_lines (codes "P") c.state_gains.rows
-    ++ (line (codes "T") c.offsets ∷ (row_lines (codes "W") c.dual_gains.rows
+    ++ (keyed_line (codes "T") c.offsets ∷ (row_lines (codes "W") c.dual_gains.rows
     ++ (row_lines (codes "G") c.plan_rows.rows
     ++ (row_lines (codes "E") c.state_rows.rows
-    ++ (line (codes "b") c.bounds ∷ line (codes "end") [] ∷ []))))))
+    ++ (keyed_line (codes "b") c.bounds ∷ keyed_line (codes "end") [] ∷ []))))))
 
 abbrev pub keyed_lines : Numbers → List Keyed
 keyed_lines c = head_lines (head_of c) ++ list_lines c

@@ -14,13 +14,13 @@ None >>= f = None
 (Some x) >>= f = f x
 
 -- what a function returned, seen by view, is what reading gives, unless memory ran out
-abbrev pub Fails : {Y : Type 0} → LineFault → Option Y → Type 0
-Fails faults.Memory read = Unit {0}
-Fails faults.Form read = read ≡ None
+abbrev pub FailsAt : {Y : Type 0} → LineFault → Option Y → Type 0
+FailsAt faults.Memory read = Unit {0}
+FailsAt faults.Form read = read ≡ None
 
 abbrev pub Gives : {X Y : Type 0} → (X → Y) → Result X LineFault → Option Y → Type 0
 Gives view (Ok x) read = read ≡ Some (view x)
-Gives view (Err e) read = Fails e read
+Gives view (Err e) read = FailsAt e read
 
 -- a number of 32 bits that isn't negative
 abbrev pub natural : ℤ → Option ℕ

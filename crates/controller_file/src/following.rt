@@ -2,7 +2,7 @@
 ghost use Rattle.std.specs.Prelude.{◌≡◌, ◌↔◌, ◌≤◌, ◌<◌, [], ◌∷◌, ◌++◌, length, All, Some, None, IsTrue, MatchOption, slice_get};
 ghost use Rattle.qp_model.specs.Range.{IsNumerator};
 ghost use Rattle.controller_file.specs.Lines.{view, views, Fits, place, place_of};
-ghost use Rattle.controller_file.specs.Following.{IsBeginning, IsVersionLine, AreSizes, IsSizeLine, IsFrom, AreBits, IsBitsLine, IsStepsLine, IsClampLine, second_of, AreInRange, Says, IsWordsLine, IsLowLine, IsHighLine, places_after};
+ghost use Rattle.controller_file.specs.Following.{IsBeginning, IsVersionLine, AreHeadSizes, IsSizeLine, IsFrom, AreBits, IsBitsLine, IsStepsLine, IsClampLine, second_of, AreInRange, Says, IsWordsLine, IsLowLine, IsHighLine, places_after};
 
 use crate::line::{Line, has_place};
 use qp_model::range::{are_highs, are_numerators};
@@ -78,7 +78,7 @@ fn is_size(line: &Line) -> bool
 // Whether these are sizes n, p, stages and m.
 fn are_sizes(numbers: &[i128]) -> bool
     requires { length numbers.now ≡ 4 }
-    ensures { IsTrue result ↔ AreSizes numbers.now }
+    ensures { IsTrue result ↔ AreHeadSizes numbers.now }
 {
     is_from(1, 4, numbers[0])
         && is_from(1, 3, numbers[1])

@@ -164,7 +164,7 @@ fn read_rows(alloc: Global, key: &str, cols: usize, lines: &[Line]) -> Result<Ma
 {
     let mut matrix = Mat::zero(alloc, 0, cols)?;
     for line in lines {
-        matrix.push_row(alloc, numbers_of(key, cols, line)?)?;
+        matrix.push_row(alloc, list_in(key, cols, line)?)?;
     }
     Ok(matrix)
 }
@@ -221,12 +221,12 @@ fn read_numbers<'a, 't>(
     ensures count { IfOk result (λ x. length x.0.now ≡ count) }
 {
     let (line, rest) = lines.split_first().ok_or(LineFault::Form)?;
-    Ok((numbers_of(key, count, line)?, rest))
+    Ok((list_in(key, count, line)?, rest))
 }
 
 // The numbers of a line, which begins with this word and has so many.
 #[tactic(auto, unfolding(crate::specs::Reading::numbers_in))]
-fn numbers_of<'a, 't>(key: &str, count: usize, line: &'a Line<'t>) -> Result<&'a [i128], LineFault>
+fn list_in<'a, 't>(key: &str, count: usize, line: &'a Line<'t>) -> Result<&'a [i128], LineFault>
     ensures value { Gives (λ x. x.now) result (numbers_in key.now count (view line.now)) }
     ensures count { IfOk result (λ x. length x.now ≡ count) }
 {

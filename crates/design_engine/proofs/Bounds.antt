@@ -12,30 +12,30 @@ use Rattle.mat_int.specs.Row as lists
 use Rattle.mat_int.proofs.Indices.{abs_sum_is}
 use Rattle.qp_model.proofs.SizeFacts.{greatest_term}
 use Rattle.plant_condense.specs.declared.condensed.Condensed.{Condensed}
-use Rattle.approx_inverse.specs.Condensed.{entries_of, columns_of, column_of}
+use Rattle.approx_inverse.specs.Condensed.{entries_of, columns_of, system_column}
 use Rattle.approx_inverse.specs.DescentSize.{greatest_row}
-use Rattle.approx_inverse.specs.Inverse.{HasSizes, descent_of}
+use Rattle.approx_inverse.specs.Inverse.{HasGainSizes, descent_of}
 use Rattle.approx_inverse.specs.declared.inverse.Inverse.{Inverse}
 
 -- where `descent` is within its limit, so is a column times 2^(f+1)
-pub column_room : (c : Condensed) (f i : ℕ) → i < columns_of c → descent_of c f ≤ 2 ^ 126 → 2 ^ (f + 1) * size (entries_of c) (column_of c i) ≤ 2 ^ 126
-column_room c f i l h = close _ (2 ^ (f + 1)) (greatest_row (columns_of c) (entries_of c) (column_of c)) (size (entries_of c) (column_of c i)) (2 ^ 126)
-    (greatest_term i (columns_of c) (λ k. size (entries_of c) (column_of c k)) l) h
+pub column_room : (c : Condensed) (f i : ℕ) → i < columns_of c → descent_of c f ≤ 2 ^ 126 → 2 ^ (f + 1) * size (entries_of c) (system_column c i) ≤ 2 ^ 126
+column_room c f i l h = close _ (2 ^ (f + 1)) (greatest_row (columns_of c) (entries_of c) (system_column c)) (size (entries_of c) (system_column c i)) (2 ^ 126)
+    (greatest_term i (columns_of c) (λ k. size (entries_of c) (system_column c k)) l) h
   where
     close : (a p s t top : ℕ) → t ≤ s → a + p * s ≤ top → p * t ≤ top
     close a p s t top h k = omega (arith, k, mul-le-mul_left p h)
 
 -- and so is the column itself
-pub column_small : (c : Condensed) (f i : ℕ) → i < columns_of c → descent_of c f ≤ 2 ^ 126 → size (entries_of c) (column_of c i) ≤ 2 ^ 126
-column_small c f i l h = close (2 ^ (f + 1)) (size (entries_of c) (column_of c i)) (pow_pos (f + 1)) (column_room c f i l h)
+pub column_small : (c : Condensed) (f i : ℕ) → i < columns_of c → descent_of c f ≤ 2 ^ 126 → size (entries_of c) (system_column c i) ≤ 2 ^ 126
+column_small c f i l h = close (2 ^ (f + 1)) (size (entries_of c) (system_column c i)) (pow_pos (f + 1)) (column_room c f i l h)
   where
     close : (p s : ℕ) → 0 < p → p * s ≤ 2 ^ 126 → s ≤ 2 ^ 126
     close p s h k = let one : 1 ≤ p = omega arith in let g = mul-le-mul_right s one in omega (arith, g)
 
 -- the absolute sum of a list that holds a column
-pub sum_is : (c : Condensed) (i : ℕ) (xs : List ℤ) → length xs ≡ entries_of c → ((j : ℕ) → j < length xs → at xs j ≡ column_of c i j) →
-    lists.abs_sum xs ≡ size (entries_of c) (column_of c i)
-sum_is c i xs e h = abs_sum_is (entries_of c) xs e ∙ size_same (entries_of c) (at xs) (column_of c i) (λ j l. h j (omega (arith, e)))
+pub sum_is : (c : Condensed) (i : ℕ) (xs : List ℤ) → length xs ≡ entries_of c → ((j : ℕ) → j < length xs → at xs j ≡ system_column c i j) →
+    lists.abs_sum xs ≡ size (entries_of c) (system_column c i)
+sum_is c i xs e h = abs_sum_is (entries_of c) xs e ∙ size_same (entries_of c) (at xs) (system_column c i) (λ j l. h j (omega (arith, e)))
 
 -- a quotient of naturals, rounded up as a whole number
 pub ceil_of_pos : (a d : ℕ) → 0 < d → ceil_of (pos a) d ≡ pos (ceil_div a d)
@@ -67,5 +67,5 @@ bound_is s f z floor e h = rw e (ap (λ (n : ℕ). ceil_of (pos n) (unsigned_abs
     turn a b = omega arith
 
 -- sizes under other names
-pub resized : (v : Inverse) (n k m x y z : ℕ) → n ≡ x → k ≡ y → m ≡ z → HasSizes v x y z → HasSizes v n k m
+pub resized : (v : Inverse) (n k m x y z : ℕ) → n ≡ x → k ≡ y → m ≡ z → HasGainSizes v x y z → HasGainSizes v n k m
 resized v n k m x y z e g h sizes = rw (e, g, h) sizes

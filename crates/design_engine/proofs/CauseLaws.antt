@@ -7,7 +7,7 @@ use Rattle.qp_model.specs.Design.{Design}
 use Rattle.qp_model.specs.Parts.{IsDesign, design_of}
 use Rattle.qp_model.specs.Policy.{Plans, IsPolicyFor}
 use Rattle.qp_model.specs.Margin.{IsMargin, corner_slack, slack_scale}
-use Rattle.qp_model.specs.Choices.{multiplier_size, step_count}
+use Rattle.qp_model.specs.Choices.{multiplier_size, step_count, multiplier_of}
 use Rattle.qp_model.specs.Quantities.{prediction_size, hessian_size, rows_size}
 use Rattle.qp_model.specs.CornerSizes.{corner_slack_size, corner_cost_size}
 use Rattle.qp_model.specs.CurvatureSize.{curvature_size}
@@ -17,13 +17,13 @@ use Rattle.qp_model.specs.declared.design_parts.DesignParts.{DesignParts}
 use Rattle.qp_model.specs.declared.bounds.Margin.{Margin}
 use Rattle.qp_model.specs.declared.quantity.Quantity.{Quantity}
 use Rattle.qp_model.specs.declared.quantity.Quantity.TheVariants.{Prediction, CornerSlack, CornerCost, Multiplier, Hessian, Rows, Curvature as curvature_quantity, Error, Descent, Width, Turn}
-use Rattle.slater_margin.specs.Corners.{HasRoom, IsFirstShort}
+use Rattle.slater_margin.specs.Corners.{HasCornerRoom, IsFirstShort}
 use Rattle.hessian_check.specs.Steps.{HasNoStep}
 use Rattle.bit_choice.specs.Choice.{IsChoice}
 use Rattle.step_error.proofs.SumFacts.{floor_range}
 use Rattle.design_engine.specs.Targets.{Targets, half_target, error_limit}
 use Rattle.design_engine.specs.Widest.{width_size}
-use Rattle.design_engine.specs.Bounds.{bound_of, errors_cost}
+use Rattle.design_engine.specs.Bounds.{errors_cost}
 use Rattle.design_engine.specs.Built.{IsExponentOf}
 use Rattle.design_engine.specs.Refusals.{PassesMargin, PassesSizes, PassesSteps, PassesBits, PassesAll, HasCause, IsTooWide}
 use Rattle.design_engine.specs.Order.{CausesLaw, PassingLaw}
@@ -35,22 +35,22 @@ use Rattle.design_engine.proofs.OneOfEach.{one_margin, one_slack, one_corner, on
 -- ---- the tests, from the last ones back
 module _ (d : Design) (t : Targets) where
   abbrev count : Margin → ℕ → ℕ
-  count m s = step_count s (bound_of m) (half_target t)
+  count m s = step_count s (multiplier_of m) (half_target t)
 
   abbrev limit : Margin → ℕ
-  limit m = error_limit t (bound_of m)
+  limit m = error_limit t (multiplier_of m)
 
   abbrev AfterBits : Margin → ℕ → ℕ → Refusal → Type 0
-  AfterBits m s f = Sized Descent (descent_size d f) (Sized Width (width_size d (bound_of m) s (count m s) f) Nothing)
+  AfterBits m s f = Sized Descent (descent_size d f) (Sized Width (width_size d (multiplier_of m) s (count m s) f) Nothing)
 
   abbrev IsFine : Margin → Refusal → Type 0
-  IsFine m e = (e ≡ TooFine (pos (errors_cost d (bound_of m) 48))) × (limit m < errors_cost d (bound_of m) 48)
+  IsFine m e = (e ≡ TooFine (pos (errors_cost d (multiplier_of m) 48))) × (limit m < errors_cost d (multiplier_of m) 48)
 
   abbrev IsBits : Margin → ℕ → Type 0
-  IsBits m f = IsChoice (error_sums_of d (bound_of m)) d.grid (limit m) f
+  IsBits m f = IsChoice (error_sums_of d (multiplier_of m)) d.grid (limit m) f
 
   abbrev AfterSteps : Margin → ℕ → Refusal → Type 0
-  AfterSteps m s = Sized Error (error_size d (bound_of m)) (Finds ℕ (IsFine m) (IsBits m) (AfterBits m s))
+  AfterSteps m s = Sized Error (error_size d (multiplier_of m)) (Finds ℕ (IsFine m) (IsBits m) (AfterBits m s))
 
   abbrev IsLong : Margin → ℕ → Refusal → Type 0
   IsLong m s e = (e ≡ TooManySteps (pos (count m s))) × (2 ^ 22 < count m s)
@@ -79,7 +79,7 @@ module _ (d : Design) (t : Targets) where
 
 -- ---- a cause is that of one of the tests
 module _ (d : Design) (t : Targets) (plans : Plans) where
-  from_room : (e : Refusal) → HasRoom d plans → AfterRoom d t plans e → Whole d t plans e
+  from_room : (e : Refusal) → HasCornerRoom d plans → AfterRoom d t plans e → Whole d t plans e
   from_room e h a = inr (h.prediction, inr (h.slack, inr (h.cost, a)))
 
   from_margin : (e : Refusal) (m : Margin) → PassesMargin d t plans m → AfterMargin d t m e → Whole d t plans e
@@ -130,7 +130,7 @@ module _ (p : DesignParts) (t : Targets) (plans : Plans) (design : IsDesign p) (
   bits_one m s f = sized_one Descent _ _ (sized_one Width _ Nothing nothing_one)
 
   fine_clash : (m : Margin) (e : Refusal) (f : ℕ) → IsFine d t m e → IsBits d t m f → ⊥
-  fine_clash m e f a h = no_choice (error_sums_of d (bound_of m)) d.grid (limit d t m) f (floor_range p design).0 a.1 h
+  fine_clash m e f a h = no_choice (error_sums_of d (multiplier_of m)) d.grid (limit d t m) f (floor_range p design).0 a.1 h
 
   steps_one : (m : Margin) (s : ℕ) → IsOne (AfterSteps d t m s)
   steps_one m s = sized_one Error _ _ (finds_one ℕ (IsFine d t m) (IsBits d t m) (AfterBits d t m s) (λ e other a b. a.0 ∙ sym b.0) (fine_clash m)

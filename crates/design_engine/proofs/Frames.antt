@@ -12,7 +12,7 @@ use Rattle.qp_model.specs.Design.{Design, entries, rows}
 use Rattle.qp_model.specs.Parts.{IsDesign, design_of}
 use Rattle.qp_model.specs.Range.{LiesIn}
 use Rattle.qp_model.specs.Columns.{columns, column_bound, solve_matrix, solve_column}
-use Rattle.qp_model.specs.Condensing.{numbers_of}
+use Rattle.qp_model.specs.Condensing.{condensed_of}
 use Rattle.qp_model.specs.Built.{gain_column}
 use Rattle.qp_model.specs.GoodSolution.{IsGood}
 use Rattle.qp_model.specs.Controller.{Numbers, IsSized, IsShaped, HasShape}
@@ -20,10 +20,10 @@ use Rattle.qp_model.specs.AbsoluteSums.{greatest_sum, IsController}
 use Rattle.qp_model.proofs.SizeFacts.{some_row}
 use Rattle.overflow_check.specs.Width.{IsWidth}
 use Rattle.overflow_check.proofs.SumLaws.{sums_fit}
-use Rattle.approx_inverse.specs.Inverse.{HasSizes, IsInverseOf, solution_of}
+use Rattle.approx_inverse.specs.Inverse.{HasGainSizes, IsInverseOf, solution_of}
 use Rattle.approx_inverse.specs.declared.inverse.Inverse.{Inverse}
 use Rattle.approx_inverse.proofs.FormLaws.{good_same}
-use Rattle.design_engine.specs.Widest.{widest, width_size, rounded, line}
+use Rattle.design_engine.specs.Widest.{widest, width_size, rounded, listed}
 use Rattle.plant_condense.specs.Form.{IsFormOf}
 use Rattle.plant_condense.specs.declared.condensed.Condensed.{Condensed}
 use Rattle.approx_inverse.proofs.DesignLaws.{bound_equal}
@@ -36,12 +36,12 @@ use Rattle.design_engine.proofs.Tables.{line_long, line_at, under_line, line_und
 -- ---- the gains
 -- each gain is at most the bound of its column
 pub record AreWithin (d : Design) (f : ℕ) (v : Inverse) : Type 0 where
-  pub sizes : HasSizes v (entries d) d.states (rows d)
+  pub sizes : HasGainSizes v (entries d) d.states (rows d)
   pub each : (i j : ℕ) → i < columns d → j < entries d → unsigned_abs (solution_of v i j) ≤ column_bound d f i
 
 -- each gain is the bound of its column
 pub record AreWidest (d : Design) (f : ℕ) (v : Inverse) : Type 0 where
-  pub sizes : HasSizes v (entries d) d.states (rows d)
+  pub sizes : HasGainSizes v (entries d) d.states (rows d)
   pub each : (i j : ℕ) → i < columns d → j < entries d → solution_of v i j ≡ pos (column_bound d f i)
 
 pub within_from : (d : Design) (f : ℕ) (v : Inverse) → IsInverseOf d f v → AreWithin d f v
@@ -117,7 +117,7 @@ widest_within d f v w = record { sizes = w.sizes; each = λ i j l m. abs_le (sol
 
 -- ---- what code asks
 -- a list is that of its numbers
-pub box_line : (n : ℕ) (xs : List ℤ) → length xs ≡ n → xs ≡ line n (at xs)
+pub box_line : (n : ℕ) (xs : List ℤ) → length xs ≡ n → xs ≡ listed n (at xs)
 box_line n xs e = fill_by_all (at xs) xs n (pos 0) e (λ k l. refl)
 
 sized_rows : (p : DesignParts) → IsDesign p → LiesIn 1 252 (rows (design_of p))
@@ -127,7 +127,7 @@ sized_rows p h = (
 )
 
 pub sized : (p : DesignParts) (r s k f : ℕ) (c : Numbers) (v : Inverse) → IsDesign p → IsFrame (design_of p) r s k f c → AreGains v c →
-    HasSizes v (entries (design_of p)) p.states (rows (design_of p)) → LiesIn p.grid 48 f → s ≤ 40 → LiesIn 1 (2 ^ 22) k → 2 * r * 2 ^ (f + s) ≤ 2 ^ 126 → IsSized c
+    HasGainSizes v (entries (design_of p)) p.states (rows (design_of p)) → LiesIn p.grid 48 f → s ≤ 40 → LiesIn 1 (2 ^ 22) k → 2 * r * 2 ^ (f + s) ≤ 2 ^ 126 → IsSized c
 sized p r s k f c v h fr g sizes bits exponent steps room =
     let nu : entries (design_of p) ≡ c.inputs * c.stages = rw (fr.inputs, fr.stages) (turn p.stages p.inputs) in
     let lo : c.low ≡ p.lo.items = fr.low ∙ sym (box_line p.states p.lo.items h.lo.long) in
@@ -249,7 +249,7 @@ pub wide_clamp : (p : DesignParts) (r s k f : ℕ) → IsDesign p → 2 ^ 126 < 
 wide_clamp p r s k f h over =
     let c = widest (design_of p) r s k f in
     let next = (sums_fit c (width_size (design_of p) r s k f) (le_refl (width_size (design_of p) r s k f))).next 0
-    (omega (arith, line_long (rows (design_of p)) (λ i. rounded (design_of p) f ((numbers_of (design_of p)).bound i)), some_row p h)) in
+    (omega (arith, line_long (rows (design_of p)) (λ i. rounded (design_of p) f ((condensed_of (design_of p)).bound i)), some_row p h)) in
     close (2 * r * 2 ^ (f + s)) _ (width_size (design_of p) r s k f) next over
   where
     close : (clamp rest sum : ℕ) → clamp + rest ≤ sum → 2 ^ 126 < clamp → 2 ^ 126 < sum

@@ -9,11 +9,10 @@ use Rattle.integer_algebra.specs.Division.{ceil_div}
 use Rattle.integer_algebra.proofs.DivisionLaws.{ceil_div-le, le-mul-ceil_div}
 use Rattle.qp_model.specs.Parts.{IsDesign, design_of}
 use Rattle.qp_model.specs.Range.{IsDenominator, IsPositive}
-use Rattle.qp_model.specs.Choices.{multiplier_bound, multiplier_size, step_count, violation_bound, undercut_bound}
+use Rattle.qp_model.specs.Choices.{multiplier_bound, multiplier_size, step_count, violation_bound, undercut_bound, multiplier_of}
 use Rattle.qp_model.specs.declared.design_parts.DesignParts.{DesignParts}
 use Rattle.qp_model.specs.declared.bounds.Margin.{Margin}
 use Rattle.design_engine.specs.Targets.{Targets, targets_of, half_target, gap_target, error_limit}
-use Rattle.design_engine.specs.Bounds.{bound_of}
 use Rattle.design_engine.proofs.TargetLaws.{quotient_some, some_of, size_of, halves}
 
 -- ---- the targets
@@ -56,11 +55,11 @@ pub limit_small : (p : DesignParts) (r : ℕ) → IsDesign p → error_limit (ta
 limit_small p r h = omega (arith, gap_small p h)
 
 -- ---- R
-pub bound_some : (m : Margin) → 1 ≤ bound_of m
+pub bound_some : (m : Margin) → 1 ≤ multiplier_of m
 bound_some m = omega arith
 
-pub bound_narrow : (m : Margin) → multiplier_size (unsigned_abs m.units) (unsigned_abs m.cost) ≤ 2 ^ 126 → bound_of m ≤ 2 ^ 44
-bound_narrow m h = close _ (bound_of m) h
+pub bound_narrow : (m : Margin) → multiplier_size (unsigned_abs m.units) (unsigned_abs m.cost) ≤ 2 ^ 126 → multiplier_of m ≤ 2 ^ 44
+bound_narrow m h = close _ (multiplier_of m) h
   where
     close : (x r : ℕ) → max x (2 ^ 82 * r) ≤ 2 ^ 126 → r ≤ 2 ^ 44
     close x r h = omega (arith, h)

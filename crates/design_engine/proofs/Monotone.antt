@@ -7,7 +7,7 @@ use Rattle.integer_algebra.specs.Division.{ceil_div}
 use Rattle.integer_algebra.specs.Sums.{at}
 use Rattle.mat_int.specs.Matrix.{row_of}
 use Rattle.qp_model.specs.Controller.{Numbers}
-use Rattle.qp_model.specs.AbsoluteSums.{reach_sum, state_reach, clamp_reach, entry_reach, plan_reach, row_reach, next_reach, sum_reach, greatest_of, greatest_sum}
+use Rattle.qp_model.specs.AbsoluteSums.{weighted_abs_sum, state_magnitudes, clamp_magnitudes, entry_absolute_sum, plan_magnitudes, row_absolute_sum, next_magnitude, sum_magnitude, greatest_of, greatest_sum}
 use Rattle.overflow_check.proofs.Absolute.{ceil_div_mono}
 use Rattle.overflow_check.proofs.Greatest.{greatest-parts, greatest-map_more}
 
@@ -32,7 +32,7 @@ under_tail n x z xs zs u = record { long = omega (arith, u.long); wide = omega (
 less_tail : (y w : ℕ) (ys ws : List ℕ) → IsLess (y ∷ ys) (w ∷ ws) → IsLess ys ws
 less_tail y w ys ws h = record { long = omega (arith, h.long); each = λ k l. h.each (suc k) (omega arith) }
 
-pub reach_sum_mono : (n : ℕ) (xs zs : List ℤ) (ys ws : List ℕ) → IsUnder n xs zs → IsLess ys ws → reach_sum xs ys ≤ reach_sum zs ws
+pub reach_sum_mono : (n : ℕ) (xs zs : List ℤ) (ys ws : List ℕ) → IsUnder n xs zs → IsLess ys ws → weighted_abs_sum xs ys ≤ weighted_abs_sum zs ws
 reach_sum_mono n [] zs ys ws u h = omega arith
 reach_sum_mono zero (x ∷ xs) zs ys ws u h = absurd (omega (arith, u.long))
 reach_sum_mono (suc n) (x ∷ xs) [] ys ws u h = absurd (omega (arith, u.wide))
@@ -71,10 +71,10 @@ pub record IsSmaller (c e : Numbers) (n nu m : ℕ) : Type 0 where
   pub plan_rows : (i : ℕ) → i < m → IsUnder nu (row_of c.plan_rows i) (row_of e.plan_rows i)
   pub state_rows : (i : ℕ) → i < m → IsUnder n (row_of c.state_rows i) (row_of e.state_rows i)
 
-state_same : (c e : Numbers) (n nu m : ℕ) → IsSmaller c e n nu m → state_reach c ≡ state_reach e
+state_same : (c e : Numbers) (n nu m : ℕ) → IsSmaller c e n nu m → state_magnitudes c ≡ state_magnitudes e
 state_same c e n nu m s = rw (s.fraction_bits, s.grid_bits, s.low, s.high) refl
 
-clamp_same : (c e : Numbers) (n nu m : ℕ) → IsSmaller c e n nu m → clamp_reach c ≡ clamp_reach e
+clamp_same : (c e : Numbers) (n nu m : ℕ) → IsSmaller c e n nu m → clamp_magnitudes c ≡ clamp_magnitudes e
 clamp_same c e n nu m s = rw (s.clamp, s.bounds.long, s.bounds.wide) refl
 
 equal_less : (ys ws : List ℕ) → ys ≡ ws → IsLess ys ws
@@ -87,28 +87,28 @@ entry_mono own own' offset offset' dual dual' f f' s s' h k l e g =
     let sum : own + offset * 2 ^ f' ≤ own' + offset' * 2 ^ f' = omega (arith, h, mul-le offset (2 ^ f') offset' (2 ^ f') k (le_refl (2 ^ f'))) in
     rw (e, g) (omega (arith, l, mul-le (own + offset * 2 ^ f') (2 ^ s') (own' + offset' * 2 ^ f') (2 ^ s') sum (le_refl (2 ^ s'))))
 
-pub entry_reach_mono : (c e : Numbers) (n nu m j : ℕ) → IsSmaller c e n nu m → j < nu → entry_reach c j ≤ entry_reach e j
+pub entry_reach_mono : (c e : Numbers) (n nu m j : ℕ) → IsSmaller c e n nu m → j < nu → entry_absolute_sum c j ≤ entry_absolute_sum e j
 entry_reach_mono c e n nu m j s l = entry_mono _ _ _ _ _ _ _ _ _ _
-    (reach_sum_mono n (row_of c.state_gains j) (row_of e.state_gains j) (state_reach c) (state_reach e) (s.state_gains j l) (equal_less _ _ (state_same c e n nu m s)))
+    (reach_sum_mono n (row_of c.state_gains j) (row_of e.state_gains j) (state_magnitudes c) (state_magnitudes e) (s.state_gains j l) (equal_less _ _ (state_same c e n nu m s)))
     (s.offsets.each j l)
-    (reach_sum_mono m (row_of c.dual_gains j) (row_of e.dual_gains j) (clamp_reach c) (clamp_reach e) (s.dual_gains j l) (equal_less _ _ (clamp_same c e n nu m s)))
+    (reach_sum_mono m (row_of c.dual_gains j) (row_of e.dual_gains j) (clamp_magnitudes c) (clamp_magnitudes e) (s.dual_gains j l) (equal_less _ _ (clamp_same c e n nu m s)))
     s.fraction_bits s.step_exponent
 
 quotient_mono : (a b f f' s s' : ℕ) → a ≤ b → f ≡ f' → s ≡ s' → ceil_div a (2 ^ (f + s)) ≤ ceil_div b (2 ^ (f' + s'))
 quotient_mono a b f f' s s' h e g = rw (e, g) (ceil_div_mono a b (2 ^ (f' + s')) (pow_pos (f' + s')) h)
 
-plan_at : (c : Numbers) (nu j : ℕ) → length c.offsets ≡ nu → j < nu → get_or (plan_reach c) j 0 ≡ ceil_div (entry_reach c j) (2 ^ (c.fraction_bits + c.step_exponent))
-plan_at c nu j e l = get_or-map-range_with_len (λ j. ceil_div (entry_reach c j) (2 ^ (c.fraction_bits + c.step_exponent))) 0 (length c.offsets) j j 0 (omega arith) (omega arith)
+plan_at : (c : Numbers) (nu j : ℕ) → length c.offsets ≡ nu → j < nu → get_or (plan_magnitudes c) j 0 ≡ ceil_div (entry_absolute_sum c j) (2 ^ (c.fraction_bits + c.step_exponent))
+plan_at c nu j e l = get_or-map-range_with_len (λ j. ceil_div (entry_absolute_sum c j) (2 ^ (c.fraction_bits + c.step_exponent))) 0 (length c.offsets) j j 0 (omega arith) (omega arith)
 
-plan_long : (c : Numbers) (nu : ℕ) → length c.offsets ≡ nu → length (plan_reach c) ≡ nu
-plan_long c nu e = length-map-range_with_len (λ j. ceil_div (entry_reach c j) (2 ^ (c.fraction_bits + c.step_exponent))) 0 (length c.offsets) ∙ e
+plan_long : (c : Numbers) (nu : ℕ) → length c.offsets ≡ nu → length (plan_magnitudes c) ≡ nu
+plan_long c nu e = length-map-range_with_len (λ j. ceil_div (entry_absolute_sum c j) (2 ^ (c.fraction_bits + c.step_exponent))) 0 (length c.offsets) ∙ e
 
-pub plan_reach_mono : (c e : Numbers) (n nu m : ℕ) → IsSmaller c e n nu m → IsLess (plan_reach c) (plan_reach e)
+pub plan_reach_mono : (c e : Numbers) (n nu m : ℕ) → IsSmaller c e n nu m → IsLess (plan_magnitudes c) (plan_magnitudes e)
 plan_reach_mono c e n nu m s = record {
   long = plan_long c nu s.offsets.long ∙ sym (plan_long e nu s.offsets.wide);
   each = λ j l. (let i : j < nu = omega (arith, plan_long c nu s.offsets.long) in
       rw (plan_at c nu j s.offsets.long i, plan_at e nu j s.offsets.wide i)
-      (quotient_mono (entry_reach c j) (entry_reach e j) _ _ _ _ (entry_reach_mono c e n nu m j s i) s.fraction_bits s.step_exponent));
+      (quotient_mono (entry_absolute_sum c j) (entry_absolute_sum e j) _ _ _ _ (entry_reach_mono c e n nu m j s i) s.fraction_bits s.step_exponent));
 }
 
 -- planned + own + bound * 2^f, part by part
@@ -116,19 +116,19 @@ row_mono : (planned planned' own own' bound bound' f f' : ℕ) → planned ≤ p
     planned + own + bound * 2 ^ f ≤ planned' + own' + bound' * 2 ^ f'
 row_mono planned planned' own own' bound bound' f f' h k l e = rw e (omega (arith, h, k, mul-le bound (2 ^ f') bound' (2 ^ f') l (le_refl (2 ^ f'))))
 
-pub row_reach_mono : (c e : Numbers) (n nu m i : ℕ) → IsSmaller c e n nu m → i < m → row_reach c i ≤ row_reach e i
+pub row_reach_mono : (c e : Numbers) (n nu m i : ℕ) → IsSmaller c e n nu m → i < m → row_absolute_sum c i ≤ row_absolute_sum e i
 row_reach_mono c e n nu m i s l = row_mono _ _ _ _ _ _ _ _
-    (reach_sum_mono nu (row_of c.plan_rows i) (row_of e.plan_rows i) (plan_reach c) (plan_reach e) (s.plan_rows i l) (plan_reach_mono c e n nu m s))
-    (reach_sum_mono n (row_of c.state_rows i) (row_of e.state_rows i) (state_reach c) (state_reach e) (s.state_rows i l) (equal_less _ _ (state_same c e n nu m s)))
+    (reach_sum_mono nu (row_of c.plan_rows i) (row_of e.plan_rows i) (plan_magnitudes c) (plan_magnitudes e) (s.plan_rows i l) (plan_reach_mono c e n nu m s))
+    (reach_sum_mono n (row_of c.state_rows i) (row_of e.state_rows i) (state_magnitudes c) (state_magnitudes e) (s.state_rows i l) (equal_less _ _ (state_same c e n nu m s)))
     (s.bounds.each i l) s.fraction_bits
 
-pub next_reach_mono : (c e : Numbers) (n nu m i : ℕ) → IsSmaller c e n nu m → i < m → next_reach c i ≤ next_reach e i
+pub next_reach_mono : (c e : Numbers) (n nu m i : ℕ) → IsSmaller c e n nu m → i < m → next_magnitude c i ≤ next_magnitude e i
 next_reach_mono c e n nu m i s l = close _ _ _ _ _ _ s.clamp s.fraction_bits (row_reach_mono c e n nu m i s l)
   where
     close : (p q : ℤ) (f f' a b : ℕ) → p ≡ q → f ≡ f' → a ≤ b → unsigned_abs p + ceil_div a (2 ^ f) ≤ unsigned_abs q + ceil_div b (2 ^ f')
     close p q f f' a b e g h = rw (e, g) (omega (arith, ceil_div_mono a b (2 ^ f') (pow_pos f') h))
 
-pub sum_reach_mono : (c e : Numbers) (n nu m j : ℕ) → IsSmaller c e n nu m → j < nu → sum_reach c j ≤ sum_reach e j
+pub sum_reach_mono : (c e : Numbers) (n nu m j : ℕ) → IsSmaller c e n nu m → j < nu → sum_magnitude c j ≤ sum_magnitude e j
 sum_reach_mono c e n nu m j s l = close _ _ _ _ s.steps ((plan_reach_mono c e n nu m s).each j (omega (arith, plan_long c nu s.offsets.long)))
   where
     close : (k k' a b : ℕ) → k ≡ k' → a ≤ b → k * a ≤ k' * b
@@ -144,10 +144,10 @@ equal_le f xs ys e = rw e (le_refl (f ys))
 pub greatest_sum_mono : (c e : Numbers) (n nu m : ℕ) → IsSmaller c e n nu m → greatest_sum c ≤ greatest_sum e
 greatest_sum_mono c e n nu m s = rw (greatest-parts c, greatest-parts e) (close _ _ _ _ _ _ _ _ _ _
     (equal_le greatest_of _ _ (state_same c e n nu m s))
-    (counted_mono (entry_reach c) (entry_reach e) _ _ nu s.offsets.long s.offsets.wide (λ j l. entry_reach_mono c e n nu m j s l))
-    (counted_mono (row_reach c) (row_reach e) _ _ m s.bounds.long s.bounds.wide (λ i l. row_reach_mono c e n nu m i s l))
-    (counted_mono (next_reach c) (next_reach e) _ _ m s.bounds.long s.bounds.wide (λ i l. next_reach_mono c e n nu m i s l))
-    (counted_mono (sum_reach c) (sum_reach e) _ _ nu s.offsets.long s.offsets.wide (λ j l. sum_reach_mono c e n nu m j s l)))
+    (counted_mono (entry_absolute_sum c) (entry_absolute_sum e) _ _ nu s.offsets.long s.offsets.wide (λ j l. entry_reach_mono c e n nu m j s l))
+    (counted_mono (row_absolute_sum c) (row_absolute_sum e) _ _ m s.bounds.long s.bounds.wide (λ i l. row_reach_mono c e n nu m i s l))
+    (counted_mono (next_magnitude c) (next_magnitude e) _ _ m s.bounds.long s.bounds.wide (λ i l. next_reach_mono c e n nu m i s l))
+    (counted_mono (sum_magnitude c) (sum_magnitude e) _ _ nu s.offsets.long s.offsets.wide (λ j l. sum_reach_mono c e n nu m j s l)))
   where
     close : (a a' b b' c c' d d' e e' : ℕ) → a ≤ a' → b ≤ b' → c ≤ c' → d ≤ d' → e ≤ e' → max (max (max (max a b) c) d) e ≤ max (max (max (max a' b') c') d') e'
     close a a' b b' c c' d d' e e' h k l m n = omega arith

@@ -15,7 +15,7 @@ use Rattle.qp_model.specs.Errors.{ErrorSums, epsilon}
 use Rattle.qp_model.specs.declared.design_parts.DesignParts.{DesignParts}
 use Rattle.qp_model.specs.declared.bounds.Margin.{Margin}
 use Rattle.slater_margin.specs.Corners.{IsFirstShort}
-use Rattle.hessian_check.specs.Curvature.{IsLeast, IsFirst, IsChosen, IsDominantAt, IsCertifiedBelow}
+use Rattle.hessian_check.specs.Curvature.{IsLeast, IsFirst, IsChosen, IsDominantAt, HasPassingRootBelow}
 use Rattle.hessian_check.specs.Steps.{HasNoStep}
 use Rattle.bit_choice.specs.Choice.{IsChoice}
 use Rattle.step_error.proofs.FallingLaws.{epsilon_falls}
@@ -142,7 +142,7 @@ one_first n m covers a b h k =
     ]
 
 pub one_chosen : (n : ℕ) (m : ℕ → ℕ → ℕ → ℤ) (s1 a b : ℕ) → IsChosen n m s1 a → IsChosen n m s1 b → a ≡ b
-one_chosen n m s1 a b (inl x) (inl y) = one_least (IsCertifiedBelow n m s1) a b x y
+one_chosen n m s1 a b (inl x) (inl y) = one_least (HasPassingRootBelow n m s1) a b x y
 one_chosen n m s1 a b (inl x) (inr y) = absurd (y.0 a x.holds)
 one_chosen n m s1 a b (inr x) (inl y) = absurd (x.0 b y.holds)
 one_chosen n m s1 a b (inr x) (inr y) = x.1 ∙ sym y.1

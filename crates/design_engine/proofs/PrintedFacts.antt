@@ -1,14 +1,14 @@
 -- The printed bounds, by their numbers.
 use Rattle.std.proofs.Common.{◌≡◌, ℕ, ℤ, pos, unsigned_abs, refl, sym, ap, ◌∙◌}
 use Rattle.qp_model.specs.Design.{Design}
-use Rattle.qp_model.specs.Choices.{violation_bound, undercut_bound}
+use Rattle.qp_model.specs.Choices.{violation_bound, undercut_bound, multiplier_of}
 use Rattle.qp_model.specs.Controller.{Numbers}
 use Rattle.qp_model.specs.declared.bounds.Bounds.{Bounds}
 use Rattle.qp_model.specs.declared.bounds.Margin.{Margin}
-use Rattle.design_engine.specs.Bounds.{bound_of, errors_cost, AreBoundsOf}
+use Rattle.design_engine.specs.Bounds.{errors_cost, AreBoundsOf}
 
 pub bounds_from : (d : Design) (c : Numbers) (m : Margin) (r eps violation undercut : ℤ) (s steps bits width words : ℕ) →
-    r ≡ pos (bound_of m) → eps ≡ pos (errors_cost d (bound_of m) bits) → c.step_exponent ≡ s → c.steps ≡ steps → c.fraction_bits ≡ bits →
+    r ≡ pos (multiplier_of m) → eps ≡ pos (errors_cost d (multiplier_of m) bits) → c.step_exponent ≡ s → c.steps ≡ steps → c.fraction_bits ≡ bits →
     width ≡ c.width → words ≡ c.words →
     violation ≡ pos (violation_bound s (unsigned_abs r) steps (unsigned_abs eps)) → undercut ≡ pos (undercut_bound (unsigned_abs r) (unsigned_abs violation)) →
     AreBoundsOf d c (record {

@@ -20,7 +20,7 @@ use Rattle.qp_model.specs.Controller.{Numbers}
 use Rattle.qp_model.specs.Machine.{average_denominator, averaged_plan}
 use Rattle.qp_model.specs.Machine as machine
 use Rattle.qp_model.specs.Built.{HasSizesOf}
-use Rattle.qp_model.specs.Choices.{violation_bound}
+use Rattle.qp_model.specs.Choices.{violation_bound, multiplier_of}
 use Rattle.qp_model.specs.Certified.{ExceedsAtMost, CostsAtMost, HasFeasible, IsCertifiedAt}
 use Rattle.qp_model.specs.declared.design_parts.DesignParts.{DesignParts}
 use Rattle.qp_model.specs.declared.bounds.Bounds.{Bounds}
@@ -28,7 +28,7 @@ use Rattle.overflow_check.proofs.ValuesMet.{values_law}
 use Rattle.dual_bounds.specs.Corners.{HasRepair, ExceedsNoMore}
 use Rattle.dual_bounds.proofs.MixLaws.{repair_law}
 use Rattle.step_error.specs.MachineLaws.{IsRunOf, MachineRunLaw}
-use Rattle.design_engine.specs.Bounds.{margin_of, bound_of, errors_cost}
+use Rattle.design_engine.specs.Bounds.{margin_of, errors_cost}
 use Rattle.design_engine.specs.Promise.{IsBacked, CertifiedLaw}
 use Rattle.design_engine.proofs.TargetLaws.{some_of}
 use Rattle.design_engine.proofs.PromiseFacts.{gap_closed, violation_closed, row_within, row_kept, row_over, first_part, second_part}
@@ -59,7 +59,7 @@ residual_scale_positive d h = pos_positive (residual_scale d)
     (one-le-mul (one-le-mul h.limit_denominator (pow_pos d.grid)) (pow_positive d.plant_denominator d.stages h.plant_denominator))
 
 -- the machine takes each grid state of the design's box
-grid_state : (d : Design) (c : Numbers) (xi : List ℤ) → HasSizesOf d c → length xi ≡ d.states → IsGridState d (at xi) → machine.IsGridState c xi
+grid_state : (d : Design) (c : Numbers) (xi : List ℤ) → HasSizesOf d c → length xi ≡ d.states → IsGridState d (at xi) → machine.IsAdmissible c xi
 grid_state d c xi s l h = record {
   long = l ∙ sym s.states;
   each = λ i n. (let o : i < d.states = omega (arith, n, s.states) in record {
@@ -85,7 +85,7 @@ design w = design_of w.p
 
 -- R
 abbrev bound : Point → ℕ
-bound w = bound_of (margin_of w.b)
+bound w = multiplier_of (margin_of w.b)
 
 -- what the averaged plan is over, the plan, and its residual at a row
 abbrev over : Point → ℤ

@@ -7,7 +7,7 @@ use Rattle.frac_scaled.specs.declared.fraction.Frac.{Frac}
 use Rattle.qp_model.specs.Design.{Design}
 use Rattle.qp_model.specs.Policy.{Plans}
 use Rattle.qp_model.specs.Margin.{IsMargin}
-use Rattle.qp_model.specs.Choices.{multiplier_size, step_count}
+use Rattle.qp_model.specs.Choices.{multiplier_size, step_count, multiplier_of}
 use Rattle.qp_model.specs.Quantities.{hessian_size, rows_size}
 use Rattle.qp_model.specs.CurvatureSize.{curvature_size}
 use Rattle.qp_model.specs.Columns.{descent_size}
@@ -17,7 +17,7 @@ use Rattle.qp_model.specs.declared.bounds.Margin.{Margin}
 use Rattle.qp_model.specs.declared.quantity.Quantity.{Quantity}
 use Rattle.qp_model.specs.declared.quantity.Quantity.TheVariants.{Prediction, CornerSlack, CornerCost, Multiplier, Hessian, Rows, Curvature as curvature_quantity, Error, Descent, Width, Turn}
 use Rattle.slater_margin.specs.Corners as corners
-use Rattle.slater_margin.specs.Corners.{HasRoom, IsFirstShort}
+use Rattle.slater_margin.specs.Corners.{HasCornerRoom, IsFirstShort}
 use Rattle.slater_margin.specs.declared.fault.MarginFault.{MarginFault}
 use Rattle.slater_margin.specs.declared.fault.MarginFault.TheVariants.{Memory as margin_memory, TooWide as margin_wide, NoMargin as margin_none}
 use Rattle.plant_condense.specs.Fault as condensing
@@ -34,7 +34,7 @@ use Rattle.approx_inverse.specs.declared.fault.SolveFault.{SolveFault}
 use Rattle.approx_inverse.specs.declared.fault.SolveFault.TheVariants.{Memory as solve_memory, TooWide as solve_wide}
 use Rattle.design_engine.specs.Targets.{Targets, half_target, error_limit}
 use Rattle.design_engine.specs.Widest.{width_size}
-use Rattle.design_engine.specs.Bounds.{bound_of, errors_cost}
+use Rattle.design_engine.specs.Bounds.{errors_cost}
 use Rattle.design_engine.specs.Built.{IsExponentOf}
 use Rattle.design_engine.specs.Fault.{IsWidthFault}
 use Rattle.design_engine.specs.Faults.{of_margin, of_condense, of_curvature, of_solve, of_width}
@@ -55,7 +55,7 @@ room_from n p h refuted = elim (cases_lt (2 ^ 126) n) [ inl l ↦ absurd (refute
 
 module _ (d : Design) (t : Targets) (plans : Plans) where
   -- ---- the margin
-  corner_wide : (quantity : Quantity) → corners.IsFirstWide d plans quantity → IsTooWide d t plans quantity
+  corner_wide : (quantity : Quantity) → corners.IsFirstWideCorner d plans quantity → IsTooWide d t plans quantity
   corner_wide Prediction h = h
   corner_wide CornerSlack h = h
   corner_wide CornerCost h = h
@@ -69,8 +69,8 @@ module _ (d : Design) (t : Targets) (plans : Plans) where
   corner_wide Turn h = absurd h
 
   pub margin_refused : (r : Result Margin MarginFault) (fault : MarginFault) → r ≡ Err fault →
-      ((quantity : Quantity) → (r ≡ Err (margin_wide quantity)) ↔ corners.IsFirstWide d plans quantity) →
-      ((corner row : ℕ) (slack : Frac) → r ≡ Err (margin_none corner row slack) → HasRoom d plans × IsFirstShort d plans corner row slack) →
+      ((quantity : Quantity) → (r ≡ Err (margin_wide quantity)) ↔ corners.IsFirstWideCorner d plans quantity) →
+      ((corner row : ℕ) (slack : Frac) → r ≡ Err (margin_none corner row slack) → HasCornerRoom d plans × IsFirstShort d plans corner row slack) →
       (e : Refusal) → e ≡ of_margin fault → IsRefused d t plans e
   margin_refused r margin_memory is wide short e f = inl f
   margin_refused r (margin_wide quantity) is wide short e f = rw f (inr (corner_wide quantity ((wide quantity).0 is)))
@@ -84,7 +84,7 @@ module _ (d : Design) (t : Targets) (plans : Plans) where
 
   -- ---- the condensed form
   form_wide : (m : Margin) → PassesMargin d t plans m → multiplier_size (unsigned_abs m.units) (unsigned_abs m.cost) ≤ 2 ^ 126 → (quantity : Quantity) →
-      condensing.IsFirstWide d quantity → IsTooWide d t plans quantity
+      condensing.IsFirstWideForm d quantity → IsTooWide d t plans quantity
   form_wide m h r Prediction k = absurd (omega (arith, h.room.prediction, k))
   form_wide m h r CornerSlack k = absurd k
   form_wide m h r CornerCost k = absurd k
@@ -99,7 +99,7 @@ module _ (d : Design) (t : Targets) (plans : Plans) where
 
   pub condense_refused : (m : Margin) → PassesMargin d t plans m → multiplier_size (unsigned_abs m.units) (unsigned_abs m.cost) ≤ 2 ^ 126 →
       (r : Result Condensed CondenseFault) (fault : CondenseFault) → r ≡ Err fault →
-      ((quantity : Quantity) → (r ≡ Err (condense_wide quantity)) ↔ condensing.IsFirstWide d quantity) →
+      ((quantity : Quantity) → (r ≡ Err (condense_wide quantity)) ↔ condensing.IsFirstWideForm d quantity) →
       (e : Refusal) → e ≡ of_condense fault → IsRefused d t plans e
   condense_refused m h n r condense_memory is wide e f = inl f
   condense_refused m h n r (condense_wide quantity) is wide e f = rw f (inr (form_wide m h n quantity ((wide quantity).0 is)))
@@ -131,7 +131,7 @@ module _ (d : Design) (t : Targets) (plans : Plans) where
       differ g = search rules
 
   -- ---- the steps
-  pub steps_refused : (m : Margin) (s r h : ℕ) (k : ℤ) → PassesSizes d t plans m → IsExponentOf d s → r ≡ bound_of m → h ≡ half_target t →
+  pub steps_refused : (m : Margin) (s r h : ℕ) (k : ℤ) → PassesSizes d t plans m → IsExponentOf d s → r ≡ multiplier_of m → h ≡ half_target t →
       (step_count s r h ≤ 2 ^ 22 → ⊥) → k ≡ pos (step_count s r h) →
       (e : Refusal) → e ≡ TooManySteps k → HasCause d t plans e
   steps_refused m s r h k passes exponent f g refuted is e j = rw j (m, s, passes, exponent, rw (f, g) at (above (step_count s r h) refuted), rw (f, g) at is)
@@ -140,14 +140,14 @@ module _ (d : Design) (t : Targets) (plans : Plans) where
       above n refuted = omega (arith, refuted)
 
   -- ---- the errors
-  pub sums_refused : (m : Margin) (s r : ℕ) (quantity : Quantity) → PassesSteps d t plans m s → r ≡ bound_of m → (error_size d r ≤ 2 ^ 126 → ⊥) → quantity ≡ Error →
+  pub sums_refused : (m : Margin) (s r : ℕ) (quantity : Quantity) → PassesSteps d t plans m s → r ≡ multiplier_of m → (error_size d r ≤ 2 ^ 126 → ⊥) → quantity ≡ Error →
       (e : Refusal) → e ≡ TooWide quantity → HasCause d t plans e
   sums_refused m s r quantity passes f refuted g e j = rw (j, g) (m, s, passes, rw f at (above (error_size d r) refuted))
     where
       above : (n : ℕ) → (n ≤ 2 ^ 126 → ⊥) → 2 ^ 126 < n
       above n refuted = omega (arith, refuted)
 
-  pub choice_refused : (m : Margin) (s r limit : ℕ) (sums : errors.ErrorSums) (eps : ℤ) → PassesSteps d t plans m s → r ≡ bound_of m → limit ≡ error_limit t (bound_of m) →
+  pub choice_refused : (m : Margin) (s r limit : ℕ) (sums : errors.ErrorSums) (eps : ℤ) → PassesSteps d t plans m s → r ≡ multiplier_of m → limit ≡ error_limit t (multiplier_of m) →
       error_size d r ≤ 2 ^ 126 → sums ≡ error_sums_of d r → limit < epsilon sums 48 → eps ≡ pos (epsilon sums 48) →
       (e : Refusal) → e ≡ TooFine eps → HasCause d t plans e
   choice_refused m s r limit sums eps passes f g size k fine is e j = rw j (m, s, passes, rw f at size, rw (k, f, g) at fine, rw (k, f) at is)
@@ -158,8 +158,8 @@ module _ (d : Design) (t : Targets) (plans : Plans) where
   solve_refused m s f passes solve_memory h e j = inl j
   solve_refused m s f passes (solve_wide quantity) h e j = rw (j, h.0) (inr (m, s, f, passes, h.1))
 
-  pub width_refused : (m : Margin) (s f : ℕ) (r k : ℕ) → PassesBits d t plans m s f → descent_size d f ≤ 2 ^ 126 → r ≡ bound_of m →
-      k ≡ step_count s (bound_of m) (half_target t) → (fault : WidthFault) → IsWidthFault fault (2 ^ 126 < width_size d r s k f) →
+  pub width_refused : (m : Margin) (s f : ℕ) (r k : ℕ) → PassesBits d t plans m s f → descent_size d f ≤ 2 ^ 126 → r ≡ multiplier_of m →
+      k ≡ step_count s (multiplier_of m) (half_target t) → (fault : WidthFault) → IsWidthFault fault (2 ^ 126 < width_size d r s k f) →
       (e : Refusal) → e ≡ of_width fault → IsRefused d t plans e
   width_refused m s f r k passes size g i width_memory h e j = inl j
   width_refused m s f r k passes size g i (width_wide quantity) h e j = rw (j, h.0) (inr (m, s, f, passes, size, rw (g, i) at h.1))

@@ -8,23 +8,23 @@ use Rattle.qp_model.specs.Controller.{HasShape}
 use Rattle.approx_inverse.proofs.MatrixLaws.{row_long}
 use Rattle.approx_inverse.specs.Inverse.{solution_of}
 use Rattle.approx_inverse.specs.declared.inverse.Inverse.{Inverse}
-use Rattle.design_engine.specs.Widest.{line, table}
+use Rattle.design_engine.specs.Widest.{listed, table}
 use Rattle.design_engine.proofs.Monotone.{IsUnder}
 
-pub line_long : (n : ℕ) (g : ℕ → ℤ) → length (line n g) ≡ n
+pub line_long : (n : ℕ) (g : ℕ → ℤ) → length (listed n g) ≡ n
 line_long n g = length-map-range_with_len g 0 n
 
-pub line_at : (n : ℕ) (g : ℕ → ℤ) (k : ℕ) → k < n → at (line n g) k ≡ g k
+pub line_at : (n : ℕ) (g : ℕ → ℤ) (k : ℕ) → k < n → at (listed n g) k ≡ g k
 line_at n g k l = get_or-map-range_with_len g 0 n k k (pos 0) l (omega arith)
 
-table_row : (h w : ℕ) (g : ℕ → ℕ → ℤ) (i : ℕ) → i < h → row_of (table h w g) i ≡ line w (g i)
-table_row h w g i l = get_or-map-range_with_len (λ i. line w (g i)) 0 h i i [] l (omega arith)
+table_row : (h w : ℕ) (g : ℕ → ℕ → ℤ) (i : ℕ) → i < h → row_of (table h w g) i ≡ listed w (g i)
+table_row h w g i l = get_or-map-range_with_len (λ i. listed w (g i)) 0 h i i [] l (omega arith)
 
 -- ---- a list under one that is made by index, and the other way round
-pub under_line : (n : ℕ) (xs : List ℤ) (g : ℕ → ℤ) → length xs ≡ n → ((k : ℕ) → k < n → unsigned_abs (at xs k) ≤ unsigned_abs (g k)) → IsUnder n xs (line n g)
+pub under_line : (n : ℕ) (xs : List ℤ) (g : ℕ → ℤ) → length xs ≡ n → ((k : ℕ) → k < n → unsigned_abs (at xs k) ≤ unsigned_abs (g k)) → IsUnder n xs (listed n g)
 under_line n xs g e h = record { long = e; wide = line_long n g; each = λ k l. rw (line_at n g k l) (h k l) }
 
-pub line_under : (n : ℕ) (xs : List ℤ) (g : ℕ → ℤ) → length xs ≡ n → ((k : ℕ) → k < n → unsigned_abs (g k) ≤ unsigned_abs (at xs k)) → IsUnder n (line n g) xs
+pub line_under : (n : ℕ) (xs : List ℤ) (g : ℕ → ℤ) → length xs ≡ n → ((k : ℕ) → k < n → unsigned_abs (g k) ≤ unsigned_abs (at xs k)) → IsUnder n (listed n g) xs
 line_under n xs g e h = record { long = line_long n g; wide = e; each = λ k l. rw (line_at n g k l) (h k l) }
 
 pub under_table : (m : Matrix) (h w : ℕ) (g : ℕ → ℕ → ℤ) → HasShape m h w → ((i j : ℕ) → i < h → j < w → unsigned_abs (entry_of m i j) ≤ unsigned_abs (g i j)) →

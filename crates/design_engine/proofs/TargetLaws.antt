@@ -5,10 +5,10 @@ use Rattle.std.proofs.lemmas.Nat.{pow_pos}
 use Rattle.std.proofs.Math.Nat.{mul-le-mul_left, mul-le-mul_right, div-mul-le_self}
 use Rattle.integer_algebra.specs.Division.{ceil_div}
 use Rattle.integer_algebra.proofs.DivisionLaws.{le-mul-ceil_div, ceil_div-le}
-use Rattle.qp_model.specs.Choices.{step_count, violation_bound}
+use Rattle.qp_model.specs.Choices.{step_count, violation_bound, multiplier_of}
 use Rattle.qp_model.specs.Parts.{design_of}
 use Rattle.design_engine.specs.Targets.{targets_of, half_target}
-use Rattle.design_engine.specs.Bounds.{margin_of, bound_of, errors_cost}
+use Rattle.design_engine.specs.Bounds.{margin_of, errors_cost}
 use Rattle.design_engine.specs.Promise.{TargetsLaw}
 
 -- a divisor that is not too large leaves a quotient of at least 1
@@ -67,10 +67,10 @@ targets_law p c b h = record {
 }
   where
     r : ℕ
-    r = bound_of (margin_of b)
+    r = multiplier_of (margin_of b)
 
     e : ℕ
-    e = errors_cost (design_of p) (bound_of (margin_of b)) c.fraction_bits
+    e = errors_cost (design_of p) (multiplier_of (margin_of b)) c.fraction_bits
 
     den : 1 ≤ unsigned_abs p.target_den
     den = some_of p.target_den h.design.target_den.low

@@ -3,33 +3,33 @@ use Rattle.std.specs.Prelude.{◌≡◌, ℕ, ◌+◌, ◌*◌, ◌^◌, ◌<◌
 use Rattle.mat_int.specs.Matrix.{HasEntries}
 use Rattle.qp_model.specs.Design.{Design, entries, rows}
 use Rattle.qp_model.specs.Runs.{Holds}
-use Rattle.qp_model.specs.Condensing.{numbers_of}
+use Rattle.qp_model.specs.Condensing.{condensed_of}
 use Rattle.qp_model.specs.Columns.{columns, solve_matrix, solve_column}
 use Rattle.qp_model.specs.GoodSolution.{IsGood}
 use Rattle.qp_model.specs.Controller.{Numbers}
 use Rattle.qp_model.specs.Built.{HasSizesOf, HasRowsOf, gain_column}
 use Rattle.qp_model.specs.AbsoluteSums.{greatest_sum}
 use Rattle.overflow_check.specs.Width.{IsWidth}
-use Rattle.approx_inverse.specs.Condensed.{entries_of, states_of, rows_of, columns_of, column_of}
+use Rattle.approx_inverse.specs.Condensed.{entries_of, states_of, limit_count, columns_of, system_column}
 use Rattle.approx_inverse.specs.DescentSize.{entry_bound}
-use Rattle.approx_inverse.specs.Inverse.{HasSizes, solution_of}
+use Rattle.approx_inverse.specs.Inverse.{HasGainSizes, solution_of}
 use Rattle.approx_inverse.specs.declared.inverse.Inverse.{Inverse}
 use Rattle.plant_condense.specs.declared.condensed.Condensed.{Condensed}
-use Rattle.design_engine.specs.Widest.{rounded, line}
+use Rattle.design_engine.specs.Widest.{rounded, listed}
 use Rattle.design_engine.specs.declared.rounding.Rows.{Rows}
 
 -- ---- the rows
 -- the condensed rows over 2^f, rounded to the nearest, and ties upward
 pub record AreRowsOf (d : Design) (f : ℕ) (r : Rows) : Type 0 where
-  pub plan : HasEntries (rows d) (entries d) (λ i j. rounded d f ((numbers_of d).by_plan i j)) r.g_mat
-  pub state : HasEntries (rows d) d.states (λ i j. rounded d f ((numbers_of d).by_state i j)) r.e_mat
-  pub bound : Holds r.bound.items (rows d) (λ i. rounded d f ((numbers_of d).bound i))
+  pub plan : HasEntries (rows d) (entries d) (λ i j. rounded d f ((condensed_of d).by_plan i j)) r.g_mat
+  pub state : HasEntries (rows d) d.states (λ i j. rounded d f ((condensed_of d).by_state i j)) r.e_mat
+  pub bound : Holds r.bound.items (rows d) (λ i. rounded d f ((condensed_of d).bound i))
 
 -- ---- the gains
 -- each gain is the bound of its column
 pub record AreBounds (c : Condensed) (f : ℕ) (v : Inverse) : Type 0 where
-  pub sizes : HasSizes v (entries_of c) (states_of c) (rows_of c)
-  pub each : (i j : ℕ) → i < columns_of c → j < entries_of c → solution_of v i j ≡ pos (entry_bound (entries_of c) (column_of c i) c.floor f)
+  pub sizes : HasGainSizes v (entries_of c) (states_of c) (limit_count c)
+  pub each : (i j : ℕ) → i < columns_of c → j < entries_of c → solution_of v i j ≡ pos (entry_bound (entries_of c) (system_column c i) c.floor f)
 
 -- ---- the whole
 -- all of a controller but its gains and its width: of a design, with R, the step exponent s, k steps and f bits
@@ -44,11 +44,11 @@ pub record IsFrame (d : Design) (r s k f : ℕ) (c : Numbers) : Type 0 where
   pub steps : c.steps ≡ k
   pub clamp : c.clamp ≡ pos (2 * r * 2 ^ (f + s))
   pub words : c.words ≡ d.states + rows d + 2 * entries d
-  pub low : c.low ≡ line d.states d.low
-  pub high : c.high ≡ line d.states d.high
-  pub plan_rows : HasEntries (rows d) (entries d) (λ i j. rounded d f ((numbers_of d).by_plan i j)) c.plan_rows
-  pub state_rows : HasEntries (rows d) d.states (λ i j. rounded d f ((numbers_of d).by_state i j)) c.state_rows
-  pub bounds : Holds c.bounds (rows d) (λ i. rounded d f ((numbers_of d).bound i))
+  pub low : c.low ≡ listed d.states d.low
+  pub high : c.high ≡ listed d.states d.high
+  pub plan_rows : HasEntries (rows d) (entries d) (λ i j. rounded d f ((condensed_of d).by_plan i j)) c.plan_rows
+  pub state_rows : HasEntries (rows d) d.states (λ i j. rounded d f ((condensed_of d).by_state i j)) c.state_rows
+  pub bounds : Holds c.bounds (rows d) (λ i. rounded d f ((condensed_of d).bound i))
 
 -- the gains are these
 pub record AreGains (v : Inverse) (c : Numbers) : Type 0 where

@@ -4,18 +4,18 @@ use Rattle.std.specs.List.{range_with_len}
 use Rattle.integer_algebra.specs.Division.{round_of}
 use Rattle.mat_int.specs.Matrix.{Matrix}
 use Rattle.qp_model.specs.Design.{Design, entries, rows}
-use Rattle.qp_model.specs.Condensing.{numbers_of}
+use Rattle.qp_model.specs.Condensing.{condensed_of}
 use Rattle.qp_model.specs.Columns.{rows_scale, column_bound}
 use Rattle.qp_model.specs.Controller.{Numbers}
 use Rattle.qp_model.specs.AbsoluteSums.{greatest_sum}
 
 -- f at 0, 1 .. n - 1
-abbrev pub line : ℕ → (ℕ → ℤ) → List ℤ
-line n f = map f (range_with_len 0 n)
+abbrev pub listed : ℕ → (ℕ → ℤ) → List ℤ
+listed n f = map f (range_with_len 0 n)
 
 -- f at the rows and columns of a matrix
 abbrev pub table : ℕ → ℕ → (ℕ → ℕ → ℤ) → Matrix
-table height width f = record { rows = map (λ i. line width (f i)) (range_with_len 0 height); cols = width }
+table height width f = record { rows = map (λ i. listed width (f i)) (range_with_len 0 height); cols = width }
 
 -- a number over rows_scale, over 2^f and rounded to the nearest, and ties upward
 abbrev pub rounded : Design → ℕ → ℤ → ℤ
@@ -36,14 +36,14 @@ widest d r s k f =
       steps = k;
       clamp = pos (2 * r * 2 ^ (f + s));
       words = d.states + rows d + 2 * entries d;
-      low = line d.states d.low;
-      high = line d.states d.high;
+      low = listed d.states d.low;
+      high = listed d.states d.high;
       state_gains = table (entries d) d.states (λ j i. pos (column_bound d f i));
-      offsets = line (entries d) (λ j. pos (column_bound d f d.states));
+      offsets = listed (entries d) (λ j. pos (column_bound d f d.states));
       dual_gains = table (entries d) (rows d) (λ j i. pos (column_bound d f (d.states + 1 + i)));
-      plan_rows = table (rows d) (entries d) (λ i j. rounded d f ((numbers_of d).by_plan i j));
-      state_rows = table (rows d) d.states (λ i j. rounded d f ((numbers_of d).by_state i j));
-      bounds = line (rows d) (λ i. rounded d f ((numbers_of d).bound i));
+      plan_rows = table (rows d) (entries d) (λ i j. rounded d f ((condensed_of d).by_plan i j));
+      state_rows = table (rows d) d.states (λ i j. rounded d f ((condensed_of d).by_state i j));
+      bounds = listed (rows d) (λ i. rounded d f ((condensed_of d).bound i));
     }
 
 abbrev pub width_size : Design → (r s k f : ℕ) → ℕ

@@ -4,14 +4,14 @@ ghost use Rattle.qp_model.specs.Design as model;
 ghost use Rattle.qp_model.specs.Parts.{IsDesign, design_of};
 ghost use Rattle.qp_model.specs.Policy.{Plans, plans_of, IsPolicyFor};
 ghost use Rattle.qp_model.specs.Curvature.{IsExponent};
-ghost use Rattle.qp_model.specs.Choices.{step_count, violation_bound, undercut_bound};
+ghost use Rattle.qp_model.specs.Choices.{step_count, violation_bound, undercut_bound, multiplier_of};
 ghost use Rattle.qp_model.specs.Errors.{error_sums_of};
 ghost use Rattle.qp_model.specs.Certified.{IsCertified};
 ghost use Rattle.qp_model.specs.declared.bounds.Margin.{Margin};
 ghost use Rattle.plant_condense.specs.Form.{IsFormOf};
 ghost use Rattle.bit_choice.specs.Choice.{IsChoice};
 ghost use Rattle.design_engine.specs.Targets.{targets_of, half_target, gap_target, error_limit, IsWithinTargets};
-ghost use Rattle.design_engine.specs.Bounds.{margin_of, bound_of, errors_cost, AreBoundsOf};
+ghost use Rattle.design_engine.specs.Bounds.{margin_of, errors_cost, AreBoundsOf};
 ghost use Rattle.design_engine.specs.Built.{IsBuilt, IsExponentOf};
 ghost use Rattle.design_engine.specs.Refusals.{HasCause, IsRefused, PassesSizes, PassesBits, PassesAll};
 
@@ -46,7 +46,7 @@ struct Scaled {
 
 // The number of steps, and the fraction bits with what the errors of a step cost.
 #[derive(Clone, Copy)]
-struct Plan {
+struct Chosen {
     steps: u32,
     choice: Choice,
 }
@@ -81,7 +81,7 @@ fn error_limit(parts: &DesignParts, r: i128) -> i128
 fn scaled_of(alloc: Global, design: &Design, policy: &Policy) -> Result<Scaled, Refusal>
     requires { IsPolicyFor (design_of design.now.parts) (plans_of policy.now) }
     ensures passes { IfOk result (λ x. PassesSizes (design_of design.now.parts) (targets_of design.now.parts) (plans_of policy.now) x.margin) }
-    ensures multiplier { IfOk result (λ x. x.r ≡ pos (bound_of x.margin)) }
+    ensures multiplier { IfOk result (λ x. x.r ≡ pos (multiplier_of x.margin)) }
     ensures form { IfOk result (λ x. IsFormOf design.now.parts x.condensed) }
     ensures exponent { IfOk result (λ x. IsExponentOf (design_of design.now.parts) x.s) }
     ensures curved { IfOk result (λ x. IsExponent (design_of design.now.parts) x.s) }
@@ -100,15 +100,15 @@ fn scaled_of(alloc: Global, design: &Design, policy: &Policy) -> Result<Scaled, 
 }
 
 // The number of steps and the fraction bits. It takes no memory.
-fn plan_of(design: &Design, scaled: &Scaled) -> Result<Plan, Refusal>
-    requires multiplier { scaled.now.r ≡ pos (bound_of scaled.now.margin) }
-    requires narrow { bound_of scaled.now.margin ≤ 2 ^ 44 }
+fn plan_of(design: &Design, scaled: &Scaled) -> Result<Chosen, Refusal>
+    requires multiplier { scaled.now.r ≡ pos (multiplier_of scaled.now.margin) }
+    requires narrow { multiplier_of scaled.now.margin ≤ 2 ^ 44 }
     requires form { IsFormOf design.now.parts scaled.now.condensed }
     requires exponent { IsExponentOf (design_of design.now.parts) scaled.now.s }
     ensures passes { (plans : Plans) → PassesSizes (design_of design.now.parts) (targets_of design.now.parts) plans scaled.now.margin →
         IfOk result (λ x. PassesBits (design_of design.now.parts) (targets_of design.now.parts) plans scaled.now.margin scaled.now.s x.choice.f) }
-    ensures steps { IfOk result (λ x. x.steps ≡ step_count scaled.now.s (bound_of scaled.now.margin) (half_target (targets_of design.now.parts))) }
-    ensures cost { IfOk result (λ x. x.choice.eps ≡ pos (errors_cost (design_of design.now.parts) (bound_of scaled.now.margin) x.choice.f)) }
+    ensures steps { IfOk result (λ x. x.steps ≡ step_count scaled.now.s (multiplier_of scaled.now.margin) (half_target (targets_of design.now.parts))) }
+    ensures cost { IfOk result (λ x. x.choice.eps ≡ pos (errors_cost (design_of design.now.parts) (multiplier_of scaled.now.margin) x.choice.f)) }
     ensures refused { (plans : Plans) → PassesSizes (design_of design.now.parts) (targets_of design.now.parts) plans scaled.now.margin →
         IfErr result (HasCause (design_of design.now.parts) (targets_of design.now.parts) plans) }
 {
@@ -116,21 +116,21 @@ fn plan_of(design: &Design, scaled: &Scaled) -> Result<Plan, Refusal>
     let steps = steps(scaled.s, scaled.r, half_target(parts))?;
     let sums = error_sums(&scaled.condensed, design, scaled.r)?;
     let choice = choose_bits(&sums, parts.grid, error_limit(parts, scaled.r))?;
-    Ok(Plan { steps, choice })
+    Ok(Chosen { steps, choice })
 }
 
 // The bounds of a controller.
-fn bounds_of(scaled: &Scaled, plan: &Plan, controller: &Controller) -> Bounds
-    requires multiplier { scaled.now.r ≡ pos (bound_of scaled.now.margin) }
-    requires narrow { bound_of scaled.now.margin ≤ 2 ^ 44 }
+fn bounds_of(scaled: &Scaled, plan: &Chosen, controller: &Controller) -> Bounds
+    requires multiplier { scaled.now.r ≡ pos (multiplier_of scaled.now.margin) }
+    requires narrow { multiplier_of scaled.now.margin ≤ 2 ^ 44 }
     requires exponent { scaled.now.s ≤ 40 }
     requires steps { 1 ≤ plan.now.steps }
     requires errors { pos 0 ≤ℤ plan.now.choice.eps }
     requires small { plan.now.choice.eps ≤ℤ pos (2 ^ 114) }
-    requires fits { let r = bound_of scaled.now.margin in
+    requires fits { let r = multiplier_of scaled.now.margin in
         undercut_bound r (violation_bound scaled.now.s r plan.now.steps (unsigned_abs plan.now.choice.eps)) ≤ 2 ^ 126 }
     ensures margin { margin_of result ≡ scaled.now.margin }
-    ensures bounds { (d : model.Design) → plan.now.choice.eps ≡ pos (errors_cost d (bound_of scaled.now.margin) plan.now.choice.f) →
+    ensures bounds { (d : model.Design) → plan.now.choice.eps ≡ pos (errors_cost d (multiplier_of scaled.now.margin) plan.now.choice.f) →
         controller.now.step_exponent ≡ scaled.now.s → controller.now.steps ≡ plan.now.steps → controller.now.fraction_bits ≡ plan.now.choice.f →
         AreBoundsOf d controller.now result }
 {
@@ -153,17 +153,17 @@ fn bounds_of(scaled: &Scaled, plan: &Plan, controller: &Controller) -> Bounds
 }
 
 // The last tests, and the controller with its bounds.
-fn finished(alloc: Global, design: &Design, scaled: &Scaled, plan: &Plan) -> Result<Made, Refusal>
-    requires multiplier { scaled.now.r ≡ pos (bound_of scaled.now.margin) }
-    requires narrow { bound_of scaled.now.margin ≤ 2 ^ 44 }
+fn finished(alloc: Global, design: &Design, scaled: &Scaled, plan: &Chosen) -> Result<Made, Refusal>
+    requires multiplier { scaled.now.r ≡ pos (multiplier_of scaled.now.margin) }
+    requires narrow { multiplier_of scaled.now.margin ≤ 2 ^ 44 }
     requires form { IsFormOf design.now.parts scaled.now.condensed }
     requires exponent { IsExponentOf (design_of design.now.parts) scaled.now.s }
     requires curved { IsExponent (design_of design.now.parts) scaled.now.s }
-    requires steps { plan.now.steps ≡ step_count scaled.now.s (bound_of scaled.now.margin) (half_target (targets_of design.now.parts)) }
+    requires steps { plan.now.steps ≡ step_count scaled.now.s (multiplier_of scaled.now.margin) (half_target (targets_of design.now.parts)) }
     requires few { plan.now.steps ≤ 2 ^ 22 }
-    requires choice { IsChoice (error_sums_of (design_of design.now.parts) (bound_of scaled.now.margin)) (design_of design.now.parts).grid
-        (error_limit (targets_of design.now.parts) (bound_of scaled.now.margin)) plan.now.choice.f }
-    requires cost { plan.now.choice.eps ≡ pos (errors_cost (design_of design.now.parts) (bound_of scaled.now.margin) plan.now.choice.f) }
+    requires choice { IsChoice (error_sums_of (design_of design.now.parts) (multiplier_of scaled.now.margin)) (design_of design.now.parts).grid
+        (error_limit (targets_of design.now.parts) (multiplier_of scaled.now.margin)) plan.now.choice.f }
+    requires cost { plan.now.choice.eps ≡ pos (errors_cost (design_of design.now.parts) (multiplier_of scaled.now.margin) plan.now.choice.f) }
     ensures built { (plans : Plans) → IsPolicyFor (design_of design.now.parts) plans →
         PassesBits (design_of design.now.parts) (targets_of design.now.parts) plans scaled.now.margin scaled.now.s plan.now.choice.f →
         IfOk result (λ made. IsBuilt design.now.parts plans made.controller made.bounds) }

@@ -6,9 +6,9 @@ use Rattle.qp_model.specs.Rules.{Rule, AllHold}
 use Rattle.qp_model.specs.declared.design_parts.DesignParts.{DesignParts}
 use Rattle.design_files.specs.Numbers.{number_in, count_of}
 use Rattle.design_files.specs.Values.{Values}
-use Rattle.design_files.specs.Places.{size_rules, plant_rules, cost_rules, limit_rules, box_rules, target_rules, rules_for, place_rules}
+use Rattle.design_files.specs.Places.{size_places, plant_places, cost_places, limit_places, box_places, target_places, rules_for, place_rules}
 use Rattle.design_files.specs.DesignText.{HasNumbers}
-use Rattle.design_files.specs.Sections.{HasSizes, HasPlant, HasCost, HasLimits, HasBox, HasTargets}
+use Rattle.design_files.specs.Sections.{HasSizeNumbers, HasPlant, HasCostNumbers, HasLimits, HasBox, HasTargets}
 use Rattle.design_files.specs.declared.places.Sizes.{Sizes}
 use Rattle.design_files.specs.declared.places.PlantNumbers.{PlantNumbers}
 use Rattle.design_files.specs.declared.places.CostNumbers.{CostNumbers}
@@ -21,19 +21,19 @@ count_is value n is = rw is refl
 
 -- ---- the rules after those of a table
 abbrev pub after_limits : ℕ → ℕ → Values → List Rule
-after_limits n p v = box_rules n v ++ target_rules v
+after_limits n p v = box_places n v ++ target_places v
 
 abbrev pub after_cost : ℕ → ℕ → Values → List Rule
-after_cost n p v = limit_rules n p v ++ after_limits n p v
+after_cost n p v = limit_places n p v ++ after_limits n p v
 
 abbrev pub after_plant : ℕ → ℕ → Values → List Rule
-after_plant n p v = cost_rules n p v ++ after_cost n p v
+after_plant n p v = cost_places n p v ++ after_cost n p v
 
 abbrev pub after_sizes : ℕ → ℕ → Values → List Rule
-after_sizes n p v = plant_rules n p v ++ after_plant n p v
+after_sizes n p v = plant_places n p v ++ after_plant n p v
 
 -- the rules of a text whose sizes are known
-pub place_rules_at : (v : Values) (s : Sizes) → HasSizes v s → place_rules v ≡ size_rules v ++ after_sizes s.states s.inputs v
+pub place_rules_at : (v : Values) (s : Sizes) → HasSizeNumbers v s → place_rules v ≡ size_places v ++ after_sizes s.states s.inputs v
 unfolding rules_for
 place_rules_at v s h = rw (count_is v.states s.states h.states.number, count_is v.inputs s.inputs h.inputs.number) refl
 
@@ -63,7 +63,7 @@ assembled s plant cost limits box targets = record {
 }
 
 module _ (v : Values) (s : Sizes) (plant : PlantNumbers) (cost : CostNumbers) (limits : LimitNumbers) (box : BoxNumbers) (targets : TargetNumbers)
-    (in_sizes : HasSizes v s) (in_plant : HasPlant v s.states s.inputs plant) (in_cost : HasCost v s.states s.inputs cost)
+    (in_sizes : HasSizeNumbers v s) (in_plant : HasPlant v s.states s.inputs plant) (in_cost : HasCostNumbers v s.states s.inputs cost)
     (in_limits : HasLimits v s.states s.inputs limits) (in_box : HasBox v s.states box) (in_targets : HasTargets v targets) where
   pub has_numbers : HasNumbers v (assembled s plant cost limits box targets)
   has_numbers = record {

@@ -3,7 +3,7 @@ use Rattle.std.proofs.Common.{◌≡◌, ◌⊎◌, List, [], ◌∷◌, ◌++�
 use Rattle.qp_model.specs.declared.text_fault.TextFault.{TextFault}
 use Rattle.qp_model.specs.Rules.{Rule, AllHold, IsFirstBroken}
 use Rattle.qp_model.proofs.RuleLaws.{broken_before, broken_after}
-use Rattle.design_files.specs.DesignText.{Fails, Reads}
+use Rattle.design_files.specs.DesignText.{FailsRule, Reads}
 
 -- the same answer under other rules
 pub reads_as : {X : Type 0} (answer : Result X TextFault) (P Q : X → Type 0) (rules others : List Rule)
@@ -13,8 +13,8 @@ pub reads_as : {X : Type 0} (answer : Result X TextFault) (P Q : X → Type 0) (
 reads_as (Ok x) P Q rules others ok err read = ok x read.0 read.1
 reads_as (Err fault) P Q rules others ok err read = elim read [ inl none ↦ inl none | inr broken ↦ inr (err fault broken) ]
 
-pub fails_before : (rules more : List Rule) (fault : TextFault) → Fails fault rules → Fails fault (rules ++ more)
+pub fails_before : (rules more : List Rule) (fault : TextFault) → FailsRule fault rules → FailsRule fault (rules ++ more)
 fails_before rules more fault failed = elim failed [ inl none ↦ inl none | inr broken ↦ inr (broken_before rules more fault broken) ]
 
-pub fails_after : (rules more : List Rule) (fault : TextFault) → AllHold rules → Fails fault more → Fails fault (rules ++ more)
+pub fails_after : (rules more : List Rule) (fault : TextFault) → AllHold rules → FailsRule fault more → FailsRule fault (rules ++ more)
 fails_after rules more fault held failed = elim failed [ inl none ↦ inl none | inr broken ↦ inr (broken_after rules more fault held broken) ]

@@ -8,7 +8,7 @@ use Rattle.integer_algebra.specs.Sums.{at}
 use Rattle.mat_int.specs.Matrix.{Matrix, entry_of}
 use Rattle.toml.specs.Data.{Data, Members}
 use Rattle.qp_model.specs.Range.{LiesIn, IsDenominator, IsNumerator, IsPositive}
-use Rattle.qp_model.specs.Parts.{IsDesign, IsTable, IsLine, DesignNumbers, design_numbers}
+use Rattle.qp_model.specs.Parts.{IsDesign, IsTable, IsNumeratorList, DesignNumbers, design_numbers}
 use Rattle.qp_model.specs.Rules.{Rule, AllHold, IsFirstBroken}
 use Rattle.qp_model.specs.declared.design_parts.DesignParts.{DesignParts}
 use Rattle.qp_model.specs.declared.text_fault.TextFault.{TextFault}
@@ -19,9 +19,9 @@ use Rattle.qp_model.proofs.RuleLaws.{all_hold, held_after, none_broken, one_faul
 use Rattle.design_files.specs.Document.{document_of}
 use Rattle.design_files.specs.Numbers.{number_in, list_in, lists_in, IsMatrix, IsNumber, IsList, IsLists, number_of, count_of, list_of, lists_of}
 use Rattle.design_files.specs.Values.{Values, values_of, top_keys, plant_keys, cost_keys, limit_keys, box_keys, target_keys, further_keys}
-use Rattle.design_files.specs.Places.{count_rules, denominator_rules, positive_rules, table_rules, cost_row_rules, input_rules, final_row_rules, low_rules, high_rules, size_rules, plant_rules, cost_rules, limit_rules, box_rules, target_rules, rules_for, place_rules, key_rules}
-use Rattle.design_files.specs.DesignText.{HasNumbers, IsDesignDocument, IsDesignText, rules_of, IsFirstFault}
-use Rattle.design_files.specs.Sections.{HasSizes}
+use Rattle.design_files.specs.Places.{count_rules, denominator_rules, positive_rules, table_rules, cost_row_rules, input_rules, final_row_rules, low_rules, high_rules, size_places, plant_places, cost_places, limit_places, box_places, target_places, rules_for, place_rules, key_rules}
+use Rattle.design_files.specs.DesignText.{HasNumbers, IsDesignDocument, IsDesignText, rules_of, IsDesignFault}
+use Rattle.design_files.specs.Sections.{HasSizeNumbers}
 use Rattle.design_files.specs.declared.places.Sizes.{Sizes}
 use Rattle.design_files.proofs.PlaceLaws.{place_rules_at, after_sizes, after_plant, after_cost, after_limits}
 
@@ -62,10 +62,10 @@ finals_hold n others value more m there is table some = (sized value 0 12 (n + 1
 inputs_hold : (p : ℕ) (value : Option Data) (zs : List ℤ) → list_in value ≡ Some zs → length zs ≡ p → All IsPositive zs → AllHold (input_rules p value)
 inputs_hold p value zs is long fits = rw is (long, (fits, tt))
 
-low_holds : (n : ℕ) (value : Option Data) (zs : List ℤ) → list_in value ≡ Some zs → IsLine zs n → AllHold (low_rules n value)
+low_holds : (n : ℕ) (value : Option Data) (zs : List ℤ) → list_in value ≡ Some zs → IsNumeratorList zs n → AllHold (low_rules n value)
 low_holds n value zs is line = rw is (line.long, (line.numbers, tt))
 
-high_holds : (n : ℕ) (below value : Option Data) (low zs : List ℤ) → list_in below ≡ Some low → list_in value ≡ Some zs → IsLine zs n → ((i : ℕ) → i < n → at low i ≤ℤ at zs i) → AllHold (high_rules n below value)
+high_holds : (n : ℕ) (below value : Option Data) (low zs : List ℤ) → list_in below ≡ Some low → list_in value ≡ Some zs → IsNumeratorList zs n → ((i : ℕ) → i < n → at low i ≤ℤ at zs i) → AllHold (high_rules n below value)
 high_holds n below value low zs there is line box = rw (is, there) (line.long, (record { numbers = line.numbers; box = box }, tt))
 
 -- ---- all of them
@@ -75,34 +75,34 @@ keys_hold document p h further =
     let v = values_of document in
     (number_there v.version (pos 1) h.version, (number_there v.states (pos p.states) h.states, (number_there v.inputs (pos p.inputs) h.inputs, (number_there v.stages (pos p.stages) h.stages, (number_there v.plant_den p.plant_den h.plant_den, (matrix_there v.a p.a h.a, (matrix_there v.b p.b h.b, (number_there v.cost_den p.cost_den h.cost_den, (number_there v.row_den p.row_den h.row_den, (list_there v.input p.input_weights.items h.input, (matrix_there v.stage_cost p.stage_cost h.stage_cost, (matrix_there v.final_cost p.final_cost h.final_cost, (number_there v.limit_den p.limit_den h.limit_den, (matrix_there v.stage_rows p.stage_rows h.stage_rows, (matrix_there v.final_rows p.final_rows h.final_rows, (number_there v.grid (pos p.grid) h.grid, (list_there v.lo p.lo.items h.lo, (list_there v.hi p.hi.items h.hi, (number_there v.target_den p.target_den h.target_den, (number_there v.violation p.violation h.violation, (number_there v.gap p.gap h.gap, further)))))))))))))))))))))
 
-sizes_hold : (v : Values) (p : DesignParts) → HasNumbers v p → IsDesign p → AllHold (size_rules v)
+sizes_hold : (v : Values) (p : DesignParts) → HasNumbers v p → IsDesign p → AllHold (size_places v)
 sizes_hold v p h d =
     all_hold (count_rules 1 1 1 v.version) (count_rules 2 1 4 v.states ++ (count_rules 3 1 3 v.inputs ++ (count_rules 4 1 20 v.stages))) (count_holds 1 1 1 v.version 1 h.version (lit≤ tt, lit≤ tt)) (all_hold (count_rules 2 1 4 v.states) (count_rules 3 1 3 v.inputs ++ (count_rules 4 1 20 v.stages)) (count_holds 2 1 4 v.states p.states h.states d.states) (all_hold (count_rules 3 1 3 v.inputs) (count_rules 4 1 20 v.stages) (count_holds 3 1 3 v.inputs p.inputs h.inputs d.inputs) (count_holds 4 1 20 v.stages p.stages h.stages d.stages)))
 
-plant_hold : (v : Values) (p : DesignParts) → HasNumbers v p → IsDesign p → AllHold (plant_rules p.states p.inputs v)
+plant_hold : (v : Values) (p : DesignParts) → HasNumbers v p → IsDesign p → AllHold (plant_places p.states p.inputs v)
 plant_hold v p h d =
     let n = p.states in
     let m = p.inputs in
     all_hold (denominator_rules 5 v.plant_den) (table_rules 6 n n n v.a ++ (table_rules 7 n n m v.b)) (denominator_holds 5 v.plant_den p.plant_den h.plant_den d.plant_den) (all_hold (table_rules 6 n n n v.a) (table_rules 7 n n m v.b) (table_holds 6 n n n v.a p.a h.a d.a) (table_holds 7 n n m v.b p.b h.b d.b))
 
-cost_hold : (v : Values) (p : DesignParts) → HasNumbers v p → IsDesign p → AllHold (cost_rules p.states p.inputs v)
+cost_hold : (v : Values) (p : DesignParts) → HasNumbers v p → IsDesign p → AllHold (cost_places p.states p.inputs v)
 cost_hold v p h d =
     let n = p.states in
     let m = p.inputs in
     all_hold (denominator_rules 8 v.cost_den) (denominator_rules 9 v.row_den ++ (input_rules m v.input ++ (cost_row_rules 11 n v.stage_cost ++ (cost_row_rules 12 n v.final_cost)))) (denominator_holds 8 v.cost_den p.cost_den h.cost_den d.cost_den) (all_hold (denominator_rules 9 v.row_den) (input_rules m v.input ++ (cost_row_rules 11 n v.stage_cost ++ (cost_row_rules 12 n v.final_cost))) (denominator_holds 9 v.row_den p.row_den h.row_den d.row_den) (all_hold (input_rules m v.input) (cost_row_rules 11 n v.stage_cost ++ (cost_row_rules 12 n v.final_cost)) (inputs_hold m v.input p.input_weights.items h.input d.input_count d.input_weights) (all_hold (cost_row_rules 11 n v.stage_cost) (cost_row_rules 12 n v.final_cost) (costs_hold 11 n v.stage_cost p.stage_cost h.stage_cost d.stage_cost d.stage_weights) (costs_hold 12 n v.final_cost p.final_cost h.final_cost d.final_cost d.final_weights))))
 
-limits_hold : (v : Values) (p : DesignParts) → HasNumbers v p → IsDesign p → AllHold (limit_rules p.states p.inputs v)
+limits_hold : (v : Values) (p : DesignParts) → HasNumbers v p → IsDesign p → AllHold (limit_places p.states p.inputs v)
 limits_hold v p h d =
     let n = p.states in
     let m = p.inputs in
     all_hold (denominator_rules 13 v.limit_den) (table_rules 14 0 12 (n + m + 1) v.stage_rows ++ (final_row_rules n v.stage_rows v.final_rows)) (denominator_holds 13 v.limit_den p.limit_den h.limit_den d.limit_den) (all_hold (table_rules 14 0 12 (n + m + 1) v.stage_rows) (final_row_rules n v.stage_rows v.final_rows) (table_holds 14 0 12 (n + m + 1) v.stage_rows p.stage_rows h.stage_rows d.stage_rows) (finals_hold n v.stage_rows v.final_rows p.stage_rows p.final_rows h.stage_rows h.final_rows d.final_rows d.some_row))
 
-box_hold : (v : Values) (p : DesignParts) → HasNumbers v p → IsDesign p → AllHold (box_rules p.states v)
+box_hold : (v : Values) (p : DesignParts) → HasNumbers v p → IsDesign p → AllHold (box_places p.states v)
 box_hold v p h d =
     let n = p.states in
     all_hold (count_rules 16 0 24 v.grid) (low_rules n v.lo ++ (high_rules n v.lo v.hi)) (count_holds 16 0 24 v.grid p.grid h.grid (zero-le, d.grid)) (all_hold (low_rules n v.lo) (high_rules n v.lo v.hi) (low_holds n v.lo p.lo.items h.lo d.lo) (high_holds n v.lo v.hi p.lo.items p.hi.items h.lo h.hi d.hi d.box))
 
-targets_hold : (v : Values) (p : DesignParts) → HasNumbers v p → IsDesign p → AllHold (target_rules v)
+targets_hold : (v : Values) (p : DesignParts) → HasNumbers v p → IsDesign p → AllHold (target_places v)
 targets_hold v p h d =
     all_hold (denominator_rules 19 v.target_den) (positive_rules 20 v.violation ++ (positive_rules 21 v.gap)) (denominator_holds 19 v.target_den p.target_den h.target_den d.target_den) (all_hold (positive_rules 20 v.violation) (positive_rules 21 v.gap) (positive_holds 20 v.violation p.violation h.violation d.violation) (positive_holds 21 v.gap p.gap h.gap d.gap))
 
@@ -111,17 +111,17 @@ places_hold v p h d =
     let n = p.states in
     let m = p.inputs in
     let sizes : Sizes = record { states = n; inputs = m; stages = p.stages } in
-    let known : HasSizes v sizes = record {
+    let known : HasSizeNumbers v sizes = record {
       version = h.version;
       states = record { number = h.states; fits = d.states };
       inputs = record { number = h.inputs; fits = d.inputs };
       stages = record { number = h.stages; fits = d.stages };
     } in
-    rw (place_rules_at v sizes known) (all_hold (size_rules v) (after_sizes n m v) (sizes_hold v p h d)
-    (all_hold (plant_rules n m v) (after_plant n m v) (plant_hold v p h d)
-    (all_hold (cost_rules n m v) (after_cost n m v) (cost_hold v p h d)
-    (all_hold (limit_rules n m v) (after_limits n m v) (limits_hold v p h d)
-    (all_hold (box_rules n v) (target_rules v) (box_hold v p h d) (targets_hold v p h d))))))
+    rw (place_rules_at v sizes known) (all_hold (size_places v) (after_sizes n m v) (sizes_hold v p h d)
+    (all_hold (plant_places n m v) (after_plant n m v) (plant_hold v p h d)
+    (all_hold (cost_places n m v) (after_cost n m v) (cost_hold v p h d)
+    (all_hold (limit_places n m v) (after_limits n m v) (limits_hold v p h d)
+    (all_hold (box_places n v) (target_places v) (box_hold v p h d) (targets_hold v p h d))))))
 
 document_holds : (p : DesignParts) (document : Members) → IsDesignDocument p document → AllHold (rules_of document)
 document_holds p document is =
@@ -129,7 +129,7 @@ document_holds p document is =
 
 -- ---- of bytes
 -- a design text has no first fault
-pub no_fault : (bytes : List ℕ) (p : DesignParts) (fault : TextFault) → IsDesignText bytes p → IsFirstFault bytes fault → ⊥
+pub no_fault : (bytes : List ℕ) (p : DesignParts) (fault : TextFault) → IsDesignText bytes p → IsDesignFault bytes fault → ⊥
 no_fault bytes p fault is first = apart (document_of bytes) p fault is first
   where
     apart : (document : Option Members) (p : DesignParts) (fault : TextFault) → IsSomeAnd document (IsDesignDocument p) → MatchOption document (fault ≡ NotToml) (λ document. IsFirstBroken (rules_of document) fault) → ⊥
@@ -137,7 +137,7 @@ no_fault bytes p fault is first = apart (document_of bytes) p fault is first
     apart (Some document) p fault is first = none_broken (rules_of document) fault (document_holds p document is) first
 
 -- there is one first fault
-pub same_fault : (bytes : List ℕ) (a b : TextFault) → IsFirstFault bytes a → IsFirstFault bytes b → a ≡ b
+pub same_fault : (bytes : List ℕ) (a b : TextFault) → IsDesignFault bytes a → IsDesignFault bytes b → a ≡ b
 same_fault bytes a b first second = same (document_of bytes) a b first second
   where
     same : (document : Option Members) (a b : TextFault) → MatchOption document (a ≡ NotToml) (λ document. IsFirstBroken (rules_of document) a) → MatchOption document (b ≡ NotToml) (λ document. IsFirstBroken (rules_of document) b) → a ≡ b
@@ -191,12 +191,12 @@ no_further document held =
     held_after (top_keys v ++ plant_keys v ++ cost_keys v ++ limit_keys v ++ box_keys v ++ target_keys v) (further_keys document) held
 
 -- ---- both ways
-pub every_text : (bytes : List ℕ) (answer : Result Design TextFault) → IfOk answer (λ design. IsDesignText bytes design.parts) → IfErr answer (λ fault. (fault ≡ Memory) ⊎ IsFirstFault bytes fault)
+pub every_text : (bytes : List ℕ) (answer : Result Design TextFault) → IfOk answer (λ design. IsDesignText bytes design.parts) → IfErr answer (λ fault. (fault ≡ Memory) ⊎ IsDesignFault bytes fault)
     → (p : DesignParts) → IsDesignText bytes p → (answer ≡ Err Memory) ⊎ IsOkAnd answer (λ design. design_numbers design.parts ≡ design_numbers p)
 every_text bytes (Ok design) read failed p is = inr (same_design bytes design.parts p read is)
 every_text bytes (Err fault) read failed p is = elim failed [ inl none ↦ inl (ap Err none) | inr first ↦ absurd (no_fault bytes p fault is first) ]
 
-pub every_fault : (bytes : List ℕ) (answer : Result Design TextFault) → IfOk answer (λ design. IsDesignText bytes design.parts) → IfErr answer (λ fault. (fault ≡ Memory) ⊎ IsFirstFault bytes fault)
-    → (fault : TextFault) → IsFirstFault bytes fault → (answer ≡ Err Memory) ⊎ (answer ≡ Err fault)
+pub every_fault : (bytes : List ℕ) (answer : Result Design TextFault) → IfOk answer (λ design. IsDesignText bytes design.parts) → IfErr answer (λ fault. (fault ≡ Memory) ⊎ IsDesignFault bytes fault)
+    → (fault : TextFault) → IsDesignFault bytes fault → (answer ≡ Err Memory) ⊎ (answer ≡ Err fault)
 every_fault bytes (Ok design) read failed fault first = absurd (no_fault bytes design.parts fault read first)
 every_fault bytes (Err other) read failed fault first = elim failed [ inl none ↦ inl (ap Err none) | inr also ↦ inr (ap Err (same_fault bytes other fault also first)) ]

@@ -49,13 +49,13 @@ abbrev pub rules_of : Members → List Rule
 rules_of document = key_rules document ++ place_rules (values_of document)
 
 -- the first fault of the bytes: that they are no document, or what the first broken rule of the document says
-abbrev pub IsFirstFault : List ℕ → TextFault → Type 0
-IsFirstFault bytes fault = MatchOption (document_of bytes) (fault ≡ NotToml) (λ document. IsFirstBroken (rules_of document) fault)
+abbrev pub IsDesignFault : List ℕ → TextFault → Type 0
+IsDesignFault bytes fault = MatchOption (document_of bytes) (fault ≡ NotToml) (λ document. IsFirstBroken (rules_of document) fault)
 
 -- ---- what a reader answers: a value of which P holds, where the rules do, and else want of memory, or the fault of the first that is broken
-abbrev pub Fails : TextFault → List Rule → Type 0
-Fails fault rules = (fault ≡ Memory) ⊎ IsFirstBroken rules fault
+abbrev pub FailsRule : TextFault → List Rule → Type 0
+FailsRule fault rules = (fault ≡ Memory) ⊎ IsFirstBroken rules fault
 
 abbrev pub Reads : {X : Type 0} → Result X TextFault → (X → Type 0) → List Rule → Type 0
 Reads (Ok x) P rules = AllHold rules × P x
-Reads (Err fault) P rules = Fails fault rules
+Reads (Err fault) P rules = FailsRule fault rules

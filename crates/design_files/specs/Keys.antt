@@ -60,7 +60,7 @@ pub record AreCost (document : Members) (keys : CostKeys) : Type 0 where
   pub stage : (values_of document).stage_cost ≡ Some (view keys.stage.now)
   pub final_ : (values_of document).final_cost ≡ Some (view keys.final_.now)
 
-pub record AreLimits (document : Members) (keys : LimitsKeys) : Type 0 where
+pub record AreLimitKeys (document : Members) (keys : LimitsKeys) : Type 0 where
   pub table : table_at (codes "limits") document ≡ Some (table_view keys.table.now)
   pub den : (values_of document).limit_den ≡ Some (view keys.den.now)
   pub stage : (values_of document).stage_rows ≡ Some (view keys.stage.now)

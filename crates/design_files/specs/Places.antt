@@ -51,28 +51,28 @@ abbrev pub high_rules : ℕ → Option Data → Option Data → List Rule
 high_rules n low value = shape 18 (IsList n value) ∷ range 18 (AreHighs (list_of value) (list_of low) n) ∷ []
 
 -- ---- the places, by tables, for n states and p inputs
-abbrev pub size_rules : Values → List Rule
-size_rules v = count_rules 1 1 1 v.version ++ (count_rules 2 1 4 v.states ++ (count_rules 3 1 3 v.inputs ++ count_rules 4 1 20 v.stages))
+abbrev pub size_places : Values → List Rule
+size_places v = count_rules 1 1 1 v.version ++ (count_rules 2 1 4 v.states ++ (count_rules 3 1 3 v.inputs ++ count_rules 4 1 20 v.stages))
 
-abbrev pub plant_rules : ℕ → ℕ → Values → List Rule
-plant_rules n p v = denominator_rules 5 v.plant_den ++ (table_rules 6 n n n v.a ++ table_rules 7 n n p v.b)
+abbrev pub plant_places : ℕ → ℕ → Values → List Rule
+plant_places n p v = denominator_rules 5 v.plant_den ++ (table_rules 6 n n n v.a ++ table_rules 7 n n p v.b)
 
-abbrev pub cost_rules : ℕ → ℕ → Values → List Rule
-cost_rules n p v =
+abbrev pub cost_places : ℕ → ℕ → Values → List Rule
+cost_places n p v =
     denominator_rules 8 v.cost_den ++ (denominator_rules 9 v.row_den ++ (input_rules p v.input ++ (cost_row_rules 11 n v.stage_cost ++ cost_row_rules 12 n v.final_cost)))
 
-abbrev pub limit_rules : ℕ → ℕ → Values → List Rule
-limit_rules n p v = denominator_rules 13 v.limit_den ++ (table_rules 14 0 12 (n + p + 1) v.stage_rows ++ final_row_rules n v.stage_rows v.final_rows)
+abbrev pub limit_places : ℕ → ℕ → Values → List Rule
+limit_places n p v = denominator_rules 13 v.limit_den ++ (table_rules 14 0 12 (n + p + 1) v.stage_rows ++ final_row_rules n v.stage_rows v.final_rows)
 
-abbrev pub box_rules : ℕ → Values → List Rule
-box_rules n v = count_rules 16 0 24 v.grid ++ (low_rules n v.lo ++ high_rules n v.lo v.hi)
+abbrev pub box_places : ℕ → Values → List Rule
+box_places n v = count_rules 16 0 24 v.grid ++ (low_rules n v.lo ++ high_rules n v.lo v.hi)
 
-abbrev pub target_rules : Values → List Rule
-target_rules v = denominator_rules 19 v.target_den ++ (positive_rules 20 v.violation ++ positive_rules 21 v.gap)
+abbrev pub target_places : Values → List Rule
+target_places v = denominator_rules 19 v.target_den ++ (positive_rules 20 v.violation ++ positive_rules 21 v.gap)
 
 -- all places
 unfoldable pub rules_for : ℕ → ℕ → Values → List Rule
-rules_for n p v = size_rules v ++ (plant_rules n p v ++ (cost_rules n p v ++ (limit_rules n p v ++ (box_rules n v ++ target_rules v))))
+rules_for n p v = size_places v ++ (plant_places n p v ++ (cost_places n p v ++ (limit_places n p v ++ (box_places n v ++ target_places v))))
 
 abbrev pub place_rules : Values → List Rule
 place_rules v = rules_for (count_of v.states) (count_of v.inputs) v

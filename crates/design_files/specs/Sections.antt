@@ -4,7 +4,7 @@ use Rattle.integer_algebra.specs.Sums.{at}
 use Rattle.mat_int.specs.Matrix.{Matrix, entry_of}
 use Rattle.toml.specs.Data.{Data}
 use Rattle.qp_model.specs.Range.{LiesIn, IsDenominator, IsNumerator, IsPositive}
-use Rattle.qp_model.specs.Parts.{IsTable, IsLine}
+use Rattle.qp_model.specs.Parts.{IsTable, IsNumeratorList}
 use Rattle.design_files.specs.Numbers.{number_in, list_in, IsMatrix}
 use Rattle.design_files.specs.Values.{Values}
 use Rattle.design_files.specs.declared.places.Sizes.{Sizes}
@@ -42,10 +42,10 @@ pub record HasInputs (value : Option Data) (p : ℕ) (zs : List ℤ) : Type 0 wh
 
 pub record HasLine (value : Option Data) (n : ℕ) (zs : List ℤ) : Type 0 where
   pub numbers : list_in value ≡ Some zs
-  pub fits : IsLine zs n
+  pub fits : IsNumeratorList zs n
 
 -- ---- table by table, for n states and p inputs
-pub record HasSizes (v : Values) (s : Sizes) : Type 0 where
+pub record HasSizeNumbers (v : Values) (s : Sizes) : Type 0 where
   pub version : number_in v.version ≡ Some (pos 1)
   pub states : HasCount v.states 1 4 s.states
   pub inputs : HasCount v.inputs 1 3 s.inputs
@@ -56,7 +56,7 @@ pub record HasPlant (v : Values) (n p : ℕ) (q : PlantNumbers) : Type 0 where
   pub a : HasTable v.a n n n q.a
   pub b : HasTable v.b n n p q.b
 
-pub record HasCost (v : Values) (n p : ℕ) (q : CostNumbers) : Type 0 where
+pub record HasCostNumbers (v : Values) (n p : ℕ) (q : CostNumbers) : Type 0 where
   pub den : HasDenominator v.cost_den q.den
   pub row_den : HasDenominator v.row_den q.row_den
   pub input : HasInputs v.input p q.input.items

@@ -8,7 +8,7 @@ ghost use Rattle.toml.specs.View.{view, table_view};
 ghost use Rattle.qp_model.specs.Rules.{Tests};
 ghost use Rattle.design_files.specs.Document.{table_at};
 ghost use Rattle.design_files.specs.Values.{values_of, HasOnly, top_keys, plant_keys, cost_keys, limit_keys, box_keys, target_keys, further_keys};
-ghost use Rattle.design_files.specs.Keys.{seen, AreTop, ArePlant, AreCost, AreLimits, AreBox, AreTargets};
+ghost use Rattle.design_files.specs.Keys.{seen, AreTop, ArePlant, AreCost, AreLimitKeys, AreBox, AreTargets};
 ghost use Rattle.design_files.specs.Places.{key_rules};
 ghost use Rattle.design_files.specs.DesignText.{Reads};
 
@@ -130,7 +130,7 @@ fn find_cost_keys(document: &Table) -> Result<CostKeys<'_>, TextFault>
 }
 
 fn find_limits_keys(document: &Table) -> Result<LimitsKeys<'_>, TextFault>
-    ensures { let seen = table_view document.now in Reads result (AreLimits seen) (limit_keys (values_of seen)) }
+    ensures { let seen = table_view document.now in Reads result (AreLimitKeys seen) (limit_keys (values_of seen)) }
 {
     let table = find_table(13, document, "limits")?;
     Ok(LimitsKeys {
@@ -191,7 +191,7 @@ fn find_value<'a>(place: u32, table: &'a Table, key: &str) -> Result<&'a Value, 
 fn refuse_further_keys(document: &Table, keys: &Keys) -> Result<(), TextFault>
     requires plant { ArePlant (table_view document.now) keys.now.plant }
     requires cost { AreCost (table_view document.now) keys.now.cost }
-    requires limits { AreLimits (table_view document.now) keys.now.limits }
+    requires limits { AreLimitKeys (table_view document.now) keys.now.limits }
     requires box_ { AreBox (table_view document.now) keys.now.box_ }
     requires targets { AreTargets (table_view document.now) keys.now.targets }
     ensures { Tests result (further_keys (table_view document.now)) }

@@ -6,9 +6,9 @@ ghost use Rattle.qp_model.specs.declared.text_fault.TextFault.{TextFault};
 ghost use Rattle.qp_model.specs.Parts.{IsDesign, design_numbers};
 ghost use Rattle.design_files.specs.Document.{document_of};
 ghost use Rattle.design_files.specs.Keys.{seen};
-ghost use Rattle.design_files.specs.Places.{count_rules, denominator_rules, positive_rules, table_rules, cost_row_rules, input_rules, final_row_rules, low_rules, high_rules, size_rules, plant_rules, cost_rules, limit_rules, box_rules, target_rules, place_rules};
-ghost use Rattle.design_files.specs.Sections.{HasCount, HasDenominator, HasPositive, HasTable, HasCosts, HasInputs, HasLine, HasSizes, HasPlant, HasCost, HasLimits, HasBox, HasTargets};
-ghost use Rattle.design_files.specs.DesignText.{HasNumbers, Reads, IsDesignText, IsFirstFault};
+ghost use Rattle.design_files.specs.Places.{count_rules, denominator_rules, positive_rules, table_rules, cost_row_rules, input_rules, final_row_rules, low_rules, high_rules, size_places, plant_places, cost_places, limit_places, box_places, target_places, place_rules};
+ghost use Rattle.design_files.specs.Sections.{HasCount, HasDenominator, HasPositive, HasTable, HasCosts, HasInputs, HasLine, HasSizeNumbers, HasPlant, HasCostNumbers, HasLimits, HasBox, HasTargets};
+ghost use Rattle.design_files.specs.DesignText.{HasNumbers, Reads, IsDesignText, IsDesignFault};
 
 use crate::document::read_document;
 use crate::keys::{
@@ -29,12 +29,12 @@ use toml::Value;
 /// places that is absent, then a further key, and then for each place in turn the shape of its value and the range of its numbers.
 pub fn read_design(alloc: Global, bytes: &[u8]) -> Result<Design, TextFault>
     ensures text { IfOk result (λ design. IsDesignText bytes.now design.parts) }
-    ensures fault { IfErr result (λ fault. (fault ≡ TextFault.Memory) ⊎ IsFirstFault bytes.now fault) }
+    ensures fault { IfErr result (λ fault. (fault ≡ TextFault.Memory) ⊎ IsDesignFault bytes.now fault) }
 
     // The other way round, unless memory runs out.
     ensures every_text { (p : DesignParts) → IsDesignText bytes.now p
         → (result ≡ Err TextFault.Memory) ⊎ IsOkAnd result (λ design. design_numbers design.parts ≡ design_numbers p) }
-    ensures every_fault { (fault : TextFault) → IsFirstFault bytes.now fault
+    ensures every_fault { (fault : TextFault) → IsDesignFault bytes.now fault
         → (result ≡ Err TextFault.Memory) ⊎ (result ≡ Err fault) }
 {
     read_text(alloc, bytes)
@@ -43,7 +43,7 @@ pub fn read_design(alloc: Global, bytes: &[u8]) -> Result<Design, TextFault>
 // The same, where the other way round follows.
 fn read_text(alloc: Global, bytes: &[u8]) -> Result<Design, TextFault>
     ensures text { IfOk result (λ design. IsDesignText bytes.now design.parts) }
-    ensures fault { IfErr result (λ fault. (fault ≡ TextFault.Memory) ⊎ IsFirstFault bytes.now fault) }
+    ensures fault { IfErr result (λ fault. (fault ≡ TextFault.Memory) ⊎ IsDesignFault bytes.now fault) }
 {
     let document = read_document(alloc, bytes)?;
     let keys = find_keys(&document)?;
@@ -202,7 +202,7 @@ fn read_low(alloc: Global, value: &Value, n: usize) -> Result<Vec<i128>, TextFau
 }
 
 fn read_sizes(keys: &Keys) -> Result<Sizes, TextFault>
-    ensures { let v = seen keys.now in Reads result (HasSizes v) (size_rules v) }
+    ensures { let v = seen keys.now in Reads result (HasSizeNumbers v) (size_places v) }
 {
     let keys = &keys.top;
     read_count(1, keys.version, 1, 1)?;
@@ -214,7 +214,7 @@ fn read_sizes(keys: &Keys) -> Result<Sizes, TextFault>
 }
 
 fn read_plant(alloc: Global, keys: &Keys, n: usize, p: usize) -> Result<PlantNumbers, TextFault>
-    ensures { let v = seen keys.now in Reads result (HasPlant v n p) (plant_rules n p v) }
+    ensures { let v = seen keys.now in Reads result (HasPlant v n p) (plant_places n p v) }
 {
     let keys = &keys.plant;
     Ok(PlantNumbers {
@@ -226,7 +226,7 @@ fn read_plant(alloc: Global, keys: &Keys, n: usize, p: usize) -> Result<PlantNum
 
 fn read_cost(alloc: Global, keys: &Keys, n: usize, p: usize) -> Result<CostNumbers, TextFault>
     requires { n ≤ 4 }
-    ensures { let v = seen keys.now in Reads result (HasCost v n p) (cost_rules n p v) }
+    ensures { let v = seen keys.now in Reads result (HasCostNumbers v n p) (cost_places n p v) }
 {
     let keys = &keys.cost;
     Ok(CostNumbers {
@@ -241,7 +241,7 @@ fn read_cost(alloc: Global, keys: &Keys, n: usize, p: usize) -> Result<CostNumbe
 fn read_limits(alloc: Global, keys: &Keys, n: usize, p: usize) -> Result<LimitNumbers, TextFault>
     requires states { n ≤ 4 }
     requires inputs { p ≤ 3 }
-    ensures { let v = seen keys.now in Reads result (HasLimits v n p) (limit_rules n p v) }
+    ensures { let v = seen keys.now in Reads result (HasLimits v n p) (limit_places n p v) }
 {
     let keys = &keys.limits;
     let den = read_denominator(13, keys.den)?;
@@ -252,7 +252,7 @@ fn read_limits(alloc: Global, keys: &Keys, n: usize, p: usize) -> Result<LimitNu
 }
 
 fn read_box(alloc: Global, keys: &Keys, n: usize) -> Result<BoxNumbers, TextFault>
-    ensures { let v = seen keys.now in Reads result (HasBox v n) (box_rules n v) }
+    ensures { let v = seen keys.now in Reads result (HasBox v n) (box_places n v) }
 {
     let keys = &keys.box_;
     let grid = read_count(16, keys.grid, 0, 24)? as u32;
@@ -263,7 +263,7 @@ fn read_box(alloc: Global, keys: &Keys, n: usize) -> Result<BoxNumbers, TextFaul
 }
 
 fn read_targets(keys: &Keys) -> Result<TargetNumbers, TextFault>
-    ensures { let v = seen keys.now in Reads result (HasTargets v) (target_rules v) }
+    ensures { let v = seen keys.now in Reads result (HasTargets v) (target_places v) }
 {
     let keys = &keys.targets;
     Ok(TargetNumbers {

@@ -11,7 +11,7 @@ use Rattle.qp_model.specs.Lines.{text_of}
 use Rattle.toml.specs.Parse.{parse_document}
 use Rattle.design_files.specs.Document.{document_of}
 use Rattle.design_maker.specs.declared.draws.Drawn.{Drawn}
-use Rattle.design_maker.specs.Texts.{others, bracketed, list_text, rows_text, plant_rows, input_weights, cost_rows, design_lines}
+use Rattle.design_maker.specs.Texts.{other_lines, bracketed, list_text, rows_text, plant_rows, input_weights, cost_rows, design_lines}
 use Rattle.design_maker.proofs.WrittenValues.{Small, AllSmall, RowsSmall}
 use Rattle.design_maker.proofs.MadeDocument.{AreSmall}
 
@@ -53,13 +53,13 @@ number_ascii : (z : ℤ) → Small z → Ascii (signed_decimal z)
 number_ascii (pos n) h = from_indices (signed_decimal (pos n)) (IsAscii-signed (pos n) (omega (arith, h)))
 number_ascii (negsuc n) h = from_indices (signed_decimal (negsuc n)) (IsAscii-signed (negsuc n) (omega (arith, h)))
 
-others_ascii : (ws : List (List ℕ)) → AllAscii ws → Ascii (others ws)
+others_ascii : (ws : List (List ℕ)) → AllAscii ws → Ascii (other_lines ws)
 others_ascii [] h = tt
-others_ascii (w ∷ ws) h = (lit< tt, (lit< tt, joined w (others ws) h.0 (others_ascii ws h.1)))
+others_ascii (w ∷ ws) h = (lit< tt, (lit< tt, joined w (other_lines ws) h.0 (others_ascii ws h.1)))
 
 bracketed_ascii : (ws : List (List ℕ)) → AllAscii ws → Ascii (bracketed ws)
 bracketed_ascii [] h = tested (codes "[]") refl
-bracketed_ascii (w ∷ ws) h = (lit< tt, joined (w ++ others ws) (codes "]") (joined w (others ws) h.0 (others_ascii ws h.1)) (tested (codes "]") refl))
+bracketed_ascii (w ∷ ws) h = (lit< tt, joined (w ++ other_lines ws) (codes "]") (joined w (other_lines ws) h.0 (others_ascii ws h.1)) (tested (codes "]") refl))
 
 words_ascii : (zs : List ℤ) → AllSmall zs → AllAscii (map signed_decimal zs)
 words_ascii [] h = tt

@@ -14,7 +14,7 @@ use Rattle.design_maker.specs.Texts.{design_text, policy_text, states_text}
 use Rattle.design_maker.specs.MadeParts.{made_numbers, coasting_plans, corner_matrix}
 
 -- the first text is a design's, the second one of plans for it that coast, and the third one of the corners of its box
-pub record AreTextsOf (p : DesignParts) (first second third : List ℕ) : Type 0 where
+pub record AreMadeTexts (p : DesignParts) (first second third : List ℕ) : Type 0 where
   pub design : IsDesignText first p
   pub policy : IsPolicyText second (design_of p) (coasting_plans p.stages)
   pub states : IsStatesText third p.states corner_matrix
@@ -23,9 +23,9 @@ pub record AreTextsOf (p : DesignParts) (first second third : List ℕ) : Type 0
 -- they are those of a design with the numbers that a seed makes
 abbrev pub AreMade : ℕ → ℕ → List ℕ → List ℕ → List ℕ → Type 0
 AreMade seed stages first second third =
-    (p : DesignParts) × (design_numbers p ≡ made_numbers (drawn seed) stages) × AreTextsOf p first second third
+    (p : DesignParts) × (design_numbers p ≡ made_numbers (drawn seed) stages) × AreMadeTexts p first second third
 
 -- and of each such design
 abbrev pub MadeLaw : Type 0
 MadeLaw = (seed stages : ℕ) → LiesIn 1 20 stages → (p : DesignParts) → design_numbers p ≡ made_numbers (drawn seed) stages
-    → AreTextsOf p (design_text seed stages) (policy_text stages) states_text
+    → AreMadeTexts p (design_text seed stages) (policy_text stages) states_text

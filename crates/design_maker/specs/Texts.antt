@@ -7,14 +7,14 @@ use Rattle.design_maker.specs.declared.draws.Drawn.{Drawn}
 use Rattle.design_maker.specs.Draws.{drawn}
 
 -- each with a comma and a space before it
-abbrev pub others : List (List ℕ) → List ℕ
-others [] = []
-others (word ∷ words) = codes ", " ++ word ++ others words
+abbrev pub other_lines : List (List ℕ) → List ℕ
+other_lines [] = []
+other_lines (word ∷ words) = codes ", " ++ word ++ other_lines words
 
 -- in brackets, with a comma and a space between two
 abbrev pub bracketed : List (List ℕ) → List ℕ
 bracketed [] = codes "[]"
-bracketed (word ∷ words) = codes "[" ++ word ++ others words ++ codes "]"
+bracketed (word ∷ words) = codes "[" ++ word ++ other_lines words ++ codes "]"
 
 -- a list of numbers, and a list of such lists
 abbrev pub list_text : List ℤ → List ℕ

@@ -11,9 +11,9 @@ use Rattle.integer_algebra.proofs.BoundLaws.{absolute_nonneg}
 use Rattle.integer_algebra.proofs.OrderLaws.{add_nonneg_z, mul_nonneg_z}
 use Rattle.integer_algebra.proofs.SumLaws.{total_same, total_nonneg}
 use Rattle.integer_algebra.proofs.SizeLaws.{total_amount}
-use Rattle.frac_scaled.specs.Enclosures.{Enclosure, whole_product, reach}
+use Rattle.frac_scaled.specs.Enclosures.{Enclosure, whole_product, magnitude}
 use Rattle.mat_int.specs.Matrix.{Matrix, row_of, entry_of, with_entry, HasEntries}
-use Rattle.mat_int.specs.Enclosures.{gram_sum, weighted_gram, gram_reach, AreEnclosures}
+use Rattle.mat_int.specs.Enclosures.{gram_sum, weighted_gram, gram_magnitude, AreEnclosures}
 use Rattle.enclosure.specs.Rows.{HasRow}
 use Rattle.enclosure.proofs.RoomLaws.{reach_mul_is, ceil_small, inexact_small}
 use Rattle.enclosure.proofs.SumLaws.{combination_size}
@@ -41,16 +41,16 @@ pub once : (w n m : ℕ) → 0 < w → w * n ≤ m → n ≤ m
 once zero n m h k = absurd (omega arith)
 once (suc w) n m h k = omega (arith, k)
 
--- the terms of an entry reach together what `gram_reach` says
+-- the terms of an entry magnitude together what `gram_magnitude` says
 pub gram_reach_is : (n : ℕ) (w : ℕ → ℤ) (x : ℕ → ℕ → Enclosure) (j l : ℕ) → ((i : ℕ) → i < n → pos 0 ≤ℤ w i) →
     ((i : ℕ) → i < n → (pos 0 ≤ℤ (x i j).rad) × (pos 0 ≤ℤ (x i l).rad)) →
-    gram_reach n w x j l ≡ pos (combination_size n w (λ i. whole_product (x i j) (x i l)))
+    gram_magnitude n w x j l ≡ pos (combination_size n w (λ i. whole_product (x i j) (x i l)))
 gram_reach_is n w x j l h k =
     total_same n _ _ (λ i s. term (w i) (x i j) (x i l) (h i s) (k i s).0 (k i s).1) ∙
     total_amount n (λ i. unsigned_abs (w i) * (unsigned_abs (whole_product (x i j) (x i l)).mid + unsigned_abs (whole_product (x i j) (x i l)).rad))
   where
     term : (w : ℤ) (a b : Enclosure) → pos 0 ≤ℤ w → pos 0 ≤ℤ a.rad → pos 0 ≤ℤ b.rad →
-        w *ℤ (reach a *ℤ reach b) ≡ pos (unsigned_abs w * (unsigned_abs (whole_product a b).mid + unsigned_abs (whole_product a b).rad))
+        w *ℤ (magnitude a *ℤ magnitude b) ≡ pos (unsigned_abs w * (unsigned_abs (whole_product a b).mid + unsigned_abs (whole_product a b).rad))
     term (pos w) a b h k l =
         ap (λ (z : ℤ). pos w *ℤ z) (reach_mul_is a.mid a.rad b.mid b.rad k l) ∙ ap (λ (n : ℕ). pos (w * n)) (sym (product_reach a b k l))
     term (negsuc w) a b h k l = absurd h.le

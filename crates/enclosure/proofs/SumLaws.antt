@@ -7,7 +7,7 @@ use Rattle.integer_algebra.specs.Sizes.{amount}
 use Rattle.integer_algebra.proofs.SumLaws.{total_more, total_same}
 use Rattle.integer_algebra.proofs.SizeLaws.{amount_next, total_amount}
 use Rattle.frac_scaled.specs.Enclosures.{Enclosure, sum_of, multiple}
-use Rattle.mat_int.specs.Enclosures.{combination, combination_reach}
+use Rattle.mat_int.specs.Enclosures.{combination, combination_magnitude}
 use Rattle.enclosure.specs.declared.types.Enc.{Enc}
 use Rattle.enclosure.specs.Values.{pair, pair_at}
 use Rattle.enclosure.proofs.RoomLaws.{same_pair, reach_is, refused}
@@ -28,7 +28,7 @@ multiple_rest c m (pos r) h = ap pos (omega (arith, unsigned_abs-mul c m))
 multiple_rest c m (negsuc r) h = absurd h.le
 
 -- ---- sums
--- what the terms reach together, as a natural
+-- what the terms magnitude together, as a natural
 abbrev pub combination_size : ℕ → (ℕ → ℤ) → (ℕ → Enclosure) → ℕ
 combination_size n c x = amount n (λ i. unsigned_abs (c i) * (unsigned_abs (x i).mid + unsigned_abs (x i).rad))
 
@@ -37,7 +37,7 @@ pub combination_more : (n : ℕ) (c : ℕ → ℤ) (x : ℕ → Enclosure) → c
 combination_more n c x = same_pair (total_more n (λ i. c i *ℤ (x i).mid)) (total_more n (λ i. absolute (c i) *ℤ (x i).rad))
 
 -- the natural is the integer, where no radius is negative
-pub combination_reach_is : (n : ℕ) (c : ℕ → ℤ) (x : ℕ → Enclosure) → ((i : ℕ) → i < n → pos 0 ≤ℤ (x i).rad) → combination_reach n c x ≡ pos (combination_size n c x)
+pub combination_reach_is : (n : ℕ) (c : ℕ → ℤ) (x : ℕ → Enclosure) → ((i : ℕ) → i < n → pos 0 ≤ℤ (x i).rad) → combination_magnitude n c x ≡ pos (combination_size n c x)
 combination_reach_is n c x h =
     total_same n _ _ (λ i l. ap (λ (z : ℤ). absolute (c i) *ℤ z) (reach_is (x i).mid (x i).rad (h i l))) ∙
     total_amount n (λ i. unsigned_abs (c i) * (unsigned_abs (x i).mid + unsigned_abs (x i).rad))
@@ -54,7 +54,7 @@ radius_nonneg xs i h =
     rw (pair_at_is xs i d h) (get_or xs i d).nonnegative
 
 -- ---- steps of a loop
--- what a term's failing tells of the whole, where f sums up what the terms reach
+-- what a term's failing tells of the whole, where f sums up what the terms magnitude
 pub step_refused : {T : Type 0} (o : Option T) (n i m : ℕ) (f : ℕ → ℕ) (z : ℤ) → o ≡ None → z ≡ pos (amount n f) → i < n → m ≤ amount i f + f i →
     ¬ (m ≤ 2 ^ 126) → IsSome o ↔ (z ≤ℤ pos (2 ^ 126))
 step_refused o n i m f z e is l h k = refused o (amount n f) z e is (λ j. k (omega (arith, amount_next i n f l, h, j)))

@@ -1,7 +1,7 @@
 -- What an enclosure made of others encloses. Fractions are numerators over denominators of at least 1, without a limit.
 use Rattle.std.specs.Prelude.{◌≡◌, ℕ, ◌<◌, ℤ, pos, ◌+ℤ◌, ◌*ℤ◌, ◌≤ℤ◌}
 use Rattle.integer_algebra.specs.Sums.{total}
-use Rattle.frac_scaled.specs.Enclosures.{Enclosure, Encloses, enclosed, whole, sum_of, product_of}
+use Rattle.frac_scaled.specs.Enclosures.{Enclosure, Encloses, enclosed, exactly, sum_of, product_of}
 use Rattle.mat_int.specs.Enclosures.{combined, weighted_gram}
 
 -- ---- of any enclosures
@@ -35,7 +35,7 @@ EnclosedLaw = (num : ℤ) (den : ℕ) → 0 < den → Encloses (enclosed num den
 
 -- a whole number is enclosed exactly, over any denominator
 abbrev pub WholeLaw : Type 0
-WholeLaw = (n q : ℤ) → Encloses (whole n) (n *ℤ q) q
+WholeLaw = (n q : ℤ) → Encloses (exactly n) (n *ℤ q) q
 
 -- sums
 abbrev pub SumLaw : Type 0
@@ -56,5 +56,5 @@ BroughtLaw = (n : ℕ) (c : ℕ → ℤ) (x : ℕ → Enclosure) (den : ℕ) →
     Encloses (combined n c x den) (total n (λ i. c i *ℤ t i)) (q *ℤ pos den)
 
 -- products of columns
-abbrev pub GramLaw : Type 0
-GramLaw = (n : ℕ) (weight : ℕ → ℤ) (x : ℕ → ℕ → Enclosure) (j l : ℕ) → EnclosesGram n weight x j l (weighted_gram n weight x j l)
+abbrev pub GramEnclosureLaw : Type 0
+GramEnclosureLaw = (n : ℕ) (weight : ℕ → ℤ) (x : ℕ → ℕ → Enclosure) (j l : ℕ) → EnclosesGram n weight x j l (weighted_gram n weight x j l)

@@ -2,11 +2,11 @@
 ghost use Rattle.std.specs.Prelude.{◌≡◌, ◌↔◌, ◌+◌, ◌*◌, ◌^◌, ◌≤◌, length, IsSome, IfSome, pos, ◌≤ℤ◌, unsigned_abs};
 ghost use Rattle.integer_algebra.specs.Sums.{at};
 ghost use Rattle.frac_scaled.specs.Enclosures.{multiple};
-ghost use Rattle.mat_int.specs.Enclosures.{combined, combination_reach};
+ghost use Rattle.mat_int.specs.Enclosures.{combined, combination_magnitude};
 ghost use Rattle.enclosure.specs.Values.{pair, pair_at};
 ghost use Rattle.enclosure.specs.Laws.{EnclosesCombination};
 
-use crate::room::{limited_product, reach};
+use crate::room::{limited_product, magnitude};
 use crate::single::divided;
 use crate::sum::Sum;
 use crate::types::Enc;
@@ -19,7 +19,7 @@ pub fn combine(coeffs: &[i128], xs: &[Enc], den: i128) -> Option<Enc>
     ensures value { let n = length xs.now in
         IfSome result (λ e. pair e ≡ combined n (at coeffs.now) (pair_at xs.now) (unsigned_abs den)) }
     ensures room { let n = length xs.now in
-        IsSome result ↔ (combination_reach n (at coeffs.now) (pair_at xs.now) ≤ℤ pos (2 ^ 126)) }
+        IsSome result ↔ (combination_magnitude n (at coeffs.now) (pair_at xs.now) ≤ℤ pos (2 ^ 126)) }
     ensures encloses { let n = length xs.now in
         IfSome result (λ e. EnclosesCombination n (at coeffs.now) (pair_at xs.now) den (pair e)) }
 {
@@ -35,7 +35,7 @@ pub(crate) fn multiple(c: i128, x: Enc) -> Option<Enc>
     ensures value { IfSome result (λ e. pair e ≡ multiple c (pair x)) }
     ensures room { IsSome result ↔ (unsigned_abs c * (unsigned_abs x.mid + unsigned_abs x.rad) ≤ 2 ^ 126) }
 {
-    let most = limited_product(c.unsigned_abs(), reach(x))?;
+    let most = limited_product(c.unsigned_abs(), magnitude(x))?;
     let mid = c * x.mid;
     Some(Enc {
         mid,

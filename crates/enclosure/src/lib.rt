@@ -2,7 +2,7 @@
 //! call enclose, its result encloses.
 #![tactic(auto)]
 
-ghost use Rattle.enclosure.specs.Laws.{FractionLaw, EnclosedLaw, WholeLaw, SumLaw, ProductLaw, CombinedLaw, BroughtLaw, GramLaw};
+ghost use Rattle.enclosure.specs.Laws.{FractionLaw, EnclosedLaw, WholeLaw, SumLaw, ProductLaw, CombinedLaw, BroughtLaw, GramEnclosureLaw};
 
 mod combination;
 mod matrix;
@@ -55,5 +55,5 @@ pub fn brought_law()
 
 /// What `gram` makes encloses the weighted products of two columns of fractions.
 pub fn gram_law()
-    ensures { GramLaw }
+    ensures { GramEnclosureLaw }
 {}

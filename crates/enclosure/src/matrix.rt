@@ -2,7 +2,7 @@
 ghost use Rattle.std.specs.Prelude.{◌≡◌, ◌↔◌, ◌<◌, ◌+◌, ◌*◌, ◌^◌, ◌≤◌, ℕ, length, All, IfOk, OnOk, IsSome, IfSome, OnSome, pos, ◌≤ℤ◌, unsigned_abs};
 ghost use Rattle.integer_algebra.specs.Sums.{at};
 ghost use Rattle.frac_scaled.specs.Enclosures.{multiple, whole_product};
-ghost use Rattle.mat_int.specs.Enclosures.{weighted_gram, gram_reach, enclosure_at, HasEnclosures, AllNear, SomeIsFar};
+ghost use Rattle.mat_int.specs.Enclosures.{weighted_gram, gram_magnitude, enclosure_at, HasEnclosures, AllNear, SomeIsFar};
 ghost use Rattle.enclosure.specs.Values.{pair};
 ghost use Rattle.enclosure.specs.Laws.{EnclosesGram};
 ghost use Rattle.enclosure.specs.Rows.{HasRow, IsFarInRow};
@@ -63,9 +63,9 @@ pub fn gram(alloc: Global, x: &EncMat, weights: &[i128]) -> Result<EncMat, MatFa
     ensures value { let n = x.now.mid.cols in IfOk result (λ g. HasEnclosures n n
         (weighted_gram (length weights.now) (at weights.now) (enclosure_at x.now.mid x.now.rad)) g.mid g.rad) }
     ensures near { let n = x.now.mid.cols in
-        OnOk result (AllNear n n (gram_reach (length weights.now) (at weights.now) (enclosure_at x.now.mid x.now.rad))) }
+        OnOk result (AllNear n n (gram_magnitude (length weights.now) (at weights.now) (enclosure_at x.now.mid x.now.rad))) }
     ensures wide { let n = x.now.mid.cols in result ≡ Err MatFault.Wide →
-        SomeIsFar n n (gram_reach (length weights.now) (at weights.now) (enclosure_at x.now.mid x.now.rad)) }
+        SomeIsFar n n (gram_magnitude (length weights.now) (at weights.now) (enclosure_at x.now.mid x.now.rad)) }
     ensures encloses { let n = x.now.mid.cols in IfOk result (λ g. (j l : ℕ) → j < n → l < n →
         EnclosesGram (length weights.now) (at weights.now) (enclosure_at x.now.mid x.now.rad) j l (enclosure_at g.mid g.rad j l)) }
 {
@@ -84,7 +84,7 @@ pub fn gram(alloc: Global, x: &EncMat, weights: &[i128]) -> Result<EncMat, MatFa
     Ok(EncMat { mid, rad })
 }
 
-// Row j of it, as midpoints and radii. None where what the terms of some entry reach is above `2^126`; then the rows hold anything.
+// Row j of it, as midpoints and radii. None where what the terms of some entry magnitude is above `2^126`; then the rows hold anything.
 fn gram_row(
     x: &EncMat,
     weights: &[i128],
@@ -102,9 +102,9 @@ fn gram_row(
     ensures rads { OnSome result (HasRow x.now.mid.cols
         (λ l. (weighted_gram (length weights.now) (at weights.now) (enclosure_at x.now.mid x.now.rad) j l).rad) rads.new) }
     ensures near { OnSome result ((l : ℕ) → l < x.now.mid.cols →
-        gram_reach (length weights.now) (at weights.now) (enclosure_at x.now.mid x.now.rad) j l ≤ℤ pos (2 ^ 126)) }
+        gram_magnitude (length weights.now) (at weights.now) (enclosure_at x.now.mid x.now.rad) j l ≤ℤ pos (2 ^ 126)) }
     ensures far { result ≡ None → IsFarInRow x.now.mid.cols
-        (gram_reach (length weights.now) (at weights.now) (enclosure_at x.now.mid x.now.rad) j) }
+        (gram_magnitude (length weights.now) (at weights.now) (enclosure_at x.now.mid x.now.rad) j) }
 {
     for l in 0..x.mid.cols() {
         let entry = gram_entry(x, weights, j, l)?;
@@ -114,7 +114,7 @@ fn gram_row(
     Some(())
 }
 
-// The entry in row j and column l. None where what its terms reach is above `2^126`.
+// The entry in row j and column l. None where what its terms magnitude is above `2^126`.
 fn gram_entry(x: &EncMat, weights: &[i128], j: usize, l: usize) -> Option<Enc>
     requires shape { length weights.now ≡ length x.now.mid.rows }
     requires signs { All (λ weight. pos 0 ≤ℤ weight) weights.now }
@@ -123,7 +123,7 @@ fn gram_entry(x: &EncMat, weights: &[i128], j: usize, l: usize) -> Option<Enc>
     ensures value { IfSome result (λ e. pair e ≡
         weighted_gram (length weights.now) (at weights.now) (enclosure_at x.now.mid x.now.rad) j l) }
     ensures room { IsSome result ↔
-        (gram_reach (length weights.now) (at weights.now) (enclosure_at x.now.mid x.now.rad) j l ≤ℤ pos (2 ^ 126)) }
+        (gram_magnitude (length weights.now) (at weights.now) (enclosure_at x.now.mid x.now.rad) j l ≤ℤ pos (2 ^ 126)) }
 {
     let mut sum = Sum::zero();
     for (i, weight) in weights.iter().enumerate() {

@@ -7,7 +7,7 @@ use crate::types::Enc;
 const LIMIT: u128 = 1 << 126;
 
 // The absolute value of the midpoint, and the radius.
-pub(crate) fn reach(a: Enc) -> u128
+pub(crate) fn magnitude(a: Enc) -> u128
     ensures { result ≡ unsigned_abs a.mid + unsigned_abs a.rad }
 {
     a.mid.unsigned_abs() + a.rad.unsigned_abs()

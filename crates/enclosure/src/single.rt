@@ -1,11 +1,11 @@
 // One enclosure, and what is made of two.
 ghost use Rattle.std.specs.Prelude.{◌≡◌, ◌↔◌, ◌^◌, IsTrue, IsSome, IfSome, pos, ◌+ℤ◌, ◌*ℤ◌, ◌≤ℤ◌, unsigned_abs};
 ghost use Rattle.integer_algebra.specs.Bounds.{absolute};
-ghost use Rattle.frac_scaled.specs.Enclosures.{Encloses, reach, inexact, divided, enclosed, sum_of, whole_product, product_of};
+ghost use Rattle.frac_scaled.specs.Enclosures.{Encloses, magnitude, inexact, divided, enclosed, sum_of, whole_product, product_of};
 ghost use Rattle.enclosure.specs.Values.{pair};
 ghost use Rattle.enclosure.specs.Laws.{EnclosesSum, EnclosesProduct};
 
-use crate::room::{limited_product, limited_sum, reach};
+use crate::room::{limited_product, limited_sum, magnitude};
 use crate::types::Enc;
 use frac_scaled::{ceil_div, round_div, scaled};
 
@@ -27,10 +27,10 @@ pub fn enclose(num: i128, den: i128) -> Option<Enc>
 /// The sum. None where the absolute values of both midpoints and both radii are together above `2^126`.
 pub fn add(a: Enc, b: Enc) -> Option<Enc>
     ensures value { IfSome result (λ e. pair e ≡ sum_of (pair a) (pair b)) }
-    ensures room { IsSome result ↔ ((reach (pair a) +ℤ reach (pair b)) ≤ℤ pos (2 ^ 126)) }
+    ensures room { IsSome result ↔ ((magnitude (pair a) +ℤ magnitude (pair b)) ≤ℤ pos (2 ^ 126)) }
     ensures encloses { IfSome result (λ e. EnclosesSum (pair a) (pair b) (pair e)) }
 {
-    limited_sum(reach(a), reach(b))?;
+    limited_sum(magnitude(a), magnitude(b))?;
     Some(Enc {
         mid: a.mid + b.mid,
         rad: a.rad + b.rad,
@@ -40,7 +40,7 @@ pub fn add(a: Enc, b: Enc) -> Option<Enc>
 /// The product. None where `(|a.mid| + a.rad) * (|b.mid| + b.rad)` is above `2^126`.
 pub fn mul(a: Enc, b: Enc) -> Option<Enc>
     ensures value { IfSome result (λ e. pair e ≡ product_of (pair a) (pair b)) }
-    ensures room { IsSome result ↔ ((reach (pair a) *ℤ reach (pair b)) ≤ℤ pos (2 ^ 126)) }
+    ensures room { IsSome result ↔ ((magnitude (pair a) *ℤ magnitude (pair b)) ≤ℤ pos (2 ^ 126)) }
     ensures encloses { IfSome result (λ e. EnclosesProduct (pair a) (pair b) (pair e)) }
 {
     Some(divided(whole_product(a, b)?, SCALE))
@@ -50,9 +50,9 @@ pub fn mul(a: Enc, b: Enc) -> Option<Enc>
 pub fn contains(a: Enc, num: i128, den: i128) -> Option<bool>
     requires { pos 1 ≤ℤ den }
     ensures value { IfSome result (λ yes. IsTrue yes ↔ Encloses (pair a) num den) }
-    ensures room { IsSome result ↔ ((pos (2 ^ 40) *ℤ absolute num +ℤ reach (pair a) *ℤ den) ≤ℤ pos (2 ^ 126)) }
+    ensures room { IsSome result ↔ ((pos (2 ^ 40) *ℤ absolute num +ℤ magnitude (pair a) *ℤ den) ≤ℤ pos (2 ^ 126)) }
 {
-    let far = limited_product(reach(a), den.unsigned_abs())?;
+    let far = limited_product(magnitude(a), den.unsigned_abs())?;
     limited_sum(limited_product(1 << 40, num.unsigned_abs())?, far)?;
     let off = scaled(num, 40) - a.mid * den;
     Some(off.abs() <= a.rad * den)
@@ -61,7 +61,7 @@ pub fn contains(a: Enc, num: i128, den: i128) -> Option<bool>
 // The enclosure over a divisor.
 pub(crate) fn divided(a: Enc, den: i128) -> Enc
     requires divisor { pos 1 ≤ℤ den }
-    requires room { reach (pair a) ≤ℤ pos (2 ^ 126) }
+    requires room { magnitude (pair a) ≤ℤ pos (2 ^ 126) }
     ensures { pair result ≡ divided (pair a) (unsigned_abs den) }
 {
     Enc {
@@ -78,12 +78,12 @@ fn inexact(num: i128, den: i128) -> i128
     if num % den == 0 { 0 } else { 1 }
 }
 
-// The product over `2^80`. None where what the operands reach is, multiplied, above `2^126`.
+// The product over `2^80`. None where what the operands magnitude is, multiplied, above `2^126`.
 pub(crate) fn whole_product(a: Enc, b: Enc) -> Option<Enc>
     ensures value { IfSome result (λ e. pair e ≡ whole_product (pair a) (pair b)) }
-    ensures room { IsSome result ↔ ((reach (pair a) *ℤ reach (pair b)) ≤ℤ pos (2 ^ 126)) }
+    ensures room { IsSome result ↔ ((magnitude (pair a) *ℤ magnitude (pair b)) ≤ℤ pos (2 ^ 126)) }
 {
-    let most = limited_product(reach(a), reach(b))?;
+    let most = limited_product(magnitude(a), magnitude(b))?;
     let mid = a.mid * b.mid;
     Some(Enc {
         mid,

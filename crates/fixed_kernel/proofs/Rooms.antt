@@ -2,11 +2,11 @@
 use Rattle.std.proofs.Common.{◌≡◌, ℕ, ◌+◌, ◌*◌, ◌^◌, ◌≤◌, ◌<◌, ℤ, List, length, unsigned_abs, arith}
 use Rattle.integer_algebra.specs.Sums.{at}
 use Rattle.integer_algebra.specs.Division.{ceil_div}
-use Rattle.mat_int.specs.Row.{dot, abs_dot}
+use Rattle.mat_int.specs.Row.{list_dot, abs_dot}
 use Rattle.mat_int.specs.Matrix.{row_of}
 use Rattle.mat_int.proofs.Dots.{abs-dot_le}
 use Rattle.qp_model.specs.Controller.{Numbers}
-use Rattle.qp_model.specs.AbsoluteSums.{state_reach, clamp_reach, plan_reach, IsController}
+use Rattle.qp_model.specs.AbsoluteSums.{state_magnitudes, clamp_magnitudes, plan_magnitudes, IsController}
 use Rattle.overflow_check.specs.Within.{AreWithin}
 use Rattle.overflow_check.proofs.Sizes.{length-state_reach, length-clamp_reach, length-plan_reach}
 use Rattle.overflow_check.proofs.SumLaws.{SumsFit, sums_fit, own_le, dual_le, entry_parts_le, planned_le, row_parts_le, row_le, next_le}
@@ -15,39 +15,39 @@ pub fit : (c : Numbers) → IsController c → SumsFit c (2 ^ 126)
 fit c s = sums_fit c (2 ^ 126) s.room
 
 -- ---- lengths
-pub state_long : (c : Numbers) (state : List ℤ) → IsController c → AreWithin state (state_reach c) → length state ≡ c.states
+pub state_long : (c : Numbers) (state : List ℤ) → IsController c → AreWithin state (state_magnitudes c) → length state ≡ c.states
 state_long c state s w = omega (arith, w.long, length-state_reach c s.form.sized)
 
-pub multipliers_long : (c : Numbers) (multipliers : List ℤ) → IsController c → AreWithin multipliers (clamp_reach c) → length multipliers ≡ c.rows
+pub multipliers_long : (c : Numbers) (multipliers : List ℤ) → IsController c → AreWithin multipliers (clamp_magnitudes c) → length multipliers ≡ c.rows
 multipliers_long c multipliers s w = omega (arith, w.long, length-clamp_reach c, s.form.sized.shaped.bounds)
 
-pub plan_long : (c : Numbers) (plan : List ℤ) → AreWithin plan (plan_reach c) → length plan ≡ length c.offsets
+pub plan_long : (c : Numbers) (plan : List ℤ) → AreWithin plan (plan_magnitudes c) → length plan ≡ length c.offsets
 plan_long c plan w = omega (arith, w.long, length-plan_reach c)
 
 -- ---- rooms
-pub own_room : (c : Numbers) (state : List ℤ) (j : ℕ) → IsController c → j < length c.offsets → AreWithin state (state_reach c) → abs_dot (row_of c.state_gains j) state < 2 ^ 127
+pub own_room : (c : Numbers) (state : List ℤ) (j : ℕ) → IsController c → j < length c.offsets → AreWithin state (state_magnitudes c) → abs_dot (row_of c.state_gains j) state < 2 ^ 127
 own_room c state j s h w = omega (arith, own_le c state j w, (fit c s).entries j h)
 
-pub dual_room : (c : Numbers) (multipliers : List ℤ) (j : ℕ) → IsController c → j < length c.offsets → AreWithin multipliers (clamp_reach c) → abs_dot (row_of c.dual_gains j) multipliers < 2 ^ 127
+pub dual_room : (c : Numbers) (multipliers : List ℤ) (j : ℕ) → IsController c → j < length c.offsets → AreWithin multipliers (clamp_magnitudes c) → abs_dot (row_of c.dual_gains j) multipliers < 2 ^ 127
 dual_room c multipliers j s h w = omega (arith, dual_le c multipliers j w, (fit c s).entries j h)
 
-pub entry_room : (c : Numbers) (state multipliers : List ℤ) (j : ℕ) → IsController c → j < length c.offsets → AreWithin state (state_reach c) → AreWithin multipliers (clamp_reach c) →
-    (unsigned_abs (dot (row_of c.state_gains j) state) + unsigned_abs (at c.offsets j) * 2 ^ c.fraction_bits) * 2 ^ c.step_exponent + unsigned_abs (dot (row_of c.dual_gains j) multipliers) ≤ 2 ^ 126
+pub entry_room : (c : Numbers) (state multipliers : List ℤ) (j : ℕ) → IsController c → j < length c.offsets → AreWithin state (state_magnitudes c) → AreWithin multipliers (clamp_magnitudes c) →
+    (unsigned_abs (list_dot (row_of c.state_gains j) state) + unsigned_abs (at c.offsets j) * 2 ^ c.fraction_bits) * 2 ^ c.step_exponent + unsigned_abs (list_dot (row_of c.dual_gains j) multipliers) ≤ 2 ^ 126
 entry_room c state multipliers j s h w v =
     omega (arith, abs-dot_le (row_of c.dual_gains j) multipliers, entry_parts_le c state multipliers j w v, (fit c s).entries j h)
 
-pub planned_room : (c : Numbers) (plan : List ℤ) (i : ℕ) → IsController c → i < length c.bounds → AreWithin plan (plan_reach c) → abs_dot (row_of c.plan_rows i) plan < 2 ^ 127
+pub planned_room : (c : Numbers) (plan : List ℤ) (i : ℕ) → IsController c → i < length c.bounds → AreWithin plan (plan_magnitudes c) → abs_dot (row_of c.plan_rows i) plan < 2 ^ 127
 planned_room c plan i s h w = omega (arith, planned_le c plan i w, (fit c s).rows i h)
 
-pub state_room : (c : Numbers) (state plan : List ℤ) (i : ℕ) → IsController c → i < length c.bounds → AreWithin state (state_reach c) → AreWithin plan (plan_reach c) → abs_dot (row_of c.state_rows i) state < 2 ^ 127
+pub state_room : (c : Numbers) (state plan : List ℤ) (i : ℕ) → IsController c → i < length c.bounds → AreWithin state (state_magnitudes c) → AreWithin plan (plan_magnitudes c) → abs_dot (row_of c.state_rows i) state < 2 ^ 127
 state_room c state plan i s h w v = omega (arith, row_parts_le c state plan i w v, (fit c s).rows i h)
 
-pub row_room : (c : Numbers) (state plan : List ℤ) (i : ℕ) → IsController c → i < length c.bounds → AreWithin state (state_reach c) → AreWithin plan (plan_reach c) →
-    unsigned_abs (dot (row_of c.plan_rows i) plan) + unsigned_abs (dot (row_of c.state_rows i) state) + unsigned_abs (at c.bounds i) * 2 ^ c.fraction_bits ≤ 2 ^ 126
+pub row_room : (c : Numbers) (state plan : List ℤ) (i : ℕ) → IsController c → i < length c.bounds → AreWithin state (state_magnitudes c) → AreWithin plan (plan_magnitudes c) →
+    unsigned_abs (list_dot (row_of c.plan_rows i) plan) + unsigned_abs (list_dot (row_of c.state_rows i) state) + unsigned_abs (at c.bounds i) * 2 ^ c.fraction_bits ≤ 2 ^ 126
 row_room c state plan i s h w v = omega (arith, row_le c state plan i w v, (fit c s).rows i h)
 
-pub next_room : (c : Numbers) (state plan : List ℤ) (old : ℤ) (i : ℕ) → IsController c → i < length c.bounds → unsigned_abs old ≤ unsigned_abs c.clamp → AreWithin state (state_reach c) → AreWithin plan (plan_reach c) →
-    unsigned_abs old + ceil_div (unsigned_abs (dot (row_of c.plan_rows i) plan) + unsigned_abs (dot (row_of c.state_rows i) state) + unsigned_abs (at c.bounds i) * 2 ^ c.fraction_bits) (2 ^ c.fraction_bits) ≤ 2 ^ 126
+pub next_room : (c : Numbers) (state plan : List ℤ) (old : ℤ) (i : ℕ) → IsController c → i < length c.bounds → unsigned_abs old ≤ unsigned_abs c.clamp → AreWithin state (state_magnitudes c) → AreWithin plan (plan_magnitudes c) →
+    unsigned_abs old + ceil_div (unsigned_abs (list_dot (row_of c.plan_rows i) plan) + unsigned_abs (list_dot (row_of c.state_rows i) state) + unsigned_abs (at c.bounds i) * 2 ^ c.fraction_bits) (2 ^ c.fraction_bits) ≤ 2 ^ 126
 next_room c state plan old i s h le w v = omega (arith, next_le c state plan old i le w v, (fit c s).next i h)
 
 -- the bits of a plan entry's shift

@@ -7,7 +7,7 @@ use Rattle.std.proofs.Math.Nat.{mul-div_cancel, div-eq_of_lt-le}
 use Rattle.integer_algebra.specs.Division.{floor_of}
 use Rattle.integer_algebra.specs.Sums.{at}
 use Rattle.qp_model.specs.Controller.{Numbers, IsSized}
-use Rattle.qp_model.specs.Machine.{IsGridState, loaded}
+use Rattle.qp_model.specs.Machine.{IsAdmissible, loaded}
 use Rattle.overflow_check.proofs.Absolute.{abs-shifted}
 use Rattle.fixed_kernel.specs.Progress.{unloaded}
 
@@ -31,17 +31,17 @@ unloaded-loaded c xi = floors-scaled (2 ^ (c.fraction_bits - c.grid_bits)) (pow_
 below_between : (low x high : ℤ) → low ≤ℤ x → x ≤ℤ high → unsigned_abs low < 2 ^ 31 → unsigned_abs high < 2 ^ 31 → unsigned_abs x < 2 ^ 31
 below_between low x high h l p q = omega (arith, ints, h, l, p, q)
 
-coordinate_below : (c : Numbers) (xi : List ℤ) (i : ℕ) → IsSized c → IsGridState c xi → i < c.states → unsigned_abs (at xi i) < 2 ^ 31
+coordinate_below : (c : Numbers) (xi : List ℤ) (i : ℕ) → IsSized c → IsAdmissible c xi → i < c.states → unsigned_abs (at xi i) < 2 ^ 31
 coordinate_below c xi i s g h =
     below_between (at c.low i) (at xi i) (at c.high i) (g.each i h).low (g.each i h).high (s.low i (pos 0) (omega (arith, s.shaped.low, h))) (s.high i (pos 0) (omega (arith, s.shaped.high, h)))
 
 -- a coordinate over 2^fraction_bits fits the word
-pub coordinate_fits : (c : Numbers) (xi : List ℤ) (i : ℕ) → IsSized c → IsGridState c xi → i < c.states → FitsSigned w128 (at xi i *ℤ pos (2 ^ (c.fraction_bits - c.grid_bits)))
+pub coordinate_fits : (c : Numbers) (xi : List ℤ) (i : ℕ) → IsSized c → IsAdmissible c xi → i < c.states → FitsSigned w128 (at xi i *ℤ pos (2 ^ (c.fraction_bits - c.grid_bits)))
 coordinate_fits c xi i s g h =
     let k = c.fraction_bits - c.grid_bits in
     let small : unsigned_abs (at xi i) * 2 ^ k < 2 ^ 31 * 2 ^ 49 = mul-lt (unsigned_abs (at xi i)) (2 ^ k) (2 ^ 31) (2 ^ 49) (coordinate_below c xi i s g h) (pow_below k 49 (omega (arith, s.fraction_bits))) in
     fits_signed_from_abs w128 _ (omega (arith, abs-shifted (at xi i) k, small))
 
 -- the least state of the box lies in it
-pub low_inside : (c : Numbers) → IsSized c → IsGridState c c.low
+pub low_inside : (c : Numbers) → IsSized c → IsAdmissible c c.low
 low_inside c s = record { long = s.shaped.low; each = λ i h. record { low = omega (arith, ints); high = s.box i h } }

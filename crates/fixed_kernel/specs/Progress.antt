@@ -2,7 +2,7 @@
 use Rattle.std.specs.Prelude.{◌≡◌, ℕ, ◌-◌, ◌^◌, ◌≤◌, ℤ, List, map, IsTrue}
 use Rattle.integer_algebra.specs.Division.{floor_of}
 use Rattle.qp_model.specs.Controller.{Numbers}
-use Rattle.qp_model.specs.Machine.{Made, IsGridState, loaded, after}
+use Rattle.qp_model.specs.Machine.{Iterate, IsAdmissible, loaded, after}
 use Rattle.qp_model.specs.AbsoluteSums.{IsController}
 use Rattle.fixed_kernel.specs.Factors.{HasNarrowFactors}
 use Rattle.fixed_kernel.specs.declared.kernel.Kernel.TheInside.{Inside}
@@ -14,8 +14,8 @@ pub record Progress : Type 0 where
   pub made : ℕ
 
 -- the plan, the multipliers and the sums after so many steps
-abbrev pub values_of : Progress → Made
-values_of k = after k.controller (loaded k.controller k.state) k.made
+abbrev pub iterate_of : Progress → Iterate
+iterate_of k = after k.controller (loaded k.controller k.state) k.made
 
 -- the grid state of a state over 2^fraction_bits
 abbrev pub unloaded : Numbers → List ℤ → List ℤ
@@ -29,7 +29,7 @@ progress_of k = record { controller = k.controller.now; state = unloaded k.contr
 pub record IsReached (k : Inside) : Type 0 where
   pub sound : IsController k.controller.now
   pub made : k.made ≤ k.controller.now.steps
-  pub grid : IsGridState k.controller.now (unloaded k.controller.now k.state.items)
+  pub grid : IsAdmissible k.controller.now (unloaded k.controller.now k.state.items)
   pub state : k.state.items ≡ loaded k.controller.now (unloaded k.controller.now k.state.items)
-  pub values : record { plan = k.plan.items; multipliers = k.multipliers.items; sums = k.sums.items } ≡ values_of (progress_of k)
+  pub values : record { plan = k.plan.items; multipliers = k.multipliers.items; sums = k.sums.items } ≡ iterate_of (progress_of k)
   pub narrow : IsTrue k.narrow → HasNarrowFactors k.controller.now

@@ -2,7 +2,7 @@
 ghost use Rattle.std.specs.Prelude.{◌≡◌, ◌<◌, ◌≤◌, ◌+◌, ◌↔◌, length, IsOk, IfOk, IfErr, OnOk, OnErr};
 ghost use Rattle.integer_algebra.specs.Sums.{at};
 ghost use Rattle.qp_model.specs.Controller.{plan_length};
-ghost use Rattle.qp_model.specs.Machine.{IsGridState, loaded, step_of, run_of};
+ghost use Rattle.qp_model.specs.Machine.{IsAdmissible, loaded, step_of, run_of};
 ghost use Rattle.fixed_kernel.specs.Outside.{IsFirstOutside};
 
 use crate::narrow::has_narrow_factors;
@@ -37,7 +37,7 @@ impl<'a> Model for Kernel<'a> {
 }
 
 impl<'a> Kernel<'a> {
-    ghost use Rattle.fixed_kernel.specs.Progress.{values_of};
+    ghost use Rattle.fixed_kernel.specs.Progress.{iterate_of};
 
     /// A kernel with the least state of the box loaded and no step made. It takes all the memory that the kernel ever uses.
     pub fn prepare(alloc: Global, controller: &'a Controller) -> Result<Kernel<'a>, AllocError>
@@ -64,7 +64,7 @@ impl<'a> Kernel<'a> {
     /// nothing changes.
     pub fn load(&mut self, state: &[i128]) -> Result<(), OutsideBox>
         requires { length state.now ≡ self.old.controller.states }
-        ensures inside { IsOk result ↔ IsGridState self.old.controller state.now }
+        ensures inside { IsOk result ↔ IsAdmissible self.old.controller state.now }
         ensures first { IfErr result (λ e. IsFirstOutside self.old.controller state.now e.coordinate) }
         ensures ok { OnOk result (self.new ≡ record self.old { state = state.now; made = 0 }) }
         ensures err { OnErr result (self.new ≡ self.old) }
@@ -86,7 +86,7 @@ impl<'a> Kernel<'a> {
     pub fn step(&mut self)
         requires { self.old.made < self.old.controller.steps }
         ensures made { self.new ≡ record self.old { made = self.old.made + 1 } }
-        ensures values { values_of self.new ≡ step_of self.old.controller (loaded self.old.controller self.old.state) (values_of self.old) }
+        ensures values { iterate_of self.new ≡ step_of self.old.controller (loaded self.old.controller self.old.state) (iterate_of self.old) }
     {
         advance(
             self.controller.parts(),
@@ -112,10 +112,10 @@ impl<'a> Kernel<'a> {
     /// nothing changes.
     pub fn run(&mut self, state: &[i128]) -> Result<(), OutsideBox>
         requires { length state.now ≡ self.old.controller.states }
-        ensures inside { IsOk result ↔ IsGridState self.old.controller state.now }
+        ensures inside { IsOk result ↔ IsAdmissible self.old.controller state.now }
         ensures first { IfErr result (λ e. IsFirstOutside self.old.controller state.now e.coordinate) }
         ensures ok { OnOk result (self.new ≡ record self.old { state = state.now; made = self.old.controller.steps }) }
-        ensures values { OnOk result (values_of self.new ≡ run_of self.old.controller state.now) }
+        ensures values { OnOk result (iterate_of self.new ≡ run_of self.old.controller state.now) }
         ensures err { OnErr result (self.new ≡ self.old) }
         ensures controller { self.new.controller ≡ self.old.controller }
     {
@@ -135,7 +135,7 @@ impl<'a> Kernel<'a> {
     /// The sum of plan entry `j` over the steps made, over `2^f`.
     pub fn sum(&self, j: usize) -> i128
         requires { j < plan_length self.now.controller }
-        ensures { result ≡ at (values_of self.now).sums j }
+        ensures { result ≡ at (iterate_of self.now).sums j }
     {
         self.sums[j]
     }
@@ -143,7 +143,7 @@ impl<'a> Kernel<'a> {
     /// Multiplier `i`, over `2^(f+s)`.
     pub fn multiplier(&self, i: usize) -> i128
         requires { i < self.now.controller.rows }
-        ensures { result ≡ at (values_of self.now).multipliers i }
+        ensures { result ≡ at (iterate_of self.now).multipliers i }
     {
         self.multipliers[i]
     }
@@ -151,7 +151,7 @@ impl<'a> Kernel<'a> {
     /// Entry `j` of the last plan, over `2^f`.
     pub fn last(&self, j: usize) -> i128
         requires { j < plan_length self.now.controller }
-        ensures { result ≡ at (values_of self.now).plan j }
+        ensures { result ≡ at (iterate_of self.now).plan j }
     {
         self.plan[j]
     }
@@ -159,7 +159,7 @@ impl<'a> Kernel<'a> {
     /// The controller. The kernel's state lies in its box.
     pub fn controller(&self) -> &Controller
         ensures value { result.now ≡ self.now.controller }
-        ensures state { IsGridState self.now.controller self.now.state }
+        ensures state { IsAdmissible self.now.controller self.now.state }
     {
         self.controller
     }

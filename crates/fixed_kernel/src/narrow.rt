@@ -1,7 +1,7 @@
 // Sums of products whose factors fit words of 64 bits: each product is then one multiplication of the processor's, in place of three.
 ghost use Rattle.std.specs.Prelude.{◌≡◌, ◌<◌, ◌^◌, ◌↔◌, IsTrue, All, length, ◌+ℤ◌, ◌*ℤ◌, FitsSigned};
 ghost use Rattle.std.specs.Int.{w128};
-ghost use Rattle.mat_int.specs.Row.{dot, abs_dot};
+ghost use Rattle.mat_int.specs.Row.{list_dot, abs_dot};
 ghost use Rattle.qp_model.specs.Controller.{numbers, IsSized};
 ghost use Rattle.fixed_kernel.specs.InHalves.{whole};
 ghost use Rattle.fixed_kernel.specs.Factors.{IsNarrow, IsNarrowCoordinate, HasNarrowFactors};
@@ -99,7 +99,7 @@ fn narrow_dot(xs: &[i128], ys: &[i128]) -> i128
     requires left { All IsNarrow xs.now }
     requires right { All IsNarrow ys.now }
     requires room { abs_dot xs.now ys.now < 2 ^ 127 }
-    ensures { result ≡ dot xs.now ys.now }
+    ensures { result ≡ list_dot xs.now ys.now }
 {
     let mut sum = Halves { high: 0, low: 0 };
     for (i, x) in xs.iter().enumerate() {
@@ -114,7 +114,7 @@ pub fn sum_of_products(narrow: bool, xs: &[i128], ys: &[i128]) -> i128
     requires left { IsTrue narrow → All IsNarrow xs.now }
     requires right { IsTrue narrow → All IsNarrow ys.now }
     requires room { abs_dot xs.now ys.now < 2 ^ 127 }
-    ensures { result ≡ dot xs.now ys.now }
+    ensures { result ≡ list_dot xs.now ys.now }
 {
     if narrow {
         narrow_dot(xs, ys)

@@ -1,7 +1,7 @@
 // States of the box.
 ghost use Rattle.std.specs.Prelude.{◌≡◌, ◌↔◌, length, pos, replicate, IsNone, IfSome, IfOk};
 ghost use Rattle.qp_model.specs.Controller.{numbers};
-ghost use Rattle.qp_model.specs.Machine.{IsGridState, loaded};
+ghost use Rattle.qp_model.specs.Machine.{IsAdmissible, loaded};
 ghost use Rattle.qp_model.specs.AbsoluteSums.{IsController};
 ghost use Rattle.fixed_kernel.specs.Outside.{IsFirstOutside};
 
@@ -22,7 +22,7 @@ pub struct OutsideBox {
 pub fn first_outside(c: &ControllerParts, state: &[i128]) -> Option<u32>
     requires sound { IsController (numbers c.now) }
     requires long { length state.now ≡ c.now.n }
-    ensures inside { IsNone result ↔ IsGridState (numbers c.now) state.now }
+    ensures inside { IsNone result ↔ IsAdmissible (numbers c.now) state.now }
     ensures first { IfSome result (λ k. IsFirstOutside (numbers c.now) state.now k) }
 {
     let mut coordinate = 1;
@@ -38,7 +38,7 @@ pub fn first_outside(c: &ControllerParts, state: &[i128]) -> Option<u32>
 // Puts a grid state over `2^f`.
 pub fn load_state(c: &ControllerParts, state: &[i128], out: &mut [i128])
     requires sound { IsController (numbers c.now) }
-    requires inside { IsGridState (numbers c.now) state.now }
+    requires inside { IsAdmissible (numbers c.now) state.now }
     requires long { length out.old ≡ c.now.n }
     ensures { out.new ≡ loaded (numbers c.now) state.now }
 {

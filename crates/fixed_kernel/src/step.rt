@@ -3,7 +3,7 @@ ghost use Rattle.std.specs.Prelude.{◌≡◌, ◌≤◌, ◌<◌, ◌+◌, ◌^
 ghost use Rattle.integer_algebra.specs.Sums.{at};
 ghost use Rattle.qp_model.specs.Controller.{numbers};
 ghost use Rattle.qp_model.specs.Machine.{plan_entry, plan_of, next_multiplier, next_multipliers, added, step_of};
-ghost use Rattle.qp_model.specs.AbsoluteSums.{IsController, clamp_reach, state_reach, plan_reach};
+ghost use Rattle.qp_model.specs.AbsoluteSums.{IsController, clamp_magnitudes, state_magnitudes, plan_magnitudes};
 ghost use Rattle.overflow_check.specs.Within.{AreWithin};
 ghost use Rattle.fixed_kernel.specs.Factors.{HasNarrowFactors};
 
@@ -21,8 +21,8 @@ fn entry_at(
 ) -> i128
     requires sound { IsController (numbers c.now) }
     requires narrow { IsTrue narrow → HasNarrowFactors (numbers c.now) }
-    requires state { AreWithin state.now (state_reach (numbers c.now)) }
-    requires multipliers { AreWithin multipliers.now (clamp_reach (numbers c.now)) }
+    requires state { AreWithin state.now (state_magnitudes (numbers c.now)) }
+    requires multipliers { AreWithin multipliers.now (clamp_magnitudes (numbers c.now)) }
     requires in_range { j < length c.now.t.items }
     ensures { result ≡ plan_entry (numbers c.now) state.now multipliers.now j }
 {
@@ -41,8 +41,8 @@ fn make_plan(
 )
     requires sound { IsController (numbers c.now) }
     requires narrow { IsTrue narrow → HasNarrowFactors (numbers c.now) }
-    requires state { AreWithin state.now (state_reach (numbers c.now)) }
-    requires multipliers { AreWithin multipliers.now (clamp_reach (numbers c.now)) }
+    requires state { AreWithin state.now (state_magnitudes (numbers c.now)) }
+    requires multipliers { AreWithin multipliers.now (clamp_magnitudes (numbers c.now)) }
     requires plan { length plan.old ≡ length c.now.t.items }
     ensures { plan.new ≡ plan_of (numbers c.now) state.now multipliers.now }
 {
@@ -62,8 +62,8 @@ fn multiplier_at(
 ) -> i128
     requires sound { IsController (numbers c.now) }
     requires narrow { IsTrue narrow → HasNarrowFactors (numbers c.now) }
-    requires state { AreWithin state.now (state_reach (numbers c.now)) }
-    requires plan { AreWithin plan.now (plan_reach (numbers c.now)) }
+    requires state { AreWithin state.now (state_magnitudes (numbers c.now)) }
+    requires plan { AreWithin plan.now (plan_magnitudes (numbers c.now)) }
     requires old { unsigned_abs old ≤ unsigned_abs c.now.clamp }
     requires in_range { i < length c.now.bound.items }
     ensures { result ≡ next_multiplier (numbers c.now) state.now plan.now old i }
@@ -83,9 +83,9 @@ fn move_multipliers(
 )
     requires sound { IsController (numbers c.now) }
     requires narrow { IsTrue narrow → HasNarrowFactors (numbers c.now) }
-    requires state { AreWithin state.now (state_reach (numbers c.now)) }
-    requires plan { AreWithin plan.now (plan_reach (numbers c.now)) }
-    requires multipliers { AreWithin multipliers.old (clamp_reach (numbers c.now)) }
+    requires state { AreWithin state.now (state_magnitudes (numbers c.now)) }
+    requires plan { AreWithin plan.now (plan_magnitudes (numbers c.now)) }
+    requires multipliers { AreWithin multipliers.old (clamp_magnitudes (numbers c.now)) }
     ensures { multipliers.new ≡ next_multipliers (numbers c.now) state.now plan.now multipliers.old }
 {
     for (i, l) in multipliers.iter_mut().enumerate() {
@@ -115,11 +115,11 @@ pub fn advance(
 )
     requires sound { IsController (numbers c.now) }
     requires narrow { IsTrue narrow → HasNarrowFactors (numbers c.now) }
-    requires state { AreWithin state.now (state_reach (numbers c.now)) }
+    requires state { AreWithin state.now (state_magnitudes (numbers c.now)) }
     requires plan { length plan.old ≡ length c.now.t.items }
-    requires multipliers { AreWithin multipliers.old (clamp_reach (numbers c.now)) }
+    requires multipliers { AreWithin multipliers.old (clamp_magnitudes (numbers c.now)) }
     requires sums { length sums.old ≡ length c.now.t.items }
-    requires room { (k : ℕ) → k < length c.now.t.items → unsigned_abs (at sums.old k) + slice_index_or (plan_reach (numbers c.now)) k 0 ≤ 2 ^ 126 }
+    requires room { (k : ℕ) → k < length c.now.t.items → unsigned_abs (at sums.old k) + slice_index_or (plan_magnitudes (numbers c.now)) k 0 ≤ 2 ^ 126 }
     ensures { record { plan = plan.new; multipliers = multipliers.new; sums = sums.new } ≡ step_of (numbers c.now) state.now (record { plan = plan.old; multipliers = multipliers.old; sums = sums.old }) }
 {
     make_plan(c, narrow, state, multipliers, plan);

@@ -11,7 +11,7 @@ use Rattle.integer_algebra.proofs.OrderLaws.{le_by, lt_by, le_of_lt_z, mul_pos_z
 use Rattle.integer_algebra.proofs.Expression.{v, ◌⊗◌}
 use Rattle.integer_algebra.proofs.Certificates.{known, ◌≐◌, eq_by_certificate}
 use Rattle.integer_algebra.proofs.Quoting.{by_ring, quotes}
-use Rattle.frac_scaled.specs.Enclosures.{Enclosure, Encloses, inexact, divided, enclosed, whole, sum_of, multiple, whole_product, product_of}
+use Rattle.frac_scaled.specs.Enclosures.{Enclosure, Encloses, inexact, divided, enclosed, exactly, sum_of, multiple, whole_product, product_of}
 
 -- ---- within bounds
 -- an absolute value is at most a bound where the number is within it
@@ -75,9 +75,9 @@ pub rounded_within : (z : ℤ) (d : ℕ) → 0 < d → IsWithin (inexact z d *�
 rounded_within z d p = elim (cases_eq (unsigned_abs z % d) 0) [
   | inl e ↦
       let q = quotient_is z d p e in
-      let whole : round_of z d *ℤ pos d ≡ z = round_exact z d q.0 p q.1 in
+      let exactly : round_of z d *ℤ pos d ≡ z = round_exact z d q.0 p q.1 in
       let none : inexact z d ≡ pos 0 = grind arith in
-      rw (none, whole) (record { below = omega (arith, ints); above = omega (arith, ints) })
+      rw (none, exactly) (record { below = omega (arith, ints); above = omega (arith, ints) })
   | inr n ↦
       let one : inexact z d ≡ pos 1 = grind arith in
       rw one (near z (round_of z d *ℤ pos d) (pos d) (round_of_bounds z d p).0 (round_of_bounds z d p).1)
@@ -165,7 +165,7 @@ pub enclosed_law : (num : ℤ) (den : ℕ) → 0 < den → Encloses (enclosed nu
 enclosed_law num den p = within_encloses _ _ _ (rounded_within (pos (2 ^ 40) *ℤ num) den p)
 
 -- a whole number, over any denominator
-pub whole_law : (n q : ℤ) → Encloses (whole n) (n *ℤ q) q
+pub whole_law : (n q : ℤ) → Encloses (exactly n) (n *ℤ q) q
 whole_law n q = within_encloses _ _ _ (exact _ _ (by_ring (q ∷ []) (search quotes depth 60 fits 20000) refl) (by_ring (n ∷ q ∷ []) (search quotes depth 60 fits 20000) refl))
   where
     exact : (b x : ℤ) → b ≡ pos 0 → x ≡ pos 0 → IsWithin b x

@@ -13,8 +13,8 @@ pub record Encloses (e : Enclosure) (num den : ℤ) : Type 0 where
   pub near : absolute (pos (2 ^ 40) *ℤ num -ℤ e.mid *ℤ den) ≤ℤ (e.rad *ℤ den)
 
 -- the greatest absolute value of a fraction that e stands for, over 2^40
-abbrev pub reach : Enclosure → ℤ
-reach e = absolute e.mid +ℤ e.rad
+abbrev pub magnitude : Enclosure → ℤ
+magnitude e = absolute e.mid +ℤ e.rad
 
 -- 0 where d divides z, and else 1, which is more than z / d is rounded by
 abbrev pub inexact : ℤ → ℕ → ℤ
@@ -29,8 +29,8 @@ abbrev pub enclosed : ℤ → ℕ → Enclosure
 enclosed num den = record { mid = round_of (pos (2 ^ 40) *ℤ num) den; rad = inexact (pos (2 ^ 40) *ℤ num) den }
 
 -- the whole number n, exactly
-abbrev pub whole : ℤ → Enclosure
-whole n = record { mid = pos (2 ^ 40) *ℤ n; rad = pos 0 }
+abbrev pub exactly : ℤ → Enclosure
+exactly n = record { mid = pos (2 ^ 40) *ℤ n; rad = pos 0 }
 
 -- a + b
 abbrev pub sum_of : Enclosure → Enclosure → Enclosure

@@ -2,8 +2,8 @@
 use Rattle.std.proofs.Common.{◌≡◌, inl, inr, ℕ, zero, suc, ◌+◌, ◌*◌, ◌^◌, ◌<◌, ◌≤◌, ◌⊎◌, min, nat_le, Bool, true, false, if◌then◌else◌, ℤ, ◌≤ℤ◌, ◌<ℤ◌, Option, Some, None, arith, sym, ◌∙◌, refl}
 use Rattle.std.specs.Prelude.{unwrap_or}
 use Rattle.std.specs.Option.{option_or}
-use Rattle.integer_algebra.specs.Matrices.{IsDominant, others}
-use Rattle.hessian_check.specs.Curvature.{IsCertified, IsCertifiedBelow, IsChosen, IsDominantAt, IsFirst, IsLeast, IsLeastBelow}
+use Rattle.integer_algebra.specs.Matrices.{IsDominant, off_diagonal_sum}
+use Rattle.hessian_check.specs.Curvature.{HasPassingRoot, HasPassingRootBelow, IsChosen, IsDominantAt, IsFirst, IsLeast, IsLeastBelow}
 use Rattle.hessian_check.specs.Exponents.{IsEither}
 use Rattle.qp_model.specs.Design.{Design}
 use Rattle.qp_model.specs.CurvatureSize.{CoversSquares, floor_times, least_up_to, limit_squares, squares_exponent}
@@ -19,7 +19,7 @@ pub either_made : (n : ℕ) (m : ℕ → ℕ → ℕ → ℤ) (o squares : Optio
 either_made n m None squares s1 e h = inr (λ s l. h s (omega arith), e)
 either_made n m (Some d) squares s1 e h = let f : d ≡ s1 = cc in inl (omega (arith, f, h.0), rw (← f) h.1)
 
-pub chosen_made : (n : ℕ) (m : ℕ → ℕ → ℕ → ℤ) (s1 : ℕ) (o : Option ℕ) → IsLeastBelow s1 (λ s. IsCertified n (m s)) o → IsChosen n m s1 (unwrap_or o s1)
+pub chosen_made : (n : ℕ) (m : ℕ → ℕ → ℕ → ℤ) (s1 : ℕ) (o : Option ℕ) → IsLeastBelow s1 (λ s. HasPassingRoot n (m s)) o → IsChosen n m s1 (unwrap_or o s1)
 chosen_made n m s1 None h = inr (λ k p. h k p.0 p.1, refl)
 chosen_made n m s1 (Some s) h = inl (record { holds = (h.0, h.1.holds); least = λ k l p. h.1.least k l p.1 })
 
@@ -50,7 +50,7 @@ pub record IsTest (t : ℕ → Bool) (p : ℕ → Type 0) : Type 0 where
   pub no : (k : ℕ) → ¬ p k → t k ≡ false
 
 dominant_decided : (n : ℕ) (a : ℕ → ℕ → ℤ) → Choice (IsDominant n a)
-dominant_decided n a = each_decided (λ i. others n a i ≤ℤ a i i) (λ i. le_decided (others n a i) (a i i)) n
+dominant_decided n a = each_decided (λ i. off_diagonal_sum n a i ≤ℤ a i i) (λ i. le_decided (off_diagonal_sum n a i) (a i i)) n
 
 at_decided : (n : ℕ) (m : ℕ → ℕ → ℕ → ℤ) (s : ℕ) → Choice (IsDominantAt n m s)
 at_decided n m s = elim (cases_lt s 41) [

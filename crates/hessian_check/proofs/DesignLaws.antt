@@ -13,7 +13,7 @@ use Rattle.integer_algebra.proofs.SumLaws.{total_same, total_scale}
 use Rattle.integer_algebra.proofs.VectorLaws.{dot_same, image_none, quadratic_scale}
 use Rattle.qp_model.specs.Design.{Design, CostRow, entries, rows}
 use Rattle.qp_model.specs.Condensed.{Condensed, IsCondensed}
-use Rattle.qp_model.specs.Condensing.{numbers_of, over_costs, cost_plan, own_input}
+use Rattle.qp_model.specs.Condensing.{condensed_of, over_costs, cost_plan, own_input}
 use Rattle.qp_model.specs.Columns.{input_floor}
 use Rattle.qp_model.specs.Cost.{cost_scale}
 use Rattle.qp_model.specs.CurvatureSize.{CoversSquares, limit_squares, floor_times}
@@ -23,7 +23,7 @@ use Rattle.qp_model.specs.Residual.{residual, residual_scale}
 use Rattle.qp_model.specs.Sound.{IsSound}
 use Rattle.qp_model.proofs.CurvatureLaws.{hessian_law, curvature_law}
 use Rattle.hessian_check.specs.Dominance.{IsSymmetric, form}
-use Rattle.hessian_check.specs.Curvature.{Curved, gap, row_squares, IsExponent, IsFloored, CoversAll}
+use Rattle.hessian_check.specs.Curvature.{Curved, exponent_matrix, row_squares, BoundsRows, IsFloored, CoversAll}
 use Rattle.hessian_check.specs.Steps.{curved_of, floor_of_design}
 use Rattle.hessian_check.proofs.SquareLaws.{squares_row, sum_pos}
 
@@ -42,7 +42,7 @@ costs_two d f = joined (total d.stages (λ k. total d.stage_costs (λ r. f (suc 
     joined x y e g = omega (arith, ints, e, g)
 
 -- the hessian is even
-pub hessian_even : (d : Design) (i j : ℕ) → (numbers_of d).hessian i j ≡ pos 2 *ℤ (curved_of d).half i j
+pub hessian_even : (d : Design) (i j : ℕ) → (condensed_of d).hessian i j ≡ pos 2 *ℤ (curved_of d).half i j
 hessian_even d i j = doubled _ (over_costs d (λ k r. r.weight *ℤ (cost_plan d k r i *ℤ cost_plan d k r j)) +ℤ
     total d.stages (λ k. total d.inputs (λ l. d.input_weight l *ℤ (own_input d k l i *ℤ own_input d k l j)))) (joined
     (over_costs d (λ k r. r.weight *ℤ (cost_plan d k r i *ℤ cost_plan d k r j)))
@@ -57,7 +57,7 @@ hessian_even d i j = doubled _ (over_costs d (λ k r. r.weight *ℤ (cost_plan d
     doubled : (h x : ℤ) → h ≡ pos 2 *ℤ x → h ≡ pos 2 *ℤ floor_of h 2
     doubled h x e = rw (e, half_two x) refl
 
-pub half_turned : (d : Design) → IsCondensed d (numbers_of d) → IsSymmetric (entries d) (curved_of d).half
+pub half_turned : (d : Design) → IsCondensed d (condensed_of d) → IsSymmetric (entries d) (curved_of d).half
 half_turned d c i j l m = ap (λ (z : ℤ). floor_of z 2) (c.symmetric i j l m)
 
 -- ---- rows and cost of a plan
@@ -83,14 +83,14 @@ changes_are d k c v =
     apart g x = by_ring (g ∷ x ∷ []) (search quotes depth 60 fits 20000) refl
 
 -- the form of the hessian is twice that of its half
-form_two : (d : Design) (v : ℕ → ℤ) → form (entries d) (numbers_of d).hessian v ≡ pos 2 *ℤ form (entries d) (curved_of d).half v
+form_two : (d : Design) (v : ℕ → ℤ) → form (entries d) (condensed_of d).hessian v ≡ pos 2 *ℤ form (entries d) (curved_of d).half v
 form_two d v =
     dot_same (entries d) v _ _ (λ i l. total_same (entries d) _ _ (λ j m. ap (λ (z : ℤ). z *ℤ v j) (hessian_even d i j))) ∙
     quadratic_scale (entries d) (pos 2) (curved_of d).half v
 
-curvature_is : (d : Design) → IsCondensed d (numbers_of d) → (v : ℕ → ℤ) → curvature d v ≡ square (pos (2 ^ d.grid)) *ℤ form (entries d) (curved_of d).half v
+curvature_is : (d : Design) → IsCondensed d (condensed_of d) → (v : ℕ → ℤ) → curvature d v ≡ square (pos (2 ^ d.grid)) *ℤ form (entries d) (curved_of d).half v
 curvature_is d c v = halved (curvature d v) (square (pos (2 ^ d.grid))) (form (entries d) (curved_of d).half v) _ _
-    (hessian_law d (numbers_of d) c v) (ap pos (four-pow d.grid)) (form_two d v)
+    (hessian_law d (condensed_of d) c v) (ap pos (four-pow d.grid)) (form_two d v)
   where
     halved : (x g f h q : ℤ) → pos 2 *ℤ x ≡ q *ℤ h → q ≡ g → h ≡ pos 2 *ℤ f → x ≡ g *ℤ f
     halved x g f h q e i l =
@@ -110,11 +110,11 @@ residual_scale_is : (d : Design) (s : ℕ) → pos (2 ^ s * residual_scale d ^ 2
 residual_scale_is d s = ap pos (ap (λ n. 2 ^ s * n) (pow-two (residual_scale d)))
 
 -- ---- an exponent of the matrices is one of the trajectories
-pub exponent_of : (d : Design) (s : ℕ) → IsCondensed d (numbers_of d) → IsExponent (curved_of d) s → design.IsExponent d s
+pub exponent_of : (d : Design) (s : ℕ) → IsCondensed d (condensed_of d) → BoundsRows (curved_of d) s → design.IsExponent d s
 exponent_of d s c h v = closed (pos (cost_scale d)) (pos (2 ^ s * residual_scale d ^ 2)) _ (curvature d v)
     (pos d.cost_denominator) (pos d.row_denominator) (pos (2 ^ d.grid)) (pos (d.plant_denominator ^ d.stages)) (pos d.limit_denominator) (pos (2 ^ s))
-    (total (rows d) (λ i. square (image (entries d) (numbers_of d).by_plan v i))) (form (entries d) (curved_of d).half v)
-    (cost_scale_is d) (residual_scale_is d s) (changes_are d (numbers_of d) c v) (curvature_is d c v) (h v)
+    (total (rows d) (λ i. square (image (entries d) (condensed_of d).by_plan v i))) (form (entries d) (curved_of d).half v)
+    (cost_scale_is d) (residual_scale_is d s) (changes_are d (condensed_of d) c v) (curvature_is d c v) (h v)
   where
     closed : (y z t u w r g a l p x f : ℤ) → y ≡ w *ℤ square (r *ℤ g *ℤ a) → z ≡ p *ℤ square (l *ℤ g *ℤ a) → t ≡ square g *ℤ x → u ≡ square g *ℤ f →
         (w *ℤ square r *ℤ x) ≤ℤ (p *ℤ square l *ℤ f) → (y *ℤ t) ≤ℤ (z *ℤ u)
@@ -122,7 +122,7 @@ exponent_of d s c h v = closed (pos (cost_scale d)) (pos (2 ^ s * residual_scale
         (by_ring (w ∷ r ∷ g ∷ a ∷ l ∷ p ∷ x ∷ f ∷ []) (search quotes depth 60 fits 20000) refl))
 
 -- ---- the floor of the cost
-pub floored : (d : Design) → IsSound d (input_floor d) → IsCondensed d (numbers_of d) → IsFloored (curved_of d) (floor_of_design d)
+pub floored : (d : Design) → IsSound d (input_floor d) → IsCondensed d (condensed_of d) → IsFloored (curved_of d) (floor_of_design d)
 floored d sound c v = closed (pos (cost_scale d)) (curvature d v) (pos (input_floor d * (d.plant_denominator ^ d.stages) ^ 2))
     (pos d.cost_denominator) (pos d.row_denominator) (pos (2 ^ d.grid)) (pos (d.plant_denominator ^ d.stages)) (pos (input_floor d))
     (total (entries d) (λ j. square (v j))) (form (entries d) (curved_of d).half v)
@@ -140,7 +140,7 @@ squares_are zero n g = refl
 squares_are (suc m) n g = sum_pos _ _ (squares_are m n g) (squares_row n (g m))
 
 pub covers : (d : Design) (s : ℕ) → CoversSquares d s → CoversAll (curved_of d) (floor_of_design d) s
-covers d s h = closed (pos d.cost_denominator) (row_squares (curved_of d)) (limit_squares d) (squares_are (rows d) (entries d) (numbers_of d).by_plan) (raised h)
+covers d s h = closed (pos d.cost_denominator) (row_squares (curved_of d)) (limit_squares d) (squares_are (rows d) (entries d) (condensed_of d).by_plan) (raised h)
   where
     closed : (w x : ℤ) (y : ℕ) → x ≡ pos y → (w *ℤ pos y) ≤ℤ (pos (2 ^ s) *ℤ square (pos d.limit_denominator) *ℤ floor_of_design d) →
         (w *ℤ x) ≤ℤ (pos (2 ^ s) *ℤ square (pos d.limit_denominator) *ℤ floor_of_design d)

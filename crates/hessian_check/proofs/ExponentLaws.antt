@@ -3,13 +3,13 @@ use Rattle.std.proofs.Common.{rules}
 use Rattle.qp_model.specs.Parts.{design_of}
 use Rattle.qp_model.specs.CurvatureSize.{CoversSquares}
 use Rattle.qp_model.proofs.CostLaws.{condensing}
-use Rattle.hessian_check.specs.StepLaw.{StepLaw}
+use Rattle.hessian_check.specs.StepLaw.{ExponentLaw}
 use Rattle.hessian_check.specs.Steps.{curved_of, floor_of_design}
 use Rattle.hessian_check.proofs.CurvatureLaws.{first_by, chosen_law, squares_law}
 use Rattle.hessian_check.proofs.DesignLaws.{exponent_of, half_turned, floored, covers}
 use Rattle.hessian_check.proofs.SoundLaws.{sound}
 
-pub step_law : StepLaw
+pub step_law : ExponentLaw
 step_law p h s1 s f k =
     let d = design_of p in
     let e = condensing d h.inputs.0 in

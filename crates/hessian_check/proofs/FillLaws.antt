@@ -6,8 +6,8 @@ use Rattle.std.proofs.lemmas.List.{length-set, length-replicate, get_or-replicat
 use Rattle.std.proofs.lemmas.List.Elements.{All-get_or, All-from_get_or}
 use Rattle.mat_int.specs.Matrix.{Matrix, row_of, entry_of, with_entry, zero_matrix}
 use Rattle.mat_int.specs.Matrix.{HasEntries}
-use Rattle.hessian_check.specs.Filling.{HasFirstRows, HasFirst}
-use Rattle.hessian_check.specs.Recipe.{IsWritten}
+use Rattle.hessian_check.specs.Filling.{HasFirstRows, HasFirstEntries}
+use Rattle.hessian_check.specs.Recipe.{IsEntryWritten}
 use Rattle.hessian_check.proofs.StepLaws.{written}
 
 even_set : (m : Matrix) (n i j : ℕ) (v : ℤ) → i < length m.rows → All (λ row. length row ≡ n) m.rows → All (λ row. length row ≡ n) (with_entry m i j v).rows
@@ -26,16 +26,16 @@ first_zero n f w e = rw e (record {
   made = λ k j l. absurd (omega arith);
 })
 
-pub first_start : (n : ℕ) (f : ℕ → ℕ → ℤ) (m : Matrix) (i : ℕ) → HasFirstRows n f m i → HasFirst n f m i 0
+pub first_start : (n : ℕ) (f : ℕ → ℕ → ℤ) (m : Matrix) (i : ℕ) → HasFirstRows n f m i → HasFirstEntries n f m i 0
 first_start n f m i h = record { before = h; here = λ k l. absurd (omega arith) }
 
 -- one more entry
 pub first_more : (n : ℕ) (f : ℕ → ℕ → ℤ) (m w : Matrix) (i j : ℕ) (v : ℤ) → i < n → j < n → w ≡ with_entry m i j v → v ≡ f i j →
-    HasFirst n f m i j → HasFirst n f w i (j + 1)
+    HasFirstEntries n f m i j → HasFirstEntries n f w i (j + 1)
 first_more n f m w i j v p q e g h =
     let row : i < length m.rows = omega (arith, h.before.rows, p) in
     let long = All-get_or (λ row. length row ≡ n) m.rows i [] row h.before.even in
-    let t : IsWritten (entry_of m) (entry_of (with_entry m i j v)) i j v = written m i j v row (omega (arith, long, q)) in
+    let t : IsEntryWritten (entry_of m) (entry_of (with_entry m i j v)) i j v = written m i j v row (omega (arith, long, q)) in
     rw e (record {
       before = record {
         rows = length-set m.rows i _ ∙ h.before.rows;
@@ -50,7 +50,7 @@ first_more n f m w i j v p q e g h =
     })
 
 -- one more row
-pub first_row : (n : ℕ) (f : ℕ → ℕ → ℤ) (m : Matrix) (i j : ℕ) → n ≤ j → HasFirst n f m i j → HasFirstRows n f m (i + 1)
+pub first_row : (n : ℕ) (f : ℕ → ℕ → ℤ) (m : Matrix) (i j : ℕ) → n ≤ j → HasFirstEntries n f m i j → HasFirstRows n f m (i + 1)
 first_row n f m i j q h = record {
   rows = h.before.rows;
   cols = h.before.cols;

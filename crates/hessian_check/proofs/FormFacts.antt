@@ -15,7 +15,7 @@ use Rattle.qp_model.specs.declared.design_parts.DesignParts.{DesignParts}
 use Rattle.qp_model.specs.Design.{Design, entries, rows}
 use Rattle.qp_model.specs.Condensed as form
 use Rattle.qp_model.specs.Condensed.{IsCondensed}
-use Rattle.qp_model.specs.Condensing.{numbers_of}
+use Rattle.qp_model.specs.Condensing.{condensed_of}
 use Rattle.qp_model.specs.Columns.{input_floor}
 use Rattle.qp_model.specs.CurvatureSize.{CoversSquares, limit_squares, floor_times}
 use Rattle.qp_model.specs.Parts.{IsDesign, design_of}
@@ -23,7 +23,7 @@ use Rattle.qp_model.specs.Quantities.{growth, cost_width, weight_sum, prediction
 use Rattle.qp_model.specs.Range.{IsDenominator}
 use Rattle.qp_model.proofs.CostLaws.{condensing}
 use Rattle.plant_condense.specs.declared.condensed.Condensed.{Condensed}
-use Rattle.plant_condense.specs.Form.{IsFormOf, condensed_of}
+use Rattle.plant_condense.specs.Form.{IsFormOf, form_numbers}
 use Rattle.std.specs.Option.{SomeIff, is_some}
 use Rattle.hessian_check.specs.Curvature.{IsLeastBelow}
 use Rattle.hessian_check.proofs.DesignLaws.{change_is}
@@ -56,8 +56,8 @@ rows_same d k l p q i j r s = cancelled (pos (2 ^ d.grid)) _ _ (pos_positive (2 
         both {a} {b} m n = omega (arith, ints, m, n)
 
 pub by_plan_is : (p : DesignParts) (c : Condensed) → IsFormOf p c → (i j : ℕ) → i < rows (design_of p) → j < entries (design_of p) →
-    entry_of c.g i j ≡ (numbers_of (design_of p)).by_plan i j
-by_plan_is p c f i j = rows_same (design_of p) (condensed_of c) (numbers_of (design_of p)) f.condensed (condensing (design_of p) f.design.inputs.0) i j
+    entry_of c.g i j ≡ (condensed_of (design_of p)).by_plan i j
+by_plan_is p c f i j = rows_same (design_of p) (form_numbers c) (condensed_of (design_of p)) f.condensed (condensing (design_of p) f.design.inputs.0) i j
 
 -- ---- the numbers
 -- those of a design are small

@@ -9,11 +9,11 @@ use Rattle.integer_algebra.proofs.SumLaws.{total_same}
 use Rattle.integer_algebra.specs.Division.{floor_of}
 use Rattle.mat_int.specs.Matrix.{Matrix, entry_of}
 use Rattle.mat_int.specs.Matrix.{HasEntries}
-use Rattle.hessian_check.specs.Gaps.{mixed}
+use Rattle.hessian_check.specs.StepMatrices.{mixed}
 use Rattle.hessian_check.specs.Dominance.{AreSame, IsSymmetric}
-use Rattle.integer_algebra.specs.Matrices.{others, IsDominant}
-use Rattle.hessian_check.specs.Recipe.{top, low, left, quotient, IsStart, IsShift, IsPart, IsRow, IsRoot, margin, scaled_up}
-use Rattle.hessian_check.specs.Curvature.{IsCertified, IsCertifiedBelow, IsChosen, IsDominantAt, IsFirst, IsLeast}
+use Rattle.integer_algebra.specs.Matrices.{off_diagonal_sum, IsDominant}
+use Rattle.hessian_check.specs.Recipe.{top, low, left, quotient, IsStart, IsShift, IsPart, IsRow, IsRecipeRoot, diagonal_reserve, scaled_up}
+use Rattle.hessian_check.specs.Curvature.{HasPassingRoot, HasPassingRootBelow, IsChosen, IsDominantAt, IsFirst, IsLeast}
 use Rattle.hessian_check.proofs.PassLaws.{passes_same, same_back}
 
 -- a factor
@@ -23,7 +23,7 @@ same_scaled n p m w h = record { is = λ i j k l. ap (λ (z : ℤ). p *ℤ z) (h
 pub dominant_moved : (n : ℕ) (m w : ℕ → ℕ → ℤ) → AreSame n m w → IsDominant n m → IsDominant n w
 dominant_moved n m w h p i k = rw (← (h.is i i k k), ← others_same) (p i k)
   where
-    others_same : others n m i ≡ others n w i
+    others_same : off_diagonal_sum n m i ≡ off_diagonal_sum n w i
     others_same = total_same n _ _ (λ j l. ap (λ (x : ℤ). if nat_eq j i then pos 0 else absolute x) (h.is i j k l))
 
 top_same : (n k : ℕ) (m w : ℕ → ℕ → ℤ) → k ≤ n → AreSame n m w → top k m ≡ top k w
@@ -60,18 +60,18 @@ row_moved n b c mu r i l h p = record {
   above = p.above;
 }
 
-pub root_moved : (n : ℕ) (m w : ℕ → ℕ → ℤ) (s : ℕ) (r : ℕ → ℕ → ℤ) → AreSame n m w → IsRoot n m s r → IsRoot n w s r
+pub root_moved : (n : ℕ) (m w : ℕ → ℕ → ℤ) (s : ℕ) (r : ℕ → ℕ → ℤ) → AreSame n m w → IsRecipeRoot n m s r → IsRecipeRoot n w s r
 root_moved n m w s r h p =
     let e = top_same n n m w (omega arith) h in
-    let mu : margin (pos (4 ^ s)) n m ≡ margin (pos (4 ^ s)) n w =
+    let mu : diagonal_reserve (pos (4 ^ s)) n m ≡ diagonal_reserve (pos (4 ^ s)) n w =
     ap (λ (z : ℤ). floor_of (pos (4 ^ s) *ℤ z) 4096) (low_same (top n m) (top n w) n n m w e (omega arith) h) in
     record {
       start = start_moved n m w h p.start;
       shift = rw (← e) p.shift;
-      rows = λ i l. rw (← mu) (row_moved n (scaled_up (pos (4 ^ s)) m) (scaled_up (pos (4 ^ s)) w) (margin (pos (4 ^ s)) n m) r i l (same_scaled n (pos (4 ^ s)) m w h) (p.rows i l));
+      rows = λ i l. rw (← mu) (row_moved n (scaled_up (pos (4 ^ s)) m) (scaled_up (pos (4 ^ s)) w) (diagonal_reserve (pos (4 ^ s)) n m) r i l (same_scaled n (pos (4 ^ s)) m w h) (p.rows i l));
     }
 
-pub certified_moved : (n : ℕ) (m w : ℕ → ℕ → ℤ) → AreSame n m w → IsCertified n m → IsCertified n w
+pub certified_moved : (n : ℕ) (m w : ℕ → ℕ → ℤ) → AreSame n m w → HasPassingRoot n m → HasPassingRoot n w
 certified_moved n m w h c = record {
   shift = c.shift;
   root = c.root;
@@ -91,7 +91,7 @@ dominant_told n f m b h t =
     (λ y. dominant_moved n (entry_of m) f s (rw h.rows at (t.0 y)), λ d. t.1 (rw h.rows (dominant_moved n f (entry_of m) (same_back n (entry_of m) f s) d)))
 
 pub certified_told : (n : ℕ) (f : ℕ → ℕ → ℤ) (m : Matrix) (b : Bool) → HasEntries n n f m →
-    (IsTrue b ↔ IsCertified (length m.rows) (entry_of m)) → IsTrue b ↔ IsCertified n f
+    (IsTrue b ↔ HasPassingRoot (length m.rows) (entry_of m)) → IsTrue b ↔ HasPassingRoot n f
 certified_told n f m b h t =
     let s = has_same n f m h in
     (λ y. certified_moved n (entry_of m) f s (rw h.rows at (t.0 y)), λ d. t.1 (rw h.rows (certified_moved n f (entry_of m) (same_back n (entry_of m) f s) d)))
@@ -135,7 +135,7 @@ first_moved n m w covers s1 h f = record {
 
 pub chosen_moved : (n : ℕ) (m w : ℕ → ℕ → ℕ → ℤ) (s1 s : ℕ) → ((s : ℕ) → AreSame n (m s) (w s)) → IsChosen n m s1 s → IsChosen n w s1 s
 chosen_moved n m w s1 s h c = elim c [
-  | inl k ↦ inl (least_moved (IsCertifiedBelow n m s1) (IsCertifiedBelow n w s1) s
+  | inl k ↦ inl (least_moved (HasPassingRootBelow n m s1) (HasPassingRootBelow n w s1) s
       (λ k t. (t.0, certified_moved n (m k) (w k) (h k) t.1)) (λ k t. (t.0, certified_moved n (w k) (m k) (same_back n (m k) (w k) (h k)) t.1)) k)
   | inr k ↦ inr ((λ j t. k.0 j (t.0, certified_moved n (w j) (m j) (same_back n (m j) (w j) (h j)) t.1)), k.1)
 ]

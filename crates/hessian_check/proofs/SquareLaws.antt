@@ -72,5 +72,5 @@ squares_row (suc n) f = sum_pos _ _ (squares_row n f) (square_pos (f n))
 pub abs_row : (n : ℕ) (xs : List ℤ) → length xs ≡ n → lists.abs_dot xs xs ≡ amount n (λ j. unsigned_abs (at xs j) ^ 2)
 abs_row n xs e = abs_dot_is n xs xs e e ∙ amount_same n _ _ (λ j l. sym (pow-two (unsigned_abs (at xs j))))
 
-pub dot_row : (n : ℕ) (xs : List ℤ) → length xs ≡ n → unsigned_abs (lists.dot xs xs) ≡ amount n (λ j. unsigned_abs (at xs j) ^ 2)
+pub dot_row : (n : ℕ) (xs : List ℤ) → length xs ≡ n → unsigned_abs (lists.list_dot xs xs) ≡ amount n (λ j. unsigned_abs (at xs j) ^ 2)
 dot_row n xs e = ap unsigned_abs (dot_is n xs xs e e ∙ squares_row n (at xs))

@@ -10,7 +10,7 @@ use Rattle.integer_algebra.proofs.OrderLaws.{mul-le-mul_left_z, mul-le-mul_right
 use Rattle.mat_int.specs.Matrix.{Matrix, row_of, entry_of, zero_matrix}
 use Rattle.integer_algebra.specs.Division.{floor_of}
 use Rattle.hessian_check.specs.Passing.{AreSquare}
-use Rattle.hessian_check.specs.Recipe.{top, low, IsStart, IsShift, IsSmall, IsBlank, IsEven, NoRows, NoRoot, scaled_up, margin}
+use Rattle.hessian_check.specs.Recipe.{top, low, IsStart, IsShift, IsSmall, IsBlank, IsEven, NoRows, NoRoot, scaled_up, diagonal_reserve}
 use Rattle.hessian_check.proofs.RecipeLaws.{shift_next}
 
 -- ---- the greatest and the least
@@ -69,7 +69,7 @@ shift_same t h k p a b = elim (cases_lt h k) [
 pub record Ready (n : ℕ) (m : ℕ → ℕ → ℤ) (up : ℤ) : Type 0 where
   pub least_low : pos 0 ≤ℤ (up *ℤ low (top n m) n m)
   pub least_high : (up *ℤ low (top n m) n m) <ℤ pos (2 ^ 116)
-  pub small : IsSmall n (scaled_up up m) (margin up n m)
+  pub small : IsSmall n (scaled_up up m) (diagonal_reserve up n m)
   pub positive : (a : ℕ) → a < n → pos 0 ≤ℤ scaled_up up m a a
 
 pub top_positive : (n : ℕ) (m : ℕ → ℕ → ℤ) → IsStart n m → pos 1 ≤ℤ top n m
@@ -105,7 +105,7 @@ ready n m h s k =
     entry p x t h k = let a = mul-le-mul_left_z (pos p) (omega (arith, ints)) h in let e = unsigned_abs-mul (pos p) x in omega (arith, ints, a, e)
 
 -- ---- where there is no root
-pub no_root : (n : ℕ) (m : ℕ → ℕ → ℤ) (h : ℕ) → IsStart n m → IsShift (top n m) h → NoRows n (scaled_up (pos (4 ^ h)) m) (margin (pos (4 ^ h)) n m) → NoRoot n m
+pub no_root : (n : ℕ) (m : ℕ → ℕ → ℤ) (h : ℕ) → IsStart n m → IsShift (top n m) h → NoRows n (scaled_up (pos (4 ^ h)) m) (diagonal_reserve (pos (4 ^ h)) n m) → NoRoot n m
 no_root n m h s k none g r root = none r (rw (← (shift_same (top n m) g h (top_positive n m s) root.shift k)) root.rows)
 
 pub least_fits : (n : ℕ) (m : ℕ → ℕ → ℤ) (up : ℤ) → Ready n m up → FitsSigned w128 (up *ℤ low (top n m) n m)

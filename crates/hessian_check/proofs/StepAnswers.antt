@@ -1,4 +1,4 @@
--- What the answer of the choice among gaps says of a design.
+-- What the answer of the choice among matrices says of a design.
 use Rattle.std.proofs.Common.{◌≡◌, inl, inr, ℕ, ◌+◌, ◌*◌, ◌<◌, ◌≤◌, ◌^◌, Option, Some, None, length, rules, arith, ap, sym, ◌∙◌, refl}
 use Rattle.std.specs.Prelude.{Result, Ok, Err, IfOk, IsOk, unwrap_or}
 use Rattle.std.proofs.Math.Nat.{mul-le-mul_right, pow-le-pow_right}
@@ -12,12 +12,12 @@ use Rattle.qp_model.specs.Quantities.{hessian_size, rows_size}
 use Rattle.hessian_check.specs.declared.fault.CurvatureFault.{CurvatureFault}
 use Rattle.hessian_check.specs.declared.fault.CurvatureFault.TheVariants.{Memory, TooWide, NoStep}
 use Rattle.hessian_check.specs.declared.fault.StepExponents.{StepExponents}
-use Rattle.hessian_check.specs.declared.gaps.Gaps.{Gaps}
-use Rattle.hessian_check.specs.Curvature.{IsChosen, IsLeastBelow, gap}
-use Rattle.hessian_check.specs.DesignGaps.{AreGapsOf, curvature_at}
+use Rattle.hessian_check.specs.declared.matrices.StepMatrices.{StepMatrices}
+use Rattle.hessian_check.specs.Curvature.{IsChosen, IsLeastBelow, exponent_matrix}
+use Rattle.hessian_check.specs.DesignMatrices.{AreMatricesOf, curvature_at}
 use Rattle.hessian_check.specs.Exponents.{IsEither, IsOutcome}
-use Rattle.hessian_check.specs.GapRoom.{gap_at, HasRoom}
-use Rattle.hessian_check.specs.StepLaw.{StepLaw}
+use Rattle.hessian_check.specs.MatrixRoom.{matrix_at, HasMatrixRoom}
+use Rattle.hessian_check.specs.StepLaw.{ExponentLaw}
 use Rattle.hessian_check.specs.Steps.{HasNoStep, IsPlainExponent, IsStepExponent, curved_of}
 use Rattle.std.proofs.lemmas.Bool.{cases_lt}
 use Rattle.plant_condense.specs.declared.condensed.Condensed.{Condensed}
@@ -28,67 +28,67 @@ use Rattle.hessian_check.proofs.ChoiceLaws.{HasLeast, covers_least, first_above,
 use Rattle.hessian_check.proofs.SameLaws.{chosen_moved, dominant_moved, first_moved}
 use Rattle.hessian_check.proofs.PassLaws.{same_back}
 
--- what is known of a design, its gaps and the number that its squares ask
-pub record Chosen (d : Design) (g : Gaps) (o : Option ℕ) : Type 0 where
-  pub gaps : AreGapsOf d g
+-- what is known of a design, its matrices and the number that its squares ask
+pub record Chosen (d : Design) (g : StepMatrices) (o : Option ℕ) : Type 0 where
+  pub matrices : AreMatricesOf d g
   pub squares : IsLeastBelow 41 (CoversSquares d) o
   pub some : HasLeast (CoversSquares d)
 
-abbrev pub Outcome : Gaps → Option ℕ → Result StepExponents CurvatureFault → Type 0
-Outcome g o r = IsOutcome (length g.cost.rows) (gap_at g) o r
+abbrev pub Outcome : StepMatrices → Option ℕ → Result StepExponents CurvatureFault → Type 0
+Outcome g o r = IsOutcome (length g.cost.rows) (matrix_at g) o r
 
 -- ---- two exponents
-either_of : (d : Design) (g : Gaps) (o : Option ℕ) (s1 : ℕ) → Chosen d g o → IsEither (length g.cost.rows) (gap_at g) o s1 → IsPlainExponent d s1
-either_of d g o s1 h e = first_moved (entries d) (gap_at g) (gap (curved_of d)) (CoversSquares d) s1 h.gaps.same
-    (first_made (entries d) (gap_at g) (CoversSquares d) o s1 h.some h.squares (rw h.gaps.size at e))
+either_of : (d : Design) (g : StepMatrices) (o : Option ℕ) (s1 : ℕ) → Chosen d g o → IsEither (length g.cost.rows) (matrix_at g) o s1 → IsPlainExponent d s1
+either_of d g o s1 h e = first_moved (entries d) (matrix_at g) (exponent_matrix (curved_of d)) (CoversSquares d) s1 h.matrices.same
+    (first_made (entries d) (matrix_at g) (CoversSquares d) o s1 h.some h.squares (rw h.matrices.size at e))
 
-pub plain_of : (d : Design) (g : Gaps) (o : Option ℕ) (r : Result StepExponents CurvatureFault) → Chosen d g o → Outcome g o r → IfOk r (λ e. IsPlainExponent d e.s1)
+pub plain_of : (d : Design) (g : StepMatrices) (o : Option ℕ) (r : Result StepExponents CurvatureFault) → Chosen d g o → Outcome g o r → IfOk r (λ e. IsPlainExponent d e.s1)
 plain_of d g o (Ok e) h t = either_of d g o e.s1 h t.0
 plain_of d g o (Err f) h t = search rules
 
-pub step_of : (d : Design) (g : Gaps) (o : Option ℕ) (r : Result StepExponents CurvatureFault) → Chosen d g o → Outcome g o r → IfOk r (λ e. IsStepExponent d e.s1 e.s)
-step_of d g o (Ok e) h t = chosen_moved (entries d) (gap_at g) (gap (curved_of d)) e.s1 e.s h.gaps.same (rw h.gaps.size at t.1)
+pub step_of : (d : Design) (g : StepMatrices) (o : Option ℕ) (r : Result StepExponents CurvatureFault) → Chosen d g o → Outcome g o r → IfOk r (λ e. IsStepExponent d e.s1 e.s)
+step_of d g o (Ok e) h t = chosen_moved (entries d) (matrix_at g) (exponent_matrix (curved_of d)) e.s1 e.s h.matrices.same (rw h.matrices.size at t.1)
 step_of d g o (Err f) h t = search rules
 
 pub few : (d : Design) (o : Option ℕ) → IsLeastBelow 41 (CoversSquares d) o → unwrap_or o 40 ≤ 40
 few d None h = omega arith
 few d (Some q) h = omega (arith, h.0)
 
-pub order_of : (d : Design) (g : Gaps) (o : Option ℕ) (r : Result StepExponents CurvatureFault) → Chosen d g o → Outcome g o r → IfOk r (λ e. (e.s ≤ e.s1) × (e.s1 ≤ 40))
+pub order_of : (d : Design) (g : StepMatrices) (o : Option ℕ) (r : Result StepExponents CurvatureFault) → Chosen d g o → Outcome g o r → IfOk r (λ e. (e.s ≤ e.s1) × (e.s1 ≤ 40))
 order_of d g o (Ok e) h t = (below t.1, elim t.0 [ inl a ↦ omega (arith, a.0, few d o h.squares) | inr a ↦ own a.1 h.squares ])
   where
-    below : IsChosen (length g.cost.rows) (gap_at g) e.s1 e.s → e.s ≤ e.s1
+    below : IsChosen (length g.cost.rows) (matrix_at g) e.s1 e.s → e.s ≤ e.s1
     below c = elim c [ inl k ↦ omega (arith, k.holds.0) | inr k ↦ omega (arith, k.1) ]
 
     own : o ≡ Some e.s1 → IsLeastBelow 41 (CoversSquares d) o → e.s1 ≤ 40
     own q b = let k : IsLeastBelow 41 (CoversSquares d) (Some e.s1) = rw q at b in omega (arith, k.0)
 order_of d g o (Err f) h t = search rules
 
-pub exponents_of : (step : StepLaw) (p : DesignParts) → IsDesign p → (r : Result StepExponents CurvatureFault) →
+pub exponents_of : (step : ExponentLaw) (p : DesignParts) → IsDesign p → (r : Result StepExponents CurvatureFault) →
     IfOk r (λ e. IsPlainExponent (design_of p) e.s1) → IfOk r (λ e. IsStepExponent (design_of p) e.s1 e.s) →
     IfOk r (λ e. IsExponent (design_of p) e.s × IsExponent (design_of p) e.s1)
 exponents_of step p h (Ok e) a b = let x = step p h e.s1 e.s a b in (x.1, x.0)
 exponents_of step p h (Err f) a b = search rules
 
 -- ---- no exponents
-pub not_wide : (g : Gaps) (o : Option ℕ) (r : Result StepExponents CurvatureFault) → Outcome g o r → (q : _) → r ≡ Err (TooWide q) → ⊥
+pub not_wide : (g : StepMatrices) (o : Option ℕ) (r : Result StepExponents CurvatureFault) → Outcome g o r → (q : _) → r ≡ Err (TooWide q) → ⊥
 not_wide g o r t q e = let k : Outcome g o (Err (TooWide q)) = rw e at t in k
 
 pub memory_not_wide : (r : Result StepExponents CurvatureFault) (y : CurvatureFault) → r ≡ Err y → y ≡ Memory → (q : _) → r ≡ Err (TooWide q) → ⊥
 memory_not_wide r y e f q h = cc
 
-pub no_step_of : (d : Design) (g : Gaps) (o : Option ℕ) (r : Result StepExponents CurvatureFault) → Chosen d g o → Outcome g o r → r ≡ Err NoStep → HasNoStep d
+pub no_step_of : (d : Design) (g : StepMatrices) (o : Option ℕ) (r : Result StepExponents CurvatureFault) → Chosen d g o → Outcome g o r → r ≡ Err NoStep → HasNoStep d
 no_step_of d g o r h t e =
     let k : Outcome g o (Err NoStep) = rw e at t in
     let b : IsLeastBelow 41 (CoversSquares d) None = rw k.1 at h.squares in
-    let a = first_above (entries d) (gap (curved_of d)) (CoversSquares d) h.some b
-    (λ s l m. k.0 s l (rw h.gaps.size (dominant_moved (entries d) (gap (curved_of d) s) (gap_at g s) (same_back (entries d) (gap_at g s) (gap (curved_of d) s) (h.gaps.same s)) m))) in
+    let a = first_above (entries d) (exponent_matrix (curved_of d)) (CoversSquares d) h.some b
+    (λ s l m. k.0 s l (rw h.matrices.size (dominant_moved (entries d) (exponent_matrix (curved_of d) s) (matrix_at g s) (same_back (entries d) (matrix_at g s) (exponent_matrix (curved_of d) s) (h.matrices.same s)) m))) in
     record { s1 = h.some.number; plain = a.0; above = a.1 }
 
-pub found_of : (d : Design) (g : Gaps) (o : Option ℕ) (r : Result StepExponents CurvatureFault) → Chosen d g o → Outcome g o r →
+pub found_of : (d : Design) (g : StepMatrices) (o : Option ℕ) (r : Result StepExponents CurvatureFault) → Chosen d g o → Outcome g o r →
     HasNoStep d → ¬ IsOk r
 found_of d g o (Ok e) h t n y =
-    let q = first_same (entries d) (gap (curved_of d)) (CoversSquares d) e.s1 n.s1 (plain_of d g o (Ok e) h t) n.plain in
+    let q = first_same (entries d) (exponent_matrix (curved_of d)) (CoversSquares d) e.s1 n.s1 (plain_of d g o (Ok e) h t) n.plain in
     let b = order_of d g o (Ok e) h t in
     omega (arith, q, b.1, n.above)
 found_of d g o (Err f) h t n y = err_not_ok y
@@ -107,7 +107,7 @@ at-le d s t l =
     let r = mul-le-mul_right (hessian_size d) q in
     omega (arith, r)
 
-pub room_of : (d : Design) (g : Gaps) (o : Option ℕ) → AreGapsOf d g → curvature_at d (unwrap_or o 40) ≤ 2 ^ 126 → (s : ℕ) → s ≤ unwrap_or o 40 → HasRoom g s
+pub room_of : (d : Design) (g : StepMatrices) (o : Option ℕ) → AreMatricesOf d g → curvature_at d (unwrap_or o 40) ≤ 2 ^ 126 → (s : ℕ) → s ≤ unwrap_or o 40 → HasMatrixRoom g s
 room_of d g o h l s k = h.room s (omega (arith, at-le d s (unwrap_or o 40) k, l))
 
 -- some number covers the squares

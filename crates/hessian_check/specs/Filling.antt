@@ -10,6 +10,6 @@ pub record HasFirstRows (n : ℕ) (entry : ℕ → ℕ → ℤ) (m : Matrix) (i 
   pub made : (k j : ℕ) → k < i → j < n → entry_of m k j ≡ entry k j
 
 -- and the first j entries of the next row
-pub record HasFirst (n : ℕ) (entry : ℕ → ℕ → ℤ) (m : Matrix) (i j : ℕ) : Type 0 where
+pub record HasFirstEntries (n : ℕ) (entry : ℕ → ℕ → ℤ) (m : Matrix) (i j : ℕ) : Type 0 where
   pub before : HasFirstRows n entry m i
   pub here : (k : ℕ) → k < j → entry_of m i k ≡ entry i k

@@ -17,15 +17,15 @@ low t zero m = t
 low t (suc n) m = int_min (low t n m) (m n n)
 
 -- no entry of row i is greater than t in absolute value
-abbrev pub IsInside : ℕ → (ℕ → ℕ → ℤ) → ℤ → ℕ → Type 0
-IsInside n m t i = (j : ℕ) → j < n → pos (unsigned_abs (m i j)) ≤ℤ t
+abbrev pub IsBoundedRow : ℕ → (ℕ → ℕ → ℤ) → ℤ → ℕ → Type 0
+IsBoundedRow n m t i = (j : ℕ) → j < n → pos (unsigned_abs (m i j)) ≤ℤ t
 
 -- there is a diagonal, it is positive and below 2^116, and no entry is greater in absolute value than the greatest of the diagonal
 pub record IsStart (n : ℕ) (m : ℕ → ℕ → ℤ) : Type 0 where
   pub filled : 1 ≤ n
   pub positive : (i : ℕ) → i < n → pos 1 ≤ℤ m i i
   pub small : top n m <ℤ pos (2 ^ 116)
-  pub inside : (i : ℕ) → i < n → IsInside n m (top n m) i
+  pub inside : (i : ℕ) → i < n → IsBoundedRow n m (top n m) i
 
 -- h is the greatest number from 0 with 4^h * t below 2^62, and 0 where there is none
 pub record IsShift (t : ℤ) (h : ℕ) : Type 0 where
@@ -58,18 +58,18 @@ abbrev pub AreRows : ℕ → (ℕ → ℕ → ℤ) → ℤ → (ℕ → ℕ → 
 AreRows n b mu r i = (a : ℕ) → a < i → IsRow n b mu r a
 
 -- the least diagonal entry of the scaled matrix divided by 4096
-abbrev pub margin : ℤ → ℕ → (ℕ → ℕ → ℤ) → ℤ
-margin up n m = floor_of (up *ℤ low (top n m) n m) 4096
+abbrev pub diagonal_reserve : ℤ → ℕ → (ℕ → ℕ → ℤ) → ℤ
+diagonal_reserve up n m = floor_of (up *ℤ low (top n m) n m) 4096
 
 -- the matrix with a factor
 abbrev pub scaled_up : ℤ → (ℕ → ℕ → ℤ) → ℕ → ℕ → ℤ
 scaled_up up m i j = up *ℤ m i j
 
 -- r is the root of m at the shift h
-pub record IsRoot (n : ℕ) (m : ℕ → ℕ → ℤ) (h : ℕ) (r : ℕ → ℕ → ℤ) : Type 0 where
+pub record IsRecipeRoot (n : ℕ) (m : ℕ → ℕ → ℤ) (h : ℕ) (r : ℕ → ℕ → ℤ) : Type 0 where
   pub start : IsStart n m
   pub shift : IsShift (top n m) h
-  pub rows : AreRows n (scaled_up (pos (4 ^ h)) m) (margin (pos (4 ^ h)) n m) r n
+  pub rows : AreRows n (scaled_up (pos (4 ^ h)) m) (diagonal_reserve (pos (4 ^ h)) n m) r n
 
 -- the absolute values of the products of the first entries of rows i and j
 abbrev pub product_sizes : (ℕ → ℕ → ℤ) → ℕ → ℕ → ℕ → ℕ
@@ -86,7 +86,7 @@ pub record IsSmall (n : ℕ) (b : ℕ → ℕ → ℤ) (mu : ℤ) : Type 0 where
   pub high : mu ≤ℤ pos (2 ^ 117)
 
 -- s is r but for the entry v in row i and column j
-pub record IsWritten (r s : ℕ → ℕ → ℤ) (i j : ℕ) (v : ℤ) : Type 0 where
+pub record IsEntryWritten (r s : ℕ → ℕ → ℤ) (i j : ℕ) (v : ℤ) : Type 0 where
   pub here : s i j ≡ v
   pub beside : (k : ℕ) → k ≢ j → s i k ≡ r i k
   pub elsewhere : (a k : ℕ) → a ≢ i → s a k ≡ r a k
@@ -101,4 +101,4 @@ IsEven m = (a : ℕ) → a < length m.rows → length (row_of m a) ≡ m.cols
 
 -- there is no root
 abbrev pub NoRoot : ℕ → (ℕ → ℕ → ℤ) → Type 0
-NoRoot n m = (h : ℕ) (r : ℕ → ℕ → ℤ) → ¬ IsRoot n m h r
+NoRoot n m = (h : ℕ) (r : ℕ → ℕ → ℤ) → ¬ IsRecipeRoot n m h r

@@ -5,6 +5,6 @@ use Rattle.qp_model.specs.Parts.{IsDesign, design_of}
 use Rattle.qp_model.specs.Curvature.{IsExponent}
 use Rattle.hessian_check.specs.Steps.{IsPlainExponent, IsStepExponent}
 
-abbrev pub StepLaw : Type 0
-StepLaw = (parts : DesignParts) → IsDesign parts → (s1 s : ℕ) → IsPlainExponent (design_of parts) s1 → IsStepExponent (design_of parts) s1 s →
+abbrev pub ExponentLaw : Type 0
+ExponentLaw = (parts : DesignParts) → IsDesign parts → (s1 s : ℕ) → IsPlainExponent (design_of parts) s1 → IsStepExponent (design_of parts) s1 s →
     IsExponent (design_of parts) s1 × IsExponent (design_of parts) s

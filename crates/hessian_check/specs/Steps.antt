@@ -2,14 +2,14 @@
 use Rattle.std.specs.Prelude.{ℕ, ◌*◌, ◌^◌, ◌<◌, ℤ, pos}
 use Rattle.integer_algebra.specs.Division.{floor_of}
 use Rattle.qp_model.specs.Design.{Design, entries, rows}
-use Rattle.qp_model.specs.Condensing.{numbers_of}
+use Rattle.qp_model.specs.Condensing.{condensed_of}
 use Rattle.qp_model.specs.Columns.{input_floor}
 use Rattle.qp_model.specs.CurvatureSize.{CoversSquares}
 use Rattle.qp_model.specs.declared.design_parts.DesignParts.{DesignParts}
 use Rattle.qp_model.specs.Parts.{design_of}
 use Rattle.plant_condense.specs.declared.condensed.Condensed.{Condensed}
 use Rattle.plant_condense.specs.Form.{IsFormOf}
-use Rattle.hessian_check.specs.Curvature.{Curved, gap, IsFirst, IsChosen}
+use Rattle.hessian_check.specs.Curvature.{Curved, exponent_matrix, IsFirst, IsChosen}
 
 -- half a matrix of even entries
 abbrev pub half_of : (ℕ → ℕ → ℤ) → ℕ → ℕ → ℤ
@@ -20,8 +20,8 @@ abbrev pub curved_of : Design → Curved
 curved_of d = record {
   entries = entries d;
   count = rows d;
-  half = half_of (numbers_of d).hessian;
-  row = (numbers_of d).by_plan;
+  half = half_of (condensed_of d).hessian;
+  row = (condensed_of d).by_plan;
   limit_den = pos d.limit_denominator;
   weight_den = pos d.cost_denominator;
   cost_row_den = pos d.row_denominator;
@@ -31,13 +31,13 @@ curved_of d = record {
 abbrev pub floor_of_design : Design → ℤ
 floor_of_design d = pos (input_floor d * (d.plant_denominator ^ d.stages) ^ 2)
 
--- s1: the lesser of the least number that covers the squares of the rows and the least number up to 40 whose gap is dominant
+-- s1: the lesser of the least number that covers the squares of the rows and the least number up to 40 whose matrix is dominant
 abbrev pub IsPlainExponent : Design → ℕ → Type 0
-IsPlainExponent d s1 = IsFirst (entries d) (gap (curved_of d)) (CoversSquares d) s1
+IsPlainExponent d s1 = IsFirst (entries d) (exponent_matrix (curved_of d)) (CoversSquares d) s1
 
--- s: the least number below s1 whose gap has a root that the test passes, or s1
+-- s: the least number below s1 whose matrix has a root that the test passes, or s1
 abbrev pub IsStepExponent : Design → ℕ → ℕ → Type 0
-IsStepExponent d s1 s = IsChosen (entries d) (gap (curved_of d)) s1 s
+IsStepExponent d s1 s = IsChosen (entries d) (exponent_matrix (curved_of d)) s1 s
 
 -- s1 is above 40
 pub record HasNoStep (d : Design) : Type 0 where

@@ -1,57 +1,57 @@
-// The numbers that are chosen among the gaps.
+// The numbers that are chosen among the matrices.
 ghost use Rattle.std.specs.Prelude.{◌≡◌, ◌⊎◌, ◌<◌, ◌≤◌, ℕ, length, IfOk, unwrap_or, IsErrOf};
-ghost use Rattle.hessian_check.specs.Curvature.{IsCertified, IsLeastBelow};
+ghost use Rattle.hessian_check.specs.Curvature.{HasPassingRoot, IsLeastBelow};
 ghost use Rattle.integer_algebra.specs.Matrices.{IsDominant};
-ghost use Rattle.hessian_check.specs.GapRoom.{HasRoom, gap_at};
+ghost use Rattle.hessian_check.specs.MatrixRoom.{HasMatrixRoom, matrix_at};
 ghost use Rattle.hessian_check.specs.Exponents.{IsOutcome};
 
-use crate::certificate::is_certified;
+use crate::certificate::has_passing_root;
 use crate::fault::{CurvatureFault, StepExponents};
-use crate::gaps::Gaps;
+use crate::matrices::StepMatrices;
 use std::alloc::{AllocError, Global};
 
-/// The exponents of gaps, where `squares` is the least number up to 40 that passes the test of all squares.
+/// The exponents of matrices, where `squares` is the least number up to 40 that passes the test of all squares.
 pub fn exponents_of(
     alloc: Global,
-    gaps: &Gaps,
+    matrices: &StepMatrices,
     squares: Option<u32>,
 ) -> Result<StepExponents, CurvatureFault>
     requires small { unwrap_or squares 40 ≤ 40 }
-    requires room { (s : ℕ) → s ≤ unwrap_or squares 40 → HasRoom gaps.now s }
-    ensures { IsOutcome (length gaps.now.cost.rows) (gap_at gaps.now) squares result }
+    requires room { (s : ℕ) → s ≤ unwrap_or squares 40 → HasMatrixRoom matrices.now s }
+    ensures { IsOutcome (length matrices.now.cost.rows) (matrix_at matrices.now) squares result }
 {
     let last = squares.unwrap_or(40);
-    let Some(s1) = first_dominant(alloc, gaps, last + 1)?.or(squares) else {
+    let Some(s1) = first_dominant(alloc, matrices, last + 1)?.or(squares) else {
         return Err(CurvatureFault::NoStep);
     };
-    let s = first_certified(alloc, gaps, s1)?.unwrap_or(s1);
+    let s = first_passing(alloc, matrices, s1)?.unwrap_or(s1);
     Ok(StepExponents { s, s1 })
 }
 
-// The least number below `end` whose gap is dominant.
-fn first_dominant(alloc: Global, gaps: &Gaps, end: u32) -> Result<Option<u32>, AllocError>
+// The least number below `end` whose matrix is dominant.
+fn first_dominant(alloc: Global, matrices: &StepMatrices, end: u32) -> Result<Option<u32>, AllocError>
     requires small { end ≤ 41 }
-    requires room { (s : ℕ) → s < end → HasRoom gaps.now s }
-    ensures { IfOk result (IsLeastBelow end (λ s. IsDominant (length gaps.now.cost.rows) (gap_at gaps.now s))) }
+    requires room { (s : ℕ) → s < end → HasMatrixRoom matrices.now s }
+    ensures { IfOk result (IsLeastBelow end (λ s. IsDominant (length matrices.now.cost.rows) (matrix_at matrices.now s))) }
 {
     for s in 0..end {
-        let gap = gaps.at(alloc, s)?;
-        if gap.is_dominant().unwrap() {
+        let matrix = matrices.at(alloc, s)?;
+        if matrix.is_dominant().unwrap() {
             return Ok(Some(s));
         }
     }
     Ok(None)
 }
 
-// The least number below `end` whose gap has a root that the test passes.
-fn first_certified(alloc: Global, gaps: &Gaps, end: u32) -> Result<Option<u32>, AllocError>
+// The least number below `end` whose matrix has a root that the test passes.
+fn first_passing(alloc: Global, matrices: &StepMatrices, end: u32) -> Result<Option<u32>, AllocError>
     requires small { end ≤ 41 }
-    requires room { (s : ℕ) → s < end → HasRoom gaps.now s }
-    ensures { IfOk result (IsLeastBelow end (λ s. IsCertified (length gaps.now.cost.rows) (gap_at gaps.now s))) }
+    requires room { (s : ℕ) → s < end → HasMatrixRoom matrices.now s }
+    ensures { IfOk result (IsLeastBelow end (λ s. HasPassingRoot (length matrices.now.cost.rows) (matrix_at matrices.now s))) }
 {
     for s in 0..end {
-        let gap = gaps.at(alloc, s)?;
-        if is_certified(alloc, &gap)? {
+        let matrix = matrices.at(alloc, s)?;
+        if has_passing_root(alloc, &matrix)? {
             return Ok(Some(s));
         }
     }

@@ -9,9 +9,9 @@ use thiserror::Error;
 /// Two exponents of the step: `s`, and the one that needs no certificate.
 #[derive(Clone, Copy, Debug, PartialEq, Eq)]
 pub struct StepExponents {
-    /// The least number below `s1` whose gap has a certificate, or `s1`.
+    /// The least number below `s1` whose matrix has a certificate, or `s1`.
     pub s: u32,
-    /// The least number whose gap is dominant or that bounds the rows by the sum of all their squares, up to 40.
+    /// The least number whose matrix is dominant or that bounds the rows by the sum of all their squares, up to 40.
     pub s1: u32,
 }
 

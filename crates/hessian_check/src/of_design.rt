@@ -10,11 +10,11 @@ ghost use Rattle.integer_algebra.specs.Matrices.{gram, gram_size};
 ghost use Rattle.mat_int.specs.Matrix.{HasEntries};
 ghost use Rattle.hessian_check.specs.Filling.{HasFirstRows};
 ghost use Rattle.hessian_check.specs.Steps.{half_of, IsPlainExponent, IsStepExponent, HasNoStep, OfDesign};
-ghost use Rattle.hessian_check.specs.DesignGaps.{AreGapsOf, curvature_at, IsScales};
+ghost use Rattle.hessian_check.specs.DesignMatrices.{AreMatricesOf, curvature_at, IsScales};
 
 use crate::exponents::exponents_of;
 use crate::fault::{CurvatureFault, StepExponents};
-use crate::gaps::Gaps;
+use crate::matrices::StepMatrices;
 use crate::squares::squares_exponent;
 use frac_scaled::floor_shift;
 use mat_int::{Mat, MatFault, dot, gram};
@@ -45,8 +45,8 @@ pub fn curvature(alloc: Global, c: &Condensed) -> Result<StepExponents, Curvatur
             quantity: Quantity::Curvature,
         });
     }
-    let gaps = gaps_of(alloc, c)?;
-    exponents_of(alloc, &gaps, squares)
+    let matrices = matrices_of(alloc, c)?;
+    exponents_of(alloc, &matrices, squares)
 }
 
 // The denominators, the least input weight and two quantities, which are not negative.
@@ -118,15 +118,15 @@ fn is_limited(c: &Condensed, exponent: u32) -> bool
     size.is_some()
 }
 
-// The gaps of the cost and the rows.
-fn gaps_of(alloc: Global, c: &Condensed) -> Result<Gaps, AllocError>
+// The matrices of the cost and the rows.
+fn matrices_of(alloc: Global, c: &Condensed) -> Result<StepMatrices, AllocError>
     requires { IsForm c.now }
-    ensures { OfDesign c.now (λ d. IfOk result (AreGapsOf d)) }
+    ensures { OfDesign c.now (λ d. IfOk result (AreMatricesOf d)) }
 {
     let cost = halved(alloc, &c.hess)?;
     let rows = gram_of(alloc, &c.g)?;
     let scales = scales_of(c);
-    Ok(Gaps {
+    Ok(StepMatrices {
         cost,
         rows,
         cost_factor: (scales.limit_den * scales.limit_den) as i128,

@@ -142,7 +142,7 @@ fn roots(rt: HostRuntime) -> Result<(), Fail> {
 
 // A design of weights 1, with the plant `(a x + b u) / plant_den`.
 #[derive(Clone, Copy)]
-struct Made<'a> {
+struct TestDesign<'a> {
     stages: usize,
     plant_den: i128,
     a: &'a [&'a [i128]],
@@ -163,7 +163,7 @@ fn rows(rt: &impl Abort, alloc: Global, cols: usize, rows: &[&[i128]]) -> Result
     Ok(made)
 }
 
-fn parts(rt: &impl Abort, alloc: Global, made: &Made) -> Result<DesignParts, AllocError> {
+fn parts(rt: &impl Abort, alloc: Global, made: &TestDesign) -> Result<DesignParts, AllocError> {
     let states = made.a.len();
     Ok(DesignParts {
         states,
@@ -193,7 +193,7 @@ fn parts(rt: &impl Abort, alloc: Global, made: &Made) -> Result<DesignParts, All
 fn exponents(
     rt: &impl Abort,
     alloc: Global,
-    made: &Made,
+    made: &TestDesign,
 ) -> Result<Result<StepExponents, CurvatureFault>, AllocError> {
     let Ok(design) = Design::from_parts(parts(rt, alloc, made)?) else {
         panic!(rt; "no design");
@@ -204,7 +204,7 @@ fn exponents(
     }
 }
 
-const BASE: Made<'static> = Made {
+const BASE: TestDesign<'static> = TestDesign {
     stages: 1,
     plant_den: 1,
     a: &[&[1]],
@@ -219,7 +219,7 @@ const BASE: Made<'static> = Made {
 #[test]
 fn exponents_of_designs(rt: HostRuntime) -> Result<(), Fail> {
     let alloc = rt.alloc();
-    let flat = Made {
+    let flat = TestDesign {
         limit_den: 1,
         final_rows: &[],
         ..BASE
@@ -230,14 +230,14 @@ fn exponents_of_designs(rt: HostRuntime) -> Result<(), Fail> {
     let cases = [
         (BASE, Ok(StepExponents { s: 1, s1: 1 })),
         (
-            Made {
+            TestDesign {
                 stage_rows: &[&[0, 1400000, 1400000]],
                 ..flat
             },
             Ok(StepExponents { s: 40, s1: 40 }),
         ),
         (
-            Made {
+            TestDesign {
                 stage_rows: &[&[0, 1500000, 1500000]],
                 ..flat
             },
@@ -254,8 +254,8 @@ fn exponents_of_designs(rt: HostRuntime) -> Result<(), Fail> {
     Ok(())
 }
 
-// Two stages, where no gap is dominant, and the certificate is below the number that needs none.
-const CERTIFIED: Made<'static> = Made {
+// Two stages, where no matrix is dominant, and the certificate is below the number that needs none.
+const CERTIFIED: TestDesign<'static> = TestDesign {
     stages: 2,
     plant_den: 1,
     a: &[&[2]],
@@ -268,7 +268,7 @@ const CERTIFIED: Made<'static> = Made {
 };
 
 // One axis of a satellite, angle and rate, over five half seconds.
-const SATELLITE: Made<'static> = Made {
+const SATELLITE: TestDesign<'static> = TestDesign {
     stages: 5,
     plant_den: 8,
     a: &[&[8, 4], &[0, 8]],
@@ -287,8 +287,8 @@ const SATELLITE: Made<'static> = Made {
     final_rows: &[&[1, 0, 8], &[-1, 0, 8], &[0, 1, 2], &[0, -1, 2]],
 };
 
-// Denominators at their greatest: the form is within its limits, and the gaps are not.
-const WIDE: Made<'static> = Made {
+// Denominators at their greatest: the form is within its limits, and the matrices are not.
+const WIDE: TestDesign<'static> = TestDesign {
     stages: 2,
     plant_den: 1048576,
     a: &[&[1048576]],

@@ -28,9 +28,9 @@ abbrev pub weight : (ℕ → ℕ → ℤ) → ℕ → ℕ → ℤ
 weight a i j = if nat_eq j i then pos 0 else absolute (a i j)
 
 -- the sum of the absolute values of the other entries of row i
-abbrev pub others : ℕ → (ℕ → ℕ → ℤ) → ℕ → ℤ
-others n a i = total n (weight a i)
+abbrev pub off_diagonal_sum : ℕ → (ℕ → ℕ → ℤ) → ℕ → ℤ
+off_diagonal_sum n a i = total n (weight a i)
 
 -- each diagonal entry is at least that
 abbrev pub IsDominant : ℕ → (ℕ → ℕ → ℤ) → Type 0
-IsDominant n a = (i : ℕ) → i < n → others n a i ≤ℤ a i i
+IsDominant n a = (i : ℕ) → i < n → off_diagonal_sum n a i ≤ℤ a i i

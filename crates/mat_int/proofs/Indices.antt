@@ -8,15 +8,15 @@ use Rattle.mat_int.specs.Matrix.{Matrix, row_of, entry_of}
 use Rattle.mat_int.proofs.Dots.{dot-take_suc, abs_dot-take_suc, abs_sum-take_suc}
 
 -- the first i of both lists
-pub dot-take_is : (i : ℕ) (xs ys : List ℤ) → i ≤ length xs → i ≤ length ys → lists.dot (take i xs) (take i ys) ≡ dot i (at xs) (at ys)
+pub dot-take_is : (i : ℕ) (xs ys : List ℤ) → i ≤ length xs → i ≤ length ys → lists.list_dot (take i xs) (take i ys) ≡ dot i (at xs) (at ys)
 dot-take_is zero xs ys p q = refl
 dot-take_is (suc i) xs ys p q =
     dot-take_suc xs ys i (omega arith) (omega arith) ∙ ap (λ (z : ℤ). z +ℤ at xs i *ℤ at ys i) (dot-take_is i xs ys (omega arith) (omega arith))
 
 -- two lists of n
-pub dot_is : (n : ℕ) (xs ys : List ℤ) → length xs ≡ n → length ys ≡ n → lists.dot xs ys ≡ dot n (at xs) (at ys)
+pub dot_is : (n : ℕ) (xs ys : List ℤ) → length xs ≡ n → length ys ≡ n → lists.list_dot xs ys ≡ dot n (at xs) (at ys)
 dot_is n xs ys h k =
-    let whole : lists.dot (take (length xs) xs) (take (length xs) ys) ≡ lists.dot xs ys = rw (take-length xs, h, ← k, take-length ys) refl in
+    let whole : lists.list_dot (take (length xs) xs) (take (length xs) ys) ≡ lists.list_dot xs ys = rw (take-length xs, h, ← k, take-length ys) refl in
     rw (← h) (sym whole ∙ dot-take_is (length xs) xs ys (omega arith) (omega arith))
 
 -- the first i of both lists

@@ -38,7 +38,7 @@ module _ (a b : Matrix) (same : a.cols ≡ b.cols) (even_a : All (λ row. length
   long_b j h = even_b j [] h ∙ sym same
 
   -- the product of row i of a and row j of b is an entry of a * b'
-  product_of_rows : (i j : ℕ) → i < length a.rows → j < length b.rows → lists.dot (row_of b j) (row_of a i) ≡ matrix_product a.cols (entry_of a) (transpose_of b) i j
+  product_of_rows : (i j : ℕ) → i < length a.rows → j < length b.rows → lists.list_dot (row_of b j) (row_of a i) ≡ matrix_product a.cols (entry_of a) (transpose_of b) i j
   product_of_rows i j p q = dot_is a.cols (row_of b j) (row_of a i) (long_b j q) (long_a i p) ∙ dot_comm a.cols (entry_of b j) (entry_of a i)
 
   -- and so is its absolute sum
@@ -53,11 +53,11 @@ module _ (a b : Matrix) (same : a.cols ≡ b.cols) (even_a : All (λ row. length
   products_are m e f = record {
     rows = ap length f ∙ length-map a.rows (times b);
     cols = e;
-    even = rw f (All-map (λ row. length row ≡ length b.rows) (times b) a.rows (λ k d h. length-map b.rows (λ row. lists.dot row (get_or a.rows k d))));
+    even = rw f (All-map (λ row. length row ≡ length b.rows) (times b) a.rows (λ k d h. length-map b.rows (λ row. lists.list_dot row (get_or a.rows k d))));
     entries = λ i j p q.
         ap (λ (rows : List (List ℤ)). get_or (get_or rows i []) j (pos 0)) f ∙
         ap (λ (row : List ℤ). get_or row j (pos 0)) (get_or-map (times b) a.rows i [] [] p) ∙
-        get_or-map (λ row. lists.dot row (row_of a i)) b.rows j [] (pos 0) q ∙
+        get_or-map (λ row. lists.list_dot row (row_of a i)) b.rows j [] (pos 0) q ∙
         product_of_rows i j p q;
   }
 

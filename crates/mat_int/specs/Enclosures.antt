@@ -2,7 +2,7 @@
 use Rattle.std.specs.Prelude.{◌≡◌, ℕ, ◌<◌, ◌^◌, ℤ, pos, ◌*ℤ◌, ◌≤ℤ◌, ◌<ℤ◌, length}
 use Rattle.integer_algebra.specs.Bounds.{absolute}
 use Rattle.integer_algebra.specs.Sums.{total}
-use Rattle.frac_scaled.specs.Enclosures.{Enclosure, reach, divided, whole_product}
+use Rattle.frac_scaled.specs.Enclosures.{Enclosure, magnitude, divided, whole_product}
 use Rattle.mat_int.specs.Matrix.{Matrix, entry_of, HasEntries}
 
 -- ---- c_0 x_0 + .. + c_(n - 1) x_(n - 1)
@@ -18,8 +18,8 @@ abbrev pub combined : ℕ → (ℕ → ℤ) → (ℕ → Enclosure) → ℕ → 
 combined n c x den = divided (combination n c x) den
 
 -- what the terms reach together
-abbrev pub combination_reach : ℕ → (ℕ → ℤ) → (ℕ → Enclosure) → ℤ
-combination_reach n c x = total n (λ i. absolute (c i) *ℤ reach (x i))
+abbrev pub combination_magnitude : ℕ → (ℕ → ℤ) → (ℕ → Enclosure) → ℤ
+combination_magnitude n c x = total n (λ i. absolute (c i) *ℤ magnitude (x i))
 
 -- ---- columns j and l of a matrix of n rows, multiplied row by row, each times the weight of its row
 -- without rounding: midpoint and radius are over 2^80
@@ -31,8 +31,8 @@ abbrev pub weighted_gram : ℕ → (ℕ → ℤ) → (ℕ → ℕ → Enclosure)
 weighted_gram n weight x j l = divided (gram_sum n weight x j l) (2 ^ 40)
 
 -- what the terms reach together
-abbrev pub gram_reach : ℕ → (ℕ → ℤ) → (ℕ → ℕ → Enclosure) → ℕ → ℕ → ℤ
-gram_reach n weight x j l = total n (λ i. weight i *ℤ (reach (x i j) *ℤ reach (x i l)))
+abbrev pub gram_magnitude : ℕ → (ℕ → ℤ) → (ℕ → ℕ → Enclosure) → ℕ → ℕ → ℤ
+gram_magnitude n weight x j l = total n (λ i. weight i *ℤ (magnitude (x i j) *ℤ magnitude (x i l)))
 
 -- ---- a matrix of midpoints and one of radii
 -- the enclosure in row i and column j

@@ -5,7 +5,7 @@ use Rattle.io_edge.specs.Faults.{Files}
 use Rattle.qp_model.specs.Controller.{Numbers}
 use Rattle.controller_file.proofs.Uniqueness.{one_controller}
 use Rattle.mpc_cli.specs.Words.{word_of, IsSolve, AsksToGenerate, IsGenerate, IsJson, IsTextGenerate}
-use Rattle.mpc_cli.specs.Solve.{HoldsController, HoldsState, NoController, NoState, HoldsBoth, HoldsFirst, SolveCause}
+use Rattle.mpc_cli.specs.Solve.{HoldsController, HoldsState, NoController, NoState, HoldsBoth, HoldsFirstOnly, SolveCause}
 use Rattle.mpc_cli.specs.Generate.{GenerateCause}
 use Rattle.mpc_cli.specs.Causes.{Causes, WordsCause}
 use Rattle.mpc_cli.specs.declared.status.Status.{Status}
@@ -29,7 +29,7 @@ clash_second (Some bytes) c xi holds (inl long) = omega (arith, holds.short, lon
 clash_second (Some bytes) c xi holds (inr none) = none xi holds
 clash_second None c xi holds none = holds
 
-both_clash : (files : Files) (first second : List ℕ) (c d : Numbers) (xi : List ℤ) → HoldsBoth files first second c xi → HoldsFirst files first second d → ⊥
+both_clash : (files : Files) (first second : List ℕ) (c d : Numbers) (xi : List ℤ) → HoldsBoth files first second c xi → HoldsFirstOnly files first second d → ⊥
 both_clash files first second c d xi holds lacks =
     let e = same_first (files first) d c lacks.controller holds.controller in
     clash_second (files second) c xi holds.state (subst (λ (x : Numbers). IsSomeAnd (files second) (NoState x)) e lacks.state)

@@ -6,7 +6,7 @@ use Rattle.qp_model.specs.declared.design_parts.DesignParts.{DesignParts}
 use Rattle.mpc_cli.specs.Words.{word_of, IsSolve, AsksToGenerate, IsTextGenerate}
 use Rattle.mpc_cli.specs.Solve.{SolveCause}
 use Rattle.mpc_cli.specs.Generate.{HoldsDesign, GenerateCause}
-use Rattle.mpc_cli.specs.Causes.{Causes, IsShown, HasFirst}
+use Rattle.mpc_cli.specs.Causes.{Causes, IsShown, FirstIsHeld}
 use Rattle.mpc_cli.specs.declared.status.Status.{Status}
 use Rattle.mpc_cli.specs.declared.status.Status.TheVariants.{WriteFault}
 use Rattle.mpc_cli.proofs.Causes.{solve_alone, generate_alone, no_solve}
@@ -21,7 +21,7 @@ generate_answers C D R (Some files) words text all = λ s cause c d. all s (gene
 generate_answers C D R None words text all = tt
 
 pub generate_first : (held : Option Files) (words : List (List ℕ)) → IsTextGenerate words → IfSome held (λ files. (p : DesignParts) × IsSomeAnd (files (word_of words 1)) (λ bytes. HoldsDesign bytes p)) →
-    IfSome held (λ files. HasFirst files words)
+    IfSome held (λ files. FirstIsHeld files words)
 generate_first (Some files) words text h = inr (text, h)
 generate_first None words text h = tt
 

@@ -1,7 +1,7 @@
 -- A design and a policy that are read, judged and written.
 use Rattle.std.proofs.Common.{◌≡◌, ◌⊎◌, inl, inr, ℕ, List, length, Option, Some, None, Result, Ok, Err, sym, ap, ◌∙◌, subst}
 use Rattle.std.specs.Prelude.{IfSome, IsSomeAnd, IsOkAnd, IsOk}
-use Rattle.io_edge.specs.Faults.{Files, IsCutShort, IsProperFront}
+use Rattle.io_edge.specs.Faults.{Files, IsCutShort, IsProperPrefix}
 use Rattle.qp_model.specs.Design.{Design}
 use Rattle.qp_model.specs.Policy.{Plans}
 use Rattle.qp_model.specs.Parts.{DesignNumbers, design_numbers, design_of}
@@ -12,7 +12,7 @@ use Rattle.mat_int.specs.Matrix.{entry_of}
 use Rattle.std.proofs.Common.{unsigned_abs}
 use Rattle.qp_model.specs.Parts.{cost_row, limit_row, final_row}
 use Rattle.bound_report.specs.Report.{report_text}
-use Rattle.design_files.specs.DesignText.{IsFirstFault}
+use Rattle.design_files.specs.DesignText.{IsDesignFault}
 use Rattle.policy_file.specs.PolicyText.{IsPolicyFault}
 use Rattle.design_engine.specs.Targets.{Targets, targets_of}
 use Rattle.design_engine.specs.Refusals.{HasCause, PassesAll}
@@ -20,8 +20,8 @@ use Rattle.design_engine.specs.declared.refusal.Refusal.{Refusal}
 use Rattle.design_engine.specs.declared.refusal.Refusal.TheVariants as refusals
 use Rattle.mpc_cli.specs.Words.{word_of, IsGenerate}
 use Rattle.mpc_cli.specs.Generate.{HoldsDesign, HoldsPolicy, HoldsInputs, IsFileRefused, IsAccepted, GenerateCause, status_of, IsGenerated, IsControllerCut, IsReportCut}
-use Rattle.mpc_cli.specs.Reading.{Unless, Stops, TellsOfFile, AreTextsOf, Passes, AreTexts, IsTurnedDown, Answered, AreWritten, IsSecondCut}
-use Rattle.mpc_cli.specs.Causes.{IsCaused}
+use Rattle.mpc_cli.specs.Reading.{Unless, Stops, TellsOfFile, AreTextsOf, PassesTests, AreTexts, IsTurnedDown, Answered, AreWritten, IsSecondCut}
+use Rattle.mpc_cli.specs.Causes.{IsNoFault}
 use Rattle.mpc_cli.specs.declared.status.Status.{Status}
 use Rattle.mpc_cli.specs.declared.status.Status.TheVariants.{Done, Memory, ReadFault, WriteFault}
 
@@ -105,7 +105,7 @@ refusing_no_read d t plans e (inl memory) at read = cc
 refusing_no_read d t plans e (inr why) at read = (refusal_cases d t plans why.0 why.1).2 at (sym why.2 ∙ read)
 
 -- ---- why the design, the policy or both are turned down
-pub design_turned_down : (held : Option Files) (first second : List ℕ) (e : Status) → Stops 1 e (IfSome held (λ files. IsFileRefused 1 IsFirstFault (files first) e)) → IsCaused e →
+pub design_turned_down : (held : Option Files) (first second : List ℕ) (e : Status) → Stops 1 e (IfSome held (λ files. IsFileRefused 1 IsDesignFault (files first) e)) → IsNoFault e →
     IfSome held (λ files. IsTurnedDown files first second e)
 design_turned_down (Some files) first second e (inl why) caused = inl why
 design_turned_down None first second e (inl why) caused = tt
@@ -113,7 +113,7 @@ design_turned_down held first second e (inr (inl memory)) caused = absurd (cause
 design_turned_down held first second e (inr (inr failed)) caused = absurd (caused.read 1 failed)
 
 pub policy_turned_down : (held : Option Files) (first second : List ℕ) (p : DesignParts) (e : Status) → IfSome held (λ files. IsSomeAnd (files first) (λ bytes. HoldsDesign bytes p)) →
-    Stops 2 e (IfSome held (λ files. IsFileRefused 2 (λ text. IsPolicyFault text (design_of p)) (files second) e)) → IsCaused e → IfSome held (λ files. IsTurnedDown files first second e)
+    Stops 2 e (IfSome held (λ files. IsFileRefused 2 (λ text. IsPolicyFault text (design_of p)) (files second) e)) → IsNoFault e → IfSome held (λ files. IsTurnedDown files first second e)
 policy_turned_down (Some files) first second p e design (inl why) caused = inr (inl (record { p = p; design = design; policy = why }))
 policy_turned_down None first second p e design (inl why) caused = tt
 policy_turned_down held first second p e design (inr (inl memory)) caused = absurd (caused.memory memory)
@@ -131,7 +131,7 @@ both_turned_down (Some files) first second p plans e r inputs cause is =
 both_turned_down None first second p plans e r inputs cause is = tt
 
 pub turned_down : (held : Option Files) (first second : List ℕ) (p : DesignParts) (plans : Plans) (e : Status) → Inputs held first second p plans →
-    Refusing (design_of p) (targets_of p) plans e → IsCaused e → IfSome held (λ files. IsTurnedDown files first second e)
+    Refusing (design_of p) (targets_of p) plans e → IsNoFault e → IfSome held (λ files. IsTurnedDown files first second e)
 turned_down held first second p plans e inputs (inl memory) caused = absurd (caused.memory memory)
 turned_down held first second p plans e inputs (inr why) caused = both_turned_down held first second p plans e why.0 inputs why.1 why.2
 
@@ -155,7 +155,7 @@ texts_made (Some files) first second p plans text report inputs texts = record {
 texts_made None first second p plans text report inputs texts = tt
 
 pub made_accepted : (held : Option Files) (first second : List ℕ) (p : DesignParts) (plans : Plans) → Inputs held first second p plans →
-    Passes p plans → IfSome held (λ files. IsAccepted files first second)
+    PassesTests p plans → IfSome held (λ files. IsAccepted files first second)
 made_accepted (Some files) first second p plans inputs passes =
     record { p = p; plans = plans; inputs = record { design = inputs.design; policy = inputs.policy }; margin = passes.margin; exponent = passes.exponent; bits = passes.bits; passes = passes.all }
 made_accepted None first second p plans inputs passes = tt
@@ -179,7 +179,7 @@ not_ok e (Err d) P is h = h
 
 -- the design's file stopped the run
 pub answers_first : {X Y : Type 0} (held : Option Files) (first second : List ℕ) (e : Status) (a : Result X Status) (r : Result Y Status) (Q : DesignParts → X → Type 0) → a ≡ Err e → r ≡ Err e →
-    IfSome held (λ files. (s : Status) → IsFileRefused 1 IsFirstFault (files first) s → Unless 1 a (a ≡ Err s)) →
+    IfSome held (λ files. (s : Status) → IsFileRefused 1 IsDesignFault (files first) s → Unless 1 a (a ≡ Err s)) →
     IfSome held (λ files. (p : DesignParts) → IsSomeAnd (files first) (λ bytes. HoldsDesign bytes p) → Unless 1 a (IsOkAnd a (Q p))) →
     IfSome held (λ files. (s : Status) → GenerateCause files first second s → Called r s)
 answers_first {X} {Y} (Some files) first second e a r Q is out refuses accepts = go
@@ -219,7 +219,7 @@ called_by_second e s r b Q is out go (inr (inr failed)) = inl (inr (inr (moved e
 
 -- what the two readers promise of the files, where the design was read as p0
 abbrev pub Refuses1 : {X : Type 0} → Option Files → List ℕ → Result X Status → Type 0
-Refuses1 held first a = IfSome held (λ files. (s : Status) → IsFileRefused 1 IsFirstFault (files first) s → Unless 1 a (a ≡ Err s))
+Refuses1 held first a = IfSome held (λ files. (s : Status) → IsFileRefused 1 IsDesignFault (files first) s → Unless 1 a (a ≡ Err s))
 
 abbrev pub Accepts1 : {X : Type 0} → Option Files → List ℕ → Result X Status → (DesignParts → X → Type 0) → Type 0
 Accepts1 held first a Q = IfSome held (λ files. (p : DesignParts) → IsSomeAnd (files first) (λ bytes. HoldsDesign bytes p) → Unless 1 a (IsOkAnd a (Q p)))
@@ -342,7 +342,7 @@ report_cut words text report generate files new texts written = record {
   others = λ q third fourth. written.second.others q fourth ∙ written.first.others q third;
 }
   where
-    kept : (new (word_of words 4) ≡ written.mid (word_of words 4)) ⊎ IsSomeAnd (new (word_of words 4)) (IsProperFront report) →
-        (new (word_of words 4) ≡ files (word_of words 4)) ⊎ IsSomeAnd (new (word_of words 4)) (IsProperFront (report_text texts.bounds))
+    kept : (new (word_of words 4) ≡ written.mid (word_of words 4)) ⊎ IsSomeAnd (new (word_of words 4)) (IsProperPrefix report) →
+        (new (word_of words 4) ≡ files (word_of words 4)) ⊎ IsSomeAnd (new (word_of words 4)) (IsProperPrefix (report_text texts.bounds))
     kept (inl same) = inl (same ∙ written.first.others (word_of words 4) generate.report_controller)
-    kept (inr front) = inr (subst (λ (bytes : List ℕ). IsSomeAnd (new (word_of words 4)) (IsProperFront bytes)) texts.is_report front)
+    kept (inr front) = inr (subst (λ (bytes : List ℕ). IsSomeAnd (new (word_of words 4)) (IsProperPrefix bytes)) texts.is_report front)

@@ -9,7 +9,7 @@ use Rattle.design_engine.specs.declared.refusal.Refusal.TheVariants as refusals
 use Rattle.mpc_cli.specs.Words.{word_of, IsTextGenerate}
 use Rattle.mpc_cli.specs.Generate.{HoldsDesign, IsAccepted, GenerateCause, status_of}
 use Rattle.mpc_cli.specs.Reading.{NoReadFailed, NoWriteFailed, IsTurnedDown, Writes}
-use Rattle.mpc_cli.specs.Causes.{IsCaused}
+use Rattle.mpc_cli.specs.Causes.{IsNoFault}
 use Rattle.mpc_cli.specs.declared.status.Status.{Status}
 use Rattle.mpc_cli.specs.declared.status.Status.TheVariants.{Done, Memory, ReadFault, WriteFault}
 use Rattle.mpc_cli.proofs.Generating.{Called}
@@ -49,7 +49,7 @@ done_causes : (held : Option Files) (first second : List ℕ) (s : Status) → s
 done_causes (Some files) first second s is accepted = inr (inr (inr (is, accepted)))
 done_causes None first second s is accepted = tt
 
-pub put_causes : (held : Option Files) (first second : List ℕ) (s : Status) → Writes s → IfSome held (λ files. IsAccepted files first second) → IsCaused s → IfSome held (λ files. GenerateCause files first second s)
+pub put_causes : (held : Option Files) (first second : List ℕ) (s : Status) → Writes s → IfSome held (λ files. IsAccepted files first second) → IsNoFault s → IfSome held (λ files. GenerateCause files first second s)
 put_causes held first second s (inl done) accepted caused = done_causes held first second s done accepted
 put_causes held first second s (inr (inl cut)) accepted caused = absurd (caused.write 3 cut)
 put_causes held first second s (inr (inr cut)) accepted caused = absurd (caused.write 4 cut)

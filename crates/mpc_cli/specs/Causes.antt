@@ -23,7 +23,7 @@ Causes files words s =
     ((IsSolve words × SolveCause files (word_of words 1) (word_of words 2) s) ⊎
     (IsTextGenerate words × GenerateCause files (word_of words 1) (word_of words 2) s))
 
--- what the output got: the line of the averaged plan, a front of it where the output failed, and nothing for any other answer
+-- what the output got: the line of the averaged plan, a prefix of it where the output failed, and nothing for any other answer
 pub record IsShown (files : Files) (words : List (List ℕ)) (s : Status) (old new : List ℕ) : Type 0 where
   pub done : s ≡ Done → IsSolve words → (line : List ℕ) × HoldsPlan files (word_of words 1) (word_of words 2) line × (new ≡ old ++ line)
   pub fault : s ≡ WriteFault 0 → IsSolve words × ((line : List ℕ) × HoldsPlan files (word_of words 1) (word_of words 2) line × GrowsByPart old new line)
@@ -31,14 +31,14 @@ pub record IsShown (files : Files) (words : List (List ℕ)) (s : Status) (old n
   pub other : s ≢ Done → s ≢ WriteFault 0 → new ≡ old
 
 -- an answer that has a cause in the words and the files
-pub record IsCaused (s : Status) : Type 0 where
+pub record IsNoFault (s : Status) : Type 0 where
   pub memory : s ≢ Memory
   pub read : (file : ℕ) → s ≢ ReadFault file
   pub write : (file : ℕ) → s ≢ WriteFault file
 
 -- the first file holds what it is to hold: where the second is read
-abbrev pub HasFirst : Files → List (List ℕ) → Type 0
-HasFirst files words =
+abbrev pub FirstIsHeld : Files → List (List ℕ) → Type 0
+FirstIsHeld files words =
     (IsSolve words × ((c : Numbers) × IsSomeAnd (files (word_of words 1)) (λ bytes. HoldsController bytes c))) ⊎
     (IsTextGenerate words × ((p : DesignParts) × IsSomeAnd (files (word_of words 1)) (λ bytes. HoldsDesign bytes p)))
 

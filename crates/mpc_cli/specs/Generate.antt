@@ -1,6 +1,6 @@
 -- What `generate` reads and writes, and why it refuses a design with a policy.
 use Rattle.std.specs.Prelude.{◌≡◌, ◌≢◌, ◌⊎◌, ℕ, ◌<◌, ◌≤◌, List, length, Option, Some, IsSomeAnd}
-use Rattle.io_edge.specs.Faults.{Files, IsCutShort, IsProperFront}
+use Rattle.io_edge.specs.Faults.{Files, IsCutShort, IsProperPrefix}
 use Rattle.qp_model.specs.Design.{Design}
 use Rattle.qp_model.specs.Parts.{design_of}
 use Rattle.qp_model.specs.Policy.{Plans}
@@ -11,7 +11,7 @@ use Rattle.qp_model.specs.declared.design_parts.DesignParts.{DesignParts}
 use Rattle.qp_model.specs.declared.bounds.Bounds.{Bounds}
 use Rattle.qp_model.specs.declared.bounds.Margin.{Margin}
 use Rattle.qp_model.specs.declared.text_fault.TextFault.{TextFault}
-use Rattle.design_files.specs.DesignText.{IsDesignText, IsFirstFault}
+use Rattle.design_files.specs.DesignText.{IsDesignText, IsDesignFault}
 use Rattle.policy_file.specs.PolicyText.{IsPolicyText, IsPolicyFault}
 use Rattle.bound_report.specs.Report.{report_text}
 use Rattle.design_engine.specs.Targets.{targets_of, IsWithinTargets}
@@ -68,7 +68,7 @@ pub record IsPolicyRefused (files : Files) (first second : List ℕ) (s : Status
   pub policy : IsFileRefused 2 (λ bytes. IsPolicyFault bytes (design_of p)) (files second) s
 
 -- both are right, and the design with the policy is refused
-pub record IsRefused (files : Files) (first second : List ℕ) (s : Status) : Type 0 where
+pub record IsDesignRefused (files : Files) (first second : List ℕ) (s : Status) : Type 0 where
   pub p : DesignParts
   pub plans : Plans
   pub inputs : HoldsInputs files first second p plans
@@ -89,14 +89,14 @@ pub record IsAccepted (files : Files) (first second : List ℕ) : Type 0 where
 -- what two files hold where this status is the answer of `generate`
 abbrev pub GenerateCause : Files → (first second : List ℕ) → Status → Type 0
 GenerateCause files first second s =
-    IsFileRefused 1 IsFirstFault (files first) s ⊎
+    IsFileRefused 1 IsDesignFault (files first) s ⊎
     (IsPolicyRefused files first second s ⊎
-    (IsRefused files first second s ⊎
+    (IsDesignRefused files first second s ⊎
     ((s ≡ Done) × IsAccepted files first second)))
 
 -- ---- what is written
 -- the controller and its bounds are built of the design and the policy in the files, and certified, and the bounds are within the targets
-pub record IsMade (files : Files) (first second : List ℕ) (c : Numbers) (b : Bounds) : Type 0 where
+pub record IsCertifiedAnswer (files : Files) (first second : List ℕ) (c : Numbers) (b : Bounds) : Type 0 where
   pub p : DesignParts
   pub plans : Plans
   pub inputs : HoldsInputs files first second p plans
@@ -109,7 +109,7 @@ pub record IsMade (files : Files) (first second : List ℕ) (c : Numbers) (b : B
 pub record IsGenerated (words : List (List ℕ)) (files new : Files) : Type 0 where
   pub controller : Numbers
   pub bounds : Bounds
-  pub made : IsMade files (word_of words 1) (word_of words 2) controller bounds
+  pub made : IsCertifiedAnswer files (word_of words 1) (word_of words 2) controller bounds
   pub text : List ℕ
   pub is_text : IsControllerText text controller
   pub controller_file : new (word_of words 3) ≡ Some text
@@ -120,18 +120,18 @@ pub record IsGenerated (words : List (List ℕ)) (files new : Files) : Type 0 wh
 pub record IsControllerCut (words : List (List ℕ)) (files new : Files) : Type 0 where
   pub controller : Numbers
   pub bounds : Bounds
-  pub made : IsMade files (word_of words 1) (word_of words 2) controller bounds
+  pub made : IsCertifiedAnswer files (word_of words 1) (word_of words 2) controller bounds
   pub text : List ℕ
   pub is_text : IsControllerText text controller
   pub cut : IsCutShort files new (word_of words 3) text
 
--- the controller's text stands whole, the report's name holds what it held or a proper front of the report, and every other name holds what it held
+-- the controller's text stands whole, the report's name holds what it held or a proper prefix of the report, and every other name holds what it held
 pub record IsReportCut (words : List (List ℕ)) (files new : Files) : Type 0 where
   pub controller : Numbers
   pub bounds : Bounds
-  pub made : IsMade files (word_of words 1) (word_of words 2) controller bounds
+  pub made : IsCertifiedAnswer files (word_of words 1) (word_of words 2) controller bounds
   pub text : List ℕ
   pub is_text : IsControllerText text controller
   pub controller_file : new (word_of words 3) ≡ Some text
-  pub report_file : (new (word_of words 4) ≡ files (word_of words 4)) ⊎ IsSomeAnd (new (word_of words 4)) (IsProperFront (report_text bounds))
+  pub report_file : (new (word_of words 4) ≡ files (word_of words 4)) ⊎ IsSomeAnd (new (word_of words 4)) (IsProperPrefix (report_text bounds))
   pub others : (q : List ℕ) → q ≢ word_of words 3 → q ≢ word_of words 4 → new q ≡ files q

@@ -11,12 +11,12 @@ use Rattle.qp_model.specs.declared.bounds.Bounds.{Bounds}
 use Rattle.qp_model.specs.declared.bounds.Margin.{Margin}
 use Rattle.qp_model.specs.declared.text_fault.TextFault.{TextFault}
 use Rattle.bound_report.specs.Report.{report_text}
-use Rattle.design_files.specs.DesignText.{IsFirstFault}
+use Rattle.design_files.specs.DesignText.{IsDesignFault}
 use Rattle.design_engine.specs.Targets.{targets_of, IsWithinTargets}
 use Rattle.design_engine.specs.Built.{IsBuilt}
 use Rattle.design_engine.specs.Refusals.{PassesAll}
 use Rattle.mpc_cli.specs.Words.{word_of, IsTextGenerate}
-use Rattle.mpc_cli.specs.Generate.{IsMade, IsFileRefused, IsPolicyRefused, IsRefused}
+use Rattle.mpc_cli.specs.Generate.{IsCertifiedAnswer, IsFileRefused, IsPolicyRefused, IsDesignRefused}
 use Rattle.mpc_cli.specs.declared.status.Status.{Status}
 use Rattle.mpc_cli.specs.declared.status.Status.TheVariants.{Done, Memory, ReadFault, WriteFault, Text, Long}
 
@@ -51,7 +51,7 @@ pub record AreTextsOf (p : DesignParts) (plans : Plans) (text report : List ℕ)
   pub is_report : report ≡ report_text bounds
 
 -- a design with a policy passes every test
-pub record Passes (p : DesignParts) (plans : Plans) : Type 0 where
+pub record PassesTests (p : DesignParts) (plans : Plans) : Type 0 where
   pub margin : Margin
   pub exponent : ℕ
   pub bits : ℕ
@@ -61,13 +61,13 @@ pub record Passes (p : DesignParts) (plans : Plans) : Type 0 where
 pub record AreTexts (files : Files) (first second text report : List ℕ) : Type 0 where
   pub controller : Numbers
   pub bounds : Bounds
-  pub made : IsMade files first second controller bounds
+  pub made : IsCertifiedAnswer files first second controller bounds
   pub is_text : IsControllerText text controller
   pub is_report : report ≡ report_text bounds
 
 -- two files are no design and policy for which there is a controller
 abbrev pub IsTurnedDown : Files → (first second : List ℕ) → Status → Type 0
-IsTurnedDown files first second s = IsFileRefused 1 IsFirstFault (files first) s ⊎ (IsPolicyRefused files first second s ⊎ IsRefused files first second s)
+IsTurnedDown files first second s = IsFileRefused 1 IsDesignFault (files first) s ⊎ (IsPolicyRefused files first second s ⊎ IsDesignRefused files first second s)
 
 -- the status s is told, or the work is done where it says so
 abbrev pub Answered : {X : Type 0} → Result X Status → Status → Type 0

@@ -2,7 +2,7 @@
 use Rattle.std.specs.Prelude.{◌≡◌, ◌≢◌, ◌⊎◌, ℕ, ◌<◌, ◌≤◌, ℤ, List, length, IsSomeAnd}
 use Rattle.io_edge.specs.Faults.{Files}
 use Rattle.qp_model.specs.Controller.{Numbers}
-use Rattle.qp_model.specs.Machine.{IsGridState}
+use Rattle.qp_model.specs.Machine.{IsAdmissible}
 use Rattle.qp_model.specs.ControllerText.{IsControllerText, plan_line}
 use Rattle.qp_model.specs.StateText.{IsStateText}
 use Rattle.mpc_cli.specs.Limit.{file_limit}
@@ -18,7 +18,7 @@ pub record HoldsController (bytes : List ℕ) (c : Numbers) : Type 0 where
 pub record HoldsState (c : Numbers) (bytes : List ℕ) (xi : List ℤ) : Type 0 where
   pub short : length bytes ≤ file_limit
   pub text : IsStateText c.states bytes xi
-  pub inside : IsGridState c xi
+  pub inside : IsAdmissible c xi
 
 -- the bytes are too many, or no controller's text
 abbrev pub NoController : List ℕ → Type 0
@@ -50,7 +50,7 @@ pub record HoldsBoth (files : Files) (first second : List ℕ) (c : Numbers) (xi
   pub state : IsSomeAnd (files second) (λ bytes. HoldsState c bytes xi)
 
 -- the first holds a controller, and the second no state in its box
-pub record HoldsFirst (files : Files) (first second : List ℕ) (c : Numbers) : Type 0 where
+pub record HoldsFirstOnly (files : Files) (first second : List ℕ) (c : Numbers) : Type 0 where
   pub controller : IsSomeAnd (files first) (λ bytes. HoldsController bytes c)
   pub state : IsSomeAnd (files second) (NoState c)
 
@@ -63,7 +63,7 @@ abbrev pub SolveCause : Files → (first second : List ℕ) → Status → Type 
 SolveCause files first second s =
     ((s ≡ Done) × (c : Numbers) × (xi : List ℤ) × HoldsBoth files first second c xi) ⊎
     (((s ≡ Unbuilt 1) × IsSomeAnd (files first) NoController) ⊎
-    ((s ≡ Unbuilt 2) × (c : Numbers) × HoldsFirst files first second c))
+    ((s ≡ Unbuilt 2) × (c : Numbers) × HoldsFirstOnly files first second c))
 
 -- the files show why, unless there was no memory or a fault of reading
 abbrev pub Refuses : Files → (first second : List ℕ) → Status → Type 0

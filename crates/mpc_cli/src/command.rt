@@ -6,7 +6,7 @@ ghost use Rattle.mpc_cli.specs.Words.{word_of, IsSolve, AsksToGenerate, IsTextGe
 ghost use Rattle.mpc_cli.specs.Solve.{HoldsController, SolveCause};
 ghost use Rattle.mpc_cli.specs.Generate.{IsGenerated, IsControllerCut, IsReportCut};
 ghost use Rattle.mpc_cli.specs.Reading.{NoReadFailed, NoWriteFailed};
-ghost use Rattle.mpc_cli.specs.Causes.{Causes, IsCaused, IsShown, HasFirst, MayWrite, WordsCause};
+ghost use Rattle.mpc_cli.specs.Causes.{Causes, IsNoFault, IsShown, FirstIsHeld, MayWrite, WordsCause};
 
 use crate::generate::generate_from;
 use crate::solve::line_for;
@@ -35,7 +35,7 @@ pub fn run<S: Store, O: Sink>(alloc: Global, words: &Words, store: &mut S, out: 
     ensures shows { IfSome (S.held store.old) (λ files. IfSome (O.got out.old) (λ old. IsSomeAnd (O.got out.new) (IsShown files words.now result old))) }
 
     // Every answer but want of memory and a fault has its cause in the words and the files.
-    ensures causes { IsCaused result → IfSome (S.held store.old) (λ files. Causes files words.now result) }
+    ensures causes { IsNoFault result → IfSome (S.held store.old) (λ files. Causes files words.now result) }
 
     // It doesn't give up: where no count rises of a file that the command reads or writes, nor that of the output, the answer is the one that the
     // words and the files call for, or there was no memory.
@@ -47,7 +47,7 @@ pub fn run<S: Store, O: Sink>(alloc: Global, words: &Words, store: &mut S, out: 
     // A fault comes only where the count of that very name, or of the output, rose; the second file is read where the first is right.
     ensures read_fault { (file : ℕ) → result ≡ Status.ReadFault file → (IsSolve words.now ⊎ IsTextGenerate words.now) × ((file ≡ 1) ⊎ (file ≡ 2))
         × Rose (S.read_faults store.old (word_of words.now file)) (S.read_faults store.new (word_of words.now file)) }
-    ensures in_order { result ≡ Status.ReadFault 2 → IfSome (S.held store.old) (λ files. HasFirst files words.now) }
+    ensures in_order { result ≡ Status.ReadFault 2 → IfSome (S.held store.old) (λ files. FirstIsHeld files words.now) }
     ensures write_fault { (file : ℕ) → result ≡ Status.WriteFault file → ((file ≡ 0) × IsSolve words.now × Rose (O.faults out.old) (O.faults out.new))
         ⊎ (IsTextGenerate words.now × ((file ≡ 3) ⊎ (file ≡ 4)) × Rose (S.write_faults store.old (word_of words.now file)) (S.write_faults store.new (word_of words.now file))) }
 
@@ -73,13 +73,13 @@ fn generate_by<S: Store>(alloc: Global, words: &Words, store: &mut S) -> Status
     ensures generated { IsTextGenerate words.now → result ≡ Status.Done → IfSome (S.held store.old) (λ files. IsSomeAnd (S.held store.new) (IsGenerated words.now files)) }
     ensures controller_cut { result ≡ Status.WriteFault 3 → IfSome (S.held store.old) (λ files. IsSomeAnd (S.held store.new) (IsControllerCut words.now files)) }
     ensures report_cut { result ≡ Status.WriteFault 4 → IfSome (S.held store.old) (λ files. IsSomeAnd (S.held store.new) (IsReportCut words.now files)) }
-    ensures causes { IsCaused result → IfSome (S.held store.old) (λ files. Causes files words.now result) }
+    ensures causes { IsNoFault result → IfSome (S.held store.old) (λ files. Causes files words.now result) }
     ensures answers { IfSome (S.held store.old) (λ files. (s : Status) → Causes files words.now s
         → NoReadFailed words.now (S.read_faults store.old) (S.read_faults store.new) → NoWriteFailed words.now (S.write_faults store.old) (S.write_faults store.new)
         → (result ≡ s) ⊎ (result ≡ Status.Memory)) }
     ensures read_fault { (file : ℕ) → result ≡ Status.ReadFault file → IsTextGenerate words.now × ((file ≡ 1) ⊎ (file ≡ 2))
         × Rose (S.read_faults store.old (word_of words.now file)) (S.read_faults store.new (word_of words.now file)) }
-    ensures in_order { result ≡ Status.ReadFault 2 → IfSome (S.held store.old) (λ files. HasFirst files words.now) }
+    ensures in_order { result ≡ Status.ReadFault 2 → IfSome (S.held store.old) (λ files. FirstIsHeld files words.now) }
     ensures write_fault { (file : ℕ) → result ≡ Status.WriteFault file → IsTextGenerate words.now × ((file ≡ 3) ⊎ (file ≡ 4))
         × Rose (S.write_faults store.old (word_of words.now file)) (S.write_faults store.new (word_of words.now file)) }
     ensures held { ¬ MayWrite words.now result → S.held store.new ≡ S.held store.old }
@@ -100,7 +100,7 @@ fn generate_by<S: Store>(alloc: Global, words: &Words, store: &mut S) -> Status
 fn solve_by<S: Store, O: Sink>(alloc: Global, words: &Words, store: &mut S, out: &mut O) -> Status
     requires { IsSolve words.now }
     ensures shows { IfSome (S.held store.old) (λ files. IfSome (O.got out.old) (λ old. IsSomeAnd (O.got out.new) (IsShown files words.now result old))) }
-    ensures causes { IsCaused result → IfSome (S.held store.old) (λ files. SolveCause files (word_of words.now 1) (word_of words.now 2) result) }
+    ensures causes { IsNoFault result → IfSome (S.held store.old) (λ files. SolveCause files (word_of words.now 1) (word_of words.now 2) result) }
     ensures answers { IfSome (S.held store.old) (λ files. (s : Status) → SolveCause files (word_of words.now 1) (word_of words.now 2) s
         → NoReadFailed words.now (S.read_faults store.old) (S.read_faults store.new) → ¬ Rose (O.faults out.old) (O.faults out.new)
         → (result ≡ s) ⊎ (result ≡ Status.Memory)) }

@@ -5,7 +5,7 @@ ghost use Rattle.qp_model.specs.Parts.{design_of, design_numbers};
 ghost use Rattle.qp_model.specs.Policy.{Plans, plans_of, IsPolicyFor};
 ghost use Rattle.qp_model.specs.declared.design_parts.DesignParts.{DesignParts};
 ghost use Rattle.qp_model.specs.declared.bounds.Margin.{Margin};
-ghost use Rattle.design_files.specs.DesignText.{IsFirstFault};
+ghost use Rattle.design_files.specs.DesignText.{IsDesignFault};
 ghost use Rattle.policy_file.specs.PolicyText.{IsPolicyFault};
 ghost use Rattle.design_engine.specs.Targets.{targets_of};
 ghost use Rattle.design_engine.specs.Refusals.{HasCause, PassesAll};
@@ -13,8 +13,8 @@ ghost use Rattle.design_engine.specs.declared.refusal.Refusal.{Refusal};
 ghost use Rattle.mpc_cli.specs.Words.{word_of, IsTextGenerate};
 ghost use Rattle.mpc_cli.specs.Limit.{file_limit};
 ghost use Rattle.mpc_cli.specs.Generate.{HoldsDesign, HoldsPolicy, IsFileRefused, IsAccepted, GenerateCause, status_of, IsGenerated, IsControllerCut, IsReportCut};
-ghost use Rattle.mpc_cli.specs.Reading.{Unless, Stops, TellsOfFile, NoReadFailed, NoWriteFailed, AreTextsOf, Passes, AreTexts, IsTurnedDown, Answered, Writes, AreWritten, IsSecondCut};
-ghost use Rattle.mpc_cli.specs.Causes.{IsCaused};
+ghost use Rattle.mpc_cli.specs.Reading.{Unless, Stops, TellsOfFile, NoReadFailed, NoWriteFailed, AreTextsOf, PassesTests, AreTexts, IsTurnedDown, Answered, Writes, AreWritten, IsSecondCut};
+ghost use Rattle.mpc_cli.specs.Causes.{IsNoFault};
 
 use crate::files::bytes_in;
 use crate::status::Status;
@@ -62,9 +62,9 @@ fn refusal_status(refusal: Refusal) -> Status
 fn design_from(alloc: Global, bytes: &[u8]) -> Result<Design, Status>
     requires { length bytes.now ≤ file_limit }
     ensures ok { IfOk result (λ d. HoldsDesign bytes.now d.parts) }
-    ensures refused { IfErr result (λ e. (e ≡ Status.Memory) ⊎ IsFileRefused 1 IsFirstFault (Some bytes.now) e) }
+    ensures refused { IfErr result (λ e. (e ≡ Status.Memory) ⊎ IsFileRefused 1 IsDesignFault (Some bytes.now) e) }
     ensures accepts { (p : DesignParts) → HoldsDesign bytes.now p → (result ≡ Err Status.Memory) ⊎ IsOkAnd result (λ d. design_numbers d.parts ≡ design_numbers p) }
-    ensures refuses { (s : Status) → IsFileRefused 1 IsFirstFault (Some bytes.now) s → (result ≡ Err Status.Memory) ⊎ (result ≡ Err s) }
+    ensures refuses { (s : Status) → IsFileRefused 1 IsDesignFault (Some bytes.now) s → (result ≡ Err Status.Memory) ⊎ (result ≡ Err s) }
 {
     match read_design(alloc, bytes) {
         Ok(design) => Ok(design),
@@ -76,10 +76,10 @@ fn design_from(alloc: Global, bytes: &[u8]) -> Result<Design, Status>
 fn design_in<S: Store>(alloc: Global, name: &str, store: &mut S) -> Result<Design, Status>
     ensures ok { IfOk result (λ d. IfSome (S.held store.old) (λ files. IsSomeAnd (files name.now) (λ bytes. HoldsDesign bytes d.parts))) }
     ensures only { IfErr result (λ e. Stops 1 e (TellsOfFile 1 e)) }
-    ensures refused { IfErr result (λ e. Stops 1 e (IfSome (S.held store.old) (λ files. IsFileRefused 1 IsFirstFault (files name.now) e))) }
+    ensures refused { IfErr result (λ e. Stops 1 e (IfSome (S.held store.old) (λ files. IsFileRefused 1 IsDesignFault (files name.now) e))) }
     ensures accepts { IfSome (S.held store.old) (λ files. (p : DesignParts) → IsSomeAnd (files name.now) (λ bytes. HoldsDesign bytes p)
         → Unless 1 result (IsOkAnd result (λ d. design_numbers d.parts ≡ design_numbers p))) }
-    ensures refuses { IfSome (S.held store.old) (λ files. (s : Status) → IsFileRefused 1 IsFirstFault (files name.now) s → Unless 1 result (result ≡ Err s)) }
+    ensures refuses { IfSome (S.held store.old) (λ files. (s : Status) → IsFileRefused 1 IsDesignFault (files name.now) s → Unless 1 result (result ≡ Err s)) }
     ensures failed { IsErrOf result (Status.ReadFault 1) → Rose (S.read_faults store.old name.now) (S.read_faults store.new name.now) }
     ensures held { S.held store.new ≡ S.held store.old }
     ensures reads { NoneFalls (S.read_faults store.old) (S.read_faults store.new) }
@@ -132,7 +132,7 @@ fn policy_in<S: Store>(
 fn texts_of(alloc: Global, design: &Design, policy: &Policy) -> Result<Texts, Status>
     requires { IsPolicyFor (design_of design.now.parts) (plans_of policy.now) }
     ensures ok { IfOk result (λ t. AreTextsOf design.now.parts (plans_of policy.now) t.controller.items t.report.items) }
-    ensures passes { IfOk result (λ _. Passes design.now.parts (plans_of policy.now)) }
+    ensures passes { IfOk result (λ _. PassesTests design.now.parts (plans_of policy.now)) }
     ensures refused { IfErr result (λ e. (e ≡ Status.Memory)
         ⊎ ((r : Refusal) × HasCause (design_of design.now.parts) (targets_of design.now.parts) (plans_of policy.now) r × (e ≡ status_of r))) }
     ensures refuses { (r : Refusal) → HasCause (design_of design.now.parts) (targets_of design.now.parts) (plans_of policy.now) r
@@ -160,7 +160,7 @@ fn texts_for<S: Store>(
     ensures accepted { IfOk result (λ _. IfSome (S.held store.old) (λ files. IsAccepted files first.now second.now)) }
     ensures not_done { ¬ IsErrOf result Status.Done }
     ensures no_write { (file : ℕ) → ¬ IsErrOf result (Status.WriteFault file) }
-    ensures refused { IfErr result (λ e. IsCaused e → IfSome (S.held store.old) (λ files. IsTurnedDown files first.now second.now e)) }
+    ensures refused { IfErr result (λ e. IsNoFault e → IfSome (S.held store.old) (λ files. IsTurnedDown files first.now second.now e)) }
     ensures answers { IfSome (S.held store.old) (λ files. (s : Status) → GenerateCause files first.now second.now s → Unless 1 result (Unless 2 result (Answered result s))) }
     ensures read_fault { (file : ℕ) → IsErrOf result (Status.ReadFault file) → ((file ≡ 1) × Rose (S.read_faults store.old first.now) (S.read_faults store.new first.now))
         ⊎ ((file ≡ 2) × Rose (S.read_faults store.old second.now) (S.read_faults store.new second.now)) }
@@ -203,7 +203,7 @@ pub fn generate_from<S: Store>(alloc: Global, words: &Words, store: &mut S) -> S
     ensures generated { result ≡ Status.Done → IfSome (S.held store.old) (λ files. IsSomeAnd (S.held store.new) (IsGenerated words.now files)) }
     ensures controller_cut { result ≡ Status.WriteFault 3 → IfSome (S.held store.old) (λ files. IsSomeAnd (S.held store.new) (IsControllerCut words.now files)) }
     ensures report_cut { result ≡ Status.WriteFault 4 → IfSome (S.held store.old) (λ files. IsSomeAnd (S.held store.new) (IsReportCut words.now files)) }
-    ensures causes { IsCaused result → IfSome (S.held store.old) (λ files. GenerateCause files (word_of words.now 1) (word_of words.now 2) result) }
+    ensures causes { IsNoFault result → IfSome (S.held store.old) (λ files. GenerateCause files (word_of words.now 1) (word_of words.now 2) result) }
     ensures answers { IfSome (S.held store.old) (λ files. (s : Status) → GenerateCause files (word_of words.now 1) (word_of words.now 2) s
         → NoReadFailed words.now (S.read_faults store.old) (S.read_faults store.new) → NoWriteFailed words.now (S.write_faults store.old) (S.write_faults store.new)
         → (result ≡ s) ⊎ (result ≡ Status.Memory)) }

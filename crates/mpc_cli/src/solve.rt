@@ -1,7 +1,7 @@
 // `solve`: a controller on one state.
 ghost use Rattle.std.specs.Prelude.{◌≡◌, ℕ, ℤ, List, Option, Some, IfSome, IsSomeAnd, IfOk, IfErr, IsErrOf, OnOk, OnErr, IsSome, ◌⊎◌, ◌++◌, ◌≤◌, ◌<◌, ◌↔◌, length};
 ghost use Rattle.io_edge.specs.Faults.{Rose, NoneFalls, GrowsByPart};
-ghost use Rattle.qp_model.specs.Machine.{IsGridState};
+ghost use Rattle.qp_model.specs.Machine.{IsAdmissible};
 ghost use Rattle.qp_model.specs.ControllerText.{plan_line};
 ghost use Rattle.qp_model.specs.Controller.{Numbers};
 ghost use Rattle.mpc_cli.specs.Solve.{HoldsController, HasText, LacksText, HoldsLine, HoldsPlan, Refuses, NoController, NoState};
@@ -81,7 +81,7 @@ pub fn line_from(
 ) -> Result<Option<Vec<u8>>, AllocError>
     requires { length state.now ≡ controller.now.states }
     ensures line { IfOk result (λ o. IfSome o (λ line. line.items ≡ plan_line controller.now state.now)) }
-    ensures inside { IfOk result (λ o. IsSome o ↔ IsGridState controller.now state.now) }
+    ensures inside { IfOk result (λ o. IsSome o ↔ IsAdmissible controller.now state.now) }
 {
     let mut kernel = Kernel::prepare(alloc, controller)?;
     if kernel.run(state).is_err() {

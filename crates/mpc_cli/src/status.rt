@@ -1,5 +1,5 @@
 ghost use Rattle.std.specs.Prelude.{◌≡◌};
-ghost use Rattle.mpc_cli.specs.Status.{number_of};
+ghost use Rattle.mpc_cli.specs.Status.{number_of_status};
 ghost use Rattle.mpc_cli.specs.declared.status.Status.TheVariants.{Memory as no_memory};
 
 use frac_scaled::Frac;
@@ -48,7 +48,7 @@ impl From<AllocError> for Status {
 
 /// The exit status of the program.
 pub fn status_number(status: &Status) -> u8
-    ensures { result ≡ number_of status.now }
+    ensures { result ≡ number_of_status status.now }
 {
     match status {
         Status::Done => 0,

@@ -4,30 +4,30 @@ use Rattle.std.specs.List.{range_with_len}
 use Rattle.std.proofs.lemmas.List.FromFn.{map-range_with_len_more}
 use Rattle.std.proofs.lemmas.Nat.{pow_pos}
 use Rattle.qp_model.specs.Controller.{Numbers}
-use Rattle.qp_model.specs.AbsoluteSums.{reach_sum, state_reach, entry_reach, row_reach, next_reach, sum_reach, greatest_of, greatest_sum}
+use Rattle.qp_model.specs.AbsoluteSums.{weighted_abs_sum, state_magnitudes, entry_absolute_sum, row_absolute_sum, next_magnitude, sum_magnitude, greatest_of, greatest_sum}
 
 -- ---- sums up to an index
-pub reach_sum-take_suc : (xs : List ℤ) (ys : List ℕ) (i : ℕ) → i < length xs → i < length ys → reach_sum (take (suc i) xs) (take (suc i) ys) ≡ reach_sum (take i xs) (take i ys) + unsigned_abs (get_or xs i (pos 0)) * get_or ys i 0
-reach_sum-take_suc [] ys i p q = absurd (omega arith)
-reach_sum-take_suc (x ∷ xs) [] i p q = absurd (omega arith)
-reach_sum-take_suc (x ∷ xs) (y ∷ ys) zero p q = omega arith
-reach_sum-take_suc (x ∷ xs) (y ∷ ys) (suc i) p q =
-    let again = reach_sum-take_suc xs ys i (omega arith) (omega arith) in omega (arith, again)
+pub weighted_abs_sum-take_suc : (xs : List ℤ) (ys : List ℕ) (i : ℕ) → i < length xs → i < length ys → weighted_abs_sum (take (suc i) xs) (take (suc i) ys) ≡ weighted_abs_sum (take i xs) (take i ys) + unsigned_abs (get_or xs i (pos 0)) * get_or ys i 0
+weighted_abs_sum-take_suc [] ys i p q = absurd (omega arith)
+weighted_abs_sum-take_suc (x ∷ xs) [] i p q = absurd (omega arith)
+weighted_abs_sum-take_suc (x ∷ xs) (y ∷ ys) zero p q = omega arith
+weighted_abs_sum-take_suc (x ∷ xs) (y ∷ ys) (suc i) p q =
+    let again = weighted_abs_sum-take_suc xs ys i (omega arith) (omega arith) in omega (arith, again)
 
-pub reach_sum-take_more : (xs : List ℤ) (ys : List ℕ) (i : ℕ) → i < length xs → i < length ys → reach_sum (take (i + 1) xs) (take (i + 1) ys) ≡ reach_sum (take i xs) (take i ys) + unsigned_abs (get_or xs i (pos 0)) * get_or ys i 0
-reach_sum-take_more xs ys i p q = rw add-one (reach_sum-take_suc xs ys i p q)
+pub weighted_abs_sum-take_more : (xs : List ℤ) (ys : List ℕ) (i : ℕ) → i < length xs → i < length ys → weighted_abs_sum (take (i + 1) xs) (take (i + 1) ys) ≡ weighted_abs_sum (take i xs) (take i ys) + unsigned_abs (get_or xs i (pos 0)) * get_or ys i 0
+weighted_abs_sum-take_more xs ys i p q = rw add-one (weighted_abs_sum-take_suc xs ys i p q)
 
-reach_sum-take_le : (xs : List ℤ) (ys : List ℕ) (i : ℕ) → reach_sum (take i xs) (take i ys) ≤ reach_sum xs ys
-reach_sum-take_le xs ys zero = omega arith
-reach_sum-take_le [] ys (suc i) = omega arith
-reach_sum-take_le (x ∷ xs) [] (suc i) = omega arith
-reach_sum-take_le (x ∷ xs) (y ∷ ys) (suc i) = omega (arith, reach_sum-take_le xs ys i)
+weighted_abs_sum-take_le : (xs : List ℤ) (ys : List ℕ) (i : ℕ) → weighted_abs_sum (take i xs) (take i ys) ≤ weighted_abs_sum xs ys
+weighted_abs_sum-take_le xs ys zero = omega arith
+weighted_abs_sum-take_le [] ys (suc i) = omega arith
+weighted_abs_sum-take_le (x ∷ xs) [] (suc i) = omega arith
+weighted_abs_sum-take_le (x ∷ xs) (y ∷ ys) (suc i) = omega (arith, weighted_abs_sum-take_le xs ys i)
 
 -- the sum so far and the next product are within the whole sum
-pub reach_sum_more_le : (xs : List ℤ) (ys : List ℕ) (i : ℕ) → i < length xs → i < length ys → reach_sum (take i xs) (take i ys) + unsigned_abs (get_or xs i (pos 0)) * get_or ys i 0 ≤ reach_sum xs ys
-reach_sum_more_le xs ys i p q = omega (arith, reach_sum-take_suc xs ys i p q, reach_sum-take_le xs ys (suc i))
+pub reach_sum_more_le : (xs : List ℤ) (ys : List ℕ) (i : ℕ) → i < length xs → i < length ys → weighted_abs_sum (take i xs) (take i ys) + unsigned_abs (get_or xs i (pos 0)) * get_or ys i 0 ≤ weighted_abs_sum xs ys
+reach_sum_more_le xs ys i p q = omega (arith, weighted_abs_sum-take_suc xs ys i p q, weighted_abs_sum-take_le xs ys (suc i))
 
-pub ruleset sum_steps = (reach_sum-take_more, reach_sum_more_le)
+pub ruleset sum_steps = (weighted_abs_sum-take_more, reach_sum_more_le)
 
 -- ---- the parts of a plan entry's sum
 le_times_pow : (a k : ℕ) → a ≤ a * 2 ^ k
@@ -76,9 +76,9 @@ greatest-take_more xs i h = rw add-one (greatest-take_suc xs i h)
 pub ruleset greatest_steps = (greatest-map_more, le-greatest, greatest-take_more)
 
 pub greatest-parts : (c : Numbers) → greatest_sum c ≡
-    max (max (max (max (greatest_of (state_reach c)) (greatest_of (map (entry_reach c) (range_with_len 0 (length c.offsets)))))
-    (greatest_of (map (row_reach c) (range_with_len 0 (length c.bounds))))) (greatest_of (map (next_reach c) (range_with_len 0 (length c.bounds)))))
-    (greatest_of (map (sum_reach c) (range_with_len 0 (length c.offsets))))
+    max (max (max (max (greatest_of (state_magnitudes c)) (greatest_of (map (entry_absolute_sum c) (range_with_len 0 (length c.offsets)))))
+    (greatest_of (map (row_absolute_sum c) (range_with_len 0 (length c.bounds))))) (greatest_of (map (next_magnitude c) (range_with_len 0 (length c.bounds)))))
+    (greatest_of (map (sum_magnitude c) (range_with_len 0 (length c.offsets))))
 greatest-parts c = rw (greatest-append, greatest-append, greatest-append, greatest-append) refl
 
 -- each number of a list is at most the greatest

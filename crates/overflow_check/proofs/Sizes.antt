@@ -6,29 +6,29 @@ use Rattle.std.proofs.lemmas.List.{length-replicate}
 use Rattle.std.proofs.lemmas.List.FromFn.{length-map-range_with_len}
 use Rattle.qp_model.specs.Range.{IsNumerator}
 use Rattle.qp_model.specs.Controller.{Numbers, IsSized}
-use Rattle.qp_model.specs.AbsoluteSums.{reach_of, state_reach, clamp_reach, plan_reach}
+use Rattle.qp_model.specs.AbsoluteSums.{magnitudes_of, state_magnitudes, clamp_magnitudes, plan_magnitudes}
 
 -- ---- lengths of the reaches
-pub length-reach_of : (k : ℕ) (lows highs : List ℤ) → length lows ≡ length highs → length (reach_of k lows highs) ≡ length lows
+pub length-reach_of : (k : ℕ) (lows highs : List ℤ) → length lows ≡ length highs → length (magnitudes_of k lows highs) ≡ length lows
 length-reach_of k [] highs e = refl
 length-reach_of k (low ∷ lows) [] e = absurd (omega arith)
 length-reach_of k (low ∷ lows) (high ∷ highs) e = omega (arith, length-reach_of k lows highs (omega arith))
 
 pub get_or-reach_of : (k : ℕ) (lows highs : List ℤ) (i : ℕ) → i < length lows → length lows ≡ length highs →
-    get_or (reach_of k lows highs) i 0 ≡ max (unsigned_abs (get_or lows i (pos 0))) (unsigned_abs (get_or highs i (pos 0))) * 2 ^ k
+    get_or (magnitudes_of k lows highs) i 0 ≡ max (unsigned_abs (get_or lows i (pos 0))) (unsigned_abs (get_or highs i (pos 0))) * 2 ^ k
 get_or-reach_of k [] highs i h e = absurd (omega arith)
 get_or-reach_of k (low ∷ lows) [] i h e = absurd (omega arith)
 get_or-reach_of k (low ∷ lows) (high ∷ highs) zero h e = refl
 get_or-reach_of k (low ∷ lows) (high ∷ highs) (suc i) h e = get_or-reach_of k lows highs i (omega arith) (omega arith)
 
-pub length-state_reach : (c : Numbers) → IsSized c → length (state_reach c) ≡ c.states
+pub length-state_reach : (c : Numbers) → IsSized c → length (state_magnitudes c) ≡ c.states
 length-state_reach c s =
     omega (arith, length-reach_of (c.fraction_bits - c.grid_bits) c.low c.high (omega (arith, s.shaped.low, s.shaped.high)), s.shaped.low)
 
-pub length-clamp_reach : (c : Numbers) → length (clamp_reach c) ≡ length c.bounds
+pub length-clamp_reach : (c : Numbers) → length (clamp_magnitudes c) ≡ length c.bounds
 length-clamp_reach c = length-replicate (length c.bounds) (unsigned_abs c.clamp)
 
-pub length-plan_reach : (c : Numbers) → length (plan_reach c) ≡ length c.offsets
+pub length-plan_reach : (c : Numbers) → length (plan_magnitudes c) ≡ length c.offsets
 length-plan_reach c = length-map-range_with_len _ 0 (length c.offsets)
 
 -- ---- limits

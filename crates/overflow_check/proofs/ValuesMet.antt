@@ -6,12 +6,12 @@ use Rattle.std.proofs.lemmas.Nat.{pow_pos, mul-le}
 use Rattle.std.proofs.lemmas.List.Elements.{All-nil, All-cons, All-append, All-weaker, All-from_get_or}
 use Rattle.integer_algebra.specs.Division.{floor_of, ceil_div}
 use Rattle.integer_algebra.specs.Sums.{at}
-use Rattle.mat_int.specs.Row.{dot, abs_dot}
+use Rattle.mat_int.specs.Row.{list_dot, abs_dot}
 use Rattle.mat_int.specs.Matrix.{row_of}
 use Rattle.mat_int.proofs.Dots.{abs-add_le}
 use Rattle.qp_model.specs.Controller.{Numbers}
-use Rattle.qp_model.specs.Machine.{Made, loaded, entry_sum, plan_entry, plan_of, row_sum, next_multiplier, step_of, after}
-use Rattle.qp_model.specs.AbsoluteSums.{state_reach, clamp_reach, entry_reach, plan_reach, row_reach, next_reach}
+use Rattle.qp_model.specs.Machine.{Iterate, loaded, entry_sum, plan_entry, plan_of, row_sum, next_multiplier, step_of, after}
+use Rattle.qp_model.specs.AbsoluteSums.{state_magnitudes, clamp_magnitudes, entry_absolute_sum, plan_magnitudes, row_absolute_sum, next_magnitude}
 use Rattle.qp_model.specs.ValuesMet.{products, partial_sums, entry_values, row_values, FitsWidth, StepFits}
 use Rattle.overflow_check.specs.Within.{AreWithin}
 use Rattle.overflow_check.specs.Laws.{ValuesLaw}
@@ -55,24 +55,24 @@ all_fit : (w : ℕ) (zs : List ℤ) → AreBelow (2 ^ (w - 1) - 1) zs → All (F
 all_fit w zs h = All-weaker (λ z. unsigned_abs z ≤ 2 ^ (w - 1) - 1) (FitsWidth w) (fits_width w) zs h.each
 
 -- ---- one step
-entry_below : (c : Numbers) (top : ℕ) (state multipliers : List ℤ) (j : ℕ) → entry_reach c j ≤ top → AreWithin state (state_reach c) → AreWithin multipliers (clamp_reach c) →
+entry_below : (c : Numbers) (top : ℕ) (state multipliers : List ℤ) (j : ℕ) → entry_absolute_sum c j ≤ top → AreWithin state (state_magnitudes c) → AreWithin multipliers (clamp_magnitudes c) →
     AreBelow top (entry_values c state multipliers j)
 entry_below c top state multipliers j le w v =
     let row = row_of c.state_gains j in
     let dual = row_of c.dual_gains j in
     let offset = at c.offsets j *ℤ pos (2 ^ c.fraction_bits) in
-    let sum = dot row state +ℤ offset in
+    let sum = list_dot row state +ℤ offset in
     let scaled = sum *ℤ pos (2 ^ c.step_exponent) in
     let z = entry_sum c state multipliers j in
     let d = 2 ^ (c.fraction_bits + c.step_exponent) in
     let parts = entry_parts_le c state multipliers j w v in
     let own : abs_dot row state ≤ top = omega (arith, own_le c state j w, le) in
     let duals : abs_dot dual multipliers ≤ top = omega (arith, dual_le c multipliers j v, le) in
-    let power = le_times_pow (unsigned_abs (dot row state) + unsigned_abs (at c.offsets j) * 2 ^ c.fraction_bits) c.step_exponent in
+    let power = le_times_pow (unsigned_abs (list_dot row state) + unsigned_abs (at c.offsets j) * 2 ^ c.fraction_bits) c.step_exponent in
     let middle : AreBelow top (offset ∷ sum ∷ scaled ∷ []) =
     cons_below top offset (sum ∷ scaled ∷ []) (omega (arith, abs-shifted (at c.offsets j) c.fraction_bits, power, parts, le))
-    (cons_below top sum (scaled ∷ []) (omega (arith, abs-own_le (dot row state) (at c.offsets j) c.fraction_bits, power, parts, le))
-    (cons_below top scaled [] (omega (arith, abs-scaled_le (dot row state) (at c.offsets j) c.fraction_bits c.step_exponent, parts, le)) (none_below top))) in
+    (cons_below top sum (scaled ∷ []) (omega (arith, abs-own_le (list_dot row state) (at c.offsets j) c.fraction_bits, power, parts, le))
+    (cons_below top scaled [] (omega (arith, abs-scaled_le (list_dot row state) (at c.offsets j) c.fraction_bits c.step_exponent, parts, le)) (none_below top))) in
     let whole : unsigned_abs z ≤ top = omega (arith, entry_sum_le c state multipliers j w v, le) in
     let floor : unsigned_abs (floor_of z d) ≤ top = omega (arith, abs-floor_le z d, whole) in
     let last : AreBelow top (z ∷ floor_of z d ∷ plan_entry c state multipliers j ∷ []) =
@@ -83,11 +83,11 @@ entry_below c top state multipliers j le w v =
     middle)
     (products_below top dual multipliers duals))
     (partial_sums_below top (pos 0) dual multipliers (omega (arith, duals))))
-    (partial_sums_below top scaled dual multipliers (omega (arith, abs-scaled_le (dot row state) (at c.offsets j) c.fraction_bits c.step_exponent, parts, le))))
+    (partial_sums_below top scaled dual multipliers (omega (arith, abs-scaled_le (list_dot row state) (at c.offsets j) c.fraction_bits c.step_exponent, parts, le))))
     last
 
-row_below : (c : Numbers) (top : ℕ) (state plan : List ℤ) (old : ℤ) (i : ℕ) → row_reach c i ≤ top → next_reach c i ≤ top → pos 0 ≤ℤ c.clamp → unsigned_abs old ≤ unsigned_abs c.clamp →
-    AreWithin state (state_reach c) → AreWithin plan (plan_reach c) → AreBelow top (row_values c state plan old i)
+row_below : (c : Numbers) (top : ℕ) (state plan : List ℤ) (old : ℤ) (i : ℕ) → row_absolute_sum c i ≤ top → next_magnitude c i ≤ top → pos 0 ≤ℤ c.clamp → unsigned_abs old ≤ unsigned_abs c.clamp →
+    AreWithin state (state_magnitudes c) → AreWithin plan (plan_magnitudes c) → AreBelow top (row_values c state plan old i)
 row_below c top state plan old i le next nonneg clamped w v =
     let planned = row_of c.plan_rows i in
     let own = row_of c.state_rows i in
@@ -97,10 +97,10 @@ row_below c top state plan old i le next nonneg clamped w v =
     let moved = floor_of z d in
     let parts = row_parts_le c state plan i w v in
     let plans : abs_dot planned plan ≤ top = omega (arith, planned_le c plan i v, le) in
-    let sums : unsigned_abs (dot planned plan) + abs_dot own state ≤ top = omega (arith, parts, le) in
+    let sums : unsigned_abs (list_dot planned plan) + abs_dot own state ≤ top = omega (arith, parts, le) in
     let row = row_le c state plan i w v in
-    let whole : unsigned_abs z ≤ unsigned_abs (dot planned plan) + unsigned_abs (dot own state) + unsigned_abs (at c.bounds i) * 2 ^ c.fraction_bits = abs-row_le (dot planned plan) (dot own state) (at c.bounds i) c.fraction_bits in
-    let ceiling : unsigned_abs moved ≤ ceil_div (unsigned_abs (dot planned plan) + unsigned_abs (dot own state) + unsigned_abs (at c.bounds i) * 2 ^ c.fraction_bits) d =
+    let whole : unsigned_abs z ≤ unsigned_abs (list_dot planned plan) + unsigned_abs (list_dot own state) + unsigned_abs (at c.bounds i) * 2 ^ c.fraction_bits = abs-row_le (list_dot planned plan) (list_dot own state) (at c.bounds i) c.fraction_bits in
+    let ceiling : unsigned_abs moved ≤ ceil_div (unsigned_abs (list_dot planned plan) + unsigned_abs (list_dot own state) + unsigned_abs (at c.bounds i) * 2 ^ c.fraction_bits) d =
     omega (arith, abs-floor_le_ceil z d (pow_pos c.fraction_bits), ceil_div_mono (unsigned_abs z) _ d (pow_pos c.fraction_bits) whole) in
     let new : unsigned_abs (old +ℤ moved) ≤ top = omega (arith, abs-add_le old moved, ceiling, next_le c state plan old i clamped w v, next) in
     let last : AreBelow top (bound ∷ z ∷ moved ∷ (old +ℤ moved) ∷ next_multiplier c state plan old i ∷ []) =
@@ -114,22 +114,22 @@ row_below c top state plan old i le next nonneg clamped w v =
     (partial_sums_below top (pos 0) planned plan (omega (arith, plans))))
     (products_below top own state (omega (arith, sums))))
     (partial_sums_below top (pos 0) own state (omega (arith, sums))))
-    (partial_sums_below top (dot planned plan) own state sums))
+    (partial_sums_below top (list_dot planned plan) own state sums))
     last
 
 -- ---- runs
-sums_below : (c : Numbers) (top : ℕ) (state : List ℤ) (k : ℕ) → SumsFit c top → k < c.steps → pos 0 ≤ℤ c.clamp → AreWithin state (state_reach c) → AreBelow top (after c state (k + 1)).sums
+sums_below : (c : Numbers) (top : ℕ) (state : List ℤ) (k : ℕ) → SumsFit c top → k < c.steps → pos 0 ≤ℤ c.clamp → AreWithin state (state_magnitudes c) → AreBelow top (after c state (k + 1)).sums
 sums_below c top state k fit lt h w =
     let under : (j : ℕ) → j < length (after c state (k + 1)).sums → unsigned_abs (at (after c state (k + 1)).sums j) ≤ top = λ j l.
     let inside : j < length c.offsets = rw after_sums_length at l in
-    omega (arith, after_sums_le c state (k + 1) j h w inside, mul-le (k + 1) (get_or (plan_reach c) j 0) c.steps (get_or (plan_reach c) j 0) (omega (arith, lt)) (omega arith), fit.sums j inside) in
+    omega (arith, after_sums_le c state (k + 1) j h w inside, mul-le (k + 1) (get_or (plan_magnitudes c) j 0) c.steps (get_or (plan_magnitudes c) j 0) (omega (arith, lt)) (omega arith), fit.sums j inside) in
     record { each = All-from_get_or (λ z. unsigned_abs z ≤ top) (after c state (k + 1)).sums (pos 0) under }
 
-state_below : (c : Numbers) (top : ℕ) (state : List ℤ) → SumsFit c top → AreWithin state (state_reach c) → AreBelow top state
+state_below : (c : Numbers) (top : ℕ) (state : List ℤ) → SumsFit c top → AreWithin state (state_magnitudes c) → AreBelow top state
 state_below c top state fit w =
-    record { each = All-from_get_or (λ z. unsigned_abs z ≤ top) state (pos 0) (λ i l. omega (arith, w.each i, get_or-le-greatest (state_reach c) i, fit.states)) }
+    record { each = All-from_get_or (λ z. unsigned_abs z ≤ top) state (pos 0) (λ i l. omega (arith, w.each i, get_or-le-greatest (state_magnitudes c) i, fit.states)) }
 
-step_fits : (c : Numbers) (w : ℕ) (state : List ℤ) (k : ℕ) → SumsFit c (2 ^ (w - 1) - 1) → k < c.steps → pos 0 ≤ℤ c.clamp → AreWithin state (state_reach c) → StepFits w c state (after c state k)
+step_fits : (c : Numbers) (w : ℕ) (state : List ℤ) (k : ℕ) → SumsFit c (2 ^ (w - 1) - 1) → k < c.steps → pos 0 ≤ℤ c.clamp → AreWithin state (state_magnitudes c) → StepFits w c state (after c state k)
 step_fits c w state k fit lt h s =
     let top = 2 ^ (w - 1) - 1 in
     let made = after c state k in
@@ -139,7 +139,7 @@ step_fits c w state k fit lt h s =
       entries = λ j l. all_fit w (entry_values c state made.multipliers j) (entry_below c top state made.multipliers j (fit.entries j l) s v);
       rows = λ i l. all_fit w (row_values c state (plan_of c state made.multipliers) (at made.multipliers i) i)
           (row_below c top state (plan_of c state made.multipliers) (at made.multipliers i) i (fit.rows i l) (fit.next i l) h (clamped_at c made.multipliers i v l) s plan);
-      sums = all_fit w (step_of c state made).sums (subst (λ (m : Made). AreBelow top m.sums) (after_suc c state k) (sums_below c top state k fit lt h s));
+      sums = all_fit w (step_of c state made).sums (subst (λ (m : Iterate). AreBelow top m.sums) (after_suc c state k) (sums_below c top state k fit lt h s));
     }
 
 pub values_law : ValuesLaw

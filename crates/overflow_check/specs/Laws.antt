@@ -1,10 +1,10 @@
 -- What the absolute sums promise of a run.
 use Rattle.std.specs.Prelude.{ℤ, List}
 use Rattle.qp_model.specs.Controller.{Numbers}
-use Rattle.qp_model.specs.Machine.{IsGridState}
+use Rattle.qp_model.specs.Machine.{IsAdmissible}
 use Rattle.qp_model.specs.AbsoluteSums.{IsController}
 use Rattle.qp_model.specs.ValuesMet.{RunFits}
 
 -- no value that a controller's machine meets in a run from a state of its box leaves its width
 abbrev pub ValuesLaw : Type 0
-ValuesLaw = (c : Numbers) (xi : List ℤ) → IsController c → IsGridState c xi → RunFits c.width c xi
+ValuesLaw = (c : Numbers) (xi : List ℤ) → IsController c → IsAdmissible c xi → RunFits c.width c xi

@@ -2,7 +2,7 @@
 use Rattle.std.specs.Prelude.{◌≡◌, ℕ, ◌≤◌, ℤ, List, length, unsigned_abs, slice_index_or}
 use Rattle.integer_algebra.specs.Sums.{at}
 
--- each number is at most its reach in absolute value
-pub record AreWithin (xs : List ℤ) (reach : List ℕ) : Type 0 where
-  pub long : length xs ≡ length reach
-  pub each : (k : ℕ) → unsigned_abs (at xs k) ≤ slice_index_or reach k 0
+-- each number is at most its magnitudes in absolute value
+pub record AreWithin (xs : List ℤ) (magnitudes : List ℕ) : Type 0 where
+  pub long : length xs ≡ length magnitudes
+  pub each : (k : ℕ) → unsigned_abs (at xs k) ≤ slice_index_or magnitudes k 0

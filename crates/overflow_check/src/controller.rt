@@ -4,7 +4,7 @@ ghost use Rattle.qp_model.specs.Controller.{numbers, IsInForm};
 ghost use Rattle.qp_model.specs.AbsoluteSums.{IsController};
 
 use crate::form::is_in_form;
-use crate::reach::{greatest_sum, two_to};
+use crate::absolute_sums::{greatest_sum, two_to};
 use qp_model::ControllerParts;
 use std::marker::Model;
 use thiserror::Error;

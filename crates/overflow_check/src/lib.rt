@@ -4,12 +4,12 @@
 mod controller;
 mod form;
 mod laws;
-mod reach;
+mod absolute_sums;
 mod word_width;
 
 pub use controller::{BadParts, Controller};
 pub use laws::values_law;
-pub use reach::{greatest_sum, plan_entry_reach};
+pub use absolute_sums::{greatest_sum, plan_entry_magnitude};
 pub use word_width::width;
 
 #[cfg(test)]

@@ -4,7 +4,7 @@ ghost use Rattle.qp_model.specs.Controller.{numbers, IsSized};
 ghost use Rattle.qp_model.specs.AbsoluteSums.{greatest_sum};
 ghost use Rattle.overflow_check.specs.Width.{IsWidth};
 
-use crate::reach::{greatest_sum, two_to};
+use crate::absolute_sums::{greatest_sum, two_to};
 use qp_model::ControllerParts;
 
 /// The least width, from 2, of a signed word that holds the greatest absolute sum: at most `2^(w-1) - 1`. None where that

@@ -5,7 +5,7 @@ use Rattle.qp_model.specs.declared.quantity.Quantity.{Quantity}
 use Rattle.qp_model.specs.declared.quantity.Quantity.TheVariants.{Prediction, Hessian, Rows}
 use Rattle.qp_model.specs.Design.{Design}
 use Rattle.qp_model.specs.Quantities.{prediction_size, hessian_size}
-use Rattle.plant_condense.specs.Fault.{IsFirstWide}
+use Rattle.plant_condense.specs.Fault.{IsFirstWideForm}
 
 over : (a t : ℕ) → (a ≤ t → ⊥) → t < a
 over a t h = omega (arith, h)
@@ -13,11 +13,11 @@ over a t h = omega (arith, h)
 both : (a t : ℕ) → a ≤ t → t < a → ⊥
 both a t h k = omega arith
 
-pub hessian_first : (d : Design) → prediction_size d ≤ 2 ^ 126 → (hessian_size d ≤ 2 ^ 126 → ⊥) → (q : Quantity) → Hessian ≡ q → IsFirstWide d q
+pub hessian_first : (d : Design) → prediction_size d ≤ 2 ^ 126 → (hessian_size d ≤ 2 ^ 126 → ⊥) → (q : Quantity) → Hessian ≡ q → IsFirstWideForm d q
 hessian_first d h k Hessian e = (h, over _ _ k)
 hessian_first d h k q e = cc
 
-pub first_hessian : (d : Design) → prediction_size d ≤ 2 ^ 126 → (hessian_size d ≤ 2 ^ 126 → ⊥) → (q : Quantity) → IsFirstWide d q → Hessian ≡ q
+pub first_hessian : (d : Design) → prediction_size d ≤ 2 ^ 126 → (hessian_size d ≤ 2 ^ 126 → ⊥) → (q : Quantity) → IsFirstWideForm d q → Hessian ≡ q
 first_hessian d h k Prediction w = absurd (both _ _ h w)
 first_hessian d h k Hessian w = refl
 first_hessian d h k Rows w = absurd (k w.1.0)

@@ -27,8 +27,8 @@ use Rattle.qp_model.proofs.AgreesLaws.{agrees_law}
 use Rattle.qp_model.proofs.SizeFacts.{some_entry, some_row}
 use Rattle.qp_model.proofs.QuantityLaws.{state_cost_size, plan_row_size, state_row_size, bound_width, powered_size}
 use Rattle.plant_condense.specs.declared.condensed.Condensed.{Condensed}
-use Rattle.plant_condense.specs.Form.{condensed_of, solve_matrix, HasShapes, IsLeastInput, response_scale, HasDenominators, HasSizes, IsFormOf}
-use Rattle.plant_condense.specs.Fault.{AreSizes}
+use Rattle.plant_condense.specs.Form.{form_numbers, solve_matrix, HasShapes, IsLeastInput, response_scale, HasDenominators, HasEntrySizes, IsFormOf}
+use Rattle.plant_condense.specs.Fault.{AreEntrySizes}
 use Rattle.plant_condense.specs.Lists.{HoldsMatrix}
 use Rattle.plant_condense.specs.Numbers.{AreCostNumbers, AreLimitNumbers}
 use Rattle.plant_condense.proofs.WeighedFacts.{hessian_is, linear_is, constant_is}
@@ -56,7 +56,7 @@ shapes p c k l = record {
 
 -- ---- the formulas
 agrees : (p : DesignParts) (c : Condensed) → IsDesign p → AreCostNumbers (design_of p) c.hess c.lin c.off.items → AreLimitNumbers (design_of p) c.g c.e c.bound.items →
-    Agrees (design_of p) (condensed_of c)
+    Agrees (design_of p) (form_numbers c)
 agrees p c h k l = record {
   hessian = λ i j a b. k.hessian.is i j a b ∙ sym (hessian_is (design_of p) i j h.inputs.0 a);
   linear = λ j i a b. k.linear.is j i a b ∙ sym (linear_is (design_of p) j i h.inputs.0);
@@ -83,8 +83,8 @@ limit_room p h k = under (limit_entry_size (design_of p)) (entry_within ((entrie
 small_at : (z : ℤ) (y : ℤ) (t : ℕ) → z ≡ y → unsigned_abs y ≤ t → unsigned_abs z ≤ t
 small_at z y t e h = rw e h
 
-sizes : (p : DesignParts) (c : Condensed) → IsDesign p → AreSizes (design_of p) c.hess_size c.rows_size → AreCostNumbers (design_of p) c.hess c.lin c.off.items →
-    AreLimitNumbers (design_of p) c.g c.e c.bound.items → HasSizes (design_of p) c
+sizes : (p : DesignParts) (c : Condensed) → IsDesign p → AreEntrySizes (design_of p) c.hess_size c.rows_size → AreCostNumbers (design_of p) c.hess c.lin c.off.items →
+    AreLimitNumbers (design_of p) c.g c.e c.bound.items → HasEntrySizes (design_of p) c
 sizes p c h s k l = record {
   cost_size = s.cost_is;
   cost_room = s.cost_room;
@@ -157,7 +157,7 @@ bounded : (f m x : ℤ) (q l b : ℤ) → pos 0 ≤ℤ x → pos 0 ≤ℤ l → 
 bounded f m x q l b px pl h k e = rw e (le_by (add-le-add_z (mul-le-mul_right_z x px h) (mul-le-mul_left_z l pl k))
     (by_ring (f ∷ m ∷ x ∷ q ∷ l ∷ []) (search quotes depth 60 fits 20000) refl))
 
-convex : (p : DesignParts) (c : Condensed) → IsDesign p → HasDenominators (design_of p) c → IsCondensed (design_of p) (condensed_of c) →
+convex : (p : DesignParts) (c : Condensed) → IsDesign p → HasDenominators (design_of p) c → IsCondensed (design_of p) (form_numbers c) →
     IsConvex (entries (design_of p)) (solve_matrix c) c.floor
 convex p c h e k = record {
   positive = rw e.floor (positive_pos _ (some (unsigned_abs p.limit_den) (response_scale d ^ 2) (unsigned_abs c.input_floor) sound.limit_denominator
@@ -167,7 +167,7 @@ convex p c h e k = record {
       (dot (entries d) v (image (entries d) (entry_of c.hess) v)) c.limit_den _
       (total_nonneg (entries d) _ (λ j l. square_nonneg_z (v j))) (rw e.limit_den (natural_nonneg (unsigned_abs p.limit_den)))
       (rw (e.floor, e.limit_den) (floor_le (unsigned_abs p.limit_den) (response_scale d ^ 2) (unsigned_abs c.input_floor) (2 ^ 126)))
-      (bent d (condensed_of c) (unsigned_abs c.input_floor) sound k v) (quadratic_scale (entries d) c.limit_den (entry_of c.hess) v);
+      (bent d (form_numbers c) (unsigned_abs c.input_floor) sound k v) (quadratic_scale (entries d) c.limit_den (entry_of c.hess) v);
 }
   where
     d : Design
@@ -204,11 +204,11 @@ convex p c h e k = record {
         le_naturals a b h = omega (arith, ints)
 
 -- ---- all
-pub form_of : (p : DesignParts) (c : Condensed) → IsDesign p → AreSizes (design_of p) c.hess_size c.rows_size → AreCostNumbers (design_of p) c.hess c.lin c.off.items →
+pub form_of : (p : DesignParts) (c : Condensed) → IsDesign p → AreEntrySizes (design_of p) c.hess_size c.rows_size → AreCostNumbers (design_of p) c.hess c.lin c.off.items →
     AreLimitNumbers (design_of p) c.g c.e c.bound.items → HasDenominators (design_of p) c → IsFormOf p c
 form_of p c h s k l e =
     let a = agrees p c h k l in
-    let i = agrees_law (design_of p) (condensed_of c) h.inputs.0 a in
+    let i = agrees_law (design_of p) (form_numbers c) h.inputs.0 a in
     record {
       design = h;
       shapes = shapes p c k l;

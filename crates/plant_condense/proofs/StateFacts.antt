@@ -8,7 +8,7 @@ use Rattle.integer_algebra.proofs.SizeLaws.{size_same}
 use Rattle.integer_algebra.proofs.VectorLaws.{image_same}
 use Rattle.integer_algebra.proofs.PowerLaws.{pow_positive}
 use Rattle.qp_model.specs.Design.{Design}
-use Rattle.qp_model.specs.Runs.{run, Holds, RunFits}
+use Rattle.qp_model.specs.Runs.{run, Holds, TrajectoryFits}
 use Rattle.qp_model.proofs.RunLaws.{run_within, row_within, plan_inside}
 use Rattle.plant_condense.specs.Lists.{NextFits}
 
@@ -24,7 +24,7 @@ pub power_le : (z alpha k n m : ℕ) → 1 ≤ alpha → k ≤ n → z * alpha ^
 power_le z alpha k n m one h t = omega (arith, mul-le-mul_left z (pow-le-pow_right one h))
 
 -- a row of the next state fits
-pub next_fits : (d : Design) (x v : ℕ → ℤ) (now input : List ℤ) (k : ℕ) → 1 ≤ d.plant_denominator → RunFits d x v 1 → k < d.stages →
+pub next_fits : (d : Design) (x v : ℕ → ℤ) (now input : List ℤ) (k : ℕ) → 1 ≤ d.plant_denominator → TrajectoryFits d x v 1 → k < d.stages →
     Holds now d.states (run d x v k) → ((l : ℕ) → l < d.inputs → at input l ≡ v (k * d.inputs + l)) →
     NextFits d (at now) (at input) (d.plant_denominator ^ k)
 next_fits d x v now input k one f l h e i m =

@@ -8,7 +8,7 @@ use Rattle.integer_algebra.proofs.SizeLaws.{amount_same, product_size_is}
 use Rattle.mat_int.specs.Row as lists
 use Rattle.mat_int.proofs.Indices.{dot_is, abs_dot_is}
 
-pub taken_dot : (row xs : List ℤ) → length xs ≤ length row → lists.dot (take (length xs) row) xs ≡ dot (length xs) (at row) (at xs)
+pub taken_dot : (row xs : List ℤ) → length xs ≤ length row → lists.list_dot (take (length xs) row) xs ≡ dot (length xs) (at row) (at xs)
 taken_dot row xs h = dot_is (length xs) (take (length xs) row) xs (length-take-le (length xs) row h) refl ∙
     total_same (length xs) _ _ (λ i l. ap (λ (z : ℤ). z *ℤ at xs i) (get_or-take (length xs) row i (pos 0) l))
 

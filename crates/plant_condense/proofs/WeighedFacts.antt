@@ -10,7 +10,7 @@ use Rattle.integer_algebra.proofs.SumLaws.{total_same, total_scale}
 use Rattle.integer_algebra.proofs.PowerLaws.{pow-two}
 use Rattle.integer_algebra.proofs.Quoting.{by_ring, quotes}
 use Rattle.qp_model.specs.Design.{Design, CostRow, entries}
-use Rattle.qp_model.specs.Condensing.{numbers_of, cost_target}
+use Rattle.qp_model.specs.Condensing.{condensed_of, cost_target}
 use Rattle.qp_model.specs.Runs.{unit, cost_run, counted, counts}
 use Rattle.qp_model.proofs.RowLaws.{lift_power, stage_inside}
 use Rattle.qp_model.proofs.GramLaws.{gram_law, own_diagonal}
@@ -28,14 +28,14 @@ counted_weighed d j f =
     total_same (counts d) _ _ (λ c l. chosen (nat_lt c (d.stages * d.stage_costs)) _ _ _ _ _ _) ∙
     total_scale (counts d) (pos 2) (λ c. plan_cost d j c *ℤ (weight_of d c *ℤ counted d f c))
 
-pub hessian_is : (d : Design) (i j : ℕ) → 1 ≤ d.inputs → i < entries d → (numbers_of d).hessian i j ≡ weighed d i (plan_cost d j) +ℤ own_cost d i j
+pub hessian_is : (d : Design) (i j : ℕ) → 1 ≤ d.inputs → i < entries d → (condensed_of d).hessian i j ≡ weighed d i (plan_cost d j) +ℤ own_cost d i j
 hessian_is d i j h l = (gram_law d).hessian i j h ∙ add_equations (counted_weighed d i (cost_run d none (unit j))) (own_diagonal d i j l)
 
-pub linear_is : (d : Design) (j i : ℕ) → 1 ≤ d.inputs → (numbers_of d).linear j i ≡ weighed d j (state_cost d i)
+pub linear_is : (d : Design) (j i : ℕ) → 1 ≤ d.inputs → (condensed_of d).linear j i ≡ weighed d j (state_cost d i)
 linear_is d j i h = (gram_law d).linear j i h ∙ counted_weighed d j (cost_run d (unit i) none)
 
 pub constant_is : (d : Design) (j : ℕ) → 1 ≤ d.inputs →
-    (numbers_of d).constant j ≡ weighed d j (λ c. neg_ℤ (pos (d.plant_denominator ^ d.stages)) *ℤ target_of d c)
+    (condensed_of d).constant j ≡ weighed d j (λ c. neg_ℤ (pos (d.plant_denominator ^ d.stages)) *ℤ target_of d c)
 constant_is d j h = (gram_law d).constant j h ∙
     total_same (counts d) _ _ (λ c l. term c l) ∙
     total_scale (counts d) (pos 2) (λ c. plan_cost d j c *ℤ (weight_of d c *ℤ (neg_ℤ (pos (d.plant_denominator ^ d.stages)) *ℤ target_of d c)))

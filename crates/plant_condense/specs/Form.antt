@@ -14,8 +14,8 @@ use Rattle.qp_model.specs.Quantities.{cost_entry_size, limit_entry_size, hessian
 use Rattle.plant_condense.specs.declared.condensed.Condensed.{Condensed}
 
 -- the condensed form that the numbers are
-abbrev pub condensed_of : Condensed → form.Condensed
-condensed_of c = record {
+abbrev pub form_numbers : Condensed → form.Condensed
+form_numbers c = record {
   hessian = entry_of c.hess;
   linear = entry_of c.lin;
   constant = at c.off.items;
@@ -58,7 +58,7 @@ pub record HasDenominators (d : Design) (c : Condensed) : Type 0 where
   pub floor : c.floor ≡ pos (min (2 * d.limit_denominator * response_scale d ^ 2 * unsigned_abs c.input_floor) (2 ^ 126))
 
 -- each number of the cost and of the limits is small, and the two quantities are within their limit
-pub record HasSizes (d : Design) (c : Condensed) : Type 0 where
+pub record HasEntrySizes (d : Design) (c : Condensed) : Type 0 where
   pub cost_size : c.hess_size ≡ pos (hessian_size d)
   pub cost_room : hessian_size d ≤ 2 ^ 126
   pub limit_size : c.rows_size ≡ pos (rows_size d)
@@ -75,12 +75,12 @@ pub record IsFormOf (p : DesignParts) (c : Condensed) : Type 0 where
   pub design : IsDesign p
   pub shapes : HasShapes c (entries (design_of p)) (design_of p).states (rows (design_of p))
   -- each number by its formula
-  pub numbers : Agrees (design_of p) (condensed_of c)
+  pub numbers : Agrees (design_of p) (form_numbers c)
   -- residuals and costs of every plan at every state
-  pub condensed : IsCondensed (design_of p) (condensed_of c)
+  pub condensed : IsCondensed (design_of p) (form_numbers c)
   pub denominators : HasDenominators (design_of p) c
   pub convex : IsConvex (entries (design_of p)) (solve_matrix c) c.floor
-  pub sizes : HasSizes (design_of p) c
+  pub sizes : HasEntrySizes (design_of p) c
 
 -- of some design: what each call that takes such numbers asks
 pub record IsForm (c : Condensed) : Type 0 where

@@ -6,7 +6,7 @@ use Rattle.integer_algebra.specs.Sizes.{product_size}
 use Rattle.qp_model.specs.Design.{Design, LimitRow}
 use Rattle.qp_model.specs.declared.design_parts.DesignParts.{DesignParts}
 use Rattle.qp_model.specs.Parts.{design_of, IsDesign}
-use Rattle.qp_model.specs.Runs.{run, Holds, RunFits, IsNarrow, IsSlim, IsTame}
+use Rattle.qp_model.specs.Runs.{run, Holds, TrajectoryFits, HasNarrowLimits, HasNarrowCosts, IsTame}
 
 -- m rows of n numbers
 pub record HoldsRows (rows : List (List ℤ)) (m n : ℕ) (f : ℕ → ℕ → ℤ) : Type 0 where
@@ -32,18 +32,18 @@ pub record IsReady (p : DesignParts) (a x v : List ℤ) : Type 0 where
 pub record RowsFit (d : Design) (x v : ℕ → ℤ) : Type 0 where
   pub width : ℕ
   pub some : 1 ≤ width
-  pub narrow : IsNarrow d width
-  pub fits : RunFits d x v width
+  pub narrow : HasNarrowLimits d width
+  pub fits : TrajectoryFits d x v width
 
 -- the cost rows' values of a run fit
 pub record CostsFit (d : Design) (x v : ℕ → ℤ) : Type 0 where
   pub width : ℕ
   pub some : 1 ≤ width
-  pub slim : IsSlim d width
-  pub fits : RunFits d x v width
+  pub slim : HasNarrowCosts d width
+  pub fits : TrajectoryFits d x v width
 
 -- a run that was made
-pub record IsMade (p : DesignParts) (a x v : List ℤ) (rows : List (List ℤ)) : Type 0 where
+pub record IsRunOfRows (p : DesignParts) (a x v : List ℤ) (rows : List (List ℤ)) : Type 0 where
   pub ready : IsReady p a x v
   pub states : HoldsRows rows (p.stages + 1) p.states (run (design_of p) (at x) (at v))
 
@@ -65,7 +65,7 @@ pub record UnitsFit (d : Design) : Type 0 where
   pub width : ℕ
   pub alpha : ℕ
   pub some : 1 ≤ width
-  pub narrow : IsNarrow d width
+  pub narrow : HasNarrowLimits d width
   pub tame : IsTame d alpha
   pub fits : width * alpha ^ d.stages ≤ 2 ^ 126
 

@@ -8,7 +8,7 @@ use qp_model::DesignParts;
 use std::alloc::{AllocError, Global};
 
 // The bound of limit row `i`.
-fn bound_of(parts: &DesignParts, i: usize) -> i128
+fn row_bound(parts: &DesignParts, i: usize) -> i128
     requires design { IsDesign parts.now }
     requires row { i < rows (design_of parts.now) }
     ensures { result ≡ bound_at (design_of parts.now) i }
@@ -35,7 +35,7 @@ pub fn scaled_bounds(
     let count = parts.stages * parts.stage_rows.rows() + parts.final_rows.rows();
     let mut out = Vec::new(alloc);
     for i in 0..count {
-        out.push(scale * bound_of(parts, i))?;
+        out.push(scale * row_bound(parts, i))?;
     }
     Ok(out)
 }

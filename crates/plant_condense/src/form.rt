@@ -4,7 +4,7 @@ ghost use Rattle.qp_model.specs.declared.quantity.Quantity.{Quantity};
 ghost use Rattle.qp_model.specs.Parts.{design_of, IsDesign};
 ghost use Rattle.qp_model.specs.Quantities.{cost_entry_size, limit_entry_size, hessian_size, rows_size};
 ghost use Rattle.plant_condense.specs.Form.{IsFormOf};
-ghost use Rattle.plant_condense.specs.Fault.{IsFirstWide, AreSizes};
+ghost use Rattle.plant_condense.specs.Fault.{IsFirstWideForm, AreEntrySizes};
 ghost use Rattle.plant_condense.specs.Numbers.{AreCostNumbers, AreLimitNumbers};
 
 use crate::condensed::Condensed;
@@ -26,8 +26,8 @@ struct Sizes {
 // The quantities, or the first of `prediction`, `hessian` and `rows` that is above its limit.
 fn sizes_of(parts: &DesignParts) -> Result<Sizes, CondenseFault>
     requires { IsDesign parts.now }
-    ensures sizes { IfOk result (λ sizes. AreSizes (design_of parts.now) sizes.cost sizes.limit) }
-    ensures wide { (quantity : Quantity) → (result ≡ Err (CondenseFault.TooWide quantity)) ↔ IsFirstWide (design_of parts.now) quantity }
+    ensures sizes { IfOk result (λ sizes. AreEntrySizes (design_of parts.now) sizes.cost sizes.limit) }
+    ensures wide { (quantity : Quantity) → (result ≡ Err (CondenseFault.TooWide quantity)) ↔ IsFirstWideForm (design_of parts.now) quantity }
     ensures memory { result ≢ Err CondenseFault.Memory }
 {
     if prediction_size(parts).is_none() {
@@ -61,7 +61,7 @@ fn assembled(
 ) -> Condensed
     requires design { IsDesign parts.now }
     requires power { power ≡ pos (unsigned_abs parts.now.plant_den ^ parts.now.stages) }
-    requires sizes { AreSizes (design_of parts.now) sizes.cost sizes.limit }
+    requires sizes { AreEntrySizes (design_of parts.now) sizes.cost sizes.limit }
     requires costs { AreCostNumbers (design_of parts.now) costs.hess costs.lin costs.off.items }
     requires limits { AreLimitNumbers (design_of parts.now) limits.g limits.e limits.bound.items }
     ensures { IsFormOf parts.now result }
@@ -93,7 +93,7 @@ fn assembled(
 /// prediction into cost and limits, as in Rawlings, Mayne and Diehl, Model Predictive Control.)
 pub fn condense(alloc: Global, design: &Design) -> Result<Condensed, CondenseFault>
     ensures form { IfOk result (λ condensed. IsFormOf design.now.parts condensed) }
-    ensures wide { (quantity : Quantity) → (result ≡ Err (CondenseFault.TooWide quantity)) ↔ IsFirstWide (design_of design.now.parts) quantity }
+    ensures wide { (quantity : Quantity) → (result ≡ Err (CondenseFault.TooWide quantity)) ↔ IsFirstWideForm (design_of design.now.parts) quantity }
 {
     let parts = design.parts();
     let sizes = sizes_of(parts)?;

@@ -1,6 +1,6 @@
 // A run of the plant from whole numbers, and what rows have of it. The state at stage k is over plant_den^k.
 ghost use Rattle.mat_int.specs.Lines.{lists};
-ghost use Rattle.plant_condense.specs.Lists.{IsMade};
+ghost use Rattle.plant_condense.specs.Lists.{IsRunOfRows};
 
 use crate::states::states_of;
 use crate::sums::{mixed, product};
@@ -16,7 +16,7 @@ pub struct Run<'a> {
     start: &'a [i128],
     plan: &'a [i128],
     states: Vec<Vec<i128>>,
-    ghost made: { IsMade parts.now powers.now start.now plan.now (lists states.items) },
+    ghost made: { IsRunOfRows parts.now powers.now start.now plan.now (lists states.items) },
 }
 
 impl<'a> Run<'a> {
@@ -25,7 +25,7 @@ impl<'a> Run<'a> {
     ghost use Rattle.integer_algebra.specs.Sizes.{size};
     ghost use Rattle.qp_model.specs.Design.{rows};
     ghost use Rattle.qp_model.specs.Parts.{design_of};
-    ghost use Rattle.qp_model.specs.Runs.{run, row_at, limit_at, cost_run, counted, counts, RunFits, Holds};
+    ghost use Rattle.qp_model.specs.Runs.{run, row_at, limit_at, cost_run, counted, counts, TrajectoryFits, Holds};
     ghost use Rattle.qp_model.specs.Trajectory.{lift};
     ghost use Rattle.plant_condense.specs.Lists.{IsReady, row_of_numbers, RowFits, RowsFit, CostRowFits, CostsFit};
 
@@ -38,7 +38,7 @@ impl<'a> Run<'a> {
         plan: &'a [i128],
     ) -> Result<Run<'a>, AllocError>
         requires ready { IsReady parts.now powers.now start.now plan.now }
-        requires fits { RunFits (design_of parts.now) (at start.now) (at plan.now) 1 }
+        requires fits { TrajectoryFits (design_of parts.now) (at start.now) (at plan.now) 1 }
         ensures { IfOk result (λ r. (r.parts.now ≡ parts.now) × (r.start.now ≡ start.now) × (r.plan.now ≡ plan.now)) }
     {
         let states = states_of(alloc, parts, powers, start, plan)?;

@@ -5,7 +5,7 @@ ghost use Rattle.integer_algebra.specs.Sizes.{product_size};
 ghost use Rattle.mat_int.specs.Matrix.{entry_of};
 ghost use Rattle.mat_int.specs.Lines.{lists};
 ghost use Rattle.qp_model.specs.Parts.{design_of, IsDesign};
-ghost use Rattle.qp_model.specs.Runs.{run, Holds, RunFits};
+ghost use Rattle.qp_model.specs.Runs.{run, Holds, TrajectoryFits};
 ghost use Rattle.plant_condense.specs.Lists.{HoldsRows, ArePowers, NextFits};
 
 use crate::sums::mixed;
@@ -47,7 +47,7 @@ pub fn states_of(
     requires powers { ArePowers parts.now powers.now }
     requires start { length start.now ≡ parts.now.states }
     requires plan { length plan.now ≡ parts.now.stages * parts.now.inputs }
-    requires fits { RunFits (design_of parts.now) (at start.now) (at plan.now) 1 }
+    requires fits { TrajectoryFits (design_of parts.now) (at start.now) (at plan.now) 1 }
     ensures { IfOk result (λ v. HoldsRows (lists v.items) (parts.now.stages + 1) parts.now.states (run (design_of parts.now) (at start.now) (at plan.now))) }
 {
     let p = parts.inputs;

@@ -8,7 +8,7 @@ use std::test::Fail;
 
 // The numbers of a design that its form follows from.
 #[derive(Clone, Copy)]
-struct Made<'a> {
+struct TestDesign<'a> {
     stages: usize,
     plant_den: i128,
     a: &'a [&'a [i128]],
@@ -40,7 +40,7 @@ struct Form<'a> {
     rows_size: i128,
 }
 
-const BASE: Made<'static> = Made {
+const BASE: TestDesign<'static> = TestDesign {
     stages: 1,
     plant_den: 1,
     a: &[&[1]],
@@ -71,7 +71,7 @@ const BASE_FORM: Form<'static> = Form {
 };
 
 // Two of each, with rows of each kind.
-const TWO: Made<'static> = Made {
+const TWO: TestDesign<'static> = TestDesign {
     stages: 2,
     plant_den: 3,
     a: &[&[2, 1], &[-1, 4]],
@@ -113,7 +113,7 @@ const TWO_FORM: Form<'static> = Form {
 };
 
 // Cost rows at the end alone, and a bound below 0.
-const FINAL: Made<'static> = Made {
+const FINAL: TestDesign<'static> = TestDesign {
     stages: 2,
     plant_den: 4,
     a: &[&[4, 1], &[-3, 2]],
@@ -154,7 +154,7 @@ const FINAL_FORM: Form<'static> = Form {
 };
 
 // Denominators at their greatest: the floor would be 2^127.
-const STEEP: Made<'static> = Made {
+const STEEP: TestDesign<'static> = TestDesign {
     plant_den: 1048576,
     a: &[&[3]],
     b: &[&[-5]],
@@ -192,7 +192,7 @@ fn rows(rt: &impl Abort, alloc: Global, cols: usize, rows: &[&[i128]]) -> Result
     Ok(made)
 }
 
-fn parts(rt: &impl Abort, alloc: Global, made: &Made) -> Result<DesignParts, AllocError> {
+fn parts(rt: &impl Abort, alloc: Global, made: &TestDesign) -> Result<DesignParts, AllocError> {
     let states = made.a.len();
     let inputs = made.input.len();
     let mut input_weights = Vec::new(alloc);
@@ -230,7 +230,7 @@ fn parts(rt: &impl Abort, alloc: Global, made: &Made) -> Result<DesignParts, All
 fn condensed_form(
     rt: &impl Abort,
     alloc: Global,
-    made: &Made,
+    made: &TestDesign,
 ) -> Result<Result<Condensed, CondenseFault>, AllocError> {
     let Ok(design) = Design::from_parts(parts(rt, alloc, made)?) else {
         panic!(rt; "no design");
@@ -280,7 +280,7 @@ fn forms(rt: HostRuntime) -> Result<(), Fail> {
 }
 
 // Two inputs and one stage, with numbers whose sizes are powers of two.
-const WIDE: Made<'static> = Made {
+const WIDE: TestDesign<'static> = TestDesign {
     a: &[&[1073741823]],
     b: &[&[1, 0]],
     row_den: 1048576,
@@ -292,7 +292,7 @@ const WIDE: Made<'static> = Made {
     ..BASE
 };
 
-const LONG: Made<'static> = Made {
+const LONG: TestDesign<'static> = TestDesign {
     a: &[&[2147483647]],
     b: &[&[0, 1]],
     row_den: 1,
@@ -305,7 +305,7 @@ const LONG: Made<'static> = Made {
 // Each quantity at 2^126, and one above it.
 #[test]
 fn wide_designs(rt: HostRuntime) -> Result<(), Fail> {
-    let deep = Made {
+    let deep = TestDesign {
         stages: 6,
         a: &[&[2097151]],
         ..BASE
@@ -313,7 +313,7 @@ fn wide_designs(rt: HostRuntime) -> Result<(), Fail> {
     let cases = [
         (deep, Some(Quantity::Hessian)),
         (
-            Made {
+            TestDesign {
                 a: &[&[2097152]],
                 ..deep
             },
@@ -321,7 +321,7 @@ fn wide_designs(rt: HostRuntime) -> Result<(), Fail> {
         ),
         (WIDE, None),
         (
-            Made {
+            TestDesign {
                 input: &[2097152, 2097152],
                 ..WIDE
             },
@@ -329,7 +329,7 @@ fn wide_designs(rt: HostRuntime) -> Result<(), Fail> {
         ),
         (LONG, None),
         (
-            Made {
+            TestDesign {
                 stage_rows: &[&[2147483646, 1, 0, 2]],
                 ..LONG
             },

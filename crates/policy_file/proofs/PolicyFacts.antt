@@ -8,7 +8,7 @@ use Rattle.qp_model.specs.declared.text_fault.TextFault.{TextFault}
 use Rattle.qp_model.specs.declared.text_fault.TextFault.TheVariants.{Count, Memory}
 use Rattle.qp_model.specs.Design.{Design, entries}
 use Rattle.qp_model.specs.Policy.{Plans}
-use Rattle.policy_file.specs.Records.{HoldsNumbers, IsFirstFault, records_of, record_at}
+use Rattle.policy_file.specs.Records.{HoldsNumbers, IsRecordsFault, records_of, record_at}
 use Rattle.policy_file.specs.PolicyText.{policy_rule, record_length, IsPolicyText, IsPolicyFault}
 use Rattle.policy_file.proofs.MatrixFacts.{Filled, row_pushed}
 use Rattle.policy_file.proofs.TextFacts.{records_count}
@@ -56,6 +56,6 @@ count_fault text d rows n i dens plans e s l k h = inr (inr (record {
 }))
 
 -- that of a record is one of the policy
-pub either_fault : (text : List ℕ) (d : Design) (fault : TextFault) → (fault ≡ Memory) ⊎ IsFirstFault policy_rule (record_length d) (records_of text) fault → (fault ≡ Memory) ⊎ IsPolicyFault text d fault
+pub either_fault : (text : List ℕ) (d : Design) (fault : TextFault) → (fault ≡ Memory) ⊎ IsRecordsFault policy_rule (record_length d) (records_of text) fault → (fault ≡ Memory) ⊎ IsPolicyFault text d fault
 either_fault text d fault (inl m) = inl m
 either_fault text d fault (inr f) = inr (inl f)

@@ -11,7 +11,7 @@ use Rattle.csv.specs.declared.parser.Action.{Action}
 use Rattle.csv.specs.declared.parser.Action.TheVariants as act
 use Rattle.csv.specs.declared.parser.Terminator.{Terminator}
 use Rattle.csv.specs.declared.parser.Terminator.TheVariants as term
-use Rattle.policy_file.specs.Records.{records_of, record_at, field_of, room_of}
+use Rattle.policy_file.specs.Records.{records_of, record_at, field_of, field_room}
 
 -- ---- records read one by one are those of the function
 pub all_read : (cfg : Config) (n : ℕ) (s s2 : State) (xs ys : List ℕ) (rows : List (List (List ℕ))) → length rows < n →
@@ -67,7 +67,7 @@ step_right cfg st.AfterCr c = either (c == line_feed) _ _ (moves_on st.StartReco
 
 -- what a record takes at least, with the field at hand
 room_after : (a : Action) (fields : List (List ℕ)) (field : List ℕ) (c : ℕ) →
-    room_of (fields_after a fields field) + length (field_after a c field) ≤ room_of fields + length field + 1
+    field_room (fields_after a fields field) + length (field_after a c field) ≤ field_room fields + length field + 1
 room_after act.Skip fields field c = omega arith
 room_after act.Copy fields field c = omega (arith, length-append field (c ∷ []))
 room_after act.EndField fields field c = omega (arith, sum_by-append (λ (f : List ℕ). length f + 1) fields (field ∷ []))
@@ -75,7 +75,7 @@ room_after act.EndRecord fields field c = omega (arith, sum_by-append (λ (f : L
 
 -- a record that was read: what it took, what is left, and where the reader stands
 record Took (fields : List (List ℕ)) (field xs : List ℕ) (p : Read) : Type 0 where
-  room : room_of p.0 ≤ room_of fields + length field + length xs + 1
+  room : field_room p.0 ≤ field_room fields + length field + length xs + 1
   left : length p.2 ≤ length xs - 1
   start : ends_at_end p.1 ≡ false
 
@@ -122,7 +122,7 @@ all_read_text text rows r =
 -- no more records than bytes, and each with room in them
 record InText (xs : List ℕ) (rows : List (List (List ℕ))) : Type 0 where
   few : length rows ≤ length xs
-  room : (e : ℕ) → e < length rows → room_of (record_at rows e) ≤ length xs + 1
+  room : (e : ℕ) → e < length rows → field_room (record_at rows e) ≤ length xs + 1
 
 in_text : (cfg : Config) (n : ℕ) (s : State) (xs : List ℕ) → ends_at_end s ≡ false → InText xs (records_from cfg n s xs)
 unfolding records_from
@@ -137,8 +137,8 @@ in_text cfg (suc n) s xs start = by (in_text cfg n) (next_record cfg s [] [] xs)
         let more = all p.1 p.2 t.start in
         record { few = omega (arith, some, more.few); room = rooms p (records_from cfg n p.1 p.2) (omega (arith, t.room)) some more.room }
       where
-        rooms : (p : Read) (rows : List (List (List ℕ))) → room_of p.0 ≤ length xs + 1 → length p.2 < length xs →
-            ((e : ℕ) → e < length rows → room_of (record_at rows e) ≤ length p.2 + 1) → (e : ℕ) → e < length (p.0 ∷ rows) → room_of (record_at (p.0 ∷ rows) e) ≤ length xs + 1
+        rooms : (p : Read) (rows : List (List (List ℕ))) → field_room p.0 ≤ length xs + 1 → length p.2 < length xs →
+            ((e : ℕ) → e < length rows → field_room (record_at rows e) ≤ length p.2 + 1) → (e : ℕ) → e < length (p.0 ∷ rows) → field_room (record_at (p.0 ∷ rows) e) ≤ length xs + 1
         rooms p rows h k m zero l = h
         rooms p rows h k m (suc e) l = omega (arith, m e (omega arith))
 
@@ -159,6 +159,6 @@ records_few text =
     omega (arith, strip_shorter text, (in_text default_config (length (strip_bom text) + 1) st.StartRecord (strip_bom text) refl).few)
 
 -- and each takes n bytes and one more at most
-pub records_room : (text : List ℕ) (e : ℕ) → e < length (records_of text) → room_of (record_at (records_of text) e) ≤ length text + 1
+pub records_room : (text : List ℕ) (e : ℕ) → e < length (records_of text) → field_room (record_at (records_of text) e) ≤ length text + 1
 records_room text e l =
     omega (arith, strip_shorter text, (in_text default_config (length (strip_bom text) + 1) st.StartRecord (strip_bom text) refl).room e l)

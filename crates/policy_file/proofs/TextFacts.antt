@@ -7,7 +7,7 @@ use Rattle.csv.specs.Records.{Row, fields_of}
 use Rattle.mat_int.specs.Matrix.{Matrix, row_of}
 use Rattle.qp_model.specs.declared.text_fault.TextFault.{TextFault}
 use Rattle.qp_model.specs.declared.text_fault.TextFault.TheVariants.{NotToml, Key, Shape, Range, Fields, Number, Count, Memory}
-use Rattle.policy_file.specs.Records.{Rule, HoldsNumbers, IsFirstWrong, IsRecordFault, HoldUpTo, IsFirstFault, records_of, record_at, field_of, room_of}
+use Rattle.policy_file.specs.Records.{RecordRule, HoldsNumbers, IsFirstWrong, IsRecordFault, HoldUpTo, IsRecordsFault, records_of, record_at, field_of, field_room}
 use Rattle.policy_file.proofs.RecordFacts.{records_few, records_room}
 
 -- a record that was lent
@@ -23,7 +23,7 @@ pub entry_small : (rows : List Row) (text : List ℕ) (i : ℕ) → map fields_o
 entry_small rows text i e small l = omega (arith, records_count rows text e, records_few text)
 
 pub room_small : (rows : List Row) (text : List ℕ) (row : Row) (i : ℕ) → map fields_of rows ≡ records_of text → length text < 2 ^ 32 → i < length rows → row ≡ get_or rows i row →
-    room_of (fields_of row) ≤ 2 ^ 32
+    field_room (fields_of row) ≤ 2 ^ 32
 room_small rows text row i e small l h =
     rw (record_is rows text row i e l h) (omega (arith, records_room text i (omega (arith, records_count rows text e))))
 
@@ -33,9 +33,9 @@ passed_on (Ok a) P e h p = tt
 passed_on (Err x) P e h p = rw h p
 
 -- the first record that is wrong
-pub first_fault : (rule : Rule) (count : ℕ) (rows : List Row) (text : List ℕ) (row : Row) (i : ℕ) (fault : TextFault) (nums : ℕ → List ℤ) → map fields_of rows ≡ records_of text → i < length rows → row ≡ get_or rows i row →
+pub first_fault : (rule : RecordRule) (count : ℕ) (rows : List Row) (text : List ℕ) (row : Row) (i : ℕ) (fault : TextFault) (nums : ℕ → List ℤ) → map fields_of rows ≡ records_of text → i < length rows → row ≡ get_or rows i row →
     ((e : ℕ) → e < i → HoldsNumbers rule count (record_at (records_of text) e) (nums e)) →
-    (fault ≡ Memory) ⊎ IsRecordFault rule count (i + 1) (fields_of row) fault → (fault ≡ Memory) ⊎ IsFirstFault rule count (records_of text) fault
+    (fault ≡ Memory) ⊎ IsRecordFault rule count (i + 1) (fields_of row) fault → (fault ≡ Memory) ⊎ IsRecordsFault rule count (records_of text) fault
 first_fault rule count rows text row i fault nums e l h before (inl m) = inl m
 first_fault rule count rows text row i fault nums e l h before (inr f) = inr (record {
   index = i;

@@ -14,7 +14,7 @@ use Rattle.qp_model.specs.Design.{Design, entries}
 use Rattle.qp_model.specs.Policy.{Plans, plans_of, IsPlanDenominator, IsPlanNumerator, IsPolicyFor}
 use Rattle.qp_model.specs.declared.policy.Policy.{Policy}
 use Rattle.policy_file.specs.NumberField.{IsDigitsField, IsNumberField}
-use Rattle.policy_file.specs.Records.{Rule, HoldsNumbers, IsFirstWrong, IsRecordFault, HoldUpTo, IsFirstFault, records_of, record_at, field_of}
+use Rattle.policy_file.specs.Records.{RecordRule, HoldsNumbers, IsFirstWrong, IsRecordFault, HoldUpTo, IsRecordsFault, records_of, record_at, field_of}
 use Rattle.policy_file.specs.StatesText.{state_rule, IsStatesText, IsStatesFault}
 use Rattle.policy_file.specs.PolicyText.{policy_rule, record_length, IsPolicyText, IsCountFault, IsPolicyFault}
 use Rattle.policy_file.proofs.FieldFacts.{digits_end, each_digit, first_digit, no_space, number_part, signed_text}
@@ -68,15 +68,15 @@ same_number field z w r s = r.value ∙ rw (p.0, size) (sym s.value)
 
 -- ---- records
 -- a rule that gives a field one number
-pub IsFunctional : Rule → Type 0
+pub IsFunctional : RecordRule → Type 0
 IsFunctional rule = (i : ℕ) (field : List ℕ) (z w : ℤ) → rule i field z → rule i field w → z ≡ w
 
-pub same_numbers : (rule : Rule) (count : ℕ) (fields : List (List ℕ)) (zs ws : List ℤ) → IsFunctional rule → HoldsNumbers rule count fields zs → HoldsNumbers rule count fields ws → zs ≡ ws
+pub same_numbers : (rule : RecordRule) (count : ℕ) (fields : List (List ℕ)) (zs ws : List ℤ) → IsFunctional rule → HoldsNumbers rule count fields zs → HoldsNumbers rule count fields ws → zs ≡ ws
 unfolding IsFunctional
 same_numbers rule count fields zs ws f h k = ext_get_or (pos 0) zs ws (h.numbers ∙ sym k.numbers)
     (λ i l. let m : i < count = omega (arith, h.numbers) in f i (field_of fields i) (at zs i) (at ws i) (h.each i m) (k.each i m))
 
-wrong_or_right : (rule : Rule) (count e : ℕ) (fields : List (List ℕ)) (zs : List ℤ) (fault : TextFault) → IsRecordFault rule count e fields fault → HoldsNumbers rule count fields zs → ⊥
+wrong_or_right : (rule : RecordRule) (count e : ℕ) (fields : List (List ℕ)) (zs : List ℤ) (fault : TextFault) → IsRecordFault rule count e fields fault → HoldsNumbers rule count fields zs → ⊥
 wrong_or_right rule count e fields zs (Fields entry) f h = f.1 h.width
 wrong_or_right rule count e fields zs (Number entry field) f h = f.2.here (at zs (field - 1)) (h.each (field - 1) (omega (arith, f.2.low, f.2.high)))
 wrong_or_right rule count e fields zs NotToml f h = f
@@ -86,13 +86,13 @@ wrong_or_right rule count e fields zs (Range place) f h = f
 wrong_or_right rule count e fields zs (Count entries) f h = f
 wrong_or_right rule count e fields zs Memory f h = f
 
-first_below : (rule : Rule) (count f g : ℕ) (fields : List (List ℕ)) → IsFirstWrong rule count fields f → IsFirstWrong rule count fields g → f ≤ g
+first_below : (rule : RecordRule) (count f g : ℕ) (fields : List (List ℕ)) → IsFirstWrong rule count fields f → IsFirstWrong rule count fields g → f ≤ g
 first_below rule count f g fields h k = elim (cases_lt g f) [
   | inl l ↦ (let b = h.before (g - 1) (omega (arith, l, k.low)) in absurd (k.here b.0 b.1))
   | inr l ↦ l
 ]
 
-same_record_fault : (rule : Rule) (count e : ℕ) (fields : List (List ℕ)) (f g : TextFault) → IsRecordFault rule count e fields f → IsRecordFault rule count e fields g → f ≡ g
+same_record_fault : (rule : RecordRule) (count e : ℕ) (fields : List (List ℕ)) (f g : TextFault) → IsRecordFault rule count e fields f → IsRecordFault rule count e fields g → f ≡ g
 same_record_fault rule count e fields (Fields a) (Fields b) h k = ap Fields (h.0 ∙ sym k.0)
 same_record_fault rule count e fields (Fields a) (Number b j) h k = absurd (h.1 k.1)
 same_record_fault rule count e fields (Fields a) _ h k = absurd k
@@ -111,18 +111,18 @@ same_record_fault rule count e fields (Range place) g h k = absurd h
 same_record_fault rule count e fields (Count entries) g h k = absurd h
 same_record_fault rule count e fields Memory g h k = absurd h
 
-pub held_or_wrong : (rule : Rule) (count known : ℕ) (rows : List (List (List ℕ))) (fault : TextFault) → length rows ≤ known → HoldUpTo rule count rows known → IsFirstFault rule count rows fault → ⊥
+pub held_or_wrong : (rule : RecordRule) (count known : ℕ) (rows : List (List (List ℕ))) (fault : TextFault) → length rows ≤ known → HoldUpTo rule count rows known → IsRecordsFault rule count rows fault → ⊥
 held_or_wrong rule count known rows fault l h f =
     let z = h f.index (omega (arith, f.inside)) in
     wrong_or_right rule count (f.index + 1) (record_at rows f.index) z.0 fault f.here z.1
 
-index_le : (rule : Rule) (count : ℕ) (rows : List (List (List ℕ))) (f g : TextFault) (h : IsFirstFault rule count rows f) (k : IsFirstFault rule count rows g) → h.index ≤ k.index
+index_le : (rule : RecordRule) (count : ℕ) (rows : List (List (List ℕ))) (f g : TextFault) (h : IsRecordsFault rule count rows f) (k : IsRecordsFault rule count rows g) → h.index ≤ k.index
 index_le rule count rows f g h k = elim (cases_lt k.index h.index) [
   | inl l ↦ (let z = h.before k.index l in absurd (wrong_or_right rule count (k.index + 1) (record_at rows k.index) z.0 g k.here z.1))
   | inr l ↦ l
 ]
 
-pub same_first_fault : (rule : Rule) (count : ℕ) (rows : List (List (List ℕ))) (f g : TextFault) → IsFirstFault rule count rows f → IsFirstFault rule count rows g → f ≡ g
+pub same_first_fault : (rule : RecordRule) (count : ℕ) (rows : List (List (List ℕ))) (f g : TextFault) → IsRecordsFault rule count rows f → IsRecordsFault rule count rows g → f ≡ g
 same_first_fault rule count rows f g h k =
     let low = index_le rule count rows f g h k in
     let high = index_le rule count rows g f k h in

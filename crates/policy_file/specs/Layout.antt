@@ -1,13 +1,13 @@
 -- Which numbers a text's records hold.
 use Rattle.std.specs.Prelude.{◌≡◌, ⊤, ℕ, ℤ}
 use Rattle.qp_model.specs.Policy.{IsPlanDenominator}
-use Rattle.policy_file.specs.Records.{Rule}
+use Rattle.policy_file.specs.Records.{RecordRule}
 use Rattle.policy_file.specs.StatesText.{state_rule}
 use Rattle.policy_file.specs.PolicyText.{policy_rule}
 use Rattle.policy_file.specs.declared.record.Layout.{Layout}
 use Rattle.policy_file.specs.declared.record.Layout.TheVariants.{States, Policy}
 
-abbrev pub rule_of : Layout → Rule
+abbrev pub rule_of : Layout → RecordRule
 rule_of States = state_rule
 rule_of Policy = policy_rule
 

@@ -7,10 +7,10 @@ use Rattle.qp_model.specs.declared.text_fault.TextFault.{TextFault}
 use Rattle.qp_model.specs.declared.text_fault.TextFault.TheVariants.{Count}
 use Rattle.qp_model.specs.Policy.{Plans, IsPlanDenominator}
 use Rattle.policy_file.specs.NumberField.{IsNumberField}
-use Rattle.policy_file.specs.Records.{Rule, HoldsNumbers, HoldUpTo, IsFirstFault, records_of, record_at}
+use Rattle.policy_file.specs.Records.{RecordRule, HoldsNumbers, HoldUpTo, IsRecordsFault, records_of, record_at}
 
 -- a number is right in each field, and in the first it is a denominator
-abbrev pub policy_rule : Rule
+abbrev pub policy_rule : RecordRule
 policy_rule i field z = IsNumberField field z × (i ≡ 0 → IsPlanDenominator z)
 
 -- the fields of a record
@@ -34,4 +34,4 @@ pub record IsCountFault (rows : List (List (List ℕ))) (d : Design) (fault : Te
 
 -- the bytes are no such text, and this is their first fault: that of the first record that has one, and else the count of records
 abbrev pub IsPolicyFault : List ℕ → Design → TextFault → Type 0
-IsPolicyFault bytes d fault = IsFirstFault policy_rule (record_length d) (records_of bytes) fault ⊎ IsCountFault (records_of bytes) d fault
+IsPolicyFault bytes d fault = IsRecordsFault policy_rule (record_length d) (records_of bytes) fault ⊎ IsCountFault (records_of bytes) d fault

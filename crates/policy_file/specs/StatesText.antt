@@ -3,10 +3,10 @@ use Rattle.std.specs.Prelude.{◌≡◌, ℕ, ◌<◌, ℤ, List, length}
 use Rattle.mat_int.specs.Matrix.{Matrix, row_of}
 use Rattle.qp_model.specs.declared.text_fault.TextFault.{TextFault}
 use Rattle.policy_file.specs.NumberField.{IsNumberField}
-use Rattle.policy_file.specs.Records.{Rule, HoldsNumbers, IsFirstFault, records_of, record_at}
+use Rattle.policy_file.specs.Records.{RecordRule, HoldsNumbers, IsRecordsFault, records_of, record_at}
 
 -- any number is right in each field
-abbrev pub state_rule : Rule
+abbrev pub state_rule : RecordRule
 state_rule i field z = IsNumberField field z
 
 -- the bytes are the text of these states, of n numbers each
@@ -17,4 +17,4 @@ pub record IsStatesText (bytes : List ℕ) (n : ℕ) (states : Matrix) : Type 0 
 
 -- the bytes are no such text, and this is their first fault
 abbrev pub IsStatesFault : List ℕ → ℕ → TextFault → Type 0
-IsStatesFault bytes n fault = IsFirstFault state_rule n (records_of bytes) fault
+IsStatesFault bytes n fault = IsRecordsFault state_rule n (records_of bytes) fault

@@ -1,7 +1,7 @@
 // One record of numbers.
 ghost use Rattle.std.specs.Prelude.{◌≡◌, ◌⊎◌, ℕ, ℤ, ◌+◌, ◌≤◌, ◌^◌, IfOk, IfErr, IfSome, IsTrue, ◌↔◌, Some};
 ghost use Rattle.csv.specs.Records.{fields_of};
-ghost use Rattle.policy_file.specs.Records.{HoldsNumbers, IsRecordFault, room_of};
+ghost use Rattle.policy_file.specs.Records.{HoldsNumbers, IsRecordFault, field_room};
 ghost use Rattle.policy_file.specs.Layout.{rule_of, IsInRange};
 ghost use Rattle.qp_model.specs.declared.text_fault.TextFault.TheVariants.{Memory};
 
@@ -55,7 +55,7 @@ pub(crate) fn numbers_of(
     count: usize,
     entry: u32,
 ) -> Result<Vec<i128>, TextFault>
-    requires { room_of (fields_of record.now) ≤ 2 ^ 32 }
+    requires { field_room (fields_of record.now) ≤ 2 ^ 32 }
     ensures found { IfOk result (λ v. HoldsNumbers (rule_of layout) count (fields_of record.now) v.items) }
     ensures fault { IfErr result (λ e. (e ≡ Memory) ⊎ IsRecordFault (rule_of layout) count entry (fields_of record.now) e) }
 {

@@ -5,7 +5,7 @@ ghost use Rattle.std.specs.Prelude.{◌≡◌, ◌<◌, ◌*◌, ◌^◌, ◌++�
 ghost use Rattle.integer_algebra.specs.Sums.{at};
 ghost use Rattle.qp_model.specs.Machine.{average_denominator, averaged_plan};
 ghost use Rattle.qp_model.specs.ControllerText.{plan_line};
-ghost use Rattle.fixed_kernel.specs.Progress.{values_of};
+ghost use Rattle.fixed_kernel.specs.Progress.{iterate_of};
 
 use fixed_kernel::Kernel;
 use frac_scaled::scaled;

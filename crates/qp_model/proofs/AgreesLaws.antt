@@ -6,7 +6,7 @@ use Rattle.integer_algebra.proofs.SumLaws.{total_same}
 use Rattle.integer_algebra.proofs.VectorLaws.{dot_same}
 use Rattle.qp_model.specs.Design.{entries}
 use Rattle.qp_model.specs.Condensed.{slope_at}
-use Rattle.qp_model.specs.Condensing.{numbers_of}
+use Rattle.qp_model.specs.Condensing.{condensed_of}
 use Rattle.qp_model.proofs.CostLaws.{condensing}
 use Rattle.qp_model.specs.Runs.{AgreesLaw}
 use Rattle.qp_model.proofs.RowLaws.{response_law}
@@ -18,12 +18,12 @@ agrees_law d k h a = record {
   costs = λ q xi u. rw (form u, slope xi u) ((condensing d h).costs q xi u);
 }
   where
-    form : (u : ℕ → ℤ) → dot (entries d) u (image (entries d) k.hessian u) ≡ dot (entries d) u (image (entries d) (numbers_of d).hessian u)
+    form : (u : ℕ → ℤ) → dot (entries d) u (image (entries d) k.hessian u) ≡ dot (entries d) u (image (entries d) (condensed_of d).hessian u)
     form u = dot_same (entries d) u _ _ (λ i l. total_same (entries d) _ _ (λ j m. ap (λ (z : ℤ). z *ℤ u j) (a.hessian i j l m)))
 
-    at_entry : (xi : ℕ → ℤ) (j : ℕ) → j < entries d → slope_at d k xi j ≡ slope_at d (numbers_of d) xi j
+    at_entry : (xi : ℕ → ℤ) (j : ℕ) → j < entries d → slope_at d k xi j ≡ slope_at d (condensed_of d) xi j
     at_entry xi j l = add_equations (total_same d.states _ _ (λ i m. ap (λ (z : ℤ). z *ℤ xi i) (a.linear j i l m)))
         (ap (λ (z : ℤ). pos (2 ^ d.grid) *ℤ z) (a.constant j l))
 
-    slope : (xi u : ℕ → ℤ) → dot (entries d) (slope_at d k xi) u ≡ dot (entries d) (slope_at d (numbers_of d) xi) u
+    slope : (xi u : ℕ → ℤ) → dot (entries d) (slope_at d k xi) u ≡ dot (entries d) (slope_at d (condensed_of d) xi) u
     slope xi u = total_same (entries d) _ _ (λ j l. ap (λ (z : ℤ). z *ℤ u j) (at_entry xi j l))

@@ -13,7 +13,7 @@ use Rattle.qp_model.specs.Design.{Design, entries}
 use Rattle.qp_model.specs.Parts.{design_of, IsDesign}
 use Rattle.qp_model.specs.Policy.{Plans, IsPlanDenominator, IsPlanNumerator, IsPolicyFor}
 use Rattle.qp_model.specs.Quantities.{greatest, growth, limit_width, cost_width, weight_sum, prediction_size}
-use Rattle.qp_model.specs.CornerSizes.{box_reach, plan_reach, policy_reach, corner_slack_size, corner_cost_size}
+use Rattle.qp_model.specs.CornerSizes.{box_magnitude, corner_magnitude, policy_magnitude, corner_slack_size, corner_cost_size}
 use Rattle.qp_model.proofs.SizeFacts.{positive, greatest_term, factor_under, side_under, some_limit, some_cost, some_weight}
 
 -- ---- sizes of a plan's numbers
@@ -44,16 +44,16 @@ pub row_length : (p : Plans) (d : Design) (c : ℕ) → IsPolicyFor d p → c < 
 row_length p d c f l = f.regular c [] (omega (arith, f.rows))
 
 -- ---- the reach
-plan_some : (d : Design) (p : Plans) (c : ℕ) → IsPolicyFor d p → c < 2 ^ d.states → 1 ≤ plan_reach d p c
+plan_some : (d : Design) (p : Plans) (c : ℕ) → IsPolicyFor d p → c < 2 ^ d.states → 1 ≤ corner_magnitude d p c
 plan_some d p c f l =
     let q = denominator_size (at p.denominators c) (f.denominators c (pos 0) (omega (arith, f.count))) in
     let some = one-le-mul q.0 (pow_pos d.grid) in
     omega (arith, some)
 
-pub reach_some : (d : Design) (p : Plans) → IsPolicyFor d p → 1 ≤ policy_reach d p
+pub reach_some : (d : Design) (p : Plans) → IsPolicyFor d p → 1 ≤ policy_magnitude d p
 reach_some d p f =
     let l : 0 < 2 ^ d.states = pow_pos d.states in
-    omega (arith, plan_some d p 0 f l, greatest_term 0 (2 ^ d.states) (plan_reach d p) l)
+    omega (arith, plan_some d p 0 f l, greatest_term 0 (2 ^ d.states) (corner_magnitude d p) l)
 
 -- ---- the quantities
 left_under : (a b t : ℕ) → 1 ≤ b → a * b ≤ t → a ≤ t
@@ -75,7 +75,7 @@ slack_parts p plans h f k =
     wide p h = omega (arith, some_limit p h)
 
 pub cost_parts : (p : DesignParts) (plans : Plans) → IsDesign p → IsPolicyFor (design_of p) plans → corner_cost_size (design_of p) plans ≤ 2 ^ 126 →
-    (cost_width (design_of p) * prediction_size (design_of p) * policy_reach (design_of p) plans ≤ 2 ^ 126) × (cost_width (design_of p) * prediction_size (design_of p) ≤ 2 ^ 126) × (prediction_size (design_of p) ≤ 2 ^ 126)
+    (cost_width (design_of p) * prediction_size (design_of p) * policy_magnitude (design_of p) plans ≤ 2 ^ 126) × (cost_width (design_of p) * prediction_size (design_of p) ≤ 2 ^ 126) × (prediction_size (design_of p) ≤ 2 ^ 126)
 cost_parts p plans h f k =
     let side = side_under (weight_sum (design_of p)) _ _ (some_weight p h) k in
     let row = left_under (cost_width (design_of p) * prediction_size (design_of p)) _ _ (reach_some (design_of p) plans f) side in

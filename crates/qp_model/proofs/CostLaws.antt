@@ -9,7 +9,7 @@ use Rattle.qp_model.specs.Residual.{stage_residual, final_residual, residual}
 use Rattle.qp_model.specs.Trajectory.{trajectory, lift}
 use Rattle.qp_model.specs.Cost.{cost, cost_term}
 use Rattle.qp_model.specs.Condensed.{slope_at}
-use Rattle.qp_model.specs.Condensing.{power, response, cost_plan, cost_state, cost_target, own_input, limit_plan, limit_state, final_plan, numbers_of, CondensingLaw}
+use Rattle.qp_model.specs.Condensing.{power, response, cost_plan, cost_state, cost_target, own_input, limit_plan, limit_state, final_plan, condensed_of, CondensingLaw}
 use Rattle.qp_model.proofs.TrajectoryLaws.{trajectory_is, own_row}
 use Rattle.integer_algebra.proofs.RingLaws.{add_equations, mul-add_z}
 use Rattle.integer_algebra.proofs.SumLaws.{total_same, total_zero, total_add, total_scale}
@@ -172,7 +172,7 @@ slope_whole : (d : Design) (xi : ℕ → ℤ) (j : ℕ) →
     total d.final_costs (λ r. pos 2 *ℤ ((d.final_cost r).weight *ℤ (cost_plan d d.stages (d.final_cost r) j *ℤ
     (dot d.states (cost_state d d.stages (d.final_cost r)) xi -ℤ pos (2 ^ d.grid) *ℤ cost_target d d.stages (d.final_cost r))))) +ℤ
     total d.stages (λ k. total d.inputs (λ l. pos 2 *ℤ (d.input_weight l *ℤ (own_input d k l j *ℤ pos 0)))) ≡
-    slope_at d (numbers_of d) xi j
+    slope_at d (condensed_of d) xi j
 slope_whole d xi j = closed _ _ _ _ _ (pos (2 ^ d.grid)) _ _
     (total_same d.stages _ _ (λ k l. total_same d.stage_costs _ _ (λ r o. slope_row d.states (d.stage_cost r).weight (cost_plan d (suc k) (d.stage_cost r) j)
     (pos (2 ^ d.grid)) (cost_target d (suc k) (d.stage_cost r)) (cost_state d (suc k) (d.stage_cost r)) xi) ∙
@@ -197,7 +197,7 @@ slope_whole d xi j = closed _ _ _ _ _ (pos (2 ^ d.grid)) _ _
 slope_same : (n : ℕ) (g : ℤ) (v : ℤ → (ℕ → ℤ) → ℤ) (h : ℕ → ℕ → ℤ) (s t : ℕ → ℤ) → ((j : ℕ) → s j ≡ t j) → IsQuadratic n g v h s → IsQuadratic n g v h t
 slope_same n g v h s t e k = record { is = λ q u. rw (total_same n (λ j. t j *ℤ u j) (λ j. s j *ℤ u j) (λ j l. ap (λ (z : ℤ). z *ℤ u j) (sym (e j)))) (k.is q u) }
 
-pub cost_whole : (d : Design) (xi : ℕ → ℤ) → IsQuadratic (entries d) (pos (2 ^ d.grid)) (λ q u. cost d q xi u) (numbers_of d).hessian (slope_at d (numbers_of d) xi)
+pub cost_whole : (d : Design) (xi : ℕ → ℤ) → IsQuadratic (entries d) (pos (2 ^ d.grid)) (λ q u. cost d q xi u) (condensed_of d).hessian (slope_at d (condensed_of d) xi)
 cost_whole d xi = slope_same _ _ _ _ _ _ (slope_whole d xi)
     (quadratic_add _ _ _ _ _ _ _ _
     (quadratic_add _ _ _ _ _ _ _ _
@@ -207,10 +207,10 @@ cost_whole d xi = slope_same _ _ _ _ _ _ (slope_whole d xi)
 
 costs : (d : Design) (q : ℤ) (xi u : ℕ → ℤ) →
     pos 2 *ℤ cost d q xi u ≡ pos 2 *ℤ cost d q xi none +ℤ
-    pos (4 ^ d.grid) *ℤ dot (entries d) u (image (entries d) (numbers_of d).hessian u) +ℤ
-    pos 2 *ℤ (pos (2 ^ d.grid) *ℤ q) *ℤ dot (entries d) (slope_at d (numbers_of d) xi) u
-costs d q xi u = turned (pos 2 *ℤ cost d q xi u) (pos 2 *ℤ cost d q xi none) (dot (entries d) u (image (entries d) (numbers_of d).hessian u))
-    (pos 2 *ℤ (pos (2 ^ d.grid) *ℤ q) *ℤ dot (entries d) (slope_at d (numbers_of d) xi) u) _ _ (ap pos (four-pow d.grid)) ((cost_whole d xi).is q u)
+    pos (4 ^ d.grid) *ℤ dot (entries d) u (image (entries d) (condensed_of d).hessian u) +ℤ
+    pos 2 *ℤ (pos (2 ^ d.grid) *ℤ q) *ℤ dot (entries d) (slope_at d (condensed_of d) xi) u
+costs d q xi u = turned (pos 2 *ℤ cost d q xi u) (pos 2 *ℤ cost d q xi none) (dot (entries d) u (image (entries d) (condensed_of d).hessian u))
+    (pos 2 *ℤ (pos (2 ^ d.grid) *ℤ q) *ℤ dot (entries d) (slope_at d (condensed_of d) xi) u) _ _ (ap pos (four-pow d.grid)) ((cost_whole d xi).is q u)
   where
     turned : (a b f s p r : ℤ) → p ≡ r → a ≡ b +ℤ r *ℤ f +ℤ s → a ≡ b +ℤ p *ℤ f +ℤ s
     turned a b f s p r e h = rw e h
@@ -246,8 +246,8 @@ stage_inside i stages zero l = absurd (omega arith)
 stage_inside i stages (suc n) l = NatLemmas.div_below i (suc n) stages (omega arith) l
 
 rows_hold : (d : Design) (q : ℤ) (xi u : ℕ → ℤ) (i : ℕ) →
-    residual d q xi u i ≡ pos (2 ^ d.grid) *ℤ image (entries d) (numbers_of d).by_plan u i +ℤ
-    q *ℤ (image d.states (numbers_of d).by_state xi i -ℤ pos (2 ^ d.grid) *ℤ (numbers_of d).bound i)
+    residual d q xi u i ≡ pos (2 ^ d.grid) *ℤ image (entries d) (condensed_of d).by_plan u i +ℤ
+    q *ℤ (image d.states (condensed_of d).by_state xi i -ℤ pos (2 ^ d.grid) *ℤ (condensed_of d).bound i)
 rows_hold d q xi u i = elim (cases_lt i (d.stages * d.stage_limits)) [
   | inl l ↦ rw (lt-ltb i (d.stages * d.stage_limits) l) (limit_row d q xi u (i / d.stage_limits) (d.stage_limit (i % d.stage_limits)) (stage_inside i d.stages d.stage_limits l))
   | inr l ↦ rw (le-ltb i (d.stages * d.stage_limits) l) (final_row d q xi u (d.final_limit (i - d.stages * d.stage_limits)))

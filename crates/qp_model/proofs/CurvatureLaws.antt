@@ -12,7 +12,7 @@ use Rattle.qp_model.specs.Sound.{IsSound}
 use Rattle.qp_model.specs.Trajectory.{trajectory, lift}
 use Rattle.qp_model.specs.Cost.{cost, cost_term, cost_scale}
 use Rattle.qp_model.specs.Condensed.{Condensed, IsCondensed, slope_at, gradient_at}
-use Rattle.qp_model.specs.Condensing.{numbers_of}
+use Rattle.qp_model.specs.Condensing.{condensed_of}
 use Rattle.qp_model.specs.Curvature.{untargeted, curvature}
 use Rattle.qp_model.specs.CostShape.{ExpansionLaw, HessianLaw, CurvatureLaw, AverageLaw}
 use Rattle.qp_model.proofs.CostLaws.{condensing}
@@ -210,7 +210,7 @@ average_law d rho sound q xi n u =
     (convex (objective d k xi) q (symmetric d k c xi) upward n u)
   where
     k : Condensed
-    k = numbers_of d
+    k = condensed_of d
 
     c : IsCondensed d k
     c = condensing d sound.inputs

@@ -7,7 +7,7 @@ use Rattle.integer_algebra.specs.Sizes.{size}
 use Rattle.integer_algebra.proofs.PowerLaws.{pow_positive}
 use Rattle.qp_model.specs.Design.{Design, entries, rows}
 use Rattle.qp_model.specs.Quantities.{greatest, plant_width, cost_row_width, limit_row_width, growth, cost_width, limit_width, weight_sum, prediction_size, response_size, limit_entry_size}
-use Rattle.qp_model.specs.Runs.{unit, bound_at, row_at, counted, counts, cost_run, IsTame, IsNarrow, IsSlim}
+use Rattle.qp_model.specs.Runs.{unit, bound_at, row_at, counted, counts, cost_run, IsTame, HasNarrowLimits, HasNarrowCosts}
 use Rattle.qp_model.proofs.RowLaws.{remainder_inside, row_bound_law}
 use Rattle.qp_model.proofs.CountLaws.{counted_all, counted_size, cost_bound_law}
 use Rattle.qp_model.proofs.SizeFacts.{greatest_term}
@@ -16,13 +16,13 @@ use Rattle.qp_model.proofs.SizeFacts.{greatest_term}
 pub tame : (d : Design) → IsTame d (growth d)
 tame d = record { denominator = omega arith; plant = λ i l. omega (arith, greatest_term i d.states (plant_width d) l) }
 
-pub slim : (d : Design) → IsSlim d (cost_width d)
+pub slim : (d : Design) → HasNarrowCosts d (cost_width d)
 slim d = record {
   stage = λ r l. omega (arith, greatest_term r d.stage_costs (λ r. cost_row_width d (d.stage_cost r)) l);
   final = λ r l. omega (arith, greatest_term r d.final_costs (λ r. cost_row_width d (d.final_cost r)) l);
 }
 
-pub narrow : (d : Design) → IsNarrow d (limit_width d)
+pub narrow : (d : Design) → HasNarrowLimits d (limit_width d)
 narrow d = record {
   stage = λ r l. omega (arith, greatest_term r d.stage_limits (λ r. limit_row_width d (d.stage_limit r)) l);
   final = λ r l. omega (arith, greatest_term r d.final_limits (λ r. limit_row_width d (d.final_limit r)) l);

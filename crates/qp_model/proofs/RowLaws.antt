@@ -14,7 +14,7 @@ use Rattle.integer_algebra.proofs.Quoting.{by_ring, quotes}
 use Rattle.qp_model.specs.Design.{Design, LimitRow, entries}
 use Rattle.qp_model.specs.Trajectory.{lift}
 use Rattle.qp_model.specs.Residual.{stage_residual, final_residual}
-use Rattle.qp_model.specs.Condensing.{numbers_of}
+use Rattle.qp_model.specs.Condensing.{condensed_of}
 use Rattle.qp_model.proofs.CostLaws.{condensing}
 use Rattle.qp_model.specs.Runs.{run, unit, limit_at, row_at, bound_at, IsTame, ResponseLaw, ResidualLaw, RowBoundLaw}
 use Rattle.qp_model.proofs.RunLaws.{trajectory_run, power_run, response_run, unit_row, run_within, row_within, product_within, plan_inside, abs-mixed_le}
@@ -66,7 +66,7 @@ residual_law d q xi u i = elim (cases_lt i (d.stages * d.stage_limits)) [
 ]
 
 -- ---- responses
-pub plan_number : (d : Design) (i j : ℕ) → 1 ≤ d.inputs → (numbers_of d).by_plan i j ≡ row_at d none (unit j) i
+pub plan_number : (d : Design) (i j : ℕ) → 1 ≤ d.inputs → (condensed_of d).by_plan i j ≡ row_at d none (unit j) i
 plan_number d i j h = elim (cases_lt i (d.stages * d.stage_limits)) [
   | inl l ↦ rw (lt-ltb i (d.stages * d.stage_limits) l) (next (nat_eq (j / d.inputs) (i / d.stage_limits)) (lift d (i / d.stage_limits))
       (pos (d.plant_denominator ^ (i / d.stage_limits))) _ _ _ _
@@ -81,7 +81,7 @@ plan_number d i j h = elim (cases_lt i (d.stages * d.stage_limits)) [
     next true m a s t x c e f = rw (e, f) refl
     next false m a s t x c e f = rw (e, f) (by_ring (m ∷ a ∷ t ∷ []) (search quotes depth 60 fits 20000) refl)
 
-state_number : (d : Design) (i j : ℕ) → (numbers_of d).by_state i j ≡ row_at d (unit j) none i
+state_number : (d : Design) (i j : ℕ) → (condensed_of d).by_state i j ≡ row_at d (unit j) none i
 state_number d i j = elim (cases_lt i (d.stages * d.stage_limits)) [
   | inl l ↦ rw (lt-ltb i (d.stages * d.stage_limits) l) (next (lift d (i / d.stage_limits)) (pos (d.plant_denominator ^ (i / d.stage_limits))) _ _ _
       (dot_same d.states (d.stage_limit (i % d.stage_limits)).of_state _ _ (λ n o. power_run d (i / d.stage_limits) n j))
@@ -93,7 +93,7 @@ state_number d i j = elim (cases_lt i (d.stages * d.stage_limits)) [
     next : (m a s t c : ℤ) → s ≡ t → c ≡ pos 0 → m *ℤ s ≡ m *ℤ (t +ℤ a *ℤ c)
     next m a s t c e f = rw (e, f) (by_ring (m ∷ a ∷ t ∷ []) (search quotes depth 60 fits 20000) refl)
 
-bound_number : (d : Design) (i : ℕ) → (numbers_of d).bound i ≡ pos (d.plant_denominator ^ d.stages) *ℤ bound_at d i
+bound_number : (d : Design) (i : ℕ) → (condensed_of d).bound i ≡ pos (d.plant_denominator ^ d.stages) *ℤ bound_at d i
 bound_number d i = elim (cases_lt i (d.stages * d.stage_limits)) [
   | inl l ↦ rw (lt-ltb i (d.stages * d.stage_limits) l) (next _ _ _ (d.stage_limit (i % d.stage_limits)).bound
       (lift_power d.plant_denominator d.stages (i / d.stage_limits) (omega (arith, stage_inside i d.stages d.stage_limits l))))

@@ -15,7 +15,7 @@ use Rattle.integer_algebra.proofs.BlockLaws.{total_single, choose_total}
 use Rattle.qp_model.specs.Design.{Design, entries}
 use Rattle.qp_model.specs.Trajectory.{trajectory}
 use Rattle.qp_model.specs.Condensing.{power, response}
-use Rattle.qp_model.specs.Runs.{run, unit, IsTame, RunLaw}
+use Rattle.qp_model.specs.Runs.{run, unit, IsTame, PlantRunLaw}
 
 -- ---- trajectories
 pub trajectory_run : (d : Design) (q : ℤ) (xi u : ℕ → ℤ) (k i : ℕ) →
@@ -130,5 +130,5 @@ run_within d alpha z x v t hx hv (suc k) i l m = rw (pow-suc alpha k)
         unsigned_abs (x +ℤ pos s *ℤ y) ≤ z * (a * alpha)
     last x y s ex ey z a alpha h k o = omega (arith, abs-mixed_le x y s ex ey h k)
 
-pub run_law : RunLaw
+pub run_law : PlantRunLaw
 run_law d = record { trajectory = trajectory_run d; power = power_run d; response = response_run d; within = run_within d }

@@ -9,12 +9,12 @@ use Rattle.qp_model.specs.Cost.{cost, cost_scale}
 use Rattle.qp_model.specs.Residual.{residual, residual_scale, slack}
 use Rattle.qp_model.specs.Box.{corner}
 use Rattle.qp_model.specs.Condensed.{Condensed}
-use Rattle.qp_model.specs.Condensing.{numbers_of}
+use Rattle.qp_model.specs.Condensing.{condensed_of}
 use Rattle.qp_model.specs.Columns.{solve_column, solve_matrix, solve_floor, column_bound}
 use Rattle.qp_model.specs.Errors.{error_sums_of, plan_bound, residual_error, epsilon}
 use Rattle.qp_model.specs.Controller.{Numbers}
 use Rattle.qp_model.specs.Machine.{loaded, after, entry_sum, averaged_plan, average_denominator}
-use Rattle.qp_model.specs.AbsoluteSums.{greatest_sum, entry_reach, plan_reach, sum_reach}
+use Rattle.qp_model.specs.AbsoluteSums.{greatest_sum, entry_absolute_sum, plan_magnitudes, sum_magnitude}
 
 -- x's only coefficient
 one : ℕ → ℤ
@@ -73,19 +73,19 @@ slack_scale : residual_scale base ≡ 4
 slack_scale = refl
 
 -- ---- condensed numbers
-hessian : (numbers_of base).hessian 0 0 ≡ pos 4
+hessian : (condensed_of base).hessian 0 0 ≡ pos 4
 hessian = refl
 
-linear : (numbers_of base).linear 0 0 ≡ pos 2
+linear : (condensed_of base).linear 0 0 ≡ pos 2
 linear = refl
 
-last_row : (numbers_of base).by_plan 2 0 ≡ pos 4
+last_row : (condensed_of base).by_plan 2 0 ≡ pos 4
 last_row = refl
 
-last_state : (numbers_of base).by_state 2 0 ≡ pos 4
+last_state : (condensed_of base).by_state 2 0 ≡ pos 4
 last_state = refl
 
-last_bound : (numbers_of base).bound 2 ≡ pos 1
+last_bound : (condensed_of base).bound 2 ≡ pos 1
 last_bound = refl
 
 floor : solve_floor base ≡ 8
@@ -141,10 +141,10 @@ first_controller = record {
 absolute : greatest_sum first_controller ≡ 26214400
 absolute = refl
 
-plan_reaches : plan_reach first_controller ≡ 12800 ∷ []
+plan_reaches : plan_magnitudes first_controller ≡ 12800 ∷ []
 plan_reaches = refl
 
-sum_reaches : sum_reach first_controller 0 ≡ 51200
+sum_reaches : sum_magnitude first_controller 0 ≡ 51200
 sum_reaches = refl
 
 -- the four plans from the state 1

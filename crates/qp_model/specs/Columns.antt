@@ -3,7 +3,7 @@ use Rattle.std.specs.Prelude.{ℕ, zero, suc, ◌+◌, ◌-◌, ◌*◌, ◌^◌
 use Rattle.integer_algebra.specs.Division.{ceil_div}
 use Rattle.integer_algebra.specs.Sizes.{size}
 use Rattle.qp_model.specs.Design.{Design, entries, rows}
-use Rattle.qp_model.specs.Condensing.{numbers_of}
+use Rattle.qp_model.specs.Condensing.{condensed_of}
 use Rattle.qp_model.specs.Quantities.{greatest}
 
 -- the least of f at 0, 1 .. n - 1, and 0 of none
@@ -26,7 +26,7 @@ rows_scale d = d.limit_denominator * d.plant_denominator ^ d.stages
 
 -- the hessian times the limits' denominator
 abbrev pub solve_matrix : Design → ℕ → ℕ → ℤ
-solve_matrix d i j = pos d.limit_denominator *ℤ (numbers_of d).hessian i j
+solve_matrix d i j = pos d.limit_denominator *ℤ (condensed_of d).hessian i j
 
 -- how many columns there are
 abbrev pub columns : Design → ℕ
@@ -35,9 +35,9 @@ columns d = d.states + 1 + rows d
 -- column i: those of the linear part, that of the constant, and those of the rows, on the matrix's denominator
 abbrev pub solve_column : Design → ℕ → ℕ → ℤ
 solve_column d i j =
-    if nat_lt i d.states then pos d.limit_denominator *ℤ (numbers_of d).linear j i
-    else if i == d.states then pos d.limit_denominator *ℤ (numbers_of d).constant j
-    else pos (d.cost_denominator * d.row_denominator ^ 2 * d.plant_denominator ^ d.stages) *ℤ (numbers_of d).by_plan (i - (d.states + 1)) j
+    if nat_lt i d.states then pos d.limit_denominator *ℤ (condensed_of d).linear j i
+    else if i == d.states then pos d.limit_denominator *ℤ (condensed_of d).constant j
+    else pos (d.cost_denominator * d.row_denominator ^ 2 * d.plant_denominator ^ d.stages) *ℤ (condensed_of d).by_plan (i - (d.states + 1)) j
 
 -- what the matrix bends each list up by at least
 abbrev pub solve_floor : Design → ℕ

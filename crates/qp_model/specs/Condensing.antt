@@ -51,8 +51,8 @@ abbrev pub limit_state : Design → ℕ → LimitRow → ℕ → ℤ
 limit_state d k r j = lift d k *ℤ total d.states (λ i. r.of_state i *ℤ power d k i j)
 
 -- ---- the numbers
-abbrev pub numbers_of : Design → Condensed
-numbers_of d = record {
+abbrev pub condensed_of : Design → Condensed
+condensed_of d = record {
   hessian = λ i j. over_costs d (λ k r. pos 2 *ℤ (r.weight *ℤ (cost_plan d k r i *ℤ cost_plan d k r j))) +ℤ
       total d.stages (λ k. total d.inputs (λ l. pos 2 *ℤ (d.input_weight l *ℤ (own_input d k l i *ℤ own_input d k l j))));
   linear = λ j i. over_costs d (λ k r. pos 2 *ℤ (r.weight *ℤ (cost_plan d k r j *ℤ cost_state d k r i)));
@@ -73,4 +73,4 @@ TrajectoryLaw = (d : Design) (q : ℤ) (xi u : ℕ → ℤ) (k i : ℕ) → k �
 
 -- the numbers of a design are its condensed form
 abbrev pub CondensingLaw : Type 0
-CondensingLaw = (d : Design) → 1 ≤ d.inputs → IsCondensed d (numbers_of d)
+CondensingLaw = (d : Design) → 1 ≤ d.inputs → IsCondensed d (condensed_of d)

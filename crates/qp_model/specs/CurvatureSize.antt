@@ -2,13 +2,13 @@
 use Rattle.std.specs.Prelude.{ℕ, zero, suc, ◌+◌, ◌*◌, ◌^◌, ◌≤◌, unsigned_abs, Bool, nat_le, if◌then◌else◌}
 use Rattle.integer_algebra.specs.Sizes.{amount}
 use Rattle.qp_model.specs.Design.{Design, entries, rows}
-use Rattle.qp_model.specs.Condensing.{numbers_of}
+use Rattle.qp_model.specs.Condensing.{condensed_of}
 use Rattle.qp_model.specs.Columns.{input_floor}
 use Rattle.qp_model.specs.Quantities.{hessian_size, rows_size}
 
 -- the squares of all numbers that the condensed limits have of the plan, over (limit_denominator * plant_denominator^stages)^2
 abbrev pub limit_squares : Design → ℕ
-limit_squares d = amount (rows d) (λ i. amount (entries d) (λ j. unsigned_abs ((numbers_of d).by_plan i j) ^ 2))
+limit_squares d = amount (rows d) (λ i. amount (entries d) (λ j. unsigned_abs ((condensed_of d).by_plan i j) ^ 2))
 
 -- 2^s times the least input weight, brought over what these squares are over
 abbrev pub floor_times : Design → ℕ → ℕ

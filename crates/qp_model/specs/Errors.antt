@@ -4,7 +4,7 @@ use Rattle.std.specs.Prelude.{ℕ, ◌+◌, ◌*◌, ◌^◌, max, unsigned_abs}
 use Rattle.integer_algebra.specs.Division.{ceil_div}
 use Rattle.integer_algebra.specs.Sizes.{size, amount}
 use Rattle.qp_model.specs.Design.{Design, entries, rows}
-use Rattle.qp_model.specs.Condensing.{numbers_of}
+use Rattle.qp_model.specs.Condensing.{condensed_of}
 use Rattle.qp_model.specs.Quantities.{greatest}
 use Rattle.qp_model.specs.Columns.{input_floor, hessian_scale, rows_scale}
 
@@ -14,27 +14,27 @@ abbrev pub state_bound : Design → ℕ
 state_bound d = ceil_div (greatest d.states (λ i. max (unsigned_abs (d.low i)) (unsigned_abs (d.high i)))) (2 ^ d.grid)
 
 abbrev pub linear_sum : Design → ℕ
-linear_sum d = ceil_div (amount (entries d) (λ j. size d.states ((numbers_of d).linear j))) (hessian_scale d)
+linear_sum d = ceil_div (amount (entries d) (λ j. size d.states ((condensed_of d).linear j))) (hessian_scale d)
 
 abbrev pub constant_sum : Design → ℕ
-constant_sum d = ceil_div (size (entries d) (numbers_of d).constant) (hessian_scale d)
+constant_sum d = ceil_div (size (entries d) (condensed_of d).constant) (hessian_scale d)
 
 abbrev pub plan_row_sum : Design → ℕ
-plan_row_sum d = ceil_div (amount (rows d) (λ i. size (entries d) ((numbers_of d).by_plan i))) (rows_scale d)
+plan_row_sum d = ceil_div (amount (rows d) (λ i. size (entries d) ((condensed_of d).by_plan i))) (rows_scale d)
 
 abbrev pub trace_sum : Design → ℕ
-trace_sum d = ceil_div (amount (entries d) (λ j. unsigned_abs ((numbers_of d).hessian j j))) (hessian_scale d)
+trace_sum d = ceil_div (amount (entries d) (λ j. unsigned_abs ((condensed_of d).hessian j j))) (hessian_scale d)
 
 -- ---- errors
 -- what all states and multipliers, and the rounding of an entry, come to
-abbrev pub reach_bound : Design → ℕ → ℕ
-reach_bound d r = d.states * state_bound d + 1 + rows d * (2 * r)
+abbrev pub combined_bound : Design → ℕ → ℕ
+combined_bound d r = d.states * state_bound d + 1 + rows d * (2 * r)
 
 -- each entry j of the gradient at a plan of the machine is at most 2^-f times this
 abbrev pub gradient_error : Design → ℕ → ℕ → ℕ
 gradient_error d r j =
-    ceil_div (unsigned_abs ((numbers_of d).hessian j j)) (2 * hessian_scale d) * reach_bound d r
-    + ceil_div (size (entries d) ((numbers_of d).hessian j)) (hessian_scale d)
+    ceil_div (unsigned_abs ((condensed_of d).hessian j j)) (2 * hessian_scale d) * combined_bound d r
+    + ceil_div (size (entries d) ((condensed_of d).hessian j)) (hessian_scale d)
 
 abbrev pub gradient_squares : Design → ℕ → ℕ
 gradient_squares d r = amount (entries d) (λ j. gradient_error d r j ^ 2)
@@ -57,7 +57,7 @@ abbrev pub error_sums_of : Design → ℕ → ErrorSums
 error_sums_of d r = record {
   first = ceil_div (d.cost_denominator * gradient_squares d r) (2 * input_floor d);
   lead = ceil_div (pull d r) (2 * input_floor d);
-  tail = d.cost_denominator * reach_bound d r * trace_sum d;
+  tail = d.cost_denominator * combined_bound d r * trace_sum d;
   top_rows = 2 * r * rows d;
   plan_entries = entries d;
   box_states = d.states * state_bound d;
@@ -79,5 +79,5 @@ epsilon s f = ceil_div (2 ^ 40 * s.first) (4 ^ f) + ceil_div (2 ^ 40 * s.top_row
 -- a number that bounds all that these computations meet: `error`
 abbrev pub error_size : Design → ℕ → ℕ
 error_size d r =
-    pull d r + d.cost_denominator * reach_bound d r * trace_sum d + d.cost_denominator * gradient_squares d r
+    pull d r + d.cost_denominator * combined_bound d r * trace_sum d + d.cost_denominator * gradient_squares d r
     + 2 ^ 40 * ((error_sums_of d r).first + (error_sums_of d r).top_rows * residual_error (error_sums_of d r) 0)

@@ -4,7 +4,7 @@ use Rattle.std.specs.List.{range_with_len}
 use Rattle.std.specs.Int.{int_max, int_min}
 use Rattle.integer_algebra.specs.Division.{floor_of}
 use Rattle.integer_algebra.specs.Sums.{at}
-use Rattle.mat_int.specs.Row.{dot}
+use Rattle.mat_int.specs.Row.{list_dot}
 use Rattle.mat_int.specs.Matrix.{row_of}
 use Rattle.qp_model.specs.Controller.{Numbers}
 
@@ -15,7 +15,7 @@ pub record IsInside (c : Numbers) (xi : List ℤ) (i : ℕ) : Type 0 where
   pub high : at xi i ≤ℤ at c.high i
 
 -- a grid state of the box: whole numbers over 2^grid_bits
-pub record IsGridState (c : Numbers) (xi : List ℤ) : Type 0 where
+pub record IsAdmissible (c : Numbers) (xi : List ℤ) : Type 0 where
   pub long : length xi ≡ c.states
   pub each : (i : ℕ) → i < c.states → IsInside c xi i
 
@@ -27,8 +27,8 @@ loaded c xi = map (λ x. x *ℤ pos (2 ^ (c.fraction_bits - c.grid_bits))) xi
 -- the sum S_j, which plan entry j is the floor of, before the shift and the sign
 abbrev pub entry_sum : Numbers → List ℤ → List ℤ → ℕ → ℤ
 entry_sum c state multipliers j =
-    (dot (row_of c.state_gains j) state +ℤ at c.offsets j *ℤ pos (2 ^ c.fraction_bits)) *ℤ pos (2 ^ c.step_exponent)
-    +ℤ dot (row_of c.dual_gains j) multipliers
+    (list_dot (row_of c.state_gains j) state +ℤ at c.offsets j *ℤ pos (2 ^ c.fraction_bits)) *ℤ pos (2 ^ c.step_exponent)
+    +ℤ list_dot (row_of c.dual_gains j) multipliers
 
 -- plan entry j, over 2^fraction_bits
 abbrev pub plan_entry : Numbers → List ℤ → List ℤ → ℕ → ℤ
@@ -40,7 +40,7 @@ plan_of c state multipliers = map (plan_entry c state multipliers) (range_with_l
 -- the residual of row i at the plan, over 2^(2 fraction_bits)
 abbrev pub row_sum : Numbers → List ℤ → List ℤ → ℕ → ℤ
 row_sum c state plan i =
-    dot (row_of c.plan_rows i) plan +ℤ dot (row_of c.state_rows i) state -ℤ at c.bounds i *ℤ pos (2 ^ c.fraction_bits)
+    list_dot (row_of c.plan_rows i) plan +ℤ list_dot (row_of c.state_rows i) state -ℤ at c.bounds i *ℤ pos (2 ^ c.fraction_bits)
 
 -- multiplier i, over 2^(fraction_bits + step_exponent), moved along its row and kept in 0 .. clamp
 abbrev pub next_multiplier : Numbers → List ℤ → List ℤ → ℤ → ℕ → ℤ
@@ -55,28 +55,28 @@ abbrev pub added : List ℤ → List ℤ → List ℤ
 added sums plan = map (λ j. at sums j +ℤ at plan j) (range_with_len 0 (length plan))
 
 -- what the machine has made
-pub record Made : Type 0 where
+pub record Iterate : Type 0 where
   pub plan : List ℤ
   pub multipliers : List ℤ
   pub sums : List ℤ
 
-abbrev pub start_of : Numbers → Made
+abbrev pub start_of : Numbers → Iterate
 start_of c = record { plan = replicate (length c.offsets) (pos 0); multipliers = replicate (length c.bounds) (pos 0); sums = replicate (length c.offsets) (pos 0) }
 
 -- the plan at the multipliers, the multipliers moved at that plan, and the sums with it added
-abbrev pub step_of : Numbers → List ℤ → Made → Made
+abbrev pub step_of : Numbers → List ℤ → Iterate → Iterate
 step_of c state made =
     let plan = plan_of c state made.multipliers in
     record { plan = plan; multipliers = next_multipliers c state plan made.multipliers; sums = added made.sums plan }
 
 -- ---- runs
 -- what it has made after so many steps from a state over 2^fraction_bits
-unfoldable pub after : Numbers → List ℤ → ℕ → Made
+unfoldable pub after : Numbers → List ℤ → ℕ → Iterate
 after c state zero = start_of c
 after c state (suc k) = step_of c state (after c state k)
 
 -- what it has made after all its steps from a grid state
-abbrev pub run_of : Numbers → List ℤ → Made
+abbrev pub run_of : Numbers → List ℤ → Iterate
 run_of c xi = after c (loaded c xi) c.steps
 
 -- ---- the averaged plan

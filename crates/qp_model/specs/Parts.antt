@@ -99,7 +99,7 @@ pub record IsTable (m : Matrix) (low high width : ℕ) : Type 0 where
   pub numbers : All (All IsNumerator) m.rows
 
 -- a list of numerators
-pub record IsLine (xs : List ℤ) (n : ℕ) : Type 0 where
+pub record IsNumeratorList (xs : List ℤ) (n : ℕ) : Type 0 where
   pub long : length xs ≡ n
   pub numbers : All IsNumerator xs
 
@@ -123,8 +123,8 @@ pub record IsDesign (p : DesignParts) : Type 0 where
   pub final_rows : IsTable p.final_rows 0 12 (p.states + 1)
   pub some_row : 1 ≤ length p.stage_rows.rows + length p.final_rows.rows
   pub grid : p.grid ≤ 24
-  pub lo : IsLine p.lo.items p.states
-  pub hi : IsLine p.hi.items p.states
+  pub lo : IsNumeratorList p.lo.items p.states
+  pub hi : IsNumeratorList p.hi.items p.states
   pub box : (i : ℕ) → i < p.states → at p.lo.items i ≤ℤ at p.hi.items i
   pub target_den : IsDenominator p.target_den
   pub violation : IsPositive p.violation

@@ -6,7 +6,7 @@ use Rattle.qp_model.specs.Design.{Design, CostRow, LimitRow, entries, rows}
 use Rattle.qp_model.specs.Condensed.{Condensed, IsCondensed}
 use Rattle.qp_model.specs.Trajectory.{lift, trajectory}
 use Rattle.qp_model.specs.Residual.{residual}
-use Rattle.qp_model.specs.Condensing.{power, response, numbers_of, own_input, cost_target}
+use Rattle.qp_model.specs.Condensing.{power, response, condensed_of, own_input, cost_target}
 
 -- the state at a stage, from the state x under the plan v, as a numerator over plant_denominator^stage
 abbrev pub run : Design → (x v : ℕ → ℤ) → ℕ → ℕ → ℤ
@@ -45,7 +45,7 @@ pub record IsTame (d : Design) (alpha : ℕ) : Type 0 where
   pub plant : (i : ℕ) → i < d.states → size d.states (d.plant_a i) + size d.inputs (d.plant_b i) ≤ alpha
 
 -- a run from numbers of at most z, whose states stay below 2^126 also when they are times `factor`
-pub record RunFits (d : Design) (x v : ℕ → ℤ) (factor : ℕ) : Type 0 where
+pub record TrajectoryFits (d : Design) (x v : ℕ → ℤ) (factor : ℕ) : Type 0 where
   pub alpha : ℕ
   pub z : ℕ
   pub tame : IsTame d alpha
@@ -54,7 +54,7 @@ pub record RunFits (d : Design) (x v : ℕ → ℤ) (factor : ℕ) : Type 0 wher
   pub fits : factor * (z * alpha ^ d.stages) ≤ 2 ^ 126
 
 -- each limit row's absolute sum, without its bound, is at most `width`
-pub record IsNarrow (d : Design) (width : ℕ) : Type 0 where
+pub record HasNarrowLimits (d : Design) (width : ℕ) : Type 0 where
   pub stage : (r : ℕ) → r < d.stage_limits → size d.states (d.stage_limit r).of_state + size d.inputs (d.stage_limit r).of_input ≤ width
   pub final : (r : ℕ) → r < d.final_limits → size d.states (d.final_limit r).of_state ≤ width
 
@@ -64,7 +64,7 @@ pub record Holds (xs : List ℤ) (n : ℕ) (f : ℕ → ℤ) : Type 0 where
   pub is : (i : ℕ) → i < n → at xs i ≡ f i
 
 -- a trajectory, responses and residuals are those of runs
-pub record IsRun (d : Design) : Type 0 where
+pub record IsPlantRun (d : Design) : Type 0 where
   pub trajectory : (q : ℤ) (xi u : ℕ → ℤ) (k i : ℕ) →
       trajectory d q xi u k i ≡ run d (λ j. q *ℤ xi j) (λ j. pos (2 ^ d.grid) *ℤ u j) k i
   pub power : (k i j : ℕ) → power d k i j ≡ run d (unit j) none k i
@@ -73,8 +73,8 @@ pub record IsRun (d : Design) : Type 0 where
       ((i : ℕ) → i < d.states → unsigned_abs (x i) ≤ z) → ((j : ℕ) → j < entries d → unsigned_abs (v j) ≤ z) →
       (k i : ℕ) → k ≤ d.stages → i < d.states → unsigned_abs (run d x v k i) ≤ z * alpha ^ k
 
-abbrev pub RunLaw : Type 0
-RunLaw = (d : Design) → IsRun d
+abbrev pub PlantRunLaw : Type 0
+PlantRunLaw = (d : Design) → IsPlantRun d
 
 -- ---- the rows
 -- what rows have of unit plans and unit states, and the bounds: the numbers that condensing makes
@@ -97,7 +97,7 @@ ResidualLaw = (d : Design) (q : ℤ) (xi u : ℕ → ℤ) (i : ℕ) →
 
 -- rows of runs stay within bounds
 abbrev pub RowBoundLaw : Type 0
-RowBoundLaw = (d : Design) (alpha z width : ℕ) (x v : ℕ → ℤ) → 1 ≤ d.plant_denominator → IsTame d alpha → IsNarrow d width →
+RowBoundLaw = (d : Design) (alpha z width : ℕ) (x v : ℕ → ℤ) → 1 ≤ d.plant_denominator → IsTame d alpha → HasNarrowLimits d width →
     ((i : ℕ) → i < d.states → unsigned_abs (x i) ≤ z) → ((j : ℕ) → j < entries d → unsigned_abs (v j) ≤ z) →
     (i : ℕ) → i < rows d → unsigned_abs (row_at d x v i) ≤ width * (z * alpha ^ d.stages)
 
@@ -116,24 +116,24 @@ abbrev pub counts : Design → ℕ
 counts d = d.stages * d.stage_costs + d.final_costs
 
 -- each cost row's absolute sum, without its target, is at most `width`
-pub record IsSlim (d : Design) (width : ℕ) : Type 0 where
+pub record HasNarrowCosts (d : Design) (width : ℕ) : Type 0 where
   pub stage : (r : ℕ) → r < d.stage_costs → size d.states (d.stage_cost r).coefficient ≤ width
   pub final : (r : ℕ) → r < d.final_costs → size d.states (d.final_cost r).coefficient ≤ width
 
 -- cost rows of runs stay within bounds
 abbrev pub CostBoundLaw : Type 0
-CostBoundLaw = (d : Design) (alpha z width : ℕ) (x v : ℕ → ℤ) → IsTame d alpha → IsSlim d width →
+CostBoundLaw = (d : Design) (alpha z width : ℕ) (x v : ℕ → ℤ) → IsTame d alpha → HasNarrowCosts d width →
     ((i : ℕ) → i < d.states → unsigned_abs (x i) ≤ z) → ((j : ℕ) → j < entries d → unsigned_abs (v j) ≤ z) →
     (c : ℕ) → c < counts d → unsigned_abs (counted d (cost_run d x v) c) ≤ width * (z * alpha ^ d.stages)
 
 -- the condensed costs are weighted sums over the counted rows of products of responses
 pub record IsGram (d : Design) : Type 0 where
-  pub hessian : (i j : ℕ) → 1 ≤ d.inputs → (numbers_of d).hessian i j ≡
+  pub hessian : (i j : ℕ) → 1 ≤ d.inputs → (condensed_of d).hessian i j ≡
       total (counts d) (counted d (λ k r. pos 2 *ℤ (r.weight *ℤ (cost_run d none (unit i) k r *ℤ cost_run d none (unit j) k r)))) +ℤ
       total d.stages (λ k. total d.inputs (λ l. pos 2 *ℤ (d.input_weight l *ℤ (own_input d k l i *ℤ own_input d k l j))))
-  pub linear : (j i : ℕ) → 1 ≤ d.inputs → (numbers_of d).linear j i ≡
+  pub linear : (j i : ℕ) → 1 ≤ d.inputs → (condensed_of d).linear j i ≡
       total (counts d) (counted d (λ k r. pos 2 *ℤ (r.weight *ℤ (cost_run d none (unit j) k r *ℤ cost_run d (unit i) none k r))))
-  pub constant : (j : ℕ) → 1 ≤ d.inputs → (numbers_of d).constant j ≡
+  pub constant : (j : ℕ) → 1 ≤ d.inputs → (condensed_of d).constant j ≡
       total (counts d) (counted d (λ k r. neg_ℤ (pos 2 *ℤ (r.weight *ℤ (cost_run d none (unit j) k r *ℤ cost_target d k r)))))
 
 abbrev pub GramLaw : Type 0
@@ -142,9 +142,9 @@ GramLaw = (d : Design) → IsGram d
 -- ---- all condensed numbers
 -- they are those of the design, as far as the sizes go
 pub record Agrees (d : Design) (k : Condensed) : Type 0 where
-  pub hessian : (i j : ℕ) → i < entries d → j < entries d → k.hessian i j ≡ (numbers_of d).hessian i j
-  pub linear : (j i : ℕ) → j < entries d → i < d.states → k.linear j i ≡ (numbers_of d).linear j i
-  pub constant : (j : ℕ) → j < entries d → k.constant j ≡ (numbers_of d).constant j
+  pub hessian : (i j : ℕ) → i < entries d → j < entries d → k.hessian i j ≡ (condensed_of d).hessian i j
+  pub linear : (j i : ℕ) → j < entries d → i < d.states → k.linear j i ≡ (condensed_of d).linear j i
+  pub constant : (j : ℕ) → j < entries d → k.constant j ≡ (condensed_of d).constant j
   pub limits : AreResponses d k.by_plan k.by_state k.bound
 
 abbrev pub AgreesLaw : Type 0

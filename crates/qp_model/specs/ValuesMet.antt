@@ -2,10 +2,10 @@
 use Rattle.std.specs.Prelude.{◌≡◌, ℕ, ◌+◌, ◌-◌, ◌^◌, ◌<◌, ℤ, pos, ◌+ℤ◌, ◌*ℤ◌, neg_ℤ, ◌≤ℤ◌, ◌<ℤ◌, List, [], ◌∷◌, ◌++◌, length, All}
 use Rattle.integer_algebra.specs.Division.{floor_of}
 use Rattle.integer_algebra.specs.Sums.{at}
-use Rattle.mat_int.specs.Row.{dot}
+use Rattle.mat_int.specs.Row.{list_dot}
 use Rattle.mat_int.specs.Matrix.{row_of}
 use Rattle.qp_model.specs.Controller.{Numbers}
-use Rattle.qp_model.specs.Machine.{Made, loaded, entry_sum, plan_entry, plan_of, row_sum, next_multiplier, step_of, after}
+use Rattle.qp_model.specs.Machine.{Iterate, loaded, entry_sum, plan_entry, plan_of, row_sum, next_multiplier, step_of, after}
 
 -- the products of two lists, one by one
 abbrev pub products : List ℤ → List ℤ → List ℤ
@@ -23,7 +23,7 @@ abbrev pub entry_values : Numbers → List ℤ → List ℤ → ℕ → List ℤ
 entry_values c state multipliers j =
     let own = products (row_of c.state_gains j) state in
     let offset = at c.offsets j *ℤ pos (2 ^ c.fraction_bits) in
-    let sum = dot (row_of c.state_gains j) state +ℤ offset in
+    let sum = list_dot (row_of c.state_gains j) state +ℤ offset in
     let scaled = sum *ℤ pos (2 ^ c.step_exponent) in
     let dual = products (row_of c.dual_gains j) multipliers in
     own ++ partial_sums (pos 0) own ++ offset ∷ sum ∷ scaled ∷ [] ++ dual ++ partial_sums (pos 0) dual ++ partial_sums scaled dual
@@ -34,7 +34,7 @@ abbrev pub row_values : Numbers → List ℤ → List ℤ → ℤ → ℕ → Li
 row_values c state plan old i =
     let planned = products (row_of c.plan_rows i) plan in
     let own = products (row_of c.state_rows i) state in
-    let sum = dot (row_of c.plan_rows i) plan in
+    let sum = list_dot (row_of c.plan_rows i) plan in
     let moved = floor_of (row_sum c state plan i) (2 ^ c.fraction_bits) in
     planned ++ partial_sums (pos 0) planned ++ own ++ partial_sums (pos 0) own ++ partial_sums sum own
     ++ (at c.bounds i *ℤ pos (2 ^ c.fraction_bits)) ∷ row_sum c state plan i ∷ moved ∷ (old +ℤ moved) ∷ next_multiplier c state plan old i ∷ []
@@ -45,7 +45,7 @@ pub record FitsWidth (w : ℕ) (z : ℤ) : Type 0 where
   pub high : z <ℤ pos (2 ^ (w - 1))
 
 -- each value of a step fits
-pub record StepFits (w : ℕ) (c : Numbers) (state : List ℤ) (made : Made) : Type 0 where
+pub record StepFits (w : ℕ) (c : Numbers) (state : List ℤ) (made : Iterate) : Type 0 where
   pub entries : (j : ℕ) → j < length c.offsets → All (FitsWidth w) (entry_values c state made.multipliers j)
   pub rows : (i : ℕ) → i < length c.bounds → All (FitsWidth w) (row_values c state (plan_of c state made.multipliers) (at made.multipliers i) i)
   pub sums : All (FitsWidth w) (step_of c state made).sums

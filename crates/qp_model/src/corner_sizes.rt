@@ -5,7 +5,7 @@ ghost use Rattle.integer_algebra.specs.Sums.{at};
 ghost use Rattle.qp_model.specs.Parts.{IsDesign, design_of};
 ghost use Rattle.qp_model.specs.Policy.{plans_of, IsPolicyFor};
 ghost use Rattle.qp_model.specs.Quantities.{greatest};
-ghost use Rattle.qp_model.specs.CornerSizes.{box_reach, plan_reach, policy_reach, corner_slack_size, corner_cost_size};
+ghost use Rattle.qp_model.specs.CornerSizes.{box_magnitude, corner_magnitude, policy_magnitude, corner_slack_size, corner_cost_size};
 
 use crate::design_parts::DesignParts;
 use crate::policy::Policy;
@@ -25,9 +25,9 @@ fn greatest_size(xs: &[i128]) -> u128
 }
 
 // How far the box reaches from 0, over `2^grid`.
-fn box_reach(parts: &DesignParts) -> u128
+fn box_magnitude(parts: &DesignParts) -> u128
     requires { IsDesign parts.now }
-    ensures value { result ≡ box_reach (design_of parts.now) }
+    ensures value { result ≡ box_magnitude (design_of parts.now) }
     ensures small { result < 2 ^ 31 }
 {
     let mut most = 0u128;
@@ -38,27 +38,27 @@ fn box_reach(parts: &DesignParts) -> u128
 }
 
 // How far the numbers of the plan of corner `c`, from 0, reach.
-fn plan_reach(parts: &DesignParts, policy: &Policy, c: usize) -> u128
+fn corner_magnitude(parts: &DesignParts, policy: &Policy, c: usize) -> u128
     requires design { IsDesign parts.now }
     requires plans { IsPolicyFor (design_of parts.now) (plans_of policy.now) }
     requires corner { c < 2 ^ parts.now.states }
-    ensures { result ≡ plan_reach (design_of parts.now) (plans_of policy.now) c }
+    ensures { result ≡ corner_magnitude (design_of parts.now) (plans_of policy.now) c }
 {
     let over = policy.dens[c].unsigned_abs();
     let grid = 1u128 << parts.grid;
     let entries = grid * greatest_size(policy.plans.row(c));
-    (over * grid).max((over * box_reach(parts)).max(entries))
+    (over * grid).max((over * box_magnitude(parts)).max(entries))
 }
 
 /// How far the numbers of the corners' plans reach, over the grid, and those of their states over the plans' denominators.
-pub fn policy_reach(parts: &DesignParts, policy: &Policy) -> u128
+pub fn policy_magnitude(parts: &DesignParts, policy: &Policy) -> u128
     requires design { IsDesign parts.now }
     requires plans { IsPolicyFor (design_of parts.now) (plans_of policy.now) }
-    ensures { result ≡ policy_reach (design_of parts.now) (plans_of policy.now) }
+    ensures { result ≡ policy_magnitude (design_of parts.now) (plans_of policy.now) }
 {
     let mut most = 0u128;
     for c in 0..policy.plans.rows() {
-        most = most.max(plan_reach(parts, policy, c));
+        most = most.max(corner_magnitude(parts, policy, c));
     }
     most
 }
@@ -71,7 +71,7 @@ pub fn corner_slack_size(parts: &DesignParts, policy: &Policy) -> Option<u128>
 {
     let width = limited_product(1 << 17, limit_width(parts))?;
     let row = limited_product(width, prediction_size(parts)?)?;
-    limited_product(row, policy_reach(parts, policy))
+    limited_product(row, policy_magnitude(parts, policy))
 }
 
 /// The quantity `corner_cost`.
@@ -81,6 +81,6 @@ pub fn corner_cost_size(parts: &DesignParts, policy: &Policy) -> Option<u128>
     ensures { SomeIff result (corner_cost_size (design_of parts.now) (plans_of policy.now) ≤ 2 ^ 126) (corner_cost_size (design_of parts.now) (plans_of policy.now)) }
 {
     let response = limited_product(cost_width(parts), prediction_size(parts)?)?;
-    let row = limited_product(response, policy_reach(parts, policy))?;
+    let row = limited_product(response, policy_magnitude(parts, policy))?;
     limited_area(weight_sum(parts), row)
 }

@@ -1,6 +1,6 @@
 // What the definitions give, each as the contract of a function with nothing to do.
 ghost use Rattle.qp_model.specs.Condensing.{CondensingLaw, TrajectoryLaw};
-ghost use Rattle.qp_model.specs.Runs.{RunLaw, ResponseLaw, ResidualLaw, RowBoundLaw, GramLaw, AgreesLaw, CostBoundLaw};
+ghost use Rattle.qp_model.specs.Runs.{PlantRunLaw, ResponseLaw, ResidualLaw, RowBoundLaw, GramLaw, AgreesLaw, CostBoundLaw};
 ghost use Rattle.qp_model.specs.CostShape.{ExpansionLaw, HessianLaw, CurvatureLaw, AverageLaw};
 ghost use Rattle.qp_model.specs.Scaling.{ScalingLaw};
 
@@ -21,7 +21,7 @@ pub fn scaling_law()
 
 /// A trajectory is a run of the plant from whole numbers, and a run's growth is bounded.
 pub fn run_law()
-    ensures { RunLaw }
+    ensures { PlantRunLaw }
 {}
 
 /// A residual is what a row has of a run, less the row's bound.

@@ -18,7 +18,7 @@ mod text_fault;
 
 pub use bounds::{Bounds, Margin};
 pub use controller_parts::ControllerParts;
-pub use corner_sizes::{corner_cost_size, corner_slack_size, policy_reach};
+pub use corner_sizes::{corner_cost_size, corner_slack_size, policy_magnitude};
 pub use design::Design;
 pub use design_parts::DesignParts;
 pub use laws::{

@@ -22,7 +22,7 @@ use Rattle.qp_model.specs.Box.{corner}
 use Rattle.qp_model.specs.Cost.{cost_term}
 use Rattle.qp_model.specs.Policy.{Plans}
 use Rattle.qp_model.specs.Quantities.{growth, cost_width, cost_row_width, weight_sum, prediction_size}
-use Rattle.qp_model.specs.CornerSizes.{policy_reach}
+use Rattle.qp_model.specs.CornerSizes.{policy_magnitude}
 use Rattle.qp_model.specs.Runs.{run, cost_run, counted, counts, Holds}
 use Rattle.qp_model.proofs.RunLaws.{trajectory_run, abs-add_le, plan_inside}
 use Rattle.qp_model.proofs.RowLaws.{lift_power}
@@ -41,7 +41,7 @@ use Rattle.plant_condense.proofs.Rooms as Rooms
 use Rattle.plant_condense.proofs.StateFacts.{at-part, part_inside}
 use Rattle.plant_condense.proofs.StageFacts.{length-part, lifted_fits}
 use Rattle.plant_condense.proofs.ColumnFacts.{at_both}
-use Rattle.slater_margin.specs.Simulation.{IsCorner, CostsAtMost, SquaresFit, row_part, input_part}
+use Rattle.slater_margin.specs.Simulation.{IsCorner, HasCornerCost, SquaresFit, row_costs, input_cost}
 use Rattle.slater_margin.proofs.RoomFacts as Room
 use Rattle.slater_margin.proofs.RoomFacts.{cost_side, side_room, square_room, power_size, unit_size, start_held, plan_held}
 use Rattle.slater_margin.proofs.SlackFacts.{index_is, one-le-mul_z, start_as, plan_as, unit_some}
@@ -157,18 +157,18 @@ module _ (p : DesignParts) (s : Plans) (powers : List ℤ) (c : ℕ) (start plan
   -- the rows
   pub gaps_size : (i : ℕ) → i < counts (design_of p) → unsigned_abs (counted (design_of p) (gap (design_of p) (at start) (at plan) unit) i) ≤ cost_side (design_of p) s
   gaps_size = counted_all (design_of p) (gap (design_of p) (at start) (at plan) unit) (λ y. unsigned_abs y ≤ cost_side (design_of p) s)
-      (λ j r l o. gap_size (design_of p) (policy_reach (design_of p) s) (cost_width (design_of p)) (at start) (at plan) unit held held_plan held_unit (suc j) ((design_of p).stage_cost r)
+      (λ j r l o. gap_size (design_of p) (policy_magnitude (design_of p) s) (cost_width (design_of p)) (at start) (at plan) unit held held_plan held_unit (suc j) ((design_of p).stage_cost r)
       (omega (arith, l)) (omega (arith, greatest_term r (design_of p).stage_costs (λ r. cost_row_width (design_of p) ((design_of p).stage_cost r)) o)))
-      (λ r o. gap_size (design_of p) (policy_reach (design_of p) s) (cost_width (design_of p)) (at start) (at plan) unit held held_plan held_unit p.stages ((design_of p).final_cost r)
+      (λ r o. gap_size (design_of p) (policy_magnitude (design_of p) s) (cost_width (design_of p)) (at start) (at plan) unit held held_plan held_unit p.stages ((design_of p).final_cost r)
       (omega arith) (omega (arith, greatest_term r (design_of p).final_costs (λ r. cost_row_width (design_of p) ((design_of p).final_cost r)) o)))
     where
-      held : (i : ℕ) → i < p.states → unsigned_abs (at start i) ≤ policy_reach (design_of p) s
+      held : (i : ℕ) → i < p.states → unsigned_abs (at start i) ≤ policy_magnitude (design_of p) s
       held = start_held p s powers c start plan unit k
 
-      held_plan : (j : ℕ) → j < entries (design_of p) → unsigned_abs (at plan j) ≤ policy_reach (design_of p) s
+      held_plan : (j : ℕ) → j < entries (design_of p) → unsigned_abs (at plan j) ≤ policy_magnitude (design_of p) s
       held_plan = plan_held p s powers c start plan unit k
 
-      held_unit : unsigned_abs unit ≤ policy_reach (design_of p) s * prediction_size (design_of p)
+      held_unit : unsigned_abs unit ≤ policy_magnitude (design_of p) s * prediction_size (design_of p)
       held_unit = unit_size p s powers c start plan unit k
 
   target_size : (i : ℕ) → i < counts (design_of p) → unsigned_abs unit * unsigned_abs (target_of (design_of p) i) ≤ cost_side (design_of p) s
@@ -186,7 +186,7 @@ module _ (p : DesignParts) (s : Plans) (powers : List ℤ) (c : ℕ) (start plan
   pub gap_fits : (i : ℕ) → i < counts (design_of p) →
       unsigned_abs (counted (design_of p) (cost_run (design_of p) (at start) (at plan)) i) + unsigned_abs (unit *ℤ target_of (design_of p) i) ≤ 2 ^ 126
   gap_fits i l = rw (unsigned_abs-mul unit (target_of (design_of p) i)) (last _ _ _
-      (Count.cost_bound_law (design_of p) (growth (design_of p)) (policy_reach (design_of p) s) (cost_width (design_of p)) (at start) (at plan) (tame (design_of p)) (slim (design_of p))
+      (Count.cost_bound_law (design_of p) (growth (design_of p)) (policy_magnitude (design_of p) s) (cost_width (design_of p)) (at start) (at plan) (tame (design_of p)) (slim (design_of p))
       (start_held p s powers c start plan unit k) (plan_held p s powers c start plan unit k) i l)
       (target_size i l) (two_sides (cost_side (design_of p) s) (square_room p s k.setting.design k.setting.room)))
     where
@@ -194,7 +194,7 @@ module _ (p : DesignParts) (s : Plans) (powers : List ℤ) (c : ℕ) (start plan
       last a b t h k m = omega arith
 
   pub row_part_is : total (counts (design_of p)) (λ i. weight_of (design_of p) i *ℤ square (counted (design_of p) (gap (design_of p) (at start) (at plan) unit) i)) ≡
-      row_part (design_of p) s (c + 1)
+      row_costs (design_of p) s (c + 1)
   row_part_is =
       sym (total_same (counts (design_of p)) _ _ (λ i l. weighed_at (design_of p) (gap (design_of p) (at start) (at plan) unit) i)) ∙
       sym (counted_total (design_of p) (λ j r. r.weight *ℤ square (gap (design_of p) (at start) (at plan) unit j r))) ∙
@@ -229,11 +229,11 @@ module _ (p : DesignParts) (s : Plans) (powers : List ℤ) (c : ℕ) (start plan
       last : (a b t : ℕ) → (a + b) * t ≤ 2 ^ 126 → a * t ≤ 2 ^ 126
       last a b t h = omega arith
 
-  rows_nonneg : pos 0 ≤ℤ row_part (design_of p) s (c + 1)
+  rows_nonneg : pos 0 ≤ℤ row_costs (design_of p) s (c + 1)
   rows_nonneg = rw (← row_part_is) (total_squares (counts (design_of p)) (weight_of (design_of p)) (counted (design_of p) (gap (design_of p) (at start) (at plan) unit))
       (counted_all (design_of p) (λ j r. r.weight) (λ y. pos 0 ≤ℤ y) (λ j r l o. k.setting.design.stage_weights r o) (λ r o. k.setting.design.final_weights r o)))
 
-  rows_size : unsigned_abs (row_part (design_of p) s (c + 1)) ≤ size (counts (design_of p)) (weight_of (design_of p)) * cost_side (design_of p) s ^ 2
+  rows_size : unsigned_abs (row_costs (design_of p) s (c + 1)) ≤ size (counts (design_of p)) (weight_of (design_of p)) * cost_side (design_of p) s ^ 2
   rows_size = rw (← row_part_is) (last _ _ _ (total_size (counts (design_of p)) (λ i. weight_of (design_of p) i *ℤ square (counted (design_of p) (gap (design_of p) (at start) (at plan) unit) i)))
       (squares_size (counts (design_of p)) (weight_of (design_of p)) (counted (design_of p) (gap (design_of p) (at start) (at plan) unit)) (cost_side (design_of p) s) gaps_size))
     where
@@ -321,7 +321,7 @@ module _ (p : DesignParts) (s : Plans) (powers : List ℤ) (c : ℕ) (start plan
   pub next_stage_fits : (n : ℕ) (sum r : ℤ) → n < p.stages → sum ≡ total n stage_part → r ≡ stage_part n → FitsSigned w128 (sum +ℤ r)
   next_stage_fits n sum r l e f = Rooms.narrow (sum +ℤ r) (rw (next_stage n sum r e f) (stages_fit (n + 1) (omega arith)))
 
-  inputs_nonneg : pos 0 ≤ℤ input_part (design_of p) s (c + 1)
+  inputs_nonneg : pos 0 ≤ℤ input_cost (design_of p) s (c + 1)
   inputs_nonneg = total_nonneg p.stages stage_part (λ j m. total_squares p.inputs (at p.input_weights.items) (own j) (λ l o. weight (at p.input_weights.items l)
       (k.setting.design.input_weights l (pos 0) (omega (arith, k.setting.design.input_count, o)))))
     where
@@ -332,8 +332,8 @@ module _ (p : DesignParts) (s : Plans) (powers : List ℤ) (c : ℕ) (start plan
   pub cost_nonneg : pos 0 ≤ℤ corner_cost (design_of p) s (c + 1)
   cost_nonneg = add_nonneg_z rows_nonneg inputs_nonneg
 
-  pub cost_fits : unsigned_abs (row_part (design_of p) s (c + 1) +ℤ input_part (design_of p) s (c + 1)) ≤ 2 ^ 126
-  cost_fits = last (row_part (design_of p) s (c + 1)) (input_part (design_of p) s (c + 1)) _ _ _ rows_size (total_size p.stages stage_part) (stages_size p.stages (omega arith)) weights_room
+  pub cost_fits : unsigned_abs (row_costs (design_of p) s (c + 1) +ℤ input_cost (design_of p) s (c + 1)) ≤ 2 ^ 126
+  cost_fits = last (row_costs (design_of p) s (c + 1)) (input_cost (design_of p) s (c + 1)) _ _ _ rows_size (total_size p.stages stage_part) (stages_size p.stages (omega arith)) weights_room
     where
       last : (x y : ℤ) (a b t : ℕ) {n : ℕ} → unsigned_abs x ≤ a * t → unsigned_abs y ≤ n → n ≤ b * t → (a + b) * t ≤ 2 ^ 126 → unsigned_abs (x +ℤ y) ≤ 2 ^ 126
       last x y a b t h k l m = omega (arith, abs-add_le x y)
@@ -412,7 +412,7 @@ module _ (p : DesignParts) (s : Plans) (powers : List ℤ) (c : ℕ) (start plan
 
 -- ---- the cost, rounded up
 pub costs_of : (d : Design) (s : Plans) (c : ℕ) (sum den most : ℤ) → sum ≡ corner_cost d s c → den ≡ corner_cost_scale d s c → pos 0 ≤ℤ sum → pos 1 ≤ℤ den →
-    most ≡ ceil_of sum (unsigned_abs den) → CostsAtMost d s c most
+    most ≡ ceil_of sum (unsigned_abs den) → HasCornerCost d s c most
 costs_of d s c sum den most e f n h m = record {
   some = by_lt_z most (pos 0) (λ l. absurd (negative most den sum l n h both.0)) (λ l. l);
   cost = rw (← e, ← f) both.0;

@@ -13,8 +13,8 @@ use Rattle.qp_model.specs.Parts.{design_of, IsDesign}
 use Rattle.qp_model.specs.Box.{corner}
 use Rattle.qp_model.specs.Policy.{Plans}
 use Rattle.qp_model.specs.Quantities.{greatest, growth, limit_width, cost_width, weight_sum, prediction_size}
-use Rattle.qp_model.specs.CornerSizes.{box_reach, plan_reach, policy_reach}
-use Rattle.qp_model.specs.Runs.{RunFits, row_at, bound_at}
+use Rattle.qp_model.specs.CornerSizes.{box_magnitude, corner_magnitude, policy_magnitude}
+use Rattle.qp_model.specs.Runs.{TrajectoryFits, row_at, bound_at}
 use Rattle.qp_model.proofs.SizeFacts.{greatest_term, side_under, some_limit, some_cost, some_weight}
 use Rattle.qp_model.proofs.QuantityLaws.{tame, narrow, slim, bound_width}
 use Rattle.qp_model.proofs.RowLaws.{row_bound_law}
@@ -24,7 +24,7 @@ use Rattle.plant_condense.proofs.StateFacts.{denominator_positive}
 use Rattle.plant_condense.proofs.Rooms.{read}
 use Rattle.plant_condense.proofs.StageFacts.{lifted_fits, lifted}
 use Rattle.plant_condense.proofs.DenominatorFacts.{naturals_fit, naturals_read}
-use Rattle.slater_margin.specs.Corners.{HasRoom}
+use Rattle.slater_margin.specs.Corners.{HasCornerRoom}
 use Rattle.slater_margin.specs.Simulation.{IsSetting, IsCorner}
 
 under : (a b t : ℕ) → a ≤ b → b ≤ t → a ≤ t
@@ -38,33 +38,33 @@ pub over_is : (xs : List ℤ) (c n : ℕ) {x : ℤ} → x ≡ get_or xs c x → 
 over_is xs c n {x} h l e = get_or_read_under xs c n x (pos 0) h l (sym e)
 
 -- ---- one corner's numbers reach no further than the policy's
-coordinate_size : (d : Design) (c i : ℕ) → i < d.states → unsigned_abs (corner d c i) ≤ box_reach d
-coordinate_size d c i l = chosen ((c - 1) / 2 ^ i % 2 == 1) (d.high i) (d.low i) (box_reach d) (greatest_term i d.states (λ i. max (unsigned_abs (d.low i)) (unsigned_abs (d.high i))) l)
+coordinate_size : (d : Design) (c i : ℕ) → i < d.states → unsigned_abs (corner d c i) ≤ box_magnitude d
+coordinate_size d c i l = chosen ((c - 1) / 2 ^ i % 2 == 1) (d.high i) (d.low i) (box_magnitude d) (greatest_term i d.states (λ i. max (unsigned_abs (d.low i)) (unsigned_abs (d.high i))) l)
   where
     chosen : (b : Bool) (x y : ℤ) (t : ℕ) → max (unsigned_abs y) (unsigned_abs x) ≤ t → unsigned_abs (if b then x else y) ≤ t
     chosen true x y t h = omega arith
     chosen false x y t h = omega arith
 
 module _ (d : Design) (s : Plans) (c : ℕ) (l : c < 2 ^ d.states) where
-  reached : plan_reach d s c ≤ policy_reach d s
-  reached = greatest_term c (2 ^ d.states) (plan_reach d s) l
+  reached : corner_magnitude d s c ≤ policy_magnitude d s
+  reached = greatest_term c (2 ^ d.states) (corner_magnitude d s) l
 
-  pub over_size : unsigned_abs (at s.denominators c) * 2 ^ d.grid ≤ policy_reach d s
+  pub over_size : unsigned_abs (at s.denominators c) * 2 ^ d.grid ≤ policy_magnitude d s
   over_size = omega (arith, reached)
 
-  pub start_size : (i : ℕ) → i < d.states → unsigned_abs (at s.denominators c) * unsigned_abs (corner d (c + 1) i) ≤ policy_reach d s
-  start_size i o = last _ _ (box_reach d) _ (coordinate_size d (c + 1) i o) box
+  pub start_size : (i : ℕ) → i < d.states → unsigned_abs (at s.denominators c) * unsigned_abs (corner d (c + 1) i) ≤ policy_magnitude d s
+  start_size i o = last _ _ (box_magnitude d) _ (coordinate_size d (c + 1) i o) box
     where
-      box : unsigned_abs (at s.denominators c) * box_reach d ≤ policy_reach d s
+      box : unsigned_abs (at s.denominators c) * box_magnitude d ≤ policy_magnitude d s
       box = omega (arith, reached)
 
       last : (q x b z : ℕ) → x ≤ b → q * b ≤ z → q * x ≤ z
       last q x b z h k = omega (arith, mul-le-mul_left q h)
 
-  pub plan_size : (j : ℕ) → j < entries d → 2 ^ d.grid * unsigned_abs (entry_of s.numerators c j) ≤ policy_reach d s
+  pub plan_size : (j : ℕ) → j < entries d → 2 ^ d.grid * unsigned_abs (entry_of s.numerators c j) ≤ policy_magnitude d s
   plan_size j o = last _ _ _ _ (greatest_term j (entries d) (λ j. unsigned_abs (entry_of s.numerators c j)) o) whole
     where
-      whole : 2 ^ d.grid * greatest (entries d) (λ j. unsigned_abs (entry_of s.numerators c j)) ≤ policy_reach d s
+      whole : 2 ^ d.grid * greatest (entries d) (λ j. unsigned_abs (entry_of s.numerators c j)) ≤ policy_magnitude d s
       whole = omega (arith, reached)
 
       last : (q x b z : ℕ) → x ≤ b → q * b ≤ z → q * x ≤ z
@@ -72,26 +72,26 @@ module _ (d : Design) (s : Plans) (c : ℕ) (l : c < 2 ^ d.states) where
 
 -- ---- the quantities
 -- a limit row of numbers that reach so far, with its bound, also times 2^16
-pub slack_room : (d : Design) (s : Plans) → HasRoom d s → 2 ^ 17 * (limit_width d * (policy_reach d s * prediction_size d)) ≤ 2 ^ 126
-slack_room d s r = turn (limit_width d) (prediction_size d) (policy_reach d s) r.slack
+pub slack_room : (d : Design) (s : Plans) → HasCornerRoom d s → 2 ^ 17 * (limit_width d * (policy_magnitude d s * prediction_size d)) ≤ 2 ^ 126
+slack_room d s r = turn (limit_width d) (prediction_size d) (policy_magnitude d s) r.slack
   where
     turn : (a b c : ℕ) → 2 ^ 17 * a * b * c ≤ 2 ^ 126 → 2 ^ 17 * (a * (c * b)) ≤ 2 ^ 126
     turn a b c h = omega arith
 
 -- what a cost row of such numbers is at most
 abbrev pub cost_side : Design → Plans → ℕ
-cost_side d s = cost_width d * (policy_reach d s * prediction_size d)
+cost_side d s = cost_width d * (policy_magnitude d s * prediction_size d)
 
-pub cost_room : (d : Design) (s : Plans) → HasRoom d s → weight_sum d * cost_side d s ^ 2 ≤ 2 ^ 126
-cost_room d s r = rw (turn (cost_width d) (prediction_size d) (policy_reach d s)) r.cost
+pub cost_room : (d : Design) (s : Plans) → HasCornerRoom d s → weight_sum d * cost_side d s ^ 2 ≤ 2 ^ 126
+cost_room d s r = rw (turn (cost_width d) (prediction_size d) (policy_magnitude d s)) r.cost
   where
     turn : (a b c : ℕ) → a * (c * b) ≡ a * b * c
     turn a b c = omega arith
 
-pub side_room : (p : DesignParts) (s : Plans) → IsDesign p → HasRoom (design_of p) s → cost_side (design_of p) s ≤ 2 ^ 126
+pub side_room : (p : DesignParts) (s : Plans) → IsDesign p → HasCornerRoom (design_of p) s → cost_side (design_of p) s ≤ 2 ^ 126
 side_room p s h r = side_under (weight_sum (design_of p)) _ _ (some_weight p h) (cost_room (design_of p) s r)
 
-pub square_room : (p : DesignParts) (s : Plans) → IsDesign p → HasRoom (design_of p) s → cost_side (design_of p) s ^ 2 ≤ 2 ^ 126
+pub square_room : (p : DesignParts) (s : Plans) → IsDesign p → HasCornerRoom (design_of p) s → cost_side (design_of p) s ^ 2 ≤ 2 ^ 126
 square_room p s h r = last (weight_sum (design_of p)) _ (some_weight p h) (cost_room (design_of p) s r)
   where
     last : (w a : ℕ) → 1 ≤ w → w * a ≤ 2 ^ 126 → a ≤ 2 ^ 126
@@ -104,18 +104,18 @@ power_size d = pow-le-pow_left grown d.stages
     grown : d.plant_denominator ≤ growth d
     grown = omega arith
 
-pub last_power_room : (d : Design) (s : Plans) → HasRoom d s → d.plant_denominator ^ d.stages ≤ 2 ^ 126
+pub last_power_room : (d : Design) (s : Plans) → HasCornerRoom d s → d.plant_denominator ^ d.stages ≤ 2 ^ 126
 last_power_room d s r = under _ _ _ (power_size d) r.prediction
 
 -- ---- a setting
 module _ (p : DesignParts) (s : Plans) (powers : List ℤ) (c : ℕ) (k : IsSetting p s powers) (l : c < 2 ^ p.states) where
-  reach_power_room : policy_reach (design_of p) s * prediction_size (design_of p) ≤ 2 ^ 126
+  reach_power_room : policy_magnitude (design_of p) s * prediction_size (design_of p) ≤ 2 ^ 126
   reach_power_room = last (limit_width (design_of p)) _ (some_limit p k.design) (slack_room (design_of p) s k.room)
     where
       last : (w a : ℕ) → 1 ≤ w → 2 ^ 17 * (w * a) ≤ 2 ^ 126 → a ≤ 2 ^ 126
       last w a h k = omega (arith, mul-le-mul_left a h)
 
-  reach_room : policy_reach (design_of p) s ≤ 2 ^ 126
+  reach_room : policy_magnitude (design_of p) s ≤ 2 ^ 126
   reach_room = last _ _ (pow_positive (growth (design_of p)) p.stages grown) reach_power_room
     where
       grown : 1 ≤ growth (design_of p)
@@ -165,15 +165,15 @@ module _ (p : DesignParts) (s : Plans) (powers : List ℤ) (c : ℕ) (start plan
   pub ready : IsReady p powers start plan
   ready = record { design = k.setting.design; powers = k.setting.powers_are; start = k.start_is.long; plan = k.plan_is.long }
 
-  pub start_held : (i : ℕ) → i < p.states → unsigned_abs (at start i) ≤ policy_reach (design_of p) s
+  pub start_held : (i : ℕ) → i < p.states → unsigned_abs (at start i) ≤ policy_magnitude (design_of p) s
   start_held i o = rw (k.start_is.is i o, unsigned_abs-mul (at s.denominators c) (corner (design_of p) (c + 1) i)) (start_size (design_of p) s c k.inside i o)
 
-  pub plan_held : (j : ℕ) → j < entries (design_of p) → unsigned_abs (at plan j) ≤ policy_reach (design_of p) s
+  pub plan_held : (j : ℕ) → j < entries (design_of p) → unsigned_abs (at plan j) ≤ policy_magnitude (design_of p) s
   plan_held j o = rw (k.plan_is.is j o, unsigned_abs-mul (pos (2 ^ p.grid)) (entry_of s.numerators c j)) (plan_size (design_of p) s c k.inside j o)
 
   -- a run whose rows are at most `width`
-  run_fits : (width : ℕ) → width * (policy_reach (design_of p) s * prediction_size (design_of p)) ≤ 2 ^ 126 → RunFits (design_of p) (at start) (at plan) width
-  run_fits width h = record { alpha = growth (design_of p); z = policy_reach (design_of p) s; tame = tame (design_of p); state = start_held; plan = plan_held; fits = h }
+  run_fits : (width : ℕ) → width * (policy_magnitude (design_of p) s * prediction_size (design_of p)) ≤ 2 ^ 126 → TrajectoryFits (design_of p) (at start) (at plan) width
+  run_fits width h = record { alpha = growth (design_of p); z = policy_magnitude (design_of p) s; tame = tame (design_of p); state = start_held; plan = plan_held; fits = h }
 
   pub rows_fit : RowsFit (design_of p) (at start) (at plan)
   rows_fit = record { width = limit_width (design_of p); some = some_limit p k.setting.design; narrow = narrow (design_of p); fits = run_fits (limit_width (design_of p)) (part _ (slack_room (design_of p) s k.setting.room)) }
@@ -185,7 +185,7 @@ module _ (p : DesignParts) (s : Plans) (powers : List ℤ) (c : ℕ) (start plan
   costs_fit = record { width = cost_width (design_of p); some = some_cost p k.setting.design; slim = slim (design_of p); fits = run_fits (cost_width (design_of p)) (side_room p s k.setting.design k.setting.room) }
 
   -- what bounds and targets are times
-  pub unit_size : unsigned_abs unit ≤ policy_reach (design_of p) s * prediction_size (design_of p)
+  pub unit_size : unsigned_abs unit ≤ policy_magnitude (design_of p) s * prediction_size (design_of p)
   unit_size = rw (k.unit_is, unsigned_abs-mul (at s.denominators c) (pos (2 ^ p.grid * unsigned_abs p.plant_den ^ p.stages)))
       (last _ (2 ^ p.grid) _ _ _ (over_size (design_of p) s c k.inside) (power_size (design_of p)))
     where
@@ -194,7 +194,7 @@ module _ (p : DesignParts) (s : Plans) (powers : List ℤ) (c : ℕ) (start plan
 
   -- a bound, over what the row is over
   bound_size : (i : ℕ) → i < rows (design_of p) →
-      unsigned_abs unit * unsigned_abs (bound_at (design_of p) i) ≤ limit_width (design_of p) * (policy_reach (design_of p) s * prediction_size (design_of p))
+      unsigned_abs unit * unsigned_abs (bound_at (design_of p) i) ≤ limit_width (design_of p) * (policy_magnitude (design_of p) s * prediction_size (design_of p))
   bound_size i o = last _ _ _ _ unit_size (bound_width (design_of p) i o)
     where
       last : (u b t w : ℕ) → u ≤ t → b ≤ w → u * b ≤ w * t
@@ -210,7 +210,7 @@ module _ (p : DesignParts) (s : Plans) (powers : List ℤ) (c : ℕ) (start plan
   pub slack_size : (i : ℕ) → i < rows (design_of p) →
       2 ^ 16 * (unsigned_abs (unit *ℤ bound_at (design_of p) i) + unsigned_abs (row_at (design_of p) (at start) (at plan) i)) ≤ 2 ^ 126
   slack_size i o = rw (unsigned_abs-mul unit (bound_at (design_of p) i)) (last _ _ _ (bound_size i o)
-      (row_bound_law (design_of p) (growth (design_of p)) (policy_reach (design_of p) s) (limit_width (design_of p)) (at start) (at plan)
+      (row_bound_law (design_of p) (growth (design_of p)) (policy_magnitude (design_of p) s) (limit_width (design_of p)) (at start) (at plan)
       (denominator_positive p.plant_den k.setting.design.plant_den.low) (tame (design_of p)) (narrow (design_of p)) start_held plan_held i o)
       (slack_room (design_of p) s k.setting.room))
     where

@@ -10,17 +10,17 @@ use Rattle.qp_model.specs.CornerSizes.{corner_slack_size, corner_cost_size}
 use Rattle.qp_model.specs.Margin.{corner_slack, slack_scale, HasSlack}
 
 -- the three quantities that the corners are simulated within
-pub record HasRoom (d : Design) (p : Plans) : Type 0 where
+pub record HasCornerRoom (d : Design) (p : Plans) : Type 0 where
   pub prediction : prediction_size d ≤ 2 ^ 126
   pub slack : corner_slack_size d p ≤ 2 ^ 126
   pub cost : corner_cost_size d p ≤ 2 ^ 126
 
 -- the quantity is the first of the three that is above 2^126
-abbrev pub IsFirstWide : Design → Plans → Quantity → Type 0
-IsFirstWide d p Prediction = 2 ^ 126 < prediction_size d
-IsFirstWide d p CornerSlack = (prediction_size d ≤ 2 ^ 126) × (2 ^ 126 < corner_slack_size d p)
-IsFirstWide d p CornerCost = (prediction_size d ≤ 2 ^ 126) × ((corner_slack_size d p ≤ 2 ^ 126) × (2 ^ 126 < corner_cost_size d p))
-IsFirstWide d p q = ⊥
+abbrev pub IsFirstWideCorner : Design → Plans → Quantity → Type 0
+IsFirstWideCorner d p Prediction = 2 ^ 126 < prediction_size d
+IsFirstWideCorner d p CornerSlack = (prediction_size d ≤ 2 ^ 126) × (2 ^ 126 < corner_slack_size d p)
+IsFirstWideCorner d p CornerCost = (prediction_size d ≤ 2 ^ 126) × ((corner_slack_size d p ≤ 2 ^ 126) × (2 ^ 126 < corner_cost_size d p))
+IsFirstWideCorner d p q = ⊥
 
 -- each row has at corner c a slack of at least 2^-16
 abbrev pub AllSlack : Design → Plans → ℕ → ℕ → Type 0

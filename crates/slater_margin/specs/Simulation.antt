@@ -14,7 +14,7 @@ use Rattle.qp_model.specs.Policy.{Plans, IsPolicyFor}
 use Rattle.qp_model.specs.Runs.{Holds}
 use Rattle.qp_model.specs.Margin.{corner_denominator, corner_plan, corner_slack, slack_scale, corner_cost, corner_cost_scale, HasSlack, HasCost}
 use Rattle.plant_condense.specs.Lists.{ArePowers}
-use Rattle.slater_margin.specs.Corners.{HasRoom, AllSlack}
+use Rattle.slater_margin.specs.Corners.{HasCornerRoom, AllSlack}
 
 -- ---- what a corner is simulated from
 -- a design with room for its policy, and the powers of its plant's denominator
@@ -22,7 +22,7 @@ pub record IsSetting (p : DesignParts) (s : Plans) (powers : List ℤ) : Type 0 
   pub design : IsDesign p
   pub policy : IsPolicyFor (design_of p) s
   pub powers_are : ArePowers p powers
-  pub room : HasRoom (design_of p) s
+  pub room : HasCornerRoom (design_of p) s
 
 -- the corner times its plan's denominator, the plan times 2^grid, and what bounds and targets are times
 pub record IsCorner (p : DesignParts) (s : Plans) (powers : List ℤ) (c : ℕ) (start plan : List ℤ) (unit : ℤ) : Type 0 where
@@ -42,14 +42,14 @@ pub record HasUnits (d : Design) (p : Plans) (c : ℕ) (units : ℤ) : Type 0 wh
   pub short : (pos (2 ^ 16) *ℤ corner_slack d p c row) <ℤ ((units +ℤ pos 1) *ℤ slack_scale d p c)
 
 -- the cost is at most `most`, and above `most` - 1
-pub record CostsAtMost (d : Design) (p : Plans) (c : ℕ) (most : ℤ) : Type 0 where
+pub record HasCornerCost (d : Design) (p : Plans) (c : ℕ) (most : ℤ) : Type 0 where
   pub some : pos 0 ≤ℤ most
   pub cost : HasCost d p most c
   pub dear : ((most -ℤ pos 1) *ℤ corner_cost_scale d p c) <ℤ corner_cost d p c
 
 pub record IsCornerMargin (d : Design) (p : Plans) (c : ℕ) (m : Margin) : Type 0 where
   pub units : HasUnits d p c m.units
-  pub cost : CostsAtMost d p c m.cost
+  pub cost : HasCornerCost d p c m.cost
 
 -- row number r, from 1, is the first with less slack than 2^-16, and `slack` is that slack
 pub record IsShortRow (d : Design) (p : Plans) (c r : ℕ) (slack : Frac) : Type 0 where
@@ -62,14 +62,14 @@ pub record IsShortRow (d : Design) (p : Plans) (c r : ℕ) (slack : Frac) : Type
 
 -- ---- the cost
 -- what the rows of all stages and the final rows cost
-abbrev pub row_part : Design → Plans → ℕ → ℤ
-row_part d p c =
+abbrev pub row_costs : Design → Plans → ℕ → ℤ
+row_costs d p c =
     total d.stages (λ k. total d.stage_costs (λ r. cost_term d (corner_denominator p c) (corner d c) (corner_plan p c) (suc k) (d.stage_cost r))) +ℤ
     total d.final_costs (λ r. cost_term d (corner_denominator p c) (corner d c) (corner_plan p c) d.stages (d.final_cost r))
 
 -- what the inputs cost
-abbrev pub input_part : Design → Plans → ℕ → ℤ
-input_part d p c =
+abbrev pub input_cost : Design → Plans → ℕ → ℤ
+input_cost d p c =
     total d.stages (λ k. total d.inputs (λ l. d.input_weight l *ℤ
     square (pos (d.row_denominator * 2 ^ d.grid * d.plant_denominator ^ d.stages) *ℤ corner_plan p c (k * d.inputs + l))))
 

@@ -72,7 +72,7 @@ impl<'a> Corner<'a> {
     ghost use Rattle.qp_model.specs.Policy.{plans_of};
     ghost use Rattle.qp_model.specs.Runs.{Holds};
     ghost use Rattle.qp_model.specs.Margin.{corner_slack};
-    ghost use Rattle.slater_margin.specs.Simulation.{IsSetting, HasUnits, CostsAtMost, IsShortRow, row_part, input_part};
+    ghost use Rattle.slater_margin.specs.Simulation.{IsSetting, HasUnits, HasCornerCost, IsShortRow, row_costs, input_cost};
 
     /// Corner `number`, from 0. `powers` are those of `plant_den`, up to the number of stages.
     pub fn new(
@@ -136,7 +136,7 @@ impl<'a> Corner<'a> {
 
     // What the rows cost, over `cost_den * (row_den * unit)^2`.
     fn row_cost(&self, alloc: Global) -> Result<i128, AllocError>
-        ensures { IfOk result (λ sum. sum ≡ row_part (design_of self.now.parts.now) (plans_of self.now.policy.now) (self.now.number + 1)) }
+        ensures { IfOk result (λ sum. sum ≡ row_costs (design_of self.now.parts.now) (plans_of self.now.policy.now) (self.now.number + 1)) }
     {
         let weights = weights_of(alloc, self.parts)?;
         let values = costs_of(alloc, self.parts, self.powers, &self.start, &self.plan)?;
@@ -147,7 +147,7 @@ impl<'a> Corner<'a> {
 
     // What the inputs cost, over the same.
     fn input_cost(&self, alloc: Global) -> Result<i128, AllocError>
-        ensures { IfOk result (λ sum. sum ≡ input_part (design_of self.now.parts.now) (plans_of self.now.policy.now) (self.now.number + 1)) }
+        ensures { IfOk result (λ sum. sum ≡ input_cost (design_of self.now.parts.now) (plans_of self.now.policy.now) (self.now.number + 1)) }
     {
         let p = self.parts.inputs;
         let scale = self.parts.row_den * last_power(self.parts, self.powers);
@@ -161,7 +161,7 @@ impl<'a> Corner<'a> {
 
     /// The cost, rounded up to a whole number.
     pub fn cost(&self, alloc: Global) -> Result<i128, AllocError>
-        ensures { IfOk result (CostsAtMost (design_of self.now.parts.now) (plans_of self.now.policy.now) (self.now.number + 1)) }
+        ensures { IfOk result (HasCornerCost (design_of self.now.parts.now) (plans_of self.now.policy.now) (self.now.number + 1)) }
     {
         let rows = self.row_cost(alloc)?;
         let inputs = self.input_cost(alloc)?;

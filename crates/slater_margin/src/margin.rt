@@ -5,7 +5,7 @@ ghost use Rattle.qp_model.specs.declared.quantity.Quantity.{Quantity};
 ghost use Rattle.qp_model.specs.Margin.{IsMargin};
 ghost use Rattle.qp_model.specs.Parts.{design_of, IsDesign};
 ghost use Rattle.qp_model.specs.Policy.{plans_of, IsPolicyFor};
-ghost use Rattle.slater_margin.specs.Corners.{HasRoom, IsFirstWide, IsFirstShort};
+ghost use Rattle.slater_margin.specs.Corners.{HasCornerRoom, IsFirstWideCorner, IsFirstShort};
 ghost use Rattle.slater_margin.specs.Simulation.{IsSetting, IsCornerMargin, IsShortRow};
 
 use crate::corner::Corner;
@@ -21,9 +21,9 @@ use std::alloc::Global;
 fn test_room(parts: &DesignParts, policy: &Policy) -> Result<(), MarginFault>
     requires design { IsDesign parts.now }
     requires plans { IsPolicyFor (design_of parts.now) (plans_of policy.now) }
-    ensures room { OnOk result (HasRoom (design_of parts.now) (plans_of policy.now)) }
+    ensures room { OnOk result (HasCornerRoom (design_of parts.now) (plans_of policy.now)) }
     ensures wide { (quantity : Quantity) → (result ≡ Err (MarginFault.TooWide quantity)) ↔
-        IsFirstWide (design_of parts.now) (plans_of policy.now) quantity }
+        IsFirstWideCorner (design_of parts.now) (plans_of policy.now) quantity }
     ensures margin { (corner row : ℕ) (slack : Frac) → result ≢ Err (MarginFault.NoMargin corner row slack) }
     ensures memory { result ≢ Err MarginFault.Memory }
 {
@@ -74,14 +74,14 @@ fn corner_margin(
 /// and in it the first row, whose slack is less than `2^-16`.
 pub fn margins(alloc: Global, design: &Design, policy: &Policy) -> Result<Margin, MarginFault>
     requires { IsPolicyFor (design_of design.now.parts) (plans_of policy.now) }
-    ensures room { OnOk result (HasRoom (design_of design.now.parts) (plans_of policy.now)) }
+    ensures room { OnOk result (HasCornerRoom (design_of design.now.parts) (plans_of policy.now)) }
     ensures margin { IfOk result (λ m. IsMargin (design_of design.now.parts) (plans_of policy.now) m) }
     ensures slack { IfOk result (λ m. pos 1 ≤ℤ m.units) }
     ensures cost { IfOk result (λ m. pos 0 ≤ℤ m.cost) }
     ensures wide { (quantity : Quantity) → (result ≡ Err (MarginFault.TooWide quantity)) ↔
-        IsFirstWide (design_of design.now.parts) (plans_of policy.now) quantity }
+        IsFirstWideCorner (design_of design.now.parts) (plans_of policy.now) quantity }
     ensures short { (corner row : ℕ) (slack : Frac) → result ≡ Err (MarginFault.NoMargin corner row slack) →
-        HasRoom (design_of design.now.parts) (plans_of policy.now) × IsFirstShort (design_of design.now.parts) (plans_of policy.now) corner row slack }
+        HasCornerRoom (design_of design.now.parts) (plans_of policy.now) × IsFirstShort (design_of design.now.parts) (plans_of policy.now) corner row slack }
     ensures no_give_up { (corner row : ℕ) (slack : Frac) →
         IsFirstShort (design_of design.now.parts) (plans_of policy.now) corner row slack → IsErr result }
 {

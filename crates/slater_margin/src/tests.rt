@@ -30,7 +30,7 @@ fn list(alloc: Global, numbers: &[i128]) -> Result<Vec<i128>, AllocError> {
 
 // A design of one input, whose weight is 1, and of weights over 1.
 #[derive(Clone, Copy)]
-struct Made<'a> {
+struct TestDesign<'a> {
     stages: usize,
     plant_den: i128,
     a: &'a [&'a [i128]],
@@ -44,7 +44,7 @@ struct Made<'a> {
     hi: &'a [i128],
 }
 
-fn parts(rt: &impl Abort, alloc: Global, made: &Made) -> Result<DesignParts, AllocError> {
+fn parts(rt: &impl Abort, alloc: Global, made: &TestDesign) -> Result<DesignParts, AllocError> {
     let states = made.a.len();
     Ok(DesignParts {
         states,
@@ -87,7 +87,7 @@ fn is_policy_for(design: &Design, policy: &Policy) -> bool
 fn margin_of(
     rt: &impl Abort,
     alloc: Global,
-    made: &Made,
+    made: &TestDesign,
     dens: &[i128],
     plans: &[&[i128]],
 ) -> Result<Result<Margin, MarginFault>, AllocError> {
@@ -103,7 +103,7 @@ fn margin_of(
 }
 
 // One state that the input moves, in a quarter of its range.
-const BASE: Made<'static> = Made {
+const BASE: TestDesign<'static> = TestDesign {
     stages: 1,
     plant_den: 1,
     a: &[&[1]],
@@ -118,7 +118,7 @@ const BASE: Made<'static> = Made {
 };
 
 // One axis of a satellite, angle and rate, over five half seconds.
-const SATELLITE: Made<'static> = Made {
+const SATELLITE: TestDesign<'static> = TestDesign {
     stages: 5,
     plant_den: 8,
     a: &[&[8, 4], &[0, 8]],
@@ -153,17 +153,17 @@ fn no_margin(corner: u32, row: u32, num: i128, den: i128) -> Result<Margin, Marg
 #[test]
 fn one_state(rt: HostRuntime) -> Result<(), Fail> {
     let alloc = rt.alloc();
-    let resting = Made { hi: &[0], ..BASE };
-    let tight = Made {
+    let resting = TestDesign { hi: &[0], ..BASE };
+    let tight = TestDesign {
         stage_rows: &[&[0, 4, 4], &[0, -4, 4], &[4, 0, 4]],
         ..BASE
     };
-    let wider = Made {
+    let wider = TestDesign {
         stage_rows: &[&[0, 4, 4], &[0, -4, 4], &[4, 0, 5]],
         ..BASE
     };
     let eighth: (&[i128], &[&[i128]]) = (&[1, 8], &[&[0], &[-7]]);
-    let shown: [(Made, (&[i128], &[&[i128]]), Result<Margin, MarginFault>); 6] = [
+    let shown: [(TestDesign, (&[i128], &[&[i128]]), Result<Margin, MarginFault>); 6] = [
         (
             BASE,
             eighth,
@@ -226,7 +226,7 @@ fn satellite(rt: HostRuntime) -> Result<(), Fail> {
 #[test]
 fn too_wide(rt: HostRuntime) -> Result<(), Fail> {
     let alloc = rt.alloc();
-    let fine = Made {
+    let fine = TestDesign {
         stages: 10,
         plant_den: 65536,
         a: &[&[65536, 32768], &[0, 65536]],

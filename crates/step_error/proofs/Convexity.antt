@@ -11,7 +11,7 @@ use Rattle.qp_model.specs.Design.{Design, entries}
 use Rattle.qp_model.specs.Cost.{cost_scale}
 use Rattle.qp_model.specs.Sound.{IsSound}
 use Rattle.qp_model.specs.Condensed.{IsCondensed}
-use Rattle.qp_model.specs.Condensing.{numbers_of}
+use Rattle.qp_model.specs.Condensing.{condensed_of}
 use Rattle.qp_model.specs.Curvature.{curvature}
 use Rattle.qp_model.specs.Columns.{solve_matrix}
 use Rattle.qp_model.proofs.CurvatureLaws as laws
@@ -20,16 +20,16 @@ use Rattle.qp_model.proofs.CurvatureLaws as laws
 abbrev pub true_floor : Design → ℕ → ℤ
 true_floor d rho = pos (2 * d.limit_denominator * (d.row_denominator * d.plant_denominator ^ d.stages) ^ 2 * rho)
 
-pub solve_matrix_convex : (d : Design) (rho : ℕ) → IsSound d rho → IsCondensed d (numbers_of d) → (v : ℕ → ℤ) →
+pub solve_matrix_convex : (d : Design) (rho : ℕ) → IsSound d rho → IsCondensed d (condensed_of d) → (v : ℕ → ℤ) →
     (true_floor d rho *ℤ total (entries d) (λ j. square (v j))) ≤ℤ dot (entries d) v (image (entries d) (solve_matrix d) v)
 solve_matrix_convex d rho sound condensed v =
-    rw (quadratic_scale (entries d) (pos d.limit_denominator) (numbers_of d).hessian v, pow-two (d.row_denominator * d.plant_denominator ^ d.stages))
+    rw (quadratic_scale (entries d) (pos d.limit_denominator) (condensed_of d).hessian v, pow-two (d.row_denominator * d.plant_denominator ^ d.stages))
     (closed (pos d.limit_denominator) (pos d.cost_denominator) (pos (2 ^ d.grid)) (pos d.row_denominator) (pos (d.plant_denominator ^ d.stages)) (pos rho)
-    (total (entries d) (λ j. square (v j))) (curvature d v) (dot (entries d) v (image (entries d) (numbers_of d).hessian v))
+    (total (entries d) (λ j. square (v j))) (curvature d v) (dot (entries d) v (image (entries d) (condensed_of d).hessian v))
     (pos (cost_scale d)) (pos (4 ^ d.grid))
     (ap (λ (n : ℕ). pos (d.cost_denominator * n)) (pow-two (d.row_denominator * 2 ^ d.grid * d.plant_denominator ^ d.stages)))
     (ap pos (four-pow d.grid)) (omega (arith, ints)) (let o = sound.cost_denominator in omega (arith, ints, o)) (let o = pow_positive 2 d.grid (omega arith) in omega (arith, ints, o))
-    (laws.curvature_law d rho sound v) (laws.hessian_law d (numbers_of d) condensed v))
+    (laws.curvature_law d rho sound v) (laws.hessian_law d (condensed_of d) condensed v))
   where
     closed : (limit cost w row plant rho t curve form scale four : ℤ) → scale ≡ cost *ℤ (row *ℤ w *ℤ plant *ℤ (row *ℤ w *ℤ plant)) → four ≡ w *ℤ w →
         pos 0 ≤ℤ limit → pos 0 <ℤ cost → pos 0 <ℤ w → (rho *ℤ scale *ℤ t) ≤ℤ (cost *ℤ curve) → pos 2 *ℤ curve ≡ four *ℤ form →

@@ -11,10 +11,10 @@ use Rattle.mat_int.specs.Matrix.{entry_of}
 use Rattle.qp_model.specs.declared.design_parts.DesignParts.{DesignParts}
 use Rattle.qp_model.specs.Design.{Design, entries, rows}
 use Rattle.qp_model.specs.Parts.{IsDesign, design_of}
-use Rattle.qp_model.specs.Condensing.{numbers_of}
+use Rattle.qp_model.specs.Condensing.{condensed_of}
 use Rattle.qp_model.specs.Columns.{input_floor, hessian_scale, rows_scale}
 use Rattle.qp_model.specs.Quantities.{cost_entry_size, limit_entry_size}
-use Rattle.qp_model.specs.Errors.{pull, reach_bound, trace_sum, gradient_squares, error_size, state_bound, linear_sum, constant_sum, plan_row_sum}
+use Rattle.qp_model.specs.Errors.{pull, combined_bound, trace_sum, gradient_squares, error_size, state_bound, linear_sum, constant_sum, plan_row_sum}
 use Rattle.qp_model.proofs.RowLaws.{plan_number}
 use Rattle.qp_model.proofs.SizeFacts.{some_entry, positive}
 use Rattle.plant_condense.specs.Form.{IsFormOf, IsLeastInput}
@@ -62,7 +62,7 @@ all_more e n = omega arith
 
 module _ (p : DesignParts) (c : Condensed) (is : IsFormOf p c) where
   -- ---- the cost's numbers
-  pub linear_is : amount (length c.lin.rows) (λ i. size c.lin.cols (entry_of c.lin i)) ≡ amount (entries (design_of p)) (λ j. size p.states ((numbers_of (design_of p)).linear j))
+  pub linear_is : amount (length c.lin.rows) (λ i. size c.lin.cols (entry_of c.lin i)) ≡ amount (entries (design_of p)) (λ j. size p.states ((condensed_of (design_of p)).linear j))
   linear_is = rw (is.shapes.lin.rows, is.shapes.lin.cols) (amount_same (entries (design_of p)) _ _ (λ j l. size_same p.states _ _ (λ i m. is.numbers.linear j i l m)))
 
   pub linear_small : amount (length c.lin.rows) (λ i. size c.lin.cols (entry_of c.lin i)) ≤ 2 ^ 126
@@ -71,7 +71,7 @@ module _ (p : DesignParts) (c : Condensed) (is : IsFormOf p c) where
       (λ j l. amount_within p.states (λ i. unsigned_abs (entry_of c.lin j i)) (cost_entry_size (design_of p)) (λ i m. is.sizes.lin j i l m)))
       (in_hessian (entries (design_of p)) p.states p.states (cost_entry_size (design_of p)) (no_fewer (entries (design_of p)) p.states) is.sizes.cost_room))
 
-  pub constant_is : size (length c.off.items) (at c.off.items) ≡ size (entries (design_of p)) (numbers_of (design_of p)).constant
+  pub constant_is : size (length c.off.items) (at c.off.items) ≡ size (entries (design_of p)) (condensed_of (design_of p)).constant
   constant_is = rw is.shapes.off (size_same (entries (design_of p)) _ _ (λ j l. is.numbers.constant j l))
 
   pub constant_small : size (length c.off.items) (at c.off.items) ≤ 2 ^ 126
@@ -82,7 +82,7 @@ module _ (p : DesignParts) (c : Condensed) (is : IsFormOf p c) where
       single : {a b : ℕ} → a ≤ b → a ≤ 1 * b
       single {a} {b} h = omega (arith, h)
 
-  pub diagonal_is : size (length c.hess.rows) (λ j. entry_of c.hess j j) ≡ amount (entries (design_of p)) (λ j. unsigned_abs ((numbers_of (design_of p)).hessian j j))
+  pub diagonal_is : size (length c.hess.rows) (λ j. entry_of c.hess j j) ≡ amount (entries (design_of p)) (λ j. unsigned_abs ((condensed_of (design_of p)).hessian j j))
   diagonal_is = rw is.shapes.hess.rows (size_same (entries (design_of p)) _ _ (λ j l. is.numbers.hessian j j l l))
 
   pub diagonal_small : size (length c.hess.rows) (λ j. entry_of c.hess j j) ≤ 2 ^ 126
@@ -107,7 +107,7 @@ module _ (p : DesignParts) (c : Condensed) (is : IsFormOf p c) where
   square = is.shapes.hess.cols ∙ sym is.shapes.hess.rows
 
   -- ---- the limits' numbers
-  pub rows_is : amount (length c.g.rows) (λ i. size c.g.cols (entry_of c.g i)) ≡ amount (rows (design_of p)) (λ i. size (entries (design_of p)) ((numbers_of (design_of p)).by_plan i))
+  pub rows_is : amount (length c.g.rows) (λ i. size c.g.cols (entry_of c.g i)) ≡ amount (rows (design_of p)) (λ i. size (entries (design_of p)) ((condensed_of (design_of p)).by_plan i))
   rows_is = rw (is.shapes.g.rows, is.shapes.g.cols) (amount_same (rows (design_of p)) _ _ (λ i l. size_same (entries (design_of p)) _ _
       (λ j m. is.numbers.limits.plan i j l m ∙ sym (plan_number (design_of p) i j is.design.inputs.0))))
 
@@ -152,7 +152,7 @@ module _ (p : DesignParts) (c : Condensed) (is : IsFormOf p c) where
       close rho w v t e g o b k = omega (arith, ints)
 
   -- ---- on the way to the sums
-  pub reach_is : (r state count : ℕ) → state ≡ state_bound (design_of p) → count ≡ length c.g.rows → p.states * state + 1 + 2 * r * count ≡ reach_bound (design_of p) r
+  pub reach_is : (r state count : ℕ) → state ≡ state_bound (design_of p) → count ≡ length c.g.rows → p.states * state + 1 + 2 * r * count ≡ combined_bound (design_of p) r
   reach_is r state count e g = close p.states (state_bound (design_of p)) r (rows (design_of p)) e (g ∙ is.shapes.g.rows)
     where
       close : (n s r m : ℕ) → state ≡ s → count ≡ m → n * state + 1 + 2 * r * count ≡ n * s + 1 + m * (2 * r)
@@ -161,11 +161,11 @@ module _ (p : DesignParts) (c : Condensed) (is : IsFormOf p c) where
           turn : (n s r m : ℕ) → n * s + 1 + 2 * r * m ≡ n * s + 1 + m * (2 * r)
           turn n s r m = omega arith
 
-  pub squares_is : (r scale reach : ℕ) → scale ≡ hessian_scale (design_of p) → reach ≡ reach_bound (design_of p) r →
+  pub squares_is : (r scale reach : ℕ) → scale ≡ hessian_scale (design_of p) → reach ≡ combined_bound (design_of p) r →
       entry_squares (length c.hess.rows) (entry_of c.hess) scale reach ≡ gradient_squares (design_of p) r
   squares_is r scale reach e g = rw (is.shapes.hess.rows, e, g) (amount_same (entries (design_of p)) _ _ (λ j l. ap (λ (n : ℕ). n ^ 2)
-      (λ i. ceil_div (unsigned_abs (is.numbers.hessian j j l l i)) (2 * hessian_scale (design_of p)) * reach_bound (design_of p) r +
-      ceil_div (size_same (entries (design_of p)) (entry_of c.hess j) ((numbers_of (design_of p)).hessian j) (λ k m. is.numbers.hessian j k l m) i) (hessian_scale (design_of p)))))
+      (λ i. ceil_div (unsigned_abs (is.numbers.hessian j j l l i)) (2 * hessian_scale (design_of p)) * combined_bound (design_of p) r +
+      ceil_div (size_same (entries (design_of p)) (entry_of c.hess j) ((condensed_of (design_of p)).hessian j) (λ k m. is.numbers.hessian j k l m) i) (hessian_scale (design_of p)))))
 
 -- what a design has few of
 pub record IsFew (d : Design) : Type 0 where
@@ -194,13 +194,13 @@ pub record AreWithin (d : Design) (r : ℕ) : Type 0 where
   pub weighed : d.cost_denominator * gradient_squares d r ≤ 2 ^ 126
   pub pulling : state_bound d * linear_sum d + constant_sum d + 2 * r * plan_row_sum d ≤ 2 ^ 126
   pub pulled : pull d r ≤ 2 ^ 126
-  pub tail : d.cost_denominator * reach_bound d r * trace_sum d ≤ 2 ^ 126
+  pub tail : d.cost_denominator * combined_bound d r * trace_sum d ≤ 2 ^ 126
 
 pub within : (p : DesignParts) (r : ℕ) → IsDesign p → error_size (design_of p) r ≤ 2 ^ 126 → AreWithin (design_of p) r
 within p r h room =
     let d = design_of p in
     let some = positive p.cost_den h.cost_den.low in
-    let parts = apart (pull d r) (d.cost_denominator * reach_bound d r * trace_sum d) (d.cost_denominator * gradient_squares d r) _ room in
+    let parts = apart (pull d r) (d.cost_denominator * combined_bound d r * trace_sum d) (d.cost_denominator * gradient_squares d r) _ room in
     record {
       squares = factor _ _ some parts.2;
       weighed = parts.2;

@@ -5,7 +5,7 @@ use Rattle.std.proofs.Math.IntN.{*ℤ_comm}
 use Rattle.std.proofs.Math.Nat as Nat
 use Rattle.integer_algebra.specs.Sums.{total, dot, image, square}
 use Rattle.integer_algebra.specs.Bounds.{absolute, IsWithin}
-use Rattle.step_error.specs.Carried.{EntryLaw, EpsilonLaw}
+use Rattle.step_error.specs.Carried.{PlanEntryLaw, EpsilonLaw}
 use Rattle.integer_algebra.proofs.OrderLaws.{le_trans_z, add-le-add_z, le_by, square_nonneg_z, mul-le-mul_left_z, cancel-le_z}
 use Rattle.integer_algebra.proofs.SumLaws.{total_scale, total_mono, total_nonneg, Greatest, greatest, term-le-total}
 use Rattle.integer_algebra.proofs.BoundLaws.{within_nonneg, within_times, absolute_nonneg, absolute_square}
@@ -36,7 +36,7 @@ small n hessian least u b p strong within g j l =
     (rw (*ℤ_comm (absolute (u g.index)) (b i))
     (mul-le-mul_left_z (b i) (within_nonneg (within i m)) (g.top i m)))))))
 
-pub entry : EntryLaw
+pub entry : PlanEntryLaw
 entry zero hessian least u b p strong within j l = absurd (omega arith)
 entry (suc n) hessian least u b p strong within j l = small (suc n) hessian least u b p strong within (greatest n (λ j. absolute (u j))) j l
 

@@ -11,7 +11,7 @@ use Rattle.qp_model.specs.Machine.{plan_entry}
 use Rattle.qp_model.specs.GoodSolution.{IsGood}
 use Rattle.qp_model.specs.Columns.{solve_matrix, solve_column}
 use Rattle.qp_model.specs.Errors.{state_bound}
-use Rattle.qp_model.specs.Built.{gain_column, IsMadeFor}
+use Rattle.qp_model.specs.Built.{gain_column, IsDerivedFrom}
 use Rattle.step_error.specs.Carried.{AreGood, IsRounded}
 use Rattle.step_error.specs.Machine.{pulls}
 use Rattle.step_error.proofs.CarriedLaws.{gradient}
@@ -33,7 +33,7 @@ good_within n h f c x good j inside = record { below = (good j inside).0; above 
     turned : (h a b : ℤ) → (pos 2 *ℤ (b -ℤ a)) ≤ℤ h → neg_ℤ h ≤ℤ (pos 2 *ℤ (a -ℤ b))
     turned h a b k = omega (arith, ints)
 
-module _ (d : Design) (r : ℕ) (c : Numbers) (x l : List ℤ) (made : IsMadeFor d r c) (shaped : IsShaped c) (reached : AreReached d r c x l) where
+module _ (d : Design) (r : ℕ) (c : Numbers) (x l : List ℤ) (made : IsDerivedFrom d r c) (shaped : IsShaped c) (reached : AreReached d r c x l) where
   abbrev plan : ℕ → ℤ
   plan j = plan_entry c x l j
 

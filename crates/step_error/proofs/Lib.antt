@@ -12,7 +12,7 @@ pub mod Convexity
 pub mod Entries
 pub mod Plans
 pub mod MachineSums
-pub mod Reaches
+pub mod Magnitudes
 pub mod StepErrors
 pub mod MachineErrors
 mod WorkedErrors

@@ -14,12 +14,12 @@ use Rattle.qp_model.specs.Cost.{cost, cost_scale}
 use Rattle.qp_model.specs.Residual.{residual, residual_scale, IsFeasible}
 use Rattle.qp_model.specs.Sound.{IsSound}
 use Rattle.qp_model.specs.Parts.{design_of}
-use Rattle.qp_model.specs.Condensing.{numbers_of}
+use Rattle.qp_model.specs.Condensing.{condensed_of}
 use Rattle.qp_model.specs.Condensed.{IsCondensed}
 use Rattle.qp_model.specs.Columns.{input_floor}
 use Rattle.qp_model.specs.Controller.{Numbers, IsShaped}
 use Rattle.qp_model.specs.Machine.{loaded, average_denominator, averaged_plan}
-use Rattle.qp_model.specs.Built.{IsMadeFor}
+use Rattle.qp_model.specs.Built.{IsDerivedFrom}
 use Rattle.qp_model.specs.Errors.{error_sums_of, epsilon}
 use Rattle.qp_model.proofs.CostLaws.{condensing}
 use Rattle.qp_model.proofs.ScalingLaws.{scaling_law}
@@ -50,9 +50,9 @@ all_over_is c n = closed (pos c.steps) (pos (2 ^ 40)) (pos n) (pos (2 ^ c.fracti
     closed : (k p n f s : ℤ) {m : ℤ} → m ≡ f *ℤ s → k *ℤ (pos 2 *ℤ (p *ℤ n) *ℤ m) ≡ pos 2 *ℤ (p *ℤ n) *ℤ s *ℤ (k *ℤ f)
     closed k p n f s e = rw e (by_ring (k ∷ p ∷ n ∷ f ∷ s ∷ []) (search quotes depth 60 fits 20000) refl)
 
-run_is : (d : Design) (r : ℕ) (c : Numbers) (xi : List ℤ) (n : ℕ) → IsSound d (input_floor d) → IsMadeFor d r c → IsShaped c →
+run_is : (d : Design) (r : ℕ) (c : Numbers) (xi : List ℤ) (n : ℕ) → IsSound d (input_floor d) → IsDerivedFrom d r c → IsShaped c →
     ((k : ℕ) → HasErrors d r c xi k) →
-    IsDesignRun d (numbers_of d) (input_floor d) (λ i. c.step_exponent) (pos (2 * r) *ℤ over c n) (epsilon_over d r c n) (over c n) c.steps (at xi)
+    IsDesignRun d (condensed_of d) (input_floor d) (λ i. c.step_exponent) (pos (2 * r) *ℤ over c n) (epsilon_over d r c n) (over c n) c.steps (at xi)
     (plan_over c xi (units n)) (multipliers_over c xi (units n)) (residuals_over c xi (units n))
     (λ k. gradient_over d r c (units n)) (λ k. misses_over d r c (units n))
 run_is d r c xi n well made shaped errors = record {
@@ -107,8 +107,8 @@ squares_scaled m s a w = total_same m _ _ (λ i l. apart s a (w i)) ∙ total_sc
     apart : (s a w : ℤ) → s *ℤ square (a *ℤ w) ≡ s *ℤ (square a *ℤ square w)
     apart s a w = by_ring (s ∷ a ∷ w ∷ []) (search quotes depth 60 fits 20000) refl
 
-run_bound : (d : Design) (r : ℕ) (c : Numbers) (xi : List ℤ) (n : ℕ) → IsSound d (input_floor d) → IsCondensed d (numbers_of d) →
-    IsMadeFor d r c → IsShaped c →
+run_bound : (d : Design) (r : ℕ) (c : Numbers) (xi : List ℤ) (n : ℕ) → IsSound d (input_floor d) → IsCondensed d (condensed_of d) →
+    IsDerivedFrom d r c → IsShaped c →
     ((k : ℕ) → HasErrors d r c xi k) → (t w : ℕ → ℤ) → IsFeasible d (pos n) (at xi) t → InBox (rows d) (pos (2 * r) *ℤ pos n) w →
     MachineRunBound d r c xi (pos n) t w
 run_bound d r c xi n well condensed made shaped errors t w feasible box =
@@ -119,7 +119,7 @@ run_bound d r c xi n well condensed made shaped errors t w feasible box =
     (dot_scaled (rows d) (share c) (part c n) w rest (λ i l. residual_averaged d c xi n i))
     (cost_over d c n (at xi) t) (squares_scaled (rows d) (pos (2 ^ c.step_exponent)) (share c) w) refl refl refl
     (pos_positive (input_floor d) well.rho_positive) (power_positive 40) (power_positive c.step_exponent) (omega (arith, ints))
-    (design_run_law d (numbers_of d) (input_floor d) c.step_exponent (λ i. c.step_exponent) (pos (2 * r) *ℤ over c n) (epsilon_over d r c n) (over c n) c.steps
+    (design_run_law d (condensed_of d) (input_floor d) c.step_exponent (λ i. c.step_exponent) (pos (2 * r) *ℤ over c n) (epsilon_over d r c n) (over c n) c.steps
     well condensed (exponents d c.step_exponent made.exponent) (at xi)
     (plan_over c xi (units n)) (multipliers_over c xi (units n)) (residuals_over c xi (units n))
     (λ k. gradient_over d r c (units n)) (λ k. misses_over d r c (units n))

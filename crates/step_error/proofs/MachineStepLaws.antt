@@ -12,11 +12,11 @@ use Rattle.qp_model.specs.Residual.{residual, residual_scale, IsFeasible}
 use Rattle.qp_model.specs.Scaling.{IsScaledPlan}
 use Rattle.qp_model.specs.Sound.{IsSound}
 use Rattle.qp_model.specs.Parts.{design_of}
-use Rattle.qp_model.specs.Condensing.{numbers_of}
+use Rattle.qp_model.specs.Condensing.{condensed_of}
 use Rattle.qp_model.specs.Condensed.{IsCondensed}
 use Rattle.qp_model.specs.Columns.{input_floor}
 use Rattle.qp_model.specs.Controller.{Numbers, IsShaped}
-use Rattle.qp_model.specs.Built.{IsMadeFor}
+use Rattle.qp_model.specs.Built.{IsDerivedFrom}
 use Rattle.qp_model.specs.Errors.{error_sums_of, epsilon}
 use Rattle.qp_model.proofs.CostLaws.{condensing}
 use Rattle.qp_model.proofs.ScalingLaws.{scaling_law}
@@ -58,8 +58,8 @@ step_closed rs cs o e top f s p n z cost dots least before later squares betas h
     (by_ring (rs ∷ cs ∷ o ∷ e ∷ top ∷ f ∷ s ∷ p ∷ n ∷ z ∷ cost ∷ dots ∷ least ∷ before ∷ later ∷ squares ∷ betas ∷ [])
     (search quotes depth 90 fits 20000) refl)))
 
-step_bound : (d : Design) (r : ℕ) (c : Numbers) (xi : List ℤ) (k n : ℕ) → IsSound d (input_floor d) → IsCondensed d (numbers_of d) →
-    IsMadeFor d r c → IsShaped c → HasErrors d r c xi k →
+step_bound : (d : Design) (r : ℕ) (c : Numbers) (xi : List ℤ) (k n : ℕ) → IsSound d (input_floor d) → IsCondensed d (condensed_of d) →
+    IsDerivedFrom d r c → IsShaped c → HasErrors d r c xi k →
     (t w : ℕ → ℤ) → IsFeasible d (pos n) (at xi) t → InBox (rows d) (pos (2 * r) *ℤ pos n) w →
     MachineStepBound d r c xi k (pos n) t w
 step_bound d r c xi k n well condensed made shaped errors t w feasible box =
@@ -73,7 +73,7 @@ step_bound d r c xi k n well condensed made shaped errors t w feasible box =
     (dot_scaled (rows d) (share c) (pos 2 *ℤ units n) w rest (λ i l. scaled.residuals i))
     (cost_over d c n (at xi) t) (distance_is (rows d) c n w (at (multipliers_at c xi k))) (distance_is (rows d) c n w (at (multipliers_at c xi (suc k))))
     refl refl (pos_positive (input_floor d) well.rho_positive) (power_positive 40) (omega (arith, ints)) (errors_are d r c n well)
-    (design_step_law d (numbers_of d) (input_floor d) c.step_exponent (λ i. c.step_exponent) (pos (2 * r) *ℤ over c n) (over c n)
+    (design_step_law d (condensed_of d) (input_floor d) c.step_exponent (λ i. c.step_exponent) (pos (2 * r) *ℤ over c n) (over c n)
     well condensed (exponents d c.step_exponent made.exponent) (at xi)
     (plan_over c xi (units n) k) (multipliers_over c xi (units n) k) (residuals_over c xi (units n) k) (multipliers_over c xi (units n) (suc k))
     (gradient_over d r c (units n)) (misses_over d r c (units n))

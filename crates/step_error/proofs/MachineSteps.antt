@@ -15,12 +15,12 @@ use Rattle.qp_model.specs.Design.{Design, entries, rows}
 use Rattle.qp_model.specs.Cost.{cost_scale}
 use Rattle.qp_model.specs.Residual.{residual, residual_scale}
 use Rattle.qp_model.specs.Condensed.{Condensed, slope_at}
-use Rattle.qp_model.specs.Condensing.{numbers_of}
+use Rattle.qp_model.specs.Condensing.{condensed_of}
 use Rattle.qp_model.specs.Curvature.{IsExponent, curvature, row_change}
 use Rattle.qp_model.specs.Controller.{Numbers, IsShaped}
 use Rattle.qp_model.specs.Machine.{loaded}
 use Rattle.qp_model.specs.Errors.{gradient_error, residual_error, error_sums_of}
-use Rattle.qp_model.specs.Built.{IsMadeFor}
+use Rattle.qp_model.specs.Built.{IsDerivedFrom}
 use Rattle.qp_model.proofs.ScalingLaws.{scaling_law}
 use Rattle.step_error.specs.Laws.{AreExponents, slant, IsDesignStep}
 use Rattle.step_error.specs.MachineLaws.{HasErrors, multipliers_at, plan_at, used_residual, machine_scale, lifted_plan}
@@ -107,11 +107,11 @@ clamped_scaled g top b pg pt = elim (clamped_cases top b pt) [
 
 -- ---- one step
 -- the number of rows that the machine has
-rows_inside : (d : Design) (r : ℕ) (c : Numbers) → IsMadeFor d r c → IsShaped c → (i : ℕ) → i < rows d → i < length c.bounds
+rows_inside : (d : Design) (r : ℕ) (c : Numbers) → IsDerivedFrom d r c → IsShaped c → (i : ℕ) → i < rows d → i < length c.bounds
 rows_inside d r c made shaped i l = omega (arith, l, made.sizes.rows, shaped.bounds)
 
 -- the next multiplier is the moved one, kept in the box
-moves : (d : Design) (r : ℕ) (c : Numbers) (xi : List ℤ) (k : ℕ) → IsMadeFor d r c → IsShaped c → (i : ℕ) → i < rows d →
+moves : (d : Design) (r : ℕ) (c : Numbers) (xi : List ℤ) (k : ℕ) → IsDerivedFrom d r c → IsShaped c → (i : ℕ) → i < rows d →
     at (multipliers_at c xi (suc k)) i ≡ clamped (pos (2 * r) *ℤ machine_scale c) (at (multipliers_at c xi k) i +ℤ used_residual c xi k i)
 moves d r c xi k made shaped i l =
     multiplier_after c (loaded c xi) k i (rows_inside d r c made shaped i l)
@@ -132,8 +132,8 @@ lifted_residual d c xi b k i =
     split : (f s : ℕ) → pos (2 ^ (f + s)) ≡ pos (2 ^ s) *ℤ pos (2 ^ f)
     split f s = ap pos (pow-add 2 f s ∙ mul_comm (2 ^ f) (2 ^ s))
 
-pub step_is : (d : Design) (r : ℕ) (c : Numbers) (xi : List ℤ) (b : ℤ) (k : ℕ) → pos 0 ≤ℤ b → IsMadeFor d r c → IsShaped c → HasErrors d r c xi k →
-    IsDesignStep d (numbers_of d) (λ i. c.step_exponent) (pos (2 * r) *ℤ scale_over c b) (scale_over c b) (at xi)
+pub step_is : (d : Design) (r : ℕ) (c : Numbers) (xi : List ℤ) (b : ℤ) (k : ℕ) → pos 0 ≤ℤ b → IsDerivedFrom d r c → IsShaped c → HasErrors d r c xi k →
+    IsDesignStep d (condensed_of d) (λ i. c.step_exponent) (pos (2 * r) *ℤ scale_over c b) (scale_over c b) (at xi)
     (plan_over c xi b k) (multipliers_over c xi b k) (residuals_over c xi b k) (multipliers_over c xi b (suc k)) (gradient_over d r c b) (misses_over d r c b)
 step_is d r c xi b k pb made shaped errors = record {
   box = record {
@@ -144,7 +144,7 @@ step_is d r c xi b k pb made shaped errors = record {
   moved = λ i l. moved b (pos (2 ^ c.step_exponent)) (at (multipliers_at c xi k) i) (used_residual c xi k i) (pos (2 * r)) (machine_scale c) pb
       (omega (arith, ints)) (omega (arith, ints)) (moves d r c xi k made shaped i l);
   gradient_error = λ j l. within_same (placed b (pos (cost_scale d)) (pos (residual_scale d)) (pos (2 ^ c.step_exponent * gradient_error d r j)))
-      (sym (slant_scaled d (numbers_of d) (pos 2 *ℤ b) (machine_scale c) (at xi) (lifted_plan c xi k) (at (multipliers_at c xi k)) j))
+      (sym (slant_scaled d (condensed_of d) (pos 2 *ℤ b) (machine_scale c) (at xi) (lifted_plan c xi k) (at (multipliers_at c xi k)) j))
       (within_factor (pos 2 *ℤ b) _ _ (twice b pb) (errors.gradient j l));
   row_error = λ i l. within_same (placed_row b (pos (2 ^ c.step_exponent)) (pos (residual_scale d)) (pos (residual_error (error_sums_of d r) c.fraction_bits)))
       (used b (pos (2 ^ c.step_exponent)) (pos (residual_scale d)) (used_residual c xi k i)

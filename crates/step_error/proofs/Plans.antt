@@ -17,12 +17,12 @@ use Rattle.integer_algebra.proofs.Quoting.{by_ring, quotes}
 use Rattle.qp_model.specs.Design.{Design, entries, rows}
 use Rattle.qp_model.specs.Sound.{IsSound}
 use Rattle.qp_model.specs.Condensed.{IsCondensed}
-use Rattle.qp_model.specs.Condensing.{numbers_of}
+use Rattle.qp_model.specs.Condensing.{condensed_of}
 use Rattle.qp_model.specs.Controller.{Numbers, IsShaped}
 use Rattle.qp_model.specs.Machine.{plan_entry}
 use Rattle.qp_model.specs.Columns.{solve_matrix, solve_column, columns, hessian_scale, rows_scale, input_floor}
-use Rattle.qp_model.specs.Errors.{state_bound, reach_bound, linear_sum, constant_sum, plan_row_sum, trace_sum, pull, error_sums_of, plan_bound}
-use Rattle.qp_model.specs.Built.{gain_column, HasSizesOf, IsMadeFor}
+use Rattle.qp_model.specs.Errors.{state_bound, combined_bound, linear_sum, constant_sum, plan_row_sum, trace_sum, pull, error_sums_of, plan_bound}
+use Rattle.qp_model.specs.Built.{gain_column, HasSizesOf, IsDerivedFrom}
 use Rattle.step_error.specs.Machine.{pulls}
 use Rattle.step_error.proofs.Gains.{over_columns, own_pull, row_pull, plan_entry_is}
 use Rattle.step_error.proofs.Slants.{state_column, own_column, row_column}
@@ -34,13 +34,13 @@ use Rattle.step_error.proofs.Entries.{solutions_sum, absolute_mul}
 
 -- the absolute sum of column i of the linear part, and of row i of the limits
 abbrev linear_size : Design → ℕ → ℤ
-linear_size d i = total (entries d) (λ j. absolute ((numbers_of d).linear j i))
+linear_size d i = total (entries d) (λ j. absolute ((condensed_of d).linear j i))
 
 abbrev row_size : Design → ℕ → ℤ
-row_size d i = total (entries d) (λ j. absolute ((numbers_of d).by_plan i j))
+row_size d i = total (entries d) (λ j. absolute ((condensed_of d).by_plan i j))
 
 abbrev constant_size : Design → ℤ
-constant_size d = total (entries d) (λ j. absolute ((numbers_of d).constant j))
+constant_size d = total (entries d) (λ j. absolute ((condensed_of d).constant j))
 
 le_same : {a a' b b' : ℤ} → a ≡ a' → b ≡ b' → a' ≤ℤ b' → a ≤ℤ b
 le_same h k m = rw (h, k) m
@@ -83,29 +83,29 @@ columns_weight d r c x l sizes reached =
         (pos d.limit_denominator *ℤ total d.states (linear_size d) *ℤ pos (state_bound d * 2 ^ (c.fraction_bits + c.step_exponent)))
     states = le_same
         (total_same c.states _ _ (λ i h. ap (λ (z : ℤ). z *ℤ absolute (pulls c x l i))
-        (factored (entries d) d.limit_denominator (λ j. (numbers_of d).linear j i) (solve_column d i) (λ j. state_column d i j (rw (← (sizes.states)) h)))))
+        (factored (entries d) d.limit_denominator (λ j. (condensed_of d).linear j i) (solve_column d i) (λ j. state_column d i j (rw (← (sizes.states)) h)))))
         (ap (λ (z : ℤ). z *ℤ pos (state_bound d * 2 ^ (c.fraction_bits + c.step_exponent)))
         (sym (total_scale c.states (pos d.limit_denominator) (linear_size d) ∙ ap (λ (n : ℕ). pos d.limit_denominator *ℤ total n (linear_size d)) sizes.states)))
         (weighed c.states (λ i. pos d.limit_denominator *ℤ linear_size d i) (pulls c x l) (pos (state_bound d * 2 ^ (c.fraction_bits + c.step_exponent)))
-        (λ i h. scaled_nonneg d.limit_denominator (linear_size d i) (sizes_nonneg (entries d) (λ j. (numbers_of d).linear j i)))
+        (λ i h. scaled_nonneg d.limit_denominator (linear_size d i) (sizes_nonneg (entries d) (λ j. (condensed_of d).linear j i)))
         (λ i h. state_pull_reach c x l (state_bound d) i h (reached.state i h)))
 
     own : (total (entries d) (λ j. absolute (solve_column d c.states j)) *ℤ absolute (pulls c x l c.states)) ≤ℤ
         (pos d.limit_denominator *ℤ constant_size d *ℤ pos (2 ^ (c.fraction_bits + c.step_exponent)))
-    own = rw (own_pull c x l, factored (entries d) d.limit_denominator (numbers_of d).constant (solve_column d c.states) (λ j. ap (λ (n : ℕ). solve_column d n j) sizes.states ∙ own_column d j)) (≤ℤ_refl _)
+    own = rw (own_pull c x l, factored (entries d) d.limit_denominator (condensed_of d).constant (solve_column d c.states) (λ j. ap (λ (n : ℕ). solve_column d n j) sizes.states ∙ own_column d j)) (≤ℤ_refl _)
 
     multipliers : total c.rows (λ i. total (entries d) (λ j. absolute (solve_column d (c.states + 1 + i) j)) *ℤ absolute (pulls c x l (c.states + 1 + i))) ≤ℤ
         (pos (d.cost_denominator * d.row_denominator ^ 2 * d.plant_denominator ^ d.stages) *ℤ total (rows d) (row_size d) *ℤ pos (2 * r * 2 ^ (c.fraction_bits + c.step_exponent)))
     multipliers = le_same
         (total_same c.rows _ _ (λ i h. ap (λ (z : ℤ). z *ℤ absolute (pulls c x l (c.states + 1 + i)))
-        (factored (entries d) (d.cost_denominator * d.row_denominator ^ 2 * d.plant_denominator ^ d.stages) ((numbers_of d).by_plan i) (solve_column d (c.states + 1 + i))
+        (factored (entries d) (d.cost_denominator * d.row_denominator ^ 2 * d.plant_denominator ^ d.stages) ((condensed_of d).by_plan i) (solve_column d (c.states + 1 + i))
         (λ j. ap (λ (n : ℕ). solve_column d (n + 1 + i) j) sizes.states ∙ row_column d i j))))
         (ap (λ (z : ℤ). z *ℤ pos (2 * r * 2 ^ (c.fraction_bits + c.step_exponent)))
         (sym (total_scale c.rows (pos (d.cost_denominator * d.row_denominator ^ 2 * d.plant_denominator ^ d.stages)) (row_size d)
         ∙ ap (λ (n : ℕ). pos (d.cost_denominator * d.row_denominator ^ 2 * d.plant_denominator ^ d.stages) *ℤ total n (row_size d)) sizes.rows)))
         (weighed c.rows (λ i. pos (d.cost_denominator * d.row_denominator ^ 2 * d.plant_denominator ^ d.stages) *ℤ row_size d i) (λ i. pulls c x l (c.states + 1 + i))
         (pos (2 * r * 2 ^ (c.fraction_bits + c.step_exponent)))
-        (λ i h. scaled_nonneg (d.cost_denominator * d.row_denominator ^ 2 * d.plant_denominator ^ d.stages) (row_size d i) (sizes_nonneg (entries d) ((numbers_of d).by_plan i)))
+        (λ i h. scaled_nonneg (d.cost_denominator * d.row_denominator ^ 2 * d.plant_denominator ^ d.stages) (row_size d i) (sizes_nonneg (entries d) ((condensed_of d).by_plan i)))
         (λ i h. rw (row_pull c x l i) (let k = reached.multipliers i h in omega (arith, ints, k))))
 
 -- ---- the sums of the design, against those that are rounded up
@@ -117,24 +117,24 @@ rounded_up : (a b : ℕ) → 0 < b → pos a ≤ℤ (pos b *ℤ pos (ceil_div a 
 rounded_up a b h = let k = le-mul-ceil_div a b h in omega (arith, ints, k)
 
 linear_le : (d : Design) → 0 < hessian_scale d → total d.states (linear_size d) ≤ℤ (pos (hessian_scale d) *ℤ pos (linear_sum d))
-linear_le d p = rw (let e : total d.states (linear_size d) ≡ pos (amount (entries d) (λ j. size d.states ((numbers_of d).linear j))) =
-    total_swap d.states (entries d) (λ i j. absolute ((numbers_of d).linear j i))
-    ∙ total_same (entries d) _ _ (λ j l. total_absolute d.states ((numbers_of d).linear j)) ∙ amount_total (entries d) (λ j. size d.states ((numbers_of d).linear j)) in e)
-    (rounded_up (amount (entries d) (λ j. size d.states ((numbers_of d).linear j))) (hessian_scale d) p)
+linear_le d p = rw (let e : total d.states (linear_size d) ≡ pos (amount (entries d) (λ j. size d.states ((condensed_of d).linear j))) =
+    total_swap d.states (entries d) (λ i j. absolute ((condensed_of d).linear j i))
+    ∙ total_same (entries d) _ _ (λ j l. total_absolute d.states ((condensed_of d).linear j)) ∙ amount_total (entries d) (λ j. size d.states ((condensed_of d).linear j)) in e)
+    (rounded_up (amount (entries d) (λ j. size d.states ((condensed_of d).linear j))) (hessian_scale d) p)
 
 constant_le : (d : Design) → 0 < hessian_scale d → constant_size d ≤ℤ (pos (hessian_scale d) *ℤ pos (constant_sum d))
-constant_le d p = rw (total_absolute (entries d) (numbers_of d).constant) (rounded_up (size (entries d) (numbers_of d).constant) (hessian_scale d) p)
+constant_le d p = rw (total_absolute (entries d) (condensed_of d).constant) (rounded_up (size (entries d) (condensed_of d).constant) (hessian_scale d) p)
 
 rows_le : (d : Design) → 0 < rows_scale d → total (rows d) (row_size d) ≤ℤ (pos (rows_scale d) *ℤ pos (plan_row_sum d))
-rows_le d p = rw (let e : total (rows d) (row_size d) ≡ pos (amount (rows d) (λ i. size (entries d) ((numbers_of d).by_plan i))) =
-    total_same (rows d) _ _ (λ i l. total_absolute (entries d) ((numbers_of d).by_plan i)) ∙ amount_total (rows d) (λ i. size (entries d) ((numbers_of d).by_plan i)) in e)
-    (rounded_up (amount (rows d) (λ i. size (entries d) ((numbers_of d).by_plan i))) (rows_scale d) p)
+rows_le d p = rw (let e : total (rows d) (row_size d) ≡ pos (amount (rows d) (λ i. size (entries d) ((condensed_of d).by_plan i))) =
+    total_same (rows d) _ _ (λ i l. total_absolute (entries d) ((condensed_of d).by_plan i)) ∙ amount_total (rows d) (λ i. size (entries d) ((condensed_of d).by_plan i)) in e)
+    (rounded_up (amount (rows d) (λ i. size (entries d) ((condensed_of d).by_plan i))) (rows_scale d) p)
 
 trace_le : (d : Design) → 0 < hessian_scale d → total (entries d) (λ j. solve_matrix d j j) ≤ℤ (pos d.limit_denominator *ℤ (pos (hessian_scale d) *ℤ pos (trace_sum d)))
-trace_le d p = le_same (total_scale (entries d) (pos d.limit_denominator) (λ j. (numbers_of d).hessian j j)) refl
+trace_le d p = le_same (total_scale (entries d) (pos d.limit_denominator) (λ j. (condensed_of d).hessian j j)) refl
     (mul-le-mul_left_z (pos d.limit_denominator) (omega (arith, ints))
-    (le_trans_z {b = total (entries d) (λ j. pos (unsigned_abs ((numbers_of d).hessian j j)))} (total_mono (entries d) _ _ (λ j l. own ((numbers_of d).hessian j j)))
-    (le_same (amount_total (entries d) (λ j. unsigned_abs ((numbers_of d).hessian j j))) refl (rounded_up (amount (entries d) (λ j. unsigned_abs ((numbers_of d).hessian j j))) (hessian_scale d) p))))
+    (le_trans_z {b = total (entries d) (λ j. pos (unsigned_abs ((condensed_of d).hessian j j)))} (total_mono (entries d) _ _ (λ j l. own ((condensed_of d).hessian j j)))
+    (le_same (amount_total (entries d) (λ j. unsigned_abs ((condensed_of d).hessian j j))) refl (rounded_up (amount (entries d) (λ j. unsigned_abs ((condensed_of d).hessian j j))) (hessian_scale d) p))))
   where
     own : (z : ℤ) → z ≤ℤ pos (unsigned_abs z)
     own z = omega (arith, ints)
@@ -207,12 +207,12 @@ weight_le d r c x l sizes reached ph pr =
             let turn : k *ℤ (y *ℤ (g *ℤ row)) ≡ (k *ℤ g) *ℤ (y *ℤ row) = by_ring (k ∷ y ∷ g ∷ row ∷ []) (search quotes depth 60 fits 20000) refl in
             rw (turn, is) (by_ring (limit ∷ h ∷ n ∷ lin ∷ con ∷ y ∷ row ∷ []) (search quotes depth 60 fits 20000) refl)
 
-pub plan_small : (d : Design) (r : ℕ) (c : Numbers) (x l : List ℤ) → IsMadeFor d r c → IsShaped c → AreReached d r c x l → IsSound d (input_floor d) →
-    IsCondensed d (numbers_of d) → (j : ℕ) → j < entries d → unsigned_abs (plan_entry c x l j) ≤ plan_bound (error_sums_of d r) c.fraction_bits * 2 ^ c.fraction_bits
+pub plan_small : (d : Design) (r : ℕ) (c : Numbers) (x l : List ℤ) → IsDerivedFrom d r c → IsShaped c → AreReached d r c x l → IsSound d (input_floor d) →
+    IsCondensed d (condensed_of d) → (j : ℕ) → j < entries d → unsigned_abs (plan_entry c x l j) ≤ plan_bound (error_sums_of d r) c.fraction_bits * 2 ^ c.fraction_bits
 plan_small d r c x l made shaped reached sound condensed j inside =
     last (unsigned_abs (plan_entry c x l j)) (plan_bound (error_sums_of d r) c.fraction_bits) (2 ^ c.fraction_bits)
     (plan_closed (pos d.limit_denominator) (pos d.cost_denominator) (pos ((d.row_denominator * d.plant_denominator ^ d.stages) ^ 2)) (pos (input_floor d)) (pos (2 ^ (c.fraction_bits + c.step_exponent)))
-    (pos (2 ^ c.fraction_bits)) (pos (state_bound d)) (pos (linear_sum d)) (pos (constant_sum d)) (pos (2 * r)) (pos (plan_row_sum d)) (pos (trace_sum d)) (pos (reach_bound d r))
+    (pos (2 ^ c.fraction_bits)) (pos (state_bound d)) (pos (linear_sum d)) (pos (constant_sum d)) (pos (2 * r)) (pos (plan_row_sum d)) (pos (trace_sum d)) (pos (combined_bound d r))
     (absolute sum) (absolute (plan_entry c x l j)) weight (total (entries d) (λ j. solve_matrix d j j)) reach (pos (error_sums_of d r).lead) (pos extra)
     (let o = sound.limit_denominator in omega (arith, ints, o)) (let o = square_positive in omega (arith, ints, o)) (let o = sound.rho_positive in omega (arith, ints, o))
     (let o = pow_positive 2 (c.fraction_bits + c.step_exponent) (omega arith) in omega (arith, ints, o)) (let o = pow_positive 2 c.fraction_bits (omega arith) in omega (arith, ints, o))
@@ -244,9 +244,9 @@ plan_small d r c x l made shaped reached sound condensed j inside =
     main = solutions_sum (entries d) (c.states + 1 + c.rows) (solve_matrix d) c.fraction_bits (solve_column d) (gain_column c) (pulls c x l) (true_floor d (input_floor d)) (omega (arith, ints))
         (solve_matrix_convex d (input_floor d) sound condensed) (λ i h. made.gains i (column_in i h)) j inside
 
-    reach_le : total (c.states + 1 + c.rows) (λ i. absolute (pulls c x l i)) ≤ℤ (pos (2 ^ (c.fraction_bits + c.step_exponent)) *ℤ pos (reach_bound d r))
+    reach_le : total (c.states + 1 + c.rows) (λ i. absolute (pulls c x l i)) ≤ℤ (pos (2 ^ (c.fraction_bits + c.step_exponent)) *ℤ pos (combined_bound d r))
     reach_le = let e = made.sizes.states in let f = made.sizes.rows in
-        le_same refl (ap (λ (n : ℕ). pos (2 ^ (c.fraction_bits + c.step_exponent)) *ℤ pos n) (let z : reach_bound d r ≡ c.states * state_bound d + 1 + c.rows * (2 * r) = rw (e, f) refl in z))
+        le_same refl (ap (λ (n : ℕ). pos (2 ^ (c.fraction_bits + c.step_exponent)) *ℤ pos n) (let z : combined_bound d r ≡ c.states * state_bound d + 1 + c.rows * (2 * r) = rw (e, f) refl in z))
         (pulls_reach c x l (state_bound d) (2 * r) reached.state reached.multipliers)
 
     rounding_le : (pos (2 ^ (c.fraction_bits + c.step_exponent)) *ℤ absolute (plan_entry c x l j)) ≤ℤ
@@ -259,7 +259,7 @@ plan_small d r c x l made shaped reached sound condensed j inside =
         near : (t s : ℤ) (q : ℕ) → pos 0 ≤ℤ (t +ℤ s) → (t +ℤ s) ≤ℤ pos q → absolute t ≤ℤ (absolute s +ℤ pos q)
         near t s q h k = omega (arith, ints, h, k)
 
-    extra_le : (pos d.cost_denominator *ℤ pos (reach_bound d r) *ℤ pos (trace_sum d)) ≤ℤ
+    extra_le : (pos d.cost_denominator *ℤ pos (combined_bound d r) *ℤ pos (trace_sum d)) ≤ℤ
         (pos 4 *ℤ pos (2 ^ c.fraction_bits) *ℤ pos (input_floor d) *ℤ pos (ceil_div (error_sums_of d r).tail (2 ^ (c.fraction_bits + 2) * input_floor d)))
     extra_le = le_same refl (ap (λ (n : ℕ). pos (n * input_floor d) *ℤ pos (ceil_div (error_sums_of d r).tail (2 ^ (c.fraction_bits + 2) * input_floor d))) four_times)
         (rounded_up (error_sums_of d r).tail (2 ^ (c.fraction_bits + 2) * input_floor d) (positive_product (2 ^ (c.fraction_bits + 2)) (input_floor d) (pow_positive 2 (c.fraction_bits + 2) (omega arith)) sound.rho_positive))

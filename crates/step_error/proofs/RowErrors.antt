@@ -18,12 +18,12 @@ use Rattle.mat_int.proofs.Indices.{dot_is}
 use Rattle.qp_model.specs.Design.{Design, entries, rows}
 use Rattle.qp_model.specs.Residual.{residual, residual_scale}
 use Rattle.qp_model.specs.Condensed.{IsCondensed}
-use Rattle.qp_model.specs.Condensing.{numbers_of}
+use Rattle.qp_model.specs.Condensing.{condensed_of}
 use Rattle.qp_model.specs.Controller.{Numbers, IsShaped, plan_length}
 use Rattle.qp_model.specs.Machine.{plan_entry, plan_of, row_sum}
 use Rattle.qp_model.specs.Columns.{rows_scale}
 use Rattle.qp_model.specs.Errors.{state_bound}
-use Rattle.qp_model.specs.Built.{IsMadeFor}
+use Rattle.qp_model.specs.Built.{IsDerivedFrom}
 use Rattle.step_error.proofs.Gains.{row_length}
 use Rattle.step_error.proofs.Slopes.{within_cancel, within_factor, within_same}
 use Rattle.step_error.proofs.Residuals.{rounded_dot, rounded_within, floor_within}
@@ -82,8 +82,8 @@ reach_total n b f u h = rw (← same) (rw (← (total_const n (pos (b * f)))) (t
     same : pos n *ℤ pos (b * f) ≡ pos f *ℤ pos (n * b)
     same = let e : n * (b * f) ≡ f * (n * b) = omega arith in ap pos e
 
-pub row_within : (d : Design) (r : ℕ) (c : Numbers) (x l : List ℤ) (xi : ℕ → ℤ) (u : ℕ) → IsMadeFor d r c → IsShaped c → length x ≡ c.states →
-    IsCondensed d (numbers_of d) → 0 < rows_scale d → c.grid_bits ≤ c.fraction_bits →
+pub row_within : (d : Design) (r : ℕ) (c : Numbers) (x l : List ℤ) (xi : ℕ → ℤ) (u : ℕ) → IsDerivedFrom d r c → IsShaped c → length x ≡ c.states →
+    IsCondensed d (condensed_of d) → 0 < rows_scale d → c.grid_bits ≤ c.fraction_bits →
     ((i : ℕ) → i < c.states → at x i ≡ xi i *ℤ pos (2 ^ (c.fraction_bits - c.grid_bits))) →
     ((i : ℕ) → i < c.states → unsigned_abs (at x i) ≤ state_bound d * 2 ^ c.fraction_bits) →
     ((j : ℕ) → j < entries d → unsigned_abs (plan_entry c x l j) ≤ u * 2 ^ c.fraction_bits) → (i : ℕ) → i < rows d →
@@ -100,9 +100,9 @@ row_within d r c x l xi u made shaped hx condensed p le scaled reach small i ins
         factors : (w s m a k : ℕ) → w * s * (m * a * k) ≡ m * w * a * (s * k)
         factors w s m a k = omega arith
 
-    state_is : dot d.states ((numbers_of d).by_state i) (at x) ≡ pos (2 ^ (c.fraction_bits - c.grid_bits)) *ℤ image d.states (numbers_of d).by_state xi i
-    state_is = total_same d.states _ _ (λ j h. rw (scaled j (rw made.sizes.states h)) (turn ((numbers_of d).by_state i j) (xi j) (pos (2 ^ (c.fraction_bits - c.grid_bits)))))
-        ∙ total_scale d.states (pos (2 ^ (c.fraction_bits - c.grid_bits))) (λ j. (numbers_of d).by_state i j *ℤ xi j)
+    state_is : dot d.states ((condensed_of d).by_state i) (at x) ≡ pos (2 ^ (c.fraction_bits - c.grid_bits)) *ℤ image d.states (condensed_of d).by_state xi i
+    state_is = total_same d.states _ _ (λ j h. rw (scaled j (rw made.sizes.states h)) (turn ((condensed_of d).by_state i j) (xi j) (pos (2 ^ (c.fraction_bits - c.grid_bits)))))
+        ∙ total_scale d.states (pos (2 ^ (c.fraction_bits - c.grid_bits))) (λ j. (condensed_of d).by_state i j *ℤ xi j)
       where
         turn : (a b e : ℤ) → a *ℤ (b *ℤ e) ≡ e *ℤ (a *ℤ b)
         turn a b e = by_ring (a ∷ b ∷ e ∷ []) (search quotes depth 60 fits 20000) refl
@@ -112,19 +112,19 @@ row_within d r c x l xi u made shaped hx condensed p le scaled reach small i ins
         ap (λ (n : ℕ). 2 ^ n) e ∙ pow-add 2 d.grid (c.fraction_bits - c.grid_bits)
 
     residual_is : residual d (pos (2 ^ (c.fraction_bits + c.step_exponent))) xi (λ j. pos (2 ^ c.step_exponent) *ℤ plan_entry c x l j) i ≡
-        pos (2 ^ d.grid) *ℤ (pos (2 ^ c.step_exponent) *ℤ dot (entries d) ((numbers_of d).by_plan i) (plan_entry c x l)) +ℤ
-        pos (2 ^ (c.fraction_bits + c.step_exponent)) *ℤ (image d.states (numbers_of d).by_state xi i -ℤ pos (2 ^ d.grid) *ℤ (numbers_of d).bound i)
+        pos (2 ^ d.grid) *ℤ (pos (2 ^ c.step_exponent) *ℤ dot (entries d) ((condensed_of d).by_plan i) (plan_entry c x l)) +ℤ
+        pos (2 ^ (c.fraction_bits + c.step_exponent)) *ℤ (image d.states (condensed_of d).by_state xi i -ℤ pos (2 ^ d.grid) *ℤ (condensed_of d).bound i)
     residual_is = condensed.rows (pos (2 ^ (c.fraction_bits + c.step_exponent))) xi (λ j. pos (2 ^ c.step_exponent) *ℤ plan_entry c x l j) i inside
-        ∙ ap (λ (z : ℤ). pos (2 ^ d.grid) *ℤ z +ℤ pos (2 ^ (c.fraction_bits + c.step_exponent)) *ℤ (image d.states (numbers_of d).by_state xi i -ℤ pos (2 ^ d.grid) *ℤ (numbers_of d).bound i))
-        (image_scale (entries d) (numbers_of d).by_plan (pos (2 ^ c.step_exponent)) (plan_entry c x l) i)
+        ∙ ap (λ (z : ℤ). pos (2 ^ d.grid) *ℤ z +ℤ pos (2 ^ (c.fraction_bits + c.step_exponent)) *ℤ (image d.states (condensed_of d).by_state xi i -ℤ pos (2 ^ d.grid) *ℤ (condensed_of d).bound i))
+        (image_scale (entries d) (condensed_of d).by_plan (pos (2 ^ c.step_exponent)) (plan_entry c x l) i)
 
     value_is : pos (2 ^ d.grid) *ℤ pos (2 ^ c.step_exponent) *ℤ (pos 2 *ℤ (pos (rows_scale d) *ℤ floor_of (row_sum c x (plan_of c x l) i) (2 ^ c.fraction_bits) -ℤ
-        (dot (entries d) ((numbers_of d).by_plan i) (plan_entry c x l) +ℤ dot d.states ((numbers_of d).by_state i) (at x) -ℤ pos (2 ^ c.fraction_bits) *ℤ (numbers_of d).bound i))) ≡
+        (dot (entries d) ((condensed_of d).by_plan i) (plan_entry c x l) +ℤ dot d.states ((condensed_of d).by_state i) (at x) -ℤ pos (2 ^ c.fraction_bits) *ℤ (condensed_of d).bound i))) ≡
         pos 2 *ℤ (pos (residual_scale d) *ℤ (pos (2 ^ c.step_exponent) *ℤ floor_of (row_sum c x (plan_of c x l) i) (2 ^ c.fraction_bits)) -ℤ
         residual d (pos (2 ^ (c.fraction_bits + c.step_exponent))) xi (λ j. pos (2 ^ c.step_exponent) *ℤ plan_entry c x l j) i)
     value_is = rw (residual_is, state_is)
         (ring (pos (2 ^ d.grid)) (pos (2 ^ c.step_exponent)) (pos d.limit_denominator) (pos (d.plant_denominator ^ d.stages)) (pos (2 ^ (c.fraction_bits - c.grid_bits)))
-        (floor_of (row_sum c x (plan_of c x l) i) (2 ^ c.fraction_bits)) (dot (entries d) ((numbers_of d).by_plan i) (plan_entry c x l)) (image d.states (numbers_of d).by_state xi i) ((numbers_of d).bound i)
+        (floor_of (row_sum c x (plan_of c x l) i) (2 ^ c.fraction_bits)) (dot (entries d) ((condensed_of d).by_plan i) (plan_entry c x l)) (image d.states (condensed_of d).by_state xi i) ((condensed_of d).bound i)
         (ap pos split) (ap pos (pow-add 2 c.fraction_bits c.step_exponent ∙ ap (λ (n : ℕ). n * 2 ^ c.step_exponent) split)))
       where
         ring : (w s m a p v gu ex b : ℤ) {f q : ℤ} → f ≡ w *ℤ p → q ≡ w *ℤ p *ℤ s →
@@ -153,13 +153,13 @@ row_within d r c x l xi u made shaped hx condensed p le scaled reach small i ins
 
     closed : IsWithin (pos (rows_scale d) *ℤ (pos (entries d * u + d.states * state_bound d) +ℤ pos 3))
         (pos 2 *ℤ (pos (rows_scale d) *ℤ floor_of (row_sum c x (plan_of c x l) i) (2 ^ c.fraction_bits) -ℤ
-        (dot (entries d) ((numbers_of d).by_plan i) (plan_entry c x l) +ℤ dot d.states ((numbers_of d).by_state i) (at x) -ℤ pos (2 ^ c.fraction_bits) *ℤ (numbers_of d).bound i)))
-    closed = row_closed (pos (rows_scale d)) (pos (2 ^ c.fraction_bits)) (dot (entries d) ((numbers_of d).by_plan i) (plan_entry c x l)) (dot d.states ((numbers_of d).by_state i) (at x)) ((numbers_of d).bound i)
+        (dot (entries d) ((condensed_of d).by_plan i) (plan_entry c x l) +ℤ dot d.states ((condensed_of d).by_state i) (at x) -ℤ pos (2 ^ c.fraction_bits) *ℤ (condensed_of d).bound i)))
+    closed = row_closed (pos (rows_scale d)) (pos (2 ^ c.fraction_bits)) (dot (entries d) ((condensed_of d).by_plan i) (plan_entry c x l)) (dot d.states ((condensed_of d).by_state i) (at x)) ((condensed_of d).bound i)
         (dot (entries d) (entry_of c.plan_rows i) (plan_entry c x l)) (dot d.states (entry_of c.state_rows i) (at x)) (at c.bounds i) (floor_of (row_sum c x (plan_of c x l) i) (2 ^ c.fraction_bits))
         (total (entries d) (λ j. absolute (plan_entry c x l j))) (total d.states (λ j. absolute (at x j))) (pos (entries d * u + d.states * state_bound d))
         (omega (arith, ints, positive)) (omega (arith, ints))
-        (rounded_dot (entries d) ((numbers_of d).by_plan i) (entry_of c.plan_rows i) (plan_entry c x l) (rows_scale d) (pos (2 ^ c.fraction_bits)) p (λ j h. made.rows.plan_rows i j inside h))
-        (rounded_dot d.states ((numbers_of d).by_state i) (entry_of c.state_rows i) (at x) (rows_scale d) (pos (2 ^ c.fraction_bits)) p (λ j h. made.rows.state_rows i j inside h))
-        (rw (made.rows.bounds i inside) (rounded_within (pos (2 ^ c.fraction_bits) *ℤ (numbers_of d).bound i) (rows_scale d) p))
+        (rounded_dot (entries d) ((condensed_of d).by_plan i) (entry_of c.plan_rows i) (plan_entry c x l) (rows_scale d) (pos (2 ^ c.fraction_bits)) p (λ j h. made.rows.plan_rows i j inside h))
+        (rounded_dot d.states ((condensed_of d).by_state i) (entry_of c.state_rows i) (at x) (rows_scale d) (pos (2 ^ c.fraction_bits)) p (λ j h. made.rows.state_rows i j inside h))
+        (rw (made.rows.bounds i inside) (rounded_within (pos (2 ^ c.fraction_bits) *ℤ (condensed_of d).bound i) (rows_scale d) p))
         (rw (← sum_is) (floor_within (row_sum c x (plan_of c x l) i) (2 ^ c.fraction_bits) positive))
         total_is

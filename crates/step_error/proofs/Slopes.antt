@@ -15,12 +15,12 @@ use Rattle.integer_algebra.proofs.Quoting.{by_ring, quotes}
 use Rattle.qp_model.specs.Design.{Design, entries}
 use Rattle.qp_model.specs.Cost.{cost_scale}
 use Rattle.qp_model.specs.Residual.{residual_scale}
-use Rattle.qp_model.specs.Condensing.{numbers_of}
+use Rattle.qp_model.specs.Condensing.{condensed_of}
 use Rattle.qp_model.specs.Controller.{Numbers, IsShaped}
 use Rattle.qp_model.specs.Machine.{plan_entry}
 use Rattle.qp_model.specs.Columns.{solve_matrix, solve_column, hessian_scale}
-use Rattle.qp_model.specs.Errors.{state_bound, reach_bound, gradient_error}
-use Rattle.qp_model.specs.Built.{IsMadeFor}
+use Rattle.qp_model.specs.Errors.{state_bound, combined_bound, gradient_error}
+use Rattle.qp_model.specs.Built.{IsDerivedFrom}
 use Rattle.step_error.specs.Laws.{slant}
 use Rattle.step_error.specs.Machine.{pulls}
 use Rattle.step_error.proofs.Gradients.{AreReached, gradient_within}
@@ -64,12 +64,12 @@ scale_of c = pos (2 ^ (c.fraction_bits + c.step_exponent))
 
 -- the bound of the solved systems, in the hessian's words
 system_bound : (d : Design) (r : ℕ) (j : ℕ) → 0 < hessian_scale d →
-    (pos 2 *ℤ total (entries d) (λ i. absolute (solve_matrix d j i)) +ℤ solve_matrix d j j *ℤ pos (reach_bound d r)) ≤ℤ
+    (pos 2 *ℤ total (entries d) (λ i. absolute (solve_matrix d j i)) +ℤ solve_matrix d j j *ℤ pos (combined_bound d r)) ≤ℤ
     pos (2 * (d.limit_denominator * hessian_scale d * gradient_error d r j))
 system_bound d r j p =
-    let t = total_absolute (entries d) (solve_matrix d j) ∙ ap pos (size_factor (entries d) d.limit_denominator ((numbers_of d).hessian j)) in
-    let b = entry_bound d.limit_denominator (hessian_scale d) (size (entries d) ((numbers_of d).hessian j)) (unsigned_abs ((numbers_of d).hessian j j)) (reach_bound d r) p in
-    rw t (small _ _ _ (solve_matrix d j j) (reach_bound d r) _ (unsigned_abs-mul (pos d.limit_denominator) ((numbers_of d).hessian j j)) b)
+    let t = total_absolute (entries d) (solve_matrix d j) ∙ ap pos (size_factor (entries d) d.limit_denominator ((condensed_of d).hessian j)) in
+    let b = entry_bound d.limit_denominator (hessian_scale d) (size (entries d) ((condensed_of d).hessian j)) (unsigned_abs ((condensed_of d).hessian j j)) (combined_bound d r) p in
+    rw t (small _ _ _ (solve_matrix d j j) (combined_bound d r) _ (unsigned_abs-mul (pos d.limit_denominator) ((condensed_of d).hessian j j)) b)
   where
     small : (s m a : ℕ) (h : ℤ) (z top : ℕ) → unsigned_abs h ≡ m * a → 2 * s + m * a * z ≤ top → (pos 2 *ℤ pos s +ℤ h *ℤ pos z) ≤ℤ pos top
     small s m a h z top e k =
@@ -89,27 +89,27 @@ scales d = rw (pow-two (d.row_denominator * 2 ^ d.grid * d.plant_denominator ^ d
         (w *ℤ w *ℤ w *ℤ plant) *ℤ (limit *ℤ (cost *ℤ (row *ℤ plant *ℤ (row *ℤ plant))))
     closed cost row w plant limit = by_ring (cost ∷ row ∷ w ∷ plant ∷ limit ∷ []) (search quotes depth 60 fits 20000) refl
 
-pub slant_within : (d : Design) (r : ℕ) (c : Numbers) (x l : List ℤ) (xi : ℕ → ℤ) → IsMadeFor d r c → IsShaped c → AreReached d r c x l →
+pub slant_within : (d : Design) (r : ℕ) (c : Numbers) (x l : List ℤ) (xi : ℕ → ℤ) → IsDerivedFrom d r c → IsShaped c → AreReached d r c x l →
     0 < hessian_scale d → c.grid_bits ≤ c.fraction_bits →
     ((i : ℕ) → i < c.states → at x i ≡ xi i *ℤ pos (2 ^ (c.fraction_bits - c.grid_bits))) → (j : ℕ) → j < entries d →
     IsWithin (pos (cost_scale d) *ℤ pos (residual_scale d) *ℤ (pos (2 ^ c.step_exponent) *ℤ pos (gradient_error d r j)))
-    (slant d (numbers_of d) (pos (2 ^ (c.fraction_bits + c.step_exponent))) xi (λ j. pos (2 ^ c.step_exponent) *ℤ plan_entry c x l j) (at l) j)
+    (slant d (condensed_of d) (pos (2 ^ (c.fraction_bits + c.step_exponent))) xi (λ j. pos (2 ^ c.step_exponent) *ℤ plan_entry c x l j) (at l) j)
 slant_within d r c x l xi made shaped reached p le scaled j inside =
     within_same (sym (ap (λ (z : ℤ). z *ℤ (pos (2 ^ c.step_exponent) *ℤ pos (gradient_error d r j))) (scales d)))
     (sym (slant_is d c x l xi (plan_entry c x l) j made.sizes le scaled))
     (finish (pos (2 ^ d.grid) *ℤ pos (2 ^ d.grid) *ℤ pos (2 ^ d.grid) *ℤ pos (d.plant_denominator ^ d.stages)) (pos (2 ^ c.fraction_bits)) (pos (2 ^ c.step_exponent))
     (pos d.limit_denominator *ℤ pos (hessian_scale d)) (pos (gradient_error d r j))
-    (pos 2 *ℤ total (entries d) (λ i. absolute (solve_matrix d j i)) +ℤ solve_matrix d j j *ℤ pos (reach_bound d r))
+    (pos 2 *ℤ total (entries d) (λ i. absolute (solve_matrix d j i)) +ℤ solve_matrix d j j *ℤ pos (combined_bound d r))
     (image (entries d) (solve_matrix d) (plan_entry c x l) j) (image (c.states + 1 + c.rows) (λ j i. solve_column d i j) (pulls c x l) j)
     (omega (arith, ints)) (let o = pow_positive 2 c.fraction_bits (omega arith) in omega (arith, ints, o)) (omega (arith, ints))
     (ap pos (pow-add 2 c.fraction_bits c.step_exponent)) bounded (system_bound d r j p))
   where
-    bounded : IsWithin (pos (2 ^ (c.fraction_bits + c.step_exponent)) *ℤ (pos 2 *ℤ total (entries d) (λ i. absolute (solve_matrix d j i)) +ℤ solve_matrix d j j *ℤ pos (reach_bound d r)))
+    bounded : IsWithin (pos (2 ^ (c.fraction_bits + c.step_exponent)) *ℤ (pos 2 *ℤ total (entries d) (λ i. absolute (solve_matrix d j i)) +ℤ solve_matrix d j j *ℤ pos (combined_bound d r)))
         (pos 2 *ℤ (pos (2 ^ (c.fraction_bits + c.step_exponent)) *ℤ image (entries d) (solve_matrix d) (plan_entry c x l) j +ℤ
         pos (2 ^ c.fraction_bits) *ℤ image (c.states + 1 + c.rows) (λ j i. solve_column d i j) (pulls c x l) j))
     bounded = let e = made.sizes.states in let f = made.sizes.rows in
         within_same (ap (λ (n : ℕ). pos (2 ^ (c.fraction_bits + c.step_exponent)) *ℤ (pos 2 *ℤ total (entries d) (λ i. absolute (solve_matrix d j i)) +ℤ solve_matrix d j j *ℤ pos n))
-        (let z : c.states * state_bound d + 1 + c.rows * (2 * r) ≡ reach_bound d r = rw (e, f) refl in z)) refl (gradient_within d r c x l made shaped reached j inside)
+        (let z : c.states * state_bound d + 1 + c.rows * (2 * r) ≡ combined_bound d r = rw (e, f) refl in z)) refl (gradient_within d r c x l made shaped reached j inside)
 
     finish : (w f s m e t hu cv : ℤ) {q : ℤ} → pos 0 ≤ℤ w → pos 0 <ℤ f → pos 0 ≤ℤ s → q ≡ f *ℤ s →
         IsWithin (q *ℤ t) (pos 2 *ℤ (q *ℤ hu +ℤ f *ℤ cv)) → t ≤ℤ (pos 2 *ℤ (m *ℤ e)) → IsWithin (w *ℤ m *ℤ (s *ℤ e)) (w *ℤ (s *ℤ hu +ℤ cv))

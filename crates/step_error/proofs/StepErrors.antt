@@ -14,12 +14,12 @@ use Rattle.qp_model.specs.Box.{IsGridState}
 use Rattle.qp_model.specs.Cost.{cost_scale}
 use Rattle.qp_model.specs.Residual.{residual, residual_scale}
 use Rattle.qp_model.specs.Condensed.{Condensed, IsCondensed, slope_at}
-use Rattle.qp_model.specs.Condensing.{numbers_of}
+use Rattle.qp_model.specs.Condensing.{condensed_of}
 use Rattle.qp_model.specs.Controller.{Numbers, IsSized}
 use Rattle.qp_model.specs.Machine.{loaded, plan_entry}
 use Rattle.qp_model.specs.Columns.{input_floor, hessian_scale, rows_scale}
 use Rattle.qp_model.specs.Errors.{gradient_error, error_sums_of, plan_bound, residual_error}
-use Rattle.qp_model.specs.Built.{IsMadeFor}
+use Rattle.qp_model.specs.Built.{IsDerivedFrom}
 use Rattle.qp_model.proofs.ScalingLaws.{scaling_law}
 use Rattle.step_error.specs.Laws.{slant}
 use Rattle.step_error.specs.MachineLaws.{multipliers_at, plan_at, used_residual, machine_scale, lifted_plan, HasErrors}
@@ -27,7 +27,7 @@ use Rattle.step_error.proofs.Gradients.{AreReached, length_is}
 use Rattle.step_error.proofs.Slopes.{slant_within, within_cancel, within_same}
 use Rattle.step_error.proofs.RowErrors as row_errors
 use Rattle.step_error.proofs.Plans.{plan_small, positive_product}
-use Rattle.step_error.proofs.Reaches.{loaded_is, multipliers_box, reached}
+use Rattle.step_error.proofs.Magnitudes.{loaded_is, multipliers_box, reached}
 
 -- ---- plans with the same entries
 slant_same : (d : Design) (k : Condensed) (q : ℤ) (xi u v y : ℕ → ℤ) (j : ℕ) → ((i : ℕ) → i < entries d → u i ≡ v i) →
@@ -56,8 +56,8 @@ unscaled s f e v t p is h = within_cancel s (f *ℤ e) (pos 2 *ℤ (f *ℤ v -�
     collected s f v t is = rw is (by_ring (s ∷ f ∷ v ∷ t ∷ []) (search quotes depth 60 fits 20000) refl)
 
 -- ---- a step of a run
-module _ (d : Design) (r : ℕ) (c : Numbers) (xi : List ℤ) (sound : IsSound d (input_floor d)) (condensed : IsCondensed d (numbers_of d))
-    (made : IsMadeFor d r c) (sized : IsSized c) (long : length xi ≡ d.states) (inside : IsGridState d (at xi)) (k : ℕ) where
+module _ (d : Design) (r : ℕ) (c : Numbers) (xi : List ℤ) (sound : IsSound d (input_floor d)) (condensed : IsCondensed d (condensed_of d))
+    (made : IsDerivedFrom d r c) (sized : IsSized c) (long : length xi ≡ d.states) (inside : IsGridState d (at xi)) (k : ℕ) where
   abbrev multipliers : List ℤ
   multipliers = multipliers_at c xi k
 
@@ -96,10 +96,10 @@ module _ (d : Design) (r : ℕ) (c : Numbers) (xi : List ℤ) (sound : IsSound d
 
   gradient_within : (j : ℕ) → j < entries d →
       IsWithin (pos (cost_scale d) *ℤ pos (residual_scale d) *ℤ pos (2 ^ c.step_exponent * gradient_error d r j))
-      (slant d (numbers_of d) (machine_scale c) (at xi) (lifted_plan c xi k) (at multipliers) j)
+      (slant d (condensed_of d) (machine_scale c) (at xi) (lifted_plan c xi k) (at multipliers) j)
   gradient_within j h =
       within_same refl
-      (slant_same d (numbers_of d) (machine_scale c) (at xi) (λ i. pos (2 ^ c.step_exponent) *ℤ entry i) (lifted_plan c xi k) (at multipliers) j lifted_is)
+      (slant_same d (condensed_of d) (machine_scale c) (at xi) (λ i. pos (2 ^ c.step_exponent) *ℤ entry i) (lifted_plan c xi k) (at multipliers) j lifted_is)
       (slant_within d r c (loaded c xi) multipliers (at xi) made sized.shaped (reached d r c xi made sized long inside k) hessian_positive grid_le
       (loaded_is d r c xi made sized long inside) j h)
 
@@ -108,7 +108,7 @@ module _ (d : Design) (r : ℕ) (c : Numbers) (xi : List ℤ) (sound : IsSound d
       residual d (machine_scale c) (at xi) (λ j. pos (2 ^ c.step_exponent) *ℤ entry j) i ≡
       pos (2 ^ c.step_exponent) *ℤ residual d (pos (2 ^ c.fraction_bits)) (at xi) (at (plan_at c xi k)) i
   residual_is i h =
-      residual_same d (numbers_of d) condensed (machine_scale c) (at xi) (λ j. pos (2 ^ c.step_exponent) *ℤ entry j) (lifted_plan c xi k) i h lifted_is
+      residual_same d (condensed_of d) condensed (machine_scale c) (at xi) (λ j. pos (2 ^ c.step_exponent) *ℤ entry j) (lifted_plan c xi k) i h lifted_is
       ∙ ap (λ (q : ℤ). residual d q (at xi) (lifted_plan c xi k) i)
       (ap pos (pow-add 2 c.fraction_bits c.step_exponent ∙ mul_comm (2 ^ c.fraction_bits) (2 ^ c.step_exponent)))
       ∙ (scaling_law d (pos (2 ^ c.step_exponent)) (pos (2 ^ c.fraction_bits)) (at xi) (at (plan_at c xi k))).residuals i

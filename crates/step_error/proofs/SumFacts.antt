@@ -16,7 +16,7 @@ use Rattle.qp_model.specs.Parts.{IsDesign, design_of}
 use Rattle.qp_model.specs.Range.{IsPositive}
 use Rattle.qp_model.specs.Columns.{input_floor, least}
 use Rattle.qp_model.specs.Errors as errors
-use Rattle.qp_model.specs.Errors.{plan_bound, residual_error, epsilon, error_sums_of, error_size, pull, reach_bound, trace_sum, gradient_squares}
+use Rattle.qp_model.specs.Errors.{plan_bound, residual_error, epsilon, error_sums_of, error_size, pull, combined_bound, trace_sum, gradient_squares}
 use Rattle.qp_model.proofs.SizeFacts.{some_row}
 use Rattle.step_error.specs.declared.sums.ErrorSums.{ErrorSums}
 use Rattle.step_error.specs.ErrorSums.{AreSums, whole_sums, sums_of, sums_by, size_by}
@@ -66,7 +66,7 @@ design_bounded p r h some room =
     let d = design_of p in
     let s = error_sums_of d r in
     let floor = floor_range p h in
-    let parts = apart (pull d r) (d.cost_denominator * reach_bound d r * trace_sum d) (d.cost_denominator * gradient_squares d r)
+    let parts = apart (pull d r) (d.cost_denominator * combined_bound d r * trace_sum d) (d.cost_denominator * gradient_squares d r)
     (2 ^ 40 * (s.first + s.top_rows * residual_error s 0)) (2 ^ 126) room in
     record {
       some = floor.0;

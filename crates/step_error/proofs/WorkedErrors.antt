@@ -16,9 +16,9 @@ use Rattle.qp_model.specs.Box.{IsGridState}
 use Rattle.qp_model.specs.Curvature.{IsExponent, curvature, row_change}
 use Rattle.qp_model.specs.GoodSolution.{IsGood}
 use Rattle.qp_model.specs.Columns.{columns, solve_matrix, solve_column, input_floor}
-use Rattle.qp_model.specs.Condensing.{numbers_of}
+use Rattle.qp_model.specs.Condensing.{condensed_of}
 use Rattle.qp_model.specs.Controller.{Numbers, IsShaped, IsSized}
-use Rattle.qp_model.specs.Built.{gain_column, HasSizesOf, IsMadeFor}
+use Rattle.qp_model.specs.Built.{gain_column, HasSizesOf, IsDerivedFrom}
 use Rattle.qp_model.proofs.CostLaws.{condensing}
 use Rattle.step_error.specs.MachineLaws.{multipliers_at, plan_at, used_residual, HasErrors}
 use Rattle.step_error.proofs.Slopes.{within_same}
@@ -161,21 +161,21 @@ same_high (suc i) h = absurd (omega arith)
 sizes : HasSizesOf base controller
 sizes = record { states = refl; inputs = refl; stages = refl; rows = refl; grid = refl; low = same_low; high = same_high }
 
-plan_rows_are : (i j : ℕ) → i < 3 → j < 1 → entry_of controller.plan_rows i j ≡ round_of (pos 1024 *ℤ (numbers_of base).by_plan i j) 4
+plan_rows_are : (i j : ℕ) → i < 3 → j < 1 → entry_of controller.plan_rows i j ≡ round_of (pos 1024 *ℤ (condensed_of base).by_plan i j) 4
 plan_rows_are zero zero h l = refl
 plan_rows_are (suc zero) zero h l = refl
 plan_rows_are (suc (suc zero)) zero h l = refl
 plan_rows_are (suc (suc (suc i))) zero h l = absurd (omega arith)
 plan_rows_are i (suc j) h l = absurd (omega arith)
 
-state_rows_are : (i j : ℕ) → i < 3 → j < 1 → entry_of controller.state_rows i j ≡ round_of (pos 1024 *ℤ (numbers_of base).by_state i j) 4
+state_rows_are : (i j : ℕ) → i < 3 → j < 1 → entry_of controller.state_rows i j ≡ round_of (pos 1024 *ℤ (condensed_of base).by_state i j) 4
 state_rows_are zero zero h l = refl
 state_rows_are (suc zero) zero h l = refl
 state_rows_are (suc (suc zero)) zero h l = refl
 state_rows_are (suc (suc (suc i))) zero h l = absurd (omega arith)
 state_rows_are i (suc j) h l = absurd (omega arith)
 
-bounds_are : (i : ℕ) → i < 3 → at controller.bounds i ≡ round_of (pos 1024 *ℤ (numbers_of base).bound i) 4
+bounds_are : (i : ℕ) → i < 3 → at controller.bounds i ≡ round_of (pos 1024 *ℤ (condensed_of base).bound i) 4
 bounds_are zero h = refl
 bounds_are (suc zero) h = refl
 bounds_are (suc (suc zero)) h = refl
@@ -211,7 +211,7 @@ exponent v = le_by (mul-le-mul_left_z (pos 16) (omega (arith, ints)) (square_non
     closed : (x : ℤ) → pos 32 *ℤ curvature base (λ j. x) +ℤ pos 16 *ℤ pos 0 ≡ pos 1 *ℤ total 3 (λ i. square (row_change base (λ j. x) i)) +ℤ pos 16 *ℤ square x
     closed x = by_ring (x ∷ []) (search quotes depth 90 fits 20000) refl
 
-made : IsMadeFor base 8 controller
+made : IsDerivedFrom base 8 controller
 made = record {
   sizes = sizes;
   rows = record { plan_rows = plan_rows_are; state_rows = state_rows_are; bounds = bounds_are };

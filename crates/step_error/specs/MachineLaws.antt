@@ -9,11 +9,11 @@ use Rattle.qp_model.specs.Parts.{IsDesign, design_of}
 use Rattle.qp_model.specs.Box.{IsGridState}
 use Rattle.qp_model.specs.Cost.{cost, cost_scale}
 use Rattle.qp_model.specs.Residual.{residual, residual_scale, IsFeasible}
-use Rattle.qp_model.specs.Condensing.{numbers_of}
+use Rattle.qp_model.specs.Condensing.{condensed_of}
 use Rattle.qp_model.specs.Controller.{Numbers}
 use Rattle.qp_model.specs.AbsoluteSums.{IsController}
 use Rattle.qp_model.specs.Machine.{loaded, plan_of, row_sum, after, average_denominator, averaged_plan}
-use Rattle.qp_model.specs.Built.{IsMadeFor}
+use Rattle.qp_model.specs.Built.{IsDerivedFrom}
 use Rattle.qp_model.specs.Errors.{gradient_error, error_sums_of, plan_bound, residual_error, epsilon}
 use Rattle.qp_model.specs.declared.design_parts.DesignParts.{DesignParts}
 use Rattle.step_error.specs.Laws.{slant}
@@ -46,7 +46,7 @@ pub record HasErrors (d : Design) (r : ℕ) (c : Numbers) (xi : List ℤ) (k : �
   pub plan : (j : ℕ) → j < entries d → unsigned_abs (at (plan_at c xi k) j) ≤ 2 ^ c.fraction_bits * plan_bound (error_sums_of d r) c.fraction_bits
   pub gradient : (j : ℕ) → j < entries d →
       IsWithin (pos (cost_scale d) *ℤ pos (residual_scale d) *ℤ pos (2 ^ c.step_exponent * gradient_error d r j))
-      (slant d (numbers_of d) (machine_scale c) (at xi) (lifted_plan c xi k) (at (multipliers_at c xi k)) j)
+      (slant d (condensed_of d) (machine_scale c) (at xi) (lifted_plan c xi k) (at (multipliers_at c xi k)) j)
   pub residuals : (i : ℕ) → i < rows d →
       IsWithin (pos (residual_scale d * residual_error (error_sums_of d r) c.fraction_bits))
       (pos 2 *ℤ (pos (residual_scale d) *ℤ used_residual c xi k i -ℤ residual d (pos (2 ^ c.fraction_bits)) (at xi) (at (plan_at c xi k)) i))
@@ -56,7 +56,7 @@ pub record IsRunOf (p : DesignParts) (r : ℕ) (c : Numbers) (xi : List ℤ) : T
   pub design : IsDesign p
   pub bound : 1 ≤ r
   pub controller : IsController c
-  pub made : IsMadeFor (design_of p) r c
+  pub made : IsDerivedFrom (design_of p) r c
   pub long : length xi ≡ (design_of p).states
   pub inside : IsGridState (design_of p) (at xi)
 

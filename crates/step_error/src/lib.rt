@@ -2,7 +2,7 @@
 #![tactic(auto)]
 
 ghost use Rattle.step_error.specs.Laws.{DesignStepLaw, DesignRunLaw};
-ghost use Rattle.step_error.specs.Carried.{GradientLaw, EntryLaw, EpsilonLaw};
+ghost use Rattle.step_error.specs.Carried.{GradientLaw, PlanEntryLaw, EpsilonLaw};
 ghost use Rattle.step_error.specs.MachineLaws.{CarriedLaw, MachineStepLaw, MachineRunLaw};
 
 mod errors;
@@ -28,7 +28,7 @@ pub fn gradient_law()
 
 /// Where the curvature is at least a number times the squares, a plan whose gradient is small is small.
 pub fn entry_law()
-    ensures { EntryLaw }
+    ensures { PlanEntryLaw }
 {}
 
 /// The two sums of the errors of a step are together at most epsilon.

@@ -9,7 +9,7 @@ ghost use Rattle.mat_int.specs.Matrix.{entry_of};
 ghost use Rattle.qp_model.specs.Design.{entries, rows};
 ghost use Rattle.qp_model.specs.Parts.{IsDesign, design_of};
 ghost use Rattle.qp_model.specs.Columns.{input_floor, hessian_scale};
-ghost use Rattle.qp_model.specs.Errors.{state_bound, linear_sum, constant_sum, plan_row_sum, trace_sum, reach_bound, gradient_squares, pull, error_sums_of, error_size};
+ghost use Rattle.qp_model.specs.Errors.{state_bound, linear_sum, constant_sum, plan_row_sum, trace_sum, combined_bound, gradient_squares, pull, error_sums_of, error_size};
 ghost use Rattle.qp_model.specs.declared.quantity.Quantity.TheVariants.{Error};
 ghost use Rattle.plant_condense.specs.Form.{IsFormOf};
 ghost use Rattle.step_error.specs.ErrorSums.{AreSums, whole_sums, sums_by, size_by, entry_error, entry_squares};
@@ -63,13 +63,13 @@ fn sums_of(c: &Condensed, parts: &DesignParts, r: u128) -> Option<ErrorSums>
     let sizes = sizes_of(c, parts);
     let n_box = parts.states as u128 * sizes.state;
     let y_rows = 2 * r * c.g.rows() as u128;
-    let reach = n_box + 1 + y_rows;
+    let combined = n_box + 1 + y_rows;
     let weight_den = c.weight_den.unsigned_abs();
-    let squares = gradient_squares(&c.hess, c.hess_den.unsigned_abs(), reach)?;
+    let squares = gradient_squares(&c.hess, c.hess_den.unsigned_abs(), combined)?;
     let whole = Whole {
         squares: limited_product(weight_den, squares)?,
         pull: limited_product(weight_den, pull_of(&sizes, r)?)?,
-        tail: limited_product(weight_den * reach, sizes.trace)?,
+        tail: limited_product(weight_den * combined, sizes.trace)?,
         y_rows,
         nu: c.hess.rows() as u128,
         n_box,
@@ -180,30 +180,30 @@ fn pull_of(sizes: &Sizes, r: u128) -> Option<u128>
 
 // The error of entry `j` of the gradient, by the hessian over `scale` and what all states and multipliers come to. None where it is above
 // `2^126`.
-fn gradient_error(hess: &Mat, scale: u128, reach: u128, j: usize) -> Option<u128>
+fn gradient_error(hess: &Mat, scale: u128, combined: u128, j: usize) -> Option<u128>
     requires square { hess.now.cols ≡ length hess.now.rows }
     requires inside { j < length hess.now.rows }
     requires small { size hess.now.cols (entry_of hess.now j) ≤ 2 ^ 126 }
     requires some { 1 ≤ scale }
     requires scale { scale < 2 ^ 127 }
-    ensures { let error = entry_error (length hess.now.rows) (entry_of hess.now) scale reach j in SomeIff result (error ≤ 2 ^ 126) error }
+    ensures { let error = entry_error (length hess.now.rows) (entry_of hess.now) scale combined j in SomeIff result (error ≤ 2 ^ 126) error }
 {
     let own = hess.at(j, j).unsigned_abs().div_ceil(2 * scale);
     let row = absolute_sum(hess.row(j)).div_ceil(scale);
-    limited_sum(limited_product(own, reach)?, row)
+    limited_sum(limited_product(own, combined)?, row)
 }
 
 // The squares of the errors, added up. None where that is above `2^126`.
-fn gradient_squares(hess: &Mat, scale: u128, reach: u128) -> Option<u128>
+fn gradient_squares(hess: &Mat, scale: u128, combined: u128) -> Option<u128>
     requires square { hess.now.cols ≡ length hess.now.rows }
     requires small { (j : ℕ) → j < length hess.now.rows → size hess.now.cols (entry_of hess.now j) ≤ 2 ^ 126 }
     requires some { 1 ≤ scale }
     requires scale { scale < 2 ^ 127 }
-    ensures { let squares = entry_squares (length hess.now.rows) (entry_of hess.now) scale reach in SomeIff result (squares ≤ 2 ^ 126) squares }
+    ensures { let squares = entry_squares (length hess.now.rows) (entry_of hess.now) scale combined in SomeIff result (squares ≤ 2 ^ 126) squares }
 {
     let mut squares = 0;
     for j in 0..hess.rows() {
-        let error = gradient_error(hess, scale, reach, j)?;
+        let error = gradient_error(hess, scale, combined, j)?;
         squares = limited_sum(squares, limited_product(error, error)?)?;
     }
     Some(squares)

@@ -12,7 +12,7 @@ use std::test::Fail;
 
 // A design of weights 1, with the plant `(a x + b u) / plant_den` and the box `-reach .. reach`, or `0 .. 1` where there is none.
 #[derive(Clone, Copy)]
-struct Made<'a> {
+struct TestDesign<'a> {
     stages: usize,
     plant_den: i128,
     a: &'a [&'a [i128]],
@@ -35,7 +35,7 @@ fn rows(rt: &impl Abort, alloc: Global, cols: usize, rows: &[&[i128]]) -> Result
     Ok(made)
 }
 
-fn parts(rt: &impl Abort, alloc: Global, made: &Made) -> Result<DesignParts, AllocError> {
+fn parts(rt: &impl Abort, alloc: Global, made: &TestDesign) -> Result<DesignParts, AllocError> {
     let states = made.a.len();
     Ok(DesignParts {
         states,
@@ -65,7 +65,7 @@ fn parts(rt: &impl Abort, alloc: Global, made: &Made) -> Result<DesignParts, All
 fn sums(
     rt: &impl Abort,
     alloc: Global,
-    made: &Made,
+    made: &TestDesign,
     r: i128,
 ) -> Result<Result<ErrorSums, Wide>, AllocError>
     ensures { IfOk result (λ answer. IfOk answer (λ e. AreSums e)) }
@@ -80,7 +80,7 @@ fn sums(
     }
 }
 
-const BASE: Made<'static> = Made {
+const BASE: TestDesign<'static> = TestDesign {
     stages: 1,
     plant_den: 1,
     a: &[&[1]],
@@ -95,7 +95,7 @@ const BASE: Made<'static> = Made {
 };
 
 // A satellite's angle and rate.
-const SATELLITE: Made<'static> = Made {
+const SATELLITE: TestDesign<'static> = TestDesign {
     stages: 5,
     plant_den: 8,
     a: &[&[8, 4], &[0, 8]],

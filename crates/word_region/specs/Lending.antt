@@ -2,7 +2,7 @@
 use Rattle.std.specs.Prelude.{◌≡◌, ℕ, ℤ, ◌+◌, ◌<◌, ◌≤◌, List, ◌++◌, length, take, drop}
 use Rattle.std.specs.Borrow.{Lends, MutBor, Fml, Array, i128}
 use Rattle.integer_algebra.specs.Sums.{at}
-use Rattle.word_region.specs.Words.{Words}
+use Rattle.word_region.specs.Words.{RegionWords}
 use Rattle.word_region.specs.contracts.Region.{the_row}
 
 -- the words with ws written over as many of them from start on; none comes or goes
@@ -10,7 +10,7 @@ abbrev pub written_over : List ℤ → ℕ → List ℤ → List ℤ
 written_over words start ws = take (length words) (take start words ++ (ws ++ drop (start + length ws) words))
 
 -- the region ends with what is left behind r in its words from start on, and is else as it was
-abbrev pub LendsCells : MutBor Words → ℕ → MutBor (List ℤ) → Fml
+abbrev pub LendsCells : MutBor RegionWords → ℕ → MutBor (List ℤ) → Fml
 LendsCells region start r = Lends the_row (Array i128 0) region r (λ ws. record region.now { words = written_over region.now.words start ws })
 
 -- from start on the words became ws, and no other word changed

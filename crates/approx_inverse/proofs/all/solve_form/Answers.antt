@@ -1,6 +1,6 @@
 use Rattle.std.proofs.Common.{◌≡◌, ◌≢◌, ℕ, ◌+◌, ◌<◌, length, arith, refl, ap, sym, below_more, ◌∙◌}
 use Rattle.integer_algebra.specs.Sums.{at}
-use Rattle.approx_inverse.specs.Condensed.{columns_of, entries_of, rows_of, states_of}
+use Rattle.approx_inverse.specs.Condensed.{columns_of, entries_of, limit_count, states_of}
 use Rattle.approx_inverse.specs.Spans.{cells}
 use Rattle.approx_inverse.proofs.WordLaws.{at-slice}
 use Rattle.approx_inverse.proofs.FormLaws.{solution_kept}

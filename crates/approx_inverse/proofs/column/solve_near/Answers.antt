@@ -3,7 +3,7 @@ use Rattle.std.specs.Int.{w128}
 use Rattle.std.proofs.lemmas.Int.{to_z-of_z}
 use Rattle.integer_algebra.specs.Sums.{at}
 use Rattle.mat_int.specs.Matrix.{entry_of}
-use Rattle.word_region.specs.Words.{Words}
+use Rattle.word_region.specs.Words.{RegionWords}
 use Rattle.approx_inverse.specs.Spans.{cells}
 use Rattle.approx_inverse.specs.DescentSize.{descent_of_column}
 use Rattle.approx_inverse.proofs.BoundLaws.{roomy_from, column_small, entry_within, good_from}
@@ -24,12 +24,12 @@ descend-requires-clause-task c =
 
 pub returns-clause-good : goal.returns-clause-good
 returns-clause-good c =
-    let ws : c.release.new.self.words ≡ c.descend.new.region.words = ap (λ (w : Words). w.words) c.release.ensures in
+    let ws : c.release.new.self.words ≡ c.descend.new.region.words = ap (λ (w : RegionWords). w.words) c.release.ensures in
     rw ws (good_from (length c.args.c.now) (entry_of c.args.h.now) c.args.f c.args.c.now _ _ c.descend.ensures.descent c.descend.ensures.good)
 
 pub returns-clause-within : goal.returns-clause-within
 returns-clause-within c = λ j l.
-    let ws : c.release.new.self.words ≡ c.descend.new.region.words = ap (λ (w : Words). w.words) c.release.ensures in
+    let ws : c.release.new.self.words ≡ c.descend.new.region.words = ap (λ (w : RegionWords). w.words) c.release.ensures in
     rw ws (entry_within (length c.args.c.now) (entry_of c.args.h.now) c.args.c.now (cells c.descend.new.region.words c.args.x.now.start) c.args.floor c.args.f c.args.f
     c.requires.system.convex (omega arith) c.descend.ensures.descent.low j l)
 

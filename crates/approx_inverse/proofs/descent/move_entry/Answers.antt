@@ -3,7 +3,7 @@ use Rattle.std.specs.Int.{w128}
 use Rattle.std.proofs.lemmas.Int.{to_z-of_z}
 use Rattle.integer_algebra.specs.Sums.{at}
 use Rattle.mat_int.specs.Matrix.{entry_of, row_of}
-use Rattle.approx_inverse.specs.Spans.{IsWritten, cells}
+use Rattle.approx_inverse.specs.Spans.{IsSpanWritten, cells}
 use Rattle.approx_inverse.proofs.MoveLaws.{diagonal_positive}
 use Rattle.approx_inverse.proofs.StepLaws.{entry_room, product_room, rest_room, stepped}
 use Rattle.approx_inverse.proofs.descent.move_entry.Goals as goal
@@ -52,7 +52,7 @@ returns c =
     let room = entry_room h c.args.c.now c.args.floor c.args.f w x r j t q.task q.placed q.descent q.inside near q.wide in
     let z = to_z w128 (of_z w128 (to_z w128 (of_z w128 c.word-old.result) -ℤ to_z w128 (of_z w128 t))) in
     let is : z ≡ cells w.words x.start j -ℤ t = rw (to_z-of_z w128 _ of, c.word-old.ensures, to_z-of_z w128 _ tf, to_z-of_z w128 _ room) refl in
-    let taken : IsWritten c.set_word.new.self c.take_row.new.region r (λ k. cells c.set_word.new.self.words r.start k -ℤ t *ℤ at (row_of h j) k) =
+    let taken : IsSpanWritten c.set_word.new.self c.take_row.new.region r (λ k. cells c.set_word.new.self.words r.start k -ℤ t *ℤ at (row_of h j) k) =
     rw (to_z-of_z w128 _ tf, c.row.ensures.value) at c.take_row.ensures in
     let there = stepped h c.args.c.now c.args.floor c.args.f w x r j t q.task q.placed q.descent q.inside near q.wide c.set_word.new.self z c.set_word.ensures.put
     c.take_row.new.region is taken in

@@ -3,7 +3,7 @@ use Rattle.std.specs.Int.{w128}
 use Rattle.std.proofs.Math.ListN.{length-set}
 use Rattle.std.proofs.lemmas.Int.{to_z-of_z}
 use Rattle.integer_algebra.specs.Sums.{at}
-use Rattle.word_region.specs.Words.{Words}
+use Rattle.word_region.specs.Words.{RegionWords}
 use Rattle.approx_inverse.proofs.WordLaws.{row_step, step_below, step_above}
 use Rattle.approx_inverse.proofs.descent.take_row.Goals as goal
 
@@ -17,8 +17,8 @@ loop-i-preserved c =
     let v : FitsSigned w128 (at c.args.row.now i) = search rules in
     let u : FitsSigned w128 c.word-old.result = search rules in
     let n : FitsSigned w128 c.less-new.result = search rules in
-    let e = ap (λ (w : Words). w.words) c.set_word.ensures.put in
-    let f = ap (λ (w : Words). w.used) c.set_word.ensures.put in
+    let e = ap (λ (w : RegionWords). w.words) c.set_word.ensures.put in
+    let f = ap (λ (w : RegionWords). w.used) c.set_word.ensures.put in
     let t = to_z-of_z w128 _ c.ranges.t in
     let z : c.less-new.result ≡ c.word-old.result -ℤ c.args.t *ℤ at c.args.row.now i = rw (to_z-of_z w128 _ u, t, to_z-of_z w128 _ v) at c.less-new.ensures in
     let is = to_z-of_z w128 _ n ∙ z ∙ ap (λ (y : ℤ). y -ℤ c.args.t *ℤ at c.args.row.now i) c.word-old.ensures in

@@ -3,7 +3,7 @@ use Rattle.std.specs.Int.{w128}
 use Rattle.std.proofs.lemmas.Int.{to_z-of_z}
 use Rattle.integer_algebra.specs.Sums.{at}
 use Rattle.mat_int.specs.Matrix.{entry_of}
-use Rattle.approx_inverse.specs.Descent.{aim, residual}
+use Rattle.approx_inverse.specs.Descent.{aim, system_residual}
 use Rattle.approx_inverse.proofs.start.make_rest.Goals as goal
 
 pub loop-i-preserved : goal.loop-i-preserved
@@ -12,7 +12,7 @@ loop-i-preserved c =
     let old = c.loop-i.rest in
     let e : FitsSigned w128 c.in-Some.entry = search rules in
     let v : FitsSigned w128 (at c.args.c.now i) = search rules in
-    let is : c.in-Some.entry ≡ residual (length c.args.c.now) (entry_of c.args.h.now) (aim c.args.f c.args.c.now) (at c.args.x.now) i =
+    let is : c.in-Some.entry ≡ system_residual (length c.args.c.now) (entry_of c.args.h.now) (aim c.args.f c.args.c.now) (at c.args.x.now) i =
     rw (to_z-of_z w128 _ v, c.row.ensures.value, c.requires.len) at c.in-Some.ensures in
     below_more _ _
     (λ k l. get_or-set_other old i k _ (pos 0) (omega arith) ∙ c.loop-i.invariant k l)

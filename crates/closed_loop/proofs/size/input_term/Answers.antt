@@ -5,4 +5,4 @@ use Rattle.closed_loop.proofs.size.input_term.Goals as goal
 
 pub overflow_mul-most : goal.overflow_mul-most
 overflow_mul-most c =
-    rw (c.from.ensures, c.plan_entry_reach.ensures) (record { fits = omega (arith, input_room (numbers c.args.c.now) c.args.l c.requires.sound (omega (arith, c.requires.matched.inputs))) })
+    rw (c.from.ensures, c.plan_entry_magnitude.ensures) (record { fits = omega (arith, input_room (numbers c.args.c.now) c.args.l c.requires.sound (omega (arith, c.requires.matched.inputs))) })

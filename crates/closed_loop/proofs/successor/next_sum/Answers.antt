@@ -5,7 +5,7 @@ use Rattle.integer_algebra.specs.Sums.{at, dot, image}
 use Rattle.integer_algebra.specs.Sizes.{amount}
 use Rattle.mat_int.proofs.Indices.{dot_is, abs_dot_is}
 use Rattle.qp_model.specs.Controller.{Numbers, numbers}
-use Rattle.qp_model.specs.Machine.{IsGridState, averaged_plan}
+use Rattle.qp_model.specs.Machine.{IsAdmissible, averaged_plan}
 use Rattle.qp_model.specs.AbsoluteSums.{IsController}
 use Rattle.qp_model.specs.Parts.{design_of}
 use Rattle.qp_model.specs.Successor.{grid_scale, next_sum}
@@ -19,7 +19,7 @@ dot-requires-clause-room c =
     let xi = c.args.state.now in
     let same : numbers c.parts-c.result.now ≡ n = c.parts-c.ensures.value ∙ c.controller.ensures.value in
     let sound : IsController n = subst IsController same c.parts-c.ensures.sound in
-    let inside : IsGridState n xi = subst (IsGridState n) c.requires.state c.controller.ensures.state in
+    let inside : IsAdmissible n xi = subst (IsAdmissible n) c.requires.state c.controller.ensures.state in
     let len : length c.row.result.now ≡ d.states = c.row.ensures.len ∙ c.requires.design.a.cols in
     let long : length xi ≡ d.states = inside.long ∙ sym c.requires.matched.states in
     subst (λ (m : ℕ). m < 2 ^ 127) (sym (abs_dot_is d.states c.row.result.now xi len long))
@@ -33,7 +33,7 @@ overflow_mul-own c =
     let xi = c.args.state.now in
     let same : numbers c.parts-c.result.now ≡ n = c.parts-c.ensures.value ∙ c.controller.ensures.value in
     let sound : IsController n = subst IsController same c.parts-c.ensures.sound in
-    let inside : IsGridState n xi = subst (IsGridState n) c.requires.state c.controller.ensures.state in
+    let inside : IsAdmissible n xi = subst (IsAdmissible n) c.requires.state c.controller.ensures.state in
     let len : length c.row.result.now ≡ d.states = c.row.ensures.len ∙ c.requires.design.a.cols in
     let long : length xi ≡ d.states = inside.long ∙ sym c.requires.matched.states in
     let dotted : FitsSigned w128 c.dot.result = search rules in
@@ -50,7 +50,7 @@ overflow_add-result c =
     let xi = c.args.state.now in
     let same : numbers c.parts-c.result.now ≡ n = c.parts-c.ensures.value ∙ c.controller.ensures.value in
     let sound : IsController n = subst IsController same c.parts-c.ensures.sound in
-    let inside : IsGridState n xi = subst (IsGridState n) c.requires.state c.controller.ensures.state in
+    let inside : IsAdmissible n xi = subst (IsAdmissible n) c.requires.state c.controller.ensures.state in
     let len : length c.row.result.now ≡ d.states = c.row.ensures.len ∙ c.requires.design.a.cols in
     let long : length xi ≡ d.states = inside.long ∙ sym c.requires.matched.states in
     let dotted : FitsSigned w128 c.dot.result = search rules in
@@ -70,7 +70,7 @@ returns c =
     let xi = c.args.state.now in
     let same : numbers c.parts-c.result.now ≡ n = c.parts-c.ensures.value ∙ c.controller.ensures.value in
     let sound : IsController n = subst IsController same c.parts-c.ensures.sound in
-    let inside : IsGridState n xi = subst (IsGridState n) c.requires.state c.controller.ensures.state in
+    let inside : IsAdmissible n xi = subst (IsAdmissible n) c.requires.state c.controller.ensures.state in
     let len : length c.row.result.now ≡ d.states = c.row.ensures.len ∙ c.requires.design.a.cols in
     let long : length xi ≡ d.states = inside.long ∙ sym c.requires.matched.states in
     let dotted : FitsSigned w128 c.dot.result = search rules in

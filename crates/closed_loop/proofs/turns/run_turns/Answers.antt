@@ -2,7 +2,7 @@ use Rattle.std.proofs.Common.{◌≡◌, ◌+◌, ◌++◌, ◌∙◌, ap, sym, 
 use Rattle.std.proofs.lemmas.List.{with_items_is}
 use Rattle.std.proofs.lemmas.List.FromFn.{length-map-range_with_len}
 use Rattle.qp_model.specs.Controller.{Numbers}
-use Rattle.qp_model.specs.Machine.{IsGridState}
+use Rattle.qp_model.specs.Machine.{IsAdmissible}
 use Rattle.qp_model.specs.Successor.{successor, state_after}
 use Rattle.qp_model.specs.LoopLines.{loop_line}
 use Rattle.qp_model.specs.Parts.{design_of}
@@ -69,7 +69,7 @@ loop-gone-preserved g c =
     let gone = c.loop-gone.gone in
     let same : c.deref.result.now ≡ state_after d n start gone = c.deref.ensures.value ∙ c.loop-gone.invariant.state in
     let kept : c.make_turn.new.k.controller ≡ n = c.make_turn.ensures.controller ∙ c.loop-gone.invariant.controller in
-    let inside : IsGridState n (state_after d n start gone) = subst (IsGridState n) same (subst (λ (m : Numbers). IsGridState m c.deref.result.now) c.loop-gone.invariant.controller c.in_ok-make_turn.ensures.inside) in
+    let inside : IsAdmissible n (state_after d n start gone) = subst (IsAdmissible n) same (subst (λ (m : Numbers). IsAdmissible m c.deref.result.now) c.loop-gone.invariant.controller c.in_ok-make_turn.ensures.inside) in
     let put = subst (λ (m : Numbers). g.O.Sink.got c.make_turn.new.out ≡ option_map (λ o. o ++ loop_line m c.args.entry (gone + 1) (state_after d n start gone)) (g.O.Sink.got c.loop-gone.out)) c.loop-gone.invariant.controller
     (subst (λ (s : List ℤ). g.O.Sink.got c.make_turn.new.out ≡ option_map (λ o. o ++ loop_line c.loop-gone.k.controller c.args.entry (gone + 1) s) (g.O.Sink.got c.loop-gone.out)) same c.in_ok-make_turn.ensures.put) in
     let again : c.deref-in-loop-gone.result.now ≡ state_after d n start gone = c.deref-in-loop-gone.ensures.value ∙ c.loop-gone.invariant.state in

@@ -4,7 +4,7 @@ use Rattle.std.proofs.lemmas.Int.{ints, to_z-of_z}
 use mir.Val.{SFits}
 use Rattle.qp_model.specs.Parts.{design_of}
 use Rattle.design_engine.specs.Targets.{targets_of, half_target, error_limit}
-use Rattle.design_engine.specs.Bounds.{bound_of}
+use Rattle.qp_model.specs.Choices.{multiplier_of}
 use Rattle.design_engine.proofs.RefusalFacts.{refused_by, solve_refused, width_refused}
 use Rattle.design_engine.proofs.GenerationFacts.{half_some, half_small, limit_small, bound_some, steps_some, undercut_small, whole_is, at_most}
 use Rattle.design_engine.proofs.BuiltFacts.{built_from}
@@ -23,7 +23,7 @@ controller_of-requires-clause-room c = c.in_ok-gains.ensures.fits _ c.requires.f
 
 pub controller_of-requires-clause-steps : goal.controller_of-requires-clause-steps
 controller_of-requires-clause-steps c =
-    let some = steps_some c.args.scaled.now.s (bound_of c.args.scaled.now.margin) _ (bound_some c.args.scaled.now.margin) (half_some c.args.design.now.parts c.requires.form.design) in
+    let some = steps_some c.args.scaled.now.s (multiplier_of c.args.scaled.now.margin) _ (bound_some c.args.scaled.now.margin) (half_some c.args.design.now.parts c.requires.form.design) in
     (rw c.requires.steps some, c.requires.few)
 
 pub returns-in_err-controller-clause-refused : goal.returns-in_err-controller-clause-refused
@@ -35,11 +35,11 @@ returns-in_err-controller-clause-refused c plans passes =
 
 pub bounds_of-bounds-requires-clause-small : goal.bounds_of-bounds-requires-clause-small
 bounds_of-bounds-requires-clause-small c =
-    at_most _ _ c.requires.cost c.requires.choice.within (limit_small c.args.design.now.parts (bound_of c.args.scaled.now.margin) c.requires.form.design)
+    at_most _ _ c.requires.cost c.requires.choice.within (limit_small c.args.design.now.parts (multiplier_of c.args.scaled.now.margin) c.requires.form.design)
 
 pub bounds_of-bounds-requires-clause-fits : goal.bounds_of-bounds-requires-clause-fits
 bounds_of-bounds-requires-clause-fits c = rw (c.requires.steps, c.requires.cost)
-    (undercut_small c.args.scaled.now.s (bound_of c.args.scaled.now.margin) (half_target (targets_of c.args.design.now.parts)) _
+    (undercut_small c.args.scaled.now.s (multiplier_of c.args.scaled.now.margin) (half_target (targets_of c.args.design.now.parts)) _
     (bound_some c.args.scaled.now.margin) c.requires.narrow (half_some c.args.design.now.parts c.requires.form.design)
     (half_small c.args.design.now.parts c.requires.form.design) (omega (arith, c.requires.choice.within)))
 

@@ -4,7 +4,7 @@ use Rattle.toml.specs.View.{table_view}
 use Rattle.design_files.specs.Document.{document_of}
 use Rattle.design_files.specs.Values.{Values, values_of}
 use Rattle.design_files.specs.Places.{key_rules, place_rules}
-use Rattle.design_files.specs.DesignText.{Fails}
+use Rattle.design_files.specs.DesignText.{FailsRule}
 use Rattle.design_files.proofs.ReadLaws.{fails_before, fails_after}
 use Rattle.design_files.proofs.TextLaws.{no_further}
 use Rattle.design_files.proofs.places.read_text.Goals as goal
@@ -22,7 +22,7 @@ returns-in_err-read_parts-clause-fault c =
     let known : document_of c.args.bytes.now ≡ Some m = c.in_ok-document.ensures.ok in
     let found = c.in_ok-keys.ensures in
     let e = err_from_is_err_and c.from_residual-in_err-read_parts.result c.from_residual-in_err-read_parts.ensures.1 in
-    rw (e.1, e.2, known) (fails_after (key_rules m) (place_rules (values_of m)) _ found.0 (subst (λ (v : Values). Fails c.in_err-read_parts.field-0.0 (place_rules v)) (sym found.1) c.in_err-read_parts.ensures))
+    rw (e.1, e.2, known) (fails_after (key_rules m) (place_rules (values_of m)) _ found.0 (subst (λ (v : Values). FailsRule c.in_err-read_parts.field-0.0 (place_rules v)) (sym found.1) c.in_err-read_parts.ensures))
 
 pub returns-clause-text : goal.returns-clause-text
 returns-clause-text c =

@@ -37,7 +37,7 @@ returns-in_err-sum-clause-room c =
     let term = c.in_ok-multiple.ensures.value ∙ ap₂ (λ (z : ℤ) (e : Enclosure). multiple z e) (to_z-of_z w128 _ coeff) x in
     let far = term_reach (pair c.in_ok-multiple.field-0) (pair_at xs i) (at coeffs i) (radius_nonneg xs i inside) term in
     step_refused c.from_residual-in_err-sum.result (length xs) i _ (λ k. unsigned_abs (at coeffs k) * (unsigned_abs (pair_at xs k).mid + unsigned_abs (pair_at xs k).rad)) _ c.from_residual-in_err-sum.ensures
-    (combination_reach_is (length xs) (at coeffs) (pair_at xs) (radius_nonneg xs)) inside (omega (arith, far, c.loop-i.invariant.reach))
+    (combination_reach_is (length xs) (at coeffs) (pair_at xs) (radius_nonneg xs)) inside (omega (arith, far, c.loop-i.invariant.magnitude))
     (λ h. let no = c.in_err-sum.ensures.room.1 h in cc)
 
 pub loop-i-preserved : goal.loop-i-preserved
@@ -52,7 +52,7 @@ loop-i-preserved c =
     let far = term_reach (pair c.in_ok-multiple.field-0) (pair_at xs i) (at coeffs i) (radius_nonneg xs i inside) term in
     record {
       value = c.in_ok-sum.ensures.value ∙ ap₂ (λ (a b : Enclosure). sum_of a b) c.loop-i.invariant.value term ∙ sym (combination_more i (at coeffs) (pair_at xs));
-      reach = omega (arith, c.in_ok-sum.ensures.reach, far, c.loop-i.invariant.reach, amount_more i (λ k. unsigned_abs (at coeffs k) * (unsigned_abs (pair_at xs k).mid + unsigned_abs (pair_at xs k).rad)));
+      magnitude = omega (arith, c.in_ok-sum.ensures.magnitude, far, c.loop-i.invariant.magnitude, amount_more i (λ k. unsigned_abs (at coeffs k) * (unsigned_abs (pair_at xs k).mid + unsigned_abs (pair_at xs k).rad)));
     }
 
 pub returns-clause-value : goal.returns-clause-value
@@ -66,7 +66,7 @@ pub returns-clause-room : goal.returns-clause-room
 returns-clause-room c =
     let xs = c.args.xs.now in
     let end : c.loop-i.i ≡ length xs = omega (arith, c.loop-i-test.false, c.loop-i.auto.i-end) in
-    let most = rw (c.loop-i.invariant.reach, end) at c.loop-i.sum.limited in
+    let most = rw (c.loop-i.invariant.magnitude, end) at c.loop-i.sum.limited in
     (λ h. (limit_is _ _ (combination_reach_is (length xs) (at c.args.coeffs.now) (pair_at xs) (radius_nonneg xs))).0 most, λ h. refl)
 
 pub returns-clause-encloses : goal.returns-clause-encloses

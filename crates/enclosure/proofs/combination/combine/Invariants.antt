@@ -8,5 +8,5 @@ use Rattle.enclosure.proofs.combination.combine.Given as goal
 abbrev pub invariant-loop-i : goal.invariant-loop-i
 invariant-loop-i l = record {
   value : pair l.sum.value ≡ combination l.i (at l.coeffs) (pair_at l.xs);
-  reach : l.sum.reach ≡ combination_size l.i (at l.coeffs) (pair_at l.xs);
+  magnitude : l.sum.magnitude ≡ combination_size l.i (at l.coeffs) (pair_at l.xs);
 }

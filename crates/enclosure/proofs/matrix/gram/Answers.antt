@@ -1,7 +1,7 @@
 use Rattle.std.proofs.Common.{◌≡◌, ℕ, ◌+◌, ◌^◌, ◌<◌, ◌≤ℤ◌, ℤ, pos, rules, arith, ap, sym, ◌∙◌, length, List, [], ◌∷◌, ◌++◌, below_more, IsSome}
 use Rattle.std.proofs.lemmas.Grind.{common_steps}
 use Rattle.integer_algebra.specs.Sums.{at}
-use Rattle.mat_int.specs.Enclosures.{enclosure_at, weighted_gram, gram_reach}
+use Rattle.mat_int.specs.Enclosures.{enclosure_at, weighted_gram, gram_magnitude}
 use Rattle.enclosure.specs.Rows.{HasRow}
 use Rattle.enclosure.proofs.GramLaws.{pushed, gram_nonneg}
 use Rattle.std.proofs.Common.{subst}
@@ -21,7 +21,7 @@ loop-j-preserved c =
     let some : IsSome c.gram_row.result = search rules in
     let mids : HasRow n (λ l. (entry j l).mid) c.gram_row.new.mids = search rules in
     let rads : HasRow n (λ l. (entry j l).rad) c.gram_row.new.rads = search rules in
-    let near : (l : ℕ) → l < n → gram_reach (length weights) (at weights) x j l ≤ℤ pos (2 ^ 126) = search rules in
+    let near : (l : ℕ) → l < n → gram_magnitude (length weights) (at weights) x j l ≤ℤ pos (2 ^ 126) = search rules in
     let mid_row : c.deref.result.now ≡ c.gram_row.new.mids = grind (arith, common_steps) in
     let rad_row : c.deref-in-loop-j.result.now ≡ c.gram_row.new.rads = grind (arith, common_steps) in
     record {
@@ -33,7 +33,7 @@ loop-j-preserved c =
         rads = pushed j n (λ i l. (entry i l).rad) c.loop-j.rad c.push_row-in-loop-j.new.self c.gram_row.new.rads
             (c.in_ok-push_row-2.ensures.ok ∙ ap (λ (row : List ℤ). record c.loop-j.rad { rows = c.loop-j.rad.rows ++ row ∷ [] }) rad_row) c.loop-j.invariant.made.rads rads;
       };
-      near = λ i l p q. (let all : (i : ℕ) → i < j + 1 → (l : ℕ) → l < n → gram_reach (length weights) (at weights) x i l ≤ℤ pos (2 ^ 126) =
+      near = λ i l p q. (let all : (i : ℕ) → i < j + 1 → (l : ℕ) → l < n → gram_magnitude (length weights) (at weights) x i l ≤ℤ pos (2 ^ 126) =
           below_more _ _ (λ i p l q. c.loop-j.invariant.near i l p q) near in all i p l q);
     }
 

@@ -55,7 +55,7 @@ returns-in_err-sum-clause-room c =
     (ap₂ (λ (a b : Enclosure). whole_product a b) c.at.ensures c.at-in-loop-i.ensures) in
     let reached = term_reach (pair c.in_ok-weighted_product.field-0) (whole_product (x i j) (x i l)) (at weights i) (product_nonneg (x i j) (x i l) (radii i inside).0 (radii i inside).1) term in
     step_refused c.from_residual-in_err-sum.result n i _ terms _ c.from_residual-in_err-sum.ensures whole inside
-    (omega (arith, reached, c.loop-i.invariant.reach)) (λ h. let no = c.in_err-sum.ensures.room.1 h in cc)
+    (omega (arith, reached, c.loop-i.invariant.magnitude)) (λ h. let no = c.in_err-sum.ensures.room.1 h in cc)
 
 pub loop-i-preserved : goal.loop-i-preserved
 loop-i-preserved c =
@@ -78,7 +78,7 @@ loop-i-preserved c =
     record {
       value = c.in_ok-sum.ensures.value ∙ ap₂ (λ (a b : Enclosure). sum_of a b) c.loop-i.invariant.value term ∙
           sym (combination_more i (at weights) (λ k. whole_product (x k j) (x k l)));
-      reach = omega (arith, c.in_ok-sum.ensures.reach, reached, c.loop-i.invariant.reach, amount_more i terms);
+      magnitude = omega (arith, c.in_ok-sum.ensures.magnitude, reached, c.loop-i.invariant.magnitude, amount_more i terms);
     }
 
 pub returns-clause-room : goal.returns-clause-room
@@ -92,5 +92,5 @@ returns-clause-room c =
     let radii : (i : ℕ) → i < n → (pos 0 ≤ℤ (x i j).rad) × (pos 0 ≤ℤ (x i l).rad) = λ i p. (sound.nonnegative i j (omega (arith, c.requires.shape)) c.requires.row, sound.nonnegative i l (omega (arith, c.requires.shape)) c.requires.col) in
     let whole = gram_reach_is n (at weights) x j l (λ i p. c.requires.signs i (pos 0) p) radii in
     let end : c.loop-i.i ≡ n = omega (arith, c.loop-i-test.false, c.loop-i.auto.i-end) in
-    let most = rw (c.loop-i.invariant.reach, end) at c.loop-i.sum.limited in
+    let most = rw (c.loop-i.invariant.magnitude, end) at c.loop-i.sum.limited in
     (λ h. (limit_is _ _ whole).0 most, λ h. refl)

@@ -9,5 +9,5 @@ use Rattle.enclosure.proofs.matrix.gram_entry.Given as goal
 abbrev pub invariant-loop-i : goal.invariant-loop-i
 invariant-loop-i l = record {
   value : pair l.sum.value ≡ gram_sum l.i (at l.weights) (enclosure_at l.x.mid l.x.rad) l.j l.l;
-  reach : l.sum.reach ≡ combination_size l.i (at l.weights) (λ i. whole_product (enclosure_at l.x.mid l.x.rad i l.j) (enclosure_at l.x.mid l.x.rad i l.l));
+  magnitude : l.sum.magnitude ≡ combination_size l.i (at l.weights) (λ i. whole_product (enclosure_at l.x.mid l.x.rad i l.j) (enclosure_at l.x.mid l.x.rad i l.l));
 }

@@ -13,7 +13,7 @@ pub returns-in_err-limited_sum-clause-room : goal.returns-in_err-limited_sum-cla
 returns-in_err-limited_sum-clause-room c =
     refused c.from_residual.result _ _ c.from_residual.ensures
     (ap₂ (λ (x y : ℤ). x +ℤ y) (reach_is c.args.a.mid c.args.a.rad c.args.a.nonnegative) (reach_is c.args.b.mid c.args.b.rad c.args.b.nonnegative))
-    (rw (c.reach.ensures, c.reach-2.ensures) at c.in_err-limited_sum.ensures)
+    (rw (c.magnitude.ensures, c.magnitude-2.ensures) at c.in_err-limited_sum.ensures)
 
 pub returns-clause-value : goal.returns-clause-value
 returns-clause-value c =
@@ -22,7 +22,7 @@ returns-clause-value c =
     let h : FitsSigned w128 c.args.a.rad = search rules in
     let k : FitsSigned w128 c.args.b.rad = search rules in
     let room = c.in_ok-limited_sum.ensures.0 in
-    same_pair (omega (arith, ints, room, c.reach.ensures, c.reach-2.ensures)) (omega (arith, ints, room, c.reach.ensures, c.reach-2.ensures))
+    same_pair (omega (arith, ints, room, c.magnitude.ensures, c.magnitude-2.ensures)) (omega (arith, ints, room, c.magnitude.ensures, c.magnitude-2.ensures))
 
 pub returns-clause-encloses : goal.returns-clause-encloses
 returns-clause-encloses c =

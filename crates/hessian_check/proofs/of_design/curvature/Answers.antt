@@ -2,7 +2,7 @@ use Rattle.std.proofs.Common.{◌≡◌, ◌↔◌, ◌≤◌, ◌^◌, rules, t
 use Rattle.std.specs.Prelude.{unwrap_or}
 use Rattle.std.proofs.lemmas.Result.{err_from_is_err_and}
 use Rattle.qp_model.specs.Parts.{design_of}
-use Rattle.hessian_check.specs.DesignGaps.{curvature_at}
+use Rattle.hessian_check.specs.DesignMatrices.{curvature_at}
 use Rattle.hessian_check.proofs.ExponentLaws.{step_law}
 use Rattle.hessian_check.proofs.RowLaws.{not_true}
 use Rattle.hessian_check.proofs.StepAnswers.{Chosen, exponents_of, few, found_of, memory_not_wide, narrow_of, no_step_of, not_wide, order_of, plain_of, room_of, some_of, step_of, wide_of}
@@ -14,8 +14,8 @@ returns-then-not-is_limited-clause-wide c = λ p f.
     let o = c.squares_of-squares.result in
     (λ e. wide_of d o c.unwrap_or.result c.unwrap_or.ensures (c.squares_of-squares.ensures p f) (λ h. not_true (((c.if-not-is_limited.ensures p f).1) h)), λ l. refl)
 
-pub returns-in_err-gaps-clause-wide : goal.returns-in_err-gaps-clause-wide
-returns-in_err-gaps-clause-wide c = λ p f.
+pub returns-in_err-matrices-clause-wide : goal.returns-in_err-matrices-clause-wide
+returns-in_err-matrices-clause-wide c = λ p f.
     let d = design_of p in
     let o = c.squares_of-squares.result in
     let t : IsTrue true = search rules in
@@ -34,30 +34,30 @@ exponents_of-requires-clause-room c =
     let o = c.squares_of-squares.result in
     let t : IsTrue true = search rules in
     let k : curvature_at d (unwrap_or o 40) ≤ 2 ^ 126 = rw c.unwrap_or.ensures at ((c.if-not-is_limited.ensures p f).0 t) in
-    room_of d c.in_ok-gaps.gaps o (c.in_ok-gaps.ensures p f) k
+    room_of d c.in_ok-matrices.matrices o (c.in_ok-matrices.ensures p f) k
 
 pub returns-clause-plain : goal.returns-clause-plain
 returns-clause-plain c = λ p f.
     let d = design_of p in
     let o = c.squares_of-squares.result in
-    let g = c.in_ok-gaps.gaps in
-    let h : Chosen d g o = record { gaps = c.in_ok-gaps.ensures p f; squares = c.squares_of-squares.ensures p f; some = some_of p c.args.c.now f } in
+    let g = c.in_ok-matrices.matrices in
+    let h : Chosen d g o = record { matrices = c.in_ok-matrices.ensures p f; squares = c.squares_of-squares.ensures p f; some = some_of p c.args.c.now f } in
     plain_of d g o c.exponents_of.result h c.exponents_of.ensures
 
 pub returns-clause-certified : goal.returns-clause-certified
 returns-clause-certified c = λ p f.
     let d = design_of p in
     let o = c.squares_of-squares.result in
-    let g = c.in_ok-gaps.gaps in
-    let h : Chosen d g o = record { gaps = c.in_ok-gaps.ensures p f; squares = c.squares_of-squares.ensures p f; some = some_of p c.args.c.now f } in
+    let g = c.in_ok-matrices.matrices in
+    let h : Chosen d g o = record { matrices = c.in_ok-matrices.ensures p f; squares = c.squares_of-squares.ensures p f; some = some_of p c.args.c.now f } in
     step_of d g o c.exponents_of.result h c.exponents_of.ensures
 
 pub returns-clause-exponents : goal.returns-clause-exponents
 returns-clause-exponents c = λ p f.
     let d = design_of p in
     let o = c.squares_of-squares.result in
-    let g = c.in_ok-gaps.gaps in
-    let h : Chosen d g o = record { gaps = c.in_ok-gaps.ensures p f; squares = c.squares_of-squares.ensures p f; some = some_of p c.args.c.now f } in
+    let g = c.in_ok-matrices.matrices in
+    let h : Chosen d g o = record { matrices = c.in_ok-matrices.ensures p f; squares = c.squares_of-squares.ensures p f; some = some_of p c.args.c.now f } in
     exponents_of step_law p f.design c.exponents_of.result (plain_of d g o c.exponents_of.result h c.exponents_of.ensures) (step_of d g o c.exponents_of.result h c.exponents_of.ensures)
 
 pub returns-clause-order : goal.returns-clause-order
@@ -66,8 +66,8 @@ returns-clause-order c =
     let f = c.requires.form in
     let d = design_of p in
     let o = c.squares_of-squares.result in
-    let g = c.in_ok-gaps.gaps in
-    let h : Chosen d g o = record { gaps = c.in_ok-gaps.ensures p f; squares = c.squares_of-squares.ensures p f; some = some_of p c.args.c.now f } in
+    let g = c.in_ok-matrices.matrices in
+    let h : Chosen d g o = record { matrices = c.in_ok-matrices.ensures p f; squares = c.squares_of-squares.ensures p f; some = some_of p c.args.c.now f } in
     order_of d g o c.exponents_of.result h c.exponents_of.ensures
 
 pub returns-clause-wide : goal.returns-clause-wide
@@ -76,20 +76,20 @@ returns-clause-wide c = λ p f.
     let o = c.squares_of-squares.result in
     let t : IsTrue true = search rules in
     let k = (c.if-not-is_limited.ensures p f).0 t in
-    (λ e. absurd (not_wide c.in_ok-gaps.gaps o c.exponents_of.result c.exponents_of.ensures _ e), λ l. absurd (narrow_of d o c.unwrap_or.result c.unwrap_or.ensures (c.squares_of-squares.ensures p f) k l))
+    (λ e. absurd (not_wide c.in_ok-matrices.matrices o c.exponents_of.result c.exponents_of.ensures _ e), λ l. absurd (narrow_of d o c.unwrap_or.result c.unwrap_or.ensures (c.squares_of-squares.ensures p f) k l))
 
 pub returns-clause-no_step : goal.returns-clause-no_step
 returns-clause-no_step c = λ p f.
     let d = design_of p in
     let o = c.squares_of-squares.result in
-    let g = c.in_ok-gaps.gaps in
-    let h : Chosen d g o = record { gaps = c.in_ok-gaps.ensures p f; squares = c.squares_of-squares.ensures p f; some = some_of p c.args.c.now f } in
+    let g = c.in_ok-matrices.matrices in
+    let h : Chosen d g o = record { matrices = c.in_ok-matrices.ensures p f; squares = c.squares_of-squares.ensures p f; some = some_of p c.args.c.now f } in
     λ e. no_step_of d g o c.exponents_of.result h c.exponents_of.ensures e
 
 pub returns-clause-step : goal.returns-clause-step
 returns-clause-step c = λ p f.
     let d = design_of p in
     let o = c.squares_of-squares.result in
-    let g = c.in_ok-gaps.gaps in
-    let h : Chosen d g o = record { gaps = c.in_ok-gaps.ensures p f; squares = c.squares_of-squares.ensures p f; some = some_of p c.args.c.now f } in
+    let g = c.in_ok-matrices.matrices in
+    let h : Chosen d g o = record { matrices = c.in_ok-matrices.ensures p f; squares = c.squares_of-squares.ensures p f; some = some_of p c.args.c.now f } in
     found_of d g o c.exponents_of.result h c.exponents_of.ensures

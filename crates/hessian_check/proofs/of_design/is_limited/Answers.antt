@@ -1,6 +1,6 @@
 use Rattle.std.proofs.Common.{arith}
 use Rattle.qp_model.specs.Parts.{design_of}
-use Rattle.hessian_check.specs.DesignGaps.{curvature_at}
+use Rattle.hessian_check.specs.DesignMatrices.{curvature_at}
 use Rattle.hessian_check.proofs.FormFacts.{limited_by, small}
 use Rattle.hessian_check.proofs.of_design.is_limited.Goals as goal
 

@@ -12,18 +12,18 @@ use Rattle.plant_condense.proofs.bounds.scaled_bounds.Goals as goal
 
 pub overflow_mul-scale : goal.overflow_mul-scale
 overflow_mul-scale c =
-    let s : SFits w128 c.bound_of.result = search rules in
-    let small : unsigned_abs c.bound_of.result ≤ unsigned_abs (bound_at (design_of c.args.parts.now) c.loop-i.i) = rw c.bound_of.ensures (omega arith) in
+    let s : SFits w128 c.row_bound.result = search rules in
+    let small : unsigned_abs c.row_bound.result ≤ unsigned_abs (bound_at (design_of c.args.parts.now) c.loop-i.i) = rw c.row_bound.ensures (omega arith) in
     let inside : c.loop-i.i < rows (design_of c.args.parts.now) = omega (arith, c.loop-i-test.true, ap (λ n. c.args.parts.now.stages * n) c.rows.ensures.count, c.rows-2.ensures.count) in
-    lifted_fits c.args.scale c.bound_of.result _ c.ranges.scale s small (c.requires.fits c.loop-i.i inside)
+    lifted_fits c.args.scale c.row_bound.result _ c.ranges.scale s small (c.requires.fits c.loop-i.i inside)
 
 pub loop-i-preserved : goal.loop-i-preserved
 loop-i-preserved c =
-    let s : SFits w128 c.bound_of.result = search rules in
-    let small : unsigned_abs c.bound_of.result ≤ unsigned_abs (bound_at (design_of c.args.parts.now) c.loop-i.i) = rw c.bound_of.ensures (omega arith) in
+    let s : SFits w128 c.row_bound.result = search rules in
+    let small : unsigned_abs c.row_bound.result ≤ unsigned_abs (bound_at (design_of c.args.parts.now) c.loop-i.i) = rw c.row_bound.ensures (omega arith) in
     let inside : c.loop-i.i < rows (design_of c.args.parts.now) = omega (arith, c.loop-i-test.true, ap (λ n. c.args.parts.now.stages * n) c.rows.ensures.count, c.rows-2.ensures.count) in
     pushed _ _ _ c.loop-i.i (λ i. read c.args.scale *ℤ bound_at (design_of c.args.parts.now) i) c.in_ok-push.ensures.items
-    (lifted c.args.scale c.bound_of.result _ c.ranges.scale s small (c.requires.fits c.loop-i.i inside) ∙ rw (to_z-of_z w128 _ c.ranges.scale, c.bound_of.ensures) refl)
+    (lifted c.args.scale c.row_bound.result _ c.ranges.scale s small (c.requires.fits c.loop-i.i inside) ∙ rw (to_z-of_z w128 _ c.ranges.scale, c.row_bound.ensures) refl)
     c.loop-i.invariant
 
 pub returns : goal.returns

@@ -1,5 +1,5 @@
 use Rattle.qp_model.specs.Parts.{design_of}
-use Rattle.plant_condense.specs.Fault.{IsFirstWide}
+use Rattle.plant_condense.specs.Fault.{IsFirstWideForm}
 use Rattle.plant_condense.proofs.CostFacts.{power_room}
 use Rattle.plant_condense.proofs.FormLaws.{cost_room, limit_room}
 use Rattle.plant_condense.proofs.form.condense.Goals as goal
@@ -18,7 +18,7 @@ pub returns-clause-wide : goal.returns-clause-wide
 returns-clause-wide c = λ q. (
   (λ e. (cc)),
   (λ w. (
-      let first : IsFirstWide (design_of c.parts-parts.result.now) q = rw c.parts-parts.ensures.value w in
+      let first : IsFirstWideForm (design_of c.parts-parts.result.now) q = rw c.parts-parts.ensures.value w in
       let wide = (c.sizes_of.ensures.wide q).1 first in
       let was = c.in_ok-sizes.was in
       cc

@@ -12,4 +12,4 @@ returns-in_err-response c = rw c.from_residual-in_err-response.ensures (λ h. c.
 
 pub returns-in_err-row : goal.returns-in_err-row
 returns-in_err-row c = rw c.from_residual-in_err-row.ensures (λ h. c.in_err-row.ensures
-    (rw (c.in_ok-response.ensures.1, c.cost_width.ensures, c.in_ok-prediction_size.ensures.1, c.policy_reach.ensures) (cost_parts c.args.parts.now (plans_of c.args.policy.now) c.requires.design c.requires.plans h).0))
+    (rw (c.in_ok-response.ensures.1, c.cost_width.ensures, c.in_ok-prediction_size.ensures.1, c.policy_magnitude.ensures) (cost_parts c.args.parts.now (plans_of c.args.policy.now) c.requires.design c.requires.plans h).0))

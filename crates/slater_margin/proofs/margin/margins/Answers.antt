@@ -7,7 +7,7 @@ use Rattle.std.proofs.lemmas.Result.{err_from_is_err_and}
 use Rattle.qp_model.specs.Margin.{IsMarginOf}
 use Rattle.qp_model.specs.Parts.{design_of}
 use Rattle.qp_model.specs.Policy.{plans_of, IsPolicyFor}
-use Rattle.slater_margin.specs.Corners.{IsFirstWide, IsFirstShort}
+use Rattle.slater_margin.specs.Corners.{IsFirstWideCorner, IsFirstShort}
 use Rattle.slater_margin.specs.Simulation.{IsCornerMargin}
 use Rattle.slater_margin.specs.declared.fault.MarginFault.TheVariants.{TooWide, NoMargin}
 use Rattle.slater_margin.proofs.RoomFacts.{last_power_room}
@@ -47,7 +47,7 @@ pub returns-in_err-next-clause-wide : goal.returns-in_err-next-clause-wide
 returns-in_err-next-clause-wide c = λ q.
     let y = err_from_is_err_and c.from_residual-in_err-next.result c.from_residual-in_err-next.ensures.1 in (
       (λ e. (let back : c.corner_margin-in-loop-c.result ≡ Err (TooWide q) = same_error y.1 e c.in_err-next.was y.2 in absurd (c.corner_margin-in-loop-c.ensures.room q back))),
-      (λ w. (let first : IsFirstWide (design_of c.parts-parts.result.now) (plans_of c.args.policy.now) q = rw c.parts-parts.ensures.value w in
+      (λ w. (let first : IsFirstWideCorner (design_of c.parts-parts.result.now) (plans_of c.args.policy.now) q = rw c.parts-parts.ensures.value w in
           let no = (c.in_ok-test_room.ensures.wide q).1 first in cc)),
     )
 
@@ -98,7 +98,7 @@ returns-clause-margin c =
 pub returns-clause-wide : goal.returns-clause-wide
 returns-clause-wide c = λ q. (
   (λ e. (cc)),
-  (λ w. (let first : IsFirstWide (design_of c.parts-parts.result.now) (plans_of c.args.policy.now) q = rw c.parts-parts.ensures.value w in
+  (λ w. (let first : IsFirstWideCorner (design_of c.parts-parts.result.now) (plans_of c.args.policy.now) q = rw c.parts-parts.ensures.value w in
       let no = (c.in_ok-test_room.ensures.wide q).1 first in cc)),
 )
 

@@ -33,6 +33,6 @@ returns c =
     let row : c.div_ceil-row.result ≡ ceil_div (size (length m.rows) (entry_of m c.args.j)) c.args.scale =
     quotient_is _ _ _ _ _ c.requires.some c.div_ceil-row.ensures sum refl in
     let P : ℕ → Type 0 = λ n. SomeIff c.limited_sum.result (n ≤ 2 ^ 126) n in
-    let e : c.in_ok-limited_product.field-0 + c.div_ceil-row.result ≡ entry_error (length m.rows) (entry_of m) c.args.scale c.args.reach c.args.j =
-    ap (λ n. n + c.div_ceil-row.result) c.in_ok-limited_product.ensures.1 ∙ (λ i. own i * c.args.reach + row i) in
+    let e : c.in_ok-limited_product.field-0 + c.div_ceil-row.result ≡ entry_error (length m.rows) (entry_of m) c.args.scale c.args.combined c.args.j =
+    ap (λ n. n + c.div_ceil-row.result) c.in_ok-limited_product.ensures.1 ∙ (λ i. own i * c.args.combined + row i) in
     subst P e c.limited_sum.ensures

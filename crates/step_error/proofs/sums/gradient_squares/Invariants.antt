@@ -6,6 +6,6 @@ use Rattle.step_error.proofs.sums.gradient_squares.Given as goal
 
 abbrev pub invariant-loop-j : goal.invariant-loop-j
 invariant-loop-j l = record {
-  is : l.squares ≡ amount l.j (λ j. entry_error (length l.hess.rows) (entry_of l.hess) l.scale l.reach j ^ 2);
+  is : l.squares ≡ amount l.j (λ j. entry_error (length l.hess.rows) (entry_of l.hess) l.scale l.combined j ^ 2);
   small : l.squares ≤ 2 ^ 126;
 }

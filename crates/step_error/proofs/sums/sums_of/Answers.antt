@@ -4,7 +4,7 @@ use mir.Val.{SFits}
 use Rattle.qp_model.specs.Parts.{design_of}
 use Rattle.qp_model.specs.Design.{rows, entries}
 use Rattle.qp_model.specs.Columns.{input_floor}
-use Rattle.qp_model.specs.Errors.{reach_bound, gradient_squares, pull, state_bound, linear_sum, constant_sum, plan_row_sum, trace_sum}
+use Rattle.qp_model.specs.Errors.{combined_bound, gradient_squares, pull, state_bound, linear_sum, constant_sum, plan_row_sum, trace_sum}
 use Rattle.qp_model.proofs.SizeFacts.{some_row}
 use Rattle.step_error.proofs.Ceilings.{positive_by}
 use Rattle.step_error.proofs.SumFacts.{read_size, floor_range}
@@ -29,8 +29,8 @@ returns-in_err-squares c =
     let g : SFits w128 c.args.c.now.weight_den = search rules in
     let scale = read_size _ _ f c.unsigned_abs.ensures.value ∙ scale_is p c.args.c.now form in
     let weight = read_size _ _ g c.unsigned_abs-weight_den.ensures.value ∙ weight_is p c.args.c.now form in
-    let reach = reach_is p c.args.c.now form c.args.r _ _ c.sizes_of-sizes.ensures.state c.rows.ensures.count in
-    let squares = squares_is p c.args.c.now form c.args.r _ _ scale reach in
+    let combined = reach_is p c.args.c.now form c.args.r _ _ c.sizes_of-sizes.ensures.state c.rows.ensures.count in
+    let squares = squares_is p c.args.c.now form c.args.r _ _ scale combined in
     rw c.from_residual.ensures (λ h. c.in_err-squares.ensures (rw squares (within p c.args.r form.design h).squares))
 
 pub returns-in_err-limited_product : goal.returns-in_err-limited_product
@@ -42,8 +42,8 @@ returns-in_err-limited_product c =
     let g : SFits w128 c.args.c.now.weight_den = search rules in
     let scale = read_size _ _ f c.unsigned_abs.ensures.value ∙ scale_is p c.args.c.now form in
     let weight = read_size _ _ g c.unsigned_abs-weight_den.ensures.value ∙ weight_is p c.args.c.now form in
-    let reach = reach_is p c.args.c.now form c.args.r _ _ c.sizes_of-sizes.ensures.state c.rows.ensures.count in
-    let squares = squares_is p c.args.c.now form c.args.r _ _ scale reach in
+    let combined = reach_is p c.args.c.now form c.args.r _ _ c.sizes_of-sizes.ensures.state c.rows.ensures.count in
+    let squares = squares_is p c.args.c.now form c.args.r _ _ scale combined in
     rw c.from_residual-in_err-limited_product.ensures (λ h. c.in_err-limited_product.ensures
     (rw (weight, c.in_ok-squares.ensures.1, squares) (within p c.args.r form.design h).weighed))
 
@@ -66,8 +66,8 @@ returns-in_err-limited_product-2 c =
     let g : SFits w128 c.args.c.now.weight_den = search rules in
     let scale = read_size _ _ f c.unsigned_abs.ensures.value ∙ scale_is p c.args.c.now form in
     let weight = read_size _ _ g c.unsigned_abs-weight_den.ensures.value ∙ weight_is p c.args.c.now form in
-    let reach = reach_is p c.args.c.now form c.args.r _ _ c.sizes_of-sizes.ensures.state c.rows.ensures.count in
-    let squares = squares_is p c.args.c.now form c.args.r _ _ scale reach in
+    let combined = reach_is p c.args.c.now form c.args.r _ _ c.sizes_of-sizes.ensures.state c.rows.ensures.count in
+    let squares = squares_is p c.args.c.now form c.args.r _ _ scale combined in
     let sizes = c.sizes_of-sizes.ensures in
     let pulling : c.sizes_of-sizes.result.state * c.sizes_of-sizes.result.linear + c.sizes_of-sizes.result.constant + 2 * c.args.r * c.sizes_of-sizes.result.rows ≡
     state_bound d * linear_sum d + constant_sum d + 2 * c.args.r * plan_row_sum d =
@@ -96,10 +96,10 @@ returns-in_err-limited_product-3 c =
     let g : SFits w128 c.args.c.now.weight_den = search rules in
     let scale = read_size _ _ f c.unsigned_abs.ensures.value ∙ scale_is p c.args.c.now form in
     let weight = read_size _ _ g c.unsigned_abs-weight_den.ensures.value ∙ weight_is p c.args.c.now form in
-    let reach = reach_is p c.args.c.now form c.args.r _ _ c.sizes_of-sizes.ensures.state c.rows.ensures.count in
-    let squares = squares_is p c.args.c.now form c.args.r _ _ scale reach in
+    let combined = reach_is p c.args.c.now form c.args.r _ _ c.sizes_of-sizes.ensures.state c.rows.ensures.count in
+    let squares = squares_is p c.args.c.now form c.args.r _ _ scale combined in
     rw c.from_residual-in_err-limited_product-3.ensures (λ h. c.in_err-limited_product-3.ensures
-    (rw (weight, reach, c.sizes_of-sizes.ensures.trace) (within p c.args.r form.design h).tail))
+    (rw (weight, combined, c.sizes_of-sizes.ensures.trace) (within p c.args.r form.design h).tail))
 
 pub sums-requires-clause-top : goal.sums-requires-clause-top
 sums-requires-clause-top c =
@@ -132,8 +132,8 @@ returns c =
     let g : SFits w128 c.args.c.now.weight_den = search rules in
     let scale = read_size _ _ f c.unsigned_abs.ensures.value ∙ scale_is p c.args.c.now form in
     let weight = read_size _ _ g c.unsigned_abs-weight_den.ensures.value ∙ weight_is p c.args.c.now form in
-    let reach = reach_is p c.args.c.now form c.args.r _ _ c.sizes_of-sizes.ensures.state c.rows.ensures.count in
-    let squares = squares_is p c.args.c.now form c.args.r _ _ scale reach in
+    let combined = reach_is p c.args.c.now form c.args.r _ _ c.sizes_of-sizes.ensures.state c.rows.ensures.count in
+    let squares = squares_is p c.args.c.now form c.args.r _ _ scale combined in
     let sizes = c.sizes_of-sizes.ensures in
     let pulling : c.sizes_of-sizes.result.state * c.sizes_of-sizes.result.linear + c.sizes_of-sizes.result.constant + 2 * c.args.r * c.sizes_of-sizes.result.rows ≡
     state_bound d * linear_sum d + constant_sum d + 2 * c.args.r * plan_row_sum d =
@@ -142,11 +142,11 @@ returns c =
     let floor = read_size _ _ k c.unsigned_abs-2.ensures.value ∙ floor_is p c.args.c.now form in
     let count = count_is p c.args.c.now form _ c.rows.ensures.count in
     moved c.sums.result _ _ _ _ _ _ _
-    (d.cost_denominator * gradient_squares d c.args.r) (pull d c.args.r) (d.cost_denominator * reach_bound d c.args.r * trace_sum d) (2 * c.args.r * rows d) (entries d)
+    (d.cost_denominator * gradient_squares d c.args.r) (pull d c.args.r) (d.cost_denominator * combined_bound d c.args.r * trace_sum d) (2 * c.args.r * rows d) (entries d)
     (d.states * state_bound d) (input_floor d)
     (c.in_ok-limited_product.ensures.1 ∙ (λ i. weight i * (c.in_ok-squares.ensures.1 ∙ squares) i))
     (c.in_ok-limited_product-2.ensures.1 ∙ (λ i. weight i * (c.in_ok-pull_of.ensures.1 ∙ pulling) i))
-    (c.in_ok-limited_product-3.ensures.1 ∙ (λ i. weight i * reach i * sizes.trace i))
+    (c.in_ok-limited_product-3.ensures.1 ∙ (λ i. weight i * combined i * sizes.trace i))
     (λ i. 2 * c.args.r * count i)
     (c.rows-2.ensures.count ∙ form.shapes.hess.rows)
     (λ i. p.states * sizes.state i)

@@ -1,6 +1,6 @@
 use Rattle.std.proofs.Common.{length}
-use Rattle.approx_inverse.specs.Root.{IsRoot}
+use Rattle.approx_inverse.specs.Root.{HasRootSizes}
 use Rattle.approx_inverse.proofs.guess.Root.add_row.Given as goal
 
 abbrev pub invariant-loop-j : goal.invariant-loop-j
-invariant-loop-j l = IsRoot (length l.h.rows) l.self
+invariant-loop-j l = HasRootSizes (length l.h.rows) l.self

@@ -3,7 +3,7 @@ use Rattle.std.specs.Int.{w128}
 use Rattle.std.proofs.lemmas.Int.{to_z-of_z}
 use Rattle.integer_algebra.specs.Sums.{at}
 use Rattle.plant_condense.specs.Form.{solve_matrix}
-use Rattle.approx_inverse.specs.Condensed.{column_of, columns_of, entries_of}
+use Rattle.approx_inverse.specs.Condensed.{system_column, columns_of, entries_of}
 use Rattle.approx_inverse.specs.Spans.{cells}
 use Rattle.approx_inverse.proofs.WordLaws.{filled}
 use Rattle.approx_inverse.proofs.SizeLaws.{wide_column}
@@ -14,7 +14,7 @@ pub returns-then-not-put_column-clause-wide : goal.returns-then-not-put_column-c
 returns-then-not-put_column-clause-wide c = λ no.
     let n = entries_of c.args.c.now in
     let wide = rw (ap length c.deref_mut.ensures.value ∙ c.requires.work.column) at (c.if-not-put_column.ensures.wide refl) in
-    wide_column n (solve_matrix c.args.c.now) (columns_of c.args.c.now) (column_of c.args.c.now) c.args.c.now.floor c.args.f c.args.i c.requires.column wide
+    wide_column n (solve_matrix c.args.c.now) (columns_of c.args.c.now) (system_column c.args.c.now) c.args.c.now.floor c.args.f c.args.i c.requires.column wide
 
 pub solve_near-requires-clause-system : goal.solve_near-requires-clause-system
 solve_near-requires-clause-system c =

@@ -10,5 +10,5 @@ returns-clause-value c =
     let g : FitsSigned w128 c.args.term.mid = search rules in
     let h : FitsSigned w128 c.args.self.value.rad = search rules in
     let k : FitsSigned w128 c.args.term.rad = search rules in
-    let room = c.in_ok-reach.ensures.0 in
-    same_pair (omega (arith, ints, room, c.reach.ensures, c.args.self.within)) (omega (arith, ints, room, c.reach.ensures, c.args.self.within))
+    let room = c.in_ok-magnitude.ensures.0 in
+    same_pair (omega (arith, ints, room, c.magnitude.ensures, c.args.self.within)) (omega (arith, ints, room, c.magnitude.ensures, c.args.self.within))

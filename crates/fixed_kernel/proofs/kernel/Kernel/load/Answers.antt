@@ -2,7 +2,7 @@ use Rattle.std.proofs.Common.{◌≡◌, length, replicate, ap, sym, ◌∙◌, 
 use Rattle.std.specs.Vec.{with_items}
 use Rattle.std.proofs.lemmas.List.{with_items_is}
 use Rattle.qp_model.specs.Controller.{Numbers, numbers}
-use Rattle.qp_model.specs.Machine.{IsGridState}
+use Rattle.qp_model.specs.Machine.{IsAdmissible}
 use Rattle.fixed_kernel.specs.declared.kernel.Kernel.TheInside.{Inside}
 use Rattle.fixed_kernel.specs.Factors.{HasNarrowFactors}
 use Rattle.fixed_kernel.specs.Progress.{Progress, progress_of, IsReached}
@@ -19,7 +19,7 @@ start c =
     let r = c.self.invariant in
     let e = c.parts-c.ensures.value in
     let k : Inside = record { controller = i.controller; state = with_items i.state c.load_state.new.out; plan = with_items i.plan c.clear.new.numbers; multipliers = with_items i.multipliers c.clear-2.new.numbers; sums = with_items i.sums c.clear-3.new.numbers; made = 0; narrow = c.self.inside.narrow } in
-    let inside : IsGridState n c.args.state.now = c.in_default.ensures.inside.0 refl in
+    let inside : IsAdmissible n c.args.state.now = c.in_default.ensures.inside.0 refl in
     let state_kept : length c.load_state.new.out ≡ i.state.len = omega (arith, c.load_state.auto.out, c.deref_mut.ensures.len) in
     let plan_kept : length c.clear.new.numbers ≡ i.plan.len = omega (arith, c.clear.auto.numbers, c.deref_mut-2.ensures.len) in
     let multipliers_kept : length c.clear-2.new.numbers ≡ i.multipliers.len = omega (arith, c.clear-2.auto.numbers, c.deref_mut-3.ensures.len) in

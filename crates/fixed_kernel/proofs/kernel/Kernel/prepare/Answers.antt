@@ -2,7 +2,7 @@ use Rattle.std.proofs.Common.{◌≡◌, length, replicate, ap, sym, ◌∙◌, 
 use Rattle.std.specs.Vec.{with_items}
 use Rattle.std.proofs.lemmas.List.{with_items_is}
 use Rattle.qp_model.specs.Controller.{Numbers, numbers}
-use Rattle.qp_model.specs.Machine.{loaded, IsGridState}
+use Rattle.qp_model.specs.Machine.{loaded, IsAdmissible}
 use Rattle.fixed_kernel.specs.declared.kernel.Kernel.TheInside.{Inside}
 use Rattle.fixed_kernel.specs.Progress.{progress_of, IsReached}
 use Rattle.fixed_kernel.proofs.States.{low_inside}
@@ -24,7 +24,7 @@ start c =
     let low : n.low ≡ c.args.controller.now.low = ap (λ (m : Numbers). m.low) c.parts-c.ensures.value in
     let state : k.state.items ≡ loaded n c.args.controller.now.low =
     with_items_is c.in_ok-state.state c.load_state.new.out kept ∙ c.load_state.ensures ∙ ap (loaded n) (c.deref.ensures.value ∙ low) in
-    let inside : IsGridState n c.args.controller.now.low = subst (IsGridState n) low (low_inside n sized) in
+    let inside : IsAdmissible n c.args.controller.now.low = subst (IsAdmissible n) low (low_inside n sized) in
     fresh k n c.args.controller.now.low c.parts-c.ensures.value c.parts-c.ensures.sound inside state refl
     (c.in_ok-plan.ensures ∙ ap (λ (i : ℕ). replicate i (pos 0)) (omega arith))
     (c.in_ok-multipliers.ensures ∙ ap (λ (i : ℕ). replicate i (pos 0)) (sym sized.shaped.bounds))

@@ -4,8 +4,8 @@ use Rattle.std.proofs.lemmas.Int.{to_z-of_z}
 use Rattle.std.proofs.lemmas.List.{get_or_read}
 use Rattle.integer_algebra.specs.Sums.{at}
 use Rattle.qp_model.specs.Controller.{plan_length as entries}
-use Rattle.qp_model.specs.Machine.{Made}
-use Rattle.fixed_kernel.specs.Progress.{Progress, values_of}
+use Rattle.qp_model.specs.Machine.{Iterate}
+use Rattle.fixed_kernel.specs.Progress.{Progress, iterate_of}
 use Rattle.fixed_kernel.proofs.Reached.{sums_length}
 use Rattle.fixed_kernel.proofs.kernel.Kernel.sum.Goals as goal
 
@@ -22,4 +22,4 @@ returns c =
     let fits : FitsSigned w128 c.index.result.now = search rules in
     let read : c.index.result.now ≡ get_or k.sums.items c.args.j (pos 0) =
     get_or_read k.sums.items c.args.j c.index.result.now (omega (arith, lt, c.self.invariant.sound.form.sized.shaped.offsets, sums_length k c.self.invariant)) c.index.ensures (pos 0) in
-    to_z-of_z w128 _ fits ∙ read ∙ ap (λ (m : Made). at m.sums c.args.j) c.self.invariant.values ∙ ap (λ (p : Progress). at (values_of p).sums c.args.j) c.self.view_is
+    to_z-of_z w128 _ fits ∙ read ∙ ap (λ (m : Iterate). at m.sums c.args.j) c.self.invariant.values ∙ ap (λ (p : Progress). at (iterate_of p).sums c.args.j) c.self.view_is

@@ -5,7 +5,7 @@ use lib.Signed.{le_z}
 use Rattle.mat_int.specs.Row.{abs_sum}
 use Rattle.mat_int.specs.Matrix.{entry_of}
 use Rattle.integer_algebra.specs.Bounds.{absolute}
-use Rattle.integer_algebra.specs.Matrices.{others}
+use Rattle.integer_algebra.specs.Matrices.{off_diagonal_sum}
 use Rattle.integer_algebra.proofs.DominanceLaws.{others_and_own}
 use Rattle.mat_int.proofs.Dots.{abs_sum_more_le}
 use Rattle.mat_int.proofs.Indices.{row_size}
@@ -42,5 +42,5 @@ returns-clause-value c =
     let here : get_or row i (pos 0) ≡ entry_of m i i = ap (λ (r : List ℤ). get_or r i (pos 0)) c.row-row.ensures.value in
     let whole = ap abs_sum c.row-row.ensures.value ∙ row_size n m i (ap length (sym c.row-row.ensures.value) ∙ len) in
     rw (to_z-of_z w128 _ sum, to_z-of_z w128 _ size, to_z-of_z w128 _ rest, to_z-of_z w128 _ own, here)
-    (told c.in_ok-sum.sum c.abs.result (entry_of m i i) (others n (entry_of m) i)
-    (ap (λ (z : ℤ). others n (entry_of m) i +ℤ z) (size_is ∙ ap absolute here) ∙ others_and_own n (entry_of m) i c.requires.inside ∙ sym (sum_is ∙ ap pos whole)))
+    (told c.in_ok-sum.sum c.abs.result (entry_of m i i) (off_diagonal_sum n (entry_of m) i)
+    (ap (λ (z : ℤ). off_diagonal_sum n (entry_of m) i +ℤ z) (size_is ∙ ap absolute here) ∙ others_and_own n (entry_of m) i c.requires.inside ∙ sym (sum_is ∙ ap pos whole)))

@@ -1,0 +1,11 @@
+use Rattle.std.proofs.Common.{◌<◌, arith}
+use Rattle.qp_model.specs.Controller.{numbers}
+use Rattle.qp_model.specs.Parts.{design_of}
+use Rattle.qp_model.specs.LoopSize.{turn_absolute_sum}
+use Rattle.qp_model.proofs.SizeFacts.{greatest_term}
+use Rattle.closed_loop.proofs.size.greatest_turn_sum.Goals as goal
+
+pub returns-in_err-turn_absolute_sum : goal.returns-in_err-turn_absolute_sum
+returns-in_err-turn_absolute_sum c =
+    let lt : c.loop-i.i < c.args.design.now.states = omega arith in
+    rw c.from_residual.ensures (λ h. c.in_err-turn_absolute_sum.ensures (omega (arith, greatest_term c.loop-i.i c.args.design.now.states (turn_absolute_sum (design_of c.args.design.now) (numbers c.args.c.now)) lt, h)))

@@ -1,7 +1,0 @@
-use Rattle.std.proofs.Common.{ℕ, ◌<◌, length}
-use Rattle.hessian_check.specs.Curvature.{IsCertified}
-use Rattle.hessian_check.specs.GapRoom.{gap_at}
-use Rattle.hessian_check.proofs.exponents.first_certified.Given as goal
-
-abbrev pub invariant-loop-s : goal.invariant-loop-s
-invariant-loop-s l = (k : ℕ) → k < l.s → ¬ IsCertified (length l.gaps.cost.rows) (gap_at l.gaps k)

@@ -1,8 +1,0 @@
-use Rattle.std.proofs.Common.{length}
-use Rattle.mat_int.specs.Matrix.{entry_of}
-use Rattle.hessian_check.specs.Filling.{HasFirst}
-use Rattle.hessian_check.specs.Gaps.{mixed}
-use Rattle.hessian_check.proofs.gaps.mix_row.Given as goal
-
-abbrev pub invariant-loop-j : goal.invariant-loop-j
-invariant-loop-j l = HasFirst (length l.a.rows) (mixed l.x (entry_of l.a) l.y (entry_of l.b)) l.out l.i l.j

@@ -1,0 +1,5 @@
+use Rattle.hessian_check.proofs.CurvatureLaws as laws
+use Rattle.hessian_check.proofs.laws.matrix_law.Goals as goal
+
+pub returns : goal.returns
+returns c = laws.matrix_law

@@ -1,0 +1,20 @@
+use Rattle.std.proofs.Common.{◌^◌, ◌+◌, length, arith, refl}
+use Rattle.std.proofs.lemmas.List.FromFn.{get_or-map-range_with_len}
+use Rattle.integer_algebra.specs.Division.{ceil_div}
+use Rattle.qp_model.specs.Controller.{numbers}
+use Rattle.qp_model.specs.AbsoluteSums.{entry_absolute_sum}
+use Rattle.overflow_check.proofs.SumLaws.{sums_fit}
+use Rattle.overflow_check.proofs.absolute_sums.plan_entry_magnitude.Goals as goal
+
+pub unreachable-requires : goal.unreachable-requires
+unreachable-requires c =
+    c.in-None.ensures ((sums_fit (numbers c.args.parts.now) (2 ^ 126) c.requires.sound.room).entries c.args.j c.requires.in_range)
+
+pub returns : goal.returns
+returns c =
+    let n = numbers c.args.parts.now in
+    rw (
+      c.ceil_shift.ensures,
+      c.in-Some.ensures.1,
+      get_or-map-range_with_len (λ j. ceil_div (entry_absolute_sum n j) (2 ^ (n.fraction_bits + n.step_exponent))) 0 (length c.args.parts.now.t.items) c.args.j c.args.j 0 c.requires.in_range (omega arith),
+    ) refl

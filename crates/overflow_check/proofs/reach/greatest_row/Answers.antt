@@ -1,9 +1,0 @@
-use Rattle.std.proofs.Common.{length, arith}
-use Rattle.qp_model.specs.Controller.{numbers}
-use Rattle.qp_model.specs.AbsoluteSums.{row_reach}
-use Rattle.overflow_check.proofs.Greatest.{le-greatest}
-use Rattle.overflow_check.proofs.reach.greatest_row.Goals as goal
-
-pub returns-in_err-sum : goal.returns-in_err-sum
-returns-in_err-sum c =
-    rw c.from_residual.ensures (λ h. c.in_err-sum.ensures (omega (arith, le-greatest (row_reach (numbers c.args.c.now)) (length c.args.c.now.bound.items) c.loop-i.i (omega arith), h)))

@@ -1,0 +1,232 @@
+// The absolute sums, with a test of each product and sum.
+ghost use Rattle.std.specs.Prelude.{◌≡◌, ◌≤◌, ◌<◌, ◌+◌, ◌-◌, ◌*◌, ◌^◌, pos, map, max, take, length, unsigned_abs, slice_index_or, IfSome, IfNone};
+ghost use Rattle.std.specs.List.{range_with_len};
+ghost use Rattle.std.specs.Option.{SomeIff};
+ghost use Rattle.integer_algebra.specs.Division.{ceil_div};
+ghost use Rattle.qp_model.specs.Controller.{numbers, IsSized};
+ghost use Rattle.qp_model.specs.AbsoluteSums.{IsController, weighted_abs_sum, state_magnitudes, clamp_magnitudes, entry_absolute_sum, plan_magnitudes, row_absolute_sum, next_magnitude, sum_magnitude, greatest_of, greatest_sum};
+
+use qp_model::ControllerParts;
+
+/// The most states.
+const MAX_STATES: usize = 4;
+
+/// The most plan entries, of 3 inputs at 20 stages.
+const MAX_ENTRIES: usize = 60;
+
+/// The most rows.
+const MAX_ROWS: usize = 252;
+
+// The number, where it is at most 2^126.
+fn limited(x: u128) -> Option<u128>
+    ensures { SomeIff result (x ≤ 2 ^ 126) x }
+{
+    if x <= 1 << 126 { Some(x) } else { None }
+}
+
+// `2^k`.
+pub fn two_to(k: u32) -> u128
+    requires { k ≤ 127 }
+    ensures { result ≡ 2 ^ k }
+{
+    1 << k
+}
+
+// `x / 2^k`, rounded up.
+fn ceil_shift(x: u128, k: u32) -> u128
+    requires small { x ≤ 2 ^ 126 }
+    requires bits { k ≤ 88 }
+    ensures { result ≡ ceil_div x (2 ^ k) }
+{
+    (x + (two_to(k) - 1)) >> k
+}
+
+// The absolute values, each times its magnitudes.
+#[tactic(auto, using(crate::proofs::Greatest::sum_steps))]
+fn weighted_abs_sum(row: &[i128], magnitudes: &[u128]) -> Option<u128>
+    requires { length row.now ≡ length magnitudes.now }
+    ensures { SomeIff result (weighted_abs_sum row.now magnitudes.now < 2 ^ 128) (weighted_abs_sum row.now magnitudes.now) }
+{
+    let mut sum = 0u128;
+    for (i, x) in row.iter().enumerate() {
+        let product = x.unsigned_abs().checked_mul(magnitudes[i])?;
+        sum = sum.checked_add(product)?;
+    }
+    Some(sum)
+}
+
+// How far a state of the box lies from 0 in each coordinate; the list ends in zeros.
+fn state_magnitudes(c: &ControllerParts) -> [u128; MAX_STATES]
+    requires { IsSized (numbers c.now) }
+    ensures { take c.now.n result ≡ state_magnitudes (numbers c.now) }
+{
+    let mut magnitudes = [0; MAX_STATES];
+    for i in 0..c.n {
+        magnitudes[i] = c.lo[i].unsigned_abs().max(c.hi[i].unsigned_abs()) * two_to(c.f - c.g);
+    }
+    magnitudes
+}
+
+// How far the multipliers lie from 0.
+fn clamp_magnitudes(c: &ControllerParts) -> [u128; MAX_ROWS]
+    requires { IsSized (numbers c.now) }
+    ensures { take c.now.m result ≡ clamp_magnitudes (numbers c.now) }
+{
+    [c.clamp.unsigned_abs(); MAX_ROWS]
+}
+
+// `(own + offset * 2^f) * 2^s + dual`.
+#[tactic(auto, using(crate::proofs::Greatest::entry_parts))]
+fn entry_from(own: u128, offset: u128, dual: u128, f: u32, s: u32) -> Option<u128>
+    requires f { f ≤ 48 }
+    requires s { s ≤ 40 }
+    ensures { SomeIff result ((own + offset * 2 ^ f) * 2 ^ s + dual ≤ 2 ^ 126) ((own + offset * 2 ^ f) * 2 ^ s + dual) }
+{
+    let own = own.checked_add(offset.checked_mul(two_to(f))?)?;
+    limited(own.checked_mul(two_to(s))?.checked_add(dual)?)
+}
+
+// `planned + own + bound * 2^f`.
+#[tactic(auto, using(crate::proofs::Greatest::row_parts))]
+fn row_from(planned: u128, own: u128, bound: u128, f: u32) -> Option<u128>
+    requires { f ≤ 48 }
+    ensures { SomeIff result (planned + own + bound * 2 ^ f ≤ 2 ^ 126) (planned + own + bound * 2 ^ f) }
+{
+    let sum = planned.checked_add(own)?;
+    limited(sum.checked_add(bound.checked_mul(two_to(f))?)?)
+}
+
+// The absolute sum that plan entry `j` is made of.
+fn entry_absolute_sum(c: &ControllerParts, states: &[u128], clamps: &[u128], j: usize) -> Option<u128>
+    requires sized { IsSized (numbers c.now) }
+    requires states { states.now ≡ state_magnitudes (numbers c.now) }
+    requires clamps { clamps.now ≡ clamp_magnitudes (numbers c.now) }
+    requires in_range { j < length c.now.t.items }
+    ensures { SomeIff result (entry_absolute_sum (numbers c.now) j ≤ 2 ^ 126) (entry_absolute_sum (numbers c.now) j) }
+{
+    let own = weighted_abs_sum(c.p_mat.row(j), states)?;
+    let dual = weighted_abs_sum(c.w_mat.row(j), clamps)?;
+    entry_from(own, c.t[j].unsigned_abs(), dual, c.f, c.s)
+}
+
+// How far the plan's entries lie from 0, and the greatest of the sums that they are made of.
+#[derive(Clone, Copy)]
+struct PlanMagnitudes {
+    magnitudes: [u128; MAX_ENTRIES],
+    greatest: u128,
+}
+
+// The list ends in zeros.
+#[tactic(auto, using(crate::proofs::Greatest::greatest_steps))]
+fn plan_magnitudes(c: &ControllerParts, states: &[u128], clamps: &[u128]) -> Option<PlanMagnitudes>
+    requires sized { IsSized (numbers c.now) }
+    requires states { states.now ≡ state_magnitudes (numbers c.now) }
+    requires clamps { clamps.now ≡ clamp_magnitudes (numbers c.now) }
+    ensures wide { IfNone result (¬ (greatest_of (map (entry_absolute_sum (numbers c.now)) (range_with_len 0 (length c.now.t.items))) ≤ 2 ^ 126)) }
+    ensures greatest { IfSome result (λ r. r.greatest ≡ greatest_of (map (entry_absolute_sum (numbers c.now)) (range_with_len 0 (length c.now.t.items)))) }
+    ensures magnitudes { IfSome result (λ r. take (length c.now.t.items) r.magnitudes ≡ plan_magnitudes (numbers c.now)) }
+{
+    let mut magnitudes = [0; MAX_ENTRIES];
+    let mut greatest = 0;
+    for j in 0..c.t.len() {
+        let sum = entry_absolute_sum(c, states, clamps, j)?;
+        magnitudes[j] = ceil_shift(sum, c.f + c.s);
+        greatest = sum.max(greatest);
+    }
+    Some(PlanMagnitudes { magnitudes, greatest })
+}
+
+// The absolute sum of row `i`.
+fn row_absolute_sum(c: &ControllerParts, states: &[u128], plan: &[u128], i: usize) -> Option<u128>
+    requires sized { IsSized (numbers c.now) }
+    requires states { states.now ≡ state_magnitudes (numbers c.now) }
+    requires plan { plan.now ≡ plan_magnitudes (numbers c.now) }
+    requires in_range { i < length c.now.bound.items }
+    ensures { SomeIff result (row_absolute_sum (numbers c.now) i ≤ 2 ^ 126) (row_absolute_sum (numbers c.now) i) }
+{
+    let planned = weighted_abs_sum(c.g_mat.row(i), plan)?;
+    let own = weighted_abs_sum(c.e_mat.row(i), states)?;
+    row_from(planned, own, c.bound[i].unsigned_abs(), c.f)
+}
+
+// The greatest of the rows' sums and of the multipliers before they are clamped.
+#[tactic(auto, using(crate::proofs::Greatest::greatest_steps))]
+fn greatest_row(c: &ControllerParts, states: &[u128], plan: &[u128]) -> Option<u128>
+    requires sized { IsSized (numbers c.now) }
+    requires states { states.now ≡ state_magnitudes (numbers c.now) }
+    requires plan { plan.now ≡ plan_magnitudes (numbers c.now) }
+    ensures { SomeIff result (greatest_of (map (row_absolute_sum (numbers c.now)) (range_with_len 0 (length c.now.bound.items))) ≤ 2 ^ 126) (max (greatest_of (map (row_absolute_sum (numbers c.now)) (range_with_len 0 (length c.now.bound.items)))) (greatest_of (map (next_magnitude (numbers c.now)) (range_with_len 0 (length c.now.bound.items))))) }
+{
+    let mut greatest = 0;
+    for i in 0..c.bound.len() {
+        let sum = row_absolute_sum(c, states, plan, i)?;
+        let next = c.clamp.unsigned_abs() + ceil_shift(sum, c.f);
+        greatest = sum.max(next).max(greatest);
+    }
+    Some(greatest)
+}
+
+// The greatest of the sums of a run.
+#[tactic(auto, using(crate::proofs::Greatest::greatest_steps))]
+fn greatest_run_sum(c: &ControllerParts, plan: &[u128]) -> Option<u128>
+    requires { plan.now ≡ plan_magnitudes (numbers c.now) }
+    ensures { SomeIff result (greatest_of (map (sum_magnitude (numbers c.now)) (range_with_len 0 (length c.now.t.items))) < 2 ^ 128) (greatest_of (map (sum_magnitude (numbers c.now)) (range_with_len 0 (length c.now.t.items)))) }
+{
+    let mut greatest = 0;
+    for magnitudes in plan {
+        greatest = u128::from(c.steps).checked_mul(*magnitudes)?.max(greatest);
+    }
+    Some(greatest)
+}
+
+// The greatest number.
+#[tactic(auto, using(crate::proofs::Greatest::greatest_steps))]
+fn greatest_of(numbers: &[u128]) -> u128
+    ensures { result ≡ greatest_of numbers.now }
+{
+    let mut greatest = 0;
+    for x in numbers {
+        greatest = greatest.max(*x);
+    }
+    greatest
+}
+
+// The greatest absolute sum, from the reaches of states and multipliers.
+fn greatest_within(c: &ControllerParts, states: &[u128], clamps: &[u128]) -> Option<i128>
+    requires sized { IsSized (numbers c.now) }
+    requires states { states.now ≡ state_magnitudes (numbers c.now) }
+    requires clamps { clamps.now ≡ clamp_magnitudes (numbers c.now) }
+    ensures { SomeIff result (greatest_sum (numbers c.now) ≤ 2 ^ 126) (pos (greatest_sum (numbers c.now))) }
+{
+    let plan = plan_magnitudes(c, states, clamps)?;
+    let magnitudes = &plan.magnitudes[..c.t.len()];
+    let rows = greatest_row(c, states, magnitudes)?;
+    let sums = greatest_run_sum(c, magnitudes)?;
+    let greatest = greatest_of(states).max(plan.greatest).max(rows).max(sums);
+    Some(limited(greatest)? as i128)
+}
+
+/// The greatest absolute sum: no value that the machine meets in a run from a state of the box is above it. None where
+/// it is above `2^126`.
+pub fn greatest_sum(parts: &ControllerParts) -> Option<i128>
+    requires { IsSized (numbers parts.now) }
+    ensures { SomeIff result (greatest_sum (numbers parts.now) ≤ 2 ^ 126) (pos (greatest_sum (numbers parts.now))) }
+{
+    let states = state_magnitudes(parts);
+    let clamps = clamp_magnitudes(parts);
+    greatest_within(parts, &states[..parts.n], &clamps[..parts.m])
+}
+
+/// How far plan entry `j` lies from 0 at most in a run from a state of the box, over `2^f`.
+pub fn plan_entry_magnitude(parts: &ControllerParts, j: usize) -> u128
+    requires sound { IsController (numbers parts.now) }
+    requires in_range { j < length parts.now.t.items }
+    ensures { result ≡ slice_index_or (plan_magnitudes (numbers parts.now)) j 0 }
+{
+    let states = state_magnitudes(parts);
+    let clamps = clamp_magnitudes(parts);
+    match entry_absolute_sum(parts, &states[..parts.n], &clamps[..parts.m], j) {
+        Some(sum) => ceil_shift(sum, parts.f + parts.s),
+        None => unreachable!(),
+    }
+}

@@ -1,9 +1,0 @@
-use Rattle.std.proofs.Common.{◌≡◌}
-use Rattle.qp_model.specs.Parts.{design_of}
-use Rattle.qp_model.specs.Policy.{plans_of}
-use Rattle.qp_model.specs.Quantities.{greatest}
-use Rattle.qp_model.specs.CornerSizes.{plan_reach}
-use Rattle.qp_model.proofs.corner_sizes.policy_reach.Given as goal
-
-abbrev pub invariant-loop-c : goal.invariant-loop-c
-invariant-loop-c l = l.most ≡ greatest l.c (plan_reach (design_of l.parts) (plans_of l.policy))
