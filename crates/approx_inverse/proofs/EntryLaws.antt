@@ -10,33 +10,11 @@ use Rattle.integer_algebra.proofs.SumLaws.{total_same, total_scale, total_add, t
 use Rattle.integer_algebra.proofs.BoundLaws.{within_nonneg, within_times, absolute_nonneg, absolute_square}
 use Rattle.integer_algebra.proofs.RingLaws.{mul_assoc_z}
 use Rattle.integer_algebra.proofs.PowerLaws.{two-pow-more}
+use Rattle.integer_algebra.proofs.StrongLaws.{small_image}
 use Rattle.integer_algebra.proofs.Quoting.{by_ring, quotes}
 use Rattle.qp_model.specs.Convex.{IsConvex}
 use Rattle.qp_model.specs.GoodSolution.{IsGood}
 use Rattle.approx_inverse.specs.Laws.{GoodEntryLaw}
-
--- the numbers of the greatest entry m: least m^2 ≤ m sum b, so least m ≤ sum b
-shrunk : (least m squares form bounds : ℤ) → pos 0 ≤ℤ least → pos 0 ≤ℤ m → pos 0 ≤ℤ bounds → square m ≤ℤ squares → (least *ℤ squares) ≤ℤ form → form ≤ℤ (m *ℤ bounds) →
-    (least *ℤ m) ≤ℤ bounds
-shrunk c m s q b pc pm pb h k l = by_lt_z (pos 0) m
-    (λ o. cancel-le_z m _ _ o (le_by (add-le-add_z (mul-le-mul_left_z c pc h) (add-le-add_z k l))
-    (by_ring (c ∷ m ∷ s ∷ q ∷ b ∷ []) (search quotes depth 60 fits 20000) refl)))
-    (λ o. (let e : m ≡ pos 0 = omega (arith, ints) in rw e (le_by pb (by_ring (c ∷ b ∷ []) (search quotes depth 60 fits 20000) refl))))
-
--- where the form is at least `least` times the squares, and each entry of the image is within b
-small : (n : ℕ) (h : ℕ → ℕ → ℤ) (least : ℤ) (u b : ℕ → ℤ) → pos 0 ≤ℤ least → (least *ℤ total n (λ j. square (u j))) ≤ℤ dot n u (image n h u) →
-    ((j : ℕ) → j < n → IsWithin (b j) (image n h u j)) → Greatest n (λ j. absolute (u j)) → (j : ℕ) → j < n → (least *ℤ absolute (u j)) ≤ℤ total n b
-small n h least u b p strong within g j l =
-    le_trans_z (mul-le-mul_left_z least p (g.top j l))
-    (shrunk least (absolute (u g.index)) (total n (λ j. square (u j))) (dot n u (image n h u)) (total n b) p (absolute_nonneg (u g.index))
-    (total_nonneg n b (λ i m. within_nonneg (within i m)))
-    (rw (absolute_square (u g.index)) (term-le-total n (λ j. square (u j)) (λ i m. square_nonneg_z (u i)) g.index g.inside))
-    strong
-    (rw (← (total_scale n (absolute (u g.index)) b)) (total_mono n _ _ (λ i m.
-    le_trans_z {b = b i *ℤ absolute (u i)}
-    (rw (*ℤ_comm (u i) (image n h u i)) (within_times (b i) (image n h u i) (u i) (within i m)).below)
-    (rw (*ℤ_comm (absolute (u g.index)) (b i))
-    (mul-le-mul_left_z (b i) (within_nonneg (within i m)) (g.top i m)))))))
 
 -- ---- twice the matrix
 twice_image : (n : ℕ) (h : ℕ → ℕ → ℤ) (x : ℕ → ℤ) (i : ℕ) → image n (λ i j. pos 2 *ℤ h i j) x i ≡ pos 2 *ℤ image n h x i
@@ -75,7 +53,7 @@ pub entry : GoodEntryLaw
 entry zero h floor f c x convex good j l = absurd (omega arith)
 entry (suc n) h floor f c x convex good j l =
     rw (← (sum_of_bounds (suc n) h f c))
-    (small (suc n) (λ i j. pos 2 *ℤ h i j) (pos 2 *ℤ floor) x (λ j. pos (2 ^ (f + 1)) *ℤ absolute (c j) +ℤ h j j) (positive floor convex.positive)
+    (small_image (suc n) (λ i j. pos 2 *ℤ h i j) (pos 2 *ℤ floor) x (λ j. pos (2 ^ (f + 1)) *ℤ absolute (c j) +ℤ h j j) (positive floor convex.positive)
     (rw (twice_form (suc n) h x) (doubled floor _ _ (convex.curved x)))
     (λ i m. rw (twice_image (suc n) h x i) (within_of (image (suc n) h x i) (h i i) (c i) (2 ^ f) (2 ^ (f + 1)) (two-pow-more f) (good i m).0 (good i m).1))
     (greatest n (λ j. absolute (x j))) j l)

@@ -7,18 +7,8 @@ ghost use Rattle.integer_algebra.specs.Division.{ceil_div};
 ghost use Rattle.mat_int.specs.Matrix.{entry_of};
 ghost use Rattle.approx_inverse.specs.DescentSize.{greatest_row, descent_sum, descent_of_column};
 
+use frac_scaled::{limited_product, limited_sum};
 use mat_int::Mat;
-use qp_model::limited_product;
-
-// `a + b`, where it is at most `2^126`.
-fn limited_sum(a: u128, b: u128) -> Option<u128>
-    ensures { SomeIff result (a + b ≤ 2 ^ 126) (a + b) }
-{
-    match a.checked_add(b) {
-        Some(sum) if sum <= 1 << 126 => Some(sum),
-        _ => None,
-    }
-}
 
 // The sum of the absolute values.
 fn abs_sum(xs: &[i128]) -> Option<u128>

@@ -9,7 +9,7 @@ ghost use Rattle.bound_report.specs.Document.{members_of, object_of, IsJsonLine}
 ghost use Rattle.serde_json.specs.Data.{string, put};
 ghost use Rattle.serde_json.specs.View.{members_view};
 
-use qp_model::{Bounds, line_text};
+use qp_model::{Bounds, push_line};
 use serde_json::{Map, Value, put};
 use std::alloc::{AllocError, Global};
 
@@ -93,20 +93,6 @@ fn push_bounds(alloc: Global, text: &mut String, b: &Bounds) -> Result<(), Alloc
     push_line(alloc, text, "violation", &[b.violation, 1 << 40])?;
     push_line(alloc, text, "gap", &[b.gap, 1 << 40])?;
     push_line(alloc, text, "undercut", &[b.undercut, 1 << 40])
-}
-
-// A line, at the end.
-fn push_line(
-    alloc: Global,
-    text: &mut String,
-    key: &str,
-    numbers: &[i128],
-) -> Result<(), AllocError>
-    ensures { OnOk result (string_bytes text.new ≡ string_bytes text.old ++ text_of (line_of key.now numbers.now ∷ [])) }
-{
-    let line = line_text(alloc, key, numbers)?;
-    text.push_str(line.as_str())?;
-    text.push('\n')
 }
 
 #[cfg(test)]

@@ -10,7 +10,8 @@ ghost use Rattle.qp_model.specs.LoopSize.{coordinate_magnitude, state_absolute_s
 
 use frac_scaled::scaled;
 use overflow_check::{Controller, plan_entry_magnitude};
-use qp_model::{ControllerParts, Design, DesignParts, limited_product, limited_sum};
+use frac_scaled::{limited_product, limited_sum};
+use qp_model::{ControllerParts, Design, DesignParts};
 
 // What a number over `2^g` is times, to be over the averaged plan's denominator.
 pub fn grid_scale(c: &ControllerParts) -> i128
@@ -62,7 +63,8 @@ fn input_term(design: &DesignParts, c: &ControllerParts, i: usize, l: usize) -> 
     requires matched { IsFor (numbers c.now) (design_of design.now) }
     requires row { i < design.now.states }
     requires column { l < design.now.inputs }
-    ensures { let term = unsigned_abs ((design_of design.now).plant_b i l) * (c.now.steps * slice_index_or (plan_magnitudes (numbers c.now)) l 0) in SomeIff result (term ≤ 2 ^ 126) term }
+    ensures { let term = unsigned_abs ((design_of design.now).plant_b i l) * (c.now.steps * slice_index_or (plan_magnitudes (numbers c.now)) l 0) in
+        SomeIff result (term ≤ 2 ^ 126) term }
 {
     let most = u128::from(c.steps) * plan_entry_magnitude(c, l);
     limited_product(design.b.at(i, l).unsigned_abs(), most)

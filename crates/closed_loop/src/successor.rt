@@ -72,7 +72,8 @@ pub fn next_state(design: &Design, k: &Kernel, state: &[i128], next: &mut [i128]
     requires narrow { turn_size (design_of design.now.parts) k.now.controller ≤ 2 ^ 126 }
     requires next { length next.old ≡ k.now.controller.states }
     ensures value { next.new ≡ successor (design_of design.now.parts) k.now.controller state.now }
-    ensures nearest { (i : ℕ) → i < k.now.controller.states → IsNearest (next_sum (design_of design.now.parts) k.now.controller state.now i) (next_over (design_of design.now.parts) k.now.controller) (at next.new i) }
+    ensures nearest { (i : ℕ) → i < k.now.controller.states →
+        IsNearest (next_sum (design_of design.now.parts) k.now.controller state.now i) (next_over (design_of design.now.parts) k.now.controller) (at next.new i) }
 {
     let parts = design.parts();
     for i in 0..next.len() {

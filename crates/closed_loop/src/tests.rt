@@ -15,12 +15,10 @@ fn matrix(
     cols: usize,
     rows: &[&[i128]],
 ) -> Result<Mat, AllocError> {
-    let mut made = Mat::zero(alloc, 0, cols)?;
-    for row in rows {
-        assert!(rt; row.len() == made.cols());
-        made.push_row(alloc, row)?;
+    match Mat::from_rows(alloc, cols, rows)? {
+        Some(mat) => Ok(mat),
+        None => panic!(rt; "rows of several lengths"),
     }
-    Ok(made)
 }
 
 // A design with this plant of one input, over `den`, and no costs.

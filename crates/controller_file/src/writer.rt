@@ -8,7 +8,7 @@ ghost use Rattle.controller_file.specs.Lines.{head_text};
 
 use mat_int::Mat;
 use overflow_check::Controller;
-use qp_model::{ControllerParts, line_text};
+use qp_model::{ControllerParts, push_line};
 use std::alloc::{AllocError, Global};
 
 /// The one text of a controller: lines of a word and numbers, the header `mpc-controller 1` first and `end` last.
@@ -70,19 +70,4 @@ fn push_rows(alloc: Global, text: &mut String, key: &str, rows: &Mat) -> Result<
         push_line(alloc, text, key, rows.row(i))?;
     }
     Ok(())
-}
-
-// A line, at the end.
-fn push_line(
-    alloc: Global,
-    text: &mut String,
-    key: &str,
-    numbers: &[i128],
-) -> Result<(), AllocError>
-    ensures text { OnOk result (string_bytes text.new ≡ string_bytes text.old ++ text_of (line_of key.now numbers.now ∷ [])) }
-    ensures word { OnOk result (All (FitsSigned w128) numbers.now) }
-{
-    let line = line_text(alloc, key, numbers)?;
-    text.push_str(line.as_str())?;
-    text.push('\n')
 }

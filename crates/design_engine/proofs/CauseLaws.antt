@@ -99,23 +99,23 @@ module _ (d : Design) (t : Targets) (plans : Plans) where
   wide_told CornerSlack h = inr (h.0, inl (refl, h.1))
   wide_told CornerCost h = inr (h.0, inr (h.1.0, inl (refl, h.1.1)))
   wide_told Multiplier h = from_margin _ h.0 h.1 (inl (refl, h.2))
-  wide_told Hessian h = from_margin _ h.0 h.1 (inr (h.2, inl (refl, h.3)))
-  wide_told Rows h = from_margin _ h.0 h.1 (inr (h.2, inr (h.3, inl (refl, h.4))))
-  wide_told curvature_quantity h = from_margin _ h.0 h.1 (inr (h.2, inr (h.3, inr (h.4, inl (refl, h.5)))))
+  wide_told Hessian h = from_margin _ h.0 h.1.0 (inr (h.1.1, inl (refl, h.2)))
+  wide_told Rows h = from_margin _ h.0 h.1.0.0 (inr (h.1.0.1, inr (h.1.1, inl (refl, h.2))))
+  wide_told curvature_quantity h = from_margin _ h.0 h.1.0.0.0 (inr (h.1.0.0.1, inr (h.1.0.1, inr (h.1.1, inl (refl, h.2)))))
   wide_told Error h = from_steps _ h.0 h.1 h.2 (inl (refl, h.3))
   wide_told Descent h = from_bits _ h.0 h.1 h.2 h.3 (inl (refl, h.4))
-  wide_told Width h = from_bits _ h.0 h.1 h.2 h.3 (inr (h.4, inl (refl, h.5)))
+  wide_told Width h = from_bits _ h.0 h.1 h.2 h.3.0 (inr (h.3.1, inl (refl, h.4)))
   wide_told Turn h = absurd h
 
   told : (e : Refusal) → HasCause d t plans e → Whole d t plans e
   told Memory h = absurd h
   told (NoMargin corner row slack) h = from_room _ h.0 (inl (corner, row, slack, refl, h.1))
   told Curvature h = from_sizes _ h.0 h.1 (inl (refl, h.2))
-  told (TooManySteps k) h = from_sizes _ h.0 h.2 (inr (h.1, h.3, inl (steps_same _ _ h.5, h.4)))
+  told (TooManySteps k) h = from_sizes _ h.0 h.2 (inr (h.1, h.3, inl (steps_same _ _ h.4.1, h.4.0)))
     where
       steps_same : (j n : ℤ) → j ≡ n → TooManySteps j ≡ TooManySteps n
       steps_same j n e = rw e refl
-  told (TooFine eps) h = from_steps _ h.0 h.1 h.2 (inr (h.3, inl (fine_same _ _ h.5, h.4)))
+  told (TooFine eps) h = from_steps _ h.0 h.1 h.2 (inr (h.3, inl (fine_same _ _ h.4.1, h.4.0)))
     where
       fine_same : (j n : ℤ) → j ≡ n → TooFine j ≡ TooFine n
       fine_same j n e = rw e refl

@@ -1,16 +1,23 @@
+-- The lemmas by topic.
+
+-- ---- the promise, and the targets
 pub mod TargetLaws
 pub mod PromiseFacts
 pub mod RowChoice
 pub mod PromiseLaws
+-- ---- the quantity `width`
 pub mod Monotone
 pub mod Tables
+pub mod Bounds
+-- ---- the parts of a controller
 pub mod Frames
 pub mod Roundings
-pub mod RowNumbers
+-- ---- one refusal, one controller but for its gains
 pub mod TestLaws
 pub mod OneOfEach
 pub mod CauseLaws
-pub mod Bounds
+pub mod AgreementLaws
+-- ---- what `generate` answers
 pub mod GenerationFacts
 pub mod RefusalFacts
 pub mod PrintedFacts

@@ -172,7 +172,7 @@ second w = pos (ceil_div (errors w) (bound w))
 -- a feasible plan near the averaged one, where its residuals are at most v / v_over
 near : (w : Point) (v v_over : ℤ) → pos 0 ≤ℤ v → pos 0 <ℤ v_over → ExceedsNoMore (design w) (at w.xi) (over w) (plan w) v v_over →
     HasRepair (design w) (at w.xi) (over w) (plan w) (pos (bound w) *ℤ v) v_over
-near w = repair_law (design w) 1 w.plans (margin_of w.b) (sound_at w) w.backed.policy w.backed.margin w.backed.slack (at w.xi) w.inside
+near w = repair_law (design w) 1 w.plans (margin_of w.b) (sound_at w) w.backed.policy (record { slacks = w.backed.margin.slacks; costs = w.backed.margin.costs }) w.backed.slack (at w.xi) w.inside
     (over w) (plan w) (over_positive w)
 
 -- one that costs at most R times the greatest residual more
@@ -224,9 +224,11 @@ certified_at run w = record {
   values = rw w.backed.bounds.width
       (values_law w.c w.xi w.backed.controller (grid_state (design w) w.c w.xi w.backed.made.sizes w.long w.inside));
   steps = sym w.backed.bounds.steps;
-  rows = λ i l. rw w.backed.bounds.violation (rows_at run w i l);
-  costs = λ r t o f. rw w.backed.bounds.gap (costs_at run w r t o f);
-  repair = rw (w.backed.bounds.undercut, w.backed.bounds.violation) (repair_at w (violation_of w) (rows_at run w));
+  plan = record {
+    rows = λ i l. rw w.backed.bounds.violation (rows_at run w i l);
+    costs = λ r t o f. rw w.backed.bounds.gap (costs_at run w r t o f);
+    repair = rw (w.backed.bounds.undercut, w.backed.bounds.violation) (repair_at w (violation_of w) (rows_at run w));
+  };
 }
 
 pub certified_from : MachineRunLaw → CertifiedLaw

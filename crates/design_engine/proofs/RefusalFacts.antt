@@ -89,8 +89,8 @@ module _ (d : Design) (t : Targets) (plans : Plans) where
   form_wide m h r CornerSlack k = absurd k
   form_wide m h r CornerCost k = absurd k
   form_wide m h r Multiplier k = absurd k
-  form_wide m h r Hessian k = (m, h, r, k.1)
-  form_wide m h r Rows k = (m, h, r, k.1.0, k.1.1)
+  form_wide m h r Hessian k = (m, (h, r), k.1)
+  form_wide m h r Rows k = (m, ((h, r), k.1.0), k.1.1)
   form_wide m h r curvature_quantity k = absurd k
   form_wide m h r Error k = absurd k
   form_wide m h r Descent k = absurd k
@@ -114,7 +114,7 @@ module _ (d : Design) (t : Targets) (plans : Plans) where
       (e : Refusal) → e ≡ of_curvature fault → IsRefused d t plans e
   curvature_refused m h n k l r curvature_memory is wide other flat e f = inl f
   curvature_refused m h n k l r (curvature_wide quantity) is wide other flat e f =
-      let g = other quantity is in rw (f, g) (inr (m, h, n, k, l, wide.0 (rw g at is)))
+      let g = other quantity is in rw (f, g) (inr (m, (((h, n), k), l), wide.0 (rw g at is)))
   curvature_refused m h n k l r NoStep is wide other flat e f = rw f (inr (
     m,
     record {
@@ -134,7 +134,7 @@ module _ (d : Design) (t : Targets) (plans : Plans) where
   pub steps_refused : (m : Margin) (s r h : ℕ) (k : ℤ) → PassesSizes d t plans m → IsExponentOf d s → r ≡ multiplier_of m → h ≡ half_target t →
       (step_count s r h ≤ 2 ^ 22 → ⊥) → k ≡ pos (step_count s r h) →
       (e : Refusal) → e ≡ TooManySteps k → HasCause d t plans e
-  steps_refused m s r h k passes exponent f g refuted is e j = rw j (m, s, passes, exponent, rw (f, g) at (above (step_count s r h) refuted), rw (f, g) at is)
+  steps_refused m s r h k passes exponent f g refuted is e j = rw j (m, s, passes, exponent, (rw (f, g) at (above (step_count s r h) refuted), rw (f, g) at is))
     where
       above : (n : ℕ) → (n ≤ 2 ^ 22 → ⊥) → 2 ^ 22 < n
       above n refuted = omega (arith, refuted)
@@ -150,7 +150,7 @@ module _ (d : Design) (t : Targets) (plans : Plans) where
   pub choice_refused : (m : Margin) (s r limit : ℕ) (sums : errors.ErrorSums) (eps : ℤ) → PassesSteps d t plans m s → r ≡ multiplier_of m → limit ≡ error_limit t (multiplier_of m) →
       error_size d r ≤ 2 ^ 126 → sums ≡ error_sums_of d r → limit < epsilon sums 48 → eps ≡ pos (epsilon sums 48) →
       (e : Refusal) → e ≡ TooFine eps → HasCause d t plans e
-  choice_refused m s r limit sums eps passes f g size k fine is e j = rw j (m, s, passes, rw f at size, rw (k, f, g) at fine, rw (k, f) at is)
+  choice_refused m s r limit sums eps passes f g size k fine is e j = rw j (m, s, passes, rw f at size, (rw (k, f, g) at fine, rw (k, f) at is))
 
   -- ---- the gains and the width
   pub solve_refused : (m : Margin) (s f : ℕ) → PassesBits d t plans m s f → (fault : SolveFault) → IsFault fault (2 ^ 126 < descent_size d f) →
@@ -162,7 +162,7 @@ module _ (d : Design) (t : Targets) (plans : Plans) where
       k ≡ step_count s (multiplier_of m) (half_target t) → (fault : WidthFault) → IsWidthFault fault (2 ^ 126 < width_size d r s k f) →
       (e : Refusal) → e ≡ of_width fault → IsRefused d t plans e
   width_refused m s f r k passes size g i width_memory h e j = inl j
-  width_refused m s f r k passes size g i (width_wide quantity) h e j = rw (j, h.0) (inr (m, s, f, passes, size, rw (g, i) at h.1))
+  width_refused m s f r k passes size g i (width_wide quantity) h e j = rw (j, h.0) (inr (m, s, f, (passes, size), rw (g, i) at h.1))
 
 -- a choice, by other names of its numbers
 pub choice_same : (sums other : errors.ErrorSums) (low from limit most f : ℕ) → sums ≡ other → low ≡ from → limit ≡ most → IsChoice sums low limit f → IsChoice other from most f

@@ -18,7 +18,7 @@ use Rattle.qp_model.specs.Runs.{Holds}
 use Rattle.qp_model.specs.declared.design_parts.DesignParts.{DesignParts}
 use Rattle.qp_model.proofs.RowLaws.{plan_number}
 use Rattle.qp_model.proofs.SizeFacts.{some_row, square_under}
-use Rattle.design_engine.proofs.RowNumbers.{state_number, bound_number}
+use Rattle.qp_model.proofs.RowLaws.{state_number, bound_number}
 use Rattle.plant_condense.specs.Form.{IsFormOf}
 use Rattle.plant_condense.specs.declared.condensed.Condensed.{Condensed}
 use Rattle.approx_inverse.proofs.DesignLaws.{solvable_from}

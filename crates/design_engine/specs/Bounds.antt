@@ -1,7 +1,7 @@
 -- The bounds that are printed of a controller.
 use Rattle.std.specs.Prelude.{◌≡◌, ℕ, pos, unsigned_abs}
 use Rattle.qp_model.specs.Design.{Design}
-use Rattle.qp_model.specs.Choices.{multiplier_bound, violation_bound, undercut_bound}
+use Rattle.qp_model.specs.Choices.{multiplier_of, violation_bound, undercut_bound}
 use Rattle.qp_model.specs.Errors.{error_sums_of, epsilon}
 use Rattle.qp_model.specs.Controller.{Numbers}
 use Rattle.qp_model.specs.declared.bounds.Bounds.{Bounds}
@@ -11,9 +11,9 @@ use Rattle.qp_model.specs.declared.bounds.Margin.{Margin}
 abbrev pub margin_of : Bounds → Margin
 margin_of b = record { units = b.margin; cost = b.cost }
 
--- R, of a margin
-abbrev pub multiplier_of : Margin → ℕ
-multiplier_of m = multiplier_bound (unsigned_abs m.units) (unsigned_abs m.cost)
+-- R, of what is printed
+abbrev pub printed_multiplier : Bounds → ℕ
+printed_multiplier b = multiplier_of (margin_of b)
 
 -- what the errors of a step cost, over 2^40
 abbrev pub errors_cost : Design → ℕ → ℕ → ℕ
@@ -21,12 +21,13 @@ errors_cost d r f = epsilon (error_sums_of d r) f
 
 -- the bounds print the controller's numbers, and the three bounds over 2^40
 pub record AreBoundsOf (d : Design) (c : Numbers) (b : Bounds) : Type 0 where
-  pub multiplier : b.multiplier ≡ pos (multiplier_of (margin_of b))
+  pub multiplier : b.multiplier ≡ pos (printed_multiplier b)
   pub step : b.step ≡ c.step_exponent
   pub steps : b.steps ≡ c.steps
   pub bits : b.bits ≡ c.fraction_bits
   pub width : b.width ≡ c.width
   pub words : b.words ≡ c.words
-  pub violation : b.violation ≡ pos (violation_bound c.step_exponent (multiplier_of (margin_of b)) c.steps (errors_cost d (multiplier_of (margin_of b)) c.fraction_bits))
-  pub gap : b.gap ≡ pos (errors_cost d (multiplier_of (margin_of b)) c.fraction_bits)
-  pub undercut : b.undercut ≡ pos (undercut_bound (multiplier_of (margin_of b)) (unsigned_abs b.violation))
+  pub violation : b.violation ≡
+      pos (violation_bound c.step_exponent (printed_multiplier b) c.steps (errors_cost d (printed_multiplier b) c.fraction_bits))
+  pub gap : b.gap ≡ pos (errors_cost d (printed_multiplier b) c.fraction_bits)
+  pub undercut : b.undercut ≡ pos (undercut_bound (printed_multiplier b) (unsigned_abs b.violation))

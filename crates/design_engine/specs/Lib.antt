@@ -8,3 +8,4 @@ pub mod Built
 pub mod Refusals
 pub mod Order
 pub mod Faults
+pub mod Agreement

@@ -3,7 +3,7 @@ use Rattle.std.specs.Prelude.{◌≡◌, ◌≤◌, ◌^◌, pos, ◌*ℤ◌, �
 use Rattle.qp_model.specs.Parts.{IsDesign, design_of}
 use Rattle.qp_model.specs.Policy.{Plans, IsPolicyFor}
 use Rattle.qp_model.specs.Margin.{IsMargin}
-use Rattle.qp_model.specs.Choices.{step_count, multiplier_of}
+use Rattle.qp_model.specs.Choices.{step_count}
 use Rattle.qp_model.specs.Built.{IsDerivedFrom}
 use Rattle.qp_model.specs.Controller.{Numbers}
 use Rattle.qp_model.specs.AbsoluteSums.{IsController}
@@ -11,7 +11,7 @@ use Rattle.qp_model.specs.Certified.{IsCertified}
 use Rattle.qp_model.specs.declared.design_parts.DesignParts.{DesignParts}
 use Rattle.qp_model.specs.declared.bounds.Bounds.{Bounds}
 use Rattle.design_engine.specs.Targets.{targets_of, half_target, error_limit, IsWithinTargets}
-use Rattle.design_engine.specs.Bounds.{margin_of, errors_cost, AreBoundsOf}
+use Rattle.design_engine.specs.Bounds.{margin_of, printed_multiplier, errors_cost, AreBoundsOf}
 
 -- what the promise rests on: a controller that is made for a design with the margin of a policy, and its bounds
 pub record IsBacked (p : DesignParts) (plans : Plans) (c : Numbers) (b : Bounds) : Type 0 where
@@ -20,7 +20,7 @@ pub record IsBacked (p : DesignParts) (plans : Plans) (c : Numbers) (b : Bounds)
   pub margin : IsMargin (design_of p) plans (margin_of b)
   pub slack : pos 1 ≤ℤ b.margin
   pub controller : IsController c
-  pub made : IsDerivedFrom (design_of p) (multiplier_of (margin_of b)) c
+  pub made : IsDerivedFrom (design_of p) (printed_multiplier b) c
   pub bounds : AreBoundsOf (design_of p) c b
 
 -- it keeps the whole promise, at every state of the box
@@ -30,8 +30,8 @@ CertifiedLaw = (p : DesignParts) (plans : Plans) (c : Numbers) (b : Bounds) → 
 -- its steps and what its errors cost are as the targets ask
 pub record IsAimed (p : DesignParts) (c : Numbers) (b : Bounds) : Type 0 where
   pub design : IsDesign p
-  pub steps : c.steps ≡ step_count c.step_exponent (multiplier_of (margin_of b)) (half_target (targets_of p))
-  pub errors : errors_cost (design_of p) (multiplier_of (margin_of b)) c.fraction_bits ≤ error_limit (targets_of p) (multiplier_of (margin_of b))
+  pub steps : c.steps ≡ step_count c.step_exponent (printed_multiplier b) (half_target (targets_of p))
+  pub errors : errors_cost (design_of p) (printed_multiplier b) c.fraction_bits ≤ error_limit (targets_of p) (printed_multiplier b)
   pub bounds : AreBoundsOf (design_of p) c b
 
 abbrev pub TargetsLaw : Type 0

@@ -4,7 +4,7 @@ use Rattle.frac_scaled.specs.declared.fraction.Frac.{Frac}
 use Rattle.qp_model.specs.Design.{Design}
 use Rattle.qp_model.specs.Policy.{Plans}
 use Rattle.qp_model.specs.Margin.{IsMargin}
-use Rattle.qp_model.specs.Choices.{multiplier_size, step_count, multiplier_of}
+use Rattle.qp_model.specs.Choices.{multiplier_of, multiplier_size_of, step_count}
 use Rattle.qp_model.specs.Quantities.{hessian_size, rows_size}
 use Rattle.qp_model.specs.CurvatureSize.{curvature_size}
 use Rattle.qp_model.specs.Columns.{descent_size}
@@ -22,6 +22,14 @@ use Rattle.design_engine.specs.Built.{IsExponentOf}
 use Rattle.design_engine.specs.declared.refusal.Refusal.{Refusal}
 use Rattle.design_engine.specs.declared.refusal.Refusal.TheVariants.{Memory, NoMargin, Curvature, TooManySteps, TooFine, TooWide}
 
+-- K, of a margin, the step exponent s and the targets
+abbrev pub steps_at : Targets → Margin → ℕ → ℕ
+steps_at t m s = step_count s (multiplier_of m) (half_target t)
+
+-- the quantity `width`, at f bits
+abbrev pub width_at : Design → Targets → Margin → (s f : ℕ) → ℕ
+width_at d t m s f = width_size d (multiplier_of m) s (steps_at t m s) f
+
 -- ---- how far a design with a policy gets
 -- the corners have the margin m
 pub record PassesMargin (d : Design) (t : Targets) (plans : Plans) (m : Margin) : Type 0 where
@@ -32,7 +40,7 @@ pub record PassesMargin (d : Design) (t : Targets) (plans : Plans) (m : Margin) 
 -- R and the condensed form are within their limits
 pub record PassesSizes (d : Design) (t : Targets) (plans : Plans) (m : Margin) : Type 0 where
   pub before : PassesMargin d t plans m
-  pub multiplier : multiplier_size (unsigned_abs m.units) (unsigned_abs m.cost) ≤ 2 ^ 126
+  pub multiplier : multiplier_size_of m ≤ 2 ^ 126
   pub hessian : hessian_size d ≤ 2 ^ 126
   pub rows : rows_size d ≤ 2 ^ 126
   pub curvature : curvature_size d ≤ 2 ^ 126
@@ -41,7 +49,7 @@ pub record PassesSizes (d : Design) (t : Targets) (plans : Plans) (m : Margin) :
 pub record PassesSteps (d : Design) (t : Targets) (plans : Plans) (m : Margin) (s : ℕ) : Type 0 where
   pub before : PassesSizes d t plans m
   pub exponent : IsExponentOf d s
-  pub steps : step_count s (multiplier_of m) (half_target t) ≤ 2 ^ 22
+  pub steps : steps_at t m s ≤ 2 ^ 22
 
 -- f bits are enough for the errors
 pub record PassesBits (d : Design) (t : Targets) (plans : Plans) (m : Margin) (s f : ℕ) : Type 0 where
@@ -53,30 +61,59 @@ pub record PassesBits (d : Design) (t : Targets) (plans : Plans) (m : Margin) (s
 pub record PassesAll (d : Design) (t : Targets) (plans : Plans) (m : Margin) (s f : ℕ) : Type 0 where
   pub before : PassesBits d t plans m s f
   pub descent : descent_size d f ≤ 2 ^ 126
-  pub width : width_size d (multiplier_of m) s (step_count s (multiplier_of m) (half_target t)) f ≤ 2 ^ 126
+  pub width : width_at d t m s f ≤ 2 ^ 126
 
 -- ---- the causes
--- the quantity is the first that is above 2^126
+-- a quantity that is above its limit
+abbrev pub IsWide : ℕ → Type 0
+IsWide size = 2 ^ 126 < size
+
+-- R and the first quantities of the condensed form are within their limits
+abbrev pub HasMultiplier : Design → Targets → Plans → Margin → Type 0
+HasMultiplier d t plans m = PassesMargin d t plans m × (multiplier_size_of m ≤ 2 ^ 126)
+
+abbrev pub HasHessian : Design → Targets → Plans → Margin → Type 0
+HasHessian d t plans m = HasMultiplier d t plans m × (hessian_size d ≤ 2 ^ 126)
+
+abbrev pub HasRows : Design → Targets → Plans → Margin → Type 0
+HasRows d t plans m = HasHessian d t plans m × (rows_size d ≤ 2 ^ 126)
+
+-- so are the systems of the gains
+abbrev pub HasDescent : Design → Targets → Plans → Margin → (s f : ℕ) → Type 0
+HasDescent d t plans m s f = PassesBits d t plans m s f × (descent_size d f ≤ 2 ^ 126)
+
+-- the quantity is the first that is above its limit
 abbrev pub IsTooWide : Design → Targets → Plans → Quantity → Type 0
 IsTooWide d t plans Prediction = IsFirstWideCorner d plans Prediction
 IsTooWide d t plans CornerSlack = IsFirstWideCorner d plans CornerSlack
 IsTooWide d t plans CornerCost = IsFirstWideCorner d plans CornerCost
-IsTooWide d t plans Multiplier = (m : Margin) × PassesMargin d t plans m × (2 ^ 126 < multiplier_size (unsigned_abs m.units) (unsigned_abs m.cost))
-IsTooWide d t plans Hessian = (m : Margin) × PassesMargin d t plans m × (multiplier_size (unsigned_abs m.units) (unsigned_abs m.cost) ≤ 2 ^ 126) × (2 ^ 126 < hessian_size d)
-IsTooWide d t plans Rows = (m : Margin) × PassesMargin d t plans m × (multiplier_size (unsigned_abs m.units) (unsigned_abs m.cost) ≤ 2 ^ 126) × (hessian_size d ≤ 2 ^ 126) × (2 ^ 126 < rows_size d)
-IsTooWide d t plans curvature_quantity = (m : Margin) × PassesMargin d t plans m × (multiplier_size (unsigned_abs m.units) (unsigned_abs m.cost) ≤ 2 ^ 126) × (hessian_size d ≤ 2 ^ 126) × (rows_size d ≤ 2 ^ 126) × (2 ^ 126 < curvature_size d)
-IsTooWide d t plans Error = (m : Margin) × (s : ℕ) × PassesSteps d t plans m s × (2 ^ 126 < error_size d (multiplier_of m))
-IsTooWide d t plans Descent = (m : Margin) × (s : ℕ) × (f : ℕ) × PassesBits d t plans m s f × (2 ^ 126 < descent_size d f)
-IsTooWide d t plans Width = (m : Margin) × (s : ℕ) × (f : ℕ) × PassesBits d t plans m s f × (descent_size d f ≤ 2 ^ 126) × (2 ^ 126 < width_size d (multiplier_of m) s (step_count s (multiplier_of m) (half_target t)) f)
+IsTooWide d t plans Multiplier = (m : Margin) × PassesMargin d t plans m × IsWide (multiplier_size_of m)
+IsTooWide d t plans Hessian = (m : Margin) × HasMultiplier d t plans m × IsWide (hessian_size d)
+IsTooWide d t plans Rows = (m : Margin) × HasHessian d t plans m × IsWide (rows_size d)
+IsTooWide d t plans curvature_quantity = (m : Margin) × HasRows d t plans m × IsWide (curvature_size d)
+IsTooWide d t plans Error = (m : Margin) × (s : ℕ) × PassesSteps d t plans m s × IsWide (error_size d (multiplier_of m))
+IsTooWide d t plans Descent = (m : Margin) × (s : ℕ) × (f : ℕ) × PassesBits d t plans m s f × IsWide (descent_size d f)
+IsTooWide d t plans Width = (m : Margin) × (s : ℕ) × (f : ℕ) × HasDescent d t plans m s f × IsWide (width_at d t m s f)
 IsTooWide d t plans Turn = ⊥
+
+-- the steps are more than 2^22, and k is their number
+abbrev pub AreTooMany : (steps : ℕ) → ℤ → Type 0
+AreTooMany steps k = (2 ^ 22 < steps) × (k ≡ pos steps)
+
+-- even at 48 bits the errors of a step, which are eps there, are above the limit
+abbrev pub AreTooFine : (errors limit : ℕ) → ℤ → Type 0
+AreTooFine errors limit eps = (limit < errors) × (eps ≡ pos errors)
 
 -- Why this refusal is the answer. Want of memory has no cause in the design and the policy.
 abbrev pub HasCause : Design → Targets → Plans → Refusal → Type 0
 HasCause d t plans Memory = ⊥
 HasCause d t plans (NoMargin corner row slack) = HasCornerRoom d plans × IsFirstShort d plans corner row slack
 HasCause d t plans Curvature = (m : Margin) × PassesSizes d t plans m × HasNoStep d
-HasCause d t plans (TooManySteps k) = (m : Margin) × (s : ℕ) × PassesSizes d t plans m × IsExponentOf d s × (2 ^ 22 < step_count s (multiplier_of m) (half_target t)) × (k ≡ pos (step_count s (multiplier_of m) (half_target t)))
-HasCause d t plans (TooFine eps) = (m : Margin) × (s : ℕ) × PassesSteps d t plans m s × (error_size d (multiplier_of m) ≤ 2 ^ 126) × (error_limit t (multiplier_of m) < errors_cost d (multiplier_of m) 48) × (eps ≡ pos (errors_cost d (multiplier_of m) 48))
+HasCause d t plans (TooManySteps k) =
+    (m : Margin) × (s : ℕ) × PassesSizes d t plans m × IsExponentOf d s × AreTooMany (steps_at t m s) k
+HasCause d t plans (TooFine eps) =
+    (m : Margin) × (s : ℕ) × PassesSteps d t plans m s × (error_size d (multiplier_of m) ≤ 2 ^ 126)
+    × AreTooFine (errors_cost d (multiplier_of m) 48) (error_limit t (multiplier_of m)) eps
 HasCause d t plans (TooWide quantity) = IsTooWide d t plans quantity
 
 -- want of memory, or with its cause

@@ -1,4 +1,5 @@
 // What a controller that is made for a design promises, why its bounds meet the design's targets, and that a refusal has one cause.
+ghost use Rattle.design_engine.specs.Agreement.{AgreementLaw};
 ghost use Rattle.design_engine.specs.Order.{CausesLaw, PassingLaw};
 ghost use Rattle.design_engine.specs.Promise.{CertifiedLaw, TargetsLaw};
 
@@ -11,6 +12,12 @@ pub fn certified_law()
 /// With the steps and the errors that the targets ask for, the printed violation and gap are at most the targets.
 pub fn targets_law()
     ensures { TargetsLaw }
+{}
+
+/// Two controllers that are built for one design and policy are the same but for their gains, and the width that follows from these; so are
+/// their bounds.
+pub fn agreement_law()
+    ensures { AgreementLaw }
 {}
 
 /// A design with a policy has at most one refusal with a cause, and none where it passes every test.

@@ -13,7 +13,7 @@ mod widest;
 pub use assemble::controller_of;
 pub use fault::WidthFault;
 pub use generation::{Made, generate};
-pub use laws::{causes_law, certified_law, targets_law};
+pub use laws::{agreement_law, causes_law, certified_law, targets_law};
 pub use refusal::Refusal;
 
 #[cfg(test)]

@@ -10,12 +10,10 @@ use std::process::Abort;
 use std::test::Fail;
 
 fn rows(rt: &impl Abort, alloc: Global, cols: usize, rows: &[&[i128]]) -> Result<Mat, AllocError> {
-    let mut made = Mat::zero(alloc, 0, cols)?;
-    for row in rows {
-        assert!(rt; row.len() == made.cols());
-        made.push_row(alloc, row)?;
+    match Mat::from_rows(alloc, cols, rows)? {
+        Some(mat) => Ok(mat),
+        None => panic!(rt; "rows of several lengths"),
     }
-    Ok(made)
 }
 
 // A design of one plan entry and three limit rows.

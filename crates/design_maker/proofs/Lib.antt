@@ -1,15 +1,21 @@
-mod WorkedDraws
+-- The lemmas by topic.
+
+-- ---- lists and lines as they are written
 pub mod InBrackets
 pub mod Lines
 pub mod PolicyLines
-pub mod ReadsLines
 pub mod WrittenValues
-pub mod MadeDocument
 pub mod AsciiText
+-- ---- the drawn numbers
 pub mod DrawnNumbers
+mod WorkedDraws
+-- ---- what is read of the texts
+pub mod ReadsLines
+pub mod MadeDocument
 pub mod MadeNumbers
 pub mod MadeFields
 pub mod MadePolicy
 pub mod MadeStates
-pub mod MadeLaws
+-- ---- the law
 pub mod MadeValue
+pub mod MadeLaws

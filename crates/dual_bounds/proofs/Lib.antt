@@ -1,4 +1,7 @@
+-- The lemmas by topic.
+
+-- ---- numbers
 pub mod NumberFacts
+-- ---- mixtures of plans
 pub mod DesignMix
 pub mod MixLaws
-pub mod ViolationLaws

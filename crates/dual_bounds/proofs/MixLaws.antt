@@ -17,10 +17,10 @@ use Rattle.qp_model.specs.Box.{corner}
 use Rattle.qp_model.specs.Cost.{cost, cost_scale}
 use Rattle.qp_model.specs.Residual.{residual_scale}
 use Rattle.qp_model.specs.Policy.{Plans, IsPolicyFor}
-use Rattle.qp_model.specs.Margin.{IsMargin, corner_denominator, corner_plan}
-use Rattle.qp_model.specs.Choices.{multiplier_bound}
+use Rattle.qp_model.specs.Margin.{corner_denominator, corner_plan}
+use Rattle.qp_model.specs.Choices.{multiplier_bound, multiplier_of}
 use Rattle.qp_model.specs.declared.bounds.Margin.{Margin}
-use Rattle.dual_bounds.specs.Corners.{HasMarginAt, bound_of, BoxLaw, RepairLaw}
+use Rattle.dual_bounds.specs.Corners.{HasMarginAt, KeepsMargin, BoxLaw, RepairLaw}
 use Rattle.dual_bounds.proofs.DesignMix.{Mixture, over as over_of, plan, slack_mixed, residual_mixed, cost_below, cost_nonneg}
 
 -- ---- two states
@@ -114,7 +114,7 @@ coded low high x (suc n) h = elim (h n (omega arith)) [
           (λ i l. rw (bit_below c.number n i l) (c.bits i l)) (first_bit low high x (c.number + 2 ^ n) n (top_bit c.number n c.small) e) i (omega arith);
     }
 
-corner_margin : (d : Design) (rho : ℕ) (p : Plans) (m : Margin) → IsSound d rho → IsPolicyFor d p → IsMargin d p m → (x : ℕ → ℤ) → IsCorner d x → HasMarginAt d m x
+corner_margin : (d : Design) (rho : ℕ) (p : Plans) (m : Margin) → IsSound d rho → IsPolicyFor d p → KeepsMargin d p m → (x : ℕ → ℤ) → IsCorner d x → HasMarginAt d m x
 unfolding IsCorner
 corner_margin d rho p m s f h x e = moved_to d rho m s (corner d (c.number + 1)) x agrees (record {
   denominator = corner_denominator p (c.number + 1);
@@ -255,7 +255,7 @@ repair_law d rho p m s f h pu xi inside q u pq over den po pd e = record {
   positive = mul_pos_z (w.a +ℤ w.b) (q *ℤ k.denominator)
       (add_pos_z (mul_pos_z m.units den (omega (arith, ints, pu)) pd) (mul_nonneg_z over (pos (2 ^ 16)) po (omega (arith, ints)))) (mul_pos_z q k.denominator pq k.positive);
   feasible = λ i l. row_mended m.units over den (pos (residual_scale d)) q k.denominator _ _ _ units po (le_of_lt_z pq) (le_of_lt_z k.positive) (residual_mixed w i).is (e i l) (k.slacks i l);
-  cheap = cost_mended m.units (pos (2 ^ 16)) m.cost (bound_of m) over den (pos (cost_scale d)) q k.denominator _ _ _ units (omega (arith, ints)) po (le_of_lt_z pd) (omega (arith, ints)) (omega (arith, ints))
+  cheap = cost_mended m.units (pos (2 ^ 16)) m.cost (pos (multiplier_of m)) over den (pos (cost_scale d)) q k.denominator _ _ _ units (omega (arith, ints)) po (le_of_lt_z pd) (omega (arith, ints)) (omega (arith, ints))
       (cost_nonneg d rho s q xi u) (bound_enough m.units m.cost pu) k.cheap (cost_below w rho s (mul_nonneg_z m.units den units (le_of_lt_z pd)) (mul_nonneg_z over (pos (2 ^ 16)) po (omega (arith, ints)))).is;
 }
   where

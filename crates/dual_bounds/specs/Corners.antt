@@ -1,5 +1,5 @@
 -- What a margin at the corners of the box gives at every state of it.
-use Rattle.std.specs.Prelude.{ℕ, ◌^◌, ◌<◌, ℤ, pos, ◌+ℤ◌, ◌*ℤ◌, ◌≤ℤ◌, ◌<ℤ◌, unsigned_abs}
+use Rattle.std.specs.Prelude.{ℕ, ◌^◌, ◌<◌, ◌≤◌, ℤ, pos, ◌+ℤ◌, ◌*ℤ◌, ◌≤ℤ◌, ◌<ℤ◌}
 use Rattle.integer_algebra.specs.Sums.{square}
 use Rattle.qp_model.specs.Design.{Design, rows}
 use Rattle.qp_model.specs.Sound.{IsSound}
@@ -7,9 +7,14 @@ use Rattle.qp_model.specs.Box.{IsGridState}
 use Rattle.qp_model.specs.Cost.{cost, cost_scale}
 use Rattle.qp_model.specs.Residual.{residual, slack, residual_scale, IsFeasible}
 use Rattle.qp_model.specs.Policy.{Plans, IsPolicyFor}
-use Rattle.qp_model.specs.Margin.{IsMargin}
-use Rattle.qp_model.specs.Choices.{multiplier_bound}
+use Rattle.qp_model.specs.Margin.{HasSlack, HasCost}
+use Rattle.qp_model.specs.Choices.{multiplier_of}
 use Rattle.qp_model.specs.declared.bounds.Margin.{Margin}
+
+-- the corners' plans have in each row a slack of at least units / 2^16, and cost at most the margin's cost
+pub record KeepsMargin (d : Design) (p : Plans) (m : Margin) : Type 0 where
+  pub slacks : (c i : ℕ) → 1 ≤ c → c ≤ 2 ^ d.states → i < rows d → HasSlack d p m.units c i
+  pub costs : (c : ℕ) → 1 ≤ c → c ≤ 2 ^ d.states → HasCost d p m.cost c
 
 -- some plan has at the state xi a slack of at least units / 2^16 in each row, and costs at most the margin's cost
 pub record HasMarginAt (d : Design) (m : Margin) (xi : ℕ → ℤ) : Type 0 where
@@ -33,19 +38,15 @@ pub record HasRepair (d : Design) (xi : ℕ → ℤ) (q : ℤ) (u : ℕ → ℤ)
   pub cheap : (more_denominator *ℤ cost d denominator xi plan *ℤ square q) ≤ℤ
       ((more_denominator *ℤ cost d q xi u +ℤ more *ℤ pos (cost_scale d) *ℤ square q) *ℤ square denominator)
 
--- R, of the margin
-abbrev pub bound_of : Margin → ℤ
-bound_of m = pos (multiplier_bound (unsigned_abs m.units) (unsigned_abs m.cost))
-
 -- At every grid state of the box some plan has the margin of the corners' plans.
 abbrev pub BoxLaw : Type 0
-BoxLaw = (d : Design) (rho : ℕ) (p : Plans) (m : Margin) → IsSound d rho → IsPolicyFor d p → IsMargin d p m →
+BoxLaw = (d : Design) (rho : ℕ) (p : Plans) (m : Margin) → IsSound d rho → IsPolicyFor d p → KeepsMargin d p m →
     (xi : ℕ → ℤ) → IsGridState d xi → HasMarginAt d m xi
 
 -- And where the margin is one of slack, a plan there that exceeds each row by at most `over` has a feasible plan that costs at most R * over
 -- more.
 abbrev pub RepairLaw : Type 0
-RepairLaw = (d : Design) (rho : ℕ) (p : Plans) (m : Margin) → IsSound d rho → IsPolicyFor d p → IsMargin d p m → pos 1 ≤ℤ m.units →
+RepairLaw = (d : Design) (rho : ℕ) (p : Plans) (m : Margin) → IsSound d rho → IsPolicyFor d p → KeepsMargin d p m → pos 1 ≤ℤ m.units →
     (xi : ℕ → ℤ) → IsGridState d xi → (q : ℤ) (u : ℕ → ℤ) → pos 0 <ℤ q →
     (over over_denominator : ℤ) → pos 0 ≤ℤ over → pos 0 <ℤ over_denominator → ExceedsNoMore d xi q u over over_denominator →
-    HasRepair d xi q u (bound_of m *ℤ over) over_denominator
+    HasRepair d xi q u (pos (multiplier_of m) *ℤ over) over_denominator

@@ -3,22 +3,16 @@
 #![tactic(auto)]
 
 ghost use Rattle.dual_bounds.specs.Corners.{BoxLaw, RepairLaw};
-ghost use Rattle.dual_bounds.specs.Violation.{ViolationLaw};
 
 mod numbers;
 
 pub use numbers::{TooManySteps, multiplier, steps, undercut, violation};
 
-/// At every grid state of the box some plan has in each row the slack, and at most the cost, of the corners' plans. A plan there that
+/// Where the corners' plans have a slack in each row and cost at most so much, some plan at every grid state of the box does. A plan there that
 /// exceeds each row by at most v has a feasible plan that costs at most R v more.
 pub fn corner_law()
     ensures box_margin { BoxLaw }
     ensures repair { RepairLaw }
-{}
-
-/// What a run's bound and a repair of its average say of the average's residual at a row.
-pub fn violation_law()
-    ensures { ViolationLaw }
 {}
 
 #[cfg(test)]

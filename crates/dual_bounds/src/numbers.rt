@@ -1,7 +1,7 @@
 // The numbers that follow from a margin.
 ghost use Rattle.std.specs.Prelude.{◌≡◌, ℕ, ◌+◌, ◌*◌, ◌^◌, ◌≤◌, pos, ◌≤ℤ◌, unsigned_abs, IfErr};
 ghost use Rattle.std.specs.Result.{OkIff};
-ghost use Rattle.qp_model.specs.Choices.{multiplier_bound, multiplier_size, step_count, violation_bound, undercut_bound};
+ghost use Rattle.qp_model.specs.Choices.{multiplier_of, multiplier_size_of, step_count, violation_bound, undercut_bound};
 ghost use Rattle.qp_model.specs.declared.quantity.Quantity.TheVariants.{Multiplier};
 
 use frac_scaled::scaled;
@@ -22,8 +22,7 @@ pub struct TooManySteps {
 pub fn multiplier(margin: &Margin) -> Result<i128, Wide>
     requires units { pos 1 ≤ℤ margin.now.units }
     requires cost { pos 0 ≤ℤ margin.now.cost }
-    ensures value { OkIff result (multiplier_size (unsigned_abs margin.now.units) (unsigned_abs margin.now.cost) ≤ 2 ^ 126)
-        (pos (multiplier_bound (unsigned_abs margin.now.units) (unsigned_abs margin.now.cost))) }
+    ensures value { OkIff result (multiplier_size_of margin.now ≤ 2 ^ 126) (pos (multiplier_of margin.now)) }
     ensures named { IfErr result (λ e. e.0 ≡ Multiplier) }
 {
     if margin.cost > 1 << 110 {

@@ -41,7 +41,7 @@ pub once : (w n m : ℕ) → 0 < w → w * n ≤ m → n ≤ m
 once zero n m h k = absurd (omega arith)
 once (suc w) n m h k = omega (arith, k)
 
--- the terms of an entry magnitude together what `gram_magnitude` says
+-- the magnitudes of the terms of an entry are together what `gram_magnitude` says
 pub gram_reach_is : (n : ℕ) (w : ℕ → ℤ) (x : ℕ → ℕ → Enclosure) (j l : ℕ) → ((i : ℕ) → i < n → pos 0 ≤ℤ w i) →
     ((i : ℕ) → i < n → (pos 0 ≤ℤ (x i j).rad) × (pos 0 ≤ℤ (x i l).rad)) →
     gram_magnitude n w x j l ≡ pos (combination_size n w (λ i. whole_product (x i j) (x i l)))

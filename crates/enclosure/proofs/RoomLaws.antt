@@ -1,4 +1,4 @@
--- What fits where the operands magnitude no further than the limit.
+-- What fits where the magnitudes of the operands are within the limit.
 use Rattle.std.proofs.Common.{◌≡◌, ◌↔◌, ℕ, ◌+◌, ◌-◌, ◌*◌, ◌^◌, ◌<◌, ◌≤◌, ℤ, pos, negsuc, ◌+ℤ◌, ◌-ℤ◌, ◌*ℤ◌, ◌≤ℤ◌, ◌<ℤ◌, unsigned_abs, FitsSigned, IsSome, IsTrue, Option, None, [], ◌∷◌, arith, refl, ap, ap₂}
 use Rattle.std.proofs.Math.IntN.{*ℤ_comm}
 use Rattle.std.specs.Int.{w128}
@@ -20,7 +20,7 @@ pub reach_is : (a r : ℤ) → pos 0 ≤ℤ r → absolute a +ℤ r ≡ pos (uns
 reach_is a (pos r) h = refl
 reach_is a (negsuc r) h = absurd h.le
 
--- and what two magnitude, multiplied
+-- and the product of two magnitudes
 pub reach_mul_is : (a r b s : ℤ) → pos 0 ≤ℤ r → pos 0 ≤ℤ s →
     (absolute a +ℤ r) *ℤ (absolute b +ℤ s) ≡ pos ((unsigned_abs a + unsigned_abs r) * (unsigned_abs b + unsigned_abs s))
 reach_mul_is a r b s h k = ap₂ (λ (x y : ℤ). x *ℤ y) (reach_is a r h) (reach_is b s k)

@@ -28,7 +28,7 @@ multiple_rest c m (pos r) h = ap pos (omega (arith, unsigned_abs-mul c m))
 multiple_rest c m (negsuc r) h = absurd h.le
 
 -- ---- sums
--- what the terms magnitude together, as a natural
+-- the magnitudes of the terms together, as a natural
 abbrev pub combination_size : ℕ → (ℕ → ℤ) → (ℕ → Enclosure) → ℕ
 combination_size n c x = amount n (λ i. unsigned_abs (c i) * (unsigned_abs (x i).mid + unsigned_abs (x i).rad))
 
@@ -54,7 +54,7 @@ radius_nonneg xs i h =
     rw (pair_at_is xs i d h) (get_or xs i d).nonnegative
 
 -- ---- steps of a loop
--- what a term's failing tells of the whole, where f sums up what the terms magnitude
+-- what a term's failing tells of the whole, where f sums up the magnitudes of the terms
 pub step_refused : {T : Type 0} (o : Option T) (n i m : ℕ) (f : ℕ → ℕ) (z : ℤ) → o ≡ None → z ≡ pos (amount n f) → i < n → m ≤ amount i f + f i →
     ¬ (m ≤ 2 ^ 126) → IsSome o ↔ (z ≤ℤ pos (2 ^ 126))
 step_refused o n i m f z e is l h k = refused o (amount n f) z e is (λ j. k (omega (arith, amount_next i n f l, h, j)))

@@ -6,10 +6,11 @@ ghost use Rattle.mat_int.specs.Enclosures.{combined, combination_magnitude};
 ghost use Rattle.enclosure.specs.Values.{pair, pair_at};
 ghost use Rattle.enclosure.specs.Laws.{EnclosesCombination};
 
-use crate::room::{limited_product, magnitude};
+use crate::room::magnitude;
 use crate::single::divided;
 use crate::sum::Sum;
 use crate::types::Enc;
+use frac_scaled::limited_product;
 
 /// `(coeffs[0] * xs[0] + ..) / den`, with its midpoint rounded to the nearest. None where the sum of `|coeffs[i]| * (|xs[i].mid| + xs[i].rad)` is
 /// above `2^126`.

@@ -84,7 +84,7 @@ pub fn gram(alloc: Global, x: &EncMat, weights: &[i128]) -> Result<EncMat, MatFa
     Ok(EncMat { mid, rad })
 }
 
-// Row j of it, as midpoints and radii. None where what the terms of some entry magnitude is above `2^126`; then the rows hold anything.
+// Row j of it, as midpoints and radii. None where the magnitudes of the terms of some entry are together above `2^126`; then the rows hold anything.
 fn gram_row(
     x: &EncMat,
     weights: &[i128],
@@ -114,7 +114,7 @@ fn gram_row(
     Some(())
 }
 
-// The entry in row j and column l. None where what its terms magnitude is above `2^126`.
+// The entry in row j and column l. None where the magnitudes of its terms are together above `2^126`.
 fn gram_entry(x: &EncMat, weights: &[i128], j: usize, l: usize) -> Option<Enc>
     requires shape { length weights.now ≡ length x.now.mid.rows }
     requires signs { All (λ weight. pos 0 ≤ℤ weight) weights.now }

@@ -5,9 +5,9 @@ ghost use Rattle.frac_scaled.specs.Enclosures.{Encloses, magnitude, inexact, div
 ghost use Rattle.enclosure.specs.Values.{pair};
 ghost use Rattle.enclosure.specs.Laws.{EnclosesSum, EnclosesProduct};
 
-use crate::room::{limited_product, limited_sum, magnitude};
+use crate::room::magnitude;
 use crate::types::Enc;
-use frac_scaled::{ceil_div, round_div, scaled};
+use frac_scaled::{ceil_div, limited_product, limited_sum, round_div, scaled};
 
 // What midpoints and radii are over.
 pub(crate) const SCALE: i128 = 1 << 40;
@@ -78,7 +78,7 @@ fn inexact(num: i128, den: i128) -> i128
     if num % den == 0 { 0 } else { 1 }
 }
 
-// The product over `2^80`. None where what the operands magnitude is, multiplied, above `2^126`.
+// The product over `2^80`. None where the product of the operands' magnitudes is above `2^126`.
 pub(crate) fn whole_product(a: Enc, b: Enc) -> Option<Enc>
     ensures value { IfSome result (λ e. pair e ≡ whole_product (pair a) (pair b)) }
     ensures room { IsSome result ↔ ((magnitude (pair a) *ℤ magnitude (pair b)) ≤ℤ pos (2 ^ 126)) }

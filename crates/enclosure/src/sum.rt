@@ -1,10 +1,11 @@
 // A sum of enclosures, whose terms stay within the limit.
 ghost use Rattle.std.specs.Prelude.{◌+◌, ◌^◌, ◌≤◌, unsigned_abs};
 
-use crate::room::{limited_sum, magnitude};
+use crate::room::magnitude;
 use crate::types::Enc;
+use frac_scaled::limited_sum;
 
-// The sum so far, and what its terms magnitude together.
+// The sum so far, and the magnitudes of its terms together.
 #[derive(Clone, Copy)]
 pub(crate) struct Sum {
     pub(crate) value: Enc,

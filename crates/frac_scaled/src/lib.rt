@@ -1,7 +1,7 @@
 //! Whole numbers of 128 bits: quotients made whole, the square root, checked sums and products, and fractions.
 #![tactic(auto)]
 
-ghost use Rattle.std.specs.Prelude.{◌≡◌, ◌≤◌, ◌^◌, pos, ◌+ℤ◌, ◌*ℤ◌, ◌<ℤ◌, ◌≤ℤ◌, FitsSigned, unsigned_abs};
+ghost use Rattle.std.specs.Prelude.{◌≡◌, ◌+◌, ◌*◌, ◌≤◌, ◌^◌, pos, ◌+ℤ◌, ◌*ℤ◌, ◌<ℤ◌, ◌≤ℤ◌, FitsSigned, unsigned_abs};
 ghost use Rattle.std.specs.Int.{w128, IsIsqrt};
 ghost use Rattle.std.specs.Option.{SomeIff};
 ghost use Rattle.integer_algebra.specs.Division.{floor_of, ceil_of, round_of, IsFloor};
@@ -11,6 +11,26 @@ mod fraction;
 mod tests;
 
 pub use fraction::{Frac, floor_scaled};
+
+/// `a * b`, where it is at most `2^126`.
+pub fn limited_product(a: u128, b: u128) -> Option<u128>
+    ensures { SomeIff result (a * b ≤ 2 ^ 126) (a * b) }
+{
+    match a.checked_mul(b) {
+        Some(product) if product <= 1 << 126 => Some(product),
+        _ => None,
+    }
+}
+
+/// `a + b`, where it is at most `2^126`.
+pub fn limited_sum(a: u128, b: u128) -> Option<u128>
+    ensures { SomeIff result (a + b ≤ 2 ^ 126) (a + b) }
+{
+    match a.checked_add(b) {
+        Some(sum) if sum <= 1 << 126 => Some(sum),
+        _ => None,
+    }
+}
 
 /// `v / 2^k`, rounded down.
 pub fn floor_shift(v: i128, k: u32) -> i128

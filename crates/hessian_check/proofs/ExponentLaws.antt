@@ -7,7 +7,7 @@ use Rattle.hessian_check.specs.StepLaw.{ExponentLaw}
 use Rattle.hessian_check.specs.Steps.{curved_of, floor_of_design}
 use Rattle.hessian_check.proofs.CurvatureLaws.{first_by, chosen_law, squares_law}
 use Rattle.hessian_check.proofs.DesignLaws.{exponent_of, half_turned, floored, covers}
-use Rattle.hessian_check.proofs.SoundLaws.{sound}
+use Rattle.qp_model.proofs.SoundLaws.{sound}
 
 pub step_law : ExponentLaw
 step_law p h s1 s f k =

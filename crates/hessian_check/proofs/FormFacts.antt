@@ -28,7 +28,7 @@ use Rattle.std.specs.Option.{SomeIff, is_some}
 use Rattle.hessian_check.specs.Curvature.{IsLeastBelow}
 use Rattle.hessian_check.proofs.DesignLaws.{change_is}
 use Rattle.hessian_check.proofs.RowLaws.{not_true}
-use Rattle.hessian_check.proofs.SoundLaws.{least-le, least-met, weight_at}
+use Rattle.qp_model.proofs.SoundLaws.{least-le, least-met, weight_at}
 
 -- ---- the rows are those of the design
 -- two condensed forms of one design have the same rows

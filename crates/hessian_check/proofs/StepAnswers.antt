@@ -23,7 +23,7 @@ use Rattle.std.proofs.lemmas.Bool.{cases_lt}
 use Rattle.plant_condense.specs.declared.condensed.Condensed.{Condensed}
 use Rattle.plant_condense.specs.Form.{IsFormOf}
 use Rattle.hessian_check.proofs.FormFacts.{small}
-use Rattle.hessian_check.proofs.SoundLaws.{sound}
+use Rattle.qp_model.proofs.SoundLaws.{sound}
 use Rattle.hessian_check.proofs.ChoiceLaws.{HasLeast, covers_least, first_above, first_made, first_same, squares_are}
 use Rattle.hessian_check.proofs.SameLaws.{chosen_moved, dominant_moved, first_moved}
 use Rattle.hessian_check.proofs.PassLaws.{same_back}

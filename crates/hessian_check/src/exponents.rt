@@ -29,7 +29,11 @@ pub fn exponents_of(
 }
 
 // The least number below `end` whose matrix is dominant.
-fn first_dominant(alloc: Global, matrices: &StepMatrices, end: u32) -> Result<Option<u32>, AllocError>
+fn first_dominant(
+    alloc: Global,
+    matrices: &StepMatrices,
+    end: u32,
+) -> Result<Option<u32>, AllocError>
     requires small { end ≤ 41 }
     requires room { (s : ℕ) → s < end → HasMatrixRoom matrices.now s }
     ensures { IfOk result (IsLeastBelow end (λ s. IsDominant (length matrices.now.cost.rows) (matrix_at matrices.now s))) }
@@ -44,7 +48,11 @@ fn first_dominant(alloc: Global, matrices: &StepMatrices, end: u32) -> Result<Op
 }
 
 // The least number below `end` whose matrix has a root that the test passes.
-fn first_passing(alloc: Global, matrices: &StepMatrices, end: u32) -> Result<Option<u32>, AllocError>
+fn first_passing(
+    alloc: Global,
+    matrices: &StepMatrices,
+    end: u32,
+) -> Result<Option<u32>, AllocError>
     requires small { end ≤ 41 }
     requires room { (s : ℕ) → s < end → HasMatrixRoom matrices.now s }
     ensures { IfOk result (IsLeastBelow end (λ s. HasPassingRoot (length matrices.now.cost.rows) (matrix_at matrices.now s))) }

@@ -17,7 +17,7 @@ combination n c x = record {
 abbrev pub combined : ℕ → (ℕ → ℤ) → (ℕ → Enclosure) → ℕ → Enclosure
 combined n c x den = divided (combination n c x) den
 
--- what the terms reach together
+-- the magnitudes of the terms together
 abbrev pub combination_magnitude : ℕ → (ℕ → ℤ) → (ℕ → Enclosure) → ℤ
 combination_magnitude n c x = total n (λ i. absolute (c i) *ℤ magnitude (x i))
 
@@ -30,7 +30,7 @@ gram_sum n weight x j l = combination n weight (λ i. whole_product (x i j) (x i
 abbrev pub weighted_gram : ℕ → (ℕ → ℤ) → (ℕ → ℕ → Enclosure) → ℕ → ℕ → Enclosure
 weighted_gram n weight x j l = divided (gram_sum n weight x j l) (2 ^ 40)
 
--- what the terms reach together
+-- the magnitudes of the terms together
 abbrev pub gram_magnitude : ℕ → (ℕ → ℤ) → (ℕ → ℕ → Enclosure) → ℕ → ℕ → ℤ
 gram_magnitude n weight x j l = total n (λ i. weight i *ℤ (magnitude (x i j) *ℤ magnitude (x i l)))
 

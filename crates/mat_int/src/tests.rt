@@ -19,12 +19,10 @@ fn matrix(
     cols: usize,
     rows: &[&[i128]],
 ) -> Result<Mat, AllocError> {
-    let mut made = Mat::zero(alloc, 0, cols)?;
-    for row in rows {
-        assert!(rt; row.len() == made.cols());
-        made.push_row(alloc, row)?;
+    match Mat::from_rows(alloc, cols, rows)? {
+        Some(mat) => Ok(mat),
+        None => panic!(rt; "rows of several lengths"),
     }
-    Ok(made)
 }
 
 fn expect_rows(rt: &impl Abort, made: &Mat, cols: usize, rows: &[&[i128]]) {
@@ -47,6 +45,12 @@ fn entries(rt: HostRuntime) -> Result<(), Fail> {
     assert_eq!(rt; made.at(1, 2), -5);
     assert_eq!(rt; made.at(0, 2), 0);
     expect_rows(&rt, &made, 3, &[&[0, 0, 0], &[0, 0, -5]]);
+    Ok(())
+}
+
+#[test]
+fn rows_of_several_lengths(rt: HostRuntime) -> Result<(), Fail> {
+    assert!(rt; Mat::from_rows(rt.alloc(), 2, &[&[1, 2], &[3]])?.is_none());
     Ok(())
 }
 

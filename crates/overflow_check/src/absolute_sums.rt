@@ -41,7 +41,7 @@ fn ceil_shift(x: u128, k: u32) -> u128
     (x + (two_to(k) - 1)) >> k
 }
 
-// The absolute values, each times its magnitudes.
+// The absolute values, each times its magnitude.
 #[tactic(auto, using(crate::proofs::Greatest::sum_steps))]
 fn weighted_abs_sum(row: &[i128], magnitudes: &[u128]) -> Option<u128>
     requires { length row.now ≡ length magnitudes.now }
@@ -97,7 +97,12 @@ fn row_from(planned: u128, own: u128, bound: u128, f: u32) -> Option<u128>
 }
 
 // The absolute sum that plan entry `j` is made of.
-fn entry_absolute_sum(c: &ControllerParts, states: &[u128], clamps: &[u128], j: usize) -> Option<u128>
+fn entry_absolute_sum(
+    c: &ControllerParts,
+    states: &[u128],
+    clamps: &[u128],
+    j: usize,
+) -> Option<u128>
     requires sized { IsSized (numbers c.now) }
     requires states { states.now ≡ state_magnitudes (numbers c.now) }
     requires clamps { clamps.now ≡ clamp_magnitudes (numbers c.now) }
@@ -133,7 +138,10 @@ fn plan_magnitudes(c: &ControllerParts, states: &[u128], clamps: &[u128]) -> Opt
         magnitudes[j] = ceil_shift(sum, c.f + c.s);
         greatest = sum.max(greatest);
     }
-    Some(PlanMagnitudes { magnitudes, greatest })
+    Some(PlanMagnitudes {
+        magnitudes,
+        greatest,
+    })
 }
 
 // The absolute sum of row `i`.
@@ -191,7 +199,7 @@ fn greatest_of(numbers: &[u128]) -> u128
     greatest
 }
 
-// The greatest absolute sum, from the reaches of states and multipliers.
+// The greatest absolute sum, from the greatest absolute values of states and multipliers.
 fn greatest_within(c: &ControllerParts, states: &[u128], clamps: &[u128]) -> Option<i128>
     requires sized { IsSized (numbers c.now) }
     requires states { states.now ≡ state_magnitudes (numbers c.now) }

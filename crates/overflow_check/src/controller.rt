@@ -3,8 +3,8 @@ ghost use Rattle.std.specs.Prelude.{◌≡◌, ◌↔◌, IsOk, IfOk, OnOk};
 ghost use Rattle.qp_model.specs.Controller.{numbers, IsInForm};
 ghost use Rattle.qp_model.specs.AbsoluteSums.{IsController};
 
-use crate::form::is_in_form;
 use crate::absolute_sums::{greatest_sum, two_to};
+use crate::form::is_in_form;
 use qp_model::ControllerParts;
 use std::marker::Model;
 use thiserror::Error;

@@ -6,15 +6,13 @@ ghost use Rattle.qp_model.specs.Controller.{numbers, plan_length, HasShape, IsSh
 
 use mat_int::Mat;
 use qp_model::ControllerParts;
+use qp_model::range::{are_numerators, is_ordered, lies_in};
 
 // Whether the sizes lie in their ranges.
 fn are_sizes_in_range(c: &ControllerParts) -> bool
     ensures { IsTrue result ↔ (LiesIn 1 4 c.now.n × LiesIn 1 3 c.now.p × LiesIn 1 20 c.now.stages × LiesIn 1 252 c.now.m) }
 {
-    (1..=4).contains(&c.n)
-        && (1..=3).contains(&c.p)
-        && (1..=20).contains(&c.stages)
-        && (1..=252).contains(&c.m)
+    lies_in(1, 4, c.n) && lies_in(1, 3, c.p) && lies_in(1, 20, c.stages) && lies_in(1, 252, c.m)
 }
 
 // Whether the numbers of bits lie in their ranges.
@@ -53,26 +51,6 @@ fn is_shaped(c: &ControllerParts, nu: usize) -> bool
         && c.bound.len() == c.m
 }
 
-// Whether each number is below `2^31` in absolute value.
-fn are_numerators(xs: &[i128]) -> bool
-    ensures { IsTrue result ↔ All IsNumerator xs.now }
-{
-    xs.iter().all(|x| x.unsigned_abs() < 1 << 31)
-}
-
-// Whether each lower bound is at most its upper one.
-fn is_box(lo: &[i128], hi: &[i128]) -> bool
-    requires { length lo.now ≡ length hi.now }
-    ensures { IsTrue result ↔ ((i : ℕ) → i < length lo.now → at lo.now i ≤ℤ at hi.now i) }
-{
-    for (i, low) in lo.iter().enumerate() {
-        if *low > hi[i] {
-            return false;
-        }
-    }
-    true
-}
-
 // Whether the shapes and ranges of a controller hold.
 pub fn is_in_form(c: &ControllerParts) -> bool
     ensures { IsTrue result ↔ IsInForm (numbers c.now) }
@@ -87,5 +65,5 @@ pub fn is_in_form(c: &ControllerParts) -> bool
         && is_shaped(c, nu)
         && are_numerators(&c.lo)
         && are_numerators(&c.hi)
-        && is_box(&c.lo, &c.hi)
+        && is_ordered(&c.lo, &c.hi)
 }

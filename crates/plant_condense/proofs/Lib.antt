@@ -1,13 +1,19 @@
+-- The lemmas by topic.
+
+-- ---- sums that fit, and lists that grow
 pub mod Rooms
 pub mod Pushes
+pub mod PowerFacts
+pub mod SumFacts
+-- ---- states and rows of a run
 pub mod StateFacts
 pub mod StageFacts
 pub mod RowFacts
 pub mod ColumnFacts
-pub mod PowerFacts
-pub mod SumFacts
+-- ---- the condensed cost
 pub mod WeighedFacts
 pub mod CostFacts
 pub mod DenominatorFacts
+-- ---- the form, and what is refused
 pub mod FormLaws
 pub mod FaultFacts

@@ -5,7 +5,8 @@ ghost use Rattle.qp_model.specs.Parts.{design_of, IsDesign};
 ghost use Rattle.qp_model.specs.Quantities.{cost_entry_size};
 ghost use Rattle.plant_condense.specs.Form.{IsLeastInput, response_scale};
 
-use qp_model::{DesignParts, limited_product};
+use frac_scaled::limited_product;
+use qp_model::DesignParts;
 
 /// The least of some numbers.
 pub fn least_of(numbers: &[i128]) -> i128

@@ -24,7 +24,6 @@ pub use denominators::least_of;
 pub use fault::CondenseFault;
 pub use form::condense;
 pub use powers::{last_power, powers_of};
-pub use run::Run;
 
 #[cfg(test)]
 mod tests;

@@ -184,12 +184,10 @@ const STEEP_FORM: Form<'static> = Form {
 };
 
 fn rows(rt: &impl Abort, alloc: Global, cols: usize, rows: &[&[i128]]) -> Result<Mat, AllocError> {
-    let mut made = Mat::zero(alloc, 0, cols)?;
-    for row in rows {
-        assert!(rt; row.len() == made.cols());
-        made.push_row(alloc, row)?;
+    match Mat::from_rows(alloc, cols, rows)? {
+        Some(mat) => Ok(mat),
+        None => panic!(rt; "rows of several lengths"),
     }
-    Ok(made)
 }
 
 fn parts(rt: &impl Abort, alloc: Global, made: &TestDesign) -> Result<DesignParts, AllocError> {

@@ -1,8 +1,13 @@
+-- The lemmas by topic.
+
+-- ---- fields and records
 pub mod FieldFacts
 pub mod RecordFacts
+-- ---- rules, record by record
 pub mod RuleFacts
 pub mod PlaceFacts
-pub mod MatrixFacts
 pub mod TextFacts
 pub mod UniqueFacts
+-- ---- the policy
+pub mod MatrixFacts
 pub mod PolicyFacts

@@ -81,7 +81,7 @@ plan_number d i j h = elim (cases_lt i (d.stages * d.stage_limits)) [
     next true m a s t x c e f = rw (e, f) refl
     next false m a s t x c e f = rw (e, f) (by_ring (m ∷ a ∷ t ∷ []) (search quotes depth 60 fits 20000) refl)
 
-state_number : (d : Design) (i j : ℕ) → (condensed_of d).by_state i j ≡ row_at d (unit j) none i
+pub state_number : (d : Design) (i j : ℕ) → (condensed_of d).by_state i j ≡ row_at d (unit j) none i
 state_number d i j = elim (cases_lt i (d.stages * d.stage_limits)) [
   | inl l ↦ rw (lt-ltb i (d.stages * d.stage_limits) l) (next (lift d (i / d.stage_limits)) (pos (d.plant_denominator ^ (i / d.stage_limits))) _ _ _
       (dot_same d.states (d.stage_limit (i % d.stage_limits)).of_state _ _ (λ n o. power_run d (i / d.stage_limits) n j))
@@ -93,7 +93,7 @@ state_number d i j = elim (cases_lt i (d.stages * d.stage_limits)) [
     next : (m a s t c : ℤ) → s ≡ t → c ≡ pos 0 → m *ℤ s ≡ m *ℤ (t +ℤ a *ℤ c)
     next m a s t c e f = rw (e, f) (by_ring (m ∷ a ∷ t ∷ []) (search quotes depth 60 fits 20000) refl)
 
-bound_number : (d : Design) (i : ℕ) → (condensed_of d).bound i ≡ pos (d.plant_denominator ^ d.stages) *ℤ bound_at d i
+pub bound_number : (d : Design) (i : ℕ) → (condensed_of d).bound i ≡ pos (d.plant_denominator ^ d.stages) *ℤ bound_at d i
 bound_number d i = elim (cases_lt i (d.stages * d.stage_limits)) [
   | inl l ↦ rw (lt-ltb i (d.stages * d.stage_limits) l) (next _ _ _ (d.stage_limit (i % d.stage_limits)).bound
       (lift_power d.plant_denominator d.stages (i / d.stage_limits) (omega (arith, stage_inside i d.stages d.stage_limits l))))

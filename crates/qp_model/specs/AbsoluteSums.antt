@@ -6,13 +6,13 @@ use Rattle.integer_algebra.specs.Sums.{at}
 use Rattle.mat_int.specs.Matrix.{row_of}
 use Rattle.qp_model.specs.Controller.{Numbers, IsInForm}
 
--- the absolute values, each times its reach
+-- the absolute values, each times its magnitude
 abbrev pub weighted_abs_sum : List ℤ → List ℕ → ℕ
 weighted_abs_sum [] ys = 0
 weighted_abs_sum (x ∷ xs) [] = 0
 weighted_abs_sum (x ∷ xs) (y ∷ ys) = unsigned_abs x * y + weighted_abs_sum xs ys
 
--- how far a state of the box lies from 0 in each coordinate, over 2^fraction_bits: X_i
+-- the greatest absolute value of each coordinate of a state of the box, over 2^fraction_bits: X_i
 abbrev pub magnitudes_of : ℕ → List ℤ → List ℤ → List ℕ
 magnitudes_of k [] highs = []
 magnitudes_of k (low ∷ lows) [] = []
@@ -55,8 +55,9 @@ greatest_of (x ∷ xs) = max x (greatest_of xs)
 
 -- the greatest of all
 abbrev pub greatest_sum : Numbers → ℕ
-greatest_sum c = greatest_of (state_magnitudes c ++ map (entry_absolute_sum c) (range_with_len 0 (length c.offsets)) ++ map (row_absolute_sum c) (range_with_len 0 (length c.bounds))
-    ++ map (next_magnitude c) (range_with_len 0 (length c.bounds)) ++ map (sum_magnitude c) (range_with_len 0 (length c.offsets)))
+greatest_sum c = greatest_of (state_magnitudes c ++ map (entry_absolute_sum c) (range_with_len 0 (length c.offsets))
+    ++ map (row_absolute_sum c) (range_with_len 0 (length c.bounds)) ++ map (next_magnitude c) (range_with_len 0 (length c.bounds))
+    ++ map (sum_magnitude c) (range_with_len 0 (length c.offsets)))
 
 -- a controller: its numbers are in form, and no absolute sum passes 2^126 or its own width
 pub record IsController (c : Numbers) : Type 0 where

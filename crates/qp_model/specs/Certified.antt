@@ -1,5 +1,5 @@
 -- What a controller is certified for: the promise of the whole program. It speaks of the plant's trajectories, costs and limits, of all plans over
--- any denominator, and of nothing of the method.
+-- any denominator, and of the run of the machine; of why its method works it says nothing.
 use Rattle.std.specs.Prelude.{◌≡◌, ℕ, ◌*◌, ◌^◌, ◌<◌, ℤ, pos, ◌+ℤ◌, ◌*ℤ◌, ◌≤ℤ◌, ◌<ℤ◌, List, length}
 use Rattle.integer_algebra.specs.Sums.{at, square}
 use Rattle.qp_model.specs.declared.bounds.Bounds.{Bounds}
@@ -29,14 +29,26 @@ pub record HasFeasible (d : Design) (xi : ℕ → ℤ) (q : ℤ) (u : ℕ → �
   pub feasible : IsFeasible d denominator xi plan
   pub cheap : CostsAtMost d xi denominator plan q u more
 
--- the run from a state: each value fits the printed width, and the steps are the printed ones; the averaged plan exceeds each row by at most the
--- printed violation, costs at most the printed gap more than any feasible plan, and some feasible plan costs at most the printed undercut more
+-- ---- what a plan u over q keeps at the state xi
+-- it exceeds each row by at most excess / 2^40
+abbrev pub ExceedsNoRowBy : Design → (xi : ℕ → ℤ) → (q : ℤ) → (u : ℕ → ℤ) → (excess : ℤ) → Type 0
+ExceedsNoRowBy d xi q u excess = (i : ℕ) → i < rows d → ExceedsAtMost d xi q u i excess
+
+-- it costs at most more / 2^40 more than any feasible plan
+abbrev pub CostsNoMoreThanFeasible : Design → (xi : ℕ → ℤ) → (q : ℤ) → (u : ℕ → ℤ) → (more : ℤ) → Type 0
+CostsNoMoreThanFeasible d xi q u more = (r : ℤ) (t : ℕ → ℤ) → pos 0 <ℤ r → IsFeasible d r xi t → CostsAtMost d xi q u r t more
+
+-- the printed violation, gap and undercut hold of it
+pub record KeepsBounds (d : Design) (b : Bounds) (xi : ℕ → ℤ) (q : ℤ) (u : ℕ → ℤ) : Type 0 where
+  pub rows : ExceedsNoRowBy d xi q u b.violation
+  pub costs : CostsNoMoreThanFeasible d xi q u b.gap
+  pub repair : HasFeasible d xi q u b.undercut
+
+-- the run from a state: each value fits the printed width, the steps are the printed ones, and the averaged plan keeps the printed bounds
 pub record IsCertifiedAt (d : Design) (c : Numbers) (b : Bounds) (xi : List ℤ) : Type 0 where
   pub values : RunFits b.width c xi
   pub steps : c.steps ≡ b.steps
-  pub rows : (i : ℕ) → i < rows d → ExceedsAtMost d (at xi) (pos (average_denominator c)) (at (averaged_plan c xi)) i b.violation
-  pub costs : (r : ℤ) (t : ℕ → ℤ) → pos 0 <ℤ r → IsFeasible d r (at xi) t → CostsAtMost d (at xi) (pos (average_denominator c)) (at (averaged_plan c xi)) r t b.gap
-  pub repair : HasFeasible d (at xi) (pos (average_denominator c)) (at (averaged_plan c xi)) b.undercut
+  pub plan : KeepsBounds d b (at xi) (pos (average_denominator c)) (at (averaged_plan c xi))
 
 -- at every grid state of the box
 abbrev pub IsCertified : Design → Numbers → Bounds → Type 0

@@ -1,6 +1,7 @@
 -- The multiplier bound, the number of steps, and the bounds that are printed.
-use Rattle.std.specs.Prelude.{ℕ, ◌+◌, ◌*◌, ◌^◌, max}
+use Rattle.std.specs.Prelude.{ℕ, ◌+◌, ◌*◌, ◌^◌, max, unsigned_abs}
 use Rattle.integer_algebra.specs.Division.{ceil_div}
+use Rattle.qp_model.specs.declared.bounds.Margin.{Margin}
 
 -- R: the least whole number from 1 on that is at least the greatest cost over the least slack, where that is units / 2^16
 abbrev pub multiplier_bound : (units cost : ℕ) → ℕ
@@ -9,6 +10,13 @@ multiplier_bound units cost = max 1 (ceil_div (2 ^ 16 * cost) units)
 -- `multiplier`
 abbrev pub multiplier_size : (units cost : ℕ) → ℕ
 multiplier_size units cost = max (2 ^ 16 * cost) (2 ^ 82 * multiplier_bound units cost)
+
+-- R and the quantity, of a margin
+abbrev pub multiplier_of : Margin → ℕ
+multiplier_of m = multiplier_bound (unsigned_abs m.units) (unsigned_abs m.cost)
+
+abbrev pub multiplier_size_of : Margin → ℕ
+multiplier_size_of m = multiplier_size (unsigned_abs m.units) (unsigned_abs m.cost)
 
 -- K: the steps of a run after which 2^s R / K is at most the half of the violation's target, in units of 2^-41
 abbrev pub step_count : (s r half_target : ℕ) → ℕ

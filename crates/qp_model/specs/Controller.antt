@@ -6,8 +6,11 @@ use Rattle.mat_int.specs.Matrix.{Matrix}
 use Rattle.qp_model.specs.Range.{LiesIn, IsNumerator}
 use Rattle.qp_model.specs.declared.controller_parts.ControllerParts.{ControllerParts}
 
--- n states, p inputs a stage, N stages and m rows; f fraction bits, g grid bits, the step exponent s and the width w;
--- the gains P, T and W, over 2^f, and the rows G, E and b, over 2^f
+-- A controller's numbers and lists, by words. `ControllerParts` and the formulas have letters:
+--   n, p, N, m: states, inputs a stage, stages and rows;    f, g, s, w: fraction_bits, grid_bits, step_exponent and width
+--   K: steps;    lo, hi: low and high, over 2^g
+--   P, T, W (p_mat, t, w_mat): state_gains, offsets and dual_gains, over 2^f
+--   G, E, b (g_mat, e_mat, bound): plan_rows, state_rows and bounds, over 2^f
 pub record Numbers : Type 0 where
   pub states : ℕ
   pub inputs : ℕ
@@ -30,7 +33,27 @@ pub record Numbers : Type 0 where
   pub bounds : List ℤ
 
 abbrev pub numbers : ControllerParts → Numbers
-numbers c = record { states = c.n; inputs = c.p; stages = c.stages; rows = c.m; fraction_bits = c.f; grid_bits = c.g; step_exponent = c.s; width = c.w; steps = c.steps; clamp = c.clamp; words = c.words; low = c.lo.items; high = c.hi.items; state_gains = c.p_mat; offsets = c.t.items; dual_gains = c.w_mat; plan_rows = c.g_mat; state_rows = c.e_mat; bounds = c.bound.items }
+numbers c = record {
+  states = c.n;
+  inputs = c.p;
+  stages = c.stages;
+  rows = c.m;
+  fraction_bits = c.f;
+  grid_bits = c.g;
+  step_exponent = c.s;
+  width = c.w;
+  steps = c.steps;
+  clamp = c.clamp;
+  words = c.words;
+  low = c.lo.items;
+  high = c.hi.items;
+  state_gains = c.p_mat;
+  offsets = c.t.items;
+  dual_gains = c.w_mat;
+  plan_rows = c.g_mat;
+  state_rows = c.e_mat;
+  bounds = c.bound.items;
+}
 
 -- nu, the number of plan entries
 abbrev pub plan_length : Numbers → ℕ

@@ -6,11 +6,11 @@ use Rattle.qp_model.specs.Design.{Design, entries}
 use Rattle.qp_model.specs.Policy.{Plans}
 use Rattle.qp_model.specs.Quantities.{greatest, limit_width, cost_width, weight_sum, prediction_size}
 
--- how far the box reaches from 0, over 2^grid
+-- the greatest absolute value of a coordinate of the box, over 2^grid
 abbrev pub box_magnitude : Design → ℕ
 box_magnitude d = greatest d.states (λ i. max (unsigned_abs (d.low i)) (unsigned_abs (d.high i)))
 
--- how far the numbers of a corner's plan reach, which is counted from 0 here: its denominator over the grid, the state times it, and the plan over the grid
+-- the greatest absolute value that the plan of corner c, from 0 here, brings: its denominator over the grid, the state times it, and the plan over the grid
 abbrev pub corner_magnitude : Design → Plans → ℕ → ℕ
 corner_magnitude d p c =
     max (unsigned_abs (at p.denominators c) * 2 ^ d.grid)

@@ -1,17 +1,17 @@
 -- The numbers of the rounding errors: how far a plan, a gradient and a residual of the machine may be from the true ones. R is a bound on
 -- multipliers; the machine's multipliers go up to 2 R.
-use Rattle.std.specs.Prelude.{ℕ, ◌+◌, ◌*◌, ◌^◌, max, unsigned_abs}
+use Rattle.std.specs.Prelude.{ℕ, ◌+◌, ◌*◌, ◌^◌, unsigned_abs}
 use Rattle.integer_algebra.specs.Division.{ceil_div}
 use Rattle.integer_algebra.specs.Sizes.{size, amount}
 use Rattle.qp_model.specs.Design.{Design, entries, rows}
 use Rattle.qp_model.specs.Condensing.{condensed_of}
-use Rattle.qp_model.specs.Quantities.{greatest}
+use Rattle.qp_model.specs.CornerSizes.{box_magnitude}
 use Rattle.qp_model.specs.Columns.{input_floor, hessian_scale, rows_scale}
 
 -- ---- sizes of a design's numbers, each rounded up to a whole number
 -- how far a state of the box is from 0
 abbrev pub state_bound : Design → ℕ
-state_bound d = ceil_div (greatest d.states (λ i. max (unsigned_abs (d.low i)) (unsigned_abs (d.high i)))) (2 ^ d.grid)
+state_bound d = ceil_div (box_magnitude d) (2 ^ d.grid)
 
 abbrev pub linear_sum : Design → ℕ
 linear_sum d = ceil_div (amount (entries d) (λ j. size d.states ((condensed_of d).linear j))) (hessian_scale d)

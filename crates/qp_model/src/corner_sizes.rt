@@ -9,9 +9,8 @@ ghost use Rattle.qp_model.specs.CornerSizes.{box_magnitude, corner_magnitude, po
 
 use crate::design_parts::DesignParts;
 use crate::policy::Policy;
-use crate::sizes::{
-    cost_width, limit_width, limited_area, limited_product, prediction_size, weight_sum,
-};
+use crate::sizes::{cost_width, limit_width, limited_area, prediction_size, weight_sum};
+use frac_scaled::limited_product;
 
 // The greatest absolute value of some numbers.
 fn greatest_size(xs: &[i128]) -> u128
@@ -24,8 +23,8 @@ fn greatest_size(xs: &[i128]) -> u128
     most
 }
 
-// How far the box reaches from 0, over `2^grid`.
-fn box_magnitude(parts: &DesignParts) -> u128
+/// The greatest absolute value of a coordinate of the box, over `2^grid`.
+pub fn box_magnitude(parts: &DesignParts) -> u128
     requires { IsDesign parts.now }
     ensures value { result ≡ box_magnitude (design_of parts.now) }
     ensures small { result < 2 ^ 31 }
@@ -37,7 +36,7 @@ fn box_magnitude(parts: &DesignParts) -> u128
     most
 }
 
-// How far the numbers of the plan of corner `c`, from 0, reach.
+// The greatest absolute value that the plan of corner `c`, from 0, brings: its denominator, the state times it, and the plan.
 fn corner_magnitude(parts: &DesignParts, policy: &Policy, c: usize) -> u128
     requires design { IsDesign parts.now }
     requires plans { IsPolicyFor (design_of parts.now) (plans_of policy.now) }
@@ -50,7 +49,7 @@ fn corner_magnitude(parts: &DesignParts, policy: &Policy, c: usize) -> u128
     (over * grid).max((over * box_magnitude(parts)).max(entries))
 }
 
-/// How far the numbers of the corners' plans reach, over the grid, and those of their states over the plans' denominators.
+/// The greatest absolute value of the corners' plans, over the grid, and of their states, over the plans' denominators.
 pub fn policy_magnitude(parts: &DesignParts, policy: &Policy) -> u128
     requires design { IsDesign parts.now }
     requires plans { IsPolicyFor (design_of parts.now) (plans_of policy.now) }

@@ -18,7 +18,7 @@ mod text_fault;
 
 pub use bounds::{Bounds, Margin};
 pub use controller_parts::ControllerParts;
-pub use corner_sizes::{corner_cost_size, corner_slack_size, policy_magnitude};
+pub use corner_sizes::{box_magnitude, corner_cost_size, corner_slack_size, policy_magnitude};
 pub use design::Design;
 pub use design_parts::DesignParts;
 pub use laws::{
@@ -26,11 +26,11 @@ pub use laws::{
     gram_law, hessian_law, residual_law, response_law, row_bound_law, run_law, scaling_law,
     trajectory_law,
 };
-pub use number::{line_text, number_word, numbers_of, pieces_of, spaced_text};
+pub use number::{line_text, number_word, numbers_of, pieces_of, push_line, spaced_text};
 pub use policy::Policy;
 pub use quantity::{Quantity, Wide};
 pub use sizes::{
     cost_width, curvature_of, growth, hessian_size, limit_width, limited_area, limited_power,
-    limited_product, limited_sum, prediction_size, rows_size, weight_sum,
+    prediction_size, rows_size, weight_sum,
 };
 pub use text_fault::TextFault;

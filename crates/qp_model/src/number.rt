@@ -1,8 +1,8 @@
-ghost use Rattle.std.specs.Prelude.{◌≡◌, ◌==◌, ℤ, List, IfOk, OnOk, IfSome, IsSomeAnd, Some, All, FitsSigned, map, string_bytes};
+ghost use Rattle.std.specs.Prelude.{◌≡◌, ◌==◌, ◌++◌, ◌∷◌, [], ℤ, List, IfOk, OnOk, IfSome, IsSomeAnd, Some, All, FitsSigned, map, string_bytes};
 ghost use Rattle.std.specs.List.{slice_split};
 ghost use Rattle.std.specs.Int.{w128};
 ghost use Rattle.std.specs.Fmt.{signed_decimal};
-ghost use Rattle.qp_model.specs.Lines.{spaced, line_of};
+ghost use Rattle.qp_model.specs.Lines.{spaced, line_of, text_of};
 ghost use Rattle.qp_model.specs.Spelling.{is_plain};
 
 use std::alloc::{AllocError, Global};
@@ -88,6 +88,21 @@ pub fn line_text(alloc: Global, key: &str, numbers: &[i128]) -> Result<String, A
         text.push_str(word.as_str())?;
     }
     Ok(text)
+}
+
+/// A line of a key and numbers, with its line feed, at the end of a text.
+pub fn push_line(
+    alloc: Global,
+    text: &mut String,
+    key: &str,
+    numbers: &[i128],
+) -> Result<(), AllocError>
+    ensures text { OnOk result (string_bytes text.new ≡ string_bytes text.old ++ text_of (line_of key.now numbers.now ∷ [])) }
+    ensures word { OnOk result (All (FitsSigned w128) numbers.now) }
+{
+    let line = line_text(alloc, key, numbers)?;
+    text.push_str(line.as_str())?;
+    text.push('\n')
 }
 
 #[cfg(test)]

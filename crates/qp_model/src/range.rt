@@ -74,8 +74,8 @@ fn has_no_negative(m: &Mat, j: usize) -> bool
     true
 }
 
-// Whether each number is at most the one at its place in the other list.
-fn is_ordered(low: &[i128], high: &[i128]) -> bool
+/// Whether each number is at most the one at its place in the other list.
+pub fn is_ordered(low: &[i128], high: &[i128]) -> bool
     requires { length low.now ≡ length high.now }
     ensures { IsTrue result ↔ ((i : ℕ) → i < length low.now → at low.now i ≤ℤ at high.now i) }
 {

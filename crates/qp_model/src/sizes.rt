@@ -9,27 +9,8 @@ ghost use Rattle.qp_model.specs.Quantities.{greatest, growth, cost_width, limit_
 ghost use Rattle.qp_model.specs.CurvatureSize.{curvature_of};
 
 use crate::design_parts::DesignParts;
+use frac_scaled::limited_product;
 use mat_int::Mat;
-
-/// `a * b`, where it is at most `2^126`.
-pub fn limited_product(a: u128, b: u128) -> Option<u128>
-    ensures { SomeIff result (a * b ≤ 2 ^ 126) (a * b) }
-{
-    match a.checked_mul(b) {
-        Some(product) if product <= 1 << 126 => Some(product),
-        _ => None,
-    }
-}
-
-/// `a + b`, where it is at most `2^126`.
-pub fn limited_sum(a: u128, b: u128) -> Option<u128>
-    ensures { SomeIff result (a + b ≤ 2 ^ 126) (a + b) }
-{
-    match a.checked_add(b) {
-        Some(sum) if sum <= 1 << 126 => Some(sum),
-        _ => None,
-    }
-}
 
 /// `base^exponent`, where it is at most `2^126`.
 pub fn limited_power(base: u128, exponent: usize) -> Option<u128>

@@ -13,12 +13,10 @@ use std::test::Fail;
 
 // A matrix of these rows.
 fn rows(rt: &impl Abort, alloc: Global, cols: usize, rows: &[&[i128]]) -> Result<Mat, AllocError> {
-    let mut made = Mat::zero(alloc, 0, cols)?;
-    for row in rows {
-        assert!(rt; row.len() == made.cols());
-        made.push_row(alloc, row)?;
+    match Mat::from_rows(alloc, cols, rows)? {
+        Some(mat) => Ok(mat),
+        None => panic!(rt; "rows of several lengths"),
     }
-    Ok(made)
 }
 
 // A list of these numbers.
@@ -163,7 +161,11 @@ fn one_state(rt: HostRuntime) -> Result<(), Fail> {
         ..BASE
     };
     let eighth: (&[i128], &[&[i128]]) = (&[1, 8], &[&[0], &[-7]]);
-    let shown: [(TestDesign, (&[i128], &[&[i128]]), Result<Margin, MarginFault>); 6] = [
+    let shown: [(
+        TestDesign,
+        (&[i128], &[&[i128]]),
+        Result<Margin, MarginFault>,
+    ); 6] = [
         (
             BASE,
             eighth,

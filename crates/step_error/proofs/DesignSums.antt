@@ -23,7 +23,7 @@ use Rattle.std.proofs.Common.{Option}
 use Rattle.std.specs.Option.{SomeIff}
 use Rattle.step_error.specs.declared.sums.ErrorSums.{ErrorSums}
 use Rattle.step_error.specs.ErrorSums.{entry_squares, sums_by, size_by, whole_sums}
-use Rattle.step_error.proofs.SumFacts.{least-le, least-met, weight_at}
+use Rattle.qp_model.proofs.SoundLaws.{least-le, least-met, weight_at}
 
 -- ---- sums of numbers that are each within a bound
 amount_within : (n : ℕ) (f : ℕ → ℕ) (b : ℕ) → ((i : ℕ) → i < n → f i ≤ b) → amount n f ≤ n * b

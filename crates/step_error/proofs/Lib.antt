@@ -1,25 +1,34 @@
+-- The lemmas by topic.
+
+-- ---- a design as a program of the method
 pub mod DesignLaws
+-- ---- a plan of the machine: gains, gradient and size
 pub mod CarriedLaws
-pub mod EntryLaws
 pub mod Gains
 pub mod Pulls
 pub mod Gradients
 pub mod Slants
 pub mod Slopes
-pub mod Residuals
-pub mod RowErrors
 pub mod Convexity
 pub mod Entries
+pub mod EntryLaws
 pub mod Plans
+-- ---- the residuals that it uses
+pub mod Residuals
+pub mod RowErrors
+-- ---- states and multipliers of a run
 pub mod MachineSums
 pub mod Magnitudes
+-- ---- the errors of a step
 pub mod StepErrors
 pub mod MachineErrors
 mod WorkedErrors
+-- ---- a step, and a run
 pub mod MachineSteps
 pub mod MachineScales
 pub mod MachineStepLaws
 pub mod MachineRuns
+-- ---- the sums that the code computes
 pub mod Ceilings
 pub mod FallingLaws
 pub mod SumFacts

@@ -1,5 +1,5 @@
 -- The errors of each step of a controller that is made for a design.
-use Rattle.hessian_check.proofs.SoundLaws.{sound}
+use Rattle.qp_model.proofs.SoundLaws.{sound}
 use Rattle.qp_model.specs.Parts.{design_of}
 use Rattle.qp_model.proofs.CostLaws.{condensing}
 use Rattle.step_error.specs.MachineLaws.{CarriedLaw}

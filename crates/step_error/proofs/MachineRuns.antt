@@ -23,7 +23,7 @@ use Rattle.qp_model.specs.Built.{IsDerivedFrom}
 use Rattle.qp_model.specs.Errors.{error_sums_of, epsilon}
 use Rattle.qp_model.proofs.CostLaws.{condensing}
 use Rattle.qp_model.proofs.ScalingLaws.{scaling_law}
-use Rattle.hessian_check.proofs.SoundLaws.{sound}
+use Rattle.qp_model.proofs.SoundLaws.{sound}
 use Rattle.step_error.specs.Laws.{IsDesignRun}
 use Rattle.step_error.specs.MachineLaws.{HasErrors, plan_at, CarriedLaw, MachineRunBound, MachineRunLaw}
 use Rattle.step_error.proofs.DesignLaws.{design_run_law}

@@ -20,7 +20,7 @@ use Rattle.qp_model.specs.Built.{IsDerivedFrom}
 use Rattle.qp_model.specs.Errors.{error_sums_of, epsilon}
 use Rattle.qp_model.proofs.CostLaws.{condensing}
 use Rattle.qp_model.proofs.ScalingLaws.{scaling_law}
-use Rattle.hessian_check.proofs.SoundLaws.{sound}
+use Rattle.qp_model.proofs.SoundLaws.{sound}
 use Rattle.step_error.specs.MachineLaws.{HasErrors, multipliers_at, machine_scale, lifted_plan, CarriedLaw, MachineStepBound, MachineStepLaw}
 use Rattle.step_error.proofs.DesignLaws.{design_step_law}
 use Rattle.step_error.proofs.MachineSteps.{plan_over, multipliers_over, residuals_over, gradient_over, misses_over, exponents, step_is}

@@ -18,31 +18,13 @@ use Rattle.qp_model.specs.Columns.{input_floor, least}
 use Rattle.qp_model.specs.Errors as errors
 use Rattle.qp_model.specs.Errors.{plan_bound, residual_error, epsilon, error_sums_of, error_size, pull, combined_bound, trace_sum, gradient_squares}
 use Rattle.qp_model.proofs.SizeFacts.{some_row}
+use Rattle.qp_model.proofs.SoundLaws.{least-met, weight_at}
 use Rattle.step_error.specs.declared.sums.ErrorSums.{ErrorSums}
 use Rattle.step_error.specs.ErrorSums.{AreSums, whole_sums, sums_of, sums_by, size_by}
 use Rattle.step_error.proofs.Ceilings.{ceil_small, ceil_anti, quotient_is}
 use Rattle.step_error.proofs.FallingLaws.{power_rises, residual_error_falls}
 
 -- ---- the least input weight
-pub least-le : (n : ℕ) (f : ℕ → ℕ) (i : ℕ) → i < n → least n f ≤ f i
-least-le zero f i l = absurd (omega arith)
-least-le (suc zero) f i l = let e : i ≡ 0 = omega arith in rw e (omega arith)
-least-le (suc (suc n)) f i l = elim (cases_lt i (suc n)) [
-  | inl o ↦ omega (arith, least-le (suc n) f i o)
-  | inr o ↦ (let e : i ≡ suc n = omega arith in rw e (omega arith))
-]
-
-pub least-met : (n : ℕ) (f : ℕ → ℕ) → 1 ≤ n → (i : ℕ) × ((i < n) × (least n f ≡ f i))
-least-met zero f h = absurd (omega arith)
-least-met (suc zero) f h = (0, (omega arith, refl))
-least-met (suc (suc n)) f h = let before = least-met (suc n) f (omega arith) in elim (cases_lt (f (suc n)) (least (suc n) f)) [
-  | inl l ↦ (suc n, (omega arith, omega arith))
-  | inr l ↦ (before.0, (omega (arith, before.1.0), omega (arith, before.1.1)))
-]
-
-pub weight_at : (p : DesignParts) → IsDesign p → (l : ℕ) → l < p.inputs → IsPositive (at p.input_weights.items l)
-weight_at p h l o = All-get_or IsPositive p.input_weights.items l (pos 0) (omega (arith, h.input_count)) h.input_weights
-
 pub floor_range : (p : DesignParts) → IsDesign p → (1 ≤ input_floor (design_of p)) × (input_floor (design_of p) ≤ 2 ^ 31)
 floor_range p h =
     let m = least-met p.inputs (λ l. unsigned_abs (at p.input_weights.items l)) h.inputs.0 in

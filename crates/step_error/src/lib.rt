@@ -2,7 +2,7 @@
 #![tactic(auto)]
 
 ghost use Rattle.step_error.specs.Laws.{DesignStepLaw, DesignRunLaw};
-ghost use Rattle.step_error.specs.Carried.{GradientLaw, PlanEntryLaw, EpsilonLaw};
+ghost use Rattle.step_error.specs.Carried.{GradientLaw, PlanEntryLaw, EpsilonLaw, FallingLaw};
 ghost use Rattle.step_error.specs.MachineLaws.{CarriedLaw, MachineStepLaw, MachineRunLaw};
 
 mod errors;
@@ -34,6 +34,11 @@ pub fn entry_law()
 /// The two sums of the errors of a step are together at most epsilon.
 pub fn epsilon_law()
     ensures { EpsilonLaw }
+{}
+
+/// Epsilon does not rise with the number of fraction bits.
+pub fn falling_law()
+    ensures { FallingLaw }
 {}
 
 /// Each step of the machine of a controller that is made for a design has its multipliers in 0 .. 2 r, its plan within the plan bound, and

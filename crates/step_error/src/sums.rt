@@ -14,9 +14,10 @@ ghost use Rattle.qp_model.specs.declared.quantity.Quantity.TheVariants.{Error};
 ghost use Rattle.plant_condense.specs.Form.{IsFormOf};
 ghost use Rattle.step_error.specs.ErrorSums.{AreSums, whole_sums, sums_by, size_by, entry_error, entry_squares};
 
+use frac_scaled::{limited_product, limited_sum};
 use mat_int::Mat;
 use plant_condense::Condensed;
-use qp_model::{Design, DesignParts, Quantity, Wide, limited_product};
+use qp_model::{Design, DesignParts, Quantity, Wide, box_magnitude};
 
 /// What the bounds of the rounding errors at each number of fraction bits f are made of, for a design and multipliers up to `2 R`.
 #[derive(Clone, Copy, Debug, PartialEq, Eq)]
@@ -114,11 +115,7 @@ fn state_bound(parts: &DesignParts) -> u128
     ensures value { result ≡ state_bound (design_of parts.now) }
     ensures near { result ≤ 2 ^ 31 }
 {
-    let mut most = 0u128;
-    for i in 0..parts.states {
-        most = most.max(parts.lo[i].unsigned_abs().max(parts.hi[i].unsigned_abs()));
-    }
-    most.div_ceil(1 << parts.grid)
+    box_magnitude(parts).div_ceil(1 << parts.grid)
 }
 
 // The absolute values, added up.
@@ -156,16 +153,6 @@ fn diagonal_sum(mat: &Mat) -> u128
         sum += mat.at(j, j).unsigned_abs();
     }
     sum
-}
-
-// `a + b`, where it is at most `2^126`.
-fn limited_sum(a: u128, b: u128) -> Option<u128>
-    ensures { SomeIff result (a + b ≤ 2 ^ 126) (a + b) }
-{
-    match a.checked_add(b) {
-        Some(sum) if sum <= 1 << 126 => Some(sum),
-        _ => None,
-    }
 }
 
 // What the states, the constant and the multipliers pull a plan by, over the least input weight. None where it is above `2^126`.

@@ -44,18 +44,18 @@ returns c =
     let l8 = line_of (codes "words") (pos b.words ∷ []) in
     let e0 : text0 ≡ text_of (l0 ∷ []) = c.in_ok-text.ensures.ok in
     let e1 : text1 ≡ text_of (l0 ∷ l1 ∷ []) = pushed (l0 ∷ []) (l1 ∷ []) text0 text1 e0
-    (c.in_ok-push_line.ensures ∙ (λ i. text0 ++ text_of (line_of (codes "margin") (margin i ∷ pos 65536 ∷ []) ∷ []))) in
+    (c.in_ok-push_line.ensures.text ∙ (λ i. text0 ++ text_of (line_of (codes "margin") (margin i ∷ pos 65536 ∷ []) ∷ []))) in
     let e2 : text2 ≡ text_of (l0 ∷ l1 ∷ l2 ∷ []) = pushed (l0 ∷ l1 ∷ []) (l2 ∷ []) text1 text2 e1
-    (c.in_ok-push_line-2.ensures ∙ (λ i. text1 ++ text_of (line_of (codes "cost") (cost i ∷ []) ∷ []))) in
+    (c.in_ok-push_line-2.ensures.text ∙ (λ i. text1 ++ text_of (line_of (codes "cost") (cost i ∷ []) ∷ []))) in
     let e3 : text3 ≡ text_of (l0 ∷ l1 ∷ l2 ∷ l3 ∷ []) = pushed (l0 ∷ l1 ∷ l2 ∷ []) (l3 ∷ []) text2 text3 e2
-    (c.in_ok-push_line-3.ensures ∙ (λ i. text2 ++ text_of (line_of (codes "multiplier") (multiplier i ∷ []) ∷ []))) in
+    (c.in_ok-push_line-3.ensures.text ∙ (λ i. text2 ++ text_of (line_of (codes "multiplier") (multiplier i ∷ []) ∷ []))) in
     let e4 : text4 ≡ text_of (l0 ∷ l1 ∷ l2 ∷ l3 ∷ l4 ∷ []) = pushed (l0 ∷ l1 ∷ l2 ∷ l3 ∷ []) (l4 ∷ []) text3 text4 e3
-    (c.in_ok-push_line-4.ensures ∙ (λ i. text3 ++ text_of (line_of (codes "step") (step i ∷ []) ∷ []))) in
+    (c.in_ok-push_line-4.ensures.text ∙ (λ i. text3 ++ text_of (line_of (codes "step") (step i ∷ []) ∷ []))) in
     let e5 : text5 ≡ text_of (l0 ∷ l1 ∷ l2 ∷ l3 ∷ l4 ∷ l5 ∷ []) = pushed (l0 ∷ l1 ∷ l2 ∷ l3 ∷ l4 ∷ []) (l5 ∷ []) text4 text5 e4
-    (c.in_ok-push_line-5.ensures ∙ (λ i. text4 ++ text_of (line_of (codes "steps") (steps i ∷ []) ∷ []))) in
+    (c.in_ok-push_line-5.ensures.text ∙ (λ i. text4 ++ text_of (line_of (codes "steps") (steps i ∷ []) ∷ []))) in
     let e6 : text6 ≡ text_of (l0 ∷ l1 ∷ l2 ∷ l3 ∷ l4 ∷ l5 ∷ l6 ∷ []) = pushed (l0 ∷ l1 ∷ l2 ∷ l3 ∷ l4 ∷ l5 ∷ []) (l6 ∷ []) text5 text6 e5
-    (c.in_ok-push_line-6.ensures ∙ (λ i. text5 ++ text_of (line_of (codes "bits") (bits i ∷ []) ∷ []))) in
+    (c.in_ok-push_line-6.ensures.text ∙ (λ i. text5 ++ text_of (line_of (codes "bits") (bits i ∷ []) ∷ []))) in
     let e7 : text7 ≡ text_of (l0 ∷ l1 ∷ l2 ∷ l3 ∷ l4 ∷ l5 ∷ l6 ∷ l7 ∷ []) = pushed (l0 ∷ l1 ∷ l2 ∷ l3 ∷ l4 ∷ l5 ∷ l6 ∷ []) (l7 ∷ []) text6 text7 e6
-    (c.in_ok-push_line-7.ensures ∙ (λ i. text6 ++ text_of (line_of (codes "width") (width i ∷ []) ∷ []))) in
+    (c.in_ok-push_line-7.ensures.text ∙ (λ i. text6 ++ text_of (line_of (codes "width") (width i ∷ []) ∷ []))) in
     pushed (l0 ∷ l1 ∷ l2 ∷ l3 ∷ l4 ∷ l5 ∷ l6 ∷ l7 ∷ []) (l8 ∷ []) text7 text8 e7
-    (c.in_ok-push_line-8.ensures ∙ (λ i. text7 ++ text_of (line_of (codes "words") (words i ∷ []) ∷ [])))
+    (c.in_ok-push_line-8.ensures.text ∙ (λ i. text7 ++ text_of (line_of (codes "words") (words i ∷ []) ∷ [])))

@@ -1,0 +1,174 @@
+-- Two controllers that are built for one design and policy agree in all but their gains, and the width that follows from these.
+use Rattle.std.proofs.Common.{◌≡◌, ℕ, ◌+◌, ◌*◌, ◌^◌, ◌<◌, ℤ, pos, ◌*ℤ◌, unsigned_abs, List, [], length, get_or, arith, ap, sym, subst, ◌∙◌}
+use Rattle.std.proofs.lemmas.List.{same_lists, get_or_default}
+use Rattle.integer_algebra.specs.Sums.{at}
+use Rattle.integer_algebra.specs.Division.{round_of}
+use Rattle.mat_int.specs.Matrix.{Matrix, row_of, entry_of}
+use Rattle.qp_model.specs.Design.{Design, entries, rows}
+use Rattle.qp_model.specs.Parts.{design_of}
+use Rattle.qp_model.specs.Policy.{Plans}
+use Rattle.qp_model.specs.Columns.{rows_scale}
+use Rattle.qp_model.specs.Condensing.{condensed_of}
+use Rattle.qp_model.specs.Choices.{multiplier_of, step_count, violation_bound, undercut_bound}
+use Rattle.qp_model.specs.Errors.{error_sums_of}
+use Rattle.qp_model.specs.Controller.{Numbers, HasShape, plan_length}
+use Rattle.qp_model.specs.declared.design_parts.DesignParts.{DesignParts}
+use Rattle.qp_model.specs.declared.bounds.Bounds.{Bounds}
+use Rattle.bit_choice.specs.Choice.{IsChoice}
+use Rattle.approx_inverse.proofs.MatrixLaws.{row_long}
+use Rattle.design_engine.specs.Targets.{Targets, targets_of, half_target, error_limit}
+use Rattle.design_engine.specs.Bounds.{margin_of, printed_multiplier, errors_cost}
+use Rattle.design_engine.specs.Built.{IsBuilt}
+use Rattle.design_engine.specs.Agreement.{AgreeButGains, AgreementLaw}
+use Rattle.design_engine.proofs.OneOfEach.{one_margin, one_exponent, one_choice}
+
+-- ---- lists and matrices of one shape with the same entries
+same_numbers : (xs ys : List ℤ) (n : ℕ) → length xs ≡ n → length ys ≡ n → ((k : ℕ) → k < n → at xs k ≡ at ys k) → xs ≡ ys
+same_numbers xs ys n e f h = same_lists xs ys (e ∙ sym f) (λ k d l.
+    get_or_default xs k d (pos 0) l ∙ h k (omega (arith, l, e)) ∙ sym (get_or_default ys k d (pos 0) (omega (arith, l, e, f))))
+
+same_matrix : (a b : Matrix) (h w : ℕ) → HasShape a h w → HasShape b h w → ((i j : ℕ) → i < h → j < w → entry_of a i j ≡ entry_of b i j) → a ≡ b
+same_matrix a b h w s t e =
+    let cols : a.cols ≡ b.cols = s.cols ∙ sym t.cols in
+    let rows : a.rows ≡ b.rows = same_lists a.rows b.rows (s.rows ∙ sym t.rows) (λ i d l.
+    get_or_default a.rows i d [] l ∙
+    same_numbers (row_of a i) (row_of b i) w (row_long a h w i s (omega (arith, l, s.rows))) (row_long b h w i t (omega (arith, l, s.rows)))
+    (λ j k. e i j (omega (arith, l, s.rows)) k) ∙
+    sym (get_or_default b.rows i d [] (omega (arith, l, s.rows, t.rows)))) in
+    λ i. record { cols = cols i; rows = rows i }
+
+-- a shape, by other names of its numbers
+shape_as : (m : Matrix) (h w height width : ℕ) → h ≡ height → w ≡ width → HasShape m h w → HasShape m height width
+shape_as m h w height width e f s = rw (e, f) at s
+
+-- ---- the choice of bits, by either name of R
+choice_same : (d : Design) (t : Targets) (r q f g : ℕ) → r ≡ q → IsChoice (error_sums_of d r) d.grid (error_limit t r) f →
+    IsChoice (error_sums_of d q) d.grid (error_limit t q) g → f ≡ g
+choice_same d t r q f g e x y =
+    one_choice (error_sums_of d q) d.grid (error_limit t q) f g (subst (λ (n : ℕ). IsChoice (error_sums_of d n) d.grid (error_limit t n) f) e x) y
+
+-- ---- the law
+pub agreement : AgreementLaw
+agreement p plans c other b printed h k = record {
+  numbers = λ i. record {
+    states = states i;
+    inputs = inputs i;
+    stages = stages i;
+    rows = limits i;
+    fraction_bits = bits i;
+    grid_bits = grid i;
+    step_exponent = exponent i;
+    width = other.width;
+    steps = steps i;
+    clamp = clamp i;
+    words = words i;
+    low = low i;
+    high = high i;
+    state_gains = other.state_gains;
+    offsets = other.offsets;
+    dual_gains = other.dual_gains;
+    plan_rows = plan_rows i;
+    state_rows = state_rows i;
+    bounds = bounds i;
+  };
+  bounds = λ i. record {
+    margin = (margin i).units;
+    cost = (margin i).cost;
+    multiplier = (h.bounds.multiplier ∙ ap pos r ∙ sym k.bounds.multiplier) i;
+    step = (h.bounds.step ∙ exponent ∙ sym k.bounds.step) i;
+    steps = (h.bounds.steps ∙ steps ∙ sym k.bounds.steps) i;
+    bits = (h.bounds.bits ∙ bits ∙ sym k.bounds.bits) i;
+    width = printed.width;
+    words = (h.bounds.words ∙ words ∙ sym k.bounds.words) i;
+    violation = violation i;
+    gap = (h.bounds.gap ∙ ap pos errors ∙ sym k.bounds.gap) i;
+    undercut = (h.bounds.undercut ∙ (λ j. pos (undercut_bound (r j) (unsigned_abs (violation j)))) ∙ sym k.bounds.undercut) i;
+  };
+}
+  where
+    d : Design
+    d = design_of p
+
+    t : Targets
+    t = targets_of p
+
+    margin : margin_of b ≡ margin_of printed
+    margin = one_margin p plans h.design h.policy (margin_of b) (margin_of printed) h.margin k.margin
+
+    r : printed_multiplier b ≡ printed_multiplier printed
+    r = ap multiplier_of margin
+
+    states : c.states ≡ other.states
+    states = h.made.sizes.states ∙ sym k.made.sizes.states
+
+    inputs : c.inputs ≡ other.inputs
+    inputs = h.made.sizes.inputs ∙ sym k.made.sizes.inputs
+
+    stages : c.stages ≡ other.stages
+    stages = h.made.sizes.stages ∙ sym k.made.sizes.stages
+
+    limits : c.rows ≡ other.rows
+    limits = h.made.sizes.rows ∙ sym k.made.sizes.rows
+
+    grid : c.grid_bits ≡ other.grid_bits
+    grid = h.made.sizes.grid ∙ sym k.made.sizes.grid
+
+    length_same : plan_length c ≡ plan_length other
+    length_same = λ i. inputs i * stages i
+
+    exponent : c.step_exponent ≡ other.step_exponent
+    exponent = one_exponent d c.step_exponent other.step_exponent h.exponent k.exponent
+
+    steps : c.steps ≡ other.steps
+    steps = h.steps ∙ (λ i. step_count (exponent i) (r i) (half_target t)) ∙ sym k.steps
+
+    bits : c.fraction_bits ≡ other.fraction_bits
+    bits = choice_same d t (printed_multiplier b) (printed_multiplier printed) c.fraction_bits other.fraction_bits r h.bits k.bits
+
+    errors : errors_cost d (printed_multiplier b) c.fraction_bits ≡ errors_cost d (printed_multiplier printed) other.fraction_bits
+    errors = λ i. errors_cost d (r i) (bits i)
+
+    violation : b.violation ≡ printed.violation
+    violation = h.bounds.violation ∙ (λ i. pos (violation_bound (exponent i) (r i) (steps i) (errors i))) ∙ sym k.bounds.violation
+
+    clamp : c.clamp ≡ other.clamp
+    clamp = h.made.clamp ∙ (λ i. pos (2 * r i * 2 ^ (bits i + exponent i))) ∙ sym k.made.clamp
+
+    words : c.words ≡ other.words
+    words = h.controller.form.sized.words ∙ (λ i. states i + limits i + 2 * length_same i) ∙ sym k.controller.form.sized.words
+
+    rounded_same : (z : ℤ) → round_of (pos (2 ^ c.fraction_bits) *ℤ z) (rows_scale d) ≡ round_of (pos (2 ^ other.fraction_bits) *ℤ z) (rows_scale d)
+    rounded_same z = λ i. round_of (pos (2 ^ bits i) *ℤ z) (rows_scale d)
+
+    low : c.low ≡ other.low
+    low = same_numbers c.low other.low d.states
+        (h.controller.form.sized.shaped.low ∙ h.made.sizes.states) (k.controller.form.sized.shaped.low ∙ k.made.sizes.states)
+        (λ j l. h.made.sizes.low j l ∙ sym (k.made.sizes.low j l))
+
+    high : c.high ≡ other.high
+    high = same_numbers c.high other.high d.states
+        (h.controller.form.sized.shaped.high ∙ h.made.sizes.states) (k.controller.form.sized.shaped.high ∙ k.made.sizes.states)
+        (λ j l. h.made.sizes.high j l ∙ sym (k.made.sizes.high j l))
+
+    bounds : c.bounds ≡ other.bounds
+    bounds = same_numbers c.bounds other.bounds (rows d)
+        (h.controller.form.sized.shaped.bounds ∙ h.made.sizes.rows) (k.controller.form.sized.shaped.bounds ∙ k.made.sizes.rows)
+        (λ j l. h.made.rows.bounds j l ∙ rounded_same ((condensed_of d).bound j) ∙ sym (k.made.rows.bounds j l))
+
+    long : (e : Numbers) → e.inputs ≡ d.inputs → e.stages ≡ d.stages → plan_length e ≡ entries d
+    long e f g = (λ i. f i * g i) ∙ turned d.inputs d.stages
+      where
+        turned : (m n : ℕ) → m * n ≡ n * m
+        turned m n = omega arith
+
+    plan_rows : c.plan_rows ≡ other.plan_rows
+    plan_rows = same_matrix c.plan_rows other.plan_rows (rows d) (entries d)
+        (shape_as _ _ _ _ _ h.made.sizes.rows (long c h.made.sizes.inputs h.made.sizes.stages) h.controller.form.sized.shaped.plan_rows)
+        (shape_as _ _ _ _ _ k.made.sizes.rows (long other k.made.sizes.inputs k.made.sizes.stages) k.controller.form.sized.shaped.plan_rows)
+        (λ i j l m. h.made.rows.plan_rows i j l m ∙ rounded_same ((condensed_of d).by_plan i j) ∙ sym (k.made.rows.plan_rows i j l m))
+
+    state_rows : c.state_rows ≡ other.state_rows
+    state_rows = same_matrix c.state_rows other.state_rows (rows d) d.states
+        (shape_as _ _ _ _ _ h.made.sizes.rows h.made.sizes.states h.controller.form.sized.shaped.state_rows)
+        (shape_as _ _ _ _ _ k.made.sizes.rows k.made.sizes.states k.controller.form.sized.shaped.state_rows)
+        (λ i j l m. h.made.rows.state_rows i j l m ∙ rounded_same ((condensed_of d).by_state i j) ∙ sym (k.made.rows.state_rows i j l m))
