@@ -1,0 +1,2 @@
+-- numbers in decimal
+pub mod Numerals

@@ -1,0 +1,3 @@
+pub mod Solve
+pub mod Lines
+pub mod Printing

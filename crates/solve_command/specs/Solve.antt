@@ -1,0 +1,76 @@
+-- What `solve` is called to answer by what its two files hold, and what it prints.
+use Rattle.std.specs.Prelude.{◌≡◌, ◌≢◌, ◌⊎◌, ℕ, ◌+◌, ◌<◌, ◌≤◌, List, ◌++◌, length, Option}
+use Rattle.io_edge.specs.Faults.{GrowsByPart}
+use Rattle.mat_int.specs.Matrix.{Matrix, row_of}
+use Rattle.qp_model.specs.Controller.{Numbers}
+use Rattle.qp_model.specs.Machine.{IsGridState}
+use Rattle.fixed_kernel.specs.Outside.{IsFirstOutside}
+use Rattle.command_line.specs.Answers.{Contents, Holds}
+use Rattle.command_files.specs.Texts.{ControllerRight, StatesRight}
+use Rattle.command_files.specs.Reading.{ReadsController, ReadsStates}
+use Rattle.solve_command.specs.Lines.{plan_lines}
+use Rattle.command_line.specs.declared.status.Status.{Status}
+use Rattle.command_line.specs.declared.status.Status.TheVariants.{Done, Memory, ReadFault, WriteFault, OutsideBox}
+
+-- each of the first k states lies in the controller's box
+abbrev pub AreInside : Numbers → Matrix → ℕ → Type 0
+AreInside c states k = (e : ℕ) → e < k → IsGridState c (row_of states e)
+
+-- the state of a record is the first that lies outside the box, and the status tells which, and its first coordinate outside
+pub record IsOutside (c : Numbers) (states : Matrix) (s : Status) : Type 0 where
+  pub index : ℕ
+  pub coordinate : ℕ
+  pub there : index < length states.rows
+  pub before : AreInside c states index
+  pub here : IsFirstOutside c (row_of states index) coordinate
+  pub is : s ≡ OutsideBox (index + 1) 0 coordinate
+
+-- what a controller and states call for: the first state outside the box is told, or the lines are printed
+abbrev pub RunsCall : Numbers → Matrix → Status → Type 0
+RunsCall c states s = IsOutside c states s ⊎ ((s ≡ Done) × AreInside c states (length states.rows))
+
+-- what the contents of a controller's and a states file call for
+abbrev pub SolveCalls : (controller states : Option (List ℕ)) → Status → Type 0
+SolveCalls controller states s = ReadsController 1 controller (λ c. ReadsStates c.states 2 states (RunsCall c)) s
+
+-- two files hold a controller and states that all lie in its box
+pub record HoldsRuns (controller states : Option (List ℕ)) (c : Numbers) (m : Matrix) : Type 0 where
+  pub controller_right : Holds (ControllerRight c) controller
+  pub states_right : Holds (StatesRight c.states m) states
+  pub inside : AreInside c m (length m.rows)
+
+-- ---- faults
+-- the file at this position is read: the first, and the second where the first holds a controller
+abbrev pub SolveReaches : (controller : Option (List ℕ)) → ℕ → Type 0
+SolveReaches controller file = (file ≡ 1) ⊎ ((file ≡ 2) × (c : Numbers) × Holds (ControllerRight c) controller)
+
+-- ---- what is printed
+-- the lines of all states
+pub record PrintsAll (controller states : Option (List ℕ)) (old new : List ℕ) : Type 0 where
+  pub c : Numbers
+  pub m : Matrix
+  pub runs : HoldsRuns controller states c m
+  pub printed : new ≡ old ++ plan_lines c m (length m.rows)
+
+-- a part of them that isn't all, where a print failed
+pub record PrintsPart (controller states : Option (List ℕ)) (old new : List ℕ) : Type 0 where
+  pub c : Numbers
+  pub m : Matrix
+  pub runs : HoldsRuns controller states c m
+  pub printed : GrowsByPart old new (plan_lines c m (length m.rows))
+
+-- the lines of some first states
+pub record PrintsSome (controller states : Option (List ℕ)) (old new : List ℕ) : Type 0 where
+  pub c : Numbers
+  pub m : Matrix
+  pub runs : HoldsRuns controller states c m
+  pub count : ℕ
+  pub some : count ≤ length m.rows
+  pub printed : new ≡ old ++ plan_lines c m count
+
+-- what the output got, by the answer
+pub record SolvePrints (contents : Contents) (s : Status) (old new : List ℕ) : Type 0 where
+  pub done : s ≡ Done → PrintsAll contents.first contents.second old new
+  pub fault : s ≡ WriteFault 0 → PrintsPart contents.first contents.second old new
+  pub memory : s ≡ Memory → (new ≡ old) ⊎ PrintsSome contents.first contents.second old new
+  pub other : s ≢ Done → s ≢ WriteFault 0 → s ≢ Memory → new ≡ old
