@@ -7,8 +7,7 @@ use Rattle.qp_model.specs.Certified.{IsCertified}
 use Rattle.qp_model.specs.declared.design_parts.DesignParts.{DesignParts}
 use Rattle.qp_model.specs.declared.bounds.Bounds.{Bounds}
 use Rattle.qp_model.specs.declared.bounds.Margin.{Margin}
-use Rattle.bound_report.specs.Report.{report_text}
-use Rattle.bound_report.specs.Document.{report_json}
+use Rattle.bound_report.specs.Report.{report_text, report_json}
 use Rattle.design_engine.specs.Targets.{targets_of, IsWithinTargets}
 use Rattle.design_engine.specs.Built.{IsBuilt}
 use Rattle.design_engine.specs.Refusals.{HasCause, PassesAll}

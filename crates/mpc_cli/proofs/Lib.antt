@@ -1,9 +1,0 @@
-pub mod Texts
-pub mod Causes
-pub mod Reading
-pub mod Passing
-pub mod Counts
-pub mod Generating
-pub mod Solving
-pub mod Judging
-pub mod Commands

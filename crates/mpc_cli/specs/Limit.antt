@@ -1,6 +1,0 @@
--- How long a file may be.
-use Rattle.std.specs.Prelude.{ℕ}
-
--- the most bytes of a file
-abbrev pub file_limit : ℕ
-file_limit = 4194304
