@@ -83,4 +83,4 @@ pub record IsWrongBy {X : Type 0} (file : ℕ) (Wrong : List ℕ → Status → 
 -- reading the file ends with this status: out of memory, or its read failed, or it is refused
 abbrev pub EndsReading : {X : Type 0} → ℕ → (Wrong : List ℕ → Status → Type 0) → (Right : X → List ℕ → Type 0) → Option Files → (name : List ℕ) → (before now : ℕ) → Status → Type 0
 EndsReading {X} file Wrong Right held name before now s =
-    (s ≡ Memory) ⊎ (((s ≡ ReadFault file) × Rose before now) ⊎ IsWrongBy {X} file Wrong Right held name s)
+    (s ≡ Memory) ⊎ (((s ≡ ReadFault file) × Rose before now) ⊎ IsWrongBy {X = X} file Wrong Right held name s)

@@ -34,10 +34,10 @@ pub record IsCount (most : ℕ) (word : List ℕ) (n : ℕ) : Type 0 where
 pub record IsLoop (words : List (List ℕ)) (turns : ℕ) : Type 0 where
   pub count : length words ≡ 5
   pub command : word_of words 0 ≡ codes "loop"
-  pub turns : IsCount 1000000 (word_of words 4) turns
+  pub last : IsCount 1000000 (word_of words 4) turns
 
 -- the words are `demo` and this number
 pub record IsDemo (words : List (List ℕ)) (number : ℕ) : Type 0 where
   pub count : length words ≡ 2
   pub command : word_of words 0 ≡ codes "demo"
-  pub number : IsCount 4294967295 (word_of words 1) number
+  pub last : IsCount 4294967295 (word_of words 1) number
