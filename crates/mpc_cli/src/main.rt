@@ -52,4 +52,4 @@ mod tests;
 #[cfg(test)]
 mod tests_generate;
 #[cfg(test)]
-mod tests_texts;
+mod tests_runs;
