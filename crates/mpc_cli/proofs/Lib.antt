@@ -1,0 +1,8 @@
+-- which command the arguments are those of
+pub mod Arguments
+-- what each command's answer is for the program
+pub mod Lifting
+-- which statuses a command answers
+pub mod Statuses
+-- faults, and that the program doesn't give up
+pub mod Completeness
