@@ -1,5 +1,5 @@
 -- Which bytes are the text of what, and with which status others are refused.
-use Rattle.std.specs.Prelude.{◌≡◌, ℕ, List}
+use Rattle.std.specs.Prelude.{◌≡◌, ◌≢◌, ℕ, List}
 use Rattle.mat_int.specs.Matrix.{Matrix}
 use Rattle.qp_model.specs.Design.{Design}
 use Rattle.qp_model.specs.Policy.{Plans}
@@ -7,6 +7,7 @@ use Rattle.qp_model.specs.Controller.{Numbers}
 use Rattle.qp_model.specs.ControllerText.{IsControllerText}
 use Rattle.qp_model.specs.declared.design_parts.DesignParts.{DesignParts}
 use Rattle.qp_model.specs.declared.text_fault.TextFault.{TextFault}
+use Rattle.qp_model.specs.declared.text_fault.TextFault.TheVariants.{Memory as no_memory}
 use Rattle.controller_file.specs.FirstLine.{IsBadLine, IsUnsafe}
 use Rattle.controller_file.specs.declared.bad_controller.BadController.{BadController}
 use Rattle.controller_file.specs.declared.bad_controller.BadController.TheVariants.{Line, Unsafe, Memory}
@@ -16,9 +17,9 @@ use Rattle.policy_file.specs.StatesText.{IsStatesText, IsStatesFault}
 use Rattle.command_line.specs.declared.status.Status.{Status}
 use Rattle.command_line.specs.declared.status.Status.TheVariants.{Text, Controller}
 
--- the status tells of a text's first fault, in the file at a position
+-- the status tells of a text's first fault, which is never that memory ran out, in the file at a position
 abbrev pub TellsFault : ℕ → TextFault → Status → Type 0
-TellsFault file fault s = s ≡ Text file fault
+TellsFault file fault s = (fault ≢ no_memory) × (s ≡ Text file fault)
 
 -- ---- designs
 abbrev pub DesignRight : DesignParts → List ℕ → Type 0
