@@ -1,8 +1,8 @@
 -- How a command's answer follows file by file: the first file that is refused ends the run, and what is right goes on to what comes after.
-use Rattle.std.proofs.Common.{◌≡◌, ◌⊎◌, inl, inr, ℕ, List, Option, Some, None, refl, subst}
+use Rattle.std.proofs.Common.{◌≡◌, inl, inr, ℕ, List, Option, Some, None, refl, subst}
 use Rattle.io_edge.specs.Faults.{Files}
 use Rattle.command_line.specs.Words.{word_of}
-use Rattle.command_line.specs.Answers.{Contents, IsTold, ForContents, Holds, IsFileRefused, ReadsThen, IsAnswer, IsRightFor, IsWrongBy}
+use Rattle.command_line.specs.Answers.{Contents, IsTold, ForContents, ReadsThen, IsAnswer, IsRightFor, IsWrongBy}
 use Rattle.command_line.specs.declared.status.Status.{Status}
 
 -- ---- what the store tells

@@ -1,10 +1,28 @@
-// The lines that tell of answers.
-use crate::status::{Field, Status};
+// The lines that tell of answers, and the commands.
 use crate::error_line::status_line;
+use crate::status::{Field, Status};
+use crate::words::{Command, command_of, is_json};
 use controller_file::BadController;
 use frac_scaled::Frac;
+use io_edge::Words;
 use qp_model::{Quantity, TextFault};
+use std::alloc::{AllocError, Global};
 use std::test::Fail;
+
+// Whether this line tells of the answer.
+fn is_line(alloc: Global, status: &Status, line: &str) -> Result<bool, AllocError> {
+    let got = status_line(alloc, status)?;
+    Ok(got.as_slice() == line.as_bytes())
+}
+
+// Whether the arguments, with one space between two, are those of this command.
+fn are_of(alloc: Global, arguments: &str, command: Option<Command>) -> Result<bool, AllocError> {
+    let mut words = Words::empty(alloc);
+    for word in arguments.split(' ') {
+        words.push(word)?;
+    }
+    Ok(command_of(&words) == command)
+}
 
 // Each answer once, with each fault of a text and of a controller.
 #[test]
@@ -106,8 +124,8 @@ fn lines(rt: HostRuntime) -> Result<(), Fail> {
         ),
     ];
     for (status, line) in cases {
-        let got = status_line(rt.alloc(), &status)?;
-        assert_eq!(rt; got.as_slice(), line.as_bytes(), "{status:?}");
+        let same = is_line(rt.alloc(), &status, line)?;
+        assert!(rt; same, "{status:?}");
     }
     Ok(())
 }
@@ -115,4 +133,58 @@ fn lines(rt: HostRuntime) -> Result<(), Fail> {
 // The answer that tells of a text's fault.
 fn text(file: u32, fault: TextFault) -> Status {
     Status::Text { file, fault }
+}
+
+// Each command, and next to it the arguments of none.
+#[test]
+fn commands(rt: HostRuntime) -> Result<(), Fail> {
+    let cases = [
+        ("generate d p c r", Some(Command::Generate)),
+        ("generate d d c r.json", Some(Command::Generate)),
+        ("solve c s", Some(Command::Solve)),
+        ("solve s s", Some(Command::Solve)),
+        ("loop d c s 0", Some(Command::Loop { turns: 0 })),
+        ("loop d c s 1000000", Some(Command::Loop { turns: 1000000 })),
+        ("demo 0", Some(Command::Demo { number: 0 })),
+        (
+            "demo 4294967295",
+            Some(Command::Demo { number: 4294967295 }),
+        ),
+        ("", None),
+        ("solve", None),
+        ("solve c", None),
+        ("solve c s t", None),
+        ("Solve c s", None),
+        ("generate d p c", None),
+        ("generate d p c r x", None),
+        ("generate d p d r", None),
+        ("generate d p p r", None),
+        ("generate d p c d", None),
+        ("generate d p c p", None),
+        ("generate d p c c", None),
+        ("loop d c s", None),
+        ("loop d c s 1000001", None),
+        ("loop d c s 01", None),
+        ("loop d c s -1", None),
+        ("loop d c s -0", None),
+        ("loop d c s +1", None),
+        ("loop d c s x", None),
+        ("loop d c s ", None),
+        ("loop d c s 1 2", None),
+        ("demo", None),
+        ("demo 4294967296", None),
+        ("demo 00", None),
+        ("demo 1 2", None),
+        ("run c s", None),
+    ];
+    for (arguments, command) in cases {
+        let same = are_of(rt.alloc(), arguments, command)?;
+        assert!(rt; same, "{arguments}");
+    }
+    Ok(())
+}
+
+#[test]
+fn json_names(rt: HostRuntime) {
+    assert!(rt; is_json("r.json") && is_json(".json") && !is_json("r.JSON") && !is_json("json"));
 }

@@ -11,12 +11,8 @@ use qp_model::number_word;
 pub enum Command {
     Generate,
     Solve,
-    Loop {
-        turns: u32,
-    },
-    Demo {
-        number: u32,
-    },
+    Loop { turns: u32 },
+    Demo { number: u32 },
 }
 
 /// The most turns of a `loop`.
