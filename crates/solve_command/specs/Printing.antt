@@ -4,7 +4,7 @@ use Rattle.io_edge.specs.Faults.{GrowsByPart}
 use Rattle.mat_int.specs.Matrix.{Matrix}
 use Rattle.qp_model.specs.Controller.{Numbers}
 use Rattle.solve_command.specs.Lines.{plan_lines}
-use Rattle.solve_command.specs.Solve.{AreInside, RunsCall}
+use Rattle.solve_command.specs.Inside.{AreInside, RunsCall}
 use Rattle.command_line.specs.declared.status.Status.{Status}
 use Rattle.command_line.specs.declared.status.Status.TheVariants.{Done, Memory, WriteFault}
 

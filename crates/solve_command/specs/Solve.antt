@@ -1,33 +1,16 @@
 -- What `solve` is called to answer by what its two files hold, and what it prints.
-use Rattle.std.specs.Prelude.{◌≡◌, ◌≢◌, ◌⊎◌, ℕ, ◌+◌, ◌<◌, ◌≤◌, List, ◌++◌, length, Option}
+use Rattle.std.specs.Prelude.{◌≡◌, ◌≢◌, ◌⊎◌, ℕ, ◌≤◌, List, ◌++◌, length, Option}
 use Rattle.io_edge.specs.Faults.{GrowsByPart}
-use Rattle.mat_int.specs.Matrix.{Matrix, row_of}
+use Rattle.mat_int.specs.Matrix.{Matrix}
 use Rattle.qp_model.specs.Controller.{Numbers}
-use Rattle.qp_model.specs.Machine.{IsGridState}
-use Rattle.fixed_kernel.specs.Outside.{IsFirstOutside}
 use Rattle.command_line.specs.Answers.{Contents, Holds}
 use Rattle.command_files.specs.Texts.{ControllerRight, StatesRight}
 use Rattle.command_files.specs.Reading.{ReadsController, ReadsStates}
+pub use Rattle.solve_command.specs.Inside.{AreInside}
+use Rattle.solve_command.specs.Inside.{RunsCall}
 use Rattle.solve_command.specs.Lines.{plan_lines}
 use Rattle.command_line.specs.declared.status.Status.{Status}
-use Rattle.command_line.specs.declared.status.Status.TheVariants.{Done, Memory, ReadFault, WriteFault, OutsideBox}
-
--- each of the first k states lies in the controller's box
-abbrev pub AreInside : Numbers → Matrix → ℕ → Type 0
-AreInside c states k = (e : ℕ) → e < k → IsGridState c (row_of states e)
-
--- the state of a record is the first that lies outside the box, and the status tells which, and its first coordinate outside
-pub record IsOutside (c : Numbers) (states : Matrix) (s : Status) : Type 0 where
-  pub index : ℕ
-  pub coordinate : ℕ
-  pub there : index < length states.rows
-  pub before : AreInside c states index
-  pub here : IsFirstOutside c (row_of states index) coordinate
-  pub is : s ≡ OutsideBox (index + 1) 0 coordinate
-
--- what a controller and states call for: the first state outside the box is told, or the lines are printed
-abbrev pub RunsCall : Numbers → Matrix → Status → Type 0
-RunsCall c states s = IsOutside c states s ⊎ ((s ≡ Done) × AreInside c states (length states.rows))
+use Rattle.command_line.specs.declared.status.Status.TheVariants.{Done, Memory, WriteFault}
 
 -- what the contents of a controller's and a states file call for
 abbrev pub SolveCalls : (controller states : Option (List ℕ)) → Status → Type 0

@@ -6,7 +6,7 @@ ghost use Rattle.command_line.specs.Answers.{ForContents, IsAnswer, IsCaused};
 ghost use Rattle.solve_command.specs.Solve.{SolveCalls, SolveReaches, SolvePrints};
 ghost use Rattle.solve_command.specs.Printing.{RunsEnd, RunsPrint};
 
-use crate::lines::{all_inside, print_lines};
+use crate::runs::print_runs;
 use command_files::{read_controller_file, read_states_file};
 use command_line::Status;
 use fixed_kernel::Kernel;
@@ -41,25 +41,6 @@ pub fn solve<S: Store, O: Sink>(alloc: Global, words: &Words, store: &mut S, out
     };
     match read_states_file(alloc, 2, words.at(2), controller.parts().n, store) {
         Ok(states) => print_runs(alloc, &controller, &states, out),
-        Err(status) => status,
-    }
-}
-
-// Prints the lines of a controller from states where all lie in its box, and else nothing.
-fn print_runs<O: Sink>(alloc: Global, controller: &Controller, states: &Mat, out: &mut O) -> Status
-    requires width { states.now.cols ≡ controller.now.states }
-    requires count { length states.now.rows < 2 ^ 32 }
-    ensures ends { RunsEnd controller.now states.now result }
-    ensures printed { IfSome (O.got out.old) (λ old. IsSomeAnd (O.got out.new) (λ new. RunsPrint controller.now states.now result old new)) }
-    ensures quiet { IsCaused result → result ≢ Status.Done → out.new ≡ out.old }
-    ensures failed { result ≡ Status.WriteFault 0 → Rose (O.faults out.old) (O.faults out.new) }
-    ensures no_fewer { O.faults out.old ≤ O.faults out.new }
-{
-    let Ok(mut kernel) = Kernel::prepare(alloc, controller) else {
-        return Status::Memory;
-    };
-    match all_inside(&mut kernel, states) {
-        Ok(()) => print_lines(alloc, &mut kernel, states, out),
         Err(status) => status,
     }
 }

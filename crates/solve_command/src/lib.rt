@@ -3,6 +3,7 @@
 
 mod command;
 mod lines;
+mod runs;
 
 pub use command::solve;
 pub use lines::print_lines;

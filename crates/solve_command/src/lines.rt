@@ -1,9 +1,9 @@
 // The lines of averaged plans.
-ghost use Rattle.std.specs.Prelude.{◌≡◌, ◌⊎◌, ◌<◌, ◌^◌, length, IfOk, IfErr, IfSome, IsSomeAnd, OnOk};
+ghost use Rattle.std.specs.Prelude.{◌≡◌, ◌⊎◌, ◌≤◌, ◌<◌, ◌^◌, length, IfOk, IfErr, IfSome, IsSomeAnd, OnOk};
 ghost use Rattle.io_edge.specs.Faults.{Rose};
 ghost use Rattle.qp_model.specs.Machine.{IsGridState};
 ghost use Rattle.qp_model.specs.ControllerText.{plan_line};
-ghost use Rattle.solve_command.specs.Solve.{AreInside, IsOutside};
+ghost use Rattle.solve_command.specs.Inside.{AreInside, IsOutside};
 ghost use Rattle.solve_command.specs.Printing.{ArePrinted};
 
 use command_line::Status;
@@ -46,12 +46,7 @@ fn line_from(alloc: Global, kernel: &mut Kernel, state: &[i128]) -> Result<Vec<u
 }
 
 /// Prints the lines of states of the box, each as soon as it is made: `Done`, `Memory` after the lines of some first states, or `WriteFault` for file 0.
-pub fn print_lines<O: Sink>(
-    alloc: Global,
-    kernel: &mut Kernel,
-    states: &Mat,
-    out: &mut O,
-) -> Status
+pub fn print_lines<O: Sink>(alloc: Global, kernel: &mut Kernel, states: &Mat, out: &mut O) -> Status
     requires { AreInside kernel.old.controller states.now (length states.now.rows) }
     ensures only { (result ≡ Status.Memory) ⊎ ((result ≡ Status.Done) ⊎ (result ≡ Status.WriteFault 0)) }
     ensures printed { IfSome (O.got out.old) (λ old. IsSomeAnd (O.got out.new) (ArePrinted kernel.old.controller states.now result old)) }
