@@ -34,7 +34,7 @@ one_count most word a b small x y =
     cc
 
 pub one_loop : (words : List (List ℕ)) (a b : ℕ) → IsLoop words a → IsLoop words b → a ≡ b
-one_loop words a b x y = one_count 1000000 (word_of words 4) a b (omega arith) x.turns y.turns
+one_loop words a b x y = one_count 1000000 (word_of words 4) a b (omega arith) x.last y.last
 
 pub one_demo : (words : List (List ℕ)) (a b : ℕ) → IsDemo words a → IsDemo words b → a ≡ b
-one_demo words a b x y = one_count 4294967295 (word_of words 1) a b (omega arith) x.number y.number
+one_demo words a b x y = one_count 4294967295 (word_of words 1) a b (omega arith) x.last y.last

@@ -12,7 +12,7 @@ use Rattle.mpc_cli.specs.Calls.{Calls, IsCalledFor}
 use Rattle.mpc_cli.specs.Faults.{MayRead, Reaches, WriteFailed, NoneRises}
 
 -- ---- what an answer is
-data Kind : Status → Type 0 where
+pub data Kind : Status → Type 0 where
   memory : Kind Memory
   read : (file : ℕ) → Kind (ReadFault file)
   write : (file : ℕ) → Kind (WriteFault file)

@@ -16,11 +16,12 @@ use Rattle.design_engine.specs.declared.refusal.Refusal.{Refusal}
 use Rattle.design_engine.specs.declared.refusal.Refusal.TheVariants as refusals
 use Rattle.command_line.specs.Commands.{IsUsage}
 use Rattle.command_line.specs.Answers.{Contents, Holds, IsFileRefused, ReadsThen, IsAnswer, ForContents, IsCaused}
-use Rattle.command_files.specs.Texts.{TellsFault, IsControllerFault, ControllerWrong}
+use Rattle.command_files.specs.Texts.{TellsFault, IsControllerFault, DesignRight, DesignWrong, PolicyRight, PolicyWrong, StatesRight, StatesWrong, ControllerRight, ControllerWrong}
 use Rattle.command_files.specs.Reading.{ReadsStates}
 use Rattle.generate_command.specs.Made.{MakingCalls, status_of}
 use Rattle.generate_command.specs.Generate.{GenerateCalls}
-use Rattle.solve_command.specs.Solve.{SolveCalls, RunsCall}
+use Rattle.solve_command.specs.Inside.{RunsCall}
+use Rattle.solve_command.specs.Solve.{SolveCalls}
 use Rattle.loop_command.specs.Loop.{LoopCalls, LoopsCall, IsMismatch}
 use Rattle.demo_command.specs.Demo.{DemoCalls}
 use Rattle.command_line.specs.declared.status.Status.{Status}
@@ -48,6 +49,18 @@ controller_telling : (file : ℕ) (bytes : List ℕ) (fault : BadController) (s 
 controller_telling file bytes (Line l) s why is = record { usage = λ e. cc; text = λ at e. cc; controller = λ at e. cc }
 controller_telling file bytes Unsafe s why is = record { usage = λ e. cc; text = λ at e. cc; controller = λ at e. cc }
 controller_telling file bytes no_space s why is = absurd why
+
+design_telling : (file : ℕ) (bytes : List ℕ) (s : Status) → DesignWrong file bytes s → IsTelling s
+design_telling file bytes s wrong = text_telling file wrong.0 s wrong.2
+
+policy_telling : (d : Design) (file : ℕ) (bytes : List ℕ) (s : Status) → PolicyWrong d file bytes s → IsTelling s
+policy_telling d file bytes s wrong = text_telling file wrong.0 s wrong.2
+
+states_telling : (n file : ℕ) (bytes : List ℕ) (s : Status) → StatesWrong n file bytes s → IsTelling s
+states_telling n file bytes s wrong = text_telling file wrong.0 s wrong.2
+
+bad_telling : (file : ℕ) (bytes : List ℕ) (s : Status) → ControllerWrong file bytes s → IsTelling s
+bad_telling file bytes s wrong = controller_telling file bytes wrong.0 s wrong.1 wrong.2
 
 -- a file's refusal tells, where that of its bytes does; and so does what comes after
 then_telling : {X : Type 0} (file : ℕ) (Wrong : List ℕ → Status → Type 0) (Right : X → List ℕ → Type 0) (content : Option (List ℕ)) (After : X → Status → Type 0) →
@@ -89,24 +102,24 @@ loops_telling d c turns m s (inr (inr done)) = done_telling s done.0
 -- ---- the commands
 generate_telling : (design policy : Option (List ℕ)) (s : Status) → GenerateCalls design policy s → IsTelling s
 generate_telling design policy =
-    then_telling 1 _ _ design _ (λ bytes s wrong. text_telling 1 wrong.0 s wrong.2)
-    (λ p. then_telling 2 _ _ policy _ (λ bytes s wrong. text_telling 2 wrong.0 s wrong.2) (making_telling p))
+    then_telling 1 (DesignWrong 1) DesignRight design _ (design_telling 1)
+    (λ p. then_telling 2 (PolicyWrong (design_of p) 2) (PolicyRight (design_of p)) policy (MakingCalls p) (policy_telling (design_of p) 2) (making_telling p))
 
 solve_telling : (controller states : Option (List ℕ)) (s : Status) → SolveCalls controller states s → IsTelling s
 solve_telling controller states =
-    then_telling 1 _ _ controller _ (λ bytes s wrong. controller_telling 1 bytes wrong.0 s wrong.1 wrong.2)
-    (λ c. then_telling 2 _ _ states _ (λ bytes s wrong. text_telling 2 wrong.0 s wrong.2) (runs_telling c))
+    then_telling 1 (ControllerWrong 1) ControllerRight controller _ (bad_telling 1)
+    (λ c. then_telling 2 (StatesWrong c.states 2) (StatesRight c.states) states (RunsCall c) (states_telling c.states 2) (runs_telling c))
 
 after_controller : (p : DesignParts) (turns : ℕ) (states : Option (List ℕ)) (c : Numbers) (s : Status) → IsMismatch (design_of p) c s ⊎ (IsFor c (design_of p) × ReadsStates c.states 3 states (LoopsCall (design_of p) c turns) s) →
     IsTelling s
 after_controller p turns states c s (inl other) = mismatch_telling (design_of p) c s other
 after_controller p turns states c s (inr rest) =
-    then_telling 3 _ _ states _ (λ bytes t wrong. text_telling 3 wrong.0 t wrong.2) (loops_telling (design_of p) c turns) s rest.1
+    then_telling 3 (StatesWrong c.states 3) (StatesRight c.states) states (LoopsCall (design_of p) c turns) (states_telling c.states 3) (loops_telling (design_of p) c turns) s rest.1
 
 loop_telling : (design controller states : Option (List ℕ)) (turns : ℕ) (s : Status) → LoopCalls design controller states turns s → IsTelling s
 loop_telling design controller states turns =
-    then_telling 1 _ _ design _ (λ bytes s wrong. text_telling 1 wrong.0 s wrong.2)
-    (λ p. then_telling 2 _ _ controller _ (λ bytes s wrong. controller_telling 2 bytes wrong.0 s wrong.1 wrong.2) (after_controller p turns states))
+    then_telling 1 (DesignWrong 1) DesignRight design _ (design_telling 1)
+    (λ p. then_telling 2 (ControllerWrong 2) ControllerRight controller _ (bad_telling 2) (after_controller p turns states))
 
 demo_telling : (number : ℕ) (s : Status) → DemoCalls number s → IsTelling s
 demo_telling number s calls = making_telling calls.0 calls.1 s calls.3
