@@ -1,9 +1,8 @@
-pub mod Texts
-pub mod Causes
-pub mod Reading
-pub mod Passing
-pub mod Counts
-pub mod Generating
-pub mod Solving
-pub mod Judging
-pub mod Commands
+-- which command the arguments are those of
+pub mod Arguments
+-- what each command's answer is for the program
+pub mod Lifting
+-- which statuses a command answers
+pub mod Statuses
+-- faults, and that the program doesn't give up
+pub mod Completeness

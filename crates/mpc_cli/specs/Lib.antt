@@ -1,8 +1,3 @@
-pub mod Words
-pub mod Limit
-pub mod Solve
-pub mod Generate
-pub mod Reading
-pub mod Causes
-pub mod Status
-pub mod Lines
+pub mod Calls
+pub mod Prints
+pub mod Faults

@@ -1,0 +1,4 @@
+-- designs by their numbers, and files that are read and judged
+pub mod Designs
+pub mod Readers
+pub mod Controllers

@@ -1,0 +1,20 @@
+-- Which command the arguments are those of.
+use Rattle.std.specs.Prelude.{ℕ, List}
+use Rattle.command_line.specs.Words.{IsSolve, IsGenerate, IsLoop, IsDemo}
+use Rattle.command_line.specs.declared.words.Command.{Command}
+use Rattle.command_line.specs.declared.words.Command.TheVariants.{Generate, Solve, Loop, Demo}
+
+-- the arguments are those of this command
+abbrev pub AreOf : Command → List (List ℕ) → Type 0
+AreOf Generate words = IsGenerate words
+AreOf Solve words = IsSolve words
+AreOf (Loop turns) words = IsLoop words turns
+AreOf (Demo number) words = IsDemo words number
+
+-- The arguments are those of no command: there is none, the first is no command's, there are too many or too few, a name that is written is another's, or a
+-- number is none or out of its range.
+pub record IsUsage (words : List (List ℕ)) : Type 0 where
+  pub generate : ¬ IsGenerate words
+  pub solve : ¬ IsSolve words
+  pub loop : (turns : ℕ) → ¬ IsLoop words turns
+  pub demo : (number : ℕ) → ¬ IsDemo words number

@@ -1,0 +1,6 @@
+pub mod Words
+pub mod Commands
+pub mod Limit
+pub mod Status
+pub mod StatusLine
+pub mod Answers

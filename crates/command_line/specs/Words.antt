@@ -1,0 +1,43 @@
+-- The words of a command line.
+use Rattle.std.specs.Prelude.{◌≡◌, ◌≢◌, ℕ, ◌≤◌, pos, List, [], ◌++◌, length, codes, slice_index_or}
+use Rattle.std.specs.Fmt.{signed_decimal}
+
+-- word i, counted from 0
+abbrev pub word_of : List (List ℕ) → ℕ → List ℕ
+word_of words i = slice_index_or words i []
+
+-- the words are `solve` and the names of a controller file and of a states file
+pub record IsSolve (words : List (List ℕ)) : Type 0 where
+  pub count : length words ≡ 3
+  pub command : word_of words 0 ≡ codes "solve"
+
+-- the words are `generate` and the names of a design file, a policy file, a controller file and a report file; neither of the last two is another's
+pub record IsGenerate (words : List (List ℕ)) : Type 0 where
+  pub count : length words ≡ 5
+  pub command : word_of words 0 ≡ codes "generate"
+  pub controller_design : word_of words 3 ≢ word_of words 1
+  pub controller_policy : word_of words 3 ≢ word_of words 2
+  pub report_design : word_of words 4 ≢ word_of words 1
+  pub report_policy : word_of words 4 ≢ word_of words 2
+  pub report_controller : word_of words 4 ≢ word_of words 3
+
+-- a name that asks for another form of the report
+abbrev pub IsJson : List ℕ → Type 0
+IsJson name = (stem : List ℕ) × (name ≡ stem ++ codes ".json")
+
+-- a word is this number in decimal, and the number at most that: digits with no sign, and no zero before others
+pub record IsCount (most : ℕ) (word : List ℕ) (n : ℕ) : Type 0 where
+  pub limit : n ≤ most
+  pub digits : word ≡ signed_decimal (pos n)
+
+-- the words are `loop`, the names of a design file, a controller file and a states file, and this number of turns
+pub record IsLoop (words : List (List ℕ)) (turns : ℕ) : Type 0 where
+  pub count : length words ≡ 5
+  pub command : word_of words 0 ≡ codes "loop"
+  pub last : IsCount 1000000 (word_of words 4) turns
+
+-- the words are `demo` and this number
+pub record IsDemo (words : List (List ℕ)) (number : ℕ) : Type 0 where
+  pub count : length words ≡ 2
+  pub command : word_of words 0 ≡ codes "demo"
+  pub last : IsCount 4294967295 (word_of words 1) number

@@ -1,0 +1,13 @@
+//! The arguments of the program, what it may answer, and how an answer is told.
+#![tactic(auto)]
+
+mod error_line;
+mod status;
+mod words;
+
+pub use error_line::status_line;
+pub use status::{Field, Status, status_number};
+pub use words::{Command, command_of, is_json};
+
+#[cfg(test)]
+mod tests;

@@ -1,0 +1,115 @@
+// What a run answers, and its exit status.
+ghost use Rattle.std.specs.Prelude.{◌≡◌};
+ghost use Rattle.command_line.specs.Status.{status_number};
+ghost use Rattle.command_line.specs.declared.status.Status.TheVariants.{Memory as no_memory};
+
+use controller_file::BadController;
+use frac_scaled::Frac;
+use qp_model::{Quantity, TextFault};
+use std::alloc::AllocError;
+
+/// What a design and a controller may differ in.
+#[derive(Clone, Copy, Debug, PartialEq, Eq)]
+pub enum Field {
+    States,
+    Inputs,
+    Grid,
+}
+
+/// What a run answers. Files are told by their positions among the arguments, where the command is at position 0; records, turns, coordinates, corners and
+/// rows are counted from 1.
+#[derive(Clone, Copy, Debug, PartialEq, Eq)]
+pub enum Status {
+    /// All was done.
+    Done,
+    /// Out of memory.
+    Memory,
+    /// The arguments are those of no command.
+    Usage,
+    /// The file at this position was not read.
+    ReadFault {
+        file: u32,
+    },
+    /// The file at this position was not written; 0 is the output.
+    WriteFault {
+        file: u32,
+    },
+    /// The file at this position has this as its first fault.
+    Text {
+        file: u32,
+        fault: TextFault,
+    },
+    /// The plan of that corner has in that row, both counted from 1, less slack than `2^-16`; it is the first.
+    NoMargin {
+        corner: u32,
+        row: u32,
+        slack: Frac,
+    },
+    /// No exponent of the step is at most 40.
+    Curvature,
+    /// A run would need `k` steps, more than 4194304.
+    TooManySteps {
+        k: i128,
+    },
+    /// With the most bits the errors of a step cost `eps` over `2^40`, more than the targets leave.
+    TooFine {
+        eps: i128,
+    },
+    /// The quantity is above `2^126`.
+    TooWide {
+        quantity: Quantity,
+    },
+    /// The bytes of the file at this position are no controller's text.
+    Controller {
+        file: u32,
+        fault: BadController,
+    },
+    /// That coordinate of the state of a record lies outside the controller's box; it is the first. `turn` is 0 where a record's state itself was tested, and
+    /// else the turn of a closed loop whose state it is.
+    OutsideBox {
+        entry: u32,
+        turn: u32,
+        coordinate: u32,
+    },
+    /// The file at this position holds more than 4194304 bytes.
+    Long {
+        file: u32,
+    },
+    /// The design and the controller differ in this, with both numbers; it is the first of states, inputs and grid.
+    Mismatch {
+        field: Field,
+        design: i128,
+        controller: i128,
+    },
+}
+
+impl From<AllocError> for Status {
+    ghost from_gives = { λ _ e. e ≡ no_memory };
+
+    fn from(_: AllocError) -> Self {
+        Status::Memory
+    }
+}
+
+/// The exit status of the program.
+pub fn status_number(status: &Status) -> u8
+    ensures { result ≡ status_number status.now }
+{
+    match status {
+        Status::Done => 0,
+        Status::Memory => 1,
+        Status::Usage => 2,
+        Status::ReadFault { .. } => 3,
+        Status::WriteFault { .. } => 4,
+        Status::Text { .. } => 5,
+        Status::NoMargin { .. } => 6,
+        Status::Curvature => 7,
+        Status::TooManySteps { .. } => 8,
+        Status::TooFine { .. } => 9,
+        Status::TooWide { .. } => 10,
+        Status::Controller { .. } => 11,
+        Status::OutsideBox { .. } => 12,
+        Status::Long { .. } => 13,
+        Status::Mismatch { .. } => 14,
+    }
+}

@@ -1,0 +1,190 @@
+// The lines that tell of answers, and the commands.
+use crate::error_line::status_line;
+use crate::status::{Field, Status};
+use crate::words::{Command, command_of, is_json};
+use controller_file::BadController;
+use frac_scaled::Frac;
+use io_edge::Words;
+use qp_model::{Quantity, TextFault};
+use std::alloc::{AllocError, Global};
+use std::test::Fail;
+
+// Whether this line tells of the answer.
+fn is_line(alloc: Global, status: &Status, line: &str) -> Result<bool, AllocError> {
+    let got = status_line(alloc, status)?;
+    Ok(got.as_slice() == line.as_bytes())
+}
+
+// Whether the arguments, with one space between two, are those of this command.
+fn are_of(alloc: Global, arguments: &str, command: Option<Command>) -> Result<bool, AllocError> {
+    let mut words = Words::empty(alloc);
+    for word in arguments.split(' ') {
+        words.push(word)?;
+    }
+    Ok(command_of(&words) == command)
+}
+
+// Each answer once, with each fault of a text and of a controller.
+#[test]
+fn lines(rt: HostRuntime) -> Result<(), Fail> {
+    let slack = Frac {
+        num: 4,
+        den: 524288,
+    };
+    let cases = [
+        (Status::Done, ""),
+        (Status::Memory, "error 1 memory\n"),
+        (Status::Usage, "error 2 usage\n"),
+        (Status::ReadFault { file: 2 }, "error 3 read-fault 2\n"),
+        (Status::WriteFault { file: 0 }, "error 4 write-fault 0\n"),
+        (text(1, TextFault::NotToml), "error 5 text 1 not-toml\n"),
+        (
+            text(1, TextFault::Key { place: 13 }),
+            "error 5 text 1 key 13\n",
+        ),
+        (
+            text(1, TextFault::Shape { place: 6 }),
+            "error 5 text 1 shape 6\n",
+        ),
+        (
+            text(1, TextFault::Range { place: 18 }),
+            "error 5 text 1 range 18\n",
+        ),
+        (
+            text(2, TextFault::Fields { entry: 2 }),
+            "error 5 text 2 fields 2\n",
+        ),
+        (
+            text(2, TextFault::Number { entry: 2, field: 2 }),
+            "error 5 text 2 number 2 2\n",
+        ),
+        (
+            text(2, TextFault::Count { entries: 0 }),
+            "error 5 text 2 count 0\n",
+        ),
+        (
+            Status::NoMargin {
+                corner: 2,
+                row: 2,
+                slack,
+            },
+            "error 6 no-margin 2 2 4 524288\n",
+        ),
+        (Status::Curvature, "error 7 curvature\n"),
+        (
+            Status::TooManySteps { k: 8388608 },
+            "error 8 too-many-steps 8388608\n",
+        ),
+        (
+            Status::TooFine { eps: 151000321 },
+            "error 9 too-fine 151000321\n",
+        ),
+        (
+            Status::TooWide {
+                quantity: Quantity::Prediction,
+            },
+            "error 10 too-wide prediction\n",
+        ),
+        (
+            Status::TooWide {
+                quantity: Quantity::CornerCost,
+            },
+            "error 10 too-wide corner_cost\n",
+        ),
+        (
+            Status::Controller {
+                file: 1,
+                fault: BadController::Unsafe,
+            },
+            "error 11 controller 1 unsafe\n",
+        ),
+        (
+            Status::Controller {
+                file: 1,
+                fault: BadController::Line { line: 19 },
+            },
+            "error 11 controller 1 line 19\n",
+        ),
+        (
+            Status::OutsideBox {
+                entry: 2,
+                turn: 0,
+                coordinate: 1,
+            },
+            "error 12 outside-box 2 0 1\n",
+        ),
+        (Status::Long { file: 1 }, "error 13 long 1\n"),
+        (
+            Status::Mismatch {
+                field: Field::States,
+                design: 2,
+                controller: 1,
+            },
+            "error 14 mismatch states 2 1\n",
+        ),
+    ];
+    for (status, line) in cases {
+        let same = is_line(rt.alloc(), &status, line)?;
+        assert!(rt; same, "{status:?}");
+    }
+    Ok(())
+}
+
+// The answer that tells of a text's fault.
+fn text(file: u32, fault: TextFault) -> Status {
+    Status::Text { file, fault }
+}
+
+// Each command, and next to it the arguments of none.
+#[test]
+fn commands(rt: HostRuntime) -> Result<(), Fail> {
+    let cases = [
+        ("generate d p c r", Some(Command::Generate)),
+        ("generate d d c r.json", Some(Command::Generate)),
+        ("solve c s", Some(Command::Solve)),
+        ("solve s s", Some(Command::Solve)),
+        ("loop d c s 0", Some(Command::Loop { turns: 0 })),
+        ("loop d c s 1000000", Some(Command::Loop { turns: 1000000 })),
+        ("demo 0", Some(Command::Demo { number: 0 })),
+        (
+            "demo 4294967295",
+            Some(Command::Demo { number: 4294967295 }),
+        ),
+        ("", None),
+        ("solve", None),
+        ("solve c", None),
+        ("solve c s t", None),
+        ("Solve c s", None),
+        ("generate d p c", None),
+        ("generate d p c r x", None),
+        ("generate d p d r", None),
+        ("generate d p p r", None),
+        ("generate d p c d", None),
+        ("generate d p c p", None),
+        ("generate d p c c", None),
+        ("loop d c s", None),
+        ("loop d c s 1000001", None),
+        ("loop d c s 01", None),
+        ("loop d c s -1", None),
+        ("loop d c s -0", None),
+        ("loop d c s +1", None),
+        ("loop d c s x", None),
+        ("loop d c s ", None),
+        ("loop d c s 1 2", None),
+        ("demo", None),
+        ("demo 4294967296", None),
+        ("demo 00", None),
+        ("demo 1 2", None),
+        ("run c s", None),
+    ];
+    for (arguments, command) in cases {
+        let same = are_of(rt.alloc(), arguments, command)?;
+        assert!(rt; same, "{arguments}");
+    }
+    Ok(())
+}
+
+#[test]
+fn json_names(rt: HostRuntime) {
+    assert!(rt; is_json("r.json") && is_json(".json") && !is_json("r.JSON") && !is_json("json"));
+}

@@ -1,0 +1,104 @@
+// Which command the arguments are.
+ghost use Rattle.std.specs.Prelude.{ℕ, IsTrue, MatchOption, ◌↔◌, ◌≢◌};
+ghost use Rattle.command_line.specs.Words.{word_of, IsSolve, IsGenerate, IsLoop, IsDemo, IsJson, IsCount};
+ghost use Rattle.command_line.specs.Commands.{IsUsage, AreOf};
+
+use io_edge::Words;
+use qp_model::number_word;
+
+/// A command, with its number where it has one.
+#[derive(Clone, Copy, Debug, PartialEq, Eq)]
+pub enum Command {
+    Generate,
+    Solve,
+    Loop { turns: u32 },
+    Demo { number: u32 },
+}
+
+/// The most turns of a `loop`.
+const MOST_TURNS: u32 = 1000000;
+
+/// The greatest number of a `demo`.
+const GREATEST_NUMBER: u32 = 4294967295;
+
+/// The command whose arguments these are; none where they are those of no command.
+pub fn command_of(words: &Words) -> Option<Command>
+    ensures { MatchOption result (IsUsage words.now) (λ command. AreOf command words.now) }
+{
+    if is_generate(words) {
+        return Some(Command::Generate);
+    }
+    if is_solve(words) {
+        return Some(Command::Solve);
+    }
+    if let Some(turns) = turns_of(words) {
+        return Some(Command::Loop { turns });
+    }
+    if let Some(number) = number_of(words) {
+        return Some(Command::Demo { number });
+    }
+    None
+}
+
+// Whether they are those that `solve` needs.
+fn is_solve(words: &Words) -> bool
+    ensures { IsTrue result ↔ IsSolve words.now }
+{
+    words.count() == 3 && words.at(0) == "solve"
+}
+
+// Whether they are those that `generate` needs.
+fn is_generate(words: &Words) -> bool
+    ensures { IsTrue result ↔ IsGenerate words.now }
+{
+    if words.count() != 5 || words.at(0) != "generate" {
+        return false;
+    }
+    let (design, policy) = (words.at(1), words.at(2));
+    let (controller, report) = (words.at(3), words.at(4));
+    is_other(controller, design, policy) && is_other(report, design, policy) && report != controller
+}
+
+// The turns of a `loop`; none where the arguments are those of no `loop`.
+fn turns_of(words: &Words) -> Option<u32>
+    ensures { MatchOption result ((turns : ℕ) → ¬ IsLoop words.now turns) (λ turns. IsLoop words.now turns) }
+{
+    if words.count() != 5 || words.at(0) != "loop" {
+        return None;
+    }
+    count_of(words.at(4), MOST_TURNS)
+}
+
+// The number of a `demo`; none where the arguments are those of no `demo`.
+fn number_of(words: &Words) -> Option<u32>
+    ensures { MatchOption result ((number : ℕ) → ¬ IsDemo words.now number) (λ number. IsDemo words.now number) }
+{
+    if words.count() != 2 || words.at(0) != "demo" {
+        return None;
+    }
+    count_of(words.at(1), GREATEST_NUMBER)
+}
+
+// The number from 0 to `most` that a word is in decimal; none where it is no such number.
+fn count_of(word: &str, most: u32) -> Option<u32>
+    ensures { MatchOption result ((n : ℕ) → ¬ IsCount most word.now n) (λ n. IsCount most word.now n) }
+{
+    match number_word(word.as_bytes()) {
+        Some(number) if 0 <= number && number <= i128::from(most) => Some(number as u32),
+        _ => None,
+    }
+}
+
+// Whether a name is neither of two others.
+fn is_other(name: &str, first: &str, second: &str) -> bool
+    ensures { IsTrue result ↔ ((name.now ≢ first.now) × (name.now ≢ second.now)) }
+{
+    name != first && name != second
+}
+
+/// Whether a name asks for the JSON form of the report.
+pub fn is_json(name: &str) -> bool
+    ensures { IsTrue result ↔ IsJson name.now }
+{
+    name.ends_with(".json")
+}

@@ -1,0 +1,85 @@
+-- What `demo` is called to answer for a number, and what it prints.
+use Rattle.std.specs.Prelude.{◌≡◌, ◌≢◌, ◌⊎◌, ℕ, List, ◌++◌, length}
+use Rattle.io_edge.specs.Faults.{GrowsByPart}
+use Rattle.mat_int.specs.Matrix.{Matrix}
+use Rattle.qp_model.specs.Policy.{Plans}
+use Rattle.qp_model.specs.Parts.{design_of}
+use Rattle.qp_model.specs.Controller.{Numbers}
+use Rattle.qp_model.specs.declared.design_parts.DesignParts.{DesignParts}
+use Rattle.qp_model.specs.declared.bounds.Bounds.{Bounds}
+use Rattle.bound_report.specs.Report.{report_text}
+use Rattle.design_files.specs.DesignText.{IsDesignText}
+use Rattle.policy_file.specs.PolicyText.{IsPolicyText}
+use Rattle.policy_file.specs.StatesText.{IsStatesText}
+use Rattle.design_maker.specs.Texts.{design_text, policy_text, states_text}
+use Rattle.solve_command.specs.Lines.{plan_lines}
+use Rattle.solve_command.specs.Solve.{AreInside}
+use Rattle.generate_command.specs.Made.{MakingCalls, IsMadeOf}
+use Rattle.command_line.specs.declared.status.Status.{Status}
+use Rattle.command_line.specs.declared.status.Status.TheVariants.{Done, Memory, WriteFault}
+
+-- the stages of a made design
+abbrev pub demo_stages : ℕ
+demo_stages = 6
+
+-- the design and the policy that the texts made from a number are of
+pub record AreMadeFrom (number : ℕ) (p : DesignParts) (plans : Plans) : Type 0 where
+  pub design : IsDesignText (design_text number demo_stages) p
+  pub policy : IsPolicyText (policy_text demo_stages) (design_of p) plans
+
+-- what a number calls for: what its design with its policy calls for
+abbrev pub DemoCalls : ℕ → Status → Type 0
+DemoCalls number s = (p : DesignParts) × (plans : Plans) × AreMadeFrom number p plans × MakingCalls p plans s
+
+-- a controller and its bounds made of the texts of a number, with the states of the third text
+pub record IsShown (number : ℕ) (c : Numbers) (b : Bounds) (states : Matrix) : Type 0 where
+  pub p : DesignParts
+  pub plans : Plans
+  pub texts : AreMadeFrom number p plans
+  pub made : IsMadeOf p plans c b
+  pub states_text : IsStatesText states_text c.states states
+  pub inside : AreInside c states (length states.rows)
+
+-- the report and the plan lines of all the states
+abbrev pub demo_text : Numbers → Bounds → Matrix → List ℕ
+demo_text c b states = report_text b ++ plan_lines c states (length states.rows)
+
+-- the whole text was printed
+pub record PrintsDemo (number : ℕ) (old new : List ℕ) : Type 0 where
+  pub c : Numbers
+  pub b : Bounds
+  pub states : Matrix
+  pub is_shown : IsShown number c b states
+  pub printed : new ≡ old ++ demo_text c b states
+
+-- a part of it that isn't all, where a print failed
+pub record PrintsDemoPart (number : ℕ) (old new : List ℕ) : Type 0 where
+  pub c : Numbers
+  pub b : Bounds
+  pub states : Matrix
+  pub is_shown : IsShown number c b states
+  pub printed : GrowsByPart old new (demo_text c b states)
+
+-- a prefix of it
+pub record PrintsDemoPrefix (number : ℕ) (old new : List ℕ) : Type 0 where
+  pub c : Numbers
+  pub b : Bounds
+  pub states : Matrix
+  pub is_shown : IsShown number c b states
+  pub part : List ℕ
+  pub rest : List ℕ
+  pub is : demo_text c b states ≡ part ++ rest
+  pub printed : new ≡ old ++ part
+
+-- what the output got, by the answer
+pub record DemoPrints (number : ℕ) (s : Status) (old new : List ℕ) : Type 0 where
+  pub done : s ≡ Done → PrintsDemo number old new
+  pub fault : s ≡ WriteFault 0 → PrintsDemoPart number old new
+  pub memory : s ≡ Memory → (new ≡ old) ⊎ PrintsDemoPrefix number old new
+  pub other : s ≢ Done → s ≢ WriteFault 0 → s ≢ Memory → new ≡ old
+
+-- what is printed of the text of a controller, its bounds and states, by the answer
+pub record TextPrints (c : Numbers) (b : Bounds) (states : Matrix) (s : Status) (old new : List ℕ) : Type 0 where
+  pub done : s ≡ Done → new ≡ old ++ demo_text c b states
+  pub fault : s ≡ WriteFault 0 → GrowsByPart old new (demo_text c b states)
+  pub memory : s ≡ Memory → (new ≡ old) ⊎ ((part : List ℕ) × (rest : List ℕ) × (demo_text c b states ≡ part ++ rest) × (new ≡ old ++ part))

@@ -1,0 +1,6 @@
+//! `demo`: a made design from its texts to the plans of its corners.
+#![tactic(auto)]
+
+mod command;
+
+pub use command::demo;

@@ -1,0 +1,3 @@
+pub mod Generate
+pub mod Made
+pub mod Writing

@@ -1,0 +1,9 @@
+//! `generate`: a controller and the report of its bounds, from a design and a policy.
+#![tactic(auto)]
+
+mod command;
+mod made;
+mod texts;
+
+pub use command::generate;
+pub use made::make_controller;

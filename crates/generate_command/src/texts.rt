@@ -1,0 +1,76 @@
+// The texts that are written.
+ghost use Rattle.std.specs.Prelude.{◌≡◌, ◌⊎◌, ◌↔◌, IsTrue, IfOk, IfErr, IfSome, IsSomeAnd};
+ghost use Rattle.io_edge.specs.Faults.{Rose, NoneFalls, IsCutShort};
+ghost use Rattle.qp_model.specs.ControllerText.{IsControllerText};
+ghost use Rattle.qp_model.specs.Parts.{design_of};
+ghost use Rattle.qp_model.specs.Policy.{plans_of, IsPolicyFor};
+ghost use Rattle.command_line.specs.Answers.{IsAnswer};
+ghost use Rattle.generate_command.specs.Made.{MakingCalls, IsReport};
+ghost use Rattle.generate_command.specs.Writing.{AreTextsFor, AreWritten, IsSecondCut};
+
+use crate::made::make_controller;
+use bound_report::{report_json, report_text};
+use command_line::{Status, is_json};
+use controller_file::write_controller;
+use io_edge::Store;
+use qp_model::{Bounds, Design, Policy};
+use std::alloc::{AllocError, Global};
+
+/// The texts of a controller and of the report of its bounds.
+#[derive(Debug, Drop)]
+pub struct Texts {
+    pub controller: Vec<u8>,
+    pub report: Vec<u8>,
+}
+
+// The report in the form that its name asks for.
+fn report_for(alloc: Global, name: &str, bounds: &Bounds) -> Result<Vec<u8>, AllocError>
+    ensures { IfOk result (λ v. IsReport name.now bounds.now v.items) }
+{
+    if is_json(name) {
+        report_json(alloc, bounds)
+    } else {
+        report_text(alloc, bounds)
+    }
+}
+
+/// Both texts of a design with a policy, the report in the form that its name asks for; or the status that tells why there are none.
+pub fn texts_of(
+    alloc: Global,
+    design: &Design,
+    policy: &Policy,
+    report_name: &str,
+) -> Result<Texts, Status>
+    requires { IsPolicyFor (design_of design.now.parts) (plans_of policy.now) }
+    ensures texts { IfOk result (λ t. AreTextsFor design.now.parts (plans_of policy.now) report_name.now t.controller.items t.report.items) }
+    ensures called { IfOk result (λ _. IsAnswer (MakingCalls design.now.parts (plans_of policy.now)) Status.Done) }
+    ensures refused { IfErr result (λ e. (e ≡ Status.Memory) ⊎ IsAnswer (MakingCalls design.now.parts (plans_of policy.now)) e) }
+{
+    let made = make_controller(alloc, design, policy)?;
+    let controller = write_controller(alloc, &made.controller)?;
+    let report = report_for(alloc, report_name, &made.bounds)?;
+    Ok(Texts { controller, report })
+}
+
+/// Writes both texts, the controller's first. It takes no memory.
+pub fn write_texts<S: Store>(third: &str, fourth: &str, texts: &Texts, store: &mut S) -> Status
+    ensures only { (result ≡ Status.Done) ⊎ ((result ≡ Status.WriteFault 3) ⊎ (result ≡ Status.WriteFault 4)) }
+    ensures done { result ≡ Status.Done → IfSome (S.held store.old) (λ old. IsSomeAnd (S.held store.new)
+        (λ new. AreWritten old new third.now fourth.now texts.now.controller.items texts.now.report.items)) }
+    ensures controller_cut { result ≡ Status.WriteFault 3 → IfSome (S.held store.old) (λ old. IsSomeAnd (S.held store.new)
+        (λ new. IsCutShort old new third.now texts.now.controller.items)) }
+    ensures report_cut { result ≡ Status.WriteFault 4 → IfSome (S.held store.old) (λ old. IsSomeAnd (S.held store.new)
+        (λ new. IsSecondCut old new third.now fourth.now texts.now.controller.items texts.now.report.items)) }
+    ensures third_failed { result ≡ Status.WriteFault 3 → Rose (S.write_faults store.old third.now) (S.write_faults store.new third.now) }
+    ensures fourth_failed { result ≡ Status.WriteFault 4 → Rose (S.write_faults store.old fourth.now) (S.write_faults store.new fourth.now) }
+    ensures reads { NoneFalls (S.read_faults store.old) (S.read_faults store.new) }
+    ensures writes { NoneFalls (S.write_faults store.old) (S.write_faults store.new) }
+{
+    if store.write_all(third, &texts.controller).is_err() {
+        return Status::WriteFault { file: 3 };
+    }
+    match store.write_all(fourth, &texts.report) {
+        Ok(()) => Status::Done,
+        Err(_) => Status::WriteFault { file: 4 },
+    }
+}

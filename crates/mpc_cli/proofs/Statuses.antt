@@ -1,0 +1,149 @@
+-- Which statuses a command answers.
+use Rattle.std.proofs.Common.{◌≡◌, ◌⊎◌, inl, inr, ℕ, List, Option, sym, ◌∙◌}
+use Rattle.io_edge.specs.Faults.{Files}
+use Rattle.mat_int.specs.Matrix.{Matrix}
+use Rattle.qp_model.specs.Design.{Design}
+use Rattle.qp_model.specs.Parts.{design_of}
+use Rattle.qp_model.specs.Successor.{IsFor}
+use Rattle.qp_model.specs.Policy.{Plans}
+use Rattle.qp_model.specs.Controller.{Numbers}
+use Rattle.qp_model.specs.declared.design_parts.DesignParts.{DesignParts}
+use Rattle.qp_model.specs.declared.text_fault.TextFault.{TextFault}
+use Rattle.qp_model.specs.declared.text_fault.TextFault.TheVariants.{Memory as no_room}
+use Rattle.controller_file.specs.declared.bad_controller.BadController.{BadController}
+use Rattle.controller_file.specs.declared.bad_controller.BadController.TheVariants.{Line, Unsafe, Memory as no_space}
+use Rattle.design_engine.specs.declared.refusal.Refusal.{Refusal}
+use Rattle.design_engine.specs.declared.refusal.Refusal.TheVariants as refusals
+use Rattle.command_line.specs.Commands.{IsUsage}
+use Rattle.command_line.specs.Answers.{Contents, Holds, IsFileRefused, ReadsThen, IsAnswer, ForContents, IsCaused}
+use Rattle.command_files.specs.Texts.{TellsFault, IsControllerFault, DesignRight, DesignWrong, PolicyRight, PolicyWrong, StatesRight, StatesWrong, ControllerRight, ControllerWrong}
+use Rattle.command_files.specs.Reading.{ReadsStates}
+use Rattle.generate_command.specs.Made.{MakingCalls, status_of}
+use Rattle.generate_command.specs.Generate.{GenerateCalls}
+use Rattle.solve_command.specs.Inside.{RunsCall}
+use Rattle.solve_command.specs.Solve.{SolveCalls}
+use Rattle.loop_command.specs.Loop.{LoopCalls, LoopsCall, IsMismatch}
+use Rattle.demo_command.specs.Demo.{DemoCalls}
+use Rattle.command_line.specs.declared.status.Status.{Status}
+use Rattle.command_line.specs.declared.status.Status.TheVariants.{Done, Usage, Text, Controller, Long}
+use Rattle.mpc_cli.specs.Calls.{Calls}
+
+-- an answer that a command with files gives: it isn't `Usage`, and no fault in it is that memory ran out
+pub record IsTelling (s : Status) : Type 0 where
+  pub usage : s ≡ Usage → ⊥
+  pub text : (file : ℕ) → s ≡ Text file no_room → ⊥
+  pub controller : (file : ℕ) → s ≡ Controller file no_space → ⊥
+
+-- ---- one file
+long_telling : (file : ℕ) (s : Status) → s ≡ Long file → IsTelling s
+long_telling file s is = record { usage = λ e. cc; text = λ at e. cc; controller = λ at e. cc }
+
+text_telling : (file : ℕ) (fault : TextFault) (s : Status) → TellsFault file fault s → IsTelling s
+text_telling file fault s tells = record {
+  usage = λ e. let is = tells.1 in cc;
+  text = λ at e. let is = tells.1 in tells.0 (let same : fault ≡ no_room = cc in same);
+  controller = λ at e. let is = tells.1 in cc;
+}
+
+controller_telling : (file : ℕ) (bytes : List ℕ) (fault : BadController) (s : Status) → IsControllerFault bytes fault → s ≡ Controller file fault → IsTelling s
+controller_telling file bytes (Line l) s why is = record { usage = λ e. cc; text = λ at e. cc; controller = λ at e. cc }
+controller_telling file bytes Unsafe s why is = record { usage = λ e. cc; text = λ at e. cc; controller = λ at e. cc }
+controller_telling file bytes no_space s why is = absurd why
+
+design_telling : (file : ℕ) (bytes : List ℕ) (s : Status) → DesignWrong file bytes s → IsTelling s
+design_telling file bytes s wrong = text_telling file wrong.0 s wrong.2
+
+policy_telling : (d : Design) (file : ℕ) (bytes : List ℕ) (s : Status) → PolicyWrong d file bytes s → IsTelling s
+policy_telling d file bytes s wrong = text_telling file wrong.0 s wrong.2
+
+states_telling : (n file : ℕ) (bytes : List ℕ) (s : Status) → StatesWrong n file bytes s → IsTelling s
+states_telling n file bytes s wrong = text_telling file wrong.0 s wrong.2
+
+bad_telling : (file : ℕ) (bytes : List ℕ) (s : Status) → ControllerWrong file bytes s → IsTelling s
+bad_telling file bytes s wrong = controller_telling file bytes wrong.0 s wrong.1 wrong.2
+
+-- a file's refusal tells, where that of its bytes does; and so does what comes after
+then_telling : {X : Type 0} (file : ℕ) (Wrong : List ℕ → Status → Type 0) (Right : X → List ℕ → Type 0) (content : Option (List ℕ)) (After : X → Status → Type 0) →
+    ((bytes : List ℕ) (s : Status) → Wrong bytes s → IsTelling s) → ((x : X) (s : Status) → After x s → IsTelling s) → (s : Status) → ReadsThen {X = X} file Wrong Right content After s → IsTelling s
+then_telling file Wrong Right content After wrong after s (inl (inl long)) = long_telling file s long.is
+then_telling file Wrong Right content After wrong after s (inl (inr refused)) = wrong refused.bytes s refused.right
+then_telling file Wrong Right content After wrong after s (inr right) = after right.0 s right.2
+
+-- ---- what comes after the files
+refusal_telling : (s : Status) (r : Refusal) → s ≡ status_of r → IsTelling s
+refusal_telling s refusals.Memory is = record { usage = λ e. cc; text = λ at e. cc; controller = λ at e. cc }
+refusal_telling s (refusals.NoMargin corner row slack) is = record { usage = λ e. cc; text = λ at e. cc; controller = λ at e. cc }
+refusal_telling s refusals.Curvature is = record { usage = λ e. cc; text = λ at e. cc; controller = λ at e. cc }
+refusal_telling s (refusals.TooManySteps k) is = record { usage = λ e. cc; text = λ at e. cc; controller = λ at e. cc }
+refusal_telling s (refusals.TooFine eps) is = record { usage = λ e. cc; text = λ at e. cc; controller = λ at e. cc }
+refusal_telling s (refusals.TooWide quantity) is = record { usage = λ e. cc; text = λ at e. cc; controller = λ at e. cc }
+
+done_telling : (s : Status) → s ≡ Done → IsTelling s
+done_telling s is = record { usage = λ e. cc; text = λ at e. cc; controller = λ at e. cc }
+
+making_telling : (p : DesignParts) (plans : Plans) (s : Status) → MakingCalls p plans s → IsTelling s
+making_telling p plans s (inl refused) = refusal_telling s refused.refusal refused.is
+making_telling p plans s (inr done) = done_telling s done.0
+
+runs_telling : (c : Numbers) (states : Matrix) (s : Status) → RunsCall c states s → IsTelling s
+runs_telling c states s (inl outside) = let is = outside.is in record { usage = λ e. cc; text = λ at e. cc; controller = λ at e. cc }
+runs_telling c states s (inr done) = done_telling s done.0
+
+mismatch_telling : (d : Design) (c : Numbers) (s : Status) → IsMismatch d c s → IsTelling s
+mismatch_telling d c s (inl a) = let is = a.1 in record { usage = λ e. cc; text = λ at e. cc; controller = λ at e. cc }
+mismatch_telling d c s (inr (inl a)) = let is = a.2 in record { usage = λ e. cc; text = λ at e. cc; controller = λ at e. cc }
+mismatch_telling d c s (inr (inr a)) = let is = a.3 in record { usage = λ e. cc; text = λ at e. cc; controller = λ at e. cc }
+
+loops_telling : (d : Design) (c : Numbers) (turns : ℕ) (m : Matrix) (s : Status) → LoopsCall d c turns m s → IsTelling s
+loops_telling d c turns m s (inl wide) = let is = wide.is in record { usage = λ e. cc; text = λ at e. cc; controller = λ at e. cc }
+loops_telling d c turns m s (inr (inl leaving)) = let is = leaving.1.is in record { usage = λ e. cc; text = λ at e. cc; controller = λ at e. cc }
+loops_telling d c turns m s (inr (inr done)) = done_telling s done.0
+
+-- ---- the commands
+generate_telling : (design policy : Option (List ℕ)) (s : Status) → GenerateCalls design policy s → IsTelling s
+generate_telling design policy =
+    then_telling 1 (DesignWrong 1) DesignRight design _ (design_telling 1)
+    (λ p. then_telling 2 (PolicyWrong (design_of p) 2) (PolicyRight (design_of p)) policy (MakingCalls p) (policy_telling (design_of p) 2) (making_telling p))
+
+solve_telling : (controller states : Option (List ℕ)) (s : Status) → SolveCalls controller states s → IsTelling s
+solve_telling controller states =
+    then_telling 1 (ControllerWrong 1) ControllerRight controller _ (bad_telling 1)
+    (λ c. then_telling 2 (StatesWrong c.states 2) (StatesRight c.states) states (RunsCall c) (states_telling c.states 2) (runs_telling c))
+
+after_controller : (p : DesignParts) (turns : ℕ) (states : Option (List ℕ)) (c : Numbers) (s : Status) → IsMismatch (design_of p) c s ⊎ (IsFor c (design_of p) × ReadsStates c.states 3 states (LoopsCall (design_of p) c turns) s) →
+    IsTelling s
+after_controller p turns states c s (inl other) = mismatch_telling (design_of p) c s other
+after_controller p turns states c s (inr rest) =
+    then_telling 3 (StatesWrong c.states 3) (StatesRight c.states) states (LoopsCall (design_of p) c turns) (states_telling c.states 3) (loops_telling (design_of p) c turns) s rest.1
+
+loop_telling : (design controller states : Option (List ℕ)) (turns : ℕ) (s : Status) → LoopCalls design controller states turns s → IsTelling s
+loop_telling design controller states turns =
+    then_telling 1 (DesignWrong 1) DesignRight design _ (design_telling 1)
+    (λ p. then_telling 2 (ControllerWrong 2) ControllerRight controller _ (bad_telling 2) (after_controller p turns states))
+
+demo_telling : (number : ℕ) (s : Status) → DemoCalls number s → IsTelling s
+demo_telling number s calls = making_telling calls.0 calls.1 s calls.3
+
+-- ---- the program
+usage_or_telling : (words : List (List ℕ)) (contents : Contents) (s : Status) → Calls words contents s → (IsUsage words × (s ≡ Usage)) ⊎ IsTelling s
+usage_or_telling words contents s (inl a) = inl a
+usage_or_telling words contents s (inr (inl a)) = inr (generate_telling contents.first contents.second s a.1)
+usage_or_telling words contents s (inr (inr (inl a))) = inr (solve_telling contents.first contents.second s a.1)
+usage_or_telling words contents s (inr (inr (inr (inl a)))) = inr (loop_telling contents.first contents.second contents.third a.0 s a.2)
+usage_or_telling words contents s (inr (inr (inr (inr a)))) = inr (demo_telling a.0 s a.2)
+
+module _ (words : List (List ℕ)) (held : Option Files) (result : Status) (called : IsCaused result → ForContents words held (λ contents. IsAnswer (Calls words contents) result)) where
+  pub is_usage : result ≡ Usage → IsUsage words
+  is_usage is =
+      let answer = called (record { memory = λ e. cc; read = λ file e. cc; write = λ file e. cc }) in
+      elim (usage_or_telling words answer.contents result answer.true_of.called) [ inl usage ↦ usage.0 | inr tells ↦ absurd (tells.usage is) ]
+
+  pub no_text_memory : (file : ℕ) → result ≡ Text file no_room → ⊥
+  no_text_memory file is =
+      let answer = called (record { memory = λ e. cc; read = λ at e. cc; write = λ at e. cc }) in
+      elim (usage_or_telling words answer.contents result answer.true_of.called) [ inl usage ↦ (let as_usage = usage.1 in cc) | inr tells ↦ tells.text file is ]
+
+  pub no_controller_memory : (file : ℕ) → result ≡ Controller file no_space → ⊥
+  no_controller_memory file is =
+      let answer = called (record { memory = λ e. cc; read = λ at e. cc; write = λ at e. cc }) in
+      elim (usage_or_telling words answer.contents result answer.true_of.called) [ inl usage ↦ (let as_usage = usage.1 in cc) | inr tells ↦ tells.controller file is ]

@@ -1,0 +1,705 @@
+// `solve`, `loop` and `demo`, and arguments that are none.
+use crate::tests::{CONTROLLER, DESIGN, Fails, NONE, POLICY, changed, left_by, store_of};
+use io_edge::MemStore;
+use std::alloc::Global;
+use std::test::Fail;
+
+// A run: the arguments, what is changed in the design and the controller, the states, the answer's line and what is printed.
+struct Case {
+    arguments: &'static str,
+    design: (&'static str, &'static str),
+    controller: (&'static str, &'static str),
+    states: &'static str,
+    line: &'static str,
+    printed: &'static str,
+}
+
+// Whether a run leaves what it is to leave.
+fn passes(alloc: Global, case: &Case, fails: &Fails) -> Result<bool, Fail> {
+    let design = changed(alloc, DESIGN, case.design.0, case.design.1)?;
+    let controller = changed(alloc, CONTROLLER, case.controller.0, case.controller.1)?;
+    let mut store = store_of(
+        alloc,
+        design.as_str(),
+        POLICY,
+        controller.as_str(),
+        case.states,
+    )?;
+    let left = left_by(alloc, case.arguments, &mut store, fails)?;
+    Ok(left.line.as_slice() == case.line.as_bytes()
+        && left.printed.as_slice() == case.printed.as_bytes())
+}
+
+// States in the box, in any spelling; states outside, and texts that are none.
+#[test]
+fn solves(rt: HostRuntime) -> Result<(), Fail> {
+    let cases = [
+        Case {
+            arguments: "solve c s",
+            design: ("grid = 0", "grid = 0"),
+            controller: ("lo 0", "lo 0"),
+            states: "1",
+            line: "",
+            printed: "4096 -2224\n",
+        },
+        Case {
+            arguments: "solve c s",
+            design: ("grid = 0", "grid = 0"),
+            controller: ("lo 0", "lo 0"),
+            states: "0\n1\n0",
+            line: "",
+            printed: "4096 0\n4096 -2224\n4096 0\n",
+        },
+        Case {
+            arguments: "solve c s",
+            design: ("grid = 0", "grid = 0"),
+            controller: ("lo 0", "lo 0"),
+            states: "",
+            line: "",
+            printed: "",
+        },
+        Case {
+            arguments: "solve c s",
+            design: ("grid = 0", "grid = 0"),
+            controller: ("lo 0", "lo 0"),
+            states: "1\r\n\n",
+            line: "",
+            printed: "4096 -2224\n",
+        },
+        Case {
+            arguments: "solve c s",
+            design: ("grid = 0", "grid = 0"),
+            controller: ("lo 0", "lo 0"),
+            states: " 01 \n",
+            line: "",
+            printed: "4096 -2224\n",
+        },
+        Case {
+            arguments: "solve c s",
+            design: ("grid = 0", "grid = 0"),
+            controller: ("lo 0", "lo 0"),
+            states: "2",
+            line: "error 12 outside-box 1 0 1\n",
+            printed: "",
+        },
+        Case {
+            arguments: "solve c s",
+            design: ("grid = 0", "grid = 0"),
+            controller: ("lo 0", "lo 0"),
+            states: "1\n2\n-1\n",
+            line: "error 12 outside-box 2 0 1\n",
+            printed: "",
+        },
+        Case {
+            arguments: "solve c s",
+            design: ("grid = 0", "grid = 0"),
+            controller: ("lo 0", "lo 0"),
+            states: "1,0",
+            line: "error 5 text 2 fields 1\n",
+            printed: "",
+        },
+        Case {
+            arguments: "solve c s",
+            design: ("grid = 0", "grid = 0"),
+            controller: ("lo 0", "lo 0"),
+            states: "1\n1,0\n2",
+            line: "error 5 text 2 fields 2\n",
+            printed: "",
+        },
+        Case {
+            arguments: "solve c s",
+            design: ("grid = 0", "grid = 0"),
+            controller: ("lo 0", "lo 0"),
+            states: "1\n2\nx\n",
+            line: "error 5 text 2 number 3 1\n",
+            printed: "",
+        },
+    ];
+    for case in &cases {
+        assert!(rt; passes(rt.alloc(), case, &NONE)?);
+    }
+    Ok(())
+}
+
+// Texts that are one change away from the controller's, and the first line that shows it.
+#[test]
+fn changed_controllers(rt: HostRuntime) -> Result<(), Fail> {
+    let cases = [
+        Case {
+            arguments: "solve c s",
+            design: ("grid = 0", "grid = 0"),
+            controller: ("end\n", ""),
+            states: "1",
+            line: "error 11 controller 1 line 19\n",
+            printed: "",
+        },
+        Case {
+            arguments: "solve c s",
+            design: ("grid = 0", "grid = 0"),
+            controller: ("size 1 1", "size 1  1"),
+            states: "1",
+            line: "error 11 controller 1 line 2\n",
+            printed: "",
+        },
+        Case {
+            arguments: "solve c s",
+            design: ("grid = 0", "grid = 0"),
+            controller: ("T 0", "T -0"),
+            states: "1",
+            line: "error 11 controller 1 line 10\n",
+            printed: "",
+        },
+        Case {
+            arguments: "solve c s",
+            design: ("grid = 0", "grid = 0"),
+            controller: ("steps 4", "steps 04"),
+            states: "1",
+            line: "error 11 controller 1 line 4\n",
+            printed: "",
+        },
+        Case {
+            arguments: "solve c s",
+            design: ("grid = 0", "grid = 0"),
+            controller: ("end\n", "end\nx"),
+            states: "1",
+            line: "error 11 controller 1 line 20\n",
+            printed: "",
+        },
+        Case {
+            arguments: "solve c s",
+            design: ("grid = 0", "grid = 0"),
+            controller: ("words 6", "words 7"),
+            states: "1",
+            line: "error 11 controller 1 line 6\n",
+            printed: "",
+        },
+        Case {
+            arguments: "solve c s",
+            design: ("grid = 0", "grid = 0"),
+            controller: ("W 256", "W 512"),
+            states: "1",
+            line: "error 11 controller 1 unsafe\n",
+            printed: "",
+        },
+        Case {
+            arguments: "solve c s",
+            design: ("grid = 0", "grid = 0"),
+            controller: ("bits 10 0 1 26", "bits 10 0 1 25"),
+            states: "1",
+            line: "error 11 controller 1 unsafe\n",
+            printed: "",
+        },
+        Case {
+            arguments: "solve c s",
+            design: ("grid = 0", "grid = 0"),
+            controller: ("lo 0", "lo 2"),
+            states: "1",
+            line: "error 11 controller 1 line 8\n",
+            printed: "",
+        },
+    ];
+    for case in &cases {
+        assert!(rt; passes(rt.alloc(), case, &NONE)?);
+    }
+    Ok(())
+}
+
+// Turns of closed loops, a loop that leaves the box, and files that do not belong together.
+#[test]
+fn loops(rt: HostRuntime) -> Result<(), Fail> {
+    let cases = [
+        Case {
+            arguments: "loop d c s 0",
+            design: ("grid = 0", "grid = 0"),
+            controller: ("lo 0", "lo 0"),
+            states: "1\n5\n",
+            line: "",
+            printed: "",
+        },
+        Case {
+            arguments: "loop d c s 1",
+            design: ("grid = 0", "grid = 0"),
+            controller: ("lo 0", "lo 0"),
+            states: "1",
+            line: "",
+            printed: "1 1 1 4096 -2224\n",
+        },
+        Case {
+            arguments: "loop d c s 3",
+            design: ("grid = 0", "grid = 0"),
+            controller: ("lo 0", "lo 0"),
+            states: "1",
+            line: "",
+            printed: "1 1 1 4096 -2224\n1 2 0 4096 0\n1 3 0 4096 0\n",
+        },
+        Case {
+            arguments: "loop d c s 2",
+            design: ("grid = 0", "grid = 0"),
+            controller: ("lo 0", "lo 0"),
+            states: "1\n0\n",
+            line: "",
+            printed: "1 1 1 4096 -2224\n1 2 0 4096 0\n2 1 0 4096 0\n2 2 0 4096 0\n",
+        },
+        Case {
+            arguments: "loop d c s 5",
+            design: ("a = [[1]]", "a = [[3]]"),
+            controller: ("lo 0", "lo 0"),
+            states: "1",
+            line: "error 12 outside-box 1 2 1\n",
+            printed: "1 1 1 4096 -2224\n",
+        },
+        Case {
+            arguments: "loop d c s 2",
+            design: ("grid = 0", "grid = 0"),
+            controller: ("lo 0", "lo 0"),
+            states: "0\n2\n",
+            line: "error 12 outside-box 2 1 1\n",
+            printed: "1 1 0 4096 0\n1 2 0 4096 0\n",
+        },
+        Case {
+            arguments: "loop d c s 1",
+            design: ("inputs = 1\nstages = 1\n[plant]\nden = 1\na = [[1]]\nb = [[1]]\n[cost]\nden = 1\nrow_den = 1\ninput = [1]\nstage = [[1, 0, 1]]\nfinal = []\n[limits]\nden = 4\nstage = [[0, 4, 4], [0, -4, 4]]", "inputs = 2\nstages = 1\n[plant]\nden = 1\na = [[1]]\nb = [[1, 1]]\n[cost]\nden = 1\nrow_den = 1\ninput = [1, 1]\nstage = [[1, 0, 1]]\nfinal = []\n[limits]\nden = 4\nstage = [[0, 4, 4, 4], [0, -4, 4, 4]]"),
+            controller: ("lo 0", "lo 0"),
+            states: "1",
+            line: "error 14 mismatch inputs 2 1\n",
+            printed: "",
+        },
+        Case {
+            arguments: "loop d c s 1",
+            design: ("grid = 0", "grid = 1"),
+            controller: ("lo 0", "lo 0"),
+            states: "1",
+            line: "error 14 mismatch grid 1 0\n",
+            printed: "",
+        },
+        Case {
+            arguments: "loop d c s 1",
+            design: ("grid = 0", "grid = 0"),
+            controller: ("lo 0", "lo 0"),
+            states: "1,1",
+            line: "error 5 text 3 fields 1\n",
+            printed: "",
+        },
+        Case {
+            arguments: "loop d c s 1",
+            design: ("version = 1\n", "version = 1\nnote = 1\n"),
+            controller: ("lo 0", "lo 0"),
+            states: "1",
+            line: "error 5 text 1 key 0\n",
+            printed: "",
+        },
+        Case {
+            arguments: "loop d c s 1",
+            design: ("grid = 0", "grid = 0"),
+            controller: ("steps 4", "steps 04"),
+            states: "1",
+            line: "error 11 controller 2 line 4\n",
+            printed: "",
+        },
+    ];
+    for case in &cases {
+        assert!(rt; passes(rt.alloc(), case, &NONE)?);
+    }
+    Ok(())
+}
+
+// Arguments that are those of no command.
+#[test]
+fn no_commands(rt: HostRuntime) -> Result<(), Fail> {
+    let cases = [
+        Case {
+            arguments: "",
+            design: ("grid = 0", "grid = 0"),
+            controller: ("lo 0", "lo 0"),
+            states: "1",
+            line: "error 2 usage\n",
+            printed: "",
+        },
+        Case {
+            arguments: "solve",
+            design: ("grid = 0", "grid = 0"),
+            controller: ("lo 0", "lo 0"),
+            states: "1",
+            line: "error 2 usage\n",
+            printed: "",
+        },
+        Case {
+            arguments: "solve c",
+            design: ("grid = 0", "grid = 0"),
+            controller: ("lo 0", "lo 0"),
+            states: "1",
+            line: "error 2 usage\n",
+            printed: "",
+        },
+        Case {
+            arguments: "solve c s s",
+            design: ("grid = 0", "grid = 0"),
+            controller: ("lo 0", "lo 0"),
+            states: "1",
+            line: "error 2 usage\n",
+            printed: "",
+        },
+        Case {
+            arguments: "Solve c s",
+            design: ("grid = 0", "grid = 0"),
+            controller: ("lo 0", "lo 0"),
+            states: "1",
+            line: "error 2 usage\n",
+            printed: "",
+        },
+        Case {
+            arguments: "loop d c s",
+            design: ("grid = 0", "grid = 0"),
+            controller: ("lo 0", "lo 0"),
+            states: "1",
+            line: "error 2 usage\n",
+            printed: "",
+        },
+        Case {
+            arguments: "loop d c s 1000001",
+            design: ("grid = 0", "grid = 0"),
+            controller: ("lo 0", "lo 0"),
+            states: "1",
+            line: "error 2 usage\n",
+            printed: "",
+        },
+        Case {
+            arguments: "loop d c s 01",
+            design: ("grid = 0", "grid = 0"),
+            controller: ("lo 0", "lo 0"),
+            states: "1",
+            line: "error 2 usage\n",
+            printed: "",
+        },
+        Case {
+            arguments: "loop d c s -1",
+            design: ("grid = 0", "grid = 0"),
+            controller: ("lo 0", "lo 0"),
+            states: "1",
+            line: "error 2 usage\n",
+            printed: "",
+        },
+        Case {
+            arguments: "loop d c s ",
+            design: ("grid = 0", "grid = 0"),
+            controller: ("lo 0", "lo 0"),
+            states: "1",
+            line: "error 2 usage\n",
+            printed: "",
+        },
+        Case {
+            arguments: "demo",
+            design: ("grid = 0", "grid = 0"),
+            controller: ("lo 0", "lo 0"),
+            states: "1",
+            line: "error 2 usage\n",
+            printed: "",
+        },
+        Case {
+            arguments: "demo -1",
+            design: ("grid = 0", "grid = 0"),
+            controller: ("lo 0", "lo 0"),
+            states: "1",
+            line: "error 2 usage\n",
+            printed: "",
+        },
+        Case {
+            arguments: "demo 4294967296",
+            design: ("grid = 0", "grid = 0"),
+            controller: ("lo 0", "lo 0"),
+            states: "1",
+            line: "error 2 usage\n",
+            printed: "",
+        },
+        Case {
+            arguments: "demo 07",
+            design: ("grid = 0", "grid = 0"),
+            controller: ("lo 0", "lo 0"),
+            states: "1",
+            line: "error 2 usage\n",
+            printed: "",
+        },
+        Case {
+            arguments: "generate d p",
+            design: ("grid = 0", "grid = 0"),
+            controller: ("lo 0", "lo 0"),
+            states: "1",
+            line: "error 2 usage\n",
+            printed: "",
+        },
+        Case {
+            arguments: "generate d p c c",
+            design: ("grid = 0", "grid = 0"),
+            controller: ("lo 0", "lo 0"),
+            states: "1",
+            line: "error 2 usage\n",
+            printed: "",
+        },
+        Case {
+            arguments: "generate d p d r",
+            design: ("grid = 0", "grid = 0"),
+            controller: ("lo 0", "lo 0"),
+            states: "1",
+            line: "error 2 usage\n",
+            printed: "",
+        },
+        Case {
+            arguments: "generate d p p r",
+            design: ("grid = 0", "grid = 0"),
+            controller: ("lo 0", "lo 0"),
+            states: "1",
+            line: "error 2 usage\n",
+            printed: "",
+        },
+        Case {
+            arguments: "generate d p c d",
+            design: ("grid = 0", "grid = 0"),
+            controller: ("lo 0", "lo 0"),
+            states: "1",
+            line: "error 2 usage\n",
+            printed: "",
+        },
+        Case {
+            arguments: "generate d p c p",
+            design: ("grid = 0", "grid = 0"),
+            controller: ("lo 0", "lo 0"),
+            states: "1",
+            line: "error 2 usage\n",
+            printed: "",
+        },
+        Case {
+            arguments: "generate d p c r r",
+            design: ("grid = 0", "grid = 0"),
+            controller: ("lo 0", "lo 0"),
+            states: "1",
+            line: "error 2 usage\n",
+            printed: "",
+        },
+    ];
+    for case in &cases {
+        assert!(rt; passes(rt.alloc(), case, &NONE)?);
+    }
+    Ok(())
+}
+
+// Reads that fail, and prints that fail, each in turn.
+#[test]
+fn faults(rt: HostRuntime) -> Result<(), Fail> {
+    let cases = [
+        (
+            Case {
+                arguments: "solve c s",
+                design: ("grid = 0", "grid = 0"),
+                controller: ("lo 0", "lo 0"),
+                states: "0\n1\n",
+                line: "error 3 read-fault 1\n",
+                printed: "",
+            },
+            Fails {
+                read: 1,
+                write: 9,
+                keep: 0,
+                put: 9,
+            },
+        ),
+        (
+            Case {
+                arguments: "solve c s",
+                design: ("grid = 0", "grid = 0"),
+                controller: ("lo 0", "lo 0"),
+                states: "0\n1\n",
+                line: "error 3 read-fault 2\n",
+                printed: "",
+            },
+            Fails {
+                read: 2,
+                write: 9,
+                keep: 0,
+                put: 9,
+            },
+        ),
+        (
+            Case {
+                arguments: "solve c s",
+                design: ("grid = 0", "grid = 0"),
+                controller: ("lo 0", "lo 0"),
+                states: "0\n1\n",
+                line: "error 4 write-fault 0\n",
+                printed: "",
+            },
+            Fails {
+                read: 9,
+                write: 9,
+                keep: 0,
+                put: 1,
+            },
+        ),
+        (
+            Case {
+                arguments: "solve c s",
+                design: ("grid = 0", "grid = 0"),
+                controller: ("lo 0", "lo 0"),
+                states: "0\n1\n",
+                line: "error 4 write-fault 0\n",
+                printed: "4096 0\n",
+            },
+            Fails {
+                read: 9,
+                write: 9,
+                keep: 0,
+                put: 2,
+            },
+        ),
+        (
+            Case {
+                arguments: "loop d c s 2",
+                design: ("grid = 0", "grid = 0"),
+                controller: ("lo 0", "lo 0"),
+                states: "1\n0\n",
+                line: "error 3 read-fault 1\n",
+                printed: "",
+            },
+            Fails {
+                read: 1,
+                write: 9,
+                keep: 0,
+                put: 9,
+            },
+        ),
+        (
+            Case {
+                arguments: "loop d c s 2",
+                design: ("grid = 0", "grid = 0"),
+                controller: ("lo 0", "lo 0"),
+                states: "1\n0\n",
+                line: "error 3 read-fault 2\n",
+                printed: "",
+            },
+            Fails {
+                read: 2,
+                write: 9,
+                keep: 0,
+                put: 9,
+            },
+        ),
+        (
+            Case {
+                arguments: "loop d c s 2",
+                design: ("grid = 0", "grid = 0"),
+                controller: ("lo 0", "lo 0"),
+                states: "1\n0\n",
+                line: "error 3 read-fault 3\n",
+                printed: "",
+            },
+            Fails {
+                read: 3,
+                write: 9,
+                keep: 0,
+                put: 9,
+            },
+        ),
+        (
+            Case {
+                arguments: "loop d c s 2",
+                design: ("grid = 0", "grid = 0"),
+                controller: ("lo 0", "lo 0"),
+                states: "1\n0\n",
+                line: "error 4 write-fault 0\n",
+                printed: "",
+            },
+            Fails {
+                read: 9,
+                write: 9,
+                keep: 0,
+                put: 1,
+            },
+        ),
+        (
+            Case {
+                arguments: "loop d c s 2",
+                design: ("grid = 0", "grid = 0"),
+                controller: ("lo 0", "lo 0"),
+                states: "1\n0\n",
+                line: "error 4 write-fault 0\n",
+                printed: "1 1 1 4096 -2224\n",
+            },
+            Fails {
+                read: 9,
+                write: 9,
+                keep: 0,
+                put: 2,
+            },
+        ),
+        (
+            Case {
+                arguments: "loop d c s 2",
+                design: ("grid = 0", "grid = 0"),
+                controller: ("lo 0", "lo 0"),
+                states: "1\n0\n",
+                line: "error 4 write-fault 0\n",
+                printed: "1 1 1 4096 -2224\n1 2 0 4096 0\n",
+            },
+            Fails {
+                read: 9,
+                write: 9,
+                keep: 0,
+                put: 3,
+            },
+        ),
+        (
+            Case {
+                arguments: "loop d c s 2",
+                design: ("grid = 0", "grid = 0"),
+                controller: ("lo 0", "lo 0"),
+                states: "1\n0\n",
+                line: "error 4 write-fault 0\n",
+                printed: "1 1 1 4096 -2224\n1 2 0 4096 0\n2 1 0 4096 0\n",
+            },
+            Fails {
+                read: 9,
+                write: 9,
+                keep: 0,
+                put: 4,
+            },
+        ),
+    ];
+    for (case, fails) in &cases {
+        assert!(rt; passes(rt.alloc(), case, fails)?);
+    }
+    Ok(())
+}
+
+// What `demo 7` prints, from the model in exact fractions: a report of 209 bytes, and four lines.
+const DEMO: &str =
+    "mpc-report 1\nmargin 16384 65536\ncost 63\nmultiplier 252\nstep 1\nsteps 8064\nbits 31\nwidth 73\nwords 78\nviolation 140387641438 1099511627776\ngap 743069367421 1099511627776\nundercut 35377685642376 1099511627776\nend\n17317308137472 7263807345963 17331305367316 986525326301 17319796755491 -1659324381987 16285107482136 -2679637787082 15451187731935 -3073655857193 15092040554849 -3220531605651 14097620001560\n17317308137472 -1343041153994 17320181266648 -2205020446204 15993467770692 -2823450524125 15362645348508 -3059813594971 15170577159131 -3194939595885 15003894286892 -3256095330405 14072863555167\n17317308137472 2730593652673 17320896598117 -1107518991629 16682424872095 -2481609138026 15606315313892 -2950712766347 15249787129102 -3160256007815 15029036745528 -3245930592177 14079936222543\n17317308137472 -5617287430405 12989677374963 -3776670931370 14392546309353 -3298419508458 14904863184619 -3196546284766 15041542201861 -3234362528561 14977476427602 -3267467681498 14065055949064\n";
+
+// Whether `demo 7` prints the first bytes of its text where a print fails, and ends with this line.
+fn prints(alloc: Global, put: usize, count: usize, line: &str) -> Result<bool, Fail> {
+    let mut store = MemStore::empty(alloc);
+    let fails = Fails {
+        read: 9,
+        write: 9,
+        keep: 0,
+        put,
+    };
+    let left = left_by(alloc, "demo 7", &mut store, &fails)?;
+    let printed = DEMO.get(..count).ok_or("long")?;
+    Ok(left.line.as_slice() == line.as_bytes() && left.printed.as_slice() == printed.as_bytes())
+}
+
+// `demo 7`, and with each of its prints failing in turn.
+#[test]
+fn demo_seven(rt: HostRuntime) -> Result<(), Fail> {
+    let cases = [
+        (9, 985, ""),
+        (1, 0, "error 4 write-fault 0\n"),
+        (2, 209, "error 4 write-fault 0\n"),
+        (3, 401, "error 4 write-fault 0\n"),
+        (4, 596, "error 4 write-fault 0\n"),
+        (5, 790, "error 4 write-fault 0\n"),
+    ];
+    for (put, count, line) in cases {
+        assert!(rt; prints(rt.alloc(), put, count, line)?);
+    }
+    Ok(())
+}

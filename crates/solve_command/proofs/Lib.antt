@@ -1,0 +1,5 @@
+-- what a controller and its states are answered, and what is printed of them
+pub mod PlanLines
+pub mod Outside
+pub mod Stopping
+pub mod Solving

@@ -1,0 +1,4 @@
+pub mod Solve
+pub mod Inside
+pub mod Lines
+pub mod Printing
