@@ -30,6 +30,10 @@ class Corners(unittest.TestCase):
         corner = corners_of(design, records_of("1,0\n131072,-131071\n"))[1]
         self.assertEqual(corner.least, (Fraction(4, 524288), 2))
 
+    def test_margin_is_rounded_down_and_cost_up(self):
+        # the slack is 1/36, and 65536/36 lies between 1820 and 1821; the cost is 53/81
+        self.assertEqual(margin_of(corners_of(design_of(FIRST), records_of("1,0\n9,-7\n"))), (1820, 1))
+
     def test_negative_slack(self):
         self.assertEqual(min(slacks_of(design_of(FIRST), [1], [0])), Fraction(-3, 4))
 

@@ -24,6 +24,9 @@ class Pages(unittest.TestCase):
     def test_another_line(self):
         self.assertEqual(len(self.wrong({"./one a && ./two b": ["first", "second"], "./scripts/five": ["version = 1"]})), 1)
 
+    def test_lines_in_another_order(self):
+        self.assertEqual(len(self.wrong({"./one a && ./two b": ["  second", "first"], "./scripts/five": ["version = 1"]})), 1)
+
     def test_a_line_where_none_is_said(self):
         self.assertEqual(len(self.wrong({"./one a && ./two b": ["first", "  second"], "./three\n./four": ["x"], "./scripts/five": ["version = 1"]})), 1)
 
