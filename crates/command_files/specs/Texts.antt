@@ -11,7 +11,7 @@ use Rattle.qp_model.specs.declared.text_fault.TextFault.TheVariants.{Memory as n
 use Rattle.controller_file.specs.FirstLine.{IsBadLine, IsUnsafe}
 use Rattle.controller_file.specs.declared.bad_controller.BadController.{BadController}
 use Rattle.controller_file.specs.declared.bad_controller.BadController.TheVariants.{Line, Unsafe, Memory}
-use Rattle.design_files.specs.DesignText.{IsDesignText, IsFirstFault}
+use Rattle.design_files.specs.DesignText.{IsDesignText, IsDesignFault}
 use Rattle.policy_file.specs.PolicyText.{IsPolicyText, IsPolicyFault}
 use Rattle.policy_file.specs.StatesText.{IsStatesText, IsStatesFault}
 use Rattle.command_line.specs.declared.status.Status.{Status}
@@ -26,7 +26,7 @@ abbrev pub DesignRight : DesignParts → List ℕ → Type 0
 DesignRight p bytes = IsDesignText bytes p
 
 abbrev pub DesignWrong : ℕ → List ℕ → Status → Type 0
-DesignWrong file bytes s = (fault : TextFault) × IsFirstFault bytes fault × TellsFault file fault s
+DesignWrong file bytes s = (fault : TextFault) × IsDesignFault bytes fault × TellsFault file fault s
 
 -- ---- policies for a design
 abbrev pub PolicyRight : Design → Plans → List ℕ → Type 0

@@ -1,6 +1,6 @@
 -- What `generate` is called to answer by what its first two files hold, and what it leaves in the store.
 use Rattle.std.specs.Prelude.{◌≡◌, ◌≢◌, ◌⊎◌, ℕ, List, Option, Some, IsSomeAnd, ◌++◌, codes}
-use Rattle.io_edge.specs.Faults.{Files, IsCutShort, IsProperFront}
+use Rattle.io_edge.specs.Faults.{Files, IsCutShort, IsProperPrefix}
 use Rattle.qp_model.specs.Policy.{Plans}
 use Rattle.qp_model.specs.Parts.{design_of}
 use Rattle.qp_model.specs.Controller.{Numbers}
@@ -74,5 +74,5 @@ pub record IsReportCut (words : List (List ℕ)) (files new : Files) : Type 0 wh
   pub report : List ℕ
   pub is_report : IsReport (word_of words 4) bounds report
   pub controller_file : new (word_of words 3) ≡ Some text
-  pub report_file : (new (word_of words 4) ≡ files (word_of words 4)) ⊎ IsSomeAnd (new (word_of words 4)) (IsProperFront report)
+  pub report_file : (new (word_of words 4) ≡ files (word_of words 4)) ⊎ IsSomeAnd (new (word_of words 4)) (IsProperPrefix report)
   pub others : (q : List ℕ) → q ≢ word_of words 3 → q ≢ word_of words 4 → new q ≡ files q

@@ -3,7 +3,7 @@ use Rattle.std.proofs.Common.{◌≡◌, inl, inr, ℕ, ◌+◌, ◌-◌, ◌<�
 use Rattle.std.proofs.lemmas.Bool.{cases_lt}
 use Rattle.mat_int.specs.Matrix.{Matrix, row_of}
 use Rattle.qp_model.specs.Controller.{Numbers}
-use Rattle.qp_model.specs.Machine.{IsGridState}
+use Rattle.qp_model.specs.Machine.{IsAdmissible}
 use Rattle.fixed_kernel.specs.Outside.{IsFirstOutside}
 use Rattle.solve_command.specs.Inside.{AreInside, IsOutside, RunsCall}
 use Rattle.command_line.specs.declared.status.Status.{Status}
@@ -14,7 +14,7 @@ one : (i j : ℕ) → (i < j → ⊥) → (j < i → ⊥) → i ≡ j
 one i j below above = elim (cases_lt i j) [ inl lt ↦ absurd (below lt) | inr ge ↦ elim (cases_lt j i) [ inl lt ↦ absurd (above lt) | inr le ↦ omega arith ] ]
 
 -- a coordinate of a state
-no_grid_state : (c : Numbers) (xi : List ℤ) (k : ℕ) → IsFirstOutside c xi k → IsGridState c xi → ⊥
+no_grid_state : (c : Numbers) (xi : List ℤ) (k : ℕ) → IsFirstOutside c xi k → IsAdmissible c xi → ⊥
 no_grid_state c xi k first grid =
     let low = first.low in
     let high = first.high in

@@ -2,14 +2,14 @@
 use Rattle.std.specs.Prelude.{◌≡◌, ◌⊎◌, ℕ, ◌+◌, ◌<◌, length}
 use Rattle.mat_int.specs.Matrix.{Matrix, row_of}
 use Rattle.qp_model.specs.Controller.{Numbers}
-use Rattle.qp_model.specs.Machine.{IsGridState}
+use Rattle.qp_model.specs.Machine.{IsAdmissible}
 use Rattle.fixed_kernel.specs.Outside.{IsFirstOutside}
 use Rattle.command_line.specs.declared.status.Status.{Status}
 use Rattle.command_line.specs.declared.status.Status.TheVariants.{Done, OutsideBox}
 
 -- each of the first k states lies in the controller's box
 abbrev pub AreInside : Numbers → Matrix → ℕ → Type 0
-AreInside c states k = (e : ℕ) → e < k → IsGridState c (row_of states e)
+AreInside c states k = (e : ℕ) → e < k → IsAdmissible c (row_of states e)
 
 -- the state of a record is the first that lies outside the box, and the status tells which, and its first coordinate outside
 pub record IsOutside (c : Numbers) (states : Matrix) (s : Status) : Type 0 where

@@ -1,7 +1,7 @@
 // The lines of averaged plans.
 ghost use Rattle.std.specs.Prelude.{◌≡◌, ◌⊎◌, ◌≤◌, ◌<◌, ◌^◌, length, IfOk, IfErr, IfSome, IsSomeAnd, OnOk};
 ghost use Rattle.io_edge.specs.Faults.{Rose};
-ghost use Rattle.qp_model.specs.Machine.{IsGridState};
+ghost use Rattle.qp_model.specs.Machine.{IsAdmissible};
 ghost use Rattle.qp_model.specs.ControllerText.{plan_line};
 ghost use Rattle.solve_command.specs.Inside.{AreInside, IsOutside};
 ghost use Rattle.solve_command.specs.Printing.{ArePrinted};
@@ -35,7 +35,7 @@ pub fn all_inside(kernel: &mut Kernel, states: &Mat) -> Result<(), Status>
 
 // The line of the averaged plan from a state of the box.
 fn line_from(alloc: Global, kernel: &mut Kernel, state: &[i128]) -> Result<Vec<u8>, AllocError>
-    requires { IsGridState kernel.old.controller state.now }
+    requires { IsAdmissible kernel.old.controller state.now }
     ensures line { IfOk result (λ line. line.items ≡ plan_line kernel.old.controller state.now) }
     ensures controller { kernel.new.controller ≡ kernel.old.controller }
 {
