@@ -6,7 +6,8 @@
 
 What is measured is what is committed. The clone has no kept work, and the gate reads none: it proves over the kit's built library alone. With names, these crates
 and those below them are proved, and the others are taken out of the clone. --lanes N proves N crates side by side with one process each, whatever memory there is;
-without it the gate chooses by processors and memory, and a proof may share several processors, which costs some more processor time.
+without it the gate chooses by processors and memory, and a proof may share several processors, which costs some more processor time. Stopped by Ctrl-C or a
+SIGTERM, it tells what it has measured.
 
 Processor time is that of the prover's processes, as the system counts it, and memory the most that one process held. The longest chain is that of the proofs'
 times, each crate after those that it stands on: no number of processors gives the first answer sooner.
@@ -19,6 +20,7 @@ import os
 import re
 import resource
 import shutil
+import signal
 import subprocess
 import sys
 import tempfile
@@ -136,7 +138,8 @@ def table(crates, said, wall, total):
     spent, memory, others, lost = collections.Counter(), collections.Counter(), collections.Counter(), 0
     for it in RUNS:
         if it.seconds is None:
-            lost += 1
+            # (a shell that rt starts ends with it, and is never waited for)
+            lost += it.work()[0] is not None
             continue
         crate, part = it.work()
         if crate is None:
@@ -177,30 +180,41 @@ def gate(options):
         print(f"{commit}\n{len(crates)} crates, {os.cpu_count()} processors", flush=True)
         if options.lanes:
             os.environ["RT_JOBS"] = str(options.lanes)
-        log = open(options.log, "w") if options.log else tempfile.TemporaryFile("w+")
-        with log:
+        log, sent = options.log or f"{room}/log", os.dup(1)
+        before, began = resource.getrusage(resource.RUSAGE_CHILDREN), time.monotonic()
+
+        def tell(status):
+            """Prints what the gate said last, and the table, of what was measured so far."""
             sys.stdout.flush()
-            kept = os.dup(1)
-            # what rt and its commands print goes to the log
-            os.dup2(log.fileno(), 1)
-            os.chdir(root)
-            before, began = resource.getrusage(resource.RUSAGE_CHILDREN), time.monotonic()
-            watch()
-            try:
-                status = tool().main(["ci"])
-            except SystemExit as ended:
-                status = ended.code
-            finally:
-                sys.stdout.flush()
-                os.dup2(kept, 1)
-                os.chdir("/")
+            os.dup2(sent, 1)
             wall, after = time.monotonic() - began, resource.getrusage(resource.RUSAGE_CHILDREN)
-            with open(log.name if options.log else f"/proc/self/fd/{log.fileno()}") as file:
-                file.seek(0)
+            with open(log) as file:
                 said = file.read()
-        last = said.rstrip("\n").split("\n")
-        print("\n".join(last[-40:] if status else last[-1:]))
-        table(crates, said, wall, after.ru_utime + after.ru_stime - before.ru_utime - before.ru_stime)
+            print("\n".join(said.rstrip("\n").split("\n")[-40 if status else -1 :]))
+            table(crates, said, wall, after.ru_utime + after.ru_stime - before.ru_utime - before.ru_stime)
+            sys.stdout.flush()
+
+        def stop(*_):
+            print("stopped before its end", file=sys.stderr)
+            tell(130)
+            shutil.rmtree(room, ignore_errors=True)
+            # what rt has started ends with this process
+            os._exit(130)
+
+        for it in (signal.SIGINT, signal.SIGTERM):
+            signal.signal(it, stop)
+        sys.stdout.flush()
+        with open(log, "w") as file:
+            # what rt and its commands print goes to the log
+            os.dup2(file.fileno(), 1)
+        os.chdir(root)
+        watch()
+        try:
+            status = tool().main(["ci"])
+        except SystemExit as ended:
+            status = ended.code
+        os.chdir("/")
+        tell(status)
         return status
 
 
