@@ -11,7 +11,7 @@ use Rattle.qp_model.specs.AbsoluteSums.{state_magnitudes, clamp_magnitudes, plan
 use Rattle.overflow_check.specs.Within.{AreWithin}
 use Rattle.overflow_check.proofs.Sizes.{length-state_reach, length-clamp_reach, length-plan_reach}
 use Rattle.overflow_check.proofs.Absolute.{le_times_pow, abs-floor_le, ceil_div_mono}
-use Rattle.overflow_check.proofs.SumLaws.{SumsFit, sums_fit, abs_dot-reach, dual_le, planned_le, row_parts_le, row_le, next_le}
+use Rattle.overflow_check.proofs.SumLaws.{SumsFit, sums_fit, abs_dot-magnitudes, dual_le, planned_le, row_parts_le, row_le, next_le}
 
 pub fit : (c : Numbers) → IsController c → SumsFit c (2 ^ 126)
 fit c s = sums_fit c (2 ^ 126) s.room
@@ -40,8 +40,8 @@ entry_inner_le c state multipliers j w v =
       arith,
       abs-floor_le (list_dot (row_of c.dual_gains j) multipliers) (2 ^ c.step_exponent),
       abs-dot_le (row_of c.dual_gains j) multipliers,
-      abs_dot-reach (row_of c.dual_gains j) multipliers (clamp_magnitudes c) v,
-      abs_dot-reach (row_of c.state_gains j) state (state_magnitudes c) w,
+      abs_dot-magnitudes (row_of c.dual_gains j) multipliers (clamp_magnitudes c) v,
+      abs_dot-magnitudes (row_of c.state_gains j) state (state_magnitudes c) w,
       le_times_pow t c.fraction_bits,
       le_times_pow (p + t * 2 ^ c.fraction_bits) c.step_exponent,
     )

@@ -1,5 +1,5 @@
 -- The words of a kernel's region: the state, the multipliers, the plan and the sums, one behind the other.
-use Rattle.std.specs.Prelude.{ℕ, ◌+◌, ℤ, List, ◌++◌, length, take, drop}
+use Rattle.std.specs.Prelude.{◌+◌, ℤ, List, ◌++◌, length, take, drop}
 use Rattle.qp_model.specs.Controller.{Numbers, plan_length}
 use Rattle.qp_model.specs.Machine.{Iterate}
 use Rattle.word_region.specs.declared.Span.{Span}

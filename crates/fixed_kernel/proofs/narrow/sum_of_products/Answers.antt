@@ -1,4 +1,4 @@
-use Rattle.std.proofs.Common.{◌≡◌, ◌+ℤ◌, rules, FitsSigned, arith, refl}
+use Rattle.std.proofs.Common.{◌+ℤ◌, rules, FitsSigned, arith, refl}
 use Rattle.std.specs.Int.{w128}
 use Rattle.std.proofs.lemmas.Int.{to_z-of_z, fits_signed_from_abs}
 use Rattle.mat_int.specs.Row.{list_dot}

@@ -1,4 +1,4 @@
-use Rattle.std.proofs.Common.{◌≡◌, ◌+ℤ◌, ◌*ℤ◌, get_or, pos, rules, FitsSigned, arith}
+use Rattle.std.proofs.Common.{◌≡◌, ◌*ℤ◌, get_or, pos, rules, FitsSigned, arith}
 use Rattle.std.specs.Int.{w128}
 use Rattle.std.proofs.lemmas.Int.{ints, to_z-of_z}
 use Rattle.mat_int.specs.InHalves.{whole}

@@ -1,6 +1,5 @@
-use Rattle.std.proofs.Common.{◌≡◌, ap, ◌∙◌, refl, ℕ}
+use Rattle.std.proofs.Common.{◌≡◌, ap, ◌∙◌, refl}
 use Rattle.qp_model.specs.Controller.{numbers}
-use Rattle.qp_model.specs.Machine.{IsAdmissible}
 use Rattle.word_region.specs.declared.Span.{Span}
 use Rattle.fixed_kernel.specs.Progress.{Progress}
 use Rattle.fixed_kernel.proofs.Reached.{reached, seen, kernel_with, loaded_stands}

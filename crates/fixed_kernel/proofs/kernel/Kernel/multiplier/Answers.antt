@@ -1,14 +1,13 @@
-use Rattle.std.proofs.Common.{◌≡◌, ◌+◌, ◌<◌, pos, ap, sym, subst, ◌∙◌, rules, FitsSigned}
+use Rattle.std.proofs.Common.{◌+◌, ◌<◌, pos, ap, sym, subst, ◌∙◌, rules, FitsSigned}
 use Rattle.std.specs.Prelude.{slice_index_or}
 use Rattle.std.specs.Int.{w128}
 use Rattle.std.proofs.lemmas.Int.{to_z-of_z}
 use Rattle.integer_algebra.specs.Sums.{at}
-use Rattle.qp_model.specs.Controller.{plan_length}
 use Rattle.qp_model.specs.Machine.{loaded}
 use Rattle.fixed_kernel.specs.declared.spans.Spans.{Spans}
 use Rattle.fixed_kernel.specs.Progress.{Progress, iterate_of, progress_of}
 use Rattle.fixed_kernel.proofs.Words.{at_multipliers}
-use Rattle.fixed_kernel.proofs.Reached.{goes, loaded_long, multipliers_long, plan_entries, word_held}
+use Rattle.fixed_kernel.proofs.Reached.{goes, loaded_long, multipliers_long, word_held}
 use Rattle.fixed_kernel.proofs.kernel.Kernel.multiplier.Goals as goal
 
 pub returns-clause-value : goal.returns-clause-value

@@ -1,7 +1,7 @@
-use Rattle.std.proofs.Common.{◌≡◌, length, pos, ap, subst, sym, ◌∙◌, arith, ℕ, refl}
+use Rattle.std.proofs.Common.{◌≡◌, length, pos, ap, subst, ◌∙◌, arith, refl}
 use Rattle.std.proofs.lemmas.List.{length-replicate}
 use Rattle.qp_model.specs.Controller.{Numbers, numbers}
-use Rattle.qp_model.specs.Machine.{IsAdmissible, loaded, start_of}
+use Rattle.qp_model.specs.Machine.{loaded, start_of}
 use Rattle.qp_model.specs.AbsoluteSums.{IsController}
 use Rattle.word_region.specs.declared.Span.{Span}
 use Rattle.word_region.specs.Words.{RegionWords}

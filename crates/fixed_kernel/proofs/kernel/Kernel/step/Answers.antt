@@ -1,4 +1,4 @@
-use Rattle.std.proofs.Common.{◌≡◌, ◌+◌, ◌<◌, ap, sym, subst, ◌∙◌, ℕ}
+use Rattle.std.proofs.Common.{◌≡◌, ◌+◌, ◌<◌, ap, sym, subst, ◌∙◌}
 use Rattle.qp_model.specs.Controller.{numbers}
 use Rattle.qp_model.specs.Machine.{loaded, step_of}
 use Rattle.overflow_check.proofs.Runs.{after_suc}

@@ -1,4 +1,4 @@
-use Rattle.std.proofs.Common.{◌≡◌, ◌+◌, ◌<◌, pos, ap, sym, subst, ◌∙◌, rules, FitsSigned}
+use Rattle.std.proofs.Common.{◌+◌, pos, ap, ◌∙◌, rules, FitsSigned}
 use Rattle.std.specs.Prelude.{slice_index_or}
 use Rattle.std.specs.Int.{w128}
 use Rattle.std.proofs.lemmas.Int.{to_z-of_z}
