@@ -1,5 +1,5 @@
 -- What a design with a policy calls for, and what is made of them.
-use Rattle.std.specs.Prelude.{◌≡◌, ◌⊎◌, ¬◌, ℕ, List}
+use Rattle.std.specs.Prelude.{◌≡◌, ◌⊎◌, ℕ, List}
 use Rattle.qp_model.specs.Policy.{Plans}
 use Rattle.qp_model.specs.Parts.{design_of}
 use Rattle.qp_model.specs.Controller.{Numbers}

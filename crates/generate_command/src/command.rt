@@ -1,12 +1,11 @@
 // `generate` with its arguments.
-ghost use Rattle.std.specs.Prelude.{◌≡◌, ◌≢◌, ◌⊎◌, ℕ, ◌≤◌, IfSome, IsSomeAnd};
+ghost use Rattle.std.specs.Prelude.{◌≡◌, ◌≢◌, ◌⊎◌, ℕ, IfSome, IsSomeAnd};
 ghost use Rattle.io_edge.specs.Faults.{Rose, NoneFalls};
 ghost use Rattle.command_line.specs.Words.{word_of, IsGenerate};
 ghost use Rattle.command_line.specs.Answers.{ForContents, IsAnswer, IsCaused};
 ghost use Rattle.generate_command.specs.Generate.{GenerateCalls, GenerateReaches, IsGenerated, IsControllerCut, IsReportCut};
 
-use crate::texts::{texts_of, write_texts};
-use command_files::{read_design_file, read_policy_file};
+use crate::texts::{texts_for, write_texts};
 use command_line::Status;
 use io_edge::{Store, Words};
 use std::alloc::Global;
@@ -32,15 +31,7 @@ pub fn generate<S: Store>(alloc: Global, words: &Words, store: &mut S) -> Status
     ensures reads { NoneFalls (S.read_faults store.old) (S.read_faults store.new) }
     ensures writes { NoneFalls (S.write_faults store.old) (S.write_faults store.new) }
 {
-    let design = match read_design_file(alloc, 1, words.at(1), store) {
-        Ok(design) => design,
-        Err(status) => return status,
-    };
-    let policy = match read_policy_file(alloc, 2, words.at(2), &design, store) {
-        Ok(policy) => policy,
-        Err(status) => return status,
-    };
-    match texts_of(alloc, &design, &policy, words.at(4)) {
+    match texts_for(alloc, words, store) {
         Ok(texts) => write_texts(words.at(3), words.at(4), &texts, store),
         Err(status) => status,
     }

@@ -1,5 +1,5 @@
 // A controller and its bounds.
-ghost use Rattle.std.specs.Prelude.{◌≡◌, ◌⊎◌, IfOk, IfErr};
+ghost use Rattle.std.specs.Prelude.{◌≡◌, ◌≢◌, ◌⊎◌, IfOk, IfErr};
 ghost use Rattle.qp_model.specs.Parts.{design_of};
 ghost use Rattle.qp_model.specs.Policy.{plans_of, IsPolicyFor};
 ghost use Rattle.command_line.specs.Answers.{IsAnswer};
@@ -30,6 +30,7 @@ pub fn make_controller(alloc: Global, design: &Design, policy: &Policy) -> Resul
     ensures made { IfOk result (λ made. IsMadeOf design.now.parts (plans_of policy.now) made.controller made.bounds) }
     ensures called { IfOk result (λ _. IsAnswer (MakingCalls design.now.parts (plans_of policy.now)) Status.Done) }
     ensures refused { IfErr result (λ e. (e ≡ Status.Memory) ⊎ IsAnswer (MakingCalls design.now.parts (plans_of policy.now)) e) }
+    ensures not_done { IfErr result (λ e. e ≢ Status.Done) }
 {
     match generate(alloc, design, policy) {
         Ok(made) => Ok(made),

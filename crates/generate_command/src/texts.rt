@@ -1,18 +1,19 @@
 // The texts that are written.
-ghost use Rattle.std.specs.Prelude.{◌≡◌, ◌⊎◌, ◌↔◌, IsTrue, IfOk, IfErr, IfSome, IsSomeAnd};
+ghost use Rattle.std.specs.Prelude.{◌≡◌, ◌≢◌, ◌⊎◌, ℕ, IfOk, IfErr, IfSome, IsSomeAnd};
 ghost use Rattle.io_edge.specs.Faults.{Rose, NoneFalls, IsCutShort};
-ghost use Rattle.qp_model.specs.ControllerText.{IsControllerText};
 ghost use Rattle.qp_model.specs.Parts.{design_of};
 ghost use Rattle.qp_model.specs.Policy.{plans_of, IsPolicyFor};
-ghost use Rattle.command_line.specs.Answers.{IsAnswer};
+ghost use Rattle.command_line.specs.Words.{IsGenerate};
+ghost use Rattle.command_line.specs.Answers.{IsAnswer, IsCaused};
 ghost use Rattle.generate_command.specs.Made.{MakingCalls, IsReport};
-ghost use Rattle.generate_command.specs.Writing.{AreTextsFor, AreWritten, IsSecondCut};
+ghost use Rattle.generate_command.specs.Writing.{AreTextsFor, AreTextsFrom, AreWritten, IsAnswered, IsReadFault, IsSecondCut};
 
 use crate::made::make_controller;
 use bound_report::{report_json, report_text};
+use command_files::{read_design_file, read_policy_file};
 use command_line::{Status, is_json};
 use controller_file::write_controller;
-use io_edge::Store;
+use io_edge::{Store, Words};
 use qp_model::{Bounds, Design, Policy};
 use std::alloc::{AllocError, Global};
 
@@ -34,8 +35,8 @@ fn report_for(alloc: Global, name: &str, bounds: &Bounds) -> Result<Vec<u8>, All
     }
 }
 
-/// Both texts of a design with a policy, the report in the form that its name asks for; or the status that tells why there are none.
-pub fn texts_of(
+// Both texts of a design with a policy, the report in the form that its name asks for; or the status that tells why there are none.
+fn texts_of(
     alloc: Global,
     design: &Design,
     policy: &Policy,
@@ -45,11 +46,30 @@ pub fn texts_of(
     ensures texts { IfOk result (λ t. AreTextsFor design.now.parts (plans_of policy.now) report_name.now t.controller.items t.report.items) }
     ensures called { IfOk result (λ _. IsAnswer (MakingCalls design.now.parts (plans_of policy.now)) Status.Done) }
     ensures refused { IfErr result (λ e. (e ≡ Status.Memory) ⊎ IsAnswer (MakingCalls design.now.parts (plans_of policy.now)) e) }
+    ensures not_done { IfErr result (λ e. e ≢ Status.Done) }
 {
     let made = make_controller(alloc, design, policy)?;
     let controller = write_controller(alloc, &made.controller)?;
     let report = report_for(alloc, report_name, &made.bounds)?;
     Ok(Texts { controller, report })
+}
+
+/// Both texts of the design and the policy in the first two files; or the status that ends the run.
+pub fn texts_for<S: Store>(alloc: Global, words: &Words, store: &mut S) -> Result<Texts, Status>
+    requires { IsGenerate words.now }
+    ensures texts { IfOk result (λ t. AreTextsFrom words.now (S.held store.old) t.controller.items t.report.items) }
+    ensures called { IfOk result (λ _. IsAnswered words.now (S.held store.old) Status.Done) }
+    ensures refused { IfErr result (λ e. IsCaused e → IsAnswered words.now (S.held store.old) e) }
+    ensures not_done { IfErr result (λ e. e ≢ Status.Done) }
+    ensures no_write { IfErr result (λ e. (file : ℕ) → e ≢ Status.WriteFault file) }
+    ensures read_fault { IfErr result (λ e. (file : ℕ) → e ≡ Status.ReadFault file → IsReadFault words.now (S.held store.old) (S.read_faults store.old) (S.read_faults store.new) file) }
+    ensures held { S.held store.new ≡ S.held store.old }
+    ensures reads { NoneFalls (S.read_faults store.old) (S.read_faults store.new) }
+    ensures writes { NoneFalls (S.write_faults store.old) (S.write_faults store.new) }
+{
+    let design = read_design_file(alloc, 1, words.at(1), store)?;
+    let policy = read_policy_file(alloc, 2, words.at(2), &design, store)?;
+    texts_of(alloc, &design, &policy, words.at(4))
 }
 
 /// Writes both texts, the controller's first. It takes no memory.
