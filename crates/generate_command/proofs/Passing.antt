@@ -4,7 +4,7 @@ use Rattle.std.proofs.lemmas.Bool.{cases_lt}
 use Rattle.qp_model.specs.Design.{Design}
 use Rattle.qp_model.specs.Parts.{design_of}
 use Rattle.qp_model.specs.Policy.{Plans}
-use Rattle.qp_model.specs.Choices.{multiplier_size, step_count}
+use Rattle.qp_model.specs.Choices.{multiplier_size, step_count, multiplier_of}
 use Rattle.qp_model.specs.Quantities.{prediction_size, hessian_size, rows_size}
 use Rattle.qp_model.specs.CornerSizes.{corner_slack_size, corner_cost_size}
 use Rattle.qp_model.specs.CurvatureSize.{curvature_size}
@@ -17,7 +17,7 @@ use Rattle.qp_model.specs.declared.bounds.Margin.{Margin}
 use Rattle.qp_model.specs.declared.quantity.Quantity.TheVariants as quantity
 use Rattle.design_engine.specs.Targets.{Targets, targets_of, half_target}
 use Rattle.design_engine.specs.Widest.{width_size}
-use Rattle.design_engine.specs.Bounds.{margin_of, bound_of}
+use Rattle.design_engine.specs.Bounds.{margin_of}
 use Rattle.design_engine.specs.Built.{IsBuilt}
 use Rattle.design_engine.specs.Refusals.{HasCause, PassesMargin, PassesSizes, PassesSteps, PassesBits, PassesAll}
 use Rattle.design_engine.specs.declared.refusal.Refusal.{Refusal}
@@ -52,7 +52,7 @@ all d t plans m s f none before =
     record {
       before = before;
       descent = descent;
-      width = within (2 ^ 126) (width_size d (bound_of m) s (step_count s (bound_of m) (half_target t)) f) (λ lt. none (TooWide quantity.Width) (m, s, f, before, descent, lt));
+      width = within (2 ^ 126) (width_size d (multiplier_of m) s (step_count s (multiplier_of m) (half_target t)) f) (λ lt. none (TooWide quantity.Width) (m, s, f, before, descent, lt));
     }
 
 pub built_passes : (p : DesignParts) (plans : Plans) (c : Numbers) (b : Bounds) → NoCause (design_of p) (targets_of p) plans → IsBuilt p plans c b → Passes p plans
@@ -61,8 +61,8 @@ built_passes p plans c b none built =
     let t = targets_of p in
     let m = margin_of b in
     let s = c.step_exponent in
-    let few : step_count s (bound_of m) (half_target t) ≤ 4194304 = subst (λ (k : ℕ). k ≤ 4194304) built.steps built.controller.form.sized.steps.1 in
+    let few : step_count s (multiplier_of m) (half_target t) ≤ 4194304 = subst (λ (k : ℕ). k ≤ 4194304) built.steps built.controller.form.sized.steps.1 in
     let steps : PassesSteps d t plans m s = record { before = sizes d t plans m none (margin p plans c b none built); exponent = built.exponent; steps = few } in
-    let error = within (2 ^ 126) (error_size d (bound_of m)) (λ lt. none (TooWide quantity.Error) (m, s, steps, lt)) in
+    let error = within (2 ^ 126) (error_size d (multiplier_of m)) (λ lt. none (TooWide quantity.Error) (m, s, steps, lt)) in
     let bits : PassesBits d t plans m s c.fraction_bits = record { before = steps; error = error; choice = built.bits } in
     record { margin = m; exponent = s; bits = c.fraction_bits; all = all d t plans m s c.fraction_bits none bits }

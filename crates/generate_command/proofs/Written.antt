@@ -1,7 +1,7 @@
 -- What is written, of the design and the policy that were read.
 use Rattle.std.proofs.Common.{◌≡◌, ◌≢◌, ◌⊎◌, inl, inr, ℕ, ◌≤◌, List, Option, Some, None, sym, ◌∙◌, subst}
 use Rattle.std.specs.Prelude.{IfSome, IsSomeAnd}
-use Rattle.io_edge.specs.Faults.{Files, Rose, NoneFalls, IsCutShort, IsProperFront}
+use Rattle.io_edge.specs.Faults.{Files, Rose, NoneFalls, IsCutShort, IsProperPrefix}
 use Rattle.qp_model.specs.Policy.{Plans}
 use Rattle.qp_model.specs.Parts.{design_of}
 use Rattle.qp_model.specs.Controller.{Numbers}
@@ -74,8 +74,8 @@ module _ (words : List (List ℕ)) (p : DesignParts) (plans : Plans) (text repor
     others = λ q third fourth. written.second.others q fourth ∙ written.first.others q third;
   }
     where
-      kept : (new (word_of words 4) ≡ written.mid (word_of words 4)) ⊎ IsSomeAnd (new (word_of words 4)) (IsProperFront report) →
-          (new (word_of words 4) ≡ files (word_of words 4)) ⊎ IsSomeAnd (new (word_of words 4)) (IsProperFront report)
+      kept : (new (word_of words 4) ≡ written.mid (word_of words 4)) ⊎ IsSomeAnd (new (word_of words 4)) (IsProperPrefix report) →
+          (new (word_of words 4) ≡ files (word_of words 4)) ⊎ IsSomeAnd (new (word_of words 4)) (IsProperPrefix report)
       kept (inl same) = inl (same ∙ written.first.others (word_of words 4) generate.report_controller)
       kept (inr front) = inr front
 
