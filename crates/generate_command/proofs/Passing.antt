@@ -41,9 +41,9 @@ margin p plans c b none built =
 sizes : (d : Design) (t : Targets) (plans : Plans) (m : Margin) → NoCause d t plans → PassesMargin d t plans m → PassesSizes d t plans m
 sizes d t plans m none before =
     let multiplier = within (2 ^ 126) (multiplier_size (unsigned_abs m.units) (unsigned_abs m.cost)) (λ lt. none (TooWide quantity.Multiplier) (m, before, lt)) in
-    let hessian = within (2 ^ 126) (hessian_size d) (λ lt. none (TooWide quantity.Hessian) (m, before, multiplier, lt)) in
-    let rows = within (2 ^ 126) (rows_size d) (λ lt. none (TooWide quantity.Rows) (m, before, multiplier, hessian, lt)) in
-    let curvature = within (2 ^ 126) (curvature_size d) (λ lt. none (TooWide quantity.Curvature) (m, before, multiplier, hessian, rows, lt)) in
+    let hessian = within (2 ^ 126) (hessian_size d) (λ lt. none (TooWide quantity.Hessian) (m, (before, multiplier), lt)) in
+    let rows = within (2 ^ 126) (rows_size d) (λ lt. none (TooWide quantity.Rows) (m, ((before, multiplier), hessian), lt)) in
+    let curvature = within (2 ^ 126) (curvature_size d) (λ lt. none (TooWide quantity.Curvature) (m, (((before, multiplier), hessian), rows), lt)) in
     record { before = before; multiplier = multiplier; hessian = hessian; rows = rows; curvature = curvature }
 
 all : (d : Design) (t : Targets) (plans : Plans) (m : Margin) (s f : ℕ) → NoCause d t plans → PassesBits d t plans m s f → PassesAll d t plans m s f
@@ -52,7 +52,7 @@ all d t plans m s f none before =
     record {
       before = before;
       descent = descent;
-      width = within (2 ^ 126) (width_size d (multiplier_of m) s (step_count s (multiplier_of m) (half_target t)) f) (λ lt. none (TooWide quantity.Width) (m, s, f, before, descent, lt));
+      width = within (2 ^ 126) (width_size d (multiplier_of m) s (step_count s (multiplier_of m) (half_target t)) f) (λ lt. none (TooWide quantity.Width) (m, s, f, (before, descent), lt));
     }
 
 pub built_passes : (p : DesignParts) (plans : Plans) (c : Numbers) (b : Bounds) → NoCause (design_of p) (targets_of p) plans → IsBuilt p plans c b → Passes p plans
