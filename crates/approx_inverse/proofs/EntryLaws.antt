@@ -1,19 +1,15 @@
 -- The size of a good solution's entries.
-use Rattle.std.proofs.Common.{◌≡◌, ℕ, zero, suc, ◌+◌, ◌*◌, ◌^◌, ◌<◌, [], ◌∷◌, ℤ, pos, negsuc, ◌+ℤ◌, ◌-ℤ◌, ◌*ℤ◌, ◌≤ℤ◌, neg_ℤ, arith, refl, ap, sym, ◌∙◌}
-use Rattle.std.proofs.lemmas.Int.{ints, by_lt_z}
-use Rattle.std.proofs.Math.IntN.{*ℤ_comm}
-use Rattle.integer_algebra.specs.Sums.{total, dot, image, square}
+use Rattle.std.proofs.Common.{◌≡◌, ℕ, zero, suc, ◌+◌, ◌*◌, ◌^◌, [], ◌∷◌, ℤ, pos, negsuc, ◌+ℤ◌, ◌-ℤ◌, ◌*ℤ◌, ◌≤ℤ◌, neg_ℤ, arith, refl, ap, ◌∙◌}
+use Rattle.std.proofs.lemmas.Int.{ints}
+use Rattle.integer_algebra.specs.Sums.{total, dot, image}
 use Rattle.integer_algebra.specs.Bounds.{absolute, IsWithin}
 use Rattle.integer_algebra.specs.Sizes.{size}
-use Rattle.integer_algebra.proofs.OrderLaws.{le_trans_z, add-le-add_z, le_by, square_nonneg_z, mul-le-mul_left_z, cancel-le_z}
-use Rattle.integer_algebra.proofs.SumLaws.{total_same, total_scale, total_add, total_mono, total_nonneg, Greatest, greatest, term-le-total}
-use Rattle.integer_algebra.proofs.BoundLaws.{within_nonneg, within_times, absolute_nonneg, absolute_square}
+use Rattle.integer_algebra.proofs.OrderLaws.{mul-le-mul_left_z}
+use Rattle.integer_algebra.proofs.SumLaws.{total_same, total_scale, total_add, greatest}
 use Rattle.integer_algebra.proofs.RingLaws.{mul_assoc_z}
 use Rattle.integer_algebra.proofs.PowerLaws.{two-pow-more}
 use Rattle.integer_algebra.proofs.StrongLaws.{small_image}
 use Rattle.integer_algebra.proofs.Quoting.{by_ring, quotes}
-use Rattle.qp_model.specs.Convex.{IsConvex}
-use Rattle.qp_model.specs.GoodSolution.{IsGood}
 use Rattle.approx_inverse.specs.Laws.{GoodEntryLaw}
 
 -- ---- twice the matrix

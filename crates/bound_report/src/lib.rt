@@ -1,9 +1,9 @@
 //! What a report says of a controller, as lines of text or as JSON.
 #![tactic(auto)]
 
-ghost use Rattle.std.specs.Prelude.{◌≡◌, ◌++◌, ◌∷◌, [], IfOk, OnOk, string_bytes};
+ghost use Rattle.std.specs.Prelude.{◌≡◌, ◌++◌, IfOk, OnOk, string_bytes};
 ghost use Rattle.std.specs.Fmt.{signed_decimal};
-ghost use Rattle.qp_model.specs.Lines.{line_of, text_of};
+ghost use Rattle.qp_model.specs.Lines.{text_of};
 ghost use Rattle.bound_report.specs.Report.{report_head, bound_lines, report_text, json_members, report_json};
 ghost use Rattle.bound_report.specs.Document.{members_of, object_of, IsJsonLine};
 ghost use Rattle.serde_json.specs.Data.{string, put};

@@ -182,7 +182,7 @@ sizes_said l a b c d h fa fb fc fd ea eb ec ed =
     let stages = size_read 1 20 c fc (subst (λ (z : ℤ). IsFrom (pos 1) (pos 20) z) ec h.1.2) in
     let m = size_read 1 252 d fd (subst (λ (z : ℤ). IsFrom (pos 1) (pos 252) z) ed h.1.3) in
     record {
-      keyed_line = four_is l (codes "size") (pos (size_of a)) (pos (size_of b)) (pos (size_of c)) (pos (size_of d)) h.0 (ea ∙ n.0) (eb ∙ p.0) (ec ∙ stages.0) (ed ∙ m.0);
+      line = four_is l (codes "size") (pos (size_of a)) (pos (size_of b)) (pos (size_of c)) (pos (size_of d)) h.0 (ea ∙ n.0) (eb ∙ p.0) (ec ∙ stages.0) (ed ∙ m.0);
       range = record { n = n.1; p = p.1; stages = stages.1; m = m.1 };
     }
 

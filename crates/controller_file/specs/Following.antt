@@ -72,7 +72,7 @@ pub record AreInRange (sizes : Sizes) : Type 0 where
 
 -- a line says these sizes
 pub record Says (l : Keyed) (sizes : Sizes) : Type 0 where
-  pub keyed_line : l ≡ keyed_line (codes "size") (pos sizes.n ∷ pos sizes.p ∷ pos sizes.stages ∷ pos sizes.m ∷ [])
+  pub line : l ≡ keyed_line (codes "size") (pos sizes.n ∷ pos sizes.p ∷ pos sizes.stages ∷ pos sizes.m ∷ [])
   pub range : AreInRange sizes
 
 abbrev pub IsWordsLine : Sizes → Keyed → Type 0

@@ -1,8 +1,8 @@
 // The text of a controller.
-ghost use Rattle.std.specs.Prelude.{◌≡◌, ◌++◌, ◌∷◌, [], IfOk, OnOk, All, FitsSigned, string_bytes};
+ghost use Rattle.std.specs.Prelude.{◌≡◌, ◌++◌, IfOk, OnOk, All, FitsSigned, string_bytes};
 ghost use Rattle.std.specs.Int.{w128};
 ghost use Rattle.qp_model.specs.Controller.{numbers, FitsWord};
-ghost use Rattle.qp_model.specs.Lines.{line_of, text_of};
+ghost use Rattle.qp_model.specs.Lines.{text_of};
 ghost use Rattle.qp_model.specs.ControllerText.{matrix_lines, controller_text, IsControllerText};
 ghost use Rattle.controller_file.specs.Lines.{head_text};
 

@@ -1,25 +1,21 @@
 -- Two controllers that are built for one design and policy agree in all but their gains, and the width that follows from these.
-use Rattle.std.proofs.Common.{◌≡◌, ℕ, ◌+◌, ◌*◌, ◌^◌, ◌<◌, ℤ, pos, ◌*ℤ◌, unsigned_abs, List, [], length, get_or, arith, ap, sym, subst, ◌∙◌}
+use Rattle.std.proofs.Common.{◌≡◌, ℕ, ◌+◌, ◌*◌, ◌^◌, ◌<◌, ℤ, pos, ◌*ℤ◌, unsigned_abs, List, [], length, arith, ap, sym, subst, ◌∙◌}
 use Rattle.std.proofs.lemmas.List.{same_lists, get_or_default}
 use Rattle.integer_algebra.specs.Sums.{at}
 use Rattle.integer_algebra.specs.Division.{round_of}
 use Rattle.mat_int.specs.Matrix.{Matrix, row_of, entry_of}
 use Rattle.qp_model.specs.Design.{Design, entries, rows}
 use Rattle.qp_model.specs.Parts.{design_of}
-use Rattle.qp_model.specs.Policy.{Plans}
 use Rattle.qp_model.specs.Columns.{rows_scale}
 use Rattle.qp_model.specs.Condensing.{condensed_of}
 use Rattle.qp_model.specs.Choices.{multiplier_of, step_count, violation_bound, undercut_bound}
 use Rattle.qp_model.specs.Errors.{error_sums_of}
 use Rattle.qp_model.specs.Controller.{Numbers, HasShape, plan_length}
-use Rattle.qp_model.specs.declared.design_parts.DesignParts.{DesignParts}
-use Rattle.qp_model.specs.declared.bounds.Bounds.{Bounds}
 use Rattle.bit_choice.specs.Choice.{IsChoice}
 use Rattle.approx_inverse.proofs.MatrixLaws.{row_long}
 use Rattle.design_engine.specs.Targets.{Targets, targets_of, half_target, error_limit}
 use Rattle.design_engine.specs.Bounds.{margin_of, printed_multiplier, errors_cost}
-use Rattle.design_engine.specs.Built.{IsBuilt}
-use Rattle.design_engine.specs.Agreement.{AgreeButGains, AgreementLaw}
+use Rattle.design_engine.specs.Agreement.{AgreementLaw}
 use Rattle.design_engine.proofs.OneOfEach.{one_margin, one_exponent, one_choice}
 
 -- ---- lists and matrices of one shape with the same entries

@@ -1,6 +1,5 @@
 -- Why a design with a policy has no controller: the first of these tests, in their order, that it fails.
-use Rattle.std.specs.Prelude.{◌≡◌, ◌⊎◌, ℕ, ◌^◌, ◌<◌, ◌≤◌, ℤ, pos, ◌≤ℤ◌, unsigned_abs}
-use Rattle.frac_scaled.specs.declared.fraction.Frac.{Frac}
+use Rattle.std.specs.Prelude.{◌≡◌, ◌⊎◌, ℕ, ◌^◌, ◌<◌, ◌≤◌, ℤ, pos, ◌≤ℤ◌}
 use Rattle.qp_model.specs.Design.{Design}
 use Rattle.qp_model.specs.Policy.{Plans}
 use Rattle.qp_model.specs.Margin.{IsMargin}
@@ -8,7 +7,7 @@ use Rattle.qp_model.specs.Choices.{multiplier_of, multiplier_size_of, step_count
 use Rattle.qp_model.specs.Quantities.{hessian_size, rows_size}
 use Rattle.qp_model.specs.CurvatureSize.{curvature_size}
 use Rattle.qp_model.specs.Columns.{descent_size}
-use Rattle.qp_model.specs.Errors.{error_size, error_sums_of, epsilon}
+use Rattle.qp_model.specs.Errors.{error_size, error_sums_of}
 use Rattle.qp_model.specs.declared.bounds.Margin.{Margin}
 use Rattle.qp_model.specs.declared.quantity.Quantity.{Quantity}
 use Rattle.qp_model.specs.declared.quantity.Quantity.TheVariants.{Prediction, CornerSlack, CornerCost, Multiplier, Hessian, Rows, Curvature as curvature_quantity, Error, Descent, Width, Turn}

@@ -1,8 +1,7 @@
 // Whether numbers are a controller's.
-ghost use Rattle.std.specs.Prelude.{◌≡◌, ◌≤◌, ◌<◌, ◌+◌, ◌*◌, ◌^◌, ◌≤ℤ◌, ◌↔◌, ℕ, pos, length, All, IsTrue};
-ghost use Rattle.integer_algebra.specs.Sums.{at};
-ghost use Rattle.qp_model.specs.Range.{LiesIn, IsNumerator};
-ghost use Rattle.qp_model.specs.Controller.{numbers, plan_length, HasShape, IsShaped, IsSized, IsInForm};
+ghost use Rattle.std.specs.Prelude.{◌≡◌, ◌≤◌, ◌<◌, ◌+◌, ◌*◌, ◌^◌, ◌≤ℤ◌, ◌↔◌, pos, IsTrue};
+ghost use Rattle.qp_model.specs.Range.{LiesIn};
+ghost use Rattle.qp_model.specs.Controller.{numbers, plan_length, HasShape, IsShaped, IsInForm};
 
 use mat_int::Mat;
 use qp_model::ControllerParts;

@@ -1,16 +1,10 @@
 -- The size of a plan's entries, and the sum of a step's errors.
-use Rattle.std.proofs.Common.{◌≡◌, ℕ, zero, suc, ◌+◌, ◌*◌, ◌^◌, ◌<◌, ◌≤◌, [], ◌∷◌, ℤ, pos, ◌*ℤ◌, ◌≤ℤ◌, arith, refl}
-use Rattle.std.proofs.lemmas.Int.{ints, by_lt_z}
-use Rattle.std.proofs.Math.IntN.{*ℤ_comm}
+use Rattle.std.proofs.Common.{ℕ, zero, suc, ◌+◌, ◌*◌, ◌^◌, ◌≤◌, arith}
 use Rattle.std.proofs.Math.Nat as Nat
-use Rattle.integer_algebra.specs.Sums.{total, dot, image, square}
-use Rattle.integer_algebra.specs.Bounds.{absolute, IsWithin}
+use Rattle.integer_algebra.specs.Bounds.{absolute}
 use Rattle.step_error.specs.Carried.{PlanEntryLaw, EpsilonLaw}
-use Rattle.integer_algebra.proofs.OrderLaws.{le_trans_z, add-le-add_z, le_by, square_nonneg_z, mul-le-mul_left_z, cancel-le_z}
-use Rattle.integer_algebra.proofs.SumLaws.{total_scale, total_mono, total_nonneg, Greatest, greatest, term-le-total}
-use Rattle.integer_algebra.proofs.BoundLaws.{within_nonneg, within_times, absolute_nonneg, absolute_square}
+use Rattle.integer_algebra.proofs.SumLaws.{greatest}
 use Rattle.integer_algebra.proofs.StrongLaws.{small_image}
-use Rattle.integer_algebra.proofs.Quoting.{by_ring, quotes}
 use Rattle.integer_algebra.proofs.PowerLaws.{pow-two, four-pow, two-pow-more}
 
 pub entry : PlanEntryLaw

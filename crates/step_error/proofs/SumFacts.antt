@@ -1,22 +1,19 @@
 -- What the sums of a design are within.
-use Rattle.std.proofs.Common.{◌≡◌, inl, inr, ℕ, zero, suc, ◌+◌, ◌*◌, ◌%◌, ◌^◌, ◌<◌, ◌≤◌, ℤ, pos, ◌≤ℤ◌, ◌<ℤ◌, unsigned_abs, arith, ap, sym, ◌∙◌, refl}
+use Rattle.std.proofs.Common.{◌≡◌, ℕ, ◌+◌, ◌*◌, ◌%◌, ◌^◌, ◌<◌, ◌≤◌, ℤ, pos, ◌≤ℤ◌, ◌<ℤ◌, unsigned_abs, arith, ap, sym, ◌∙◌, refl}
 use Rattle.std.proofs.lemmas.Int.{ints, to_z-of_z}
 use Rattle.std.proofs.Common.{to_z, of_z}
 use Rattle.std.specs.Int.{w128, div_ceil}
 use mir.Val.{SFits}
-use Rattle.std.proofs.lemmas.Bool.{cases_lt}
 use Rattle.std.proofs.lemmas.Nat.{pow-add}
-use Rattle.std.proofs.lemmas.List.Elements.{All-get_or}
 use Rattle.std.proofs.Math.Nat.{mul-le-mul_left, mul-le-mul_right, one-le-mul}
 use Rattle.integer_algebra.specs.Sums.{at}
 use Rattle.integer_algebra.specs.Division.{ceil_div}
 use Rattle.integer_algebra.proofs.PowerLaws.{four-pow}
 use Rattle.qp_model.specs.declared.design_parts.DesignParts.{DesignParts}
 use Rattle.qp_model.specs.Parts.{IsDesign, design_of}
-use Rattle.qp_model.specs.Range.{IsPositive}
-use Rattle.qp_model.specs.Columns.{input_floor, least}
+use Rattle.qp_model.specs.Columns.{input_floor}
 use Rattle.qp_model.specs.Errors as errors
-use Rattle.qp_model.specs.Errors.{plan_bound, residual_error, epsilon, error_sums_of, error_size, pull, combined_bound, trace_sum, gradient_squares}
+use Rattle.qp_model.specs.Errors.{residual_error, error_sums_of, error_size, pull, combined_bound, trace_sum, gradient_squares}
 use Rattle.qp_model.proofs.SizeFacts.{some_row}
 use Rattle.qp_model.proofs.SoundLaws.{least-met, weight_at}
 use Rattle.step_error.specs.declared.sums.ErrorSums.{ErrorSums}

@@ -1,8 +1,6 @@
-use Rattle.std.proofs.Common.{◌≡◌, ◌<◌, ℕ, ℤ, List, [], ◌∷◌, ◌++◌, map, take, length, get_or, Bor, ◌∙◌, arith, refl}
+use Rattle.std.proofs.Common.{◌<◌, ℤ, List, [], ◌∷◌, take, length, get_or, Bor, arith, refl}
 use Rattle.std.proofs.lemmas.List.{take_more, map-append}
-use Rattle.std.proofs.lemmas.List.Elements.{All-append}
 use Rattle.std.proofs.lemmas.Grind.{common_steps}
-use Rattle.mat_int.specs.Matrix.{Matrix}
 use Rattle.mat_int.proofs.matrix.Mat.from_rows.Goals as goal
 
 pub loop-row-preserved : goal.loop-row-preserved
