@@ -8,9 +8,8 @@ ghost use Rattle.qp_model.specs.Quantities.{greatest};
 ghost use Rattle.qp_model.specs.Successor.{IsFor, grid_scale, next_over};
 ghost use Rattle.qp_model.specs.LoopSize.{coordinate_magnitude, state_absolute_sum, input_absolute_sum, turn_absolute_sum, turn_size};
 
-use frac_scaled::scaled;
+use frac_scaled::{limited_product, limited_sum, scaled};
 use overflow_check::{Controller, plan_entry_magnitude};
-use frac_scaled::{limited_product, limited_sum};
 use qp_model::{ControllerParts, Design, DesignParts};
 
 // What a number over `2^g` is times, to be over the averaged plan's denominator.
@@ -93,7 +92,10 @@ fn turn_absolute_sum(design: &DesignParts, c: &ControllerParts, i: usize) -> Opt
     requires in_range { i < design.now.states }
     ensures { let reach = turn_absolute_sum (design_of design.now) (numbers c.now) i in SomeIff result (reach ≤ 2 ^ 126) reach }
 {
-    let own = limited_product(state_absolute_sum(design, c, i), grid_scale(c).unsigned_abs())?;
+    let own = limited_product(
+        state_absolute_sum(design, c, i),
+        grid_scale(c).unsigned_abs(),
+    )?;
     limited_sum(own, input_absolute_sum(design, c, i)?)
 }
 
