@@ -98,6 +98,9 @@ class Maker:
             design, text = cases.design_beside(pick, c), control.text_of(c)
         states = cases.states_text(pick, c, 3)
         turns = str(pick.choice([0, 1, 2, 3, 5, 9, 40]))
+        # (the size of a turn is refused where there is a record, be there turns or not)
+        if control.greatest_sum(c) > 2**92:
+            states, turns = pick.choice([b"", b"\n", states, states]), pick.choice(["0", turns])
         how = pick.random()
         if how < 0.35:
             design = cases.changed(pick, design)
