@@ -8,7 +8,7 @@ use Rattle.qp_model.specs.declared.text_fault.TextFault.TheVariants.{Memory as n
 use Rattle.controller_file.specs.declared.bad_controller.BadController.{BadController}
 use Rattle.controller_file.specs.declared.bad_controller.BadController.TheVariants.{Memory as no_space}
 use Rattle.command_line.specs.Limit.{file_limit}
-use Rattle.command_line.specs.Answers.{IsTold, Holds, IsLong, IsFileRefused, IsAnswer, IsRightFor, IsWrongBy, EndsReading}
+use Rattle.command_line.specs.Answers.{IsTold, Holds, IsFileRefused, IsRightFor, IsWrongBy, EndsReading}
 use Rattle.command_line.specs.declared.status.Status.{Status}
 use Rattle.command_line.specs.declared.status.Status.TheVariants.{Memory, ReadFault, Text, Controller, Long}
 

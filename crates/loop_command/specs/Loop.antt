@@ -59,7 +59,7 @@ LoopsCall d c turns m s =
 abbrev pub LoopCalls : (design controller states : Option (List ℕ)) → (turns : ℕ) → Status → Type 0
 LoopCalls design controller states turns s =
     ReadsDesign 1 design (λ p. ReadsController 2 controller (λ c t.
-        IsMismatch (design_of p) c t ⊎ (IsFor c (design_of p) × ReadsStates c.states 3 states (LoopsCall (design_of p) c turns) t))) s
+    IsMismatch (design_of p) c t ⊎ (IsFor c (design_of p) × ReadsStates c.states 3 states (LoopsCall (design_of p) c turns) t))) s
 
 -- three files hold a design, a controller for it and states
 pub record HoldsLoops (design controller states : Option (List ℕ)) (p : DesignParts) (c : Numbers) (m : Matrix) : Type 0 where

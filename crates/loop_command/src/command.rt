@@ -5,6 +5,8 @@ ghost use Rattle.command_line.specs.Words.{word_of, IsLoop};
 ghost use Rattle.command_line.specs.Answers.{ForContents, IsAnswer, IsCaused};
 ghost use Rattle.loop_command.specs.Loop.{LoopCalls, LoopReaches, LoopPrints, LoopStarts, TellsLeaving};
 
+use crate::files::read_loops;
+use crate::records::print_loops;
 use command_line::Status;
 use io_edge::{Sink, Store, Words};
 use std::alloc::Global;
@@ -35,4 +37,8 @@ pub fn run_loops<S: Store, O: Sink>(
     ensures writes { NoneFalls (S.write_faults store.old) (S.write_faults store.new) }
     ensures no_fewer { O.faults out.old ≤ O.faults out.new }
 {
+    match read_loops(alloc, words, store) {
+        Ok(loops) => print_loops(alloc, &loops, turns, out),
+        Err(status) => status,
+    }
 }

@@ -1,4 +1,4 @@
-use Rattle.std.proofs.Common.{◌≡◌, Err, sym, ap}
+use Rattle.std.proofs.Common.{Err, sym, ap}
 use Rattle.controller_file.specs.declared.bad_controller.BadController.TheVariants.{Memory as no_space}
 use Rattle.command_line.proofs.Results.{err_same}
 use Rattle.command_line.specs.declared.status.Status.TheVariants.{Controller}

@@ -1,4 +1,4 @@
-use Rattle.std.proofs.Common.{◌≡◌, Err, sym, ap}
+use Rattle.std.proofs.Common.{Err, sym, ap}
 use Rattle.qp_model.specs.Parts.{design_of}
 use Rattle.qp_model.specs.Policy.{plans_of}
 use Rattle.qp_model.specs.declared.text_fault.TextFault.TheVariants.{Memory as no_room}

@@ -1,0 +1,6 @@
+-- what the files and the loops of all records make of the answer, and what is printed
+pub mod Refusals
+pub mod Uniqueness
+pub mod Opening
+pub mod Looping
+pub mod Answering
