@@ -10,7 +10,7 @@ use Rattle.qp_model.specs.LoopSize.{turn_size}
 use Rattle.qp_model.specs.LoopLines.{loop_text}
 use Rattle.qp_model.specs.declared.quantity.Quantity.{Quantity}
 use Rattle.qp_model.specs.declared.quantity.Quantity.TheVariants.{Turn}
-use Rattle.closed_loop.specs.Answers.{LeavesAt, GrowsByTurns, GrowsByFront}
+use Rattle.closed_loop.specs.Answers.{LeavesAt, GrowsByTurns, GrowsByPrefix}
 use Rattle.closed_loop.specs.declared.fault.LoopFault.{LoopFault}
 use Rattle.closed_loop.specs.declared.fault.LoopFault.TheVariants as faults
 use Rattle.command_line.specs.Answers.{IsCaused}
@@ -26,7 +26,7 @@ Shows d c entry start turns old new faults.Memory = (turn_size d c ≤ 2 ^ 126) 
 Shows d c entry start turns old new (faults.TooWide quantity) = (quantity ≡ Turn) × (2 ^ 126 < turn_size d c) × (new ≡ old)
 Shows d c entry start turns old new (faults.OutsideBox turn coordinate) =
     (turn_size d c ≤ 2 ^ 126) × LeavesAt d c start turns turn coordinate × (new ≡ option_map (λ o. o ++ loop_text d c entry start (turn - 1)) old)
-Shows d c entry start turns old new faults.WriteFault = (turn_size d c ≤ 2 ^ 126) × IfSome old (λ o. IsSomeAnd new (GrowsByFront d c entry start turns o))
+Shows d c entry start turns old new faults.WriteFault = (turn_size d c ≤ 2 ^ 126) × IfSome old (λ o. IsSomeAnd new (GrowsByPrefix d c entry start turns o))
 
 -- `turn` is within its limit where a loop is not refused for it
 pub narrow : (size : ℕ) (r : Result (Unit {0}) LoopFault) → ((quantity : Quantity) → (r ≡ Err (faults.TooWide quantity)) ↔ ((quantity ≡ Turn) × (2 ^ 126 < size))) →
@@ -37,7 +37,7 @@ pub shows : (d : Design) (c : Numbers) (entry : ℕ) (start : List ℤ) (turns :
     ((quantity : Quantity) → (r ≡ Err (faults.TooWide quantity)) ↔ ((quantity ≡ Turn) × (2 ^ 126 < turn_size d c))) → (2 ^ 126 < turn_size d c → new ≡ old) →
     ((turn coordinate : ℕ) → r ≡ Err (faults.OutsideBox turn coordinate) → LeavesAt d c start turns turn coordinate) →
     ((turn coordinate : ℕ) → r ≡ Err (faults.OutsideBox turn coordinate) → new ≡ option_map (λ o. o ++ loop_text d c entry start (turn - 1)) old) →
-    (r ≡ Err faults.WriteFault → IfSome old (λ o. IsSomeAnd new (GrowsByFront d c entry start turns o))) → (r ≡ Err faults.Memory → IfSome old (λ o. IsSomeAnd new (GrowsByTurns d c entry start turns o))) →
+    (r ≡ Err faults.WriteFault → IfSome old (λ o. IsSomeAnd new (GrowsByPrefix d c entry start turns o))) → (r ≡ Err faults.Memory → IfSome old (λ o. IsSomeAnd new (GrowsByTurns d c entry start turns o))) →
     Shows d c entry start turns old new fault
 shows d c entry start turns old new r faults.Memory is wide quiet out put cut memory = (narrow (turn_size d c) r wide (λ e. cc), memory is)
 shows d c entry start turns old new r (faults.TooWide quantity) is wide quiet out put cut memory = let w = (wide quantity).0 is in (w.0, w.1, quiet w.1)
@@ -49,7 +49,7 @@ pub shows_for : (d : Design) (k c : Numbers) (entry : ℕ) (row start : List ℤ
     ((quantity : Quantity) → (r ≡ Err (faults.TooWide quantity)) ↔ ((quantity ≡ Turn) × (2 ^ 126 < turn_size d k))) → (2 ^ 126 < turn_size d k → new ≡ old) →
     ((turn coordinate : ℕ) → r ≡ Err (faults.OutsideBox turn coordinate) → LeavesAt d k row turns turn coordinate) →
     ((turn coordinate : ℕ) → r ≡ Err (faults.OutsideBox turn coordinate) → new ≡ option_map (λ o. o ++ loop_text d k entry row (turn - 1)) old) →
-    (r ≡ Err faults.WriteFault → IfSome old (λ o. IsSomeAnd new (GrowsByFront d k entry row turns o))) → (r ≡ Err faults.Memory → IfSome old (λ o. IsSomeAnd new (GrowsByTurns d k entry row turns o))) →
+    (r ≡ Err faults.WriteFault → IfSome old (λ o. IsSomeAnd new (GrowsByPrefix d k entry row turns o))) → (r ≡ Err faults.Memory → IfSome old (λ o. IsSomeAnd new (GrowsByTurns d k entry row turns o))) →
     Shows d c entry start turns old new fault
 shows_for d k c entry row start turns old new r fault same there is wide quiet out put cut memory =
     subst (λ (x : Numbers). Shows d x entry start turns old new fault) same
@@ -162,7 +162,7 @@ module _ (d : Design) (c : Numbers) (m : Matrix) (turns : ℕ) where
   }
 
   to_fault : (i : ℕ) (s : Status) (old new : List ℕ) → s ≡ WriteFault 0 → i < length m.rows → AllStay d c m turns i → turn_size d c ≤ 2 ^ 126 →
-      GrowsByFront d c (i + 1) (row_of m i) turns (old ++ record_lines d c m turns i) new → LoopsPrint d c turns m s old new
+      GrowsByPrefix d c (i + 1) (row_of m i) turns (old ++ record_lines d c m turns i) new → LoopsPrint d c turns m s old new
   to_fault i s old new is there stay small g = record {
     done = λ e. absurd (let never : ⊥ = cc in never);
     outside = λ told. let e = told.3 in absurd (let never : ⊥ = cc in never);
