@@ -1,0 +1,99 @@
+-- What the clauses of each command say for the whole program.
+use Rattle.std.proofs.Common.{◌≡◌, ◌⊎◌, inl, inr, ℕ, List, Option, Some, None, refl}
+use Rattle.std.specs.Prelude.{IfSome, IsSomeAnd}
+use Rattle.io_edge.specs.Faults.{Files, Rose}
+use Rattle.command_line.specs.Words.{word_of, IsGenerate, IsSolve, IsLoop, IsDemo}
+use Rattle.command_line.specs.Commands.{IsUsage}
+use Rattle.command_line.specs.Answers.{Contents, ForContents, IsAnswer, IsCaused}
+use Rattle.generate_command.specs.Generate.{GenerateCalls, GenerateReaches}
+use Rattle.solve_command.specs.Solve.{SolveCalls, SolveReaches, SolvePrints}
+use Rattle.loop_command.specs.Loop.{LoopCalls, LoopReaches, LoopStarts, LoopPrints}
+use Rattle.demo_command.specs.Demo.{DemoCalls, DemoPrints}
+use Rattle.command_line.specs.declared.status.Status.{Status}
+use Rattle.command_line.specs.declared.status.Status.TheVariants.{Done, Usage, ReadFault, WriteFault}
+use Rattle.mpc_cli.specs.Calls.{Calls}
+use Rattle.mpc_cli.specs.Prints.{Prints}
+use Rattle.mpc_cli.specs.Faults.{Reaches, Passes, WriteFailed}
+use Rattle.mpc_cli.proofs.Lifting.{weaker, some_contents, usage_answer, generate_answer, solve_answer, loop_answer, demo_answer, usage_prints, generate_prints, loop_prints, demo_prints}
+
+module _ (words : List (List ℕ)) (held : Option Files) (s : Status) where
+  -- ---- causes
+  abbrev pub Called : (Contents → Status → Type 0) → Type 0
+  Called K = IsCaused s → ForContents words held (λ k. IsAnswer (K k) s)
+
+  pub usage_called : IsUsage words → s ≡ Usage → IsCaused s → ForContents words held (λ k. IsAnswer (Calls words k) s)
+  usage_called is same caused = some_contents words held (λ k. IsAnswer (Calls words k) s) (λ k. rw same (usage_answer words k is))
+
+  pub generate_called : IsGenerate words → Called (λ k. GenerateCalls k.first k.second) → Called (λ k. Calls words k)
+  generate_called is h caused = weaker words held _ (λ k. IsAnswer (Calls words k) s) (λ k answer. generate_answer words k s is answer) (h caused)
+
+  pub solve_called : IsSolve words → Called (λ k. SolveCalls k.first k.second) → Called (λ k. Calls words k)
+  solve_called is h caused = weaker words held _ (λ k. IsAnswer (Calls words k) s) (λ k answer. solve_answer words k s is answer) (h caused)
+
+  pub loop_called : (turns : ℕ) → IsLoop words turns → Called (λ k. LoopCalls k.first k.second k.third turns) → Called (λ k. Calls words k)
+  loop_called turns is h caused = weaker words held _ (λ k. IsAnswer (Calls words k) s) (λ k answer. loop_answer words k turns s is answer) (h caused)
+
+  pub demo_called : (number : ℕ) → IsDemo words number → (IsCaused s → IsAnswer (DemoCalls number) s) → Called (λ k. Calls words k)
+  demo_called number is h caused = some_contents words held (λ k. IsAnswer (Calls words k) s) (λ k. demo_answer words k number s is (h caused))
+
+  -- ---- faults of reading, with what is said of the count
+  module _ (R : ℕ → Type 0) where
+    abbrev pub Read : (Contents → ℕ → Type 0) → Type 0
+    Read K = (file : ℕ) → s ≡ ReadFault file → ForContents words held (λ k. K k file) × R file
+
+    pub generate_read : IsGenerate words → Read (λ k file. GenerateReaches k.first file) → Read (λ k file. Reaches words k file)
+    generate_read is h file fault = let f = h file fault in (weaker words held _ (λ k. Reaches words k file) (λ k reach. inl (is, reach)) f.0, f.1)
+
+    pub solve_read : IsSolve words → Read (λ k file. SolveReaches k.first file) → Read (λ k file. Reaches words k file)
+    solve_read is h file fault = let f = h file fault in (weaker words held _ (λ k. Reaches words k file) (λ k reach. inr (inl (is, reach))) f.0, f.1)
+
+    pub loop_read : (turns : ℕ) → IsLoop words turns → Read (λ k file. LoopReaches k.first k.second file) → Read (λ k file. Reaches words k file)
+    loop_read turns is h file fault = let f = h file fault in (weaker words held _ (λ k. Reaches words k file) (λ k reach. inr (inr (turns, is, reach))) f.0, f.1)
+
+  -- ---- faults of writing and printing
+  module _ (wb wn : List ℕ → ℕ) (pb pn : ℕ) where
+    abbrev pub Written : Type 0
+    Written = (file : ℕ) → s ≡ WriteFault file → ForContents words held (λ k. Passes words k) × WriteFailed words file wb wn pb pn
+
+    pub generate_written : IsGenerate words →
+        ((file : ℕ) → s ≡ WriteFault file → ((file ≡ 3) ⊎ (file ≡ 4)) × ForContents words held (λ k. GenerateCalls k.first k.second Done) × Rose (wb (word_of words file)) (wn (word_of words file))) → Written
+    generate_written is h file fault =
+        let f = h file fault in
+        (weaker words held _ (λ k. Passes words k) (λ k calls. inl (is, calls)) f.1, inr ((is, f.0), f.2))
+
+    pub solve_written : IsSolve words → ((file : ℕ) → s ≡ WriteFault file → (file ≡ 0) × ForContents words held (λ k. SolveCalls k.first k.second Done) × Rose pb pn) → Written
+    solve_written is h file fault =
+        let f = h file fault in
+        (weaker words held _ (λ k. Passes words k) (λ k calls. inr (inl (is, calls))) f.1, inl (f.0, inl is, f.2))
+
+    pub loop_written : (turns : ℕ) → IsLoop words turns → ((file : ℕ) → s ≡ WriteFault file → (file ≡ 0) × ForContents words held (λ k. LoopStarts k) × Rose pb pn) → Written
+    loop_written turns is h file fault =
+        let f = h file fault in
+        (weaker words held _ (λ k. Passes words k) (λ k starts. inr (inr (inl (turns, is, starts)))) f.1, inl (f.0, inr (inl (turns, is)), f.2))
+
+    pub demo_written : (number : ℕ) → IsDemo words number → ((file : ℕ) → s ≡ WriteFault file → (file ≡ 0) × DemoCalls number Done × Rose pb pn) → Written
+    demo_written number is h file fault =
+        let f = h file fault in
+        (some_contents words held (λ k. Passes words k) (λ k. inr (inr (inr (number, is, f.1)))), inl (f.0, inr (inr (number, is)), f.2))
+
+  -- ---- what is printed
+  abbrev pub Printed : Option (List ℕ) → Option (List ℕ) → Type 0
+  Printed before now = IfSome before (λ old. IsSomeAnd now (λ new. ForContents words held (λ k. Prints words k s old new)))
+
+  pub usage_printed : IsUsage words → (got : Option (List ℕ)) → Printed got got
+  usage_printed is (Some old) = some_contents words held (λ k. Prints words k s old old) (λ k. usage_prints words k s old old is refl)
+  usage_printed is None = tt
+
+  pub generate_printed : IsGenerate words → (got : Option (List ℕ)) → Printed got got
+  generate_printed is (Some old) = some_contents words held (λ k. Prints words k s old old) (λ k. generate_prints words k s old old is refl)
+  generate_printed is None = tt
+
+  pub loop_printed : (turns : ℕ) → IsLoop words turns → (before now : Option (List ℕ)) → IfSome before (λ old. IsSomeAnd now (λ new. ForContents words held (λ k. LoopPrints k turns s old new))) → Printed before now
+  loop_printed turns is (Some old) (Some new) h = weaker words held _ (λ k. Prints words k s old new) (λ k prints. loop_prints words k turns s old new is prints) h
+  loop_printed turns is (Some old) None h = h
+  loop_printed turns is None now h = tt
+
+  pub demo_printed : (number : ℕ) → IsDemo words number → (before now : Option (List ℕ)) → IfSome before (λ old. IsSomeAnd now (λ new. DemoPrints number s old new)) → Printed before now
+  demo_printed number is (Some old) (Some new) h = some_contents words held (λ k. Prints words k s old new) (λ k. demo_prints words k number s old new is h)
+  demo_printed number is (Some old) None h = h
+  demo_printed number is None now h = tt
