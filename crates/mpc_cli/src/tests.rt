@@ -20,6 +20,7 @@ pub const REPORT: &str =
 pub const ROOM: usize = 65536;
 
 /// The call that is to fail, counted from 1; 9 for none.
+#[derive(Drop)]
 pub struct Fails {
     pub read: usize,
     pub write: usize,
@@ -52,7 +53,13 @@ pub fn words_of(alloc: Global, arguments: &str) -> Result<Words, Fail> {
 }
 
 /// A store with a design, a policy, a controller and states, and with room for a controller `out` and a report `r`.
-pub fn store_of(alloc: Global, design: &str, policy: &str, controller: &str, states: &str) -> Result<MemStore, Fail> {
+pub fn store_of(
+    alloc: Global,
+    design: &str,
+    policy: &str,
+    controller: &str,
+    states: &str,
+) -> Result<MemStore, Fail> {
     let mut store = MemStore::empty(alloc);
     store.hold("d", design.as_bytes())?;
     store.hold("p", policy.as_bytes())?;
@@ -65,7 +72,12 @@ pub fn store_of(alloc: Global, design: &str, policy: &str, controller: &str, sta
 }
 
 /// Runs over a store, in which a call fails, and an output.
-pub fn left_by(alloc: Global, arguments: &str, store: &mut MemStore, fails: &Fails) -> Result<Left, Fail> {
+pub fn left_by(
+    alloc: Global,
+    arguments: &str,
+    store: &mut MemStore,
+    fails: &Fails,
+) -> Result<Left, Fail> {
     store.fail_read(fails.read)?;
     store.fail_write(fails.write, fails.keep)?;
     let mut out = MemSink::with(alloc, ROOM, &[fails.put])?;

@@ -1,5 +1,7 @@
 // `generate`: what it refuses, what it writes, and calls that fail.
-use crate::tests::{CONTROLLER, DESIGN, Fails, NONE, POLICY, REPORT, changed, held, left_by, store_of};
+use crate::tests::{
+    CONTROLLER, DESIGN, Fails, NONE, POLICY, REPORT, changed, held, left_by, store_of,
+};
 use io_edge::MemStore;
 use std::alloc::Global;
 use std::test::Fail;
@@ -7,6 +9,7 @@ use std::test::Fail;
 const RUN: &str = "generate d p out r";
 
 // A run that is refused: what is changed in the design, the policy and the answer's line.
+#[derive(Drop)]
 struct Refused {
     design: (&'static str, &'static str),
     policy: &'static str,
@@ -14,6 +17,7 @@ struct Refused {
 }
 
 // A run that writes: what is changed in the design, the policy, and lines of what is written.
+#[derive(Drop)]
 struct Made {
     design: (&'static str, &'static str),
     policy: &'static str,
@@ -33,10 +37,12 @@ fn leaves(
     let left = left_by(alloc, RUN, store, fails)?;
     let out = held(alloc, store, "out")?;
     let r = held(alloc, store, "r")?;
-    Ok(left.line.as_slice() == line.as_bytes()
-        && left.printed.is_empty()
-        && out.as_slice() == controller.as_bytes()
-        && r.as_slice() == report.as_bytes())
+    Ok(
+        left.line.as_slice() == line.as_bytes()
+            && left.printed.is_empty()
+            && out.as_slice() == controller.as_bytes()
+            && r.as_slice() == report.as_bytes(),
+    )
 }
 
 // Whether a run over a design and a policy leaves this.
@@ -59,12 +65,7 @@ fn is_refused(alloc: Global, case: &Refused) -> Result<bool, Fail> {
 }
 
 // Whether the text under a name has these lines.
-fn has_lines(
-    alloc: Global,
-    store: &mut MemStore,
-    name: &str,
-    lines: &str,
-) -> Result<bool, Fail> {
+fn has_lines(alloc: Global, store: &mut MemStore, name: &str, lines: &str) -> Result<bool, Fail> {
     let bytes = held(alloc, store, name)?;
     let text = str::from_utf8(&bytes).map_err(|_| "bytes")?;
     Ok(text.contains(lines))
@@ -75,9 +76,11 @@ fn is_made(alloc: Global, case: &Made) -> Result<bool, Fail> {
     let design = changed(alloc, DESIGN, case.design.0, case.design.1)?;
     let mut store = store_of(alloc, design.as_str(), case.policy, "", "")?;
     let left = left_by(alloc, RUN, &mut store, &NONE)?;
-    Ok(left.line.is_empty()
-        && has_lines(alloc, &mut store, "out", case.controller)?
-        && has_lines(alloc, &mut store, "r", case.report)?)
+    Ok(
+        left.line.is_empty()
+            && has_lines(alloc, &mut store, "out", case.controller)?
+            && has_lines(alloc, &mut store, "r", case.report)?,
+    )
 }
 
 // Designs and policies with a fault, and designs that no controller is made of; nothing is written.
@@ -160,17 +163,26 @@ fn refusals(rt: HostRuntime) -> Result<(), Fail> {
             line: "error 6 no-margin 2 3 0 32\n",
         },
         Refused {
-            design: ("den = 1\nviolation = 16\ngap = 1\n", "den = 131072\nviolation = 1\ngap = 131072\n"),
+            design: (
+                "den = 1\nviolation = 16\ngap = 1\n",
+                "den = 131072\nviolation = 1\ngap = 131072\n",
+            ),
             policy: "1,0\n8,-7\n",
             line: "error 8 too-many-steps 8388608\n",
         },
         Refused {
-            design: ("den = 4\nstage = [[0, 4, 4], [0, -4, 4]]\nfinal = [[4, 1]]\n[box]\ngrid = 0\nlo = [0]\nhi = [1]\n[targets]\nden = 1\nviolation = 16\n", "den = 1\nstage = [[0, 1500000, 1500000]]\nfinal = []\n[box]\ngrid = 0\nlo = [0]\nhi = [1]\n[targets]\nden = 1\nviolation = 1048576\n"),
+            design: (
+                "den = 4\nstage = [[0, 4, 4], [0, -4, 4]]\nfinal = [[4, 1]]\n[box]\ngrid = 0\nlo = [0]\nhi = [1]\n[targets]\nden = 1\nviolation = 16\n",
+                "den = 1\nstage = [[0, 1500000, 1500000]]\nfinal = []\n[box]\ngrid = 0\nlo = [0]\nhi = [1]\n[targets]\nden = 1\nviolation = 1048576\n",
+            ),
             policy: "1,0\n1,0\n",
             line: "error 7 curvature\n",
         },
         Refused {
-            design: ("den = 1\nviolation = 16\ngap = 1\n", "den = 1048576\nviolation = 16777216\ngap = 1\n"),
+            design: (
+                "den = 1\nviolation = 16\ngap = 1\n",
+                "den = 1048576\nviolation = 16777216\ngap = 1\n",
+            ),
             policy: "1,0\n65536,-65535\n",
             line: "error 9 too-fine 151000321\n",
         },
@@ -186,7 +198,10 @@ fn refusals(rt: HostRuntime) -> Result<(), Fail> {
 fn changed_designs(rt: HostRuntime) -> Result<(), Fail> {
     let cases = [
         Made {
-            design: ("den = 1\nviolation = 16\ngap = 1\n", "den = 10\nviolation = 1\ngap = 10\n"),
+            design: (
+                "den = 1\nviolation = 16\ngap = 1\n",
+                "den = 10\nviolation = 1\ngap = 10\n",
+            ),
             policy: "1,0\n8,-7\n",
             controller: "\nclamp 65536\n",
             report: "\nsteps 641\nbits 11\nwidth 28\nwords 6\nviolation 104996020212 1099511627776\ngap 400849633280 1099511627776\n",
@@ -210,19 +225,28 @@ fn changed_designs(rt: HostRuntime) -> Result<(), Fail> {
             report: "\nmargin 8192 65536\ncost 1\nmultiplier 8\nstep 1\nsteps 4\nbits 10\n",
         },
         Made {
-            design: ("den = 1\nviolation = 16\ngap = 1\n", "den = 65536\nviolation = 1\ngap = 65536\n"),
+            design: (
+                "den = 1\nviolation = 16\ngap = 1\n",
+                "den = 65536\nviolation = 1\ngap = 65536\n",
+            ),
             policy: "1,0\n8,-7\n",
             controller: "\nsteps 4194304\n",
             report: "\nbits 24\nwidth 54\n",
         },
         Made {
-            design: ("den = 4\nstage = [[0, 4, 4], [0, -4, 4]]\nfinal = [[4, 1]]\n[box]\ngrid = 0\nlo = [0]\nhi = [1]\n[targets]\nden = 1\nviolation = 16\n", "den = 1\nstage = [[0, 1400000, 1400000]]\nfinal = []\n[box]\ngrid = 0\nlo = [0]\nhi = [1]\n[targets]\nden = 1\nviolation = 1048576\n"),
+            design: (
+                "den = 4\nstage = [[0, 4, 4], [0, -4, 4]]\nfinal = [[4, 1]]\n[box]\ngrid = 0\nlo = [0]\nhi = [1]\n[targets]\nden = 1\nviolation = 16\n",
+                "den = 1\nstage = [[0, 1400000, 1400000]]\nfinal = []\n[box]\ngrid = 0\nlo = [0]\nhi = [1]\n[targets]\nden = 1\nviolation = 1048576\n",
+            ),
             policy: "1,0\n1,0\n",
             controller: "\nsteps 4194304\n",
             report: "\nmultiplier 1\nstep 40\nsteps 4194304\nbits 21\nwidth 103\n",
         },
         Made {
-            design: ("stages = 1\n[plant]\nden = 1\na = [[1]]\nb = [[1]]\n[cost]\nden = 1\nrow_den = 1\ninput = [1]\nstage = [[1, 0, 1]]\nfinal = []\n[limits]\nden = 4\nstage = [[0, 4, 4], [0, -4, 4]]\nfinal = [[4, 1]]\n[box]\ngrid = 0\nlo = [0]\nhi = [1]\n[targets]\nden = 1\nviolation = 16\ngap = 1\n", "stages = 2\n[plant]\nden = 1\na = [[2]]\nb = [[1]]\n[cost]\nden = 1\nrow_den = 1\ninput = [1]\nstage = []\nfinal = [[1, 0, 100]]\n[limits]\nden = 1\nstage = [[0, 1, 1], [0, 1, 2], [0, -1, 1]]\nfinal = []\n[box]\ngrid = 0\nlo = [0]\nhi = [1]\n[targets]\nden = 1\nviolation = 16\ngap = 16\n"),
+            design: (
+                "stages = 1\n[plant]\nden = 1\na = [[1]]\nb = [[1]]\n[cost]\nden = 1\nrow_den = 1\ninput = [1]\nstage = [[1, 0, 1]]\nfinal = []\n[limits]\nden = 4\nstage = [[0, 4, 4], [0, -4, 4]]\nfinal = [[4, 1]]\n[box]\ngrid = 0\nlo = [0]\nhi = [1]\n[targets]\nden = 1\nviolation = 16\ngap = 1\n",
+                "stages = 2\n[plant]\nden = 1\na = [[2]]\nb = [[1]]\n[cost]\nden = 1\nrow_den = 1\ninput = [1]\nstage = []\nfinal = [[1, 0, 100]]\n[limits]\nden = 1\nstage = [[0, 1, 1], [0, 1, 2], [0, -1, 1]]\nfinal = []\n[box]\ngrid = 0\nlo = [0]\nhi = [1]\n[targets]\nden = 1\nviolation = 16\ngap = 16\n",
+            ),
             policy: "1,0,0\n1,0,0\n",
             controller: "\nsteps 1600\n",
             report: "\nmargin 65536 65536\ncost 1600\nmultiplier 1600\nstep 2\nsteps 1600\nbits 24\n",
@@ -252,8 +276,7 @@ fn first_texts(rt: HostRuntime) -> Result<(), Fail> {
 fn two_states(rt: HostRuntime) -> Result<(), Fail> {
     let design =
         "version = 1\nstates = 2\ninputs = 2\nstages = 1\n[plant]\nden = 2\na = [[2, 1], [0, 2]]\nb = [[2, 0], [0, 2]]\n[cost]\nden = 1\nrow_den = 1\ninput = [1, 3]\nstage = [[1, 0, 0, 1], [0, 1, 1, 2]]\nfinal = []\n[limits]\nden = 2\nstage = [[0, 0, 2, 0, 2], [0, 0, -2, 0, 2], [0, 0, 0, 2, 2], [0, 0, 0, -2, 2]]\nfinal = [[2, 0, 8], [-2, 0, 8]]\n[box]\ngrid = 1\nlo = [-2, -2]\nhi = [2, 2]\n[targets]\nden = 1\nviolation = 1\ngap = 2\n";
-    let policy =
-        "1,0,0\n1,0,0\n1,0,0\n1,0,0\n";
+    let policy = "1,0,0\n1,0,0\n1,0,0\n1,0,0\n";
     let controller =
         "mpc-controller 1\nsize 2 2 1 6\nbits 13 1 1 33\nsteps 88\nclamp 360448\nwords 12\nlo -2 -2\nhi 2 2\nP 4096 2048\nP 0 3277\nT 0 -3277\nW 2048 -2048 0 0 2048 -2048\nW 0 0 819 -819 0 0\nG 8192 0\nG -8192 0\nG 0 8192\nG 0 -8192\nG 8192 0\nG -8192 0\nE 0 0\nE 0 0\nE 0 0\nE 0 0\nE 8192 4096\nE -8192 -4096\nb 8192 8192 8192 8192 32768 32768\nend\n";
     let report =
@@ -267,8 +290,7 @@ fn two_states(rt: HostRuntime) -> Result<(), Fail> {
 fn three_states(rt: HostRuntime) -> Result<(), Fail> {
     let design =
         "version = 1\nstates = 3\ninputs = 1\nstages = 1\n[plant]\nden = 2\na = [[2, 1, 0], [0, 2, 1], [0, 0, 1]]\nb = [[0], [1], [2]]\n[cost]\nden = 1\nrow_den = 1\ninput = [2]\nstage = [[1, 0, 0, 0, 1], [0, 2, 0, 0, 1], [0, 0, 1, 1, 1]]\nfinal = []\n[limits]\nden = 1\nstage = [[0, 0, 0, 1, 1], [0, 0, 0, -1, 1]]\nfinal = [[0, 0, 1, 3]]\n[box]\ngrid = 0\nlo = [-1, -1, -1]\nhi = [1, 1, 1]\n[targets]\nden = 1\nviolation = 1\ngap = 2\n";
-    let policy =
-        "1,0\n1,0\n1,0\n1,0\n1,0\n1,0\n1,0\n1,0\n";
+    let policy = "1,0\n1,0\n1,0\n1,0\n1,0\n1,0\n1,0\n1,0\n";
     let controller =
         "mpc-controller 1\nsize 3 1 1 3\nbits 10 0 0 25\nsteps 56\nclamp 28672\nwords 8\nlo -1 -1 -1\nhi 1 1 1\nP 0 512 384\nT -256\nW 128 -128 128\nG 1024\nG -1024\nG 1024\nE 0 0 0\nE 0 0 0\nE 0 0 512\nb 1024 1024 3072\nend\n";
     let report =
@@ -300,7 +322,9 @@ fn json_report(rt: HostRuntime) -> Result<(), Fail> {
     let left = left_by(alloc, "generate d p out r.json", &mut store, &NONE)?;
     let report =
         "{\"bits\":\"10\",\"cost\":\"1\",\"gap\":\"804534616064\",\"margin\":\"8192\",\"multiplier\":\"8\",\"step\":\"1\",\"steps\":\"4\",\"undercut\":\"71173278793728\",\"version\":\"1\",\"violation\":\"8896659849216\",\"width\":\"26\",\"words\":\"6\"}\n";
-    assert!(rt; left.line.is_empty() && held(alloc, &mut store, "r.json")?.as_slice() == report.as_bytes());
+    assert!(rt;
+        left.line.is_empty() && held(alloc, &mut store, "r.json")?.as_slice() == report.as_bytes()
+    );
     Ok(())
 }
 

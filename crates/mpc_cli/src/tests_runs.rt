@@ -5,6 +5,7 @@ use std::alloc::Global;
 use std::test::Fail;
 
 // A run: the arguments, what is changed in the design and the controller, the states, the answer's line and what is printed.
+#[derive(Drop)]
 struct Case {
     arguments: &'static str,
     design: (&'static str, &'static str),
@@ -26,8 +27,10 @@ fn passes(alloc: Global, case: &Case, fails: &Fails) -> Result<bool, Fail> {
         case.states,
     )?;
     let left = left_by(alloc, case.arguments, &mut store, fails)?;
-    Ok(left.line.as_slice() == case.line.as_bytes()
-        && left.printed.as_slice() == case.printed.as_bytes())
+    Ok(
+        left.line.as_slice() == case.line.as_bytes()
+            && left.printed.as_slice() == case.printed.as_bytes(),
+    )
 }
 
 // States in the box, in any spelling; states outside, and texts that are none.
@@ -258,7 +261,10 @@ fn loops(rt: HostRuntime) -> Result<(), Fail> {
         },
         Case {
             arguments: "loop d c s 1",
-            design: ("inputs = 1\nstages = 1\n[plant]\nden = 1\na = [[1]]\nb = [[1]]\n[cost]\nden = 1\nrow_den = 1\ninput = [1]\nstage = [[1, 0, 1]]\nfinal = []\n[limits]\nden = 4\nstage = [[0, 4, 4], [0, -4, 4]]", "inputs = 2\nstages = 1\n[plant]\nden = 1\na = [[1]]\nb = [[1, 1]]\n[cost]\nden = 1\nrow_den = 1\ninput = [1, 1]\nstage = [[1, 0, 1]]\nfinal = []\n[limits]\nden = 4\nstage = [[0, 4, 4, 4], [0, -4, 4, 4]]"),
+            design: (
+                "inputs = 1\nstages = 1\n[plant]\nden = 1\na = [[1]]\nb = [[1]]\n[cost]\nden = 1\nrow_den = 1\ninput = [1]\nstage = [[1, 0, 1]]\nfinal = []\n[limits]\nden = 4\nstage = [[0, 4, 4], [0, -4, 4]]",
+                "inputs = 2\nstages = 1\n[plant]\nden = 1\na = [[1]]\nb = [[1, 1]]\n[cost]\nden = 1\nrow_den = 1\ninput = [1, 1]\nstage = [[1, 0, 1]]\nfinal = []\n[limits]\nden = 4\nstage = [[0, 4, 4, 4], [0, -4, 4, 4]]",
+            ),
             controller: ("lo 0", "lo 0"),
             states: "1",
             line: "error 14 mismatch inputs 2 1\n",

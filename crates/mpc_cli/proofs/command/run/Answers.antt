@@ -35,7 +35,6 @@ returns-in-Some-Generate-clause-write_fault g c =
     let is : IsGenerate c.args.words.now = rw c.in-Some-Generate.field-0-is at c.in-Some-Generate.ensures in
     generate_written c.args.words.now (g.S.Store.held c.args.store.now) c.generate.result (g.S.Store.write_faults c.args.store.now) (g.S.Store.write_faults c.generate.new.store) (g.O.Sink.faults c.args.out.now) (g.O.Sink.faults c.args.out.now) is c.generate.ensures.write_fault
 
-
 -- ---- `solve`
 pub returns-in-Some-Solve-clause-called : goal.returns-in-Some-Solve-clause-called
 returns-in-Some-Solve-clause-called g c =
@@ -54,7 +53,6 @@ pub returns-in-Some-Solve-clause-read_fault : goal.returns-in-Some-Solve-clause-
 returns-in-Some-Solve-clause-read_fault g c =
     let is : IsSolve c.args.words.now = rw c.in-Some-Solve.field-0-is at c.in-Some-Solve.ensures in
     solve_read c.args.words.now (g.S.Store.held c.args.store.now) c.solve.result (λ file. Rose (g.S.Store.read_faults c.args.store.now (word_of c.args.words.now file)) (g.S.Store.read_faults c.solve.new.store (word_of c.args.words.now file))) is c.solve.ensures.read_fault
-
 
 -- ---- `loop`
 pub returns-in-Some-Loop-clause-called : goal.returns-in-Some-Loop-clause-called
@@ -84,7 +82,6 @@ pub returns-in-Some-Loop-clause-write_fault : goal.returns-in-Some-Loop-clause-w
 returns-in-Some-Loop-clause-write_fault g c =
     let is : IsLoop c.args.words.now c.in-Some-Loop.turns = rw c.in-Some-Loop.field-0-is at c.in-Some-Loop.ensures in
     loop_written c.args.words.now (g.S.Store.held c.args.store.now) c.run_loops.result (g.S.Store.write_faults c.args.store.now) (g.S.Store.write_faults c.run_loops.new.store) (g.O.Sink.faults c.args.out.now) (g.O.Sink.faults c.run_loops.new.out) c.in-Some-Loop.turns is c.run_loops.ensures.write_fault
-
 
 -- ---- `demo`
 pub returns-in-Some-Demo-clause-called : goal.returns-in-Some-Demo-clause-called
