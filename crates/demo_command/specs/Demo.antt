@@ -1,5 +1,5 @@
 -- What `demo` is called to answer for a number, and what it prints.
-use Rattle.std.specs.Prelude.{◌≡◌, ◌≢◌, ◌⊎◌, ℕ, List, ◌++◌, length}
+use Rattle.std.specs.Prelude.{◌≡◌, ◌≢◌, ◌⊎◌, ℕ, ◌≤◌, List, ◌++◌, length}
 use Rattle.io_edge.specs.Faults.{GrowsByPart}
 use Rattle.mat_int.specs.Matrix.{Matrix}
 use Rattle.qp_model.specs.Policy.{Plans}
@@ -13,7 +13,7 @@ use Rattle.policy_file.specs.PolicyText.{IsPolicyText}
 use Rattle.policy_file.specs.StatesText.{IsStatesText}
 use Rattle.design_maker.specs.Texts.{design_text, policy_text, states_text}
 use Rattle.solve_command.specs.Lines.{plan_lines}
-use Rattle.solve_command.specs.Solve.{AreInside}
+use Rattle.solve_command.specs.Inside.{AreInside}
 use Rattle.generate_command.specs.Made.{MakingCalls, IsMadeOf}
 use Rattle.command_line.specs.declared.status.Status.{Status}
 use Rattle.command_line.specs.declared.status.Status.TheVariants.{Done, Memory, WriteFault}
@@ -37,49 +37,38 @@ pub record IsShown (number : ℕ) (c : Numbers) (b : Bounds) (states : Matrix) :
   pub plans : Plans
   pub texts : AreMadeFrom number p plans
   pub made : IsMadeOf p plans c b
-  pub states_text : IsStatesText states_text c.states states
+  pub third_text : IsStatesText states_text c.states states
   pub inside : AreInside c states (length states.rows)
 
--- the report and the plan lines of all the states
-abbrev pub demo_text : Numbers → Bounds → Matrix → List ℕ
-demo_text c b states = report_text b ++ plan_lines c states (length states.rows)
+-- ---- what is printed
+-- the report and the plan lines of the first k states
+abbrev pub demo_text : Numbers → Bounds → Matrix → ℕ → List ℕ
+demo_text c b states k = report_text b ++ plan_lines c states k
 
--- the whole text was printed
-pub record PrintsDemo (number : ℕ) (old new : List ℕ) : Type 0 where
+-- the report and the lines of some first states
+pub record IsFrontShown (c : Numbers) (b : Bounds) (states : Matrix) (old new : List ℕ) : Type 0 where
+  pub count : ℕ
+  pub some : count ≤ length states.rows
+  pub printed : new ≡ old ++ demo_text c b states count
+
+-- by the answer: the whole text; a part of it that isn't all, where a print failed; nothing, or the report and the lines of some first states
+pub record IsTextPrinted (c : Numbers) (b : Bounds) (states : Matrix) (s : Status) (old new : List ℕ) : Type 0 where
+  pub done : s ≡ Done → new ≡ old ++ demo_text c b states (length states.rows)
+  pub fault : s ≡ WriteFault 0 → GrowsByPart old new (demo_text c b states (length states.rows))
+  pub memory : s ≡ Memory → (new ≡ old) ⊎ IsFrontShown c b states old new
+
+-- the text of a controller that is made from the number was printed so
+pub record PrintsOf (number : ℕ) (s : Status) (old new : List ℕ) : Type 0 where
   pub c : Numbers
   pub b : Bounds
   pub states : Matrix
   pub is_shown : IsShown number c b states
-  pub printed : new ≡ old ++ demo_text c b states
+  pub printed : IsTextPrinted c b states s old new
 
--- a part of it that isn't all, where a print failed
-pub record PrintsDemoPart (number : ℕ) (old new : List ℕ) : Type 0 where
-  pub c : Numbers
-  pub b : Bounds
-  pub states : Matrix
-  pub is_shown : IsShown number c b states
-  pub printed : GrowsByPart old new (demo_text c b states)
-
--- a prefix of it
-pub record PrintsDemoPrefix (number : ℕ) (old new : List ℕ) : Type 0 where
-  pub c : Numbers
-  pub b : Bounds
-  pub states : Matrix
-  pub is_shown : IsShown number c b states
-  pub part : List ℕ
-  pub rest : List ℕ
-  pub is : demo_text c b states ≡ part ++ rest
-  pub printed : new ≡ old ++ part
-
--- what the output got, by the answer
+-- What the output got, by the answer: the text where all was done, a part of it where a print failed, nothing or a front of it where memory ran
+-- out, and else nothing.
 pub record DemoPrints (number : ℕ) (s : Status) (old new : List ℕ) : Type 0 where
-  pub done : s ≡ Done → PrintsDemo number old new
-  pub fault : s ≡ WriteFault 0 → PrintsDemoPart number old new
-  pub memory : s ≡ Memory → (new ≡ old) ⊎ PrintsDemoPrefix number old new
+  pub done : s ≡ Done → PrintsOf number s old new
+  pub fault : s ≡ WriteFault 0 → PrintsOf number s old new
+  pub memory : s ≡ Memory → (new ≡ old) ⊎ PrintsOf number s old new
   pub other : s ≢ Done → s ≢ WriteFault 0 → s ≢ Memory → new ≡ old
-
--- what is printed of the text of a controller, its bounds and states, by the answer
-pub record TextPrints (c : Numbers) (b : Bounds) (states : Matrix) (s : Status) (old new : List ℕ) : Type 0 where
-  pub done : s ≡ Done → new ≡ old ++ demo_text c b states
-  pub fault : s ≡ WriteFault 0 → GrowsByPart old new (demo_text c b states)
-  pub memory : s ≡ Memory → (new ≡ old) ⊎ ((part : List ℕ) × (rest : List ℕ) × (demo_text c b states ≡ part ++ rest) × (new ≡ old ++ part))

@@ -2,5 +2,7 @@
 #![tactic(auto)]
 
 mod command;
+mod inputs;
+mod printing;
 
 pub use command::demo;

@@ -28,7 +28,7 @@ targets_from p = record { denominator = unsigned_abs p.target_den; violation = u
 same_targets : (p q : DesignParts) → design_numbers p ≡ design_numbers q → targets_of p ≡ targets_of q
 same_targets p q e = ap targets_from e
 
-along : (F : Design → Targets → Type 0) (p q : DesignParts) → design_numbers p ≡ design_numbers q → F (design_of p) (targets_of p) → F (design_of q) (targets_of q)
+pub along : (F : Design → Targets → Type 0) (p q : DesignParts) → design_numbers p ≡ design_numbers q → F (design_of p) (targets_of p) → F (design_of q) (targets_of q)
 along F p q e h = subst (λ (t : Targets). F (design_of q) t) (same_targets p q e) (subst (λ (d : Design). F d (targets_of p)) (same_design p q e) h)
 
 pub making_same : (p q : DesignParts) → design_numbers p ≡ design_numbers q → (plans : Plans) (s : Status) → MakingCalls p plans s → MakingCalls q plans s

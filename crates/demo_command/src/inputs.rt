@@ -1,0 +1,95 @@
+// The design, the policy and the states of made texts.
+ghost use Rattle.std.specs.Prelude.{◌≡◌, ℕ, ◌<◌, ◌^◌, length, IfOk};
+ghost use Rattle.integer_algebra.specs.Sums.{at};
+ghost use Rattle.mat_int.specs.Matrix.{Matrix, row_of};
+ghost use Rattle.qp_model.specs.Box.{IsGridState};
+ghost use Rattle.qp_model.specs.Parts.{design_of, design_numbers};
+ghost use Rattle.qp_model.specs.Policy.{Plans, plans_of, IsPolicyFor};
+ghost use Rattle.qp_model.specs.declared.design_parts.DesignParts.{DesignParts};
+ghost use Rattle.design_files.specs.DesignText.{IsDesignText};
+ghost use Rattle.policy_file.specs.PolicyText.{IsPolicyText};
+ghost use Rattle.policy_file.specs.StatesText.{IsStatesText};
+ghost use Rattle.design_maker.specs.Texts.{states_text};
+ghost use Rattle.demo_command.specs.Demo.{AreMadeFrom};
+
+use design_files::read_design;
+use design_maker::{made_law, make};
+use mat_int::Mat;
+use policy_file::{read_policy, read_states};
+use qp_model::{Design, Policy, TextFault};
+use std::alloc::{AllocError, Global};
+
+/// The stages of a made design.
+const STAGES: usize = 6;
+
+/// What the made texts are read as.
+#[derive(Debug, Drop)]
+pub struct Inputs {
+    pub design: Design,
+    pub policy: Policy,
+    pub states: Mat,
+}
+
+/// The design, the policy and the states that the texts made from a number are of; the states lie in the design's box. An error is want of memory.
+pub fn inputs_of(alloc: Global, number: u32) -> Result<Inputs, AllocError>
+    ensures made { IfOk result (λ i. AreMadeFrom number i.design.parts (plans_of i.policy)) }
+    ensures one { IfOk result (λ i. (p : DesignParts) (plans : Plans) → AreMadeFrom number p plans
+        → (design_numbers p ≡ design_numbers i.design.parts) × (plans ≡ plans_of i.policy)) }
+    ensures sized { IfOk result (λ i. IsPolicyFor (design_of i.design.parts) (plans_of i.policy)) }
+    ensures states { IfOk result (λ i. IsStatesText states_text (design_of i.design.parts).states i.states) }
+    ensures some { IfOk result (λ i. 0 < length i.states.rows) }
+    ensures inside { IfOk result (λ i. (e : ℕ) → e < length i.states.rows → IsGridState (design_of i.design.parts) (at (row_of i.states e))) }
+{
+    made_law();
+    let texts = make(alloc, number, STAGES)?;
+    let design = right_design(alloc, &texts.design)?;
+    let policy = right_policy(alloc, &texts.policy, &design)?;
+    let states = right_states(alloc, &texts.states, design.parts().states)?;
+    Ok(Inputs {
+        design,
+        policy,
+        states,
+    })
+}
+
+// The design of a text that is one's.
+fn right_design(alloc: Global, text: &[u8]) -> Result<Design, AllocError>
+    requires { (p : DesignParts) × IsDesignText text.now p }
+    ensures text { IfOk result (λ d. IsDesignText text.now d.parts) }
+    ensures one { IfOk result (λ d. (p : DesignParts) → IsDesignText text.now p → design_numbers p ≡ design_numbers d.parts) }
+{
+    match read_design(alloc, text) {
+        Ok(design) => Ok(design),
+        Err(TextFault::Memory) => Err(AllocError),
+        Err(_) => unreachable!(),
+    }
+}
+
+// The policy of a text that is one's for the design.
+fn right_policy(alloc: Global, text: &[u8], design: &Design) -> Result<Policy, AllocError>
+    requires short { length text.now < 2 ^ 32 }
+    requires right { (plans : Plans) × IsPolicyText text.now (design_of design.now.parts) plans }
+    ensures text { IfOk result (λ p. IsPolicyText text.now (design_of design.now.parts) (plans_of p)) }
+    ensures sized { IfOk result (λ p. IsPolicyFor (design_of design.now.parts) (plans_of p)) }
+    ensures one { IfOk result (λ p. (plans : Plans) → IsPolicyText text.now (design_of design.now.parts) plans → plans ≡ plans_of p) }
+{
+    match read_policy(alloc, text, design) {
+        Ok(policy) => Ok(policy),
+        Err(TextFault::Memory) => Err(AllocError),
+        Err(_) => unreachable!(),
+    }
+}
+
+// The states of a text that is one of states of `n` numbers each.
+fn right_states(alloc: Global, text: &[u8], n: usize) -> Result<Mat, AllocError>
+    requires short { length text.now < 2 ^ 32 }
+    requires right { (states : Matrix) × IsStatesText text.now n states }
+    ensures text { IfOk result (IsStatesText text.now n) }
+    ensures one { IfOk result (λ m. (states : Matrix) → IsStatesText text.now n states → states ≡ m) }
+{
+    match read_states(alloc, text, n) {
+        Ok(states) => Ok(states),
+        Err(TextFault::Memory) => Err(AllocError),
+        Err(_) => unreachable!(),
+    }
+}

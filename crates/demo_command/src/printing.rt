@@ -1,0 +1,42 @@
+// The text that is printed.
+ghost use Rattle.std.specs.Prelude.{◌≡◌, ◌⊎◌, ◌≤◌, ◌<◌, length, IfSome, IsSomeAnd};
+ghost use Rattle.io_edge.specs.Faults.{Rose};
+ghost use Rattle.solve_command.specs.Inside.{AreInside};
+ghost use Rattle.demo_command.specs.Demo.{IsTextPrinted};
+
+use bound_report::report_text;
+use command_line::Status;
+use fixed_kernel::Kernel;
+use io_edge::Sink;
+use mat_int::Mat;
+use overflow_check::Controller;
+use qp_model::Bounds;
+use solve_command::print_lines;
+use std::alloc::Global;
+
+/// Prints the report of the bounds, and the lines of a controller from states of its box: `Done`, `Memory`, or `WriteFault` for file 0.
+pub fn print_text<O: Sink>(
+    alloc: Global,
+    controller: &Controller,
+    bounds: &Bounds,
+    states: &Mat,
+    out: &mut O,
+) -> Status
+    requires inside { AreInside controller.now states.now (length states.now.rows) }
+    requires some { 0 < length states.now.rows }
+    ensures only { (result ≡ Status.Memory) ⊎ ((result ≡ Status.Done) ⊎ (result ≡ Status.WriteFault 0)) }
+    ensures printed { IfSome (O.got out.old) (λ old. IsSomeAnd (O.got out.new) (IsTextPrinted controller.now bounds.now states.now result old)) }
+    ensures failed { result ≡ Status.WriteFault 0 → Rose (O.faults out.old) (O.faults out.new) }
+    ensures no_fewer { O.faults out.old ≤ O.faults out.new }
+{
+    let Ok(mut kernel) = Kernel::prepare(alloc, controller) else {
+        return Status::Memory;
+    };
+    let Ok(report) = report_text(alloc, bounds) else {
+        return Status::Memory;
+    };
+    match out.put(&report) {
+        Ok(()) => print_lines(alloc, &mut kernel, states, out),
+        Err(_) => Status::WriteFault { file: 0 },
+    }
+}
