@@ -9,7 +9,7 @@ use Rattle.design_files.specs.DesignText.{IsDesignText}
 use Rattle.policy_file.specs.PolicyText.{IsPolicyText}
 use Rattle.design_maker.specs.Texts.{design_text, policy_text, states_text}
 use Rattle.design_maker.specs.MadeParts.{corner_matrix}
-use Rattle.design_maker.specs.MadeLaw.{AreTextsOf, AreMade, MadeLaw}
+use Rattle.design_maker.specs.MadeLaw.{AreMadeTexts, AreMade, MadeLaw}
 use Rattle.generate_command.proofs.Inputs.{along}
 use Rattle.demo_command.specs.Demo.{demo_stages}
 use Rattle.demo_command.proofs.Answering.{OneOf}
@@ -17,7 +17,7 @@ use Rattle.demo_command.proofs.Inside.{AreInBox}
 
 -- a design that was read of the first text
 pub texts_of : (number : ℕ) (first second third : List ℕ) → AreMade number demo_stages first second third → MadeLaw → (q : DesignParts) →
-    ((p : DesignParts) → IsDesignText first p → design_numbers p ≡ design_numbers q) → AreTextsOf q (design_text number demo_stages) (policy_text demo_stages) states_text
+    ((p : DesignParts) → IsDesignText first p → design_numbers p ≡ design_numbers q) → AreMadeTexts q (design_text number demo_stages) (policy_text demo_stages) states_text
 texts_of number first second third made law q one = law number demo_stages (omega arith, omega arith) q (sym (one made.0 made.2.design) ∙ made.1)
 
 -- it is the only one, and so is the policy that was read of the second
