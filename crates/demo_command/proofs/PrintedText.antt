@@ -13,7 +13,7 @@ use Rattle.qp_model.specs.declared.bounds.Bounds.{Bounds}
 use Rattle.bound_report.specs.Report.{report_text}
 use Rattle.solve_command.specs.Lines.{plan_lines}
 use Rattle.solve_command.specs.Printing.{ArePrinted, AreFirstLines}
-use Rattle.demo_command.specs.Demo.{IsShown, demo_text, IsFrontShown, IsTextPrinted, PrintsOf, DemoPrints}
+use Rattle.demo_command.specs.Demo.{IsShown, demo_text, IsPrefixShown, IsTextPrinted, PrintsOf, DemoPrints}
 use Rattle.command_line.specs.declared.status.Status.{Status}
 use Rattle.command_line.specs.declared.status.Status.TheVariants.{Done, Memory, WriteFault}
 
@@ -64,14 +64,14 @@ module _ (c : Numbers) (b : Bounds) (states : Matrix) where
     memory = λ is. absurd (let never : ⊥ = cc in never);
   }
 
-  front : (old new : List ℕ) → AreFirstLines c states (old ++ report_text b) new → IsFrontShown c b states old new
-  front old new lines = record { count = lines.count; some = lines.some; printed = lines.printed ∙ append_assoc old (report_text b) (plan_lines c states lines.count) }
+  first : (old new : List ℕ) → AreFirstLines c states (old ++ report_text b) new → IsPrefixShown c b states old new
+  first old new lines = record { count = lines.count; some = lines.some; printed = lines.printed ∙ append_assoc old (report_text b) (plan_lines c states lines.count) }
 
   pub lines_after : (s : Status) (old new : List ℕ) → 0 < length states.rows → ArePrinted c states s (old ++ report_text b) new → IsTextPrinted c b states s old new
   lines_after s old new some p = record {
     done = λ is. p.done is ∙ append_assoc old (report_text b) (plan_lines c states (length states.rows));
     fault = λ is. second_cut old new (report_text b) (plan_lines c states (length states.rows)) (lines_some c states some) (p.fault is);
-    memory = λ is. inr (front old new (p.memory is));
+    memory = λ is. inr (first old new (p.memory is));
   }
 
   -- what the output tells

@@ -46,7 +46,7 @@ abbrev pub demo_text : Numbers → Bounds → Matrix → ℕ → List ℕ
 demo_text c b states k = report_text b ++ plan_lines c states k
 
 -- the report and the lines of some first states
-pub record IsFrontShown (c : Numbers) (b : Bounds) (states : Matrix) (old new : List ℕ) : Type 0 where
+pub record IsPrefixShown (c : Numbers) (b : Bounds) (states : Matrix) (old new : List ℕ) : Type 0 where
   pub count : ℕ
   pub some : count ≤ length states.rows
   pub printed : new ≡ old ++ demo_text c b states count
@@ -55,7 +55,7 @@ pub record IsFrontShown (c : Numbers) (b : Bounds) (states : Matrix) (old new : 
 pub record IsTextPrinted (c : Numbers) (b : Bounds) (states : Matrix) (s : Status) (old new : List ℕ) : Type 0 where
   pub done : s ≡ Done → new ≡ old ++ demo_text c b states (length states.rows)
   pub fault : s ≡ WriteFault 0 → GrowsByPart old new (demo_text c b states (length states.rows))
-  pub memory : s ≡ Memory → (new ≡ old) ⊎ IsFrontShown c b states old new
+  pub memory : s ≡ Memory → (new ≡ old) ⊎ IsPrefixShown c b states old new
 
 -- the text of a controller that is made from the number was printed so
 pub record PrintsOf (number : ℕ) (s : Status) (old new : List ℕ) : Type 0 where
@@ -65,7 +65,7 @@ pub record PrintsOf (number : ℕ) (s : Status) (old new : List ℕ) : Type 0 wh
   pub is_shown : IsShown number c b states
   pub printed : IsTextPrinted c b states s old new
 
--- What the output got, by the answer: the text where all was done, a part of it where a print failed, nothing or a front of it where memory ran
+-- What the output got, by the answer: the text where all was done, a part of it where a print failed, nothing or a prefix of it where memory ran
 -- out, and else nothing.
 pub record DemoPrints (number : ℕ) (s : Status) (old new : List ℕ) : Type 0 where
   pub done : s ≡ Done → PrintsOf number s old new
