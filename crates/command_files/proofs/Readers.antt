@@ -8,7 +8,7 @@ use Rattle.qp_model.specs.declared.text_fault.TextFault.TheVariants.{Memory as n
 use Rattle.controller_file.specs.declared.bad_controller.BadController.{BadController}
 use Rattle.controller_file.specs.declared.bad_controller.BadController.TheVariants.{Memory as no_space}
 use Rattle.command_line.specs.Limit.{file_limit}
-use Rattle.command_line.specs.Answers.{IsTold, Holds, IsFileRefused, IsRightFor, IsWrongBy, EndsReading}
+use Rattle.command_line.specs.Answers.{IsTold, FileHolds, IsFileRefused, IsRightFor, IsWrongBy, EndsReading}
 use Rattle.command_line.specs.declared.status.Status.{Status}
 use Rattle.command_line.specs.declared.status.Status.TheVariants.{Memory, ReadFault, Text, Controller, Long}
 
@@ -50,7 +50,7 @@ long_content file (Some files) name long = go (files name) refl long
 long_content file None name long = let other = some_longer file_limit in record { content = Some other.bytes; told = tt; bytes = other.bytes; is = refl; longer = other.longer }
 
 -- what a file holds that is both too long and within the limit
-clash : (content : Option (List ℕ)) (bytes : List ℕ) (Right : List ℕ → Type 0) → content ≡ Some bytes → file_limit < length bytes → Holds Right content → ⊥
+clash : (content : Option (List ℕ)) (bytes : List ℕ) (Right : List ℕ → Type 0) → content ≡ Some bytes → file_limit < length bytes → FileHolds Right content → ⊥
 clash content bytes Right is longer holds =
     let same : bytes ≡ holds.bytes = cc in
     omega (arith, longer, holds.short, ap length same)
@@ -81,7 +81,7 @@ module _ {X : Type 0} (file : ℕ) (Wrong : List ℕ → Status → Type 0) (Rig
 
   -- ---- bytes within the limit
   module _ (bytes : List ℕ) (known : HeldBytes held name bytes) (short : length bytes ≤ file_limit) where
-    here_only : (P : List ℕ → Type 0) → Holds P (Some bytes) → P bytes
+    here_only : (P : List ℕ → Type 0) → FileHolds P (Some bytes) → P bytes
     here_only P holds = let same : holds.bytes ≡ bytes = cc holds.held in subst P same holds.right
 
     pub right_bytes : {V : Type 0} (view : X → V) (x : X) → Right x bytes → ((y : X) → Right y bytes → view y ≡ view x) → ((s : Status) → Wrong bytes s → ⊥) →

@@ -31,7 +31,7 @@ pub record ForContents (words : List (List ℕ)) (held : Option Files) (P : Cont
 
 -- ---- one file
 -- the file holds bytes within the limit, and this is true of them
-pub record Holds (Right : List ℕ → Type 0) (content : Option (List ℕ)) : Type 0 where
+pub record FileHolds (Right : List ℕ → Type 0) (content : Option (List ℕ)) : Type 0 where
   pub bytes : List ℕ
   pub held : content ≡ Some bytes
   pub short : length bytes ≤ file_limit
@@ -46,11 +46,11 @@ pub record IsLong (file : ℕ) (content : Option (List ℕ)) (s : Status) : Type
 
 -- the file at a position holds too many bytes, or bytes for which this status is the answer
 abbrev pub IsFileRefused : ℕ → (Wrong : List ℕ → Status → Type 0) → Option (List ℕ) → Status → Type 0
-IsFileRefused file Wrong content s = IsLong file content s ⊎ Holds (λ bytes. Wrong bytes s) content
+IsFileRefused file Wrong content s = IsLong file content s ⊎ FileHolds (λ bytes. Wrong bytes s) content
 
 -- The file at a position is refused with this status; or it holds bytes that are right for some x, and what comes after gives this status for x.
 abbrev pub ReadsThen : {X : Type 0} → ℕ → (Wrong : List ℕ → Status → Type 0) → (Right : X → List ℕ → Type 0) → Option (List ℕ) → (After : X → Status → Type 0) → Status → Type 0
-ReadsThen {X} file Wrong Right content After s = IsFileRefused file Wrong content s ⊎ ((x : X) × Holds (Right x) content × After x s)
+ReadsThen {X} file Wrong Right content After s = IsFileRefused file Wrong content s ⊎ ((x : X) × FileHolds (Right x) content × After x s)
 
 -- ---- one answer
 -- this status is called for, and no other is
@@ -69,8 +69,8 @@ pub record IsCaused (s : Status) : Type 0 where
 pub record IsRightFor {X V : Type 0} (file : ℕ) (Wrong : List ℕ → Status → Type 0) (Right : X → List ℕ → Type 0) (view : X → V) (held : Option Files) (name : List ℕ) (x : X) : Type 0 where
   pub content : Option (List ℕ)
   pub told : IsTold held name content
-  pub right : Holds (Right x) content
-  pub one : (y : X) → Holds (Right y) content → view y ≡ view x
+  pub right : FileHolds (Right x) content
+  pub one : (y : X) → FileHolds (Right y) content → view y ≡ view x
   pub accepted : (s : Status) → ¬ IsFileRefused file Wrong content s
 
 -- the file is refused with this status, and no other, and right for nothing
@@ -78,7 +78,7 @@ pub record IsWrongBy {X : Type 0} (file : ℕ) (Wrong : List ℕ → Status → 
   pub content : Option (List ℕ)
   pub told : IsTold held name content
   pub answer : IsAnswer (IsFileRefused file Wrong content) s
-  pub refused : (x : X) → ¬ Holds (Right x) content
+  pub refused : (x : X) → ¬ FileHolds (Right x) content
 
 -- reading the file ends with this status: out of memory, or its read failed, or it is refused
 abbrev pub EndsReading : {X : Type 0} → ℕ → (Wrong : List ℕ → Status → Type 0) → (Right : X → List ℕ → Type 0) → Option Files → (name : List ℕ) → (before now : ℕ) → Status → Type 0

@@ -15,7 +15,7 @@ use Rattle.word_region.specs.declared.Span.{Span}
 use Rattle.fixed_kernel.specs.declared.kernel.Kernel.TheInside.{Inside}
 use Rattle.fixed_kernel.specs.Factors.{HasNarrowFactors}
 use Rattle.fixed_kernel.specs.Spans.{words_of, spans_of, state_in, made_in}
-use Rattle.fixed_kernel.specs.Ready.{IsReady}
+use Rattle.fixed_kernel.specs.Ready.{IsReadyToStep}
 use Rattle.fixed_kernel.specs.Progress.{Progress, iterate_of, region_of, unloaded, progress_of, IsReached}
 use Rattle.fixed_kernel.proofs.Rooms.{fit}
 use Rattle.fixed_kernel.proofs.States.{unloaded-loaded}
@@ -61,7 +61,7 @@ sums_room p g lt j h =
     omega (arith, sum, all, (fit c g.sound).sums j h)
 
 -- one more step may be made
-ready : (p : Progress) → Goes p → p.made < p.controller.steps → IsReady p.controller (loaded p.controller p.state) (iterate_of p)
+ready : (p : Progress) → Goes p → p.made < p.controller.steps → IsReadyToStep p.controller (loaded p.controller p.state) (iterate_of p)
 ready p g lt = record {
   state_within = state_reached p g;
   multipliers_within = after_multipliers p.controller (loaded p.controller p.state) p.made g.sound.form.sized.clamp_low;
@@ -77,10 +77,10 @@ state_held p g = state_back p.controller (loaded p.controller p.state) (iterate_
 pub made_held : (p : Progress) → Goes p → made_in p.controller (region_of p).words ≡ iterate_of p
 made_held p g = made_back p.controller (loaded p.controller p.state) (iterate_of p) (loaded_long p g) (multipliers_long p g) (plan_long p)
 
-pub ready_held : (p : Progress) → Goes p → p.made < p.controller.steps → IsReady p.controller (state_in p.controller (region_of p).words) (made_in p.controller (region_of p).words)
+pub ready_held : (p : Progress) → Goes p → p.made < p.controller.steps → IsReadyToStep p.controller (state_in p.controller (region_of p).words) (made_in p.controller (region_of p).words)
 ready_held p g lt =
-    subst (λ (s : List ℤ). IsReady p.controller s (made_in p.controller (region_of p).words)) (sym (state_held p g))
-    (subst (λ (m : Iterate). IsReady p.controller (loaded p.controller p.state) m) (sym (made_held p g)) (ready p g lt))
+    subst (λ (s : List ℤ). IsReadyToStep p.controller s (made_in p.controller (region_of p).words)) (sym (state_held p g))
+    (subst (λ (m : Iterate). IsReadyToStep p.controller (loaded p.controller p.state) m) (sym (made_held p g)) (ready p g lt))
 
 -- the words after one more step
 pub words_after : (p : Progress) → Goes p →
@@ -181,10 +181,10 @@ pub lent_held : (k : Inside) → IsReached k → (s : Span) (lent : List ℤ) (n
 lent_held k r s lent n same e h =
     h ∙ ap (λ (t : Span). slice_range k.region.words t.start (t.start + t.len)) e ∙ lent_whole k.region.words n.words (held_long k r ∙ ap (λ (m : Numbers). m.words) (sym same))
 
-pub ready_lent : (k : Inside) → IsReached k → k.made < k.controller.now.steps → (n : Numbers) (lent : List ℤ) → n ≡ k.controller.now → lent ≡ k.region.words → IsReady n (state_in n lent) (made_in n lent)
+pub ready_lent : (k : Inside) → IsReached k → k.made < k.controller.now.steps → (n : Numbers) (lent : List ℤ) → n ≡ k.controller.now → lent ≡ k.region.words → IsReadyToStep n (state_in n lent) (made_in n lent)
 ready_lent k r lt n lent same h =
-    subst (λ (m : Numbers). IsReady m (state_in m lent) (made_in m lent)) (sym same)
-    (subst (λ (w : List ℤ). IsReady k.controller.now (state_in k.controller.now w) (made_in k.controller.now w)) (sym (h ∙ ap (λ (w : RegionWords). w.words) r.region)) (ready_held (progress_of k) (goes k r) lt))
+    subst (λ (m : Numbers). IsReadyToStep m (state_in m lent) (made_in m lent)) (sym same)
+    (subst (λ (w : List ℤ). IsReadyToStep k.controller.now (state_in k.controller.now w) (made_in k.controller.now w)) (sym (h ∙ ap (λ (w : RegionWords). w.words) r.region)) (ready_held (progress_of k) (goes k r) lt))
 
 -- ---- single words
 -- word i of the region, where the machine's values have it

@@ -7,7 +7,7 @@ use Rattle.qp_model.specs.AbsoluteSums.{state_magnitudes, clamp_magnitudes, plan
 use Rattle.overflow_check.specs.Within.{AreWithin}
 
 -- state and multipliers are within their reaches, and the sums leave room for one more plan
-pub record IsReady (c : Numbers) (state : List ℤ) (made : Iterate) : Type 0 where
+pub record IsReadyToStep (c : Numbers) (state : List ℤ) (made : Iterate) : Type 0 where
   pub state_within : AreWithin state (state_magnitudes c)
   pub multipliers_within : AreWithin made.multipliers (clamp_magnitudes c)
   pub plan_long : length made.plan ≡ length c.offsets

@@ -7,7 +7,7 @@ ghost use Rattle.qp_model.specs.AbsoluteSums.{IsController, clamp_magnitudes, st
 ghost use Rattle.overflow_check.specs.Within.{AreWithin};
 ghost use Rattle.fixed_kernel.specs.Factors.{HasNarrowFactors};
 ghost use Rattle.fixed_kernel.specs.Spans.{words_of, state_in, made_in};
-ghost use Rattle.fixed_kernel.specs.Ready.{IsReady};
+ghost use Rattle.fixed_kernel.specs.Ready.{IsReadyToStep};
 
 use crate::entry::{entry_from, multiplier_from, short_shift};
 use crate::narrow::sum_of_products;
@@ -117,7 +117,7 @@ fn make_step(
 )
     requires sound { IsController (numbers c.now) }
     requires narrow { IsTrue narrow → HasNarrowFactors (numbers c.now) }
-    requires ready { IsReady (numbers c.now) state.now (record { plan = plan.old; multipliers = multipliers.old; sums = sums.old }) }
+    requires ready { IsReadyToStep (numbers c.now) state.now (record { plan = plan.old; multipliers = multipliers.old; sums = sums.old }) }
     ensures { record { plan = plan.new; multipliers = multipliers.new; sums = sums.new } ≡ step_of (numbers c.now) state.now (record { plan = plan.old; multipliers = multipliers.old; sums = sums.old }) }
 {
     make_plan(c, narrow, state, multipliers, plan);
@@ -131,7 +131,7 @@ pub fn advance(c: &ControllerParts, narrow: bool, words: &mut [i128])
     requires sound { IsController (numbers c.now) }
     requires narrow { IsTrue narrow → HasNarrowFactors (numbers c.now) }
     requires long { length words.old ≡ c.now.words }
-    requires ready { IsReady (numbers c.now) (state_in (numbers c.now) words.old) (made_in (numbers c.now) words.old) }
+    requires ready { IsReadyToStep (numbers c.now) (state_in (numbers c.now) words.old) (made_in (numbers c.now) words.old) }
     ensures { let state = state_in (numbers c.now) words.old in words.new ≡ words_of state (step_of (numbers c.now) state (made_in (numbers c.now) words.old)) }
 {
     let (state, rest) = words.split_at_mut(c.n);

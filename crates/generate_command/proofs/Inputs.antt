@@ -8,7 +8,7 @@ use Rattle.qp_model.specs.declared.design_parts.DesignParts.{DesignParts}
 use Rattle.design_engine.specs.Targets.{Targets, targets_of}
 use Rattle.design_engine.specs.Refusals.{HasCause, PassesAll}
 use Rattle.command_line.specs.Words.{word_of}
-use Rattle.command_line.specs.Answers.{IsTold, ForContents, Holds, IsFileRefused, IsAnswer, IsCaused}
+use Rattle.command_line.specs.Answers.{IsTold, ForContents, FileHolds, IsFileRefused, IsAnswer, IsCaused}
 use Rattle.command_line.proofs.Composing.{stop, go_on, go_on_whole, for_contents, told_at, told}
 use Rattle.command_line.proofs.Counts.{rose_later}
 use Rattle.command_files.specs.Texts.{DesignRight, DesignWrong, PolicyRight, PolicyWrong}
@@ -41,7 +41,7 @@ after_same : (policy : Option (List ℕ)) (p q : DesignParts) → design_numbers
     ReadsPolicy (design_of q) 2 policy (MakingCalls q) s
 after_same policy p q e s (inl refused) = inl (subst (λ (d : Design). IsFileRefused 2 (PolicyWrong d 2) policy s) (same_design p q e) refused)
 after_same policy p q e s (inr right) =
-    inr (right.0, subst (λ (d : Design). Holds (PolicyRight d right.0) policy) (same_design p q e) right.1, making_same p q e right.0 s right.2)
+    inr (right.0, subst (λ (d : Design). FileHolds (PolicyRight d right.0) policy) (same_design p q e) right.1, making_same p q e right.0 s right.2)
 
 -- ---- the answer, by the first file that ends the run
 pub design_ends : (words : List (List ℕ)) (held : Option Files) (before now : ℕ) (s : Status) → EndsDesign 1 held (word_of words 1) before now s → IsCaused s → IsAnswered words held s

@@ -8,7 +8,7 @@ use Rattle.qp_model.specs.Controller.{Numbers}
 use Rattle.qp_model.specs.declared.design_parts.DesignParts.{DesignParts}
 use Rattle.qp_model.specs.declared.bounds.Bounds.{Bounds}
 use Rattle.command_line.specs.Words.{word_of, IsGenerate}
-use Rattle.command_line.specs.Answers.{ForContents, Holds, IsCaused}
+use Rattle.command_line.specs.Answers.{ForContents, FileHolds, IsCaused}
 use Rattle.command_line.proofs.Counts.{rose_later}
 use Rattle.command_files.specs.Texts.{DesignRight, PolicyRight}
 use Rattle.generate_command.specs.Made.{IsMadeOf}
@@ -20,8 +20,8 @@ use Rattle.command_line.specs.declared.status.Status.TheVariants.{Done, ReadFaul
 
 inputs_of : (words : List (List ℕ)) (files : Files) (p : DesignParts) (plans : Plans) → AreRead words (Some files) p plans → HoldsInputs (files (word_of words 1)) (files (word_of words 2)) p plans
 inputs_of words files p plans read = record {
-  design_right = subst (λ (o : Option (List ℕ)). Holds (DesignRight p) o) read.design.told read.design.right;
-  policy_right = subst (λ (o : Option (List ℕ)). Holds (PolicyRight (design_of p) plans) o) read.policy.told read.policy.right;
+  design_right = subst (λ (o : Option (List ℕ)). FileHolds (DesignRight p) o) read.design.told read.design.right;
+  policy_right = subst (λ (o : Option (List ℕ)). FileHolds (PolicyRight (design_of p) plans) o) read.policy.told read.policy.right;
 }
 
 -- the files that were told before, and after

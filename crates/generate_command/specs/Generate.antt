@@ -11,7 +11,7 @@ use Rattle.qp_model.specs.declared.bounds.Bounds.{Bounds}
 use Rattle.design_engine.specs.Targets.{targets_of, IsWithinTargets}
 use Rattle.design_engine.specs.Built.{IsBuilt}
 use Rattle.command_line.specs.Words.{word_of, IsJson}
-use Rattle.command_line.specs.Answers.{Contents, Holds}
+use Rattle.command_line.specs.Answers.{Contents, FileHolds}
 use Rattle.command_files.specs.Texts.{DesignRight, PolicyRight}
 use Rattle.command_files.specs.Reading.{ReadsDesign, ReadsPolicy}
 use Rattle.generate_command.specs.Made.{MakingCalls, IsReport}
@@ -24,12 +24,12 @@ GenerateCalls design policy s = ReadsDesign 1 design (λ p. ReadsPolicy (design_
 
 -- two files hold a design and a policy for it
 pub record HoldsInputs (design policy : Option (List ℕ)) (p : DesignParts) (plans : Plans) : Type 0 where
-  pub design_right : Holds (DesignRight p) design
-  pub policy_right : Holds (PolicyRight (design_of p) plans) policy
+  pub design_right : FileHolds (DesignRight p) design
+  pub policy_right : FileHolds (PolicyRight (design_of p) plans) policy
 
 -- the file at this position is read: the first, and the second where the first holds a design
 abbrev pub GenerateReaches : (design : Option (List ℕ)) → ℕ → Type 0
-GenerateReaches design file = (file ≡ 1) ⊎ ((file ≡ 2) × (p : DesignParts) × Holds (DesignRight p) design)
+GenerateReaches design file = (file ≡ 1) ⊎ ((file ≡ 2) × (p : DesignParts) × FileHolds (DesignRight p) design)
 
 -- ---- what is written
 -- the controller and its bounds are built of the design and the policy in the files, and certified, and the bounds are within the targets

@@ -10,7 +10,7 @@ use Rattle.qp_model.specs.LoopLines.{loop_text}
 use Rattle.qp_model.specs.declared.design_parts.DesignParts.{DesignParts}
 use Rattle.qp_model.specs.declared.quantity.Quantity.TheVariants.{Turn}
 use Rattle.closed_loop.specs.Answers.{StaysInside, LeavesAt}
-use Rattle.command_line.specs.Answers.{Contents, Holds}
+use Rattle.command_line.specs.Answers.{Contents, FileHolds}
 use Rattle.command_files.specs.Texts.{DesignRight, ControllerRight, StatesRight}
 use Rattle.command_files.specs.Reading.{ReadsDesign, ReadsController, ReadsStates}
 use Rattle.command_line.specs.declared.status.Field.TheVariants.{States, Inputs, Grid}
@@ -63,17 +63,17 @@ LoopCalls design controller states turns s =
 
 -- three files hold a design, a controller for it and states
 pub record HoldsLoops (design controller states : Option (List ℕ)) (p : DesignParts) (c : Numbers) (m : Matrix) : Type 0 where
-  pub design_right : Holds (DesignRight p) design
-  pub controller_right : Holds (ControllerRight c) controller
+  pub design_right : FileHolds (DesignRight p) design
+  pub controller_right : FileHolds (ControllerRight c) controller
   pub matched : IsFor c (design_of p)
-  pub states_right : Holds (StatesRight c.states m) states
+  pub states_right : FileHolds (StatesRight c.states m) states
 
 -- ---- faults
 -- the file at this position is read: the first, the second where the first holds a design, and the third where the second holds a controller for it
 abbrev pub LoopReaches : (design controller : Option (List ℕ)) → ℕ → Type 0
 LoopReaches design controller file =
-    (file ≡ 1) ⊎ (((file ≡ 2) × (p : DesignParts) × Holds (DesignRight p) design)
-    ⊎ ((file ≡ 3) × (p : DesignParts) × (c : Numbers) × Holds (DesignRight p) design × Holds (ControllerRight c) controller × IsFor c (design_of p)))
+    (file ≡ 1) ⊎ (((file ≡ 2) × (p : DesignParts) × FileHolds (DesignRight p) design)
+    ⊎ ((file ≡ 3) × (p : DesignParts) × (c : Numbers) × FileHolds (DesignRight p) design × FileHolds (ControllerRight c) controller × IsFor c (design_of p)))
 
 -- the files are in order, and there is a record whose turns may be printed
 pub record LoopStarts (contents : Contents) : Type 0 where

@@ -13,7 +13,7 @@ use Rattle.command_line.specs.declared.status.Status.{Status}
 use Rattle.command_line.specs.declared.status.Status.TheVariants.{Done, Usage, ReadFault, WriteFault}
 use Rattle.mpc_cli.specs.Calls.{Calls}
 use Rattle.mpc_cli.specs.Prints.{Prints}
-use Rattle.mpc_cli.specs.Faults.{Reaches, Passes, WriteFailed}
+use Rattle.mpc_cli.specs.Faults.{Reaches, PassesTests, WriteFailed}
 use Rattle.mpc_cli.proofs.Lifting.{weaker, some_contents, usage_answer, generate_answer, solve_answer, loop_answer, demo_answer, usage_prints, generate_prints, loop_prints, demo_prints}
 
 module _ (words : List (List ℕ)) (held : Option Files) (s : Status) where
@@ -53,28 +53,28 @@ module _ (words : List (List ℕ)) (held : Option Files) (s : Status) where
   -- ---- faults of writing and printing
   module _ (wb wn : List ℕ → ℕ) (pb pn : ℕ) where
     abbrev pub Written : Type 0
-    Written = (file : ℕ) → s ≡ WriteFault file → ForContents words held (λ k. Passes words k) × WriteFailed words file wb wn pb pn
+    Written = (file : ℕ) → s ≡ WriteFault file → ForContents words held (λ k. PassesTests words k) × WriteFailed words file wb wn pb pn
 
     pub generate_written : IsGenerate words →
         ((file : ℕ) → s ≡ WriteFault file → ((file ≡ 3) ⊎ (file ≡ 4)) × ForContents words held (λ k. GenerateCalls k.first k.second Done) × Rose (wb (word_of words file)) (wn (word_of words file))) → Written
     generate_written is h file fault =
         let f = h file fault in
-        (weaker words held _ (λ k. Passes words k) (λ k calls. inl (is, calls)) f.1, inr ((is, f.0), f.2))
+        (weaker words held _ (λ k. PassesTests words k) (λ k calls. inl (is, calls)) f.1, inr ((is, f.0), f.2))
 
     pub solve_written : IsSolve words → ((file : ℕ) → s ≡ WriteFault file → (file ≡ 0) × ForContents words held (λ k. SolveCalls k.first k.second Done) × Rose pb pn) → Written
     solve_written is h file fault =
         let f = h file fault in
-        (weaker words held _ (λ k. Passes words k) (λ k calls. inr (inl (is, calls))) f.1, inl (f.0, inl is, f.2))
+        (weaker words held _ (λ k. PassesTests words k) (λ k calls. inr (inl (is, calls))) f.1, inl (f.0, inl is, f.2))
 
     pub loop_written : (turns : ℕ) → IsLoop words turns → ((file : ℕ) → s ≡ WriteFault file → (file ≡ 0) × ForContents words held (λ k. LoopStarts k) × Rose pb pn) → Written
     loop_written turns is h file fault =
         let f = h file fault in
-        (weaker words held _ (λ k. Passes words k) (λ k starts. inr (inr (inl (turns, is, starts)))) f.1, inl (f.0, inr (inl (turns, is)), f.2))
+        (weaker words held _ (λ k. PassesTests words k) (λ k starts. inr (inr (inl (turns, is, starts)))) f.1, inl (f.0, inr (inl (turns, is)), f.2))
 
     pub demo_written : (number : ℕ) → IsDemo words number → ((file : ℕ) → s ≡ WriteFault file → (file ≡ 0) × DemoCalls number Done × Rose pb pn) → Written
     demo_written number is h file fault =
         let f = h file fault in
-        (some_contents words held (λ k. Passes words k) (λ k. inr (inr (inr (number, is, f.1)))), inl (f.0, inr (inr (number, is)), f.2))
+        (some_contents words held (λ k. PassesTests words k) (λ k. inr (inr (inr (number, is, f.1)))), inl (f.0, inr (inr (number, is)), f.2))
 
   -- ---- what is printed
   abbrev pub Printed : Option (List ℕ) → Option (List ℕ) → Type 0

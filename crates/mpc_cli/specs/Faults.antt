@@ -34,8 +34,8 @@ Reaches words contents file =
     ((turns : ℕ) × IsLoop words turns × LoopReaches contents.first contents.second file))
 
 -- something is written or printed, where the files hold this: all tests before it are passed
-abbrev pub Passes : List (List ℕ) → Contents → Type 0
-Passes words contents =
+abbrev pub PassesTests : List (List ℕ) → Contents → Type 0
+PassesTests words contents =
     (IsGenerate words × GenerateCalls contents.first contents.second Done) ⊎
     ((IsSolve words × SolveCalls contents.first contents.second Done) ⊎
     (((turns : ℕ) × IsLoop words turns × LoopStarts contents) ⊎

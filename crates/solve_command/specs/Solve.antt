@@ -3,7 +3,7 @@ use Rattle.std.specs.Prelude.{◌≡◌, ◌≢◌, ◌⊎◌, ℕ, ◌≤◌, L
 use Rattle.io_edge.specs.Faults.{GrowsByPart}
 use Rattle.mat_int.specs.Matrix.{Matrix}
 use Rattle.qp_model.specs.Controller.{Numbers}
-use Rattle.command_line.specs.Answers.{Contents, Holds}
+use Rattle.command_line.specs.Answers.{Contents, FileHolds}
 use Rattle.command_files.specs.Texts.{ControllerRight, StatesRight}
 use Rattle.command_files.specs.Reading.{ReadsController, ReadsStates}
 pub use Rattle.solve_command.specs.Inside.{AreInside}
@@ -18,14 +18,14 @@ SolveCalls controller states s = ReadsController 1 controller (λ c. ReadsStates
 
 -- two files hold a controller and states that all lie in its box
 pub record HoldsRuns (controller states : Option (List ℕ)) (c : Numbers) (m : Matrix) : Type 0 where
-  pub controller_right : Holds (ControllerRight c) controller
-  pub states_right : Holds (StatesRight c.states m) states
+  pub controller_right : FileHolds (ControllerRight c) controller
+  pub states_right : FileHolds (StatesRight c.states m) states
   pub inside : AreInside c m (length m.rows)
 
 -- ---- faults
 -- the file at this position is read: the first, and the second where the first holds a controller
 abbrev pub SolveReaches : (controller : Option (List ℕ)) → ℕ → Type 0
-SolveReaches controller file = (file ≡ 1) ⊎ ((file ≡ 2) × (c : Numbers) × Holds (ControllerRight c) controller)
+SolveReaches controller file = (file ≡ 1) ⊎ ((file ≡ 2) × (c : Numbers) × FileHolds (ControllerRight c) controller)
 
 -- ---- what is printed
 -- the lines of all states
