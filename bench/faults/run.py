@@ -104,11 +104,11 @@ class Command:
 
 
 def commands(executable):
-    axis = example("axis", "design.toml"), example("axis", "policy.csv")
+    motor = example("motor", "design.toml"), example("motor", "policy.csv")
     yield Command(executable, "generate", ["generate", "d", "p", "c", "r"], FIRST)
     yield Command(executable, "generate, JSON", ["generate", "d", "p", "c", "r.json"], FIRST)
     yield Command(executable, "generate, two inputs", ["generate", "d", "p", "c", "r"], MADE)
-    yield Command(executable, "generate, an axis", ["generate", "d", "p", "c", "r"], dict(zip("dp", axis)))
+    yield Command(executable, "generate, a motor", ["generate", "d", "p", "c", "r"], dict(zip("dp", motor)))
     yield Command(executable, "solve", ["solve", "k", "s"], FIRST)
     yield Command(executable, "loop", ["loop", "d", "k", "s", "4"], FIRST)
     yield Command(executable, "demo", ["demo", "7"], {})
