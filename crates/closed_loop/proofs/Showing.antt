@@ -1,5 +1,5 @@
 -- What the turns of a loop put and show.
-use Rattle.std.proofs.Common.{◌≡◌, ◌⊎◌, inl, inr, ℕ, ◌+◌, ◌-◌, ◌<◌, ◌≤◌, ℤ, List, [], ◌++◌, Option, Some, None, option_map, Result, Ok, Err, IfErr, IsErrAnd, OnOk, IfSome, IsSomeAnd, arith, ap, sym, subst, refl, ◌∙◌, add-one, append_assoc}
+use Rattle.std.proofs.Common.{◌≡◌, ◌⊎◌, inl, inr, ℕ, ◌+◌, ◌-◌, ◌<◌, ◌≤◌, ℤ, List, [], ◌++◌, Option, Some, None, option_map, Result, Ok, Err, IfErr, IsErrAnd, IsOk, OnOk, IfSome, IsSomeAnd, arith, ap, sym, subst, refl, ◌∙◌, add-one, append_assoc}
 use Rattle.std.proofs.lemmas.Bool.{cases_lt}
 use Rattle.std.proofs.lemmas.List.{append-nil}
 use Rattle.io_edge.specs.Faults.{Rose, GrowsByPart}
@@ -153,3 +153,13 @@ leaves d c entry start turns first new before now (Err (TooWide quantity)) s e t
 leaves d c entry start turns first new before now (Err (OutsideBox t i)) s e turn coordinate l =
     inl (rw (turn_one d c start turns t i turn coordinate e.0 l, first_one d c start turns t i turn coordinate e.0 l) refl)
 leaves d c entry start turns first new before now (Err WriteFault) s e turn coordinate l = inr (inr refl)
+
+-- and where none does and the sink's count didn't rise
+pub stays : (d : Design) (c : Numbers) (entry : ℕ) (start : List ℤ) (turns : ℕ) (first new : Option (List ℕ)) (before now : ℕ) (r : Result (Unit {0}) LoopFault) →
+    IfErr r (LoopShows d c entry start turns first new before now) → StaysInside d c start turns → (Rose before now → ⊥) → IsOk r ⊎ (r ≡ Err Memory)
+stays d c entry start turns first new before now (Ok done) e s none = inl refl
+stays d c entry start turns first new before now (Err Memory) e s none = inr refl
+stays d c entry start turns first new before now (Err (TooWide quantity)) e s none = absurd e
+stays d c entry start turns first new before now (Err (OutsideBox t i)) e s none =
+    absurd (not_inside c (state_after d c start e.0.gone) i e.0.outside (s.each e.0.gone (omega (arith, e.0.is, e.0.within))))
+stays d c entry start turns first new before now (Err WriteFault) e s none = absurd (none e.1)

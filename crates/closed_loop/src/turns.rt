@@ -1,5 +1,5 @@
 // A closed loop, turn by turn.
-ghost use Rattle.std.specs.Prelude.{◌≡◌, ℕ, ◌≤◌, ◌<◌, ◌-◌, ◌^◌, ◌↔◌, ◌⊎◌, ◌++◌, length, Err, option_map, OnOk, IfErr, IfSome, IsSomeAnd};
+ghost use Rattle.std.specs.Prelude.{◌≡◌, ℕ, ◌≤◌, ◌<◌, ◌-◌, ◌^◌, ◌↔◌, ◌⊎◌, ◌++◌, length, Err, option_map, OnOk, IsOk, IfErr, IfSome, IsSomeAnd};
 ghost use Rattle.io_edge.specs.Faults.{Rose};
 ghost use Rattle.qp_model.specs.Machine.{IsAdmissible};
 ghost use Rattle.qp_model.specs.Parts.{design_of};
@@ -109,6 +109,9 @@ pub fn run_loop<O: Sink>(
         O.got out.new ≡ option_map (λ old. old ++ loop_text (design_of design.now.parts) k.old.controller entry start.now (turn - 1)) (O.got out.old) }
     ensures leaves { (turn coordinate : ℕ) → LeavesAt (design_of design.now.parts) k.old.controller start.now turns turn coordinate →
         turn_size (design_of design.now.parts) k.old.controller ≤ 2 ^ 126 → (result ≡ Err (LoopFault.OutsideBox turn coordinate)) ⊎ (result ≡ Err LoopFault.Memory) ⊎ (result ≡ Err LoopFault.WriteFault) }
+    // It doesn't give up.
+    ensures stays { StaysInside (design_of design.now.parts) k.old.controller start.now turns → turn_size (design_of design.now.parts) k.old.controller ≤ 2 ^ 126
+        → ¬ Rose (O.faults out.old) (O.faults out.new) → IsOk result ⊎ (result ≡ Err LoopFault.Memory) }
     // A fault of the sink.
     ensures failed { result ≡ Err LoopFault.WriteFault → Rose (O.faults out.old) (O.faults out.new) }
     ensures cut { result ≡ Err LoopFault.WriteFault → IfSome (O.got out.old) (λ old.

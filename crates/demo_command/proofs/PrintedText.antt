@@ -1,5 +1,5 @@
 -- The report and the lines, printed one after the other.
-use Rattle.std.proofs.Common.{◌≡◌, ◌≢◌, ◌⊎◌, inl, inr, ℕ, suc, ◌<◌, ℤ, pos, List, [], ◌∷◌, ◌++◌, length, take, Option, Some, None, option_map, refl, sym, ap, subst, ◌∙◌, arith, append_assoc, length-append}
+use Rattle.std.proofs.Common.{◌≡◌, ◌⊎◌, inl, inr, ℕ, ◌<◌, ℤ, pos, List, [], ◌∷◌, ◌++◌, length, Option, Some, None, option_map, refl, sym, ap, subst, ◌∙◌, arith, append_assoc, length-append}
 use Rattle.std.specs.Prelude.{IfSome, IsSomeAnd}
 use Rattle.std.specs.List.{flat_map}
 use Rattle.std.proofs.Math.Seq.{take-length}
@@ -13,7 +13,7 @@ use Rattle.qp_model.specs.declared.bounds.Bounds.{Bounds}
 use Rattle.bound_report.specs.Report.{report_text}
 use Rattle.solve_command.specs.Lines.{plan_lines}
 use Rattle.solve_command.specs.Printing.{ArePrinted, AreFirstLines}
-use Rattle.demo_command.specs.Demo.{IsShown, demo_text, IsPrefixShown, IsTextPrinted, PrintsOf, DemoPrints}
+use Rattle.demo_command.specs.Demo.{IsShown, IsPrefixShown, IsTextPrinted, PrintsOf, DemoPrints}
 use Rattle.command_line.specs.declared.status.Status.{Status}
 use Rattle.command_line.specs.declared.status.Status.TheVariants.{Done, Memory, WriteFault}
 

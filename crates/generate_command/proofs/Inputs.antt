@@ -1,5 +1,5 @@
 -- The answer that the contents of a design's and a policy's file call for.
-use Rattle.std.proofs.Common.{◌≡◌, ◌⊎◌, inl, inr, ℕ, ◌≤◌, List, Option, ap, refl, sym, subst, unsigned_abs}
+use Rattle.std.proofs.Common.{◌≡◌, ◌⊎◌, inl, inr, ℕ, List, Option, ap, sym, subst, unsigned_abs}
 use Rattle.io_edge.specs.Faults.{Files, Rose, NoneFalls}
 use Rattle.qp_model.specs.Design.{Design}
 use Rattle.qp_model.specs.Policy.{Plans}

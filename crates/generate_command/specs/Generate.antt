@@ -1,5 +1,5 @@
 -- What `generate` is called to answer by what its first two files hold, and what it leaves in the store.
-use Rattle.std.specs.Prelude.{◌≡◌, ◌≢◌, ◌⊎◌, ℕ, List, Option, Some, IsSomeAnd, ◌++◌, codes}
+use Rattle.std.specs.Prelude.{◌≡◌, ◌≢◌, ◌⊎◌, ℕ, List, Option, Some, IsSomeAnd}
 use Rattle.io_edge.specs.Faults.{Files, IsCutShort, IsProperPrefix}
 use Rattle.qp_model.specs.Policy.{Plans}
 use Rattle.qp_model.specs.Parts.{design_of}
@@ -10,13 +10,12 @@ use Rattle.qp_model.specs.declared.design_parts.DesignParts.{DesignParts}
 use Rattle.qp_model.specs.declared.bounds.Bounds.{Bounds}
 use Rattle.design_engine.specs.Targets.{targets_of, IsWithinTargets}
 use Rattle.design_engine.specs.Built.{IsBuilt}
-use Rattle.command_line.specs.Words.{word_of, IsJson}
-use Rattle.command_line.specs.Answers.{Contents, FileHolds}
+use Rattle.command_line.specs.Words.{word_of}
+use Rattle.command_line.specs.Answers.{FileHolds}
 use Rattle.command_files.specs.Texts.{DesignRight, PolicyRight}
 use Rattle.command_files.specs.Reading.{ReadsDesign, ReadsPolicy}
 use Rattle.generate_command.specs.Made.{MakingCalls, IsReport}
 use Rattle.command_line.specs.declared.status.Status.{Status}
-use Rattle.command_line.specs.declared.status.Status.TheVariants.{Done}
 
 -- what the contents of a design's and a policy's file call for
 abbrev pub GenerateCalls : (design policy : Option (List ℕ)) → Status → Type 0

@@ -1,5 +1,5 @@
 -- The two texts and how they are written, on the way.
-use Rattle.std.specs.Prelude.{◌≡◌, ℕ, List, Option}
+use Rattle.std.specs.Prelude.{ℕ, List, Option}
 use Rattle.io_edge.specs.Faults.{Files, Rose, IsWritten, IsCutShort}
 use Rattle.qp_model.specs.Parts.{design_of}
 use Rattle.qp_model.specs.Policy.{Plans}

@@ -7,3 +7,6 @@ mod texts;
 
 pub use command::generate;
 pub use made::make_controller;
+
+#[cfg(test)]
+mod tests;

@@ -30,7 +30,7 @@ module _ (words : List (List ℕ)) (held : Option Files) (before now : List ℕ 
   not_done (inr (inl fault)) is = let e = fault.is in cc
   not_done (inr (inr refused)) is = refused.done is
 
-  pub no_write : EndsLoops words held before now s → (file : ℕ) → s ≢ WriteFault file
+  no_write : EndsLoops words held before now s → (file : ℕ) → s ≢ WriteFault file
   no_write (inl memory) file is = cc
   no_write (inr (inl fault)) file is = let e = fault.is in cc
   no_write (inr (inr refused)) file is = refused.write file is
@@ -81,13 +81,6 @@ module _ (words : List (List ℕ)) (held : Option Files) (p : DesignParts) (c : 
   loops_called turns s (inl memory) caused = absurd (caused.memory memory)
   loops_called turns s (inr (inl cut)) caused = absurd (caused.write 0 cut.0)
   loops_called turns s (inr (inr call)) caused = with_all (λ k. IsAnswer (LoopCalls k.first k.second k.third turns) s) (one_answer turns s call)
-
-  pub loops_no_fault : (turns : ℕ) (s : Status) → LoopsEnd (design_of p) c turns m s → (file : ℕ) → s ≢ ReadFault file
-  loops_no_fault turns s (inl memory) file is = cc
-  loops_no_fault turns s (inr (inl cut)) file is = let e = cut.0 in cc
-  loops_no_fault turns s (inr (inr (inl wide))) file is = let e = wide.is in cc
-  loops_no_fault turns s (inr (inr (inr (inl leaving)))) file is = let e = leaving.1.is in cc
-  loops_no_fault turns s (inr (inr (inr (inr done)))) file is = let e = done.0 in cc
 
   started : (turns : ℕ) (s : Status) → LoopsEnd (design_of p) c turns m s → (file : ℕ) → s ≡ WriteFault file → (file ≡ 0) × FitsTurn (design_of p) c m × (0 < length m.rows)
   started turns s (inl memory) file is = absurd (let never : ⊥ = cc in never)

@@ -7,3 +7,6 @@ mod mismatch;
 mod records;
 
 pub use command::run_loops;
+
+#[cfg(test)]
+mod tests;

@@ -29,10 +29,10 @@ one_coordinate : (c : Numbers) (xi : List ℤ) (j k : ℕ) → IsFirstOutside c 
 one_coordinate c xi j k first other = one j k (not_before c xi j k first other) (not_before c xi k j other first)
 
 -- a state of those that are to lie inside
-pub not_inside : (c : Numbers) (states : Matrix) (s : Status) (k : ℕ) (out : IsOutside c states s) → out.index < k → AreInside c states k → ⊥
+not_inside : (c : Numbers) (states : Matrix) (s : Status) (k : ℕ) (out : IsOutside c states s) → out.index < k → AreInside c states k → ⊥
 not_inside c states s k out lt inside = no_grid_state c (row_of states out.index) out.coordinate out.here (inside out.index lt)
 
-pub one_outside : (c : Numbers) (states : Matrix) (t s : Status) → IsOutside c states t → IsOutside c states s → t ≡ s
+one_outside : (c : Numbers) (states : Matrix) (t s : Status) → IsOutside c states t → IsOutside c states s → t ≡ s
 one_outside c states t s out other =
     let same = one out.index other.index (λ lt. not_inside c states t other.index out lt other.before) (λ lt. not_inside c states s out.index other lt out.before) in
     let moved = subst (λ (i : ℕ). IsFirstOutside c (row_of states i) out.coordinate) same out.here in

@@ -47,9 +47,6 @@ module _ (words : List (List ℕ)) (held : Option Files) (before now : ℕ) (s :
       stopped words held got s (not_done 1 (ControllerWrong 1) ControllerRight held (word_of words 1) before now s (controller_refused 1) ends)
       (no_write 1 (ControllerWrong 1) ControllerRight held (word_of words 1) before now s (controller_refused 1) ends)
 
-  pub first_no_write : (file : ℕ) → s ≢ WriteFault file
-  first_no_write = no_write 1 (ControllerWrong 1) ControllerRight held (word_of words 1) before now s (controller_refused 1) ends
-
   reaches : (file : ℕ) → file ≡ 1 → ForContents words held (λ k. SolveReaches k.first file)
   reaches file is =
       for_contents words held (λ k. SolveReaches k.first file) (told_at held (word_of words 1)) (told_at held (word_of words 2)) (told_at held (word_of words 3))
@@ -77,9 +74,6 @@ module _ (words : List (List ℕ)) (held : Option Files) (c : Numbers) (first : 
       stopped words held got s (not_done 2 (StatesWrong c.states 2) (StatesRight c.states) held (word_of words 2) before now s (states_refused c.states 2) ends)
       (no_write 2 (StatesWrong c.states 2) (StatesRight c.states) held (word_of words 2) before now s (states_refused c.states 2) ends)
 
-  pub second_no_write : (before now : ℕ) (s : Status) → EndsStates c.states 2 held (word_of words 2) before now s → (file : ℕ) → s ≢ WriteFault file
-  second_no_write before now s ends = no_write 2 (StatesWrong c.states 2) (StatesRight c.states) held (word_of words 2) before now s (states_refused c.states 2) ends
-
   pub second_fault : (before mid now : List ℕ → ℕ) (s : Status) → EndsStates c.states 2 held (word_of words 2) (mid (word_of words 2)) (now (word_of words 2)) s → NoneFalls before mid → NoneFalls mid now →
       (file : ℕ) → s ≡ ReadFault file → ForContents words held (λ k. SolveReaches k.first file) × Rose (before (word_of words file)) (now (word_of words file))
   second_fault before mid now s ends low high file is = (
@@ -105,12 +99,6 @@ module _ (words : List (List ℕ)) (held : Option Files) (c : Numbers) (first : 
     runs_called s (inl memory) caused = absurd (caused.memory memory)
     runs_called s (inr (inl cut)) caused = absurd (caused.write 0 cut.0)
     runs_called s (inr (inr call)) caused = with_both (λ k. IsAnswer (SolveCalls k.first k.second) s) (one_answer s call)
-
-    pub runs_no_fault : (s : Status) → RunsEnd c m s → (file : ℕ) → s ≢ ReadFault file
-    runs_no_fault s (inl memory) file is = cc
-    runs_no_fault s (inr (inl cut)) file is = let failed = cut.0 in cc
-    runs_no_fault s (inr (inr (inl out))) file is = let told = out.is in cc
-    runs_no_fault s (inr (inr (inr all))) file is = let done = all.0 in cc
 
     holds : AreInside c m (length m.rows) → HoldsRuns first.content second.content c m
     holds all = record { controller_right = first.right; states_right = second.right; inside = all }

@@ -7,3 +7,6 @@ mod runs;
 
 pub use command::solve;
 pub use lines::print_lines;
+
+#[cfg(test)]
+mod tests;

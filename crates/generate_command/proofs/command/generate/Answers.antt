@@ -1,4 +1,4 @@
-use Rattle.std.proofs.Common.{◌≡◌, sym, subst}
+use Rattle.std.proofs.Common.{sym, subst}
 use Rattle.io_edge.specs.Faults.{IsCutShort}
 use Rattle.command_line.specs.Words.{word_of}
 use Rattle.command_line.specs.declared.status.Status.{Status}
