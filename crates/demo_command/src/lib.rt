@@ -6,3 +6,6 @@ mod inputs;
 mod printing;
 
 pub use command::demo;
+
+#[cfg(test)]
+mod tests;
