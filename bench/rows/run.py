@@ -189,6 +189,20 @@ def rows():
     for turns, out in (("0", ""), ("1", "1 1 1 4096 -2224\n"), ("3", "1 1 1 4096 -2224\n1 2 0 4096 0\n1 3 0 4096 0\n")):
         yield f"loop of {turns} turns", put([*loop, turns], files, out)
     yield "a loop that leaves the box", ([*loop, "5"], {**files, "d": sub(BASE, ("a = [[1]]", "a = [[3]]"))}, 12, "1 1 1 4096 -2224\n", "error 12 outside-box 1 2 1\n", {}, {})
+    plant = lambda den, a, b: sub(BASE, ("den = 1\na = [[1]]\nb = [[1]]", f"den = {den}\na = [[{a}]]\nb = [[{b}]]"))
+    for what, design, out in (("a tie, upward", plant(2, 1, 0), "1 1 1 4096 -2224\n1 2 1 4096 -2224\n"), ("a tie below 0, upward", plant(2, -1, 0), "1 1 1 4096 -2224\n1 2 0 4096 0\n"),
+                              ("a state rounded from below 0", plant(1, 1, 2), "1 1 1 4096 -2224\n1 2 0 4096 0\n")):
+        yield f"the next state: {what}", put([*loop, "2"], {**files, "d": design}, out)
+    second = sub(BASE, ("states = 1", "states = 2"), ("a = [[1]]\nb = [[1]]", "a = [[1, 0], [0, 2]]\nb = [[1], [0]]"), ("stage = [[1, 0, 1]]", "stage = [[1, 0, 0, 1]]"), (
+        LIMITS, "den = 4\nstage = [[0, 0, 4, 4], [0, 0, -4, 4]]\nfinal = [[4, 0, 1]]\n"), ("lo = [0]\nhi = [1]", "lo = [0, 0]\nhi = [1, 3]"))
+    looking_at_one = sub(FIRST, ("size 1 1 1 3", "size 2 1 1 3"), ("words 6", "words 7"), ("lo 0\nhi 1\nP 512\n", "lo 0 0\nhi 1 3\nP 512 0\n"), ("E 0\nE 0\nE 1024\n", "E 0 0\nE 0 0\nE 1024 0\n"))
+    for what, state, tail, out in (("from a state of the box", "1,1", "1 3 2", "1 1 1 1 4096 -2224\n1 2 0 2 4096 0\n"), ("at its start", "0,4", "1 1 2", ""), ("both at its start", "2,4", "1 1 1", "")):
+        yield f"a coordinate leaves {what}", ([*loop, "9"], {"d": second, "c": looking_at_one, "s": state}, 12, out, f"error 12 outside-box {tail}\n", {}, {})
+    far = "mpc-controller 1\nsize 1 1 1 1\nbits 0 0 0 128\nsteps 1\nclamp 0\nwords 4\nlo 0\nhi 1\nP 0\nT 42535295865117307932921825928971026431\nW 0\nG 0\nE 0\nb 0\nend\n"
+    yield "turn at its limit", put([*loop, "1"], {"d": plant(2, 0, 1), "c": far, "s": "0"}, "1 1 0 1 -42535295865117307932921825928971026431\n")
+    for state, turns in (("0", "1"), ("2", "1"), ("0", "0")):
+        yield f"turn above its limit, {turns} turns from {state}", refused([*loop, turns], {"d": plant(3, 0, 1), "c": far, "s": state}, 10, "too-wide turn")
+    yield "turn above its limit, no record", put([*loop, "1"], {"d": plant(3, 0, 1), "c": far, "s": ""}, "")
     yield "a loop of two sizes", refused([*loop, "1"], {**files, "d": AXIS}, 14, "mismatch states 2 1")
     for words in ([], ["solve", "c"], ["generate", "d", "p", "c", "c"], ["generate", "d", "p", "d", "r"], [*loop, "01"], [*loop, "1000001"], ["demo", "-1"], ["demo", "4294967296"], ["frob"]):
         yield f"usage: {words}", refused(words, {**base, **files}, 2, "usage")

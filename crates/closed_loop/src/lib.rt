@@ -11,6 +11,3 @@ pub use fault::LoopFault;
 pub use size::turn_size;
 pub use successor::next_state;
 pub use turns::run_loop;
-
-#[cfg(test)]
-mod tests;
