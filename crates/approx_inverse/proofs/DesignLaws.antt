@@ -15,7 +15,8 @@ use Rattle.qp_model.specs.Parts.{IsDesign, design_of}
 use Rattle.qp_model.specs.Range.{IsPositive}
 use Rattle.qp_model.specs.GoodSolution.{IsGood}
 use Rattle.qp_model.specs.Condensing.{condensed_of}
-use Rattle.qp_model.specs.Columns.{columns, column_bound, solve_matrix, solve_column, solve_floor, input_floor, least, descent_size}
+use Rattle.qp_model.specs.Columns.{columns, column_bound, solve_matrix, solve_column, solve_floor, descent_size}
+use Rattle.qp_model.specs.Quantities.{input_floor, least}
 use Rattle.qp_model.proofs.RowLaws.{plan_number}
 use Rattle.plant_condense.specs.Form as form
 use Rattle.plant_condense.specs.Form.{IsFormOf, IsLeastInput, response_scale}

@@ -6,7 +6,7 @@ use Rattle.integer_algebra.specs.Division.{round_of}
 use Rattle.mat_int.specs.Matrix.{Matrix, row_of, entry_of}
 use Rattle.qp_model.specs.Design.{Design, entries, rows}
 use Rattle.qp_model.specs.Parts.{design_of}
-use Rattle.qp_model.specs.Columns.{rows_scale}
+use Rattle.qp_model.specs.Form.{rows_scale}
 use Rattle.qp_model.specs.Condensing.{condensed_of}
 use Rattle.qp_model.specs.Choices.{multiplier_of, step_count, violation_bound, undercut_bound}
 use Rattle.qp_model.specs.Errors.{error_sums_of}

@@ -11,7 +11,7 @@ use Rattle.integer_algebra.specs.Sums.{at}
 use Rattle.integer_algebra.specs.Division.{round_of}
 use Rattle.mat_int.specs.Matrix.{Matrix, entry_of, HasEntries}
 use Rattle.qp_model.specs.Design.{entries, rows}
-use Rattle.qp_model.specs.Columns.{rows_scale}
+use Rattle.qp_model.specs.Form.{rows_scale}
 use Rattle.qp_model.specs.Parts.{design_of}
 use Rattle.qp_model.specs.Quantities.{limit_entry_size}
 use Rattle.qp_model.specs.Runs.{Holds}

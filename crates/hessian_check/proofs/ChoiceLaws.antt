@@ -12,7 +12,7 @@ use Rattle.std.proofs.lemmas.Bool.{cases_lt, le-leb}
 use Rattle.std.proofs.lemmas.Bool.Decides.{leb_tells}
 use Rattle.std.proofs.Math.Nat.{mul-le-mul_left, one-le-mul, pow-suc}
 use Rattle.integer_algebra.proofs.PowerLaws.{pow_positive}
-use Rattle.qp_model.specs.Columns.{input_floor}
+use Rattle.qp_model.specs.Quantities.{input_floor}
 
 pub either_made : (n : ℕ) (m : ℕ → ℕ → ℕ → ℤ) (o squares : Option ℕ) (s1 : ℕ) → option_or o squares ≡ Some s1 →
     IsLeastBelow (unwrap_or squares 40 + 1) (λ s. IsDominant n (m s)) o → IsEither n m squares s1

@@ -14,7 +14,7 @@ use Rattle.integer_algebra.proofs.VectorLaws.{dot_same, image_none, quadratic_sc
 use Rattle.qp_model.specs.Design.{Design, CostRow, entries, rows}
 use Rattle.qp_model.specs.Condensed.{Condensed, IsCondensed}
 use Rattle.qp_model.specs.Condensing.{condensed_of, over_costs, cost_plan, own_input}
-use Rattle.qp_model.specs.Columns.{input_floor}
+use Rattle.qp_model.specs.Quantities.{input_floor}
 use Rattle.qp_model.specs.Cost.{cost_scale}
 use Rattle.qp_model.specs.CurvatureSize.{CoversSquares, limit_squares, floor_times}
 use Rattle.qp_model.specs.Curvature as design

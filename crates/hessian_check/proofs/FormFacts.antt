@@ -16,10 +16,9 @@ use Rattle.qp_model.specs.Design.{Design, entries, rows}
 use Rattle.qp_model.specs.Condensed as form
 use Rattle.qp_model.specs.Condensed.{IsCondensed}
 use Rattle.qp_model.specs.Condensing.{condensed_of}
-use Rattle.qp_model.specs.Columns.{input_floor}
+use Rattle.qp_model.specs.Quantities.{input_floor, growth, cost_width, weight_sum, prediction_size, cost_entry_size, limit_entry_size, hessian_size, rows_size}
 use Rattle.qp_model.specs.CurvatureSize.{CoversSquares, limit_squares, floor_times}
 use Rattle.qp_model.specs.Parts.{IsDesign, design_of}
-use Rattle.qp_model.specs.Quantities.{growth, cost_width, weight_sum, prediction_size, cost_entry_size, limit_entry_size, hessian_size, rows_size}
 use Rattle.qp_model.specs.Range.{IsDenominator}
 use Rattle.qp_model.proofs.CostLaws.{condensing}
 use Rattle.plant_condense.specs.declared.condensed.Condensed.{Condensed}

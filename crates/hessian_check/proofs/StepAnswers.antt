@@ -3,12 +3,11 @@ use Rattle.std.proofs.Common.{◌≡◌, inl, inr, ℕ, ◌+◌, ◌*◌, ◌<�
 use Rattle.std.specs.Prelude.{Result, Ok, Err, IfOk, IsOk, unwrap_or}
 use Rattle.std.proofs.Math.Nat.{mul-le-mul_right, pow-le-pow_right}
 use Rattle.qp_model.specs.declared.design_parts.DesignParts.{DesignParts}
-use Rattle.qp_model.specs.Columns.{input_floor}
+use Rattle.qp_model.specs.Quantities.{input_floor, hessian_size, rows_size}
 use Rattle.qp_model.specs.Curvature.{IsExponent}
 use Rattle.qp_model.specs.CurvatureSize.{CoversSquares, curvature_of, curvature_size}
 use Rattle.qp_model.specs.Design.{Design, entries}
 use Rattle.qp_model.specs.Parts.{IsDesign, design_of}
-use Rattle.qp_model.specs.Quantities.{hessian_size, rows_size}
 use Rattle.hessian_check.specs.declared.fault.CurvatureFault.{CurvatureFault}
 use Rattle.hessian_check.specs.declared.fault.CurvatureFault.TheVariants.{Memory, TooWide, NoStep}
 use Rattle.hessian_check.specs.declared.fault.StepExponents.{StepExponents}

@@ -1,9 +1,8 @@
 -- The matrices of a design.
 use Rattle.std.specs.Prelude.{◌≡◌, ℕ, ◌≤◌, ◌^◌, length}
 use Rattle.qp_model.specs.Design.{Design, entries}
-use Rattle.qp_model.specs.Quantities.{hessian_size, rows_size}
+use Rattle.qp_model.specs.Quantities.{hessian_size, rows_size, input_floor}
 use Rattle.qp_model.specs.CurvatureSize.{curvature_of}
-use Rattle.qp_model.specs.Columns.{input_floor}
 use Rattle.hessian_check.specs.declared.matrices.StepMatrices.{StepMatrices}
 use Rattle.hessian_check.specs.declared.of_design.Scales.{Scales}
 use Rattle.hessian_check.specs.Curvature.{exponent_matrix}

@@ -7,7 +7,7 @@ use Rattle.integer_algebra.specs.Sums.{at}
 use Rattle.qp_model.specs.declared.design_parts.DesignParts.{DesignParts}
 use Rattle.qp_model.specs.Parts.{IsDesign, design_of}
 use Rattle.qp_model.specs.Range.{IsPositive}
-use Rattle.qp_model.specs.Columns.{input_floor, least}
+use Rattle.qp_model.specs.Quantities.{input_floor, least}
 use Rattle.qp_model.specs.Sound.{IsSound}
 
 -- the least of some numbers is at most each of them

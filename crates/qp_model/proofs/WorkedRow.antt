@@ -10,7 +10,7 @@ use Rattle.qp_model.specs.Residual.{residual, residual_scale, slack}
 use Rattle.qp_model.specs.Box.{corner}
 use Rattle.qp_model.specs.Condensed.{Condensed}
 use Rattle.qp_model.specs.Condensing.{condensed_of}
-use Rattle.qp_model.specs.Columns.{solve_column, solve_matrix, solve_floor, column_bound}
+use Rattle.qp_model.specs.Form.{form_of}
 use Rattle.qp_model.specs.Errors.{error_sums_of, plan_bound, residual_error, epsilon}
 use Rattle.qp_model.specs.Controller.{Numbers}
 use Rattle.qp_model.specs.Machine.{loaded, after, entry_sum, averaged_plan, average_denominator}
@@ -88,26 +88,26 @@ last_state = refl
 last_bound : (condensed_of base).bound 2 ≡ pos 1
 last_bound = refl
 
-floor : solve_floor base ≡ 8
+floor : (form_of base).floor ≡ pos 8
 floor = refl
 
 -- ---- errors, for multipliers up to 16
-first : (error_sums_of base 8).first ≡ 5408
+first : (error_sums_of base (form_of base) 8).first ≡ 5408
 first = refl
 
-lead : (error_sums_of base 8).lead ≡ 25
+lead : (error_sums_of base (form_of base) 8).lead ≡ 25
 lead = refl
 
-tail : (error_sums_of base 8).tail ≡ 200
+tail : (error_sums_of base (form_of base) 8).tail ≡ 200
 tail = refl
 
-plans : plan_bound (error_sums_of base 8) 10 ≡ 27
+plans : plan_bound (error_sums_of base (form_of base) 8) 10 ≡ 27
 plans = refl
 
-residuals : residual_error (error_sums_of base 8) 10 ≡ 31
+residuals : residual_error (error_sums_of base (form_of base) 8) 10 ≡ 31
 residuals = refl
 
-errors : epsilon (error_sums_of base 8) 10 ≡ 804534616064
+errors : epsilon (error_sums_of base (form_of base) 8) 10 ≡ 804534616064
 errors = refl
 
 -- ---- the controller and its machine

@@ -3,12 +3,13 @@ use Rattle.std.specs.Prelude.{◌≡◌, ℕ, ◌+◌, ◌-◌, ◌*◌, ◌^◌
 use Rattle.integer_algebra.specs.Sums.{at}
 use Rattle.integer_algebra.specs.Division.{round_of}
 use Rattle.mat_int.specs.Matrix.{entry_of}
-use Rattle.qp_model.specs.Design.{Design, entries, rows}
-use Rattle.qp_model.specs.Condensing.{condensed_of}
-use Rattle.qp_model.specs.Columns.{columns, rows_scale, solve_matrix, solve_column}
-use Rattle.qp_model.specs.Curvature.{IsExponent}
+use Rattle.qp_model.specs.Design.{Design, rows}
+use Rattle.qp_model.specs.Form.{Form}
+use Rattle.qp_model.specs.Columns.{columns, solve_matrix, solve_column}
+use Rattle.qp_model.specs.Curvature.{AreExponents}
 use Rattle.qp_model.specs.GoodSolution.{IsGood}
 use Rattle.qp_model.specs.Controller.{Numbers}
+use Rattle.qp_model.specs.Machine.{exponent_of}
 
 -- the gains of one system: column i of P, T, or a column of W
 abbrev pub gain_column : Numbers → ℕ → ℕ → ℤ
@@ -28,19 +29,19 @@ pub record HasSizesOf (d : Design) (c : Numbers) : Type 0 where
   pub high : (i : ℕ) → i < d.states → at c.high i ≡ d.high i
 
 -- its rows are the condensed rows times 2^fraction_bits, rounded to the nearest, and ties upward
-pub record HasRowsOf (d : Design) (c : Numbers) : Type 0 where
-  pub plan_rows : (i j : ℕ) → i < rows d → j < entries d →
-      entry_of c.plan_rows i j ≡ round_of (pos (2 ^ c.fraction_bits) *ℤ (condensed_of d).by_plan i j) (rows_scale d)
-  pub state_rows : (i j : ℕ) → i < rows d → j < d.states →
-      entry_of c.state_rows i j ≡ round_of (pos (2 ^ c.fraction_bits) *ℤ (condensed_of d).by_state i j) (rows_scale d)
-  pub bounds : (i : ℕ) → i < rows d →
-      at c.bounds i ≡ round_of (pos (2 ^ c.fraction_bits) *ℤ (condensed_of d).bound i) (rows_scale d)
+pub record HasRowsOf (h : Form) (c : Numbers) : Type 0 where
+  pub plan_rows : (i j : ℕ) → i < h.rows → j < h.entries →
+      entry_of c.plan_rows i j ≡ round_of (pos (2 ^ c.fraction_bits) *ℤ h.numbers.by_plan i j) h.rows_scale
+  pub state_rows : (i j : ℕ) → i < h.rows → j < h.states →
+      entry_of c.state_rows i j ≡ round_of (pos (2 ^ c.fraction_bits) *ℤ h.numbers.by_state i j) h.rows_scale
+  pub bounds : (i : ℕ) → i < h.rows →
+      at c.bounds i ≡ round_of (pos (2 ^ c.fraction_bits) *ℤ h.numbers.bound i) h.rows_scale
 
--- it is made for the design, with multipliers up to 2 r: its gains are good solutions, its rows the condensed rows, its step exponent a curvature
--- exponent
-pub record IsDerivedFrom (d : Design) (r : ℕ) (c : Numbers) : Type 0 where
+-- it is made for the design by a form of it, with multipliers up to 2 r: its gains are good solutions, its rows the condensed rows, its exponents
+-- curvature exponents
+pub record IsDerivedFrom (d : Design) (h : Form) (r : ℕ) (c : Numbers) : Type 0 where
   pub sizes : HasSizesOf d c
-  pub rows : HasRowsOf d c
-  pub gains : (i : ℕ) → i < columns d → IsGood (entries d) (solve_matrix d) c.fraction_bits (solve_column d i) (gain_column c i)
-  pub exponent : IsExponent d c.step_exponent
+  pub rows : HasRowsOf h c
+  pub gains : (i : ℕ) → i < columns h → IsGood h.entries (solve_matrix h) c.fraction_bits (solve_column h i) (gain_column c i)
+  pub exponents : AreExponents d (exponent_of c) c.step_exponent
   pub clamp : c.clamp ≡ pos (2 * r * 2 ^ (c.fraction_bits + c.step_exponent))

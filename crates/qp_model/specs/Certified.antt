@@ -29,10 +29,14 @@ pub record HasFeasible (d : Design) (xi : ℕ → ℤ) (q : ℤ) (u : ℕ → �
   pub feasible : IsFeasible d denominator xi plan
   pub cheap : CostsAtMost d xi denominator plan q u more
 
+-- by how much a plan may exceed row i, over 2^40, as the bounds print it: one number for all rows
+abbrev pub row_bound : Bounds → ℕ → ℤ
+row_bound b i = b.violation
+
 -- ---- what a plan u over q keeps at the state xi
--- it exceeds each row by at most excess / 2^40
-abbrev pub ExceedsNoRowBy : Design → (xi : ℕ → ℤ) → (q : ℤ) → (u : ℕ → ℤ) → (excess : ℤ) → Type 0
-ExceedsNoRowBy d xi q u excess = (i : ℕ) → i < rows d → ExceedsAtMost d xi q u i excess
+-- it exceeds each row i by at most (excess i) / 2^40
+abbrev pub ExceedsNoRowBy : Design → (xi : ℕ → ℤ) → (q : ℤ) → (u : ℕ → ℤ) → (excess : ℕ → ℤ) → Type 0
+ExceedsNoRowBy d xi q u excess = (i : ℕ) → i < rows d → ExceedsAtMost d xi q u i (excess i)
 
 -- it costs at most more / 2^40 more than any feasible plan
 abbrev pub CostsNoMoreThanFeasible : Design → (xi : ℕ → ℤ) → (q : ℤ) → (u : ℕ → ℤ) → (more : ℤ) → Type 0
@@ -40,7 +44,7 @@ CostsNoMoreThanFeasible d xi q u more = (r : ℤ) (t : ℕ → ℤ) → pos 0 <�
 
 -- the printed violation, gap and undercut hold of it
 pub record KeepsBounds (d : Design) (b : Bounds) (xi : ℕ → ℤ) (q : ℤ) (u : ℕ → ℤ) : Type 0 where
-  pub rows : ExceedsNoRowBy d xi q u b.violation
+  pub rows : ExceedsNoRowBy d xi q u (row_bound b)
   pub costs : CostsNoMoreThanFeasible d xi q u b.gap
   pub repair : HasFeasible d xi q u b.undercut
 

@@ -3,6 +3,7 @@ use Rattle.std.specs.Prelude.{◌≡◌, ℕ, ◌+◌, ◌-◌, ◌*◌, ◌^◌
 use Rattle.std.specs.Int.{w128}
 use Rattle.integer_algebra.specs.Sums.{at}
 use Rattle.mat_int.specs.Matrix.{Matrix}
+use Rattle.qp_model.specs.Limits.{most_states, most_inputs, most_stages, most_rows}
 use Rattle.qp_model.specs.Range.{LiesIn, IsNumerator}
 use Rattle.qp_model.specs.declared.controller_parts.ControllerParts.{ControllerParts}
 
@@ -55,6 +56,10 @@ numbers c = record {
   bounds = c.bound.items;
 }
 
+-- the version of a controller's text
+abbrev pub controller_version : Numbers → ℕ
+controller_version c = 1
+
 -- nu, the number of plan entries
 abbrev pub plan_length : Numbers → ℕ
 plan_length c = c.inputs * c.stages
@@ -78,10 +83,10 @@ pub record IsShaped (c : Numbers) : Type 0 where
 
 -- the shapes and ranges of a controller's numbers, but for the width
 pub record IsSized (c : Numbers) : Type 0 where
-  pub states : LiesIn 1 4 c.states
-  pub inputs : LiesIn 1 3 c.inputs
-  pub stages : LiesIn 1 20 c.stages
-  pub rows : LiesIn 1 252 c.rows
+  pub states : LiesIn 1 (most_states (controller_version c)) c.states
+  pub inputs : LiesIn 1 (most_inputs (controller_version c)) c.inputs
+  pub stages : LiesIn 1 (most_stages (controller_version c)) c.stages
+  pub rows : LiesIn 1 (most_rows (controller_version c)) c.rows
   pub grid_bits : c.grid_bits ≤ 24
   pub fraction_bits : LiesIn c.grid_bits 48 c.fraction_bits
   pub step_exponent : c.step_exponent ≤ 40

@@ -16,8 +16,13 @@ curvature d v = cost_by d (λ r. untargeted (d.stage_cost r)) (λ r. untargeted 
 abbrev pub row_change : Design → (ℕ → ℤ) → ℕ → ℤ
 row_change d v i = residual d (pos 1) none v i -ℤ residual d (pos 1) none none i
 
--- the sum over the rows of (c_i(0, v) - c_i(0, 0))^2 is at most 2^s Vq(v)
+-- the sum over the rows of 2^-s_i (c_i(0, v) - c_i(0, 0))^2 is at most Vq(v), times 2^most
+pub record AreExponents (d : Design) (s : ℕ → ℕ) (most : ℕ) : Type 0 where
+  pub bounded : (i : ℕ) → i < rows d → s i ≤ most
+  pub descent : (v : ℕ → ℤ) →
+      (pos (cost_scale d) *ℤ total (rows d) (λ i. pos (2 ^ (most - s i)) *ℤ square (row_change d v i))) ≤ℤ
+      (pos (2 ^ most * residual_scale d ^ 2) *ℤ curvature d v)
+
+-- one exponent for all rows
 abbrev pub IsExponent : Design → ℕ → Type 0
-IsExponent d s = (v : ℕ → ℤ) →
-    (pos (cost_scale d) *ℤ total (rows d) (λ i. square (row_change d v i))) ≤ℤ
-    (pos (2 ^ s * residual_scale d ^ 2) *ℤ curvature d v)
+IsExponent d s = AreExponents d (λ i. s) s

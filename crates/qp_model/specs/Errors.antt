@@ -1,47 +1,47 @@
--- The numbers of the rounding errors: how far a plan, a gradient and a residual of the machine may be from the true ones. R is a bound on
--- multipliers; the machine's multipliers go up to 2 R.
-use Rattle.std.specs.Prelude.{ℕ, ◌+◌, ◌*◌, ◌^◌, unsigned_abs}
+-- The numbers of the rounding errors: how far a plan, a gradient and a residual of the machine may be from the true ones, by the rounding of its
+-- numbers and by the radii of the condensed form that it is made of. R is a bound on multipliers; the machine's multipliers go up to 2 R.
+use Rattle.std.specs.Prelude.{ℕ, ◌+◌, ◌*◌, ◌^◌}
 use Rattle.integer_algebra.specs.Division.{ceil_div}
-use Rattle.integer_algebra.specs.Sizes.{size, amount}
+use Rattle.integer_algebra.specs.Sizes.{amount}
 use Rattle.qp_model.specs.Design.{Design, entries, rows}
-use Rattle.qp_model.specs.Condensing.{condensed_of}
+use Rattle.qp_model.specs.Form.{Form, farthest, hessian_radii, linear_radii, plan_radii, state_radii, column_radii}
 use Rattle.qp_model.specs.CornerSizes.{box_magnitude}
-use Rattle.qp_model.specs.Columns.{input_floor, hessian_scale, rows_scale}
+use Rattle.qp_model.specs.Quantities.{greatest, input_floor}
 
--- ---- sizes of a design's numbers, each rounded up to a whole number
+-- ---- sizes of a form's numbers, each at its farthest and the sum rounded up to a whole number
 -- how far a state of the box is from 0
 abbrev pub state_bound : Design → ℕ
 state_bound d = ceil_div (box_magnitude d) (2 ^ d.grid)
 
-abbrev pub linear_sum : Design → ℕ
-linear_sum d = ceil_div (amount (entries d) (λ j. size d.states ((condensed_of d).linear j))) (hessian_scale d)
+abbrev pub linear_sum : Form → ℕ
+linear_sum h = ceil_div (amount h.entries (λ j. amount h.states (λ i. farthest (h.numbers.linear j i) (h.linear_radius j i)))) h.hessian_scale
 
-abbrev pub constant_sum : Design → ℕ
-constant_sum d = ceil_div (size (entries d) (condensed_of d).constant) (hessian_scale d)
+abbrev pub constant_sum : Form → ℕ
+constant_sum h = ceil_div (amount h.entries (λ j. farthest (h.numbers.constant j) (h.constant_radius j))) h.hessian_scale
 
-abbrev pub plan_row_sum : Design → ℕ
-plan_row_sum d = ceil_div (amount (rows d) (λ i. size (entries d) ((condensed_of d).by_plan i))) (rows_scale d)
+abbrev pub plan_row_sum : Form → ℕ
+plan_row_sum h = ceil_div (amount h.rows (λ i. amount h.entries (λ j. farthest (h.numbers.by_plan i j) (h.plan_radius i j)))) h.rows_scale
 
-abbrev pub trace_sum : Design → ℕ
-trace_sum d = ceil_div (amount (entries d) (λ j. unsigned_abs ((condensed_of d).hessian j j))) (hessian_scale d)
+abbrev pub trace_sum : Form → ℕ
+trace_sum h = ceil_div (amount h.entries (λ j. farthest (h.numbers.hessian j j) (h.hessian_radius j j))) h.hessian_scale
 
 -- ---- errors
 -- what all states and multipliers, and the rounding of an entry, come to
 abbrev pub combined_bound : Design → ℕ → ℕ
 combined_bound d r = d.states * state_bound d + 1 + rows d * (2 * r)
 
--- each entry j of the gradient at a plan of the machine is at most 2^-f times this
-abbrev pub gradient_error : Design → ℕ → ℕ → ℕ
-gradient_error d r j =
-    ceil_div (unsigned_abs ((condensed_of d).hessian j j)) (2 * hessian_scale d) * combined_bound d r
-    + ceil_div (size (entries d) ((condensed_of d).hessian j)) (hessian_scale d)
+-- each entry j of the midpoints' gradient at a plan of the machine is at most 2^-f times this
+abbrev pub gradient_error : Design → Form → ℕ → ℕ → ℕ
+gradient_error d h r j =
+    ceil_div (farthest (h.numbers.hessian j j) (h.hessian_radius j j)) (2 * h.hessian_scale) * combined_bound d r
+    + ceil_div (amount h.entries (λ l. farthest (h.numbers.hessian j l) (h.hessian_radius j l))) h.hessian_scale
 
-abbrev pub gradient_squares : Design → ℕ → ℕ
-gradient_squares d r = amount (entries d) (λ j. gradient_error d r j ^ 2)
+abbrev pub gradient_squares : Design → Form → ℕ → ℕ
+gradient_squares d h r = amount h.entries (λ j. gradient_error d h r j ^ 2)
 
 -- what the states, the constant and the multipliers pull a plan by
-abbrev pub pull : Design → ℕ → ℕ
-pull d r = d.cost_denominator * (state_bound d * linear_sum d + constant_sum d + 2 * r * plan_row_sum d)
+abbrev pub pull : Design → Form → ℕ → ℕ
+pull d h r = d.cost_denominator * (state_bound d * linear_sum h + constant_sum h + 2 * r * plan_row_sum h)
 
 -- the whole numbers that the bounds at each f are made of
 pub record ErrorSums : Type 0 where
@@ -52,32 +52,75 @@ pub record ErrorSums : Type 0 where
   pub plan_entries : ℕ
   pub box_states : ℕ
   pub rho : ℕ
+  -- how far a state is from 0, and the greatest multiplier
+  pub state : ℕ
+  pub top : ℕ
+  -- the greatest sum of the radii of a row of the hessian and of the linear part, and the greatest radius of the constant
+  pub hessian_radius : ℕ
+  pub linear_radius : ℕ
+  pub constant_radius : ℕ
+  -- the greatest sum of the radii of a column of the rows, and the sums of all radii of the plan's and of the state's rows
+  pub column_radius : ℕ
+  pub plan_radius : ℕ
+  pub state_radius : ℕ
+  -- what the radii are over, but for 2^40, and what the weights are over
+  pub cost_scale : ℕ
+  pub row_scale : ℕ
+  pub weight_scale : ℕ
+  pub spread : ℕ
 
-abbrev pub error_sums_of : Design → ℕ → ErrorSums
-error_sums_of d r = record {
-  first = ceil_div (d.cost_denominator * gradient_squares d r) (2 * input_floor d);
-  lead = ceil_div (pull d r) (2 * input_floor d);
-  tail = d.cost_denominator * combined_bound d r * trace_sum d;
+abbrev pub error_sums_of : Design → Form → ℕ → ErrorSums
+error_sums_of d h r = record {
+  first = ceil_div (d.cost_denominator * gradient_squares d h r) (2 * input_floor d);
+  lead = ceil_div (pull d h r) (2 * input_floor d);
+  tail = d.cost_denominator * combined_bound d r * trace_sum h;
   top_rows = 2 * r * rows d;
   plan_entries = entries d;
   box_states = d.states * state_bound d;
   rho = input_floor d;
+  state = state_bound d;
+  top = 2 * r;
+  hessian_radius = greatest h.entries (hessian_radii h);
+  linear_radius = greatest h.entries (linear_radii h);
+  constant_radius = greatest h.entries h.constant_radius;
+  column_radius = greatest h.entries (column_radii h);
+  plan_radius = amount h.rows (plan_radii h);
+  state_radius = amount h.rows (state_radii h);
+  cost_scale = d.cost_denominator * d.row_denominator ^ 2;
+  row_scale = d.limit_denominator;
+  weight_scale = d.cost_denominator;
+  spread = h.spread;
 }
 
 -- U(f): each plan entry of the machine is at most this in absolute value
 abbrev pub plan_bound : ErrorSums → ℕ → ℕ
-plan_bound s f = s.lead + ceil_div s.tail (2 ^ (f + 2) * s.rho) + 1
+plan_bound s f = s.spread * (s.lead + ceil_div s.tail (2 ^ (f + 2) * s.rho)) + 1
 
--- each residual that a step uses differs from the true one by at most 2^-(f+1) times this
+-- each residual that a step uses differs from that of the midpoints by at most 2^-(f+1) times this
 abbrev pub residual_error : ErrorSums → ℕ → ℕ
 residual_error s f = s.plan_entries * plan_bound s f + s.box_states + 3
 
+-- q(f): each entry of the gradient differs from that of the midpoints by at most 2^-40 times this
+abbrev pub radius_error : ErrorSums → ℕ → ℕ
+radius_error s f =
+    ceil_div (plan_bound s f * s.hessian_radius + s.state * s.linear_radius + s.constant_radius) s.cost_scale
+    + ceil_div (s.top * s.column_radius) s.row_scale
+
+-- what the radii of all rows move the residuals by, over 2^40, times row_scale
+abbrev pub row_radii : ErrorSums → ℕ → ℕ
+row_radii s f = plan_bound s f * s.plan_radius + s.state * s.state_radius
+
 -- E(f), over 2^40: what the errors of a step cost at most
 abbrev pub epsilon : ErrorSums → ℕ → ℕ
-epsilon s f = ceil_div (2 ^ 40 * s.first) (4 ^ f) + ceil_div (2 ^ 40 * s.top_rows * residual_error s f) (2 ^ (f + 1))
+epsilon s f =
+    ceil_div (s.spread * 2 ^ 40 * s.first) (4 ^ f) + ceil_div (2 ^ 40 * s.top_rows * residual_error s f) (2 ^ (f + 1))
+    + ceil_div (s.plan_entries * s.weight_scale * radius_error s f ^ 2) (2 ^ 40 * s.rho) + ceil_div (s.top * row_radii s f) s.row_scale
 
 -- a number that bounds all that these computations meet: `error`
-abbrev pub error_size : Design → ℕ → ℕ
-error_size d r =
-    pull d r + d.cost_denominator * combined_bound d r * trace_sum d + d.cost_denominator * gradient_squares d r
-    + 2 ^ 40 * ((error_sums_of d r).first + (error_sums_of d r).top_rows * residual_error (error_sums_of d r) 0)
+abbrev pub error_size : Design → Form → ℕ → ℕ
+error_size d h r =
+    let s = error_sums_of d h r in
+    s.spread ^ 2 * (pull d h r + s.tail + d.cost_denominator * gradient_squares d h r + 2 ^ 40 * (s.first + s.top_rows * residual_error s 0))
+    + s.weight_scale * s.plan_entries * radius_error s 0 ^ 2
+    + plan_bound s 0 * s.hessian_radius + s.state * s.linear_radius + s.constant_radius + s.top * s.column_radius
+    + s.top * row_radii s 0

@@ -1,3 +1,4 @@
+pub mod Limits
 pub mod Range
 pub mod Design
 pub mod Trajectory
@@ -12,6 +13,8 @@ pub mod Choices
 pub mod Rules
 pub mod PartRules
 pub mod Condensed
+pub mod Condensing
+pub mod Form
 pub mod Curvature
 pub mod CurvatureSize
 pub mod GoodSolution
@@ -22,7 +25,6 @@ pub mod ValuesMet
 pub mod Lines
 pub mod Spelling
 pub mod ControllerText
-pub mod Condensing
 pub mod Runs
 pub mod Scaling
 pub mod Sound

@@ -23,12 +23,25 @@ pub record IsAdmissible (c : Numbers) (xi : List ℤ) : Type 0 where
 abbrev pub loaded : Numbers → List ℤ → List ℤ
 loaded c xi = map (λ x. x *ℤ pos (2 ^ (c.fraction_bits - c.grid_bits))) xi
 
+-- ---- exponents
+-- the step exponent of row i: a step along it is 2^-exponent, and its multiplier is over 2^(fraction_bits + exponent)
+abbrev pub exponent_of : Numbers → ℕ → ℕ
+exponent_of c i = c.step_exponent
+
+-- the multipliers over 2^(fraction_bits + step_exponent), as the gains are multiplied with them
+abbrev pub raised : Numbers → List ℤ → List ℤ
+raised c multipliers = multipliers
+
+-- the greatest multiplier of row i
+abbrev pub top_of : Numbers → ℕ → ℤ
+top_of c i = c.clamp
+
 -- ---- one step
 -- the sum S_j, which plan entry j is the floor of, before the shift and the sign
 abbrev pub entry_sum : Numbers → List ℤ → List ℤ → ℕ → ℤ
 entry_sum c state multipliers j =
     (list_dot (row_of c.state_gains j) state +ℤ at c.offsets j *ℤ pos (2 ^ c.fraction_bits)) *ℤ pos (2 ^ c.step_exponent)
-    +ℤ list_dot (row_of c.dual_gains j) multipliers
+    +ℤ list_dot (row_of c.dual_gains j) (raised c multipliers)
 
 -- plan entry j, over 2^fraction_bits
 abbrev pub plan_entry : Numbers → List ℤ → List ℤ → ℕ → ℤ
@@ -42,10 +55,10 @@ abbrev pub row_sum : Numbers → List ℤ → List ℤ → ℕ → ℤ
 row_sum c state plan i =
     list_dot (row_of c.plan_rows i) plan +ℤ list_dot (row_of c.state_rows i) state -ℤ at c.bounds i *ℤ pos (2 ^ c.fraction_bits)
 
--- multiplier i, over 2^(fraction_bits + step_exponent), moved along its row and kept in 0 .. clamp
+-- multiplier i, moved along its row and kept between 0 and the greatest of the row
 abbrev pub next_multiplier : Numbers → List ℤ → List ℤ → ℤ → ℕ → ℤ
 next_multiplier c state plan old i =
-    int_min c.clamp (int_max (old +ℤ floor_of (row_sum c state plan i) (2 ^ c.fraction_bits)) (pos 0))
+    int_min (top_of c i) (int_max (old +ℤ floor_of (row_sum c state plan i) (2 ^ c.fraction_bits)) (pos 0))
 
 abbrev pub next_multipliers : Numbers → List ℤ → List ℤ → List ℤ → List ℤ
 next_multipliers c state plan multipliers = map (λ i. next_multiplier c state plan (at multipliers i) i) (range_with_len 0 (length c.bounds))

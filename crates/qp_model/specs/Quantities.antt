@@ -1,5 +1,5 @@
 -- The numbers of a design that must not pass 2^126, so that no number that is made of it leaves 128 bits.
-use Rattle.std.specs.Prelude.{ℕ, zero, suc, ◌+◌, ◌*◌, ◌^◌, max, ℤ, unsigned_abs}
+use Rattle.std.specs.Prelude.{ℕ, zero, suc, ◌+◌, ◌*◌, ◌^◌, max, min, ℤ, unsigned_abs}
 use Rattle.integer_algebra.specs.Sizes.{size}
 use Rattle.qp_model.specs.Design.{Design, CostRow, LimitRow, entries, rows}
 
@@ -7,6 +7,16 @@ use Rattle.qp_model.specs.Design.{Design, CostRow, LimitRow, entries, rows}
 abbrev pub greatest : ℕ → (ℕ → ℕ) → ℕ
 greatest zero f = 0
 greatest (suc n) f = max (greatest n f) (f n)
+
+-- the least of f at 0, 1 .. n - 1, and 0 of none
+abbrev pub least : ℕ → (ℕ → ℕ) → ℕ
+least zero f = 0
+least (suc zero) f = f 0
+least (suc (suc n)) f = min (least (suc n) f) (f (suc n))
+
+-- rho, the least input weight, over cost_denominator
+abbrev pub input_floor : Design → ℕ
+input_floor d = least d.inputs (λ l. unsigned_abs (d.input_weight l))
 
 -- ---- absolute sums of rows
 -- row i of the plant

@@ -5,7 +5,7 @@ use Rattle.integer_algebra.specs.Sums.{at}
 use Rattle.mat_int.specs.Row.{list_dot}
 use Rattle.mat_int.specs.Matrix.{row_of}
 use Rattle.qp_model.specs.Controller.{Numbers}
-use Rattle.qp_model.specs.Machine.{Iterate, loaded, entry_sum, plan_entry, plan_of, row_sum, next_multiplier, step_of, after}
+use Rattle.qp_model.specs.Machine.{Iterate, loaded, raised, entry_sum, plan_entry, plan_of, row_sum, next_multiplier, step_of, after}
 
 -- the products of two lists, one by one
 abbrev pub products : List ℤ → List ℤ → List ℤ
@@ -25,7 +25,7 @@ entry_values c state multipliers j =
     let offset = at c.offsets j *ℤ pos (2 ^ c.fraction_bits) in
     let sum = list_dot (row_of c.state_gains j) state +ℤ offset in
     let scaled = sum *ℤ pos (2 ^ c.step_exponent) in
-    let dual = products (row_of c.dual_gains j) multipliers in
+    let dual = products (row_of c.dual_gains j) (raised c multipliers) in
     own ++ partial_sums (pos 0) own ++ offset ∷ sum ∷ scaled ∷ [] ++ dual ++ partial_sums (pos 0) dual ++ partial_sums scaled dual
     ++ entry_sum c state multipliers j ∷ floor_of (entry_sum c state multipliers j) (2 ^ (c.fraction_bits + c.step_exponent)) ∷ plan_entry c state multipliers j ∷ []
 

@@ -2,6 +2,7 @@
 ghost use Rattle.qp_model.specs.Condensing.{CondensingLaw, TrajectoryLaw};
 ghost use Rattle.qp_model.specs.Runs.{PlantRunLaw, ResponseLaw, ResidualLaw, RowBoundLaw, GramLaw, AgreesLaw, CostBoundLaw};
 ghost use Rattle.qp_model.specs.CostShape.{ExpansionLaw, HessianLaw, CurvatureLaw, AverageLaw};
+ghost use Rattle.qp_model.specs.Form.{FormLaw};
 ghost use Rattle.qp_model.specs.Scaling.{ScalingLaw};
 
 /// Each state of a trajectory is the free state plus the responses times the plan.
@@ -12,6 +13,11 @@ pub fn trajectory_law()
 /// The condensed numbers of a design give its costs and its residuals at every state and plan.
 pub fn condensing_law()
     ensures { CondensingLaw }
+{}
+
+/// The form that a controller is made of encloses the design's condensed numbers.
+pub fn form_law()
+    ensures { FormLaw }
 {}
 
 /// A plan with its numerators and its denominator times c costs c^2 times as much, and breaks each row by c times as much.

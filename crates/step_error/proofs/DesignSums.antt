@@ -12,8 +12,8 @@ use Rattle.qp_model.specs.declared.design_parts.DesignParts.{DesignParts}
 use Rattle.qp_model.specs.Design.{Design, entries, rows}
 use Rattle.qp_model.specs.Parts.{IsDesign, design_of}
 use Rattle.qp_model.specs.Condensing.{condensed_of}
-use Rattle.qp_model.specs.Columns.{input_floor, hessian_scale, rows_scale}
-use Rattle.qp_model.specs.Quantities.{cost_entry_size, limit_entry_size}
+use Rattle.qp_model.specs.Quantities.{input_floor, cost_entry_size, limit_entry_size}
+use Rattle.qp_model.specs.Form.{hessian_scale, rows_scale}
 use Rattle.qp_model.specs.Errors.{pull, combined_bound, trace_sum, gradient_squares, error_size, state_bound, linear_sum, constant_sum, plan_row_sum}
 use Rattle.qp_model.proofs.RowLaws.{plan_number}
 use Rattle.qp_model.proofs.SizeFacts.{some_entry, positive}

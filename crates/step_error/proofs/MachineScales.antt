@@ -16,7 +16,7 @@ use Rattle.qp_model.specs.Design.{Design, entries, rows}
 use Rattle.qp_model.specs.Cost.{cost}
 use Rattle.qp_model.specs.Residual.{residual, IsFeasible}
 use Rattle.qp_model.specs.Sound.{IsSound}
-use Rattle.qp_model.specs.Columns.{input_floor}
+use Rattle.qp_model.specs.Quantities.{input_floor}
 use Rattle.qp_model.specs.Controller.{Numbers}
 use Rattle.qp_model.specs.Errors.{gradient_error, gradient_squares, residual_error, ErrorSums, error_sums_of, epsilon}
 use Rattle.qp_model.proofs.ScalingLaws.{scaling_law}

@@ -14,7 +14,7 @@ use Rattle.qp_model.specs.Sound.{IsSound}
 use Rattle.qp_model.specs.Parts.{design_of}
 use Rattle.qp_model.specs.Condensing.{condensed_of}
 use Rattle.qp_model.specs.Condensed.{IsCondensed}
-use Rattle.qp_model.specs.Columns.{input_floor}
+use Rattle.qp_model.specs.Quantities.{input_floor}
 use Rattle.qp_model.specs.Controller.{Numbers, IsShaped}
 use Rattle.qp_model.specs.Built.{IsDerivedFrom}
 use Rattle.qp_model.specs.Errors.{error_sums_of, epsilon}

@@ -20,7 +20,9 @@ use Rattle.qp_model.specs.Condensed.{IsCondensed}
 use Rattle.qp_model.specs.Condensing.{condensed_of}
 use Rattle.qp_model.specs.Controller.{Numbers, IsShaped}
 use Rattle.qp_model.specs.Machine.{plan_entry}
-use Rattle.qp_model.specs.Columns.{solve_matrix, solve_column, columns, hessian_scale, rows_scale, input_floor}
+use Rattle.qp_model.specs.Columns.{solve_matrix, solve_column, columns}
+use Rattle.qp_model.specs.Form.{hessian_scale, rows_scale}
+use Rattle.qp_model.specs.Quantities.{input_floor}
 use Rattle.qp_model.specs.Errors.{state_bound, combined_bound, linear_sum, constant_sum, plan_row_sum, trace_sum, pull, error_sums_of, plan_bound}
 use Rattle.qp_model.specs.Built.{gain_column, HasSizesOf, IsDerivedFrom}
 use Rattle.step_error.specs.Machine.{pulls}

@@ -21,7 +21,7 @@ use Rattle.qp_model.specs.Condensed.{IsCondensed}
 use Rattle.qp_model.specs.Condensing.{condensed_of}
 use Rattle.qp_model.specs.Controller.{Numbers, IsShaped, plan_length}
 use Rattle.qp_model.specs.Machine.{plan_entry, plan_of, row_sum}
-use Rattle.qp_model.specs.Columns.{rows_scale}
+use Rattle.qp_model.specs.Form.{rows_scale}
 use Rattle.qp_model.specs.Errors.{state_bound}
 use Rattle.qp_model.specs.Built.{IsDerivedFrom}
 use Rattle.step_error.proofs.Gains.{row_length}

@@ -18,7 +18,8 @@ use Rattle.qp_model.specs.Residual.{residual_scale}
 use Rattle.qp_model.specs.Condensing.{condensed_of}
 use Rattle.qp_model.specs.Controller.{Numbers, IsShaped}
 use Rattle.qp_model.specs.Machine.{plan_entry}
-use Rattle.qp_model.specs.Columns.{solve_matrix, solve_column, hessian_scale}
+use Rattle.qp_model.specs.Columns.{solve_matrix, solve_column}
+use Rattle.qp_model.specs.Form.{hessian_scale}
 use Rattle.qp_model.specs.Errors.{state_bound, combined_bound, gradient_error}
 use Rattle.qp_model.specs.Built.{IsDerivedFrom}
 use Rattle.step_error.specs.Laws.{slant}

@@ -17,7 +17,8 @@ use Rattle.qp_model.specs.Condensed.{Condensed, IsCondensed, slope_at}
 use Rattle.qp_model.specs.Condensing.{condensed_of}
 use Rattle.qp_model.specs.Controller.{Numbers, IsSized}
 use Rattle.qp_model.specs.Machine.{loaded, plan_entry}
-use Rattle.qp_model.specs.Columns.{input_floor, hessian_scale, rows_scale}
+use Rattle.qp_model.specs.Quantities.{input_floor}
+use Rattle.qp_model.specs.Form.{hessian_scale, rows_scale}
 use Rattle.qp_model.specs.Errors.{gradient_error, error_sums_of, plan_bound, residual_error}
 use Rattle.qp_model.specs.Built.{IsDerivedFrom}
 use Rattle.qp_model.proofs.ScalingLaws.{scaling_law}

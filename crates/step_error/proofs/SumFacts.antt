@@ -11,7 +11,7 @@ use Rattle.integer_algebra.specs.Division.{ceil_div}
 use Rattle.integer_algebra.proofs.PowerLaws.{four-pow}
 use Rattle.qp_model.specs.declared.design_parts.DesignParts.{DesignParts}
 use Rattle.qp_model.specs.Parts.{IsDesign, design_of}
-use Rattle.qp_model.specs.Columns.{input_floor}
+use Rattle.qp_model.specs.Quantities.{input_floor}
 use Rattle.qp_model.specs.Errors as errors
 use Rattle.qp_model.specs.Errors.{residual_error, error_sums_of, error_size, pull, combined_bound, trace_sum, gradient_squares}
 use Rattle.qp_model.proofs.SizeFacts.{some_row}

@@ -15,7 +15,8 @@ use Rattle.qp_model.specs.Sound.{IsSound}
 use Rattle.qp_model.specs.Box.{IsGridState}
 use Rattle.qp_model.specs.Curvature.{IsExponent, curvature, row_change}
 use Rattle.qp_model.specs.GoodSolution.{IsGood}
-use Rattle.qp_model.specs.Columns.{columns, solve_matrix, solve_column, input_floor}
+use Rattle.qp_model.specs.Columns.{columns, solve_matrix, solve_column}
+use Rattle.qp_model.specs.Quantities.{input_floor}
 use Rattle.qp_model.specs.Condensing.{condensed_of}
 use Rattle.qp_model.specs.Controller.{Numbers, IsShaped, IsSized}
 use Rattle.qp_model.specs.Built.{gain_column, HasSizesOf, IsDerivedFrom}

@@ -3,7 +3,7 @@ use Rattle.std.specs.Int.{w128}
 use mir.Val.{SFits}
 use Rattle.qp_model.specs.Parts.{design_of}
 use Rattle.qp_model.specs.Design.{rows, entries}
-use Rattle.qp_model.specs.Columns.{input_floor}
+use Rattle.qp_model.specs.Quantities.{input_floor}
 use Rattle.qp_model.specs.Errors.{combined_bound, gradient_squares, pull, state_bound, linear_sum, constant_sum, plan_row_sum, trace_sum}
 use Rattle.qp_model.proofs.SizeFacts.{some_row}
 use Rattle.step_error.proofs.Ceilings.{positive_by}
