@@ -116,8 +116,8 @@ fn greatest_turn_sum(design: &DesignParts, c: &ControllerParts) -> Option<u128>
 /// The quantity `turn` of a design and a controller for its states, inputs and grid. No number that a next state is made of
 /// is above it. None where it is above `2^126`.
 pub fn turn_size(design: &Design, controller: &Controller) -> Option<u128>
-    requires { IsFor controller.now (design_of design.now.parts) }
-    ensures { let size = turn_size (design_of design.now.parts) controller.now in SomeIff result (size ≤ 2 ^ 126) size }
+    requires { IsFor controller.now (design_of design.now) }
+    ensures { let size = turn_size (design_of design.now) controller.now in SomeIff result (size ≤ 2 ^ 126) size }
 {
     let (d, c) = (design.parts(), controller.parts());
     let over = next_over(d, c).unsigned_abs();

@@ -68,12 +68,12 @@ fn next_coordinate(design: &DesignParts, k: &Kernel, state: &[i128], i: usize) -
 pub fn next_state(design: &Design, k: &Kernel, state: &[i128], next: &mut [i128])
     requires made { k.now.made ≡ k.now.controller.steps }
     requires state { k.now.state ≡ state.now }
-    requires matched { IsFor k.now.controller (design_of design.now.parts) }
-    requires narrow { turn_size (design_of design.now.parts) k.now.controller ≤ 2 ^ 126 }
+    requires matched { IsFor k.now.controller (design_of design.now) }
+    requires narrow { turn_size (design_of design.now) k.now.controller ≤ 2 ^ 126 }
     requires next { length next.old ≡ k.now.controller.states }
-    ensures value { next.new ≡ successor (design_of design.now.parts) k.now.controller state.now }
+    ensures value { next.new ≡ successor (design_of design.now) k.now.controller state.now }
     ensures nearest { (i : ℕ) → i < k.now.controller.states →
-        IsNearest (next_sum (design_of design.now.parts) k.now.controller state.now i) (next_over (design_of design.now.parts) k.now.controller) (at next.new i) }
+        IsNearest (next_sum (design_of design.now) k.now.controller state.now i) (next_over (design_of design.now) k.now.controller) (at next.new i) }
 {
     let parts = design.parts();
     for i in 0..next.len() {

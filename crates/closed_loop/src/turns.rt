@@ -59,13 +59,13 @@ fn run_turns<O: Sink>(
     turns: u32,
     out: &mut O,
 ) -> Result<(), LoopFault>
-    requires matched { IsFor k.old.controller (design_of design.now.parts) }
-    requires narrow { turn_size (design_of design.now.parts) k.old.controller ≤ 2 ^ 126 }
+    requires matched { IsFor k.old.controller (design_of design.now) }
+    requires narrow { turn_size (design_of design.now) k.old.controller ≤ 2 ^ 126 }
     requires start { length start.now ≡ k.old.controller.states }
-    ensures inside { OnOk result (StaysInside (design_of design.now.parts) k.old.controller start.now turns) }
+    ensures inside { OnOk result (StaysInside (design_of design.now) k.old.controller start.now turns) }
     ensures put { OnOk result (O.got out.new ≡
-        option_map (λ old. old ++ loop_text (design_of design.now.parts) k.old.controller entry start.now turns) (O.got out.old)) }
-    ensures refused { IfErr result (LoopShows (design_of design.now.parts) k.old.controller entry start.now turns
+        option_map (λ old. old ++ loop_text (design_of design.now) k.old.controller entry start.now turns) (O.got out.old)) }
+    ensures refused { IfErr result (LoopShows (design_of design.now) k.old.controller entry start.now turns
         (O.got out.old) (O.got out.new) (O.faults out.old) (O.faults out.new)) }
     ensures no_fewer { O.faults out.old ≤ O.faults out.new }
     ensures controller { k.new.controller ≡ k.old.controller }
@@ -92,34 +92,34 @@ pub fn run_loop<O: Sink>(
     turns: u32,
     out: &mut O,
 ) -> Result<(), LoopFault>
-    requires matched { IsFor k.old.controller (design_of design.now.parts) }
+    requires matched { IsFor k.old.controller (design_of design.now) }
     requires start { length start.now ≡ k.old.controller.states }
     // All turns were made.
-    ensures inside { OnOk result (StaysInside (design_of design.now.parts) k.old.controller start.now turns) }
+    ensures inside { OnOk result (StaysInside (design_of design.now) k.old.controller start.now turns) }
     ensures put { OnOk result (O.got out.new ≡
-        option_map (λ old. old ++ loop_text (design_of design.now.parts) k.old.controller entry start.now turns) (O.got out.old)) }
+        option_map (λ old. old ++ loop_text (design_of design.now) k.old.controller entry start.now turns) (O.got out.old)) }
     // The quantity `turn`, before any line.
     ensures wide { (quantity : Quantity) → (result ≡ Err (LoopFault.TooWide quantity)) ↔
-        ((quantity ≡ Quantity.Turn) × (2 ^ 126 < turn_size (design_of design.now.parts) k.old.controller)) }
-    ensures wide_put { 2 ^ 126 < turn_size (design_of design.now.parts) k.old.controller → out.new ≡ out.old }
+        ((quantity ≡ Quantity.Turn) × (2 ^ 126 < turn_size (design_of design.now) k.old.controller)) }
+    ensures wide_put { 2 ^ 126 < turn_size (design_of design.now) k.old.controller → out.new ≡ out.old }
     // A state outside the box.
     ensures outside { (turn coordinate : ℕ) → result ≡ Err (LoopFault.OutsideBox turn coordinate) →
-        LeavesAt (design_of design.now.parts) k.old.controller start.now turns turn coordinate }
+        LeavesAt (design_of design.now) k.old.controller start.now turns turn coordinate }
     ensures outside_put { (turn coordinate : ℕ) → result ≡ Err (LoopFault.OutsideBox turn coordinate) →
-        O.got out.new ≡ option_map (λ old. old ++ loop_text (design_of design.now.parts) k.old.controller entry start.now (turn - 1)) (O.got out.old) }
-    ensures leaves { (turn coordinate : ℕ) → LeavesAt (design_of design.now.parts) k.old.controller start.now turns turn coordinate →
-        turn_size (design_of design.now.parts) k.old.controller ≤ 2 ^ 126 → (result ≡ Err (LoopFault.OutsideBox turn coordinate)) ⊎ (result ≡ Err LoopFault.Memory) ⊎ (result ≡ Err LoopFault.WriteFault) }
+        O.got out.new ≡ option_map (λ old. old ++ loop_text (design_of design.now) k.old.controller entry start.now (turn - 1)) (O.got out.old) }
+    ensures leaves { (turn coordinate : ℕ) → LeavesAt (design_of design.now) k.old.controller start.now turns turn coordinate →
+        turn_size (design_of design.now) k.old.controller ≤ 2 ^ 126 → (result ≡ Err (LoopFault.OutsideBox turn coordinate)) ⊎ (result ≡ Err LoopFault.Memory) ⊎ (result ≡ Err LoopFault.WriteFault) }
     // It doesn't give up.
-    ensures stays { StaysInside (design_of design.now.parts) k.old.controller start.now turns → turn_size (design_of design.now.parts) k.old.controller ≤ 2 ^ 126
+    ensures stays { StaysInside (design_of design.now) k.old.controller start.now turns → turn_size (design_of design.now) k.old.controller ≤ 2 ^ 126
         → ¬ Rose (O.faults out.old) (O.faults out.new) → IsOk result ⊎ (result ≡ Err LoopFault.Memory) }
     // A fault of the sink.
     ensures failed { result ≡ Err LoopFault.WriteFault → Rose (O.faults out.old) (O.faults out.new) }
     ensures cut { result ≡ Err LoopFault.WriteFault → IfSome (O.got out.old) (λ old.
-        IsSomeAnd (O.got out.new) (GrowsByPrefix (design_of design.now.parts) k.old.controller entry start.now turns old)) }
+        IsSomeAnd (O.got out.new) (GrowsByPrefix (design_of design.now) k.old.controller entry start.now turns old)) }
     ensures no_fewer { O.faults out.old ≤ O.faults out.new }
     // Want of memory.
     ensures memory { result ≡ Err LoopFault.Memory → IfSome (O.got out.old) (λ old.
-        IsSomeAnd (O.got out.new) (GrowsByTurns (design_of design.now.parts) k.old.controller entry start.now turns old)) }
+        IsSomeAnd (O.got out.new) (GrowsByTurns (design_of design.now) k.old.controller entry start.now turns old)) }
     ensures controller { k.new.controller ≡ k.old.controller }
 {
     if turn_size(design, k.controller()).is_none() {

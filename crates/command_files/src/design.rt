@@ -18,7 +18,7 @@ pub fn read_design_file<S: Store>(
     name: &str,
     store: &mut S,
 ) -> Result<Design, Status>
-    ensures right { IfOk result (λ d. IsDesignRead file (S.held store.old) name.now d.parts) }
+    ensures right { IfOk result (λ d. IsDesignRead file (S.held store.old) name.now d) }
     ensures ends { IfErr result (λ e. EndsDesign file (S.held store.old) name.now (S.read_faults store.old name.now) (S.read_faults store.new name.now) e) }
     ensures held { S.held store.new ≡ S.held store.old }
     ensures reads { NoneFalls (S.read_faults store.old) (S.read_faults store.new) }

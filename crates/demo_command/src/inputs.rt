@@ -32,13 +32,13 @@ pub struct Inputs {
 
 /// The design, the policy and the states that the texts made from a number are of; the states lie in the design's box. An error is want of memory.
 pub fn inputs_of(alloc: Global, number: u32) -> Result<Inputs, AllocError>
-    ensures made { IfOk result (λ i. AreMadeFrom number i.design.parts (plans_of i.policy)) }
+    ensures made { IfOk result (λ i. AreMadeFrom number i.design (plans_of i.policy)) }
     ensures one { IfOk result (λ i. (p : DesignParts) (plans : Plans) → AreMadeFrom number p plans
-        → (design_numbers p ≡ design_numbers i.design.parts) × (plans ≡ plans_of i.policy)) }
-    ensures sized { IfOk result (λ i. IsPolicyFor (design_of i.design.parts) (plans_of i.policy)) }
-    ensures states { IfOk result (λ i. IsStatesText states_text (design_of i.design.parts).states i.states) }
+        → (design_numbers p ≡ design_numbers i.design) × (plans ≡ plans_of i.policy)) }
+    ensures sized { IfOk result (λ i. IsPolicyFor (design_of i.design) (plans_of i.policy)) }
+    ensures states { IfOk result (λ i. IsStatesText states_text (design_of i.design).states i.states) }
     ensures some { IfOk result (λ i. 0 < length i.states.rows) }
-    ensures inside { IfOk result (λ i. (e : ℕ) → e < length i.states.rows → IsGridState (design_of i.design.parts) (at (row_of i.states e))) }
+    ensures inside { IfOk result (λ i. (e : ℕ) → e < length i.states.rows → IsGridState (design_of i.design) (at (row_of i.states e))) }
 {
     made_law();
     let texts = make(alloc, number, STAGES)?;
@@ -55,8 +55,8 @@ pub fn inputs_of(alloc: Global, number: u32) -> Result<Inputs, AllocError>
 // The design of a text that is one's.
 fn right_design(alloc: Global, text: &[u8]) -> Result<Design, AllocError>
     requires { (p : DesignParts) × IsDesignText text.now p }
-    ensures text { IfOk result (λ d. IsDesignText text.now d.parts) }
-    ensures one { IfOk result (λ d. (p : DesignParts) → IsDesignText text.now p → design_numbers p ≡ design_numbers d.parts) }
+    ensures text { IfOk result (λ d. IsDesignText text.now d) }
+    ensures one { IfOk result (λ d. (p : DesignParts) → IsDesignText text.now p → design_numbers p ≡ design_numbers d) }
 {
     match read_design(alloc, text) {
         Ok(design) => Ok(design),
@@ -68,10 +68,10 @@ fn right_design(alloc: Global, text: &[u8]) -> Result<Design, AllocError>
 // The policy of a text that is one's for the design.
 fn right_policy(alloc: Global, text: &[u8], design: &Design) -> Result<Policy, AllocError>
     requires short { length text.now < 2 ^ 32 }
-    requires right { (plans : Plans) × IsPolicyText text.now (design_of design.now.parts) plans }
-    ensures text { IfOk result (λ p. IsPolicyText text.now (design_of design.now.parts) (plans_of p)) }
-    ensures sized { IfOk result (λ p. IsPolicyFor (design_of design.now.parts) (plans_of p)) }
-    ensures one { IfOk result (λ p. (plans : Plans) → IsPolicyText text.now (design_of design.now.parts) plans → plans ≡ plans_of p) }
+    requires right { (plans : Plans) × IsPolicyText text.now (design_of design.now) plans }
+    ensures text { IfOk result (λ p. IsPolicyText text.now (design_of design.now) (plans_of p)) }
+    ensures sized { IfOk result (λ p. IsPolicyFor (design_of design.now) (plans_of p)) }
+    ensures one { IfOk result (λ p. (plans : Plans) → IsPolicyText text.now (design_of design.now) plans → plans ≡ plans_of p) }
 {
     match read_policy(alloc, text, design) {
         Ok(policy) => Ok(policy),

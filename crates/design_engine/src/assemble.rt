@@ -130,17 +130,17 @@ pub fn controller_of(
     r: i128,
     gains: Inverse,
 ) -> Result<Controller, WidthFault>
-    requires form { IsFormOf design.now.parts condensed.now }
-    requires gains { IsInverseOf (design_of design.now.parts) f gains }
-    requires room { descent_size (design_of design.now.parts) f ≤ 2 ^ 126 }
-    requires bits { LiesIn design.now.parts.grid 48 f }
+    requires form { IsFormOf design.now condensed.now }
+    requires gains { IsInverseOf (design_of design.now) f gains }
+    requires room { descent_size (design_of design.now) f ≤ 2 ^ 126 }
+    requires bits { LiesIn design.now.grid 48 f }
     requires exponent { s ≤ 40 }
     requires steps { LiesIn 1 (2 ^ 22) steps }
     requires low { pos 1 ≤ℤ r }
     requires high { r ≤ℤ pos (2 ^ 44) }
-    ensures made { IfOk result (IsAssembled (design_of design.now.parts) (unsigned_abs r) s steps f) }
-    ensures fits { OnOk result (width_size (design_of design.now.parts) (unsigned_abs r) s steps f ≤ 2 ^ 126) }
-    ensures wide { IfErr result (λ e. IsWidthFault e (2 ^ 126 < width_size (design_of design.now.parts) (unsigned_abs r) s steps f)) }
+    ensures made { IfOk result (IsAssembled (design_of design.now) (unsigned_abs r) s steps f) }
+    ensures fits { OnOk result (width_size (design_of design.now) (unsigned_abs r) s steps f ≤ 2 ^ 126) }
+    ensures wide { IfErr result (λ e. IsWidthFault e (2 ^ 126 < width_size (design_of design.now) (unsigned_abs r) s steps f)) }
 {
     let Some(clamp) = clamp_of(r, f + s) else {
         return Err(WIDE);

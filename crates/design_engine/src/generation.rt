@@ -79,13 +79,13 @@ fn error_limit(parts: &DesignParts, r: i128) -> i128
 
 // The first tests, up to the step exponent.
 fn scaled_of(alloc: Global, design: &Design, policy: &Policy) -> Result<Scaled, Refusal>
-    requires { IsPolicyFor (design_of design.now.parts) (plans_of policy.now) }
-    ensures passes { IfOk result (λ x. PassesSizes (design_of design.now.parts) (targets_of design.now.parts) (plans_of policy.now) x.margin) }
+    requires { IsPolicyFor (design_of design.now) (plans_of policy.now) }
+    ensures passes { IfOk result (λ x. PassesSizes (design_of design.now) (targets_of design.now) (plans_of policy.now) x.margin) }
     ensures multiplier { IfOk result (λ x. x.r ≡ pos (multiplier_of x.margin)) }
-    ensures form { IfOk result (λ x. IsFormOf design.now.parts x.condensed) }
-    ensures exponent { IfOk result (λ x. IsExponentOf (design_of design.now.parts) x.s) }
-    ensures curved { IfOk result (λ x. IsExponent (design_of design.now.parts) x.s) }
-    ensures refused { IfErr result (IsRefused (design_of design.now.parts) (targets_of design.now.parts) (plans_of policy.now)) }
+    ensures form { IfOk result (λ x. IsFormOf design.now x.condensed) }
+    ensures exponent { IfOk result (λ x. IsExponentOf (design_of design.now) x.s) }
+    ensures curved { IfOk result (λ x. IsExponent (design_of design.now) x.s) }
+    ensures refused { IfErr result (IsRefused (design_of design.now) (targets_of design.now) (plans_of policy.now)) }
 {
     let margin = margins(alloc, design, policy)?;
     let r = multiplier(&margin)?;
@@ -103,14 +103,14 @@ fn scaled_of(alloc: Global, design: &Design, policy: &Policy) -> Result<Scaled, 
 fn plan_of(design: &Design, scaled: &Scaled) -> Result<Chosen, Refusal>
     requires multiplier { scaled.now.r ≡ pos (multiplier_of scaled.now.margin) }
     requires narrow { multiplier_of scaled.now.margin ≤ 2 ^ 44 }
-    requires form { IsFormOf design.now.parts scaled.now.condensed }
-    requires exponent { IsExponentOf (design_of design.now.parts) scaled.now.s }
-    ensures passes { (plans : Plans) → PassesSizes (design_of design.now.parts) (targets_of design.now.parts) plans scaled.now.margin →
-        IfOk result (λ x. PassesBits (design_of design.now.parts) (targets_of design.now.parts) plans scaled.now.margin scaled.now.s x.choice.f) }
-    ensures steps { IfOk result (λ x. x.steps ≡ step_count scaled.now.s (multiplier_of scaled.now.margin) (half_target (targets_of design.now.parts))) }
-    ensures cost { IfOk result (λ x. x.choice.eps ≡ pos (errors_cost (design_of design.now.parts) (multiplier_of scaled.now.margin) x.choice.f)) }
-    ensures refused { (plans : Plans) → PassesSizes (design_of design.now.parts) (targets_of design.now.parts) plans scaled.now.margin →
-        IfErr result (HasCause (design_of design.now.parts) (targets_of design.now.parts) plans) }
+    requires form { IsFormOf design.now scaled.now.condensed }
+    requires exponent { IsExponentOf (design_of design.now) scaled.now.s }
+    ensures passes { (plans : Plans) → PassesSizes (design_of design.now) (targets_of design.now) plans scaled.now.margin →
+        IfOk result (λ x. PassesBits (design_of design.now) (targets_of design.now) plans scaled.now.margin scaled.now.s x.choice.f) }
+    ensures steps { IfOk result (λ x. x.steps ≡ step_count scaled.now.s (multiplier_of scaled.now.margin) (half_target (targets_of design.now))) }
+    ensures cost { IfOk result (λ x. x.choice.eps ≡ pos (errors_cost (design_of design.now) (multiplier_of scaled.now.margin) x.choice.f)) }
+    ensures refused { (plans : Plans) → PassesSizes (design_of design.now) (targets_of design.now) plans scaled.now.margin →
+        IfErr result (HasCause (design_of design.now) (targets_of design.now) plans) }
 {
     let parts = design.parts();
     let steps = steps(scaled.s, scaled.r, half_target(parts))?;
@@ -156,23 +156,23 @@ fn bounds_of(scaled: &Scaled, plan: &Chosen, controller: &Controller) -> Bounds
 fn finished(alloc: Global, design: &Design, scaled: &Scaled, plan: &Chosen) -> Result<Made, Refusal>
     requires multiplier { scaled.now.r ≡ pos (multiplier_of scaled.now.margin) }
     requires narrow { multiplier_of scaled.now.margin ≤ 2 ^ 44 }
-    requires form { IsFormOf design.now.parts scaled.now.condensed }
-    requires exponent { IsExponentOf (design_of design.now.parts) scaled.now.s }
-    requires curved { IsExponent (design_of design.now.parts) scaled.now.s }
-    requires steps { plan.now.steps ≡ step_count scaled.now.s (multiplier_of scaled.now.margin) (half_target (targets_of design.now.parts)) }
+    requires form { IsFormOf design.now scaled.now.condensed }
+    requires exponent { IsExponentOf (design_of design.now) scaled.now.s }
+    requires curved { IsExponent (design_of design.now) scaled.now.s }
+    requires steps { plan.now.steps ≡ step_count scaled.now.s (multiplier_of scaled.now.margin) (half_target (targets_of design.now)) }
     requires few { plan.now.steps ≤ 2 ^ 22 }
-    requires choice { IsChoice (error_sums_of (design_of design.now.parts) (multiplier_of scaled.now.margin)) (design_of design.now.parts).grid
-        (error_limit (targets_of design.now.parts) (multiplier_of scaled.now.margin)) plan.now.choice.f }
-    requires cost { plan.now.choice.eps ≡ pos (errors_cost (design_of design.now.parts) (multiplier_of scaled.now.margin) plan.now.choice.f) }
-    ensures built { (plans : Plans) → IsPolicyFor (design_of design.now.parts) plans →
-        PassesBits (design_of design.now.parts) (targets_of design.now.parts) plans scaled.now.margin scaled.now.s plan.now.choice.f →
-        IfOk result (λ made. IsBuilt design.now.parts plans made.controller made.bounds) }
+    requires choice { IsChoice (error_sums_of (design_of design.now) (multiplier_of scaled.now.margin)) (design_of design.now).grid
+        (error_limit (targets_of design.now) (multiplier_of scaled.now.margin)) plan.now.choice.f }
+    requires cost { plan.now.choice.eps ≡ pos (errors_cost (design_of design.now) (multiplier_of scaled.now.margin) plan.now.choice.f) }
+    ensures built { (plans : Plans) → IsPolicyFor (design_of design.now) plans →
+        PassesBits (design_of design.now) (targets_of design.now) plans scaled.now.margin scaled.now.s plan.now.choice.f →
+        IfOk result (λ made. IsBuilt design.now plans made.controller made.bounds) }
     ensures passes { (plans : Plans) →
-        PassesBits (design_of design.now.parts) (targets_of design.now.parts) plans scaled.now.margin scaled.now.s plan.now.choice.f →
-        OnOk result (PassesAll (design_of design.now.parts) (targets_of design.now.parts) plans scaled.now.margin scaled.now.s plan.now.choice.f) }
+        PassesBits (design_of design.now) (targets_of design.now) plans scaled.now.margin scaled.now.s plan.now.choice.f →
+        OnOk result (PassesAll (design_of design.now) (targets_of design.now) plans scaled.now.margin scaled.now.s plan.now.choice.f) }
     ensures refused { (plans : Plans) →
-        PassesBits (design_of design.now.parts) (targets_of design.now.parts) plans scaled.now.margin scaled.now.s plan.now.choice.f →
-        IfErr result (IsRefused (design_of design.now.parts) (targets_of design.now.parts) plans) }
+        PassesBits (design_of design.now) (targets_of design.now) plans scaled.now.margin scaled.now.s plan.now.choice.f →
+        IfErr result (IsRefused (design_of design.now) (targets_of design.now) plans) }
 {
     let gains = solve_all(alloc, &scaled.condensed, plan.choice.f)?;
     let controller = controller_of(
@@ -196,18 +196,18 @@ fn finished(alloc: Global, design: &Design, scaled: &Scaled, plan: &Chosen) -> R
 /// `multiplier`, `hessian`, `rows` or `curvature`; `Curvature`; `TooManySteps`; `TooWide` with `error`; `TooFine`; `TooWide` with `descent`
 /// or `width`. `Memory` where memory runs out before.
 pub fn generate(alloc: Global, design: &Design, policy: &Policy) -> Result<Made, Refusal>
-    requires { IsPolicyFor (design_of design.now.parts) (plans_of policy.now) }
+    requires { IsPolicyFor (design_of design.now) (plans_of policy.now) }
 
     // What is made, and what it is certified for.
-    ensures built { IfOk result (λ made. IsBuilt design.now.parts (plans_of policy.now) made.controller made.bounds) }
-    ensures certified { IfOk result (λ made. IsCertified (design_of design.now.parts) made.controller made.bounds) }
-    ensures targets { IfOk result (λ made. IsWithinTargets (targets_of design.now.parts) made.bounds) }
+    ensures built { IfOk result (λ made. IsBuilt design.now (plans_of policy.now) made.controller made.bounds) }
+    ensures certified { IfOk result (λ made. IsCertified (design_of design.now) made.controller made.bounds) }
+    ensures targets { IfOk result (λ made. IsWithinTargets (targets_of design.now) made.bounds) }
 
     // The cause of a refusal; and the other way round, with nothing but want of memory in between.
-    ensures refused { IfErr result (λ e. (e ≡ Refusal.Memory) ⊎ HasCause (design_of design.now.parts) (targets_of design.now.parts) (plans_of policy.now) e) }
-    ensures every_refusal { (e : Refusal) → HasCause (design_of design.now.parts) (targets_of design.now.parts) (plans_of policy.now) e
+    ensures refused { IfErr result (λ e. (e ≡ Refusal.Memory) ⊎ HasCause (design_of design.now) (targets_of design.now) (plans_of policy.now) e) }
+    ensures every_refusal { (e : Refusal) → HasCause (design_of design.now) (targets_of design.now) (plans_of policy.now) e
         → (result ≡ Err e) ⊎ (result ≡ Err Refusal.Memory) }
-    ensures accepted { (m : Margin) (s f : ℕ) → PassesAll (design_of design.now.parts) (targets_of design.now.parts) (plans_of policy.now) m s f
+    ensures accepted { (m : Margin) (s f : ℕ) → PassesAll (design_of design.now) (targets_of design.now) (plans_of policy.now) m s f
         → IsOk result ⊎ (result ≡ Err Refusal.Memory) }
 {
     let scaled = scaled_of(alloc, design, policy)?;

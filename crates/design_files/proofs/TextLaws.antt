@@ -191,12 +191,12 @@ no_further document held =
     held_after (top_keys v ++ plant_keys v ++ cost_keys v ++ limit_keys v ++ box_keys v ++ target_keys v) (further_keys document) held
 
 -- ---- both ways
-pub every_text : (bytes : List ℕ) (answer : Result Design TextFault) → IfOk answer (λ design. IsDesignText bytes design.parts) → IfErr answer (λ fault. (fault ≡ Memory) ⊎ IsDesignFault bytes fault)
-    → (p : DesignParts) → IsDesignText bytes p → (answer ≡ Err Memory) ⊎ IsOkAnd answer (λ design. design_numbers design.parts ≡ design_numbers p)
-every_text bytes (Ok design) read failed p is = inr (same_design bytes design.parts p read is)
+pub every_text : (bytes : List ℕ) (answer : Result Design TextFault) → IfOk answer (λ design. IsDesignText bytes design) → IfErr answer (λ fault. (fault ≡ Memory) ⊎ IsDesignFault bytes fault)
+    → (p : DesignParts) → IsDesignText bytes p → (answer ≡ Err Memory) ⊎ IsOkAnd answer (λ design. design_numbers design ≡ design_numbers p)
+every_text bytes (Ok design) read failed p is = inr (same_design bytes design p read is)
 every_text bytes (Err fault) read failed p is = elim failed [ inl none ↦ inl (ap Err none) | inr first ↦ absurd (no_fault bytes p fault is first) ]
 
-pub every_fault : (bytes : List ℕ) (answer : Result Design TextFault) → IfOk answer (λ design. IsDesignText bytes design.parts) → IfErr answer (λ fault. (fault ≡ Memory) ⊎ IsDesignFault bytes fault)
+pub every_fault : (bytes : List ℕ) (answer : Result Design TextFault) → IfOk answer (λ design. IsDesignText bytes design) → IfErr answer (λ fault. (fault ≡ Memory) ⊎ IsDesignFault bytes fault)
     → (fault : TextFault) → IsDesignFault bytes fault → (answer ≡ Err Memory) ⊎ (answer ≡ Err fault)
-every_fault bytes (Ok design) read failed fault first = absurd (no_fault bytes design.parts fault read first)
+every_fault bytes (Ok design) read failed fault first = absurd (no_fault bytes design fault read first)
 every_fault bytes (Err other) read failed fault first = elim failed [ inl none ↦ inl (ap Err none) | inr also ↦ inr (ap Err (same_fault bytes other fault also first)) ]

@@ -28,12 +28,12 @@ use toml::Value;
 /// The design that a text writes, or the text's first fault: that it is no TOML document, then the first key in the order of the
 /// places that is absent, then a further key, and then for each place in turn the shape of its value and the range of its numbers.
 pub fn read_design(alloc: Global, bytes: &[u8]) -> Result<Design, TextFault>
-    ensures text { IfOk result (λ design. IsDesignText bytes.now design.parts) }
+    ensures text { IfOk result (λ design. IsDesignText bytes.now design) }
     ensures fault { IfErr result (λ fault. (fault ≡ TextFault.Memory) ⊎ IsDesignFault bytes.now fault) }
 
     // The other way round, unless memory runs out.
     ensures every_text { (p : DesignParts) → IsDesignText bytes.now p
-        → (result ≡ Err TextFault.Memory) ⊎ IsOkAnd result (λ design. design_numbers design.parts ≡ design_numbers p) }
+        → (result ≡ Err TextFault.Memory) ⊎ IsOkAnd result (λ design. design_numbers design ≡ design_numbers p) }
     ensures every_fault { (fault : TextFault) → IsDesignFault bytes.now fault
         → (result ≡ Err TextFault.Memory) ⊎ (result ≡ Err fault) }
 {
@@ -42,7 +42,7 @@ pub fn read_design(alloc: Global, bytes: &[u8]) -> Result<Design, TextFault>
 
 // The same, where the other way round follows.
 fn read_text(alloc: Global, bytes: &[u8]) -> Result<Design, TextFault>
-    ensures text { IfOk result (λ design. IsDesignText bytes.now design.parts) }
+    ensures text { IfOk result (λ design. IsDesignText bytes.now design) }
     ensures fault { IfErr result (λ fault. (fault ≡ TextFault.Memory) ⊎ IsDesignFault bytes.now fault) }
 {
     let document = read_document(alloc, bytes)?;

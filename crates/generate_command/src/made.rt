@@ -26,10 +26,10 @@ fn refusal_status(refusal: Refusal) -> Status
 
 /// The controller and the bounds of a design with a policy, or the status that tells why there are none.
 pub fn make_controller(alloc: Global, design: &Design, policy: &Policy) -> Result<Made, Status>
-    requires { IsPolicyFor (design_of design.now.parts) (plans_of policy.now) }
-    ensures made { IfOk result (λ made. IsMadeOf design.now.parts (plans_of policy.now) made.controller made.bounds) }
-    ensures called { IfOk result (λ _. IsAnswer (MakingCalls design.now.parts (plans_of policy.now)) Status.Done) }
-    ensures refused { IfErr result (λ e. (e ≡ Status.Memory) ⊎ IsAnswer (MakingCalls design.now.parts (plans_of policy.now)) e) }
+    requires { IsPolicyFor (design_of design.now) (plans_of policy.now) }
+    ensures made { IfOk result (λ made. IsMadeOf design.now (plans_of policy.now) made.controller made.bounds) }
+    ensures called { IfOk result (λ _. IsAnswer (MakingCalls design.now (plans_of policy.now)) Status.Done) }
+    ensures refused { IfErr result (λ e. (e ≡ Status.Memory) ⊎ IsAnswer (MakingCalls design.now (plans_of policy.now)) e) }
     ensures not_done { IfErr result (λ e. e ≢ Status.Done) }
 {
     match generate(alloc, design, policy) {

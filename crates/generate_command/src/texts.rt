@@ -42,10 +42,10 @@ fn texts_of(
     policy: &Policy,
     report_name: &str,
 ) -> Result<Texts, Status>
-    requires { IsPolicyFor (design_of design.now.parts) (plans_of policy.now) }
-    ensures texts { IfOk result (λ t. AreTextsFor design.now.parts (plans_of policy.now) report_name.now t.controller.items t.report.items) }
-    ensures called { IfOk result (λ _. IsAnswer (MakingCalls design.now.parts (plans_of policy.now)) Status.Done) }
-    ensures refused { IfErr result (λ e. (e ≡ Status.Memory) ⊎ IsAnswer (MakingCalls design.now.parts (plans_of policy.now)) e) }
+    requires { IsPolicyFor (design_of design.now) (plans_of policy.now) }
+    ensures texts { IfOk result (λ t. AreTextsFor design.now (plans_of policy.now) report_name.now t.controller.items t.report.items) }
+    ensures called { IfOk result (λ _. IsAnswer (MakingCalls design.now (plans_of policy.now)) Status.Done) }
+    ensures refused { IfErr result (λ e. (e ≡ Status.Memory) ⊎ IsAnswer (MakingCalls design.now (plans_of policy.now)) e) }
     ensures not_done { IfErr result (λ e. e ≢ Status.Done) }
 {
     let made = make_controller(alloc, design, policy)?;

@@ -31,8 +31,8 @@ fn read_controller_for<S: Store>(
     store: &mut S,
 ) -> Result<Controller, Status>
     ensures right { IfOk result (λ c. IsControllerRead 2 (S.held store.old) name.now c) }
-    ensures matched { IfOk result (λ c. IsFor c (design_of design.now.parts)) }
-    ensures ends { IfErr result (λ e. EndsMatching (design_of design.now.parts) (S.held store.old) name.now (S.read_faults store.old name.now) (S.read_faults store.new name.now) e) }
+    ensures matched { IfOk result (λ c. IsFor c (design_of design.now)) }
+    ensures ends { IfErr result (λ e. EndsMatching (design_of design.now) (S.held store.old) name.now (S.read_faults store.old name.now) (S.read_faults store.new name.now) e) }
     ensures held { S.held store.new ≡ S.held store.old }
     ensures reads { NoneFalls (S.read_faults store.old) (S.read_faults store.new) }
     ensures writes { NoneFalls (S.write_faults store.old) (S.write_faults store.new) }
@@ -47,7 +47,7 @@ fn read_controller_for<S: Store>(
 // The three files, or the status that ends the run.
 pub fn read_loops<S: Store>(alloc: Global, words: &Words, store: &mut S) -> Result<Loops, Status>
     requires { length words.now ≡ 5 }
-    ensures right { IfOk result (λ l. AreLoopsRead words.now (S.held store.old) l.design.parts l.controller l.states) }
+    ensures right { IfOk result (λ l. AreLoopsRead words.now (S.held store.old) l.design l.controller l.states) }
     ensures width { IfOk result (λ l. l.states.cols ≡ l.controller.states) }
     ensures count { IfOk result (λ l. length l.states.rows < 2 ^ 32) }
     ensures ends { IfErr result (λ e. EndsLoops words.now (S.held store.old) (S.read_faults store.old) (S.read_faults store.new) e) }

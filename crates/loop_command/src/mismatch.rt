@@ -10,7 +10,7 @@ use qp_model::Design;
 
 // The status that tells the first of states, inputs and grid in which they differ; none where the controller is for the design.
 pub fn mismatch_of(design: &Design, controller: &Controller) -> Option<Status>
-    ensures { MatchOption result (IsFor controller.now (design_of design.now.parts)) (λ status. IsMismatch (design_of design.now.parts) controller.now status) }
+    ensures { MatchOption result (IsFor controller.now (design_of design.now)) (λ status. IsMismatch (design_of design.now) controller.now status) }
 {
     let (d, c) = (design.parts(), controller.parts());
     if d.states != c.n {

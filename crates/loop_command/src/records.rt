@@ -41,11 +41,11 @@ fn print_records<O: Sink>(
     turns: u32,
     out: &mut O,
 ) -> Status
-    requires matched { IsFor kernel.old.controller (design_of design.now.parts) }
+    requires matched { IsFor kernel.old.controller (design_of design.now) }
     requires width { states.now.cols ≡ kernel.old.controller.states }
     requires count { length states.now.rows < 2 ^ 32 }
-    ensures ends { LoopsEnd (design_of design.now.parts) kernel.old.controller turns states.now result }
-    ensures printed { IfSome (O.got out.old) (λ old. IsSomeAnd (O.got out.new) (LoopsPrint (design_of design.now.parts) kernel.old.controller turns states.now result old)) }
+    ensures ends { LoopsEnd (design_of design.now) kernel.old.controller turns states.now result }
+    ensures printed { IfSome (O.got out.old) (λ old. IsSomeAnd (O.got out.new) (LoopsPrint (design_of design.now) kernel.old.controller turns states.now result old)) }
     ensures quiet { IsCaused result → result ≢ Status.Done → ¬ TellsLeaving result → out.new ≡ out.old }
     ensures failed { result ≡ Status.WriteFault 0 → Rose (O.faults out.old) (O.faults out.new) }
     ensures no_fewer { O.faults out.old ≤ O.faults out.new }
@@ -61,11 +61,11 @@ fn print_records<O: Sink>(
 
 // Prints the lines of all loops, by one kernel.
 pub fn print_loops<O: Sink>(alloc: Global, loops: &Loops, turns: u32, out: &mut O) -> Status
-    requires matched { IsFor loops.now.controller (design_of loops.now.design.parts) }
+    requires matched { IsFor loops.now.controller (design_of loops.now.design) }
     requires width { loops.now.states.cols ≡ loops.now.controller.states }
     requires count { length loops.now.states.rows < 2 ^ 32 }
-    ensures ends { LoopsEnd (design_of loops.now.design.parts) loops.now.controller turns loops.now.states result }
-    ensures printed { IfSome (O.got out.old) (λ old. IsSomeAnd (O.got out.new) (LoopsPrint (design_of loops.now.design.parts) loops.now.controller turns loops.now.states result old)) }
+    ensures ends { LoopsEnd (design_of loops.now.design) loops.now.controller turns loops.now.states result }
+    ensures printed { IfSome (O.got out.old) (λ old. IsSomeAnd (O.got out.new) (LoopsPrint (design_of loops.now.design) loops.now.controller turns loops.now.states result old)) }
     ensures quiet { IsCaused result → result ≢ Status.Done → ¬ TellsLeaving result → out.new ≡ out.old }
     ensures failed { result ≡ Status.WriteFault 0 → Rose (O.faults out.old) (O.faults out.new) }
     ensures no_fewer { O.faults out.old ≤ O.faults out.new }

@@ -92,8 +92,8 @@ fn assembled(
 /// design of which a quantity, `prediction`, `hessian` or `rows`, is above `2^126`, and names the first. (Substituting the
 /// prediction into cost and limits, as in Rawlings, Mayne and Diehl, Model Predictive Control.)
 pub fn condense(alloc: Global, design: &Design) -> Result<Condensed, CondenseFault>
-    ensures form { IfOk result (λ condensed. IsFormOf design.now.parts condensed) }
-    ensures wide { (quantity : Quantity) → (result ≡ Err (CondenseFault.TooWide quantity)) ↔ IsFirstWideForm (design_of design.now.parts) quantity }
+    ensures form { IfOk result (λ condensed. IsFormOf design.now condensed) }
+    ensures wide { (quantity : Quantity) → (result ≡ Err (CondenseFault.TooWide quantity)) ↔ IsFirstWideForm (design_of design.now) quantity }
 {
     let parts = design.parts();
     let sizes = sizes_of(parts)?;

@@ -55,13 +55,13 @@ fn states_of(alloc: Global, bytes: &[u8], n: usize) -> Result<Mat, TextFault>
 /// holds no number, or no denominator where that is wanted. After all records `Count` where there isn't one for each corner.
 pub fn read_policy(alloc: Global, bytes: &[u8], design: &Design) -> Result<Policy, TextFault>
     requires { length bytes.now < 2 ^ 32 }
-    ensures found { IfOk result (λ p. IsPolicyText bytes.now (design_of design.now.parts) (plans_of p)) }
-    ensures sized { IfOk result (λ p. IsPolicyFor (design_of design.now.parts) (plans_of p)) }
-    ensures fault { IfErr result (λ e. (e ≡ Memory) ⊎ IsPolicyFault bytes.now (design_of design.now.parts) e) }
+    ensures found { IfOk result (λ p. IsPolicyText bytes.now (design_of design.now) (plans_of p)) }
+    ensures sized { IfOk result (λ p. IsPolicyFor (design_of design.now) (plans_of p)) }
+    ensures fault { IfErr result (λ e. (e ≡ Memory) ⊎ IsPolicyFault bytes.now (design_of design.now) e) }
 
     // The other way round, with nothing but want of memory in between.
-    ensures right { (plans : Plans) → IsPolicyText bytes.now (design_of design.now.parts) plans → MatchResult result (λ p. plans_of p ≡ plans) (λ e. e ≡ Memory) }
-    ensures first { (told : TextFault) → IsPolicyFault bytes.now (design_of design.now.parts) told → MatchResult result (λ _. ⊥) (λ e. (e ≡ told) ⊎ (e ≡ Memory)) }
+    ensures right { (plans : Plans) → IsPolicyText bytes.now (design_of design.now) plans → MatchResult result (λ p. plans_of p ≡ plans) (λ e. e ≡ Memory) }
+    ensures first { (told : TextFault) → IsPolicyFault bytes.now (design_of design.now) told → MatchResult result (λ _. ⊥) (λ e. (e ≡ told) ⊎ (e ≡ Memory)) }
 {
     policy_of(alloc, bytes, design.parts())
 }

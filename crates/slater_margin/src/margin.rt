@@ -73,17 +73,17 @@ fn corner_margin(
 /// `TooWide` with the first of `prediction`, `corner_slack` and `corner_cost` that is above `2^126`; `NoMargin` with the first corner,
 /// and in it the first row, whose slack is less than `2^-16`.
 pub fn margins(alloc: Global, design: &Design, policy: &Policy) -> Result<Margin, MarginFault>
-    requires { IsPolicyFor (design_of design.now.parts) (plans_of policy.now) }
-    ensures room { OnOk result (HasCornerRoom (design_of design.now.parts) (plans_of policy.now)) }
-    ensures margin { IfOk result (λ m. IsMargin (design_of design.now.parts) (plans_of policy.now) m) }
+    requires { IsPolicyFor (design_of design.now) (plans_of policy.now) }
+    ensures room { OnOk result (HasCornerRoom (design_of design.now) (plans_of policy.now)) }
+    ensures margin { IfOk result (λ m. IsMargin (design_of design.now) (plans_of policy.now) m) }
     ensures slack { IfOk result (λ m. pos 1 ≤ℤ m.units) }
     ensures cost { IfOk result (λ m. pos 0 ≤ℤ m.cost) }
     ensures wide { (quantity : Quantity) → (result ≡ Err (MarginFault.TooWide quantity)) ↔
-        IsFirstWideCorner (design_of design.now.parts) (plans_of policy.now) quantity }
+        IsFirstWideCorner (design_of design.now) (plans_of policy.now) quantity }
     ensures short { (corner row : ℕ) (slack : Frac) → result ≡ Err (MarginFault.NoMargin corner row slack) →
-        HasCornerRoom (design_of design.now.parts) (plans_of policy.now) × IsFirstShort (design_of design.now.parts) (plans_of policy.now) corner row slack }
+        HasCornerRoom (design_of design.now) (plans_of policy.now) × IsFirstShort (design_of design.now) (plans_of policy.now) corner row slack }
     ensures no_give_up { (corner row : ℕ) (slack : Frac) →
-        IsFirstShort (design_of design.now.parts) (plans_of policy.now) corner row slack → IsErr result }
+        IsFirstShort (design_of design.now) (plans_of policy.now) corner row slack → IsErr result }
 {
     let parts = design.parts();
     test_room(parts, policy)?;

@@ -70,7 +70,7 @@ fn parts(rt: &impl Abort, alloc: Global, made: &TestDesign) -> Result<DesignPart
 
 // Whether there is a plan for each corner, of this design's sizes, and of small numbers.
 fn is_policy_for(design: &Design, policy: &Policy) -> bool
-    ensures { IsTrue result → IsPolicyFor (design_of design.now.parts) (plans_of policy.now) }
+    ensures { IsTrue result → IsPolicyFor (design_of design.now) (plans_of policy.now) }
 {
     let parts = design.parts();
     let corners = 1 << parts.states;

@@ -44,11 +44,11 @@ pub struct ErrorSums {
 /// # Errors
 /// `error` is above `2^126`.
 pub fn error_sums(c: &Condensed, design: &Design, r: i128) -> Result<ErrorSums, Wide>
-    requires form { IsFormOf design.now.parts c.now }
+    requires form { IsFormOf design.now c.now }
     requires some { pos 1 ≤ℤ r }
     requires narrow { r ≤ℤ pos (2 ^ 44) }
-    ensures value { OkIff result (error_size (design_of design.now.parts) (unsigned_abs r) ≤ 2 ^ 126)
-        (whole_sums (error_sums_of (design_of design.now.parts) (unsigned_abs r))) }
+    ensures value { OkIff result (error_size (design_of design.now) (unsigned_abs r) ≤ 2 ^ 126)
+        (whole_sums (error_sums_of (design_of design.now) (unsigned_abs r))) }
     ensures given { IfOk result (λ e. AreSums e) }
     ensures named { IfErr result (λ e. e.0 ≡ Error) }
 {

@@ -13,7 +13,7 @@ use Rattle.closed_loop.proofs.turns.run_turns.Goals as goal
 
 pub returns-in_err-state-clause-refused : goal.returns-in_err-state-clause-refused
 returns-in_err-state-clause-refused g c =
-    let d = design_of c.args.design.now.parts in
+    let d = design_of c.args.design.now in
     let n = c.args.k.now.controller in
     let start = c.args.start.now in
     let got = g.O.Sink.got c.args.out.now in
@@ -22,7 +22,7 @@ returns-in_err-state-clause-refused g c =
 
 pub returns-in_err-next-clause-refused : goal.returns-in_err-next-clause-refused
 returns-in_err-next-clause-refused g c =
-    let d = design_of c.args.design.now.parts in
+    let d = design_of c.args.design.now in
     let n = c.args.k.now.controller in
     let start = c.args.start.now in
     let got = g.O.Sink.got c.args.out.now in
@@ -31,7 +31,7 @@ returns-in_err-next-clause-refused g c =
 
 pub loop-gone-init : goal.loop-gone-init
 loop-gone-init g c =
-    let d = design_of c.args.design.now.parts in
+    let d = design_of c.args.design.now in
     let n = c.args.k.now.controller in
     let start = c.args.start.now in
     record {
@@ -46,7 +46,7 @@ loop-gone-init g c =
 
 pub returns-in_err-make_turn-clause-refused : goal.returns-in_err-make_turn-clause-refused
 returns-in_err-make_turn-clause-refused g c =
-    let d = design_of c.args.design.now.parts in
+    let d = design_of c.args.design.now in
     let n = c.args.k.now.controller in
     let start = c.args.start.now in
     let gone = c.loop-gone.gone in
@@ -63,7 +63,7 @@ returns-in_err-make_turn-clause-refused g c =
 
 pub loop-gone-preserved : goal.loop-gone-preserved
 loop-gone-preserved g c =
-    let d = design_of c.args.design.now.parts in
+    let d = design_of c.args.design.now in
     let n = c.args.k.now.controller in
     let start = c.args.start.now in
     let gone = c.loop-gone.gone in

@@ -13,13 +13,13 @@ use Rattle.demo_command.proofs.command.demo.Goals as goal
 
 pub print_text-requires-clause-inside : goal.print_text-requires-clause-inside
 print_text-requires-clause-inside g c =
-    inside (design_of c.in-Ok.inputs.design.parts) c.in-Ok-make_controller.made.controller c.in-Ok.inputs.states c.in-Ok-make_controller.ensures.made.built.made.sizes c.in-Ok.ensures.states c.in-Ok.ensures.inside
+    inside (design_of c.in-Ok.inputs.design) c.in-Ok-make_controller.made.controller c.in-Ok.inputs.states c.in-Ok-make_controller.ensures.made.built.made.sizes c.in-Ok.ensures.states c.in-Ok.ensures.inside
 
 pub returns-in-Ok-make_controller-clause-called : goal.returns-in-Ok-make_controller-clause-called
 returns-in-Ok-make_controller-clause-called g c = λ caused.
     let done = printed_done c.print_text.result c.print_text.ensures.only caused in
     subst (λ (s : Status). IsAnswer (DemoCalls c.args.number) s) (sym done)
-    (answer_is c.args.number c.in-Ok.inputs.design.parts (plans_of c.in-Ok.inputs.policy) Done c.in-Ok.ensures.made c.in-Ok.ensures.one c.in-Ok-make_controller.ensures.called)
+    (answer_is c.args.number c.in-Ok.inputs.design (plans_of c.in-Ok.inputs.policy) Done c.in-Ok.ensures.made c.in-Ok.ensures.one c.in-Ok-make_controller.ensures.called)
 
 pub returns-in-Ok-make_controller-clause-prints : goal.returns-in-Ok-make_controller-clause-prints
 returns-in-Ok-make_controller-clause-prints g c =
@@ -27,7 +27,7 @@ returns-in-Ok-make_controller-clause-prints g c =
     let bounds = c.in-Ok-make_controller.made.bounds in
     let states = c.in-Ok.inputs.states in
     let is =
-    shown c.args.number c.in-Ok.inputs.design.parts (plans_of c.in-Ok.inputs.policy) controller bounds states c.in-Ok.ensures.made c.in-Ok-make_controller.ensures.made c.in-Ok.ensures.states c.in-Ok.ensures.inside
+    shown c.args.number c.in-Ok.inputs.design (plans_of c.in-Ok.inputs.policy) controller bounds states c.in-Ok.ensures.made c.in-Ok-make_controller.ensures.made c.in-Ok.ensures.states c.in-Ok.ensures.inside
     in
     prints_told controller bounds states c.args.number c.print_text.result (g.O.Sink.got c.args.out.now) (g.O.Sink.got c.print_text.new.out) is c.print_text.ensures.only c.print_text.ensures.printed
 
@@ -41,15 +41,15 @@ pub returns-in-Ok-make_controller-clause-write_fault : goal.returns-in-Ok-make_c
 returns-in-Ok-make_controller-clause-write_fault g c = λ file is.
     let rose = printed_fault _ c.print_text.result c.print_text.ensures.only c.print_text.ensures.failed file is in
     let answer =
-    answer_is c.args.number c.in-Ok.inputs.design.parts (plans_of c.in-Ok.inputs.policy) Done c.in-Ok.ensures.made c.in-Ok.ensures.one c.in-Ok-make_controller.ensures.called
+    answer_is c.args.number c.in-Ok.inputs.design (plans_of c.in-Ok.inputs.policy) Done c.in-Ok.ensures.made c.in-Ok.ensures.one c.in-Ok-make_controller.ensures.called
     in
     (rose.0, answer.called, rose.1)
 
 pub returns-clause-called : goal.returns-clause-called
 returns-clause-called g c = λ caused.
-    refused_is c.args.number c.in-Ok.inputs.design.parts (plans_of c.in-Ok.inputs.policy) c.in-Err.status c.in-Ok.ensures.made c.in-Ok.ensures.one c.in-Err.ensures.refused caused
+    refused_is c.args.number c.in-Ok.inputs.design (plans_of c.in-Ok.inputs.policy) c.in-Err.status c.in-Ok.ensures.made c.in-Ok.ensures.one c.in-Err.ensures.refused caused
 
 pub returns-clause-prints : goal.returns-clause-prints
 returns-clause-prints g c =
     quiet_told c.args.number c.in-Err.status (g.O.Sink.got c.args.out.now) c.in-Err.ensures.not_done
-    (λ is. refused_no_write c.in-Ok.inputs.design.parts (plans_of c.in-Ok.inputs.policy) c.in-Err.status c.in-Err.ensures.refused 0 is)
+    (λ is. refused_no_write c.in-Ok.inputs.design (plans_of c.in-Ok.inputs.policy) c.in-Err.status c.in-Err.ensures.refused 0 is)

@@ -10,7 +10,7 @@ right_design-requires c = let made = c.in_ok-texts.ensures.made in rw c.deref.en
 
 pub right_policy-requires-clause-right : goal.right_policy-requires-clause-right
 right_policy-requires-clause-right c =
-    let p = c.in_ok-design.design.parts in
+    let p = c.in_ok-design.design in
     let one = rw c.deref.ensures.value at c.in_ok-design.ensures.one in
     let are = texts_of c.args.number _ _ _ c.in_ok-texts.ensures.made c.made_law.ensures p one in
     rw (c.deref-2.ensures.value, c.in_ok-texts.ensures.policy) (coasting_plans p.stages, are.policy)
@@ -18,7 +18,7 @@ right_policy-requires-clause-right c =
 pub right_states-requires-clause-right : goal.right_states-requires-clause-right
 right_states-requires-clause-right c =
     let one = rw c.deref.ensures.value at c.in_ok-design.ensures.one in
-    let are = texts_of c.args.number _ _ _ c.in_ok-texts.ensures.made c.made_law.ensures c.in_ok-design.design.parts one in
+    let are = texts_of c.args.number _ _ _ c.in_ok-texts.ensures.made c.made_law.ensures c.in_ok-design.design one in
     rw (c.deref-3.ensures.value, c.in_ok-texts.ensures.states, c.parts.ensures.value) (corner_matrix, are.states)
 
 pub returns-clause-made : goal.returns-clause-made
@@ -29,19 +29,19 @@ returns-clause-made c = record {
 
 pub returns-clause-one : goal.returns-clause-one
 returns-clause-one c =
-    one_of c.args.number c.in_ok-design.design.parts (plans_of c.in_ok-policy.policy) (rw (c.deref.ensures.value, c.in_ok-texts.ensures.design) at c.in_ok-design.ensures.one)
+    one_of c.args.number c.in_ok-design.design (plans_of c.in_ok-policy.policy) (rw (c.deref.ensures.value, c.in_ok-texts.ensures.design) at c.in_ok-design.ensures.one)
     (rw (c.deref-2.ensures.value, c.in_ok-texts.ensures.policy) at c.in_ok-policy.ensures.one)
 
 pub returns-clause-some : goal.returns-clause-some
 returns-clause-some c =
     let one = rw c.deref.ensures.value at c.in_ok-design.ensures.one in
-    let are = texts_of c.args.number _ _ _ c.in_ok-texts.ensures.made c.made_law.ensures c.in_ok-design.design.parts one in
+    let are = texts_of c.args.number _ _ _ c.in_ok-texts.ensures.made c.made_law.ensures c.in_ok-design.design one in
     let text : IsStatesText c.deref-3.result.now c.parts.result.now.states corner_matrix = rw (c.deref-3.ensures.value, c.in_ok-texts.ensures.states, c.parts.ensures.value) are.states in
     corners_some c.in_ok-states.states (c.in_ok-states.ensures.one corner_matrix text)
 
 pub returns-clause-inside : goal.returns-clause-inside
 returns-clause-inside c =
     let one = rw c.deref.ensures.value at c.in_ok-design.ensures.one in
-    let are = texts_of c.args.number _ _ _ c.in_ok-texts.ensures.made c.made_law.ensures c.in_ok-design.design.parts one in
+    let are = texts_of c.args.number _ _ _ c.in_ok-texts.ensures.made c.made_law.ensures c.in_ok-design.design one in
     let text : IsStatesText c.deref-3.result.now c.parts.result.now.states corner_matrix = rw (c.deref-3.ensures.value, c.in_ok-texts.ensures.states, c.parts.ensures.value) are.states in
-    corners_inside (design_of c.in_ok-design.design.parts) c.in_ok-states.states (c.in_ok-states.ensures.one corner_matrix text) are.box
+    corners_inside (design_of c.in_ok-design.design) c.in_ok-states.states (c.in_ok-states.ensures.one corner_matrix text) are.box

@@ -12,20 +12,20 @@ use Rattle.design_engine.proofs.assemble.controller_of.Goals as goal
 pub returns-in_default-clause-wide : goal.returns-in_default-clause-wide
 returns-in_default-clause-wide c =
     let clamp = over _ (rw (to_z-of_z w128 _ c.ranges.r) at c.in_default.ensures) in
-    (refl, wide_clamp c.args.design.now.parts (unsigned_abs c.args.r) c.args.s c.args.steps c.args.f c.requires.form.design clamp)
+    (refl, wide_clamp c.args.design.now (unsigned_abs c.args.r) c.args.s c.args.steps c.args.f c.requires.form.design clamp)
 
 pub widest_gains-requires-clause-solvable : goal.widest_gains-requires-clause-solvable
-widest_gains-requires-clause-solvable c = solvable_from c.args.design.now.parts c.args.condensed.now c.requires.form
+widest_gains-requires-clause-solvable c = solvable_from c.args.design.now c.args.condensed.now c.requires.form
 
 pub widest_gains-requires-clause-room : goal.widest_gains-requires-clause-room
-widest_gains-requires-clause-room c = rw (descent_equal c.args.design.now.parts c.args.condensed.now c.args.f c.requires.form) c.requires.room
+widest_gains-requires-clause-room c = rw (descent_equal c.args.design.now c.args.condensed.now c.args.f c.requires.form) c.requires.room
 
 pub parts_with-requires-clause-rows : goal.parts_with-requires-clause-rows
-parts_with-requires-clause-rows c = rw c.parts.ensures.value (c.in_ok-rows.ensures c.args.design.now.parts c.requires.form)
+parts_with-requires-clause-rows c = rw c.parts.ensures.value (c.in_ok-rows.ensures c.args.design.now c.requires.form)
 
 pub greatest_sum-requires : goal.greatest_sum-requires
 greatest_sum-requires c =
-    let p = c.args.design.now.parts in
+    let p = c.args.design.now in
     let fits : FitsSigned w128 c.in-Some.clamp = search rules in
     let clamp = rw (to_z-of_z w128 _ c.ranges.r) at c.in-Some.ensures in
     let fr = (rw (to_z-of_z w128 _ fits, c.parts.ensures.value) at c.in_ok-parts.ensures.frame) (unsigned_abs c.args.r) clamp.1 in
@@ -35,7 +35,7 @@ greatest_sum-requires c =
 
 pub returns-then-is_none-clause-wide : goal.returns-then-is_none-clause-wide
 returns-then-is_none-clause-wide c =
-    let p = c.args.design.now.parts in
+    let p = c.args.design.now in
     let fits : FitsSigned w128 c.in-Some.clamp = search rules in
     let clamp = rw (to_z-of_z w128 _ c.ranges.r) at c.in-Some.ensures in
     let fr = (rw (to_z-of_z w128 _ fits, c.parts.ensures.value) at c.in_ok-parts.ensures.frame) (unsigned_abs c.args.r) clamp.1 in
@@ -47,7 +47,7 @@ returns-then-is_none-clause-wide c =
 
 pub with_width-requires-clause-sized : goal.with_width-requires-clause-sized
 with_width-requires-clause-sized c =
-    let p = c.args.design.now.parts in
+    let p = c.args.design.now in
     let fits : FitsSigned w128 c.in-Some.clamp = search rules in
     let clamp = rw (to_z-of_z w128 _ c.ranges.r) at c.in-Some.ensures in
     let fr = (rw (to_z-of_z w128 _ fits, c.parts.ensures.value) at c.in_ok-parts.ensures.frame) (unsigned_abs c.args.r) clamp.1 in
@@ -57,7 +57,7 @@ with_width-requires-clause-sized c =
 
 pub with_width-requires-clause-room : goal.with_width-requires-clause-room
 with_width-requires-clause-room c =
-    let p = c.args.design.now.parts in
+    let p = c.args.design.now in
     let fits : FitsSigned w128 c.in-Some.clamp = search rules in
     let clamp = rw (to_z-of_z w128 _ c.ranges.r) at c.in-Some.ensures in
     let fr = (rw (to_z-of_z w128 _ fits, c.parts.ensures.value) at c.in_ok-parts.ensures.frame) (unsigned_abs c.args.r) clamp.1 in
@@ -71,7 +71,7 @@ with_width-requires-clause-room c =
 
 pub returns-clause-made : goal.returns-clause-made
 returns-clause-made c =
-    let p = c.args.design.now.parts in
+    let p = c.args.design.now in
     let fits : FitsSigned w128 c.in-Some.clamp = search rules in
     let clamp = rw (to_z-of_z w128 _ c.ranges.r) at c.in-Some.ensures in
     let fr = (rw (to_z-of_z w128 _ fits, c.parts.ensures.value) at c.in_ok-parts.ensures.frame) (unsigned_abs c.args.r) clamp.1 in
@@ -81,7 +81,7 @@ returns-clause-made c =
 
 pub returns-clause-fits : goal.returns-clause-fits
 returns-clause-fits c =
-    let p = c.args.design.now.parts in
+    let p = c.args.design.now in
     let fits : FitsSigned w128 c.in-Some.clamp = search rules in
     let clamp = rw (to_z-of_z w128 _ c.ranges.r) at c.in-Some.ensures in
     let fr = (rw (to_z-of_z w128 _ fits, c.parts.ensures.value) at c.in_ok-parts.ensures.frame) (unsigned_abs c.args.r) clamp.1 in

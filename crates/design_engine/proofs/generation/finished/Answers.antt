@@ -23,7 +23,7 @@ controller_of-requires-clause-room c = c.in_ok-gains.ensures.fits _ c.requires.f
 
 pub controller_of-requires-clause-steps : goal.controller_of-requires-clause-steps
 controller_of-requires-clause-steps c =
-    let some = steps_some c.args.scaled.now.s (multiplier_of c.args.scaled.now.margin) _ (bound_some c.args.scaled.now.margin) (half_some c.args.design.now.parts c.requires.form.design) in
+    let some = steps_some c.args.scaled.now.s (multiplier_of c.args.scaled.now.margin) _ (bound_some c.args.scaled.now.margin) (half_some c.args.design.now c.requires.form.design) in
     (rw c.requires.steps some, c.requires.few)
 
 pub returns-in_err-controller-clause-refused : goal.returns-in_err-controller-clause-refused
@@ -35,22 +35,22 @@ returns-in_err-controller-clause-refused c plans passes =
 
 pub bounds_of-bounds-requires-clause-small : goal.bounds_of-bounds-requires-clause-small
 bounds_of-bounds-requires-clause-small c =
-    at_most _ _ c.requires.cost c.requires.choice.within (limit_small c.args.design.now.parts (multiplier_of c.args.scaled.now.margin) c.requires.form.design)
+    at_most _ _ c.requires.cost c.requires.choice.within (limit_small c.args.design.now (multiplier_of c.args.scaled.now.margin) c.requires.form.design)
 
 pub bounds_of-bounds-requires-clause-fits : goal.bounds_of-bounds-requires-clause-fits
 bounds_of-bounds-requires-clause-fits c = rw (c.requires.steps, c.requires.cost)
-    (undercut_small c.args.scaled.now.s (multiplier_of c.args.scaled.now.margin) (half_target (targets_of c.args.design.now.parts)) _
-    (bound_some c.args.scaled.now.margin) c.requires.narrow (half_some c.args.design.now.parts c.requires.form.design)
-    (half_small c.args.design.now.parts c.requires.form.design) (omega (arith, c.requires.choice.within)))
+    (undercut_small c.args.scaled.now.s (multiplier_of c.args.scaled.now.margin) (half_target (targets_of c.args.design.now)) _
+    (bound_some c.args.scaled.now.margin) c.requires.narrow (half_some c.args.design.now c.requires.form.design)
+    (half_small c.args.design.now c.requires.form.design) (omega (arith, c.requires.choice.within)))
 
 pub returns-clause-built : goal.returns-clause-built
 returns-clause-built c plans policy passes =
     let r : SFits w128 c.args.scaled.now.r = search rules in
     let made = c.in_ok-controller.ensures.made in
-    built_from c.args.design.now.parts plans c.in_ok-controller.controller c.bounds_of-bounds.result c.args.scaled.now.margin _ _ _ _
+    built_from c.args.design.now plans c.in_ok-controller.controller c.bounds_of-bounds.result c.args.scaled.now.margin _ _ _ _
     c.requires.form.design policy passes c.requires.curved (whole_is c.args.scaled.now.r _ r c.requires.multiplier) c.requires.steps c.bounds_of-bounds.ensures.margin
     (search rules) made
-    (c.bounds_of-bounds.ensures.bounds (design_of c.args.design.now.parts) c.requires.cost made.step_exponent made.steps made.fraction_bits)
+    (c.bounds_of-bounds.ensures.bounds (design_of c.args.design.now) c.requires.cost made.step_exponent made.steps made.fraction_bits)
 
 pub returns-clause-passes : goal.returns-clause-passes
 returns-clause-passes c plans passes =

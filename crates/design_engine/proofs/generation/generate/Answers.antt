@@ -11,13 +11,13 @@ use Rattle.design_engine.proofs.generation.generate.Goals as goal
 -- ---- a refusal by the first tests
 pub returns-in_err-scaled-clause-every_refusal : goal.returns-in_err-scaled-clause-every_refusal
 returns-in_err-scaled-clause-every_refusal c =
-    every_from c.args.design.now.parts (targets_of c.args.design.now.parts) (plans_of c.args.policy.now) (search rules) c.requires c.from_residual.result
+    every_from c.args.design.now (targets_of c.args.design.now) (plans_of c.args.policy.now) (search rules) c.requires c.from_residual.result
     (refused_by c.from_residual.result _ _ c.from_residual.ensures.1 (λ e f. rw f c.in_err-scaled.ensures.refused))
     (ok_of_error c.from_residual.result _ c.from_residual.ensures.0)
 
 pub returns-in_err-scaled-clause-accepted : goal.returns-in_err-scaled-clause-accepted
 returns-in_err-scaled-clause-accepted c =
-    accepted_from c.args.design.now.parts (targets_of c.args.design.now.parts) (plans_of c.args.policy.now) (search rules) c.requires c.from_residual.result
+    accepted_from c.args.design.now (targets_of c.args.design.now) (plans_of c.args.policy.now) (search rules) c.requires c.from_residual.result
     (refused_by c.from_residual.result _ _ c.from_residual.ensures.1 (λ e f. rw f c.in_err-scaled.ensures.refused))
 
 -- ---- by the steps and the bits
@@ -28,14 +28,14 @@ returns-in_err-plan-clause-refused c =
 
 pub returns-in_err-plan-clause-every_refusal : goal.returns-in_err-plan-clause-every_refusal
 returns-in_err-plan-clause-every_refusal c =
-    every_from c.args.design.now.parts (targets_of c.args.design.now.parts) (plans_of c.args.policy.now) (search rules) c.requires c.from_residual-in_err-plan.result
+    every_from c.args.design.now (targets_of c.args.design.now) (plans_of c.args.policy.now) (search rules) c.requires c.from_residual-in_err-plan.result
     (refused_by c.from_residual-in_err-plan.result _ _ c.from_residual-in_err-plan.ensures.1
     (λ e f. rw f (inr (c.in_err-plan.ensures.refused (plans_of c.args.policy.now) c.in_ok-scaled.ensures.passes))))
     (ok_of_error c.from_residual-in_err-plan.result _ c.from_residual-in_err-plan.ensures.0)
 
 pub returns-in_err-plan-clause-accepted : goal.returns-in_err-plan-clause-accepted
 returns-in_err-plan-clause-accepted c =
-    accepted_from c.args.design.now.parts (targets_of c.args.design.now.parts) (plans_of c.args.policy.now) (search rules) c.requires c.from_residual-in_err-plan.result
+    accepted_from c.args.design.now (targets_of c.args.design.now) (plans_of c.args.policy.now) (search rules) c.requires c.from_residual-in_err-plan.result
     (refused_by c.from_residual-in_err-plan.result _ _ c.from_residual-in_err-plan.ensures.1
     (λ e f. rw f (inr (c.in_err-plan.ensures.refused (plans_of c.args.policy.now) c.in_ok-scaled.ensures.passes))))
 
@@ -59,13 +59,13 @@ pub returns-clause-certified : goal.returns-clause-certified
 returns-clause-certified c =
     let bits = c.in_ok-plan.ensures.passes (plans_of c.args.policy.now) c.in_ok-scaled.ensures.passes in
     ok_map c.finished.result _ _ (c.finished.ensures.built (plans_of c.args.policy.now) c.requires bits)
-    (λ (made : Made). built_certified c.args.design.now.parts (plans_of c.args.policy.now) made.controller made.bounds)
+    (λ (made : Made). built_certified c.args.design.now (plans_of c.args.policy.now) made.controller made.bounds)
 
 pub returns-clause-targets : goal.returns-clause-targets
 returns-clause-targets c =
     let bits = c.in_ok-plan.ensures.passes (plans_of c.args.policy.now) c.in_ok-scaled.ensures.passes in
     ok_map c.finished.result _ _ (c.finished.ensures.built (plans_of c.args.policy.now) c.requires bits)
-    (λ (made : Made). built_within c.args.design.now.parts (plans_of c.args.policy.now) made.controller made.bounds)
+    (λ (made : Made). built_within c.args.design.now (plans_of c.args.policy.now) made.controller made.bounds)
 
 pub returns-clause-refused : goal.returns-clause-refused
 returns-clause-refused c =
@@ -75,14 +75,14 @@ returns-clause-refused c =
 pub returns-clause-every_refusal : goal.returns-clause-every_refusal
 returns-clause-every_refusal c =
     let bits = c.in_ok-plan.ensures.passes (plans_of c.args.policy.now) c.in_ok-scaled.ensures.passes in
-    every_from c.args.design.now.parts (targets_of c.args.design.now.parts) (plans_of c.args.policy.now) (search rules) c.requires c.finished.result
+    every_from c.args.design.now (targets_of c.args.design.now) (plans_of c.args.policy.now) (search rules) c.requires c.finished.result
     (c.finished.ensures.refused (plans_of c.args.policy.now) bits)
-    (ok_map c.finished.result _ (λ made. IsPassed c.args.design.now.parts (targets_of c.args.design.now.parts) (plans_of c.args.policy.now))
+    (ok_map c.finished.result _ (λ made. IsPassed c.args.design.now (targets_of c.args.design.now) (plans_of c.args.policy.now))
     (c.finished.ensures.passes (plans_of c.args.policy.now) bits)
     (λ made h. record { margin = c.in_ok-scaled.scaled.margin; exponent = c.in_ok-scaled.scaled.s; bits = c.in_ok-plan.plan.choice.f; passes = h }))
 
 pub returns-clause-accepted : goal.returns-clause-accepted
 returns-clause-accepted c =
     let bits = c.in_ok-plan.ensures.passes (plans_of c.args.policy.now) c.in_ok-scaled.ensures.passes in
-    accepted_from c.args.design.now.parts (targets_of c.args.design.now.parts) (plans_of c.args.policy.now) (search rules) c.requires c.finished.result
+    accepted_from c.args.design.now (targets_of c.args.design.now) (plans_of c.args.policy.now) (search rules) c.requires c.finished.result
     (c.finished.ensures.refused (plans_of c.args.policy.now) bits)

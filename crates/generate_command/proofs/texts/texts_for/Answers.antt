@@ -42,30 +42,30 @@ returns-in_err-policy-clause-refused g c =
     let before = g.S.Store.read_faults c.read_design_file.new.store (word_of words 2) in
     let now = g.S.Store.read_faults c.read_policy_file.new.store (word_of words 2) in
     rw (err_same c.from_residual-in_err-policy.result _ c.from_residual-in_err-policy.ensures.1)
-    (λ caused. policy_ends words (g.S.Store.held c.args.store.now) c.in_ok-design.design.parts before now c.in_err-policy.field-0.0 right ends caused)
+    (λ caused. policy_ends words (g.S.Store.held c.args.store.now) c.in_ok-design.design before now c.in_err-policy.field-0.0 right ends caused)
 
 pub returns-in_err-policy-clause-not_done : goal.returns-in_err-policy-clause-not_done
 returns-in_err-policy-clause-not_done g c =
     rw (err_same c.from_residual-in_err-policy.result _ c.from_residual-in_err-policy.ensures.1)
-    (λ is. tells_not_done 2 _ c.in_err-policy.field-0.0 (policy_tells (design_of c.in_ok-design.design.parts) 2 _ c.at-2.result.now _ _ c.in_err-policy.field-0.0 c.in_err-policy.ensures.ends) is)
+    (λ is. tells_not_done 2 _ c.in_err-policy.field-0.0 (policy_tells (design_of c.in_ok-design.design) 2 _ c.at-2.result.now _ _ c.in_err-policy.field-0.0 c.in_err-policy.ensures.ends) is)
 
 pub returns-in_err-policy-clause-no_write : goal.returns-in_err-policy-clause-no_write
 returns-in_err-policy-clause-no_write g c =
     rw (err_same c.from_residual-in_err-policy.result _ c.from_residual-in_err-policy.ensures.1)
-    (λ file is. tells_no_write 2 _ c.in_err-policy.field-0.0 (policy_tells (design_of c.in_ok-design.design.parts) 2 _ c.at-2.result.now _ _ c.in_err-policy.field-0.0 c.in_err-policy.ensures.ends) file is)
+    (λ file is. tells_no_write 2 _ c.in_err-policy.field-0.0 (policy_tells (design_of c.in_ok-design.design) 2 _ c.at-2.result.now _ _ c.in_err-policy.field-0.0 c.in_err-policy.ensures.ends) file is)
 
 pub returns-in_err-policy-clause-read_fault : goal.returns-in_err-policy-clause-read_fault
 returns-in_err-policy-clause-read_fault g c =
     let right = rw c.at.ensures at c.in_ok-design.ensures.right in
     let ends = rw (c.at-2.ensures, c.in_ok-design.ensures.held) at c.in_err-policy.ensures.ends in
     rw (err_same c.from_residual-in_err-policy.result _ c.from_residual-in_err-policy.ensures.1)
-    (λ file is. policy_fault c.args.words.now (g.S.Store.held c.args.store.now) c.in_ok-design.design.parts (g.S.Store.read_faults c.args.store.now) (g.S.Store.read_faults c.read_design_file.new.store)
+    (λ file is. policy_fault c.args.words.now (g.S.Store.held c.args.store.now) c.in_ok-design.design (g.S.Store.read_faults c.args.store.now) (g.S.Store.read_faults c.read_design_file.new.store)
     (g.S.Store.read_faults c.read_policy_file.new.store) c.in_err-policy.field-0.0 right c.in_ok-design.ensures.reads c.in_err-policy.ensures.reads ends file is)
 
 pub returns-clause-texts : goal.returns-clause-texts
 returns-clause-texts g c =
     let words = c.args.words.now in
-    let p = c.in_ok-design.design.parts in
+    let p = c.in_ok-design.design in
     let plans = plans_of c.in_ok-policy.policy in
     let right = rw c.at.ensures at c.in_ok-design.ensures.right in
     let policy = rw (c.at-2.ensures, c.in_ok-design.ensures.held) at c.in_ok-policy.ensures.right in
@@ -76,7 +76,7 @@ returns-clause-texts g c =
 pub returns-clause-called : goal.returns-clause-called
 returns-clause-called g c =
     let words = c.args.words.now in
-    let p = c.in_ok-design.design.parts in
+    let p = c.in_ok-design.design in
     let plans = plans_of c.in_ok-policy.policy in
     let right = rw c.at.ensures at c.in_ok-design.ensures.right in
     let policy = rw (c.at-2.ensures, c.in_ok-design.ensures.held) at c.in_ok-policy.ensures.right in
@@ -86,7 +86,7 @@ returns-clause-called g c =
 pub returns-clause-refused : goal.returns-clause-refused
 returns-clause-refused g c =
     let words = c.args.words.now in
-    let p = c.in_ok-design.design.parts in
+    let p = c.in_ok-design.design in
     let plans = plans_of c.in_ok-policy.policy in
     let right = rw c.at.ensures at c.in_ok-design.ensures.right in
     let policy = rw (c.at-2.ensures, c.in_ok-design.ensures.held) at c.in_ok-policy.ensures.right in
@@ -95,8 +95,8 @@ returns-clause-refused g c =
 
 pub returns-clause-no_write : goal.returns-clause-no_write
 returns-clause-no_write g c =
-    IfErr-weaker c.texts_of.result _ _ (λ e why file is. refused_no_write c.in_ok-design.design.parts (plans_of c.in_ok-policy.policy) e why file is) c.texts_of.ensures.refused
+    IfErr-weaker c.texts_of.result _ _ (λ e why file is. refused_no_write c.in_ok-design.design (plans_of c.in_ok-policy.policy) e why file is) c.texts_of.ensures.refused
 
 pub returns-clause-read_fault : goal.returns-clause-read_fault
 returns-clause-read_fault g c =
-    IfErr-weaker c.texts_of.result _ _ (λ e why file is. absurd (refused_no_read c.in_ok-design.design.parts (plans_of c.in_ok-policy.policy) e why file is)) c.texts_of.ensures.refused
+    IfErr-weaker c.texts_of.result _ _ (λ e why file is. absurd (refused_no_read c.in_ok-design.design (plans_of c.in_ok-policy.policy) e why file is)) c.texts_of.ensures.refused

@@ -11,14 +11,14 @@ loop-i-init g c = record {
   controller = refl;
   narrow = λ h. absurd (omega (arith, h));
   stays = λ e h. absurd (omega (arith, h));
-  got = put_none (design_of c.args.design.now.parts) c.args.kernel.now.controller c.args.states.now c.args.turns (g.O.Sink.got c.args.out.now);
+  got = put_none (design_of c.args.design.now) c.args.kernel.now.controller c.args.states.now c.args.turns (g.O.Sink.got c.args.out.now);
   first = λ e. refl;
   faults = le_refl (g.O.Sink.faults c.args.out.now);
 }
 
 pub returns-in-Err-clause-ends : goal.returns-in-Err-clause-ends
 returns-in-Err-clause-ends g c =
-    let d = design_of c.args.design.now.parts in
+    let d = design_of c.args.design.now in
     let n = c.args.kernel.now.controller in
     let got = g.O.Sink.got in
     ends d n c.args.states.now c.args.turns c.loop-i.i c.in-Err.fault c.loop_status.result (got c.loop-i.out) (got c.run_loop.new.out) c.loop_status.ensures (omega arith) c.loop-i.invariant.stays
@@ -28,7 +28,7 @@ returns-in-Err-clause-ends g c =
 
 pub returns-in-Err-clause-printed : goal.returns-in-Err-clause-printed
 returns-in-Err-clause-printed g c =
-    let d = design_of c.args.design.now.parts in
+    let d = design_of c.args.design.now in
     let n = c.args.kernel.now.controller in
     let got = g.O.Sink.got in
     printed d n c.args.states.now c.args.turns c.loop-i.i c.in-Err.fault c.loop_status.result (got c.args.out.now) (got c.loop-i.out) (got c.run_loop.new.out) c.loop_status.ensures (omega arith)
@@ -39,7 +39,7 @@ returns-in-Err-clause-printed g c =
 
 pub returns-in-Err-clause-quiet : goal.returns-in-Err-clause-quiet
 returns-in-Err-clause-quiet g c = λ caused not_done leaving.
-    let d = design_of c.args.design.now.parts in
+    let d = design_of c.args.design.now in
     let n = c.args.kernel.now.controller in
     let got = g.O.Sink.got in
     quiet d n c.args.states.now c.args.turns c.loop-i.i c.in-Err.fault c.loop_status.result (got c.loop-i.out) (got c.run_loop.new.out) c.args.out.now c.loop-i.out c.run_loop.new.out c.loop_status.ensures
@@ -50,7 +50,7 @@ returns-in-Err-clause-quiet g c = λ caused not_done leaving.
 
 pub loop-i-preserved : goal.loop-i-preserved
 loop-i-preserved g c =
-    let d = design_of c.args.design.now.parts in
+    let d = design_of c.args.design.now in
     let n = c.args.kernel.now.controller in
     let m = c.args.states.now in
     let got = g.O.Sink.got in

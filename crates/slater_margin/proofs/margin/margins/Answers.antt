@@ -91,9 +91,9 @@ loop-c-preserved c =
 
 pub returns-clause-margin : goal.returns-clause-margin
 returns-clause-margin c =
-    let some : 1 ≤ 2 ^ c.args.design.now.parts.states = pow_pos c.args.design.now.parts.states in
-    let all : c.loop-c.c ≡ 2 ^ c.args.design.now.parts.states = omega (arith, c.loop-c-test.false, c.rows-c-end.ensures.count, c.requires.rows, some) in
-    subst (λ (n : ℕ). IsMarginOf (design_of c.args.design.now.parts) (plans_of c.args.policy.now) n c.loop-c.margin) all c.loop-c.invariant.1.0
+    let some : 1 ≤ 2 ^ c.args.design.now.states = pow_pos c.args.design.now.states in
+    let all : c.loop-c.c ≡ 2 ^ c.args.design.now.states = omega (arith, c.loop-c-test.false, c.rows-c-end.ensures.count, c.requires.rows, some) in
+    subst (λ (n : ℕ). IsMarginOf (design_of c.args.design.now) (plans_of c.args.policy.now) n c.loop-c.margin) all c.loop-c.invariant.1.0
 
 pub returns-clause-wide : goal.returns-clause-wide
 returns-clause-wide c = λ q. (

@@ -5,4 +5,4 @@ use Rattle.qp_model.specs.Policy.{plans_of}
 use Rattle.slater_margin.proofs.margin.margins.Given as goal
 
 abbrev pub invariant-loop-c : goal.invariant-loop-c
-invariant-loop-c l = (1 ≤ l.c) × (IsMarginOf (design_of l.design.parts) (plans_of l.policy) l.c l.margin × ((pos 1 ≤ℤ l.margin.units) × (pos 0 ≤ℤ l.margin.cost)))
+invariant-loop-c l = (1 ≤ l.c) × (IsMarginOf (design_of l.design) (plans_of l.policy) l.c l.margin × ((pos 1 ≤ℤ l.margin.units) × (pos 0 ≤ℤ l.margin.cost)))

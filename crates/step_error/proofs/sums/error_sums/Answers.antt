@@ -13,13 +13,13 @@ pub returns-clause-value : goal.returns-clause-value
 returns-clause-value c =
     let r = read_size _ _ c.ranges.r c.unsigned_abs.ensures.value in
     rw c.ok_or.ensures.value (valued c.sums_of.result _ _ _
-    (resumed c.sums_of.result c.parts.result.now c.args.design.now.parts c.unsigned_abs.result (unsigned_abs c.args.r) c.parts.ensures.value r c.sums_of.ensures))
+    (resumed c.sums_of.result c.parts.result.now c.args.design.now c.unsigned_abs.result (unsigned_abs c.args.r) c.parts.ensures.value r c.sums_of.ensures))
 
 pub returns-clause-given : goal.returns-clause-given
 returns-clause-given c =
     let r = read_size _ _ c.ranges.r c.unsigned_abs.ensures.value in
-    rw c.ok_or.ensures.value (given c.sums_of.result _ c.args.design.now.parts (unsigned_abs c.args.r) c.requires.form.design (some_size c.args.r _ refl c.requires.some)
-    (resumed c.sums_of.result c.parts.result.now c.args.design.now.parts c.unsigned_abs.result (unsigned_abs c.args.r) c.parts.ensures.value r c.sums_of.ensures))
+    rw c.ok_or.ensures.value (given c.sums_of.result _ c.args.design.now (unsigned_abs c.args.r) c.requires.form.design (some_size c.args.r _ refl c.requires.some)
+    (resumed c.sums_of.result c.parts.result.now c.args.design.now c.unsigned_abs.result (unsigned_abs c.args.r) c.parts.ensures.value r c.sums_of.ensures))
 
 pub returns-clause-named : goal.returns-clause-named
 returns-clause-named c = rw c.ok_or.ensures.value (named c.sums_of.result _ refl)

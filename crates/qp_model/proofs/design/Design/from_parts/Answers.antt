@@ -1,4 +1,4 @@
-use Rattle.std.proofs.Common.{ap, Err}
+use Rattle.std.proofs.Common.{ap, refl, Err}
 use Rattle.std.proofs.lemmas.Result.{err_from_is_err_and}
 use Rattle.std.proofs.lemmas.Bool.{false≢true}
 use Rattle.qp_model.specs.PartRules.{part_rules}
@@ -19,7 +19,10 @@ returns-in_err-test_parts-clause-every_fault c =
     rw (e.1, e.2) (λ fault broken. ap Err (one_fault (part_rules p) _ fault c.in_err-test_parts.ensures broken))
 
 pub invariant_of-result : goal.invariant_of-result
-invariant_of-result c = record { sound = design_from_rules c.args.parts c.in_ok-test_parts.ensures }
+invariant_of-result c = design_from_rules c.args.parts c.in_ok-test_parts.ensures
+
+pub returns-clause-sound : goal.returns-clause-sound
+returns-clause-sound c = (λ ok. design_from_rules c.args.parts c.in_ok-test_parts.ensures, λ d. refl)
 
 pub returns-clause-every_fault : goal.returns-clause-every_fault
 returns-clause-every_fault c = λ fault broken. absurd (none_broken (part_rules c.args.parts) fault c.in_ok-test_parts.ensures broken)
