@@ -104,7 +104,7 @@ tail = refl
 plans : plan_bound (error_sums_of base (form_of base) 8) 10 ≡ 27
 plans = refl
 
-residuals : residual_error (error_sums_of base (form_of base) 8) 10 ≡ 31
+residuals : residual_error (error_sums_of base (form_of base) 8) 27 ≡ 31
 residuals = refl
 
 errors : epsilon (error_sums_of base (form_of base) 8) 10 ≡ 804534616064

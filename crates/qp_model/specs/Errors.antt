@@ -36,8 +36,13 @@ gradient_error d h r j =
     ceil_div (farthest (h.numbers.hessian j j) (h.hessian_radius j j)) (2 * h.hessian_scale) * combined_bound d r
     + ceil_div (amount h.entries (λ l. farthest (h.numbers.hessian j l) (h.hessian_radius j l))) h.hessian_scale
 
-abbrev pub gradient_squares : Design → Form → ℕ → ℕ
-gradient_squares d h r = amount h.entries (λ j. gradient_error d h r j ^ 2)
+-- the squares of such errors
+abbrev pub gradient_squares : Design → (error : ℕ → ℕ) → ℕ
+gradient_squares d error = amount (entries d) (λ j. error j ^ 2)
+
+-- what they cost, over 4^f
+abbrev pub first_cost : Design → (error : ℕ → ℕ) → ℕ
+first_cost d error = ceil_div (d.cost_denominator * gradient_squares d error) (2 * input_floor d)
 
 -- what the states, the constant and the multipliers pull a plan by
 abbrev pub pull : Design → Form → ℕ → ℕ
@@ -71,7 +76,7 @@ pub record ErrorSums : Type 0 where
 
 abbrev pub error_sums_of : Design → Form → ℕ → ErrorSums
 error_sums_of d h r = record {
-  first = ceil_div (d.cost_denominator * gradient_squares d h r) (2 * input_floor d);
+  first = first_cost d (gradient_error d h r);
   lead = ceil_div (pull d h r) (2 * input_floor d);
   tail = d.cost_denominator * combined_bound d r * trace_sum h;
   top_rows = 2 * r * rows d;
@@ -96,31 +101,52 @@ error_sums_of d h r = record {
 abbrev pub plan_bound : ErrorSums → ℕ → ℕ
 plan_bound s f = s.spread * (s.lead + ceil_div s.tail (2 ^ (f + 2) * s.rho)) + 1
 
--- each residual that a step uses differs from that of the midpoints by at most 2^-(f+1) times this
-abbrev pub residual_error : ErrorSums → ℕ → ℕ
-residual_error s f = s.plan_entries * plan_bound s f + s.box_states + 3
+-- ---- what follows from a bound on the plan's entries
+-- e: each residual that a step uses differs from that of the midpoints by at most 2^-(f+1) times this
+abbrev pub residual_error : ErrorSums → (plan : ℕ) → ℕ
+residual_error s plan = s.plan_entries * plan + s.box_states + 3
 
--- q(f): each entry of the gradient differs from that of the midpoints by at most 2^-40 times this
-abbrev pub radius_error : ErrorSums → ℕ → ℕ
-radius_error s f =
-    ceil_div (plan_bound s f * s.hessian_radius + s.state * s.linear_radius + s.constant_radius) s.cost_scale
+-- q: each entry of the gradient differs from that of the midpoints by at most 2^-40 times this
+abbrev pub radius_error : ErrorSums → (plan : ℕ) → ℕ
+radius_error s plan =
+    ceil_div (plan * s.hessian_radius + s.state * s.linear_radius + s.constant_radius) s.cost_scale
     + ceil_div (s.top * s.column_radius) s.row_scale
 
 -- what the radii of all rows move the residuals by, over 2^40, times row_scale
-abbrev pub row_radii : ErrorSums → ℕ → ℕ
-row_radii s f = plan_bound s f * s.plan_radius + s.state * s.state_radius
+abbrev pub row_radii : ErrorSums → (plan : ℕ) → ℕ
+row_radii s plan = plan * s.plan_radius + s.state * s.state_radius
 
--- E(f), over 2^40: what the errors of a step cost at most
+-- over 2^40: what the errors of a step cost at most, where those of the gradient cost `first` over 4^f
+abbrev pub errors_cost : ErrorSums → (first plan f : ℕ) → ℕ
+errors_cost s first plan f =
+    ceil_div (s.spread * 2 ^ 40 * first) (4 ^ f) + ceil_div (2 ^ 40 * s.top_rows * residual_error s plan) (2 ^ (f + 1))
+    + ceil_div (s.plan_entries * s.weight_scale * radius_error s plan ^ 2) (2 ^ 40 * s.rho) + ceil_div (s.top * row_radii s plan) s.row_scale
+
+-- E(f): by the stated bounds of the gradient and of the plan
 abbrev pub epsilon : ErrorSums → ℕ → ℕ
-epsilon s f =
-    ceil_div (s.spread * 2 ^ 40 * s.first) (4 ^ f) + ceil_div (2 ^ 40 * s.top_rows * residual_error s f) (2 ^ (f + 1))
-    + ceil_div (s.plan_entries * s.weight_scale * radius_error s f ^ 2) (2 ^ 40 * s.rho) + ceil_div (s.top * row_radii s f) s.row_scale
+epsilon s f = errors_cost s s.first (plan_bound s f) f
 
+-- ---- the errors of a step
+-- bounds on the entries of the plan and on those of the midpoints' gradient
+pub record StepErrors : Type 0 where
+  pub plan : ℕ
+  pub gradient : ℕ → ℕ
+
+-- the stated ones
+abbrev pub stated_errors : Design → Form → ℕ → ℕ → StepErrors
+stated_errors d h r f = record { plan = plan_bound (error_sums_of d h r) f; gradient = gradient_error d h r }
+
+-- what such errors cost, over 2^40
+abbrev pub cost_of_errors : Design → Form → ℕ → ℕ → StepErrors → ℕ
+cost_of_errors d h r f e = errors_cost (error_sums_of d h r) (first_cost d e.gradient) e.plan f
+
+-- ---- their size
 -- a number that bounds all that these computations meet: `error`
 abbrev pub error_size : Design → Form → ℕ → ℕ
 error_size d h r =
     let s = error_sums_of d h r in
-    s.spread ^ 2 * (pull d h r + s.tail + d.cost_denominator * gradient_squares d h r + 2 ^ 40 * (s.first + s.top_rows * residual_error s 0))
-    + s.weight_scale * s.plan_entries * radius_error s 0 ^ 2
-    + plan_bound s 0 * s.hessian_radius + s.state * s.linear_radius + s.constant_radius + s.top * s.column_radius
-    + s.top * row_radii s 0
+    let plan = plan_bound s 0 in
+    s.spread ^ 2 * (pull d h r + s.tail + d.cost_denominator * gradient_squares d (gradient_error d h r) + 2 ^ 40 * (s.first + s.top_rows * residual_error s plan))
+    + s.weight_scale * s.plan_entries * radius_error s plan ^ 2
+    + plan * s.hessian_radius + s.state * s.linear_radius + s.constant_radius + s.top * s.column_radius
+    + s.top * row_radii s plan
