@@ -1,6 +1,5 @@
 use Rattle.step_error.proofs.EntryLaws as laws
-use Rattle.step_error.proofs.Gradients as gradients
-use Rattle.step_error.proofs.Slants as slants
+use Rattle.step_error.proofs.Slopes as slopes
 use Rattle.step_error.proofs.entry_law.Goals as goal
 
 pub returns : goal.returns
