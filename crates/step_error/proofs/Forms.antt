@@ -61,7 +61,7 @@ dot_apart n a b s top f g v radius within small =
 
 -- ---- what the radii come to
 -- sums of nothing
-amount_none : (n : ℕ) (f : ℕ → ℕ) → ((i : ℕ) → i < n → f i ≡ 0) → amount n f ≡ 0
+pub amount_none : (n : ℕ) (f : ℕ → ℕ) → ((i : ℕ) → i < n → f i ≡ 0) → amount n f ≡ 0
 amount_none zero f h = refl
 amount_none (suc n) f h = omega (arith, amount_none n f (λ i l. h i (omega arith)), h n (omega arith))
 
