@@ -62,6 +62,10 @@ pub size_farthest : (n : ℕ) (f : ℕ → ℤ) (radius : ℕ → ℕ) → size 
 size_farthest zero f radius = omega arith
 size_farthest (suc n) f radius = omega (arith, size_farthest n f radius)
 
+pub sizes_farthest : (m n : ℕ) (f : ℕ → ℕ → ℤ) (radius : ℕ → ℕ → ℕ) → amount m (λ j. size n (f j)) ≤ amount m (λ j. amount n (λ i. farthest (f j i) (radius j i)))
+sizes_farthest zero n f radius = omega arith
+sizes_farthest (suc m) n f radius = omega (arith, sizes_farthest m n f radius, size_farthest n (f m) (radius m))
+
 -- ---- the midpoints' gradient
 -- twice the sum of a row of the hessian, and its diagonal entry times what the state and the multipliers come to
 entry_bound : (limit scale s s' h h' z : ℕ) → 0 < scale → s ≤ s' → h ≤ h' →
