@@ -114,9 +114,6 @@ columns_weight d h r c x l sizes reached =
         (λ i k. rw (row_pull c x l i) (let o = reached.multipliers i k in omega (arith, ints, o))))
 
 -- ---- the sums that are rounded up
-amount_total : (n : ℕ) (g : ℕ → ℕ) → total n (λ i. pos (g i)) ≡ pos (amount n g)
-amount_total n g = total_amount n g
-
 rounded_up : (a b : ℕ) → 0 < b → pos a ≤ℤ (pos b *ℤ pos (ceil_div a b))
 rounded_up a b h = let k = le-mul-ceil_div a b h in omega (arith, ints, k)
 
@@ -128,7 +125,7 @@ linear_le : (d : Design) (h : Form) → 0 < h.hessian_scale → total d.states (
 linear_le d h p = under (total d.states (linear_size d h)) (amount (entries d) (λ j. size d.states (h.numbers.linear j)))
     (amount (entries d) (λ j. amount d.states (λ i. farthest (h.numbers.linear j i) (h.linear_radius j i)))) h.hessian_scale p
     (total_swap d.states (entries d) (λ i j. absolute (h.numbers.linear j i))
-    ∙ total_same (entries d) _ _ (λ j l. total_absolute d.states (h.numbers.linear j)) ∙ amount_total (entries d) (λ j. size d.states (h.numbers.linear j)))
+    ∙ total_same (entries d) _ _ (λ j l. total_absolute d.states (h.numbers.linear j)) ∙ total_amount (entries d) (λ j. size d.states (h.numbers.linear j)))
     (sizes_farthest (entries d) d.states h.numbers.linear h.linear_radius)
 
 constant_le : (d : Design) (h : Form) → 0 < h.hessian_scale → constant_size d h ≤ℤ (pos h.hessian_scale *ℤ pos (constant_sum (counted d h)))
@@ -138,7 +135,7 @@ constant_le d h p = under (constant_size d h) (size (entries d) h.numbers.consta
 rows_le : (d : Design) (h : Form) → 0 < h.rows_scale → total (rows d) (row_size d h) ≤ℤ (pos h.rows_scale *ℤ pos (plan_row_sum (counted d h)))
 rows_le d h p = under (total (rows d) (row_size d h)) (amount (rows d) (λ i. size (entries d) (h.numbers.by_plan i)))
     (amount (rows d) (λ i. amount (entries d) (λ j. farthest (h.numbers.by_plan i j) (h.plan_radius i j)))) h.rows_scale p
-    (total_same (rows d) _ _ (λ i l. total_absolute (entries d) (h.numbers.by_plan i)) ∙ amount_total (rows d) (λ i. size (entries d) (h.numbers.by_plan i)))
+    (total_same (rows d) _ _ (λ i l. total_absolute (entries d) (h.numbers.by_plan i)) ∙ total_amount (rows d) (λ i. size (entries d) (h.numbers.by_plan i)))
     (sizes_farthest (rows d) (entries d) h.numbers.by_plan h.plan_radius)
 
 trace_le : (d : Design) (h : Form) → h.matrix_factor ≡ pos d.limit_denominator → 0 < h.hessian_scale →
@@ -147,7 +144,7 @@ trace_le d h factor p = le_same (total_scale (entries d) h.matrix_factor (λ j. 
     (mul-le-mul_left_z (pos d.limit_denominator) (omega (arith, ints))
     (le_trans_z {b = total (entries d) (λ j. pos (farthest (h.numbers.hessian j j) (h.hessian_radius j j)))}
     (total_mono (entries d) _ _ (λ j l. own (h.numbers.hessian j j) (h.hessian_radius j j)))
-    (le_same (amount_total (entries d) (λ j. farthest (h.numbers.hessian j j) (h.hessian_radius j j))) refl
+    (le_same (total_amount (entries d) (λ j. farthest (h.numbers.hessian j j) (h.hessian_radius j j))) refl
     (rounded_up (amount (entries d) (λ j. farthest (h.numbers.hessian j j) (h.hessian_radius j j))) h.hessian_scale p))))
   where
     own : (z : ℤ) (r : ℕ) → z ≤ℤ pos (farthest z r)
