@@ -1,6 +1,4 @@
 use Rattle.step_error.proofs.EntryLaws as laws
-use Rattle.step_error.proofs.Convexity as convexity
-use Rattle.step_error.proofs.MachineSteps as plans
 use Rattle.step_error.proofs.entry_law.Goals as goal
 
 pub returns : goal.returns
