@@ -2,7 +2,7 @@
 -- u^2 + (x+)^2, and the rows u <= 1, -u <= 1 and x+ <= 1/4, at the states 0 and 1. The design is sound, the controller has its sizes and is made
 -- for it, and the bounds are the worked ones: by the exact form, and by one over 2^40 with radii. That its numbers are a `DesignParts` and keep
 -- its width isn't tried here.
-use Rattle.std.proofs.Common.{◌≡◌, ℕ, zero, suc, ◌^◌, ◌<◌, ◌≤◌, [], ◌∷◌, ℤ, pos, negsuc, ◌+ℤ◌, ◌-ℤ◌, ◌*ℤ◌, ◌≤ℤ◌, List, length, unsigned_abs, arith, ap, ◌∙◌, refl}
+use Rattle.std.proofs.Common.{◌≡◌, inr, ℕ, zero, suc, ◌+◌, ◌-◌, ◌*◌, ◌^◌, ◌<◌, ◌≤◌, [], ◌∷◌, ℤ, pos, negsuc, ◌+ℤ◌, ◌-ℤ◌, ◌*ℤ◌, neg_ℤ, ◌≤ℤ◌, List, length, unsigned_abs, arith, ap, ◌∙◌, refl}
 use Rattle.std.specs.Prelude.{All}
 use Rattle.std.proofs.lemmas.Int.{ints}
 use Rattle.integer_algebra.specs.Sums.{total, image, square, at}
@@ -19,7 +19,7 @@ use Rattle.qp_model.specs.GoodSolution.{IsGood}
 use Rattle.qp_model.specs.Columns.{columns, solve_matrix, solve_column}
 use Rattle.qp_model.specs.Quantities.{input_floor}
 use Rattle.qp_model.specs.Errors.{stated_errors}
-use Rattle.qp_model.specs.Form.{Form, form_of}
+use Rattle.qp_model.specs.Form.{Form, IsFormFor, form_of}
 use Rattle.qp_model.specs.Machine.{exponent_of}
 use Rattle.qp_model.proofs.FormLaws.{exact_form_law}
 use Rattle.qp_model.specs.Condensing.{condensed_of}
@@ -234,7 +234,159 @@ exact_made = record {
   clamp = refl;
 }
 
--- the bounds, over 2^11 and 2^10: multipliers up to 16, a plan up to 27, a gradient up to 2^-10 * 104, and residuals up to 2^-11 * 31
+-- ---- a form over 2^40 with radii
+-- each number but the bounds is off by 1, or by 0 where its radius is 0: 4 + 2^-40 for 4, 2 - 2^-40 for 2, 2^-40 for 0, and so on
+abbrev rounded_plan : ℕ → ℕ → ℤ
+rounded_plan zero j = pos (2 ^ 42 + 1)
+rounded_plan (suc zero) j = neg_ℤ (pos (2 ^ 42))
+rounded_plan (suc (suc i)) j = pos (2 ^ 42)
+
+abbrev plan_radius : ℕ → ℕ → ℕ
+plan_radius zero j = 1
+plan_radius (suc i) j = 0
+
+abbrev rounded_state : ℕ → ℕ → ℤ
+rounded_state zero j = pos 0
+rounded_state (suc zero) j = pos 0
+rounded_state (suc (suc i)) j = pos (2 ^ 42 - 1)
+
+abbrev state_radius : ℕ → ℕ → ℕ
+state_radius zero j = 0
+state_radius (suc zero) j = 0
+state_radius (suc (suc i)) j = 1
+
+abbrev rounded_bound : ℕ → ℤ
+rounded_bound zero = pos (2 ^ 42)
+rounded_bound (suc zero) = pos (2 ^ 42)
+rounded_bound (suc (suc i)) = pos (2 ^ 40)
+
+abbrev rounded : Form
+rounded = record {
+  entries = 1;
+  states = 1;
+  rows = 3;
+  numbers = record {
+    hessian = λ i j. pos (2 ^ 42 + 1);
+    linear = λ j i. pos (2 ^ 41 - 1);
+    constant = λ j. pos 1;
+    by_plan = rounded_plan;
+    by_state = rounded_state;
+    bound = rounded_bound;
+  };
+  hessian_radius = λ i j. 1;
+  linear_radius = λ j i. 1;
+  constant_radius = λ j. 1;
+  plan_radius = plan_radius;
+  state_radius = state_radius;
+  hessian_scale = 2 ^ 40;
+  rows_scale = 2 ^ 42;
+  matrix_factor = pos 4;
+  row_factor = pos 1;
+  floor = pos (2 ^ 44);
+  spread = 2;
+}
+
+-- one number within a radius
+apart : (z : ℤ) (n : ℕ) → unsigned_abs z ≤ n → IsWithin (pos n) z
+apart z n h = record { below = omega (arith, ints, h); above = omega (arith, ints, h) }
+
+hessian_encloses : (i j : ℕ) → i < 1 → j < 1 → IsWithin (pos (1 * 1)) (pos (2 ^ 40) *ℤ (condensed_of base).hessian i j -ℤ pos 1 *ℤ pos (2 ^ 42 + 1))
+hessian_encloses zero zero h l = apart (negsuc 0) 1 (omega arith)
+hessian_encloses (suc i) j h l = absurd (omega arith)
+hessian_encloses i (suc j) h l = absurd (omega arith)
+
+linear_encloses : (j i : ℕ) → j < 1 → i < 1 → IsWithin (pos (1 * 1)) (pos (2 ^ 40) *ℤ (condensed_of base).linear j i -ℤ pos 1 *ℤ pos (2 ^ 41 - 1))
+linear_encloses zero zero h l = apart (pos 1) 1 (omega arith)
+linear_encloses (suc j) i h l = absurd (omega arith)
+linear_encloses j (suc i) h l = absurd (omega arith)
+
+constant_encloses : (j : ℕ) → j < 1 → IsWithin (pos (1 * 1)) (pos (2 ^ 40) *ℤ (condensed_of base).constant j -ℤ pos 1 *ℤ pos 1)
+constant_encloses zero h = apart (negsuc 0) 1 (omega arith)
+constant_encloses (suc j) h = absurd (omega arith)
+
+plan_encloses : (i j : ℕ) → i < 3 → j < 1 → IsWithin (pos (4 * plan_radius i j)) (pos (2 ^ 42) *ℤ (condensed_of base).by_plan i j -ℤ pos 4 *ℤ rounded_plan i j)
+plan_encloses zero zero h l = apart (negsuc 3) 4 (omega arith)
+plan_encloses (suc zero) zero h l = apart (pos 0) 0 (omega arith)
+plan_encloses (suc (suc zero)) zero h l = apart (pos 0) 0 (omega arith)
+plan_encloses (suc (suc (suc i))) zero h l = absurd (omega arith)
+plan_encloses i (suc j) h l = absurd (omega arith)
+
+state_encloses : (i j : ℕ) → i < 3 → j < 1 → IsWithin (pos (4 * state_radius i j)) (pos (2 ^ 42) *ℤ (condensed_of base).by_state i j -ℤ pos 4 *ℤ rounded_state i j)
+state_encloses zero zero h l = apart (pos 0) 0 (omega arith)
+state_encloses (suc zero) zero h l = apart (pos 0) 0 (omega arith)
+state_encloses (suc (suc zero)) zero h l = apart (pos 4) 4 (omega arith)
+state_encloses (suc (suc (suc i))) zero h l = absurd (omega arith)
+state_encloses i (suc j) h l = absurd (omega arith)
+
+bounds_same : (i : ℕ) → i < 3 → pos (2 ^ 42) *ℤ (condensed_of base).bound i ≡ pos 4 *ℤ rounded_bound i
+bounds_same zero h = refl
+bounds_same (suc zero) h = refl
+bounds_same (suc (suc zero)) h = refl
+bounds_same (suc (suc (suc i))) h = absurd (omega arith)
+
+rounded_form : IsFormFor base rounded
+rounded_form = record {
+  encloses = record {
+    entry_count = refl;
+    state_count = refl;
+    row_count = refl;
+    symmetric = λ i j h l. refl;
+    hessian = hessian_encloses;
+    linear = linear_encloses;
+    constant = constant_encloses;
+    plan = plan_encloses;
+    state = state_encloses;
+    bound = bounds_same;
+  };
+  hessian_some = omega arith;
+  rows_some = omega arith;
+  matrix_factor = refl;
+  row_factor = refl;
+  class = inr (record { hessian_scale = refl; rows_scale = refl; narrow = λ i h. omega arith }, refl);
+}
+
+-- the same gains and rows
+rounded_plan_rows : (i j : ℕ) → i < 3 → j < 1 → entry_of controller.plan_rows i j ≡ round_of (pos 1024 *ℤ rounded_plan i j) (2 ^ 42)
+rounded_plan_rows zero zero h l = refl
+rounded_plan_rows (suc zero) zero h l = refl
+rounded_plan_rows (suc (suc zero)) zero h l = refl
+rounded_plan_rows (suc (suc (suc i))) zero h l = absurd (omega arith)
+rounded_plan_rows i (suc j) h l = absurd (omega arith)
+
+rounded_state_rows : (i j : ℕ) → i < 3 → j < 1 → entry_of controller.state_rows i j ≡ round_of (pos 1024 *ℤ rounded_state i j) (2 ^ 42)
+rounded_state_rows zero zero h l = refl
+rounded_state_rows (suc zero) zero h l = refl
+rounded_state_rows (suc (suc zero)) zero h l = refl
+rounded_state_rows (suc (suc (suc i))) zero h l = absurd (omega arith)
+rounded_state_rows i (suc j) h l = absurd (omega arith)
+
+rounded_bounds : (i : ℕ) → i < 3 → at controller.bounds i ≡ round_of (pos 1024 *ℤ rounded_bound i) (2 ^ 42)
+rounded_bounds zero h = refl
+rounded_bounds (suc zero) h = refl
+rounded_bounds (suc (suc zero)) h = refl
+rounded_bounds (suc (suc (suc i))) h = absurd (omega arith)
+
+-- each gain misses its system by less than half the diagonal: at most 12288 of 2^44 + 4
+rounded_good : (i : ℕ) → i < columns rounded → IsGood 1 (solve_matrix rounded) 10 (solve_column rounded i) (gain_column controller i)
+rounded_good zero h zero l = (omega (arith, ints), omega (arith, ints))
+rounded_good (suc zero) h zero l = (omega (arith, ints), omega (arith, ints))
+rounded_good (suc (suc zero)) h zero l = (omega (arith, ints), omega (arith, ints))
+rounded_good (suc (suc (suc zero))) h zero l = (omega (arith, ints), omega (arith, ints))
+rounded_good (suc (suc (suc (suc zero)))) h zero l = (omega (arith, ints), omega (arith, ints))
+rounded_good (suc (suc (suc (suc (suc i))))) h zero l = absurd (omega arith)
+rounded_good i h (suc j) l = absurd (omega arith)
+
+rounded_made : IsDerivedFrom base rounded 8 controller
+rounded_made = record {
+  sizes = sizes;
+  rows = record { plan_rows = rounded_plan_rows; state_rows = rounded_state_rows; bounds = rounded_bounds };
+  gains = rounded_good;
+  exponents = exponents;
+  clamp = refl;
+}
+
+-- ---- the bounds
+-- by the exact form, over 2^11 and 2^10: multipliers up to 16, a plan up to 27, a gradient up to 2^-10 * 104, and residuals up to 2^-11 * 31
 exact_run : (k : ℕ) → HasErrors base (form_of base) 8 controller (pos 1 ∷ []) k (stated_errors base (form_of base) 8 10)
 exact_run k = errors_by base (form_of base) 8 controller (pos 1 ∷ []) sound (condensing base (omega arith)) (exact_form_law base (input_floor base) sound) exact_made sized refl inside k
 
@@ -274,3 +426,16 @@ module _ (k : ℕ) where
     where
       turn : (z : ℤ) → pos 8 *ℤ z ≡ pos 4 *ℤ (pos 2 *ℤ z)
       turn z = by_ring (z ∷ []) (search quotes depth 60 fits 20000) refl
+
+  -- by the form with radii: a plan up to 71, a gradient up to 2^-10 * 155 + 2^-40 * 77, and the last residual up to 2^-11 * 75 + 2^-42
+  rounded_errors : HasErrors base rounded 8 controller (pos 1 ∷ []) k (stated_errors base rounded 8 10)
+  rounded_errors = errors_by base rounded 8 controller (pos 1 ∷ []) sound (condensing base (omega arith)) rounded_form rounded_made sized refl inside k
+
+  rounded_plan_worked : unsigned_abs plan ≤ 72704
+  rounded_plan_worked = rounded_errors.plan 0 (omega arith)
+
+  rounded_gradient_worked : IsWithin (pos (4 * (2 ^ 40 * 310 + 2048 * 77))) (pos (2 ^ 40) *ℤ (pos 4 *ℤ (pos 8 *ℤ plan +ℤ pos 4096 +ℤ multiplier 0 -ℤ multiplier 1 +ℤ multiplier 2)))
+  rounded_gradient_worked = within_same refl (ap (λ (z : ℤ). pos (2 ^ 40) *ℤ z) (slant_worked plan (multiplier 0) (multiplier 1) (multiplier 2))) (rounded_errors.gradient 0 (omega arith))
+
+  rounded_residual_worked : IsWithin (pos (4 * (2 ^ 42 * 75 + 2048))) (pos (2 ^ 43) *ℤ (pos 4 *ℤ used_residual controller (pos 1 ∷ []) k 2 -ℤ (pos 4 *ℤ plan +ℤ pos 3072)))
+  rounded_residual_worked = within_same refl (last_row (pos (2 ^ 43)) (used_residual controller (pos 1 ∷ []) k 2) plan) (rounded_errors.residuals 2 (omega arith))
