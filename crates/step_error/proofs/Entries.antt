@@ -72,9 +72,11 @@ solutions_sum n m h f c x v floor factor p pf curved good j inside =
     (rw (← (total_scale m (pos 2 *ℤ floor) (λ i. absolute (x i j *ℤ v i))))
     (total_mono m _ _ (λ i l. rw (absolute_mul (x i j) (v i), ring_left (pos 2 *ℤ floor) (absolute (x i j)) (absolute (v i)))
     (mul-le-mul_right_z (absolute (v i)) (absolute_nonneg (v i)) (good_entry n h f (c i) (x i) floor factor p pf curved (good i l) j inside)))))
-    (rw (total_same m _ _ (λ i l. ring_right factor (pos 2 *ℤ pos (2 ^ f)) (total n (λ j. absolute (c i j))) (total n (λ j. h j j)) (absolute (v i)))
-    ∙ total_scale m factor (λ i. (pos 2 *ℤ pos (2 ^ f)) *ℤ (total n (λ j. absolute (c i j)) *ℤ absolute (v i)) +ℤ total n (λ j. h j j) *ℤ absolute (v i)),
-    spread m (pos 2 *ℤ pos (2 ^ f)) (total n (λ j. h j j)) (λ i. total n (λ j. absolute (c i j)) *ℤ absolute (v i)) (λ i. absolute (v i))) (≤ℤ_refl _)))
+    (rw (
+      total_same m _ _ (λ i l. ring_right factor (pos 2 *ℤ pos (2 ^ f)) (total n (λ j. absolute (c i j))) (total n (λ j. h j j)) (absolute (v i)))
+          ∙ total_scale m factor (λ i. (pos 2 *ℤ pos (2 ^ f)) *ℤ (total n (λ j. absolute (c i j)) *ℤ absolute (v i)) +ℤ total n (λ j. h j j) *ℤ absolute (v i)),
+      spread m (pos 2 *ℤ pos (2 ^ f)) (total n (λ j. h j j)) (λ i. total n (λ j. absolute (c i j)) *ℤ absolute (v i)) (λ i. absolute (v i)),
+    ) (≤ℤ_refl _)))
   where
     twice : (a : ℤ) → pos 0 ≤ℤ a → pos 0 ≤ℤ (pos 2 *ℤ a)
     twice a h = omega (arith, ints, h)

@@ -126,13 +126,16 @@ residual_radius d h r plan sound form = elim form.class [
 -- with no radius the gradient has no radius error, and else the spread is 2
 pub spread_of : (d : Design) (h : Form) (r plan : ℕ) → IsSound d (input_floor d) → IsFormFor d h → ((h.spread ≡ 1) × (radius_error (error_sums_of d h r) plan ≡ 0)) ⊎ (h.spread ≡ 2)
 spread_of d h r plan sound form = elim form.class [
-  | inl e ↦ inl (e.1, none plan (state_bound d) (2 * r) (d.cost_denominator * d.row_denominator ^ 2) d.limit_denominator
-      (greatest h.entries (hessian_radii h)) (greatest h.entries (linear_radii h)) (greatest h.entries h.constant_radius) (greatest h.entries (column_radii h))
-      (cost_positive d sound) sound.limit_denominator
-      (greatest_none h.entries (hessian_radii h) (λ j l. amount_none h.entries (h.hessian_radius j) (λ i m. e.0.hessian j i l m)))
-      (greatest_none h.entries (linear_radii h) (λ j l. amount_none h.states (h.linear_radius j) (λ i m. e.0.linear j i l m)))
-      (greatest_none h.entries h.constant_radius (λ j l. e.0.constant j l))
-      (greatest_none h.entries (column_radii h) (λ j l. amount_none h.rows (λ i. h.plan_radius i j) (λ i m. e.0.plan i j m l))))
+  | inl e ↦ inl (
+    e.1,
+    none plan (state_bound d) (2 * r) (d.cost_denominator * d.row_denominator ^ 2) d.limit_denominator
+        (greatest h.entries (hessian_radii h)) (greatest h.entries (linear_radii h)) (greatest h.entries h.constant_radius) (greatest h.entries (column_radii h))
+        (cost_positive d sound) sound.limit_denominator
+        (greatest_none h.entries (hessian_radii h) (λ j l. amount_none h.entries (h.hessian_radius j) (λ i m. e.0.hessian j i l m)))
+        (greatest_none h.entries (linear_radii h) (λ j l. amount_none h.states (h.linear_radius j) (λ i m. e.0.linear j i l m)))
+        (greatest_none h.entries h.constant_radius (λ j l. e.0.constant j l))
+        (greatest_none h.entries (column_radii h) (λ j l. amount_none h.rows (λ i. h.plan_radius i j) (λ i m. e.0.plan i j m l))),
+  )
   | inr e ↦ inr e.1
 ]
   where

@@ -96,8 +96,11 @@ columns_weight d h r c x l sizes reached =
 
     own : (total (entries d) (λ j. absolute (solve_column (counted d h) c.states j)) *ℤ absolute (pulls c x l c.states)) ≤ℤ
         (pos (unsigned_abs h.matrix_factor) *ℤ constant_size d h *ℤ pos (2 ^ (c.fraction_bits + c.step_exponent)))
-    own = rw (own_pull c x l, factored (entries d) h.matrix_factor h.numbers.constant (solve_column (counted d h) c.states)
-        (λ j. ap (λ (n : ℕ). solve_column (counted d h) n j) sizes.states ∙ own_column d h j)) (≤ℤ_refl _)
+    own = rw (
+      own_pull c x l,
+      factored (entries d) h.matrix_factor h.numbers.constant (solve_column (counted d h) c.states)
+          (λ j. ap (λ (n : ℕ). solve_column (counted d h) n j) sizes.states ∙ own_column d h j),
+    ) (≤ℤ_refl _)
 
     multipliers : total c.rows (λ i. total (entries d) (λ j. absolute (solve_column (counted d h) (c.states + 1 + i) j)) *ℤ absolute (pulls c x l (c.states + 1 + i))) ≤ℤ
         (pos (unsigned_abs h.row_factor) *ℤ total (rows d) (row_size d h) *ℤ pos (2 * r * 2 ^ (c.fraction_bits + c.step_exponent)))

@@ -1,5 +1,4 @@
 use Rattle.step_error.proofs.EntryLaws as laws
-use Rattle.step_error.proofs.WorkedErrors as plans
 use Rattle.step_error.proofs.entry_law.Goals as goal
 
 pub returns : goal.returns
