@@ -1,5 +1,5 @@
 -- A form of a design, whose numbers may be rounded: what its radii come to.
-use Rattle.std.proofs.Common.{◌≡◌, ◌⊎◌, inl, inr, ℕ, zero, suc, ◌+◌, ◌*◌, ◌^◌, ◌<◌, ◌≤◌, [], ◌∷◌, ℤ, pos, negsuc, ◌+ℤ◌, ◌-ℤ◌, ◌*ℤ◌, ◌≤ℤ◌, unsigned_abs, arith, ap, sym, ◌∙◌, refl}
+use Rattle.std.proofs.Common.{◌≡◌, ◌⊎◌, inl, inr, ℕ, zero, suc, ◌+◌, ◌*◌, ◌^◌, ◌<◌, ◌≤◌, [], ◌∷◌, ℤ, pos, negsuc, ◌+ℤ◌, ◌-ℤ◌, ◌*ℤ◌, ◌≤ℤ◌, unsigned_abs, arith, ap, ◌∙◌, refl}
 use Rattle.std.proofs.lemmas.Int.{ints}
 use Rattle.std.proofs.Math.Nat.{mul-le-mul_left, one-le-mul}
 use Rattle.integer_algebra.specs.Sums.{total, dot}
@@ -13,7 +13,7 @@ use Rattle.integer_algebra.proofs.DivisionLaws.{le-mul-ceil_div, ceil_div-le}
 use Rattle.integer_algebra.proofs.PowerLaws.{pow_positive}
 use Rattle.integer_algebra.proofs.Quoting.{by_ring, quotes}
 use Rattle.qp_model.specs.Design.{Design, entries, rows}
-use Rattle.qp_model.specs.Form.{Form, HasNoRadii, IsFine, Encloses, IsFormFor, hessian_radii, linear_radii, plan_radii, state_radii, column_radii}
+use Rattle.qp_model.specs.Form.{Form, Encloses, IsFormFor, hessian_radii, linear_radii, plan_radii, state_radii, column_radii}
 use Rattle.qp_model.specs.Sound.{IsSound}
 use Rattle.qp_model.specs.Quantities.{greatest, input_floor}
 use Rattle.qp_model.specs.Errors.{state_bound, error_sums_of, radius_error, row_radii}

@@ -15,7 +15,7 @@ use Rattle.qp_model.specs.Errors.{stated_errors}
 use Rattle.qp_model.proofs.SoundLaws.{sound}
 use Rattle.qp_model.proofs.CostLaws.{condensing}
 use Rattle.step_error.specs.MachineLaws.{HasErrors, CarriedLaw}
-use Rattle.step_error.proofs.Forms.{counted, counted_is}
+use Rattle.step_error.proofs.Forms.{counted_is}
 use Rattle.step_error.proofs.StepErrors.{errors}
 
 -- by a form with any counts, which are the design's

@@ -1,5 +1,5 @@
 -- Each plan entry of the machine is small.
-use Rattle.std.proofs.Common.{◌≡◌, ℕ, zero, suc, ◌+◌, ◌*◌, ◌^◌, ◌<◌, ◌≤◌, [], ◌∷◌, ℤ, pos, ◌+ℤ◌, ◌*ℤ◌, ◌≤ℤ◌, ◌<ℤ◌, List, unsigned_abs, arith, ap, sym, ◌∙◌, refl}
+use Rattle.std.proofs.Common.{◌≡◌, ℕ, ◌+◌, ◌*◌, ◌^◌, ◌<◌, ◌≤◌, [], ◌∷◌, ℤ, pos, ◌+ℤ◌, ◌*ℤ◌, ◌≤ℤ◌, ◌<ℤ◌, List, unsigned_abs, arith, ap, sym, ◌∙◌, refl}
 use Rattle.std.proofs.lemmas.Int.{ints, unsigned_abs-mul}
 use Rattle.std.proofs.lemmas.Nat.{pow-add}
 use Rattle.std.specs.Int.Signed.{≤ℤ_refl}
@@ -13,7 +13,7 @@ use Rattle.integer_algebra.proofs.SumLaws.{total_same, total_scale, total_scale_
 use Rattle.integer_algebra.proofs.SizeLaws.{total_amount}
 use Rattle.integer_algebra.proofs.BoundLaws.{absolute_nonneg, within_nonneg}
 use Rattle.integer_algebra.proofs.DivisionLaws.{le-mul-ceil_div}
-use Rattle.integer_algebra.proofs.PowerLaws.{pow_positive, pow-two}
+use Rattle.integer_algebra.proofs.PowerLaws.{pow_positive}
 use Rattle.integer_algebra.proofs.Quoting.{by_ring, quotes}
 use Rattle.qp_model.specs.Design.{Design, entries, rows}
 use Rattle.qp_model.specs.Sound.{IsSound}

@@ -1,13 +1,8 @@
 -- The errors of each step of a run.
-use Rattle.std.proofs.Common.{◌≡◌, ℕ, ◌+◌, ◌*◌, ◌^◌, ◌<◌, ◌≤◌, [], ◌∷◌, ℤ, pos, ◌+ℤ◌, ◌-ℤ◌, ◌*ℤ◌, ◌<ℤ◌, List, length, unsigned_abs, arith, ap, sym, ◌∙◌, refl}
-use Rattle.std.proofs.lemmas.Int.{ints}
-use Rattle.std.proofs.lemmas.Nat.{pow-add}
-use Rattle.std.proofs.Math.Nat.{mul_comm}
+use Rattle.std.proofs.Common.{◌≡◌, ℕ, ◌+◌, ◌*◌, ◌^◌, ◌<◌, ◌≤◌, ℤ, pos, ◌+ℤ◌, ◌-ℤ◌, ◌*ℤ◌, List, length, unsigned_abs, arith, ap, sym, ◌∙◌, refl}
 use Rattle.integer_algebra.specs.Sums.{image, coimage, at}
 use Rattle.integer_algebra.specs.Bounds.{IsWithin}
 use Rattle.integer_algebra.proofs.VectorLaws.{image_same}
-use Rattle.integer_algebra.proofs.PowerLaws.{pow_positive}
-use Rattle.integer_algebra.proofs.Quoting.{by_ring, quotes}
 use Rattle.qp_model.specs.Design.{Design, entries, rows}
 use Rattle.qp_model.specs.Sound.{IsSound}
 use Rattle.qp_model.specs.Box.{IsGridState}
@@ -21,7 +16,6 @@ use Rattle.qp_model.specs.Quantities.{input_floor}
 use Rattle.qp_model.specs.Form.{Form, IsFormFor}
 use Rattle.qp_model.specs.Errors.{gradient_error, error_sums_of, plan_bound, radius_error, residual_error, stated_errors}
 use Rattle.qp_model.specs.Built.{IsDerivedFrom}
-use Rattle.qp_model.proofs.ScalingLaws.{scaling_law}
 use Rattle.step_error.specs.Laws.{slant}
 use Rattle.step_error.specs.MachineLaws.{multipliers_at, raised_at, plan_at, used_residual, machine_scale, lifted_plan, row_radius, HasErrors}
 use Rattle.step_error.proofs.Forms.{counted}
