@@ -16,4 +16,5 @@ pub mod CostFacts
 pub mod DenominatorFacts
 -- ---- the form, and what is refused
 pub mod FormLaws
+pub mod FormSums
 pub mod FaultFacts
