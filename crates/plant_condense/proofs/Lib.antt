@@ -17,4 +17,5 @@ pub mod DenominatorFacts
 -- ---- the form, and what is refused
 pub mod FormLaws
 pub mod FormSums
+pub mod HeldLaws
 pub mod FaultFacts

@@ -1,4 +1,5 @@
 use Rattle.std.proofs.Common.{◌≤◌, ◌<◌, ◌^◌}
+use Rattle.plant_condense.specs.Form.{held}
 use Rattle.approx_inverse.proofs.DesignLaws.{solvable_from, descent_equal, inverse_from}
 use Rattle.approx_inverse.proofs.FormLaws.{fault_gives, if_err, if_ok, ok_gives, room_from}
 use Rattle.approx_inverse.proofs.all.solve_all.Goals as goal
@@ -11,7 +12,7 @@ returns-clause-solved c = if_ok c.solve_form.result (λ v solves p is. inverse_f
 
 pub returns-clause-fits : goal.returns-clause-fits
 returns-clause-fits c = ok_gives c.solve_form.result
-    (λ v solves p is. rw (← (descent_equal p c.args.c.now c.args.f is)) (room_from c.args.c.now c.args.f v (solvable_from p c.args.c.now is) solves))
+    (λ v solves p is. rw (← (descent_equal p c.args.c.now c.args.f is)) (room_from (held c.args.c.now) c.args.f v (solvable_from p c.args.c.now is).convex.positive solves))
     c.solve_form.ensures.solved
 
 pub returns-clause-wide : goal.returns-clause-wide
