@@ -1,13 +1,15 @@
 -- What holds of the matrix and the columns as code has them, holds of the condensed form's.
 use Rattle.std.specs.Prelude.{Result, Ok, Err, OnOk, IfOk, IfErr, is_ok, Bool, true, false}
 use Rattle.std.proofs.lemmas.Bool.{cases_lt}
-use Rattle.std.proofs.Common.{inl, inr, ◌≡◌, ℕ, ◌+◌, ◌<◌, ◌≤◌, ◌^◌, ℤ, pos, ◌-ℤ◌, ◌*ℤ◌, ◌≤ℤ◌, List, length, unsigned_abs, arith, ap, sym, ◌∙◌, refl}
+use Rattle.std.proofs.Common.{inl, inr, ◌≡◌, ◌⊎◌, ℕ, ◌+◌, ◌<◌, ◌≤◌, ◌^◌, ℤ, pos, ◌-ℤ◌, ◌*ℤ◌, ◌≤ℤ◌, List, length, unsigned_abs, arith, ap, sym, ◌∙◌, refl}
 use Rattle.integer_algebra.specs.Sums.{total, dot, image, at}
 use Rattle.integer_algebra.specs.Sizes.{size}
 use Rattle.integer_algebra.proofs.SumLaws.{total_same}
 use Rattle.integer_algebra.proofs.SizeLaws.{size_same}
 use Rattle.mat_int.specs.Matrix.{Matrix, entry_of}
 use Rattle.qp_model.specs.Convex.{IsConvex}
+use Rattle.qp_model.specs.declared.quantity.Quantity.{Quantity}
+use Rattle.qp_model.specs.declared.quantity.Quantity.TheVariants.{Descent}
 use Rattle.qp_model.specs.GoodSolution.{IsGood}
 use Rattle.qp_model.specs.Form.{Form}
 use Rattle.qp_model.specs.Columns.{columns, descent_size, solve_matrix, solve_column}
@@ -106,6 +108,13 @@ ok_gives (Err e) h p = tt
 pub fault_gives : (e : SolveFault) {P Q : Type 0} → (P → Q) → IsFault e P → IsFault e Q
 fault_gives Memory h p = tt
 fault_gives (TooWide q) h p = (p.0, h p.1)
+
+-- what is too wide is refused, unless memory runs out before
+pub refusal_of : {T : Type 0} (r : Result T SolveFault) (n : ℕ) → OnOk r (n ≤ 2 ^ 126) → IfErr r (λ e. IsFault e (2 ^ 126 < n)) → 2 ^ 126 < n →
+    (r ≡ Err (TooWide Descent)) ⊎ (r ≡ Err Memory)
+refusal_of (Ok v) n fits wide h = absurd (omega (arith, fits, h))
+refusal_of (Err Memory) n fits wide h = inr refl
+refusal_of (Err (TooWide q)) n fits wide h = inl (ap (λ (q : Quantity). Err (TooWide q)) wide.0)
 
 -- where each column has a solution, all have room
 pub room_from : (h : Form) (f : ℕ) (v : Inverse) → pos 1 ≤ℤ h.floor → SolvesForm h f v → descent_size h f ≤ 2 ^ 126

@@ -1,6 +1,7 @@
 // All columns of a condensed form.
-ghost use Rattle.std.specs.Prelude.{ℕ, ◌<◌, ◌≤◌, ◌^◌, IfOk, OnOk, IfErr};
+ghost use Rattle.std.specs.Prelude.{ℕ, ◌≡◌, ◌⊎◌, ◌<◌, ◌≤◌, ◌^◌, Err, IfOk, OnOk, IfErr};
 ghost use Rattle.qp_model.specs.declared.design_parts.DesignParts.{DesignParts};
+ghost use Rattle.qp_model.specs.declared.quantity.Quantity.TheVariants.{Descent};
 ghost use Rattle.qp_model.specs.Parts.{design_of};
 ghost use Rattle.qp_model.specs.Form.{form_of};
 ghost use Rattle.qp_model.specs.Columns.{descent_size};
@@ -46,9 +47,15 @@ fn solve_form(alloc: Global, c: &Condensed, f: u32) -> Result<Inverse, SolveFaul
 pub fn solve_all(alloc: Global, c: &Condensed, f: u32) -> Result<Inverse, SolveFault>
     requires form { IsForm c.now }
     requires bits { f ≤ 48 }
+
+    // What is made, and where.
     ensures solved { IfOk result (λ v. (p : DesignParts) → IsFormOf p c.now → IsInverseOf (form_of (design_of p)) f v) }
     ensures fits { OnOk result ((p : DesignParts) → IsFormOf p c.now → descent_size (form_of (design_of p)) f ≤ 2 ^ 126) }
+
+    // The cause of a refusal; and the other way round, with nothing but want of memory in between.
     ensures wide { IfErr result (λ e. (p : DesignParts) → IsFormOf p c.now → IsFault e (2 ^ 126 < descent_size (form_of (design_of p)) f)) }
+    ensures every_refusal { (p : DesignParts) → IsFormOf p c.now → 2 ^ 126 < descent_size (form_of (design_of p)) f
+        → (result ≡ Err (SolveFault.TooWide Descent)) ⊎ (result ≡ Err SolveFault.Memory) }
 {
     solve_form(alloc, c, f)
 }
