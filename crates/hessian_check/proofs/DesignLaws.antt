@@ -17,14 +17,15 @@ use Rattle.qp_model.specs.Condensing.{condensed_of, over_costs, cost_plan, own_i
 use Rattle.qp_model.specs.Quantities.{input_floor}
 use Rattle.qp_model.specs.Cost.{cost_scale}
 use Rattle.qp_model.specs.CurvatureSize.{CoversSquares, limit_squares, floor_times}
-use Rattle.qp_model.specs.Curvature as design
-use Rattle.qp_model.specs.Curvature.{curvature, row_change}
+use Rattle.qp_model.specs.Curvature.{AreExponents, IsExponent, curvature, row_change}
+use Rattle.qp_model.specs.Form.{farthest, form_of}
 use Rattle.qp_model.specs.Residual.{residual, residual_scale}
 use Rattle.qp_model.specs.Sound.{IsSound}
 use Rattle.qp_model.proofs.CurvatureLaws.{hessian_law, curvature_law}
 use Rattle.hessian_check.specs.Dominance.{IsSymmetric, form}
 use Rattle.hessian_check.specs.Curvature.{Curved, exponent_matrix, row_squares, BoundsRows, IsFloored, CoversAll}
-use Rattle.hessian_check.specs.Steps.{curved_of, floor_of_design}
+use Rattle.hessian_check.specs.Steps.{curved_by, curved_of, floor_of_design, weighted_of}
+use Rattle.integer_algebra.proofs.SizeLaws.{amount_same}
 use Rattle.hessian_check.proofs.SquareLaws.{squares_row, sum_pos}
 
 -- ---- half the hessian
@@ -72,15 +73,16 @@ change_is d k c v i l =
     closed : (g x n o a b : ℤ) → a ≡ g *ℤ x +ℤ o → b ≡ g *ℤ n +ℤ o → n ≡ pos 0 → a -ℤ b ≡ g *ℤ x
     closed g x n o a b e f h = rw (e, f, h) (by_ring (g ∷ x ∷ o ∷ []) (search quotes depth 60 fits 20000) refl)
 
--- the squares of all of them
-changes_are : (d : Design) (k : Condensed) → IsCondensed d k → (v : ℕ → ℤ) →
-    total (rows d) (λ i. square (row_change d v i)) ≡ square (pos (2 ^ d.grid)) *ℤ total (rows d) (λ i. square (image (entries d) k.by_plan v i))
-changes_are d k c v =
-    total_same (rows d) _ _ (λ i l. ap square (change_is d k c v i l) ∙ apart (pos (2 ^ d.grid)) (image (entries d) k.by_plan v i)) ∙
-    total_scale (rows d) (square (pos (2 ^ d.grid))) (λ i. square (image (entries d) k.by_plan v i))
+-- the weighted squares of all of them
+changes_are : (d : Design) (w : ℕ → ℕ) (k : Condensed) → IsCondensed d k → (v : ℕ → ℤ) →
+    total (rows d) (λ i. pos (w i) *ℤ square (row_change d v i)) ≡
+    square (pos (2 ^ d.grid)) *ℤ total (rows d) (λ i. pos (w i) *ℤ square (image (entries d) k.by_plan v i))
+changes_are d w k c v =
+    total_same (rows d) _ _ (λ i l. ap (λ (z : ℤ). pos (w i) *ℤ square z) (change_is d k c v i l) ∙ apart (pos (w i)) (pos (2 ^ d.grid)) (image (entries d) k.by_plan v i)) ∙
+    total_scale (rows d) (square (pos (2 ^ d.grid))) (λ i. pos (w i) *ℤ square (image (entries d) k.by_plan v i))
   where
-    apart : (g x : ℤ) → square (g *ℤ x) ≡ square g *ℤ square x
-    apart g x = by_ring (g ∷ x ∷ []) (search quotes depth 60 fits 20000) refl
+    apart : (w g x : ℤ) → w *ℤ square (g *ℤ x) ≡ square g *ℤ (w *ℤ square x)
+    apart w g x = by_ring (w ∷ g ∷ x ∷ []) (search quotes depth 60 fits 20000) refl
 
 -- the form of the hessian is twice that of its half
 form_two : (d : Design) (v : ℕ → ℤ) → form (entries d) (condensed_of d).hessian v ≡ pos 2 *ℤ form (entries d) (curved_of d).half v
@@ -109,17 +111,28 @@ residual_scale_is : (d : Design) (s : ℕ) → pos (2 ^ s * residual_scale d ^ 2
     pos (2 ^ s) *ℤ square (pos d.limit_denominator *ℤ pos (2 ^ d.grid) *ℤ pos (d.plant_denominator ^ d.stages))
 residual_scale_is d s = ap pos (ap (λ n. 2 ^ s * n) (pow-two (residual_scale d)))
 
--- ---- an exponent of the matrices is one of the trajectories
-pub exponent_of : (d : Design) (s : ℕ) → IsCondensed d (condensed_of d) → BoundsRows (curved_of d) s → design.IsExponent d s
-exponent_of d s c h v = closed (pos (cost_scale d)) (pos (2 ^ s * residual_scale d ^ 2)) _ (curvature d v)
-    (pos d.cost_denominator) (pos d.row_denominator) (pos (2 ^ d.grid)) (pos (d.plant_denominator ^ d.stages)) (pos d.limit_denominator) (pos (2 ^ s))
-    (total (rows d) (λ i. square (image (entries d) (condensed_of d).by_plan v i))) (form (entries d) (curved_of d).half v)
-    (cost_scale_is d) (residual_scale_is d s) (changes_are d (condensed_of d) c v) (curvature_is d c v) (h v)
+-- ---- exponents of the matrices are those of the trajectories
+pub exponents_of : (d : Design) (s : ℕ → ℕ) (most : ℕ) → IsCondensed d (condensed_of d) → ((i : ℕ) → i < rows d → s i ≤ most) →
+    BoundsRows (curved_by d s most) most → AreExponents d s most
+exponents_of d s most c b h = record {
+  bounded = b;
+  descent = λ v. closed (pos (cost_scale d)) (pos (2 ^ most * residual_scale d ^ 2)) _ (curvature d v)
+      (pos d.cost_denominator) (pos d.row_denominator) (pos (2 ^ d.grid)) (pos (d.plant_denominator ^ d.stages)) (pos d.limit_denominator) (pos (2 ^ most))
+      (total (rows d) (λ i. pos (2 ^ (most - s i)) *ℤ square (image (entries d) (condensed_of d).by_plan v i))) (form (entries d) (curved_of d).half v)
+      (cost_scale_is d) (residual_scale_is d most) (changes_are d (λ i. 2 ^ (most - s i)) (condensed_of d) c v) (curvature_is d c v) (h v);
+}
   where
     closed : (y z t u w r g a l p x f : ℤ) → y ≡ w *ℤ square (r *ℤ g *ℤ a) → z ≡ p *ℤ square (l *ℤ g *ℤ a) → t ≡ square g *ℤ x → u ≡ square g *ℤ f →
         (w *ℤ square r *ℤ x) ≤ℤ (p *ℤ square l *ℤ f) → (y *ℤ t) ≤ℤ (z *ℤ u)
     closed y z t u w r g a l p x f ey ez et eu h = rw (ey, ez, et, eu) (le_by (mul-le-mul_left_z (square (g *ℤ a *ℤ g)) (square_nonneg_z (g *ℤ a *ℤ g)) h)
         (by_ring (w ∷ r ∷ g ∷ a ∷ l ∷ p ∷ x ∷ f ∷ []) (search quotes depth 60 fits 20000) refl))
+
+-- one for all rows
+pub exponent_of : (d : Design) (s : ℕ) → IsCondensed d (condensed_of d) → BoundsRows (curved_of d) s → IsExponent d s
+exponent_of d s c h = exponents_of d (λ i. s) s c (λ i l. omega arith) (moved (s - s) (omega arith))
+  where
+    moved : (z : ℕ) → z ≡ 0 → BoundsRows (weighted_of d (λ i. 2 ^ z)) s
+    moved z e = rw e h
 
 -- ---- the floor of the cost
 pub floored : (d : Design) → IsSound d (input_floor d) → IsCondensed d (condensed_of d) → IsFloored (curved_of d) (floor_of_design d)
@@ -135,23 +148,30 @@ floored d sound c v = closed (pos (cost_scale d)) (curvature d v) (pos (input_fl
         (rw eq (by_ring (w ∷ r ∷ g ∷ a ∷ o ∷ x ∷ f ∷ []) (search quotes depth 60 fits 20000) refl)))
 
 -- ---- the test of the squares
-squares_are : (m n : ℕ) (g : ℕ → ℕ → ℤ) → total m (λ i. total n (λ j. square (g i j))) ≡ pos (amount m (λ i. amount n (λ j. unsigned_abs (g i j) ^ 2)))
+-- no radius
+pub farthest_none : (x : ℤ) → farthest x 0 ≡ unsigned_abs x
+farthest_none x = omega arith
+
+squares_are : (m n : ℕ) (g : ℕ → ℕ → ℤ) → total m (λ i. pos 1 *ℤ total n (λ j. square (g i j))) ≡ pos (amount m (λ i. amount n (λ j. farthest (g i j) 0 ^ 2)))
 squares_are zero n g = refl
-squares_are (suc m) n g = sum_pos _ _ (squares_are m n g) (squares_row n (g m))
+squares_are (suc m) n g = sum_pos _ _ (squares_are m n g) (once (squares_row n (g m) ∙ ap pos (amount_same n _ _ (λ j l. ap (λ (z : ℕ). z ^ 2) (sym (farthest_none (g m j)))))))
+  where
+    once : {x : ℤ} {y : ℕ} → x ≡ pos y → pos 1 *ℤ x ≡ pos y
+    once {x} {y} e = omega (arith, ints, e)
 
 pub covers : (d : Design) (s : ℕ) → CoversSquares d s → CoversAll (curved_of d) (floor_of_design d) s
-covers d s h = closed (pos d.cost_denominator) (row_squares (curved_of d)) (limit_squares d) (squares_are (rows d) (entries d) (condensed_of d).by_plan) (raised h)
+covers d s h = closed (pos d.cost_denominator) (row_squares (curved_of d)) (limit_squares (form_of d)) (squares_are (rows d) (entries d) (condensed_of d).by_plan) (raised h)
   where
     closed : (w x : ℤ) (y : ℕ) → x ≡ pos y → (w *ℤ pos y) ≤ℤ (pos (2 ^ s) *ℤ square (pos d.limit_denominator) *ℤ floor_of_design d) →
         (w *ℤ x) ≤ℤ (pos (2 ^ s) *ℤ square (pos d.limit_denominator) *ℤ floor_of_design d)
     closed w x y e k = rw e k
 
-    raised : d.cost_denominator * limit_squares d ≤ floor_times d s →
-        pos (d.cost_denominator * limit_squares d) ≤ℤ pos (2 ^ s * (d.limit_denominator * d.limit_denominator) * (input_floor d * (d.plant_denominator ^ d.stages) ^ 2))
-    raised k = let e = turn (2 ^ s) (input_floor d) d.limit_denominator ((d.plant_denominator ^ d.stages) ^ 2) (pow-two d.limit_denominator) in numbers _ _ _ k e
+    raised : d.cost_denominator * limit_squares (form_of d) ≤ floor_times d (form_of d) s →
+        pos (d.cost_denominator * limit_squares (form_of d)) ≤ℤ pos (2 ^ s * (d.limit_denominator * d.limit_denominator) * (input_floor d * (d.plant_denominator ^ d.stages) ^ 2))
+    raised k = let e = turn (2 ^ s) (input_floor d) d.limit_denominator (d.plant_denominator ^ d.stages) in numbers _ _ _ k e
       where
         numbers : (a b c : ℕ) → a ≤ b → b ≡ c → pos a ≤ℤ pos c
         numbers a b c h e = omega (arith, ints, h, e)
 
-        turn : (p i l q : ℕ) → l ^ 2 ≡ l * l → p * (i * l ^ 2) * q ≡ p * (l * l) * (i * q)
-        turn p i l q e = rw e (omega arith)
+        turn : (p i l a : ℕ) → p * i * (l * a) ^ 2 ≡ p * (l * l) * (i * a ^ 2)
+        turn p i l a = rw (pow-two (l * a), pow-two a) (omega arith)

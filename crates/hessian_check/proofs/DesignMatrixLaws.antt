@@ -20,12 +20,13 @@ use Rattle.qp_model.specs.Quantities.{cost_entry_size, limit_entry_size, hessian
 use Rattle.plant_condense.specs.declared.condensed.Condensed.{Condensed}
 use Rattle.plant_condense.specs.Form.{IsFormOf}
 use Rattle.hessian_check.specs.declared.matrices.StepMatrices.{StepMatrices}
-use Rattle.hessian_check.specs.Curvature.{exponent_matrix}
+use Rattle.hessian_check.specs.Curvature.{exponent_matrix, weighted_gram}
 use Rattle.hessian_check.specs.DesignMatrices.{AreMatricesOf, curvature_at}
 use Rattle.hessian_check.specs.Dominance.{AreSame, IsSymmetric}
 use Rattle.hessian_check.specs.StepMatrices.{AreMatrices}
 use Rattle.hessian_check.specs.MatrixRoom.{matrix_at, HasMatrixRoom}
 use Rattle.hessian_check.specs.Steps.{curved_of, half_of}
+use Rattle.hessian_check.proofs.CurvatureLaws.{gram_once}
 use Rattle.hessian_check.proofs.FormFacts.{IsSmall, amount-le, by_plan_is, products_room, unit_small}
 
 -- ---- the cost and the rows
@@ -36,10 +37,11 @@ half_same p c f m h = record {
 }
 
 rows_are : (p : DesignParts) (c : Condensed) → IsFormOf p c → (m : Matrix) → HasEntries c.g.cols c.g.cols (gram (length c.g.rows) (entry_of c.g)) m →
-    AreSame (entries (design_of p)) (entry_of m) (gram (rows (design_of p)) (condensed_of (design_of p)).by_plan)
+    AreSame (entries (design_of p)) (entry_of m) (weighted_gram (rows (design_of p)) (λ l. 1) (condensed_of (design_of p)).by_plan)
 rows_are p c f m h = record {
   is = λ i j k l. h.entries i j (rw f.shapes.g.cols k) (rw f.shapes.g.cols l) ∙
-      rw f.shapes.g.rows (total_same (rows (design_of p)) _ _ (λ r o. ap₂ (λ (x : ℤ) (y : ℤ). x *ℤ y) (by_plan_is p c f r i o k) (by_plan_is p c f r j o l)));
+      rw f.shapes.g.rows (total_same (rows (design_of p)) _ _ (λ r o. ap₂ (λ (x : ℤ) (y : ℤ). x *ℤ y) (by_plan_is p c f r i o k) (by_plan_is p c f r j o l))) ∙
+      sym (gram_once (rows (design_of p)) (condensed_of (design_of p)).by_plan i j);
 }
 
 -- ---- their sizes

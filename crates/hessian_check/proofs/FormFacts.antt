@@ -16,6 +16,7 @@ use Rattle.qp_model.specs.Design.{Design, entries, rows}
 use Rattle.qp_model.specs.Condensed as form
 use Rattle.qp_model.specs.Condensed.{IsCondensed}
 use Rattle.qp_model.specs.Condensing.{condensed_of}
+use Rattle.qp_model.specs.Form.{form_of}
 use Rattle.qp_model.specs.Quantities.{input_floor, growth, cost_width, weight_sum, prediction_size, cost_entry_size, limit_entry_size, hessian_size, rows_size}
 use Rattle.qp_model.specs.CurvatureSize.{CoversSquares, limit_squares, floor_times}
 use Rattle.qp_model.specs.Parts.{IsDesign, design_of}
@@ -25,7 +26,7 @@ use Rattle.plant_condense.specs.declared.condensed.Condensed.{Condensed}
 use Rattle.plant_condense.specs.Form.{IsFormOf, form_numbers}
 use Rattle.std.specs.Option.{SomeIff, is_some}
 use Rattle.hessian_check.specs.Curvature.{IsLeastBelow}
-use Rattle.hessian_check.proofs.DesignLaws.{change_is}
+use Rattle.hessian_check.proofs.DesignLaws.{change_is, farthest_none}
 use Rattle.hessian_check.proofs.RowLaws.{not_true}
 use Rattle.qp_model.proofs.SoundLaws.{least-le, least-met, weight_at}
 
@@ -138,8 +139,9 @@ squares_room p c f =
     omega (arith, all, room, f.sizes.limit_room)
 
 pub squares_are_limit : (p : DesignParts) (c : Condensed) → IsFormOf p c → let d = design_of p in
-    amount (rows d) (λ i. amount (entries d) (λ j. unsigned_abs (entry_of c.g i j) ^ 2)) ≡ limit_squares d
-squares_are_limit p c f = amount_same (rows (design_of p)) _ _ (λ i l. amount_same (entries (design_of p)) _ _ (λ j o. ap (λ (z : ℤ). unsigned_abs z ^ 2) (by_plan_is p c f i j l o)))
+    amount (rows d) (λ i. amount (entries d) (λ j. unsigned_abs (entry_of c.g i j) ^ 2)) ≡ limit_squares (form_of d)
+squares_are_limit p c f = amount_same (rows (design_of p)) _ _ (λ i l. amount_same (entries (design_of p)) _ _ (λ j o. ap (λ (z : ℤ). unsigned_abs z ^ 2) (by_plan_is p c f i j l o) ∙
+    ap (λ (z : ℕ). z ^ 2) (sym (farthest_none ((condensed_of (design_of p)).by_plan i j)))))
 
 -- ---- what code multiplies
 pub unit_small : (d : Design) → IsSmall d → (d.limit_denominator * d.limit_denominator ≤ 2 ^ 40) × (input_floor d * (d.limit_denominator * d.limit_denominator) ≤ 2 ^ 80)
@@ -155,20 +157,23 @@ part_small d h =
     (omega (arith, q, h.part), one-le-mul h.power h.power)
 
 -- ---- what code tests
-covers_as : (d : Design) (s w q f l a : ℕ) → w ≡ d.cost_denominator → q ≡ limit_squares d → f ≡ input_floor d → l ≡ d.limit_denominator → a ≡ d.plant_denominator ^ d.stages →
+covers_as : (d : Design) (s w q f l a : ℕ) → w ≡ d.cost_denominator → q ≡ limit_squares (form_of d) → f ≡ input_floor d → l ≡ d.limit_denominator → a ≡ d.plant_denominator ^ d.stages →
     (w * q ≤ 2 ^ s * (f * (l * l)) * (a * a) → CoversSquares d s) × (CoversSquares d s → w * q ≤ 2 ^ s * (f * (l * l)) * (a * a))
-covers_as d s w q f l a ew eq ef el ea = (λ t. moved (w * q) _ (d.cost_denominator * limit_squares d) _ left right t, λ t. moved _ _ _ _ (sym left) (sym right) t)
+covers_as d s w q f l a ew eq ef el ea = (λ t. moved (w * q) _ (d.cost_denominator * limit_squares (form_of d)) _ left right t, λ t. moved _ _ _ _ (sym left) (sym right) t)
   where
-    left : w * q ≡ d.cost_denominator * limit_squares d
+    left : w * q ≡ d.cost_denominator * limit_squares (form_of d)
     left = rw (ew, eq) refl
 
-    right : 2 ^ s * (f * (l * l)) * (a * a) ≡ floor_times d s
-    right = rw (ef, el, ea, ← (pow-two d.limit_denominator), ← (pow-two (d.plant_denominator ^ d.stages))) refl
+    right : 2 ^ s * (f * (l * l)) * (a * a) ≡ floor_times d (form_of d) s
+    right = rw (ef, el, ea) (turn (2 ^ s) (input_floor d) d.limit_denominator (d.plant_denominator ^ d.stages))
+      where
+        turn : (p i l a : ℕ) → p * (i * (l * l)) * (a * a) ≡ p * i * (l * a) ^ 2
+        turn p i l a = rw (pow-two (l * a)) (omega arith)
 
     moved : (a b x y : ℕ) → a ≡ x → b ≡ y → a ≤ b → x ≤ y
     moved a b x y e f h = omega (arith, e, f, h)
 
-pub covers_by : (d : Design) (o : Option ℕ) (w q f l a : ℕ) → w ≡ d.cost_denominator → q ≡ limit_squares d → f ≡ input_floor d → l ≡ d.limit_denominator →
+pub covers_by : (d : Design) (o : Option ℕ) (w q f l a : ℕ) → w ≡ d.cost_denominator → q ≡ limit_squares (form_of d) → f ≡ input_floor d → l ≡ d.limit_denominator →
     a ≡ d.plant_denominator ^ d.stages → IsLeastBelow 41 (λ s. w * q ≤ 2 ^ s * (f * (l * l)) * (a * a)) o → IsLeastBelow 41 (CoversSquares d) o
 covers_by d None w q f l a ew eq ef el ea h = λ k m t. h k m ((covers_as d k w q f l a ew eq ef el ea).1 t)
 covers_by d (Some s) w q f l a ew eq ef el ea h = (

@@ -1,5 +1,5 @@
 -- The exponents of a design's step.
-use Rattle.std.specs.Prelude.{ℕ, ◌*◌, ◌^◌, ◌<◌, ℤ, pos}
+use Rattle.std.specs.Prelude.{ℕ, ◌-◌, ◌*◌, ◌^◌, ◌<◌, ℤ, pos}
 use Rattle.integer_algebra.specs.Division.{floor_of}
 use Rattle.qp_model.specs.Design.{Design, entries, rows}
 use Rattle.qp_model.specs.Condensing.{condensed_of}
@@ -15,17 +15,26 @@ use Rattle.hessian_check.specs.Curvature.{Curved, exponent_matrix, IsFirst, IsCh
 abbrev pub half_of : (ℕ → ℕ → ℤ) → ℕ → ℕ → ℤ
 half_of a i j = floor_of (a i j) 2
 
--- half the condensed hessian, which is even, the condensed rows, and the denominators
-abbrev pub curved_of : Design → Curved
-curved_of d = record {
+-- half the condensed hessian, which is even, the condensed rows with their weights, and the denominators
+abbrev pub weighted_of : Design → (ℕ → ℕ) → Curved
+weighted_of d weight = record {
   entries = entries d;
   count = rows d;
   half = half_of (condensed_of d).hessian;
   row = (condensed_of d).by_plan;
+  weight = weight;
   limit_den = pos d.limit_denominator;
   weight_den = pos d.cost_denominator;
   cost_row_den = pos d.row_denominator;
 }
+
+-- one exponent for all rows
+abbrev pub curved_of : Design → Curved
+curved_of d = weighted_of d (λ l. 1)
+
+-- an exponent for each row, up to `most`
+abbrev pub curved_by : Design → (ℕ → ℕ) → ℕ → Curved
+curved_by d s most = weighted_of d (λ l. 2 ^ (most - s l))
 
 -- the least input weight, over what the squares of the condensed rows are over
 abbrev pub floor_of_design : Design → ℤ

@@ -2,6 +2,7 @@ use Rattle.std.proofs.Common.{◌≡◌, ◌*◌, ◌^◌, ◌<◌, length, arit
 use Rattle.integer_algebra.specs.Sizes.{amount}
 use Rattle.mat_int.specs.Matrix.{entry_of}
 use Rattle.qp_model.specs.Design.{entries, rows}
+use Rattle.qp_model.specs.Form.{form_of}
 use Rattle.qp_model.specs.Parts.{design_of}
 use Rattle.qp_model.specs.CurvatureSize.{limit_squares}
 use Rattle.hessian_check.proofs.FormFacts.{covers_by, small, unit_small, part_small, squares_room, squares_are_limit}
@@ -58,5 +59,5 @@ squares_exponent-requires-clause-room c =
 pub returns : goal.returns
 returns c = λ p f.
     let s = c.scales_of-scales.ensures p f in
-    let e : c.sum_of_squares.result ≡ limit_squares (design_of p) = c.sum_of_squares.ensures ∙ rw (f.shapes.g.rows, f.shapes.g.cols) (squares_are_limit p c.args.c.now f) in
+    let e : c.sum_of_squares.result ≡ limit_squares (form_of (design_of p)) = c.sum_of_squares.ensures ∙ rw (f.shapes.g.rows, f.shapes.g.cols) (squares_are_limit p c.args.c.now f) in
     covers_by (design_of p) c.squares_exponent.result _ _ _ _ _ s.weight_den e s.input_floor s.limit_den s.power c.squares_exponent.ensures
