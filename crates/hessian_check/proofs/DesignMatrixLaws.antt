@@ -27,6 +27,7 @@ use Rattle.hessian_check.specs.StepMatrices.{AreMatrices}
 use Rattle.hessian_check.specs.MatrixRoom.{matrix_at, HasMatrixRoom}
 use Rattle.hessian_check.specs.Steps.{curved_of, half_of}
 use Rattle.hessian_check.proofs.CurvatureLaws.{gram_once}
+use Rattle.hessian_check.proofs.RadiusLaws.{exact_is}
 use Rattle.hessian_check.proofs.FormFacts.{IsSmall, amount-le, by_plan_is, products_room, unit_small}
 
 -- ---- the cost and the rows
@@ -107,7 +108,7 @@ gaps_are p c f g h k a b =
     let y = rows_are p c f g.rows k in
     record {
       size = size_is;
-      same = λ s. record { is = λ i j l o. rw (a, b, x.is i j l o, y.is i j l o) refl };
+      same = λ s. record { is = λ i j l o. rw (a, b, x.is i j l o, y.is i j l o) (sym (exact_is (curved_of d) s i j)) };
       room = λ s r i l. (let t : i < entries d = rw (← size_is) l in
           rw (a, b, size_is) (room_of (2 ^ s) d.limit_denominator (hessian_size d) _ d.cost_denominator d.row_denominator (rows_size d) _ (half_row p c f g.cost h i t) (rows_row p c f g.rows k i t) r));
     }

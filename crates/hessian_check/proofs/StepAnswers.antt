@@ -12,12 +12,12 @@ use Rattle.hessian_check.specs.declared.fault.CurvatureFault.{CurvatureFault}
 use Rattle.hessian_check.specs.declared.fault.CurvatureFault.TheVariants.{Memory, TooWide, NoStep}
 use Rattle.hessian_check.specs.declared.fault.StepExponents.{StepExponents}
 use Rattle.hessian_check.specs.declared.matrices.StepMatrices.{StepMatrices}
-use Rattle.hessian_check.specs.Curvature.{IsChosen, IsLeastBelow, exponent_matrix}
+use Rattle.hessian_check.specs.Curvature.{IsChosen, IsLeastBelow}
 use Rattle.hessian_check.specs.DesignMatrices.{AreMatricesOf, curvature_at}
 use Rattle.hessian_check.specs.Exponents.{IsEither, IsOutcome}
 use Rattle.hessian_check.specs.MatrixRoom.{matrix_at, HasMatrixRoom}
 use Rattle.hessian_check.specs.StepLaw.{ExponentLaw}
-use Rattle.hessian_check.specs.Steps.{HasNoStep, IsPlainExponent, IsStepExponent, curved_of}
+use Rattle.hessian_check.specs.Steps.{HasNoStep, IsPlainExponent, IsStepExponent, step_matrix}
 use Rattle.std.proofs.lemmas.Bool.{cases_lt}
 use Rattle.plant_condense.specs.declared.condensed.Condensed.{Condensed}
 use Rattle.plant_condense.specs.Form.{IsFormOf}
@@ -38,7 +38,7 @@ Outcome g o r = IsOutcome (length g.cost.rows) (matrix_at g) o r
 
 -- ---- two exponents
 either_of : (d : Design) (g : StepMatrices) (o : Option ℕ) (s1 : ℕ) → Chosen d g o → IsEither (length g.cost.rows) (matrix_at g) o s1 → IsPlainExponent d s1
-either_of d g o s1 h e = first_moved (entries d) (matrix_at g) (exponent_matrix (curved_of d)) (CoversSquares d) s1 h.matrices.same
+either_of d g o s1 h e = first_moved (entries d) (matrix_at g) (step_matrix d) (CoversSquares d) s1 h.matrices.same
     (first_made (entries d) (matrix_at g) (CoversSquares d) o s1 h.some h.squares (rw h.matrices.size at e))
 
 pub plain_of : (d : Design) (g : StepMatrices) (o : Option ℕ) (r : Result StepExponents CurvatureFault) → Chosen d g o → Outcome g o r → IfOk r (λ e. IsPlainExponent d e.s1)
@@ -46,7 +46,7 @@ plain_of d g o (Ok e) h t = either_of d g o e.s1 h t.0
 plain_of d g o (Err f) h t = search rules
 
 pub step_of : (d : Design) (g : StepMatrices) (o : Option ℕ) (r : Result StepExponents CurvatureFault) → Chosen d g o → Outcome g o r → IfOk r (λ e. IsStepExponent d e.s1 e.s)
-step_of d g o (Ok e) h t = chosen_moved (entries d) (matrix_at g) (exponent_matrix (curved_of d)) e.s1 e.s h.matrices.same (rw h.matrices.size at t.1)
+step_of d g o (Ok e) h t = chosen_moved (entries d) (matrix_at g) (step_matrix d) e.s1 e.s h.matrices.same (rw h.matrices.size at t.1)
 step_of d g o (Err f) h t = search rules
 
 pub few : (d : Design) (o : Option ℕ) → IsLeastBelow 41 (CoversSquares d) o → unwrap_or o 40 ≤ 40
@@ -80,14 +80,14 @@ pub no_step_of : (d : Design) (g : StepMatrices) (o : Option ℕ) (r : Result St
 no_step_of d g o r h t e =
     let k : Outcome g o (Err NoStep) = rw e at t in
     let b : IsLeastBelow 41 (CoversSquares d) None = rw k.1 at h.squares in
-    let a = first_above (entries d) (exponent_matrix (curved_of d)) (CoversSquares d) h.some b
-    (λ s l m. k.0 s l (rw h.matrices.size (dominant_moved (entries d) (exponent_matrix (curved_of d) s) (matrix_at g s) (same_back (entries d) (matrix_at g s) (exponent_matrix (curved_of d) s) (h.matrices.same s)) m))) in
+    let a = first_above (entries d) (step_matrix d) (CoversSquares d) h.some b
+    (λ s l m. k.0 s l (rw h.matrices.size (dominant_moved (entries d) (step_matrix d s) (matrix_at g s) (same_back (entries d) (matrix_at g s) (step_matrix d s) (h.matrices.same s)) m))) in
     record { s1 = h.some.number; plain = a.0; above = a.1 }
 
 pub found_of : (d : Design) (g : StepMatrices) (o : Option ℕ) (r : Result StepExponents CurvatureFault) → Chosen d g o → Outcome g o r →
     HasNoStep d → ¬ IsOk r
 found_of d g o (Ok e) h t n y =
-    let q = first_same (entries d) (exponent_matrix (curved_of d)) (CoversSquares d) e.s1 n.s1 (plain_of d g o (Ok e) h t) n.plain in
+    let q = first_same (entries d) (step_matrix d) (CoversSquares d) e.s1 n.s1 (plain_of d g o (Ok e) h t) n.plain in
     let b = order_of d g o (Ok e) h t in
     omega (arith, q, b.1, n.above)
 found_of d g o (Err f) h t n y = err_not_ok y

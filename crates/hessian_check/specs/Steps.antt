@@ -9,7 +9,7 @@ use Rattle.qp_model.specs.declared.design_parts.DesignParts.{DesignParts}
 use Rattle.qp_model.specs.Parts.{design_of}
 use Rattle.plant_condense.specs.declared.condensed.Condensed.{Condensed}
 use Rattle.plant_condense.specs.Form.{IsFormOf}
-use Rattle.hessian_check.specs.Curvature.{Curved, exponent_matrix, IsFirst, IsChosen}
+use Rattle.hessian_check.specs.Curvature.{Curved, Held, exactly, exponent_matrix, IsFirst, IsChosen}
 
 -- half a matrix of even entries
 abbrev pub half_of : (ℕ → ℕ → ℤ) → ℕ → ℕ → ℤ
@@ -36,17 +36,29 @@ curved_of d = weighted_of d (λ l. 1)
 abbrev pub curved_by : Design → (ℕ → ℕ) → ℕ → Curved
 curved_by d s most = weighted_of d (λ l. 2 ^ (most - s l))
 
+-- the matrices of them are held exactly
+abbrev pub held_of : Design → Held
+held_of d = exactly (curved_of d)
+
+-- the matrix of s
+abbrev pub step_matrix : Design → ℕ → ℕ → ℕ → ℤ
+step_matrix d = exponent_matrix (curved_of d) (held_of d)
+
+-- that of an exponent for each row
+abbrev pub rows_matrix : Design → (ℕ → ℕ) → ℕ → ℕ → ℕ → ℤ
+rows_matrix d s most = exponent_matrix (curved_by d s most) (exactly (curved_by d s most)) most
+
 -- the least input weight, over what the squares of the condensed rows are over
 abbrev pub floor_of_design : Design → ℤ
 floor_of_design d = pos (input_floor d * (d.plant_denominator ^ d.stages) ^ 2)
 
 -- s1: the lesser of the least number that covers the squares of the rows and the least number up to 40 whose matrix is dominant
 abbrev pub IsPlainExponent : Design → ℕ → Type 0
-IsPlainExponent d s1 = IsFirst (entries d) (exponent_matrix (curved_of d)) (CoversSquares d) s1
+IsPlainExponent d s1 = IsFirst (entries d) (step_matrix d) (CoversSquares d) s1
 
 -- s: the least number below s1 whose matrix has a root that the test passes, or s1
 abbrev pub IsStepExponent : Design → ℕ → ℕ → Type 0
-IsStepExponent d s1 s = IsChosen (entries d) (exponent_matrix (curved_of d)) s1 s
+IsStepExponent d s1 s = IsChosen (entries d) (step_matrix d) s1 s
 
 -- s1 is above 40
 pub record HasNoStep (d : Design) : Type 0 where
