@@ -1,8 +1,9 @@
 -- What the exponents of a design's matrices are for its trajectories.
 use Rattle.std.proofs.Common.{◌≡◌, inl, inr, ℕ, zero, suc, ◌+◌, ◌-◌, ◌*◌, ◌/◌, ◌%◌, ◌^◌, ◌<◌, ◌≤◌, [], ◌∷◌, ℤ, pos, negsuc, ◌+ℤ◌, ◌-ℤ◌, ◌*ℤ◌, ◌≤ℤ◌, ◌<ℤ◌, unsigned_abs, arith, ap, sym, ◌∙◌, refl}
-use Rattle.std.proofs.lemmas.Int.{ints}
+use Rattle.std.proofs.lemmas.Int.{ints, unsigned_abs-mul}
+use Rattle.integer_algebra.specs.Bounds.{IsWithin}
 use Rattle.std.proofs.lemmas.Nat.{pow_pos}
-use Rattle.std.proofs.Math.Nat.{one-le-mul}
+use Rattle.std.proofs.Math.Nat.{le_of_mul-le-mul_left, mul-le-mul, mul-le-mul_left, one-le-mul}
 use Rattle.integer_algebra.specs.Division.{floor_of}
 use Rattle.integer_algebra.specs.Sizes.{amount}
 use Rattle.integer_algebra.specs.Sums.{total, dot, image, square, none}
@@ -18,7 +19,7 @@ use Rattle.qp_model.specs.Quantities.{input_floor}
 use Rattle.qp_model.specs.Cost.{cost_scale}
 use Rattle.qp_model.specs.CurvatureSize.{CoversSquares, limit_squares, floor_times}
 use Rattle.qp_model.specs.Curvature.{AreExponents, IsExponent, curvature, row_change}
-use Rattle.qp_model.specs.Form.{farthest, form_of}
+use Rattle.qp_model.specs.Form.{Form, Encloses, farthest, rows_scale}
 use Rattle.qp_model.specs.Residual.{residual, residual_scale}
 use Rattle.qp_model.specs.Sound.{IsSound}
 use Rattle.qp_model.proofs.CurvatureLaws.{hessian_law, curvature_law}
@@ -26,7 +27,7 @@ use Rattle.hessian_check.specs.Dominance.{IsSymmetric, form}
 use Rattle.hessian_check.specs.Curvature.{Curved, exponent_matrix, row_squares, BoundsRows, IsFloored, CoversAll}
 use Rattle.hessian_check.specs.Steps.{curved_by, curved_of, floor_of_design, weighted_of}
 use Rattle.integer_algebra.proofs.SizeLaws.{amount_same}
-use Rattle.hessian_check.proofs.SquareLaws.{squares_row, sum_pos}
+use Rattle.hessian_check.proofs.SquareLaws.{amount_mono, amount_scale, squares_row, sum_pos}
 
 -- ---- half the hessian
 half_two : (x : ℤ) → floor_of (pos 2 *ℤ x) 2 ≡ x
@@ -152,26 +153,60 @@ floored d sound c v = closed (pos (cost_scale d)) (curvature d v) (pos (input_fl
 pub farthest_none : (x : ℤ) → farthest x 0 ≡ unsigned_abs x
 farthest_none x = omega arith
 
-squares_are : (m n : ℕ) (g : ℕ → ℕ → ℤ) → total m (λ i. pos 1 *ℤ total n (λ j. square (g i j))) ≡ pos (amount m (λ i. amount n (λ j. farthest (g i j) 0 ^ 2)))
+squares_are : (m n : ℕ) (g : ℕ → ℕ → ℤ) → total m (λ i. pos 1 *ℤ total n (λ j. square (g i j))) ≡ pos (amount m (λ i. amount n (λ j. unsigned_abs (g i j) ^ 2)))
 squares_are zero n g = refl
-squares_are (suc m) n g = sum_pos _ _ (squares_are m n g) (once (squares_row n (g m) ∙ ap pos (amount_same n _ _ (λ j l. ap (λ (z : ℕ). z ^ 2) (sym (farthest_none (g m j)))))))
+squares_are (suc m) n g = sum_pos _ _ (squares_are m n g) (once (squares_row n (g m)))
   where
     once : {x : ℤ} {y : ℕ} → x ≡ pos y → pos 1 *ℤ x ≡ pos y
     once {x} {y} e = omega (arith, ints, e)
 
-pub covers : (d : Design) (s : ℕ) → CoversSquares d s → CoversAll (curved_of d) (floor_of_design d) s
-covers d s h = closed (pos d.cost_denominator) (row_squares (curved_of d)) (limit_squares (form_of d)) (squares_are (rows d) (entries d) (condensed_of d).by_plan) (raised h)
+-- the squares of numbers that lie within radii of others, over another scale
+squares_within : (m n q r : ℕ) (x f : ℕ → ℕ → ℕ) → ((i j : ℕ) → i < m → j < n → q * x i j ≤ r * f i j) →
+    q * q * amount m (λ i. amount n (λ j. x i j ^ 2)) ≤ r * r * amount m (λ i. amount n (λ j. f i j ^ 2))
+squares_within m n q r x f h = joined (scaled q x) (scaled r f) (amount_mono m _ _ (λ i l. amount_mono n _ _ (λ j o. entry (x i j) (f i j) (h i j l o))))
   where
-    closed : (w x : ℤ) (y : ℕ) → x ≡ pos y → (w *ℤ pos y) ≤ℤ (pos (2 ^ s) *ℤ square (pos d.limit_denominator) *ℤ floor_of_design d) →
-        (w *ℤ x) ≤ℤ (pos (2 ^ s) *ℤ square (pos d.limit_denominator) *ℤ floor_of_design d)
-    closed w x y e k = rw e k
+    entry : (a b : ℕ) → q * a ≤ r * b → q * q * a ^ 2 ≤ r * r * b ^ 2
+    entry a b k = rw (pow-two a, pow-two b) (let t = mul-le-mul {n₁ = q * a} {m₁ = q * a} {n₂ = r * b} {m₂ = r * b} k k in omega (arith, t))
 
-    raised : d.cost_denominator * limit_squares (form_of d) ≤ floor_times d (form_of d) s →
-        pos (d.cost_denominator * limit_squares (form_of d)) ≤ℤ pos (2 ^ s * (d.limit_denominator * d.limit_denominator) * (input_floor d * (d.plant_denominator ^ d.stages) ^ 2))
-    raised k = let e = turn (2 ^ s) (input_floor d) d.limit_denominator (d.plant_denominator ^ d.stages) in numbers _ _ _ k e
+    scaled : (t : ℕ) (y : ℕ → ℕ → ℕ) → amount m (λ i. amount n (λ j. t * t * y i j ^ 2)) ≡ t * t * amount m (λ i. amount n (λ j. y i j ^ 2))
+    scaled t y = amount_same m _ _ (λ i l. amount_scale n (t * t) (λ j. y i j ^ 2)) ∙ amount_scale m (t * t) (λ i. amount n (λ j. y i j ^ 2))
+
+    joined : {a b x y : ℕ} → a ≡ x → b ≡ y → a ≤ b → x ≤ y
+    joined {a} {b} {x} {y} e g k = omega (arith, e, g, k)
+
+-- a form of the design whose squares, each number at its farthest, are covered
+pub covers : (d : Design) (h : Form) → Encloses d h → 1 ≤ h.rows_scale → (s : ℕ) → d.cost_denominator * limit_squares h ≤ floor_times d h s →
+    CoversAll (curved_of d) (floor_of_design d) s
+covers d h k o s t = raised (squares_are (rows d) (entries d) (condensed_of d).by_plan)
+    (cancelled h.rows_scale (rows_scale d) d.cost_denominator squares _ (2 ^ s * input_floor d) o within (rw (k.row_count, k.entry_count) at t))
+  where
+    squares : ℕ
+    squares = amount (rows d) (λ i. amount (entries d) (λ j. unsigned_abs ((condensed_of d).by_plan i j) ^ 2))
+
+    within : h.rows_scale * h.rows_scale * amount (rows d) (λ i. amount (entries d) (λ j. unsigned_abs ((condensed_of d).by_plan i j) ^ 2)) ≤
+        rows_scale d * rows_scale d * amount (rows d) (λ i. amount (entries d) (λ j. farthest (h.numbers.by_plan i j) (h.plan_radius i j) ^ 2))
+    within = squares_within (rows d) (entries d) h.rows_scale (rows_scale d) (λ i j. unsigned_abs ((condensed_of d).by_plan i j))
+        (λ i j. farthest (h.numbers.by_plan i j) (h.plan_radius i j))
+        (λ i j l m. entry h.rows_scale (rows_scale d) ((condensed_of d).by_plan i j) (h.numbers.by_plan i j) (h.plan_radius i j) (k.plan i j l m))
+      where
+        entry : (q r : ℕ) (x y : ℤ) (a : ℕ) → IsWithin (pos (r * a)) (pos q *ℤ x -ℤ pos r *ℤ y) → q * unsigned_abs x ≤ r * (unsigned_abs y + a)
+        entry q r x y a w = let e = numbers (pos q *ℤ x) (pos r *ℤ y) _ _ _ (unsigned_abs-mul (pos q) x) (unsigned_abs-mul (pos r) y) w in omega (arith, e)
+          where
+            numbers : (u v : ℤ) (b c g : ℕ) → unsigned_abs u ≡ b → unsigned_abs v ≡ c → IsWithin (pos g) (u -ℤ v) → b ≤ c + g
+            numbers u v b c g e f w = omega (arith, ints, e, f, w.below, w.above)
+
+    cancelled : (q r w x y g : ℕ) → 1 ≤ q → q * q * x ≤ r * r * y → w * y ≤ g * q ^ 2 → w * x ≤ g * (r * r)
+    cancelled q r w x y g o a b =
+        let e = mul-le-mul_left w a in
+        let f = mul-le-mul_left (r * r) (rw (pow-two q) at b) in
+        le_of_mul-le-mul_left {m = w * x} {n = g * (r * r)} {k = q * q} (omega (arith, e, f)) (one-le-mul o o)
+
+    raised : {x : ℤ} → x ≡ pos squares → d.cost_denominator * squares ≤ 2 ^ s * input_floor d * (rows_scale d * rows_scale d) →
+        (pos d.cost_denominator *ℤ x) ≤ℤ (pos (2 ^ s) *ℤ square (pos d.limit_denominator) *ℤ floor_of_design d)
+    raised {x} e g = rw e (numbers _ _ _ g (turn (2 ^ s) (input_floor d) d.limit_denominator (d.plant_denominator ^ d.stages)))
       where
         numbers : (a b c : ℕ) → a ≤ b → b ≡ c → pos a ≤ℤ pos c
         numbers a b c h e = omega (arith, ints, h, e)
 
-        turn : (p i l a : ℕ) → p * i * (l * a) ^ 2 ≡ p * (l * l) * (i * a ^ 2)
-        turn p i l a = rw (pow-two (l * a), pow-two a) (omega arith)
+        turn : (p i l a : ℕ) → p * i * (l * a * (l * a)) ≡ p * (l * l) * (i * a ^ 2)
+        turn p i l a = rw (pow-two a) (omega arith)

@@ -17,20 +17,8 @@ use Rattle.integer_algebra.proofs.VectorLaws.{dot_same, quadratic_scale}
 use Rattle.hessian_check.specs.Dominance.{IsSymmetric, form}
 use Rattle.hessian_check.specs.Curvature.{Curved, Held, IsHeld, exactly, lowered, difference, weighted_gram, exact_matrix, exponent_matrix, radius_of, BoundsRows}
 use Rattle.hessian_check.proofs.FormLaws.{form_sub, dominance_law}
+use Rattle.hessian_check.proofs.SquareLaws.{amount_mono, amount_none, amount_scale}
 use Rattle.hessian_check.proofs.CurvatureLaws.{matrix_law, gram_turned, exact_symmetric}
-
--- ---- sums of naturals
-amount-le-amount : (n : ℕ) (f g : ℕ → ℕ) → ((i : ℕ) → i < n → f i ≤ g i) → amount n f ≤ amount n g
-amount-le-amount zero f g h = omega arith
-amount-le-amount (suc n) f g h = omega (arith, amount-le-amount n f g (λ i l. h i (omega arith)), h n (omega arith))
-
-amount_scale : (n x : ℕ) (f : ℕ → ℕ) → amount n (λ i. x * f i) ≡ x * amount n f
-amount_scale zero x f = omega arith
-amount_scale (suc n) x f = omega (arith, amount_scale n x f)
-
-pub amount_none : (n : ℕ) (f : ℕ → ℕ) → ((i : ℕ) → i < n → f i ≡ 0) → amount n f ≡ 0
-amount_none zero f h = refl
-amount_none (suc n) f h = omega (arith, amount_none n f (λ i l. h i (omega arith)), h n (omega arith))
 
 -- ---- a matrix that lies within radii of another
 other_test : (i j : ℕ) → i ≢ j → nat_eq i j ≡ false
@@ -85,7 +73,7 @@ within_law n a m radius s t h d = above (dominance_law n gap turned dominant d) 
 
     dominant : (i : ℕ) → i < n → off_diagonal_sum n gap i ≤ℤ gap i i
     dominant i l = closed (off_diagonal_sum n error i) (error i i) (size n (error i)) (sums i)
-        (total_same n _ _ (λ j o. beside i j)) (own i) (others_and_own n error i l) (amount-le-amount n _ (radius i) (λ j o. h i j l o))
+        (total_same n _ _ (λ j o. beside i j)) (own i) (others_and_own n error i l) (amount_mono n _ (radius i) (λ j o. h i j l o))
       where
         closed : (f e : ℤ) (x y : ℕ) {g o : ℤ} → g ≡ f → o ≡ e +ℤ pos y → f +ℤ absolute e ≡ pos x → x ≤ y → g ≤ℤ o
         closed f e x y {g} {o} p q r k = omega (arith, ints, p, q, r, k)
