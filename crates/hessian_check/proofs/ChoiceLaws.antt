@@ -1,9 +1,9 @@
 -- The numbers that are chosen.
-use Rattle.std.proofs.Common.{◌≡◌, inl, inr, ℕ, zero, suc, ◌+◌, ◌*◌, ◌^◌, ◌<◌, ◌≤◌, ◌⊎◌, min, nat_le, Bool, true, false, if◌then◌else◌, ℤ, ◌≤ℤ◌, ◌<ℤ◌, Option, Some, None, arith, sym, ◌∙◌, refl}
+use Rattle.std.proofs.Common.{◌≡◌, inl, inr, ℕ, zero, suc, ◌+◌, ◌*◌, ◌^◌, ◌<◌, ◌≤◌, ◌⊎◌, min, nat_le, Bool, true, false, ℤ, ◌≤ℤ◌, ◌<ℤ◌, Option, Some, None, arith, sym, ◌∙◌, refl}
 use Rattle.std.specs.Prelude.{unwrap_or}
 use Rattle.std.specs.Option.{option_or}
 use Rattle.integer_algebra.specs.Matrices.{IsDominant, off_diagonal_sum}
-use Rattle.hessian_check.specs.Curvature.{HasPassingRoot, HasPassingRootBelow, IsChosen, IsDominantAt, IsFirst, IsLeast, IsLeastBelow}
+use Rattle.hessian_check.specs.Curvature.{HasPassingRoot, IsChosen, IsDominantAt, IsFirst, IsLeast, IsLeastBelow}
 use Rattle.hessian_check.specs.Exponents.{IsEither}
 use Rattle.qp_model.specs.Design.{Design}
 use Rattle.qp_model.specs.Form.{form_of, rows_scale}

@@ -1,5 +1,5 @@
 -- The tests of a matrix that is held, and the numbers that are chosen by them.
-use Rattle.std.proofs.Common.{◌≡◌, inl, inr, ◌≤◌, ℕ, ◌^◌, ℤ, pos, ◌*ℤ◌, ◌≤ℤ◌, arith, ap, ◌∙◌, refl}
+use Rattle.std.proofs.Common.{◌≡◌, inl, inr, ◌≤◌, ℕ, ◌^◌, ℤ, pos, ◌*ℤ◌, ◌≤ℤ◌, arith, ap, ◌∙◌}
 use Rattle.std.proofs.lemmas.Int.{ints}
 use Rattle.std.proofs.lemmas.Bool.{cases_lt}
 use Rattle.std.proofs.Math.Nat.{one-le-pow}

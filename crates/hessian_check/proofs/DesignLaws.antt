@@ -1,12 +1,12 @@
 -- What the exponents of a design's matrices are for its trajectories.
-use Rattle.std.proofs.Common.{◌≡◌, inl, inr, ℕ, zero, suc, ◌+◌, ◌-◌, ◌*◌, ◌/◌, ◌%◌, ◌^◌, ◌<◌, ◌≤◌, [], ◌∷◌, ℤ, pos, negsuc, ◌+ℤ◌, ◌-ℤ◌, ◌*ℤ◌, ◌≤ℤ◌, ◌<ℤ◌, unsigned_abs, arith, ap, sym, ◌∙◌, refl}
+use Rattle.std.proofs.Common.{◌≡◌, ℕ, zero, suc, ◌+◌, ◌-◌, ◌*◌, ◌^◌, ◌<◌, ◌≤◌, [], ◌∷◌, ℤ, pos, negsuc, ◌+ℤ◌, ◌-ℤ◌, ◌*ℤ◌, ◌≤ℤ◌, ◌<ℤ◌, unsigned_abs, arith, ap, ◌∙◌, refl}
 use Rattle.std.proofs.lemmas.Int.{ints, unsigned_abs-mul}
 use Rattle.integer_algebra.specs.Bounds.{IsWithin}
 use Rattle.std.proofs.lemmas.Nat.{pow_pos}
 use Rattle.std.proofs.Math.Nat.{le_of_mul-le-mul_left, mul-le-mul, mul-le-mul_left, one-le-mul}
 use Rattle.integer_algebra.specs.Division.{floor_of}
 use Rattle.integer_algebra.specs.Sizes.{amount}
-use Rattle.integer_algebra.specs.Sums.{total, dot, image, square, none}
+use Rattle.integer_algebra.specs.Sums.{total, image, square, none}
 use Rattle.integer_algebra.proofs.OrderLaws.{le_by, square_nonneg_z, mul-le-mul_left_z, cancel-le_z, pos_positive, mul_pos_z}
 use Rattle.integer_algebra.proofs.PowerLaws.{pow-two, four-pow}
 use Rattle.integer_algebra.proofs.Quoting.{by_ring, quotes}
@@ -17,14 +17,14 @@ use Rattle.qp_model.specs.Condensed.{Condensed, IsCondensed}
 use Rattle.qp_model.specs.Condensing.{condensed_of, over_costs, cost_plan, own_input}
 use Rattle.qp_model.specs.Quantities.{input_floor}
 use Rattle.qp_model.specs.Cost.{cost_scale}
-use Rattle.qp_model.specs.CurvatureSize.{CoversSquares, limit_squares, floor_times}
+use Rattle.qp_model.specs.CurvatureSize.{limit_squares, floor_times}
 use Rattle.qp_model.specs.Curvature.{AreExponents, IsExponent, curvature, row_change}
 use Rattle.qp_model.specs.Form.{Form, Encloses, farthest, rows_scale}
 use Rattle.qp_model.specs.Residual.{residual, residual_scale}
 use Rattle.qp_model.specs.Sound.{IsSound}
 use Rattle.qp_model.proofs.CurvatureLaws.{hessian_law, curvature_law}
 use Rattle.hessian_check.specs.Dominance.{IsSymmetric, form}
-use Rattle.hessian_check.specs.Curvature.{Curved, exponent_matrix, row_squares, BoundsRows, IsFloored, CoversAll}
+use Rattle.hessian_check.specs.Curvature.{BoundsRows, IsFloored, CoversAll}
 use Rattle.hessian_check.specs.Steps.{curved_by, curved_of, floor_of_design, weighted_of}
 use Rattle.integer_algebra.proofs.SizeLaws.{amount_same}
 use Rattle.hessian_check.proofs.SquareLaws.{amount_mono, amount_scale, squares_row, sum_pos}

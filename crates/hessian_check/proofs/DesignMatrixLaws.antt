@@ -1,14 +1,13 @@
 -- The matrices that code makes of a condensed form are those of its design.
-use Rattle.std.proofs.Common.{◌≡◌, ℕ, zero, suc, ◌+◌, ◌*◌, ◌<◌, ◌≤◌, ◌^◌, ℤ, pos, negsuc, ◌*ℤ◌, ◌-ℤ◌, ◌≤ℤ◌, unsigned_abs, length, to_z, arith, ap, ap₂, sym, ◌∙◌, refl}
+use Rattle.std.proofs.Common.{◌≡◌, ℕ, ◌+◌, ◌*◌, ◌<◌, ◌≤◌, ◌^◌, ℤ, pos, negsuc, ◌*ℤ◌, ◌≤ℤ◌, unsigned_abs, length, to_z, arith, ap, ap₂, sym, ◌∙◌}
 use Rattle.std.specs.Int.{w128}
-use Rattle.std.proofs.lemmas.Int.{ints, to_z_pos}
+use Rattle.std.proofs.lemmas.Int.{to_z_pos}
 use Rattle.std.proofs.Math.Nat.{mul-le-mul, mul-le-mul_left, mul-le-mul_right}
 use Rattle.integer_algebra.specs.Division.{floor_of}
 use Rattle.integer_algebra.specs.Matrices.{gram, gram_size}
-use Rattle.integer_algebra.specs.Sizes.{amount, size}
-use Rattle.integer_algebra.specs.Sums.{total, square}
+use Rattle.integer_algebra.specs.Sizes.{size}
 use Rattle.integer_algebra.proofs.PowerLaws.{pow-two}
-use Rattle.integer_algebra.proofs.SizeLaws.{dot_bound, size_same}
+use Rattle.integer_algebra.proofs.SizeLaws.{dot_bound}
 use Rattle.integer_algebra.proofs.SumLaws.{total_same}
 use Rattle.integer_algebra.proofs.VectorLaws.{dot_comm}
 use Rattle.mat_int.specs.Matrix.{Matrix, entry_of, HasEntries}
@@ -20,11 +19,10 @@ use Rattle.qp_model.specs.Quantities.{cost_entry_size, limit_entry_size, hessian
 use Rattle.plant_condense.specs.declared.condensed.Condensed.{Condensed}
 use Rattle.plant_condense.specs.Form.{IsFormOf}
 use Rattle.hessian_check.specs.declared.matrices.StepMatrices.{StepMatrices}
-use Rattle.hessian_check.specs.Curvature.{exponent_matrix, weighted_gram}
-use Rattle.hessian_check.specs.DesignMatrices.{AreMatricesOf, curvature_at}
-use Rattle.hessian_check.specs.Dominance.{AreSame, IsSymmetric}
+use Rattle.hessian_check.specs.Curvature.{weighted_gram}
+use Rattle.hessian_check.specs.DesignMatrices.{AreMatricesOf}
+use Rattle.hessian_check.specs.Dominance.{AreSame}
 use Rattle.hessian_check.specs.StepMatrices.{AreMatrices}
-use Rattle.hessian_check.specs.MatrixRoom.{matrix_at, HasMatrixRoom}
 use Rattle.hessian_check.specs.Steps.{curved_of, half_of}
 use Rattle.hessian_check.proofs.CurvatureLaws.{gram_once}
 use Rattle.hessian_check.proofs.RadiusLaws.{exact_is}

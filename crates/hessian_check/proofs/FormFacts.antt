@@ -1,13 +1,13 @@
 -- What the numbers of a condensed form are and how large they are.
-use Rattle.std.proofs.Common.{◌≡◌, inl, inr, ℕ, zero, suc, ◌+◌, ◌*◌, ◌<◌, ◌≤◌, ◌^◌, [], ◌∷◌, ℤ, pos, ◌+ℤ◌, ◌-ℤ◌, ◌*ℤ◌, ◌≤ℤ◌, ◌<ℤ◌, unsigned_abs, nat_eq, Bool, true, false, IsTrue, ◌↔◌, Option, Some, None, rules, if◌then◌else◌, length, max, arith, ap, sym, ◌∙◌, refl}
+use Rattle.std.proofs.Common.{◌≡◌, ℕ, zero, suc, ◌+◌, ◌*◌, ◌/◌, ◌<◌, ◌≤◌, ◌^◌, ℤ, pos, ◌*ℤ◌, ◌≤ℤ◌, ◌<ℤ◌, unsigned_abs, nat_eq, Bool, true, false, IsTrue, ◌↔◌, Option, Some, None, rules, if◌then◌else◌, arith, ap, sym, ◌∙◌, refl}
 use Rattle.std.proofs.lemmas.Int.{ints}
 use Rattle.std.proofs.lemmas.Nat.{pow_pos}
-use Rattle.std.proofs.Math.Nat.{mul-le-mul, mul-le-mul_left, mul-le-mul_right, one-le-mul, pow-le-pow_left}
-use Rattle.integer_algebra.specs.Sizes.{amount, size}
-use Rattle.integer_algebra.specs.Sums.{at, image, total}
+use Rattle.std.proofs.Math.Nat.{le_of_mul-le-mul_left, mul-div_cancel_left, mul-le-mul, mul-le-mul_right, one-le-mul, pow-le-pow_left}
+use Rattle.integer_algebra.specs.Sizes.{amount}
+use Rattle.integer_algebra.specs.Sums.{at, image}
 use Rattle.integer_algebra.proofs.OrderLaws.{cancel-le_z, pos_positive}
 use Rattle.integer_algebra.proofs.PowerLaws.{pow-two, pow_positive}
-use Rattle.integer_algebra.proofs.SizeLaws.{amount_same, amount_term}
+use Rattle.integer_algebra.proofs.SizeLaws.{amount_same}
 use Rattle.integer_algebra.proofs.SumLaws.{total_same}
 use Rattle.integer_algebra.proofs.BlockLaws.{total_single}
 use Rattle.mat_int.specs.Matrix.{entry_of}
@@ -16,8 +16,8 @@ use Rattle.qp_model.specs.Design.{Design, entries, rows}
 use Rattle.qp_model.specs.Condensed as form
 use Rattle.qp_model.specs.Condensed.{IsCondensed}
 use Rattle.qp_model.specs.Condensing.{condensed_of}
-use Rattle.qp_model.specs.Form.{form_of}
-use Rattle.qp_model.specs.Quantities.{input_floor, growth, cost_width, weight_sum, prediction_size, cost_entry_size, limit_entry_size, hessian_size, rows_size}
+use Rattle.qp_model.specs.Form.{form_of, rows_scale}
+use Rattle.qp_model.specs.Quantities.{input_floor, growth, cost_width, weight_sum, prediction_size, cost_entry_size, limit_entry_size, hessian_size}
 use Rattle.qp_model.specs.CurvatureSize.{CoversSquares, limit_squares, floor_times}
 use Rattle.qp_model.specs.Parts.{IsDesign, design_of}
 use Rattle.qp_model.specs.Range.{IsDenominator}
@@ -65,6 +65,7 @@ pub record IsSmall (d : Design) : Type 0 where
   pub weight_one : 1 ≤ d.cost_denominator
   pub weight : d.cost_denominator ≤ 2 ^ 20
   pub cost_row : d.row_denominator ≤ 2 ^ 20
+  pub limit_one : 1 ≤ d.limit_denominator
   pub limit : d.limit_denominator ≤ 2 ^ 20
   pub floor : input_floor d < 2 ^ 31
   pub power : 1 ≤ d.plant_denominator ^ d.stages
@@ -112,11 +113,17 @@ small p c f = record {
   weight_one = (small_of p.cost_den f.design.cost_den).0;
   weight = (small_of p.cost_den f.design.cost_den).1;
   cost_row = (small_of p.row_den f.design.row_den).1;
+  limit_one = (small_of p.limit_den f.design.limit_den).0;
   limit = (small_of p.limit_den f.design.limit_den).1;
   floor = (floor_is p c f).1;
   power = pow_positive (unsigned_abs p.plant_den) p.stages (small_of p.plant_den f.design.plant_den).0;
   part = (let r = power_room p f.design in omega (arith, r, f.sizes.cost_room));
 }
+
+-- what the rows are over, divided by the limits' denominator
+pub lift_is : (p : DesignParts) (c : Condensed) → IsFormOf p c → (x y : ℕ) → x ≡ rows_scale (design_of p) → y ≡ (design_of p).limit_denominator →
+    (design_of p).limit_denominator * (x / y) ≡ rows_scale (design_of p)
+lift_is p c f x y e g = rw (e, g, mul-div_cancel_left ((design_of p).plant_denominator ^ (design_of p).stages) {n = (design_of p).limit_denominator} (small p c f).limit_one) refl
 
 -- ---- sizes
 pub amount-le : (n : ℕ) (f : ℕ → ℕ) (b : ℕ) → ((i : ℕ) → i < n → f i ≤ b) → amount n f ≤ n * b
@@ -150,14 +157,24 @@ unit_small d h =
     let b = mul-le-mul {n₁ = input_floor d} {m₁ = d.limit_denominator * d.limit_denominator} {n₂ = 2 ^ 31} {m₂ = 2 ^ 20 * 2 ^ 20} (omega (arith, h.floor)) a in
     (omega (arith, a), omega (arith, b))
 
-pub part_small : (d : Design) → IsSmall d → let a = d.plant_denominator ^ d.stages in (a * a ≤ 2 ^ 126) × (1 ≤ a * a)
-part_small d h =
-    let a = d.plant_denominator ^ d.stages in
-    let q = mul-le-mul_right (a * a) h.weight_one in
-    (omega (arith, q, h.part), one-le-mul h.power h.power)
+pub record IsSmallPart (d : Design) (a : ℕ) : Type 0 where
+  pub low : 1 ≤ a * a
+  pub high : a * a ≤ 2 ^ 126
+  pub times : d.cost_denominator * (a * a) ≤ 2 ^ 126
+
+pub part_small : (d : Design) (a : ℕ) → IsSmall d → d.limit_denominator * a ≡ rows_scale d → IsSmallPart d a
+part_small d a h e = rw (cancelled d.limit_denominator a (d.plant_denominator ^ d.stages) h.limit_one e) (
+    let q = mul-le-mul_right (d.plant_denominator ^ d.stages * d.plant_denominator ^ d.stages) h.weight_one in
+    record { low = one-le-mul h.power h.power; high = omega (arith, q, h.part); times = h.part })
+  where
+    cancelled : (l x y : ℕ) → 1 ≤ l → l * x ≡ l * y → x ≡ y
+    cancelled l x y o k = both (le_of_mul-le-mul_left {m = x} {n = y} {k = l} (omega (arith, k)) o) (le_of_mul-le-mul_left {m = y} {n = x} {k = l} (omega (arith, k)) o)
+      where
+        both : x ≤ y → y ≤ x → x ≡ y
+        both p q = omega (arith, p, q)
 
 -- ---- what code tests
-covers_as : (d : Design) (s w q f l a : ℕ) → w ≡ d.cost_denominator → q ≡ limit_squares (form_of d) → f ≡ input_floor d → l ≡ d.limit_denominator → a ≡ d.plant_denominator ^ d.stages →
+covers_as : (d : Design) (s w q f l a : ℕ) → w ≡ d.cost_denominator → q ≡ limit_squares (form_of d) → f ≡ input_floor d → l ≡ d.limit_denominator → d.limit_denominator * a ≡ rows_scale d →
     (w * q ≤ 2 ^ s * (f * (l * l)) * (a * a) → CoversSquares d s) × (CoversSquares d s → w * q ≤ 2 ^ s * (f * (l * l)) * (a * a))
 covers_as d s w q f l a ew eq ef el ea = (λ t. moved (w * q) _ (d.cost_denominator * limit_squares (form_of d)) _ left right t, λ t. moved _ _ _ _ (sym left) (sym right) t)
   where
@@ -165,16 +182,16 @@ covers_as d s w q f l a ew eq ef el ea = (λ t. moved (w * q) _ (d.cost_denomina
     left = rw (ew, eq) refl
 
     right : 2 ^ s * (f * (l * l)) * (a * a) ≡ floor_times d (form_of d) s
-    right = rw (ef, el, ea) (turn (2 ^ s) (input_floor d) d.limit_denominator (d.plant_denominator ^ d.stages))
+    right = rw (ef, el) (turn (2 ^ s) (input_floor d) d.limit_denominator a (rows_scale d) ea)
       where
-        turn : (p i l a : ℕ) → p * (i * (l * l)) * (a * a) ≡ p * i * (l * a) ^ 2
-        turn p i l a = rw (pow-two (l * a)) (omega arith)
+        turn : (p i l a r : ℕ) → l * a ≡ r → p * (i * (l * l)) * (a * a) ≡ p * i * r ^ 2
+        turn p i l a r e = rw (← e, pow-two (l * a)) (omega arith)
 
     moved : (a b x y : ℕ) → a ≡ x → b ≡ y → a ≤ b → x ≤ y
     moved a b x y e f h = omega (arith, e, f, h)
 
 pub covers_by : (d : Design) (o : Option ℕ) (w q f l a : ℕ) → w ≡ d.cost_denominator → q ≡ limit_squares (form_of d) → f ≡ input_floor d → l ≡ d.limit_denominator →
-    a ≡ d.plant_denominator ^ d.stages → IsLeastBelow 41 (λ s. w * q ≤ 2 ^ s * (f * (l * l)) * (a * a)) o → IsLeastBelow 41 (CoversSquares d) o
+    d.limit_denominator * a ≡ rows_scale d → IsLeastBelow 41 (λ s. w * q ≤ 2 ^ s * (f * (l * l)) * (a * a)) o → IsLeastBelow 41 (CoversSquares d) o
 covers_by d None w q f l a ew eq ef el ea h = λ k m t. h k m ((covers_as d k w q f l a ew eq ef el ea).1 t)
 covers_by d (Some s) w q f l a ew eq ef el ea h = (
   h.0,

@@ -1,9 +1,9 @@
 -- What the answer of the choice among matrices says of a design.
-use Rattle.std.proofs.Common.{◌≡◌, ◌⊎◌, inl, inr, ℕ, ◌+◌, ◌*◌, ◌<◌, ◌≤◌, ◌^◌, Option, Some, None, length, rules, arith, ap, sym, ◌∙◌, refl}
+use Rattle.std.proofs.Common.{◌≡◌, ◌⊎◌, inl, inr, ℕ, ◌<◌, ◌≤◌, ◌^◌, Option, Some, None, length, rules, arith, ap, sym, ◌∙◌, refl}
 use Rattle.std.specs.Prelude.{Result, Ok, Err, IfErr, IfOk, IsOk, unwrap_or}
 use Rattle.std.proofs.Math.Nat.{mul-le-mul_right, pow-le-pow_right}
 use Rattle.qp_model.specs.declared.design_parts.DesignParts.{DesignParts}
-use Rattle.qp_model.specs.Quantities.{input_floor, hessian_size, rows_size}
+use Rattle.qp_model.specs.Quantities.{hessian_size, rows_size}
 use Rattle.qp_model.specs.Curvature.{IsExponent}
 use Rattle.qp_model.specs.CurvatureSize.{CoversSquares, curvature_of, curvature_size}
 use Rattle.qp_model.specs.Design.{Design, entries}

@@ -1,6 +1,7 @@
 -- The matrices of a design.
-use Rattle.std.specs.Prelude.{◌≡◌, ℕ, ◌≤◌, ◌^◌, length}
+use Rattle.std.specs.Prelude.{◌≡◌, ℕ, ◌*◌, ◌≤◌, ◌^◌, length}
 use Rattle.qp_model.specs.Design.{Design, entries}
+use Rattle.qp_model.specs.Form.{form_of}
 use Rattle.qp_model.specs.Quantities.{hessian_size, rows_size, input_floor}
 use Rattle.qp_model.specs.CurvatureSize.{curvature_of}
 use Rattle.hessian_check.specs.declared.matrices.StepMatrices.{StepMatrices}
@@ -24,7 +25,7 @@ pub record IsScales (s : Scales) (d : Design) : Type 0 where
   pub weight_den : s.weight_den ≡ d.cost_denominator
   pub cost_row_den : s.cost_row_den ≡ d.row_denominator
   pub limit_den : s.limit_den ≡ d.limit_denominator
-  pub power : s.power ≡ d.plant_denominator ^ d.stages
+  pub lift : d.limit_denominator * s.lift ≡ (form_of d).rows_scale
   pub input_floor : s.input_floor ≡ input_floor d
   pub hessian : s.hessian ≡ hessian_size d
   pub rows : s.rows ≡ rows_size d

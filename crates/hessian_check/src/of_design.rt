@@ -55,13 +55,13 @@ pub fn curvature(alloc: Global, c: &Condensed) -> Result<StepExponents, Curvatur
     exponents_of(alloc, &matrices, squares)
 }
 
-// The denominators, the least input weight and two quantities, which are not negative.
+// The denominators, the least input weight and two quantities, which are not negative. The rows are over `limit_den * lift`.
 #[derive(Clone, Copy)]
 struct Scales {
     weight_den: u128,
     cost_row_den: u128,
     limit_den: u128,
-    power: u128,
+    lift: u128,
     input_floor: u128,
     hessian: u128,
     rows: u128,
@@ -75,7 +75,7 @@ fn scales_of(c: &Condensed) -> Scales
         weight_den: c.weight_den.unsigned_abs(),
         cost_row_den: c.cost_row_den.unsigned_abs(),
         limit_den: c.limit_den.unsigned_abs(),
-        power: c.power.unsigned_abs(),
+        lift: c.row_den.unsigned_abs() / c.limit_den.unsigned_abs(),
         input_floor: c.input_floor.unsigned_abs(),
         hessian: c.hess_size.unsigned_abs(),
         rows: c.rows_size.unsigned_abs(),
@@ -89,7 +89,7 @@ fn squares_of(c: &Condensed) -> Option<u32>
 {
     let scales = scales_of(c);
     let unit = scales.input_floor * (scales.limit_den * scales.limit_den);
-    let part = scales.power * scales.power;
+    let part = scales.lift * scales.lift;
     squares_exponent(scales.weight_den, sum_of_squares(&c.g), unit, part)
 }
 

@@ -1,4 +1,4 @@
-use Rattle.std.proofs.Common.{◌≡◌, ◌↔◌, ◌≤◌, ◌^◌, inr, arith, rules, true, false, IsTrue, refl}
+use Rattle.std.proofs.Common.{◌≤◌, ◌^◌, inr, arith, rules, true, IsTrue, refl}
 use Rattle.std.specs.Prelude.{unwrap_or}
 use Rattle.std.proofs.lemmas.Result.{err_from_is_err_and}
 use Rattle.qp_model.specs.Parts.{design_of}
