@@ -27,7 +27,8 @@ use Rattle.hessian_check.specs.Dominance.{IsSymmetric, form}
 use Rattle.hessian_check.specs.Curvature.{BoundsRows, IsFloored, CoversAll}
 use Rattle.hessian_check.specs.Steps.{curved_by, curved_of, floor_of_design, weighted_of}
 use Rattle.integer_algebra.proofs.SizeLaws.{amount_same}
-use Rattle.hessian_check.proofs.SquareLaws.{amount_mono, amount_scale, squares_row, sum_pos}
+use Rattle.integer_algebra.proofs.AmountLaws.{amount_mono, amount_scale}
+use Rattle.hessian_check.proofs.SquareLaws.{squares_row, sum_pos}
 
 -- ---- half the hessian
 half_two : (x : ℤ) → floor_of (pos 2 *ℤ x) 2 ≡ x

@@ -27,37 +27,15 @@ use Rattle.plant_condense.specs.Form.{IsFormOf, form_numbers}
 use Rattle.std.specs.Option.{SomeIff, is_some}
 use Rattle.hessian_check.specs.Curvature.{IsLeastBelow}
 use Rattle.hessian_check.proofs.DesignLaws.{change_is, farthest_none}
+use Rattle.plant_condense.proofs.FormSums.{plan_squares}
+use Rattle.plant_condense.proofs.HeldLaws.{held_same, least_equal}
 use Rattle.hessian_check.proofs.RowLaws.{not_true}
-use Rattle.qp_model.proofs.SoundLaws.{least-le, least-met, weight_at}
+use Rattle.qp_model.proofs.SoundLaws.{least-met, weight_at}
 
 -- ---- the rows are those of the design
--- two condensed forms of one design have the same rows
-rows_same : (d : Design) (k l : form.Condensed) → IsCondensed d k → IsCondensed d l → (i j : ℕ) → i < rows d → j < entries d → k.by_plan i j ≡ l.by_plan i j
-rows_same d k l p q i j r s = cancelled (pos (2 ^ d.grid)) _ _ (pos_positive (2 ^ d.grid) (pow_pos d.grid))
-    (ap (λ (z : ℤ). pos (2 ^ d.grid) *ℤ z) (sym (picked k)) ∙ sym (change_is d k p one i r) ∙ change_is d l q one i r ∙ ap (λ (z : ℤ). pos (2 ^ d.grid) *ℤ z) (picked l))
-  where
-    one : ℕ → ℤ
-    one h = if nat_eq h j then pos 1 else pos 0
-
-    picked : (m : form.Condensed) → image (entries d) m.by_plan one i ≡ m.by_plan i j
-    picked m = total_same (entries d) _ _ (λ h t. chosen (nat_eq h j) (m.by_plan i h)) ∙ total_single (entries d) j (m.by_plan i) s
-      where
-        chosen : (b : Bool) (x : ℤ) → x *ℤ (if b then pos 1 else pos 0) ≡ (if b then x else pos 0)
-        chosen true x = omega (arith, ints)
-        chosen false x = omega (arith, ints)
-
-    cancelled : (g x y : ℤ) → pos 0 <ℤ g → g *ℤ x ≡ g *ℤ y → x ≡ y
-    cancelled g x y h e = both (cancel-le_z g x y h (below e)) (cancel-le_z g y x h (below (sym e)))
-      where
-        below : {a b : ℤ} → a ≡ b → a ≤ℤ b
-        below {a} {b} e = omega (arith, ints, e)
-
-        both : {a b : ℤ} → a ≤ℤ b → b ≤ℤ a → a ≡ b
-        both {a} {b} m n = omega (arith, ints, m, n)
-
 pub by_plan_is : (p : DesignParts) (c : Condensed) → IsFormOf p c → (i j : ℕ) → i < rows (design_of p) → j < entries (design_of p) →
     entry_of c.g i j ≡ (condensed_of (design_of p)).by_plan i j
-by_plan_is p c f i j = rows_same (design_of p) (form_numbers c) (condensed_of (design_of p)) f.condensed (condensing (design_of p) f.design.inputs.0) i j
+by_plan_is p c f = (held_same p c f).by_plan
 
 -- ---- the numbers
 -- those of a design are small
@@ -77,18 +55,9 @@ small_of z h = (omega (arith, ints, h.low), omega (arith, ints, h.low, h.high))
 -- the least input weight
 pub floor_is : (p : DesignParts) (c : Condensed) → IsFormOf p c → (unsigned_abs c.input_floor ≡ input_floor (design_of p)) × (input_floor (design_of p) < 2 ^ 31)
 floor_is p c f =
-    let w : ℕ → ℕ = λ l. unsigned_abs (at p.input_weights.items l) in
-    let met = f.denominators.input_floor.met in
-    let low = least-met p.inputs w f.design.inputs.0 in
-    let a = weight_at p f.design met.0 met.1.0 in
+    let low = least-met p.inputs (λ l. unsigned_abs (at p.input_weights.items l)) f.design.inputs.0 in
     let b = weight_at p f.design low.0 low.1.0 in
-    let x = least-le p.inputs w met.0 met.1.0 in
-    let y = f.denominators.input_floor.below low.0 low.1.0 in
-    numbers c.input_floor (at p.input_weights.items met.0) (at p.input_weights.items low.0) (input_floor (design_of p)) met.1.1 low.1.1 x y a.low b.low b.high
-  where
-    numbers : (z a b : ℤ) (n : ℕ) → z ≡ a → n ≡ unsigned_abs b → n ≤ unsigned_abs a → z ≤ℤ b → pos 1 ≤ℤ a → pos 1 ≤ℤ b → b <ℤ pos (2 ^ 31) →
-        (unsigned_abs z ≡ n) × (n < 2 ^ 31)
-    numbers z a b n e g h k l m o = (rw e (omega (arith, ints, g, h, l, m, rw e at k)), omega (arith, ints, g, m, o))
+    (least_equal p c.input_floor f.design f.denominators.input_floor, omega (arith, ints, low.1.1, b.low, b.high))
 
 -- the plant's denominator, over all stages, is at most what numbers grow by
 power_room : (p : DesignParts) → IsDesign p → let d = design_of p in
@@ -126,24 +95,10 @@ pub lift_is : (p : DesignParts) (c : Condensed) → IsFormOf p c → (x y : ℕ)
 lift_is p c f x y e g = rw (e, g, mul-div_cancel_left ((design_of p).plant_denominator ^ (design_of p).stages) {n = (design_of p).limit_denominator} (small p c f).limit_one) refl
 
 -- ---- sizes
-pub amount-le : (n : ℕ) (f : ℕ → ℕ) (b : ℕ) → ((i : ℕ) → i < n → f i ≤ b) → amount n f ≤ n * b
-amount-le zero f b h = omega arith
-amount-le (suc n) f b h = omega (arith, amount-le n f b (λ i l. h i (omega arith)), h n (omega arith))
-
--- rows * entries products of two numbers of the rows
-pub products_room : (m n k w : ℕ) → n ≤ k → n * (m * w) ≤ k * m * w
-products_room m n k w h = let q = mul-le-mul_right (m * w) h in omega (arith, q)
-
 -- the squares of the rows
 pub squares_room : (p : DesignParts) (c : Condensed) → IsFormOf p c → let d = design_of p in
     amount (rows d) (λ i. amount (entries d) (λ j. unsigned_abs (entry_of c.g i j) ^ 2)) < 2 ^ 127
-squares_room p c f =
-    let d = design_of p in
-    let w = limit_entry_size d ^ 2 in
-    let line = λ (i : ℕ) (l : i < rows d). amount-le (entries d) (λ j. unsigned_abs (entry_of c.g i j) ^ 2) w (λ j o. pow-le-pow_left {n = unsigned_abs (entry_of c.g i j)} {m = limit_entry_size d} (f.sizes.g i j l o) 2) in
-    let all = amount-le (rows d) (λ i. amount (entries d) (λ j. unsigned_abs (entry_of c.g i j) ^ 2)) (entries d * w) line in
-    let room = products_room (rows d) (entries d) (entries d + d.states + 1) w (omega arith) in
-    omega (arith, all, room, f.sizes.limit_room)
+squares_room p c f = let q = plan_squares p c f in omega (arith, q, f.sizes.limit_room)
 
 pub squares_are_limit : (p : DesignParts) (c : Condensed) → IsFormOf p c → let d = design_of p in
     amount (rows d) (λ i. amount (entries d) (λ j. unsigned_abs (entry_of c.g i j) ^ 2)) ≡ limit_squares (form_of d)

@@ -16,7 +16,7 @@ use Rattle.integer_algebra.proofs.VectorLaws.{dot_same, quadratic_scale}
 use Rattle.hessian_check.specs.Dominance.{IsSymmetric, form}
 use Rattle.hessian_check.specs.Curvature.{Curved, Held, IsHeld, exactly, lowered, difference, weighted_gram, exact_matrix, exponent_matrix, radius_of, BoundsRows}
 use Rattle.hessian_check.proofs.FormLaws.{form_sub, dominance_law}
-use Rattle.hessian_check.proofs.SquareLaws.{amount_mono, amount_none, amount_scale}
+use Rattle.integer_algebra.proofs.AmountLaws.{amount_mono, amount_none, amount_scale}
 use Rattle.hessian_check.proofs.CurvatureLaws.{matrix_law, gram_turned, exact_symmetric}
 
 -- ---- a matrix that lies within radii of another

@@ -54,19 +54,6 @@ none_divided a u p h l g k m t =
     let q = (power_small k u m l).1 in
     omega (arith, b, q, g)
 
--- ---- sums of naturals
-pub amount_mono : (n : ℕ) (f g : ℕ → ℕ) → ((i : ℕ) → i < n → f i ≤ g i) → amount n f ≤ amount n g
-amount_mono zero f g h = omega arith
-amount_mono (suc n) f g h = omega (arith, amount_mono n f g (λ i l. h i (omega arith)), h n (omega arith))
-
-pub amount_scale : (n x : ℕ) (f : ℕ → ℕ) → amount n (λ i. x * f i) ≡ x * amount n f
-amount_scale zero x f = omega arith
-amount_scale (suc n) x f = omega (arith, amount_scale n x f)
-
-pub amount_none : (n : ℕ) (f : ℕ → ℕ) → ((i : ℕ) → i < n → f i ≡ 0) → amount n f ≡ 0
-amount_none zero f h = refl
-amount_none (suc n) f h = omega (arith, amount_none n f (λ i l. h i (omega arith)), h n (omega arith))
-
 -- ---- squares
 pub sum_pos : (x y : ℕ) {a b : ℤ} → a ≡ pos x → b ≡ pos y → a +ℤ b ≡ pos (x + y)
 sum_pos x y e f = omega (arith, ints, e, f)
