@@ -43,7 +43,7 @@ row_radii_rises s a b h = close (s.state * s.state_radius) (mul-le-mul_right s.p
     close : {x y : ℕ} (c : ℕ) → x ≤ y → x + c ≤ y + c
     close {x} {y} c h = omega (arith, h)
 
-squares_rise : {a b : ℕ} → a ≤ b → a ^ 2 ≤ b ^ 2
+pub squares_rise : {a b : ℕ} → a ≤ b → a ^ 2 ≤ b ^ 2
 squares_rise {a} {b} h = rw (pow-two a, pow-two b) (mul-le-mul h h)
 
 -- ---- the two halves of the cost
