@@ -1,4 +1,4 @@
-use Rattle.std.proofs.Common.{◌≡◌, ℕ, ◌+◌, ◌*◌, ◌^◌, ◌<◌, ◌≤◌, unsigned_abs, rules, arith, ap, ◌∙◌, sym}
+use Rattle.std.proofs.Common.{◌≡◌, ℕ, ◌+◌, ◌*◌, ◌^◌, ◌<◌, ◌≤◌, Fits, unsigned_abs, rules, arith, ap, ◌∙◌, sym}
 use Rattle.std.specs.Int.{w128}
 use mir.Val.{SFits}
 use Rattle.std.proofs.Math.Nat.{mul-le-mul, mul-le-mul_left, one-le-mul}
@@ -9,10 +9,10 @@ use Rattle.step_error.proofs.Ceilings.{quotient_is, ceil_small, positive_by}
 use Rattle.step_error.proofs.SumFacts.{bounded, radii_at, read_size, within_of}
 use Rattle.step_error.proofs.errors.radius_cost.Goals as goal
 
-squared : (c : goal.After-radius_error-error) → c.radius_error-error.result * c.radius_error-error.result ≡ radius_error (sums_of c.args.e.now) c.args.plan ^ 2
+squared : (c : goal.After-div_ceil-2) → c.radius_error-error.result * c.radius_error-error.result ≡ radius_error (sums_of c.args.e.now) c.args.plan ^ 2
 squared c = ap (λ n. n * n) c.radius_error-error.ensures ∙ sym (pow-two _)
 
-weights : (c : goal.After-unsigned_abs-2) → c.unsigned_abs.result * c.unsigned_abs-2.result ≡ unsigned_abs c.args.e.now.nu * unsigned_abs c.args.e.now.weight_den
+weights : (c : goal.After-div_ceil-2) → c.unsigned_abs.result * c.unsigned_abs-2.result ≡ unsigned_abs c.args.e.now.nu * unsigned_abs c.args.e.now.weight_den
 weights c =
     let f : SFits w128 c.args.e.now.nu = search rules in
     let g : SFits w128 c.args.e.now.weight_den = search rules in
@@ -20,23 +20,38 @@ weights c =
     let weight = read_size _ _ g c.unsigned_abs-2.ensures.value in
     (λ i. nu i * weight i)
 
-gradient : (c : goal.After-unsigned_abs-2) → c.unsigned_abs.result * c.unsigned_abs-2.result * (c.radius_error-error.result * c.radius_error-error.result) ≡
+gradient : (c : goal.After-div_ceil-2) → c.unsigned_abs.result * c.unsigned_abs-2.result * (c.radius_error-error.result * c.radius_error-error.result) ≡
     unsigned_abs c.args.e.now.nu * unsigned_abs c.args.e.now.weight_den * radius_error (sums_of c.args.e.now) c.args.plan ^ 2
 gradient c = (λ i. weights c i * squared c i)
 
 pub overflow_mul-gradient : goal.overflow_mul-gradient
-overflow_mul-gradient c = omega (arith, weights c, (bounded c.args.e.now c.requires.sums).weights)
+overflow_mul-gradient c =
+    let f : SFits w128 c.args.e.now.nu = search rules in
+    let g : SFits w128 c.args.e.now.weight_den = search rules in
+    let nu = read_size _ _ f c.unsigned_abs.ensures.value in
+    let weight = read_size _ _ g c.unsigned_abs-2.ensures.value in
+    rw (nu, weight) (omega (arith, (bounded c.args.e.now c.requires.sums).weights))
 
 pub overflow_mul-gradient-2 : goal.overflow_mul-gradient-2
-overflow_mul-gradient-2 c = omega (arith, squared c, (radii_at c.args.e.now c.args.plan c.requires.sums c.requires.plan).squared)
+overflow_mul-gradient-2 c = close (ap (λ n. n * n) c.radius_error-error.ensures ∙ sym (pow-two _)) (radii_at c.args.e.now c.args.plan c.requires.sums c.requires.plan).squared
+  where
+    close : {a b : ℕ} → a ≡ b → b ≤ 2 ^ 126 → Fits w128 a
+    close {a} {b} e h = omega (arith, e, h)
 
 pub overflow_mul-gradient-3 : goal.overflow_mul-gradient-3
-overflow_mul-gradient-3 c = close (unsigned_abs c.args.e.now.nu) (unsigned_abs c.args.e.now.weight_den) _ (gradient c) (radii_at c.args.e.now c.args.plan c.requires.sums c.requires.plan).squares
+overflow_mul-gradient-3 c =
+    let f : SFits w128 c.args.e.now.nu = search rules in
+    let g : SFits w128 c.args.e.now.weight_den = search rules in
+    let nu = read_size _ _ f c.unsigned_abs.ensures.value in
+    let weight = read_size _ _ g c.unsigned_abs-2.ensures.value in
+    let squared : c.radius_error-error.result * c.radius_error-error.result ≡ radius_error (sums_of c.args.e.now) c.args.plan ^ 2 =
+    ap (λ n. n * n) c.radius_error-error.ensures ∙ sym (pow-two _) in
+    close (unsigned_abs c.args.e.now.nu) (unsigned_abs c.args.e.now.weight_den) _ (λ i. nu i * weight i * squared i) (radii_at c.args.e.now c.args.plan c.requires.sums c.requires.plan).squares
   where
-    close : {n : ℕ} (a b x : ℕ) → n ≡ a * b * x → b * a * x ≤ 2 ^ 126 → n < 2 ^ 128
+    close : {n : ℕ} (a b x : ℕ) → n ≡ a * b * x → b * a * x ≤ 2 ^ 126 → Fits w128 n
     close {n} a b x e h = omega (arith, e, h)
 
-moved : (c : goal.After-unsigned_abs-5) → c.args.plan * c.unsigned_abs-3.result + c.unsigned_abs-4.result * c.unsigned_abs-5.result ≡ row_radii (sums_of c.args.e.now) c.args.plan
+moved : (c : goal.After-div_ceil-2) → c.args.plan * c.unsigned_abs-3.result + c.unsigned_abs-4.result * c.unsigned_abs-5.result ≡ row_radii (sums_of c.args.e.now) c.args.plan
 moved c =
     let f : SFits w128 c.args.e.now.g_sum = search rules in
     let g : SFits w128 c.args.e.now.x_box = search rules in
@@ -61,9 +76,16 @@ overflow_mul-moved-2 c =
     rw (state, states) (omega (arith, (radii_at c.args.e.now c.args.plan c.requires.sums c.requires.plan).rows_state))
 
 pub overflow_add-moved : goal.overflow_add-moved
-overflow_add-moved c = omega (arith, moved c, (radii_at c.args.e.now c.args.plan c.requires.sums c.requires.plan).rows_moved)
+overflow_add-moved c =
+    let f : SFits w128 c.args.e.now.g_sum = search rules in
+    let g : SFits w128 c.args.e.now.x_box = search rules in
+    let h : SFits w128 c.args.e.now.e_sum = search rules in
+    let rows = read_size _ _ f c.unsigned_abs-3.ensures.value in
+    let state = read_size _ _ g c.unsigned_abs-4.ensures.value in
+    let states = read_size _ _ h c.unsigned_abs-5.ensures.value in
+    rw (rows, state, states) (omega (arith, (radii_at c.args.e.now c.args.plan c.requires.sums c.requires.plan).rows_moved))
 
-rows : (c : goal.After-unsigned_abs-6) → c.unsigned_abs-6.result * (c.args.plan * c.unsigned_abs-3.result + c.unsigned_abs-4.result * c.unsigned_abs-5.result) ≡
+rows : (c : goal.After-div_ceil-2) → c.unsigned_abs-6.result * (c.args.plan * c.unsigned_abs-3.result + c.unsigned_abs-4.result * c.unsigned_abs-5.result) ≡
     unsigned_abs c.args.e.now.y_top * row_radii (sums_of c.args.e.now) c.args.plan
 rows c =
     let f : SFits w128 c.args.e.now.y_top = search rules in
@@ -71,13 +93,22 @@ rows c =
     (λ i. top i * moved c i)
 
 pub overflow_mul-rows : goal.overflow_mul-rows
-overflow_mul-rows c = close (rows c) (radii_at c.args.e.now c.args.plan c.requires.sums c.requires.plan).rows
+overflow_mul-rows c =
+    let f : SFits w128 c.args.e.now.g_sum = search rules in
+    let g : SFits w128 c.args.e.now.x_box = search rules in
+    let h : SFits w128 c.args.e.now.e_sum = search rules in
+    let k : SFits w128 c.args.e.now.y_top = search rules in
+    let rows = read_size _ _ f c.unsigned_abs-3.ensures.value in
+    let state = read_size _ _ g c.unsigned_abs-4.ensures.value in
+    let states = read_size _ _ h c.unsigned_abs-5.ensures.value in
+    let top = read_size _ _ k c.unsigned_abs-6.ensures.value in
+    close (λ i. top i * (c.args.plan * rows i + state i * states i)) (radii_at c.args.e.now c.args.plan c.requires.sums c.requires.plan).rows
   where
-    close : {a b : ℕ} → a ≡ b → b ≤ 2 ^ 126 → a < 2 ^ 128
+    close : {a b : ℕ} → a ≡ b → b ≤ 2 ^ 126 → Fits w128 a
     close {a} {b} e h = omega (arith, e, h)
 
-pub overflow_mul-result : goal.overflow_mul-result
-overflow_mul-result c =
+pub overflow_mul-unsigned_abs : goal.overflow_mul-unsigned_abs
+overflow_mul-unsigned_abs c =
     let f : SFits w128 c.args.e.now.rho = search rules in
     let rho = read_size _ _ f c.unsigned_abs-7.ensures.value in
     omega (arith, rho, (bounded c.args.e.now c.requires.sums).weight)
@@ -116,7 +147,7 @@ overflow_add-result c =
     (ceil_small (s.plan_entries * s.weight_scale * radius_error s c.args.plan ^ 2) (2 ^ 40 * s.rho) some)
     (ceil_small (s.top * row_radii s c.args.plan) s.row_scale b.row_scale) parts.squares parts.rows
   where
-    close : {k a b y : ℕ} (n w q : ℕ) → k ≡ a + b → a ≤ n * w * q → b ≤ y → w * n * q ≤ 2 ^ 126 → y ≤ 2 ^ 126 → k < 2 ^ 128
+    close : {k a b y : ℕ} (n w q : ℕ) → k ≡ a + b → a ≤ n * w * q → b ≤ y → w * n * q ≤ 2 ^ 126 → y ≤ 2 ^ 126 → Fits w128 k
     close {k} {a} {b} {y} n w q e h o p g = omega (arith, e, h, o, p, g)
 
 pub returns : goal.returns

@@ -13,7 +13,9 @@ plan c =
     read_whole _ _ _ f c.unsigned_abs.ensures.value c.plan_bound.ensures
 
 value : (c : goal.After-residual_of) → c.residual_of.result ≡ residual_error (sums_of c.args.e.now) (plan_bound (sums_of c.args.e.now) c.args.f)
-value c = c.residual_of.ensures ∙ ap (λ n. residual_error (sums_of c.args.e.now) n) (plan c)
+value c =
+    let f : SFits w128 c.plan_bound.result = search rules in
+    c.residual_of.ensures ∙ ap (λ n. residual_error (sums_of c.args.e.now) n) (read_whole _ _ _ f c.unsigned_abs.ensures.value c.plan_bound.ensures)
 
 small : (c : goal.After-residual_of) → c.residual_of.result ≤ 2 ^ 86
 small c =
