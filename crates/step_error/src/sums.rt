@@ -13,7 +13,7 @@ ghost use Rattle.qp_model.specs.Form.{form_of};
 ghost use Rattle.qp_model.specs.Errors.{state_bound, linear_sum, constant_sum, plan_row_sum, trace_sum, error_sums_of, error_size};
 ghost use Rattle.qp_model.specs.declared.quantity.Quantity.TheVariants.{Error};
 ghost use Rattle.plant_condense.specs.Form.{IsFormOf};
-ghost use Rattle.step_error.specs.ErrorSums.{AreSums, AreRadii, spread_of, whole_sums, entry_error, entry_squares};
+ghost use Rattle.step_error.specs.ErrorSums.{AreSums, AreRadii, HaveRoom, spread_of, whole_sums, entry_error, entry_squares};
 
 use frac_scaled::{limited_product, limited_sum};
 use mat_int::Mat;
@@ -112,7 +112,7 @@ fn sums_of(c: &Condensed, parts: &DesignParts, r: u128) -> Option<ErrorSums>
         x_box: sizes.state,
         y_top: 2 * r,
         weight_den,
-        radii: radii_of(c),
+        radii: radii_of(parts),
     };
     whole.size()?;
     Some(whole.sums())
@@ -133,11 +133,12 @@ struct Radii {
 }
 
 // Those of exact numbers, which have none.
-fn radii_of(c: &Condensed) -> Radii
-    requires form { IsForm c.now }
-    ensures { (p : DesignParts) → IsFormOf p c.now → AreRadii (design_of p) (form_of (design_of p)) result }
+fn radii_of(parts: &DesignParts) -> Radii
+    requires { IsDesign parts.now }
+    ensures radii { AreRadii (design_of parts.now) (form_of (design_of parts.now)) result }
+    ensures room { HaveRoom result }
 {
-    let row_den = c.cost_row_den.unsigned_abs();
+    let row_den = parts.row_den.unsigned_abs();
     Radii {
         h_rad: 0,
         f_rad: 0,
@@ -145,8 +146,8 @@ fn radii_of(c: &Condensed) -> Radii
         g_col: 0,
         g_sum: 0,
         e_sum: 0,
-        cost_scale: c.weight_den.unsigned_abs() * (row_den * row_den),
-        row_scale: c.limit_den.unsigned_abs(),
+        cost_scale: parts.cost_den.unsigned_abs() * (row_den * row_den),
+        row_scale: parts.limit_den.unsigned_abs(),
         fine: false,
     }
 }
