@@ -95,7 +95,7 @@ returns-in_err-limited_product-3 c =
     (within_of (λ i. weight i * combined i * c.sizes_of-sizes.ensures.trace i) (fit h).tail))
 
 -- the numbers that are gathered
-gathered : After-radii_of → Whole
+abbrev gathered : After-radii_of → Whole
 gathered c = record {
   squares = c.in_ok-limited_product.field-0;
   pull = c.in_ok-limited_product-2.field-0;
@@ -136,9 +136,11 @@ are c =
     floor sizes.state refl weight c.radii_of.ensures.radii
 
 pub size-requires : goal.size-requires
-size-requires c = room_of (gathered c) c.args.parts.now _ c.args.r c.requires.form.design c.requires.some c.requires.narrow c.sizes_of-sizes.ensures.near
+size-requires c =
+    let is = are (goal.at.size-requires c).After-radii_of in
+    room_of _ c.args.parts.now _ c.args.r c.requires.form.design c.requires.some c.requires.narrow c.sizes_of-sizes.ensures.near
     (within_of c.in_ok-limited_product.ensures.1 c.in_ok-limited_product.ensures.0) (within_of c.in_ok-limited_product-2.ensures.1 c.in_ok-limited_product-2.ensures.0)
-    (within_of c.in_ok-limited_product-3.ensures.1 c.in_ok-limited_product-3.ensures.0) c.radii_of.ensures.room (are c)
+    (within_of c.in_ok-limited_product-3.ensures.1 c.in_ok-limited_product-3.ensures.0) c.radii_of.ensures.room is
 
 pub returns-in_err-size : goal.returns-in_err-size
 returns-in_err-size c =
