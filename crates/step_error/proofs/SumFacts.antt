@@ -1,13 +1,15 @@
 -- What the sums of a design are within.
-use Rattle.std.proofs.Common.{◌≡◌, inl, inr, ℕ, ◌+◌, ◌*◌, ◌%◌, ◌^◌, ◌<◌, ◌≤◌, ltb, ℤ, pos, ◌≤ℤ◌, ◌<ℤ◌, unsigned_abs, arith, ap, sym, ◌∙◌, refl}
+use Rattle.std.proofs.Common.{◌≡◌, inl, inr, ℕ, ◌+◌, ◌*◌, ◌%◌, ◌^◌, ◌<◌, ◌≤◌, Bool, true, false, ltb, ℤ, pos, ◌≤ℤ◌, ◌<ℤ◌, unsigned_abs, arith, ap, sym, ◌∙◌, refl, subst, Option}
 use Rattle.std.proofs.lemmas.Int.{ints, to_z-of_z}
 use Rattle.std.proofs.Common.{to_z, of_z}
-use Rattle.std.specs.Int.{w128}
+use Rattle.std.specs.Int.{w128, div_ceil}
+use Rattle.std.specs.Option.{SomeIff}
 use Rattle.std.proofs.lemmas.Bool.{cases_lt}
 use mir.Val.{SFits}
 use Rattle.std.proofs.lemmas.Nat.{pow-add}
 use Rattle.std.proofs.Math.Nat.{mul-le-mul, mul-le-mul_left, mul-le-mul_right, one-le-mul}
 use Rattle.integer_algebra.specs.Sums.{at}
+use Rattle.integer_algebra.specs.Division.{ceil_div}
 use Rattle.integer_algebra.proofs.PowerLaws.{four-pow, pow_positive}
 use Rattle.qp_model.specs.declared.design_parts.DesignParts.{DesignParts}
 use Rattle.qp_model.specs.Design.{Design, entries, rows}
@@ -19,8 +21,9 @@ use Rattle.qp_model.specs.Errors.{plan_bound, residual_error, radius_error, row_
 use Rattle.qp_model.proofs.SizeFacts.{some_row, some_entry, positive}
 use Rattle.qp_model.proofs.SoundLaws.{least-met, weight_at}
 use Rattle.step_error.specs.declared.sums.ErrorSums.{ErrorSums}
-use Rattle.step_error.specs.ErrorSums.{AreSums, whole_sums, sums_of, spread_of, rounding_cost, radius_cost, radius_size}
-use Rattle.step_error.proofs.Ceilings.{ceil_small}
+use Rattle.step_error.specs.declared.sums.Whole.{Whole}
+use Rattle.step_error.specs.ErrorSums.{sums_by, AreSums, whole_sums, sums_of, spread_of, rounding_cost, radius_cost, radius_size}
+use Rattle.step_error.proofs.Ceilings.{ceil_small, quotient_is}
 use Rattle.step_error.proofs.FallingLaws.{power_rises, squares_rise, plan_bound_falls, residual_error_rises, moved_rises, radius_error_rises, row_radii_rises, halves}
 
 -- ---- the least input weight
@@ -40,6 +43,7 @@ pub record IsFew (d : Design) : Type 0 where
   pub states : d.states ≤ 4
   pub weight : d.cost_denominator ≤ 2 ^ 20
   pub row : d.row_denominator ≤ 2 ^ 20
+  pub limit : d.limit_denominator ≤ 2 ^ 20
 
 pub few : (p : DesignParts) → IsDesign p → IsFew (design_of p)
 few p h = record {
@@ -48,6 +52,7 @@ few p h = record {
   states = h.states.1;
   weight = size p.cost_den h.cost_den.low h.cost_den.high;
   row = size p.row_den h.row_den.low h.row_den.high;
+  limit = size p.limit_den h.limit_den.low h.limit_den.high;
 }
   where
     both : (a b k : ℕ) → a ≤ k → b ≤ 12 → a + b ≤ k + 12
@@ -302,3 +307,57 @@ read_whole z n k f e g = read_size z n f e ∙ ap unsigned_abs g
 pub four_is : (f : ℕ) → 2 ^ (2 * f) ≡ 4 ^ f
 four_is f = let e : 2 * f ≡ f + f = omega arith in rw e (pow-add 2 f f ∙ sym (four-pow f))
 
+
+-- ---- the quantity `error`, by what the code computes
+-- at a number that is equal
+pub kept : (o : Option ℕ) {a b : ℕ} → a ≡ b → SomeIff o (a ≤ 2 ^ 126) a → SomeIff o (b ≤ 2 ^ 126) b
+kept o e h = subst (λ n. SomeIff o (n ≤ 2 ^ 126) n) e h
+
+pub plan_is : (w : Whole) (k lead push : ℕ) → 1 ≤ w.rho → k ≡ spread_of w.radii.fine → lead ≡ div_ceil w.pull (2 * w.rho) → push ≡ div_ceil w.tail (4 * w.rho) →
+    k * (lead + push) + 1 ≡ plan_bound (sums_by w) 0
+plan_is w k lead push some e g h =
+    let two : 0 < 2 * w.rho = omega (arith, some) in
+    let four : 0 < 4 * w.rho = omega (arith, some) in
+    let a : lead ≡ ceil_div w.pull (2 * w.rho) = quotient_is _ _ _ w.pull (2 * w.rho) two g refl refl in
+    let b : push ≡ ceil_div w.tail (4 * w.rho) = quotient_is _ _ _ w.tail (4 * w.rho) four h refl refl in
+    (λ i. e i * (a i + b i) + 1)
+
+-- what the part by rounding holds
+pub record AreRoundingParts (parts first top plan box : ℕ) : Type 0 where
+  pub plans : plan ≤ 2 ^ 126
+  pub residuals : top * (plan + box + 3) ≤ 2 ^ 126
+  pub errors : 2 ^ 40 * (first + top * (plan + box + 3)) ≤ 2 ^ 126
+  pub sum : parts + 2 ^ 40 * (first + top * (plan + box + 3)) ≤ 2 ^ 126
+
+pub rounding_parts : (k parts first top plan box : ℕ) → 1 ≤ k → 1 ≤ top → k ^ 2 * (parts + 2 ^ 40 * (first + top * (plan + box + 3))) ≤ 2 ^ 126 →
+    AreRoundingParts parts first top plan box
+rounding_parts k parts first top plan box some rows h =
+    let sum = factor (pow_positive k 2 some) h in
+    let errors = second_of parts _ sum in
+    let residuals = inner first _ errors in
+    record {
+      plans = innermost plan box (factor rows residuals);
+      residuals = residuals;
+      errors = errors;
+      sum = sum;
+    }
+  where
+    factor : {a b : ℕ} → 1 ≤ a → a * b ≤ 2 ^ 126 → b ≤ 2 ^ 126
+    factor {a} {b} h k = omega (arith, k, mul-le-mul_right b h)
+
+    second_of : (a b : ℕ) → a + b ≤ 2 ^ 126 → b ≤ 2 ^ 126
+    second_of a b h = omega (arith, h)
+
+    inner : (a b : ℕ) → 2 ^ 40 * (a + b) ≤ 2 ^ 126 → b ≤ 2 ^ 126
+    inner a b h = omega (arith, h)
+
+    innermost : (a b : ℕ) → a + b + 3 ≤ 2 ^ 126 → a ≤ 2 ^ 126
+    innermost a b h = omega (arith, h)
+
+pub spread_some : (fine : Bool) → 1 ≤ spread_of fine
+spread_some true = omega arith
+spread_some false = omega arith
+
+pub spread_few : (fine : Bool) → spread_of fine ≤ 2
+spread_few true = omega arith
+spread_few false = omega arith

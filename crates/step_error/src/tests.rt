@@ -125,6 +125,18 @@ fn sums_of_designs(rt: HostRuntime) -> Result<(), Fail> {
         nu: 1,
         n_box: 1,
         rho: 1,
+        x_box: 1,
+        y_top: 16,
+        h_rad: 0,
+        f_rad: 0,
+        o_rad: 0,
+        g_col: 0,
+        g_sum: 0,
+        e_sum: 0,
+        cost_scale: 1,
+        weight_den: 1,
+        row_scale: 4,
+        fine: false,
     };
     assert_eq!(rt; sums(&rt, alloc, &BASE, 8)?, Ok(base));
     let most = 1 << 44;

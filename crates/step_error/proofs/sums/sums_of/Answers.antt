@@ -1,15 +1,17 @@
-use Rattle.std.proofs.Common.{rules, ◌≡◌, ◌+◌, ◌*◌, arith, ◌∙◌}
+use Rattle.std.proofs.Common.{rules, ◌≡◌, ◌+◌, ◌*◌, ◌^◌, ◌≤◌, arith, ◌∙◌, sym, refl}
 use Rattle.std.specs.Int.{w128}
 use mir.Val.{SFits}
 use Rattle.qp_model.specs.Parts.{design_of}
-use Rattle.qp_model.specs.Design.{rows, entries}
-use Rattle.qp_model.specs.Quantities.{input_floor}
-use Rattle.qp_model.specs.Errors.{combined_bound, gradient_squares, pull, state_bound, linear_sum, constant_sum, plan_row_sum, trace_sum}
-use Rattle.qp_model.proofs.SizeFacts.{some_row}
+use Rattle.qp_model.specs.Form.{form_of}
+use Rattle.qp_model.specs.Errors.{pull, state_bound, linear_sum, constant_sum, plan_row_sum, gradient_error, gradient_squares}
+use Rattle.qp_model.proofs.SizeFacts.{positive}
 use Rattle.step_error.proofs.Ceilings.{positive_by}
-use Rattle.step_error.proofs.SumFacts.{read_size, floor_range}
-use Rattle.step_error.proofs.DesignSums.{hessian_row_small, scale_is, scale_one, weight_is, floor_is, count_is, reach_is, squares_is, few, within, reach_small, top_small, top_one, moved}
+use Rattle.step_error.proofs.SumFacts.{read_size, few, within_of}
+use Rattle.step_error.proofs.DesignSums.{hessian_row_small, scale_is, scale_one, weight_is, floor_is, count_is, reach_is, squares_is, within, reach_small, sums_are, room_of, size_of, AreOf, AreWithin}
+use Rattle.step_error.specs.declared.sums.Whole.{Whole}
+use Rattle.step_error.specs.ErrorSums.{whole_sums}
 use Rattle.step_error.proofs.sums.sums_of.Goals as goal
+use Rattle.step_error.proofs.sums.sums_of.Goals.{After-radii_of}
 
 pub gradient_squares-requires-clause-small : goal.gradient_squares-requires-clause-small
 gradient_squares-requires-clause-small c = hessian_row_small c.args.parts.now c.args.c.now c.requires.form
@@ -26,12 +28,11 @@ returns-in_err-squares c =
     let d = design_of p in
     let form = c.requires.form in
     let f : SFits w128 c.args.c.now.hess_den = search rules in
-    let g : SFits w128 c.args.c.now.weight_den = search rules in
     let scale = read_size _ _ f c.unsigned_abs.ensures.value ∙ scale_is p c.args.c.now form in
-    let weight = read_size _ _ g c.unsigned_abs-weight_den.ensures.value ∙ weight_is p c.args.c.now form in
     let combined = reach_is p c.args.c.now form c.args.r _ _ c.sizes_of-sizes.ensures.state c.rows.ensures.count in
     let squares = squares_is p c.args.c.now form c.args.r _ _ scale combined in
-    rw c.from_residual.ensures (λ h. c.in_err-squares.ensures (rw squares (within p c.args.r form.design h).squares))
+    let fit = within d (form_of d) c.args.r (positive p.cost_den form.design.cost_den.low) (omega arith) in
+    rw c.from_residual.ensures (λ h. c.in_err-squares.ensures (within_of squares (fit h).squares))
 
 pub returns-in_err-limited_product : goal.returns-in_err-limited_product
 returns-in_err-limited_product c =
@@ -44,36 +45,30 @@ returns-in_err-limited_product c =
     let weight = read_size _ _ g c.unsigned_abs-weight_den.ensures.value ∙ weight_is p c.args.c.now form in
     let combined = reach_is p c.args.c.now form c.args.r _ _ c.sizes_of-sizes.ensures.state c.rows.ensures.count in
     let squares = squares_is p c.args.c.now form c.args.r _ _ scale combined in
+    let fit = within d (form_of d) c.args.r (positive p.cost_den form.design.cost_den.low) (omega arith) in
     rw c.from_residual-in_err-limited_product.ensures (λ h. c.in_err-limited_product.ensures
-    (rw (weight, c.in_ok-squares.ensures.1, squares) (within p c.args.r form.design h).weighed))
+    (within_of (λ i. weight i * (c.in_ok-squares.ensures.1 ∙ squares) i) (fit h).weighed))
 
 pub returns-in_err-pull_of : goal.returns-in_err-pull_of
 returns-in_err-pull_of c =
     let p = c.args.parts.now in
     let d = design_of p in
     let sizes = c.sizes_of-sizes.ensures in
-    let pulling : c.sizes_of-sizes.result.state * c.sizes_of-sizes.result.linear + c.sizes_of-sizes.result.constant + 2 * c.args.r * c.sizes_of-sizes.result.rows ≡
-    state_bound d * linear_sum d + constant_sum d + 2 * c.args.r * plan_row_sum d =
-    (λ i. sizes.state i * sizes.linear i + sizes.constant i + 2 * c.args.r * sizes.rows i) in
-    rw c.from_residual-in_err-pull_of.ensures (λ h. c.in_err-pull_of.ensures (rw pulling (within p c.args.r c.requires.form.design h).pulling))
+    let fit = within d (form_of d) c.args.r (positive p.cost_den c.requires.form.design.cost_den.low) (omega arith) in
+    rw c.from_residual-in_err-pull_of.ensures (λ h. c.in_err-pull_of.ensures
+    (within_of (λ i. sizes.state i * sizes.linear i + sizes.constant i + 2 * c.args.r * sizes.rows i) (fit h).pulling))
 
 pub returns-in_err-limited_product-2 : goal.returns-in_err-limited_product-2
 returns-in_err-limited_product-2 c =
     let p = c.args.parts.now in
     let d = design_of p in
     let form = c.requires.form in
-    let f : SFits w128 c.args.c.now.hess_den = search rules in
     let g : SFits w128 c.args.c.now.weight_den = search rules in
-    let scale = read_size _ _ f c.unsigned_abs.ensures.value ∙ scale_is p c.args.c.now form in
     let weight = read_size _ _ g c.unsigned_abs-weight_den.ensures.value ∙ weight_is p c.args.c.now form in
-    let combined = reach_is p c.args.c.now form c.args.r _ _ c.sizes_of-sizes.ensures.state c.rows.ensures.count in
-    let squares = squares_is p c.args.c.now form c.args.r _ _ scale combined in
     let sizes = c.sizes_of-sizes.ensures in
-    let pulling : c.sizes_of-sizes.result.state * c.sizes_of-sizes.result.linear + c.sizes_of-sizes.result.constant + 2 * c.args.r * c.sizes_of-sizes.result.rows ≡
-    state_bound d * linear_sum d + constant_sum d + 2 * c.args.r * plan_row_sum d =
-    (λ i. sizes.state i * sizes.linear i + sizes.constant i + 2 * c.args.r * sizes.rows i) in
-    rw c.from_residual-in_err-limited_product-2.ensures (λ h. c.in_err-limited_product-2.ensures
-    (rw (weight, c.in_ok-pull_of.ensures.1, pulling) (within p c.args.r form.design h).pulled))
+    let pulling = c.in_ok-pull_of.ensures.1 ∙ (λ i. sizes.state i * sizes.linear i + sizes.constant i + 2 * c.args.r * sizes.rows i) in
+    let fit = within d (form_of d) c.args.r (positive p.cost_den form.design.cost_den.low) (omega arith) in
+    rw c.from_residual-in_err-limited_product-2.ensures (λ h. c.in_err-limited_product-2.ensures (within_of (λ i. weight i * pulling i) (fit h).pulled))
 
 pub overflow_mul-weight_den : goal.overflow_mul-weight_den
 overflow_mul-weight_den c =
@@ -92,62 +87,74 @@ returns-in_err-limited_product-3 c =
     let p = c.args.parts.now in
     let d = design_of p in
     let form = c.requires.form in
-    let f : SFits w128 c.args.c.now.hess_den = search rules in
     let g : SFits w128 c.args.c.now.weight_den = search rules in
-    let scale = read_size _ _ f c.unsigned_abs.ensures.value ∙ scale_is p c.args.c.now form in
     let weight = read_size _ _ g c.unsigned_abs-weight_den.ensures.value ∙ weight_is p c.args.c.now form in
     let combined = reach_is p c.args.c.now form c.args.r _ _ c.sizes_of-sizes.ensures.state c.rows.ensures.count in
-    let squares = squares_is p c.args.c.now form c.args.r _ _ scale combined in
+    let fit = within d (form_of d) c.args.r (positive p.cost_den form.design.cost_den.low) (omega arith) in
     rw c.from_residual-in_err-limited_product-3.ensures (λ h. c.in_err-limited_product-3.ensures
-    (rw (weight, combined, c.sizes_of-sizes.ensures.trace) (within p c.args.r form.design h).tail))
+    (within_of (λ i. weight i * combined i * c.sizes_of-sizes.ensures.trace i) (fit h).tail))
 
-pub sums-requires-clause-top : goal.sums-requires-clause-top
-sums-requires-clause-top c =
-    let count = count_is c.args.parts.now c.args.c.now c.requires.form _ c.rows.ensures.count in
-    top_one c.args.r c.rows.result c.requires.some (rw count (some_row c.args.parts.now c.requires.form.design))
+-- the numbers that are gathered
+abbrev gathered : After-radii_of → Whole
+gathered c = record {
+  squares = c.in_ok-limited_product.field-0;
+  pull = c.in_ok-limited_product-2.field-0;
+  tail = c.in_ok-limited_product-3.field-0;
+  y_rows = 2 * c.args.r * c.rows.result;
+  nu = c.rows-2.result;
+  n_box = c.args.parts.now.states * c.sizes_of-sizes.result.state;
+  rho = c.unsigned_abs-2.result;
+  x_box = c.sizes_of-sizes.result.state;
+  y_top = 2 * c.args.r;
+  weight_den = c.unsigned_abs-weight_den.result;
+  radii = c.radii_of.result;
+}
 
-pub sums-requires-clause-rows : goal.sums-requires-clause-rows
-sums-requires-clause-rows c =
-    let count = count_is c.args.parts.now c.args.c.now c.requires.form _ c.rows.ensures.count in
-    top_small c.args.r c.rows.result c.requires.narrow (rw count (few c.args.parts.now c.requires.form.design).rows)
-
-pub sums-requires-clause-some : goal.sums-requires-clause-some
-sums-requires-clause-some c =
-    let f : SFits w128 c.args.c.now.input_floor = search rules in
-    let floor = read_size _ _ f c.unsigned_abs-2.ensures.value ∙ floor_is c.args.parts.now c.args.c.now c.requires.form in
-    rw floor (floor_range c.args.parts.now c.requires.form.design).0
-
-pub sums-requires-clause-weight : goal.sums-requires-clause-weight
-sums-requires-clause-weight c =
-    let f : SFits w128 c.args.c.now.input_floor = search rules in
-    let floor = read_size _ _ f c.unsigned_abs-2.ensures.value ∙ floor_is c.args.parts.now c.args.c.now c.requires.form in
-    rw floor (floor_range c.args.parts.now c.requires.form.design).1
-
-pub returns : goal.returns
-returns c =
+are : (c : After-radii_of) → AreOf (gathered c) (design_of c.args.parts.now) (form_of (design_of c.args.parts.now)) c.args.r
+are c =
     let p = c.args.parts.now in
     let d = design_of p in
     let form = c.requires.form in
     let f : SFits w128 c.args.c.now.hess_den = search rules in
     let g : SFits w128 c.args.c.now.weight_den = search rules in
+    let k : SFits w128 c.args.c.now.input_floor = search rules in
     let scale = read_size _ _ f c.unsigned_abs.ensures.value ∙ scale_is p c.args.c.now form in
     let weight = read_size _ _ g c.unsigned_abs-weight_den.ensures.value ∙ weight_is p c.args.c.now form in
+    let floor = read_size _ _ k c.unsigned_abs-2.ensures.value ∙ floor_is p c.args.c.now form in
     let combined = reach_is p c.args.c.now form c.args.r _ _ c.sizes_of-sizes.ensures.state c.rows.ensures.count in
     let squares = squares_is p c.args.c.now form c.args.r _ _ scale combined in
     let sizes = c.sizes_of-sizes.ensures in
-    let pulling : c.sizes_of-sizes.result.state * c.sizes_of-sizes.result.linear + c.sizes_of-sizes.result.constant + 2 * c.args.r * c.sizes_of-sizes.result.rows ≡
-    state_bound d * linear_sum d + constant_sum d + 2 * c.args.r * plan_row_sum d =
-    (λ i. sizes.state i * sizes.linear i + sizes.constant i + 2 * c.args.r * sizes.rows i) in
-    let k : SFits w128 c.args.c.now.input_floor = search rules in
-    let floor = read_size _ _ k c.unsigned_abs-2.ensures.value ∙ floor_is p c.args.c.now form in
+    let pulling = c.in_ok-pull_of.ensures.1 ∙ (λ i. sizes.state i * sizes.linear i + sizes.constant i + 2 * c.args.r * sizes.rows i) in
     let count = count_is p c.args.c.now form _ c.rows.ensures.count in
-    moved c.sums.result _ _ _ _ _ _ _
-    (d.cost_denominator * gradient_squares d c.args.r) (pull d c.args.r) (d.cost_denominator * combined_bound d c.args.r * trace_sum d) (2 * c.args.r * rows d) (entries d)
-    (d.states * state_bound d) (input_floor d)
+    sums_are (gathered c) d (form_of d) c.args.r
     (c.in_ok-limited_product.ensures.1 ∙ (λ i. weight i * (c.in_ok-squares.ensures.1 ∙ squares) i))
-    (c.in_ok-limited_product-2.ensures.1 ∙ (λ i. weight i * (c.in_ok-pull_of.ensures.1 ∙ pulling) i))
+    (c.in_ok-limited_product-2.ensures.1 ∙ (λ i. weight i * pulling i))
     (c.in_ok-limited_product-3.ensures.1 ∙ (λ i. weight i * combined i * sizes.trace i))
     (λ i. 2 * c.args.r * count i)
     (c.rows-2.ensures.count ∙ form.shapes.hess.rows)
     (λ i. p.states * sizes.state i)
-    floor c.sums.ensures
+    floor sizes.state refl weight c.radii_of.ensures.radii
+
+pub size-requires : goal.size-requires
+size-requires c =
+    let is = are (goal.at.size-requires c).After-radii_of in
+    room_of _ c.args.parts.now _ c.args.r c.requires.form.design c.requires.some c.requires.narrow c.sizes_of-sizes.ensures.near
+    (within_of c.in_ok-limited_product.ensures.1 c.in_ok-limited_product.ensures.0) (within_of c.in_ok-limited_product-2.ensures.1 c.in_ok-limited_product-2.ensures.0)
+    (within_of c.in_ok-limited_product-3.ensures.1 c.in_ok-limited_product-3.ensures.0) c.radii_of.ensures.room is
+
+pub returns-in_err-size : goal.returns-in_err-size
+returns-in_err-size c =
+    let is = are (goal.at.returns-in_err-size c).After-radii_of in
+    rw c.from_residual-in_err-size.ensures (λ h. c.in_err-size.ensures (within_of (size_of _ _ _ _ is) h))
+
+pub sums-requires : goal.sums-requires
+sums-requires c =
+    let is = are (goal.at.sums-requires c).After-radii_of in
+    room_of _ c.args.parts.now _ c.args.r c.requires.form.design c.requires.some c.requires.narrow c.sizes_of-sizes.ensures.near
+    (within_of c.in_ok-limited_product.ensures.1 c.in_ok-limited_product.ensures.0) (within_of c.in_ok-limited_product-2.ensures.1 c.in_ok-limited_product-2.ensures.0)
+    (within_of c.in_ok-limited_product-3.ensures.1 c.in_ok-limited_product-3.ensures.0) c.radii_of.ensures.room is
+
+pub returns : goal.returns
+returns c =
+    let is = are (goal.at.returns c).After-radii_of in
+    (within_of (sym (size_of _ _ _ _ is)) c.in_ok-size.ensures.0, c.sums.ensures ∙ (λ i. whole_sums (is.sums i)))

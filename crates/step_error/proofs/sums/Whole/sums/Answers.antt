@@ -1,51 +1,53 @@
-use Rattle.std.proofs.Common.{ℕ, ◌*◌, ◌<◌, pos, arith, ap, ◌∙◌, refl}
+use Rattle.std.proofs.Common.{◌≡◌, ℕ, ◌*◌, ◌^◌, ◌<◌, ◌≤◌, Bool, true, false, ltb, ℤ, pos, arith, ap, sym, ◌∙◌, refl, to_z, of_z}
 use Rattle.std.specs.Int.{w128}
 use Rattle.std.proofs.lemmas.Int.{to_z_pos}
+use Rattle.step_error.specs.ErrorSums.{spread_of}
 use Rattle.step_error.proofs.Ceilings.{quotient_is, ceil_small}
-use Rattle.step_error.proofs.SumFacts.{parts_from, size_is}
 use Rattle.step_error.proofs.sums.Whole.sums.Goals as goal
 
-pub returns-in_err-residual : goal.returns-in_err-residual
-returns-in_err-residual c =
-    let s = c.args.self.now in
-    let e = size_is s.squares s.pull s.tail s.y_rows s.nu s.n_box s.rho _ _ _ c.requires.some c.div_ceil-first.ensures c.div_ceil-lead.ensures c.div_ceil.ensures in
-    rw (c.from_residual.ensures, e) (λ h. c.in_err-residual.ensures (parts_from s.squares s.pull s.tail s.y_rows s.nu s.n_box _ _ c.requires.top h).plans)
+fine_is : (b : Bool) → b ≡ ltb 1 (spread_of b)
+fine_is true = refl
+fine_is false = refl
 
-pub returns-in_err-errors : goal.returns-in_err-errors
-returns-in_err-errors c =
-    let s = c.args.self.now in
-    let e = size_is s.squares s.pull s.tail s.y_rows s.nu s.n_box s.rho _ _ _ c.requires.some c.div_ceil-first.ensures c.div_ceil-lead.ensures c.div_ceil.ensures in
-    rw (c.from_residual-in_err-errors.ensures, e) (λ h. c.in_err-errors.ensures (rw c.in_ok-residual.ensures.1
-    (parts_from s.squares s.pull s.tail s.y_rows s.nu s.n_box _ _ c.requires.top h).residuals))
+read : (n : ℕ) → n ≤ 2 ^ 126 → to_z w128 n ≡ pos n
+read n h = to_z_pos w128 n (omega (arith, h))
 
-pub returns-in_err-limited_product : goal.returns-in_err-limited_product
-returns-in_err-limited_product c =
-    let s = c.args.self.now in
-    let e = size_is s.squares s.pull s.tail s.y_rows s.nu s.n_box s.rho _ _ _ c.requires.some c.div_ceil-first.ensures c.div_ceil-lead.ensures c.div_ceil.ensures in
-    rw (c.from_residual-in_err-limited_product.ensures, e) (λ h. c.in_err-limited_product.ensures (rw (c.in_ok-errors.ensures.1, c.in_ok-residual.ensures.1)
-    (parts_from s.squares s.pull s.tail s.y_rows s.nu s.n_box _ _ c.requires.top h).errors))
+few : {n : ℕ} → n ≤ 2 ^ 60 → n ≤ 2 ^ 126
+few {n} h = omega (arith, h)
 
-pub returns-in_err-limited_sum-2 : goal.returns-in_err-limited_sum-2
-returns-in_err-limited_sum-2 c =
-    let s = c.args.self.now in
-    let e = size_is s.squares s.pull s.tail s.y_rows s.nu s.n_box s.rho _ _ _ c.requires.some c.div_ceil-first.ensures c.div_ceil-lead.ensures c.div_ceil.ensures in
-    rw (c.from_residual-in_err-limited_sum-2.ensures, e) (λ h. c.in_err-limited_sum-2.ensures
-    (rw (c.in_ok-limited_product.ensures.1, c.in_ok-parts.ensures.1, c.in_ok-limited_sum.ensures.1, c.in_ok-errors.ensures.1, c.in_ok-residual.ensures.1) h))
+pub overflow_mul-self : goal.overflow_mul-self
+overflow_mul-self c = omega (arith, c.requires.rho)
+
+pub overflow_mul-self-2 : goal.overflow_mul-self-2
+overflow_mul-self-2 c = omega (arith, c.requires.rho)
 
 pub returns : goal.returns
 returns c =
-    let s = c.args.self.now in
-    let e = size_is s.squares s.pull s.tail s.y_rows s.nu s.n_box s.rho _ _ _ c.requires.some c.div_ceil-first.ensures c.div_ceil-lead.ensures c.div_ceil.ensures in
-    let room = rw (c.in_ok-limited_product.ensures.1, c.in_ok-parts.ensures.1, c.in_ok-limited_sum.ensures.1, c.in_ok-errors.ensures.1, c.in_ok-residual.ensures.1)
-    at c.in_ok-limited_sum-2.ensures.0 in
-    let two : 0 < 2 * s.rho = omega (arith, c.requires.some) in
-    let squares = quotient_is _ _ _ s.squares (2 * s.rho) two c.div_ceil-first.ensures refl refl in
-    let pull = quotient_is _ _ _ s.pull (2 * s.rho) two c.div_ceil-lead.ensures refl refl in
-    let first = to_z_pos w128 _ (omega (arith, squares, ceil_small s.squares (2 * s.rho) two, c.requires.squares)) ∙ ap (λ (n : ℕ). pos n) squares in
-    let lead = to_z_pos w128 _ (omega (arith, pull, ceil_small s.pull (2 * s.rho) two, c.requires.pull)) ∙ ap (λ (n : ℕ). pos n) pull in
-    let tail = to_z_pos w128 s.tail (omega (arith, c.requires.tail)) in
-    let y_rows = to_z_pos w128 s.y_rows (omega (arith, c.requires.rows)) in
-    let nu = to_z_pos w128 s.nu (omega (arith, c.requires.entries)) in
-    let n_box = to_z_pos w128 s.n_box (omega (arith, c.requires.states)) in
-    let rho = to_z_pos w128 s.rho (omega (arith, c.requires.weight)) in
-    (rw e room, (λ i. record { first = first i; lead = lead i; tail = tail i; y_rows = y_rows i; nu = nu i; n_box = n_box i; rho = rho i }))
+    let w = c.args.self.now in
+    let two : 0 < 2 * w.rho = omega (arith, c.requires.rho_some) in
+    let squares = quotient_is _ _ _ w.squares (2 * w.rho) two c.div_ceil.ensures refl refl in
+    let pull = quotient_is _ _ _ w.pull (2 * w.rho) two c.div_ceil-2.ensures refl refl in
+    let first = read _ (omega (arith, squares, ceil_small w.squares (2 * w.rho) two, c.requires.squares)) ∙ ap (λ (n : ℕ). pos n) squares in
+    let lead = read _ (omega (arith, pull, ceil_small w.pull (2 * w.rho) two, c.requires.pull)) ∙ ap (λ (n : ℕ). pos n) pull in
+    let rho = to_z_pos w128 w.rho (omega (arith, c.requires.rho)) in
+    (λ i. record {
+      first = first i;
+      lead = lead i;
+      tail = read w.tail c.requires.tail i;
+      y_rows = read w.y_rows (few c.requires.rows) i;
+      nu = read w.nu (few c.requires.entries) i;
+      n_box = read w.n_box (few c.requires.states) i;
+      rho = rho i;
+      x_box = read w.x_box (few c.requires.state) i;
+      y_top = read w.y_top (few c.requires.top) i;
+      h_rad = read w.radii.h_rad c.requires.radii.hessian i;
+      f_rad = read w.radii.f_rad c.requires.radii.linear i;
+      o_rad = read w.radii.o_rad c.requires.radii.constant i;
+      g_col = read w.radii.g_col c.requires.radii.column i;
+      g_sum = read w.radii.g_sum c.requires.radii.plan i;
+      e_sum = read w.radii.e_sum c.requires.radii.state i;
+      cost_scale = read w.radii.cost_scale c.requires.radii.cost_scale i;
+      weight_den = read w.weight_den (few c.requires.weight) i;
+      row_scale = read w.radii.row_scale c.requires.radii.row_scale i;
+      fine = fine_is w.radii.fine i;
+    })
