@@ -1,32 +1,25 @@
 -- What the numbers of a condensed form are and how large they are.
-use Rattle.std.proofs.Common.{◌≡◌, ℕ, zero, suc, ◌+◌, ◌*◌, ◌/◌, ◌<◌, ◌≤◌, ◌^◌, ℤ, pos, ◌*ℤ◌, ◌≤ℤ◌, ◌<ℤ◌, unsigned_abs, nat_eq, Bool, true, false, IsTrue, ◌↔◌, Option, Some, None, rules, if◌then◌else◌, arith, ap, sym, ◌∙◌, refl}
+use Rattle.std.proofs.Common.{◌≡◌, ℕ, ◌+◌, ◌*◌, ◌/◌, ◌<◌, ◌≤◌, ◌^◌, ℤ, unsigned_abs, Bool, IsTrue, ◌↔◌, Option, Some, None, rules, arith, ap, sym, ◌∙◌, refl}
 use Rattle.std.proofs.lemmas.Int.{ints}
-use Rattle.std.proofs.lemmas.Nat.{pow_pos}
 use Rattle.std.proofs.Math.Nat.{le_of_mul-le-mul_left, mul-div_cancel_left, mul-le-mul, mul-le-mul_right, one-le-mul, pow-le-pow_left}
 use Rattle.integer_algebra.specs.Sizes.{amount}
-use Rattle.integer_algebra.specs.Sums.{at, image}
-use Rattle.integer_algebra.proofs.OrderLaws.{cancel-le_z, pos_positive}
+use Rattle.integer_algebra.specs.Sums.{at}
 use Rattle.integer_algebra.proofs.PowerLaws.{pow-two, pow_positive}
 use Rattle.integer_algebra.proofs.SizeLaws.{amount_same}
-use Rattle.integer_algebra.proofs.SumLaws.{total_same}
-use Rattle.integer_algebra.proofs.BlockLaws.{total_single}
 use Rattle.mat_int.specs.Matrix.{entry_of}
 use Rattle.qp_model.specs.declared.design_parts.DesignParts.{DesignParts}
 use Rattle.qp_model.specs.Design.{Design, entries, rows}
-use Rattle.qp_model.specs.Condensed as form
-use Rattle.qp_model.specs.Condensed.{IsCondensed}
 use Rattle.qp_model.specs.Condensing.{condensed_of}
 use Rattle.qp_model.specs.Form.{form_of, rows_scale}
-use Rattle.qp_model.specs.Quantities.{input_floor, growth, cost_width, weight_sum, prediction_size, cost_entry_size, limit_entry_size, hessian_size}
+use Rattle.qp_model.specs.Quantities.{input_floor, growth, cost_width, weight_sum, prediction_size, cost_entry_size, hessian_size}
 use Rattle.qp_model.specs.CurvatureSize.{CoversSquares, limit_squares, floor_times}
 use Rattle.qp_model.specs.Parts.{IsDesign, design_of}
 use Rattle.qp_model.specs.Range.{IsDenominator}
-use Rattle.qp_model.proofs.CostLaws.{condensing}
 use Rattle.plant_condense.specs.declared.condensed.Condensed.{Condensed}
-use Rattle.plant_condense.specs.Form.{IsFormOf, form_numbers}
+use Rattle.plant_condense.specs.Form.{IsFormOf}
 use Rattle.std.specs.Option.{SomeIff, is_some}
 use Rattle.hessian_check.specs.Curvature.{IsLeastBelow}
-use Rattle.hessian_check.proofs.DesignLaws.{change_is, farthest_none}
+use Rattle.hessian_check.proofs.DesignLaws.{farthest_none}
 use Rattle.plant_condense.proofs.FormSums.{plan_squares}
 use Rattle.plant_condense.proofs.HeldLaws.{held_same, least_equal}
 use Rattle.hessian_check.proofs.RowLaws.{not_true}

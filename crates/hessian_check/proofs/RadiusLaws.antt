@@ -14,7 +14,7 @@ use Rattle.integer_algebra.proofs.Quoting.{by_ring, quotes}
 use Rattle.integer_algebra.proofs.SumLaws.{total_same}
 use Rattle.integer_algebra.proofs.VectorLaws.{dot_same, quadratic_scale}
 use Rattle.hessian_check.specs.Dominance.{IsSymmetric, form}
-use Rattle.hessian_check.specs.Curvature.{Curved, Held, IsHeld, exactly, lowered, difference, weighted_gram, exact_matrix, exponent_matrix, radius_of, BoundsRows}
+use Rattle.hessian_check.specs.Curvature.{Curved, HeldMatrices, IsHeld, exactly, lowered, difference, weighted_gram, exact_matrix, exponent_matrix, radius_of, BoundsRows}
 use Rattle.hessian_check.proofs.FormLaws.{form_sub, dominance_law}
 use Rattle.integer_algebra.proofs.AmountLaws.{amount_mono, amount_none, amount_scale}
 use Rattle.hessian_check.proofs.CurvatureLaws.{matrix_law, gram_turned, exact_symmetric}
@@ -78,7 +78,7 @@ within_law n a m radius s t h d = above (dominance_law n gap turned dominant d) 
         closed f e x y {g} {o} p q r k = omega (arith, ints, p, q, r, k)
 
 -- ---- the matrices of an exponent
-module _ (c : Curved) (h : Held) (k : IsHeld c h) (s : ℕ) where
+module _ (c : Curved) (h : HeldMatrices) (k : IsHeld c h) (s : ℕ) where
   abbrev mid : ℕ → ℕ → ℤ
   mid = difference (square c.limit_den) (c.weight_den *ℤ square c.cost_row_den) h.half h.products s
 
@@ -152,7 +152,7 @@ module _ (c : Curved) (h : Held) (k : IsHeld c h) (s : ℕ) where
       closed : {a b x y : ℤ} → a ≤ℤ b → a ≡ x → b ≡ y → x ≤ℤ y
       closed {a} {b} {x} {y} h e f = omega (arith, ints, h, e, f)
 
-pub held_matrix_law : (c : Curved) (h : Held) (s : ℕ) → IsHeld c h → ((d : ℕ → ℤ) → pos 0 ≤ℤ form c.entries (exponent_matrix c h s) d) → BoundsRows c s
+pub held_matrix_law : (c : Curved) (h : HeldMatrices) (s : ℕ) → IsHeld c h → ((d : ℕ → ℤ) → pos 0 ≤ℤ form c.entries (exponent_matrix c h s) d) → BoundsRows c s
 held_matrix_law c h s k g = matrix_law c s (λ d. closed (pos k.exact_scale) (pos k.held_scale) (form c.entries (exponent_matrix c h s) d) (form c.entries (exact_matrix c s) d)
     (omega (arith, ints)) (let o = k.some in omega (arith, ints, o)) (held_form c h k s d) (g d))
   where
