@@ -1,9 +1,8 @@
 -- What holds of the matrix and the columns as code has them, holds of the condensed form's.
 use Rattle.std.specs.Prelude.{Result, Ok, Err, OnOk, IfOk, IfErr, is_ok, Bool, true, false}
 use Rattle.std.proofs.lemmas.Bool.{cases_lt}
-use Rattle.std.proofs.Common.{inl, inr, ◌≡◌, ◌⊎◌, ℕ, ◌+◌, ◌<◌, ◌≤◌, ◌^◌, ℤ, pos, ◌-ℤ◌, ◌*ℤ◌, ◌≤ℤ◌, List, length, unsigned_abs, arith, ap, sym, ◌∙◌, refl}
-use Rattle.integer_algebra.specs.Sums.{total, dot, image, at}
-use Rattle.integer_algebra.specs.Sizes.{size}
+use Rattle.std.proofs.Common.{inl, inr, ◌≡◌, ◌⊎◌, ℕ, ◌<◌, ◌≤◌, ◌^◌, ℤ, pos, ◌*ℤ◌, ◌≤ℤ◌, List, arith, ap, sym, ◌∙◌, refl}
+use Rattle.integer_algebra.specs.Sums.{image, at}
 use Rattle.integer_algebra.proofs.SumLaws.{total_same}
 use Rattle.integer_algebra.proofs.SizeLaws.{size_same}
 use Rattle.mat_int.specs.Matrix.{Matrix, entry_of}

@@ -1,6 +1,6 @@
 -- A matrix in which an entry is written.
-use Rattle.std.proofs.Common.{◌≡◌, ◌≢◌, inl, inr, ℕ, ◌+◌, ◌<◌, ℤ, pos, [], List, length, get_or, arith, ap, sym, ◌∙◌, refl, get_or-set_other, get_or-set_same, slice_set}
-use Rattle.std.proofs.lemmas.Bool.{cases_lt, cases_eq}
+use Rattle.std.proofs.Common.{◌≡◌, ◌≢◌, inl, inr, ℕ, ◌<◌, ℤ, pos, [], List, length, arith, ap, ◌∙◌, get_or-set_other, get_or-set_same, slice_set}
+use Rattle.std.proofs.lemmas.Bool.{cases_eq}
 use Rattle.std.proofs.lemmas.List.{length-set}
 use Rattle.std.proofs.lemmas.List.Elements.{All-set}
 use Rattle.integer_algebra.specs.Sums.{at}

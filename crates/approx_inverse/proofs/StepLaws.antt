@@ -1,5 +1,5 @@
 -- A move of one entry, on the words of a region.
-use Rattle.std.proofs.Common.{rules, ◌≡◌, ℕ, ◌+◌, ◌<◌, ◌≤◌, ◌^◌, ℤ, pos, ◌-ℤ◌, ◌*ℤ◌, ◌≤ℤ◌, ◌<ℤ◌, List, length, set, unsigned_abs, FitsSigned, arith, ◌∙◌}
+use Rattle.std.proofs.Common.{◌≡◌, ℕ, ◌+◌, ◌<◌, ℤ, pos, ◌-ℤ◌, ◌*ℤ◌, ◌<ℤ◌, List, length, set, FitsSigned, arith, ◌∙◌}
 use Rattle.std.specs.Int.{w128}
 use Rattle.integer_algebra.specs.Sums.{at}
 use Rattle.integer_algebra.specs.Bounds.{absolute}
@@ -8,7 +8,7 @@ use Rattle.word_region.specs.Words.{RegionWords}
 use Rattle.word_region.specs.declared.Span.{Span}
 use Rattle.approx_inverse.specs.Descent.{IsDescent, IsNearestQuotient, IsTask, aim, value}
 use Rattle.approx_inverse.specs.Spans.{ArePlaced, AreKept, IsSpanWritten, cells}
-use Rattle.approx_inverse.proofs.MoveLaws.{diagonal_positive, entry_fits, product_fits, rest_fits, arrives}
+use Rattle.approx_inverse.proofs.MoveLaws.{entry_fits, product_fits, rest_fits, arrives}
 use Rattle.approx_inverse.proofs.WordLaws.{moved, rest_stays}
 
 -- what a move leaves

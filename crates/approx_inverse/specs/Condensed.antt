@@ -1,5 +1,5 @@
 -- What solving asks of the numbers of a condensed form, and the matrix that it makes of them.
-use Rattle.std.specs.Prelude.{◌≡◌, ℕ, ◌^◌, ◌<◌, ℤ, pos, ◌≤ℤ◌, length}
+use Rattle.std.specs.Prelude.{◌≡◌, ℕ, ◌^◌, ◌<◌, pos, ◌≤ℤ◌, length}
 use Rattle.mat_int.specs.Matrix.{Matrix, entry_of}
 use Rattle.qp_model.specs.Form.{Form}
 use Rattle.qp_model.specs.Columns.{solve_matrix}

@@ -1,5 +1,5 @@
 -- The descent: single entries move, the value falls, and the residual follows.
-use Rattle.std.specs.Prelude.{◌≡◌, ℕ, ◌+◌, ◌*◌, ◌^◌, ◌<◌, ◌≤◌, ℤ, pos, ◌+ℤ◌, ◌-ℤ◌, ◌*ℤ◌, ◌≤ℤ◌, List, length, unsigned_abs}
+use Rattle.std.specs.Prelude.{◌≡◌, ℕ, ◌^◌, ◌<◌, ◌≤◌, ℤ, pos, ◌+ℤ◌, ◌-ℤ◌, ◌*ℤ◌, ◌≤ℤ◌, List, length, unsigned_abs}
 use Rattle.integer_algebra.specs.Sums.{dot, image, at}
 use Rattle.integer_algebra.specs.Bounds.{absolute}
 use Rattle.mat_int.specs.Matrix.{Matrix, entry_of}

@@ -1,5 +1,5 @@
 -- The sizes of a rough root.
-use Rattle.std.specs.Prelude.{◌≡◌, ℕ, length, vec_len}
+use Rattle.std.specs.Prelude.{◌≡◌, ℕ, length}
 use Rattle.approx_inverse.specs.declared.guess.Root.{Root}
 
 -- it has n rows, of n entries

@@ -1,5 +1,5 @@
 -- A condensed form, as it is held, has the numbers of its design's form.
-use Rattle.std.proofs.Common.{◌≡◌, ℕ, ◌*◌, ◌^◌, ◌<◌, ◌≤◌, min, ℤ, pos, ◌≤ℤ◌, unsigned_abs, arith, ap, sym, ◌∙◌, refl}
+use Rattle.std.proofs.Common.{◌≡◌, ℕ, ◌*◌, ◌^◌, ◌<◌, ◌≤◌, min, ℤ, pos, ◌≤ℤ◌, unsigned_abs, arith, ap, sym, ◌∙◌}
 use Rattle.std.proofs.lemmas.Int.{ints}
 use Rattle.integer_algebra.specs.Sums.{at}
 use Rattle.integer_algebra.proofs.PowerLaws.{pow-two}

@@ -1,4 +1,4 @@
-use Rattle.std.proofs.Common.{◌≡◌, ◌≢◌, ℕ, ◌+◌, ◌<◌, length, arith, refl, ap, sym, below_more, ◌∙◌}
+use Rattle.std.proofs.Common.{◌≡◌, ℕ, ◌<◌, length, arith, ap, sym, below_more, ◌∙◌}
 use Rattle.integer_algebra.specs.Sums.{at}
 use Rattle.plant_condense.specs.Form.{held}
 use Rattle.approx_inverse.specs.Spans.{cells}

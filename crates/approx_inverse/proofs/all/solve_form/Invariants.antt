@@ -1,4 +1,4 @@
-use Rattle.std.proofs.Common.{◌≡◌, ℕ, ◌<◌}
+use Rattle.std.proofs.Common.{ℕ, ◌<◌}
 use Rattle.plant_condense.specs.Form.{held}
 use Rattle.approx_inverse.specs.Workspace.{IsWorkspace}
 use Rattle.approx_inverse.specs.Inverse.{HasGainSizes, IsSolution, solution_of}

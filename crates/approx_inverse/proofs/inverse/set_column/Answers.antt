@@ -1,8 +1,7 @@
-use Rattle.std.proofs.Common.{rules, ◌≡◌, ◌<◌, FitsSigned, length, arith, ap, below_more, ◌∙◌}
+use Rattle.std.proofs.Common.{rules, FitsSigned, length, arith, below_more, ◌∙◌}
 use Rattle.std.specs.Int.{w128}
 use Rattle.std.proofs.lemmas.Int.{to_z-of_z}
 use Rattle.integer_algebra.specs.Sums.{at}
-use Rattle.mat_int.specs.Matrix.{Matrix, entry_of}
 use Rattle.approx_inverse.proofs.MatrixLaws.{entry_here, entry_beside, entry_elsewhere, shape_kept}
 use Rattle.approx_inverse.proofs.inverse.set_column.Goals as goal
 

@@ -1,4 +1,4 @@
-use Rattle.std.proofs.Common.{length, ◌≡◌, ◌∙◌, arith, ap}
+use Rattle.std.proofs.Common.{length, ◌∙◌, arith, ap}
 use Rattle.integer_algebra.specs.Sums.{at}
 use Rattle.mat_int.specs.Matrix.{entry_of}
 use Rattle.approx_inverse.specs.Descent.{aim}

@@ -1,9 +1,9 @@
-use Rattle.std.proofs.Common.{rules, ◌≡◌, ◌*◌, ◌^◌, ◌*ℤ◌, ◌+ℤ◌, ◌-ℤ◌, ◌≤ℤ◌, FitsSigned, pos, refl, to_z}
+use Rattle.std.proofs.Common.{rules, ◌≡◌, ◌^◌, ◌*ℤ◌, ◌+ℤ◌, ◌-ℤ◌, FitsSigned, pos, refl, to_z}
 use Rattle.std.specs.Int.{w128}
 use Rattle.std.proofs.lemmas.Int.{to_z-of_z}
 use Rattle.integer_algebra.specs.Sums.{at}
 use Rattle.approx_inverse.specs.Descent.{aim}
-use Rattle.approx_inverse.proofs.StartLaws.{sum_more, low_from}
+use Rattle.approx_inverse.proofs.StartLaws.{sum_more}
 use Rattle.approx_inverse.proofs.start.is_low_at.Goals as goal
 
 pub loop-i-preserved : goal.loop-i-preserved

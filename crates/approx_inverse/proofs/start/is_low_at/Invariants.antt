@@ -1,4 +1,4 @@
-use Rattle.std.proofs.Common.{◌*◌, ◌^◌, pos, ◌-ℤ◌, ◌*ℤ◌, ◌≤ℤ◌}
+use Rattle.std.proofs.Common.{◌^◌, pos, ◌-ℤ◌, ◌*ℤ◌, ◌≤ℤ◌}
 use Rattle.integer_algebra.specs.Sums.{at, total}
 use Rattle.approx_inverse.specs.Descent.{aim}
 use Rattle.approx_inverse.proofs.start.is_low_at.Given as goal

@@ -1,4 +1,4 @@
-use Rattle.std.proofs.Common.{rules, ◌≡◌, ◌<◌, ◌≢◌, FitsSigned, length, pos, arith, get_or-set_same, get_or-set_other, below_more, ◌∙◌}
+use Rattle.std.proofs.Common.{rules, ◌≡◌, FitsSigned, length, pos, arith, get_or-set_same, get_or-set_other, below_more, ◌∙◌}
 use Rattle.std.specs.Int.{w128}
 use Rattle.std.proofs.lemmas.Int.{to_z-of_z}
 use Rattle.integer_algebra.specs.Sums.{at}

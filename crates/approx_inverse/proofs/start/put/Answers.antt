@@ -1,4 +1,3 @@
-use Rattle.std.proofs.Common.{ap, length, ◌∙◌}
 use Rattle.approx_inverse.proofs.WordLaws.{lent}
 use Rattle.approx_inverse.proofs.start.put.Goals as goal
 

@@ -1,4 +1,4 @@
-use Rattle.std.proofs.Common.{rules, ◌≡◌, ◌<◌, ◌+◌, FitsSigned, length, arith, refl, ap, ◌∙◌}
+use Rattle.std.proofs.Common.{rules, ◌+◌, FitsSigned, length, arith, refl, ap, ◌∙◌}
 use Rattle.std.specs.Int.{w128}
 use Rattle.std.proofs.lemmas.Int.{to_z-of_z}
 use Rattle.std.proofs.lemmas.List.{length_push}

@@ -1,4 +1,4 @@
-use Rattle.std.proofs.Common.{ℤ, ◌*ℤ◌, length, refl, ap, sym, ◌∙◌}
+use Rattle.std.proofs.Common.{ℤ, ◌*ℤ◌, length, refl, ap, ◌∙◌}
 use Rattle.std.specs.Int.{w128}
 use Rattle.std.proofs.lemmas.Int.{to_z-of_z}
 use Rattle.integer_algebra.specs.Sums.{at}

@@ -1,7 +1,6 @@
-use Rattle.std.proofs.Common.{rules, ◌≡◌, ℕ, ◌<◌, ◌≤◌, ◌^◌, FitsSigned, length, refl, ap, sym, ◌∙◌}
+use Rattle.std.proofs.Common.{rules, ◌≡◌, FitsSigned, length, refl, ap, sym, ◌∙◌}
 use Rattle.std.specs.Int.{w128}
 use Rattle.std.proofs.lemmas.Int.{to_z-of_z}
-use Rattle.integer_algebra.specs.Sums.{at}
 use Rattle.plant_condense.specs.Form.{held}
 use Rattle.approx_inverse.specs.Spans.{cells}
 use Rattle.approx_inverse.proofs.WordLaws.{filled}
