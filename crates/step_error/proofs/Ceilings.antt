@@ -1,5 +1,5 @@
 -- Quotients rounded up, and how they move with what they divide and by what.
-use Rattle.std.proofs.Common.{◌≡◌, ℕ, ◌<◌, ◌≤◌, arith, sym, ◌∙◌}
+use Rattle.std.proofs.Common.{◌≡◌, ℕ, zero, suc, ◌<◌, ◌≤◌, arith, sym, ◌∙◌}
 use Rattle.std.specs.Int.{div_ceil}
 use Rattle.std.proofs.lemmas.Grind.{div_ceil_times}
 use Rattle.std.proofs.Math.Nat.{mul-le-mul_right, div-eq_of_lt-le}
@@ -21,6 +21,11 @@ ceil_small a b h = ceil_div-le a b a h (omega (arith, mul-le-mul_right a h))
 
 pub ceil_mono : (a b d : ℕ) → 0 < d → a ≤ b → ceil_div a d ≤ ceil_div b d
 ceil_mono a b d p h = ceil_div-le a d (ceil_div b d) p (omega (arith, h, le-mul-ceil_div b d p))
+
+-- by 0 too, which gives 0
+pub ceil_rises : (a b d : ℕ) → a ≤ b → ceil_div a d ≤ ceil_div b d
+ceil_rises a b zero h = omega arith
+ceil_rises a b (suc d) h = ceil_mono a b (suc d) (omega arith) h
 
 pub ceil_anti : (a b d : ℕ) → 0 < b → b ≤ d → ceil_div a d ≤ ceil_div a b
 ceil_anti a b d p h = ceil_div-le a d (ceil_div a b) (omega (arith, p, h)) (omega (arith, le-mul-ceil_div a b p, mul-le-mul_right (ceil_div a b) h))

@@ -1,5 +1,5 @@
 -- The sums of a condensed form's numbers are those of the design that it is the form of.
-use Rattle.std.proofs.Common.{◌≡◌, ℕ, zero, suc, ◌+◌, ◌*◌, ◌^◌, ◌<◌, ◌≤◌, ℤ, pos, ◌≤ℤ◌, unsigned_abs, length, arith, ap, sym, ◌∙◌}
+use Rattle.std.proofs.Common.{◌≡◌, ℕ, zero, suc, ◌+◌, ◌*◌, ◌^◌, ◌<◌, ◌≤◌, ℤ, pos, ◌≤ℤ◌, unsigned_abs, length, arith, ap, sym, ◌∙◌, refl}
 use Rattle.std.proofs.lemmas.Int.{ints}
 use Rattle.std.proofs.Math.Nat.{mul-le-mul, mul-le-mul_left, mul-le-mul_right, one-le-mul}
 use Rattle.integer_algebra.specs.Sums.{at}
@@ -12,17 +12,18 @@ use Rattle.qp_model.specs.declared.design_parts.DesignParts.{DesignParts}
 use Rattle.qp_model.specs.Design.{Design, entries, rows}
 use Rattle.qp_model.specs.Parts.{IsDesign, design_of}
 use Rattle.qp_model.specs.Condensing.{condensed_of}
-use Rattle.qp_model.specs.Quantities.{input_floor, cost_entry_size, limit_entry_size}
-use Rattle.qp_model.specs.Form.{hessian_scale, rows_scale}
-use Rattle.qp_model.specs.Errors.{pull, combined_bound, trace_sum, gradient_squares, error_size, state_bound, linear_sum, constant_sum, plan_row_sum}
+use Rattle.qp_model.specs.Quantities.{greatest, input_floor, cost_entry_size, limit_entry_size}
+use Rattle.qp_model.specs.Form.{Form, form_of, farthest, hessian_scale, rows_scale}
+use Rattle.qp_model.specs.Errors as errors
+use Rattle.qp_model.specs.Errors.{pull, combined_bound, trace_sum, gradient_squares, gradient_error, error_sums_of, error_size, state_bound, linear_sum, constant_sum, plan_row_sum}
 use Rattle.qp_model.proofs.RowLaws.{plan_number}
-use Rattle.qp_model.proofs.SizeFacts.{some_entry, positive}
+use Rattle.qp_model.proofs.SizeFacts.{some_entry, some_row, positive}
 use Rattle.plant_condense.specs.Form.{IsFormOf, IsLeastInput}
 use Rattle.plant_condense.specs.declared.condensed.Condensed.{Condensed}
-use Rattle.std.proofs.Common.{Option}
-use Rattle.std.specs.Option.{SomeIff}
-use Rattle.step_error.specs.declared.sums.ErrorSums.{ErrorSums}
-use Rattle.step_error.specs.ErrorSums.{entry_squares, sums_by, size_by, whole_sums}
+use Rattle.step_error.specs.declared.sums.Radii.{Radii}
+use Rattle.step_error.specs.declared.sums.Whole.{Whole}
+use Rattle.step_error.specs.ErrorSums.{entry_squares, sums_by, size_by, spread_of, AreRadii, HaveRoom, HasRoom}
+use Rattle.step_error.proofs.SumFacts.{few, floor_range, through, doubled}
 use Rattle.qp_model.proofs.SoundLaws.{least-le, least-met, weight_at}
 
 -- ---- sums of numbers that are each within a bound
@@ -30,10 +31,22 @@ amount_within : (n : ℕ) (f : ℕ → ℕ) (b : ℕ) → ((i : ℕ) → i < n �
 amount_within zero f b h = omega arith
 amount_within (suc n) f b h = omega (arith, amount_within n f b (λ i l. h i (omega arith)), h n (omega arith))
 
-through : {a b t : ℕ} → a ≤ b → b ≤ t → a ≤ t
-through {a} {b} {t} h k = omega (arith, h, k)
-
 -- a part of the quantity `hessian`
+plus_none : (n : ℕ) → n ≡ n + 0
+plus_none n = omega arith
+
+-- ---- sums of exact numbers, and of no radii
+exact_size : (n : ℕ) (f : ℕ → ℤ) → size n f ≡ amount n (λ i. farthest (f i) 0)
+exact_size n f = amount_same n _ _ (λ i l. plus_none (unsigned_abs (f i)))
+
+amount_none : (n : ℕ) (f : ℕ → ℕ) → ((i : ℕ) → i < n → f i ≡ 0) → amount n f ≡ 0
+amount_none zero f h = refl
+amount_none (suc n) f h = omega (arith, amount_none n f (λ i l. h i (omega arith)), h n (omega arith))
+
+greatest_none : (n : ℕ) (f : ℕ → ℕ) → ((i : ℕ) → i < n → f i ≡ 0) → greatest n f ≡ 0
+greatest_none zero f h = refl
+greatest_none (suc n) f h = omega (arith, greatest_none n f (λ i l. h i (omega arith)), h n (omega arith))
+
 in_hessian : (e n k c : ℕ) → k ≤ e + n + 1 → e * (e + n + 1) * c ≤ 2 ^ 126 → e * (k * c) ≤ 2 ^ 126
 in_hessian e n k c h o = turned (mul-le-mul_left e (mul-le-mul_right c h)) o
   where
@@ -62,8 +75,10 @@ all_more e n = omega arith
 
 module _ (p : DesignParts) (c : Condensed) (is : IsFormOf p c) where
   -- ---- the cost's numbers
-  pub linear_is : amount (length c.lin.rows) (λ i. size c.lin.cols (entry_of c.lin i)) ≡ amount (entries (design_of p)) (λ j. size p.states ((condensed_of (design_of p)).linear j))
-  linear_is = rw (is.shapes.lin.rows, is.shapes.lin.cols) (amount_same (entries (design_of p)) _ _ (λ j l. size_same p.states _ _ (λ i m. is.numbers.linear j i l m)))
+  pub linear_is : amount (length c.lin.rows) (λ i. size c.lin.cols (entry_of c.lin i)) ≡
+      amount (entries (design_of p)) (λ j. amount p.states (λ i. farthest ((condensed_of (design_of p)).linear j i) 0))
+  linear_is = rw (is.shapes.lin.rows, is.shapes.lin.cols) (amount_same (entries (design_of p)) _ _ (λ j l. size_same p.states _ _ (λ i m. is.numbers.linear j i l m) ∙
+      exact_size p.states ((condensed_of (design_of p)).linear j)))
 
   pub linear_small : amount (length c.lin.rows) (λ i. size c.lin.cols (entry_of c.lin i)) ≤ 2 ^ 126
   linear_small = rw (is.shapes.lin.rows, is.shapes.lin.cols) (through
@@ -71,8 +86,8 @@ module _ (p : DesignParts) (c : Condensed) (is : IsFormOf p c) where
       (λ j l. amount_within p.states (λ i. unsigned_abs (entry_of c.lin j i)) (cost_entry_size (design_of p)) (λ i m. is.sizes.lin j i l m)))
       (in_hessian (entries (design_of p)) p.states p.states (cost_entry_size (design_of p)) (no_fewer (entries (design_of p)) p.states) is.sizes.cost_room))
 
-  pub constant_is : size (length c.off.items) (at c.off.items) ≡ size (entries (design_of p)) (condensed_of (design_of p)).constant
-  constant_is = rw is.shapes.off (size_same (entries (design_of p)) _ _ (λ j l. is.numbers.constant j l))
+  pub constant_is : size (length c.off.items) (at c.off.items) ≡ amount (entries (design_of p)) (λ j. farthest ((condensed_of (design_of p)).constant j) 0)
+  constant_is = rw is.shapes.off (size_same (entries (design_of p)) _ _ (λ j l. is.numbers.constant j l) ∙ exact_size (entries (design_of p)) (condensed_of (design_of p)).constant)
 
   pub constant_small : size (length c.off.items) (at c.off.items) ≤ 2 ^ 126
   constant_small = rw is.shapes.off (through
@@ -82,8 +97,9 @@ module _ (p : DesignParts) (c : Condensed) (is : IsFormOf p c) where
       single : {a b : ℕ} → a ≤ b → a ≤ 1 * b
       single {a} {b} h = omega (arith, h)
 
-  pub diagonal_is : size (length c.hess.rows) (λ j. entry_of c.hess j j) ≡ amount (entries (design_of p)) (λ j. unsigned_abs ((condensed_of (design_of p)).hessian j j))
-  diagonal_is = rw is.shapes.hess.rows (size_same (entries (design_of p)) _ _ (λ j l. is.numbers.hessian j j l l))
+  pub diagonal_is : size (length c.hess.rows) (λ j. entry_of c.hess j j) ≡ amount (entries (design_of p)) (λ j. farthest ((condensed_of (design_of p)).hessian j j) 0)
+  diagonal_is = rw is.shapes.hess.rows (size_same (entries (design_of p)) _ _ (λ j l. is.numbers.hessian j j l l) ∙
+      exact_size (entries (design_of p)) (λ j. (condensed_of (design_of p)).hessian j j))
 
   pub diagonal_small : size (length c.hess.rows) (λ j. entry_of c.hess j j) ≤ 2 ^ 126
   diagonal_small = rw is.shapes.hess.rows (through
@@ -107,9 +123,10 @@ module _ (p : DesignParts) (c : Condensed) (is : IsFormOf p c) where
   square = is.shapes.hess.cols ∙ sym is.shapes.hess.rows
 
   -- ---- the limits' numbers
-  pub rows_is : amount (length c.g.rows) (λ i. size c.g.cols (entry_of c.g i)) ≡ amount (rows (design_of p)) (λ i. size (entries (design_of p)) ((condensed_of (design_of p)).by_plan i))
+  pub rows_is : amount (length c.g.rows) (λ i. size c.g.cols (entry_of c.g i)) ≡
+      amount (rows (design_of p)) (λ i. amount (entries (design_of p)) (λ j. farthest ((condensed_of (design_of p)).by_plan i j) 0))
   rows_is = rw (is.shapes.g.rows, is.shapes.g.cols) (amount_same (rows (design_of p)) _ _ (λ i l. size_same (entries (design_of p)) _ _
-      (λ j m. is.numbers.limits.plan i j l m ∙ sym (plan_number (design_of p) i j is.design.inputs.0))))
+      (λ j m. is.numbers.limits.plan i j l m ∙ sym (plan_number (design_of p) i j is.design.inputs.0)) ∙ exact_size (entries (design_of p)) ((condensed_of (design_of p)).by_plan i)))
 
   pub rows_small : amount (length c.g.rows) (λ i. size c.g.cols (entry_of c.g i)) ≤ 2 ^ 126
   rows_small = rw (is.shapes.g.rows, is.shapes.g.cols) (through
@@ -162,58 +179,40 @@ module _ (p : DesignParts) (c : Condensed) (is : IsFormOf p c) where
           turn n s r m = omega arith
 
   pub squares_is : (r scale reach : ℕ) → scale ≡ hessian_scale (design_of p) → reach ≡ combined_bound (design_of p) r →
-      entry_squares (length c.hess.rows) (entry_of c.hess) scale reach ≡ gradient_squares (design_of p) r
+      entry_squares (length c.hess.rows) (entry_of c.hess) scale reach ≡ gradient_squares (design_of p) (gradient_error (design_of p) (form_of (design_of p)) r)
   squares_is r scale reach e g = rw (is.shapes.hess.rows, e, g) (amount_same (entries (design_of p)) _ _ (λ j l. ap (λ (n : ℕ). n ^ 2)
-      (λ i. ceil_div (unsigned_abs (is.numbers.hessian j j l l i)) (2 * hessian_scale (design_of p)) * combined_bound (design_of p) r +
-      ceil_div (size_same (entries (design_of p)) (entry_of c.hess j) ((condensed_of (design_of p)).hessian j) (λ k m. is.numbers.hessian j k l m) i) (hessian_scale (design_of p)))))
-
--- what a design has few of
-pub record IsFew (d : Design) : Type 0 where
-  pub entries : entries d ≤ 60
-  pub rows : rows d ≤ 252
-  pub states : d.states ≤ 4
-  pub weight : d.cost_denominator ≤ 2 ^ 20
-
-pub few : (p : DesignParts) → IsDesign p → IsFew (design_of p)
-few p h = record {
-  entries = mul-le-mul h.stages.1 h.inputs.1;
-  rows = added _ _ _ (mul-le-mul h.stages.1 h.stage_rows.rows.1) h.final_rows.rows.1;
-  states = h.states.1;
-  weight = size p.cost_den h.cost_den.low h.cost_den.high;
-}
-  where
-    added : (a b k : ℕ) → a ≤ k → b ≤ 12 → a + b ≤ k + 12
-    added a b k h o = omega (arith, h, o)
-
-    size : (z : ℤ) → pos 1 ≤ℤ z → z ≤ℤ pos (2 ^ 20) → unsigned_abs z ≤ 2 ^ 20
-    size z h k = omega (arith, ints)
+      (λ i. ceil_div ((ap unsigned_abs (is.numbers.hessian j j l l) ∙ plus_none _) i) (2 * hessian_scale (design_of p)) * combined_bound (design_of p) r +
+      ceil_div ((size_same (entries (design_of p)) (entry_of c.hess j) ((condensed_of (design_of p)).hessian j) (λ k m. is.numbers.hessian j k l m) ∙
+      exact_size (entries (design_of p)) ((condensed_of (design_of p)).hessian j)) i) (hessian_scale (design_of p)))))
 
 -- what the quantity `error` holds
-pub record AreWithin (d : Design) (r : ℕ) : Type 0 where
-  pub squares : gradient_squares d r ≤ 2 ^ 126
-  pub weighed : d.cost_denominator * gradient_squares d r ≤ 2 ^ 126
-  pub pulling : state_bound d * linear_sum d + constant_sum d + 2 * r * plan_row_sum d ≤ 2 ^ 126
-  pub pulled : pull d r ≤ 2 ^ 126
-  pub tail : d.cost_denominator * combined_bound d r * trace_sum d ≤ 2 ^ 126
+pub record AreWithin (d : Design) (h : Form) (r : ℕ) : Type 0 where
+  pub squares : gradient_squares d (gradient_error d h r) ≤ 2 ^ 126
+  pub weighed : d.cost_denominator * gradient_squares d (gradient_error d h r) ≤ 2 ^ 126
+  pub pulling : state_bound d * linear_sum h + constant_sum h + 2 * r * plan_row_sum h ≤ 2 ^ 126
+  pub pulled : pull d h r ≤ 2 ^ 126
+  pub tail : d.cost_denominator * combined_bound d r * trace_sum h ≤ 2 ^ 126
 
-pub within : (p : DesignParts) (r : ℕ) → IsDesign p → error_size (design_of p) r ≤ 2 ^ 126 → AreWithin (design_of p) r
-within p r h room =
-    let d = design_of p in
-    let some = positive p.cost_den h.cost_den.low in
-    let parts = apart (pull d r) (d.cost_denominator * combined_bound d r * trace_sum d) (d.cost_denominator * gradient_squares d r) _ room in
+pub within : (d : Design) (h : Form) (r : ℕ) → 1 ≤ d.cost_denominator → 1 ≤ h.spread → error_size d h r ≤ 2 ^ 126 → AreWithin d h r
+within d h r some spread room =
+    let parts = apart (pull d h r) (d.cost_denominator * combined_bound d r * trace_sum h) (d.cost_denominator * gradient_squares d (gradient_error d h r)) _
+    (factor (pow_positive h.spread 2 spread) (first_of _ _ _ _ _ _ _ room)) in
     record {
-      squares = factor _ _ some parts.2;
+      squares = factor some parts.2;
       weighed = parts.2;
-      pulling = factor _ _ some parts.0;
+      pulling = factor some parts.0;
       pulled = parts.0;
       tail = parts.1;
     }
   where
+    first_of : (x a b c e f g : ℕ) → x + a + b + c + e + f + g ≤ 2 ^ 126 → x ≤ 2 ^ 126
+    first_of x a b c e f g h = omega (arith, h)
+
     apart : (a b k e : ℕ) → a + b + k + e ≤ 2 ^ 126 → (a ≤ 2 ^ 126) × (b ≤ 2 ^ 126) × (k ≤ 2 ^ 126)
     apart a b k e h = (omega (arith, h), omega (arith, h), omega (arith, h))
 
-    factor : (a b : ℕ) → 1 ≤ a → a * b ≤ 2 ^ 126 → b ≤ 2 ^ 126
-    factor a b h k = omega (arith, k, mul-le-mul_right b h)
+    factor : {a b : ℕ} → 1 ≤ a → a * b ≤ 2 ^ 126 → b ≤ 2 ^ 126
+    factor {a} {b} h k = omega (arith, k, mul-le-mul_right b h)
 
 -- ---- small products
 pub reach_small : (w n s r k : ℕ) → w ≤ 2 ^ 20 → n ≤ 4 → s ≤ 2 ^ 31 → r ≤ 2 ^ 44 → k ≤ 252 → w * (n * s + 1 + 2 * r * k) ≤ 2 ^ 80
@@ -228,13 +227,93 @@ reach_small w n s r k a b c d e = closed (mul-le-mul a (added (mul-le-mul b c) (
 pub top_small : (r k : ℕ) → r ≤ 2 ^ 44 → k ≤ 252 → 2 * r * k ≤ 2 ^ 60
 top_small r k h o = let b = mul-le-mul (mul-le-mul_left 2 h) o in omega (arith, b)
 
-pub top_one : (r k : ℕ) → 1 ≤ r → 1 ≤ k → 1 ≤ 2 * r * k
-top_one r k h o = one-le-mul (twice r h) o
-  where
-    twice : (r : ℕ) → 1 ≤ r → 1 ≤ 2 * r
-    twice r h = omega (arith, h)
+-- ---- the sums of exact numbers
+pub no_radii : (p : DesignParts) (r : Radii) → r.h_rad ≡ 0 → r.f_rad ≡ 0 → r.o_rad ≡ 0 → r.g_col ≡ 0 → r.g_sum ≡ 0 → r.e_sum ≡ 0 →
+    r.cost_scale ≡ (design_of p).cost_denominator * (design_of p).row_denominator ^ 2 → r.row_scale ≡ (design_of p).limit_denominator → spread_of r.fine ≡ 1 →
+    AreRadii (design_of p) (form_of (design_of p)) r
+no_radii p r a b c e f g cost row fine =
+    let n = entries (design_of p) in
+    let m = rows (design_of p) in
+    record {
+      hessian = a ∙ sym (greatest_none n _ (λ i l. amount_none n _ (λ j o. refl)));
+      linear = b ∙ sym (greatest_none n _ (λ i l. amount_none p.states _ (λ j o. refl)));
+      constant = c ∙ sym (greatest_none n _ (λ i l. refl));
+      column = e ∙ sym (greatest_none n _ (λ i l. amount_none m _ (λ j o. refl)));
+      plan = f ∙ sym (amount_none m _ (λ i l. amount_none n _ (λ j o. refl)));
+      state = g ∙ sym (amount_none m _ (λ i l. amount_none p.states _ (λ j o. refl)));
+      cost_scale = cost;
+      row_scale = row;
+      spread = fine;
+    }
 
-pub moved : (o : Option ErrorSums) (s p t y n b r u q v z m e w : ℕ) → s ≡ u → p ≡ q → t ≡ v → y ≡ z → n ≡ m → b ≡ e → r ≡ w →
-    SomeIff o (size_by s p (sums_by s p t y n b r) ≤ 2 ^ 126) (whole_sums (sums_by s p t y n b r)) →
-    SomeIff o (size_by u q (sums_by u q v z m e w) ≤ 2 ^ 126) (whole_sums (sums_by u q v z m e w))
-moved o s p t y n b r u q v z m e w a d f g h i j given = rw (← a, ← d, ← f, ← g, ← h, ← i, ← j) given
+-- the numbers that the code gathers are those of a form
+pub record AreOf (w : Whole) (d : Design) (h : Form) (r : ℕ) : Type 0 where
+  pub squares : w.squares ≡ d.cost_denominator * gradient_squares d (gradient_error d h r)
+  pub pull : w.pull ≡ pull d h r
+  pub sums : sums_by w ≡ error_sums_of d h r
+
+pub sums_are : (w : Whole) (d : Design) (h : Form) (r : ℕ) → w.squares ≡ d.cost_denominator * gradient_squares d (gradient_error d h r) → w.pull ≡ pull d h r →
+    w.tail ≡ d.cost_denominator * combined_bound d r * trace_sum h → w.y_rows ≡ 2 * r * rows d → w.nu ≡ entries d → w.n_box ≡ d.states * state_bound d →
+    w.rho ≡ input_floor d → w.x_box ≡ state_bound d → w.y_top ≡ 2 * r → w.weight_den ≡ d.cost_denominator → AreRadii d h w.radii → AreOf w d h r
+sums_are w d h r squares pull tail top entries box rho state most weight radii = record {
+  squares = squares;
+  pull = pull;
+  sums = λ i. record {
+    first = ceil_div (squares i) (2 * rho i);
+    lead = ceil_div (pull i) (2 * rho i);
+    tail = tail i;
+    top_rows = top i;
+    plan_entries = entries i;
+    box_states = box i;
+    rho = rho i;
+    state = state i;
+    top = most i;
+    hessian_radius = radii.hessian i;
+    linear_radius = radii.linear i;
+    constant_radius = radii.constant i;
+    column_radius = radii.column i;
+    plan_radius = radii.plan i;
+    state_radius = radii.state i;
+    cost_scale = radii.cost_scale i;
+    row_scale = radii.row_scale i;
+    weight_scale = weight i;
+    spread = radii.spread i;
+  };
+}
+
+-- they fit
+pub room_of : (w : Whole) (p : DesignParts) (h : Form) (r : ℕ) → IsDesign p → 1 ≤ r → r ≤ 2 ^ 44 → w.x_box ≤ 2 ^ 31 → w.squares ≤ 2 ^ 126 → w.pull ≤ 2 ^ 126 → w.tail ≤ 2 ^ 126 →
+    HaveRoom w.radii → AreOf w (design_of p) h r → HasRoom w
+room_of w p h r design some narrow near squares pull tail radii is =
+    let small = few p design in
+    let floor = floor_range p design in
+    let e = is.sums in
+    let state = ap (λ (s : errors.ErrorSums). s.state) e in
+    record {
+      squares = squares;
+      pull = pull;
+      tail = tail;
+      rows_some = rw (ap (λ (s : errors.ErrorSums). s.top_rows) e) (one-le-mul (doubled r some) (some_row p design));
+      rows = rw (ap (λ (s : errors.ErrorSums). s.top_rows) e) (top_small r _ narrow small.rows);
+      entries_some = rw (ap (λ (s : errors.ErrorSums). s.plan_entries) e) (some_entry p design);
+      entries = rw (ap (λ (s : errors.ErrorSums). s.plan_entries) e) (through small.entries (omega arith));
+      states = rw (ap (λ (s : errors.ErrorSums). s.box_states) e, ← state) (through (mul-le-mul small.states near) (omega arith));
+      rho_some = rw (ap (λ (s : errors.ErrorSums). s.rho) e) floor.0;
+      rho = rw (ap (λ (s : errors.ErrorSums). s.rho) e) floor.1;
+      state = through near (omega arith);
+      top_some = rw (ap (λ (s : errors.ErrorSums). s.top) e) (doubled r some);
+      top = rw (ap (λ (s : errors.ErrorSums). s.top) e) (twice narrow);
+      weight_some = rw (ap (λ (s : errors.ErrorSums). s.weight_scale) e) (positive p.cost_den design.cost_den.low);
+      weight = rw (ap (λ (s : errors.ErrorSums). s.weight_scale) e) (through small.weight (omega arith));
+      radii = radii;
+    }
+  where
+    twice : {r : ℕ} → r ≤ 2 ^ 44 → 2 * r ≤ 2 ^ 60
+    twice {r} h = omega (arith, h)
+
+-- the quantity by them
+pub size_of : (w : Whole) (d : Design) (h : Form) (r : ℕ) → AreOf w d h r → size_by w.squares w.pull (sums_by w) ≡ error_size d h r
+size_of w d h r is = (λ i. size_by (is.squares i) (is.pull i) (is.sums i)) ∙ turned _ _ _ _ _ _ _
+  where
+    turned : (x a b c e f g : ℕ) → x + (a + b + c + e + f + g) ≡ x + a + b + c + e + f + g
+    turned x a b c e f g = omega arith

@@ -1,25 +1,27 @@
 -- What the sums of a design are within.
-use Rattle.std.proofs.Common.{◌≡◌, ℕ, ◌+◌, ◌*◌, ◌%◌, ◌^◌, ◌<◌, ◌≤◌, ℤ, pos, ◌≤ℤ◌, ◌<ℤ◌, unsigned_abs, arith, ap, sym, ◌∙◌, refl}
+use Rattle.std.proofs.Common.{◌≡◌, inl, inr, ℕ, ◌+◌, ◌*◌, ◌%◌, ◌^◌, ◌<◌, ◌≤◌, ltb, ℤ, pos, ◌≤ℤ◌, ◌<ℤ◌, unsigned_abs, arith, ap, sym, ◌∙◌, refl}
 use Rattle.std.proofs.lemmas.Int.{ints, to_z-of_z}
 use Rattle.std.proofs.Common.{to_z, of_z}
-use Rattle.std.specs.Int.{w128, div_ceil}
+use Rattle.std.specs.Int.{w128}
+use Rattle.std.proofs.lemmas.Bool.{cases_lt}
 use mir.Val.{SFits}
 use Rattle.std.proofs.lemmas.Nat.{pow-add}
-use Rattle.std.proofs.Math.Nat.{mul-le-mul_left, mul-le-mul_right, one-le-mul}
+use Rattle.std.proofs.Math.Nat.{mul-le-mul, mul-le-mul_left, mul-le-mul_right, one-le-mul}
 use Rattle.integer_algebra.specs.Sums.{at}
-use Rattle.integer_algebra.specs.Division.{ceil_div}
-use Rattle.integer_algebra.proofs.PowerLaws.{four-pow}
+use Rattle.integer_algebra.proofs.PowerLaws.{four-pow, pow_positive}
 use Rattle.qp_model.specs.declared.design_parts.DesignParts.{DesignParts}
+use Rattle.qp_model.specs.Design.{Design, entries, rows}
 use Rattle.qp_model.specs.Parts.{IsDesign, design_of}
+use Rattle.qp_model.specs.Form.{Form, IsFormFor}
 use Rattle.qp_model.specs.Quantities.{input_floor}
 use Rattle.qp_model.specs.Errors as errors
-use Rattle.qp_model.specs.Errors.{residual_error, error_sums_of, error_size, pull, combined_bound, trace_sum, gradient_squares}
-use Rattle.qp_model.proofs.SizeFacts.{some_row}
+use Rattle.qp_model.specs.Errors.{plan_bound, residual_error, radius_error, row_radii, errors_cost, error_sums_of, error_size, pull, gradient_error, gradient_squares}
+use Rattle.qp_model.proofs.SizeFacts.{some_row, some_entry, positive}
 use Rattle.qp_model.proofs.SoundLaws.{least-met, weight_at}
 use Rattle.step_error.specs.declared.sums.ErrorSums.{ErrorSums}
-use Rattle.step_error.specs.ErrorSums.{AreSums, whole_sums, sums_of, sums_by, size_by}
-use Rattle.step_error.proofs.Ceilings.{ceil_small, ceil_anti, quotient_is}
-use Rattle.step_error.proofs.FallingLaws.{power_rises, residual_error_falls}
+use Rattle.step_error.specs.ErrorSums.{AreSums, whole_sums, sums_of, spread_of, rounding_cost, radius_cost, radius_size}
+use Rattle.step_error.proofs.Ceilings.{ceil_small}
+use Rattle.step_error.proofs.FallingLaws.{power_rises, squares_rise, plan_bound_falls, residual_error_rises, moved_rises, radius_error_rises, row_radii_rises, halves}
 
 -- ---- the least input weight
 pub floor_range : (p : DesignParts) → IsDesign p → (1 ≤ input_floor (design_of p)) × (input_floor (design_of p) ≤ 2 ^ 31)
@@ -31,76 +33,257 @@ floor_range p h =
     close : (z : ℤ) (t : ℕ) → t ≡ unsigned_abs z → pos 1 ≤ℤ z → z <ℤ pos (2 ^ 31) → (1 ≤ t) × (t ≤ 2 ^ 31)
     close z t e l k = (omega (arith, ints), omega (arith, ints))
 
+-- ---- what a design has few of
+pub record IsFew (d : Design) : Type 0 where
+  pub entries : entries d ≤ 60
+  pub rows : rows d ≤ 252
+  pub states : d.states ≤ 4
+  pub weight : d.cost_denominator ≤ 2 ^ 20
+  pub row : d.row_denominator ≤ 2 ^ 20
+
+pub few : (p : DesignParts) → IsDesign p → IsFew (design_of p)
+few p h = record {
+  entries = mul-le-mul h.stages.1 h.inputs.1;
+  rows = both _ _ _ (mul-le-mul h.stages.1 h.stage_rows.rows.1) h.final_rows.rows.1;
+  states = h.states.1;
+  weight = size p.cost_den h.cost_den.low h.cost_den.high;
+  row = size p.row_den h.row_den.low h.row_den.high;
+}
+  where
+    both : (a b k : ℕ) → a ≤ k → b ≤ 12 → a + b ≤ k + 12
+    both a b k h o = omega (arith, h, o)
+
+    size : (z : ℤ) → pos 1 ≤ℤ z → z ≤ℤ pos (2 ^ 20) → unsigned_abs z ≤ 2 ^ 20
+    size z h k = omega (arith, ints)
+
 -- ---- the sums
 pub record IsBounded (s : errors.ErrorSums) : Type 0 where
   pub some : 1 ≤ s.rho
   pub weight : s.rho ≤ 2 ^ 31
-  pub lead : s.lead ≤ 2 ^ 126
-  pub tail : s.tail ≤ 2 ^ 126
-  pub top : 1 ≤ s.top_rows
-  pub room : 2 ^ 40 * (s.first + s.top_rows * residual_error s 0) ≤ 2 ^ 126
+  pub entries : 1 ≤ s.plan_entries
+  pub scale : 1 ≤ s.weight_scale
+  pub weights : s.plan_entries * s.weight_scale ≤ 2 ^ 60
+  pub rows : 1 ≤ s.top_rows
+  pub top : 1 ≤ s.top
+  pub cost_scale : 1 ≤ s.cost_scale
+  pub row_scale : 1 ≤ s.row_scale
+  pub spread_some : 1 ≤ s.spread
+  pub spread_few : s.spread ≤ 2
+  pub room : s.spread * 2 ^ 40 * s.first + 2 ^ 40 * s.top_rows * residual_error s (plan_bound s 0) + radius_size s (plan_bound s 0) ≤ 2 ^ 126
 
-design_bounded : (p : DesignParts) (r : ℕ) → IsDesign p → 1 ≤ r → error_size (design_of p) r ≤ 2 ^ 126 → IsBounded (error_sums_of (design_of p) r)
-design_bounded p r h some room =
+pub through : {a b c : ℕ} → a ≤ b → b ≤ c → a ≤ c
+through {a} {b} {c} h k = omega (arith, h, k)
+
+pub doubled : (n : ℕ) → 1 ≤ n → 1 ≤ 2 * n
+doubled n h = omega (arith, h)
+
+pub few_spread : (d : Design) (h : Form) → IsFormFor d h → (1 ≤ h.spread) × (h.spread ≤ 2)
+few_spread d h f = elim f.class [
+  | inl c ↦ (omega (arith, c.1), omega (arith, c.1))
+  | inr c ↦ (omega (arith, c.1), omega (arith, c.1))
+]
+
+-- the part by rounding, with its factor and without
+less_spread : (k a f y : ℕ) → 1 ≤ k → k ≤ 2 → k * 2 ^ 40 * f + 2 ^ 40 * y ≤ k ^ 2 * (a + 2 ^ 40 * (f + y))
+less_spread k a f y h l = elim (cases_lt 1 k) [
+  | inl o ↦ (let e : k ≡ 2 = omega (arith, o, l) in rw e (omega arith))
+  | inr o ↦ (let e : k ≡ 1 = omega (arith, o, h) in rw e (omega arith))
+]
+
+design_bounded : (p : DesignParts) (h : Form) (r : ℕ) → IsDesign p → IsFormFor (design_of p) h → 1 ≤ r → error_size (design_of p) h r ≤ 2 ^ 126 →
+    IsBounded (error_sums_of (design_of p) h r)
+design_bounded p h r design form some room =
     let d = design_of p in
-    let s = error_sums_of d r in
-    let floor = floor_range p h in
-    let parts = apart (pull d r) (d.cost_denominator * combined_bound d r * trace_sum d) (d.cost_denominator * gradient_squares d r)
-    (2 ^ 40 * (s.first + s.top_rows * residual_error s 0)) (2 ^ 126) room in
+    let s = error_sums_of d h r in
+    let floor = floor_range p design in
+    let small = few p design in
+    let spread = few_spread d h form in
+    let plan = plan_bound s 0 in
+    let weight : 1 ≤ d.cost_denominator = positive p.cost_den design.cost_den.low in
+    let row : 1 ≤ d.row_denominator = positive p.row_den design.row_den.low in
     record {
       some = floor.0;
       weight = floor.1;
-      lead = through (ceil_small (pull d r) (2 * input_floor d) (twice (input_floor d) floor.0)) parts.0;
-      tail = parts.1;
-      top = one-le-mul (doubled r some) (some_row p h);
-      room = parts.2;
+      entries = some_entry p design;
+      scale = weight;
+      weights = through (mul-le-mul small.entries small.weight) (omega arith);
+      rows = one-le-mul (doubled r some) (some_row p design);
+      top = doubled r some;
+      cost_scale = one-le-mul weight (pow_positive d.row_denominator 2 row);
+      row_scale = positive p.limit_den design.limit_den.low;
+      spread_some = spread.0;
+      spread_few = spread.1;
+      room = close _ _ s.top_rows (residual_error s plan) _ _ _ _ _ _ (less_spread s.spread (pull d h r + s.tail + d.cost_denominator * gradient_squares d (gradient_error d h r)) s.first (s.top_rows * residual_error s plan) spread.0 spread.1) room;
     }
   where
-    apart : (a b c e t : ℕ) → a + b + c + e ≤ t → (a ≤ t) × (b ≤ t) × (e ≤ t)
-    apart a b c e t h = (omega (arith, h), omega (arith, h), omega (arith, h))
+    close : (x t m n a b c e f g : ℕ) → x + 2 ^ 40 * (m * n) ≤ t → t + a + b + c + e + f + g ≤ 2 ^ 126 →
+        x + 2 ^ 40 * m * n + (a + b + c + e + f + g) ≤ 2 ^ 126
+    close x t m n a b c e f g h k = omega (arith, h, k)
 
-    through : {a b c : ℕ} → a ≤ b → b ≤ c → a ≤ c
-    through {a} {b} {c} h k = omega (arith, h, k)
-
-    twice : (n : ℕ) → 1 ≤ n → 0 < 2 * n
-    twice n h = omega (arith, h)
-
-    doubled : (n : ℕ) → 1 ≤ n → 1 ≤ 2 * n
-    doubled n h = omega (arith, h)
+-- back from 128-bit numbers
+read_back : (s : errors.ErrorSums) → 1 ≤ s.spread → s.spread ≤ 2 → sums_of (whole_sums s) ≡ s
+read_back s h k = λ i. record {
+  first = s.first;
+  lead = s.lead;
+  tail = s.tail;
+  top_rows = s.top_rows;
+  plan_entries = s.plan_entries;
+  box_states = s.box_states;
+  rho = s.rho;
+  state = s.state;
+  top = s.top;
+  hessian_radius = s.hessian_radius;
+  linear_radius = s.linear_radius;
+  constant_radius = s.constant_radius;
+  column_radius = s.column_radius;
+  plan_radius = s.plan_radius;
+  state_radius = s.state_radius;
+  cost_scale = s.cost_scale;
+  row_scale = s.row_scale;
+  weight_scale = s.weight_scale;
+  spread = spread s.spread h k i;
+}
+  where
+    spread : (k : ℕ) → 1 ≤ k → k ≤ 2 → spread_of (ltb 1 k) ≡ k
+    spread k h l = elim (cases_lt 1 k) [
+      | inl o ↦ (let e : k ≡ 2 = omega (arith, o, l) in rw e refl)
+      | inr o ↦ (let e : k ≡ 1 = omega (arith, o, h) in rw e refl)
+    ]
 
 pub bounded : (e : ErrorSums) → AreSums e → IsBounded (sums_of e)
-bounded e a = from e (error_sums_of (design_of a.parts) a.r) a.sums (design_bounded a.parts a.r a.design a.bound a.room)
+bounded e a = from e (error_sums_of (design_of a.parts) a.held a.r) a.sums (design_bounded a.parts a.held a.r a.design a.form a.bound a.room)
   where
     from : (e : ErrorSums) (s : errors.ErrorSums) → e ≡ whole_sums s → IsBounded s → IsBounded (sums_of e)
-    from e s same h = rw same h
+    from e s same h = rw (same, read_back s h.spread_some h.spread_few) h
 
--- ---- the bounds
-pub plan_small : (s : errors.ErrorSums) (f : ℕ) → IsBounded s → s.lead + ceil_div s.tail (2 ^ (f + 2) * s.rho) + 1 ≤ 2 ^ 126 + 2 ^ 124 + 1
-plan_small s f h =
-    close s.lead (ceil_div s.tail (2 ^ (f + 2) * s.rho)) (ceil_div s.tail 4) h.lead
-    (ceil_anti s.tail 4 (2 ^ (f + 2) * s.rho) (omega arith) (four (2 ^ (f + 2)) s.rho (power_rises 2 2 (f + 2) (omega arith) (omega arith)) h.some))
-    (quarter s.tail h.tail)
+-- ---- the part by radii
+pub record AreRadiusParts (s : errors.ErrorSums) (plan : ℕ) : Type 0 where
+  pub by_plan : plan * s.hessian_radius ≤ 2 ^ 126
+  pub by_state : s.state * s.linear_radius ≤ 2 ^ 126
+  pub moved : plan * s.hessian_radius + s.state * s.linear_radius + s.constant_radius ≤ 2 ^ 126
+  pub columns : s.top * s.column_radius ≤ 2 ^ 126
+  pub squared : radius_error s plan ^ 2 ≤ 2 ^ 126
+  pub squares : s.weight_scale * s.plan_entries * radius_error s plan ^ 2 ≤ 2 ^ 126
+  pub rows_plan : plan * s.plan_radius ≤ 2 ^ 126
+  pub rows_state : s.state * s.state_radius ≤ 2 ^ 126
+  pub rows_moved : row_radii s plan ≤ 2 ^ 126
+  pub rows : s.top * row_radii s plan ≤ 2 ^ 126
+
+-- the six terms
+record SixParts (w a b c e f : ℕ) : Type 0 where
+  pub squares : w ≤ 2 ^ 126
+  pub plan : a ≤ 2 ^ 126
+  pub state : b ≤ 2 ^ 126
+  pub moved : a + b + c ≤ 2 ^ 126
+  pub columns : e ≤ 2 ^ 126
+  pub rows : f ≤ 2 ^ 126
+
+pub radius_parts : (s : errors.ErrorSums) (plan : ℕ) → 1 ≤ s.weight_scale → 1 ≤ s.plan_entries → 1 ≤ s.top → radius_size s plan ≤ 2 ^ 126 → AreRadiusParts s plan
+radius_parts s plan weight entries top h =
+    let parts = apart (s.weight_scale * s.plan_entries * radius_error s plan ^ 2) (plan * s.hessian_radius) (s.state * s.linear_radius) s.constant_radius
+    (s.top * s.column_radius) (s.top * row_radii s plan) h in
+    let rows = factor top parts.rows in
+    let moved = both (plan * s.plan_radius) (s.state * s.state_radius) rows in
+    record {
+      by_plan = parts.plan;
+      by_state = parts.state;
+      moved = parts.moved;
+      columns = parts.columns;
+      squared = factor (one-le-mul weight entries) parts.squares;
+      squares = parts.squares;
+      rows_plan = moved.0;
+      rows_state = moved.1;
+      rows_moved = rows;
+      rows = parts.rows;
+    }
   where
-    four : (p r : ℕ) → 2 ^ 2 ≤ p → 1 ≤ r → 4 ≤ p * r
-    four p r h k = omega (arith, h, mul-le-mul_left p k)
+    apart : (w a b c e f : ℕ) → w + a + b + c + e + f ≤ 2 ^ 126 → SixParts w a b c e f
+    apart w a b c e f h = record {
+      squares = omega (arith, h);
+      plan = omega (arith, h);
+      state = omega (arith, h);
+      moved = omega (arith, h);
+      columns = omega (arith, h);
+      rows = omega (arith, h);
+    }
 
-    quarter : (t : ℕ) → t ≤ 2 ^ 126 → ceil_div t 4 ≤ 2 ^ 124
-    quarter t h = omega (arith, h)
+    factor : {a b : ℕ} → 1 ≤ a → a * b ≤ 2 ^ 126 → b ≤ 2 ^ 126
+    factor {a} {b} h k = omega (arith, k, mul-le-mul_right b h)
 
-    close : (l c e : ℕ) → l ≤ 2 ^ 126 → c ≤ e → e ≤ 2 ^ 124 → l + c + 1 ≤ 2 ^ 126 + 2 ^ 124 + 1
-    close l c e h k o = omega (arith, h, k, o)
+    both : (a b : ℕ) → a + b ≤ 2 ^ 126 → (a ≤ 2 ^ 126) × (b ≤ 2 ^ 126)
+    both a b h = (omega (arith, h), omega (arith, h))
 
-pub residual_small : (s : errors.ErrorSums) (f : ℕ) → IsBounded s → residual_error s f ≤ 2 ^ 86
-residual_small s f h = close s.first s.top_rows (residual_error s 0) (residual_error s f) h.top (residual_error_falls s 0 f h.some (omega arith)) h.room
+radius_size_rises : (s : errors.ErrorSums) (a b : ℕ) → a ≤ b → radius_size s a ≤ radius_size s b
+radius_size_rises s a b h =
+    close _ _ _ _ _ (mul-le-mul_left (s.weight_scale * s.plan_entries) (squares_rise (radius_error_rises s a b h))) (moved_rises s a b h)
+    (mul-le-mul_left s.top (row_radii_rises s a b h))
   where
-    close : (a y x z : ℕ) → 1 ≤ y → z ≤ x → 2 ^ 40 * (a + y * x) ≤ 2 ^ 126 → z ≤ 2 ^ 86
-    close a y x z h k o = omega (arith, k, o, mul-le-mul_right x h)
+    close : {w v r t : ℕ} (a b c x e : ℕ) → w ≤ v → a + b + c ≤ x + b + c → r ≤ t → w + a + b + c + e + r ≤ v + x + b + c + e + t
+    close {w} {v} {r} {t} a b c x e h k l = omega (arith, h, k, l)
 
-pub epsilon_parts : (s : errors.ErrorSums) (f : ℕ) → IsBounded s → 2 ^ 40 * s.first + 2 ^ 40 * s.top_rows * residual_error s f ≤ 2 ^ 126
-epsilon_parts s f h = close s.first s.top_rows (residual_error s 0) (residual_error s f) (residual_error_falls s 0 f h.some (omega arith)) h.room
+-- ---- at a bound on the plan's entries
+pub record HasRoomAt (s : errors.ErrorSums) (first plan : ℕ) : Type 0 where
+  pub gradient : s.spread * 2 ^ 40 * first ≤ 2 ^ 126
+  pub rows : 2 ^ 40 * s.top_rows * residual_error s plan ≤ 2 ^ 126
+  pub residual : residual_error s plan ≤ 2 ^ 86
+  pub radii : AreRadiusParts s plan
+  pub cost : (f : ℕ) → errors_cost s first plan f ≤ 2 ^ 126
+
+pub room_at : (s : errors.ErrorSums) (first plan : ℕ) → IsBounded s → first ≤ s.first → plan ≤ plan_bound s 0 → HasRoomAt s first plan
+room_at s first plan b h k =
+    let gradient = mul-le-mul_left (s.spread * 2 ^ 40) h in
+    let rows = mul-le-mul_left (2 ^ 40 * s.top_rows) (residual_error_rises s plan (plan_bound s 0) k) in
+    let all = together gradient rows (radius_size_rises s plan (plan_bound s 0) k) b.room in
+    let radius = last _ _ _ all in
+    record {
+      gradient = first_of _ _ _ all;
+      rows = second_of _ _ _ all;
+      residual = factor s.top_rows (residual_error s plan) b.rows (second_of _ _ _ all);
+      radii = radius_parts s plan b.scale b.entries b.top radius;
+      cost = λ f. rw (halves s first plan f) (costs s first plan f b all);
+    }
   where
-    close : (a y x z : ℕ) → z ≤ x → 2 ^ 40 * (a + y * x) ≤ 2 ^ 126 → 2 ^ 40 * a + 2 ^ 40 * y * z ≤ 2 ^ 126
-    close a y x z h o = omega (arith, o, mul-le-mul_left y h)
+    together : {a b c x y z : ℕ} → a ≤ x → b ≤ y → c ≤ z → x + y + z ≤ 2 ^ 126 → a + b + c ≤ 2 ^ 126
+    together {a} {b} {c} {x} {y} {z} h k l o = omega (arith, h, k, l, o)
+
+    first_of : (a b c : ℕ) → a + b + c ≤ 2 ^ 126 → a ≤ 2 ^ 126
+    first_of a b c h = omega (arith, h)
+
+    second_of : (a b c : ℕ) → a + b + c ≤ 2 ^ 126 → b ≤ 2 ^ 126
+    second_of a b c h = omega (arith, h)
+
+    last : (a b c : ℕ) → a + b + c ≤ 2 ^ 126 → c ≤ 2 ^ 126
+    last a b c h = omega (arith, h)
+
+    factor : (m x : ℕ) → 1 ≤ m → 2 ^ 40 * m * x ≤ 2 ^ 126 → x ≤ 2 ^ 86
+    factor m x h k = omega (arith, k, mul-le-mul_right x h)
+
+    -- each quotient is at most what it divides
+    costs : (s : errors.ErrorSums) (first plan f : ℕ) → IsBounded s → s.spread * 2 ^ 40 * first + 2 ^ 40 * s.top_rows * residual_error s plan + radius_size s plan ≤ 2 ^ 126 →
+        rounding_cost s first plan f + radius_cost s plan ≤ 2 ^ 126
+    costs s first plan f b all = close _ _ _ _ _ _ s.weight_scale s.plan_entries (radius_error s plan ^ 2) (plan * s.hessian_radius) (s.state * s.linear_radius) s.constant_radius (s.top * s.column_radius) _
+        (ceil_small (s.spread * 2 ^ 40 * first) (4 ^ f) (pow_positive 4 f (omega arith)))
+        (ceil_small (2 ^ 40 * s.top_rows * residual_error s plan) (2 ^ (f + 1)) (pow_positive 2 (f + 1) (omega arith)))
+        (ceil_small (s.plan_entries * s.weight_scale * radius_error s plan ^ 2) (2 ^ 40 * s.rho) (one-le-mul (pow_positive 2 40 (omega arith)) b.some))
+        (ceil_small (s.top * row_radii s plan) s.row_scale b.row_scale) all
+      where
+        close : (a b c d x y w n q i j k l t : ℕ) → a ≤ x → b ≤ y → c ≤ n * w * q → d ≤ t → x + y + (w * n * q + i + j + k + l + t) ≤ 2 ^ 126 → a + b + (c + d) ≤ 2 ^ 126
+        close a b c d x y w n q i j k l t h o p g z = omega (arith, h, o, p, g, z)
+
+pub plan_small : (s : errors.ErrorSums) (f : ℕ) → IsBounded s → (plan_bound s f ≤ plan_bound s 0) × (plan_bound s f ≤ 2 ^ 86)
+plan_small s f b =
+    let falls = plan_bound_falls s 0 f b.some (omega arith) in
+    let residual = (room_at s 0 (plan_bound s f) b (omega arith) falls).residual in
+    (falls, factor s.plan_entries (plan_bound s f) s.box_states b.entries residual)
+  where
+    factor : (m x b : ℕ) → 1 ≤ m → m * x + b + 3 ≤ 2 ^ 86 → x ≤ 2 ^ 86
+    factor m x b h k = omega (arith, k, mul-le-mul_right x h)
+
+pub radii_at : (e : ErrorSums) (plan : ℕ) → AreSums e → plan ≤ plan_bound (sums_of e) 0 → AreRadiusParts (sums_of e) plan
+radii_at e plan a h = (room_at (sums_of e) 0 plan (bounded e a) (omega arith) h).radii
+
+pub within_of : {a b t : ℕ} → a ≡ b → b ≤ t → a ≤ t
+within_of {a} {b} {t} e h = omega (arith, e, h)
 
 -- ---- shifts of the code
 pub shifted : (k n : ℕ) → k ≤ n → n ≤ 127 → 1 * 2 ^ k % 2 ^ 128 ≡ 2 ^ k
@@ -119,48 +302,3 @@ read_whole z n k f e g = read_size z n f e ∙ ap unsigned_abs g
 pub four_is : (f : ℕ) → 2 ^ (2 * f) ≡ 4 ^ f
 four_is f = let e : 2 * f ≡ f + f = omega arith in rw e (pow-add 2 f f ∙ sym (four-pow f))
 
--- ---- what the quantity is made of, by the quotients of the code
-pub record AreParts (squares pull tail top entries box first bound : ℕ) : Type 0 where
-  pub plans : entries * bound ≤ 2 ^ 126
-  pub residuals : top * (entries * bound + box + 3) ≤ 2 ^ 126
-  pub pulls : pull + tail ≤ 2 ^ 126
-  pub parts : pull + tail + squares ≤ 2 ^ 126
-  pub errors : 2 ^ 40 * (first + top * (entries * bound + box + 3)) ≤ 2 ^ 126
-
-pub parts_from : (squares pull tail top entries box first bound : ℕ) → 1 ≤ top → pull + tail + squares + 2 ^ 40 * (first + top * (entries * bound + box + 3)) ≤ 2 ^ 126 →
-    AreParts squares pull tail top entries box first bound
-parts_from squares pull tail top entries box first bound some h =
-    let k = mul-le-mul_right (entries * bound + box + 3) some in
-    record {
-      plans = last squares pull tail first box (entries * bound) (top * (entries * bound + box + 3)) k h;
-      residuals = second squares pull tail first (top * (entries * bound + box + 3)) h;
-      pulls = third squares pull tail (first + top * (entries * bound + box + 3)) h;
-      parts = fourth squares pull tail (first + top * (entries * bound + box + 3)) h;
-      errors = fifth squares pull tail (first + top * (entries * bound + box + 3)) h;
-    }
-  where
-    last : (s p t f b x y : ℕ) → 1 * (x + b + 3) ≤ y → p + t + s + 2 ^ 40 * (f + y) ≤ 2 ^ 126 → x ≤ 2 ^ 126
-    last s p t f b x y k h = omega (arith, k, h)
-
-    second : (s p t f y : ℕ) → p + t + s + 2 ^ 40 * (f + y) ≤ 2 ^ 126 → y ≤ 2 ^ 126
-    second s p t f y h = omega (arith, h)
-
-    third : (s p t x : ℕ) → p + t + s + 2 ^ 40 * x ≤ 2 ^ 126 → p + t ≤ 2 ^ 126
-    third s p t x h = omega (arith, h)
-
-    fourth : (s p t x : ℕ) → p + t + s + 2 ^ 40 * x ≤ 2 ^ 126 → p + t + s ≤ 2 ^ 126
-    fourth s p t x h = omega (arith, h)
-
-    fifth : (s p t x : ℕ) → p + t + s + 2 ^ 40 * x ≤ 2 ^ 126 → 2 ^ 40 * x ≤ 2 ^ 126
-    fifth s p t x h = omega (arith, h)
-
-pub size_is : (squares pull tail top entries box rho first lead push : ℕ) → 1 ≤ rho → first ≡ div_ceil squares (2 * rho) → lead ≡ div_ceil pull (2 * rho) →
-    push ≡ div_ceil tail (4 * rho) →
-    size_by squares pull (sums_by squares pull tail top entries box rho) ≡ pull + tail + squares + 2 ^ 40 * (first + top * (entries * (lead + push + 1) + box + 3))
-size_is squares pull tail top entries box rho first lead push some e g h =
-    let two : 0 < 2 * rho = omega (arith, some) in
-    let four : 0 < 4 * rho = omega (arith, some) in
-    let a : first ≡ ceil_div squares (2 * rho) = quotient_is _ _ _ squares (2 * rho) two e refl refl in
-    let b : lead ≡ ceil_div pull (2 * rho) = quotient_is _ _ _ pull (2 * rho) two g refl refl in
-    let c : push ≡ ceil_div tail (4 * rho) = quotient_is _ _ _ tail (4 * rho) four h refl refl in
-    (λ i. pull + tail + squares + 2 ^ 40 * (sym a i + top * (entries * (sym b i + sym c i + 1) + box + 3)))

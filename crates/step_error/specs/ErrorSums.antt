@@ -1,12 +1,22 @@
 -- The whole numbers that the bounds of the rounding errors are made of, as the code keeps them.
-use Rattle.std.specs.Prelude.{◌≡◌, ℕ, ◌+◌, ◌*◌, ◌^◌, ◌≤◌, ℤ, pos, unsigned_abs}
+use Rattle.std.specs.Prelude.{◌≡◌, ℕ, ◌+◌, ◌*◌, ◌^◌, ◌≤◌, Bool, true, false, ltb, ℤ, pos, unsigned_abs}
 use Rattle.integer_algebra.specs.Division.{ceil_div}
 use Rattle.integer_algebra.specs.Sizes.{size, amount}
+use Rattle.qp_model.specs.Design.{Design, rows}
 use Rattle.qp_model.specs.Parts.{IsDesign, design_of}
+use Rattle.qp_model.specs.Form.{Form, IsFormFor, hessian_radii, linear_radii, plan_radii, state_radii, column_radii}
+use Rattle.qp_model.specs.Quantities.{greatest}
 use Rattle.qp_model.specs.Errors as errors
-use Rattle.qp_model.specs.Errors.{error_sums_of, error_size, residual_error}
+use Rattle.qp_model.specs.Errors.{error_sums_of, error_size, plan_bound, residual_error, radius_error, row_radii}
 use Rattle.qp_model.specs.declared.design_parts.DesignParts.{DesignParts}
 use Rattle.step_error.specs.declared.sums.ErrorSums.{ErrorSums}
+use Rattle.step_error.specs.declared.sums.Radii.{Radii}
+use Rattle.step_error.specs.declared.sums.Whole.{Whole}
+
+-- what the square of a sum of two errors is at most times that of the first, with radii and without
+abbrev pub spread_of : Bool → ℕ
+spread_of true = 2
+spread_of false = 1
 
 -- the sums, as 128-bit numbers
 abbrev pub whole_sums : errors.ErrorSums → ErrorSums
@@ -18,6 +28,18 @@ whole_sums s = record {
   nu = pos s.plan_entries;
   n_box = pos s.box_states;
   rho = pos s.rho;
+  x_box = pos s.state;
+  y_top = pos s.top;
+  h_rad = pos s.hessian_radius;
+  f_rad = pos s.linear_radius;
+  o_rad = pos s.constant_radius;
+  g_col = pos s.column_radius;
+  g_sum = pos s.plan_radius;
+  e_sum = pos s.state_radius;
+  cost_scale = pos s.cost_scale;
+  weight_den = pos s.weight_scale;
+  row_scale = pos s.row_scale;
+  fine = ltb 1 s.spread;
 }
 
 -- and back
@@ -30,16 +52,39 @@ sums_of e = record {
   plan_entries = unsigned_abs e.nu;
   box_states = unsigned_abs e.n_box;
   rho = unsigned_abs e.rho;
+  state = unsigned_abs e.x_box;
+  top = unsigned_abs e.y_top;
+  hessian_radius = unsigned_abs e.h_rad;
+  linear_radius = unsigned_abs e.f_rad;
+  constant_radius = unsigned_abs e.o_rad;
+  column_radius = unsigned_abs e.g_col;
+  plan_radius = unsigned_abs e.g_sum;
+  state_radius = unsigned_abs e.e_sum;
+  cost_scale = unsigned_abs e.cost_scale;
+  row_scale = unsigned_abs e.row_scale;
+  weight_scale = unsigned_abs e.weight_den;
+  spread = spread_of e.fine;
 }
 
--- they are those of some design with multipliers up to 2 r, and the quantity `error` is within its limit
+-- they are those of a form for some design with multipliers up to 2 r, and the quantity `error` is within its limit
 pub record AreSums (e : ErrorSums) : Type 0 where
   pub parts : DesignParts
+  pub held : Form
   pub r : ℕ
   pub design : IsDesign parts
+  pub form : IsFormFor (design_of parts) held
   pub bound : 1 ≤ r
-  pub sums : e ≡ whole_sums (error_sums_of (design_of parts) r)
-  pub room : error_size (design_of parts) r ≤ 2 ^ 126
+  pub sums : e ≡ whole_sums (error_sums_of (design_of parts) held r)
+  pub room : error_size (design_of parts) held r ≤ 2 ^ 126
+
+-- ---- the two halves of what the errors of a step cost
+-- that of the rounding, where the gradient's errors cost `first` over 4^f
+abbrev pub rounding_cost : errors.ErrorSums → (first plan f : ℕ) → ℕ
+rounding_cost s first plan f = ceil_div (s.spread * 2 ^ 40 * first) (4 ^ f) + ceil_div (2 ^ 40 * s.top_rows * residual_error s plan) (2 ^ (f + 1))
+
+-- and that of the radii
+abbrev pub radius_cost : errors.ErrorSums → (plan : ℕ) → ℕ
+radius_cost s plan = ceil_div (s.plan_entries * s.weight_scale * radius_error s plan ^ 2) (2 ^ 40 * s.rho) + ceil_div (s.top * row_radii s plan) s.row_scale
 
 -- ---- on the way to them
 -- the error of entry j of the gradient, by a matrix of n columns over `scale` and what all states and multipliers come to
@@ -50,18 +95,80 @@ entry_error n hessian scale reach j = ceil_div (unsigned_abs (hessian j j)) (2 *
 abbrev pub entry_squares : (n : ℕ) → (hessian : ℕ → ℕ → ℤ) → (scale reach : ℕ) → ℕ
 entry_squares n hessian scale reach = amount n (λ j. entry_error n hessian scale reach j ^ 2)
 
+-- the sums of a form's radii
+pub record AreRadii (d : Design) (h : Form) (r : Radii) : Type 0 where
+  pub hessian : r.h_rad ≡ greatest h.entries (hessian_radii h)
+  pub linear : r.f_rad ≡ greatest h.entries (linear_radii h)
+  pub constant : r.o_rad ≡ greatest h.entries h.constant_radius
+  pub column : r.g_col ≡ greatest h.entries (column_radii h)
+  pub plan : r.g_sum ≡ amount h.rows (plan_radii h)
+  pub state : r.e_sum ≡ amount h.rows (state_radii h)
+  pub cost_scale : r.cost_scale ≡ d.cost_denominator * d.row_denominator ^ 2
+  pub row_scale : r.row_scale ≡ d.limit_denominator
+  pub spread : spread_of r.fine ≡ h.spread
+
 -- the sums by what their quotients divide
-abbrev pub sums_by : (squares pull tail top_rows plan_entries box_states rho : ℕ) → errors.ErrorSums
-sums_by squares pull tail top_rows plan_entries box_states rho = record {
-  first = ceil_div squares (2 * rho);
-  lead = ceil_div pull (2 * rho);
-  tail = tail;
-  top_rows = top_rows;
-  plan_entries = plan_entries;
-  box_states = box_states;
-  rho = rho;
+abbrev pub sums_by : Whole → errors.ErrorSums
+sums_by w = record {
+  first = ceil_div w.squares (2 * w.rho);
+  lead = ceil_div w.pull (2 * w.rho);
+  tail = w.tail;
+  top_rows = w.y_rows;
+  plan_entries = w.nu;
+  box_states = w.n_box;
+  rho = w.rho;
+  state = w.x_box;
+  top = w.y_top;
+  hessian_radius = w.radii.h_rad;
+  linear_radius = w.radii.f_rad;
+  constant_radius = w.radii.o_rad;
+  column_radius = w.radii.g_col;
+  plan_radius = w.radii.g_sum;
+  state_radius = w.radii.e_sum;
+  cost_scale = w.radii.cost_scale;
+  row_scale = w.radii.row_scale;
+  weight_scale = w.weight_den;
+  spread = spread_of w.radii.fine;
 }
 
--- the quantity `error` by the same
+-- they are within what 128 bits hold of their sums
+pub record HaveRoom (r : Radii) : Type 0 where
+  pub hessian : r.h_rad ≤ 2 ^ 126
+  pub linear : r.f_rad ≤ 2 ^ 126
+  pub constant : r.o_rad ≤ 2 ^ 126
+  pub column : r.g_col ≤ 2 ^ 126
+  pub plan : r.g_sum ≤ 2 ^ 126
+  pub state : r.e_sum ≤ 2 ^ 126
+  pub cost_some : 1 ≤ r.cost_scale
+  pub cost_scale : r.cost_scale ≤ 2 ^ 126
+  pub row_some : 1 ≤ r.row_scale
+  pub row_scale : r.row_scale ≤ 2 ^ 126
+
+pub record HasRoom (w : Whole) : Type 0 where
+  pub squares : w.squares ≤ 2 ^ 126
+  pub pull : w.pull ≤ 2 ^ 126
+  pub tail : w.tail ≤ 2 ^ 126
+  pub rows_some : 1 ≤ w.y_rows
+  pub rows : w.y_rows ≤ 2 ^ 60
+  pub entries_some : 1 ≤ w.nu
+  pub entries : w.nu ≤ 2 ^ 60
+  pub states : w.n_box ≤ 2 ^ 60
+  pub rho_some : 1 ≤ w.rho
+  pub rho : w.rho ≤ 2 ^ 31
+  pub state : w.x_box ≤ 2 ^ 60
+  pub top_some : 1 ≤ w.y_top
+  pub top : w.y_top ≤ 2 ^ 60
+  pub weight_some : 1 ≤ w.weight_den
+  pub weight : w.weight_den ≤ 2 ^ 60
+  pub radii : HaveRoom w.radii
+
+-- the two parts of the quantity `error` by the same numbers, for a bound on the plan's entries
+abbrev pub rounding_size : (squares pull : ℕ) → errors.ErrorSums → (plan : ℕ) → ℕ
+rounding_size squares pull s plan = s.spread ^ 2 * (pull + s.tail + squares + 2 ^ 40 * (s.first + s.top_rows * residual_error s plan))
+
+abbrev pub radius_size : errors.ErrorSums → (plan : ℕ) → ℕ
+radius_size s plan = s.weight_scale * s.plan_entries * radius_error s plan ^ 2
+    + plan * s.hessian_radius + s.state * s.linear_radius + s.constant_radius + s.top * s.column_radius + s.top * row_radii s plan
+
 abbrev pub size_by : (squares pull : ℕ) → errors.ErrorSums → ℕ
-size_by squares pull s = pull + s.tail + squares + 2 ^ 40 * (s.first + s.top_rows * residual_error s 0)
+size_by squares pull s = rounding_size squares pull s (plan_bound s 0) + radius_size s (plan_bound s 0)

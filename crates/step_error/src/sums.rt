@@ -9,18 +9,19 @@ ghost use Rattle.mat_int.specs.Matrix.{entry_of};
 ghost use Rattle.qp_model.specs.Design.{entries, rows};
 ghost use Rattle.qp_model.specs.Parts.{IsDesign, design_of};
 ghost use Rattle.qp_model.specs.Quantities.{input_floor};
-ghost use Rattle.qp_model.specs.Form.{hessian_scale};
-ghost use Rattle.qp_model.specs.Errors.{state_bound, linear_sum, constant_sum, plan_row_sum, trace_sum, combined_bound, gradient_squares, pull, error_sums_of, error_size};
+ghost use Rattle.qp_model.specs.Form.{form_of};
+ghost use Rattle.qp_model.specs.Errors.{state_bound, linear_sum, constant_sum, plan_row_sum, trace_sum, error_sums_of, error_size};
 ghost use Rattle.qp_model.specs.declared.quantity.Quantity.TheVariants.{Error};
 ghost use Rattle.plant_condense.specs.Form.{IsFormOf};
-ghost use Rattle.step_error.specs.ErrorSums.{AreSums, whole_sums, sums_by, size_by, entry_error, entry_squares};
+ghost use Rattle.step_error.specs.ErrorSums.{AreSums, AreRadii, HaveRoom, spread_of, whole_sums, entry_error, entry_squares};
 
 use frac_scaled::{limited_product, limited_sum};
 use mat_int::Mat;
 use plant_condense::Condensed;
 use qp_model::{Design, DesignParts, Quantity, Wide, box_magnitude};
 
-/// What the bounds of the rounding errors at each number of fraction bits f are made of, for a design and multipliers up to `2 R`.
+/// What the bounds of the rounding errors at each number of fraction bits f are made of, for a condensed form of a design and multipliers
+/// up to `2 R`.
 #[derive(Clone, Copy, Debug, PartialEq, Eq)]
 pub struct ErrorSums {
     /// What the squares of the gradient's errors cost, over `4^f`.
@@ -37,9 +38,41 @@ pub struct ErrorSums {
     pub n_box: i128,
     /// The least input weight, over `weight_den`.
     pub rho: i128,
+    /// How far a state of the box is from 0, rounded up.
+    pub x_box: i128,
+    /// `2 R`, the greatest multiplier.
+    pub y_top: i128,
+    /// The greatest sum of the radii of a row of the hessian, over `2^40 * cost_scale`.
+    pub h_rad: i128,
+    /// The greatest sum of the radii of a row of the linear part, over `2^40 * cost_scale`.
+    pub f_rad: i128,
+    /// The greatest radius of the constant, over `2^40 * cost_scale`.
+    pub o_rad: i128,
+    /// The greatest sum of the radii of a column of the limit rows, over `2^40 * row_scale`.
+    pub g_col: i128,
+    /// The radii of the limit rows over all entries of the plan, added up, over `2^40 * row_scale`.
+    pub g_sum: i128,
+    /// The radii of the limit rows over all states, added up, over `2^40 * row_scale`.
+    pub e_sum: i128,
+    /// What the radii of the cost are over, but for `2^40`.
+    pub cost_scale: i128,
+    /// What the weights are over.
+    pub weight_den: i128,
+    /// What the radii of the limit rows are over, but for `2^40`.
+    pub row_scale: i128,
+    /// Whether the form has radii. Then twice the squares of the gradient's errors by rounding are counted, and twice their share of the plan's
+    /// entries.
+    pub fine: bool,
 }
 
-/// The sums of a design and its condensed form, for multipliers up to `2 r`. It takes no memory.
+// What the square of a sum of the error by rounding and that by radii is at most times the square of the first.
+pub(crate) fn spread(fine: bool) -> u128
+    ensures { result ≡ spread_of fine }
+{
+    if fine { 2 } else { 1 }
+}
+
+/// The sums of a design and its condensed form, for multipliers up to `2 r`. It takes no memory. The form's numbers are exact, so its radii are 0.
 ///
 /// # Errors
 /// `error` is above `2^126`.
@@ -47,8 +80,8 @@ pub fn error_sums(c: &Condensed, design: &Design, r: i128) -> Result<ErrorSums, 
     requires form { IsFormOf design.now c.now }
     requires some { pos 1 ≤ℤ r }
     requires narrow { r ≤ℤ pos (2 ^ 44) }
-    ensures value { OkIff result (error_size (design_of design.now) (unsigned_abs r) ≤ 2 ^ 126)
-        (whole_sums (error_sums_of (design_of design.now) (unsigned_abs r))) }
+    ensures value { let d = design_of design.now in
+        OkIff result (error_size d (form_of d) (unsigned_abs r) ≤ 2 ^ 126) (whole_sums (error_sums_of d (form_of d) (unsigned_abs r))) }
     ensures given { IfOk result (λ e. AreSums e) }
     ensures named { IfErr result (λ e. e.0 ≡ Error) }
 {
@@ -60,7 +93,7 @@ fn sums_of(c: &Condensed, parts: &DesignParts, r: u128) -> Option<ErrorSums>
     requires form { IsFormOf parts.now c.now }
     requires some { 1 ≤ r }
     requires narrow { r ≤ 2 ^ 44 }
-    ensures { SomeIff result (error_size (design_of parts.now) r ≤ 2 ^ 126) (whole_sums (error_sums_of (design_of parts.now) r)) }
+    ensures { let d = design_of parts.now in SomeIff result (error_size d (form_of d) r ≤ 2 ^ 126) (whole_sums (error_sums_of d (form_of d) r)) }
 {
     let sizes = sizes_of(c, parts);
     let n_box = parts.states as u128 * sizes.state;
@@ -76,8 +109,47 @@ fn sums_of(c: &Condensed, parts: &DesignParts, r: u128) -> Option<ErrorSums>
         nu: c.hess.rows() as u128,
         n_box,
         rho: c.input_floor.unsigned_abs(),
+        x_box: sizes.state,
+        y_top: 2 * r,
+        weight_den,
+        radii: radii_of(parts),
     };
-    whole.sums()
+    whole.size()?;
+    Some(whole.sums())
+}
+
+// The sums of a form's radii, as in `ErrorSums`.
+#[derive(Clone, Copy)]
+struct Radii {
+    h_rad: u128,
+    f_rad: u128,
+    o_rad: u128,
+    g_col: u128,
+    g_sum: u128,
+    e_sum: u128,
+    cost_scale: u128,
+    row_scale: u128,
+    fine: bool,
+}
+
+// Those of exact numbers, which have none.
+fn radii_of(parts: &DesignParts) -> Radii
+    requires { IsDesign parts.now }
+    ensures radii { AreRadii (design_of parts.now) (form_of (design_of parts.now)) result }
+    ensures room { HaveRoom result }
+{
+    let row_den = parts.row_den.unsigned_abs();
+    Radii {
+        h_rad: 0,
+        f_rad: 0,
+        o_rad: 0,
+        g_col: 0,
+        g_sum: 0,
+        e_sum: 0,
+        cost_scale: parts.cost_den.unsigned_abs() * (row_den * row_den),
+        row_scale: parts.limit_den.unsigned_abs(),
+        fine: false,
+    }
 }
 
 // The sizes of a design's numbers, each rounded up to a whole number.
@@ -95,10 +167,10 @@ fn sizes_of(c: &Condensed, parts: &DesignParts) -> Sizes
     requires { IsFormOf parts.now c.now }
     ensures state { result.state ≡ state_bound (design_of parts.now) }
     ensures near { result.state ≤ 2 ^ 31 }
-    ensures linear { result.linear ≡ linear_sum (design_of parts.now) }
-    ensures constant { result.constant ≡ constant_sum (design_of parts.now) }
-    ensures rows { result.rows ≡ plan_row_sum (design_of parts.now) }
-    ensures trace { result.trace ≡ trace_sum (design_of parts.now) }
+    ensures linear { result.linear ≡ linear_sum (form_of (design_of parts.now)) }
+    ensures constant { result.constant ≡ constant_sum (form_of (design_of parts.now)) }
+    ensures rows { result.rows ≡ plan_row_sum (form_of (design_of parts.now)) }
+    ensures trace { result.trace ≡ trace_sum (form_of (design_of parts.now)) }
 {
     let hess_den = c.hess_den.unsigned_abs();
     Sizes {
@@ -156,14 +228,19 @@ fn diagonal_sum(mat: &Mat) -> u128
     sum
 }
 
+// `a b + c d`. None where it is above `2^126`.
+fn products(a: u128, b: u128, c: u128, d: u128) -> Option<u128>
+    ensures { SomeIff result (a * b + c * d ≤ 2 ^ 126) (a * b + c * d) }
+{
+    limited_sum(limited_product(a, b)?, limited_product(c, d)?)
+}
+
 // What the states, the constant and the multipliers pull a plan by, over the least input weight. None where it is above `2^126`.
 fn pull_of(sizes: &Sizes, r: u128) -> Option<u128>
     requires { r ≤ 2 ^ 44 }
     ensures { let pull = sizes.now.state * sizes.now.linear + sizes.now.constant + 2 * r * sizes.now.rows in SomeIff result (pull ≤ 2 ^ 126) pull }
 {
-    let box_pull = limited_product(sizes.state, sizes.linear)?;
-    let top_pull = limited_product(2 * r, sizes.rows)?;
-    limited_sum(limited_sum(box_pull, sizes.constant)?, top_pull)
+    limited_sum(products(sizes.state, sizes.linear, 2 * r, sizes.rows)?, sizes.constant)
 }
 
 // The error of entry `j` of the gradient, by the hessian over `scale` and what all states and multipliers come to. None where it is above
@@ -207,42 +284,94 @@ struct Whole {
     nu: u128,
     n_box: u128,
     rho: u128,
+    x_box: u128,
+    y_top: u128,
+    weight_den: u128,
+    radii: Radii,
 }
 
 impl Whole {
-    ghost use Rattle.std.specs.Prelude.{◌≡◌, ◌+◌, ◌*◌, ◌^◌, ◌≤◌, ◌<◌};
+    ghost use Rattle.std.specs.Prelude.{◌≡◌, ◌+◌, ◌*◌, ◌^◌, ◌≤◌};
     ghost use Rattle.std.specs.Option.{SomeIff};
-    ghost use Rattle.step_error.specs.ErrorSums.{whole_sums, sums_by, size_by};
+    ghost use Rattle.integer_algebra.specs.Division.{ceil_div};
+    ghost use Rattle.qp_model.specs.Errors.{plan_bound, row_radii};
+    ghost use Rattle.step_error.specs.ErrorSums.{HasRoom, spread_of, whole_sums, sums_by, size_by, rounding_size, radius_size};
 
-    // The sums. None where `error` is above `2^126`.
-    fn sums(&self) -> Option<ErrorSums>
-        requires squares { self.now.squares ≤ 2 ^ 126 }
-        requires pull { self.now.pull ≤ 2 ^ 126 }
-        requires tail { self.now.tail ≤ 2 ^ 126 }
-        requires top { 1 ≤ self.now.y_rows }
-        requires rows { self.now.y_rows ≤ 2 ^ 60 }
-        requires entries { self.now.nu ≤ 2 ^ 60 }
-        requires states { self.now.n_box ≤ 2 ^ 60 }
-        requires some { 1 ≤ self.now.rho }
-        requires weight { self.now.rho ≤ 2 ^ 31 }
-        ensures { let sums = sums_by self.now.squares self.now.pull self.now.tail self.now.y_rows self.now.nu self.now.n_box self.now.rho in
-            SomeIff result (size_by self.now.squares self.now.pull sums ≤ 2 ^ 126) (whole_sums sums) }
+    // The quantity `error`. None where it is above `2^126`.
+    fn size(&self) -> Option<u128>
+        requires { HasRoom self.now }
+        ensures { let size = size_by self.now.squares self.now.pull (sums_by self.now) in SomeIff result (size ≤ 2 ^ 126) size }
+    {
+        let lead = self.pull.div_ceil(2 * self.rho);
+        let plan = spread(self.radii.fine) * (lead + self.tail.div_ceil(4 * self.rho)) + 1;
+        limited_sum(self.rounding_size(plan)?, self.radius_size(plan)?)
+    }
+
+    // Its part by rounding, where the plan's entries are within `plan`. None where it is above `2^126`.
+    fn rounding_size(&self, plan: u128) -> Option<u128>
+        requires { HasRoom self.now }
+        ensures { let size = rounding_size self.now.squares self.now.pull (sums_by self.now) plan in SomeIff result (size ≤ 2 ^ 126) size }
     {
         let first = self.squares.div_ceil(2 * self.rho);
-        let lead = self.pull.div_ceil(2 * self.rho);
-        let bound = lead + self.tail.div_ceil(4 * self.rho) + 1;
-        let residual = limited_product(self.nu, bound)? + self.n_box + 3;
+        let residual = limited_product(self.nu, plan)? + self.n_box + 3;
         let errors = first + limited_product(self.y_rows, residual)?;
-        let parts = limited_sum(limited_sum(self.pull, self.tail)?, self.squares)?;
-        limited_sum(parts, limited_product(1 << 40, errors)?)?;
-        Some(ErrorSums {
-            first: first as i128,
-            lead: lead as i128,
+        let parts = self.pull + self.tail + self.squares;
+        let spread = spread(self.radii.fine);
+        limited_product(spread * spread, limited_sum(parts, limited_product(1 << 40, errors)?)?)
+    }
+
+    // Its part by the radii. None where it is above `2^126`.
+    fn radius_size(&self, plan: u128) -> Option<u128>
+        requires { HasRoom self.now }
+        ensures { let size = radius_size (sums_by self.now) plan in SomeIff result (size ≤ 2 ^ 126) size }
+    {
+        let radii = &self.radii;
+        let moved = products(plan, radii.h_rad, self.x_box, radii.f_rad)? + radii.o_rad;
+        let columns = limited_product(self.y_top, radii.g_col)?;
+        let squares = self.radius_squares(moved, columns)?;
+        let rows = products(plan, radii.g_sum, self.x_box, radii.e_sum)?;
+        limited_sum(squares + moved, products(1, columns, self.y_top, rows)?)
+    }
+
+    // What the radii of the gradient come to, squared, where those of the cost move it by `moved` and those of the rows by `columns`. None where it
+    // is above `2^126`.
+    fn radius_squares(&self, moved: u128, columns: u128) -> Option<u128>
+        requires room { HasRoom self.now }
+        requires moved { moved ≤ 2 ^ 127 }
+        requires columns { columns ≤ 2 ^ 126 }
+        ensures { let error = ceil_div moved self.now.radii.cost_scale + ceil_div columns self.now.radii.row_scale in
+            let squares = self.now.weight_den * self.now.nu * error ^ 2 in SomeIff result (squares ≤ 2 ^ 126) squares }
+    {
+        let error = moved.div_ceil(self.radii.cost_scale) + columns.div_ceil(self.radii.row_scale);
+        limited_product(self.weight_den * self.nu, limited_product(error, error)?)
+    }
+
+    // The sums.
+    fn sums(&self) -> ErrorSums
+        requires { HasRoom self.now }
+        ensures { result ≡ whole_sums (sums_by self.now) }
+    {
+        let radii = &self.radii;
+        ErrorSums {
+            first: self.squares.div_ceil(2 * self.rho) as i128,
+            lead: self.pull.div_ceil(2 * self.rho) as i128,
             tail: self.tail as i128,
             y_rows: self.y_rows as i128,
             nu: self.nu as i128,
             n_box: self.n_box as i128,
             rho: self.rho as i128,
-        })
+            x_box: self.x_box as i128,
+            y_top: self.y_top as i128,
+            h_rad: radii.h_rad as i128,
+            f_rad: radii.f_rad as i128,
+            o_rad: radii.o_rad as i128,
+            g_col: radii.g_col as i128,
+            g_sum: radii.g_sum as i128,
+            e_sum: radii.e_sum as i128,
+            cost_scale: radii.cost_scale as i128,
+            weight_den: self.weight_den as i128,
+            row_scale: radii.row_scale as i128,
+            fine: radii.fine,
+        }
     }
 }
