@@ -21,6 +21,12 @@ gap_closed unit twice scale n cs rs a r c t e drive move pn ps ht hd hm h =
     cancel-le_z (pos 2 *ℤ (n *ℤ rs)) _ _ (mul_pos_z (pos 2) (n *ℤ rs) (omega (arith, ints)) (mul_pos_z n rs pn ps))
     (le_by (rw (ht, hd, hm) at h) (by_ring (unit ∷ scale ∷ n ∷ cs ∷ rs ∷ a ∷ r ∷ c ∷ t ∷ e ∷ []) (search quotes depth 90 fits 20000) refl))
 
+-- a run's bound, whose rows have one exponent: the move is the sum of the squares, times the power of two that the scale takes
+pub one_power : (left before unit power scale cs rs a move squares after : ℤ) → move ≡ power *ℤ squares → scale ≡ unit *ℤ power →
+    left ≤ℤ (before +ℤ unit *ℤ cs *ℤ rs *ℤ square a *ℤ move +ℤ after) → left ≤ℤ (before +ℤ scale *ℤ cs *ℤ rs *ℤ square a *ℤ squares +ℤ after)
+one_power left before unit power scale cs rs a move squares after e g h =
+    rw g (le_by (rw e at h) (by_ring (left ∷ before ∷ unit ∷ power ∷ cs ∷ rs ∷ a ∷ squares ∷ after ∷ []) (search quotes depth 60 fits 20000) refl))
+
 -- ---- the violation
 -- A run's bound with the multiplier g = 2 f at the row whose residual v is the greatest, against a repair of the average that costs at most f v
 -- more. The two parts x and y of the violation are at least 2^(s + 1) f / n and e / f.

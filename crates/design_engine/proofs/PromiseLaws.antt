@@ -4,7 +4,9 @@ use Rattle.std.proofs.lemmas.Int.{ints, by_lt_z}
 use Rattle.std.proofs.lemmas.Nat.{pow_pos}
 use Rattle.std.proofs.lemmas.List.Elements.{All-get_or}
 use Rattle.std.proofs.Math.Nat.{one-le-mul}
-use Rattle.integer_algebra.specs.Sums.{at, none}
+use Rattle.integer_algebra.specs.Sums.{at, none, total, dot, square}
+use Rattle.integer_algebra.proofs.SumLaws.{total_scale}
+use Rattle.dual_method.specs.Dual.{InBox}
 use Rattle.integer_algebra.specs.Division.{ceil_div}
 use Rattle.integer_algebra.proofs.OrderLaws.{pos_positive, le_of_lt_z, mul_nonneg_z, mul_pos_z}
 use Rattle.integer_algebra.proofs.PowerLaws.{pow_positive}
@@ -17,7 +19,7 @@ use Rattle.qp_model.specs.Cost.{cost, cost_scale}
 use Rattle.qp_model.specs.Residual.{residual, residual_scale, IsFeasible}
 use Rattle.qp_model.specs.Policy.{Plans}
 use Rattle.qp_model.specs.Controller.{Numbers}
-use Rattle.qp_model.specs.Machine.{average_denominator, averaged_plan}
+use Rattle.qp_model.specs.Machine.{average_denominator, averaged_plan, exponent_of}
 use Rattle.qp_model.specs.Machine as machine
 use Rattle.qp_model.specs.Form.{Form}
 use Rattle.qp_model.specs.Errors.{StepErrors, cost_of_errors}
@@ -33,7 +35,7 @@ use Rattle.step_error.specs.MachineLaws.{IsRunOf, MachineRunLaw}
 use Rattle.design_engine.specs.Bounds.{margin_of}
 use Rattle.design_engine.specs.Promise.{IsBacked, CertifiedLaw}
 use Rattle.design_engine.proofs.TargetLaws.{some_of}
-use Rattle.design_engine.proofs.PromiseFacts.{gap_closed, violation_closed, row_within, row_kept, row_over, first_part, second_part}
+use Rattle.design_engine.proofs.PromiseFacts.{one_power, gap_closed, violation_closed, row_within, row_kept, row_over, first_part, second_part}
 use Rattle.design_engine.proofs.RowChoice.{at_row, dot_single, squares_single, row_in_box, dot_none, squares_none, none_in_box, greatest_row}
 
 -- ---- a design's numbers
@@ -157,6 +159,19 @@ rows_over_positive w = residual_scale_positive (design w) (sound_at w)
 top_nonneg : (w : Point) (r : ℤ) → pos 0 <ℤ r → pos 0 ≤ℤ top w r
 top_nonneg w r h = mul_nonneg_z (pos (2 * bound w)) r (omega (arith, ints)) (le_of_lt_z h)
 
+-- the run's bound, against a feasible plan t over r, with multipliers v
+run_bound : MachineRunLaw → (w : Point) → (r : ℤ) (t v : ℕ → ℤ) → pos 0 <ℤ r → IsFeasible (design w) r (at w.xi) t → InBox (count w) (top w r) v →
+    (pos (2 ^ 41) *ℤ pos w.c.steps *ℤ rows_over w *ℤ square r *ℤ costs w (over w) (plan w) +ℤ
+    pos (2 ^ 41) *ℤ pos w.c.steps *ℤ costs_over w *ℤ over w *ℤ r *ℤ dot (count w) v (excess w)) ≤ℤ
+    (pos (2 ^ 41) *ℤ pos w.c.steps *ℤ rows_over w *ℤ square (over w) *ℤ costs w r t +ℤ
+    pos (2 ^ 40 * 2 ^ w.c.step_exponent) *ℤ costs_over w *ℤ rows_over w *ℤ square (over w) *ℤ total (count w) (λ i. square (v i)) +ℤ
+    pos 2 *ℤ pos w.c.steps *ℤ costs_over w *ℤ rows_over w *ℤ square r *ℤ square (over w) *ℤ pos (errors w))
+run_bound run w r t v pr f b =
+    one_power _ _ (pos (2 ^ 40)) (pos (2 ^ w.c.step_exponent)) (pos (2 ^ 40 * 2 ^ w.c.step_exponent)) (costs_over w) (rows_over w) (over w)
+    (total (count w) (λ i. pos (2 ^ exponent_of w.c i) *ℤ square (v i))) (total (count w) (λ i. square (v i))) _
+    (total_scale (count w) (pos (2 ^ w.c.step_exponent)) (λ i. square (v i))) refl
+    (run w.p w.h (bound w) w.c w.xi (run_of w) w.e (errors w) (w.backed.errors w.xi w.long w.inside) (omega arith) r t v pr f b)
+
 -- ---- the gap
 costs_at : MachineRunLaw → (w : Point) → (r : ℤ) (t : ℕ → ℤ) → pos 0 <ℤ r → IsFeasible (design w) r (at w.xi) t →
     CostsAtMost (design w) (at w.xi) (over w) (plan w) r t (pos (errors w))
@@ -164,7 +179,7 @@ costs_at run w r t pr f =
     gap_closed (pos (2 ^ 40)) (pos (2 ^ 41)) (pos (2 ^ 40 * 2 ^ w.c.step_exponent)) (pos w.c.steps) (costs_over w) (rows_over w)
     (over w) r (costs w (over w) (plan w)) (costs w r t) (pos (errors w)) _ _
     (steps_positive w) (rows_over_positive w) refl (dot_none (count w) (excess w)) (squares_none (count w))
-    (run w.p (bound w) w.c w.xi (run_of w) r t none pr f (none_in_box (count w) (top w r) (top_nonneg w r pr)))
+    (run_bound run w r t none pr f (none_in_box (count w) (top w r) (top_nonneg w r pr)))
 
 -- ---- the rows
 -- the two parts of the violation
@@ -197,7 +212,7 @@ row_at run w k l h =
     (pos (bound w)) (pos (2 * bound w)) (excess w k) (first w) (second w) _ _
     (steps_positive w) (costs_over_positive w) (rows_over_positive w) (over_positive w) h.positive (bound_positive w) (omega (arith, ints))
     refl (omega (arith, ints)) (dot_single (count w) k (top w h.denominator) (excess w) l) (squares_single (count w) k (top w h.denominator) l)
-    (run w.p (bound w) w.c w.xi (run_of w) h.denominator h.plan (at_row k (top w h.denominator)) h.positive h.feasible
+    (run_bound run w h.denominator h.plan (at_row k (top w h.denominator)) h.positive h.feasible
     (row_in_box (count w) k (top w h.denominator) (top_nonneg w h.denominator h.positive)))
     h.cheap (first_part w.c.step_exponent (bound w) w.c.steps (steps_some w)) (second_part (errors w) (bound w) (omega arith))
 
