@@ -1,11 +1,12 @@
 #!/usr/bin/env python3
 """Proves everything from nothing in a fresh clone, and prints what it took, crate by crate.
 
-    bench/gate/run.py [--lanes N] [--log FILE] [NAME ..]     the gate, `rt ci`: every proof, every test, every must-fail edit
-    bench/gate/run.py --first                                the first answer: ./mpc, which proves and builds the program
+    bench/gate/run.py --anew [--lanes N] [--log FILE] [NAME ..]     the gate, `rt ci --anew`: every proof, every test, every must-fail edit
+    bench/gate/run.py --first                                       the first answer: ./mpc, which proves and builds the program
 
-What is measured is what is committed. The clone has no kept work, and the gate reads none: it proves over the kit's built library alone. With names, these crates
-and those below them are proved, and the others are taken out of the clone. --lanes N proves N crates side by side with one process each, whatever memory there is;
+What is measured is what is committed. The clone has no kept work, and with --anew the gate reads none. Without it the gate takes what an earlier run on this machine passed of the
+same files, as it does in a checkout, and the table has what is left. With names, these crates and those below them are proved, and the others are taken out of the
+clone. --lanes N proves N crates side by side with one process each, whatever memory there is;
 without it the gate chooses by processors and memory, and a proof may share several processors, which costs some more processor time. Stopped by Ctrl-C or a
 SIGTERM, it tells what it has measured.
 
@@ -210,7 +211,7 @@ def gate(options):
         os.chdir(root)
         watch()
         try:
-            status = tool().main(["ci"])
+            status = tool().main(["ci", "--anew"] if options.anew else ["ci"])
         except SystemExit as ended:
             status = ended.code
         os.chdir("/")
@@ -234,6 +235,7 @@ def first():
 def main():
     parser = argparse.ArgumentParser(description=__doc__, formatter_class=argparse.RawDescriptionHelpFormatter)
     parser.add_argument("names", nargs="*", metavar="NAME")
+    parser.add_argument("--anew", action="store_true")
     parser.add_argument("--lanes", type=int)
     parser.add_argument("--log")
     parser.add_argument("--first", action="store_true")

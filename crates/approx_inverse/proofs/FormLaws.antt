@@ -1,25 +1,27 @@
 -- What holds of the matrix and the columns as code has them, holds of the condensed form's.
 use Rattle.std.specs.Prelude.{Result, Ok, Err, OnOk, IfOk, IfErr, is_ok, Bool, true, false}
 use Rattle.std.proofs.lemmas.Bool.{cases_lt}
-use Rattle.std.proofs.Common.{inl, inr, ◌≡◌, ℕ, ◌+◌, ◌<◌, ◌≤◌, ◌^◌, ℤ, pos, ◌-ℤ◌, ◌*ℤ◌, ◌≤ℤ◌, List, length, unsigned_abs, arith, ap, sym, ◌∙◌, refl}
+use Rattle.std.proofs.Common.{inl, inr, ◌≡◌, ◌⊎◌, ℕ, ◌+◌, ◌<◌, ◌≤◌, ◌^◌, ℤ, pos, ◌-ℤ◌, ◌*ℤ◌, ◌≤ℤ◌, List, length, unsigned_abs, arith, ap, sym, ◌∙◌, refl}
 use Rattle.integer_algebra.specs.Sums.{total, dot, image, at}
 use Rattle.integer_algebra.specs.Sizes.{size}
 use Rattle.integer_algebra.proofs.SumLaws.{total_same}
 use Rattle.integer_algebra.proofs.SizeLaws.{size_same}
 use Rattle.mat_int.specs.Matrix.{Matrix, entry_of}
 use Rattle.qp_model.specs.Convex.{IsConvex}
+use Rattle.qp_model.specs.declared.quantity.Quantity.{Quantity}
+use Rattle.qp_model.specs.declared.quantity.Quantity.TheVariants.{Descent}
 use Rattle.qp_model.specs.GoodSolution.{IsGood}
-use Rattle.plant_condense.specs.Form.{solve_matrix}
-use Rattle.plant_condense.specs.declared.condensed.Condensed.{Condensed}
+use Rattle.qp_model.specs.Form.{Form}
+use Rattle.qp_model.specs.Columns.{columns, descent_size, solve_matrix, solve_column}
 use Rattle.approx_inverse.specs.System.{IsSystem}
-use Rattle.approx_inverse.specs.Condensed.{IsMatrixOf, IsSolvable, system_column, columns_of, entries_of, limit_count, states_of}
+use Rattle.approx_inverse.specs.Condensed.{IsMatrixOf}
 use Rattle.approx_inverse.specs.DescentSize.{EachWithin, entry_bound, descent_of_column}
-use Rattle.approx_inverse.specs.Inverse.{IsSolution, SolvesForm, descent_of}
+use Rattle.approx_inverse.specs.Inverse.{IsSolution, SolvesForm}
 use Rattle.approx_inverse.specs.Fault.{IsFault}
 use Rattle.approx_inverse.specs.declared.fault.SolveFault.{SolveFault}
 use Rattle.approx_inverse.specs.declared.fault.SolveFault.TheVariants.{Memory, TooWide}
 use Rattle.approx_inverse.specs.declared.inverse.Inverse.{Inverse}
-use Rattle.approx_inverse.proofs.SizeLaws.{all_fit, column_among, column_same, wide_column}
+use Rattle.approx_inverse.proofs.SizeLaws.{all_fit, column_among, column_same}
 
 -- ---- equal numbers
 pub image_equal : (n : ℕ) (h k : ℕ → ℕ → ℤ) (x y : ℕ → ℤ) (i : ℕ) → i < n → ((i j : ℕ) → i < n → j < n → h i j ≡ k i j) → ((j : ℕ) → j < n → x j ≡ y j) →
@@ -45,32 +47,30 @@ pub bound_same : (n : ℕ) (c d : ℕ → ℤ) (floor : ℤ) (f : ℕ) → ((j :
 bound_same n c d floor f e = rw (size_same n c d e) refl
 
 -- ---- one column
-pub system_from : (c : Condensed) (h : Matrix) → IsSolvable c → IsMatrixOf c h → IsSystem h (entries_of c) c.floor
-system_from c h solvable matrix = record {
+pub system_from : (h : Form) (m : Matrix) → IsConvex h.entries (solve_matrix h) h.floor → IsMatrixOf h m → IsSystem m h.entries h.floor
+system_from h m convex matrix = record {
   rows = matrix.rows;
   cols = matrix.cols;
-  convex = convex_same (entries_of c) (solve_matrix c) (entry_of h) c.floor (λ i j l m. sym (matrix.entry i j l m)) solvable.convex;
+  convex = convex_same h.entries (solve_matrix h) (entry_of m) h.floor (λ i j l o. sym (matrix.entry i j l o)) convex;
 }
 
-pub solution_from : (c : Condensed) (f i : ℕ) (h : Matrix) (column : List ℤ) (x : ℕ → ℤ) → IsMatrixOf c h → ((j : ℕ) → j < entries_of c → at column j ≡ system_column c i j) →
-    IsGood (entries_of c) (entry_of h) f (at column) x → EachWithin (entries_of c) (entry_bound (entries_of c) (at column) c.floor f) x →
-    descent_of_column (entries_of c) (entry_of h) (at column) c.floor f ≤ 2 ^ 126 → IsSolution c f i x
-solution_from c f i h column x matrix e good within room =
-    let n = entries_of c in
+pub solution_from : (h : Form) (f i : ℕ) (m : Matrix) (column : List ℤ) (x : ℕ → ℤ) → IsMatrixOf h m → ((j : ℕ) → j < h.entries → at column j ≡ solve_column h i j) →
+    IsGood h.entries (entry_of m) f (at column) x → EachWithin h.entries (entry_bound h.entries (at column) h.floor f) x →
+    descent_of_column h.entries (entry_of m) (at column) h.floor f ≤ 2 ^ 126 → IsSolution h f i x
+solution_from h f i m column x matrix e good within room =
+    let n = h.entries in
     record {
-      good = good_same n (entry_of h) (solve_matrix c) f (at column) (system_column c i) x x matrix.entry e (λ j l. refl) good;
-      within = rw (← (bound_same n (at column) (system_column c i) c.floor f e)) within;
-      room = rw (← (column_same n (entry_of h) (solve_matrix c) (at column) (system_column c i) c.floor f matrix.entry e)) room;
+      good = good_same n (entry_of m) (solve_matrix h) f (at column) (solve_column h i) x x matrix.entry e (λ j l. refl) good;
+      within = rw (← (bound_same n (at column) (solve_column h i) h.floor f e)) within;
+      room = rw (← (column_same n (entry_of m) (solve_matrix h) (at column) (solve_column h i) h.floor f matrix.entry e)) room;
     }
 
 -- a column without room
-pub wide_from : (c : Condensed) (f i : ℕ) (h : Matrix) (column : List ℤ) → IsMatrixOf c h → i < columns_of c → ((j : ℕ) → j < entries_of c → at column j ≡ system_column c i j) →
-    2 ^ 126 < descent_of_column (entries_of c) (entry_of h) (at column) c.floor f → 2 ^ 126 < descent_of c f
-wide_from c f i h column matrix l e wide =
-    let n = entries_of c in
-    let w = rw (column_same n (entry_of h) (solve_matrix c) (at column) (system_column c i) c.floor f matrix.entry e) at wide in
-    let k = column_among n (solve_matrix c) (columns_of c) (system_column c) c.floor f i l in
-    omega (arith, w, k)
+pub wide_from : (h : Form) (f i : ℕ) (m : Matrix) (column : List ℤ) → IsMatrixOf h m → i < columns h → ((j : ℕ) → j < h.entries → at column j ≡ solve_column h i j) →
+    2 ^ 126 < descent_of_column h.entries (entry_of m) (at column) h.floor f → 2 ^ 126 < descent_size h f
+wide_from h f i m column matrix l e wide =
+    let w = rw (column_same h.entries (entry_of m) (solve_matrix h) (at column) (solve_column h i) h.floor f matrix.entry e) at wide in
+    omega (arith, w, column_among h f i l)
 
 -- ---- answers
 pub on_ok : {T E : Type 0} (r : Result T E) {P : Type 0} → is_ok r ≡ true → OnOk r P → P
@@ -85,10 +85,10 @@ not_fit n b e h = elim (cases_lt (2 ^ 126) n) [
 ]
 
 -- a solution's numbers, under another name
-pub solution_kept : (c : Condensed) (f i : ℕ) (x y : ℕ → ℤ) → ((j : ℕ) → j < entries_of c → x j ≡ y j) → IsSolution c f i x → IsSolution c f i y
-solution_kept c f i x y e is = record {
-  good = good_same (entries_of c) (solve_matrix c) (solve_matrix c) f (system_column c i) (system_column c i) x y (λ i j l m. refl) (λ j l. refl) e is.good;
-  within = within_same (entries_of c) _ _ x y refl e is.within;
+pub solution_kept : (h : Form) (f i : ℕ) (x y : ℕ → ℤ) → ((j : ℕ) → j < h.entries → x j ≡ y j) → IsSolution h f i x → IsSolution h f i y
+solution_kept h f i x y e is = record {
+  good = good_same h.entries (solve_matrix h) (solve_matrix h) f (solve_column h i) (solve_column h i) x y (λ i j l m. refl) (λ j l. refl) e is.good;
+  within = within_same h.entries _ _ x y refl e is.within;
   room = is.room;
 }
 
@@ -109,10 +109,13 @@ pub fault_gives : (e : SolveFault) {P Q : Type 0} → (P → Q) → IsFault e P 
 fault_gives Memory h p = tt
 fault_gives (TooWide q) h p = (p.0, h p.1)
 
+-- what is too wide is refused, unless memory runs out before
+pub refusal_of : {T : Type 0} (r : Result T SolveFault) (n : ℕ) → OnOk r (n ≤ 2 ^ 126) → IfErr r (λ e. IsFault e (2 ^ 126 < n)) → 2 ^ 126 < n →
+    (r ≡ Err (TooWide Descent)) ⊎ (r ≡ Err Memory)
+refusal_of (Ok v) n fits wide h = absurd (omega (arith, fits, h))
+refusal_of (Err Memory) n fits wide h = inr refl
+refusal_of (Err (TooWide q)) n fits wide h = inl (ap (λ (q : Quantity). Err (TooWide q)) wide.0)
+
 -- where each column has a solution, all have room
-pub room_from : (c : Condensed) (f : ℕ) (v : Inverse) → IsSolvable c → SolvesForm c f v → descent_of c f ≤ 2 ^ 126
-room_from c f v solvable solves =
-    all_fit (entries_of c) (solve_matrix c) (columns_of c) (system_column c) c.floor f solvable.convex.positive (some (states_of c) (limit_count c)) (λ i l. (solves.solved i l).room)
-  where
-    some : (a b : ℕ) → 0 < a + 1 + b
-    some a b = omega arith
+pub room_from : (h : Form) (f : ℕ) (v : Inverse) → pos 1 ≤ℤ h.floor → SolvesForm h f v → descent_size h f ≤ 2 ^ 126
+room_from h f v positive solves = all_fit h f positive (λ i l. (solves.solved i l).room)

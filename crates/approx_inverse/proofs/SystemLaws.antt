@@ -7,9 +7,8 @@ use Rattle.std.proofs.lemmas.Bool.Decides.{nat_tests}
 use Rattle.std.proofs.lemmas.List.{get_or_append_left, get_or_push}
 use Rattle.integer_algebra.specs.Sums.{at}
 use Rattle.mat_int.specs.Matrix.{Matrix, entry_of}
-use Rattle.plant_condense.specs.Form.{solve_matrix}
-use Rattle.plant_condense.specs.declared.condensed.Condensed.{Condensed}
-use Rattle.approx_inverse.specs.Condensed.{system_column, entries_of, row_factor, states_of}
+use Rattle.qp_model.specs.Form.{Form}
+use Rattle.qp_model.specs.Columns.{solve_matrix, solve_column}
 use Rattle.std.proofs.Math.Nat.{mul-le-mul_right}
 use Rattle.integer_algebra.specs.Sizes.{size}
 use Rattle.integer_algebra.proofs.SizeLaws.{at_size, size_same}
@@ -42,24 +41,18 @@ wide_same n f g w e = rw (← (size_same n f g e)) w
 pub factors : (p r w g : ℤ) → p *ℤ (r *ℤ (r *ℤ (w *ℤ g))) ≡ p *ℤ (r *ℤ (r *ℤ w)) *ℤ g
 factors p r w g = by_ring (p ∷ r ∷ w ∷ g ∷ []) (search quotes depth 60 fits 20000) refl
 
--- ---- the columns of a condensed form
-pub column_of_state : (c : Condensed) (i j : ℕ) → i < states_of c → system_column c i j ≡ c.limit_den *ℤ entry_of c.lin j i
-column_of_state c i j l = grind (arith, nat_tests)
-
-pub column_of_constant : (c : Condensed) (i j : ℕ) → i ≡ states_of c → system_column c i j ≡ c.limit_den *ℤ at c.off.items j
-column_of_constant c i j e = grind (arith, nat_tests)
-
-pub column_of_row : (c : Condensed) (i j : ℕ) → states_of c < i → system_column c i j ≡ row_factor c *ℤ entry_of c.g (i - (states_of c + 1)) j
-column_of_row c i j l = grind (arith, nat_tests)
+-- ---- the columns of a form
+pub column_of_state : (h : Form) (i j : ℕ) → i < h.states → solve_column h i j ≡ h.matrix_factor *ℤ h.numbers.linear j i
+column_of_state h i j l = grind (arith, nat_tests)
 
 -- one more row of the matrix
-pub matrix_more : (c : Condensed) (old new : Matrix) (line : List ℤ) (i : ℕ) → new ≡ record old { rows = old.rows ++ line ∷ [] } → length old.rows ≡ i →
-    ((k j : ℕ) → k < i → j < entries_of c → entry_of old k j ≡ solve_matrix c k j) → ((j : ℕ) → j < entries_of c → at line j ≡ solve_matrix c i j) →
-    (k j : ℕ) → k < i + 1 → j < entries_of c → entry_of new k j ≡ solve_matrix c k j
-matrix_more c old new line i e long before here k j l m = elim (cases_lt k i) [
+pub matrix_more : (h : Form) (old new : Matrix) (line : List ℤ) (i : ℕ) → new ≡ record old { rows = old.rows ++ line ∷ [] } → length old.rows ≡ i →
+    ((k j : ℕ) → k < i → j < h.entries → entry_of old k j ≡ solve_matrix h k j) → ((j : ℕ) → j < h.entries → at line j ≡ solve_matrix h i j) →
+    (k j : ℕ) → k < i + 1 → j < h.entries → entry_of new k j ≡ solve_matrix h k j
+matrix_more h old new line i e long before here k j l m = elim (cases_lt k i) [
   | inl o ↦ ap (λ (rows : List (List ℤ)). get_or (get_or rows k []) j (pos 0)) (ap (λ (x : Matrix). x.rows) e) ∙
       ap (λ (row : List ℤ). at row j) (get_or_append_left old.rows (line ∷ []) [] k (omega arith)) ∙ before k j o m
   | inr o ↦ (let is : k ≡ i = omega arith in
       ap (λ (rows : List (List ℤ)). get_or (get_or rows k []) j (pos 0)) (ap (λ (x : Matrix). x.rows) e) ∙
-      ap (λ (row : List ℤ). at row j) (get_or_push old.rows line [] k (omega arith)) ∙ here j m ∙ ap (λ (a : ℕ). solve_matrix c a j) (sym is))
+      ap (λ (row : List ℤ). at row j) (get_or_push old.rows line [] k (omega arith)) ∙ here j m ∙ ap (λ (a : ℕ). solve_matrix h a j) (sym is))
 ]

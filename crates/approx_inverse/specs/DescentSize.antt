@@ -23,8 +23,3 @@ descent_sum row entry column f = 2 * row * (entry + 1) + 2 ^ (f + 1) * column
 -- for a matrix and one column
 abbrev pub descent_of_column : ℕ → (ℕ → ℕ → ℤ) → (ℕ → ℤ) → ℤ → ℕ → ℕ
 descent_of_column n h c floor f = descent_sum (greatest_row n n h) (entry_bound n c floor f) (size n c) f
-
--- for a matrix and `count` columns
-abbrev pub descent_of_columns : ℕ → (ℕ → ℕ → ℤ) → (count : ℕ) → (ℕ → ℕ → ℤ) → ℤ → ℕ → ℕ
-descent_of_columns n h count columns floor f =
-    descent_sum (greatest_row n n h) (greatest count (λ k. entry_bound n (columns k) floor f)) (greatest_row count n columns) f

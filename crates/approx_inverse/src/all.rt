@@ -1,11 +1,13 @@
 // All columns of a condensed form.
-ghost use Rattle.std.specs.Prelude.{ℕ, ◌<◌, ◌≤◌, ◌^◌, IfOk, OnOk, IfErr};
+ghost use Rattle.std.specs.Prelude.{ℕ, ◌≡◌, ◌⊎◌, ◌<◌, ◌≤◌, ◌^◌, Err, IfOk, OnOk, IfErr};
 ghost use Rattle.qp_model.specs.declared.design_parts.DesignParts.{DesignParts};
+ghost use Rattle.qp_model.specs.declared.quantity.Quantity.TheVariants.{Descent};
 ghost use Rattle.qp_model.specs.Parts.{design_of};
+ghost use Rattle.qp_model.specs.Form.{form_of};
 ghost use Rattle.qp_model.specs.Columns.{descent_size};
-ghost use Rattle.plant_condense.specs.Form.{IsForm, IsFormOf};
+ghost use Rattle.plant_condense.specs.Form.{IsForm, IsFormOf, held};
 ghost use Rattle.approx_inverse.specs.Condensed.{IsSolvable};
-ghost use Rattle.approx_inverse.specs.Inverse.{IsInverseOf, SolvesForm, descent_of};
+ghost use Rattle.approx_inverse.specs.Inverse.{IsInverseOf, SolvesForm};
 ghost use Rattle.approx_inverse.specs.Fault.{IsFault};
 
 use crate::fault::SolveFault;
@@ -21,8 +23,8 @@ use std::alloc::Global;
 fn solve_form(alloc: Global, c: &Condensed, f: u32) -> Result<Inverse, SolveFault>
     requires solvable { IsSolvable c.now }
     requires bits { f ≤ 48 }
-    ensures solved { IfOk result (SolvesForm c.now f) }
-    ensures wide { IfErr result (λ e. IsFault e (2 ^ 126 < descent_of c.now f)) }
+    ensures solved { IfOk result (SolvesForm (held c.now) f) }
+    ensures wide { IfErr result (λ e. IsFault e (2 ^ 126 < descent_size (held c.now) f)) }
 {
     let (entries, states, rows) = (c.hess.rows(), c.lin.cols(), c.g.rows());
     let mut work = Workspace::with_entries(alloc, entries)?;
@@ -45,9 +47,15 @@ fn solve_form(alloc: Global, c: &Condensed, f: u32) -> Result<Inverse, SolveFaul
 pub fn solve_all(alloc: Global, c: &Condensed, f: u32) -> Result<Inverse, SolveFault>
     requires form { IsForm c.now }
     requires bits { f ≤ 48 }
-    ensures solved { IfOk result (λ v. (p : DesignParts) → IsFormOf p c.now → IsInverseOf (design_of p) f v) }
-    ensures fits { OnOk result ((p : DesignParts) → IsFormOf p c.now → descent_size (design_of p) f ≤ 2 ^ 126) }
-    ensures wide { IfErr result (λ e. (p : DesignParts) → IsFormOf p c.now → IsFault e (2 ^ 126 < descent_size (design_of p) f)) }
+
+    // What is made, and where.
+    ensures solved { IfOk result (λ v. (p : DesignParts) → IsFormOf p c.now → IsInverseOf (form_of (design_of p)) f v) }
+    ensures fits { OnOk result ((p : DesignParts) → IsFormOf p c.now → descent_size (form_of (design_of p)) f ≤ 2 ^ 126) }
+
+    // The cause of a refusal; and the other way round, with nothing but want of memory in between.
+    ensures wide { IfErr result (λ e. (p : DesignParts) → IsFormOf p c.now → IsFault e (2 ^ 126 < descent_size (form_of (design_of p)) f)) }
+    ensures every_refusal { (p : DesignParts) → IsFormOf p c.now → 2 ^ 126 < descent_size (form_of (design_of p)) f
+        → (result ≡ Err (SolveFault.TooWide Descent)) ⊎ (result ≡ Err SolveFault.Memory) }
 {
     solve_form(alloc, c, f)
 }

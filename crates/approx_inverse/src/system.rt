@@ -4,8 +4,9 @@ ghost use Rattle.std.specs.Option.{SomeIff};
 ghost use Rattle.integer_algebra.specs.Sums.{at};
 ghost use Rattle.integer_algebra.specs.Sizes.{size};
 ghost use Rattle.mat_int.specs.Matrix.{entry_of};
-ghost use Rattle.plant_condense.specs.Form.{solve_matrix};
-ghost use Rattle.approx_inverse.specs.Condensed.{IsSolvable, IsMatrixOf, entries_of, columns_of, system_column};
+ghost use Rattle.qp_model.specs.Columns.{columns, solve_column, solve_matrix};
+ghost use Rattle.plant_condense.specs.Form.{held};
+ghost use Rattle.approx_inverse.specs.Condensed.{IsSolvable, IsMatrixOf};
 ghost use Rattle.approx_inverse.specs.DescentSize.{greatest_row};
 ghost use Rattle.approx_inverse.specs.Fault.{IsFault};
 
@@ -72,10 +73,10 @@ fn scale_row(xs: &mut [i128], w: i128, r: i128, p: i128) -> bool
 /// Puts column i into a list. False where a number of it is above `2^126` in absolute value; then the list holds anything.
 pub fn put_column(c: &Condensed, i: usize, out: &mut [i128]) -> bool
     requires solvable { IsSolvable c.now }
-    requires column { i < columns_of c.now }
-    requires len { length out.old ≡ entries_of c.now }
-    ensures done { IsTrue result → (j : ℕ) → j < length out.old → at out.new j ≡ system_column c.now i j }
-    ensures wide { IsFalse result → 2 ^ 126 < size (length out.old) (system_column c.now i) }
+    requires column { i < columns (held c.now) }
+    requires len { length out.old ≡ (held c.now).entries }
+    ensures done { IsTrue result → (j : ℕ) → j < length out.old → at out.new j ≡ solve_column (held c.now) i j }
+    ensures wide { IsFalse result → 2 ^ 126 < size (length out.old) (solve_column (held c.now) i) }
 {
     let states = c.lin.cols();
     if i < states {
@@ -93,9 +94,9 @@ pub fn put_column(c: &Condensed, i: usize, out: &mut [i128]) -> bool
 /// The matrix. `TooWide` where a number of it is above `2^126` in absolute value. `line` is for a row.
 pub fn matrix_of(alloc: Global, c: &Condensed, line: &mut [i128]) -> Result<Mat, SolveFault>
     requires solvable { IsSolvable c.now }
-    requires len { length line.old ≡ entries_of c.now }
-    ensures ok { IfOk result (IsMatrixOf c.now) }
-    ensures err { IfErr result (λ e. IsFault e (2 ^ 126 < greatest_row (entries_of c.now) (entries_of c.now) (solve_matrix c.now))) }
+    requires len { length line.old ≡ (held c.now).entries }
+    ensures ok { IfOk result (IsMatrixOf (held c.now)) }
+    ensures err { IfErr result (λ e. IsFault e (2 ^ 126 < greatest_row (held c.now).entries (held c.now).entries (solve_matrix (held c.now)))) }
 {
     let entries = c.hess.rows();
     let mut mat = Mat::zero(alloc, 0, entries)?;

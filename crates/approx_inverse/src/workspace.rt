@@ -1,6 +1,8 @@
 // What solving works in.
 ghost use Rattle.std.specs.Prelude.{ℕ, ◌≡◌, ◌<◌, ◌≤◌, ◌+◌, ◌^◌, length, IsTrue, IsFalse, IfOk};
-ghost use Rattle.approx_inverse.specs.Condensed.{IsSolvable, IsMatrixOf, entries_of, columns_of};
+ghost use Rattle.qp_model.specs.Columns.{columns, descent_size};
+ghost use Rattle.plant_condense.specs.Form.{held};
+ghost use Rattle.approx_inverse.specs.Condensed.{IsSolvable, IsMatrixOf};
 ghost use Rattle.approx_inverse.specs.Spans.{cells};
 ghost use Rattle.approx_inverse.specs.Root.{HasRootSizes};
 
@@ -23,7 +25,7 @@ pub struct Workspace {
 }
 
 impl Workspace {
-    ghost use Rattle.approx_inverse.specs.Inverse.{IsSolution, descent_of};
+    ghost use Rattle.approx_inverse.specs.Inverse.{IsSolution};
     ghost use Rattle.approx_inverse.specs.Workspace.{IsWorkspace};
 
     /// Takes the memory that columns of n numbers need.
@@ -50,14 +52,14 @@ impl Workspace {
     /// Solves column i. False where the quantity `descent` is above `2^126`.
     pub fn solve(&mut self, c: &Condensed, i: usize, f: u32, h: &Mat, root: &Root) -> bool
         requires solvable { IsSolvable c.now }
-        requires matrix { IsMatrixOf c.now h.now }
-        requires root { HasRootSizes (entries_of c.now) root.now }
-        requires work { IsWorkspace (entries_of c.now) self.old }
-        requires column { i < columns_of c.now }
+        requires matrix { IsMatrixOf (held c.now) h.now }
+        requires root { HasRootSizes (held c.now).entries root.now }
+        requires work { IsWorkspace (held c.now).entries self.old }
+        requires column { i < columns (held c.now) }
         requires bits { f ≤ 48 }
-        ensures work { IsWorkspace (entries_of c.now) self.new }
-        ensures solved { IsTrue result → IsSolution c.now f i (cells self.new.region.words self.new.solution.start) }
-        ensures wide { IsFalse result → 2 ^ 126 < descent_of c.now f }
+        ensures work { IsWorkspace (held c.now).entries self.new }
+        ensures solved { IsTrue result → IsSolution (held c.now) f i (cells self.new.region.words self.new.solution.start) }
+        ensures wide { IsFalse result → 2 ^ 126 < descent_size (held c.now) f }
     {
         if !put_column(c, i, &mut self.column) {
             return false;

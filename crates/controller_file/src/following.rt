@@ -6,6 +6,7 @@ ghost use Rattle.controller_file.specs.Following.{IsBeginning, IsVersionLine, Ar
 
 use crate::line::{Line, has_place};
 use qp_model::range::{are_highs, are_numerators};
+use qp_model::{MOST_INPUTS, MOST_ROWS, MOST_STAGES, MOST_STATES, VERSION};
 
 /// Whether a text in form has this line after these, which are the first lines of one.
 pub fn can_follow(before: &[Line], line: &Line) -> bool
@@ -66,7 +67,7 @@ fn can_follow_sizes(before: &[Line], sizes: Sizes, line: &Line) -> bool
 fn is_version(line: &Line) -> bool
     ensures { IsTrue result ↔ IsVersionLine (view line.now) }
 {
-    has_place(line, "mpc-controller", 1) && line.numbers[0] == 1
+    has_place(line, "mpc-controller", 1) && line.numbers[0] == VERSION as i128
 }
 
 fn is_size(line: &Line) -> bool
@@ -80,10 +81,10 @@ fn are_sizes(numbers: &[i128]) -> bool
     requires { length numbers.now ≡ 4 }
     ensures { IsTrue result ↔ AreHeadSizes numbers.now }
 {
-    is_from(1, 4, numbers[0])
-        && is_from(1, 3, numbers[1])
-        && is_from(1, 20, numbers[2])
-        && is_from(1, 252, numbers[3])
+    is_from(1, MOST_STATES as i128, numbers[0])
+        && is_from(1, MOST_INPUTS as i128, numbers[1])
+        && is_from(1, MOST_STAGES as i128, numbers[2])
+        && is_from(1, MOST_ROWS as i128, numbers[3])
 }
 
 fn is_bits(line: &Line) -> bool

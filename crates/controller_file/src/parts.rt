@@ -9,7 +9,7 @@ ghost use Rattle.controller_file.specs.Reading.{Gives, natural, numbers_in, numb
 use crate::fault::LineFault;
 use crate::line::{Line, has_place, lines_of};
 use mat_int::Mat;
-use qp_model::ControllerParts;
+use qp_model::{ControllerParts, VERSION};
 use std::alloc::Global;
 
 pub fn read_parts(alloc: Global, text: &[u8]) -> Result<ControllerParts, LineFault>
@@ -114,7 +114,7 @@ fn read_head<'a, 't>(lines: &'a [Line<'t>]) -> Result<(Head, &'a [Line<'t>]), Li
     ensures { Gives (λ x. (x.0, views x.1.now)) result (head_at (views lines.now)) }
 {
     let (version, lines) = read_natural("mpc-controller", lines)?;
-    if version != 1 {
+    if version != VERSION as u32 {
         return Err(LineFault::Form);
     }
     let ((n, p, stages, m), lines) = read_four("size", lines)?;

@@ -6,7 +6,7 @@ use Rattle.integer_algebra.specs.Division.{round_of}
 use Rattle.mat_int.specs.Matrix.{Matrix, row_of, entry_of}
 use Rattle.qp_model.specs.Design.{Design, entries, rows}
 use Rattle.qp_model.specs.Parts.{design_of}
-use Rattle.qp_model.specs.Form.{rows_scale}
+use Rattle.qp_model.specs.Form.{rows_scale, form_of}
 use Rattle.qp_model.specs.Condensing.{condensed_of}
 use Rattle.qp_model.specs.Choices.{multiplier_of, step_count, violation_bound, undercut_bound}
 use Rattle.qp_model.specs.Errors.{error_sums_of}
@@ -14,7 +14,7 @@ use Rattle.qp_model.specs.Controller.{Numbers, HasShape, plan_length}
 use Rattle.bit_choice.specs.Choice.{IsChoice}
 use Rattle.approx_inverse.proofs.MatrixLaws.{row_long}
 use Rattle.design_engine.specs.Targets.{Targets, targets_of, half_target, error_limit}
-use Rattle.design_engine.specs.Bounds.{margin_of, printed_multiplier, errors_cost}
+use Rattle.design_engine.specs.Bounds.{margin_of, printed_multiplier, stated_cost}
 use Rattle.design_engine.specs.Agreement.{AgreementLaw}
 use Rattle.design_engine.proofs.OneOfEach.{one_margin, one_exponent, one_choice}
 
@@ -38,10 +38,10 @@ shape_as : (m : Matrix) (h w height width : ℕ) → h ≡ height → w ≡ widt
 shape_as m h w height width e f s = rw (e, f) at s
 
 -- ---- the choice of bits, by either name of R
-choice_same : (d : Design) (t : Targets) (r q f g : ℕ) → r ≡ q → IsChoice (error_sums_of d r) d.grid (error_limit t r) f →
-    IsChoice (error_sums_of d q) d.grid (error_limit t q) g → f ≡ g
+choice_same : (d : Design) (t : Targets) (r q f g : ℕ) → r ≡ q → IsChoice (error_sums_of d (form_of d) r) d.grid (error_limit t r) f →
+    IsChoice (error_sums_of d (form_of d) q) d.grid (error_limit t q) g → f ≡ g
 choice_same d t r q f g e x y =
-    one_choice (error_sums_of d q) d.grid (error_limit t q) f g (subst (λ (n : ℕ). IsChoice (error_sums_of d n) d.grid (error_limit t n) f) e x) y
+    one_choice (error_sums_of d (form_of d) q) d.grid (error_limit t q) f g (subst (λ (n : ℕ). IsChoice (error_sums_of d (form_of d) n) d.grid (error_limit t n) f) e x) y
 
 -- ---- the law
 pub agreement : AgreementLaw
@@ -121,8 +121,8 @@ agreement p plans c other b printed h k = record {
     bits : c.fraction_bits ≡ other.fraction_bits
     bits = choice_same d t (printed_multiplier b) (printed_multiplier printed) c.fraction_bits other.fraction_bits r h.bits k.bits
 
-    errors : errors_cost d (printed_multiplier b) c.fraction_bits ≡ errors_cost d (printed_multiplier printed) other.fraction_bits
-    errors = λ i. errors_cost d (r i) (bits i)
+    errors : stated_cost d (printed_multiplier b) c.fraction_bits ≡ stated_cost d (printed_multiplier printed) other.fraction_bits
+    errors = λ i. stated_cost d (r i) (bits i)
 
     violation : b.violation ≡ printed.violation
     violation = h.bounds.violation ∙ (λ i. pos (violation_bound (exponent i) (r i) (steps i) (errors i))) ∙ sym k.bounds.violation

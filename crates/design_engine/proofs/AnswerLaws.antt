@@ -5,13 +5,17 @@ use Rattle.std.specs.Result.{IsErr}
 use Rattle.qp_model.specs.Parts.{IsDesign, design_of}
 use Rattle.qp_model.specs.Policy.{Plans, IsPolicyFor}
 use Rattle.qp_model.specs.Controller.{Numbers}
+use Rattle.qp_model.specs.Form.{form_of}
+use Rattle.qp_model.specs.Errors.{stated_errors}
 use Rattle.qp_model.specs.Certified.{IsCertified}
+use Rattle.qp_model.proofs.FormLaws.{form_law}
 use Rattle.qp_model.specs.declared.design_parts.DesignParts.{DesignParts}
 use Rattle.qp_model.specs.declared.bounds.Bounds.{Bounds}
 use Rattle.qp_model.specs.declared.bounds.Margin.{Margin}
 use Rattle.step_error.proofs.MachineErrors.{carried}
 use Rattle.step_error.proofs.MachineRuns.{run_from}
 use Rattle.design_engine.specs.Targets.{Targets, targets_of, IsWithinTargets}
+use Rattle.design_engine.specs.Bounds.{printed_multiplier, stated_cost}
 use Rattle.design_engine.specs.Built.{IsBuilt}
 use Rattle.design_engine.specs.Refusals.{PassesAll, HasCause, IsRefused}
 use Rattle.design_engine.specs.declared.refusal.Refusal.{Refusal}
@@ -52,15 +56,25 @@ module _ (p : DesignParts) (t : Targets) (plans : Plans) (design : IsDesign p) (
 
 -- ---- what is built
 pub built_certified : (p : DesignParts) (plans : Plans) (c : Numbers) (b : Bounds) → IsBuilt p plans c b → IsCertified (design_of p) c b
-built_certified p plans c b h = certified_from (run_from carried) p plans c b (record {
+built_certified p plans c b h = certified_from run p plans (form_of (design_of p)) (stated_errors (design_of p) (form_of (design_of p)) (printed_multiplier b) c.fraction_bits) c b (record {
   design = h.design;
   policy = h.policy;
   margin = h.margin;
   slack = h.slack;
   controller = h.controller;
+  form = form_law p h.design;
   made = h.made;
+  errors = λ xi long inside k l. carried p (form_of (design_of p)) (printed_multiplier b) c xi (record {
+    design = h.design;
+    bound = omega arith;
+    form = form_law p h.design;
+    controller = h.controller;
+    made = h.made;
+    long = long;
+    inside = inside;
+  }) k;
   bounds = h.bounds;
 })
 
 pub built_within : (p : DesignParts) (plans : Plans) (c : Numbers) (b : Bounds) → IsBuilt p plans c b → IsWithinTargets (targets_of p) b
-built_within p plans c b h = targets_law p c b (record { design = h.design; steps = h.steps; errors = h.bits.within; bounds = h.bounds })
+built_within p plans c b h = targets_law p (stated_cost (design_of p) (printed_multiplier b) c.fraction_bits) c b (record { design = h.design; steps = h.steps; errors = h.bits.within; bounds = h.bounds })

@@ -11,14 +11,14 @@ use Rattle.qp_model.specs.declared.design_parts.DesignParts.{DesignParts}
 use Rattle.qp_model.specs.declared.bounds.Bounds.{Bounds}
 use Rattle.qp_model.specs.declared.bounds.Margin.{Margin}
 use Rattle.design_engine.specs.Targets.{targets_of, half_target, error_limit}
-use Rattle.design_engine.specs.Bounds.{margin_of, AreBoundsOf}
+use Rattle.design_engine.specs.Bounds.{margin_of, stated_cost, AreBoundsOf}
 use Rattle.design_engine.specs.Assembled.{IsAssembled}
 use Rattle.design_engine.specs.Built.{IsBuilt}
 use Rattle.design_engine.specs.Refusals.{PassesMargin, PassesBits}
 
 pub built_from : (p : DesignParts) (plans : Plans) (c : Numbers) (b : Bounds) (m : Margin) (r s k f : ℕ) → IsDesign p → IsPolicyFor (design_of p) plans →
     PassesBits (design_of p) (targets_of p) plans m s f → IsExponent (design_of p) s → r ≡ multiplier_of m → k ≡ step_count s (multiplier_of m) (half_target (targets_of p)) →
-    margin_of b ≡ m → IsController c → IsAssembled (design_of p) r s k f c → AreBoundsOf (design_of p) c b → IsBuilt p plans c b
+    margin_of b ≡ m → IsController c → IsAssembled (design_of p) r s k f c → AreBoundsOf c b (stated_cost (design_of p) (multiplier_of m) c.fraction_bits) → IsBuilt p plans c b
 built_from p plans c b m r s k f design policy passes curved is count same sound a bounds = record {
   design = design;
   policy = policy;
@@ -29,14 +29,14 @@ built_from p plans c b m r s k f design policy passes curved is count same sound
     sizes = a.sizes;
     rows = a.rows;
     gains = a.gains;
-    exponent = rw a.step_exponent curved;
+    exponents = rw a.step_exponent curved;
     clamp = a.clamp ∙ rw (is, a.fraction_bits, a.step_exponent, units, cost) refl;
   };
   exponent = rw a.step_exponent passes.before.exponent;
   steps = a.steps ∙ count ∙ rw (a.step_exponent, units, cost) refl;
   bits = rw (a.fraction_bits, units, cost) passes.choice;
   width = a.width;
-  bounds = bounds;
+  bounds = rw (units, cost) bounds;
 }
   where
     margin : PassesMargin (design_of p) (targets_of p) plans m

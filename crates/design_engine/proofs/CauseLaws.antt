@@ -3,6 +3,7 @@ use Rattle.std.proofs.Common.{◌≡◌, inl, inr, ◌⊎◌, ℕ, ◌^◌, ◌<
 use Rattle.std.proofs.lemmas.Int.{ints}
 use Rattle.integer_algebra.proofs.OrderLaws.{le_of_lt_z, mul-le-mul_right_z}
 use Rattle.frac_scaled.specs.declared.fraction.Frac.{Frac}
+use Rattle.qp_model.specs.Form.{form_of}
 use Rattle.qp_model.specs.Design.{Design}
 use Rattle.qp_model.specs.Parts.{IsDesign, design_of}
 use Rattle.qp_model.specs.Policy.{Plans, IsPolicyFor}
@@ -23,7 +24,7 @@ use Rattle.bit_choice.specs.Choice.{IsChoice}
 use Rattle.step_error.proofs.SumFacts.{floor_range}
 use Rattle.design_engine.specs.Targets.{Targets, half_target, error_limit}
 use Rattle.design_engine.specs.Widest.{width_size}
-use Rattle.design_engine.specs.Bounds.{errors_cost}
+use Rattle.design_engine.specs.Bounds.{stated_cost}
 use Rattle.design_engine.specs.Built.{IsExponentOf}
 use Rattle.design_engine.specs.Refusals.{PassesMargin, PassesSizes, PassesSteps, PassesBits, PassesAll, HasCause, IsTooWide}
 use Rattle.design_engine.specs.Order.{CausesLaw, PassingLaw}
@@ -41,16 +42,16 @@ module _ (d : Design) (t : Targets) where
   limit m = error_limit t (multiplier_of m)
 
   abbrev AfterBits : Margin → ℕ → ℕ → Refusal → Type 0
-  AfterBits m s f = Sized Descent (descent_size d f) (Sized Width (width_size d (multiplier_of m) s (count m s) f) Nothing)
+  AfterBits m s f = Sized Descent (descent_size (form_of d) f) (Sized Width (width_size d (multiplier_of m) s (count m s) f) Nothing)
 
   abbrev IsFine : Margin → Refusal → Type 0
-  IsFine m e = (e ≡ TooFine (pos (errors_cost d (multiplier_of m) 48))) × (limit m < errors_cost d (multiplier_of m) 48)
+  IsFine m e = (e ≡ TooFine (pos (stated_cost d (multiplier_of m) 48))) × (limit m < stated_cost d (multiplier_of m) 48)
 
   abbrev IsBits : Margin → ℕ → Type 0
-  IsBits m f = IsChoice (error_sums_of d (multiplier_of m)) d.grid (limit m) f
+  IsBits m f = IsChoice (error_sums_of d (form_of d) (multiplier_of m)) d.grid (limit m) f
 
   abbrev AfterSteps : Margin → ℕ → Refusal → Type 0
-  AfterSteps m s = Sized Error (error_size d (multiplier_of m)) (Finds ℕ (IsFine m) (IsBits m) (AfterBits m s))
+  AfterSteps m s = Sized Error (error_size d (form_of d) (multiplier_of m)) (Finds ℕ (IsFine m) (IsBits m) (AfterBits m s))
 
   abbrev IsLong : Margin → ℕ → Refusal → Type 0
   IsLong m s e = (e ≡ TooManySteps (pos (count m s))) × (2 ^ 22 < count m s)
@@ -130,7 +131,7 @@ module _ (p : DesignParts) (t : Targets) (plans : Plans) (design : IsDesign p) (
   bits_one m s f = sized_one Descent _ _ (sized_one Width _ Nothing nothing_one)
 
   fine_clash : (m : Margin) (e : Refusal) (f : ℕ) → IsFine d t m e → IsBits d t m f → ⊥
-  fine_clash m e f a h = no_choice (error_sums_of d (multiplier_of m)) d.grid (limit d t m) f (floor_range p design).0 a.1 h
+  fine_clash m e f a h = no_choice (error_sums_of d (form_of d) (multiplier_of m)) d.grid (limit d t m) f (floor_range p design).0 a.1 h
 
   steps_one : (m : Margin) (s : ℕ) → IsOne (AfterSteps d t m s)
   steps_one m s = sized_one Error _ _ (finds_one ℕ (IsFine d t m) (IsBits d t m) (AfterBits d t m s) (λ e other a b. a.0 ∙ sym b.0) (fine_clash m)

@@ -7,6 +7,7 @@ use Rattle.std.proofs.lemmas.Nat.{mul-le}
 use Rattle.std.proofs.lemmas.List.FromFn.{fill_by_all}
 use Rattle.integer_algebra.specs.Sums.{at}
 use Rattle.mat_int.specs.Matrix.{Matrix}
+use Rattle.qp_model.specs.Form.{form_of}
 use Rattle.qp_model.specs.declared.design_parts.DesignParts.{DesignParts}
 use Rattle.qp_model.specs.Design.{Design, entries, rows}
 use Rattle.qp_model.specs.Parts.{IsDesign, design_of}
@@ -37,12 +38,12 @@ use Rattle.design_engine.proofs.Tables.{line_long, line_at, under_line, line_und
 -- each gain is at most the bound of its column
 pub record AreWithin (d : Design) (f : ℕ) (v : Inverse) : Type 0 where
   pub sizes : HasGainSizes v (entries d) d.states (rows d)
-  pub each : (i j : ℕ) → i < columns d → j < entries d → unsigned_abs (solution_of v i j) ≤ column_bound d f i
+  pub each : (i j : ℕ) → i < columns (form_of d) → j < entries d → unsigned_abs (solution_of v i j) ≤ column_bound (form_of d) f i
 
 -- each gain is the bound of its column
 pub record AreWidest (d : Design) (f : ℕ) (v : Inverse) : Type 0 where
   pub sizes : HasGainSizes v (entries d) d.states (rows d)
-  pub each : (i j : ℕ) → i < columns d → j < entries d → solution_of v i j ≡ pos (column_bound d f i)
+  pub each : (i j : ℕ) → i < columns (form_of d) → j < entries d → solution_of v i j ≡ pos (column_bound (form_of d) f i)
 
 pub within_from : (d : Design) (f : ℕ) (v : Inverse) → IsInverseOf d f v → AreWithin d f v
 within_from d f v is = record { sizes = is.sizes; each = λ i j l m. is.within i l j m }
@@ -59,13 +60,13 @@ under_widest d r s k f c v fr g w = record {
   clamp = fr.clamp;
   low = fr.low;
   high = fr.high;
-  offsets = rw g.offsets (under_line nu v.t.items (λ j. pos (column_bound d f d.states)) w.sizes.t
-      (λ j l. subst (λ (z : ℤ). unsigned_abs z ≤ column_bound d f d.states) (solution_constant v d.states j w.sizes.p_mat.cols) (w.each d.states j (omega arith) l)));
+  offsets = rw g.offsets (under_line nu v.t.items (λ j. pos (column_bound (form_of d) f d.states)) w.sizes.t
+      (λ j l. subst (λ (z : ℤ). unsigned_abs z ≤ column_bound (form_of d) f d.states) (solution_constant v d.states j w.sizes.p_mat.cols) (w.each d.states j (omega arith) l)));
   bounds = under_line m c.bounds _ fr.bounds.long (λ i l. abs_le _ _ (fr.bounds.is i l));
-  state_gains = rw g.state_gains (under_table v.p_mat nu d.states (λ j i. pos (column_bound d f i)) w.sizes.p_mat
-      (λ j i l o. subst (λ (z : ℤ). unsigned_abs z ≤ column_bound d f i) (solution_state v d.states i j w.sizes.p_mat.cols o) (w.each i j (omega arith) l)));
-  dual_gains = rw g.dual_gains (under_table v.w_mat nu m (λ j i. pos (column_bound d f (d.states + 1 + i))) w.sizes.w_mat
-      (λ j i l o. subst (λ (z : ℤ). unsigned_abs z ≤ column_bound d f (d.states + 1 + i)) (solution_row v d.states i j w.sizes.p_mat.cols) (w.each (d.states + 1 + i) j (omega arith) l)));
+  state_gains = rw g.state_gains (under_table v.p_mat nu d.states (λ j i. pos (column_bound (form_of d) f i)) w.sizes.p_mat
+      (λ j i l o. subst (λ (z : ℤ). unsigned_abs z ≤ column_bound (form_of d) f i) (solution_state v d.states i j w.sizes.p_mat.cols o) (w.each i j (omega arith) l)));
+  dual_gains = rw g.dual_gains (under_table v.w_mat nu m (λ j i. pos (column_bound (form_of d) f (d.states + 1 + i))) w.sizes.w_mat
+      (λ j i l o. subst (λ (z : ℤ). unsigned_abs z ≤ column_bound (form_of d) f (d.states + 1 + i)) (solution_row v d.states i j w.sizes.p_mat.cols) (w.each (d.states + 1 + i) j (omega arith) l)));
   plan_rows = under_table c.plan_rows m nu _ (shape_of _ _ _ _ fr.plan_rows) (λ i j l o. abs_le _ _ (fr.plan_rows.entries i j l o));
   state_rows = under_table c.state_rows m d.states _ (shape_of _ _ _ _ fr.state_rows) (λ i j l o. abs_le _ _ (fr.state_rows.entries i j l o));
 }
@@ -87,12 +88,12 @@ widest_under d r s k f c v fr g w = record {
   clamp = sym fr.clamp;
   low = sym fr.low;
   high = sym fr.high;
-  offsets = rw g.offsets (line_under nu v.t.items (λ j. pos (column_bound d f d.states)) w.sizes.t
+  offsets = rw g.offsets (line_under nu v.t.items (λ j. pos (column_bound (form_of d) f d.states)) w.sizes.t
       (λ j l. abs_ge _ _ (sym (solution_constant v d.states j w.sizes.p_mat.cols) ∙ w.each d.states j (omega arith) l)));
   bounds = line_under m c.bounds _ fr.bounds.long (λ i l. abs_ge _ _ (fr.bounds.is i l));
-  state_gains = rw g.state_gains (table_under v.p_mat nu d.states (λ j i. pos (column_bound d f i)) w.sizes.p_mat
+  state_gains = rw g.state_gains (table_under v.p_mat nu d.states (λ j i. pos (column_bound (form_of d) f i)) w.sizes.p_mat
       (λ j i l o. abs_ge _ _ (sym (solution_state v d.states i j w.sizes.p_mat.cols o) ∙ w.each i j (omega arith) l)));
-  dual_gains = rw g.dual_gains (table_under v.w_mat nu m (λ j i. pos (column_bound d f (d.states + 1 + i))) w.sizes.w_mat
+  dual_gains = rw g.dual_gains (table_under v.w_mat nu m (λ j i. pos (column_bound (form_of d) f (d.states + 1 + i))) w.sizes.w_mat
       (λ j i l o. abs_ge _ _ (sym (solution_row v d.states i j w.sizes.p_mat.cols) ∙ w.each (d.states + 1 + i) j (omega arith) l)));
   plan_rows = table_under c.plan_rows m nu _ (shape_of _ _ _ _ fr.plan_rows) (λ i j l o. abs_ge _ _ (fr.plan_rows.entries i j l o));
   state_rows = table_under c.state_rows m d.states _ (shape_of _ _ _ _ fr.state_rows) (λ i j l o. abs_ge _ _ (fr.state_rows.entries i j l o));
@@ -113,7 +114,7 @@ pub sum_ge : (d : Design) (r s k f : ℕ) (c : Numbers) (v : Inverse) → IsFram
 sum_ge d r s k f c v fr g w = greatest_sum_mono (widest d r s k f) c d.states (entries d) (rows d) (widest_under d r s k f c v fr g w)
 
 pub widest_within : (d : Design) (f : ℕ) (v : Inverse) → AreWidest d f v → AreWithin d f v
-widest_within d f v w = record { sizes = w.sizes; each = λ i j l m. abs_le (solution_of v i j) (pos (column_bound d f i)) (w.each i j l m) }
+widest_within d f v w = record { sizes = w.sizes; each = λ i j l m. abs_le (solution_of v i j) (pos (column_bound (form_of d) f i)) (w.each i j l m) }
 
 -- ---- what code asks
 -- a list is that of its numbers
@@ -212,10 +213,10 @@ controller_from c w s room is = record {
 gains_same : (c : Numbers) (v : Inverse) → c.states ≡ v.p_mat.cols → AreGains v c → (i j : ℕ) → solution_of v i j ≡ gain_column c i j
 gains_same c v e g i j = rw (e, g.state_gains, g.offsets, g.dual_gains) refl
 
-good_at : (d : Design) (f b i : ℕ) (v : Inverse) (c : Numbers) → b ≡ f → IsGood (entries d) (solve_matrix d) f (solve_column d i) (solution_of v i) →
-    ((j : ℕ) → solution_of v i j ≡ gain_column c i j) → IsGood (entries d) (solve_matrix d) b (solve_column d i) (gain_column c i)
+good_at : (d : Design) (f b i : ℕ) (v : Inverse) (c : Numbers) → b ≡ f → IsGood (entries d) (solve_matrix (form_of d)) f (solve_column (form_of d) i) (solution_of v i) →
+    ((j : ℕ) → solution_of v i j ≡ gain_column c i j) → IsGood (entries d) (solve_matrix (form_of d)) b (solve_column (form_of d) i) (gain_column c i)
 good_at d f b i v c e good same = rw e
-    (good_same (entries d) (solve_matrix d) (solve_matrix d) f (solve_column d i) (solve_column d i) (solution_of v i) (gain_column c i)
+    (good_same (entries d) (solve_matrix (form_of d)) (solve_matrix (form_of d)) f (solve_column (form_of d) i) (solve_column (form_of d) i) (solution_of v i) (gain_column c i)
     (λ i j l m. refl) (λ j l. refl) (λ j l. same j) good)
 
 pub assembled : (d : Design) (r s k f : ℕ) (c : Numbers) (v : Inverse) (w : ℕ) → IsFrame d r s k f c → AreGains v c → IsInverseOf d f v → IsWidth (greatest_sum c) w →

@@ -19,6 +19,8 @@ use Rattle.qp_model.specs.Policy.{Plans}
 use Rattle.qp_model.specs.Controller.{Numbers}
 use Rattle.qp_model.specs.Machine.{average_denominator, averaged_plan}
 use Rattle.qp_model.specs.Machine as machine
+use Rattle.qp_model.specs.Form.{Form}
+use Rattle.qp_model.specs.Errors.{StepErrors, cost_of_errors}
 use Rattle.qp_model.specs.Built.{HasSizesOf}
 use Rattle.qp_model.specs.Choices.{violation_bound, multiplier_of}
 use Rattle.qp_model.specs.Certified.{ExceedsAtMost, CostsAtMost, HasFeasible, IsCertifiedAt}
@@ -28,7 +30,7 @@ use Rattle.overflow_check.proofs.ValuesMet.{values_law}
 use Rattle.dual_bounds.specs.Corners.{HasRepair, ExceedsNoMore}
 use Rattle.dual_bounds.proofs.MixLaws.{repair_law}
 use Rattle.step_error.specs.MachineLaws.{IsRunOf, MachineRunLaw}
-use Rattle.design_engine.specs.Bounds.{margin_of, errors_cost}
+use Rattle.design_engine.specs.Bounds.{margin_of}
 use Rattle.design_engine.specs.Promise.{IsBacked, CertifiedLaw}
 use Rattle.design_engine.proofs.TargetLaws.{some_of}
 use Rattle.design_engine.proofs.PromiseFacts.{gap_closed, violation_closed, row_within, row_kept, row_over, first_part, second_part}
@@ -73,10 +75,12 @@ grid_state d c xi s l h = record {
 record Point : Type 0 where
   p : DesignParts
   plans : Plans
+  h : Form
+  e : StepErrors
   c : Numbers
   b : Bounds
   xi : List ℤ
-  backed : IsBacked p plans c b
+  backed : IsBacked p plans h e c b
   long : length xi ≡ (design_of p).states
   inside : IsGridState (design_of p) (at xi)
 
@@ -98,7 +102,7 @@ abbrev excess : Point → ℕ → ℤ
 excess w = residual (design w) (over w) (at w.xi) (plan w)
 
 abbrev errors : Point → ℕ
-errors w = errors_cost (design w) (bound w) w.c.fraction_bits
+errors w = cost_of_errors (design w) w.h (bound w) w.c.fraction_bits w.e
 
 -- the rows, and what costs and residuals are over
 abbrev count : Point → ℕ
@@ -121,10 +125,11 @@ top w r = pos (2 * bound w) *ℤ r
 sound_at : (w : Point) → IsSound (design w) 1
 sound_at w = sound w.p w.backed.design
 
-run_of : (w : Point) → IsRunOf w.p (bound w) w.c w.xi
+run_of : (w : Point) → IsRunOf w.p w.h (bound w) w.c w.xi
 run_of w = record {
   design = w.backed.design;
   bound = omega arith;
+  form = w.backed.form;
   controller = w.backed.controller;
   made = w.backed.made;
   long = w.long;
@@ -232,5 +237,5 @@ certified_at run w = record {
 }
 
 pub certified_from : MachineRunLaw → CertifiedLaw
-certified_from run p plans c b h xi long inside =
-    certified_at run (record { p = p; plans = plans; c = c; b = b; xi = xi; backed = h; long = long; inside = inside })
+certified_from run p plans h e c b backed xi long inside =
+    certified_at run (record { p = p; plans = plans; h = h; e = e; c = c; b = b; xi = xi; backed = backed; long = long; inside = inside })

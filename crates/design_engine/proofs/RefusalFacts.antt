@@ -4,6 +4,7 @@ use Rattle.std.specs.Prelude.{IfErr}
 use Rattle.std.specs.Result.{IsErrAnd, IsErrOf, IsErr}
 use Rattle.std.proofs.lemmas.Bool.{cases_lt}
 use Rattle.frac_scaled.specs.declared.fraction.Frac.{Frac}
+use Rattle.qp_model.specs.Form.{form_of}
 use Rattle.qp_model.specs.Design.{Design}
 use Rattle.qp_model.specs.Policy.{Plans}
 use Rattle.qp_model.specs.Margin.{IsMargin}
@@ -34,7 +35,7 @@ use Rattle.approx_inverse.specs.declared.fault.SolveFault.{SolveFault}
 use Rattle.approx_inverse.specs.declared.fault.SolveFault.TheVariants.{Memory as solve_memory, TooWide as solve_wide}
 use Rattle.design_engine.specs.Targets.{Targets, half_target, error_limit}
 use Rattle.design_engine.specs.Widest.{width_size}
-use Rattle.design_engine.specs.Bounds.{errors_cost}
+use Rattle.design_engine.specs.Bounds.{stated_cost}
 use Rattle.design_engine.specs.Built.{IsExponentOf}
 use Rattle.design_engine.specs.Fault.{IsWidthFault}
 use Rattle.design_engine.specs.Faults.{of_margin, of_condense, of_curvature, of_solve, of_width}
@@ -140,25 +141,25 @@ module _ (d : Design) (t : Targets) (plans : Plans) where
       above n refuted = omega (arith, refuted)
 
   -- ---- the errors
-  pub sums_refused : (m : Margin) (s r : ℕ) (quantity : Quantity) → PassesSteps d t plans m s → r ≡ multiplier_of m → (error_size d r ≤ 2 ^ 126 → ⊥) → quantity ≡ Error →
+  pub sums_refused : (m : Margin) (s r : ℕ) (quantity : Quantity) → PassesSteps d t plans m s → r ≡ multiplier_of m → (error_size d (form_of d) r ≤ 2 ^ 126 → ⊥) → quantity ≡ Error →
       (e : Refusal) → e ≡ TooWide quantity → HasCause d t plans e
-  sums_refused m s r quantity passes f refuted g e j = rw (j, g) (m, s, passes, rw f at (above (error_size d r) refuted))
+  sums_refused m s r quantity passes f refuted g e j = rw (j, g) (m, s, passes, rw f at (above (error_size d (form_of d) r) refuted))
     where
       above : (n : ℕ) → (n ≤ 2 ^ 126 → ⊥) → 2 ^ 126 < n
       above n refuted = omega (arith, refuted)
 
   pub choice_refused : (m : Margin) (s r limit : ℕ) (sums : errors.ErrorSums) (eps : ℤ) → PassesSteps d t plans m s → r ≡ multiplier_of m → limit ≡ error_limit t (multiplier_of m) →
-      error_size d r ≤ 2 ^ 126 → sums ≡ error_sums_of d r → limit < epsilon sums 48 → eps ≡ pos (epsilon sums 48) →
+      error_size d (form_of d) r ≤ 2 ^ 126 → sums ≡ error_sums_of d (form_of d) r → limit < epsilon sums 48 → eps ≡ pos (epsilon sums 48) →
       (e : Refusal) → e ≡ TooFine eps → HasCause d t plans e
   choice_refused m s r limit sums eps passes f g size k fine is e j = rw j (m, s, passes, rw f at size, (rw (k, f, g) at fine, rw (k, f) at is))
 
   -- ---- the gains and the width
-  pub solve_refused : (m : Margin) (s f : ℕ) → PassesBits d t plans m s f → (fault : SolveFault) → IsFault fault (2 ^ 126 < descent_size d f) →
+  pub solve_refused : (m : Margin) (s f : ℕ) → PassesBits d t plans m s f → (fault : SolveFault) → IsFault fault (2 ^ 126 < descent_size (form_of d) f) →
       (e : Refusal) → e ≡ of_solve fault → IsRefused d t plans e
   solve_refused m s f passes solve_memory h e j = inl j
   solve_refused m s f passes (solve_wide quantity) h e j = rw (j, h.0) (inr (m, s, f, passes, h.1))
 
-  pub width_refused : (m : Margin) (s f : ℕ) (r k : ℕ) → PassesBits d t plans m s f → descent_size d f ≤ 2 ^ 126 → r ≡ multiplier_of m →
+  pub width_refused : (m : Margin) (s f : ℕ) (r k : ℕ) → PassesBits d t plans m s f → descent_size (form_of d) f ≤ 2 ^ 126 → r ≡ multiplier_of m →
       k ≡ step_count s (multiplier_of m) (half_target t) → (fault : WidthFault) → IsWidthFault fault (2 ^ 126 < width_size d r s k f) →
       (e : Refusal) → e ≡ of_width fault → IsRefused d t plans e
   width_refused m s f r k passes size g i width_memory h e j = inl j

@@ -8,7 +8,7 @@ use Rattle.integer_algebra.proofs.DivisionLaws.{le-mul-ceil_div, ceil_div-le}
 use Rattle.qp_model.specs.Choices.{step_count, violation_bound, multiplier_of}
 use Rattle.qp_model.specs.Parts.{design_of}
 use Rattle.design_engine.specs.Targets.{targets_of, half_target}
-use Rattle.design_engine.specs.Bounds.{margin_of, errors_cost}
+use Rattle.design_engine.specs.Bounds.{margin_of, stated_cost}
 use Rattle.design_engine.specs.Promise.{TargetsLaw}
 
 -- a divisor that is not too large leaves a quotient of at least 1
@@ -59,7 +59,7 @@ pub size_of : (z : ℤ) (n : ℕ) → pos 1 ≤ℤ z → z ≤ℤ pos n → unsi
 size_of z n h k = omega (arith, ints)
 
 pub targets_law : TargetsLaw
-targets_law p c b h = record {
+targets_law p cost c b h = record {
   violation = as_targets b.violation _ (unsigned_abs p.target_den) (unsigned_abs p.violation) h.bounds.violation
       (twice_half _ (half_target (targets_of p)) (unsigned_abs p.violation) (unsigned_abs p.target_den) (rw h.steps parts) refl);
   gap = as_targets b.gap _ (unsigned_abs p.target_den) (unsigned_abs p.gap) h.bounds.gap
@@ -69,9 +69,6 @@ targets_law p c b h = record {
     r : ℕ
     r = multiplier_of (margin_of b)
 
-    e : ℕ
-    e = errors_cost (design_of p) (multiplier_of (margin_of b)) c.fraction_bits
-
     den : 1 ≤ unsigned_abs p.target_den
     den = some_of p.target_den h.design.target_den.low
 
@@ -79,5 +76,5 @@ targets_law p c b h = record {
     half_some = quotient_some (2 ^ 39 * unsigned_abs p.violation) (unsigned_abs p.target_den) den
         (omega (arith, size_of p.target_den (2 ^ 20) h.design.target_den.low h.design.target_den.high, some_of p.violation h.design.violation.low))
 
-    parts : violation_bound c.step_exponent r (step_count c.step_exponent r (half_target (targets_of p))) e ≤ 2 * half_target (targets_of p)
-    parts = halves c.step_exponent r (half_target (targets_of p)) e (omega arith) half_some (omega (arith, h.errors))
+    parts : violation_bound c.step_exponent r (step_count c.step_exponent r (half_target (targets_of p))) cost ≤ 2 * half_target (targets_of p)
+    parts = halves c.step_exponent r (half_target (targets_of p)) cost (omega arith) half_some (omega (arith, h.errors))

@@ -1,9 +1,9 @@
 -- What the parts of a controller are that is made of a design's condensed form and its chosen numbers.
 use Rattle.std.specs.Prelude.{◌≡◌, ℕ, ◌+◌, ◌*◌, ◌^◌, ◌<◌, pos}
 use Rattle.mat_int.specs.Matrix.{HasEntries}
+use Rattle.qp_model.specs.Form.{form_of}
 use Rattle.qp_model.specs.Design.{Design, entries, rows}
 use Rattle.qp_model.specs.Runs.{Holds}
-use Rattle.qp_model.specs.Condensing.{condensed_of}
 use Rattle.qp_model.specs.Columns.{columns, solve_matrix, solve_column}
 use Rattle.qp_model.specs.GoodSolution.{IsGood}
 use Rattle.qp_model.specs.Controller.{Numbers}
@@ -21,9 +21,9 @@ use Rattle.design_engine.specs.declared.rounding.Rows.{Rows}
 -- ---- the rows
 -- the condensed rows over 2^f, rounded to the nearest, and ties upward
 pub record AreRowsOf (d : Design) (f : ℕ) (r : Rows) : Type 0 where
-  pub plan : HasEntries (rows d) (entries d) (λ i j. rounded d f ((condensed_of d).by_plan i j)) r.g_mat
-  pub state : HasEntries (rows d) d.states (λ i j. rounded d f ((condensed_of d).by_state i j)) r.e_mat
-  pub bound : Holds r.bound.items (rows d) (λ i. rounded d f ((condensed_of d).bound i))
+  pub plan : HasEntries (rows d) (entries d) (λ i j. rounded d f ((form_of d).numbers.by_plan i j)) r.g_mat
+  pub state : HasEntries (rows d) d.states (λ i j. rounded d f ((form_of d).numbers.by_state i j)) r.e_mat
+  pub bound : Holds r.bound.items (rows d) (λ i. rounded d f ((form_of d).numbers.bound i))
 
 -- ---- the gains
 -- each gain is the bound of its column
@@ -46,9 +46,9 @@ pub record IsFrame (d : Design) (r s k f : ℕ) (c : Numbers) : Type 0 where
   pub words : c.words ≡ d.states + rows d + 2 * entries d
   pub low : c.low ≡ listed d.states d.low
   pub high : c.high ≡ listed d.states d.high
-  pub plan_rows : HasEntries (rows d) (entries d) (λ i j. rounded d f ((condensed_of d).by_plan i j)) c.plan_rows
-  pub state_rows : HasEntries (rows d) d.states (λ i j. rounded d f ((condensed_of d).by_state i j)) c.state_rows
-  pub bounds : Holds c.bounds (rows d) (λ i. rounded d f ((condensed_of d).bound i))
+  pub plan_rows : HasEntries (rows d) (entries d) (λ i j. rounded d f ((form_of d).numbers.by_plan i j)) c.plan_rows
+  pub state_rows : HasEntries (rows d) d.states (λ i j. rounded d f ((form_of d).numbers.by_state i j)) c.state_rows
+  pub bounds : Holds c.bounds (rows d) (λ i. rounded d f ((form_of d).numbers.bound i))
 
 -- the gains are these
 pub record AreGains (v : Inverse) (c : Numbers) : Type 0 where
@@ -60,8 +60,8 @@ pub record AreGains (v : Inverse) (c : Numbers) : Type 0 where
 -- is the least that its absolute sums let pass
 pub record IsAssembled (d : Design) (r s k f : ℕ) (c : Numbers) : Type 0 where
   pub sizes : HasSizesOf d c
-  pub rows : HasRowsOf d c
-  pub gains : (i : ℕ) → i < columns d → IsGood (entries d) (solve_matrix d) c.fraction_bits (solve_column d i) (gain_column c i)
+  pub rows : HasRowsOf (form_of d) c
+  pub gains : (i : ℕ) → i < columns (form_of d) → IsGood (entries d) (solve_matrix (form_of d)) c.fraction_bits (solve_column (form_of d) i) (gain_column c i)
   pub clamp : c.clamp ≡ pos (2 * r * 2 ^ (f + s))
   pub step_exponent : c.step_exponent ≡ s
   pub steps : c.steps ≡ k

@@ -1,5 +1,6 @@
 -- A controller and its bounds as they are made of a design and a policy.
 use Rattle.std.specs.Prelude.{◌≡◌, ℕ, ◌≤◌, pos, ◌≤ℤ◌}
+use Rattle.qp_model.specs.Form.{form_of}
 use Rattle.qp_model.specs.Design.{Design}
 use Rattle.qp_model.specs.Parts.{IsDesign, design_of}
 use Rattle.qp_model.specs.Policy.{Plans, IsPolicyFor}
@@ -15,7 +16,7 @@ use Rattle.overflow_check.specs.Width.{IsWidth}
 use Rattle.hessian_check.specs.Steps.{IsPlainExponent, IsStepExponent}
 use Rattle.bit_choice.specs.Choice.{IsChoice}
 use Rattle.design_engine.specs.Targets.{targets_of, half_target, error_limit}
-use Rattle.design_engine.specs.Bounds.{margin_of, printed_multiplier, AreBoundsOf}
+use Rattle.design_engine.specs.Bounds.{margin_of, printed_multiplier, stated_cost, AreBoundsOf}
 
 -- s is the step exponent of the design: the least number whose certificate the recipe finds, or the plain exponent, which is at most 40
 pub record IsExponentOf (d : Design) (s : ℕ) : Type 0 where
@@ -31,10 +32,10 @@ pub record IsBuilt (p : DesignParts) (plans : Plans) (c : Numbers) (b : Bounds) 
   pub margin : IsMargin (design_of p) plans (margin_of b)
   pub slack : pos 1 ≤ℤ b.margin
   pub controller : IsController c
-  pub made : IsDerivedFrom (design_of p) (printed_multiplier b) c
+  pub made : IsDerivedFrom (design_of p) (form_of (design_of p)) (printed_multiplier b) c
   pub exponent : IsExponentOf (design_of p) c.step_exponent
   pub steps : c.steps ≡ step_count c.step_exponent (printed_multiplier b) (half_target (targets_of p))
-  pub bits : IsChoice (error_sums_of (design_of p) (printed_multiplier b)) (design_of p).grid
+  pub bits : IsChoice (error_sums_of (design_of p) (form_of (design_of p)) (printed_multiplier b)) (design_of p).grid
       (error_limit (targets_of p) (printed_multiplier b)) c.fraction_bits
   pub width : IsWidth (greatest_sum c) c.width
-  pub bounds : AreBoundsOf (design_of p) c b
+  pub bounds : AreBoundsOf c b (stated_cost (design_of p) (printed_multiplier b) c.fraction_bits)

@@ -1,5 +1,6 @@
 -- Why a design with a policy has no controller: the first of these tests, in their order, that it fails.
 use Rattle.std.specs.Prelude.{◌≡◌, ◌⊎◌, ℕ, ◌^◌, ◌<◌, ◌≤◌, ℤ, pos, ◌≤ℤ◌}
+use Rattle.qp_model.specs.Form.{form_of}
 use Rattle.qp_model.specs.Design.{Design}
 use Rattle.qp_model.specs.Policy.{Plans}
 use Rattle.qp_model.specs.Margin.{IsMargin}
@@ -16,7 +17,7 @@ use Rattle.hessian_check.specs.Steps.{HasNoStep}
 use Rattle.bit_choice.specs.Choice.{IsChoice}
 use Rattle.design_engine.specs.Targets.{Targets, half_target, error_limit}
 use Rattle.design_engine.specs.Widest.{width_size}
-use Rattle.design_engine.specs.Bounds.{errors_cost}
+use Rattle.design_engine.specs.Bounds.{stated_cost}
 use Rattle.design_engine.specs.Built.{IsExponentOf}
 use Rattle.design_engine.specs.declared.refusal.Refusal.{Refusal}
 use Rattle.design_engine.specs.declared.refusal.Refusal.TheVariants.{Memory, NoMargin, Curvature, TooManySteps, TooFine, TooWide}
@@ -53,13 +54,13 @@ pub record PassesSteps (d : Design) (t : Targets) (plans : Plans) (m : Margin) (
 -- f bits are enough for the errors
 pub record PassesBits (d : Design) (t : Targets) (plans : Plans) (m : Margin) (s f : ℕ) : Type 0 where
   pub before : PassesSteps d t plans m s
-  pub error : error_size d (multiplier_of m) ≤ 2 ^ 126
-  pub choice : IsChoice (error_sums_of d (multiplier_of m)) d.grid (error_limit t (multiplier_of m)) f
+  pub error : error_size d (form_of d) (multiplier_of m) ≤ 2 ^ 126
+  pub choice : IsChoice (error_sums_of d (form_of d) (multiplier_of m)) d.grid (error_limit t (multiplier_of m)) f
 
 -- the systems and the controller's sums are within their limits
 pub record PassesAll (d : Design) (t : Targets) (plans : Plans) (m : Margin) (s f : ℕ) : Type 0 where
   pub before : PassesBits d t plans m s f
-  pub descent : descent_size d f ≤ 2 ^ 126
+  pub descent : descent_size (form_of d) f ≤ 2 ^ 126
   pub width : width_at d t m s f ≤ 2 ^ 126
 
 -- ---- the causes
@@ -79,7 +80,7 @@ HasRows d t plans m = HasHessian d t plans m × (rows_size d ≤ 2 ^ 126)
 
 -- so are the systems of the gains
 abbrev pub HasDescent : Design → Targets → Plans → Margin → (s f : ℕ) → Type 0
-HasDescent d t plans m s f = PassesBits d t plans m s f × (descent_size d f ≤ 2 ^ 126)
+HasDescent d t plans m s f = PassesBits d t plans m s f × (descent_size (form_of d) f ≤ 2 ^ 126)
 
 -- the quantity is the first that is above its limit
 abbrev pub IsTooWide : Design → Targets → Plans → Quantity → Type 0
@@ -90,8 +91,8 @@ IsTooWide d t plans Multiplier = (m : Margin) × PassesMargin d t plans m × IsW
 IsTooWide d t plans Hessian = (m : Margin) × HasMultiplier d t plans m × IsWide (hessian_size d)
 IsTooWide d t plans Rows = (m : Margin) × HasHessian d t plans m × IsWide (rows_size d)
 IsTooWide d t plans curvature_quantity = (m : Margin) × HasRows d t plans m × IsWide (curvature_size d)
-IsTooWide d t plans Error = (m : Margin) × (s : ℕ) × PassesSteps d t plans m s × IsWide (error_size d (multiplier_of m))
-IsTooWide d t plans Descent = (m : Margin) × (s : ℕ) × (f : ℕ) × PassesBits d t plans m s f × IsWide (descent_size d f)
+IsTooWide d t plans Error = (m : Margin) × (s : ℕ) × PassesSteps d t plans m s × IsWide (error_size d (form_of d) (multiplier_of m))
+IsTooWide d t plans Descent = (m : Margin) × (s : ℕ) × (f : ℕ) × PassesBits d t plans m s f × IsWide (descent_size (form_of d) f)
 IsTooWide d t plans Width = (m : Margin) × (s : ℕ) × (f : ℕ) × HasDescent d t plans m s f × IsWide (width_at d t m s f)
 IsTooWide d t plans Turn = ⊥
 
@@ -111,8 +112,8 @@ HasCause d t plans Curvature = (m : Margin) × PassesSizes d t plans m × HasNoS
 HasCause d t plans (TooManySteps k) =
     (m : Margin) × (s : ℕ) × PassesSizes d t plans m × IsExponentOf d s × AreTooMany (steps_at t m s) k
 HasCause d t plans (TooFine eps) =
-    (m : Margin) × (s : ℕ) × PassesSteps d t plans m s × (error_size d (multiplier_of m) ≤ 2 ^ 126)
-    × AreTooFine (errors_cost d (multiplier_of m) 48) (error_limit t (multiplier_of m)) eps
+    (m : Margin) × (s : ℕ) × PassesSteps d t plans m s × (error_size d (form_of d) (multiplier_of m) ≤ 2 ^ 126)
+    × AreTooFine (stated_cost d (multiplier_of m) 48) (error_limit t (multiplier_of m)) eps
 HasCause d t plans (TooWide quantity) = IsTooWide d t plans quantity
 
 -- want of memory, or with its cause

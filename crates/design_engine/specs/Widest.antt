@@ -4,9 +4,8 @@ use Rattle.std.specs.List.{range_with_len}
 use Rattle.integer_algebra.specs.Division.{round_of}
 use Rattle.mat_int.specs.Matrix.{Matrix}
 use Rattle.qp_model.specs.Design.{Design, entries, rows}
-use Rattle.qp_model.specs.Condensing.{condensed_of}
 use Rattle.qp_model.specs.Columns.{column_bound}
-use Rattle.qp_model.specs.Form.{rows_scale}
+use Rattle.qp_model.specs.Form.{form_of}
 use Rattle.qp_model.specs.Controller.{Numbers}
 use Rattle.qp_model.specs.AbsoluteSums.{greatest_sum}
 
@@ -18,9 +17,9 @@ listed n f = map f (range_with_len 0 n)
 abbrev pub table : ℕ → ℕ → (ℕ → ℕ → ℤ) → Matrix
 table height width f = record { rows = map (λ i. listed width (f i)) (range_with_len 0 height); cols = width }
 
--- a number over rows_scale, over 2^f and rounded to the nearest, and ties upward
+-- a number of the rows, over 2^f and rounded to the nearest, and ties upward
 abbrev pub rounded : Design → ℕ → ℤ → ℤ
-rounded d f z = round_of (pos (2 ^ f) *ℤ z) (rows_scale d)
+rounded d f z = round_of (pos (2 ^ f) *ℤ z) (form_of d).rows_scale
 
 -- the numbers of a controller with R, the step exponent s, k steps and f bits, whose gains are each the bound of its column
 abbrev pub widest : Design → (r s k f : ℕ) → Numbers
@@ -39,12 +38,12 @@ widest d r s k f =
       words = d.states + rows d + 2 * entries d;
       low = listed d.states d.low;
       high = listed d.states d.high;
-      state_gains = table (entries d) d.states (λ j i. pos (column_bound d f i));
-      offsets = listed (entries d) (λ j. pos (column_bound d f d.states));
-      dual_gains = table (entries d) (rows d) (λ j i. pos (column_bound d f (d.states + 1 + i)));
-      plan_rows = table (rows d) (entries d) (λ i j. rounded d f ((condensed_of d).by_plan i j));
-      state_rows = table (rows d) d.states (λ i j. rounded d f ((condensed_of d).by_state i j));
-      bounds = listed (rows d) (λ i. rounded d f ((condensed_of d).bound i));
+      state_gains = table (entries d) d.states (λ j i. pos (column_bound (form_of d) f i));
+      offsets = listed (entries d) (λ j. pos (column_bound (form_of d) f d.states));
+      dual_gains = table (entries d) (rows d) (λ j i. pos (column_bound (form_of d) f (d.states + 1 + i)));
+      plan_rows = table (rows d) (entries d) (λ i j. rounded d f ((form_of d).numbers.by_plan i j));
+      state_rows = table (rows d) d.states (λ i j. rounded d f ((form_of d).numbers.by_state i j));
+      bounds = listed (rows d) (λ i. rounded d f ((form_of d).numbers.bound i));
     }
 
 abbrev pub width_size : Design → (r s k f : ℕ) → ℕ

@@ -1,6 +1,7 @@
 // A controller, from a condensed form, the chosen numbers and the gains.
 ghost use Rattle.std.specs.Prelude.{ℕ, ◌≡◌, ◌≤◌, ◌<◌, ◌*◌, ◌+◌, ◌^◌, ◌≤ℤ◌, pos, unsigned_abs, IfOk, IfErr, OnOk};
 ghost use Rattle.std.specs.Option.{SomeIff};
+ghost use Rattle.qp_model.specs.Form.{form_of};
 ghost use Rattle.qp_model.specs.Design as model;
 ghost use Rattle.qp_model.specs.Parts.{IsDesign, design_of};
 ghost use Rattle.qp_model.specs.Range.{LiesIn};
@@ -132,7 +133,7 @@ pub fn controller_of(
 ) -> Result<Controller, WidthFault>
     requires form { IsFormOf design.now condensed.now }
     requires gains { IsInverseOf (design_of design.now) f gains }
-    requires room { descent_size (design_of design.now) f ≤ 2 ^ 126 }
+    requires room { descent_size (form_of (design_of design.now)) f ≤ 2 ^ 126 }
     requires bits { LiesIn design.now.grid 48 f }
     requires exponent { s ≤ 40 }
     requires steps { LiesIn 1 (2 ^ 22) steps }

@@ -1,6 +1,6 @@
 // From a design and a policy to a controller and its bounds.
 ghost use Rattle.std.specs.Prelude.{◌≡◌, ◌⊎◌, ◌≤◌, ◌≤ℤ◌, ◌^◌, ℕ, pos, unsigned_abs, IfOk, IfErr, IsOk, OnOk, Err};
-ghost use Rattle.qp_model.specs.Design as model;
+ghost use Rattle.qp_model.specs.Form.{form_of};
 ghost use Rattle.qp_model.specs.Parts.{IsDesign, design_of};
 ghost use Rattle.qp_model.specs.Policy.{Plans, plans_of, IsPolicyFor};
 ghost use Rattle.qp_model.specs.Curvature.{IsExponent};
@@ -11,7 +11,7 @@ ghost use Rattle.qp_model.specs.declared.bounds.Margin.{Margin};
 ghost use Rattle.plant_condense.specs.Form.{IsFormOf};
 ghost use Rattle.bit_choice.specs.Choice.{IsChoice};
 ghost use Rattle.design_engine.specs.Targets.{targets_of, half_target, gap_target, error_limit, IsWithinTargets};
-ghost use Rattle.design_engine.specs.Bounds.{margin_of, errors_cost, AreBoundsOf};
+ghost use Rattle.design_engine.specs.Bounds.{margin_of, stated_cost, AreBoundsOf};
 ghost use Rattle.design_engine.specs.Built.{IsBuilt, IsExponentOf};
 ghost use Rattle.design_engine.specs.Refusals.{HasCause, IsRefused, PassesSizes, PassesBits, PassesAll};
 
@@ -108,7 +108,7 @@ fn plan_of(design: &Design, scaled: &Scaled) -> Result<Chosen, Refusal>
     ensures passes { (plans : Plans) → PassesSizes (design_of design.now) (targets_of design.now) plans scaled.now.margin →
         IfOk result (λ x. PassesBits (design_of design.now) (targets_of design.now) plans scaled.now.margin scaled.now.s x.choice.f) }
     ensures steps { IfOk result (λ x. x.steps ≡ step_count scaled.now.s (multiplier_of scaled.now.margin) (half_target (targets_of design.now))) }
-    ensures cost { IfOk result (λ x. x.choice.eps ≡ pos (errors_cost (design_of design.now) (multiplier_of scaled.now.margin) x.choice.f)) }
+    ensures cost { IfOk result (λ x. x.choice.eps ≡ pos (stated_cost (design_of design.now) (multiplier_of scaled.now.margin) x.choice.f)) }
     ensures refused { (plans : Plans) → PassesSizes (design_of design.now) (targets_of design.now) plans scaled.now.margin →
         IfErr result (HasCause (design_of design.now) (targets_of design.now) plans) }
 {
@@ -130,9 +130,9 @@ fn bounds_of(scaled: &Scaled, plan: &Chosen, controller: &Controller) -> Bounds
     requires fits { let r = multiplier_of scaled.now.margin in
         undercut_bound r (violation_bound scaled.now.s r plan.now.steps (unsigned_abs plan.now.choice.eps)) ≤ 2 ^ 126 }
     ensures margin { margin_of result ≡ scaled.now.margin }
-    ensures bounds { (d : model.Design) → plan.now.choice.eps ≡ pos (errors_cost d (multiplier_of scaled.now.margin) plan.now.choice.f) →
+    ensures bounds { (cost : ℕ) → plan.now.choice.eps ≡ pos cost →
         controller.now.step_exponent ≡ scaled.now.s → controller.now.steps ≡ plan.now.steps → controller.now.fraction_bits ≡ plan.now.choice.f →
-        AreBoundsOf d controller.now result }
+        AreBoundsOf controller.now result cost }
 {
     let (s, r, eps) = (scaled.s, scaled.r, plan.choice.eps);
     let violation = violation(s, r, plan.steps, eps);
@@ -161,9 +161,9 @@ fn finished(alloc: Global, design: &Design, scaled: &Scaled, plan: &Chosen) -> R
     requires curved { IsExponent (design_of design.now) scaled.now.s }
     requires steps { plan.now.steps ≡ step_count scaled.now.s (multiplier_of scaled.now.margin) (half_target (targets_of design.now)) }
     requires few { plan.now.steps ≤ 2 ^ 22 }
-    requires choice { IsChoice (error_sums_of (design_of design.now) (multiplier_of scaled.now.margin)) (design_of design.now).grid
+    requires choice { IsChoice (error_sums_of (design_of design.now) (form_of (design_of design.now)) (multiplier_of scaled.now.margin)) (design_of design.now).grid
         (error_limit (targets_of design.now) (multiplier_of scaled.now.margin)) plan.now.choice.f }
-    requires cost { plan.now.choice.eps ≡ pos (errors_cost (design_of design.now) (multiplier_of scaled.now.margin) plan.now.choice.f) }
+    requires cost { plan.now.choice.eps ≡ pos (stated_cost (design_of design.now) (multiplier_of scaled.now.margin) plan.now.choice.f) }
     ensures built { (plans : Plans) → IsPolicyFor (design_of design.now) plans →
         PassesBits (design_of design.now) (targets_of design.now) plans scaled.now.margin scaled.now.s plan.now.choice.f →
         IfOk result (λ made. IsBuilt design.now plans made.controller made.bounds) }

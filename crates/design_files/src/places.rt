@@ -3,6 +3,7 @@ ghost use Rattle.std.specs.Prelude.{◌≡◌, ◌⊎◌, ◌≤◌, ◌+◌, So
 ghost use Rattle.toml.specs.View.{view};
 ghost use Rattle.qp_model.specs.declared.design_parts.DesignParts.{DesignParts};
 ghost use Rattle.qp_model.specs.declared.text_fault.TextFault.{TextFault};
+ghost use Rattle.qp_model.specs.Limits.{most_states, most_inputs};
 ghost use Rattle.qp_model.specs.Parts.{IsDesign, design_numbers};
 ghost use Rattle.design_files.specs.Document.{document_of};
 ghost use Rattle.design_files.specs.Keys.{seen};
@@ -21,7 +22,7 @@ use qp_model::range::{
     is_positive,
 };
 use qp_model::rules::in_range;
-use qp_model::{Design, DesignParts, TextFault};
+use qp_model::{Design, DesignParts, MOST_INPUTS, MOST_STAGES, MOST_STATES, TextFault, VERSION};
 use std::alloc::Global;
 use toml::Value;
 
@@ -174,7 +175,7 @@ fn read_table(
 
 // Rows of n coefficients, a target and a weight.
 fn read_cost_rows(alloc: Global, place: u32, value: &Value, n: usize) -> Result<Mat, TextFault>
-    requires { n ≤ 4 }
+    requires { n ≤ most_states 1 }
     ensures { let seen = Some (view value.now) in
         Reads result (HasCosts seen n) (cost_row_rules place n seen) }
 {
@@ -205,11 +206,11 @@ fn read_sizes(keys: &Keys) -> Result<Sizes, TextFault>
     ensures { let v = seen keys.now in Reads result (HasSizeNumbers v) (size_places v) }
 {
     let keys = &keys.top;
-    read_count(1, keys.version, 1, 1)?;
+    read_count(1, keys.version, 1, VERSION)?;
     Ok(Sizes {
-        states: read_count(2, keys.states, 1, 4)?,
-        inputs: read_count(3, keys.inputs, 1, 3)?,
-        stages: read_count(4, keys.stages, 1, 20)?,
+        states: read_count(2, keys.states, 1, MOST_STATES)?,
+        inputs: read_count(3, keys.inputs, 1, MOST_INPUTS)?,
+        stages: read_count(4, keys.stages, 1, MOST_STAGES)?,
     })
 }
 
@@ -225,7 +226,7 @@ fn read_plant(alloc: Global, keys: &Keys, n: usize, p: usize) -> Result<PlantNum
 }
 
 fn read_cost(alloc: Global, keys: &Keys, n: usize, p: usize) -> Result<CostNumbers, TextFault>
-    requires { n ≤ 4 }
+    requires { n ≤ most_states 1 }
     ensures { let v = seen keys.now in Reads result (HasCostNumbers v n p) (cost_places n p v) }
 {
     let keys = &keys.cost;
@@ -239,8 +240,8 @@ fn read_cost(alloc: Global, keys: &Keys, n: usize, p: usize) -> Result<CostNumbe
 }
 
 fn read_limits(alloc: Global, keys: &Keys, n: usize, p: usize) -> Result<LimitNumbers, TextFault>
-    requires states { n ≤ 4 }
-    requires inputs { p ≤ 3 }
+    requires states { n ≤ most_states 1 }
+    requires inputs { p ≤ most_inputs 1 }
     ensures { let v = seen keys.now in Reads result (HasLimits v n p) (limit_places n p v) }
 {
     let keys = &keys.limits;

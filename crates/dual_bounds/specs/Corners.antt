@@ -7,14 +7,14 @@ use Rattle.qp_model.specs.Box.{IsGridState}
 use Rattle.qp_model.specs.Cost.{cost, cost_scale}
 use Rattle.qp_model.specs.Residual.{residual, slack, residual_scale, IsFeasible}
 use Rattle.qp_model.specs.Policy.{Plans, IsPolicyFor}
-use Rattle.qp_model.specs.Margin.{HasSlack, HasCost}
+use Rattle.qp_model.specs.Margin.{simulated, HasSlack, HasCost}
 use Rattle.qp_model.specs.Choices.{multiplier_of}
 use Rattle.qp_model.specs.declared.bounds.Margin.{Margin}
 
 -- the corners' plans have in each row a slack of at least units / 2^16, and cost at most the margin's cost
 pub record KeepsMargin (d : Design) (p : Plans) (m : Margin) : Type 0 where
-  pub slacks : (c i : ℕ) → 1 ≤ c → c ≤ 2 ^ d.states → i < rows d → HasSlack d p m.units c i
-  pub costs : (c : ℕ) → 1 ≤ c → c ≤ 2 ^ d.states → HasCost d p m.cost c
+  pub slacks : (c i : ℕ) → 1 ≤ c → c ≤ 2 ^ d.states → i < rows d → HasSlack (simulated d p) m.units c i
+  pub costs : (c : ℕ) → 1 ≤ c → c ≤ 2 ^ d.states → HasCost (simulated d p) m.cost c
 
 -- some plan has at the state xi a slack of at least units / 2^16 in each row, and costs at most the margin's cost
 pub record HasMarginAt (d : Design) (m : Margin) (xi : ℕ → ℤ) : Type 0 where

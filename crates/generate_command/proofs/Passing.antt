@@ -1,6 +1,7 @@
 -- A design with a policy that is refused for no reason passes every test.
 use Rattle.std.proofs.Common.{inl, inr, ℕ, ◌^◌, ◌<◌, ◌≤◌, subst, unsigned_abs}
 use Rattle.std.proofs.lemmas.Bool.{cases_lt}
+use Rattle.qp_model.specs.Form.{form_of}
 use Rattle.qp_model.specs.Design.{Design}
 use Rattle.qp_model.specs.Parts.{design_of}
 use Rattle.qp_model.specs.Policy.{Plans}
@@ -48,7 +49,7 @@ sizes d t plans m none before =
 
 all : (d : Design) (t : Targets) (plans : Plans) (m : Margin) (s f : ℕ) → NoCause d t plans → PassesBits d t plans m s f → PassesAll d t plans m s f
 all d t plans m s f none before =
-    let descent = within (2 ^ 126) (descent_size d f) (λ lt. none (TooWide quantity.Descent) (m, s, f, before, lt)) in
+    let descent = within (2 ^ 126) (descent_size (form_of d) f) (λ lt. none (TooWide quantity.Descent) (m, s, f, before, lt)) in
     record {
       before = before;
       descent = descent;
@@ -63,6 +64,6 @@ built_passes p plans c b none built =
     let s = c.step_exponent in
     let few : step_count s (multiplier_of m) (half_target t) ≤ 4194304 = subst (λ (k : ℕ). k ≤ 4194304) built.steps built.controller.form.sized.steps.1 in
     let steps : PassesSteps d t plans m s = record { before = sizes d t plans m none (margin p plans c b none built); exponent = built.exponent; steps = few } in
-    let error = within (2 ^ 126) (error_size d (multiplier_of m)) (λ lt. none (TooWide quantity.Error) (m, s, steps, lt)) in
+    let error = within (2 ^ 126) (error_size d (form_of d) (multiplier_of m)) (λ lt. none (TooWide quantity.Error) (m, s, steps, lt)) in
     let bits : PassesBits d t plans m s c.fraction_bits = record { before = steps; error = error; choice = built.bits } in
     record { margin = m; exponent = s; bits = c.fraction_bits; all = all d t plans m s c.fraction_bits none bits }

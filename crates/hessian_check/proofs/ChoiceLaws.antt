@@ -1,11 +1,12 @@
 -- The numbers that are chosen.
-use Rattle.std.proofs.Common.{◌≡◌, inl, inr, ℕ, zero, suc, ◌+◌, ◌*◌, ◌^◌, ◌<◌, ◌≤◌, ◌⊎◌, min, nat_le, Bool, true, false, if◌then◌else◌, ℤ, ◌≤ℤ◌, ◌<ℤ◌, Option, Some, None, arith, sym, ◌∙◌, refl}
+use Rattle.std.proofs.Common.{◌≡◌, inl, inr, ℕ, zero, suc, ◌+◌, ◌*◌, ◌^◌, ◌<◌, ◌≤◌, ◌⊎◌, min, nat_le, Bool, true, false, ℤ, ◌≤ℤ◌, ◌<ℤ◌, Option, Some, None, arith, sym, ◌∙◌, refl}
 use Rattle.std.specs.Prelude.{unwrap_or}
 use Rattle.std.specs.Option.{option_or}
 use Rattle.integer_algebra.specs.Matrices.{IsDominant, off_diagonal_sum}
-use Rattle.hessian_check.specs.Curvature.{HasPassingRoot, HasPassingRootBelow, IsChosen, IsDominantAt, IsFirst, IsLeast, IsLeastBelow}
+use Rattle.hessian_check.specs.Curvature.{HasPassingRoot, IsChosen, IsDominantAt, IsFirst, IsLeast, IsLeastBelow}
 use Rattle.hessian_check.specs.Exponents.{IsEither}
 use Rattle.qp_model.specs.Design.{Design}
+use Rattle.qp_model.specs.Form.{form_of, rows_scale}
 use Rattle.qp_model.specs.CurvatureSize.{CoversSquares, floor_times, least_up_to, limit_squares, squares_exponent}
 use Rattle.std.proofs.lemmas.Int.{ints, by_lt_z}
 use Rattle.std.proofs.lemmas.Bool.{cases_lt, le-leb}
@@ -103,7 +104,7 @@ pub record HasLeast (p : ℕ → Type 0) : Type 0 where
   pub is : IsLeast p number
 
 covers_decided : (d : Design) (s : ℕ) → Choice (CoversSquares d s)
-covers_decided d s = elim (cases_lt (floor_times d s) (d.cost_denominator * limit_squares d)) [
+covers_decided d s = elim (cases_lt (floor_times d (form_of d) s) (d.cost_denominator * limit_squares (form_of d))) [
   | inl l ↦ no (λ h. below h l)
   | inr l ↦ yes l
 ]
@@ -123,10 +124,10 @@ covers_least d i l a = elim (least_decided (CoversSquares d) (covers_decided d) 
 ]
   where
     left : ℕ
-    left = d.cost_denominator * limit_squares d
+    left = d.cost_denominator * limit_squares (form_of d)
 
-    up : 2 ^ left ≤ floor_times d left
-    up = let x = one-le-mul (one-le-mul i (pow_positive d.limit_denominator 2 l)) (pow_positive (d.plant_denominator ^ d.stages) 2 a) in
+    up : 2 ^ left ≤ floor_times d (form_of d) left
+    up = let x = one-le-mul i (pow_positive (rows_scale d) 2 (one-le-mul l a)) in
         let q = mul-le-mul_left (2 ^ left) x in omega (arith, q)
 
 -- from the numbers that code finds
@@ -185,8 +186,8 @@ least_found (suc n) t p d s l h = elim (cases_lt s (suc n)) [
       rw (least_missed n t p d (λ k m. h.least k (omega arith)), d.no n (h.least n (omega arith)), e) refl)
 ]
 
-covers_test : (d : Design) → IsTest (λ s. nat_le (d.cost_denominator * limit_squares d) (floor_times d s)) (CoversSquares d)
-covers_test d = record { yes = λ k h. le-leb _ _ h; no = λ k h. elim (leb_tells (d.cost_denominator * limit_squares d) (floor_times d k)) [ inl t ↦ absurd (h t.1) | inr t ↦ t.0 ] }
+covers_test : (d : Design) → IsTest (λ s. nat_le (d.cost_denominator * limit_squares (form_of d)) (floor_times d (form_of d) s)) (CoversSquares d)
+covers_test d = record { yes = λ k h. le-leb _ _ h; no = λ k h. elim (leb_tells (d.cost_denominator * limit_squares (form_of d)) (floor_times d (form_of d) k)) [ inl t ↦ absurd (h t.1) | inr t ↦ t.0 ] }
 
 -- the exponent that the squares ask
 pub squares_are : (d : Design) (o : Option ℕ) → IsLeastBelow 41 (CoversSquares d) o → squares_exponent d ≡ unwrap_or o 40

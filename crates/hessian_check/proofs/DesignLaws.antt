@@ -1,11 +1,12 @@
 -- What the exponents of a design's matrices are for its trajectories.
-use Rattle.std.proofs.Common.{◌≡◌, inl, inr, ℕ, zero, suc, ◌+◌, ◌-◌, ◌*◌, ◌/◌, ◌%◌, ◌^◌, ◌<◌, ◌≤◌, [], ◌∷◌, ℤ, pos, negsuc, ◌+ℤ◌, ◌-ℤ◌, ◌*ℤ◌, ◌≤ℤ◌, ◌<ℤ◌, unsigned_abs, arith, ap, sym, ◌∙◌, refl}
-use Rattle.std.proofs.lemmas.Int.{ints}
+use Rattle.std.proofs.Common.{◌≡◌, ℕ, zero, suc, ◌+◌, ◌-◌, ◌*◌, ◌^◌, ◌<◌, ◌≤◌, [], ◌∷◌, ℤ, pos, negsuc, ◌+ℤ◌, ◌-ℤ◌, ◌*ℤ◌, ◌≤ℤ◌, ◌<ℤ◌, unsigned_abs, arith, ap, ◌∙◌, refl}
+use Rattle.std.proofs.lemmas.Int.{ints, unsigned_abs-mul}
+use Rattle.integer_algebra.specs.Bounds.{IsWithin}
 use Rattle.std.proofs.lemmas.Nat.{pow_pos}
-use Rattle.std.proofs.Math.Nat.{one-le-mul}
+use Rattle.std.proofs.Math.Nat.{le_of_mul-le-mul_left, mul-le-mul, mul-le-mul_left, one-le-mul}
 use Rattle.integer_algebra.specs.Division.{floor_of}
 use Rattle.integer_algebra.specs.Sizes.{amount}
-use Rattle.integer_algebra.specs.Sums.{total, dot, image, square, none}
+use Rattle.integer_algebra.specs.Sums.{total, image, square, none}
 use Rattle.integer_algebra.proofs.OrderLaws.{le_by, square_nonneg_z, mul-le-mul_left_z, cancel-le_z, pos_positive, mul_pos_z}
 use Rattle.integer_algebra.proofs.PowerLaws.{pow-two, four-pow}
 use Rattle.integer_algebra.proofs.Quoting.{by_ring, quotes}
@@ -16,15 +17,17 @@ use Rattle.qp_model.specs.Condensed.{Condensed, IsCondensed}
 use Rattle.qp_model.specs.Condensing.{condensed_of, over_costs, cost_plan, own_input}
 use Rattle.qp_model.specs.Quantities.{input_floor}
 use Rattle.qp_model.specs.Cost.{cost_scale}
-use Rattle.qp_model.specs.CurvatureSize.{CoversSquares, limit_squares, floor_times}
-use Rattle.qp_model.specs.Curvature as design
-use Rattle.qp_model.specs.Curvature.{curvature, row_change}
+use Rattle.qp_model.specs.CurvatureSize.{limit_squares, floor_times}
+use Rattle.qp_model.specs.Curvature.{AreExponents, IsExponent, curvature, row_change}
+use Rattle.qp_model.specs.Form.{Form, Encloses, farthest, rows_scale}
 use Rattle.qp_model.specs.Residual.{residual, residual_scale}
 use Rattle.qp_model.specs.Sound.{IsSound}
 use Rattle.qp_model.proofs.CurvatureLaws.{hessian_law, curvature_law}
 use Rattle.hessian_check.specs.Dominance.{IsSymmetric, form}
-use Rattle.hessian_check.specs.Curvature.{Curved, exponent_matrix, row_squares, BoundsRows, IsFloored, CoversAll}
-use Rattle.hessian_check.specs.Steps.{curved_of, floor_of_design}
+use Rattle.hessian_check.specs.Curvature.{BoundsRows, IsFloored, CoversAll}
+use Rattle.hessian_check.specs.Steps.{curved_by, curved_of, floor_of_design, weighted_of}
+use Rattle.integer_algebra.proofs.SizeLaws.{amount_same}
+use Rattle.integer_algebra.proofs.AmountLaws.{amount_mono, amount_scale}
 use Rattle.hessian_check.proofs.SquareLaws.{squares_row, sum_pos}
 
 -- ---- half the hessian
@@ -72,15 +75,16 @@ change_is d k c v i l =
     closed : (g x n o a b : ℤ) → a ≡ g *ℤ x +ℤ o → b ≡ g *ℤ n +ℤ o → n ≡ pos 0 → a -ℤ b ≡ g *ℤ x
     closed g x n o a b e f h = rw (e, f, h) (by_ring (g ∷ x ∷ o ∷ []) (search quotes depth 60 fits 20000) refl)
 
--- the squares of all of them
-changes_are : (d : Design) (k : Condensed) → IsCondensed d k → (v : ℕ → ℤ) →
-    total (rows d) (λ i. square (row_change d v i)) ≡ square (pos (2 ^ d.grid)) *ℤ total (rows d) (λ i. square (image (entries d) k.by_plan v i))
-changes_are d k c v =
-    total_same (rows d) _ _ (λ i l. ap square (change_is d k c v i l) ∙ apart (pos (2 ^ d.grid)) (image (entries d) k.by_plan v i)) ∙
-    total_scale (rows d) (square (pos (2 ^ d.grid))) (λ i. square (image (entries d) k.by_plan v i))
+-- the weighted squares of all of them
+changes_are : (d : Design) (w : ℕ → ℕ) (k : Condensed) → IsCondensed d k → (v : ℕ → ℤ) →
+    total (rows d) (λ i. pos (w i) *ℤ square (row_change d v i)) ≡
+    square (pos (2 ^ d.grid)) *ℤ total (rows d) (λ i. pos (w i) *ℤ square (image (entries d) k.by_plan v i))
+changes_are d w k c v =
+    total_same (rows d) _ _ (λ i l. ap (λ (z : ℤ). pos (w i) *ℤ square z) (change_is d k c v i l) ∙ apart (pos (w i)) (pos (2 ^ d.grid)) (image (entries d) k.by_plan v i)) ∙
+    total_scale (rows d) (square (pos (2 ^ d.grid))) (λ i. pos (w i) *ℤ square (image (entries d) k.by_plan v i))
   where
-    apart : (g x : ℤ) → square (g *ℤ x) ≡ square g *ℤ square x
-    apart g x = by_ring (g ∷ x ∷ []) (search quotes depth 60 fits 20000) refl
+    apart : (w g x : ℤ) → w *ℤ square (g *ℤ x) ≡ square g *ℤ (w *ℤ square x)
+    apart w g x = by_ring (w ∷ g ∷ x ∷ []) (search quotes depth 60 fits 20000) refl
 
 -- the form of the hessian is twice that of its half
 form_two : (d : Design) (v : ℕ → ℤ) → form (entries d) (condensed_of d).hessian v ≡ pos 2 *ℤ form (entries d) (curved_of d).half v
@@ -109,17 +113,28 @@ residual_scale_is : (d : Design) (s : ℕ) → pos (2 ^ s * residual_scale d ^ 2
     pos (2 ^ s) *ℤ square (pos d.limit_denominator *ℤ pos (2 ^ d.grid) *ℤ pos (d.plant_denominator ^ d.stages))
 residual_scale_is d s = ap pos (ap (λ n. 2 ^ s * n) (pow-two (residual_scale d)))
 
--- ---- an exponent of the matrices is one of the trajectories
-pub exponent_of : (d : Design) (s : ℕ) → IsCondensed d (condensed_of d) → BoundsRows (curved_of d) s → design.IsExponent d s
-exponent_of d s c h v = closed (pos (cost_scale d)) (pos (2 ^ s * residual_scale d ^ 2)) _ (curvature d v)
-    (pos d.cost_denominator) (pos d.row_denominator) (pos (2 ^ d.grid)) (pos (d.plant_denominator ^ d.stages)) (pos d.limit_denominator) (pos (2 ^ s))
-    (total (rows d) (λ i. square (image (entries d) (condensed_of d).by_plan v i))) (form (entries d) (curved_of d).half v)
-    (cost_scale_is d) (residual_scale_is d s) (changes_are d (condensed_of d) c v) (curvature_is d c v) (h v)
+-- ---- exponents of the matrices are those of the trajectories
+pub exponents_of : (d : Design) (s : ℕ → ℕ) (most : ℕ) → IsCondensed d (condensed_of d) → ((i : ℕ) → i < rows d → s i ≤ most) →
+    BoundsRows (curved_by d s most) most → AreExponents d s most
+exponents_of d s most c b h = record {
+  bounded = b;
+  descent = λ v. closed (pos (cost_scale d)) (pos (2 ^ most * residual_scale d ^ 2)) _ (curvature d v)
+      (pos d.cost_denominator) (pos d.row_denominator) (pos (2 ^ d.grid)) (pos (d.plant_denominator ^ d.stages)) (pos d.limit_denominator) (pos (2 ^ most))
+      (total (rows d) (λ i. pos (2 ^ (most - s i)) *ℤ square (image (entries d) (condensed_of d).by_plan v i))) (form (entries d) (curved_of d).half v)
+      (cost_scale_is d) (residual_scale_is d most) (changes_are d (λ i. 2 ^ (most - s i)) (condensed_of d) c v) (curvature_is d c v) (h v);
+}
   where
     closed : (y z t u w r g a l p x f : ℤ) → y ≡ w *ℤ square (r *ℤ g *ℤ a) → z ≡ p *ℤ square (l *ℤ g *ℤ a) → t ≡ square g *ℤ x → u ≡ square g *ℤ f →
         (w *ℤ square r *ℤ x) ≤ℤ (p *ℤ square l *ℤ f) → (y *ℤ t) ≤ℤ (z *ℤ u)
     closed y z t u w r g a l p x f ey ez et eu h = rw (ey, ez, et, eu) (le_by (mul-le-mul_left_z (square (g *ℤ a *ℤ g)) (square_nonneg_z (g *ℤ a *ℤ g)) h)
         (by_ring (w ∷ r ∷ g ∷ a ∷ l ∷ p ∷ x ∷ f ∷ []) (search quotes depth 60 fits 20000) refl))
+
+-- one for all rows
+pub exponent_of : (d : Design) (s : ℕ) → IsCondensed d (condensed_of d) → BoundsRows (curved_of d) s → IsExponent d s
+exponent_of d s c h = exponents_of d (λ i. s) s c (λ i l. omega arith) (moved (s - s) (omega arith))
+  where
+    moved : (z : ℕ) → z ≡ 0 → BoundsRows (weighted_of d (λ i. 2 ^ z)) s
+    moved z e = rw e h
 
 -- ---- the floor of the cost
 pub floored : (d : Design) → IsSound d (input_floor d) → IsCondensed d (condensed_of d) → IsFloored (curved_of d) (floor_of_design d)
@@ -135,23 +150,64 @@ floored d sound c v = closed (pos (cost_scale d)) (curvature d v) (pos (input_fl
         (rw eq (by_ring (w ∷ r ∷ g ∷ a ∷ o ∷ x ∷ f ∷ []) (search quotes depth 60 fits 20000) refl)))
 
 -- ---- the test of the squares
-squares_are : (m n : ℕ) (g : ℕ → ℕ → ℤ) → total m (λ i. total n (λ j. square (g i j))) ≡ pos (amount m (λ i. amount n (λ j. unsigned_abs (g i j) ^ 2)))
+-- no radius
+pub farthest_none : (x : ℤ) → farthest x 0 ≡ unsigned_abs x
+farthest_none x = omega arith
+
+squares_are : (m n : ℕ) (g : ℕ → ℕ → ℤ) → total m (λ i. pos 1 *ℤ total n (λ j. square (g i j))) ≡ pos (amount m (λ i. amount n (λ j. unsigned_abs (g i j) ^ 2)))
 squares_are zero n g = refl
-squares_are (suc m) n g = sum_pos _ _ (squares_are m n g) (squares_row n (g m))
-
-pub covers : (d : Design) (s : ℕ) → CoversSquares d s → CoversAll (curved_of d) (floor_of_design d) s
-covers d s h = closed (pos d.cost_denominator) (row_squares (curved_of d)) (limit_squares d) (squares_are (rows d) (entries d) (condensed_of d).by_plan) (raised h)
+squares_are (suc m) n g = sum_pos _ _ (squares_are m n g) (once (squares_row n (g m)))
   where
-    closed : (w x : ℤ) (y : ℕ) → x ≡ pos y → (w *ℤ pos y) ≤ℤ (pos (2 ^ s) *ℤ square (pos d.limit_denominator) *ℤ floor_of_design d) →
-        (w *ℤ x) ≤ℤ (pos (2 ^ s) *ℤ square (pos d.limit_denominator) *ℤ floor_of_design d)
-    closed w x y e k = rw e k
+    once : {x : ℤ} {y : ℕ} → x ≡ pos y → pos 1 *ℤ x ≡ pos y
+    once {x} {y} e = omega (arith, ints, e)
 
-    raised : d.cost_denominator * limit_squares d ≤ floor_times d s →
-        pos (d.cost_denominator * limit_squares d) ≤ℤ pos (2 ^ s * (d.limit_denominator * d.limit_denominator) * (input_floor d * (d.plant_denominator ^ d.stages) ^ 2))
-    raised k = let e = turn (2 ^ s) (input_floor d) d.limit_denominator ((d.plant_denominator ^ d.stages) ^ 2) (pow-two d.limit_denominator) in numbers _ _ _ k e
+-- the squares of numbers that lie within radii of others, over another scale
+squares_within : (m n q r : ℕ) (x f : ℕ → ℕ → ℕ) → ((i j : ℕ) → i < m → j < n → q * x i j ≤ r * f i j) →
+    q * q * amount m (λ i. amount n (λ j. x i j ^ 2)) ≤ r * r * amount m (λ i. amount n (λ j. f i j ^ 2))
+squares_within m n q r x f h = joined (scaled q x) (scaled r f) (amount_mono m _ _ (λ i l. amount_mono n _ _ (λ j o. entry (x i j) (f i j) (h i j l o))))
+  where
+    entry : (a b : ℕ) → q * a ≤ r * b → q * q * a ^ 2 ≤ r * r * b ^ 2
+    entry a b k = rw (pow-two a, pow-two b) (let t = mul-le-mul {n₁ = q * a} {m₁ = q * a} {n₂ = r * b} {m₂ = r * b} k k in omega (arith, t))
+
+    scaled : (t : ℕ) (y : ℕ → ℕ → ℕ) → amount m (λ i. amount n (λ j. t * t * y i j ^ 2)) ≡ t * t * amount m (λ i. amount n (λ j. y i j ^ 2))
+    scaled t y = amount_same m _ _ (λ i l. amount_scale n (t * t) (λ j. y i j ^ 2)) ∙ amount_scale m (t * t) (λ i. amount n (λ j. y i j ^ 2))
+
+    joined : {a b x y : ℕ} → a ≡ x → b ≡ y → a ≤ b → x ≤ y
+    joined {a} {b} {x} {y} e g k = omega (arith, e, g, k)
+
+-- a form of the design whose squares, each number at its farthest, are covered
+pub covers : (d : Design) (h : Form) → Encloses d h → 1 ≤ h.rows_scale → (s : ℕ) → d.cost_denominator * limit_squares h ≤ floor_times d h s →
+    CoversAll (curved_of d) (floor_of_design d) s
+covers d h k o s t = raised (squares_are (rows d) (entries d) (condensed_of d).by_plan)
+    (cancelled h.rows_scale (rows_scale d) d.cost_denominator squares _ (2 ^ s * input_floor d) o within (rw (k.row_count, k.entry_count) at t))
+  where
+    squares : ℕ
+    squares = amount (rows d) (λ i. amount (entries d) (λ j. unsigned_abs ((condensed_of d).by_plan i j) ^ 2))
+
+    within : h.rows_scale * h.rows_scale * amount (rows d) (λ i. amount (entries d) (λ j. unsigned_abs ((condensed_of d).by_plan i j) ^ 2)) ≤
+        rows_scale d * rows_scale d * amount (rows d) (λ i. amount (entries d) (λ j. farthest (h.numbers.by_plan i j) (h.plan_radius i j) ^ 2))
+    within = squares_within (rows d) (entries d) h.rows_scale (rows_scale d) (λ i j. unsigned_abs ((condensed_of d).by_plan i j))
+        (λ i j. farthest (h.numbers.by_plan i j) (h.plan_radius i j))
+        (λ i j l m. entry h.rows_scale (rows_scale d) ((condensed_of d).by_plan i j) (h.numbers.by_plan i j) (h.plan_radius i j) (k.plan i j l m))
+      where
+        entry : (q r : ℕ) (x y : ℤ) (a : ℕ) → IsWithin (pos (r * a)) (pos q *ℤ x -ℤ pos r *ℤ y) → q * unsigned_abs x ≤ r * (unsigned_abs y + a)
+        entry q r x y a w = let e = numbers (pos q *ℤ x) (pos r *ℤ y) _ _ _ (unsigned_abs-mul (pos q) x) (unsigned_abs-mul (pos r) y) w in omega (arith, e)
+          where
+            numbers : (u v : ℤ) (b c g : ℕ) → unsigned_abs u ≡ b → unsigned_abs v ≡ c → IsWithin (pos g) (u -ℤ v) → b ≤ c + g
+            numbers u v b c g e f w = omega (arith, ints, e, f, w.below, w.above)
+
+    cancelled : (q r w x y g : ℕ) → 1 ≤ q → q * q * x ≤ r * r * y → w * y ≤ g * q ^ 2 → w * x ≤ g * (r * r)
+    cancelled q r w x y g o a b =
+        let e = mul-le-mul_left w a in
+        let f = mul-le-mul_left (r * r) (rw (pow-two q) at b) in
+        le_of_mul-le-mul_left {m = w * x} {n = g * (r * r)} {k = q * q} (omega (arith, e, f)) (one-le-mul o o)
+
+    raised : {x : ℤ} → x ≡ pos squares → d.cost_denominator * squares ≤ 2 ^ s * input_floor d * (rows_scale d * rows_scale d) →
+        (pos d.cost_denominator *ℤ x) ≤ℤ (pos (2 ^ s) *ℤ square (pos d.limit_denominator) *ℤ floor_of_design d)
+    raised {x} e g = rw e (numbers _ _ _ g (turn (2 ^ s) (input_floor d) d.limit_denominator (d.plant_denominator ^ d.stages)))
       where
         numbers : (a b c : ℕ) → a ≤ b → b ≡ c → pos a ≤ℤ pos c
         numbers a b c h e = omega (arith, ints, h, e)
 
-        turn : (p i l q : ℕ) → l ^ 2 ≡ l * l → p * (i * l ^ 2) * q ≡ p * (l * l) * (i * q)
-        turn p i l q e = rw e (omega arith)
+        turn : (p i l a : ℕ) → p * i * (l * a * (l * a)) ≡ p * (l * l) * (i * a ^ 2)
+        turn p i l a = rw (pow-two a) (omega arith)

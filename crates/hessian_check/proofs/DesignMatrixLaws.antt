@@ -1,14 +1,13 @@
 -- The matrices that code makes of a condensed form are those of its design.
-use Rattle.std.proofs.Common.{◌≡◌, ℕ, zero, suc, ◌+◌, ◌*◌, ◌<◌, ◌≤◌, ◌^◌, ℤ, pos, negsuc, ◌*ℤ◌, ◌-ℤ◌, ◌≤ℤ◌, unsigned_abs, length, to_z, arith, ap, ap₂, sym, ◌∙◌, refl}
+use Rattle.std.proofs.Common.{◌≡◌, ℕ, ◌+◌, ◌*◌, ◌<◌, ◌≤◌, ◌^◌, ℤ, pos, negsuc, ◌*ℤ◌, ◌≤ℤ◌, unsigned_abs, length, to_z, arith, ap, ap₂, sym, ◌∙◌}
 use Rattle.std.specs.Int.{w128}
-use Rattle.std.proofs.lemmas.Int.{ints, to_z_pos}
+use Rattle.std.proofs.lemmas.Int.{to_z_pos}
 use Rattle.std.proofs.Math.Nat.{mul-le-mul, mul-le-mul_left, mul-le-mul_right}
 use Rattle.integer_algebra.specs.Division.{floor_of}
 use Rattle.integer_algebra.specs.Matrices.{gram, gram_size}
-use Rattle.integer_algebra.specs.Sizes.{amount, size}
-use Rattle.integer_algebra.specs.Sums.{total, square}
+use Rattle.integer_algebra.specs.Sizes.{size}
 use Rattle.integer_algebra.proofs.PowerLaws.{pow-two}
-use Rattle.integer_algebra.proofs.SizeLaws.{dot_bound, size_same}
+use Rattle.integer_algebra.proofs.SizeLaws.{dot_bound}
 use Rattle.integer_algebra.proofs.SumLaws.{total_same}
 use Rattle.integer_algebra.proofs.VectorLaws.{dot_comm}
 use Rattle.mat_int.specs.Matrix.{Matrix, entry_of, HasEntries}
@@ -20,13 +19,16 @@ use Rattle.qp_model.specs.Quantities.{cost_entry_size, limit_entry_size, hessian
 use Rattle.plant_condense.specs.declared.condensed.Condensed.{Condensed}
 use Rattle.plant_condense.specs.Form.{IsFormOf}
 use Rattle.hessian_check.specs.declared.matrices.StepMatrices.{StepMatrices}
-use Rattle.hessian_check.specs.Curvature.{exponent_matrix}
-use Rattle.hessian_check.specs.DesignMatrices.{AreMatricesOf, curvature_at}
-use Rattle.hessian_check.specs.Dominance.{AreSame, IsSymmetric}
+use Rattle.hessian_check.specs.Curvature.{weighted_gram}
+use Rattle.hessian_check.specs.DesignMatrices.{AreMatricesOf}
+use Rattle.hessian_check.specs.Dominance.{AreSame}
 use Rattle.hessian_check.specs.StepMatrices.{AreMatrices}
-use Rattle.hessian_check.specs.MatrixRoom.{matrix_at, HasMatrixRoom}
 use Rattle.hessian_check.specs.Steps.{curved_of, half_of}
-use Rattle.hessian_check.proofs.FormFacts.{IsSmall, amount-le, by_plan_is, products_room, unit_small}
+use Rattle.hessian_check.proofs.CurvatureLaws.{gram_once}
+use Rattle.hessian_check.proofs.RadiusLaws.{exact_is}
+use Rattle.hessian_check.proofs.FormFacts.{IsSmall, by_plan_is, unit_small}
+use Rattle.plant_condense.proofs.FormSums.{hessian_row, products_pair, products_row}
+use Rattle.integer_algebra.proofs.AmountLaws.{amount_mono}
 
 -- ---- the cost and the rows
 half_same : (p : DesignParts) (c : Condensed) → IsFormOf p c → (m : Matrix) → HasEntries (length c.hess.rows) (length c.hess.rows) (half_of (entry_of c.hess)) m →
@@ -36,10 +38,11 @@ half_same p c f m h = record {
 }
 
 rows_are : (p : DesignParts) (c : Condensed) → IsFormOf p c → (m : Matrix) → HasEntries c.g.cols c.g.cols (gram (length c.g.rows) (entry_of c.g)) m →
-    AreSame (entries (design_of p)) (entry_of m) (gram (rows (design_of p)) (condensed_of (design_of p)).by_plan)
+    AreSame (entries (design_of p)) (entry_of m) (weighted_gram (rows (design_of p)) (λ l. 1) (condensed_of (design_of p)).by_plan)
 rows_are p c f m h = record {
   is = λ i j k l. h.entries i j (rw f.shapes.g.cols k) (rw f.shapes.g.cols l) ∙
-      rw f.shapes.g.rows (total_same (rows (design_of p)) _ _ (λ r o. ap₂ (λ (x : ℤ) (y : ℤ). x *ℤ y) (by_plan_is p c f r i o k) (by_plan_is p c f r j o l)));
+      rw f.shapes.g.rows (total_same (rows (design_of p)) _ _ (λ r o. ap₂ (λ (x : ℤ) (y : ℤ). x *ℤ y) (by_plan_is p c f r i o k) (by_plan_is p c f r j o l))) ∙
+      sym (gram_once (rows (design_of p)) (condensed_of (design_of p)).by_plan i j);
 }
 
 -- ---- their sizes
@@ -51,40 +54,25 @@ half_row : (p : DesignParts) (c : Condensed) → IsFormOf p c → (m : Matrix) �
     (i : ℕ) → i < entries (design_of p) → size (entries (design_of p)) (entry_of m i) ≤ hessian_size (design_of p)
 half_row p c f m h i k =
     let d = design_of p in
-    let n = entries d in
-    let b = amount-le n (λ j. unsigned_abs (entry_of m i j)) (cost_entry_size d) (λ j l.
-    (let e = ap unsigned_abs (h.entries i j (rw f.shapes.hess.rows k) (rw f.shapes.hess.rows l)) in omega (arith, e, half-le (entry_of c.hess i j), f.sizes.hess i j k l))) in
-    let w : n * 1 ≤ n * (n + d.states + 1) = mul-le-mul_left n (omega arith) in
-    let q = mul-le-mul_right (cost_entry_size d) w in
-    omega (arith, b, q)
-
-products-le : (p : DesignParts) (c : Condensed) → IsFormOf p c → (i j : ℕ) → i < entries (design_of p) → j < entries (design_of p) →
-    gram_size (rows (design_of p)) (entry_of c.g) i j ≤ rows (design_of p) * limit_entry_size (design_of p) ^ 2
-products-le p c f i j k l = amount-le (rows (design_of p)) _ (limit_entry_size (design_of p) ^ 2) (λ r o. rw (pow-two (limit_entry_size (design_of p)))
-    (mul-le-mul {n₁ = unsigned_abs (entry_of c.g r i)} {m₁ = unsigned_abs (entry_of c.g r j)} {n₂ = limit_entry_size (design_of p)} {m₂ = limit_entry_size (design_of p)} (f.sizes.g r i o k) (f.sizes.g r j o l)))
+    let b = amount_mono (entries d) (λ j. unsigned_abs (entry_of m i j)) (λ j. unsigned_abs (entry_of c.hess i j)) (λ j l.
+    (let e = ap unsigned_abs (h.entries i j (rw f.shapes.hess.rows k) (rw f.shapes.hess.rows l)) in omega (arith, e, half-le (entry_of c.hess i j)))) in
+    omega (arith, b, hessian_row p c f i k)
 
 pub products_fit : (p : DesignParts) (c : Condensed) → IsFormOf p c → (i j : ℕ) → i < c.g.cols → j < c.g.cols → gram_size (length c.g.rows) (entry_of c.g) i j < 2 ^ 127
 products_fit p c f i j k l =
-    let d = design_of p in
-    let a : i < entries d = rw (← f.shapes.g.cols) k in
-    let b = products-le p c f i j a (rw (← f.shapes.g.cols) l) in
-    let q : 1 ≤ entries d + d.states + 1 = omega arith in
-    let r = mul-le-mul_right (rows d * limit_entry_size d ^ 2) q in
-    rw f.shapes.g.rows (omega (arith, b, r, f.sizes.limit_room))
+    let b = products_pair p c f i j (rw (← f.shapes.g.cols) k) (rw (← f.shapes.g.cols) l) in
+    rw f.shapes.g.rows (omega (arith, b, f.sizes.limit_room))
 
 rows_row : (p : DesignParts) (c : Condensed) → IsFormOf p c → (m : Matrix) → HasEntries c.g.cols c.g.cols (gram (length c.g.rows) (entry_of c.g)) m →
     (i : ℕ) → i < entries (design_of p) → size (entries (design_of p)) (entry_of m i) ≤ rows_size (design_of p)
 rows_row p c f m h i k =
     let d = design_of p in
-    let n = entries d in
-    let w = rows d * limit_entry_size d ^ 2 in
-    let b = amount-le n (λ j. unsigned_abs (entry_of m i j)) w (λ j l.
+    let b = amount_mono (entries d) (λ j. unsigned_abs (entry_of m i j)) (λ j. gram_size (rows d) (entry_of c.g) i j) (λ j l.
     (let e : entry_of m i j ≡ gram (rows d) (entry_of c.g) i j = rw (← f.shapes.g.rows) (h.entries i j (rw f.shapes.g.cols k) (rw f.shapes.g.cols l)) in
     let t = dot_bound (rows d) (λ r. entry_of c.g r i) (λ r. entry_of c.g r j) in
     let q = ap unsigned_abs e in
-    omega (arith, q, t, products-le p c f i j k l))) in
-    let r = products_room (rows d) n (n + d.states + 1) (limit_entry_size d ^ 2) (omega arith) in
-    omega (arith, b, r)
+    omega (arith, q, t))) in
+    omega (arith, b, products_row p c f i k)
 
 -- ---- the matrices
 room_of : (t l h x w r m y : ℕ) → x ≤ h → y ≤ m → t * l ^ 2 * h + w * r ^ 2 * m ≤ 2 ^ 126 → t * (l * l) * x + w * (r * r) * y < 2 ^ 127
@@ -105,7 +93,7 @@ gaps_are p c f g h k a b =
     let y = rows_are p c f g.rows k in
     record {
       size = size_is;
-      same = λ s. record { is = λ i j l o. rw (a, b, x.is i j l o, y.is i j l o) refl };
+      same = λ s. record { is = λ i j l o. rw (a, b, x.is i j l o, y.is i j l o) (sym (exact_is (curved_of d) s i j)) };
       room = λ s r i l. (let t : i < entries d = rw (← size_is) l in
           rw (a, b, size_is) (room_of (2 ^ s) d.limit_denominator (hessian_size d) _ d.cost_denominator d.row_denominator (rows_size d) _ (half_row p c f g.cost h i t) (rows_row p c f g.rows k i t) r));
     }

@@ -2,17 +2,36 @@
 use Rattle.std.proofs.Common.{rules}
 use Rattle.qp_model.specs.Parts.{design_of}
 use Rattle.qp_model.specs.CurvatureSize.{CoversSquares}
+use Rattle.qp_model.specs.Form.{form_of}
 use Rattle.qp_model.proofs.CostLaws.{condensing}
-use Rattle.hessian_check.specs.StepLaw.{ExponentLaw}
-use Rattle.hessian_check.specs.Steps.{curved_of, floor_of_design}
-use Rattle.hessian_check.proofs.CurvatureLaws.{first_by, chosen_law, squares_law}
-use Rattle.hessian_check.proofs.DesignLaws.{exponent_of, half_turned, floored, covers}
+use Rattle.qp_model.proofs.FormLaws.{form_law}
+use Rattle.hessian_check.specs.Curvature.{exactly}
+use Rattle.hessian_check.specs.StepLaw.{ExponentLaw, FormSquaresLaw, RowsLaw}
+use Rattle.hessian_check.specs.Steps.{curved_by, curved_of, held_of, floor_of_design}
+use Rattle.hessian_check.proofs.CurvatureLaws.{squares_law}
+use Rattle.hessian_check.proofs.ChosenLaws.{accepted_law, chosen_law, first_by}
+use Rattle.hessian_check.proofs.RadiusLaws.{exact_law}
+use Rattle.hessian_check.proofs.DesignLaws.{exponent_of, exponents_of, half_turned, floored, covers}
 use Rattle.qp_model.proofs.SoundLaws.{sound}
 
 pub step_law : ExponentLaw
 step_law p h s1 s f k =
     let d = design_of p in
     let e = condensing d h.inputs.0 in
-    let t = half_turned d e in
-    let one = first_by (curved_of d) (CoversSquares d) s1 (λ s y. squares_law (curved_of d) (floor_of_design d) s (search rules) (floored d (sound p h) e) (covers d s y)) t f in
-    (exponent_of d s1 e one, exponent_of d s e (chosen_law (curved_of d) s1 s t one k))
+    let t = exact_law (curved_of d) (half_turned d e) in
+    let g = form_law p h in
+    let one = first_by (curved_of d) (held_of d) (CoversSquares d) s1
+    (λ s y. squares_law (curved_of d) (floor_of_design d) s (search rules) (floored d (sound p h) e) (covers d (form_of d) g.encloses g.rows_some s y)) t f in
+    (exponent_of d s1 e one, exponent_of d s e (chosen_law (curved_of d) (held_of d) s1 s t one k))
+
+pub form_squares_law : FormSquaresLaw
+form_squares_law p h g k s y =
+    let d = design_of p in
+    let e = condensing d h.inputs.0 in
+    exponent_of d s e (squares_law (curved_of d) (floor_of_design d) s (search rules) (floored d (sound p h) e) (covers d g k.encloses k.rows_some s y))
+
+pub rows_law : RowsLaw
+rows_law p h s most b k =
+    let d = design_of p in
+    let e = condensing d h.inputs.0 in
+    exponents_of d s most e b (accepted_law (curved_by d s most) (exactly (curved_by d s most)) most (exact_law (curved_by d s most) (half_turned d e)) k)

@@ -1,5 +1,5 @@
 -- A square matrix that is filled row by row.
-use Rattle.std.proofs.Common.{◌≡◌, inl, inr, ℕ, ◌+◌, ◌<◌, ◌≤◌, [], ℤ, pos, length, replicate, arith, ap, sym, ◌∙◌, refl, get_or-set_other, get_or-set_same, slice_set}
+use Rattle.std.proofs.Common.{◌≡◌, inl, inr, ℕ, ◌+◌, ◌<◌, ◌≤◌, [], ℤ, pos, length, replicate, arith, ◌∙◌, refl, get_or-set_other, get_or-set_same, slice_set}
 use Rattle.std.specs.Prelude.{All}
 use Rattle.std.proofs.lemmas.Bool.{cases_lt, cases_eq}
 use Rattle.std.proofs.lemmas.List.{length-set, length-replicate, get_or-replicate}

@@ -1,13 +1,13 @@
 -- What the numbers of a condensed form are and how large they are.
-use Rattle.std.proofs.Common.{◌≡◌, inl, inr, ℕ, zero, suc, ◌+◌, ◌*◌, ◌<◌, ◌≤◌, ◌^◌, [], ◌∷◌, ℤ, pos, ◌+ℤ◌, ◌-ℤ◌, ◌*ℤ◌, ◌≤ℤ◌, ◌<ℤ◌, unsigned_abs, nat_eq, Bool, true, false, IsTrue, ◌↔◌, Option, Some, None, rules, if◌then◌else◌, length, max, arith, ap, sym, ◌∙◌, refl}
+use Rattle.std.proofs.Common.{◌≡◌, ℕ, zero, suc, ◌+◌, ◌*◌, ◌/◌, ◌<◌, ◌≤◌, ◌^◌, ℤ, pos, ◌*ℤ◌, ◌≤ℤ◌, ◌<ℤ◌, unsigned_abs, nat_eq, Bool, true, false, IsTrue, ◌↔◌, Option, Some, None, rules, if◌then◌else◌, arith, ap, sym, ◌∙◌, refl}
 use Rattle.std.proofs.lemmas.Int.{ints}
 use Rattle.std.proofs.lemmas.Nat.{pow_pos}
-use Rattle.std.proofs.Math.Nat.{mul-le-mul, mul-le-mul_left, mul-le-mul_right, one-le-mul, pow-le-pow_left}
-use Rattle.integer_algebra.specs.Sizes.{amount, size}
-use Rattle.integer_algebra.specs.Sums.{at, image, total}
+use Rattle.std.proofs.Math.Nat.{le_of_mul-le-mul_left, mul-div_cancel_left, mul-le-mul, mul-le-mul_right, one-le-mul, pow-le-pow_left}
+use Rattle.integer_algebra.specs.Sizes.{amount}
+use Rattle.integer_algebra.specs.Sums.{at, image}
 use Rattle.integer_algebra.proofs.OrderLaws.{cancel-le_z, pos_positive}
 use Rattle.integer_algebra.proofs.PowerLaws.{pow-two, pow_positive}
-use Rattle.integer_algebra.proofs.SizeLaws.{amount_same, amount_term}
+use Rattle.integer_algebra.proofs.SizeLaws.{amount_same}
 use Rattle.integer_algebra.proofs.SumLaws.{total_same}
 use Rattle.integer_algebra.proofs.BlockLaws.{total_single}
 use Rattle.mat_int.specs.Matrix.{entry_of}
@@ -16,7 +16,8 @@ use Rattle.qp_model.specs.Design.{Design, entries, rows}
 use Rattle.qp_model.specs.Condensed as form
 use Rattle.qp_model.specs.Condensed.{IsCondensed}
 use Rattle.qp_model.specs.Condensing.{condensed_of}
-use Rattle.qp_model.specs.Quantities.{input_floor, growth, cost_width, weight_sum, prediction_size, cost_entry_size, limit_entry_size, hessian_size, rows_size}
+use Rattle.qp_model.specs.Form.{form_of, rows_scale}
+use Rattle.qp_model.specs.Quantities.{input_floor, growth, cost_width, weight_sum, prediction_size, cost_entry_size, limit_entry_size, hessian_size}
 use Rattle.qp_model.specs.CurvatureSize.{CoversSquares, limit_squares, floor_times}
 use Rattle.qp_model.specs.Parts.{IsDesign, design_of}
 use Rattle.qp_model.specs.Range.{IsDenominator}
@@ -25,38 +26,16 @@ use Rattle.plant_condense.specs.declared.condensed.Condensed.{Condensed}
 use Rattle.plant_condense.specs.Form.{IsFormOf, form_numbers}
 use Rattle.std.specs.Option.{SomeIff, is_some}
 use Rattle.hessian_check.specs.Curvature.{IsLeastBelow}
-use Rattle.hessian_check.proofs.DesignLaws.{change_is}
+use Rattle.hessian_check.proofs.DesignLaws.{change_is, farthest_none}
+use Rattle.plant_condense.proofs.FormSums.{plan_squares}
+use Rattle.plant_condense.proofs.HeldLaws.{held_same, least_equal}
 use Rattle.hessian_check.proofs.RowLaws.{not_true}
-use Rattle.qp_model.proofs.SoundLaws.{least-le, least-met, weight_at}
+use Rattle.qp_model.proofs.SoundLaws.{least-met, weight_at}
 
 -- ---- the rows are those of the design
--- two condensed forms of one design have the same rows
-rows_same : (d : Design) (k l : form.Condensed) → IsCondensed d k → IsCondensed d l → (i j : ℕ) → i < rows d → j < entries d → k.by_plan i j ≡ l.by_plan i j
-rows_same d k l p q i j r s = cancelled (pos (2 ^ d.grid)) _ _ (pos_positive (2 ^ d.grid) (pow_pos d.grid))
-    (ap (λ (z : ℤ). pos (2 ^ d.grid) *ℤ z) (sym (picked k)) ∙ sym (change_is d k p one i r) ∙ change_is d l q one i r ∙ ap (λ (z : ℤ). pos (2 ^ d.grid) *ℤ z) (picked l))
-  where
-    one : ℕ → ℤ
-    one h = if nat_eq h j then pos 1 else pos 0
-
-    picked : (m : form.Condensed) → image (entries d) m.by_plan one i ≡ m.by_plan i j
-    picked m = total_same (entries d) _ _ (λ h t. chosen (nat_eq h j) (m.by_plan i h)) ∙ total_single (entries d) j (m.by_plan i) s
-      where
-        chosen : (b : Bool) (x : ℤ) → x *ℤ (if b then pos 1 else pos 0) ≡ (if b then x else pos 0)
-        chosen true x = omega (arith, ints)
-        chosen false x = omega (arith, ints)
-
-    cancelled : (g x y : ℤ) → pos 0 <ℤ g → g *ℤ x ≡ g *ℤ y → x ≡ y
-    cancelled g x y h e = both (cancel-le_z g x y h (below e)) (cancel-le_z g y x h (below (sym e)))
-      where
-        below : {a b : ℤ} → a ≡ b → a ≤ℤ b
-        below {a} {b} e = omega (arith, ints, e)
-
-        both : {a b : ℤ} → a ≤ℤ b → b ≤ℤ a → a ≡ b
-        both {a} {b} m n = omega (arith, ints, m, n)
-
 pub by_plan_is : (p : DesignParts) (c : Condensed) → IsFormOf p c → (i j : ℕ) → i < rows (design_of p) → j < entries (design_of p) →
     entry_of c.g i j ≡ (condensed_of (design_of p)).by_plan i j
-by_plan_is p c f i j = rows_same (design_of p) (form_numbers c) (condensed_of (design_of p)) f.condensed (condensing (design_of p) f.design.inputs.0) i j
+by_plan_is p c f = (held_same p c f).by_plan
 
 -- ---- the numbers
 -- those of a design are small
@@ -64,6 +43,7 @@ pub record IsSmall (d : Design) : Type 0 where
   pub weight_one : 1 ≤ d.cost_denominator
   pub weight : d.cost_denominator ≤ 2 ^ 20
   pub cost_row : d.row_denominator ≤ 2 ^ 20
+  pub limit_one : 1 ≤ d.limit_denominator
   pub limit : d.limit_denominator ≤ 2 ^ 20
   pub floor : input_floor d < 2 ^ 31
   pub power : 1 ≤ d.plant_denominator ^ d.stages
@@ -75,18 +55,9 @@ small_of z h = (omega (arith, ints, h.low), omega (arith, ints, h.low, h.high))
 -- the least input weight
 pub floor_is : (p : DesignParts) (c : Condensed) → IsFormOf p c → (unsigned_abs c.input_floor ≡ input_floor (design_of p)) × (input_floor (design_of p) < 2 ^ 31)
 floor_is p c f =
-    let w : ℕ → ℕ = λ l. unsigned_abs (at p.input_weights.items l) in
-    let met = f.denominators.input_floor.met in
-    let low = least-met p.inputs w f.design.inputs.0 in
-    let a = weight_at p f.design met.0 met.1.0 in
+    let low = least-met p.inputs (λ l. unsigned_abs (at p.input_weights.items l)) f.design.inputs.0 in
     let b = weight_at p f.design low.0 low.1.0 in
-    let x = least-le p.inputs w met.0 met.1.0 in
-    let y = f.denominators.input_floor.below low.0 low.1.0 in
-    numbers c.input_floor (at p.input_weights.items met.0) (at p.input_weights.items low.0) (input_floor (design_of p)) met.1.1 low.1.1 x y a.low b.low b.high
-  where
-    numbers : (z a b : ℤ) (n : ℕ) → z ≡ a → n ≡ unsigned_abs b → n ≤ unsigned_abs a → z ≤ℤ b → pos 1 ≤ℤ a → pos 1 ≤ℤ b → b <ℤ pos (2 ^ 31) →
-        (unsigned_abs z ≡ n) × (n < 2 ^ 31)
-    numbers z a b n e g h k l m o = (rw e (omega (arith, ints, g, h, l, m, rw e at k)), omega (arith, ints, g, m, o))
+    (least_equal p c.input_floor f.design f.denominators.input_floor, omega (arith, ints, low.1.1, b.low, b.high))
 
 -- the plant's denominator, over all stages, is at most what numbers grow by
 power_room : (p : DesignParts) → IsDesign p → let d = design_of p in
@@ -111,35 +82,28 @@ small p c f = record {
   weight_one = (small_of p.cost_den f.design.cost_den).0;
   weight = (small_of p.cost_den f.design.cost_den).1;
   cost_row = (small_of p.row_den f.design.row_den).1;
+  limit_one = (small_of p.limit_den f.design.limit_den).0;
   limit = (small_of p.limit_den f.design.limit_den).1;
   floor = (floor_is p c f).1;
   power = pow_positive (unsigned_abs p.plant_den) p.stages (small_of p.plant_den f.design.plant_den).0;
   part = (let r = power_room p f.design in omega (arith, r, f.sizes.cost_room));
 }
 
+-- what the rows are over, divided by the limits' denominator
+pub lift_is : (p : DesignParts) (c : Condensed) → IsFormOf p c → (x y : ℕ) → x ≡ rows_scale (design_of p) → y ≡ (design_of p).limit_denominator →
+    (design_of p).limit_denominator * (x / y) ≡ rows_scale (design_of p)
+lift_is p c f x y e g = rw (e, g, mul-div_cancel_left ((design_of p).plant_denominator ^ (design_of p).stages) {n = (design_of p).limit_denominator} (small p c f).limit_one) refl
+
 -- ---- sizes
-pub amount-le : (n : ℕ) (f : ℕ → ℕ) (b : ℕ) → ((i : ℕ) → i < n → f i ≤ b) → amount n f ≤ n * b
-amount-le zero f b h = omega arith
-amount-le (suc n) f b h = omega (arith, amount-le n f b (λ i l. h i (omega arith)), h n (omega arith))
-
--- rows * entries products of two numbers of the rows
-pub products_room : (m n k w : ℕ) → n ≤ k → n * (m * w) ≤ k * m * w
-products_room m n k w h = let q = mul-le-mul_right (m * w) h in omega (arith, q)
-
 -- the squares of the rows
 pub squares_room : (p : DesignParts) (c : Condensed) → IsFormOf p c → let d = design_of p in
     amount (rows d) (λ i. amount (entries d) (λ j. unsigned_abs (entry_of c.g i j) ^ 2)) < 2 ^ 127
-squares_room p c f =
-    let d = design_of p in
-    let w = limit_entry_size d ^ 2 in
-    let line = λ (i : ℕ) (l : i < rows d). amount-le (entries d) (λ j. unsigned_abs (entry_of c.g i j) ^ 2) w (λ j o. pow-le-pow_left {n = unsigned_abs (entry_of c.g i j)} {m = limit_entry_size d} (f.sizes.g i j l o) 2) in
-    let all = amount-le (rows d) (λ i. amount (entries d) (λ j. unsigned_abs (entry_of c.g i j) ^ 2)) (entries d * w) line in
-    let room = products_room (rows d) (entries d) (entries d + d.states + 1) w (omega arith) in
-    omega (arith, all, room, f.sizes.limit_room)
+squares_room p c f = let q = plan_squares p c f in omega (arith, q, f.sizes.limit_room)
 
 pub squares_are_limit : (p : DesignParts) (c : Condensed) → IsFormOf p c → let d = design_of p in
-    amount (rows d) (λ i. amount (entries d) (λ j. unsigned_abs (entry_of c.g i j) ^ 2)) ≡ limit_squares d
-squares_are_limit p c f = amount_same (rows (design_of p)) _ _ (λ i l. amount_same (entries (design_of p)) _ _ (λ j o. ap (λ (z : ℤ). unsigned_abs z ^ 2) (by_plan_is p c f i j l o)))
+    amount (rows d) (λ i. amount (entries d) (λ j. unsigned_abs (entry_of c.g i j) ^ 2)) ≡ limit_squares (form_of d)
+squares_are_limit p c f = amount_same (rows (design_of p)) _ _ (λ i l. amount_same (entries (design_of p)) _ _ (λ j o. ap (λ (z : ℤ). unsigned_abs z ^ 2) (by_plan_is p c f i j l o) ∙
+    ap (λ (z : ℕ). z ^ 2) (sym (farthest_none ((condensed_of (design_of p)).by_plan i j)))))
 
 -- ---- what code multiplies
 pub unit_small : (d : Design) → IsSmall d → (d.limit_denominator * d.limit_denominator ≤ 2 ^ 40) × (input_floor d * (d.limit_denominator * d.limit_denominator) ≤ 2 ^ 80)
@@ -148,28 +112,41 @@ unit_small d h =
     let b = mul-le-mul {n₁ = input_floor d} {m₁ = d.limit_denominator * d.limit_denominator} {n₂ = 2 ^ 31} {m₂ = 2 ^ 20 * 2 ^ 20} (omega (arith, h.floor)) a in
     (omega (arith, a), omega (arith, b))
 
-pub part_small : (d : Design) → IsSmall d → let a = d.plant_denominator ^ d.stages in (a * a ≤ 2 ^ 126) × (1 ≤ a * a)
-part_small d h =
-    let a = d.plant_denominator ^ d.stages in
-    let q = mul-le-mul_right (a * a) h.weight_one in
-    (omega (arith, q, h.part), one-le-mul h.power h.power)
+pub record IsSmallPart (d : Design) (a : ℕ) : Type 0 where
+  pub low : 1 ≤ a * a
+  pub high : a * a ≤ 2 ^ 126
+  pub times : d.cost_denominator * (a * a) ≤ 2 ^ 126
+
+pub part_small : (d : Design) (a : ℕ) → IsSmall d → d.limit_denominator * a ≡ rows_scale d → IsSmallPart d a
+part_small d a h e = rw (cancelled d.limit_denominator a (d.plant_denominator ^ d.stages) h.limit_one e) (
+    let q = mul-le-mul_right (d.plant_denominator ^ d.stages * d.plant_denominator ^ d.stages) h.weight_one in
+    record { low = one-le-mul h.power h.power; high = omega (arith, q, h.part); times = h.part })
+  where
+    cancelled : (l x y : ℕ) → 1 ≤ l → l * x ≡ l * y → x ≡ y
+    cancelled l x y o k = both (le_of_mul-le-mul_left {m = x} {n = y} {k = l} (omega (arith, k)) o) (le_of_mul-le-mul_left {m = y} {n = x} {k = l} (omega (arith, k)) o)
+      where
+        both : x ≤ y → y ≤ x → x ≡ y
+        both p q = omega (arith, p, q)
 
 -- ---- what code tests
-covers_as : (d : Design) (s w q f l a : ℕ) → w ≡ d.cost_denominator → q ≡ limit_squares d → f ≡ input_floor d → l ≡ d.limit_denominator → a ≡ d.plant_denominator ^ d.stages →
+covers_as : (d : Design) (s w q f l a : ℕ) → w ≡ d.cost_denominator → q ≡ limit_squares (form_of d) → f ≡ input_floor d → l ≡ d.limit_denominator → d.limit_denominator * a ≡ rows_scale d →
     (w * q ≤ 2 ^ s * (f * (l * l)) * (a * a) → CoversSquares d s) × (CoversSquares d s → w * q ≤ 2 ^ s * (f * (l * l)) * (a * a))
-covers_as d s w q f l a ew eq ef el ea = (λ t. moved (w * q) _ (d.cost_denominator * limit_squares d) _ left right t, λ t. moved _ _ _ _ (sym left) (sym right) t)
+covers_as d s w q f l a ew eq ef el ea = (λ t. moved (w * q) _ (d.cost_denominator * limit_squares (form_of d)) _ left right t, λ t. moved _ _ _ _ (sym left) (sym right) t)
   where
-    left : w * q ≡ d.cost_denominator * limit_squares d
+    left : w * q ≡ d.cost_denominator * limit_squares (form_of d)
     left = rw (ew, eq) refl
 
-    right : 2 ^ s * (f * (l * l)) * (a * a) ≡ floor_times d s
-    right = rw (ef, el, ea, ← (pow-two d.limit_denominator), ← (pow-two (d.plant_denominator ^ d.stages))) refl
+    right : 2 ^ s * (f * (l * l)) * (a * a) ≡ floor_times d (form_of d) s
+    right = rw (ef, el) (turn (2 ^ s) (input_floor d) d.limit_denominator a (rows_scale d) ea)
+      where
+        turn : (p i l a r : ℕ) → l * a ≡ r → p * (i * (l * l)) * (a * a) ≡ p * i * r ^ 2
+        turn p i l a r e = rw (← e, pow-two (l * a)) (omega arith)
 
     moved : (a b x y : ℕ) → a ≡ x → b ≡ y → a ≤ b → x ≤ y
     moved a b x y e f h = omega (arith, e, f, h)
 
-pub covers_by : (d : Design) (o : Option ℕ) (w q f l a : ℕ) → w ≡ d.cost_denominator → q ≡ limit_squares d → f ≡ input_floor d → l ≡ d.limit_denominator →
-    a ≡ d.plant_denominator ^ d.stages → IsLeastBelow 41 (λ s. w * q ≤ 2 ^ s * (f * (l * l)) * (a * a)) o → IsLeastBelow 41 (CoversSquares d) o
+pub covers_by : (d : Design) (o : Option ℕ) (w q f l a : ℕ) → w ≡ d.cost_denominator → q ≡ limit_squares (form_of d) → f ≡ input_floor d → l ≡ d.limit_denominator →
+    d.limit_denominator * a ≡ rows_scale d → IsLeastBelow 41 (λ s. w * q ≤ 2 ^ s * (f * (l * l)) * (a * a)) o → IsLeastBelow 41 (CoversSquares d) o
 covers_by d None w q f l a ew eq ef el ea h = λ k m t. h k m ((covers_as d k w q f l a ew eq ef el ea).1 t)
 covers_by d (Some s) w q f l a ew eq ef el ea h = (
   h.0,

@@ -1,10 +1,10 @@
 -- The tests read the entries below the size alone.
-use Rattle.std.proofs.Common.{◌≡◌, inl, inr, ℕ, zero, suc, ◌+◌, ◌*◌, ◌<◌, ◌≤◌, ◌^◌, [], ◌∷◌, ℤ, pos, ◌*ℤ◌, ◌-ℤ◌, ◌≤ℤ◌, unsigned_abs, nat_eq, length, Bool, IsTrue, ◌↔◌, if◌then◌else◌, arith, ap, ap₂, sym, ◌∙◌, refl}
+use Rattle.std.proofs.Common.{◌≡◌, inl, inr, ℕ, zero, suc, ◌+◌, ◌*◌, ◌<◌, ◌≤◌, ◌^◌, [], ◌∷◌, ℤ, pos, ◌*ℤ◌, ◌-ℤ◌, unsigned_abs, nat_eq, length, Bool, IsTrue, ◌↔◌, if◌then◌else◌, arith, ap, ap₂, sym, ◌∙◌, refl}
 use Rattle.std.specs.Int.{int_max, int_min}
 use Rattle.std.proofs.lemmas.Int.{unsigned_abs-mul}
 use Rattle.integer_algebra.proofs.Quoting.{by_ring, quotes}
 use Rattle.integer_algebra.specs.Bounds.{absolute}
-use Rattle.integer_algebra.specs.Sums.{total, square, dot}
+use Rattle.integer_algebra.specs.Sums.{dot}
 use Rattle.integer_algebra.proofs.SumLaws.{total_same}
 use Rattle.integer_algebra.specs.Division.{floor_of}
 use Rattle.mat_int.specs.Matrix.{Matrix, entry_of}
@@ -12,7 +12,7 @@ use Rattle.mat_int.specs.Matrix.{HasEntries}
 use Rattle.hessian_check.specs.StepMatrices.{mixed}
 use Rattle.hessian_check.specs.Dominance.{AreSame, IsSymmetric}
 use Rattle.integer_algebra.specs.Matrices.{off_diagonal_sum, IsDominant}
-use Rattle.hessian_check.specs.Recipe.{top, low, left, quotient, IsStart, IsShift, IsPart, IsRow, IsRecipeRoot, diagonal_reserve, scaled_up}
+use Rattle.hessian_check.specs.Recipe.{top, low, IsStart, IsPart, IsRow, IsRecipeRoot, diagonal_reserve, scaled_up}
 use Rattle.hessian_check.specs.Curvature.{HasPassingRoot, HasPassingRootBelow, IsChosen, IsDominantAt, IsFirst, IsLeast}
 use Rattle.hessian_check.proofs.PassLaws.{passes_same, same_back}
 

@@ -1,10 +1,9 @@
 -- The least power of two that makes up for a quotient.
 use Rattle.std.proofs.Common.{◌≡◌, inl, inr, ℕ, zero, suc, ◌+◌, ◌*◌, ◌/◌, ◌%◌, ◌<◌, ◌≤◌, ◌^◌, List, length, Option, Some, None, ℤ, pos, negsuc, ◌+ℤ◌, unsigned_abs, arith, ap, sym, ◌∙◌, refl, Fits}
 use Rattle.std.specs.Int.{div_ceil, w128}
-use Rattle.std.specs.Option.{SomeIff}
 use Rattle.std.proofs.lemmas.Bool.{cases_lt}
 use Rattle.std.proofs.lemmas.Grind.{div_ceil_times}
-use Rattle.std.proofs.Math.Nat.{mul-le-mul_left, mul-le-mul_right, mul-le-mul, pow-le-pow_right}
+use Rattle.std.proofs.Math.Nat.{mul-le-mul_left, mul-le-mul, pow-le-pow_right}
 use Rattle.std.proofs.lemmas.Int.{ints}
 use Rattle.integer_algebra.specs.Sums.{at, square, total}
 use Rattle.integer_algebra.specs.Sizes.{amount}
@@ -14,7 +13,7 @@ use Rattle.integer_algebra.proofs.SizeLaws.{amount_same}
 use Rattle.mat_int.specs.Row as lists
 use Rattle.mat_int.proofs.Indices.{abs_dot_is, dot_is}
 use Rattle.integer_algebra.proofs.DivisionLaws.{le-mul-ceil_div, ceil_div-le}
-use Rattle.hessian_check.specs.Curvature.{IsLeast, IsLeastBelow}
+use Rattle.hessian_check.specs.Curvature.{IsLeastBelow}
 
 -- a quotient rounded up, by its bounds
 ceil_is : (a b n : ℕ) → 0 < b → a ≤ b * n → b * n < a + b → ceil_div a b ≡ n

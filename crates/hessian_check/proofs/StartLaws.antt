@@ -1,16 +1,13 @@
 -- What the rule starts from.
-use Rattle.std.proofs.Common.{◌≡◌, inl, inr, ℕ, zero, suc, ◌+◌, ◌<◌, ◌≤◌, ◌^◌, [], ℤ, pos, negsuc, ◌*ℤ◌, ◌≤ℤ◌, ◌<ℤ◌, unsigned_abs, List, length, get_or, replicate, arith, ap, ◌∙◌, refl, FitsSigned}
+use Rattle.std.proofs.Common.{◌≡◌, inl, inr, ℕ, zero, suc, ◌+◌, ◌<◌, ◌≤◌, ◌^◌, ℤ, pos, negsuc, ◌*ℤ◌, ◌≤ℤ◌, ◌<ℤ◌, unsigned_abs, arith, FitsSigned}
 use Rattle.std.specs.Int.{w128}
 use Rattle.std.proofs.lemmas.Int.{ints, clamps, unsigned_abs-mul}
 use Rattle.std.proofs.lemmas.Bool.{cases_lt}
-use Rattle.std.proofs.lemmas.List.{get_or-replicate, length-replicate}
 use Rattle.std.proofs.Math.Nat.{pow-le-pow_right}
 use Rattle.std.proofs.Math.IntN.{*ℤ_comm}
 use Rattle.integer_algebra.proofs.OrderLaws.{mul-le-mul_left_z, mul-le-mul_right_z, mul_nonneg_z, le_trans_z}
-use Rattle.mat_int.specs.Matrix.{Matrix, row_of, entry_of, zero_matrix}
 use Rattle.integer_algebra.specs.Division.{floor_of}
-use Rattle.hessian_check.specs.Passing.{AreSquare}
-use Rattle.hessian_check.specs.Recipe.{top, low, IsStart, IsShift, IsSmall, IsBlank, IsEven, NoRows, NoRoot, scaled_up, diagonal_reserve}
+use Rattle.hessian_check.specs.Recipe.{top, low, IsStart, IsShift, IsSmall, NoRows, NoRoot, scaled_up, diagonal_reserve}
 use Rattle.hessian_check.proofs.RecipeLaws.{shift_next}
 
 -- ---- the greatest and the least

@@ -1,9 +1,9 @@
 -- What the answer of the choice among matrices says of a design.
-use Rattle.std.proofs.Common.{◌≡◌, inl, inr, ℕ, ◌+◌, ◌*◌, ◌<◌, ◌≤◌, ◌^◌, Option, Some, None, length, rules, arith, ap, sym, ◌∙◌, refl}
-use Rattle.std.specs.Prelude.{Result, Ok, Err, IfOk, IsOk, unwrap_or}
+use Rattle.std.proofs.Common.{◌≡◌, ◌⊎◌, inl, inr, ℕ, ◌<◌, ◌≤◌, ◌^◌, Option, Some, None, length, rules, arith, ap, sym, ◌∙◌, refl}
+use Rattle.std.specs.Prelude.{Result, Ok, Err, IfErr, IfOk, IsOk, unwrap_or}
 use Rattle.std.proofs.Math.Nat.{mul-le-mul_right, pow-le-pow_right}
 use Rattle.qp_model.specs.declared.design_parts.DesignParts.{DesignParts}
-use Rattle.qp_model.specs.Quantities.{input_floor, hessian_size, rows_size}
+use Rattle.qp_model.specs.Quantities.{hessian_size, rows_size}
 use Rattle.qp_model.specs.Curvature.{IsExponent}
 use Rattle.qp_model.specs.CurvatureSize.{CoversSquares, curvature_of, curvature_size}
 use Rattle.qp_model.specs.Design.{Design, entries}
@@ -12,12 +12,15 @@ use Rattle.hessian_check.specs.declared.fault.CurvatureFault.{CurvatureFault}
 use Rattle.hessian_check.specs.declared.fault.CurvatureFault.TheVariants.{Memory, TooWide, NoStep}
 use Rattle.hessian_check.specs.declared.fault.StepExponents.{StepExponents}
 use Rattle.hessian_check.specs.declared.matrices.StepMatrices.{StepMatrices}
-use Rattle.hessian_check.specs.Curvature.{IsChosen, IsLeastBelow, exponent_matrix}
+use Rattle.hessian_check.specs.Curvature.{IsChosen, IsLeastBelow}
 use Rattle.hessian_check.specs.DesignMatrices.{AreMatricesOf, curvature_at}
 use Rattle.hessian_check.specs.Exponents.{IsEither, IsOutcome}
 use Rattle.hessian_check.specs.MatrixRoom.{matrix_at, HasMatrixRoom}
+use Rattle.hessian_check.specs.Refusals.{HasCause, IsRefused}
 use Rattle.hessian_check.specs.StepLaw.{ExponentLaw}
-use Rattle.hessian_check.specs.Steps.{HasNoStep, IsPlainExponent, IsStepExponent, curved_of}
+use Rattle.qp_model.specs.declared.quantity.Quantity.{Quantity}
+use Rattle.qp_model.specs.declared.quantity.Quantity.TheVariants.{Curvature}
+use Rattle.hessian_check.specs.Steps.{HasNoStep, IsPlainExponent, IsStepExponent, step_matrix}
 use Rattle.std.proofs.lemmas.Bool.{cases_lt}
 use Rattle.plant_condense.specs.declared.condensed.Condensed.{Condensed}
 use Rattle.plant_condense.specs.Form.{IsFormOf}
@@ -38,7 +41,7 @@ Outcome g o r = IsOutcome (length g.cost.rows) (matrix_at g) o r
 
 -- ---- two exponents
 either_of : (d : Design) (g : StepMatrices) (o : Option ℕ) (s1 : ℕ) → Chosen d g o → IsEither (length g.cost.rows) (matrix_at g) o s1 → IsPlainExponent d s1
-either_of d g o s1 h e = first_moved (entries d) (matrix_at g) (exponent_matrix (curved_of d)) (CoversSquares d) s1 h.matrices.same
+either_of d g o s1 h e = first_moved (entries d) (matrix_at g) (step_matrix d) (CoversSquares d) s1 h.matrices.same
     (first_made (entries d) (matrix_at g) (CoversSquares d) o s1 h.some h.squares (rw h.matrices.size at e))
 
 pub plain_of : (d : Design) (g : StepMatrices) (o : Option ℕ) (r : Result StepExponents CurvatureFault) → Chosen d g o → Outcome g o r → IfOk r (λ e. IsPlainExponent d e.s1)
@@ -46,7 +49,7 @@ plain_of d g o (Ok e) h t = either_of d g o e.s1 h t.0
 plain_of d g o (Err f) h t = search rules
 
 pub step_of : (d : Design) (g : StepMatrices) (o : Option ℕ) (r : Result StepExponents CurvatureFault) → Chosen d g o → Outcome g o r → IfOk r (λ e. IsStepExponent d e.s1 e.s)
-step_of d g o (Ok e) h t = chosen_moved (entries d) (matrix_at g) (exponent_matrix (curved_of d)) e.s1 e.s h.matrices.same (rw h.matrices.size at t.1)
+step_of d g o (Ok e) h t = chosen_moved (entries d) (matrix_at g) (step_matrix d) e.s1 e.s h.matrices.same (rw h.matrices.size at t.1)
 step_of d g o (Err f) h t = search rules
 
 pub few : (d : Design) (o : Option ℕ) → IsLeastBelow 41 (CoversSquares d) o → unwrap_or o 40 ≤ 40
@@ -70,30 +73,58 @@ exponents_of step p h (Ok e) a b = let x = step p h e.s1 e.s a b in (x.1, x.0)
 exponents_of step p h (Err f) a b = search rules
 
 -- ---- no exponents
-pub not_wide : (g : StepMatrices) (o : Option ℕ) (r : Result StepExponents CurvatureFault) → Outcome g o r → (q : _) → r ≡ Err (TooWide q) → ⊥
-not_wide g o r t q e = let k : Outcome g o (Err (TooWide q)) = rw e at t in k
+-- a number that is chosen is not above 40
+flat_clash : (d : Design) (s1 : ℕ) → IsPlainExponent d s1 → s1 ≤ 40 → HasNoStep d → ⊥
+flat_clash d s1 h l n = let q = first_same (entries d) (step_matrix d) (CoversSquares d) s1 n.s1 h n.plain in omega (arith, q, l, n.above)
 
-pub memory_not_wide : (r : Result StepExponents CurvatureFault) (y : CurvatureFault) → r ≡ Err y → y ≡ Memory → (q : _) → r ≡ Err (TooWide q) → ⊥
-memory_not_wide r y e f q h = cc
-
-pub no_step_of : (d : Design) (g : StepMatrices) (o : Option ℕ) (r : Result StepExponents CurvatureFault) → Chosen d g o → Outcome g o r → r ≡ Err NoStep → HasNoStep d
-no_step_of d g o r h t e =
-    let k : Outcome g o (Err NoStep) = rw e at t in
+flat_of : (d : Design) (g : StepMatrices) (o : Option ℕ) → Chosen d g o → Outcome g o (Err NoStep) → HasNoStep d
+flat_of d g o h k =
     let b : IsLeastBelow 41 (CoversSquares d) None = rw k.1 at h.squares in
-    let a = first_above (entries d) (exponent_matrix (curved_of d)) (CoversSquares d) h.some b
-    (λ s l m. k.0 s l (rw h.matrices.size (dominant_moved (entries d) (exponent_matrix (curved_of d) s) (matrix_at g s) (same_back (entries d) (matrix_at g s) (exponent_matrix (curved_of d) s) (h.matrices.same s)) m))) in
+    let a = first_above (entries d) (step_matrix d) (CoversSquares d) h.some b
+    (λ s l m. k.0 s l (rw h.matrices.size (dominant_moved (entries d) (step_matrix d s) (matrix_at g s) (same_back (entries d) (matrix_at g s) (step_matrix d s) (h.matrices.same s)) m))) in
     record { s1 = h.some.number; plain = a.0; above = a.1 }
 
-pub found_of : (d : Design) (g : StepMatrices) (o : Option ℕ) (r : Result StepExponents CurvatureFault) → Chosen d g o → Outcome g o r →
-    HasNoStep d → ¬ IsOk r
-found_of d g o (Ok e) h t n y =
-    let q = first_same (entries d) (exponent_matrix (curved_of d)) (CoversSquares d) e.s1 n.s1 (plain_of d g o (Ok e) h t) n.plain in
-    let b = order_of d g o (Ok e) h t in
-    omega (arith, q, b.1, n.above)
-found_of d g o (Err f) h t n y = err_not_ok y
-  where
-    err_not_ok : IsOk {T = StepExponents} {E = CurvatureFault} (Err f) → ⊥
-    err_not_ok y = cc
+-- ---- the answer, where the quantity is within its limit
+pub refused_of : (d : Design) (g : StepMatrices) (o : Option ℕ) (r : Result StepExponents CurvatureFault) → Chosen d g o → curvature_size d ≤ 2 ^ 126 → Outcome g o r →
+    IfErr r (IsRefused d)
+refused_of d g o (Ok e) h l t = search rules
+refused_of d g o (Err Memory) h l t = inl refl
+refused_of d g o (Err (TooWide q)) h l t = absurd t
+refused_of d g o (Err NoStep) h l t = inr (l, flat_of d g o h t)
+
+pub every_of : (d : Design) (g : StepMatrices) (o : Option ℕ) (r : Result StepExponents CurvatureFault) → Chosen d g o → curvature_size d ≤ 2 ^ 126 → Outcome g o r →
+    (e : CurvatureFault) → HasCause d e → (r ≡ Err e) ⊎ (r ≡ Err Memory)
+every_of d g o r h l t Memory k = absurd k
+every_of d g o r h l t (TooWide q) k = absurd (omega (arith, l, k.1))
+every_of d g o (Ok e) h l t NoStep k = absurd (flat_clash d e.s1 (plain_of d g o (Ok e) h t) (order_of d g o (Ok e) h t).1 k.1)
+every_of d g o (Err Memory) h l t NoStep k = inr refl
+every_of d g o (Err (TooWide q)) h l t NoStep k = absurd t
+every_of d g o (Err NoStep) h l t NoStep k = inl refl
+
+pub accepted_of : (d : Design) (g : StepMatrices) (o : Option ℕ) (r : Result StepExponents CurvatureFault) → Chosen d g o → Outcome g o r →
+    (s1 : ℕ) → IsPlainExponent d s1 → s1 ≤ 40 → IsOk r ⊎ (r ≡ Err Memory)
+accepted_of d g o (Ok e) h t s1 p l = inl (search rules)
+accepted_of d g o (Err Memory) h t s1 p l = inr refl
+accepted_of d g o (Err (TooWide q)) h t s1 p l = absurd t
+accepted_of d g o (Err NoStep) h t s1 p l = absurd (flat_clash d s1 p l (flat_of d g o h t))
+
+-- where it is not
+pub wide_refused : (d : Design) → 2 ^ 126 < curvature_size d → (r : Result StepExponents CurvatureFault) → r ≡ Err (TooWide Curvature) →
+    IfErr r (IsRefused d)
+wide_refused d l r e = rw e (inr (refl, l))
+
+pub wide_every : (d : Design) → 2 ^ 126 < curvature_size d → (r : Result StepExponents CurvatureFault) → r ≡ Err (TooWide Curvature) →
+    (e : CurvatureFault) → HasCause d e → (r ≡ Err e) ⊎ (r ≡ Err Memory)
+wide_every d l r f Memory k = absurd k
+wide_every d l r f (TooWide q) k = inl (f ∙ ap (λ (z : Quantity). Err (TooWide z)) (sym k.0))
+wide_every d l r f NoStep k = absurd (omega (arith, l, k.0))
+
+-- where memory is wanting
+pub memory_is : (r : Result StepExponents CurvatureFault) (y : CurvatureFault) → r ≡ Err y → y ≡ Memory → r ≡ Err Memory
+memory_is r y e f = e ∙ ap (λ (z : CurvatureFault). Err z) f
+
+pub memory_refused : (d : Design) (r : Result StepExponents CurvatureFault) → r ≡ Err Memory → IfErr r (IsRefused d)
+memory_refused d r e = rw e (inl refl)
 
 -- ---- the quantity
 pub size_is : (d : Design) (o : Option ℕ) → IsLeastBelow 41 (CoversSquares d) o → curvature_size d ≡ curvature_at d (unwrap_or o 40)
@@ -120,5 +151,5 @@ wide_of d o n e h k = elim (cases_lt (2 ^ 126) (curvature_size d)) [
   | inr l ↦ absurd (k (rw (e, ← (size_is d o h)) l))
 ]
 
-pub narrow_of : (d : Design) (o : Option ℕ) (n : ℕ) → n ≡ unwrap_or o 40 → IsLeastBelow 41 (CoversSquares d) o → curvature_at d n ≤ 2 ^ 126 → ¬ (2 ^ 126 < curvature_size d)
-narrow_of d o n e h k l = let q = size_is d o h in let r : curvature_at d (unwrap_or o 40) ≤ 2 ^ 126 = rw e at k in omega (arith, q, r, l)
+pub narrow_of : (d : Design) (o : Option ℕ) (n : ℕ) → n ≡ unwrap_or o 40 → IsLeastBelow 41 (CoversSquares d) o → curvature_at d n ≤ 2 ^ 126 → curvature_size d ≤ 2 ^ 126
+narrow_of d o n e h k = let q = size_is d o h in let r : curvature_at d (unwrap_or o 40) ≤ 2 ^ 126 = rw e at k in omega (arith, q, r)

@@ -1,5 +1,5 @@
 -- Differences of two matrices with factors.
-use Rattle.std.specs.Prelude.{◌≡◌, ℕ, ◌+◌, ◌*◌, ◌<◌, ◌^◌, ℤ, pos, ◌-ℤ◌, ◌*ℤ◌, ◌≤ℤ◌, unsigned_abs, length}
+use Rattle.std.specs.Prelude.{ℕ, ◌+◌, ◌*◌, ◌<◌, ◌^◌, ℤ, pos, ◌-ℤ◌, ◌*ℤ◌, ◌≤ℤ◌, unsigned_abs, length}
 use Rattle.mat_int.specs.Matrix.{Matrix, entry_of}
 use Rattle.hessian_check.specs.Dominance.{IsSymmetric}
 use Rattle.hessian_check.specs.Passing.{AreSquare}

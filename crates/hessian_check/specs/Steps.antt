@@ -1,5 +1,5 @@
 -- The exponents of a design's step.
-use Rattle.std.specs.Prelude.{ℕ, ◌*◌, ◌^◌, ◌<◌, ℤ, pos}
+use Rattle.std.specs.Prelude.{ℕ, ◌-◌, ◌*◌, ◌^◌, ◌<◌, ℤ, pos}
 use Rattle.integer_algebra.specs.Division.{floor_of}
 use Rattle.qp_model.specs.Design.{Design, entries, rows}
 use Rattle.qp_model.specs.Condensing.{condensed_of}
@@ -9,23 +9,44 @@ use Rattle.qp_model.specs.declared.design_parts.DesignParts.{DesignParts}
 use Rattle.qp_model.specs.Parts.{design_of}
 use Rattle.plant_condense.specs.declared.condensed.Condensed.{Condensed}
 use Rattle.plant_condense.specs.Form.{IsFormOf}
-use Rattle.hessian_check.specs.Curvature.{Curved, exponent_matrix, IsFirst, IsChosen}
+use Rattle.hessian_check.specs.Curvature.{Curved, Held, exactly, exponent_matrix, IsFirst, IsChosen}
 
 -- half a matrix of even entries
 abbrev pub half_of : (ℕ → ℕ → ℤ) → ℕ → ℕ → ℤ
 half_of a i j = floor_of (a i j) 2
 
--- half the condensed hessian, which is even, the condensed rows, and the denominators
-abbrev pub curved_of : Design → Curved
-curved_of d = record {
+-- half the condensed hessian, which is even, the condensed rows with their weights, and the denominators
+abbrev pub weighted_of : Design → (ℕ → ℕ) → Curved
+weighted_of d weight = record {
   entries = entries d;
   count = rows d;
   half = half_of (condensed_of d).hessian;
   row = (condensed_of d).by_plan;
+  weight = weight;
   limit_den = pos d.limit_denominator;
   weight_den = pos d.cost_denominator;
   cost_row_den = pos d.row_denominator;
 }
+
+-- one exponent for all rows
+abbrev pub curved_of : Design → Curved
+curved_of d = weighted_of d (λ l. 1)
+
+-- an exponent for each row, up to `most`
+abbrev pub curved_by : Design → (ℕ → ℕ) → ℕ → Curved
+curved_by d s most = weighted_of d (λ l. 2 ^ (most - s l))
+
+-- the matrices of them are held exactly
+abbrev pub held_of : Design → Held
+held_of d = exactly (curved_of d)
+
+-- the matrix of s
+abbrev pub step_matrix : Design → ℕ → ℕ → ℕ → ℤ
+step_matrix d = exponent_matrix (curved_of d) (held_of d)
+
+-- that of an exponent for each row
+abbrev pub rows_matrix : Design → (ℕ → ℕ) → ℕ → ℕ → ℕ → ℤ
+rows_matrix d s most = exponent_matrix (curved_by d s most) (exactly (curved_by d s most)) most
 
 -- the least input weight, over what the squares of the condensed rows are over
 abbrev pub floor_of_design : Design → ℤ
@@ -33,11 +54,11 @@ floor_of_design d = pos (input_floor d * (d.plant_denominator ^ d.stages) ^ 2)
 
 -- s1: the lesser of the least number that covers the squares of the rows and the least number up to 40 whose matrix is dominant
 abbrev pub IsPlainExponent : Design → ℕ → Type 0
-IsPlainExponent d s1 = IsFirst (entries d) (exponent_matrix (curved_of d)) (CoversSquares d) s1
+IsPlainExponent d s1 = IsFirst (entries d) (step_matrix d) (CoversSquares d) s1
 
 -- s: the least number below s1 whose matrix has a root that the test passes, or s1
 abbrev pub IsStepExponent : Design → ℕ → ℕ → Type 0
-IsStepExponent d s1 s = IsChosen (entries d) (exponent_matrix (curved_of d)) s1 s
+IsStepExponent d s1 s = IsChosen (entries d) (step_matrix d) s1 s
 
 -- s1 is above 40
 pub record HasNoStep (d : Design) : Type 0 where

@@ -1,5 +1,5 @@
 // The exponents of a design's step.
-ghost use Rattle.std.specs.Prelude.{◌≡◌, ◌+◌, ◌<◌, ◌≤◌, ◌^◌, ◌↔◌, ℕ, length, unsigned_abs, unwrap_or, IsTrue, IfOk, IsOk, IsErrOf};
+ghost use Rattle.std.specs.Prelude.{◌≡◌, ◌⊎◌, ◌+◌, ◌<◌, ◌≤◌, ◌^◌, ◌↔◌, ℕ, length, unsigned_abs, unwrap_or, Err, IsTrue, IfErr, IfOk, IsOk};
 ghost use Rattle.integer_algebra.specs.Sizes.{amount};
 ghost use Rattle.mat_int.specs.Matrix.{entry_of};
 ghost use Rattle.qp_model.specs.CurvatureSize.{CoversSquares, curvature_size};
@@ -9,7 +9,8 @@ ghost use Rattle.hessian_check.specs.Curvature.{IsLeastBelow};
 ghost use Rattle.integer_algebra.specs.Matrices.{gram, gram_size};
 ghost use Rattle.mat_int.specs.Matrix.{HasEntries};
 ghost use Rattle.hessian_check.specs.Filling.{HasFirstRows};
-ghost use Rattle.hessian_check.specs.Steps.{half_of, IsPlainExponent, IsStepExponent, HasNoStep, OfDesign};
+ghost use Rattle.hessian_check.specs.Refusals.{HasCause, IsRefused};
+ghost use Rattle.hessian_check.specs.Steps.{half_of, IsPlainExponent, IsStepExponent, OfDesign};
 ghost use Rattle.hessian_check.specs.DesignMatrices.{AreMatricesOf, curvature_at, IsScales};
 
 use crate::exponents::exponents_of;
@@ -24,6 +25,10 @@ use std::alloc::{AllocError, Global};
 
 /// The exponents of the step of a design's condensed form: for every plan the squares of the rows' changes are at most `2^s` times
 /// the curvature of its cost, and at most `2^s1` times.
+///
+/// # Errors
+/// `TooWide` with `curvature` where that quantity is above `2^126`; `NoStep` where it isn't and `s1` is above 40. `Memory` where memory
+/// runs out before.
 pub fn curvature(alloc: Global, c: &Condensed) -> Result<StepExponents, CurvatureFault>
     requires { IsForm c.now }
     ensures plain { OfDesign c.now (λ d. IfOk result (λ e. IsPlainExponent d e.s1)) }
@@ -31,13 +36,14 @@ pub fn curvature(alloc: Global, c: &Condensed) -> Result<StepExponents, Curvatur
     ensures exponents { OfDesign c.now (λ d. IfOk result (λ e. IsExponent d e.s × IsExponent d e.s1)) }
     ensures order { IfOk result (λ e. (e.s ≤ e.s1) × (e.s1 ≤ 40)) }
 
-    // Exactly where the quantity `curvature` is above its limit.
-    ensures wide { OfDesign c.now (λ d. IsErrOf result (CurvatureFault.TooWide Quantity.Curvature) ↔ (2 ^ 126 < curvature_size d)) }
-    ensures no_other { (q : Quantity) → IsErrOf result (CurvatureFault.TooWide q) → q ≡ Quantity.Curvature }
+    // The cause of a refusal; and the other way round, with nothing but want of memory in between.
+    ensures refused { OfDesign c.now (λ d. IfErr result (IsRefused d)) }
+    ensures every_refusal { OfDesign c.now (λ d. (e : CurvatureFault) → HasCause d e → (result ≡ Err e) ⊎ (result ≡ Err CurvatureFault.Memory)) }
+    ensures accepted { OfDesign c.now (λ d. (s1 : ℕ) → curvature_size d ≤ 2 ^ 126 → IsPlainExponent d s1 → s1 ≤ 40
+        → IsOk result ⊎ (result ≡ Err CurvatureFault.Memory)) }
 
-    // Exactly where it isn't and s1 is above 40.
-    ensures no_step { OfDesign c.now (λ d. IsErrOf result CurvatureFault.NoStep → HasNoStep d) }
-    ensures step { OfDesign c.now (λ d. HasNoStep d → ¬ IsOk result) }
+    // The quantity is tested before any memory is asked for.
+    ensures wide { OfDesign c.now (λ d. 2 ^ 126 < curvature_size d → result ≡ Err (CurvatureFault.TooWide Quantity.Curvature)) }
 {
     let squares = squares_of(c);
     if !is_limited(c, squares.unwrap_or(40)) {
@@ -49,13 +55,13 @@ pub fn curvature(alloc: Global, c: &Condensed) -> Result<StepExponents, Curvatur
     exponents_of(alloc, &matrices, squares)
 }
 
-// The denominators, the least input weight and two quantities, which are not negative.
+// The denominators, the least input weight and two quantities, which are not negative. The rows are over `limit_den * lift`.
 #[derive(Clone, Copy)]
 struct Scales {
     weight_den: u128,
     cost_row_den: u128,
     limit_den: u128,
-    power: u128,
+    lift: u128,
     input_floor: u128,
     hessian: u128,
     rows: u128,
@@ -69,7 +75,7 @@ fn scales_of(c: &Condensed) -> Scales
         weight_den: c.weight_den.unsigned_abs(),
         cost_row_den: c.cost_row_den.unsigned_abs(),
         limit_den: c.limit_den.unsigned_abs(),
-        power: c.power.unsigned_abs(),
+        lift: c.row_den.unsigned_abs() / c.limit_den.unsigned_abs(),
         input_floor: c.input_floor.unsigned_abs(),
         hessian: c.hess_size.unsigned_abs(),
         rows: c.rows_size.unsigned_abs(),
@@ -83,7 +89,7 @@ fn squares_of(c: &Condensed) -> Option<u32>
 {
     let scales = scales_of(c);
     let unit = scales.input_floor * (scales.limit_den * scales.limit_den);
-    let part = scales.power * scales.power;
+    let part = scales.lift * scales.lift;
     squares_exponent(scales.weight_den, sum_of_squares(&c.g), unit, part)
 }
 

@@ -6,16 +6,10 @@ ghost use Rattle.integer_algebra.specs.Division.{ceil_div};
 ghost use Rattle.qp_model.specs.Controller.{numbers, IsSized};
 ghost use Rattle.qp_model.specs.AbsoluteSums.{IsController, weighted_abs_sum, state_magnitudes, clamp_magnitudes, entry_absolute_sum, plan_magnitudes, row_absolute_sum, next_magnitude, sum_magnitude, greatest_of, greatest_sum};
 
-use qp_model::ControllerParts;
+use qp_model::{ControllerParts, MOST_INPUTS, MOST_ROWS, MOST_STAGES, MOST_STATES};
 
-/// The most states.
-const MAX_STATES: usize = 4;
-
-/// The most plan entries, of 3 inputs at 20 stages.
-const MAX_ENTRIES: usize = 60;
-
-/// The most rows.
-const MAX_ROWS: usize = 252;
+/// The most plan entries.
+const MOST_ENTRIES: usize = MOST_INPUTS * MOST_STAGES;
 
 // The number, where it is at most 2^126.
 fn limited(x: u128) -> Option<u128>
@@ -56,11 +50,11 @@ fn weighted_abs_sum(row: &[i128], magnitudes: &[u128]) -> Option<u128>
 }
 
 // How far a state of the box lies from 0 in each coordinate; the list ends in zeros.
-fn state_magnitudes(c: &ControllerParts) -> [u128; MAX_STATES]
+fn state_magnitudes(c: &ControllerParts) -> [u128; MOST_STATES]
     requires { IsSized (numbers c.now) }
     ensures { take c.now.n result ≡ state_magnitudes (numbers c.now) }
 {
-    let mut magnitudes = [0; MAX_STATES];
+    let mut magnitudes = [0; MOST_STATES];
     for i in 0..c.n {
         magnitudes[i] = c.lo[i].unsigned_abs().max(c.hi[i].unsigned_abs()) * two_to(c.f - c.g);
     }
@@ -68,11 +62,11 @@ fn state_magnitudes(c: &ControllerParts) -> [u128; MAX_STATES]
 }
 
 // How far the multipliers lie from 0.
-fn clamp_magnitudes(c: &ControllerParts) -> [u128; MAX_ROWS]
+fn clamp_magnitudes(c: &ControllerParts) -> [u128; MOST_ROWS]
     requires { IsSized (numbers c.now) }
     ensures { take c.now.m result ≡ clamp_magnitudes (numbers c.now) }
 {
-    [c.clamp.unsigned_abs(); MAX_ROWS]
+    [c.clamp.unsigned_abs(); MOST_ROWS]
 }
 
 // `(own + offset * 2^f) * 2^s + dual`.
@@ -117,7 +111,7 @@ fn entry_absolute_sum(
 // How far the plan's entries lie from 0, and the greatest of the sums that they are made of.
 #[derive(Clone, Copy)]
 struct PlanMagnitudes {
-    magnitudes: [u128; MAX_ENTRIES],
+    magnitudes: [u128; MOST_ENTRIES],
     greatest: u128,
 }
 
@@ -131,7 +125,7 @@ fn plan_magnitudes(c: &ControllerParts, states: &[u128], clamps: &[u128]) -> Opt
     ensures greatest { IfSome result (λ r. r.greatest ≡ greatest_of (map (entry_absolute_sum (numbers c.now)) (range_with_len 0 (length c.now.t.items)))) }
     ensures magnitudes { IfSome result (λ r. take (length c.now.t.items) r.magnitudes ≡ plan_magnitudes (numbers c.now)) }
 {
-    let mut magnitudes = [0; MAX_ENTRIES];
+    let mut magnitudes = [0; MOST_ENTRIES];
     let mut greatest = 0;
     for j in 0..c.t.len() {
         let sum = entry_absolute_sum(c, states, clamps, j)?;

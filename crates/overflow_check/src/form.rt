@@ -1,17 +1,22 @@
 // Whether numbers are a controller's.
 ghost use Rattle.std.specs.Prelude.{◌≡◌, ◌≤◌, ◌<◌, ◌+◌, ◌*◌, ◌^◌, ◌≤ℤ◌, ◌↔◌, pos, IsTrue};
 ghost use Rattle.qp_model.specs.Range.{LiesIn};
-ghost use Rattle.qp_model.specs.Controller.{numbers, plan_length, HasShape, IsShaped, IsInForm};
+ghost use Rattle.qp_model.specs.Controller.{numbers, controller_version, plan_length, HasShape, IsShaped, IsInForm};
+ghost use Rattle.qp_model.specs.Limits.{most_states, most_inputs, most_stages, most_rows};
 
 use mat_int::Mat;
-use qp_model::ControllerParts;
 use qp_model::range::{are_numerators, is_ordered, lies_in};
+use qp_model::{ControllerParts, MOST_INPUTS, MOST_ROWS, MOST_STAGES, MOST_STATES};
 
 // Whether the sizes lie in their ranges.
 fn are_sizes_in_range(c: &ControllerParts) -> bool
-    ensures { IsTrue result ↔ (LiesIn 1 4 c.now.n × LiesIn 1 3 c.now.p × LiesIn 1 20 c.now.stages × LiesIn 1 252 c.now.m) }
+    ensures { let version = controller_version (numbers c.now) in IsTrue result ↔ (LiesIn 1 (most_states version) c.now.n
+        × LiesIn 1 (most_inputs version) c.now.p × LiesIn 1 (most_stages version) c.now.stages × LiesIn 1 (most_rows version) c.now.m) }
 {
-    lies_in(1, 4, c.n) && lies_in(1, 3, c.p) && lies_in(1, 20, c.stages) && lies_in(1, 252, c.m)
+    lies_in(1, MOST_STATES, c.n)
+        && lies_in(1, MOST_INPUTS, c.p)
+        && lies_in(1, MOST_STAGES, c.stages)
+        && lies_in(1, MOST_ROWS, c.m)
 }
 
 // Whether the numbers of bits lie in their ranges.

@@ -1,11 +1,12 @@
 -- The numbers of a design as its condensed form.
-use Rattle.std.proofs.Common.{◌≡◌, ℕ, ◌+◌, ◌*◌, ◌^◌, ◌≤◌, min, [], ◌∷◌, List, length, ℤ, pos, ◌+ℤ◌, ◌*ℤ◌, ◌≤ℤ◌, ◌<ℤ◌, unsigned_abs, arith, ap, sym, ◌∙◌, refl}
+use Rattle.std.proofs.Common.{◌≡◌, ℕ, ◌+◌, ◌*◌, ◌^◌, ◌<◌, ◌≤◌, min, [], ◌∷◌, List, length, ℤ, pos, ◌+ℤ◌, ◌*ℤ◌, ◌≤ℤ◌, ◌<ℤ◌, unsigned_abs, arith, ap, sym, ◌∙◌, refl}
 use Rattle.std.proofs.lemmas.Int.{ints, unsigned_abs-mul}
 use Rattle.std.proofs.lemmas.List.Elements.{All-from_get_or}
-use Rattle.std.proofs.Math.Nat.{mul-le-mul_left, one-le-mul}
-use Rattle.integer_algebra.specs.Sums.{total, dot, image, square}
+use Rattle.std.proofs.Math.Nat.{mul-le-mul, mul-le-mul_left, pow-le-pow_left, one-le-mul}
+use Rattle.integer_algebra.specs.Sums.{total, dot, image, square, at}
 use Rattle.integer_algebra.proofs.OrderLaws.{pos_positive, mul_pos_z, le_by, add-le-add_z, mul-le-mul_left_z, mul-le-mul_right_z, cancel-le_z, square_nonneg_z}
 use Rattle.integer_algebra.proofs.SumLaws.{total_nonneg}
+use Rattle.integer_algebra.proofs.AmountLaws.{amount_most}
 use Rattle.integer_algebra.proofs.VectorLaws.{quadratic_scale}
 use Rattle.integer_algebra.proofs.PowerLaws.{pow-two, pow_positive, four-pow}
 use Rattle.integer_algebra.proofs.Quoting.{by_ring, quotes}
@@ -20,6 +21,7 @@ use Rattle.qp_model.specs.Condensed as form
 use Rattle.qp_model.specs.Condensed.{IsCondensed}
 use Rattle.qp_model.specs.Curvature.{curvature}
 use Rattle.qp_model.specs.Convex.{IsConvex}
+use Rattle.qp_model.specs.Columns.{solve_matrix}
 use Rattle.qp_model.specs.Runs.{Agrees, bound_at}
 use Rattle.qp_model.specs.Quantities.{cost_entry_size, limit_entry_size, hessian_size, rows_size, limit_width}
 use Rattle.qp_model.proofs.CurvatureLaws.{hessian_law, curvature_law}
@@ -27,7 +29,7 @@ use Rattle.qp_model.proofs.AgreesLaws.{agrees_law}
 use Rattle.qp_model.proofs.SizeFacts.{some_entry, some_row}
 use Rattle.qp_model.proofs.QuantityLaws.{state_cost_size, plan_row_size, state_row_size, bound_width, powered_size}
 use Rattle.plant_condense.specs.declared.condensed.Condensed.{Condensed}
-use Rattle.plant_condense.specs.Form.{form_numbers, solve_matrix, HasShapes, IsLeastInput, response_scale, HasDenominators, HasEntrySizes, IsFormOf}
+use Rattle.plant_condense.specs.Form.{form_numbers, held, cost_sum, limit_sum, column_products, HasShapes, IsLeastInput, response_scale, HasDenominators, HasSums, IsFormOf}
 use Rattle.plant_condense.specs.Fault.{AreEntrySizes}
 use Rattle.plant_condense.specs.Lists.{HoldsMatrix}
 use Rattle.plant_condense.specs.Numbers.{AreCostNumbers, AreLimitNumbers}
@@ -83,26 +85,71 @@ limit_room p h k = under (limit_entry_size (design_of p)) (entry_within ((entrie
 small_at : (z : ℤ) (y : ℤ) (t : ℕ) → z ≡ y → unsigned_abs y ≤ t → unsigned_abs z ≤ t
 small_at z y t e h = rw e h
 
+-- sums of numbers that are small
+summed : (e n w x y z : ℕ) → x ≤ e * (e * w) → y ≤ e * (n * w) → z ≤ e * w → x + y + z ≤ e * (e + n + 1) * w
+summed e n w x y z h k l = omega (arith, h, k, l)
+
+squared : (e n m w x y z : ℕ) → x ≤ m * (e * w) → y ≤ m * (n * w) → z ≤ m * w → x + y + z ≤ (e + n + 1) * m * w
+squared e n m w x y z h k l = omega (arith, h, k, l)
+
+crossed : (e n m w x : ℕ) → x ≤ e * (m * w) → x ≤ (e + n + 1) * m * w
+crossed e n m w x h = omega (arith, h)
+
+square_most : (x t : ℕ) → x ≤ t → x ^ 2 ≤ t ^ 2
+square_most x t h = pow-le-pow_left {n = x} {m = t} h 2
+
+product_most : (x y t : ℕ) → x ≤ t → y ≤ t → x * y ≤ t ^ 2
+product_most x y t h k = rw (pow-two t) (mul-le-mul {n₁ = x} {m₁ = y} {n₂ = t} {m₂ = t} h k)
+
+cost_sums : (d : Design) (c : Condensed) → HasShapes c (entries d) d.states (rows d) →
+    ((i j : ℕ) → i < entries d → j < entries d → unsigned_abs (entry_of c.hess i j) ≤ cost_entry_size d) →
+    ((j i : ℕ) → j < entries d → i < d.states → unsigned_abs (entry_of c.lin j i) ≤ cost_entry_size d) →
+    ((j : ℕ) → j < entries d → unsigned_abs (at c.off.items j) ≤ cost_entry_size d) → cost_sum (held c) ≤ hessian_size d
+cost_sums d c s hess lin off = rw (s.hess.rows, s.lin.cols) (summed (entries d) d.states (cost_entry_size d) _ _ _
+    (amount_most (entries d) _ _ (λ i l. amount_most (entries d) _ _ (λ j m. hess i j l m)))
+    (amount_most (entries d) _ _ (λ j l. amount_most d.states _ _ (λ i m. lin j i l m)))
+    (amount_most (entries d) _ _ off))
+
+limit_sums : (d : Design) (c : Condensed) → HasShapes c (entries d) d.states (rows d) →
+    ((i j : ℕ) → i < rows d → j < entries d → unsigned_abs (entry_of c.g i j) ≤ limit_entry_size d) →
+    ((i j : ℕ) → i < rows d → j < d.states → unsigned_abs (entry_of c.e i j) ≤ limit_entry_size d) →
+    ((i : ℕ) → i < rows d → unsigned_abs (at c.bound.items i) ≤ limit_entry_size d) → limit_sum (held c) ≤ rows_size d
+limit_sums d c s g e bound = rw (s.hess.rows, s.lin.cols, s.g.rows) (squared (entries d) d.states (rows d) (limit_entry_size d ^ 2) _ _ _
+    (amount_most (rows d) _ _ (λ i l. amount_most (entries d) _ _ (λ j m. square_most _ _ (g i j l m))))
+    (amount_most (rows d) _ _ (λ i l. amount_most d.states _ _ (λ j m. square_most _ _ (e i j l m))))
+    (amount_most (rows d) _ _ (λ i l. square_most _ _ (bound i l))))
+
+products_sum : (d : Design) (c : Condensed) → HasShapes c (entries d) d.states (rows d) →
+    ((i j : ℕ) → i < rows d → j < entries d → unsigned_abs (entry_of c.g i j) ≤ limit_entry_size d) → (j : ℕ) → j < entries d → column_products (held c) j ≤ rows_size d
+products_sum d c s g j l = rw (s.hess.rows, s.g.rows) (crossed (entries d) d.states (rows d) (limit_entry_size d ^ 2) _
+    (amount_most (entries d) _ _ (λ k m. amount_most (rows d) _ _ (λ i o. product_most _ _ _ (g i j o l) (g i k o m)))))
+
 sizes : (p : DesignParts) (c : Condensed) → IsDesign p → AreEntrySizes (design_of p) c.hess_size c.rows_size → AreCostNumbers (design_of p) c.hess c.lin c.off.items →
-    AreLimitNumbers (design_of p) c.g c.e c.bound.items → HasEntrySizes (design_of p) c
+    AreLimitNumbers (design_of p) c.g c.e c.bound.items → HasSums (design_of p) c
 sizes p c h s k l = record {
   cost_size = s.cost_is;
   cost_room = s.cost_room;
   limit_size = s.limit_is;
   limit_room = s.limit_room;
-  hess = λ i j a b. small_at _ _ _ (k.hessian.is i j a b) (diagonal_small p h i j);
-  lin = λ j i a b. small_at _ _ _ (k.linear.is j i a b) (weighed_small d j _ (state_cost_size d i));
-  off = λ j a. small_at _ _ _ (k.constant.is j a) (weighed_small d j _ (λ i b. scaled_target_size d _ i (abs-neg (d.plant_denominator ^ d.stages)) b));
-  g = λ i j a b. small_at _ _ _ (l.plan.is i j a b) (plan_row_size d j i one a);
-  e = λ i j a b. small_at _ _ _ (l.state.is i j a b) (state_row_size d j i one a);
-  bound = λ i a. small_at _ _ _ (l.bound.is i a) (scaled (d.plant_denominator ^ d.stages) (bound_at d i) _ (powered_size d (limit_width d) _ (bound_width d i a)));
+  cost = cost_sums d c shape (λ i j a b. small_at _ _ _ (k.hessian.is i j a b) (diagonal_small p h i j))
+      (λ j i a b. small_at _ _ _ (k.linear.is j i a b) (weighed_small d j _ (state_cost_size d i)))
+      (λ j a. small_at _ _ _ (k.constant.is j a) (weighed_small d j _ (λ i b. scaled_target_size d _ i (abs-neg (d.plant_denominator ^ d.stages)) b)));
+  limits = limit_sums d c shape plan (λ i j a b. small_at _ _ _ (l.state.is i j a b) (state_row_size d j i one a))
+      (λ i a. small_at _ _ _ (l.bound.is i a) (scaled (d.plant_denominator ^ d.stages) (bound_at d i) _ (powered_size d (limit_width d) _ (bound_width d i a))));
+  products = products_sum d c shape plan;
 }
   where
     d : Design
     d = design_of p
 
+    shape : HasShapes c (entries d) d.states (rows d)
+    shape = shapes p c k l
+
     one : 1 ≤ unsigned_abs p.plant_den
     one = omega (arith, ints, h.plant_den.low)
+
+    plan : (i j : ℕ) → i < rows d → j < entries d → unsigned_abs (entry_of c.g i j) ≤ limit_entry_size d
+    plan i j a b = small_at _ _ _ (l.plan.is i j a b) (plan_row_size d j i one a)
 
     scaled : (m : ℕ) (z : ℤ) (t : ℕ) → m * unsigned_abs z ≤ t → unsigned_abs (pos m *ℤ z) ≤ t
     scaled m z t k = rw (unsigned_abs-mul (pos m) z) k
@@ -158,7 +205,7 @@ bounded f m x q l b px pl h k e = rw e (le_by (add-le-add_z (mul-le-mul_right_z 
     (by_ring (f ∷ m ∷ x ∷ q ∷ l ∷ []) (search quotes depth 60 fits 20000) refl))
 
 convex : (p : DesignParts) (c : Condensed) → IsDesign p → HasDenominators (design_of p) c → IsCondensed (design_of p) (form_numbers c) →
-    IsConvex (entries (design_of p)) (solve_matrix c) c.floor
+    IsConvex (entries (design_of p)) (solve_matrix (held c)) c.floor
 convex p c h e k = record {
   positive = rw e.floor (positive_pos _ (some (unsigned_abs p.limit_den) (response_scale d ^ 2) (unsigned_abs c.input_floor) sound.limit_denominator
       (pow_positive (response_scale d) 2 (one-le-mul sound.row_denominator (pow_positive d.plant_denominator d.stages sound.plant_denominator))) sound.rho_positive));

@@ -16,4 +16,6 @@ pub mod CostFacts
 pub mod DenominatorFacts
 -- ---- the form, and what is refused
 pub mod FormLaws
+pub mod FormSums
+pub mod HeldLaws
 pub mod FaultFacts

@@ -1,6 +1,6 @@
 -- The definitions, tried on one small design and its controller, whose numbers were worked out by hand: the plant x+ = x + u, the cost
 -- u^2 + (x+)^2, and the rows u <= 1, -u <= 1 and x+ <= 1/4, at the states 0 and 1.
-use Rattle.std.proofs.Common.{◌≡◌, ℕ, zero, suc, ◌^◌, ◌*◌, ◌+◌, ℤ, pos, negsuc, neg_ℤ, List, [], ◌∷◌, refl, map, length}
+use Rattle.std.proofs.Common.{◌≡◌, ℕ, zero, suc, ◌^◌, ◌*◌, ◌+◌, ◌-◌, ℤ, pos, ◌*ℤ◌, negsuc, neg_ℤ, List, [], ◌∷◌, refl, map, length}
 use Rattle.integer_algebra.specs.Sums.{at, none}
 use Rattle.mat_int.specs.Matrix.{Matrix}
 use Rattle.qp_model.specs.Design.{Design, CostRow, LimitRow, rows, entries}
@@ -10,8 +10,8 @@ use Rattle.qp_model.specs.Residual.{residual, residual_scale, slack}
 use Rattle.qp_model.specs.Box.{corner}
 use Rattle.qp_model.specs.Condensed.{Condensed}
 use Rattle.qp_model.specs.Condensing.{condensed_of}
-use Rattle.qp_model.specs.Form.{form_of}
-use Rattle.qp_model.specs.Errors.{error_sums_of, plan_bound, residual_error, epsilon}
+use Rattle.qp_model.specs.Form.{Form, form_of}
+use Rattle.qp_model.specs.Errors.{error_sums_of, plan_bound, residual_error, radius_error, epsilon, error_size}
 use Rattle.qp_model.specs.Controller.{Numbers}
 use Rattle.qp_model.specs.Machine.{loaded, after, entry_sum, averaged_plan, average_denominator}
 use Rattle.qp_model.specs.AbsoluteSums.{greatest_sum, entry_absolute_sum, plan_magnitudes, sum_magnitude}
@@ -109,6 +109,61 @@ residuals = refl
 
 errors : epsilon (error_sums_of base (form_of base) 8) 10 ≡ 804534616064
 errors = refl
+
+-- ---- the same with radii: the design's numbers over 2^40, each by a midpoint that is exact here, and a radius
+abbrev count_from : ℕ → ℕ → ℕ → ℕ
+count_from n i j = n + i
+
+abbrev fine : Form
+fine = record {
+  entries = 1;
+  states = 1;
+  rows = 3;
+  numbers = record {
+    hessian = λ i j. pos (2 ^ 40) *ℤ (condensed_of base).hessian i j;
+    linear = λ j i. pos (2 ^ 40) *ℤ (condensed_of base).linear j i;
+    constant = λ j. pos 0;
+    by_plan = λ i j. pos (2 ^ 40) *ℤ (condensed_of base).by_plan i j;
+    by_state = λ i j. pos (2 ^ 40) *ℤ (condensed_of base).by_state i j;
+    bound = λ i. pos (2 ^ 40) *ℤ (condensed_of base).bound i;
+  };
+  hessian_radius = count_from 3;
+  linear_radius = count_from 2;
+  constant_radius = λ j. 1;
+  plan_radius = count_from 5;
+  state_radius = count_from 0;
+  hessian_scale = 2 ^ 40;
+  rows_scale = 4 * 2 ^ 40;
+  matrix_factor = pos 4;
+  row_factor = pos 1;
+  floor = pos (4 * (2 * 2 ^ 40 - 3));
+  spread = 2;
+}
+
+fine_first : (error_sums_of base fine 8).first ≡ 12013
+fine_first = refl
+
+fine_lead : (error_sums_of base fine 8).lead ≡ 34
+fine_lead = refl
+
+fine_tail : (error_sums_of base fine 8).tail ≡ 250
+fine_tail = refl
+
+fine_plans : plan_bound (error_sums_of base fine 8) 10 ≡ 71
+fine_plans = refl
+
+fine_radii : radius_error (error_sums_of base fine 8) 71 ≡ 288
+fine_radii = refl
+
+fine_errors : epsilon (error_sums_of base fine 8) 10 ≡ 1957928375301
+fine_errors = refl
+
+-- where the first two terms are small, the radii's are what is left
+fine_errors_late : epsilon (error_sums_of base fine 8) 40 ≡ 6926
+fine_errors_late = refl
+
+fine_size : error_size base fine 8 ≡ 94843873012547816
+fine_size = refl
 
 -- ---- the controller and its machine
 abbrev matrix : ℕ → List (List ℤ) → Matrix

@@ -14,7 +14,7 @@ use Rattle.qp_model.specs.declared.bounds.Margin.{Margin}
 use Rattle.qp_model.specs.Design.{Design, rows}
 use Rattle.qp_model.specs.Parts.{design_of, IsDesign}
 use Rattle.qp_model.specs.Policy.{Plans, IsPolicyFor}
-use Rattle.qp_model.specs.Margin.{corner_denominator, slack_scale, corner_cost_scale, HasSlack, HasCost, IsMarginOf, IsMargin}
+use Rattle.qp_model.specs.Margin.{shown, corner_denominator, HasSlack, HasCost, IsMarginOf, IsMargin}
 use Rattle.plant_condense.proofs.StateFacts.{denominator_positive}
 use Rattle.slater_margin.specs.Corners.{AllSlack, IsFirstShort}
 use Rattle.slater_margin.specs.Simulation.{IsCornerMargin, IsShortRow}
@@ -58,10 +58,10 @@ module _ (p : DesignParts) (s : Plans) (h : IsDesign p) (f : IsPolicyFor (design
   power_some : 1 ≤ unsigned_abs p.plant_den ^ p.stages
   power_some = pow_positive (unsigned_abs p.plant_den) p.stages (denominator_positive p.plant_den h.plant_den.low)
 
-  pub scale_some : pos 1 ≤ℤ slack_scale (design_of p) s c
+  pub scale_some : pos 1 ≤ℤ (shown (design_of p) s).slack_scale c
   scale_some = one-le-mul_z (positive_pos _ (one-le-mul (one-le-mul (denominator_positive p.limit_den h.limit_den.low) (pow_pos p.grid)) power_some)) over_some
 
-  pub cost_scale_some : pos 1 ≤ℤ corner_cost_scale (design_of p) s c
+  pub cost_scale_some : pos 1 ≤ℤ (shown (design_of p) s).cost_scale c
   cost_scale_some = one-le-mul_z (positive_pos _ (one-le-mul (denominator_positive p.cost_den h.cost_den.low)
       (pow_positive _ 2 (one-le-mul (one-le-mul (denominator_positive p.row_den h.row_den.low) (pow_pos p.grid)) power_some)))) (one-le-mul_z over_some over_some)
 
@@ -69,20 +69,20 @@ nonneg : (z : ℤ) → pos 1 ≤ℤ z → pos 0 ≤ℤ z
 nonneg z h = omega (arith, ints, h)
 
 -- ---- one corner
-pub one_margin : (d : Design) (s : Plans) (m : Margin) → IsCornerMargin d s 1 m → IsMarginOf d s 1 m
+pub one_margin : (d : Design) (s : Plans) (m : Margin) → IsCornerMargin d s 1 m → IsMarginOf (shown d s) (rows d) 1 m
 one_margin d s m k = record {
-  slacks = λ c i a b l. (let e : 1 ≡ c = omega (arith, a, b) in subst (λ (n : ℕ). HasSlack d s m.units n i) e (k.units.slacks i l));
+  slacks = λ c i a b l. (let e : 1 ≡ c = omega (arith, a, b) in subst (λ (n : ℕ). HasSlack (shown d s) m.units n i) e (k.units.slacks i l));
   least = record { c = 1; row = k.units.row; first = omega arith; last = omega arith; inside = k.units.inside; short = k.units.short };
-  costs = λ c a b. (let e : 1 ≡ c = omega (arith, a, b) in subst (λ (n : ℕ). HasCost d s m.cost n) e k.cost.cost);
+  costs = λ c a b. (let e : 1 ≡ c = omega (arith, a, b) in subst (λ (n : ℕ). HasCost (shown d s) m.cost n) e k.cost.cost);
   greatest = record { c = 1; first = omega arith; last = omega arith; dear = k.cost.dear };
 }
 
 -- ---- one more
 pub more_margin : (p : DesignParts) (s : Plans) (n : ℕ) (m k : Margin) → IsDesign p → IsPolicyFor (design_of p) s → n < 2 ^ p.states →
-    IsMarginOf (design_of p) s n m → IsCornerMargin (design_of p) s (n + 1) k → IsMarginOf (design_of p) s (n + 1) (record { units = int_min m.units k.units; cost = int_max m.cost k.cost })
+    IsMarginOf (shown (design_of p) s) (rows (design_of p)) n m → IsCornerMargin (design_of p) s (n + 1) k → IsMarginOf (shown (design_of p) s) (rows (design_of p)) (n + 1) (record { units = int_min m.units k.units; cost = int_max m.cost k.cost })
 more_margin p s n m k h f l old new = record {
   slacks = λ c i a b o. (elim (cases_lt n c) [
-    | inl x ↦ (let e : n + 1 ≡ c = omega (arith, b, x) in subst (λ (j : ℕ). HasSlack (design_of p) s (int_min m.units k.units) j i) e (lower (n + 1) i (omega arith) (omega (arith, l)) k.units (int_min m.units k.units) (min_right m.units k.units) (new.units.slacks i o)))
+    | inl x ↦ (let e : n + 1 ≡ c = omega (arith, b, x) in subst (λ (j : ℕ). HasSlack (shown (design_of p) s) (int_min m.units k.units) j i) e (lower (n + 1) i (omega arith) (omega (arith, l)) k.units (int_min m.units k.units) (min_right m.units k.units) (new.units.slacks i o)))
     | inr x ↦ lower c i a (omega (arith, l, x)) m.units (int_min m.units k.units) (min_left m.units k.units) (old.slacks c i a (omega (arith, x)) o)
   ]);
   least = elim (min_met m.units k.units) [
@@ -90,7 +90,7 @@ more_margin p s n m k h f l old new = record {
     | inr e ↦ rw e (record { c = n + 1; row = new.units.row; first = omega arith; last = omega arith; inside = new.units.inside; short = new.units.short })
   ];
   costs = λ c a b. (elim (cases_lt n c) [
-    | inl x ↦ (let e : n + 1 ≡ c = omega (arith, b, x) in subst (λ (j : ℕ). HasCost (design_of p) s (int_max m.cost k.cost) j) e (higher (n + 1) (omega arith) (omega (arith, l)) k.cost (int_max m.cost k.cost) (max_right m.cost k.cost) new.cost.cost))
+    | inl x ↦ (let e : n + 1 ≡ c = omega (arith, b, x) in subst (λ (j : ℕ). HasCost (shown (design_of p) s) (int_max m.cost k.cost) j) e (higher (n + 1) (omega arith) (omega (arith, l)) k.cost (int_max m.cost k.cost) (max_right m.cost k.cost) new.cost.cost))
     | inr x ↦ higher c a (omega (arith, l, x)) m.cost (int_max m.cost k.cost) (max_left m.cost k.cost) (old.costs c a (omega (arith, x)))
   ]);
   greatest = elim (max_met m.cost k.cost) [
@@ -99,11 +99,11 @@ more_margin p s n m k h f l old new = record {
   ];
 }
   where
-    lower : (c i : ℕ) → 1 ≤ c → c ≤ 2 ^ p.states → (u v : ℤ) → v ≤ℤ u → HasSlack (design_of p) s u c i → HasSlack (design_of p) s v c i
-    lower c i a b u v g o = le_trans_z (mul-le-mul_right_z (slack_scale (design_of p) s c) (nonneg _ (scale_some p s h f c a b)) g) o
+    lower : (c i : ℕ) → 1 ≤ c → c ≤ 2 ^ p.states → (u v : ℤ) → v ≤ℤ u → HasSlack (shown (design_of p) s) u c i → HasSlack (shown (design_of p) s) v c i
+    lower c i a b u v g o = le_trans_z (mul-le-mul_right_z ((shown (design_of p) s).slack_scale c) (nonneg _ (scale_some p s h f c a b)) g) o
 
-    higher : (c : ℕ) → 1 ≤ c → c ≤ 2 ^ p.states → (u v : ℤ) → u ≤ℤ v → HasCost (design_of p) s u c → HasCost (design_of p) s v c
-    higher c a b u v g o = le_trans_z o (mul-le-mul_right_z (corner_cost_scale (design_of p) s c) (nonneg _ (cost_scale_some p s h f c a b)) g)
+    higher : (c : ℕ) → 1 ≤ c → c ≤ 2 ^ p.states → (u v : ℤ) → u ≤ℤ v → HasCost (shown (design_of p) s) u c → HasCost (shown (design_of p) s) v c
+    higher c a b u v g o = le_trans_z o (mul-le-mul_right_z ((shown (design_of p) s).cost_scale c) (nonneg _ (cost_scale_some p s h f c a b)) g)
 
     min_left : (x y : ℤ) → int_min x y ≤ℤ x
     min_left x y = omega (arith, ints, clamps)
@@ -120,9 +120,9 @@ more_margin p s n m k h f l old new = record {
 -- ---- what the first corners have where the next has too little
 -- each row of each of them has at least one unit
 pub all_slack : (p : DesignParts) (s : Plans) (n : ℕ) (m : Margin) → IsDesign p → IsPolicyFor (design_of p) s → n ≤ 2 ^ p.states →
-    IsMarginOf (design_of p) s n m → pos 1 ≤ℤ m.units → (b : ℕ) → 1 ≤ b → b ≤ n → AllSlack (design_of p) s b (rows (design_of p))
+    IsMarginOf (shown (design_of p) s) (rows (design_of p)) n m → pos 1 ≤ℤ m.units → (b : ℕ) → 1 ≤ b → b ≤ n → AllSlack (design_of p) s b (rows (design_of p))
 all_slack p s n m h f l k u b a o i q =
-    le_trans_z (mul-le-mul_right_z (slack_scale (design_of p) s b) (nonneg _ (scale_some p s h f b a (omega (arith, l, o)))) u) (k.slacks b i a o q)
+    le_trans_z (mul-le-mul_right_z ((shown (design_of p) s).slack_scale b) (nonneg _ (scale_some p s h f b a (omega (arith, l, o)))) u) (k.slacks b i a o q)
 
 pub first_short : (d : Design) (s : Plans) (c r corner : ℕ) (slack : Frac) → corner ≡ c → 1 ≤ c → c ≤ 2 ^ d.states → ((b : ℕ) → 1 ≤ b → b < c → AllSlack d s b (rows d)) →
     IsShortRow d s c r slack → IsFirstShort d s corner r slack

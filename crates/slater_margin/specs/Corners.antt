@@ -7,7 +7,7 @@ use Rattle.qp_model.specs.Design.{Design, rows}
 use Rattle.qp_model.specs.Policy.{Plans}
 use Rattle.qp_model.specs.Quantities.{prediction_size}
 use Rattle.qp_model.specs.CornerSizes.{corner_slack_size, corner_cost_size}
-use Rattle.qp_model.specs.Margin.{corner_slack, slack_scale, HasSlack}
+use Rattle.qp_model.specs.Margin.{shown, HasSlack}
 
 -- the three quantities that the corners are simulated within
 pub record HasCornerRoom (d : Design) (p : Plans) : Type 0 where
@@ -24,7 +24,7 @@ IsFirstWideCorner d p q = ⊥
 
 -- each row has at corner c a slack of at least 2^-16
 abbrev pub AllSlack : Design → Plans → ℕ → ℕ → Type 0
-AllSlack d p c count = (i : ℕ) → i < count → HasSlack d p (pos 1) c i
+AllSlack d p c count = (i : ℕ) → i < count → HasSlack (shown d p) (pos 1) c i
 
 -- corner c, and in it row number r, both counted from 1, are the first with less slack than 2^-16, and `slack` is that slack
 pub record IsFirstShort (d : Design) (p : Plans) (c r : ℕ) (slack : Frac) : Type 0 where
@@ -34,6 +34,6 @@ pub record IsFirstShort (d : Design) (p : Plans) (c r : ℕ) (slack : Frac) : Ty
   pub row_last : r ≤ rows d
   pub corners_before : (b : ℕ) → 1 ≤ b → b < c → AllSlack d p b (rows d)
   pub rows_before : AllSlack d p c (r - 1)
-  pub short : (pos (2 ^ 16) *ℤ corner_slack d p c (r - 1)) <ℤ slack_scale d p c
-  pub numerator : slack.num ≡ corner_slack d p c (r - 1)
-  pub denominator : slack.den ≡ slack_scale d p c
+  pub short : (pos (2 ^ 16) *ℤ (shown d p).slack c (r - 1)) <ℤ (shown d p).slack_scale c
+  pub numerator : slack.num ≡ (shown d p).slack c (r - 1)
+  pub denominator : slack.den ≡ (shown d p).slack_scale c

@@ -12,7 +12,7 @@ use Rattle.qp_model.specs.Box.{corner}
 use Rattle.qp_model.specs.Cost.{cost_term}
 use Rattle.qp_model.specs.Policy.{Plans, IsPolicyFor}
 use Rattle.qp_model.specs.Runs.{Holds}
-use Rattle.qp_model.specs.Margin.{corner_denominator, corner_plan, corner_slack, slack_scale, corner_cost, corner_cost_scale, HasSlack, HasCost}
+use Rattle.qp_model.specs.Margin.{corner_denominator, corner_plan, shown, HasSlack, HasCost}
 use Rattle.plant_condense.specs.Lists.{ArePowers}
 use Rattle.slater_margin.specs.Corners.{HasCornerRoom, AllSlack}
 
@@ -36,16 +36,16 @@ pub record IsCorner (p : DesignParts) (s : Plans) (powers : List ℤ) (c : ℕ) 
 -- each row has a slack of at least units / 2^16, some row has less than (units + 1) / 2^16
 pub record HasUnits (d : Design) (p : Plans) (c : ℕ) (units : ℤ) : Type 0 where
   pub some : pos 1 ≤ℤ units
-  pub slacks : (i : ℕ) → i < rows d → HasSlack d p units c i
+  pub slacks : (i : ℕ) → i < rows d → HasSlack (shown d p) units c i
   pub row : ℕ
   pub inside : row < rows d
-  pub short : (pos (2 ^ 16) *ℤ corner_slack d p c row) <ℤ ((units +ℤ pos 1) *ℤ slack_scale d p c)
+  pub short : (pos (2 ^ 16) *ℤ (shown d p).slack c row) <ℤ ((units +ℤ pos 1) *ℤ (shown d p).slack_scale c)
 
 -- the cost is at most `most`, and above `most` - 1
 pub record HasCornerCost (d : Design) (p : Plans) (c : ℕ) (most : ℤ) : Type 0 where
   pub some : pos 0 ≤ℤ most
-  pub cost : HasCost d p most c
-  pub dear : ((most -ℤ pos 1) *ℤ corner_cost_scale d p c) <ℤ corner_cost d p c
+  pub cost : HasCost (shown d p) most c
+  pub dear : ((most -ℤ pos 1) *ℤ (shown d p).cost_scale c) <ℤ (shown d p).cost c
 
 pub record IsCornerMargin (d : Design) (p : Plans) (c : ℕ) (m : Margin) : Type 0 where
   pub units : HasUnits d p c m.units
@@ -56,9 +56,9 @@ pub record IsShortRow (d : Design) (p : Plans) (c r : ℕ) (slack : Frac) : Type
   pub first : 1 ≤ r
   pub last : r ≤ rows d
   pub before : AllSlack d p c (r - 1)
-  pub short : (pos (2 ^ 16) *ℤ corner_slack d p c (r - 1)) <ℤ slack_scale d p c
-  pub numerator : slack.num ≡ corner_slack d p c (r - 1)
-  pub denominator : slack.den ≡ slack_scale d p c
+  pub short : (pos (2 ^ 16) *ℤ (shown d p).slack c (r - 1)) <ℤ (shown d p).slack_scale c
+  pub numerator : slack.num ≡ (shown d p).slack c (r - 1)
+  pub denominator : slack.den ≡ (shown d p).slack_scale c
 
 -- ---- the cost
 -- what the rows of all stages and the final rows cost

@@ -5,10 +5,9 @@ use Rattle.integer_algebra.specs.Sums.{total, image}
 use Rattle.integer_algebra.specs.Bounds.{absolute, IsWithin}
 use Rattle.std.proofs.Math.IntN.{*ℤ_comm}
 use Rattle.step_error.specs.Carried.{GradientLaw}
-use Rattle.integer_algebra.proofs.OrderLaws.{le_by, mul-le-mul_left_z}
 use Rattle.integer_algebra.proofs.RingLaws.{mul_assoc_z}
 use Rattle.integer_algebra.proofs.SumLaws.{total_same, total_add, total_scale, total_scale_right, total_swap}
-use Rattle.integer_algebra.proofs.BoundLaws.{within_total, within_sum, within_neg, within_more, within_times, within_double}
+use Rattle.integer_algebra.proofs.BoundLaws.{within_total, within_sum, within_neg, within_times, within_double}
 use Rattle.integer_algebra.proofs.Quoting.{by_ring, quotes}
 
 -- the plan's rounding, through a row of the hessian
@@ -21,9 +20,9 @@ rounding n h e scale k = rw (← (total_scale n scale (λ l. absolute (h l))))
     both x h k = record { below = k; above = omega (arith, ints) }
 
 -- the columns' errors against the numbers that they are multiplied by
-columns_error : (n : ℕ) (d : ℤ) (e v : ℕ → ℤ) → ((i : ℕ) → i < n → IsWithin d (e i)) →
-    IsWithin (d *ℤ total n (λ i. absolute (v i))) (total n (λ i. e i *ℤ v i))
-columns_error n d e v h = rw (← (total_scale n d (λ i. absolute (v i)))) (within_total n _ _ (λ i l. within_times d (e i) (v i) (h i l)))
+columns_error : (n : ℕ) (d e v : ℕ → ℤ) → ((i : ℕ) → i < n → IsWithin (d i) (e i)) →
+    IsWithin (total n (λ i. d i *ℤ absolute (v i))) (total n (λ i. e i *ℤ v i))
+columns_error n d e v h = within_total n _ _ (λ i l. within_times (d i) (e i) (v i) (h i l))
 
 -- the gradient, as the rounding less the columns' errors
 split : (entries columns : ℕ) (hessian x c : ℕ → ℕ → ℤ) (unit scale : ℤ) (v u : ℕ → ℤ) (j : ℕ) →
@@ -63,12 +62,8 @@ split entries columns hessian x c unit scale v u j = closed _ _ _ rounded errors
     closed a b w h k = rw (h, k) (by_ring (a ∷ b ∷ w ∷ scale ∷ unit ∷ []) (search quotes depth 60 fits 20000) refl)
 
 pub gradient : GradientLaw
-gradient entries columns hessian x c unit scale size v u good rounded small diagonal j l =
+gradient entries columns hessian x c residual unit scale v u near rounded j l =
     rw (split entries columns hessian x c unit scale v u j)
-    (within_more _ _ _ (within_sum _ _ _ _
+    (within_sum _ _ _ _
     (within_double _ _ (rounding entries (hessian j) (λ l. scale *ℤ u l +ℤ image columns x v l) scale rounded))
-    (within_neg _ _ (columns_error columns (hessian j j) (λ i. pos 2 *ℤ (total entries (λ l. hessian j l *ℤ x l i) -ℤ unit *ℤ c j i)) v (λ i m. good i j m l))))
-    (le_by (mul-le-mul_left_z (hessian j j) (diagonal j l) small) (closed (hessian j j) scale size (total entries (λ l. absolute (hessian j l))) (total columns (λ i. absolute (v i))))))
-  where
-    closed : (h s z a t : ℤ) → s *ℤ (pos 2 *ℤ a +ℤ h *ℤ z) +ℤ h *ℤ t ≡ (pos 2 *ℤ (s *ℤ a) +ℤ h *ℤ t) +ℤ h *ℤ (s *ℤ z)
-    closed h s z a t = by_ring (h ∷ s ∷ z ∷ a ∷ t ∷ []) (search quotes depth 60 fits 20000) refl
+    (within_neg _ _ (columns_error columns (λ i. residual j i) (λ i. pos 2 *ℤ (total entries (λ l. hessian j l *ℤ x l i) -ℤ unit *ℤ c j i)) v (λ i m. near i j m l))))

@@ -2,6 +2,8 @@
 
 -- ---- a design as a program of the method
 pub mod DesignLaws
+-- ---- a form of a design
+pub mod Forms
 -- ---- a plan of the machine: gains, gradient and size
 pub mod CarriedLaws
 pub mod Gains

@@ -1,13 +1,13 @@
--- A step of the machine is a step of the method on its design: all numbers are brought over one denominator, 2 b times the machine's scale.
-use Rattle.std.proofs.Common.{◌≡◌, inl, inr, ℕ, suc, ◌+◌, ◌-◌, ◌*◌, ◌^◌, ◌<◌, [], ◌∷◌, ℤ, pos, ◌+ℤ◌, ◌-ℤ◌, ◌*ℤ◌, ◌≤ℤ◌, List, length, arith, ap, sym, ◌∙◌, refl}
+-- A step of the machine is a step of the method on its design: all numbers are brought over one denominator, 2 b times the machine's scale. For its errors b is
+-- 2^40 n times what the rows of the form are over.
+use Rattle.std.proofs.Common.{◌≡◌, inl, inr, ℕ, suc, ◌+◌, ◌*◌, ◌^◌, ◌<◌, [], ◌∷◌, ℤ, pos, ◌+ℤ◌, ◌-ℤ◌, ◌*ℤ◌, ◌≤ℤ◌, List, length, arith, ap, sym, ◌∙◌, refl}
 use Rattle.std.specs.Int.{int_max, int_min}
 use Rattle.std.proofs.lemmas.Int.{ints, clamps}
 use Rattle.std.proofs.lemmas.Nat.{pow-add}
 use Rattle.std.proofs.Math.Nat.{mul_comm}
-use Rattle.integer_algebra.specs.Sums.{total, image, coimage, square, at}
+use Rattle.integer_algebra.specs.Sums.{image, coimage, at}
 use Rattle.integer_algebra.specs.Bounds.{clamped}
 use Rattle.integer_algebra.proofs.OrderLaws.{le_by, mul-le-mul_left_z, mul_nonneg_z}
-use Rattle.integer_algebra.proofs.SumLaws.{total_same}
 use Rattle.integer_algebra.proofs.VectorLaws.{image_scale, dot_scale_right}
 use Rattle.integer_algebra.proofs.BoundLaws.{clamped_cases, clamped_low, clamped_high}
 use Rattle.integer_algebra.proofs.Quoting.{by_ring, quotes}
@@ -16,14 +16,14 @@ use Rattle.qp_model.specs.Cost.{cost_scale}
 use Rattle.qp_model.specs.Residual.{residual, residual_scale}
 use Rattle.qp_model.specs.Condensed.{Condensed, slope_at}
 use Rattle.qp_model.specs.Condensing.{condensed_of}
-use Rattle.qp_model.specs.Curvature.{IsExponent, curvature, row_change}
+use Rattle.qp_model.specs.Form.{Form}
 use Rattle.qp_model.specs.Controller.{Numbers, IsShaped}
-use Rattle.qp_model.specs.Machine.{loaded}
-use Rattle.qp_model.specs.Errors.{gradient_error, residual_error, error_sums_of}
+use Rattle.qp_model.specs.Machine.{exponent_of, top_of, loaded}
+use Rattle.qp_model.specs.Errors.{radius_error, residual_error, error_sums_of, StepErrors}
 use Rattle.qp_model.specs.Built.{IsDerivedFrom}
 use Rattle.qp_model.proofs.ScalingLaws.{scaling_law}
-use Rattle.step_error.specs.Laws.{AreExponents, slant, IsDesignStep}
-use Rattle.step_error.specs.MachineLaws.{HasErrors, multipliers_at, plan_at, used_residual, machine_scale, lifted_plan}
+use Rattle.step_error.specs.Laws.{slant, IsDesignStep}
+use Rattle.step_error.specs.MachineLaws.{HasErrors, raised_at, row_radius, plan_at, used_residual, machine_scale, lifted_plan}
 use Rattle.step_error.proofs.MachineSums.{multiplier_after}
 use Rattle.step_error.proofs.Slopes.{within_factor, within_same}
 
@@ -36,36 +36,23 @@ abbrev pub plan_over : Numbers → List ℤ → ℤ → ℕ → ℕ → ℤ
 plan_over c xi b k j = pos 2 *ℤ b *ℤ lifted_plan c xi k j
 
 abbrev pub multipliers_over : Numbers → List ℤ → ℤ → ℕ → ℕ → ℤ
-multipliers_over c xi b k i = pos 2 *ℤ b *ℤ at (multipliers_at c xi k) i
+multipliers_over c xi b k i = pos 2 *ℤ b *ℤ raised_at c xi k i
 
 abbrev pub residuals_over : Numbers → List ℤ → ℤ → ℕ → ℕ → ℤ
 residuals_over c xi b k i = pos 2 *ℤ b *ℤ (pos (2 ^ c.step_exponent) *ℤ used_residual c xi k i)
 
+-- such a b
+abbrev pub units : Form → ℕ → ℤ
+units h n = pos (2 ^ 40) *ℤ (pos h.rows_scale *ℤ pos n)
+
 -- what bounds the gradient's entries, and what the residuals used miss
-abbrev pub gradient_over : Design → ℕ → Numbers → ℤ → ℕ → ℤ
-gradient_over d r c b j = pos 2 *ℤ b *ℤ pos (2 ^ c.step_exponent * gradient_error d r j)
+abbrev pub gradient_over : Design → Form → ℕ → Numbers → StepErrors → ℕ → ℕ → ℤ
+gradient_over d h r c e n j = pos 2 *ℤ (pos h.rows_scale *ℤ pos n) *ℤ
+    pos (2 ^ 40 * 2 ^ c.step_exponent * e.gradient j + 2 ^ (c.fraction_bits + c.step_exponent) * radius_error (error_sums_of d h r) e.plan)
 
-abbrev pub misses_over : Design → ℕ → Numbers → ℤ → ℕ → ℤ
-misses_over d r c b i = b *ℤ pos (2 ^ c.step_exponent * residual_error (error_sums_of d r) c.fraction_bits)
-
--- ---- the exponents
--- one exponent for all rows
-pub exponents : (d : Design) (s : ℕ) → IsExponent d s → AreExponents d (λ i. s) s
-exponents d s h = record {
-  bounded = λ i l. omega arith;
-  descent = λ v. same (pos (cost_scale d)) (total (rows d) (λ i. pos (2 ^ (s - s)) *ℤ square (row_change d v i)))
-      (total (rows d) (λ i. square (row_change d v i))) (pos (2 ^ s * residual_scale d ^ 2) *ℤ curvature d v)
-      (total_same (rows d) _ _ (λ i l. one (2 ^ (s - s)) (square (row_change d v i)) (ap (λ (n : ℕ). 2 ^ n) (none s)))) (h v);
-}
-  where
-    none : (s : ℕ) → s - s ≡ 0
-    none s = omega arith
-
-    one : (n : ℕ) (z : ℤ) → n ≡ 1 → pos n *ℤ z ≡ z
-    one n z e = rw e (omega (arith, ints))
-
-    same : (a b e f : ℤ) → b ≡ e → (a *ℤ e) ≤ℤ f → (a *ℤ b) ≤ℤ f
-    same a b e f h k = rw h k
+abbrev pub misses_over : Design → Form → ℕ → Numbers → StepErrors → ℕ → ℕ → ℤ
+misses_over d h r c e n i = pos (2 ^ 40) *ℤ pos n *ℤ pos (2 ^ c.step_exponent) *ℤ
+    pos (h.rows_scale * residual_error (error_sums_of d h r) e.plan + 2 * 2 ^ c.fraction_bits * row_radius d h e.plan i)
 
 -- ---- factors
 -- the slant of numbers times a factor
@@ -107,15 +94,15 @@ clamped_scaled g top b pg pt = elim (clamped_cases top b pt) [
 
 -- ---- one step
 -- the number of rows that the machine has
-rows_inside : (d : Design) (r : ℕ) (c : Numbers) → IsDerivedFrom d r c → IsShaped c → (i : ℕ) → i < rows d → i < length c.bounds
-rows_inside d r c made shaped i l = omega (arith, l, made.sizes.rows, shaped.bounds)
+rows_inside : (d : Design) (h : Form) (r : ℕ) (c : Numbers) → IsDerivedFrom d h r c → IsShaped c → (i : ℕ) → i < rows d → i < length c.bounds
+rows_inside d h r c made shaped i l = omega (arith, l, made.sizes.rows, shaped.bounds)
 
 -- the next multiplier is the moved one, kept in the box
-moves : (d : Design) (r : ℕ) (c : Numbers) (xi : List ℤ) (k : ℕ) → IsDerivedFrom d r c → IsShaped c → (i : ℕ) → i < rows d →
-    at (multipliers_at c xi (suc k)) i ≡ clamped (pos (2 * r) *ℤ machine_scale c) (at (multipliers_at c xi k) i +ℤ used_residual c xi k i)
-moves d r c xi k made shaped i l =
-    multiplier_after c (loaded c xi) k i (rows_inside d r c made shaped i l)
-    ∙ turned c.clamp (pos (2 * r) *ℤ machine_scale c) (at (multipliers_at c xi k) i +ℤ used_residual c xi k i) made.clamp
+moves : (d : Design) (h : Form) (r : ℕ) (c : Numbers) (xi : List ℤ) (k : ℕ) → IsDerivedFrom d h r c → IsShaped c → (i : ℕ) → i < rows d →
+    raised_at c xi (suc k) i ≡ clamped (pos (2 * r) *ℤ machine_scale c) (raised_at c xi k i +ℤ used_residual c xi k i)
+moves d h r c xi k made shaped i l =
+    multiplier_after c (loaded c xi) k i (rows_inside d h r c made shaped i l)
+    ∙ turned (top_of c i) (pos (2 * r) *ℤ machine_scale c) (raised_at c xi k i +ℤ used_residual c xi k i) made.clamp
   where
     turned : (a t b : ℤ) → a ≡ t → int_min a (int_max b (pos 0)) ≡ clamped t b
     turned a t b e = rw e (omega (arith, ints, clamps))
@@ -132,31 +119,40 @@ lifted_residual d c xi b k i =
     split : (f s : ℕ) → pos (2 ^ (f + s)) ≡ pos (2 ^ s) *ℤ pos (2 ^ f)
     split f s = ap pos (pow-add 2 f s ∙ mul_comm (2 ^ f) (2 ^ s))
 
-pub step_is : (d : Design) (r : ℕ) (c : Numbers) (xi : List ℤ) (b : ℤ) (k : ℕ) → pos 0 ≤ℤ b → IsDerivedFrom d r c → IsShaped c → HasErrors d r c xi k →
-    IsDesignStep d (condensed_of d) (λ i. c.step_exponent) (pos (2 * r) *ℤ scale_over c b) (scale_over c b) (at xi)
-    (plan_over c xi b k) (multipliers_over c xi b k) (residuals_over c xi b k) (multipliers_over c xi b (suc k)) (gradient_over d r c b) (misses_over d r c b)
-step_is d r c xi b k pb made shaped errors = record {
+pub step_is : (d : Design) (h : Form) (r : ℕ) (c : Numbers) (xi : List ℤ) (n k : ℕ) (e : StepErrors) → IsDerivedFrom d h r c → IsShaped c → HasErrors d h r c xi k e →
+    IsDesignStep d (condensed_of d) (exponent_of c) (pos (2 * r) *ℤ scale_over c (units h n)) (scale_over c (units h n)) (at xi)
+    (plan_over c xi (units h n) k) (multipliers_over c xi (units h n) k) (residuals_over c xi (units h n) k) (multipliers_over c xi (units h n) (suc k))
+    (gradient_over d h r c e n) (misses_over d h r c e n)
+step_is d h r c xi n k e made shaped errors = record {
   box = record {
-    low = λ i l. mul_nonneg_z (pos 2 *ℤ b) (at (multipliers_at c xi k) i) (twice b pb) (errors.multipliers.low i l);
-    high = λ i l. le_by (mul-le-mul_left_z (pos 2 *ℤ b) (twice b pb) (errors.multipliers.high i l))
-        (raised b (at (multipliers_at c xi k) i) (pos (2 * r)) (machine_scale c));
+    low = λ i l. mul_nonneg_z (pos 2 *ℤ units h n) (raised_at c xi k i) (twice (units h n) some) (errors.multipliers.low i l);
+    high = λ i l. le_by (mul-le-mul_left_z (pos 2 *ℤ units h n) (twice (units h n) some) (errors.multipliers.high i l))
+        (lifted (units h n) (raised_at c xi k i) (pos (2 * r)) (machine_scale c));
   };
-  moved = λ i l. moved b (pos (2 ^ c.step_exponent)) (at (multipliers_at c xi k) i) (used_residual c xi k i) (pos (2 * r)) (machine_scale c) pb
-      (omega (arith, ints)) (omega (arith, ints)) (moves d r c xi k made shaped i l);
-  gradient_error = λ j l. within_same (placed b (pos (cost_scale d)) (pos (residual_scale d)) (pos (2 ^ c.step_exponent * gradient_error d r j)))
-      (sym (slant_scaled d (condensed_of d) (pos 2 *ℤ b) (machine_scale c) (at xi) (lifted_plan c xi k) (at (multipliers_at c xi k)) j))
-      (within_factor (pos 2 *ℤ b) _ _ (twice b pb) (errors.gradient j l));
-  row_error = λ i l. within_same (placed_row b (pos (2 ^ c.step_exponent)) (pos (residual_scale d)) (pos (residual_error (error_sums_of d r) c.fraction_bits)))
-      (used b (pos (2 ^ c.step_exponent)) (pos (residual_scale d)) (used_residual c xi k i)
-      (residual d (pos (2 ^ c.fraction_bits)) (at xi) (at (plan_at c xi k)) i) (lifted_residual d c xi b k i))
-      (within_factor (b *ℤ pos (2 ^ c.step_exponent)) _ _ (mul_nonneg_z b (pos (2 ^ c.step_exponent)) pb (omega (arith, ints))) (errors.residuals i l));
+  moved = λ i l. moved (units h n) (pos (2 ^ exponent_of c i)) (raised_at c xi k i) (used_residual c xi k i) (pos (2 * r)) (machine_scale c) some
+      (omega (arith, ints)) (omega (arith, ints)) (moves d h r c xi k made shaped i l);
+  gradient_error = λ j l. within_same
+      (placed (pos h.rows_scale *ℤ pos n) (pos (cost_scale d)) (pos (residual_scale d))
+      (pos (2 ^ 40 * 2 ^ c.step_exponent * e.gradient j + 2 ^ (c.fraction_bits + c.step_exponent) * radius_error (error_sums_of d h r) e.plan)))
+      (brought (pos (2 ^ 40)) (pos h.rows_scale *ℤ pos n) (slant d (condensed_of d) (machine_scale c) (at xi) (lifted_plan c xi k) (raised_at c xi k) j)
+      (slant_scaled d (condensed_of d) (pos 2 *ℤ units h n) (machine_scale c) (at xi) (lifted_plan c xi k) (raised_at c xi k) j))
+      (within_factor (pos 2 *ℤ (pos h.rows_scale *ℤ pos n)) _ _ (omega (arith, ints)) (errors.gradient j l));
+  row_error = λ i l. within_same
+      (placed_row (pos (2 ^ 40) *ℤ pos n *ℤ pos (2 ^ c.step_exponent)) (pos (residual_scale d))
+      (pos (h.rows_scale * residual_error (error_sums_of d h r) e.plan + 2 * 2 ^ c.fraction_bits * row_radius d h e.plan i)))
+      (used (pos (2 ^ 40)) (pos n) (pos h.rows_scale) (pos (2 ^ c.step_exponent)) (pos (residual_scale d)) (used_residual c xi k i)
+      (residual d (pos (2 ^ c.fraction_bits)) (at xi) (at (plan_at c xi k)) i) (lifted_residual d c xi (units h n) k i))
+      (within_factor (pos (2 ^ 40) *ℤ pos n *ℤ pos (2 ^ c.step_exponent)) _ _ (omega (arith, ints)) (errors.residuals i l));
 }
   where
+    some : pos 0 ≤ℤ units h n
+    some = omega (arith, ints)
+
     twice : (b : ℤ) → pos 0 ≤ℤ b → pos 0 ≤ℤ (pos 2 *ℤ b)
     twice b h = omega (arith, ints, h)
 
-    raised : (b y t m : ℤ) → t *ℤ (pos 2 *ℤ b *ℤ m) +ℤ (pos 2 *ℤ b) *ℤ y ≡ pos 2 *ℤ b *ℤ y +ℤ (pos 2 *ℤ b) *ℤ (t *ℤ m)
-    raised b y t m = by_ring (b ∷ y ∷ t ∷ m ∷ []) (search quotes depth 60 fits 20000) refl
+    lifted : (b y t m : ℤ) → t *ℤ (pos 2 *ℤ b *ℤ m) +ℤ (pos 2 *ℤ b) *ℤ y ≡ pos 2 *ℤ b *ℤ y +ℤ (pos 2 *ℤ b) *ℤ (t *ℤ m)
+    lifted b y t m = by_ring (b ∷ y ∷ t ∷ m ∷ []) (search quotes depth 60 fits 20000) refl
 
     moved : (b s y v t m : ℤ) {z : ℤ} → pos 0 ≤ℤ b → pos 0 ≤ℤ s → pos 0 ≤ℤ (t *ℤ m) → z ≡ clamped (t *ℤ m) (y +ℤ v) →
         s *ℤ (pos 2 *ℤ b *ℤ z) ≡ clamped (s *ℤ (t *ℤ (pos 2 *ℤ b *ℤ m))) (s *ℤ (pos 2 *ℤ b *ℤ y) +ℤ pos 2 *ℤ b *ℤ (s *ℤ v))
@@ -176,9 +172,12 @@ step_is d r c xi b k pb made shaped errors = record {
     placed : (b c r e : ℤ) → pos 2 *ℤ b *ℤ (c *ℤ r *ℤ e) ≡ c *ℤ r *ℤ (pos 2 *ℤ b *ℤ e)
     placed b c r e = by_ring (b ∷ c ∷ r ∷ e ∷ []) (search quotes depth 60 fits 20000) refl
 
-    placed_row : (b s r e : ℤ) → b *ℤ s *ℤ (r *ℤ e) ≡ r *ℤ (b *ℤ (s *ℤ e))
-    placed_row b s r e = by_ring (b ∷ s ∷ r ∷ e ∷ []) (search quotes depth 60 fits 20000) refl
+    brought : (p b s : ℤ) {z : ℤ} → z ≡ pos 2 *ℤ (p *ℤ b) *ℤ s → pos 2 *ℤ b *ℤ (p *ℤ s) ≡ z
+    brought p b s e = rw e (by_ring (p ∷ b ∷ s ∷ []) (search quotes depth 60 fits 20000) refl)
 
-    used : (b s r v e : ℤ) {f : ℤ} → f ≡ pos 2 *ℤ b *ℤ (s *ℤ e) →
-        b *ℤ s *ℤ (pos 2 *ℤ (r *ℤ v -ℤ e)) ≡ r *ℤ (pos 2 *ℤ b *ℤ (s *ℤ v)) -ℤ f
-    used b s r v e h = rw h (by_ring (b ∷ s ∷ r ∷ v ∷ e ∷ []) (search quotes depth 60 fits 20000) refl)
+    placed_row : (b r e : ℤ) → b *ℤ (r *ℤ e) ≡ r *ℤ (b *ℤ e)
+    placed_row b r e = by_ring (b ∷ r ∷ e ∷ []) (search quotes depth 60 fits 20000) refl
+
+    used : (p n g s r v e : ℤ) {f : ℤ} → f ≡ pos 2 *ℤ (p *ℤ (g *ℤ n)) *ℤ (s *ℤ e) →
+        p *ℤ n *ℤ s *ℤ (pos 2 *ℤ g *ℤ (r *ℤ v -ℤ e)) ≡ r *ℤ (pos 2 *ℤ (p *ℤ (g *ℤ n)) *ℤ (s *ℤ v)) -ℤ f
+    used p n g s r v e k = rw k (by_ring (p ∷ n ∷ g ∷ s ∷ r ∷ v ∷ e ∷ []) (search quotes depth 60 fits 20000) refl)

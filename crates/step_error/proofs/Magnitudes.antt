@@ -13,6 +13,7 @@ use Rattle.integer_algebra.proofs.PowerLaws.{pow_positive}
 use Rattle.dual_method.specs.Dual.{InBox}
 use Rattle.qp_model.specs.Design.{Design, rows}
 use Rattle.qp_model.specs.Box.{IsGridState}
+use Rattle.qp_model.specs.Form.{Form}
 use Rattle.qp_model.specs.Quantities.{greatest}
 use Rattle.qp_model.specs.Controller.{Numbers, IsSized}
 use Rattle.qp_model.specs.Machine.{loaded, plan_of, row_sum, next_multiplier, after}
@@ -82,7 +83,7 @@ multipliers_length c state (suc k) =
     length-map-range_with_len (λ i. next_multiplier c state (plan_of c state before) (at before i) i) 0 (length c.bounds)
 
 -- ---- both
-module _ (d : Design) (r : ℕ) (c : Numbers) (xi : List ℤ) (made : IsDerivedFrom d r c) (sized : IsSized c)
+module _ (d : Design) (h : Form) (r : ℕ) (c : Numbers) (xi : List ℤ) (made : IsDerivedFrom d h r c) (sized : IsSized c)
     (long : length xi ≡ d.states) (inside : IsGridState d (at xi)) where
   pub grid_first : d.grid ≤ c.fraction_bits
   grid_first = omega (arith, made.sizes.grid, sized.fraction_bits.0)

@@ -9,8 +9,8 @@ use Rattle.integer_algebra.specs.Bounds.{absolute, IsWithin}
 use Rattle.integer_algebra.specs.Division.{floor_of}
 use Rattle.integer_algebra.proofs.OrderLaws.{le_by, mul-le-mul_left_z}
 use Rattle.integer_algebra.proofs.SumLaws.{total_same, total_scale, total_mono, total_const}
-use Rattle.integer_algebra.proofs.VectorLaws.{dot_same, image_scale}
-use Rattle.integer_algebra.proofs.BoundLaws.{within_more, within_sum, within_neg}
+use Rattle.integer_algebra.proofs.VectorLaws.{dot_same}
+use Rattle.integer_algebra.proofs.BoundLaws.{within_more, within_sum, within_neg, within_double}
 use Rattle.integer_algebra.proofs.PowerLaws.{pow_positive}
 use Rattle.integer_algebra.proofs.Quoting.{by_ring, quotes}
 use Rattle.mat_int.specs.Matrix.{row_of, entry_of}
@@ -21,9 +21,10 @@ use Rattle.qp_model.specs.Condensed.{IsCondensed}
 use Rattle.qp_model.specs.Condensing.{condensed_of}
 use Rattle.qp_model.specs.Controller.{Numbers, IsShaped, plan_length}
 use Rattle.qp_model.specs.Machine.{plan_entry, plan_of, row_sum}
-use Rattle.qp_model.specs.Form.{rows_scale}
+use Rattle.qp_model.specs.Form.{Form, IsFormFor, rows_scale, plan_radii, state_radii}
 use Rattle.qp_model.specs.Errors.{state_bound}
 use Rattle.qp_model.specs.Built.{IsDerivedFrom}
+use Rattle.step_error.proofs.Forms.{counted, dot_apart}
 use Rattle.step_error.proofs.Gains.{row_length}
 use Rattle.step_error.proofs.Slopes.{within_cancel, within_factor, within_same}
 use Rattle.step_error.proofs.Residuals.{rounded_dot, rounded_within, floor_within}
@@ -82,54 +83,75 @@ reach_total n b f u h = rw (← same) (rw (← (total_const n (pos (b * f)))) (t
     same : pos n *ℤ pos (b * f) ≡ pos f *ℤ pos (n * b)
     same = let e : n * (b * f) ≡ f * (n * b) = omega arith in ap pos e
 
-pub row_within : (d : Design) (r : ℕ) (c : Numbers) (x l : List ℤ) (xi : ℕ → ℤ) (u : ℕ) → IsDerivedFrom d r c → IsShaped c → length x ≡ c.states →
-    IsCondensed d (condensed_of d) → 0 < rows_scale d → c.grid_bits ≤ c.fraction_bits →
+-- from the midpoints' row to the exact one, by numbers alone: w is 2^grid, g the scale of the form's rows and g' that of the design's, f the fraction
+exact_closed : (w g g' f k u y pr sr v gm em bm gx ex bx : ℤ) {scale res : ℤ} → pos 0 ≤ℤ w → pos 0 ≤ℤ g' → g *ℤ bx ≡ g' *ℤ bm → scale ≡ w *ℤ g' →
+    res ≡ w *ℤ (gx +ℤ ex -ℤ f *ℤ bx) → IsWithin (g *ℤ k) (pos 2 *ℤ (g *ℤ v -ℤ (gm +ℤ em -ℤ f *ℤ bm))) →
+    IsWithin (g' *ℤ (u *ℤ f *ℤ pr)) (g *ℤ gx -ℤ g' *ℤ gm) → IsWithin (g' *ℤ (y *ℤ f *ℤ sr)) (g *ℤ ex -ℤ g' *ℤ em) →
+    IsWithin (scale *ℤ (g *ℤ k +ℤ pos 2 *ℤ f *ℤ (u *ℤ pr +ℤ y *ℤ sr))) (pos 2 *ℤ g *ℤ (scale *ℤ v -ℤ res))
+exact_closed w g g' f k u y pr sr v gm em bm gx ex bx pw pg same is res_is middle plan state = rw (is, res_is)
+    (within_same bound_is value_is (within_factor w _ _ pw (within_sum _ _ _ _ (within_factor g' _ _ pg middle)
+    (within_neg _ _ (within_double _ _ (within_sum _ _ _ _ plan state))))))
+  where
+    bound_is : w *ℤ (g' *ℤ (g *ℤ k) +ℤ pos 2 *ℤ (g' *ℤ (u *ℤ f *ℤ pr) +ℤ g' *ℤ (y *ℤ f *ℤ sr))) ≡ w *ℤ g' *ℤ (g *ℤ k +ℤ pos 2 *ℤ f *ℤ (u *ℤ pr +ℤ y *ℤ sr))
+    bound_is = by_ring (w ∷ g ∷ g' ∷ f ∷ k ∷ u ∷ y ∷ pr ∷ sr ∷ []) (search quotes depth 60 fits 20000) refl
+
+    apart : w *ℤ (g' *ℤ (pos 2 *ℤ (g *ℤ v -ℤ (gm +ℤ em -ℤ f *ℤ bm))) +ℤ neg_ℤ (pos 2 *ℤ ((g *ℤ gx -ℤ g' *ℤ gm) +ℤ (g *ℤ ex -ℤ g' *ℤ em)))) ≡
+        pos 2 *ℤ (w *ℤ (g' *ℤ g *ℤ v -ℤ g *ℤ gx -ℤ g *ℤ ex +ℤ f *ℤ (g' *ℤ bm)))
+    apart = by_ring (w ∷ g ∷ g' ∷ f ∷ v ∷ gm ∷ em ∷ bm ∷ gx ∷ ex ∷ []) (search quotes depth 90 fits 20000) refl
+
+    joined : pos 2 *ℤ (w *ℤ (g' *ℤ g *ℤ v -ℤ g *ℤ gx -ℤ g *ℤ ex +ℤ f *ℤ (g *ℤ bx))) ≡ pos 2 *ℤ g *ℤ (w *ℤ g' *ℤ v -ℤ w *ℤ (gx +ℤ ex -ℤ f *ℤ bx))
+    joined = by_ring (w ∷ g ∷ g' ∷ f ∷ v ∷ gx ∷ ex ∷ bx ∷ []) (search quotes depth 90 fits 20000) refl
+
+    value_is : w *ℤ (g' *ℤ (pos 2 *ℤ (g *ℤ v -ℤ (gm +ℤ em -ℤ f *ℤ bm))) +ℤ neg_ℤ (pos 2 *ℤ ((g *ℤ gx -ℤ g' *ℤ gm) +ℤ (g *ℤ ex -ℤ g' *ℤ em)))) ≡
+        pos 2 *ℤ g *ℤ (w *ℤ g' *ℤ v -ℤ w *ℤ (gx +ℤ ex -ℤ f *ℤ bx))
+    value_is = apart ∙ ap (λ (z : ℤ). pos 2 *ℤ (w *ℤ (g' *ℤ g *ℤ v -ℤ g *ℤ gx -ℤ g *ℤ ex +ℤ f *ℤ z))) (sym same) ∙ joined
+
+-- the residual used against the exact one at the plan, whose entries are at most u
+pub row_within : (d : Design) (h : Form) (r : ℕ) (c : Numbers) (x l : List ℤ) (xi : ℕ → ℤ) (u : ℕ) → IsFormFor d (counted d h) → IsDerivedFrom d (counted d h) r c → IsShaped c →
+    length x ≡ c.states → IsCondensed d (condensed_of d) → c.grid_bits ≤ c.fraction_bits →
     ((i : ℕ) → i < c.states → at x i ≡ xi i *ℤ pos (2 ^ (c.fraction_bits - c.grid_bits))) →
     ((i : ℕ) → i < c.states → unsigned_abs (at x i) ≤ state_bound d * 2 ^ c.fraction_bits) →
     ((j : ℕ) → j < entries d → unsigned_abs (plan_entry c x l j) ≤ u * 2 ^ c.fraction_bits) → (i : ℕ) → i < rows d →
-    IsWithin (pos (residual_scale d) *ℤ (pos (2 ^ c.step_exponent) *ℤ pos (entries d * u + d.states * state_bound d + 3)))
-    (pos 2 *ℤ (pos (residual_scale d) *ℤ (pos (2 ^ c.step_exponent) *ℤ floor_of (row_sum c x (plan_of c x l) i) (2 ^ c.fraction_bits)) -ℤ
-    residual d (pos (2 ^ (c.fraction_bits + c.step_exponent))) xi (λ j. pos (2 ^ c.step_exponent) *ℤ plan_entry c x l j) i))
-row_within d r c x l xi u made shaped hx condensed p le scaled reach small i inside =
-    within_same (ap pos bound_is) value_is (within_factor (pos (2 ^ d.grid) *ℤ pos (2 ^ c.step_exponent)) _ _ (omega (arith, ints)) closed)
+    IsWithin (pos (residual_scale d) *ℤ (pos h.rows_scale *ℤ pos (entries d * u + d.states * state_bound d + 3) +ℤ
+    pos 2 *ℤ pos (2 ^ c.fraction_bits) *ℤ (pos u *ℤ pos (plan_radii (counted d h) i) +ℤ pos (state_bound d) *ℤ pos (state_radii (counted d h) i))))
+    (pos 2 *ℤ pos h.rows_scale *ℤ (pos (residual_scale d) *ℤ floor_of (row_sum c x (plan_of c x l) i) (2 ^ c.fraction_bits) -ℤ
+    residual d (pos (2 ^ c.fraction_bits)) xi (plan_entry c x l) i))
+row_within d h r c x l xi u form made shaped hx condensed le scaled reach small i inside =
+    exact_closed (pos (2 ^ d.grid)) (pos h.rows_scale) (pos (rows_scale d)) (pos (2 ^ c.fraction_bits)) (pos (entries d * u + d.states * state_bound d + 3)) (pos u) (pos (state_bound d))
+    (pos (plan_radii (counted d h) i)) (pos (state_radii (counted d h) i)) (floor_of (row_sum c x (plan_of c x l) i) (2 ^ c.fraction_bits))
+    (dot (entries d) (h.numbers.by_plan i) (plan_entry c x l)) (dot d.states (h.numbers.by_state i) (at x)) (h.numbers.bound i)
+    (dot (entries d) ((condensed_of d).by_plan i) (plan_entry c x l)) (dot d.states ((condensed_of d).by_state i) (at x)) ((condensed_of d).bound i)
+    (omega (arith, ints)) (omega (arith, ints)) (form.encloses.bound i inside) scale_is residual_is closed
+    (dot_apart (entries d) (pos h.rows_scale) (pos (rows_scale d)) (rows_scale d) (u * 2 ^ c.fraction_bits) ((condensed_of d).by_plan i) (h.numbers.by_plan i) (plan_entry c x l)
+    (h.plan_radius i) (λ j k. form.encloses.plan i j inside k) small)
+    (dot_apart d.states (pos h.rows_scale) (pos (rows_scale d)) (rows_scale d) (state_bound d * 2 ^ c.fraction_bits) ((condensed_of d).by_state i) (h.numbers.by_state i) (at x)
+    (h.state_radius i) (λ j k. form.encloses.state i j inside k) (λ j k. reach j (rw made.sizes.states k)))
   where
-    bound_is : 2 ^ d.grid * 2 ^ c.step_exponent * (rows_scale d * (entries d * u + d.states * state_bound d + 3)) ≡
-        residual_scale d * (2 ^ c.step_exponent * (entries d * u + d.states * state_bound d + 3))
-    bound_is = factors (2 ^ d.grid) (2 ^ c.step_exponent) d.limit_denominator (d.plant_denominator ^ d.stages) (entries d * u + d.states * state_bound d + 3)
+    scale_is : pos (residual_scale d) ≡ pos (2 ^ d.grid) *ℤ pos (rows_scale d)
+    scale_is = factors (2 ^ d.grid) d.limit_denominator (d.plant_denominator ^ d.stages)
       where
-        factors : (w s m a k : ℕ) → w * s * (m * a * k) ≡ m * w * a * (s * k)
-        factors w s m a k = omega arith
+        factors : (w m a : ℕ) → pos (m * w * a) ≡ pos w *ℤ pos (m * a)
+        factors w m a = ap pos (let e : m * w * a ≡ w * (m * a) = omega arith in e)
+
+    turn : (a b e : ℤ) → a *ℤ (b *ℤ e) ≡ e *ℤ (a *ℤ b)
+    turn a b e = by_ring (a ∷ b ∷ e ∷ []) (search quotes depth 60 fits 20000) refl
 
     state_is : dot d.states ((condensed_of d).by_state i) (at x) ≡ pos (2 ^ (c.fraction_bits - c.grid_bits)) *ℤ image d.states (condensed_of d).by_state xi i
     state_is = total_same d.states _ _ (λ j h. rw (scaled j (rw made.sizes.states h)) (turn ((condensed_of d).by_state i j) (xi j) (pos (2 ^ (c.fraction_bits - c.grid_bits)))))
         ∙ total_scale d.states (pos (2 ^ (c.fraction_bits - c.grid_bits))) (λ j. (condensed_of d).by_state i j *ℤ xi j)
-      where
-        turn : (a b e : ℤ) → a *ℤ (b *ℤ e) ≡ e *ℤ (a *ℤ b)
-        turn a b e = by_ring (a ∷ b ∷ e ∷ []) (search quotes depth 60 fits 20000) refl
 
     split : 2 ^ c.fraction_bits ≡ 2 ^ d.grid * 2 ^ (c.fraction_bits - c.grid_bits)
     split = let e : c.fraction_bits ≡ d.grid + (c.fraction_bits - c.grid_bits) = omega (arith, made.sizes.grid) in
         ap (λ (n : ℕ). 2 ^ n) e ∙ pow-add 2 d.grid (c.fraction_bits - c.grid_bits)
 
-    residual_is : residual d (pos (2 ^ (c.fraction_bits + c.step_exponent))) xi (λ j. pos (2 ^ c.step_exponent) *ℤ plan_entry c x l j) i ≡
-        pos (2 ^ d.grid) *ℤ (pos (2 ^ c.step_exponent) *ℤ dot (entries d) ((condensed_of d).by_plan i) (plan_entry c x l)) +ℤ
-        pos (2 ^ (c.fraction_bits + c.step_exponent)) *ℤ (image d.states (condensed_of d).by_state xi i -ℤ pos (2 ^ d.grid) *ℤ (condensed_of d).bound i)
-    residual_is = condensed.rows (pos (2 ^ (c.fraction_bits + c.step_exponent))) xi (λ j. pos (2 ^ c.step_exponent) *ℤ plan_entry c x l j) i inside
-        ∙ ap (λ (z : ℤ). pos (2 ^ d.grid) *ℤ z +ℤ pos (2 ^ (c.fraction_bits + c.step_exponent)) *ℤ (image d.states (condensed_of d).by_state xi i -ℤ pos (2 ^ d.grid) *ℤ (condensed_of d).bound i))
-        (image_scale (entries d) (condensed_of d).by_plan (pos (2 ^ c.step_exponent)) (plan_entry c x l) i)
-
-    value_is : pos (2 ^ d.grid) *ℤ pos (2 ^ c.step_exponent) *ℤ (pos 2 *ℤ (pos (rows_scale d) *ℤ floor_of (row_sum c x (plan_of c x l) i) (2 ^ c.fraction_bits) -ℤ
-        (dot (entries d) ((condensed_of d).by_plan i) (plan_entry c x l) +ℤ dot d.states ((condensed_of d).by_state i) (at x) -ℤ pos (2 ^ c.fraction_bits) *ℤ (condensed_of d).bound i))) ≡
-        pos 2 *ℤ (pos (residual_scale d) *ℤ (pos (2 ^ c.step_exponent) *ℤ floor_of (row_sum c x (plan_of c x l) i) (2 ^ c.fraction_bits)) -ℤ
-        residual d (pos (2 ^ (c.fraction_bits + c.step_exponent))) xi (λ j. pos (2 ^ c.step_exponent) *ℤ plan_entry c x l j) i)
-    value_is = rw (residual_is, state_is)
-        (ring (pos (2 ^ d.grid)) (pos (2 ^ c.step_exponent)) (pos d.limit_denominator) (pos (d.plant_denominator ^ d.stages)) (pos (2 ^ (c.fraction_bits - c.grid_bits)))
-        (floor_of (row_sum c x (plan_of c x l) i) (2 ^ c.fraction_bits)) (dot (entries d) ((condensed_of d).by_plan i) (plan_entry c x l)) (image d.states (condensed_of d).by_state xi i) ((condensed_of d).bound i)
-        (ap pos split) (ap pos (pow-add 2 c.fraction_bits c.step_exponent ∙ ap (λ (n : ℕ). n * 2 ^ c.step_exponent) split)))
+    residual_is : residual d (pos (2 ^ c.fraction_bits)) xi (plan_entry c x l) i ≡
+        pos (2 ^ d.grid) *ℤ (dot (entries d) ((condensed_of d).by_plan i) (plan_entry c x l) +ℤ dot d.states ((condensed_of d).by_state i) (at x) -ℤ pos (2 ^ c.fraction_bits) *ℤ (condensed_of d).bound i)
+    residual_is = condensed.rows (pos (2 ^ c.fraction_bits)) xi (plan_entry c x l) i inside
+        ∙ ring (pos (2 ^ d.grid)) (pos (2 ^ (c.fraction_bits - c.grid_bits))) (dot (entries d) ((condensed_of d).by_plan i) (plan_entry c x l)) (image d.states (condensed_of d).by_state xi i)
+        ((condensed_of d).bound i) (ap pos split) state_is
       where
-        ring : (w s m a p v gu ex b : ℤ) {f q : ℤ} → f ≡ w *ℤ p → q ≡ w *ℤ p *ℤ s →
-            w *ℤ s *ℤ (pos 2 *ℤ (m *ℤ a *ℤ v -ℤ (gu +ℤ p *ℤ ex -ℤ f *ℤ b))) ≡ pos 2 *ℤ (m *ℤ w *ℤ a *ℤ (s *ℤ v) -ℤ (w *ℤ (s *ℤ gu) +ℤ q *ℤ (ex -ℤ w *ℤ b)))
-        ring w s m a p v gu ex b h k = rw (h, k) (by_ring (w ∷ s ∷ m ∷ a ∷ p ∷ v ∷ gu ∷ ex ∷ b ∷ []) (search quotes depth 90 fits 20000) refl)
+        ring : (w p gu ex b : ℤ) {f s : ℤ} → f ≡ w *ℤ p → s ≡ p *ℤ ex → w *ℤ gu +ℤ f *ℤ (ex -ℤ w *ℤ b) ≡ w *ℤ (gu +ℤ s -ℤ f *ℤ b)
+        ring w p gu ex b h k = rw (h, k) (by_ring (w ∷ p ∷ gu ∷ ex ∷ b ∷ []) (search quotes depth 60 fits 20000) refl)
 
     total_is : (total (entries d) (λ j. absolute (plan_entry c x l j)) +ℤ total d.states (λ j. absolute (at x j))) ≤ℤ (pos (2 ^ c.fraction_bits) *ℤ pos (entries d * u + d.states * state_bound d))
     total_is = both _ _ (2 ^ c.fraction_bits) (entries d * u) (d.states * state_bound d) (reach_total (entries d) u (2 ^ c.fraction_bits) (plan_entry c x l) small)
@@ -151,15 +173,15 @@ row_within d r c x l xi u made shaped hx condensed p le scaled reach small i ins
     sum_is = row_sum_is c x l i shaped hx row_in ∙ ap (λ (n : ℕ). dot n (entry_of c.plan_rows i) (plan_entry c x l) +ℤ dot c.states (entry_of c.state_rows i) (at x) -ℤ at c.bounds i *ℤ pos (2 ^ c.fraction_bits)) nu_is
         ∙ ap (λ (n : ℕ). dot (entries d) (entry_of c.plan_rows i) (plan_entry c x l) +ℤ dot n (entry_of c.state_rows i) (at x) -ℤ at c.bounds i *ℤ pos (2 ^ c.fraction_bits)) made.sizes.states
 
-    closed : IsWithin (pos (rows_scale d) *ℤ (pos (entries d * u + d.states * state_bound d) +ℤ pos 3))
-        (pos 2 *ℤ (pos (rows_scale d) *ℤ floor_of (row_sum c x (plan_of c x l) i) (2 ^ c.fraction_bits) -ℤ
-        (dot (entries d) ((condensed_of d).by_plan i) (plan_entry c x l) +ℤ dot d.states ((condensed_of d).by_state i) (at x) -ℤ pos (2 ^ c.fraction_bits) *ℤ (condensed_of d).bound i)))
-    closed = row_closed (pos (rows_scale d)) (pos (2 ^ c.fraction_bits)) (dot (entries d) ((condensed_of d).by_plan i) (plan_entry c x l)) (dot d.states ((condensed_of d).by_state i) (at x)) ((condensed_of d).bound i)
+    closed : IsWithin (pos h.rows_scale *ℤ (pos (entries d * u + d.states * state_bound d) +ℤ pos 3))
+        (pos 2 *ℤ (pos h.rows_scale *ℤ floor_of (row_sum c x (plan_of c x l) i) (2 ^ c.fraction_bits) -ℤ
+        (dot (entries d) (h.numbers.by_plan i) (plan_entry c x l) +ℤ dot d.states (h.numbers.by_state i) (at x) -ℤ pos (2 ^ c.fraction_bits) *ℤ h.numbers.bound i)))
+    closed = row_closed (pos h.rows_scale) (pos (2 ^ c.fraction_bits)) (dot (entries d) (h.numbers.by_plan i) (plan_entry c x l)) (dot d.states (h.numbers.by_state i) (at x)) (h.numbers.bound i)
         (dot (entries d) (entry_of c.plan_rows i) (plan_entry c x l)) (dot d.states (entry_of c.state_rows i) (at x)) (at c.bounds i) (floor_of (row_sum c x (plan_of c x l) i) (2 ^ c.fraction_bits))
         (total (entries d) (λ j. absolute (plan_entry c x l j))) (total d.states (λ j. absolute (at x j))) (pos (entries d * u + d.states * state_bound d))
         (omega (arith, ints, positive)) (omega (arith, ints))
-        (rounded_dot (entries d) ((condensed_of d).by_plan i) (entry_of c.plan_rows i) (plan_entry c x l) (rows_scale d) (pos (2 ^ c.fraction_bits)) p (λ j h. made.rows.plan_rows i j inside h))
-        (rounded_dot d.states ((condensed_of d).by_state i) (entry_of c.state_rows i) (at x) (rows_scale d) (pos (2 ^ c.fraction_bits)) p (λ j h. made.rows.state_rows i j inside h))
-        (rw (made.rows.bounds i inside) (rounded_within (pos (2 ^ c.fraction_bits) *ℤ (condensed_of d).bound i) (rows_scale d) p))
+        (rounded_dot (entries d) (h.numbers.by_plan i) (entry_of c.plan_rows i) (plan_entry c x l) h.rows_scale (pos (2 ^ c.fraction_bits)) form.rows_some (λ j k. made.rows.plan_rows i j inside k))
+        (rounded_dot d.states (h.numbers.by_state i) (entry_of c.state_rows i) (at x) h.rows_scale (pos (2 ^ c.fraction_bits)) form.rows_some (λ j k. made.rows.state_rows i j inside k))
+        (rw (made.rows.bounds i inside) (rounded_within (pos (2 ^ c.fraction_bits) *ℤ h.numbers.bound i) h.rows_scale form.rows_some))
         (rw (← sum_is) (floor_within (row_sum c x (plan_of c x l) i) (2 ^ c.fraction_bits) positive))
         total_is

@@ -6,22 +6,27 @@ use Rattle.integer_algebra.specs.Division.{floor_of}
 use Rattle.dual_method.specs.Dual.{InBox}
 use Rattle.qp_model.specs.Design.{Design, entries, rows}
 use Rattle.qp_model.specs.Parts.{IsDesign, design_of}
+use Rattle.qp_model.specs.Form.{Form, IsFormFor, plan_radii, state_radii}
 use Rattle.qp_model.specs.Box.{IsGridState}
 use Rattle.qp_model.specs.Cost.{cost, cost_scale}
 use Rattle.qp_model.specs.Residual.{residual, residual_scale, IsFeasible}
 use Rattle.qp_model.specs.Condensing.{condensed_of}
 use Rattle.qp_model.specs.Controller.{Numbers}
 use Rattle.qp_model.specs.AbsoluteSums.{IsController}
-use Rattle.qp_model.specs.Machine.{loaded, plan_of, row_sum, after, average_denominator, averaged_plan}
+use Rattle.qp_model.specs.Machine.{exponent_of, raised, loaded, plan_of, row_sum, after, average_denominator, averaged_plan}
 use Rattle.qp_model.specs.Built.{IsDerivedFrom}
-use Rattle.qp_model.specs.Errors.{gradient_error, error_sums_of, plan_bound, residual_error, epsilon}
+use Rattle.qp_model.specs.Errors.{state_bound, error_sums_of, radius_error, residual_error, epsilon, StepErrors, stated_errors, cost_of_errors}
 use Rattle.qp_model.specs.declared.design_parts.DesignParts.{DesignParts}
 use Rattle.step_error.specs.Laws.{slant}
 
 -- ---- the numbers of step k from a grid state
--- the multipliers before it, over 2^(fraction_bits + step_exponent)
+-- the multipliers before it, each over 2^(fraction_bits + its exponent)
 abbrev pub multipliers_at : Numbers → List ℤ → ℕ → List ℤ
 multipliers_at c xi k = (after c (loaded c xi) k).multipliers
+
+-- the same, all over 2^(fraction_bits + step_exponent)
+abbrev pub raised_at : Numbers → List ℤ → ℕ → ℕ → ℤ
+raised_at c xi k = at (raised c (multipliers_at c xi k))
 
 -- its plan, over 2^fraction_bits
 abbrev pub plan_at : Numbers → List ℤ → ℕ → List ℤ
@@ -31,7 +36,7 @@ plan_at c xi k = plan_of c (loaded c xi) (multipliers_at c xi k)
 abbrev pub used_residual : Numbers → List ℤ → ℕ → ℕ → ℤ
 used_residual c xi k i = floor_of (row_sum c (loaded c xi) (plan_at c xi k) i) (2 ^ c.fraction_bits)
 
--- what multipliers are over, and the plan brought over it
+-- what these multipliers are over, and the plan brought over it
 abbrev pub machine_scale : Numbers → ℤ
 machine_scale c = pos (2 ^ (c.fraction_bits + c.step_exponent))
 
@@ -39,64 +44,87 @@ abbrev pub lifted_plan : Numbers → List ℤ → ℕ → ℕ → ℤ
 lifted_plan c xi k j = pos (2 ^ c.step_exponent) *ℤ at (plan_at c xi k) j
 
 -- ---- errors
--- each multiplier lies in 0 .. 2 r, each plan entry is at most the plan bound, each entry of H u + F x + h0 + G'y is at most
--- 2^-fraction_bits times its gradient error, and each residual used is within 2^-(fraction_bits + 1) times the residual error of the plan's
-pub record HasErrors (d : Design) (r : ℕ) (c : Numbers) (xi : List ℤ) (k : ℕ) : Type 0 where
-  pub multipliers : InBox (rows d) (pos (2 * r) *ℤ machine_scale c) (at (multipliers_at c xi k))
-  pub plan : (j : ℕ) → j < entries d → unsigned_abs (at (plan_at c xi k) j) ≤ 2 ^ c.fraction_bits * plan_bound (error_sums_of d r) c.fraction_bits
-  pub gradient : (j : ℕ) → j < entries d →
-      IsWithin (pos (cost_scale d) *ℤ pos (residual_scale d) *ℤ pos (2 ^ c.step_exponent * gradient_error d r j))
-      (slant d (condensed_of d) (machine_scale c) (at xi) (lifted_plan c xi k) (at (multipliers_at c xi k)) j)
-  pub residuals : (i : ℕ) → i < rows d →
-      IsWithin (pos (residual_scale d * residual_error (error_sums_of d r) c.fraction_bits))
-      (pos 2 *ℤ (pos (residual_scale d) *ℤ used_residual c xi k i -ℤ residual d (pos (2 ^ c.fraction_bits)) (at xi) (at (plan_at c xi k)) i))
+-- what the radii move the residual of row i by, over rows_scale, where no plan entry is above `plan`
+abbrev pub row_radius : Design → Form → (plan : ℕ) → ℕ → ℕ
+row_radius d h plan i = plan * plan_radii h i + state_bound d * state_radii h i
 
--- a controller that is made for a design with multipliers up to 2 r, and a grid state of the design's box
-pub record IsRunOf (p : DesignParts) (r : ℕ) (c : Numbers) (xi : List ℤ) : Type 0 where
+-- Each multiplier lies in 0 .. 2 r, and each plan entry is at most e.plan. Each entry of H u + F x + h0 + G'y is at most 2^-fraction_bits e.gradient
+-- and 2^-40 times the radius error. Each residual used is within 2^-(fraction_bits + 1) times the residual error, and what the radii of its row come to,
+-- of the plan's.
+pub record HasErrors (d : Design) (h : Form) (r : ℕ) (c : Numbers) (xi : List ℤ) (k : ℕ) (e : StepErrors) : Type 0 where
+  pub multipliers : InBox (rows d) (pos (2 * r) *ℤ machine_scale c) (raised_at c xi k)
+  pub plan : (j : ℕ) → j < entries d → unsigned_abs (at (plan_at c xi k) j) ≤ 2 ^ c.fraction_bits * e.plan
+  pub gradient : (j : ℕ) → j < entries d →
+      IsWithin (pos (cost_scale d) *ℤ pos (residual_scale d) *ℤ
+      pos (2 ^ 40 * 2 ^ c.step_exponent * e.gradient j + 2 ^ (c.fraction_bits + c.step_exponent) * radius_error (error_sums_of d h r) e.plan))
+      (pos (2 ^ 40) *ℤ slant d (condensed_of d) (machine_scale c) (at xi) (lifted_plan c xi k) (raised_at c xi k) j)
+  pub residuals : (i : ℕ) → i < rows d →
+      IsWithin (pos (residual_scale d * (h.rows_scale * residual_error (error_sums_of d h r) e.plan + 2 * 2 ^ c.fraction_bits * row_radius d h e.plan i)))
+      (pos (2 * h.rows_scale) *ℤ (pos (residual_scale d) *ℤ used_residual c xi k i -ℤ residual d (pos (2 ^ c.fraction_bits)) (at xi) (at (plan_at c xi k)) i))
+
+-- a controller that is made for a design, by a form of it and with multipliers up to 2 r, and a grid state of the design's box
+pub record IsRunOf (p : DesignParts) (h : Form) (r : ℕ) (c : Numbers) (xi : List ℤ) : Type 0 where
   pub design : IsDesign p
   pub bound : 1 ≤ r
+  pub form : IsFormFor (design_of p) h
   pub controller : IsController c
-  pub made : IsDerivedFrom (design_of p) r c
+  pub made : IsDerivedFrom (design_of p) h r c
   pub long : length xi ≡ (design_of p).states
   pub inside : IsGridState (design_of p) (at xi)
 
--- each step has its errors
+-- each step has the stated errors
 abbrev pub CarriedLaw : Type 0
-CarriedLaw = (p : DesignParts) (r : ℕ) (c : Numbers) (xi : List ℤ) → IsRunOf p r c xi → (k : ℕ) → HasErrors (design_of p) r c xi k
+CarriedLaw = (p : DesignParts) (h : Form) (r : ℕ) (c : Numbers) (xi : List ℤ) → IsRunOf p h r c xi → (k : ℕ) →
+    HasErrors (design_of p) h r c xi k (stated_errors (design_of p) h r c.fraction_bits)
 
 -- ---- one step
--- V(u) + w'c(u) ≤ V(t) + 2^(s - 1) (|w - y|^2 - |w - z|^2) + epsilon / 2^40, for the plan u of step k and the multipliers y before it and z
+-- V(u) + w'c(u) ≤ V(t) + sum 2^(s_i - 1) ((w_i - y_i)^2 - (w_i - z_i)^2) + cost / 2^40, for the plan u of step k and the multipliers y before it and z
 -- after it, the multipliers w and the plan t over q; times 2^41 cost_scale residual_scale q^2 scale^2, with the machine's scale
-abbrev pub MachineStepBound : (d : Design) (r : ℕ) (c : Numbers) (xi : List ℤ) (k : ℕ) (q : ℤ) (t w : ℕ → ℤ) → Type 0
-MachineStepBound d r c xi k q t w =
+abbrev pub MachineStepBound : (d : Design) (c : Numbers) (xi : List ℤ) (k : ℕ) (q : ℤ) (t w : ℕ → ℤ) (cost : ℕ) → Type 0
+MachineStepBound d c xi k q t w most =
     (pos (2 ^ 41) *ℤ pos (residual_scale d) *ℤ square q *ℤ cost d (machine_scale c) (at xi) (lifted_plan c xi k) +ℤ
     pos (2 ^ 41) *ℤ pos (cost_scale d) *ℤ machine_scale c *ℤ q *ℤ dot (rows d) w (residual d (machine_scale c) (at xi) (lifted_plan c xi k))) ≤ℤ
     (pos (2 ^ 41) *ℤ pos (residual_scale d) *ℤ square (machine_scale c) *ℤ cost d q (at xi) t +ℤ
-    pos (2 ^ 40 * 2 ^ c.step_exponent) *ℤ pos (cost_scale d) *ℤ pos (residual_scale d) *ℤ
-    (total (rows d) (λ i. square (machine_scale c *ℤ w i -ℤ q *ℤ at (multipliers_at c xi k) i)) -ℤ
-    total (rows d) (λ i. square (machine_scale c *ℤ w i -ℤ q *ℤ at (multipliers_at c xi (suc k)) i))) +ℤ
-    pos 2 *ℤ pos (cost_scale d) *ℤ pos (residual_scale d) *ℤ square q *ℤ square (machine_scale c) *ℤ pos (epsilon (error_sums_of d r) c.fraction_bits))
+    pos (2 ^ 40) *ℤ pos (cost_scale d) *ℤ pos (residual_scale d) *ℤ
+    (total (rows d) (λ i. pos (2 ^ exponent_of c i) *ℤ square (machine_scale c *ℤ w i -ℤ q *ℤ raised_at c xi k i)) -ℤ
+    total (rows d) (λ i. pos (2 ^ exponent_of c i) *ℤ square (machine_scale c *ℤ w i -ℤ q *ℤ raised_at c xi (suc k) i))) +ℤ
+    pos 2 *ℤ pos (cost_scale d) *ℤ pos (residual_scale d) *ℤ square q *ℤ square (machine_scale c) *ℤ pos most)
 
+-- a step whose errors cost at most `most` has its bound, for all multipliers w in the box and all feasible plans t
 abbrev pub MachineStepLaw : Type 0
-MachineStepLaw = (p : DesignParts) (r : ℕ) (c : Numbers) (xi : List ℤ) → IsRunOf p r c xi → (k : ℕ) →
+MachineStepLaw = (p : DesignParts) (h : Form) (r : ℕ) (c : Numbers) (xi : List ℤ) → IsRunOf p h r c xi → (k : ℕ) (e : StepErrors) (most : ℕ) →
+    HasErrors (design_of p) h r c xi k e → cost_of_errors (design_of p) h r c.fraction_bits e ≤ most →
     (q : ℤ) (t w : ℕ → ℤ) → pos 0 <ℤ q → IsFeasible (design_of p) q (at xi) t → InBox (rows (design_of p)) (pos (2 * r) *ℤ q) w →
-    MachineStepBound (design_of p) r c xi k q t w
+    MachineStepBound (design_of p) c xi k q t w most
+
+-- each step has it by the stated errors
+abbrev pub StatedStepLaw : Type 0
+StatedStepLaw = (p : DesignParts) (h : Form) (r : ℕ) (c : Numbers) (xi : List ℤ) → IsRunOf p h r c xi → (k : ℕ) →
+    (q : ℤ) (t w : ℕ → ℤ) → pos 0 <ℤ q → IsFeasible (design_of p) q (at xi) t → InBox (rows (design_of p)) (pos (2 * r) *ℤ q) w →
+    MachineStepBound (design_of p) c xi k q t w (epsilon (error_sums_of (design_of p) h r) c.fraction_bits)
 
 -- ---- a whole run
--- V(avg) + w'c(avg) ≤ V(t) + 2^s |w|^2 / (2 K) + epsilon / 2^40, for the averaged plan, the multipliers w and the plan t over q; times
+-- V(avg) + w'c(avg) ≤ V(t) + sum 2^s_i w_i^2 / (2 K) + cost / 2^40, for the averaged plan, the multipliers w and the plan t over q; times
 -- 2^41 K cost_scale residual_scale q^2 (K 2^fraction_bits)^2
-abbrev pub MachineRunBound : (d : Design) (r : ℕ) (c : Numbers) (xi : List ℤ) (q : ℤ) (t w : ℕ → ℤ) → Type 0
-MachineRunBound d r c xi q t w =
+abbrev pub MachineRunBound : (d : Design) (c : Numbers) (xi : List ℤ) (q : ℤ) (t w : ℕ → ℤ) (cost : ℕ) → Type 0
+MachineRunBound d c xi q t w most =
     (pos (2 ^ 41) *ℤ pos c.steps *ℤ pos (residual_scale d) *ℤ square q *ℤ cost d (pos (average_denominator c)) (at xi) (at (averaged_plan c xi)) +ℤ
     pos (2 ^ 41) *ℤ pos c.steps *ℤ pos (cost_scale d) *ℤ pos (average_denominator c) *ℤ q *ℤ
     dot (rows d) w (residual d (pos (average_denominator c)) (at xi) (at (averaged_plan c xi)))) ≤ℤ
     (pos (2 ^ 41) *ℤ pos c.steps *ℤ pos (residual_scale d) *ℤ square (pos (average_denominator c)) *ℤ cost d q (at xi) t +ℤ
-    pos (2 ^ 40 * 2 ^ c.step_exponent) *ℤ pos (cost_scale d) *ℤ pos (residual_scale d) *ℤ square (pos (average_denominator c)) *ℤ
-    total (rows d) (λ i. square (w i)) +ℤ
-    pos 2 *ℤ pos c.steps *ℤ pos (cost_scale d) *ℤ pos (residual_scale d) *ℤ square q *ℤ square (pos (average_denominator c)) *ℤ
-    pos (epsilon (error_sums_of d r) c.fraction_bits))
+    pos (2 ^ 40) *ℤ pos (cost_scale d) *ℤ pos (residual_scale d) *ℤ square (pos (average_denominator c)) *ℤ
+    total (rows d) (λ i. pos (2 ^ exponent_of c i) *ℤ square (w i)) +ℤ
+    pos 2 *ℤ pos c.steps *ℤ pos (cost_scale d) *ℤ pos (residual_scale d) *ℤ square q *ℤ square (pos (average_denominator c)) *ℤ pos most)
 
+-- a run, the errors of each step of which cost at most `most`, has its bound
 abbrev pub MachineRunLaw : Type 0
-MachineRunLaw = (p : DesignParts) (r : ℕ) (c : Numbers) (xi : List ℤ) → IsRunOf p r c xi →
+MachineRunLaw = (p : DesignParts) (h : Form) (r : ℕ) (c : Numbers) (xi : List ℤ) → IsRunOf p h r c xi → (e : StepErrors) (most : ℕ) →
+    ((k : ℕ) → k < c.steps → HasErrors (design_of p) h r c xi k e) → cost_of_errors (design_of p) h r c.fraction_bits e ≤ most →
     (q : ℤ) (t w : ℕ → ℤ) → pos 0 <ℤ q → IsFeasible (design_of p) q (at xi) t → InBox (rows (design_of p)) (pos (2 * r) *ℤ q) w →
-    MachineRunBound (design_of p) r c xi q t w
+    MachineRunBound (design_of p) c xi q t w most
+
+-- each run has it by the stated errors
+abbrev pub StatedRunLaw : Type 0
+StatedRunLaw = (p : DesignParts) (h : Form) (r : ℕ) (c : Numbers) (xi : List ℤ) → IsRunOf p h r c xi →
+    (q : ℤ) (t w : ℕ → ℤ) → pos 0 <ℤ q → IsFeasible (design_of p) q (at xi) t → InBox (rows (design_of p)) (pos (2 * r) *ℤ q) w →
+    MachineRunBound (design_of p) c xi q t w (epsilon (error_sums_of (design_of p) h r) c.fraction_bits)

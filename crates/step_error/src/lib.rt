@@ -3,7 +3,7 @@
 
 ghost use Rattle.step_error.specs.Laws.{DesignStepLaw, DesignRunLaw};
 ghost use Rattle.step_error.specs.Carried.{GradientLaw, PlanEntryLaw, EpsilonLaw, FallingLaw};
-ghost use Rattle.step_error.specs.MachineLaws.{CarriedLaw, MachineStepLaw, MachineRunLaw};
+ghost use Rattle.step_error.specs.MachineLaws.{CarriedLaw, MachineStepLaw, StatedStepLaw, MachineRunLaw, StatedRunLaw};
 
 mod errors;
 mod sums;
@@ -31,7 +31,7 @@ pub fn entry_law()
     ensures { PlanEntryLaw }
 {}
 
-/// The two sums of the errors of a step are together at most epsilon.
+/// What the errors of a step cost is at most the four sums of theirs.
 pub fn epsilon_law()
     ensures { EpsilonLaw }
 {}
@@ -41,20 +41,31 @@ pub fn falling_law()
     ensures { FallingLaw }
 {}
 
-/// Each step of the machine of a controller that is made for a design has its multipliers in 0 .. 2 r, its plan within the plan bound, and
-/// its gradient and residuals within their errors.
+/// Each step of the machine of a controller that is made for a design, by a form of it, has its multipliers in 0 .. 2 r, its plan within the plan
+/// bound, and its gradient and residuals within their errors.
 pub fn carried_law()
     ensures { CarriedLaw }
 {}
 
-/// One step of such a machine bounds the Lagrangian of its design at the step's plan, against every feasible plan and all multipliers in 0 .. 2 r.
+/// One step of such a machine, whatever bounds its errors, bounds the Lagrangian of its design at the step's plan, against every feasible plan and all
+/// multipliers in 0 .. 2 r.
 pub fn machine_step_law()
     ensures { MachineStepLaw }
+{}
+
+/// Each step of it has that bound by the stated errors.
+pub fn stated_step_law()
+    ensures { StatedStepLaw }
 {}
 
 /// A whole run of it bounds the Lagrangian at the averaged plan.
 pub fn machine_run_law()
     ensures { MachineRunLaw }
+{}
+
+/// A whole run has that bound by the stated errors.
+pub fn stated_run_law()
+    ensures { StatedRunLaw }
 {}
 
 #[cfg(test)]

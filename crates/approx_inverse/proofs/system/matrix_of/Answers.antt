@@ -4,19 +4,19 @@ use Rattle.std.proofs.lemmas.Int.{to_z-of_z}
 use Rattle.std.proofs.lemmas.List.{length_push}
 use Rattle.integer_algebra.specs.Sizes.{size}
 use Rattle.mat_int.specs.Matrix.{Matrix}
-use Rattle.plant_condense.specs.Form.{solve_matrix}
+use Rattle.qp_model.specs.Columns.{solve_matrix}
+use Rattle.plant_condense.specs.Form.{held}
 use Rattle.qp_model.proofs.SizeFacts.{greatest_term}
-use Rattle.approx_inverse.specs.Condensed.{entries_of}
 use Rattle.approx_inverse.proofs.SystemLaws.{matrix_more}
 use Rattle.approx_inverse.proofs.system.matrix_of.Goals as goal
 
 pub returns-then-not-scale-clause-err : goal.returns-then-not-scale-clause-err
 returns-then-not-scale-clause-err c =
     let fits : FitsSigned w128 c.args.c.now.limit_den = search rules in
-    let n = entries_of c.args.c.now in
+    let n = (held c.args.c.now).entries in
     let w = (rw (c.copy_from_slice.ensures.after, c.row.ensures.len, c.requires.solvable.shapes.hess.cols, c.row.ensures.value, to_z-of_z w128 _ fits)
     at c.if-not-scale.ensures.wide) refl in
-    (refl, omega (arith, w, greatest_term c.loop-i.i n (λ i. size n (solve_matrix c.args.c.now i)) (omega arith)))
+    (refl, omega (arith, w, greatest_term c.loop-i.i n (λ i. size n (solve_matrix (held c.args.c.now) i)) (omega arith)))
 
 pub loop-i-preserved : goal.loop-i-preserved
 loop-i-preserved c =
@@ -29,5 +29,5 @@ loop-i-preserved c =
     record {
       rows = ap (λ (x : Matrix). length x.rows) e ∙ length_push old.rows c.scale.new.xs ∙ ap (λ n. n + 1) inv.rows;
       cols = ap (λ (x : Matrix). x.cols) e ∙ inv.cols;
-      entry = matrix_more c.args.c.now old c.push_row.new.self c.scale.new.xs c.loop-i.i e inv.rows inv.entry (made refl);
+      entry = matrix_more (held c.args.c.now) old c.push_row.new.self c.scale.new.xs c.loop-i.i e inv.rows inv.entry (made refl);
     }

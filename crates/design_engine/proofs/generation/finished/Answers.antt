@@ -50,7 +50,7 @@ returns-clause-built c plans policy passes =
     built_from c.args.design.now plans c.in_ok-controller.controller c.bounds_of-bounds.result c.args.scaled.now.margin _ _ _ _
     c.requires.form.design policy passes c.requires.curved (whole_is c.args.scaled.now.r _ r c.requires.multiplier) c.requires.steps c.bounds_of-bounds.ensures.margin
     (search rules) made
-    (c.bounds_of-bounds.ensures.bounds (design_of c.args.design.now) c.requires.cost made.step_exponent made.steps made.fraction_bits)
+    (rw (← made.fraction_bits) at (c.bounds_of-bounds.ensures.bounds _ c.requires.cost made.step_exponent made.steps made.fraction_bits))
 
 pub returns-clause-passes : goal.returns-clause-passes
 returns-clause-passes c plans passes =

@@ -1,4 +1,4 @@
-use Rattle.std.proofs.Common.{◌≡◌, ◌^◌, ◌↔◌, pos, length, rules, FitsSigned, IsTrue}
+use Rattle.std.proofs.Common.{◌^◌, ◌↔◌, pos, length, rules, FitsSigned, IsTrue}
 use Rattle.std.specs.Int.{w128}
 use Rattle.std.proofs.lemmas.Int.{to_z-of_z}
 use Rattle.mat_int.specs.Matrix.{entry_of}

@@ -1,4 +1,4 @@
-use Rattle.std.proofs.Common.{length, arith, rules, IsTrue, true, false, refl, below_more}
+use Rattle.std.proofs.Common.{length, arith, rules, IsTrue, refl, below_more}
 use Rattle.hessian_check.specs.Curvature.{HasPassingRoot}
 use Rattle.hessian_check.specs.MatrixRoom.{matrix_at}
 use Rattle.hessian_check.proofs.MatrixLaws.{gap_turned}

@@ -1,4 +1,4 @@
-use Rattle.hessian_check.proofs.CurvatureLaws as laws
+use Rattle.hessian_check.proofs.ChosenLaws as laws
 use Rattle.hessian_check.proofs.laws.root_matrix_law.Goals as goal
 
 pub returns : goal.returns

@@ -1,27 +1,52 @@
-use Rattle.std.proofs.Common.{◌≡◌, ◌↔◌, ◌≤◌, ◌^◌, rules, true, false, IsTrue, refl}
+use Rattle.std.proofs.Common.{◌≤◌, ◌^◌, inr, arith, rules, true, IsTrue, refl}
 use Rattle.std.specs.Prelude.{unwrap_or}
 use Rattle.std.proofs.lemmas.Result.{err_from_is_err_and}
 use Rattle.qp_model.specs.Parts.{design_of}
 use Rattle.hessian_check.specs.DesignMatrices.{curvature_at}
 use Rattle.hessian_check.proofs.ExponentLaws.{step_law}
 use Rattle.hessian_check.proofs.RowLaws.{not_true}
-use Rattle.hessian_check.proofs.StepAnswers.{Chosen, exponents_of, few, found_of, memory_not_wide, narrow_of, no_step_of, not_wide, order_of, plain_of, room_of, some_of, step_of, wide_of}
+use Rattle.hessian_check.proofs.StepAnswers.{Chosen, accepted_of, every_of, exponents_of, few, memory_is, memory_refused, narrow_of, order_of, plain_of, refused_of, room_of, some_of, step_of, wide_every, wide_of, wide_refused}
 use Rattle.hessian_check.proofs.of_design.curvature.Goals as goal
 
-pub returns-then-not-is_limited-clause-wide : goal.returns-then-not-is_limited-clause-wide
-returns-then-not-is_limited-clause-wide c = λ p f.
-    let d = design_of p in
+pub returns-then-not-is_limited-clause-refused : goal.returns-then-not-is_limited-clause-refused
+returns-then-not-is_limited-clause-refused c = λ p f.
     let o = c.squares_of-squares.result in
-    (λ e. wide_of d o c.unwrap_or.result c.unwrap_or.ensures (c.squares_of-squares.ensures p f) (λ h. not_true (((c.if-not-is_limited.ensures p f).1) h)), λ l. refl)
+    let w = wide_of (design_of p) o c.unwrap_or.result c.unwrap_or.ensures (c.squares_of-squares.ensures p f) (λ h. not_true (((c.if-not-is_limited.ensures p f).1) h)) in
+    wide_refused (design_of p) w _ refl
+
+pub returns-then-not-is_limited-clause-every_refusal : goal.returns-then-not-is_limited-clause-every_refusal
+returns-then-not-is_limited-clause-every_refusal c = λ p f.
+    let o = c.squares_of-squares.result in
+    let w = wide_of (design_of p) o c.unwrap_or.result c.unwrap_or.ensures (c.squares_of-squares.ensures p f) (λ h. not_true (((c.if-not-is_limited.ensures p f).1) h)) in
+    wide_every (design_of p) w _ refl
+
+pub returns-then-not-is_limited-clause-accepted : goal.returns-then-not-is_limited-clause-accepted
+returns-then-not-is_limited-clause-accepted c = λ p f s1 l k m.
+    let o = c.squares_of-squares.result in
+    let w = wide_of (design_of p) o c.unwrap_or.result c.unwrap_or.ensures (c.squares_of-squares.ensures p f) (λ h. not_true (((c.if-not-is_limited.ensures p f).1) h)) in
+    absurd (omega (arith, w, l))
+
+pub returns-in_err-matrices-clause-refused : goal.returns-in_err-matrices-clause-refused
+returns-in_err-matrices-clause-refused c = λ p f.
+    let y = err_from_is_err_and c.from_residual.result c.from_residual.ensures.1 in
+    memory_refused (design_of p) c.from_residual.result (memory_is c.from_residual.result y.0 y.1 y.2)
+
+pub returns-in_err-matrices-clause-every_refusal : goal.returns-in_err-matrices-clause-every_refusal
+returns-in_err-matrices-clause-every_refusal c = λ p f e k.
+    let y = err_from_is_err_and c.from_residual.result c.from_residual.ensures.1 in
+    inr (memory_is c.from_residual.result y.0 y.1 y.2)
+
+pub returns-in_err-matrices-clause-accepted : goal.returns-in_err-matrices-clause-accepted
+returns-in_err-matrices-clause-accepted c = λ p f s1 l k m.
+    let y = err_from_is_err_and c.from_residual.result c.from_residual.ensures.1 in
+    inr (memory_is c.from_residual.result y.0 y.1 y.2)
 
 pub returns-in_err-matrices-clause-wide : goal.returns-in_err-matrices-clause-wide
-returns-in_err-matrices-clause-wide c = λ p f.
-    let d = design_of p in
+returns-in_err-matrices-clause-wide c = λ p f w.
     let o = c.squares_of-squares.result in
     let t : IsTrue true = search rules in
-    let k = (c.if-not-is_limited.ensures p f).0 t in
-    let y = err_from_is_err_and c.from_residual.result c.from_residual.ensures.1 in
-    (λ e. absurd (memory_not_wide c.from_residual.result y.0 y.1 y.2 _ e), λ l. absurd (narrow_of d o c.unwrap_or.result c.unwrap_or.ensures (c.squares_of-squares.ensures p f) k l))
+    let l = narrow_of (design_of p) o c.unwrap_or.result c.unwrap_or.ensures (c.squares_of-squares.ensures p f) ((c.if-not-is_limited.ensures p f).0 t) in
+    absurd (omega (arith, w, l))
 
 pub exponents_of-requires-clause-small : goal.exponents_of-requires-clause-small
 exponents_of-requires-clause-small c = few (design_of c.requires.parts) c.squares_of-squares.result (c.squares_of-squares.ensures c.requires.parts c.requires.form)
@@ -70,26 +95,37 @@ returns-clause-order c =
     let h : Chosen d g o = record { matrices = c.in_ok-matrices.ensures p f; squares = c.squares_of-squares.ensures p f; some = some_of p c.args.c.now f } in
     order_of d g o c.exponents_of.result h c.exponents_of.ensures
 
-pub returns-clause-wide : goal.returns-clause-wide
-returns-clause-wide c = λ p f.
+pub returns-clause-refused : goal.returns-clause-refused
+returns-clause-refused c = λ p f.
     let d = design_of p in
+    let o = c.squares_of-squares.result in
+    let g = c.in_ok-matrices.matrices in
+    let t : IsTrue true = search rules in
+    let l = narrow_of d o c.unwrap_or.result c.unwrap_or.ensures (c.squares_of-squares.ensures p f) ((c.if-not-is_limited.ensures p f).0 t) in
+    let h : Chosen d g o = record { matrices = c.in_ok-matrices.ensures p f; squares = c.squares_of-squares.ensures p f; some = some_of p c.args.c.now f } in
+    refused_of d g o c.exponents_of.result h l c.exponents_of.ensures
+
+pub returns-clause-every_refusal : goal.returns-clause-every_refusal
+returns-clause-every_refusal c = λ p f.
+    let d = design_of p in
+    let o = c.squares_of-squares.result in
+    let g = c.in_ok-matrices.matrices in
+    let t : IsTrue true = search rules in
+    let l = narrow_of d o c.unwrap_or.result c.unwrap_or.ensures (c.squares_of-squares.ensures p f) ((c.if-not-is_limited.ensures p f).0 t) in
+    let h : Chosen d g o = record { matrices = c.in_ok-matrices.ensures p f; squares = c.squares_of-squares.ensures p f; some = some_of p c.args.c.now f } in
+    every_of d g o c.exponents_of.result h l c.exponents_of.ensures
+
+pub returns-clause-accepted : goal.returns-clause-accepted
+returns-clause-accepted c = λ p f s1 l.
+    let d = design_of p in
+    let o = c.squares_of-squares.result in
+    let g = c.in_ok-matrices.matrices in
+    let h : Chosen d g o = record { matrices = c.in_ok-matrices.ensures p f; squares = c.squares_of-squares.ensures p f; some = some_of p c.args.c.now f } in
+    accepted_of d g o c.exponents_of.result h c.exponents_of.ensures s1
+
+pub returns-clause-wide : goal.returns-clause-wide
+returns-clause-wide c = λ p f w.
     let o = c.squares_of-squares.result in
     let t : IsTrue true = search rules in
-    let k = (c.if-not-is_limited.ensures p f).0 t in
-    (λ e. absurd (not_wide c.in_ok-matrices.matrices o c.exponents_of.result c.exponents_of.ensures _ e), λ l. absurd (narrow_of d o c.unwrap_or.result c.unwrap_or.ensures (c.squares_of-squares.ensures p f) k l))
-
-pub returns-clause-no_step : goal.returns-clause-no_step
-returns-clause-no_step c = λ p f.
-    let d = design_of p in
-    let o = c.squares_of-squares.result in
-    let g = c.in_ok-matrices.matrices in
-    let h : Chosen d g o = record { matrices = c.in_ok-matrices.ensures p f; squares = c.squares_of-squares.ensures p f; some = some_of p c.args.c.now f } in
-    λ e. no_step_of d g o c.exponents_of.result h c.exponents_of.ensures e
-
-pub returns-clause-step : goal.returns-clause-step
-returns-clause-step c = λ p f.
-    let d = design_of p in
-    let o = c.squares_of-squares.result in
-    let g = c.in_ok-matrices.matrices in
-    let h : Chosen d g o = record { matrices = c.in_ok-matrices.ensures p f; squares = c.squares_of-squares.ensures p f; some = some_of p c.args.c.now f } in
-    found_of d g o c.exponents_of.result h c.exponents_of.ensures
+    let l = narrow_of (design_of p) o c.unwrap_or.result c.unwrap_or.ensures (c.squares_of-squares.ensures p f) ((c.if-not-is_limited.ensures p f).0 t) in
+    absurd (omega (arith, w, l))

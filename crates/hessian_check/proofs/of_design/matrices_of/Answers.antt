@@ -1,5 +1,4 @@
-use Rattle.std.proofs.Common.{◌≡◌, ◌*◌, pos, arith, to_z}
-use Rattle.std.specs.Int.{w128}
+use Rattle.std.proofs.Common.{◌*◌, pos, arith}
 use Rattle.std.proofs.lemmas.Int.{ints}
 use Rattle.qp_model.specs.Parts.{design_of}
 use Rattle.hessian_check.proofs.DesignMatrixLaws.{cost_factor_is, factors_fit, gaps_are, gaps_sound, moved_sound, products_fit, row_factor_is}

@@ -4,7 +4,8 @@ use mir.Val.{SFits}
 use Rattle.std.proofs.lemmas.Int.{to_z-of_z}
 use Rattle.std.proofs.lemmas.Nat.{pow_pos}
 use Rattle.std.proofs.lemmas.Result.{err_from_is_err_and}
-use Rattle.qp_model.specs.Margin.{IsMarginOf}
+use Rattle.qp_model.specs.Margin.{shown, IsMarginOf}
+use Rattle.qp_model.specs.Design.{rows}
 use Rattle.qp_model.specs.Parts.{design_of}
 use Rattle.qp_model.specs.Policy.{plans_of, IsPolicyFor}
 use Rattle.slater_margin.specs.Corners.{IsFirstWideCorner, IsFirstShort}
@@ -60,7 +61,7 @@ returns-in_err-next-clause-short c = λ corner row slack e.
     let back : c.corner_margin-in-loop-c.result ≡ Err (NoMargin corner row slack) = same_error y.1 e c.in_err-next.was y.2 in
     let short = c.corner_margin-in-loop-c.ensures.short corner row slack back in
     let below : c.loop-c.c < 2 ^ c.parts-parts.result.now.states = omega (arith, c.loop-c-test.true, c.rows-c-end.ensures.count, f.rows) in
-    let known : IsMarginOf (design_of p) s c.loop-c.c c.loop-c.margin = rw c.parts-parts.ensures.value c.loop-c.invariant.1.0 in
+    let known : IsMarginOf (shown (design_of p) s) (rows (design_of p)) c.loop-c.c c.loop-c.margin = rw c.parts-parts.ensures.value c.loop-c.invariant.1.0 in
     rw (← c.parts-parts.ensures.value) (
       c.in_ok-test_room.ensures.room,
       first_short (design_of p) s (c.loop-c.c + 1) row corner slack short.0 (omega arith) (omega (arith, below))
@@ -73,7 +74,7 @@ loop-c-preserved c =
     let s = plans_of c.args.policy.now in
     let f : IsPolicyFor (design_of p) s = rw c.parts-parts.ensures.value c.requires in
     let below : c.loop-c.c < 2 ^ c.parts-parts.result.now.states = omega (arith, c.loop-c-test.true, c.rows-c-end.ensures.count, f.rows) in
-    let known : IsMarginOf (design_of p) s c.loop-c.c c.loop-c.margin = rw c.parts-parts.ensures.value c.loop-c.invariant.1.0 in
+    let known : IsMarginOf (shown (design_of p) s) (rows (design_of p)) c.loop-c.c c.loop-c.margin = rw c.parts-parts.ensures.value c.loop-c.invariant.1.0 in
     let k : IsCornerMargin (design_of p) s (c.loop-c.c + 1) c.in_ok-next.next = c.in_ok-next.ensures.margin in
     let fm : SFits w128 c.min.result = search rules in
     let fx : SFits w128 c.max.result = search rules in
@@ -91,9 +92,13 @@ loop-c-preserved c =
 
 pub returns-clause-margin : goal.returns-clause-margin
 returns-clause-margin c =
-    let some : 1 ≤ 2 ^ c.args.design.now.states = pow_pos c.args.design.now.states in
-    let all : c.loop-c.c ≡ 2 ^ c.args.design.now.states = omega (arith, c.loop-c-test.false, c.rows-c-end.ensures.count, c.requires.rows, some) in
-    subst (λ (n : ℕ). IsMarginOf (design_of c.args.design.now) (plans_of c.args.policy.now) n c.loop-c.margin) all c.loop-c.invariant.1.0
+    let p = c.parts-parts.result.now in
+    let s = plans_of c.args.policy.now in
+    let f : IsPolicyFor (design_of p) s = rw c.parts-parts.ensures.value c.requires in
+    let some : 1 ≤ 2 ^ c.parts-parts.result.now.states = pow_pos c.parts-parts.result.now.states in
+    let all : c.loop-c.c ≡ 2 ^ c.parts-parts.result.now.states = omega (arith, c.loop-c-test.false, c.loop-c.auto.c-end (omega (arith, c.rows-c-end.ensures.count, f.rows, some)), c.rows-c-end.ensures.count, f.rows) in
+    let known : IsMarginOf (shown (design_of p) s) (rows (design_of p)) c.loop-c.c c.loop-c.margin = rw c.parts-parts.ensures.value c.loop-c.invariant.1.0 in
+    rw (← c.parts-parts.ensures.value) (subst (λ (n : ℕ). IsMarginOf (shown (design_of p) s) (rows (design_of p)) n c.loop-c.margin) all known)
 
 pub returns-clause-wide : goal.returns-clause-wide
 returns-clause-wide c = λ q. (
@@ -108,7 +113,7 @@ returns-clause-no_give_up c = λ corner row slack w.
     let s = plans_of c.args.policy.now in
     let f : IsPolicyFor (design_of p) s = rw c.parts-parts.ensures.value c.requires in
     let some : 1 ≤ 2 ^ c.parts-parts.result.now.states = pow_pos c.parts-parts.result.now.states in
-    let all : c.loop-c.c ≡ 2 ^ c.parts-parts.result.now.states = omega (arith, c.loop-c-test.false, c.rows-c-end.ensures.count, f.rows, some) in
-    let known : IsMarginOf (design_of p) s c.loop-c.c c.loop-c.margin = rw c.parts-parts.ensures.value c.loop-c.invariant.1.0 in
+    let all : c.loop-c.c ≡ 2 ^ c.parts-parts.result.now.states = omega (arith, c.loop-c-test.false, c.loop-c.auto.c-end (omega (arith, c.rows-c-end.ensures.count, f.rows, some)), c.rows-c-end.ensures.count, f.rows) in
+    let known : IsMarginOf (shown (design_of p) s) (rows (design_of p)) c.loop-c.c c.loop-c.margin = rw c.parts-parts.ensures.value c.loop-c.invariant.1.0 in
     let short : IsFirstShort (design_of p) s corner row slack = rw c.parts-parts.ensures.value w in
-    absurd (not_short p s c.loop-c.margin corner row slack c.parts-parts.ensures.sound f (subst (λ (n : ℕ). IsMarginOf (design_of p) s n c.loop-c.margin) all known) c.loop-c.invariant.1.1.0 short)
+    absurd (not_short p s c.loop-c.margin corner row slack c.parts-parts.ensures.sound f (subst (λ (n : ℕ). IsMarginOf (shown (design_of p) s) (rows (design_of p)) n c.loop-c.margin) all known) c.loop-c.invariant.1.1.0 short)

@@ -1,10 +1,8 @@
-use Rattle.std.proofs.Common.{◌≡◌, ℕ, ◌<◌, ◌^◌, ◌*◌, ◌*ℤ◌, pos, length, arith, ap, rules, unsigned_abs, FitsSigned, ◌∙◌, sym, refl}
-use Rattle.std.specs.Prelude.{IfOk}
+use Rattle.std.proofs.Common.{◌≡◌, ◌^◌, ◌*ℤ◌, pos, length, ap, rules, unsigned_abs, FitsSigned, ◌∙◌}
 use Rattle.std.specs.Int.{w128}
-use Rattle.std.proofs.lemmas.Int.{ints, to_z-of_z, unsigned_abs-mul}
+use Rattle.std.proofs.lemmas.Int.{to_z-of_z, unsigned_abs-mul}
 use Rattle.mat_int.specs.Matrix.{entry_of}
-use Rattle.hessian_check.specs.StepMatrices.{mixed}
-use Rattle.hessian_check.proofs.MatrixLaws.{scaled_fits, factor_fits, entry_room, turned_factor, entries_as}
+use Rattle.hessian_check.proofs.MatrixLaws.{scaled_fits, factor_fits, entry_room, entries_as}
 use Rattle.hessian_check.proofs.matrices.StepMatrices.at.Goals as goal
 
 pub scaled-requires-clause-fits : goal.scaled-requires-clause-fits
