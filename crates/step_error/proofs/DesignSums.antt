@@ -5,14 +5,15 @@ use Rattle.std.proofs.Math.Nat.{mul-le-mul, mul-le-mul_left, mul-le-mul_right, o
 use Rattle.integer_algebra.specs.Sums.{at}
 use Rattle.integer_algebra.specs.Sizes.{size, amount}
 use Rattle.integer_algebra.specs.Division.{ceil_div}
-use Rattle.integer_algebra.proofs.PowerLaws.{pow_positive, pow-two}
-use Rattle.integer_algebra.proofs.SizeLaws.{amount_same, size_same}
+use Rattle.integer_algebra.proofs.PowerLaws.{pow-two, pow_positive}
+use Rattle.integer_algebra.proofs.SizeLaws.{amount_same, amount_term, size_same}
+use Rattle.integer_algebra.proofs.AmountLaws.{amount_mono}
 use Rattle.mat_int.specs.Matrix.{entry_of}
 use Rattle.qp_model.specs.declared.design_parts.DesignParts.{DesignParts}
 use Rattle.qp_model.specs.Design.{Design, entries, rows}
 use Rattle.qp_model.specs.Parts.{IsDesign, design_of}
 use Rattle.qp_model.specs.Condensing.{condensed_of}
-use Rattle.qp_model.specs.Quantities.{greatest, input_floor, cost_entry_size, limit_entry_size}
+use Rattle.qp_model.specs.Quantities.{greatest, input_floor}
 use Rattle.qp_model.specs.Form.{Form, form_of, farthest, hessian_scale, rows_scale}
 use Rattle.qp_model.specs.Errors as errors
 use Rattle.qp_model.specs.Errors.{pull, combined_bound, trace_sum, gradient_squares, gradient_error, error_sums_of, error_size, state_bound, linear_sum, constant_sum, plan_row_sum}
@@ -26,12 +27,6 @@ use Rattle.step_error.specs.ErrorSums.{entry_squares, sums_by, size_by, spread_o
 use Rattle.step_error.proofs.SumFacts.{few, floor_range, through, doubled}
 use Rattle.qp_model.proofs.SoundLaws.{least-le, least-met, weight_at}
 
--- ---- sums of numbers that are each within a bound
-amount_within : (n : ℕ) (f : ℕ → ℕ) (b : ℕ) → ((i : ℕ) → i < n → f i ≤ b) → amount n f ≤ n * b
-amount_within zero f b h = omega arith
-amount_within (suc n) f b h = omega (arith, amount_within n f b (λ i l. h i (omega arith)), h n (omega arith))
-
--- a part of the quantity `hessian`
 plus_none : (n : ℕ) → n ≡ n + 0
 plus_none n = omega arith
 
@@ -47,77 +42,58 @@ greatest_none : (n : ℕ) (f : ℕ → ℕ) → ((i : ℕ) → i < n → f i ≡
 greatest_none zero f h = refl
 greatest_none (suc n) f h = omega (arith, greatest_none n f (λ i l. h i (omega arith)), h n (omega arith))
 
-in_hessian : (e n k c : ℕ) → k ≤ e + n + 1 → e * (e + n + 1) * c ≤ 2 ^ 126 → e * (k * c) ≤ 2 ^ 126
-in_hessian e n k c h o = turned (mul-le-mul_left e (mul-le-mul_right c h)) o
+-- ---- parts of the sums of all numbers
+-- the diagonal is a part of the rows
+diagonal_within : (n : ℕ) (f : ℕ → ℕ → ℤ) → size n (λ j. f j j) ≤ amount n (λ i. size n (f i))
+diagonal_within n f = amount_mono n _ _ (λ j l. amount_term j n (λ k. unsigned_abs (f j k)) l)
+
+-- a number is at most its square
+below_square : (n : ℕ) → n ≤ n ^ 2
+below_square zero = omega arith
+below_square (suc n) = rw (pow-two (suc n)) (close (mul-le-mul_left (suc n) (one n)))
   where
-    turned : e * (k * c) ≤ e * ((e + n + 1) * c) → e * (e + n + 1) * c ≤ 2 ^ 126 → e * (k * c) ≤ 2 ^ 126
-    turned a b = omega (arith, a, b)
+    one : (n : ℕ) → 1 ≤ suc n
+    one n = omega arith
 
--- a part of the quantity `rows`
-in_rows : (e n m c : ℕ) → (e + n + 1) * m * c ^ 2 ≤ 2 ^ 126 → m * (e * c) ≤ 2 ^ 126
-in_rows e n m zero h = omega arith
-in_rows e n m (suc c) h = closed (mul-le-mul_left (m * e * suc c) (one c)) (rw (pow-two (suc c)) at h)
-  where
-    one : (c : ℕ) → 1 ≤ suc c
-    one c = omega arith
+    close : suc n * 1 ≤ suc n * suc n → suc n ≤ suc n * suc n
+    close h = omega (arith, h)
 
-    closed : m * e * suc c * 1 ≤ m * e * suc c * suc c → (e + n + 1) * m * (suc c * suc c) ≤ 2 ^ 126 → m * (e * suc c) ≤ 2 ^ 126
-    closed a b = omega (arith, a, b)
-
-no_fewer : (e n : ℕ) → n ≤ e + n + 1
-no_fewer e n = omega arith
-
-some_more : (e n : ℕ) → 1 ≤ e + n + 1
-some_more e n = omega arith
-
-all_more : (e n : ℕ) → e ≤ e + n + 1
-all_more e n = omega arith
+rows_within : (m n : ℕ) (f : ℕ → ℕ → ℤ) → amount m (λ i. size n (f i)) ≤ amount m (λ i. amount n (λ j. unsigned_abs (f i j) ^ 2))
+rows_within m n f = amount_mono m _ _ (λ i l. amount_mono n _ _ (λ j o. below_square (unsigned_abs (f i j))))
 
 module _ (p : DesignParts) (c : Condensed) (is : IsFormOf p c) where
   -- ---- the cost's numbers
+  parts : (amount (entries (design_of p)) (λ i. size (entries (design_of p)) (entry_of c.hess i)) ≤ 2 ^ 126) ×
+      (amount (entries (design_of p)) (λ j. size p.states (entry_of c.lin j)) ≤ 2 ^ 126) × (size (entries (design_of p)) (at c.off.items) ≤ 2 ^ 126)
+  parts = apart _ _ _ (rw (is.shapes.hess.rows, is.shapes.lin.cols) at is.sizes.cost) is.sizes.cost_room
+    where
+      apart : (a b c : ℕ) {s : ℕ} → a + b + c ≤ s → s ≤ 2 ^ 126 → (a ≤ 2 ^ 126) × (b ≤ 2 ^ 126) × (c ≤ 2 ^ 126)
+      apart a b c {s} h k = (omega (arith, h, k), omega (arith, h, k), omega (arith, h, k))
+
   pub linear_is : amount (length c.lin.rows) (λ i. size c.lin.cols (entry_of c.lin i)) ≡
       amount (entries (design_of p)) (λ j. amount p.states (λ i. farthest ((condensed_of (design_of p)).linear j i) 0))
   linear_is = rw (is.shapes.lin.rows, is.shapes.lin.cols) (amount_same (entries (design_of p)) _ _ (λ j l. size_same p.states _ _ (λ i m. is.numbers.linear j i l m) ∙
       exact_size p.states ((condensed_of (design_of p)).linear j)))
 
   pub linear_small : amount (length c.lin.rows) (λ i. size c.lin.cols (entry_of c.lin i)) ≤ 2 ^ 126
-  linear_small = rw (is.shapes.lin.rows, is.shapes.lin.cols) (through
-      (amount_within (entries (design_of p)) (λ i. size p.states (entry_of c.lin i)) (p.states * cost_entry_size (design_of p))
-      (λ j l. amount_within p.states (λ i. unsigned_abs (entry_of c.lin j i)) (cost_entry_size (design_of p)) (λ i m. is.sizes.lin j i l m)))
-      (in_hessian (entries (design_of p)) p.states p.states (cost_entry_size (design_of p)) (no_fewer (entries (design_of p)) p.states) is.sizes.cost_room))
+  linear_small = rw (is.shapes.lin.rows, is.shapes.lin.cols) parts.1
 
   pub constant_is : size (length c.off.items) (at c.off.items) ≡ amount (entries (design_of p)) (λ j. farthest ((condensed_of (design_of p)).constant j) 0)
   constant_is = rw is.shapes.off (size_same (entries (design_of p)) _ _ (λ j l. is.numbers.constant j l) ∙ exact_size (entries (design_of p)) (condensed_of (design_of p)).constant)
 
   pub constant_small : size (length c.off.items) (at c.off.items) ≤ 2 ^ 126
-  constant_small = rw is.shapes.off (through
-      (amount_within (entries (design_of p)) (λ j. unsigned_abs (at c.off.items j)) (1 * cost_entry_size (design_of p)) (λ j l. single (is.sizes.off j l)))
-      (in_hessian (entries (design_of p)) p.states 1 (cost_entry_size (design_of p)) (some_more (entries (design_of p)) p.states) is.sizes.cost_room))
-    where
-      single : {a b : ℕ} → a ≤ b → a ≤ 1 * b
-      single {a} {b} h = omega (arith, h)
+  constant_small = rw is.shapes.off parts.2
 
   pub diagonal_is : size (length c.hess.rows) (λ j. entry_of c.hess j j) ≡ amount (entries (design_of p)) (λ j. farthest ((condensed_of (design_of p)).hessian j j) 0)
   diagonal_is = rw is.shapes.hess.rows (size_same (entries (design_of p)) _ _ (λ j l. is.numbers.hessian j j l l) ∙
       exact_size (entries (design_of p)) (λ j. (condensed_of (design_of p)).hessian j j))
 
   pub diagonal_small : size (length c.hess.rows) (λ j. entry_of c.hess j j) ≤ 2 ^ 126
-  diagonal_small = rw is.shapes.hess.rows (through
-      (amount_within (entries (design_of p)) (λ j. unsigned_abs (entry_of c.hess j j)) (1 * cost_entry_size (design_of p)) (λ j l. single (is.sizes.hess j j l l)))
-      (in_hessian (entries (design_of p)) p.states 1 (cost_entry_size (design_of p)) (some_more (entries (design_of p)) p.states) is.sizes.cost_room))
-    where
-      single : {a b : ℕ} → a ≤ b → a ≤ 1 * b
-      single {a} {b} h = omega (arith, h)
+  diagonal_small = rw is.shapes.hess.rows (through (diagonal_within (entries (design_of p)) (entry_of c.hess)) parts.0)
 
   pub hessian_row_small : (j : ℕ) → j < length c.hess.rows → size c.hess.cols (entry_of c.hess j) ≤ 2 ^ 126
   hessian_row_small j l = rw is.shapes.hess.cols (through
-      (amount_within (entries (design_of p)) (λ i. unsigned_abs (entry_of c.hess j i)) (cost_entry_size (design_of p))
-      (λ i m. is.sizes.hess j i (rw is.shapes.hess.rows at l) m))
-      (one_row (entries (design_of p)) (cost_entry_size (design_of p)) (some_entry p is.design)
-      (in_hessian (entries (design_of p)) p.states (entries (design_of p)) (cost_entry_size (design_of p)) (all_more (entries (design_of p)) p.states) is.sizes.cost_room)))
-    where
-      one_row : (e c : ℕ) → 1 ≤ e → e * (e * c) ≤ 2 ^ 126 → e * c ≤ 2 ^ 126
-      one_row e c h k = omega (arith, k, mul-le-mul_right (e * c) h)
+      (amount_term j (entries (design_of p)) (λ i. size (entries (design_of p)) (entry_of c.hess i)) (rw is.shapes.hess.rows at l)) parts.0)
 
   pub square : c.hess.cols ≡ length c.hess.rows
   square = is.shapes.hess.cols ∙ sym is.shapes.hess.rows
@@ -129,10 +105,11 @@ module _ (p : DesignParts) (c : Condensed) (is : IsFormOf p c) where
       (λ j m. is.numbers.limits.plan i j l m ∙ sym (plan_number (design_of p) i j is.design.inputs.0)) ∙ exact_size (entries (design_of p)) ((condensed_of (design_of p)).by_plan i)))
 
   pub rows_small : amount (length c.g.rows) (λ i. size c.g.cols (entry_of c.g i)) ≤ 2 ^ 126
-  rows_small = rw (is.shapes.g.rows, is.shapes.g.cols) (through
-      (amount_within (rows (design_of p)) (λ i. size (entries (design_of p)) (entry_of c.g i)) (entries (design_of p) * limit_entry_size (design_of p))
-      (λ i l. amount_within (entries (design_of p)) (λ j. unsigned_abs (entry_of c.g i j)) (limit_entry_size (design_of p)) (λ j m. is.sizes.g i j l m)))
-      (in_rows (entries (design_of p)) p.states (rows (design_of p)) (limit_entry_size (design_of p)) is.sizes.limit_room))
+  rows_small = rw (is.shapes.g.rows, is.shapes.g.cols) (through (rows_within (rows (design_of p)) (entries (design_of p)) (entry_of c.g))
+      (first _ _ _ (rw (is.shapes.g.rows, is.shapes.hess.rows, is.shapes.lin.cols) at is.sizes.limits) is.sizes.limit_room))
+    where
+      first : (a b c : ℕ) {s : ℕ} → a + b + c ≤ s → s ≤ 2 ^ 126 → a ≤ 2 ^ 126
+      first a b c {s} h k = omega (arith, h, k)
 
   -- ---- what they are over, and the least input weight
   pub scale_is : unsigned_abs c.hess_den ≡ hessian_scale (design_of p)
