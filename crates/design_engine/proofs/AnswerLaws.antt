@@ -13,7 +13,7 @@ use Rattle.qp_model.specs.declared.design_parts.DesignParts.{DesignParts}
 use Rattle.qp_model.specs.declared.bounds.Bounds.{Bounds}
 use Rattle.qp_model.specs.declared.bounds.Margin.{Margin}
 use Rattle.step_error.proofs.MachineErrors.{carried}
-use Rattle.step_error.proofs.MachineRuns.{run_from}
+use Rattle.step_error.proofs.MachineRuns.{machine_run}
 use Rattle.design_engine.specs.Targets.{Targets, targets_of, IsWithinTargets}
 use Rattle.design_engine.specs.Bounds.{printed_multiplier, stated_cost}
 use Rattle.design_engine.specs.Built.{IsBuilt}
@@ -56,7 +56,7 @@ module _ (p : DesignParts) (t : Targets) (plans : Plans) (design : IsDesign p) (
 
 -- ---- what is built
 pub built_certified : (p : DesignParts) (plans : Plans) (c : Numbers) (b : Bounds) → IsBuilt p plans c b → IsCertified (design_of p) c b
-built_certified p plans c b h = certified_from run p plans (form_of (design_of p)) (stated_errors (design_of p) (form_of (design_of p)) (printed_multiplier b) c.fraction_bits) c b (record {
+built_certified p plans c b h = certified_from machine_run p plans (form_of (design_of p)) (stated_errors (design_of p) (form_of (design_of p)) (printed_multiplier b) c.fraction_bits) c b (record {
   design = h.design;
   policy = h.policy;
   margin = h.margin;

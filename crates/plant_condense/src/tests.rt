@@ -7,7 +7,7 @@ use std::process::Abort;
 use std::test::Fail;
 
 // The numbers of a design that its form follows from.
-#[derive(Clone, Copy)]
+#[derive(Drop)]
 struct TestDesign<'a> {
     stages: usize,
     plant_den: i128,
@@ -24,7 +24,7 @@ struct TestDesign<'a> {
 }
 
 // The numbers of a form.
-#[derive(Clone, Copy)]
+#[derive(Drop)]
 struct Form<'a> {
     hess: &'a [&'a [i128]],
     lin: &'a [&'a [i128]],
@@ -190,31 +190,54 @@ fn rows(rt: &impl Abort, alloc: Global, cols: usize, rows: &[&[i128]]) -> Result
     }
 }
 
+// The plant's matrices.
+fn plant(rt: &impl Abort, alloc: Global, made: &TestDesign) -> Result<(Mat, Mat), AllocError> {
+    let a = rows(rt, alloc, made.a.len(), made.a)?;
+    let b = rows(rt, alloc, made.input.len(), made.b)?;
+    Ok((a, b))
+}
+
+// The cost rows of a stage and of the end.
+fn costs(rt: &impl Abort, alloc: Global, made: &TestDesign) -> Result<(Mat, Mat), AllocError> {
+    let cols = made.a.len().wrapping_add(2);
+    let stage = rows(rt, alloc, cols, made.stage_cost)?;
+    let end = rows(rt, alloc, cols, made.final_cost)?;
+    Ok((stage, end))
+}
+
+// The limit rows of a stage and of the end.
+fn limits(rt: &impl Abort, alloc: Global, made: &TestDesign) -> Result<(Mat, Mat), AllocError> {
+    let cols = made.a.len().wrapping_add(1);
+    let stage = rows(
+        rt,
+        alloc,
+        cols.wrapping_add(made.input.len()),
+        made.stage_rows,
+    )?;
+    let end = rows(rt, alloc, cols, made.final_rows)?;
+    Ok((stage, end))
+}
+
 fn parts(rt: &impl Abort, alloc: Global, made: &TestDesign) -> Result<DesignParts, AllocError> {
     let states = made.a.len();
-    let inputs = made.input.len();
-    let mut input_weights = Vec::new(alloc);
-    input_weights.extend_from_slice(made.input)?;
+    let (a, b) = plant(rt, alloc, made)?;
+    let (stage_cost, final_cost) = costs(rt, alloc, made)?;
+    let (stage_rows, final_rows) = limits(rt, alloc, made)?;
     Ok(DesignParts {
         states,
-        inputs,
+        inputs: made.input.len(),
         stages: made.stages,
         plant_den: made.plant_den,
-        a: rows(rt, alloc, states, made.a)?,
-        b: rows(rt, alloc, inputs, made.b)?,
+        a,
+        b,
         cost_den: made.cost_den,
         row_den: made.row_den,
-        input_weights,
-        stage_cost: rows(rt, alloc, states.wrapping_add(2), made.stage_cost)?,
-        final_cost: rows(rt, alloc, states.wrapping_add(2), made.final_cost)?,
+        input_weights: made.input.to_vec(alloc)?,
+        stage_cost,
+        final_cost,
         limit_den: made.limit_den,
-        stage_rows: rows(
-            rt,
-            alloc,
-            states.wrapping_add(inputs).wrapping_add(1),
-            made.stage_rows,
-        )?,
-        final_rows: rows(rt, alloc, states.wrapping_add(1), made.final_rows)?,
+        stage_rows,
+        final_rows,
         grid: 0,
         lo: vec![in alloc; 0; states]?,
         hi: vec![in alloc; 1; states]?,
@@ -224,16 +247,12 @@ fn parts(rt: &impl Abort, alloc: Global, made: &TestDesign) -> Result<DesignPart
     })
 }
 
-// The form of a design, which is one.
-fn condensed_form(
-    rt: &impl Abort,
-    alloc: Global,
-    made: &TestDesign,
-) -> Result<Result<Condensed, CondenseFault>, AllocError> {
-    let Ok(design) = Design::from_parts(parts(rt, alloc, made)?) else {
-        panic!(rt; "no design");
-    };
-    Ok(condense(alloc, &design))
+// The numbers are a design's.
+fn design(rt: &impl Abort, alloc: Global, made: &TestDesign) -> Result<Design, AllocError> {
+    match Design::from_parts(parts(rt, alloc, made)?) {
+        Ok(design) => Ok(design),
+        Err(_) => panic!(rt; "no design"),
+    }
 }
 
 // Whether a matrix has these rows.
@@ -249,33 +268,76 @@ fn has_rows(mat: &Mat, rows: &[&[i128]]) -> bool {
     true
 }
 
+fn has_cost(found: &Condensed, want: &Form) -> bool {
+    has_rows(&found.hess, want.hess)
+        && has_rows(&found.lin, want.lin)
+        && found.off.as_slice() == want.off
+        && found.hess_den == want.hess_den
+        && found.hess_size == want.hess_size
+}
+
+fn has_limits(found: &Condensed, want: &Form) -> bool {
+    has_rows(&found.g, want.g)
+        && has_rows(&found.e, want.e)
+        && found.bound.as_slice() == want.bound
+        && found.row_den == want.row_den
+        && found.rows_size == want.rows_size
+}
+
+// Whether a design is condensed to these numbers.
+fn is_form(
+    rt: &impl Abort,
+    alloc: Global,
+    made: &TestDesign,
+    want: &Form,
+) -> Result<bool, AllocError> {
+    let design = design(rt, alloc, made)?;
+    Ok(match condense(alloc, &design) {
+        Ok(found) => {
+            has_cost(&found, want)
+                && has_limits(&found, want)
+                && found.floor == want.floor
+                && found.power == want.power
+        }
+        Err(_) => false,
+    })
+}
+
 #[test]
-fn forms(rt: HostRuntime) -> Result<(), Fail> {
-    let cases = [
-        (BASE, BASE_FORM),
-        (TWO, TWO_FORM),
-        (FINAL, FINAL_FORM),
-        (STEEP, STEEP_FORM),
-    ];
-    for (made, want) in &cases {
-        let Ok(found) = condensed_form(&rt, rt.alloc(), made)? else {
-            panic!(rt; "not condensed");
-        };
-        assert!(rt; has_rows(&found.hess, want.hess));
-        assert!(rt; has_rows(&found.lin, want.lin));
-        assert_eq!(rt; found.off.as_slice(), want.off);
-        assert_eq!(rt; found.hess_den, want.hess_den);
-        assert!(rt; has_rows(&found.g, want.g));
-        assert!(rt; has_rows(&found.e, want.e));
-        assert_eq!(rt; found.bound.as_slice(), want.bound);
-        assert_eq!(rt; found.row_den, want.row_den);
-        assert_eq!(rt; found.floor, want.floor);
-        assert_eq!(rt; found.power, want.power);
-        assert_eq!(rt; found.hess_size, want.hess_size);
-        assert_eq!(rt; found.rows_size, want.rows_size);
-    }
+fn base_form(rt: HostRuntime) -> Result<(), Fail> {
+    assert!(rt; is_form(&rt, rt.alloc(), &BASE, &BASE_FORM)?);
     Ok(())
 }
+
+#[test]
+fn form_of_two(rt: HostRuntime) -> Result<(), Fail> {
+    assert!(rt; is_form(&rt, rt.alloc(), &TWO, &TWO_FORM)?);
+    Ok(())
+}
+
+#[test]
+fn form_with_costs_at_the_end(rt: HostRuntime) -> Result<(), Fail> {
+    assert!(rt; is_form(&rt, rt.alloc(), &FINAL, &FINAL_FORM)?);
+    Ok(())
+}
+
+#[test]
+fn form_with_the_greatest_denominators(rt: HostRuntime) -> Result<(), Fail> {
+    assert!(rt; is_form(&rt, rt.alloc(), &STEEP, &STEEP_FORM)?);
+    Ok(())
+}
+
+// Each quantity at 2^126, and one above it.
+const DEEP: TestDesign<'static> = TestDesign {
+    stages: 6,
+    a: &[&[2097151]],
+    ..BASE
+};
+
+const DEEPER: TestDesign<'static> = TestDesign {
+    a: &[&[2097152]],
+    ..DEEP
+};
 
 // Two inputs and one stage, with numbers whose sizes are powers of two.
 const WIDE: TestDesign<'static> = TestDesign {
@@ -290,6 +352,11 @@ const WIDE: TestDesign<'static> = TestDesign {
     ..BASE
 };
 
+const WIDER: TestDesign<'static> = TestDesign {
+    input: &[2097152, 2097152],
+    ..WIDE
+};
+
 const LONG: TestDesign<'static> = TestDesign {
     a: &[&[2147483647]],
     b: &[&[0, 1]],
@@ -300,43 +367,43 @@ const LONG: TestDesign<'static> = TestDesign {
     ..WIDE
 };
 
-// Each quantity at 2^126, and one above it.
+const LONGER: TestDesign<'static> = TestDesign {
+    stage_rows: &[&[2147483646, 1, 0, 2]],
+    ..LONG
+};
+
+// Whether a design is too wide by this quantity, or by none.
+fn is_wide(
+    rt: &impl Abort,
+    alloc: Global,
+    made: &TestDesign,
+    wide: Option<Quantity>,
+) -> Result<bool, AllocError> {
+    let design = design(rt, alloc, made)?;
+    Ok(match condense(alloc, &design) {
+        Ok(_) => wide.is_none(),
+        Err(CondenseFault::TooWide { quantity }) => wide == Some(quantity),
+        Err(CondenseFault::Memory) => false,
+    })
+}
+
 #[test]
-fn wide_designs(rt: HostRuntime) -> Result<(), Fail> {
-    let deep = TestDesign {
-        stages: 6,
-        a: &[&[2097151]],
-        ..BASE
-    };
-    let cases = [
-        (deep, Some(Quantity::Hessian)),
-        (
-            TestDesign {
-                a: &[&[2097152]],
-                ..deep
-            },
-            Some(Quantity::Prediction),
-        ),
-        (WIDE, None),
-        (
-            TestDesign {
-                input: &[2097152, 2097152],
-                ..WIDE
-            },
-            Some(Quantity::Hessian),
-        ),
-        (LONG, None),
-        (
-            TestDesign {
-                stage_rows: &[&[2147483646, 1, 0, 2]],
-                ..LONG
-            },
-            Some(Quantity::Rows),
-        ),
-    ];
-    for (made, wide) in &cases {
-        let fault = condensed_form(&rt, rt.alloc(), made)?.err();
-        assert!(rt; fault == wide.map(|quantity| CondenseFault::TooWide { quantity }));
-    }
+fn wide_prediction(rt: HostRuntime) -> Result<(), Fail> {
+    assert!(rt; is_wide(&rt, rt.alloc(), &DEEP, Some(Quantity::Hessian))?);
+    assert!(rt; is_wide(&rt, rt.alloc(), &DEEPER, Some(Quantity::Prediction))?);
+    Ok(())
+}
+
+#[test]
+fn wide_hessian(rt: HostRuntime) -> Result<(), Fail> {
+    assert!(rt; is_wide(&rt, rt.alloc(), &WIDE, None)?);
+    assert!(rt; is_wide(&rt, rt.alloc(), &WIDER, Some(Quantity::Hessian))?);
+    Ok(())
+}
+
+#[test]
+fn wide_rows(rt: HostRuntime) -> Result<(), Fail> {
+    assert!(rt; is_wide(&rt, rt.alloc(), &LONG, None)?);
+    assert!(rt; is_wide(&rt, rt.alloc(), &LONGER, Some(Quantity::Rows))?);
     Ok(())
 }
