@@ -1,5 +1,5 @@
 -- What an answer says of the tests, and what is certified for what is built.
-use Rattle.std.proofs.Common.{◌≡◌, inl, inr, ◌⊎◌, ℕ, refl, ap, rules, Result, Ok, Err}
+use Rattle.std.proofs.Common.{◌≡◌, inl, inr, ◌⊎◌, ℕ, refl, ap, rules, arith, Result, Ok, Err}
 use Rattle.std.specs.Prelude.{IfOk, IfErr, OnOk, IsOk}
 use Rattle.std.specs.Result.{IsErr}
 use Rattle.qp_model.specs.Parts.{IsDesign, design_of}

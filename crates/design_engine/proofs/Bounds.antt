@@ -5,37 +5,35 @@ use Rattle.std.proofs.lemmas.Int.{ints, fits_signed_from_abs, unsigned_abs-mul}
 use Rattle.std.proofs.lemmas.Nat.{pow_pos, div_below}
 use Rattle.std.proofs.Math.Nat.{add-div_right, mul-le-mul_left, mul-le-mul_right}
 use Rattle.integer_algebra.specs.Sums.{at}
-use Rattle.integer_algebra.specs.Sizes.{size}
 use Rattle.integer_algebra.specs.Division.{ceil_div, ceil_of}
 use Rattle.integer_algebra.proofs.SizeLaws.{size_same}
 use Rattle.mat_int.specs.Row as lists
 use Rattle.mat_int.proofs.Indices.{abs_sum_is}
 use Rattle.qp_model.proofs.SizeFacts.{greatest_term}
-use Rattle.plant_condense.specs.declared.condensed.Condensed.{Condensed}
-use Rattle.approx_inverse.specs.Condensed.{entries_of, columns_of, system_column}
-use Rattle.approx_inverse.specs.DescentSize.{greatest_row}
-use Rattle.approx_inverse.specs.Inverse.{HasGainSizes, descent_of}
+use Rattle.qp_model.specs.Form.{Form}
+use Rattle.qp_model.specs.Columns.{columns, column_size, solve_column, descent_size}
+use Rattle.qp_model.specs.Quantities.{greatest}
+use Rattle.approx_inverse.specs.Inverse.{HasGainSizes}
 use Rattle.approx_inverse.specs.declared.inverse.Inverse.{Inverse}
 
 -- where `descent` is within its limit, so is a column times 2^(f+1)
-pub column_room : (c : Condensed) (f i : ℕ) → i < columns_of c → descent_of c f ≤ 2 ^ 126 → 2 ^ (f + 1) * size (entries_of c) (system_column c i) ≤ 2 ^ 126
-column_room c f i l h = close _ (2 ^ (f + 1)) (greatest_row (columns_of c) (entries_of c) (system_column c)) (size (entries_of c) (system_column c i)) (2 ^ 126)
-    (greatest_term i (columns_of c) (λ k. size (entries_of c) (system_column c k)) l) h
+pub column_room : (h : Form) (f i : ℕ) → i < columns h → descent_size h f ≤ 2 ^ 126 → 2 ^ (f + 1) * column_size h i ≤ 2 ^ 126
+column_room h f i l room = close _ (2 ^ (f + 1)) (greatest (columns h) (column_size h)) (column_size h i) (2 ^ 126) (greatest_term i (columns h) (column_size h) l) room
   where
     close : (a p s t top : ℕ) → t ≤ s → a + p * s ≤ top → p * t ≤ top
     close a p s t top h k = omega (arith, k, mul-le-mul_left p h)
 
 -- and so is the column itself
-pub column_small : (c : Condensed) (f i : ℕ) → i < columns_of c → descent_of c f ≤ 2 ^ 126 → size (entries_of c) (system_column c i) ≤ 2 ^ 126
-column_small c f i l h = close (2 ^ (f + 1)) (size (entries_of c) (system_column c i)) (pow_pos (f + 1)) (column_room c f i l h)
+pub column_small : (h : Form) (f i : ℕ) → i < columns h → descent_size h f ≤ 2 ^ 126 → column_size h i ≤ 2 ^ 126
+column_small h f i l room = close (2 ^ (f + 1)) (column_size h i) (pow_pos (f + 1)) (column_room h f i l room)
   where
     close : (p s : ℕ) → 0 < p → p * s ≤ 2 ^ 126 → s ≤ 2 ^ 126
     close p s h k = let one : 1 ≤ p = omega arith in let g = mul-le-mul_right s one in omega (arith, g)
 
 -- the absolute sum of a list that holds a column
-pub sum_is : (c : Condensed) (i : ℕ) (xs : List ℤ) → length xs ≡ entries_of c → ((j : ℕ) → j < length xs → at xs j ≡ system_column c i j) →
-    lists.abs_sum xs ≡ size (entries_of c) (system_column c i)
-sum_is c i xs e h = abs_sum_is (entries_of c) xs e ∙ size_same (entries_of c) (at xs) (system_column c i) (λ j l. h j (omega (arith, e)))
+pub sum_is : (h : Form) (i : ℕ) (xs : List ℤ) → length xs ≡ h.entries → ((j : ℕ) → j < length xs → at xs j ≡ solve_column h i j) →
+    lists.abs_sum xs ≡ column_size h i
+sum_is h i xs e is = abs_sum_is h.entries xs e ∙ size_same h.entries (at xs) (solve_column h i) (λ j l. is j (omega (arith, e)))
 
 -- a quotient of naturals, rounded up as a whole number
 pub ceil_of_pos : (a d : ℕ) → 0 < d → ceil_of (pos a) d ≡ pos (ceil_div a d)

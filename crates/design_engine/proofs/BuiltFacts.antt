@@ -1,5 +1,5 @@
 -- What passes every test is built.
-use Rattle.std.proofs.Common.{◌≡◌, ℕ, ◌+◌, ◌*◌, ◌^◌, ◌≤◌, ℤ, pos, ◌≤ℤ◌, unsigned_abs, refl, ap, sym, arith, ◌∙◌}
+use Rattle.std.proofs.Common.{◌≡◌, ℕ, ◌+◌, ◌*◌, ◌^◌, ◌≤◌, ℤ, pos, ◌≤ℤ◌, unsigned_abs, refl, ap, sym, subst, arith, ◌∙◌}
 use Rattle.std.proofs.lemmas.Int.{ints}
 use Rattle.qp_model.specs.Parts.{IsDesign, design_of}
 use Rattle.qp_model.specs.Policy.{Plans, IsPolicyFor}
@@ -36,7 +36,7 @@ built_from p plans c b m r s k f design policy passes curved is count same sound
   steps = a.steps ∙ count ∙ rw (a.step_exponent, units, cost) refl;
   bits = rw (a.fraction_bits, units, cost) passes.choice;
   width = a.width;
-  bounds = rw (units, cost) bounds;
+  bounds = subst (λ (r : ℕ). AreBoundsOf c b (stated_cost (design_of p) r c.fraction_bits)) (ap (λ (x : Margin). multiplier_of x) (sym same)) bounds;
 }
   where
     margin : PassesMargin (design_of p) (targets_of p) plans m

@@ -25,7 +25,7 @@ use Rattle.approx_inverse.specs.Inverse.{HasGainSizes, IsInverseOf, solution_of}
 use Rattle.approx_inverse.specs.declared.inverse.Inverse.{Inverse}
 use Rattle.approx_inverse.proofs.FormLaws.{good_same}
 use Rattle.design_engine.specs.Widest.{widest, width_size, rounded, listed}
-use Rattle.plant_condense.specs.Form.{IsFormOf}
+use Rattle.plant_condense.specs.Form.{IsFormOf, held}
 use Rattle.plant_condense.specs.declared.condensed.Condensed.{Condensed}
 use Rattle.approx_inverse.proofs.DesignLaws.{bound_equal}
 use Rattle.design_engine.proofs.Bounds.{resized}
@@ -45,7 +45,7 @@ pub record AreWidest (d : Design) (f : ℕ) (v : Inverse) : Type 0 where
   pub sizes : HasGainSizes v (entries d) d.states (rows d)
   pub each : (i j : ℕ) → i < columns (form_of d) → j < entries d → solution_of v i j ≡ pos (column_bound (form_of d) f i)
 
-pub within_from : (d : Design) (f : ℕ) (v : Inverse) → IsInverseOf d f v → AreWithin d f v
+pub within_from : (d : Design) (f : ℕ) (v : Inverse) → IsInverseOf (form_of d) f v → AreWithin d f v
 within_from d f v is = record { sizes = is.sizes; each = λ i j l m. is.within i l j m }
 
 -- ---- the absolute sums
@@ -219,7 +219,7 @@ good_at d f b i v c e good same = rw e
     (good_same (entries d) (solve_matrix (form_of d)) (solve_matrix (form_of d)) f (solve_column (form_of d) i) (solve_column (form_of d) i) (solution_of v i) (gain_column c i)
     (λ i j l m. refl) (λ j l. refl) (λ j l. same j) good)
 
-pub assembled : (d : Design) (r s k f : ℕ) (c : Numbers) (v : Inverse) (w : ℕ) → IsFrame d r s k f c → AreGains v c → IsInverseOf d f v → IsWidth (greatest_sum c) w →
+pub assembled : (d : Design) (r s k f : ℕ) (c : Numbers) (v : Inverse) (w : ℕ) → IsFrame d r s k f c → AreGains v c → IsInverseOf (form_of d) f v → IsWidth (greatest_sum c) w →
     IsAssembled d r s k f (record c { width = w })
 assembled d r s k f c v w fr g is wide = record {
   sizes = record {
@@ -283,7 +283,7 @@ frame_from p r s k f c rs h are states inputs stages rows_are bits grid exponent
     count n a b x y e g = omega arith
 
 -- ---- the condensed form's bounds
-pub widest_from : (p : DesignParts) (c : Condensed) (f : ℕ) (v : Inverse) → IsFormOf p c → AreBounds c f v → AreWidest (design_of p) f v
+pub widest_from : (p : DesignParts) (c : Condensed) (f : ℕ) (v : Inverse) → IsFormOf p c → AreBounds (held c) f v → AreWidest (design_of p) f v
 widest_from p c f v is b = record {
   sizes = resized v _ _ _ _ _ _ (sym is.shapes.hess.rows) (sym is.shapes.lin.cols) (sym is.shapes.g.rows) b.sizes;
   each = λ i j l m. b.each i j (omega (arith, is.shapes.lin.cols, is.shapes.g.rows)) (omega (arith, is.shapes.hess.rows)) ∙ ap (λ (n : ℕ). pos n) (bound_equal p c f i is l);

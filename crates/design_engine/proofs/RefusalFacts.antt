@@ -25,6 +25,7 @@ use Rattle.plant_condense.specs.Fault as condensing
 use Rattle.plant_condense.specs.declared.condensed.Condensed.{Condensed}
 use Rattle.plant_condense.specs.declared.fault.CondenseFault.{CondenseFault}
 use Rattle.plant_condense.specs.declared.fault.CondenseFault.TheVariants.{Memory as condense_memory, TooWide as condense_wide}
+use Rattle.hessian_check.specs.Refusals as exponents
 use Rattle.hessian_check.specs.Steps.{HasNoStep}
 use Rattle.hessian_check.specs.declared.fault.StepExponents.{StepExponents}
 use Rattle.hessian_check.specs.declared.fault.CurvatureFault.{CurvatureFault}
@@ -51,8 +52,12 @@ refused_by (Ok x) from p h f = absurd h
 refused_by (Err e) from p h f = f e h
 
 -- a size that is not above its limit
-pub room_from : (n : ℕ) (p : Type 0) → p ↔ (2 ^ 126 < n) → (p → ⊥) → n ≤ 2 ^ 126
-room_from n p h refuted = elim (cases_lt (2 ^ 126) n) [ inl l ↦ absurd (refuted (h.1 l)) | inr l ↦ l ]
+-- a number above the limit would be a refusal, and there is none
+pub within_limit : (x : StepExponents) (fault : CurvatureFault) (n : ℕ) → (2 ^ 126 < n → ◌≡◌ {A = Result StepExponents CurvatureFault} (Ok x) (Err fault)) → n ≤ 2 ^ 126
+within_limit x fault n h = elim (cases_lt (2 ^ 126) n) [ inl l ↦ absurd (differ (h l)) | inr l ↦ l ]
+  where
+    differ : ◌≡◌ {A = Result StepExponents CurvatureFault} (Ok x) (Err fault) → ⊥
+    differ g = search rules
 
 module _ (d : Design) (t : Targets) (plans : Plans) where
   -- ---- the margin
@@ -108,28 +113,12 @@ module _ (d : Design) (t : Targets) (plans : Plans) where
   -- ---- the step exponent
   pub curvature_refused : (m : Margin) → PassesMargin d t plans m → multiplier_size (unsigned_abs m.units) (unsigned_abs m.cost) ≤ 2 ^ 126 →
       hessian_size d ≤ 2 ^ 126 → rows_size d ≤ 2 ^ 126 →
-      (r : Result StepExponents CurvatureFault) (fault : CurvatureFault) → r ≡ Err fault →
-      IsErrOf r (curvature_wide curvature_quantity) ↔ (2 ^ 126 < curvature_size d) →
-      ((quantity : Quantity) → IsErrOf r (curvature_wide quantity) → quantity ≡ curvature_quantity) →
-      (IsErrOf r NoStep → HasNoStep d) →
-      (e : Refusal) → e ≡ of_curvature fault → IsRefused d t plans e
-  curvature_refused m h n k l r curvature_memory is wide other flat e f = inl f
-  curvature_refused m h n k l r (curvature_wide quantity) is wide other flat e f =
-      let g = other quantity is in rw (f, g) (inr (m, (((h, n), k), l), wide.0 (rw g at is)))
-  curvature_refused m h n k l r NoStep is wide other flat e f = rw f (inr (
-    m,
-    record {
-      before = h;
-      multiplier = n;
-      hessian = k;
-      rows = l;
-      curvature = room_from (curvature_size d) _ wide (λ g. differ (rw is at g));
-    },
-    flat is,
-  ))
-    where
-      differ : ◌≡◌ {A = Result StepExponents CurvatureFault} (Err NoStep) (Err (curvature_wide curvature_quantity)) → ⊥
-      differ g = search rules
+      (fault : CurvatureFault) → exponents.IsRefused d fault → (e : Refusal) → e ≡ of_curvature fault → IsRefused d t plans e
+  curvature_refused m h n k l curvature_memory why e f = inl f
+  curvature_refused m h n k l (curvature_wide quantity) (inl memory) e f = absurd (search rules)
+  curvature_refused m h n k l (curvature_wide quantity) (inr why) e f = rw (f, why.0) (inr (m, (((h, n), k), l), why.1))
+  curvature_refused m h n k l NoStep (inl memory) e f = absurd (search rules)
+  curvature_refused m h n k l NoStep (inr why) e f = rw f (inr (m, record { before = h; multiplier = n; hessian = k; rows = l; curvature = why.0 }, why.1))
 
   -- ---- the steps
   pub steps_refused : (m : Margin) (s r h : ℕ) (k : ℤ) → PassesSizes d t plans m → IsExponentOf d s → r ≡ multiplier_of m → h ≡ half_target t →
@@ -174,5 +163,3 @@ choice_same sums other low from limit most f e g h is = record {
   least = λ k l n. rw (e, h) at (is.least k (rw g l) n);
 }
 
-pub no_error : (x : StepExponents) (fault : CurvatureFault) → IsErrOf {T = StepExponents} {E = CurvatureFault} (Ok x) fault → ⊥
-no_error x fault g = search rules

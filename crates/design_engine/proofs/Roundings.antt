@@ -13,13 +13,12 @@ use Rattle.mat_int.specs.Matrix.{Matrix, entry_of, HasEntries}
 use Rattle.qp_model.specs.Design.{entries, rows}
 use Rattle.qp_model.specs.Form.{rows_scale}
 use Rattle.qp_model.specs.Parts.{design_of}
-use Rattle.qp_model.specs.Quantities.{limit_entry_size}
 use Rattle.qp_model.specs.Runs.{Holds}
 use Rattle.qp_model.specs.declared.design_parts.DesignParts.{DesignParts}
 use Rattle.qp_model.proofs.RowLaws.{plan_number}
-use Rattle.qp_model.proofs.SizeFacts.{some_row, square_under}
 use Rattle.qp_model.proofs.RowLaws.{state_number, bound_number}
 use Rattle.plant_condense.specs.Form.{IsFormOf}
+use Rattle.plant_condense.proofs.FormSums.{plan_entry, state_entry, bound_entry}
 use Rattle.plant_condense.specs.declared.condensed.Condensed.{Condensed}
 use Rattle.approx_inverse.proofs.DesignLaws.{solvable_from}
 use Rattle.design_engine.specs.Assembled.{AreRowsOf}
@@ -47,24 +46,6 @@ entries_more old new line i w g e long here held = record {
 }
 
 -- ---- the numbers of a condensed form
--- each is small
-square_small : (x : ℕ) → x * x ≤ 2 ^ 126 → x ≤ 2 ^ 63
-square_small x h = elim (cases_lt (2 ^ 63) x) [
-  | inl l ↦ absurd (let g = mul-le-mul (above x l) (above x l) in omega (arith, g, h))
-  | inr l ↦ l
-]
-  where
-    above : (x : ℕ) → 2 ^ 63 < x → 2 ^ 63 + 1 ≤ x
-    above x l = omega arith
-
-pub limit_small : (p : DesignParts) (c : Condensed) → IsFormOf p c → limit_entry_size (design_of p) ≤ 2 ^ 63
-limit_small p c is = square_small (limit_entry_size (design_of p))
-    (square_under ((entries (design_of p) + (design_of p).states + 1) * rows (design_of p)) (limit_entry_size (design_of p)) (2 ^ 126)
-    (some (entries (design_of p) + (design_of p).states) (rows (design_of p)) (some_row p is.design)) is.sizes.limit_room)
-  where
-    some : (a b : ℕ) → 1 ≤ b → 1 ≤ (a + 1) * b
-    some a b h = grind arith
-
 -- rounded, they are a design's
 rounded_same : (den : ℤ) (scale f : ℕ) (x y : ℤ) → den ≡ pos scale → x ≡ y → round_of (pos (2 ^ f) *ℤ x) (unsigned_abs den) ≡ round_of (pos (2 ^ f) *ℤ y) scale
 rounded_same den scale f x y e g = rw (e, g) refl
@@ -114,10 +95,10 @@ den_positive p c is =
         omega (arith, ints, g)
 
 pub plan_small : (p : DesignParts) (c : Condensed) → IsFormOf p c → (i j : ℕ) → i < length c.g.rows → j < c.g.cols → unsigned_abs (entry_of c.g i j) ≤ 2 ^ 63
-plan_small p c is i j l m = omega (arith, limit_small p c is, is.sizes.g i j (omega (arith, is.shapes.g.rows)) (omega (arith, is.shapes.g.cols)))
+plan_small p c is i j l m = plan_entry p c is i j (omega (arith, is.shapes.g.rows)) (omega (arith, is.shapes.g.cols))
 
 pub state_small : (p : DesignParts) (c : Condensed) → IsFormOf p c → (i j : ℕ) → i < length c.e.rows → j < c.e.cols → unsigned_abs (entry_of c.e i j) ≤ 2 ^ 63
-state_small p c is i j l m = omega (arith, limit_small p c is, is.sizes.e i j (omega (arith, is.shapes.e.rows)) (omega (arith, is.shapes.e.cols)))
+state_small p c is i j l m = state_entry p c is i j (omega (arith, is.shapes.e.rows)) (omega (arith, is.shapes.e.cols))
 
 pub bound_small : (p : DesignParts) (c : Condensed) → IsFormOf p c → (i : ℕ) → i < length c.bound.items → unsigned_abs (at c.bound.items i) ≤ 2 ^ 63
-bound_small p c is i l = omega (arith, limit_small p c is, is.sizes.bound i (omega (arith, is.shapes.bound)))
+bound_small p c is i l = bound_entry p c is i (omega (arith, is.shapes.bound))

@@ -1,20 +1,17 @@
 -- What the parts of a controller are that is made of a design's condensed form and its chosen numbers.
 use Rattle.std.specs.Prelude.{◌≡◌, ℕ, ◌+◌, ◌*◌, ◌^◌, ◌<◌, pos}
 use Rattle.mat_int.specs.Matrix.{HasEntries}
-use Rattle.qp_model.specs.Form.{form_of}
+use Rattle.qp_model.specs.Form.{Form, form_of}
 use Rattle.qp_model.specs.Design.{Design, entries, rows}
 use Rattle.qp_model.specs.Runs.{Holds}
-use Rattle.qp_model.specs.Columns.{columns, solve_matrix, solve_column}
+use Rattle.qp_model.specs.Columns.{columns, column_bound, solve_matrix, solve_column}
 use Rattle.qp_model.specs.GoodSolution.{IsGood}
 use Rattle.qp_model.specs.Controller.{Numbers}
 use Rattle.qp_model.specs.Built.{HasSizesOf, HasRowsOf, gain_column}
 use Rattle.qp_model.specs.AbsoluteSums.{greatest_sum}
 use Rattle.overflow_check.specs.Width.{IsWidth}
-use Rattle.approx_inverse.specs.Condensed.{entries_of, states_of, limit_count, columns_of, system_column}
-use Rattle.approx_inverse.specs.DescentSize.{entry_bound}
 use Rattle.approx_inverse.specs.Inverse.{HasGainSizes, solution_of}
 use Rattle.approx_inverse.specs.declared.inverse.Inverse.{Inverse}
-use Rattle.plant_condense.specs.declared.condensed.Condensed.{Condensed}
 use Rattle.design_engine.specs.Widest.{rounded, listed}
 use Rattle.design_engine.specs.declared.rounding.Rows.{Rows}
 
@@ -27,9 +24,9 @@ pub record AreRowsOf (d : Design) (f : ℕ) (r : Rows) : Type 0 where
 
 -- ---- the gains
 -- each gain is the bound of its column
-pub record AreBounds (c : Condensed) (f : ℕ) (v : Inverse) : Type 0 where
-  pub sizes : HasGainSizes v (entries_of c) (states_of c) (limit_count c)
-  pub each : (i j : ℕ) → i < columns_of c → j < entries_of c → solution_of v i j ≡ pos (entry_bound (entries_of c) (system_column c i) c.floor f)
+pub record AreBounds (h : Form) (f : ℕ) (v : Inverse) : Type 0 where
+  pub sizes : HasGainSizes v h.entries h.states h.rows
+  pub each : (i j : ℕ) → i < columns h → j < h.entries → solution_of v i j ≡ pos (column_bound h f i)
 
 -- ---- the whole
 -- all of a controller but its gains and its width: of a design, with R, the step exponent s, k steps and f bits

@@ -132,7 +132,7 @@ pub fn controller_of(
     gains: Inverse,
 ) -> Result<Controller, WidthFault>
     requires form { IsFormOf design.now condensed.now }
-    requires gains { IsInverseOf (design_of design.now) f gains }
+    requires gains { IsInverseOf (form_of (design_of design.now)) f gains }
     requires room { descent_size (form_of (design_of design.now)) f ≤ 2 ^ 126 }
     requires bits { LiesIn design.now.grid 48 f }
     requires exponent { s ≤ 40 }

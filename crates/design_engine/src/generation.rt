@@ -210,6 +210,8 @@ pub fn generate(alloc: Global, design: &Design, policy: &Policy) -> Result<Made,
     ensures accepted { (m : Margin) (s f : ℕ) → PassesAll (design_of design.now) (targets_of design.now) (plans_of policy.now) m s f
         → IsOk result ⊎ (result ≡ Err Refusal.Memory) }
 {
+    // A design keeps its rules; with its numbers read, that is known on every way out.
+    let _parts = design.parts();
     let scaled = scaled_of(alloc, design, policy)?;
     let plan = plan_of(design, &scaled)?;
     finished(alloc, design, &scaled, &plan)

@@ -1,8 +1,8 @@
 // Gains that are as large as those of any good solutions.
 ghost use Rattle.std.specs.Prelude.{◌≡◌, ◌<◌, ◌≤◌, ◌^◌, pos, length, IfOk};
-ghost use Rattle.approx_inverse.specs.Condensed.{IsSolvable, entries_of, columns_of, system_column};
-ghost use Rattle.approx_inverse.specs.DescentSize.{entry_bound};
-ghost use Rattle.approx_inverse.specs.Inverse.{descent_of};
+ghost use Rattle.qp_model.specs.Columns.{columns, column_bound, descent_size};
+ghost use Rattle.plant_condense.specs.Form.{held};
+ghost use Rattle.approx_inverse.specs.Condensed.{IsSolvable};
 ghost use Rattle.design_engine.specs.Assembled.{AreBounds};
 
 use approx_inverse::{Inverse, put_column};
@@ -14,11 +14,11 @@ use std::alloc::{AllocError, Global};
 // The bound on the entries of column i at f bits. `line` is for the column.
 fn entry_bound_of(c: &Condensed, i: usize, f: u32, line: &mut [i128]) -> i128
     requires solvable { IsSolvable c.now }
-    requires column { i < columns_of c.now }
+    requires column { i < columns (held c.now) }
     requires bits { f ≤ 48 }
-    requires room { descent_of c.now f ≤ 2 ^ 126 }
-    requires len { length line.old ≡ entries_of c.now }
-    ensures { result ≡ pos (entry_bound (entries_of c.now) (system_column c.now i) c.now.floor f) }
+    requires room { descent_size (held c.now) f ≤ 2 ^ 126 }
+    requires len { length line.old ≡ (held c.now).entries }
+    ensures { result ≡ pos (column_bound (held c.now) f i) }
 {
     if !put_column(c, i, line) {
         unreachable!();
@@ -33,8 +33,8 @@ fn entry_bound_of(c: &Condensed, i: usize, f: u32, line: &mut [i128]) -> i128
 pub fn widest_gains(alloc: Global, c: &Condensed, f: u32) -> Result<Inverse, AllocError>
     requires solvable { IsSolvable c.now }
     requires bits { f ≤ 48 }
-    requires room { descent_of c.now f ≤ 2 ^ 126 }
-    ensures { IfOk result (AreBounds c.now f) }
+    requires room { descent_size (held c.now) f ≤ 2 ^ 126 }
+    ensures { IfOk result (AreBounds (held c.now) f) }
 {
     let (entries, states, rows) = (c.hess.rows(), c.lin.cols(), c.g.rows());
     let mut line = vec![in alloc; 0; entries]?;

@@ -3,15 +3,15 @@ use Rattle.std.specs.Int.{w128}
 use Rattle.std.proofs.lemmas.Int.{to_z-of_z}
 use Rattle.std.proofs.lemmas.List.{get_or-replicate}
 use Rattle.integer_algebra.specs.Sums.{at}
-use Rattle.approx_inverse.specs.Condensed.{entries_of, system_column}
-use Rattle.approx_inverse.specs.DescentSize.{entry_bound}
+use Rattle.qp_model.specs.Columns.{column_bound}
+use Rattle.plant_condense.specs.Form.{held}
 use Rattle.approx_inverse.specs.Inverse.{solution_of}
 use Rattle.design_engine.proofs.Bounds.{resized}
 use Rattle.design_engine.proofs.widest.widest_gains.Goals as goal
 
 pub put-requires-clause-sizes : goal.put-requires-clause-sizes
 put-requires-clause-sizes c =
-    let long : length c.deref.result.now ≡ entries_of c.args.c.now = c.deref.ensures.len ∙ c.fill.ensures.len ∙ c.loop-i.invariant.long in
+    let long : length c.deref.result.now ≡ (held c.args.c.now).entries = c.deref.ensures.len ∙ c.fill.ensures.len ∙ c.loop-i.invariant.long in
     let sizes = c.loop-i.invariant.sizes in
     resized c.loop-i.gains _ _ _ _ _ _ long sizes.p_mat.cols sizes.w_mat.cols sizes
 
@@ -23,13 +23,13 @@ loop-i-preserved c =
     let inv = c.loop-i.invariant in
     let b : FitsSigned w128 c.entry_bound_of-bound.result = search rules in
     let all = rw (to_z-of_z w128 _ b) at (c.fill.ensures.items (λ y e. e)) in
-    let long : length c.deref.result.now ≡ entries_of c.args.c.now = c.deref.ensures.len ∙ c.fill.ensures.len ∙ inv.long in
-    let same : (j : ℕ) → j < entries_of c.args.c.now → at c.deref.result.now j ≡ c.entry_bound_of-bound.result = λ j l.
+    let long : length c.deref.result.now ≡ (held c.args.c.now).entries = c.deref.ensures.len ∙ c.fill.ensures.len ∙ inv.long in
+    let same : (j : ℕ) → j < (held c.args.c.now).entries → at c.deref.result.now j ≡ c.entry_bound_of-bound.result = λ j l.
     ap (λ (xs : List ℤ). at xs j) (c.deref.ensures.value ∙ all) ∙ get_or-replicate c.loop-i.line.len j c.entry_bound_of-bound.result (pos 0) (omega (arith, inv.long)) in
     record {
       long = c.fill.ensures.len ∙ inv.long;
       sizes = rw (long, inv.sizes.p_mat.cols, inv.sizes.w_mat.cols) at c.put.ensures.sizes;
-      each = λ i j l m. (below_more (λ i. (j : ℕ) → j < entries_of c.args.c.now → solution_of c.put.new.self i j ≡ pos (entry_bound (entries_of c.args.c.now) (system_column c.args.c.now i) c.args.c.now.floor c.args.f)) c.loop-i.i
+      each = λ i j l m. (below_more (λ i. (j : ℕ) → j < (held c.args.c.now).entries → solution_of c.put.new.self i j ≡ pos (column_bound (held c.args.c.now) c.args.f i)) c.loop-i.i
           (λ k o j m. c.put.ensures.others k j (omega arith) ∙ inv.each k j o m)
           (λ j m. c.put.ensures.put j (omega (arith, long)) ∙ same j m ∙ c.entry_bound_of-bound.ensures)) i l j m;
     }
