@@ -307,7 +307,6 @@ read_whole z n k f e g = read_size z n f e ∙ ap unsigned_abs g
 pub four_is : (f : ℕ) → 2 ^ (2 * f) ≡ 4 ^ f
 four_is f = let e : 2 * f ≡ f + f = omega arith in rw e (pow-add 2 f f ∙ sym (four-pow f))
 
-
 -- ---- the quantity `error`, by what the code computes
 -- at a number that is equal
 pub kept : (o : Option ℕ) {a b : ℕ} → a ≡ b → SomeIff o (a ≤ 2 ^ 126) a → SomeIff o (b ≤ 2 ^ 126) b

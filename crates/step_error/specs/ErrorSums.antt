@@ -2,7 +2,7 @@
 use Rattle.std.specs.Prelude.{◌≡◌, ℕ, ◌+◌, ◌*◌, ◌^◌, ◌≤◌, Bool, true, false, ltb, ℤ, pos, unsigned_abs}
 use Rattle.integer_algebra.specs.Division.{ceil_div}
 use Rattle.integer_algebra.specs.Sizes.{size, amount}
-use Rattle.qp_model.specs.Design.{Design, rows}
+use Rattle.qp_model.specs.Design.{Design}
 use Rattle.qp_model.specs.Parts.{IsDesign, design_of}
 use Rattle.qp_model.specs.Form.{Form, IsFormFor, hessian_radii, linear_radii, plan_radii, state_radii, column_radii}
 use Rattle.qp_model.specs.Quantities.{greatest}

@@ -91,5 +91,10 @@ pub fn epsilon(e: &ErrorSums, f: u32) -> i128
     requires bits { f ≤ 48 }
     ensures { result ≡ pos (epsilon (sums_of e.now) f) }
 {
-    errors_cost(e, e.first.unsigned_abs(), plan_bound(e, f).unsigned_abs(), f)
+    errors_cost(
+        e,
+        e.first.unsigned_abs(),
+        plan_bound(e, f).unsigned_abs(),
+        f,
+    )
 }

@@ -240,7 +240,10 @@ fn pull_of(sizes: &Sizes, r: u128) -> Option<u128>
     requires { r ≤ 2 ^ 44 }
     ensures { let pull = sizes.now.state * sizes.now.linear + sizes.now.constant + 2 * r * sizes.now.rows in SomeIff result (pull ≤ 2 ^ 126) pull }
 {
-    limited_sum(products(sizes.state, sizes.linear, 2 * r, sizes.rows)?, sizes.constant)
+    limited_sum(
+        products(sizes.state, sizes.linear, 2 * r, sizes.rows)?,
+        sizes.constant,
+    )
 }
 
 // The error of entry `j` of the gradient, by the hessian over `scale` and what all states and multipliers come to. None where it is above
@@ -317,7 +320,10 @@ impl Whole {
         let errors = first + limited_product(self.y_rows, residual)?;
         let parts = self.pull + self.tail + self.squares;
         let spread = spread(self.radii.fine);
-        limited_product(spread * spread, limited_sum(parts, limited_product(1 << 40, errors)?)?)
+        limited_product(
+            spread * spread,
+            limited_sum(parts, limited_product(1 << 40, errors)?)?,
+        )
     }
 
     // Its part by the radii. None where it is above `2^126`.

@@ -1,8 +1,8 @@
-use Rattle.std.proofs.Common.{◌≡◌, ℕ, pos, unsigned_abs, rules, arith, ap, ◌∙◌}
+use Rattle.std.proofs.Common.{pos, rules, arith, ◌∙◌}
 use Rattle.std.specs.Int.{w128}
 use mir.Val.{SFits}
 use Rattle.std.proofs.lemmas.Int.{to_z-of_z}
-use Rattle.qp_model.specs.Errors.{plan_bound, errors_cost}
+use Rattle.qp_model.specs.Errors.{errors_cost}
 use Rattle.step_error.specs.ErrorSums.{sums_of}
 use Rattle.step_error.proofs.SumFacts.{bounded, plan_small, read_size, read_whole, within_of}
 use Rattle.step_error.proofs.errors.epsilon.Goals as goal
@@ -18,7 +18,7 @@ errors_cost-requires-clause-plan c =
     within_of (read_whole _ _ _ f c.unsigned_abs-2.ensures.value c.plan_bound.ensures) (plan_small (sums_of c.args.e.now) c.args.f (bounded c.args.e.now c.requires.sums)).0
 
 pub returns : goal.returns
-returns c = 
+returns c =
     let f : SFits w128 c.args.e.now.first = search rules in
     let g : SFits w128 c.plan_bound.result = search rules in
     let first = read_size _ _ f c.unsigned_abs.ensures.value in

@@ -1,12 +1,11 @@
-use Rattle.std.proofs.Common.{◌≡◌, ℕ, ◌+◌, ◌*◌, ◌^◌, ◌<◌, ◌≤◌, Fits, unsigned_abs, rules, arith, ap, ◌∙◌, sym}
+use Rattle.std.proofs.Common.{◌≡◌, ℕ, ◌+◌, ◌*◌, ◌^◌, ◌≤◌, Fits, unsigned_abs, rules, arith, ap, ◌∙◌, sym}
 use Rattle.std.specs.Int.{w128}
 use mir.Val.{SFits}
-use Rattle.std.proofs.Math.Nat.{mul-le-mul, mul-le-mul_left, one-le-mul}
 use Rattle.integer_algebra.proofs.PowerLaws.{pow-two}
 use Rattle.qp_model.specs.Errors.{radius_error, row_radii}
 use Rattle.step_error.specs.ErrorSums.{sums_of, radius_cost}
 use Rattle.step_error.proofs.Ceilings.{quotient_is, ceil_small, positive_by}
-use Rattle.step_error.proofs.SumFacts.{bounded, radii_at, read_size, within_of}
+use Rattle.step_error.proofs.SumFacts.{bounded, radii_at, read_size}
 use Rattle.step_error.proofs.errors.radius_cost.Goals as goal
 
 squared : (c : goal.After-div_ceil-2) → c.radius_error-error.result * c.radius_error-error.result ≡ radius_error (sums_of c.args.e.now) c.args.plan ^ 2

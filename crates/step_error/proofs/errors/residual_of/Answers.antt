@@ -1,4 +1,4 @@
-use Rattle.std.proofs.Common.{◌≡◌, ℕ, ◌+◌, ◌*◌, ◌^◌, ◌≤◌, rules, arith}
+use Rattle.std.proofs.Common.{◌≡◌, ◌+◌, ◌*◌, ◌^◌, ◌≤◌, rules, arith}
 use Rattle.std.specs.Int.{w128}
 use mir.Val.{SFits}
 use Rattle.qp_model.specs.Errors.{residual_error}

@@ -1,11 +1,11 @@
-use Rattle.std.proofs.Common.{◌≡◌, ℕ, ◌+◌, ◌*◌, ◌^◌, ◌<◌, ◌≤◌, Fits, unsigned_abs, rules, arith, ◌∙◌}
+use Rattle.std.proofs.Common.{◌≡◌, ℕ, ◌+◌, ◌*◌, ◌^◌, ◌≤◌, Fits, unsigned_abs, rules, arith, ◌∙◌}
 use Rattle.std.specs.Int.{w128}
 use mir.Val.{SFits}
 use Rattle.integer_algebra.proofs.PowerLaws.{pow_positive}
 use Rattle.qp_model.specs.Errors.{residual_error}
 use Rattle.step_error.specs.ErrorSums.{sums_of, rounding_cost}
 use Rattle.step_error.proofs.Ceilings.{quotient_is, ceil_small}
-use Rattle.step_error.proofs.SumFacts.{bounded, room_at, shifted, four_is, read_size, within_of}
+use Rattle.step_error.proofs.SumFacts.{bounded, room_at, shifted, four_is, read_size}
 use Rattle.step_error.proofs.errors.rounding_cost.Goals as goal
 
 pub overflow_mul-gradient : goal.overflow_mul-gradient

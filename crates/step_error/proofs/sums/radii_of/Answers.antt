@@ -1,4 +1,4 @@
-use Rattle.std.proofs.Common.{◌≡◌, ℕ, ◌*◌, ◌^◌, ◌≤◌, unsigned_abs, rules, arith, ap, sym, ◌∙◌, refl}
+use Rattle.std.proofs.Common.{◌*◌, unsigned_abs, rules, arith, ap, sym, ◌∙◌, refl}
 use Rattle.std.specs.Int.{w128}
 use mir.Val.{SFits}
 use Rattle.std.proofs.Math.Nat.{mul-le-mul, one-le-mul}

@@ -1,13 +1,12 @@
-use Rattle.std.proofs.Common.{rules, ◌≡◌, ◌+◌, ◌*◌, ◌^◌, ◌≤◌, arith, ◌∙◌, sym, refl}
+use Rattle.std.proofs.Common.{rules, ◌+◌, ◌*◌, arith, ◌∙◌, sym, refl}
 use Rattle.std.specs.Int.{w128}
 use mir.Val.{SFits}
 use Rattle.qp_model.specs.Parts.{design_of}
 use Rattle.qp_model.specs.Form.{form_of}
-use Rattle.qp_model.specs.Errors.{pull, state_bound, linear_sum, constant_sum, plan_row_sum, gradient_error, gradient_squares}
 use Rattle.qp_model.proofs.SizeFacts.{positive}
 use Rattle.step_error.proofs.Ceilings.{positive_by}
 use Rattle.step_error.proofs.SumFacts.{read_size, few, within_of}
-use Rattle.step_error.proofs.DesignSums.{hessian_row_small, scale_is, scale_one, weight_is, floor_is, count_is, reach_is, squares_is, within, reach_small, sums_are, room_of, size_of, AreOf, AreWithin}
+use Rattle.step_error.proofs.DesignSums.{hessian_row_small, scale_is, scale_one, weight_is, floor_is, count_is, reach_is, squares_is, within, reach_small, sums_are, room_of, size_of, AreOf}
 use Rattle.step_error.specs.declared.sums.Whole.{Whole}
 use Rattle.step_error.specs.ErrorSums.{whole_sums}
 use Rattle.step_error.proofs.sums.sums_of.Goals as goal

@@ -1,4 +1,4 @@
-use Rattle.std.proofs.Common.{◌≡◌, ℕ, ◌+◌, ◌*◌, ◌^◌, ◌<◌, ◌≤◌, arith, ap, sym, ◌∙◌, refl}
+use Rattle.std.proofs.Common.{◌≡◌, ℕ, ◌+◌, ◌*◌, ◌^◌, ◌≤◌, arith, ap, sym, ◌∙◌, refl}
 use Rattle.std.proofs.Math.Nat.{mul-le-mul, mul-le-mul_right, one-le-mul}
 use Rattle.integer_algebra.specs.Division.{ceil_div}
 use Rattle.integer_algebra.proofs.PowerLaws.{pow-two}
@@ -16,8 +16,15 @@ pub overflow_add-error : goal.overflow_add-error
 overflow_add-error c =
     let cost = quotient_is _ _ _ c.args.moved c.args.self.now.radii.cost_scale c.requires.room.radii.cost_some c.div_ceil.ensures refl refl in
     let row = quotient_is _ _ _ c.args.columns c.args.self.now.radii.row_scale c.requires.room.radii.row_some c.div_ceil-2.ensures refl refl in
-    omega (arith, cost, row, ceil_small c.args.moved c.args.self.now.radii.cost_scale c.requires.room.radii.cost_some,
-    ceil_small c.args.columns c.args.self.now.radii.row_scale c.requires.room.radii.row_some, c.requires.moved, c.requires.columns)
+    omega (
+      arith,
+      cost,
+      row,
+      ceil_small c.args.moved c.args.self.now.radii.cost_scale c.requires.room.radii.cost_some,
+      ceil_small c.args.columns c.args.self.now.radii.row_scale c.requires.room.radii.row_some,
+      c.requires.moved,
+      c.requires.columns,
+    )
 
 pub overflow_mul-self : goal.overflow_mul-self
 overflow_mul-self c = omega (arith, mul-le-mul c.requires.room.weight c.requires.room.entries)

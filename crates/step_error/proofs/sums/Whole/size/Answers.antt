@@ -1,7 +1,7 @@
-use Rattle.std.proofs.Common.{◌≡◌, ℕ, ◌+◌, ◌*◌, ◌^◌, ◌<◌, ◌≤◌, arith, ◌∙◌, refl}
+use Rattle.std.proofs.Common.{ℕ, ◌+◌, ◌*◌, ◌^◌, ◌≤◌, arith, ◌∙◌, refl}
 use Rattle.std.proofs.Math.Nat.{mul-le-mul}
 use Rattle.integer_algebra.specs.Division.{ceil_div}
-use Rattle.step_error.specs.ErrorSums.{spread_of, sums_by, rounding_size, radius_size}
+use Rattle.step_error.specs.ErrorSums.{sums_by, rounding_size, radius_size}
 use Rattle.step_error.proofs.Ceilings.{quotient_is, ceil_anti}
 use Rattle.step_error.proofs.SumFacts.{kept, plan_is, spread_few, within_of}
 use Rattle.step_error.proofs.sums.Whole.size.Goals as goal
