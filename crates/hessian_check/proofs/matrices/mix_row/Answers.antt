@@ -8,6 +8,22 @@ use Rattle.hessian_check.proofs.FillLaws.{first_start, first_more, first_row}
 use Rattle.hessian_check.proofs.MatrixLaws.{mixed_fits}
 use Rattle.hessian_check.proofs.matrices.mix_row.Goals as goal
 
+pub overflow_mul-x : goal.overflow_mul-x
+overflow_mul-x c =
+    let i = c.args.i in
+    let j = c.loop-j.j in
+    let f = mixed_fits c.args.x (entry_of c.args.a.now i j) c.args.y (entry_of c.args.b.now i j) (c.requires.room i j c.requires.inside (omega arith)) in
+    let p : FitsSigned w128 c.at.result = search rules in
+    rw (to_z-of_z w128 _ c.ranges.x, to_z-of_z w128 _ p, c.at.ensures) f.0
+
+pub overflow_mul-y : goal.overflow_mul-y
+overflow_mul-y c =
+    let i = c.args.i in
+    let j = c.loop-j.j in
+    let f = mixed_fits c.args.x (entry_of c.args.a.now i j) c.args.y (entry_of c.args.b.now i j) (c.requires.room i j c.requires.inside (omega arith)) in
+    let q : FitsSigned w128 c.at-in-loop-j.result = search rules in
+    rw (to_z-of_z w128 _ c.ranges.y, to_z-of_z w128 _ q, c.at-in-loop-j.ensures) f.1
+
 pub overflow_sub-x : goal.overflow_sub-x
 overflow_sub-x c =
     let i = c.args.i in
