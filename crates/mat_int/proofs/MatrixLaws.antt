@@ -1,18 +1,19 @@
 -- Matrices by their entries.
-use Rattle.std.proofs.Common.{◌≡◌, ◌⊎◌, inl, inr, ℕ, zero, suc, ◌<◌, ◌≤◌, ◌^◌, ◌*◌, ℤ, pos, ◌*ℤ◌, List, [], length, map, get_or, unsigned_abs, arith, ap, ap₂, sym, ◌∙◌}
+use Rattle.std.proofs.Common.{◌≡◌, ◌≢◌, ◌⊎◌, inl, inr, ℕ, zero, suc, ◌<◌, ◌≤◌, ◌^◌, ◌*◌, ℤ, pos, ◌*ℤ◌, List, [], length, map, get_or, get_or-set_other, get_or-set_same, slice_set, unsigned_abs, arith, ap, ap₂, sym, ◌∙◌}
 use Rattle.std.specs.Prelude.{All}
 use Rattle.std.specs.List.{range_with_len}
 use Rattle.std.proofs.Math.Nat.{mul_comm}
-use Rattle.std.proofs.lemmas.Bool.{cases_lt}
-use Rattle.std.proofs.lemmas.List.{get_or-map, length-map}
-use Rattle.std.proofs.lemmas.List.Elements.{All-map, All-from_get_or}
+use Rattle.std.proofs.lemmas.Bool.{cases_lt, cases_eq}
+use Rattle.std.proofs.lemmas.List.{get_or-map, length-map, length-set}
+use Rattle.std.proofs.lemmas.List.Elements.{All-map, All-set, All-from_get_or}
 use Rattle.std.proofs.lemmas.List.FromFn.{length-map-range_with_len, get_or-map-range_with_len}
+use Rattle.integer_algebra.specs.Sums.{at}
 use Rattle.integer_algebra.specs.Matrices.{matrix_product, matrix_product_size, gram, gram_size}
 use Rattle.integer_algebra.proofs.SumLaws.{total_same}
 use Rattle.integer_algebra.proofs.SizeLaws.{amount_same}
 use Rattle.integer_algebra.proofs.VectorLaws.{dot_comm}
 use Rattle.mat_int.specs.Row as lists
-use Rattle.mat_int.specs.Matrix.{Matrix, row_of, column_of, entry_of, transpose_of, times, HasEntries, AllFit, SomeIsWide}
+use Rattle.mat_int.specs.Matrix.{Matrix, row_of, column_of, entry_of, transpose_of, times, with_entry, HasEntries, AllFit, SomeIsWide}
 use Rattle.mat_int.proofs.Indices.{dot_is, abs_dot_is}
 
 -- the matrix of the columns of another is its transpose
@@ -123,3 +124,28 @@ module _ (b t : Matrix) (h : HasEntries b.cols (length b.rows) (transpose_of b) 
   pub gram_size_same : (i j : ℕ) → i < b.cols → j < b.cols → matrix_product_size t.cols (entry_of t) (transpose_of t) i j ≡ gram_size (length b.rows) (entry_of b) i j
   gram_size_same i j p q =
       rw h.cols (amount_same (length b.rows) _ _ (λ l o. ap₂ (λ (x y : ℤ). unsigned_abs x * unsigned_abs y) (h.entries i l p o) (h.entries j l q o)))
+
+-- ---- a matrix in which an entry is written
+row_here : (m : Matrix) (i j : ℕ) (v : ℤ) → i < length m.rows → row_of (with_entry m i j v) i ≡ slice_set (row_of m i) j v
+row_here m i j v l = get_or-set_same m.rows i (slice_set (row_of m i) j v) [] l
+
+-- the entry itself
+pub entry_here : (m : Matrix) (i j : ℕ) (v : ℤ) → i < length m.rows → j < length (row_of m i) → entry_of (with_entry m i j v) i j ≡ v
+entry_here m i j v l k = ap (λ (row : List ℤ). at row j) (row_here m i j v l) ∙ get_or-set_same (row_of m i) j v (pos 0) k
+
+-- entries of other columns
+pub entry_beside : (m : Matrix) (i j a b : ℕ) (v : ℤ) → b ≢ j → i < length m.rows → entry_of (with_entry m i j v) a b ≡ entry_of m a b
+entry_beside m i j a b v ne l = elim (cases_eq a i) [
+  | inl e ↦ rw e (ap (λ (row : List ℤ). at row b) (row_here m i j v l) ∙ get_or-set_other (row_of m i) j b v (pos 0) ne)
+  | inr e ↦ ap (λ (row : List ℤ). at row b) (get_or-set_other m.rows i a _ [] e)
+]
+
+-- entries of other rows
+pub entry_elsewhere : (m : Matrix) (i j a b : ℕ) (v : ℤ) → a ≢ i → entry_of (with_entry m i j v) a b ≡ entry_of m a b
+entry_elsewhere m i j a b v ne = ap (λ (row : List ℤ). at row b) (get_or-set_other m.rows i a _ [] ne)
+
+-- the rows' length stays
+pub even_kept : (m : Matrix) (width i j : ℕ) (v : ℤ) → All (λ row. length row ≡ width) m.rows → i < length m.rows →
+    All (λ row. length row ≡ width) (with_entry m i j v).rows
+even_kept m width i j v even l =
+    All-set (λ row. length row ≡ width) m.rows i (slice_set (row_of m i) j v) (length-set (row_of m i) j v ∙ even i [] l) even

@@ -45,6 +45,8 @@ fn entries(rt: HostRuntime) -> Result<(), Fail> {
     assert_eq!(rt; made.at(1, 2), -5);
     assert_eq!(rt; made.at(0, 2), 0);
     expect_rows(&rt, &made, 3, &[&[0, 0, 0], &[0, 0, -5]]);
+    made.set_column(0, &[7, MIN]);
+    expect_rows(&rt, &made, 3, &[&[7, 0, 0], &[MIN, 0, -5]]);
     Ok(())
 }
 
@@ -154,6 +156,7 @@ fn absolute_sums(rt: HostRuntime) -> Result<(), Fail> {
         assert_eq!(rt; made.row_abs_sum(0), sum);
         assert_eq!(rt; abs_sum(&row), sum);
     }
+    assert_eq!(rt; absolute_sum(&[MIN, MAX]), u128::MAX);
     Ok(())
 }
 

@@ -145,3 +145,8 @@ some_row p h = last p.stages (length p.stage_rows.rows) (length p.final_rows.row
   where
     last : (a b c : ℕ) → 1 ≤ a → 1 ≤ b + c → 1 ≤ a * b + c
     last a b c h k = omega (arith, mul-le-mul_left b h)
+
+-- numerators, added up
+pub numerators_size : (n : ℕ) (f : ℕ → ℤ) → ((i : ℕ) → i < n → unsigned_abs (f i) < 2 ^ 31) → size n f ≤ 2 ^ 31 * n
+numerators_size zero f h = omega arith
+numerators_size (suc n) f h = omega (arith, numerators_size n f (λ i l. h i (omega arith)), h n (omega arith))

@@ -13,4 +13,4 @@ pub const MOST_INPUTS: usize = 3;
 pub const MOST_STAGES: usize = 20;
 
 /// The most limit rows, those of all stages and the final ones: 12 of each kind.
-pub const MOST_ROWS: usize = 252;
+pub const MOST_ROWS: usize = MOST_STAGES * 12 + 12;

@@ -39,11 +39,7 @@ fn absolute_sum(xs: &[i128]) -> u128
     ensures sum { result ≡ size (length xs.now) (at xs.now) }
     ensures small { result ≤ 2 ^ 31 * length xs.now }
 {
-    let mut sum = 0;
-    for x in xs {
-        sum += x.unsigned_abs();
-    }
-    sum
+    mat_int::absolute_sum(xs)
 }
 
 // The greatest absolute sum of the first `width` numbers of a row.

@@ -19,8 +19,8 @@ pub returns-in-Ok-clause-right : goal.returns-in-Ok-clause-right
 returns-in-Ok-clause-right g c =
     let d = c.in-Ok.design in
     right_text c.args.file IsDesignFault no_room (Text c.args.file) (SaysText c.args.file) (text_said c.args.file) DesignRight (g.S.Store.held c.args.store.now) c.args.name.now c.in_ok-bytes.bytes.items c.in_ok-bytes.ensures.told c.in_ok-bytes.ensures.short
-    design_numbers d.parts (rw c.deref.ensures.value at c.in-Ok.ensures.text)
-    (λ y right. sym (ok_or d no_room (design_numbers d.parts ≡ design_numbers y) (rw c.deref.ensures.value at c.in-Ok.ensures.every_text y right)))
+    design_numbers d (rw c.deref.ensures.value at c.in-Ok.ensures.text)
+    (λ y right. sym (ok_or d no_room (design_numbers d ≡ design_numbers y) (rw c.deref.ensures.value at c.in-Ok.ensures.every_text y right)))
     (λ fault is. ok_never d no_room fault (rw c.deref.ensures.value at c.in-Ok.ensures.every_fault fault is))
 
 pub returns-clause-ends : goal.returns-clause-ends
