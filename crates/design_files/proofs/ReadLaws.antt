@@ -1,5 +1,5 @@
 -- What a reader answers, from what the readers below it do.
-use Rattle.std.proofs.Common.{◌≡◌, ◌⊎◌, List, [], ◌∷◌, ◌++◌, Result, Ok, Err, inl, inr}
+use Rattle.std.proofs.Common.{◌≡◌, List, [], ◌∷◌, ◌++◌, Result, Ok, Err, inl, inr}
 use Rattle.qp_model.specs.declared.text_fault.TextFault.{TextFault}
 use Rattle.std.specs.Prelude.{OnOk, IfErr}
 use Rattle.qp_model.specs.declared.text_fault.TextFault.TheVariants.{Key}

@@ -3,7 +3,7 @@ use Rattle.std.specs.Prelude.{◌≡◌, ℕ, ◌+◌, ◌≤◌, ◌<◌, ℤ, 
 use Rattle.integer_algebra.specs.Sums.{at}
 use Rattle.mat_int.specs.Matrix.{Matrix, entry_of}
 use Rattle.toml.specs.Data.{Data}
-use Rattle.qp_model.specs.Range.{LiesIn, IsDenominator, IsNumerator, IsPositive}
+use Rattle.qp_model.specs.Range.{LiesIn, IsDenominator, IsPositive}
 use Rattle.qp_model.specs.Parts.{IsTable, IsNumeratorList}
 use Rattle.design_files.specs.Numbers.{number_in, list_in, IsMatrix}
 use Rattle.design_files.specs.Values.{Values}

@@ -1,4 +1,3 @@
-use Rattle.std.proofs.Common.{◌++◌}
 use Rattle.std.proofs.lemmas.Result.{err_from_is_err_and}
 use Rattle.qp_model.proofs.RuleLaws.{all_hold}
 use Rattle.design_files.specs.Keys.{seen}
