@@ -6,6 +6,7 @@ use Rattle.qp_model.specs.Controller.{Numbers}
 use Rattle.controller_file.specs.declared.fault.LineFault.{LineFault}
 use Rattle.controller_file.specs.declared.fault.LineFault.TheVariants as faults
 use Rattle.controller_file.specs.declared.parts.Head.{Head}
+use Rattle.controller_file.specs.declared.parts.Back.{Back}
 use Rattle.controller_file.specs.Lines.{Keyed}
 
 infixl 10 ◌>>=◌
@@ -90,6 +91,10 @@ rest_at head low high p t ls = do
   bound ← numbers_at (codes "b") head.m e.1
   end ← numbers_at (codes "end") 0 bound.1
   if length end.1 == 0 then Some (record { states = head.n; inputs = head.p; stages = head.stages; rows = head.m; fraction_bits = head.f; grid_bits = head.g; step_exponent = head.s; width = head.w; steps = head.steps; clamp = head.clamp; words = head.words; low = low; high = high; state_gains = p; offsets = t; dual_gains = w.0; plan_rows = g.0; state_rows = e.0; bounds = bound.0 }) else None
+
+-- the numbers of the head and all lists
+abbrev pub whole : Head → List ℤ → List ℤ → Matrix → List ℤ → Back → Numbers
+whole head low high p t back = record { states = head.n; inputs = head.p; stages = head.stages; rows = head.m; fraction_bits = head.f; grid_bits = head.g; step_exponent = head.s; width = head.w; steps = head.steps; clamp = head.clamp; words = head.words; low = low; high = high; state_gains = p; offsets = t; dual_gains = back.w_mat; plan_rows = back.g_mat; state_rows = back.e_mat; bounds = back.bound.items }
 
 -- the lines after these, to the last
 unfoldable pub lists_at : Head → List Keyed → Option Numbers

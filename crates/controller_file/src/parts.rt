@@ -1,10 +1,11 @@
 // A controller's numbers from the lines of its text.
-ghost use Rattle.std.specs.Prelude.{◌≡◌, length, IfOk, MatchResult};
+ghost use Rattle.std.specs.Prelude.{◌≡◌, ℤ, List, length, IfOk, MatchResult};
+ghost use Rattle.mat_int.specs.Matrix.{Matrix};
 ghost use Rattle.qp_model.specs.Controller.{Numbers, numbers, IsShaped, IsInForm, FitsWord};
 ghost use Rattle.qp_model.specs.ControllerText.{controller_text};
 ghost use Rattle.controller_file.specs.declared.fault.LineFault.TheVariants.{Memory};
 ghost use Rattle.controller_file.specs.Lines.{view, views};
-ghost use Rattle.controller_file.specs.Reading.{Gives, natural, numbers_in, numbers_at, natural_at, four_at, all_rows_at, matrix_at, head_at, rest_at, parts_at};
+ghost use Rattle.controller_file.specs.Reading.{Gives, natural, numbers_in, numbers_at, natural_at, four_at, all_rows_at, matrix_at, head_at, rest_at, whole, parts_at};
 
 use crate::fault::LineFault;
 use crate::line::{Line, has_place, lines_of};
@@ -64,8 +65,16 @@ struct Front {
     t: Vec<i128>,
 }
 
+// The other lists.
+#[derive(Drop)]
+struct Back {
+    w_mat: Mat,
+    g_mat: Mat,
+    e_mat: Mat,
+    bound: Vec<i128>,
+}
+
 // The controller of this head and these lists whose other lists are these lines.
-#[tactic(auto, unfolding(crate::specs::Reading::rest_at))]
 fn rest_of(
     alloc: Global,
     head: Head,
@@ -73,6 +82,15 @@ fn rest_of(
     lines: &[Line],
 ) -> Result<ControllerParts, LineFault>
     ensures { Gives (λ x. numbers x) result (rest_at head front.lo.items front.hi.items front.p_mat front.t.items (views lines.now)) }
+{
+    let back = read_back(alloc, head, lines)?;
+    Ok(joined(head, front, back))
+}
+
+// The lists after the offsets, to the last line, whatever stands before them.
+#[tactic(auto, unfolding(crate::specs::Reading::rest_at))]
+fn read_back(alloc: Global, head: Head, lines: &[Line]) -> Result<Back, LineFault>
+    ensures { (low high : List ℤ) (p : Matrix) (t : List ℤ) → Gives (whole head low high p t) result (rest_at head low high p t (views lines.now)) }
 {
     let n = head.n as usize;
     let m = head.m as usize;
@@ -85,11 +103,23 @@ fn rest_of(
     if !lines.is_empty() {
         return Err(LineFault::Form);
     }
-    Ok(ControllerParts {
-        n,
+    Ok(Back {
+        w_mat,
+        g_mat,
+        e_mat,
+        bound,
+    })
+}
+
+// The controller of a head and all lists.
+fn joined(head: Head, front: Front, back: Back) -> ControllerParts
+    ensures { numbers result ≡ whole head front.lo.items front.hi.items front.p_mat front.t.items back }
+{
+    ControllerParts {
+        n: head.n as usize,
         p: head.p as usize,
         stages: head.stages as usize,
-        m,
+        m: head.m as usize,
         f: head.f,
         g: head.g,
         s: head.s,
@@ -101,11 +131,11 @@ fn rest_of(
         hi: front.hi,
         p_mat: front.p_mat,
         t: front.t,
-        w_mat,
-        g_mat,
-        e_mat,
-        bound,
-    })
+        w_mat: back.w_mat,
+        g_mat: back.g_mat,
+        e_mat: back.e_mat,
+        bound: back.bound,
+    }
 }
 
 // The first six lines, and the others.

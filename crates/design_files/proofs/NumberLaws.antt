@@ -1,16 +1,15 @@
 -- Integers of items, and the rows of a matrix written one after the other.
-use Rattle.std.proofs.Common.{◌≡◌, ℕ, zero, suc, ◌+◌, ◌<◌, ◌≤◌, ℤ, pos, List, [], ◌∷◌, ◌++◌, length, get_or, take, drop, set, Option, get_or-set_same, set-set, add-one, Vec, Result, inl, inr, ◌⊎◌, All, Some, None, option_map, refl, sym, ap, ◌∙◌, arith}
+use Rattle.std.proofs.Common.{◌≡◌, ℕ, zero, suc, ◌+◌, ◌<◌, ℤ, pos, List, [], ◌∷◌, ◌++◌, length, get_or, take, drop, set, Option, get_or-set_same, set-set, add-one, Vec, Result, inl, inr, All, Some, None, option_map, refl, sym, ap, ◌∙◌, arith}
 use Rattle.std.specs.Prelude.{IsSome, IsSomeAnd}
 use Rattle.std.specs.declared.alloc.Global.{Global}
-use Rattle.std.specs.Option.{option_and_then}
 use Rattle.std.proofs.lemmas.Option.{same_Some, none-some, option_and_then_some}
 use Rattle.mat_int.specs.Matrix.{Matrix, with_entry}
-use Rattle.toml.specs.Data.{Data, Items, no_items, item, as_integer, as_array}
+use Rattle.toml.specs.Data.{Data, as_integer, as_array}
 use Rattle.toml.specs.View.{view, items_view}
 use Rattle.toml.specs.declared.value.Value.{Value}
 use Rattle.qp_model.specs.Range.{LiesIn}
 use Rattle.qp_model.specs.declared.text_fault.TextFault.{TextFault}
-use Rattle.qp_model.specs.Rules.{Rule, IsFirstBroken, shape}
+use Rattle.qp_model.specs.Rules.{shape}
 use Rattle.design_files.specs.DesignText.{Reads}
 use Rattle.design_files.proofs.ReadLaws.{reads_as}
 use Rattle.design_files.specs.Numbers.{integers_of, rows_of, list_in, lists_in, IsLists, IsMatrix}

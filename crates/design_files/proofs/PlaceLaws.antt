@@ -1,8 +1,9 @@
 -- The numbers of the tables together.
-use Rattle.std.proofs.Common.{◌≡◌, ℕ, ℤ, pos, List, ◌++◌, Option, Some, refl, ap}
+use Rattle.std.proofs.Common.{◌≡◌, ℕ, pos, List, ◌++◌, Option, Some, refl, sym, ap, ◌∙◌}
+use Rattle.std.proofs.lemmas.List.{append_assoc}
 use Rattle.toml.specs.Data.{Data}
 use Rattle.qp_model.specs.Parts.{IsDesign}
-use Rattle.qp_model.specs.Rules.{Rule, AllHold}
+use Rattle.qp_model.specs.Rules.{Rule}
 use Rattle.qp_model.specs.declared.design_parts.DesignParts.{DesignParts}
 use Rattle.design_files.specs.Numbers.{number_in, count_of}
 use Rattle.design_files.specs.Values.{Values}
@@ -31,6 +32,24 @@ after_plant n p v = cost_places n p v ++ after_cost n p v
 
 abbrev pub after_sizes : ℕ → ℕ → Values → List Rule
 after_sizes n p v = plant_places n p v ++ after_plant n p v
+
+-- the rules up to those of the cost, and those from there on
+abbrev pub first_places : ℕ → ℕ → Values → List Rule
+first_places n p v = size_places v ++ (plant_places n p v ++ cost_places n p v)
+
+in_halves : (a b c d : List Rule) → a ++ (b ++ (c ++ d)) ≡ (a ++ (b ++ c)) ++ d
+in_halves a b c d = sym (append_assoc a (b ++ c) d ∙ ap (λ rest. a ++ rest) (append_assoc b c d))
+
+pub halves : (v : Values) → place_rules v ≡ first_places (count_of v.states) (count_of v.inputs) v ++ after_cost (count_of v.states) (count_of v.inputs) v
+unfolding rules_for
+halves v = in_halves (size_places v) (plant_places (count_of v.states) (count_of v.inputs) v) (cost_places (count_of v.states) (count_of v.inputs) v) (after_cost (count_of v.states) (count_of v.inputs) v)
+
+-- the sizes are the counts that stand there
+pub states_are : (v : Values) (s : Sizes) → HasSizeNumbers v s → count_of v.states ≡ s.states
+states_are v s h = count_is v.states s.states h.states.number
+
+pub inputs_are : (v : Values) (s : Sizes) → HasSizeNumbers v s → count_of v.inputs ≡ s.inputs
+inputs_are v s h = count_is v.inputs s.inputs h.inputs.number
 
 -- the rules of a text whose sizes are known
 pub place_rules_at : (v : Values) (s : Sizes) → HasSizeNumbers v s → place_rules v ≡ size_places v ++ after_sizes s.states s.inputs v

@@ -1,7 +1,9 @@
 -- What a reader answers, from what the readers below it do.
-use Rattle.std.proofs.Common.{◌≡◌, ◌⊎◌, List, [], ◌∷◌, ◌++◌, Result, Ok, Err, inl, inr}
+use Rattle.std.proofs.Common.{◌≡◌, List, [], ◌∷◌, ◌++◌, Result, Ok, Err, inl, inr}
 use Rattle.qp_model.specs.declared.text_fault.TextFault.{TextFault}
-use Rattle.qp_model.specs.Rules.{Rule, AllHold, IsFirstBroken}
+use Rattle.std.specs.Prelude.{OnOk, IfErr}
+use Rattle.qp_model.specs.declared.text_fault.TextFault.TheVariants.{Key}
+use Rattle.qp_model.specs.Rules.{Rule, AllHold, IsFirstBroken, Tests, key}
 use Rattle.qp_model.proofs.RuleLaws.{broken_before, broken_after}
 use Rattle.design_files.specs.DesignText.{FailsRule, Reads}
 
@@ -18,3 +20,12 @@ fails_before rules more fault failed = elim failed [ inl none ↦ inl none | inr
 
 pub fails_after : (rules more : List Rule) (fault : TextFault) → AllHold rules → FailsRule fault more → FailsRule fault (rules ++ more)
 fails_after rules more fault held failed = elim failed [ inl none ↦ inl none | inr broken ↦ inr (broken_after rules more fault held broken) ]
+
+-- ---- a test of rules one after another
+pub test_next : (rule : Rule) (rules : List Rule) (answer : Result (Unit {0}) TextFault) → rule.holds → Tests answer rules → Tests answer (rule ∷ rules)
+test_next rule rules (Ok done) held rest = (held, rest)
+test_next rule rules (Err fault) held rest = inr (held, rest)
+
+pub test_last : (P : Type 0) (answer : Result (Unit {0}) TextFault) → OnOk answer P → IfErr answer (λ fault. (fault ≡ Key 0) × ¬ P) → Tests answer (key 0 P ∷ [])
+test_last P (Ok done) ok err = (ok, tt)
+test_last P (Err fault) ok err = inl (err.1, err.0)

@@ -1,15 +1,14 @@
 -- A text is a design text or has a first fault, and not both; and it has one of either.
-use Rattle.std.proofs.Common.{◌≡◌, ◌⊎◌, ℕ, ◌+◌, ◌≤◌, ◌<◌, ℤ, pos, ◌≤ℤ◌, List, [], ◌∷◌, ◌++◌, length, All, Option, Some, None, IsSome, refl, sym, ap, ◌∙◌, inl, inr, Result, Ok, Err, lit≤, zero-le, arith}
+use Rattle.std.proofs.Common.{◌≡◌, ◌⊎◌, ℕ, ◌+◌, ◌≤◌, ◌<◌, ℤ, pos, ◌≤ℤ◌, List, ◌++◌, length, All, Option, Some, None, IsSome, refl, sym, ap, ◌∙◌, inl, inr, Result, Ok, Err, lit≤, zero-le, arith}
 use Rattle.std.specs.Prelude.{IsSomeAnd, MatchOption, IfOk, IfErr, IsOkAnd}
-use Rattle.std.specs.Option.{option_and_then}
 use Rattle.std.proofs.lemmas.Int.{ints}
 use Rattle.std.proofs.lemmas.Option.{same_Some, none-some}
 use Rattle.integer_algebra.specs.Sums.{at}
 use Rattle.mat_int.specs.Matrix.{Matrix, entry_of}
 use Rattle.toml.specs.Data.{Data, Members}
-use Rattle.qp_model.specs.Range.{LiesIn, IsDenominator, IsNumerator, IsPositive}
-use Rattle.qp_model.specs.Parts.{IsDesign, IsTable, IsNumeratorList, DesignNumbers, design_numbers}
-use Rattle.qp_model.specs.Rules.{Rule, AllHold, IsFirstBroken}
+use Rattle.qp_model.specs.Range.{LiesIn, IsDenominator, IsPositive}
+use Rattle.qp_model.specs.Parts.{IsDesign, IsTable, IsNumeratorList, design_numbers}
+use Rattle.qp_model.specs.Rules.{AllHold, IsFirstBroken}
 use Rattle.qp_model.specs.declared.design_parts.DesignParts.{DesignParts}
 use Rattle.qp_model.specs.declared.text_fault.TextFault.{TextFault}
 use Rattle.qp_model.specs.declared.text_fault.TextFault.TheVariants.{NotToml, Memory}
@@ -17,9 +16,9 @@ use Rattle.qp_model.specs.declared.design.Design.{Design}
 use Rattle.qp_model.specs.declared.design.Design.{Design}
 use Rattle.qp_model.proofs.RuleLaws.{all_hold, held_after, none_broken, one_fault}
 use Rattle.design_files.specs.Document.{document_of}
-use Rattle.design_files.specs.Numbers.{number_in, list_in, lists_in, IsMatrix, IsNumber, IsList, IsLists, number_of, count_of, list_of, lists_of}
+use Rattle.design_files.specs.Numbers.{number_in, list_in, IsMatrix, IsLists}
 use Rattle.design_files.specs.Values.{Values, values_of, top_keys, plant_keys, cost_keys, limit_keys, box_keys, target_keys, further_keys}
-use Rattle.design_files.specs.Places.{count_rules, denominator_rules, positive_rules, table_rules, cost_row_rules, input_rules, final_row_rules, low_rules, high_rules, size_places, plant_places, cost_places, limit_places, box_places, target_places, rules_for, place_rules, key_rules}
+use Rattle.design_files.specs.Places.{count_rules, denominator_rules, positive_rules, table_rules, cost_row_rules, input_rules, final_row_rules, low_rules, high_rules, size_places, plant_places, cost_places, limit_places, box_places, target_places, place_rules, key_rules}
 use Rattle.design_files.specs.DesignText.{HasNumbers, IsDesignDocument, IsDesignText, rules_of, IsDesignFault}
 use Rattle.design_files.specs.Sections.{HasSizeNumbers}
 use Rattle.design_files.specs.declared.places.Sizes.{Sizes}

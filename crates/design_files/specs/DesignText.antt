@@ -1,5 +1,5 @@
 -- Design texts, and the first fault of a text that is none.
-use Rattle.std.specs.Prelude.{◌≡◌, ◌⊎◌, ℕ, pos, List, ◌++◌, Option, Some, IsSomeAnd, MatchOption, Result, Ok, Err}
+use Rattle.std.specs.Prelude.{◌≡◌, ◌⊎◌, ℕ, pos, List, ◌++◌, Some, IsSomeAnd, MatchOption, Result, Ok, Err}
 use Rattle.toml.specs.Data.{Members}
 use Rattle.qp_model.specs.Parts.{IsDesign, design_version}
 use Rattle.qp_model.specs.Rules.{Rule, AllHold, IsFirstBroken}

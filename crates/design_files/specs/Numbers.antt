@@ -1,5 +1,5 @@
 -- The integers that a value has. Other values, as floats and booleans, are none.
-use Rattle.std.specs.Prelude.{◌≡◌, ℕ, ℤ, pos, List, [], ◌∷◌, length, All, Option, Some, None, IsSome, IsSomeAnd, unwrap_or, unsigned_abs}
+use Rattle.std.specs.Prelude.{◌≡◌, ℕ, ℤ, pos, List, [], ◌∷◌, length, All, Option, Some, IsSome, IsSomeAnd, unwrap_or, unsigned_abs}
 use Rattle.std.specs.Option.{option_and_then, option_map}
 use Rattle.toml.specs.Data.{Data, Items, no_items, item, as_integer, as_array}
 use Rattle.mat_int.specs.Matrix.{Matrix}

@@ -1,5 +1,5 @@
 -- The rules of a design text's places: the shape of the value at each, and then the range of its numbers.
-use Rattle.std.specs.Prelude.{ℕ, ◌+◌, ℤ, pos, ◌≤ℤ◌, List, [], ◌∷◌, ◌++◌, All, Option}
+use Rattle.std.specs.Prelude.{ℕ, ◌+◌, pos, ◌≤ℤ◌, List, [], ◌∷◌, ◌++◌, All, Option}
 use Rattle.toml.specs.Data.{Data, Members}
 use Rattle.qp_model.specs.Limits.{most_states, most_inputs, most_stages}
 use Rattle.qp_model.specs.Range.{IsDenominator, IsNumerator, IsPositive}

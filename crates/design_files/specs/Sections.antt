@@ -4,7 +4,7 @@ use Rattle.integer_algebra.specs.Sums.{at}
 use Rattle.mat_int.specs.Matrix.{Matrix, entry_of}
 use Rattle.toml.specs.Data.{Data}
 use Rattle.qp_model.specs.Limits.{most_states, most_inputs, most_stages}
-use Rattle.qp_model.specs.Range.{LiesIn, IsDenominator, IsNumerator, IsPositive}
+use Rattle.qp_model.specs.Range.{LiesIn, IsDenominator, IsPositive}
 use Rattle.qp_model.specs.Parts.{IsTable, IsNumeratorList}
 use Rattle.design_files.specs.Numbers.{number_in, list_in, IsMatrix}
 use Rattle.design_files.specs.Values.{Values}
@@ -14,6 +14,8 @@ use Rattle.design_files.specs.declared.places.CostNumbers.{CostNumbers}
 use Rattle.design_files.specs.declared.places.LimitNumbers.{LimitNumbers}
 use Rattle.design_files.specs.declared.places.BoxNumbers.{BoxNumbers}
 use Rattle.design_files.specs.declared.places.TargetNumbers.{TargetNumbers}
+use Rattle.design_files.specs.declared.places.FirstNumbers.{FirstNumbers}
+use Rattle.design_files.specs.declared.places.LastNumbers.{LastNumbers}
 
 pub record HasCount (value : Option Data) (low high n : ℕ) : Type 0 where
   pub number : number_in value ≡ Some (pos n)
@@ -80,3 +82,14 @@ pub record HasTargets (v : Values) (q : TargetNumbers) : Type 0 where
   pub den : HasDenominator v.target_den q.den
   pub violation : HasPositive v.violation q.violation
   pub gap : HasPositive v.gap q.gap
+
+-- ---- the tables up to the cost, and those from the limits on
+pub record HasFirst (v : Values) (q : FirstNumbers) : Type 0 where
+  pub sizes : HasSizeNumbers v q.sizes
+  pub plant : HasPlant v q.sizes.states q.sizes.inputs q.plant
+  pub cost : HasCostNumbers v q.sizes.states q.sizes.inputs q.cost
+
+pub record HasLast (v : Values) (n p : ℕ) (q : LastNumbers) : Type 0 where
+  pub limits : HasLimits v n p q.limits
+  pub bounds : HasBox v n q.bounds
+  pub targets : HasTargets v q.targets

@@ -187,6 +187,21 @@ fn find_value<'a>(place: u32, table: &'a Table, key: &str) -> Result<&'a Value, 
     }
 }
 
+// The keys of each table.
+const TOP: &[&str] = &[
+    "version", "states", "inputs", "stages", "plant", "cost", "limits", "box", "targets",
+];
+
+const PLANT: &[&str] = &["den", "a", "b"];
+
+const COST: &[&str] = &["den", "row_den", "input", "stage", "final"];
+
+const LIMITS: &[&str] = &["den", "stage", "final"];
+
+const BOX: &[&str] = &["grid", "lo", "hi"];
+
+const TARGETS: &[&str] = &["den", "violation", "gap"];
+
 // The fault where a further key stands at the top, or in one of the tables.
 fn refuse_further_keys(document: &Table, keys: &Keys) -> Result<(), TextFault>
     requires plant { ArePlant (table_view document.now) keys.now.plant }
@@ -196,16 +211,12 @@ fn refuse_further_keys(document: &Table, keys: &Keys) -> Result<(), TextFault>
     requires targets { AreTargets (table_view document.now) keys.now.targets }
     ensures { Tests result (further_keys (table_view document.now)) }
 {
-    let top = [
-        "version", "states", "inputs", "stages", "plant", "cost", "limits", "box", "targets",
-    ];
-    let cost = ["den", "row_den", "input", "stage", "final"];
-    refuse_others(document, &top)?;
-    refuse_others(keys.plant.table, &["den", "a", "b"])?;
-    refuse_others(keys.cost.table, &cost)?;
-    refuse_others(keys.limits.table, &["den", "stage", "final"])?;
-    refuse_others(keys.box_.table, &["grid", "lo", "hi"])?;
-    refuse_others(keys.targets.table, &["den", "violation", "gap"])
+    refuse_others(document, TOP)?;
+    refuse_others(keys.plant.table, PLANT)?;
+    refuse_others(keys.cost.table, COST)?;
+    refuse_others(keys.limits.table, LIMITS)?;
+    refuse_others(keys.box_.table, BOX)?;
+    refuse_others(keys.targets.table, TARGETS)
 }
 
 // The fault where a key of the table is none of these.

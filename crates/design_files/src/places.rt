@@ -1,14 +1,16 @@
 //! The places of a design text, read in their order.
-ghost use Rattle.std.specs.Prelude.{◌≡◌, ◌⊎◌, ◌≤◌, ◌+◌, Some, Err, IfOk, IfErr, IsOkAnd};
+ghost use Rattle.std.specs.Prelude.{◌≡◌, ◌⊎◌, ◌≤◌, ◌+◌, ◌++◌, Some, Err, IfOk, IfErr, IsOkAnd};
 ghost use Rattle.toml.specs.View.{view};
 ghost use Rattle.qp_model.specs.declared.design_parts.DesignParts.{DesignParts};
 ghost use Rattle.qp_model.specs.declared.text_fault.TextFault.{TextFault};
 ghost use Rattle.qp_model.specs.Limits.{most_states, most_inputs};
 ghost use Rattle.qp_model.specs.Parts.{IsDesign, design_numbers};
 ghost use Rattle.design_files.specs.Document.{document_of};
+ghost use Rattle.design_files.specs.Numbers.{count_of};
 ghost use Rattle.design_files.specs.Keys.{seen};
+ghost use Rattle.design_files.specs.Values.{Values};
 ghost use Rattle.design_files.specs.Places.{count_rules, denominator_rules, positive_rules, table_rules, cost_row_rules, input_rules, final_row_rules, low_rules, high_rules, size_places, plant_places, cost_places, limit_places, box_places, target_places, place_rules};
-ghost use Rattle.design_files.specs.Sections.{HasCount, HasDenominator, HasPositive, HasTable, HasCosts, HasInputs, HasLine, HasSizeNumbers, HasPlant, HasCostNumbers, HasLimits, HasBox, HasTargets};
+ghost use Rattle.design_files.specs.Sections.{HasCount, HasDenominator, HasPositive, HasTable, HasCosts, HasInputs, HasLine, HasSizeNumbers, HasPlant, HasCostNumbers, HasLimits, HasBox, HasTargets, HasFirst, HasLast};
 ghost use Rattle.design_files.specs.DesignText.{HasNumbers, Reads, IsDesignText, IsDesignFault};
 
 use crate::document::read_document;
@@ -95,16 +97,41 @@ struct TargetNumbers {
     gap: i128,
 }
 
+// What the text says before the limits.
+#[derive(Drop)]
+struct FirstNumbers {
+    sizes: Sizes,
+    plant: PlantNumbers,
+    cost: CostNumbers,
+}
+
+// What it says from the limits on.
+#[derive(Drop)]
+struct LastNumbers {
+    limits: LimitNumbers,
+    bounds: BoxNumbers,
+    targets: TargetNumbers,
+}
+
 fn read_parts(alloc: Global, keys: &Keys) -> Result<DesignParts, TextFault>
     ensures { let v = seen keys.now in Reads result (λ p. HasNumbers v p × IsDesign p) (place_rules v) }
 {
-    let sizes = read_sizes(keys)?;
-    let plant = read_plant(alloc, keys, sizes.states, sizes.inputs)?;
-    let cost = read_cost(alloc, keys, sizes.states, sizes.inputs)?;
-    let limits = read_limits(alloc, keys, sizes.states, sizes.inputs)?;
-    let bounds = read_box(alloc, keys, sizes.states)?;
-    let targets = read_targets(keys)?;
-    Ok(DesignParts {
+    let first = read_first(alloc, keys)?;
+    let last = read_last(alloc, keys, first.sizes.states, first.sizes.inputs)?;
+    Ok(joined(first, last))
+}
+
+// The numbers of both halves.
+fn joined(first: FirstNumbers, last: LastNumbers) -> DesignParts
+    ensures { (v : Values) → HasFirst v first → HasLast v first.sizes.states first.sizes.inputs last → HasNumbers v result × IsDesign result }
+{
+    let FirstNumbers { sizes, plant, cost } = first;
+    let LastNumbers {
+        limits,
+        bounds,
+        targets,
+    } = last;
+    DesignParts {
         states: sizes.states,
         inputs: sizes.inputs,
         stages: sizes.stages,
@@ -125,6 +152,32 @@ fn read_parts(alloc: Global, keys: &Keys) -> Result<DesignParts, TextFault>
         target_den: targets.den,
         violation: targets.violation,
         gap: targets.gap,
+    }
+}
+
+fn read_first(alloc: Global, keys: &Keys) -> Result<FirstNumbers, TextFault>
+    ensures { let v = seen keys.now in let n = count_of v.states in let p = count_of v.inputs in
+        Reads result (HasFirst v) (size_places v ++ (plant_places n p v ++ cost_places n p v)) }
+{
+    let sizes = read_sizes(keys)?;
+    let plant = read_plant(alloc, keys, sizes.states, sizes.inputs)?;
+    let cost = read_cost(alloc, keys, sizes.states, sizes.inputs)?;
+    Ok(FirstNumbers { sizes, plant, cost })
+}
+
+fn read_last(alloc: Global, keys: &Keys, n: usize, p: usize) -> Result<LastNumbers, TextFault>
+    requires states { n ≤ 4 }
+    requires inputs { p ≤ 3 }
+    ensures { let v = seen keys.now in
+        Reads result (HasLast v n p) (limit_places n p v ++ (box_places n v ++ target_places v)) }
+{
+    let limits = read_limits(alloc, keys, n, p)?;
+    let bounds = read_box(alloc, keys, n)?;
+    let targets = read_targets(keys)?;
+    Ok(LastNumbers {
+        limits,
+        bounds,
+        targets,
     })
 }
 

@@ -1,8 +1,7 @@
 use crate::read_design;
 use mat_int::Mat;
-use qp_model::TextFault;
-use std::alloc::Global;
-use std::process::Abort;
+use qp_model::{DesignParts, TextFault};
+use std::alloc::{AllocError, Global};
 use std::test::Fail;
 
 const BASE: &str = "version = 1
@@ -33,46 +32,31 @@ violation = 16
 gap = 1
 ";
 
-// The base text with one piece of it replaced.
-fn changed(alloc: Global, old: &str, new: &str) -> Result<String, Fail> {
-    let (before, after) = BASE.split_once(old).ok_or("the base has the piece")?;
-    Ok(format!(in alloc; "{before}{new}{after}")?)
+// Whether a matrix has this row.
+fn has_row(m: &Mat, i: usize, row: &[i128]) -> bool {
+    i < m.rows() && m.row(i) == row
 }
 
-// The numbers of a row.
-fn row<'a>(rt: &impl Abort, m: &'a Mat, i: usize) -> &'a [i128] {
-    assert!(rt; i < m.rows());
-    m.row(i)
+// Whether these are the numbers of the base text.
+fn are_base(p: &DesignParts) -> bool {
+    [p.states, p.inputs, p.stages] == [1, 1, 1]
+        && [p.plant_den, p.cost_den, p.row_den] == [1, 1, 1]
+        && [p.limit_den, p.target_den, p.violation, p.gap] == [4, 1, 16, 1]
+        && [p.stage_rows.rows(), p.stage_rows.cols()] == [2, 3]
+        && [p.final_cost.rows(), p.final_cost.cols()] == [0, 3]
+        && has_row(&p.stage_rows, 1, &[0, -4, 4])
+        && has_row(&p.final_rows, 0, &[4, 1])
+        && p.hi.as_slice() == [1].as_slice()
+}
+
+fn reads_base(alloc: Global) -> Result<bool, TextFault> {
+    let design = read_design(alloc, BASE.as_bytes())?;
+    Ok(are_base(design.parts()))
 }
 
 #[test]
 fn numbers(rt: HostRuntime) -> Result<(), Fail> {
-    let design = read_design(rt.alloc(), BASE.as_bytes())?;
-    let p = design.parts();
-    assert_eq!(rt; [p.states, p.inputs, p.stages], [1, 1, 1]);
-    assert_eq!(rt;
-        [
-            p.plant_den,
-            p.cost_den,
-            p.row_den,
-            p.limit_den,
-            p.target_den
-        ],
-        [1, 1, 1, 4, 1]
-    );
-    assert_eq!(rt; [p.violation, p.gap], [16, 1]);
-    assert_eq!(rt;
-        [
-            p.stage_rows.rows(),
-            p.stage_rows.cols(),
-            p.final_cost.rows(),
-            p.final_cost.cols()
-        ],
-        [2, 3, 0, 3]
-    );
-    assert_eq!(rt; row(&rt, &p.stage_rows, 1), [0, -4, 4].as_slice());
-    assert_eq!(rt; row(&rt, &p.final_rows, 0), [4, 1].as_slice());
-    assert_eq!(rt; p.hi.as_slice(), [1].as_slice());
+    assert!(rt; reads_base(rt.alloc())?);
     Ok(())
 }
 
@@ -103,20 +87,33 @@ violation = 1
 gap = 16
 ";
 
+// Whether these are the satellite's numbers.
+fn are_satellite(p: &DesignParts) -> bool {
+    [p.states, p.inputs, p.stages] == [2, 1, 5]
+        && has_row(&p.a, 0, &[8, 4])
+        && has_row(&p.b, 1, &[4])
+        && has_row(&p.stage_cost, 1, &[0, 1, 0, 1])
+        && p.stage_rows.rows() == 6
+        && has_row(&p.stage_rows, 5, &[0, -1, 0, 2])
+        && has_row(&p.final_rows, 3, &[0, -1, 2])
+        && p.lo.as_slice() == [-64, -16].as_slice()
+        && [p.plant_den, p.target_den, p.gap] == [8, 16, 16]
+}
+
+fn reads_satellite(alloc: Global, text: &str) -> Result<bool, TextFault> {
+    let design = read_design(alloc, text.as_bytes())?;
+    Ok(are_satellite(design.parts()))
+}
+
+// The satellite's text after a byte order mark.
+fn reads_marked(alloc: Global) -> Result<bool, Fail> {
+    let marked = format!(in alloc; "\u{feff}{SATELLITE}")?;
+    Ok(reads_satellite(alloc, &marked)?)
+}
+
 #[test]
 fn spellings(rt: HostRuntime) -> Result<(), Fail> {
-    let marked = format!(in rt.alloc(); "\u{feff}{SATELLITE}")?;
-    let design = read_design(rt.alloc(), marked.as_bytes())?;
-    let p = design.parts();
-    assert_eq!(rt; [p.states, p.inputs, p.stages], [2, 1, 5]);
-    assert_eq!(rt; row(&rt, &p.a, 0), [8, 4].as_slice());
-    assert_eq!(rt; row(&rt, &p.b, 1), [4].as_slice());
-    assert_eq!(rt; row(&rt, &p.stage_cost, 1), [0, 1, 0, 1].as_slice());
-    assert_eq!(rt; p.stage_rows.rows(), 6);
-    assert_eq!(rt; row(&rt, &p.stage_rows, 5), [0, -1, 0, 2].as_slice());
-    assert_eq!(rt; row(&rt, &p.final_rows, 3), [0, -1, 2].as_slice());
-    assert_eq!(rt; p.lo.as_slice(), [-64, -16].as_slice());
-    assert_eq!(rt; [p.plant_den, p.target_den, p.gap], [8, 16, 16]);
+    assert!(rt; reads_marked(rt.alloc())?);
     Ok(())
 }
 
@@ -124,70 +121,150 @@ fn spellings(rt: HostRuntime) -> Result<(), Fail> {
 const MANY: &str = "[[1, 0, 1], [1, 0, 1], [1, 0, 1], [1, 0, 1], [1, 0, 1], [1, 0, 1], [1, 0, 1],
     [1, 0, 1], [1, 0, 1], [1, 0, 1], [1, 0, 1], [1, 0, 1], [1, 0, 1]]";
 
-#[test]
-fn faults(rt: HostRuntime) -> Result<(), Fail> {
-    let key = |place| TextFault::Key { place };
-    let shape = |place| TextFault::Shape { place };
-    let range = |place| TextFault::Range { place };
-    let cases = [
-        ("version = 1", "x =", TextFault::NotToml),
-        (
-            "states = 1",
-            "states = 9223372036854775808",
-            TextFault::NotToml,
-        ),
-        (
-            "states = 1",
-            "states = 0x8000000000000000",
-            TextFault::NotToml,
-        ),
-        ("gap = 1", "gap = 1e999", TextFault::NotToml),
-        ("gap = 1", "gap = 1\ngap = 1", TextFault::NotToml),
-        ("version = 1\n", "", key(1)),
-        ("stages = 1\n[plant]", "[plant]\nstages = 1", key(4)),
-        ("[plant]", "[[plant]]", key(5)),
-        ("[limits]\nden = 4\n", "[limits]\n", key(13)),
-        ("[box]\ngrid = 0\nlo = [0]\nhi = [1]\n", "", key(16)),
-        ("hi = [1]\n[targets]\nden = 1\n", "[targets]\n", key(18)),
-        ("version", "note = 1\nversion", key(0)),
-        ("gap = 1", "gap = 1\nnote = 1", key(0)),
-        ("row_den = 1", "row_den = 1\nrow-den = 1", key(0)),
-        ("version = 1", "version = true", shape(1)),
-        ("version = 1", "version = 2", range(1)),
-        ("states = 1", "states = 5", range(2)),
-        ("states = 1", "states = 0", range(2)),
-        ("stages = 1", "stages = 21", range(4)),
-        ("den = 1", "den = 0", range(5)),
-        ("den = 1", "den = 1048577", range(5)),
-        ("a = [[1]]", "a = [[1, 2]]", shape(6)),
-        ("a = [[1]]", "a = [[-2147483648]]", range(6)),
-        ("b = [[1]]", "b = [[2147483648], 1]", shape(7)),
-        ("[[1, 0, 1]]", MANY, shape(11)),
-        ("[[0, 4, 4], [0, -4, 4]]", MANY, shape(14)),
-        ("input = [1]", "input = [0]", range(10)),
-        ("input = [1]", "input = [0, 0]", shape(10)),
-        ("[[1, 0, 1]]", "[[1, 0, -1]]", range(11)),
-        ("final = []", "final = [[1, 1]]", shape(12)),
-        (
-            "[[0, 4, 4], [0, -4, 4]]\nfinal = [[4, 1]]",
-            "[]\nfinal = []",
-            range(15),
-        ),
-        ("grid = 0", "grid = 25", range(16)),
-        ("lo = [0]", "lo = [2]", range(18)),
-        ("lo = [0]", "lo = [0.0]", shape(17)),
-        ("violation = 16", "violation = '16'", shape(20)),
-        ("gap = 1", "gap = 1.0", shape(21)),
-        ("gap = 1", "gap = 0", range(21)),
-    ];
+// What stands in place of a piece of the base text, and the fault then.
+static CHANGES: [(&str, &str, TextFault); 37] = [
+    ("version = 1", "x =", TextFault::NotToml),
+    (
+        "states = 1",
+        "states = 9223372036854775808",
+        TextFault::NotToml,
+    ),
+    (
+        "states = 1",
+        "states = 0x8000000000000000",
+        TextFault::NotToml,
+    ),
+    ("gap = 1", "gap = 1e999", TextFault::NotToml),
+    ("gap = 1", "gap = 1\ngap = 1", TextFault::NotToml),
+    ("version = 1\n", "", TextFault::Key { place: 1 }),
+    (
+        "stages = 1\n[plant]",
+        "[plant]\nstages = 1",
+        TextFault::Key { place: 4 },
+    ),
+    ("[plant]", "[[plant]]", TextFault::Key { place: 5 }),
+    (
+        "[limits]\nden = 4\n",
+        "[limits]\n",
+        TextFault::Key { place: 13 },
+    ),
+    (
+        "[box]\ngrid = 0\nlo = [0]\nhi = [1]\n",
+        "",
+        TextFault::Key { place: 16 },
+    ),
+    (
+        "hi = [1]\n[targets]\nden = 1\n",
+        "[targets]\n",
+        TextFault::Key { place: 18 },
+    ),
+    ("version", "note = 1\nversion", TextFault::Key { place: 0 }),
+    ("gap = 1", "gap = 1\nnote = 1", TextFault::Key { place: 0 }),
+    (
+        "row_den = 1",
+        "row_den = 1\nrow-den = 1",
+        TextFault::Key { place: 0 },
+    ),
+    (
+        "version = 1",
+        "version = true",
+        TextFault::Shape { place: 1 },
+    ),
+    ("version = 1", "version = 2", TextFault::Range { place: 1 }),
+    ("states = 1", "states = 5", TextFault::Range { place: 2 }),
+    ("states = 1", "states = 0", TextFault::Range { place: 2 }),
+    ("stages = 1", "stages = 21", TextFault::Range { place: 4 }),
+    ("den = 1", "den = 0", TextFault::Range { place: 5 }),
+    ("den = 1", "den = 1048577", TextFault::Range { place: 5 }),
+    ("a = [[1]]", "a = [[1, 2]]", TextFault::Shape { place: 6 }),
+    (
+        "a = [[1]]",
+        "a = [[-2147483648]]",
+        TextFault::Range { place: 6 },
+    ),
+    (
+        "b = [[1]]",
+        "b = [[2147483648], 1]",
+        TextFault::Shape { place: 7 },
+    ),
+    ("[[1, 0, 1]]", MANY, TextFault::Shape { place: 11 }),
+    (
+        "[[0, 4, 4], [0, -4, 4]]",
+        MANY,
+        TextFault::Shape { place: 14 },
+    ),
+    ("input = [1]", "input = [0]", TextFault::Range { place: 10 }),
+    (
+        "input = [1]",
+        "input = [0, 0]",
+        TextFault::Shape { place: 10 },
+    ),
+    (
+        "[[1, 0, 1]]",
+        "[[1, 0, -1]]",
+        TextFault::Range { place: 11 },
+    ),
+    (
+        "final = []",
+        "final = [[1, 1]]",
+        TextFault::Shape { place: 12 },
+    ),
+    (
+        "[[0, 4, 4], [0, -4, 4]]\nfinal = [[4, 1]]",
+        "[]\nfinal = []",
+        TextFault::Range { place: 15 },
+    ),
+    ("grid = 0", "grid = 25", TextFault::Range { place: 16 }),
+    ("lo = [0]", "lo = [2]", TextFault::Range { place: 18 }),
+    ("lo = [0]", "lo = [0.0]", TextFault::Shape { place: 17 }),
+    (
+        "violation = 16",
+        "violation = '16'",
+        TextFault::Shape { place: 20 },
+    ),
+    ("gap = 1", "gap = 1.0", TextFault::Shape { place: 21 }),
+    ("gap = 1", "gap = 0", TextFault::Range { place: 21 }),
+];
+
+// Whether bytes have this fault.
+fn is_fault(alloc: Global, bytes: &[u8], fault: TextFault) -> bool {
+    match read_design(alloc, bytes) {
+        Ok(_) => false,
+        Err(found) => found == fault,
+    }
+}
+
+// Whether the base text has this fault with one piece of it replaced.
+fn is_fault_with(
+    alloc: Global,
+    old: &str,
+    new: &str,
+    fault: TextFault,
+) -> Result<bool, AllocError> {
+    let text = BASE.replacen(alloc, old, new, 1)?;
+    Ok(is_fault(alloc, text.as_bytes(), fault))
+}
+
+// The first change that has another fault.
+fn first_other(
+    alloc: Global,
+    cases: &[(&'static str, &'static str, TextFault)],
+) -> Result<Option<&'static str>, AllocError> {
     for (old, new, fault) in cases {
-        let text = changed(rt.alloc(), old, new)?;
-        match read_design(rt.alloc(), text.as_bytes()) {
-            Ok(_) => assert!(rt; false, "{new} was read"),
-            Err(found) => assert_eq!(rt; found, fault, "at {new}"),
+        if !is_fault_with(alloc, old, new, *fault)? {
+            return Ok(Some(new));
         }
     }
-    let bytes = [b'#', 255];
-    assert!(rt; matches!(read_design(rt.alloc(), &bytes), Err(TextFault::NotToml)));
+    Ok(None)
+}
+
+#[test]
+fn faults(rt: HostRuntime) -> Result<(), Fail> {
+    assert_eq!(rt; first_other(rt.alloc(), &CHANGES)?, None);
     Ok(())
+}
+
+#[test]
+fn no_text(rt: HostRuntime) {
+    assert!(rt; is_fault(rt.alloc(), &[b'#', 255], TextFault::NotToml));
 }

@@ -1,17 +1,16 @@
-ghost use Rattle.std.specs.Prelude.{◌≡◌, IfOk};
+ghost use Rattle.std.specs.Prelude.{◌≡◌, ◌<◌, IfOk};
 ghost use Rattle.qp_model.specs.Controller.{plan_length};
 
 use super::*;
 use mat_int::Mat;
 use overflow_check::Controller;
 use qp_model::ControllerParts;
-use std::alloc::Global;
-use std::process::Abort;
+use std::alloc::{AllocError, Global};
 use std::test::Fail;
 use word_region::Span;
 
 // A matrix of these rows.
-fn matrix<const COLS: usize>(alloc: Global, rows: &[[i128; COLS]]) -> Result<Mat, Fail> {
+fn matrix<const COLS: usize>(alloc: Global, rows: &[[i128; COLS]]) -> Result<Mat, AllocError> {
     let mut a = Mat::zero(alloc, 0, COLS)?;
     for row in rows {
         if a.cols() == row.len() {
@@ -22,13 +21,11 @@ fn matrix<const COLS: usize>(alloc: Global, rows: &[[i128; COLS]]) -> Result<Mat
 }
 
 // One input at one stage of one state, with three rows and four steps.
-fn one_stage(alloc: Global, clamp: i128, w: u32) -> Result<Controller, Fail>
-    ensures states { IfOk result (λ c. c.states ≡ 1) }
-    ensures entries { IfOk result (λ c. plan_length c ≡ 1) }
-    ensures rows { IfOk result (λ c. c.rows ≡ 3) }
+fn parts_of_one_stage(alloc: Global, clamp: i128, w: u32) -> Result<ControllerParts, AllocError>
+    ensures states { IfOk result (λ c. c.n ≡ 1) }
     ensures words { IfOk result (λ c. c.words ≡ 6) }
 {
-    let parts = ControllerParts {
+    Ok(ControllerParts {
         n: 1,
         p: 1,
         stages: 1,
@@ -48,78 +45,103 @@ fn one_stage(alloc: Global, clamp: i128, w: u32) -> Result<Controller, Fail>
         g_mat: matrix(alloc, &[[1024], [-1024], [1024]])?,
         e_mat: matrix(alloc, &[[0], [0], [1024]])?,
         bound: vec![in alloc; 1024, 1024, 256]?,
-    };
+    })
+}
+
+fn one_stage(alloc: Global, clamp: i128, w: u32) -> Result<Controller, Fail>
+    ensures states { IfOk result (λ c. c.states ≡ 1) }
+    ensures words { IfOk result (λ c. c.words ≡ 6) }
+{
+    let parts = parts_of_one_stage(alloc, clamp, w)?;
     Ok(Controller::from_parts(parts)?)
 }
 
-// One step, while there are steps left.
-fn step(kernel: &mut Kernel)
-    ensures { kernel.new.controller ≡ kernel.old.controller }
+// Whether a kernel's words are these.
+fn has_words(kernel: &Kernel, words: &[i128]) -> bool
+    requires { kernel.now.controller.words ≡ 6 }
 {
-    if kernel.made() < kernel.controller().parts().steps {
-        kernel.step();
-    }
+    let all = Span { start: 0, len: 6 };
+    kernel.region().cells(&all) == words
 }
 
-// Each step's plan and third multiplier from the state 1, and the sums so far.
-fn expect_steps(rt: &impl Abort, alloc: Global, clamp: i128, w: u32) -> Result<(), Fail> {
-    let controller = one_stage(alloc, clamp, w)?;
-    let mut kernel = Kernel::prepare(alloc, &controller)?;
-    kernel.load(&[1])?;
-    for (made, plan, multiplier, sum) in [
-        (1, -512, 256, -512),
-        (2, -544, 480, -1056),
-        (3, -572, 676, -1628),
-        (4, -596, 848, -2224),
-    ] {
-        step(&mut kernel);
-        assert_eq!(rt; kernel.made(), made);
-        assert_eq!(rt; kernel.last(0), plan, "{made}");
-        assert_eq!(rt; kernel.multiplier(2), multiplier, "{made}");
-        assert_eq!(rt; kernel.sum(0), sum, "{made}");
+// Whether one step more leaves these words.
+fn steps_to(kernel: &mut Kernel, words: &[i128]) -> bool
+    requires { kernel.old.controller.words ≡ 6 }
+    ensures { kernel.new.controller ≡ kernel.old.controller }
+{
+    if kernel.made() == kernel.controller().parts().steps {
+        return false;
     }
-    Ok(())
+    kernel.step();
+    has_words(kernel, words)
+}
+
+// Whether the steps from the state 1 leave these states, multipliers, plans and sums.
+fn makes_steps(kernel: &mut Kernel) -> bool
+    requires states { kernel.old.controller.states ≡ 1 }
+    requires words { kernel.old.controller.words ≡ 6 }
+    ensures { kernel.new.controller ≡ kernel.old.controller }
+{
+    kernel.load(&[1]).is_ok()
+        && steps_to(kernel, &[1024, 0, 0, 256, -512, -512])
+        && steps_to(kernel, &[1024, 0, 0, 480, -544, -1056])
+        && steps_to(kernel, &[1024, 0, 0, 676, -572, -1628])
+        && steps_to(kernel, &[1024, 0, 0, 848, -596, -2224])
+}
+
+// Whether a run from this state answers so and leaves these words.
+fn runs_to(kernel: &mut Kernel, state: i128, answer: Result<(), OutsideBox>, words: &[i128]) -> bool
+    requires states { kernel.old.controller.states ≡ 1 }
+    requires words { kernel.old.controller.words ≡ 6 }
+    ensures { kernel.new.controller ≡ kernel.old.controller }
+{
+    kernel.run(&[state]) == answer && has_words(kernel, words)
+}
+
+// Whether runs, one after another, end so; a state outside the box leaves the last one.
+fn makes_runs(kernel: &mut Kernel) -> bool
+    requires states { kernel.old.controller.states ≡ 1 }
+    requires words { kernel.old.controller.words ≡ 6 }
+{
+    let outside = Err(OutsideBox { coordinate: 1 });
+    let one = [1024, 0, 0, 848, -596, -2224];
+    runs_to(kernel, 1, Ok(()), &one)
+        && runs_to(kernel, 2, outside, &one)
+        && runs_to(kernel, 0, Ok(()), &[0; 6])
+        && runs_to(kernel, -1, outside, &[0; 6])
+        && runs_to(kernel, 1, Ok(()), &one)
+}
+
+// Whether a kernel begins with the least state, and then makes its steps and runs.
+fn works(kernel: &mut Kernel) -> bool
+    requires states { kernel.old.controller.states ≡ 1 }
+    requires words { kernel.old.controller.words ≡ 6 }
+{
+    has_words(kernel, &[0; 6]) && makes_steps(kernel) && makes_runs(kernel)
+}
+
+fn works_on(alloc: Global, controller: &Controller) -> Result<bool, AllocError>
+    requires states { controller.now.states ≡ 1 }
+    requires words { controller.now.words ≡ 6 }
+{
+    let mut kernel = Kernel::prepare(alloc, controller)?;
+    Ok(works(&mut kernel))
+}
+
+fn works_with(alloc: Global, clamp: i128, w: u32) -> Result<bool, Fail> {
+    let controller = one_stage(alloc, clamp, w)?;
+    Ok(works_on(alloc, &controller)?)
 }
 
 // The steps are the same where the clamp, which no multiplier reaches, fits 64 bits and where it doesn't.
 #[test]
-fn steps(rt: HostRuntime) -> Result<(), Fail> {
-    expect_steps(&rt, rt.alloc(), 32768, 26)?;
-    expect_steps(&rt, rt.alloc(), 1 << 63, 80)
-}
-
-// Runs, one after another; a state outside the box leaves the last one.
-#[test]
-fn runs(rt: HostRuntime) -> Result<(), Fail> {
-    let controller = one_stage(rt.alloc(), 32768, 26)?;
-    let mut kernel = Kernel::prepare(rt.alloc(), &controller)?;
-    assert_eq!(rt; kernel.made(), 0);
-    let outside = OutsideBox { coordinate: 1 };
-    for (state, answer, sum, multiplier) in [
-        (1, Ok(()), -2224, 848),
-        (2, Err(outside), -2224, 848),
-        (0, Ok(()), 0, 0),
-        (-1, Err(outside), 0, 0),
-        (1, Ok(()), -2224, 848),
-    ] {
-        assert_eq!(rt; kernel.run(&[state]), answer, "{state}");
-        assert_eq!(rt; kernel.made(), 4, "{state}");
-        assert_eq!(rt; kernel.sum(0), sum, "{state}");
-        assert_eq!(rt; kernel.multiplier(2), multiplier, "{state}");
-    }
+fn narrow(rt: HostRuntime) -> Result<(), Fail> {
+    assert!(rt; works_with(rt.alloc(), 32768, 26)?);
     Ok(())
 }
 
-// The kernel's words are its state, its multipliers, its last plan and its sums, and no others.
 #[test]
-fn region(rt: HostRuntime) -> Result<(), Fail> {
-    let controller = one_stage(rt.alloc(), 32768, 26)?;
-    let mut kernel = Kernel::prepare(rt.alloc(), &controller)?;
-    kernel.run(&[1])?;
-    let all = Span { start: 0, len: 6 };
-    assert_eq!(rt;
-        kernel.region().cells(&all),
-        [1024, 0, 0, 848, -596, -2224].as_slice()
-    );
+fn wide(rt: HostRuntime) -> Result<(), Fail> {
+    assert!(rt; works_with(rt.alloc(), 1 << 63, 80)?);
     Ok(())
 }

@@ -1,11 +1,10 @@
-use Rattle.std.proofs.Common.{◌≡◌, List, ◌++◌, inr, refl}
+use Rattle.std.proofs.Common.{List, ◌++◌, inr, refl}
 use Rattle.std.proofs.lemmas.Result.{err_from_is_err_and}
 use Rattle.toml.specs.Data.{Members}
 use Rattle.toml.specs.View.{table_view}
-use Rattle.qp_model.specs.Rules.{Rule, AllHold}
+use Rattle.qp_model.specs.Rules.{Rule}
 use Rattle.qp_model.proofs.RuleLaws.{all_hold}
 use Rattle.design_files.specs.Values.{values_of, top_keys, plant_keys, cost_keys, limit_keys, box_keys, target_keys, further_keys}
-use Rattle.design_files.specs.Keys.{seen}
 use Rattle.design_files.specs.Places.{key_rules}
 use Rattle.design_files.proofs.ReadLaws.{fails_before, fails_after}
 use Rattle.design_files.proofs.keys.find_keys.Goals as goal

@@ -1,13 +1,9 @@
-use Rattle.std.proofs.Common.{◌≡◌, ◌∙◌, sym, ap, subst, Option, Some, List, ℤ, IsSome, IsSomeAnd, Vec, [], ◌∷◌, length, inl, inr, arith, true, eqb, eq-eqb}
+use Rattle.std.proofs.Common.{◌≡◌, ◌∙◌, sym, Some, length, inl, inr, arith, eq-eqb}
 use Rattle.std.proofs.lemmas.Bool.{eqb-true}
 use Rattle.std.proofs.lemmas.Result.{err_from_is_err_and}
 use Rattle.toml.specs.Data.{as_array}
 use Rattle.toml.specs.View.{view, items_view}
-use Rattle.qp_model.specs.Rules.{shape}
-use Rattle.design_files.specs.Numbers.{integers_of, list_in}
-use Rattle.design_files.specs.DesignText.{Reads}
 use Rattle.design_files.proofs.NumberLaws.{list_count, list_reads}
-use Rattle.design_files.proofs.ReadLaws.{reads_as}
 use Rattle.design_files.proofs.numbers.list.Goals as goal
 
 pub returns-in_err-in_shape : goal.returns-in_err-in_shape
