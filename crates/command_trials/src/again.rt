@@ -101,14 +101,12 @@ fn hold_large(alloc: Global, store: &mut MemStore) -> Result<(), AllocError> {
     store.hold("large", &large)
 }
 
-// The store that is given, with all these files besides.
-fn all_given(alloc: Global) -> Result<MemStore, AllocError> {
-    let mut store = given(alloc)?;
-    hold_large(alloc, &mut store)?;
+// Holds all these files.
+fn hold_all(alloc: Global, store: &mut MemStore) -> Result<(), AllocError> {
     for file in &FILES {
-        hold_changed(alloc, &mut store, file)?;
+        hold_changed(alloc, store, file)?;
     }
-    Ok(store)
+    hold_large(alloc, store)
 }
 
 // Whether the commands answer as over the store that is given alone.
@@ -134,15 +132,21 @@ fn is_right_again(alloc: Global, store: &mut MemStore, row: &str) -> Result<bool
     Ok(tells(alloc, arguments, store, told.as_str())? && are_right(alloc, store)?)
 }
 
-// Whether this holds for each row, over one store.
-fn are_right_again(alloc: Global) -> Result<bool, AllocError> {
-    let mut store = all_given(alloc)?;
+// Whether this holds for each row.
+fn are_all_right_again(alloc: Global, store: &mut MemStore) -> Result<bool, AllocError> {
     for row in ANSWERS.lines() {
-        if !is_right_again(alloc, &mut store, row)? {
+        if !is_right_again(alloc, store, row)? {
             return Ok(false);
         }
     }
     Ok(true)
+}
+
+// Whether this holds over the store that is given, with all these files besides.
+fn are_right_again(alloc: Global) -> Result<bool, AllocError> {
+    let mut store = given(alloc)?;
+    hold_all(alloc, &mut store)?;
+    are_all_right_again(alloc, &mut store)
 }
 
 #[test]

@@ -145,13 +145,31 @@ const ANSWERS: &str = "
 159 57 4096 0,4096 -2221
 ";
 
-// The text with this byte at that place.
-fn changed(alloc: Global, at: usize, byte: u8) -> Result<Vec<u8>, AllocError> {
+// Holds the text with this byte at that place, and the states of its box's corners.
+fn hold_changed(
+    alloc: Global,
+    store: &mut MemStore,
+    at: usize,
+    byte: u8,
+) -> Result<(), AllocError> {
     let mut bytes = CONTROLLER.as_bytes().to_vec(alloc)?;
     if let Some(place) = bytes.get_mut(at) {
         *place = byte;
     }
-    Ok(bytes)
+    store.hold("c", &bytes)?;
+    // with 0 for the upper bound of the box its corners are one
+    let states = if at == 81 && byte == b'0' {
+        "0\n0\n"
+    } else {
+        STATES
+    };
+    store.hold("s", states.as_bytes())
+}
+
+// Holds the right text again.
+fn hold_right(store: &mut MemStore) -> Result<(), AllocError> {
+    store.hold("c", CONTROLLER.as_bytes())?;
+    store.hold("s", STATES.as_bytes())
 }
 
 // What the text with this byte at that place, which stands in this line, is to tell.
@@ -167,6 +185,18 @@ fn told(alloc: Global, at: usize, byte: u8, line: u32) -> Result<String, AllocEr
     told_by(alloc, answer)
 }
 
+// Whether what is held tells what the text with this byte at that place, which stands in this line, is to.
+fn is_told(
+    alloc: Global,
+    store: &mut MemStore,
+    at: usize,
+    byte: u8,
+    line: u32,
+) -> Result<bool, AllocError> {
+    let told = told(alloc, at, byte, line)?;
+    tells(alloc, SOLVE, store, told.as_str())
+}
+
 // Whether the text with this byte at that place tells what it is to, and after it the right one too, over the same store.
 fn is_right(
     alloc: Global,
@@ -175,16 +205,9 @@ fn is_right(
     byte: u8,
     line: u32,
 ) -> Result<bool, AllocError> {
-    let text = changed(alloc, at, byte)?;
-    store.hold("c", &text)?;
-    // with 0 for the upper bound of the box its corners are one
-    if at == 81 && byte == b'0' {
-        store.hold("s", b"0\n0\n")?;
-    }
-    let told = told(alloc, at, byte, line)?;
-    let is_told = tells(alloc, SOLVE, store, told.as_str())?;
-    store.hold("c", CONTROLLER.as_bytes())?;
-    store.hold("s", STATES.as_bytes())?;
+    hold_changed(alloc, store, at, byte)?;
+    let is_told = is_told(alloc, store, at, byte, line)?;
+    hold_right(store)?;
     Ok(is_told && solves(alloc, store)?)
 }
 

@@ -101,15 +101,17 @@ fn leave_reports(alloc: Global) -> Result<bool, AllocError> {
     Ok(true)
 }
 
-#[test]
-fn design_read(rt: HostRuntime) -> Result<(), Fail> {
-    assert!(rt; is_unread(rt.alloc(), 1, "error 3 read-fault 1\n")?);
-    Ok(())
+// Each of the two reads.
+fn are_unread(alloc: Global) -> Result<bool, AllocError> {
+    Ok(
+        is_unread(alloc, 1, "error 3 read-fault 1\n")?
+            && is_unread(alloc, 2, "error 3 read-fault 2\n")?,
+    )
 }
 
 #[test]
-fn policy_read(rt: HostRuntime) -> Result<(), Fail> {
-    assert!(rt; is_unread(rt.alloc(), 2, "error 3 read-fault 2\n")?);
+fn reads(rt: HostRuntime) -> Result<(), Fail> {
+    assert!(rt; are_unread(rt.alloc())?);
     Ok(())
 }
 

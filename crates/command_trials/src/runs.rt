@@ -18,17 +18,18 @@ pub const SOLVE: &str = "solve c s";
 /// A store with the first worked design, its policy, its controller and the states of its corners, and with room for a controller `out` and a report `r`.
 pub fn given(alloc: Global) -> Result<MemStore, AllocError> {
     let mut store = MemStore::empty(alloc);
-    for (name, text) in [
-        ("d", DESIGN),
-        ("p", POLICY),
-        ("c", CONTROLLER),
-        ("s", STATES),
-    ] {
-        store.hold(name, text.as_bytes())?;
-    }
-    store.reserve("out", ROOM)?;
-    store.reserve("r", ROOM)?;
+    hold_texts(&mut store)?;
     Ok(store)
+}
+
+// Holds its texts, and makes room.
+fn hold_texts(store: &mut MemStore) -> Result<(), AllocError> {
+    store.hold("d", DESIGN.as_bytes())?;
+    store.hold("p", POLICY.as_bytes())?;
+    store.hold("c", CONTROLLER.as_bytes())?;
+    store.hold("s", STATES.as_bytes())?;
+    store.reserve("out", ROOM)?;
+    store.reserve("r", ROOM)
 }
 
 // Arguments, with one space between two.
