@@ -4,8 +4,8 @@
     bench/fuzz/run.py PROGRAM [--cases COUNT] [--seed SEED] [--jobs JOBS] [--kind KIND] [--case NUMBER]
 
 For each of COUNT (1000) cases the exit status, the line on standard error, standard output and every file that is left must be the model's. A design's gains aren't
-determined: they are taken from the controller that the program wrote, once they are known to solve their systems. Each controller of the kind `controller` that
-is accepted is run with every product and partial sum traced: all must fit its width.
+determined: they are taken from the controller that the program wrote, once they are known to solve their systems. Each run of a controller is made with every
+product and partial sum traced, and all must fit its width; but a run of many steps of a controller that isn't of the kind `controller` only has its sums compared.
 
 A case is made of the seed and its number alone. --case runs one again and shows it; --kind makes all cases of that kind: generate, solve, controller, loop, demo, usage.
 Two sorts of case are counted apart. A design that TOML 1.1 reads and Python's reader (1.0) doesn't must still end with a status of generate. Where a run would be
@@ -29,8 +29,8 @@ import program
 
 KINDS = ["generate"] * 34 + ["solve"] * 26 + ["controller"] * 18 + ["loop"] * 18 + ["usage"] * 4
 DEMO_EVERY = 2500
-# the most products that the model makes in a case
-MOST_PRODUCTS = 3_000_000
+# the most products that the model makes in a case, and the most in a run whose every value it traces
+MOST_PRODUCTS, MOST_TRACED = 3_000_000, 60_000
 
 
 class TooLong(Exception):
@@ -40,7 +40,6 @@ class TooLong(Exception):
 class Case:
     def __init__(self, kind, words, files):
         self.kind, self.words, self.files = kind, words, files
-        self.is_traced = False
 
 
 class Maker:
@@ -83,9 +82,7 @@ class Maker:
 
     def controller(self, pick):
         _, c = cases.random_controller(pick)
-        made = Case("controller", ["solve", "c", "s"], {"c": control.text_of(c), "s": cases.states_text(pick, c)})
-        made.is_traced = True
-        return made
+        return Case("controller", ["solve", "c", "s"], {"c": control.text_of(c), "s": cases.states_text(pick, c)})
 
     def loop(self, pick):
         design, text = pick.choice(self.controllers)
@@ -186,12 +183,12 @@ class Runner:
             budget[0] -= products(c)
             if budget[0] < 0:
                 raise TooLong
-            if not case.is_traced:
+            if case.kind != "controller" and products(c) > MOST_TRACED:
                 return control.run(c, state)
             sums, least, greatest = control.traced(c, state)
             if not (-(2 ** (c.w - 1)) <= least and greatest <= 2 ** (c.w - 1) - 1):
                 raise ValueError(f"a value of {least} .. {greatest} leaves the width {c.w}")
-            notes.append("traced run")
+            notes.extend(notes_of_run(case, c, least, greatest))
             return sums
 
         told = program.Program(case.words, read, write, gains, run)
@@ -204,8 +201,8 @@ class Runner:
             return None if well else f"status {ran.returncode}, which begins otherwise than the model", ran.returncode, ["too long for the model"]
         except ValueError as why:
             return str(why), ran.returncode, notes
-        if case.is_traced and said.status != 11:
-            notes.append("accepted controller")
+        if case.kind == "controller" and said.status != 11:
+            notes.append("a random controller that is accepted")
         if said.line.endswith(b"not-toml\n") and not ran.stderr.endswith(b"not-toml\n"):
             well = ran.returncode in (0, 3, 5, 6, 7, 8, 9, 10, 11, 12, 13, 14)
             return None if well else f"status {ran.returncode}", ran.returncode, ["read by TOML 1.1 alone"]
@@ -238,6 +235,18 @@ class Runner:
         said = program.answer(case.words, None, None, gains)
         well = (ran.returncode, ran.stderr, ran.stdout, self.left()) == (said.status, said.line, b"".join(said.out), {})
         return None if well else f"status {ran.returncode} {ran.stderr[:200]!r} {ran.stdout[:400]!r}, not {said.status} {b''.join(said.out)[:400]!r}", said.status, []
+
+
+def notes_of_run(case, c, least, greatest):
+    """What a case is counted as by a run whose least and greatest values are these."""
+    which = "a random controller" if case.kind == "controller" else "another controller"
+    yield f"{which}, run with every value traced"
+    if max(greatest, -least) > 2**125:
+        yield f"{which}, run with every value traced, which meets one of 2^125 .. 2^126"
+    if not -(2 ** (c.w - 2)) <= least <= greatest < 2 ** (c.w - 2):
+        yield f"{which}, run with every value traced, which meets one that needs each bit of its width"
+    if max(abs(v) for row in c.p_mat + c.w_mat + c.g_mat + c.e_mat for v in row) > 2**126:
+        yield f"{which}, run with every value traced, with an entry beyond 2^126, which is only multiplied by 0"
 
 
 def gains_of(choice, text):

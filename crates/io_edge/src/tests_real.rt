@@ -24,17 +24,14 @@ fn reads_back<R: Files>(
     name: &str,
     count: usize,
     limit: usize,
-) -> Result<bool, AllocError> {
+) -> Result<bool, ReadRefusal> {
     let bytes = numbered(alloc, count)?;
     let mut store = HostStore::new(rt);
     if store.write_all(name, &bytes).is_err() {
         return Ok(false);
     }
-    Ok(
-        store
-            .read_all(alloc, name, limit)
-            .is_ok_and(|read| read.as_slice() == bytes.as_slice()),
-    )
+    let read = store.read_all(alloc, name, limit)?;
+    Ok(read.as_slice() == bytes.as_slice())
 }
 
 // A file of several pieces.
@@ -123,8 +120,8 @@ fn slow_reader(rt: HostRuntime) -> Result<(), Fail> {
     let mut from = SlowReader {
         left: b"0123456789",
     };
-    let read = read_to_limit(rt.alloc(), &mut from, 10);
-    assert!(rt; read.is_ok_and(|bytes| bytes.as_slice() == b"0123456789".as_slice()));
+    let read = read_to_limit(rt.alloc(), &mut from, 10)?;
+    assert!(rt; read.as_slice() == b"0123456789".as_slice());
     Ok(())
 }
 
