@@ -93,8 +93,8 @@ rest_at head low high p t ls = do
   if length end.1 == 0 then Some (record { states = head.n; inputs = head.p; stages = head.stages; rows = head.m; fraction_bits = head.f; grid_bits = head.g; step_exponent = head.s; width = head.w; steps = head.steps; clamp = head.clamp; words = head.words; low = low; high = high; state_gains = p; offsets = t; dual_gains = w.0; plan_rows = g.0; state_rows = e.0; bounds = bound.0 }) else None
 
 -- the numbers of the head and all lists
-abbrev pub whole : Head → List ℤ → List ℤ → Matrix → List ℤ → Back → Numbers
-whole head low high p t back = record { states = head.n; inputs = head.p; stages = head.stages; rows = head.m; fraction_bits = head.f; grid_bits = head.g; step_exponent = head.s; width = head.w; steps = head.steps; clamp = head.clamp; words = head.words; low = low; high = high; state_gains = p; offsets = t; dual_gains = back.w_mat; plan_rows = back.g_mat; state_rows = back.e_mat; bounds = back.bound.items }
+abbrev pub whole_of : Head → List ℤ → List ℤ → Matrix → List ℤ → Back → Numbers
+whole_of head low high p t back = record { states = head.n; inputs = head.p; stages = head.stages; rows = head.m; fraction_bits = head.f; grid_bits = head.g; step_exponent = head.s; width = head.w; steps = head.steps; clamp = head.clamp; words = head.words; low = low; high = high; state_gains = p; offsets = t; dual_gains = back.w_mat; plan_rows = back.g_mat; state_rows = back.e_mat; bounds = back.bound.items }
 
 -- the lines after these, to the last
 unfoldable pub lists_at : Head → List Keyed → Option Numbers

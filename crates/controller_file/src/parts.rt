@@ -5,7 +5,7 @@ ghost use Rattle.qp_model.specs.Controller.{Numbers, numbers, IsShaped, IsInForm
 ghost use Rattle.qp_model.specs.ControllerText.{controller_text};
 ghost use Rattle.controller_file.specs.declared.fault.LineFault.TheVariants.{Memory};
 ghost use Rattle.controller_file.specs.Lines.{view, views};
-ghost use Rattle.controller_file.specs.Reading.{Gives, natural, numbers_in, numbers_at, natural_at, four_at, all_rows_at, matrix_at, head_at, rest_at, whole, parts_at};
+ghost use Rattle.controller_file.specs.Reading.{Gives, natural, numbers_in, numbers_at, natural_at, four_at, all_rows_at, matrix_at, head_at, rest_at, whole_of, parts_at};
 
 use crate::fault::LineFault;
 use crate::line::{Line, has_place, lines_of};
@@ -90,7 +90,7 @@ fn rest_of(
 // The lists after the offsets, to the last line, whatever stands before them.
 #[tactic(auto, unfolding(crate::specs::Reading::rest_at))]
 fn read_back(alloc: Global, head: Head, lines: &[Line]) -> Result<Back, LineFault>
-    ensures { (low high : List ℤ) (p : Matrix) (t : List ℤ) → Gives (whole head low high p t) result (rest_at head low high p t (views lines.now)) }
+    ensures { (low high : List ℤ) (p : Matrix) (t : List ℤ) → Gives (whole_of head low high p t) result (rest_at head low high p t (views lines.now)) }
 {
     let n = head.n as usize;
     let m = head.m as usize;
@@ -113,7 +113,7 @@ fn read_back(alloc: Global, head: Head, lines: &[Line]) -> Result<Back, LineFaul
 
 // The controller of a head and all lists.
 fn joined(head: Head, front: Front, back: Back) -> ControllerParts
-    ensures { numbers result ≡ whole head front.lo.items front.hi.items front.p_mat front.t.items back }
+    ensures { numbers result ≡ whole_of head front.lo.items front.hi.items front.p_mat front.t.items back }
 {
     ControllerParts {
         n: head.n as usize,

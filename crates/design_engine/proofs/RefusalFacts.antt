@@ -113,7 +113,7 @@ module _ (d : Design) (t : Targets) (plans : Plans) where
   -- ---- the step exponent
   pub curvature_refused : (m : Margin) → PassesMargin d t plans m → multiplier_size (unsigned_abs m.units) (unsigned_abs m.cost) ≤ 2 ^ 126 →
       hessian_size d ≤ 2 ^ 126 → rows_size d ≤ 2 ^ 126 →
-      (fault : CurvatureFault) → exponents.IsRefused d fault → (e : Refusal) → e ≡ of_curvature fault → IsRefused d t plans e
+      (fault : CurvatureFault) → exponents.IsExponentRefused d fault → (e : Refusal) → e ≡ of_curvature fault → IsRefused d t plans e
   curvature_refused m h n k l curvature_memory why e f = inl f
   curvature_refused m h n k l (curvature_wide quantity) (inl memory) e f = absurd (search rules)
   curvature_refused m h n k l (curvature_wide quantity) (inr why) e f = rw (f, why.0) (inr (m, (((h, n), k), l), why.1))

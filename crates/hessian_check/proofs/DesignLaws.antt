@@ -19,7 +19,7 @@ use Rattle.qp_model.specs.Quantities.{input_floor}
 use Rattle.qp_model.specs.Cost.{cost_scale}
 use Rattle.qp_model.specs.CurvatureSize.{limit_squares, floor_times}
 use Rattle.qp_model.specs.Curvature.{AreExponents, IsExponent, curvature, row_change}
-use Rattle.qp_model.specs.Form.{Form, Encloses, farthest, rows_scale}
+use Rattle.qp_model.specs.Form.{Form, EnclosesDesign, farthest, rows_scale}
 use Rattle.qp_model.specs.Residual.{residual, residual_scale}
 use Rattle.qp_model.specs.Sound.{IsSound}
 use Rattle.qp_model.proofs.CurvatureLaws.{hessian_law, curvature_law}
@@ -176,7 +176,7 @@ squares_within m n q r x f h = joined (scaled q x) (scaled r f) (amount_mono m _
     joined {a} {b} {x} {y} e g k = omega (arith, e, g, k)
 
 -- a form of the design whose squares, each number at its farthest, are covered
-pub covers : (d : Design) (h : Form) → Encloses d h → 1 ≤ h.rows_scale → (s : ℕ) → d.cost_denominator * limit_squares h ≤ floor_times d h s →
+pub covers : (d : Design) (h : Form) → EnclosesDesign d h → 1 ≤ h.rows_scale → (s : ℕ) → d.cost_denominator * limit_squares h ≤ floor_times d h s →
     CoversAll (curved_of d) (floor_of_design d) s
 covers d h k o s t = raised (squares_are (rows d) (entries d) (condensed_of d).by_plan)
     (cancelled h.rows_scale (rows_scale d) d.cost_denominator squares _ (2 ^ s * input_floor d) o within (rw (k.row_count, k.entry_count) at t))

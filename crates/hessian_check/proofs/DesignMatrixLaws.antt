@@ -19,7 +19,7 @@ use Rattle.qp_model.specs.Quantities.{hessian_size, rows_size}
 use Rattle.plant_condense.specs.declared.condensed.Condensed.{Condensed}
 use Rattle.plant_condense.specs.Form.{IsFormOf}
 use Rattle.hessian_check.specs.declared.matrices.StepMatrices.{StepMatrices}
-use Rattle.hessian_check.specs.Curvature.{weighted_gram}
+use Rattle.hessian_check.specs.Curvature.{weighted_products}
 use Rattle.hessian_check.specs.DesignMatrices.{AreMatricesOf}
 use Rattle.hessian_check.specs.Dominance.{AreSame}
 use Rattle.hessian_check.specs.StepMatrices.{AreMatrices}
@@ -38,7 +38,7 @@ half_same p c f m h = record {
 }
 
 rows_are : (p : DesignParts) (c : Condensed) → IsFormOf p c → (m : Matrix) → HasEntries c.g.cols c.g.cols (gram (length c.g.rows) (entry_of c.g)) m →
-    AreSame (entries (design_of p)) (entry_of m) (weighted_gram (rows (design_of p)) (λ l. 1) (condensed_of (design_of p)).by_plan)
+    AreSame (entries (design_of p)) (entry_of m) (weighted_products (rows (design_of p)) (λ l. 1) (condensed_of (design_of p)).by_plan)
 rows_are p c f m h = record {
   is = λ i j k l. h.entries i j (rw f.shapes.g.cols k) (rw f.shapes.g.cols l) ∙
       rw f.shapes.g.rows (total_same (rows (design_of p)) _ _ (λ r o. ap₂ (λ (x : ℤ) (y : ℤ). x *ℤ y) (by_plan_is p c f r i o k) (by_plan_is p c f r j o l))) ∙

@@ -5,7 +5,7 @@ use Rattle.qp_model.specs.CurvatureSize.{CoversSquares}
 use Rattle.qp_model.specs.Form.{form_of}
 use Rattle.qp_model.proofs.CostLaws.{condensing}
 use Rattle.qp_model.proofs.FormLaws.{form_law}
-use Rattle.hessian_check.specs.Curvature.{exactly}
+use Rattle.hessian_check.specs.Curvature.{held_exactly}
 use Rattle.hessian_check.specs.StepLaw.{ExponentLaw, FormSquaresLaw, RowsLaw}
 use Rattle.hessian_check.specs.Steps.{curved_by, curved_of, held_of, floor_of_design}
 use Rattle.hessian_check.proofs.CurvatureLaws.{squares_law}
@@ -34,4 +34,4 @@ pub rows_law : RowsLaw
 rows_law p h s most b k =
     let d = design_of p in
     let e = condensing d h.inputs.0 in
-    exponents_of d s most e b (accepted_law (curved_by d s most) (exactly (curved_by d s most)) most (exact_law (curved_by d s most) (half_turned d e)) k)
+    exponents_of d s most e b (accepted_law (curved_by d s most) (held_exactly (curved_by d s most)) most (exact_law (curved_by d s most) (half_turned d e)) k)

@@ -14,7 +14,7 @@ use Rattle.integer_algebra.proofs.Quoting.{by_ring, quotes}
 use Rattle.integer_algebra.proofs.SumLaws.{total_same}
 use Rattle.integer_algebra.proofs.VectorLaws.{dot_same, quadratic_scale}
 use Rattle.hessian_check.specs.Dominance.{IsSymmetric, form}
-use Rattle.hessian_check.specs.Curvature.{Curved, HeldMatrices, IsHeld, exactly, lowered, difference, weighted_gram, exact_matrix, exponent_matrix, radius_of, BoundsRows}
+use Rattle.hessian_check.specs.Curvature.{Curved, HeldMatrices, IsHeld, held_exactly, lowered, difference, weighted_products, exact_matrix, exponent_matrix, radius_of, BoundsRows}
 use Rattle.hessian_check.proofs.FormLaws.{form_sub, dominance_law}
 use Rattle.integer_algebra.proofs.AmountLaws.{amount_mono, amount_none, amount_scale}
 use Rattle.hessian_check.proofs.CurvatureLaws.{matrix_law, gram_turned, exact_symmetric}
@@ -95,7 +95,7 @@ module _ (c : Curved) (h : HeldMatrices) (k : IsHeld c h) (s : ℕ) where
   exact_turned i j a b = ap (λ (z : ℤ). pos k.held_scale *ℤ z) (exact_symmetric c s k.turned i j a b)
 
   apart : (i j : ℕ) → i < c.entries → j < c.entries → unsigned_abs (pos k.held_scale *ℤ exact_matrix c s i j -ℤ pos k.exact_scale *ℤ mid i j) ≤ k.exact_scale * radius_of c h s i j
-  apart i j a b = closed (2 ^ s) c.limit_den c.weight_den c.cost_row_den (pos k.held_scale) (pos k.exact_scale) (c.half i j) (weighted_gram c.count c.weight c.row i j) (h.half i j) (h.products i j)
+  apart i j a b = closed (2 ^ s) c.limit_den c.weight_den c.cost_row_den (pos k.held_scale) (pos k.exact_scale) (c.half i j) (weighted_products c.count c.weight c.row i j) (h.half i j) (h.products i j)
       k.exact_scale (h.half_radius i j) (h.products_radius i j) (size_of (k.half i j a b)) (size_of (k.products i j a b))
     where
       size_of : {b : ℕ} {z : ℤ} → IsWithin (pos b) z → unsigned_abs z ≤ b
@@ -166,7 +166,7 @@ held_matrix_law c h s k g = matrix_law c s (λ d. closed (pos k.exact_scale) (po
 none_apart : (x : ℤ) → IsWithin (pos (1 * 0)) (pos 1 *ℤ x -ℤ pos 1 *ℤ x)
 none_apart x = record { below = omega (arith, ints); above = omega (arith, ints) }
 
-pub exact_law : (c : Curved) → IsSymmetric c.entries c.half → IsHeld c (exactly c)
+pub exact_law : (c : Curved) → IsSymmetric c.entries c.half → IsHeld c (held_exactly c)
 exact_law c h = record {
   exact_scale = 1;
   held_scale = 1;
@@ -175,12 +175,12 @@ exact_law c h = record {
   half_turned = h;
   products_turned = λ i j k l. gram_turned c.count c.weight c.row i j;
   half = λ i j k l. none_apart (c.half i j);
-  products = λ i j k l. none_apart (weighted_gram c.count c.weight c.row i j);
+  products = λ i j k l. none_apart (weighted_products c.count c.weight c.row i j);
 }
 
 -- without radii nothing is lowered
-pub exact_is : (c : Curved) (s i j : ℕ) → exponent_matrix c (exactly c) s i j ≡ exact_matrix c s i j
-exact_is c s i j = rw (amount_none c.entries (radius_of c (exactly c) s i) (λ k l. omega arith)) (none (nat_eq j i) (exact_matrix c s i j))
+pub exact_is : (c : Curved) (s i j : ℕ) → exponent_matrix c (held_exactly c) s i j ≡ exact_matrix c s i j
+exact_is c s i j = rw (amount_none c.entries (radius_of c (held_exactly c) s i) (λ k l. omega arith)) (none (nat_eq j i) (exact_matrix c s i j))
   where
     none : (b : Bool) (x : ℤ) → x -ℤ (if b then pos 0 else pos 0) ≡ x
     none true x = omega (arith, ints)

@@ -16,7 +16,7 @@ use Rattle.hessian_check.specs.Curvature.{IsChosen, IsLeastBelow}
 use Rattle.hessian_check.specs.DesignMatrices.{AreMatricesOf, curvature_at}
 use Rattle.hessian_check.specs.Exponents.{IsEither, IsOutcome}
 use Rattle.hessian_check.specs.MatrixRoom.{matrix_at, HasMatrixRoom}
-use Rattle.hessian_check.specs.Refusals.{HasCause, IsRefused}
+use Rattle.hessian_check.specs.Refusals.{HasExponentCause, IsExponentRefused}
 use Rattle.hessian_check.specs.StepLaw.{ExponentLaw}
 use Rattle.qp_model.specs.declared.quantity.Quantity.{Quantity}
 use Rattle.qp_model.specs.declared.quantity.Quantity.TheVariants.{Curvature}
@@ -86,14 +86,14 @@ flat_of d g o h k =
 
 -- ---- the answer, where the quantity is within its limit
 pub refused_of : (d : Design) (g : StepMatrices) (o : Option ℕ) (r : Result StepExponents CurvatureFault) → Chosen d g o → curvature_size d ≤ 2 ^ 126 → Outcome g o r →
-    IfErr r (IsRefused d)
+    IfErr r (IsExponentRefused d)
 refused_of d g o (Ok e) h l t = search rules
 refused_of d g o (Err Memory) h l t = inl refl
 refused_of d g o (Err (TooWide q)) h l t = absurd t
 refused_of d g o (Err NoStep) h l t = inr (l, flat_of d g o h t)
 
 pub every_of : (d : Design) (g : StepMatrices) (o : Option ℕ) (r : Result StepExponents CurvatureFault) → Chosen d g o → curvature_size d ≤ 2 ^ 126 → Outcome g o r →
-    (e : CurvatureFault) → HasCause d e → (r ≡ Err e) ⊎ (r ≡ Err Memory)
+    (e : CurvatureFault) → HasExponentCause d e → (r ≡ Err e) ⊎ (r ≡ Err Memory)
 every_of d g o r h l t Memory k = absurd k
 every_of d g o r h l t (TooWide q) k = absurd (omega (arith, l, k.1))
 every_of d g o (Ok e) h l t NoStep k = absurd (flat_clash d e.s1 (plain_of d g o (Ok e) h t) (order_of d g o (Ok e) h t).1 k.1)
@@ -110,11 +110,11 @@ accepted_of d g o (Err NoStep) h t s1 p l = absurd (flat_clash d s1 p l (flat_of
 
 -- where it is not
 pub wide_refused : (d : Design) → 2 ^ 126 < curvature_size d → (r : Result StepExponents CurvatureFault) → r ≡ Err (TooWide Curvature) →
-    IfErr r (IsRefused d)
+    IfErr r (IsExponentRefused d)
 wide_refused d l r e = rw e (inr (refl, l))
 
 pub wide_every : (d : Design) → 2 ^ 126 < curvature_size d → (r : Result StepExponents CurvatureFault) → r ≡ Err (TooWide Curvature) →
-    (e : CurvatureFault) → HasCause d e → (r ≡ Err e) ⊎ (r ≡ Err Memory)
+    (e : CurvatureFault) → HasExponentCause d e → (r ≡ Err e) ⊎ (r ≡ Err Memory)
 wide_every d l r f Memory k = absurd k
 wide_every d l r f (TooWide q) k = inl (f ∙ ap (λ (z : Quantity). Err (TooWide z)) (sym k.0))
 wide_every d l r f NoStep k = absurd (omega (arith, l, k.0))
@@ -123,7 +123,7 @@ wide_every d l r f NoStep k = absurd (omega (arith, l, k.0))
 pub memory_is : (r : Result StepExponents CurvatureFault) (y : CurvatureFault) → r ≡ Err y → y ≡ Memory → r ≡ Err Memory
 memory_is r y e f = e ∙ ap (λ (z : CurvatureFault). Err z) f
 
-pub memory_refused : (d : Design) (r : Result StepExponents CurvatureFault) → r ≡ Err Memory → IfErr r (IsRefused d)
+pub memory_refused : (d : Design) (r : Result StepExponents CurvatureFault) → r ≡ Err Memory → IfErr r (IsExponentRefused d)
 memory_refused d r e = rw e (inl refl)
 
 -- ---- the quantity

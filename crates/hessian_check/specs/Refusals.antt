@@ -8,11 +8,11 @@ use Rattle.hessian_check.specs.declared.fault.CurvatureFault.{CurvatureFault}
 use Rattle.hessian_check.specs.declared.fault.CurvatureFault.TheVariants.{Memory, TooWide, NoStep}
 
 -- Why this refusal is the answer: the quantity `curvature` is above its limit; it isn't, and s1 is above 40. Want of memory has no cause in the design.
-abbrev pub HasCause : Design → CurvatureFault → Type 0
-HasCause d Memory = ⊥
-HasCause d (TooWide quantity) = (quantity ≡ Curvature) × (2 ^ 126 < curvature_size d)
-HasCause d NoStep = (curvature_size d ≤ 2 ^ 126) × HasNoStep d
+abbrev pub HasExponentCause : Design → CurvatureFault → Type 0
+HasExponentCause d Memory = ⊥
+HasExponentCause d (TooWide quantity) = (quantity ≡ Curvature) × (2 ^ 126 < curvature_size d)
+HasExponentCause d NoStep = (curvature_size d ≤ 2 ^ 126) × HasNoStep d
 
 -- want of memory, or with its cause
-abbrev pub IsRefused : Design → CurvatureFault → Type 0
-IsRefused d e = (e ≡ Memory) ⊎ HasCause d e
+abbrev pub IsExponentRefused : Design → CurvatureFault → Type 0
+IsExponentRefused d e = (e ≡ Memory) ⊎ HasExponentCause d e

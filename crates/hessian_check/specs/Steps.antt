@@ -9,7 +9,7 @@ use Rattle.qp_model.specs.declared.design_parts.DesignParts.{DesignParts}
 use Rattle.qp_model.specs.Parts.{design_of}
 use Rattle.plant_condense.specs.declared.condensed.Condensed.{Condensed}
 use Rattle.plant_condense.specs.Form.{IsFormOf}
-use Rattle.hessian_check.specs.Curvature.{Curved, HeldMatrices, exactly, exponent_matrix, IsFirst, IsChosen}
+use Rattle.hessian_check.specs.Curvature.{Curved, HeldMatrices, held_exactly, exponent_matrix, IsFirst, IsChosen}
 
 -- half a matrix of even entries
 abbrev pub half_of : (ℕ → ℕ → ℤ) → ℕ → ℕ → ℤ
@@ -36,9 +36,9 @@ curved_of d = weighted_of d (λ l. 1)
 abbrev pub curved_by : Design → (ℕ → ℕ) → ℕ → Curved
 curved_by d s most = weighted_of d (λ l. 2 ^ (most - s l))
 
--- the matrices of the design, which are held exactly
+-- the matrices of the design, which are held held_exactly
 abbrev pub held_of : Design → HeldMatrices
-held_of d = exactly (curved_of d)
+held_of d = held_exactly (curved_of d)
 
 -- the matrix of s, made of them
 abbrev pub step_matrix : Design → ℕ → ℕ → ℕ → ℤ
@@ -46,7 +46,7 @@ step_matrix d = exponent_matrix (curved_of d) (held_of d)
 
 -- that of an exponent for each row
 abbrev pub rows_matrix : Design → (ℕ → ℕ) → ℕ → ℕ → ℕ → ℤ
-rows_matrix d s most = exponent_matrix (curved_by d s most) (exactly (curved_by d s most)) most
+rows_matrix d s most = exponent_matrix (curved_by d s most) (held_exactly (curved_by d s most)) most
 
 -- the least input weight, over what the squares of the condensed rows are over
 abbrev pub floor_of_design : Design → ℤ

@@ -9,7 +9,7 @@ ghost use Rattle.hessian_check.specs.Curvature.{IsLeastBelow};
 ghost use Rattle.integer_algebra.specs.Matrices.{gram, gram_size};
 ghost use Rattle.mat_int.specs.Matrix.{HasEntries};
 ghost use Rattle.hessian_check.specs.Filling.{HasFirstRows};
-ghost use Rattle.hessian_check.specs.Refusals.{HasCause, IsRefused};
+ghost use Rattle.hessian_check.specs.Refusals.{HasExponentCause, IsExponentRefused};
 ghost use Rattle.hessian_check.specs.Steps.{half_of, IsPlainExponent, IsStepExponent, OfDesign};
 ghost use Rattle.hessian_check.specs.DesignMatrices.{AreMatricesOf, curvature_at, IsScales};
 
@@ -37,8 +37,8 @@ pub fn curvature(alloc: Global, c: &Condensed) -> Result<StepExponents, Curvatur
     ensures order { IfOk result (λ e. (e.s ≤ e.s1) × (e.s1 ≤ 40)) }
 
     // The cause of a refusal; and the other way round, with nothing but want of memory in between.
-    ensures refused { OfDesign c.now (λ d. IfErr result (IsRefused d)) }
-    ensures every_refusal { OfDesign c.now (λ d. (e : CurvatureFault) → HasCause d e → (result ≡ Err e) ⊎ (result ≡ Err CurvatureFault.Memory)) }
+    ensures refused { OfDesign c.now (λ d. IfErr result (IsExponentRefused d)) }
+    ensures every_refusal { OfDesign c.now (λ d. (e : CurvatureFault) → HasExponentCause d e → (result ≡ Err e) ⊎ (result ≡ Err CurvatureFault.Memory)) }
     ensures accepted { OfDesign c.now (λ d. (s1 : ℕ) → curvature_size d ≤ 2 ^ 126 → IsPlainExponent d s1 → s1 ≤ 40
         → IsOk result ⊎ (result ≡ Err CurvatureFault.Memory)) }
 

@@ -10,7 +10,7 @@ use Rattle.qp_model.specs.Parts.{IsDesign, design_of}
 use Rattle.qp_model.specs.Sound.{IsSound}
 use Rattle.qp_model.specs.Quantities.{input_floor}
 use Rattle.qp_model.specs.Condensing.{condensed_of}
-use Rattle.qp_model.specs.Form.{hessian_scale, rows_scale, exact_form, form_of, HasNoRadii, Encloses, IsFormFor, FormLaw}
+use Rattle.qp_model.specs.Form.{hessian_scale, rows_scale, exact_form, form_of, HasNoRadii, EnclosesDesign, IsFormFor, FormLaw}
 use Rattle.qp_model.proofs.CostLaws.{condensing}
 use Rattle.qp_model.proofs.SoundLaws.{sound}
 
@@ -21,7 +21,7 @@ none_apart s x = closed (s * 0) (pos s *ℤ x) (omega arith)
     closed : (z : ℕ) (y : ℤ) → z ≡ 0 → IsWithin (pos z) (y -ℤ y)
     closed z y e = rw e (record { below = omega (arith, ints); above = omega (arith, ints) })
 
-exact_encloses : (d : Design) → 1 ≤ d.inputs → Encloses d (exact_form d)
+exact_encloses : (d : Design) → 1 ≤ d.inputs → EnclosesDesign d (exact_form d)
 exact_encloses d h = record {
   entry_count = refl;
   state_count = refl;

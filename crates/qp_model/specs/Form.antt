@@ -105,7 +105,7 @@ pub record IsFine (d : Design) (h : Form) : Type 0 where
   pub narrow : (i : ℕ) → i < h.entries → hessian_radii h i ≤ d.row_denominator ^ 2 * 2 ^ 40 * input_floor d
 
 -- each exact number lies within the radius of its midpoint; over another scale, so both are brought to the product of the two
-pub record Encloses (d : Design) (h : Form) : Type 0 where
+pub record EnclosesDesign (d : Design) (h : Form) : Type 0 where
   pub entry_count : h.entries ≡ entries d
   pub state_count : h.states ≡ d.states
   pub row_count : h.rows ≡ rows d
@@ -124,7 +124,7 @@ pub record Encloses (d : Design) (h : Form) : Type 0 where
 
 -- a form that a controller of the design may be made of
 pub record IsFormFor (d : Design) (h : Form) : Type 0 where
-  pub encloses : Encloses d h
+  pub encloses : EnclosesDesign d h
   pub hessian_some : 1 ≤ h.hessian_scale
   pub rows_some : 1 ≤ h.rows_scale
   pub matrix_factor : h.matrix_factor ≡ pos d.limit_denominator

@@ -23,7 +23,7 @@ use Rattle.plant_condense.specs.Form.{IsFormOf, IsLeastInput}
 use Rattle.plant_condense.specs.declared.condensed.Condensed.{Condensed}
 use Rattle.step_error.specs.declared.sums.Radii.{Radii}
 use Rattle.step_error.specs.declared.sums.Whole.{Whole}
-use Rattle.step_error.specs.ErrorSums.{entry_squares, sums_by, size_by, spread_of, AreRadii, HaveRoom, HasRoom}
+use Rattle.step_error.specs.ErrorSums.{entry_squares, sums_by, size_by, spread_of, AreRadii, HaveRoom, HasErrorRoom}
 use Rattle.step_error.proofs.SumFacts.{few, floor_range, through, doubled}
 use Rattle.qp_model.proofs.SoundLaws.{least-le, least-met, weight_at}
 
@@ -260,7 +260,7 @@ sums_are w d h r squares pull tail top entries box rho state most weight radii =
 
 -- they fit
 pub room_of : (w : Whole) (p : DesignParts) (h : Form) (r : ℕ) → IsDesign p → 1 ≤ r → r ≤ 2 ^ 44 → w.x_box ≤ 2 ^ 31 → w.squares ≤ 2 ^ 126 → w.pull ≤ 2 ^ 126 → w.tail ≤ 2 ^ 126 →
-    HaveRoom w.radii → AreOf w (design_of p) h r → HasRoom w
+    HaveRoom w.radii → AreOf w (design_of p) h r → HasErrorRoom w
 room_of w p h r design some narrow near squares pull tail radii is =
     let small = few p design in
     let floor = floor_range p design in

@@ -13,7 +13,7 @@ use Rattle.integer_algebra.proofs.DivisionLaws.{le-mul-ceil_div, ceil_div-le}
 use Rattle.integer_algebra.proofs.PowerLaws.{pow_positive}
 use Rattle.integer_algebra.proofs.Quoting.{by_ring, quotes}
 use Rattle.qp_model.specs.Design.{Design, entries, rows}
-use Rattle.qp_model.specs.Form.{Form, Encloses, IsFormFor, hessian_radii, linear_radii, plan_radii, state_radii, column_radii}
+use Rattle.qp_model.specs.Form.{Form, EnclosesDesign, IsFormFor, hessian_radii, linear_radii, plan_radii, state_radii, column_radii}
 use Rattle.qp_model.specs.Sound.{IsSound}
 use Rattle.qp_model.specs.Quantities.{greatest, input_floor}
 use Rattle.qp_model.specs.Errors.{state_bound, error_sums_of, radius_error, row_radii}
@@ -25,7 +25,7 @@ use Rattle.step_error.specs.MachineLaws.{row_radius}
 abbrev pub counted : Design → Form → Form
 counted d h = record h { entries = entries d; states = d.states; rows = rows d }
 
-pub counted_is : (d : Design) (h : Form) → Encloses d h → h ≡ counted d h
+pub counted_is : (d : Design) (h : Form) → EnclosesDesign d h → h ≡ counted d h
 counted_is d h e = λ i. record h { entries = e.entry_count i; states = e.state_count i; rows = e.row_count i }
 
 -- ---- sums of numbers that are within radii

@@ -144,7 +144,7 @@ pub record HaveRoom (r : Radii) : Type 0 where
   pub row_some : 1 ≤ r.row_scale
   pub row_scale : r.row_scale ≤ 2 ^ 126
 
-pub record HasRoom (w : Whole) : Type 0 where
+pub record HasErrorRoom (w : Whole) : Type 0 where
   pub squares : w.squares ≤ 2 ^ 126
   pub pull : w.pull ≤ 2 ^ 126
   pub tail : w.tail ≤ 2 ^ 126

@@ -298,11 +298,11 @@ impl Whole {
     ghost use Rattle.std.specs.Option.{SomeIff};
     ghost use Rattle.integer_algebra.specs.Division.{ceil_div};
     ghost use Rattle.qp_model.specs.Errors.{plan_bound, row_radii};
-    ghost use Rattle.step_error.specs.ErrorSums.{HasRoom, spread_of, whole_sums, sums_by, size_by, rounding_size, radius_size};
+    ghost use Rattle.step_error.specs.ErrorSums.{HasErrorRoom, spread_of, whole_sums, sums_by, size_by, rounding_size, radius_size};
 
     // The quantity `error`. None where it is above `2^126`.
     fn size(&self) -> Option<u128>
-        requires { HasRoom self.now }
+        requires { HasErrorRoom self.now }
         ensures { let size = size_by self.now.squares self.now.pull (sums_by self.now) in SomeIff result (size ≤ 2 ^ 126) size }
     {
         let lead = self.pull.div_ceil(2 * self.rho);
@@ -312,7 +312,7 @@ impl Whole {
 
     // Its part by rounding, where the plan's entries are within `plan`. None where it is above `2^126`.
     fn rounding_size(&self, plan: u128) -> Option<u128>
-        requires { HasRoom self.now }
+        requires { HasErrorRoom self.now }
         ensures { let size = rounding_size self.now.squares self.now.pull (sums_by self.now) plan in SomeIff result (size ≤ 2 ^ 126) size }
     {
         let first = self.squares.div_ceil(2 * self.rho);
@@ -328,7 +328,7 @@ impl Whole {
 
     // Its part by the radii. None where it is above `2^126`.
     fn radius_size(&self, plan: u128) -> Option<u128>
-        requires { HasRoom self.now }
+        requires { HasErrorRoom self.now }
         ensures { let size = radius_size (sums_by self.now) plan in SomeIff result (size ≤ 2 ^ 126) size }
     {
         let radii = &self.radii;
@@ -342,7 +342,7 @@ impl Whole {
     // What the radii of the gradient come to, squared, where those of the cost move it by `moved` and those of the rows by `columns`. None where it
     // is above `2^126`.
     fn radius_squares(&self, moved: u128, columns: u128) -> Option<u128>
-        requires room { HasRoom self.now }
+        requires room { HasErrorRoom self.now }
         requires moved { moved ≤ 2 ^ 127 }
         requires columns { columns ≤ 2 ^ 126 }
         ensures { let error = ceil_div moved self.now.radii.cost_scale + ceil_div columns self.now.radii.row_scale in
@@ -354,7 +354,7 @@ impl Whole {
 
     // The sums.
     fn sums(&self) -> ErrorSums
-        requires { HasRoom self.now }
+        requires { HasErrorRoom self.now }
         ensures { result ≡ whole_sums (sums_by self.now) }
     {
         let radii = &self.radii;
