@@ -32,6 +32,8 @@ pub mod CostShape
 pub mod Quantities
 pub mod Convex
 pub mod Columns
+pub mod FineForm
+pub mod FineSizes
 pub mod Errors
 pub mod Certified
 pub mod Built
