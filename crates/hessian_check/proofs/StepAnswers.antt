@@ -141,7 +141,7 @@ pub room_of : (d : Design) (g : StepMatrices) (o : Option ℕ) → AreMatricesOf
 room_of d g o h l s k = h.room s (omega (arith, at-le d s (unwrap_or o 40) k, l))
 
 -- some number covers the squares
-pub some_of : (p : DesignParts) (c : Condensed) → IsFormOf p c → HasLeast (CoversSquares (design_of p))
+some_of : (p : DesignParts) (c : Condensed) → IsFormOf p c → HasLeast (CoversSquares (design_of p))
 some_of p c f = let s = sound p f.design in covers_least (design_of p) s.rho_positive s.limit_denominator (small p c f).power
 
 -- what a test of the quantity says of it
@@ -153,3 +153,8 @@ wide_of d o n e h k = elim (cases_lt (2 ^ 126) (curvature_size d)) [
 
 pub narrow_of : (d : Design) (o : Option ℕ) (n : ℕ) → n ≡ unwrap_or o 40 → IsLeastBelow 41 (CoversSquares d) o → curvature_at d n ≤ 2 ^ 126 → curvature_size d ≤ 2 ^ 126
 narrow_of d o n e h k = let q = size_is d o h in let r : curvature_at d (unwrap_or o 40) ≤ 2 ^ 126 = rw e at k in omega (arith, q, r)
+
+-- all of it, of a condensed form
+pub chosen_of : (p : DesignParts) (c : Condensed) → IsFormOf p c → (g : StepMatrices) (o : Option ℕ) → AreMatricesOf (design_of p) g → IsLeastBelow 41 (CoversSquares (design_of p)) o →
+    Chosen (design_of p) g o
+chosen_of p c f g o m s = record { matrices = m; squares = s; some = some_of p c f }

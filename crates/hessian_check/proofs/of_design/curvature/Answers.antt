@@ -5,7 +5,7 @@ use Rattle.qp_model.specs.Parts.{design_of}
 use Rattle.hessian_check.specs.DesignMatrices.{curvature_at}
 use Rattle.hessian_check.proofs.ExponentLaws.{step_law}
 use Rattle.hessian_check.proofs.RowLaws.{not_true}
-use Rattle.hessian_check.proofs.StepAnswers.{Chosen, accepted_of, every_of, exponents_of, few, memory_is, memory_refused, narrow_of, order_of, plain_of, refused_of, room_of, some_of, step_of, wide_every, wide_of, wide_refused}
+use Rattle.hessian_check.proofs.StepAnswers.{accepted_of, chosen_of, every_of, exponents_of, few, memory_is, memory_refused, narrow_of, order_of, plain_of, refused_of, room_of, step_of, wide_every, wide_of, wide_refused}
 use Rattle.hessian_check.proofs.of_design.curvature.Goals as goal
 
 pub returns-then-not-is_limited-clause-refused : goal.returns-then-not-is_limited-clause-refused
@@ -66,7 +66,7 @@ returns-clause-plain c = λ p f.
     let d = design_of p in
     let o = c.squares_of-squares.result in
     let g = c.in_ok-matrices.matrices in
-    let h : Chosen d g o = record { matrices = c.in_ok-matrices.ensures p f; squares = c.squares_of-squares.ensures p f; some = some_of p c.args.c.now f } in
+    let h = chosen_of p c.args.c.now f g o (c.in_ok-matrices.ensures p f) (c.squares_of-squares.ensures p f) in
     plain_of d g o c.exponents_of.result h c.exponents_of.ensures
 
 pub returns-clause-certified : goal.returns-clause-certified
@@ -74,7 +74,7 @@ returns-clause-certified c = λ p f.
     let d = design_of p in
     let o = c.squares_of-squares.result in
     let g = c.in_ok-matrices.matrices in
-    let h : Chosen d g o = record { matrices = c.in_ok-matrices.ensures p f; squares = c.squares_of-squares.ensures p f; some = some_of p c.args.c.now f } in
+    let h = chosen_of p c.args.c.now f g o (c.in_ok-matrices.ensures p f) (c.squares_of-squares.ensures p f) in
     step_of d g o c.exponents_of.result h c.exponents_of.ensures
 
 pub returns-clause-exponents : goal.returns-clause-exponents
@@ -82,7 +82,7 @@ returns-clause-exponents c = λ p f.
     let d = design_of p in
     let o = c.squares_of-squares.result in
     let g = c.in_ok-matrices.matrices in
-    let h : Chosen d g o = record { matrices = c.in_ok-matrices.ensures p f; squares = c.squares_of-squares.ensures p f; some = some_of p c.args.c.now f } in
+    let h = chosen_of p c.args.c.now f g o (c.in_ok-matrices.ensures p f) (c.squares_of-squares.ensures p f) in
     exponents_of step_law p f.design c.exponents_of.result (plain_of d g o c.exponents_of.result h c.exponents_of.ensures) (step_of d g o c.exponents_of.result h c.exponents_of.ensures)
 
 pub returns-clause-order : goal.returns-clause-order
@@ -92,7 +92,7 @@ returns-clause-order c =
     let d = design_of p in
     let o = c.squares_of-squares.result in
     let g = c.in_ok-matrices.matrices in
-    let h : Chosen d g o = record { matrices = c.in_ok-matrices.ensures p f; squares = c.squares_of-squares.ensures p f; some = some_of p c.args.c.now f } in
+    let h = chosen_of p c.args.c.now f g o (c.in_ok-matrices.ensures p f) (c.squares_of-squares.ensures p f) in
     order_of d g o c.exponents_of.result h c.exponents_of.ensures
 
 pub returns-clause-refused : goal.returns-clause-refused
@@ -102,7 +102,7 @@ returns-clause-refused c = λ p f.
     let g = c.in_ok-matrices.matrices in
     let t : IsTrue true = search rules in
     let l = narrow_of d o c.unwrap_or.result c.unwrap_or.ensures (c.squares_of-squares.ensures p f) ((c.if-not-is_limited.ensures p f).0 t) in
-    let h : Chosen d g o = record { matrices = c.in_ok-matrices.ensures p f; squares = c.squares_of-squares.ensures p f; some = some_of p c.args.c.now f } in
+    let h = chosen_of p c.args.c.now f g o (c.in_ok-matrices.ensures p f) (c.squares_of-squares.ensures p f) in
     refused_of d g o c.exponents_of.result h l c.exponents_of.ensures
 
 pub returns-clause-every_refusal : goal.returns-clause-every_refusal
@@ -112,7 +112,7 @@ returns-clause-every_refusal c = λ p f.
     let g = c.in_ok-matrices.matrices in
     let t : IsTrue true = search rules in
     let l = narrow_of d o c.unwrap_or.result c.unwrap_or.ensures (c.squares_of-squares.ensures p f) ((c.if-not-is_limited.ensures p f).0 t) in
-    let h : Chosen d g o = record { matrices = c.in_ok-matrices.ensures p f; squares = c.squares_of-squares.ensures p f; some = some_of p c.args.c.now f } in
+    let h = chosen_of p c.args.c.now f g o (c.in_ok-matrices.ensures p f) (c.squares_of-squares.ensures p f) in
     every_of d g o c.exponents_of.result h l c.exponents_of.ensures
 
 pub returns-clause-accepted : goal.returns-clause-accepted
@@ -120,7 +120,7 @@ returns-clause-accepted c = λ p f s1 l.
     let d = design_of p in
     let o = c.squares_of-squares.result in
     let g = c.in_ok-matrices.matrices in
-    let h : Chosen d g o = record { matrices = c.in_ok-matrices.ensures p f; squares = c.squares_of-squares.ensures p f; some = some_of p c.args.c.now f } in
+    let h = chosen_of p c.args.c.now f g o (c.in_ok-matrices.ensures p f) (c.squares_of-squares.ensures p f) in
     accepted_of d g o c.exponents_of.result h c.exponents_of.ensures s1
 
 pub returns-clause-wide : goal.returns-clause-wide
