@@ -162,4 +162,3 @@ choice_same sums other low from limit most f e g h is = record {
   within = rw (e, h) at is.within;
   least = λ k l n. rw (e, h) at (is.least k (rw g l) n);
 }
-
