@@ -1,6 +1,7 @@
 use Rattle.std.proofs.Common.{◌≡◌, ℕ, ◌+◌, ◌*◌, ◌^◌, ◌≤◌, Fits, unsigned_abs, rules, arith, ◌∙◌}
 use Rattle.std.specs.Int.{w128}
 use mir.Val.{SFits}
+use Rattle.std.proofs.Math.Nat.{mul-le-mul_right}
 use Rattle.integer_algebra.proofs.PowerLaws.{pow_positive}
 use Rattle.qp_model.specs.Errors.{residual_error}
 use Rattle.step_error.specs.ErrorSums.{sums_of, rounding_cost}
@@ -12,10 +13,14 @@ pub overflow_mul-gradient : goal.overflow_mul-gradient
 overflow_mul-gradient c = omega (arith, c.spread.ensures, (bounded c.args.e.now c.requires.sums).spread_few)
 
 pub overflow_mul-gradient-2 : goal.overflow_mul-gradient-2
-overflow_mul-gradient-2 c = close (λ i. c.spread.ensures i * 1099511627776 * c.args.first) (room_at (sums_of c.args.e.now) c.args.first c.args.plan (bounded c.args.e.now c.requires.sums) c.requires.first c.requires.plan).gradient
+overflow_mul-gradient-2 c =
+    let b = bounded c.args.e.now c.requires.sums in
+    let few : c.spread.result ≤ 2 = omega (arith, c.spread.ensures, b.spread_few) in
+    close (sums_of c.args.e.now).spread c.args.first few b.spread_some
+    (room_at (sums_of c.args.e.now) c.args.first c.args.plan b c.requires.first c.requires.plan).gradient
   where
-    close : {a b : ℕ} → a ≡ b → b ≤ 2 ^ 126 → Fits w128 a
-    close {a} {b} e h = omega (arith, e, h)
+    close : {k : ℕ} (s n : ℕ) → k ≤ 2 → 1 ≤ s → s * 2 ^ 40 * n ≤ 2 ^ 126 → Fits w128 (k * 1099511627776 * n)
+    close {k} s n h o g = omega (arith, mul-le-mul_right n h, mul-le-mul_right n o, g)
 
 pub overflow_mul-rows-2 : goal.overflow_mul-rows-2
 overflow_mul-rows-2 c =
