@@ -6,7 +6,7 @@ use Rattle.integer_algebra.proofs.PowerLaws.{pow_positive}
 use Rattle.qp_model.specs.Errors.{residual_error}
 use Rattle.step_error.specs.ErrorSums.{sums_of, rounding_cost}
 use Rattle.step_error.proofs.Ceilings.{quotient_is, ceil_small}
-use Rattle.step_error.proofs.SumFacts.{bounded, room_at, spread_few, shifted, four_is, read_size, within_of}
+use Rattle.step_error.proofs.SumFacts.{bounded, room_at, shifted, four_is, read_size}
 use Rattle.step_error.proofs.errors.rounding_cost.Goals as goal
 
 pub overflow_mul-gradient : goal.overflow_mul-gradient
@@ -15,7 +15,8 @@ overflow_mul-gradient c = omega (arith, c.spread.ensures, (bounded c.args.e.now 
 pub overflow_mul-gradient-2 : goal.overflow_mul-gradient-2
 overflow_mul-gradient-2 c =
     let b = bounded c.args.e.now c.requires.sums in
-    close (sums_of c.args.e.now).spread c.args.first (within_of c.spread.ensures (spread_few _)) b.spread_some
+    let few : c.spread.result ≤ 2 = omega (arith, c.spread.ensures, b.spread_few) in
+    close (sums_of c.args.e.now).spread c.args.first few b.spread_some
     (room_at (sums_of c.args.e.now) c.args.first c.args.plan b c.requires.first c.requires.plan).gradient
   where
     close : {k : ℕ} (s n : ℕ) → k ≤ 2 → 1 ≤ s → s * 2 ^ 40 * n ≤ 2 ^ 126 → Fits w128 (k * 1099511627776 * n)
