@@ -36,7 +36,7 @@ curved_of d = weighted_of d (λ l. 1)
 abbrev pub curved_by : Design → (ℕ → ℕ) → ℕ → Curved
 curved_by d s most = weighted_of d (λ l. 2 ^ (most - s l))
 
--- the matrices of the design, which are held held_exactly
+-- the matrices of the design, which are held exactly
 abbrev pub held_of : Design → HeldMatrices
 held_of d = held_exactly (curved_of d)
 
