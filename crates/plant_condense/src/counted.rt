@@ -28,8 +28,8 @@ fn weight_at(parts: &DesignParts, c: usize) -> i128
     }
 }
 
-// The target of counted cost row `c`, over `row_den`.
-fn target_at(parts: &DesignParts, c: usize) -> i128
+/// The target of counted cost row `c`, over `row_den`.
+pub fn target_at(parts: &DesignParts, c: usize) -> i128
     requires design { IsDesign parts.now }
     requires row { c < counts (design_of parts.now) }
     ensures { result ≡ target_of (design_of parts.now) c }
