@@ -1,0 +1,82 @@
+-- Matrices of enclosures, filled by columns.
+use Rattle.std.proofs.Common.{◌≡◌, ℕ, ◌+◌, ◌-◌, ◌<◌, ◌≤◌, List, ℤ, pos, length, get_or, add-one, arith, ap, ap₂, sym, subst, ◌∙◌, refl}
+use mathlib.Core.Path.{fun_ext}
+use Rattle.std.proofs.lemmas.Bool.{lt-ltb, le-ltb}
+use Rattle.std.proofs.lemmas.List.{get_or-map, length-map}
+use Rattle.integer_algebra.specs.Sums.{none}
+use Rattle.frac_scaled.specs.Enclosures.{Enclosure, exactly}
+use Rattle.mat_int.specs.Matrix.{Matrix, with_entry}
+use Rattle.enclosure.specs.declared.types.Enc.{Enc}
+use Rattle.enclosure.proofs.SumLaws.{pair_at_is}
+use Rattle.qp_model.specs.declared.design_parts.DesignParts.{DesignParts}
+use Rattle.qp_model.specs.Design.{entries, rows}
+use Rattle.qp_model.specs.Parts.{design_of}
+use Rattle.qp_model.specs.Runs.{unit, counts, Holds}
+use Rattle.qp_model.specs.FineForm.{counted_row, fine_cost, fine_costs, fine_limit}
+use Rattle.plant_condense.specs.Lists.{with_column}
+use Rattle.fine_condense.specs.Lists.{HoldsEnclosures, HoldsEncMatrix, mids, rads}
+use Rattle.plant_condense.proofs.ColumnFacts.{column_written, at_both}
+
+zero : Enc
+zero = record { mid = pos 0; rad = pos 0; nonnegative = omega arith }
+
+-- ---- one entry of a column
+pub mid_set : (m old new : Matrix) (i j : ℕ) (xs : List Enc) (v : Enc) → v ≡ get_or xs i v → i < length xs → old ≡ with_column i m j (mids xs) → new ≡ with_entry old i j v.mid →
+    new ≡ with_column (i + 1) m j (mids xs)
+mid_set m old new i j xs v is l h e = rw add-one (e ∙ ap₂ (λ (o : Matrix) (z : ℤ). with_entry o i j z) h (ap (λ (x : Enc). x.mid) is ∙ sym (get_or-map (λ (x : Enc). x.mid) xs i v (pos 0) l)))
+
+pub rad_set : (m old new : Matrix) (i j : ℕ) (xs : List Enc) (v : Enc) → v ≡ get_or xs i v → i < length xs → old ≡ with_column i m j (rads xs) → new ≡ with_entry old i j v.rad →
+    new ≡ with_column (i + 1) m j (rads xs)
+rad_set m old new i j xs v is l h e = rw add-one (e ∙ ap₂ (λ (o : Matrix) (z : ℤ). with_entry o i j z) h (ap (λ (x : Enc). x.rad) is ∙ sym (get_or-map (λ (x : Enc). x.rad) xs i v (pos 0) l)))
+
+-- ---- a column
+mids_hold : (xs : List Enc) (n : ℕ) (f : ℕ → Enclosure) → HoldsEnclosures xs n f → Holds (mids xs) n (λ i. (f i).mid)
+mids_hold xs n f h = record {
+  long = length-map xs (λ (x : Enc). x.mid) ∙ h.long;
+  is = λ i l. get_or-map (λ (x : Enc). x.mid) xs i zero (pos 0) (omega (arith, h.long)) ∙ ap (λ (e : Enclosure). e.mid) (sym (pair_at_is xs i zero (omega (arith, h.long))) ∙ h.is i l);
+}
+
+rads_hold : (xs : List Enc) (n : ℕ) (f : ℕ → Enclosure) → HoldsEnclosures xs n f → Holds (rads xs) n (λ i. (f i).rad)
+rads_hold xs n f h = record {
+  long = length-map xs (λ (x : Enc). x.rad) ∙ h.long;
+  is = λ i l. get_or-map (λ (x : Enc). x.rad) xs i zero (pos 0) (omega (arith, h.long)) ∙ ap (λ (e : Enclosure). e.rad) (sym (pair_at_is xs i zero (omega (arith, h.long))) ∙ h.is i l);
+}
+
+pub enclosures_written : (mid rad new_mid new_rad : Matrix) (height width j : ℕ) (f : ℕ → ℕ → Enclosure) (xs : List Enc) →
+    new_mid ≡ with_column (length xs) mid j (mids xs) → new_rad ≡ with_column (length xs) rad j (rads xs) → j < width →
+    HoldsEnclosures xs height (λ i. f i j) → HoldsEncMatrix mid rad height width j f → HoldsEncMatrix new_mid new_rad height width (j + 1) f
+enclosures_written mid rad new_mid new_rad height width j f xs e g l h p = record {
+  mids = column_written mid new_mid height width j (length xs) (λ i k. (f i k).mid) (mids xs) e h.long l (mids_hold xs height (λ i. f i j) h) p.mids;
+  rads = column_written rad new_rad height width j (length xs) (λ i k. (f i k).rad) (rads xs) g h.long l (rads_hold xs height (λ i. f i j) h) p.rads;
+}
+
+-- ---- which column a run gives
+module _ (P : ℕ → (ℕ → Enclosure) → Type 0) (p q : DesignParts) (x v : ℕ → ℤ) (e : q ≡ p) where
+  pub plan_cost_to : (j : ℕ) → x ≡ none → v ≡ unit j → j < entries (design_of p) → P (counts (design_of q)) (fine_cost (design_of q) x v) →
+      P (counts (design_of p)) (λ c. fine_costs (design_of p) c j)
+  plan_cost_to j f g l h = subst (λ (y : ℕ → Enclosure). P (counts (design_of p)) y) (sym (fun_ext (λ c. column c)))
+      (at_both (λ (x v : ℕ → ℤ). P (counts (design_of p)) (fine_cost (design_of p) x v)) x none v (unit j) f g
+      (subst (λ (q : DesignParts). P (counts (design_of q)) (fine_cost (design_of q) x v)) e h))
+    where
+      column : (c : ℕ) → fine_costs (design_of p) c j ≡ fine_cost (design_of p) none (unit j) c
+      column c = rw (lt-ltb j (entries (design_of p)) l) refl
+
+  pub state_cost_to : (j : ℕ) → x ≡ unit (j - entries (design_of p)) → v ≡ none → entries (design_of p) ≤ j → j < entries (design_of p) + p.states →
+      P (counts (design_of q)) (fine_cost (design_of q) x v) → P (counts (design_of p)) (λ c. fine_costs (design_of p) c j)
+  state_cost_to j f g l m h = subst (λ (y : ℕ → Enclosure). P (counts (design_of p)) y) (sym (fun_ext (λ c. column c)))
+      (at_both (λ (x v : ℕ → ℤ). P (counts (design_of p)) (fine_cost (design_of p) x v)) x (unit (j - entries (design_of p))) v none f g
+      (subst (λ (q : DesignParts). P (counts (design_of q)) (fine_cost (design_of q) x v)) e h))
+    where
+      column : (c : ℕ) → fine_costs (design_of p) c j ≡ fine_cost (design_of p) (unit (j - entries (design_of p))) none c
+      column c = rw (le-ltb j (entries (design_of p)) l, lt-ltb j (entries (design_of p) + p.states) m) refl
+
+  pub limit_to : (y w : ℕ → ℤ) → x ≡ y → v ≡ w → P (rows (design_of q)) (fine_limit (design_of q) x v) → P (rows (design_of p)) (fine_limit (design_of p) y w)
+  limit_to y w f g h = at_both (λ (x v : ℕ → ℤ). P (rows (design_of p)) (fine_limit (design_of p) x v)) x y v w f g
+      (subst (λ (q : DesignParts). P (rows (design_of q)) (fine_limit (design_of q) x v)) e h)
+
+pub target_to : (P : (ℕ → Enclosure) → Type 0) (p : DesignParts) (j : ℕ) → entries (design_of p) ≤ j → entries (design_of p) + p.states ≤ j →
+    P (λ c. exactly (counted_row (design_of p) c).target) → P (λ c. fine_costs (design_of p) c j)
+target_to P p j l m h = subst P (sym (fun_ext (λ c. column c))) h
+  where
+    column : (c : ℕ) → fine_costs (design_of p) c j ≡ exactly (counted_row (design_of p) c).target
+    column c = rw (le-ltb j (entries (design_of p)) l, le-ltb j (entries (design_of p) + p.states) m) refl

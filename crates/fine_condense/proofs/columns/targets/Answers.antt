@@ -1,0 +1,24 @@
+use Rattle.std.proofs.Common.{rules, ◌≡◌, ℕ, ◌*◌, arith, ap, subst, ◌∙◌}
+use Rattle.std.specs.Int.{w128}
+use mir.Val.{SFits}
+use Rattle.std.proofs.lemmas.Int.{to_z-of_z}
+use Rattle.frac_scaled.specs.Enclosures.{exactly}
+use Rattle.qp_model.specs.Design.{CostRow}
+use Rattle.qp_model.specs.Parts.{design_of}
+use Rattle.qp_model.specs.Runs.{counts}
+use Rattle.qp_model.specs.FineForm.{counted_row}
+use Rattle.fine_condense.specs.Lists.{HoldsEnclosures}
+use Rattle.fine_condense.proofs.ListFacts.{one_pushed}
+use Rattle.fine_condense.proofs.RowRooms.{counted_at}
+use Rattle.fine_condense.proofs.columns.targets.Goals as goal
+
+pub loop-c-preserved : goal.loop-c-preserved
+loop-c-preserved c =
+    let f : SFits w128 c.target_at.result = search rules in
+    one_pushed c.loop-c.out.items _ c.whole.result c.loop-c.c (λ i. exactly (counted_row (design_of c.args.parts.now) i).target) c.in_ok-push.ensures.items
+    (c.whole.ensures ∙ ap exactly (to_z-of_z w128 _ f ∙ c.target_at.ensures ∙ counted_at (design_of c.args.parts.now) (λ (r : CostRow). r.target) c.loop-c.c)) c.loop-c.invariant
+
+pub returns : goal.returns
+returns c =
+    let e : c.loop-c.c ≡ counts (design_of c.args.parts.now) = omega (arith, ap (λ (n : ℕ). c.args.parts.now.stages * n) c.rows.ensures.count, c.rows-2.ensures.count) in
+    subst (λ (n : ℕ). HoldsEnclosures c.loop-c.out.items n (λ i. exactly (counted_row (design_of c.args.parts.now) i).target)) e c.loop-c.invariant

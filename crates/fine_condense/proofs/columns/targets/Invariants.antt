@@ -1,0 +1,8 @@
+use Rattle.frac_scaled.specs.Enclosures.{exactly}
+use Rattle.qp_model.specs.Parts.{design_of}
+use Rattle.qp_model.specs.FineForm.{counted_row}
+use Rattle.fine_condense.specs.Lists.{HoldsEnclosures}
+use Rattle.fine_condense.proofs.columns.targets.Given as goal
+
+abbrev pub invariant-loop-c : goal.invariant-loop-c
+invariant-loop-c l = HoldsEnclosures l.out.items l.c (λ c. exactly (counted_row (design_of l.parts) c).target)

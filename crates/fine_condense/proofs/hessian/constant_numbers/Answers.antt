@@ -1,0 +1,33 @@
+use Rattle.std.proofs.Common.{rules, ◌+◌, ◌*◌, FitsSigned, unsigned_abs, arith, ◌∙◌}
+use Rattle.std.specs.Int.{w128}
+use Rattle.std.proofs.lemmas.Int.{to_z-of_z}
+use Rattle.qp_model.specs.Parts.{design_of}
+use Rattle.qp_model.specs.FineForm.{fine_constant}
+use Rattle.fine_condense.proofs.ListFacts.{one_pushed}
+use Rattle.fine_condense.proofs.CostFacts.{product_at, product_near, constant_entry, negated_fits, negated_is}
+use Rattle.fine_condense.proofs.hessian.constant_numbers.Goals as goal
+
+pub doubled-twice-requires-clause-near : goal.doubled-twice-requires-clause-near
+doubled-twice-requires-clause-near c =
+    let p = c.args.parts.now in
+    product_near p c.args.products.now.mid c.args.products.now.rad c.requires c.at.result c.loop-j.j (p.stages * p.inputs + p.states) (omega (arith, c.loop-j-test.true)) (omega arith) c.at.ensures
+
+pub overflow_sub-twice : goal.overflow_sub-twice
+overflow_sub-twice c =
+    let p = c.args.parts.now in
+    let f : FitsSigned w128 c.doubled-twice.result.mid = search rules in
+    negated_fits c.doubled-twice.result.mid c.at.result.mid (unsigned_abs c.at.result.rad) f c.doubled-twice.ensures.mid
+    (product_near p c.args.products.now.mid c.args.products.now.rad c.requires c.at.result c.loop-j.j (p.stages * p.inputs + p.states) (omega (arith, c.loop-j-test.true)) (omega arith) c.at.ensures)
+
+pub loop-j-preserved : goal.loop-j-preserved
+loop-j-preserved c =
+    let p = c.args.parts.now in
+    let f : FitsSigned w128 c.doubled-twice.result.mid = search rules in
+    let g : FitsSigned w128 c.doubled-twice.result.rad = search rules in
+    one_pushed c.loop-j.out.items _ _ c.loop-j.j (fine_constant (design_of p)) c.in_ok-push.ensures.items
+    (constant_entry (design_of p) c.at.result c.doubled-twice.result _ _ c.loop-j.j
+    (c.at.ensures ∙ product_at p c.args.products.now.mid c.args.products.now.rad c.requires c.loop-j.j (p.stages * p.inputs + p.states) (omega (arith, c.loop-j-test.true)) (omega arith))
+    c.doubled-twice.ensures.mid c.doubled-twice.ensures.rad
+    (negated_is c.doubled-twice.result.mid c.at.result.mid (unsigned_abs c.at.result.rad) f c.doubled-twice.ensures.mid
+    (product_near p c.args.products.now.mid c.args.products.now.rad c.requires c.at.result c.loop-j.j (p.stages * p.inputs + p.states) (omega (arith, c.loop-j-test.true)) (omega arith) c.at.ensures))
+    (to_z-of_z w128 _ g)) c.loop-j.invariant

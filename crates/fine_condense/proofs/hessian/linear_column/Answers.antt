@@ -1,0 +1,20 @@
+use Rattle.std.proofs.Common.{◌+◌, ◌*◌, arith, ◌∙◌}
+use Rattle.qp_model.specs.Parts.{design_of}
+use Rattle.qp_model.specs.FineForm.{fine_linear}
+use Rattle.fine_condense.proofs.ListFacts.{one_pushed}
+use Rattle.fine_condense.proofs.CostFacts.{product_at, product_near, linear_entry}
+use Rattle.fine_condense.proofs.hessian.linear_column.Goals as goal
+
+pub doubled-requires-clause-near : goal.doubled-requires-clause-near
+doubled-requires-clause-near c =
+    let p = c.args.parts.now in
+    product_near p c.args.products.now.mid c.args.products.now.rad c.requires.products c.at.result c.loop-j.j (p.stages * p.inputs + c.args.i)
+    (omega (arith, c.loop-j-test.true)) (omega (arith, c.requires.column)) c.at.ensures
+
+pub loop-j-preserved : goal.loop-j-preserved
+loop-j-preserved c =
+    let p = c.args.parts.now in
+    one_pushed c.loop-j.out.items _ c.doubled.result c.loop-j.j (λ j. fine_linear (design_of p) j c.args.i) c.in_ok-push.ensures.items
+    (linear_entry (design_of p) c.at.result c.doubled.result c.loop-j.j c.args.i
+    (c.at.ensures ∙ product_at p c.args.products.now.mid c.args.products.now.rad c.requires.products c.loop-j.j (p.stages * p.inputs + c.args.i) (omega (arith, c.loop-j-test.true)) (omega (arith, c.requires.column)))
+    c.doubled.ensures.mid c.doubled.ensures.rad) c.loop-j.invariant

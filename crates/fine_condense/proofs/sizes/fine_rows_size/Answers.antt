@@ -1,0 +1,22 @@
+use Rattle.std.proofs.Common.{◌≡◌, ℕ, ◌+◌, ◌*◌, ◌^◌, ◌≤◌, ◌∙◌, sym, subst, refl}
+use Rattle.std.specs.Option.{SomeIff}
+use Rattle.qp_model.specs.Design.{entries, rows}
+use Rattle.qp_model.specs.Parts.{design_of}
+use Rattle.qp_model.specs.Quantities.{limit_width}
+use Rattle.qp_model.specs.FineSizes.{fine_reach}
+use Rattle.qp_model.proofs.SizeFacts.{rows_parts, rows_value, some_limit, some_row}
+use Rattle.fine_condense.proofs.sizes.fine_rows_size.Goals as goal
+
+pub returns-in_err-entry : goal.returns-in_err-entry
+returns-in_err-entry c = rw c.from_residual.ensures (λ h. c.in_err-entry.ensures
+    (let p = c.args.parts.now in let d = design_of p in
+    rw (c.limit_width.ensures, c.requires.reach)
+    (rows_parts (entries d) p.states (rows d) (limit_width d) (fine_reach d p.stages) _ (some_row p c.requires.design) (some_limit p c.requires.design) h).0))
+
+pub returns : goal.returns
+returns c =
+    let p = c.args.parts.now in let d = design_of p in
+    let P : ℕ → Type 0 = λ z. SomeIff c.limited_area.result (z ≤ 2 ^ 126) z in
+    let count : (entries d + p.states + 1) * (p.stages * c.rows.result + c.rows-2.result) ≡ (entries d + p.states + 1) * rows d = rw (c.rows.ensures.count, c.rows-2.ensures.count) refl in
+    subst P (sym (rows_value _ ((entries d + p.states + 1) * rows d) c.in_ok-entry.entry (limit_width d) (fine_reach d p.stages) (fine_reach d p.stages)
+    count (c.in_ok-entry.ensures.1 ∙ rw (c.limit_width.ensures, c.requires.reach) refl) refl)) c.limited_area.ensures

@@ -1,0 +1,115 @@
+// What the rows have of each entry of the plan and of each state, in enclosures, column by column.
+ghost use Rattle.std.specs.Prelude.{◌≡◌, ◌≤◌, ◌<◌, ◌+◌, ◌*◌, ◌^◌, ℕ, length, IfOk};
+ghost use Rattle.frac_scaled.specs.Enclosures.{exactly};
+ghost use Rattle.integer_algebra.specs.Sums.{none};
+ghost use Rattle.qp_model.specs.Design.{entries, rows};
+ghost use Rattle.qp_model.specs.Parts.{design_of, IsDesign};
+ghost use Rattle.qp_model.specs.Runs.{unit, counts};
+ghost use Rattle.qp_model.specs.FineForm.{counted_row, fine_costs, fine_limit};
+ghost use Rattle.qp_model.specs.FineSizes.{fine_prediction_size, fine_response_size, fine_limit_entry_size};
+ghost use Rattle.plant_condense.specs.Lists.{with_column};
+ghost use Rattle.fine_condense.specs.Lists.{HoldsEnclosures, HoldsEncMatrix, mids, rads};
+
+use crate::run::FineRun;
+use crate::states::whole;
+use enclosure::{Enc, EncMat};
+use plant_condense::target_at;
+use qp_model::DesignParts;
+use std::alloc::{AllocError, Global};
+
+/// Puts a list into column `j`.
+pub fn set_column(mat: &mut EncMat, j: usize, column: &[Enc])
+    requires rows { length column.now ≡ length mat.old.mid.rows }
+    requires column { j < mat.old.mid.cols }
+    ensures mid { mat.new.mid ≡ with_column (length column.now) mat.old.mid j (mids column.now) }
+    ensures rad { mat.new.rad ≡ with_column (length column.now) mat.old.rad j (rads column.now) }
+{
+    for i in 0..column.len() {
+        mat.set(i, j, column[i]);
+    }
+}
+
+// The target of each counted cost row, times `row_den`.
+fn targets(alloc: Global, parts: &DesignParts) -> Result<Vec<Enc>, AllocError>
+    requires { IsDesign parts.now }
+    ensures { IfOk result (λ v. HoldsEnclosures v.items (counts (design_of parts.now)) (λ c. exactly (counted_row (design_of parts.now) c).target)) }
+{
+    let count = parts.stages * parts.stage_cost.rows() + parts.final_cost.rows();
+    let mut out = Vec::new(alloc);
+    for c in 0..count {
+        out.push(whole(target_at(parts, c)))?;
+    }
+    Ok(out)
+}
+
+// What the counted cost rows have of column `j`: of the plan's entries, then of the states, and then their targets.
+fn cost_column(alloc: Global, parts: &DesignParts, j: usize) -> Result<Vec<Enc>, AllocError>
+    requires design { IsDesign parts.now }
+    requires prediction { fine_prediction_size (design_of parts.now) ≤ 2 ^ 126 }
+    requires fits { fine_response_size (design_of parts.now) ≤ 2 ^ 126 }
+    ensures { IfOk result (λ v. HoldsEnclosures v.items (counts (design_of parts.now)) (λ c. fine_costs (design_of parts.now) c j)) }
+{
+    let entries = parts.stages * parts.inputs;
+    if j < entries {
+        return FineRun::of_plan(alloc, parts, j)?.costs(alloc);
+    }
+    if j < entries + parts.states {
+        return FineRun::of_state(alloc, parts, j - entries)?.costs(alloc);
+    }
+    targets(alloc, parts)
+}
+
+/// What the counted cost rows have of each column, times `row_den`.
+pub fn cost_columns(alloc: Global, parts: &DesignParts) -> Result<EncMat, AllocError>
+    requires design { IsDesign parts.now }
+    requires prediction { fine_prediction_size (design_of parts.now) ≤ 2 ^ 126 }
+    requires fits { fine_response_size (design_of parts.now) ≤ 2 ^ 126 }
+    ensures { let width = parts.now.stages * parts.now.inputs + parts.now.states + 1 in
+        IfOk result (λ m. HoldsEncMatrix m.mid m.rad (counts (design_of parts.now)) width width (fine_costs (design_of parts.now))) }
+{
+    let width = parts.stages * parts.inputs + parts.states + 1;
+    let count = parts.stages * parts.stage_cost.rows() + parts.final_cost.rows();
+    let mut mat = EncMat::zero(alloc, count, width)?;
+    for j in 0..width {
+        let column = cost_column(alloc, parts, j)?;
+        set_column(&mut mat, j, &column);
+    }
+    Ok(mat)
+}
+
+/// What the limit rows have of each entry of the plan, times `limit_den`.
+pub fn fine_plan_columns(alloc: Global, parts: &DesignParts) -> Result<EncMat, AllocError>
+    requires design { IsDesign parts.now }
+    requires prediction { fine_prediction_size (design_of parts.now) ≤ 2 ^ 126 }
+    requires fits { fine_limit_entry_size (design_of parts.now) ≤ 2 ^ 126 }
+    ensures { let width = parts.now.stages * parts.now.inputs in IfOk result (λ m. HoldsEncMatrix m.mid m.rad (rows (design_of parts.now)) width width
+        (λ i j. fine_limit (design_of parts.now) none (unit j) i)) }
+{
+    let width = parts.stages * parts.inputs;
+    let count = parts.stages * parts.stage_rows.rows() + parts.final_rows.rows();
+    let mut mat = EncMat::zero(alloc, count, width)?;
+    for j in 0..width {
+        let run = FineRun::of_plan(alloc, parts, j)?;
+        let column = run.limits(alloc)?;
+        set_column(&mut mat, j, &column);
+    }
+    Ok(mat)
+}
+
+/// What the limit rows have of each state, times `limit_den`.
+pub fn fine_state_columns(alloc: Global, parts: &DesignParts) -> Result<EncMat, AllocError>
+    requires design { IsDesign parts.now }
+    requires prediction { fine_prediction_size (design_of parts.now) ≤ 2 ^ 126 }
+    requires fits { fine_limit_entry_size (design_of parts.now) ≤ 2 ^ 126 }
+    ensures { IfOk result (λ m. HoldsEncMatrix m.mid m.rad (rows (design_of parts.now)) parts.now.states parts.now.states
+        (λ i j. fine_limit (design_of parts.now) (unit j) none i)) }
+{
+    let count = parts.stages * parts.stage_rows.rows() + parts.final_rows.rows();
+    let mut mat = EncMat::zero(alloc, count, parts.states)?;
+    for j in 0..parts.states {
+        let run = FineRun::of_state(alloc, parts, j)?;
+        let column = run.limits(alloc)?;
+        set_column(&mut mat, j, &column);
+    }
+    Ok(mat)
+}

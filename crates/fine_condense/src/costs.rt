@@ -1,0 +1,110 @@
+// The condensed cost in enclosures.
+ghost use Rattle.std.specs.Prelude.{◌≡◌, ◌≤◌, ◌<◌, ◌+◌, ◌*◌, ◌^◌, Err, IfOk};
+ghost use Rattle.mat_int.specs.Enclosures.{HasEnclosures};
+ghost use Rattle.qp_model.specs.Parts.{design_of, IsDesign};
+ghost use Rattle.qp_model.specs.declared.quantity.Quantity.{Quantity};
+ghost use Rattle.qp_model.specs.FineForm.{fine_products, hessian_row_radius, hessian_radius};
+ghost use Rattle.qp_model.specs.FineSizes.{fine_reach, fine_prediction_size, fine_hessian_size};
+ghost use Rattle.fine_condense.specs.Numbers.{fine_cost_total, IsFineHessian, AreFineCosts};
+ghost use Rattle.plant_condense.specs.declared.fault.CondenseFault.{CondenseFault};
+
+use crate::columns::cost_columns;
+use crate::hessian::{constant_numbers, hessian_numbers, linear_numbers};
+use crate::sizes::fine_cost_total;
+use enclosure::{Enc, EncMat, gram};
+use frac_scaled::limited_product;
+use mat_int::MatFault;
+use plant_condense::{CondenseFault, weights_of};
+use qp_model::{DesignParts, Quantity};
+use std::alloc::Global;
+
+/// The condensed cost in enclosures: the hessian, nu by nu, the linear part, nu by n, and the constant, all times `weight_den * cost_row_den^2`.
+#[derive(Drop)]
+pub struct FineCosts {
+    pub hess: EncMat,
+    pub lin: EncMat,
+    pub off: Vec<Enc>,
+    /// The greatest sum of the hessian's radii in a row.
+    pub radius: u128,
+    /// The quantity `hessian`.
+    pub size: u128,
+}
+
+// The products of the columns of all counted cost rows, with their weights: of the plan's entries, then of the states, and then of the targets.
+fn cost_products(alloc: Global, parts: &DesignParts) -> Result<EncMat, CondenseFault>
+    requires design { IsDesign parts.now }
+    requires prediction { fine_prediction_size (design_of parts.now) ≤ 2 ^ 126 }
+    requires fits { fine_cost_total (design_of parts.now) ≤ 2 ^ 126 }
+    ensures value { let width = parts.now.stages * parts.now.inputs + parts.now.states + 1 in
+        IfOk result (λ g. HasEnclosures width width (fine_products (design_of parts.now)) g.mid g.rad) }
+    ensures memory { (fault : CondenseFault) → result ≡ Err fault → fault ≡ CondenseFault.Memory }
+{
+    let columns = cost_columns(alloc, parts)?;
+    let weights = weights_of(alloc, parts)?;
+    match gram(alloc, &columns, &weights) {
+        Ok(products) => Ok(products),
+        Err(MatFault::Memory) => Err(CondenseFault::Memory),
+        Err(MatFault::Wide) => unreachable!(),
+    }
+}
+
+// The sum of the hessian's radii in row `i`.
+fn row_radius(parts: &DesignParts, hess: &EncMat, i: usize) -> u128
+    requires hessian { IsFineHessian parts.now hess.now.mid hess.now.rad }
+    requires row { i < parts.now.stages * parts.now.inputs }
+    ensures { result ≡ hessian_row_radius (design_of parts.now) i }
+{
+    let Some(sum) = hess.rad.row_abs_sum(i) else {
+        unreachable!();
+    };
+    sum.unsigned_abs()
+}
+
+// The greatest of these.
+fn widest_row(parts: &DesignParts, hess: &EncMat) -> u128
+    requires { IsFineHessian parts.now hess.now.mid hess.now.rad }
+    ensures { result ≡ hessian_radius (design_of parts.now) }
+{
+    let mut most = 0u128;
+    for i in 0..parts.stages * parts.inputs {
+        most = most.max(row_radius(parts, hess, i));
+    }
+    most
+}
+
+/// The condensed cost, or that the quantity `hessian` is above `2^126`. `reach` is how far a response reaches at the last stage.
+pub fn fine_costs(
+    alloc: Global,
+    parts: &DesignParts,
+    reach: u128,
+) -> Result<FineCosts, CondenseFault>
+    requires design { IsDesign parts.now }
+    requires reach { reach ≡ fine_reach (design_of parts.now) parts.now.stages }
+    requires prediction { fine_prediction_size (design_of parts.now) ≤ 2 ^ 126 }
+    ensures costs { IfOk result (λ c. AreFineCosts parts.now c.hess.mid c.hess.rad c.lin.mid c.lin.rad c.off.items c.radius c.size) }
+    ensures wide { (quantity : Quantity) → result ≡ Err (CondenseFault.TooWide quantity) →
+        (quantity ≡ Quantity.Hessian) × (2 ^ 126 < fine_hessian_size (design_of parts.now)) }
+{
+    let Some(total) = fine_cost_total(parts, reach) else {
+        return Err(CondenseFault::TooWide {
+            quantity: Quantity::Hessian,
+        });
+    };
+    let products = cost_products(alloc, parts)?;
+    let hess = hessian_numbers(alloc, parts, &products)?;
+    let radius = widest_row(parts, &hess);
+    let Some(narrow) = limited_product(1 << 86, radius) else {
+        return Err(CondenseFault::TooWide {
+            quantity: Quantity::Hessian,
+        });
+    };
+    let lin = linear_numbers(alloc, parts, &products)?;
+    let off = constant_numbers(alloc, parts, &products)?;
+    Ok(FineCosts {
+        hess,
+        lin,
+        off,
+        radius,
+        size: total.max(narrow),
+    })
+}
