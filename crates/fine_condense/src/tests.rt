@@ -3,6 +3,7 @@ use super::*;
 use crate::form::{FineNumbers, condense_fine};
 use enclosure::{Enc, EncMat};
 use mat_int::Mat;
+use plant_condense::CondenseFault;
 use qp_model::{Design, DesignParts, Quantity};
 use std::alloc::{AllocError, Global};
 use std::process::Abort;
