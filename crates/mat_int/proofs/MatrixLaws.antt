@@ -2,17 +2,20 @@
 use Rattle.std.proofs.Common.{◌≡◌, ◌≢◌, ◌⊎◌, inl, inr, ℕ, zero, suc, ◌<◌, ◌≤◌, ◌^◌, ◌*◌, ℤ, pos, ◌*ℤ◌, List, [], length, map, get_or, get_or-set_other, get_or-set_same, slice_set, unsigned_abs, arith, ap, ap₂, sym, ◌∙◌}
 use Rattle.std.specs.Prelude.{All}
 use Rattle.std.specs.List.{range_with_len}
-use Rattle.std.proofs.Math.Nat.{mul_comm}
+use Rattle.std.proofs.Math.Nat.{mul_comm, mul_assoc, mul-le-mul_left}
 use Rattle.std.proofs.lemmas.Bool.{cases_lt, cases_eq}
+use Rattle.std.proofs.lemmas.Int.{unsigned_abs-mul}
 use Rattle.std.proofs.lemmas.List.{get_or-map, length-map, length-set}
 use Rattle.std.proofs.lemmas.List.Elements.{All-map, All-set, All-from_get_or}
 use Rattle.std.proofs.lemmas.List.FromFn.{length-map-range_with_len, get_or-map-range_with_len}
 use Rattle.integer_algebra.specs.Sums.{at}
-use Rattle.integer_algebra.specs.Matrices.{matrix_product, matrix_product_size, gram, gram_size}
+use Rattle.integer_algebra.specs.Matrices.{matrix_product, matrix_product_size}
+use Rattle.integer_algebra.proofs.RingLaws.{mul_assoc_z}
 use Rattle.integer_algebra.proofs.SumLaws.{total_same}
-use Rattle.integer_algebra.proofs.SizeLaws.{amount_same}
+use Rattle.integer_algebra.proofs.SizeLaws.{amount_same, amount_term}
 use Rattle.integer_algebra.proofs.VectorLaws.{dot_comm}
 use Rattle.mat_int.specs.Row as lists
+use Rattle.mat_int.specs.Gram.{weighted_gram_matrix, weighted_gram_size}
 use Rattle.mat_int.specs.Matrix.{Matrix, row_of, column_of, entry_of, transpose_of, times, with_entry, HasEntries, AllFit, SomeIsWide}
 use Rattle.mat_int.proofs.Indices.{dot_is, abs_dot_is}
 
@@ -116,14 +119,45 @@ module _ (b t : Matrix) (h : HasEntries b.cols (length b.rows) (transpose_of b) 
   product_size_same a e i j q =
       amount_same a.cols _ _ (λ k l. ap (λ (z : ℤ). unsigned_abs (entry_of a i k) * unsigned_abs z) (h.entries j k q (omega (arith, e))))
 
-  -- of t and its transpose
-  pub gram_same : (i j : ℕ) → i < b.cols → j < b.cols → matrix_product t.cols (entry_of t) (transpose_of t) i j ≡ gram (length b.rows) (entry_of b) i j
-  gram_same i j p q = rw h.cols (total_same (length b.rows) _ _ (λ l o. ap₂ (λ (x y : ℤ). x *ℤ y) (h.entries i l p o) (h.entries j l q o)))
+-- ---- products of columns, with a weight for each row
+-- of the columns of g: t has them with each row times its weight, `columns` as they are
+module _ (g t columns : Matrix) (weight : ℕ → ℤ) (h : HasEntries g.cols (length g.rows) (λ j i. weight i *ℤ entry_of g i j) t)
+    (k : HasEntries g.cols (length g.rows) (transpose_of g) columns) where
+  -- their product
+  pub gram_same : (j l : ℕ) → j < g.cols → l < g.cols →
+      matrix_product t.cols (entry_of t) (transpose_of columns) j l ≡ weighted_gram_matrix (length g.rows) weight (entry_of g) j l
+  gram_same j l p q = rw h.cols (total_same (length g.rows) _ _ (λ i o.
+      ap₂ (λ (x y : ℤ). x *ℤ y) (h.entries j i p o) (k.entries l i q o) ∙ mul_assoc_z (weight i) (entry_of g i j) (entry_of g i l)))
 
   -- and its absolute sum
-  pub gram_size_same : (i j : ℕ) → i < b.cols → j < b.cols → matrix_product_size t.cols (entry_of t) (transpose_of t) i j ≡ gram_size (length b.rows) (entry_of b) i j
-  gram_size_same i j p q =
-      rw h.cols (amount_same (length b.rows) _ _ (λ l o. ap₂ (λ (x y : ℤ). unsigned_abs x * unsigned_abs y) (h.entries i l p o) (h.entries j l q o)))
+  pub gram_size_same : (j l : ℕ) → j < g.cols → l < g.cols →
+      matrix_product_size t.cols (entry_of t) (transpose_of columns) j l ≡ weighted_gram_size (length g.rows) weight (entry_of g) j l
+  gram_size_same j l p q = rw h.cols (amount_same (length g.rows) _ _ (λ i o.
+      ap₂ (λ (x y : ℤ). unsigned_abs x * unsigned_abs y) (h.entries j i p o) (k.entries l i q o) ∙ apart (weight i) (entry_of g i j) (entry_of g i l)))
+    where
+      apart : (w a b : ℤ) → unsigned_abs (w *ℤ a) * unsigned_abs b ≡ unsigned_abs w * (unsigned_abs a * unsigned_abs b)
+      apart w a b = ap (λ (n : ℕ). n * unsigned_abs b) (unsigned_abs-mul w a) ∙ mul_assoc (unsigned_abs w) (unsigned_abs a) (unsigned_abs b)
+
+-- where an entry times its row's weight has no room, the products of its column with itself don't either
+pub weighted_row_is_wide : (m n : ℕ) (weight : ℕ → ℤ) (g : ℕ → ℕ → ℤ) → SomeIsWide m n (λ i j. unsigned_abs (weight i *ℤ g i j)) →
+    SomeIsWide n n (weighted_gram_size m weight g)
+weighted_row_is_wide m n weight g h = record {
+  row = h.col;
+  col = h.col;
+  row_in = h.col_in;
+  col_in = h.col_in;
+  wide = omega (
+    arith,
+    h.wide,
+    unsigned_abs-mul (weight h.row) (g h.row h.col),
+    mul-le-mul_left (unsigned_abs (weight h.row)) (square_le (unsigned_abs (g h.row h.col))),
+    amount_term h.row m (λ i. unsigned_abs (weight i) * (unsigned_abs (g i h.col) * unsigned_abs (g i h.col))) h.row_in,
+  );
+}
+  where
+    square_le : (a : ℕ) → a ≤ a * a
+    square_le zero = omega arith
+    square_le (suc a) = omega arith
 
 -- ---- a matrix in which an entry is written
 row_here : (m : Matrix) (i j : ℕ) (v : ℤ) → i < length m.rows → row_of (with_entry m i j v) i ≡ slice_set (row_of m i) j v

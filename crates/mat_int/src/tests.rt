@@ -11,6 +11,10 @@ const MIN: i128 = i128::MIN;
 const HALF: i128 = 85070591730234615865843651857942052864;
 // 2^63
 const ROOT: i128 = 9223372036854775808;
+// the greatest number whose square is at most 2^127 - 1
+const LAST_ROOT: i128 = 13043817825332782212;
+// what its square leaves of that
+const LEFT_OVER: i128 = 9119501915260492783;
 
 // The rows of `cols` entries.
 fn matrix(
@@ -80,18 +84,29 @@ fn products(rt: HostRuntime) -> Result<(), Fail> {
     let b = matrix(&rt, alloc, 2, &[&[2, 1], &[0, -3], &[5, 7]])?;
     assert!(rt; a.cols() == b.rows());
     expect_rows(&rt, &mul(alloc, &a, &b)?, 2, &[&[17, 28], &[-5, -19]]);
+    Ok(())
+}
+
+#[test]
+fn column_products(rt: HostRuntime) -> Result<(), Fail> {
+    let alloc = rt.alloc();
+    let g = matrix(&rt, alloc, 3, &[&[1, -2, 3], &[0, 4, -1]])?;
+    assert!(rt; g.rows() == 2);
     expect_rows(
         &rt,
-        &gram(alloc, &a)?,
+        &gram(alloc, &g, &[1, 1])?,
         3,
         &[&[1, -2, 3], &[-2, 20, -10], &[3, -10, 10]],
     );
     expect_rows(
         &rt,
-        &gram(alloc, &matrix(&rt, alloc, 2, &[])?)?,
-        2,
-        &[&[0, 0], &[0, 0]],
+        &gram(alloc, &g, &[3, 5])?,
+        3,
+        &[&[3, -6, 9], &[-6, 92, -38], &[9, -38, 32]],
     );
+    let flat = matrix(&rt, alloc, 2, &[])?;
+    assert!(rt; flat.rows() == 0);
+    expect_rows(&rt, &gram(alloc, &flat, &[])?, 2, &[&[0, 0], &[0, 0]]);
     Ok(())
 }
 
@@ -125,17 +140,50 @@ fn last_products(rt: HostRuntime) -> Result<(), Fail> {
             }
         }
     }
-    let below = matrix(
-        &rt,
-        alloc,
-        1,
-        &[&[13043817825332782211], &[5933560277], &[-69326], &[18101]],
-    )?;
-    expect_rows(&rt, &gram(alloc, &below)?, 1, &[&[MAX]]);
-    let above = matrix(&rt, alloc, 1, &[&[ROOT], &[ROOT]])?;
-    assert_eq!(rt; gram(alloc, &above).err(), Some(MatFault::Wide));
-    let cancels = matrix(&rt, alloc, 2, &[&[1, HALF], &[1, -HALF]])?;
-    assert_eq!(rt; gram(alloc, &cancels).err(), Some(MatFault::Wide));
+    Ok(())
+}
+
+// The sum of the squares of a column's two numbers, each times its weight, as `gram` makes it. None where it is wide.
+fn squares(
+    rt: &impl Abort,
+    alloc: Global,
+    column: [i128; 2],
+    weights: [i128; 2],
+) -> Result<Option<i128>, AllocError> {
+    let g = matrix(rt, alloc, 1, &[&[column[0]], &[column[1]]])?;
+    assert!(rt; g.rows() == 2 && g.cols() == 1);
+    assert!(rt; 0 <= weights[0] && 0 <= weights[1]);
+    match gram(alloc, &g, &weights) {
+        Ok(made) => Ok(Some(made.at(0, 0))),
+        Err(MatFault::Wide) => Ok(None),
+        Err(MatFault::Memory) => Err(AllocError),
+    }
+}
+
+// The last sum that fits, the one above it, and numbers that have no room with their weight.
+#[test]
+fn last_squares(rt: HostRuntime) -> Result<(), Fail> {
+    for (column, weights, value) in [
+        ([LAST_ROOT, -1], [1, LEFT_OVER], Some(MAX)),
+        ([LAST_ROOT, -1], [1, LEFT_OVER + 1], None),
+        ([ROOT, ROOT], [1, 1], None),
+        ([1, MIN], [MAX, 0], Some(MAX)),
+        ([-3, 2], [5, 7], Some(73)),
+        ([2, 0], [HALF, 1], None),
+        ([0, -2], [1, HALF], None),
+        ([0, MIN], [1, 1], None),
+    ] {
+        assert_eq!(rt; squares(&rt, rt.alloc(), column, weights)?, value);
+    }
+    Ok(())
+}
+
+// A wide entry whose products cancel to 0.
+#[test]
+fn cancelling_columns(rt: HostRuntime) -> Result<(), Fail> {
+    let g = matrix(&rt, rt.alloc(), 2, &[&[1, HALF], &[1, -HALF]])?;
+    assert!(rt; g.rows() == 2);
+    assert_eq!(rt; gram(rt.alloc(), &g, &[1, 1]).err(), Some(MatFault::Wide));
     Ok(())
 }
 
