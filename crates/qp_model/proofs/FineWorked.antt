@@ -11,6 +11,7 @@ use Rattle.qp_model.specs.FineSizes.{is_fine, fine_reach, fine_prediction_size, 
 
 abbrev third : Design
 third = record {
+  version = 1;
   states = 1;
   inputs = 1;
   stages = 2;

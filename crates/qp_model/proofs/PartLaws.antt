@@ -1,5 +1,5 @@
 -- The rules of a design's numbers are those of a design.
-use Rattle.std.proofs.Common.{◌≡◌}
+use Rattle.std.proofs.Common.{◌≡◌, refl}
 use Rattle.qp_model.specs.Parts.{IsDesign}
 use Rattle.qp_model.specs.Rules.{AllHold}
 use Rattle.qp_model.specs.PartRules.{part_rules}
@@ -15,6 +15,7 @@ design_from_rules p held =
     let (grid, (lo_count, (lo, (hi_count, (hi, targets))))) = box in
     let (target_den, (violation, (gap, _))) = targets in
     record {
+      version = refl;
       states = states;
       inputs = inputs;
       stages = stages;

@@ -30,6 +30,7 @@ stage_rows (suc r) = limit (pos 0) (negsuc 3) (pos 4)
 
 abbrev base : Design
 base = record {
+  version = 1;
   states = 1;
   inputs = 1;
   stages = 1;
@@ -171,6 +172,7 @@ matrix n lines = record { cols = n; rows = lines }
 
 abbrev first_controller : Numbers
 first_controller = record {
+  version = 1;
   states = 1;
   inputs = 1;
   stages = 1;

@@ -3,16 +3,17 @@ use Rattle.std.specs.Prelude.{◌≡◌, ℕ, ◌+◌, ◌-◌, ◌*◌, ◌^◌
 use Rattle.std.specs.Int.{w128}
 use Rattle.integer_algebra.specs.Sums.{at}
 use Rattle.mat_int.specs.Matrix.{Matrix}
-use Rattle.qp_model.specs.Limits.{most_states, most_inputs, most_stages, most_rows}
+use Rattle.qp_model.specs.Limits.{text_version, most_states, most_inputs, most_stages, most_rows}
 use Rattle.qp_model.specs.Range.{LiesIn, IsNumerator}
 use Rattle.qp_model.specs.declared.controller_parts.ControllerParts.{ControllerParts}
 
--- A controller's numbers and lists, by words. `ControllerParts` and the formulas have letters:
+-- The version of its text, and a controller's numbers and lists, by words. `ControllerParts` and the formulas have letters:
 --   n, p, N, m: states, inputs a stage, stages and rows;    f, g, s, w: fraction_bits, grid_bits, step_exponent and width
 --   K: steps;    lo, hi: low and high, over 2^g
 --   P, T, W (p_mat, t, w_mat): state_gains, offsets and dual_gains, over 2^f
 --   G, E, b (g_mat, e_mat, bound): plan_rows, state_rows and bounds, over 2^f
 pub record Numbers : Type 0 where
+  pub version : ℕ
   pub states : ℕ
   pub inputs : ℕ
   pub stages : ℕ
@@ -35,6 +36,7 @@ pub record Numbers : Type 0 where
 
 abbrev pub numbers : ControllerParts → Numbers
 numbers c = record {
+  version = text_version;
   states = c.n;
   inputs = c.p;
   stages = c.stages;
@@ -55,10 +57,6 @@ numbers c = record {
   state_rows = c.e_mat;
   bounds = c.bound.items;
 }
-
--- the version of a controller's text
-abbrev pub controller_version : Numbers → ℕ
-controller_version c = 1
 
 -- nu, the number of plan entries
 abbrev pub plan_length : Numbers → ℕ
@@ -83,10 +81,11 @@ pub record IsShaped (c : Numbers) : Type 0 where
 
 -- the shapes and ranges of a controller's numbers, but for the width
 pub record IsSized (c : Numbers) : Type 0 where
-  pub states : LiesIn 1 (most_states (controller_version c)) c.states
-  pub inputs : LiesIn 1 (most_inputs (controller_version c)) c.inputs
-  pub stages : LiesIn 1 (most_stages (controller_version c)) c.stages
-  pub rows : LiesIn 1 (most_rows (controller_version c)) c.rows
+  pub version : c.version ≡ text_version
+  pub states : LiesIn 1 (most_states c.version) c.states
+  pub inputs : LiesIn 1 (most_inputs c.version) c.inputs
+  pub stages : LiesIn 1 (most_stages c.version) c.stages
+  pub rows : LiesIn 1 (most_rows c.version) c.rows
   pub grid_bits : c.grid_bits ≤ 24
   pub fraction_bits : LiesIn c.grid_bits 48 c.fraction_bits
   pub step_exponent : c.step_exponent ≤ 40

@@ -13,8 +13,9 @@ pub record LimitRow : Type 0 where
   pub of_input : ℕ → ℤ
   pub bound : ℤ
 
--- the plant (plant_a x + plant_b u) / plant_denominator, the costs, the limits, and the box low .. high of states over 2^grid
+-- the version of its text, the plant (plant_a x + plant_b u) / plant_denominator, the costs, the limits, and the box low .. high of states over 2^grid
 pub record Design : Type 0 where
+  pub version : ℕ
   pub states : ℕ
   pub inputs : ℕ
   pub stages : ℕ

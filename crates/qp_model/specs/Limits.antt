@@ -1,5 +1,9 @@
--- The greatest sizes of a design and of a controller, by the version of its text. There is one version, 1.
+-- The version of the text of a design or of a controller, and their greatest sizes by it.
 use Rattle.std.specs.Prelude.{ℕ, ◌+◌, ◌*◌}
+
+-- `VERSION` of the code: there is one
+abbrev pub text_version : ℕ
+text_version = 1
 
 abbrev pub most_states : (version : ℕ) → ℕ
 most_states version = 4

@@ -3,7 +3,7 @@ use Rattle.std.specs.Prelude.{◌≡◌, ℕ, ◌+◌, ◌≤◌, ◌<◌, ℤ, 
 use Rattle.integer_algebra.specs.Sums.{at}
 use Rattle.mat_int.specs.Matrix.{Matrix}
 use Rattle.qp_model.specs.Limits.{most_states, most_inputs, most_stages}
-use Rattle.qp_model.specs.Parts.{design_version}
+use Rattle.qp_model.specs.Parts.{design_of}
 use Rattle.qp_model.specs.Range.{LiesIn, IsDenominator, IsNumerator, IsPositive}
 use Rattle.qp_model.specs.Rules.{Rule, shape, range}
 use Rattle.qp_model.specs.declared.design_parts.DesignParts.{DesignParts}
@@ -30,9 +30,9 @@ pub record AreHighs (high low : List ℤ) (n : ℕ) : Type 0 where
 
 abbrev pub size_rules : DesignParts → List Rule
 size_rules p =
-    range 2 (LiesIn 1 (most_states (design_version p)) p.states)
-    ∷ range 3 (LiesIn 1 (most_inputs (design_version p)) p.inputs)
-    ∷ range 4 (LiesIn 1 (most_stages (design_version p)) p.stages)
+    range 2 (LiesIn 1 (most_states (design_of p).version) p.states)
+    ∷ range 3 (LiesIn 1 (most_inputs (design_of p).version) p.inputs)
+    ∷ range 4 (LiesIn 1 (most_stages (design_of p).version) p.stages)
     ∷ []
 
 abbrev pub plant_rules : DesignParts → List Rule

@@ -3,7 +3,7 @@ use Rattle.std.specs.Prelude.{◌≡◌, ℕ, ◌+◌, ◌≤◌, ◌<◌, ℤ, 
 use Rattle.integer_algebra.specs.Sums.{at, none}
 use Rattle.mat_int.specs.Matrix.{Matrix, entry_of}
 use Rattle.qp_model.specs.Design.{Design, CostRow, LimitRow}
-use Rattle.qp_model.specs.Limits.{most_states, most_inputs, most_stages}
+use Rattle.qp_model.specs.Limits.{text_version, most_states, most_inputs, most_stages}
 use Rattle.qp_model.specs.Range.{LiesIn, IsDenominator, IsNumerator, IsPositive}
 use Rattle.qp_model.specs.declared.design_parts.DesignParts.{DesignParts}
 
@@ -22,6 +22,7 @@ final_row m n r = record { of_state = entry_of m r; of_input = none; bound = ent
 -- the design with these numbers
 abbrev pub design_of : DesignParts → Design
 design_of p = record {
+  version = text_version;
   states = p.states;
   inputs = p.inputs;
   stages = p.stages;
@@ -44,10 +45,6 @@ design_of p = record {
   low = at p.lo.items;
   high = at p.hi.items;
 }
-
--- the version of a design's text
-abbrev pub design_version : DesignParts → ℕ
-design_version p = 1
 
 -- the numbers alone: two values of `DesignParts` with the same are the same design
 pub record DesignNumbers : Type 0 where
@@ -109,9 +106,10 @@ pub record IsNumeratorList (xs : List ℤ) (n : ℕ) : Type 0 where
   pub numbers : All IsNumerator xs
 
 pub record IsDesign (p : DesignParts) : Type 0 where
-  pub states : LiesIn 1 (most_states (design_version p)) p.states
-  pub inputs : LiesIn 1 (most_inputs (design_version p)) p.inputs
-  pub stages : LiesIn 1 (most_stages (design_version p)) p.stages
+  pub version : (design_of p).version ≡ text_version
+  pub states : LiesIn 1 (most_states (design_of p).version) p.states
+  pub inputs : LiesIn 1 (most_inputs (design_of p).version) p.inputs
+  pub stages : LiesIn 1 (most_stages (design_of p).version) p.stages
   pub plant_den : IsDenominator p.plant_den
   pub a : IsTable p.a p.states p.states p.states
   pub b : IsTable p.b p.states p.states p.inputs
