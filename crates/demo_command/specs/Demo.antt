@@ -6,7 +6,7 @@ use Rattle.qp_model.specs.Policy.{Plans}
 use Rattle.qp_model.specs.Parts.{design_of}
 use Rattle.qp_model.specs.Controller.{Numbers}
 use Rattle.qp_model.specs.declared.design_parts.DesignParts.{DesignParts}
-use Rattle.qp_model.specs.declared.bounds.Bounds.{Bounds}
+use Rattle.qp_model.specs.Printed.{Printed}
 use Rattle.bound_report.specs.Report.{report_text}
 use Rattle.design_files.specs.DesignText.{IsDesignText}
 use Rattle.policy_file.specs.PolicyText.{IsPolicyText}
@@ -32,7 +32,7 @@ abbrev pub DemoCalls : ℕ → Status → Type 0
 DemoCalls number s = (p : DesignParts) × (plans : Plans) × AreMadeFrom number p plans × MakingCalls p plans s
 
 -- a controller and its bounds made of the texts of a number, with the states of the third text
-pub record IsShown (number : ℕ) (c : Numbers) (b : Bounds) (states : Matrix) : Type 0 where
+pub record IsShown (number : ℕ) (c : Numbers) (b : Printed) (states : Matrix) : Type 0 where
   pub p : DesignParts
   pub plans : Plans
   pub texts : AreMadeFrom number p plans
@@ -42,17 +42,17 @@ pub record IsShown (number : ℕ) (c : Numbers) (b : Bounds) (states : Matrix) :
 
 -- ---- what is printed
 -- the report and the plan lines of the first k states
-abbrev pub demo_text : Numbers → Bounds → Matrix → ℕ → List ℕ
+abbrev pub demo_text : Numbers → Printed → Matrix → ℕ → List ℕ
 demo_text c b states k = report_text b ++ plan_lines c states k
 
 -- the report and the lines of some first states
-pub record IsPrefixShown (c : Numbers) (b : Bounds) (states : Matrix) (old new : List ℕ) : Type 0 where
+pub record IsPrefixShown (c : Numbers) (b : Printed) (states : Matrix) (old new : List ℕ) : Type 0 where
   pub count : ℕ
   pub some : count ≤ length states.rows
   pub printed : new ≡ old ++ demo_text c b states count
 
 -- by the answer: the whole text; a part of it that isn't all, where a print failed; nothing, or the report and the lines of some first states
-pub record IsTextPrinted (c : Numbers) (b : Bounds) (states : Matrix) (s : Status) (old new : List ℕ) : Type 0 where
+pub record IsTextPrinted (c : Numbers) (b : Printed) (states : Matrix) (s : Status) (old new : List ℕ) : Type 0 where
   pub done : s ≡ Done → new ≡ old ++ demo_text c b states (length states.rows)
   pub fault : s ≡ WriteFault 0 → GrowsByPart old new (demo_text c b states (length states.rows))
   pub memory : s ≡ Memory → (new ≡ old) ⊎ IsPrefixShown c b states old new
@@ -60,7 +60,7 @@ pub record IsTextPrinted (c : Numbers) (b : Bounds) (states : Matrix) (s : Statu
 -- the text of a controller that is made from the number was printed so
 pub record PrintsOf (number : ℕ) (s : Status) (old new : List ℕ) : Type 0 where
   pub c : Numbers
-  pub b : Bounds
+  pub b : Printed
   pub states : Matrix
   pub is_shown : IsShown number c b states
   pub printed : IsTextPrinted c b states s old new

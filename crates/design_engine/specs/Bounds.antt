@@ -1,27 +1,28 @@
 -- The bounds that are printed of a controller.
-use Rattle.std.specs.Prelude.{◌≡◌, ℕ, pos, unsigned_abs}
+use Rattle.std.specs.Prelude.{◌≡◌, ℕ, ◌<◌, pos, unsigned_abs}
 use Rattle.qp_model.specs.Form.{form_of}
 use Rattle.qp_model.specs.Design.{Design}
 use Rattle.qp_model.specs.Choices.{multiplier_of, violation_bound, undercut_bound}
 use Rattle.qp_model.specs.Errors.{error_sums_of, epsilon}
 use Rattle.qp_model.specs.Controller.{Numbers}
-use Rattle.qp_model.specs.declared.bounds.Bounds.{Bounds}
+use Rattle.qp_model.specs.Printed.{Printed}
 use Rattle.qp_model.specs.declared.bounds.Margin.{Margin}
 
 -- the margin that the bounds print
-abbrev pub margin_of : Bounds → Margin
+abbrev pub margin_of : Printed → Margin
 margin_of b = record { units = b.margin; cost = b.cost }
 
 -- R, of what is printed
-abbrev pub printed_multiplier : Bounds → ℕ
+abbrev pub printed_multiplier : Printed → ℕ
 printed_multiplier b = multiplier_of (margin_of b)
 
 -- what the stated errors of a step cost, over 2^40
 abbrev pub stated_cost : Design → ℕ → ℕ → ℕ
 stated_cost d r f = epsilon (error_sums_of d (form_of d) r) f
 
--- the bounds print the controller's numbers, and the three bounds over 2^40, where the errors of each step cost at most `cost` over 2^40
-pub record AreBoundsOf (c : Numbers) (b : Bounds) (cost : ℕ) : Type 0 where
+-- the bounds print the controller's numbers, the violation of all rows and of each, and the other two over 2^40, where the errors of each step cost at most
+-- `cost` over 2^40
+pub record AreBoundsOf (c : Numbers) (b : Printed) (cost : ℕ) : Type 0 where
   pub multiplier : b.multiplier ≡ pos (printed_multiplier b)
   pub step : b.step ≡ c.step_exponent
   pub steps : b.steps ≡ c.steps
@@ -29,5 +30,6 @@ pub record AreBoundsOf (c : Numbers) (b : Bounds) (cost : ℕ) : Type 0 where
   pub width : b.width ≡ c.width
   pub words : b.words ≡ c.words
   pub violation : b.violation ≡ pos (violation_bound c.step_exponent (printed_multiplier b) c.steps cost)
+  pub row_violation : (i : ℕ) → i < c.rows → b.row_violation i ≡ pos (violation_bound c.step_exponent (printed_multiplier b) c.steps cost)
   pub gap : b.gap ≡ pos cost
   pub undercut : b.undercut ≡ pos (undercut_bound (printed_multiplier b) (unsigned_abs b.violation))

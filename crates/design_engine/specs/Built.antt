@@ -11,7 +11,7 @@ use Rattle.qp_model.specs.Built.{IsDerivedFrom}
 use Rattle.qp_model.specs.Controller.{Numbers}
 use Rattle.qp_model.specs.AbsoluteSums.{IsController, greatest_sum}
 use Rattle.qp_model.specs.declared.design_parts.DesignParts.{DesignParts}
-use Rattle.qp_model.specs.declared.bounds.Bounds.{Bounds}
+use Rattle.qp_model.specs.Printed.{Printed}
 use Rattle.overflow_check.specs.Width.{IsWidth}
 use Rattle.hessian_check.specs.Steps.{IsPlainExponent, IsStepExponent}
 use Rattle.bit_choice.specs.Choice.{IsChoice}
@@ -26,7 +26,7 @@ pub record IsExponentOf (d : Design) (s : ℕ) : Type 0 where
   pub is_step : IsStepExponent d plain s
 
 -- the controller and the bounds are those of a design and a policy
-pub record IsBuilt (p : DesignParts) (plans : Plans) (c : Numbers) (b : Bounds) : Type 0 where
+pub record IsBuilt (p : DesignParts) (plans : Plans) (c : Numbers) (b : Printed) : Type 0 where
   pub design : IsDesign p
   pub policy : IsPolicyFor (design_of p) plans
   pub margin : IsMargin (design_of p) plans (margin_of b)

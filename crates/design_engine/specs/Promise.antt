@@ -13,14 +13,14 @@ use Rattle.qp_model.specs.Controller.{Numbers}
 use Rattle.qp_model.specs.AbsoluteSums.{IsController}
 use Rattle.qp_model.specs.Certified.{IsCertified}
 use Rattle.qp_model.specs.declared.design_parts.DesignParts.{DesignParts}
-use Rattle.qp_model.specs.declared.bounds.Bounds.{Bounds}
+use Rattle.qp_model.specs.Printed.{Printed}
 use Rattle.step_error.specs.MachineLaws.{HasErrors}
 use Rattle.design_engine.specs.Targets.{targets_of, half_target, error_limit, IsWithinTargets}
 use Rattle.design_engine.specs.Bounds.{margin_of, printed_multiplier, AreBoundsOf}
 
 -- what the promise rests on: a controller that is made for a design by a form of it, with the margin of a policy; bounds on the errors of its steps, at
 -- every state of the box; and what is printed of both
-pub record IsBacked (p : DesignParts) (plans : Plans) (h : Form) (e : StepErrors) (c : Numbers) (b : Bounds) : Type 0 where
+pub record IsBacked (p : DesignParts) (plans : Plans) (h : Form) (e : StepErrors) (c : Numbers) (b : Printed) : Type 0 where
   pub design : IsDesign p
   pub policy : IsPolicyFor (design_of p) plans
   pub margin : IsMargin (design_of p) plans (margin_of b)
@@ -34,14 +34,14 @@ pub record IsBacked (p : DesignParts) (plans : Plans) (h : Form) (e : StepErrors
 
 -- it keeps the whole promise, at every state of the box
 abbrev pub CertifiedLaw : Type 0
-CertifiedLaw = (p : DesignParts) (plans : Plans) (h : Form) (e : StepErrors) (c : Numbers) (b : Bounds) → IsBacked p plans h e c b → IsCertified (design_of p) c b
+CertifiedLaw = (p : DesignParts) (plans : Plans) (h : Form) (e : StepErrors) (c : Numbers) (b : Printed) → IsBacked p plans h e c b → IsCertified (design_of p) c b
 
 -- its steps, and the cost of its errors that the bounds print, are as the targets ask
-pub record IsAimed (p : DesignParts) (cost : ℕ) (c : Numbers) (b : Bounds) : Type 0 where
+pub record IsAimed (p : DesignParts) (cost : ℕ) (c : Numbers) (b : Printed) : Type 0 where
   pub design : IsDesign p
   pub steps : c.steps ≡ step_count c.step_exponent (printed_multiplier b) (half_target (targets_of p))
   pub errors : cost ≤ error_limit (targets_of p) (printed_multiplier b)
   pub bounds : AreBoundsOf c b cost
 
 abbrev pub TargetsLaw : Type 0
-TargetsLaw = (p : DesignParts) (cost : ℕ) (c : Numbers) (b : Bounds) → IsAimed p cost c b → IsWithinTargets (targets_of p) b
+TargetsLaw = (p : DesignParts) (cost : ℕ) (c : Numbers) (b : Printed) → IsAimed p cost c b → IsWithinTargets (targets_of p) b

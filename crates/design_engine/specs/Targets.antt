@@ -1,6 +1,6 @@
 -- What a design's targets leave for the bounds.
 use Rattle.std.specs.Prelude.{ℕ, ◌*◌, ◌/◌, ◌^◌, min, unsigned_abs, ℤ, pos, ◌*ℤ◌, ◌≤ℤ◌}
-use Rattle.qp_model.specs.declared.bounds.Bounds.{Bounds}
+use Rattle.qp_model.specs.Printed.{Printed}
 use Rattle.qp_model.specs.declared.design_parts.DesignParts.{DesignParts}
 
 -- the violation and the gap that the printed bounds are to stay within, over one denominator
@@ -25,6 +25,6 @@ abbrev pub error_limit : Targets → ℕ → ℕ
 error_limit t r = min (gap_target t) (r * half_target t)
 
 -- the printed violation and gap, over 2^40, are at most the targets
-pub record IsWithinTargets (t : Targets) (b : Bounds) : Type 0 where
+pub record IsWithinTargets (t : Targets) (b : Printed) : Type 0 where
   pub violation : (b.violation *ℤ pos t.denominator) ≤ℤ (pos (2 ^ 40) *ℤ pos t.violation)
   pub gap : (b.gap *ℤ pos t.denominator) ≤ℤ (pos (2 ^ 40) *ℤ pos t.gap)

@@ -7,7 +7,7 @@ use Rattle.qp_model.specs.Controller.{Numbers}
 use Rattle.qp_model.specs.Certified.{IsCertified}
 use Rattle.qp_model.specs.ControllerText.{IsControllerText}
 use Rattle.qp_model.specs.declared.design_parts.DesignParts.{DesignParts}
-use Rattle.qp_model.specs.declared.bounds.Bounds.{Bounds}
+use Rattle.qp_model.specs.Printed.{Printed}
 use Rattle.design_engine.specs.Targets.{targets_of, IsWithinTargets}
 use Rattle.design_engine.specs.Built.{IsBuilt}
 use Rattle.command_line.specs.Words.{word_of}
@@ -32,7 +32,7 @@ GenerateReaches design file = (file ≡ 1) ⊎ ((file ≡ 2) × (p : DesignParts
 
 -- ---- what is written
 -- the controller and its bounds are built of the design and the policy in the files, and certified, and the bounds are within the targets
-pub record IsMadeFrom (design policy : Option (List ℕ)) (c : Numbers) (b : Bounds) : Type 0 where
+pub record IsMadeFrom (design policy : Option (List ℕ)) (c : Numbers) (b : Printed) : Type 0 where
   pub p : DesignParts
   pub plans : Plans
   pub inputs : HoldsInputs design policy p plans
@@ -44,7 +44,7 @@ pub record IsMadeFrom (design policy : Option (List ℕ)) (c : Numbers) (b : Bou
 -- the design and the policy that the first two names held.
 pub record IsGenerated (words : List (List ℕ)) (files new : Files) : Type 0 where
   pub controller : Numbers
-  pub bounds : Bounds
+  pub bounds : Printed
   pub made : IsMadeFrom (files (word_of words 1)) (files (word_of words 2)) controller bounds
   pub text : List ℕ
   pub is_text : IsControllerText text controller
@@ -57,7 +57,7 @@ pub record IsGenerated (words : List (List ℕ)) (files new : Files) : Type 0 wh
 -- the controller's text was cut short, and every other name holds what it held
 pub record IsControllerCut (words : List (List ℕ)) (files new : Files) : Type 0 where
   pub controller : Numbers
-  pub bounds : Bounds
+  pub bounds : Printed
   pub made : IsMadeFrom (files (word_of words 1)) (files (word_of words 2)) controller bounds
   pub text : List ℕ
   pub is_text : IsControllerText text controller
@@ -66,7 +66,7 @@ pub record IsControllerCut (words : List (List ℕ)) (files new : Files) : Type 
 -- the controller's text stands whole, the report's name holds what it held or a proper prefix of the report, and every other name holds what it held
 pub record IsReportCut (words : List (List ℕ)) (files new : Files) : Type 0 where
   pub controller : Numbers
-  pub bounds : Bounds
+  pub bounds : Printed
   pub made : IsMadeFrom (files (word_of words 1)) (files (word_of words 2)) controller bounds
   pub text : List ℕ
   pub is_text : IsControllerText text controller

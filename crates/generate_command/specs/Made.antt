@@ -5,7 +5,7 @@ use Rattle.qp_model.specs.Parts.{design_of}
 use Rattle.qp_model.specs.Controller.{Numbers}
 use Rattle.qp_model.specs.Certified.{IsCertified}
 use Rattle.qp_model.specs.declared.design_parts.DesignParts.{DesignParts}
-use Rattle.qp_model.specs.declared.bounds.Bounds.{Bounds}
+use Rattle.qp_model.specs.Printed.{Printed}
 use Rattle.qp_model.specs.declared.bounds.Margin.{Margin}
 use Rattle.bound_report.specs.Report.{report_text, report_json}
 use Rattle.design_engine.specs.Targets.{targets_of, IsWithinTargets}
@@ -44,12 +44,12 @@ abbrev pub MakingCalls : DesignParts → Plans → Status → Type 0
 MakingCalls p plans s = IsRefusedBy p plans s ⊎ ((s ≡ Done) × Passes p plans)
 
 -- the controller and its bounds are built of the design and the policy, and certified, and the bounds are within the targets
-pub record IsMadeOf (p : DesignParts) (plans : Plans) (c : Numbers) (b : Bounds) : Type 0 where
+pub record IsMadeOf (p : DesignParts) (plans : Plans) (c : Numbers) (b : Printed) : Type 0 where
   pub built : IsBuilt p plans c b
   pub certified : IsCertified (design_of p) c b
   pub targets : IsWithinTargets (targets_of p) b
 
 -- the report of the bounds, in the form that its name asks for
-pub record IsReport (name : List ℕ) (b : Bounds) (report : List ℕ) : Type 0 where
+pub record IsReport (name : List ℕ) (b : Printed) (report : List ℕ) : Type 0 where
   pub json : IsJson name → report ≡ report_json b
   pub text : ¬ IsJson name → report ≡ report_text b

@@ -6,7 +6,7 @@ use Rattle.qp_model.specs.Policy.{Plans}
 use Rattle.qp_model.specs.Controller.{Numbers}
 use Rattle.qp_model.specs.ControllerText.{IsControllerText}
 use Rattle.qp_model.specs.declared.design_parts.DesignParts.{DesignParts}
-use Rattle.qp_model.specs.declared.bounds.Bounds.{Bounds}
+use Rattle.qp_model.specs.Printed.{Printed}
 use Rattle.command_line.specs.Words.{word_of}
 use Rattle.command_line.specs.Answers.{ForContents, IsAnswer}
 use Rattle.command_files.specs.Reading.{IsDesignRead, IsPolicyRead}
@@ -17,7 +17,7 @@ use Rattle.command_line.specs.declared.status.Status.{Status}
 -- the text of a controller, and the report of its bounds, both made of a design with a policy
 pub record AreTextsFor (p : DesignParts) (plans : Plans) (report_name text report : List ℕ) : Type 0 where
   pub controller : Numbers
-  pub bounds : Bounds
+  pub bounds : Printed
   pub made : IsMadeOf p plans controller bounds
   pub is_text : IsControllerText text controller
   pub is_report : IsReport report_name bounds report

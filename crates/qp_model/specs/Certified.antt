@@ -2,12 +2,12 @@
 -- any denominator, and of the run of the machine; of why its method works it says nothing.
 use Rattle.std.specs.Prelude.{◌≡◌, ℕ, ◌*◌, ◌^◌, ◌<◌, ℤ, pos, ◌+ℤ◌, ◌*ℤ◌, ◌≤ℤ◌, ◌<ℤ◌, List, length}
 use Rattle.integer_algebra.specs.Sums.{at, square}
-use Rattle.qp_model.specs.declared.bounds.Bounds.{Bounds}
 use Rattle.qp_model.specs.Design.{Design, rows}
 use Rattle.qp_model.specs.Cost.{cost, cost_scale}
 use Rattle.qp_model.specs.Residual.{residual, residual_scale, IsFeasible}
 use Rattle.qp_model.specs.Box.{IsGridState}
 use Rattle.qp_model.specs.Controller.{Numbers}
+use Rattle.qp_model.specs.Printed.{Printed}
 use Rattle.qp_model.specs.Machine.{average_denominator, averaged_plan}
 use Rattle.qp_model.specs.ValuesMet.{RunFits}
 
@@ -29,10 +29,6 @@ pub record HasFeasible (d : Design) (xi : ℕ → ℤ) (q : ℤ) (u : ℕ → �
   pub feasible : IsFeasible d denominator xi plan
   pub cheap : CostsAtMost d xi denominator plan q u more
 
--- by how much a plan may exceed row i, over 2^40, as the bounds print it: one number for all rows
-abbrev pub row_bound : Bounds → ℕ → ℤ
-row_bound b i = b.violation
-
 -- ---- what a plan u over q keeps at the state xi
 -- it exceeds each row i by at most (excess i) / 2^40
 abbrev pub ExceedsNoRowBy : Design → (xi : ℕ → ℤ) → (q : ℤ) → (u : ℕ → ℤ) → (excess : ℕ → ℤ) → Type 0
@@ -42,18 +38,19 @@ ExceedsNoRowBy d xi q u excess = (i : ℕ) → i < rows d → ExceedsAtMost d xi
 abbrev pub CostsNoMoreThanFeasible : Design → (xi : ℕ → ℤ) → (q : ℤ) → (u : ℕ → ℤ) → (more : ℤ) → Type 0
 CostsNoMoreThanFeasible d xi q u more = (r : ℤ) (t : ℕ → ℤ) → pos 0 <ℤ r → IsFeasible d r xi t → CostsAtMost d xi q u r t more
 
--- the printed violation, gap and undercut hold of it
-pub record KeepsBounds (d : Design) (b : Bounds) (xi : ℕ → ℤ) (q : ℤ) (u : ℕ → ℤ) : Type 0 where
-  pub rows : ExceedsNoRowBy d xi q u (row_bound b)
+-- the printed violation of each row and that of all, the gap and the undercut hold of it
+pub record KeepsBounds (d : Design) (b : Printed) (xi : ℕ → ℤ) (q : ℤ) (u : ℕ → ℤ) : Type 0 where
+  pub rows : ExceedsNoRowBy d xi q u b.row_violation
+  pub violation : ExceedsNoRowBy d xi q u (λ i. b.violation)
   pub costs : CostsNoMoreThanFeasible d xi q u b.gap
   pub repair : HasFeasible d xi q u b.undercut
 
 -- the run from a state: each value fits the printed width, the steps are the printed ones, and the averaged plan keeps the printed bounds
-pub record IsCertifiedAt (d : Design) (c : Numbers) (b : Bounds) (xi : List ℤ) : Type 0 where
+pub record IsCertifiedAt (d : Design) (c : Numbers) (b : Printed) (xi : List ℤ) : Type 0 where
   pub values : RunFits b.width c xi
   pub steps : c.steps ≡ b.steps
   pub plan : KeepsBounds d b (at xi) (pos (average_denominator c)) (at (averaged_plan c xi))
 
 -- at every grid state of the box
-abbrev pub IsCertified : Design → Numbers → Bounds → Type 0
+abbrev pub IsCertified : Design → Numbers → Printed → Type 0
 IsCertified d c b = (xi : List ℤ) → length xi ≡ d.states → IsGridState d (at xi) → IsCertifiedAt d c b xi

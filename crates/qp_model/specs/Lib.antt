@@ -35,6 +35,7 @@ pub mod Columns
 pub mod FineForm
 pub mod FineSizes
 pub mod Errors
+pub mod Printed
 pub mod Certified
 pub mod Built
 pub mod StateText
