@@ -2,9 +2,9 @@
 use Rattle.std.proofs.Common.{◌≡◌, ℕ, zero, suc, ◌+◌, ◌*◌, ◌^◌, ◌<◌, ◌≤◌, max, ℤ, pos, List, [], ◌∷◌, ◌++◌, length, take, get_or, map, unsigned_abs, refl, arith, add-one, zero-add}
 use Rattle.std.specs.List.{range_with_len}
 use Rattle.std.proofs.lemmas.List.FromFn.{map-range_with_len_more}
-use Rattle.std.proofs.lemmas.Nat.{pow_pos}
 use Rattle.qp_model.specs.Controller.{Numbers}
 use Rattle.qp_model.specs.AbsoluteSums.{weighted_abs_sum, state_magnitudes, entry_absolute_sum, row_absolute_sum, next_magnitude, sum_magnitude, greatest_of, greatest_sum}
+use Rattle.qp_model.proofs.AbsoluteLaws.{le_times_pow}
 
 -- ---- sums up to an index
 pub weighted_abs_sum-take_suc : (xs : List ℤ) (ys : List ℕ) (i : ℕ) → i < length xs → i < length ys → weighted_abs_sum (take (suc i) xs) (take (suc i) ys) ≡ weighted_abs_sum (take i xs) (take i ys) + unsigned_abs (get_or xs i (pos 0)) * get_or ys i 0
@@ -30,9 +30,6 @@ reach_sum_more_le xs ys i p q = omega (arith, weighted_abs_sum-take_suc xs ys i 
 pub ruleset sum_steps = (weighted_abs_sum-take_more, reach_sum_more_le)
 
 -- ---- the parts of a plan entry's sum
-le_times_pow : (a k : ℕ) → a ≤ a * 2 ^ k
-le_times_pow a k = grind (arith, pow_pos k)
-
 pub offset_le : (own offset dual f s : ℕ) → offset * 2 ^ f ≤ (own + offset * 2 ^ f) * 2 ^ s + dual
 offset_le own offset dual f s = omega (arith, le_times_pow (own + offset * 2 ^ f) s)
 

@@ -1,7 +1,6 @@
 -- The lemmas by topic.
 
--- ---- absolute values and greatest numbers
-pub mod Absolute
+-- ---- greatest numbers
 pub mod Greatest
 -- ---- the absolute sums of a controller
 pub mod Sizes

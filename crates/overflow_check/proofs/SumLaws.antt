@@ -8,8 +8,9 @@ use Rattle.mat_int.specs.Matrix.{row_of}
 use Rattle.mat_int.proofs.Dots.{abs-dot_le}
 use Rattle.qp_model.specs.Controller.{Numbers}
 use Rattle.qp_model.specs.AbsoluteSums.{weighted_abs_sum, state_magnitudes, clamp_magnitudes, entry_absolute_sum, plan_magnitudes, row_absolute_sum, next_magnitude, sum_magnitude, greatest_of, greatest_sum}
-use Rattle.overflow_check.specs.Within.{AreWithin}
-use Rattle.overflow_check.proofs.Absolute.{le_times_pow, ceil_div_mono}
+use Rattle.qp_model.specs.Within.{AreWithin}
+use Rattle.qp_model.proofs.AbsoluteLaws.{le_times_pow, ceil_div_mono}
+use Rattle.qp_model.proofs.MagnitudeLaws.{abs_dot-magnitudes}
 use Rattle.overflow_check.proofs.Greatest.{greatest-parts, le-greatest}
 
 -- ---- what a bound on the greatest sum says of each
@@ -31,14 +32,6 @@ sums_fit c top h = record {
 }
 
 -- ---- rows against lists within magnitudes
-pub abs_dot-magnitudes : (a xs : List ℤ) (magnitudes : List ℕ) → AreWithin xs magnitudes → abs_dot a xs ≤ weighted_abs_sum a magnitudes
-abs_dot-magnitudes [] xs magnitudes w = omega arith
-abs_dot-magnitudes (x ∷ a) [] magnitudes w = omega arith
-abs_dot-magnitudes (x ∷ a) (y ∷ ys) [] w = absurd (omega (arith, w.long))
-abs_dot-magnitudes (x ∷ a) (y ∷ ys) (r ∷ rs) w =
-    let rest : AreWithin ys rs = record { long = omega (arith, w.long); each = λ k. w.each (suc k) } in
-    omega (arith, mul-le (unsigned_abs x) (unsigned_abs y) (unsigned_abs x) r (le_refl (unsigned_abs x)) (w.each 0), abs_dot-magnitudes a ys rs rest)
-
 -- the state's products of plan entry j
 pub own_le : (c : Numbers) (state : List ℤ) (j : ℕ) → AreWithin state (state_magnitudes c) → abs_dot (row_of c.state_gains j) state ≤ entry_absolute_sum c j
 own_le c state j w =
@@ -47,14 +40,6 @@ own_le c state j w =
 -- the multipliers' products of plan entry j
 pub dual_le : (c : Numbers) (multipliers : List ℤ) (j : ℕ) → AreWithin multipliers (clamp_magnitudes c) → abs_dot (row_of c.dual_gains j) multipliers ≤ entry_absolute_sum c j
 dual_le c multipliers j w = omega (arith, abs_dot-magnitudes (row_of c.dual_gains j) multipliers (clamp_magnitudes c) w)
-
--- the sum of plan entry j, with the multipliers' products one by one
-pub entry_parts_le : (c : Numbers) (state multipliers : List ℤ) (j : ℕ) → AreWithin state (state_magnitudes c) → AreWithin multipliers (clamp_magnitudes c) →
-    (unsigned_abs (list_dot (row_of c.state_gains j) state) + unsigned_abs (at c.offsets j) * 2 ^ c.fraction_bits) * 2 ^ c.step_exponent + abs_dot (row_of c.dual_gains j) multipliers ≤ entry_absolute_sum c j
-entry_parts_le c state multipliers j w v =
-    let own : unsigned_abs (list_dot (row_of c.state_gains j) state) ≤ weighted_abs_sum (row_of c.state_gains j) (state_magnitudes c) = omega (arith, abs-dot_le (row_of c.state_gains j) state, abs_dot-magnitudes (row_of c.state_gains j) state (state_magnitudes c) w) in
-    let t = unsigned_abs (at c.offsets j) * 2 ^ c.fraction_bits in
-    omega (arith, abs_dot-magnitudes (row_of c.dual_gains j) multipliers (clamp_magnitudes c) v, mul-le (unsigned_abs (list_dot (row_of c.state_gains j) state) + t) (2 ^ c.step_exponent) (weighted_abs_sum (row_of c.state_gains j) (state_magnitudes c) + t) (2 ^ c.step_exponent) (omega (arith, own)) (le_refl (2 ^ c.step_exponent)))
 
 -- the plan's products of row i
 pub planned_le : (c : Numbers) (plan : List ℤ) (i : ℕ) → AreWithin plan (plan_magnitudes c) → abs_dot (row_of c.plan_rows i) plan ≤ row_absolute_sum c i

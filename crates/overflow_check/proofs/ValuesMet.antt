@@ -13,12 +13,13 @@ use Rattle.qp_model.specs.Controller.{Numbers}
 use Rattle.qp_model.specs.Machine.{Iterate, loaded, entry_sum, plan_entry, plan_of, row_sum, next_multiplier, step_of, after}
 use Rattle.qp_model.specs.AbsoluteSums.{state_magnitudes, clamp_magnitudes, entry_absolute_sum, plan_magnitudes, row_absolute_sum, next_magnitude}
 use Rattle.qp_model.specs.ValuesMet.{products, partial_sums, entry_values, row_values, FitsWidth, StepFits}
-use Rattle.overflow_check.specs.Within.{AreWithin}
+use Rattle.qp_model.specs.Within.{AreWithin}
 use Rattle.overflow_check.specs.Laws.{ValuesLaw}
-use Rattle.overflow_check.proofs.Absolute.{le_times_pow, abs-neg, abs-shifted, abs-floor_le, abs-floor_le_ceil, abs-own_le, abs-scaled_le, abs-row_le, abs-clamped_le, ceil_div_mono}
+use Rattle.qp_model.proofs.AbsoluteLaws.{le_times_pow, abs-neg, abs-shifted, abs-floor_le, abs-floor_le_ceil, abs-own_le, abs-scaled_le, abs-row_le, abs-clamped_le, ceil_div_mono}
 use Rattle.overflow_check.proofs.Greatest.{get_or-le-greatest}
-use Rattle.overflow_check.proofs.SumLaws.{SumsFit, sums_fit, own_le, dual_le, entry_parts_le, planned_le, row_parts_le, row_le, next_le}
-use Rattle.overflow_check.proofs.Runs.{entry_sum_le, plan_within, state_within, after_multipliers, after_sums_length, after_sums_le, after_suc, clamped_at}
+use Rattle.overflow_check.proofs.SumLaws.{SumsFit, sums_fit, own_le, dual_le, planned_le, row_parts_le, row_le, next_le}
+use Rattle.qp_model.proofs.MagnitudeLaws.{entry_parts_le, entry_sum_le, plan_within, state_within, after_multipliers}
+use Rattle.overflow_check.proofs.Runs.{after_sums_length, after_sums_le, after_suc, clamped_at}
 
 -- ---- lists of numbers below a bound
 -- each is at most top in absolute value

@@ -1,3 +1,2 @@
 pub mod Width
-pub mod Within
 pub mod Laws

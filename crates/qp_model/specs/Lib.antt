@@ -22,6 +22,7 @@ pub mod Controller
 pub mod Machine
 pub mod AbsoluteSums
 pub mod ValuesMet
+pub mod Within
 pub mod Lines
 pub mod Spelling
 pub mod ControllerText

@@ -4,6 +4,7 @@ ghost use Rattle.qp_model.specs.Runs.{PlantRunLaw, ResponseLaw, ResidualLaw, Row
 ghost use Rattle.qp_model.specs.CostShape.{ExpansionLaw, HessianLaw, CurvatureLaw, AverageLaw};
 ghost use Rattle.qp_model.specs.Form.{FormLaw};
 ghost use Rattle.qp_model.specs.Scaling.{ScalingLaw};
+ghost use Rattle.qp_model.specs.Within.{PlanMagnitudeLaw};
 
 /// Each state of a trajectory is the free state plus the responses times the plan.
 pub fn trajectory_law()
@@ -78,4 +79,9 @@ pub fn average_law()
 /// What cost rows have of runs stays within bounds.
 pub fn cost_bound_law()
     ensures { CostBoundLaw }
+{}
+
+/// In a run from a state of the box no entry of a step's plan is above the bound that the absolute sums give it.
+pub fn plan_magnitude_law()
+    ensures { PlanMagnitudeLaw }
 {}
