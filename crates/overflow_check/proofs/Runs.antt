@@ -1,19 +1,12 @@
 -- The machine's values stay within the absolute sums, after any number of steps.
-use Rattle.std.proofs.Common.{◌≡◌, ℕ, zero, suc, ◌+◌, ◌-◌, ◌*◌, ◌^◌, ◌≤◌, ◌<◌, max, ℤ, pos, ◌+ℤ◌, ◌*ℤ◌, ◌≤ℤ◌, List, length, map, get_or, replicate, unsigned_abs, arith, refl, inl, inr, le_refl, add-one, [], ◌∷◌, sym, ◌∙◌}
-use Rattle.std.specs.List.{range_with_len}
-use Rattle.std.proofs.lemmas.Bool.{cases_lt}
-use Rattle.std.proofs.lemmas.Int.{ints}
-use Rattle.std.proofs.lemmas.Nat.{mul-le, pow_pos}
-use Rattle.std.proofs.lemmas.List.{get_or_past, get_or-replicate, length-replicate}
+use Rattle.std.proofs.Common.{◌≡◌, ℕ, zero, suc, ◌+◌, ◌*◌, ◌≤◌, ◌<◌, ℤ, pos, ◌+ℤ◌, ◌≤ℤ◌, List, length, get_or, unsigned_abs, arith, refl, add-one}
+use Rattle.std.proofs.lemmas.List.{get_or-replicate, length-replicate}
 use Rattle.std.proofs.lemmas.List.FromFn.{length-map-range_with_len, get_or-map-range_with_len}
-use Rattle.integer_algebra.specs.Division.{floor_of, ceil_div}
 use Rattle.integer_algebra.specs.Sums.{at}
-use Rattle.mat_int.specs.Row.{list_dot}
-use Rattle.mat_int.specs.Matrix.{row_of}
-use Rattle.mat_int.proofs.Dots.{abs-dot_le, abs-add_le}
+use Rattle.mat_int.proofs.Dots.{abs-add_le}
 use Rattle.qp_model.specs.Controller.{Numbers}
-use Rattle.qp_model.specs.Machine.{IsAdmissible, loaded, entry_sum, plan_entry, plan_of, row_sum, next_multiplier, next_multipliers, start_of, step_of, after}
-use Rattle.qp_model.specs.AbsoluteSums.{magnitudes_of, state_magnitudes, clamp_magnitudes, entry_absolute_sum, plan_magnitudes}
+use Rattle.qp_model.specs.Machine.{plan_entry, plan_of, next_multiplier, start_of, step_of, after}
+use Rattle.qp_model.specs.AbsoluteSums.{state_magnitudes, clamp_magnitudes, plan_magnitudes}
 use Rattle.qp_model.specs.Within.{AreWithin}
 use Rattle.qp_model.proofs.MagnitudeLaws.{plan_within, after_multipliers}
 

@@ -1,6 +1,6 @@
 -- A state within its magnitudes and multipliers within the clamp keep each sum within the absolute sums.
-use Rattle.std.proofs.Common.{ℕ, suc, ◌+◌, ◌*◌, ◌^◌, ◌≤◌, ◌<◌, ℤ, List, [], ◌∷◌, length, unsigned_abs, arith, le_refl}
-use Rattle.std.proofs.lemmas.Nat.{mul-le, pow_pos}
+use Rattle.std.proofs.Common.{ℕ, ◌+◌, ◌*◌, ◌^◌, ◌≤◌, ◌<◌, ℤ, List, length, unsigned_abs, arith}
+use Rattle.std.proofs.lemmas.Nat.{pow_pos}
 use Rattle.integer_algebra.specs.Sums.{at}
 use Rattle.integer_algebra.specs.Division.{ceil_div}
 use Rattle.mat_int.specs.Row.{list_dot, abs_dot}

@@ -1,7 +1,7 @@
 // Whether numbers are a controller's.
 ghost use Rattle.std.specs.Prelude.{◌≡◌, ◌≤◌, ◌<◌, ◌+◌, ◌*◌, ◌^◌, ◌≤ℤ◌, ◌↔◌, pos, IsTrue};
 ghost use Rattle.qp_model.specs.Range.{LiesIn};
-ghost use Rattle.qp_model.specs.Controller.{numbers, controller_version, plan_length, HasShape, IsShaped, IsInForm};
+ghost use Rattle.qp_model.specs.Controller.{numbers, plan_length, HasShape, IsShaped, IsInForm};
 ghost use Rattle.qp_model.specs.Limits.{most_states, most_inputs, most_stages, most_rows};
 
 use mat_int::Mat;
@@ -10,7 +10,7 @@ use qp_model::{ControllerParts, MOST_INPUTS, MOST_ROWS, MOST_STAGES, MOST_STATES
 
 // Whether the sizes lie in their ranges.
 fn are_sizes_in_range(c: &ControllerParts) -> bool
-    ensures { let version = controller_version (numbers c.now) in IsTrue result ↔ (LiesIn 1 (most_states version) c.now.n
+    ensures { let version = (numbers c.now).version in IsTrue result ↔ (LiesIn 1 (most_states version) c.now.n
         × LiesIn 1 (most_inputs version) c.now.p × LiesIn 1 (most_stages version) c.now.stages × LiesIn 1 (most_rows version) c.now.m) }
 {
     lies_in(1, MOST_STATES, c.n)
