@@ -30,4 +30,4 @@ found c (Err faults.Memory) given = refl
 found c (Err faults.Form) given = absurd (cc given)
 
 pub text_read : (c : Numbers) (ls : List Keyed) (r : Result ControllerParts LineFault) → IsInForm c → ls ≡ keyed_lines c → Gives (λ p. numbers p) r (parts_at ls) → MatchResult r (λ p. numbers p ≡ c) (λ e. e ≡ faults.Memory)
-text_read c ls r form same given = found c r (subst (λ (o : Option Numbers). Gives (λ p. numbers p) r o) (ap parts_at same ∙ parts_again c (small_form c form) form.sized.shaped) given)
+text_read c ls r form same given = found c r (subst (λ (o : Option Numbers). Gives (λ p. numbers p) r o) (ap parts_at same ∙ parts_again c form.sized.version (small_form c form) form.sized.shaped) given)

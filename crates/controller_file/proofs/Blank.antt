@@ -5,6 +5,7 @@ use Rattle.std.specs.Int.{w128}
 use Rattle.std.proofs.lemmas.Int.{ints}
 use Rattle.std.proofs.lemmas.List.{length-replicate, get_or-replicate}
 use Rattle.mat_int.specs.Matrix.{zero_matrix}
+use Rattle.qp_model.specs.Limits.{text_version}
 use Rattle.qp_model.specs.Range.{LiesIn, IsNumerator}
 use Rattle.qp_model.specs.Controller.{Numbers, HasShape, IsInForm, FitsWord}
 
@@ -14,6 +15,7 @@ all_same P x h n k d lt = subst P (sym (get_or-replicate n k x d (omega (arith, 
 -- zeros in each list, and the least of each range
 abbrev pub blank : ℕ → ℕ → ℕ → ℕ → Numbers
 blank n p stages m = record {
+  version = text_version;
   states = n;
   inputs = p;
   stages = stages;
@@ -54,6 +56,7 @@ zero_low z = omega (arith, ints)
 pub blank_form : (n p stages m : ℕ) → LiesIn 1 4 n → LiesIn 1 3 p → LiesIn 1 20 stages → LiesIn 1 252 m → IsInForm (blank n p stages m)
 blank_form n p stages m hn hp hs hm = record {
   sized = record {
+    version = refl;
     states = hn;
     inputs = hp;
     stages = hs;

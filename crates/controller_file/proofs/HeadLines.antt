@@ -51,6 +51,7 @@ headed_form c f g s w steps clamp form hg hf hs hw hsteps least greatest =
     let sized = form.sized in
     record {
       sized = record {
+        version = sized.version;
         states = sized.states;
         inputs = sized.inputs;
         stages = sized.stages;
@@ -229,6 +230,7 @@ boxed_form c low high form count other all both box =
     let h = sized.shaped in
     record {
       sized = record {
+        version = sized.version;
         states = sized.states;
         inputs = sized.inputs;
         stages = sized.stages;

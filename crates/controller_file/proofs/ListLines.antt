@@ -146,6 +146,7 @@ remade c ms form e =
       numbers = record c { state_gains = p.matrix; offsets = t.numbers; dual_gains = w.matrix; plan_rows = g.matrix; state_rows = r.matrix; bounds = b.numbers };
       form = record {
         sized = record {
+          version = sized.version;
           states = sized.states;
           inputs = sized.inputs;
           stages = sized.stages;

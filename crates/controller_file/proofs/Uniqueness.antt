@@ -90,7 +90,7 @@ one_form bytes c d p q =
     let cut = sym (split_text (map spelled (keyed_lines c)) (pieces_of c p.form p.word)) ∙ ap (slice_split (λ b. eqb b 10)) texts ∙ split_text (map spelled (keyed_lines d)) (pieces_of d q.form q.word) in
     let spellings = (same_from_push (map spelled (keyed_lines c)) (map spelled (keyed_lines d)) [] [] cut).0 in
     let lines = one_lines (keyed_lines c) (keyed_lines d) (good_lines c p.form p.word) (good_lines d q.form q.word) spellings in
-    some_is (sym (parts_again c (small_form c p.form) p.form.sized.shaped) ∙ ap parts_at lines ∙ parts_again d (small_form d q.form) q.form.sized.shaped)
+    some_is (sym (parts_again c p.form.sized.version (small_form c p.form) p.form.sized.shaped) ∙ ap parts_at lines ∙ parts_again d q.form.sized.version (small_form d q.form) q.form.sized.shaped)
 
 -- a controller's text is one in form
 pub in_form : (bytes : List ℕ) (c : Numbers) → IsControllerText bytes c → IsTextInForm bytes c

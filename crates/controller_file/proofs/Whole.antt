@@ -4,6 +4,7 @@ use Rattle.std.specs.Prelude.{codes}
 use Rattle.std.proofs.lemmas.Bool.{eqb-true}
 use Rattle.std.proofs.lemmas.List.{nil_from_length}
 use Rattle.mat_int.specs.Matrix.{Matrix}
+use Rattle.qp_model.specs.Limits.{text_version}
 use Rattle.qp_model.specs.Controller.{Numbers, IsShaped}
 use Rattle.controller_file.specs.declared.parts.Head.{Head}
 use Rattle.controller_file.specs.Lines.{Keyed, keyed_line, row_lines, head_of, head_lines, list_lines, keyed_lines}
@@ -79,7 +80,7 @@ head_again h rest small =
 
 -- the lists that are read with these sizes
 abbrev pub made_of : Head → List ℤ → List ℤ → Matrix → List ℤ → Matrix → Matrix → Matrix → List ℤ → Numbers
-made_of h low high p t w g e b = record { states = h.n; inputs = h.p; stages = h.stages; rows = h.m; fraction_bits = h.f; grid_bits = h.g; step_exponent = h.s; width = h.w; steps = h.steps; clamp = h.clamp; words = h.words; low = low; high = high; state_gains = p; offsets = t; dual_gains = w; plan_rows = g; state_rows = e; bounds = b }
+made_of h low high p t w g e b = record { version = text_version; states = h.n; inputs = h.p; stages = h.stages; rows = h.m; fraction_bits = h.f; grid_bits = h.g; step_exponent = h.s; width = h.w; steps = h.steps; clamp = h.clamp; words = h.words; low = low; high = high; state_gains = p; offsets = t; dual_gains = w; plan_rows = g; state_rows = e; bounds = b }
 
 -- a list of lines that are there, one after the other
 pub joined : (low high : List ℤ) (p : Matrix) (t : List ℤ) (w g e : Matrix) (b none : List ℤ) (r0 r1 r2 r3 r4 r5 r6 r7 r8 r9 : List Keyed)
@@ -132,9 +133,9 @@ lists_take h ls c e =
     lists_are h ls (made_of h low.0.0 high.0.0 p.0.0 t.0.0 w.0.0 g.0.0 rows.0.0 bound.0.0) c (some_is last.1)
     (record { head = refl; lines = lines; shaped = record { low = t0.1; high = t1.1; state_gains = t2.1; offsets = t3.1; dual_gains = t4.1; plan_rows = t5.1; state_rows = t6.1; bounds = t7.1 } })
 
-lists_again : (c : Numbers) → IsShaped c → lists_at (head_of c) (list_lines c) ≡ Some c
+lists_again : (c : Numbers) → c.version ≡ text_version → IsShaped c → lists_at (head_of c) (list_lines c) ≡ Some c
 unfolding lists_at rest_at
-lists_again c shaped =
+lists_again c version shaped =
     let nu = c.inputs * c.stages in
     let r8 = keyed_line (codes "end") [] ∷ [] in
     let r7 = keyed_line (codes "b") c.bounds ∷ r8 in
@@ -154,7 +155,7 @@ lists_again c shaped =
       matrix_again (codes "E") c.rows c.states c.state_rows r7 shaped.state_rows,
       numbers_again (codes "b") c.rows c.bounds r8 shaped.bounds,
       numbers_again (codes "end") 0 [] [] refl,
-    ) refl
+    ) (λ i. Some (record c { version = sym version i }))
 
 -- ---- the whole
 
@@ -168,6 +169,6 @@ parts_take ls c e =
     let rest = u.lines in
     (t ∙ (λ i. head_lines (first i) ++ rest i), u.shaped)
 
-pub parts_again : (c : Numbers) → IsSmall (head_of c) → IsShaped c → parts_at (keyed_lines c) ≡ Some c
+pub parts_again : (c : Numbers) → c.version ≡ text_version → IsSmall (head_of c) → IsShaped c → parts_at (keyed_lines c) ≡ Some c
 unfolding parts_at
-parts_again c small shaped = rw (head_again (head_of c) (list_lines c) small, lists_again c shaped) refl
+parts_again c version small shaped = rw (head_again (head_of c) (list_lines c) small, lists_again c version shaped) refl

@@ -1,7 +1,7 @@
 -- Lines with which a text in form begins, and what each line must be.
 use Rattle.std.specs.Prelude.{◌≡◌, ℕ, suc, ◌+◌, ◌*◌, ◌^◌, ◌≤◌, ℤ, pos, ◌≤ℤ◌, List, [], ◌∷◌, ◌++◌, length, map, take, replicate, codes, All, slice_index_or}
 use Rattle.integer_algebra.specs.Sums.{at}
-use Rattle.qp_model.specs.Limits.{most_states, most_inputs, most_stages, most_rows}
+use Rattle.qp_model.specs.Limits.{text_version, most_states, most_inputs, most_stages, most_rows}
 use Rattle.qp_model.specs.Range.{LiesIn, IsNumerator}
 use Rattle.qp_model.specs.PartRules.{AreHighs}
 use Rattle.qp_model.specs.Controller.{Numbers, IsInForm, FitsWord}
@@ -36,13 +36,13 @@ pub record IsFrom (low high z : ℤ) : Type 0 where
   pub greatest : z ≤ℤ high
 
 abbrev pub IsVersionLine : Keyed → Type 0
-IsVersionLine l = (place_of l ≡ place (codes "mpc-controller") 1) × (at l.numbers 0 ≡ pos 1)
+IsVersionLine l = (place_of l ≡ place (codes "mpc-controller") 1) × (at l.numbers 0 ≡ pos text_version)
 
--- n, p, stages and m, of version 1
+-- n, p, stages and m
 abbrev pub AreHeadSizes : List ℤ → Type 0
 AreHeadSizes zs =
-    IsFrom (pos 1) (pos (most_states 1)) (at zs 0) × IsFrom (pos 1) (pos (most_inputs 1)) (at zs 1)
-    × IsFrom (pos 1) (pos (most_stages 1)) (at zs 2) × IsFrom (pos 1) (pos (most_rows 1)) (at zs 3)
+    IsFrom (pos 1) (pos (most_states text_version)) (at zs 0) × IsFrom (pos 1) (pos (most_inputs text_version)) (at zs 1)
+    × IsFrom (pos 1) (pos (most_stages text_version)) (at zs 2) × IsFrom (pos 1) (pos (most_rows text_version)) (at zs 3)
 
 abbrev pub IsSizeLine : Keyed → Type 0
 IsSizeLine l = (place_of l ≡ place (codes "size") 4) × AreHeadSizes l.numbers
@@ -66,12 +66,12 @@ IsClampLine l = (place_of l ≡ place (codes "clamp") 1) × IsFrom (pos 0) (pos 
 abbrev pub second_of : List Keyed → Keyed
 second_of ls = slice_index_or ls 1 (keyed_line [] [])
 
--- each size lies in its range of version 1
+-- each size lies in its range
 pub record AreInRange (sizes : Sizes) : Type 0 where
-  pub n : LiesIn 1 (most_states 1) sizes.n
-  pub p : LiesIn 1 (most_inputs 1) sizes.p
-  pub stages : LiesIn 1 (most_stages 1) sizes.stages
-  pub m : LiesIn 1 (most_rows 1) sizes.m
+  pub n : LiesIn 1 (most_states text_version) sizes.n
+  pub p : LiesIn 1 (most_inputs text_version) sizes.p
+  pub stages : LiesIn 1 (most_stages text_version) sizes.stages
+  pub m : LiesIn 1 (most_rows text_version) sizes.m
 
 -- a line says these sizes
 pub record Says (l : Keyed) (sizes : Sizes) : Type 0 where

@@ -2,6 +2,7 @@
 use Rattle.std.specs.Prelude.{ℕ, ◌<◌, ℤ, pos, List, [], ◌∷◌, ◌++◌, length, map, codes, All, FitsSigned}
 use Rattle.std.specs.Int.{w128}
 use Rattle.qp_model.specs.Lines.{line_of, text_of}
+use Rattle.qp_model.specs.Limits.{text_version}
 use Rattle.qp_model.specs.Controller.{Numbers}
 use Rattle.controller_file.specs.declared.parts.Head.{Head}
 use Rattle.controller_file.specs.declared.line.Line.{Line}
@@ -56,7 +57,7 @@ head_of c = record { n = c.states; p = c.inputs; stages = c.stages; m = c.rows; 
 -- their lines
 abbrev pub head_lines : Head → List Keyed
 head_lines h =
-    keyed_line (codes "mpc-controller") (pos 1 ∷ [])
+    keyed_line (codes "mpc-controller") (pos text_version ∷ [])
     ∷ keyed_line (codes "size") (pos h.n ∷ pos h.p ∷ pos h.stages ∷ pos h.m ∷ [])
     ∷ keyed_line (codes "bits") (pos h.f ∷ pos h.g ∷ pos h.s ∷ pos h.w ∷ [])
     ∷ keyed_line (codes "steps") (pos h.steps ∷ [])

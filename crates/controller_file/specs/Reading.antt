@@ -2,6 +2,7 @@
 use Rattle.std.specs.Prelude.{◌≡◌, ℕ, ◌*◌, ◌^◌, ℤ, pos, negsuc, List, [], ◌∷◌, length, take, drop, codes, Option, Some, None, Result, Ok, Err, nat_lt, ◌==◌, if◌then◌else◌, slice_index_or}
 use Rattle.std.specs.Str.{bytes_eq}
 use Rattle.mat_int.specs.Matrix.{Matrix}
+use Rattle.qp_model.specs.Limits.{text_version}
 use Rattle.qp_model.specs.Controller.{Numbers}
 use Rattle.controller_file.specs.declared.fault.LineFault.{LineFault}
 use Rattle.controller_file.specs.declared.fault.LineFault.TheVariants as faults
@@ -75,7 +76,7 @@ matrix_at key rows cols ls = if nat_lt (length ls) rows then None else (all_rows
 unfoldable pub head_at : List Keyed → Option (Head × List Keyed)
 head_at ls = do
   version ← natural_at (codes "mpc-controller") ls
-  size ← if version.0 == 1 then four_at (codes "size") version.1 else None
+  size ← if version.0 == text_version then four_at (codes "size") version.1 else None
   bits ← four_at (codes "bits") size.1
   steps ← natural_at (codes "steps") bits.1
   clamp ← numbers_at (codes "clamp") 1 steps.1
@@ -90,11 +91,11 @@ rest_at head low high p t ls = do
   e ← matrix_at (codes "E") head.m head.n g.1
   bound ← numbers_at (codes "b") head.m e.1
   end ← numbers_at (codes "end") 0 bound.1
-  if length end.1 == 0 then Some (record { states = head.n; inputs = head.p; stages = head.stages; rows = head.m; fraction_bits = head.f; grid_bits = head.g; step_exponent = head.s; width = head.w; steps = head.steps; clamp = head.clamp; words = head.words; low = low; high = high; state_gains = p; offsets = t; dual_gains = w.0; plan_rows = g.0; state_rows = e.0; bounds = bound.0 }) else None
+  if length end.1 == 0 then Some (record { version = text_version; states = head.n; inputs = head.p; stages = head.stages; rows = head.m; fraction_bits = head.f; grid_bits = head.g; step_exponent = head.s; width = head.w; steps = head.steps; clamp = head.clamp; words = head.words; low = low; high = high; state_gains = p; offsets = t; dual_gains = w.0; plan_rows = g.0; state_rows = e.0; bounds = bound.0 }) else None
 
 -- the numbers of the head and all lists
 abbrev pub whole_of : Head → List ℤ → List ℤ → Matrix → List ℤ → Back → Numbers
-whole_of head low high p t back = record { states = head.n; inputs = head.p; stages = head.stages; rows = head.m; fraction_bits = head.f; grid_bits = head.g; step_exponent = head.s; width = head.w; steps = head.steps; clamp = head.clamp; words = head.words; low = low; high = high; state_gains = p; offsets = t; dual_gains = back.w_mat; plan_rows = back.g_mat; state_rows = back.e_mat; bounds = back.bound.items }
+whole_of head low high p t back = record { version = text_version; states = head.n; inputs = head.p; stages = head.stages; rows = head.m; fraction_bits = head.f; grid_bits = head.g; step_exponent = head.s; width = head.w; steps = head.steps; clamp = head.clamp; words = head.words; low = low; high = high; state_gains = p; offsets = t; dual_gains = back.w_mat; plan_rows = back.g_mat; state_rows = back.e_mat; bounds = back.bound.items }
 
 -- the lines after these, to the last
 unfoldable pub lists_at : Head → List Keyed → Option Numbers
