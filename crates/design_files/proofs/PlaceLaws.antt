@@ -111,6 +111,7 @@ module _ (v : Values) (s : Sizes) (plant : PlantNumbers) (cost : CostNumbers) (l
 
   pub is_design : IsDesign (assembled s plant cost limits box targets)
   is_design = record {
+    version = refl;
     states = in_sizes.states.fits;
     inputs = in_sizes.inputs.fits;
     stages = in_sizes.stages.fits;

@@ -3,7 +3,7 @@ ghost use Rattle.std.specs.Prelude.{◌≡◌, ◌⊎◌, ◌≤◌, ◌+◌, �
 ghost use Rattle.toml.specs.View.{view};
 ghost use Rattle.qp_model.specs.declared.design_parts.DesignParts.{DesignParts};
 ghost use Rattle.qp_model.specs.declared.text_fault.TextFault.{TextFault};
-ghost use Rattle.qp_model.specs.Limits.{most_states, most_inputs};
+ghost use Rattle.qp_model.specs.Limits.{text_version, most_states, most_inputs};
 ghost use Rattle.qp_model.specs.Parts.{IsDesign, design_numbers};
 ghost use Rattle.design_files.specs.Document.{document_of};
 ghost use Rattle.design_files.specs.Numbers.{count_of};
@@ -228,7 +228,7 @@ fn read_table(
 
 // Rows of n coefficients, a target and a weight.
 fn read_cost_rows(alloc: Global, place: u32, value: &Value, n: usize) -> Result<Mat, TextFault>
-    requires { n ≤ most_states 1 }
+    requires { n ≤ most_states text_version }
     ensures { let seen = Some (view value.now) in
         Reads result (HasCosts seen n) (cost_row_rules place n seen) }
 {
@@ -279,7 +279,7 @@ fn read_plant(alloc: Global, keys: &Keys, n: usize, p: usize) -> Result<PlantNum
 }
 
 fn read_cost(alloc: Global, keys: &Keys, n: usize, p: usize) -> Result<CostNumbers, TextFault>
-    requires { n ≤ most_states 1 }
+    requires { n ≤ most_states text_version }
     ensures { let v = seen keys.now in Reads result (HasCostNumbers v n p) (cost_places n p v) }
 {
     let keys = &keys.cost;
@@ -293,8 +293,8 @@ fn read_cost(alloc: Global, keys: &Keys, n: usize, p: usize) -> Result<CostNumbe
 }
 
 fn read_limits(alloc: Global, keys: &Keys, n: usize, p: usize) -> Result<LimitNumbers, TextFault>
-    requires states { n ≤ most_states 1 }
-    requires inputs { p ≤ most_inputs 1 }
+    requires states { n ≤ most_states text_version }
+    requires inputs { p ≤ most_inputs text_version }
     ensures { let v = seen keys.now in Reads result (HasLimits v n p) (limit_places n p v) }
 {
     let keys = &keys.limits;
