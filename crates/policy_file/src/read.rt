@@ -1,7 +1,7 @@
 // Texts of records as matrices.
 ghost use Rattle.std.specs.Prelude.{◌≡◌, ◌⊎◌, ℕ, ◌<◌, ◌≤◌, ◌^◌, length, IfOk, IfErr, MatchResult};
 ghost use Rattle.mat_int.specs.Matrix.{Matrix};
-ghost use Rattle.qp_model.specs.Limits.{most_states};
+ghost use Rattle.qp_model.specs.Limits.{text_version, most_states};
 ghost use Rattle.qp_model.specs.Parts.{design_of, IsDesign};
 ghost use Rattle.qp_model.specs.Policy.{Plans, plans_of, IsPolicyFor};
 ghost use Rattle.qp_model.specs.declared.text_fault.TextFault.{TextFault};
@@ -95,7 +95,7 @@ fn policy_of(alloc: Global, bytes: &[u8], parts: &DesignParts) -> Result<Policy,
 
 // How many corners a box of so many states has.
 fn corner_count(states: usize) -> usize
-    requires { states ≤ most_states 1 }
+    requires { states ≤ most_states text_version }
     ensures { result ≡ 2 ^ states }
 {
     1 << states
