@@ -5,7 +5,7 @@ use Rattle.std.specs.Fmt.{decimal, signed_decimal, digits, digits_onto, digit_gl
 use Rattle.json.specs.Print.{escape, escape_byte, quoted}
 use Rattle.json.proofs.Printed.Strings.{escape_byte_plain}
 use Rattle.serde_json.specs.Written.{compact_text, members_text}
-use Rattle.qp_model.specs.declared.bounds.Bounds.{Bounds}
+use Rattle.qp_model.specs.Printed.{Printed}
 use Rattle.bound_report.specs.Report.{member, json_members, report_json}
 use Rattle.bound_report.specs.Document.{members_of, object_of}
 
@@ -60,7 +60,7 @@ joined (m ∷ n ∷ ns) plain =
     ∙ one_member m.0 m.1 (44 ∷ members_text false (members_of (n ∷ ns))) (cc plain)
 
 -- the report is the object as it is written, and a line feed
-pub compact_report : (b : Bounds) → report_json b ≡ compact_text (object_of (json_members b)) ++ 10 ∷ []
+pub compact_report : (b : Printed) → report_json b ≡ compact_text (object_of (json_members b)) ++ 10 ∷ []
 unfolding escape_byte
 compact_report b =
     let members : List ℕ = join_with_byte 44 (map (λ m. member m.0 m.1) (json_members b)) in

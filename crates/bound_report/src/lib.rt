@@ -4,6 +4,7 @@
 ghost use Rattle.std.specs.Prelude.{◌≡◌, ◌++◌, IfOk, OnOk, string_bytes};
 ghost use Rattle.std.specs.Fmt.{signed_decimal};
 ghost use Rattle.qp_model.specs.Lines.{text_of};
+ghost use Rattle.qp_model.specs.Printed.{printed};
 ghost use Rattle.bound_report.specs.Report.{report_head, bound_lines, report_text, json_members, report_json};
 ghost use Rattle.bound_report.specs.Document.{members_of, object_of, IsJsonLine};
 ghost use Rattle.serde_json.specs.Data.{string, put};
@@ -16,7 +17,7 @@ use std::alloc::{AllocError, Global};
 /// The text of a report: lines of a word and its numbers, the header `mpc-report 1` first and `end` last. A number that is over a power of two
 /// has that power beside it.
 pub fn report_text(alloc: Global, b: &Bounds) -> Result<Vec<u8>, AllocError>
-    ensures { IfOk result (λ v. v.items ≡ report_text b.now) }
+    ensures { IfOk result (λ v. v.items ≡ report_text (printed b.now)) }
 {
     let mut text = head_text(alloc, b)?;
     push_bounds(alloc, &mut text, b)?;
@@ -27,8 +28,8 @@ pub fn report_text(alloc: Global, b: &Bounds) -> Result<Vec<u8>, AllocError>
 /// The report as one JSON object with no space in it, and a line feed. Each value is a string, the number in decimal, since a reader of JSON may
 /// keep no more of a number than a float does. `margin` is over `2^16`, `gap`, `undercut` and `violation` are over `2^40`, and `version` is 1.
 pub fn report_json(alloc: Global, b: &Bounds) -> Result<Vec<u8>, AllocError>
-    ensures bytes { IfOk result (λ v. v.items ≡ report_json b.now) }
-    ensures document { IfOk result (λ v. IsJsonLine v.items (object_of (json_members b.now))) }
+    ensures bytes { IfOk result (λ v. v.items ≡ report_json (printed b.now)) }
+    ensures document { IfOk result (λ v. IsJsonLine v.items (object_of (json_members (printed b.now)))) }
 {
     let report = Value::Object(report_members(alloc, b)?);
     let mut text = report.to_vec(alloc)?;
@@ -38,7 +39,7 @@ pub fn report_json(alloc: Global, b: &Bounds) -> Result<Vec<u8>, AllocError>
 
 // The members of the object. A `Map` keeps them in the order of their keys.
 fn report_members(alloc: Global, b: &Bounds) -> Result<Map<String, Value>, AllocError>
-    ensures { IfOk result (λ m. members_view m.entries ≡ members_of (json_members b.now)) }
+    ensures { IfOk result (λ m. members_view m.entries ≡ members_of (json_members (printed b.now))) }
 {
     let mut members = Map::new(alloc);
     put_number(alloc, &mut members, "bits", i128::from(b.bits))?;
@@ -72,7 +73,7 @@ fn put_number(
 
 // The header, the margin and what was chosen.
 fn head_text(alloc: Global, b: &Bounds) -> Result<String, AllocError>
-    ensures { IfOk result (λ text. string_bytes text ≡ text_of (report_head b.now)) }
+    ensures { IfOk result (λ text. string_bytes text ≡ text_of (report_head (printed b.now))) }
 {
     let mut text = String::from_str(alloc, "mpc-report 1\n")?;
     push_line(alloc, &mut text, "margin", &[b.margin, 1 << 16])?;
@@ -88,7 +89,7 @@ fn head_text(alloc: Global, b: &Bounds) -> Result<String, AllocError>
 
 // What is promised, at the end.
 fn push_bounds(alloc: Global, text: &mut String, b: &Bounds) -> Result<(), AllocError>
-    ensures { OnOk result (string_bytes text.new ≡ string_bytes text.old ++ text_of (bound_lines b.now)) }
+    ensures { OnOk result (string_bytes text.new ≡ string_bytes text.old ++ text_of (bound_lines (printed b.now))) }
 {
     push_line(alloc, text, "violation", &[b.violation, 1 << 40])?;
     push_line(alloc, text, "gap", &[b.gap, 1 << 40])?;

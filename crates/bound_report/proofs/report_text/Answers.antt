@@ -1,13 +1,14 @@
 use Rattle.std.proofs.Common.{rules, ◌≡◌, ◌++◌, ◌∷◌, [], ◌∙◌, string_bytes, ℕ, List, ap}
 use Rattle.std.specs.Prelude.{codes}
 use Rattle.qp_model.specs.Lines.{text_of}
+use Rattle.qp_model.specs.Printed.{printed}
 use Rattle.bound_report.specs.Report.{report_head, bound_lines}
 use Rattle.bound_report.proofs.Growing.{pushed}
 use Rattle.bound_report.proofs.report_text.Goals as goal
 
 pub returns : goal.returns
 returns c =
-    let b = c.args.b.now in
+    let b = printed c.args.b.now in
     let text0 : List ℕ = string_bytes c.in_ok-text.text in
     let text1 : List ℕ = string_bytes c.push_bounds.new.text in
     let text2 : List ℕ = string_bytes c.push_str.new.self in
