@@ -6,7 +6,7 @@ use Rattle.std.proofs.lemmas.Nat.{pow_pos}
 use Rattle.std.proofs.Math.Nat.{div-le_self}
 use Rattle.integer_algebra.specs.Division.{floor_of, ceil_div}
 use Rattle.mat_int.proofs.Dots.{abs-add_le}
-use Rattle.overflow_check.proofs.Absolute.{abs-shifted, abs-neg, abs-floor_le, abs-floor_le_ceil, ceil_div_mono}
+use Rattle.qp_model.proofs.AbsoluteLaws.{abs-shifted, abs-neg, abs-floor_le, abs-floor_le_ceil, ceil_div_mono}
 use Rattle.fixed_kernel.proofs.Floors.{row_floor}
 
 -- ---- a plan entry

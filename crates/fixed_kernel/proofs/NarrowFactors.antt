@@ -10,7 +10,7 @@ use Rattle.integer_algebra.proofs.DivisionLaws.{ceil_div-le}
 use Rattle.mat_int.specs.Narrow.{IsNarrow}
 use Rattle.qp_model.specs.Controller.{Numbers}
 use Rattle.qp_model.specs.AbsoluteSums.{state_magnitudes, clamp_magnitudes, plan_magnitudes, entry_absolute_sum, IsController}
-use Rattle.overflow_check.specs.Within.{AreWithin}
+use Rattle.qp_model.specs.Within.{AreWithin}
 use Rattle.overflow_check.proofs.SumLaws.{sums_fit}
 use Rattle.overflow_check.proofs.Sizes.{length-state_reach, length-clamp_reach, length-plan_reach, get_or-reach_of}
 use Rattle.fixed_kernel.specs.Factors.{HasNarrowFactors}

@@ -6,8 +6,9 @@ use Rattle.integer_algebra.specs.Sums.{at}
 use Rattle.qp_model.specs.Controller.{Numbers, plan_length}
 use Rattle.qp_model.specs.Machine.{Iterate, IsAdmissible, loaded, start_of, step_of}
 use Rattle.qp_model.specs.AbsoluteSums.{state_magnitudes, plan_magnitudes, IsController}
-use Rattle.overflow_check.specs.Within.{AreWithin}
-use Rattle.overflow_check.proofs.Runs.{state_within, after_multipliers, after_plan_length, after_multipliers_length, after_sums_length, after_sums_le, after_suc, after_zero}
+use Rattle.qp_model.specs.Within.{AreWithin}
+use Rattle.qp_model.proofs.MagnitudeLaws.{state_within, after_multipliers}
+use Rattle.overflow_check.proofs.Runs.{after_plan_length, after_multipliers_length, after_sums_length, after_sums_le, after_suc, after_zero}
 use Rattle.std.specs.Prelude.{slice_range}
 use Rattle.word_region.specs.Words.{RegionWords}
 use Rattle.word_region.specs.Lending.{written_over}

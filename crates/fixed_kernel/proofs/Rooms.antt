@@ -8,10 +8,11 @@ use Rattle.mat_int.specs.Matrix.{row_of}
 use Rattle.mat_int.proofs.Dots.{abs-add_le, abs-dot_le}
 use Rattle.qp_model.specs.Controller.{Numbers}
 use Rattle.qp_model.specs.AbsoluteSums.{state_magnitudes, clamp_magnitudes, plan_magnitudes, entry_absolute_sum, weighted_abs_sum, IsController}
-use Rattle.overflow_check.specs.Within.{AreWithin}
+use Rattle.qp_model.specs.Within.{AreWithin}
 use Rattle.overflow_check.proofs.Sizes.{length-state_reach, length-clamp_reach, length-plan_reach}
-use Rattle.overflow_check.proofs.Absolute.{le_times_pow, abs-floor_le, ceil_div_mono}
-use Rattle.overflow_check.proofs.SumLaws.{SumsFit, sums_fit, abs_dot-magnitudes, dual_le, planned_le, row_parts_le, row_le, next_le}
+use Rattle.qp_model.proofs.AbsoluteLaws.{le_times_pow, abs-floor_le, ceil_div_mono}
+use Rattle.qp_model.proofs.MagnitudeLaws.{abs_dot-magnitudes}
+use Rattle.overflow_check.proofs.SumLaws.{SumsFit, sums_fit, dual_le, planned_le, row_parts_le, row_le, next_le}
 
 pub fit : (c : Numbers) → IsController c → SumsFit c (2 ^ 126)
 fit c s = sums_fit c (2 ^ 126) s.room

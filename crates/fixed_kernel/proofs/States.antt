@@ -8,7 +8,7 @@ use Rattle.integer_algebra.specs.Division.{floor_of}
 use Rattle.integer_algebra.specs.Sums.{at}
 use Rattle.qp_model.specs.Controller.{Numbers, IsSized}
 use Rattle.qp_model.specs.Machine.{IsAdmissible, loaded}
-use Rattle.overflow_check.proofs.Absolute.{abs-shifted}
+use Rattle.qp_model.proofs.AbsoluteLaws.{abs-shifted}
 use Rattle.fixed_kernel.specs.Progress.{unloaded}
 
 -- ---- loaded and unloaded

@@ -4,7 +4,7 @@ use Rattle.integer_algebra.specs.Sums.{at}
 use Rattle.qp_model.specs.Controller.{Numbers}
 use Rattle.qp_model.specs.Machine.{Iterate}
 use Rattle.qp_model.specs.AbsoluteSums.{state_magnitudes, clamp_magnitudes, plan_magnitudes}
-use Rattle.overflow_check.specs.Within.{AreWithin}
+use Rattle.qp_model.specs.Within.{AreWithin}
 
 -- state and multipliers are within their reaches, and the sums leave room for one more plan
 pub record IsReadyToStep (c : Numbers) (state : List ℤ) (made : Iterate) : Type 0 where

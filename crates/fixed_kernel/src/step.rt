@@ -4,7 +4,7 @@ ghost use Rattle.integer_algebra.specs.Sums.{at};
 ghost use Rattle.qp_model.specs.Controller.{numbers};
 ghost use Rattle.qp_model.specs.Machine.{plan_entry, plan_of, next_multiplier, next_multipliers, added, step_of};
 ghost use Rattle.qp_model.specs.AbsoluteSums.{IsController, clamp_magnitudes, state_magnitudes, plan_magnitudes};
-ghost use Rattle.overflow_check.specs.Within.{AreWithin};
+ghost use Rattle.qp_model.specs.Within.{AreWithin};
 ghost use Rattle.fixed_kernel.specs.Factors.{HasNarrowFactors};
 ghost use Rattle.fixed_kernel.specs.Spans.{words_of, state_in, made_in};
 ghost use Rattle.fixed_kernel.specs.Ready.{IsReadyToStep};

@@ -1,6 +1,6 @@
 use Rattle.std.proofs.Common.{arith}
 use Rattle.qp_model.specs.Controller.{numbers}
-use Rattle.overflow_check.proofs.Runs.{plan_within}
+use Rattle.qp_model.proofs.MagnitudeLaws.{plan_within}
 use Rattle.fixed_kernel.proofs.step.make_step.Goals as goal
 
 pub move_multipliers-requires-clause-plan : goal.move_multipliers-requires-clause-plan
