@@ -40,6 +40,7 @@ stage_rows (suc r) = limit (pos 0) (negsuc 3) (pos 4)
 
 abbrev base : Design
 base = record {
+  version = 1;
   states = 1;
   inputs = 1;
   stages = 1;
@@ -68,6 +69,7 @@ matrix n lines = record { cols = n; rows = lines }
 
 abbrev controller : Numbers
 controller = record {
+  version = 1;
   states = 1;
   inputs = 1;
   stages = 1;
@@ -139,6 +141,7 @@ shaped = record {
 
 sized : IsSized controller
 sized = record {
+  version = refl;
   states = (omega arith, omega arith);
   inputs = (omega arith, omega arith);
   stages = (omega arith, omega arith);
