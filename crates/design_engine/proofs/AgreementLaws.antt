@@ -47,6 +47,7 @@ choice_same d t r q f g e x y =
 pub agreement : AgreementLaw
 agreement p plans c other b printed h k = record {
   numbers = λ i. record {
+    version = version i;
     states = states i;
     inputs = inputs i;
     stages = stages i;
@@ -77,9 +78,11 @@ agreement p plans c other b printed h k = record {
     width = printed.width;
     words = (h.bounds.words ∙ words ∙ sym k.bounds.words) i;
     violation = violation i;
+    row_violation = printed.row_violation;
     gap = (h.bounds.gap ∙ ap pos errors ∙ sym k.bounds.gap) i;
     undercut = (h.bounds.undercut ∙ (λ j. pos (undercut_bound (r j) (unsigned_abs (violation j)))) ∙ sym k.bounds.undercut) i;
   };
+  row_violations = λ i l. h.bounds.row_violation i l ∙ violations ∙ sym (k.bounds.row_violation i (omega (arith, l, limits)));
 }
   where
     d : Design
@@ -93,6 +96,9 @@ agreement p plans c other b printed h k = record {
 
     r : printed_multiplier b ≡ printed_multiplier printed
     r = ap multiplier_of margin
+
+    version : c.version ≡ other.version
+    version = h.controller.form.sized.version ∙ sym k.controller.form.sized.version
 
     states : c.states ≡ other.states
     states = h.made.sizes.states ∙ sym k.made.sizes.states
@@ -124,8 +130,12 @@ agreement p plans c other b printed h k = record {
     errors : stated_cost d (printed_multiplier b) c.fraction_bits ≡ stated_cost d (printed_multiplier printed) other.fraction_bits
     errors = λ i. stated_cost d (r i) (bits i)
 
+    violations : pos (violation_bound c.step_exponent (printed_multiplier b) c.steps (stated_cost d (printed_multiplier b) c.fraction_bits)) ≡
+        pos (violation_bound other.step_exponent (printed_multiplier printed) other.steps (stated_cost d (printed_multiplier printed) other.fraction_bits))
+    violations = λ i. pos (violation_bound (exponent i) (r i) (steps i) (errors i))
+
     violation : b.violation ≡ printed.violation
-    violation = h.bounds.violation ∙ (λ i. pos (violation_bound (exponent i) (r i) (steps i) (errors i))) ∙ sym k.bounds.violation
+    violation = h.bounds.violation ∙ violations ∙ sym k.bounds.violation
 
     clamp : c.clamp ≡ other.clamp
     clamp = h.made.clamp ∙ (λ i. pos (2 * r i * 2 ^ (bits i + exponent i))) ∙ sym k.made.clamp

@@ -10,7 +10,7 @@ use Rattle.qp_model.specs.Errors.{stated_errors}
 use Rattle.qp_model.specs.Certified.{IsCertified}
 use Rattle.qp_model.proofs.FormLaws.{form_law}
 use Rattle.qp_model.specs.declared.design_parts.DesignParts.{DesignParts}
-use Rattle.qp_model.specs.declared.bounds.Bounds.{Bounds}
+use Rattle.qp_model.specs.Printed.{Printed}
 use Rattle.qp_model.specs.declared.bounds.Margin.{Margin}
 use Rattle.step_error.proofs.MachineErrors.{carried}
 use Rattle.step_error.proofs.MachineRuns.{machine_run}
@@ -55,7 +55,7 @@ module _ (p : DesignParts) (t : Targets) (plans : Plans) (design : IsDesign p) (
   accepted_from (Err o) (inr other) m s f passes = absurd (no_cause p plans t m s f o design policy passes other)
 
 -- ---- what is built
-pub built_certified : (p : DesignParts) (plans : Plans) (c : Numbers) (b : Bounds) → IsBuilt p plans c b → IsCertified (design_of p) c b
+pub built_certified : (p : DesignParts) (plans : Plans) (c : Numbers) (b : Printed) → IsBuilt p plans c b → IsCertified (design_of p) c b
 built_certified p plans c b h = certified_from machine_run p plans (form_of (design_of p)) (stated_errors (design_of p) (form_of (design_of p)) (printed_multiplier b) c.fraction_bits) c b (record {
   design = h.design;
   policy = h.policy;
@@ -76,5 +76,5 @@ built_certified p plans c b h = certified_from machine_run p plans (form_of (des
   bounds = h.bounds;
 })
 
-pub built_within : (p : DesignParts) (plans : Plans) (c : Numbers) (b : Bounds) → IsBuilt p plans c b → IsWithinTargets (targets_of p) b
+pub built_within : (p : DesignParts) (plans : Plans) (c : Numbers) (b : Printed) → IsBuilt p plans c b → IsWithinTargets (targets_of p) b
 built_within p plans c b h = targets_law p (stated_cost (design_of p) (printed_multiplier b) c.fraction_bits) c b (record { design = h.design; steps = h.steps; errors = h.bits.within; bounds = h.bounds })

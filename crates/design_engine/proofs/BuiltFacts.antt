@@ -8,7 +8,7 @@ use Rattle.qp_model.specs.Choices.{step_count, multiplier_of}
 use Rattle.qp_model.specs.Controller.{Numbers}
 use Rattle.qp_model.specs.AbsoluteSums.{IsController}
 use Rattle.qp_model.specs.declared.design_parts.DesignParts.{DesignParts}
-use Rattle.qp_model.specs.declared.bounds.Bounds.{Bounds}
+use Rattle.qp_model.specs.Printed.{Printed}
 use Rattle.qp_model.specs.declared.bounds.Margin.{Margin}
 use Rattle.design_engine.specs.Targets.{targets_of, half_target, error_limit}
 use Rattle.design_engine.specs.Bounds.{margin_of, stated_cost, AreBoundsOf}
@@ -16,7 +16,7 @@ use Rattle.design_engine.specs.Assembled.{IsAssembled}
 use Rattle.design_engine.specs.Built.{IsBuilt}
 use Rattle.design_engine.specs.Refusals.{PassesMargin, PassesBits}
 
-pub built_from : (p : DesignParts) (plans : Plans) (c : Numbers) (b : Bounds) (m : Margin) (r s k f : ℕ) → IsDesign p → IsPolicyFor (design_of p) plans →
+pub built_from : (p : DesignParts) (plans : Plans) (c : Numbers) (b : Printed) (m : Margin) (r s k f : ℕ) → IsDesign p → IsPolicyFor (design_of p) plans →
     PassesBits (design_of p) (targets_of p) plans m s f → IsExponent (design_of p) s → r ≡ multiplier_of m → k ≡ step_count s (multiplier_of m) (half_target (targets_of p)) →
     margin_of b ≡ m → IsController c → IsAssembled (design_of p) r s k f c → AreBoundsOf c b (stated_cost (design_of p) (multiplier_of m) c.fraction_bits) → IsBuilt p plans c b
 built_from p plans c b m r s k f design policy passes curved is count same sound a bounds = record {

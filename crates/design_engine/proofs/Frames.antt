@@ -134,6 +134,7 @@ sized p r s k f c v h fr g sizes bits exponent steps room =
     let lo : c.low ≡ p.lo.items = fr.low ∙ sym (box_line p.states p.lo.items h.lo.long) in
     let hi : c.high ≡ p.hi.items = fr.high ∙ sym (box_line p.states p.hi.items h.hi.long) in
     record {
+      version = fr.version ∙ h.version;
       states = rw fr.states h.states;
       inputs = rw fr.inputs h.inputs;
       stages = rw fr.stages h.stages;
@@ -184,6 +185,7 @@ width_free c w s = record {
 
 sized_again : (c : Numbers) (w : ℕ) → IsSized c → IsSized (record c { width = w })
 sized_again c w s = record {
+  version = s.version;
   states = s.states;
   inputs = s.inputs;
   stages = s.stages;
@@ -258,10 +260,11 @@ wide_clamp p r s k f h over =
 
 -- the frame that code makes
 pub frame_from : (p : DesignParts) (r s k f : ℕ) (c : Numbers) (rs : Rows) → IsDesign p → AreRowsOf (design_of p) f rs →
-    c.states ≡ p.states → c.inputs ≡ p.inputs → c.stages ≡ p.stages → c.rows ≡ length rs.g_mat.rows → c.fraction_bits ≡ f → c.grid_bits ≡ p.grid → c.step_exponent ≡ s →
+    c.version ≡ (design_of p).version → c.states ≡ p.states → c.inputs ≡ p.inputs → c.stages ≡ p.stages → c.rows ≡ length rs.g_mat.rows → c.fraction_bits ≡ f → c.grid_bits ≡ p.grid → c.step_exponent ≡ s →
     c.steps ≡ k → c.clamp ≡ pos (2 * r * 2 ^ (f + s)) → c.words ≡ p.states + length rs.g_mat.rows + 2 * rs.g_mat.cols → c.low ≡ p.lo.items → c.high ≡ p.hi.items →
     c.plan_rows ≡ rs.g_mat → c.state_rows ≡ rs.e_mat → c.bounds ≡ rs.bound.items → IsFrame (design_of p) r s k f c
-frame_from p r s k f c rs h are states inputs stages rows_are bits grid exponent steps clamp words low high plan state bound = record {
+frame_from p r s k f c rs h are version states inputs stages rows_are bits grid exponent steps clamp words low high plan state bound = record {
+  version = version;
   states = states;
   inputs = inputs;
   stages = stages;

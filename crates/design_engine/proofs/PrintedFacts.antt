@@ -2,7 +2,7 @@
 use Rattle.std.proofs.Common.{◌≡◌, ℕ, ℤ, pos, unsigned_abs, refl, sym, ap, ◌∙◌}
 use Rattle.qp_model.specs.Choices.{violation_bound, undercut_bound, multiplier_of}
 use Rattle.qp_model.specs.Controller.{Numbers}
-use Rattle.qp_model.specs.declared.bounds.Bounds.{Bounds}
+use Rattle.qp_model.specs.Printed.{printed}
 use Rattle.qp_model.specs.declared.bounds.Margin.{Margin}
 use Rattle.design_engine.specs.Bounds.{AreBoundsOf}
 
@@ -10,7 +10,7 @@ pub bounds_from : (cost : ℕ) (c : Numbers) (m : Margin) (r eps violation under
     r ≡ pos (multiplier_of m) → eps ≡ pos cost → c.step_exponent ≡ s → c.steps ≡ steps → c.fraction_bits ≡ bits →
     width ≡ c.width → words ≡ c.words →
     violation ≡ pos (violation_bound s (unsigned_abs r) steps (unsigned_abs eps)) → undercut ≡ pos (undercut_bound (unsigned_abs r) (unsigned_abs violation)) →
-    AreBoundsOf c (record {
+    AreBoundsOf c (printed (record {
       margin = m.units;
       cost = m.cost;
       multiplier = r;
@@ -22,7 +22,7 @@ pub bounds_from : (cost : ℕ) (c : Numbers) (m : Margin) (r eps violation under
       violation = violation;
       gap = eps;
       undercut = undercut;
-    }) cost
+    })) cost
 bounds_from cost c m r eps violation undercut s steps bits width words is at step count f w o v u = record {
   multiplier = is;
   step = sym step;
@@ -30,7 +30,11 @@ bounds_from cost c m r eps violation undercut s steps bits width words is at ste
   bits = sym f;
   width = w;
   words = o;
-  violation = v ∙ rw (is, at, step, count) refl;
+  violation = exact;
+  row_violation = λ i l. exact;
   gap = at;
   undercut = u ∙ rw is refl;
 }
+  where
+    exact : violation ≡ pos (violation_bound c.step_exponent (multiplier_of m) c.steps cost)
+    exact = v ∙ rw (is, at, step, count) refl

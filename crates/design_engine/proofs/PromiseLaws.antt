@@ -27,7 +27,7 @@ use Rattle.qp_model.specs.Built.{HasSizesOf}
 use Rattle.qp_model.specs.Choices.{violation_bound, multiplier_of}
 use Rattle.qp_model.specs.Certified.{ExceedsAtMost, CostsAtMost, HasFeasible, IsCertifiedAt}
 use Rattle.qp_model.specs.declared.design_parts.DesignParts.{DesignParts}
-use Rattle.qp_model.specs.declared.bounds.Bounds.{Bounds}
+use Rattle.qp_model.specs.Printed.{Printed}
 use Rattle.overflow_check.proofs.ValuesMet.{values_law}
 use Rattle.dual_bounds.specs.Corners.{HasRepair, ExceedsNoMore}
 use Rattle.dual_bounds.proofs.MixLaws.{repair_law}
@@ -80,7 +80,7 @@ record Point : Type 0 where
   h : Form
   e : StepErrors
   c : Numbers
-  b : Bounds
+  b : Printed
   xi : List ℤ
   backed : IsBacked p plans h e c b
   long : length xi ≡ (design_of p).states
@@ -245,7 +245,8 @@ certified_at run w = record {
       (values_law w.c w.xi w.backed.controller (grid_state (design w) w.c w.xi w.backed.made.sizes w.long w.inside));
   steps = sym w.backed.bounds.steps;
   plan = record {
-    rows = λ i l. rw w.backed.bounds.violation (rows_at run w i l);
+    rows = λ i l. rw (w.backed.bounds.row_violation i (omega (arith, l, w.backed.made.sizes.rows))) (rows_at run w i l);
+    violation = λ i l. rw w.backed.bounds.violation (rows_at run w i l);
     costs = λ r t o f. rw w.backed.bounds.gap (costs_at run w r t o f);
     repair = rw (w.backed.bounds.undercut, w.backed.bounds.violation) (repair_at w (violation_of w) (rows_at run w));
   };

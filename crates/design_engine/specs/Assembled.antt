@@ -31,6 +31,7 @@ pub record AreBounds (h : Form) (f : ℕ) (v : Inverse) : Type 0 where
 -- ---- the whole
 -- all of a controller but its gains and its width: of a design, with R, the step exponent s, k steps and f bits
 pub record IsFrame (d : Design) (r s k f : ℕ) (c : Numbers) : Type 0 where
+  pub version : c.version ≡ d.version
   pub states : c.states ≡ d.states
   pub inputs : c.inputs ≡ d.inputs
   pub stages : c.stages ≡ d.stages

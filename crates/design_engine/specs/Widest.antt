@@ -25,6 +25,7 @@ rounded d f z = round_of (pos (2 ^ f) *ℤ z) (form_of d).rows_scale
 abbrev pub widest : Design → (r s k f : ℕ) → Numbers
 widest d r s k f =
     record {
+      version = d.version;
       states = d.states;
       inputs = d.inputs;
       stages = d.stages;

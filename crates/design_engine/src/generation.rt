@@ -6,6 +6,7 @@ ghost use Rattle.qp_model.specs.Policy.{Plans, plans_of, IsPolicyFor};
 ghost use Rattle.qp_model.specs.Curvature.{IsExponent};
 ghost use Rattle.qp_model.specs.Choices.{step_count, violation_bound, undercut_bound, multiplier_of};
 ghost use Rattle.qp_model.specs.Errors.{error_sums_of};
+ghost use Rattle.qp_model.specs.Printed.{printed};
 ghost use Rattle.qp_model.specs.Certified.{IsCertified};
 ghost use Rattle.qp_model.specs.declared.bounds.Margin.{Margin};
 ghost use Rattle.plant_condense.specs.Form.{IsFormOf};
@@ -129,10 +130,10 @@ fn bounds_of(scaled: &Scaled, plan: &Chosen, controller: &Controller) -> Bounds
     requires small { plan.now.choice.eps ≤ℤ pos (2 ^ 114) }
     requires fits { let r = multiplier_of scaled.now.margin in
         undercut_bound r (violation_bound scaled.now.s r plan.now.steps (unsigned_abs plan.now.choice.eps)) ≤ 2 ^ 126 }
-    ensures margin { margin_of result ≡ scaled.now.margin }
+    ensures margin { margin_of (printed result) ≡ scaled.now.margin }
     ensures bounds { (cost : ℕ) → plan.now.choice.eps ≡ pos cost →
         controller.now.step_exponent ≡ scaled.now.s → controller.now.steps ≡ plan.now.steps → controller.now.fraction_bits ≡ plan.now.choice.f →
-        AreBoundsOf controller.now result cost }
+        AreBoundsOf controller.now (printed result) cost }
 {
     let (s, r, eps) = (scaled.s, scaled.r, plan.choice.eps);
     let violation = violation(s, r, plan.steps, eps);
@@ -166,7 +167,7 @@ fn finished(alloc: Global, design: &Design, scaled: &Scaled, plan: &Chosen) -> R
     requires cost { plan.now.choice.eps ≡ pos (stated_cost (design_of design.now) (multiplier_of scaled.now.margin) plan.now.choice.f) }
     ensures built { (plans : Plans) → IsPolicyFor (design_of design.now) plans →
         PassesBits (design_of design.now) (targets_of design.now) plans scaled.now.margin scaled.now.s plan.now.choice.f →
-        IfOk result (λ made. IsBuilt design.now plans made.controller made.bounds) }
+        IfOk result (λ made. IsBuilt design.now plans made.controller (printed made.bounds)) }
     ensures passes { (plans : Plans) →
         PassesBits (design_of design.now) (targets_of design.now) plans scaled.now.margin scaled.now.s plan.now.choice.f →
         OnOk result (PassesAll (design_of design.now) (targets_of design.now) plans scaled.now.margin scaled.now.s plan.now.choice.f) }
@@ -199,9 +200,9 @@ pub fn generate(alloc: Global, design: &Design, policy: &Policy) -> Result<Made,
     requires { IsPolicyFor (design_of design.now) (plans_of policy.now) }
 
     // What is made, and what it is certified for.
-    ensures built { IfOk result (λ made. IsBuilt design.now (plans_of policy.now) made.controller made.bounds) }
-    ensures certified { IfOk result (λ made. IsCertified (design_of design.now) made.controller made.bounds) }
-    ensures targets { IfOk result (λ made. IsWithinTargets (targets_of design.now) made.bounds) }
+    ensures built { IfOk result (λ made. IsBuilt design.now (plans_of policy.now) made.controller (printed made.bounds)) }
+    ensures certified { IfOk result (λ made. IsCertified (design_of design.now) made.controller (printed made.bounds)) }
+    ensures targets { IfOk result (λ made. IsWithinTargets (targets_of design.now) (printed made.bounds)) }
 
     // The cause of a refusal; and the other way round, with nothing but want of memory in between.
     ensures refused { IfErr result (λ e. (e ≡ Refusal.Memory) ⊎ HasCause (design_of design.now) (targets_of design.now) (plans_of policy.now) e) }

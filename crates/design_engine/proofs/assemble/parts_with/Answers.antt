@@ -11,4 +11,4 @@ returns-clause-frame c = λ r e.
     let lo : c.in_ok-clone.field-0.items ≡ c.args.parts.now.lo.items = same_from_all_zip _ _ _ c.in_ok-clone.ensures.cases.0 (λ x y h. h) in
     let hi : c.in_ok-clone-2.field-0.items ≡ c.args.parts.now.hi.items = same_from_all_zip _ _ _ c.in_ok-clone-2.ensures.cases.0 (λ x y h. h) in
     rw (to_z-of_z w128 _ f) (frame_from c.args.parts.now r c.args.chosen.s c.args.chosen.steps c.args.chosen.f _ c.args.rows c.requires.design c.requires.rows
-    refl refl refl c.rows-m.ensures.count refl refl refl refl e (omega (arith, c.rows-m.ensures.count, c.cols-nu.ensures)) lo hi refl refl refl)
+    refl refl refl refl c.rows-m.ensures.count refl refl refl refl e (omega (arith, c.rows-m.ensures.count, c.cols-nu.ensures)) lo hi refl refl refl)

@@ -5,6 +5,7 @@ use mir.Val.{SFits}
 use Rattle.qp_model.specs.Parts.{design_of}
 use Rattle.design_engine.specs.Targets.{targets_of, half_target, error_limit}
 use Rattle.qp_model.specs.Choices.{multiplier_of}
+use Rattle.qp_model.specs.Printed.{printed}
 use Rattle.design_engine.proofs.RefusalFacts.{refused_by, solve_refused, width_refused}
 use Rattle.design_engine.proofs.GenerationFacts.{half_some, half_small, limit_small, bound_some, steps_some, undercut_small, whole_is, at_most}
 use Rattle.design_engine.proofs.BuiltFacts.{built_from}
@@ -47,7 +48,7 @@ pub returns-clause-built : goal.returns-clause-built
 returns-clause-built c plans policy passes =
     let r : SFits w128 c.args.scaled.now.r = search rules in
     let made = c.in_ok-controller.ensures.made in
-    built_from c.args.design.now plans c.in_ok-controller.controller c.bounds_of-bounds.result c.args.scaled.now.margin _ _ _ _
+    built_from c.args.design.now plans c.in_ok-controller.controller (printed c.bounds_of-bounds.result) c.args.scaled.now.margin _ _ _ _
     c.requires.form.design policy passes c.requires.curved (whole_is c.args.scaled.now.r _ r c.requires.multiplier) c.requires.steps c.bounds_of-bounds.ensures.margin
     (search rules) made
     (rw (← made.fraction_bits) at (c.bounds_of-bounds.ensures.bounds _ c.requires.cost made.step_exponent made.steps made.fraction_bits))

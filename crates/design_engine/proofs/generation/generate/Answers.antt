@@ -1,6 +1,7 @@
 use Rattle.std.proofs.Common.{rules, ◌≡◌, inl, inr, ℕ, arith, refl}
 use Rattle.qp_model.specs.Parts.{design_of}
 use Rattle.qp_model.specs.Policy.{plans_of}
+use Rattle.qp_model.specs.Printed.{printed}
 use Rattle.design_engine.specs.Targets.{targets_of}
 use Rattle.design_engine.specs.Refusals.{PassesBits, PassesAll}
 use Rattle.design_engine.specs.declared.generation.Made.{Made}
@@ -59,13 +60,13 @@ pub returns-clause-certified : goal.returns-clause-certified
 returns-clause-certified c =
     let bits = c.in_ok-plan.ensures.passes (plans_of c.args.policy.now) c.in_ok-scaled.ensures.passes in
     ok_map c.finished.result _ _ (c.finished.ensures.built (plans_of c.args.policy.now) c.requires bits)
-    (λ (made : Made). built_certified c.args.design.now (plans_of c.args.policy.now) made.controller made.bounds)
+    (λ (made : Made). built_certified c.args.design.now (plans_of c.args.policy.now) made.controller (printed made.bounds))
 
 pub returns-clause-targets : goal.returns-clause-targets
 returns-clause-targets c =
     let bits = c.in_ok-plan.ensures.passes (plans_of c.args.policy.now) c.in_ok-scaled.ensures.passes in
     ok_map c.finished.result _ _ (c.finished.ensures.built (plans_of c.args.policy.now) c.requires bits)
-    (λ (made : Made). built_within c.args.design.now (plans_of c.args.policy.now) made.controller made.bounds)
+    (λ (made : Made). built_within c.args.design.now (plans_of c.args.policy.now) made.controller (printed made.bounds))
 
 pub returns-clause-refused : goal.returns-clause-refused
 returns-clause-refused c =
