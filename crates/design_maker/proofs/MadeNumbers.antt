@@ -157,6 +157,7 @@ is_design d stages p r s e =
     let violation : p.violation ≡ pos 1 = ap (λ (n : DesignNumbers). n.violation) e in
     let gap : p.gap ≡ pos 4 = ap (λ (n : DesignNumbers). n.gap) e in
     record {
+      version = refl;
       states = rw states (lit≤ tt, lit≤ tt);
       inputs = rw inputs (lit≤ tt, lit≤ tt);
       stages = rw horizon s;

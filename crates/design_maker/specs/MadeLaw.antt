@@ -3,7 +3,7 @@ use Rattle.std.specs.Prelude.{◌≡◌, ℕ, ◌<◌, List, length}
 use Rattle.integer_algebra.specs.Sums.{at}
 use Rattle.mat_int.specs.Matrix.{row_of}
 use Rattle.qp_model.specs.Box.{IsGridState}
-use Rattle.qp_model.specs.Limits.{most_stages}
+use Rattle.qp_model.specs.Limits.{text_version, most_stages}
 use Rattle.qp_model.specs.Parts.{design_numbers, design_of}
 use Rattle.qp_model.specs.Range.{LiesIn}
 use Rattle.qp_model.specs.declared.design_parts.DesignParts.{DesignParts}
@@ -28,5 +28,5 @@ AreMade seed stages first second third =
 
 -- and of each such design
 abbrev pub MadeLaw : Type 0
-MadeLaw = (seed stages : ℕ) → LiesIn 1 (most_stages 1) stages → (p : DesignParts) → design_numbers p ≡ made_numbers (drawn seed) stages
+MadeLaw = (seed stages : ℕ) → LiesIn 1 (most_stages text_version) stages → (p : DesignParts) → design_numbers p ≡ made_numbers (drawn seed) stages
     → AreMadeTexts p (design_text seed stages) (policy_text stages) states_text

@@ -1,6 +1,6 @@
 // The texts of a made design.
 ghost use Rattle.std.specs.Prelude.{◌≡◌, ◌≤◌, ◌<◌, ◌^◌, length, IfOk, string_bytes};
-ghost use Rattle.qp_model.specs.Limits.{most_stages};
+ghost use Rattle.qp_model.specs.Limits.{text_version, most_stages};
 ghost use Rattle.qp_model.specs.Lines.{text_of};
 ghost use Rattle.design_maker.specs.MadeLaw.{AreMade};
 ghost use Rattle.design_maker.specs.Texts.{cost_lines, design_lines, design_text, plant_lines, policy_line, policy_text, states_text};
@@ -36,7 +36,7 @@ pub struct Texts {
 /// Its policy coasts from every corner. The states are the corners.
 pub fn make(alloc: Global, number: u32, stages: usize) -> Result<Texts, AllocError>
     requires low { 1 ≤ stages }
-    requires high { stages ≤ most_stages 1 }
+    requires high { stages ≤ most_stages text_version }
     ensures design { IfOk result (λ texts. texts.design.items ≡ design_text number stages) }
     ensures policy { IfOk result (λ texts. texts.policy.items ≡ policy_text stages) }
     ensures states { IfOk result (λ texts. texts.states.items ≡ states_text) }
@@ -118,7 +118,7 @@ final = []
 
 // The policy: a line for each corner.
 fn policy_of(alloc: Global, stages: usize) -> Result<String, AllocError>
-    requires { stages ≤ most_stages 1 }
+    requires { stages ≤ most_stages text_version }
     ensures { IfOk result (λ text. string_bytes text ≡ policy_text stages) }
 {
     let line = coasting_line(alloc, stages)?;
