@@ -5,7 +5,7 @@ use Rattle.qp_model.specs.Policy.{Plans}
 use Rattle.qp_model.specs.Parts.{design_of}
 use Rattle.qp_model.specs.Controller.{Numbers}
 use Rattle.qp_model.specs.declared.design_parts.DesignParts.{DesignParts}
-use Rattle.qp_model.specs.declared.bounds.Bounds.{Bounds}
+use Rattle.qp_model.specs.Printed.{Printed}
 use Rattle.qp_model.specs.declared.bounds.Margin.{Margin}
 use Rattle.design_engine.specs.Targets.{targets_of}
 use Rattle.design_engine.specs.Built.{IsBuilt}
@@ -29,7 +29,7 @@ ok_not_told : {M : Type 0} (a : Result M Refusal) (x : M) (r : Refusal) → a �
 ok_not_told a x r is (inl e) = cc
 ok_not_told a x r is (inr e) = cc
 
-pub done_called : {M : Type 0} (p : DesignParts) (plans : Plans) (a : Result M Refusal) (x : M) (c : Numbers) (b : Bounds) → a ≡ Ok x → TellsEach p plans a → IsBuilt p plans c b →
+pub done_called : {M : Type 0} (p : DesignParts) (plans : Plans) (a : Result M Refusal) (x : M) (c : Numbers) (b : Printed) → a ≡ Ok x → TellsEach p plans a → IsBuilt p plans c b →
     IsAnswer (MakingCalls p plans) Done
 done_called p plans a x c b is tells built = record { called = inr (refl, built_passes p plans c b never built); only = only }
   where

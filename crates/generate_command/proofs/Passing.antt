@@ -13,7 +13,7 @@ use Rattle.qp_model.specs.Columns.{descent_size}
 use Rattle.qp_model.specs.Errors.{error_size}
 use Rattle.qp_model.specs.Controller.{Numbers}
 use Rattle.qp_model.specs.declared.design_parts.DesignParts.{DesignParts}
-use Rattle.qp_model.specs.declared.bounds.Bounds.{Bounds}
+use Rattle.qp_model.specs.Printed.{Printed}
 use Rattle.qp_model.specs.declared.bounds.Margin.{Margin}
 use Rattle.qp_model.specs.declared.quantity.Quantity.TheVariants as quantity
 use Rattle.design_engine.specs.Targets.{Targets, targets_of, half_target}
@@ -31,7 +31,7 @@ NoCause d t plans = (r : Refusal) → HasCause d t plans r → ⊥
 within : (limit size : ℕ) → (limit < size → ⊥) → size ≤ limit
 within limit size never = elim (cases_lt limit size) [ inl lt ↦ absurd (never lt) | inr le ↦ le ]
 
-margin : (p : DesignParts) (plans : Plans) (c : Numbers) (b : Bounds) → NoCause (design_of p) (targets_of p) plans → IsBuilt p plans c b → PassesMargin (design_of p) (targets_of p) plans (margin_of b)
+margin : (p : DesignParts) (plans : Plans) (c : Numbers) (b : Printed) → NoCause (design_of p) (targets_of p) plans → IsBuilt p plans c b → PassesMargin (design_of p) (targets_of p) plans (margin_of b)
 margin p plans c b none built =
     let d = design_of p in
     let prediction = within (2 ^ 126) (prediction_size d) (λ lt. none (TooWide quantity.Prediction) lt) in
@@ -56,7 +56,7 @@ all d t plans m s f none before =
       width = within (2 ^ 126) (width_size d (multiplier_of m) s (step_count s (multiplier_of m) (half_target t)) f) (λ lt. none (TooWide quantity.Width) (m, s, f, (before, descent), lt));
     }
 
-pub built_passes : (p : DesignParts) (plans : Plans) (c : Numbers) (b : Bounds) → NoCause (design_of p) (targets_of p) plans → IsBuilt p plans c b → Passes p plans
+pub built_passes : (p : DesignParts) (plans : Plans) (c : Numbers) (b : Printed) → NoCause (design_of p) (targets_of p) plans → IsBuilt p plans c b → Passes p plans
 built_passes p plans c b none built =
     let d = design_of p in
     let t = targets_of p in

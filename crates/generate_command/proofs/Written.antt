@@ -6,7 +6,7 @@ use Rattle.qp_model.specs.Policy.{Plans}
 use Rattle.qp_model.specs.Parts.{design_of}
 use Rattle.qp_model.specs.Controller.{Numbers}
 use Rattle.qp_model.specs.declared.design_parts.DesignParts.{DesignParts}
-use Rattle.qp_model.specs.declared.bounds.Bounds.{Bounds}
+use Rattle.qp_model.specs.Printed.{Printed}
 use Rattle.command_line.specs.Words.{word_of, IsGenerate}
 use Rattle.command_line.specs.Answers.{ForContents, FileHolds, IsCaused}
 use Rattle.command_line.proofs.Counts.{rose_later}
@@ -35,7 +35,7 @@ carried words held held1 held2 text report Q R same from each q = go held held2 
     go (Some files) None read q = q
     go None two read q = tt
 
-made_from : (design policy : Option (List ℕ)) (p : DesignParts) (plans : Plans) (c : Numbers) (b : Bounds) → HoldsInputs design policy p plans → IsMadeOf p plans c b → IsMadeFrom design policy c b
+made_from : (design policy : Option (List ℕ)) (p : DesignParts) (plans : Plans) (c : Numbers) (b : Printed) → HoldsInputs design policy p plans → IsMadeOf p plans c b → IsMadeFrom design policy c b
 made_from design policy p plans c b inputs made = record { p = p; plans = plans; inputs = inputs; built = made.built; certified = made.certified; targets = made.targets }
 
 module _ (words : List (List ℕ)) (p : DesignParts) (plans : Plans) (text report : List ℕ) (texts : AreTextsFor p plans (word_of words 4) text report) (files new : Files)

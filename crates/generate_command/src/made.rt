@@ -2,6 +2,7 @@
 ghost use Rattle.std.specs.Prelude.{◌≡◌, ◌≢◌, ◌⊎◌, IfOk, IfErr};
 ghost use Rattle.qp_model.specs.Parts.{design_of};
 ghost use Rattle.qp_model.specs.Policy.{plans_of, IsPolicyFor};
+ghost use Rattle.qp_model.specs.Printed.{printed};
 ghost use Rattle.command_line.specs.Answers.{IsAnswer};
 ghost use Rattle.generate_command.specs.Made.{MakingCalls, IsMadeOf, status_of};
 
@@ -27,7 +28,7 @@ fn refusal_status(refusal: Refusal) -> Status
 /// The controller and the bounds of a design with a policy, or the status that tells why there are none.
 pub fn make_controller(alloc: Global, design: &Design, policy: &Policy) -> Result<Made, Status>
     requires { IsPolicyFor (design_of design.now) (plans_of policy.now) }
-    ensures made { IfOk result (λ made. IsMadeOf design.now (plans_of policy.now) made.controller made.bounds) }
+    ensures made { IfOk result (λ made. IsMadeOf design.now (plans_of policy.now) made.controller (printed made.bounds)) }
     ensures called { IfOk result (λ _. IsAnswer (MakingCalls design.now (plans_of policy.now)) Status.Done) }
     ensures refused { IfErr result (λ e. (e ≡ Status.Memory) ⊎ IsAnswer (MakingCalls design.now (plans_of policy.now)) e) }
     ensures not_done { IfErr result (λ e. e ≢ Status.Done) }

@@ -3,6 +3,7 @@ ghost use Rattle.std.specs.Prelude.{◌≡◌, ◌≢◌, ◌⊎◌, ℕ, IfOk, 
 ghost use Rattle.io_edge.specs.Faults.{Rose, NoneFalls, IsCutShort};
 ghost use Rattle.qp_model.specs.Parts.{design_of};
 ghost use Rattle.qp_model.specs.Policy.{plans_of, IsPolicyFor};
+ghost use Rattle.qp_model.specs.Printed.{printed};
 ghost use Rattle.command_line.specs.Words.{IsGenerate};
 ghost use Rattle.command_line.specs.Answers.{IsAnswer, IsCaused};
 ghost use Rattle.generate_command.specs.Made.{MakingCalls, IsReport};
@@ -26,7 +27,7 @@ pub struct Texts {
 
 // The report in the form that its name asks for.
 fn report_for(alloc: Global, name: &str, bounds: &Bounds) -> Result<Vec<u8>, AllocError>
-    ensures { IfOk result (λ v. IsReport name.now bounds.now v.items) }
+    ensures { IfOk result (λ v. IsReport name.now (printed bounds.now) v.items) }
 {
     if is_json(name) {
         report_json(alloc, bounds)
