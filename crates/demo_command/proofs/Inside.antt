@@ -9,7 +9,7 @@ use Rattle.qp_model.specs.Policy.{Plans}
 use Rattle.qp_model.specs.Design.{Design}
 use Rattle.qp_model.specs.Controller.{Numbers}
 use Rattle.qp_model.specs.declared.design_parts.DesignParts.{DesignParts}
-use Rattle.qp_model.specs.declared.bounds.Bounds.{Bounds}
+use Rattle.qp_model.specs.Printed.{Printed}
 use Rattle.policy_file.specs.StatesText.{IsStatesText}
 use Rattle.design_maker.specs.Texts.{states_text}
 use Rattle.solve_command.specs.Inside.{AreInside}
@@ -32,7 +32,7 @@ inside d c states sizes text box e l = record {
       };
 }
 
-pub shown : (number : ℕ) (p : DesignParts) (plans : Plans) (c : Numbers) (b : Bounds) (states : Matrix) → AreMadeFrom number p plans → IsMadeOf p plans c b →
+pub shown : (number : ℕ) (p : DesignParts) (plans : Plans) (c : Numbers) (b : Printed) (states : Matrix) → AreMadeFrom number p plans → IsMadeOf p plans c b →
     IsStatesText states_text (design_of p).states states → AreInBox (design_of p) states → IsShown number c b states
 shown number p plans c b states texts made text box = record {
   p = p;

@@ -9,7 +9,7 @@ use Rattle.qp_model.specs.Controller.{Numbers}
 use Rattle.qp_model.specs.Lines.{spaced}
 use Rattle.qp_model.specs.Machine.{average_denominator, averaged_plan}
 use Rattle.qp_model.specs.ControllerText.{plan_line}
-use Rattle.qp_model.specs.declared.bounds.Bounds.{Bounds}
+use Rattle.qp_model.specs.Printed.{Printed}
 use Rattle.bound_report.specs.Report.{report_text}
 use Rattle.solve_command.specs.Lines.{plan_lines}
 use Rattle.solve_command.specs.Printing.{ArePrinted, AreFirstLines}
@@ -55,7 +55,7 @@ second_cut old new one two some p = record {
     left (inl none) = absurd (omega (arith, none, some))
     left (inr rest) = rest
 
-module _ (c : Numbers) (b : Bounds) (states : Matrix) where
+module _ (c : Numbers) (b : Printed) (states : Matrix) where
   -- ---- the report, and then the lines
   pub report_cut : (old new : List ℕ) → 0 < length states.rows → GrowsByPart old new (report_text b) → IsTextPrinted c b states (WriteFault 0) old new
   report_cut old new some p = record {

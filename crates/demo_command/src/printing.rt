@@ -1,6 +1,7 @@
 // The text that is printed.
 ghost use Rattle.std.specs.Prelude.{◌≡◌, ◌⊎◌, ◌≤◌, ◌<◌, length, IfSome, IsSomeAnd};
 ghost use Rattle.io_edge.specs.Faults.{Rose};
+ghost use Rattle.qp_model.specs.Printed.{printed};
 ghost use Rattle.solve_command.specs.Inside.{AreInside};
 ghost use Rattle.demo_command.specs.Demo.{IsTextPrinted};
 
@@ -25,7 +26,7 @@ pub fn print_text<O: Sink>(
     requires inside { AreInside controller.now states.now (length states.now.rows) }
     requires some { 0 < length states.now.rows }
     ensures only { (result ≡ Status.Memory) ⊎ ((result ≡ Status.Done) ⊎ (result ≡ Status.WriteFault 0)) }
-    ensures printed { IfSome (O.got out.old) (λ old. IsSomeAnd (O.got out.new) (IsTextPrinted controller.now bounds.now states.now result old)) }
+    ensures printed { IfSome (O.got out.old) (λ old. IsSomeAnd (O.got out.new) (IsTextPrinted controller.now (printed bounds.now) states.now result old)) }
     ensures failed { result ≡ Status.WriteFault 0 → Rose (O.faults out.old) (O.faults out.new) }
     ensures no_fewer { O.faults out.old ≤ O.faults out.new }
 {

@@ -1,6 +1,7 @@
 use Rattle.std.proofs.Common.{sym, subst}
 use Rattle.qp_model.specs.Parts.{design_of}
 use Rattle.qp_model.specs.Policy.{plans_of}
+use Rattle.qp_model.specs.Printed.{printed}
 use Rattle.command_line.specs.Answers.{IsAnswer}
 use Rattle.command_line.specs.declared.status.Status.{Status}
 use Rattle.command_line.specs.declared.status.Status.TheVariants.{Done}
@@ -24,7 +25,7 @@ returns-in-Ok-make_controller-clause-called g c = λ caused.
 pub returns-in-Ok-make_controller-clause-prints : goal.returns-in-Ok-make_controller-clause-prints
 returns-in-Ok-make_controller-clause-prints g c =
     let controller = c.in-Ok-make_controller.made.controller in
-    let bounds = c.in-Ok-make_controller.made.bounds in
+    let bounds = printed c.in-Ok-make_controller.made.bounds in
     let states = c.in-Ok.inputs.states in
     let is =
     shown c.args.number c.in-Ok.inputs.design (plans_of c.in-Ok.inputs.policy) controller bounds states c.in-Ok.ensures.made c.in-Ok-make_controller.ensures.made c.in-Ok.ensures.states c.in-Ok.ensures.inside
