@@ -19,7 +19,8 @@ use Rattle.qp_model.specs.AbsoluteSums.{IsController, plan_magnitudes}
 use Rattle.qp_model.specs.Successor.{IsFor, grid_scale, next_sum}
 use Rattle.qp_model.specs.LoopSize.{coordinate_magnitude, state_absolute_sum, input_absolute_sum, turn_absolute_sum, turn_size}
 use Rattle.qp_model.proofs.SizeFacts.{greatest_term}
-use Rattle.overflow_check.proofs.Runs.{state_within, after_sums_le}
+use Rattle.qp_model.proofs.MagnitudeLaws.{state_within}
+use Rattle.overflow_check.proofs.Runs.{after_sums_le}
 use Rattle.fixed_kernel.proofs.Rooms.{fit}
 
 -- ---- sums
