@@ -1,8 +1,10 @@
 """Changed and random texts for run.py: designs, policies, controllers and states, most of them near to what is accepted."""
 import os
 import re
+from math import ceil
 
 import control
+import forms
 import model
 import program
 
@@ -161,6 +163,62 @@ def large_design(pick):
           "target_den": power(20), "violation": min(top, power(31)), "gap": min(top, power(31))}
     policy = "".join(",".join(["1", *["0"] * (p * stages)]) + "\n" for _ in range(2**n))
     return design_text(v), policy.encode()
+
+
+# what a design's numbers are over; a border design has one of these brought to the border
+DENS = ["den", "limit_den", "cost_den", "row_den"]
+
+
+def over(real, dens):
+    """The numbers of a design that nearly has these real ones, over these denominators, with bounds rounded up."""
+    most = 2**31 - 1
+    near = lambda den, rows, low=-most, to=round: [[min(most, max(low, to(den * x))) for x in row] for row in rows]
+    ended = lambda den, rows, end_den, to: [row + end for row, end in zip(near(den, [r[:-1] for r in rows]), near(end_den, [r[-1:] for r in rows], to=to))]
+    weighted = lambda rows: ended(dens["row_den"], rows, dens["cost_den"], round)
+    bounded = lambda rows: ended(dens["limit_den"], rows, dens["limit_den"], ceil)
+    return {**real, **dens, "a": near(dens["den"], real["a"]), "b": near(dens["den"], real["b"]), "input": near(dens["cost_den"], [real["input"]], 1)[0],
+            "cost": weighted(real["cost"]), "final_cost": weighted(real["final_cost"]), "rows": bounded(real["rows"]), "final_rows": bounded(real["final_rows"])}
+
+
+def real_design(pick):
+    """Real numbers of a design; the bounds of its rows are 0."""
+    stages = pick.choice([1, 1, 2, 2, 3, 3, 4, 5, 7, 10, 20])
+    n, p = pick.choice([1, 1, 1, 2, 2, 3, 4]), pick.choice([1, 1, 2, 3] if stages < 10 else [1, 1, 1, 2])
+    some = lambda count, reach: [pick.choice([0, pick.uniform(-reach, reach), pick.uniform(-reach, reach), reach]) for _ in range(count)]
+    many = lambda counts, make: [make() for _ in range(pick.choice(counts))]
+    cost = lambda: [*some(n, 2), pick.choice([0, 0, pick.uniform(-1, 1)]), pick.choice([0, pick.uniform(0, 4), 1, 1, 100])]
+    growth, steep = pick.choice([0.5, 1, 1, 1.2, 2]), pick.choice([1, 1, 1, 4, 4, 1000, 2**20])
+    target_den, violation, gap = pick.choice([(4, 16, 100), (4, 16, 1), (1, 1000, 10**5), (1, 1, 1), (1, 2**31 - 1, 2**31 - 1), (2**20, 2**31 - 1, 1), (2**20, 2**24, 2**12)])
+    return {"n": n, "p": p, "stages": stages, "a": [some(n, growth / n) for _ in range(n)], "b": [some(p, pick.choice([0.1, 1])) for _ in range(n)],
+            "input": [pick.choice([1, pick.uniform(0.01, 8)]) for _ in range(p)], "cost": many([0, 1, 2], cost), "final_cost": many([0, 0, 1], cost),
+            "rows": many([1, 1, 2, 3], lambda: [*some(n + p, steep), 0]), "final_rows": many([0, 1], lambda: [*some(n, 1), 0]),
+            "grid": pick.choice([0, 0, 0, 1, 3]), "lo": [pick.choice([-1, 0]) for _ in range(n)], "hi": [pick.choice([1, 1, 0]) for _ in range(n)],
+            "target_den": target_den, "violation": violation, "gap": gap}
+
+
+def border_design(pick):
+    """A design, with a policy of no input, whose exact numbers or whose enclosures pass the limit by little or stay below it by little: its real numbers are
+    drawn, and then what they are over is chosen."""
+    real, is_fine = real_design(pick), pick.random() < 0.3
+    stages, rows, entries = real["stages"], len(real["rows"]), real["p"] * real["stages"]
+    power = lambda most: min(2**most, max(1, (1 << pick.randrange(most + 1)) + pick.choice([0, 0, 0, -1, 1])))
+    dens = {"den": power(min(20, 56 // stages)), "limit_den": power(pick.choice([3, 20, 20])), "cost_den": power(pick.choice([12, 20])), "row_den": power(pick.choice([6, 20]))}
+    knob = pick.choice(DENS[1:] if is_fine else DENS + ["den"] * 4)
+    read = lambda den: model.read_design(design_text(over(real, {**dens, knob: den})))
+    # where no input moves, each row keeps some slack
+    coasting = read(1024)
+    residuals, slack = [coasting.residuals(x, [0] * entries) for x in coasting.corners()], pick.choice([2**-15, 0.01, 0.1, 0.1, 1, 1, 1, 3])
+    for i, row in enumerate(real["rows"] + real["final_rows"]):
+        own = slice(i, rows * stages, rows) if i < rows else slice(rows * (stages - 1) + i, rows * (stages - 1) + i + 1)
+        row[-1] = float(max(max(r[own]) for r in residuals)) + slack + pick.choice([0, 0, 0, 1])
+    # the exponent that covers the squares is a ratio, and hardly depends on what the numbers are over
+    form = (forms.fine_form if is_fine else forms.exact_form)(coasting)
+    low, high = 0, 2**20
+    while low < high:
+        middle = (low + high + 1) // 2
+        low, high = (middle, high) if forms.is_within_limit(read(middle), form) else (low, middle - 1)
+    den = min(2**20, max(1, pick.choice([low, low + 1, low + 1, low + 2, low + pick.randrange(9), 2 * low, 16 * low, pick.randrange(1, 2**20)])))
+    return design_text(over(real, {**dens, knob: den})), ("1" + ",0" * entries + "\n").encode() * 2 ** real["n"]
 
 
 def examples():

@@ -12,10 +12,14 @@ from dataclasses import dataclass
 from fractions import Fraction
 from math import isqrt
 
+import forms
+from forms import LIMIT, ceil_div
+
 sys.set_int_max_str_digits(0)
 csv.field_size_limit(2**31 - 1)
 
-LIMIT = 2**126
+# Whether the program makes a controller of enclosures where the exact numbers pass the limit; where not, it refuses the design by the first that does.
+ENCLOSES = False
 NUMERATOR = 2**31 - 1
 TABLES = ["plant", "cost", "limits", "box", "targets"]
 KEYS = {
@@ -30,10 +34,6 @@ KEYS = {
 
 class Refused(Exception):
     """The status, and the words that its line carries."""
-
-
-def ceil_div(a, b):
-    return -((-a) // b)
 
 
 # ---- texts
@@ -169,6 +169,14 @@ class Design:
         self.target_den, self.violation, self.gap = v[18:]
         self.entries = self.inputs * self.stages
         self.rows = self.stages * len(self.stage_rows) + len(self.final_rows)
+        # each cost row that counts, with its stage
+        self.counted = [(r, k) for k in range(1, self.stages + 1) for r in self.stage_cost] + [(r, self.stages) for r in self.final_cost]
+        # what the quantities are made of
+        total = lambda rows: max((sum(map(abs, r)) for r in rows), default=0)
+        self.growth = max(self.plant_den, total([a + b for a, b in zip(self.a, self.b)]))
+        self.cost_width = max(self.row_den, total([r[:-1] for r, _ in self.counted]))
+        self.limit_width = max(self.limit_den, total(self.stage_rows + self.final_rows))
+        self.weights = self.cost_den + sum(r[-1] for r, _ in self.counted) + self.stages * sum(self.input_weights)
 
     def trajectory(self, x, u):
         states = [x]
@@ -182,8 +190,7 @@ class Design:
 
     def cost(self, x, u):
         states, n = self.trajectory(x, u), self.states
-        counted = [(r, k) for k in range(1, self.stages + 1) for r in self.stage_cost] + [(r, self.stages) for r in self.final_cost]
-        value = sum(Fraction(r[n + 1], self.cost_den) * ((sum(c * s for c, s in zip(r, states[k])) - r[n]) / Fraction(self.row_den)) ** 2 for r, k in counted)
+        value = sum(Fraction(r[n + 1], self.cost_den) * ((sum(c * s for c, s in zip(r, states[k])) - r[n]) / Fraction(self.row_den)) ** 2 for r, k in self.counted)
         return value + sum(Fraction(self.input_weights[j % self.inputs], self.cost_den) * u[j] ** 2 for j in range(self.entries))
 
     def residuals(self, x, u):
@@ -199,41 +206,6 @@ class Design:
     def corners(self):
         for c in range(2**self.states):
             yield [Fraction(self.hi[i] if c >> i & 1 else self.lo[i], 2**self.grid) for i in range(self.states)]
-
-    def condensed(self):
-        """Q (half the hessian), F, h0, G, E and b, as whole numbers."""
-        n, p, nu, a = self.states, self.inputs, self.entries, self.plant_den
-        free = [[[int(i == j) for j in range(n)] for i in range(n)]]
-        response = [[[0] * nu for _ in range(n)]]
-        for k in range(self.stages):
-            free.append([[sum(self.a[i][h] * free[-1][h][j] for h in range(n)) for j in range(n)] for i in range(n)])
-            response.append([[
-                sum(self.a[i][h] * response[-1][h][j] for h in range(n)) + (a**k * self.b[i][j % p] if j // p == k else 0) for j in range(nu)
-            ] for i in range(n)])
-        power = a**self.stages
-        lift = lambda k: a ** (self.stages - k)
-        of = lambda r, m, k, j: lift(k) * sum(r[i] * m[k][i][j] for i in range(n))
-        counted = [(r, k) for k in range(1, self.stages + 1) for r in self.stage_cost] + [(r, self.stages) for r in self.final_cost]
-        plan = [[of(r, response, k, j) for j in range(nu)] for r, k in counted]
-        state = [[of(r, free, k, j) for j in range(n)] for r, k in counted]
-        weight = [r[n + 1] for r, _ in counted]
-        target = [power * r[n] for r, _ in counted]
-        every = range(len(counted))
-        q = [[sum(weight[c] * plan[c][i] * plan[c][j] for c in every) + (self.input_weights[i % p] * (self.row_den * power) ** 2 if i == j else 0)
-              for j in range(nu)] for i in range(nu)]
-        f = [[2 * sum(weight[c] * plan[c][j] * state[c][i] for c in every) for i in range(n)] for j in range(nu)]
-        h0 = [-2 * sum(weight[c] * plan[c][j] * target[c] for c in every) for j in range(nu)]
-        g, e, b = [], [], []
-        for k in range(self.stages):
-            for r in self.stage_rows:
-                g.append([of(r, response, k, j) + (lift(k) * a**k * r[n + j % p] if j // p == k else 0) for j in range(nu)])
-                e.append([of(r, free, k, j) for j in range(n)])
-                b.append(power * r[-1])
-        for r in self.final_rows:
-            g.append([of(r, response, self.stages, j) for j in range(nu)])
-            e.append([of(r, free, self.stages, j) for j in range(n)])
-            b.append(power * r[-1])
-        return q, f, h0, g, e, b
 
 
 # ---- the step exponent
@@ -267,17 +239,18 @@ def has_certificate(m):
     return is_dominant([[b[i][j] - sum(root[i][k] * root[j][k] for k in size) for j in size] for i in size])
 
 
-def step_exponent(d, q, g, hessian, rows):
-    nu, power = d.entries, d.plant_den**d.stages
-    squares = sum(v * v for r in g for v in r)
-    covers = lambda s: d.cost_den * squares <= 2**s * min(d.input_weights) * d.limit_den**2 * power**2
-    by_squares = 0
-    while not covers(by_squares):
-        by_squares += 1
-    if 2 ** min(by_squares, 40) * d.limit_den**2 * hessian + d.cost_den * d.row_den**2 * rows > LIMIT:
-        raise Refused(10, "curvature")
-    gram = [[sum(r[i] * r[j] for r in g) for j in range(nu)] for i in range(nu)]
-    gap = lambda s: [[2**s * d.limit_den**2 * q[i][j] - d.cost_den * d.row_den**2 * gram[i][j] for j in range(nu)] for i in range(nu)]
+def step_exponent(d, form):
+    """The step exponent, or the status 7."""
+    of_cost, of_rows = d.limit_den**2, d.cost_den * d.row_den**2
+
+    def gap(s):
+        """What the exponent leaves of the curvature over the squares of the rows; each diagonal entry is lowered by the radii of its row."""
+        left = [[2**s * of_cost * q.mid - of_rows * v.mid for q, v in zip(*rows)] for rows in zip(form.q, form.gram)]
+        for i, rows in enumerate(zip(form.q, form.gram)):
+            left[i][i] -= sum(2**s * of_cost * q.rad + of_rows * v.rad for q, v in zip(*rows))
+        return left
+
+    by_squares = forms.squares_exponent(d, form)
     plain = next((s for s in range(min(by_squares, 40) + 1) if is_dominant(gap(s))), by_squares)
     plain = min(plain, by_squares)
     if plain > 40:
@@ -292,6 +265,79 @@ def limited(value, name):
     if value > LIMIT:
         raise Refused(10, name)
     return value
+
+
+def margins(d, plans):
+    """The least slack of the corners in units of 2^-16, rounded down, and their greatest cost, rounded up; or Refused."""
+    big, reach = limited(d.growth**d.stages, "prediction"), max(map(abs, d.lo + d.hi))
+    z = max(max(q * 2**d.grid, q * reach, 2**d.grid * max(map(abs, u))) for q, u in plans)
+    limited(2**17 * d.limit_width * big * z, "corner_slack")
+    limited(d.weights * (d.cost_width * big * z) ** 2, "corner_cost")
+    slack, dearest = None, Fraction(0)
+    for c, x in enumerate(d.corners(), 1):
+        q, plan = plans[c - 1]
+        u = [Fraction(v, q) for v in plan]
+        for row, residual in enumerate(d.residuals(x, u), 1):
+            if -residual < Fraction(1, 2**16):
+                over = d.limit_den * q * 2**d.grid * d.plant_den**d.stages
+                raise Refused(6, c, row, int(-residual * over), over)
+            slack = -residual if slack is None else min(slack, -residual)
+        dearest = max(dearest, d.cost(x, u))
+    return (2**16 * slack).__floor__(), dearest.__ceil__()
+
+
+def form_of(d):
+    """What a controller is made of: exact numbers, or enclosures where a quantity of these passes the limit."""
+    exact = forms.exact_form(d)
+    return exact if forms.is_within_limit(d, exact) or not ENCLOSES else forms.fine_form(d)
+
+
+def gain_floor(d, form):
+    """What the matrix that gains are solved with bends each list up by at least."""
+    return min(d.limit_den * (2 * min(d.input_weights) * form.hess_den // d.cost_den - form.hess_rad), LIMIT)
+
+
+class Errors:
+    """What rounding and the radii cost, where multipliers go up to 2 r: at each number f of bits the bound on an entry of the plan, by what the radii move the
+    gradient, and epsilon; and the quantity `error`."""
+
+    def __init__(self, d, form, r):
+        sums = lambda rows, den: ceil_div(sum(v.far for row in rows for v in row), den)
+        radii = lambda rows: [sum(v.rad for v in row) for row in rows]
+        self.d, self.rho, self.top, self.box = d, min(d.input_weights), 2 * r, ceil_div(max(map(abs, d.lo + d.hi)), 2**d.grid)
+        # the square of a sum of two errors is at most twice the sum of their squares
+        self.twice = 2 if form.is_fine else 1
+        spread = d.states * self.box + 1 + d.rows * self.top
+        self.pull = d.cost_den * (self.box * sums(form.f, form.hess_den) + sums([form.h0], form.hess_den) + self.top * sums(form.g, form.row_den))
+        self.tail = d.cost_den * spread * ceil_div(sum(2 * form.q[j][j].far for j in range(d.entries)), form.hess_den)
+        gradient = [ceil_div(row[j].far, form.hess_den) * spread + ceil_div(sum(2 * v.far for v in row), form.hess_den) for j, row in enumerate(form.q)]
+        self.squares = d.cost_den * sum(v * v for v in gradient)
+        self.first = ceil_div(self.squares, 2 * self.rho)
+        self.hess_rad, self.state_pull = form.hess_rad, self.box * max(radii(form.f)) + max(v.rad for v in form.h0)
+        self.column_pull = self.top * max(radii(zip(*form.g)))
+        self.plan_rad, self.state_rad = sum(radii(form.g)), self.box * sum(radii(form.e))
+
+    def plan(self, f):
+        return self.twice * (ceil_div(self.pull, 2 * self.rho) + ceil_div(self.tail, 2 ** (f + 2) * self.rho)) + 1
+
+    def residual(self, f):
+        return self.d.entries * self.plan(f) + self.d.states * self.box + 3
+
+    def by_radii(self, f):
+        return ceil_div(self.plan(f) * self.hess_rad + self.state_pull, self.d.cost_den * self.d.row_den**2) + ceil_div(self.column_pull, self.d.limit_den)
+
+    def of_rows(self, f):
+        return self.top * (self.plan(f) * self.plan_rad + self.state_rad)
+
+    def epsilon(self, f):
+        return (ceil_div(self.twice * 2**40 * self.first, 4**f) + ceil_div(2**40 * self.top * self.d.rows * self.residual(f), 2 ** (f + 1))
+                + ceil_div(self.d.entries * self.d.cost_den * self.by_radii(f) ** 2, 2**40 * self.rho) + ceil_div(self.of_rows(f), self.d.limit_den))
+
+    @property
+    def size(self):
+        rounding = self.pull + self.tail + self.squares + 2**40 * (self.first + self.top * self.d.rows * self.residual(0))
+        radii = self.d.cost_den * self.d.entries * self.by_radii(0) ** 2 + self.plan(0) * self.hess_rad + self.state_pull + self.column_pull + self.of_rows(0)
+        return self.twice**2 * rounding + radii
 
 
 @dataclass
@@ -314,71 +360,40 @@ class Choice:
 def choose(d, plans):
     """The choice, or Refused."""
     n, nu, m, g = d.states, d.entries, d.rows, d.grid
-    total = lambda rows: max((sum(map(abs, r)) for r in rows), default=0)
-    growth = max(d.plant_den, *(sum(map(abs, d.a[i])) + sum(map(abs, d.b[i])) for i in range(n)))
-    big = limited(growth**d.stages, "prediction")
-    reach = max(map(abs, d.lo + d.hi))
-    z = max(max(q * 2**g, q * reach, 2**g * max(map(abs, u))) for q, u in plans)
-    width = max(d.limit_den, total(d.stage_rows + d.final_rows))
-    cost_width = max(d.row_den, total([r[:-1] for r in d.stage_cost + d.final_cost]))
-    weights = d.cost_den + d.stages * (sum(r[-1] for r in d.stage_cost) + sum(d.input_weights)) + sum(r[-1] for r in d.final_cost)
-    limited(2**17 * width * big * z, "corner_slack")
-    limited(weights * (cost_width * big * z) ** 2, "corner_cost")
-    slack, dearest = None, Fraction(0)
-    for c, x in enumerate(d.corners(), 1):
-        u = [Fraction(v, plans[c - 1][0]) for v in plans[c - 1][1]]
-        for row, residual in enumerate(d.residuals(x, u), 1):
-            if -residual < Fraction(1, 2**16):
-                over = d.limit_den * plans[c - 1][0] * 2**g * d.plant_den**d.stages
-                raise Refused(6, c, row, int(-residual * over), over)
-            slack = -residual if slack is None else min(slack, -residual)
-        dearest = max(dearest, d.cost(x, u))
-    margin, cost = (2**16 * slack).__floor__(), dearest.__ceil__()
+    margin, cost = margins(d, plans)
     r = max(1, ceil_div(2**16 * cost, margin))
     limited(max(2**16 * cost, 2**82 * r), "multiplier")
-    hessian = limited(2 * nu * (nu + n + 1) * weights * (cost_width * big) ** 2, "hessian")
-    rows = limited((nu + n + 1) * m * (width * big) ** 2, "rows")
-    q, f_rows, h0, g_rows, e_rows, b = d.condensed()
-    s = step_exponent(d, q, g_rows, hessian, rows)
+    form = form_of(d)
+    for name, size in forms.sizes(d, form).items():
+        limited(size, name)
+    s = step_exponent(d, form)
     half, gap_target = 2**39 * d.violation // d.target_den, 2**40 * d.gap // d.target_den
     k = ceil_div(2 ** (s + 41) * r, half)
     if k > 2**22:
         raise Refused(8, k)
-    rho, power = min(d.input_weights), d.plant_den**d.stages
-    hess_den, row_den, top = d.cost_den * (d.row_den * power) ** 2, d.limit_den * power, 2 * r
-    box = ceil_div(reach, 2**g)
-    spread = n * box + 1 + m * top
-    sums = lambda rs, den: ceil_div(sum(abs(v) for row in rs for v in row), den)
-    pull = d.cost_den * (box * sums(f_rows, hess_den) + sums([h0], hess_den) + top * sums(g_rows, row_den))
-    trace = ceil_div(sum(2 * q[j][j] for j in range(nu)), hess_den)
-    errors = [ceil_div(2 * q[j][j], 2 * hess_den) * spread + ceil_div(sum(2 * abs(v) for v in q[j]), hess_den) for j in range(nu)]
-    squares = d.cost_den * sum(v * v for v in errors)
-    first = ceil_div(squares, 2 * rho)
-    bound = lambda f: ceil_div(pull, 2 * rho) + ceil_div(d.cost_den * spread * trace, 2 ** (f + 2) * rho) + 1
-    epsilon = lambda f: ceil_div(2**40 * first, 4**f) + ceil_div(2**40 * top * m * (nu * bound(f) + n * box + 3), 2 ** (f + 1))
-    limited(pull + d.cost_den * spread * trace + squares + 2**40 * (first + top * m * (nu * bound(0) + n * box + 3)), "error")
-    f = next((f for f in range(g, 49) if epsilon(f) <= min(gap_target, r * half)), None)
+    errors = Errors(d, form, r)
+    limited(errors.size, "error")
+    f = next((f for f in range(g, 49) if errors.epsilon(f) <= min(gap_target, r * half)), None)
     if f is None:
-        raise Refused(9, epsilon(48))
-    matrix = [[2 * d.limit_den * v for v in row] for row in q]
-    columns = [[d.limit_den * f_rows[j][i] for j in range(nu)] for i in range(n)] + [[d.limit_den * v for v in h0]]
-    columns += [[d.cost_den * d.row_den**2 * power * v for v in row] for row in g_rows]
-    floor = min(2 * d.limit_den * (d.row_den * power) ** 2 * rho, LIMIT)
+        raise Refused(9, errors.epsilon(48))
+    matrix = [[2 * d.limit_den * v.mid for v in row] for row in form.q]
+    columns = [[d.limit_den * v.mid for v in column] for column in [*zip(*form.f), form.h0]] + [[form.row_factor * v.mid for v in row] for row in form.g]
     sizes = [sum(map(abs, c)) for c in columns]
-    bounds = [ceil_div(2 ** (f + 1) * c, floor) for c in sizes]
-    limited(2 * total(matrix) * (max(bounds) + 1) + 2 ** (f + 1) * max(sizes), "descent")
-    nearest = lambda v: (2 * 2**f * v + row_den) // (2 * row_den)
-    clamp = top * 2 ** (f + s)
+    bounds = [ceil_div(2 ** (f + 1) * c, gain_floor(d, form)) for c in sizes]
+    limited(2 * max(sum(map(abs, row)) for row in matrix) * (max(bounds) + 1) + 2 ** (f + 1) * max(sizes), "descent")
+    nearest = lambda v: (2 * 2**f * v + form.row_den) // (2 * form.row_den)
+    scaled = lambda rows: [[nearest(v.mid) for v in row] for row in rows]
+    clamp = errors.top * 2 ** (f + s)
+    rows, states, limits = scaled(form.g), scaled(form.e), [nearest(v) for v in form.b]
     reaches = [max(abs(l), abs(h)) * 2 ** (f - g) for l, h in zip(d.lo, d.hi)]
-    entry = 2**s * (sum(c * x for c, x in zip(bounds, reaches)) + bounds[n] * 2**f) + sum(bounds[n + 1 :]) * clamp
+    entry = 2**s * (forms.dot(bounds, reaches) + bounds[n] * 2**f) + sum(bounds[n + 1 :]) * clamp
     plan = ceil_div(entry, 2 ** (f + s))
-    row_sums = [sum(abs(nearest(v)) * plan for v in g_rows[i]) + sum(abs(nearest(v)) * x for v, x in zip(e_rows[i], reaches)) + 2**f * abs(nearest(b[i])) for i in range(m)]
+    row_sums = [sum(map(abs, row)) * plan + forms.dot(map(abs, state), reaches) + 2**f * abs(limit) for row, state, limit in zip(rows, states, limits)]
     greatest = limited(max(reaches + [entry, k * plan] + row_sums + [clamp + ceil_div(v, 2**f) for v in row_sums]), "width")
-    violation = ceil_div(2 ** (s + 41) * r, k) + ceil_div(epsilon(f), r)
+    violation = ceil_div(2 ** (s + 41) * r, k) + ceil_div(errors.epsilon(f), r)
     report = {"margin": margin, "cost": cost, "multiplier": r, "step": s, "steps": k, "bits": f, "words": n + m + 2 * nu,
-              "violation": violation, "gap": epsilon(f), "undercut": r * violation}
-    scaled = lambda rs: [[nearest(v) for v in row] for row in rs]
-    return Choice(d, report, clamp, scaled(g_rows), scaled(e_rows), scaled([b])[0], matrix, columns, bounds, greatest)
+              "violation": violation, "gap": errors.epsilon(f), "undercut": r * violation}
+    return Choice(d, report, clamp, rows, states, limits, matrix, columns, bounds, greatest)
 
 
 def why_no_gains(choice, solutions):

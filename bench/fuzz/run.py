@@ -7,7 +7,9 @@ For each of COUNT (1000) cases the exit status, the line on standard error, stan
 determined: they are taken from the controller that the program wrote, once they are known to solve their systems. Each run of a controller is made with every
 product and partial sum traced, and all must fit its width; but a run of many steps of a controller that isn't of the kind `controller` only has its sums compared.
 
-A case is made of the seed and its number alone. --case runs one again and shows it; --kind makes all cases of that kind: generate, solve, controller, loop, demo, usage.
+A case is made of the seed and its number alone. --case runs one again and shows it; --kind makes all cases of that kind: generate, border, solve, controller, loop,
+demo, usage. A border design's exact numbers, or its enclosures, pass the limit by little or stay below it by little. Of each, the model's exact numbers must be the
+simulated plant's, its enclosures must hold them, and its class is counted beside its status.
 Two sorts of case are counted apart. A design that TOML 1.1 reads and Python's reader (1.0) doesn't must still end with a status of generate. Where a run would be
 too long for the model, its status, its line and the number of lines are compared, and not the sums.
 """
@@ -24,10 +26,11 @@ import tempfile
 sys.path.insert(0, os.path.dirname(os.path.abspath(__file__)))
 import cases
 import control
+import forms
 import model
 import program
 
-KINDS = ["generate"] * 34 + ["solve"] * 26 + ["controller"] * 18 + ["loop"] * 18 + ["usage"] * 4
+KINDS = ["generate"] * 30 + ["border"] * 4 + ["solve"] * 26 + ["controller"] * 18 + ["loop"] * 18 + ["usage"] * 4
 DEMO_EVERY = 2500
 # the most products that the model makes in a case, and the most in a run whose every value it traces
 MOST_PRODUCTS, MOST_TRACED = 3_000_000, 60_000
@@ -66,6 +69,10 @@ class Maker:
     def generate(self, pick):
         design, policy = cases.design_and_policy(pick, self.designs)
         return Case("generate", ["generate", "d", "p", "c", pick.choice(["r", "r", "r.json", ".json", "r.JSON", "json"])], {"d": design, "p": policy})
+
+    def border(self, pick):
+        design, policy = cases.border_design(pick)
+        return Case("border", ["generate", "d", "p", "c", "r"], {"d": design, "p": policy})
 
     def solve(self, pick):
         text = pick.choice(self.controllers)[1]
@@ -174,7 +181,12 @@ class Runner:
         read = lambda name: case.files.get(os.path.normpath(name)) if name else None
         write = lambda name: name not in ("", ".", "./", "./.") and "no/" not in name
         written = lambda: next((left[name] for name in map(os.path.normpath, case.words[3:4]) if name in left), None)
-        return self.compare(case, ran, left, read, write, lambda choice: gains_of(choice, written()))
+        wrong, status, notes = self.compare(case, ran, left, read, write, lambda choice: gains_of(choice, written()))
+        if case.kind == "border":
+            d = model.read_design(case.files["d"])
+            wrong = "; ".join(filter(None, [wrong, forms.fault(d)])) or None
+            notes = [*notes, f"a border design, {'exact' if forms.is_within_limit(d, forms.exact_form(d)) else 'fine'}, {ending(ran.stderr)}"]
+        return wrong, status, notes
 
     def compare(self, case, ran, left, read, write, gains):
         budget, notes = [MOST_PRODUCTS], []
@@ -235,6 +247,12 @@ class Runner:
         said = program.answer(case.words, None, None, gains)
         well = (ran.returncode, ran.stderr, ran.stdout, self.left()) == (said.status, said.line, b"".join(said.out), {})
         return None if well else f"status {ran.returncode} {ran.stderr[:200]!r} {ran.stdout[:400]!r}, not {said.status} {b''.join(said.out)[:400]!r}", said.status, []
+
+
+def ending(line):
+    """A status line in short."""
+    words = line.decode("latin-1").split()
+    return " ".join(words[2:4] if "too-wide" in words else words[2:3]) or "accepted"
 
 
 def notes_of_run(case, c, least, greatest):
@@ -305,7 +323,7 @@ def main():
     parser.add_argument("--cases", type=int, default=1000)
     parser.add_argument("--seed", type=int, default=1)
     parser.add_argument("--jobs", type=int, default=os.cpu_count())
-    parser.add_argument("--kind", choices=["generate", "solve", "controller", "loop", "demo", "usage"])
+    parser.add_argument("--kind", choices=["generate", "border", "solve", "controller", "loop", "demo", "usage"])
     parser.add_argument("--case", type=int)
     options = parser.parse_args()
     options.program = os.path.abspath(options.program)

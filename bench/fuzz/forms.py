@@ -1,0 +1,192 @@
+"""A design's condensed form: half the hessian, the linear part and the constant of its cost, and its limit rows, each number with how far the exact one may be.
+
+One recipe makes both classes of form. Exact numbers are over the plant's denominator to the power of the stages, where every division comes out even and no
+radius is left. Enclosures are over 2^40 and rounded, for designs whose exact numbers would pass the limit. All in whole numbers, with no code of the program's.
+"""
+from dataclasses import dataclass
+from fractions import Fraction
+from operator import mul
+from typing import NamedTuple
+
+LIMIT = 2**126
+# what enclosures are over
+FINE = 2**40
+
+
+def ceil_div(a, b):
+    return -((-a) // b)
+
+
+def dot(xs, ys):
+    return sum(map(mul, xs, ys))
+
+
+class Enclosure(NamedTuple):
+    """A midpoint, and how far from it the exact number is at most."""
+
+    mid: int
+    rad: int = 0
+
+    @property
+    def far(self):
+        return abs(self.mid) + self.rad
+
+
+def divided(mid, rad, den):
+    """The midpoint to the nearest, ties upward; the radius up, and 1 more where the midpoint was rounded."""
+    return Enclosure((2 * mid + den) // (2 * den), ceil_div(rad, den) + (mid % den != 0))
+
+
+def multiple(factor, x):
+    return Enclosure(factor * x.mid, abs(factor) * x.rad)
+
+
+def combined(factors, xs, den=1):
+    """The sum of the multiples, over den; what one list has beyond the other counts nothing."""
+    return divided(sum(c * x.mid for c, x in zip(factors, xs)), sum(abs(c) * x.rad for c, x in zip(factors, xs)), den)
+
+
+def product(weights, xs, ys, den):
+    """The sum of the weighted products, over den."""
+    mid = sum(w * x.mid * y.mid for w, x, y in zip(weights, xs, ys))
+    rad = sum(w * (abs(x.mid) * y.rad + x.rad * abs(y.mid) + x.rad * y.rad) for w, x, y in zip(weights, xs, ys) if x.rad or y.rad)
+    return divided(mid, rad, den)
+
+
+def gram(weights, columns, count, den):
+    """The products of the first columns with all."""
+    found = {}
+    for i in range(count):
+        for j in range(i, len(columns)):
+            found[i, j] = found[j, i] = product(weights, columns[i], columns[j], den)
+    return [[found[i, j] for j in range(len(columns))] for i in range(count)]
+
+
+@dataclass
+class Form:
+    """q (half the hessian), f and h0 are over hess_den; g, e and b over row_den; gram has the products of the columns of g, over row_den^2 / den. A row of g times
+    row_factor is over what limit_den times the hessian is over."""
+
+    is_fine: bool
+    q: list
+    f: list
+    h0: list
+    g: list
+    e: list
+    b: list
+    gram: list
+    hess_den: int
+    row_den: int
+    row_factor: int
+
+    @property
+    def hess_rad(self):
+        """The greatest sum of the hessian's radii in a row."""
+        return 2 * max(sum(v.rad for v in row) for row in self.q)
+
+
+def condense(d, unit, den):
+    """The form whose responses are over `unit` and whose products are over unit^2 / den."""
+    n, p, nu = d.states, d.inputs, d.entries
+    units = lambda count, at: [Enclosure(unit if i == at else 0) for i in range(count)]
+    runs = []
+    for x, u in [(units(n, None), units(nu, j)) for j in range(nu)] + [(units(n, i), units(nu, None)) for i in range(n)]:
+        inputs, states = [u[k * p : (k + 1) * p] for k in range(d.stages)], [x]
+        for v in inputs:
+            states.append([combined(a + b, states[-1] + v, d.plant_den) for a, b in zip(d.a, d.b)])
+        runs.append((states, inputs))
+    columns = [[combined(row, states[k]) for row, k in d.counted] for states, _ in runs] + [[Enclosure(unit * row[n]) for row, _ in d.counted]]
+    products = gram([row[-1] for row, _ in d.counted], columns, nu, den)
+    scale = d.row_den**2 * unit**2 // den
+    for j, weight in enumerate(d.input_weights * d.stages):
+        products[j][j] = Enclosure(products[j][j].mid + weight * scale, products[j][j].rad)
+    rows = [[combined(row, states[k] + inputs[k]) for k in range(d.stages) for row in d.stage_rows] + [combined(row, states[-1]) for row in d.final_rows] for states, inputs in runs]
+    side_by_side = lambda columns: [list(row) for row in zip(*columns)]
+    return Form(
+        den != 1,
+        [row[:nu] for row in products],
+        [[multiple(2, v) for v in row[nu:-1]] for row in products],
+        [multiple(-2, row[-1]) for row in products],
+        side_by_side(rows[:nu]),
+        side_by_side(rows[nu:]),
+        [unit * row[-1] for row in d.stage_rows * d.stages + d.final_rows],
+        gram([1] * d.rows, rows[:nu], nu, den),
+        d.cost_den * scale,
+        d.limit_den * unit,
+        d.cost_den * d.row_den**2 * unit // den,
+    )
+
+
+def exact_form(d):
+    return condense(d, d.plant_den**d.stages, 1)
+
+
+def fine_form(d):
+    return condense(d, FINE, FINE)
+
+
+# ---- the quantities
+
+
+def squares_exponent(d, form):
+    """The least exponent at which the curvature of the input weights covers the squares of all numbers of the rows."""
+    squares, s = d.cost_den * sum(v.far**2 for row in form.g for v in row), 0
+    while squares > 2**s * min(d.input_weights) * form.row_den**2:
+        s += 1
+    return s
+
+
+def sizes(d, form):
+    """The quantities of condensing, in the order in which they are tested."""
+    nu, width = d.entries, d.entries + d.states + 1
+    reach = prediction = d.growth**d.stages
+    if form.is_fine:
+        reach = FINE
+        for _ in range(d.stages):
+            reach = ceil_div(d.growth * reach, d.plant_den) + 3
+        prediction = d.growth * reach
+    hessian = 2 * nu * width * d.weights * (d.cost_width * reach) ** 2
+    rows = width * d.rows * (d.limit_width * reach) ** 2
+    numbers = hessian, rows
+    if form.is_fine:
+        hessian = max(hessian, 2**86 * form.hess_rad)
+        numbers = (ceil_div(v, FINE) + 4 * nu for v in (hessian, rows))
+    curvature = dot((2 ** min(squares_exponent(d, form), 40) * d.limit_den**2, d.cost_den * d.row_den**2), numbers)
+    return {"prediction": prediction, "hessian": hessian, "rows": rows, "curvature": curvature}
+
+
+def is_within_limit(d, form):
+    return max(sizes(d, form).values()) <= LIMIT
+
+
+# ---- beside a simulated plant
+
+
+def numbers(form):
+    """Each number of the form by its name and place, and what it is over."""
+    bounds = [[Enclosure(v) for v in form.b]]
+    for name, rows, den in (("Q", form.q, form.hess_den), ("F", form.f, form.hess_den), ("h0", [form.h0], form.hess_den), ("G", form.g, form.row_den),
+                            ("E", form.e, form.row_den), ("b", bounds, form.row_den)):
+        for i, row in enumerate(rows, 1):
+            for j, v in enumerate(row, 1):
+                yield f"{name} {i} {j}", v, den
+
+
+def agrees(d, exact, x, u):
+    """Whether an exact form has what the plant's simulation has of this state and plan."""
+    at = lambda row, xs: dot([v.mid for v in row], xs)
+    cost = sum(v * (at(of_plan, u) + at(of_state, x) + constant.mid) for v, of_plan, of_state, constant in zip(u, exact.q, exact.f, exact.h0))
+    rows = [Fraction(at(of_plan, u) + at(of_state, x) - bound, exact.row_den) for of_plan, of_state, bound in zip(exact.g, exact.e, exact.b)]
+    return Fraction(cost, exact.hess_den) == d.cost(x, u) - d.cost(x, [0] * d.entries) and rows == d.residuals(x, u)
+
+
+def fault(d):
+    """What is wrong with a design's two forms, or None: the exact one has no radius and agrees with the simulated plant, and the fine one encloses it."""
+    exact = exact_form(d)
+    rounded = next((f"{name} of the exact form is rounded" for name, v, _ in numbers(exact) if v.rad), None)
+    if not agrees(d, exact, [7 - 5 * i for i in range(d.states)], [j * j % 11 - 4 for j in range(d.entries)]):
+        return "the exact form says otherwise than the simulated plant"
+    for (name, v, den), (_, w, over) in zip(numbers(fine_form(d)), numbers(exact), strict=True):
+        if abs(v.mid * over - w.mid * den) > v.rad * over:
+            return f"{name} is further from the exact fraction than its radius"
+    return rounded

@@ -1,0 +1,118 @@
+"""The independent model of bench/fuzz, on worked designs whose exact numbers are too long, and against the numbers that the prover computes in
+crates/qp_model/proofs/FineWorked.antt."""
+import os
+import sys
+import unittest
+from unittest import mock
+
+from condensed import condense
+from design_text import design_of
+from tests.worked import AXIS, FIRST, TOP
+
+sys.path.insert(0, os.path.join(TOP, "bench", "fuzz"))
+import cases
+import forms
+import model
+
+BASE = {"n": 1, "p": 1, "stages": 1, "den": 1, "a": [[1]], "b": [[1]], "cost_den": 1, "row_den": 1, "input": [1], "cost": [[1, 0, 1]], "final_cost": [], "limit_den": 4,
+        "rows": [[0, 4, 4], [0, -4, 4]], "final_rows": [[4, 1]], "grid": 0, "lo": [0], "hi": [1], "target_den": 1, "violation": 16, "gap": 1}
+# 1048576 written over itself
+LONG = {"stages": 2, "den": 1048576, "a": [[1048576]], "b": [[1048576]], "limit_den": 131072, "rows": [[0, 131072, 131072], [0, -131072, 131072]], "final_rows": [[131072, 32768]]}
+LONG_POLICY = [(1, [0, 0]), (8, [-7, 0])]
+THIRD = {"stages": 2, "den": 3, "a": [[2]], "b": [[-1]], "cost_den": 2, "row_den": 5, "input": [3], "cost": [[4, 7, 6]], "final_cost": [[-2, 1, 9]], "rows": [[1, -3, 5]],
+         "final_rows": [[7, 2]]}
+CROSSED = {**THIRD, "n": 2, "p": 2, "a": [[2, 1], [0, -4]], "b": [[1, 0], [2, -5]], "input": [3, 2], "cost": [[4, -1, 7, 6]], "final_cost": [[-2, 3, 1, 9]],
+           "rows": [[1, 2, -3, 8, 5]], "final_rows": [[7, 0, 2]], "lo": [0, 0], "hi": [1, 1]}
+
+
+def design(**changes):
+    return model.read_design(cases.design_text({**BASE, **changes}))
+
+
+def twice(x):
+    return forms.multiple(2, x)
+
+
+class Enclosures(unittest.TestCase):
+    def test_third(self):
+        third = forms.divided(forms.FINE, 0, 3)
+        self.assertEqual(third, (366503875925, 1))
+        self.assertEqual(forms.product([1], [third], [third], forms.FINE), (122167958642, 2))
+
+    def test_ties_are_rounded_upward(self):
+        self.assertEqual([forms.divided(v, 0, 2).mid for v in (1, -1, 3, -3)], [1, 0, 2, -1])
+
+
+class FineForms(unittest.TestCase):
+    def test_one_state(self):
+        form = forms.fine_form(design(**THIRD))
+        self.assertEqual([[twice(v) for v in row] for row in form.q], [[(202717366039482, 366), (21501560720884, 238)], [(21501560720884, 238), (197179085247770, 180)]])
+        self.assertEqual((form.f, form.h0), ([[(-75581243746286, 548)], [(-43003121441856, 296)]], [(196446077495700, 1080), (109951162777500, 372)]))
+        self.assertEqual(form.g, [[(-3298534883328, 0), (0, 0)], [(-366503875925, 1), (-3298534883328, 0)], [(-1710351420981, 14), (-2565527131475, 7)]])
+        self.assertEqual((form.e, form.b), ([[(1099511627776, 0)], [(733007751851, 1)], [(3420702841969, 14)]], [5497558138880, 5497558138880, 2199023255552]))
+        self.assertEqual((form.hess_den, form.hess_rad, model.gain_floor(design(**THIRD), form)), (54975581388800, 604, 659706976663184))
+
+    def test_two_states(self):
+        form = forms.fine_form(design(**CROSSED))
+        self.assertEqual((twice(form.q[1][2]), twice(form.q[3][3]), form.f[2][1], form.h0[1]), ((166148423753170, 1210), (641381782869526, 584), (129009364325922, 1004), (102621085259112, 732)))
+        self.assertEqual((form.g[1][1], form.g[1][3], form.e[1][1]), ((-3665038759254, 2), (8796093022208, 0), (-2565527131477, 3)))
+        self.assertEqual((form.hess_rad, model.gain_floor(design(**CROSSED), form)), (8178, 439804651077688))
+
+    def test_each_encloses_the_exact_form(self):
+        for changes in ({}, THIRD, CROSSED, LONG):
+            self.assertIsNone(forms.fault(design(**changes)))
+
+    def test_exact_form_is_that_of_the_scripts(self):
+        for text in (FIRST, AXIS):
+            form, other = forms.exact_form(model.read_design(text.encode())), condense(design_of(text))
+            mids = lambda rows: [[v.mid for v in row] for row in rows]
+            self.assertEqual(([[2 * v for v in row] for row in mids(form.q)], mids(form.f), mids([form.h0])[0]), (other.hess, other.lin, other.off))
+            self.assertEqual((mids(form.g), mids(form.e), form.b), (other.rows, other.state_rows, other.bounds))
+            self.assertEqual((form.hess_den, form.row_den), (other.hess_den, other.row_den))
+
+
+class FineSizes(unittest.TestCase):
+    def test_one_state(self):
+        d = design(**THIRD)
+        self.assertEqual(forms.sizes(d, forms.fine_form(d)), {
+            "prediction": 3298534883346, "hessian": 67873931217184512154663835456, "rows": 1175075896678244261440817328, "curvature": 2028827651687440642})
+        self.assertEqual(forms.squares_exponent(d, forms.fine_form(d)), 1)
+        self.assertEqual(forms.sizes(d, forms.exact_form(d))["curvature"], 149461848)
+        self.assertFalse(model.form_of(d).is_fine)
+
+    def test_two_states(self):
+        d = design(**CROSSED)
+        self.assertEqual(forms.sizes(d, forms.fine_form(d))["curvature"], 13614437949588862459912)
+
+    def test_long(self):
+        d = design(**LONG)
+        found = forms.sizes(d, forms.fine_form(d))
+        self.assertEqual((found["hessian"], found["rows"], found["curvature"]), (1547425049113058530599901520, 26584559915807120781841569156882759680, 217606647531525092816191598))
+        self.assertEqual(forms.sizes(d, forms.exact_form(d))["curvature"], 239261039241284857122685270850462023680)
+        self.assertEqual(twice(forms.fine_form(d).q[0][0]), (6597069766656, 0))
+
+
+class FineDesigns(unittest.TestCase):
+    def refused(self, plans, **changes):
+        with self.assertRaises(model.Refused) as caught:
+            model.choose(design(**changes), plans)
+        return caught.exception.args
+
+    @mock.patch("model.ENCLOSES", True)
+    def test_long(self):
+        report = model.choose(design(**LONG), LONG_POLICY).report
+        self.assertEqual([report[key] for key in ("margin", "cost", "multiplier", "step", "steps", "bits", "words", "gap")], [8192, 1, 8, 1, 4, 14, 10, 574834507776])
+        errors = model.Errors(design(**LONG), forms.fine_form(design(**LONG)), 8)
+        self.assertGreater(errors.epsilon(13), 2**40)
+
+    @mock.patch("model.ENCLOSES", False)
+    def test_long_where_the_program_encloses_nothing(self):
+        self.assertEqual(self.refused(LONG_POLICY, **LONG), (10, "curvature"))
+
+    @mock.patch("model.ENCLOSES", True)
+    def test_large_plant(self):
+        self.assertEqual(self.refused([(1, [0] * 20)] * 2, stages=20, a=[[2147483647]]), (10, "prediction"))
+
+
+if __name__ == "__main__":
+    unittest.main()
