@@ -4,12 +4,16 @@
     bench/rows/run.py PROGRAM [--valgrind]
 
 With --valgrind each runs under valgrind's memory checker, which must have nothing to report: no invalid read or write, no branch on what was never written, no
-block that is lost.
+block that is lost. The rows of fine designs, whose exact numbers pass 2^126, have the numbers of the model in ../fuzz. They are run where that says (ENCLOSES) that
+the program accepts such designs.
 """
 import os
 import subprocess
 import sys
 import tempfile
+
+sys.path.insert(0, os.path.join(os.path.dirname(os.path.abspath(__file__)), "..", "fuzz"))
+from model import ENCLOSES
 
 PROGRAM = os.path.abspath(sys.argv[1])
 VALGRIND = "--valgrind" in sys.argv[2:]
@@ -120,6 +124,19 @@ def steep(n):
     return sub(BASE, (LIMITS, f"den = 1\nstage = [[0, {n}, {n}]]\nfinal = []\n"), targets(1, 1048576, 1))
 
 
+def limits(den, stage, final=()):
+    return LIMITS, f"den = {den}\nstage = {stage}\nfinal = {[*final]}\n"
+
+
+def costs(den, row_den, weight, stage):
+    return "den = 1\nrow_den = 1\ninput = [1]\nstage = [[1, 0, 1]]\n", f"den = {den}\nrow_den = {row_den}\ninput = [{weight}]\nstage = {stage}\n"
+
+
+def plant_over(stages, den, a, b):
+    """More stages, and a plant of one state."""
+    return ("stages = 1\n", f"stages = {stages}\n"), ("den = 1\na = [[1]]\nb = [[1]]", f"den = {den}\na = [[{a}]]\nb = [[{b}]]")
+
+
 def refused(words, files, status, line):
     return words, files, status, "", f"error {status} {line}\n", {}, {}
 
@@ -210,6 +227,50 @@ def rows():
         "mpc-report 1", "margin 16384 65536", "cost 63", "multiplier 252", "step 1", "steps 8064", "bits 31", "words 78", "end"]})
 
 
+def fine_rows():
+    """Rows of fine designs, as those above."""
+    coast = lambda stages, corners=2: ("1" + ",0" * stages + "\n") * corners
+    whole, half, at_zero = plant_over(2, 1048576, 1048576, 1048576), plant_over(2, 1048576, 524288, 524288), ("hi = [1]", "hi = [0]")
+    two_stages = lambda *changes: sub(BASE, *whole, limits(131072, [[0, 131072, 131072], [0, -131072, 131072]], [[131072, 32768]]), *changes)
+    yield "fine: two stages", written(two_stages(), "1,0,0\n8,-7,0\n", r=[
+        "margin 8192 65536", "cost 1", "multiplier 8", "step 1", "steps 4", "bits 14", "words 10", "violation 8867947335680 1099511627776", "gap 574834507776 1099511627776"])
+    yield "fine: too many steps", refused(GENERATE, {"d": two_stages(targets(131072, 1, 131072)), "p": "1,0,0\n8,-7,0\n"}, 8, "too-many-steps 8388608")
+    yield "fine: too fine", refused(GENERATE, {"d": two_stages(targets(1048576, 16777216, 1)), "p": "1,0,0\n65536,-65535,0\n"}, 9, "too-fine 2013294081")
+    # with the first bound the exact `curvature` is 2^126; the gap tells the class
+    for what, bound, gap in (("at", 1048576, 588410519552), ("above", 1048577, 764504178688)):
+        design = sub(BASE, *half, costs(1, 1, 1, []), limits(1048576, [[0, 0, 1048576], [0, 0, bound]]))
+        yield f"exact numbers {what} their limit", written(design, coast(2), c=["G 0 0", "b 64 64 64 64"], r=["steps 1", "bits 6", f"gap {gap} 1099511627776"])
+    axis = sub(AXIS, ("den = 8\na = [[8, 4], [0, 8]]\nb = [[1], [4]]", "den = 1000\na = [[1000, 500], [0, 1000]]\nb = [[128], [333]]"), (AXIS[AXIS.index("[limits]") : AXIS.index(
+        "[box]")], "[limits]\nden = 1000\nstage = [[0, 0, 1000, 4000], [0, 0, -1000, 4000], [1000, 0, 0, 8000], [-1000, 0, 0, 8000], [0, 1000, 0, 2000], [0, -1000, 0, 2000]]\n"
+        "final = [[1000, 0, 8000], [-1000, 0, 8000], [0, 1000, 2000], [0, -1000, 2000]]\n"))
+    yield "fine: one axis of a satellite", written(axis, COAST, r=[
+        "margin 65536 65536", "cost 159", "multiplier 159", "step 2", "steps 40704", "bits 29", "words 46", "violation 37855009165 1099511627776", "gap 555748056634 1099511627776",
+        "undercut 6018946457235 1099511627776"])
+    # the input weights' curvature, which is to cover the squares of the rows, is 2^128 at step 0
+    yield "fine: a wide comparison of squares", written(sub(BASE, *plant_over(3, 262144, 131072, 131072), costs(256, 1, 256, [[1, 0, 256]]), limits(1048576, [[0, 1, 1048576]])), coast(3), r=[
+        "margin 65536 65536", "cost 1", "multiplier 1", "step 0", "steps 1", "bits 7", "width 16", "words 10", "violation 2921248849920 1099511627776", "gap 722225594368 1099511627776"])
+    yield "fine: the steepest rows", written(sub(BASE, *half, limits(1, [[0, 1048576, 1048576]]), targets(1, 1048576, 1)), coast(2), c=["clamp 73786976294838206464"], r=[
+        "margin 68719476736 65536", "multiplier 1", "step 40", "steps 4194304", "bits 25", "gap 549756731393 1099511627776"])
+    yield "fine: steeper rows", refused(GENERATE, {"d": sub(BASE, *half, limits(1, [[0, 1500000, 1]])), "p": coast(2)}, 7, "curvature")
+    # of any bits from 42 on the clamp would pass 2^126
+    clamped = sub(BASE, ("states = 1", "states = 2"), ("stages = 1\n", "stages = 2\n"), ("den = 1\na = [[1]]\nb = [[1]]", "den = 2048\na = [[2048, 0], [0, 1024]]\nb = [[0], [1024]]"), costs(
+        1, 32, 1, [[32, 0, 0, 134217728]]), limits(1, [[1, 0, 1048576, 1]]), ("grid = 0\nlo = [0]\nhi = [1]", "grid = 16\nlo = [65535, 0]\nhi = [65535, 0]"), targets(1, 2147483647, 1))
+    yield "fine: a clamp above the limit", refused(GENERATE, {"d": clamped, "p": coast(2, 4)}, 8, "too-many-steps 36027697658330625")
+    for quantity, stages, changes in (
+        ("prediction", 2, [*plant_over(2, 1, 2147483646, 1), costs(1, 1, 1, []), limits(1, [[0, 1, 1]])]),
+        # its floor would be 2^101 * 2147483647
+        ("hessian", 1, [*plant_over(1, 1048576, 1048576, 1048576), costs(1, 1048576, 2147483647, []), limits(1048576, [[0, 1048576, 1048576]])]),
+        # by its radii alone
+        ("hessian", 2, [*plant_over(2, 999999, 999999, 499999), costs(1, 1024, 1, [[1024, 0, 262144]]), limits(4, [[0, 16, 1]])]),
+        ("rows", 3, [*plant_over(3, 65536, 32768, 1), costs(1, 1, 1, []), limits(8192, [[1, 8192000, 2]])]),
+        ("curvature", 2, [*plant_over(2, 2048, 682, 2048), costs(8192, 1024, 1, []), limits(128, [[0, 128000, 128]])]),
+        ("error", 3, [*plant_over(3, 32768, 10922, 1), costs(1, 1, 1, [[1, 16384, 1]]), limits(2048, [[1, 1, 2]]), targets(1, 1048576, 1)]),
+        ("descent", 3, [*plant_over(3, 8192, 8192, 8192), costs(1, 1, 1, [[1, 0, 134217728]]), limits(512, [[0, 1, 512]])]),
+        ("width", 3, [*plant_over(3, 1000, 500, 1000), costs(262144, 1, 1, []), limits(256, [[0, 256000, 256]]), targets(1, 1048576, 1)]),
+    ):
+        yield f"fine: {quantity} over {stages} stages", refused(GENERATE, {"d": sub(BASE, *changes, at_zero), "p": coast(stages)}, 10, f"too-wide {quantity}")
+
+
 def wrong(words, files, status, out, line, whole, lines):
     """What isn't as it must be."""
     with tempfile.TemporaryDirectory() as folder:
@@ -248,13 +309,15 @@ def wrong(words, files, status, out, line, whole, lines):
 
 def main():
     failed = count = 0
-    for name, row in rows():
+    for name, row in [*rows(), *(fine_rows() if ENCLOSES else [])]:
         count += 1
         found = wrong(*row)
         if found:
             failed += 1
             print(f"{name}: {'; '.join(found)}")
     print(f"{count - failed} rows as they must be{', with no report of valgrind' if VALGRIND else ''}, {failed} not")
+    if not ENCLOSES:
+        print(f"{len([*fine_rows()])} rows of fine designs were not run")
     sys.exit(failed > 0)
 
 
