@@ -23,6 +23,7 @@ import tempfile
 
 HERE = os.path.dirname(os.path.abspath(__file__))
 sys.path.insert(0, os.path.join(HERE, "..", "fuzz"))
+import cases
 import control
 import model
 import program as model_program
@@ -42,6 +43,11 @@ def example(name, file):
 FIRST = {"d": example("first", "design.toml"), "p": example("first", "policy.csv"), "k": example("first", "controller.txt"), "s": b"1\n0\n1\n"}
 # a plant of two states and two inputs, small enough to be run in a moment
 MADE = dict(zip("dps", model_program.make(7, 2)))
+# two stages of the first plant written over 1048576, whose exact numbers pass the limit
+FINE = {"d": cases.design_text({
+    "n": 1, "p": 1, "stages": 2, "den": 1048576, "a": [[1048576]], "b": [[1048576]], "cost_den": 1, "row_den": 1, "input": [1], "cost": [[1, 0, 1]], "final_cost": [],
+    "limit_den": 131072, "rows": [[0, 131072, 131072], [0, -131072, 131072]], "final_rows": [[131072, 32768]], "grid": 0, "lo": [0], "hi": [1], "target_den": 1, "violation": 16,
+    "gap": 1}), "p": b"1,0,0\n8,-7,0\n"}
 
 
 class Command:
@@ -109,6 +115,7 @@ def commands(executable):
     yield Command(executable, "generate, JSON", ["generate", "d", "p", "c", "r.json"], FIRST)
     yield Command(executable, "generate, two inputs", ["generate", "d", "p", "c", "r"], MADE)
     yield Command(executable, "generate, a motor", ["generate", "d", "p", "c", "r"], dict(zip("dp", motor)))
+    yield Command(executable, "generate, a fine plant", ["generate", "d", "p", "c", "r"], FINE)
     yield Command(executable, "solve", ["solve", "k", "s"], FIRST)
     yield Command(executable, "loop", ["loop", "d", "k", "s", "4"], FIRST)
     yield Command(executable, "demo", ["demo", "7"], {})

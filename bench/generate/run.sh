@@ -1,8 +1,8 @@
 #!/usr/bin/env bash
 # run.sh PROGRAM [RUNS]: times `PROGRAM generate` on each example, and on the designs of fine.py, whose exact numbers pass the limit. It prints the least user and
-# system time of several runs, in milliseconds, or how the program refuses the design; the marks are 10 for the satellite, and 500 for each fine design. With
-# valgrind at hand it prints the functions that take the most instructions for the satellite, and for each fine design the shares of condensing, of the step
-# exponent and of the gains; the mark of condensing is 50 ms at 60 plan entries and 252 rows.
+# system time of several runs, in milliseconds; the marks are 10 for the satellite, and 500 for each fine design. With valgrind at hand it prints the functions that
+# take the most instructions for the satellite, and for each fine design the shares of its parts: a run that is refused for its steps ends before the rounding errors
+# are added up. The mark of condensing is 50 ms at 60 plan entries and 252 rows.
 set -euo pipefail
 program=$(realpath "$1")
 runs=${2:-20}
@@ -14,30 +14,38 @@ TIMEFORMAT='%U %S'
 mkdir "$work/fine"
 python3 "$here/fine.py" "$work/fine"
 
-generate() {
-    "$@" generate "$design/design.toml" "$design/policy.csv" "$work/controller" "$work/report"
-}
-
-# The least processor time, in milliseconds.
+# The least processor time on the design in a folder, in milliseconds.
 least() {
     for _ in $(seq "$runs"); do
-        { time generate "$program" >"$work/out" 2>"$work/err"; } 2>&1
+        { time "$program" generate "$1/design.toml" "$1/policy.csv" "$work/controller" "$work/report" >"$work/out" 2>"$work/err"; } 2>&1
     done | awk '{ t = ($1 + $2) * 1000; if (NR == 1 || t < least) least = t } END { print least }'
 }
 
-# The instructions of each function, with those that it calls where the argument is yes.
-profiled() {
-    generate valgrind --tool=callgrind --callgrind-out-file="$work/calls" "$program" >/dev/null 2>&1
-    callgrind_annotate --inclusive="$1" "$work/calls" | grep -E '^ *[0-9,]+ \(' | sed 's/\[.*//'
+# The functions' instructions on a design text; those that they call are counted in where the second word is yes.
+instructions() {
+    valgrind --tool=callgrind --callgrind-out-file="$work/calls" "$program" generate "$1" "$(dirname "$1")/policy.csv" "$work/controller" "$work/report" >"$work/out" 2>"$work/err" || true
+    callgrind_annotate --inclusive="$2" "$work/calls" | grep -E '^ *[0-9,]+ \(' | sed 's/\[.*//'
 }
 
-for design in "$examples"/*/ "$work"/fine/*/; do
-    if generate "$program" >/dev/null 2>"$work/err"; then
-        echo "$(basename "$design"): $(least) ms"
-    else
-        echo "$(basename "$design"): $(cat "$work/err")"
+# The instructions of a run on a design text, and of its condensing.
+condensing() {
+    instructions "$1" yes | tr -d , | awk '/PROGRAM TOTALS/ { all = $1 } /:class_choice::choice::condense / { part = $1 } END { print all, part }'
+}
+
+for example in "$examples"/*/; do
+    echo "$(basename "$example"): $(least "$example") ms"
+done
+for fine in "$work"/fine/*/; do
+    took=$(least "$fine")
+    echo "$(basename "$fine"): $took ms"
+    if command -v valgrind >/dev/null; then
+        sed '/^\[targets\]/,$ { s/^den = .*/den = 1048576/; s/^violation = .*/violation = 1/ }' "$fine/design.toml" >"$fine/many_steps.toml"
+        echo "$(condensing "$fine/design.toml") $(condensing "$fine/many_steps.toml") $took" | awk '{
+            printf "    %.0f %% condensing (%.0f ms), %.0f %% texts, corners and step exponent, %.0f %% errors, gains and width\n",
+                100 * $2 / $1, $5 * $2 / $1, 100 * ($3 - $4) / $1, 100 * ($1 - $3) / $1 }'
     fi
 done
-command -v valgrind >/dev/null || exit 0
-design=$examples/satellite
-profiled no | head -14
+if command -v valgrind >/dev/null; then
+    # the functions with the largest shares of their own
+    instructions "$examples/satellite/design.toml" no | head -14
+fi
