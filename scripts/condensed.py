@@ -6,7 +6,7 @@ from corners import dot
 
 @dataclass
 class Condensed:
-    """Whole numbers: hess, lin and off over hess_den, rows, state_rows and bounds over row_den."""
+    """Whole numbers: hess, lin and off over hess_den, rows, state_rows and bounds over row_den; where they are rounded (fine), with radii over the same."""
 
     hess: list
     lin: list
@@ -16,6 +16,12 @@ class Condensed:
     bounds: list
     hess_den: int
     row_den: int
+    hess_radii: list
+    lin_radii: list
+    off_radii: list
+    row_radii: list
+    state_radii: list
+    fine: bool
 
 
 def responses(design):
@@ -34,27 +40,32 @@ def condense(design):
     free, forced = responses(design)
     lift = lambda k: design.plant_den ** (design.stages - k)
     of = lambda row, matrix, k: [lift(k) * dot(row[:n], column) for column in zip(*matrix[k])]
-    counted = [(row, k) for k in range(1, design.stages + 1) for row in design.stage_cost] + [(row, design.stages) for row in design.final_cost]
-    parts = [(row[n + 1], of(row, forced, k), of(row, free, k), power * row[n]) for row, k in counted]
+    parts = [(row[n + 1], of(row, forced, k), of(row, free, k), power * row[n]) for row, k in design.counted]
     hess = [[2 * sum(w * u[i] * u[j] for w, u, _, _ in parts) for j in range(nu)] for i in range(nu)]
     for j in range(nu):
         hess[j][j] += 2 * design.input_weights[j % p] * (design.row_den * power) ** 2
     lin = [[2 * sum(w * u[j] * x[i] for w, u, x, _ in parts) for i in range(n)] for j in range(nu)]
     off = [-2 * sum(w * u[j] * t for w, u, _, t in parts) for j in range(nu)]
-    limits = [(row, k) for k in range(design.stages) for row in design.stage_rows] + [(row, design.stages) for row in design.final_rows]
-    rows = [of(row, forced, k) for row, k in limits]
-    for (row, k), out in zip(limits, rows):
+    rows = [of(row, forced, k) for row, k in design.limits]
+    for (row, k), out in zip(design.limits, rows):
         for l in range(p if k < design.stages else 0):
             out[k * p + l] += power * row[n + l]
+    zeros = lambda height, width: [[0] * width for _ in range(height)]
     return Condensed(
-        hess,
-        lin,
-        off,
-        rows,
-        [of(row, free, k) for row, k in limits],
-        [power * row[-1] for row, _ in limits],
-        design.cost_den * (design.row_den * power) ** 2,
-        design.limit_den * power,
+        hess=hess,
+        lin=lin,
+        off=off,
+        rows=rows,
+        state_rows=[of(row, free, k) for row, k in design.limits],
+        bounds=[power * row[-1] for row, _ in design.limits],
+        hess_den=design.cost_den * (design.row_den * power) ** 2,
+        row_den=design.limit_den * power,
+        hess_radii=zeros(nu, nu),
+        lin_radii=zeros(nu, n),
+        off_radii=[0] * nu,
+        row_radii=zeros(design.rows, nu),
+        state_radii=zeros(design.rows, n),
+        fine=False,
     )
 
 

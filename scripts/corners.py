@@ -35,8 +35,7 @@ def trajectory(design, state, plan):
 def cost_of(design, state, plan):
     """The design's cost of a plan from a state."""
     states, n = trajectory(design, state, plan), design.states
-    counted = [(row, k) for k in range(1, design.stages + 1) for row in design.stage_cost] + [(row, design.stages) for row in design.final_cost]
-    value = sum(row[n + 1] * ((dot(row[:n], states[k]) - row[n]) / Fraction(design.row_den)) ** 2 for row, k in counted)
+    value = sum(row[n + 1] * ((dot(row[:n], states[k]) - row[n]) / Fraction(design.row_den)) ** 2 for row, k in design.counted)
     value += sum(design.input_weights[j % design.inputs] * Fraction(u) ** 2 for j, u in enumerate(plan))
     return value / design.cost_den
 
@@ -44,12 +43,7 @@ def cost_of(design, state, plan):
 def slacks_of(design, state, plan):
     """The slack in each limit row, in the plan's order; a negative one is a limit that is exceeded."""
     states, p = trajectory(design, state, plan), design.inputs
-    out = [
-        (row[-1] - dot(row[:-1], states[k] + list(plan[k * p : (k + 1) * p]))) / Fraction(design.limit_den)
-        for k in range(design.stages)
-        for row in design.stage_rows
-    ]
-    return out + [(row[-1] - dot(row[:-1], states[-1])) / Fraction(design.limit_den) for row in design.final_rows]
+    return [(row[-1] - dot(row[:-1], states[k] + list(plan[k * p : (k + 1) * p]))) / Fraction(design.limit_den) for row, k in design.limits]
 
 
 def corners_of(design, policy):

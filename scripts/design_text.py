@@ -74,6 +74,16 @@ class Design:
     def rows(self):
         return self.stages * len(self.stage_rows) + len(self.final_rows)
 
+    @property
+    def counted(self):
+        """The cost rows, each with the stage at which it counts, as often as it counts."""
+        return [(row, k) for k in range(1, self.stages + 1) for row in self.stage_cost] + [(row, self.stages) for row in self.final_cost]
+
+    @property
+    def limits(self):
+        """The limit rows in the plan's order, each with its stage."""
+        return [(row, k) for k in range(self.stages) for row in self.stage_rows] + [(row, self.stages) for row in self.final_rows]
+
     def name(self, kind, number):
         """The name of state, input, stage row or final row number, from 1."""
         short = {"state": f"x{number}", "input": f"u{number}"}
