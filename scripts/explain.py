@@ -116,22 +116,37 @@ def bound_words(design, policy, report):
 
 
 def size_words(design, policy, report):
-    """Each quantity in bits of 126."""
+    """Each quantity in bits of 126, of the condensed form by its class."""
     margin, cost = margin_of(corners_of(design, policy))
-    bound, found = multiplier_of(margin, cost), sizes.early_sizes(design, policy)
-    if bound is not None:
-        found |= sizes.form_sizes(design, margin, cost, bound)
-        found["error"], epsilon = sizes.errors_of(design, bound)
-        target = min(2**40 * design.gap // design.target_den, bound * half_target(design))
-        f = next((f for f in range(design.grid, 49) if epsilon(f) <= target), None)
-        if f is not None:
-            found["descent"], bounds = sizes.gain_bounds(design, f)
-            step = report["step"] if report else 0
-            found["width"] = sizes.greatest_width(design, bound, step, steps_of(design, step, bound), f, bounds)
-    yield "sizes in bits, at most 126 each: " + ", ".join(f"{name} {sizes.bits(value):.1f}" for name, value in found.items())
-    wide = [name for name, value in found.items() if value > sizes.LIMIT]
-    if wide:
-        yield f"too wide: {', '.join(wide)} (docs/DESIGNING.md, \"Sizes\")"
+    bound, form = multiplier_of(margin, cost), sizes.form_of(design)
+    corners = sizes.early_sizes(design, policy) | ({"multiplier": sizes.multiplier_size(cost, bound)} if bound else {})
+    condensed = later_sizes(design, form, bound, report)
+    told = lambda found: ", ".join(f"{name} {sizes.bits(value):.1f}" for name, value in found.items())
+    wide = lambda found: {name: value for name, value in found.items() if value > sizes.LIMIT}
+    parts = [("", corners), (" of the enclosures", condensed)] if form.fine else [("", corners | condensed)]
+    if form.fine:
+        exact = wide(sizes.exact_sizes(design, condense(design)))
+        yield f"exact condensed numbers pass 126 bits ({told(exact)}), so they are held as enclosures, midpoints and radii over 2^40: a fine design"
+    yield "sizes in bits, at most 126 each: " + "; of the enclosures: ".join(told(found) for _, found in parts)
+    for of, found in parts:
+        if wide(found):
+            yield f"too wide{of}: {', '.join(wide(found))} (docs/DESIGNING.md, \"Sizes\")"
+
+
+def later_sizes(design, form, bound, report):
+    """The sizes of a condensed form, and of what is made of it as far as there is a bound R and a form within the limit."""
+    found = sizes.form_sizes(design, form)
+    if bound is None:
+        return found
+    errors = sizes.Errors(design, form, bound)
+    found["error"] = errors.size
+    target = min(2**40 * design.gap // design.target_den, bound * half_target(design))
+    f = next((f for f in range(design.grid, 49) if errors.cost(f) <= target), None)
+    if f is not None and found["hessian"] <= sizes.LIMIT:
+        found["descent"], bounds = sizes.gain_bounds(design, form, f)
+        step = report["step"] if report else 0
+        found["width"] = sizes.greatest_width(design, form, bound, step, steps_of(design, step, bound), f, bounds)
+    return found
 
 
 def exceeded(design, state, inputs):

@@ -93,14 +93,17 @@ QUANTITIES = {
     "corner_slack": ("the numbers of the corners' slacks", FEWER + ", a shorter denominator of the policy, a coarser box.grid"),
     "corner_cost": ("the numbers of the corners' costs", "fewer stages, smaller denominators of plant and policy, coarser numerators, a coarser box.grid"),
     "multiplier": ("the bound on the multipliers", "a policy with a larger margin or a smaller cost"),
-    "hessian": ("the numbers of the condensed cost", FEWER + ", smaller weights or cost.row_den"),
-    "rows": ("the numbers of the condensed limits", FEWER + ", a smaller limits.den"),
+    "prediction of the enclosures": ("the plant's growth over the horizon with 40 fraction bits", FEWER + ", smaller weights"),
+    "hessian": ("the enclosures of the condensed cost", FEWER + ", smaller weights or cost.row_den"),
+    "rows": ("the enclosures of the condensed limits", FEWER + ", a smaller limits.den"),
     "curvature": ("the comparison of limits and cost", FEWER + ", smaller weights or limits.den"),
     "error": ("the sum of the rounding errors", "a policy with a larger margin, a smaller box, smaller weights"),
-    "descent": ("the numbers of the gains", FEWER + ", a larger gap target"),
+    "descent": ("the numbers of the gains", FEWER + ", a larger gap target, the same limits over a larger limits.den"),
     "width": ("the greatest sum of a run", "a policy with a larger margin, a larger gap target, a smaller box"),
     "turn": ("the next state of a loop", "a smaller plant.den, or a controller with fewer steps or bits"),
 }
+# those whose size is computed here, after the corners were found to be within the limit
+AFTER_CORNERS = ("multiplier", "prediction", "hessian", "rows", "curvature", "error")
 
 # file names by command: the names' kinds in the order of the words
 FILES = {"generate": ["design", "policy", "controller", "report"], "solve": ["controller", "states"], "loop": ["design", "controller", "states"]}
@@ -304,9 +307,11 @@ def too_wide(call, name):
     design, policy, size = call.design(), call.policy(), ""
     try:
         found = sizes.early_sizes(design, policy)
-        if name not in found and name in ("multiplier", "hessian", "rows", "curvature", "error"):
+        if name in AFTER_CORNERS and found.get(name, 0) <= sizes.LIMIT:
             margin, cost = margin_of(corners_of(design, policy))
-            found |= sizes.form_sizes(design, margin, cost, multiplier_of(margin, cost)) | {"error": sizes.errors_of(design, multiplier_of(margin, cost))[0]}
+            bound, form = multiplier_of(margin, cost), sizes.form_of(design)
+            what, helps = QUANTITIES.get(f"{name} of the enclosures" if form.fine else name, (what, helps))
+            found |= sizes.form_sizes(design, form) | {"multiplier": sizes.multiplier_size(cost, bound), "error": sizes.Errors(design, form, bound).size}
         size = f" (it is 2^{sizes.bits(found[name]):.1f})"
     except (KeyError, TypeError, AttributeError, IndexError, ValueError):
         pass
@@ -448,7 +453,8 @@ def table():
     yield "| Quantity | What it is | What helps |"
     yield "|---|---|---|"
     for name, (what, helps) in QUANTITIES.items():
-        yield f"| `{name}` | {what} | {helps} |"
+        name, _, of = name.partition(" ")
+        yield f"| {f'`{name}` {of}'.rstrip()} | {what} | {helps} |"
 
 
 def main(arguments):

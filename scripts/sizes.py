@@ -1,8 +1,12 @@
-"""The sizes that may not pass 2^126, in the order in which `generate` tests them, computed without a limit."""
+"""The sizes that may not pass 2^126, in the order in which `generate` tests them, computed without a limit.
+
+A design is fine where a size of its exact condensed numbers passes the limit: then these are held as enclosures over 2^40, and their sizes are tested instead.
+"""
 from fractions import Fraction
 from math import ceil, log2
 
 from condensed import condense
+from enclosures import ONE, condense_fine
 
 LIMIT = 2**126
 
@@ -10,6 +14,11 @@ LIMIT = 2**126
 def bits(value):
     """A size as a power of two."""
     return log2(value) if value > 0 else 0.0
+
+
+def over(value, den):
+    """A fraction, rounded up to a whole number."""
+    return ceil(Fraction(value, den))
 
 
 def total(rows):
@@ -23,77 +32,150 @@ def growth(design):
 
 
 def scales(design):
-    """The N-th power of the growth, the widths of cost and limit rows, and the sum of weights."""
-    big = growth(design) ** design.stages
+    """The widths of cost and limit rows, and the sum of weights."""
     cost_width = max(design.row_den, total([row[:-1] for row in design.stage_cost + design.final_cost]))
     width = max(design.limit_den, total(design.stage_rows + design.final_rows))
     weights = design.stages * (sum(row[-1] for row in design.stage_cost) + sum(design.input_weights)) + sum(row[-1] for row in design.final_cost)
-    return big, cost_width, width, design.cost_den + weights
+    return cost_width, width, design.cost_den + weights
 
 
 def early_sizes(design, policy):
     """`prediction`, `corner_slack` and `corner_cost`, which come before the corners are simulated."""
-    big, cost_width, width, weights = scales(design)
+    big, (cost_width, width, weights) = growth(design) ** design.stages, scales(design)
     reach = max(map(abs, design.lo + design.hi))
     plan = max(max(q * 2**design.grid, q * reach, *(2**design.grid * abs(u) for u in record)) for q, *record in policy)
     return {"prediction": big, "corner_slack": 2**17 * width * big * plan, "corner_cost": weights * (cost_width * big * plan) ** 2}
 
 
-def form_sizes(design, margin, cost, multiplier):
-    """`multiplier`, `hessian`, `rows` and `curvature`."""
-    big, cost_width, width, weights = scales(design)
+# ---- the condensed form, by class
+
+
+def number_sizes(design, reach):
+    """`hessian` and `rows`, where no state's response is above this."""
+    cost_width, width, weights = scales(design)
     nu, n = design.entries, design.states
-    hessian = 2 * nu * (nu + n + 1) * weights * (cost_width * big) ** 2
-    rows = (nu + n + 1) * design.rows * (width * big) ** 2
-    form, power = condense(design), design.plant_den**design.stages
-    left = design.cost_den * sum(v * v for row in form.rows for v in row)
-    right, by_squares = min(design.input_weights) * design.limit_den**2 * power**2, 0
-    while left > 2**by_squares * right:
-        by_squares += 1
-    curvature = 2 ** min(by_squares, 40) * design.limit_den**2 * hessian + design.cost_den * design.row_den**2 * rows
-    return {"multiplier": max(2**16 * cost, 2**82 * multiplier), "hessian": hessian, "rows": rows, "curvature": curvature}
+    return 2 * nu * (nu + n + 1) * weights * (cost_width * reach) ** 2, (nu + n + 1) * design.rows * (width * reach) ** 2
 
 
-def errors_of(design, multiplier):
-    """The size `error`, and the rounding errors' cost E(f) as a function of the fraction bits."""
-    form, n, m, nu = condense(design), design.states, design.rows, design.entries
-    weight, rho, top = design.cost_den, min(design.input_weights), 2 * multiplier
-    box = ceil(Fraction(max(map(abs, design.lo + design.hi)), 2**design.grid))
-    spread = n * box + 1 + m * top
-    sums = lambda rows, den: ceil(Fraction(sum(abs(v) for row in rows for v in row), den))
-    pull = weight * (box * sums(form.lin, form.hess_den) + sums([form.off], form.hess_den) + top * sums(form.rows, form.row_den))
-    trace = ceil(Fraction(sum(form.hess[j][j] for j in range(nu)), form.hess_den))
-    gradient = [ceil(Fraction(form.hess[j][j], 2 * form.hess_den)) * spread + ceil(Fraction(sum(map(abs, form.hess[j])), form.hess_den)) for j in range(nu)]
-    squares = weight * sum(v * v for v in gradient)
-    first = ceil(Fraction(squares, 2 * rho))
-    entry = lambda f: ceil(Fraction(pull, 2 * rho)) + ceil(Fraction(weight * spread * trace, 2 ** (f + 2) * rho)) + 1
-    residual = lambda f: nu * entry(f) + n * box + 3
-    cost = lambda f: ceil(Fraction(2**40 * first, 4**f)) + ceil(Fraction(2**40 * top * m * residual(f), 2 ** (f + 1)))
-    return pull + weight * spread * trace + squares + 2**40 * (first + top * m * residual(0)), cost
+def curvature_size(design, form, hessian, rows):
+    """`curvature`, of what half the hessian and the rows' products come to in a row."""
+    squares = sum((abs(v) + r) ** 2 for line, radii in zip(form.rows, form.row_radii) for v, r in zip(line, radii))
+    least = next((s for s in range(40) if design.cost_den * squares <= 2**s * min(design.input_weights) * form.row_den**2), 40)
+    return 2**least * design.limit_den**2 * hessian + design.cost_den * design.row_den**2 * rows
 
 
-def gain_bounds(design, bits_of_plan):
-    """The matrix and the columns that the gains solve: the size `descent`, and a bound on the entries of each column's gain."""
-    form, power = condense(design), design.plant_den**design.stages
+def exact_sizes(design, form):
+    """The sizes of the exact numbers."""
+    big = growth(design) ** design.stages
+    hessian, rows = number_sizes(design, big)
+    return {"prediction": big, "hessian": hessian, "rows": rows, "curvature": curvature_size(design, form, hessian, rows)}
+
+
+def fine_sizes(design, form):
+    """The sizes of the enclosures."""
+    omega = ONE
+    for _ in range(design.stages):
+        omega = over(growth(design) * omega, design.plant_den) + 3
+    hessian, rows = number_sizes(design, omega)
+    hessian = max(hessian, 2**86 * total(form.hess_radii))
+    in_a_row = lambda size: over(size, ONE) + 4 * design.entries
+    return {"prediction": growth(design) * omega, "hessian": hessian, "rows": rows, "curvature": curvature_size(design, form, in_a_row(hessian), in_a_row(rows))}
+
+
+def form_of(design):
+    """The condensed form that the controller is made of: exact, or fine."""
+    form = condense(design)
+    return form if max(exact_sizes(design, form).values()) <= LIMIT else condense_fine(design)
+
+
+def form_sizes(design, form):
+    """`prediction`, `hessian`, `rows` and `curvature` of the condensed form."""
+    return fine_sizes(design, form) if form.fine else exact_sizes(design, form)
+
+
+def multiplier_size(cost, multiplier):
+    """`multiplier`, which comes before these."""
+    return max(2**16 * cost, 2**82 * multiplier)
+
+
+# ---- what is made of it
+
+
+class Errors:
+    """What the errors of a step come to, by rounding and by the radii of the form, with multipliers up to 2 R."""
+
+    def __init__(self, design, form, multiplier):
+        self.design, self.form, self.top = design, form, 2 * multiplier
+        self.rho, self.twice = min(design.input_weights), 2 if form.fine else 1
+        self.box = over(max(map(abs, design.lo + design.hi)), 2**design.grid)
+        spread = design.states * self.box + 1 + design.rows * self.top
+        far = lambda values, radii: sum(map(abs, values)) + sum(radii)
+        sums = lambda table, radii, den: over(sum(map(far, table, radii)), den)
+        linear, constant = sums(form.lin, form.lin_radii, form.hess_den), sums([form.off], [form.off_radii], form.hess_den)
+        self.pull = design.cost_den * (self.box * linear + constant + self.top * sums(form.rows, form.row_radii, form.row_den))
+        diagonal = [form.hess[j][j] + form.hess_radii[j][j] for j in range(design.entries)]
+        self.tail = design.cost_den * spread * over(sum(diagonal), form.hess_den)
+        gradient = [over(v, 2 * form.hess_den) * spread + over(far(*row), form.hess_den) for v, *row in zip(diagonal, form.hess, form.hess_radii)]
+        self.squares = design.cost_den * sum(v * v for v in gradient)
+        self.first = over(self.squares, 2 * self.rho)
+        self.column = self.top * total(zip(*form.row_radii))
+
+    def entry(self, f):
+        """What a plan entry is at most, in absolute value."""
+        return self.twice * (over(self.pull, 2 * self.rho) + over(self.tail, 2 ** (f + 2) * self.rho)) + 1
+
+    def residual(self, f):
+        """A residual's error, over 2^(f+1)."""
+        return self.design.entries * self.entry(f) + self.design.states * self.box + 3
+
+    def cost_radii(self, f):
+        """What those of the cost come to in an entry of the gradient."""
+        return self.entry(f) * total(self.form.hess_radii) + self.box * total(self.form.lin_radii) + max(self.form.off_radii)
+
+    def row_radii(self, f):
+        """What those of all rows come to, with the multipliers."""
+        return self.top * (self.entry(f) * sum(map(sum, self.form.row_radii)) + self.box * sum(map(sum, self.form.state_radii)))
+
+    def moved(self, f):
+        """What the radii move an entry of the gradient by, over 2^40."""
+        return over(self.cost_radii(f), self.design.cost_den * self.design.row_den**2) + over(self.column, self.design.limit_den)
+
+    def cost(self, f):
+        """E(f): what the errors of a step cost at most, over 2^40."""
+        d = self.design
+        rounding = over(self.twice * ONE * self.first, 4**f) + over(ONE * self.top * d.rows * self.residual(f), 2 ** (f + 1))
+        return rounding + over(d.entries * d.cost_den * self.moved(f) ** 2, ONE * self.rho) + over(self.row_radii(f), d.limit_den)
+
+    @property
+    def size(self):
+        """`error`."""
+        d = self.design
+        rounding = self.pull + self.tail + self.squares + ONE * (self.first + self.top * d.rows * self.residual(0))
+        radii = d.cost_den * d.entries * self.moved(0) ** 2 + self.cost_radii(0) + self.column + self.row_radii(0)
+        return self.twice**2 * rounding + radii
+
+
+def gain_bounds(design, form, bits_of_plan):
+    """The matrix and the columns that the gains solve: the size `descent`, and a bound on the entries of each column's gain. For a form within the limit."""
+    factor = design.limit_den * form.hess_den // form.row_den
     columns = [[design.limit_den * row[i] for row in form.lin] for i in range(design.states)] + [[design.limit_den * v for v in form.off]]
-    columns += [[design.cost_den * design.row_den**2 * power * v for v in row] for row in form.rows]
-    floor = 2 * design.limit_den * (design.row_den * power) ** 2 * min(design.input_weights)
+    columns += [[factor * v for v in row] for row in form.rows]
+    floor = design.limit_den * (2 * form.hess_den // design.cost_den * min(design.input_weights) - total(form.hess_radii))
     each = [sum(map(abs, column)) for column in columns]
-    bounds = [ceil(Fraction(2 ** (bits_of_plan + 1) * size, floor)) for size in each]
+    bounds = [over(2 ** (bits_of_plan + 1) * size, min(floor, LIMIT)) for size in each]
     matrix = total([[design.limit_den * v for v in row] for row in form.hess])
     return 2 * matrix * (max(bounds) + 1) + 2 ** (bits_of_plan + 1) * max(each), bounds
 
 
-def greatest_width(design, multiplier, step, steps, f, bounds):
+def greatest_width(design, form, multiplier, step, steps, f, bounds):
     """The size `width`: the greatest absolute sum that any gains within their bounds can have."""
-    form, n = condense(design), design.states
-    clamp = 2 * multiplier * 2 ** (f + step)
+    n, clamp = design.states, 2 * multiplier * 2 ** (f + step)
     reaches = [max(abs(l), abs(h)) * 2 ** (f - design.grid) for l, h in zip(design.lo, design.hi)]
     entry = 2**step * (sum(c * x for c, x in zip(bounds, reaches)) + bounds[n] * 2**f) + sum(bounds[n + 1 :]) * clamp
-    plan = ceil(Fraction(entry, 2 ** (f + step)))
+    plan = over(entry, 2 ** (f + step))
     near = lambda v: abs((2 * 2**f * v + form.row_den) // (2 * form.row_den))
     sums = [
         sum(near(v) * plan for v in form.rows[i]) + sum(near(v) * x for v, x in zip(form.state_rows[i], reaches)) + 2**f * near(form.bounds[i])
         for i in range(design.rows)
     ]
-    return max(reaches + [entry, steps * plan] + sums + [clamp + ceil(Fraction(v, 2**f)) for v in sums])
+    return max(reaches + [entry, steps * plan] + sums + [clamp + over(v, 2**f) for v in sums])

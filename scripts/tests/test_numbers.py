@@ -1,4 +1,4 @@
-"""The numbers that the scripts compute anew, against worked rows."""
+"""The numbers that the scripts compute anew, against worked rows: those of another program, and those that the prover computes in FineWorked of qp_model."""
 import os
 import unittest
 from fractions import Fraction
@@ -7,9 +7,27 @@ import sizes
 from condensed import condense, curvature
 from corners import corners_of, margin_of, multiplier_of, slacks_of, steps_of
 from design_text import design_of, plain, read_design, text_of
+from enclosures import combined, condense_fine, product
 from explain import explain
 from texts import kind_of, loop_lines_of, records_of, report_of
-from tests.worked import AXIS, AXIS_POLICY, EXAMPLES, FINE_AXIS, FINE_AXIS_POLICY, FIRST, FIRST_CONTROLLER, FIRST_POLICY, FIRST_REPORT
+from tests.worked import (
+    AXIS,
+    AXIS_OVER_1000,
+    AXIS_POLICY,
+    CROSSED,
+    EXAMPLES,
+    FINE_AXIS,
+    FINE_AXIS_POLICY,
+    FIRST,
+    FIRST_CONTROLLER,
+    FIRST_POLICY,
+    FIRST_REPORT,
+    LONG,
+    LONG_POLICY,
+    STEEP,
+    STEEP_POLICY,
+    THIRD,
+)
 
 
 class Corners(unittest.TestCase):
@@ -42,34 +60,84 @@ class Corners(unittest.TestCase):
 
 
 class Sizes(unittest.TestCase):
+    def exact(self, text):
+        return sizes.exact_sizes(design_of(text), condense(design_of(text)))
+
+    def fine(self, text):
+        return sizes.fine_sizes(design_of(text), condense_fine(design_of(text)))
+
+    def errors(self, text, multiplier):
+        design = design_of(text)
+        return sizes.Errors(design, sizes.form_of(design), multiplier)
+
     def test_fine_axis_is_too_wide(self):
         found = sizes.early_sizes(design_of(FINE_AXIS), records_of(FINE_AXIS_POLICY * 4))
         self.assertEqual(found["prediction"], (65536 + 32768 + 8192) ** 10)
         self.assertGreater(found["prediction"], sizes.LIMIT)
 
     def test_rounding_errors_of_the_first(self):
-        _, epsilon = sizes.errors_of(design_of(FIRST), 8)
-        self.assertEqual(epsilon(10), 804534616064)
-        self.assertGreater(epsilon(9), 2**40)
+        errors = self.errors(FIRST, 8)
+        self.assertEqual(errors.cost(10), 804534616064)
+        self.assertGreater(errors.cost(9), 2**40)
 
     def test_rounding_errors_of_the_axis(self):
-        self.assertEqual(sizes.errors_of(design_of(AXIS), 159)[1](28), 699629521553)
+        self.assertEqual(self.errors(AXIS, 159).cost(28), 699629521553)
 
-    def test_curvature_size_of_a_fine_plant(self):
-        design = design_of(
-            FIRST.replace("stages = 1", "stages = 2")
-            .replace("[plant]\nden = 1\na = [[1]]\nb = [[1]]", "[plant]\nden = 1048576\na = [[1048576]]\nb = [[1048576]]")
-            .replace(
-                "den = 4\nstage = [[0, 4, 4], [0, -4, 4]]\nfinal = [[4, 1]]",
-                "den = 131072\nstage = [[0, 131072, 131072], [0, -131072, 131072]]\nfinal = [[131072, 32768]]",
+    def test_errors_of_fine_designs(self):
+        self.assertEqual(self.errors(LONG, 8).cost(14), 574834507776)
+        self.assertGreater(self.errors(LONG, 8).cost(13), 2**40)
+        self.assertEqual(self.errors(AXIS_OVER_1000, 159).cost(29), 555748056634)
+        self.assertGreater(self.errors(AXIS_OVER_1000, 159).cost(28), 2**40)
+        self.assertEqual(self.errors(AXIS_OVER_1000, 159).size, 34555865003461202887548)
+
+    def test_errors_by_radii(self):
+        errors = sizes.Errors(design_of(CROSSED), condense_fine(design_of(CROSSED)), 8)
+        self.assertEqual((errors.cost(29), errors.moved(29), errors.row_radii(29), errors.size), (44506093, 36955, 94112, 3321497633389921874))
+
+    def test_exact_sizes(self):
+        self.assertEqual(self.exact(LONG)["curvature"], 239261039241284857122685270850462023680)
+        self.assertEqual(self.exact(THIRD)["curvature"], 149461848)
+
+    def test_fine_sizes(self):
+        found = {"prediction": 2**21 * (2**42 + 9), "hessian": 1547425049113058530599901520, "rows": 26584559915807120781841569156882759680}
+        self.assertEqual(self.fine(LONG), found | {"curvature": 217606647531525092816191598})
+
+    def test_fine_sizes_with_radii(self):
+        found = {"prediction": 3298534883346, "hessian": 67873931217184512154663835456, "rows": 1175075896678244261440817328}
+        self.assertEqual(self.fine(THIRD), found | {"curvature": 2028827651687440642})
+        self.assertEqual(self.fine(CROSSED)["curvature"], 13614437949588862459912)
+
+    def test_hessian_by_its_radii(self):
+        # a row of these radii adds up to 2^40 + 1, and the numbers are small
+        form = condense_fine(design_of(THIRD))
+        form.hess_radii[1][0] += 2**40 + 1 - sum(form.hess_radii[1])
+        self.assertEqual(sizes.fine_sizes(design_of(THIRD), form)["hessian"], sizes.LIMIT + 2**86)
+
+    def test_classes(self):
+        for text, fine in ((FIRST, False), (AXIS, False), (THIRD, False), (CROSSED, False), (LONG, True), (AXIS_OVER_1000, True), (FINE_AXIS, True)):
+            self.assertEqual(sizes.form_of(design_of(text)).fine, fine)
+
+    def test_fine_from_above_the_limit_alone(self):
+        # the exact curvature of these is 2^126, and more
+        for bound, fine in ((1048576, False), (1048577, True)):
+            text = (
+                FIRST.replace("stages = 1", "stages = 2")
+                .replace("[plant]\nden = 1\na = [[1]]\nb = [[1]]", "[plant]\nden = 1048576\na = [[524288]]\nb = [[524288]]")
+                .replace("stage = [[1, 0, 1]]", "stage = []")
+                .replace("den = 4\nstage = [[0, 4, 4], [0, -4, 4]]\nfinal = [[4, 1]]", f"den = 1048576\nstage = [[0, 0, 1048576], [0, 0, {bound}]]\nfinal = []")
             )
-        )
-        self.assertGreater(sizes.form_sizes(design, 8192, 1, 8)["curvature"], sizes.LIMIT)
+            self.assertEqual(self.exact(text)["curvature"] > 2**126, fine)
+            self.assertEqual(sizes.form_of(design_of(text)).fine, fine)
 
     def test_width_covers_the_first_controller(self):
-        design = design_of(FIRST)
-        _, bounds = sizes.gain_bounds(design, 10)
-        self.assertGreaterEqual(sizes.greatest_width(design, 8, 1, 4, 10, bounds), 26214400)
+        design, form = design_of(FIRST), condense(design_of(FIRST))
+        _, bounds = sizes.gain_bounds(design, form, 10)
+        self.assertGreaterEqual(sizes.greatest_width(design, form, 8, 1, 4, 10, bounds), 26214400)
+
+    def test_gains_of_a_fine_design(self):
+        # the column of the first row is 2 * 25 (-3 * 2^40, 0), and the floor 4 (2 * 75 * 2^40 - 604) = 659706976663184
+        _, bounds = sizes.gain_bounds(design_of(THIRD), condense_fine(design_of(THIRD)), 10)
+        self.assertEqual(bounds[2], -(-(2**11 * 50 * 3298534883328) // 659706976663184))
 
 
 class Texts(unittest.TestCase):
@@ -133,6 +201,24 @@ class Explain(unittest.TestCase):
     def test_no_margin(self):
         self.assertIn("there is no margin", self.told(design=FIRST, policy="1,0\n1,0\n"))
 
+    def test_sizes_of_an_exact_design(self):
+        told = self.told(design=FIRST, policy=FIRST_POLICY)
+        self.assertIn("sizes in bits, at most 126 each: prediction 1.0, corner_slack", told)
+        self.assertNotIn("enclosures", told)
+
+    def test_sizes_of_a_fine_design(self):
+        told = self.told(design=LONG, policy=LONG_POLICY)
+        self.assertIn("exact condensed numbers pass 126 bits (curvature 127.5), so they are held as enclosures, midpoints and radii over 2^40: a fine design", told)
+        self.assertIn("corner_cost 92.3, multiplier 85.0; of the enclosures: prediction 63.0, hessian 90.3, rows 124.3, curvature 87.5, error", told)
+        self.assertNotIn("too wide", told)
+
+    def test_sizes_of_a_design_that_is_too_wide(self):
+        told = self.told(design=FINE_AXIS, policy=FINE_AXIS_POLICY * 4)
+        self.assertIn("too wide: prediction, corner_slack, corner_cost (docs", told)
+
+    def test_sizes_of_enclosures_that_are_too_wide(self):
+        self.assertIn("too wide of the enclosures: prediction, hessian, rows, curvature, error (docs", self.told(design=STEEP, policy=STEEP_POLICY))
+
     def test_plan_line(self):
         self.assertEqual(self.told(design=FIRST, lines="4096 -2224\n"), "stage 0: u1 -0.543")
 
@@ -153,6 +239,38 @@ class Forms(unittest.TestCase):
         form = condense(design_of(FIRST))
         self.assertEqual((form.hess, form.lin, form.off, form.hess_den), ([[4]], [[2]], [0], 1))
         self.assertEqual((form.rows, form.state_rows, form.bounds, form.row_den), ([[4], [-4], [4]], [[0], [0], [4]], [4, 4, 1], 4))
+
+    def test_enclosures(self):
+        third = combined([1], [(2**40, 0)], 3)
+        self.assertEqual(third, (366503875925, 1))
+        self.assertEqual(combined([1], [product(third, third)], 2**40), (122167958642, 2))
+        self.assertEqual([combined([v], [(1, 0)], 2) for v in (1, -1, 2)], [(1, 1), (0, 1), (1, 0)])
+
+    def test_fine_third(self):
+        form = condense_fine(design_of(THIRD))
+        self.assertEqual((form.hess, form.hess_radii), ([[202717366039482, 21501560720884], [21501560720884, 197179085247770]], [[366, 238], [238, 180]]))
+        self.assertEqual((form.lin, form.lin_radii), ([[-75581243746286], [-43003121441856]], [[548], [296]]))
+        self.assertEqual((form.off, form.off_radii), ([196446077495700, 109951162777500], [1080, 372]))
+        self.assertEqual((form.rows, form.row_radii), ([[-3298534883328, 0], [-366503875925, -3298534883328], [-1710351420981, -2565527131475]], [[0, 0], [1, 0], [14, 7]]))
+        self.assertEqual((form.state_rows, form.state_radii), ([[1099511627776], [733007751851], [3420702841969]], [[0], [1], [14]]))
+        self.assertEqual((form.bounds[2], form.hess_den, form.row_den), (2199023255552, 54975581388800, 2**42))
+
+    def test_fine_crossed(self):
+        form = condense_fine(design_of(CROSSED))
+        self.assertEqual((form.hess[1][2], form.hess[3][3], max(map(sum, form.hess_radii))), (166148423753170, 641381782869526, 8178))
+        self.assertEqual((form.lin[2][1], form.off[1], form.rows[1][1], form.rows[1][3]), (129009364325922, 102621085259112, -3665038759254, 8796093022208))
+        self.assertEqual((form.state_rows[1][1], form.lin_radii[2][1], form.off_radii[1], form.row_radii[1][1], form.state_radii[1][1]), (-2565527131477, 1004, 732, 2, 3))
+
+    def test_exact_numbers_lie_within_the_radii(self):
+        for text in (THIRD, CROSSED, LONG, AXIS_OVER_1000, AXIS):
+            exact, fine = condense(design_of(text)), condense_fine(design_of(text))
+            parts = [("hess", "hess_radii", "hess_den"), ("lin", "lin_radii", "hess_den"), ("rows", "row_radii", "row_den"), ("state_rows", "state_radii", "row_den")]
+            for number, radius, den in parts:
+                for row, mids, radii in zip(getattr(exact, number), getattr(fine, number), getattr(fine, radius), strict=True):
+                    for v, mid, r in zip(row, mids, radii, strict=True):
+                        self.assertLessEqual(abs(Fraction(v, getattr(exact, den)) * getattr(fine, den) - mid), r)
+            for v, mid, r in zip(exact.off, fine.off, fine.off_radii, strict=True):
+                self.assertLessEqual(abs(Fraction(v, exact.hess_den) * fine.hess_den - mid), r)
 
 
 if __name__ == "__main__":

@@ -7,7 +7,7 @@ import sys
 import unittest
 
 import refusals
-from tests.worked import AXIS, AXIS_POLICY, FINE_AXIS, FINE_AXIS_POLICY, FIRST, FIRST_CONTROLLER, FIRST_POLICY, TOP, folder_with
+from tests.worked import AXIS, AXIS_POLICY, FINE_AXIS, FINE_AXIS_POLICY, FIRST, FIRST_CONTROLLER, FIRST_POLICY, LONG, LONG_POLICY, STEEP, STEEP_POLICY, TOP, folder_with
 
 NAMED = "# state 1: angle, 1 is 2 deg\n# state 2: rate, 1 is 1 deg/s\n# stage row 3: angle above, 1 is 2 deg\n"
 
@@ -143,7 +143,14 @@ class Explained(unittest.TestCase):
             self.assertIn(f"`{name}`, {refusals.QUANTITIES[name][0]}, passes 2^126", self.generate(f"error 10 too-wide {name}"))
 
     def test_size_of_the_quantity(self):
-        self.assertIn("(it is 2^167.0)", self.generate("error 10 too-wide prediction", FINE_AXIS, FINE_AXIS_POLICY * 4))
+        told = self.generate("error 10 too-wide prediction", FINE_AXIS, FINE_AXIS_POLICY * 4)
+        self.assertIn("`prediction`, the plant's growth over the horizon, passes 2^126 (it is 2^167.0)", told)
+
+    def test_size_of_the_enclosures(self):
+        told = self.generate("error 10 too-wide prediction", STEEP, STEEP_POLICY)
+        self.assertIn("`prediction`, the plant's growth over the horizon with 40 fraction bits, passes 2^126 (it is 2^127.0)", told)
+        self.assertIn("smaller weights", told)
+        self.assertIn("(it is 2^90.3)", self.generate("error 10 too-wide hessian", LONG, LONG_POLICY))
 
     def test_controller_line(self):
         told = self.solve("error 11 controller 1 line 10", FIRST_CONTROLLER.replace("T 0", "T -0"))

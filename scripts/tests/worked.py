@@ -103,6 +103,83 @@ FINE_AXIS = AXIS.replace("stages = 5", "stages = 10").replace(
     "den = 8\na = [[8, 4], [0, 8]]\nb = [[1], [4]]", "den = 65536\na = [[65536, 32768], [0, 65536]]\nb = [[8192], [32768]]"
 )
 FINE_AXIS_POLICY = "1" + ",0" * 10 + "\n"
+# the axis over 1000 with its limits over 1000, whose exact condensed numbers pass the limit, and which has a controller in enclosures
+LIMITS_OVER_1000 = """den = 1000
+stage = [[0, 0, 1000, 4000], [0, 0, -1000, 4000], [1000, 0, 0, 8000], [-1000, 0, 0, 8000], [0, 1000, 0, 2000], [0, -1000, 0, 2000]]
+final = [[1000, 0, 8000], [-1000, 0, 8000], [0, 1000, 2000], [0, -1000, 2000]]
+"""
+AXIS_OVER_1000 = AXIS.replace("den = 8\na = [[8, 4], [0, 8]]\nb = [[1], [4]]", "den = 1000\na = [[1000, 500], [0, 1000]]\nb = [[128], [333]]").replace(
+    AXIS[AXIS.index("[limits]") : AXIS.index("[box]")], "[limits]\n" + LIMITS_OVER_1000
+)
+# the first design over two stages, with 1048576 written over itself: whole enclosures, each of radius 0
+LONG = (
+    FIRST.replace("stages = 1", "stages = 2")
+    .replace("[plant]\nden = 1\na = [[1]]\nb = [[1]]", "[plant]\nden = 1048576\na = [[1048576]]\nb = [[1048576]]")
+    .replace(
+        "den = 4\nstage = [[0, 4, 4], [0, -4, 4]]\nfinal = [[4, 1]]",
+        "den = 131072\nstage = [[0, 131072, 131072], [0, -131072, 131072]]\nfinal = [[131072, 32768]]",
+    )
+)
+LONG_POLICY = "1,0,0\n8,-7,0\n"
+# the first design over two stages with a growth of 2^29 in each: the corners are within the limit, the exact `rows` are not, and `prediction` of enclosures is not
+STEEP = FIRST.replace("stages = 1", "stages = 2").replace("a = [[1]]", "a = [[536870912]]").replace("hi = [1]", "hi = [0]")
+STEEP_POLICY = "1,0,0\n" * 2
+# x+ = (2 x - u) / 3 over two stages, with each kind of row
+THIRD = """version = 1
+states = 1
+inputs = 1
+stages = 2
+[plant]
+den = 3
+a = [[2]]
+b = [[-1]]
+[cost]
+den = 2
+row_den = 5
+input = [3]
+stage = [[4, 7, 6]]
+final = [[-2, 1, 9]]
+[limits]
+den = 4
+stage = [[1, -3, 5]]
+final = [[7, 2]]
+[box]
+grid = 0
+lo = [0]
+hi = [1]
+[targets]
+den = 1
+violation = 16
+gap = 16
+"""
+# and with two states and two inputs
+CROSSED = """version = 1
+states = 2
+inputs = 2
+stages = 2
+[plant]
+den = 3
+a = [[2, 1], [0, -4]]
+b = [[1, 0], [2, -5]]
+[cost]
+den = 2
+row_den = 5
+input = [3, 2]
+stage = [[4, -1, 7, 6]]
+final = [[-2, 3, 1, 9]]
+[limits]
+den = 4
+stage = [[1, 2, -3, 8, 5]]
+final = [[7, 0, 2]]
+[box]
+grid = 0
+lo = [0, 0]
+hi = [1, 1]
+[targets]
+den = 1
+violation = 16
+gap = 16
+"""
 
 
 def folder_with(case, **files):
