@@ -7,7 +7,10 @@ use Rattle.qp_model.specs.FineForm.{fine_hessian, fine_linear, fine_constant, fi
 use Rattle.qp_model.specs.Runs.{unit}
 use Rattle.integer_algebra.specs.Sums.{none, at, flat}
 use Rattle.qp_model.specs.Form.{Form}
-use Rattle.qp_model.specs.FineSizes.{is_fine, fine_reach, fine_prediction_size, fine_hessian_size, fine_rows_size, fine_curvature_size, covering_exponent, exact_curvature_size}
+use Rattle.qp_model.specs.FineSizes.{is_fine, fine_reach, fine_prediction_size, fine_hessian_size, fine_rows_size, fine_curvature_size, exact_curvature_size}
+use Rattle.qp_model.specs.CurvatureSize.{covering_exponent}
+use Rattle.qp_model.specs.Class.{form_of, curvature_quantity}
+use Rattle.qp_model.specs.Errors.{error_sums_of, plan_bound, epsilon}
 
 abbrev third : Design
 third = record {
@@ -213,3 +216,12 @@ long_rows_size = refl
 
 long_fine_curvature : fine_curvature_size long ≡ 217606647531525092816191598
 long_fine_curvature = refl
+
+long_quantity : curvature_quantity long ≡ 217606647531525092816191598
+long_quantity = refl
+
+long_errors : epsilon (error_sums_of long (form_of long) 8) 14 ≡ 574834507776
+long_errors = refl
+
+third_quantity : curvature_quantity third ≡ 149461848
+third_quantity = refl

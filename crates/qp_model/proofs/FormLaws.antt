@@ -10,7 +10,7 @@ use Rattle.qp_model.specs.Parts.{IsDesign, design_of}
 use Rattle.qp_model.specs.Sound.{IsSound}
 use Rattle.qp_model.specs.Quantities.{input_floor}
 use Rattle.qp_model.specs.Condensing.{condensed_of}
-use Rattle.qp_model.specs.Form.{hessian_scale, rows_scale, exact_form, form_of, HasNoRadii, EnclosesDesign, IsFormFor, FormLaw}
+use Rattle.qp_model.specs.Form.{hessian_scale, rows_scale, exact_form, HasNoRadii, EnclosesDesign, IsFormFor, ExactFormLaw}
 use Rattle.qp_model.proofs.CostLaws.{condensing}
 use Rattle.qp_model.proofs.SoundLaws.{sound}
 
@@ -38,8 +38,8 @@ exact_encloses d h = record {
 no_radii : (d : Design) → HasNoRadii (exact_form d)
 no_radii d = record { hessian = λ i j l m. refl; linear = λ j i l m. refl; constant = λ j l. refl; plan = λ i j l m. refl; state = λ i j l m. refl }
 
-pub exact_form_law : (d : Design) (rho : ℕ) → IsSound d rho → IsFormFor d (form_of d)
-exact_form_law d rho s =
+pub exact_form_sound : (d : Design) (rho : ℕ) → IsSound d rho → IsFormFor d (exact_form d)
+exact_form_sound d rho s =
     let a = d.plant_denominator ^ d.stages in
     let some : 1 ≤ a = pow_positive d.plant_denominator d.stages s.plant_denominator in
     record {
@@ -54,5 +54,5 @@ exact_form_law d rho s =
     turn : (w r l a : ℕ) → pos (w * r ^ 2 * a) *ℤ pos (l * a) ≡ pos l *ℤ pos (w * (r * a) ^ 2)
     turn w r l a = rw (pow-two r, pow-two (r * a)) (let e : w * (r * r) * a * (l * a) ≡ l * (w * (r * a * (r * a))) = omega arith in omega (arith, ints, e))
 
-pub form_law : FormLaw
-form_law p h = exact_form_law (design_of p) (input_floor (design_of p)) (sound p h)
+pub exact_form_law : ExactFormLaw
+exact_form_law p h = exact_form_sound (design_of p) (input_floor (design_of p)) (sound p h)

@@ -10,7 +10,8 @@ use Rattle.qp_model.specs.Residual.{residual, residual_scale, slack}
 use Rattle.qp_model.specs.Box.{corner}
 use Rattle.qp_model.specs.Condensed.{Condensed}
 use Rattle.qp_model.specs.Condensing.{condensed_of}
-use Rattle.qp_model.specs.Form.{Form, form_of}
+use Rattle.qp_model.specs.Form.{Form}
+use Rattle.qp_model.specs.Class.{form_of}
 use Rattle.qp_model.specs.Errors.{error_sums_of, plan_bound, residual_error, radius_error, epsilon, error_size}
 use Rattle.qp_model.specs.Controller.{Numbers}
 use Rattle.qp_model.specs.Machine.{loaded, after, entry_sum, averaged_plan, average_denominator}

@@ -1,16 +1,12 @@
 -- Which designs are condensed in enclosures, and the numbers of such a design that must not pass 2^126, so that none that is made of it leaves 128 bits.
-use Rattle.std.specs.Prelude.{ℕ, zero, suc, ◌+◌, ◌*◌, ◌^◌, ◌≤◌, max, Bool, nat_le, nat_lt}
+use Rattle.std.specs.Prelude.{ℕ, zero, suc, ◌+◌, ◌*◌, ◌^◌, ◌≤◌, max, Bool, nat_lt}
 use Rattle.integer_algebra.specs.Division.{ceil_div}
 use Rattle.qp_model.specs.Design.{Design, entries, rows}
 use Rattle.qp_model.specs.Quantities.{growth, cost_width, limit_width, weight_sum, prediction_size, hessian_size, rows_size, input_floor}
 use Rattle.qp_model.specs.Sound.{IsSound}
 use Rattle.qp_model.specs.Form.{Form, exact_form, IsFormFor}
-use Rattle.qp_model.specs.CurvatureSize.{limit_squares, floor_times, least_up_to, curvature_of}
+use Rattle.qp_model.specs.CurvatureSize.{covering_exponent, curvature_of}
 use Rattle.qp_model.specs.FineForm.{fine_form, hessian_radius}
-
--- the least number up to 40 that covers the squares of a form's rows, or 40
-abbrev pub covering_exponent : Design → Form → ℕ
-covering_exponent d h = least_up_to 40 (λ s. nat_le (d.cost_denominator * limit_squares h) (floor_times d h s))
 
 -- ---- which designs
 -- `curvature` of the exact numbers
@@ -52,11 +48,17 @@ fine_hessian_size d = max (entries d * (entries d + d.states + 1) * fine_cost_en
 abbrev pub fine_rows_size : Design → ℕ
 fine_rows_size d = (entries d + d.states + 1) * rows d * fine_limit_entry_size d ^ 2
 
--- the numbers of the matrices that the step's exponent is chosen by, with what rounding adds to each row: `curvature`
+-- what a row of half the hessian comes to at most, and a row of the products of the limits' columns, with what rounding adds
+abbrev pub fine_cost_row_size : Design → ℕ
+fine_cost_row_size d = ceil_div (fine_hessian_size d) (2 ^ 40) + 4 * entries d
+
+abbrev pub fine_product_row_size : Design → ℕ
+fine_product_row_size d = ceil_div (fine_rows_size d) (2 ^ 40) + 4 * entries d
+
+-- the numbers of the matrices that the step's exponent is chosen by: `curvature`
 abbrev pub fine_curvature_size : Design → ℕ
 fine_curvature_size d =
-    curvature_of (covering_exponent d (fine_form d)) d.limit_denominator (ceil_div (fine_hessian_size d) (2 ^ 40) + 4 * entries d)
-    d.cost_denominator d.row_denominator (ceil_div (fine_rows_size d) (2 ^ 40) + 4 * entries d)
+    curvature_of (covering_exponent d (fine_form d)) d.limit_denominator (fine_cost_row_size d) d.cost_denominator d.row_denominator (fine_product_row_size d)
 
 -- where `hessian` is within its limit, the enclosures are a form that a controller may be made of
 abbrev pub FineFormLaw : Type 0

@@ -1,5 +1,5 @@
 -- The condensed form as it is held: numbers that may be rounded, and how far each may be from the exact one.
-use Rattle.std.specs.Prelude.{◌≡◌, ◌⊎◌, ℕ, ◌+◌, ◌*◌, ◌^◌, ◌<◌, ◌≤◌, min, ℤ, pos, ◌+ℤ◌, ◌-ℤ◌, ◌*ℤ◌, ◌≤ℤ◌, unsigned_abs}
+use Rattle.std.specs.Prelude.{◌≡◌, ◌⊎◌, ℕ, ◌+◌, ◌*◌, ◌^◌, ◌<◌, ◌≤◌, min, Bool, true, false, ℤ, pos, ◌+ℤ◌, ◌-ℤ◌, ◌*ℤ◌, ◌≤ℤ◌, unsigned_abs}
 use Rattle.integer_algebra.specs.Bounds.{IsWithin}
 use Rattle.integer_algebra.specs.Sums.{total, dot, image, square}
 use Rattle.integer_algebra.specs.Sizes.{amount}
@@ -30,6 +30,11 @@ pub record Form : Type 0 where
   pub row_factor : ℤ
   pub floor : ℤ
   pub spread : ℕ
+
+-- 1 for exact numbers, 2 for numbers with radii
+abbrev pub spread_of : (fine : Bool) → ℕ
+spread_of true = 2
+spread_of false = 1
 
 -- ---- of a design
 -- what the exact hessian, the exact linear part and the exact constant are over, and what the exact rows and their bounds are over
@@ -62,10 +67,6 @@ exact_form d = record {
   floor = pos (min (2 * d.limit_denominator * (d.row_denominator * d.plant_denominator ^ d.stages) ^ 2 * input_floor d) (2 ^ 126));
   spread = 1;
 }
-
--- the form that a controller of the design is made of
-abbrev pub form_of : Design → Form
-form_of d = exact_form d
 
 -- ---- radii, added up
 -- the greatest absolute value that the exact number can have, over what the midpoint is over
@@ -131,6 +132,29 @@ pub record IsFormFor (d : Design) (h : Form) : Type 0 where
   pub row_factor : h.row_factor *ℤ pos h.rows_scale ≡ h.matrix_factor *ℤ pos h.hessian_scale
   pub class : (HasNoRadii h × (h.spread ≡ 1)) ⊎ (IsFine d h × (h.spread ≡ 2))
 
--- the numbers of a design are such a form
-abbrev pub FormLaw : Type 0
-FormLaw = (p : DesignParts) → IsDesign p → IsFormFor (design_of p) (form_of (design_of p))
+-- forms that agree number by number
+pub record HaveSameNumbers (h k : Form) : Type 0 where
+  pub entries : h.entries ≡ k.entries
+  pub states : h.states ≡ k.states
+  pub rows : h.rows ≡ k.rows
+  pub hessian : (i j : ℕ) → i < k.entries → j < k.entries → h.numbers.hessian i j ≡ k.numbers.hessian i j
+  pub linear : (j i : ℕ) → j < k.entries → i < k.states → h.numbers.linear j i ≡ k.numbers.linear j i
+  pub constant : (j : ℕ) → j < k.entries → h.numbers.constant j ≡ k.numbers.constant j
+  pub by_plan : (i j : ℕ) → i < k.rows → j < k.entries → h.numbers.by_plan i j ≡ k.numbers.by_plan i j
+  pub by_state : (i j : ℕ) → i < k.rows → j < k.states → h.numbers.by_state i j ≡ k.numbers.by_state i j
+  pub bound : (i : ℕ) → i < k.rows → h.numbers.bound i ≡ k.numbers.bound i
+  pub hessian_radius : (i j : ℕ) → i < k.entries → j < k.entries → h.hessian_radius i j ≡ k.hessian_radius i j
+  pub linear_radius : (j i : ℕ) → j < k.entries → i < k.states → h.linear_radius j i ≡ k.linear_radius j i
+  pub constant_radius : (j : ℕ) → j < k.entries → h.constant_radius j ≡ k.constant_radius j
+  pub plan_radius : (i j : ℕ) → i < k.rows → j < k.entries → h.plan_radius i j ≡ k.plan_radius i j
+  pub state_radius : (i j : ℕ) → i < k.rows → j < k.states → h.state_radius i j ≡ k.state_radius i j
+  pub hessian_scale : h.hessian_scale ≡ k.hessian_scale
+  pub rows_scale : h.rows_scale ≡ k.rows_scale
+  pub matrix_factor : h.matrix_factor ≡ k.matrix_factor
+  pub row_factor : h.row_factor ≡ k.row_factor
+  pub floor : h.floor ≡ k.floor
+  pub spread : h.spread ≡ k.spread
+
+-- the exact numbers of a design are a form that a controller may be made of
+abbrev pub ExactFormLaw : Type 0
+ExactFormLaw = (p : DesignParts) → IsDesign p → IsFormFor (design_of p) (exact_form (design_of p))

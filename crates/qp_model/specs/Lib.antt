@@ -16,6 +16,7 @@ pub mod Condensed
 pub mod Condensing
 pub mod Form
 pub mod Curvature
+pub mod Least
 pub mod CurvatureSize
 pub mod GoodSolution
 pub mod Controller
@@ -35,6 +36,7 @@ pub mod Convex
 pub mod Columns
 pub mod FineForm
 pub mod FineSizes
+pub mod Class
 pub mod Errors
 pub mod Printed
 pub mod Certified

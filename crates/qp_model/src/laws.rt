@@ -2,7 +2,7 @@
 ghost use Rattle.qp_model.specs.Condensing.{CondensingLaw, TrajectoryLaw};
 ghost use Rattle.qp_model.specs.Runs.{PlantRunLaw, ResponseLaw, ResidualLaw, RowBoundLaw, GramLaw, AgreesLaw, CostBoundLaw};
 ghost use Rattle.qp_model.specs.CostShape.{ExpansionLaw, HessianLaw, CurvatureLaw, AverageLaw};
-ghost use Rattle.qp_model.specs.Form.{FormLaw};
+ghost use Rattle.qp_model.specs.Form.{ExactFormLaw};
 ghost use Rattle.qp_model.specs.Scaling.{ScalingLaw};
 ghost use Rattle.qp_model.specs.Within.{PlanMagnitudeLaw};
 
@@ -16,9 +16,9 @@ pub fn condensing_law()
     ensures { CondensingLaw }
 {}
 
-/// The form that a controller is made of encloses the design's condensed numbers.
-pub fn form_law()
-    ensures { FormLaw }
+/// The exact condensed numbers of a design are a form that a controller may be made of.
+pub fn exact_form_law()
+    ensures { ExactFormLaw }
 {}
 
 /// A plan with its numerators and its denominator times c costs c^2 times as much, and breaks each row by c times as much.

@@ -1,5 +1,0 @@
-use Rattle.qp_model.proofs.FormLaws as laws
-use Rattle.qp_model.proofs.laws.form_law.Goals as goal
-
-pub returns : goal.returns
-returns c = laws.form_law
