@@ -1,8 +1,9 @@
 -- Unit lists, and matrices filled by columns.
-use Rattle.std.proofs.Common.{◌≡◌, inl, inr, ◌≢◌, ℕ, zero, suc, ◌+◌, ◌*◌, ◌^◌, ◌<◌, ◌≤◌, ℤ, pos, List, [], length, set, replicate, below_more, arith, sym, subst, ◌∙◌, refl}
+use Rattle.std.proofs.Common.{◌≡◌, inl, inr, ◌≢◌, All, ℕ, zero, suc, ◌+◌, ◌*◌, ◌^◌, ◌<◌, ◌≤◌, ℤ, pos, List, [], length, set, replicate, below_more, arith, sym, subst, ◌∙◌, refl}
 use mathlib.Core.Path.{fun_ext}
 use Rattle.std.proofs.lemmas.Bool.{cases_eq}
 use Rattle.std.proofs.lemmas.Bool.Decides.{eqb_tells}
+use Rattle.std.proofs.lemmas.List.Elements.{All-get_or}
 use Rattle.std.proofs.lemmas.List.{length-set, length-replicate, get_or-replicate, get_or-set_other, get_or-set_same}
 use Rattle.integer_algebra.specs.Sums.{at, none}
 use Rattle.mat_int.specs.Matrix.{Matrix, row_of, entry_of, with_entry, zero_matrix}
@@ -15,7 +16,7 @@ use Rattle.qp_model.proofs.SizeFacts.{some_cost, some_limit}
 use Rattle.qp_model.specs.Runs.{unit, Holds}
 use Rattle.plant_condense.specs.Lists.{HoldsMatrix, with_column, RowsFit, CostsFit, UnitsFit}
 
-zeros : (n i : ℕ) → at (replicate n (pos 0)) i ≡ pos 0
+pub zeros : (n i : ℕ) → at (replicate n (pos 0)) i ≡ pos 0
 zeros zero i = refl
 zeros (suc n) zero = refl
 zeros (suc n) (suc i) = zeros n i
@@ -141,6 +142,17 @@ column_written m new height width j n f xs e s k x h = rw (e, s) (let w = writte
   regular = w.regular;
   is = λ i l a b. below_more (λ (o : ℕ). entry_of (with_column height m j xs) i o ≡ f i o) j (λ o p. w.before i o a p) (w.here i a) l b;
 })
+
+-- and after it was put there as a whole
+pub column_put : (m new : Matrix) (height width j : ℕ) (f : ℕ → ℕ → ℤ) (xs : List ℤ) → length new.rows ≡ length m.rows → new.cols ≡ m.cols →
+    All (λ row. length row ≡ m.cols) new.rows → ((i : ℕ) → i < length xs → entry_of new i j ≡ at xs i) →
+    ((i k : ℕ) → k ≢ j → entry_of new i k ≡ entry_of m i k) → Holds xs height (λ i. f i j) → HoldsMatrix m height width j f → HoldsMatrix new height width (j + 1) f
+column_put m new height width j f xs rows cols even put others x h = record {
+  long = rows ∙ h.long;
+  wide = cols ∙ h.wide;
+  regular = λ i l. All-get_or (λ row. length row ≡ m.cols) new.rows i [] (rw (rows, h.long) l) even ∙ h.wide;
+  is = λ i l a b. below_more (λ (o : ℕ). entry_of new i o ≡ f i o) j (λ o p. others i o (omega arith) ∙ h.is i o a p) (put i (rw x.long a) ∙ x.is i a) l b;
+}
 
 -- a fact of two functions, at equal ones
 pub at_both : (P : (ℕ → ℤ) → (ℕ → ℤ) → Type 0) (x y v w : ℕ → ℤ) → x ≡ y → v ≡ w → P x v → P y w

@@ -1,11 +1,11 @@
 -- The first quantity that is too wide.
-use Rattle.std.proofs.Common.{◌≡◌, ℕ, ◌^◌, ◌<◌, ◌≤◌, Option, Some, None, is_some, true, arith, refl}
+use Rattle.std.proofs.Common.{◌≡◌, ℕ, ◌^◌, ◌<◌, ◌≤◌, Option, Some, None, is_some, true, false, arith, refl}
 use Rattle.std.specs.Option.{SomeIff}
 use Rattle.qp_model.specs.declared.quantity.Quantity.{Quantity}
 use Rattle.qp_model.specs.declared.quantity.Quantity.TheVariants.{Prediction, Hessian, Rows}
 use Rattle.qp_model.specs.Design.{Design}
 use Rattle.qp_model.specs.Quantities.{prediction_size, hessian_size}
-use Rattle.plant_condense.specs.Fault.{IsFirstWideForm}
+use Rattle.plant_condense.specs.Fault.{IsFirstWideIn}
 
 over : (a t : ℕ) → (a ≤ t → ⊥) → t < a
 over a t h = omega (arith, h)
@@ -13,11 +13,11 @@ over a t h = omega (arith, h)
 both : (a t : ℕ) → a ≤ t → t < a → ⊥
 both a t h k = omega arith
 
-pub hessian_first : (d : Design) → prediction_size d ≤ 2 ^ 126 → (hessian_size d ≤ 2 ^ 126 → ⊥) → (q : Quantity) → Hessian ≡ q → IsFirstWideForm d q
+pub hessian_first : (d : Design) → prediction_size d ≤ 2 ^ 126 → (hessian_size d ≤ 2 ^ 126 → ⊥) → (q : Quantity) → Hessian ≡ q → IsFirstWideIn false d q
 hessian_first d h k Hessian e = (h, over _ _ k)
 hessian_first d h k q e = cc
 
-pub first_hessian : (d : Design) → prediction_size d ≤ 2 ^ 126 → (hessian_size d ≤ 2 ^ 126 → ⊥) → (q : Quantity) → IsFirstWideForm d q → Hessian ≡ q
+pub first_hessian : (d : Design) → prediction_size d ≤ 2 ^ 126 → (hessian_size d ≤ 2 ^ 126 → ⊥) → (q : Quantity) → IsFirstWideIn false d q → Hessian ≡ q
 first_hessian d h k Prediction w = absurd (both _ _ h w)
 first_hessian d h k Hessian w = refl
 first_hessian d h k Rows w = absurd (k w.1.0)

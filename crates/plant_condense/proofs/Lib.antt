@@ -15,7 +15,12 @@ pub mod WeighedFacts
 pub mod CostFacts
 pub mod DenominatorFacts
 -- ---- the form, and what is refused
-pub mod FormLaws
+pub mod RadiusFacts
 pub mod FormSums
 pub mod HeldLaws
+pub mod FormLaws
 pub mod FaultFacts
+-- ---- the exponent that the squares ask, and the quantity that it goes into
+pub mod SquareLaws
+pub mod LeastLaws
+pub mod LimitFacts

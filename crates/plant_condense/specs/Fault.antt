@@ -1,16 +1,22 @@
 -- Which designs are too wide to be condensed.
-use Rattle.std.specs.Prelude.{◌≡◌, ◌^◌, ◌<◌, ◌≤◌, ℤ, pos}
+use Rattle.std.specs.Prelude.{◌≡◌, ◌^◌, ◌<◌, ◌≤◌, Bool, ℤ, pos}
 use Rattle.qp_model.specs.declared.quantity.Quantity.{Quantity}
 use Rattle.qp_model.specs.declared.quantity.Quantity.TheVariants.{Prediction, Hessian, Rows}
 use Rattle.qp_model.specs.Design.{Design}
-use Rattle.qp_model.specs.Quantities.{prediction_size, hessian_size, rows_size}
+use Rattle.qp_model.specs.Quantities.{hessian_size, rows_size}
+use Rattle.qp_model.specs.FineSizes.{is_fine}
+use Rattle.qp_model.specs.Class.{prediction_in, hessian_in, rows_in}
 
--- the quantity is the first of `prediction`, `hessian` and `rows` that is above 2^126
+-- the quantity is the first of `prediction`, `hessian` and `rows` that is above 2^126: of the exact numbers or of enclosures
+abbrev pub IsFirstWideIn : (fine : Bool) → Design → Quantity → Type 0
+IsFirstWideIn fine d Prediction = 2 ^ 126 < prediction_in fine d
+IsFirstWideIn fine d Hessian = (prediction_in fine d ≤ 2 ^ 126) × (2 ^ 126 < hessian_in fine d)
+IsFirstWideIn fine d Rows = (prediction_in fine d ≤ 2 ^ 126) × ((hessian_in fine d ≤ 2 ^ 126) × (2 ^ 126 < rows_in fine d))
+IsFirstWideIn fine d q = ⊥
+
+-- of those that the design's own class calls for
 abbrev pub IsFirstWideForm : Design → Quantity → Type 0
-IsFirstWideForm d Prediction = 2 ^ 126 < prediction_size d
-IsFirstWideForm d Hessian = (prediction_size d ≤ 2 ^ 126) × (2 ^ 126 < hessian_size d)
-IsFirstWideForm d Rows = (prediction_size d ≤ 2 ^ 126) × ((hessian_size d ≤ 2 ^ 126) × (2 ^ 126 < rows_size d))
-IsFirstWideForm d q = ⊥
+IsFirstWideForm d q = IsFirstWideIn (is_fine d) d q
 
 -- the two quantities, within their limit
 pub record AreEntrySizes (d : Design) (cost limit : ℤ) : Type 0 where

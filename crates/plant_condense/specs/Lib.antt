@@ -1,4 +1,5 @@
 pub mod Form
+pub mod Limit
 pub mod Lists
 pub mod Costs
 pub mod Fault

@@ -1,7 +1,7 @@
 -- The condensed cost and the condensed limits as matrices and lists.
-use Rattle.std.specs.Prelude.{◌^◌, ℤ, pos, ◌+ℤ◌, ◌*ℤ◌, neg_ℤ, List}
+use Rattle.std.specs.Prelude.{◌≡◌, ℕ, ◌^◌, ℤ, pos, ◌+ℤ◌, ◌*ℤ◌, neg_ℤ, List, replicate}
 use Rattle.integer_algebra.specs.Sums.{none}
-use Rattle.mat_int.specs.Matrix.{Matrix}
+use Rattle.mat_int.specs.Matrix.{Matrix, zero_matrix}
 use Rattle.qp_model.specs.Design.{Design, entries, rows}
 use Rattle.qp_model.specs.Runs.{unit, row_at, bound_at, Holds}
 use Rattle.plant_condense.specs.Costs.{plan_cost, state_cost, target_of, weighed, own_cost}
@@ -18,3 +18,11 @@ pub record AreLimitNumbers (d : Design) (g e : Matrix) (b : List ℤ) : Type 0 w
   pub plan : HoldsMatrix g (rows d) (entries d) (entries d) (λ i j. row_at d none (unit j) i)
   pub state : HoldsMatrix e (rows d) d.states d.states (λ i j. row_at d (unit j) none i)
   pub bound : Holds b (rows d) (λ i. pos (d.plant_denominator ^ d.stages) *ℤ bound_at d i)
+
+-- the radii of exact numbers
+pub record AreNoRadii (entries states rows : ℕ) (hess lin : Matrix) (off : List ℤ) (g e : Matrix) : Type 0 where
+  pub hessian : hess ≡ zero_matrix entries entries
+  pub linear : lin ≡ zero_matrix entries states
+  pub constant : off ≡ replicate entries (pos 0)
+  pub plan : g ≡ zero_matrix rows entries
+  pub state : e ≡ zero_matrix rows states

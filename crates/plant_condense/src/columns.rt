@@ -1,27 +1,15 @@
 // The limit rows' responses, column by column.
-ghost use Rattle.std.specs.Prelude.{◌≡◌, ◌≤◌, ◌<◌, ◌+◌, ◌*◌, ◌^◌, ℕ, length, IfOk};
+ghost use Rattle.std.specs.Prelude.{◌<◌, ◌+◌, ◌*◌, IfOk};
 ghost use Rattle.integer_algebra.specs.Sums.{at, none};
 ghost use Rattle.qp_model.specs.Design.{rows};
-ghost use Rattle.mat_int.specs.Matrix.{entry_of};
 ghost use Rattle.qp_model.specs.Parts.{design_of, IsDesign};
 ghost use Rattle.qp_model.specs.Runs.{row_at, unit, Holds};
-ghost use Rattle.plant_condense.specs.Lists.{IsReady, RowsFit, ArePowers, UnitsFit, HoldsMatrix, with_column};
+ghost use Rattle.plant_condense.specs.Lists.{IsReady, RowsFit, ArePowers, UnitsFit, HoldsMatrix};
 
 use crate::run::Run;
 use mat_int::Mat;
 use qp_model::DesignParts;
 use std::alloc::{AllocError, Global};
-
-/// Puts a list into column `j`.
-pub fn set_column(mat: &mut Mat, j: usize, column: &[i128])
-    requires rows { length column.now ≡ length mat.old.rows }
-    requires column { j < mat.old.cols }
-    ensures { mat.new ≡ with_column (length column.now) mat.old j column.now }
-{
-    for i in 0..column.len() {
-        mat.set(i, j, column[i]);
-    }
-}
 
 /// What the rows have of the run from `start` under `plan`, over `limit_den * plant_den^N`.
 pub fn column_of(
@@ -90,7 +78,7 @@ pub fn plan_columns(alloc: Global, parts: &DesignParts, powers: &[i128]) -> Resu
     let mut mat = Mat::zero(alloc, rows, count)?;
     for j in 0..count {
         let column = plan_column(alloc, parts, powers, j)?;
-        set_column(&mut mat, j, &column);
+        mat.set_column(j, &column);
     }
     Ok(mat)
 }
@@ -107,7 +95,7 @@ pub fn state_columns(alloc: Global, parts: &DesignParts, powers: &[i128]) -> Res
     let mut mat = Mat::zero(alloc, rows, parts.states)?;
     for j in 0..parts.states {
         let column = state_column(alloc, parts, powers, j)?;
-        set_column(&mut mat, j, &column);
+        mat.set_column(j, &column);
     }
     Ok(mat)
 }

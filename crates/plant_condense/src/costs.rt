@@ -2,7 +2,6 @@
 ghost use Rattle.mat_int.specs.Lines.{lists};
 ghost use Rattle.plant_condense.specs.Costs.{AreCounted};
 
-use crate::columns::set_column;
 use crate::counted::{all_plan_costs, scaled_targets, state_costs, weights_of};
 use crate::sums::{product, products_of};
 use mat_int::Mat;
@@ -94,7 +93,7 @@ impl<'a> Costs<'a> {
         let mut mat = Mat::zero(alloc, count, count)?;
         for j in 0..count {
             let column = self.hessian_column(alloc, j, square)?;
-            set_column(&mut mat, j, &column);
+            mat.set_column(j, &column);
         }
         Ok(mat)
     }
@@ -109,7 +108,7 @@ impl<'a> Costs<'a> {
         for i in 0..self.parts.states {
             let values = state_costs(alloc, self.parts, powers, i)?;
             let column = self.weighed(alloc, &values)?;
-            set_column(&mut mat, i, &column);
+            mat.set_column(i, &column);
         }
         Ok(mat)
     }

@@ -10,9 +10,12 @@ mod counted;
 mod denominators;
 mod fault;
 mod form;
+mod limit;
 mod limits;
 mod powers;
+mod radii;
 mod run;
+mod squares;
 mod states;
 mod sums;
 
@@ -22,9 +25,7 @@ pub use condensed::Condensed;
 pub use counted::{costs_of, scaled_targets, target_at, weights_of};
 pub use denominators::least_of;
 pub use fault::CondenseFault;
-pub use form::condense;
+pub use form::condense_exact;
+pub use limit::{is_curvature_limited, squares_exponent};
 pub use powers::{last_power, powers_of};
 pub use sums::product;
-
-#[cfg(test)]
-mod tests;

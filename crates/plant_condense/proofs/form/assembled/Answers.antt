@@ -1,12 +1,18 @@
-use Rattle.std.proofs.Common.{◌≡◌, ◌*◌, ◌^◌, ◌≤◌, pos, unsigned_abs, ◌∙◌, rules}
+use Rattle.std.proofs.Common.{◌≡◌, ℕ, ◌*◌, ◌^◌, ◌≤◌, ℤ, pos, List, unsigned_abs, ◌∙◌, refl, rules}
 use Rattle.std.specs.Int.{w128}
 use mir.Val.{SFits}
 use Rattle.std.proofs.lemmas.Int.{to_z-of_z}
+use Rattle.mat_int.specs.Matrix.{Matrix}
 use Rattle.qp_model.specs.Parts.{design_of}
 use Rattle.plant_condense.specs.Form.{response_scale}
+use Rattle.plant_condense.specs.Numbers.{AreNoRadii}
 use Rattle.plant_condense.proofs.DenominatorFacts.{natural, denominator_fits, naturals_fit, naturals_read, hess_den_room, row_den_room, size_fits}
-use Rattle.plant_condense.proofs.FormLaws.{cost_room, limit_room, form_of}
+use Rattle.plant_condense.proofs.FormLaws.{cost_room, limit_room, exact_form_of}
 use Rattle.plant_condense.proofs.form.assembled.Goals as goal
+
+-- of as many numbers
+counted : (e f n m o : ℕ) (hess lin : Matrix) (off : List ℤ) (g k : Matrix) → e ≡ f → m ≡ o → AreNoRadii e n m hess lin off g k → AreNoRadii f n o hess lin off g k
+counted e f n m o hess lin off g k h i r = rw (← h, ← i) r
 
 pub square_scale-square-requires-clause-fits : goal.square_scale-square-requires-clause-fits
 square_scale-square-requires-clause-fits c = cost_room c.args.parts.now c.requires.design c.requires.sizes.cost_room
@@ -52,7 +58,7 @@ returns c =
     let fb : SFits w128 c.bend_floor.result = search rules in
     let sc : SFits w128 c.args.sizes.cost = size_fits c.args.sizes.cost _ c.requires.sizes.cost_is c.requires.sizes.cost_room in
     let sl : SFits w128 c.args.sizes.limit = size_fits c.args.sizes.limit _ c.requires.sizes.limit_is c.requires.sizes.limit_room in
-    form_of p _ h
+    exact_form_of p _ h refl
     (record {
       cost_is = to_z-of_z w128 _ sc ∙ c.requires.sizes.cost_is;
       cost_room = c.requires.sizes.cost_room;
@@ -60,6 +66,7 @@ returns c =
       limit_room = c.requires.sizes.limit_room;
     })
     c.requires.costs c.requires.limits
+    (counted _ _ _ _ _ _ _ _ _ _ (c.rows.ensures.count ∙ c.requires.costs.hessian.long) (c.rows-2.ensures.count ∙ c.requires.limits.plan.long) c.in_ok-radii.ensures)
     (record {
       power = to_z-of_z w128 _ c.ranges.power ∙ c.requires.power;
       weight_den = to_z-of_z w128 _ fc ∙ ec;

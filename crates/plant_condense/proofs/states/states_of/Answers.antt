@@ -7,7 +7,8 @@ use Rattle.mat_int.specs.Lines.{lists}
 use Rattle.qp_model.specs.Parts.{design_of}
 use Rattle.qp_model.specs.Runs.{run}
 use Rattle.plant_condense.proofs.Pushes.{pushed_vec, row_held}
-use Rattle.plant_condense.proofs.StateFacts.{at-part, next_fits, next_is, power_positive, denominator_positive}
+use Rattle.plant_condense.proofs.StageFacts.{length-part}
+use Rattle.plant_condense.proofs.StateFacts.{at-part, part_inside, next_fits, next_is, power_positive, denominator_positive}
 use Rattle.plant_condense.specs.Lists.{HoldsRows}
 use Rattle.plant_condense.proofs.states.states_of.Goals as goal
 
@@ -15,6 +16,17 @@ pub next_state-requires-clause-state : goal.next_state-requires-clause-state
 next_state-requires-clause-state c =
     (row_held c.loop-k.states.items c.index.result.now c.deref.result.now c.loop-k.k (c.loop-k.k + 1) c.args.parts.now.states
     (run (design_of c.args.parts.now) (at c.args.start.now) (at c.args.plan.now)) c.loop-k.invariant (omega arith) c.index.ensures c.deref.ensures.value).long
+
+pub slice_bounds-next_state-count : goal.slice_bounds-next_state-count
+slice_bounds-next_state-count c = omega arith
+
+pub slice_bounds-next_state-end : goal.slice_bounds-next_state-end
+slice_bounds-next_state-end c = part_inside c.loop-k.k c.args.parts.now.stages c.args.parts.now.inputs _ c.requires.plan c.loop-k-test.true
+
+pub next_state-requires-clause-input : goal.next_state-requires-clause-input
+next_state-requires-clause-input c =
+    length-part c.args.plan.now (c.loop-k.k * c.args.parts.now.inputs) c.args.parts.now.inputs
+    (part_inside c.loop-k.k c.args.parts.now.stages c.args.parts.now.inputs _ c.requires.plan c.loop-k-test.true)
 
 pub next_state-requires-clause-scale : goal.next_state-requires-clause-scale
 next_state-requires-clause-scale c =

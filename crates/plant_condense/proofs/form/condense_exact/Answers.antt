@@ -1,0 +1,15 @@
+use Rattle.std.proofs.Common.{false}
+use Rattle.qp_model.specs.Parts.{design_of}
+use Rattle.plant_condense.specs.Fault.{IsFirstWideIn}
+use Rattle.plant_condense.proofs.form.condense_exact.Goals as goal
+
+pub returns-clause-wide : goal.returns-clause-wide
+returns-clause-wide c = λ q. (
+  (λ e. (cc)),
+  (λ w. (
+      let first : IsFirstWideIn false (design_of c.parts-parts.result.now) q = rw c.parts-parts.ensures.value w in
+      let wide = (c.sizes_of.ensures.wide q).1 first in
+      let was = c.in_ok-sizes.was in
+      cc
+      )),
+)
