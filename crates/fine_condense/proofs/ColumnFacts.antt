@@ -30,13 +30,13 @@ pub rad_set : (m old new : Matrix) (i j : ℕ) (xs : List Enc) (v : Enc) → v �
 rad_set m old new i j xs v is l h e = rw add-one (e ∙ ap₂ (λ (o : Matrix) (z : ℤ). with_entry o i j z) h (ap (λ (x : Enc). x.rad) is ∙ sym (get_or-map (λ (x : Enc). x.rad) xs i v (pos 0) l)))
 
 -- ---- a column
-mids_hold : (xs : List Enc) (n : ℕ) (f : ℕ → Enclosure) → HoldsEnclosures xs n f → Holds (mids xs) n (λ i. (f i).mid)
+pub mids_hold : (xs : List Enc) (n : ℕ) (f : ℕ → Enclosure) → HoldsEnclosures xs n f → Holds (mids xs) n (λ i. (f i).mid)
 mids_hold xs n f h = record {
   long = length-map xs (λ (x : Enc). x.mid) ∙ h.long;
   is = λ i l. get_or-map (λ (x : Enc). x.mid) xs i zero (pos 0) (omega (arith, h.long)) ∙ ap (λ (e : Enclosure). e.mid) (sym (pair_at_is xs i zero (omega (arith, h.long))) ∙ h.is i l);
 }
 
-rads_hold : (xs : List Enc) (n : ℕ) (f : ℕ → Enclosure) → HoldsEnclosures xs n f → Holds (rads xs) n (λ i. (f i).rad)
+pub rads_hold : (xs : List Enc) (n : ℕ) (f : ℕ → Enclosure) → HoldsEnclosures xs n f → Holds (rads xs) n (λ i. (f i).rad)
 rads_hold xs n f h = record {
   long = length-map xs (λ (x : Enc). x.rad) ∙ h.long;
   is = λ i l. get_or-map (λ (x : Enc). x.rad) xs i zero (pos 0) (omega (arith, h.long)) ∙ ap (λ (e : Enclosure). e.rad) (sym (pair_at_is xs i zero (omega (arith, h.long))) ∙ h.is i l);

@@ -1,10 +1,7 @@
 -- The numbers of the condensed cost in enclosures, from the products of the cost rows.
-use Rattle.std.proofs.Common.{◌≡◌, ℕ, zero, suc, ◌+◌, ◌*◌, ◌%◌, ◌^◌, ◌<◌, ◌≤◌, length, get_or, [], ◌∷◌, ℤ, pos, negsuc, neg_ℤ, ◌+ℤ◌, ◌-ℤ◌, ◌*ℤ◌, ◌≤ℤ◌, unsigned_abs, FitsSigned, lit<, arith, ap, ap₂, sym, subst, ◌∙◌, refl}
+use Rattle.std.proofs.Common.{◌≡◌, ℕ, zero, suc, ◌+◌, ◌*◌, ◌^◌, ◌<◌, ◌≤◌, [], ◌∷◌, ℤ, pos, negsuc, neg_ℤ, ◌+ℤ◌, ◌-ℤ◌, ◌*ℤ◌, ◌≤ℤ◌, unsigned_abs, FitsSigned, lit<, arith, ap, ap₂, sym, subst, ◌∙◌, refl}
 use Rattle.std.specs.Int.{w128}
 use Rattle.std.proofs.lemmas.Int.{ints, unsigned_abs-mul, to_z-of_z}
-use Rattle.std.proofs.lemmas.Bool.{eq-eqb}
-use Rattle.std.proofs.lemmas.List.{get_or_read_under}
-use Rattle.std.proofs.lemmas.List.Elements.{All-get_or}
 use Rattle.std.proofs.Math.Nat.{mul-le-mul_left}
 use Rattle.integer_algebra.specs.Bounds.{absolute}
 use Rattle.integer_algebra.proofs.PowerLaws.{pow-two}
@@ -88,7 +85,7 @@ whole_reaches a b m n h k = by_radii a.mid b.mid a.rad b.rad h.radius k.radius h
     by_radii x y (negsuc r) s h k l o = absurd h.le
     by_radii x y (pos r) (negsuc s) h k l o = absurd k.le
 
-products_reach : (d : Design) → 1 ≤ d.plant_denominator → (j l : ℕ) → Reaches (fine_products d j l) (ceil_div (weight_sum d * fine_response_size d ^ 2) (2 ^ 40) + 3)
+pub products_reach : (d : Design) → 1 ≤ d.plant_denominator → (j l : ℕ) → Reaches (fine_products d j l) (ceil_div (weight_sum d * fine_response_size d ^ 2) (2 ^ 40) + 3)
 products_reach d one j l = divided_reaches _ (2 ^ 40) _ (lit< tt) (reaches_more (combination_reaches (counts d) (λ c. (counted_row d c).weight) (λ c. whole_product (fine_costs d c j) (fine_costs d c l))
     (fine_response_size d * fine_response_size d) (λ c o. whole_reaches (fine_costs d c j) (fine_costs d c l) _ _ (costs_reach d one c j o) (costs_reach d one c l o)))
     (rw (pow-two (fine_response_size d)) (scaled _ _ (fine_response_size d * fine_response_size d) (weights_narrow d))))
@@ -167,38 +164,26 @@ module _ (z m : ℤ) (r : ℕ) (f : FitsSigned w128 z) (e : z ≡ pos 2 *ℤ (m 
       less : (z : ℤ) → pos 0 -ℤ z ≡ neg_ℤ z
       less z = omega (arith, ints)
 
-module _ (p : DesignParts) (h : IsDesign p) (i j : ℕ) (w z : ℤ) (same : i ≡ j) (is : w ≡ get_or p.input_weights.items (i % p.inputs) w) where
-  inside : i % p.inputs < length p.input_weights.items
-  inside = rw h.input_count (small i p.inputs h.inputs.0)
-    where
-      small : (i n : ℕ) → 1 ≤ n → i % n < n
-      small i n h = omega arith
-
-  positive : IsPositive w
-  positive = rw is (All-get_or IsPositive p.input_weights.items (i % p.inputs) w inside h.input_weights)
-
+-- a weight, brought over what the condensed cost is over
+module _ (p : DesignParts) (h : IsDesign p) (w : ℤ) (positive : IsPositive w) where
   weight_fits : FitsSigned w128 w
   weight_fits = omega (arith, ints, positive.low, positive.high)
 
   den_fits : FitsSigned w128 p.row_den
   den_fits = omega (arith, ints, h.row_den.low, h.row_den.high)
 
-  pub cost_fits : FitsSigned w128 (read w *ℤ read (read p.row_den *ℤ read p.row_den))
-  cost_fits = own_fits w p.row_den weight_fits den_fits positive h.row_den
+  pub weighed_fits : FitsSigned w128 (read w *ℤ read (read p.row_den *ℤ read p.row_den))
+  weighed_fits = own_fits w p.row_den weight_fits den_fits positive h.row_den
 
-  pub cost_shifted_fits : FitsSigned w128 (read (read w *ℤ read (read p.row_den *ℤ read p.row_den)) *ℤ pos (2 ^ 40))
-  cost_shifted_fits = small_fits _ (shifted_small w p.row_den weight_fits den_fits positive h.row_den)
+  pub brought_fits : FitsSigned w128 (read (read w *ℤ read (read p.row_den *ℤ read p.row_den)) *ℤ pos (2 ^ 40))
+  brought_fits = small_fits _ (shifted_small w p.row_den weight_fits den_fits positive h.row_den)
 
-  weight_is : w *ℤ pos (unsigned_abs p.row_den ^ 2) ≡ own_weight (design_of p) i j
-  weight_is = rw (eq-eqb i j same) (ap (λ (y : ℤ). y *ℤ pos (unsigned_abs p.row_den ^ 2))
-      (get_or_read_under p.input_weights.items (i % p.inputs) (length p.input_weights.items) w (pos 0) is inside refl))
+  pub brought_value : (z : ℤ) → z ≡ read (read w *ℤ read (read p.row_den *ℤ read p.row_den)) *ℤ pos (2 ^ 40) →
+      read z ≡ pos (2 ^ 40) *ℤ (w *ℤ pos (unsigned_abs p.row_den ^ 2))
+  brought_value z e = ap read e ∙ to_z-of_z w128 _ brought_fits ∙ own_shifted w p.row_den weight_fits den_fits positive h.row_den
 
-  pub cost_value : z ≡ read (read w *ℤ read (read p.row_den *ℤ read p.row_den)) *ℤ pos (2 ^ 40) → read z ≡ pos (2 ^ 40) *ℤ own_weight (design_of p) i j
-  cost_value e = ap read e ∙ to_z-of_z w128 _ cost_shifted_fits ∙ own_shifted w p.row_den weight_fits den_fits positive h.row_den ∙
-      ap (λ (y : ℤ). pos (2 ^ 40) *ℤ y) weight_is
-
-  pub cost_small : z ≡ read (read w *ℤ read (read p.row_den *ℤ read p.row_den)) *ℤ pos (2 ^ 40) → unsigned_abs (read z) ≤ 2 ^ 112
-  cost_small e = subst (λ (y : ℤ). unsigned_abs y ≤ 2 ^ 112) (sym (ap read e ∙ to_z-of_z w128 _ cost_shifted_fits)) (shifted_small w p.row_den weight_fits den_fits positive h.row_den)
+  pub brought_small : (z : ℤ) → z ≡ read (read w *ℤ read (read p.row_den *ℤ read p.row_den)) *ℤ pos (2 ^ 40) → unsigned_abs (read z) ≤ 2 ^ 112
+  brought_small z e = subst (λ (y : ℤ). unsigned_abs y ≤ 2 ^ 112) (sym (ap read e ∙ to_z-of_z w128 _ brought_fits)) (shifted_small w p.row_den weight_fits den_fits positive h.row_den)
 
 -- ---- the hessian's radii
 amount_within : (n : ℕ) (f : ℕ → ℕ) (b : ℕ) → ((i : ℕ) → i < n → f i ≤ b) → amount n f ≤ n * b

@@ -12,3 +12,10 @@ pub mod RowFacts
 pub mod ColumnFacts
 pub mod ProductFacts
 pub mod CostFacts
+-- ---- the form
+pub mod RadiusLaws
+pub mod BendLaws
+pub mod FormSizes
+pub mod FloorFacts
+pub mod FormLaws
+pub mod FaultFacts

@@ -1,7 +1,5 @@
--- The condensed numbers in enclosures as matrices, and which designs they refuse.
-use Rattle.std.specs.Prelude.{◌≡◌, ℕ, ◌+◌, ◌*◌, ◌^◌, ◌<◌, ◌≤◌, ℤ, pos, ◌*ℤ◌, List}
-use Rattle.qp_model.specs.declared.quantity.Quantity.{Quantity}
-use Rattle.qp_model.specs.declared.quantity.Quantity.TheVariants.{Prediction, Hessian, Rows}
+-- The condensed numbers in enclosures as matrices.
+use Rattle.std.specs.Prelude.{◌≡◌, ℕ, ◌+◌, ◌*◌, ◌^◌, ◌≤◌, ℤ, pos, ◌*ℤ◌, List}
 use Rattle.mat_int.specs.Matrix.{Matrix}
 use Rattle.mat_int.specs.Enclosures.{HasEnclosures}
 use Rattle.qp_model.specs.declared.design_parts.DesignParts.{DesignParts}
@@ -12,18 +10,11 @@ use Rattle.qp_model.specs.Runs.{unit, bound_at, Holds}
 use Rattle.qp_model.specs.Design.{Design, entries, rows}
 use Rattle.enclosure.specs.declared.types.Enc.{Enc}
 use Rattle.fine_condense.specs.Lists.{HoldsEnclosures, HoldsEncMatrix}
-use Rattle.qp_model.specs.FineSizes.{fine_prediction_size, fine_cost_entry_size, fine_hessian_size, fine_rows_size}
+use Rattle.qp_model.specs.FineSizes.{fine_cost_entry_size, fine_hessian_size, fine_rows_size}
 
 -- the absolute values of all numbers of the condensed cost, over 2^80
 abbrev pub fine_cost_total : Design → ℕ
 fine_cost_total d = entries d * (entries d + d.states + 1) * fine_cost_entry_size d
-
--- the quantity is the first of the fine `prediction`, `hessian` and `rows` that is above 2^126
-abbrev pub IsFirstWideFine : Design → Quantity → Type 0
-IsFirstWideFine d Prediction = 2 ^ 126 < fine_prediction_size d
-IsFirstWideFine d Hessian = (fine_prediction_size d ≤ 2 ^ 126) × (2 ^ 126 < fine_hessian_size d)
-IsFirstWideFine d Rows = (fine_prediction_size d ≤ 2 ^ 126) × ((fine_hessian_size d ≤ 2 ^ 126) × (2 ^ 126 < fine_rows_size d))
-IsFirstWideFine d q = ⊥
 
 -- the products of the columns of the cost rows, which fit
 pub record AreProducts (p : DesignParts) (mid rad : Matrix) : Type 0 where

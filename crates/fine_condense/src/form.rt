@@ -1,18 +1,24 @@
 // The condensed form of a design in enclosures.
-ghost use Rattle.std.specs.Prelude.{◌≡◌, ◌≤◌, ◌<◌, ◌^◌, Err, IfOk};
+ghost use Rattle.std.specs.Prelude.{◌≡◌, ◌⊎◌, ◌≤◌, ◌^◌, true, Err, IfOk, OnOk};
 ghost use Rattle.qp_model.specs.declared.quantity.Quantity.{Quantity};
-ghost use Rattle.qp_model.specs.Parts.{design_of};
+ghost use Rattle.qp_model.specs.Parts.{design_of, IsDesign};
 ghost use Rattle.qp_model.specs.FineForm.{FineLaw};
-ghost use Rattle.qp_model.specs.FineSizes.{FineFormLaw};
-ghost use Rattle.fine_condense.specs.Numbers.{IsFirstWideFine, AreFineCosts, AreFineLimits};
+ghost use Rattle.qp_model.specs.FineSizes.{FineFormLaw, fine_prediction_size};
 ghost use Rattle.plant_condense.specs.declared.fault.CondenseFault.{CondenseFault};
+ghost use Rattle.plant_condense.specs.Fault.{IsFirstWideIn};
+ghost use Rattle.plant_condense.specs.Form.{IsFormIn};
+ghost use Rattle.fine_condense.specs.Lists.{mids, rads};
+ghost use Rattle.fine_condense.specs.Numbers.{AreFineCosts, AreFineLimits};
 
 use crate::costs::{FineCosts, fine_costs};
 use crate::limits::{FineLimits, fine_limits};
+use crate::scales::{bend_floor, brought_weight};
 use crate::sizes::last_reach;
-use plant_condense::CondenseFault;
-use qp_model::{Design, Quantity};
-use std::alloc::Global;
+use enclosure::Enc;
+use frac_scaled::scaled;
+use plant_condense::{CondenseFault, Condensed, least_of};
+use qp_model::{Design, DesignParts, Quantity};
+use std::alloc::{AllocError, Global};
 
 /// Each exact condensed number of a design lies within the radius of the number that enclosures make of it.
 pub fn fine_law()
@@ -24,21 +30,21 @@ pub fn fine_form_law()
     ensures { FineFormLaw }
 {}
 
-/// The condensed form in enclosures.
+// The condensed cost and the condensed limits.
 #[derive(Drop)]
-pub struct FineNumbers {
-    pub costs: FineCosts,
-    pub limits: FineLimits,
+struct FineNumbers {
+    costs: FineCosts,
+    limits: FineLimits,
 }
 
-/// The condensed form of a design in enclosures. It refuses a design of which a quantity of these numbers, `prediction`, `hessian` or `rows`, is
-/// above `2^126`, and names the first.
-pub fn condense_fine(alloc: Global, design: &Design) -> Result<FineNumbers, CondenseFault>
-    ensures costs { IfOk result (λ f. AreFineCosts design.now f.costs.hess.mid f.costs.hess.rad f.costs.lin.mid f.costs.lin.rad f.costs.off.items f.costs.radius f.costs.size) }
-    ensures limits { IfOk result (λ f. AreFineLimits design.now f.limits.g.mid f.limits.g.rad f.limits.e.mid f.limits.e.rad f.limits.bound.items f.limits.size) }
-    ensures wide { (quantity : Quantity) → result ≡ Err (CondenseFault.TooWide quantity) → IsFirstWideFine (design_of design.now) quantity }
+// Both, or the first of the quantities `prediction`, `hessian` and `rows` that is above `2^126`.
+fn fine_numbers(alloc: Global, parts: &DesignParts) -> Result<FineNumbers, CondenseFault>
+    requires { IsDesign parts.now }
+    ensures costs { IfOk result (λ f. AreFineCosts parts.now f.costs.hess.mid f.costs.hess.rad f.costs.lin.mid f.costs.lin.rad f.costs.off.items f.costs.radius f.costs.size) }
+    ensures limits { IfOk result (λ f. AreFineLimits parts.now f.limits.g.mid f.limits.g.rad f.limits.e.mid f.limits.e.rad f.limits.bound.items f.limits.size) }
+    ensures prediction { OnOk result (fine_prediction_size (design_of parts.now) ≤ 2 ^ 126) }
+    ensures wide { (quantity : Quantity) → result ≡ Err (CondenseFault.TooWide quantity) → IsFirstWideIn true (design_of parts.now) quantity }
 {
-    let parts = design.parts();
     let Some(reach) = last_reach(parts) else {
         return Err(CondenseFault::TooWide {
             quantity: Quantity::Prediction,
@@ -47,4 +53,78 @@ pub fn condense_fine(alloc: Global, design: &Design) -> Result<FineNumbers, Cond
     let costs = fine_costs(alloc, parts, reach)?;
     let limits = fine_limits(alloc, parts, reach)?;
     Ok(FineNumbers { costs, limits })
+}
+
+// The midpoints.
+fn mids_of(alloc: Global, xs: &[Enc]) -> Result<Vec<i128>, AllocError>
+    ensures { IfOk result (λ v. v.items ≡ mids xs.now) }
+{
+    xs.iter().map(|x| x.mid).collect(alloc)
+}
+
+// The radii.
+fn rads_of(alloc: Global, xs: &[Enc]) -> Result<Vec<i128>, AllocError>
+    ensures { IfOk result (λ v. v.items ≡ rads xs.now) }
+{
+    xs.iter().map(|x| x.rad).collect(alloc)
+}
+
+// The form of these numbers. `off` and `off_rad` are the midpoints and the radii of the constant.
+fn assembled(
+    parts: &DesignParts,
+    numbers: FineNumbers,
+    off: Vec<i128>,
+    off_rad: Vec<i128>,
+) -> Condensed
+    requires design { IsDesign parts.now }
+    requires costs { AreFineCosts parts.now numbers.costs.hess.mid numbers.costs.hess.rad numbers.costs.lin.mid numbers.costs.lin.rad
+        numbers.costs.off.items numbers.costs.radius numbers.costs.size }
+    requires limits { AreFineLimits parts.now numbers.limits.g.mid numbers.limits.g.rad numbers.limits.e.mid numbers.limits.e.rad
+        numbers.limits.bound.items numbers.limits.size }
+    requires mids { off.items ≡ mids numbers.costs.off.items }
+    requires rads { off_rad.items ≡ rads numbers.costs.off.items }
+    ensures { IsFormIn true parts.now result }
+{
+    let costs = numbers.costs;
+    let limits = numbers.limits;
+    let input_floor = least_of(&parts.input_weights);
+    Condensed {
+        hess: costs.hess.mid,
+        hess_rad: costs.hess.rad,
+        lin: costs.lin.mid,
+        lin_rad: costs.lin.rad,
+        off,
+        off_rad,
+        hess_den: brought_weight(parts, parts.cost_den),
+        g: limits.g.mid,
+        g_rad: limits.g.rad,
+        e: limits.e.mid,
+        e_rad: limits.e.rad,
+        bound: limits.bound,
+        row_den: scaled(parts.limit_den, 40),
+        floor: bend_floor(parts, input_floor, costs.radius),
+        power: 1,
+        weight_den: parts.cost_den,
+        cost_row_den: parts.row_den,
+        limit_den: parts.limit_den,
+        input_floor,
+        hess_size: costs.size as i128,
+        rows_size: limits.size as i128,
+        fine: true,
+    }
+}
+
+/// The condensed form of a design in enclosures. It refuses a design of which a quantity of these numbers, `prediction`, `hessian` or `rows`, is
+/// above `2^126`, and names the first.
+pub fn condense_fine(alloc: Global, design: &Design) -> Result<Condensed, CondenseFault>
+    ensures form { IfOk result (λ c. IsFormIn true design.now c) }
+    ensures wide { (quantity : Quantity) → result ≡ Err (CondenseFault.TooWide quantity) → IsFirstWideIn true (design_of design.now) quantity }
+    ensures every_refusal { (quantity : Quantity) → IsFirstWideIn true (design_of design.now) quantity →
+        (result ≡ Err (CondenseFault.TooWide quantity)) ⊎ (result ≡ Err CondenseFault.Memory) }
+{
+    let parts = design.parts();
+    let numbers = fine_numbers(alloc, parts)?;
+    let off = mids_of(alloc, &numbers.costs.off)?;
+    let off_rad = rads_of(alloc, &numbers.costs.off)?;
+    Ok(assembled(parts, numbers, off, off_rad))
 }

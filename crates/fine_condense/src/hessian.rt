@@ -7,8 +7,8 @@ ghost use Rattle.fine_condense.specs.Lists.{HoldsEnclosures, HoldsEncMatrix};
 ghost use Rattle.fine_condense.specs.Numbers.{AreProducts};
 
 use crate::columns::set_column;
+use crate::scales::brought_weight;
 use enclosure::{Enc, EncMat};
-use frac_scaled::scaled;
 use qp_model::DesignParts;
 use std::alloc::{AllocError, Global};
 
@@ -32,10 +32,7 @@ fn own_cost(parts: &DesignParts, i: usize, j: usize) -> i128
     ensures small { unsigned_abs result ≤ 2 ^ 112 }
 {
     if i == j {
-        scaled(
-            parts.input_weights[i % parts.inputs] * (parts.row_den * parts.row_den),
-            40,
-        )
+        brought_weight(parts, parts.input_weights[i % parts.inputs])
     } else {
         0
     }

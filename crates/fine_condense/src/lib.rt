@@ -7,11 +7,8 @@ mod form;
 mod hessian;
 mod limits;
 mod run;
+mod scales;
 mod sizes;
 mod states;
-#[cfg(test)]
-mod tests;
 
-pub use costs::FineCosts;
-pub use form::{FineNumbers, condense_fine, fine_form_law, fine_law};
-pub use limits::FineLimits;
+pub use form::{condense_fine, fine_form_law, fine_law};

@@ -1,0 +1,32 @@
+-- The first quantity that is too wide is one alone.
+use Rattle.std.proofs.Common.{◌≡◌, ◌⊎◌, inl, inr, ℕ, ◌<◌, ◌≤◌, true, arith, ap, refl}
+use Rattle.qp_model.specs.declared.quantity.Quantity.{Quantity}
+use Rattle.qp_model.specs.declared.quantity.Quantity.TheVariants.{Prediction, Hessian, Rows}
+use Rattle.qp_model.specs.Design.{Design}
+use Rattle.plant_condense.specs.declared.fault.CondenseFault.{CondenseFault}
+use Rattle.plant_condense.specs.declared.fault.CondenseFault.TheVariants.{Memory, TooWide}
+use Rattle.plant_condense.specs.Fault.{IsFirstWideIn}
+
+both : {a t : ℕ} → a ≤ t → t < a → ⊥
+both h k = omega (arith, h, k)
+
+first_unique : (d : Design) (q r : Quantity) → IsFirstWideIn true d q → IsFirstWideIn true d r → q ≡ r
+first_unique d Prediction Prediction h k = refl
+first_unique d Prediction Hessian h k = absurd (both k.0 h)
+first_unique d Prediction Rows h k = absurd (both k.0 h)
+first_unique d Hessian Prediction h k = absurd (both h.0 k)
+first_unique d Hessian Hessian h k = refl
+first_unique d Hessian Rows h k = absurd (both k.1.0 h.1)
+first_unique d Rows Prediction h k = absurd (both h.0 k)
+first_unique d Rows Hessian h k = absurd (both h.1.0 k.1)
+first_unique d Rows Rows h k = refl
+first_unique d Prediction r h k = absurd k
+first_unique d Hessian r h k = absurd k
+first_unique d Rows r h k = absurd k
+first_unique d q r h k = absurd h
+
+-- what a refusal is, where some quantity is too wide
+pub refused : (d : Design) (fault : CondenseFault) → ((q : Quantity) → fault ≡ TooWide q → IsFirstWideIn true d q) → (q : Quantity) → IsFirstWideIn true d q →
+    (fault ≡ TooWide q) ⊎ (fault ≡ Memory)
+refused d Memory h q w = inr refl
+refused d (TooWide r) h q w = inl (ap TooWide (first_unique d r q (h r refl) w))

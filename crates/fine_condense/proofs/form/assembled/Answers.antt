@@ -1,0 +1,44 @@
+use Rattle.std.proofs.Common.{rules, FitsSigned, ◌∙◌, refl}
+use Rattle.std.specs.Int.{w128}
+use Rattle.std.proofs.lemmas.Int.{to_z-of_z}
+use Rattle.qp_model.specs.Parts.{design_of}
+use Rattle.plant_condense.specs.Form.{IsLeastInput}
+use Rattle.fine_condense.proofs.FloorFacts.{least_input, denominator_weight, hess_den_is, row_den_is, den_is, size_is}
+use Rattle.fine_condense.proofs.FormLaws.{numbers_of, form_of}
+use Rattle.fine_condense.proofs.form.assembled.Goals as goal
+
+pub brought_weight-requires-clause-weight : goal.brought_weight-requires-clause-weight
+brought_weight-requires-clause-weight c = denominator_weight c.args.parts.now.cost_den c.requires.design.cost_den
+
+pub bend_floor-requires-clause-least : goal.bend_floor-requires-clause-least
+bend_floor-requires-clause-least c =
+    let f : FitsSigned w128 c.least_of-input_floor.result = search rules in
+    rw (to_z-of_z w128 _ f) (least_input c.args.parts.now c.requires.design c.deref.result.now c.least_of-input_floor.result c.deref.ensures.value
+    c.least_of-input_floor.ensures.below c.least_of-input_floor.ensures.met)
+
+pub returns : goal.returns
+returns c =
+    let p = c.args.parts.now in
+    let h = c.requires.design in
+    let k = c.requires.costs in
+    let l = c.requires.limits in
+    let fi : FitsSigned w128 c.least_of-input_floor.result = search rules in
+    let fb : FitsSigned w128 c.bend_floor.result = search rules in
+    let fh : FitsSigned w128 c.brought_weight.result = search rules in
+    let fr : FitsSigned w128 c.scaled.result = search rules in
+    let least : IsLeastInput (design_of p) c.least_of-input_floor.result =
+    least_input p h c.deref.result.now c.least_of-input_floor.result c.deref.ensures.value c.least_of-input_floor.ensures.below c.least_of-input_floor.ensures.met in
+    form_of p _ h (numbers_of p _ _ _ _ _ k l c.requires.mids c.requires.rads) k.room l.room
+    (record {
+      weight_den = den_is p.cost_den h.cost_den;
+      cost_row_den = den_is p.row_den h.row_den;
+      limit_den = den_is p.limit_den h.limit_den;
+      power = refl;
+      hess_den = hess_den_is p h c.brought_weight.result fh c.brought_weight.ensures.value;
+      row_den = row_den_is p h c.scaled.result fr c.scaled.ensures;
+      input_floor = rw (to_z-of_z w128 _ fi) least;
+      floor = to_z-of_z w128 _ fb ∙ c.bend_floor.ensures;
+      hess_size = size_is _ _ k.quantity k.room;
+      rows_size = size_is _ _ l.quantity l.room;
+      fine = refl;
+    })

@@ -1,0 +1,43 @@
+// What the condensed form in enclosures is over, and how much it bends a plan up at least.
+ghost use Rattle.std.specs.Prelude.{◌≡◌, ◌≤◌, ◌^◌, pos, ◌-ℤ◌, ◌*ℤ◌, unsigned_abs};
+ghost use Rattle.qp_model.specs.Parts.{design_of, IsDesign};
+ghost use Rattle.qp_model.specs.Range.{IsPositive};
+ghost use Rattle.qp_model.specs.FineForm.{fine_form, hessian_radius};
+ghost use Rattle.qp_model.specs.FineSizes.{fine_hessian_size};
+ghost use Rattle.plant_condense.specs.Form.{IsLeastInput};
+
+use frac_scaled::scaled;
+use qp_model::DesignParts;
+
+/// A weight, which is over `cost_den`, over what the condensed cost is over: times `row_den^2 * 2^40`.
+pub fn brought_weight(parts: &DesignParts, weight: i128) -> i128
+    requires design { IsDesign parts.now }
+    requires weight { IsPositive weight }
+    ensures value { result ≡ pos (2 ^ 40) *ℤ (weight *ℤ pos (unsigned_abs parts.now.row_den ^ 2)) }
+    ensures small { unsigned_abs result ≤ 2 ^ 112 }
+{
+    scaled(weight * (parts.row_den * parts.row_den), 40)
+}
+
+// What the hessian bends a plan up by at least, times the squares of its entries: twice the least input weight, less the greatest sum of the
+// hessian's radii in a row.
+fn bend(weight: i128, radius: u128) -> i128
+    requires weight { unsigned_abs weight ≤ 2 ^ 86 }
+    requires radius { radius ≤ 2 ^ 40 }
+    ensures value { result ≡ pos 2 *ℤ weight -ℤ pos radius }
+    ensures small { unsigned_abs result ≤ 2 ^ 88 }
+{
+    2 * weight - radius as i128
+}
+
+/// The same of the hessian times the limits' denominator, which is far below the `2^126` that a floor is cut at. `radius` is the greatest sum of the
+/// hessian's radii in a row.
+pub fn bend_floor(parts: &DesignParts, input_floor: i128, radius: u128) -> i128
+    requires design { IsDesign parts.now }
+    requires least { IsLeastInput (design_of parts.now) input_floor }
+    requires radius { radius ≡ hessian_radius (design_of parts.now) }
+    requires room { fine_hessian_size (design_of parts.now) ≤ 2 ^ 126 }
+    ensures { result ≡ (fine_form (design_of parts.now)).floor }
+{
+    parts.limit_den * bend(brought_weight(parts, input_floor), radius)
+}
