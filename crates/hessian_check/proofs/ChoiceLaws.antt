@@ -1,16 +1,16 @@
 -- The numbers that are chosen.
-use Rattle.std.proofs.Common.{◌≡◌, inl, inr, ℕ, zero, suc, ◌+◌, ◌*◌, ◌^◌, ◌<◌, ◌≤◌, ◌⊎◌, min, nat_le, Bool, true, false, ℤ, ◌≤ℤ◌, ◌<ℤ◌, Option, Some, None, arith, sym, ◌∙◌, refl}
+use Rattle.std.proofs.Common.{◌≡◌, inl, inr, ℕ, zero, suc, ◌+◌, ◌*◌, ◌^◌, ◌<◌, ◌≤◌, ◌⊎◌, min, ℤ, ◌≤ℤ◌, ◌<ℤ◌, Option, Some, None, arith, sym, ◌∙◌, refl}
 use Rattle.std.specs.Prelude.{unwrap_or}
 use Rattle.std.specs.Option.{option_or}
 use Rattle.integer_algebra.specs.Matrices.{IsDominant, off_diagonal_sum}
-use Rattle.hessian_check.specs.Curvature.{HasPassingRoot, IsChosen, IsDominantAt, IsFirst, IsLeast, IsLeastBelow}
+use Rattle.qp_model.specs.Least.{IsLeast, IsLeastBelow}
+use Rattle.hessian_check.specs.Curvature.{HasPassingRoot, IsChosen, IsDominantAt, IsFirst}
 use Rattle.hessian_check.specs.Exponents.{IsEither}
 use Rattle.qp_model.specs.Design.{Design}
-use Rattle.qp_model.specs.Form.{form_of, rows_scale}
-use Rattle.qp_model.specs.CurvatureSize.{CoversSquares, floor_times, least_up_to, limit_squares, squares_exponent}
+use Rattle.qp_model.specs.Form.{Form}
+use Rattle.qp_model.specs.CurvatureSize.{CoversSquaresOf, floor_times, limit_squares}
 use Rattle.std.proofs.lemmas.Int.{ints, by_lt_z}
-use Rattle.std.proofs.lemmas.Bool.{cases_lt, le-leb}
-use Rattle.std.proofs.lemmas.Bool.Decides.{leb_tells}
+use Rattle.std.proofs.lemmas.Bool.{cases_lt}
 use Rattle.std.proofs.Math.Nat.{mul-le-mul_left, one-le-mul, pow-suc}
 use Rattle.integer_algebra.proofs.PowerLaws.{pow_positive}
 use Rattle.qp_model.specs.Quantities.{input_floor}
@@ -45,10 +45,6 @@ each_decided p d (suc n) = elim (each_decided p d n) [
     | yes g ↦ yes (λ k l. elim (cases_lt k n) [ inl t ↦ h k t | inr t ↦ (let e : k ≡ n = omega arith in rw e g) ])
   ]
 ]
-
-pub record IsTest (t : ℕ → Bool) (p : ℕ → Type 0) : Type 0 where
-  pub yes : (k : ℕ) → p k → t k ≡ true
-  pub no : (k : ℕ) → ¬ p k → t k ≡ false
 
 dominant_decided : (n : ℕ) (a : ℕ → ℕ → ℤ) → Choice (IsDominant n a)
 dominant_decided n a = each_decided (λ i. off_diagonal_sum n a i ≤ℤ a i i) (λ i. le_decided (off_diagonal_sum n a i) (a i i)) n
@@ -103,9 +99,9 @@ pub record HasLeast (p : ℕ → Type 0) : Type 0 where
   pub number : ℕ
   pub is : IsLeast p number
 
-covers_decided : (d : Design) (s : ℕ) → Choice (CoversSquares d s)
-covers_decided d s = elim (cases_lt (floor_times d (form_of d) s) (d.cost_denominator * limit_squares (form_of d))) [
-  | inl l ↦ no (λ h. below h l)
+covers_decided : (d : Design) (h : Form) (s : ℕ) → Choice (CoversSquaresOf d h s)
+covers_decided d h s = elim (cases_lt (floor_times d h s) (d.cost_denominator * limit_squares h)) [
+  | inl l ↦ no (λ k. below k l)
   | inr l ↦ yes l
 ]
   where
@@ -117,17 +113,17 @@ above : (n : ℕ) → n < 2 ^ n
 above zero = omega arith
 above (suc n) = let h = above n in rw pow-suc (omega (arith, h))
 
-pub covers_least : (d : Design) → 1 ≤ input_floor d → 1 ≤ d.limit_denominator → 1 ≤ d.plant_denominator ^ d.stages → HasLeast (CoversSquares d)
-covers_least d i l a = elim (least_decided (CoversSquares d) (covers_decided d) (left + 1)) [
+pub covers_least : (d : Design) (h : Form) → 1 ≤ input_floor d → 1 ≤ h.rows_scale → HasLeast (CoversSquaresOf d h)
+covers_least d h i l = elim (least_decided (CoversSquaresOf d h) (covers_decided d h) (left + 1)) [
   | inl s ↦ record { number = s.0; is = s.1.1 }
   | inr none ↦ absurd (none left (omega arith) (omega (arith, above left, up)))
 ]
   where
     left : ℕ
-    left = d.cost_denominator * limit_squares (form_of d)
+    left = d.cost_denominator * limit_squares h
 
-    up : 2 ^ left ≤ floor_times d (form_of d) left
-    up = let x = one-le-mul i (pow_positive (rows_scale d) 2 (one-le-mul l a)) in
+    up : 2 ^ left ≤ floor_times d h left
+    up = let x = one-le-mul i (pow_positive h.rows_scale 2 l) in
         let q = mul-le-mul_left (2 ^ left) x in omega (arith, q)
 
 -- from the numbers that code finds
@@ -172,24 +168,3 @@ first_above n m p h b k = (
   record { squares = h.number; by_squares = h.is; lesser = inr ((λ d t. k d t.0 t.1), refl) },
   elim (cases_lt h.number 41) [ inl t ↦ absurd (b h.number t h.is.holds) | inr t ↦ t ],
 )
-
--- ---- the least number up to 40, as a number
-least_missed : (end : ℕ) (t : ℕ → Bool) (p : ℕ → Type 0) → IsTest t p → ((k : ℕ) → k < end → ¬ p k) → least_up_to end t ≡ end
-least_missed zero t p d h = refl
-least_missed (suc n) t p d h = rw (least_missed n t p d (λ k l. h k (omega arith)), d.no n (h n (omega arith))) refl
-
-least_found : (end : ℕ) (t : ℕ → Bool) (p : ℕ → Type 0) → IsTest t p → (s : ℕ) → s ≤ end → IsLeast p s → least_up_to end t ≡ s
-least_found zero t p d s l h = omega arith
-least_found (suc n) t p d s l h = elim (cases_lt s (suc n)) [
-  | inl o ↦ rw (least_found n t p d s (omega arith) h, d.yes s h.holds) refl
-  | inr o ↦ (let e : s ≡ suc n = omega arith in
-      rw (least_missed n t p d (λ k m. h.least k (omega arith)), d.no n (h.least n (omega arith)), e) refl)
-]
-
-covers_test : (d : Design) → IsTest (λ s. nat_le (d.cost_denominator * limit_squares (form_of d)) (floor_times d (form_of d) s)) (CoversSquares d)
-covers_test d = record { yes = λ k h. le-leb _ _ h; no = λ k h. elim (leb_tells (d.cost_denominator * limit_squares (form_of d)) (floor_times d (form_of d) k)) [ inl t ↦ absurd (h t.1) | inr t ↦ t.0 ] }
-
--- the exponent that the squares ask
-pub squares_are : (d : Design) (o : Option ℕ) → IsLeastBelow 41 (CoversSquares d) o → squares_exponent d ≡ unwrap_or o 40
-squares_are d None b = least_missed 40 _ (CoversSquares d) (covers_test d) (λ k l. b k (omega arith))
-squares_are d (Some q) b = least_found 40 _ (CoversSquares d) (covers_test d) q (omega (arith, b.0)) b.1

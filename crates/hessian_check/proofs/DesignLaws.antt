@@ -1,5 +1,5 @@
 -- What the exponents of a design's matrices are for its trajectories.
-use Rattle.std.proofs.Common.{◌≡◌, ℕ, zero, suc, ◌+◌, ◌-◌, ◌*◌, ◌^◌, ◌<◌, ◌≤◌, [], ◌∷◌, ℤ, pos, negsuc, ◌+ℤ◌, ◌-ℤ◌, ◌*ℤ◌, ◌≤ℤ◌, ◌<ℤ◌, unsigned_abs, arith, ap, ◌∙◌, refl}
+use Rattle.std.proofs.Common.{◌≡◌, ℕ, zero, suc, ◌+◌, ◌-◌, ◌*◌, ◌^◌, ◌<◌, ◌≤◌, [], ◌∷◌, ℤ, pos, negsuc, ◌+ℤ◌, ◌-ℤ◌, ◌*ℤ◌, ◌≤ℤ◌, ◌<ℤ◌, unsigned_abs, arith, ap, sym, ◌∙◌, refl}
 use Rattle.std.proofs.lemmas.Int.{ints, unsigned_abs-mul}
 use Rattle.integer_algebra.specs.Bounds.{IsWithin}
 use Rattle.std.proofs.lemmas.Nat.{pow_pos}
@@ -28,10 +28,9 @@ use Rattle.hessian_check.specs.Curvature.{BoundsRows, IsFloored, CoversAll}
 use Rattle.hessian_check.specs.Steps.{curved_by, curved_of, floor_of_design, weighted_of}
 use Rattle.integer_algebra.proofs.SizeLaws.{amount_same}
 use Rattle.integer_algebra.proofs.AmountLaws.{amount_mono, amount_scale}
-use Rattle.hessian_check.proofs.SquareLaws.{squares_row, sum_pos}
 
 -- ---- half the hessian
-half_two : (x : ℤ) → floor_of (pos 2 *ℤ x) 2 ≡ x
+pub half_two : (x : ℤ) → floor_of (pos 2 *ℤ x) 2 ≡ x
 half_two (pos n) = omega (arith, ints)
 half_two (negsuc n) = let e : pos 2 *ℤ negsuc n ≡ negsuc (2 * n + 1) = omega (arith, ints) in rw e (ap negsuc (omega arith))
 
@@ -153,6 +152,18 @@ floored d sound c v = closed (pos (cost_scale d)) (curvature d v) (pos (input_fl
 -- no radius
 pub farthest_none : (x : ℤ) → farthest x 0 ≡ unsigned_abs x
 farthest_none x = omega arith
+
+sum_pos : (x y : ℕ) {a b : ℤ} → a ≡ pos x → b ≡ pos y → a +ℤ b ≡ pos (x + y)
+sum_pos x y e f = omega (arith, ints, e, f)
+
+-- those of the first n entries of a row
+squares_row : (n : ℕ) (f : ℕ → ℤ) → total n (λ j. square (f j)) ≡ pos (amount n (λ j. unsigned_abs (f j) ^ 2))
+squares_row zero f = refl
+squares_row (suc n) f = sum_pos _ _ (squares_row n f) (own (f n))
+  where
+    own : (z : ℤ) → square z ≡ pos (unsigned_abs z ^ 2)
+    own (pos n) = ap pos (sym (pow-two n))
+    own (negsuc n) = ap pos (sym (pow-two (suc n)))
 
 squares_are : (m n : ℕ) (g : ℕ → ℕ → ℤ) → total m (λ i. pos 1 *ℤ total n (λ j. square (g i j))) ≡ pos (amount m (λ i. amount n (λ j. unsigned_abs (g i j) ^ 2)))
 squares_are zero n g = refl

@@ -1,28 +1,28 @@
 -- The numbers that are chosen are exponents of the design.
 use Rattle.std.proofs.Common.{rules}
 use Rattle.qp_model.specs.Parts.{design_of}
-use Rattle.qp_model.specs.CurvatureSize.{CoversSquares}
-use Rattle.qp_model.specs.Form.{form_of}
+use Rattle.qp_model.specs.Class.{CoversSquares, form_of}
+use Rattle.qp_model.specs.FineSizes.{is_fine}
 use Rattle.qp_model.proofs.CostLaws.{condensing}
-use Rattle.qp_model.proofs.FormLaws.{form_law}
 use Rattle.hessian_check.specs.Curvature.{held_exactly}
 use Rattle.hessian_check.specs.StepLaw.{ExponentLaw, FormSquaresLaw, RowsLaw}
-use Rattle.hessian_check.specs.Steps.{curved_by, curved_of, held_of, floor_of_design}
+use Rattle.hessian_check.specs.Steps.{curved_by, curved_of, held_in, floor_of_design}
 use Rattle.hessian_check.proofs.CurvatureLaws.{squares_law}
 use Rattle.hessian_check.proofs.ChosenLaws.{accepted_law, chosen_law, first_by}
 use Rattle.hessian_check.proofs.RadiusLaws.{exact_law}
 use Rattle.hessian_check.proofs.DesignLaws.{exponent_of, exponents_of, half_turned, floored, covers}
+use Rattle.hessian_check.proofs.HeldLaws.{held_law}
 use Rattle.qp_model.proofs.SoundLaws.{sound}
 
 pub step_law : ExponentLaw
-step_law p h s1 s f k =
+step_law p h g s1 s f k =
     let d = design_of p in
     let e = condensing d h.inputs.0 in
-    let t = exact_law (curved_of d) (half_turned d e) in
-    let g = form_law p h in
-    let one = first_by (curved_of d) (held_of d) (CoversSquares d) s1
+    let held = held_in (is_fine d) d in
+    let t = held_law (is_fine d) d (sound p h) e g in
+    let one = first_by (curved_of d) held (CoversSquares d) s1
     (λ s y. squares_law (curved_of d) (floor_of_design d) s (search rules) (floored d (sound p h) e) (covers d (form_of d) g.encloses g.rows_some s y)) t f in
-    (exponent_of d s1 e one, exponent_of d s e (chosen_law (curved_of d) (held_of d) s1 s t one k))
+    (exponent_of d s1 e one, exponent_of d s e (chosen_law (curved_of d) held s1 s t one k))
 
 pub form_squares_law : FormSquaresLaw
 form_squares_law p h g k s y =

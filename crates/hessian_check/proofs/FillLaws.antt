@@ -1,12 +1,12 @@
 -- A square matrix that is filled row by row.
-use Rattle.std.proofs.Common.{◌≡◌, inl, inr, ℕ, ◌+◌, ◌<◌, ◌≤◌, [], ℤ, pos, length, replicate, arith, ◌∙◌, refl, get_or-set_other, get_or-set_same, slice_set}
+use Rattle.std.proofs.Common.{◌≡◌, ◌≢◌, inl, inr, ℕ, ◌+◌, ◌<◌, ◌≤◌, [], ℤ, pos, length, replicate, arith, ◌∙◌, refl, get_or-set_other, get_or-set_same, slice_set}
 use Rattle.std.specs.Prelude.{All}
 use Rattle.std.proofs.lemmas.Bool.{cases_lt, cases_eq}
 use Rattle.std.proofs.lemmas.List.{length-set, length-replicate, get_or-replicate}
 use Rattle.std.proofs.lemmas.List.Elements.{All-get_or, All-from_get_or}
 use Rattle.mat_int.specs.Matrix.{Matrix, row_of, entry_of, with_entry, zero_matrix}
 use Rattle.mat_int.specs.Matrix.{HasEntries}
-use Rattle.hessian_check.specs.Filling.{HasFirstRows, HasFirstEntries}
+use Rattle.hessian_check.specs.Filling.{HasFirstRows, HasFirstEntries, HasFirstMoved}
 use Rattle.hessian_check.specs.Recipe.{IsEntryWritten}
 use Rattle.hessian_check.proofs.StepLaws.{written}
 
@@ -63,3 +63,36 @@ first_row n f m i j q h = record {
 
 pub first_all : (n : ℕ) (f : ℕ → ℕ → ℤ) (m : Matrix) (i : ℕ) → n ≤ i → HasFirstRows n f m i → HasEntries n n f m
 first_all n f m i q h = record { rows = h.rows; cols = h.cols; even = h.even; entries = λ k j l o. h.made k j (omega arith) o }
+
+-- ---- a matrix whose diagonal is moved
+pub moved_start : (n : ℕ) (f : ℕ → ℕ → ℤ) (m : Matrix) → length m.rows ≡ n → m.cols ≡ n → All (λ row. length row ≡ n) m.rows → HasFirstMoved n f (entry_of m) m 0
+moved_start n f m r c e = record {
+  first = record { rows = r; cols = c; even = e; made = λ k j l. absurd (omega arith) };
+  rest = λ k j l o q. refl;
+}
+
+-- one more entry
+pub moved_more : (n : ℕ) (f old : ℕ → ℕ → ℤ) (m w : Matrix) (i : ℕ) (v : ℤ) → i < n → w ≡ with_entry m i i v → v ≡ f i i → ((j : ℕ) → j ≢ i → old i j ≡ f i j) →
+    HasFirstMoved n f old m i → HasFirstMoved n f old w (i + 1)
+moved_more n f old m w i v p e g b h =
+    let row : i < length m.rows = omega (arith, h.first.rows, p) in
+    let long = All-get_or (λ row. length row ≡ n) m.rows i [] row h.first.even in
+    let t : IsEntryWritten (entry_of m) (entry_of (with_entry m i i v)) i i v = written m i i v row (omega (arith, long, p)) in
+    rw e (record {
+      first = record {
+        rows = length-set m.rows i _ ∙ h.first.rows;
+        cols = h.first.cols;
+        even = even_set m n i i v row h.first.even;
+        made = λ k j l o. elim (cases_lt k i) [
+          | inl y ↦ t.elsewhere k j (omega arith) ∙ h.first.made k j y o
+          | inr y ↦ (let z : k ≡ i = omega arith in rw z (elim (cases_eq j i) [
+            | inl q ↦ rw q (t.here ∙ g)
+            | inr q ↦ t.beside j q ∙ h.rest i j (omega arith) p o ∙ b j q
+          ]))
+        ];
+      };
+      rest = λ k j l o q. t.elsewhere k j (omega arith) ∙ h.rest k j (omega arith) o q;
+    })
+
+pub moved_all : (n : ℕ) (f old : ℕ → ℕ → ℤ) (m : Matrix) (i : ℕ) → n ≤ i → HasFirstMoved n f old m i → HasEntries n n f m
+moved_all n f old m i q h = first_all n f m i q h.first

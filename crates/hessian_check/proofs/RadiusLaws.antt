@@ -14,7 +14,7 @@ use Rattle.integer_algebra.proofs.Quoting.{by_ring, quotes}
 use Rattle.integer_algebra.proofs.SumLaws.{total_same}
 use Rattle.integer_algebra.proofs.VectorLaws.{dot_same, quadratic_scale}
 use Rattle.hessian_check.specs.Dominance.{IsSymmetric, form}
-use Rattle.hessian_check.specs.Curvature.{Curved, HeldMatrices, IsHeld, held_exactly, lowered, difference, weighted_products, exact_matrix, exponent_matrix, radius_of, BoundsRows}
+use Rattle.hessian_check.specs.Curvature.{Curved, HeldMatrices, IsHeld, held_exactly, lowered, raised_diagonal, difference, weighted_products, exact_matrix, exponent_matrix, radius_of, BoundsRows}
 use Rattle.hessian_check.proofs.FormLaws.{form_sub, dominance_law}
 use Rattle.integer_algebra.proofs.AmountLaws.{amount_mono, amount_none, amount_scale}
 use Rattle.hessian_check.proofs.CurvatureLaws.{matrix_law, gram_turned, exact_symmetric}
@@ -23,10 +23,16 @@ use Rattle.hessian_check.proofs.CurvatureLaws.{matrix_law, gram_turned, exact_sy
 other_test : (i j : ℕ) → i ≢ j → nat_eq i j ≡ false
 other_test i j h = elim (eqb_tells i j) [ inl e ↦ absurd (h e.1) | inr e ↦ e.0 ]
 
-lowered_turned : (n : ℕ) (m : ℕ → ℕ → ℤ) (by : ℕ → ℕ) → IsSymmetric n m → IsSymmetric n (lowered m by)
+pub lowered_turned : (n : ℕ) (m : ℕ → ℕ → ℤ) (by : ℕ → ℕ) → IsSymmetric n m → IsSymmetric n (lowered m by)
 lowered_turned n m by h i j k l = elim (eqb_tells j i) [
   | inl e ↦ rw e.1 refl
   | inr e ↦ rw (e.0, other_test i j (λ f. e.1 (sym f))) (ap (λ (z : ℤ). z -ℤ pos 0) (h i j k l))
+]
+
+pub raised_turned : (n : ℕ) (m : ℕ → ℕ → ℤ) (by : ℕ → ℕ) → IsSymmetric n m → IsSymmetric n (raised_diagonal m by)
+raised_turned n m by h i j k l = elim (eqb_tells j i) [
+  | inl e ↦ rw e.1 refl
+  | inr e ↦ rw (e.0, other_test i j (λ f. e.1 (sym f))) (ap (λ (z : ℤ). z +ℤ pos 0) (h i j k l))
 ]
 
 -- what is left of it over the other, lowered by the radii, is dominant
@@ -129,8 +135,8 @@ module _ (c : Curved) (h : HeldMatrices) (k : IsHeld c h) (s : ℕ) where
               omega (arith, h, p, q, i, j)
 
   -- a factor on both
-  raised : (i j : ℕ) → lowered (λ i j. pos k.exact_scale *ℤ mid i j) (λ i. amount c.entries (λ j. k.exact_scale * radius_of c h s i j)) i j ≡ pos k.exact_scale *ℤ exponent_matrix c h s i j
-  raised i j = rw (amount_scale c.entries k.exact_scale (radius_of c h s i)) (closed (nat_eq j i) k.exact_scale (mid i j) (amount c.entries (radius_of c h s i)))
+  scaled : (i j : ℕ) → lowered (λ i j. pos k.exact_scale *ℤ mid i j) (λ i. amount c.entries (λ j. k.exact_scale * radius_of c h s i j)) i j ≡ pos k.exact_scale *ℤ exponent_matrix c h s i j
+  scaled i j = rw (amount_scale c.entries k.exact_scale (radius_of c h s i)) (closed (nat_eq j i) k.exact_scale (mid i j) (amount c.entries (radius_of c h s i)))
     where
       closed : (b : Bool) (e : ℕ) (x : ℤ) (y : ℕ) → pos e *ℤ x -ℤ (if b then pos (e * y) else pos 0) ≡ pos e *ℤ (x -ℤ (if b then pos y else pos 0))
       closed true e x y = turn (pos e) x (pos y)
@@ -146,7 +152,7 @@ module _ (c : Curved) (h : HeldMatrices) (k : IsHeld c h) (s : ℕ) where
   pub held_form : (d : ℕ → ℤ) → (pos k.exact_scale *ℤ form c.entries (exponent_matrix c h s) d) ≤ℤ (pos k.held_scale *ℤ form c.entries (exact_matrix c s) d)
   held_form d = closed (within_law c.entries (λ i j. pos k.held_scale *ℤ exact_matrix c s i j) (λ i j. pos k.exact_scale *ℤ mid i j) (λ i j. k.exact_scale * radius_of c h s i j)
       exact_turned (λ i j a b. ap (λ (z : ℤ). pos k.exact_scale *ℤ z) (mid_turned i j a b)) apart d)
-      (dot_same c.entries d _ _ (λ i l. total_same c.entries _ _ (λ j o. ap (λ (z : ℤ). z *ℤ d j) (raised i j))) ∙ quadratic_scale c.entries (pos k.exact_scale) (exponent_matrix c h s) d)
+      (dot_same c.entries d _ _ (λ i l. total_same c.entries _ _ (λ j o. ap (λ (z : ℤ). z *ℤ d j) (scaled i j))) ∙ quadratic_scale c.entries (pos k.exact_scale) (exponent_matrix c h s) d)
       (quadratic_scale c.entries (pos k.held_scale) (exact_matrix c s) d)
     where
       closed : {a b x y : ℤ} → a ≤ℤ b → a ≡ x → b ≡ y → x ≤ℤ y

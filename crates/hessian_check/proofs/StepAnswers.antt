@@ -1,19 +1,20 @@
 -- What the answer of the choice among matrices says of a design.
-use Rattle.std.proofs.Common.{◌≡◌, ◌⊎◌, inl, inr, ℕ, ◌<◌, ◌≤◌, ◌^◌, Option, Some, None, length, rules, arith, ap, sym, ◌∙◌, refl}
+use Rattle.std.proofs.Common.{◌≡◌, ◌⊎◌, inl, inr, ℕ, ◌<◌, ◌≤◌, ◌^◌, Bool, Option, Some, None, length, rules, arith, ap, sym, ◌∙◌, refl}
 use Rattle.std.specs.Prelude.{Result, Ok, Err, IfErr, IfOk, IsOk, unwrap_or}
 use Rattle.std.proofs.Math.Nat.{mul-le-mul_right, pow-le-pow_right}
 use Rattle.qp_model.specs.declared.design_parts.DesignParts.{DesignParts}
-use Rattle.qp_model.specs.Quantities.{hessian_size, rows_size}
 use Rattle.qp_model.specs.Curvature.{IsExponent}
-use Rattle.qp_model.specs.CurvatureSize.{CoversSquares, curvature_of, curvature_size}
+use Rattle.qp_model.specs.Class.{CoversSquares, cost_row_in, curvature_quantity, form_of}
+use Rattle.qp_model.specs.FineSizes.{is_fine}
 use Rattle.qp_model.specs.Design.{Design, entries}
-use Rattle.qp_model.specs.Parts.{IsDesign, design_of}
+use Rattle.qp_model.specs.Parts.{design_of}
 use Rattle.hessian_check.specs.declared.fault.CurvatureFault.{CurvatureFault}
 use Rattle.hessian_check.specs.declared.fault.CurvatureFault.TheVariants.{Memory, TooWide, NoStep}
 use Rattle.hessian_check.specs.declared.fault.StepExponents.{StepExponents}
 use Rattle.hessian_check.specs.declared.matrices.StepMatrices.{StepMatrices}
-use Rattle.hessian_check.specs.Curvature.{IsChosen, IsLeastBelow}
-use Rattle.hessian_check.specs.DesignMatrices.{AreMatricesOf, curvature_at}
+use Rattle.qp_model.specs.Least.{IsLeastBelow}
+use Rattle.hessian_check.specs.Curvature.{IsChosen}
+use Rattle.hessian_check.specs.DesignMatrices.{AreMatricesOf, size_at}
 use Rattle.hessian_check.specs.Exponents.{IsEither, IsOutcome}
 use Rattle.hessian_check.specs.MatrixRoom.{matrix_at, HasMatrixRoom}
 use Rattle.hessian_check.specs.Refusals.{HasExponentCause, IsExponentRefused}
@@ -24,15 +25,15 @@ use Rattle.hessian_check.specs.Steps.{HasNoStep, IsPlainExponent, IsStepExponent
 use Rattle.std.proofs.lemmas.Bool.{cases_lt}
 use Rattle.plant_condense.specs.declared.condensed.Condensed.{Condensed}
 use Rattle.plant_condense.specs.Form.{IsFormOf}
-use Rattle.hessian_check.proofs.FormFacts.{small}
+use Rattle.plant_condense.proofs.LeastLaws.{exponent_is, few}
 use Rattle.qp_model.proofs.SoundLaws.{sound}
-use Rattle.hessian_check.proofs.ChoiceLaws.{HasLeast, covers_least, first_above, first_made, first_same, squares_are}
+use Rattle.hessian_check.proofs.ChoiceLaws.{HasLeast, covers_least, first_above, first_made, first_same}
 use Rattle.hessian_check.proofs.SameLaws.{chosen_moved, dominant_moved, first_moved}
 use Rattle.hessian_check.proofs.PassLaws.{same_back}
 
 -- what is known of a design, its matrices and the number that its squares ask
 pub record Chosen (d : Design) (g : StepMatrices) (o : Option ℕ) : Type 0 where
-  pub matrices : AreMatricesOf d g
+  pub matrices : AreMatricesOf (is_fine d) d g
   pub squares : IsLeastBelow 41 (CoversSquares d) o
   pub some : HasLeast (CoversSquares d)
 
@@ -52,12 +53,8 @@ pub step_of : (d : Design) (g : StepMatrices) (o : Option ℕ) (r : Result StepE
 step_of d g o (Ok e) h t = chosen_moved (entries d) (matrix_at g) (step_matrix d) e.s1 e.s h.matrices.same (rw h.matrices.size at t.1)
 step_of d g o (Err f) h t = search rules
 
-pub few : (d : Design) (o : Option ℕ) → IsLeastBelow 41 (CoversSquares d) o → unwrap_or o 40 ≤ 40
-few d None h = omega arith
-few d (Some q) h = omega (arith, h.0)
-
 pub order_of : (d : Design) (g : StepMatrices) (o : Option ℕ) (r : Result StepExponents CurvatureFault) → Chosen d g o → Outcome g o r → IfOk r (λ e. (e.s ≤ e.s1) × (e.s1 ≤ 40))
-order_of d g o (Ok e) h t = (below t.1, elim t.0 [ inl a ↦ omega (arith, a.0, few d o h.squares) | inr a ↦ own a.1 h.squares ])
+order_of d g o (Ok e) h t = (below t.1, elim t.0 [ inl a ↦ omega (arith, a.0, few (CoversSquares d) o h.squares) | inr a ↦ own a.1 h.squares ])
   where
     below : IsChosen (length g.cost.rows) (matrix_at g) e.s1 e.s → e.s ≤ e.s1
     below c = elim c [ inl k ↦ omega (arith, k.holds.0) | inr k ↦ omega (arith, k.1) ]
@@ -66,11 +63,11 @@ order_of d g o (Ok e) h t = (below t.1, elim t.0 [ inl a ↦ omega (arith, a.0, 
     own q b = let k : IsLeastBelow 41 (CoversSquares d) (Some e.s1) = rw q at b in omega (arith, k.0)
 order_of d g o (Err f) h t = search rules
 
-pub exponents_of : (step : ExponentLaw) (p : DesignParts) → IsDesign p → (r : Result StepExponents CurvatureFault) →
+pub exponents_of : (step : ExponentLaw) (p : DesignParts) (c : Condensed) → IsFormOf p c → (r : Result StepExponents CurvatureFault) →
     IfOk r (λ e. IsPlainExponent (design_of p) e.s1) → IfOk r (λ e. IsStepExponent (design_of p) e.s1 e.s) →
     IfOk r (λ e. IsExponent (design_of p) e.s × IsExponent (design_of p) e.s1)
-exponents_of step p h (Ok e) a b = let x = step p h e.s1 e.s a b in (x.1, x.0)
-exponents_of step p h (Err f) a b = search rules
+exponents_of step p c f (Ok e) a b = let x = step p f.design f.encloses e.s1 e.s a b in (x.1, x.0)
+exponents_of step p c f (Err g) a b = search rules
 
 -- ---- no exponents
 -- a number that is chosen is not above 40
@@ -85,14 +82,14 @@ flat_of d g o h k =
     record { s1 = h.some.number; plain = a.0; above = a.1 }
 
 -- ---- the answer, where the quantity is within its limit
-pub refused_of : (d : Design) (g : StepMatrices) (o : Option ℕ) (r : Result StepExponents CurvatureFault) → Chosen d g o → curvature_size d ≤ 2 ^ 126 → Outcome g o r →
+pub refused_of : (d : Design) (g : StepMatrices) (o : Option ℕ) (r : Result StepExponents CurvatureFault) → Chosen d g o → curvature_quantity d ≤ 2 ^ 126 → Outcome g o r →
     IfErr r (IsExponentRefused d)
 refused_of d g o (Ok e) h l t = search rules
 refused_of d g o (Err Memory) h l t = inl refl
 refused_of d g o (Err (TooWide q)) h l t = absurd t
 refused_of d g o (Err NoStep) h l t = inr (l, flat_of d g o h t)
 
-pub every_of : (d : Design) (g : StepMatrices) (o : Option ℕ) (r : Result StepExponents CurvatureFault) → Chosen d g o → curvature_size d ≤ 2 ^ 126 → Outcome g o r →
+pub every_of : (d : Design) (g : StepMatrices) (o : Option ℕ) (r : Result StepExponents CurvatureFault) → Chosen d g o → curvature_quantity d ≤ 2 ^ 126 → Outcome g o r →
     (e : CurvatureFault) → HasExponentCause d e → (r ≡ Err e) ⊎ (r ≡ Err Memory)
 every_of d g o r h l t Memory k = absurd k
 every_of d g o r h l t (TooWide q) k = absurd (omega (arith, l, k.1))
@@ -109,11 +106,11 @@ accepted_of d g o (Err (TooWide q)) h t s1 p l = absurd t
 accepted_of d g o (Err NoStep) h t s1 p l = absurd (flat_clash d s1 p l (flat_of d g o h t))
 
 -- where it is not
-pub wide_refused : (d : Design) → 2 ^ 126 < curvature_size d → (r : Result StepExponents CurvatureFault) → r ≡ Err (TooWide Curvature) →
+pub wide_refused : (d : Design) → 2 ^ 126 < curvature_quantity d → (r : Result StepExponents CurvatureFault) → r ≡ Err (TooWide Curvature) →
     IfErr r (IsExponentRefused d)
 wide_refused d l r e = rw e (inr (refl, l))
 
-pub wide_every : (d : Design) → 2 ^ 126 < curvature_size d → (r : Result StepExponents CurvatureFault) → r ≡ Err (TooWide Curvature) →
+pub wide_every : (d : Design) → 2 ^ 126 < curvature_quantity d → (r : Result StepExponents CurvatureFault) → r ≡ Err (TooWide Curvature) →
     (e : CurvatureFault) → HasExponentCause d e → (r ≡ Err e) ⊎ (r ≡ Err Memory)
 wide_every d l r f Memory k = absurd k
 wide_every d l r f (TooWide q) k = inl (f ∙ ap (λ (z : Quantity). Err (TooWide z)) (sym k.0))
@@ -127,34 +124,29 @@ pub memory_refused : (d : Design) (r : Result StepExponents CurvatureFault) → 
 memory_refused d r e = rw e (inl refl)
 
 -- ---- the quantity
-pub size_is : (d : Design) (o : Option ℕ) → IsLeastBelow 41 (CoversSquares d) o → curvature_size d ≡ curvature_at d (unwrap_or o 40)
-size_is d o h = ap (λ s. curvature_of s d.limit_denominator (hessian_size d) d.cost_denominator d.row_denominator (rows_size d)) (squares_are d o h)
-
-pub at-le : (d : Design) (s t : ℕ) → s ≤ t → curvature_at d s ≤ curvature_at d t
-at-le d s t l =
+at-le : (fine : Bool) (d : Design) (s t : ℕ) → s ≤ t → size_at fine d s ≤ size_at fine d t
+at-le fine d s t l =
     let p : 2 ^ s ≤ 2 ^ t = pow-le-pow_right {n = 2} (omega arith) {i = s} {j = t} l in
     let q = mul-le-mul_right (d.limit_denominator ^ 2) p in
-    let r = mul-le-mul_right (hessian_size d) q in
+    let r = mul-le-mul_right (cost_row_in fine d) q in
     omega (arith, r)
 
-pub room_of : (d : Design) (g : StepMatrices) (o : Option ℕ) → AreMatricesOf d g → curvature_at d (unwrap_or o 40) ≤ 2 ^ 126 → (s : ℕ) → s ≤ unwrap_or o 40 → HasMatrixRoom g s
-room_of d g o h l s k = h.room s (omega (arith, at-le d s (unwrap_or o 40) k, l))
+pub room_of : (d : Design) (g : StepMatrices) (o : Option ℕ) → AreMatricesOf (is_fine d) d g → IsLeastBelow 41 (CoversSquares d) o → curvature_quantity d ≤ 2 ^ 126 →
+    (s : ℕ) → s ≤ unwrap_or o 40 → HasMatrixRoom g s
+room_of d g o h b l s k = h.room s (under (at-le (is_fine d) d s (unwrap_or o 40) k) (ap (λ t. size_at (is_fine d) d t) (exponent_is d (form_of d) o b)) l)
+  where
+    under : {a b c e : ℕ} → a ≤ b → c ≡ b → c ≤ e → a ≤ e
+    under {a} {b} {c} {e} h g k = omega (arith, h, g, k)
 
--- some number covers the squares
-some_of : (p : DesignParts) (c : Condensed) → IsFormOf p c → HasLeast (CoversSquares (design_of p))
-some_of p c f = let s = sound p f.design in covers_least (design_of p) s.rho_positive s.limit_denominator (small p c f).power
-
--- what a test of the quantity says of it
-pub wide_of : (d : Design) (o : Option ℕ) (n : ℕ) → n ≡ unwrap_or o 40 → IsLeastBelow 41 (CoversSquares d) o → ¬ (curvature_at d n ≤ 2 ^ 126) → 2 ^ 126 < curvature_size d
-wide_of d o n e h k = elim (cases_lt (2 ^ 126) (curvature_size d)) [
-  | inl l ↦ l
-  | inr l ↦ absurd (k (rw (e, ← (size_is d o h)) l))
-]
-
-pub narrow_of : (d : Design) (o : Option ℕ) (n : ℕ) → n ≡ unwrap_or o 40 → IsLeastBelow 41 (CoversSquares d) o → curvature_at d n ≤ 2 ^ 126 → curvature_size d ≤ 2 ^ 126
-narrow_of d o n e h k = let q = size_is d o h in let r : curvature_at d (unwrap_or o 40) ≤ 2 ^ 126 = rw e at k in omega (arith, q, r)
+-- what a test of it says
+pub wide_of : (d : Design) → ¬ (curvature_quantity d ≤ 2 ^ 126) → 2 ^ 126 < curvature_quantity d
+wide_of d k = elim (cases_lt (2 ^ 126) (curvature_quantity d)) [ inl l ↦ l | inr l ↦ absurd (k l) ]
 
 -- all of it, of a condensed form
-pub chosen_of : (p : DesignParts) (c : Condensed) → IsFormOf p c → (g : StepMatrices) (o : Option ℕ) → AreMatricesOf (design_of p) g → IsLeastBelow 41 (CoversSquares (design_of p)) o →
-    Chosen (design_of p) g o
-chosen_of p c f g o m s = record { matrices = m; squares = s; some = some_of p c f }
+pub chosen_of : (p : DesignParts) (c : Condensed) → IsFormOf p c → (g : StepMatrices) (o : Option ℕ) → AreMatricesOf (is_fine (design_of p)) (design_of p) g →
+    IsLeastBelow 41 (CoversSquares (design_of p)) o → Chosen (design_of p) g o
+chosen_of p c f g o m s = record {
+  matrices = m;
+  squares = s;
+  some = covers_least (design_of p) (form_of (design_of p)) (sound p f.design).rho_positive f.encloses.rows_some;
+}

@@ -1,31 +1,37 @@
 -- The matrices of a design.
-use Rattle.std.specs.Prelude.{◌≡◌, ℕ, ◌*◌, ◌≤◌, ◌^◌, length}
+use Rattle.std.specs.Prelude.{◌≡◌, ℕ, ◌≤◌, ◌<◌, ◌^◌, Bool, ℤ, length}
+use Rattle.integer_algebra.specs.Sizes.{amount, size}
+use Rattle.mat_int.specs.Matrix.{Matrix, entry_of, HasEntries}
 use Rattle.qp_model.specs.Design.{Design, entries}
-use Rattle.qp_model.specs.Form.{form_of}
-use Rattle.qp_model.specs.Quantities.{hessian_size, rows_size, input_floor}
+use Rattle.qp_model.specs.Class.{cost_row_in, product_row_in}
 use Rattle.qp_model.specs.CurvatureSize.{curvature_of}
 use Rattle.hessian_check.specs.declared.matrices.StepMatrices.{StepMatrices}
-use Rattle.hessian_check.specs.declared.of_design.Scales.{Scales}
+use Rattle.hessian_check.specs.Curvature.{lowered, raised_diagonal}
 use Rattle.hessian_check.specs.Dominance.{AreSame}
 use Rattle.hessian_check.specs.MatrixRoom.{matrix_at, HasMatrixRoom}
-use Rattle.hessian_check.specs.Steps.{step_matrix}
+use Rattle.hessian_check.specs.Steps.{held_in, step_matrix_in}
 
--- the quantity `curvature`, where the squares ask the exponent s
-abbrev pub curvature_at : Design → ℕ → ℕ
-curvature_at d s = curvature_of s d.limit_denominator (hessian_size d) d.cost_denominator d.row_denominator (rows_size d)
+-- the quantity `curvature` of a class's form, where the squares ask the exponent s
+abbrev pub size_at : (fine : Bool) → Design → ℕ → ℕ
+size_at fine d s = curvature_of s d.limit_denominator (cost_row_in fine d) d.cost_denominator d.row_denominator (product_row_in fine d)
+
+-- a square matrix with these entries, none of whose rows comes to more than `most`
+pub record IsHeldMatrix (n : ℕ) (entry : ℕ → ℕ → ℤ) (most : ℕ) (m : Matrix) : Type 0 where
+  pub is : HasEntries n n entry m
+  pub row : (i : ℕ) → i < n → size n (entry_of m i) ≤ most
+
+-- half the hessian, with each diagonal entry lowered by the radii of its row
+abbrev pub IsCostMatrix : (fine : Bool) → Design → Matrix → Type 0
+IsCostMatrix fine d =
+    IsHeldMatrix (entries d) (lowered (held_in fine d).half (λ i. amount (entries d) ((held_in fine d).half_radius i))) (cost_row_in fine d)
+
+-- the products of the rows, with each raised by them
+abbrev pub IsRowMatrix : (fine : Bool) → Design → Matrix → Type 0
+IsRowMatrix fine d =
+    IsHeldMatrix (entries d) (raised_diagonal (held_in fine d).products (λ i. amount (entries d) ((held_in fine d).products_radius i))) (product_row_in fine d)
 
 -- these are the matrices of the design, and leave room where the quantity is within its limit
-pub record AreMatricesOf (d : Design) (g : StepMatrices) : Type 0 where
+pub record AreMatricesOf (fine : Bool) (d : Design) (g : StepMatrices) : Type 0 where
   pub size : length g.cost.rows ≡ entries d
-  pub same : (s : ℕ) → AreSame (entries d) (matrix_at g s) (step_matrix d s)
-  pub room : (s : ℕ) → curvature_at d s ≤ 2 ^ 126 → HasMatrixRoom g s
-
--- these are the numbers of the design
-pub record IsScales (s : Scales) (d : Design) : Type 0 where
-  pub weight_den : s.weight_den ≡ d.cost_denominator
-  pub cost_row_den : s.cost_row_den ≡ d.row_denominator
-  pub limit_den : s.limit_den ≡ d.limit_denominator
-  pub lift : d.limit_denominator * s.lift ≡ (form_of d).rows_scale
-  pub input_floor : s.input_floor ≡ input_floor d
-  pub hessian : s.hessian ≡ hessian_size d
-  pub rows : s.rows ≡ rows_size d
+  pub same : (s : ℕ) → AreSame (entries d) (matrix_at g s) (step_matrix_in fine d s)
+  pub room : (s : ℕ) → size_at fine d s ≤ 2 ^ 126 → HasMatrixRoom g s

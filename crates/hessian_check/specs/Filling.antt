@@ -1,5 +1,5 @@
 -- Square matrices that are filled row by row.
-use Rattle.std.specs.Prelude.{◌≡◌, ℕ, ◌<◌, ℤ, All, length}
+use Rattle.std.specs.Prelude.{◌≡◌, ℕ, ◌<◌, ◌≤◌, ℤ, All, length}
 use Rattle.mat_int.specs.Matrix.{Matrix, entry_of}
 
 -- m is square, and its first i rows have these entries
@@ -13,3 +13,8 @@ pub record HasFirstRows (n : ℕ) (entry : ℕ → ℕ → ℤ) (m : Matrix) (i 
 pub record HasFirstEntries (n : ℕ) (entry : ℕ → ℕ → ℤ) (m : Matrix) (i j : ℕ) : Type 0 where
   pub before : HasFirstRows n entry m i
   pub here : (k : ℕ) → k < j → entry_of m i k ≡ entry i k
+
+-- and its further rows are as they were
+pub record HasFirstMoved (n : ℕ) (entry old : ℕ → ℕ → ℤ) (m : Matrix) (i : ℕ) : Type 0 where
+  pub first : HasFirstRows n entry m i
+  pub rest : (k j : ℕ) → i ≤ k → k < n → j < n → entry_of m k j ≡ old k j

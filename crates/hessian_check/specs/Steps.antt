@@ -1,10 +1,15 @@
 -- The exponents of a design's step.
-use Rattle.std.specs.Prelude.{ℕ, ◌-◌, ◌*◌, ◌^◌, ◌<◌, ℤ, pos}
+use Rattle.std.specs.Prelude.{ℕ, ◌-◌, ◌*◌, ◌/◌, ◌^◌, ◌<◌, Bool, true, false, ℤ, pos, unsigned_abs}
 use Rattle.integer_algebra.specs.Division.{floor_of}
+use Rattle.frac_scaled.specs.Enclosures.{Enclosure}
+use Rattle.mat_int.specs.Enclosures.{weighted_gram}
+use Rattle.qp_model.specs.Class.{CoversSquares}
 use Rattle.qp_model.specs.Design.{Design, entries, rows}
 use Rattle.qp_model.specs.Condensing.{condensed_of}
+use Rattle.qp_model.specs.FineForm.{fine_form}
+use Rattle.qp_model.specs.FineSizes.{is_fine}
+use Rattle.qp_model.specs.Form.{Form}
 use Rattle.qp_model.specs.Quantities.{input_floor}
-use Rattle.qp_model.specs.CurvatureSize.{CoversSquares}
 use Rattle.qp_model.specs.declared.design_parts.DesignParts.{DesignParts}
 use Rattle.qp_model.specs.Parts.{design_of}
 use Rattle.plant_condense.specs.declared.condensed.Condensed.{Condensed}
@@ -36,15 +41,38 @@ curved_of d = weighted_of d (λ l. 1)
 abbrev pub curved_by : Design → (ℕ → ℕ) → ℕ → Curved
 curved_by d s most = weighted_of d (λ l. 2 ^ (most - s l))
 
--- the matrices of the design, which are held exactly
-abbrev pub held_of : Design → HeldMatrices
-held_of d = held_exactly (curved_of d)
+-- ---- the matrices as they are held
+-- a number that a row of a form has of an entry of the plan, with its radius
+abbrev pub row_enclosure : Form → ℕ → ℕ → Enclosure
+row_enclosure h l i = record { mid = h.numbers.by_plan l i; rad = pos (h.plan_radius l i) }
+
+-- the products of columns i and j of the rows, rounded once
+abbrev pub row_products : Form → ℕ → ℕ → Enclosure
+row_products h = weighted_gram h.rows (λ l. pos 1) (row_enclosure h)
+
+-- those of a form whose numbers are over 2^40; its hessian and the radii of that are even
+abbrev pub held_rounded : Form → HeldMatrices
+held_rounded h = record {
+  half = half_of h.numbers.hessian;
+  half_radius = λ i j. h.hessian_radius i j / 2;
+  products = λ i j. (row_products h i j).mid;
+  products_radius = λ i j. unsigned_abs (row_products h i j).rad;
+}
+
+-- by class: the exact matrices, or those of the enclosures
+abbrev pub held_in : (fine : Bool) → Design → HeldMatrices
+held_in true d = held_rounded (fine_form d)
+held_in false d = held_exactly (curved_of d)
 
 -- the matrix of s, made of them
-abbrev pub step_matrix : Design → ℕ → ℕ → ℕ → ℤ
-step_matrix d = exponent_matrix (curved_of d) (held_of d)
+abbrev pub step_matrix_in : (fine : Bool) → Design → ℕ → ℕ → ℕ → ℤ
+step_matrix_in fine d = exponent_matrix (curved_of d) (held_in fine d)
 
--- that of an exponent for each row
+-- of the design's own class
+abbrev pub step_matrix : Design → ℕ → ℕ → ℕ → ℤ
+step_matrix d = step_matrix_in (is_fine d) d
+
+-- that of an exponent for each row, of the exact matrices
 abbrev pub rows_matrix : Design → (ℕ → ℕ) → ℕ → ℕ → ℕ → ℤ
 rows_matrix d s most = exponent_matrix (curved_by d s most) (held_exactly (curved_by d s most)) most
 

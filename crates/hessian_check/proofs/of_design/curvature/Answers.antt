@@ -1,29 +1,44 @@
-use Rattle.std.proofs.Common.{◌≤◌, ◌^◌, inr, arith, rules, true, IsTrue, refl}
-use Rattle.std.specs.Prelude.{unwrap_or}
+use Rattle.std.proofs.Common.{inr, arith, rules, true, IsTrue, refl}
 use Rattle.std.proofs.lemmas.Result.{err_from_is_err_and}
+use Rattle.qp_model.specs.Class.{CoversSquares}
+use Rattle.qp_model.specs.FineSizes.{is_fine}
 use Rattle.qp_model.specs.Parts.{design_of}
-use Rattle.hessian_check.specs.DesignMatrices.{curvature_at}
+use Rattle.plant_condense.proofs.LeastLaws.{few}
 use Rattle.hessian_check.proofs.ExponentLaws.{step_law}
 use Rattle.hessian_check.proofs.RowLaws.{not_true}
-use Rattle.hessian_check.proofs.StepAnswers.{accepted_of, chosen_of, every_of, exponents_of, few, memory_is, memory_refused, narrow_of, order_of, plain_of, refused_of, room_of, step_of, wide_every, wide_of, wide_refused}
+use Rattle.hessian_check.proofs.StepAnswers.{accepted_of, chosen_of, every_of, exponents_of, memory_is, memory_refused, order_of, plain_of, refused_of, room_of, step_of, wide_every, wide_of, wide_refused}
 use Rattle.hessian_check.proofs.of_design.curvature.Goals as goal
 
-pub returns-then-not-is_limited-clause-refused : goal.returns-then-not-is_limited-clause-refused
-returns-then-not-is_limited-clause-refused c = λ p f.
-    let o = c.squares_of-squares.result in
-    let w = wide_of (design_of p) o c.unwrap_or.result c.unwrap_or.ensures (c.squares_of-squares.ensures p f) (λ h. not_true (((c.if-not-is_limited.ensures p f).1) h)) in
-    wide_refused (design_of p) w _ refl
+pub exponents_of-requires-clause-small : goal.exponents_of-requires-clause-small
+exponents_of-requires-clause-small c =
+    let d = design_of c.requires.parts in
+    few (CoversSquares d) c.squares_exponent-squares.result (c.squares_exponent-squares.ensures (is_fine d) c.requires.parts c.requires.form)
 
-pub returns-then-not-is_limited-clause-every_refusal : goal.returns-then-not-is_limited-clause-every_refusal
-returns-then-not-is_limited-clause-every_refusal c = λ p f.
-    let o = c.squares_of-squares.result in
-    let w = wide_of (design_of p) o c.unwrap_or.result c.unwrap_or.ensures (c.squares_of-squares.ensures p f) (λ h. not_true (((c.if-not-is_limited.ensures p f).1) h)) in
-    wide_every (design_of p) w _ refl
+pub exponents_of-requires-clause-room : goal.exponents_of-requires-clause-room
+exponents_of-requires-clause-room c =
+    let p = c.requires.parts in
+    let f = c.requires.form in
+    let d = design_of p in
+    let t : IsTrue true = search rules in
+    room_of d c.in_ok-matrices.matrices c.squares_exponent-squares.result (c.in_ok-matrices.ensures (is_fine d) p f) (c.squares_exponent-squares.ensures (is_fine d) p f)
+    ((c.if-not-is_curvature_limited.ensures (is_fine d) p f).0 t)
 
-pub returns-then-not-is_limited-clause-accepted : goal.returns-then-not-is_limited-clause-accepted
-returns-then-not-is_limited-clause-accepted c = λ p f s1 l k m.
-    let o = c.squares_of-squares.result in
-    let w = wide_of (design_of p) o c.unwrap_or.result c.unwrap_or.ensures (c.squares_of-squares.ensures p f) (λ h. not_true (((c.if-not-is_limited.ensures p f).1) h)) in
+pub returns-then-not-is_curvature_limited-clause-refused : goal.returns-then-not-is_curvature_limited-clause-refused
+returns-then-not-is_curvature_limited-clause-refused c = λ p f.
+    let d = design_of p in
+    let w = wide_of d (λ h. not_true ((c.if-not-is_curvature_limited.ensures (is_fine d) p f).1 h)) in
+    wide_refused d w _ refl
+
+pub returns-then-not-is_curvature_limited-clause-every_refusal : goal.returns-then-not-is_curvature_limited-clause-every_refusal
+returns-then-not-is_curvature_limited-clause-every_refusal c = λ p f.
+    let d = design_of p in
+    let w = wide_of d (λ h. not_true ((c.if-not-is_curvature_limited.ensures (is_fine d) p f).1 h)) in
+    wide_every d w _ refl
+
+pub returns-then-not-is_curvature_limited-clause-accepted : goal.returns-then-not-is_curvature_limited-clause-accepted
+returns-then-not-is_curvature_limited-clause-accepted c = λ p f s1 l k m.
+    let d = design_of p in
+    let w = wide_of d (λ h. not_true ((c.if-not-is_curvature_limited.ensures (is_fine d) p f).1 h)) in
     absurd (omega (arith, w, l))
 
 pub returns-in_err-matrices-clause-refused : goal.returns-in_err-matrices-clause-refused
@@ -43,89 +58,76 @@ returns-in_err-matrices-clause-accepted c = λ p f s1 l k m.
 
 pub returns-in_err-matrices-clause-wide : goal.returns-in_err-matrices-clause-wide
 returns-in_err-matrices-clause-wide c = λ p f w.
-    let o = c.squares_of-squares.result in
-    let t : IsTrue true = search rules in
-    let l = narrow_of (design_of p) o c.unwrap_or.result c.unwrap_or.ensures (c.squares_of-squares.ensures p f) ((c.if-not-is_limited.ensures p f).0 t) in
-    absurd (omega (arith, w, l))
-
-pub exponents_of-requires-clause-small : goal.exponents_of-requires-clause-small
-exponents_of-requires-clause-small c = few (design_of c.requires.parts) c.squares_of-squares.result (c.squares_of-squares.ensures c.requires.parts c.requires.form)
-
-pub exponents_of-requires-clause-room : goal.exponents_of-requires-clause-room
-exponents_of-requires-clause-room c =
-    let p = c.requires.parts in
-    let f = c.requires.form in
     let d = design_of p in
-    let o = c.squares_of-squares.result in
     let t : IsTrue true = search rules in
-    let k : curvature_at d (unwrap_or o 40) ≤ 2 ^ 126 = rw c.unwrap_or.ensures at ((c.if-not-is_limited.ensures p f).0 t) in
-    room_of d c.in_ok-matrices.matrices o (c.in_ok-matrices.ensures p f) k
+    let l = (c.if-not-is_curvature_limited.ensures (is_fine d) p f).0 t in
+    absurd (omega (arith, w, l))
 
 pub returns-clause-plain : goal.returns-clause-plain
 returns-clause-plain c = λ p f.
     let d = design_of p in
-    let o = c.squares_of-squares.result in
+    let o = c.squares_exponent-squares.result in
     let g = c.in_ok-matrices.matrices in
-    let h = chosen_of p c.args.c.now f g o (c.in_ok-matrices.ensures p f) (c.squares_of-squares.ensures p f) in
+    let h = chosen_of p c.args.c.now f g o (c.in_ok-matrices.ensures (is_fine d) p f) (c.squares_exponent-squares.ensures (is_fine d) p f) in
     plain_of d g o c.exponents_of.result h c.exponents_of.ensures
 
 pub returns-clause-certified : goal.returns-clause-certified
 returns-clause-certified c = λ p f.
     let d = design_of p in
-    let o = c.squares_of-squares.result in
+    let o = c.squares_exponent-squares.result in
     let g = c.in_ok-matrices.matrices in
-    let h = chosen_of p c.args.c.now f g o (c.in_ok-matrices.ensures p f) (c.squares_of-squares.ensures p f) in
+    let h = chosen_of p c.args.c.now f g o (c.in_ok-matrices.ensures (is_fine d) p f) (c.squares_exponent-squares.ensures (is_fine d) p f) in
     step_of d g o c.exponents_of.result h c.exponents_of.ensures
 
 pub returns-clause-exponents : goal.returns-clause-exponents
 returns-clause-exponents c = λ p f.
     let d = design_of p in
-    let o = c.squares_of-squares.result in
+    let o = c.squares_exponent-squares.result in
     let g = c.in_ok-matrices.matrices in
-    let h = chosen_of p c.args.c.now f g o (c.in_ok-matrices.ensures p f) (c.squares_of-squares.ensures p f) in
-    exponents_of step_law p f.design c.exponents_of.result (plain_of d g o c.exponents_of.result h c.exponents_of.ensures) (step_of d g o c.exponents_of.result h c.exponents_of.ensures)
+    let h = chosen_of p c.args.c.now f g o (c.in_ok-matrices.ensures (is_fine d) p f) (c.squares_exponent-squares.ensures (is_fine d) p f) in
+    exponents_of step_law p c.args.c.now f c.exponents_of.result (plain_of d g o c.exponents_of.result h c.exponents_of.ensures) (step_of d g o c.exponents_of.result h c.exponents_of.ensures)
 
 pub returns-clause-order : goal.returns-clause-order
 returns-clause-order c =
     let p = c.requires.parts in
     let f = c.requires.form in
     let d = design_of p in
-    let o = c.squares_of-squares.result in
+    let o = c.squares_exponent-squares.result in
     let g = c.in_ok-matrices.matrices in
-    let h = chosen_of p c.args.c.now f g o (c.in_ok-matrices.ensures p f) (c.squares_of-squares.ensures p f) in
+    let h = chosen_of p c.args.c.now f g o (c.in_ok-matrices.ensures (is_fine d) p f) (c.squares_exponent-squares.ensures (is_fine d) p f) in
     order_of d g o c.exponents_of.result h c.exponents_of.ensures
 
 pub returns-clause-refused : goal.returns-clause-refused
 returns-clause-refused c = λ p f.
     let d = design_of p in
-    let o = c.squares_of-squares.result in
+    let o = c.squares_exponent-squares.result in
     let g = c.in_ok-matrices.matrices in
+    let h = chosen_of p c.args.c.now f g o (c.in_ok-matrices.ensures (is_fine d) p f) (c.squares_exponent-squares.ensures (is_fine d) p f) in
     let t : IsTrue true = search rules in
-    let l = narrow_of d o c.unwrap_or.result c.unwrap_or.ensures (c.squares_of-squares.ensures p f) ((c.if-not-is_limited.ensures p f).0 t) in
-    let h = chosen_of p c.args.c.now f g o (c.in_ok-matrices.ensures p f) (c.squares_of-squares.ensures p f) in
+    let l = (c.if-not-is_curvature_limited.ensures (is_fine d) p f).0 t in
     refused_of d g o c.exponents_of.result h l c.exponents_of.ensures
 
 pub returns-clause-every_refusal : goal.returns-clause-every_refusal
 returns-clause-every_refusal c = λ p f.
     let d = design_of p in
-    let o = c.squares_of-squares.result in
+    let o = c.squares_exponent-squares.result in
     let g = c.in_ok-matrices.matrices in
+    let h = chosen_of p c.args.c.now f g o (c.in_ok-matrices.ensures (is_fine d) p f) (c.squares_exponent-squares.ensures (is_fine d) p f) in
     let t : IsTrue true = search rules in
-    let l = narrow_of d o c.unwrap_or.result c.unwrap_or.ensures (c.squares_of-squares.ensures p f) ((c.if-not-is_limited.ensures p f).0 t) in
-    let h = chosen_of p c.args.c.now f g o (c.in_ok-matrices.ensures p f) (c.squares_of-squares.ensures p f) in
+    let l = (c.if-not-is_curvature_limited.ensures (is_fine d) p f).0 t in
     every_of d g o c.exponents_of.result h l c.exponents_of.ensures
 
 pub returns-clause-accepted : goal.returns-clause-accepted
 returns-clause-accepted c = λ p f s1 l.
     let d = design_of p in
-    let o = c.squares_of-squares.result in
+    let o = c.squares_exponent-squares.result in
     let g = c.in_ok-matrices.matrices in
-    let h = chosen_of p c.args.c.now f g o (c.in_ok-matrices.ensures p f) (c.squares_of-squares.ensures p f) in
+    let h = chosen_of p c.args.c.now f g o (c.in_ok-matrices.ensures (is_fine d) p f) (c.squares_exponent-squares.ensures (is_fine d) p f) in
     accepted_of d g o c.exponents_of.result h c.exponents_of.ensures s1
 
 pub returns-clause-wide : goal.returns-clause-wide
 returns-clause-wide c = λ p f w.
-    let o = c.squares_of-squares.result in
+    let d = design_of p in
     let t : IsTrue true = search rules in
-    let l = narrow_of (design_of p) o c.unwrap_or.result c.unwrap_or.ensures (c.squares_of-squares.ensures p f) ((c.if-not-is_limited.ensures p f).0 t) in
+    let l = (c.if-not-is_curvature_limited.ensures (is_fine d) p f).0 t in
     absurd (omega (arith, w, l))
