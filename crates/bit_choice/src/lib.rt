@@ -4,6 +4,3 @@
 mod choice;
 
 pub use choice::{Choice, TooFine, choose_bits};
-
-#[cfg(test)]
-mod tests;

@@ -12,6 +12,7 @@ use Rattle.integer_algebra.proofs.BoundLaws.{within_times}
 use Rattle.integer_algebra.proofs.SquareLaws.{two_products_le}
 use Rattle.integer_algebra.proofs.PowerLaws.{pow_positive, pow-two, four-pow}
 use Rattle.integer_algebra.proofs.Quoting.{by_ring, quotes}
+use Rattle.integer_algebra.proofs.AmountLaws.{amount_none}
 use Rattle.std.proofs.Math.Nat.{one-le-mul}
 use Rattle.qp_model.specs.Design.{Design, entries}
 use Rattle.qp_model.specs.Cost.{cost_scale}
@@ -23,7 +24,7 @@ use Rattle.qp_model.specs.Quantities.{input_floor}
 use Rattle.qp_model.specs.Form.{Form, IsFormFor, hessian_scale, hessian_radii}
 use Rattle.qp_model.specs.Columns.{solve_matrix}
 use Rattle.qp_model.proofs.CurvatureLaws as laws
-use Rattle.step_error.proofs.Forms.{counted, amount_none}
+use Rattle.step_error.proofs.Forms.{counted}
 
 -- ---- the exact hessian
 -- it bends a list up by at least 2 * (row_denominator * plant_denominator^stages)^2 * rho

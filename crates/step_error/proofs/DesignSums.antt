@@ -1,122 +1,85 @@
--- The sums of a condensed form's numbers are those of the design that it is the form of.
-use Rattle.std.proofs.Common.{◌≡◌, ℕ, zero, suc, ◌+◌, ◌*◌, ◌^◌, ◌<◌, ◌≤◌, ℤ, pos, ◌≤ℤ◌, unsigned_abs, length, arith, ap, sym, ◌∙◌, refl}
-use Rattle.std.proofs.lemmas.Int.{ints}
+-- The sums of a condensed form's numbers and radii.
+use Rattle.std.proofs.Common.{◌≡◌, ℕ, ◌+◌, ◌*◌, ◌^◌, ◌<◌, ◌≤◌, Bool, pos, ◌≤ℤ◌, unsigned_abs, length, arith, ap, sym, ◌∙◌}
 use Rattle.std.proofs.Math.Nat.{mul-le-mul, mul-le-mul_left, mul-le-mul_right, one-le-mul}
 use Rattle.integer_algebra.specs.Sums.{at}
 use Rattle.integer_algebra.specs.Sizes.{size, amount}
 use Rattle.integer_algebra.specs.Division.{ceil_div}
-use Rattle.integer_algebra.proofs.PowerLaws.{pow-two, pow_positive}
-use Rattle.integer_algebra.proofs.SizeLaws.{amount_same, amount_term, size_same}
-use Rattle.integer_algebra.proofs.AmountLaws.{amount_mono}
-use Rattle.mat_int.specs.Matrix.{entry_of}
+use Rattle.integer_algebra.proofs.PowerLaws.{pow_positive}
+use Rattle.integer_algebra.proofs.SizeLaws.{amount_term}
+use Rattle.mat_int.specs.Enclosures.{AreEnclosures}
+use Rattle.mat_int.specs.Matrix.{Matrix, entry_of}
 use Rattle.qp_model.specs.declared.design_parts.DesignParts.{DesignParts}
+use Rattle.qp_model.specs.Controller.{HasShape}
 use Rattle.qp_model.specs.Design.{Design, entries, rows}
 use Rattle.qp_model.specs.Parts.{IsDesign, design_of}
-use Rattle.qp_model.specs.Condensing.{condensed_of}
 use Rattle.qp_model.specs.Quantities.{greatest, input_floor}
-use Rattle.qp_model.specs.Form.{Form, form_of, farthest, hessian_scale, rows_scale}
+use Rattle.qp_model.specs.Form.{Form, spread_of}
 use Rattle.qp_model.specs.Errors as errors
 use Rattle.qp_model.specs.Errors.{pull, combined_bound, trace_sum, gradient_squares, gradient_error, error_sums_of, error_size, state_bound, linear_sum, constant_sum, plan_row_sum}
-use Rattle.qp_model.proofs.RowLaws.{plan_number}
 use Rattle.qp_model.proofs.SizeFacts.{some_entry, some_row, positive}
-use Rattle.plant_condense.specs.Form.{IsFormOf, IsLeastInput}
+use Rattle.plant_condense.specs.Form.{IsFormIn, held}
 use Rattle.plant_condense.specs.declared.condensed.Condensed.{Condensed}
-use Rattle.step_error.specs.declared.sums.Radii.{Radii}
+use Rattle.plant_condense.proofs.FormSums.{far_hessian, far_linear, far_constant, far_plan, linear_numbers, constant_numbers, diagonal_numbers, hessian_row, plan_numbers, state_numbers}
+use Rattle.plant_condense.proofs.HeldLaws.{least_equal}
+use Rattle.step_error.specs.declared.radii.Radii.{Radii}
 use Rattle.step_error.specs.declared.sums.Whole.{Whole}
-use Rattle.step_error.specs.ErrorSums.{entry_squares, sums_by, size_by, spread_of, AreRadii, HaveRoom, HasErrorRoom}
+use Rattle.step_error.specs.ErrorSums.{farthest_entry, entry_squares, sums_by, size_by, AreRadii, HaveRoom, HasErrorRoom}
+use Rattle.step_error.proofs.Farthest.{radius_within, radii_within, all_within, column_within}
 use Rattle.step_error.proofs.SumFacts.{few, floor_range, through, doubled}
-use Rattle.qp_model.proofs.SoundLaws.{least-le, least-met, weight_at}
 
-plus_none : (n : ℕ) → n ≡ n + 0
-plus_none n = omega arith
+-- a matrix of midpoints and one of radii
+pair_of : (mid rad : Matrix) (m n : ℕ) → HasShape mid m n → HasShape rad m n → ((i j : ℕ) → i < m → j < n → pos 0 ≤ℤ entry_of rad i j) → AreEnclosures mid rad
+pair_of mid rad m n h k low = record { rows = k.rows ∙ sym h.rows; cols = k.cols ∙ sym h.cols; nonnegative = rw (h.rows, h.cols) low }
 
--- ---- sums of exact numbers, and of no radii
-exact_size : (n : ℕ) (f : ℕ → ℤ) → size n f ≡ amount n (λ i. farthest (f i) 0)
-exact_size n f = amount_same n _ _ (λ i l. plus_none (unsigned_abs (f i)))
+module _ (fine : Bool) (p : DesignParts) (c : Condensed) (is : IsFormIn fine p c) where
+  -- ---- the numbers and their radii
+  pub hessian_pair : AreEnclosures c.hess c.hess_rad
+  hessian_pair = pair_of c.hess c.hess_rad _ _ is.shapes.hess is.shapes.hess_rad is.radii.hess
 
-amount_none : (n : ℕ) (f : ℕ → ℕ) → ((i : ℕ) → i < n → f i ≡ 0) → amount n f ≡ 0
-amount_none zero f h = refl
-amount_none (suc n) f h = omega (arith, amount_none n f (λ i l. h i (omega arith)), h n (omega arith))
+  pub linear_pair : AreEnclosures c.lin c.lin_rad
+  linear_pair = pair_of c.lin c.lin_rad _ _ is.shapes.lin is.shapes.lin_rad is.radii.lin
 
-greatest_none : (n : ℕ) (f : ℕ → ℕ) → ((i : ℕ) → i < n → f i ≡ 0) → greatest n f ≡ 0
-greatest_none zero f h = refl
-greatest_none (suc n) f h = omega (arith, greatest_none n f (λ i l. h i (omega arith)), h n (omega arith))
+  pub plan_pair : AreEnclosures c.g c.g_rad
+  plan_pair = pair_of c.g c.g_rad _ _ is.shapes.g is.shapes.g_rad is.radii.g
 
--- ---- parts of the sums of all numbers
--- the diagonal is a part of the rows
-diagonal_within : (n : ℕ) (f : ℕ → ℕ → ℤ) → size n (λ j. f j j) ≤ amount n (λ i. size n (f i))
-diagonal_within n f = amount_mono n _ _ (λ j l. amount_term j n (λ k. unsigned_abs (f j k)) l)
-
--- a number is at most its square
-below_square : (n : ℕ) → n ≤ n ^ 2
-below_square zero = omega arith
-below_square (suc n) = rw (pow-two (suc n)) (close (mul-le-mul_left (suc n) (one n)))
-  where
-    one : (n : ℕ) → 1 ≤ suc n
-    one n = omega arith
-
-    close : suc n * 1 ≤ suc n * suc n → suc n ≤ suc n * suc n
-    close h = omega (arith, h)
-
-rows_within : (m n : ℕ) (f : ℕ → ℕ → ℤ) → amount m (λ i. size n (f i)) ≤ amount m (λ i. amount n (λ j. unsigned_abs (f i j) ^ 2))
-rows_within m n f = amount_mono m _ _ (λ i l. amount_mono n _ _ (λ j o. below_square (unsigned_abs (f i j))))
-
-module _ (p : DesignParts) (c : Condensed) (is : IsFormOf p c) where
-  -- ---- the cost's numbers
-  parts : (amount (entries (design_of p)) (λ i. size (entries (design_of p)) (entry_of c.hess i)) ≤ 2 ^ 126) ×
-      (amount (entries (design_of p)) (λ j. size p.states (entry_of c.lin j)) ≤ 2 ^ 126) × (size (entries (design_of p)) (at c.off.items) ≤ 2 ^ 126)
-  parts = apart _ _ _ (rw (is.shapes.hess.rows, is.shapes.lin.cols) at is.sizes.cost) is.sizes.cost_room
-    where
-      apart : (a b c : ℕ) {s : ℕ} → a + b + c ≤ s → s ≤ 2 ^ 126 → (a ≤ 2 ^ 126) × (b ≤ 2 ^ 126) × (c ≤ 2 ^ 126)
-      apart a b c {s} h k = (omega (arith, h, k), omega (arith, h, k), omega (arith, h, k))
-
-  pub linear_is : amount (length c.lin.rows) (λ i. size c.lin.cols (entry_of c.lin i)) ≡
-      amount (entries (design_of p)) (λ j. amount p.states (λ i. farthest ((condensed_of (design_of p)).linear j i) 0))
-  linear_is = rw (is.shapes.lin.rows, is.shapes.lin.cols) (amount_same (entries (design_of p)) _ _ (λ j l. size_same p.states _ _ (λ i m. is.numbers.linear j i l m) ∙
-      exact_size p.states ((condensed_of (design_of p)).linear j)))
-
-  pub linear_small : amount (length c.lin.rows) (λ i. size c.lin.cols (entry_of c.lin i)) ≤ 2 ^ 126
-  linear_small = rw (is.shapes.lin.rows, is.shapes.lin.cols) parts.1
-
-  pub constant_is : size (length c.off.items) (at c.off.items) ≡ amount (entries (design_of p)) (λ j. farthest ((condensed_of (design_of p)).constant j) 0)
-  constant_is = rw is.shapes.off (size_same (entries (design_of p)) _ _ (λ j l. is.numbers.constant j l) ∙ exact_size (entries (design_of p)) (condensed_of (design_of p)).constant)
-
-  pub constant_small : size (length c.off.items) (at c.off.items) ≤ 2 ^ 126
-  constant_small = rw is.shapes.off parts.2
-
-  pub diagonal_is : size (length c.hess.rows) (λ j. entry_of c.hess j j) ≡ amount (entries (design_of p)) (λ j. farthest ((condensed_of (design_of p)).hessian j j) 0)
-  diagonal_is = rw is.shapes.hess.rows (size_same (entries (design_of p)) _ _ (λ j l. is.numbers.hessian j j l l) ∙
-      exact_size (entries (design_of p)) (λ j. (condensed_of (design_of p)).hessian j j))
-
-  pub diagonal_small : size (length c.hess.rows) (λ j. entry_of c.hess j j) ≤ 2 ^ 126
-  diagonal_small = rw is.shapes.hess.rows (through (diagonal_within (entries (design_of p)) (entry_of c.hess)) parts.0)
-
-  pub hessian_row_small : (j : ℕ) → j < length c.hess.rows → size c.hess.cols (entry_of c.hess j) ≤ 2 ^ 126
-  hessian_row_small j l = rw is.shapes.hess.cols (through
-      (amount_term j (entries (design_of p)) (λ i. size (entries (design_of p)) (entry_of c.hess i)) (rw is.shapes.hess.rows at l)) parts.0)
+  pub constant_pair : length c.off_rad.items ≡ length c.off.items
+  constant_pair = is.shapes.off_rad ∙ sym is.shapes.off
 
   pub square : c.hess.cols ≡ length c.hess.rows
   square = is.shapes.hess.cols ∙ sym is.shapes.hess.rows
 
-  -- ---- the limits' numbers
-  pub rows_is : amount (length c.g.rows) (λ i. size c.g.cols (entry_of c.g i)) ≡
-      amount (rows (design_of p)) (λ i. amount (entries (design_of p)) (λ j. farthest ((condensed_of (design_of p)).by_plan i j) 0))
-  rows_is = rw (is.shapes.g.rows, is.shapes.g.cols) (amount_same (rows (design_of p)) _ _ (λ i l. size_same (entries (design_of p)) _ _
-      (λ j m. is.numbers.limits.plan i j l m ∙ sym (plan_number (design_of p) i j is.design.inputs.0)) ∙ exact_size (entries (design_of p)) ((condensed_of (design_of p)).by_plan i)))
+  -- ---- the cost's numbers
+  pub linear_is : amount (length c.lin.rows) (λ j. amount c.lin.cols (far_linear c j)) ≡ amount (length c.hess.rows) (λ j. amount c.lin.cols (far_linear c j))
+  linear_is = ap (λ n. amount n (λ j. amount c.lin.cols (far_linear c j))) (is.shapes.lin.rows ∙ sym is.shapes.hess.rows)
 
-  pub rows_small : amount (length c.g.rows) (λ i. size c.g.cols (entry_of c.g i)) ≤ 2 ^ 126
-  rows_small = rw (is.shapes.g.rows, is.shapes.g.cols) (through (rows_within (rows (design_of p)) (entries (design_of p)) (entry_of c.g))
-      (first _ _ _ (rw (is.shapes.g.rows, is.shapes.hess.rows, is.shapes.lin.cols) at is.sizes.limits) is.sizes.limit_room))
-    where
-      first : (a b c : ℕ) {s : ℕ} → a + b + c ≤ s → s ≤ 2 ^ 126 → a ≤ 2 ^ 126
-      first a b c {s} h k = omega (arith, h, k)
+  pub linear_small : amount (length c.lin.rows) (λ j. amount c.lin.cols (far_linear c j)) ≤ 2 ^ 126
+  linear_small = rw (is.shapes.lin.rows, is.shapes.lin.cols) (through (linear_numbers fine p c is) is.sizes.cost_room)
+
+  pub constant_is : amount (length c.off.items) (far_constant c) ≡ amount (length c.hess.rows) (far_constant c)
+  constant_is = ap (λ n. amount n (far_constant c)) (is.shapes.off ∙ sym is.shapes.hess.rows)
+
+  pub constant_small : amount (length c.off.items) (far_constant c) ≤ 2 ^ 126
+  constant_small = rw is.shapes.off (through (constant_numbers fine p c is) is.sizes.cost_room)
+
+  pub diagonal_small : amount (length c.hess.rows) (λ j. far_hessian c j j) ≤ 2 ^ 126
+  diagonal_small = rw is.shapes.hess.rows (through (diagonal_numbers fine p c is) is.sizes.cost_room)
+
+  pub hessian_row_small : (j : ℕ) → j < length c.hess.rows → amount c.hess.cols (far_hessian c j) ≤ 2 ^ 126
+  hessian_row_small j l = rw is.shapes.hess.cols (through (hessian_row fine p c is j (rw is.shapes.hess.rows at l)) is.sizes.cost_room)
+
+  -- ---- the limits' numbers
+  pub rows_is : amount (length c.g.rows) (λ i. amount c.g.cols (far_plan c i)) ≡ amount (length c.g.rows) (λ i. amount (length c.hess.rows) (far_plan c i))
+  rows_is = ap (λ n. amount (length c.g.rows) (λ i. amount n (far_plan c i))) (is.shapes.g.cols ∙ sym is.shapes.hess.rows)
+
+  pub rows_small : amount (length c.g.rows) (λ i. amount c.g.cols (far_plan c i)) ≤ 2 ^ 126
+  rows_small = rw (is.shapes.g.rows, is.shapes.g.cols) (through (plan_numbers fine p c is) is.sizes.limit_room)
 
   -- ---- what they are over, and the least input weight
-  pub scale_is : unsigned_abs c.hess_den ≡ hessian_scale (design_of p)
-  scale_is = ap unsigned_abs is.denominators.hess_den
+  pub scale_one : 1 ≤ unsigned_abs c.hess_den
+  scale_one = positive c.hess_den is.denominators.hess_den
 
-  pub rows_scale_is : unsigned_abs c.row_den ≡ rows_scale (design_of p)
-  rows_scale_is = ap unsigned_abs is.denominators.row_den
+  pub rows_scale_one : 1 ≤ unsigned_abs c.row_den
+  rows_scale_one = positive c.row_den is.denominators.row_den
 
   pub weight_is : unsigned_abs c.weight_den ≡ (design_of p).cost_denominator
   weight_is = ap unsigned_abs is.denominators.weight_den
@@ -124,26 +87,8 @@ module _ (p : DesignParts) (c : Condensed) (is : IsFormOf p c) where
   pub count_is : (count : ℕ) → count ≡ length c.g.rows → count ≡ rows (design_of p)
   count_is count e = e ∙ is.shapes.g.rows
 
-  power_one : 1 ≤ (design_of p).plant_denominator ^ p.stages
-  power_one = pow_positive (design_of p).plant_denominator p.stages (positive p.plant_den is.design.plant_den.low)
-
-  pub scale_one : 1 ≤ hessian_scale (design_of p)
-  scale_one = one-le-mul (positive p.cost_den is.design.cost_den.low)
-      (pow_positive ((design_of p).row_denominator * (design_of p).plant_denominator ^ p.stages) 2 (one-le-mul (positive p.row_den is.design.row_den.low) power_one))
-
-  pub rows_scale_one : 1 ≤ rows_scale (design_of p)
-  rows_scale_one = one-le-mul (positive p.limit_den is.design.limit_den.low) power_one
-
   pub floor_is : unsigned_abs c.input_floor ≡ input_floor (design_of p)
-  floor_is =
-      let least : IsLeastInput (design_of p) c.input_floor = is.denominators.input_floor in
-      let m = least-met p.inputs (λ l. unsigned_abs (at p.input_weights.items l)) is.design.inputs.0 in
-      close c.input_floor (at p.input_weights.items least.met.0) (at p.input_weights.items m.0) (input_floor (design_of p)) least.met.1.1 m.1.1
-      (weight_at p is.design least.met.0 least.met.1.0).low (least.below m.0 m.1.0)
-      (least-le p.inputs (λ l. unsigned_abs (at p.input_weights.items l)) least.met.0 least.met.1.0)
-    where
-      close : (rho w v : ℤ) (t : ℕ) → rho ≡ w → t ≡ unsigned_abs v → pos 1 ≤ℤ w → rho ≤ℤ v → t ≤ unsigned_abs w → unsigned_abs rho ≡ t
-      close rho w v t e g o b k = omega (arith, ints)
+  floor_is = least_equal p c.input_floor is.design is.denominators.input_floor
 
   -- ---- on the way to the sums
   pub reach_is : (r state count : ℕ) → state ≡ state_bound (design_of p) → count ≡ length c.g.rows → p.states * state + 1 + 2 * r * count ≡ combined_bound (design_of p) r
@@ -155,12 +100,59 @@ module _ (p : DesignParts) (c : Condensed) (is : IsFormOf p c) where
           turn : (n s r m : ℕ) → n * s + 1 + 2 * r * m ≡ n * s + 1 + m * (2 * r)
           turn n s r m = omega arith
 
-  pub squares_is : (r scale reach : ℕ) → scale ≡ hessian_scale (design_of p) → reach ≡ combined_bound (design_of p) r →
-      entry_squares (length c.hess.rows) (entry_of c.hess) scale reach ≡ gradient_squares (design_of p) (gradient_error (design_of p) (form_of (design_of p)) r)
-  squares_is r scale reach e g = rw (is.shapes.hess.rows, e, g) (amount_same (entries (design_of p)) _ _ (λ j l. ap (λ (n : ℕ). n ^ 2)
-      (λ i. ceil_div ((ap unsigned_abs (is.numbers.hessian j j l l) ∙ plus_none _) i) (2 * hessian_scale (design_of p)) * combined_bound (design_of p) r +
-      ceil_div ((size_same (entries (design_of p)) (entry_of c.hess j) ((condensed_of (design_of p)).hessian j) (λ k m. is.numbers.hessian j k l m) ∙
-      exact_size (entries (design_of p)) ((condensed_of (design_of p)).hessian j)) i) (hessian_scale (design_of p)))))
+  pub squares_is : (r scale reach : ℕ) → scale ≡ unsigned_abs c.hess_den → reach ≡ combined_bound (design_of p) r →
+      entry_squares (length c.hess.rows) (farthest_entry c.hess c.hess_rad) scale reach ≡ gradient_squares (design_of p) (gradient_error (design_of p) (held c) r)
+  squares_is r scale reach e g = λ i. amount (is.shapes.hess.rows i) (λ j. (ceil_div (far_hessian c j j) (2 * e i) * g i + ceil_div (amount (length c.hess.rows) (far_hessian c j)) (e i)) ^ 2)
+
+  -- ---- the radii
+  pub hessian_radii_small : (i : ℕ) → i < length c.hess_rad.rows → size c.hess_rad.cols (entry_of c.hess_rad i) ≤ 2 ^ 126
+  hessian_radii_small i l = rw is.shapes.hess_rad.cols (through (radii_within (entries (design_of p)) (entry_of c.hess i) (entry_of c.hess_rad i))
+      (through (hessian_row fine p c is i (rw is.shapes.hess_rad.rows at l)) is.sizes.cost_room))
+
+  pub linear_radii_small : (j : ℕ) → j < length c.lin_rad.rows → size c.lin_rad.cols (entry_of c.lin_rad j) ≤ 2 ^ 126
+  linear_radii_small j l = rw is.shapes.lin_rad.cols (through (radii_within p.states (entry_of c.lin j) (entry_of c.lin_rad j))
+      (through (amount_term j (entries (design_of p)) (λ j. amount p.states (far_linear c j)) (rw is.shapes.lin_rad.rows at l)) (through (linear_numbers fine p c is) is.sizes.cost_room)))
+
+  pub constant_radius_small : (j : ℕ) → j < length c.off_rad.items → unsigned_abs (at c.off_rad.items j) ≤ 2 ^ 126
+  constant_radius_small j l = through (radius_within (at c.off.items j) (at c.off_rad.items j))
+      (through (amount_term j (entries (design_of p)) (far_constant c) (rw is.shapes.off_rad at l)) (through (constant_numbers fine p c is) is.sizes.cost_room))
+
+  pub column_radii_small : (j : ℕ) → j < c.g_rad.cols → size (length c.g_rad.rows) (λ i. entry_of c.g_rad i j) ≤ 2 ^ 126
+  column_radii_small j l = rw is.shapes.g_rad.rows (through (column_within (rows (design_of p)) (entries (design_of p)) j (entry_of c.g) (entry_of c.g_rad) (rw is.shapes.g_rad.cols at l))
+      (through (plan_numbers fine p c is) is.sizes.limit_room))
+
+  pub plan_radii_small : amount (length c.g_rad.rows) (λ i. size c.g_rad.cols (entry_of c.g_rad i)) ≤ 2 ^ 126
+  plan_radii_small = rw (is.shapes.g_rad.rows, is.shapes.g_rad.cols) (through (all_within (rows (design_of p)) (entries (design_of p)) (entry_of c.g) (entry_of c.g_rad))
+      (through (plan_numbers fine p c is) is.sizes.limit_room))
+
+  pub state_radii_small : amount (length c.e_rad.rows) (λ i. size c.e_rad.cols (entry_of c.e_rad i)) ≤ 2 ^ 126
+  state_radii_small = rw (is.shapes.e_rad.rows, is.shapes.e_rad.cols) (through (all_within (rows (design_of p)) p.states (entry_of c.e) (entry_of c.e_rad))
+      (through (state_numbers fine p c is) is.sizes.limit_room))
+
+  -- sums of the radii, as the code adds them up
+  pub radii_are : (r : Radii) → r.h_rad ≡ greatest (length c.hess_rad.rows) (λ i. size c.hess_rad.cols (entry_of c.hess_rad i)) →
+      r.f_rad ≡ greatest (length c.lin_rad.rows) (λ j. size c.lin_rad.cols (entry_of c.lin_rad j)) →
+      r.o_rad ≡ greatest (length c.off_rad.items) (λ j. unsigned_abs (at c.off_rad.items j)) →
+      r.g_col ≡ greatest c.g_rad.cols (λ j. size (length c.g_rad.rows) (λ i. entry_of c.g_rad i j)) →
+      r.g_sum ≡ amount (length c.g_rad.rows) (λ i. size c.g_rad.cols (entry_of c.g_rad i)) →
+      r.e_sum ≡ amount (length c.e_rad.rows) (λ i. size c.e_rad.cols (entry_of c.e_rad i)) →
+      r.cost_scale ≡ (design_of p).cost_denominator * (design_of p).row_denominator ^ 2 → r.row_scale ≡ (design_of p).limit_denominator → r.fine ≡ c.fine →
+      AreRadii (design_of p) (held c) r
+  radii_are r hess lin off column plan state cost row class =
+      let entries = sym is.shapes.hess.rows in
+      let states = sym is.shapes.lin.cols in
+      let rows = sym is.shapes.g.rows in
+      record {
+        hessian = hess ∙ (λ t. greatest ((is.shapes.hess_rad.rows ∙ entries) t) (λ i. size ((is.shapes.hess_rad.cols ∙ entries) t) (entry_of c.hess_rad i)));
+        linear = lin ∙ (λ t. greatest ((is.shapes.lin_rad.rows ∙ entries) t) (λ j. size ((is.shapes.lin_rad.cols ∙ states) t) (entry_of c.lin_rad j)));
+        constant = off ∙ (λ t. greatest ((is.shapes.off_rad ∙ entries) t) (λ j. unsigned_abs (at c.off_rad.items j)));
+        column = column ∙ (λ t. greatest ((is.shapes.g_rad.cols ∙ entries) t) (λ j. size ((is.shapes.g_rad.rows ∙ rows) t) (λ i. entry_of c.g_rad i j)));
+        plan = plan ∙ (λ t. amount ((is.shapes.g_rad.rows ∙ rows) t) (λ i. size ((is.shapes.g_rad.cols ∙ entries) t) (entry_of c.g_rad i)));
+        state = state ∙ (λ t. amount ((is.shapes.e_rad.rows ∙ rows) t) (λ i. size ((is.shapes.e_rad.cols ∙ states) t) (entry_of c.e_rad i)));
+        cost_scale = cost;
+        row_scale = row;
+        spread = ap spread_of class;
+      }
 
 -- what the quantity `error` holds
 pub record AreWithin (d : Design) (h : Form) (r : ℕ) : Type 0 where
@@ -203,25 +195,6 @@ reach_small w n s r k a b c d e = closed (mul-le-mul a (added (mul-le-mul b c) (
 
 pub top_small : (r k : ℕ) → r ≤ 2 ^ 44 → k ≤ 252 → 2 * r * k ≤ 2 ^ 60
 top_small r k h o = let b = mul-le-mul (mul-le-mul_left 2 h) o in omega (arith, b)
-
--- ---- the sums of exact numbers
-pub no_radii : (p : DesignParts) (r : Radii) → r.h_rad ≡ 0 → r.f_rad ≡ 0 → r.o_rad ≡ 0 → r.g_col ≡ 0 → r.g_sum ≡ 0 → r.e_sum ≡ 0 →
-    r.cost_scale ≡ (design_of p).cost_denominator * (design_of p).row_denominator ^ 2 → r.row_scale ≡ (design_of p).limit_denominator → spread_of r.fine ≡ 1 →
-    AreRadii (design_of p) (form_of (design_of p)) r
-no_radii p r a b c e f g cost row fine =
-    let n = entries (design_of p) in
-    let m = rows (design_of p) in
-    record {
-      hessian = a ∙ sym (greatest_none n _ (λ i l. amount_none n _ (λ j o. refl)));
-      linear = b ∙ sym (greatest_none n _ (λ i l. amount_none p.states _ (λ j o. refl)));
-      constant = c ∙ sym (greatest_none n _ (λ i l. refl));
-      column = e ∙ sym (greatest_none n _ (λ i l. amount_none m _ (λ j o. refl)));
-      plan = f ∙ sym (amount_none m _ (λ i l. amount_none n _ (λ j o. refl)));
-      state = g ∙ sym (amount_none m _ (λ i l. amount_none p.states _ (λ j o. refl)));
-      cost_scale = cost;
-      row_scale = row;
-      spread = fine;
-    }
 
 -- the numbers that the code gathers are those of a form
 pub record AreOf (w : Whole) (d : Design) (h : Form) (r : ℕ) : Type 0 where

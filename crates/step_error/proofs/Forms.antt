@@ -12,6 +12,7 @@ use Rattle.integer_algebra.proofs.BoundLaws.{within_total, within_times, within_
 use Rattle.integer_algebra.proofs.DivisionLaws.{le-mul-ceil_div, ceil_div-le}
 use Rattle.integer_algebra.proofs.PowerLaws.{pow_positive}
 use Rattle.integer_algebra.proofs.Quoting.{by_ring, quotes}
+use Rattle.integer_algebra.proofs.AmountLaws.{amount_none}
 use Rattle.qp_model.specs.Design.{Design, entries, rows}
 use Rattle.qp_model.specs.Form.{Form, EnclosesDesign, IsFormFor, hessian_radii, linear_radii, plan_radii, state_radii, column_radii}
 use Rattle.qp_model.specs.Sound.{IsSound}
@@ -60,11 +61,6 @@ dot_apart n a b s top f g v radius within small =
         flat m = ap pos (let e : s * top * m ≡ s * (top * m) = omega arith in e)
 
 -- ---- what the radii come to
--- sums of nothing
-pub amount_none : (n : ℕ) (f : ℕ → ℕ) → ((i : ℕ) → i < n → f i ≡ 0) → amount n f ≡ 0
-amount_none zero f h = refl
-amount_none (suc n) f h = omega (arith, amount_none n f (λ i l. h i (omega arith)), h n (omega arith))
-
 cost_positive : (d : Design) → IsSound d (input_floor d) → 0 < d.cost_denominator * d.row_denominator ^ 2
 cost_positive d s = one-le-mul s.cost_denominator (pow_positive d.row_denominator 2 s.row_denominator)
 

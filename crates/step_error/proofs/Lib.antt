@@ -34,5 +34,7 @@ pub mod MachineRuns
 pub mod Ceilings
 pub mod FallingLaws
 pub mod SumFacts
+pub mod Farthest
+pub mod SameSums
 pub mod DesignSums
 pub mod SumAnswers

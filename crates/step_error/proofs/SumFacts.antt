@@ -14,7 +14,7 @@ use Rattle.integer_algebra.proofs.PowerLaws.{four-pow, pow_positive}
 use Rattle.qp_model.specs.declared.design_parts.DesignParts.{DesignParts}
 use Rattle.qp_model.specs.Design.{Design, entries, rows}
 use Rattle.qp_model.specs.Parts.{IsDesign, design_of}
-use Rattle.qp_model.specs.Form.{Form, IsFormFor}
+use Rattle.qp_model.specs.Form.{Form, IsFormFor, spread_of}
 use Rattle.qp_model.specs.Quantities.{input_floor}
 use Rattle.qp_model.specs.Errors as errors
 use Rattle.qp_model.specs.Errors.{plan_bound, residual_error, radius_error, row_radii, errors_cost, error_sums_of, error_size, pull, gradient_error, gradient_squares}
@@ -22,7 +22,7 @@ use Rattle.qp_model.proofs.SizeFacts.{some_row, some_entry, positive}
 use Rattle.qp_model.proofs.SoundLaws.{least-met, weight_at}
 use Rattle.step_error.specs.declared.sums.ErrorSums.{ErrorSums}
 use Rattle.step_error.specs.declared.sums.Whole.{Whole}
-use Rattle.step_error.specs.ErrorSums.{sums_by, AreSums, whole_sums, sums_of, spread_of, rounding_cost, radius_cost, radius_size}
+use Rattle.step_error.specs.ErrorSums.{sums_by, AreSums, whole_sums, sums_of, rounding_cost, radius_cost, radius_size}
 use Rattle.step_error.proofs.Ceilings.{ceil_small, quotient_is}
 use Rattle.step_error.proofs.FallingLaws.{power_rises, squares_rise, plan_bound_falls, residual_error_rises, moved_rises, radius_error_rises, row_radii_rises, halves}
 
@@ -126,7 +126,7 @@ design_bounded p h r design form some room =
     close x t m n a b c e f g h k = omega (arith, h, k)
 
 -- back from 128-bit numbers
-read_back : (s : errors.ErrorSums) → 1 ≤ s.spread → s.spread ≤ 2 → sums_of (whole_sums s) ≡ s
+pub read_back : (s : errors.ErrorSums) → 1 ≤ s.spread → s.spread ≤ 2 → sums_of (whole_sums s) ≡ s
 read_back s h k = λ i. record {
   first = s.first;
   lead = s.lead;

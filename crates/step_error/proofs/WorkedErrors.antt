@@ -19,9 +19,9 @@ use Rattle.qp_model.specs.GoodSolution.{IsGood}
 use Rattle.qp_model.specs.Columns.{columns, solve_matrix, solve_column}
 use Rattle.qp_model.specs.Quantities.{input_floor}
 use Rattle.qp_model.specs.Errors.{stated_errors}
-use Rattle.qp_model.specs.Form.{Form, IsFormFor, form_of}
+use Rattle.qp_model.specs.Form.{Form, IsFormFor, exact_form}
 use Rattle.qp_model.specs.Machine.{exponent_of}
-use Rattle.qp_model.proofs.FormLaws.{exact_form_law}
+use Rattle.qp_model.proofs.FormLaws.{exact_form_sound}
 use Rattle.qp_model.specs.Condensing.{condensed_of}
 use Rattle.qp_model.specs.Controller.{Numbers, IsShaped, IsSized}
 use Rattle.qp_model.specs.Built.{gain_column, HasSizesOf, IsDerivedFrom}
@@ -206,7 +206,7 @@ exact_bounds (suc (suc zero)) h = refl
 exact_bounds (suc (suc (suc i))) h = absurd (omega arith)
 
 -- each gain solves its system: 16 times it is 2^10 times the column's number
-exact_gains : (i j : ℕ) → i < 5 → j < 1 → image 1 (solve_matrix (form_of base)) (gain_column controller i) j ≡ pos 1024 *ℤ solve_column (form_of base) i j
+exact_gains : (i j : ℕ) → i < 5 → j < 1 → image 1 (solve_matrix (exact_form base)) (gain_column controller i) j ≡ pos 1024 *ℤ solve_column (exact_form base) i j
 exact_gains zero zero h l = refl
 exact_gains (suc zero) zero h l = refl
 exact_gains (suc (suc zero)) zero h l = refl
@@ -215,20 +215,20 @@ exact_gains (suc (suc (suc (suc zero)))) zero h l = refl
 exact_gains (suc (suc (suc (suc (suc i))))) zero h l = absurd (omega arith)
 exact_gains i (suc j) h l = absurd (omega arith)
 
-exact_diagonal : (j : ℕ) → j < 1 → solve_matrix (form_of base) j j ≡ pos 16
+exact_diagonal : (j : ℕ) → j < 1 → solve_matrix (exact_form base) j j ≡ pos 16
 exact_diagonal zero l = refl
 exact_diagonal (suc j) l = absurd (omega arith)
 
-exact_good : (i : ℕ) → i < columns (form_of base) → IsGood 1 (solve_matrix (form_of base)) 10 (solve_column (form_of base) i) (gain_column controller i)
+exact_good : (i : ℕ) → i < columns (exact_form base) → IsGood 1 (solve_matrix (exact_form base)) 10 (solve_column (exact_form base) i) (gain_column controller i)
 exact_good i h j l = (
-  rw (exact_gains i j h l, exact_diagonal j l) (exact (pos 1024 *ℤ solve_column (form_of base) i j)),
-  rw (exact_gains i j h l, exact_diagonal j l) (exact (pos 1024 *ℤ solve_column (form_of base) i j)),
+  rw (exact_gains i j h l, exact_diagonal j l) (exact (pos 1024 *ℤ solve_column (exact_form base) i j)),
+  rw (exact_gains i j h l, exact_diagonal j l) (exact (pos 1024 *ℤ solve_column (exact_form base) i j)),
 )
   where
     exact : (z : ℤ) → (pos 2 *ℤ (z -ℤ z)) ≤ℤ pos 16
     exact z = omega (arith, ints)
 
-exact_made : IsDerivedFrom base (form_of base) 8 controller
+exact_made : IsDerivedFrom base (exact_form base) 8 controller
 exact_made = record {
   sizes = sizes;
   rows = record { plan_rows = exact_plan_rows; state_rows = exact_state_rows; bounds = exact_bounds };
@@ -390,8 +390,8 @@ rounded_made = record {
 
 -- ---- the bounds
 -- by the exact form, over 2^11 and 2^10: multipliers up to 16, a plan up to 27, a gradient up to 2^-10 * 104, and residuals up to 2^-11 * 31
-exact_run : (k : ℕ) → HasErrors base (form_of base) 8 controller (pos 1 ∷ []) k (stated_errors base (form_of base) 8 10)
-exact_run k = errors_by base (form_of base) 8 controller (pos 1 ∷ []) sound (condensing base (omega arith)) (exact_form_law base (input_floor base) sound) exact_made sized refl inside k
+exact_run : (k : ℕ) → HasErrors base (exact_form base) 8 controller (pos 1 ∷ []) k (stated_errors base (exact_form base) 8 10)
+exact_run k = errors_by base (exact_form base) 8 controller (pos 1 ∷ []) sound (condensing base (omega arith)) (exact_form_sound base (input_floor base) sound) exact_made sized refl inside k
 
 module _ (k : ℕ) where
   abbrev plan : ℤ

@@ -1,22 +1,18 @@
 -- The whole numbers that the bounds of the rounding errors are made of, as the code keeps them.
-use Rattle.std.specs.Prelude.{◌≡◌, ℕ, ◌+◌, ◌*◌, ◌^◌, ◌≤◌, Bool, true, false, ltb, ℤ, pos, unsigned_abs}
+use Rattle.std.specs.Prelude.{◌≡◌, ℕ, ◌+◌, ◌*◌, ◌^◌, ◌≤◌, ltb, pos, unsigned_abs}
 use Rattle.integer_algebra.specs.Division.{ceil_div}
-use Rattle.integer_algebra.specs.Sizes.{size, amount}
+use Rattle.integer_algebra.specs.Sizes.{amount}
+use Rattle.mat_int.specs.Matrix.{Matrix, entry_of}
 use Rattle.qp_model.specs.Design.{Design}
 use Rattle.qp_model.specs.Parts.{IsDesign, design_of}
-use Rattle.qp_model.specs.Form.{Form, IsFormFor, hessian_radii, linear_radii, plan_radii, state_radii, column_radii}
+use Rattle.qp_model.specs.Form.{Form, IsFormFor, spread_of, farthest, hessian_radii, linear_radii, plan_radii, state_radii, column_radii}
 use Rattle.qp_model.specs.Quantities.{greatest}
 use Rattle.qp_model.specs.Errors as errors
 use Rattle.qp_model.specs.Errors.{error_sums_of, error_size, plan_bound, residual_error, radius_error, row_radii}
 use Rattle.qp_model.specs.declared.design_parts.DesignParts.{DesignParts}
 use Rattle.step_error.specs.declared.sums.ErrorSums.{ErrorSums}
-use Rattle.step_error.specs.declared.sums.Radii.{Radii}
+use Rattle.step_error.specs.declared.radii.Radii.{Radii}
 use Rattle.step_error.specs.declared.sums.Whole.{Whole}
-
--- what the square of a sum of two errors is at most times that of the first, with radii and without
-abbrev pub spread_of : Bool → ℕ
-spread_of true = 2
-spread_of false = 1
 
 -- the sums, as 128-bit numbers
 abbrev pub whole_sums : errors.ErrorSums → ErrorSums
@@ -87,13 +83,18 @@ abbrev pub radius_cost : errors.ErrorSums → (plan : ℕ) → ℕ
 radius_cost s plan = ceil_div (s.plan_entries * s.weight_scale * radius_error s plan ^ 2) (2 ^ 40 * s.rho) + ceil_div (s.top * row_radii s plan) s.row_scale
 
 -- ---- on the way to them
--- the error of entry j of the gradient, by a matrix of n columns over `scale` and what all states and multipliers come to
-abbrev pub entry_error : (n : ℕ) → (hessian : ℕ → ℕ → ℤ) → (scale reach : ℕ) → ℕ → ℕ
-entry_error n hessian scale reach j = ceil_div (unsigned_abs (hessian j j)) (2 * scale) * reach + ceil_div (size n (hessian j)) scale
+-- an entry of a matrix with radii, at its farthest
+abbrev pub farthest_entry : (mid rad : Matrix) → ℕ → ℕ → ℕ
+farthest_entry mid rad i j = farthest (entry_of mid i j) (unsigned_abs (entry_of rad i j))
+
+-- the error of entry j of the gradient, by a matrix of n columns over `scale`, whose entries are at most `size`, and what all states and multipliers
+-- come to
+abbrev pub entry_error : (n : ℕ) → (size : ℕ → ℕ → ℕ) → (scale reach : ℕ) → ℕ → ℕ
+entry_error n size scale reach j = ceil_div (size j j) (2 * scale) * reach + ceil_div (amount n (size j)) scale
 
 -- the squares of the errors of n entries
-abbrev pub entry_squares : (n : ℕ) → (hessian : ℕ → ℕ → ℤ) → (scale reach : ℕ) → ℕ
-entry_squares n hessian scale reach = amount n (λ j. entry_error n hessian scale reach j ^ 2)
+abbrev pub entry_squares : (n : ℕ) → (size : ℕ → ℕ → ℕ) → (scale reach : ℕ) → ℕ
+entry_squares n size scale reach = amount n (λ j. entry_error n size scale reach j ^ 2)
 
 -- the sums of a form's radii
 pub record AreRadii (d : Design) (h : Form) (r : Radii) : Type 0 where

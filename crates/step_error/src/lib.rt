@@ -6,6 +6,7 @@ ghost use Rattle.step_error.specs.Carried.{GradientLaw, PlanEntryLaw, EpsilonLaw
 ghost use Rattle.step_error.specs.MachineLaws.{CarriedLaw, MachineStepLaw, StatedStepLaw, MachineRunLaw, StatedRunLaw};
 
 mod errors;
+mod radii;
 mod sums;
 
 pub use errors::{epsilon, plan_bound, residual_error};
@@ -67,6 +68,3 @@ pub fn machine_run_law()
 pub fn stated_run_law()
     ensures { StatedRunLaw }
 {}
-
-#[cfg(test)]
-mod tests;

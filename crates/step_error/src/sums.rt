@@ -3,18 +3,19 @@ ghost use Rattle.std.specs.Prelude.{◌≡◌, ℕ, pos, ◌+◌, ◌*◌, ◌^�
 ghost use Rattle.std.specs.Option.{SomeIff};
 ghost use Rattle.std.specs.Result.{OkIff};
 ghost use Rattle.integer_algebra.specs.Division.{ceil_div};
-ghost use Rattle.integer_algebra.specs.Sums.{at};
-ghost use Rattle.integer_algebra.specs.Sizes.{size, amount};
-ghost use Rattle.mat_int.specs.Matrix.{entry_of};
-ghost use Rattle.qp_model.specs.Design.{entries, rows};
+ghost use Rattle.integer_algebra.specs.Sizes.{amount};
+ghost use Rattle.mat_int.specs.Enclosures.{AreEnclosures};
 ghost use Rattle.qp_model.specs.Parts.{IsDesign, design_of};
-ghost use Rattle.qp_model.specs.Quantities.{input_floor};
-ghost use Rattle.qp_model.specs.Form.{form_of};
+ghost use Rattle.qp_model.specs.Form.{spread_of};
+ghost use Rattle.qp_model.specs.Class.{form_of};
 ghost use Rattle.qp_model.specs.Errors.{state_bound, linear_sum, constant_sum, plan_row_sum, trace_sum, error_sums_of, error_size};
 ghost use Rattle.qp_model.specs.declared.quantity.Quantity.TheVariants.{Error};
-ghost use Rattle.plant_condense.specs.Form.{IsFormOf};
-ghost use Rattle.step_error.specs.ErrorSums.{AreSums, AreRadii, HaveRoom, spread_of, whole_sums, entry_error, entry_squares};
+ghost use Rattle.plant_condense.specs.Form.{IsFormOf, held};
+ghost use Rattle.step_error.specs.ErrorSums.{AreSums, whole_sums, farthest_entry, entry_error, entry_squares};
 
+use crate::radii::{
+    Radii, farthest_at, farthest_diagonal, farthest_list, farthest_row, farthest_sum, radii_of,
+};
 use frac_scaled::{limited_product, limited_sum};
 use mat_int::Mat;
 use plant_condense::Condensed;
@@ -72,7 +73,8 @@ pub(crate) fn spread(fine: bool) -> u128
     if fine { 2 } else { 1 }
 }
 
-/// The sums of a design and its condensed form, for multipliers up to `2 r`. It takes no memory. The form's numbers are exact, so its radii are 0.
+/// The sums of a design and its condensed form, for multipliers up to `2 r`, where each number of the form may be as far off as its radius. It takes
+/// no memory.
 ///
 /// # Errors
 /// `error` is above `2^126`.
@@ -93,14 +95,15 @@ fn sums_of(c: &Condensed, parts: &DesignParts, r: u128) -> Option<ErrorSums>
     requires form { IsFormOf parts.now c.now }
     requires some { 1 ≤ r }
     requires narrow { r ≤ 2 ^ 44 }
-    ensures { let d = design_of parts.now in SomeIff result (error_size d (form_of d) r ≤ 2 ^ 126) (whole_sums (error_sums_of d (form_of d) r)) }
+    ensures { let d = design_of parts.now in SomeIff result (error_size d (held c.now) r ≤ 2 ^ 126) (whole_sums (error_sums_of d (held c.now) r)) }
 {
     let sizes = sizes_of(c, parts);
     let n_box = parts.states as u128 * sizes.state;
     let y_rows = 2 * r * c.g.rows() as u128;
     let combined = n_box + 1 + y_rows;
     let weight_den = c.weight_den.unsigned_abs();
-    let squares = gradient_squares(&c.hess, c.hess_den.unsigned_abs(), combined)?;
+    let hess_den = c.hess_den.unsigned_abs();
+    let squares = gradient_squares(&c.hess, &c.hess_rad, hess_den, combined)?;
     let whole = Whole {
         squares: limited_product(weight_den, squares)?,
         pull: limited_product(weight_den, pull_of(&sizes, r)?)?,
@@ -112,47 +115,13 @@ fn sums_of(c: &Condensed, parts: &DesignParts, r: u128) -> Option<ErrorSums>
         x_box: sizes.state,
         y_top: 2 * r,
         weight_den,
-        radii: radii_of(parts),
+        radii: radii_of(c, parts),
     };
     whole.size()?;
     Some(whole.sums())
 }
 
-// The sums of a form's radii, as in `ErrorSums`.
-#[derive(Clone, Copy)]
-struct Radii {
-    h_rad: u128,
-    f_rad: u128,
-    o_rad: u128,
-    g_col: u128,
-    g_sum: u128,
-    e_sum: u128,
-    cost_scale: u128,
-    row_scale: u128,
-    fine: bool,
-}
-
-// Those of exact numbers, which have none.
-fn radii_of(parts: &DesignParts) -> Radii
-    requires { IsDesign parts.now }
-    ensures radii { AreRadii (design_of parts.now) (form_of (design_of parts.now)) result }
-    ensures room { HaveRoom result }
-{
-    let row_den = parts.row_den.unsigned_abs();
-    Radii {
-        h_rad: 0,
-        f_rad: 0,
-        o_rad: 0,
-        g_col: 0,
-        g_sum: 0,
-        e_sum: 0,
-        cost_scale: parts.cost_den.unsigned_abs() * (row_den * row_den),
-        row_scale: parts.limit_den.unsigned_abs(),
-        fine: false,
-    }
-}
-
-// The sizes of a design's numbers, each rounded up to a whole number.
+// The sizes of a form's numbers, each at its farthest and the sum rounded up to a whole number.
 #[derive(Clone, Copy)]
 struct Sizes {
     state: u128,
@@ -162,23 +131,23 @@ struct Sizes {
     trace: u128,
 }
 
-// Those of a design.
+// Those of a design's form.
 fn sizes_of(c: &Condensed, parts: &DesignParts) -> Sizes
     requires { IsFormOf parts.now c.now }
     ensures state { result.state ≡ state_bound (design_of parts.now) }
     ensures near { result.state ≤ 2 ^ 31 }
-    ensures linear { result.linear ≡ linear_sum (form_of (design_of parts.now)) }
-    ensures constant { result.constant ≡ constant_sum (form_of (design_of parts.now)) }
-    ensures rows { result.rows ≡ plan_row_sum (form_of (design_of parts.now)) }
-    ensures trace { result.trace ≡ trace_sum (form_of (design_of parts.now)) }
+    ensures linear { result.linear ≡ linear_sum (held c.now) }
+    ensures constant { result.constant ≡ constant_sum (held c.now) }
+    ensures rows { result.rows ≡ plan_row_sum (held c.now) }
+    ensures trace { result.trace ≡ trace_sum (held c.now) }
 {
     let hess_den = c.hess_den.unsigned_abs();
     Sizes {
         state: state_bound(parts),
-        linear: matrix_sum(&c.lin).div_ceil(hess_den),
-        constant: absolute_sum(&c.off).div_ceil(hess_den),
-        rows: matrix_sum(&c.g).div_ceil(c.row_den.unsigned_abs()),
-        trace: diagonal_sum(&c.hess).div_ceil(hess_den),
+        linear: farthest_sum(&c.lin, &c.lin_rad).div_ceil(hess_den),
+        constant: farthest_list(&c.off, &c.off_rad).div_ceil(hess_den),
+        rows: farthest_sum(&c.g, &c.g_rad).div_ceil(c.row_den.unsigned_abs()),
+        trace: farthest_diagonal(&c.hess, &c.hess_rad).div_ceil(hess_den),
     }
 }
 
@@ -189,43 +158,6 @@ fn state_bound(parts: &DesignParts) -> u128
     ensures near { result ≤ 2 ^ 31 }
 {
     box_magnitude(parts).div_ceil(1 << parts.grid)
-}
-
-// The absolute values, added up.
-fn absolute_sum(xs: &[i128]) -> u128
-    requires { size (length xs.now) (at xs.now) ≤ 2 ^ 126 }
-    ensures { result ≡ size (length xs.now) (at xs.now) }
-{
-    let mut sum = 0;
-    for x in xs {
-        sum += x.unsigned_abs();
-    }
-    sum
-}
-
-// Those of all entries.
-fn matrix_sum(mat: &Mat) -> u128
-    requires { amount (length mat.now.rows) (λ i. size mat.now.cols (entry_of mat.now i)) ≤ 2 ^ 126 }
-    ensures { result ≡ amount (length mat.now.rows) (λ i. size mat.now.cols (entry_of mat.now i)) }
-{
-    let mut sum = 0;
-    for i in 0..mat.rows() {
-        sum += absolute_sum(mat.row(i));
-    }
-    sum
-}
-
-// Those of the diagonal.
-fn diagonal_sum(mat: &Mat) -> u128
-    requires square { mat.now.cols ≡ length mat.now.rows }
-    requires small { size (length mat.now.rows) (λ j. entry_of mat.now j j) ≤ 2 ^ 126 }
-    ensures { result ≡ size (length mat.now.rows) (λ j. entry_of mat.now j j) }
-{
-    let mut sum = 0;
-    for j in 0..mat.rows() {
-        sum += mat.at(j, j).unsigned_abs();
-    }
-    sum
 }
 
 // `a b + c d`. None where it is above `2^126`.
@@ -246,32 +178,35 @@ fn pull_of(sizes: &Sizes, r: u128) -> Option<u128>
     )
 }
 
-// The error of entry `j` of the gradient, by the hessian over `scale` and what all states and multipliers come to. None where it is above
-// `2^126`.
-fn gradient_error(hess: &Mat, scale: u128, combined: u128, j: usize) -> Option<u128>
+// The error of entry `j` of the gradient, by the hessian over `scale` with its radii, and what all states and multipliers come to. None where it is
+// above `2^126`.
+fn gradient_error(hess: &Mat, radii: &Mat, scale: u128, combined: u128, j: usize) -> Option<u128>
+    requires pair { AreEnclosures hess.now radii.now }
     requires square { hess.now.cols ≡ length hess.now.rows }
     requires inside { j < length hess.now.rows }
-    requires small { size hess.now.cols (entry_of hess.now j) ≤ 2 ^ 126 }
+    requires small { amount hess.now.cols (farthest_entry hess.now radii.now j) ≤ 2 ^ 126 }
     requires some { 1 ≤ scale }
     requires scale { scale < 2 ^ 127 }
-    ensures { let error = entry_error (length hess.now.rows) (entry_of hess.now) scale combined j in SomeIff result (error ≤ 2 ^ 126) error }
+    ensures { let error = entry_error (length hess.now.rows) (farthest_entry hess.now radii.now) scale combined j in SomeIff result (error ≤ 2 ^ 126) error }
 {
-    let own = hess.at(j, j).unsigned_abs().div_ceil(2 * scale);
-    let row = absolute_sum(hess.row(j)).div_ceil(scale);
+    let own = farthest_at(hess, radii, j, j).div_ceil(2 * scale);
+    let row = farthest_row(hess, radii, j).div_ceil(scale);
     limited_sum(limited_product(own, combined)?, row)
 }
 
 // The squares of the errors, added up. None where that is above `2^126`.
-fn gradient_squares(hess: &Mat, scale: u128, combined: u128) -> Option<u128>
+fn gradient_squares(hess: &Mat, radii: &Mat, scale: u128, combined: u128) -> Option<u128>
+    requires pair { AreEnclosures hess.now radii.now }
     requires square { hess.now.cols ≡ length hess.now.rows }
-    requires small { (j : ℕ) → j < length hess.now.rows → size hess.now.cols (entry_of hess.now j) ≤ 2 ^ 126 }
+    requires small { (j : ℕ) → j < length hess.now.rows → amount hess.now.cols (farthest_entry hess.now radii.now j) ≤ 2 ^ 126 }
     requires some { 1 ≤ scale }
     requires scale { scale < 2 ^ 127 }
-    ensures { let squares = entry_squares (length hess.now.rows) (entry_of hess.now) scale combined in SomeIff result (squares ≤ 2 ^ 126) squares }
+    ensures { let squares = entry_squares (length hess.now.rows) (farthest_entry hess.now radii.now) scale combined in
+        SomeIff result (squares ≤ 2 ^ 126) squares }
 {
     let mut squares = 0;
     for j in 0..hess.rows() {
-        let error = gradient_error(hess, scale, combined, j)?;
+        let error = gradient_error(hess, radii, scale, combined, j)?;
         squares = limited_sum(squares, limited_product(error, error)?)?;
     }
     Some(squares)
@@ -297,8 +232,7 @@ impl Whole {
     ghost use Rattle.std.specs.Prelude.{◌≡◌, ◌+◌, ◌*◌, ◌^◌, ◌≤◌};
     ghost use Rattle.std.specs.Option.{SomeIff};
     ghost use Rattle.integer_algebra.specs.Division.{ceil_div};
-    ghost use Rattle.qp_model.specs.Errors.{plan_bound, row_radii};
-    ghost use Rattle.step_error.specs.ErrorSums.{HasErrorRoom, spread_of, whole_sums, sums_by, size_by, rounding_size, radius_size};
+    ghost use Rattle.step_error.specs.ErrorSums.{HasErrorRoom, whole_sums, sums_by, size_by, rounding_size, radius_size};
 
     // The quantity `error`. None where it is above `2^126`.
     fn size(&self) -> Option<u128>

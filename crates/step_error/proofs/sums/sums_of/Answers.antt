@@ -1,25 +1,40 @@
-use Rattle.std.proofs.Common.{rules, ◌+◌, ◌*◌, arith, ◌∙◌, sym, refl}
+use Rattle.std.proofs.Common.{rules, ◌≡◌, ℕ, ◌+◌, ◌*◌, ◌^◌, ◌<◌, ℤ, pos, ◌≤ℤ◌, unsigned_abs, arith, ◌∙◌, sym, refl}
 use Rattle.std.specs.Int.{w128}
 use mir.Val.{SFits}
+use Rattle.std.proofs.lemmas.Int.{ints}
 use Rattle.qp_model.specs.Parts.{design_of}
-use Rattle.qp_model.specs.Form.{form_of}
+use Rattle.qp_model.specs.FineSizes.{is_fine}
 use Rattle.qp_model.proofs.SizeFacts.{positive}
 use Rattle.step_error.proofs.Ceilings.{positive_by}
-use Rattle.step_error.proofs.SumFacts.{read_size, few, within_of}
-use Rattle.step_error.proofs.DesignSums.{hessian_row_small, scale_is, scale_one, weight_is, floor_is, count_is, reach_is, squares_is, within, reach_small, sums_are, room_of, size_of, AreOf}
+use Rattle.step_error.proofs.SumFacts.{read_size, few, spread_some, within_of}
+use Rattle.step_error.proofs.DesignSums.{hessian_pair, square, hessian_row_small, scale_one, weight_is, floor_is, count_is, reach_is, squares_is, within, reach_small, sums_are, room_of, size_of, AreOf}
+use Rattle.plant_condense.specs.Form.{held}
 use Rattle.step_error.specs.declared.sums.Whole.{Whole}
 use Rattle.step_error.specs.ErrorSums.{whole_sums}
 use Rattle.step_error.proofs.sums.sums_of.Goals as goal
 use Rattle.step_error.proofs.sums.sums_of.Goals.{After-radii_of}
 
 pub gradient_squares-requires-clause-small : goal.gradient_squares-requires-clause-small
-gradient_squares-requires-clause-small c = hessian_row_small c.args.parts.now c.args.c.now c.requires.form
+gradient_squares-requires-clause-small c = hessian_row_small (is_fine (design_of c.args.parts.now)) c.args.parts.now c.args.c.now c.requires.form
+
+pub gradient_squares-requires-clause-pair : goal.gradient_squares-requires-clause-pair
+gradient_squares-requires-clause-pair c = hessian_pair (is_fine (design_of c.args.parts.now)) c.args.parts.now c.args.c.now c.requires.form
+
+pub gradient_squares-requires-clause-square : goal.gradient_squares-requires-clause-square
+gradient_squares-requires-clause-square c = square (is_fine (design_of c.args.parts.now)) c.args.parts.now c.args.c.now c.requires.form
 
 pub gradient_squares-requires-clause-some : goal.gradient_squares-requires-clause-some
 gradient_squares-requires-clause-some c =
     let f : SFits w128 c.args.c.now.hess_den = search rules in
-    let scale = read_size _ _ f c.unsigned_abs.ensures.value ∙ scale_is c.args.parts.now c.args.c.now c.requires.form in
-    positive_by scale (scale_one c.args.parts.now c.args.c.now c.requires.form)
+    positive_by (read_size _ _ f c.unsigned_abs-hess_den.ensures.value) (scale_one (is_fine (design_of c.args.parts.now)) c.args.parts.now c.args.c.now c.requires.form)
+
+pub gradient_squares-requires-clause-scale : goal.gradient_squares-requires-clause-scale
+gradient_squares-requires-clause-scale c =
+    let f : SFits w128 c.args.c.now.hess_den = search rules in
+    below c.args.c.now.hess_den _ f c.requires.form.denominators.hess_den (read_size _ _ f c.unsigned_abs-hess_den.ensures.value)
+  where
+    below : (z : ℤ) (n : ℕ) → SFits w128 z → pos 1 ≤ℤ z → n ≡ unsigned_abs z → n < 2 ^ 127
+    below z n f h e = omega (arith, ints, f, h, e)
 
 pub returns-in_err-squares : goal.returns-in_err-squares
 returns-in_err-squares c =
@@ -27,10 +42,10 @@ returns-in_err-squares c =
     let d = design_of p in
     let form = c.requires.form in
     let f : SFits w128 c.args.c.now.hess_den = search rules in
-    let scale = read_size _ _ f c.unsigned_abs.ensures.value ∙ scale_is p c.args.c.now form in
-    let combined = reach_is p c.args.c.now form c.args.r _ _ c.sizes_of-sizes.ensures.state c.rows.ensures.count in
-    let squares = squares_is p c.args.c.now form c.args.r _ _ scale combined in
-    let fit = within d (form_of d) c.args.r (positive p.cost_den form.design.cost_den.low) (omega arith) in
+    let scale = read_size _ _ f c.unsigned_abs-hess_den.ensures.value in
+    let combined = reach_is (is_fine d) p c.args.c.now form c.args.r _ _ c.sizes_of-sizes.ensures.state c.rows.ensures.count in
+    let squares = squares_is (is_fine d) p c.args.c.now form c.args.r _ _ scale combined in
+    let fit = within d (held c.args.c.now) c.args.r (positive p.cost_den form.design.cost_den.low) (spread_some c.args.c.now.fine) in
     rw c.from_residual.ensures (λ h. c.in_err-squares.ensures (within_of squares (fit h).squares))
 
 pub returns-in_err-limited_product : goal.returns-in_err-limited_product
@@ -40,11 +55,11 @@ returns-in_err-limited_product c =
     let form = c.requires.form in
     let f : SFits w128 c.args.c.now.hess_den = search rules in
     let g : SFits w128 c.args.c.now.weight_den = search rules in
-    let scale = read_size _ _ f c.unsigned_abs.ensures.value ∙ scale_is p c.args.c.now form in
-    let weight = read_size _ _ g c.unsigned_abs-weight_den.ensures.value ∙ weight_is p c.args.c.now form in
-    let combined = reach_is p c.args.c.now form c.args.r _ _ c.sizes_of-sizes.ensures.state c.rows.ensures.count in
-    let squares = squares_is p c.args.c.now form c.args.r _ _ scale combined in
-    let fit = within d (form_of d) c.args.r (positive p.cost_den form.design.cost_den.low) (omega arith) in
+    let scale = read_size _ _ f c.unsigned_abs-hess_den.ensures.value in
+    let weight = read_size _ _ g c.unsigned_abs-weight_den.ensures.value ∙ weight_is (is_fine d) p c.args.c.now form in
+    let combined = reach_is (is_fine d) p c.args.c.now form c.args.r _ _ c.sizes_of-sizes.ensures.state c.rows.ensures.count in
+    let squares = squares_is (is_fine d) p c.args.c.now form c.args.r _ _ scale combined in
+    let fit = within d (held c.args.c.now) c.args.r (positive p.cost_den form.design.cost_den.low) (spread_some c.args.c.now.fine) in
     rw c.from_residual-in_err-limited_product.ensures (λ h. c.in_err-limited_product.ensures
     (within_of (λ i. weight i * (c.in_ok-squares.ensures.1 ∙ squares) i) (fit h).weighed))
 
@@ -53,7 +68,7 @@ returns-in_err-pull_of c =
     let p = c.args.parts.now in
     let d = design_of p in
     let sizes = c.sizes_of-sizes.ensures in
-    let fit = within d (form_of d) c.args.r (positive p.cost_den c.requires.form.design.cost_den.low) (omega arith) in
+    let fit = within d (held c.args.c.now) c.args.r (positive p.cost_den c.requires.form.design.cost_den.low) (spread_some c.args.c.now.fine) in
     rw c.from_residual-in_err-pull_of.ensures (λ h. c.in_err-pull_of.ensures
     (within_of (λ i. sizes.state i * sizes.linear i + sizes.constant i + 2 * c.args.r * sizes.rows i) (fit h).pulling))
 
@@ -63,19 +78,20 @@ returns-in_err-limited_product-2 c =
     let d = design_of p in
     let form = c.requires.form in
     let g : SFits w128 c.args.c.now.weight_den = search rules in
-    let weight = read_size _ _ g c.unsigned_abs-weight_den.ensures.value ∙ weight_is p c.args.c.now form in
+    let weight = read_size _ _ g c.unsigned_abs-weight_den.ensures.value ∙ weight_is (is_fine d) p c.args.c.now form in
     let sizes = c.sizes_of-sizes.ensures in
     let pulling = c.in_ok-pull_of.ensures.1 ∙ (λ i. sizes.state i * sizes.linear i + sizes.constant i + 2 * c.args.r * sizes.rows i) in
-    let fit = within d (form_of d) c.args.r (positive p.cost_den form.design.cost_den.low) (omega arith) in
+    let fit = within d (held c.args.c.now) c.args.r (positive p.cost_den form.design.cost_den.low) (spread_some c.args.c.now.fine) in
     rw c.from_residual-in_err-limited_product-2.ensures (λ h. c.in_err-limited_product-2.ensures (within_of (λ i. weight i * pulling i) (fit h).pulled))
 
 pub overflow_mul-weight_den : goal.overflow_mul-weight_den
 overflow_mul-weight_den c =
     let p = c.args.parts.now in
+    let d = design_of p in
     let form = c.requires.form in
     let g : SFits w128 c.args.c.now.weight_den = search rules in
-    let weight = read_size _ _ g c.unsigned_abs-weight_den.ensures.value ∙ weight_is p c.args.c.now form in
-    let count = count_is p c.args.c.now form _ c.rows.ensures.count in
+    let weight = read_size _ _ g c.unsigned_abs-weight_den.ensures.value ∙ weight_is (is_fine d) p c.args.c.now form in
+    let count = count_is (is_fine d) p c.args.c.now form _ c.rows.ensures.count in
     let bounds = few p form.design in
     let small = reach_small c.unsigned_abs-weight_den.result p.states c.sizes_of-sizes.result.state c.args.r c.rows.result
     (rw weight bounds.weight) bounds.states c.sizes_of-sizes.ensures.near c.requires.narrow (rw count bounds.rows) in
@@ -87,9 +103,9 @@ returns-in_err-limited_product-3 c =
     let d = design_of p in
     let form = c.requires.form in
     let g : SFits w128 c.args.c.now.weight_den = search rules in
-    let weight = read_size _ _ g c.unsigned_abs-weight_den.ensures.value ∙ weight_is p c.args.c.now form in
-    let combined = reach_is p c.args.c.now form c.args.r _ _ c.sizes_of-sizes.ensures.state c.rows.ensures.count in
-    let fit = within d (form_of d) c.args.r (positive p.cost_den form.design.cost_den.low) (omega arith) in
+    let weight = read_size _ _ g c.unsigned_abs-weight_den.ensures.value ∙ weight_is (is_fine d) p c.args.c.now form in
+    let combined = reach_is (is_fine d) p c.args.c.now form c.args.r _ _ c.sizes_of-sizes.ensures.state c.rows.ensures.count in
+    let fit = within d (held c.args.c.now) c.args.r (positive p.cost_den form.design.cost_den.low) (spread_some c.args.c.now.fine) in
     rw c.from_residual-in_err-limited_product-3.ensures (λ h. c.in_err-limited_product-3.ensures
     (within_of (λ i. weight i * combined i * c.sizes_of-sizes.ensures.trace i) (fit h).tail))
 
@@ -102,14 +118,14 @@ gathered c = record {
   y_rows = 2 * c.args.r * c.rows.result;
   nu = c.rows-2.result;
   n_box = c.args.parts.now.states * c.sizes_of-sizes.result.state;
-  rho = c.unsigned_abs-2.result;
+  rho = c.unsigned_abs.result;
   x_box = c.sizes_of-sizes.result.state;
   y_top = 2 * c.args.r;
   weight_den = c.unsigned_abs-weight_den.result;
   radii = c.radii_of.result;
 }
 
-are : (c : After-radii_of) → AreOf (gathered c) (design_of c.args.parts.now) (form_of (design_of c.args.parts.now)) c.args.r
+are : (c : After-radii_of) → AreOf (gathered c) (design_of c.args.parts.now) (held c.args.c.now) c.args.r
 are c =
     let p = c.args.parts.now in
     let d = design_of p in
@@ -117,15 +133,15 @@ are c =
     let f : SFits w128 c.args.c.now.hess_den = search rules in
     let g : SFits w128 c.args.c.now.weight_den = search rules in
     let k : SFits w128 c.args.c.now.input_floor = search rules in
-    let scale = read_size _ _ f c.unsigned_abs.ensures.value ∙ scale_is p c.args.c.now form in
-    let weight = read_size _ _ g c.unsigned_abs-weight_den.ensures.value ∙ weight_is p c.args.c.now form in
-    let floor = read_size _ _ k c.unsigned_abs-2.ensures.value ∙ floor_is p c.args.c.now form in
-    let combined = reach_is p c.args.c.now form c.args.r _ _ c.sizes_of-sizes.ensures.state c.rows.ensures.count in
-    let squares = squares_is p c.args.c.now form c.args.r _ _ scale combined in
+    let scale = read_size _ _ f c.unsigned_abs-hess_den.ensures.value in
+    let weight = read_size _ _ g c.unsigned_abs-weight_den.ensures.value ∙ weight_is (is_fine d) p c.args.c.now form in
+    let floor = read_size _ _ k c.unsigned_abs.ensures.value ∙ floor_is (is_fine d) p c.args.c.now form in
+    let combined = reach_is (is_fine d) p c.args.c.now form c.args.r _ _ c.sizes_of-sizes.ensures.state c.rows.ensures.count in
+    let squares = squares_is (is_fine d) p c.args.c.now form c.args.r _ _ scale combined in
     let sizes = c.sizes_of-sizes.ensures in
     let pulling = c.in_ok-pull_of.ensures.1 ∙ (λ i. sizes.state i * sizes.linear i + sizes.constant i + 2 * c.args.r * sizes.rows i) in
-    let count = count_is p c.args.c.now form _ c.rows.ensures.count in
-    sums_are (gathered c) d (form_of d) c.args.r
+    let count = count_is (is_fine d) p c.args.c.now form _ c.rows.ensures.count in
+    sums_are (gathered c) d (held c.args.c.now) c.args.r
     (c.in_ok-limited_product.ensures.1 ∙ (λ i. weight i * (c.in_ok-squares.ensures.1 ∙ squares) i))
     (c.in_ok-limited_product-2.ensures.1 ∙ (λ i. weight i * pulling i))
     (c.in_ok-limited_product-3.ensures.1 ∙ (λ i. weight i * combined i * sizes.trace i))

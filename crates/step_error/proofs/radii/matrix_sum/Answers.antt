@@ -2,7 +2,7 @@ use Rattle.std.proofs.Common.{◌<◌, length, arith}
 use Rattle.integer_algebra.specs.Sizes.{size}
 use Rattle.integer_algebra.proofs.SizeLaws.{amount_next, amount_term, amount_more}
 use Rattle.mat_int.specs.Matrix.{entry_of}
-use Rattle.step_error.proofs.sums.matrix_sum.Goals as goal
+use Rattle.step_error.proofs.radii.matrix_sum.Goals as goal
 
 pub absolute_sum-sum-requires : goal.absolute_sum-sum-requires
 absolute_sum-sum-requires c =
