@@ -11,14 +11,14 @@ use Rattle.integer_algebra.proofs.PowerLaws.{pow_positive}
 use Rattle.qp_model.specs.declared.design_parts.DesignParts.{DesignParts}
 use Rattle.qp_model.specs.Design.{entries, rows}
 use Rattle.qp_model.specs.Parts.{IsDesign, design_of}
-use Rattle.qp_model.specs.Form.{Form, form_of}
+use Rattle.qp_model.specs.Form.{Form, HaveSameNumbers}
+use Rattle.qp_model.specs.Class.{form_of}
 use Rattle.qp_model.specs.Columns.{columns, column_bound, column_size, descent_size, solve_matrix, solve_column}
 use Rattle.qp_model.specs.GoodSolution.{IsGood}
 use Rattle.qp_model.specs.Quantities.{greatest}
 use Rattle.qp_model.proofs.SizeFacts.{greatest_same}
 use Rattle.plant_condense.specs.Form.{HasShapes, IsFormOf, held}
 use Rattle.plant_condense.specs.declared.condensed.Condensed.{Condensed}
-use Rattle.plant_condense.proofs.HeldLaws.{HaveSameNumbers, held_same}
 use Rattle.approx_inverse.specs.Condensed.{IsSolvable}
 use Rattle.approx_inverse.specs.Inverse.{HasGainSizes, IsInverseOf, SolvesForm, solution_of}
 use Rattle.approx_inverse.specs.declared.inverse.Inverse.{Inverse}
@@ -94,12 +94,6 @@ module _ (h k : Form) (same : HaveSameNumbers h k) where
       resized v n k m x y z e g h sizes = rw (← e, ← g, ← h) sizes
 
 -- ---- what solving asks
-denominator_one : (p : DesignParts) → IsDesign p → 1 ≤ (design_of p).plant_denominator ^ (design_of p).stages
-denominator_one p h = pow_positive (design_of p).plant_denominator (design_of p).stages (one p.plant_den h.plant_den.low)
-  where
-    one : (z : ℤ) → pos 1 ≤ℤ z → 1 ≤ unsigned_abs z
-    one z h = omega (arith, ints)
-
 few : (p : DesignParts) → IsDesign p → (entries (design_of p) < 2 ^ 32) × ((design_of p).states < 2 ^ 32) × (rows (design_of p) < 2 ^ 32)
 few p h = (
   plain p.stages p.inputs (small p.stages p.inputs 0 20 3 0 h.stages.1 h.inputs.1 (omega arith) (omega arith)),
@@ -119,7 +113,7 @@ solvable_from p c is = let q = few p is.design in record {
   convex = rw is.shapes.hess.rows is.convex;
   limit_den = rw is.denominators.limit_den (one (design_of p).limit_denominator p.limit_den refl is.design.limit_den.low);
   cost_row_den = rw is.denominators.cost_row_den (one (design_of p).row_denominator p.row_den refl is.design.row_den.low);
-  power = rw is.denominators.power (at_least _ (denominator_one p is.design));
+  power = is.denominators.power;
   few_entries = rw is.shapes.hess.rows q.0;
   few_states = rw is.shapes.lin.cols q.1;
   few_rows = rw is.shapes.g.rows q.2;
@@ -128,20 +122,17 @@ solvable_from p c is = let q = few p is.design in record {
     reshape : (c : Condensed) (n k m x y z : ℕ) → x ≡ n → y ≡ k → z ≡ m → HasShapes c n k m → HasShapes c x y z
     reshape c n k m x y z e g h shapes = rw (e, g, h) shapes
 
-    at_least : (n : ℕ) → 1 ≤ n → pos 1 ≤ℤ pos n
-    at_least n h = omega (arith, ints)
-
     one : (n : ℕ) (z : ℤ) → n ≡ unsigned_abs z → pos 1 ≤ℤ z → pos 1 ≤ℤ pos n
     one n z e h = omega (arith, ints)
 
 -- ---- what solving gives
 pub descent_equal : (p : DesignParts) (c : Condensed) (f : ℕ) → IsFormOf p c → descent_size (held c) f ≡ descent_size (form_of (design_of p)) f
-descent_equal p c f is = descent_same (held c) (form_of (design_of p)) (held_same p c is) f
+descent_equal p c f is = descent_same (held c) (form_of (design_of p)) is.same f
 
 pub inverse_from : (p : DesignParts) (c : Condensed) (f : ℕ) (v : Inverse) → IsFormOf p c → SolvesForm (held c) f v → IsInverseOf (form_of (design_of p)) f v
-inverse_from p c f v is solves = inverse_same (held c) (form_of (design_of p)) (held_same p c is) f v solves
+inverse_from p c f v is solves = inverse_same (held c) (form_of (design_of p)) is.same f v solves
 
 -- a column's bound is the design's
 pub bound_equal : (p : DesignParts) (c : Condensed) (f i : ℕ) → IsFormOf p c → i < columns (form_of (design_of p)) →
     column_bound (held c) f i ≡ column_bound (form_of (design_of p)) f i
-bound_equal p c f i is l = column_bound_same (held c) (form_of (design_of p)) (held_same p c is) f i l
+bound_equal p c f i is l = column_bound_same (held c) (form_of (design_of p)) is.same f i l

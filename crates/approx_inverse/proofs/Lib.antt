@@ -10,7 +10,6 @@ pub mod WordLaws
 pub mod StepLaws
 -- ---- systems and their sizes
 pub mod SystemLaws
-pub mod MatrixLaws
 pub mod SizeLaws
 pub mod EntryLaws
 -- ---- of a condensed form and a design

@@ -3,7 +3,7 @@ ghost use Rattle.std.specs.Prelude.{ℕ, ◌≡◌, ◌⊎◌, ◌<◌, ◌≤�
 ghost use Rattle.qp_model.specs.declared.design_parts.DesignParts.{DesignParts};
 ghost use Rattle.qp_model.specs.declared.quantity.Quantity.TheVariants.{Descent};
 ghost use Rattle.qp_model.specs.Parts.{design_of};
-ghost use Rattle.qp_model.specs.Form.{form_of};
+ghost use Rattle.qp_model.specs.Class.{form_of};
 ghost use Rattle.qp_model.specs.Columns.{descent_size};
 ghost use Rattle.plant_condense.specs.Form.{IsForm, IsFormOf, held};
 ghost use Rattle.approx_inverse.specs.Condensed.{IsSolvable};
@@ -52,7 +52,7 @@ pub fn solve_all(alloc: Global, c: &Condensed, f: u32) -> Result<Inverse, SolveF
     ensures solved { IfOk result (λ v. (p : DesignParts) → IsFormOf p c.now → IsInverseOf (form_of (design_of p)) f v) }
     ensures fits { OnOk result ((p : DesignParts) → IsFormOf p c.now → descent_size (form_of (design_of p)) f ≤ 2 ^ 126) }
 
-    // The cause of a refusal; and the other way round, with nothing but want of memory in between.
+    // The cause of a refusal; and the other way round, with nothing but out of memory in between.
     ensures wide { IfErr result (λ e. (p : DesignParts) → IsFormOf p c.now → IsFault e (2 ^ 126 < descent_size (form_of (design_of p)) f)) }
     ensures every_refusal { (p : DesignParts) → IsFormOf p c.now → 2 ^ 126 < descent_size (form_of (design_of p)) f
         → (result ≡ Err (SolveFault.TooWide Descent)) ⊎ (result ≡ Err SolveFault.Memory) }

@@ -1,8 +1,6 @@
 // All columns of a condensed form.
-ghost use Rattle.std.specs.Prelude.{ℕ, ◌≡◌, ◌≢◌, ◌<◌, ◌≤◌, ◌+◌, length, IfOk};
+ghost use Rattle.std.specs.Prelude.{ℕ, ◌≡◌, ◌≢◌, ◌<◌, ◌+◌, length, IfOk};
 ghost use Rattle.integer_algebra.specs.Sums.{at};
-ghost use Rattle.mat_int.specs.Matrix.{entry_of};
-ghost use Rattle.qp_model.specs.Controller.{HasShape};
 ghost use Rattle.approx_inverse.specs.Inverse.{HasGainSizes, solution_of};
 
 use mat_int::Mat;
@@ -17,19 +15,6 @@ pub struct Inverse {
     pub t: Vec<i128>,
     /// For each limit row a column, nu by m.
     pub w_mat: Mat,
-}
-
-// Puts a list into column k of a matrix.
-fn set_column(mat: &mut Mat, k: usize, numbers: &[i128])
-    requires shape { HasShape mat.old (length numbers.now) mat.old.cols }
-    requires column { k < mat.old.cols }
-    ensures shape { HasShape mat.new (length numbers.now) mat.old.cols }
-    ensures put { (j : ℕ) → j < length numbers.now → entry_of mat.new j k ≡ at numbers.now j }
-    ensures others { (j i : ℕ) → i ≢ k → entry_of mat.new j i ≡ entry_of mat.old j i }
-{
-    for (j, v) in numbers.iter().enumerate() {
-        mat.set(j, k, *v);
-    }
 }
 
 impl Inverse {
@@ -59,11 +44,11 @@ impl Inverse {
     {
         let states = self.p_mat.cols();
         if i < states {
-            set_column(&mut self.p_mat, i, numbers);
+            self.p_mat.set_column(i, numbers);
         } else if i == states {
             self.t.copy_from_slice(numbers);
         } else {
-            set_column(&mut self.w_mat, i - (states + 1), numbers);
+            self.w_mat.set_column(i - (states + 1), numbers);
         }
     }
 }

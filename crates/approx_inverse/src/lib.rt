@@ -20,6 +20,3 @@ pub use fault::SolveFault;
 pub use inverse::Inverse;
 pub use laws::entry_law;
 pub use system::put_column;
-
-#[cfg(test)]
-mod tests;

@@ -2,7 +2,7 @@ use Rattle.std.proofs.Common.{ℕ, ◌≤◌, ◌<◌, ◌^◌}
 use Rattle.std.specs.Prelude.{Result, OnOk, IfOk, IfErr}
 use Rattle.qp_model.specs.declared.design_parts.DesignParts.{DesignParts}
 use Rattle.qp_model.specs.Parts.{design_of}
-use Rattle.qp_model.specs.Form.{form_of}
+use Rattle.qp_model.specs.Class.{form_of}
 use Rattle.qp_model.specs.Columns.{descent_size}
 use Rattle.plant_condense.specs.Form.{IsFormOf, held}
 use Rattle.plant_condense.specs.declared.condensed.Condensed.{Condensed}
