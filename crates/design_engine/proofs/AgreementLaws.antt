@@ -6,13 +6,14 @@ use Rattle.integer_algebra.specs.Division.{round_of}
 use Rattle.mat_int.specs.Matrix.{Matrix, row_of, entry_of}
 use Rattle.qp_model.specs.Design.{Design, entries, rows}
 use Rattle.qp_model.specs.Parts.{design_of}
-use Rattle.qp_model.specs.Form.{rows_scale, form_of}
+use Rattle.qp_model.specs.Class.{form_of}
 use Rattle.qp_model.specs.Condensing.{condensed_of}
 use Rattle.qp_model.specs.Choices.{multiplier_of, step_count, violation_bound, undercut_bound}
 use Rattle.qp_model.specs.Errors.{error_sums_of}
 use Rattle.qp_model.specs.Controller.{Numbers, HasShape, plan_length}
 use Rattle.bit_choice.specs.Choice.{IsChoice}
-use Rattle.approx_inverse.proofs.MatrixLaws.{row_long}
+use Rattle.design_engine.proofs.Classes.{entries_are, states_are, rows_are}
+use Rattle.design_engine.proofs.Tables.{row_long}
 use Rattle.design_engine.specs.Targets.{Targets, targets_of, half_target, error_limit}
 use Rattle.design_engine.specs.Bounds.{margin_of, printed_multiplier, stated_cost}
 use Rattle.design_engine.specs.Agreement.{AgreementLaw}
@@ -143,8 +144,8 @@ agreement p plans c other b printed h k = record {
     words : c.words ≡ other.words
     words = h.controller.form.sized.words ∙ (λ i. states i + limits i + 2 * length_same i) ∙ sym k.controller.form.sized.words
 
-    rounded_same : (z : ℤ) → round_of (pos (2 ^ c.fraction_bits) *ℤ z) (rows_scale d) ≡ round_of (pos (2 ^ other.fraction_bits) *ℤ z) (rows_scale d)
-    rounded_same z = λ i. round_of (pos (2 ^ bits i) *ℤ z) (rows_scale d)
+    rounded_same : (z : ℤ) → round_of (pos (2 ^ c.fraction_bits) *ℤ z) (form_of d).rows_scale ≡ round_of (pos (2 ^ other.fraction_bits) *ℤ z) (form_of d).rows_scale
+    rounded_same z = λ i. round_of (pos (2 ^ bits i) *ℤ z) (form_of d).rows_scale
 
     low : c.low ≡ other.low
     low = same_numbers c.low other.low d.states
@@ -159,7 +160,7 @@ agreement p plans c other b printed h k = record {
     bounds : c.bounds ≡ other.bounds
     bounds = same_numbers c.bounds other.bounds (rows d)
         (h.controller.form.sized.shaped.bounds ∙ h.made.sizes.rows) (k.controller.form.sized.shaped.bounds ∙ k.made.sizes.rows)
-        (λ j l. h.made.rows.bounds j l ∙ rounded_same ((condensed_of d).bound j) ∙ sym (k.made.rows.bounds j l))
+        (λ j l. h.made.rows.bounds j (rw (rows_are d) l) ∙ rounded_same ((form_of d).numbers.bound j) ∙ sym (k.made.rows.bounds j (rw (rows_are d) l)))
 
     long : (e : Numbers) → e.inputs ≡ d.inputs → e.stages ≡ d.stages → plan_length e ≡ entries d
     long e f g = (λ i. f i * g i) ∙ turned d.inputs d.stages
@@ -171,10 +172,12 @@ agreement p plans c other b printed h k = record {
     plan_rows = same_matrix c.plan_rows other.plan_rows (rows d) (entries d)
         (shape_as _ _ _ _ _ h.made.sizes.rows (long c h.made.sizes.inputs h.made.sizes.stages) h.controller.form.sized.shaped.plan_rows)
         (shape_as _ _ _ _ _ k.made.sizes.rows (long other k.made.sizes.inputs k.made.sizes.stages) k.controller.form.sized.shaped.plan_rows)
-        (λ i j l m. h.made.rows.plan_rows i j l m ∙ rounded_same ((condensed_of d).by_plan i j) ∙ sym (k.made.rows.plan_rows i j l m))
+        (λ i j l m. h.made.rows.plan_rows i j (rw (rows_are d) l) (rw (entries_are d) m) ∙ rounded_same ((form_of d).numbers.by_plan i j) ∙
+        sym (k.made.rows.plan_rows i j (rw (rows_are d) l) (rw (entries_are d) m)))
 
     state_rows : c.state_rows ≡ other.state_rows
     state_rows = same_matrix c.state_rows other.state_rows (rows d) d.states
         (shape_as _ _ _ _ _ h.made.sizes.rows h.made.sizes.states h.controller.form.sized.shaped.state_rows)
         (shape_as _ _ _ _ _ k.made.sizes.rows k.made.sizes.states k.controller.form.sized.shaped.state_rows)
-        (λ i j l m. h.made.rows.state_rows i j l m ∙ rounded_same ((condensed_of d).by_state i j) ∙ sym (k.made.rows.state_rows i j l m))
+        (λ i j l m. h.made.rows.state_rows i j (rw (rows_are d) l) (rw (states_are d) m) ∙ rounded_same ((form_of d).numbers.by_state i j) ∙
+        sym (k.made.rows.state_rows i j (rw (rows_are d) l) (rw (states_are d) m)))

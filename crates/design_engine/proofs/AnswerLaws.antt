@@ -5,10 +5,10 @@ use Rattle.std.specs.Result.{IsErr}
 use Rattle.qp_model.specs.Parts.{IsDesign, design_of}
 use Rattle.qp_model.specs.Policy.{Plans, IsPolicyFor}
 use Rattle.qp_model.specs.Controller.{Numbers}
-use Rattle.qp_model.specs.Form.{form_of}
+use Rattle.qp_model.specs.Class.{form_of}
 use Rattle.qp_model.specs.Errors.{stated_errors}
 use Rattle.qp_model.specs.Certified.{IsCertified}
-use Rattle.qp_model.proofs.FormLaws.{form_law}
+use Rattle.class_choice.proofs.FormLaws.{form_law}
 use Rattle.qp_model.specs.declared.design_parts.DesignParts.{DesignParts}
 use Rattle.qp_model.specs.Printed.{Printed}
 use Rattle.qp_model.specs.declared.bounds.Margin.{Margin}
@@ -62,12 +62,12 @@ built_certified p plans c b h = certified_from machine_run p plans (form_of (des
   margin = h.margin;
   slack = h.slack;
   controller = h.controller;
-  form = form_law p h.design;
+  form = form_law p h.design h.narrow;
   made = h.made;
   errors = λ xi long inside k l. carried p (form_of (design_of p)) (printed_multiplier b) c xi (record {
     design = h.design;
     bound = omega arith;
-    form = form_law p h.design;
+    form = form_law p h.design h.narrow;
     controller = h.controller;
     made = h.made;
     long = long;

@@ -24,6 +24,7 @@ built_from p plans c b m r s k f design policy passes curved is count same sound
   policy = policy;
   margin = rw (units, cost) margin.margin;
   slack = rw units margin.slack;
+  narrow = passes.before.before.hessian;
   controller = sound;
   made = record {
     sizes = a.sizes;

@@ -3,21 +3,20 @@ use Rattle.std.proofs.Common.{◌≡◌, inl, inr, ◌⊎◌, ℕ, ◌^◌, ◌<
 use Rattle.std.proofs.lemmas.Int.{ints}
 use Rattle.integer_algebra.proofs.OrderLaws.{le_of_lt_z, mul-le-mul_right_z}
 use Rattle.frac_scaled.specs.declared.fraction.Frac.{Frac}
-use Rattle.qp_model.specs.Form.{form_of}
+use Rattle.qp_model.specs.Class.{form_of, prediction_quantity, hessian_quantity, rows_quantity, curvature_quantity}
 use Rattle.qp_model.specs.Design.{Design}
 use Rattle.qp_model.specs.Parts.{IsDesign, design_of}
 use Rattle.qp_model.specs.Policy.{Plans, IsPolicyFor}
 use Rattle.qp_model.specs.Margin.{IsMargin, corner_slack, slack_scale}
 use Rattle.qp_model.specs.Choices.{multiplier_size, step_count, multiplier_of}
-use Rattle.qp_model.specs.Quantities.{prediction_size, hessian_size, rows_size}
+use Rattle.qp_model.specs.Quantities.{prediction_size}
 use Rattle.qp_model.specs.CornerSizes.{corner_slack_size, corner_cost_size}
-use Rattle.qp_model.specs.CurvatureSize.{curvature_size}
 use Rattle.qp_model.specs.Columns.{descent_size}
 use Rattle.qp_model.specs.Errors.{error_size, error_sums_of}
 use Rattle.qp_model.specs.declared.design_parts.DesignParts.{DesignParts}
 use Rattle.qp_model.specs.declared.bounds.Margin.{Margin}
 use Rattle.qp_model.specs.declared.quantity.Quantity.{Quantity}
-use Rattle.qp_model.specs.declared.quantity.Quantity.TheVariants.{Prediction, CornerSlack, CornerCost, Multiplier, Hessian, Rows, Curvature as curvature_quantity, Error, Descent, Width, Turn}
+use Rattle.qp_model.specs.declared.quantity.Quantity.TheVariants.{Prediction, CornerSlack, CornerCost, Multiplier, Hessian, Rows, Curvature as curvature_named, Error, Descent, Width, Turn}
 use Rattle.slater_margin.specs.Corners.{HasCornerRoom, IsFirstShort}
 use Rattle.hessian_check.specs.Steps.{HasNoStep}
 use Rattle.bit_choice.specs.Choice.{IsChoice}
@@ -64,7 +63,8 @@ module _ (d : Design) (t : Targets) where
 
   abbrev AfterMargin : Margin → Refusal → Type 0
   AfterMargin m = Sized Multiplier (multiplier_size (unsigned_abs m.units) (unsigned_abs m.cost))
-      (Sized Hessian (hessian_size d) (Sized Rows (rows_size d) (Sized curvature_quantity (curvature_size d) (AfterSizes m))))
+      (Sized Prediction (prediction_quantity d) (Sized Hessian (hessian_quantity d) (Sized Rows (rows_quantity d)
+      (Sized curvature_named (curvature_quantity d) (AfterSizes m)))))
 
   abbrev IsShort : Plans → Refusal → Type 0
   IsShort plans e = (corner : ℕ) × (row : ℕ) × (slack : Frac) × (e ≡ NoMargin corner row slack) × IsFirstShort d plans corner row slack
@@ -87,7 +87,7 @@ module _ (d : Design) (t : Targets) (plans : Plans) where
   from_margin e m h a = from_room e h.room (inr (m, (h.margin, h.slack), a))
 
   from_sizes : (e : Refusal) (m : Margin) → PassesSizes d t plans m → AfterSizes d t m e → Whole d t plans e
-  from_sizes e m h a = from_margin e m h.before (inr (h.multiplier, inr (h.hessian, inr (h.rows, inr (h.curvature, a)))))
+  from_sizes e m h a = from_margin e m h.before (inr (h.multiplier, inr (h.prediction, inr (h.hessian, inr (h.rows, inr (h.curvature, a))))))
 
   from_steps : (e : Refusal) (m : Margin) (s : ℕ) → PassesSteps d t plans m s → AfterSteps d t m s e → Whole d t plans e
   from_steps e m s h a = from_sizes e m h.before (inr (s, h.exponent, inr (h.steps, a)))
@@ -96,13 +96,14 @@ module _ (d : Design) (t : Targets) (plans : Plans) where
   from_bits e m s f h a = from_steps e m s h.before (inr (h.error, inr (f, h.choice, a)))
 
   wide_told : (quantity : Quantity) → IsTooWide d t plans quantity → Whole d t plans (TooWide quantity)
-  wide_told Prediction h = inl (refl, h)
+  wide_told Prediction (inl h) = inl (refl, h)
+  wide_told Prediction (inr h) = from_margin _ h.0 h.1.0 (inr (h.1.1, inl (refl, h.2)))
   wide_told CornerSlack h = inr (h.0, inl (refl, h.1))
   wide_told CornerCost h = inr (h.0, inr (h.1.0, inl (refl, h.1.1)))
   wide_told Multiplier h = from_margin _ h.0 h.1 (inl (refl, h.2))
-  wide_told Hessian h = from_margin _ h.0 h.1.0 (inr (h.1.1, inl (refl, h.2)))
-  wide_told Rows h = from_margin _ h.0 h.1.0.0 (inr (h.1.0.1, inr (h.1.1, inl (refl, h.2))))
-  wide_told curvature_quantity h = from_margin _ h.0 h.1.0.0.0 (inr (h.1.0.0.1, inr (h.1.0.1, inr (h.1.1, inl (refl, h.2)))))
+  wide_told Hessian h = from_margin _ h.0 h.1.0.0 (inr (h.1.0.1, inr (h.1.1, inl (refl, h.2))))
+  wide_told Rows h = from_margin _ h.0 h.1.0.0.0 (inr (h.1.0.0.1, inr (h.1.0.1, inr (h.1.1, inl (refl, h.2)))))
+  wide_told curvature_named h = from_margin _ h.0 h.1.0.0.0.0 (inr (h.1.0.0.0.1, inr (h.1.0.0.1, inr (h.1.0.1, inr (h.1.1, inl (refl, h.2))))))
   wide_told Error h = from_steps _ h.0 h.1 h.2 (inl (refl, h.3))
   wide_told Descent h = from_bits _ h.0 h.1 h.2 h.3 (inl (refl, h.4))
   wide_told Width h = from_bits _ h.0 h.1 h.2 h.3.0 (inr (h.3.1, inl (refl, h.4)))
@@ -148,7 +149,7 @@ module _ (p : DesignParts) (t : Targets) (plans : Plans) (design : IsDesign p) (
       (λ s h. next_one (IsLong d t m s) _ (AfterSteps d t m s) (λ e other a b. a.0 ∙ sym b.0) (long_clash m s) (steps_one m s))
 
   margin_one : (m : Margin) → IsOne (AfterMargin d t m)
-  margin_one m = sized_one Multiplier _ _ (sized_one Hessian _ _ (sized_one Rows _ _ (sized_one curvature_quantity _ _ (sizes_one m))))
+  margin_one m = sized_one Multiplier _ _ (sized_one Prediction _ _ (sized_one Hessian _ _ (sized_one Rows _ _ (sized_one curvature_named _ _ (sizes_one m)))))
 
   short_clash : (e : Refusal) (m : Margin) → IsShort d t plans e → IsWideMargin d t plans m → ⊥
   short_clash e m a h =
@@ -191,8 +192,8 @@ module _ (p : DesignParts) (t : Targets) (plans : Plans) (design : IsDesign p) (
   margin_none : (m : Margin) (s f : ℕ) → PassesAll d t plans m s f → IsNone (AfterMargin d t m)
   margin_none m s f h =
       let sizes = h.before.before.before in
-      sized_none Multiplier _ _ sizes.multiplier (sized_none Hessian _ _ sizes.hessian
-      (sized_none Rows _ _ sizes.rows (sized_none curvature_quantity _ _ sizes.curvature (sizes_none m s f h))))
+      sized_none Multiplier _ _ sizes.multiplier (sized_none Prediction _ _ sizes.prediction (sized_none Hessian _ _ sizes.hessian
+      (sized_none Rows _ _ sizes.rows (sized_none curvature_named _ _ sizes.curvature (sizes_none m s f h)))))
 
   whole_none : (m : Margin) (s f : ℕ) → PassesAll d t plans m s f → IsNone (Whole d t plans)
   whole_none m s f h =

@@ -7,7 +7,7 @@ use Rattle.std.proofs.lemmas.Nat.{mul-le}
 use Rattle.std.proofs.lemmas.List.FromFn.{fill_by_all}
 use Rattle.integer_algebra.specs.Sums.{at}
 use Rattle.mat_int.specs.Matrix.{Matrix}
-use Rattle.qp_model.specs.Form.{form_of}
+use Rattle.qp_model.specs.Class.{form_of}
 use Rattle.qp_model.specs.declared.design_parts.DesignParts.{DesignParts}
 use Rattle.qp_model.specs.Design.{Design, entries, rows}
 use Rattle.qp_model.specs.Parts.{IsDesign, design_of}
@@ -29,6 +29,7 @@ use Rattle.plant_condense.specs.Form.{IsFormOf, held}
 use Rattle.plant_condense.specs.declared.condensed.Condensed.{Condensed}
 use Rattle.approx_inverse.proofs.DesignLaws.{bound_equal}
 use Rattle.design_engine.proofs.Bounds.{resized}
+use Rattle.design_engine.proofs.Classes.{entries_are, states_are, rows_are, columns_are}
 use Rattle.design_engine.specs.Assembled.{AreRowsOf, AreBounds, IsFrame, AreGains, IsAssembled}
 use Rattle.design_engine.specs.declared.rounding.Rows.{Rows}
 use Rattle.design_engine.proofs.Monotone.{IsSmaller, greatest_sum_mono}
@@ -38,15 +39,18 @@ use Rattle.design_engine.proofs.Tables.{line_long, line_at, under_line, line_und
 -- each gain is at most the bound of its column
 pub record AreWithin (d : Design) (f : ℕ) (v : Inverse) : Type 0 where
   pub sizes : HasGainSizes v (entries d) d.states (rows d)
-  pub each : (i j : ℕ) → i < columns (form_of d) → j < entries d → unsigned_abs (solution_of v i j) ≤ column_bound (form_of d) f i
+  pub each : (i j : ℕ) → i < d.states + 1 + rows d → j < entries d → unsigned_abs (solution_of v i j) ≤ column_bound (form_of d) f i
 
 -- each gain is the bound of its column
 pub record AreWidest (d : Design) (f : ℕ) (v : Inverse) : Type 0 where
   pub sizes : HasGainSizes v (entries d) d.states (rows d)
-  pub each : (i j : ℕ) → i < columns (form_of d) → j < entries d → solution_of v i j ≡ pos (column_bound (form_of d) f i)
+  pub each : (i j : ℕ) → i < d.states + 1 + rows d → j < entries d → solution_of v i j ≡ pos (column_bound (form_of d) f i)
 
 pub within_from : (d : Design) (f : ℕ) (v : Inverse) → IsInverseOf (form_of d) f v → AreWithin d f v
-within_from d f v is = record { sizes = is.sizes; each = λ i j l m. is.within i l j m }
+within_from d f v is = record {
+  sizes = resized v _ _ _ _ _ _ (sym (entries_are d)) (sym (states_are d)) (sym (rows_are d)) is.sizes;
+  each = λ i j l m. is.within i (rw (columns_are d) l) j (rw (entries_are d) m);
+}
 
 -- ---- the absolute sums
 -- the numbers of a frame are those of the widest controller
@@ -215,10 +219,10 @@ controller_from c w s room is = record {
 gains_same : (c : Numbers) (v : Inverse) → c.states ≡ v.p_mat.cols → AreGains v c → (i j : ℕ) → solution_of v i j ≡ gain_column c i j
 gains_same c v e g i j = rw (e, g.state_gains, g.offsets, g.dual_gains) refl
 
-good_at : (d : Design) (f b i : ℕ) (v : Inverse) (c : Numbers) → b ≡ f → IsGood (entries d) (solve_matrix (form_of d)) f (solve_column (form_of d) i) (solution_of v i) →
-    ((j : ℕ) → solution_of v i j ≡ gain_column c i j) → IsGood (entries d) (solve_matrix (form_of d)) b (solve_column (form_of d) i) (gain_column c i)
+good_at : (d : Design) (f b i : ℕ) (v : Inverse) (c : Numbers) → b ≡ f → IsGood (form_of d).entries (solve_matrix (form_of d)) f (solve_column (form_of d) i) (solution_of v i) →
+    ((j : ℕ) → solution_of v i j ≡ gain_column c i j) → IsGood (form_of d).entries (solve_matrix (form_of d)) b (solve_column (form_of d) i) (gain_column c i)
 good_at d f b i v c e good same = rw e
-    (good_same (entries d) (solve_matrix (form_of d)) (solve_matrix (form_of d)) f (solve_column (form_of d) i) (solve_column (form_of d) i) (solution_of v i) (gain_column c i)
+    (good_same (form_of d).entries (solve_matrix (form_of d)) (solve_matrix (form_of d)) f (solve_column (form_of d) i) (solve_column (form_of d) i) (solution_of v i) (gain_column c i)
     (λ i j l m. refl) (λ j l. refl) (λ j l. same j) good)
 
 pub assembled : (d : Design) (r s k f : ℕ) (c : Numbers) (v : Inverse) (w : ℕ) → IsFrame d r s k f c → AreGains v c → IsInverseOf (form_of d) f v → IsWidth (greatest_sum c) w →
@@ -234,12 +238,12 @@ assembled d r s k f c v w fr g is wide = record {
     high = λ i l. ap (λ (xs : List ℤ). at xs i) fr.high ∙ line_at d.states d.high i l;
   };
   rows = record {
-    plan_rows = λ i j l m. rw fr.fraction_bits (fr.plan_rows.entries i j l m);
-    state_rows = λ i j l m. rw fr.fraction_bits (fr.state_rows.entries i j l m);
-    bounds = λ i l. rw fr.fraction_bits (fr.bounds.is i l);
+    plan_rows = λ i j l m. rw fr.fraction_bits (fr.plan_rows.entries i j (rw (rows_are d) at l) (rw (entries_are d) at m));
+    state_rows = λ i j l m. rw fr.fraction_bits (fr.state_rows.entries i j (rw (rows_are d) at l) (rw (states_are d) at m));
+    bounds = λ i l. rw fr.fraction_bits (fr.bounds.is i (rw (rows_are d) at l));
   };
   gains = λ i l. good_at d f c.fraction_bits i v (record c { width = w }) fr.fraction_bits (is.good i l)
-      (λ j. gains_same c v (fr.states ∙ sym is.sizes.p_mat.cols) g i j);
+      (λ j. gains_same c v (fr.states ∙ sym (is.sizes.p_mat.cols ∙ states_are d)) g i j);
   clamp = fr.clamp;
   step_exponent = fr.step_exponent;
   steps = fr.steps;
@@ -252,7 +256,7 @@ pub wide_clamp : (p : DesignParts) (r s k f : ℕ) → IsDesign p → 2 ^ 126 < 
 wide_clamp p r s k f h over =
     let c = widest (design_of p) r s k f in
     let next = (sums_fit c (width_size (design_of p) r s k f) (le_refl (width_size (design_of p) r s k f))).next 0
-    (omega (arith, line_long (rows (design_of p)) (λ i. rounded (design_of p) f ((condensed_of (design_of p)).bound i)), some_row p h)) in
+    (omega (arith, line_long (rows (design_of p)) (λ i. rounded (design_of p) f ((form_of (design_of p)).numbers.bound i)), some_row p h)) in
     close (2 * r * 2 ^ (f + s)) _ (width_size (design_of p) r s k f) next over
   where
     close : (clamp rest sum : ℕ) → clamp + rest ≤ sum → 2 ^ 126 < clamp → 2 ^ 126 < sum
@@ -289,7 +293,7 @@ frame_from p r s k f c rs h are version states inputs stages rows_are bits grid 
 pub widest_from : (p : DesignParts) (c : Condensed) (f : ℕ) (v : Inverse) → IsFormOf p c → AreBounds (held c) f v → AreWidest (design_of p) f v
 widest_from p c f v is b = record {
   sizes = resized v _ _ _ _ _ _ (sym is.shapes.hess.rows) (sym is.shapes.lin.cols) (sym is.shapes.g.rows) b.sizes;
-  each = λ i j l m. b.each i j (omega (arith, is.shapes.lin.cols, is.shapes.g.rows)) (omega (arith, is.shapes.hess.rows)) ∙ ap (λ (n : ℕ). pos n) (bound_equal p c f i is l);
+  each = λ i j l m. b.each i j (omega (arith, is.shapes.lin.cols, is.shapes.g.rows)) (omega (arith, is.shapes.hess.rows)) ∙ ap (λ (n : ℕ). pos n) (bound_equal p c f i is (rw (columns_are (design_of p)) l));
 }
 
 -- ---- a call that answers where a number is within the limit

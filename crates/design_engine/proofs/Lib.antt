@@ -7,6 +7,7 @@ pub mod RowChoice
 pub mod PromiseLaws
 -- ---- the quantity `width`
 pub mod Monotone
+pub mod Classes
 pub mod Tables
 pub mod Bounds
 -- ---- the parts of a controller

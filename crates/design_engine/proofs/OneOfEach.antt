@@ -15,7 +15,8 @@ use Rattle.qp_model.specs.Errors.{ErrorSums, epsilon}
 use Rattle.qp_model.specs.declared.design_parts.DesignParts.{DesignParts}
 use Rattle.qp_model.specs.declared.bounds.Margin.{Margin}
 use Rattle.slater_margin.specs.Corners.{IsFirstShort}
-use Rattle.hessian_check.specs.Curvature.{IsLeast, IsFirst, IsChosen, IsDominantAt, HasPassingRootBelow}
+use Rattle.qp_model.specs.Least.{IsLeast}
+use Rattle.hessian_check.specs.Curvature.{IsFirst, IsChosen, IsDominantAt, HasPassingRootBelow}
 use Rattle.hessian_check.specs.Steps.{HasNoStep}
 use Rattle.bit_choice.specs.Choice.{IsChoice}
 use Rattle.step_error.proofs.FallingLaws.{epsilon_falls}

@@ -4,19 +4,17 @@ use Rattle.std.specs.Prelude.{IfErr}
 use Rattle.std.specs.Result.{IsErrAnd, IsErrOf, IsErr}
 use Rattle.std.proofs.lemmas.Bool.{cases_lt}
 use Rattle.frac_scaled.specs.declared.fraction.Frac.{Frac}
-use Rattle.qp_model.specs.Form.{form_of}
+use Rattle.qp_model.specs.Class.{form_of, prediction_quantity, hessian_quantity, rows_quantity}
 use Rattle.qp_model.specs.Design.{Design}
 use Rattle.qp_model.specs.Policy.{Plans}
 use Rattle.qp_model.specs.Margin.{IsMargin}
 use Rattle.qp_model.specs.Choices.{multiplier_size, step_count, multiplier_of}
-use Rattle.qp_model.specs.Quantities.{hessian_size, rows_size}
-use Rattle.qp_model.specs.CurvatureSize.{curvature_size}
 use Rattle.qp_model.specs.Columns.{descent_size}
 use Rattle.qp_model.specs.Errors as errors
 use Rattle.qp_model.specs.Errors.{error_size, error_sums_of, epsilon}
 use Rattle.qp_model.specs.declared.bounds.Margin.{Margin}
 use Rattle.qp_model.specs.declared.quantity.Quantity.{Quantity}
-use Rattle.qp_model.specs.declared.quantity.Quantity.TheVariants.{Prediction, CornerSlack, CornerCost, Multiplier, Hessian, Rows, Curvature as curvature_quantity, Error, Descent, Width, Turn}
+use Rattle.qp_model.specs.declared.quantity.Quantity.TheVariants.{Prediction, CornerSlack, CornerCost, Multiplier, Hessian, Rows, Curvature as curvature_named, Error, Descent, Width, Turn}
 use Rattle.slater_margin.specs.Corners as corners
 use Rattle.slater_margin.specs.Corners.{HasCornerRoom, IsFirstShort}
 use Rattle.slater_margin.specs.declared.fault.MarginFault.{MarginFault}
@@ -59,16 +57,26 @@ within_limit x fault n h = elim (cases_lt (2 ^ 126) n) [ inl l ↦ absurd (diffe
     differ : ◌≡◌ {A = Result StepExponents CurvatureFault} (Ok x) (Err fault) → ⊥
     differ g = search rules
 
+-- what is condensed has its quantity `prediction` within the limit
+pub condensed_within : (x : Condensed) (quantity : Quantity) (n : ℕ) →
+    (2 ^ 126 < n → ◌≡◌ {A = Result Condensed CondenseFault} (Ok x) (Err (condense_wide quantity)) ⊎ ◌≡◌ {A = Result Condensed CondenseFault} (Ok x) (Err condense_memory)) →
+    n ≤ 2 ^ 126
+condensed_within x quantity n h = elim (cases_lt (2 ^ 126) n) [ inl l ↦ absurd (neither (h l)) | inr l ↦ l ]
+  where
+    neither : ◌≡◌ {A = Result Condensed CondenseFault} (Ok x) (Err (condense_wide quantity)) ⊎ ◌≡◌ {A = Result Condensed CondenseFault} (Ok x) (Err condense_memory) → ⊥
+    neither (inl g) = search rules
+    neither (inr g) = search rules
+
 module _ (d : Design) (t : Targets) (plans : Plans) where
   -- ---- the margin
   corner_wide : (quantity : Quantity) → corners.IsFirstWideCorner d plans quantity → IsTooWide d t plans quantity
-  corner_wide Prediction h = h
+  corner_wide Prediction h = inl h
   corner_wide CornerSlack h = h
   corner_wide CornerCost h = h
   corner_wide Multiplier h = absurd h
   corner_wide Hessian h = absurd h
   corner_wide Rows h = absurd h
-  corner_wide curvature_quantity h = absurd h
+  corner_wide curvature_named h = absurd h
   corner_wide Error h = absurd h
   corner_wide Descent h = absurd h
   corner_wide Width h = absurd h
@@ -91,13 +99,13 @@ module _ (d : Design) (t : Targets) (plans : Plans) where
   -- ---- the condensed form
   form_wide : (m : Margin) → PassesMargin d t plans m → multiplier_size (unsigned_abs m.units) (unsigned_abs m.cost) ≤ 2 ^ 126 → (quantity : Quantity) →
       condensing.IsFirstWideForm d quantity → IsTooWide d t plans quantity
-  form_wide m h r Prediction k = absurd (omega (arith, h.room.prediction, k))
+  form_wide m h r Prediction k = inr (m, (h, r), k)
   form_wide m h r CornerSlack k = absurd k
   form_wide m h r CornerCost k = absurd k
   form_wide m h r Multiplier k = absurd k
-  form_wide m h r Hessian k = (m, (h, r), k.1)
-  form_wide m h r Rows k = (m, ((h, r), k.1.0), k.1.1)
-  form_wide m h r curvature_quantity k = absurd k
+  form_wide m h r Hessian k = (m, ((h, r), k.0), k.1)
+  form_wide m h r Rows k = (m, (((h, r), k.0), k.1.0), k.1.1)
+  form_wide m h r curvature_named k = absurd k
   form_wide m h r Error k = absurd k
   form_wide m h r Descent k = absurd k
   form_wide m h r Width k = absurd k
@@ -105,20 +113,20 @@ module _ (d : Design) (t : Targets) (plans : Plans) where
 
   pub condense_refused : (m : Margin) → PassesMargin d t plans m → multiplier_size (unsigned_abs m.units) (unsigned_abs m.cost) ≤ 2 ^ 126 →
       (r : Result Condensed CondenseFault) (fault : CondenseFault) → r ≡ Err fault →
-      ((quantity : Quantity) → (r ≡ Err (condense_wide quantity)) ↔ condensing.IsFirstWideForm d quantity) →
+      ((quantity : Quantity) → r ≡ Err (condense_wide quantity) → condensing.IsFirstWideForm d quantity) →
       (e : Refusal) → e ≡ of_condense fault → IsRefused d t plans e
   condense_refused m h n r condense_memory is wide e f = inl f
-  condense_refused m h n r (condense_wide quantity) is wide e f = rw f (inr (form_wide m h n quantity ((wide quantity).0 is)))
+  condense_refused m h n r (condense_wide quantity) is wide e f = rw f (inr (form_wide m h n quantity (wide quantity is)))
 
   -- ---- the step exponent
   pub curvature_refused : (m : Margin) → PassesMargin d t plans m → multiplier_size (unsigned_abs m.units) (unsigned_abs m.cost) ≤ 2 ^ 126 →
-      hessian_size d ≤ 2 ^ 126 → rows_size d ≤ 2 ^ 126 →
+      prediction_quantity d ≤ 2 ^ 126 → hessian_quantity d ≤ 2 ^ 126 → rows_quantity d ≤ 2 ^ 126 →
       (fault : CurvatureFault) → exponents.IsExponentRefused d fault → (e : Refusal) → e ≡ of_curvature fault → IsRefused d t plans e
-  curvature_refused m h n k l curvature_memory why e f = inl f
-  curvature_refused m h n k l (curvature_wide quantity) (inl memory) e f = absurd (search rules)
-  curvature_refused m h n k l (curvature_wide quantity) (inr why) e f = rw (f, why.0) (inr (m, (((h, n), k), l), why.1))
-  curvature_refused m h n k l NoStep (inl memory) e f = absurd (search rules)
-  curvature_refused m h n k l NoStep (inr why) e f = rw f (inr (m, record { before = h; multiplier = n; hessian = k; rows = l; curvature = why.0 }, why.1))
+  curvature_refused m h n i k l curvature_memory why e f = inl f
+  curvature_refused m h n i k l (curvature_wide quantity) (inl memory) e f = absurd (search rules)
+  curvature_refused m h n i k l (curvature_wide quantity) (inr why) e f = rw (f, why.0) (inr (m, ((((h, n), i), k), l), why.1))
+  curvature_refused m h n i k l NoStep (inl memory) e f = absurd (search rules)
+  curvature_refused m h n i k l NoStep (inr why) e f = rw f (inr (m, record { before = h; multiplier = n; prediction = i; hessian = k; rows = l; curvature = why.0 }, why.1))
 
   -- ---- the steps
   pub steps_refused : (m : Margin) (s r h : ℕ) (k : ℤ) → PassesSizes d t plans m → IsExponentOf d s → r ≡ multiplier_of m → h ≡ half_target t →

@@ -11,16 +11,12 @@ use Rattle.integer_algebra.specs.Sums.{at}
 use Rattle.integer_algebra.specs.Division.{round_of}
 use Rattle.mat_int.specs.Matrix.{Matrix, entry_of, HasEntries}
 use Rattle.qp_model.specs.Design.{entries, rows}
-use Rattle.qp_model.specs.Form.{rows_scale}
 use Rattle.qp_model.specs.Parts.{design_of}
 use Rattle.qp_model.specs.Runs.{Holds}
 use Rattle.qp_model.specs.declared.design_parts.DesignParts.{DesignParts}
-use Rattle.qp_model.proofs.RowLaws.{plan_number}
-use Rattle.qp_model.proofs.RowLaws.{state_number, bound_number}
 use Rattle.plant_condense.specs.Form.{IsFormOf}
 use Rattle.plant_condense.proofs.FormSums.{plan_entry, state_entry, bound_entry}
 use Rattle.plant_condense.specs.declared.condensed.Condensed.{Condensed}
-use Rattle.approx_inverse.proofs.DesignLaws.{solvable_from}
 use Rattle.design_engine.specs.Assembled.{AreRowsOf}
 use Rattle.design_engine.specs.declared.rounding.Rows.{Rows}
 
@@ -47,7 +43,7 @@ entries_more old new line i w g e long here held = record {
 
 -- ---- the numbers of a condensed form
 -- rounded, they are a design's
-rounded_same : (den : ℤ) (scale f : ℕ) (x y : ℤ) → den ≡ pos scale → x ≡ y → round_of (pos (2 ^ f) *ℤ x) (unsigned_abs den) ≡ round_of (pos (2 ^ f) *ℤ y) scale
+rounded_same : (den : ℤ) (scale f : ℕ) (x y : ℤ) → unsigned_abs den ≡ scale → x ≡ y → round_of (pos (2 ^ f) *ℤ x) (unsigned_abs den) ≡ round_of (pos (2 ^ f) *ℤ y) scale
 rounded_same den scale f x y e g = rw (e, g) refl
 
 entries_same : (h w a b : ℕ) (f g : ℕ → ℕ → ℤ) (m : Matrix) → h ≡ a → w ≡ b → ((i j : ℕ) → i < a → j < b → f i j ≡ g i j) → HasEntries h w f m → HasEntries a b g m
@@ -70,35 +66,27 @@ pub record AreRounded (c : Condensed) (f : ℕ) (r : Rows) : Type 0 where
 pub rows_from : (p : DesignParts) (c : Condensed) (f : ℕ) (r : Rows) → IsFormOf p c → AreRounded c f r → AreRowsOf (design_of p) f r
 rows_from p c f r is made =
     let d = design_of p in
-    let limits = is.numbers.limits in
-    let den = is.denominators.row_den in
+    let same = is.same in
+    let ranges = is.encloses.encloses in
+    let den = same.rows_scale in
     record {
       plan = entries_same _ _ (rows d) (entries d) _ _ r.g_mat is.shapes.g.rows is.shapes.g.cols
-          (λ i j l o. rounded_same c.row_den (rows_scale d) f _ _ den (limits.plan i j l o ∙ sym (plan_number d i j is.design.inputs.0))) made.plan;
+          (λ i j l o. rounded_same c.row_den _ f _ _ den (same.by_plan i j (rw ranges.row_count l) (rw ranges.entry_count o))) made.plan;
       state = entries_same _ _ (rows d) d.states _ _ r.e_mat is.shapes.e.rows is.shapes.e.cols
-          (λ i j l o. rounded_same c.row_den (rows_scale d) f _ _ den (limits.state i j l o ∙ sym (state_number d i j))) made.state;
+          (λ i j l o. rounded_same c.row_den _ f _ _ den (same.by_state i j (rw ranges.row_count l) (rw ranges.state_count o))) made.state;
       bound = holds_same _ (rows d) r.bound.items _ _ is.shapes.bound
-          (λ i l. rounded_same c.row_den (rows_scale d) f _ _ den (limits.bound i l ∙ sym (bound_number d i))) made.bound;
+          (λ i l. rounded_same c.row_den _ f _ _ den (same.bound i (rw ranges.row_count l))) made.bound;
     }
 
 -- ---- what rounding asks
 pub den_positive : (p : DesignParts) (c : Condensed) → IsFormOf p c → pos 1 ≤ℤ c.row_den
-den_positive p c is =
-    let s = solvable_from p c is in
-    rw is.denominators.row_den (product _ _ (rw is.denominators.limit_den at s.limit_den) (rw is.denominators.power at s.power))
-  where
-    product : (a b : ℕ) → pos 1 ≤ℤ pos a → pos 1 ≤ℤ pos b → pos 1 ≤ℤ pos (a * b)
-    product a b h k =
-        let x : 1 ≤ a = omega (arith, ints) in
-        let y : 1 ≤ b = omega (arith, ints) in
-        let g = mul-le-mul x y in
-        omega (arith, ints, g)
+den_positive p c is = is.denominators.row_den
 
 pub plan_small : (p : DesignParts) (c : Condensed) → IsFormOf p c → (i j : ℕ) → i < length c.g.rows → j < c.g.cols → unsigned_abs (entry_of c.g i j) ≤ 2 ^ 63
-plan_small p c is i j l m = plan_entry p c is i j (omega (arith, is.shapes.g.rows)) (omega (arith, is.shapes.g.cols))
+plan_small p c is i j l m = plan_entry _ p c is i j (omega (arith, is.shapes.g.rows)) (omega (arith, is.shapes.g.cols))
 
 pub state_small : (p : DesignParts) (c : Condensed) → IsFormOf p c → (i j : ℕ) → i < length c.e.rows → j < c.e.cols → unsigned_abs (entry_of c.e i j) ≤ 2 ^ 63
-state_small p c is i j l m = state_entry p c is i j (omega (arith, is.shapes.e.rows)) (omega (arith, is.shapes.e.cols))
+state_small p c is i j l m = state_entry _ p c is i j (omega (arith, is.shapes.e.rows)) (omega (arith, is.shapes.e.cols))
 
 pub bound_small : (p : DesignParts) (c : Condensed) → IsFormOf p c → (i : ℕ) → i < length c.bound.items → unsigned_abs (at c.bound.items i) ≤ 2 ^ 63
-bound_small p c is i l = bound_entry p c is i (omega (arith, is.shapes.bound))
+bound_small p c is i l = bound_entry _ p c is i (omega (arith, is.shapes.bound))

@@ -5,11 +5,14 @@ use Rattle.std.proofs.lemmas.List.FromFn.{get_or-map-range_with_len, length-map-
 use Rattle.integer_algebra.specs.Sums.{at}
 use Rattle.mat_int.specs.Matrix.{Matrix, row_of, entry_of, HasEntries}
 use Rattle.qp_model.specs.Controller.{HasShape}
-use Rattle.approx_inverse.proofs.MatrixLaws.{row_long}
 use Rattle.approx_inverse.specs.Inverse.{solution_of}
 use Rattle.approx_inverse.specs.declared.inverse.Inverse.{Inverse}
 use Rattle.design_engine.specs.Widest.{listed, table}
 use Rattle.design_engine.proofs.Monotone.{IsUnder}
+
+-- a row's length
+pub row_long : (m : Matrix) (height width i : ℕ) → HasShape m height width → i < height → length (row_of m i) ≡ width
+row_long m height width i shape l = shape.each i [] (omega (arith, shape.rows))
 
 pub line_long : (n : ℕ) (g : ℕ → ℤ) → length (listed n g) ≡ n
 line_long n g = length-map-range_with_len g 0 n

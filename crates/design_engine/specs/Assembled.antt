@@ -1,7 +1,8 @@
 -- What the parts of a controller are that is made of a design's condensed form and its chosen numbers.
 use Rattle.std.specs.Prelude.{◌≡◌, ℕ, ◌+◌, ◌*◌, ◌^◌, ◌<◌, pos}
 use Rattle.mat_int.specs.Matrix.{HasEntries}
-use Rattle.qp_model.specs.Form.{Form, form_of}
+use Rattle.qp_model.specs.Form.{Form}
+use Rattle.qp_model.specs.Class.{form_of}
 use Rattle.qp_model.specs.Design.{Design, entries, rows}
 use Rattle.qp_model.specs.Runs.{Holds}
 use Rattle.qp_model.specs.Columns.{columns, column_bound, solve_matrix, solve_column}
@@ -59,7 +60,7 @@ pub record AreGains (v : Inverse) (c : Numbers) : Type 0 where
 pub record IsAssembled (d : Design) (r s k f : ℕ) (c : Numbers) : Type 0 where
   pub sizes : HasSizesOf d c
   pub rows : HasRowsOf (form_of d) c
-  pub gains : (i : ℕ) → i < columns (form_of d) → IsGood (entries d) (solve_matrix (form_of d)) c.fraction_bits (solve_column (form_of d) i) (gain_column c i)
+  pub gains : (i : ℕ) → i < columns (form_of d) → IsGood (form_of d).entries (solve_matrix (form_of d)) c.fraction_bits (solve_column (form_of d) i) (gain_column c i)
   pub clamp : c.clamp ≡ pos (2 * r * 2 ^ (f + s))
   pub step_exponent : c.step_exponent ≡ s
   pub steps : c.steps ≡ k

@@ -1,6 +1,6 @@
 -- The bounds that are printed of a controller.
 use Rattle.std.specs.Prelude.{◌≡◌, ℕ, ◌<◌, pos, unsigned_abs}
-use Rattle.qp_model.specs.Form.{form_of}
+use Rattle.qp_model.specs.Class.{form_of}
 use Rattle.qp_model.specs.Design.{Design}
 use Rattle.qp_model.specs.Choices.{multiplier_of, violation_bound, undercut_bound}
 use Rattle.qp_model.specs.Errors.{error_sums_of, epsilon}

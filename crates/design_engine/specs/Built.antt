@@ -1,6 +1,6 @@
 -- A controller and its bounds as they are made of a design and a policy.
-use Rattle.std.specs.Prelude.{◌≡◌, ℕ, ◌≤◌, pos, ◌≤ℤ◌}
-use Rattle.qp_model.specs.Form.{form_of}
+use Rattle.std.specs.Prelude.{◌≡◌, ℕ, ◌≤◌, ◌^◌, pos, ◌≤ℤ◌}
+use Rattle.qp_model.specs.Class.{form_of, hessian_quantity}
 use Rattle.qp_model.specs.Design.{Design}
 use Rattle.qp_model.specs.Parts.{IsDesign, design_of}
 use Rattle.qp_model.specs.Policy.{Plans, IsPolicyFor}
@@ -31,6 +31,8 @@ pub record IsBuilt (p : DesignParts) (plans : Plans) (c : Numbers) (b : Printed)
   pub policy : IsPolicyFor (design_of p) plans
   pub margin : IsMargin (design_of p) plans (margin_of b)
   pub slack : pos 1 ≤ℤ b.margin
+  -- so the form is one that a controller may be made of
+  pub narrow : hessian_quantity (design_of p) ≤ 2 ^ 126
   pub controller : IsController c
   pub made : IsDerivedFrom (design_of p) (form_of (design_of p)) (printed_multiplier b) c
   pub exponent : IsExponentOf (design_of p) c.step_exponent

@@ -1,17 +1,15 @@
 -- Why a design with a policy has no controller: the first of these tests, in their order, that it fails.
 use Rattle.std.specs.Prelude.{◌≡◌, ◌⊎◌, ℕ, ◌^◌, ◌<◌, ◌≤◌, ℤ, pos, ◌≤ℤ◌}
-use Rattle.qp_model.specs.Form.{form_of}
+use Rattle.qp_model.specs.Class.{form_of, prediction_quantity, hessian_quantity, rows_quantity, curvature_quantity}
 use Rattle.qp_model.specs.Design.{Design}
 use Rattle.qp_model.specs.Policy.{Plans}
 use Rattle.qp_model.specs.Margin.{IsMargin}
 use Rattle.qp_model.specs.Choices.{multiplier_of, multiplier_size_of, step_count}
-use Rattle.qp_model.specs.Quantities.{hessian_size, rows_size}
-use Rattle.qp_model.specs.CurvatureSize.{curvature_size}
 use Rattle.qp_model.specs.Columns.{descent_size}
 use Rattle.qp_model.specs.Errors.{error_size, error_sums_of}
 use Rattle.qp_model.specs.declared.bounds.Margin.{Margin}
 use Rattle.qp_model.specs.declared.quantity.Quantity.{Quantity}
-use Rattle.qp_model.specs.declared.quantity.Quantity.TheVariants.{Prediction, CornerSlack, CornerCost, Multiplier, Hessian, Rows, Curvature as curvature_quantity, Error, Descent, Width, Turn}
+use Rattle.qp_model.specs.declared.quantity.Quantity.TheVariants.{Prediction, CornerSlack, CornerCost, Multiplier, Hessian, Rows, Curvature as curvature_named, Error, Descent, Width, Turn}
 use Rattle.slater_margin.specs.Corners.{HasCornerRoom, IsFirstWideCorner, IsFirstShort}
 use Rattle.hessian_check.specs.Steps.{HasNoStep}
 use Rattle.bit_choice.specs.Choice.{IsChoice}
@@ -41,9 +39,10 @@ pub record PassesMargin (d : Design) (t : Targets) (plans : Plans) (m : Margin) 
 pub record PassesSizes (d : Design) (t : Targets) (plans : Plans) (m : Margin) : Type 0 where
   pub before : PassesMargin d t plans m
   pub multiplier : multiplier_size_of m ≤ 2 ^ 126
-  pub hessian : hessian_size d ≤ 2 ^ 126
-  pub rows : rows_size d ≤ 2 ^ 126
-  pub curvature : curvature_size d ≤ 2 ^ 126
+  pub prediction : prediction_quantity d ≤ 2 ^ 126
+  pub hessian : hessian_quantity d ≤ 2 ^ 126
+  pub rows : rows_quantity d ≤ 2 ^ 126
+  pub curvature : curvature_quantity d ≤ 2 ^ 126
 
 -- there is a step exponent, and the steps are few enough
 pub record PassesSteps (d : Design) (t : Targets) (plans : Plans) (m : Margin) (s : ℕ) : Type 0 where
@@ -72,25 +71,29 @@ IsWide size = 2 ^ 126 < size
 abbrev pub HasMultiplier : Design → Targets → Plans → Margin → Type 0
 HasMultiplier d t plans m = PassesMargin d t plans m × (multiplier_size_of m ≤ 2 ^ 126)
 
+abbrev pub HasPrediction : Design → Targets → Plans → Margin → Type 0
+HasPrediction d t plans m = HasMultiplier d t plans m × (prediction_quantity d ≤ 2 ^ 126)
+
 abbrev pub HasHessian : Design → Targets → Plans → Margin → Type 0
-HasHessian d t plans m = HasMultiplier d t plans m × (hessian_size d ≤ 2 ^ 126)
+HasHessian d t plans m = HasPrediction d t plans m × (hessian_quantity d ≤ 2 ^ 126)
 
 abbrev pub HasRows : Design → Targets → Plans → Margin → Type 0
-HasRows d t plans m = HasHessian d t plans m × (rows_size d ≤ 2 ^ 126)
+HasRows d t plans m = HasHessian d t plans m × (rows_quantity d ≤ 2 ^ 126)
 
 -- so are the systems of the gains
 abbrev pub HasDescent : Design → Targets → Plans → Margin → (s f : ℕ) → Type 0
 HasDescent d t plans m s f = PassesBits d t plans m s f × (descent_size (form_of d) f ≤ 2 ^ 126)
 
--- the quantity is the first that is above its limit
+-- The quantity is the first that is above its limit. `prediction` is that of the corners, or of the condensed form.
 abbrev pub IsTooWide : Design → Targets → Plans → Quantity → Type 0
-IsTooWide d t plans Prediction = IsFirstWideCorner d plans Prediction
+IsTooWide d t plans Prediction =
+    IsFirstWideCorner d plans Prediction ⊎ ((m : Margin) × HasMultiplier d t plans m × IsWide (prediction_quantity d))
 IsTooWide d t plans CornerSlack = IsFirstWideCorner d plans CornerSlack
 IsTooWide d t plans CornerCost = IsFirstWideCorner d plans CornerCost
 IsTooWide d t plans Multiplier = (m : Margin) × PassesMargin d t plans m × IsWide (multiplier_size_of m)
-IsTooWide d t plans Hessian = (m : Margin) × HasMultiplier d t plans m × IsWide (hessian_size d)
-IsTooWide d t plans Rows = (m : Margin) × HasHessian d t plans m × IsWide (rows_size d)
-IsTooWide d t plans curvature_quantity = (m : Margin) × HasRows d t plans m × IsWide (curvature_size d)
+IsTooWide d t plans Hessian = (m : Margin) × HasPrediction d t plans m × IsWide (hessian_quantity d)
+IsTooWide d t plans Rows = (m : Margin) × HasHessian d t plans m × IsWide (rows_quantity d)
+IsTooWide d t plans curvature_named = (m : Margin) × HasRows d t plans m × IsWide (curvature_quantity d)
 IsTooWide d t plans Error = (m : Margin) × (s : ℕ) × PassesSteps d t plans m s × IsWide (error_size d (form_of d) (multiplier_of m))
 IsTooWide d t plans Descent = (m : Margin) × (s : ℕ) × (f : ℕ) × PassesBits d t plans m s f × IsWide (descent_size (form_of d) f)
 IsTooWide d t plans Width = (m : Margin) × (s : ℕ) × (f : ℕ) × HasDescent d t plans m s f × IsWide (width_at d t m s f)
@@ -104,7 +107,7 @@ AreTooMany steps k = (2 ^ 22 < steps) × (k ≡ pos steps)
 abbrev pub AreTooFine : (errors limit : ℕ) → ℤ → Type 0
 AreTooFine errors limit eps = (limit < errors) × (eps ≡ pos errors)
 
--- Why this refusal is the answer. Want of memory has no cause in the design and the policy.
+-- Why this refusal is the answer. Out of memory has no cause in the design and the policy.
 abbrev pub HasCause : Design → Targets → Plans → Refusal → Type 0
 HasCause d t plans Memory = ⊥
 HasCause d t plans (NoMargin corner row slack) = HasCornerRoom d plans × IsFirstShort d plans corner row slack
@@ -116,6 +119,6 @@ HasCause d t plans (TooFine eps) =
     × AreTooFine (stated_cost d (multiplier_of m) 48) (error_limit t (multiplier_of m)) eps
 HasCause d t plans (TooWide quantity) = IsTooWide d t plans quantity
 
--- want of memory, or with its cause
+-- out of memory, or with its cause
 abbrev pub IsRefused : Design → Targets → Plans → Refusal → Type 0
 IsRefused d t plans e = (e ≡ Memory) ⊎ HasCause d t plans e

@@ -1,7 +1,7 @@
 // A controller, from a condensed form, the chosen numbers and the gains.
 ghost use Rattle.std.specs.Prelude.{ℕ, ◌≡◌, ◌≤◌, ◌<◌, ◌*◌, ◌+◌, ◌^◌, ◌≤ℤ◌, pos, unsigned_abs, IfOk, IfErr, OnOk};
 ghost use Rattle.std.specs.Option.{SomeIff};
-ghost use Rattle.qp_model.specs.Form.{form_of};
+ghost use Rattle.qp_model.specs.Class.{form_of};
 ghost use Rattle.qp_model.specs.Design as model;
 ghost use Rattle.qp_model.specs.Parts.{IsDesign, design_of};
 ghost use Rattle.qp_model.specs.Range.{LiesIn};

@@ -1,6 +1,6 @@
 // From a design and a policy to a controller and its bounds.
 ghost use Rattle.std.specs.Prelude.{◌≡◌, ◌⊎◌, ◌≤◌, ◌≤ℤ◌, ◌^◌, ℕ, pos, unsigned_abs, IfOk, IfErr, IsOk, OnOk, Err};
-ghost use Rattle.qp_model.specs.Form.{form_of};
+ghost use Rattle.qp_model.specs.Class.{form_of};
 ghost use Rattle.qp_model.specs.Parts.{IsDesign, design_of};
 ghost use Rattle.qp_model.specs.Policy.{Plans, plans_of, IsPolicyFor};
 ghost use Rattle.qp_model.specs.Curvature.{IsExponent};
@@ -20,10 +20,11 @@ use crate::assemble::controller_of;
 use crate::refusal::Refusal;
 use approx_inverse::solve_all;
 use bit_choice::{Choice, choose_bits};
+use class_choice::condense;
 use dual_bounds::{multiplier, steps, undercut, violation};
 use hessian_check::curvature;
 use overflow_check::Controller;
-use plant_condense::{Condensed, condense};
+use plant_condense::Condensed;
 use qp_model::{Bounds, Design, DesignParts, Margin, Policy};
 use slater_margin::margins;
 use std::alloc::Global;
@@ -194,8 +195,8 @@ fn finished(alloc: Global, design: &Design, scaled: &Scaled, plan: &Chosen) -> R
 ///
 /// # Errors
 /// The first test that they fail, in this order: `TooWide` with `prediction`, `corner_slack` or `corner_cost`; `NoMargin`; `TooWide` with
-/// `multiplier`, `hessian`, `rows` or `curvature`; `Curvature`; `TooManySteps`; `TooWide` with `error`; `TooFine`; `TooWide` with `descent`
-/// or `width`. `Memory` where memory runs out before.
+/// `multiplier`, or with `prediction`, `hessian`, `rows` or `curvature` of the condensed form; `Curvature`; `TooManySteps`; `TooWide` with
+/// `error`; `TooFine`; `TooWide` with `descent` or `width`. `Memory` where memory runs out before.
 pub fn generate(alloc: Global, design: &Design, policy: &Policy) -> Result<Made, Refusal>
     requires { IsPolicyFor (design_of design.now) (plans_of policy.now) }
 
@@ -204,7 +205,7 @@ pub fn generate(alloc: Global, design: &Design, policy: &Policy) -> Result<Made,
     ensures certified { IfOk result (λ made. IsCertified (design_of design.now) made.controller (printed made.bounds)) }
     ensures targets { IfOk result (λ made. IsWithinTargets (targets_of design.now) (printed made.bounds)) }
 
-    // The cause of a refusal; and the other way round, with nothing but want of memory in between.
+    // The cause of a refusal; and the other way round, with nothing but out of memory in between.
     ensures refused { IfErr result (λ e. (e ≡ Refusal.Memory) ⊎ HasCause (design_of design.now) (targets_of design.now) (plans_of policy.now) e) }
     ensures every_refusal { (e : Refusal) → HasCause (design_of design.now) (targets_of design.now) (plans_of policy.now) e
         → (result ≡ Err e) ⊎ (result ≡ Err Refusal.Memory) }

@@ -1,77 +1,107 @@
 // Expected values are those of bench/assemble/expected.py.
+ghost use Rattle.std.specs.Prelude.{◌≤◌, ◌^◌, pos, ◌≤ℤ◌, IfOk};
+ghost use Rattle.qp_model.specs.Range.{LiesIn};
+
 use super::*;
 use approx_inverse::solve_all;
+use class_choice::condense;
+use design_files::read_design;
 use mat_int::Mat;
 use overflow_check::Controller;
-use plant_condense::condense;
-use qp_model::{ControllerParts, Design, DesignParts, Quantity};
+use qp_model::{ControllerParts, Design, Quantity};
 use std::alloc::{AllocError, Global};
-use std::process::Abort;
 use std::test::Fail;
 
-fn rows(rt: &impl Abort, alloc: Global, cols: usize, rows: &[&[i128]]) -> Result<Mat, AllocError> {
-    match Mat::from_rows(alloc, cols, rows)? {
-        Some(mat) => Ok(mat),
-        None => panic!(rt; "rows of several lengths"),
-    }
-}
-
 // A design of one plan entry and three limit rows.
-fn parts(rt: &impl Abort, alloc: Global) -> Result<DesignParts, AllocError> {
-    Ok(DesignParts {
-        states: 1,
-        inputs: 1,
-        stages: 1,
-        plant_den: 2,
-        a: rows(rt, alloc, 1, &[&[3]])?,
-        b: rows(rt, alloc, 1, &[&[1]])?,
-        cost_den: 1,
-        row_den: 1,
-        input_weights: vec![in alloc; 3; 1]?,
-        stage_cost: rows(rt, alloc, 3, &[&[1, 1, 5]])?,
-        final_cost: rows(rt, alloc, 3, &[&[2, -1, 2]])?,
-        limit_den: 3,
-        stage_rows: rows(rt, alloc, 3, &[&[1, 1, 7], &[0, -2, 5]])?,
-        final_rows: rows(rt, alloc, 2, &[&[1, 5]])?,
-        grid: 2,
-        lo: vec![in alloc; -4; 1]?,
-        hi: vec![in alloc; 6; 1]?,
-        target_den: 1,
-        violation: 1,
-        gap: 1,
-    })
+const DESIGN: &str = "version = 1
+states = 1
+inputs = 1
+stages = 1
+[plant]
+den = 2
+a = [[3]]
+b = [[1]]
+[cost]
+den = 1
+row_den = 1
+input = [3]
+stage = [[1, 1, 5]]
+final = [[2, -1, 2]]
+[limits]
+den = 3
+stage = [[1, 1, 7], [0, -2, 5]]
+final = [[1, 5]]
+[box]
+grid = 2
+lo = [-4]
+hi = [6]
+[targets]
+den = 1
+violation = 1
+gap = 1
+";
+
+// The design, where a controller of it may have so many fraction bits.
+fn design_at(alloc: Global, f: u32) -> Result<Design, Fail>
+    ensures { IfOk result (λ design. LiesIn design.grid 48 f) }
+{
+    let design = read_design(alloc, DESIGN.as_bytes())?;
+    if f < design.parts().grid || 48 < f {
+        return Err("bits".into());
+    }
+    Ok(design)
 }
 
-// The controller, or None where it is too wide.
-fn made(
-    rt: &impl Abort,
+// The controller of a design, or why there is none.
+fn controller(
     alloc: Global,
+    design: &Design,
     s: u32,
     f: u32,
     steps: u32,
     r: i128,
-) -> Result<Option<Controller>, AllocError> {
-    let Ok(design) = Design::from_parts(parts(rt, alloc)?) else {
-        panic!(rt; "no design");
-    };
-    let Ok(condensed) = condense(alloc, &design) else {
-        panic!(rt; "not condensed");
-    };
-    assert!(rt; design.parts().grid <= f && f <= 48 && s <= 40);
-    assert!(rt; 1 <= steps && steps <= 4194304);
-    assert!(rt; 1 <= r);
-    assert!(rt; r <= 1 << 44);
-    let Ok(gains) = solve_all(alloc, &condensed, f) else {
-        panic!(rt; "not solved");
-    };
-    match controller_of(alloc, &design, &condensed, s, f, steps, r, gains) {
-        Ok(controller) => Ok(Some(controller)),
-        Err(WidthFault::TooWide { quantity }) => {
-            assert!(rt; quantity == Quantity::Width);
-            Ok(None)
-        }
-        Err(WidthFault::Memory) => Err(AllocError),
+) -> Result<Result<Controller, WidthFault>, Fail>
+    requires bits { LiesIn design.now.grid 48 f }
+    requires exponent { s ≤ 40 }
+    requires steps { LiesIn 1 (2 ^ 22) steps }
+    requires low { pos 1 ≤ℤ r }
+    requires high { r ≤ℤ pos (2 ^ 44) }
+{
+    let condensed = condense(alloc, design)?;
+    let gains = solve_all(alloc, &condensed, f)?;
+    Ok(controller_of(alloc, design, &condensed, s, f, steps, r, gains))
+}
+
+// Its numbers.
+fn made(alloc: Global, s: u32, f: u32, steps: u32, r: i128) -> Result<Vec<i128>, Fail>
+    requires exponent { s ≤ 40 }
+    requires steps { LiesIn 1 (2 ^ 22) steps }
+    requires low { pos 1 ≤ℤ r }
+    requires high { r ≤ℤ pos (2 ^ 44) }
+{
+    let design = design_at(alloc, f)?;
+    numbers_of(alloc, controller(alloc, &design, s, f, steps, r)?)
+}
+
+// Whether there is none, since its sums could be too wide.
+fn is_too_wide(alloc: Global, s: u32, f: u32, steps: u32, r: i128) -> Result<bool, Fail>
+    requires exponent { s ≤ 40 }
+    requires steps { LiesIn 1 (2 ^ 22) steps }
+    requires low { pos 1 ≤ℤ r }
+    requires high { r ≤ℤ pos (2 ^ 44) }
+{
+    let design = design_at(alloc, f)?;
+    match controller(alloc, &design, s, f, steps, r)? {
+        Err(WidthFault::TooWide { quantity }) => Ok(quantity == Quantity::Width),
+        Err(WidthFault::Memory) => Err(AllocError.into()),
+        Ok(_) => Ok(false),
     }
+}
+
+// The numbers of a controller that there is.
+fn numbers_of(alloc: Global, made: Result<Controller, WidthFault>) -> Result<Vec<i128>, Fail> {
+    let controller = made?;
+    Ok(numbers(alloc, controller.parts())?)
 }
 
 // The gains, the rows, the clamp, the words and the width, one after the other.
@@ -97,28 +127,36 @@ fn extend(out: &mut Vec<i128>, mat: &Mat) -> Result<(), AllocError> {
     Ok(())
 }
 
+// At few bits.
 #[test]
-fn controllers(rt: HostRuntime) -> Result<(), Fail> {
-    let alloc = rt.alloc();
-    let cases: [(u32, u32, u32, i128, Option<&[i128]>); 5] = [
-        (3, 2, 1, 1, Some(&COARSE)),
-        (4, 10, 100, 9, Some(&MIDDLE)),
-        (10, 24, 7, 1 << 44, Some(&FINE)),
-        (40, 48, 5, 1, None),
-        (40, 48, 5, 1 << 44, None),
-    ];
-    for (s, f, steps, r, expected) in cases {
-        let found = made(&rt, alloc, s, f, steps, r)?;
-        let Some(controller) = found else {
-            assert!(rt; expected.is_none());
-            continue;
-        };
-        let Some(expected) = expected else {
-            assert!(rt; false, "not too wide");
-            continue;
-        };
-        assert_eq!(rt; numbers(alloc, controller.parts())?.as_slice(), expected);
-    }
+fn coarse(rt: HostRuntime) -> Result<(), Fail> {
+    assert!(rt; made(rt.alloc(), 3, 2, 1, 1)?.as_slice() == COARSE.as_slice());
+    Ok(())
+}
+
+#[test]
+fn middle(rt: HostRuntime) -> Result<(), Fail> {
+    assert!(rt; made(rt.alloc(), 4, 10, 100, 9)?.as_slice() == MIDDLE.as_slice());
+    Ok(())
+}
+
+// With the greatest multipliers.
+#[test]
+fn fine(rt: HostRuntime) -> Result<(), Fail> {
+    assert!(rt; made(rt.alloc(), 10, 24, 7, 1 << 44)?.as_slice() == FINE.as_slice());
+    Ok(())
+}
+
+// The clamp is within its limit, and a sum is not; and the clamp is above it.
+#[test]
+fn too_wide(rt: HostRuntime) -> Result<(), Fail> {
+    assert!(rt; is_too_wide(rt.alloc(), 40, 48, 5, 1)?);
+    Ok(())
+}
+
+#[test]
+fn too_wide_clamp(rt: HostRuntime) -> Result<(), Fail> {
+    assert!(rt; is_too_wide(rt.alloc(), 40, 48, 5, 1 << 44)?);
     Ok(())
 }
 

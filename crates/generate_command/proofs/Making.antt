@@ -101,7 +101,7 @@ pub making_no_write : (p : DesignParts) (plans : Plans) (s : Status) (file : ℕ
 making_no_write p plans s file (inl why) is = refusal_no_write why.refusal file (sym why.is ∙ is)
 making_no_write p plans s file (inr done) is = let e = done.0 in cc
 
--- nor is want of memory
+-- nor is out of memory
 pub refused_no_read : (p : DesignParts) (plans : Plans) (s : Status) → (s ≡ Memory) ⊎ IsAnswer (MakingCalls p plans) s → (file : ℕ) → s ≡ ReadFault file → ⊥
 refused_no_read p plans s (inl memory) file is = cc
 refused_no_read p plans s (inr answer) file is = making_no_read p plans s file answer.called is

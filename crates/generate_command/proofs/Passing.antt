@@ -1,14 +1,13 @@
 -- A design with a policy that is refused for no reason passes every test.
 use Rattle.std.proofs.Common.{inl, inr, ℕ, ◌^◌, ◌<◌, ◌≤◌, subst, unsigned_abs}
 use Rattle.std.proofs.lemmas.Bool.{cases_lt}
-use Rattle.qp_model.specs.Form.{form_of}
+use Rattle.qp_model.specs.Class.{form_of, prediction_quantity, hessian_quantity, rows_quantity, curvature_quantity}
 use Rattle.qp_model.specs.Design.{Design}
 use Rattle.qp_model.specs.Parts.{design_of}
 use Rattle.qp_model.specs.Policy.{Plans}
 use Rattle.qp_model.specs.Choices.{multiplier_size, step_count, multiplier_of}
-use Rattle.qp_model.specs.Quantities.{prediction_size, hessian_size, rows_size}
+use Rattle.qp_model.specs.Quantities.{prediction_size}
 use Rattle.qp_model.specs.CornerSizes.{corner_slack_size, corner_cost_size}
-use Rattle.qp_model.specs.CurvatureSize.{curvature_size}
 use Rattle.qp_model.specs.Columns.{descent_size}
 use Rattle.qp_model.specs.Errors.{error_size}
 use Rattle.qp_model.specs.Controller.{Numbers}
@@ -34,7 +33,7 @@ within limit size never = elim (cases_lt limit size) [ inl lt ↦ absurd (never 
 margin : (p : DesignParts) (plans : Plans) (c : Numbers) (b : Printed) → NoCause (design_of p) (targets_of p) plans → IsBuilt p plans c b → PassesMargin (design_of p) (targets_of p) plans (margin_of b)
 margin p plans c b none built =
     let d = design_of p in
-    let prediction = within (2 ^ 126) (prediction_size d) (λ lt. none (TooWide quantity.Prediction) lt) in
+    let prediction = within (2 ^ 126) (prediction_size d) (λ lt. none (TooWide quantity.Prediction) (inl lt)) in
     let slack = within (2 ^ 126) (corner_slack_size d plans) (λ lt. none (TooWide quantity.CornerSlack) (prediction, lt)) in
     let cost = within (2 ^ 126) (corner_cost_size d plans) (λ lt. none (TooWide quantity.CornerCost) (prediction, (slack, lt))) in
     record { room = record { prediction = prediction; slack = slack; cost = cost }; margin = built.margin; slack = built.slack }
@@ -42,10 +41,11 @@ margin p plans c b none built =
 sizes : (d : Design) (t : Targets) (plans : Plans) (m : Margin) → NoCause d t plans → PassesMargin d t plans m → PassesSizes d t plans m
 sizes d t plans m none before =
     let multiplier = within (2 ^ 126) (multiplier_size (unsigned_abs m.units) (unsigned_abs m.cost)) (λ lt. none (TooWide quantity.Multiplier) (m, before, lt)) in
-    let hessian = within (2 ^ 126) (hessian_size d) (λ lt. none (TooWide quantity.Hessian) (m, (before, multiplier), lt)) in
-    let rows = within (2 ^ 126) (rows_size d) (λ lt. none (TooWide quantity.Rows) (m, ((before, multiplier), hessian), lt)) in
-    let curvature = within (2 ^ 126) (curvature_size d) (λ lt. none (TooWide quantity.Curvature) (m, (((before, multiplier), hessian), rows), lt)) in
-    record { before = before; multiplier = multiplier; hessian = hessian; rows = rows; curvature = curvature }
+    let prediction = within (2 ^ 126) (prediction_quantity d) (λ lt. none (TooWide quantity.Prediction) (inr (m, (before, multiplier), lt))) in
+    let hessian = within (2 ^ 126) (hessian_quantity d) (λ lt. none (TooWide quantity.Hessian) (m, ((before, multiplier), prediction), lt)) in
+    let rows = within (2 ^ 126) (rows_quantity d) (λ lt. none (TooWide quantity.Rows) (m, (((before, multiplier), prediction), hessian), lt)) in
+    let curvature = within (2 ^ 126) (curvature_quantity d) (λ lt. none (TooWide quantity.Curvature) (m, ((((before, multiplier), prediction), hessian), rows), lt)) in
+    record { before = before; multiplier = multiplier; prediction = prediction; hessian = hessian; rows = rows; curvature = curvature }
 
 all : (d : Design) (t : Targets) (plans : Plans) (m : Margin) (s f : ℕ) → NoCause d t plans → PassesBits d t plans m s f → PassesAll d t plans m s f
 all d t plans m s f none before =

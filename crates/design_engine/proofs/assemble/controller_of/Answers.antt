@@ -53,7 +53,7 @@ with_width-requires-clause-sized c =
     let fr = (rw (to_z-of_z w128 _ fits, c.parts.ensures.value) at c.in_ok-parts.ensures.frame) (unsigned_abs c.args.r) clamp.1 in
     sized p (unsigned_abs c.args.r) c.args.s c.args.steps c.args.f (numbers c.with_gains.result) c.args.gains c.requires.form.design
     (c.with_gains.ensures.frame (design_of p) (unsigned_abs c.args.r) c.args.s c.args.steps c.args.f fr) c.with_gains.ensures.gains
-    c.requires.gains.sizes c.requires.bits c.requires.exponent c.requires.steps clamp.0
+    (within_from (design_of p) c.args.f c.args.gains c.requires.gains).sizes c.requires.bits c.requires.exponent c.requires.steps clamp.0
 
 pub with_width-requires-clause-room : goal.with_width-requires-clause-room
 with_width-requires-clause-room c =

@@ -6,6 +6,8 @@ use Rattle.qp_model.specs.Errors.{ErrorSums, epsilon}
 use Rattle.step_error.specs.ErrorSums.{sums_of}
 use Rattle.qp_model.specs.declared.design_parts.DesignParts.{DesignParts}
 use Rattle.design_engine.proofs.RefusalFacts.{refused_by, steps_refused, sums_refused, choice_refused, choice_same}
+use Rattle.qp_model.specs.Parts.{design_of}
+use Rattle.design_engine.proofs.Classes.{sums_back}
 use Rattle.design_engine.proofs.GenerationFacts.{half_some, limit_some, bound_some, whole_is, whole_some}
 use Rattle.design_engine.proofs.generation.plan_of.Goals as goal
 
@@ -51,7 +53,7 @@ returns-in_err-choice-clause-refused c plans passes =
     refused_by c.from_residual-in_err-choice.result _ _ c.from_residual-in_err-choice.ensures.1
     (choice_refused _ _ plans c.args.scaled.now.margin c.args.scaled.now.s _ _ (sums_of c.in_ok-sums.sums) _
     (record { before = passes; exponent = c.requires.exponent; steps = count.0 }) bound limit c.in_ok-sums.ensures.value.0
-    (ap sums_of c.in_ok-sums.ensures.value.1) (c.in_err-choice.ensures.fine.0 refl) c.in_err-choice.ensures.told)
+    (sums_back (design_of c.args.design.now) c.in_ok-sums.sums _ c.in_ok-sums.ensures.value.1) (c.in_err-choice.ensures.fine.0 refl) c.in_err-choice.ensures.told)
 
 pub returns-clause-passes : goal.returns-clause-passes
 returns-clause-passes c plans passes =
@@ -64,7 +66,7 @@ returns-clause-passes c plans passes =
     record {
       before = record { before = passes; exponent = c.requires.exponent; steps = count.0 };
       error = rw bound at c.in_ok-sums.ensures.value.0;
-      choice = choice_same _ _ _ _ _ _ c.in_ok-choice.choice.f (rw bound at (ap sums_of c.in_ok-sums.ensures.value.1))
+      choice = choice_same _ _ _ _ _ _ c.in_ok-choice.choice.f (rw bound at (sums_back (design_of c.args.design.now) c.in_ok-sums.sums _ c.in_ok-sums.ensures.value.1))
           (ap (λ (p : DesignParts). p.grid) c.parts-parts.ensures.value) limit c.in_ok-choice.ensures.choice;
     }
 
@@ -80,4 +82,4 @@ pub returns-clause-cost : goal.returns-clause-cost
 returns-clause-cost c =
     let r : SFits w128 c.args.scaled.now.r = search rules in
     c.in_ok-choice.ensures.cost ∙ ap (λ (sums : ErrorSums). pos (epsilon sums c.in_ok-choice.choice.f))
-    (rw (whole_is c.args.scaled.now.r _ r c.requires.multiplier) at (ap sums_of c.in_ok-sums.ensures.value.1))
+    (rw (whole_is c.args.scaled.now.r _ r c.requires.multiplier) at (sums_back (design_of c.args.design.now) c.in_ok-sums.sums _ c.in_ok-sums.ensures.value.1))

@@ -2,7 +2,8 @@ use Rattle.std.proofs.Common.{rules, ◌≡◌, ◌≤◌, ◌^◌, ℕ, pos, un
 use Rattle.std.specs.Int.{w128}
 use Rattle.std.proofs.lemmas.Int.{ints, to_z-of_z}
 use mir.Val.{SFits}
-use Rattle.design_engine.proofs.RefusalFacts.{refused_by, margin_refused, condense_refused, curvature_refused, within_limit}
+use Rattle.design_engine.proofs.RefusalFacts.{refused_by, margin_refused, condense_refused, curvature_refused, within_limit, condensed_within}
+use Rattle.qp_model.specs.declared.quantity.Quantity.TheVariants.{Prediction}
 use Rattle.design_engine.proofs.generation.scaled_of.Goals as goal
 
 pub returns-in_err-margin-clause-refused : goal.returns-in_err-margin-clause-refused
@@ -23,7 +24,7 @@ returns-in_err-exponents-clause-refused c =
     refused_by c.from_residual-in_err-exponents.result _ _ c.from_residual-in_err-exponents.ensures.1
     (curvature_refused _ _ _ c.in_ok-margin.margin
     (record { room = c.in_ok-margin.ensures.room; margin = c.in_ok-margin.ensures.margin; slack = c.in_ok-margin.ensures.slack })
-    c.in_ok-r.ensures.value.0 form.sizes.cost_room form.sizes.limit_room _ (c.in_err-exponents.ensures.refused _ form))
+    c.in_ok-r.ensures.value.0 (condensed_within _ Prediction _ (c.in_ok-condensed.ensures.every_refusal Prediction)) form.sizes.cost_room form.sizes.limit_room _ (c.in_err-exponents.ensures.refused _ form))
 
 pub returns-clause-passes : goal.returns-clause-passes
 returns-clause-passes c =
@@ -31,6 +32,7 @@ returns-clause-passes c =
     record {
       before = record { room = c.in_ok-margin.ensures.room; margin = c.in_ok-margin.ensures.margin; slack = c.in_ok-margin.ensures.slack };
       multiplier = c.in_ok-r.ensures.value.0;
+      prediction = condensed_within _ Prediction _ (c.in_ok-condensed.ensures.every_refusal Prediction);
       hessian = form.sizes.cost_room;
       rows = form.sizes.limit_room;
       curvature = within_limit _ _ _ (c.in_ok-exponents.ensures.wide _ form);
