@@ -115,11 +115,11 @@ module _ {X : Type 0} (file : ℕ) (Wrong : List ℕ → Status → Type 0) (Rig
 abbrev pub WrongBy : {F : Type 0} (Fault : List ℕ → F → Type 0) (Says : F → Status → Type 0) → List ℕ → Status → Type 0
 WrongBy {F} Fault Says bytes s = (fault : F) × Fault bytes fault × Says fault s
 
--- the status that a reader made of a fault: want of memory, or what says the fault
+-- the status that a reader made of a fault: out of memory, or what says the fault
 abbrev pub Told : {F : Type 0} (none : F) (tell : F → Status) (fault : F) → Status → Type 0
 Told none tell fault s = ((s ≡ Memory) × (fault ≡ none)) ⊎ ((s ≡ tell fault) × (fault ≢ none))
 
--- what says a fault, where that isn't want of memory, is one status
+-- what says a fault, where that isn't out of memory, is one status
 pub record IsSaidBy {F : Type 0} (none : F) (tell : F → Status) (Says : F → Status → Type 0) : Type 0 where
   pub says : (fault : F) → fault ≢ none → Says fault (tell fault)
   pub said : (fault : F) (s : Status) → Says fault s → s ≡ tell fault

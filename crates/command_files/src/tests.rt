@@ -6,12 +6,7 @@ use io_edge::MemStore;
 use qp_model::TextFault;
 use std::alloc::{AllocError, Global};
 use std::test::Fail;
-
-const DESIGN: &str =
-    "version = 1\nstates = 1\ninputs = 1\nstages = 1\n[plant]\nden = 1\na = [[1]]\nb = [[1]]\n[cost]\nden = 1\nrow_den = 1\ninput = [1]\nstage = [[1, 0, 1]]\nfinal = []\n[limits]\nden = 4\nstage = [[0, 4, 4], [0, -4, 4]]\nfinal = [[4, 1]]\n[box]\ngrid = 0\nlo = [0]\nhi = [1]\n[targets]\nden = 1\nviolation = 16\ngap = 1\n";
-
-const CONTROLLER: &str =
-    "mpc-controller 1\nsize 1 1 1 3\nbits 10 0 1 26\nsteps 4\nclamp 32768\nwords 6\nlo 0\nhi 1\nP 512\nT 0\nW 256 -256 256\nG 1024\nG -1024\nG 1024\nE 0\nE 0\nE 1024\nb 1024 1024 256\nend\n";
+use worked_designs::{CONTROLLER, DESIGN};
 
 // A store in which `f` holds these bytes.
 fn store_of(alloc: Global, bytes: &[u8]) -> Result<MemStore, AllocError> {

@@ -6,8 +6,6 @@ mod corner;
 mod fault;
 mod lists;
 mod margin;
-#[cfg(test)]
-mod tests;
 
 pub use fault::MarginFault;
 pub use margin::margins;

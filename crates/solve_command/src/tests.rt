@@ -4,10 +4,7 @@ use command_line::{Command, Status, command_of};
 use io_edge::{MemSink, MemStore, Words};
 use std::alloc::Global;
 use std::test::Fail;
-
-// One input at one stage of one state, with three rows and four steps.
-const CONTROLLER: &str =
-    "mpc-controller 1\nsize 1 1 1 3\nbits 10 0 1 26\nsteps 4\nclamp 32768\nwords 6\nlo 0\nhi 1\nP 512\nT 0\nW 256 -256 256\nG 1024\nG -1024\nG 1024\nE 0\nE 0\nE 1024\nb 1024 1024 256\nend\n";
+use worked_designs::CONTROLLER;
 
 // Whether a run from these states is done and prints these lines.
 fn prints(alloc: Global, states: &str, lines: &str) -> Result<bool, Fail> {

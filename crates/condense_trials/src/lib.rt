@@ -1,0 +1,11 @@
+//! Trials of the corners and of the condensed forms, exact and in enclosures, on worked designs.
+#![tactic(auto)]
+
+#[cfg(test)]
+mod classes;
+#[cfg(test)]
+mod corners;
+#[cfg(test)]
+mod exact;
+#[cfg(test)]
+mod fine;

@@ -1,0 +1,9 @@
+//! Trials of the gains, of the rounding errors and of the choice of the bits, on worked designs.
+#![tactic(auto)]
+
+#[cfg(test)]
+mod bits;
+#[cfg(test)]
+mod errors;
+#[cfg(test)]
+mod gains;
