@@ -50,6 +50,8 @@ fn main(rt: HostRuntime) -> ExitCode {
 #[cfg(test)]
 mod tests;
 #[cfg(test)]
+mod tests_fine;
+#[cfg(test)]
 mod tests_generate;
 #[cfg(test)]
 mod tests_runs;

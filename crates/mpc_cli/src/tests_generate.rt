@@ -64,8 +64,13 @@ fn is_refused(alloc: Global, case: &Refused) -> Result<bool, Fail> {
     generates(alloc, design.as_str(), case.policy, case.line, "", "")
 }
 
-// Whether the text under a name has these lines.
-fn has_lines(alloc: Global, store: &mut MemStore, name: &str, lines: &str) -> Result<bool, Fail> {
+/// Whether the text under a name has these lines.
+pub fn has_lines(
+    alloc: Global,
+    store: &mut MemStore,
+    name: &str,
+    lines: &str,
+) -> Result<bool, Fail> {
     let bytes = held(alloc, store, name)?;
     let text = str::from_utf8(&bytes).map_err(|_| "bytes")?;
     Ok(text.contains(lines))
