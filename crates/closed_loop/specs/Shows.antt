@@ -18,7 +18,7 @@ TurnShows c entry turn xi old new before now (OutsideBox at coordinate) = (at �
 TurnShows c entry turn xi old new before now WriteFault =
     IsAdmissible c xi × IfSome old (λ o. IsSomeAnd new (λ n. GrowsByPart o n (loop_line c entry turn xi))) × Rose before now
 
--- of a loop: after want of memory the lines of some first turns were put, at a state outside the box those of all turns before it, and
+-- of a loop: after out of memory the lines of some first turns were printed, at a state outside the box those of all turns before it, and
 -- after a fault of the sink a prefix of the lines
 abbrev pub LoopShows : Design → Numbers → ℕ → List ℤ → ℕ → (old new : Option (List ℕ)) → (before now : ℕ) → LoopFault → Type 0
 LoopShows d c entry start turns old new before now Memory = IfSome old (λ o. IsSomeAnd new (GrowsByTurns d c entry start turns o))

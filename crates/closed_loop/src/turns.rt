@@ -117,7 +117,7 @@ pub fn run_loop<O: Sink>(
     ensures cut { result ≡ Err LoopFault.WriteFault → IfSome (O.got out.old) (λ old.
         IsSomeAnd (O.got out.new) (GrowsByPrefix (design_of design.now) k.old.controller entry start.now turns old)) }
     ensures no_fewer { O.faults out.old ≤ O.faults out.new }
-    // Want of memory.
+    // Out of memory.
     ensures memory { result ≡ Err LoopFault.Memory → IfSome (O.got out.old) (λ old.
         IsSomeAnd (O.got out.new) (GrowsByTurns (design_of design.now) k.old.controller entry start.now turns old)) }
     ensures controller { k.new.controller ≡ k.old.controller }

@@ -23,7 +23,7 @@ pub fn read_controller(alloc: Global, bytes: &[u8]) -> Result<Controller, BadCon
     ensures bad_line { (l : ℕ) → result ≡ Err (BadController.Line l) → IsBadLine bytes.now l }
     ensures wide { result ≡ Err BadController.Unsafe → IsUnsafe bytes.now }
 
-    // The other way round, with nothing but want of memory in between.
+    // The other way round, with nothing but out of memory in between.
     ensures right { (c : Numbers) → IsControllerText bytes.now c → MatchResult result (λ o. o ≡ c) (λ e. e ≡ BadController.Memory) }
     ensures bad_first { (l : ℕ) → IsBadLine bytes.now l → (result ≡ Err (BadController.Line l)) ⊎ (result ≡ Err BadController.Memory) }
     ensures bad_sums { IsUnsafe bytes.now → (result ≡ Err BadController.Unsafe) ⊎ (result ≡ Err BadController.Memory) }

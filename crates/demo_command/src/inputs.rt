@@ -30,7 +30,7 @@ pub struct Inputs {
     pub states: Mat,
 }
 
-/// The design, the policy and the states that the texts made from a number are of; the states lie in the design's box. An error is want of memory.
+/// The design, the policy and the states that the texts made from a number are of; the states lie in the design's box. An error is out of memory.
 pub fn inputs_of(alloc: Global, number: u32) -> Result<Inputs, AllocError>
     ensures made { IfOk result (λ i. AreMadeFrom number i.design (plans_of i.policy)) }
     ensures one { IfOk result (λ i. (p : DesignParts) (plans : Plans) → AreMadeFrom number p plans

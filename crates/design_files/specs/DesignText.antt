@@ -52,7 +52,7 @@ rules_of document = key_rules document ++ place_rules (values_of document)
 abbrev pub IsDesignFault : List ℕ → TextFault → Type 0
 IsDesignFault bytes fault = MatchOption (document_of bytes) (fault ≡ NotToml) (λ document. IsFirstBroken (rules_of document) fault)
 
--- ---- what a reader answers: a value of which P holds, where the rules do, and else want of memory, or the fault of the first that is broken
+-- ---- what a reader answers: a value of which P holds, where the rules do, and else out of memory, or the fault of the first that is broken
 abbrev pub FailsRule : TextFault → List Rule → Type 0
 FailsRule fault rules = (fault ≡ Memory) ⊎ IsFirstBroken rules fault
 

@@ -26,7 +26,7 @@ pub fn read_states(alloc: Global, bytes: &[u8], n: usize) -> Result<Mat, TextFau
     ensures count { IfOk result (λ m. length m.rows < 2 ^ 32) }
     ensures fault { IfErr result (λ e. (e ≡ Memory) ⊎ IsStatesFault bytes.now n e) }
 
-    // The other way round, with nothing but want of memory in between.
+    // The other way round, with nothing but out of memory in between.
     ensures right { (states : Matrix) → IsStatesText bytes.now n states → MatchResult result (λ m. m ≡ states) (λ e. e ≡ Memory) }
     ensures first { (told : TextFault) → IsStatesFault bytes.now n told → MatchResult result (λ _. ⊥) (λ e. (e ≡ told) ⊎ (e ≡ Memory)) }
 {
@@ -60,7 +60,7 @@ pub fn read_policy(alloc: Global, bytes: &[u8], design: &Design) -> Result<Polic
     ensures sized { IfOk result (λ p. IsPolicyFor (design_of design.now) (plans_of p)) }
     ensures fault { IfErr result (λ e. (e ≡ Memory) ⊎ IsPolicyFault bytes.now (design_of design.now) e) }
 
-    // The other way round, with nothing but want of memory in between.
+    // The other way round, with nothing but out of memory in between.
     ensures right { (plans : Plans) → IsPolicyText bytes.now (design_of design.now) plans → MatchResult result (λ p. plans_of p ≡ plans) (λ e. e ≡ Memory) }
     ensures first { (told : TextFault) → IsPolicyFault bytes.now (design_of design.now) told → MatchResult result (λ _. ⊥) (λ e. (e ≡ told) ⊎ (e ≡ Memory)) }
 {
