@@ -1,5 +1,5 @@
 #!/bin/sh
-# Times `condense` on the largest shape: 4 states, 3 inputs, 20 stages, 12 cost rows and 12 limit rows of each kind (60 plan entries,
+# Times `condense_exact` on the largest shape: 4 states, 3 inputs, 20 stages, 12 cost rows and 12 limit rows of each kind (60 plan entries,
 # 252 limit rows). Works on a copy of the repository, which it removes; prints the milliseconds of the least of five runs.
 set -e
 top=$(cd "$(dirname "$0")/../.." && pwd)
@@ -8,13 +8,14 @@ trap 'rm -rf "$copy"' EXIT
 cp -r "$top/crates" "$top/crates.txt" "$top/HANDLES" "$copy/"
 cd "$copy"
 rt new crates/condense_speed start_io > /dev/null
+rm -f crates/condense_speed/src/clock.rt crates/condense_speed/stdin crates/condense_speed/stdout
 echo "condense_speed: dual_method frac_scaled integer_algebra mat_int plant_condense qp_model thiserror anyhow" >> crates.txt
 cat > crates/condense_speed/src/main.rt <<'MAIN'
 #![tactic(auto)]
 
 use anyhow::Error;
 use mat_int::Mat;
-use plant_condense::condense;
+use plant_condense::condense_exact;
 use qp_model::{Design, DesignParts};
 use std::alloc::{AllocError, Global};
 use std::time::Instant;
@@ -80,7 +81,7 @@ fn main(rt: HostRuntime) -> Result<(), Error> {
     let mut least = u128::MAX;
     for _ in 0..5 {
         let start = Instant::now(&rt)?;
-        let form = condense(rt.alloc(), &design)?;
+        let form = condense_exact(rt.alloc(), &design)?;
         let spent = start.elapsed(&rt)?.as_micros();
         println!(rt; "{} plan entries, {} rows, {spent} us", form.hess.rows(), form.g.rows())?;
         least = least.min(spent);

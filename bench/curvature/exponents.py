@@ -1,5 +1,6 @@
 #!/usr/bin/env python3
-"""Exponents of the step, from the definitions alone, in whole numbers without a limit.
+"""Exponents of the step, from the definitions alone, in whole numbers without a limit: of the exact numbers, or of enclosures where a quantity of the
+exact ones is above 2^126.
 
     exponents.py            prints what the tests of `hessian_check` expect
     exponents.py DESIGN     prints the exponents of a design text
@@ -90,15 +91,92 @@ def certified(M):
     return check([[4 ** h * x for x in row] for row in M], R)
 
 
-def exponents(d):
-    """s and s1, and s2 and sd (None where there is none up to 40)."""
+def exact_parts(d):
+    """Half the hessian, the products of the rows' columns, the sum of the rows' squares, and what the rows are over but for limit_den."""
     Q, G, aN = condensed(d)
+    n = range(len(Q))
+    gram = [[sum(row[i] * row[j] for row in G) for j in n] for i in n]
+    return Q, gram, sum(x * x for row in G for x in row), aN
+
+
+def rounded(mid, rad, den):
+    """An enclosure over a divisor: the midpoint to the nearest, a tie upward, the radius up, and 1 more where the midpoint was rounded."""
+    return (2 * mid + den) // (2 * den), -(-rad // den) + (mid % den != 0)
+
+
+def weighed(terms, den):
+    """The sum of whole numbers times enclosures, over a divisor."""
+    return rounded(sum(c * x[0] for c, x in terms), sum(abs(c) * x[1] for c, x in terms), den)
+
+
+def product(x, y):
+    """Of two enclosures, over 2^80."""
+    return x[0] * y[0], abs(x[0]) * y[1] + x[1] * abs(y[0]) + x[1] * y[1]
+
+
+def fine_responses(d):
+    """What each cost row and each limit row has of each unit plan, as midpoints and radii over 2^40."""
+    n, p, N = d['states'], d['inputs'], d['stages']
+    whole = lambda z: (2 ** 40 * z, 0)
+    costs, limits = [], []
+    for j in range(p * N):
+        u = [[1 if k * p + l == j else 0 for l in range(p)] for k in range(N)]
+        x = [[whole(0)] * n]
+        for k in range(N):
+            x.append([weighed(list(zip(d['A'][i], x[k])) + list(zip(d['B'][i], map(whole, u[k]))), d['a_den']) for i in range(n)])
+        of_state = lambda row, k: weighed(list(zip(row[:n], x[k])), 1)
+        of_both = lambda row, k: (of_state(row, k)[0] + 2 ** 40 * sum(f * v for f, v in zip(row[n:-1], u[k])), of_state(row, k)[1])
+        costs.append([of_state(row, k) for k in range(1, N + 1) for row in d['stage_cost']] + [of_state(row, N) for row in d['final_cost']])
+        limits.append([of_both(row, k) for k in range(N) for row in d['stage_rows']] + [of_state(row, N) for row in d['final_rows']])
+    return costs, limits
+
+
+def fine_hessian(d):
+    """Half of it, midpoints and radii over weight_den * row_den^2 * 2^40."""
+    p, N = d['inputs'], d['stages']
+    costs, _ = fine_responses(d)
+    weights = [r[-1] for _ in range(N) for r in d['stage_cost']] + [r[-1] for r in d['final_cost']]
+    entry = lambda i, j: weighed([(w, product(x, y)) for w, x, y in zip(weights, costs[i], costs[j])], 2 ** 40)
+    half = [[entry(i, j) for j in range(p * N)] for i in range(p * N)]
+    for j in range(p * N):
+        half[j][j] = half[j][j][0] + d['input'][j % p] * d['row_den'] ** 2 * 2 ** 40, half[j][j][1]
+    return half
+
+
+def lowered(m, sign):
+    """The midpoints, with the radii of each row added to its diagonal entry, or taken from it."""
+    return [[x[0] + (sign * sum(y[1] for y in row) if i == j else 0) for j, x in enumerate(row)] for i, row in enumerate(m)]
+
+
+def fine_parts(d):
+    """As exact_parts, of enclosures: the radii are in the diagonals and the squares."""
+    _, limits = fine_responses(d)
+    n = range(len(limits))
+    gram = [[weighed([(1, product(x, y)) for x, y in zip(limits[i], limits[j])], 2 ** 40) for j in n] for i in n]
+    return lowered(fine_hessian(d), -1), lowered(gram, 1), sum((abs(x[0]) + x[1]) ** 2 for column in limits for x in column), 2 ** 40
+
+
+def is_fine(d):
+    """Whether a quantity of the exact numbers is above 2^126."""
+    return max(quantities(d, False)) > 2 ** 126
+
+
+def parts(d, fine):
+    return fine_parts(d) if fine else exact_parts(d)
+
+
+def squares_exponent(d, fine):
+    _, _, squares, aN = parts(d, fine)
+    return next(s for s in range(10 ** 6) if d['cost_den'] * squares <= 2 ** s * min(d['input']) * d['limit_den'] ** 2 * aN ** 2)
+
+
+def exponents(d):
+    """s and s1, and s2 and sd (None where there is none up to 40), of the design's class."""
+    Q, gram, _, aN = parts(d, is_fine(d))
     n = len(Q)
-    Dl, Dw, Dr, rho = d['limit_den'], d['cost_den'], d['row_den'], min(d['input'])
-    gram = [[sum(row[i] * row[j] for row in G) for j in range(n)] for i in range(n)]
+    Dl, Dw, Dr = d['limit_den'], d['cost_den'], d['row_den']
     gap = lambda s: [[2 ** s * Dl ** 2 * Q[i][j] - Dw * Dr ** 2 * gram[i][j] for j in range(n)] for i in range(n)]
-    squares = sum(x * x for row in G for x in row)
-    s2 = next(s for s in range(10 ** 6) if Dw * squares <= 2 ** s * rho * Dl ** 2 * aN ** 2)
+    s2 = squares_exponent(d, is_fine(d))
     sd = next((s for s in range(41) if dominant(gap(s))), None)
     s1 = s2 if sd is None else min(s2, sd)
     if s1 > 40:
@@ -107,8 +185,8 @@ def exponents(d):
     return s, s1, s2, sd
 
 
-def quantities(d):
-    """`hessian`, `rows` and `curvature`."""
+def quantities(d, fine):
+    """`prediction`, `hessian`, `rows` and `curvature`, of the exact numbers or of enclosures."""
     n, nu, N = d['states'], d['inputs'] * d['stages'], d['stages']
     size = lambda row: sum(abs(x) for x in row)
     alpha = max([d['a_den']] + [size(a) + size(b) for a, b in zip(d['A'], d['B'])])
@@ -117,10 +195,28 @@ def quantities(d):
     L = max([d['limit_den']] + [size(r) for r in limits])
     Wt = d['cost_den'] + N * (sum(r[-1] for r in d['stage_cost']) + sum(d['input'])) + sum(r[-1] for r in d['final_cost'])
     m = N * len(d['stage_rows']) + len(d['final_rows'])
-    hessian = 2 * nu * (nu + n + 1) * Wt * (C * alpha ** N) ** 2
-    rows = (nu + n + 1) * m * (L * alpha ** N) ** 2
-    s2 = exponents(d)[2]
-    return hessian, rows, 2 ** min(s2, 40) * d['limit_den'] ** 2 * hessian + d['cost_den'] * d['row_den'] ** 2 * rows
+    reach, prediction, rounding = alpha ** N, alpha ** N, 0
+    if fine:
+        reach, rounding = 2 ** 40, 4 * nu
+        for _ in range(N):
+            reach = -(-alpha * reach // d['a_den']) + 3
+        prediction = alpha * reach
+    hessian = 2 * nu * (nu + n + 1) * Wt * (C * reach) ** 2
+    rows = (nu + n + 1) * m * (L * reach) ** 2
+    if fine:
+        hessian = max(hessian, 2 ** 86 * max(2 * sum(x[1] for x in row) for row in fine_hessian(d)))
+    over = 2 ** 40 if fine else 1
+    s2 = min(squares_exponent(d, fine), 40)
+    curvature = 2 ** s2 * d['limit_den'] ** 2 * (-(-hessian // over) + rounding) + d['cost_den'] * d['row_den'] ** 2 * (-(-rows // over) + rounding)
+    return prediction, hessian, rows, curvature
+
+
+def answer(d):
+    """What `curvature` answers: s and s1, a word, or the quantity that is too wide for the class."""
+    names = ('prediction', 'hessian', 'rows', 'curvature')
+    wide = [name for name, x in zip(names, quantities(d, is_fine(d))) if x > 2 ** 126]
+    s, s1, _, _ = exponents(d)
+    return 'too wide ' + wide[0] if wide else 'no step' if s is None else f's {s} s1 {s1}'
 
 
 def read(name):
@@ -143,6 +239,11 @@ SATELLITE = dict(states=2, inputs=1, stages=5, a_den=8, A=[[8, 4], [0, 8]], B=[[
                  final_rows=[[1, 0, 8], [-1, 0, 8], [0, 1, 2], [0, -1, 2]])
 WIDE = dict(BASE, stages=2, a_den=1048576, A=[[1048576]], B=[[1048576]], limit_den=131072,
             stage_rows=[[0, 131072, 131072], [0, -131072, 131072]], final_rows=[[131072, 32768]])
+THIRD = dict(SATELLITE, stages=6, a_den=30011, A=[[30011, 15007], [-7, 29989]], B=[[3761], [15001]])
+MIXED = dict(THIRD, stage_cost=[[1, 0, 0, 1], [0, 1, 0, 1], [2, 3, -1, 5]], row_den=2, cost_den=3,
+             stage_rows=[[0, 1, 1, 4], [0, 0, -1, 4], [1, 1, 0, 8], [-1, 3, 2, 8]], final_rows=[[1, 2, 8], [-3, 1, 8]])
+OVER = dict(states=1, inputs=1, stages=3, a_den=1048573, A=[[1048573]], B=[[7]], cost_den=1048576, row_den=1024, input=[3], stage_cost=[[1024, 0, 5]],
+            final_cost=[], limit_den=1024, stage_rows=[[0, 1024, 1024], [512, -1024, 1024]], final_rows=[[1024, 1024]])
 CHECKS = [([[0, 1], [1, 0]], [[0, 0], [0, 0]]), ([[1]], [[1]]), ([[5, 3], [3, 9]], [[2, 0], [1, 2]]),
           ([[4, 0], [0, 4]], [[2, 0], [1, 2]]), ([[1, -1], [-1, 1]], [[0, 0], [0, 0]]), ([[1, -2], [-2, 2]], [[0, 0], [0, 0]]),
           ([[2, -2], [-2, 1]], [[0, 0], [0, 0]]), ([[0]], [[0]]), ([[-1]], [[0]]), ([[2 ** 126]], [[0]]),
@@ -158,9 +259,9 @@ if __name__ == '__main__':
         sys.exit()
     for name, d in [('base', BASE), ('steep', dict(STEEP, stage_rows=[[0, 1400000, 1400000]])),
                     ('steeper', dict(STEEP, stage_rows=[[0, 1500000, 1500000]])), ('certified', CERTIFIED),
-                    ('satellite', SATELLITE), ('wide', WIDE)]:
-        s, s1, s2, sd = exponents(d)
-        print(f'{name}: s {s} s1 {s1} s2 {s2} sd {sd}, above 2^126:', [x > 2 ** 126 for x in quantities(d)])
+                    ('satellite', SATELLITE), ('wide', WIDE), ('third', THIRD), ('mixed', MIXED), ('over', OVER)]:
+        _, _, s2, sd = exponents(d)
+        print(f'{name}:', 'fine' if is_fine(d) else 'exact', answer(d), f's2 {s2} sd {sd}')
     for m, r in CHECKS:
         print('check', m, r, check(m, r))
     for m in ROOTS:

@@ -25,9 +25,9 @@ def rows(m):
 
 MAIN = '''#![tactic(auto)]
 
+use class_choice::condense;
 use hessian_check::curvature;
 use mat_int::Mat;
-use plant_condense::condense;
 use qp_model::{Design, DesignParts};
 use std::alloc::{AllocError, Global};
 use std::io;

@@ -8,12 +8,12 @@ work=$(mktemp -d)
 trap 'rm -rf "$work"' EXIT
 
 cd "$top"
-for crate in integer_algebra frac_scaled mat_int dual_method qp_model plant_condense hessian_check; do
+for crate in integer_algebra frac_scaled mat_int enclosure dual_method qp_model plant_condense fine_condense class_choice hessian_check; do
     mkdir -p "$work/crates/$crate"
     tar cf - --exclude=out -C "crates/$crate" . | tar xf - -C "$work/crates/$crate"
     grep "^$crate:" crates.txt >>"$work/crates.txt"
 done
-echo "curvature_bench: hessian_check mat_int plant_condense qp_model" >>"$work/crates.txt"
+echo "curvature_bench: class_choice hessian_check mat_int qp_model" >>"$work/crates.txt"
 expected=$(cd "$here" && python3 make.py "$work/crates/curvature_bench")
 
 cd "$work/crates/curvature_bench"

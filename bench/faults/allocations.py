@@ -8,8 +8,8 @@ over the rest. `rt test` leaves the program of a crate's tests in its folder out
 NAME all crates of crates.txt with tests are taken. A run is counted as one of these:
 
     right     the test passes: the answer is the right one all the same
-    memory    the test ends with an error that is want of memory, or one of its comparisons shows that on its left
-    unclear   another comparison fails, or a plain assertion: the test doesn't say whether the answer was want of memory or a wrong one
+    memory    the test ends with an error that is out of memory, or one of its comparisons shows that on its left
+    unclear   another comparison fails, or a plain assertion: the test doesn't say whether the answer was out of memory or a wrong one
     wrong     anything else: another error, a signal, no end, or an answer although no request was refused
 
 Unclear ones are told by test and message; the command ends with 1 where there are wrong ones.
@@ -81,7 +81,7 @@ def kind_of(ran):
         return "wrong"
     if ran.status == 0:
         return "right"
-    if re.search(r"^error: .*(AllocError|Memory)", ran.said, re.M) or re.search(r"^ *left: .*(AllocError|Memory)", ran.said, re.M):
+    if re.search(r"^error: .*(AllocError|AllocFailed|Memory)", ran.said, re.M) or re.search(r"^ *left: .*(AllocError|AllocFailed|Memory)", ran.said, re.M):
         return "memory"
     return "unclear" if "assertion" in ran.said else "wrong"
 

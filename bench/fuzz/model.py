@@ -18,8 +18,6 @@ from forms import LIMIT, ceil_div
 sys.set_int_max_str_digits(0)
 csv.field_size_limit(2**31 - 1)
 
-# Whether the program makes a controller of enclosures where the exact numbers pass the limit; where not, it refuses the design by the first that does.
-ENCLOSES = False
 NUMERATOR = 2**31 - 1
 TABLES = ["plant", "cost", "limits", "box", "targets"]
 KEYS = {
@@ -289,7 +287,7 @@ def margins(d, plans):
 def form_of(d):
     """What a controller is made of: exact numbers, or enclosures where a quantity of these passes the limit."""
     exact = forms.exact_form(d)
-    return exact if forms.is_within_limit(d, exact) or not ENCLOSES else forms.fine_form(d)
+    return exact if forms.is_within_limit(d, exact) else forms.fine_form(d)
 
 
 def gain_floor(d, form):

@@ -6,7 +6,6 @@ the greatest denominator that these allow, which over many stages is a small one
 """
 import os
 import sys
-from unittest import mock
 
 HERE = os.path.dirname(os.path.abspath(__file__))
 sys.path.insert(0, os.path.join(HERE, "..", "fuzz"))
@@ -57,8 +56,7 @@ def main():
         d = model.read_design(text)
         if forms.is_within_limit(d, forms.exact_form(d)):
             sys.exit(f"{stages} stages, {inputs} inputs: the design isn't fine")
-        with mock.patch("model.ENCLOSES", True):
-            model.choose(d, [(1, [0] * d.entries)] * 2**d.states)
+        model.choose(d, [(1, [0] * d.entries)] * 2**d.states)
         name = os.path.join(folder, f"fine-{d.entries}-{d.rows}-over-{d.plant_den}")
         os.mkdir(name)
         for file, data in (("design.toml", text), ("policy.csv", ("1" + ",0" * d.entries + "\n").encode() * 2**d.states)):

@@ -4,16 +4,12 @@
     bench/rows/run.py PROGRAM [--valgrind]
 
 With --valgrind each runs under valgrind's memory checker, which must have nothing to report: no invalid read or write, no branch on what was never written, no
-block that is lost. The rows of fine designs, whose exact numbers pass 2^126, have the numbers of the model in ../fuzz. They are run where that says (ENCLOSES) that
-the program accepts such designs.
+block that is lost. The rows of fine designs, whose exact numbers pass 2^126, have the numbers of the model in ../fuzz.
 """
 import os
 import subprocess
 import sys
 import tempfile
-
-sys.path.insert(0, os.path.join(os.path.dirname(os.path.abspath(__file__)), "..", "fuzz"))
-from model import ENCLOSES
 
 PROGRAM = os.path.abspath(sys.argv[1])
 VALGRIND = "--valgrind" in sys.argv[2:]
@@ -309,15 +305,13 @@ def wrong(words, files, status, out, line, whole, lines):
 
 def main():
     failed = count = 0
-    for name, row in [*rows(), *(fine_rows() if ENCLOSES else [])]:
+    for name, row in [*rows(), *fine_rows()]:
         count += 1
         found = wrong(*row)
         if found:
             failed += 1
             print(f"{name}: {'; '.join(found)}")
     print(f"{count - failed} rows as they must be{', with no report of valgrind' if VALGRIND else ''}, {failed} not")
-    if not ENCLOSES:
-        print(f"{len([*fine_rows()])} rows of fine designs were not run")
     sys.exit(failed > 0)
 
 

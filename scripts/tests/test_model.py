@@ -3,7 +3,6 @@ crates/qp_model/proofs/FineWorked.antt."""
 import os
 import sys
 import unittest
-from unittest import mock
 
 from condensed import condense
 from design_text import design_of
@@ -98,18 +97,12 @@ class FineDesigns(unittest.TestCase):
             model.choose(design(**changes), plans)
         return caught.exception.args
 
-    @mock.patch("model.ENCLOSES", True)
     def test_long(self):
         report = model.choose(design(**LONG), LONG_POLICY).report
         self.assertEqual([report[key] for key in ("margin", "cost", "multiplier", "step", "steps", "bits", "words", "gap")], [8192, 1, 8, 1, 4, 14, 10, 574834507776])
         errors = model.Errors(design(**LONG), forms.fine_form(design(**LONG)), 8)
         self.assertGreater(errors.epsilon(13), 2**40)
 
-    @mock.patch("model.ENCLOSES", False)
-    def test_long_where_the_program_encloses_nothing(self):
-        self.assertEqual(self.refused(LONG_POLICY, **LONG), (10, "curvature"))
-
-    @mock.patch("model.ENCLOSES", True)
     def test_large_plant(self):
         self.assertEqual(self.refused([(1, [0] * 20)] * 2, stages=20, a=[[2147483647]]), (10, "prediction"))
 
