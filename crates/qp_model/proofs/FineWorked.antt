@@ -3,8 +3,7 @@
 use Rattle.std.proofs.Common.{◌≡◌, ℕ, ◌^◌, ◌*◌, ℤ, pos, negsuc, zero, suc, List, [], ◌∷◌, false, true, refl}
 use Rattle.qp_model.specs.Design.{Design, CostRow, LimitRow}
 use Rattle.frac_scaled.specs.Enclosures.{Enclosure}
-use Rattle.qp_model.specs.FineForm.{fine_hessian, fine_linear, fine_constant, fine_limit, fine_form, hessian_radius}
-use Rattle.qp_model.specs.Runs.{unit}
+use Rattle.qp_model.specs.FineForm.{fine_hessian, fine_linear, fine_constant, fine_by_plan, fine_by_state, fine_form, hessian_radius}
 use Rattle.integer_algebra.specs.Sums.{none, at, flat}
 use Rattle.qp_model.specs.Form.{Form}
 use Rattle.qp_model.specs.FineSizes.{is_fine, fine_reach, fine_prediction_size, fine_hessian_size, fine_rows_size, fine_curvature_size, exact_curvature_size}
@@ -12,7 +11,7 @@ use Rattle.qp_model.specs.CurvatureSize.{covering_exponent}
 use Rattle.qp_model.specs.Class.{form_of, curvature_quantity}
 use Rattle.qp_model.specs.Errors.{error_sums_of, plan_bound, epsilon}
 
-abbrev third : Design
+abbrev pub third : Design
 third = record {
   version = 1;
   states = 1;
@@ -38,7 +37,7 @@ third = record {
   high = λ i. pos 1;
 }
 
-abbrev around : ℤ → ℤ → Enclosure
+abbrev pub around : ℤ → ℤ → Enclosure
 around m r = record { mid = m; rad = r }
 
 hessian_first : fine_hessian third 0 0 ≡ around (pos 202717366039482) (pos 366)
@@ -66,28 +65,28 @@ constant_last : fine_constant third 1 ≡ around (pos 109951162777500) (pos 372)
 constant_last = refl
 
 -- the rows: each stage's, and the final one
-own_input_row : fine_limit third none (unit 0) 0 ≡ around (negsuc 3298534883327) (pos 0)
+own_input_row : fine_by_plan third 0 0 ≡ around (negsuc 3298534883327) (pos 0)
 own_input_row = refl
 
-later_row : fine_limit third none (unit 1) 0 ≡ around (pos 0) (pos 0)
+later_row : fine_by_plan third 0 1 ≡ around (pos 0) (pos 0)
 later_row = refl
 
-next_row : fine_limit third none (unit 0) 1 ≡ around (negsuc 366503875924) (pos 1)
+next_row : fine_by_plan third 1 0 ≡ around (negsuc 366503875924) (pos 1)
 next_row = refl
 
-last_row : fine_limit third none (unit 0) 2 ≡ around (negsuc 1710351420980) (pos 14)
+last_row : fine_by_plan third 2 0 ≡ around (negsuc 1710351420980) (pos 14)
 last_row = refl
 
-last_entry : fine_limit third none (unit 1) 2 ≡ around (negsuc 2565527131474) (pos 7)
+last_entry : fine_by_plan third 2 1 ≡ around (negsuc 2565527131474) (pos 7)
 last_entry = refl
 
-first_state : fine_limit third (unit 0) none 0 ≡ around (pos 1099511627776) (pos 0)
+first_state : fine_by_state third 0 0 ≡ around (pos 1099511627776) (pos 0)
 first_state = refl
 
-next_state : fine_limit third (unit 0) none 1 ≡ around (pos 733007751851) (pos 1)
+next_state : fine_by_state third 1 0 ≡ around (pos 733007751851) (pos 1)
 next_state = refl
 
-last_state : fine_limit third (unit 0) none 2 ≡ around (pos 3420702841969) (pos 14)
+last_state : fine_by_state third 2 0 ≡ around (pos 3420702841969) (pos 14)
 last_state = refl
 
 last_bound : (fine_form third).numbers.bound 2 ≡ pos 2199023255552
@@ -135,7 +134,7 @@ class = refl
 abbrev two : ℤ → ℤ → List ℤ
 two a b = a ∷ b ∷ []
 
-abbrev crossed : Design
+abbrev pub crossed : Design
 crossed = record third {
   states = 2;
   inputs = 2;
@@ -160,13 +159,13 @@ linear_across = refl
 constant_across : fine_constant crossed 1 ≡ around (pos 102621085259112) (pos 732)
 constant_across = refl
 
-row_across : fine_limit crossed none (unit 1) 1 ≡ around (negsuc 3665038759253) (pos 2)
+row_across : fine_by_plan crossed 1 1 ≡ around (negsuc 3665038759253) (pos 2)
 row_across = refl
 
-row_inside : fine_limit crossed none (unit 3) 1 ≡ around (pos 8796093022208) (pos 0)
+row_inside : fine_by_plan crossed 1 3 ≡ around (pos 8796093022208) (pos 0)
 row_inside = refl
 
-state_across : fine_limit crossed (unit 1) none 1 ≡ around (negsuc 2565527131476) (pos 3)
+state_across : fine_by_state crossed 1 1 ≡ around (negsuc 2565527131476) (pos 3)
 state_across = refl
 
 crossed_widest : hessian_radius crossed ≡ 8178

@@ -13,7 +13,7 @@ use Rattle.mat_int.specs.Matrix.{row_of}
 use Rattle.mat_int.proofs.Dots.{abs-dot_le, abs-add_le}
 use Rattle.qp_model.specs.Controller.{Numbers}
 use Rattle.qp_model.specs.Machine.{IsAdmissible, loaded, entry_sum, plan_entry, plan_of, row_sum, next_multiplier, next_multipliers, after}
-use Rattle.qp_model.specs.AbsoluteSums.{weighted_abs_sum, magnitudes_of, state_magnitudes, clamp_magnitudes, entry_absolute_sum, plan_magnitudes}
+use Rattle.qp_model.specs.AbsoluteSums.{weighted_abs_sum, magnitudes_of, state_magnitudes, clamp_magnitudes, entry_absolute_sum, plan_magnitudes, greatest_of}
 use Rattle.qp_model.specs.Within.{AreWithin, PlanMagnitudeLaw}
 use Rattle.qp_model.proofs.AbsoluteLaws.{abs-neg, abs-scaled_le, abs-shifted, abs-floor_le_ceil, abs-clamped_le, ceil_div_mono}
 
@@ -121,3 +121,10 @@ pub plan_magnitude_law : PlanMagnitudeLaw
 plan_magnitude_law c xi sized grid k =
     plan_within c (loaded c xi) (after c (loaded c xi) k).multipliers (state_within c xi sized.shaped.low sized.shaped.high grid)
     (after_multipliers c (loaded c xi) k sized.clamp_low)
+
+-- ---- the greatest magnitude
+-- each number of a list is at most the greatest
+pub get_or-le-greatest : (xs : List ℕ) (i : ℕ) → get_or xs i 0 ≤ greatest_of xs
+get_or-le-greatest [] i = omega arith
+get_or-le-greatest (x ∷ xs) zero = omega arith
+get_or-le-greatest (x ∷ xs) (suc i) = omega (arith, get_or-le-greatest xs i)

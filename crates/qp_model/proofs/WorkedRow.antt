@@ -1,6 +1,6 @@
 -- The definitions, tried on one small design and its controller, whose numbers were worked out by hand: the plant x+ = x + u, the cost
 -- u^2 + (x+)^2, and the rows u <= 1, -u <= 1 and x+ <= 1/4, at the states 0 and 1.
-use Rattle.std.proofs.Common.{◌≡◌, ℕ, zero, suc, ◌^◌, ◌*◌, ◌+◌, ◌-◌, ℤ, pos, ◌*ℤ◌, negsuc, neg_ℤ, List, [], ◌∷◌, refl, map, length}
+use Rattle.std.proofs.Common.{◌≡◌, ℕ, zero, suc, ◌^◌, ◌*◌, ◌+◌, ◌-◌, ℤ, pos, ◌*ℤ◌, negsuc, neg_ℤ, List, [], ◌∷◌, refl, map, length, true}
 use Rattle.integer_algebra.specs.Sums.{at, none}
 use Rattle.mat_int.specs.Matrix.{Matrix}
 use Rattle.qp_model.specs.Design.{Design, CostRow, LimitRow, rows, entries}
@@ -16,6 +16,7 @@ use Rattle.qp_model.specs.Errors.{error_sums_of, plan_bound, residual_error, rad
 use Rattle.qp_model.specs.Controller.{Numbers}
 use Rattle.qp_model.specs.Machine.{loaded, after, entry_sum, averaged_plan, average_denominator}
 use Rattle.qp_model.specs.AbsoluteSums.{greatest_sum, entry_absolute_sum, plan_magnitudes, sum_magnitude}
+use Rattle.qp_model.specs.RealErrors.{gain_residual, has_residual_room, real_gradient, real_plan, real_cost}
 
 -- x's only coefficient
 one : ℕ → ℤ
@@ -239,3 +240,36 @@ average = refl
 
 over : average_denominator first_controller ≡ 4096
 over = refl
+
+-- ---- the errors by the residuals that its gains leave, which are none
+state_residual : gain_residual (form_of base) first_controller 0 0 ≡ 0
+state_residual = refl
+
+row_residual : gain_residual (form_of base) first_controller 3 0 ≡ 0
+row_residual = refl
+
+residual_room : has_residual_room base (form_of base) 8 ≡ true
+residual_room = refl
+
+real_gradient_is : real_gradient base (form_of base) 8 first_controller 0 ≡ 4
+real_gradient_is = refl
+
+real_plan_is : real_plan base (form_of base) 8 first_controller ≡ 13
+real_plan_is = refl
+
+real_cost_is : real_cost base (form_of base) 8 first_controller ≡ 438095052800
+real_cost_is = refl
+
+-- and where its gains are a little off
+abbrev rough_controller : Numbers
+rough_controller = record first_controller {
+  state_gains = matrix 1 ((pos 512 ∷ []) ∷ []);
+  offsets = negsuc 0 ∷ [];
+  dual_gains = matrix 3 ((pos 256 ∷ negsuc 254 ∷ pos 256 ∷ []) ∷ []);
+}
+
+offset_residual : gain_residual (form_of base) rough_controller 1 0 ≡ 16
+offset_residual = refl
+
+rough_gradient : real_gradient base (form_of base) 8 rough_controller 0 ≡ 72
+rough_gradient = refl

@@ -1,7 +1,7 @@
 -- The condensed form of a design in enclosures: midpoints and radii over 2^40, for designs whose exact numbers are too long.
 use Rattle.std.specs.Prelude.{◌≡◌, ℕ, zero, suc, ◌+◌, ◌-◌, ◌*◌, ◌/◌, ◌%◌, ◌^◌, ◌<◌, ℤ, pos, negsuc, ◌-ℤ◌, ◌*ℤ◌, unsigned_abs, nat_eq, nat_lt, if◌then◌else◌}
 use Rattle.std.specs.Int.{int_min}
-use Rattle.integer_algebra.specs.Sums.{dot, none}
+use Rattle.integer_algebra.specs.Sums.{none}
 use Rattle.integer_algebra.specs.Sizes.{amount}
 use Rattle.frac_scaled.specs.Enclosures.{Enclosure, exactly, sum_of, multiple}
 use Rattle.mat_int.specs.Enclosures.{combined, weighted_gram}
@@ -16,12 +16,16 @@ use Rattle.qp_model.specs.Sound.{IsSound}
 abbrev pub followed : {A : Type 0} → ℕ → (f g : ℕ → A) → ℕ → A
 followed n f g i = if nat_lt i n then f i else g (i - n)
 
--- the state at a stage, from the whole state x under the whole plan v, rounded at each stage
-abbrev pub fine_run : Design → (x v : ℕ → ℤ) → ℕ → ℕ → Enclosure
-fine_run d x v zero i = exactly (x i)
+-- the state at a stage, from the state x under the plan v, rounded at each stage
+abbrev pub fine_run : Design → (x v : ℕ → Enclosure) → ℕ → ℕ → Enclosure
+fine_run d x v zero i = x i
 fine_run d x v (suc k) i =
     combined (d.states + d.inputs) (followed d.states (d.plant_a i) (d.plant_b i))
-    (followed d.states (fine_run d x v k) (λ l. exactly (v (k * d.inputs + l)))) d.plant_denominator
+    (followed d.states (fine_run d x v k) (λ l. v (k * d.inputs + l))) d.plant_denominator
+
+-- whole numbers: those of a state or of a plan
+abbrev pub wholes : (ℕ → ℤ) → ℕ → Enclosure
+wholes x i = exactly (x i)
 
 -- ---- the cost rows
 -- the stage at which counted cost row c counts
@@ -33,14 +37,14 @@ abbrev pub counted_row : Design → ℕ → CostRow
 counted_row d c = if nat_lt c (d.stages * d.stage_costs) then d.stage_cost (c % d.stage_costs) else d.final_cost (c - d.stages * d.stage_costs)
 
 -- what it has of a run
-abbrev pub fine_cost : Design → (x v : ℕ → ℤ) → ℕ → Enclosure
+abbrev pub fine_cost : Design → (x v : ℕ → Enclosure) → ℕ → Enclosure
 fine_cost d x v c = combined d.states (counted_row d c).coefficient (fine_run d x v (counted_stage d c)) 1
 
 -- what it has of each entry of the plan, then of each state, and then its target
 abbrev pub fine_costs : Design → ℕ → ℕ → Enclosure
 fine_costs d c j =
-    if nat_lt j (entries d) then fine_cost d none (unit j) c
-    else if nat_lt j (entries d + d.states) then fine_cost d (unit (j - entries d)) none c
+    if nat_lt j (entries d) then fine_cost d (wholes none) (wholes (unit j)) c
+    else if nat_lt j (entries d + d.states) then fine_cost d (wholes (unit (j - entries d))) (wholes none) c
     else exactly (counted_row d c).target
 
 -- the products of two of these columns, over all counted rows with their weights
@@ -63,18 +67,25 @@ fine_constant d j = multiple (negsuc 1) (fine_products d j (entries d + d.states
 
 -- ---- the limit rows
 -- what a row has of the state at a stage
-abbrev pub fine_final_limit : Design → (x v : ℕ → ℤ) → ℕ → LimitRow → Enclosure
+abbrev pub fine_final_limit : Design → (x v : ℕ → Enclosure) → ℕ → LimitRow → Enclosure
 fine_final_limit d x v k r = combined d.states r.of_state (fine_run d x v k) 1
 
 -- and of the input there
-abbrev pub fine_stage_limit : Design → (x v : ℕ → ℤ) → ℕ → LimitRow → Enclosure
-fine_stage_limit d x v k r = sum_of (fine_final_limit d x v k r) (exactly (dot d.inputs r.of_input (λ l. v (k * d.inputs + l))))
+abbrev pub fine_stage_limit : Design → (x v : ℕ → Enclosure) → ℕ → LimitRow → Enclosure
+fine_stage_limit d x v k r = sum_of (fine_final_limit d x v k r) (combined d.inputs r.of_input (λ l. v (k * d.inputs + l)) 1)
 
 -- what row i of all rows has of a run, times limit_denominator
-abbrev pub fine_limit : Design → (x v : ℕ → ℤ) → ℕ → Enclosure
+abbrev pub fine_limit : Design → (x v : ℕ → Enclosure) → ℕ → Enclosure
 fine_limit d x v i =
     if nat_lt i (d.stages * d.stage_limits) then fine_stage_limit d x v (i / d.stage_limits) (d.stage_limit (i % d.stage_limits))
     else fine_final_limit d x v d.stages (d.final_limit (i - d.stages * d.stage_limits))
+
+-- the numbers of the condensed limits: what row i has of entry j of the plan, and of state j
+abbrev pub fine_by_plan : Design → ℕ → ℕ → Enclosure
+fine_by_plan d i j = fine_limit d (wholes none) (wholes (unit j)) i
+
+abbrev pub fine_by_state : Design → ℕ → ℕ → Enclosure
+fine_by_state d i j = fine_limit d (wholes (unit j)) (wholes none) i
 
 -- ---- the form
 -- the hessian's radii in row i
@@ -94,15 +105,15 @@ fine_form d = record {
     hessian = λ i j. (fine_hessian d i j).mid;
     linear = λ j i. (fine_linear d j i).mid;
     constant = λ j. (fine_constant d j).mid;
-    by_plan = λ i j. (fine_limit d none (unit j) i).mid;
-    by_state = λ i j. (fine_limit d (unit j) none i).mid;
+    by_plan = λ i j. (fine_by_plan d i j).mid;
+    by_state = λ i j. (fine_by_state d i j).mid;
     bound = λ i. pos (2 ^ 40) *ℤ bound_at d i;
   };
   hessian_radius = λ i j. unsigned_abs (fine_hessian d i j).rad;
   linear_radius = λ j i. unsigned_abs (fine_linear d j i).rad;
   constant_radius = λ j. unsigned_abs (fine_constant d j).rad;
-  plan_radius = λ i j. unsigned_abs (fine_limit d none (unit j) i).rad;
-  state_radius = λ i j. unsigned_abs (fine_limit d (unit j) none i).rad;
+  plan_radius = λ i j. unsigned_abs (fine_by_plan d i j).rad;
+  state_radius = λ i j. unsigned_abs (fine_by_state d i j).rad;
   hessian_scale = d.cost_denominator * d.row_denominator ^ 2 * 2 ^ 40;
   rows_scale = d.limit_denominator * 2 ^ 40;
   matrix_factor = pos d.limit_denominator;

@@ -19,10 +19,14 @@ abbrev pub is_fine : Design → Bool
 is_fine d = nat_lt (2 ^ 126) (max (max (prediction_size d) (hessian_size d)) (max (rows_size d) (exact_curvature_size d)))
 
 -- ---- the quantities
--- what a response reaches at a stage at most, over 2^40
+-- what a run whose first state and plan reach `first` reaches at a stage at most, over 2^40
+abbrev pub reach_from : Design → (first : ℕ) → ℕ → ℕ
+reach_from d first zero = first
+reach_from d first (suc k) = ceil_div (growth d * reach_from d first k) d.plant_denominator + 3
+
+-- a response
 abbrev pub fine_reach : Design → ℕ → ℕ
-fine_reach d zero = 2 ^ 40
-fine_reach d (suc k) = ceil_div (growth d * fine_reach d k) d.plant_denominator + 3
+fine_reach d k = reach_from d (2 ^ 40) k
 
 -- before it is divided by the plant's denominator: `prediction`
 abbrev pub fine_prediction_size : Design → ℕ

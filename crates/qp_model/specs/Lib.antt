@@ -7,7 +7,6 @@ pub mod Residual
 pub mod Box
 pub mod Parts
 pub mod Policy
-pub mod CornerSizes
 pub mod Margin
 pub mod Choices
 pub mod Rules
@@ -36,11 +35,15 @@ pub mod Convex
 pub mod Columns
 pub mod FineForm
 pub mod FineSizes
+pub mod CornerSizes
+pub mod FineCorners
 pub mod Class
+pub mod CornerClass
 pub mod Errors
 pub mod Printed
 pub mod Certified
 pub mod Built
+pub mod RealErrors
 pub mod StateText
 pub mod Successor
 pub mod LoopSize

@@ -1,6 +1,7 @@
 -- A plan for each corner of the box.
 use Rattle.std.specs.Prelude.{◌≡◌, ℕ, ◌^◌, ◌-◌, ◌≤◌, ℤ, pos, ◌≤ℤ◌, List, length, All, unsigned_abs}
-use Rattle.mat_int.specs.Matrix.{Matrix}
+use Rattle.integer_algebra.specs.Sums.{at}
+use Rattle.mat_int.specs.Matrix.{Matrix, entry_of}
 use Rattle.qp_model.specs.Design.{Design, entries}
 use Rattle.qp_model.specs.declared.policy.Policy.{Policy}
 
@@ -29,3 +30,11 @@ pub record IsPolicyFor (d : Design) (plans : Plans) : Type 0 where
   pub cols : plans.numerators.cols ≡ entries d
   pub regular : All (λ row. length row ≡ entries d) plans.numerators.rows
   pub numerators : All (All IsPlanNumerator) plans.numerators.rows
+
+-- ---- the plan of a corner, which is counted from 1
+-- what it is over
+abbrev pub corner_denominator : Plans → ℕ → ℤ
+corner_denominator p c = at p.denominators (c - 1)
+
+abbrev pub corner_plan : Plans → ℕ → ℕ → ℤ
+corner_plan p c = entry_of p.numerators (c - 1)
