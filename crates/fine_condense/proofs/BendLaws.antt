@@ -1,11 +1,11 @@
 -- By how much the hessian in enclosures bends a list up.
-use Rattle.std.proofs.Common.{◌≡◌, ℕ, ◌*◌, ◌^◌, ◌<◌, ◌≤◌, [], ◌∷◌, ℤ, pos, ◌+ℤ◌, ◌-ℤ◌, ◌*ℤ◌, ◌≤ℤ◌, ◌<ℤ◌, neg_ℤ, unsigned_abs, arith, ap, sym, ◌∙◌, refl}
+use Rattle.std.proofs.Common.{◌≡◌, ℕ, ◌*◌, ◌^◌, ◌<◌, ◌≤◌, [], ◌∷◌, ℤ, pos, ◌+ℤ◌, ◌-ℤ◌, ◌*ℤ◌, ◌≤ℤ◌, ◌<ℤ◌, neg_ℤ, unsigned_abs, arith, ◌∙◌, refl}
 use Rattle.std.proofs.lemmas.Int.{ints}
 use Rattle.std.proofs.Math.Nat.{mul-le-mul_left, one-le-mul}
 use Rattle.integer_algebra.specs.Bounds.{IsWithin}
 use Rattle.integer_algebra.specs.Sizes.{size}
 use Rattle.integer_algebra.specs.Sums.{total, dot, image, square}
-use Rattle.integer_algebra.proofs.OrderLaws.{pos_positive, mul_pos_z, le_by, mul-le-mul_left_z, cancel-le_z, add-le-add_z}
+use Rattle.integer_algebra.proofs.OrderLaws.{pos_positive, le_by, mul-le-mul_left_z, cancel-le_z, add-le-add_z}
 use Rattle.integer_algebra.proofs.AmountLaws.{amount_mono, amount_scale}
 use Rattle.integer_algebra.proofs.PowerLaws.{pow_positive}
 use Rattle.integer_algebra.proofs.VectorLaws.{dot_same, dot_sub, dot_add_right, dot_neg_right, quadratic_scale}

@@ -1,5 +1,5 @@
 -- Matrices of enclosures, filled by columns.
-use Rattle.std.proofs.Common.{◌≡◌, ℕ, ◌+◌, ◌-◌, ◌<◌, ◌≤◌, List, ℤ, pos, length, get_or, add-one, arith, ap, ap₂, sym, subst, ◌∙◌, refl}
+use Rattle.std.proofs.Common.{◌≡◌, ℕ, ◌+◌, ◌-◌, ◌*◌, ◌^◌, ◌<◌, ◌≤◌, List, ℤ, pos, length, get_or, add-one, arith, ap, ap₂, sym, subst, ◌∙◌, refl}
 use mathlib.Core.Path.{fun_ext}
 use Rattle.std.proofs.lemmas.Bool.{lt-ltb, le-ltb}
 use Rattle.std.proofs.lemmas.List.{get_or-map, length-map}
@@ -7,15 +7,19 @@ use Rattle.integer_algebra.specs.Sums.{none}
 use Rattle.frac_scaled.specs.Enclosures.{Enclosure, exactly}
 use Rattle.mat_int.specs.Matrix.{Matrix, with_entry}
 use Rattle.enclosure.specs.declared.types.Enc.{Enc}
+use Rattle.enclosure.specs.Values.{pair_at}
 use Rattle.enclosure.proofs.SumLaws.{pair_at_is}
 use Rattle.qp_model.specs.declared.design_parts.DesignParts.{DesignParts}
 use Rattle.qp_model.specs.Design.{entries, rows}
 use Rattle.qp_model.specs.Parts.{design_of}
+use Rattle.qp_model.specs.Quantities.{cost_width, limit_width}
 use Rattle.qp_model.specs.Runs.{unit, counts, Holds}
-use Rattle.qp_model.specs.FineForm.{counted_row, fine_cost, fine_costs, fine_limit}
+use Rattle.qp_model.specs.FineForm.{wholes, counted_row, fine_cost, fine_costs, fine_limit}
+use Rattle.qp_model.specs.FineSizes.{reach_from, fine_response_size, fine_limit_entry_size}
 use Rattle.plant_condense.specs.Lists.{with_column}
-use Rattle.fine_condense.specs.Lists.{HoldsEnclosures, HoldsEncMatrix, mids, rads}
-use Rattle.plant_condense.proofs.ColumnFacts.{column_written, at_both}
+use Rattle.fine_run.specs.Lists.{HoldsEnclosures}
+use Rattle.fine_condense.specs.Lists.{IsRunOfWholes, HoldsEncMatrix, mids, rads}
+use Rattle.plant_condense.proofs.ColumnFacts.{column_written}
 
 zero : Enc
 zero = record { mid = pos 0; rad = pos 0; nonnegative = omega arith }
@@ -51,32 +55,47 @@ enclosures_written mid rad new_mid new_rad height width j f xs e g l h p = recor
 }
 
 -- ---- which column a run gives
-module _ (P : ℕ → (ℕ → Enclosure) → Type 0) (p q : DesignParts) (x v : ℕ → ℤ) (e : q ≡ p) where
-  pub plan_cost_to : (j : ℕ) → x ≡ none → v ≡ unit j → j < entries (design_of p) → P (counts (design_of q)) (fine_cost (design_of q) x v) →
-      P (counts (design_of p)) (λ c. fine_costs (design_of p) c j)
-  plan_cost_to j f g l h = subst (λ (y : ℕ → Enclosure). P (counts (design_of p)) y) (sym (fun_ext (λ c. column c)))
-      (at_both (λ (x v : ℕ → ℤ). P (counts (design_of p)) (fine_cost (design_of p) x v)) x none v (unit j) f g
-      (subst (λ (q : DesignParts). P (counts (design_of q)) (fine_cost (design_of q) x v)) e h))
+module _ (p q : DesignParts) (x v : ℕ → ℤ) (first : ℕ) (start plan : List Enc) (made : IsRunOfWholes p x v q first start plan) where
+  -- what holds of the run holds of one that is written from the design
+  written : (Q : DesignParts → ℕ → (x v : ℕ → Enclosure) → Type 0) → Q q first (pair_at start) (pair_at plan) → Q p (2 ^ 40) (wholes x) (wholes v)
+  written Q h = subst (λ (z : ℕ → Enclosure). Q p (2 ^ 40) (wholes x) z) made.plan (subst (λ (z : ℕ → Enclosure). Q p (2 ^ 40) z (pair_at plan)) made.start
+      (subst (λ (n : ℕ). Q p n (pair_at start) (pair_at plan)) made.first (subst (λ (r : DesignParts). Q r first (pair_at start) (pair_at plan)) made.parts h)))
+
+  -- and the other way round
+  made_of : (Q : DesignParts → ℕ → Type 0) → Q p (2 ^ 40) → Q q first
+  made_of Q h = subst (λ (r : DesignParts). Q r first) (sym made.parts) (subst (λ (n : ℕ). Q p n) (sym made.first) h)
+
+  pub cost_fits : fine_response_size (design_of p) ≤ 2 ^ 126 → cost_width (design_of q) * reach_from (design_of q) first q.stages ≤ 2 ^ 126
+  cost_fits = made_of (λ (r : DesignParts) (n : ℕ). cost_width (design_of r) * reach_from (design_of r) n r.stages ≤ 2 ^ 126)
+
+  pub limit_fits : fine_limit_entry_size (design_of p) ≤ 2 ^ 126 → limit_width (design_of q) * reach_from (design_of q) first q.stages ≤ 2 ^ 126
+  limit_fits = made_of (λ (r : DesignParts) (n : ℕ). limit_width (design_of r) * reach_from (design_of r) n r.stages ≤ 2 ^ 126)
+
+  module _ (P : ℕ → (ℕ → Enclosure) → Type 0) where
+    pub cost_to : P (counts (design_of q)) (fine_cost (design_of q) (pair_at start) (pair_at plan)) → P (counts (design_of p)) (fine_cost (design_of p) (wholes x) (wholes v))
+    cost_to = written (λ (r : DesignParts) (n : ℕ) (x v : ℕ → Enclosure). P (counts (design_of r)) (fine_cost (design_of r) x v))
+
+    pub limit_to : P (rows (design_of q)) (fine_limit (design_of q) (pair_at start) (pair_at plan)) → P (rows (design_of p)) (fine_limit (design_of p) (wholes x) (wholes v))
+    limit_to = written (λ (r : DesignParts) (n : ℕ) (x v : ℕ → Enclosure). P (rows (design_of r)) (fine_limit (design_of r) x v))
+
+-- a cost column by its place
+module _ (P : (ℕ → Enclosure) → Type 0) (p : DesignParts) (j : ℕ) where
+  pub plan_cost_to : j < entries (design_of p) → P (fine_cost (design_of p) (wholes none) (wholes (unit j))) → P (λ c. fine_costs (design_of p) c j)
+  plan_cost_to l h = subst P (sym (fun_ext (λ c. column c))) h
     where
-      column : (c : ℕ) → fine_costs (design_of p) c j ≡ fine_cost (design_of p) none (unit j) c
+      column : (c : ℕ) → fine_costs (design_of p) c j ≡ fine_cost (design_of p) (wholes none) (wholes (unit j)) c
       column c = rw (lt-ltb j (entries (design_of p)) l) refl
 
-  pub state_cost_to : (j : ℕ) → x ≡ unit (j - entries (design_of p)) → v ≡ none → entries (design_of p) ≤ j → j < entries (design_of p) + p.states →
-      P (counts (design_of q)) (fine_cost (design_of q) x v) → P (counts (design_of p)) (λ c. fine_costs (design_of p) c j)
-  state_cost_to j f g l m h = subst (λ (y : ℕ → Enclosure). P (counts (design_of p)) y) (sym (fun_ext (λ c. column c)))
-      (at_both (λ (x v : ℕ → ℤ). P (counts (design_of p)) (fine_cost (design_of p) x v)) x (unit (j - entries (design_of p))) v none f g
-      (subst (λ (q : DesignParts). P (counts (design_of q)) (fine_cost (design_of q) x v)) e h))
+  pub state_cost_to : entries (design_of p) ≤ j → j < entries (design_of p) + p.states →
+      P (fine_cost (design_of p) (wholes (unit (j - entries (design_of p)))) (wholes none)) → P (λ c. fine_costs (design_of p) c j)
+  state_cost_to l m h = subst P (sym (fun_ext (λ c. column c))) h
     where
-      column : (c : ℕ) → fine_costs (design_of p) c j ≡ fine_cost (design_of p) (unit (j - entries (design_of p))) none c
+      column : (c : ℕ) → fine_costs (design_of p) c j ≡ fine_cost (design_of p) (wholes (unit (j - entries (design_of p)))) (wholes none) c
       column c = rw (le-ltb j (entries (design_of p)) l, lt-ltb j (entries (design_of p) + p.states) m) refl
 
-  pub limit_to : (y w : ℕ → ℤ) → x ≡ y → v ≡ w → P (rows (design_of q)) (fine_limit (design_of q) x v) → P (rows (design_of p)) (fine_limit (design_of p) y w)
-  limit_to y w f g h = at_both (λ (x v : ℕ → ℤ). P (rows (design_of p)) (fine_limit (design_of p) x v)) x y v w f g
-      (subst (λ (q : DesignParts). P (rows (design_of q)) (fine_limit (design_of q) x v)) e h)
-
-pub target_to : (P : (ℕ → Enclosure) → Type 0) (p : DesignParts) (j : ℕ) → entries (design_of p) ≤ j → entries (design_of p) + p.states ≤ j →
-    P (λ c. exactly (counted_row (design_of p) c).target) → P (λ c. fine_costs (design_of p) c j)
-target_to P p j l m h = subst P (sym (fun_ext (λ c. column c))) h
-  where
-    column : (c : ℕ) → fine_costs (design_of p) c j ≡ exactly (counted_row (design_of p) c).target
-    column c = rw (le-ltb j (entries (design_of p)) l, le-ltb j (entries (design_of p) + p.states) m) refl
+  pub target_to : entries (design_of p) ≤ j → entries (design_of p) + p.states ≤ j →
+      P (λ c. exactly (counted_row (design_of p) c).target) → P (λ c. fine_costs (design_of p) c j)
+  target_to l m h = subst P (sym (fun_ext (λ c. column c))) h
+    where
+      column : (c : ℕ) → fine_costs (design_of p) c j ≡ exactly (counted_row (design_of p) c).target
+      column c = rw (le-ltb j (entries (design_of p)) l, le-ltb j (entries (design_of p) + p.states) m) refl

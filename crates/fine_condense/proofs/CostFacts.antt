@@ -28,7 +28,8 @@ use Rattle.qp_model.specs.Runs.{counts}
 use Rattle.qp_model.specs.Range.{IsDenominator, IsPositive}
 use Rattle.plant_condense.proofs.Rooms.{read, narrow}
 use Rattle.plant_condense.proofs.StateFacts.{denominator_positive}
-use Rattle.fine_condense.proofs.Rooms.{Reaches, reaches_more, combination_reaches, divided_reaches}
+use Rattle.fine_run.specs.Lists.{Reaches}
+use Rattle.fine_run.proofs.Rooms.{reaches_more, combination_reaches, divided_reaches}
 use Rattle.fine_condense.proofs.RowRooms.{costs_reach, weights_narrow}
 use Rattle.fine_condense.proofs.ProductFacts.{weighed_room}
 use Rattle.fine_condense.specs.Numbers.{AreProducts, IsFineHessian}

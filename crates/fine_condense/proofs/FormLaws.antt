@@ -4,7 +4,7 @@ use Rattle.std.specs.Int.{int_min}
 use Rattle.std.proofs.lemmas.Int.{ints, clamps}
 use Rattle.std.proofs.lemmas.List.Elements.{All-from_get_or}
 use Rattle.std.proofs.Math.Nat.{mul-le-mul, mul-le-mul_left, pow-le-pow_left, one-le-mul}
-use Rattle.integer_algebra.specs.Sums.{total, dot, image, square, none}
+use Rattle.integer_algebra.specs.Sums.{total, dot, image, square}
 use Rattle.integer_algebra.proofs.OrderLaws.{le_by, add-le-add_z, mul-le-mul_left_z, mul-le-mul_right_z, square_nonneg_z}
 use Rattle.integer_algebra.proofs.SumLaws.{total_same, total_nonneg}
 use Rattle.integer_algebra.proofs.SizeLaws.{amount_same}
@@ -21,12 +21,11 @@ use Rattle.qp_model.specs.Controller.{HasShape}
 use Rattle.qp_model.specs.Convex.{IsConvex}
 use Rattle.qp_model.specs.Columns.{solve_matrix}
 use Rattle.qp_model.specs.Form.{farthest, HaveSameNumbers}
-use Rattle.qp_model.specs.FineForm.{fine_hessian, fine_linear, fine_constant, fine_limit, fine_form, hessian_radius}
+use Rattle.qp_model.specs.FineForm.{fine_hessian, fine_linear, fine_constant, fine_by_plan, fine_by_state, fine_form, hessian_radius}
 use Rattle.qp_model.specs.FineSizes.{fine_cost_entry_size, fine_limit_entry_size, fine_hessian_size, fine_rows_size, fine_cost_row_size}
 use Rattle.qp_model.specs.Quantities.{input_floor}
-use Rattle.qp_model.specs.Runs.{unit, Holds}
+use Rattle.qp_model.specs.Runs.{Holds}
 use Rattle.qp_model.proofs.SoundLaws.{sound}
-use Rattle.qp_model.proofs.QuantityLaws.{unit_small}
 use Rattle.plant_condense.specs.declared.condensed.Condensed.{Condensed}
 use Rattle.plant_condense.specs.Form.{held, hessian_row_sum, cost_sum, limit_sum, column_products, HasShapes, HasRadii, HasDenominators, IsLeastInput, HasSums, IsFormIn}
 use Rattle.plant_condense.specs.Lists.{HoldsMatrix}
@@ -38,7 +37,7 @@ use Rattle.fine_condense.proofs.ColumnFacts.{mids_hold, rads_hold}
 use Rattle.fine_condense.proofs.CostFacts.{products_reach}
 use Rattle.fine_condense.proofs.FloorFacts.{radius_room}
 use Rattle.fine_condense.proofs.FormSizes.{hessian_small, linear_small, constant_small, hessian_row_small, plan_small, state_small, bound_small}
-use Rattle.fine_condense.proofs.RowRooms.{limit_reaches}
+use Rattle.fine_condense.proofs.RowRooms.{plan_reaches, state_reaches}
 
 -- ---- what a form is made of
 -- its denominators, its floor and its sizes
@@ -63,10 +62,10 @@ pub record HasNumbers (p : DesignParts) (c : Condensed) : Type 0 where
   pub lin_rad : HoldsMatrix c.lin_rad (entries (design_of p)) p.states p.states (λ j i. (fine_linear (design_of p) j i).rad)
   pub off : Holds c.off.items (entries (design_of p)) (λ j. (fine_constant (design_of p) j).mid)
   pub off_rad : Holds c.off_rad.items (entries (design_of p)) (λ j. (fine_constant (design_of p) j).rad)
-  pub g : HoldsMatrix c.g (rows (design_of p)) (entries (design_of p)) (entries (design_of p)) (λ i j. (fine_limit (design_of p) none (unit j) i).mid)
-  pub g_rad : HoldsMatrix c.g_rad (rows (design_of p)) (entries (design_of p)) (entries (design_of p)) (λ i j. (fine_limit (design_of p) none (unit j) i).rad)
-  pub e : HoldsMatrix c.e (rows (design_of p)) p.states p.states (λ i j. (fine_limit (design_of p) (unit j) none i).mid)
-  pub e_rad : HoldsMatrix c.e_rad (rows (design_of p)) p.states p.states (λ i j. (fine_limit (design_of p) (unit j) none i).rad)
+  pub g : HoldsMatrix c.g (rows (design_of p)) (entries (design_of p)) (entries (design_of p)) (λ i j. (fine_by_plan (design_of p) i j).mid)
+  pub g_rad : HoldsMatrix c.g_rad (rows (design_of p)) (entries (design_of p)) (entries (design_of p)) (λ i j. (fine_by_plan (design_of p) i j).rad)
+  pub e : HoldsMatrix c.e (rows (design_of p)) p.states p.states (λ i j. (fine_by_state (design_of p) i j).mid)
+  pub e_rad : HoldsMatrix c.e_rad (rows (design_of p)) p.states p.states (λ i j. (fine_by_state (design_of p) i j).rad)
   pub bound : Holds c.bound.items (rows (design_of p)) ((fine_form (design_of p)).numbers.bound)
 
 pub numbers_of : (p : DesignParts) (c : Condensed) (off : List Enc) (radius cost limit : ℕ) → AreFineCosts p c.hess c.hess_rad c.lin c.lin_rad off radius cost →
@@ -149,8 +148,8 @@ module _ (p : DesignParts) (c : Condensed) (h : IsDesign p) (k : HasNumbers p c)
     hess = λ i j l m. along (k.hess_rad.is i j l m) (twice (products_reach d one i j).radius);
     lin = λ j i l m. along (k.lin_rad.is j i l m) (doubled (products_reach d one j (entries d + i)).radius);
     off = λ j l. along (k.off_rad.is j l) (doubled (products_reach d one j (entries d + d.states)).radius);
-    g = λ i j l m. along (k.g_rad.is i j l m) (limit_reaches d one none (unit j) none_small (unit_small j) i l).radius;
-    e = λ i j l m. along (k.e_rad.is i j l m) (limit_reaches d one (unit j) none (unit_small j) none_small i l).radius;
+    g = λ i j l m. along (k.g_rad.is i j l m) (plan_reaches d one i j l).radius;
+    e = λ i j l m. along (k.e_rad.is i j l m) (state_reaches d one i j l).radius;
   }
     where
       along : {x y : ℤ} → x ≡ y → pos 0 ≤ℤ y → pos 0 ≤ℤ x
@@ -161,9 +160,6 @@ module _ (p : DesignParts) (c : Condensed) (h : IsDesign p) (k : HasNumbers p c)
 
       doubled : {r : ℤ} → pos 0 ≤ℤ r → pos 0 ≤ℤ (pos 2 *ℤ r)
       doubled {r} g = omega (arith, ints, g)
-
-      none_small : (i : ℕ) → unsigned_abs (none i) ≤ 1
-      none_small i = omega arith
 
   -- ---- the floor
   convex : fine_hessian_size d ≤ 2 ^ 126 → HasScales p c → IsConvex (entries d) (solve_matrix (held c)) c.floor

@@ -5,7 +5,7 @@ use Rattle.std.proofs.lemmas.Bool.Decides.{eqb_tells}
 use Rattle.std.proofs.Math.Nat.{mul-le-mul_left, pow-le-pow_left, one-le-mul}
 use Rattle.integer_algebra.specs.Bounds.{absolute}
 use Rattle.integer_algebra.specs.Division.{ceil_div}
-use Rattle.integer_algebra.specs.Sums.{at, none}
+use Rattle.integer_algebra.specs.Sums.{at}
 use Rattle.integer_algebra.specs.Sizes.{amount}
 use Rattle.integer_algebra.proofs.AmountLaws.{amount_none, amount_mono}
 use Rattle.integer_algebra.proofs.DivisionLaws.{mul-ceil_div-lt, le-mul-ceil_div}
@@ -16,16 +16,17 @@ use Rattle.qp_model.specs.declared.design_parts.DesignParts.{DesignParts}
 use Rattle.qp_model.specs.Design.{Design, entries, rows}
 use Rattle.qp_model.specs.Parts.{design_of, IsDesign}
 use Rattle.qp_model.specs.Form.{farthest}
-use Rattle.qp_model.specs.FineForm.{own_weight, fine_products, fine_hessian, fine_linear, fine_constant, fine_limit}
+use Rattle.qp_model.specs.FineForm.{own_weight, fine_products, fine_hessian, fine_linear, fine_constant, fine_by_plan, fine_by_state}
 use Rattle.qp_model.specs.FineSizes.{fine_reach, fine_response_size, fine_cost_entry_size, fine_limit_entry_size, fine_hessian_size, fine_cost_row_size}
 use Rattle.qp_model.specs.Quantities.{cost_width, weight_sum}
-use Rattle.qp_model.specs.Runs.{unit, bound_at}
-use Rattle.qp_model.proofs.QuantityLaws.{bound_width, unit_small}
+use Rattle.qp_model.specs.Runs.{bound_at}
+use Rattle.qp_model.proofs.QuantityLaws.{bound_width}
 use Rattle.qp_model.proofs.SizeFacts.{some_entry, some_weight}
 use Rattle.plant_condense.proofs.StateFacts.{denominator_positive}
+use Rattle.fine_run.specs.Lists.{Reaches}
+use Rattle.fine_run.proofs.Rooms.{reach_first}
 use Rattle.fine_condense.proofs.CostFacts.{products_reach}
-use Rattle.fine_condense.proofs.Rooms.{Reaches, reach_some}
-use Rattle.fine_condense.proofs.RowRooms.{limit_reaches}
+use Rattle.fine_condense.proofs.RowRooms.{plan_reaches, state_reaches}
 
 -- ---- one enclosure, at its farthest
 pub far_of : {e : Enclosure} {b : ℕ} → Reaches e b → farthest e.mid (unsigned_abs e.rad) ≤ b
@@ -96,7 +97,7 @@ module _ (p : DesignParts) (h : IsDesign p) where
 
   -- what the responses are over, over 2^40
   pub scale_square : d.row_denominator ^ 2 * 2 ^ 80 ≤ fine_response_size d ^ 2
-  scale_square = turn d.row_denominator (fine_response_size d) (pow-le-pow_left (wide d.row_denominator (cost_width d) (fine_reach d d.stages) (omega arith) (reach_some d one d.stages)) 2)
+  scale_square = turn d.row_denominator (fine_response_size d) (pow-le-pow_left (wide d.row_denominator (cost_width d) (fine_reach d d.stages) (omega arith) (reach_first d one (2 ^ 40) d.stages)) 2)
     where
       wide : (r c b : ℕ) → r ≤ c → 2 ^ 40 ≤ b → r * 2 ^ 40 ≤ c * b
       wide r c b h k = omega (arith, mul-le-mul_left b h, mul-le-mul_left r k)
@@ -240,17 +241,14 @@ module _ (p : DesignParts) (h : IsDesign p) where
       chained n k e l g = omega (arith, k, e, l, g)
 
   -- ---- the limits
-  none_small : (i : ℕ) → unsigned_abs (none i) ≤ 1
-  none_small i = omega arith
+  pub plan_small : (i j : ℕ) → i < rows d → farthest (fine_by_plan d i j).mid (unsigned_abs (fine_by_plan d i j).rad) ≤ fine_limit_entry_size d
+  plan_small i j l = far_of (plan_reaches d one i j l)
 
-  pub plan_small : (i j : ℕ) → i < rows d → farthest (fine_limit d none (unit j) i).mid (unsigned_abs (fine_limit d none (unit j) i).rad) ≤ fine_limit_entry_size d
-  plan_small i j l = far_of (limit_reaches d one none (unit j) none_small (unit_small j) i l)
-
-  pub state_small : (i j : ℕ) → i < rows d → farthest (fine_limit d (unit j) none i).mid (unsigned_abs (fine_limit d (unit j) none i).rad) ≤ fine_limit_entry_size d
-  state_small i j l = far_of (limit_reaches d one (unit j) none (unit_small j) none_small i l)
+  pub state_small : (i j : ℕ) → i < rows d → farthest (fine_by_state d i j).mid (unsigned_abs (fine_by_state d i j).rad) ≤ fine_limit_entry_size d
+  state_small i j l = far_of (state_reaches d one i j l)
 
   pub bound_small : (i : ℕ) → i < rows d → unsigned_abs (pos (2 ^ 40) *ℤ bound_at d i) ≤ fine_limit_entry_size d
-  bound_small i l = rw (unsigned_abs-mul (pos (2 ^ 40)) (bound_at d i)) (last _ _ _ (bound_width d i l) (reach_some d one d.stages))
+  bound_small i l = rw (unsigned_abs-mul (pos (2 ^ 40)) (bound_at d i)) (last _ _ _ (bound_width d i l) (reach_first d one (2 ^ 40) d.stages))
     where
       last : (b w r : ℕ) → b ≤ w → 2 ^ 40 ≤ r → 2 ^ 40 * b ≤ w * r
       last b w r k g = omega (arith, mul-le-mul_left b g, mul-le-mul_left r k)

@@ -19,7 +19,7 @@ use Rattle.qp_model.specs.Design.{Design, CostRow, entries}
 use Rattle.qp_model.specs.Condensing.{condensed_of, cost_target, own_input}
 use Rattle.qp_model.specs.Runs.{unit, bound_at, cost_run, counted, counts}
 use Rattle.qp_model.specs.Form as form
-use Rattle.qp_model.specs.FineForm.{counted_row, fine_costs, fine_products, own_weight, fine_hessian, fine_linear, fine_constant, fine_limit, hessian_row_radius, FineLaw}
+use Rattle.qp_model.specs.FineForm.{counted_row, fine_costs, fine_products, own_weight, fine_hessian, fine_linear, fine_constant, fine_by_plan, fine_by_state, hessian_row_radius, FineLaw}
 use Rattle.qp_model.specs.FineSizes.{FineFormLaw}
 use Rattle.qp_model.specs.Quantities.{input_floor}
 use Rattle.qp_model.proofs.SizeFacts.{greatest_term}
@@ -27,7 +27,7 @@ use Rattle.std.proofs.Math.Nat.{one-le-mul}
 use Rattle.qp_model.proofs.GramLaws as exact
 use Rattle.qp_model.proofs.GramLaws.{own_diagonal}
 use Rattle.qp_model.proofs.RowLaws.{plan_number, state_number, bound_number, stage_inside}
-use Rattle.fine_condense.proofs.Runs.{enclosed_as, natural_some, cost_encloses, whole_encloses, limit_encloses}
+use Rattle.fine_run.proofs.Runs.{enclosed_as, natural_some, whole_encloses, whole_cost_encloses, whole_limit_encloses}
 
 -- ---- the columns of the cost rows
 -- what a counted row has of each column, exactly
@@ -49,9 +49,9 @@ target_encloses d c = elim (cases_lt c (d.stages * d.stage_costs)) [
 costs_enclose : (d : Design) → 1 ≤ d.plant_denominator → (c j : ℕ) → Encloses (fine_costs d c j) (exact_costs d c j) (pos (d.plant_denominator ^ d.stages))
 unfolding exact_costs
 costs_enclose d h c j = elim (cases_lt j (entries d)) [
-  | inl l ↦ rw (lt-ltb j (entries d) l) (cost_encloses d none (unit j) h c)
+  | inl l ↦ rw (lt-ltb j (entries d) l) (whole_cost_encloses d none (unit j) h c)
   | inr l ↦ (elim (cases_lt j (entries d + d.states)) [
-    | inl m ↦ rw (le-ltb j (entries d) l, lt-ltb j (entries d + d.states) m) (cost_encloses d (unit (j - entries d)) none h c)
+    | inl m ↦ rw (le-ltb j (entries d) l, lt-ltb j (entries d + d.states) m) (whole_cost_encloses d (unit (j - entries d)) none h c)
     | inr m ↦ rw (le-ltb j (entries d) l, le-ltb j (entries d + d.states) m) (target_encloses d c)
   ])
 ]
@@ -218,10 +218,10 @@ fine_law d rho s = record {
   hessian = λ i j l m. apart _ _ (d.cost_denominator * d.row_denominator ^ 2) _ (form.hessian_scale d) _ cost_scale refl (hessian_encloses d s.plant_denominator s.inputs i j l m);
   linear = λ j i l m. apart _ _ (d.cost_denominator * d.row_denominator ^ 2) _ (form.hessian_scale d) _ cost_scale refl (linear_encloses d s.plant_denominator s.inputs j i l m);
   constant = λ j l. apart _ _ (d.cost_denominator * d.row_denominator ^ 2) _ (form.hessian_scale d) _ cost_scale refl (constant_encloses d s.plant_denominator s.inputs j l);
-  plan = λ i j l m. apart (fine_limit d none (unit j) i) _ d.limit_denominator _ (form.rows_scale d) _ refl refl
-      (enclosed_as _ _ (sym (plan_number d i j s.inputs)) refl (limit_encloses d none (unit j) s.plant_denominator i));
-  state = λ i j l m. apart (fine_limit d (unit j) none i) _ d.limit_denominator _ (form.rows_scale d) _ refl refl
-      (enclosed_as _ _ (sym (state_number d i j)) refl (limit_encloses d (unit j) none s.plant_denominator i));
+  plan = λ i j l m. apart (fine_by_plan d i j) _ d.limit_denominator _ (form.rows_scale d) _ refl refl
+      (enclosed_as _ _ (sym (plan_number d i j s.inputs)) refl (whole_limit_encloses d none (unit j) s.plant_denominator i));
+  state = λ i j l m. apart (fine_by_state d i j) _ d.limit_denominator _ (form.rows_scale d) _ refl refl
+      (enclosed_as _ _ (sym (state_number d i j)) refl (whole_limit_encloses d (unit j) none s.plant_denominator i));
   bound = λ i l. rw (bound_number d i) (bounds d.limit_denominator (2 ^ 40) (d.plant_denominator ^ d.stages) (bound_at d i));
 }
   where

@@ -1,14 +1,10 @@
 -- The lemmas by topic.
 
--- ---- the law: runs, rows and products
-pub mod Runs
+-- ---- the law: rows and products
 pub mod Laws
-pub mod Rooms
 pub mod RowRooms
--- ---- states, rows and products as code makes them
-pub mod ListFacts
-pub mod StateFacts
-pub mod RowFacts
+-- ---- units, columns and products as code makes them
+pub mod UnitFacts
 pub mod ColumnFacts
 pub mod ProductFacts
 pub mod CostFacts

@@ -20,12 +20,12 @@ use Rattle.qp_model.proofs.CountLaws.{counted_all}
 use Rattle.qp_model.proofs.SizeFacts.{hessian_parts, rows_parts, some_weight, some_cost, some_entry, some_limit, some_row}
 use Rattle.qp_model.proofs.QuantityLaws.{bound_width}
 use Rattle.plant_condense.proofs.StateFacts.{denominator_positive}
-use Rattle.fine_condense.proofs.Rooms.{reach_some}
+use Rattle.fine_run.proofs.Rooms.{reach_first}
+use Rattle.fine_run.proofs.ListFacts.{combined_same}
 use Rattle.plant_condense.specs.Costs.{weight_of}
 use Rattle.fine_condense.specs.Lists.{HoldsEncMatrix}
 use Rattle.fine_condense.specs.Numbers.{fine_cost_total}
 use Rattle.fine_condense.proofs.RowRooms.{counted_at, products_room}
-use Rattle.fine_condense.proofs.ListFacts.{combined_same}
 
 -- ---- sizes
 pub response_room : (p : DesignParts) → IsDesign p → fine_cost_total (design_of p) ≤ 2 ^ 126 → fine_response_size (design_of p) ≤ 2 ^ 126
@@ -87,7 +87,7 @@ pub limit_room : (p : DesignParts) → IsDesign p → fine_rows_size (design_of 
 limit_room p h k = (rows_parts (entries (design_of p)) p.states (rows (design_of p)) (limit_width (design_of p)) (fine_reach (design_of p) p.stages) _ (some_row p h) (some_limit p h) k).0
 
 pub bound_room : (p : DesignParts) → IsDesign p → fine_rows_size (design_of p) ≤ 2 ^ 126 → (i : ℕ) → i < rows (design_of p) → 2 ^ 40 * unsigned_abs (bound_at (design_of p) i) ≤ 2 ^ 126
-bound_room p h k i l = last _ (limit_width (design_of p)) (fine_reach (design_of p) p.stages) (bound_width (design_of p) i l) (reach_some (design_of p) (denominator_positive p.plant_den h.plant_den.low) p.stages) (limit_room p h k)
+bound_room p h k i l = last _ (limit_width (design_of p)) (fine_reach (design_of p) p.stages) (bound_width (design_of p) i l) (reach_first (design_of p) (denominator_positive p.plant_den h.plant_den.low) (2 ^ 40) p.stages) (limit_room p h k)
   where
     last : (b w r : ℕ) → b ≤ w → 2 ^ 40 ≤ r → w * r ≤ 2 ^ 126 → 2 ^ 40 * b ≤ 2 ^ 126
     last b w r h k l = omega (arith, mul-le-mul_left w k, h, l)

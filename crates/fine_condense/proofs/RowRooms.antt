@@ -1,23 +1,23 @@
--- How far what the rows have of runs in enclosures reaches, and the products of the cost rows.
-use Rattle.std.proofs.Common.{◌≡◌, inl, inr, ℕ, zero, suc, ◌+◌, ◌-◌, ◌*◌, ◌/◌, ◌%◌, ◌^◌, ◌<◌, ◌≤◌, ℤ, pos, negsuc, ◌+ℤ◌, ◌*ℤ◌, ◌≤ℤ◌, unsigned_abs, arith, refl}
+-- How far what the rows have of units reaches, and the products of the cost rows.
+use Rattle.std.proofs.Common.{◌≡◌, inl, inr, ℕ, zero, suc, ◌+◌, ◌-◌, ◌*◌, ◌^◌, ◌<◌, ◌≤◌, ℤ, pos, negsuc, ◌+ℤ◌, ◌*ℤ◌, ◌≤ℤ◌, unsigned_abs, arith, refl}
 use Rattle.std.proofs.lemmas.Int.{ints, unsigned_abs-mul}
 use Rattle.std.proofs.lemmas.Bool.{cases_lt, lt-ltb, le-ltb}
 use Rattle.std.proofs.Math.Nat.{mul-le-mul_left}
-use Rattle.integer_algebra.specs.Sums.{total, dot, none}
+use Rattle.integer_algebra.specs.Sums.{total, none}
 use Rattle.integer_algebra.specs.Sizes.{size}
 use Rattle.integer_algebra.proofs.PowerLaws.{pow-two}
-use Rattle.integer_algebra.proofs.SizeLaws.{size_same, total_size}
+use Rattle.integer_algebra.proofs.SizeLaws.{size_same}
 use Rattle.frac_scaled.specs.Enclosures.{Enclosure, magnitude, exactly}
-use Rattle.mat_int.specs.Enclosures.{combination_magnitude, gram_magnitude}
-use Rattle.qp_model.specs.Design.{Design, CostRow, LimitRow, entries, rows}
-use Rattle.qp_model.specs.Quantities.{cost_width, limit_width, weight_sum}
+use Rattle.mat_int.specs.Enclosures.{gram_magnitude}
+use Rattle.qp_model.specs.Design.{Design, CostRow, entries, rows}
+use Rattle.qp_model.specs.Quantities.{cost_width, weight_sum}
 use Rattle.qp_model.specs.Runs.{unit, counted, counts}
-use Rattle.qp_model.specs.FineForm.{fine_run, counted_stage, counted_row, fine_cost, fine_costs, fine_final_limit, fine_stage_limit, fine_limit}
-use Rattle.qp_model.specs.FineSizes.{fine_reach, fine_response_size, fine_limit_entry_size}
-use Rattle.qp_model.proofs.RowLaws.{stage_inside, remainder_inside}
-use Rattle.qp_model.proofs.RunLaws.{product_within}
-use Rattle.qp_model.proofs.QuantityLaws.{slim, narrow, target_width, weights_size, unit_small}
-use Rattle.fine_condense.proofs.Rooms.{Reaches, reaches_more, exactly_reaches, sum_reaches, reach_some, row_reaches, row_room}
+use Rattle.qp_model.specs.FineForm.{wholes, counted_row, fine_cost, fine_costs, fine_by_plan, fine_by_state}
+use Rattle.qp_model.specs.FineSizes.{fine_response_size, fine_limit_entry_size}
+use Rattle.qp_model.proofs.QuantityLaws.{target_width, weights_size, unit_small}
+use Rattle.fine_run.specs.Lists.{Reaches}
+use Rattle.fine_run.proofs.Rooms.{reaches_more, exactly_reaches, reach_first}
+use Rattle.fine_run.proofs.RowRooms.{cost_reaches, limit_reaches}
 
 -- a number of a counted row
 pub counted_at : (d : Design) (f : CostRow → ℤ) (c : ℕ) → counted d (λ k r. f r) c ≡ f (counted_row d c)
@@ -26,11 +26,12 @@ counted_at d f c = elim (cases_lt c (d.stages * d.stage_costs)) [
   | inr m ↦ rw (le-ltb c (d.stages * d.stage_costs) m) refl
 ]
 
-none_small : (i : ℕ) → unsigned_abs (none i) ≤ 1
-none_small i = omega arith
+-- ---- units
+pub none_reaches : (i : ℕ) → Reaches (wholes none i) (2 ^ 40)
+none_reaches i = exactly_reaches (none i) 1 (omega arith)
 
-same : (n : ℕ) → n ≤ n
-same n = omega arith
+pub unit_reaches : (j i : ℕ) → Reaches (wholes (unit j) i) (2 ^ 40)
+unit_reaches j i = exactly_reaches (unit j i) 1 (unit_small j i)
 
 -- the weights together
 pub weights_narrow : (d : Design) → size (counts d) (λ c. (counted_row d c).weight) ≤ weight_sum d
@@ -41,38 +42,24 @@ weights_narrow d = last _ _ d.cost_denominator (d.stages * size d.inputs d.input
 
 -- ---- the cost rows
 module _ (d : Design) (one : 1 ≤ d.plant_denominator) where
-  -- its stage is one of the design, and its sum is narrow
-  pub counted_stage_in : (c : ℕ) → counted_stage d c ≤ d.stages
-  counted_stage_in c = elim (cases_lt c (d.stages * d.stage_costs)) [
-    | inl m ↦ rw (lt-ltb c (d.stages * d.stage_costs) m) (stage_inside c d.stages d.stage_costs m)
-    | inr m ↦ rw (le-ltb c (d.stages * d.stage_costs) m) (same d.stages)
-  ]
+  plan_cost_reaches : (j c : ℕ) → c < counts d → Reaches (fine_cost d (wholes none) (wholes (unit j)) c) (fine_response_size d)
+  plan_cost_reaches j c l = cost_reaches d one (2 ^ 40) (wholes none) (wholes (unit j)) (λ i o. none_reaches i) (λ i o. unit_reaches j i) c l
 
-  pub counted_slim : (c : ℕ) → c < counts d → size d.states (counted_row d c).coefficient ≤ cost_width d
-  counted_slim c l = elim (cases_lt c (d.stages * d.stage_costs)) [
-    | inl m ↦ rw (lt-ltb c (d.stages * d.stage_costs) m) ((slim d).stage (c % d.stage_costs) (remainder_inside c d.stages d.stage_costs m))
-    | inr m ↦ rw (le-ltb c (d.stages * d.stage_costs) m) ((slim d).final (c - d.stages * d.stage_costs) (omega arith))
-  ]
-
-  module _ (x v : ℕ → ℤ) (hx : (i : ℕ) → unsigned_abs (x i) ≤ 1) (hv : (j : ℕ) → unsigned_abs (v j) ≤ 1) where
-    pub cost_reaches : (c : ℕ) → c < counts d → Reaches (fine_cost d x v c) (fine_response_size d)
-    cost_reaches c l = row_reaches d one x v hx hv (counted_row d c).coefficient (cost_width d) (counted_stage d c) (counted_slim c l) (counted_stage_in c)
-
-    pub cost_room : (c : ℕ) → c < counts d → combination_magnitude d.states (counted_row d c).coefficient (fine_run d x v (counted_stage d c)) ≤ℤ pos (fine_response_size d)
-    cost_room c l = row_room d one x v hx hv (counted_row d c).coefficient (cost_width d) (counted_stage d c) (counted_slim c l) (counted_stage_in c)
+  state_cost_reaches : (j c : ℕ) → c < counts d → Reaches (fine_cost d (wholes (unit j)) (wholes none) c) (fine_response_size d)
+  state_cost_reaches j c l = cost_reaches d one (2 ^ 40) (wholes (unit j)) (wholes none) (λ i o. unit_reaches j i) (λ i o. none_reaches i) c l
 
   pub target_reaches : (c : ℕ) → c < counts d → Reaches (exactly (counted_row d c).target) (fine_response_size d)
   target_reaches c l = reaches_more (exactly_reaches (counted_row d c).target (cost_width d) (rw (← counted_at d (λ r. r.target) c) (target_width d c l)))
-      (scaled (cost_width d) (reach_some d one d.stages))
+      (scaled (cost_width d) (reach_first d one (2 ^ 40) d.stages))
     where
       scaled : (w : ℕ) {a b : ℕ} → a ≤ b → a * w ≤ w * b
       scaled w {a} {b} h = omega (arith, mul-le-mul_left w h)
 
   pub costs_reach : (c j : ℕ) → c < counts d → Reaches (fine_costs d c j) (fine_response_size d)
   costs_reach c j l = elim (cases_lt j (entries d)) [
-    | inl m ↦ rw (lt-ltb j (entries d) m) (cost_reaches none (unit j) none_small (unit_small j) c l)
+    | inl m ↦ rw (lt-ltb j (entries d) m) (plan_cost_reaches j c l)
     | inr m ↦ (elim (cases_lt j (entries d + d.states)) [
-      | inl n ↦ rw (le-ltb j (entries d) m, lt-ltb j (entries d + d.states) n) (cost_reaches (unit (j - entries d)) none (unit_small (j - entries d)) none_small c l)
+      | inl n ↦ rw (le-ltb j (entries d) m, lt-ltb j (entries d + d.states) n) (state_cost_reaches (j - entries d) c l)
       | inr n ↦ rw (le-ltb j (entries d) m, le-ltb j (entries d + d.states) n) (target_reaches c l)
     ])
   ]
@@ -119,44 +106,8 @@ module _ (d : Design) (one : 1 ≤ d.plant_denominator) where
           add p q s c b h k = omega (arith, ints)
 
   -- ---- the limit rows
-  module _ (x v : ℕ → ℤ) (hx : (i : ℕ) → unsigned_abs (x i) ≤ 1) (hv : (j : ℕ) → unsigned_abs (v j) ≤ 1) where
-    -- the part of the input
-    pub input_reaches : (k : ℕ) (c : ℕ → ℤ) → Reaches (exactly (dot d.inputs c (λ l. v (k * d.inputs + l)))) (size d.inputs c * fine_reach d d.stages)
-    input_reaches k c = reaches_more (exactly_reaches (dot d.inputs c (λ l. v (k * d.inputs + l))) (size d.inputs c)
-        (chained (total_size d.inputs (λ l. c l *ℤ v (k * d.inputs + l))) (product_within d.inputs c (λ l. v (k * d.inputs + l)) 1 (λ l o. hv (k * d.inputs + l)))))
-        (scaled (size d.inputs c) (reach_some d one d.stages))
-      where
-        chained : {a b c : ℕ} → a ≤ b → b ≤ c * 1 → a ≤ c
-        chained h k = omega (arith, h, k)
+  pub plan_reaches : (i j : ℕ) → i < rows d → Reaches (fine_by_plan d i j) (fine_limit_entry_size d)
+  plan_reaches i j l = limit_reaches d one (2 ^ 40) (wholes none) (wholes (unit j)) (λ i o. none_reaches i) (λ i o. unit_reaches j i) i l
 
-        scaled : (w : ℕ) {a b : ℕ} → a ≤ b → a * w ≤ w * b
-        scaled w {a} {b} h = omega (arith, mul-le-mul_left w h)
-
-    -- of a row at a stage
-    pub stage_limit_reaches : (k : ℕ) (r : LimitRow) → k ≤ d.stages → size d.states r.of_state + size d.inputs r.of_input ≤ limit_width d →
-        Reaches (fine_stage_limit d x v k r) (fine_limit_entry_size d)
-    stage_limit_reaches k r l h = reaches_more (sum_reaches _ _ _ _ (row_reaches d one x v hx hv r.of_state _ k (same (size d.states r.of_state)) l) (input_reaches k r.of_input))
-        (joined (size d.states r.of_state) (size d.inputs r.of_input) (limit_width d) (fine_reach d d.stages) h)
-      where
-        joined : (a b w r : ℕ) → a + b ≤ w → a * r + b * r ≤ w * r
-        joined a b w r h = omega (arith, mul-le-mul_left r h)
-
-    -- before its two parts are added
-    pub stage_limit_room : (k : ℕ) (r : LimitRow) → k ≤ d.stages → size d.states r.of_state + size d.inputs r.of_input ≤ limit_width d →
-        (magnitude (fine_final_limit d x v k r) +ℤ magnitude (exactly (dot d.inputs r.of_input (λ l. v (k * d.inputs + l))))) ≤ℤ pos (fine_limit_entry_size d)
-    stage_limit_room k r l h = joined _ _ (size d.states r.of_state) (size d.inputs r.of_input) (limit_width d) (fine_reach d d.stages) h
-        (row_reaches d one x v hx hv r.of_state _ k (same (size d.states r.of_state)) l).within (input_reaches k r.of_input).within
-      where
-        joined : (p q : ℤ) (a b w r : ℕ) → a + b ≤ w → p ≤ℤ pos (a * r) → q ≤ℤ pos (b * r) → (p +ℤ q) ≤ℤ pos (w * r)
-        joined p q a b w r h k l = omega (arith, ints, mul-le-mul_left r h)
-
-    pub limit_reaches : (i : ℕ) → i < rows d → Reaches (fine_limit d x v i) (fine_limit_entry_size d)
-    limit_reaches i l = elim (cases_lt i (d.stages * d.stage_limits)) [
-      | inl m ↦ rw (lt-ltb i (d.stages * d.stage_limits) m) (stage_limit_reaches (i / d.stage_limits) (d.stage_limit (i % d.stage_limits)) (before (stage_inside i d.stages d.stage_limits m))
-          ((narrow d).stage (i % d.stage_limits) (remainder_inside i d.stages d.stage_limits m)))
-      | inr m ↦ rw (le-ltb i (d.stages * d.stage_limits) m) (row_reaches d one x v hx hv (d.final_limit (i - d.stages * d.stage_limits)).of_state (limit_width d) d.stages
-          ((narrow d).final (i - d.stages * d.stage_limits) (omega arith)) (same d.stages))
-    ]
-      where
-        before : {a b : ℕ} → a < b → a ≤ b
-        before h = omega arith
+  pub state_reaches : (i j : ℕ) → i < rows d → Reaches (fine_by_state d i j) (fine_limit_entry_size d)
+  state_reaches i j l = limit_reaches d one (2 ^ 40) (wholes (unit j)) (wholes none) (λ i o. unit_reaches j i) (λ i o. none_reaches i) i l

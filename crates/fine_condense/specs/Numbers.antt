@@ -4,12 +4,12 @@ use Rattle.mat_int.specs.Matrix.{Matrix}
 use Rattle.mat_int.specs.Enclosures.{HasEnclosures}
 use Rattle.qp_model.specs.declared.design_parts.DesignParts.{DesignParts}
 use Rattle.qp_model.specs.Parts.{design_of, IsDesign}
-use Rattle.qp_model.specs.FineForm.{fine_products, fine_hessian, fine_linear, fine_constant, fine_limit, hessian_radius}
-use Rattle.integer_algebra.specs.Sums.{none}
-use Rattle.qp_model.specs.Runs.{unit, bound_at, Holds}
+use Rattle.qp_model.specs.FineForm.{fine_products, fine_hessian, fine_linear, fine_constant, fine_by_plan, fine_by_state, hessian_radius}
+use Rattle.qp_model.specs.Runs.{bound_at, Holds}
 use Rattle.qp_model.specs.Design.{Design, entries, rows}
 use Rattle.enclosure.specs.declared.types.Enc.{Enc}
-use Rattle.fine_condense.specs.Lists.{HoldsEnclosures, HoldsEncMatrix}
+use Rattle.fine_run.specs.Lists.{HoldsEnclosures}
+use Rattle.fine_condense.specs.Lists.{HoldsEncMatrix}
 use Rattle.qp_model.specs.FineSizes.{fine_cost_entry_size, fine_hessian_size, fine_rows_size}
 
 -- the absolute values of all numbers of the condensed cost, over 2^80
@@ -39,8 +39,8 @@ pub record AreFineCosts (p : DesignParts) (hess_mid hess_rad lin_mid lin_rad : M
 
 -- what the limit rows have of a plan and of a state, their bounds over 2^40, and the quantity `rows`
 pub record AreFineLimits (p : DesignParts) (plan_mid plan_rad state_mid state_rad : Matrix) (b : List ℤ) (size : ℕ) : Type 0 where
-  pub plan : HoldsEncMatrix plan_mid plan_rad (rows (design_of p)) (p.stages * p.inputs) (p.stages * p.inputs) (λ i j. fine_limit (design_of p) none (unit j) i)
-  pub state : HoldsEncMatrix state_mid state_rad (rows (design_of p)) p.states p.states (λ i j. fine_limit (design_of p) (unit j) none i)
+  pub plan : HoldsEncMatrix plan_mid plan_rad (rows (design_of p)) (p.stages * p.inputs) (p.stages * p.inputs) (fine_by_plan (design_of p))
+  pub state : HoldsEncMatrix state_mid state_rad (rows (design_of p)) p.states p.states (fine_by_state (design_of p))
   pub bound : Holds b (rows (design_of p)) (λ i. pos (2 ^ 40) *ℤ bound_at (design_of p) i)
   pub quantity : size ≡ fine_rows_size (design_of p)
   pub room : fine_rows_size (design_of p) ≤ 2 ^ 126

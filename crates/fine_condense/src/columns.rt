@@ -1,17 +1,16 @@
 // What the rows have of each entry of the plan and of each state, in enclosures, column by column.
 ghost use Rattle.std.specs.Prelude.{◌≡◌, ◌≤◌, ◌<◌, ◌+◌, ◌*◌, ◌^◌, ℕ, length, IfOk};
 ghost use Rattle.frac_scaled.specs.Enclosures.{exactly};
-ghost use Rattle.integer_algebra.specs.Sums.{none};
 ghost use Rattle.qp_model.specs.Design.{entries, rows};
 ghost use Rattle.qp_model.specs.Parts.{design_of, IsDesign};
-ghost use Rattle.qp_model.specs.Runs.{unit, counts};
-ghost use Rattle.qp_model.specs.FineForm.{counted_row, fine_costs, fine_limit};
+ghost use Rattle.qp_model.specs.Runs.{counts};
+ghost use Rattle.qp_model.specs.FineForm.{counted_row, fine_costs, fine_by_plan, fine_by_state};
 ghost use Rattle.qp_model.specs.FineSizes.{fine_prediction_size, fine_response_size, fine_limit_entry_size};
 ghost use Rattle.plant_condense.specs.Lists.{with_column};
-ghost use Rattle.fine_condense.specs.Lists.{HoldsEnclosures, HoldsEncMatrix, mids, rads};
+ghost use Rattle.fine_run.specs.Lists.{HoldsEnclosures};
+ghost use Rattle.fine_condense.specs.Lists.{HoldsEncMatrix, mids, rads};
 
-use crate::run::FineRun;
-use crate::states::whole;
+use crate::units::{run_of_plan, run_of_state, whole};
 use enclosure::{Enc, EncMat};
 use plant_condense::target_at;
 use qp_model::DesignParts;
@@ -51,10 +50,10 @@ fn cost_column(alloc: Global, parts: &DesignParts, j: usize) -> Result<Vec<Enc>,
 {
     let entries = parts.stages * parts.inputs;
     if j < entries {
-        return FineRun::of_plan(alloc, parts, j)?.costs(alloc);
+        return run_of_plan(alloc, parts, j)?.costs(alloc);
     }
     if j < entries + parts.states {
-        return FineRun::of_state(alloc, parts, j - entries)?.costs(alloc);
+        return run_of_state(alloc, parts, j - entries)?.costs(alloc);
     }
     targets(alloc, parts)
 }
@@ -82,14 +81,14 @@ pub fn fine_plan_columns(alloc: Global, parts: &DesignParts) -> Result<EncMat, A
     requires design { IsDesign parts.now }
     requires prediction { fine_prediction_size (design_of parts.now) ≤ 2 ^ 126 }
     requires fits { fine_limit_entry_size (design_of parts.now) ≤ 2 ^ 126 }
-    ensures { let width = parts.now.stages * parts.now.inputs in IfOk result (λ m. HoldsEncMatrix m.mid m.rad (rows (design_of parts.now)) width width
-        (λ i j. fine_limit (design_of parts.now) none (unit j) i)) }
+    ensures { let width = parts.now.stages * parts.now.inputs in
+        IfOk result (λ m. HoldsEncMatrix m.mid m.rad (rows (design_of parts.now)) width width (fine_by_plan (design_of parts.now))) }
 {
     let width = parts.stages * parts.inputs;
     let count = parts.stages * parts.stage_rows.rows() + parts.final_rows.rows();
     let mut mat = EncMat::zero(alloc, count, width)?;
     for j in 0..width {
-        let run = FineRun::of_plan(alloc, parts, j)?;
+        let run = run_of_plan(alloc, parts, j)?;
         let column = run.limits(alloc)?;
         set_column(&mut mat, j, &column);
     }
@@ -102,12 +101,12 @@ pub fn fine_state_columns(alloc: Global, parts: &DesignParts) -> Result<EncMat, 
     requires prediction { fine_prediction_size (design_of parts.now) ≤ 2 ^ 126 }
     requires fits { fine_limit_entry_size (design_of parts.now) ≤ 2 ^ 126 }
     ensures { IfOk result (λ m. HoldsEncMatrix m.mid m.rad (rows (design_of parts.now)) parts.now.states parts.now.states
-        (λ i j. fine_limit (design_of parts.now) (unit j) none i)) }
+        (fine_by_state (design_of parts.now))) }
 {
     let count = parts.stages * parts.stage_rows.rows() + parts.final_rows.rows();
     let mut mat = EncMat::zero(alloc, count, parts.states)?;
     for j in 0..parts.states {
-        let run = FineRun::of_state(alloc, parts, j)?;
+        let run = run_of_state(alloc, parts, j)?;
         let column = run.limits(alloc)?;
         set_column(&mut mat, j, &column);
     }

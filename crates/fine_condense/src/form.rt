@@ -13,8 +13,8 @@ ghost use Rattle.fine_condense.specs.Numbers.{AreFineCosts, AreFineLimits};
 use crate::costs::{FineCosts, fine_costs};
 use crate::limits::{FineLimits, fine_limits};
 use crate::scales::{bend_floor, brought_weight};
-use crate::sizes::last_reach;
 use enclosure::Enc;
+use fine_run::last_reach;
 use frac_scaled::scaled;
 use plant_condense::{CondenseFault, Condensed, least_of};
 use qp_model::{Design, DesignParts, Quantity};
@@ -45,7 +45,7 @@ fn fine_numbers(alloc: Global, parts: &DesignParts) -> Result<FineNumbers, Conde
     ensures prediction { OnOk result (fine_prediction_size (design_of parts.now) ≤ 2 ^ 126) }
     ensures wide { (quantity : Quantity) → result ≡ Err (CondenseFault.TooWide quantity) → IsFirstWideIn true (design_of parts.now) quantity }
 {
-    let Some(reach) = last_reach(parts) else {
+    let Some(reach) = last_reach(parts, 1 << 40) else {
         return Err(CondenseFault::TooWide {
             quantity: Quantity::Prediction,
         });

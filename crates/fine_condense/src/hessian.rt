@@ -3,7 +3,8 @@ ghost use Rattle.std.specs.Prelude.{◌≡◌, ◌≤◌, ◌<◌, ◌+◌, ◌*
 ghost use Rattle.qp_model.specs.Design.{entries};
 ghost use Rattle.qp_model.specs.Parts.{design_of, IsDesign};
 ghost use Rattle.qp_model.specs.FineForm.{own_weight, fine_hessian, fine_linear, fine_constant};
-ghost use Rattle.fine_condense.specs.Lists.{HoldsEnclosures, HoldsEncMatrix};
+ghost use Rattle.fine_run.specs.Lists.{HoldsEnclosures};
+ghost use Rattle.fine_condense.specs.Lists.{HoldsEncMatrix};
 ghost use Rattle.fine_condense.specs.Numbers.{AreProducts};
 
 use crate::columns::set_column;

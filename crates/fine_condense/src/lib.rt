@@ -6,9 +6,8 @@ mod costs;
 mod form;
 mod hessian;
 mod limits;
-mod run;
 mod scales;
 mod sizes;
-mod states;
+mod units;
 
 pub use form::{condense_fine, fine_form_law, fine_law};

@@ -1,27 +1,12 @@
 // The quantities of the condensed numbers in enclosures. None stands for a number above `2^126`.
-ghost use Rattle.std.specs.Prelude.{◌≡◌, ◌≤◌, ◌^◌, pos, unsigned_abs};
+ghost use Rattle.std.specs.Prelude.{◌≡◌, ◌≤◌, ◌^◌};
 ghost use Rattle.std.specs.Option.{SomeIff};
 ghost use Rattle.qp_model.specs.Parts.{design_of, IsDesign};
-ghost use Rattle.qp_model.specs.FineSizes.{fine_reach, fine_prediction_size, fine_rows_size};
+ghost use Rattle.qp_model.specs.FineSizes.{fine_reach, fine_rows_size};
 ghost use Rattle.fine_condense.specs.Numbers.{fine_cost_total};
 
 use frac_scaled::limited_product;
-use qp_model::{DesignParts, cost_width, growth, limit_width, limited_area, weight_sum};
-
-/// What a response reaches at the last stage at most, over `2^40`, where the quantity `prediction` is at most `2^126`.
-pub fn last_reach(parts: &DesignParts) -> Option<u128>
-    requires { IsDesign parts.now }
-    ensures { SomeIff result (fine_prediction_size (design_of parts.now) ≤ 2 ^ 126) (fine_reach (design_of parts.now) parts.now.stages) }
-{
-    let growth = growth(parts);
-    let den = parts.plant_den.unsigned_abs();
-    let mut reach = 1 << 40;
-    for _ in 0..parts.stages {
-        reach = (limited_product(growth, reach)? + (den - 1)) / den + 3;
-    }
-    limited_product(growth, reach)?;
-    Some(reach)
-}
+use qp_model::{DesignParts, cost_width, limit_width, limited_area, weight_sum};
 
 /// The absolute values of all numbers of the condensed cost, over `2^80`.
 pub fn fine_cost_total(parts: &DesignParts, reach: u128) -> Option<u128>

@@ -3,7 +3,7 @@ use Rattle.qp_model.specs.Parts.{design_of}
 use Rattle.qp_model.specs.Runs.{counts}
 use Rattle.qp_model.specs.FineForm.{fine_costs}
 use Rattle.fine_condense.specs.Lists.{HoldsEncMatrix}
-use Rattle.fine_condense.proofs.ListFacts.{lent_holds}
+use Rattle.fine_run.proofs.ListFacts.{lent_holds}
 use Rattle.fine_condense.proofs.ColumnFacts.{enclosures_written}
 use Rattle.fine_condense.proofs.columns.cost_columns.Goals as goal
 

@@ -7,8 +7,8 @@ use Rattle.qp_model.specs.Design.{CostRow}
 use Rattle.qp_model.specs.Parts.{design_of}
 use Rattle.qp_model.specs.Runs.{counts}
 use Rattle.qp_model.specs.FineForm.{counted_row}
-use Rattle.fine_condense.specs.Lists.{HoldsEnclosures}
-use Rattle.fine_condense.proofs.ListFacts.{one_pushed}
+use Rattle.fine_run.specs.Lists.{HoldsEnclosures}
+use Rattle.fine_run.proofs.ListFacts.{one_pushed}
 use Rattle.fine_condense.proofs.RowRooms.{counted_at}
 use Rattle.fine_condense.proofs.columns.targets.Goals as goal
 

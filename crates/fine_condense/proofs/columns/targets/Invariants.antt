@@ -1,7 +1,7 @@
 use Rattle.frac_scaled.specs.Enclosures.{exactly}
 use Rattle.qp_model.specs.Parts.{design_of}
 use Rattle.qp_model.specs.FineForm.{counted_row}
-use Rattle.fine_condense.specs.Lists.{HoldsEnclosures}
+use Rattle.fine_run.specs.Lists.{HoldsEnclosures}
 use Rattle.fine_condense.proofs.columns.targets.Given as goal
 
 abbrev pub invariant-loop-c : goal.invariant-loop-c

@@ -3,7 +3,7 @@ use Rattle.std.specs.Int.{w128}
 use Rattle.std.proofs.lemmas.Int.{to_z-of_z}
 use Rattle.qp_model.specs.Parts.{design_of}
 use Rattle.qp_model.specs.FineForm.{fine_hessian}
-use Rattle.fine_condense.proofs.ListFacts.{one_pushed}
+use Rattle.fine_run.proofs.ListFacts.{one_pushed}
 use Rattle.fine_condense.proofs.CostFacts.{product_at, product_near, hessian_entry, small_fits}
 use Rattle.fine_condense.proofs.hessian.hessian_column.Goals as goal
 

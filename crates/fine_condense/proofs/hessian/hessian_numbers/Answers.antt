@@ -2,7 +2,7 @@ use Rattle.std.proofs.Common.{◌≡◌, ℕ, ◌*◌, arith, subst}
 use Rattle.qp_model.specs.Parts.{design_of}
 use Rattle.qp_model.specs.FineForm.{fine_hessian}
 use Rattle.fine_condense.specs.Lists.{HoldsEncMatrix}
-use Rattle.fine_condense.proofs.ListFacts.{lent_holds}
+use Rattle.fine_run.proofs.ListFacts.{lent_holds}
 use Rattle.fine_condense.proofs.ColumnFacts.{enclosures_written}
 use Rattle.fine_condense.proofs.hessian.hessian_numbers.Goals as goal
 

@@ -1,7 +1,7 @@
 use Rattle.std.proofs.Common.{◌+◌, ◌*◌, arith, ◌∙◌}
 use Rattle.qp_model.specs.Parts.{design_of}
 use Rattle.qp_model.specs.FineForm.{fine_linear}
-use Rattle.fine_condense.proofs.ListFacts.{one_pushed}
+use Rattle.fine_run.proofs.ListFacts.{one_pushed}
 use Rattle.fine_condense.proofs.CostFacts.{product_at, product_near, linear_entry}
 use Rattle.fine_condense.proofs.hessian.linear_column.Goals as goal
 

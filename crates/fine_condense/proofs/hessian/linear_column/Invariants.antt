@@ -1,6 +1,6 @@
 use Rattle.qp_model.specs.Parts.{design_of}
 use Rattle.qp_model.specs.FineForm.{fine_linear}
-use Rattle.fine_condense.specs.Lists.{HoldsEnclosures}
+use Rattle.fine_run.specs.Lists.{HoldsEnclosures}
 use Rattle.fine_condense.proofs.hessian.linear_column.Given as goal
 
 abbrev pub invariant-loop-j : goal.invariant-loop-j

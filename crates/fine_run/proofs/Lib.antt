@@ -1,0 +1,11 @@
+-- The lemmas by topic.
+
+-- ---- what runs enclose
+pub mod Runs
+-- ---- how far a run reaches
+pub mod Rooms
+pub mod RowRooms
+-- ---- states and rows as code makes them
+pub mod ListFacts
+pub mod StateFacts
+pub mod RowFacts
