@@ -2,5 +2,7 @@
 
 -- ---- which class
 pub mod ClassFacts
--- ---- the form of each class
+pub mod CornerFacts
+-- ---- the form of each class, and the corners
 pub mod FormLaws
+pub mod CornerLaws

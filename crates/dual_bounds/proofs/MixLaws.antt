@@ -16,8 +16,7 @@ use Rattle.qp_model.specs.Sound.{IsSound}
 use Rattle.qp_model.specs.Box.{corner}
 use Rattle.qp_model.specs.Cost.{cost, cost_scale}
 use Rattle.qp_model.specs.Residual.{residual_scale}
-use Rattle.qp_model.specs.Policy.{Plans, IsPolicyFor}
-use Rattle.qp_model.specs.Margin.{corner_denominator, corner_plan}
+use Rattle.qp_model.specs.Policy.{Plans, IsPolicyFor, corner_denominator, corner_plan}
 use Rattle.qp_model.specs.Choices.{multiplier_bound, multiplier_of}
 use Rattle.qp_model.specs.declared.bounds.Margin.{Margin}
 use Rattle.dual_bounds.specs.Corners.{HasMarginAt, KeepsMargin, BoxLaw, RepairLaw}

@@ -20,7 +20,7 @@ use Rattle.qp_model.specs.Design.{Design, CostRow, entries}
 use Rattle.qp_model.specs.Parts.{design_of}
 use Rattle.qp_model.specs.Box.{corner}
 use Rattle.qp_model.specs.Cost.{cost_term}
-use Rattle.qp_model.specs.Policy.{Plans}
+use Rattle.qp_model.specs.Policy.{Plans, corner_plan}
 use Rattle.qp_model.specs.Quantities.{growth, cost_width, cost_row_width, weight_sum, prediction_size}
 use Rattle.qp_model.specs.CornerSizes.{policy_magnitude}
 use Rattle.qp_model.specs.Runs.{run, cost_run, counted, counts, Holds}
@@ -29,7 +29,7 @@ use Rattle.qp_model.proofs.RowLaws.{lift_power}
 use Rattle.qp_model.proofs.SizeFacts.{greatest_term}
 use Rattle.qp_model.proofs.CornerFacts.{product_small, cost_parts}
 use Rattle.qp_model.specs.Range.{IsPositive}
-use Rattle.qp_model.specs.Margin.{corner_plan, corner_cost, corner_cost_scale}
+use Rattle.qp_model.specs.Margin.{Shown, corner_cost, corner_cost_scale}
 use Rattle.plant_condense.proofs.DenominatorFacts.{natural}
 use Rattle.qp_model.proofs.GramLaws.{counted_total}
 use Rattle.qp_model.proofs.CountLaws as Count
@@ -411,9 +411,9 @@ module _ (p : DesignParts) (s : Plans) (powers : List ℤ) (c : ℕ) (start plan
     den_read = rw (side_is, to_z-of_z w128 _ plain_square, to_z-of_z w128 p.cost_den fc) (to_z-of_z w128 _ plain_den)
 
 -- ---- the cost, rounded up
-pub costs_of : (d : Design) (s : Plans) (c : ℕ) (sum den most : ℤ) → sum ≡ corner_cost d s c → den ≡ corner_cost_scale d s c → pos 0 ≤ℤ sum → pos 1 ≤ℤ den →
-    most ≡ ceil_of sum (unsigned_abs den) → HasCornerCost d s c most
-costs_of d s c sum den most e f n h m = record {
+pub costs_of : (k : Shown) (c : ℕ) (sum den most : ℤ) → sum ≡ k.cost c → den ≡ k.cost_scale c → pos 0 ≤ℤ sum → pos 1 ≤ℤ den →
+    most ≡ ceil_of sum (unsigned_abs den) → HasCornerCost k c most
+costs_of k c sum den most e f n h m = record {
   some = by_lt_z most (pos 0) (λ l. absurd (negative most den sum l n h both.0)) (λ l. l);
   cost = rw (← e, ← f) both.0;
   dear = rw (← e, ← f) both.1;

@@ -24,7 +24,7 @@ use Rattle.plant_condense.proofs.StateFacts.{denominator_positive}
 use Rattle.plant_condense.proofs.Rooms.{read}
 use Rattle.plant_condense.proofs.StageFacts.{lifted_fits, lifted}
 use Rattle.plant_condense.proofs.DenominatorFacts.{naturals_fit, naturals_read}
-use Rattle.slater_margin.specs.Corners.{HasCornerRoom}
+use Rattle.slater_margin.specs.Corners.{HasCornerRoomIn}
 use Rattle.slater_margin.specs.Simulation.{IsSetting, IsCorner}
 
 under : (a b t : ℕ) → a ≤ b → b ≤ t → a ≤ t
@@ -38,7 +38,7 @@ pub over_is : (xs : List ℤ) (c n : ℕ) {x : ℤ} → x ≡ get_or xs c x → 
 over_is xs c n {x} h l e = get_or_read_under xs c n x (pos 0) h l (sym e)
 
 -- ---- one corner's numbers reach no further than the policy's
-coordinate_size : (d : Design) (c i : ℕ) → i < d.states → unsigned_abs (corner d c i) ≤ box_magnitude d
+pub coordinate_size : (d : Design) (c i : ℕ) → i < d.states → unsigned_abs (corner d c i) ≤ box_magnitude d
 coordinate_size d c i l = chosen ((c - 1) / 2 ^ i % 2 == 1) (d.high i) (d.low i) (box_magnitude d) (greatest_term i d.states (λ i. max (unsigned_abs (d.low i)) (unsigned_abs (d.high i))) l)
   where
     chosen : (b : Bool) (x y : ℤ) (t : ℕ) → max (unsigned_abs y) (unsigned_abs x) ≤ t → unsigned_abs (if b then x else y) ≤ t
@@ -72,7 +72,7 @@ module _ (d : Design) (s : Plans) (c : ℕ) (l : c < 2 ^ d.states) where
 
 -- ---- the quantities
 -- a limit row of numbers that reach so far, with its bound, also times 2^16
-pub slack_room : (d : Design) (s : Plans) → HasCornerRoom d s → 2 ^ 17 * (limit_width d * (policy_magnitude d s * prediction_size d)) ≤ 2 ^ 126
+pub slack_room : (d : Design) (s : Plans) → HasCornerRoomIn false d s → 2 ^ 17 * (limit_width d * (policy_magnitude d s * prediction_size d)) ≤ 2 ^ 126
 slack_room d s r = turn (limit_width d) (prediction_size d) (policy_magnitude d s) r.slack
   where
     turn : (a b c : ℕ) → 2 ^ 17 * a * b * c ≤ 2 ^ 126 → 2 ^ 17 * (a * (c * b)) ≤ 2 ^ 126
@@ -82,16 +82,16 @@ slack_room d s r = turn (limit_width d) (prediction_size d) (policy_magnitude d 
 abbrev pub cost_side : Design → Plans → ℕ
 cost_side d s = cost_width d * (policy_magnitude d s * prediction_size d)
 
-pub cost_room : (d : Design) (s : Plans) → HasCornerRoom d s → weight_sum d * cost_side d s ^ 2 ≤ 2 ^ 126
+pub cost_room : (d : Design) (s : Plans) → HasCornerRoomIn false d s → weight_sum d * cost_side d s ^ 2 ≤ 2 ^ 126
 cost_room d s r = rw (turn (cost_width d) (prediction_size d) (policy_magnitude d s)) r.cost
   where
     turn : (a b c : ℕ) → a * (c * b) ≡ a * b * c
     turn a b c = omega arith
 
-pub side_room : (p : DesignParts) (s : Plans) → IsDesign p → HasCornerRoom (design_of p) s → cost_side (design_of p) s ≤ 2 ^ 126
+pub side_room : (p : DesignParts) (s : Plans) → IsDesign p → HasCornerRoomIn false (design_of p) s → cost_side (design_of p) s ≤ 2 ^ 126
 side_room p s h r = side_under (weight_sum (design_of p)) _ _ (some_weight p h) (cost_room (design_of p) s r)
 
-pub square_room : (p : DesignParts) (s : Plans) → IsDesign p → HasCornerRoom (design_of p) s → cost_side (design_of p) s ^ 2 ≤ 2 ^ 126
+pub square_room : (p : DesignParts) (s : Plans) → IsDesign p → HasCornerRoomIn false (design_of p) s → cost_side (design_of p) s ^ 2 ≤ 2 ^ 126
 square_room p s h r = last (weight_sum (design_of p)) _ (some_weight p h) (cost_room (design_of p) s r)
   where
     last : (w a : ℕ) → 1 ≤ w → w * a ≤ 2 ^ 126 → a ≤ 2 ^ 126
@@ -104,7 +104,7 @@ power_size d = pow-le-pow_left grown d.stages
     grown : d.plant_denominator ≤ growth d
     grown = omega arith
 
-pub last_power_room : (d : Design) (s : Plans) → HasCornerRoom d s → d.plant_denominator ^ d.stages ≤ 2 ^ 126
+pub last_power_room : (d : Design) (s : Plans) → HasCornerRoomIn false d s → d.plant_denominator ^ d.stages ≤ 2 ^ 126
 last_power_room d s r = under _ _ _ (power_size d) r.prediction
 
 -- ---- a setting

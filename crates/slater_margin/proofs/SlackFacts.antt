@@ -17,12 +17,12 @@ use Rattle.integer_algebra.proofs.PowerLaws.{pow_positive}
 use Rattle.integer_algebra.proofs.Quoting.{by_ring, quotes}
 use Rattle.mat_int.specs.Matrix.{row_of, entry_of}
 use Rattle.qp_model.specs.declared.design_parts.DesignParts.{DesignParts}
-use Rattle.qp_model.specs.Design.{Design, rows, entries}
+use Rattle.qp_model.specs.Design.{rows, entries}
 use Rattle.qp_model.specs.Parts.{design_of}
 use Rattle.qp_model.specs.Box.{corner}
 use Rattle.qp_model.specs.Policy.{Plans}
 use Rattle.qp_model.specs.Residual.{residual}
-use Rattle.qp_model.specs.Margin.{corner_slack, slack_scale}
+use Rattle.qp_model.specs.Margin.{Shown, corner_slack, slack_scale}
 use Rattle.qp_model.specs.Runs.{Holds, row_at, bound_at}
 use Rattle.qp_model.proofs.RowLaws.{residual_law}
 use Rattle.qp_model.proofs.CornerFacts.{row_length}
@@ -128,15 +128,15 @@ module _ (p : DesignParts) (s : Plans) (powers : List ℤ) (c : ℕ) (start plan
   den_some = one-le-mul_z k.setting.design.limit_den.low unit_some
 
 -- ---- the first slack that is too small
-pub short_row : (d : Design) (s : Plans) (c i r : ℕ) (slack : Frac) → i + 1 ≡ r → i < rows d →
-    ((k : ℕ) → k < i → slack_scale d s c ≤ℤ (pos (2 ^ 16) *ℤ corner_slack d s c k)) → (pos (2 ^ 16) *ℤ corner_slack d s c i) <ℤ slack_scale d s c →
-    slack.num ≡ corner_slack d s c i → slack.den ≡ slack_scale d s c → IsShortRow d s c r slack
-short_row d s c i r slack e l b h n m =
+pub short_row : (k : Shown) (rows c i r : ℕ) (slack : Frac) → i + 1 ≡ r → i < rows →
+    ((j : ℕ) → j < i → k.slack_scale c ≤ℤ (pos (2 ^ 16) *ℤ k.slack c j)) → (pos (2 ^ 16) *ℤ k.slack c i) <ℤ k.slack_scale c →
+    slack.num ≡ k.slack c i → slack.den ≡ k.slack_scale c → IsShortRow k rows c r slack
+short_row k rows c i r slack e l b h n m =
     let f : r - 1 ≡ i = omega (arith, e) in
     record {
       first = omega (arith, e);
       last = omega (arith, e, l);
-      before = rw f (λ k o. rw (one_is (slack_scale d s c)) (b k o));
+      before = rw f (λ j o. rw (one_is (k.slack_scale c)) (b j o));
       short = rw f h;
       numerator = rw f n;
       denominator = m;
@@ -153,14 +153,14 @@ floor_some q den z h k l = by_lt_z q (pos 1) (λ m. absurd (last q den z k l (mu
     last : (q den z : ℤ) → den ≤ℤ z → z <ℤ ((q +ℤ pos 1) *ℤ den) → ((q +ℤ pos 1) *ℤ den) ≤ℤ (pos 1 *ℤ den) → ⊥
     last q den z k l m = omega (arith, ints, k, l, m)
 
-pub units_of : (d : Design) (s : Plans) (c : ℕ) (least den units : ℤ) → den ≡ slack_scale d s c → pos 1 ≤ℤ den →
-    ((i : ℕ) → i < rows d → den ≤ℤ (pos (2 ^ 16) *ℤ corner_slack d s c i)) →
-    ((i : ℕ) → i < rows d → least ≤ℤ corner_slack d s c i) → (k : ℕ) → k < rows d → least ≡ corner_slack d s c k →
-    units ≡ floor_of (least *ℤ pos (2 ^ 16)) (unsigned_abs den) → HasUnits d s c units
-units_of d s c least den units e h all below k l met u = record {
-  some = floor_some units den (pos (2 ^ 16) *ℤ corner_slack d s c k) h (all k l) short;
+pub units_of : (k : Shown) (rows c : ℕ) (least den units : ℤ) → den ≡ k.slack_scale c → pos 1 ≤ℤ den →
+    ((i : ℕ) → i < rows → den ≤ℤ (pos (2 ^ 16) *ℤ k.slack c i)) →
+    ((i : ℕ) → i < rows → least ≤ℤ k.slack c i) → (j : ℕ) → j < rows → least ≡ k.slack c j →
+    units ≡ floor_of (least *ℤ pos (2 ^ 16)) (unsigned_abs den) → HasUnits k rows c units
+units_of k rows c least den units e h all below j l met u = record {
+  some = floor_some units den (pos (2 ^ 16) *ℤ k.slack c j) h (all j l) short;
   slacks = λ i o. rw (← e) (le_trans_z low (mul-le-mul_left_z (pos (2 ^ 16)) (omega (arith, ints)) (below i o)));
-  row = k;
+  row = j;
   inside = l;
   short = rw (← e) short;
 }
@@ -174,8 +174,8 @@ units_of d s c least den units e h all below k l met u = record {
         turn : (x u d : ℤ) (n : ℕ) → d ≡ pos n → (u *ℤ pos n) ≤ℤ (x *ℤ pos (2 ^ 16)) → (u *ℤ d) ≤ℤ (pos (2 ^ 16) *ℤ x)
         turn x u d n e h = rw (e, *ℤ_comm (pos (2 ^ 16)) x) h
 
-    short : (pos (2 ^ 16) *ℤ corner_slack d s c k) <ℤ ((units +ℤ pos 1) *ℤ den)
-    short = turn least units den (unsigned_abs den) (corner_slack d s c k) (natural den h) met floor.greatest
+    short : (pos (2 ^ 16) *ℤ k.slack c j) <ℤ ((units +ℤ pos 1) *ℤ den)
+    short = turn least units den (unsigned_abs den) (k.slack c j) (natural den h) met floor.greatest
       where
         turn : (x u d : ℤ) (n : ℕ) (y : ℤ) → d ≡ pos n → x ≡ y → (x *ℤ pos (2 ^ 16)) <ℤ ((u +ℤ pos 1) *ℤ pos n) → (pos (2 ^ 16) *ℤ y) <ℤ ((u +ℤ pos 1) *ℤ d)
         turn x u d n y e f h = rw (e, ← f, *ℤ_comm (pos (2 ^ 16)) x) h

@@ -1,20 +1,20 @@
 -- The plan of one corner as whole numbers, and what it shows. A corner's number c counts from 1, but from 0 in `IsCorner`.
-use Rattle.std.specs.Prelude.{◌≡◌, ℕ, suc, ◌+◌, ◌-◌, ◌*◌, ◌^◌, ◌<◌, ◌≤◌, ℤ, pos, ◌+ℤ◌, ◌-ℤ◌, ◌*ℤ◌, ◌≤ℤ◌, ◌<ℤ◌, List, unsigned_abs}
+use Rattle.std.specs.Prelude.{◌≡◌, ℕ, suc, ◌+◌, ◌-◌, ◌*◌, ◌^◌, ◌<◌, ◌≤◌, ℤ, pos, ◌+ℤ◌, ◌-ℤ◌, ◌*ℤ◌, ◌≤ℤ◌, ◌<ℤ◌, List, unsigned_abs, false}
 use Rattle.integer_algebra.specs.Sums.{at, total, square}
 use Rattle.integer_algebra.specs.Sizes.{size}
 use Rattle.frac_scaled.specs.declared.fraction.Frac.{Frac}
 use Rattle.qp_model.specs.declared.design_parts.DesignParts.{DesignParts}
 use Rattle.qp_model.specs.declared.bounds.Margin.{Margin}
-use Rattle.qp_model.specs.Design.{Design, rows, entries}
+use Rattle.qp_model.specs.Design.{Design, entries}
 use Rattle.qp_model.specs.Parts.{design_of, IsDesign}
 use Rattle.mat_int.specs.Matrix.{entry_of}
 use Rattle.qp_model.specs.Box.{corner}
 use Rattle.qp_model.specs.Cost.{cost_term}
-use Rattle.qp_model.specs.Policy.{Plans, IsPolicyFor}
+use Rattle.qp_model.specs.Policy.{Plans, IsPolicyFor, corner_denominator, corner_plan}
 use Rattle.qp_model.specs.Runs.{Holds}
-use Rattle.qp_model.specs.Margin.{corner_denominator, corner_plan, shown, HasSlack, HasCost}
+use Rattle.qp_model.specs.Margin.{Shown, HasSlack, HasCost}
 use Rattle.plant_condense.specs.Lists.{ArePowers}
-use Rattle.slater_margin.specs.Corners.{HasCornerRoom, AllSlack}
+use Rattle.slater_margin.specs.Corners.{HasCornerRoomIn, AllSlackOf}
 
 -- ---- what a corner is simulated from
 -- a design with room for its policy, and the powers of its plant's denominator
@@ -22,7 +22,7 @@ pub record IsSetting (p : DesignParts) (s : Plans) (powers : List ℤ) : Type 0 
   pub design : IsDesign p
   pub policy : IsPolicyFor (design_of p) s
   pub powers_are : ArePowers p powers
-  pub room : HasCornerRoom (design_of p) s
+  pub room : HasCornerRoomIn false (design_of p) s
 
 -- the corner times its plan's denominator, the plan times 2^grid, and what bounds and targets are times
 pub record IsCorner (p : DesignParts) (s : Plans) (powers : List ℤ) (c : ℕ) (start plan : List ℤ) (unit : ℤ) : Type 0 where
@@ -33,32 +33,37 @@ pub record IsCorner (p : DesignParts) (s : Plans) (powers : List ℤ) (c : ℕ) 
   pub unit_is : unit ≡ at s.denominators c *ℤ pos (2 ^ p.grid * (design_of p).plant_denominator ^ p.stages)
 
 -- ---- what a corner shows
--- each row has a slack of at least units / 2^16, some row has less than (units + 1) / 2^16
-pub record HasUnits (d : Design) (p : Plans) (c : ℕ) (units : ℤ) : Type 0 where
+-- each row shows a slack of at least units / 2^16, some row one of less than (units + 1) / 2^16
+pub record HasUnits (k : Shown) (rows c : ℕ) (units : ℤ) : Type 0 where
   pub some : pos 1 ≤ℤ units
-  pub slacks : (i : ℕ) → i < rows d → HasSlack (shown d p) units c i
+  pub slacks : (i : ℕ) → i < rows → HasSlack k units c i
   pub row : ℕ
-  pub inside : row < rows d
-  pub short : (pos (2 ^ 16) *ℤ (shown d p).slack c row) <ℤ ((units +ℤ pos 1) *ℤ (shown d p).slack_scale c)
+  pub inside : row < rows
+  pub short : (pos (2 ^ 16) *ℤ k.slack c row) <ℤ ((units +ℤ pos 1) *ℤ k.slack_scale c)
 
 -- the cost is at most `most`, and above `most` - 1
-pub record HasCornerCost (d : Design) (p : Plans) (c : ℕ) (most : ℤ) : Type 0 where
+pub record HasCornerCost (k : Shown) (c : ℕ) (most : ℤ) : Type 0 where
   pub some : pos 0 ≤ℤ most
-  pub cost : HasCost (shown d p) most c
-  pub dear : ((most -ℤ pos 1) *ℤ (shown d p).cost_scale c) <ℤ (shown d p).cost c
+  pub cost : HasCost k most c
+  pub dear : ((most -ℤ pos 1) *ℤ k.cost_scale c) <ℤ k.cost c
 
-pub record IsCornerMargin (d : Design) (p : Plans) (c : ℕ) (m : Margin) : Type 0 where
-  pub units : HasUnits d p c m.units
-  pub cost : HasCornerCost d p c m.cost
+pub record IsCornerMargin (k : Shown) (rows c : ℕ) (m : Margin) : Type 0 where
+  pub units : HasUnits k rows c m.units
+  pub cost : HasCornerCost k c m.cost
 
 -- row number r, from 1, is the first with less slack than 2^-16, and `slack` is that slack
-pub record IsShortRow (d : Design) (p : Plans) (c r : ℕ) (slack : Frac) : Type 0 where
+pub record IsShortRow (k : Shown) (rows c r : ℕ) (slack : Frac) : Type 0 where
   pub first : 1 ≤ r
-  pub last : r ≤ rows d
-  pub before : AllSlack d p c (r - 1)
-  pub short : (pos (2 ^ 16) *ℤ (shown d p).slack c (r - 1)) <ℤ (shown d p).slack_scale c
-  pub numerator : slack.num ≡ (shown d p).slack c (r - 1)
-  pub denominator : slack.den ≡ (shown d p).slack_scale c
+  pub last : r ≤ rows
+  pub before : AllSlackOf k c (r - 1)
+  pub short : (pos (2 ^ 16) *ℤ k.slack c (r - 1)) <ℤ k.slack_scale c
+  pub numerator : slack.num ≡ k.slack c (r - 1)
+  pub denominator : slack.den ≡ k.slack_scale c
+
+-- what the slacks and the costs of the first corners are over is positive
+pub record HasScales (k : Shown) (corners : ℕ) : Type 0 where
+  pub slack : (c : ℕ) → 1 ≤ c → c ≤ corners → pos 1 ≤ℤ k.slack_scale c
+  pub cost : (c : ℕ) → 1 ≤ c → c ≤ corners → pos 1 ≤ℤ k.cost_scale c
 
 -- ---- the cost
 -- what the rows of all stages and the final rows cost

@@ -15,8 +15,8 @@ use plant_condense::{
 use qp_model::{DesignParts, Policy};
 use std::alloc::{AllocError, Global};
 
-// Coordinate `i` of corner `c`, from 0: the high one where the bit of value `2^i` is set in c.
-fn coordinate(parts: &DesignParts, c: usize, i: usize) -> i128
+/// Coordinate `i` of corner `c`, from 0 and over `2^grid`: the high one where the bit of value `2^i` is set in c.
+pub fn coordinate(parts: &DesignParts, c: usize, i: usize) -> i128
     requires design { IsDesign parts.now }
     requires state { i < parts.now.states }
     ensures { result ≡ corner (design_of parts.now) (c + 1) i }
@@ -71,7 +71,7 @@ impl<'a> Corner<'a> {
     ghost use Rattle.qp_model.specs.Parts.{design_of};
     ghost use Rattle.qp_model.specs.Policy.{plans_of};
     ghost use Rattle.qp_model.specs.Runs.{Holds};
-    ghost use Rattle.qp_model.specs.Margin.{corner_slack};
+    ghost use Rattle.qp_model.specs.Margin.{simulated, corner_slack};
     ghost use Rattle.slater_margin.specs.Simulation.{IsSetting, HasUnits, HasCornerCost, IsShortRow, row_costs, input_cost};
 
     /// Corner `number`, from 0. `powers` are those of `plant_den`, up to the number of stages.
@@ -114,9 +114,10 @@ impl<'a> Corner<'a> {
 
     /// The least slack of all limit rows in units of `2^-16`, rounded down, or the first row that has less than one.
     pub fn units(&self, alloc: Global) -> Result<i128, MarginFault>
-        ensures units { IfOk result (HasUnits (design_of self.now.parts.now) (plans_of self.now.policy.now) (self.now.number + 1)) }
-        ensures short { (corner row : ℕ) (slack : Frac) → result ≡ Err (MarginFault.NoMargin corner row slack) →
-            (corner ≡ self.now.number + 1) × IsShortRow (design_of self.now.parts.now) (plans_of self.now.policy.now) (self.now.number + 1) row slack }
+        ensures units { let d = design_of self.now.parts.now in
+            IfOk result (HasUnits (simulated d (plans_of self.now.policy.now)) (rows d) (self.now.number + 1)) }
+        ensures short { let d = design_of self.now.parts.now in (corner row : ℕ) (slack : Frac) → result ≡ Err (MarginFault.NoMargin corner row slack) →
+            (corner ≡ self.now.number + 1) × IsShortRow (simulated d (plans_of self.now.policy.now)) (rows d) (self.now.number + 1) row slack }
         ensures room { (quantity : Quantity) → result ≢ Err (MarginFault.TooWide quantity) }
     {
         let slacks = self.slacks(alloc)?;
@@ -161,7 +162,7 @@ impl<'a> Corner<'a> {
 
     /// The cost, rounded up to a whole number.
     pub fn cost(&self, alloc: Global) -> Result<i128, AllocError>
-        ensures { IfOk result (HasCornerCost (design_of self.now.parts.now) (plans_of self.now.policy.now) (self.now.number + 1)) }
+        ensures { IfOk result (HasCornerCost (simulated (design_of self.now.parts.now) (plans_of self.now.policy.now)) (self.now.number + 1)) }
     {
         let rows = self.row_cost(alloc)?;
         let inputs = self.input_cost(alloc)?;

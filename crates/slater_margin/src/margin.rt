@@ -1,11 +1,13 @@
 // The margin of a policy.
-ghost use Rattle.std.specs.Prelude.{◌≡◌, ◌≢◌, ◌↔◌, ◌<◌, ◌+◌, ◌^◌, ℕ, pos, ◌≤ℤ◌, IfOk, OnOk, IsErr, Err};
+ghost use Rattle.std.specs.Prelude.{◌≡◌, ◌≢◌, ◌↔◌, ◌<◌, ◌+◌, ◌^◌, ℕ, pos, ◌≤ℤ◌, false, IfOk, OnOk, IsErr, Err};
 ghost use Rattle.frac_scaled.specs.declared.fraction.Frac.{Frac};
 ghost use Rattle.qp_model.specs.declared.quantity.Quantity.{Quantity};
-ghost use Rattle.qp_model.specs.Margin.{IsMargin};
+ghost use Rattle.qp_model.specs.CornerClass.{IsMarginIn};
+ghost use Rattle.qp_model.specs.Design.{rows};
+ghost use Rattle.qp_model.specs.Margin.{simulated};
 ghost use Rattle.qp_model.specs.Parts.{design_of, IsDesign};
 ghost use Rattle.qp_model.specs.Policy.{plans_of, IsPolicyFor};
-ghost use Rattle.slater_margin.specs.Corners.{HasCornerRoom, IsFirstWideCorner, IsFirstShort};
+ghost use Rattle.slater_margin.specs.Corners.{HasCornerRoomIn, IsFirstWideCornerIn, IsFirstShortIn};
 ghost use Rattle.slater_margin.specs.Simulation.{IsSetting, IsCornerMargin, IsShortRow};
 
 use crate::corner::Corner;
@@ -21,9 +23,9 @@ use std::alloc::Global;
 fn test_room(parts: &DesignParts, policy: &Policy) -> Result<(), MarginFault>
     requires design { IsDesign parts.now }
     requires plans { IsPolicyFor (design_of parts.now) (plans_of policy.now) }
-    ensures room { OnOk result (HasCornerRoom (design_of parts.now) (plans_of policy.now)) }
+    ensures room { OnOk result (HasCornerRoomIn false (design_of parts.now) (plans_of policy.now)) }
     ensures wide { (quantity : Quantity) → (result ≡ Err (MarginFault.TooWide quantity)) ↔
-        IsFirstWideCorner (design_of parts.now) (plans_of policy.now) quantity }
+        IsFirstWideCornerIn false (design_of parts.now) (plans_of policy.now) quantity }
     ensures margin { (corner row : ℕ) (slack : Frac) → result ≢ Err (MarginFault.NoMargin corner row slack) }
     ensures memory { result ≢ Err MarginFault.Memory }
 {
@@ -55,9 +57,9 @@ fn corner_margin(
 ) -> Result<Margin, MarginFault>
     requires setting { IsSetting parts.now (plans_of policy.now) powers.now }
     requires corner { c < 2 ^ parts.now.states }
-    ensures margin { IfOk result (IsCornerMargin (design_of parts.now) (plans_of policy.now) (c + 1)) }
-    ensures short { (corner row : ℕ) (slack : Frac) → result ≡ Err (MarginFault.NoMargin corner row slack) →
-        (corner ≡ c + 1) × IsShortRow (design_of parts.now) (plans_of policy.now) (c + 1) row slack }
+    ensures margin { let d = design_of parts.now in IfOk result (IsCornerMargin (simulated d (plans_of policy.now)) (rows d) (c + 1)) }
+    ensures short { let d = design_of parts.now in (corner row : ℕ) (slack : Frac) → result ≡ Err (MarginFault.NoMargin corner row slack) →
+        (corner ≡ c + 1) × IsShortRow (simulated d (plans_of policy.now)) (rows d) (c + 1) row slack }
     ensures room { (quantity : Quantity) → result ≢ Err (MarginFault.TooWide quantity) }
 {
     let corner = Corner::new(alloc, parts, policy, powers, c)?;
@@ -67,23 +69,23 @@ fn corner_margin(
 }
 
 /// The margin of a policy of a design, which has one plan for each corner of the box: the least slack of all corners and rows, over
-/// `2^16` and rounded down, and the greatest cost, rounded up. Each plan is simulated from its corner.
+/// `2^16` and rounded down, and the greatest cost, rounded up. Each plan is simulated from its corner, in exact numbers.
 ///
 /// # Errors
 /// `TooWide` with the first of `prediction`, `corner_slack` and `corner_cost` that is above `2^126`; `NoMargin` with the first corner,
 /// and in it the first row, whose slack is less than `2^-16`.
-pub fn margins(alloc: Global, design: &Design, policy: &Policy) -> Result<Margin, MarginFault>
+pub fn margins_exact(alloc: Global, design: &Design, policy: &Policy) -> Result<Margin, MarginFault>
     requires { IsPolicyFor (design_of design.now) (plans_of policy.now) }
-    ensures room { OnOk result (HasCornerRoom (design_of design.now) (plans_of policy.now)) }
-    ensures margin { IfOk result (λ m. IsMargin (design_of design.now) (plans_of policy.now) m) }
+    ensures room { OnOk result (HasCornerRoomIn false (design_of design.now) (plans_of policy.now)) }
+    ensures margin { IfOk result (λ m. IsMarginIn false (design_of design.now) (plans_of policy.now) m) }
     ensures slack { IfOk result (λ m. pos 1 ≤ℤ m.units) }
     ensures cost { IfOk result (λ m. pos 0 ≤ℤ m.cost) }
     ensures wide { (quantity : Quantity) → (result ≡ Err (MarginFault.TooWide quantity)) ↔
-        IsFirstWideCorner (design_of design.now) (plans_of policy.now) quantity }
-    ensures short { (corner row : ℕ) (slack : Frac) → result ≡ Err (MarginFault.NoMargin corner row slack) →
-        HasCornerRoom (design_of design.now) (plans_of policy.now) × IsFirstShort (design_of design.now) (plans_of policy.now) corner row slack }
+        IsFirstWideCornerIn false (design_of design.now) (plans_of policy.now) quantity }
+    ensures short { let d = design_of design.now in (corner row : ℕ) (slack : Frac) → result ≡ Err (MarginFault.NoMargin corner row slack) →
+        HasCornerRoomIn false d (plans_of policy.now) × IsFirstShortIn false d (plans_of policy.now) corner row slack }
     ensures no_give_up { (corner row : ℕ) (slack : Frac) →
-        IsFirstShort (design_of design.now) (plans_of policy.now) corner row slack → IsErr result }
+        IsFirstShortIn false (design_of design.now) (plans_of policy.now) corner row slack → IsErr result }
 {
     let parts = design.parts();
     test_room(parts, policy)?;

@@ -4,7 +4,7 @@ use mir.Val.{SFits}
 use Rattle.std.proofs.lemmas.Int.{to_z-of_z}
 use Rattle.qp_model.specs.Parts.{design_of}
 use Rattle.qp_model.specs.Policy.{plans_of}
-use Rattle.qp_model.specs.Margin.{corner_cost}
+use Rattle.qp_model.specs.Margin.{simulated, corner_cost}
 use Rattle.plant_condense.proofs.Rooms.{sum_fits, sum_read}
 use Rattle.plant_condense.proofs.DenominatorFacts.{denominator_fits}
 use Rattle.slater_margin.proofs.CostFacts.{side_fits, square_fits, den_fits, den_read, cost_den_is, cost_den_some, cost_fits, cost_nonneg, costs_of}
@@ -59,7 +59,7 @@ returns c =
     let small : unsigned_abs (c.in_ok-rows.rows +ℤ c.in_ok-inputs.inputs) ≤ 2 ^ 126 = rw (c.in_ok-rows.ensures, c.in_ok-inputs.ensures) (cost_fits self.parts.now (plans_of self.policy.now) _ _ _ _ _ self.made) in
     let sum : c.in_ok-rows.rows +ℤ c.in_ok-inputs.inputs ≡ corner_cost d s (c.args.self.now.number + 1) = rw (c.in_ok-rows.ensures, c.in_ok-inputs.ensures) refl in
     rw (to_z-of_z w128 _ fr)
-    (costs_of d s (c.args.self.now.number + 1) (c.in_ok-rows.rows +ℤ c.in_ok-inputs.inputs) _ c.ceil_div.result sum
+    (costs_of (simulated d s) (c.args.self.now.number + 1) (c.in_ok-rows.rows +ℤ c.in_ok-inputs.inputs) _ c.ceil_div.result sum
     (cost_den_is self.parts.now (plans_of self.policy.now) _ _ _ _ _ self.made)
     (rw sum (cost_nonneg self.parts.now (plans_of self.policy.now) _ _ _ _ _ self.made))
     (cost_den_some self.parts.now (plans_of self.policy.now) _ _ _ _ _ self.made)

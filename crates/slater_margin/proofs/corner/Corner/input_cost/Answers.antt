@@ -5,8 +5,7 @@ use Rattle.std.proofs.lemmas.Int.{to_z-of_z}
 use Rattle.integer_algebra.specs.Sums.{total, at}
 use Rattle.qp_model.specs.Design.{entries}
 use Rattle.qp_model.specs.Parts.{design_of}
-use Rattle.qp_model.specs.Policy.{plans_of}
-use Rattle.qp_model.specs.Margin.{corner_plan}
+use Rattle.qp_model.specs.Policy.{plans_of, corner_plan}
 use Rattle.qp_model.specs.Runs.{Holds}
 use Rattle.plant_condense.proofs.Pushes.{holds_to}
 use Rattle.plant_condense.proofs.DenominatorFacts.{natural, denominator_fits, naturals_fit, naturals_read}

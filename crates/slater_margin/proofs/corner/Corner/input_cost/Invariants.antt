@@ -1,8 +1,7 @@
 use Rattle.std.proofs.Common.{◌≡◌, ◌+◌, ◌*◌, ◌^◌, pos, ◌*ℤ◌, unsigned_abs}
 use Rattle.integer_algebra.specs.Sums.{total, square}
 use Rattle.qp_model.specs.Parts.{design_of}
-use Rattle.qp_model.specs.Margin.{corner_plan}
-use Rattle.qp_model.specs.Policy.{plans_of}
+use Rattle.qp_model.specs.Policy.{plans_of, corner_plan}
 use Rattle.slater_margin.proofs.corner.Corner.input_cost.Given as goal
 
 abbrev pub invariant-loop-k : goal.invariant-loop-k

@@ -5,7 +5,7 @@ use Rattle.std.proofs.lemmas.Int.{to_z-of_z}
 use Rattle.qp_model.specs.Design.{rows}
 use Rattle.qp_model.specs.Parts.{design_of}
 use Rattle.qp_model.specs.Policy.{plans_of}
-use Rattle.qp_model.specs.Margin.{corner_slack, slack_scale}
+use Rattle.qp_model.specs.Margin.{simulated, corner_slack, slack_scale}
 use Rattle.qp_model.specs.Runs.{Holds}
 use Rattle.qp_model.proofs.SizeFacts.{some_row}
 use Rattle.frac_scaled.specs.declared.fraction.Frac.{Frac}
@@ -57,7 +57,7 @@ returns-in-Some-clause-short c =
     λ corner row slack e.
     let same = no_margin_same e in (
       sym same.0,
-      short_row d s (c.args.self.now.number + 1) c.in-Some.i row slack same.1.0 (rw (← held.long) found.0)
+      short_row (simulated d s) (rows d) (c.args.self.now.number + 1) c.in-Some.i row slack same.1.0 (rw (← held.long) found.0)
           (λ k l. (let o : k < rows d = omega (arith, l, found.0, held.long) in rw (← (held.is k o), ← den) (found.2 k l)))
           (rw (← (held.is c.in-Some.i (rw (← held.long) found.0)), ← den) found.1)
           (sym (ap (λ (x : Frac). x.num) same.1.1) ∙ to_z-of_z w128 _ fx ∙ over_is _ c.in-Some.i (rows d) c.index.ensures (rw (← held.long) found.0) c.in_ok-slacks.ensures.long ∙
@@ -107,7 +107,7 @@ returns-clause-units c =
     let met = c.least_of.ensures.met in
     let inside : met.0 < rows d = rw (← held_again.long) met.1.0 in
     rw (to_z-of_z w128 _ fr)
-    (units_of d s (c.args.self.now.number + 1) c.least_of.result (c.args.self.now.parts.now.limit_den *ℤ c.args.self.now.unit) c.floor_div.result
+    (units_of (simulated d s) (rows d) (c.args.self.now.number + 1) c.least_of.result (c.args.self.now.parts.now.limit_den *ℤ c.args.self.now.unit) c.floor_div.result
     (den_is self.parts.now (plans_of self.policy.now) _ _ _ _ _ self.made) (den_some self.parts.now (plans_of self.policy.now) _ _ _ _ _ self.made)
     (λ i l. rw (← (held.is i l), ← read_den) (c.in-None.ensures i (rw held.long l)))
     (λ i l. rw (← (held_again.is i l)) (c.least_of.ensures.below i (rw held_again.long l)))

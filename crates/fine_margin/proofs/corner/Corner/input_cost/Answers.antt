@@ -1,0 +1,56 @@
+use Rattle.std.proofs.Common.{◌<◌, ◌^◌, ℤ, pos, ◌*ℤ◌, ◌≤ℤ◌, List, length, arith, ap, ap₂, sym, subst, ◌∙◌, rules}
+use Rattle.std.specs.Int.{w128}
+use mir.Val.{SFits}
+use Rattle.std.proofs.lemmas.Int.{to_z-of_z}
+use Rattle.frac_scaled.specs.Enclosures.{Enclosure, magnitude}
+use Rattle.enclosure.specs.declared.types.Enc.{Enc}
+use Rattle.enclosure.specs.Values.{pair_at}
+use Rattle.qp_model.specs.Design.{entries}
+use Rattle.qp_model.specs.Parts.{design_of}
+use Rattle.qp_model.specs.Policy.{plans_of}
+use Rattle.qp_model.specs.Runs.{Holds}
+use Rattle.plant_condense.proofs.DenominatorFacts.{denominator_fits}
+use Rattle.plant_condense.proofs.Pushes.{holds_to}
+use Rattle.slater_margin.proofs.CostFacts.{squares_held, total_held}
+use Rattle.fine_margin.proofs.RoomFacts.{cost_side, square_room}
+use Rattle.fine_margin.proofs.CostFacts.{own, entry_weight, own_small, own_fits, inputs_are, inputs_room}
+use Rattle.fine_margin.proofs.corner.Corner.input_cost.Goals as goal
+
+pub reaches-requires-clause-fits : goal.reaches-requires-clause-fits
+reaches-requires-clause-fits c =
+    let self = c.args.self.now in
+    let fr : SFits w128 c.args.self.now.run.parts.now.row_den = denominator_fits _ self.made.setting.design.row_den in
+    λ j l.
+    let inside : j < entries (design_of c.args.self.now.run.parts.now) = omega (arith, l, ap (λ (xs : List Enc). length xs) c.deref.ensures.value, self.made.plan_is.long) in
+    let value = ap₂ (λ (r : ℤ) (e : Enclosure). r *ℤ magnitude e) (to_z-of_z w128 _ fr) (ap (λ (xs : List Enc). pair_at xs j) c.deref.ensures.value ∙ self.made.plan_is.is j inside) in
+    subst (λ (z : ℤ). z ≤ℤ pos (2 ^ 126)) (sym value)
+    (own_fits self.run.parts.now (plans_of self.policy.now) self.run.first self.number self.run.start.items self.run.plan.items self.made j inside)
+
+pub weighted_squares-requires-clause-fits : goal.weighted_squares-requires-clause-fits
+weighted_squares-requires-clause-fits c =
+    let self = c.args.self.now in
+    let d = design_of c.args.self.now.run.parts.now in
+    let s = plans_of c.args.self.now.policy.now in
+    let fr : SFits w128 c.args.self.now.run.parts.now.row_den = denominator_fits _ self.made.setting.design.row_den in
+    let inputs : Holds c.in_ok-inputs.inputs.items (entries d) (own self.run.parts.now (plans_of self.policy.now) self.run.first self.number self.run.start.items self.run.plan.items self.made) =
+    holds_to _ _ _ _ _ c.in_ok-inputs.ensures (ap (λ (xs : List Enc). length xs) c.deref.ensures.value ∙ self.made.plan_is.long)
+    (λ j l. ap₂ (λ (r : ℤ) (e : Enclosure). r *ℤ magnitude e) (to_z-of_z w128 _ fr) (ap (λ (xs : List Enc). pair_at xs j) c.deref.ensures.value ∙ self.made.plan_is.is j l)) in
+    rw (c.deref-2.ensures.value, c.deref-3.ensures.value)
+    (squares_held (entries d) (cost_side d s) _ _ _ _ c.in_ok-weights.ensures inputs
+    (own_small self.run.parts.now (plans_of self.policy.now) self.run.first self.number self.run.start.items self.run.plan.items self.made)
+    (square_room self.run.parts.now (plans_of self.policy.now) self.made.setting.design self.made.setting.room)
+    (inputs_room self.run.parts.now (plans_of self.policy.now) self.run.first self.number self.run.start.items self.run.plan.items self.made))
+
+pub returns : goal.returns
+returns c =
+    let self = c.args.self.now in
+    let d = design_of c.args.self.now.run.parts.now in
+    let fr : SFits w128 c.args.self.now.run.parts.now.row_den = denominator_fits _ self.made.setting.design.row_den in
+    let r : SFits w128 c.weighted_squares.result = search rules in
+    let inputs : Holds c.deref-3.result.now (entries d) (own self.run.parts.now (plans_of self.policy.now) self.run.first self.number self.run.start.items self.run.plan.items self.made) =
+    rw c.deref-3.ensures.value (holds_to _ _ _ _ _ c.in_ok-inputs.ensures (ap (λ (xs : List Enc). length xs) c.deref.ensures.value ∙ self.made.plan_is.long)
+    (λ j l. ap₂ (λ (r : ℤ) (e : Enclosure). r *ℤ magnitude e) (to_z-of_z w128 _ fr) (ap (λ (xs : List Enc). pair_at xs j) c.deref.ensures.value ∙ self.made.plan_is.is j l))) in
+    let weights : Holds c.deref-2.result.now (entries d) (entry_weight self.run.parts.now (plans_of self.policy.now) self.run.first self.number self.run.start.items self.run.plan.items self.made) =
+    rw c.deref-2.ensures.value c.in_ok-weights.ensures in
+    to_z-of_z w128 _ r ∙ c.weighted_squares.ensures ∙ total_held (entries d) _ _ _ _ weights inputs ∙
+    inputs_are self.run.parts.now (plans_of self.policy.now) self.run.first self.number self.run.start.items self.run.plan.items self.made

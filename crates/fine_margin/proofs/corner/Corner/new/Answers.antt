@@ -1,0 +1,43 @@
+use Rattle.std.proofs.Common.{◌≡◌, pos, arith, rules, ◌∙◌}
+use Rattle.std.specs.Int.{w128}
+use mir.Val.{SFits}
+use Rattle.std.proofs.lemmas.Int.{to_z-of_z}
+use Rattle.integer_algebra.specs.Sums.{at}
+use Rattle.qp_model.specs.Parts.{design_of}
+use Rattle.qp_model.specs.Policy.{plans_of}
+use Rattle.slater_margin.proofs.RoomFacts.{over_is}
+use Rattle.fine_margin.specs.Corner.{IsFineCorner}
+use Rattle.fine_margin.proofs.RunFacts.{plan_held, ready}
+use Rattle.fine_margin.proofs.corner.Corner.new.Goals as goal
+
+pub plan_of-requires-clause-divisor : goal.plan_of-requires-clause-divisor
+plan_of-requires-clause-divisor c =
+    let over : c.index.result.now ≡ at c.args.policy.now.dens.items c.args.number = over_is _ _ _ c.index.ensures c.requires.corner c.requires.setting.policy.count in
+    let f : SFits w128 c.index.result.now = search rules in
+    rw (to_z-of_z w128 _ f, over) (c.requires.setting.policy.denominators c.args.number (pos 0) (omega (arith, c.requires.setting.policy.count, c.requires.corner))).low
+
+pub new-requires : goal.new-requires
+new-requires c =
+    let over : c.index.result.now ≡ at c.args.policy.now.dens.items c.args.number = over_is _ _ _ c.index.ensures c.requires.corner c.requires.setting.policy.count in
+    let f : SFits w128 c.index.result.now = search rules in
+    let made : IsFineCorner c.args.parts.now (plans_of c.args.policy.now) c.args.first c.args.number c.in_ok-start.start.items c.in_ok-plan.plan.items = record {
+      setting = c.requires.setting;
+      inside = c.requires.corner;
+      start_is = c.in_ok-start.ensures;
+      plan_is = plan_held (design_of c.args.parts.now) (plans_of c.args.policy.now) c.args.number c.row.result.now _ _ c.requires.setting.policy c.requires.corner c.row.ensures.value
+          (to_z-of_z w128 _ f ∙ over) c.in_ok-plan.ensures;
+    } in
+    ready c.args.parts.now (plans_of c.args.policy.now) c.args.first c.args.number _ _ made
+
+pub invariant_of-result : goal.invariant_of-result
+invariant_of-result c =
+    let over : c.index.result.now ≡ at c.args.policy.now.dens.items c.args.number = over_is _ _ _ c.index.ensures c.requires.corner c.requires.setting.policy.count in
+    let f : SFits w128 c.index.result.now = search rules in
+    let made : IsFineCorner c.args.parts.now (plans_of c.args.policy.now) c.args.first c.args.number c.in_ok-start.start.items c.in_ok-plan.plan.items = record {
+      setting = c.requires.setting;
+      inside = c.requires.corner;
+      start_is = c.in_ok-start.ensures;
+      plan_is = plan_held (design_of c.args.parts.now) (plans_of c.args.policy.now) c.args.number c.row.result.now _ _ c.requires.setting.policy c.requires.corner c.row.ensures.value
+          (to_z-of_z w128 _ f ∙ over) c.in_ok-plan.ensures;
+    } in
+    record { made = rw (c.in_ok-run.ensures.parts, c.in_ok-run.ensures.first, c.in_ok-run.ensures.start, c.in_ok-run.ensures.plan) made }

@@ -1,0 +1,69 @@
+use Rattle.std.proofs.Common.{◌+◌, ◌<◌, ℤ, List, length, arith, ap, ◌∙◌, rules}
+use Rattle.std.specs.Int.{w128}
+use mir.Val.{SFits}
+use Rattle.std.proofs.lemmas.Int.{to_z-of_z}
+use Rattle.integer_algebra.specs.Sums.{at}
+use Rattle.frac_scaled.specs.Enclosures.{magnitude}
+use Rattle.enclosure.specs.declared.types.Enc.{Enc}
+use Rattle.enclosure.specs.Values.{pair_at}
+use Rattle.qp_model.specs.Parts.{design_of}
+use Rattle.qp_model.specs.Policy.{plans_of}
+use Rattle.qp_model.specs.FineCorners.{corner_gap}
+use Rattle.qp_model.specs.Runs.{Holds, counts}
+use Rattle.plant_condense.specs.Costs.{weight_of}
+use Rattle.plant_condense.proofs.Pushes.{holds_to}
+use Rattle.slater_margin.proofs.CostFacts.{squares_held, total_held}
+use Rattle.fine_margin.proofs.RoomFacts.{cost_side, square_room}
+use Rattle.fine_margin.proofs.CostFacts.{width_room, target_fits, value_fits, value_gap, gap_small, rows_are, rows_room}
+use Rattle.fine_margin.proofs.corner.Corner.row_cost.Goals as goal
+
+pub costs-requires : goal.costs-requires
+costs-requires c =
+    let self = c.args.self.now in
+    width_room self.run.parts.now (plans_of self.policy.now) self.run.first self.number self.run.start.items self.run.plan.items self.made
+
+pub scaled_targets-requires-clause-fits : goal.scaled_targets-requires-clause-fits
+scaled_targets-requires-clause-fits c =
+    let self = c.args.self.now in
+    target_fits self.run.parts.now (plans_of self.policy.now) self.run.first self.number self.run.start.items self.run.plan.items self.made
+
+pub gaps-requires-clause-fits : goal.gaps-requires-clause-fits
+gaps-requires-clause-fits c =
+    let self = c.args.self.now in
+    let d = design_of c.args.self.now.run.parts.now in
+    λ i l.
+    let inside : i < counts d = omega (arith, l, ap (λ (xs : List ℤ). length xs) c.deref-2.ensures.value, c.in_ok-targets.ensures.long) in
+    value_fits self.run.parts.now (plans_of self.policy.now) self.run.first self.number self.run.start.items self.run.plan.items self.made i inside _ _
+    (ap (λ (xs : List Enc). pair_at xs i) c.deref.ensures.value ∙ c.in_ok-values.ensures.is i inside)
+    (ap (λ (xs : List ℤ). at xs i) c.deref-2.ensures.value ∙ c.in_ok-targets.ensures.is i inside)
+
+pub weighted_squares-requires-clause-fits : goal.weighted_squares-requires-clause-fits
+weighted_squares-requires-clause-fits c =
+    let self = c.args.self.now in
+    let d = design_of c.args.self.now.run.parts.now in
+    let s = plans_of c.args.self.now.policy.now in
+    let gaps : Holds c.in_ok-gaps.gaps.items (counts d) (λ r. magnitude (corner_gap d s (c.args.self.now.number + 1) r)) =
+    holds_to _ _ _ _ _ c.in_ok-gaps.ensures (ap (λ (xs : List ℤ). length xs) c.deref-2.ensures.value ∙ c.in_ok-targets.ensures.long)
+    (λ i l. value_gap self.run.parts.now (plans_of self.policy.now) self.run.first self.number self.run.start.items self.run.plan.items self.made i _ _
+    (ap (λ (xs : List Enc). pair_at xs i) c.deref.ensures.value ∙ c.in_ok-values.ensures.is i l)
+    (ap (λ (xs : List ℤ). at xs i) c.deref-2.ensures.value ∙ c.in_ok-targets.ensures.is i l)) in
+    rw (c.deref-3.ensures.value, c.deref-4.ensures.value)
+    (squares_held (counts d) (cost_side d s) _ _ (weight_of d) _ c.in_ok-weights.ensures gaps
+    (gap_small self.run.parts.now (plans_of self.policy.now) self.run.first self.number self.run.start.items self.run.plan.items self.made)
+    (square_room self.run.parts.now (plans_of self.policy.now) self.made.setting.design self.made.setting.room)
+    (rows_room self.run.parts.now (plans_of self.policy.now) self.run.first self.number self.run.start.items self.run.plan.items self.made))
+
+pub returns : goal.returns
+returns c =
+    let self = c.args.self.now in
+    let d = design_of c.args.self.now.run.parts.now in
+    let s = plans_of c.args.self.now.policy.now in
+    let r : SFits w128 c.weighted_squares.result = search rules in
+    let gaps : Holds c.deref-4.result.now (counts d) (λ r. magnitude (corner_gap d s (c.args.self.now.number + 1) r)) =
+    rw c.deref-4.ensures.value (holds_to _ _ _ _ _ c.in_ok-gaps.ensures (ap (λ (xs : List ℤ). length xs) c.deref-2.ensures.value ∙ c.in_ok-targets.ensures.long)
+    (λ i l. value_gap self.run.parts.now (plans_of self.policy.now) self.run.first self.number self.run.start.items self.run.plan.items self.made i _ _
+    (ap (λ (xs : List Enc). pair_at xs i) c.deref.ensures.value ∙ c.in_ok-values.ensures.is i l)
+    (ap (λ (xs : List ℤ). at xs i) c.deref-2.ensures.value ∙ c.in_ok-targets.ensures.is i l))) in
+    let weights : Holds c.deref-3.result.now (counts d) (weight_of d) = rw c.deref-3.ensures.value c.in_ok-weights.ensures in
+    to_z-of_z w128 _ r ∙ c.weighted_squares.ensures ∙ total_held (counts d) _ _ _ _ weights gaps ∙
+    rows_are self.run.parts.now (plans_of self.policy.now) self.run.first self.number self.run.start.items self.run.plan.items self.made

@@ -1,0 +1,104 @@
+use Rattle.std.proofs.Common.{◌≡◌, ◌+◌, ◌*◌, ◌^◌, ◌<◌, ℤ, pos, ◌*ℤ◌, List, length, unsigned_abs, arith, ap, sym, ◌∙◌, rules, refl}
+use Rattle.std.specs.Int.{w128}
+use mir.Val.{SFits}
+use Rattle.std.proofs.lemmas.Int.{to_z-of_z}
+use Rattle.qp_model.specs.Design.{rows}
+use Rattle.qp_model.specs.Parts.{design_of}
+use Rattle.qp_model.specs.Policy.{plans_of}
+use Rattle.qp_model.specs.FineCorners.{least_slack, enclosed_corners}
+use Rattle.qp_model.specs.Runs.{Holds}
+use Rattle.qp_model.proofs.SizeFacts.{some_row}
+use Rattle.frac_scaled.specs.declared.fraction.Frac.{Frac}
+use Rattle.plant_condense.proofs.Rooms.{read}
+use Rattle.plant_condense.proofs.DenominatorFacts.{denominator_fits}
+use Rattle.slater_margin.proofs.RoomFacts.{over_is}
+use Rattle.slater_margin.proofs.SlackFacts.{short_row, units_of}
+use Rattle.slater_margin.proofs.FaultFacts.{no_margin_same}
+use Rattle.fine_margin.proofs.SlackFacts.{slack_within, den_is, den_some}
+use Rattle.fine_margin.proofs.corner.Corner.units.Goals as goal
+
+pub first_short-requires : goal.first_short-requires
+first_short-requires c =
+    let self = c.args.self.now in
+    let d = design_of c.args.self.now.run.parts.now in
+    let held : Holds c.deref.result.now (rows d) (least_slack d (plans_of c.args.self.now.policy.now) (c.args.self.now.number + 1)) = rw c.deref.ensures.value c.in_ok-slacks.ensures in
+    λ i l.
+    let inside : i < rows d = rw (← held.long) l in
+    rw (held.is i inside) (slack_within self.run.parts.now (plans_of self.policy.now) _ _ _ _ self.made i inside)
+
+pub invariant_of-result : goal.invariant_of-result
+invariant_of-result c =
+    let self = c.args.self.now in
+    let f : SFits w128 c.scaled-den.result = search rules in
+    let fl : SFits w128 c.args.self.now.run.parts.now.limit_den = denominator_fits _ self.made.setting.design.limit_den in
+    record { positive = rw (to_z-of_z w128 _ f, c.scaled-den.ensures, to_z-of_z w128 _ fl) (den_some _ self.made.setting.design.limit_den) }
+
+pub returns-in-Some-clause-short : goal.returns-in-Some-clause-short
+returns-in-Some-clause-short c =
+    let self = c.args.self.now in
+    let d = design_of c.args.self.now.run.parts.now in
+    let s = plans_of c.args.self.now.policy.now in
+    let f : SFits w128 c.scaled-den.result = search rules in
+    let fl : SFits w128 c.args.self.now.run.parts.now.limit_den = denominator_fits _ self.made.setting.design.limit_den in
+    let fx : SFits w128 c.index.result.now = search rules in
+    let den : read c.scaled-den.result ≡ pos (unsigned_abs c.args.self.now.run.parts.now.limit_den * 2 ^ 40) =
+    to_z-of_z w128 _ f ∙ c.scaled-den.ensures ∙ ap (λ (z : ℤ). z *ℤ pos (2 ^ 40)) (to_z-of_z w128 _ fl) ∙ den_is _ self.made.setting.design.limit_den in
+    let held : Holds c.deref.result.now (rows d) (least_slack d s (c.args.self.now.number + 1)) = rw c.deref.ensures.value c.in_ok-slacks.ensures in
+    let found = c.in-Some.ensures in
+    λ corner row slack e.
+    let same = no_margin_same e in (
+      sym same.0,
+      short_row (enclosed_corners d s) (rows d) (c.args.self.now.number + 1) c.in-Some.i row slack same.1.0 (rw (← held.long) found.0)
+          (λ k l. (let o : k < rows d = omega (arith, l, found.0, held.long) in rw (← (held.is k o), ← den) (found.2 k l)))
+          (rw (← (held.is c.in-Some.i (rw (← held.long) found.0)), ← den) found.1)
+          (sym (ap (λ (x : Frac). x.num) same.1.1) ∙ to_z-of_z w128 _ fx ∙ over_is _ c.in-Some.i (rows d) c.index.ensures (rw (← held.long) found.0) c.in_ok-slacks.ensures.long ∙
+          c.in_ok-slacks.ensures.is c.in-Some.i (rw (← held.long) found.0))
+          (sym (ap (λ (x : Frac). x.den) same.1.1) ∙ den),
+    )
+
+pub least_of-requires : goal.least_of-requires
+least_of-requires c =
+    let self = c.args.self.now in
+    omega (arith, ap (λ (xs : List ℤ). length xs) c.deref-in-None.ensures.value, c.in_ok-slacks.ensures.long, some_row self.run.parts.now self.made.setting.design)
+
+pub in_units-requires-clause-divisor : goal.in_units-requires-clause-divisor
+in_units-requires-clause-divisor c =
+    let self = c.args.self.now in
+    let f : SFits w128 c.scaled-den.result = search rules in
+    let fl : SFits w128 c.args.self.now.run.parts.now.limit_den = denominator_fits _ self.made.setting.design.limit_den in
+    rw (to_z-of_z w128 _ f, c.scaled-den.ensures, to_z-of_z w128 _ fl) (den_some _ self.made.setting.design.limit_den)
+
+pub in_units-requires-clause-fits : goal.in_units-requires-clause-fits
+in_units-requires-clause-fits c =
+    let self = c.args.self.now in
+    let d = design_of c.args.self.now.run.parts.now in
+    let s = plans_of c.args.self.now.policy.now in
+    let f : SFits w128 c.least_of.result = search rules in
+    let held : Holds c.deref-in-None.result.now (rows d) (least_slack d s (c.args.self.now.number + 1)) = rw c.deref-in-None.ensures.value c.in_ok-slacks.ensures in
+    let met = c.least_of.ensures.met in
+    let inside : met.0 < rows d = rw (← held.long) met.1.0 in
+    rw (to_z-of_z w128 _ f, met.1.1, held.is met.0 inside) (slack_within self.run.parts.now (plans_of self.policy.now) _ _ _ _ self.made met.0 inside)
+
+pub returns-clause-units : goal.returns-clause-units
+returns-clause-units c =
+    let self = c.args.self.now in
+    let d = design_of c.args.self.now.run.parts.now in
+    let s = plans_of c.args.self.now.policy.now in
+    let h = self.made.setting.design.limit_den in
+    let f : SFits w128 c.scaled-den.result = search rules in
+    let fl : SFits w128 c.args.self.now.run.parts.now.limit_den = denominator_fits _ self.made.setting.design.limit_den in
+    let fr : SFits w128 c.in_units.result = search rules in
+    let fm : SFits w128 c.least_of.result = search rules in
+    let read_den : read c.scaled-den.result ≡ c.args.self.now.run.parts.now.limit_den *ℤ pos (2 ^ 40) =
+    to_z-of_z w128 _ f ∙ c.scaled-den.ensures ∙ ap (λ (z : ℤ). z *ℤ pos (2 ^ 40)) (to_z-of_z w128 _ fl) in
+    let held : Holds c.deref.result.now (rows d) (least_slack d s (c.args.self.now.number + 1)) = rw c.deref.ensures.value c.in_ok-slacks.ensures in
+    let held_again : Holds c.deref-in-None.result.now (rows d) (least_slack d s (c.args.self.now.number + 1)) = rw c.deref-in-None.ensures.value c.in_ok-slacks.ensures in
+    let met = c.least_of.ensures.met in
+    let inside : met.0 < rows d = rw (← held_again.long) met.1.0 in
+    rw (to_z-of_z w128 _ fr)
+    (units_of (enclosed_corners d s) (rows d) (c.args.self.now.number + 1) c.least_of.result (c.args.self.now.run.parts.now.limit_den *ℤ pos (2 ^ 40)) c.in_units.result
+    (den_is _ h) (den_some _ h)
+    (λ i l. rw (← (held.is i l), ← read_den) (c.in-None.ensures i (rw held.long l)))
+    (λ i l. rw (← (held_again.is i l)) (c.least_of.ensures.below i (rw held_again.long l)))
+    met.0 inside (met.1.1 ∙ held_again.is met.0 inside)
+    (c.in_units.ensures ∙ rw (to_z-of_z w128 _ fm, read_den) refl))

@@ -1,0 +1,103 @@
+use Rattle.std.proofs.Common.{◌≡◌, ◌^◌, ◌<◌, ◌≤◌, Err, true, arith, subst, rules}
+use Rattle.std.specs.Int.{w128}
+use mir.Val.{SFits}
+use Rattle.std.proofs.lemmas.Int.{to_z-of_z}
+use Rattle.std.proofs.lemmas.Nat.{pow_pos}
+use Rattle.std.proofs.lemmas.Result.{err_from_is_err_and}
+use Rattle.qp_model.specs.declared.design_parts.DesignParts.{DesignParts}
+use Rattle.qp_model.specs.CornerClass.{IsMarginIn}
+use Rattle.qp_model.specs.Parts.{design_of}
+use Rattle.qp_model.specs.Policy.{plans_of, IsPolicyFor}
+use Rattle.slater_margin.specs.Corners.{IsFirstWideCornerIn, IsFirstShortIn}
+use Rattle.slater_margin.specs.declared.fault.MarginFault.TheVariants.{TooWide, NoMargin}
+use Rattle.slater_margin.proofs.FaultFacts.{same_error}
+use Rattle.fine_margin.proofs.MarginFacts.{IsMarginUpTo, first_margin, next_margin, short_first, short_next, whole_margin, none_short}
+use Rattle.fine_margin.proofs.margin.margins_fine.Goals as goal
+
+pub returns-in_err-margin-clause-short : goal.returns-in_err-margin-clause-short
+returns-in_err-margin-clause-short c = λ corner row slack e.
+    let p = c.parts-parts.result.now in
+    let s = plans_of c.args.policy.now in
+    let y = err_from_is_err_and c.from_residual-in_err-margin.result c.from_residual-in_err-margin.ensures.1 in
+    let back : c.corner_margin.result ≡ Err (NoMargin corner row slack) = same_error y.1 e c.in_err-margin.was y.2 in
+    let short = c.corner_margin.ensures.short corner row slack back in
+    rw (← c.parts-parts.ensures.value) (c.in_ok-test_room.ensures.room, short_first p s corner row slack short.0 short.1)
+
+pub loop-c-init : goal.loop-c-init
+loop-c-init c = rw (← c.parts-parts.ensures.value) (first_margin c.parts-parts.result.now (plans_of c.args.policy.now) c.in_ok-margin.margin c.in_ok-margin.ensures.margin)
+
+pub corner_margin-requires-in-loop-c-clause-setting : goal.corner_margin-requires-in-loop-c-clause-setting
+corner_margin-requires-in-loop-c-clause-setting c = record {
+  design = c.parts-parts.ensures.sound;
+  policy = rw c.parts-parts.ensures.value c.requires;
+  room = c.in_ok-test_room.ensures.room;
+  reach = c.first_reach-first.ensures;
+}
+
+pub returns-in_err-next-clause-wide : goal.returns-in_err-next-clause-wide
+returns-in_err-next-clause-wide c = λ q.
+    let y = err_from_is_err_and c.from_residual-in_err-next.result c.from_residual-in_err-next.ensures.1 in (
+      (λ e. (let back : c.corner_margin-in-loop-c.result ≡ Err (TooWide q) = same_error y.1 e c.in_err-next.was y.2 in absurd (c.corner_margin-in-loop-c.ensures.room q back))),
+      (λ w. (let first : IsFirstWideCornerIn true (design_of c.parts-parts.result.now) (plans_of c.args.policy.now) q = rw c.parts-parts.ensures.value w in
+          let no = (c.in_ok-test_room.ensures.wide q).1 first in cc)),
+    )
+
+pub returns-in_err-next-clause-short : goal.returns-in_err-next-clause-short
+returns-in_err-next-clause-short c = λ corner row slack e.
+    let p = c.parts-parts.result.now in
+    let s = plans_of c.args.policy.now in
+    let f : IsPolicyFor (design_of p) s = rw c.parts-parts.ensures.value c.requires in
+    let y = err_from_is_err_and c.from_residual-in_err-next.result c.from_residual-in_err-next.ensures.1 in
+    let back : c.corner_margin-in-loop-c.result ≡ Err (NoMargin corner row slack) = same_error y.1 e c.in_err-next.was y.2 in
+    let short = c.corner_margin-in-loop-c.ensures.short corner row slack back in
+    let below : c.loop-c.c < 2 ^ c.parts-parts.result.now.states = omega (arith, c.loop-c-test.true, c.rows-c-end.ensures.count, f.rows) in
+    let known : IsMarginUpTo p s c.loop-c.c c.loop-c.margin = rw c.parts-parts.ensures.value c.loop-c.invariant in
+    rw (← c.parts-parts.ensures.value) (
+      c.in_ok-test_room.ensures.room,
+      short_next p s c.parts-parts.ensures.sound c.loop-c.c c.loop-c.margin known corner row slack below short.0 short.1,
+    )
+
+pub loop-c-preserved : goal.loop-c-preserved
+loop-c-preserved c =
+    let p = c.parts-parts.result.now in
+    let s = plans_of c.args.policy.now in
+    let f : IsPolicyFor (design_of p) s = rw c.parts-parts.ensures.value c.requires in
+    let below : c.loop-c.c < 2 ^ c.parts-parts.result.now.states = omega (arith, c.loop-c-test.true, c.rows-c-end.ensures.count, f.rows) in
+    let known : IsMarginUpTo p s c.loop-c.c c.loop-c.margin = rw c.parts-parts.ensures.value c.loop-c.invariant in
+    let fm : SFits w128 c.min.result = search rules in
+    let fx : SFits w128 c.max.result = search rules in
+    let fmu : SFits w128 c.loop-c.margin.units = search rules in
+    let fmc : SFits w128 c.loop-c.margin.cost = search rules in
+    let fnu : SFits w128 c.in_ok-next.next.units = search rules in
+    let fnc : SFits w128 c.in_ok-next.next.cost = search rules in
+    rw (← c.parts-parts.ensures.value, to_z-of_z w128 _ fm, to_z-of_z w128 _ fx, c.min.ensures.value, c.max.ensures.value, to_z-of_z w128 _ fmu, to_z-of_z w128 _ fmc, to_z-of_z w128 _ fnu, to_z-of_z w128 _ fnc)
+    (next_margin p s c.parts-parts.ensures.sound c.loop-c.c c.loop-c.margin known c.in_ok-next.next below c.in_ok-next.ensures.margin)
+
+pub returns-clause-margin : goal.returns-clause-margin
+returns-clause-margin c =
+    let p = c.parts-parts.result.now in
+    let s = plans_of c.args.policy.now in
+    let f : IsPolicyFor (design_of p) s = rw c.parts-parts.ensures.value c.requires in
+    let some : 1 ≤ 2 ^ c.parts-parts.result.now.states = pow_pos c.parts-parts.result.now.states in
+    let all : c.loop-c.c ≡ 2 ^ c.parts-parts.result.now.states = omega (arith, c.loop-c-test.false, c.loop-c.auto.c-end (omega (arith, c.rows-c-end.ensures.count, f.rows, some)), c.rows-c-end.ensures.count, f.rows) in
+    let known : IsMarginUpTo p s c.loop-c.c c.loop-c.margin = rw c.parts-parts.ensures.value c.loop-c.invariant in
+    subst (λ (q : DesignParts). IsMarginIn true (design_of q) s c.loop-c.margin) c.parts-parts.ensures.value
+    (whole_margin p s c.parts-parts.ensures.sound c.loop-c.c c.loop-c.margin known all)
+
+pub returns-clause-wide : goal.returns-clause-wide
+returns-clause-wide c = λ q. (
+  (λ e. (cc)),
+  (λ w. (let first : IsFirstWideCornerIn true (design_of c.parts-parts.result.now) (plans_of c.args.policy.now) q = rw c.parts-parts.ensures.value w in
+      let no = (c.in_ok-test_room.ensures.wide q).1 first in cc)),
+)
+
+pub returns-clause-no_give_up : goal.returns-clause-no_give_up
+returns-clause-no_give_up c = λ corner row slack w.
+    let p = c.parts-parts.result.now in
+    let s = plans_of c.args.policy.now in
+    let f : IsPolicyFor (design_of p) s = rw c.parts-parts.ensures.value c.requires in
+    let some : 1 ≤ 2 ^ c.parts-parts.result.now.states = pow_pos c.parts-parts.result.now.states in
+    let all : c.loop-c.c ≡ 2 ^ c.parts-parts.result.now.states = omega (arith, c.loop-c-test.false, c.loop-c.auto.c-end (omega (arith, c.rows-c-end.ensures.count, f.rows, some)), c.rows-c-end.ensures.count, f.rows) in
+    let known : IsMarginUpTo p s c.loop-c.c c.loop-c.margin = rw c.parts-parts.ensures.value c.loop-c.invariant in
+    let short : IsFirstShortIn true (design_of p) s corner row slack = rw c.parts-parts.ensures.value w in
+    absurd (none_short p s c.parts-parts.ensures.sound c.loop-c.c c.loop-c.margin known all corner row slack short)
