@@ -77,9 +77,3 @@ pub greatest-parts : (c : Numbers) → greatest_sum c ≡
     (greatest_of (map (row_absolute_sum c) (range_with_len 0 (length c.bounds))))) (greatest_of (map (next_magnitude c) (range_with_len 0 (length c.bounds)))))
     (greatest_of (map (sum_magnitude c) (range_with_len 0 (length c.offsets))))
 greatest-parts c = rw (greatest-append, greatest-append, greatest-append, greatest-append) refl
-
--- each number of a list is at most the greatest
-pub get_or-le-greatest : (xs : List ℕ) (i : ℕ) → get_or xs i 0 ≤ greatest_of xs
-get_or-le-greatest [] i = omega arith
-get_or-le-greatest (x ∷ xs) zero = omega arith
-get_or-le-greatest (x ∷ xs) (suc i) = omega (arith, get_or-le-greatest xs i)

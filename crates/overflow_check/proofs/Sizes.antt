@@ -1,12 +1,16 @@
 -- The lengths that a controller's sizes give.
-use Rattle.std.proofs.Common.{◌≡◌, ℕ, zero, suc, ◌-◌, ◌*◌, ◌^◌, ◌<◌, ◌≤◌, max, ℤ, pos, List, [], ◌∷◌, length, get_or, unsigned_abs, refl, sym, subst, arith}
+use Rattle.std.proofs.Common.{◌≡◌, ℕ, zero, suc, ◌+◌, ◌-◌, ◌*◌, ◌^◌, ◌<◌, ◌≤◌, max, ℤ, pos, List, [], ◌∷◌, length, map, get_or, unsigned_abs, refl, le_refl, sym, subst, arith}
 use Rattle.std.specs.Prelude.{All}
-use Rattle.std.proofs.lemmas.Nat.{mul-le, mul-lt, pow_below}
+use Rattle.std.specs.List.{range_with_len}
+use Rattle.std.proofs.lemmas.Nat.{mul-le, mul-lt, pow_below, pow_pos}
 use Rattle.std.proofs.lemmas.List.{length-replicate}
 use Rattle.std.proofs.lemmas.List.FromFn.{length-map-range_with_len}
+use Rattle.integer_algebra.specs.Division.{ceil_div}
+use Rattle.integer_algebra.proofs.DivisionLaws.{ceil_div-le}
 use Rattle.qp_model.specs.Range.{IsNumerator}
 use Rattle.qp_model.specs.Controller.{Numbers, IsSized}
-use Rattle.qp_model.specs.AbsoluteSums.{magnitudes_of, state_magnitudes, clamp_magnitudes, plan_magnitudes}
+use Rattle.qp_model.specs.AbsoluteSums.{magnitudes_of, state_magnitudes, clamp_magnitudes, entry_absolute_sum, plan_magnitudes, greatest_of, greatest_sum}
+use Rattle.overflow_check.proofs.Greatest.{greatest-parts}
 
 -- ---- lengths of the reaches
 pub length-reach_of : (k : ℕ) (lows highs : List ℤ) → length lows ≡ length highs → length (magnitudes_of k lows highs) ≡ length lows
@@ -44,3 +48,20 @@ numerator_read xs i x all lt e = subst (λ (z : ℤ). unsigned_abs z < 2 ^ 31) (
 
 pub reach_below : (a b k : ℕ) → a < 2 ^ 31 → b < 2 ^ 31 → k ≤ 48 → max a b * 2 ^ k < 2 ^ 80
 reach_below a b k h l m = mul-lt (max a b) (2 ^ k) (2 ^ 31) (2 ^ 49) (omega arith) (pow_below k 49 (omega arith))
+
+-- ---- the plan's magnitudes
+-- quotients are at most the numbers that are divided, and so is their greatest
+greatest_quotient : (f : ℕ → ℕ) (d a n : ℕ) → 0 < d → greatest_of (map (λ j. ceil_div (f j) d) (range_with_len a n)) ≤ greatest_of (map f (range_with_len a n))
+greatest_quotient f d a zero h = omega arith
+greatest_quotient f d a (suc n) h = omega (arith, greatest_quotient f d (a + 1) n h, ceil_div-le (f a) d (f a) h (le_times (f a) d h))
+  where
+    le_times : (a d : ℕ) → 0 < d → a ≤ d * a
+    le_times a d h = omega (arith, mul-le 1 a d a h (le_refl a))
+
+-- the greatest of a plan's magnitudes is at most that of the sums that they are made of
+pub greatest_plan_le : (c : Numbers) → greatest_of (plan_magnitudes c) ≤ greatest_sum c
+greatest_plan_le c = omega (
+  arith,
+  greatest-parts c,
+  greatest_quotient (entry_absolute_sum c) (2 ^ (c.fraction_bits + c.step_exponent)) 0 (length c.offsets) (pow_pos (c.fraction_bits + c.step_exponent)),
+)

@@ -16,9 +16,8 @@ use Rattle.qp_model.specs.ValuesMet.{products, partial_sums, entry_values, row_v
 use Rattle.qp_model.specs.Within.{AreWithin}
 use Rattle.overflow_check.specs.Laws.{ValuesLaw}
 use Rattle.qp_model.proofs.AbsoluteLaws.{le_times_pow, abs-neg, abs-shifted, abs-floor_le, abs-floor_le_ceil, abs-own_le, abs-scaled_le, abs-row_le, abs-clamped_le, ceil_div_mono}
-use Rattle.overflow_check.proofs.Greatest.{get_or-le-greatest}
 use Rattle.overflow_check.proofs.SumLaws.{SumsFit, sums_fit, own_le, dual_le, planned_le, row_parts_le, row_le, next_le}
-use Rattle.qp_model.proofs.MagnitudeLaws.{entry_parts_le, entry_sum_le, plan_within, state_within, after_multipliers}
+use Rattle.qp_model.proofs.MagnitudeLaws.{entry_parts_le, entry_sum_le, plan_within, state_within, after_multipliers, get_or-le-greatest}
 use Rattle.overflow_check.proofs.Runs.{after_sums_length, after_sums_le, after_suc, clamped_at}
 
 -- ---- lists of numbers below a bound

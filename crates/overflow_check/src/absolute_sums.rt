@@ -1,10 +1,10 @@
 // The absolute sums, with a test of each product and sum.
-ghost use Rattle.std.specs.Prelude.{◌≡◌, ◌≤◌, ◌<◌, ◌+◌, ◌-◌, ◌*◌, ◌^◌, pos, map, max, take, length, unsigned_abs, slice_index_or, IfSome, IfNone};
-ghost use Rattle.std.specs.List.{range_with_len};
+ghost use Rattle.std.specs.Prelude.{◌≡◌, ◌≤◌, ◌<◌, ◌+◌, ◌-◌, ◌*◌, ◌^◌, pos, max, take, length, unsigned_abs, slice_index_or, IfSome, IfNone};
 ghost use Rattle.std.specs.Option.{SomeIff};
 ghost use Rattle.integer_algebra.specs.Division.{ceil_div};
 ghost use Rattle.qp_model.specs.Controller.{numbers, IsSized};
-ghost use Rattle.qp_model.specs.AbsoluteSums.{IsController, weighted_abs_sum, state_magnitudes, clamp_magnitudes, entry_absolute_sum, plan_magnitudes, row_absolute_sum, next_magnitude, sum_magnitude, greatest_of, greatest_sum};
+ghost use Rattle.qp_model.specs.AbsoluteSums.{IsController, weighted_abs_sum, state_magnitudes, clamp_magnitudes, entry_absolute_sum, plan_magnitudes, row_absolute_sum, greatest_of, greatest_sum};
+ghost use Rattle.overflow_check.specs.Greatest.{greatest_entry_sum, greatest_row_sum, greatest_next_magnitude, greatest_run_sum};
 
 use qp_model::{ControllerParts, MOST_INPUTS, MOST_ROWS, MOST_STAGES, MOST_STATES};
 
@@ -121,8 +121,8 @@ fn plan_magnitudes(c: &ControllerParts, states: &[u128], clamps: &[u128]) -> Opt
     requires sized { IsSized (numbers c.now) }
     requires states { states.now ≡ state_magnitudes (numbers c.now) }
     requires clamps { clamps.now ≡ clamp_magnitudes (numbers c.now) }
-    ensures wide { IfNone result (¬ (greatest_of (map (entry_absolute_sum (numbers c.now)) (range_with_len 0 (length c.now.t.items))) ≤ 2 ^ 126)) }
-    ensures greatest { IfSome result (λ r. r.greatest ≡ greatest_of (map (entry_absolute_sum (numbers c.now)) (range_with_len 0 (length c.now.t.items)))) }
+    ensures wide { IfNone result (¬ (greatest_entry_sum (numbers c.now) ≤ 2 ^ 126)) }
+    ensures greatest { IfSome result (λ r. r.greatest ≡ greatest_entry_sum (numbers c.now)) }
     ensures magnitudes { IfSome result (λ r. take (length c.now.t.items) r.magnitudes ≡ plan_magnitudes (numbers c.now)) }
 {
     let mut magnitudes = [0; MOST_ENTRIES];
@@ -157,7 +157,7 @@ fn greatest_row(c: &ControllerParts, states: &[u128], plan: &[u128]) -> Option<u
     requires sized { IsSized (numbers c.now) }
     requires states { states.now ≡ state_magnitudes (numbers c.now) }
     requires plan { plan.now ≡ plan_magnitudes (numbers c.now) }
-    ensures { SomeIff result (greatest_of (map (row_absolute_sum (numbers c.now)) (range_with_len 0 (length c.now.bound.items))) ≤ 2 ^ 126) (max (greatest_of (map (row_absolute_sum (numbers c.now)) (range_with_len 0 (length c.now.bound.items)))) (greatest_of (map (next_magnitude (numbers c.now)) (range_with_len 0 (length c.now.bound.items))))) }
+    ensures { SomeIff result (greatest_row_sum (numbers c.now) ≤ 2 ^ 126) (max (greatest_row_sum (numbers c.now)) (greatest_next_magnitude (numbers c.now))) }
 {
     let mut greatest = 0;
     for i in 0..c.bound.len() {
@@ -172,7 +172,7 @@ fn greatest_row(c: &ControllerParts, states: &[u128], plan: &[u128]) -> Option<u
 #[tactic(auto, using(crate::proofs::Greatest::greatest_steps))]
 fn greatest_run_sum(c: &ControllerParts, plan: &[u128]) -> Option<u128>
     requires { plan.now ≡ plan_magnitudes (numbers c.now) }
-    ensures { SomeIff result (greatest_of (map (sum_magnitude (numbers c.now)) (range_with_len 0 (length c.now.t.items))) < 2 ^ 128) (greatest_of (map (sum_magnitude (numbers c.now)) (range_with_len 0 (length c.now.t.items)))) }
+    ensures { SomeIff result (greatest_run_sum (numbers c.now) < 2 ^ 128) (greatest_run_sum (numbers c.now)) }
 {
     let mut greatest = 0;
     for magnitudes in plan {
@@ -193,19 +193,41 @@ fn greatest_of(numbers: &[u128]) -> u128
     greatest
 }
 
-// The greatest absolute sum, from the greatest absolute values of states and multipliers.
-fn greatest_within(c: &ControllerParts, states: &[u128], clamps: &[u128]) -> Option<i128>
+// The greatest absolute sum, and how far the plan's entries lie from 0 at most.
+#[derive(Clone, Copy)]
+struct Greatest {
+    sum: u128,
+    plan: u128,
+}
+
+// From the greatest absolute values of states and multipliers. None where the sum is above 2^126.
+fn greatest_within(c: &ControllerParts, states: &[u128], clamps: &[u128]) -> Option<Greatest>
     requires sized { IsSized (numbers c.now) }
     requires states { states.now ≡ state_magnitudes (numbers c.now) }
     requires clamps { clamps.now ≡ clamp_magnitudes (numbers c.now) }
-    ensures { SomeIff result (greatest_sum (numbers c.now) ≤ 2 ^ 126) (pos (greatest_sum (numbers c.now))) }
+    ensures { SomeIff result (greatest_sum (numbers c.now) ≤ 2 ^ 126)
+        (record { sum = greatest_sum (numbers c.now); plan = greatest_of (plan_magnitudes (numbers c.now)) }) }
 {
     let plan = plan_magnitudes(c, states, clamps)?;
     let magnitudes = &plan.magnitudes[..c.t.len()];
     let rows = greatest_row(c, states, magnitudes)?;
     let sums = greatest_run_sum(c, magnitudes)?;
     let greatest = greatest_of(states).max(plan.greatest).max(rows).max(sums);
-    Some(limited(greatest)? as i128)
+    Some(Greatest {
+        sum: limited(greatest)?,
+        plan: greatest_of(magnitudes),
+    })
+}
+
+// Those of a controller.
+fn greatest_numbers(parts: &ControllerParts) -> Option<Greatest>
+    requires { IsSized (numbers parts.now) }
+    ensures { SomeIff result (greatest_sum (numbers parts.now) ≤ 2 ^ 126)
+        (record { sum = greatest_sum (numbers parts.now); plan = greatest_of (plan_magnitudes (numbers parts.now)) }) }
+{
+    let states = state_magnitudes(parts);
+    let clamps = clamp_magnitudes(parts);
+    greatest_within(parts, &states[..parts.n], &clamps[..parts.m])
 }
 
 /// The greatest absolute sum: no value that the machine meets in a run from a state of the box is above it. None where
@@ -214,9 +236,16 @@ pub fn greatest_sum(parts: &ControllerParts) -> Option<i128>
     requires { IsSized (numbers parts.now) }
     ensures { SomeIff result (greatest_sum (numbers parts.now) ≤ 2 ^ 126) (pos (greatest_sum (numbers parts.now))) }
 {
-    let states = state_magnitudes(parts);
-    let clamps = clamp_magnitudes(parts);
-    greatest_within(parts, &states[..parts.n], &clamps[..parts.m])
+    Some(greatest_numbers(parts)?.sum as i128)
+}
+
+/// How far the plan's entries lie from 0 at most in a run from a state of the box, over `2^f`. None where the greatest absolute
+/// sum is above `2^126`.
+pub fn plan_sum(parts: &ControllerParts) -> Option<i128>
+    requires { IsSized (numbers parts.now) }
+    ensures { SomeIff result (greatest_sum (numbers parts.now) ≤ 2 ^ 126) (pos (greatest_of (plan_magnitudes (numbers parts.now)))) }
+{
+    Some(greatest_numbers(parts)?.plan as i128)
 }
 
 /// How far plan entry `j` lies from 0 at most in a run from a state of the box, over `2^f`.

@@ -7,7 +7,7 @@ mod form;
 mod laws;
 mod word_width;
 
-pub use absolute_sums::{greatest_sum, plan_entry_magnitude};
+pub use absolute_sums::{greatest_sum, plan_entry_magnitude, plan_sum};
 pub use controller::{BadParts, Controller};
 pub use laws::values_law;
 pub use word_width::width;

@@ -80,6 +80,16 @@ fn widths(rt: HostRuntime) -> Result<(), Fail> {
     Ok(())
 }
 
+// How far the plan's entry lies from 0: the same sums over 2^11, rounded up.
+#[test]
+fn plans(rt: HostRuntime) -> Result<(), Fail> {
+    for (gain, most) in [(256, 12800), (512, 16896), (1 << 110, (1 << 114) + 8704)] {
+        let controller = Controller::from_parts(one_stage(rt.alloc(), 128, gain)?)?;
+        assert_eq!(rt; plan_sum(controller.parts()), Some(most), "{gain}");
+    }
+    Ok(())
+}
+
 // What breaks a shape or a range.
 #[test]
 fn forms(rt: HostRuntime) -> Result<(), Fail> {

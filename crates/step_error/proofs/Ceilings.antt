@@ -1,8 +1,8 @@
 -- Quotients rounded up, and how they move with what they divide and by what.
-use Rattle.std.proofs.Common.{◌≡◌, ℕ, zero, suc, ◌<◌, ◌≤◌, arith, sym, ◌∙◌}
+use Rattle.std.proofs.Common.{◌≡◌, ℕ, zero, suc, ◌*◌, ◌<◌, ◌≤◌, arith, sym, ◌∙◌}
 use Rattle.std.specs.Int.{div_ceil}
 use Rattle.std.proofs.lemmas.Grind.{div_ceil_times}
-use Rattle.std.proofs.Math.Nat.{mul-le-mul_right, div-eq_of_lt-le}
+use Rattle.std.proofs.Math.Nat.{mul-le-mul_left, mul-le-mul_right, one-le-mul, div-eq_of_lt-le}
 use Rattle.integer_algebra.specs.Division.{ceil_div}
 use Rattle.integer_algebra.proofs.DivisionLaws.{ceil_div-le, le-mul-ceil_div}
 
@@ -32,3 +32,12 @@ ceil_anti a b d p h = ceil_div-le a d (ceil_div a b) (omega (arith, p, h)) (omeg
 
 pub positive_by : {a b : ℕ} → a ≡ b → 1 ≤ b → 0 < a
 positive_by {a} {b} e h = omega (arith, e, h)
+
+-- by one number and then by another
+pub ceil_twice : (a b d : ℕ) → 0 < b → 0 < d → ceil_div (ceil_div a b) d ≡ ceil_div a (b * d)
+ceil_twice a b d p q =
+    let low = ceil_div-le (ceil_div a b) d (ceil_div a (b * d)) q
+    (ceil_div-le a b (d * ceil_div a (b * d)) p (omega (arith, le-mul-ceil_div a (b * d) (one-le-mul p q)))) in
+    let high = ceil_div-le a (b * d) (ceil_div (ceil_div a b) d) (one-le-mul p q)
+    (omega (arith, le-mul-ceil_div a b p, mul-le-mul_left b (le-mul-ceil_div (ceil_div a b) d q))) in
+    omega (arith, low, high)

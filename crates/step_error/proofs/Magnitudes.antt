@@ -16,7 +16,7 @@ use Rattle.qp_model.specs.Box.{IsGridState}
 use Rattle.qp_model.specs.Form.{Form}
 use Rattle.qp_model.specs.Quantities.{greatest}
 use Rattle.qp_model.specs.Controller.{Numbers, IsSized}
-use Rattle.qp_model.specs.Machine.{loaded, plan_of, row_sum, next_multiplier, after}
+use Rattle.qp_model.specs.Machine.{IsAdmissible, loaded, plan_of, row_sum, next_multiplier, after}
 use Rattle.qp_model.specs.Built.{IsDerivedFrom}
 use Rattle.qp_model.specs.Errors.{state_bound}
 use Rattle.qp_model.proofs.SizeFacts.{greatest_term}
@@ -90,6 +90,16 @@ module _ (d : Design) (h : Form) (r : ℕ) (c : Numbers) (xi : List ℤ) (made :
 
   pub loaded_is : (i : ℕ) → i < c.states → at (loaded c xi) i ≡ at xi i *ℤ pos (2 ^ (c.fraction_bits - c.grid_bits))
   loaded_is i h = loaded_at c xi i (omega (arith, h, made.sizes.states, long))
+
+  -- the machine takes each grid state of the design's box
+  pub admissible : IsAdmissible c xi
+  admissible = record {
+    long = long ∙ sym made.sizes.states;
+    each = λ i l. (let m : i < d.states = omega (arith, l, made.sizes.states) in record {
+      low = rw (made.sizes.low i m) (inside i m).0;
+      high = rw (made.sizes.high i m) (inside i m).1;
+    });
+  }
 
   pub multipliers_box : (k : ℕ) → InBox (rows d) (pos (2 * r) *ℤ pos (2 ^ (c.fraction_bits + c.step_exponent))) (at (after c (loaded c xi) k).multipliers)
   multipliers_box k = let all = multipliers_in c (loaded c xi) k sized.clamp_low in record {

@@ -10,10 +10,10 @@ use Rattle.qp_model.specs.Errors as errors
 use Rattle.qp_model.specs.Errors.{linear_sum, constant_sum, plan_row_sum, trace_sum, combined_bound, gradient_error, gradient_squares, first_cost, pull, error_sums_of, error_size, state_bound, plan_bound, residual_error, radius_error, row_radii}
 use Rattle.qp_model.proofs.SizeFacts.{greatest_same}
 
-amount_over : (m n : ℕ) (f g : ℕ → ℕ) → m ≡ n → ((i : ℕ) → i < n → f i ≡ g i) → amount m f ≡ amount n g
+pub amount_over : (m n : ℕ) (f g : ℕ → ℕ) → m ≡ n → ((i : ℕ) → i < n → f i ≡ g i) → amount m f ≡ amount n g
 amount_over m n f g e h = rw e (amount_same n f g h)
 
-greatest_over : (m n : ℕ) (f g : ℕ → ℕ) → m ≡ n → ((i : ℕ) → i < n → f i ≡ g i) → greatest m f ≡ greatest n g
+pub greatest_over : (m n : ℕ) (f g : ℕ → ℕ) → m ≡ n → ((i : ℕ) → i < n → f i ≡ g i) → greatest m f ≡ greatest n g
 greatest_over m n f g e h = rw e (greatest_same n f g h)
 
 -- the quantity `error` by what it is made of

@@ -95,25 +95,26 @@ system_bound d h r j factor p =
         let w : pos z *ℤ h ≡ h *ℤ pos z = by_ring (pos z ∷ h ∷ []) (search quotes depth 60 fits 20000) refl in
         omega (arith, ints, g, w, k)
 
--- the gradient that the systems have, over the matrix's denominator
-middle_within : (d : Design) (h : Form) (r : ℕ) (c : Numbers) (x l : List ℤ) → IsDerivedFrom d (counted d h) r c → IsShaped c → AreReached d r c x l →
-    h.matrix_factor ≡ pos d.limit_denominator → 0 < h.hessian_scale → (j : ℕ) → j < entries d →
-    IsWithin (pos d.limit_denominator *ℤ pos h.hessian_scale *ℤ (pos (2 ^ c.step_exponent) *ℤ pos (gradient_error d (counted d h) r j)))
+-- the gradient that the systems have, over the matrix's denominator: each entry is within `error`
+abbrev pub IsMiddle : (d : Design) (h : Form) (c : Numbers) (x l : List ℤ) (error : ℕ → ℕ) → Type 0
+IsMiddle d h c x l error = (j : ℕ) → j < entries d →
+    IsWithin (pos d.limit_denominator *ℤ pos h.hessian_scale *ℤ (pos (2 ^ c.step_exponent) *ℤ pos (error j)))
     (pos (2 ^ c.step_exponent) *ℤ image (entries d) (solve_matrix h) (plan_entry c x l) j +ℤ image (c.states + 1 + c.rows) (λ j i. solve_column (counted d h) i j) (pulls c x l) j)
-middle_within d h r c x l made shaped reached factor p j inside =
-    finish (pos (2 ^ c.fraction_bits)) (pos (2 ^ c.step_exponent)) (pos d.limit_denominator *ℤ pos h.hessian_scale) (pos (gradient_error d (counted d h) r j))
-    (pos 2 *ℤ total (entries d) (λ i. absolute (solve_matrix h j i)) +ℤ solve_matrix h j j *ℤ pos (combined_bound d r))
+
+-- from the systems' bound t on twice the gradient
+pub middle_from : (d : Design) (h : Form) (c : Numbers) (x l : List ℤ) (error : ℕ → ℕ) (j : ℕ) (t : ℤ) →
+    IsWithin (pos (2 ^ (c.fraction_bits + c.step_exponent)) *ℤ t)
+    (pos 2 *ℤ (pos (2 ^ (c.fraction_bits + c.step_exponent)) *ℤ image (entries d) (solve_matrix h) (plan_entry c x l) j +ℤ
+    pos (2 ^ c.fraction_bits) *ℤ image (c.states + 1 + c.rows) (λ j i. solve_column (counted d h) i j) (pulls c x l) j)) →
+    t ≤ℤ pos (2 * (d.limit_denominator * h.hessian_scale * error j)) →
+    IsWithin (pos d.limit_denominator *ℤ pos h.hessian_scale *ℤ (pos (2 ^ c.step_exponent) *ℤ pos (error j)))
+    (pos (2 ^ c.step_exponent) *ℤ image (entries d) (solve_matrix h) (plan_entry c x l) j +ℤ image (c.states + 1 + c.rows) (λ j i. solve_column (counted d h) i j) (pulls c x l) j)
+middle_from d h c x l error j t =
+    finish (pos (2 ^ c.fraction_bits)) (pos (2 ^ c.step_exponent)) (pos d.limit_denominator *ℤ pos h.hessian_scale) (pos (error j)) t
     (image (entries d) (solve_matrix h) (plan_entry c x l) j) (image (c.states + 1 + c.rows) (λ j i. solve_column (counted d h) i j) (pulls c x l) j)
     (let o = pow_positive 2 c.fraction_bits (omega arith) in omega (arith, ints, o)) (omega (arith, ints))
-    (ap pos (pow-add 2 c.fraction_bits c.step_exponent)) bounded (system_bound d h r j factor p)
+    (ap pos (pow-add 2 c.fraction_bits c.step_exponent))
   where
-    bounded : IsWithin (pos (2 ^ (c.fraction_bits + c.step_exponent)) *ℤ (pos 2 *ℤ total (entries d) (λ i. absolute (solve_matrix h j i)) +ℤ solve_matrix h j j *ℤ pos (combined_bound d r)))
-        (pos 2 *ℤ (pos (2 ^ (c.fraction_bits + c.step_exponent)) *ℤ image (entries d) (solve_matrix h) (plan_entry c x l) j +ℤ
-        pos (2 ^ c.fraction_bits) *ℤ image (c.states + 1 + c.rows) (λ j i. solve_column (counted d h) i j) (pulls c x l) j))
-    bounded = let e = made.sizes.states in let f = made.sizes.rows in
-        within_same (ap (λ (n : ℕ). pos (2 ^ (c.fraction_bits + c.step_exponent)) *ℤ (pos 2 *ℤ total (entries d) (λ i. absolute (solve_matrix h j i)) +ℤ solve_matrix h j j *ℤ pos n))
-        (let z : c.states * state_bound d + 1 + c.rows * (2 * r) ≡ combined_bound d r = rw (e, f) refl in z)) refl (gradient_within d h r c x l made shaped reached j inside)
-
     finish : (f s m e t hu cv : ℤ) {q : ℤ} → pos 0 <ℤ f → pos 0 ≤ℤ s → q ≡ f *ℤ s →
         IsWithin (q *ℤ t) (pos 2 *ℤ (q *ℤ hu +ℤ f *ℤ cv)) → t ≤ℤ (pos 2 *ℤ (m *ℤ e)) → IsWithin (m *ℤ (s *ℤ e)) (s *ℤ hu +ℤ cv)
     finish f s m e t hu cv pf ps is h k =
@@ -130,6 +131,20 @@ middle_within d h r c x l made shaped reached factor p j inside =
 
         ring_three : (s t m e : ℤ) → pos 2 *ℤ (m *ℤ (s *ℤ e)) +ℤ s *ℤ t ≡ s *ℤ t +ℤ s *ℤ (pos 2 *ℤ (m *ℤ e))
         ring_three s t m e = by_ring (s ∷ t ∷ m ∷ e ∷ []) (search quotes depth 60 fits 20000) refl
+
+-- by the stated errors
+pub middle_within : (d : Design) (h : Form) (r : ℕ) (c : Numbers) (x l : List ℤ) → IsDerivedFrom d (counted d h) r c → IsShaped c → AreReached d r c x l →
+    h.matrix_factor ≡ pos d.limit_denominator → 0 < h.hessian_scale → IsMiddle d h c x l (gradient_error d (counted d h) r)
+middle_within d h r c x l made shaped reached factor p j inside =
+    middle_from d h c x l (gradient_error d (counted d h) r) j (pos 2 *ℤ total (entries d) (λ i. absolute (solve_matrix h j i)) +ℤ solve_matrix h j j *ℤ pos (combined_bound d r))
+    bounded (system_bound d h r j factor p)
+  where
+    bounded : IsWithin (pos (2 ^ (c.fraction_bits + c.step_exponent)) *ℤ (pos 2 *ℤ total (entries d) (λ i. absolute (solve_matrix h j i)) +ℤ solve_matrix h j j *ℤ pos (combined_bound d r)))
+        (pos 2 *ℤ (pos (2 ^ (c.fraction_bits + c.step_exponent)) *ℤ image (entries d) (solve_matrix h) (plan_entry c x l) j +ℤ
+        pos (2 ^ c.fraction_bits) *ℤ image (c.states + 1 + c.rows) (λ j i. solve_column (counted d h) i j) (pulls c x l) j))
+    bounded = let e = made.sizes.states in let f = made.sizes.rows in
+        within_same (ap (λ (n : ℕ). pos (2 ^ (c.fraction_bits + c.step_exponent)) *ℤ (pos 2 *ℤ total (entries d) (λ i. absolute (solve_matrix h j i)) +ℤ solve_matrix h j j *ℤ pos n))
+        (let z : c.states * state_bound d + 1 + c.rows * (2 * r) ≡ combined_bound d r = rw (e, f) refl in z)) refl (gradient_within d h r c x l made shaped reached j inside)
 
 -- ---- the exact gradient
 -- from the midpoints' gradient to the exact one, by numbers alone: m is what the matrix is times, k what its rows are, a and b the scales of the form, and
@@ -189,16 +204,16 @@ scales d = rw (pow-two (d.row_denominator * 2 ^ d.grid * d.plant_denominator ^ d
         (w *ℤ w *ℤ w) *ℤ (cost *ℤ (row *ℤ plant *ℤ (row *ℤ plant)) *ℤ (limit *ℤ plant))
     closed cost row w plant limit = by_ring (cost ∷ row ∷ w ∷ plant ∷ limit ∷ []) (search quotes depth 60 fits 20000) refl
 
--- a plan of the machine, whose entries are at most u, and what its gradient's entry is made of
+-- a plan of the machine, whose entries are at most u and whose gradient has errors within `error`, and what its gradient's entry is made of
 module _ (d : Design) (h : Form) (r : ℕ) (c : Numbers) (x l : List ℤ) (xi : ℕ → ℤ) (u : ℕ) (sound : IsSound d (input_floor d)) (form : IsFormFor d (counted d h))
     (made : IsDerivedFrom d (counted d h) r c) (shaped : IsShaped c) (reached : AreReached d r c x l)
-    (small : (j : ℕ) → j < entries d → unsigned_abs (plan_entry c x l j) ≤ u * 2 ^ c.fraction_bits) where
+    (small : (j : ℕ) → j < entries d → unsigned_abs (plan_entry c x l j) ≤ u * 2 ^ c.fraction_bits) (error : ℕ → ℕ) (middle : IsMiddle d h c x l error) where
   abbrev exact : Condensed
   exact = condensed_of d
 
   -- the exact gradient over the design's scales and 2^40
   exact_within : (j : ℕ) → j < entries d →
-      IsWithin (pos (hessian_scale d) *ℤ pos (rows_scale d) *ℤ (pos (2 ^ 40) *ℤ pos (2 ^ c.step_exponent) *ℤ pos (gradient_error d (counted d h) r j) +ℤ
+      IsWithin (pos (hessian_scale d) *ℤ pos (rows_scale d) *ℤ (pos (2 ^ 40) *ℤ pos (2 ^ c.step_exponent) *ℤ pos (error j) +ℤ
       pos (2 ^ (c.fraction_bits + c.step_exponent)) *ℤ pos (radius_error (error_sums_of d (counted d h) r) u)))
       (pos (2 ^ 40) *ℤ (pos (rows_scale d) *ℤ
       (pos (2 ^ c.step_exponent) *ℤ image (entries d) exact.hessian (plan_entry c x l) j +ℤ pos (2 ^ c.step_exponent) *ℤ dot d.states (exact.linear j) (at x) +ℤ
@@ -206,14 +221,14 @@ module _ (d : Design) (h : Form) (r : ℕ) (c : Numbers) (x l : List ℤ) (xi : 
   exact_within j inside =
       exact_closed (pos (2 ^ 40)) (pos d.limit_denominator) h.row_factor (pos h.hessian_scale) (pos h.rows_scale) (pos (hessian_scale d)) (pos (rows_scale d))
       (pos (2 ^ c.fraction_bits)) (pos (2 ^ c.step_exponent)) (pos (2 ^ (c.fraction_bits + c.step_exponent)))
-      (pos u) (pos (state_bound d)) (pos (2 * r)) (pos (gradient_error d (counted d h) r j)) (pos (radius_error (error_sums_of d (counted d h) r) u))
+      (pos u) (pos (state_bound d)) (pos (2 * r)) (pos (error j)) (pos (radius_error (error_sums_of d (counted d h) r) u))
       (pos (hessian_radii (counted d h) j)) (pos (linear_radii (counted d h) j)) (pos (h.constant_radius j)) (pos (column_radii (counted d h) j))
       (image (entries d) h.numbers.hessian (plan_entry c x l) j) (dot d.states (h.numbers.linear j) (at x)) (h.numbers.constant j) (coimage (rows d) h.numbers.by_plan (at l) j)
       (image (entries d) exact.hessian (plan_entry c x l) j) (dot d.states (exact.linear j) (at x)) (exact.constant j) (coimage (rows d) exact.by_plan (at l) j)
       (pos_positive d.limit_denominator sound.limit_denominator) (pos_positive h.hessian_scale form.hessian_some) (pos_positive h.rows_scale form.rows_some)
       (omega (arith, ints)) (omega (arith, ints)) (omega (arith, ints)) (omega (arith, ints)) (omega (arith, ints))
       (ap pos (pow-add 2 c.fraction_bits c.step_exponent)) (form.row_factor ∙ ap (λ (z : ℤ). z *ℤ pos h.hessian_scale) form.matrix_factor)
-      (within_same refl middle_is (middle_within d h r c x l made shaped reached form.matrix_factor form.hessian_some j inside))
+      (within_same refl middle_is (middle j inside))
       (dot_apart (entries d) (pos h.hessian_scale) (pos (hessian_scale d)) (hessian_scale d) (u * 2 ^ c.fraction_bits) (exact.hessian j) (h.numbers.hessian j) (plan_entry c x l)
       (h.hessian_radius j) (λ i k. form.encloses.hessian j i inside k) small)
       (dot_apart d.states (pos h.hessian_scale) (pos (hessian_scale d)) (hessian_scale d) (state_bound d * 2 ^ c.fraction_bits) (exact.linear j) (h.numbers.linear j) (at x)
@@ -234,12 +249,12 @@ module _ (d : Design) (h : Form) (r : ℕ) (c : Numbers) (x l : List ℤ) (xi : 
       radii_le {m} {n} k = omega (arith, ints, k)
 
   pub slant_within : c.grid_bits ≤ c.fraction_bits → ((i : ℕ) → i < c.states → at x i ≡ xi i *ℤ pos (2 ^ (c.fraction_bits - c.grid_bits))) → (j : ℕ) → j < entries d →
-      IsWithin (pos (cost_scale d) *ℤ pos (residual_scale d) *ℤ (pos (2 ^ 40) *ℤ pos (2 ^ c.step_exponent) *ℤ pos (gradient_error d (counted d h) r j) +ℤ
+      IsWithin (pos (cost_scale d) *ℤ pos (residual_scale d) *ℤ (pos (2 ^ 40) *ℤ pos (2 ^ c.step_exponent) *ℤ pos (error j) +ℤ
       pos (2 ^ (c.fraction_bits + c.step_exponent)) *ℤ pos (radius_error (error_sums_of d (counted d h) r) u)))
       (pos (2 ^ 40) *ℤ slant d exact (pos (2 ^ (c.fraction_bits + c.step_exponent))) xi (λ j. pos (2 ^ c.step_exponent) *ℤ plan_entry c x l j) (at l) j)
   slant_within le scaled j inside =
       within_same (outward (pos (2 ^ d.grid) *ℤ pos (2 ^ d.grid) *ℤ pos (2 ^ d.grid)) (pos (hessian_scale d) *ℤ pos (rows_scale d))
-      (pos (2 ^ 40) *ℤ pos (2 ^ c.step_exponent) *ℤ pos (gradient_error d (counted d h) r j) +ℤ
+      (pos (2 ^ 40) *ℤ pos (2 ^ c.step_exponent) *ℤ pos (error j) +ℤ
       pos (2 ^ (c.fraction_bits + c.step_exponent)) *ℤ pos (radius_error (error_sums_of d (counted d h) r) u)) (scales d))
       (inward (pos (2 ^ d.grid) *ℤ pos (2 ^ d.grid) *ℤ pos (2 ^ d.grid)) (pos (2 ^ 40)) _ (slant_is d c x l xi (plan_entry c x l) j made.sizes le scaled))
       (within_factor (pos (2 ^ d.grid) *ℤ pos (2 ^ d.grid) *ℤ pos (2 ^ d.grid)) _ _ (omega (arith, ints)) (exact_within j inside))

@@ -20,7 +20,7 @@ use Rattle.step_error.specs.Laws.{slant}
 use Rattle.step_error.specs.MachineLaws.{multipliers_at, raised_at, plan_at, used_residual, machine_scale, lifted_plan, row_radius, HasErrors}
 use Rattle.step_error.proofs.Forms.{counted}
 use Rattle.step_error.proofs.Gradients.{AreReached, length_is}
-use Rattle.step_error.proofs.Slopes.{slant_within, within_same}
+use Rattle.step_error.proofs.Slopes.{IsMiddle, middle_within, slant_within, within_same}
 use Rattle.step_error.proofs.RowErrors as row_errors
 use Rattle.step_error.proofs.Plans.{plan_small}
 use Rattle.step_error.proofs.Magnitudes.{loaded_is, multipliers_box, reached}
@@ -49,13 +49,10 @@ module _ (d : Design) (h : Form) (r : ℕ) (c : Numbers) (xi : List ℤ) (sound 
   abbrev entry : ℕ → ℤ
   entry j = plan_entry c (loaded c xi) multipliers j
 
-  abbrev most : ℕ
-  most = plan_bound (error_sums_of d (counted d h) r) c.fraction_bits
-
-  reach : AreReached d r c (loaded c xi) multipliers
+  pub reach : AreReached d r c (loaded c xi) multipliers
   reach = reached d (counted d h) r c xi made sized long inside k
 
-  entry_is : (j : ℕ) → j < entries d → at (plan_at c xi k) j ≡ entry j
+  pub entry_is : (j : ℕ) → j < entries d → at (plan_at c xi k) j ≡ entry j
   entry_is j l = row_errors.plan_at c (loaded c xi) multipliers j
       (let e = length_is d h r c (loaded c xi) multipliers made sized.shaped reach in omega (arith, l, e, sized.shaped.offsets))
 
@@ -65,37 +62,47 @@ module _ (d : Design) (h : Form) (r : ℕ) (c : Numbers) (xi : List ℤ) (sound 
   grid_le : c.grid_bits ≤ c.fraction_bits
   grid_le = sized.fraction_bits.0
 
-  small : (j : ℕ) → j < entries d → unsigned_abs (entry j) ≤ most * 2 ^ c.fraction_bits
+  -- errors that bound the plan and the gradient that the systems have
+  module _ (most : ℕ) (error : ℕ → ℕ) (small : (j : ℕ) → j < entries d → unsigned_abs (entry j) ≤ most * 2 ^ c.fraction_bits)
+      (middle : IsMiddle d h c (loaded c xi) multipliers error) where
+    plan_within : (j : ℕ) → j < entries d → unsigned_abs (at (plan_at c xi k) j) ≤ 2 ^ c.fraction_bits * most
+    plan_within j l = rw (entry_is j l) (let b = small j l in omega (arith, b))
+
+    gradient_within : (j : ℕ) → j < entries d →
+        IsWithin (pos (cost_scale d) *ℤ pos (residual_scale d) *ℤ
+        pos (2 ^ 40 * 2 ^ c.step_exponent * error j + 2 ^ (c.fraction_bits + c.step_exponent) * radius_error (error_sums_of d (counted d h) r) most))
+        (pos (2 ^ 40) *ℤ slant d (condensed_of d) (machine_scale c) (at xi) (lifted_plan c xi k) (raised_at c xi k) j)
+    gradient_within j l =
+        within_same refl
+        (ap (λ (z : ℤ). pos (2 ^ 40) *ℤ z)
+        (slant_same d (condensed_of d) (machine_scale c) (at xi) (λ i. pos (2 ^ c.step_exponent) *ℤ entry i) (lifted_plan c xi k) (at multipliers) j lifted_is))
+        (slant_within d h r c (loaded c xi) multipliers (at xi) most sound form made sized.shaped reach small error middle grid_le
+        (loaded_is d (counted d h) r c xi made sized long inside) j l)
+
+    residual_within : (i : ℕ) → i < rows d →
+        IsWithin (pos (residual_scale d * (h.rows_scale * residual_error (error_sums_of d (counted d h) r) most + 2 * 2 ^ c.fraction_bits * row_radius d (counted d h) most i)))
+        (pos (2 * h.rows_scale) *ℤ (pos (residual_scale d) *ℤ used_residual c xi k i -ℤ residual d (pos (2 ^ c.fraction_bits)) (at xi) (at (plan_at c xi k)) i))
+    residual_within i l =
+        within_same refl
+        (ap (λ (z : ℤ). pos (2 * h.rows_scale) *ℤ (pos (residual_scale d) *ℤ used_residual c xi k i -ℤ z))
+        (residual_same d (condensed_of d) condensed (pos (2 ^ c.fraction_bits)) (at xi) entry (at (plan_at c xi k)) i l (λ j m. sym (entry_is j m))))
+        (row_errors.row_within d h r c (loaded c xi) multipliers (at xi) most form made sized.shaped reach.state_length condensed grid_le
+        (loaded_is d (counted d h) r c xi made sized long inside) reach.state small i l)
+
+    pub errors_within : HasErrors d (counted d h) r c xi k (record { plan = most; gradient = error })
+    errors_within = record {
+      multipliers = multipliers_box d (counted d h) r c xi made sized long inside k;
+      plan = plan_within;
+      gradient = gradient_within;
+      residuals = residual_within;
+    }
+
+  -- the stated ones
+  pub small : (j : ℕ) → j < entries d → unsigned_abs (entry j) ≤ plan_bound (error_sums_of d (counted d h) r) c.fraction_bits * 2 ^ c.fraction_bits
   small = plan_small d h r c (loaded c xi) multipliers form made sized.shaped reach sound condensed
 
-  plan_within : (j : ℕ) → j < entries d → unsigned_abs (at (plan_at c xi k) j) ≤ 2 ^ c.fraction_bits * most
-  plan_within j l = rw (entry_is j l) (let b = small j l in omega (arith, b))
-
-  gradient_within : (j : ℕ) → j < entries d →
-      IsWithin (pos (cost_scale d) *ℤ pos (residual_scale d) *ℤ
-      pos (2 ^ 40 * 2 ^ c.step_exponent * gradient_error d (counted d h) r j + 2 ^ (c.fraction_bits + c.step_exponent) * radius_error (error_sums_of d (counted d h) r) most))
-      (pos (2 ^ 40) *ℤ slant d (condensed_of d) (machine_scale c) (at xi) (lifted_plan c xi k) (raised_at c xi k) j)
-  gradient_within j l =
-      within_same refl
-      (ap (λ (z : ℤ). pos (2 ^ 40) *ℤ z)
-      (slant_same d (condensed_of d) (machine_scale c) (at xi) (λ i. pos (2 ^ c.step_exponent) *ℤ entry i) (lifted_plan c xi k) (at multipliers) j lifted_is))
-      (slant_within d h r c (loaded c xi) multipliers (at xi) most sound form made sized.shaped reach small grid_le
-      (loaded_is d (counted d h) r c xi made sized long inside) j l)
-
-  residual_within : (i : ℕ) → i < rows d →
-      IsWithin (pos (residual_scale d * (h.rows_scale * residual_error (error_sums_of d (counted d h) r) most + 2 * 2 ^ c.fraction_bits * row_radius d (counted d h) most i)))
-      (pos (2 * h.rows_scale) *ℤ (pos (residual_scale d) *ℤ used_residual c xi k i -ℤ residual d (pos (2 ^ c.fraction_bits)) (at xi) (at (plan_at c xi k)) i))
-  residual_within i l =
-      within_same refl
-      (ap (λ (z : ℤ). pos (2 * h.rows_scale) *ℤ (pos (residual_scale d) *ℤ used_residual c xi k i -ℤ z))
-      (residual_same d (condensed_of d) condensed (pos (2 ^ c.fraction_bits)) (at xi) entry (at (plan_at c xi k)) i l (λ j m. sym (entry_is j m))))
-      (row_errors.row_within d h r c (loaded c xi) multipliers (at xi) most form made sized.shaped reach.state_length condensed grid_le
-      (loaded_is d (counted d h) r c xi made sized long inside) reach.state small i l)
+  pub middle : IsMiddle d h c (loaded c xi) multipliers (gradient_error d (counted d h) r)
+  middle = middle_within d h r c (loaded c xi) multipliers made sized.shaped reach form.matrix_factor form.hessian_some
 
   pub errors : HasErrors d (counted d h) r c xi k (stated_errors d (counted d h) r c.fraction_bits)
-  errors = record {
-    multipliers = multipliers_box d (counted d h) r c xi made sized long inside k;
-    plan = plan_within;
-    gradient = gradient_within;
-    residuals = residual_within;
-  }
+  errors = errors_within (plan_bound (error_sums_of d (counted d h) r) c.fraction_bits) (gradient_error d (counted d h) r) small middle

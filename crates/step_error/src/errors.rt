@@ -73,8 +73,9 @@ fn rounding_cost(e: &ErrorSums, first: u128, plan: u128, f: u32) -> u128
     gradient.div_ceil(1 << (2 * f)) + rows.div_ceil(1 << (f + 1))
 }
 
-// What the errors of a step cost at most, over `2^40`.
-fn errors_cost(e: &ErrorSums, first: u128, plan: u128, f: u32) -> i128
+/// What the errors of a step cost at most, over `2^40`, where those of the gradient by rounding cost `first` over `4^f` and the plan's entries are within
+/// `plan`.
+pub fn errors_cost(e: &ErrorSums, first: u128, plan: u128, f: u32) -> i128
     requires sums { AreSums e.now }
     requires first { first ≤ unsigned_abs e.now.first }
     requires plan { plan ≤ plan_bound (sums_of e.now) 0 }

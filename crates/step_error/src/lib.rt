@@ -9,7 +9,8 @@ mod errors;
 mod radii;
 mod sums;
 
-pub use errors::{epsilon, plan_bound, residual_error};
+pub use errors::{epsilon, errors_cost, plan_bound, residual_error};
+pub use radii::farthest_row;
 pub use sums::{ErrorSums, error_sums};
 
 /// One inexact step bounds the Lagrangian of the design at its plan.

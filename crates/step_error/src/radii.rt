@@ -126,8 +126,8 @@ pub(crate) fn farthest_sum(mat: &Mat, radii: &Mat) -> u128
     matrix_sum(mat) + matrix_sum(radii)
 }
 
-// Those of row `i` of a matrix.
-pub(crate) fn farthest_row(mat: &Mat, radii: &Mat, i: usize) -> u128
+/// The numbers of row `i` of a matrix with radii, each at its farthest, added up.
+pub fn farthest_row(mat: &Mat, radii: &Mat, i: usize) -> u128
     requires pair { AreEnclosures mat.now radii.now }
     requires inside { i < length mat.now.rows }
     requires small { amount mat.now.cols (farthest_entry mat.now radii.now i) ≤ 2 ^ 126 }

@@ -1,6 +1,4 @@
-use Rattle.std.proofs.Common.{◌≡◌, ap, arith, ◌∙◌, pos}
-use Rattle.std.specs.Int.{w128}
-use Rattle.std.proofs.lemmas.Int.{to_z_pos}
+use Rattle.std.proofs.Common.{◌≡◌, length, take, ap, rules, arith, ◌∙◌}
 use Rattle.qp_model.specs.Controller.{numbers}
 use Rattle.qp_model.specs.AbsoluteSums.{greatest_of, greatest_sum}
 use Rattle.overflow_check.proofs.Greatest.{greatest-parts}
@@ -24,4 +22,6 @@ pub returns : goal.returns
 returns c =
     let whole : c.max-greatest.result ≡ greatest_sum (numbers c.args.c.now) = omega (arith, greatest-parts (numbers c.args.c.now), c.in_ok-rows.ensures.1, c.in_ok-sums.ensures.1, c.in_ok-plan.ensures.greatest, c.greatest_of.ensures, ap greatest_of c.requires.states) in
     let same : c.in_ok-limited.field-0 ≡ greatest_sum (numbers c.args.c.now) = c.in_ok-limited.ensures.1 ∙ whole in
-    (omega (arith, same, c.in_ok-limited.ensures.0), to_z_pos w128 c.in_ok-limited.field-0 (omega (arith, same, c.in_ok-limited.ensures)) ∙ ap pos same)
+    let long : c.len.result ≡ length c.args.c.now.t.items = search rules in
+    let plan = c.greatest_of-2.ensures ∙ ap (λ n. greatest_of (take n c.in_ok-plan.plan.magnitudes)) long ∙ ap greatest_of c.in_ok-plan.ensures.magnitudes in
+    (omega (arith, same, c.in_ok-limited.ensures.0), (λ i. record { sum = same i; plan = plan i }))

@@ -1,0 +1,8 @@
+use Rattle.std.proofs.Common.{◌≡◌, unsigned_abs}
+use Rattle.qp_model.specs.Columns.{solve_matrix}
+use Rattle.qp_model.specs.Quantities.{greatest}
+use Rattle.plant_condense.specs.Form.{held}
+use Rattle.real_error.proofs.gains.Gains.greatest_diagonal.Given as goal
+
+abbrev pub invariant-loop-j : goal.invariant-loop-j
+invariant-loop-j l = l.most ≡ greatest l.j (λ j. unsigned_abs (solve_matrix (held l.self.c.now) j j))
