@@ -1,5 +1,5 @@
--- Two controllers that are built for one design and policy agree in all but their gains, and the width that follows from these.
-use Rattle.std.proofs.Common.{◌≡◌, ℕ, ◌+◌, ◌*◌, ◌^◌, ◌<◌, ℤ, pos, ◌*ℤ◌, unsigned_abs, List, [], length, arith, ap, sym, subst, ◌∙◌}
+-- Two controllers that are built for one design and policy agree in all but their gains, and the width and the bounds that follow from these.
+use Rattle.std.proofs.Common.{◌≡◌, ℕ, ◌+◌, ◌*◌, ◌^◌, ◌<◌, ℤ, pos, ◌*ℤ◌, unsigned_abs, List, [], length, arith, refl, ap, sym, subst, ◌∙◌}
 use Rattle.std.proofs.lemmas.List.{same_lists, get_or_default}
 use Rattle.integer_algebra.specs.Sums.{at}
 use Rattle.integer_algebra.specs.Division.{round_of}
@@ -7,16 +7,22 @@ use Rattle.mat_int.specs.Matrix.{Matrix, row_of, entry_of}
 use Rattle.qp_model.specs.Design.{Design, entries, rows}
 use Rattle.qp_model.specs.Parts.{design_of}
 use Rattle.qp_model.specs.Class.{form_of}
-use Rattle.qp_model.specs.Condensing.{condensed_of}
 use Rattle.qp_model.specs.Choices.{multiplier_of, step_count, violation_bound, undercut_bound}
 use Rattle.qp_model.specs.Errors.{error_sums_of}
+use Rattle.qp_model.specs.RealErrors.{real_cost}
 use Rattle.qp_model.specs.Controller.{Numbers, HasShape, plan_length}
+use Rattle.qp_model.specs.AbsoluteSums.{greatest_sum}
+use Rattle.qp_model.specs.Policy.{Plans}
+use Rattle.qp_model.specs.declared.design_parts.DesignParts.{DesignParts}
+use Rattle.qp_model.specs.Printed.{Printed}
+use Rattle.overflow_check.specs.Width.{IsWidth}
 use Rattle.bit_choice.specs.Choice.{IsChoice}
 use Rattle.design_engine.proofs.Classes.{entries_are, states_are, rows_are}
-use Rattle.design_engine.proofs.Tables.{row_long}
+use Rattle.design_engine.proofs.Tables.{row_long, shape_as, plan_long}
 use Rattle.design_engine.specs.Targets.{Targets, targets_of, half_target, error_limit}
-use Rattle.design_engine.specs.Bounds.{margin_of, printed_multiplier, stated_cost}
-use Rattle.design_engine.specs.Agreement.{AgreementLaw}
+use Rattle.design_engine.specs.Bounds.{margin_of, printed_multiplier}
+use Rattle.design_engine.specs.Built.{IsBuilt}
+use Rattle.design_engine.specs.Agreement.{HaveSameGains, AreSame, AgreementLaw}
 use Rattle.design_engine.proofs.OneOfEach.{one_margin, one_exponent, one_choice}
 
 -- ---- lists and matrices of one shape with the same entries
@@ -34,20 +40,102 @@ same_matrix a b h w s t e =
     sym (get_or_default b.rows i d [] (omega (arith, l, s.rows, t.rows)))) in
     λ i. record { cols = cols i; rows = rows i }
 
--- a shape, by other names of its numbers
-shape_as : (m : Matrix) (h w height width : ℕ) → h ≡ height → w ≡ width → HasShape m h w → HasShape m height width
-shape_as m h w height width e f s = rw (e, f) at s
-
 -- ---- the choice of bits, by either name of R
 choice_same : (d : Design) (t : Targets) (r q f g : ℕ) → r ≡ q → IsChoice (error_sums_of d (form_of d) r) d.grid (error_limit t r) f →
     IsChoice (error_sums_of d (form_of d) q) d.grid (error_limit t q) g → f ≡ g
 choice_same d t r q f g e x y =
     one_choice (error_sums_of d (form_of d) q) d.grid (error_limit t q) f g (subst (λ (n : ℕ). IsChoice (error_sums_of d (form_of d) n) d.grid (error_limit t n) f) e x) y
 
+-- ---- the width, of the greatest sum
+one_width : (g w v : ℕ) → IsWidth g w → IsWidth g v → w ≡ v
+one_width g w v h k = omega (arith, h.least v k.two k.holds, k.least w h.two h.holds)
+
 -- ---- the law
-pub agreement : AgreementLaw
-agreement p plans c other b printed h k = record {
-  numbers = λ i. record {
+module _ (p : DesignParts) (plans : Plans) (c other : Numbers) (b printed : Printed) (h : IsBuilt p plans c b) (k : IsBuilt p plans other printed) where
+  abbrev d : Design
+  d = design_of p
+
+  abbrev t : Targets
+  t = targets_of p
+
+  margin : margin_of b ≡ margin_of printed
+  margin = one_margin p plans h.design h.policy (margin_of b) (margin_of printed) h.margin k.margin
+
+  r : printed_multiplier b ≡ printed_multiplier printed
+  r = ap multiplier_of margin
+
+  version : c.version ≡ other.version
+  version = h.controller.form.sized.version ∙ sym k.controller.form.sized.version
+
+  states : c.states ≡ other.states
+  states = h.made.sizes.states ∙ sym k.made.sizes.states
+
+  inputs : c.inputs ≡ other.inputs
+  inputs = h.made.sizes.inputs ∙ sym k.made.sizes.inputs
+
+  stages : c.stages ≡ other.stages
+  stages = h.made.sizes.stages ∙ sym k.made.sizes.stages
+
+  limits : c.rows ≡ other.rows
+  limits = h.made.sizes.rows ∙ sym k.made.sizes.rows
+
+  grid : c.grid_bits ≡ other.grid_bits
+  grid = h.made.sizes.grid ∙ sym k.made.sizes.grid
+
+  length_same : plan_length c ≡ plan_length other
+  length_same = λ i. inputs i * stages i
+
+  exponent : c.step_exponent ≡ other.step_exponent
+  exponent = one_exponent d c.step_exponent other.step_exponent h.exponent k.exponent
+
+  steps : c.steps ≡ other.steps
+  steps = h.steps ∙ (λ i. step_count (exponent i) (r i) (half_target t)) ∙ sym k.steps
+
+  bits : c.fraction_bits ≡ other.fraction_bits
+  bits = choice_same d t (printed_multiplier b) (printed_multiplier printed) c.fraction_bits other.fraction_bits r h.bits k.bits
+
+  clamp : c.clamp ≡ other.clamp
+  clamp = h.made.clamp ∙ (λ i. pos (2 * r i * 2 ^ (bits i + exponent i))) ∙ sym k.made.clamp
+
+  words : c.words ≡ other.words
+  words = h.controller.form.sized.words ∙ (λ i. states i + limits i + 2 * length_same i) ∙ sym k.controller.form.sized.words
+
+  rounded_same : (z : ℤ) → round_of (pos (2 ^ c.fraction_bits) *ℤ z) (form_of d).rows_scale ≡ round_of (pos (2 ^ other.fraction_bits) *ℤ z) (form_of d).rows_scale
+  rounded_same z = λ i. round_of (pos (2 ^ bits i) *ℤ z) (form_of d).rows_scale
+
+  low : c.low ≡ other.low
+  low = same_numbers c.low other.low d.states
+      (h.controller.form.sized.shaped.low ∙ h.made.sizes.states) (k.controller.form.sized.shaped.low ∙ k.made.sizes.states)
+      (λ j l. h.made.sizes.low j l ∙ sym (k.made.sizes.low j l))
+
+  high : c.high ≡ other.high
+  high = same_numbers c.high other.high d.states
+      (h.controller.form.sized.shaped.high ∙ h.made.sizes.states) (k.controller.form.sized.shaped.high ∙ k.made.sizes.states)
+      (λ j l. h.made.sizes.high j l ∙ sym (k.made.sizes.high j l))
+
+  bounds : c.bounds ≡ other.bounds
+  bounds = same_numbers c.bounds other.bounds (rows d)
+      (h.controller.form.sized.shaped.bounds ∙ h.made.sizes.rows) (k.controller.form.sized.shaped.bounds ∙ k.made.sizes.rows)
+      (λ j l. h.made.rows.bounds j (rw (rows_are d) l) ∙ rounded_same ((form_of d).numbers.bound j) ∙ sym (k.made.rows.bounds j (rw (rows_are d) l)))
+
+  plan_rows : c.plan_rows ≡ other.plan_rows
+  plan_rows = same_matrix c.plan_rows other.plan_rows (rows d) (entries d)
+      (shape_as _ _ _ _ _ h.made.sizes.rows (plan_long d c h.made.sizes.inputs h.made.sizes.stages) h.controller.form.sized.shaped.plan_rows)
+      (shape_as _ _ _ _ _ k.made.sizes.rows (plan_long d other k.made.sizes.inputs k.made.sizes.stages) k.controller.form.sized.shaped.plan_rows)
+      (λ i j l m. h.made.rows.plan_rows i j (rw (rows_are d) l) (rw (entries_are d) m) ∙ rounded_same ((form_of d).numbers.by_plan i j) ∙
+      sym (k.made.rows.plan_rows i j (rw (rows_are d) l) (rw (entries_are d) m)))
+
+  state_rows : c.state_rows ≡ other.state_rows
+  state_rows = same_matrix c.state_rows other.state_rows (rows d) d.states
+      (shape_as _ _ _ _ _ h.made.sizes.rows h.made.sizes.states h.controller.form.sized.shaped.state_rows)
+      (shape_as _ _ _ _ _ k.made.sizes.rows k.made.sizes.states k.controller.form.sized.shaped.state_rows)
+      (λ i j l m. h.made.rows.state_rows i j (rw (rows_are d) l) (rw (states_are d) m) ∙ rounded_same ((form_of d).numbers.by_state i j) ∙
+      sym (k.made.rows.state_rows i j (rw (rows_are d) l) (rw (states_are d) m)))
+
+  -- with these gains and widths
+  numbers_with : (x y u v : Matrix) (s z : List ℤ) (w n : ℕ) → x ≡ y → s ≡ z → u ≡ v → w ≡ n →
+      record c { state_gains = x; offsets = s; dual_gains = u; width = w } ≡ record other { state_gains = y; offsets = z; dual_gains = v; width = n }
+  numbers_with x y u v s z w n state constant dual wide i = record {
     version = version i;
     states = states i;
     inputs = inputs i;
@@ -56,128 +144,75 @@ agreement p plans c other b printed h k = record {
     fraction_bits = bits i;
     grid_bits = grid i;
     step_exponent = exponent i;
-    width = other.width;
+    width = wide i;
     steps = steps i;
     clamp = clamp i;
     words = words i;
     low = low i;
     high = high i;
-    state_gains = other.state_gains;
-    offsets = other.offsets;
-    dual_gains = other.dual_gains;
+    state_gains = state i;
+    offsets = constant i;
+    dual_gains = dual i;
     plan_rows = plan_rows i;
     state_rows = state_rows i;
     bounds = bounds i;
-  };
-  bounds = λ i. record {
+  }
+
+  -- with these widths, violations, gaps and undercuts
+  bounds_with : (w n : ℕ) (v x g y u z : ℤ) → w ≡ n → v ≡ x → g ≡ y → u ≡ z →
+      record b { width = w; violation = v; row_violation = printed.row_violation; gap = g; undercut = u } ≡
+      record printed { width = n; violation = x; gap = y; undercut = z }
+  bounds_with w n v x g y u z wide most gap under i = record {
     margin = (margin i).units;
     cost = (margin i).cost;
     multiplier = (h.bounds.multiplier ∙ ap pos r ∙ sym k.bounds.multiplier) i;
     step = (h.bounds.step ∙ exponent ∙ sym k.bounds.step) i;
     steps = (h.bounds.steps ∙ steps ∙ sym k.bounds.steps) i;
     bits = (h.bounds.bits ∙ bits ∙ sym k.bounds.bits) i;
-    width = printed.width;
+    width = wide i;
     words = (h.bounds.words ∙ words ∙ sym k.bounds.words) i;
-    violation = violation i;
+    violation = most i;
     row_violation = printed.row_violation;
-    gap = (h.bounds.gap ∙ ap pos errors ∙ sym k.bounds.gap) i;
-    undercut = (h.bounds.undercut ∙ (λ j. pos (undercut_bound (r j) (unsigned_abs (violation j)))) ∙ sym k.bounds.undercut) i;
-  };
-  row_violations = λ i l. h.bounds.row_violation i l ∙ violations ∙ sym (k.bounds.row_violation i (omega (arith, l, limits)));
+    gap = gap i;
+    undercut = under i;
+  }
+
+  -- with the same gains
+  all_same : HaveSameGains c other → AreSame c other b printed
+  all_same g = record {
+    numbers = whole;
+    bounds = bounds_with b.width printed.width b.violation printed.violation b.gap printed.gap b.undercut printed.undercut
+        (h.bounds.width ∙ width ∙ sym k.bounds.width) violation (h.bounds.gap ∙ ap pos errors ∙ sym k.bounds.gap)
+        (h.bounds.undercut ∙ (λ j. pos (undercut_bound (r j) (unsigned_abs (violation j)))) ∙ sym k.bounds.undercut);
+    row_violations = λ i l. h.bounds.row_violation i l ∙ violations ∙ sym (k.bounds.row_violation i (omega (arith, l, limits)));
+  }
+    where
+      numbers_by : (w n : ℕ) → w ≡ n → record c { width = w } ≡ record other { width = n }
+      numbers_by w n = numbers_with c.state_gains other.state_gains c.dual_gains other.dual_gains c.offsets other.offsets w n g.state_gains g.offsets g.dual_gains
+
+      sums : greatest_sum c ≡ greatest_sum other
+      sums = ap greatest_sum (numbers_by c.width c.width refl)
+
+      width : c.width ≡ other.width
+      width = one_width (greatest_sum other) c.width other.width (rw sums at h.width) k.width
+
+      whole : c ≡ other
+      whole = numbers_by c.width other.width width
+
+      errors : real_cost d (form_of d) (printed_multiplier b) c ≡ real_cost d (form_of d) (printed_multiplier printed) other
+      errors = λ i. real_cost d (form_of d) (r i) (whole i)
+
+      violations : pos (violation_bound c.step_exponent (printed_multiplier b) c.steps (real_cost d (form_of d) (printed_multiplier b) c)) ≡
+          pos (violation_bound other.step_exponent (printed_multiplier printed) other.steps (real_cost d (form_of d) (printed_multiplier printed) other))
+      violations = λ i. pos (violation_bound (exponent i) (r i) (steps i) (errors i))
+
+      violation : b.violation ≡ printed.violation
+      violation = h.bounds.violation ∙ violations ∙ sym k.bounds.violation
+
+pub agreement : AgreementLaw
+agreement p plans c other b printed h k = record {
+  numbers = numbers_with p plans c other b printed h k _ _ _ _ _ _ other.width other.width refl refl refl refl;
+  bounds = bounds_with p plans c other b printed h k printed.width printed.width printed.violation printed.violation printed.gap printed.gap printed.undercut printed.undercut
+      refl refl refl refl;
+  followed = all_same p plans c other b printed h k;
 }
-  where
-    d : Design
-    d = design_of p
-
-    t : Targets
-    t = targets_of p
-
-    margin : margin_of b ≡ margin_of printed
-    margin = one_margin p plans h.design h.policy (margin_of b) (margin_of printed) h.margin k.margin
-
-    r : printed_multiplier b ≡ printed_multiplier printed
-    r = ap multiplier_of margin
-
-    version : c.version ≡ other.version
-    version = h.controller.form.sized.version ∙ sym k.controller.form.sized.version
-
-    states : c.states ≡ other.states
-    states = h.made.sizes.states ∙ sym k.made.sizes.states
-
-    inputs : c.inputs ≡ other.inputs
-    inputs = h.made.sizes.inputs ∙ sym k.made.sizes.inputs
-
-    stages : c.stages ≡ other.stages
-    stages = h.made.sizes.stages ∙ sym k.made.sizes.stages
-
-    limits : c.rows ≡ other.rows
-    limits = h.made.sizes.rows ∙ sym k.made.sizes.rows
-
-    grid : c.grid_bits ≡ other.grid_bits
-    grid = h.made.sizes.grid ∙ sym k.made.sizes.grid
-
-    length_same : plan_length c ≡ plan_length other
-    length_same = λ i. inputs i * stages i
-
-    exponent : c.step_exponent ≡ other.step_exponent
-    exponent = one_exponent d c.step_exponent other.step_exponent h.exponent k.exponent
-
-    steps : c.steps ≡ other.steps
-    steps = h.steps ∙ (λ i. step_count (exponent i) (r i) (half_target t)) ∙ sym k.steps
-
-    bits : c.fraction_bits ≡ other.fraction_bits
-    bits = choice_same d t (printed_multiplier b) (printed_multiplier printed) c.fraction_bits other.fraction_bits r h.bits k.bits
-
-    errors : stated_cost d (printed_multiplier b) c.fraction_bits ≡ stated_cost d (printed_multiplier printed) other.fraction_bits
-    errors = λ i. stated_cost d (r i) (bits i)
-
-    violations : pos (violation_bound c.step_exponent (printed_multiplier b) c.steps (stated_cost d (printed_multiplier b) c.fraction_bits)) ≡
-        pos (violation_bound other.step_exponent (printed_multiplier printed) other.steps (stated_cost d (printed_multiplier printed) other.fraction_bits))
-    violations = λ i. pos (violation_bound (exponent i) (r i) (steps i) (errors i))
-
-    violation : b.violation ≡ printed.violation
-    violation = h.bounds.violation ∙ violations ∙ sym k.bounds.violation
-
-    clamp : c.clamp ≡ other.clamp
-    clamp = h.made.clamp ∙ (λ i. pos (2 * r i * 2 ^ (bits i + exponent i))) ∙ sym k.made.clamp
-
-    words : c.words ≡ other.words
-    words = h.controller.form.sized.words ∙ (λ i. states i + limits i + 2 * length_same i) ∙ sym k.controller.form.sized.words
-
-    rounded_same : (z : ℤ) → round_of (pos (2 ^ c.fraction_bits) *ℤ z) (form_of d).rows_scale ≡ round_of (pos (2 ^ other.fraction_bits) *ℤ z) (form_of d).rows_scale
-    rounded_same z = λ i. round_of (pos (2 ^ bits i) *ℤ z) (form_of d).rows_scale
-
-    low : c.low ≡ other.low
-    low = same_numbers c.low other.low d.states
-        (h.controller.form.sized.shaped.low ∙ h.made.sizes.states) (k.controller.form.sized.shaped.low ∙ k.made.sizes.states)
-        (λ j l. h.made.sizes.low j l ∙ sym (k.made.sizes.low j l))
-
-    high : c.high ≡ other.high
-    high = same_numbers c.high other.high d.states
-        (h.controller.form.sized.shaped.high ∙ h.made.sizes.states) (k.controller.form.sized.shaped.high ∙ k.made.sizes.states)
-        (λ j l. h.made.sizes.high j l ∙ sym (k.made.sizes.high j l))
-
-    bounds : c.bounds ≡ other.bounds
-    bounds = same_numbers c.bounds other.bounds (rows d)
-        (h.controller.form.sized.shaped.bounds ∙ h.made.sizes.rows) (k.controller.form.sized.shaped.bounds ∙ k.made.sizes.rows)
-        (λ j l. h.made.rows.bounds j (rw (rows_are d) l) ∙ rounded_same ((form_of d).numbers.bound j) ∙ sym (k.made.rows.bounds j (rw (rows_are d) l)))
-
-    long : (e : Numbers) → e.inputs ≡ d.inputs → e.stages ≡ d.stages → plan_length e ≡ entries d
-    long e f g = (λ i. f i * g i) ∙ turned d.inputs d.stages
-      where
-        turned : (m n : ℕ) → m * n ≡ n * m
-        turned m n = omega arith
-
-    plan_rows : c.plan_rows ≡ other.plan_rows
-    plan_rows = same_matrix c.plan_rows other.plan_rows (rows d) (entries d)
-        (shape_as _ _ _ _ _ h.made.sizes.rows (long c h.made.sizes.inputs h.made.sizes.stages) h.controller.form.sized.shaped.plan_rows)
-        (shape_as _ _ _ _ _ k.made.sizes.rows (long other k.made.sizes.inputs k.made.sizes.stages) k.controller.form.sized.shaped.plan_rows)
-        (λ i j l m. h.made.rows.plan_rows i j (rw (rows_are d) l) (rw (entries_are d) m) ∙ rounded_same ((form_of d).numbers.by_plan i j) ∙
-        sym (k.made.rows.plan_rows i j (rw (rows_are d) l) (rw (entries_are d) m)))
-
-    state_rows : c.state_rows ≡ other.state_rows
-    state_rows = same_matrix c.state_rows other.state_rows (rows d) d.states
-        (shape_as _ _ _ _ _ h.made.sizes.rows h.made.sizes.states h.controller.form.sized.shaped.state_rows)
-        (shape_as _ _ _ _ _ k.made.sizes.rows k.made.sizes.states k.controller.form.sized.shaped.state_rows)
-        (λ i j l m. h.made.rows.state_rows i j (rw (rows_are d) l) (rw (states_are d) m) ∙ rounded_same ((form_of d).numbers.by_state i j) ∙
-        sym (k.made.rows.state_rows i j (rw (rows_are d) l) (rw (states_are d) m)))

@@ -6,16 +6,17 @@ use Rattle.qp_model.specs.Parts.{IsDesign, design_of}
 use Rattle.qp_model.specs.Policy.{Plans, IsPolicyFor}
 use Rattle.qp_model.specs.Controller.{Numbers}
 use Rattle.qp_model.specs.Class.{form_of}
-use Rattle.qp_model.specs.Errors.{stated_errors}
+use Rattle.qp_model.specs.RealErrors.{real_errors, real_cost}
 use Rattle.qp_model.specs.Certified.{IsCertified}
 use Rattle.class_choice.proofs.FormLaws.{form_law}
 use Rattle.qp_model.specs.declared.design_parts.DesignParts.{DesignParts}
 use Rattle.qp_model.specs.Printed.{Printed}
 use Rattle.qp_model.specs.declared.bounds.Margin.{Margin}
-use Rattle.step_error.proofs.MachineErrors.{carried}
+use Rattle.real_error.proofs.RealCosts as costs
+use Rattle.real_error.proofs.RealSteps.{carried}
 use Rattle.step_error.proofs.MachineRuns.{machine_run}
 use Rattle.design_engine.specs.Targets.{Targets, targets_of, IsWithinTargets}
-use Rattle.design_engine.specs.Bounds.{printed_multiplier, stated_cost}
+use Rattle.design_engine.specs.Bounds.{printed_multiplier}
 use Rattle.design_engine.specs.Built.{IsBuilt}
 use Rattle.design_engine.specs.Refusals.{PassesAll, HasCause, IsRefused}
 use Rattle.design_engine.specs.declared.refusal.Refusal.{Refusal}
@@ -56,7 +57,7 @@ module _ (p : DesignParts) (t : Targets) (plans : Plans) (design : IsDesign p) (
 
 -- ---- what is built
 pub built_certified : (p : DesignParts) (plans : Plans) (c : Numbers) (b : Printed) → IsBuilt p plans c b → IsCertified (design_of p) c b
-built_certified p plans c b h = certified_from machine_run p plans (form_of (design_of p)) (stated_errors (design_of p) (form_of (design_of p)) (printed_multiplier b) c.fraction_bits) c b (record {
+built_certified p plans c b h = certified_from machine_run p plans (form_of (design_of p)) (real_errors (design_of p) (form_of (design_of p)) (printed_multiplier b) c) c b (record {
   design = h.design;
   policy = h.policy;
   margin = h.margin;
@@ -77,4 +78,9 @@ built_certified p plans c b h = certified_from machine_run p plans (form_of (des
 })
 
 pub built_within : (p : DesignParts) (plans : Plans) (c : Numbers) (b : Printed) → IsBuilt p plans c b → IsWithinTargets (targets_of p) b
-built_within p plans c b h = targets_law p (stated_cost (design_of p) (printed_multiplier b) c.fraction_bits) c b (record { design = h.design; steps = h.steps; errors = h.bits.within; bounds = h.bounds })
+built_within p plans c b h = targets_law p (real_cost (design_of p) (form_of (design_of p)) (printed_multiplier b) c) c b (record {
+  design = h.design;
+  steps = h.steps;
+  errors = omega (arith, costs.cost p (form_of (design_of p)) (printed_multiplier b) c h.design (form_law p h.design h.narrow) h.made, h.bits.within);
+  bounds = h.bounds;
+})

@@ -1,24 +1,37 @@
 -- What passes every test is built.
-use Rattle.std.proofs.Common.{◌≡◌, ℕ, ◌+◌, ◌*◌, ◌^◌, ◌≤◌, ℤ, pos, ◌≤ℤ◌, unsigned_abs, refl, ap, sym, subst, arith, ◌∙◌}
-use Rattle.std.proofs.lemmas.Int.{ints}
+use Rattle.std.proofs.Common.{◌≡◌, ℕ, refl, ap, sym, subst, ◌∙◌}
 use Rattle.qp_model.specs.Parts.{IsDesign, design_of}
 use Rattle.qp_model.specs.Policy.{Plans, IsPolicyFor}
 use Rattle.qp_model.specs.Curvature.{IsExponent}
 use Rattle.qp_model.specs.Choices.{step_count, multiplier_of}
+use Rattle.qp_model.specs.Class.{form_of}
+use Rattle.qp_model.specs.Design.{Design}
+use Rattle.qp_model.specs.Built.{IsDerivedFrom}
+use Rattle.qp_model.specs.RealErrors.{real_cost}
 use Rattle.qp_model.specs.Controller.{Numbers}
 use Rattle.qp_model.specs.AbsoluteSums.{IsController}
 use Rattle.qp_model.specs.declared.design_parts.DesignParts.{DesignParts}
 use Rattle.qp_model.specs.Printed.{Printed}
 use Rattle.qp_model.specs.declared.bounds.Margin.{Margin}
-use Rattle.design_engine.specs.Targets.{targets_of, half_target, error_limit}
-use Rattle.design_engine.specs.Bounds.{margin_of, stated_cost, AreBoundsOf}
+use Rattle.design_engine.specs.Targets.{targets_of, half_target}
+use Rattle.design_engine.specs.Bounds.{margin_of, AreBoundsOf}
 use Rattle.design_engine.specs.Assembled.{IsAssembled}
 use Rattle.design_engine.specs.Built.{IsBuilt}
 use Rattle.design_engine.specs.Refusals.{PassesMargin, PassesBits}
 
+-- what is assembled with a curvature exponent is made for the design
+pub derived_from : (d : Design) (c : Numbers) (r q s k f : ℕ) → IsExponent d s → r ≡ q → IsAssembled d r s k f c → IsDerivedFrom d (form_of d) q c
+derived_from d c r q s k f curved is a = record {
+  sizes = a.sizes;
+  rows = a.rows;
+  gains = a.gains;
+  exponents = rw a.step_exponent curved;
+  clamp = a.clamp ∙ rw (is, a.fraction_bits, a.step_exponent) refl;
+}
+
 pub built_from : (p : DesignParts) (plans : Plans) (c : Numbers) (b : Printed) (m : Margin) (r s k f : ℕ) → IsDesign p → IsPolicyFor (design_of p) plans →
     PassesBits (design_of p) (targets_of p) plans m s f → IsExponent (design_of p) s → r ≡ multiplier_of m → k ≡ step_count s (multiplier_of m) (half_target (targets_of p)) →
-    margin_of b ≡ m → IsController c → IsAssembled (design_of p) r s k f c → AreBoundsOf c b (stated_cost (design_of p) (multiplier_of m) c.fraction_bits) → IsBuilt p plans c b
+    margin_of b ≡ m → IsController c → IsAssembled (design_of p) r s k f c → AreBoundsOf c b (real_cost (design_of p) (form_of (design_of p)) (multiplier_of m) c) → IsBuilt p plans c b
 built_from p plans c b m r s k f design policy passes curved is count same sound a bounds = record {
   design = design;
   policy = policy;
@@ -26,18 +39,12 @@ built_from p plans c b m r s k f design policy passes curved is count same sound
   slack = rw units margin.slack;
   narrow = passes.before.before.hessian;
   controller = sound;
-  made = record {
-    sizes = a.sizes;
-    rows = a.rows;
-    gains = a.gains;
-    exponents = rw a.step_exponent curved;
-    clamp = a.clamp ∙ rw (is, a.fraction_bits, a.step_exponent, units, cost) refl;
-  };
+  made = rw (units, cost) (derived_from (design_of p) c r (multiplier_of m) s k f curved is a);
   exponent = rw a.step_exponent passes.before.exponent;
   steps = a.steps ∙ count ∙ rw (a.step_exponent, units, cost) refl;
   bits = rw (a.fraction_bits, units, cost) passes.choice;
   width = a.width;
-  bounds = subst (λ (r : ℕ). AreBoundsOf c b (stated_cost (design_of p) r c.fraction_bits)) (ap (λ (x : Margin). multiplier_of x) (sym same)) bounds;
+  bounds = subst (λ (r : ℕ). AreBoundsOf c b (real_cost (design_of p) (form_of (design_of p)) r c)) (ap (λ (x : Margin). multiplier_of x) (sym same)) bounds;
 }
   where
     margin : PassesMargin (design_of p) (targets_of p) plans m

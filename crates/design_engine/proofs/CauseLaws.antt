@@ -1,5 +1,5 @@
 -- Each cause is that of one test in a list of tests, and so there is one at most.
-use Rattle.std.proofs.Common.{◌≡◌, inl, inr, ◌⊎◌, ℕ, ◌^◌, ◌<◌, ◌≤◌, ℤ, pos, ◌*ℤ◌, ◌≤ℤ◌, ◌<ℤ◌, unsigned_abs, arith, refl, sym, ◌∙◌, subst}
+use Rattle.std.proofs.Common.{◌≡◌, inl, inr, ℕ, ◌^◌, ◌<◌, ◌≤◌, ℤ, pos, ◌*ℤ◌, ◌≤ℤ◌, ◌<ℤ◌, unsigned_abs, arith, refl, sym, ◌∙◌}
 use Rattle.std.proofs.lemmas.Int.{ints}
 use Rattle.integer_algebra.proofs.OrderLaws.{le_of_lt_z, mul-le-mul_right_z}
 use Rattle.frac_scaled.specs.declared.fraction.Frac.{Frac}
@@ -7,10 +7,8 @@ use Rattle.qp_model.specs.Class.{form_of, prediction_quantity, hessian_quantity,
 use Rattle.qp_model.specs.Design.{Design}
 use Rattle.qp_model.specs.Parts.{IsDesign, design_of}
 use Rattle.qp_model.specs.Policy.{Plans, IsPolicyFor}
-use Rattle.qp_model.specs.Margin.{IsMargin, corner_slack, slack_scale}
+use Rattle.qp_model.specs.CornerClass.{shown, IsMargin, corner_prediction_quantity, corner_slack_quantity, corner_cost_quantity}
 use Rattle.qp_model.specs.Choices.{multiplier_size, step_count, multiplier_of}
-use Rattle.qp_model.specs.Quantities.{prediction_size}
-use Rattle.qp_model.specs.CornerSizes.{corner_slack_size, corner_cost_size}
 use Rattle.qp_model.specs.Columns.{descent_size}
 use Rattle.qp_model.specs.Errors.{error_size, error_sums_of}
 use Rattle.qp_model.specs.declared.design_parts.DesignParts.{DesignParts}
@@ -76,7 +74,8 @@ module _ (d : Design) (t : Targets) where
   AfterRoom plans = Finds Margin (IsShort plans) (IsWideMargin plans) AfterMargin
 
   abbrev Whole : Plans → Refusal → Type 0
-  Whole plans = Sized Prediction (prediction_size d) (Sized CornerSlack (corner_slack_size d plans) (Sized CornerCost (corner_cost_size d plans) (AfterRoom plans)))
+  Whole plans = Sized Prediction (corner_prediction_quantity d plans) (Sized CornerSlack (corner_slack_quantity d plans)
+      (Sized CornerCost (corner_cost_quantity d plans) (AfterRoom plans)))
 
 -- ---- a cause is that of one of the tests
 module _ (d : Design) (t : Targets) (plans : Plans) where
@@ -154,7 +153,7 @@ module _ (p : DesignParts) (t : Targets) (plans : Plans) (design : IsDesign p) (
   short_clash : (e : Refusal) (m : Margin) → IsShort d t plans e → IsWideMargin d t plans m → ⊥
   short_clash e m a h =
       let s = a.4 in
-      clash (mul-le-mul_right_z (slack_scale d plans a.0) {a = pos 1} {b = m.units} (le_of_lt_z (slack_positive p plans design policy a.0 s.corner_first s.corner_last)) h.1)
+      clash (mul-le-mul_right_z ((shown d plans).slack_scale a.0) {a = pos 1} {b = m.units} (le_of_lt_z (slack_positive p plans design policy a.0 s.corner_first s.corner_last)) h.1)
       (h.0.slacks a.0 _ s.corner_first s.corner_last (omega (arith, s.row_first, s.row_last))) s.short
     where
       clash : {w u x : ℤ} → (pos 1 *ℤ w) ≤ℤ u → u ≤ℤ x → x <ℤ w → ⊥

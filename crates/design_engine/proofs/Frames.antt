@@ -12,8 +12,7 @@ use Rattle.qp_model.specs.declared.design_parts.DesignParts.{DesignParts}
 use Rattle.qp_model.specs.Design.{Design, entries, rows}
 use Rattle.qp_model.specs.Parts.{IsDesign, design_of}
 use Rattle.qp_model.specs.Range.{LiesIn}
-use Rattle.qp_model.specs.Columns.{columns, column_bound, solve_matrix, solve_column}
-use Rattle.qp_model.specs.Condensing.{condensed_of}
+use Rattle.qp_model.specs.Columns.{column_bound, solve_matrix, solve_column}
 use Rattle.qp_model.specs.Built.{gain_column}
 use Rattle.qp_model.specs.GoodSolution.{IsGood}
 use Rattle.qp_model.specs.Controller.{Numbers, IsSized, IsShaped, HasShape}
@@ -21,6 +20,7 @@ use Rattle.qp_model.specs.AbsoluteSums.{greatest_sum, IsController}
 use Rattle.qp_model.proofs.SizeFacts.{some_row}
 use Rattle.overflow_check.specs.Width.{IsWidth}
 use Rattle.overflow_check.proofs.SumLaws.{sums_fit}
+use Rattle.approx_inverse.specs.DescentSize.{EachWithin}
 use Rattle.approx_inverse.specs.Inverse.{HasGainSizes, IsInverseOf, solution_of}
 use Rattle.approx_inverse.specs.declared.inverse.Inverse.{Inverse}
 use Rattle.approx_inverse.proofs.FormLaws.{good_same}
@@ -225,6 +225,11 @@ good_at d f b i v c e good same = rw e
     (good_same (form_of d).entries (solve_matrix (form_of d)) (solve_matrix (form_of d)) f (solve_column (form_of d) i) (solve_column (form_of d) i) (solution_of v i) (gain_column c i)
     (λ i j l m. refl) (λ j l. refl) (λ j l. same j) good)
 
+within_at : (d : Design) (f b i : ℕ) (v : Inverse) (c : Numbers) → b ≡ f → EachWithin (form_of d).entries (column_bound (form_of d) f i) (solution_of v i) →
+    ((j : ℕ) → solution_of v i j ≡ gain_column c i j) → EachWithin (form_of d).entries (column_bound (form_of d) b i) (gain_column c i)
+within_at d f b i v c e small same j l =
+    subst (λ (z : ℤ). unsigned_abs z ≤ column_bound (form_of d) b i) (same j) (subst (λ (k : ℕ). unsigned_abs (solution_of v i j) ≤ column_bound (form_of d) k i) (sym e) (small j l))
+
 pub assembled : (d : Design) (r s k f : ℕ) (c : Numbers) (v : Inverse) (w : ℕ) → IsFrame d r s k f c → AreGains v c → IsInverseOf (form_of d) f v → IsWidth (greatest_sum c) w →
     IsAssembled d r s k f (record c { width = w })
 assembled d r s k f c v w fr g is wide = record {
@@ -242,14 +247,17 @@ assembled d r s k f c v w fr g is wide = record {
     state_rows = λ i j l m. rw fr.fraction_bits (fr.state_rows.entries i j (rw (rows_are d) at l) (rw (states_are d) at m));
     bounds = λ i l. rw fr.fraction_bits (fr.bounds.is i (rw (rows_are d) at l));
   };
-  gains = λ i l. good_at d f c.fraction_bits i v (record c { width = w }) fr.fraction_bits (is.good i l)
-      (λ j. gains_same c v (fr.states ∙ sym (is.sizes.p_mat.cols ∙ states_are d)) g i j);
+  gains = λ i l. good_at d f c.fraction_bits i v (record c { width = w }) fr.fraction_bits (is.good i l) (gains_same c v states g i);
+  within = λ i l. within_at d f c.fraction_bits i v (record c { width = w }) fr.fraction_bits (is.within i l) (gains_same c v states g i);
   clamp = fr.clamp;
   step_exponent = fr.step_exponent;
   steps = fr.steps;
   fraction_bits = fr.fraction_bits;
   width = wide;
 }
+  where
+    states : c.states ≡ v.p_mat.cols
+    states = fr.states ∙ sym (is.sizes.p_mat.cols ∙ states_are d)
 
 -- where the greatest multiplier alone is above the limit, so is the quantity
 pub wide_clamp : (p : DesignParts) (r s k f : ℕ) → IsDesign p → 2 ^ 126 < 2 * r * 2 ^ (f + s) → 2 ^ 126 < width_size (design_of p) r s k f

@@ -1,18 +1,18 @@
 -- What the tests' numbers are within.
-use Rattle.std.proofs.Common.{◌≡◌, inl, inr, ◌⊎◌, ℕ, zero, suc, ◌+◌, ◌*◌, ◌/◌, ◌^◌, ◌<◌, ◌≤◌, min, max, ℤ, pos, negsuc, ◌*ℤ◌, ◌≤ℤ◌, ◌<ℤ◌, unsigned_abs, arith, refl, sym, ap, ◌∙◌, FitsSigned, to_z, of_z}
+use Rattle.std.proofs.Common.{◌≡◌, ℕ, zero, suc, ◌+◌, ◌*◌, ◌/◌, ◌^◌, ◌≤◌, min, max, ℤ, pos, negsuc, ◌*ℤ◌, ◌≤ℤ◌, unsigned_abs, arith, ap, ◌∙◌, to_z, of_z}
 use Rattle.std.proofs.lemmas.Int.{ints, to_z-of_z}
 use Rattle.std.proofs.lemmas.Nat.{pow_pos, mul-le}
-use Rattle.std.proofs.Math.Nat.{mul-le-mul_left, mul-le-mul_right, div-le_self}
+use Rattle.std.proofs.Math.Nat.{div-le_self}
 use Rattle.std.specs.Int.{w128, int_min}
 use mir.Val.{SFits}
 use Rattle.integer_algebra.specs.Division.{ceil_div}
-use Rattle.integer_algebra.proofs.DivisionLaws.{ceil_div-le, le-mul-ceil_div}
-use Rattle.qp_model.specs.Parts.{IsDesign, design_of}
+use Rattle.integer_algebra.proofs.DivisionLaws.{le-mul-ceil_div}
+use Rattle.qp_model.specs.Parts.{IsDesign}
 use Rattle.qp_model.specs.Range.{IsDenominator, IsPositive}
-use Rattle.qp_model.specs.Choices.{multiplier_bound, multiplier_size, step_count, violation_bound, undercut_bound, multiplier_of}
+use Rattle.qp_model.specs.Choices.{multiplier_size, step_count, violation_bound, undercut_bound, multiplier_of}
 use Rattle.qp_model.specs.declared.design_parts.DesignParts.{DesignParts}
 use Rattle.qp_model.specs.declared.bounds.Margin.{Margin}
-use Rattle.design_engine.specs.Targets.{Targets, targets_of, half_target, gap_target, error_limit}
+use Rattle.design_engine.specs.Targets.{targets_of, half_target, gap_target, error_limit}
 use Rattle.design_engine.proofs.TargetLaws.{quotient_some, some_of, size_of, halves}
 
 -- ---- the targets

@@ -23,4 +23,5 @@ pub mod GenerationFacts
 pub mod RefusalFacts
 pub mod PrintedFacts
 pub mod BuiltFacts
+pub mod ResidualFacts
 pub mod AnswerLaws

@@ -1,45 +1,40 @@
 -- What the tests look for is there once: the margin, the first short corner and row, the step exponent, the number of fraction bits.
-use Rattle.std.proofs.Common.{◌≡◌, inl, inr, ℕ, zero, suc, ◌+◌, ◌-◌, ◌*◌, ◌^◌, ◌<◌, ◌≤◌, min, ℤ, pos, ◌+ℤ◌, ◌-ℤ◌, ◌*ℤ◌, ◌≤ℤ◌, ◌<ℤ◌, length, arith, refl, sym, subst, ◌∙◌}
+use Rattle.std.proofs.Common.{◌≡◌, inl, inr, ℕ, ◌-◌, ◌^◌, ◌<◌, ◌≤◌, ℤ, pos, ◌+ℤ◌, ◌-ℤ◌, ◌*ℤ◌, ◌≤ℤ◌, ◌<ℤ◌, arith, refl, sym, subst, ◌∙◌}
 use Rattle.std.proofs.lemmas.Int.{ints, by_lt_z}
 use Rattle.std.proofs.Props.{props}
 use Rattle.std.proofs.lemmas.Bool.{cases_lt}
-use Rattle.std.proofs.lemmas.List.Elements.{All-get_or}
-use Rattle.integer_algebra.specs.Sums.{at, square}
-use Rattle.integer_algebra.proofs.OrderLaws.{mul_pos_z, mul-le-mul_right_z}
+use Rattle.integer_algebra.proofs.OrderLaws.{mul-le-mul_right_z}
 use Rattle.frac_scaled.specs.declared.fraction.Frac.{Frac}
-use Rattle.qp_model.specs.Design.{Design, rows}
+use Rattle.qp_model.specs.Design.{Design}
 use Rattle.qp_model.specs.Parts.{IsDesign, design_of}
-use Rattle.qp_model.specs.Policy.{Plans, IsPolicyFor, IsPlanDenominator}
-use Rattle.qp_model.specs.Margin.{IsMargin, corner_slack, slack_scale, corner_cost, corner_cost_scale, corner_denominator}
+use Rattle.qp_model.specs.Policy.{Plans, IsPolicyFor}
+use Rattle.qp_model.specs.CornerClass.{has_fine_corners, shown, IsMargin}
 use Rattle.qp_model.specs.Errors.{ErrorSums, epsilon}
 use Rattle.qp_model.specs.declared.design_parts.DesignParts.{DesignParts}
 use Rattle.qp_model.specs.declared.bounds.Margin.{Margin}
 use Rattle.slater_margin.specs.Corners.{IsFirstShort}
+use Rattle.slater_margin.specs.Simulation.{HasScales}
+use Rattle.slater_margin.proofs.MarginFacts.{scales}
 use Rattle.qp_model.specs.Least.{IsLeast}
 use Rattle.hessian_check.specs.Curvature.{IsFirst, IsChosen, IsDominantAt, HasPassingRootBelow}
 use Rattle.hessian_check.specs.Steps.{HasNoStep}
 use Rattle.bit_choice.specs.Choice.{IsChoice}
 use Rattle.step_error.proofs.FallingLaws.{epsilon_falls}
 use Rattle.design_engine.specs.Built.{IsExponentOf}
-use Rattle.design_engine.proofs.PromiseLaws.{sound, cost_scale_positive, residual_scale_positive}
 
 -- ---- what the corners' slacks and costs are over
+from_one : (z : ℤ) → pos 1 ≤ℤ z → pos 0 <ℤ z
+from_one z h = omega (arith, ints)
+
 module _ (p : DesignParts) (plans : Plans) (design : IsDesign p) (policy : IsPolicyFor (design_of p) plans) where
-  over_positive : (c : ℕ) → 1 ≤ c → c ≤ 2 ^ (design_of p).states → pos 0 <ℤ corner_denominator plans c
-  over_positive c l h =
-      let one = All-get_or IsPlanDenominator plans.denominators (c - 1) (pos 0) (omega (arith, policy.count)) policy.denominators in
-      from_one (corner_denominator plans c) one.low
-    where
-      from_one : (z : ℤ) → pos 1 ≤ℤ z → pos 0 <ℤ z
-      from_one z h = omega (arith, ints)
+  over : HasScales (shown (design_of p) plans) (2 ^ (design_of p).states)
+  over = scales (has_fine_corners (design_of p) plans) p plans design policy
 
-  pub slack_positive : (c : ℕ) → 1 ≤ c → c ≤ 2 ^ (design_of p).states → pos 0 <ℤ slack_scale (design_of p) plans c
-  slack_positive c l h = mul_pos_z _ (corner_denominator plans c) (residual_scale_positive (design_of p) (sound p design)) (over_positive c l h)
+  pub slack_positive : (c : ℕ) → 1 ≤ c → c ≤ 2 ^ (design_of p).states → pos 0 <ℤ (shown (design_of p) plans).slack_scale c
+  slack_positive c l h = from_one _ (over.slack c l h)
 
-  cost_positive : (c : ℕ) → 1 ≤ c → c ≤ 2 ^ (design_of p).states → pos 0 <ℤ corner_cost_scale (design_of p) plans c
-  cost_positive c l h =
-      let o = over_positive c l h in
-      mul_pos_z _ (square (corner_denominator plans c)) (cost_scale_positive (design_of p) (sound p design)) (mul_pos_z _ _ o o)
+  cost_positive : (c : ℕ) → 1 ≤ c → c ≤ 2 ^ (design_of p).states → pos 0 <ℤ (shown (design_of p) plans).cost_scale c
+  cost_positive c l h = from_one _ (over.cost c l h)
 
 -- ---- the margin
 -- v has the slack x, which u + 1 has not
@@ -73,13 +68,13 @@ module _ (p : DesignParts) (plans : Plans) (design : IsDesign p) (policy : IsPol
   units_under : (m o : Margin) → IsMargin (design_of p) plans m → IsMargin (design_of p) plans o → o.units ≤ℤ m.units
   units_under m o h k =
       let l = h.least in
-      units_le m.units o.units (slack_scale (design_of p) plans l.c) (pos (2 ^ 16) *ℤ corner_slack (design_of p) plans l.c l.row)
+      units_le m.units o.units ((shown (design_of p) plans).slack_scale l.c) (pos (2 ^ 16) *ℤ (shown (design_of p) plans).slack l.c l.row)
       (slack_positive p plans design policy l.c l.first l.last) l.short (k.slacks l.c l.row l.first l.last l.inside)
 
   cost_under : (m o : Margin) → IsMargin (design_of p) plans m → IsMargin (design_of p) plans o → m.cost ≤ℤ o.cost
   cost_under m o h k =
       let g = h.greatest in
-      costs_le m.cost o.cost (corner_cost_scale (design_of p) plans g.c) (corner_cost (design_of p) plans g.c)
+      costs_le m.cost o.cost ((shown (design_of p) plans).cost_scale g.c) ((shown (design_of p) plans).cost g.c)
       (cost_positive p plans design policy g.c g.first g.last) g.dear (k.costs g.c g.first g.last)
 
   pub one_margin : (m o : Margin) → IsMargin (design_of p) plans m → IsMargin (design_of p) plans o → m ≡ o

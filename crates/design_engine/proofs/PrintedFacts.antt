@@ -1,5 +1,5 @@
 -- The printed bounds, by their numbers.
-use Rattle.std.proofs.Common.{◌≡◌, ℕ, ℤ, pos, unsigned_abs, refl, sym, ap, ◌∙◌}
+use Rattle.std.proofs.Common.{◌≡◌, ℕ, ℤ, pos, unsigned_abs, refl, sym, ◌∙◌}
 use Rattle.qp_model.specs.Choices.{violation_bound, undercut_bound, multiplier_of}
 use Rattle.qp_model.specs.Controller.{Numbers}
 use Rattle.qp_model.specs.Printed.{printed}

@@ -18,6 +18,8 @@ use Rattle.qp_model.specs.Box.{IsGridState}
 use Rattle.qp_model.specs.Cost.{cost, cost_scale}
 use Rattle.qp_model.specs.Residual.{residual, residual_scale, IsFeasible}
 use Rattle.qp_model.specs.Policy.{Plans}
+use Rattle.qp_model.specs.Margin.{BoundsCorners}
+use Rattle.qp_model.specs.CornerClass.{shown}
 use Rattle.qp_model.specs.Controller.{Numbers}
 use Rattle.qp_model.specs.Machine.{average_denominator, averaged_plan, exponent_of}
 use Rattle.qp_model.specs.Machine as machine
@@ -29,7 +31,8 @@ use Rattle.qp_model.specs.Certified.{ExceedsAtMost, CostsAtMost, HasFeasible, Is
 use Rattle.qp_model.specs.declared.design_parts.DesignParts.{DesignParts}
 use Rattle.qp_model.specs.Printed.{Printed}
 use Rattle.overflow_check.proofs.ValuesMet.{values_law}
-use Rattle.dual_bounds.specs.Corners.{HasRepair, ExceedsNoMore}
+use Rattle.class_choice.proofs.CornerLaws.{shown_law}
+use Rattle.dual_bounds.specs.Corners.{KeepsMargin, HasRepair, ExceedsNoMore}
 use Rattle.dual_bounds.proofs.MixLaws.{repair_law}
 use Rattle.step_error.specs.MachineLaws.{IsRunOf, MachineRunLaw}
 use Rattle.design_engine.specs.Bounds.{margin_of}
@@ -40,7 +43,7 @@ use Rattle.design_engine.proofs.RowChoice.{at_row, dot_single, squares_single, r
 
 -- ---- a design's numbers
 -- each input's weight is at least 1
-pub sound : (p : DesignParts) → IsDesign p → IsSound (design_of p) 1
+sound : (p : DesignParts) → IsDesign p → IsSound (design_of p) 1
 sound p h = record {
   plant_denominator = some_of p.plant_den h.plant_den.low;
   cost_denominator = some_of p.cost_den h.cost_den.low;
@@ -53,12 +56,12 @@ sound p h = record {
   final_weight = h.final_weights;
 }
 
-pub cost_scale_positive : (d : Design) → IsSound d 1 → pos 0 <ℤ pos (cost_scale d)
+cost_scale_positive : (d : Design) → IsSound d 1 → pos 0 <ℤ pos (cost_scale d)
 cost_scale_positive d h = pos_positive (cost_scale d) (one-le-mul h.cost_denominator
     (pow_positive (d.row_denominator * 2 ^ d.grid * d.plant_denominator ^ d.stages) 2
     (one-le-mul (one-le-mul h.row_denominator (pow_pos d.grid)) (pow_positive d.plant_denominator d.stages h.plant_denominator))))
 
-pub residual_scale_positive : (d : Design) → IsSound d 1 → pos 0 <ℤ pos (residual_scale d)
+residual_scale_positive : (d : Design) → IsSound d 1 → pos 0 <ℤ pos (residual_scale d)
 residual_scale_positive d h = pos_positive (residual_scale d)
     (one-le-mul (one-le-mul h.limit_denominator (pow_pos d.grid)) (pow_positive d.plant_denominator d.stages h.plant_denominator))
 
@@ -189,11 +192,20 @@ first w = pos (ceil_div (2 ^ (w.c.step_exponent + 41) * bound w) w.c.steps)
 abbrev second : Point → ℤ
 second w = pos (ceil_div (errors w) (bound w))
 
+-- the corners truly have the margin that is printed, since what is shown of them is no more than they have
+kept : (w : Point) → KeepsMargin (design w) w.plans (margin_of w.b)
+kept w = record {
+  slacks = λ c i first last inside. bounds.slacks w.b.margin c i first last inside (w.backed.margin.slacks c i first last inside);
+  costs = λ c first last. bounds.costs w.b.cost c first last (w.backed.margin.costs c first last);
+}
+  where
+    bounds : BoundsCorners (design w) w.plans (shown (design w) w.plans)
+    bounds = shown_law (design w) 1 w.plans (sound_at w) w.backed.policy
+
 -- a feasible plan near the averaged one, where its residuals are at most v / v_over
 near : (w : Point) (v v_over : ℤ) → pos 0 ≤ℤ v → pos 0 <ℤ v_over → ExceedsNoMore (design w) (at w.xi) (over w) (plan w) v v_over →
     HasRepair (design w) (at w.xi) (over w) (plan w) (pos (bound w) *ℤ v) v_over
-near w = repair_law (design w) 1 w.plans (margin_of w.b) (sound_at w) w.backed.policy (record { slacks = w.backed.margin.slacks; costs = w.backed.margin.costs }) w.backed.slack (at w.xi) w.inside
-    (over w) (plan w) (over_positive w)
+near w = repair_law (design w) 1 w.plans (margin_of w.b) (sound_at w) w.backed.policy (kept w) w.backed.slack (at w.xi) w.inside (over w) (plan w) (over_positive w)
 
 -- one that costs at most R times the greatest residual more
 near_by_row : (w : Point) (v : ℤ) → pos 0 <ℤ v → ((i : ℕ) → i < count w → excess w i ≤ℤ v) →

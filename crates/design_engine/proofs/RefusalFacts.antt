@@ -1,13 +1,12 @@
 -- A fault of a part has its cause as a refusal.
-use Rattle.std.proofs.Common.{◌≡◌, inl, inr, ◌⊎◌, ◌↔◌, ℕ, ◌^◌, ◌<◌, ◌≤◌, ℤ, pos, ◌≤ℤ◌, unsigned_abs, arith, refl, rules, Result, Ok, Err}
+use Rattle.std.proofs.Common.{◌≡◌, inl, inr, ◌⊎◌, ◌↔◌, ℕ, ◌^◌, ◌<◌, ◌≤◌, ℤ, pos, unsigned_abs, arith, rules, Result, Ok, Err}
 use Rattle.std.specs.Prelude.{IfErr}
-use Rattle.std.specs.Result.{IsErrAnd, IsErrOf, IsErr}
+use Rattle.std.specs.Result.{IsErrAnd}
 use Rattle.std.proofs.lemmas.Bool.{cases_lt}
 use Rattle.frac_scaled.specs.declared.fraction.Frac.{Frac}
 use Rattle.qp_model.specs.Class.{form_of, prediction_quantity, hessian_quantity, rows_quantity}
 use Rattle.qp_model.specs.Design.{Design}
 use Rattle.qp_model.specs.Policy.{Plans}
-use Rattle.qp_model.specs.Margin.{IsMargin}
 use Rattle.qp_model.specs.Choices.{multiplier_size, step_count, multiplier_of}
 use Rattle.qp_model.specs.Columns.{descent_size}
 use Rattle.qp_model.specs.Errors as errors
@@ -24,7 +23,6 @@ use Rattle.plant_condense.specs.declared.condensed.Condensed.{Condensed}
 use Rattle.plant_condense.specs.declared.fault.CondenseFault.{CondenseFault}
 use Rattle.plant_condense.specs.declared.fault.CondenseFault.TheVariants.{Memory as condense_memory, TooWide as condense_wide}
 use Rattle.hessian_check.specs.Refusals as exponents
-use Rattle.hessian_check.specs.Steps.{HasNoStep}
 use Rattle.hessian_check.specs.declared.fault.StepExponents.{StepExponents}
 use Rattle.hessian_check.specs.declared.fault.CurvatureFault.{CurvatureFault}
 use Rattle.hessian_check.specs.declared.fault.CurvatureFault.TheVariants.{Memory as curvature_memory, TooWide as curvature_wide, NoStep}
@@ -34,7 +32,6 @@ use Rattle.approx_inverse.specs.declared.fault.SolveFault.{SolveFault}
 use Rattle.approx_inverse.specs.declared.fault.SolveFault.TheVariants.{Memory as solve_memory, TooWide as solve_wide}
 use Rattle.design_engine.specs.Targets.{Targets, half_target, error_limit}
 use Rattle.design_engine.specs.Widest.{width_size}
-use Rattle.design_engine.specs.Bounds.{stated_cost}
 use Rattle.design_engine.specs.Built.{IsExponentOf}
 use Rattle.design_engine.specs.Fault.{IsWidthFault}
 use Rattle.design_engine.specs.Faults.{of_margin, of_condense, of_curvature, of_solve, of_width}
@@ -42,7 +39,7 @@ use Rattle.design_engine.specs.Refusals.{PassesMargin, PassesSizes, PassesSteps,
 use Rattle.design_engine.specs.declared.fault.WidthFault.{WidthFault}
 use Rattle.design_engine.specs.declared.fault.WidthFault.TheVariants.{Memory as width_memory, TooWide as width_wide}
 use Rattle.design_engine.specs.declared.refusal.Refusal.{Refusal}
-use Rattle.design_engine.specs.declared.refusal.Refusal.TheVariants.{Memory, NoMargin, Curvature, TooManySteps, TooFine, TooWide}
+use Rattle.design_engine.specs.declared.refusal.Refusal.TheVariants.{TooManySteps, TooFine, TooWide}
 
 -- the error that a fault becomes
 pub refused_by : {T : Type 0} (r : Result T Refusal) (from p : Refusal → Type 0) → IsErrAnd r from → ((e : Refusal) → from e → p e) → IfErr r p

@@ -1,12 +1,12 @@
 -- Rows that are rounded: room, one more row, and the numbers of a condensed form as a design's.
-use Rattle.std.proofs.Common.{◌≡◌, inl, inr, ℕ, ◌+◌, ◌*◌, ◌^◌, ◌<◌, ◌≤◌, ℤ, pos, ◌*ℤ◌, ◌≤ℤ◌, [], ◌∷◌, ◌++◌, List, length, get_or, unsigned_abs, FitsSigned, arith, refl, ap, sym, subst, ◌∙◌}
+use Rattle.std.proofs.Common.{◌≡◌, inl, inr, ℕ, ◌+◌, ◌^◌, ◌<◌, ◌≤◌, ℤ, pos, ◌*ℤ◌, ◌≤ℤ◌, [], ◌∷◌, ◌++◌, List, length, get_or, unsigned_abs, FitsSigned, arith, refl, ap, sym, subst, ◌∙◌}
 use Rattle.std.specs.Prelude.{All}
 use Rattle.std.specs.Int.{w128}
-use Rattle.std.proofs.lemmas.Int.{ints, fits_signed_mul}
+use Rattle.std.proofs.lemmas.Int.{fits_signed_mul}
 use Rattle.std.proofs.lemmas.Bool.{cases_lt}
 use Rattle.std.proofs.lemmas.List.{get_or_append_left, get_or_push, length_push}
 use Rattle.std.proofs.lemmas.List.Elements.{All-nil, All-cons, All-append}
-use Rattle.std.proofs.Math.Nat.{pow-le-pow_right, mul-le-mul}
+use Rattle.std.proofs.Math.Nat.{pow-le-pow_right}
 use Rattle.integer_algebra.specs.Sums.{at}
 use Rattle.integer_algebra.specs.Division.{round_of}
 use Rattle.mat_int.specs.Matrix.{Matrix, entry_of, HasEntries}

@@ -1,10 +1,11 @@
 -- Lists and matrices that are made by index, beside others.
-use Rattle.std.proofs.Common.{◌≡◌, ℕ, ◌+◌, ◌-◌, ◌<◌, ◌≤◌, ℤ, pos, List, [], length, unsigned_abs, nat_lt, ◌==◌, if◌then◌else◌, arith, ap, ◌∙◌}
+use Rattle.std.proofs.Common.{◌≡◌, ℕ, ◌+◌, ◌-◌, ◌*◌, ◌<◌, ◌≤◌, ℤ, pos, List, [], length, unsigned_abs, nat_lt, ◌==◌, if◌then◌else◌, arith, ap, ◌∙◌}
 use Rattle.std.proofs.lemmas.Bool.Decides.{nat_tests}
 use Rattle.std.proofs.lemmas.List.FromFn.{get_or-map-range_with_len, length-map-range_with_len}
 use Rattle.integer_algebra.specs.Sums.{at}
 use Rattle.mat_int.specs.Matrix.{Matrix, row_of, entry_of, HasEntries}
-use Rattle.qp_model.specs.Controller.{HasShape}
+use Rattle.qp_model.specs.Design.{Design, entries}
+use Rattle.qp_model.specs.Controller.{Numbers, HasShape, plan_length}
 use Rattle.approx_inverse.specs.Inverse.{solution_of}
 use Rattle.approx_inverse.specs.declared.inverse.Inverse.{Inverse}
 use Rattle.design_engine.specs.Widest.{listed, table}
@@ -13,6 +14,17 @@ use Rattle.design_engine.proofs.Monotone.{IsUnder}
 -- a row's length
 pub row_long : (m : Matrix) (height width i : ℕ) → HasShape m height width → i < height → length (row_of m i) ≡ width
 row_long m height width i shape l = shape.each i [] (omega (arith, shape.rows))
+
+-- a shape, by other names of its numbers
+pub shape_as : (m : Matrix) (h w height width : ℕ) → h ≡ height → w ≡ width → HasShape m h w → HasShape m height width
+shape_as m h w height width e f s = rw (e, f) at s
+
+-- the entries of a controller's plan are the design's
+pub plan_long : (d : Design) (c : Numbers) → c.inputs ≡ d.inputs → c.stages ≡ d.stages → plan_length c ≡ entries d
+plan_long d c e f = (λ i. e i * f i) ∙ turned d.inputs d.stages
+  where
+    turned : (m n : ℕ) → m * n ≡ n * m
+    turned m n = omega arith
 
 pub line_long : (n : ℕ) (g : ℕ → ℤ) → length (listed n g) ≡ n
 line_long n g = length-map-range_with_len g 0 n

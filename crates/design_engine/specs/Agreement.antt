@@ -6,11 +6,30 @@ use Rattle.qp_model.specs.declared.design_parts.DesignParts.{DesignParts}
 use Rattle.qp_model.specs.Printed.{Printed}
 use Rattle.design_engine.specs.Built.{IsBuilt}
 
--- with the gains and the width of the other, the controller is the other; with its width so are the bounds, the violations row by row
+-- the two have the same gains
+pub record HaveSameGains (c other : Numbers) : Type 0 where
+  pub state_gains : c.state_gains ≡ other.state_gains
+  pub offsets : c.offsets ≡ other.offsets
+  pub dual_gains : c.dual_gains ≡ other.dual_gains
+
+-- all is the same, the violations row by row
+pub record AreSame (c other : Numbers) (b other_bounds : Printed) : Type 0 where
+  pub numbers : c ≡ other
+  pub bounds : record b { row_violation = other_bounds.row_violation } ≡ other_bounds
+  pub row_violations : (i : ℕ) → i < c.rows → b.row_violation i ≡ other_bounds.row_violation i
+
+-- With the gains and the width of the other, the controller is the other. With the other's width, violation, gap and undercut, so are the bounds: the
+-- margin, the cost, R, the step, the steps, the bits and the words are the same. And the width and these three follow from the gains.
 pub record AgreeButGains (c other : Numbers) (b other_bounds : Printed) : Type 0 where
   pub numbers : record c { state_gains = other.state_gains; offsets = other.offsets; dual_gains = other.dual_gains; width = other.width } ≡ other
-  pub bounds : record b { width = other_bounds.width; row_violation = other_bounds.row_violation } ≡ other_bounds
-  pub row_violations : (i : ℕ) → i < c.rows → b.row_violation i ≡ other_bounds.row_violation i
+  pub bounds : record b {
+    width = other_bounds.width;
+    violation = other_bounds.violation;
+    row_violation = other_bounds.row_violation;
+    gap = other_bounds.gap;
+    undercut = other_bounds.undercut;
+  } ≡ other_bounds
+  pub followed : HaveSameGains c other → AreSame c other b other_bounds
 
 -- all else is a function of the design and the policy
 abbrev pub AgreementLaw : Type 0

@@ -11,6 +11,7 @@ use Rattle.qp_model.specs.Controller.{Numbers}
 use Rattle.qp_model.specs.Built.{HasSizesOf, HasRowsOf, gain_column}
 use Rattle.qp_model.specs.AbsoluteSums.{greatest_sum}
 use Rattle.overflow_check.specs.Width.{IsWidth}
+use Rattle.approx_inverse.specs.DescentSize.{EachWithin}
 use Rattle.approx_inverse.specs.Inverse.{HasGainSizes, solution_of}
 use Rattle.approx_inverse.specs.declared.inverse.Inverse.{Inverse}
 use Rattle.design_engine.specs.Widest.{rounded, listed}
@@ -55,12 +56,13 @@ pub record AreGains (v : Inverse) (c : Numbers) : Type 0 where
   pub offsets : c.offsets ≡ v.t.items
   pub dual_gains : c.dual_gains ≡ v.w_mat
 
--- a controller of a design with R, the step exponent s, k steps and f bits: its gains are good solutions, its rows the condensed rows, and its width
--- is the least that its absolute sums let pass
+-- a controller of a design with R, the step exponent s, k steps and f bits: its gains are good solutions within their bounds, its rows the condensed
+-- rows, and its width is the least that its absolute sums let pass
 pub record IsAssembled (d : Design) (r s k f : ℕ) (c : Numbers) : Type 0 where
   pub sizes : HasSizesOf d c
   pub rows : HasRowsOf (form_of d) c
   pub gains : (i : ℕ) → i < columns (form_of d) → IsGood (form_of d).entries (solve_matrix (form_of d)) c.fraction_bits (solve_column (form_of d) i) (gain_column c i)
+  pub within : (i : ℕ) → i < columns (form_of d) → EachWithin (form_of d).entries (column_bound (form_of d) c.fraction_bits i) (gain_column c i)
   pub clamp : c.clamp ≡ pos (2 * r * 2 ^ (f + s))
   pub step_exponent : c.step_exponent ≡ s
   pub steps : c.steps ≡ k

@@ -16,7 +16,7 @@ margin_of b = record { units = b.margin; cost = b.cost }
 abbrev pub printed_multiplier : Printed → ℕ
 printed_multiplier b = multiplier_of (margin_of b)
 
--- what the stated errors of a step cost, over 2^40
+-- what the stated errors of a step cost, over 2^40, which bounds what those of any good gains cost
 abbrev pub stated_cost : Design → ℕ → ℕ → ℕ
 stated_cost d r f = epsilon (error_sums_of d (form_of d) r) f
 

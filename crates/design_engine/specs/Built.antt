@@ -4,9 +4,10 @@ use Rattle.qp_model.specs.Class.{form_of, hessian_quantity}
 use Rattle.qp_model.specs.Design.{Design}
 use Rattle.qp_model.specs.Parts.{IsDesign, design_of}
 use Rattle.qp_model.specs.Policy.{Plans, IsPolicyFor}
-use Rattle.qp_model.specs.Margin.{IsMargin}
+use Rattle.qp_model.specs.CornerClass.{IsMargin}
 use Rattle.qp_model.specs.Choices.{step_count}
 use Rattle.qp_model.specs.Errors.{error_sums_of}
+use Rattle.qp_model.specs.RealErrors.{real_cost}
 use Rattle.qp_model.specs.Built.{IsDerivedFrom}
 use Rattle.qp_model.specs.Controller.{Numbers}
 use Rattle.qp_model.specs.AbsoluteSums.{IsController, greatest_sum}
@@ -16,7 +17,7 @@ use Rattle.overflow_check.specs.Width.{IsWidth}
 use Rattle.hessian_check.specs.Steps.{IsPlainExponent, IsStepExponent}
 use Rattle.bit_choice.specs.Choice.{IsChoice}
 use Rattle.design_engine.specs.Targets.{targets_of, half_target, error_limit}
-use Rattle.design_engine.specs.Bounds.{margin_of, printed_multiplier, stated_cost, AreBoundsOf}
+use Rattle.design_engine.specs.Bounds.{margin_of, printed_multiplier, AreBoundsOf}
 
 -- s is the step exponent of the design: the least number whose certificate the recipe finds, or the plain exponent, which is at most 40
 pub record IsExponentOf (d : Design) (s : ℕ) : Type 0 where
@@ -25,7 +26,8 @@ pub record IsExponentOf (d : Design) (s : ℕ) : Type 0 where
   pub limit : plain ≤ 40
   pub is_step : IsStepExponent d plain s
 
--- the controller and the bounds are those of a design and a policy
+-- the controller and the bounds are those of a design and a policy: the steps and the bits rest on the stated errors of a step, and the bounds on those
+-- that the controller's gains leave
 pub record IsBuilt (p : DesignParts) (plans : Plans) (c : Numbers) (b : Printed) : Type 0 where
   pub design : IsDesign p
   pub policy : IsPolicyFor (design_of p) plans
@@ -40,4 +42,4 @@ pub record IsBuilt (p : DesignParts) (plans : Plans) (c : Numbers) (b : Printed)
   pub bits : IsChoice (error_sums_of (design_of p) (form_of (design_of p)) (printed_multiplier b)) (design_of p).grid
       (error_limit (targets_of p) (printed_multiplier b)) c.fraction_bits
   pub width : IsWidth (greatest_sum c) c.width
-  pub bounds : AreBoundsOf c b (stated_cost (design_of p) (printed_multiplier b) c.fraction_bits)
+  pub bounds : AreBoundsOf c b (real_cost (design_of p) (form_of (design_of p)) (printed_multiplier b) c)

@@ -4,6 +4,7 @@ pub mod Promise
 pub mod Widest
 pub mod Fault
 pub mod Assembled
+pub mod Residuals
 pub mod Built
 pub mod Refusals
 pub mod Order

@@ -4,7 +4,7 @@ use Rattle.integer_algebra.specs.Sums.{at}
 use Rattle.qp_model.specs.Form.{Form, IsFormFor}
 use Rattle.qp_model.specs.Parts.{IsDesign, design_of}
 use Rattle.qp_model.specs.Policy.{Plans, IsPolicyFor}
-use Rattle.qp_model.specs.Margin.{IsMargin}
+use Rattle.qp_model.specs.CornerClass.{IsMargin}
 use Rattle.qp_model.specs.Choices.{step_count}
 use Rattle.qp_model.specs.Box.{IsGridState}
 use Rattle.qp_model.specs.Errors.{StepErrors, cost_of_errors}

@@ -3,7 +3,7 @@ use Rattle.std.specs.Prelude.{◌≡◌, ◌⊎◌, ℕ, ◌^◌, ◌<◌, ◌�
 use Rattle.qp_model.specs.Class.{form_of, prediction_quantity, hessian_quantity, rows_quantity, curvature_quantity}
 use Rattle.qp_model.specs.Design.{Design}
 use Rattle.qp_model.specs.Policy.{Plans}
-use Rattle.qp_model.specs.Margin.{IsMargin}
+use Rattle.qp_model.specs.CornerClass.{IsMargin}
 use Rattle.qp_model.specs.Choices.{multiplier_of, multiplier_size_of, step_count}
 use Rattle.qp_model.specs.Columns.{descent_size}
 use Rattle.qp_model.specs.Errors.{error_size, error_sums_of}

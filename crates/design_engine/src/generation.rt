@@ -10,31 +10,35 @@ ghost use Rattle.qp_model.specs.Printed.{printed};
 ghost use Rattle.qp_model.specs.Certified.{IsCertified};
 ghost use Rattle.qp_model.specs.declared.bounds.Margin.{Margin};
 ghost use Rattle.plant_condense.specs.Form.{IsFormOf};
+ghost use Rattle.real_error.specs.Made.{AreSumsOf};
 ghost use Rattle.bit_choice.specs.Choice.{IsChoice};
 ghost use Rattle.design_engine.specs.Targets.{targets_of, half_target, gap_target, error_limit, IsWithinTargets};
-ghost use Rattle.design_engine.specs.Bounds.{margin_of, stated_cost, AreBoundsOf};
+ghost use Rattle.design_engine.specs.Bounds.{margin_of, printed_multiplier, stated_cost, AreBoundsOf};
 ghost use Rattle.design_engine.specs.Built.{IsBuilt, IsExponentOf};
 ghost use Rattle.design_engine.specs.Refusals.{HasCause, IsRefused, PassesSizes, PassesBits, PassesAll};
 
 use crate::assemble::controller_of;
 use crate::refusal::Refusal;
+use crate::residuals::real_cost;
 use approx_inverse::solve_all;
 use bit_choice::{Choice, choose_bits};
-use class_choice::condense;
+use class_choice::{condense, margins};
 use dual_bounds::{multiplier, steps, undercut, violation};
 use hessian_check::curvature;
 use overflow_check::Controller;
 use plant_condense::Condensed;
 use qp_model::{Bounds, Design, DesignParts, Margin, Policy};
-use slater_margin::margins;
 use std::alloc::Global;
-use step_error::error_sums;
+use step_error::{ErrorSums, error_sums};
 
 /// A controller and its bounds.
 #[derive(Debug, Drop)]
 pub struct Made {
     pub controller: Controller,
     pub bounds: Bounds,
+    /// What the errors of a step cost at most, over `2^40`, whichever good solutions the gains are: the steps and the fraction bits rest on it. The
+    /// bounds rest on what these gains leave.
+    pub eps: i128,
 }
 
 // A design's margin, R, its condensed form and its step exponent.
@@ -46,10 +50,11 @@ struct Scaled {
     s: u32,
 }
 
-// The number of steps, and the fraction bits with what the errors of a step cost.
+// The number of steps, the sums of the rounding errors, and the fraction bits with what the errors of a step cost by these.
 #[derive(Clone, Copy)]
 struct Chosen {
     steps: u32,
+    sums: ErrorSums,
     choice: Choice,
 }
 
@@ -110,6 +115,7 @@ fn plan_of(design: &Design, scaled: &Scaled) -> Result<Chosen, Refusal>
     ensures passes { (plans : Plans) → PassesSizes (design_of design.now) (targets_of design.now) plans scaled.now.margin →
         IfOk result (λ x. PassesBits (design_of design.now) (targets_of design.now) plans scaled.now.margin scaled.now.s x.choice.f) }
     ensures steps { IfOk result (λ x. x.steps ≡ step_count scaled.now.s (multiplier_of scaled.now.margin) (half_target (targets_of design.now))) }
+    ensures sums { IfOk result (λ x. AreSumsOf design.now (multiplier_of scaled.now.margin) scaled.now.condensed x.sums) }
     ensures cost { IfOk result (λ x. x.choice.eps ≡ pos (stated_cost (design_of design.now) (multiplier_of scaled.now.margin) x.choice.f)) }
     ensures refused { (plans : Plans) → PassesSizes (design_of design.now) (targets_of design.now) plans scaled.now.margin →
         IfErr result (HasCause (design_of design.now) (targets_of design.now) plans) }
@@ -118,25 +124,29 @@ fn plan_of(design: &Design, scaled: &Scaled) -> Result<Chosen, Refusal>
     let steps = steps(scaled.s, scaled.r, half_target(parts))?;
     let sums = error_sums(&scaled.condensed, design, scaled.r)?;
     let choice = choose_bits(&sums, parts.grid, error_limit(parts, scaled.r))?;
-    Ok(Chosen { steps, choice })
+    Ok(Chosen {
+        steps,
+        sums,
+        choice,
+    })
 }
 
-// The bounds of a controller.
-fn bounds_of(scaled: &Scaled, plan: &Chosen, controller: &Controller) -> Bounds
+// The bounds of a controller, the errors of whose steps cost so much over `2^40`.
+fn bounds_of(scaled: &Scaled, plan: &Chosen, controller: &Controller, eps: i128) -> Bounds
     requires multiplier { scaled.now.r ≡ pos (multiplier_of scaled.now.margin) }
     requires narrow { multiplier_of scaled.now.margin ≤ 2 ^ 44 }
     requires exponent { scaled.now.s ≤ 40 }
     requires steps { 1 ≤ plan.now.steps }
-    requires errors { pos 0 ≤ℤ plan.now.choice.eps }
-    requires small { plan.now.choice.eps ≤ℤ pos (2 ^ 114) }
+    requires errors { pos 0 ≤ℤ eps }
+    requires small { eps ≤ℤ pos (2 ^ 114) }
     requires fits { let r = multiplier_of scaled.now.margin in
-        undercut_bound r (violation_bound scaled.now.s r plan.now.steps (unsigned_abs plan.now.choice.eps)) ≤ 2 ^ 126 }
+        undercut_bound r (violation_bound scaled.now.s r plan.now.steps (unsigned_abs eps)) ≤ 2 ^ 126 }
     ensures margin { margin_of (printed result) ≡ scaled.now.margin }
-    ensures bounds { (cost : ℕ) → plan.now.choice.eps ≡ pos cost →
+    ensures bounds { (cost : ℕ) → eps ≡ pos cost →
         controller.now.step_exponent ≡ scaled.now.s → controller.now.steps ≡ plan.now.steps → controller.now.fraction_bits ≡ plan.now.choice.f →
         AreBoundsOf controller.now (printed result) cost }
 {
-    let (s, r, eps) = (scaled.s, scaled.r, plan.choice.eps);
+    let (s, r) = (scaled.s, scaled.r);
     let violation = violation(s, r, plan.steps, eps);
     let parts = controller.parts();
     Bounds {
@@ -165,10 +175,13 @@ fn finished(alloc: Global, design: &Design, scaled: &Scaled, plan: &Chosen) -> R
     requires few { plan.now.steps ≤ 2 ^ 22 }
     requires choice { IsChoice (error_sums_of (design_of design.now) (form_of (design_of design.now)) (multiplier_of scaled.now.margin)) (design_of design.now).grid
         (error_limit (targets_of design.now) (multiplier_of scaled.now.margin)) plan.now.choice.f }
+    requires sums { AreSumsOf design.now (multiplier_of scaled.now.margin) scaled.now.condensed plan.now.sums }
     requires cost { plan.now.choice.eps ≡ pos (stated_cost (design_of design.now) (multiplier_of scaled.now.margin) plan.now.choice.f) }
     ensures built { (plans : Plans) → IsPolicyFor (design_of design.now) plans →
         PassesBits (design_of design.now) (targets_of design.now) plans scaled.now.margin scaled.now.s plan.now.choice.f →
         IfOk result (λ made. IsBuilt design.now plans made.controller (printed made.bounds)) }
+    ensures errors { IfOk result (λ made.
+        made.eps ≡ pos (stated_cost (design_of design.now) (printed_multiplier (printed made.bounds)) made.controller.fraction_bits)) }
     ensures passes { (plans : Plans) →
         PassesBits (design_of design.now) (targets_of design.now) plans scaled.now.margin scaled.now.s plan.now.choice.f →
         OnOk result (PassesAll (design_of design.now) (targets_of design.now) plans scaled.now.margin scaled.now.s plan.now.choice.f) }
@@ -187,16 +200,21 @@ fn finished(alloc: Global, design: &Design, scaled: &Scaled, plan: &Chosen) -> R
         scaled.r,
         gains,
     )?;
-    let bounds = bounds_of(scaled, plan, &controller);
-    Ok(Made { controller, bounds })
+    let eps = real_cost(&scaled.condensed, &plan.sums, &controller);
+    let bounds = bounds_of(scaled, plan, &controller, eps);
+    Ok(Made {
+        controller,
+        bounds,
+        eps: plan.choice.eps,
+    })
 }
 
 /// The controller of a design with a policy, which has one plan for each corner of the box, and its bounds.
 ///
 /// # Errors
-/// The first test that they fail, in this order: `TooWide` with `prediction`, `corner_slack` or `corner_cost`; `NoMargin`; `TooWide` with
-/// `multiplier`, or with `prediction`, `hessian`, `rows` or `curvature` of the condensed form; `Curvature`; `TooManySteps`; `TooWide` with
-/// `error`; `TooFine`; `TooWide` with `descent` or `width`. `Memory` where memory runs out before.
+/// The first test that they fail, in this order: `TooWide` with `prediction`, `corner_slack` or `corner_cost` of the corners; `NoMargin`;
+/// `TooWide` with `multiplier`, or with `prediction`, `hessian`, `rows` or `curvature` of the condensed form; `Curvature`; `TooManySteps`;
+/// `TooWide` with `error`; `TooFine`; `TooWide` with `descent` or `width`. `Memory` where memory runs out before.
 pub fn generate(alloc: Global, design: &Design, policy: &Policy) -> Result<Made, Refusal>
     requires { IsPolicyFor (design_of design.now) (plans_of policy.now) }
 
@@ -204,6 +222,8 @@ pub fn generate(alloc: Global, design: &Design, policy: &Policy) -> Result<Made,
     ensures built { IfOk result (λ made. IsBuilt design.now (plans_of policy.now) made.controller (printed made.bounds)) }
     ensures certified { IfOk result (λ made. IsCertified (design_of design.now) made.controller (printed made.bounds)) }
     ensures targets { IfOk result (λ made. IsWithinTargets (targets_of design.now) (printed made.bounds)) }
+    ensures errors { IfOk result (λ made.
+        made.eps ≡ pos (stated_cost (design_of design.now) (printed_multiplier (printed made.bounds)) made.controller.fraction_bits)) }
 
     // The cause of a refusal; and the other way round, with nothing but out of memory in between.
     ensures refused { IfErr result (λ e. (e ≡ Refusal.Memory) ⊎ HasCause (design_of design.now) (targets_of design.now) (plans_of policy.now) e) }

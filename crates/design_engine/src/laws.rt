@@ -14,8 +14,8 @@ pub fn targets_law()
     ensures { TargetsLaw }
 {}
 
-/// Two controllers that are built for one design and policy are the same but for their gains, and the width that follows from these; so are
-/// their bounds.
+/// Two controllers that are built for one design and policy are the same but for their gains and their width. So are their bounds, but for the
+/// width, the violation, the gap and the undercut. The width and these three are functions of the gains.
 pub fn agreement_law()
     ensures { AgreementLaw }
 {}

@@ -7,6 +7,7 @@ mod generation;
 mod laws;
 mod refusal;
 mod refused;
+mod residuals;
 mod rounding;
 mod widest;
 

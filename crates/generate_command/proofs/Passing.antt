@@ -6,8 +6,7 @@ use Rattle.qp_model.specs.Design.{Design}
 use Rattle.qp_model.specs.Parts.{design_of}
 use Rattle.qp_model.specs.Policy.{Plans}
 use Rattle.qp_model.specs.Choices.{multiplier_size, step_count, multiplier_of}
-use Rattle.qp_model.specs.Quantities.{prediction_size}
-use Rattle.qp_model.specs.CornerSizes.{corner_slack_size, corner_cost_size}
+use Rattle.qp_model.specs.CornerClass.{corner_prediction_quantity, corner_slack_quantity, corner_cost_quantity}
 use Rattle.qp_model.specs.Columns.{descent_size}
 use Rattle.qp_model.specs.Errors.{error_size}
 use Rattle.qp_model.specs.Controller.{Numbers}
@@ -33,9 +32,9 @@ within limit size never = elim (cases_lt limit size) [ inl lt ↦ absurd (never 
 margin : (p : DesignParts) (plans : Plans) (c : Numbers) (b : Printed) → NoCause (design_of p) (targets_of p) plans → IsBuilt p plans c b → PassesMargin (design_of p) (targets_of p) plans (margin_of b)
 margin p plans c b none built =
     let d = design_of p in
-    let prediction = within (2 ^ 126) (prediction_size d) (λ lt. none (TooWide quantity.Prediction) (inl lt)) in
-    let slack = within (2 ^ 126) (corner_slack_size d plans) (λ lt. none (TooWide quantity.CornerSlack) (prediction, lt)) in
-    let cost = within (2 ^ 126) (corner_cost_size d plans) (λ lt. none (TooWide quantity.CornerCost) (prediction, (slack, lt))) in
+    let prediction = within (2 ^ 126) (corner_prediction_quantity d plans) (λ lt. none (TooWide quantity.Prediction) (inl lt)) in
+    let slack = within (2 ^ 126) (corner_slack_quantity d plans) (λ lt. none (TooWide quantity.CornerSlack) (prediction, lt)) in
+    let cost = within (2 ^ 126) (corner_cost_quantity d plans) (λ lt. none (TooWide quantity.CornerCost) (prediction, (slack, lt))) in
     record { room = record { prediction = prediction; slack = slack; cost = cost }; margin = built.margin; slack = built.slack }
 
 sizes : (d : Design) (t : Targets) (plans : Plans) (m : Margin) → NoCause d t plans → PassesMargin d t plans m → PassesSizes d t plans m

@@ -1,6 +1,6 @@
-use Rattle.std.proofs.Common.{rules, ◌≡◌, ◌∙◌, ℕ, pos, arith, ap, to_z, of_z}
+use Rattle.std.proofs.Common.{rules, ◌∙◌}
 use Rattle.std.specs.Int.{w128}
-use Rattle.std.proofs.lemmas.Int.{ints, to_z-of_z}
+use Rattle.std.proofs.lemmas.Int.{to_z-of_z}
 use mir.Val.{SFits}
 use Rattle.design_engine.proofs.GenerationFacts.{half_small, product_fits, product_is, least_is}
 use Rattle.design_engine.proofs.generation.error_limit.Goals as goal

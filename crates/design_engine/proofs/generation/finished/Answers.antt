@@ -1,14 +1,16 @@
-use Rattle.std.proofs.Common.{rules, ◌≡◌, ◌≤◌, ◌^◌, ◌*◌, ℕ, ℤ, pos, ◌≤ℤ◌, unsigned_abs, arith, ap, refl, ◌∙◌, to_z, of_z}
+use Rattle.std.proofs.Common.{rules, arith, ◌∙◌}
 use Rattle.std.specs.Int.{w128}
 use Rattle.std.proofs.lemmas.Int.{ints, to_z-of_z}
 use mir.Val.{SFits}
 use Rattle.qp_model.specs.Parts.{design_of}
-use Rattle.design_engine.specs.Targets.{targets_of, half_target, error_limit}
+use Rattle.design_engine.specs.Targets.{targets_of, half_target}
 use Rattle.qp_model.specs.Choices.{multiplier_of}
 use Rattle.qp_model.specs.Printed.{printed}
+use Rattle.qp_model.specs.AbsoluteSums.{IsController}
 use Rattle.design_engine.proofs.RefusalFacts.{refused_by, solve_refused, width_refused}
 use Rattle.design_engine.proofs.GenerationFacts.{half_some, half_small, limit_small, bound_some, steps_some, undercut_small, whole_is, at_most}
 use Rattle.design_engine.proofs.BuiltFacts.{built_from}
+use Rattle.design_engine.proofs.ResidualFacts.{given_from, cost_within, stated_by}
 use Rattle.design_engine.proofs.generation.finished.Goals as goal
 
 pub returns-in_err-gains-clause-refused : goal.returns-in_err-gains-clause-refused
@@ -34,24 +36,76 @@ returns-in_err-controller-clause-refused c plans passes =
     (width_refused _ _ plans c.args.scaled.now.margin c.args.scaled.now.s c.args.plan.now.choice.f _ _ passes (c.in_ok-gains.ensures.fits _ c.requires.form)
     (whole_is c.args.scaled.now.r _ r c.requires.multiplier) c.requires.steps _ c.in_err-controller.ensures.wide)
 
+-- ---- the bounds
+pub real_cost-eps-requires : goal.real_cost-eps-requires
+real_cost-eps-requires c =
+    let r : SFits w128 c.args.scaled.now.r = search rules in
+    let sound : IsController c.in_ok-controller.controller = search rules in
+    let given = given_from c.args.design.now _ (multiplier_of c.args.scaled.now.margin) _ _ _ c.args.scaled.now.condensed c.in_ok-controller.controller c.requires.form
+    (whole_is c.args.scaled.now.r _ r c.requires.multiplier) c.in_ok-controller.ensures.made c.args.plan.now.sums c.requires.sums
+    sound (c.in_ok-gains.ensures.fits _ c.requires.form) in
+    record { parts = c.args.design.now; r = multiplier_of c.args.scaled.now.margin; made = given }
+
+pub bounds_of-bounds-requires-clause-errors : goal.bounds_of-bounds-requires-clause-errors
+bounds_of-bounds-requires-clause-errors c =
+    let r : SFits w128 c.args.scaled.now.r = search rules in
+    let sound : IsController c.in_ok-controller.controller = search rules in
+    let given = given_from c.args.design.now _ (multiplier_of c.args.scaled.now.margin) _ _ _ c.args.scaled.now.condensed c.in_ok-controller.controller c.requires.form
+    (whole_is c.args.scaled.now.r _ r c.requires.multiplier) c.in_ok-controller.ensures.made c.args.plan.now.sums c.requires.sums
+    sound (c.in_ok-gains.ensures.fits _ c.requires.form) in
+    let e : SFits w128 c.real_cost-eps.result = search rules in
+    let cost = to_z-of_z w128 _ e ∙ c.real_cost-eps.ensures c.args.design.now (multiplier_of c.args.scaled.now.margin) given in
+    rw cost (omega (arith, ints))
+
 pub bounds_of-bounds-requires-clause-small : goal.bounds_of-bounds-requires-clause-small
 bounds_of-bounds-requires-clause-small c =
-    at_most _ _ c.requires.cost c.requires.choice.within (limit_small c.args.design.now (multiplier_of c.args.scaled.now.margin) c.requires.form.design)
+    let r : SFits w128 c.args.scaled.now.r = search rules in
+    let sound : IsController c.in_ok-controller.controller = search rules in
+    let given = given_from c.args.design.now _ (multiplier_of c.args.scaled.now.margin) _ _ _ c.args.scaled.now.condensed c.in_ok-controller.controller c.requires.form
+    (whole_is c.args.scaled.now.r _ r c.requires.multiplier) c.in_ok-controller.ensures.made c.args.plan.now.sums c.requires.sums
+    sound (c.in_ok-gains.ensures.fits _ c.requires.form) in
+    let e : SFits w128 c.real_cost-eps.result = search rules in
+    let cost = to_z-of_z w128 _ e ∙ c.real_cost-eps.ensures c.args.design.now (multiplier_of c.args.scaled.now.margin) given in
+    let within = cost_within c.args.design.now _ (multiplier_of c.args.scaled.now.margin) _ _ _ c.args.scaled.now.condensed c.in_ok-controller.controller c.requires.form
+    (whole_is c.args.scaled.now.r _ r c.requires.multiplier) c.in_ok-controller.ensures.made c.requires.curved in
+    at_most _ _ cost (omega (arith, within, c.requires.choice.within))
+    (limit_small c.args.design.now (multiplier_of c.args.scaled.now.margin) c.requires.form.design)
 
 pub bounds_of-bounds-requires-clause-fits : goal.bounds_of-bounds-requires-clause-fits
-bounds_of-bounds-requires-clause-fits c = rw (c.requires.steps, c.requires.cost)
+bounds_of-bounds-requires-clause-fits c =
+    let r : SFits w128 c.args.scaled.now.r = search rules in
+    let sound : IsController c.in_ok-controller.controller = search rules in
+    let given = given_from c.args.design.now _ (multiplier_of c.args.scaled.now.margin) _ _ _ c.args.scaled.now.condensed c.in_ok-controller.controller c.requires.form
+    (whole_is c.args.scaled.now.r _ r c.requires.multiplier) c.in_ok-controller.ensures.made c.args.plan.now.sums c.requires.sums
+    sound (c.in_ok-gains.ensures.fits _ c.requires.form) in
+    let e : SFits w128 c.real_cost-eps.result = search rules in
+    let cost = to_z-of_z w128 _ e ∙ c.real_cost-eps.ensures c.args.design.now (multiplier_of c.args.scaled.now.margin) given in
+    let within = cost_within c.args.design.now _ (multiplier_of c.args.scaled.now.margin) _ _ _ c.args.scaled.now.condensed c.in_ok-controller.controller c.requires.form
+    (whole_is c.args.scaled.now.r _ r c.requires.multiplier) c.in_ok-controller.ensures.made c.requires.curved in
+    rw (c.requires.steps, cost)
     (undercut_small c.args.scaled.now.s (multiplier_of c.args.scaled.now.margin) (half_target (targets_of c.args.design.now)) _
     (bound_some c.args.scaled.now.margin) c.requires.narrow (half_some c.args.design.now c.requires.form.design)
-    (half_small c.args.design.now c.requires.form.design) (omega (arith, c.requires.choice.within)))
+    (half_small c.args.design.now c.requires.form.design) (omega (arith, within, c.requires.choice.within)))
+
+pub returns-clause-errors : goal.returns-clause-errors
+returns-clause-errors c =
+    let e : SFits w128 c.args.plan.now.choice.eps = search rules in
+    stated_by (design_of c.args.design.now) (printed c.bounds_of-bounds.result) _ _ _ _ c.bounds_of-bounds.ensures.margin c.in_ok-controller.ensures.made.fraction_bits
+    (to_z-of_z w128 _ e ∙ c.requires.cost)
 
 pub returns-clause-built : goal.returns-clause-built
 returns-clause-built c plans policy passes =
     let r : SFits w128 c.args.scaled.now.r = search rules in
+    let sound : IsController c.in_ok-controller.controller = search rules in
+    let given = given_from c.args.design.now _ (multiplier_of c.args.scaled.now.margin) _ _ _ c.args.scaled.now.condensed c.in_ok-controller.controller c.requires.form
+    (whole_is c.args.scaled.now.r _ r c.requires.multiplier) c.in_ok-controller.ensures.made c.args.plan.now.sums c.requires.sums
+    sound (c.in_ok-gains.ensures.fits _ c.requires.form) in
+    let e : SFits w128 c.real_cost-eps.result = search rules in
+    let cost = to_z-of_z w128 _ e ∙ c.real_cost-eps.ensures c.args.design.now (multiplier_of c.args.scaled.now.margin) given in
     let made = c.in_ok-controller.ensures.made in
     built_from c.args.design.now plans c.in_ok-controller.controller (printed c.bounds_of-bounds.result) c.args.scaled.now.margin _ _ _ _
     c.requires.form.design policy passes c.requires.curved (whole_is c.args.scaled.now.r _ r c.requires.multiplier) c.requires.steps c.bounds_of-bounds.ensures.margin
-    (search rules) made
-    (rw (← made.fraction_bits) at (c.bounds_of-bounds.ensures.bounds _ c.requires.cost made.step_exponent made.steps made.fraction_bits))
+    sound made (c.bounds_of-bounds.ensures.bounds _ cost made.step_exponent made.steps made.fraction_bits)
 
 pub returns-clause-passes : goal.returns-clause-passes
 returns-clause-passes c plans passes =

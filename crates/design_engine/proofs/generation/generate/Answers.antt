@@ -1,9 +1,7 @@
-use Rattle.std.proofs.Common.{rules, ◌≡◌, inl, inr, ℕ, arith, refl}
-use Rattle.qp_model.specs.Parts.{design_of}
+use Rattle.std.proofs.Common.{rules, inr}
 use Rattle.qp_model.specs.Policy.{plans_of}
 use Rattle.qp_model.specs.Printed.{printed}
 use Rattle.design_engine.specs.Targets.{targets_of}
-use Rattle.design_engine.specs.Refusals.{PassesBits, PassesAll}
 use Rattle.design_engine.specs.declared.generation.Made.{Made}
 use Rattle.design_engine.proofs.RefusalFacts.{refused_by}
 use Rattle.design_engine.proofs.AnswerLaws.{ok_map, ok_of_error, IsPassed, every_from, accepted_from, built_certified, built_within}

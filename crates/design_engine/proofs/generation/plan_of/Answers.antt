@@ -1,6 +1,5 @@
-use Rattle.std.proofs.Common.{rules, ◌≡◌, ℕ, pos, unsigned_abs, ap, ◌∙◌, ◌≤◌, arith, refl, to_z, of_z}
+use Rattle.std.proofs.Common.{rules, pos, ap, ◌∙◌, refl}
 use Rattle.std.specs.Int.{w128}
-use Rattle.std.proofs.lemmas.Int.{ints, to_z-of_z}
 use mir.Val.{SFits}
 use Rattle.qp_model.specs.Errors.{ErrorSums, epsilon}
 use Rattle.step_error.specs.ErrorSums.{sums_of}
@@ -77,6 +76,12 @@ returns-clause-steps c =
     let count = rw (whole_is c.args.scaled.now.r _ r c.requires.multiplier, whole_is c.half_target.result _ h (rw c.parts-parts.ensures.value at c.half_target.ensures))
     at c.in_ok-steps.ensures.value in
     count.1
+
+pub returns-clause-sums : goal.returns-clause-sums
+returns-clause-sums c =
+    let r : SFits w128 c.args.scaled.now.r = search rules in
+    let value = rw (whole_is c.args.scaled.now.r _ r c.requires.multiplier) at c.in_ok-sums.ensures.value in
+    record { form = c.requires.form; bound = bound_some c.args.scaled.now.margin; sums = value.1; room = value.0 }
 
 pub returns-clause-cost : goal.returns-clause-cost
 returns-clause-cost c =

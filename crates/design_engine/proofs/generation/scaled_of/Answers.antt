@@ -1,7 +1,3 @@
-use Rattle.std.proofs.Common.{rules, ◌≡◌, ◌≤◌, ◌^◌, ℕ, pos, unsigned_abs, ap, ◌∙◌, arith, refl, to_z, of_z}
-use Rattle.std.specs.Int.{w128}
-use Rattle.std.proofs.lemmas.Int.{ints, to_z-of_z}
-use mir.Val.{SFits}
 use Rattle.design_engine.proofs.RefusalFacts.{refused_by, margin_refused, condense_refused, curvature_refused, within_limit, condensed_within}
 use Rattle.qp_model.specs.declared.quantity.Quantity.TheVariants.{Prediction}
 use Rattle.design_engine.proofs.generation.scaled_of.Goals as goal

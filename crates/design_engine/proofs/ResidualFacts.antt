@@ -1,0 +1,65 @@
+-- What a controller that is assembled for a design gives for its real errors, and that these cost no more than the stated ones.
+use Rattle.std.proofs.Common.{◌≡◌, ℕ, ◌^◌, ◌≤◌, List, ℤ, pos, refl, sym, subst, ◌∙◌}
+use Rattle.qp_model.specs.Design.{Design, entries}
+use Rattle.qp_model.specs.Parts.{design_of}
+use Rattle.qp_model.specs.Choices.{multiplier_of}
+use Rattle.qp_model.specs.Printed.{Printed}
+use Rattle.qp_model.specs.declared.bounds.Margin.{Margin}
+use Rattle.qp_model.specs.Class.{form_of}
+use Rattle.qp_model.specs.Columns.{descent_size}
+use Rattle.mat_int.specs.Matrix.{Matrix}
+use Rattle.qp_model.specs.Controller.{Numbers, IsShaped, plan_length}
+use Rattle.qp_model.specs.AbsoluteSums.{IsController}
+use Rattle.qp_model.specs.Curvature.{IsExponent}
+use Rattle.qp_model.specs.RealErrors.{real_cost}
+use Rattle.qp_model.specs.declared.design_parts.DesignParts.{DesignParts}
+use Rattle.plant_condense.specs.Form.{IsFormOf}
+use Rattle.plant_condense.specs.declared.condensed.Condensed.{Condensed}
+use Rattle.step_error.specs.declared.sums.ErrorSums.{ErrorSums}
+use Rattle.real_error.specs.Made.{AreSumsOf, HasGains}
+use Rattle.real_error.proofs.RealCosts as costs
+use Rattle.design_engine.specs.Bounds.{margin_of, printed_multiplier, stated_cost}
+use Rattle.design_engine.specs.Assembled.{IsAssembled}
+use Rattle.design_engine.specs.Residuals.{IsGivenFor}
+use Rattle.design_engine.proofs.Tables.{shape_as, plan_long}
+use Rattle.design_engine.proofs.BuiltFacts.{derived_from}
+
+-- what is said of a controller's gains, by other names of these
+pub named : (is : Matrix → List ℤ → Matrix → ℕ → Type 0) (k n : Numbers) (t : List ℤ) → n ≡ k → t ≡ n.offsets → is k.state_gains k.offsets k.dual_gains k.fraction_bits →
+    is n.state_gains t n.dual_gains n.fraction_bits
+named is k n t same offsets given = subst (λ (t : List ℤ). is n.state_gains t n.dual_gains n.fraction_bits) (sym offsets)
+    (subst (λ (n : Numbers). is n.state_gains n.offsets n.dual_gains n.fraction_bits) (sym same) given)
+
+-- they are its own
+pub own_gains : (n : Numbers) (t : List ℤ) → t ≡ n.offsets → IsController n → HasGains n n.fraction_bits n.state_gains t n.dual_gains
+own_gains n t offsets controller =
+    record { states = sym controller.form.sized.shaped.state_gains.cols; bits = refl; state_gains = refl; offsets = sym offsets; dual_gains = refl }
+
+module _ (p : DesignParts) (r q s k f : ℕ) (c : Condensed) (n : Numbers) (form : IsFormOf p c) (is : r ≡ q) (made : IsAssembled (design_of p) r s k f n) where
+  pub given_from : (e : ErrorSums) → AreSumsOf p q c e → IsController n → descent_size (form_of (design_of p)) f ≤ 2 ^ 126 → IsGivenFor p q c e n
+  given_from e sums controller descent = record {
+    sums = sums;
+    gains = record {
+      state_gains = shape_as _ _ _ _ _ long made.sizes.states shaped.state_gains;
+      offsets = shaped.offsets ∙ long;
+      dual_gains = shape_as _ _ _ _ _ long made.sizes.rows shaped.dual_gains;
+      good = λ i l. rw shaped.state_gains.cols (made.gains i l);
+      within = λ i j l m. rw shaped.state_gains.cols (made.within i l j m);
+      room = rw made.fraction_bits descent;
+    };
+  }
+    where
+      shaped : IsShaped n
+      shaped = controller.form.sized.shaped
+
+      long : plan_length n ≡ entries (design_of p)
+      long = plan_long (design_of p) n made.sizes.inputs made.sizes.stages
+
+  pub cost_within : IsExponent (design_of p) s → real_cost (design_of p) (form_of (design_of p)) q n ≤ stated_cost (design_of p) q f
+  cost_within curved = subst (λ (b : ℕ). real_cost (design_of p) (form_of (design_of p)) q n ≤ stated_cost (design_of p) q b) made.fraction_bits
+      (costs.cost p (form_of (design_of p)) q n form.design form.encloses (derived_from (design_of p) n r q s k f curved is made))
+
+-- the stated cost by other names
+pub stated_by : (d : Design) (b : Printed) (m : Margin) (f g : ℕ) (z : ℤ) → margin_of b ≡ m → g ≡ f → z ≡ pos (stated_cost d (multiplier_of m) f) →
+    z ≡ pos (stated_cost d (printed_multiplier b) g)
+stated_by d b m f g z e same is = is ∙ (λ i. pos (stated_cost d (multiplier_of (sym e i)) (sym same i)))

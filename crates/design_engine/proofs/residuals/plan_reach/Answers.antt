@@ -1,0 +1,15 @@
+use Rattle.std.proofs.Common.{rules, ◌∙◌, arith}
+use Rattle.std.specs.Int.{w128}
+use Rattle.std.proofs.lemmas.Int.{to_z-of_z}
+use Rattle.std.proofs.lemmas.Nat.{pow_pos}
+use mir.Val.{SFits}
+use Rattle.frac_scaled.proofs.Powers.{one_shifted}
+use Rattle.design_engine.proofs.Bounds.{ceil_of_pos}
+use Rattle.design_engine.proofs.residuals.plan_reach.Goals as goal
+
+pub returns : goal.returns
+returns c =
+    let s : SFits w128 c.in-Some.sum = search rules in
+    let r : SFits w128 c.ceil_div.result = search rules in
+    to_z-of_z w128 _ r ∙ c.ceil_div.ensures ∙ rw (to_z-of_z w128 _ s, one_shifted c.args.parts.now.f (omega (arith, c.requires.form.sized.fraction_bits.1)), c.in-Some.ensures.1)
+    (ceil_of_pos _ _ (pow_pos c.args.parts.now.f))
