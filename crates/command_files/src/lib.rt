@@ -12,6 +12,3 @@ pub use controller::read_controller_file;
 pub use design::read_design_file;
 pub use policy::read_policy_file;
 pub use states::read_states_file;
-
-#[cfg(test)]
-mod tests;

@@ -1,12 +1,12 @@
-// Each answer but one of memory, and after it the right ones over the same store.
+// Each answer but one of memory, and after it the right ones over the same store. The plans of two states are those of the model in exact fractions.
 use crate::runs::{generates, given, solves, tells, told_by};
-use crate::texts::{CONTROLLER, DESIGN, POLICY};
 use io_edge::MemStore;
 use std::alloc::{AllocError, Global};
 use std::test::Fail;
+use worked_designs::{CONTROLLER, CONTROLLER_OF_TWO, DESIGN, POLICY, STATES};
 
-// Files with a fault, or that no controller is made of: a name, and a text with this part in that one's place.
-const FILES: [(&str, &str, &str, &str); 15] = [
+// Further files, most with a fault, or that no controller is made of: a name, and a text with this part in that one's place.
+const FILES: [(&str, &str, &str, &str); 20] = [
     ("toml", DESIGN, "version = 1", "x ="),
     ("halves", DESIGN, "grid = 0", "grid = 1"),
     ("triples", DESIGN, "a = [[1]]", "a = [[3]]"),
@@ -42,10 +42,18 @@ const FILES: [(&str, &str, &str, &str); 15] = [
     ("cut", CONTROLLER, "end\n", ""),
     ("unsafe", CONTROLLER, "W 256", "W 512"),
     ("outside", POLICY, "1,0\n8,-7", "1\n2"),
+    ("open", STATES, "1\n", "1\n0"),
+    ("turned", STATES, "0\n1", "1\n0"),
+    ("two", CONTROLLER_OF_TWO, "end", "end"),
+    ("pairs", STATES, "0\n1", "1,-2\n3,4"),
+    ("single", STATES, "0\n1", "1,-2\n3"),
 ];
 
 // Arguments, and what they tell, with a comma for each line feed but the last.
-const ANSWERS: &str = "solve c: error 2 usage
+const ANSWERS: &str = "solve c open: 4096 0,4096 -2224,4096 0
+solve two pairs: 1792 0 329,1792 -7 -462
+loop d c turned 2: 1 1 1 4096 -2224,1 2 0 4096 0,2 1 0 4096 0,2 2 0 4096 0
+solve c: error 2 usage
 demo 07: error 2 usage
 loop d c s 1000001: error 2 usage
 generate d p d r: error 2 usage
@@ -61,6 +69,7 @@ generate d p out gone: error 4 write-fault 4
 generate toml p out r: error 5 text 1 not-toml
 generate d short out r: error 5 text 2 count 1
 solve c d: error 5 text 2 number 1 1
+solve two single: error 5 text 2 fields 2
 loop toml c s 1: error 5 text 1 not-toml
 loop d c p 1: error 5 text 3 fields 1
 generate d none out r: error 6 no-margin 2 2 4 524288

@@ -1,9 +1,9 @@
 // A controller's text of which one byte is another.
 use crate::runs::{SOLVE, given, solves, tells, told_by};
-use crate::texts::{CONTROLLER, STATES};
 use io_edge::MemStore;
 use std::alloc::{AllocError, Global};
 use std::test::Fail;
+use worked_designs::{CONTROLLER, STATES};
 
 // What the model tells of each text that is not refused at the line of its byte: the byte's place, from 0, what stands there, and the lines of its corners' states,
 // or why it is refused, with a comma for each line feed but the last. All others are refused at the byte's own line. `bench/fuzz/changed_bytes.py` prints it.

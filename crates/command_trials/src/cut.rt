@@ -1,9 +1,9 @@
 // A controller's text that is cut.
 use crate::runs::{SOLVE, given, solves, tells};
-use crate::texts::CONTROLLER;
 use io_edge::MemStore;
 use std::alloc::{AllocError, Global};
 use std::test::Fail;
+use worked_designs::CONTROLLER;
 
 /// Whether `solve` refuses the bytes that a name holds at this line.
 pub fn is_refused_at(

@@ -1,15 +1,19 @@
 // Reads, writes and prints that fail, each in turn, and the next call over the same store.
 use crate::cut::is_refused_at;
 use crate::runs::{GENERATE, ROOM, SOLVE, answer_of, generates, given, holds, tells};
-use crate::texts::{CONTROLLER, PLANS, REPORT};
 use command_line::Status;
 use io_edge::{MemSink, MemStore, ReadRefusal};
 use std::alloc::{AllocError, Global};
 use std::test::Fail;
+use worked_designs::{CONTROLLER, DEMO_OF_SEVEN, PLANS, REPORT};
 
 // Whether the name holds nothing.
-fn is_absent(alloc: Global, store: &mut MemStore, name: &str) -> bool {
-    matches!(store.read(alloc, name, ROOM), Err(ReadRefusal::Failed))
+fn is_absent(alloc: Global, store: &mut MemStore, name: &str) -> Result<bool, AllocError> {
+    match store.read(alloc, name, ROOM) {
+        Err(ReadRefusal::Failed) => Ok(true),
+        Err(ReadRefusal::Memory) => Err(AllocError),
+        _ => Ok(false),
+    }
 }
 
 // The store that is given, of whose writes that one fails and keeps so many bytes.
@@ -23,8 +27,8 @@ fn failing_write(alloc: Global, write: usize, keep: usize) -> Result<MemStore, A
 fn writes_nothing(alloc: Global, store: &mut MemStore, line: &str) -> Result<bool, AllocError> {
     Ok(
         tells(alloc, GENERATE, store, line)?
-            && is_absent(alloc, store, "out")
-            && is_absent(alloc, store, "r")
+            && is_absent(alloc, store, "out")?
+            && is_absent(alloc, store, "r")?
             && generates(alloc, store)?,
     )
 }
@@ -47,7 +51,7 @@ fn is_controller_cut(
     Ok(
         tells(alloc, GENERATE, store, "error 4 write-fault 3\n")?
             && holds(alloc, store, "out", part)?
-            && is_absent(alloc, store, "r")
+            && is_absent(alloc, store, "r")?
             && is_refused_at(alloc, "solve out s", store, line)?
             && generates(alloc, store)?,
     )
@@ -208,18 +212,14 @@ fn loop_prints(rt: HostRuntime) -> Result<(), Fail> {
     Ok(())
 }
 
-// What `demo 7` prints, from the model in exact fractions: a report of 209 bytes, and four lines.
-const DEMO: &str =
-    "mpc-report 1\nmargin 16384 65536\ncost 63\nmultiplier 252\nstep 1\nsteps 8064\nbits 31\nwidth 73\nwords 78\nviolation 140387641438 1099511627776\ngap 743069367421 1099511627776\nundercut 35377685642376 1099511627776\nend\n17317308137472 7263807345963 17331305367316 986525326301 17319796755491 -1659324381987 16285107482136 -2679637787082 15451187731935 -3073655857193 15092040554849 -3220531605651 14097620001560\n17317308137472 -1343041153994 17320181266648 -2205020446204 15993467770692 -2823450524125 15362645348508 -3059813594971 15170577159131 -3194939595885 15003894286892 -3256095330405 14072863555167\n17317308137472 2730593652673 17320896598117 -1107518991629 16682424872095 -2481609138026 15606315313892 -2950712766347 15249787129102 -3160256007815 15029036745528 -3245930592177 14079936222543\n17317308137472 -5617287430405 12989677374963 -3776670931370 14392546309353 -3298419508458 14904863184619 -3196546284766 15041542201861 -3234362528561 14977476427602 -3267467681498 14065055949064\n";
-
 #[test]
 fn demo_prints(rt: HostRuntime) -> Result<(), Fail> {
     assert!(rt;
         are_unprinted(
             rt.alloc(),
             "demo 7",
-            &[0, 209, 401, 596, 790],
-            DEMO.as_bytes()
+            &[0, 208, 400, 595, 789],
+            DEMO_OF_SEVEN.as_bytes()
         )?
     );
     Ok(())

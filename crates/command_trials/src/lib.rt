@@ -13,5 +13,3 @@ mod failing;
 mod limits;
 #[cfg(test)]
 mod runs;
-#[cfg(test)]
-mod texts;

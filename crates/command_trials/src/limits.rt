@@ -1,9 +1,9 @@
-// Files at the limit of their size, lines that end otherwise, and bytes that are no text.
-use crate::runs::{GENERATE, generates, given, tells};
-use crate::texts::{DESIGN, POLICY};
+// Files at the limit of their size, lines that end otherwise, bytes that are no text, and loops of no turns.
+use crate::runs::{GENERATE, SOLVE, generates, given, tells};
 use io_edge::MemStore;
 use std::alloc::{AllocError, Global};
 use std::test::Fail;
+use worked_designs::{DESIGN, POLICY};
 
 // Whether a design and a policy make the first worked controller and its report.
 fn makes(alloc: Global, design: &[u8], policy: &[u8]) -> Result<bool, AllocError> {
@@ -94,5 +94,27 @@ fn field_of_no_text(rt: HostRuntime) -> Result<(), Fail> {
             "error 5 text 2 number 2 2\n",
         )?
     );
+    Ok(())
+}
+
+// Whether a command prints nothing of these states.
+fn prints_nothing(alloc: Global, arguments: &str, states: &[u8]) -> Result<bool, AllocError> {
+    let mut store = given(alloc)?;
+    store.hold("s", states)?;
+    tells(alloc, arguments, &mut store, "")
+}
+
+// The longest file is of line feeds alone, and has no states.
+#[test]
+fn states_at_the_limit(rt: HostRuntime) -> Result<(), Fail> {
+    let states = vec![in rt.alloc(); b'\n'; 4194304]?;
+    assert!(rt; prints_nothing(rt.alloc(), SOLVE, &states)?);
+    Ok(())
+}
+
+// A state outside the box is not told without turns.
+#[test]
+fn no_turns(rt: HostRuntime) -> Result<(), Fail> {
+    assert!(rt; prints_nothing(rt.alloc(), "loop d c s 0", b"1\n5\n")?);
     Ok(())
 }

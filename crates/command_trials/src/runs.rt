@@ -1,5 +1,4 @@
 // Commands over a store and an output in memory.
-use crate::texts::{CONTROLLER, DESIGN, PLANS, POLICY, REPORT, STATES};
 use command_line::{Command, Status, command_of, status_line};
 use demo_command::demo;
 use generate_command::generate;
@@ -7,6 +6,7 @@ use io_edge::{MemSink, MemStore, ReadRefusal, Words};
 use loop_command::run_loops;
 use solve_command::solve;
 use std::alloc::{AllocError, Global};
+use worked_designs::{CONTROLLER, DESIGN, PLANS, POLICY, REPORT, STATES};
 
 /// The bytes that are written or printed in one run at most.
 pub const ROOM: usize = 4096;

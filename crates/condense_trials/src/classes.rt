@@ -1,7 +1,8 @@
 // Expected values are those of bench/condense/classes.py.
+use crate::refusal::wide;
 use class_choice::condense;
 use mat_int::Mat;
-use plant_condense::{CondenseFault, Condensed};
+use plant_condense::Condensed;
 use qp_model::{Design, Quantity};
 use std::alloc::{AllocError, Global};
 use std::test::Fail;
@@ -97,14 +98,10 @@ fn is_condensed(alloc: Global, written: Written, want: &Answer) -> Result<bool, 
     Ok(is_answer(&found, want))
 }
 
-// The quantity by which a design is too wide, if any.
-fn wide(alloc: Global, written: Written) -> Result<Option<Quantity>, Fail> {
+// The quantity by which the design is too wide, if any.
+fn wide_as(alloc: Global, written: Written) -> Result<Option<Quantity>, Fail> {
     let design = design_of(alloc, written)?;
-    match condense(alloc, &design) {
-        Ok(_) => Ok(None),
-        Err(CondenseFault::TooWide { quantity }) => Ok(Some(quantity)),
-        Err(CondenseFault::Memory) => Err(AllocError.into()),
-    }
+    Ok(wide(condense(alloc, &design))?)
 }
 
 #[test]
@@ -190,6 +187,6 @@ fn wide_rows(rt: HostRuntime) -> Result<(), Fail> {
         limit_den: LONG,
         ..TWO
     };
-    assert!(rt; wide(rt.alloc(), wide_limits)? == Some(Quantity::Rows));
+    assert!(rt; wide_as(rt.alloc(), wide_limits)? == Some(Quantity::Rows));
     Ok(())
 }

@@ -1,12 +1,10 @@
-ghost use Rattle.std.specs.Prelude.{pos, ◌≤ℤ◌, IsTrue};
-ghost use Rattle.qp_model.specs.Parts.{design_of};
-ghost use Rattle.qp_model.specs.Policy.{plans_of, IsPolicyFor};
+ghost use Rattle.std.specs.Prelude.{◌<◌, ◌^◌, pos, ◌≤ℤ◌, length};
 
+use class_choice::margins;
 use frac_scaled::Frac;
-use mat_int::Mat;
-use qp_model::range::{has_numerators, is_denominator};
-use qp_model::{Design, Margin, Policy, Quantity};
-use slater_margin::{MarginFault, margins};
+use policy_file::read_policy;
+use qp_model::{Margin, Quantity};
+use slater_margin::MarginFault;
 use std::alloc::{AllocError, Global};
 use std::test::Fail;
 use worked_designs::{DESIGN, SATELLITE, design};
@@ -45,8 +43,32 @@ box = { grid = 0, lo = [0], hi = [1] }
 targets = { den = 1, violation = 16, gap = 1 }
 ";
 
-// The satellite's axis over ten stages and the finest denominator.
-const FINE: &str = "version = 1
+// The first design on a finer grid, where a plan over 2^40 makes its corners' costs too long for exact numbers.
+const FINER: &str = "version = 1
+states = 1
+inputs = 1
+stages = 1
+plant = { den = 1, a = [[1]], b = [[1]] }
+cost = { den = 1, row_den = 1, input = [1], stage = [[1, 0, 1]], final = [] }
+limits = { den = 4, stage = [[0, 4, 4], [0, -4, 4]], final = [[4, 1]] }
+box = { grid = 24, lo = [0], hi = [16777216] }
+targets = { den = 1, violation = 16, gap = 1 }
+";
+
+// The first design over twenty stages, in each of which the state grows beyond any enclosure.
+const GROWING: &str = "version = 1
+states = 1
+inputs = 1
+stages = 20
+plant = { den = 1, a = [[2147483647]], b = [[1]] }
+cost = { den = 1, row_den = 1, input = [1], stage = [[1, 0, 1]], final = [] }
+limits = { den = 4, stage = [[0, 4, 4], [0, -4, 4]], final = [[4, 1]] }
+box = { grid = 0, lo = [0], hi = [1] }
+targets = { den = 1, violation = 16, gap = 1 }
+";
+
+// The satellite's axis over ten stages and the finest denominator: too long for exact numbers.
+const LONGER: &str = "version = 1
 states = 2
 inputs = 1
 stages = 10
@@ -66,43 +88,41 @@ violation = 16
 gap = 1
 ";
 
-// Whether there is a plan for each corner, of this design's sizes, and of small numbers.
-fn is_policy_for(design: &Design, policy: &Policy) -> bool
-    ensures { IsTrue result → IsPolicyFor (design_of design.now) (plans_of policy.now) }
-{
-    let parts = design.parts();
-    let corners = 1 << parts.states;
-    policy.dens.len() == corners
-        && policy.dens.iter().all(|den| is_denominator(*den))
-        && policy.plans.rows() == corners
-        && policy.plans.cols() == parts.stages * parts.inputs
-        && has_numerators(&policy.plans)
-}
+// A plan for each corner of the first design's box, of the satellite's, of that over ten stages, and of the growing one's.
+const PLANS: &[u8] = b"1,0\n8,-7\n";
 
-// A policy of these plans.
-fn policy(alloc: Global, entries: usize, dens: &[i128], plans: &[&[i128]]) -> Result<Policy, Fail> {
-    let Some(plans) = Mat::from_rows(alloc, entries, plans)? else {
-        return Err("rows of several lengths".into());
-    };
-    let dens = dens.to_vec(alloc)?;
-    Ok(Policy { dens, plans })
-}
+const RESTING_PLANS: &[u8] = b"1,0,0,0,0,0\n1,0,0,0,0,0\n1,0,0,0,0,0\n1,0,0,0,0,0\n";
+
+const LONGER_PLANS: &[u8] = b"1,0,0,0,0,0,0,0,0,0,0
+1,0,0,0,0,0,0,0,0,0,0
+1,0,0,0,0,0,0,0,0,0,0
+1,0,0,0,0,0,0,0,0,0,0
+";
+
+const GROWING_PLANS: &[u8] = b"1,0,0,0,0,0,0,0,0,0,0,0,0,0,0,0,0,0,0,0,0
+1,0,0,0,0,0,0,0,0,0,0,0,0,0,0,0,0,0,0,0,0
+";
 
 // Whether this is the margin of a design with these plans, or why there is none.
 fn is_margin(
     alloc: Global,
     text: &str,
-    policy: &Policy,
+    plans: &[u8],
     want: &Result<Margin, MarginFault>,
-) -> Result<bool, Fail> {
+) -> Result<bool, Fail>
+    requires { length plans.now < 2 ^ 32 }
+{
     let design = design(alloc, text)?;
-    if !is_policy_for(&design, policy) {
-        return Err("no policy".into());
-    }
-    match margins(alloc, &design, policy) {
+    let policy = read_policy(alloc, plans, &design)?;
+    match margins(alloc, &design, &policy) {
         Err(MarginFault::Memory) => Err(AllocError.into()),
         found => Ok(found == *want),
     }
+}
+
+// The margin of these numbers.
+fn margin(units: i128, cost: i128) -> Result<Margin, MarginFault> {
+    Ok(Margin { units, cost })
 }
 
 // The fault of a policy whose slack is `num / den` in this row of this corner.
@@ -116,102 +136,107 @@ fn no_margin(corner: u32, row: u32, num: i128, den: i128) -> Result<Margin, Marg
     })
 }
 
-// The same for a design of one state and one plan entry, with the plans 0 and `num / den`.
-fn is_single(
-    alloc: Global,
-    text: &str,
-    num: i128,
-    den: i128,
-    want: &Result<Margin, MarginFault>,
-) -> Result<bool, Fail> {
-    let policy = policy(alloc, 1, &[1, den], &[&[0], &[num]])?;
-    is_margin(alloc, text, &policy, want)
-}
-
 #[test]
 fn first(rt: HostRuntime) -> Result<(), Fail> {
-    let want = Margin {
-        units: 8192,
-        cost: 1,
-    };
-    assert!(rt; is_single(rt.alloc(), DESIGN, -7, 8, &Ok(want))?);
+    assert!(rt; is_margin(rt.alloc(), DESIGN, PLANS, &margin(8192, 1))?);
     Ok(())
 }
 
 #[test]
 fn least(rt: HostRuntime) -> Result<(), Fail> {
-    let want = Margin { units: 1, cost: 1 };
-    assert!(rt; is_single(rt.alloc(), DESIGN, -65535, 65536, &Ok(want))?);
+    assert!(rt; is_margin(rt.alloc(), DESIGN, b"1,0\n65536,-65535\n", &margin(1, 1))?);
     Ok(())
 }
 
 #[test]
 fn below_the_least(rt: HostRuntime) -> Result<(), Fail> {
-    let want = no_margin(2, 2, 4, 524288);
-    assert!(rt; is_single(rt.alloc(), DESIGN, -131071, 131072, &want)?);
+    assert!(rt;
+        is_margin(
+            rt.alloc(),
+            DESIGN,
+            b"1,0\n131072,-131071\n",
+            &no_margin(2, 2, 4, 524288)
+        )?
+    );
     Ok(())
 }
 
 #[test]
 fn resting(rt: HostRuntime) -> Result<(), Fail> {
-    let want = Margin {
-        units: 16384,
-        cost: 0,
-    };
-    assert!(rt; is_single(rt.alloc(), RESTING, 0, 1, &Ok(want))?);
+    assert!(rt; is_margin(rt.alloc(), RESTING, b"1,0\n1,0\n", &margin(16384, 0))?);
     Ok(())
 }
 
 #[test]
 fn tight(rt: HostRuntime) -> Result<(), Fail> {
-    let want = no_margin(2, 3, 0, 32);
-    assert!(rt; is_single(rt.alloc(), TIGHT, -7, 8, &want)?);
+    assert!(rt; is_margin(rt.alloc(), TIGHT, PLANS, &no_margin(2, 3, 0, 32))?);
     Ok(())
 }
 
 #[test]
 fn wider(rt: HostRuntime) -> Result<(), Fail> {
-    let want = Margin {
-        units: 8192,
-        cost: 1,
-    };
-    assert!(rt; is_single(rt.alloc(), WIDER, -7, 8, &Ok(want))?);
+    assert!(rt; is_margin(rt.alloc(), WIDER, PLANS, &margin(8192, 1))?);
     Ok(())
 }
 
 #[test]
 fn satellite(rt: HostRuntime) -> Result<(), Fail> {
-    let resting = policy(
-        rt.alloc(),
-        5,
-        &[1; 4],
-        &[&[0; 5], &[0; 5], &[0; 5], &[0; 5]],
-    )?;
-    let want = Margin {
-        units: 65536,
-        cost: 159,
-    };
-    assert!(rt; is_margin(rt.alloc(), SATELLITE, &resting, &Ok(want))?);
+    assert!(rt; is_margin(rt.alloc(), SATELLITE, RESTING_PLANS, &margin(65536, 159))?);
     Ok(())
 }
 
-// A number of the prediction leaves its limit.
+// The corners of these are run in enclosures.
 #[test]
-fn too_wide(rt: HostRuntime) -> Result<(), Fail> {
-    let resting = policy(
-        rt.alloc(),
-        10,
-        &[1; 4],
-        &[&[0; 10], &[0; 10], &[0; 10], &[0; 10]],
-    )?;
-    let quantity = Quantity::Prediction;
+fn finer(rt: HostRuntime) -> Result<(), Fail> {
     assert!(rt;
         is_margin(
             rt.alloc(),
-            FINE,
-            &resting,
-            &Err(MarginFault::TooWide { quantity })
+            FINER,
+            b"1099511627776,0\n1099511627776,-962072674304\n",
+            &margin(8192, 1)
         )?
     );
+    Ok(())
+}
+
+// The true slack is a little over 4096 units, and the radius of the plan's entry takes it below.
+#[test]
+fn rounded(rt: HostRuntime) -> Result<(), Fail> {
+    assert!(rt;
+        is_margin(
+            rt.alloc(),
+            FINER,
+            b"1,0\n1099511627775,-1030792151039\n",
+            &margin(4095, 1)
+        )?
+    );
+    Ok(())
+}
+
+#[test]
+fn finer_below_the_least(rt: HostRuntime) -> Result<(), Fail> {
+    assert!(rt;
+        is_margin(
+            rt.alloc(),
+            FINER,
+            b"1,0\n1099511627776,-1099503239168\n",
+            &no_margin(2, 2, 33554432, 4398046511104)
+        )?
+    );
+    Ok(())
+}
+
+#[test]
+fn longer(rt: HostRuntime) -> Result<(), Fail> {
+    assert!(rt; is_margin(rt.alloc(), LONGER, LONGER_PLANS, &margin(65536, 487))?);
+    Ok(())
+}
+
+// A number of the prediction leaves its limit in enclosures too.
+#[test]
+fn too_wide(rt: HostRuntime) -> Result<(), Fail> {
+    let quantity = Quantity::Prediction;
+    let want = Err(MarginFault::TooWide { quantity });
+    assert!(rt; is_margin(rt.alloc(), GROWING, GROWING_PLANS, &want)?);
     Ok(())
 }

@@ -1,10 +1,11 @@
 // Expected values are those of bench/condense/expected.py.
+use crate::refusal::wide;
 use mat_int::Mat;
-use plant_condense::{CondenseFault, Condensed, condense_exact};
+use plant_condense::{Condensed, condense_exact};
 use qp_model::Quantity;
-use std::alloc::{AllocError, Global};
+use std::alloc::Global;
 use std::test::Fail;
-use worked_designs::{DESIGN, design};
+use worked_designs::{DESIGN, changed_design, design, has_rows};
 
 // The numbers of a form.
 #[derive(Drop)]
@@ -140,19 +141,6 @@ const STEEP_FORM: Form<'static> = Form {
     rows_size: 3626777458843887524118528,
 };
 
-// Whether a matrix has these rows.
-fn has_rows(mat: &Mat, rows: &[&[i128]]) -> bool {
-    if mat.rows() != rows.len() {
-        return false;
-    }
-    for i in 0..rows.len() {
-        if mat.row(i) != rows[i] {
-            return false;
-        }
-    }
-    true
-}
-
 fn has_cost(found: &Condensed, want: &Form) -> bool {
     has_rows(&found.hess, want.hess)
         && has_rows(&found.lin, want.lin)
@@ -232,23 +220,12 @@ fn form_with_the_greatest_denominators(rt: HostRuntime) -> Result<(), Fail> {
     Ok(())
 }
 
-// Each quantity at 2^126, and one above it.
+// A quantity at 2^126, and with one number greater by 1 above it.
 const DEEP: &str = "version = 1
 states = 1
 inputs = 1
 stages = 6
 plant = { den = 1, a = [[2097151]], b = [[1]] }
-cost = { den = 1, row_den = 1, input = [1], stage = [[1, 0, 1]], final = [] }
-limits = { den = 4, stage = [[0, 4, 4], [0, -4, 4]], final = [[4, 1]] }
-box = { grid = 0, lo = [0], hi = [1] }
-targets = { den = 1, violation = 16, gap = 16 }
-";
-
-const DEEPER: &str = "version = 1
-states = 1
-inputs = 1
-stages = 6
-plant = { den = 1, a = [[2097152]], b = [[1]] }
 cost = { den = 1, row_den = 1, input = [1], stage = [[1, 0, 1]], final = [] }
 limits = { den = 4, stage = [[0, 4, 4], [0, -4, 4]], final = [[4, 1]] }
 box = { grid = 0, lo = [0], hi = [1] }
@@ -267,17 +244,6 @@ box = { grid = 0, lo = [0], hi = [1] }
 targets = { den = 1, violation = 16, gap = 16 }
 ";
 
-const WIDER: &str = "version = 1
-states = 1
-inputs = 2
-stages = 1
-plant = { den = 1, a = [[1073741823]], b = [[1, 0]] }
-cost = { den = 1, row_den = 1048576, input = [2097152, 2097152], stage = [], final = [] }
-limits = { den = 1, stage = [], final = [[0, 1]] }
-box = { grid = 0, lo = [0], hi = [1] }
-targets = { den = 1, violation = 16, gap = 16 }
-";
-
 const LONG: &str = "version = 1
 states = 1
 inputs = 2
@@ -289,59 +255,44 @@ box = { grid = 0, lo = [0], hi = [1] }
 targets = { den = 1, violation = 16, gap = 16 }
 ";
 
-const LONGER: &str = "version = 1
-states = 1
-inputs = 2
-stages = 1
-plant = { den = 1, a = [[2147483647]], b = [[0, 1]] }
-cost = { den = 1, row_den = 1, input = [1, 1], stage = [], final = [] }
-limits = { den = 1, stage = [[2147483646, 1, 0, 2]], final = [] }
-box = { grid = 0, lo = [0], hi = [1] }
-targets = { den = 1, violation = 16, gap = 16 }
-";
-
-// The quantity by which a design is too wide, if any.
-fn wide(alloc: Global, text: &str) -> Result<Option<Quantity>, Fail> {
-    let design = design(alloc, text)?;
-    match condense_exact(alloc, &design) {
-        Ok(_) => Ok(None),
-        Err(CondenseFault::TooWide { quantity }) => Ok(Some(quantity)),
-        Err(CondenseFault::Memory) => Err(AllocError.into()),
-    }
+// The quantity by which a design is too wide, if any, with one part of its text in another's place.
+fn wide_with(alloc: Global, text: &str, old: &str, new: &str) -> Result<Option<Quantity>, Fail> {
+    let design = changed_design(alloc, text, old, new)?;
+    Ok(wide(condense_exact(alloc, &design))?)
 }
 
 #[test]
 fn prediction_within(rt: HostRuntime) -> Result<(), Fail> {
-    assert!(rt; wide(rt.alloc(), DEEP)? == Some(Quantity::Hessian));
+    assert!(rt; wide_with(rt.alloc(), DEEP, "2097151", "2097151")? == Some(Quantity::Hessian));
     Ok(())
 }
 
 #[test]
 fn wide_prediction(rt: HostRuntime) -> Result<(), Fail> {
-    assert!(rt; wide(rt.alloc(), DEEPER)? == Some(Quantity::Prediction));
+    assert!(rt; wide_with(rt.alloc(), DEEP, "2097151", "2097152")? == Some(Quantity::Prediction));
     Ok(())
 }
 
 #[test]
 fn hessian_within(rt: HostRuntime) -> Result<(), Fail> {
-    assert!(rt; wide(rt.alloc(), WIDE)?.is_none());
+    assert!(rt; wide_with(rt.alloc(), WIDE, "2097151", "2097151")?.is_none());
     Ok(())
 }
 
 #[test]
 fn wide_hessian(rt: HostRuntime) -> Result<(), Fail> {
-    assert!(rt; wide(rt.alloc(), WIDER)? == Some(Quantity::Hessian));
+    assert!(rt; wide_with(rt.alloc(), WIDE, "2097151", "2097152")? == Some(Quantity::Hessian));
     Ok(())
 }
 
 #[test]
 fn rows_within(rt: HostRuntime) -> Result<(), Fail> {
-    assert!(rt; wide(rt.alloc(), LONG)?.is_none());
+    assert!(rt; wide_with(rt.alloc(), LONG, "1, 0, 1]]", "1, 0, 1]]")?.is_none());
     Ok(())
 }
 
 #[test]
 fn wide_rows(rt: HostRuntime) -> Result<(), Fail> {
-    assert!(rt; wide(rt.alloc(), LONGER)? == Some(Quantity::Rows));
+    assert!(rt; wide_with(rt.alloc(), LONG, "1, 0, 1]]", "1, 0, 2]]")? == Some(Quantity::Rows));
     Ok(())
 }

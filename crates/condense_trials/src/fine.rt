@@ -1,11 +1,11 @@
 // Expected values are those of another program, in exact whole numbers.
+use crate::refusal::wide;
 use fine_condense::condense_fine;
-use mat_int::Mat;
-use plant_condense::{CondenseFault, Condensed};
+use plant_condense::Condensed;
 use qp_model::Quantity;
-use std::alloc::{AllocError, Global};
+use std::alloc::Global;
 use std::test::Fail;
-use worked_designs::design;
+use worked_designs::{changed_design, design, has_rows};
 
 // x+ = (2 x - u) / 3
 const THIRD: &str = "version = 1
@@ -31,57 +31,10 @@ box = { grid = 0, lo = [0, 0], hi = [1, 1] }
 targets = { den = 1, violation = 16, gap = 16 }
 ";
 
-// `THIRD` with one number at its greatest.
-const STEEP: &str = "version = 1
-states = 1
-inputs = 1
-stages = 2
-plant = { den = 1, a = [[2147483647]], b = [[-1]] }
-cost = { den = 2, row_den = 5, input = [3], stage = [[4, 7, 6]], final = [[-2, 1, 9]] }
-limits = { den = 4, stage = [[1, -3, 5]], final = [[7, 2]] }
-box = { grid = 0, lo = [0], hi = [1] }
-targets = { den = 1, violation = 16, gap = 16 }
-";
-
-const DEAR: &str = "version = 1
-states = 1
-inputs = 1
-stages = 2
-plant = { den = 3, a = [[2]], b = [[-1]] }
-cost = { den = 2, row_den = 5, input = [3], stage = [[2147483647, 0, 1]], final = [[-2, 1, 9]] }
-limits = { den = 4, stage = [[1, -3, 5]], final = [[7, 2]] }
-box = { grid = 0, lo = [0], hi = [1] }
-targets = { den = 1, violation = 16, gap = 16 }
-";
-
-const TIGHT: &str = "version = 1
-states = 1
-inputs = 1
-stages = 2
-plant = { den = 3, a = [[2]], b = [[-1]] }
-cost = { den = 2, row_den = 5, input = [3], stage = [[4, 7, 6]], final = [[-2, 1, 9]] }
-limits = { den = 4, stage = [[2147483647, 0, 1]], final = [[7, 2]] }
-box = { grid = 0, lo = [0], hi = [1] }
-targets = { den = 1, violation = 16, gap = 16 }
-";
-
 // The condensed form of a design.
 fn condensed(alloc: Global, text: &str) -> Result<Condensed, Fail> {
     let design = design(alloc, text)?;
     Ok(condense_fine(alloc, &design)?)
-}
-
-// Whether a matrix has these rows.
-fn has_rows(mat: &Mat, rows: &[&[i128]]) -> bool {
-    if mat.rows() != rows.len() {
-        return false;
-    }
-    for i in 0..rows.len() {
-        if mat.row(i) != rows[i] {
-            return false;
-        }
-    }
-    true
 }
 
 // Whether the condensed cost of `THIRD` is the one that it has.
@@ -175,36 +128,42 @@ fn crossed(rt: HostRuntime) -> Result<(), Fail> {
     Ok(())
 }
 
-// The quantity by which a design is too wide, if any.
-fn wide(alloc: Global, text: &str) -> Result<Option<Quantity>, Fail> {
-    let design = design(alloc, text)?;
-    match condense_fine(alloc, &design) {
-        Ok(_) => Ok(None),
-        Err(CondenseFault::TooWide { quantity }) => Ok(Some(quantity)),
-        Err(CondenseFault::Memory) => Err(AllocError.into()),
-    }
+// The quantity by which `THIRD` is too wide, if any, with one part of its text in another's place.
+fn wide_with(alloc: Global, old: &str, new: &str) -> Result<Option<Quantity>, Fail> {
+    let design = changed_design(alloc, THIRD, old, new)?;
+    Ok(wide(condense_fine(alloc, &design))?)
 }
 
 #[test]
 fn wide_prediction(rt: HostRuntime) -> Result<(), Fail> {
-    assert!(rt; wide(rt.alloc(), STEEP)? == Some(Quantity::Prediction));
+    assert!(rt;
+        wide_with(
+            rt.alloc(),
+            "den = 3, a = [[2]]",
+            "den = 1, a = [[2147483647]]"
+        )? == Some(Quantity::Prediction)
+    );
     Ok(())
 }
 
 #[test]
 fn wide_hessian(rt: HostRuntime) -> Result<(), Fail> {
-    assert!(rt; wide(rt.alloc(), DEAR)? == Some(Quantity::Hessian));
+    assert!(rt;
+        wide_with(rt.alloc(), "[[4, 7, 6]]", "[[2147483647, 0, 1]]")? == Some(Quantity::Hessian)
+    );
     Ok(())
 }
 
 #[test]
 fn wide_rows(rt: HostRuntime) -> Result<(), Fail> {
-    assert!(rt; wide(rt.alloc(), TIGHT)? == Some(Quantity::Rows));
+    assert!(rt;
+        wide_with(rt.alloc(), "[[1, -3, 5]]", "[[2147483647, 0, 1]]")? == Some(Quantity::Rows)
+    );
     Ok(())
 }
 
 #[test]
 fn within(rt: HostRuntime) -> Result<(), Fail> {
-    assert!(rt; wide(rt.alloc(), THIRD)?.is_none());
+    assert!(rt; wide_with(rt.alloc(), "[[2]]", "[[2]]")?.is_none());
     Ok(())
 }

@@ -9,3 +9,5 @@ mod corners;
 mod exact;
 #[cfg(test)]
 mod fine;
+#[cfg(test)]
+mod refusal;

@@ -15,6 +15,3 @@ pub use bad_controller::BadController;
 pub use laws::{one_controller_law, prefix_law};
 pub use reader::read_controller;
 pub use writer::write_controller;
-
-#[cfg(test)]
-mod tests;

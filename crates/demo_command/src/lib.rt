@@ -6,6 +6,3 @@ mod inputs;
 mod printing;
 
 pub use command::demo;
-
-#[cfg(test)]
-mod tests;

@@ -7,6 +7,3 @@ mod numbers;
 mod places;
 
 pub use places::read_design;
-
-#[cfg(test)]
-mod tests;

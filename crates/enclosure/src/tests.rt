@@ -173,9 +173,33 @@ fn matrix(
     Ok(made)
 }
 
+// The entries of a matrix of two rows and two columns.
+fn entries(rt: &impl Abort, made: &EncMat) -> [[(i128, i128); 2]; 2] {
+    assert!(rt; made.mid.rows() == 2 && made.mid.cols() == 2);
+    [
+        [numbers(made.at(0, 0)), numbers(made.at(0, 1))],
+        [numbers(made.at(1, 0)), numbers(made.at(1, 1))],
+    ]
+}
+
+// The weighted products of two columns of two. None where one is above the limit.
+fn products_of_columns(
+    rt: &impl Abort,
+    alloc: Global,
+    rows: [[(i128, i128); 2]; 2],
+    weights: [i128; 2],
+) -> Result<Option<[[(i128, i128); 2]; 2]>, AllocError> {
+    let x = matrix(rt, alloc, rows)?;
+    assert!(rt; x.mid.rows() == 2 && 0 <= weights[0] && 0 <= weights[1]);
+    match gram(alloc, &x, &weights) {
+        Ok(made) => Ok(Some(entries(rt, &made))),
+        Err(MatFault::Wide) => Ok(None),
+        Err(MatFault::Memory) => Err(AllocError),
+    }
+}
+
 #[test]
 fn grams(rt: HostRuntime) -> Result<(), Fail> {
-    let alloc = rt.alloc();
     for (rows, weights, made) in [
         (
             [[(SCALE, 0), (SCALE / 2, 1)], [(-3 * SCALE, 2), (7, 0)]],
@@ -199,24 +223,7 @@ fn grams(rt: HostRuntime) -> Result<(), Fail> {
         ([[(ROOT / 2, 0), (0, ROOT)], [(0, 0), (1, 0)]], [1, 1], None),
         ([[(0, 0), (0, ROOT)], [(0, 0), (0, 0)]], [2, 1], None),
     ] {
-        let x = matrix(&rt, alloc, rows)?;
-        assert!(rt; x.mid.rows() == 2 && 0 <= weights[0] && 0 <= weights[1]);
-        match (gram(alloc, &x, &weights), made) {
-            (Ok(got), Some(want)) => expect_entries(&rt, &got, want),
-            (got, want) => {
-                assert!(rt; want.is_none());
-                assert_eq!(rt; got.err(), Some(MatFault::Wide));
-            }
-        }
+        assert_eq!(rt; products_of_columns(&rt, rt.alloc(), rows, weights)?, made);
     }
     Ok(())
-}
-
-fn expect_entries(rt: &impl Abort, got: &EncMat, want: [[(i128, i128); 2]; 2]) {
-    for j in 0..2 {
-        for l in 0..2 {
-            assert!(rt; j < got.mid.rows() && l < got.mid.cols());
-            assert_eq!(rt; numbers(got.at(j, l)), want[j][l], "entry {j} {l}");
-        }
-    }
 }

@@ -22,6 +22,10 @@ abbrev pub spans_of : Numbers → Spans
 spans_of c = record { state = state_span c; multipliers = multipliers_span c; plan = plan_span c; sums = sums_span c }
 
 -- ---- what they hold
+-- what the machine has made, from its parts
+abbrev pub made_of : (plan multipliers sums : List ℤ) → Iterate
+made_of plan multipliers sums = record { plan = plan; multipliers = multipliers; sums = sums }
+
 -- the words of a state over 2^fraction_bits and of what the machine has made from it
 abbrev pub words_of : List ℤ → Iterate → List ℤ
 words_of state made = state ++ (made.multipliers ++ (made.plan ++ made.sums))

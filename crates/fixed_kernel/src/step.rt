@@ -6,7 +6,7 @@ ghost use Rattle.qp_model.specs.Machine.{plan_entry, plan_of, next_multiplier, n
 ghost use Rattle.qp_model.specs.AbsoluteSums.{IsController, clamp_magnitudes, state_magnitudes, plan_magnitudes};
 ghost use Rattle.qp_model.specs.Within.{AreWithin};
 ghost use Rattle.fixed_kernel.specs.Factors.{HasNarrowFactors};
-ghost use Rattle.fixed_kernel.specs.Spans.{words_of, state_in, made_in};
+ghost use Rattle.fixed_kernel.specs.Spans.{words_of, made_of, state_in, made_in};
 ghost use Rattle.fixed_kernel.specs.Ready.{IsReadyToStep};
 
 use crate::entry::{entry_from, multiplier_from, short_shift};
@@ -117,8 +117,8 @@ fn make_step(
 )
     requires sound { IsController (numbers c.now) }
     requires narrow { IsTrue narrow → HasNarrowFactors (numbers c.now) }
-    requires ready { IsReadyToStep (numbers c.now) state.now (record { plan = plan.old; multipliers = multipliers.old; sums = sums.old }) }
-    ensures { record { plan = plan.new; multipliers = multipliers.new; sums = sums.new } ≡ step_of (numbers c.now) state.now (record { plan = plan.old; multipliers = multipliers.old; sums = sums.old }) }
+    requires ready { IsReadyToStep (numbers c.now) state.now (made_of plan.old multipliers.old sums.old) }
+    ensures { made_of plan.new multipliers.new sums.new ≡ step_of (numbers c.now) state.now (made_of plan.old multipliers.old sums.old) }
 {
     make_plan(c, narrow, state, multipliers, plan);
     move_multipliers(c, narrow, state, plan, multipliers);

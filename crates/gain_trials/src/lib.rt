@@ -1,4 +1,4 @@
-//! Trials of the gains, of the rounding errors and of the choice of the bits, on worked designs.
+//! Trials of the gains, of the rounding errors, stated and real, and of the choice of the bits, on worked designs.
 #![tactic(auto)]
 
 #[cfg(test)]
@@ -7,3 +7,5 @@ mod bits;
 mod errors;
 #[cfg(test)]
 mod gains;
+#[cfg(test)]
+mod real;

@@ -7,6 +7,3 @@ mod texts;
 
 pub use command::generate;
 pub use made::make_controller;
-
-#[cfg(test)]
-mod tests;

@@ -162,7 +162,7 @@ impl Write for SlowWriter {
 #[test]
 fn slow_writer(rt: HostRuntime) -> Result<(), Fail> {
     let mut to = SlowWriter {
-        got: Vec::new(rt.alloc()),
+        got: Vec::with_capacity(rt.alloc(), 10)?,
     };
     let written = write_to_end(&mut to, b"0123456789");
     assert_eq!(rt;

@@ -7,6 +7,3 @@ mod mismatch;
 mod records;
 
 pub use command::run_loops;
-
-#[cfg(test)]
-mod tests;

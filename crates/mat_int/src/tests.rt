@@ -110,10 +110,47 @@ fn column_products(rt: HostRuntime) -> Result<(), Fail> {
     Ok(())
 }
 
+// The only entry of a product. None where it is wide.
+fn only_entry(rt: &impl Abort, made: Result<Mat, MatFault>) -> Result<Option<i128>, AllocError> {
+    match made {
+        Ok(product) => {
+            assert!(rt; product.rows() == 1 && product.cols() == 1);
+            Ok(Some(product.at(0, 0)))
+        }
+        Err(MatFault::Wide) => Ok(None),
+        Err(MatFault::Memory) => Err(AllocError),
+    }
+}
+
+// The product of a row and a column of two numbers. None where it is wide.
+fn product(
+    rt: &impl Abort,
+    alloc: Global,
+    left: [i128; 2],
+    right: [i128; 2],
+) -> Result<Option<i128>, AllocError> {
+    let row = matrix(rt, alloc, 2, &[&left])?;
+    let column = matrix(rt, alloc, 1, &[&[right[0]], &[right[1]]])?;
+    assert!(rt; row.cols() == column.rows());
+    only_entry(rt, mul(alloc, &row, &column))
+}
+
+// The same, as `times_vec` makes it.
+fn row_times(
+    rt: &impl Abort,
+    alloc: Global,
+    left: [i128; 2],
+    right: [i128; 2],
+) -> Result<Option<i128>, AllocError> {
+    let row = matrix(rt, alloc, 2, &[&left])?;
+    let mut out = [0];
+    assert!(rt; row.rows() == 1 && row.cols() == 2);
+    Ok(times_vec(&row, &right, &mut out).map(|_| out[0]))
+}
+
 // The last sums that fit, and those one above, also where the products cancel.
 #[test]
 fn last_products(rt: HostRuntime) -> Result<(), Fail> {
-    let alloc = rt.alloc();
     for (left, right, value) in [
         ([HALF, 1], [1, HALF - 1], Some(MAX)),
         ([HALF, 1], [1, HALF], None),
@@ -122,23 +159,9 @@ fn last_products(rt: HostRuntime) -> Result<(), Fail> {
         ([MAX, 0], [-1, MIN], Some(-MAX)),
         ([MIN, 0], [1, 0], None),
     ] {
-        let row = matrix(&rt, alloc, 2, &[&left])?;
-        let column = matrix(&rt, alloc, 1, &[&[right[0]], &[right[1]]])?;
-        assert!(rt; row.cols() == 2 && column.rows() == 2);
         assert_eq!(rt; try_dot(&left, &right), value);
-        let mut out = [0];
-        assert!(rt; row.rows() == 1);
-        assert_eq!(rt; times_vec(&row, &right, &mut out), value.map(|_| ()));
-        match (mul(alloc, &row, &column), value) {
-            (Ok(product), Some(v)) => {
-                assert_eq!(rt; out, [v]);
-                expect_rows(&rt, &product, 1, &[&[v]]);
-            }
-            (got, want) => {
-                assert!(rt; want.is_none());
-                assert_eq!(rt; got.err(), Some(MatFault::Wide));
-            }
-        }
+        assert_eq!(rt; row_times(&rt, rt.alloc(), left, right)?, value);
+        assert_eq!(rt; product(&rt, rt.alloc(), left, right)?, value);
     }
     Ok(())
 }
@@ -151,13 +174,9 @@ fn squares(
     weights: [i128; 2],
 ) -> Result<Option<i128>, AllocError> {
     let g = matrix(rt, alloc, 1, &[&[column[0]], &[column[1]]])?;
-    assert!(rt; g.rows() == 2 && g.cols() == 1);
+    assert!(rt; g.rows() == 2);
     assert!(rt; 0 <= weights[0] && 0 <= weights[1]);
-    match gram(alloc, &g, &weights) {
-        Ok(made) => Ok(Some(made.at(0, 0))),
-        Err(MatFault::Wide) => Ok(None),
-        Err(MatFault::Memory) => Err(AllocError),
-    }
+    only_entry(rt, gram(alloc, &g, &weights))
 }
 
 // The last sum that fits, the one above it, and numbers that have no room with their weight.

@@ -2,19 +2,8 @@
 use crate::command::run;
 use command_line::{Status, status_line};
 use io_edge::{MemSink, MemStore, ReadRefusal, Words};
-use std::alloc::Global;
+use std::alloc::{AllocError, Global};
 use std::test::Fail;
-
-pub const DESIGN: &str =
-    "version = 1\nstates = 1\ninputs = 1\nstages = 1\n[plant]\nden = 1\na = [[1]]\nb = [[1]]\n[cost]\nden = 1\nrow_den = 1\ninput = [1]\nstage = [[1, 0, 1]]\nfinal = []\n[limits]\nden = 4\nstage = [[0, 4, 4], [0, -4, 4]]\nfinal = [[4, 1]]\n[box]\ngrid = 0\nlo = [0]\nhi = [1]\n[targets]\nden = 1\nviolation = 16\ngap = 1\n";
-
-pub const POLICY: &str = "1,0\n8,-7\n";
-
-pub const CONTROLLER: &str =
-    "mpc-controller 1\nsize 1 1 1 3\nbits 10 0 1 26\nsteps 4\nclamp 32768\nwords 6\nlo 0\nhi 1\nP 512\nT 0\nW 256 -256 256\nG 1024\nG -1024\nG 1024\nE 0\nE 0\nE 1024\nb 1024 1024 256\nend\n";
-
-pub const REPORT: &str =
-    "mpc-report 1\nmargin 8192 65536\ncost 1\nmultiplier 8\nstep 1\nsteps 4\nbits 10\nwidth 26\nwords 6\nviolation 8896659849216 1099511627776\ngap 804534616064 1099511627776\nundercut 71173278793728 1099511627776\nend\n";
 
 /// The bytes that are read or written in one run, with room for any text of the tables.
 pub const ROOM: usize = 65536;
@@ -71,7 +60,7 @@ pub fn store_of(
     Ok(store)
 }
 
-/// Runs over a store, in which a call fails, and an output.
+/// Runs over a store, in which a call fails, and an output; an error where the program is out of memory, so that no test takes that for a wrong answer.
 pub fn left_by(
     alloc: Global,
     arguments: &str,
@@ -83,6 +72,9 @@ pub fn left_by(
     let mut out = MemSink::with(alloc, ROOM, &[fails.put])?;
     let words = words_of(alloc, arguments)?;
     let status: Status = run(alloc, &words, store, &mut out);
+    if status == Status::Memory {
+        return Err(AllocError.into());
+    }
     Ok(Left {
         line: status_line(alloc, &status)?,
         printed: out.seen().to_vec(alloc)?,
@@ -94,7 +86,7 @@ pub fn held(alloc: Global, store: &mut MemStore, name: &str) -> Result<Vec<u8>, 
     match store.read(alloc, name, ROOM) {
         Ok(bytes) => Ok(bytes),
         Err(ReadRefusal::Failed) => Ok(Vec::new(alloc)),
-        Err(_) => Err("not read".into()),
+        Err(refusal) => Err(refusal.into()),
     }
 }
 

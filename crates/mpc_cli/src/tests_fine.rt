@@ -38,7 +38,7 @@ fn two_stages(rt: HostRuntime) -> Result<(), Fail> {
 fn wide_comparison(rt: HostRuntime) -> Result<(), Fail> {
     let design =
         "version = 1\nstates = 1\ninputs = 1\nstages = 3\n[plant]\nden = 262144\na = [[131072]]\nb = [[131072]]\n[cost]\nden = 256\nrow_den = 1\ninput = [256]\nstage = [[1, 0, 256]]\nfinal = []\n[limits]\nden = 1048576\nstage = [[0, 1, 1048576]]\nfinal = []\n[box]\ngrid = 0\nlo = [0]\nhi = [1]\n[targets]\nden = 1\nviolation = 16\ngap = 1\n";
-    let report = "violation 2921248849920 1099511627776\ngap 722225594368 1099511627776\n";
+    let report = "violation 2383841067008 1099511627776\ngap 184817811456 1099511627776\n";
     assert!(rt;
         writes(
             rt.alloc(),

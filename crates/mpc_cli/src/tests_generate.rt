@@ -1,10 +1,9 @@
 // `generate`: what it refuses, what it writes, and calls that fail.
-use crate::tests::{
-    CONTROLLER, DESIGN, Fails, NONE, POLICY, REPORT, changed, held, left_by, store_of,
-};
+use crate::tests::{Fails, NONE, changed, held, left_by, store_of};
 use io_edge::MemStore;
 use std::alloc::Global;
 use std::test::Fail;
+use worked_designs::{CONTROLLER, DESIGN, POLICY, REPORT};
 
 const RUN: &str = "generate d p out r";
 
@@ -209,7 +208,7 @@ fn changed_designs(rt: HostRuntime) -> Result<(), Fail> {
             ),
             policy: "1,0\n8,-7\n",
             controller: "\nclamp 65536\n",
-            report: "\nsteps 641\nbits 11\nwidth 28\nwords 6\nviolation 104996020212 1099511627776\ngap 400849633280 1099511627776\n",
+            report: "\nsteps 641\nbits 11\nwidth 28\nwords 6\nviolation 82270494708 1099511627776\ngap 219045429248 1099511627776\n",
         },
         Made {
             design: ("grid = 0", "grid = 0"),
@@ -221,7 +220,7 @@ fn changed_designs(rt: HostRuntime) -> Result<(), Fail> {
             design: ("hi = [1]", "hi = [0]"),
             policy: "1,0\n1,0\n",
             controller: "\nP 16\nT 0\nW 8 -8 8\n",
-            report: "\nmargin 16384 65536\ncost 0\nmultiplier 1\nstep 1\nsteps 1\nbits 5\nwidth 13\nwords 6\nviolation 5396626407424 1099511627776\ngap 998579896320 1099511627776\nundercut 5396626407424 1099511627776\n",
+            report: "\nmargin 16384 65536\ncost 0\nmultiplier 1\nstep 1\nsteps 1\nbits 5\nwidth 13\nwords 6\nviolation 4922032521216 1099511627776\ngap 523986010112 1099511627776\nundercut 4922032521216 1099511627776\n",
         },
         Made {
             design: ("[0, -4, 4]]", "[0, -4, 4], [4, 0, 5]]"),
@@ -285,7 +284,7 @@ fn two_states(rt: HostRuntime) -> Result<(), Fail> {
     let controller =
         "mpc-controller 1\nsize 2 2 1 6\nbits 13 1 1 33\nsteps 88\nclamp 360448\nwords 12\nlo -2 -2\nhi 2 2\nP 4096 2048\nP 0 3277\nT 0 -3277\nW 2048 -2048 0 0 2048 -2048\nW 0 0 819 -819 0 0\nG 8192 0\nG -8192 0\nG 0 8192\nG 0 -8192\nG 8192 0\nG -8192 0\nE 0 0\nE 0 0\nE 0 0\nE 0 0\nE 8192 4096\nE -8192 -4096\nb 8192 8192 8192 8192 32768 32768\nend\n";
     let report =
-        "mpc-report 1\nmargin 65536 65536\ncost 11\nmultiplier 11\nstep 1\nsteps 88\nbits 13\nwidth 33\nwords 12\nviolation 673373044736 1099511627776\ngap 1359789539328 1099511627776\nundercut 7407103492096 1099511627776\nend\n";
+        "mpc-report 1\nmargin 65536 65536\ncost 11\nmultiplier 11\nstep 1\nsteps 88\nbits 13\nwidth 33\nwords 12\nviolation 590834198715 1099511627776\ngap 451862233088 1099511627776\nundercut 6499176185865 1099511627776\nend\n";
     assert!(rt; generates(rt.alloc(), design, policy, "", controller, report)?);
     Ok(())
 }
@@ -299,7 +298,7 @@ fn three_states(rt: HostRuntime) -> Result<(), Fail> {
     let controller =
         "mpc-controller 1\nsize 3 1 1 3\nbits 10 0 0 25\nsteps 56\nclamp 28672\nwords 8\nlo -1 -1 -1\nhi 1 1 1\nP 0 512 384\nT -256\nW 128 -128 128\nG 1024\nG -1024\nG 1024\nE 0 0 0\nE 0 0 0\nE 0 0 512\nb 1024 1024 3072\nend\n";
     let report =
-        "mpc-report 1\nmargin 65536 65536\ncost 14\nmultiplier 14\nstep 0\nsteps 56\nbits 10\nwidth 25\nwords 8\nviolation 655261733450 1099511627776\ngap 1477082873856 1099511627776\nundercut 9173664268300 1099511627776\nend\n";
+        "mpc-report 1\nmargin 65536 65536\ncost 14\nmultiplier 14\nstep 0\nsteps 56\nbits 10\nwidth 25\nwords 8\nviolation 607739070757 1099511627776\ngap 811765596160 1099511627776\nundercut 8508346990598 1099511627776\nend\n";
     assert!(rt; generates(rt.alloc(), design, policy, "", controller, report)?);
     Ok(())
 }
@@ -314,7 +313,7 @@ fn four_states(rt: HostRuntime) -> Result<(), Fail> {
     let controller =
         "mpc-controller 1\nsize 4 2 1 4\nbits 10 0 0 25\nsteps 20\nclamp 10240\nwords 12\nlo -1 -1 0 -1\nhi 1 1 1 1\nP 0 512 0 0\nP 0 0 0 512\nT 0 0\nW 256 0 256 0\nW 0 -256 0 -256\nG 1024 0\nG 0 -1024\nG 1024 0\nG 0 -1024\nE 0 0 0 0\nE 0 0 0 0\nE 0 1024 0 0\nE 0 0 0 -1024\nb 1024 1024 3072 3072\nend\n";
     let report =
-        "mpc-report 1\nmargin 65536 65536\ncost 5\nmultiplier 5\nstep 0\nsteps 20\nbits 10\nwidth 25\nwords 12\nviolation 787832058676 1099511627776\ngap 1190381223936 1099511627776\nundercut 3939160293380 1099511627776\nend\n";
+        "mpc-report 1\nmargin 65536 65536\ncost 5\nmultiplier 5\nstep 0\nsteps 20\nbits 10\nwidth 25\nwords 12\nviolation 631363547956 1099511627776\ngap 408038670336 1099511627776\nundercut 3156817739780 1099511627776\nend\n";
     assert!(rt; generates(rt.alloc(), design, policy, "", controller, report)?);
     Ok(())
 }
@@ -326,7 +325,7 @@ fn json_report(rt: HostRuntime) -> Result<(), Fail> {
     let mut store = store_of(alloc, DESIGN, POLICY, "", "")?;
     let left = left_by(alloc, "generate d p out r.json", &mut store, &NONE)?;
     let report =
-        "{\"bits\":\"10\",\"cost\":\"1\",\"gap\":\"804534616064\",\"margin\":\"8192\",\"multiplier\":\"8\",\"step\":\"1\",\"steps\":\"4\",\"undercut\":\"71173278793728\",\"version\":\"1\",\"violation\":\"8896659849216\",\"width\":\"26\",\"words\":\"6\"}\n";
+        "{\"bits\":\"10\",\"cost\":\"1\",\"gap\":\"438095052800\",\"margin\":\"8192\",\"multiplier\":\"8\",\"step\":\"1\",\"steps\":\"4\",\"undercut\":\"70806839230464\",\"version\":\"1\",\"violation\":\"8850854903808\",\"width\":\"26\",\"words\":\"6\"}\n";
     assert!(rt;
         left.line.is_empty() && held(alloc, &mut store, "r.json")?.as_slice() == report.as_bytes()
     );

@@ -1,8 +1,9 @@
 // `solve`, `loop` and `demo`, and arguments that are none.
-use crate::tests::{CONTROLLER, DESIGN, Fails, NONE, POLICY, changed, left_by, store_of};
+use crate::tests::{Fails, NONE, changed, left_by, store_of};
 use io_edge::MemStore;
 use std::alloc::Global;
 use std::test::Fail;
+use worked_designs::{CONTROLLER, DEMO_OF_SEVEN, DESIGN, POLICY};
 
 // A run: the arguments, what is changed in the design and the controller, the states, the answer's line and what is printed.
 #[derive(Drop)]
@@ -675,10 +676,6 @@ fn faults(rt: HostRuntime) -> Result<(), Fail> {
     Ok(())
 }
 
-// What `demo 7` prints, from the model in exact fractions: a report of 209 bytes, and four lines.
-const DEMO: &str =
-    "mpc-report 1\nmargin 16384 65536\ncost 63\nmultiplier 252\nstep 1\nsteps 8064\nbits 31\nwidth 73\nwords 78\nviolation 140387641438 1099511627776\ngap 743069367421 1099511627776\nundercut 35377685642376 1099511627776\nend\n17317308137472 7263807345963 17331305367316 986525326301 17319796755491 -1659324381987 16285107482136 -2679637787082 15451187731935 -3073655857193 15092040554849 -3220531605651 14097620001560\n17317308137472 -1343041153994 17320181266648 -2205020446204 15993467770692 -2823450524125 15362645348508 -3059813594971 15170577159131 -3194939595885 15003894286892 -3256095330405 14072863555167\n17317308137472 2730593652673 17320896598117 -1107518991629 16682424872095 -2481609138026 15606315313892 -2950712766347 15249787129102 -3160256007815 15029036745528 -3245930592177 14079936222543\n17317308137472 -5617287430405 12989677374963 -3776670931370 14392546309353 -3298419508458 14904863184619 -3196546284766 15041542201861 -3234362528561 14977476427602 -3267467681498 14065055949064\n";
-
 // Whether `demo 7` prints the first bytes of its text where a print fails, and ends with this line.
 fn prints(alloc: Global, put: usize, count: usize, line: &str) -> Result<bool, Fail> {
     let mut store = MemStore::empty(alloc);
@@ -689,7 +686,7 @@ fn prints(alloc: Global, put: usize, count: usize, line: &str) -> Result<bool, F
         put,
     };
     let left = left_by(alloc, "demo 7", &mut store, &fails)?;
-    let printed = DEMO.get(..count).ok_or("long")?;
+    let printed = DEMO_OF_SEVEN.get(..count).ok_or("long")?;
     Ok(left.line.as_slice() == line.as_bytes() && left.printed.as_slice() == printed.as_bytes())
 }
 
@@ -697,12 +694,12 @@ fn prints(alloc: Global, put: usize, count: usize, line: &str) -> Result<bool, F
 #[test]
 fn demo_seven(rt: HostRuntime) -> Result<(), Fail> {
     let cases = [
-        (9, 985, ""),
+        (9, 984, ""),
         (1, 0, "error 4 write-fault 0\n"),
-        (2, 209, "error 4 write-fault 0\n"),
-        (3, 401, "error 4 write-fault 0\n"),
-        (4, 596, "error 4 write-fault 0\n"),
-        (5, 790, "error 4 write-fault 0\n"),
+        (2, 208, "error 4 write-fault 0\n"),
+        (3, 400, "error 4 write-fault 0\n"),
+        (4, 595, "error 4 write-fault 0\n"),
+        (5, 789, "error 4 write-fault 0\n"),
     ];
     for (put, count, line) in cases {
         assert!(rt; prints(rt.alloc(), put, count, line)?);

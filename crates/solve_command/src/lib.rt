@@ -7,6 +7,3 @@ mod runs;
 
 pub use command::solve;
 pub use lines::print_lines;
-
-#[cfg(test)]
-mod tests;

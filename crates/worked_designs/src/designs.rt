@@ -1,9 +1,27 @@
-// A design from a text.
+// Designs from texts.
+ghost use Rattle.std.specs.Prelude.{◌≡◌, ◌⊎◌, IfOk, IfErr};
+ghost use Rattle.qp_model.specs.declared.text_fault.TextFault.{TextFault};
+ghost use Rattle.design_files.specs.DesignText.{IsDesignText, IsDesignFault};
+
 use design_files::read_design;
 use qp_model::{Design, TextFault};
 use std::alloc::Global;
 
 /// The design that a text writes, or the text's first fault.
-pub fn design(alloc: Global, text: &str) -> Result<Design, TextFault> {
+pub fn design(alloc: Global, text: &str) -> Result<Design, TextFault>
+    ensures written { IfOk result (λ design. IsDesignText text.now design) }
+    ensures fault { IfErr result (λ fault. (fault ≡ TextFault.Memory) ⊎ IsDesignFault text.now fault) }
+{
     read_design(alloc, text.as_bytes())
+}
+
+/// The design of a text in which `new` stands for the first `old`.
+pub fn changed_design(
+    alloc: Global,
+    text: &str,
+    old: &str,
+    new: &str,
+) -> Result<Design, TextFault> {
+    let changed = text.replacen(alloc, old, new, 1)?;
+    design(alloc, &changed)
 }

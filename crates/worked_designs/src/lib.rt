@@ -1,11 +1,15 @@
-//! The texts of the worked designs, for the tests.
+//! What the tests share: the texts of the worked designs and their controllers, and how they are read and compared.
 #![tactic(auto)]
 
 mod designs;
+mod matrices;
 mod texts;
 
-pub use designs::design;
-pub use texts::{CONTROLLER, DESIGN, PLANS, POLICY, REPORT, SATELLITE, STATES};
+pub use designs::{changed_design, design};
+pub use matrices::has_rows;
+pub use texts::{
+    CONTROLLER, CONTROLLER_OF_TWO, DEMO_OF_SEVEN, DESIGN, PLANS, POLICY, REPORT, SATELLITE, STATES,
+};
 
 #[cfg(test)]
 mod tests;

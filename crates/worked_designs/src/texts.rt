@@ -1,4 +1,4 @@
-// The first worked design, its policy, and the controller and the report that are made of it; and the design of a satellite.
+// The first worked design, its policy, and the controller and the report that are made of it; another controller; the design of a satellite; and what `demo` prints.
 
 /// One input at one stage of one state in 0 .. 1: x+ = x + u, the cost x^2 + u^2, -1 <= u <= 1 and at the end x <= 1/4.
 pub const DESIGN: &str = "version = 1
@@ -53,6 +53,28 @@ b 1024 1024 256
 end
 ";
 
+/// The controller of two states, one input, two stages and two rows. Its greatest absolute sum is 154960, which needs 19 bits.
+pub const CONTROLLER_OF_TWO: &str = "mpc-controller 1
+size 2 1 2 2
+bits 8 4 2 19
+steps 7
+clamp 5000
+words 8
+lo -16 -3
+hi 16 5
+P -12 7
+P 0 300
+T 5 -9
+W 1 -2
+W 3 0
+G 256 0
+G -256 128
+E 64 -64
+E 0 1
+b 256 -512
+end
+";
+
 pub const REPORT: &str = "mpc-report 1
 margin 8192 65536
 cost 1
@@ -62,9 +84,9 @@ steps 4
 bits 10
 width 26
 words 6
-violation 8896659849216 1099511627776
-gap 804534616064 1099511627776
-undercut 71173278793728 1099511627776
+violation 8850854903808 1099511627776
+gap 438095052800 1099511627776
+undercut 70806839230464 1099511627776
 end
 ";
 
@@ -101,4 +123,24 @@ hi = [64, 16]
 den = 1
 violation = 16
 gap = 1
+";
+
+/// What `demo 7` prints, from the model in exact fractions: a report of 208 bytes, and four lines.
+pub const DEMO_OF_SEVEN: &str = "mpc-report 1
+margin 16384 65536
+cost 63
+multiplier 252
+step 1
+steps 8064
+bits 31
+width 73
+words 78
+violation 137564006416 1099511627776
+gap 31513341657 1099511627776
+undercut 34666129616832 1099511627776
+end
+17317308137472 7263807345963 17331305367316 986525326301 17319796755491 -1659324381987 16285107482136 -2679637787082 15451187731935 -3073655857193 15092040554849 -3220531605651 14097620001560
+17317308137472 -1343041153994 17320181266648 -2205020446204 15993467770692 -2823450524125 15362645348508 -3059813594971 15170577159131 -3194939595885 15003894286892 -3256095330405 14072863555167
+17317308137472 2730593652673 17320896598117 -1107518991629 16682424872095 -2481609138026 15606315313892 -2950712766347 15249787129102 -3160256007815 15029036745528 -3245930592177 14079936222543
+17317308137472 -5617287430405 12989677374963 -3776670931370 14392546309353 -3298419508458 14904863184619 -3196546284766 15041542201861 -3234362528561 14977476427602 -3267467681498 14065055949064
 ";
