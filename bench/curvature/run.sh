@@ -8,7 +8,7 @@ work=$(mktemp -d)
 trap 'rm -rf "$work"' EXIT
 
 cd "$top"
-for crate in integer_algebra frac_scaled mat_int enclosure dual_method qp_model plant_condense fine_condense class_choice hessian_check; do
+for crate in integer_algebra frac_scaled mat_int enclosure dual_method qp_model plant_condense fine_run fine_condense class_choice hessian_check; do
     mkdir -p "$work/crates/$crate"
     tar cf - --exclude=out -C "crates/$crate" . | tar xf - -C "$work/crates/$crate"
     grep "^$crate:" crates.txt >>"$work/crates.txt"

@@ -48,6 +48,8 @@ FINE = {"d": cases.design_text({
     "n": 1, "p": 1, "stages": 2, "den": 1048576, "a": [[1048576]], "b": [[1048576]], "cost_den": 1, "row_den": 1, "input": [1], "cost": [[1, 0, 1]], "final_cost": [],
     "limit_den": 131072, "rows": [[0, 131072, 131072], [0, -131072, 131072]], "final_rows": [[131072, 32768]], "grid": 0, "lo": [0], "hi": [1], "target_den": 1, "violation": 16,
     "gap": 1}), "p": b"1,0,0\n8,-7,0\n"}
+# the same policy over 2^40, with which its corners pass the limit, too
+FINE_CORNERS = {**FINE, "p": b"1099511627776,0,0\n1099511627776,-962072674304,0\n"}
 
 
 class Command:
@@ -116,6 +118,7 @@ def commands(executable):
     yield Command(executable, "generate, two inputs", ["generate", "d", "p", "c", "r"], MADE)
     yield Command(executable, "generate, a motor", ["generate", "d", "p", "c", "r"], dict(zip("dp", motor)))
     yield Command(executable, "generate, a fine plant", ["generate", "d", "p", "c", "r"], FINE)
+    yield Command(executable, "generate, fine corners", ["generate", "d", "p", "c", "r"], FINE_CORNERS)
     yield Command(executable, "solve", ["solve", "k", "s"], FIRST)
     yield Command(executable, "loop", ["loop", "d", "k", "s", "4"], FIRST)
     yield Command(executable, "demo", ["demo", "7"], {})

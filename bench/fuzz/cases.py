@@ -1,8 +1,10 @@
 """Changed and random texts for run.py: designs, policies, controllers and states, most of them near to what is accepted."""
 import os
 import re
+from fractions import Fraction
 from math import ceil
 
+import at_corners
 import control
 import forms
 import model
@@ -165,8 +167,7 @@ def large_design(pick):
     return design_text(v), policy.encode()
 
 
-# what a design's numbers are over; a border design has one of these brought to the border
-DENS = ["den", "limit_den", "cost_den", "row_den"]
+# ---- designs at a border
 
 
 def over(real, dens):
@@ -176,49 +177,89 @@ def over(real, dens):
     ended = lambda den, rows, end_den, to: [row + end for row, end in zip(near(den, [r[:-1] for r in rows]), near(end_den, [r[-1:] for r in rows], to=to))]
     weighted = lambda rows: ended(dens["row_den"], rows, dens["cost_den"], round)
     bounded = lambda rows: ended(dens["limit_den"], rows, dens["limit_den"], ceil)
-    return {**real, **dens, "a": near(dens["den"], real["a"]), "b": near(dens["den"], real["b"]), "input": near(dens["cost_den"], [real["input"]], 1)[0],
-            "cost": weighted(real["cost"]), "final_cost": weighted(real["final_cost"]), "rows": bounded(real["rows"]), "final_rows": bounded(real["final_rows"])}
+    grown = dens["den"] * dens["growth"]
+    return {**real, **dens, "a": near(grown, real["a"]), "b": near(grown, real["b"]), "input": near(dens["cost_den"], [real["input"]], 1)[0],
+            "cost": weighted(real["cost"]), "final_cost": weighted(real["final_cost"]), "rows": bounded(real["rows"]), "final_rows": bounded(real["final_rows"]),
+            "lo": near(2 ** dens["grid"], [real["lo"]])[0], "hi": near(2 ** dens["grid"], [real["hi"]])[0]}
 
 
-def real_design(pick):
-    """Real numbers of a design; the bounds of its rows are 0."""
-    stages = pick.choice([1, 1, 2, 2, 3, 3, 4, 5, 7, 10, 20])
-    n, p = pick.choice([1, 1, 1, 2, 2, 3, 4]), pick.choice([1, 1, 2, 3] if stages < 10 else [1, 1, 1, 2])
+def plans_over(real, dens):
+    """And of the policy, with plans that go so far as `reach` says."""
+    most = 2**63 - 1
+    return [(dens["plan_den"], [min(most, max(-most, round(dens["plan_den"] * dens["reach"] * Fraction(v)))) for v in plan]) for plan in real["plans"]]
+
+
+def read_over(real, dens):
+    return model.read_design(design_text(over(real, dens))), plans_over(real, dens)
+
+
+def real_design(pick, lengths):
+    """Real numbers of a design and a policy; the bounds of its rows are 0."""
+    stages = pick.choice(lengths)
+    n, p = pick.choice([1, 1, 1, 2, 2, 3, 4] if stages < 10 else [1, 1, 2, 2, 3]), pick.choice([1, 1, 2, 3] if stages < 10 else [1, 1, 1, 2])
     some = lambda count, reach: [pick.choice([0, pick.uniform(-reach, reach), pick.uniform(-reach, reach), reach]) for _ in range(count)]
     many = lambda counts, make: [make() for _ in range(pick.choice(counts))]
     cost = lambda: [*some(n, 2), pick.choice([0, 0, pick.uniform(-1, 1)]), pick.choice([0, pick.uniform(0, 4), 1, 1, 100])]
-    growth, steep = pick.choice([0.5, 1, 1, 1.2, 2]), pick.choice([1, 1, 1, 4, 4, 1000, 2**20])
+    growth, steep = pick.choice([0.5, 1, 1, 1.2, 2] if stages < 10 else [0.5, 0.9, 1, 1, 1.1]), pick.choice([1, 1, 1, 4, 4, 1000, 2**20])
     target_den, violation, gap = pick.choice([(4, 16, 100), (4, 16, 1), (1, 1000, 10**5), (1, 1, 1), (1, 2**31 - 1, 2**31 - 1), (2**20, 2**31 - 1, 1), (2**20, 2**24, 2**12)])
+    side = pick.choice([1, 1, 1, 1, 1 / 8, 100])
+    plan = pick.choice([lambda: 0, lambda: pick.uniform(-0.25, 0.25)])
     return {"n": n, "p": p, "stages": stages, "a": [some(n, growth / n) for _ in range(n)], "b": [some(p, pick.choice([0.1, 1])) for _ in range(n)],
             "input": [pick.choice([1, pick.uniform(0.01, 8)]) for _ in range(p)], "cost": many([0, 1, 2], cost), "final_cost": many([0, 0, 1], cost),
             "rows": many([1, 1, 2, 3], lambda: [*some(n + p, steep), 0]), "final_rows": many([0, 1], lambda: [*some(n, 1), 0]),
-            "grid": pick.choice([0, 0, 0, 1, 3]), "lo": [pick.choice([-1, 0]) for _ in range(n)], "hi": [pick.choice([1, 1, 0]) for _ in range(n)],
-            "target_den": target_den, "violation": violation, "gap": gap}
+            "lo": [pick.choice([-side, 0]) for _ in range(n)], "hi": [pick.choice([side, side, 0]) for _ in range(n)],
+            "plans": [[plan() for _ in range(p * stages)] for _ in range(2**n)], "target_den": target_den, "violation": violation, "gap": gap}
+
+
+class Border:
+    """Something that a design and its policy are within or not, and what is brought to where it changes."""
+
+    def __init__(self, share, lengths, knobs, is_within):
+        self.share, self.lengths, self.knobs, self.is_within = share, lengths, knobs, is_within
+
+
+# the exponent that covers the squares is a ratio, and hardly depends on what the numbers are over: so one form serves the search
+within_form = lambda make: lambda real, dens: lambda d, plans, form=make(read_over(real, dens)[0]): forms.is_within_limit(d, form)
+within_corners = lambda sizes, *names: lambda real, dens: lambda d, plans: all(v <= forms.LIMIT for name, v in sizes(d, plans).items() if not names or name in names)
+SHORT, LONG = [1, 1, 2, 2, 3, 3, 4, 5, 7, 10, 20], [1, 2, 3, 5, 7, 10, 10, 14, 20, 20]
+BORDERS = [
+    Border(25, SHORT, ["limit_den", "cost_den", "row_den", "den", "den", "den", "den", "den"], within_form(forms.exact_form)),
+    Border(15, SHORT, ["limit_den", "cost_den", "row_den"], within_form(forms.fine_form)),
+    Border(15, LONG, ["limit_den", "cost_den", "row_den"], within_form(forms.fine_form)),
+    Border(30, LONG, ["den", "den", "den", "grid", "plan_den", "plan_den", "row_den", "limit_den", "cost_den"], within_corners(at_corners.exact_sizes)),
+    Border(3, LONG, ["growth"], within_corners(at_corners.fine_sizes, "prediction")),
+    Border(4, LONG, ["reach", "growth", "limit_den"], within_corners(at_corners.fine_sizes, "corner_slack")),
+    Border(8, LONG, ["reach", "growth", "row_den", "cost_den"], within_corners(at_corners.fine_sizes, "corner_cost")),
+]
+# the greatest value of what is brought to a border
+MOST = {"den": 2**20, "limit_den": 2**20, "cost_den": 2**20, "row_den": 2**20, "grid": 24, "plan_den": 2**40, "growth": 2**31, "reach": 2**63}
 
 
 def border_design(pick):
-    """A design, with a policy of no input, whose exact numbers or whose enclosures pass the limit by little or stay below it by little: its real numbers are
-    drawn, and then what they are over is chosen."""
-    real, is_fine = real_design(pick), pick.random() < 0.3
-    stages, rows, entries = real["stages"], len(real["rows"]), real["p"] * real["stages"]
-    power = lambda most: min(2**most, max(1, (1 << pick.randrange(most + 1)) + pick.choice([0, 0, 0, -1, 1])))
-    dens = {"den": power(min(20, 56 // stages)), "limit_den": power(pick.choice([3, 20, 20])), "cost_den": power(pick.choice([12, 20])), "row_den": power(pick.choice([6, 20]))}
-    knob = pick.choice(DENS[1:] if is_fine else DENS + ["den"] * 4)
-    read = lambda den: model.read_design(design_text(over(real, {**dens, knob: den})))
-    # where no input moves, each row keeps some slack
-    coasting = read(1024)
-    residuals, slack = [coasting.residuals(x, [0] * entries) for x in coasting.corners()], pick.choice([2**-15, 0.01, 0.1, 0.1, 1, 1, 1, 3])
+    """A design and a policy near a border: of exact numbers, of enclosures, or of the corners in either class. Real numbers are drawn, and then what they are over
+    is chosen, or how far the plant or the plans go."""
+    (border,) = pick.choices(BORDERS, [border.share for border in BORDERS])
+    real, knob = real_design(pick, border.lengths), pick.choice(border.knobs)
+    power = lambda most: min(2**most, max(1, (1 << pick.randrange(most + 1)) + pick.choice([0, 0, -1, 1])))
+    dens = {"den": power(min(20, 56 // real["stages"])) if border.lengths is SHORT else power(pick.choice([6, 16, 20, 20])), "limit_den": power(pick.choice([3, 20, 20])),
+            "cost_den": power(pick.choice([3, 12, 20])), "row_den": power(pick.choice([3, 6, 20])), "grid": pick.choice([0, 0, 0, 1, 3, 24]),
+            "plan_den": pick.choice([1, 3, 1000, power(40)]), "growth": 1, "reach": 1}
+    # each row keeps some slack
+    near, plans = read_over(real, {**dens, "den": 2**20})
+    starts = [[Fraction(v, 2**near.grid) for v in state] for state in at_corners.states(near)]
+    residuals = [near.residuals(x, [Fraction(v, q) for v in u]) for x, (q, u) in zip(starts, plans)]
+    slack, rows, stages = pick.choice([-0.1, 0, 2**-16, 2**-15, 0.01, 0.1, 0.1, 0.1, 1, 1, 1, 1, 1, 3, 3]), len(real["rows"]), real["stages"]
     for i, row in enumerate(real["rows"] + real["final_rows"]):
         own = slice(i, rows * stages, rows) if i < rows else slice(rows * (stages - 1) + i, rows * (stages - 1) + i + 1)
         row[-1] = float(max(max(r[own]) for r in residuals)) + slack + pick.choice([0, 0, 0, 1])
-    # the exponent that covers the squares is a ratio, and hardly depends on what the numbers are over
-    form = (forms.fine_form if is_fine else forms.exact_form)(coasting)
-    low, high = 0, 2**20
+    is_within = border.is_within(real, dens)
+    low, high = 0, MOST[knob]
     while low < high:
         middle = (low + high + 1) // 2
-        low, high = (middle, high) if forms.is_within_limit(read(middle), form) else (low, middle - 1)
-    den = min(2**20, max(1, pick.choice([low, low + 1, low + 1, low + 2, low + pick.randrange(9), 2 * low, 16 * low, pick.randrange(1, 2**20)])))
-    return design_text(over(real, {**dens, knob: den})), ("1" + ",0" * entries + "\n").encode() * 2 ** real["n"]
+        low, high = (middle, high) if is_within(*read_over(real, {**dens, knob: middle})) else (low, middle - 1)
+    chosen = pick.choice([low, low + 1, low + 1, low + 2, low + pick.randrange(9), 2 * low, 16 * low, pick.randrange(1, MOST[knob])])
+    dens[knob] = min(MOST[knob], max(0 if knob == "grid" else 1, chosen))
+    return design_text(over(real, dens)), "".join(",".join(map(str, [q, *u])) + "\n" for q, u in plans_over(real, dens)).encode()
 
 
 def examples():

@@ -140,6 +140,11 @@ def greatest_sum(c):
     return max(x + a + rows + d + e)
 
 
+def greatest_entry(c):
+    """How far an entry of a plan lies from 0 at most, over 2^f."""
+    return max(absolute_sums(c)[2])
+
+
 def least_width(c):
     """The least width from 2 that the sums fit, or None where they pass the limit."""
     greatest = greatest_sum(c)

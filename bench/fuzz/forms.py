@@ -85,22 +85,35 @@ class Form:
         return 2 * max(sum(v.rad for v in row) for row in self.q)
 
 
+class Run:
+    """The plant's states from x under the inputs u, stage by stage, each rounded once."""
+
+    def __init__(self, d, x, u):
+        self.d, self.inputs, self.states = d, [u[k * d.inputs : (k + 1) * d.inputs] for k in range(d.stages)], [x]
+        for v in self.inputs:
+            self.states.append([combined(a + b, self.states[-1] + v, d.plant_den) for a, b in zip(d.a, d.b)])
+
+    def costs(self):
+        """What the cost rows have of it."""
+        return [combined(row, self.states[k]) for row, k in self.d.counted]
+
+    def rows(self):
+        """And the limit rows."""
+        at_stages = [combined(row, x + v) for x, v in zip(self.states, self.inputs) for row in self.d.stage_rows]
+        return at_stages + [combined(row, self.states[-1]) for row in self.d.final_rows]
+
+
 def condense(d, unit, den):
     """The form whose responses are over `unit` and whose products are over unit^2 / den."""
-    n, p, nu = d.states, d.inputs, d.entries
+    n, nu = d.states, d.entries
     units = lambda count, at: [Enclosure(unit if i == at else 0) for i in range(count)]
-    runs = []
-    for x, u in [(units(n, None), units(nu, j)) for j in range(nu)] + [(units(n, i), units(nu, None)) for i in range(n)]:
-        inputs, states = [u[k * p : (k + 1) * p] for k in range(d.stages)], [x]
-        for v in inputs:
-            states.append([combined(a + b, states[-1] + v, d.plant_den) for a, b in zip(d.a, d.b)])
-        runs.append((states, inputs))
-    columns = [[combined(row, states[k]) for row, k in d.counted] for states, _ in runs] + [[Enclosure(unit * row[n]) for row, _ in d.counted]]
+    runs = [Run(d, units(n, None), units(nu, j)) for j in range(nu)] + [Run(d, units(n, i), units(nu, None)) for i in range(n)]
+    columns = [run.costs() for run in runs] + [[Enclosure(unit * row[n]) for row, _ in d.counted]]
     products = gram([row[-1] for row, _ in d.counted], columns, nu, den)
     scale = d.row_den**2 * unit**2 // den
     for j, weight in enumerate(d.input_weights * d.stages):
         products[j][j] = Enclosure(products[j][j].mid + weight * scale, products[j][j].rad)
-    rows = [[combined(row, states[k] + inputs[k]) for k in range(d.stages) for row in d.stage_rows] + [combined(row, states[-1]) for row in d.final_rows] for states, inputs in runs]
+    rows = [run.rows() for run in runs]
     side_by_side = lambda columns: [list(row) for row in zip(*columns)]
     return Form(
         den != 1,
@@ -136,14 +149,19 @@ def squares_exponent(d, form):
     return s
 
 
+def reached(d, first):
+    """What a run in enclosures reaches at most at the last stage, where its first state and its inputs reach this."""
+    for _ in range(d.stages):
+        first = ceil_div(d.growth * first, d.plant_den) + 3
+    return first
+
+
 def sizes(d, form):
     """The quantities of condensing, in the order in which they are tested."""
     nu, width = d.entries, d.entries + d.states + 1
     reach = prediction = d.growth**d.stages
     if form.is_fine:
-        reach = FINE
-        for _ in range(d.stages):
-            reach = ceil_div(d.growth * reach, d.plant_den) + 3
+        reach = reached(d, FINE)
         prediction = d.growth * reach
     hessian = 2 * nu * width * d.weights * (d.cost_width * reach) ** 2
     rows = width * d.rows * (d.limit_width * reach) ** 2

@@ -10,8 +10,9 @@ import sys
 import tomllib
 from dataclasses import dataclass
 from fractions import Fraction
-from math import isqrt
+from math import ceil, isqrt
 
+import at_corners
 import forms
 from forms import LIMIT, ceil_div
 
@@ -201,10 +202,6 @@ class Design:
             out.append((sum(r[i] * states[-1][i] for i in range(n)) - r[-1]) / Fraction(self.limit_den))
         return out
 
-    def corners(self):
-        for c in range(2**self.states):
-            yield [Fraction(self.hi[i] if c >> i & 1 else self.lo[i], 2**self.grid) for i in range(self.states)]
-
 
 # ---- the step exponent
 
@@ -266,22 +263,17 @@ def limited(value, name):
 
 
 def margins(d, plans):
-    """The least slack of the corners in units of 2^-16, rounded down, and their greatest cost, rounded up; or Refused."""
-    big, reach = limited(d.growth**d.stages, "prediction"), max(map(abs, d.lo + d.hi))
-    z = max(max(q * 2**d.grid, q * reach, 2**d.grid * max(map(abs, u))) for q, u in plans)
-    limited(2**17 * d.limit_width * big * z, "corner_slack")
-    limited(d.weights * (d.cost_width * big * z) ** 2, "corner_cost")
-    slack, dearest = None, Fraction(0)
-    for c, x in enumerate(d.corners(), 1):
-        q, plan = plans[c - 1]
-        u = [Fraction(v, q) for v in plan]
-        for row, residual in enumerate(d.residuals(x, u), 1):
-            if -residual < Fraction(1, 2**16):
-                over = d.limit_den * q * 2**d.grid * d.plant_den**d.stages
-                raise Refused(6, c, row, int(-residual * over), over)
-            slack = -residual if slack is None else min(slack, -residual)
-        dearest = max(dearest, d.cost(x, u))
-    return (2**16 * slack).__floor__(), dearest.__ceil__()
+    """The least slack that the corners show in units of 2^-16, rounded down, and the greatest cost, rounded up; or Refused."""
+    for name, size in at_corners.sizes(d, plans).items():
+        limited(size, name)
+    least, dearest = None, 0
+    for c, corner in enumerate(at_corners.shown(d, plans), 1):
+        for row, slack in enumerate(corner.slacks, 1):
+            if 2**16 * slack < corner.over:
+                raise Refused(6, c, row, slack, corner.over)
+        units = 2**16 * min(corner.slacks) // corner.over
+        least, dearest = units if least is None else min(least, units), max(dearest, ceil(corner.cost))
+    return least, dearest
 
 
 def form_of(d):
@@ -308,8 +300,10 @@ class Errors:
         spread = d.states * self.box + 1 + d.rows * self.top
         self.pull = d.cost_den * (self.box * sums(form.f, form.hess_den) + sums([form.h0], form.hess_den) + self.top * sums(form.g, form.row_den))
         self.tail = d.cost_den * spread * ceil_div(sum(2 * form.q[j][j].far for j in range(d.entries)), form.hess_den)
-        gradient = [ceil_div(row[j].far, form.hess_den) * spread + ceil_div(sum(2 * v.far for v in row), form.hess_den) for j, row in enumerate(form.q)]
-        self.squares = d.cost_den * sum(v * v for v in gradient)
+        self.spread, self.unit = spread, d.limit_den * form.hess_den
+        self.row_sums = [ceil_div(sum(2 * v.far for v in row), form.hess_den) for row in form.q]
+        self.gradient = [ceil_div(row[j].far, form.hess_den) * spread + total for j, (row, total) in enumerate(zip(form.q, self.row_sums))]
+        self.squares = d.cost_den * sum(v * v for v in self.gradient)
         self.first = ceil_div(self.squares, 2 * self.rho)
         self.hess_rad, self.state_pull = form.hess_rad, self.box * max(radii(form.f)) + max(v.rad for v in form.h0)
         self.column_pull = self.top * max(radii(zip(*form.g)))
@@ -318,30 +312,47 @@ class Errors:
     def plan(self, f):
         return self.twice * (ceil_div(self.pull, 2 * self.rho) + ceil_div(self.tail, 2 ** (f + 2) * self.rho)) + 1
 
-    def residual(self, f):
-        return self.d.entries * self.plan(f) + self.d.states * self.box + 3
+    def residual(self, plan):
+        return self.d.entries * plan + self.d.states * self.box + 3
 
-    def by_radii(self, f):
-        return ceil_div(self.plan(f) * self.hess_rad + self.state_pull, self.d.cost_den * self.d.row_den**2) + ceil_div(self.column_pull, self.d.limit_den)
+    def by_radii(self, plan):
+        return ceil_div(plan * self.hess_rad + self.state_pull, self.d.cost_den * self.d.row_den**2) + ceil_div(self.column_pull, self.d.limit_den)
 
-    def of_rows(self, f):
-        return self.top * (self.plan(f) * self.plan_rad + self.state_rad)
+    def of_rows(self, plan):
+        return self.top * (plan * self.plan_rad + self.state_rad)
+
+    def priced(self, first, plan, f):
+        """What the errors of a step cost, where those of the gradient cost `first` over 4^f and no entry of the plan is above `plan`."""
+        return (ceil_div(self.twice * 2**40 * first, 4**f) + ceil_div(2**40 * self.top * self.d.rows * self.residual(plan), 2 ** (f + 1))
+                + ceil_div(self.d.entries * self.d.cost_den * self.by_radii(plan) ** 2, 2**40 * self.rho) + ceil_div(self.of_rows(plan), self.d.limit_den))
 
     def epsilon(self, f):
-        return (ceil_div(self.twice * 2**40 * self.first, 4**f) + ceil_div(2**40 * self.top * self.d.rows * self.residual(f), 2 ** (f + 1))
-                + ceil_div(self.d.entries * self.d.cost_den * self.by_radii(f) ** 2, 2**40 * self.rho) + ceil_div(self.of_rows(f), self.d.limit_den))
+        return self.priced(self.first, self.plan(f), f)
+
+    def real(self, choice, solutions, magnitude, f):
+        """Epsilon by what the solutions really miss, and by the greatest magnitude of a plan entry, over 2^f."""
+        matrix, n = choice.matrix, self.d.states
+        weights = [self.box] * n + [1] + [self.top] * self.d.rows
+        missed = [sum(w * abs(sum(h * v for h, v in zip(row, x)) - 2**f * column[j]) for w, x, column in zip(weights, solutions, choice.columns))
+                  for j, row in enumerate(matrix)]
+        gradient = self.gradient
+        if max(row[j] for j, row in enumerate(matrix)) * self.spread <= LIMIT:
+            gradient = [ceil_div(v, self.unit) + total for v, total in zip(missed, self.row_sums)]
+        first = ceil_div(self.d.cost_den * sum(v * v for v in gradient), 2 * self.rho)
+        return self.priced(first, min(self.plan(f), ceil_div(magnitude, 2**f)), f)
 
     @property
     def size(self):
-        rounding = self.pull + self.tail + self.squares + 2**40 * (self.first + self.top * self.d.rows * self.residual(0))
-        radii = self.d.cost_den * self.d.entries * self.by_radii(0) ** 2 + self.plan(0) * self.hess_rad + self.state_pull + self.column_pull + self.of_rows(0)
+        plan = self.plan(0)
+        rounding = self.pull + self.tail + self.squares + 2**40 * (self.first + self.top * self.d.rows * self.residual(plan))
+        radii = self.d.cost_den * self.d.entries * self.by_radii(plan) ** 2 + plan * self.hess_rad + self.state_pull + self.column_pull + self.of_rows(plan)
         return self.twice**2 * rounding + radii
 
 
 @dataclass
 class Choice:
-    """What a design and a policy make of a controller, but for the gains: each column of them solves 2 |matrix X - 2^bits column|_j <= matrix_jj, with no
-    entry beyond the column's bound. The columns are those of P, then that of T, then those of W."""
+    """What a design and a policy make of a controller, but for the gains, and the three bounds that follow from these: each column of them solves
+    2 |matrix X - 2^bits column|_j <= matrix_jj, with no entry beyond the column's bound. The columns are those of P, then that of T, then those of W."""
 
     design: Design
     report: dict
@@ -353,6 +364,14 @@ class Choice:
     columns: list
     entry_bounds: list
     greatest: int
+    errors: Errors
+
+    def printed(self, solutions, magnitude):
+        """The three bounds that are printed, by the residuals that these gains leave; a plan entry of theirs is at most `magnitude` over 2^bits."""
+        r, k, f = self.report["multiplier"], self.report["steps"], self.report["bits"]
+        cost = self.errors.real(self, solutions, magnitude, f)
+        violation = ceil_div(2 ** (self.report["step"] + 41) * r, k) + ceil_div(cost, r)
+        return {"violation": violation, "gap": cost, "undercut": r * violation}
 
 
 def choose(d, plans):
@@ -388,10 +407,8 @@ def choose(d, plans):
     plan = ceil_div(entry, 2 ** (f + s))
     row_sums = [sum(map(abs, row)) * plan + forms.dot(map(abs, state), reaches) + 2**f * abs(limit) for row, state, limit in zip(rows, states, limits)]
     greatest = limited(max(reaches + [entry, k * plan] + row_sums + [clamp + ceil_div(v, 2**f) for v in row_sums]), "width")
-    violation = ceil_div(2 ** (s + 41) * r, k) + ceil_div(errors.epsilon(f), r)
-    report = {"margin": margin, "cost": cost, "multiplier": r, "step": s, "steps": k, "bits": f, "words": n + m + 2 * nu,
-              "violation": violation, "gap": errors.epsilon(f), "undercut": r * violation}
-    return Choice(d, report, clamp, rows, states, limits, matrix, columns, bounds, greatest)
+    report = {"margin": margin, "cost": cost, "multiplier": r, "step": s, "steps": k, "bits": f, "words": n + m + 2 * nu}
+    return Choice(d, report, clamp, rows, states, limits, matrix, columns, bounds, greatest, errors)
 
 
 def why_no_gains(choice, solutions):

@@ -104,7 +104,7 @@ def generate(d, plans, gains):
     c = control.Controller(n, d.inputs, d.stages, d.rows, r["bits"], d.grid, r["step"], 2, r["steps"], choice.clamp, list(d.lo), list(d.hi),
                            side_by_side(columns[:n]), list(columns[n]), side_by_side(columns[n + 1 :]), choice.rows, choice.states, choice.bounds)
     c.w = control.least_width(c)
-    return c, {**r, "width": c.w}
+    return c, {**r, **choice.printed(columns, control.greatest_entry(c)), "width": c.w}
 
 
 class Program:

@@ -8,8 +8,9 @@ determined: they are taken from the controller that the program wrote, once they
 product and partial sum traced, and all must fit its width; but a run of many steps of a controller that isn't of the kind `controller` only has its sums compared.
 
 A case is made of the seed and its number alone. --case runs one again and shows it; --kind makes all cases of that kind: generate, border, solve, controller, loop,
-demo, usage. A border design's exact numbers, or its enclosures, pass the limit by little or stay below it by little. Of each, the model's exact numbers must be the
-simulated plant's, its enclosures must hold them, and its class is counted beside its status.
+demo, usage. A border design's exact numbers, its enclosures, or the corners of its policy in either class, pass the limit by little or stay below it by little. Of
+each, the model's exact numbers must be the simulated plant's, its enclosures must hold them, no corner may have less slack or a greater cost than its enclosures show,
+and both classes are counted beside the status.
 Two sorts of case are counted apart. A design that TOML 1.1 reads and Python's reader (1.0) doesn't must still end with a status of generate. Where a run would be
 too long for the model, its status, its line and the number of lines are compared, and not the sums.
 """
@@ -24,6 +25,7 @@ import sys
 import tempfile
 
 sys.path.insert(0, os.path.dirname(os.path.abspath(__file__)))
+import at_corners
 import cases
 import control
 import forms
@@ -184,8 +186,11 @@ class Runner:
         wrong, status, notes = self.compare(case, ran, left, read, write, lambda choice: gains_of(choice, written()))
         if case.kind == "border":
             d = model.read_design(case.files["d"])
-            wrong = "; ".join(filter(None, [wrong, forms.fault(d)])) or None
-            notes = [*notes, f"a border design, {'exact' if forms.is_within_limit(d, forms.exact_form(d)) else 'fine'}, {ending(ran.stderr)}"]
+            plans = model.read_policy(case.files["p"], d)
+            wrong = "; ".join(filter(None, [wrong, forms.fault(d), at_corners.fault(d, plans)])) or None
+            told = lambda is_fine: "fine" if is_fine else "exact"
+            classes = f"{told(model.form_of(d).is_fine)} numbers, {told(at_corners.are_fine(d, plans))} corners"
+            notes = [*notes, f"a border design, {classes}, {ending(ran.stderr)}"]
         return wrong, status, notes
 
     def compare(self, case, ran, left, read, write, gains):

@@ -1,14 +1,15 @@
 #!/usr/bin/env python3
 """Writes designs whose exact numbers pass the limit, of 21 to 60 plan entries, each with a policy: fine.py FOLDER, for run.sh.
 
-Four states in two chains, up to three inputs, 12 cost rows and 12 limit rows of each kind. The corners are simulated in exact numbers, so each plant is rounded to
-the greatest denominator that these allow, which over many stages is a small one; the model in ../fuzz says that the design is of the fine class and is accepted.
+Four states in two chains, up to three inputs, 12 cost rows and 12 limit rows of each kind, and a plant over the greatest denominator that there is. The model in
+../fuzz says that the design and its corners are of the fine classes, and that it is accepted.
 """
 import os
 import sys
 
 HERE = os.path.dirname(os.path.abspath(__file__))
 sys.path.insert(0, os.path.join(HERE, "..", "fuzz"))
+import at_corners
 import cases
 import forms
 import model
@@ -33,31 +34,16 @@ def numbers(stages, inputs, den):
             "lo": [-1] * 4, "hi": [1] * 4, "target_den": 1, "violation": 16, "gap": 16}
 
 
-def corners_fit(d):
-    """Whether the exact quantities of the corners are within the limit, with plans of no input over 1."""
-    big = d.growth**d.stages
-    return max(big, 2**17 * d.limit_width * big, d.weights * (d.cost_width * big) ** 2) <= forms.LIMIT
-
-
-def design(stages, inputs):
-    """The design over the greatest denominator of a plant, up to 2^16, whose corners fit."""
-    read = lambda den: model.read_design(cases.design_text(numbers(stages, inputs, den)))
-    low, high = 1, 2**16
-    while low < high:
-        middle = (low + high + 1) // 2
-        low, high = (middle, high) if corners_fit(read(middle)) else (low, middle - 1)
-    return numbers(stages, inputs, low)
-
-
 def main():
     folder = sys.argv[1]
     for stages, inputs in ((7, 3), (10, 3), (20, 2), (20, 3)):
-        text = cases.design_text(design(stages, inputs))
+        text = cases.design_text(numbers(stages, inputs, 2**20))
         d = model.read_design(text)
-        if forms.is_within_limit(d, forms.exact_form(d)):
-            sys.exit(f"{stages} stages, {inputs} inputs: the design isn't fine")
-        model.choose(d, [(1, [0] * d.entries)] * 2**d.states)
-        name = os.path.join(folder, f"fine-{d.entries}-{d.rows}-over-{d.plant_den}")
+        plans = [(1, [0] * d.entries)] * 2**d.states
+        if forms.is_within_limit(d, forms.exact_form(d)) or not at_corners.are_fine(d, plans):
+            sys.exit(f"{stages} stages, {inputs} inputs: the design or its corners aren't fine")
+        model.choose(d, plans)
+        name = os.path.join(folder, f"fine-{d.entries}-{d.rows}")
         os.mkdir(name)
         for file, data in (("design.toml", text), ("policy.csv", ("1" + ",0" * d.entries + "\n").encode() * 2**d.states)):
             with open(os.path.join(name, file), "wb") as it:

@@ -4,7 +4,7 @@
     bench/rows/run.py PROGRAM [--valgrind]
 
 With --valgrind each runs under valgrind's memory checker, which must have nothing to report: no invalid read or write, no branch on what was never written, no
-block that is lost. The rows of fine designs, whose exact numbers pass 2^126, have the numbers of the model in ../fuzz.
+block that is lost. The rows of fine designs, whose exact numbers pass 2^126, and of fine corners have the numbers of the model in ../fuzz.
 """
 import os
 import subprocess
@@ -66,13 +66,13 @@ steps 4
 bits 10
 width 26
 words 6
-violation 8896659849216 1099511627776
-gap 804534616064 1099511627776
-undercut 71173278793728 1099511627776
+violation 8850854903808 1099511627776
+gap 438095052800 1099511627776
+undercut 70806839230464 1099511627776
 end
 """
-JSON = '{"bits":"10","cost":"1","gap":"804534616064","margin":"8192","multiplier":"8","step":"1","steps":"4","undercut":"71173278793728","version":"1",' \
-    '"violation":"8896659849216","width":"26","words":"6"}\n'
+JSON = '{"bits":"10","cost":"1","gap":"438095052800","margin":"8192","multiplier":"8","step":"1","steps":"4","undercut":"70806839230464","version":"1",' \
+    '"violation":"8850854903808","width":"26","words":"6"}\n'
 AXIS = """version = 1
 states = 2
 inputs = 1
@@ -156,13 +156,13 @@ def rows():
     yield "both states", put(SOLVE, {"c": FIRST, "s": "1\r\n0\r\n"}, "4096 -2224\n4096 0\n")
     yield "no states", put(SOLVE, {"c": FIRST, "s": ""}, "")
     yield "finer targets", written(sub(BASE, targets(10, 1, 10)), POLICY, c=["clamp 65536"], r=[
-        "steps 641", "bits 11", "width 28", "violation 104996020212 1099511627776", "gap 400849633280 1099511627776"])
+        "steps 641", "bits 11", "width 28", "violation 82270494708 1099511627776", "gap 219045429248 1099511627776"])
     yield "least slack", written(BASE, "1,0\n65536,-65535\n", r=["margin 1 65536", "cost 1", "multiplier 65536", "steps 32768", "bits 36"])
     yield "half that slack", refused(GENERATE, {"d": BASE, "p": "1,0\n131072,-131071\n"}, 6, "no-margin 2 2 4 524288")
     yield "a box of one point", (GENERATE, {"d": sub(BASE, ("lo = [0]", "lo = [1]")), "p": "8,-7\n8,-7\n"}, 0, "", "",
                                  {"c": sub(FIRST, ("lo 0\n", "lo 1\n")), "r": REPORT}, {})
     yield "no cost", written(sub(BASE, ("hi = [1]", "hi = [0]")), "1,0\n1,0\n", c=["P 16", "T 0", "W 8 -8 8", "clamp 128"], r=[
-        "margin 16384 65536", "multiplier 1", "steps 1", "bits 5", "width 13", "violation 5396626407424 1099511627776", "gap 998579896320 1099511627776"])
+        "margin 16384 65536", "multiplier 1", "steps 1", "bits 5", "width 13", "violation 4922032521216 1099511627776", "gap 523986010112 1099511627776"])
     yield "a row that no input moves", written(sub(BASE, ("[0, -4, 4]]", "[0, -4, 4], [4, 0, 5]]")), POLICY, r=["margin 8192 65536", "steps 4", "bits 10"])
     yield "a row that no corner keeps", refused(GENERATE, {"d": sub(BASE, ("[0, -4, 4]]", "[0, -4, 4], [4, 0, 4]]")), "p": POLICY}, 6, "no-margin 2 3 0 32")
     yield "the most steps", written(sub(BASE, targets(65536, 1, 65536)), POLICY, r=["steps 4194304", "bits 24", "width 54"])
@@ -171,10 +171,10 @@ def rows():
     yield "steeper rows", refused(GENERATE, {"d": steep(1500000), "p": "1,0\n1,0\n"}, 7, "curvature")
     yield "a certificate", written(sub(BASE, ("stages = 1\n", "stages = 2\n"), ("a = [[1]]", "a = [[2]]"), ("stage = [[1, 0, 1]]", "stage = []"), ("final = []", "final = [[1, 0, 100]]"), (
         LIMITS, "den = 1\nstage = [[0, 1, 1], [0, 1, 2], [0, -1, 1]]\nfinal = []\n"), targets(1, 16, 16)), "1,0,0\n1,0,0\n", r=[
-        "margin 65536 65536", "cost 1600", "multiplier 1600", "step 2", "steps 1600", "bits 24", "gap 13717765934507 1099511627776"])
+        "margin 65536 65536", "cost 1600", "multiplier 1600", "step 2", "steps 1600", "bits 24", "gap 7268221007146 1099511627776"])
     yield "one axis of a satellite", written(AXIS, COAST, r=[
-        "margin 65536 65536", "cost 159", "multiplier 159", "step 1", "steps 20352", "bits 28", "words 46", "violation 38759924039 1099511627776",
-        "gap 699629521553 1099511627776", "undercut 6162827922201 1099511627776"])
+        "margin 65536 65536", "cost 159", "multiplier 159", "step 1", "steps 20352", "bits 28", "words 46", "violation 34845909021 1099511627776",
+        "gap 77301133813 1099511627776", "undercut 5540499534339 1099511627776"])
     yield "too fine", refused(GENERATE, {"d": sub(BASE, targets(1048576, 16777216, 1)), "p": "1,0\n65536,-65535\n"}, 9, "too-fine 151000321")
     yield "a large plant", refused(GENERATE, {"d": sub(BASE, ("stages = 1\n", "stages = 20\n"), ("a = [[1]]", "a = [[2147483647]]")), "p": ("1" + ",0" * 20 + "\n") * 2},
                                    10, "too-wide prediction")
@@ -229,24 +229,24 @@ def fine_rows():
     whole, half, at_zero = plant_over(2, 1048576, 1048576, 1048576), plant_over(2, 1048576, 524288, 524288), ("hi = [1]", "hi = [0]")
     two_stages = lambda *changes: sub(BASE, *whole, limits(131072, [[0, 131072, 131072], [0, -131072, 131072]], [[131072, 32768]]), *changes)
     yield "fine: two stages", written(two_stages(), "1,0,0\n8,-7,0\n", r=[
-        "margin 8192 65536", "cost 1", "multiplier 8", "step 1", "steps 4", "bits 14", "words 10", "violation 8867947335680 1099511627776", "gap 574834507776 1099511627776"])
+        "margin 8192 65536", "cost 1", "multiplier 8", "step 1", "steps 4", "bits 14", "words 10", "violation 8808861011968 1099511627776", "gap 102143918080 1099511627776"])
     yield "fine: too many steps", refused(GENERATE, {"d": two_stages(targets(131072, 1, 131072)), "p": "1,0,0\n8,-7,0\n"}, 8, "too-many-steps 8388608")
     yield "fine: too fine", refused(GENERATE, {"d": two_stages(targets(1048576, 16777216, 1)), "p": "1,0,0\n65536,-65535,0\n"}, 9, "too-fine 2013294081")
     # with the first bound the exact `curvature` is 2^126; the gap tells the class
-    for what, bound, gap in (("at", 1048576, 588410519552), ("above", 1048577, 764504178688)):
+    for what, bound, gap in (("at", 1048576, 275951648768), ("above", 1048577, 277025390592)):
         design = sub(BASE, *half, costs(1, 1, 1, []), limits(1048576, [[0, 0, 1048576], [0, 0, bound]]))
         yield f"exact numbers {what} their limit", written(design, coast(2), c=["G 0 0", "b 64 64 64 64"], r=["steps 1", "bits 6", f"gap {gap} 1099511627776"])
     axis = sub(AXIS, ("den = 8\na = [[8, 4], [0, 8]]\nb = [[1], [4]]", "den = 1000\na = [[1000, 500], [0, 1000]]\nb = [[128], [333]]"), (AXIS[AXIS.index("[limits]") : AXIS.index(
         "[box]")], "[limits]\nden = 1000\nstage = [[0, 0, 1000, 4000], [0, 0, -1000, 4000], [1000, 0, 0, 8000], [-1000, 0, 0, 8000], [0, 1000, 0, 2000], [0, -1000, 0, 2000]]\n"
         "final = [[1000, 0, 8000], [-1000, 0, 8000], [0, 1000, 2000], [0, -1000, 2000]]\n"))
     yield "fine: one axis of a satellite", written(axis, COAST, r=[
-        "margin 65536 65536", "cost 159", "multiplier 159", "step 2", "steps 40704", "bits 29", "words 46", "violation 37855009165 1099511627776", "gap 555748056634 1099511627776",
-        "undercut 6018946457235 1099511627776"])
+        "margin 65536 65536", "cost 159", "multiplier 159", "step 2", "steps 40704", "bits 29", "words 46", "violation 34594656008 1099511627776", "gap 37351904745 1099511627776",
+        "undercut 5500550305272 1099511627776"])
     # the input weights' curvature, which is to cover the squares of the rows, is 2^128 at step 0
     yield "fine: a wide comparison of squares", written(sub(BASE, *plant_over(3, 262144, 131072, 131072), costs(256, 1, 256, [[1, 0, 256]]), limits(1048576, [[0, 1, 1048576]])), coast(3), r=[
-        "margin 65536 65536", "cost 1", "multiplier 1", "step 0", "steps 1", "bits 7", "width 16", "words 10", "violation 2921248849920 1099511627776", "gap 722225594368 1099511627776"])
+        "margin 65536 65536", "cost 1", "multiplier 1", "step 0", "steps 1", "bits 7", "width 16", "words 10", "violation 2383841067008 1099511627776", "gap 184817811456 1099511627776"])
     yield "fine: the steepest rows", written(sub(BASE, *half, limits(1, [[0, 1048576, 1048576]]), targets(1, 1048576, 1)), coast(2), c=["clamp 73786976294838206464"], r=[
-        "margin 68719476736 65536", "multiplier 1", "step 40", "steps 4194304", "bits 25", "gap 549756731393 1099511627776"])
+        "margin 68719476736 65536", "multiplier 1", "step 40", "steps 4194304", "bits 25", "gap 121580945409 1099511627776"])
     yield "fine: steeper rows", refused(GENERATE, {"d": sub(BASE, *half, limits(1, [[0, 1500000, 1]])), "p": coast(2)}, 7, "curvature")
     # of any bits from 42 on the clamp would pass 2^126
     clamped = sub(BASE, ("states = 1", "states = 2"), ("stages = 1\n", "stages = 2\n"), ("den = 1\na = [[1]]\nb = [[1]]", "den = 2048\na = [[2048, 0], [0, 1024]]\nb = [[0], [1024]]"), costs(
@@ -265,6 +265,62 @@ def fine_rows():
         ("width", 3, [*plant_over(3, 1000, 500, 1000), costs(262144, 1, 1, []), limits(256, [[0, 256000, 256]]), targets(1, 1048576, 1)]),
     ):
         yield f"fine: {quantity} over {stages} stages", refused(GENERATE, {"d": sub(BASE, *changes, at_zero), "p": coast(stages)}, 10, f"too-wide {quantity}")
+
+
+def corner_rows():
+    """Rows of designs with a policy whose exact corners pass the limit, as those above."""
+    grid = lambda bits, low, high: ("grid = 0\nlo = [0]\nhi = [1]", f"grid = {bits}\nlo = [{low * 2**bits}]\nhi = [{high * 2**bits}]")
+    plant = lambda den, a, b: plant_over(1, den, a, b)[1]
+    plans = lambda den, *numerators: "".join(f"{den},{','.join(map(str, it))}\n" for it in numerators)
+    finest, q = sub(BASE, grid(24, 0, 1)), 2**40
+    yield "fine corners: the finest grid", written(finest, plans(q, [0], [-7 * 2**37]), r=[
+        "margin 8192 65536", "cost 1", "multiplier 8", "step 1", "steps 4", "bits 24", "words 6", "violation 8796096364545 1099511627776", "gap 26738689 1099511627776"])
+    yield "fine corners: the least slack", written(finest, plans(q, [0], [-3 * 2**38 - 2**24]), r=["margin 1 65536", "cost 1", "multiplier 65536", "steps 32768"])
+    yield "fine corners: a quarter of that slack", refused(GENERATE, {"d": finest, "p": plans(q, [0], [-3 * 2**38 - 2**22])}, 6, f"no-margin 2 3 {2**24} {2**42}")
+    yield "fine corners: a limit that is exceeded", refused(GENERATE, {"d": finest, "p": plans(q, [1], [1])}, 6, f"no-margin 2 3 {-3 * 2**40 - 4} {2**42}")
+    # the second plan is 2^-41 below -7/2, and keeps a slack of more than 1/8; with its radius that is not seen. Both plans go further than the box
+    quarter = sub(finest, plant(4, 4, 1), limits(4, [[0, 4, 16], [0, -4, 16]], [[4, 1]]))
+    yield "fine corners: long numerators", written(quarter, plans(q - 1, [-(2**41)], [-7 * 2**39 + 3]), r=["margin 8191 65536", "cost 13", "multiplier 105"])
+    axis = sub(AXIS, ("stages = 5", "stages = 10"), ("den = 8\na = [[8, 4], [0, 8]]\nb = [[1], [4]]", "den = 65536\na = [[65536, 32768], [0, 65536]]\nb = [[8192], [32768]]"), (
+        "[1, 0, 0, 8], [-1, 0, 0, 8]", "[1, 0, 0, 16], [-1, 0, 0, 16]"), ("final = [[1, 0, 8], [-1, 0, 8]", "final = [[1, 0, 16], [-1, 0, 16]"))
+    yield "fine corners: ten stages of a satellite's axis", written(axis, plans(1, *[[0] * 10] * 4), r=[
+        "margin 65536 65536", "cost 487", "multiplier 487", "step 1", "steps 62336", "bits 36", "words 86", "violation 34384489473 1099511627776",
+        "gap 12053787758 1099511627776", "undercut 16745246373351 1099511627776"])
+    # 2/3 and 1/3, of which the first has the midpoint above and the second below, add up to 1 with a radius of 2
+    thirds = lambda bits, bound: sub(BASE, ("states = 1", "states = 2"), ("den = 1\na = [[1]]\nb = [[1]]", "den = 3\na = [[1, 1], [1, 0]]\nb = [[0], [0]]"), costs(1, 1, 1, [
+        [1, 1, 0, 1]]), limits(65536, [[0, 0, 65536, 262144]], [[65536, 65536, bound]]), ("grid = 0\nlo = [0]\nhi = [1]", f"grid = {bits}\nlo = [{2**bits}, {2**bits}]\nhi = [{2**bits}, {2**bits}]"))
+    still = lambda den: plans(den, *[[0]] * 4)
+    yield "exact corners: whole slack and cost", written(thirds(0, 131072), still(1), r=["margin 65536 65536", "cost 1", "multiplier 1"])
+    yield "fine corners: whole slack and cost", written(thirds(24, 131072), still(q), r=["margin 65535 65536", "cost 2", "multiplier 3"])
+    # 9 / 3^2 + 4 is 5
+    aimed = sub(BASE, plant(1, 1, 0), grid(24, 1, 1), costs(1, 2, 9, [[2, 4, 4]]), limits(1, [[0, 1, 1]]))
+    yield "fine corners: a whole cost of a target and an input", written(aimed, plans(3 * 2**38, [2**38], [2**38]), r=["cost 6", "multiplier 10"])
+    yield "exact corners: a slack of 2^-16", written(thirds(0, 65537), still(1), r=["margin 1 65536", "cost 1", "multiplier 65536"])
+    yield "fine corners: a slack of 2^-16", refused(GENERATE, {"d": thirds(24, 65537), "p": still(q)}, 6, f"no-margin 1 2 {2**40 - 2**17} {2**56}")
+    # -1/3 over 2^40 is near -366503875925, an odd number, which is halved
+    halved = sub(finest, plant(2, 0, 1), limits(1, [[0, 1, 1]], [[-1, 0]]))
+    yield "fine corners: a tie, upward", refused(GENERATE, {"d": halved, "p": plans(3 * 2**38, [-(2**38)], [-(2**38)])}, 6, f"no-margin 1 2 {-183251937962 - 2} {2**40}")
+    # with the first plan's denominator the exact `corner_cost` is 2^126; the slack's denominator tells the class
+    for what, den, over in (("at", 2**37, 2**63), ("above", 2**37 + 1, 2**42)):
+        design, policy = sub(finest, costs(1, 1, 3, [])), plans(den, [0], [0])
+        yield f"exact corners {what} their limit", refused(GENERATE, {"d": design, "p": policy}, 6, f"no-margin 2 3 {-3 * over // 4} {over}")
+    # the quantity is 2^126 with the second number, and each constant of the reach counts
+    held = sub(BASE, plant(3, 4, 0), grid(1, 0, 0), costs(1, 1, 2, [[2**21, 0, 1]]), limits(1, [[0, 1, 4], [0, -1, 4]]))
+    yield "fine corners: corner_cost at its limit", written(held, plans(q, [3 * 2**39 - 5], [0]), r=["margin 163840 65536", "cost 5", "multiplier 2"])
+    yield "fine corners: corner_cost above its limit", refused(GENERATE, {"d": held, "p": plans(q, [0], [-3 * 2**39 + 4])}, 10, "too-wide corner_cost")
+    wide = lambda side: sub(BASE, plant(3, 0, 0), grid(1, -side, side), costs(1, 1, 2, [[8, 0, 1]]), limits(1, [[0, 1, 4], [0, -1, 4]]))
+    yield "fine corners: corner_cost of the box at its limit", written(wide(2**19 - 1), plans(q, [0], [0]), r=["margin 262144 65536", "cost 0", "multiplier 1"])
+    yield "fine corners: corner_cost of the box above its limit", refused(GENERATE, {"d": wide(2**19), "p": plans(q, [0], [0])}, 10, "too-wide corner_cost")
+    # where one of the other two is within its limit by little, `corner_cost` isn't
+    grown = sub(BASE, plant(1, 2**30 - 1, 1), grid(0, 0, 0), limits(2**20, [[0, 0, 1]]))
+    for what, far, quantity in (("at", 2**59 - 3, "corner_cost"), ("above", 2**59 - 2, "corner_slack")):
+        yield f"fine corners: corner_slack {what} its limit", refused(GENERATE, {"d": grown, "p": plans(q, [far], [0])}, 10, f"too-wide {quantity}")
+    grown = sub(BASE, plant(1, 2**31 - 1, 1), grid(24, 0, 0), limits(1, [[0, 0, 1]]))
+    for what, far, quantity in (("at", 2**24 - 1, "corner_cost"), ("above", 2**24, "corner_slack")):
+        yield f"fine corners: a state before it is divided, {what} the limit", refused(GENERATE, {"d": grown, "p": plans(1, [far], [0])}, 10, f"too-wide {quantity}")
+    for what, a, quantity in (("at", 2**30 - 2, "corner_cost"), ("above", 2**30 - 1, "prediction")):
+        grown = sub(BASE, *plant_over(2, 4, a, 1), grid(0, 0, 0), limits(1, [[0, 0, 1]]))
+        yield f"fine corners: prediction {what} its limit", refused(GENERATE, {"d": grown, "p": plans(8, [0, 0], [0, 0])}, 10, f"too-wide {quantity}")
 
 
 def wrong(words, files, status, out, line, whole, lines):
@@ -305,7 +361,7 @@ def wrong(words, files, status, out, line, whole, lines):
 
 def main():
     failed = count = 0
-    for name, row in [*rows(), *fine_rows()]:
+    for name, row in [*rows(), *fine_rows(), *corner_rows()]:
         count += 1
         found = wrong(*row)
         if found:
