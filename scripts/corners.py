@@ -1,7 +1,15 @@
-"""A policy's plans, simulated in exact fractions: costs, slacks, and what the multiplier bound and the steps come from."""
+"""What a policy's plans show at the corners of the box, by the corners' class; and what the multiplier bound and the steps come from.
+
+The plans are simulated in exact fractions; or, where a size of these passes the limit, in enclosures over 2^40, which show slacks that are at most the true ones, and
+costs that are at least those.
+"""
 from dataclasses import dataclass
 from fractions import Fraction
 from math import ceil, floor
+
+from enclosures import ONE, enclosed, farthest, fine_costs, fine_limits, fine_trajectory
+from sizes import has_fine_corners
+from trajectories import cost_of, slacks_of
 
 
 @dataclass
@@ -19,40 +27,24 @@ class Corner:
         return slack, self.slacks.index(slack) + 1
 
 
-def dot(left, right):
-    return sum(l * r for l, r in zip(left, right))
+def exact_corner(design, number, record):
+    state, plan = design.corner(number), [Fraction(v, record[0]) for v in record[1:]]
+    return Corner(number, cost_of(design, state, plan), slacks_of(design, state, plan))
 
 
-def trajectory(design, state, plan):
-    """The states of the stages 0 to N."""
-    states, p = [list(state)], design.inputs
-    for k in range(design.stages):
-        now = states[-1] + list(plan[k * p : (k + 1) * p])
-        states.append([dot(a + b, now) / Fraction(design.plant_den) for a, b in zip(design.a, design.b)])
-    return states
-
-
-def cost_of(design, state, plan):
-    """The design's cost of a plan from a state."""
-    states, n = trajectory(design, state, plan), design.states
-    value = sum(row[n + 1] * ((dot(row[:n], states[k]) - row[n]) / Fraction(design.row_den)) ** 2 for row, k in design.counted)
-    value += sum(design.input_weights[j % design.inputs] * Fraction(u) ** 2 for j, u in enumerate(plan))
-    return value / design.cost_den
-
-
-def slacks_of(design, state, plan):
-    """The slack in each limit row, in the plan's order; a negative one is a limit that is exceeded."""
-    states, p = trajectory(design, state, plan), design.inputs
-    return [(row[-1] - dot(row[:-1], states[k] + list(plan[k * p : (k + 1) * p]))) / Fraction(design.limit_den) for row, k in design.limits]
+def fine_corner(design, number, record):
+    plan = [enclosed(v, record[0]) for v in record[1:]]
+    states = fine_trajectory(design, [enclosed(v.numerator, v.denominator) for v in design.corner(number)], plan)
+    slacks = [ONE * row[-1] - mid - radius for (row, _), (mid, radius) in zip(design.limits, fine_limits(design, states, plan))]
+    cost = sum(row[-1] * farthest(mid - ONE * row[-2], radius) ** 2 for (row, _), (mid, radius) in zip(design.counted, fine_costs(design, states)))
+    cost += sum(design.input_weights[j % design.inputs] * design.row_den**2 * farthest(*u) ** 2 for j, u in enumerate(plan))
+    return Corner(number, Fraction(cost, design.cost_den * (design.row_den * ONE) ** 2), [Fraction(v, design.limit_den * ONE) for v in slacks])
 
 
 def corners_of(design, policy):
-    """Each corner's plan, simulated."""
-    out = []
-    for number, record in enumerate(policy, 1):
-        state, plan = design.corner(number), [Fraction(v, record[0]) for v in record[1:]]
-        out.append(Corner(number, cost_of(design, state, plan), slacks_of(design, state, plan)))
-    return out
+    """What each corner's plan shows."""
+    shown = fine_corner if has_fine_corners(design, policy) else exact_corner
+    return [shown(design, number, record) for number, record in enumerate(policy, 1)]
 
 
 def margin_of(corners):

@@ -3,9 +3,9 @@
 
     scripts/discretise.py MODEL [--den D ..]
 
-For each denominator (8 to 1024 where none is given) it prints the greatest row sum of |a| + |b| over den, the poles before and after, and by how much the step
-responses of the stages are off; and it warns of each coupling that is rounded to 0. With one denominator, given or named by the model, it prints the plant table
-of the design. How a model is written: scripts/draft.py --help.
+For each denominator (8 to 1024 where none is given) it prints the greatest row sum of |a| + |b| over den, the bits of `prediction` where numbers are exact and where
+they are enclosures, the poles before and after, and by how much the step responses of the stages are off; and it warns of each coupling that is rounded to 0. With
+one denominator, given or named by the model, it prints the plant table of the design. How a model is written: scripts/draft.py --help.
 """
 import argparse
 
@@ -54,6 +54,11 @@ def row_sum(a, b, den):
     return int((abs(whole_a).sum(1) + abs(whole_b).sum(1)).max())
 
 
+def growth_bits(sum_, den, stages):
+    """`prediction` in bits: of exact numbers, and of enclosures over 2^40."""
+    return stages * numpy.log2(sum_), 40 + numpy.log2(sum_) + stages * numpy.log2(sum_ / den)
+
+
 def poles(a):
     return ", ".join(
         plain(v.real) if abs(v.imag) < 1e-9 else f"{plain(v.real)}{'+' if v.imag > 0 else '-'}{plain(abs(v.imag))}j"
@@ -64,8 +69,9 @@ def poles(a):
 def tell(model, den):
     a, b = model.scaled()
     sum_, stages = row_sum(a, b, den), model.stages
+    exact, fine = growth_bits(max(sum_, den), den, stages)
     print(
-        f"den {den}: row sums up to {sum_}/{den}, {stages} stages of it pass {plain(numpy.log2(max(sum_, den)) * stages)} bits of 126; "
+        f"den {den}: row sums up to {sum_}/{den}, {stages} stages of it pass {plain(exact)} bits of 126, in enclosures {plain(fine)}; "
         f"step responses off by {plain(100 * response_error(a, b, den, stages))} %"
     )
     print(f"  poles {poles(a)} -> {poles(rounded(a, b, den)[0] / den)}")

@@ -1,12 +1,16 @@
 """A design's condensed form in enclosures: whole numbers over 2^40, each a midpoint and a radius that the exact number is no further from."""
 from condensed import Condensed
-from corners import dot
 
 ONE = 2**40
 
 
 def exactly(value):
     return ONE * value, 0
+
+
+def enclosed(numerator, den):
+    """A fraction: to the nearest, ties upward."""
+    return combined([numerator], [exactly(1)], den)
 
 
 def combined(coefficients, enclosures, den):
@@ -26,37 +30,48 @@ def multiple(factor, enclosure):
     return factor * enclosure[0], abs(factor) * enclosure[1]
 
 
+def farthest(mid, radius):
+    """The greatest absolute value that is enclosed."""
+    return abs(mid) + radius
+
+
 def fine_trajectory(design, state, plan):
     """The states of the stages 0 to N, rounded at each stage."""
-    states, p = [[exactly(v) for v in state]], design.inputs
+    states, p = [state], design.inputs
     for k in range(design.stages):
-        now = states[-1] + [exactly(v) for v in plan[k * p : (k + 1) * p]]
+        now = states[-1] + plan[k * p : (k + 1) * p]
         states.append([combined(a + b, now, design.plant_den) for a, b in zip(design.a, design.b)])
     return states
 
 
-def fine_limit(design, row, k, plan, states):
-    """What a limit row has of a plan and its states, from stage k."""
-    n, p = design.states, design.inputs
-    mid, radius = combined(row[:n], states[k], 1)
-    return mid + ONE * dot(row[n:-1], plan[k * p : (k + 1) * p]), radius
+def fine_costs(design, states):
+    """What the cost rows have of these states."""
+    return [combined(row[: design.states], states[k], 1) for row, k in design.counted]
+
+
+def fine_limits(design, states, plan):
+    """What the limit rows have of the states and the plan."""
+    p = design.inputs
+    return [combined(row[:-1], states[k] + plan[k * p : (k + 1) * p], 1) for row, k in design.limits]
 
 
 def condense_fine(design):
     """The midpoints and radii of a unit of each plan entry, of each state, and of the targets."""
     n, p, nu = design.states, design.inputs, design.entries
-    units = lambda size: [[int(i == j) for j in range(size)] for i in range(size)]
-    starts = [([0] * n, plan) for plan in units(nu)] + [(state, [0] * nu) for state in units(n)]
-    runs = [(plan, fine_trajectory(design, state, plan)) for state, plan in starts]
+    units = lambda size: [[exactly(int(i == j)) for j in range(size)] for i in range(size)]
+    zeros = lambda size: [exactly(0)] * size
+    starts = [(zeros(n), plan) for plan in units(nu)] + [(state, zeros(nu)) for state in units(n)]
+    runs = [(fine_trajectory(design, state, plan), plan) for state, plan in starts]
 
-    costs = [[combined(row[:n], states[k], 1) for _, states in runs] + [exactly(row[n])] for row, k in design.counted]
+    by_run = [fine_costs(design, states) for states, _ in runs] + [[exactly(row[n]) for row, _ in design.counted]]
+    costs = [list(row) for row in zip(*by_run)]
     gram = lambda j, l: combined([row[n + 1] for row, _ in design.counted], [product(cost[j], cost[l]) for cost in costs], ONE)
     hess = [[multiple(2, gram(j, l)) for l in range(nu)] for j in range(nu)]
     lin = [[multiple(2, gram(j, nu + i)) for i in range(n)] for j in range(nu)]
     off = [multiple(-2, gram(j, nu + n)) for j in range(nu)]
     for j in range(nu):
         hess[j][j] = hess[j][j][0] + 2 * design.input_weights[j % p] * design.row_den**2 * ONE, hess[j][j][1]
-    rows = [[fine_limit(design, row, k, *run) for run in runs] for row, k in design.limits]
+    rows = [list(row) for row in zip(*(fine_limits(design, *run) for run in runs))]
 
     part = lambda table, which: [[entry[which] for entry in line] for line in table]
     mids, radii = part(rows, 0), part(rows, 1)

@@ -18,10 +18,11 @@ from fractions import Fraction
 
 import sizes
 from condensed import condense, curvature
-from corners import corners_of, dot, half_target, margin_of, multiplier_of, steps_of
+from corners import corners_of, half_target, margin_of, multiplier_of, steps_of
 from design_text import design_of, plain
 from libraries import run
 from texts import controller_of, kind_of, read_text, records_of, report_of
+from trajectories import dot
 
 
 def bits_of(numbers):
@@ -115,20 +116,36 @@ def bound_words(design, policy, report):
     yield f"K = 2^(s+2) R / target = {plain(2 ** (step + 2))} * {bound} / {plain(Fraction(design.violation, design.target_den))} = {steps_of(design, step, bound)}"
 
 
+def told_sizes(found):
+    return ", ".join(f"{name} {sizes.bits(value):.1f}" for name, value in found.items())
+
+
+def wide(found):
+    return {name: value for name, value in found.items() if value > sizes.LIMIT}
+
+
+def class_words(design, policy, form):
+    """What is held in enclosures, and why."""
+    if sizes.has_fine_corners(design, policy):
+        found = told_sizes(wide(sizes.exact_corner_sizes(design, policy)))
+        yield f"exact numbers of the corners pass 126 bits ({found}), so the plans are simulated in enclosures, midpoints and radii over 2^40: fine corners"
+    if form.fine:
+        found = told_sizes(wide(sizes.exact_sizes(design, condense(design))))
+        yield f"exact condensed numbers pass 126 bits ({found}), so they are held as enclosures, midpoints and radii over 2^40: a fine design"
+
+
 def size_words(design, policy, report):
-    """Each quantity in bits of 126, of the condensed form by its class."""
+    """Each quantity in bits of 126, of the corners and of the condensed form by their classes."""
     margin, cost = margin_of(corners_of(design, policy))
     bound, form = multiplier_of(margin, cost), sizes.form_of(design)
-    corners = sizes.early_sizes(design, policy) | ({"multiplier": sizes.multiplier_size(cost, bound)} if bound else {})
-    condensed = later_sizes(design, form, bound, report)
-    told = lambda found: ", ".join(f"{name} {sizes.bits(value):.1f}" for name, value in found.items())
-    wide = lambda found: {name: value for name, value in found.items() if value > sizes.LIMIT}
-    parts = [("", corners), (" of the enclosures", condensed)] if form.fine else [("", corners | condensed)]
-    if form.fine:
-        exact = wide(sizes.exact_sizes(design, condense(design)))
-        yield f"exact condensed numbers pass 126 bits ({told(exact)}), so they are held as enclosures, midpoints and radii over 2^40: a fine design"
-    yield "sizes in bits, at most 126 each: " + "; of the enclosures: ".join(told(found) for _, found in parts)
-    for of, found in parts:
+    yield from class_words(design, policy, form)
+    parts = {" of the corners' enclosures": {}, "": {}, " of the enclosures": {}}
+    parts[" of the corners' enclosures" if sizes.has_fine_corners(design, policy) else ""] |= sizes.corner_sizes(design, policy)
+    parts[""] |= {"multiplier": sizes.multiplier_size(cost, bound)} if bound else {}
+    parts[" of the enclosures" if form.fine else ""] |= later_sizes(design, form, bound, report)
+    told = "; ".join((f"{of.strip()}: " if of else "") + told_sizes(found) for of, found in parts.items() if found)
+    yield f"sizes in bits, at most 126 each: {told}"
+    for of, found in parts.items():
         if wide(found):
             yield f"too wide{of}: {', '.join(wide(found))} (docs/DESIGNING.md, \"Sizes\")"
 

@@ -17,7 +17,7 @@ from fractions import Fraction
 from libraries import need, run
 
 need("numpy", "cvxopt")
-from corners import slacks_of
+from trajectories import slacks_of
 from design_text import plain, read_design
 from programs import Programs
 

@@ -1,10 +1,10 @@
 #!/usr/bin/env python3
 """Runs the commands of pages, and compares what they print with what the page says.
 
-    scripts/pages.py PAGE ..
+    scripts/pages.py [--write] PAGE ..
 
 A block of lines of four spaces that begins with ./ has commands, run at the top of the repository; the next such block is what they print. Commands that need a
-library which isn't there (those of scripts/) are left out, and told.
+library which isn't there (those of scripts/) are left out, and told. With --write a page is given what its commands print.
 """
 import os
 import subprocess
@@ -50,15 +50,37 @@ def wrong_in(text, lacking, run):
             yield f"{command} printed {got}, and the page says {printed}"
 
 
+def rewritten(text, run):
+    """The page with what its commands print. A block that another block of commands follows prints nothing."""
+    indented = lambda lines: "\n".join("    " + line for line in lines)
+    for command, printed in commands_of(text):
+        got = run(command)
+        if printed and got != printed:
+            place = text.index(indented(printed), text.index(indented(command.split("\n"))))
+            text = text[:place] + indented(got) + text[place + len(indented(printed)) :]
+    return text
+
+
 def run_at_top(command):
     text = subprocess.run(command, shell=True, capture_output=True, text=True, cwd=TOP).stdout.rstrip("\n")
     return text.split("\n") if text else []
+
+
+def write(pages):
+    for page in pages:
+        with open(page, encoding="utf-8") as file:
+            text = rewritten(file.read(), run_at_top)
+        with open(page, "w", encoding="utf-8") as file:
+            file.write(text)
+    return 0
 
 
 def main(pages):
     if pages in ([], ["--help"]):
         print(__doc__.strip())
         return 0
+    if pages[0] == "--write":
+        return write(pages[1:])
     failed = 0
     for page in pages:
         with open(page, encoding="utf-8") as file:

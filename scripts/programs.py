@@ -6,7 +6,7 @@ import cvxopt
 import numpy
 
 from condensed import condense
-from corners import cost_of
+from trajectories import cost_of
 
 cvxopt.solvers.options.update(show_progress=False, abstol=1e-10, reltol=1e-9, feastol=1e-9, maxiters=200)
 

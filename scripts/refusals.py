@@ -15,7 +15,7 @@ import tomllib
 from fractions import Fraction
 
 import sizes
-from corners import corners_of, margin_of, multiplier_of
+from corners import corners_of, exact_corner, margin_of, multiplier_of
 from design_text import plain, read_design
 from texts import read_text, records_of
 
@@ -88,22 +88,21 @@ PLACES = [
 TABLES = ["plant", "cost", "limits", "box", "targets"]
 
 FEWER = "fewer stages, a smaller plant.den, or units in which the row sums of |a| + |b| are nearer to plant.den"
+NEARER = "fewer stages, units in which the row sums of |a| + |b| are nearer to plant.den"
+EXACT = ", or denominators so short that exact numbers fit"
 QUANTITIES = {
-    "prediction": ("the plant's growth over the horizon", FEWER),
-    "corner_slack": ("the numbers of the corners' slacks", FEWER + ", a shorter denominator of the policy, a coarser box.grid"),
-    "corner_cost": ("the numbers of the corners' costs", "fewer stages, smaller denominators of plant and policy, coarser numerators, a coarser box.grid"),
+    "prediction": ("the plant's growth over the horizon with 40 fraction bits", NEARER + EXACT),
+    "corner_slack": ("the enclosures of the corners' slacks", NEARER + ", a smaller box and smaller inputs of the policy" + EXACT),
+    "corner_cost": ("the enclosures of the corners' costs", NEARER + ", a smaller box and smaller inputs of the policy, a smaller cost.row_den or cost.den" + EXACT),
     "multiplier": ("the bound on the multipliers", "a policy with a larger margin or a smaller cost"),
-    "prediction of the enclosures": ("the plant's growth over the horizon with 40 fraction bits", FEWER + ", smaller weights"),
-    "hessian": ("the enclosures of the condensed cost", FEWER + ", smaller weights or cost.row_den"),
-    "rows": ("the enclosures of the condensed limits", FEWER + ", a smaller limits.den"),
+    "hessian": ("the enclosures of the condensed cost", NEARER + ", smaller weights, a smaller cost.row_den or cost.den" + EXACT),
+    "rows": ("the enclosures of the condensed limits", NEARER + ", fewer limits, a smaller limits.den" + EXACT),
     "curvature": ("the comparison of limits and cost", FEWER + ", smaller weights or limits.den"),
     "error": ("the sum of the rounding errors", "a policy with a larger margin, a smaller box, smaller weights"),
     "descent": ("the numbers of the gains", FEWER + ", a larger gap target, the same limits over a larger limits.den"),
     "width": ("the greatest sum of a run", "a policy with a larger margin, a larger gap target, a smaller box"),
     "turn": ("the next state of a loop", "a smaller plant.den, or a controller with fewer steps or bits"),
 }
-# those whose size is computed here, after the corners were found to be within the limit
-AFTER_CORNERS = ("multiplier", "prediction", "hessian", "rows", "curvature", "error")
 
 # file names by command: the names' kinds in the order of the words
 FILES = {"generate": ["design", "policy", "controller", "report"], "solve": ["controller", "states"], "loop": ["design", "controller", "states"]}
@@ -269,11 +268,23 @@ def text_fault(call, file, fault, numbers):
     return TEXTS["number"].format(field=numbers[1], entry=entry, file=name, fault=f", `{word.strip()[:40]}`," if word else "", wanted=wanted)
 
 
+def simulated_slack(call, corner, row):
+    """The slack without rounding, where it was shown by an enclosure; else None."""
+    try:
+        design, policy = call.design(), call.policy()
+        return exact_corner(design, corner, policy[corner - 1]).slacks[row - 1] if sizes.has_fine_corners(design, policy) else None
+    except (TypeError, AttributeError, IndexError, ValueError):
+        return None
+
+
 def no_margin(call, corner, row, above, below):
     design, slack = call.design(), Fraction(above, below)
     shown = f"{above}/{below} = {float(slack):.7f}" if slack else "0"
     if design is None or row > design.rows:
         return TEXTS["no-margin"].format(corner=f"corner {corner}", row=f"row {row}", slack=shown, hint="")
+    exact = simulated_slack(call, corner, row)
+    if exact is not None:
+        slack, shown = exact, f"{shown}, of the corners' enclosures"
     kind, _, stage = design.place_of_row(row)
     rule = design.stage_rows[(row - 1) % len(design.stage_rows)] if kind == "stage row" else None
     alone = stage == 0 and rule is not None and not any(rule[design.states : -1])
@@ -301,20 +312,23 @@ def too_fine(call, epsilon):
     return TEXTS["too-fine"].format(epsilon=plain(Fraction(epsilon, 2**40)), hint=hint)
 
 
+def sizes_of(design, policy):
+    """The sizes that are tested, as far as there are numbers that they are made of: those of the corners, and where these are within the limit, those of the form."""
+    found = sizes.corner_sizes(design, policy)
+    if max(found.values()) > sizes.LIMIT:
+        return found
+    margin, cost = margin_of(corners_of(design, policy))
+    bound, form = multiplier_of(margin, cost), sizes.form_of(design)
+    return found | sizes.form_sizes(design, form) | {"multiplier": sizes.multiplier_size(cost, bound), "error": sizes.Errors(design, form, bound).size}
+
+
 def too_wide(call, name):
     """Status 10, with the size in bits where the files give it."""
     what, helps = QUANTITIES.get(name, ("a number of the design", "a smaller design"))
-    design, policy, size = call.design(), call.policy(), ""
     try:
-        found = sizes.early_sizes(design, policy)
-        if name in AFTER_CORNERS and found.get(name, 0) <= sizes.LIMIT:
-            margin, cost = margin_of(corners_of(design, policy))
-            bound, form = multiplier_of(margin, cost), sizes.form_of(design)
-            what, helps = QUANTITIES.get(f"{name} of the enclosures" if form.fine else name, (what, helps))
-            found |= sizes.form_sizes(design, form) | {"multiplier": sizes.multiplier_size(cost, bound), "error": sizes.Errors(design, form, bound).size}
-        size = f" (it is 2^{sizes.bits(found[name]):.1f})"
+        size = f" (it is 2^{sizes.bits(sizes_of(call.design(), call.policy())[name]):.1f})"
     except (KeyError, TypeError, AttributeError, IndexError, ValueError):
-        pass
+        size = ""
     return TEXTS["too-wide"].format(name=name, what=what, size=size, help=helps)
 
 
@@ -453,8 +467,7 @@ def table():
     yield "| Quantity | What it is | What helps |"
     yield "|---|---|---|"
     for name, (what, helps) in QUANTITIES.items():
-        name, _, of = name.partition(" ")
-        yield f"| {f'`{name}` {of}'.rstrip()} | {what} | {helps} |"
+        yield f"| `{name}` | {what} | {helps} |"
 
 
 def main(arguments):

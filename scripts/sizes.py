@@ -1,6 +1,8 @@
 """The sizes that may not pass 2^126, in the order in which `generate` tests them, computed without a limit.
 
-A design is fine where a size of its exact condensed numbers passes the limit: then these are held as enclosures over 2^40, and their sizes are tested instead.
+The corners of a design with a policy are fine where a size of the exact corners passes the limit: then they are simulated in enclosures over 2^40, and the sizes of
+these are tested instead. A design is fine where a size of its exact condensed numbers passes the limit: then these are held as enclosures, in the same way. One may be
+without the other.
 """
 from fractions import Fraction
 from math import ceil, log2
@@ -39,12 +41,41 @@ def scales(design):
     return cost_width, width, design.cost_den + weights
 
 
-def early_sizes(design, policy):
-    """`prediction`, `corner_slack` and `corner_cost`, which come before the corners are simulated."""
+def reached(design, first):
+    """What a run in enclosures reaches at the last stage at most, where its first state and its plan reach this."""
+    for _ in range(design.stages):
+        first = over(growth(design) * first, design.plant_den) + 3
+    return first
+
+
+# ---- the corners, by class
+
+
+def exact_corner_sizes(design, policy):
+    """`prediction`, `corner_slack` and `corner_cost` of corners that are simulated exactly."""
     big, (cost_width, width, weights) = growth(design) ** design.stages, scales(design)
     reach = max(map(abs, design.lo + design.hi))
     plan = max(max(q * 2**design.grid, q * reach, *(2**design.grid * abs(u) for u in record)) for q, *record in policy)
     return {"prediction": big, "corner_slack": 2**17 * width * big * plan, "corner_cost": weights * (cost_width * big * plan) ** 2}
+
+
+def fine_corner_sizes(design, policy):
+    """And of corners in enclosures."""
+    cost_width, width, weights = scales(design)
+    box, plan = over(ONE * max(map(abs, design.lo + design.hi)), 2**design.grid), max(over(ONE * abs(u), q) + 2 for q, *record in policy for u in record)
+    last = reached(design, max(ONE, box, plan))
+    slack = max(2**17 * width, growth(design)) * last
+    return {"prediction": growth(design) * reached(design, ONE), "corner_slack": slack, "corner_cost": weights * (cost_width * last) ** 2}
+
+
+def has_fine_corners(design, policy):
+    """Whether the corners are simulated in enclosures: where a size of the exact ones passes the limit."""
+    return max(exact_corner_sizes(design, policy).values()) > LIMIT
+
+
+def corner_sizes(design, policy):
+    """`prediction`, `corner_slack` and `corner_cost`, which come before the corners are simulated."""
+    return fine_corner_sizes(design, policy) if has_fine_corners(design, policy) else exact_corner_sizes(design, policy)
 
 
 # ---- the condensed form, by class
@@ -73,9 +104,7 @@ def exact_sizes(design, form):
 
 def fine_sizes(design, form):
     """The sizes of the enclosures."""
-    omega = ONE
-    for _ in range(design.stages):
-        omega = over(growth(design) * omega, design.plant_den) + 3
+    omega = reached(design, ONE)
     hessian, rows = number_sizes(design, omega)
     hessian = max(hessian, 2**86 * total(form.hess_radii))
     in_a_row = lambda size: over(size, ONE) + 4 * design.entries

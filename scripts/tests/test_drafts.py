@@ -23,10 +23,15 @@ if not LACKING:
     import plot
     import policy
     import programs
+    import sizes
+    from condensed import condense
     from corners import corners_of, margin_of
     from design_text import design_of, read_design
+    from enclosures import condense_fine
     from texts import loop_lines_of, records_of
 
+# the examples that were drafted from their models
+MADE = ("antenna", "motor", "pmsm", "satellite", "wheel")
 DOUBLE = "period = 0.5\nstages = 5\na = [[0.0, 1.0], [0.0, 0.0]]\nb = [[0.0], [1.0]]\n"
 
 
@@ -73,12 +78,18 @@ class Drafts(unittest.TestCase):
         self.assertLess(discretise.response_error(a, b, 1, 10), 1e-9)
 
     def test_examples_are_what_their_models_give(self):
-        for name in ("motor", "pmsm", "satellite"):
+        for name in MADE:
             self.assertEqual(draft.draft(self.model(name)), self.design(name))
 
     def test_curvature_is_just_below_one(self):
-        for name in ("motor", "pmsm", "satellite"):
+        for name in MADE:
             self.assertTrue(0.98 < draft.curvature(self.design(name)) <= 1)
+
+    def test_growth_of_exact_numbers_and_of_enclosures(self):
+        design = self.design("antenna")
+        found = sizes.exact_sizes(design, condense(design))["prediction"], sizes.fine_sizes(design, condense_fine(design))["prediction"]
+        for bits, size in zip(discretise.growth_bits(sizes.growth(design), design.plant_den, design.stages), found):
+            self.assertAlmostEqual(float(bits), sizes.bits(size), places=6)
 
     def test_state_limit_holds_for_the_next_state(self):
         design = self.design("pmsm")
@@ -87,7 +98,7 @@ class Drafts(unittest.TestCase):
             self.assertLessEqual(abs(given - exact), 0.5)
 
     def test_policies_of_the_examples(self):
-        for name in ("motor", "pmsm", "satellite"):
+        for name in MADE:
             found, _ = self.quiet(policy.find, self.design(name))
             with open(os.path.join(EXAMPLES, name, "policy.csv"), encoding="ascii") as file:
                 self.assertEqual(found, records_of(file.read()))
@@ -121,7 +132,7 @@ class Drafts(unittest.TestCase):
         self.assertEqual(found[1][1][0], [0])
 
     def test_loops_of_the_examples_stay(self):
-        for name in ("motor", "pmsm", "satellite"):
+        for name in MADE:
             self.assertLessEqual(max(programs.reach_of(self.design(name))), 1)
 
     def test_judge_of_the_first(self):

@@ -1,17 +1,19 @@
 """The independent model of bench/fuzz, on worked designs whose exact numbers are too long, and against the numbers that the prover computes in
-crates/qp_model/proofs/FineWorked.antt."""
+crates/qp_model/proofs/FineWorked.antt and CornersWorked.antt."""
 import os
 import sys
 import unittest
 
 from condensed import condense
 from design_text import design_of
-from tests.worked import AXIS, FIRST, TOP
+from tests.worked import AXIS, FIRST, ROOMY_FINE_AXIS, TOP
 
 sys.path.insert(0, os.path.join(TOP, "bench", "fuzz"))
+import at_corners
 import cases
 import forms
 import model
+import program
 
 BASE = {"n": 1, "p": 1, "stages": 1, "den": 1, "a": [[1]], "b": [[1]], "cost_den": 1, "row_den": 1, "input": [1], "cost": [[1, 0, 1]], "final_cost": [], "limit_den": 4,
         "rows": [[0, 4, 4], [0, -4, 4]], "final_rows": [[4, 1]], "grid": 0, "lo": [0], "hi": [1], "target_den": 1, "violation": 16, "gap": 1}
@@ -22,6 +24,10 @@ THIRD = {"stages": 2, "den": 3, "a": [[2]], "b": [[-1]], "cost_den": 2, "row_den
          "final_rows": [[7, 2]]}
 CROSSED = {**THIRD, "n": 2, "p": 2, "a": [[2, 1], [0, -4]], "b": [[1, 0], [2, -5]], "input": [3, 2], "cost": [[4, -1, 7, 6]], "final_cost": [[-2, 3, 1, 9]],
            "rows": [[1, 2, -3, 8, 5]], "final_rows": [[7, 0, 2]], "lo": [0, 0], "hi": [1, 1]}
+
+
+THIRDS = [(3, [1, -2]), (7, [5, 0])]
+NINTHS = [(3, [1, -2, 4, 0]), (7, [5, 0, -1, 2]), (9, [1, 1, 1, 1]), (11, [3, -3, 2, -2])]
 
 
 def design(**changes):
@@ -91,6 +97,41 @@ class FineSizes(unittest.TestCase):
         self.assertEqual(twice(forms.fine_form(d).q[0][0]), (6597069766656, 0))
 
 
+class FineCorners(unittest.TestCase):
+    def corner(self, number, plans, changes):
+        d = design(**changes)
+        return at_corners.fine_corner(d, at_corners.states(d)[number - 1], *plans[number - 1])
+
+    def test_one_state(self):
+        corner = self.corner(2, THIRDS, THIRD)
+        self.assertEqual((corner.slacks, corner.over), ([6754142856334, 5026338869832, -17], 2**42))
+        self.assertEqual(corner.cost * 2 * 25 * 2**80, 478364545235733991924080324 + 46259916566953637499130800)
+        self.assertEqual((self.corner(1, THIRDS, THIRD).slacks[2], self.corner(1, THIRDS, THIRD).cost * 50 * 2**80), (1058788974877, 768439020980419981610594784))
+
+    def test_two_states(self):
+        corner = self.corner(3, NINTHS, CROSSED)
+        self.assertEqual(corner.slacks[1:], [7655858741530, 3719335629734])
+        self.assertEqual(corner.cost * 50 * 2**80, 1044396930298356345419780034 + 3731252529749439600362250)
+
+    def test_sizes(self):
+        self.assertEqual(at_corners.fine_sizes(design(**THIRD), THIRDS), {
+            "prediction": 3 * (2**40 + 6), "corner_slack": 1297036692689780736, "corner_cost": 4242120701074032009666489716})
+        found = at_corners.fine_sizes(design(**CROSSED), NINTHS)
+        self.assertEqual((found["corner_slack"], found["corner_cost"]), (49084565538849816576, 1846032233962639460264122696848))
+
+    def test_class_by_a_long_plan(self):
+        longs = [(2**40, [2**62, -(2**60)])] * 2
+        self.assertFalse(at_corners.are_fine(design(**CROSSED), NINTHS))
+        self.assertTrue(at_corners.are_fine(design(**THIRD), longs))
+        found = at_corners.sizes(design(**THIRD), longs)
+        self.assertEqual((found["corner_slack"], found["corner_cost"]), (5440166188265831295614976, 74628176595348317027229843410966932581696))
+        self.assertEqual(next(at_corners.shown(design(**THIRD), longs)).slacks[1], -1921530343453272748)
+
+    def test_each_shows_less_than_the_exact_corners(self):
+        for changes, plans in (({}, [(1, [0]), (8, [-7])]), (LONG, LONG_POLICY), (THIRD, THIRDS), (CROSSED, NINTHS)):
+            self.assertIsNone(at_corners.fault(design(**changes), plans))
+
+
 class FineDesigns(unittest.TestCase):
     def refused(self, plans, **changes):
         with self.assertRaises(model.Refused) as caught:
@@ -98,13 +139,28 @@ class FineDesigns(unittest.TestCase):
         return caught.exception.args
 
     def test_long(self):
-        report = model.choose(design(**LONG), LONG_POLICY).report
-        self.assertEqual([report[key] for key in ("margin", "cost", "multiplier", "step", "steps", "bits", "words", "gap")], [8192, 1, 8, 1, 4, 14, 10, 574834507776])
+        report = program.generate(design(**LONG), LONG_POLICY, model.exact_gains)[1]
+        self.assertEqual([report[key] for key in ("margin", "cost", "multiplier", "step", "steps", "bits", "words", "gap")], [8192, 1, 8, 1, 4, 14, 10, 102143918080])
         errors = model.Errors(design(**LONG), forms.fine_form(design(**LONG)), 8)
+        self.assertEqual(errors.epsilon(14), 574834507776)
         self.assertGreater(errors.epsilon(13), 2**40)
 
     def test_large_plant(self):
         self.assertEqual(self.refused([(1, [0] * 20)] * 2, stages=20, a=[[2147483647]]), (10, "prediction"))
+
+    def told(self, d, plans):
+        return [model.choose(d, plans).report[key] for key in ("margin", "cost", "multiplier", "step", "steps", "bits", "words")]
+
+    def test_fine_grid(self):
+        self.assertEqual(self.told(design(grid=24, hi=[2**24]), [(2**40, [0]), (2**40, [-962072674304])]), [8192, 1, 8, 1, 4, 24, 6])
+
+    def test_fine_axis(self):
+        d = model.read_design(ROOMY_FINE_AXIS.encode())
+        self.assertEqual(self.told(d, [(1, [0] * 10)] * 4), [65536, 487, 487, 1, 62336, 36, 86])
+
+    def test_no_margin_over_fine_corners(self):
+        # the second plan leaves 2^-18 to the last row
+        self.assertEqual(self.refused([(2**40, [0]), (2**40, [-3 * 2**38 - 2**22])], grid=24, hi=[2**24]), (6, 2, 3, 2**24, 2**42))
 
 
 if __name__ == "__main__":

@@ -1,21 +1,27 @@
-"""The numbers that the scripts compute anew, against worked rows: those of another program, and those that the prover computes in FineWorked of qp_model."""
+"""The numbers that the scripts compute anew, against worked rows: those of another program, and those that the prover computes in FineWorked and CornersWorked of
+qp_model."""
 import os
 import unittest
 from fractions import Fraction
 
 import sizes
 from condensed import condense, curvature
-from corners import corners_of, margin_of, multiplier_of, slacks_of, steps_of
+from corners import corners_of, exact_corner, fine_corner, margin_of, multiplier_of, steps_of
 from design_text import design_of, plain, read_design, text_of
 from enclosures import combined, condense_fine, product
 from explain import explain
+from trajectories import slacks_of
 from texts import kind_of, loop_lines_of, records_of, report_of
 from tests.worked import (
     AXIS,
     AXIS_OVER_1000,
     AXIS_POLICY,
+    CORNERS_OF_CROSSED,
+    CORNERS_OF_THIRD,
     CROSSED,
     EXAMPLES,
+    FAR,
+    FAR_POLICY,
     FINE_AXIS,
     FINE_AXIS_POLICY,
     FIRST,
@@ -24,9 +30,12 @@ from tests.worked import (
     FIRST_REPORT,
     LONG,
     LONG_POLICY,
+    ROOMY_FINE_AXIS,
     STEEP,
     STEEP_POLICY,
     THIRD,
+    THIRDS,
+    THIRDS_POLICY,
 )
 
 
@@ -55,6 +64,29 @@ class Corners(unittest.TestCase):
     def test_negative_slack(self):
         self.assertEqual(min(slacks_of(design_of(FIRST), [1], [0])), Fraction(-3, 4))
 
+    def test_corners_in_enclosures(self):
+        corner = fine_corner(design_of(THIRD), 2, records_of(CORNERS_OF_THIRD)[1])
+        self.assertEqual([v * 2**42 for v in corner.slacks], [6754142856334, 5026338869832, -17])
+        self.assertEqual(corner.cost * 50 * 2**80, 478364545235733991924080324 + 46259916566953637499130800)
+        corner = fine_corner(design_of(CROSSED), 3, records_of(CORNERS_OF_CROSSED)[2])
+        self.assertEqual([v * 2**42 for v in corner.slacks][1:], [7655858741530, 3719335629734])
+        self.assertEqual(corner.cost * 50 * 2**80, 1044396930298356345419780034 + 3731252529749439600362250)
+
+    def test_enclosures_show_no_more_than_there_is(self):
+        for text, policy in ((FIRST, FIRST_POLICY), (LONG, LONG_POLICY), (THIRD, CORNERS_OF_THIRD), (CROSSED, CORNERS_OF_CROSSED), (THIRDS, THIRDS_POLICY)):
+            for number, record in enumerate(records_of(policy), 1):
+                exact, fine = exact_corner(design_of(text), number, record), fine_corner(design_of(text), number, record)
+                self.assertTrue(all(shown <= slack < shown + Fraction(1, 2**34) for slack, shown in zip(exact.slacks, fine.slacks, strict=True)))
+                self.assertTrue(exact.cost <= fine.cost < exact.cost + Fraction(1, 2**30))
+
+    def test_margin_by_class(self):
+        policy = records_of(FINE_AXIS_POLICY * 4)
+        self.assertEqual(margin_of(corners_of(design_of(ROOMY_FINE_AXIS), policy)), (65536, 487))
+        # a sum of 2/3 and 1/3 is 1, and with its radius a little more
+        wide = THIRDS.replace("final = [[1, 1, 1]]", "final = [[1, 1, 2]]")
+        self.assertEqual(margin_of(corners_of(design_of(wide), records_of(THIRDS_POLICY))), (65535, 2))
+        self.assertEqual(margin_of(corners_of(design_of(wide.replace("16777216", "1").replace("grid = 24", "grid = 0")), records_of("1,0\n" * 4))), (65536, 1))
+
     def test_curvature_is_covered_by_the_step(self):
         self.assertTrue(1 < curvature(design_of(AXIS)) <= 2)
 
@@ -70,10 +102,24 @@ class Sizes(unittest.TestCase):
         design = design_of(text)
         return sizes.Errors(design, sizes.form_of(design), multiplier)
 
-    def test_fine_axis_is_too_wide(self):
-        found = sizes.early_sizes(design_of(FINE_AXIS), records_of(FINE_AXIS_POLICY * 4))
-        self.assertEqual(found["prediction"], (65536 + 32768 + 8192) ** 10)
-        self.assertGreater(found["prediction"], sizes.LIMIT)
+    def test_exact_corners_of_a_fine_axis_are_too_wide(self):
+        design, policy = design_of(FINE_AXIS), records_of(FINE_AXIS_POLICY * 4)
+        self.assertEqual(sizes.exact_corner_sizes(design, policy)["prediction"], (65536 + 32768 + 8192) ** 10)
+        self.assertTrue(sizes.has_fine_corners(design, policy))
+        self.assertLess(max(sizes.corner_sizes(design, policy).values()), 2**103)
+
+    def test_sizes_of_fine_corners(self):
+        self.assertEqual(sizes.fine_corner_sizes(design_of(THIRD), records_of(CORNERS_OF_THIRD)), {
+            "prediction": 3298534883346, "corner_slack": 1297036692689780736, "corner_cost": 4242120701074032009666489716})
+        found = sizes.fine_corner_sizes(design_of(CROSSED), records_of(CORNERS_OF_CROSSED))
+        self.assertEqual((found["corner_slack"], found["corner_cost"]), (49084565538849816576, 1846032233962639460264122696848))
+
+    def test_class_of_the_corners(self):
+        far = f"{2**40},{2**62},{-(2**60)}\n" * 2
+        for text, policy, fine in ((FIRST, FIRST_POLICY, False), (LONG, LONG_POLICY, False), (CROSSED, CORNERS_OF_CROSSED, False), (THIRD, far, True), (THIRDS, THIRDS_POLICY, True)):
+            self.assertEqual(sizes.has_fine_corners(design_of(text), records_of(policy)), fine)
+        found = sizes.corner_sizes(design_of(THIRD), records_of(far))
+        self.assertEqual((found["corner_slack"], found["corner_cost"]), (5440166188265831295614976, 74628176595348317027229843410966932581696))
 
     def test_rounding_errors_of_the_first(self):
         errors = self.errors(FIRST, 8)
@@ -149,8 +195,8 @@ class Texts(unittest.TestCase):
 
     def test_report_as_json(self):
         text = (
-            '{"bits":"10","cost":"1","gap":"804534616064","margin":"8192","multiplier":"8","step":"1","steps":"4","undercut":"71173278793728","version":"1",'
-            '"violation":"8896659849216","width":"26","words":"6"}\n'
+            '{"bits":"10","cost":"1","gap":"438095052800","margin":"8192","multiplier":"8","step":"1","steps":"4","undercut":"70806839230464","version":"1",'
+            '"violation":"8850854903808","width":"26","words":"6"}\n'
         )
         self.assertEqual(report_of(text), report_of(FIRST_REPORT))
 
@@ -184,7 +230,7 @@ class Explain(unittest.TestCase):
     def test_report(self):
         told = self.told(report=FIRST_REPORT)
         self.assertIn("R = 8: the greatest cost 1 over the least slack 0.125", told)
-        self.assertIn("exceeded by at most 8.091", told)
+        self.assertIn("exceeded by at most 8.05", told)
 
     def test_controller(self):
         told = self.told(controller=FIRST_CONTROLLER)
@@ -212,9 +258,20 @@ class Explain(unittest.TestCase):
         self.assertIn("corner_cost 92.3, multiplier 85.0; of the enclosures: prediction 63.0, hessian 90.3, rows 124.3, curvature 87.5, error", told)
         self.assertNotIn("too wide", told)
 
-    def test_sizes_of_a_design_that_is_too_wide(self):
-        told = self.told(design=FINE_AXIS, policy=FINE_AXIS_POLICY * 4)
-        self.assertIn("too wide: prediction, corner_slack, corner_cost (docs", told)
+    def test_sizes_of_fine_corners(self):
+        told = self.told(design=ROOMY_FINE_AXIS, policy=FINE_AXIS_POLICY * 4)
+        self.assertIn("exact numbers of the corners pass 126 bits (prediction 167.0, corner_slack 194.1, corner_cost 351.0), so the plans are simulated in enclosures", told)
+        self.assertIn("over 2^40: fine corners\nexact condensed numbers pass 126 bits", told)
+        self.assertIn("126 each: of the corners' enclosures: prediction 63.7, corner_slack 70.1, corner_cost 103.0; multiplier 90.9; of the enclosures: prediction 63.7, hessian", told)
+        self.assertNotIn("too wide", told)
+
+    def test_sizes_of_fine_corners_of_an_exact_design(self):
+        told = self.told(design=THIRDS.replace("final = [[1, 1, 1]]", "final = [[1, 1, 2]]"), policy=THIRDS_POLICY)
+        self.assertIn("126 each: of the corners' enclosures: prediction 41.6, corner_slack 59.3, corner_cost 83.6; multiplier 83.6, prediction 1.6, hessian", told)
+        self.assertNotIn("a fine design", told)
+
+    def test_sizes_of_fine_corners_that_are_too_wide(self):
+        self.assertIn("too wide of the corners' enclosures: corner_cost (docs", self.told(design=FAR, policy=FAR_POLICY))
 
     def test_sizes_of_enclosures_that_are_too_wide(self):
         self.assertIn("too wide of the enclosures: prediction, hessian, rows, curvature, error (docs", self.told(design=STEEP, policy=STEEP_POLICY))

@@ -30,6 +30,12 @@ class Pages(unittest.TestCase):
     def test_a_line_where_none_is_said(self):
         self.assertEqual(len(self.wrong({"./one a && ./two b": ["first", "  second"], "./three\n./four": ["x"], "./scripts/five": ["version = 1"]})), 1)
 
+    def test_rewritten(self):
+        printed = {"./one a && ./two b": ["first", "third"], "./three\n./four": [], "./scripts/five": ["version = 2", "x"]}
+        text = PAGE.replace("    first\n      second\n", "    first\n    third\n").replace("    version = 1\n", "    version = 2\n    x\n")
+        self.assertEqual(pages.rewritten(PAGE, printed.get), text)
+        self.assertEqual(pages.rewritten(text, printed.get), text)
+
     def test_left_out_without_libraries(self):
         self.assertEqual(self.wrong({"./one a && ./two b": ["first", "  second"]}, ["numpy"]), [])
 

@@ -7,7 +7,27 @@ import sys
 import unittest
 
 import refusals
-from tests.worked import AXIS, AXIS_POLICY, FINE_AXIS, FINE_AXIS_POLICY, FIRST, FIRST_CONTROLLER, FIRST_POLICY, LONG, LONG_POLICY, STEEP, STEEP_POLICY, TOP, folder_with
+from tests.worked import (
+    AXIS,
+    AXIS_POLICY,
+    FAR,
+    FAR_POLICY,
+    FINE_AXIS_POLICY,
+    FIRST,
+    FIRST_CONTROLLER,
+    FIRST_POLICY,
+    LONG,
+    LONG_POLICY,
+    ROOMY_FINE_AXIS,
+    STEEP,
+    STEEP_POLICY,
+    STEEPER,
+    STEEPER_POLICY,
+    THIRDS,
+    THIRDS_POLICY,
+    TOP,
+    folder_with,
+)
 
 NAMED = "# state 1: angle, 1 is 2 deg\n# state 2: rate, 1 is 1 deg/s\n# stage row 3: angle above, 1 is 2 deg\n"
 
@@ -124,6 +144,12 @@ class Explained(unittest.TestCase):
     def test_no_margin_in_a_final_row(self):
         self.assertIn("final row 4 at stage 5", self.generate("error 6 no-margin 1 34 0 1", AXIS, AXIS_POLICY))
 
+    def test_no_margin_of_corners_in_enclosures(self):
+        # 2/3 + 1/3 of the bound of 1, which the enclosures miss by 2 / 2^40
+        told = self.generate("error 6 no-margin 1 2 -2 1099511627776", THIRDS, THIRDS_POLICY)
+        self.assertIn("slack -2/1099511627776 = -0.0000000, of the corners' enclosures, at least", told)
+        self.assertIn("The plan touches the limit", told)
+
     def test_state_row_at_stage_0(self):
         self.assertIn("at stage 0 that is the corner itself", self.generate("error 6 no-margin 2 3 0 32", AXIS, AXIS_POLICY))
 
@@ -142,15 +168,17 @@ class Explained(unittest.TestCase):
         for name in ("prediction", "corner_slack", "corner_cost", "multiplier", "hessian", "rows", "curvature", "error", "descent", "width", "turn"):
             self.assertIn(f"`{name}`, {refusals.QUANTITIES[name][0]}, passes 2^126", self.generate(f"error 10 too-wide {name}"))
 
-    def test_size_of_the_quantity(self):
-        told = self.generate("error 10 too-wide prediction", FINE_AXIS, FINE_AXIS_POLICY * 4)
-        self.assertIn("`prediction`, the plant's growth over the horizon, passes 2^126 (it is 2^167.0)", told)
+    def test_size_of_the_corners(self):
+        told = self.generate("error 10 too-wide prediction", STEEPER, STEEPER_POLICY)
+        self.assertIn("`prediction`, the plant's growth over the horizon with 40 fraction bits, passes 2^126 (it is 2^156.0)", told)
+        self.assertIn("(it is 2^168.1)", self.generate("error 10 too-wide corner_cost", FAR, FAR_POLICY))
 
     def test_size_of_the_enclosures(self):
         told = self.generate("error 10 too-wide prediction", STEEP, STEEP_POLICY)
         self.assertIn("`prediction`, the plant's growth over the horizon with 40 fraction bits, passes 2^126 (it is 2^127.0)", told)
-        self.assertIn("smaller weights", told)
+        self.assertIn("denominators so short that exact numbers fit", told)
         self.assertIn("(it is 2^90.3)", self.generate("error 10 too-wide hessian", LONG, LONG_POLICY))
+        self.assertIn("(it is 2^107.0)", self.generate("error 10 too-wide hessian", ROOMY_FINE_AXIS, FINE_AXIS_POLICY * 4))
 
     def test_controller_line(self):
         told = self.solve("error 11 controller 1 line 10", FIRST_CONTROLLER.replace("T 0", "T -0"))

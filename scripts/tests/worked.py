@@ -64,12 +64,12 @@ steps 4
 bits 10
 width 26
 words 6
-violation 8896659849216 1099511627776
-gap 804534616064 1099511627776
-undercut 71173278793728 1099511627776
+violation 8850854903808 1099511627776
+gap 438095052800 1099511627776
+undercut 70806839230464 1099511627776
 end
 """
-# an axis that coasts: margin 1, cost 158.75, R 159, step 1, K 20352, f 28 with a gap of 699629521553 over 2^40
+# an axis that coasts: margin 1, cost 158.75, R 159, step 1, K 20352, f 28, where the stated errors cost 699629521553 over 2^40
 AXIS = """version = 1
 states = 2
 inputs = 1
@@ -103,6 +103,8 @@ FINE_AXIS = AXIS.replace("stages = 5", "stages = 10").replace(
     "den = 8\na = [[8, 4], [0, 8]]\nb = [[1], [4]]", "den = 65536\na = [[65536, 32768], [0, 65536]]\nb = [[8192], [32768]]"
 )
 FINE_AXIS_POLICY = "1" + ",0" * 10 + "\n"
+# and with room for ten stages of coasting: margin 1, cost 487, R 487, step 1, K 62336, f 36
+ROOMY_FINE_AXIS = FINE_AXIS.replace("0, 0, 8]", "0, 0, 16]").replace("0, 8]", "0, 16]")
 # the axis over 1000 with its limits over 1000, whose exact condensed numbers pass the limit, and which has a controller in enclosures
 LIMITS_OVER_1000 = """den = 1000
 stage = [[0, 0, 1000, 4000], [0, 0, -1000, 4000], [1000, 0, 0, 8000], [-1000, 0, 0, 8000], [0, 1000, 0, 2000], [0, -1000, 0, 2000]]
@@ -124,6 +126,21 @@ LONG_POLICY = "1,0,0\n8,-7,0\n"
 # the first design over two stages with a growth of 2^29 in each: the corners are within the limit, the exact `rows` are not, and `prediction` of enclosures is not
 STEEP = FIRST.replace("stages = 1", "stages = 2").replace("a = [[1]]", "a = [[536870912]]").replace("hi = [1]", "hi = [0]")
 STEEP_POLICY = "1,0,0\n" * 2
+# over three stages the corners aren't within the limit, either, and nor is the enclosures' `prediction`
+STEEPER = STEEP.replace("stages = 2", "stages = 3")
+STEEPER_POLICY = "1,0,0,0\n" * 2
+# the first design with a plan that goes so far that its cost is too wide
+FAR = FIRST.replace("row_den = 1", "row_den = 1048576").replace("grid = 0", "grid = 24")
+FAR_POLICY = "1,0\n1,-5000000\n"
+# a state of 1, 1 that goes to 2/3, 1/3, whose sum is to be at most 1, over the finest grid: each is rounded, and the sum of both has a radius of 2
+THIRDS = (
+    FIRST.replace("states = 1", "states = 2")
+    .replace("den = 1\na = [[1]]\nb = [[1]]", "den = 3\na = [[1, 1], [1, 0]]\nb = [[0], [0]]")
+    .replace("stage = [[1, 0, 1]]", "stage = [[1, 1, 0, 1]]")
+    .replace("den = 4\nstage = [[0, 4, 4], [0, -4, 4]]\nfinal = [[4, 1]]", "den = 1\nstage = [[0, 0, 1, 4]]\nfinal = [[1, 1, 1]]")
+    .replace("grid = 0\nlo = [0]\nhi = [1]", "grid = 24\nlo = [16777216, 16777216]\nhi = [16777216, 16777216]")
+)
+THIRDS_POLICY = "1099511627776,0\n" * 4
 # x+ = (2 x - u) / 3 over two stages, with each kind of row
 THIRD = """version = 1
 states = 1
@@ -180,6 +197,8 @@ den = 1
 violation = 16
 gap = 16
 """
+CORNERS_OF_THIRD = "3,1,-2\n7,5,0\n"
+CORNERS_OF_CROSSED = "3,1,-2,4,0\n7,5,0,-1,2\n9,1,1,1,1\n11,3,-3,2,-2\n"
 
 
 def folder_with(case, **files):
