@@ -36,6 +36,15 @@ abs-floor_le_ceil (negsuc a) d h =
     let e : suc a + (d - 1) ≡ a + d = omega arith in
     rw (e, add-div_right a h) (omega arith)
 
+-- a quotient of a number that is at least 0
+pub floor_nonneg : (z : ℤ) (d : ℕ) → pos 0 ≤ℤ z → pos 0 ≤ℤ floor_of z d
+floor_nonneg (pos a) d h = omega (arith, ints)
+floor_nonneg (negsuc a) d h = absurd (omega (arith, ints, h))
+
+pub floor-times_le : (z : ℤ) (d : ℕ) → pos 0 ≤ℤ z → unsigned_abs (floor_of z d) * d ≤ unsigned_abs z
+floor-times_le (pos a) d h = div-mul-le_self a d
+floor-times_le (negsuc a) d h = absurd (omega (arith, ints, h))
+
 -- the sum that a plan entry is made of, part by part
 pub abs-own_le : (own offset : ℤ) (f : ℕ) → unsigned_abs (own +ℤ offset *ℤ pos (2 ^ f)) ≤ unsigned_abs own + unsigned_abs offset * 2 ^ f
 abs-own_le own offset f = omega (arith, abs-add_le own (offset *ℤ pos (2 ^ f)), abs-shifted offset f)

@@ -12,10 +12,10 @@ use Rattle.mat_int.specs.Row.{list_dot, abs_dot}
 use Rattle.mat_int.specs.Matrix.{row_of}
 use Rattle.mat_int.proofs.Dots.{abs-dot_le, abs-add_le}
 use Rattle.qp_model.specs.Controller.{Numbers}
-use Rattle.qp_model.specs.Machine.{IsAdmissible, loaded, entry_sum, plan_entry, plan_of, row_sum, next_multiplier, next_multipliers, after}
+use Rattle.qp_model.specs.Machine.{IsAdmissible, loaded, lowering_of, raised, top_of, entry_sum, plan_entry, plan_of, row_sum, next_multiplier, next_multipliers, after}
 use Rattle.qp_model.specs.AbsoluteSums.{weighted_abs_sum, magnitudes_of, state_magnitudes, clamp_magnitudes, entry_absolute_sum, plan_magnitudes, greatest_of}
 use Rattle.qp_model.specs.Within.{AreWithin, PlanMagnitudeLaw}
-use Rattle.qp_model.proofs.AbsoluteLaws.{abs-neg, abs-scaled_le, abs-shifted, abs-floor_le_ceil, abs-clamped_le, ceil_div_mono}
+use Rattle.qp_model.proofs.AbsoluteLaws.{abs-neg, abs-scaled_le, abs-shifted, abs-floor_le, abs-floor_le_ceil, abs-clamped_le, ceil_div_mono, floor_nonneg, floor-times_le}
 
 -- ---- rows against lists within magnitudes
 pub abs_dot-magnitudes : (a xs : List ℤ) (magnitudes : List ℕ) → AreWithin xs magnitudes → abs_dot a xs ≤ weighted_abs_sum a magnitudes
@@ -70,11 +70,45 @@ replicate_within f n b h = record {
   ];
 }
 
-pub multipliers_within : (c : Numbers) (state plan multipliers : List ℤ) → pos 0 ≤ℤ c.clamp → AreWithin (next_multipliers c state plan multipliers) (clamp_magnitudes c)
-multipliers_within c state plan multipliers h =
-    replicate_within (λ i. next_multiplier c state plan (at multipliers i) i) (length c.bounds) (unsigned_abs c.clamp) (λ j. abs-clamped_le c.clamp (at multipliers j +ℤ floor_of (row_sum c state plan j) (2 ^ c.fraction_bits)) h)
+-- ---- multipliers, and the same over 2^(fraction_bits + step_exponent)
+-- the greatest multiplier of a row is at least 0
+pub top_nonneg : (c : Numbers) (i : ℕ) → pos 0 ≤ℤ c.clamp → pos 0 ≤ℤ top_of c i
+top_nonneg c i h = floor_nonneg c.clamp (2 ^ lowering_of c i) h
+
+-- each multiplier is at most the greatest of its row
+pub record AreUpToTops (c : Numbers) (multipliers : List ℤ) : Type 0 where
+  pub each : (i : ℕ) → unsigned_abs (at multipliers i) ≤ unsigned_abs (top_of c i)
+
+pub tops_kept : (c : Numbers) (state plan multipliers : List ℤ) → pos 0 ≤ℤ c.clamp → AreUpToTops c (next_multipliers c state plan multipliers)
+tops_kept c state plan multipliers h = record {
+  each = λ i. elim (cases_lt i (length c.bounds)) [
+    | inl lt ↦ rw (get_or-map-range_with_len (λ i. next_multiplier c state plan (at multipliers i) i) 0 (length c.bounds) i i (pos 0) lt (omega arith))
+        (abs-clamped_le (top_of c i) (at multipliers i +ℤ floor_of (row_sum c state plan i) (2 ^ c.fraction_bits)) (top_nonneg c i h))
+    | inr le ↦ rw (get_or_past (next_multipliers c state plan multipliers) i (pos 0)
+        (omega (arith, length-map-range_with_len (λ i. next_multiplier c state plan (at multipliers i) i) 0 (length c.bounds), le))) (omega arith)
+  ];
+}
+
+-- raised, and as they are, they are at most the clamp
+raised_le : (c : Numbers) (l : ℤ) (i : ℕ) → pos 0 ≤ℤ c.clamp → unsigned_abs l ≤ unsigned_abs (top_of c i) → unsigned_abs (l *ℤ pos (2 ^ lowering_of c i)) ≤ unsigned_abs c.clamp
+raised_le c l i h le =
+    let power = 2 ^ lowering_of c i in
+    rw abs-shifted (omega (arith, mul-le (unsigned_abs l) power (unsigned_abs (top_of c i)) power le (le_refl power), floor-times_le c.clamp power h))
+
+pub raised_within : (c : Numbers) (multipliers : List ℤ) → pos 0 ≤ℤ c.clamp → AreUpToTops c multipliers → AreWithin (raised c multipliers) (clamp_magnitudes c)
+raised_within c multipliers h tops =
+    replicate_within (λ i. at multipliers i *ℤ pos (2 ^ lowering_of c i)) (length c.bounds) (unsigned_abs c.clamp) (λ j. raised_le c (at multipliers j) j h (tops.each j))
+
+pub top_le_clamp : (c : Numbers) (i : ℕ) → unsigned_abs (top_of c i) ≤ unsigned_abs c.clamp
+top_le_clamp c i = abs-floor_le c.clamp (2 ^ lowering_of c i)
 
 -- ---- the state
+pub zeros_at : (n i : ℕ) → get_or (replicate n (pos 0)) i (pos 0) ≡ pos 0
+zeros_at n i = elim (cases_lt i n) [
+  | inl lt ↦ get_or-replicate n i (pos 0) (pos 0) lt
+  | inr le ↦ get_or_past (replicate n (pos 0)) i (pos 0) (omega (arith, length-replicate n (pos 0), le))
+]
+
 pub zeros_within : (n : ℕ) (magnitudes : List ℕ) → length magnitudes ≡ n → AreWithin (replicate n (pos 0)) magnitudes
 zeros_within n magnitudes e = record {
   long = omega (arith, e, length-replicate n (pos 0));
@@ -111,15 +145,18 @@ state_within c xi e f g =
     (λ i h. (g.each i (rw g.long at h)).low) (λ i h. (g.each i (rw g.long at h)).high)
 
 -- ---- after any number of steps
-pub after_multipliers : (c : Numbers) (state : List ℤ) (k : ℕ) → pos 0 ≤ℤ c.clamp → AreWithin (after c state k).multipliers (clamp_magnitudes c)
+pub after_tops : (c : Numbers) (state : List ℤ) (k : ℕ) → pos 0 ≤ℤ c.clamp → AreUpToTops c (after c state k).multipliers
 unfolding after
-after_multipliers c state zero h = zeros_within (length c.bounds) (clamp_magnitudes c) (length-replicate (length c.bounds) (unsigned_abs c.clamp))
-after_multipliers c state (suc k) h = multipliers_within c state (plan_of c state (after c state k).multipliers) (after c state k).multipliers h
+after_tops c state zero h = record { each = λ i. rw (zeros_at (length c.bounds) i) (omega arith) }
+after_tops c state (suc k) h = tops_kept c state (plan_of c state (raised c (after c state k).multipliers)) (after c state k).multipliers h
+
+pub after_multipliers : (c : Numbers) (state : List ℤ) (k : ℕ) → pos 0 ≤ℤ c.clamp → AreWithin (raised c (after c state k).multipliers) (clamp_magnitudes c)
+after_multipliers c state k h = raised_within c (after c state k).multipliers h (after_tops c state k h)
 
 -- ---- the plan of each step
 pub plan_magnitude_law : PlanMagnitudeLaw
 plan_magnitude_law c xi sized grid k =
-    plan_within c (loaded c xi) (after c (loaded c xi) k).multipliers (state_within c xi sized.shaped.low sized.shaped.high grid)
+    plan_within c (loaded c xi) (raised c (after c (loaded c xi) k).multipliers) (state_within c xi sized.shaped.low sized.shaped.high grid)
     (after_multipliers c (loaded c xi) k sized.clamp_low)
 
 -- ---- the greatest magnitude

@@ -1,5 +1,4 @@
 -- The rules of a design's numbers are those of a design.
-use Rattle.std.proofs.Common.{◌≡◌, refl}
 use Rattle.qp_model.specs.Parts.{IsDesign}
 use Rattle.qp_model.specs.Rules.{AllHold}
 use Rattle.qp_model.specs.PartRules.{part_rules}
@@ -8,14 +7,14 @@ use Rattle.qp_model.specs.declared.design_parts.DesignParts.{DesignParts}
 pub design_from_rules : (p : DesignParts) → AllHold (part_rules p) → IsDesign p
 unfolding part_rules
 design_from_rules p held =
-    let (states, (inputs, (stages, plant))) = held in
+    let (version, (states, (inputs, (stages, plant)))) = held in
     let (plant_den, (a_size, (a, (b_size, (b, cost))))) = plant in
     let (cost_den, (row_den, (input_count, (input_weights, (stage_size, (stage, (final_size, (final, limits)))))))) = cost in
     let (limit_den, (rows_size, (rows, (last_size, (last, box))))) = limits in
     let (grid, (lo_count, (lo, (hi_count, (hi, targets))))) = box in
     let (target_den, (violation, (gap, _))) = targets in
     record {
-      version = refl;
+      version = version;
       states = states;
       inputs = inputs;
       stages = stages;
@@ -46,58 +45,61 @@ design_from_rules p held =
 pub rules_from_design : (p : DesignParts) → IsDesign p → AllHold (part_rules p)
 unfolding part_rules
 rules_from_design p d = (
-  d.states,
+  d.version,
   (
-    d.inputs,
+    d.states,
     (
-      d.stages,
+      d.inputs,
       (
-        d.plant_den,
+        d.stages,
         (
-          record { rows = d.a.rows; cols = d.a.cols },
+          d.plant_den,
           (
-            d.a.numbers,
+            record { rows = d.a.rows; cols = d.a.cols },
             (
-              record { rows = d.b.rows; cols = d.b.cols },
+              d.a.numbers,
               (
-                d.b.numbers,
+                record { rows = d.b.rows; cols = d.b.cols },
                 (
-                  d.cost_den,
+                  d.b.numbers,
                   (
-                    d.row_den,
+                    d.cost_den,
                     (
-                      d.input_count,
+                      d.row_den,
                       (
-                        d.input_weights,
+                        d.input_count,
                         (
-                          record { rows = d.stage_cost.rows; cols = d.stage_cost.cols },
+                          d.input_weights,
                           (
-                            record { numbers = d.stage_cost.numbers; weights = d.stage_weights },
+                            record { rows = d.stage_cost.rows; cols = d.stage_cost.cols },
                             (
-                              record { rows = d.final_cost.rows; cols = d.final_cost.cols },
+                              record { numbers = d.stage_cost.numbers; weights = d.stage_weights },
                               (
-                                record { numbers = d.final_cost.numbers; weights = d.final_weights },
+                                record { rows = d.final_cost.rows; cols = d.final_cost.cols },
                                 (
-                                  d.limit_den,
+                                  record { numbers = d.final_cost.numbers; weights = d.final_weights },
                                   (
-                                    record { rows = d.stage_rows.rows; cols = d.stage_rows.cols },
+                                    d.limit_den,
                                     (
-                                      d.stage_rows.numbers,
+                                      record { rows = d.stage_rows.rows; cols = d.stage_rows.cols },
                                       (
-                                        record { rows = d.final_rows.rows; cols = d.final_rows.cols },
+                                        d.stage_rows.numbers,
                                         (
-                                          record { numbers = d.final_rows.numbers; some_row = d.some_row },
+                                          record { rows = d.final_rows.rows; cols = d.final_rows.cols },
                                           (
-                                            d.grid,
+                                            record { numbers = d.final_rows.numbers; some_row = d.some_row },
                                             (
-                                              d.lo.long,
+                                              d.grid,
                                               (
-                                                d.lo.numbers,
+                                                d.lo.long,
                                                 (
-                                                  d.hi.long,
+                                                  d.lo.numbers,
                                                   (
-                                                    record { numbers = d.hi.numbers; box = d.box },
-                                                    (d.target_den, (d.violation, (d.gap, tt))),
+                                                    d.hi.long,
+                                                    (
+                                                      record { numbers = d.hi.numbers; box = d.box },
+                                                      (d.target_den, (d.violation, (d.gap, tt))),
+                                                    ),
                                                   ),
                                                 ),
                                               ),

@@ -14,7 +14,7 @@ use Rattle.qp_model.specs.Form.{Form}
 use Rattle.qp_model.specs.Class.{form_of}
 use Rattle.qp_model.specs.Errors.{error_sums_of, plan_bound, residual_error, radius_error, epsilon, error_size}
 use Rattle.qp_model.specs.Controller.{Numbers}
-use Rattle.qp_model.specs.Machine.{loaded, after, entry_sum, averaged_plan, average_denominator}
+use Rattle.qp_model.specs.Machine.{loaded, after, entry_sum, averaged_plan, average_denominator, raised, top_of}
 use Rattle.qp_model.specs.AbsoluteSums.{greatest_sum, entry_absolute_sum, plan_magnitudes, sum_magnitude}
 use Rattle.qp_model.specs.RealErrors.{gain_residual, has_residual_room, real_gradient, real_plan, real_cost}
 
@@ -186,6 +186,7 @@ first_controller = record {
   steps = 4;
   clamp = pos 32768;
   words = 6;
+  exponents = 1 ∷ 1 ∷ 1 ∷ [];
   low = pos 0 ∷ [];
   high = pos 1 ∷ [];
   state_gains = matrix 1 ((pos 512 ∷ []) ∷ []);
@@ -240,6 +241,43 @@ average = refl
 
 over : average_denominator first_controller ≡ 4096
 over = refl
+
+-- ---- the same numbers with an exponent for each row
+-- the third row's is that of the first version, and the first row's multiplier is always 0
+abbrev lowered_controller : Numbers
+lowered_controller = record first_controller { version = 2; exponents = 0 ∷ 1 ∷ 1 ∷ [] }
+
+lowered_average : averaged_plan lowered_controller (pos 1 ∷ []) ≡ negsuc 2223 ∷ []
+unfolding after
+lowered_average = refl
+
+-- the third row's is 0, so its multiplier is over 2^10 and is raised to 2^11
+abbrev third_controller : Numbers
+third_controller = record first_controller { version = 2; exponents = 1 ∷ 1 ∷ 0 ∷ [] }
+
+third_plans : map (λ k. (after third_controller (loaded third_controller (pos 1 ∷ [])) k).plan) (1 ∷ 2 ∷ 3 ∷ 4 ∷ [])
+    ≡ (negsuc 511 ∷ []) ∷ (negsuc 575 ∷ []) ∷ (negsuc 623 ∷ []) ∷ (negsuc 659 ∷ []) ∷ []
+unfolding after
+third_plans = refl
+
+third_multipliers : map (λ k. at (after third_controller (loaded third_controller (pos 1 ∷ [])) k).multipliers 2) (1 ∷ 2 ∷ 3 ∷ 4 ∷ []) ≡ pos 256 ∷ pos 448 ∷ pos 592 ∷ pos 700 ∷ []
+unfolding after
+third_multipliers = refl
+
+third_raised : raised third_controller (pos 1 ∷ pos 2 ∷ pos 256 ∷ []) ≡ pos 1 ∷ pos 2 ∷ pos 512 ∷ []
+third_raised = refl
+
+-- its greatest multiplier is half the others'
+third_top : map (top_of third_controller) (0 ∷ 1 ∷ 2 ∷ []) ≡ pos 32768 ∷ pos 32768 ∷ pos 16384 ∷ []
+third_top = refl
+
+third_average : averaged_plan third_controller (pos 1 ∷ []) ≡ negsuc 2371 ∷ []
+unfolding after
+third_average = refl
+
+-- the absolute sums are those of the first version
+third_absolute : greatest_sum third_controller ≡ 26214400
+third_absolute = refl
 
 -- ---- the errors by the residuals that its gains leave, which are none
 state_residual : gain_residual (form_of base) first_controller 0 0 ≡ 0

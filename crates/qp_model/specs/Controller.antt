@@ -1,14 +1,15 @@
 -- A controller as its numbers and lists, and what makes these a controller.
-use Rattle.std.specs.Prelude.{◌≡◌, ℕ, ◌+◌, ◌-◌, ◌*◌, ◌^◌, ◌<◌, ◌≤◌, ℤ, pos, ◌≤ℤ◌, List, length, All, unsigned_abs, FitsSigned}
+use Rattle.std.specs.Prelude.{◌≡◌, ℕ, ◌+◌, ◌-◌, ◌*◌, ◌^◌, ◌<◌, ◌≤◌, ℤ, pos, ◌≤ℤ◌, List, length, replicate, All, unsigned_abs, FitsSigned}
 use Rattle.std.specs.Int.{w128}
 use Rattle.integer_algebra.specs.Sums.{at}
 use Rattle.mat_int.specs.Matrix.{Matrix}
-use Rattle.qp_model.specs.Limits.{text_version, most_states, most_inputs, most_stages, most_rows}
+use Rattle.qp_model.specs.Limits.{text_version, last_version, most_states, most_inputs, most_stages, most_rows}
 use Rattle.qp_model.specs.Range.{LiesIn, IsNumerator}
 use Rattle.qp_model.specs.declared.controller_parts.ControllerParts.{ControllerParts}
 
 -- The version of its text, and a controller's numbers and lists, by words. `ControllerParts` and the formulas have letters:
 --   n, p, N, m: states, inputs a stage, stages and rows;    f, g, s, w: fraction_bits, grid_bits, step_exponent and width
+--   exps: exponents, the step exponent of each row, of which step_exponent is the greatest that there may be
 --   K: steps;    lo, hi: low and high, over 2^g
 --   P, T, W (p_mat, t, w_mat): state_gains, offsets and dual_gains, over 2^f
 --   G, E, b (g_mat, e_mat, bound): plan_rows, state_rows and bounds, over 2^f
@@ -25,6 +26,7 @@ pub record Numbers : Type 0 where
   pub steps : ℕ
   pub clamp : ℤ
   pub words : ℕ
+  pub exponents : List ℕ
   pub low : List ℤ
   pub high : List ℤ
   pub state_gains : Matrix
@@ -36,7 +38,7 @@ pub record Numbers : Type 0 where
 
 abbrev pub numbers : ControllerParts → Numbers
 numbers c = record {
-  version = text_version;
+  version = c.version;
   states = c.n;
   inputs = c.p;
   stages = c.stages;
@@ -48,6 +50,7 @@ numbers c = record {
   steps = c.steps;
   clamp = c.clamp;
   words = c.words;
+  exponents = c.exps.items;
   low = c.lo.items;
   high = c.hi.items;
   state_gains = c.p_mat;
@@ -70,6 +73,7 @@ pub record HasShape (a : Matrix) (height breadth : ℕ) : Type 0 where
 
 -- the lists and matrices have the lengths that the sizes say
 pub record IsShaped (c : Numbers) : Type 0 where
+  pub exponents : length c.exponents ≡ c.rows
   pub low : length c.low ≡ c.states
   pub high : length c.high ≡ c.states
   pub state_gains : HasShape c.state_gains (plan_length c) c.states
@@ -81,7 +85,7 @@ pub record IsShaped (c : Numbers) : Type 0 where
 
 -- the shapes and ranges of a controller's numbers, but for the width
 pub record IsSized (c : Numbers) : Type 0 where
-  pub version : c.version ≡ text_version
+  pub version : LiesIn text_version last_version c.version
   pub states : LiesIn 1 (most_states c.version) c.states
   pub inputs : LiesIn 1 (most_inputs c.version) c.inputs
   pub stages : LiesIn 1 (most_stages c.version) c.stages
@@ -89,6 +93,9 @@ pub record IsSized (c : Numbers) : Type 0 where
   pub grid_bits : c.grid_bits ≤ 24
   pub fraction_bits : LiesIn c.grid_bits 48 c.fraction_bits
   pub step_exponent : c.step_exponent ≤ 40
+  pub exponents : All (λ s. s ≤ c.step_exponent) c.exponents
+  -- in the first version all rows have one exponent
+  pub same_exponents : c.version ≡ text_version → c.exponents ≡ replicate c.rows c.step_exponent
   pub steps : LiesIn 1 4194304 c.steps
   pub clamp_low : pos 0 ≤ℤ c.clamp
   pub clamp_high : c.clamp ≤ℤ pos (2 ^ 126)

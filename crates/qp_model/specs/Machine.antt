@@ -26,22 +26,26 @@ loaded c xi = map (λ x. x *ℤ pos (2 ^ (c.fraction_bits - c.grid_bits))) xi
 -- ---- exponents
 -- the step exponent of row i: a step along it is 2^-exponent, and its multiplier is over 2^(fraction_bits + exponent)
 abbrev pub exponent_of : Numbers → ℕ → ℕ
-exponent_of c i = c.step_exponent
+exponent_of c i = slice_index_or c.exponents i 0
+
+-- by how many bits it is below the greatest
+abbrev pub lowering_of : Numbers → ℕ → ℕ
+lowering_of c i = c.step_exponent - exponent_of c i
 
 -- the multipliers over 2^(fraction_bits + step_exponent), as the gains are multiplied with them
 abbrev pub raised : Numbers → List ℤ → List ℤ
-raised c multipliers = multipliers
+raised c multipliers = map (λ i. at multipliers i *ℤ pos (2 ^ lowering_of c i)) (range_with_len 0 (length c.bounds))
 
--- the greatest multiplier of row i
+-- the greatest multiplier of row i: the clamp over 2^(fraction_bits + its exponent), rounded down
 abbrev pub top_of : Numbers → ℕ → ℤ
-top_of c i = c.clamp
+top_of c i = floor_of c.clamp (2 ^ lowering_of c i)
 
 -- ---- one step
--- the sum S_j, which plan entry j is the floor of, before the shift and the sign
+-- the sum S_j, which plan entry j is the floor of, before the shift and the sign; the multipliers are over 2^(fraction_bits + step_exponent)
 abbrev pub entry_sum : Numbers → List ℤ → List ℤ → ℕ → ℤ
 entry_sum c state multipliers j =
     (list_dot (row_of c.state_gains j) state +ℤ at c.offsets j *ℤ pos (2 ^ c.fraction_bits)) *ℤ pos (2 ^ c.step_exponent)
-    +ℤ list_dot (row_of c.dual_gains j) (raised c multipliers)
+    +ℤ list_dot (row_of c.dual_gains j) multipliers
 
 -- plan entry j, over 2^fraction_bits
 abbrev pub plan_entry : Numbers → List ℤ → List ℤ → ℕ → ℤ
@@ -79,7 +83,7 @@ start_of c = record { plan = replicate (length c.offsets) (pos 0); multipliers =
 -- the plan at the multipliers, the multipliers moved at that plan, and the sums with it added
 abbrev pub step_of : Numbers → List ℤ → Iterate → Iterate
 step_of c state made =
-    let plan = plan_of c state made.multipliers in
+    let plan = plan_of c state (raised c made.multipliers) in
     record { plan = plan; multipliers = next_multipliers c state plan made.multipliers; sums = added made.sums plan }
 
 -- ---- runs

@@ -22,7 +22,7 @@ final_row m n r = record { of_state = entry_of m r; of_input = none; bound = ent
 -- the design with these numbers
 abbrev pub design_of : DesignParts → Design
 design_of p = record {
-  version = text_version;
+  version = p.version;
   states = p.states;
   inputs = p.inputs;
   stages = p.stages;
@@ -48,6 +48,7 @@ design_of p = record {
 
 -- the numbers alone: two values of `DesignParts` with the same are the same design
 pub record DesignNumbers : Type 0 where
+  pub version : ℕ
   pub states : ℕ
   pub inputs : ℕ
   pub stages : ℕ
@@ -71,6 +72,7 @@ pub record DesignNumbers : Type 0 where
 
 abbrev pub design_numbers : DesignParts → DesignNumbers
 design_numbers p = record {
+  version = p.version;
   states = p.states;
   inputs = p.inputs;
   stages = p.stages;
@@ -106,10 +108,10 @@ pub record IsNumeratorList (xs : List ℤ) (n : ℕ) : Type 0 where
   pub numbers : All IsNumerator xs
 
 pub record IsDesign (p : DesignParts) : Type 0 where
-  pub version : (design_of p).version ≡ text_version
-  pub states : LiesIn 1 (most_states (design_of p).version) p.states
-  pub inputs : LiesIn 1 (most_inputs (design_of p).version) p.inputs
-  pub stages : LiesIn 1 (most_stages (design_of p).version) p.stages
+  pub version : p.version ≡ text_version
+  pub states : LiesIn 1 (most_states text_version) p.states
+  pub inputs : LiesIn 1 (most_inputs text_version) p.inputs
+  pub stages : LiesIn 1 (most_stages text_version) p.stages
   pub plant_den : IsDenominator p.plant_den
   pub a : IsTable p.a p.states p.states p.states
   pub b : IsTable p.b p.states p.states p.inputs

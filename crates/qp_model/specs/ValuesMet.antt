@@ -5,7 +5,7 @@ use Rattle.integer_algebra.specs.Sums.{at}
 use Rattle.mat_int.specs.Row.{list_dot}
 use Rattle.mat_int.specs.Matrix.{row_of}
 use Rattle.qp_model.specs.Controller.{Numbers}
-use Rattle.qp_model.specs.Machine.{Iterate, loaded, raised, entry_sum, plan_entry, plan_of, row_sum, next_multiplier, step_of, after}
+use Rattle.qp_model.specs.Machine.{Iterate, loaded, raised, top_of, entry_sum, plan_entry, row_sum, next_multiplier, step_of, after}
 
 -- the products of two lists, one by one
 abbrev pub products : List ℤ → List ℤ → List ℤ
@@ -18,14 +18,15 @@ abbrev pub partial_sums : ℤ → List ℤ → List ℤ
 partial_sums start [] = []
 partial_sums start (term ∷ terms) = (start +ℤ term) ∷ partial_sums (start +ℤ term) terms
 
--- the values that plan entry j is made by; the last sum is taken both apart and going on from the first
+-- the values that plan entry j is made by, at multipliers over 2^(fraction_bits + step_exponent); the last sum is taken both apart and going on from the
+-- first
 abbrev pub entry_values : Numbers → List ℤ → List ℤ → ℕ → List ℤ
 entry_values c state multipliers j =
     let own = products (row_of c.state_gains j) state in
     let offset = at c.offsets j *ℤ pos (2 ^ c.fraction_bits) in
     let sum = list_dot (row_of c.state_gains j) state +ℤ offset in
     let scaled = sum *ℤ pos (2 ^ c.step_exponent) in
-    let dual = products (row_of c.dual_gains j) (raised c multipliers) in
+    let dual = products (row_of c.dual_gains j) multipliers in
     own ++ partial_sums (pos 0) own ++ offset ∷ sum ∷ scaled ∷ [] ++ dual ++ partial_sums (pos 0) dual ++ partial_sums scaled dual
     ++ entry_sum c state multipliers j ∷ floor_of (entry_sum c state multipliers j) (2 ^ (c.fraction_bits + c.step_exponent)) ∷ plan_entry c state multipliers j ∷ []
 
@@ -37,7 +38,7 @@ row_values c state plan old i =
     let sum = list_dot (row_of c.plan_rows i) plan in
     let moved = floor_of (row_sum c state plan i) (2 ^ c.fraction_bits) in
     planned ++ partial_sums (pos 0) planned ++ own ++ partial_sums (pos 0) own ++ partial_sums sum own
-    ++ (at c.bounds i *ℤ pos (2 ^ c.fraction_bits)) ∷ row_sum c state plan i ∷ moved ∷ (old +ℤ moved) ∷ next_multiplier c state plan old i ∷ []
+    ++ (at c.bounds i *ℤ pos (2 ^ c.fraction_bits)) ∷ row_sum c state plan i ∷ moved ∷ (old +ℤ moved) ∷ c.clamp ∷ top_of c i ∷ next_multiplier c state plan old i ∷ []
 
 -- a word of w bits in two's complement
 pub record FitsWidth (w : ℕ) (z : ℤ) : Type 0 where
@@ -46,8 +47,9 @@ pub record FitsWidth (w : ℕ) (z : ℤ) : Type 0 where
 
 -- each value of a step fits
 pub record StepFits (w : ℕ) (c : Numbers) (state : List ℤ) (made : Iterate) : Type 0 where
-  pub entries : (j : ℕ) → j < length c.offsets → All (FitsWidth w) (entry_values c state made.multipliers j)
-  pub rows : (i : ℕ) → i < length c.bounds → All (FitsWidth w) (row_values c state (plan_of c state made.multipliers) (at made.multipliers i) i)
+  pub raised_multipliers : All (FitsWidth w) (raised c made.multipliers)
+  pub entries : (j : ℕ) → j < length c.offsets → All (FitsWidth w) (entry_values c state (raised c made.multipliers) j)
+  pub rows : (i : ℕ) → i < length c.bounds → All (FitsWidth w) (row_values c state (step_of c state made).plan (at made.multipliers i) i)
   pub sums : All (FitsWidth w) (step_of c state made).sums
 
 -- each value of a run fits, the loaded state too

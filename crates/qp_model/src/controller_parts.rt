@@ -3,6 +3,8 @@ use mat_int::Mat;
 /// The numbers of a controller, of any shapes and sizes. With `nu = p * stages` plan entries:
 #[derive(Debug, Drop)]
 pub struct ControllerParts {
+    /// The version of its text, 1 or 2. In version 1 each row has the step exponent `s`.
+    pub version: u32,
     /// States.
     pub n: usize,
     /// Inputs of a stage.
@@ -15,16 +17,18 @@ pub struct ControllerParts {
     pub f: u32,
     /// Grid bits: states are over `2^g`.
     pub g: u32,
-    /// The step exponent: multipliers are over `2^(f+s)`.
+    /// The greatest step exponent: gains are multiplied with multipliers over `2^(f+s)`.
     pub s: u32,
     /// The width of a word, in bits.
     pub w: u32,
     /// Steps of a run.
     pub steps: u32,
-    /// The greatest multiplier, over `2^(f+s)`.
+    /// The greatest multiplier of any row, over `2^(f+s)`.
     pub clamp: i128,
     /// Words of memory that a run needs.
     pub words: usize,
+    /// The step exponents of the m rows, each at most `s`: multiplier `i` is over `2^(f + exps[i])`.
+    pub exps: Vec<u32>,
     /// The least state of the box, over `2^g`.
     pub lo: Vec<i128>,
     /// The greatest state of the box, over `2^g`.

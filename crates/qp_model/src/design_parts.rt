@@ -4,6 +4,8 @@ use mat_int::Mat;
 /// limits' rows, the box of initial states and the targets.
 #[derive(Debug, Drop)]
 pub struct DesignParts {
+    /// The version of its text, which is 1.
+    pub version: u32,
     /// n, the states.
     pub states: usize,
     /// p, the inputs of a stage.

@@ -27,7 +27,10 @@ pub use laws::{
     expansion_law, gram_law, hessian_law, plan_magnitude_law, residual_law, response_law,
     row_bound_law, run_law, scaling_law, trajectory_law,
 };
-pub use limits::{MOST_INPUTS, MOST_ROWS, MOST_STAGES, MOST_STATES, VERSION};
+pub use limits::{
+    LAST_VERSION, MOST_INPUTS, MOST_ROWS, MOST_STAGES, MOST_STATES, VERSION, most_rows,
+    most_stages, most_states,
+};
 pub use number::{line_text, number_word, numbers_of, pieces_of, push_line, spaced_text};
 pub use policy::Policy;
 pub use quantity::{Quantity, Wide};
