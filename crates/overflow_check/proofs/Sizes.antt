@@ -10,6 +10,7 @@ use Rattle.integer_algebra.proofs.DivisionLaws.{ceil_div-le}
 use Rattle.qp_model.specs.Range.{IsNumerator}
 use Rattle.qp_model.specs.Controller.{Numbers, IsSized}
 use Rattle.qp_model.specs.AbsoluteSums.{magnitudes_of, state_magnitudes, clamp_magnitudes, entry_absolute_sum, plan_magnitudes, greatest_of, greatest_sum}
+use Rattle.qp_model.proofs.VersionLaws.{stages_le, limits_le}
 use Rattle.overflow_check.proofs.Greatest.{greatest-parts}
 
 -- ---- lengths of the reaches
@@ -36,11 +37,11 @@ pub length-plan_reach : (c : Numbers) → length (plan_magnitudes c) ≡ length 
 length-plan_reach c = length-map-range_with_len _ 0 (length c.offsets)
 
 -- ---- limits
-pub entries_le : (c : Numbers) → IsSized c → length c.offsets ≤ 60
-entries_le c s = omega (arith, s.shaped.offsets, mul-le c.inputs c.stages 3 20 s.inputs.1 s.stages.1)
+pub entries_le : (c : Numbers) → IsSized c → length c.offsets ≤ 90
+entries_le c s = omega (arith, s.shaped.offsets, mul-le c.inputs c.stages 3 30 s.inputs.1 (stages_le c s))
 
-pub rows_le : (c : Numbers) → IsSized c → length c.bounds ≤ 252
-rows_le c s = omega (arith, s.shaped.bounds, s.rows)
+pub rows_le : (c : Numbers) → IsSized c → length c.bounds ≤ 372
+rows_le c s = omega (arith, s.shaped.bounds, limits_le c s)
 
 -- ---- numbers read
 pub numerator_read : (xs : List ℤ) (i : ℕ) (x : ℤ) → All IsNumerator xs → i < length xs → x ≡ get_or xs i x → unsigned_abs x < 2 ^ 31

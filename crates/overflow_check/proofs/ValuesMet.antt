@@ -3,6 +3,7 @@ use Rattle.std.proofs.Common.{ℕ, ◌+◌, ◌-◌, ◌*◌, ◌^◌, ◌≤◌
 use Rattle.std.specs.Prelude.{All}
 use Rattle.std.proofs.lemmas.Int.{ints, unsigned_abs-mul}
 use Rattle.std.proofs.lemmas.Nat.{pow_pos, mul-le}
+use Rattle.std.proofs.lemmas.List.{get_or-replicate, length-replicate}
 use Rattle.std.proofs.lemmas.List.Elements.{All-nil, All-cons, All-append, All-weaker, All-from_get_or}
 use Rattle.integer_algebra.specs.Division.{floor_of, ceil_div}
 use Rattle.integer_algebra.specs.Sums.{at}
@@ -10,14 +11,14 @@ use Rattle.mat_int.specs.Row.{list_dot, abs_dot}
 use Rattle.mat_int.specs.Matrix.{row_of}
 use Rattle.mat_int.proofs.Dots.{abs-add_le}
 use Rattle.qp_model.specs.Controller.{Numbers}
-use Rattle.qp_model.specs.Machine.{Iterate, loaded, entry_sum, plan_entry, plan_of, row_sum, next_multiplier, step_of, after}
+use Rattle.qp_model.specs.Machine.{Iterate, loaded, raised, top_of, entry_sum, plan_entry, plan_of, row_sum, next_multiplier, step_of, after}
 use Rattle.qp_model.specs.AbsoluteSums.{state_magnitudes, clamp_magnitudes, entry_absolute_sum, plan_magnitudes, row_absolute_sum, next_magnitude}
 use Rattle.qp_model.specs.ValuesMet.{products, partial_sums, entry_values, row_values, FitsWidth, StepFits}
 use Rattle.qp_model.specs.Within.{AreWithin}
 use Rattle.overflow_check.specs.Laws.{ValuesLaw}
 use Rattle.qp_model.proofs.AbsoluteLaws.{le_times_pow, abs-neg, abs-shifted, abs-floor_le, abs-floor_le_ceil, abs-own_le, abs-scaled_le, abs-row_le, abs-clamped_le, ceil_div_mono}
 use Rattle.overflow_check.proofs.SumLaws.{SumsFit, sums_fit, own_le, dual_le, planned_le, row_parts_le, row_le, next_le}
-use Rattle.qp_model.proofs.MagnitudeLaws.{entry_parts_le, entry_sum_le, plan_within, state_within, after_multipliers, get_or-le-greatest}
+use Rattle.qp_model.proofs.MagnitudeLaws.{entry_parts_le, entry_sum_le, plan_within, state_within, top_nonneg, top_le_clamp, after_tops, after_multipliers, get_or-le-greatest}
 use Rattle.overflow_check.proofs.Runs.{after_sums_length, after_sums_le, after_suc, clamped_at}
 
 -- ---- lists of numbers below a bound
@@ -103,12 +104,15 @@ row_below c top state plan old i le next nonneg clamped w v =
     let ceiling : unsigned_abs moved ≤ ceil_div (unsigned_abs (list_dot planned plan) + unsigned_abs (list_dot own state) + unsigned_abs (at c.bounds i) * 2 ^ c.fraction_bits) d =
     omega (arith, abs-floor_le_ceil z d (pow_pos c.fraction_bits), ceil_div_mono (unsigned_abs z) _ d (pow_pos c.fraction_bits) whole) in
     let new : unsigned_abs (old +ℤ moved) ≤ top = omega (arith, abs-add_le old moved, ceiling, next_le c state plan old i clamped w v, next) in
-    let last : AreBelow top (bound ∷ z ∷ moved ∷ (old +ℤ moved) ∷ next_multiplier c state plan old i ∷ []) =
+    let clamp : unsigned_abs c.clamp ≤ top = omega (arith, next) in
+    let last : AreBelow top (bound ∷ z ∷ moved ∷ (old +ℤ moved) ∷ c.clamp ∷ top_of c i ∷ next_multiplier c state plan old i ∷ []) =
     cons_below top bound _ (omega (arith, abs-shifted (at c.bounds i) c.fraction_bits, parts, le))
     (cons_below top z _ (omega (arith, whole, row, le))
     (cons_below top moved _ (omega (arith, abs-floor_le z d, whole, row, le))
     (cons_below top (old +ℤ moved) _ new
-    (cons_below top (next_multiplier c state plan old i) [] (omega (arith, abs-clamped_le c.clamp (old +ℤ moved) nonneg, next)) (none_below top))))) in
+    (cons_below top c.clamp _ clamp
+    (cons_below top (top_of c i) _ (omega (arith, top_le_clamp c i, clamp))
+    (cons_below top (next_multiplier c state plan old i) [] (omega (arith, abs-clamped_le (top_of c i) (old +ℤ moved) (top_nonneg c i nonneg), top_le_clamp c i, clamp)) (none_below top))))))) in
     append_below top _ _ (append_below top _ _ (append_below top _ _ (append_below top _ _ (append_below top _ _
     (products_below top planned plan plans)
     (partial_sums_below top (pos 0) planned plan (omega (arith, plans))))
@@ -116,6 +120,15 @@ row_below c top state plan old i le next nonneg clamped w v =
     (partial_sums_below top (pos 0) own state (omega (arith, sums))))
     (partial_sums_below top (list_dot planned plan) own state sums))
     last
+
+-- the raised multipliers are below the clamp, which each row's sum holds
+raised_below : (c : Numbers) (top : ℕ) (multipliers : List ℤ) → SumsFit c top → AreWithin (raised c multipliers) (clamp_magnitudes c) → AreBelow top (raised c multipliers)
+raised_below c top multipliers fit v =
+    record {
+      each = All-from_get_or (λ z. unsigned_abs z ≤ top) (raised c multipliers) (pos 0) (λ i l.
+          let inside : i < length c.bounds = omega (arith, l, v.long, length-replicate (length c.bounds) (unsigned_abs c.clamp)) in
+          omega (arith, rw (get_or-replicate (length c.bounds) i (unsigned_abs c.clamp) 0 inside) at (v.each i), fit.next i inside));
+    }
 
 -- ---- runs
 sums_below : (c : Numbers) (top : ℕ) (state : List ℤ) (k : ℕ) → SumsFit c top → k < c.steps → pos 0 ≤ℤ c.clamp → AreWithin state (state_magnitudes c) → AreBelow top (after c state (k + 1)).sums
@@ -134,11 +147,13 @@ step_fits c w state k fit lt h s =
     let top = 2 ^ (w - 1) - 1 in
     let made = after c state k in
     let v = after_multipliers c state k h in
-    let plan = plan_within c state made.multipliers s v in
+    let plan = plan_within c state (raised c made.multipliers) s v in
     record {
-      entries = λ j l. all_fit w (entry_values c state made.multipliers j) (entry_below c top state made.multipliers j (fit.entries j l) s v);
-      rows = λ i l. all_fit w (row_values c state (plan_of c state made.multipliers) (at made.multipliers i) i)
-          (row_below c top state (plan_of c state made.multipliers) (at made.multipliers i) i (fit.rows i l) (fit.next i l) h (clamped_at c made.multipliers i v l) s plan);
+      raised_multipliers = all_fit w (raised c made.multipliers) (raised_below c top made.multipliers fit v);
+      entries = λ j l. all_fit w (entry_values c state (raised c made.multipliers) j) (entry_below c top state (raised c made.multipliers) j (fit.entries j l) s v);
+      rows = λ i l. all_fit w (row_values c state (plan_of c state (raised c made.multipliers)) (at made.multipliers i) i)
+          (row_below c top state (plan_of c state (raised c made.multipliers)) (at made.multipliers i) i (fit.rows i l) (fit.next i l) h
+          (clamped_at c made.multipliers i (after_tops c state k h)) s plan);
       sums = all_fit w (step_of c state made).sums (subst (λ (m : Iterate). AreBelow top m.sums) (after_suc c state k) (sums_below c top state k fit lt h s));
     }
 

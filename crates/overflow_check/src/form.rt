@@ -1,22 +1,50 @@
 // Whether numbers are a controller's.
-ghost use Rattle.std.specs.Prelude.{◌≡◌, ◌≤◌, ◌<◌, ◌+◌, ◌*◌, ◌^◌, ◌≤ℤ◌, ◌↔◌, pos, IsTrue};
+ghost use Rattle.std.specs.Prelude.{◌≡◌, ◌≤◌, ◌<◌, ◌+◌, ◌*◌, ◌^◌, ◌≤ℤ◌, ◌↔◌, pos, replicate, length, All, IsTrue};
 ghost use Rattle.qp_model.specs.Range.{LiesIn};
 ghost use Rattle.qp_model.specs.Controller.{numbers, plan_length, HasShape, IsShaped, IsInForm};
-ghost use Rattle.qp_model.specs.Limits.{most_states, most_inputs, most_stages, most_rows};
+ghost use Rattle.qp_model.specs.Limits.{text_version, last_version, most_states, most_inputs, most_stages, most_rows};
 
 use mat_int::Mat;
 use qp_model::range::{are_numerators, is_ordered, lies_in};
-use qp_model::{ControllerParts, MOST_INPUTS, MOST_ROWS, MOST_STAGES, MOST_STATES};
+use qp_model::{
+    ControllerParts, LAST_VERSION, MOST_INPUTS, VERSION, most_rows, most_stages, most_states,
+};
 
-// Whether the sizes lie in their ranges.
+// Whether the version and the sizes lie in their ranges.
 fn are_sizes_in_range(c: &ControllerParts) -> bool
-    ensures { let version = (numbers c.now).version in IsTrue result ↔ (LiesIn 1 (most_states version) c.now.n
+    ensures { let version = c.now.version in IsTrue result ↔ (LiesIn text_version last_version version × LiesIn 1 (most_states version) c.now.n
         × LiesIn 1 (most_inputs version) c.now.p × LiesIn 1 (most_stages version) c.now.stages × LiesIn 1 (most_rows version) c.now.m) }
 {
-    lies_in(1, MOST_STATES, c.n)
+    (VERSION..=LAST_VERSION).contains(&c.version)
+        && lies_in(1, most_states(c.version), c.n)
         && lies_in(1, MOST_INPUTS, c.p)
-        && lies_in(1, MOST_STAGES, c.stages)
-        && lies_in(1, MOST_ROWS, c.m)
+        && lies_in(1, most_stages(c.version), c.stages)
+        && lies_in(1, most_rows(c.version), c.m)
+}
+
+// Whether each exponent is at most the greatest.
+fn are_exponents(exps: &[u32], s: u32) -> bool
+    ensures { IsTrue result ↔ All (λ e. e ≤ s) exps.now }
+{
+    exps.iter().all(|e| *e <= s)
+}
+
+// Whether each exponent is the greatest.
+fn are_greatest(exps: &[u32], s: u32) -> bool
+    ensures { IsTrue result ↔ (exps.now ≡ replicate (length exps.now) s) }
+{
+    exps.iter().all(|e| *e == s)
+}
+
+// Whether the exponents of the rows are those of a controller of this version.
+fn have_exponents(c: &ControllerParts) -> bool
+    ensures { IsTrue result ↔ (All (λ e. e ≤ c.now.s) c.now.exps.items
+        × (c.now.version ≡ text_version → c.now.exps.items ≡ replicate (length c.now.exps.items) c.now.s)) }
+{
+    if !are_exponents(&c.exps, c.s) {
+        return false;
+    }
+    c.version != VERSION || are_greatest(&c.exps, c.s)
 }
 
 // Whether the numbers of bits lie in their ranges.
@@ -45,7 +73,8 @@ fn is_shaped(c: &ControllerParts, nu: usize) -> bool
     requires { nu ≡ plan_length (numbers c.now) }
     ensures { IsTrue result ↔ IsShaped (numbers c.now) }
 {
-    c.lo.len() == c.n
+    c.exps.len() == c.m
+        && c.lo.len() == c.n
         && c.hi.len() == c.n
         && has_shape(&c.p_mat, nu, c.n)
         && c.t.len() == nu
@@ -67,6 +96,7 @@ pub fn is_in_form(c: &ControllerParts) -> bool
         && is_clamp(c.clamp)
         && c.words == c.n + c.m + 2 * nu
         && is_shaped(c, nu)
+        && have_exponents(c)
         && are_numerators(&c.lo)
         && are_numerators(&c.hi)
         && is_ordered(&c.lo, &c.hi)

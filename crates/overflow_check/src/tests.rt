@@ -18,6 +18,7 @@ fn matrix<const COLS: usize>(alloc: Global, rows: &[[i128; COLS]]) -> Result<Mat
 // One input at one stage of one state, with three rows, a width and a second gain.
 fn one_stage(alloc: Global, w: u32, gain: i128) -> Result<ControllerParts, Fail> {
     Ok(ControllerParts {
+        version: 1,
         n: 1,
         p: 1,
         stages: 1,
@@ -29,6 +30,7 @@ fn one_stage(alloc: Global, w: u32, gain: i128) -> Result<ControllerParts, Fail>
         steps: 4,
         clamp: 32768,
         words: 6,
+        exps: vec![in alloc; 1, 1, 1]?,
         lo: vec![in alloc; 0]?,
         hi: vec![in alloc; 1]?,
         p_mat: matrix(alloc, &[[512]])?,
@@ -115,5 +117,40 @@ fn forms(rt: HostRuntime) -> Result<(), Fail> {
             "{place}"
         );
     }
+    Ok(())
+}
+
+// Versions and exponents, and whether they are a controller's, whose greatest sum doesn't rest on them.
+#[test]
+fn versions(rt: HostRuntime) -> Result<(), Fail> {
+    let cases = [
+        (1, [1, 1, 1], Ok(26214400)),
+        (1, [0, 1, 1], Err(BadParts::Form)),
+        (2, [1, 1, 1], Ok(26214400)),
+        (2, [0, 1, 0], Ok(26214400)),
+        (2, [0, 1, 2], Err(BadParts::Form)),
+        (3, [1, 1, 1], Err(BadParts::Form)),
+        (0, [1, 1, 1], Err(BadParts::Form)),
+    ];
+    for (version, exps, greatest) in cases {
+        let mut parts = one_stage(rt.alloc(), 26, 256)?;
+        parts.version = version;
+        parts.exps = exps.to_vec(rt.alloc())?;
+        let sum = match Controller::from_parts(parts) {
+            Ok(controller) => Ok(greatest_sum(controller.parts()).unwrap_or(0)),
+            Err(refusal) => Err(refusal),
+        };
+        assert_eq!(rt; sum, greatest, "{version} {exps:?}");
+    }
+    Ok(())
+}
+
+// An exponent for each row.
+#[test]
+fn exponents(rt: HostRuntime) -> Result<(), Fail> {
+    let mut parts = one_stage(rt.alloc(), 26, 256)?;
+    parts.version = 2;
+    parts.exps = vec![in rt.alloc(); 1, 1]?;
+    assert_eq!(rt; Controller::from_parts(parts).err(), Some(BadParts::Form));
     Ok(())
 }

@@ -8,7 +8,7 @@ use Rattle.overflow_check.proofs.absolute_sums.plan_magnitudes.Given as goal
 abbrev pub invariant-loop-j : goal.invariant-loop-j
 invariant-loop-j l = record {
   end : l.j-end ≡ length l.c.t.items;
-  room : length l.magnitudes ≡ 60;
+  room : length l.magnitudes ≡ 90;
   greatest : l.greatest ≡ greatest_of (map (entry_absolute_sum (numbers l.c)) (range_with_len 0 l.j));
   magnitudes : (k : ℕ) → k < l.j → get_or l.magnitudes k 0 ≡ ceil_div (entry_absolute_sum (numbers l.c) k) (2 ^ (l.c.f + l.c.s));
 }
