@@ -2,7 +2,6 @@
 use Rattle.std.proofs.Common.{◌≡◌, ap, length, unsigned_abs}
 use Rattle.integer_algebra.specs.Sums.{at}
 use Rattle.mat_int.specs.Matrix.{entry_of}
-use Rattle.qp_model.specs.Limits.{text_version}
 use Rattle.qp_model.specs.Design.{Design}
 use Rattle.qp_model.specs.Parts.{DesignNumbers, design_numbers, design_of, cost_row, limit_row, final_row}
 use Rattle.qp_model.specs.declared.design_parts.DesignParts.{DesignParts}
@@ -10,7 +9,7 @@ use Rattle.qp_model.specs.declared.design_parts.DesignParts.{DesignParts}
 -- the design with these numbers
 abbrev pub from_numbers : DesignNumbers → Design
 from_numbers p = record {
-  version = text_version;
+  version = p.version;
   states = p.states;
   inputs = p.inputs;
   stages = p.stages;

@@ -1,5 +1,5 @@
 -- The numbers of the tables together.
-use Rattle.std.proofs.Common.{◌≡◌, ℕ, pos, List, ◌++◌, Option, Some, refl, sym, ap, ◌∙◌}
+use Rattle.std.proofs.Common.{◌≡◌, ℕ, pos, List, ◌++◌, Option, Some, arith, refl, sym, ap, ◌∙◌}
 use Rattle.std.proofs.lemmas.List.{append_assoc}
 use Rattle.toml.specs.Data.{Data}
 use Rattle.qp_model.specs.Parts.{IsDesign}
@@ -59,6 +59,7 @@ place_rules_at v s h = rw (count_is v.states s.states h.states.number, count_is 
 -- ---- the numbers of all tables
 abbrev pub assembled : Sizes → PlantNumbers → CostNumbers → LimitNumbers → BoxNumbers → TargetNumbers → DesignParts
 assembled s plant cost limits box targets = record {
+  version = s.version;
   states = s.states;
   inputs = s.inputs;
   stages = s.stages;
@@ -86,7 +87,7 @@ module _ (v : Values) (s : Sizes) (plant : PlantNumbers) (cost : CostNumbers) (l
     (in_limits : HasLimits v s.states s.inputs limits) (in_box : HasBox v s.states box) (in_targets : HasTargets v targets) where
   pub has_numbers : HasNumbers v (assembled s plant cost limits box targets)
   has_numbers = record {
-    version = in_sizes.version;
+    version = in_sizes.version.number;
     states = in_sizes.states.number;
     inputs = in_sizes.inputs.number;
     stages = in_sizes.stages.number;
@@ -111,7 +112,7 @@ module _ (v : Values) (s : Sizes) (plant : PlantNumbers) (cost : CostNumbers) (l
 
   pub is_design : IsDesign (assembled s plant cost limits box targets)
   is_design = record {
-    version = refl;
+    version = omega (arith, in_sizes.version.fits.0, in_sizes.version.fits.1);
     states = in_sizes.states.fits;
     inputs = in_sizes.inputs.fits;
     stages = in_sizes.stages.fits;

@@ -72,11 +72,11 @@ keys_hold : (document : Members) (p : DesignParts) → HasNumbers (values_of doc
 unfolding key_rules
 keys_hold document p h further =
     let v = values_of document in
-    (number_there v.version (pos 1) h.version, (number_there v.states (pos p.states) h.states, (number_there v.inputs (pos p.inputs) h.inputs, (number_there v.stages (pos p.stages) h.stages, (number_there v.plant_den p.plant_den h.plant_den, (matrix_there v.a p.a h.a, (matrix_there v.b p.b h.b, (number_there v.cost_den p.cost_den h.cost_den, (number_there v.row_den p.row_den h.row_den, (list_there v.input p.input_weights.items h.input, (matrix_there v.stage_cost p.stage_cost h.stage_cost, (matrix_there v.final_cost p.final_cost h.final_cost, (number_there v.limit_den p.limit_den h.limit_den, (matrix_there v.stage_rows p.stage_rows h.stage_rows, (matrix_there v.final_rows p.final_rows h.final_rows, (number_there v.grid (pos p.grid) h.grid, (list_there v.lo p.lo.items h.lo, (list_there v.hi p.hi.items h.hi, (number_there v.target_den p.target_den h.target_den, (number_there v.violation p.violation h.violation, (number_there v.gap p.gap h.gap, further)))))))))))))))))))))
+    (number_there v.version (pos p.version) h.version, (number_there v.states (pos p.states) h.states, (number_there v.inputs (pos p.inputs) h.inputs, (number_there v.stages (pos p.stages) h.stages, (number_there v.plant_den p.plant_den h.plant_den, (matrix_there v.a p.a h.a, (matrix_there v.b p.b h.b, (number_there v.cost_den p.cost_den h.cost_den, (number_there v.row_den p.row_den h.row_den, (list_there v.input p.input_weights.items h.input, (matrix_there v.stage_cost p.stage_cost h.stage_cost, (matrix_there v.final_cost p.final_cost h.final_cost, (number_there v.limit_den p.limit_den h.limit_den, (matrix_there v.stage_rows p.stage_rows h.stage_rows, (matrix_there v.final_rows p.final_rows h.final_rows, (number_there v.grid (pos p.grid) h.grid, (list_there v.lo p.lo.items h.lo, (list_there v.hi p.hi.items h.hi, (number_there v.target_den p.target_den h.target_den, (number_there v.violation p.violation h.violation, (number_there v.gap p.gap h.gap, further)))))))))))))))))))))
 
 sizes_hold : (v : Values) (p : DesignParts) → HasNumbers v p → IsDesign p → AllHold (size_places v)
 sizes_hold v p h d =
-    all_hold (count_rules 1 1 1 v.version) (count_rules 2 1 4 v.states ++ (count_rules 3 1 3 v.inputs ++ (count_rules 4 1 20 v.stages))) (count_holds 1 1 1 v.version 1 h.version (lit≤ tt, lit≤ tt)) (all_hold (count_rules 2 1 4 v.states) (count_rules 3 1 3 v.inputs ++ (count_rules 4 1 20 v.stages)) (count_holds 2 1 4 v.states p.states h.states d.states) (all_hold (count_rules 3 1 3 v.inputs) (count_rules 4 1 20 v.stages) (count_holds 3 1 3 v.inputs p.inputs h.inputs d.inputs) (count_holds 4 1 20 v.stages p.stages h.stages d.stages)))
+    all_hold (count_rules 1 1 1 v.version) (count_rules 2 1 4 v.states ++ (count_rules 3 1 3 v.inputs ++ (count_rules 4 1 20 v.stages))) (count_holds 1 1 1 v.version p.version h.version (rw d.version (lit≤ tt, lit≤ tt))) (all_hold (count_rules 2 1 4 v.states) (count_rules 3 1 3 v.inputs ++ (count_rules 4 1 20 v.stages)) (count_holds 2 1 4 v.states p.states h.states d.states) (all_hold (count_rules 3 1 3 v.inputs) (count_rules 4 1 20 v.stages) (count_holds 3 1 3 v.inputs p.inputs h.inputs d.inputs) (count_holds 4 1 20 v.stages p.stages h.stages d.stages)))
 
 plant_hold : (v : Values) (p : DesignParts) → HasNumbers v p → IsDesign p → AllHold (plant_places p.states p.inputs v)
 plant_hold v p h d =
@@ -109,9 +109,9 @@ places_hold : (v : Values) (p : DesignParts) → HasNumbers v p → IsDesign p �
 places_hold v p h d =
     let n = p.states in
     let m = p.inputs in
-    let sizes : Sizes = record { states = n; inputs = m; stages = p.stages } in
+    let sizes : Sizes = record { version = p.version; states = n; inputs = m; stages = p.stages } in
     let known : HasSizeNumbers v sizes = record {
-      version = h.version;
+      version = record { number = h.version; fits = rw d.version (lit≤ tt, lit≤ tt) };
       states = record { number = h.states; fits = d.states };
       inputs = record { number = h.inputs; fits = d.inputs };
       stages = record { number = h.stages; fits = d.stages };
@@ -152,6 +152,7 @@ same_matrix value m k width is also wide long =
 -- the numbers of one document are one design's
 same_numbers : (v : Values) (p q : DesignParts) → HasNumbers v p → HasNumbers v q → IsDesign p → IsDesign q → design_numbers p ≡ design_numbers q
 same_numbers v p q h g d e =
+    let version : p.version ≡ q.version = cc (h.version, g.version) in
     let states : p.states ≡ q.states = cc (h.states, g.states) in
     let inputs : p.inputs ≡ q.inputs = cc (h.inputs, g.inputs) in
     let stages : p.stages ≡ q.stages = cc (h.stages, g.stages) in
@@ -173,7 +174,7 @@ same_numbers v p q h g d e =
     let wide : p.states + p.inputs + 1 ≡ q.states + q.inputs + 1 = rw (states, inputs) refl in
     let stage_rows : p.stage_rows ≡ q.stage_rows = same_matrix v.stage_rows p.stage_rows q.stage_rows (p.states + p.inputs + 1) h.stage_rows g.stage_rows d.stage_rows.cols (e.stage_rows.cols ∙ sym (wide)) in
     let final_rows : p.final_rows ≡ q.final_rows = same_matrix v.final_rows p.final_rows q.final_rows (p.states + 1) h.final_rows g.final_rows d.final_rows.cols (e.final_rows.cols ∙ sym (ap (λ n. n + 1) states)) in
-    rw (states, inputs, stages, plant_den, a, b, cost_den, row_den, input, stage_cost, final_cost, limit_den, stage_rows, final_rows, grid, lo, hi, target_den, violation, gap) refl
+    rw (version, states, inputs, stages, plant_den, a, b, cost_den, row_den, input, stage_cost, final_cost, limit_den, stage_rows, final_rows, grid, lo, hi, target_den, violation, gap) refl
 
 pub same_design : (bytes : List ℕ) (p q : DesignParts) → IsDesignText bytes p → IsDesignText bytes q → design_numbers p ≡ design_numbers q
 same_design bytes p q first second = same (document_of bytes) p q first second

@@ -1,7 +1,7 @@
 -- Design texts, and the first fault of a text that is none.
 use Rattle.std.specs.Prelude.{◌≡◌, ◌⊎◌, ℕ, pos, List, ◌++◌, Some, IsSomeAnd, MatchOption, Result, Ok, Err}
 use Rattle.toml.specs.Data.{Members}
-use Rattle.qp_model.specs.Parts.{IsDesign, design_of}
+use Rattle.qp_model.specs.Parts.{IsDesign}
 use Rattle.qp_model.specs.Rules.{Rule, AllHold, IsFirstBroken}
 use Rattle.qp_model.specs.declared.design_parts.DesignParts.{DesignParts}
 use Rattle.qp_model.specs.declared.text_fault.TextFault.{TextFault}
@@ -13,7 +13,7 @@ use Rattle.design_files.specs.Places.{key_rules, place_rules}
 
 -- the values are the numbers p
 pub record HasNumbers (v : Values) (p : DesignParts) : Type 0 where
-  pub version : number_in v.version ≡ Some (pos (design_of p).version)
+  pub version : number_in v.version ≡ Some (pos p.version)
   pub states : number_in v.states ≡ Some (pos p.states)
   pub inputs : number_in v.inputs ≡ Some (pos p.inputs)
   pub stages : number_in v.stages ≡ Some (pos p.stages)

@@ -49,7 +49,7 @@ pub record HasLine (value : Option Data) (n : ℕ) (zs : List ℤ) : Type 0 wher
 
 -- ---- table by table, for n states and p inputs
 pub record HasSizeNumbers (v : Values) (s : Sizes) : Type 0 where
-  pub version : number_in v.version ≡ Some (pos text_version)
+  pub version : HasCount v.version 1 text_version s.version
   pub states : HasCount v.states 1 (most_states text_version) s.states
   pub inputs : HasCount v.inputs 1 (most_inputs text_version) s.inputs
   pub stages : HasCount v.stages 1 (most_stages text_version) s.stages

@@ -24,7 +24,7 @@ use qp_model::range::{
     is_positive,
 };
 use qp_model::rules::in_range;
-use qp_model::{Design, DesignParts, MOST_INPUTS, MOST_STAGES, MOST_STATES, TextFault, VERSION};
+use qp_model::{Design, DesignParts, MOST_INPUTS, TextFault, VERSION, most_stages, most_states};
 use std::alloc::Global;
 use toml::Value;
 
@@ -55,6 +55,7 @@ fn read_text(alloc: Global, bytes: &[u8]) -> Result<Design, TextFault>
 
 #[derive(Clone, Copy)]
 struct Sizes {
+    version: u32,
     states: usize,
     inputs: usize,
     stages: usize,
@@ -132,6 +133,7 @@ fn joined(first: FirstNumbers, last: LastNumbers) -> DesignParts
         targets,
     } = last;
     DesignParts {
+        version: sizes.version,
         states: sizes.states,
         inputs: sizes.inputs,
         stages: sizes.stages,
@@ -259,11 +261,11 @@ fn read_sizes(keys: &Keys) -> Result<Sizes, TextFault>
     ensures { let v = seen keys.now in Reads result (HasSizeNumbers v) (size_places v) }
 {
     let keys = &keys.top;
-    read_count(1, keys.version, 1, VERSION)?;
     Ok(Sizes {
-        states: read_count(2, keys.states, 1, MOST_STATES)?,
+        version: read_count(1, keys.version, 1, VERSION as usize)? as u32,
+        states: read_count(2, keys.states, 1, most_states(VERSION))?,
         inputs: read_count(3, keys.inputs, 1, MOST_INPUTS)?,
-        stages: read_count(4, keys.stages, 1, MOST_STAGES)?,
+        stages: read_count(4, keys.stages, 1, most_stages(VERSION))?,
     })
 }
 

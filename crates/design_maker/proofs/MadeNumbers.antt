@@ -55,7 +55,7 @@ has_numbers d stages p e =
     let stage_rows = has_rows 5 limit_rows p.stage_rows (ap (λ (n : DesignNumbers). n.stage_rows) e) refl in
     let final_limits = has_rows 3 final_rows p.final_rows (ap (λ (n : DesignNumbers). n.final_rows) e) refl in
     record {
-      version = refl;
+      version = sym (ap (λ (n : DesignNumbers). Some (pos n.version)) e);
       states = sym (ap (λ (n : DesignNumbers). Some (pos n.states)) e);
       inputs = sym (ap (λ (n : DesignNumbers). Some (pos n.inputs)) e);
       stages = sym (ap (λ (n : DesignNumbers). Some (pos n.stages)) e);
@@ -157,7 +157,7 @@ is_design d stages p r s e =
     let violation : p.violation ≡ pos 1 = ap (λ (n : DesignNumbers). n.violation) e in
     let gap : p.gap ≡ pos 4 = ap (λ (n : DesignNumbers). n.gap) e in
     record {
-      version = refl;
+      version = ap (λ (n : DesignNumbers). n.version) e;
       states = rw states (lit≤ tt, lit≤ tt);
       inputs = rw inputs (lit≤ tt, lit≤ tt);
       stages = rw horizon s;

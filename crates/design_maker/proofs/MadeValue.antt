@@ -15,6 +15,7 @@ two_numbers alloc y z = record { ptr = null_ptr; len = 2; cap = 2; alloc = alloc
 
 abbrev made_parts : Global → Drawn → ℕ → DesignParts
 made_parts alloc d stages = record {
+  version = 1;
   states = 2;
   inputs = 2;
   stages = stages;

@@ -1,6 +1,7 @@
 -- The numbers of a made design, its policy and the states of its box.
 use Rattle.std.specs.Prelude.{ℕ, ◌*◌, ℤ, pos, neg_ℤ, List, [], ◌∷◌, replicate}
 use Rattle.mat_int.specs.Matrix.{Matrix, zero_matrix}
+use Rattle.qp_model.specs.Limits.{text_version}
 use Rattle.qp_model.specs.Parts.{DesignNumbers}
 use Rattle.qp_model.specs.Policy.{Plans}
 use Rattle.design_maker.specs.declared.draws.Drawn.{Drawn}
@@ -36,6 +37,7 @@ input_rows = (pos 4 ∷ pos 0 ∷ []) ∷ (pos 0 ∷ pos 4 ∷ []) ∷ []
 
 abbrev pub made_numbers : Drawn → ℕ → DesignNumbers
 made_numbers d stages = record {
+  version = text_version;
   states = 2;
   inputs = 2;
   stages = stages;
