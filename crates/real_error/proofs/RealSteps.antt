@@ -13,7 +13,7 @@ use Rattle.qp_model.specs.Condensing.{condensed_of}
 use Rattle.qp_model.specs.Parts.{design_of}
 use Rattle.qp_model.specs.Form.{Form, IsFormFor}
 use Rattle.qp_model.specs.Controller.{Numbers, IsSized}
-use Rattle.qp_model.specs.Machine.{loaded, plan_entry}
+use Rattle.qp_model.specs.Machine.{loaded, raised, plan_entry}
 use Rattle.qp_model.specs.AbsoluteSums.{plan_magnitudes, greatest_of}
 use Rattle.qp_model.specs.Built.{IsDerivedFrom}
 use Rattle.qp_model.specs.Quantities.{input_floor}
@@ -57,7 +57,7 @@ module _ (d : Design) (h : Form) (r : ℕ) (c : Numbers) (xi : List ℤ) (sound 
   state = loaded c xi
 
   abbrev multipliers : List ℤ
-  multipliers = multipliers_at c xi k
+  multipliers = raised c (multipliers_at c xi k)
 
   small : (j : ℕ) → j < entries d → unsigned_abs (plan_entry c state multipliers j) ≤ real_plan d (counted d h) r c * 2 ^ c.fraction_bits
   small j l = lesser _ _ _ (2 ^ c.fraction_bits) (step_errors.small d h r c xi sound condensed form made sized long inside k j l)

@@ -30,7 +30,7 @@ use Rattle.step_error.specs.MachineLaws.{HasErrors, plan_at, MachineRunBound, Ma
 use Rattle.step_error.proofs.DesignLaws.{design_run_law}
 use Rattle.step_error.proofs.MachineSums.{first_multiplier, sum_is}
 use Rattle.step_error.proofs.MachineErrors.{carried}
-use Rattle.step_error.proofs.MachineSteps.{units, plan_over, multipliers_over, residuals_over, gradient_over, misses_over, step_is}
+use Rattle.step_error.proofs.MachineSteps.{rows_inside, units, plan_over, multipliers_over, residuals_over, gradient_over, misses_over, step_is}
 use Rattle.step_error.proofs.MachineScales.{scale_is, power_positive, most_over, errors_are, over, share}
 use Rattle.step_error.proofs.MachineScales.{cost_over, feasible_over, box_over, dot_scaled}
 
@@ -58,7 +58,7 @@ run_is : (d : Design) (h : Form) (r : ℕ) (c : Numbers) (xi : List ℤ) (n : �
     (plan_over c xi (units h n)) (multipliers_over c xi (units h n)) (residuals_over c xi (units h n))
     (λ k. gradient_over d h r c e n) (λ k. misses_over d h r c e n)
 run_is d h r c xi n e most well form made shaped errors cheap = record {
-  starts = λ i l. ap (λ (z : ℤ). pos 2 *ℤ units h n *ℤ z) (first_multiplier c (loaded c xi) i) ∙ *ℤ-zero (pos 2 *ℤ units h n);
+  starts = λ i l. ap (λ (z : ℤ). pos 2 *ℤ units h n *ℤ z) (first_multiplier c (loaded c xi) i (rows_inside d h r c made shaped i l)) ∙ *ℤ-zero (pos 2 *ℤ units h n);
   steps = λ k l. step_is d h r c xi n k e made shaped (errors k l);
   errors = λ k l. errors_are d h r c e most n well form cheap;
 }

@@ -1,15 +1,17 @@
 -- A step of the machine is a step of the method on its design: all numbers are brought over one denominator, 2 b times the machine's scale. For its errors b is
 -- 2^40 n times what the rows of the form are over.
-use Rattle.std.proofs.Common.{◌≡◌, inl, inr, ℕ, suc, ◌+◌, ◌*◌, ◌^◌, ◌<◌, [], ◌∷◌, ℤ, pos, ◌+ℤ◌, ◌-ℤ◌, ◌*ℤ◌, ◌≤ℤ◌, List, length, arith, ap, sym, ◌∙◌, refl}
+use Rattle.std.proofs.Common.{◌≡◌, inl, inr, ℕ, suc, ◌+◌, ◌-◌, ◌*◌, ◌^◌, ◌<◌, [], ◌∷◌, ℤ, pos, ◌+ℤ◌, ◌-ℤ◌, ◌*ℤ◌, ◌≤ℤ◌, List, length, arith, ap, sym, ◌∙◌, refl}
 use Rattle.std.specs.Int.{int_max, int_min}
 use Rattle.std.proofs.lemmas.Int.{ints, clamps}
 use Rattle.std.proofs.lemmas.Nat.{pow-add}
-use Rattle.std.proofs.Math.Nat.{mul_comm}
+use Rattle.std.proofs.Math.Nat.{mul_comm, mul-div_cancel}
 use Rattle.integer_algebra.specs.Sums.{image, coimage, at}
 use Rattle.integer_algebra.specs.Bounds.{clamped}
+use Rattle.integer_algebra.specs.Division.{floor_of}
 use Rattle.integer_algebra.proofs.OrderLaws.{le_by, mul-le-mul_left_z, mul_nonneg_z}
 use Rattle.integer_algebra.proofs.VectorLaws.{image_scale, dot_scale_right}
 use Rattle.integer_algebra.proofs.BoundLaws.{clamped_cases, clamped_low, clamped_high}
+use Rattle.integer_algebra.proofs.PowerLaws.{pow_positive}
 use Rattle.integer_algebra.proofs.Quoting.{by_ring, quotes}
 use Rattle.qp_model.specs.Design.{Design, entries, rows}
 use Rattle.qp_model.specs.Cost.{cost_scale}
@@ -18,13 +20,14 @@ use Rattle.qp_model.specs.Condensed.{Condensed, slope_at}
 use Rattle.qp_model.specs.Condensing.{condensed_of}
 use Rattle.qp_model.specs.Form.{Form}
 use Rattle.qp_model.specs.Controller.{Numbers, IsShaped}
-use Rattle.qp_model.specs.Machine.{exponent_of, top_of, loaded}
+use Rattle.qp_model.specs.Machine.{exponent_of, lowering_of, top_of, loaded}
 use Rattle.qp_model.specs.Errors.{radius_error, residual_error, error_sums_of, StepErrors}
 use Rattle.qp_model.specs.Built.{IsDerivedFrom}
+use Rattle.qp_model.proofs.MagnitudeLaws.{top_nonneg}
 use Rattle.qp_model.proofs.ScalingLaws.{scaling_law}
 use Rattle.step_error.specs.Laws.{slant, IsDesignStep}
-use Rattle.step_error.specs.MachineLaws.{HasErrors, raised_at, row_radius, plan_at, used_residual, machine_scale, lifted_plan}
-use Rattle.step_error.proofs.MachineSums.{multiplier_after}
+use Rattle.step_error.specs.MachineLaws.{HasErrors, multipliers_at, raised_at, row_radius, plan_at, used_residual, machine_scale, lifted_plan}
+use Rattle.step_error.proofs.MachineSums.{raised_is, multiplier_after}
 use Rattle.step_error.proofs.Slopes.{within_factor, within_same}
 
 -- ---- over one denominator
@@ -94,18 +97,50 @@ clamped_scaled g top b pg pt = elim (clamped_cases top b pt) [
 
 -- ---- one step
 -- the number of rows that the machine has
-rows_inside : (d : Design) (h : Form) (r : ℕ) (c : Numbers) → IsDerivedFrom d h r c → IsShaped c → (i : ℕ) → i < rows d → i < length c.bounds
+pub rows_inside : (d : Design) (h : Form) (r : ℕ) (c : Numbers) → IsDerivedFrom d h r c → IsShaped c → (i : ℕ) → i < rows d → i < length c.bounds
 rows_inside d h r c made shaped i l = omega (arith, l, made.sizes.rows, shaped.bounds)
+
+-- the greatest multiplier of a row, raised, is that of all rows
+top_raised : (d : Design) (h : Form) (r : ℕ) (c : Numbers) → IsDerivedFrom d h r c → (i : ℕ) → pos (2 ^ lowering_of c i) *ℤ top_of c i ≡ pos (2 * r) *ℤ machine_scale c
+top_raised d h r c made i =
+    let power = 2 ^ lowering_of c i in
+    let rest = 2 ^ (c.fraction_bits + c.step_exponent - lowering_of c i) in
+    let split : 2 ^ (c.fraction_bits + c.step_exponent) ≡ power * rest =
+    (let e : c.fraction_bits + c.step_exponent ≡ lowering_of c i + (c.fraction_bits + c.step_exponent - lowering_of c i) = omega arith in
+    ap (λ (n : ℕ). 2 ^ n) e ∙ pow-add 2 (lowering_of c i) (c.fraction_bits + c.step_exponent - lowering_of c i)) in
+    exact c.clamp power (2 * r) rest (pow_positive 2 (lowering_of c i) (omega arith)) split made.clamp
+  where
+    exact : (z : ℤ) (p a n : ℕ) {m : ℕ} → 0 < p → m ≡ p * n → z ≡ pos (a * m) → pos p *ℤ floor_of z p ≡ pos (a * m)
+    exact z p a n h e k =
+        let whole : a * (p * n) ≡ a * n * p = omega arith in
+        rw (k, e, whole, mul-div_cancel (a * n) h) (ap pos (mul_comm p (a * n)))
 
 -- the next multiplier is the moved one, kept in the box
 moves : (d : Design) (h : Form) (r : ℕ) (c : Numbers) (xi : List ℤ) (k : ℕ) → IsDerivedFrom d h r c → IsShaped c → (i : ℕ) → i < rows d →
-    raised_at c xi (suc k) i ≡ clamped (pos (2 * r) *ℤ machine_scale c) (raised_at c xi k i +ℤ used_residual c xi k i)
+    raised_at c xi (suc k) i ≡ clamped (pos (2 * r) *ℤ machine_scale c) (raised_at c xi k i +ℤ pos (2 ^ lowering_of c i) *ℤ used_residual c xi k i)
 moves d h r c xi k made shaped i l =
-    multiplier_after c (loaded c xi) k i (rows_inside d h r c made shaped i l)
-    ∙ turned (top_of c i) (pos (2 * r) *ℤ machine_scale c) (raised_at c xi k i +ℤ used_residual c xi k i) made.clamp
+    let inside = rows_inside d h r c made shaped i l in
+    raised_is c (multipliers_at c xi (suc k)) i inside
+    ∙ ap (λ (z : ℤ). pos (2 ^ lowering_of c i) *ℤ z) (multiplier_after c (loaded c xi) k i inside)
+    ∙ turned (pos (2 ^ lowering_of c i)) (top_of c i) (at (multipliers_at c xi k) i) (used_residual c xi k i) (pos (2 * r) *ℤ machine_scale c) (raised_at c xi k i)
+    (omega (arith, ints)) (top_nonneg c i (rw made.clamp (omega (arith, ints)))) (top_raised d h r c made i) (raised_is c (multipliers_at c xi k) i inside)
   where
-    turned : (a t b : ℤ) → a ≡ t → int_min a (int_max b (pos 0)) ≡ clamped t b
-    turned a t b e = rw e (omega (arith, ints, clamps))
+    turned : (g a y v t b : ℤ) → pos 0 ≤ℤ g → pos 0 ≤ℤ a → g *ℤ a ≡ t → b ≡ g *ℤ y → g *ℤ int_min a (int_max (y +ℤ v) (pos 0)) ≡ clamped t (b +ℤ g *ℤ v)
+    turned g a y v t b pg pa e k =
+        rw (← e, k, ← (spread g y v)) (ap (λ (z : ℤ). g *ℤ z) (kept a (y +ℤ v)) ∙ sym (clamped_scaled g a (y +ℤ v) pg pa))
+      where
+        kept : (a z : ℤ) → int_min a (int_max z (pos 0)) ≡ clamped a z
+        kept a z = omega (arith, ints, clamps)
+
+        spread : (g y v : ℤ) → g *ℤ (y +ℤ v) ≡ g *ℤ y +ℤ g *ℤ v
+        spread g y v = by_ring (g ∷ y ∷ v ∷ []) (search quotes depth 60 fits 20000) refl
+
+-- its step and what raises it come to the greatest step exponent
+steps_are : (d : Design) (h : Form) (r : ℕ) (c : Numbers) → IsDerivedFrom d h r c → (i : ℕ) → i < rows d →
+    pos (2 ^ c.step_exponent) ≡ pos (2 ^ exponent_of c i) *ℤ pos (2 ^ lowering_of c i)
+steps_are d h r c made i l =
+    let e : c.step_exponent ≡ exponent_of c i + lowering_of c i = omega (arith, made.exponents.bounded i l) in
+    ap pos (ap (λ (n : ℕ). 2 ^ n) e ∙ pow-add 2 (exponent_of c i) (lowering_of c i))
 
 -- the residuals of the lifted plan
 lifted_residual : (d : Design) (c : Numbers) (xi : List ℤ) (b : ℤ) (k i : ℕ) →
@@ -129,8 +164,8 @@ step_is d h r c xi n k e made shaped errors = record {
     high = λ i l. le_by (mul-le-mul_left_z (pos 2 *ℤ units h n) (twice (units h n) some) (errors.multipliers.high i l))
         (lifted (units h n) (raised_at c xi k i) (pos (2 * r)) (machine_scale c));
   };
-  moved = λ i l. moved (units h n) (pos (2 ^ exponent_of c i)) (raised_at c xi k i) (used_residual c xi k i) (pos (2 * r)) (machine_scale c) some
-      (omega (arith, ints)) (omega (arith, ints)) (moves d h r c xi k made shaped i l);
+  moved = λ i l. moved (units h n) (pos (2 ^ exponent_of c i)) (pos (2 ^ lowering_of c i)) (raised_at c xi k i) (used_residual c xi k i) (pos (2 * r)) (machine_scale c) some
+      (omega (arith, ints)) (omega (arith, ints)) (steps_are d h r c made i l) (moves d h r c xi k made shaped i l);
   gradient_error = λ j l. within_same
       (placed (pos h.rows_scale *ℤ pos n) (pos (cost_scale d)) (pos (residual_scale d))
       (pos (2 ^ 40 * 2 ^ c.step_exponent * e.gradient j + 2 ^ (c.fraction_bits + c.step_exponent) * radius_error (error_sums_of d h r) e.plan)))
@@ -154,17 +189,17 @@ step_is d h r c xi n k e made shaped errors = record {
     lifted : (b y t m : ℤ) → t *ℤ (pos 2 *ℤ b *ℤ m) +ℤ (pos 2 *ℤ b) *ℤ y ≡ pos 2 *ℤ b *ℤ y +ℤ (pos 2 *ℤ b) *ℤ (t *ℤ m)
     lifted b y t m = by_ring (b ∷ y ∷ t ∷ m ∷ []) (search quotes depth 60 fits 20000) refl
 
-    moved : (b s y v t m : ℤ) {z : ℤ} → pos 0 ≤ℤ b → pos 0 ≤ℤ s → pos 0 ≤ℤ (t *ℤ m) → z ≡ clamped (t *ℤ m) (y +ℤ v) →
-        s *ℤ (pos 2 *ℤ b *ℤ z) ≡ clamped (s *ℤ (t *ℤ (pos 2 *ℤ b *ℤ m))) (s *ℤ (pos 2 *ℤ b *ℤ y) +ℤ pos 2 *ℤ b *ℤ (s *ℤ v))
-    moved b s y v t m {z} pb ps pt e =
-        rw (top, inner) (left z ∙ ap (λ (x : ℤ). pos 2 *ℤ b *ℤ s *ℤ x) e
-        ∙ sym (clamped_scaled (pos 2 *ℤ b *ℤ s) (t *ℤ m) (y +ℤ v) (mul_nonneg_z (pos 2 *ℤ b) s (twice b pb) ps) pt))
+    moved : (b s g y v t m : ℤ) {w z : ℤ} → pos 0 ≤ℤ b → pos 0 ≤ℤ s → pos 0 ≤ℤ (t *ℤ m) → w ≡ s *ℤ g → z ≡ clamped (t *ℤ m) (y +ℤ g *ℤ v) →
+        s *ℤ (pos 2 *ℤ b *ℤ z) ≡ clamped (s *ℤ (t *ℤ (pos 2 *ℤ b *ℤ m))) (s *ℤ (pos 2 *ℤ b *ℤ y) +ℤ pos 2 *ℤ b *ℤ (w *ℤ v))
+    moved b s g y v t m {w} {z} pb ps pt k e =
+        rw (k, top, inner) (left z ∙ ap (λ (x : ℤ). pos 2 *ℤ b *ℤ s *ℤ x) e
+        ∙ sym (clamped_scaled (pos 2 *ℤ b *ℤ s) (t *ℤ m) (y +ℤ g *ℤ v) (mul_nonneg_z (pos 2 *ℤ b) s (twice b pb) ps) pt))
       where
         top : s *ℤ (t *ℤ (pos 2 *ℤ b *ℤ m)) ≡ pos 2 *ℤ b *ℤ s *ℤ (t *ℤ m)
         top = by_ring (b ∷ s ∷ t ∷ m ∷ []) (search quotes depth 60 fits 20000) refl
 
-        inner : s *ℤ (pos 2 *ℤ b *ℤ y) +ℤ pos 2 *ℤ b *ℤ (s *ℤ v) ≡ pos 2 *ℤ b *ℤ s *ℤ (y +ℤ v)
-        inner = by_ring (b ∷ s ∷ y ∷ v ∷ []) (search quotes depth 60 fits 20000) refl
+        inner : s *ℤ (pos 2 *ℤ b *ℤ y) +ℤ pos 2 *ℤ b *ℤ (s *ℤ g *ℤ v) ≡ pos 2 *ℤ b *ℤ s *ℤ (y +ℤ g *ℤ v)
+        inner = by_ring (b ∷ s ∷ g ∷ y ∷ v ∷ []) (search quotes depth 60 fits 20000) refl
 
         left : (z : ℤ) → s *ℤ (pos 2 *ℤ b *ℤ z) ≡ pos 2 *ℤ b *ℤ s *ℤ z
         left z = by_ring (b ∷ s ∷ z ∷ []) (search quotes depth 60 fits 20000) refl

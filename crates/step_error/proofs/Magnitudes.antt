@@ -3,12 +3,13 @@ use Rattle.std.proofs.Common.{◌≡◌, ℕ, zero, suc, ◌+◌, ◌-◌, ◌*�
 use Rattle.std.specs.Int.{int_max, int_min}
 use Rattle.std.proofs.lemmas.Int.{ints, clamps, unsigned_abs-mul}
 use Rattle.std.proofs.lemmas.Nat.{pow-add}
-use Rattle.std.proofs.lemmas.List.{length-map, get_or-map, get_or-replicate, length-replicate}
+use Rattle.std.proofs.lemmas.List.{length-map, get_or-map, get_or-replicate}
 use Rattle.std.proofs.lemmas.List.FromFn.{length-map-range_with_len}
 use Rattle.std.proofs.Math.Nat.{mul-le-mul_right}
 use Rattle.integer_algebra.specs.Sums.{at}
 use Rattle.integer_algebra.specs.Division.{floor_of}
 use Rattle.integer_algebra.proofs.DivisionLaws.{le-mul-ceil_div}
+use Rattle.integer_algebra.proofs.OrderLaws.{mul_nonneg_z}
 use Rattle.integer_algebra.proofs.PowerLaws.{pow_positive}
 use Rattle.dual_method.specs.Dual.{InBox}
 use Rattle.qp_model.specs.Design.{Design, rows}
@@ -16,12 +17,13 @@ use Rattle.qp_model.specs.Box.{IsGridState}
 use Rattle.qp_model.specs.Form.{Form}
 use Rattle.qp_model.specs.Quantities.{greatest}
 use Rattle.qp_model.specs.Controller.{Numbers, IsSized}
-use Rattle.qp_model.specs.Machine.{IsAdmissible, loaded, plan_of, row_sum, next_multiplier, after}
+use Rattle.qp_model.specs.Machine.{IsAdmissible, loaded, lowering_of, raised, top_of, plan_of, row_sum, after}
 use Rattle.qp_model.specs.Built.{IsDerivedFrom}
 use Rattle.qp_model.specs.Errors.{state_bound}
+use Rattle.qp_model.proofs.MagnitudeLaws.{top_nonneg, after_multipliers}
 use Rattle.qp_model.proofs.SizeFacts.{greatest_term}
 use Rattle.step_error.proofs.Gradients.{AreReached}
-use Rattle.step_error.proofs.MachineSums.{multiplier_after}
+use Rattle.step_error.proofs.MachineSums.{raised_is, multiplier_after}
 
 -- ---- the state
 -- a coordinate over 2^fraction_bits
@@ -48,39 +50,32 @@ state_reach d f xi i le inside h =
     rw (unsigned_abs-mul (xi i) (pos (2 ^ (f - d.grid))), split) (omega (arith, mul-le-mul_right (2 ^ (f - d.grid)) (box_reach d xi i inside h)))
 
 -- ---- the multipliers
--- after any number of steps each lies in 0 .. clamp
-multipliers_in : (c : Numbers) (state : List ℤ) (k : ℕ) → pos 0 ≤ℤ c.clamp → InBox (length c.bounds) c.clamp (at (after c state k).multipliers)
+-- after any number of steps none is below 0
+multiplier_nonneg : (c : Numbers) (state : List ℤ) (k i : ℕ) → pos 0 ≤ℤ c.clamp → i < length c.bounds → pos 0 ≤ℤ at (after c state k).multipliers i
 unfolding after
-multipliers_in c state zero h = record {
-  low = λ i l. rw (get_or-replicate (length c.bounds) i (pos 0) (pos 0) l) (omega (arith, ints));
-  high = λ i l. rw (get_or-replicate (length c.bounds) i (pos 0) (pos 0) l) h;
-}
-multipliers_in c state (suc k) h = record {
-  low = λ i l. rw (next_at i l) (low_of (sum_at i) h);
-  high = λ i l. rw (next_at i l) (high_of (sum_at i) h);
+multiplier_nonneg c state zero i h l = rw (get_or-replicate (length c.bounds) i (pos 0) (pos 0) l) (omega (arith, ints))
+multiplier_nonneg c state (suc k) i h l =
+    rw (multiplier_after c state k i l)
+    (low_of (top_of c i) (at (after c state k).multipliers i +ℤ floor_of (row_sum c state (plan_of c state (raised c (after c state k).multipliers)) i) (2 ^ c.fraction_bits))
+    (top_nonneg c i h))
+  where
+    low_of : (top z : ℤ) → pos 0 ≤ℤ top → pos 0 ≤ℤ int_min top (int_max z (pos 0))
+    low_of top z h = omega (arith, ints, clamps)
+
+-- over 2^(fraction_bits + step_exponent) each lies in 0 .. clamp
+multipliers_in : (c : Numbers) (state : List ℤ) (k : ℕ) → pos 0 ≤ℤ c.clamp → InBox (length c.bounds) c.clamp (at (raised c (after c state k).multipliers))
+multipliers_in c state k h = record {
+  low = λ i l. rw (raised_is c (after c state k).multipliers i l)
+      (mul_nonneg_z (pos (2 ^ lowering_of c i)) (at (after c state k).multipliers i) (omega (arith, ints)) (multiplier_nonneg c state k i h l));
+  high = λ i l. high_of (at (raised c (after c state k).multipliers) i) c.clamp h
+      (rw (get_or-replicate (length c.bounds) i (unsigned_abs c.clamp) 0 l) at ((after_multipliers c state k h).each i));
 }
   where
-    before : List ℤ
-    before = (after c state k).multipliers
+    high_of : (z top : ℤ) → pos 0 ≤ℤ top → unsigned_abs z ≤ unsigned_abs top → z ≤ℤ top
+    high_of z top h l = omega (arith, ints, h, l)
 
-    sum_at : ℕ → ℤ
-    sum_at i = at before i +ℤ floor_of (row_sum c state (plan_of c state before) i) (2 ^ c.fraction_bits)
-
-    next_at : (i : ℕ) → i < length c.bounds → at (after c state (suc k)).multipliers i ≡ int_min c.clamp (int_max (sum_at i) (pos 0))
-    next_at i l = multiplier_after c state k i l
-
-    low_of : (z : ℤ) → pos 0 ≤ℤ c.clamp → pos 0 ≤ℤ int_min c.clamp (int_max z (pos 0))
-    low_of z h = omega (arith, ints, clamps)
-
-    high_of : (z : ℤ) → pos 0 ≤ℤ c.clamp → int_min c.clamp (int_max z (pos 0)) ≤ℤ c.clamp
-    high_of z h = omega (arith, ints, clamps)
-
-multipliers_length : (c : Numbers) (state : List ℤ) (k : ℕ) → length (after c state k).multipliers ≡ length c.bounds
-unfolding after
-multipliers_length c state zero = length-replicate (length c.bounds) (pos 0)
-multipliers_length c state (suc k) =
-    let before = (after c state k).multipliers in
-    length-map-range_with_len (λ i. next_multiplier c state (plan_of c state before) (at before i) i) 0 (length c.bounds)
+raised_length : (c : Numbers) (multipliers : List ℤ) → length (raised c multipliers) ≡ length c.bounds
+raised_length c multipliers = length-map-range_with_len (λ i. at multipliers i *ℤ pos (2 ^ lowering_of c i)) 0 (length c.bounds)
 
 -- ---- both
 module _ (d : Design) (h : Form) (r : ℕ) (c : Numbers) (xi : List ℤ) (made : IsDerivedFrom d h r c) (sized : IsSized c)
@@ -101,7 +96,7 @@ module _ (d : Design) (h : Form) (r : ℕ) (c : Numbers) (xi : List ℤ) (made :
     });
   }
 
-  pub multipliers_box : (k : ℕ) → InBox (rows d) (pos (2 * r) *ℤ pos (2 ^ (c.fraction_bits + c.step_exponent))) (at (after c (loaded c xi) k).multipliers)
+  pub multipliers_box : (k : ℕ) → InBox (rows d) (pos (2 * r) *ℤ pos (2 ^ (c.fraction_bits + c.step_exponent))) (at (raised c (after c (loaded c xi) k).multipliers))
   multipliers_box k = let all = multipliers_in c (loaded c xi) k sized.clamp_low in record {
     low = λ i h. all.low i (row_in i h);
     high = λ i h. rw (← made.clamp) (all.high i (row_in i h));
@@ -110,13 +105,13 @@ module _ (d : Design) (h : Form) (r : ℕ) (c : Numbers) (xi : List ℤ) (made :
       row_in : (i : ℕ) → i < rows d → i < length c.bounds
       row_in i h = omega (arith, h, sized.shaped.bounds, made.sizes.rows)
 
-  pub reached : (k : ℕ) → AreReached d r c (loaded c xi) (after c (loaded c xi) k).multipliers
+  pub reached : (k : ℕ) → AreReached d r c (loaded c xi) (raised c (after c (loaded c xi) k).multipliers)
   reached k = record {
     state_length = length-map xi _ ∙ long ∙ sym made.sizes.states;
-    multiplier_length = multipliers_length c (loaded c xi) k ∙ sized.shaped.bounds;
+    multiplier_length = raised_length c (after c (loaded c xi) k).multipliers ∙ sized.shaped.bounds;
     state = λ i h. rw (loaded_is i h, made.sizes.grid) (state_reach d c.fraction_bits (at xi) i grid_first inside (omega (arith, h, made.sizes.states)));
     multipliers = λ i h. (let box = multipliers_box k in let w : i < rows d = omega (arith, h, made.sizes.rows) in
-        size_of (at (after c (loaded c xi) k).multipliers i) (2 * r * 2 ^ (c.fraction_bits + c.step_exponent)) (box.low i w) (box.high i w));
+        size_of (at (raised c (after c (loaded c xi) k).multipliers) i) (2 * r * 2 ^ (c.fraction_bits + c.step_exponent)) (box.low i w) (box.high i w));
   }
     where
       size_of : (z : ℤ) (n : ℕ) → pos 0 ≤ℤ z → z ≤ℤ pos n → unsigned_abs z ≤ n

@@ -11,7 +11,7 @@ use Rattle.qp_model.specs.Residual.{residual, residual_scale}
 use Rattle.qp_model.specs.Condensed.{Condensed, IsCondensed, slope_at}
 use Rattle.qp_model.specs.Condensing.{condensed_of}
 use Rattle.qp_model.specs.Controller.{Numbers, IsSized}
-use Rattle.qp_model.specs.Machine.{loaded, plan_entry}
+use Rattle.qp_model.specs.Machine.{loaded, raised, plan_entry}
 use Rattle.qp_model.specs.Quantities.{input_floor}
 use Rattle.qp_model.specs.Form.{Form, IsFormFor}
 use Rattle.qp_model.specs.Errors.{gradient_error, error_sums_of, plan_bound, radius_error, residual_error, stated_errors}
@@ -44,7 +44,7 @@ residual_same d k condensed q xi u v i inside h =
 module _ (d : Design) (h : Form) (r : ℕ) (c : Numbers) (xi : List ℤ) (sound : IsSound d (input_floor d)) (condensed : IsCondensed d (condensed_of d))
     (form : IsFormFor d (counted d h)) (made : IsDerivedFrom d (counted d h) r c) (sized : IsSized c) (long : length xi ≡ d.states) (inside : IsGridState d (at xi)) (k : ℕ) where
   abbrev multipliers : List ℤ
-  multipliers = multipliers_at c xi k
+  multipliers = raised c (multipliers_at c xi k)
 
   abbrev entry : ℕ → ℤ
   entry j = plan_entry c (loaded c xi) multipliers j

@@ -81,6 +81,7 @@ controller = record {
   steps = 4;
   clamp = pos 32768;
   words = 6;
+  exponents = 1 ∷ 1 ∷ 1 ∷ [];
   low = pos 0 ∷ [];
   high = pos 1 ∷ [];
   state_gains = matrix 1 ((pos 512 ∷ []) ∷ []);
@@ -129,6 +130,7 @@ ordered (suc i) h = absurd (omega arith)
 
 shaped : IsShaped controller
 shaped = record {
+  exponents = refl;
   low = refl;
   high = refl;
   state_gains = record { rows = refl; cols = refl; each = one_line (pos 512) };
@@ -139,9 +141,15 @@ shaped = record {
   bounds = refl;
 }
 
+low_exponents : All (λ s. s ≤ 1) controller.exponents
+low_exponents zero d h = omega arith
+low_exponents (suc zero) d h = omega arith
+low_exponents (suc (suc zero)) d h = omega arith
+low_exponents (suc (suc (suc k))) d h = absurd (omega arith)
+
 sized : IsSized controller
 sized = record {
-  version = refl;
+  version = (omega arith, omega arith);
   states = (omega arith, omega arith);
   inputs = (omega arith, omega arith);
   stages = (omega arith, omega arith);
@@ -149,6 +157,8 @@ sized = record {
   grid_bits = omega arith;
   fraction_bits = (omega arith, omega arith);
   step_exponent = omega arith;
+  exponents = low_exponents;
+  same_exponents = λ e. refl;
   steps = (omega arith, omega arith);
   clamp_low = omega (arith, ints);
   clamp_high = omega (arith, ints);
@@ -173,7 +183,7 @@ sizes = record { states = refl; inputs = refl; stages = refl; rows = refl; grid 
 -- the rows change by 4 v, -4 v and 4 v over 4, and Vq(v) is 2 v^2: 3 v^2 is at most 2 * 2 v^2
 exponents : AreExponents base (exponent_of controller) controller.step_exponent
 exponents = record {
-  bounded = λ i l. omega arith;
+  bounded = λ i l. low_exponents i 0 l;
   descent = λ v. le_by (mul-le-mul_left_z (pos 16) (omega (arith, ints)) (square_nonneg_z (v 0))) (closed (v 0));
 }
   where

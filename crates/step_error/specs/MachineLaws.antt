@@ -30,7 +30,7 @@ raised_at c xi k = at (raised c (multipliers_at c xi k))
 
 -- its plan, over 2^fraction_bits
 abbrev pub plan_at : Numbers → List ℤ → ℕ → List ℤ
-plan_at c xi k = plan_of c (loaded c xi) (multipliers_at c xi k)
+plan_at c xi k = plan_of c (loaded c xi) (raised c (multipliers_at c xi k))
 
 -- the residual of row i that it uses, over 2^fraction_bits
 abbrev pub used_residual : Numbers → List ℤ → ℕ → ℕ → ℤ
