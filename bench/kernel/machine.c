@@ -1,4 +1,4 @@
-/* The same machine in plain C, with sizes and shifts at run time and no test of any value.
+/* The same machine in plain C, for controllers of both versions, with sizes and shifts at run time and no test of any value.
    It reads a controller text and a states text and puts the plan line of each state.
    A factor is a word of 128 bits, or, with -DFACTOR=int64_t, one of 64: then the matrices, the state, the multipliers and the plan are
    copied to such words, and sums keep 128 bits. */
@@ -78,16 +78,25 @@ static word dot(const factor *xs, const factor *ys, int count) {
 }
 
 static struct {
-    int n, nu, m, f, g, s, steps;
+    int version, n, nu, m, f, g, s, steps;
     word clamp;
+    /* By how many bits a row's step exponent is below the greatest. */
+    int *lowering;
     factor *P, *T, *W, *G, *E, *b;
 } c;
+
+static void read_exponents(void) {
+    c.lowering = calloc(c.m, sizeof(int));
+    if (!c.lowering) fail("memory");
+    key("exps");
+    for (int i = 0; i < c.m; i++) c.lowering[i] = c.s - (int)number();
+}
 
 static void read_controller(const char *name) {
     text = fopen(name, "r");
     if (!text) fail(name);
     key("mpc-controller");
-    number();
+    c.version = (int)number();
     key("size");
     c.n = (int)number();
     c.nu = (int)number();
@@ -104,6 +113,7 @@ static void read_controller(const char *name) {
     c.clamp = number();
     key("words");
     number();
+    if (c.version == 2) read_exponents();
     free(matrix("lo", 1, c.n));
     free(matrix("hi", 1, c.n));
     c.P = matrix("P", c.nu, c.n);
@@ -123,13 +133,36 @@ static void load(const factor *x, word *own, word *row) {
     for (int i = 0; i < c.m; i++) row[i] = dot(c.E + (size_t)i * c.n, x, c.n) - (word)c.b[i] * ((word)1 << c.f);
 }
 
-static void step(const word *own, const word *row, factor *u, factor *l, word *sums) {
-    for (int j = 0; j < c.nu; j++) u[j] = (factor)-((own[j] + dot(c.W + (size_t)j * c.m, l, c.m)) >> (c.f + c.s));
+static factor kept(word next, word top) {
+    next = next > 0 ? next : 0;
+    return (factor)(next < top ? next : top);
+}
+
+/* In version 2 the multipliers are raised for the plan, in place, and lowered as they move. */
+static void raise_all(factor *l) {
+    for (int i = 0; i < c.m; i++) l[i] = (factor)(l[i] * ((word)1 << c.lowering[i]));
+}
+
+static void move_raised(const word *row, const factor *u, factor *l) {
     for (int i = 0; i < c.m; i++) {
-        word next = l[i] + ((dot(c.G + (size_t)i * c.nu, u, c.nu) + row[i]) >> c.f);
-        next = next > 0 ? next : 0;
-        l[i] = (factor)(next < c.clamp ? next : c.clamp);
+        int k = c.lowering[i];
+        word old = (word)l[i] >> k;
+        l[i] = kept(old + ((dot(c.G + (size_t)i * c.nu, u, c.nu) + row[i]) >> c.f), c.clamp >> k);
     }
+}
+
+static void move(const word *row, const factor *u, factor *l) {
+    for (int i = 0; i < c.m; i++) l[i] = kept(l[i] + ((dot(c.G + (size_t)i * c.nu, u, c.nu) + row[i]) >> c.f), c.clamp);
+}
+
+static void step(const word *own, const word *row, factor *u, factor *l, word *sums) {
+    int raising = c.version == 2;
+    if (raising) raise_all(l);
+    for (int j = 0; j < c.nu; j++) u[j] = (factor)-((own[j] + dot(c.W + (size_t)j * c.m, l, c.m)) >> (c.f + c.s));
+    if (raising)
+        move_raised(row, u, l);
+    else
+        move(row, u, l);
     for (int j = 0; j < c.nu; j++) sums[j] += u[j];
 }
 

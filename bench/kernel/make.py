@@ -1,6 +1,7 @@
 #!/usr/bin/env python3
-"""make.py FOLDER STATES INPUTS STAGES ROWS BITS STEPS [COUNT]: writes FOLDER/controller and FOLDER/states: a controller of these sizes with as
-many fraction bits, in numbers of that many bits, and COUNT states of its box (1 where none is given)."""
+"""make.py FOLDER STATES INPUTS STAGES ROWS BITS STEPS [COUNT]: writes FOLDER/controller, FOLDER/second and FOLDER/states: a controller of these
+sizes with as many fraction bits, in numbers of that many bits, the same numbers in version 2, where every other row has a smaller step exponent, and
+COUNT states of its box (1 where none is given)."""
 import sys
 
 G, S = 8, 4
@@ -42,12 +43,14 @@ def main():
     p, (t,), w = matrix(source, nu, n), matrix(source, 1, nu), matrix(source, nu, m)
     g, e, (b,) = matrix(source, m, nu), matrix(source, m, n), matrix(source, 1, m)
     bits = width(f, steps, clamp, low, high, p, t, w, g, e, b)
-    lines = [["mpc-controller", 1], ["size", n, inputs, stages, m], ["bits", f, G, S, bits]]
-    lines += [["steps", steps], ["clamp", clamp], ["words", n + m + 2 * nu], ["lo"] + low, ["hi"] + high]
+    head = [["size", n, inputs, stages, m], ["bits", f, G, S, bits], ["steps", steps], ["clamp", clamp], ["words", n + m + 2 * nu]]
+    exponents = [S if i % 2 == 0 else i // 2 % S for i in range(m)]
+    lines = [["lo"] + low, ["hi"] + high]
     lines += [["P"] + row for row in p] + [["T"] + t] + [["W"] + row for row in w]
     lines += [["G"] + row for row in g] + [["E"] + row for row in e] + [["b"] + b, ["end"]]
-    with open(folder + "/controller", "w") as out:
-        out.writelines(" ".join(map(str, line)) + "\n" for line in lines)
+    for name, first, extra in ("controller", 1, []), ("second", 2, [["exps"] + exponents]):
+        with open(folder + "/" + name, "w") as out:
+            out.writelines(" ".join(map(str, line)) + "\n" for line in [["mpc-controller", first]] + head + extra + lines)
     with open(folder + "/states", "w") as out:
         out.writelines(",".join(str(next(source) % 2049 - 1024) for _ in range(n)) + "\n" for _ in range(count))
 

@@ -65,7 +65,8 @@ sums_room p g lt j h =
 ready : (p : Progress) → Goes p → p.made < p.controller.steps → IsReadyToStep p.controller (loaded p.controller p.state) (iterate_of p)
 ready p g lt = record {
   state_within = state_reached p g;
-  multipliers_within = after_multipliers p.controller (loaded p.controller p.state) p.made g.sound.form.sized.clamp_low;
+  multipliers_long = after_multipliers_length p.controller (loaded p.controller p.state) p.made;
+  raised_within = after_multipliers p.controller (loaded p.controller p.state) p.made g.sound.form.sized.clamp_low;
   plan_long = plan_long p;
   sums_long = after_sums_length p.controller (loaded p.controller p.state) p.made;
   room = sums_room p g lt;

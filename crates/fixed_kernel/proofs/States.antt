@@ -16,7 +16,7 @@ floor-minus : (n a d : ℕ) → 0 < d → n ≡ suc a * d → floor_of (neg_ℤ 
 floor-minus zero a d h e = absurd (omega (arith, e, h))
 floor-minus (suc b) a d h e = ap negsuc (div-eq_of_lt-le d (omega (arith, e, h)) (omega (arith, e, h)))
 
-floor-scaled : (x : ℤ) (d : ℕ) → 0 < d → floor_of (x *ℤ pos d) d ≡ x
+pub floor-scaled : (x : ℤ) (d : ℕ) → 0 < d → floor_of (x *ℤ pos d) d ≡ x
 floor-scaled (pos a) d h = ap pos (mul-div_cancel a h)
 floor-scaled (negsuc a) d h = floor-minus (suc a * d) a d h refl
 

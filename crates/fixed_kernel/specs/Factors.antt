@@ -7,7 +7,7 @@ use Rattle.qp_model.specs.Controller.{Numbers}
 abbrev pub IsNarrowCoordinate : Numbers → ℤ → Type 0
 IsNarrowCoordinate c x = unsigned_abs x < 2 ^ (63 - (c.fraction_bits - c.grid_bits))
 
--- each entry of the matrices, of a state of the box and of the multipliers does, and, by the width, each entry of the plan
+-- each entry of the matrices, of a state of the box and of the raised multipliers does, and, by the width, each entry of the plan
 pub record HasNarrowFactors (c : Numbers) : Type 0 where
   pub low : All (IsNarrowCoordinate c) c.low
   pub high : All (IsNarrowCoordinate c) c.high

@@ -134,7 +134,7 @@ impl<'a> Kernel<'a> {
         self.region.word(&self.spans.sums, j)
     }
 
-    /// Multiplier `i`, over `2^(f+s)`.
+    /// Multiplier `i`, over `2^(f + exps[i])`.
     pub fn multiplier(&self, i: usize) -> i128
         requires { i < self.now.controller.rows }
         ensures value { result ≡ at (iterate_of self.now).multipliers i }

@@ -1,19 +1,57 @@
 // Plan entries, multipliers and sums.
-ghost use Rattle.std.specs.Prelude.{◌≡◌, ◌≤◌, ◌<◌, ◌+◌, ◌^◌, ℕ, length, unsigned_abs, IsTrue};
+ghost use Rattle.std.specs.Prelude.{◌≡◌, ◌≤◌, ◌<◌, ◌+◌, ◌^◌, ℕ, pos, ◌+ℤ◌, length, unsigned_abs, IsTrue};
+ghost use Rattle.std.specs.Int.{int_max, int_min};
+ghost use Rattle.integer_algebra.specs.Division.{floor_of};
 ghost use Rattle.integer_algebra.specs.Sums.{at};
+ghost use Rattle.qp_model.specs.Limits.{text_version};
 ghost use Rattle.qp_model.specs.Controller.{numbers};
-ghost use Rattle.qp_model.specs.Machine.{plan_entry, plan_of, next_multiplier, next_multipliers, added, step_of};
+ghost use Rattle.qp_model.specs.Machine.{lowering_of, raised, plan_entry, plan_of, row_sum, next_multipliers, added, step_of};
 ghost use Rattle.qp_model.specs.AbsoluteSums.{IsController, clamp_magnitudes, state_magnitudes, plan_magnitudes};
 ghost use Rattle.qp_model.specs.Within.{AreWithin};
 ghost use Rattle.fixed_kernel.specs.Factors.{HasNarrowFactors};
 ghost use Rattle.fixed_kernel.specs.Spans.{words_of, made_of, state_in, made_in};
+ghost use Rattle.fixed_kernel.specs.Lowered.{lowered};
 ghost use Rattle.fixed_kernel.specs.Ready.{IsReadyToStep};
 
 use crate::entry::{entry_from, multiplier_from, short_shift};
-use crate::narrow::sum_of_products;
-use qp_model::ControllerParts;
+use crate::narrow::{scaled_by, shifted_by, sum_of_products};
+use qp_model::{ControllerParts, VERSION};
 
-// One plan entry. One running sum goes through the multipliers' products, is shifted, and goes on through the state's.
+// The step exponents, cut to the number of rows, which they have: so the compiler knows that a row's index is in range.
+fn exponents_of(c: &ControllerParts, rows: usize) -> &[u32]
+    requires sound { IsController (numbers c.now) }
+    requires rows { rows ≡ length c.now.bound.items }
+    ensures { result.now ≡ c.now.exps.items }
+{
+    &c.exps[..rows]
+}
+
+// By how many bits the step exponent of row `i` is below the greatest.
+fn lowering_at(c: &ControllerParts, exps: &[u32], i: usize) -> u32
+    requires sound { IsController (numbers c.now) }
+    requires exps { exps.now ≡ c.now.exps.items }
+    requires in_range { i < length c.now.bound.items }
+    ensures value { result ≡ lowering_of (numbers c.now) i }
+    ensures bits { result ≤ 40 }
+{
+    c.s - exps[i]
+}
+
+// Raises multipliers: each was over `2^(f + exps[i])`, and is then over `2^(f+s)`.
+fn raise(c: &ControllerParts, narrow: bool, multipliers: &mut [i128])
+    requires sound { IsController (numbers c.now) }
+    requires narrow { IsTrue narrow → HasNarrowFactors (numbers c.now) }
+    requires long { length multipliers.old ≡ length c.now.bound.items }
+    requires within { AreWithin (raised (numbers c.now) multipliers.old) (clamp_magnitudes (numbers c.now)) }
+    ensures { multipliers.new ≡ raised (numbers c.now) multipliers.old }
+{
+    let exps = exponents_of(c, multipliers.len());
+    for (i, l) in multipliers.iter_mut().enumerate() {
+        *l = scaled_by(narrow, *l, lowering_at(c, exps, i));
+    }
+}
+
+// One plan entry, at raised multipliers. One running sum goes through the multipliers' products, is shifted, and goes on through the state's.
 fn entry_at(
     c: &ControllerParts,
     narrow: bool,
@@ -33,7 +71,7 @@ fn entry_at(
     entry_from(sum, c.t[j], c.f)
 }
 
-// The plan at a state and multipliers.
+// The plan at a state and raised multipliers.
 fn make_plan(
     c: &ControllerParts,
     narrow: bool,
@@ -46,20 +84,24 @@ fn make_plan(
     requires state { AreWithin state.now (state_magnitudes (numbers c.now)) }
     requires multipliers { AreWithin multipliers.now (clamp_magnitudes (numbers c.now)) }
     requires plan { length plan.old ≡ length c.now.t.items }
-    ensures { plan.new ≡ plan_of (numbers c.now) state.now multipliers.now }
+    ensures value { plan.new ≡ plan_of (numbers c.now) state.now multipliers.now }
+    ensures within { AreWithin plan.new (plan_magnitudes (numbers c.now)) }
 {
     for j in 0..plan.len() {
         plan[j] = entry_at(c, narrow, state, multipliers, j);
     }
 }
 
-// One multiplier. One running sum goes through both parts of its row.
+// One multiplier, from the one before it and the greatest of its row. One running sum goes through both parts of the row. It stays within
+// each of the loops that call it.
+#[inline(always)]
 fn multiplier_at(
     c: &ControllerParts,
     narrow: bool,
     state: &[i128],
     plan: &[i128],
     old: i128,
+    top: i128,
     i: usize,
 ) -> i128
     requires sound { IsController (numbers c.now) }
@@ -68,15 +110,36 @@ fn multiplier_at(
     requires plan { AreWithin plan.now (plan_magnitudes (numbers c.now)) }
     requires old { unsigned_abs old ≤ unsigned_abs c.now.clamp }
     requires in_range { i < length c.now.bound.items }
-    ensures { result ≡ next_multiplier (numbers c.now) state.now plan.now old i }
+    ensures { result ≡ int_min top (int_max (old +ℤ floor_of (row_sum (numbers c.now) state.now plan.now i) (2 ^ c.now.f)) (pos 0)) }
 {
     let planned = sum_of_products(narrow, 0, c.g_mat.row(i), plan);
     let row = sum_of_products(narrow, planned, c.e_mat.row(i), state);
-    multiplier_from(row, c.bound[i], old, c.clamp, c.f)
+    multiplier_from(row, c.bound[i], old, top, c.f)
 }
 
-// The multipliers after a plan.
+// The multipliers after a plan, in version 1, where the greatest of each row is the clamp.
 fn move_multipliers(
+    c: &ControllerParts,
+    narrow: bool,
+    state: &[i128],
+    plan: &[i128],
+    multipliers: &mut [i128],
+)
+    requires first { c.now.version ≡ text_version }
+    requires sound { IsController (numbers c.now) }
+    requires narrow { IsTrue narrow → HasNarrowFactors (numbers c.now) }
+    requires state { AreWithin state.now (state_magnitudes (numbers c.now)) }
+    requires plan { AreWithin plan.now (plan_magnitudes (numbers c.now)) }
+    requires multipliers { AreWithin multipliers.old (clamp_magnitudes (numbers c.now)) }
+    ensures { multipliers.new ≡ next_multipliers (numbers c.now) state.now plan.now multipliers.old }
+{
+    for (i, l) in multipliers.iter_mut().enumerate() {
+        *l = multiplier_at(c, narrow, state, plan, *l, c.clamp, i);
+    }
+}
+
+// The multipliers after a plan, from raised ones.
+fn move_raised(
     c: &ControllerParts,
     narrow: bool,
     state: &[i128],
@@ -88,10 +151,14 @@ fn move_multipliers(
     requires state { AreWithin state.now (state_magnitudes (numbers c.now)) }
     requires plan { AreWithin plan.now (plan_magnitudes (numbers c.now)) }
     requires multipliers { AreWithin multipliers.old (clamp_magnitudes (numbers c.now)) }
-    ensures { multipliers.new ≡ next_multipliers (numbers c.now) state.now plan.now multipliers.old }
+    ensures { multipliers.new ≡ next_multipliers (numbers c.now) state.now plan.now (lowered (numbers c.now) multipliers.old) }
 {
+    let exps = exponents_of(c, multipliers.len());
     for (i, l) in multipliers.iter_mut().enumerate() {
-        *l = multiplier_at(c, narrow, state, plan, *l, i);
+        let lowering = lowering_at(c, exps, i);
+        let old = shifted_by(narrow, *l, lowering);
+        let top = shifted_by(narrow, c.clamp, lowering);
+        *l = multiplier_at(c, narrow, state, plan, old, top, i);
     }
 }
 
@@ -120,8 +187,17 @@ fn make_step(
     requires ready { IsReadyToStep (numbers c.now) state.now (made_of plan.old multipliers.old sums.old) }
     ensures { made_of plan.new multipliers.new sums.new ≡ step_of (numbers c.now) state.now (made_of plan.old multipliers.old sums.old) }
 {
+    // In version 1 all exponents are the greatest, and raising changes nothing.
+    let raising = c.version != VERSION;
+    if raising {
+        raise(c, narrow, multipliers);
+    }
     make_plan(c, narrow, state, multipliers, plan);
-    move_multipliers(c, narrow, state, plan, multipliers);
+    if raising {
+        move_raised(c, narrow, state, plan, multipliers);
+    } else {
+        move_multipliers(c, narrow, state, plan, multipliers);
+    }
     add_plan(plan, sums);
 }
 

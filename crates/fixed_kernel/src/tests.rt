@@ -26,6 +26,7 @@ fn parts_of_one_stage(alloc: Global, clamp: i128, w: u32) -> Result<ControllerPa
     ensures words { IfOk result (λ c. c.words ≡ 6) }
 {
     Ok(ControllerParts {
+        version: 1,
         n: 1,
         p: 1,
         stages: 1,
@@ -37,6 +38,7 @@ fn parts_of_one_stage(alloc: Global, clamp: i128, w: u32) -> Result<ControllerPa
         steps: 4,
         clamp,
         words: 6,
+        exps: vec![in alloc; 1, 1, 1]?,
         lo: vec![in alloc; 0]?,
         hi: vec![in alloc; 1]?,
         p_mat: matrix(alloc, &[[512]])?,
@@ -53,6 +55,17 @@ fn one_stage(alloc: Global, clamp: i128, w: u32) -> Result<Controller, Fail>
     ensures words { IfOk result (λ c. c.words ≡ 6) }
 {
     let parts = parts_of_one_stage(alloc, clamp, w)?;
+    Ok(Controller::from_parts(parts)?)
+}
+
+// The same in version 2, where the rows have these step exponents.
+fn with_exponents(alloc: Global, clamp: i128, exps: [u32; 3]) -> Result<Controller, Fail>
+    ensures states { IfOk result (λ c. c.states ≡ 1) }
+    ensures words { IfOk result (λ c. c.words ≡ 6) }
+{
+    let mut parts = parts_of_one_stage(alloc, clamp, 26)?;
+    parts.version = 2;
+    parts.exps = exps.to_vec(alloc)?;
     Ok(Controller::from_parts(parts)?)
 }
 
@@ -87,6 +100,32 @@ fn makes_steps(kernel: &mut Kernel) -> bool
         && steps_to(kernel, &[1024, 0, 0, 480, -544, -1056])
         && steps_to(kernel, &[1024, 0, 0, 676, -572, -1628])
         && steps_to(kernel, &[1024, 0, 0, 848, -596, -2224])
+}
+
+// The same where the third row has the exponent 0: its multiplier is over 2^f, and raised for the plan.
+fn makes_longer_steps(kernel: &mut Kernel) -> bool
+    requires states { kernel.old.controller.states ≡ 1 }
+    requires words { kernel.old.controller.words ≡ 6 }
+    ensures { kernel.new.controller ≡ kernel.old.controller }
+{
+    kernel.load(&[1]).is_ok()
+        && steps_to(kernel, &[1024, 0, 0, 256, -512, -512])
+        && steps_to(kernel, &[1024, 0, 0, 448, -576, -1088])
+        && steps_to(kernel, &[1024, 0, 0, 592, -624, -1712])
+        && steps_to(kernel, &[1024, 0, 0, 700, -660, -2372])
+}
+
+// The same where the clamp is 1001, so that the third multiplier is at most 500.
+fn stops_at_the_top(kernel: &mut Kernel) -> bool
+    requires states { kernel.old.controller.states ≡ 1 }
+    requires words { kernel.old.controller.words ≡ 6 }
+    ensures { kernel.new.controller ≡ kernel.old.controller }
+{
+    kernel.load(&[1]).is_ok()
+        && steps_to(kernel, &[1024, 0, 0, 256, -512, -512])
+        && steps_to(kernel, &[1024, 0, 0, 448, -576, -1088])
+        && steps_to(kernel, &[1024, 0, 0, 500, -624, -1712])
+        && steps_to(kernel, &[1024, 0, 0, 500, -637, -2349])
 }
 
 // Whether a run from this state answers so and leaves these words.
@@ -143,5 +182,30 @@ fn narrow(rt: HostRuntime) -> Result<(), Fail> {
 #[test]
 fn wide(rt: HostRuntime) -> Result<(), Fail> {
     assert!(rt; works_with(rt.alloc(), 1 << 63, 80)?);
+    Ok(())
+}
+
+// A row whose multiplier stays 0 may have any exponent.
+#[test]
+fn idle_row_lowered(rt: HostRuntime) -> Result<(), Fail> {
+    let controller = with_exponents(rt.alloc(), 32768, [0, 1, 1])?;
+    let mut kernel = Kernel::prepare(rt.alloc(), &controller)?;
+    assert!(rt; makes_steps(&mut kernel));
+    Ok(())
+}
+
+#[test]
+fn active_row_lowered(rt: HostRuntime) -> Result<(), Fail> {
+    let controller = with_exponents(rt.alloc(), 32768, [1, 1, 0])?;
+    let mut kernel = Kernel::prepare(rt.alloc(), &controller)?;
+    assert!(rt; makes_longer_steps(&mut kernel));
+    Ok(())
+}
+
+#[test]
+fn clamp_lowered(rt: HostRuntime) -> Result<(), Fail> {
+    let controller = with_exponents(rt.alloc(), 1001, [1, 1, 0])?;
+    let mut kernel = Kernel::prepare(rt.alloc(), &controller)?;
+    assert!(rt; stops_at_the_top(&mut kernel));
     Ok(())
 }

@@ -23,6 +23,7 @@ fn one_stage(alloc: Global) -> Result<Controller, Fail>
     ensures inputs { IfOk result (λ c. c.inputs ≡ 1) }
 {
     let parts = ControllerParts {
+        version: 1,
         n: 1,
         p: 1,
         stages: 1,
@@ -34,6 +35,7 @@ fn one_stage(alloc: Global) -> Result<Controller, Fail>
         steps: 4,
         clamp: 32768,
         words: 6,
+        exps: vec![in alloc; 1, 1, 1]?,
         lo: vec![in alloc; 0]?,
         hi: vec![in alloc; 1]?,
         p_mat: matrix(alloc, &[[512]])?,

@@ -1,7 +1,8 @@
-use Rattle.std.proofs.Common.{◌≡◌, ◌-◌, ◌^◌, ◌*ℤ◌, length, get_or, pos, arith, rules, FitsSigned, sym, ◌∙◌, ℤ}
+use Rattle.std.proofs.Common.{◌≡◌, ◌<◌, ◌-◌, ◌^◌, ◌*ℤ◌, length, get_or, pos, arith, rules, FitsSigned, sym, ◌∙◌, ℤ}
 use Rattle.std.specs.Int.{w128}
 use Rattle.std.proofs.lemmas.Int.{to_z-of_z}
 use Rattle.std.proofs.lemmas.List.{ext_get_or, length-map, get_or-map}
+use Rattle.std.proofs.lemmas.List.Edits.{fill_by_more}
 use Rattle.qp_model.specs.Controller.{numbers}
 use Rattle.qp_model.specs.Machine.{loaded}
 use Rattle.fixed_kernel.proofs.States.{coordinate_fits}
@@ -11,6 +12,15 @@ pub scaled-requires-clause-fits : goal.scaled-requires-clause-fits
 scaled-requires-clause-fits c =
     let x : FitsSigned w128 (get_or c.args.state.now c.loop-i.i (pos 0)) = search rules in
     rw (to_z-of_z w128 _ x) (coordinate_fits (numbers c.args.c.now) c.args.state.now c.loop-i.i c.requires.sound.form.sized c.requires.inside (omega (arith, c.requires.inside.long)))
+
+pub loop-i-preserved : goal.loop-i-preserved
+loop-i-preserved c =
+    let i = c.loop-i.i in
+    let xs = c.args.state.now in
+    let x : FitsSigned w128 (get_or xs i (pos 0)) = search rules in
+    let made : FitsSigned w128 c.scaled.result = search rules in
+    let lt : i < length c.loop-i.out = omega (arith, c.requires.inside.long) in
+    rw (to_z-of_z w128 _ made, c.scaled.ensures, to_z-of_z w128 _ x) (fill_by_more (λ k. get_or xs k (pos 0) *ℤ pos (2 ^ (c.args.c.now.f - c.args.c.now.g))) c.loop-i.out i (pos 0) lt c.loop-i.invariant)
 
 pub returns : goal.returns
 returns c =

@@ -78,7 +78,6 @@ returns c =
     let made : FitsSigned w128 c.sum_of_products-planned.result = search rules in
     let row : FitsSigned w128 c.sum_of_products-row.result = search rules in
     let bound : FitsSigned w128 c.index.result.now = search rules in
-    let clamp : FitsSigned w128 n.clamp = search rules in
     let read : c.index.result.now ≡ get_or c.args.c.now.bound.items c.args.i (pos 0) = get_or_read _ _ _ c.requires.in_range c.index.ensures (pos 0) in
     let planned : c.sum_of_products-planned.result ≡ list_dot (row_of n.plan_rows c.args.i) c.args.plan.now = rw c.row.ensures.value at c.sum_of_products-planned.ensures ∙ from_zero _ in
-    rw (to_z-of_z w128 _ result, c.multiplier_from.ensures, to_z-of_z w128 _ clamp, to_z-of_z w128 _ c.ranges.old, to_z-of_z w128 _ row, to_z-of_z w128 _ bound, read, c.sum_of_products-row.ensures, to_z-of_z w128 _ made, planned, c.row-2.ensures.value) refl
+    rw (to_z-of_z w128 _ result, c.multiplier_from.ensures, to_z-of_z w128 _ c.ranges.top, to_z-of_z w128 _ c.ranges.old, to_z-of_z w128 _ row, to_z-of_z w128 _ bound, read, c.sum_of_products-row.ensures, to_z-of_z w128 _ made, planned, c.row-2.ensures.value) refl
