@@ -1,11 +1,10 @@
 -- Lines with which a text in form begins.
 use Rattle.std.proofs.Common.{◌≡◌, ℕ, ◌<◌, List, [], ◌∷◌, ◌++◌, length, get_or, take, drop, refl, sym, ap, subst, ◌∙◌, append_assoc, arith}
-use Rattle.std.specs.Prelude.{◌↔◌, All}
-use Rattle.std.proofs.lemmas.List.{get_or_at, get_or_append_left, length-append, take_at, take-append-drop}
+use Rattle.std.specs.Prelude.{All}
+use Rattle.std.proofs.lemmas.List.{get_or_at, get_or_append_left, length-append, take_at, drop_at, take-append-drop}
 use Rattle.qp_model.specs.Controller.{Numbers, IsInForm, FitsWord}
-use Rattle.controller_file.specs.Lines.{Keyed, IsKeyedLine, keyed_lines}
+use Rattle.controller_file.specs.Lines.{Keyed, none, IsKeyedLine, keyed_lines}
 use Rattle.controller_file.specs.Following.{IsBeginning}
-use Rattle.controller_file.proofs.Cuts.{none}
 use Rattle.controller_file.proofs.Texts.{good_lines}
 
 -- one line more
@@ -33,15 +32,21 @@ line_is ls b k lt = ap (λ (ms : List Keyed). get_or ms k none) b.lines ∙ get_
 pub last_is : (ls : List Keyed) (l : Keyed) (b : IsBeginning (ls ++ l ∷ [])) (k : ℕ) → length ls ≡ k → get_or (keyed_lines b.numbers) k none ≡ l
 last_is ls l b k len = ap (λ (ms : List Keyed). get_or ms k none) (b.lines ∙ append_assoc ls (l ∷ []) b.more) ∙ get_or_at ls l b.more none k len
 
+-- lines of the text that are as many, and those after them
+pub parted : (ls : List Keyed) (b : IsBeginning ls) (front rest : List Keyed) → keyed_lines b.numbers ≡ front ++ rest → length ls ≡ length front → (front ≡ ls) × (rest ≡ b.more)
+parted ls b front rest e len =
+    let same : front ++ rest ≡ ls ++ b.more = sym e ∙ b.lines in
+    (sym (take_at front rest (length front) refl) ∙ ap (take (length front)) same ∙ take_at ls b.more (length front) len, sym (drop_at front rest (length front) refl) ∙ ap (drop (length front)) same ∙ drop_at ls b.more (length front) len)
+
+-- the line after them, where they go on
+pub next_is : (ls : List Keyed) (l : Keyed) (b : IsBeginning (ls ++ l ∷ [])) (front : List Keyed) (a : Keyed) (rest : List Keyed) → keyed_lines b.numbers ≡ front ++ (a ∷ rest) → length ls ≡ length front → a ≡ l
+next_is ls l b front a rest e len = ap (λ (ms : List Keyed). get_or ms 0 none) (parted ls (fewer ls (l ∷ []) b) front (a ∷ rest) e len).1
+
 -- each of them can be read
 pub lines_good : (ls : List Keyed) → IsBeginning ls → All IsKeyedLine ls
 lines_good ls b k d lt =
     let all : All IsKeyedLine (ls ++ b.more) = subst (λ (ms : List Keyed). All IsKeyedLine ms) b.lines (good_lines b.numbers b.form b.word) in
     subst IsKeyedLine (get_or_append_left ls b.more d k lt) (all k d (omega (arith, length-append ls b.more)))
-
--- what a test decides, by what it says
-pub through : {A B C : Type 0} → (A ↔ B) → (B ↔ C) → (A ↔ C)
-through h k = (λ a. k.0 (h.0 a), λ c. h.1 (k.1 c))
 
 -- the line at the end can be read
 pub last_good : (ls : List Keyed) (l : Keyed) → IsBeginning (ls ++ l ∷ []) → IsKeyedLine l

@@ -1,21 +1,21 @@
 -- A text in form for each choice of sizes.
-use Rattle.std.proofs.Common.{◌≡◌, ℕ, ◌+◌, ◌*◌, ℤ, pos, ◌≤ℤ◌, length, get_or, replicate, FitsSigned, refl, sym, subst, arith}
+use Rattle.std.proofs.Common.{◌≡◌, ℕ, ◌+◌, ◌*◌, ◌≤◌, ℤ, pos, ◌≤ℤ◌, length, get_or, replicate, FitsSigned, refl, sym, subst, arith}
 use Rattle.std.specs.Prelude.{All}
 use Rattle.std.specs.Int.{w128}
 use Rattle.std.proofs.lemmas.Int.{ints}
 use Rattle.std.proofs.lemmas.List.{length-replicate, get_or-replicate}
 use Rattle.mat_int.specs.Matrix.{zero_matrix}
-use Rattle.qp_model.specs.Limits.{text_version}
+use Rattle.qp_model.specs.Limits.{most_states, most_stages, most_rows}
 use Rattle.qp_model.specs.Range.{LiesIn, IsNumerator}
 use Rattle.qp_model.specs.Controller.{Numbers, HasShape, IsInForm, FitsWord}
 
-all_same : {X : Type 0} (P : X → Type 0) (x : X) → P x → (n : ℕ) → All P (replicate n x)
+pub all_same : {X : Type 0} (P : X → Type 0) (x : X) → P x → (n : ℕ) → All P (replicate n x)
 all_same P x h n k d lt = subst P (sym (get_or-replicate n k x d (omega (arith, lt, length-replicate n x)))) h
 
 -- zeros in each list, and the least of each range
-abbrev pub blank : ℕ → ℕ → ℕ → ℕ → Numbers
-blank n p stages m = record {
-  version = text_version;
+abbrev pub blank : ℕ → ℕ → ℕ → ℕ → ℕ → Numbers
+blank version n p stages m = record {
+  version = version;
   states = n;
   inputs = p;
   stages = stages;
@@ -27,6 +27,7 @@ blank n p stages m = record {
   steps = 1;
   clamp = pos 0;
   words = n + m + 2 * (p * stages);
+  exponents = replicate m 0;
   low = replicate n (pos 0);
   high = replicate n (pos 0);
   state_gains = zero_matrix (p * stages) n;
@@ -50,13 +51,13 @@ zeros_fit n = all_same (FitsSigned w128) (pos 0) (record { sfits = omega arith }
 rows_fit : (height breadth : ℕ) → All (All (FitsSigned w128)) (zero_matrix height breadth).rows
 rows_fit height breadth = all_same (All (FitsSigned w128)) (replicate breadth (pos 0)) (zeros_fit breadth) height
 
-zero_low : (z : ℤ) → z ≤ℤ z
-zero_low z = omega (arith, ints)
+pub same_le : (z : ℤ) → z ≤ℤ z
+same_le z = omega (arith, ints)
 
-pub blank_form : (n p stages m : ℕ) → LiesIn 1 4 n → LiesIn 1 3 p → LiesIn 1 20 stages → LiesIn 1 252 m → IsInForm (blank n p stages m)
-blank_form n p stages m hn hp hs hm = record {
+pub blank_form : (version n p stages m : ℕ) → LiesIn 1 2 version → LiesIn 1 (most_states version) n → LiesIn 1 3 p → LiesIn 1 (most_stages version) stages → LiesIn 1 (most_rows version) m → IsInForm (blank version n p stages m)
+blank_form version n p stages m hv hn hp hs hm = record {
   sized = record {
-    version = refl;
+    version = hv;
     states = hn;
     inputs = hp;
     stages = hs;
@@ -64,11 +65,14 @@ blank_form n p stages m hn hp hs hm = record {
     grid_bits = omega arith;
     fraction_bits = (omega arith, omega arith);
     step_exponent = omega arith;
+    exponents = all_same (λ s. s ≤ 0) 0 (omega arith) m;
+    same_exponents = λ first. refl;
     steps = (omega arith, omega arith);
     clamp_low = omega (arith, ints);
     clamp_high = omega (arith, ints);
     words = refl;
     shaped = record {
+      exponents = length-replicate m 0;
       low = length-replicate n (pos 0);
       high = length-replicate n (pos 0);
       state_gains = zeros_shape (p * stages) n;
@@ -80,13 +84,13 @@ blank_form n p stages m hn hp hs hm = record {
     };
     low = all_same IsNumerator (pos 0) (omega arith) n;
     high = all_same IsNumerator (pos 0) (omega arith) n;
-    box = λ i lt. zero_low (get_or (replicate n (pos 0)) i (pos 0));
+    box = λ i lt. same_le (get_or (replicate n (pos 0)) i (pos 0));
   };
   width = (omega arith, omega arith);
 }
 
-pub blank_fits : (n p stages m : ℕ) → FitsWord (blank n p stages m)
-blank_fits n p stages m = record {
+pub blank_fits : (version n p stages m : ℕ) → FitsWord (blank version n p stages m)
+blank_fits version n p stages m = record {
   state_gains = rows_fit (p * stages) n;
   offsets = zeros_fit (p * stages);
   dual_gains = rows_fit (p * stages) m;

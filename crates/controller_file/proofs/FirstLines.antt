@@ -1,20 +1,22 @@
 -- The first line at which bytes are no text in form, by the pieces between their line feeds.
 use Rattle.std.proofs.Common.{◌≡◌, ◌≢◌, ℕ, zero, suc, ◌+◌, ◌-◌, ◌<◌, ◌≤◌, Bor, eqb, List, [], ◌∷◌, ◌++◌, length, get_or, take, drop, map, refl, sym, ap, subst, ◌∙◌, append_assoc, arith, eq-eqb, add-one}
 use Rattle.std.specs.Prelude.{All}
-use Rattle.std.proofs.Math.Nat.{mul-le-mul}
+use Rattle.std.proofs.Math.Nat.{lt_of_not-le}
 use Rattle.std.specs.List.{join_with_byte, slice_split}
 use Rattle.std.proofs.lemmas.Bool.{ne_eqb, false≢true}
-use Rattle.std.proofs.lemmas.List.{take_at, take_all, take_more, take-take, take-map, take-append-le, take-append-drop, length-append, length-map, length-take-le, get_or-take, get_or-map, map-append}
+use Rattle.std.proofs.lemmas.List.{append-nil, take_at, take_all, take_more, take-take, take-map, take-append-le, take-append-drop, length-append, length-map, length-take-le, get_or-take, get_or-map, map-append}
 use Rattle.std.proofs.lemmas.List.Splits.{join_with_byte-slice_split}
 use Rattle.qp_model.specs.Lines.{text_of}
 use Rattle.qp_model.proofs.Pieces.{IsPiece, ArePieces, split_text}
-use Rattle.controller_file.specs.FirstLine.{IsOneLine, BeginsInForm, IsFirstLine}
-use Rattle.controller_file.specs.Lines.{Keyed, spelled, keyed_lines}
-use Rattle.controller_file.specs.Following.{IsBeginning, BeginsWith, IsMost}
-use Rattle.controller_file.proofs.Cuts.{none, cut_some, line_pieces}
-use Rattle.controller_file.proofs.Texts.{keyed_text}
+use Rattle.controller_file.specs.FirstLine.{IsOneLine, IsTextInForm, BeginsInForm, IsFirstLine, IsBadLine}
+use Rattle.controller_file.specs.Lines.{Keyed, none, spelled, keyed_lines}
+use Rattle.controller_file.specs.Following.{IsBeginning, IsWhole, BeginsWith, IsMost}
+use Rattle.controller_file.proofs.Cuts.{cut_some, line_pieces, text_cut}
+use Rattle.qp_model.specs.Controller.{Numbers}
+use Rattle.controller_file.proofs.Texts.{keyed_text, good_lines}
+use Rattle.controller_file.proofs.Blocks.{few_lines}
 use Rattle.controller_file.proofs.Pushed.{text_append}
-use Rattle.controller_file.proofs.Uniqueness.{one_lines, split_more, pieces_of, line_count}
+use Rattle.controller_file.proofs.Uniqueness.{one_lines, split_more, pieces_of}
 use Rattle.controller_file.proofs.Beginnings.{shorter, begins, lines_good}
 use Rattle.controller_file.proofs.Blank.{blank, blank_form, blank_fits}
 
@@ -139,7 +141,8 @@ pub all_right : (ps : List (List ℕ)) (i : ℕ) → length ps ≤ i → ¬ Begi
 all_right ps i le w = omega (arith, w.within)
 
 pub nothing : IsBeginning []
-nothing = begins 0 (blank 1 1 1 1) (blank_form 1 1 1 1 (omega arith, omega arith) (omega arith, omega arith) (omega arith, omega arith) (omega arith, omega arith)) (blank_fits 1 1 1 1)
+nothing =
+    begins 0 (blank 1 1 1 1 1) (blank_form 1 1 1 1 1 (omega arith, omega arith) (omega arith, omega arith) (omega arith, omega arith) (omega arith, omega arith) (omega arith, omega arith)) (blank_fits 1 1 1 1 1)
 
 -- one piece more
 pub one_more : (ps : List (List ℕ)) (ls : List Keyed) (i : ℕ) (l : Keyed) → i < length ps → map spelled ls ≡ take i ps → get_or ps i [] ≡ spelled l → map spelled (ls ++ l ∷ []) ≡ take (i + 1) ps
@@ -161,19 +164,38 @@ pub some_piece : (bytes : List ℕ) (ps : List (Bor (List ℕ))) → map (λ x. 
 some_piece bytes ps same = omega (arith, cut_some 10 bytes, ap length same, length-map ps (λ (x : Bor (List ℕ)). x.now))
 
 -- however many pieces there are, few are the lines of a text in form: no such text has more
-pub few_right : (ps : List (List ℕ)) (n : ℕ) → IsMost ps n → n ≤ 635
-few_right ps n m =
-    let b = m.these in
-    let c = b.beginning.numbers in
-    let sized = b.beginning.form.sized in
-    omega (
-      arith,
-      ap length b.spelling,
-      length-map b.lines spelled,
-      length-take-le n ps b.within,
-      ap length b.beginning.lines,
-      length-append b.lines b.beginning.more,
-      line_count c sized.shaped,
-      mul-le-mul sized.inputs.1 sized.stages.1,
-      sized.rows.1,
-    )
+pub few_right : (ls : List Keyed) → IsBeginning ls → length ls ≤ 936
+few_right ls b = omega (arith, few_lines b.numbers b.form, ap length b.lines, length-append ls b.more)
+
+-- ---- bytes that are no text in form
+
+-- the pieces of a text in form
+in_pieces : (bytes : List ℕ) (whole : List (List ℕ)) (last : List ℕ) (c : Numbers) → pieces bytes ≡ whole ++ last ∷ [] → IsTextInForm bytes c → (whole ≡ map spelled (keyed_lines c)) × (last ≡ [])
+in_pieces bytes whole last c cut t = text_cut bytes (keyed_lines c) whole last (good_lines c t.form t.word) (t.text ∙ sym (keyed_text c)) cut
+
+-- where fewer pieces are right, or bytes are left, or the right lines are not all lines of a text
+pub bad_line : (bytes : List ℕ) (whole : List (List ℕ)) (last : List ℕ) (ls : List Keyed) → pieces bytes ≡ whole ++ last ∷ [] → IsBeginning ls → map spelled ls ≡ take (length ls) whole → IsMost whole (length ls)
+    → ¬ ((length ls ≡ length whole) × (last ≡ []) × IsWhole ls) → IsBadLine bytes (length ls + 1)
+bad_line bytes whole last ls cut b spelling most other = record {
+  none = λ c t.
+      let parts = in_pieces bytes whole last c cut t in
+      let kc = keyed_lines c in
+      let all : BeginsWith whole (length whole) = record {
+        lines = kc;
+        beginning = record { numbers = c; form = t.form; word = t.word; more = []; lines = sym (append-nil kc) };
+        within = omega arith;
+        spelling = sym parts.0 ∙ sym (take_all (length whole) whole (omega arith));
+      } in
+      let least = lt_of_not-le (λ lt. most.no_more (fewer_pieces whole (length whole) (suc (length ls)) all lt)) in
+      let count : length ls ≡ length whole = omega (arith, least, most.these.within) in
+      let same : map spelled ls ≡ map spelled kc = spelling ∙ take_all (length ls) whole (omega (arith, count)) ∙ parts.0 in
+      let lines = one_lines ls kc (lines_good ls b) (good_lines c t.form t.word) same in
+      other (count, parts.1, record { numbers = c; form = t.form; word = t.word; lines = sym lines });
+  first = most_first bytes whole last (length ls) cut most;
+}
+
+-- where all are right and nothing is left
+pub good_text : (bytes : List ℕ) (whole : List (List ℕ)) (ls : List Keyed) → pieces bytes ≡ whole ++ [] ∷ [] → map spelled ls ≡ take (length ls) whole → length ls ≡ length whole → bytes ≡ text_of (map spelled ls)
+good_text bytes whole ls cut spelling count =
+    let same : whole ≡ map spelled ls = sym (take_all (length ls) whole (omega (arith, count))) ∙ sym spelling in
+    sym (join_with_byte-slice_split 10 bytes) ∙ ap (join_with_byte 10) cut ∙ joined_front whole ([] ∷ []) (omega arith) ∙ append-nil (text_of whole) ∙ ap text_of same

@@ -1,63 +1,30 @@
 -- Which line can follow in the lists of a text in form: any with the word and the count of its place.
-use Rattle.std.proofs.Common.{◌≡◌, ℕ, zero, suc, ◌+◌, ◌*◌, ◌≤◌, ℤ, List, [], ◌∷◌, ◌++◌, length, get_or, take, drop, replicate, map, Some, refl, sym, ap, subst, ◌∙◌, append_assoc, arith}
-use Rattle.std.specs.Prelude.{◌↔◌, All, codes, slice_get}
+use Rattle.std.proofs.Common.{◌≡◌, ℕ, zero, suc, ◌+◌, ◌<◌, ◌≤◌, ℤ, pos, List, [], ◌∷◌, ◌++◌, length, get_or, take, drop, replicate, map, Some, refl, sym, ap, subst, ◌∙◌, append_assoc, arith}
+use Rattle.std.specs.Prelude.{All, codes, slice_get}
 use Rattle.std.specs.List.{AllByRecursion}
-use Rattle.std.proofs.lemmas.List.{length-map, map-append, take-append-drop, take-append-le, drop-append-le, length-drop}
+use Rattle.std.proofs.lemmas.List.{length-map, map-append, nil_from_length, length-take-le, take-append-drop}
 use Rattle.std.proofs.lemmas.List.Elements.{All-from_recursion, recursion_from_All}
 use Rattle.mat_int.specs.Matrix.{Matrix}
-use Rattle.qp_model.specs.Controller.{Numbers, plan_length, HasShape, IsShaped, IsInForm, FitsWord}
-use Rattle.controller_file.specs.declared.following.Sizes.{Sizes}
-use Rattle.controller_file.specs.Lines.{Keyed, keyed_line, row_lines, Fits, head_of, head_lines, keyed_lines, Place, place, place_of}
-use Rattle.controller_file.specs.Following.{IsBeginning, second_of, Says, list_places, places_after}
-use Rattle.controller_file.proofs.Fields.{key_is, count_is}
-use Rattle.controller_file.proofs.Beginnings.{grown, fewer}
-use Rattle.controller_file.proofs.HeadLines.{sizes_are}
-use Rattle.controller_file.proofs.Whole.{joined}
-use Rattle.controller_file.proofs.Texts.{good_lines, fits_word, all_append, all_parts}
-
--- the lines after `hi`
-abbrev tail_lines : Numbers → List Keyed
-tail_lines c =
-    row_lines (codes "P") c.state_gains.rows
-    ++ (keyed_line (codes "T") c.offsets ∷ (row_lines (codes "W") c.dual_gains.rows
-    ++ (row_lines (codes "G") c.plan_rows.rows
-    ++ (row_lines (codes "E") c.state_rows.rows
-    ++ (keyed_line (codes "b") c.bounds ∷ keyed_line (codes "end") [] ∷ [])))))
+use Rattle.qp_model.specs.Controller.{Numbers, plan_length, HasShape, IsInForm, FitsWord}
+use Rattle.controller_file.specs.declared.table.Sizes.{Sizes}
+use Rattle.controller_file.specs.Lines.{Keyed, keyed_line, row_lines, Fits, chained, keyed_lines, Place, place, place_of}
+use Rattle.controller_file.specs.Table.{table, spread, places, sizes_of, Says}
+use Rattle.controller_file.specs.Following.{IsBeginning}
+use Rattle.controller_file.proofs.Chained.{all_append, all_parts, map_chained}
+use Rattle.controller_file.proofs.Blocks.{same_sizes, key_is, count_is, blocks_placed, lines_placed}
+use Rattle.controller_file.proofs.Beginnings.{grown, line_is, parted}
+use Rattle.controller_file.proofs.HeadLines.{own_head, own_exponents, own_box, resized_form, tail_lines, up_to, split_at, count_to}
+use Rattle.controller_file.proofs.Texts.{good_lines, fits_word}
 
 -- ---- their places
 
-rows_places : (key : List ℕ) (cols : ℕ) (rows : List (List ℤ)) (rest : List Keyed) → AllByRecursion (λ row. length row ≡ cols) rows → map place_of (row_lines key rows ++ rest) ≡ replicate (length rows) (place key cols) ++ map place_of rest
-rows_places key cols [] rest h = refl
-rows_places key cols (row ∷ rows) rest h =
-    let first = h.0 in
-    let others = rows_places key cols rows rest h.1 in
-    (λ i. place key (first i) ∷ others i)
+-- those of the lines after the box
+abbrev tail_places : Sizes → List Place
+tail_places z = spread (drop 9 (table z))
 
-matrix_places : (key : List ℕ) (height breadth : ℕ) (a : Matrix) (rest : List Keyed) (others : List Place) → HasShape a height breadth → map place_of rest ≡ others → map place_of (row_lines key a.rows ++ rest) ≡ replicate height (place key breadth) ++ others
-matrix_places key height breadth a rest others h e =
-    let count = h.rows in
-    rows_places key breadth a.rows rest (recursion_from_All (λ row. length row ≡ breadth) a.rows h.each) ∙ (λ i. replicate (count i) (place key breadth) ++ e i)
-
-tail_places : (c : Numbers) → IsShaped c → map place_of (tail_lines c) ≡ list_places c.states (plan_length c) c.rows
-tail_places c h =
-    let nu = plan_length c in
-    let m = c.rows in
-    let last = keyed_line (codes "b") c.bounds ∷ keyed_line (codes "end") [] ∷ [] in
-    let r6 = row_lines (codes "E") c.state_rows.rows ++ last in
-    let r5 = row_lines (codes "G") c.plan_rows.rows ++ r6 in
-    let r4 = row_lines (codes "W") c.dual_gains.rows ++ r5 in
-    let p7 = place (codes "b") m ∷ place (codes "end") 0 ∷ [] in
-    let p6 = replicate m (place (codes "E") c.states) ++ p7 in
-    let p5 = replicate m (place (codes "G") nu) ++ p6 in
-    let p4 = replicate nu (place (codes "W") m) ++ p5 in
-    let bounds = h.bounds in
-    let offsets = h.offsets in
-    let e7 : map place_of last ≡ p7 = (λ i. place (codes "b") (bounds i) ∷ place (codes "end") 0 ∷ []) in
-    let e6 = matrix_places (codes "E") m c.states c.state_rows last p7 h.state_rows e7 in
-    let e5 = matrix_places (codes "G") m nu c.plan_rows r6 p6 h.plan_rows e6 in
-    let e4 = matrix_places (codes "W") nu m c.dual_gains r5 p5 h.dual_gains e5 in
-    let e3 : map place_of (keyed_line (codes "T") c.offsets ∷ r4) ≡ place (codes "T") nu ∷ p4 = (λ i. place (codes "T") (offsets i) ∷ e4 i) in
-    matrix_places (codes "P") nu c.states c.state_gains (keyed_line (codes "T") c.offsets ∷ r4) (place (codes "T") nu ∷ p4) h.state_gains e3
+tail_placed : (c : Numbers) → IsInForm c → map place_of (tail_lines c) ≡ tail_places (sizes_of c)
+tail_placed c form = map_chained place_of (row_lines (codes "P") c.state_gains.rows ∷ (keyed_line (codes "T") c.offsets ∷ []) ∷ row_lines (codes "W") c.dual_gains.rows ∷ row_lines (codes "G") c.plan_rows.rows ∷ row_lines (codes "E") c.state_rows.rows ∷ (keyed_line (codes "b") c.bounds ∷ []) ∷ (keyed_line (codes "end") [] ∷ []) ∷ [])
+    ∙ ap (λ (ps : List (List Place)). chained (drop 9 ps)) (blocks_placed c form)
 
 -- ---- lines in such places are lists
 
@@ -117,13 +84,26 @@ one_from key size (m ∷ ms) others e =
     let first : place_of m ≡ place key size = ap (λ (ps : List Place). get_or ps 0 (place [] 0)) e in
     record { numbers = m.numbers; rest = ms; lines = ap (λ (k : Keyed). k ∷ ms) (key_is m key size first); count = count_is m key size first; places = ap (drop 1) e }
 
+-- lines that are there, one after the other
+joined : (p w g e : List (List ℤ)) (t b none : List ℤ) (r2 r3 r4 r5 r6 r7 r8 r9 : List Keyed) → r2 ≡ row_lines (codes "P") p ++ r3 → r3 ≡ keyed_line (codes "T") t ∷ r4
+    → r4 ≡ row_lines (codes "W") w ++ r5 → r5 ≡ row_lines (codes "G") g ++ r6 → r6 ≡ row_lines (codes "E") e ++ r7 → r7 ≡ keyed_line (codes "b") b ∷ r8
+    → r8 ≡ keyed_line (codes "end") none ∷ r9 → length none ≡ 0 → length r9 ≡ 0
+    → r2 ≡ row_lines (codes "P") p ++ (keyed_line (codes "T") t ∷ (row_lines (codes "W") w ++ (row_lines (codes "G") g ++ (row_lines (codes "E") e ++ (keyed_line (codes "b") b ∷ keyed_line (codes "end") [] ∷ [])))))
+joined p w g e t b none r2 r3 r4 r5 r6 r7 r8 r9 t2 t3 t4 t5 t6 t7 t8 empty over =
+    let no_numbers : none ≡ [] = nil_from_length none empty in
+    let no_lines : r9 ≡ [] = nil_from_length r9 over in
+    let e8 : r8 ≡ keyed_line (codes "end") [] ∷ [] = t8 ∙ (λ i. keyed_line (codes "end") (no_numbers i) ∷ no_lines i) in
+    let e6 = t6 ∙ ap (λ (r : List Keyed). row_lines (codes "E") e ++ r) (t7 ∙ ap (λ (r : List Keyed). keyed_line (codes "b") b ∷ r) e8) in
+    let e4 = t4 ∙ ap (λ (r : List Keyed). row_lines (codes "W") w ++ r) (t5 ∙ ap (λ (r : List Keyed). row_lines (codes "G") g ++ r) e6) in
+    t2 ∙ ap (λ (r : List Keyed). row_lines (codes "P") p ++ r) (t3 ∙ ap (λ (r : List Keyed). keyed_line (codes "T") t ∷ r) e4)
+
 -- the same head and box with these lines after them
 record Remade (c : Numbers) (ms : List Keyed) : Type 0 where
   numbers : Numbers
   form : IsInForm numbers
-  lines : keyed_lines numbers ≡ take 8 (keyed_lines c) ++ ms
+  lines : keyed_lines numbers ≡ up_to 2 c ++ ms
 
-remade : (c : Numbers) (ms : List Keyed) → IsInForm c → map place_of ms ≡ list_places c.states (plan_length c) c.rows → Remade c ms
+remade : (c : Numbers) (ms : List Keyed) → IsInForm c → map place_of ms ≡ tail_places (sizes_of c) → Remade c ms
 remade c ms form e =
     let nu = plan_length c in
     let m = c.rows in
@@ -139,65 +119,52 @@ remade c ms form e =
     let b = one_from (codes "b") m r.rest (place (codes "end") 0 ∷ []) r.places in
     let end = one_from (codes "end") 0 b.rest [] b.places in
     let over : length end.rest ≡ 0 = sym (length-map end.rest place_of) ∙ ap length end.places in
-    let hi = keyed_line (codes "hi") c.high ∷ ms in
-    let lines = joined c.low c.high p.matrix t.numbers w.matrix g.matrix r.matrix b.numbers end.numbers (keyed_line (codes "lo") c.low ∷ hi) hi ms p.rest t.rest w.rest g.rest r.rest b.rest end.rest refl refl p.lines t.lines w.lines g.lines r.lines b.lines end.lines end.count over in
-    let sized = form.sized in
+    let lines = joined p.matrix.rows w.matrix.rows g.matrix.rows r.matrix.rows t.numbers b.numbers end.numbers ms p.rest t.rest w.rest g.rest r.rest b.rest end.rest p.lines t.lines w.lines g.lines r.lines b.lines end.lines end.count over in
+    let d = record c { state_gains = p.matrix; offsets = t.numbers; dual_gains = w.matrix; plan_rows = g.matrix; state_rows = r.matrix; bounds = b.numbers } in
     record {
-      numbers = record c { state_gains = p.matrix; offsets = t.numbers; dual_gains = w.matrix; plan_rows = g.matrix; state_rows = r.matrix; bounds = b.numbers };
-      form = record {
-        sized = record {
-          version = sized.version;
-          states = sized.states;
-          inputs = sized.inputs;
-          stages = sized.stages;
-          rows = sized.rows;
-          grid_bits = sized.grid_bits;
-          fraction_bits = sized.fraction_bits;
-          step_exponent = sized.step_exponent;
-          steps = sized.steps;
-          clamp_low = sized.clamp_low;
-          clamp_high = sized.clamp_high;
-          words = sized.words;
-          shaped = record { low = sized.shaped.low; high = sized.shaped.high; state_gains = p.shape; offsets = t.count; dual_gains = w.shape; plan_rows = g.shape; state_rows = r.shape; bounds = b.count };
-          low = sized.low;
-          high = sized.high;
-          box = sized.box;
-        };
-        width = form.width;
-      };
-      lines = ap (λ (ls : List Keyed). head_lines (head_of c) ++ ls) (sym lines);
+      numbers = d;
+      form = resized_form c d form (own_head c form) (own_exponents c form) (own_box c form) (p.shape, t.count, w.shape, g.shape, r.shape, b.count);
+      lines = split_at 2 d ∙ ap (λ (ls : List Keyed). up_to 2 c ++ ls) (sym lines);
     }
 
 -- ---- the line with an index
 
-record At (more : List Keyed) (x : Place) : Type 0 where
-  first : Keyed
-  others : List Keyed
-  split : more ≡ first ∷ others
-  place : place_of first ≡ x
+pub record At (more : List Keyed) (x : Place) : Type 0 where
+  pub first : Keyed
+  pub others : List Keyed
+  pub split : more ≡ first ∷ others
+  pub place : place_of first ≡ x
 
-line_at : (front more : List Keyed) (i : ℕ) (x : Place) → length front ≡ i → slice_get (map place_of (front ++ more)) i ≡ Some x → At more x
+pub line_at : (front more : List Keyed) (i : ℕ) (x : Place) → length front ≡ i → slice_get (map place_of (front ++ more)) i ≡ Some x → At more x
 line_at [] [] i x len e = absurd cc
 line_at [] (a ∷ more) zero x len e = record { first = a; others = more; split = refl; place = cc e }
 line_at [] (a ∷ more) (suc i) x len e = absurd (omega (arith, len))
 line_at (f ∷ front) more zero x len e = absurd (omega (arith, len))
 line_at (f ∷ front) more (suc i) x len e = line_at front more i x (omega (arith, len)) e
 
-at_line : (front more : List Keyed) (l : Keyed) (i : ℕ) → length front ≡ i → slice_get (map place_of (front ++ (l ∷ more))) i ≡ Some (place_of l)
+pub at_line : (front more : List Keyed) (l : Keyed) (i : ℕ) → length front ≡ i → slice_get (map place_of (front ++ (l ∷ more))) i ≡ Some (place_of l)
 at_line [] more l zero len = refl
 at_line [] more l (suc i) len = absurd (omega (arith, len))
 at_line (f ∷ front) more l zero len = absurd (omega (arith, len))
 at_line (f ∷ front) more l (suc i) len = at_line front more l i (omega (arith, len))
 
+-- ---- the sizes
+
+pub version_is : (ls : List Keyed) (b : IsBeginning ls) (z : Sizes) → 0 < length ls → Says ls z → b.numbers.version ≡ z.version
+version_is ls b z lt says =
+    let one : pos b.numbers.version ∷ [] ≡ pos z.version ∷ [] = ap (λ (k : Keyed). k.numbers) (line_is ls b 0 lt) ∙ says.version lt in
+    cc one
+
+pub sizes_are : (ls : List Keyed) (b : IsBeginning ls) (z : Sizes) → 1 < length ls → Says ls z → sizes_of b.numbers ≡ z
+sizes_are ls b z lt says =
+    let c = b.numbers in
+    let four : pos c.states ∷ pos c.inputs ∷ pos c.stages ∷ pos c.rows ∷ [] ≡ pos z.n ∷ pos z.p ∷ pos z.stages ∷ pos z.m ∷ [] = ap (λ (k : Keyed). k.numbers) (line_is ls b 1 lt) ∙ says.sizes lt in
+    same_sizes c z (version_is ls b z (omega (arith, lt)) says) four
+
+pub places_are : (ls : List Keyed) (b : IsBeginning ls) (z : Sizes) → 1 < length ls → Says ls z → map place_of (ls ++ b.more) ≡ places z
+places_are ls b z lt says = ap (map place_of) (sym b.lines) ∙ lines_placed b.numbers b.form ∙ ap places (sizes_are ls b z lt says)
+
 -- ---- one line more
-
-tail_is : (ls : List Keyed) (b : IsBeginning ls) → 8 ≤ length ls → tail_lines b.numbers ≡ drop 8 ls ++ b.more
-tail_is ls b le = ap (drop 8) b.lines ∙ drop-append-le 8 ls b.more le
-
-places_are : (ls : List Keyed) (b : IsBeginning ls) (sizes : Sizes) → 8 ≤ length ls → Says (second_of ls) sizes → map place_of (drop 8 ls ++ b.more) ≡ places_after sizes
-places_are ls b sizes le says =
-    let e = sizes_are ls b sizes (omega (arith, le)) says in
-    sym (ap (map place_of) (tail_is ls b le)) ∙ tail_places b.numbers b.form.sized.shaped ∙ (λ i. list_places (e.0 i) (e.1 i * e.2 i) (e.3 i))
 
 -- the numbers of lines of which one is another one
 fits_swapped : (ls : List Keyed) (a l : Keyed) (more : List Keyed) (c : Numbers) → IsInForm c → FitsWord c → keyed_lines c ≡ ls ++ (a ∷ more) → Fits l → AllByRecursion Fits (ls ++ (l ∷ more))
@@ -208,26 +175,24 @@ fits_swapped ls a l more c form word e fits =
     all_append Fits ls (l ∷ more) parts.0 (fits, parts.1.1)
 
 -- where another line stands in a text in form, one with the same word and count can stand
-swapped : (ls : List Keyed) (b : IsBeginning ls) (l a : Keyed) (others : List Keyed) → 8 ≤ length ls → Fits l → b.more ≡ a ∷ others → place_of a ≡ place_of l → IsBeginning (ls ++ l ∷ [])
+swapped : (ls : List Keyed) (b : IsBeginning ls) (l a : Keyed) (others : List Keyed) → 7 + b.numbers.version ≤ length ls → Fits l → b.more ≡ a ∷ others → place_of a ≡ place_of l → IsBeginning (ls ++ l ∷ [])
 swapped ls b l a others le fits split place =
     let c = b.numbers in
-    let front = drop 8 ls in
-    let tail : tail_lines c ≡ front ++ (a ∷ others) = tail_is ls b le ∙ ap (λ (ms : List Keyed). front ++ ms) split in
+    let k = 7 + c.version in
+    let front = drop k ls in
+    let begun_lines = b.lines ∙ ap (λ (ms : List Keyed). ms ++ b.more) (sym (take-append-drop k ls)) ∙ append_assoc (take k ls) front b.more in
+    let begun : IsBeginning (take k ls) = record { numbers = c; form = b.form; word = b.word; more = front ++ b.more; lines = begun_lines } in
+    let parts = parted (take k ls) begun (up_to 2 c) (tail_lines c) (split_at 2 c) (omega (arith, length-take-le k ls le, count_to 2 c b.form (omega arith))) in
+    let tail : tail_lines c ≡ front ++ (a ∷ others) = parts.1 ∙ ap (λ (ms : List Keyed). front ++ ms) split in
     let same : map place_of (front ++ (l ∷ others)) ≡ map place_of (front ++ (a ∷ others)) =
     map-append place_of front (l ∷ others) ∙ ap (λ (x : Place). map place_of front ++ (x ∷ map place_of others)) (sym place) ∙ sym (map-append place_of front (a ∷ others)) in
-    let d = remade c (front ++ (l ∷ others)) b.form (same ∙ sym (ap (map place_of) tail) ∙ tail_places c b.form.sized.shaped) in
-    let first : take 8 (keyed_lines c) ≡ take 8 ls = ap (take 8) b.lines ∙ take-append-le 8 ls b.more le in
+    let d = remade c (front ++ (l ∷ others)) b.form (same ∙ sym (ap (map place_of) tail) ∙ tail_placed c b.form) in
     let lines : keyed_lines d.numbers ≡ ls ++ (l ∷ others) =
-    d.lines ∙ ap (λ (ms : List Keyed). ms ++ (front ++ (l ∷ others))) first ∙ sym (append_assoc (take 8 ls) front (l ∷ others)) ∙ ap (λ (ms : List Keyed). ms ++ (l ∷ others)) (take-append-drop 8 ls) in
+    d.lines ∙ ap (λ (ms : List Keyed). ms ++ (front ++ (l ∷ others))) parts.0 ∙ sym (append_assoc (take k ls) front (l ∷ others)) ∙ ap (λ (ms : List Keyed). ms ++ (l ∷ others)) (take-append-drop k ls) in
     let all = All-from_recursion Fits (ls ++ (l ∷ others)) (fits_swapped ls a l others c b.form b.word (b.lines ∙ ap (λ (ms : List Keyed). ls ++ ms) split) fits) in
     grown ls l d.numbers others d.form (fits_word d.numbers (subst (λ (ms : List Keyed). All Fits ms) (sym lines) all)) lines
 
-pub list_follows : (ls : List Keyed) (l : Keyed) (sizes : Sizes) (i : ℕ) → IsBeginning ls → length ls ≡ 8 + i → Says (second_of ls) sizes → Fits l → (slice_get (places_after sizes) i ≡ Some (place_of l)) ↔ IsBeginning (ls ++ l ∷ [])
-list_follows ls l sizes i b len says fits =
-    let le : 8 ≤ length ls = omega (arith, len) in
-    let count : length (drop 8 ls) ≡ i = omega (arith, length-drop 8 ls, len) in (
-      λ h.
-          let at = line_at (drop 8 ls) b.more i (place_of l) count (ap (λ (ps : List Place). slice_get ps i) (places_are ls b sizes le says) ∙ h) in
-          swapped ls b l at.first at.others le fits at.split at.place,
-      λ more. ap (λ (ps : List Place). slice_get ps i) (sym (places_are ls (fewer ls (l ∷ []) more) sizes le says)) ∙ at_line (drop 8 ls) more.more l i count,
-    )
+pub list_follows : (ls : List Keyed) (l : Keyed) (z : Sizes) (b : IsBeginning ls) → 7 + b.numbers.version ≤ length ls → Says ls z → Fits l → slice_get (places z) (length ls) ≡ Some (place_of l) → IsBeginning (ls ++ l ∷ [])
+list_follows ls l z b le says fits h =
+    let at = line_at ls b.more (length ls) (place_of l) refl (ap (λ (ps : List Place). slice_get ps (length ls)) (places_are ls b z (omega (arith, le)) says) ∙ h) in
+    swapped ls b l at.first at.others le fits at.split at.place

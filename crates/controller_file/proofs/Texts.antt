@@ -1,76 +1,69 @@
 -- The lines of a controller are its text, and each of them can be read.
-use Rattle.std.proofs.Common.{◌≡◌, ℕ, ◌*◌, ◌^◌, ◌<◌, ◌≤◌, true, ltb, ℤ, pos, negsuc, List, [], ◌∷◌, ◌++◌, get_or, map, FitsSigned, refl, ap, ◌∙◌, append_assoc, arith}
-use Rattle.std.specs.Prelude.{All, codes, ◌≤ℤ◌}
+use Rattle.std.proofs.Common.{◌≡◌, ℕ, ◌^◌, ◌<◌, ◌≤◌, Bool, true, false, ltb, ℤ, pos, negsuc, List, [], ◌∷◌, get_or, map, FitsSigned, refl, ap, ◌∙◌, append_assoc, arith}
+use Rattle.std.specs.Prelude.{All, codes, ◌≤ℤ◌, ◌==◌, if◌then◌else◌}
 use Rattle.std.specs.Int.{w128}
-use Rattle.std.specs.List.{list_all, AllByRecursion, join_with_byte}
+use Rattle.std.specs.List.{list_all, AllByRecursion}
 use Rattle.std.proofs.Math.Nat.{mul-le-mul}
 use Rattle.std.proofs.lemmas.Bool.Decides.{nat_tests}
-use Rattle.std.proofs.lemmas.List.{map-append}
-use Rattle.std.proofs.lemmas.List.Elements.{All-from_recursion, recursion_from_All}
+use Rattle.std.proofs.lemmas.List.Sums.{AllPass-from_list_all}
+use Rattle.std.proofs.lemmas.List.Elements.{All-map, All-from_recursion, recursion_from_All}
 use Rattle.std.proofs.lemmas.Int.{ints}
-use Rattle.std.proofs.lemmas.Fmt.{decimal_digit}
 use Rattle.mat_int.specs.Matrix.{Matrix}
 use Rattle.qp_model.specs.Range.{IsNumerator}
 use Rattle.qp_model.specs.Lines.{line_of, text_of}
 use Rattle.qp_model.specs.Controller.{Numbers, IsInForm, FitsWord}
-use Rattle.qp_model.specs.ControllerText.{matrix_lines, controller_text}
-use Rattle.controller_file.specs.Lines.{Keyed, keyed_line, spelled, Fits, IsKeyedLine, row_lines, head_of, head_lines, list_lines, keyed_lines}
-use Rattle.controller_file.proofs.Whole.{IsSmall}
+use Rattle.qp_model.specs.ControllerText.{controller_lines, controller_text}
+use Rattle.controller_file.specs.Lines.{Keyed, keyed_line, spelled, Fits, IsKeyedLine, row_lines, line_blocks, keyed_lines}
+use Rattle.controller_file.specs.Table.{AreSmall}
+use Rattle.controller_file.proofs.Chained.{all_chained, all_blocks, map_chained}
+use Rattle.controller_file.proofs.Blocks.{sizes_small}
 
 -- ---- the text
 
-spelled_rows : (key : List ℕ) (rows : List (List ℤ)) → map spelled (row_lines key rows) ≡ map (line_of key) rows
+pub spelled_rows : (key : List ℕ) (rows : List (List ℤ)) → map spelled (row_lines key rows) ≡ map (line_of key) rows
 spelled_rows key [] = refl
 spelled_rows key (row ∷ rows) = ap (λ (ls : List (List ℕ)). line_of key row ∷ ls) (spelled_rows key rows)
 
-spelled_front : (key : List ℕ) (rows : List (List ℤ)) (rest : List Keyed) → map spelled (row_lines key rows ++ rest) ≡ map (line_of key) rows ++ map spelled rest
-spelled_front key rows rest = map-append spelled (row_lines key rows) rest ∙ ap (λ (ls : List (List ℕ)). ls ++ map spelled rest) (spelled_rows key rows)
+spelled_if : (first : Bool) (l : Keyed) → map spelled (if first then [] else l ∷ []) ≡ (if first then [] else spelled l ∷ [])
+spelled_if true l = refl
+spelled_if false l = refl
 
-five : (p w g e last : List (List ℕ)) (t : List ℕ) → p ++ (t ∷ (w ++ (g ++ (e ++ last)))) ≡ p ++ t ∷ [] ++ w ++ g ++ e ++ last
-five p w g e last t = simp append_assoc
-
-lists_spelled : (c : Numbers) → map spelled (list_lines c) ≡ line_of (codes "lo") c.low ∷ line_of (codes "hi") c.high ∷ (matrix_lines (codes "P") c.state_gains ++ line_of (codes "T") c.offsets ∷ [] ++ matrix_lines (codes "W") c.dual_gains ++ matrix_lines (codes "G") c.plan_rows ++ matrix_lines (codes "E") c.state_rows ++ line_of (codes "b") c.bounds ∷ codes "end" ∷ [])
-lists_spelled c =
-    let last = keyed_line (codes "b") c.bounds ∷ keyed_line (codes "end") [] ∷ [] in
-    let e6 = spelled_front (codes "E") c.state_rows.rows last in
-    let e5 = spelled_front (codes "G") c.plan_rows.rows (row_lines (codes "E") c.state_rows.rows ++ last) ∙ ap (λ (ls : List (List ℕ)). map (line_of (codes "G")) c.plan_rows.rows ++ ls) e6 in
-    let e4 = spelled_front (codes "W") c.dual_gains.rows (row_lines (codes "G") c.plan_rows.rows ++ (row_lines (codes "E") c.state_rows.rows ++ last)) ∙ ap (λ (ls : List (List ℕ)). map (line_of (codes "W")) c.dual_gains.rows ++ ls) e5 in
-    let e2 = spelled_front (codes "P") c.state_gains.rows (keyed_line (codes "T") c.offsets ∷ (row_lines (codes "W") c.dual_gains.rows ++ (row_lines (codes "G") c.plan_rows.rows ++ (row_lines (codes "E") c.state_rows.rows ++ last)))) ∙ ap (λ (ls : List (List ℕ)). map (line_of (codes "P")) c.state_gains.rows ++ (line_of (codes "T") c.offsets ∷ ls)) e4 in
-    let regrouped = five (matrix_lines (codes "P") c.state_gains) (matrix_lines (codes "W") c.dual_gains) (matrix_lines (codes "G") c.plan_rows) (matrix_lines (codes "E") c.state_rows) (line_of (codes "b") c.bounds ∷ codes "end" ∷ []) (line_of (codes "T") c.offsets) in
-    ap (λ (ls : List (List ℕ)). line_of (codes "lo") c.low ∷ line_of (codes "hi") c.high ∷ ls) (e2 ∙ regrouped)
-
-first_line : line_of (codes "mpc-controller") (pos 1 ∷ []) ≡ codes "mpc-controller 1"
-first_line = ap (λ (digits : List ℕ). join_with_byte 32 (codes "mpc-controller" ∷ digits ∷ [])) (decimal_digit 1 (omega arith))
+pub lines_spelled : (c : Numbers) → map spelled (keyed_lines c) ≡ controller_lines c
+lines_spelled c =
+    let exps = spelled_if (c.version == 1) (keyed_line (codes "exps") (map pos c.exponents)) in
+    let p = spelled_rows (codes "P") c.state_gains.rows in
+    let w = spelled_rows (codes "W") c.dual_gains.rows in
+    let g = spelled_rows (codes "G") c.plan_rows.rows in
+    let e = spelled_rows (codes "E") c.state_rows.rows in
+    map_chained spelled (line_blocks c) ∙ rw (exps, p, w, g, e) (simp append_assoc)
 
 pub keyed_text : (c : Numbers) → text_of (map spelled (keyed_lines c)) ≡ controller_text c
-keyed_text c =
-    let first = first_line in
-    let lists = lists_spelled c in
-    ap text_of (λ i.
-    first i
-    ∷ line_of (codes "size") (pos c.states ∷ pos c.inputs ∷ pos c.stages ∷ pos c.rows ∷ [])
-    ∷ line_of (codes "bits") (pos c.fraction_bits ∷ pos c.grid_bits ∷ pos c.step_exponent ∷ pos c.width ∷ [])
-    ∷ line_of (codes "steps") (pos c.steps ∷ [])
-    ∷ line_of (codes "clamp") (c.clamp ∷ [])
-    ∷ line_of (codes "words") (pos c.words ∷ []) ∷ lists i)
+keyed_text c = ap text_of (lines_spelled c)
 
--- ---- the sizes
+-- ---- the natural numbers
 
-pub small_form : (c : Numbers) → IsInForm c → IsSmall (head_of c)
+-- each is one of 32 bits
+pub record IsSmall (c : Numbers) : Type 0 where
+  pub sizes : AreSmall (record { version = c.version; n = c.states; p = c.inputs; stages = c.stages; m = c.rows })
+  pub fraction_bits : c.fraction_bits ≤ 48
+  pub grid_bits : c.grid_bits ≤ 24
+  pub step_exponent : c.step_exponent ≤ 40
+  pub width : c.width ≤ 128
+  pub steps : c.steps ≤ 4194304
+  pub words : c.words < 2 ^ 32
+
+pub small_form : (c : Numbers) → IsInForm c → IsSmall c
 small_form c form =
     let sized = form.sized in
-    let entries : c.inputs * c.stages ≤ 3 * 20 = mul-le-mul sized.inputs.1 sized.stages.1 in
+    let sizes = sizes_small c form in
     record {
-      n = omega (arith, sized.states.1);
-      p = omega (arith, sized.inputs.1);
-      stages = omega (arith, sized.stages.1);
-      m = omega (arith, sized.rows.1);
-      f = omega (arith, sized.fraction_bits.1);
-      g = omega (arith, sized.grid_bits);
-      s = omega (arith, sized.step_exponent);
-      w = omega (arith, form.width.1);
-      steps = omega (arith, sized.steps.1);
-      words = omega (arith, sized.words, sized.states.1, sized.rows.1, entries);
+      sizes = sizes;
+      fraction_bits = sized.fraction_bits.1;
+      grid_bits = sized.grid_bits;
+      step_exponent = sized.step_exponent;
+      width = form.width.1;
+      steps = sized.steps.1;
+      words = omega (arith, sized.words, sizes.n, sizes.m, mul-le-mul sizes.p sizes.stages);
     }
 
 -- ---- the lines
@@ -86,31 +79,14 @@ clamp_fits : (z : ℤ) → pos 0 ≤ℤ z → z ≤ℤ pos (2 ^ 126) → FitsSig
 clamp_fits (pos n) low high = record { sfits = omega (arith, ints) }
 clamp_fits (negsuc n) low high = absurd (omega (arith, ints))
 
-first : (b : ℕ) (key : List ℕ) → list_all (λ b. ltb 32 b) (b ∷ key) ≡ true → 32 < b
-first b key h = grind (arith, nat_tests)
-
-others : (b : ℕ) (key : List ℕ) → list_all (λ b. ltb 32 b) (b ∷ key) ≡ true → list_all (λ b. ltb 32 b) key ≡ true
-others b key h = grind (arith, nat_tests)
-
-above : (key : List ℕ) → list_all (λ b. ltb 32 b) key ≡ true → AllByRecursion (λ b. 32 < b) key
-above [] h = tt
-above (b ∷ key) h = (first b key h, above key (others b key h))
-
 -- a word of bytes above the space
 word : (key : List ℕ) → list_all (λ b. ltb 32 b) key ≡ true → All (λ b. 32 < b) key
-word key h = All-from_recursion (λ b. 32 < b) key (above key h)
+word key h k d lt =
+    let test : ltb 32 (get_or key k d) ≡ true = AllPass-from_list_all (λ b. ltb 32 b) key h k d lt in
+    grind (arith, nat_tests)
 
-pub all_append : {X : Type 0} (P : X → Type 0) (xs ys : List X) → AllByRecursion P xs → AllByRecursion P ys → AllByRecursion P (xs ++ ys)
-all_append P [] ys h k = k
-all_append P (x ∷ xs) ys h k = (h.0, all_append P xs ys h.1 k)
-
-pub all_parts : {X : Type 0} (P : X → Type 0) (xs ys : List X) → AllByRecursion P (xs ++ ys) → AllByRecursion P xs × AllByRecursion P ys
-all_parts P [] ys h = (tt, h)
-all_parts P (x ∷ xs) ys h = let rest = all_parts P xs ys h.1 in ((h.0, rest.0), rest.1)
-
-rows_good : (key : List ℕ) (rows : List (List ℤ)) → list_all (λ b. ltb 32 b) key ≡ true → AllByRecursion (All (FitsSigned w128)) rows → AllByRecursion IsKeyedLine (row_lines key rows)
-rows_good key [] h fits = tt
-rows_good key (row ∷ rows) h fits = (record { key = word key h; fits = fits.0 }, rows_good key rows h fits.1)
+rows_good : (key : List ℕ) (a : Matrix) → list_all (λ b. ltb 32 b) key ≡ true → All (All (FitsSigned w128)) a.rows → AllByRecursion IsKeyedLine (row_lines key a.rows)
+rows_good key a h fits = recursion_from_All IsKeyedLine (row_lines key a.rows) (All-map IsKeyedLine (keyed_line key) a.rows (λ k d lt. record { key = word key h; fits = fits k d lt }))
 
 rows_fit : (key : List ℕ) (rows : List (List ℤ)) → AllByRecursion Fits (row_lines key rows) → AllByRecursion (All (FitsSigned w128)) rows
 rows_fit key [] h = tt
@@ -125,67 +101,49 @@ good key zs h fits = record { key = word key h; fits = All-from_recursion (FitsS
 numerators_fit : (zs : List ℤ) → All IsNumerator zs → All (FitsSigned w128) zs
 numerators_fit zs h k d lt = numerator_fits (get_or zs k d) (h k d lt)
 
-head_good : (c : Numbers) → IsInForm c → AllByRecursion IsKeyedLine (head_lines (head_of c))
-head_good c form =
-    let small = small_form c form in (
-      good (codes "mpc-controller") (pos 1 ∷ []) refl (natural_fits 1 (omega arith), tt),
-      (
-        good (codes "size") (pos c.states ∷ pos c.inputs ∷ pos c.stages ∷ pos c.rows ∷ []) refl (natural_fits c.states small.n, (natural_fits c.inputs small.p, (natural_fits c.stages small.stages, (natural_fits c.rows small.m, tt)))),
-        (
-          good (codes "bits") (pos c.fraction_bits ∷ pos c.grid_bits ∷ pos c.step_exponent ∷ pos c.width ∷ []) refl (natural_fits c.fraction_bits small.f, (natural_fits c.grid_bits small.g, (natural_fits c.step_exponent small.s, (natural_fits c.width small.w, tt)))),
-          (
-            good (codes "steps") (pos c.steps ∷ []) refl (natural_fits c.steps small.steps, tt),
-            (
-              good (codes "clamp") (c.clamp ∷ []) refl (clamp_fits c.clamp form.sized.clamp_low form.sized.clamp_high, tt),
-              (good (codes "words") (pos c.words ∷ []) refl (natural_fits c.words small.words, tt), tt),
-            ),
-          ),
-        ),
-      ),
-    )
-
-lists_good : (c : Numbers) → IsInForm c → FitsWord c → AllByRecursion IsKeyedLine (list_lines c)
-lists_good c form fits =
-    let rows : (key : List ℕ) (a : Matrix) → list_all (λ b. ltb 32 b) key ≡ true → All (All (FitsSigned w128)) a.rows → AllByRecursion IsKeyedLine (row_lines key a.rows) = λ key a h all. rows_good key a.rows h (recursion_from_All (All (FitsSigned w128)) a.rows all) in
-    let end : Keyed = keyed_line (codes "end") [] in
-    let last = keyed_line (codes "b") c.bounds ∷ end ∷ [] in
-    let r6 = row_lines (codes "E") c.state_rows.rows ++ last in
-    let r5 = row_lines (codes "G") c.plan_rows.rows ++ r6 in
-    let r4 = row_lines (codes "W") c.dual_gains.rows ++ r5 in
-    let g7 : AllByRecursion IsKeyedLine last = (record { key = word (codes "b") refl; fits = fits.bounds }, (good (codes "end") [] refl tt, tt)) in
-    let g6 : AllByRecursion IsKeyedLine r6 = all_append IsKeyedLine (row_lines (codes "E") c.state_rows.rows) last (rows (codes "E") c.state_rows refl fits.state_rows) g7 in
-    let g5 : AllByRecursion IsKeyedLine r5 = all_append IsKeyedLine (row_lines (codes "G") c.plan_rows.rows) r6 (rows (codes "G") c.plan_rows refl fits.plan_rows) g6 in
-    let g4 : AllByRecursion IsKeyedLine r4 = all_append IsKeyedLine (row_lines (codes "W") c.dual_gains.rows) r5 (rows (codes "W") c.dual_gains refl fits.dual_gains) g5 in
-    let g3 : AllByRecursion IsKeyedLine (keyed_line (codes "T") c.offsets ∷ r4) = (record { key = word (codes "T") refl; fits = fits.offsets }, g4) in (
-      record { key = word (codes "lo") refl; fits = numerators_fit c.low form.sized.low },
-      (
-        record { key = word (codes "hi") refl; fits = numerators_fit c.high form.sized.high },
-        all_append IsKeyedLine (row_lines (codes "P") c.state_gains.rows) (keyed_line (codes "T") c.offsets ∷ r4) (rows (codes "P") c.state_gains refl fits.state_gains) g3,
-      ),
-    )
+exponents_good : (first : Bool) (exps : List ℕ) → All (λ e. e < 2 ^ 32) exps → AllByRecursion IsKeyedLine (if first then [] else keyed_line (codes "exps") (map pos exps) ∷ [])
+exponents_good true exps h = tt
+exponents_good false exps h = (record { key = word (codes "exps") refl; fits = All-map (FitsSigned w128) pos exps (λ i d lt. natural_fits (get_or exps i d) (h i d lt)) }, tt)
 
 -- each line of a controller can be read
+pub blocks_good : (c : Numbers) → IsInForm c → FitsWord c → AllByRecursion (AllByRecursion IsKeyedLine) (line_blocks c)
+blocks_good c form fits =
+    let small = small_form c form in
+    let z = small.sizes in
+    let small_exps : All (λ e. e < 2 ^ 32) c.exponents = λ k d lt. omega (arith, form.sized.exponents k d lt, small.step_exponent) in
+    let one : (n : ℕ) → n < 2 ^ 32 → FitAll (pos n ∷ []) = λ n lt. (natural_fits n lt, tt) in
+    let g0 = good (codes "mpc-controller") (pos c.version ∷ []) refl (one c.version (omega (arith, z.version))) in
+    let g1 = good (codes "size") (pos c.states ∷ pos c.inputs ∷ pos c.stages ∷ pos c.rows ∷ []) refl (natural_fits c.states (omega (arith, z.n)), (natural_fits c.inputs (omega (arith, z.p)), (natural_fits c.stages (omega (arith, z.stages)), one c.rows (omega (arith, z.m))))) in
+    let g2 = good (codes "bits") (pos c.fraction_bits ∷ pos c.grid_bits ∷ pos c.step_exponent ∷ pos c.width ∷ []) refl (natural_fits c.fraction_bits (omega (arith, small.fraction_bits)), (natural_fits c.grid_bits (omega (arith, small.grid_bits)), (natural_fits c.step_exponent (omega (arith, small.step_exponent)), one c.width (omega (arith, small.width))))) in
+    let g3 = good (codes "steps") (pos c.steps ∷ []) refl (one c.steps (omega (arith, small.steps))) in
+    let g4 = good (codes "clamp") (c.clamp ∷ []) refl (clamp_fits c.clamp form.sized.clamp_low form.sized.clamp_high, tt) in
+    let g5 = good (codes "words") (pos c.words ∷ []) refl (one c.words small.words) in
+    let g6 = exponents_good (c.version == 1) c.exponents small_exps in
+    let g7 : IsKeyedLine (keyed_line (codes "lo") c.low) = record { key = word (codes "lo") refl; fits = numerators_fit c.low form.sized.low } in
+    let g8 : IsKeyedLine (keyed_line (codes "hi") c.high) = record { key = word (codes "hi") refl; fits = numerators_fit c.high form.sized.high } in
+    let g9 = rows_good (codes "P") c.state_gains refl fits.state_gains in
+    let g10 : IsKeyedLine (keyed_line (codes "T") c.offsets) = record { key = word (codes "T") refl; fits = fits.offsets } in
+    let g11 = rows_good (codes "W") c.dual_gains refl fits.dual_gains in
+    let g12 = rows_good (codes "G") c.plan_rows refl fits.plan_rows in
+    let g13 = rows_good (codes "E") c.state_rows refl fits.state_rows in
+    let g14 : IsKeyedLine (keyed_line (codes "b") c.bounds) = record { key = word (codes "b") refl; fits = fits.bounds } in
+    let g15 = good (codes "end") [] refl tt in
+    ((g0, tt), ((g1, tt), ((g2, tt), ((g3, tt), ((g4, tt), ((g5, tt), (g6, ((g7, tt), ((g8, tt), (g9, ((g10, tt), (g11, (g12, (g13, ((g14, tt), ((g15, tt), tt))))))))))))))))
+
 pub good_lines : (c : Numbers) → IsInForm c → FitsWord c → All IsKeyedLine (keyed_lines c)
-good_lines c form fits = All-from_recursion IsKeyedLine (keyed_lines c) (all_append IsKeyedLine (head_lines (head_of c)) (list_lines c) (head_good c form) (lists_good c form fits))
+good_lines c form fits = All-from_recursion IsKeyedLine (keyed_lines c) (all_chained IsKeyedLine (line_blocks c) (blocks_good c form fits))
 
 -- the numbers of lines that were read fit
 pub fits_word : (c : Numbers) → All Fits (keyed_lines c) → FitsWord c
 fits_word c all =
-    let lists = (all_parts Fits (head_lines (head_of c)) (list_lines c) (recursion_from_All Fits (keyed_lines c) all)).1 in
-    let last = keyed_line (codes "b") c.bounds ∷ keyed_line (codes "end") [] ∷ [] in
-    let r6 = row_lines (codes "E") c.state_rows.rows ++ last in
-    let r5 = row_lines (codes "G") c.plan_rows.rows ++ r6 in
-    let r4 = row_lines (codes "W") c.dual_gains.rows ++ r5 in
-    let p = all_parts Fits (row_lines (codes "P") c.state_gains.rows) (keyed_line (codes "T") c.offsets ∷ r4) lists.1.1 in
-    let w = all_parts Fits (row_lines (codes "W") c.dual_gains.rows) r5 p.1.1 in
-    let g = all_parts Fits (row_lines (codes "G") c.plan_rows.rows) r6 w.1 in
-    let e = all_parts Fits (row_lines (codes "E") c.state_rows.rows) last g.1 in
+    let blocks = all_blocks Fits (line_blocks c) (recursion_from_All Fits (keyed_lines c) all) in
+    let lists = blocks.1.1.1.1.1.1.1.1.1 in
     let rows : (key : List ℕ) (a : Matrix) → AllByRecursion Fits (row_lines key a.rows) → All (All (FitsSigned w128)) a.rows = λ key a h. All-from_recursion (All (FitsSigned w128)) a.rows (rows_fit key a.rows h) in
     record {
-      state_gains = rows (codes "P") c.state_gains p.0;
-      offsets = p.1.0;
-      dual_gains = rows (codes "W") c.dual_gains w.0;
-      plan_rows = rows (codes "G") c.plan_rows g.0;
-      state_rows = rows (codes "E") c.state_rows e.0;
-      bounds = e.1.0;
+      state_gains = rows (codes "P") c.state_gains lists.0;
+      offsets = lists.1.0.0;
+      dual_gains = rows (codes "W") c.dual_gains lists.1.1.0;
+      plan_rows = rows (codes "G") c.plan_rows lists.1.1.1.0;
+      state_rows = rows (codes "E") c.state_rows lists.1.1.1.1.0;
+      bounds = lists.1.1.1.1.1.0.0;
     }

@@ -1,5 +1,5 @@
 -- A text has one controller, and no text goes on where another ends.
-use Rattle.std.proofs.Common.{◌≡◌, ℕ, suc, ◌+◌, ◌*◌, ◌^◌, ◌<◌, ℤ, pos, negsuc, List, [], ◌∷◌, ◌++◌, length, get_or, drop, map, eqb, FitsSigned, refl, sym, ap, ◌∙◌, append_assoc, arith}
+use Rattle.std.proofs.Common.{◌≡◌, ℕ, suc, ◌^◌, ◌<◌, ℤ, pos, negsuc, List, [], ◌∷◌, ◌++◌, length, get_or, drop, map, eqb, FitsSigned, refl, sym, ap, ◌∙◌, append_assoc, arith}
 use Rattle.std.specs.Prelude.{All, codes}
 use Rattle.std.specs.Int.{w128}
 use Rattle.std.specs.List.{slice_split, join_with_byte}
@@ -7,20 +7,23 @@ use Rattle.std.specs.Fmt.{decimal, signed_decimal}
 use Rattle.std.specs.Str.Parse.{digits_value}
 use Rattle.std.proofs.lemmas.Fmt.{decimal_is_IsNumeral_wide}
 use Rattle.std.proofs.lemmas.Str.Parse.{digit_at}
-use Rattle.std.proofs.lemmas.List.{drop_at, length-append, length-map, same_from_push}
+use Rattle.std.proofs.lemmas.List.{drop_at, length-map, same_from_push}
 use Rattle.std.proofs.lemmas.List.Splits.{slice_split_at, join_with_byte-slice_split}
 use Rattle.qp_model.specs.Lines.{text_of}
-use Rattle.qp_model.specs.Controller.{Numbers, IsShaped, IsInForm, FitsWord}
+use Rattle.qp_model.specs.Controller.{Numbers, IsInForm, FitsWord}
 use Rattle.qp_model.specs.ControllerText.{IsControllerText}
 use Rattle.qp_model.proofs.Pieces.{ArePieces, split_text}
 use Rattle.controller_file.specs.FirstLine.{IsTextInForm}
 use Rattle.controller_file.specs.Laws.{HasOneController, HasNoPrefix}
-use Rattle.controller_file.specs.Lines.{Keyed, keyed_line, IsKeyedLine, spelled, row_lines, keyed_lines}
-use Rattle.controller_file.specs.Reading.{parts_at}
+use Rattle.controller_file.specs.declared.table.Sizes.{Sizes}
+use Rattle.controller_file.specs.Lines.{Keyed, keyed_line, none, IsKeyedLine, spelled, place_of, line_blocks, keyed_lines}
+use Rattle.controller_file.specs.Table.{table, places, sizes_of}
+use Rattle.controller_file.specs.Reading.{numbers_in}
 use Rattle.controller_file.proofs.Cuts.{line_cut, line_pieces}
-use Rattle.controller_file.proofs.Fields.{some_is}
-use Rattle.controller_file.proofs.Whole.{parts_again}
-use Rattle.controller_file.proofs.Texts.{keyed_text, small_form, good_lines}
+use Rattle.controller_file.proofs.Chained.{one_chain}
+use Rattle.controller_file.proofs.Blocks.{same_sizes, block_lengths, lines_placed}
+use Rattle.controller_file.proofs.Texts.{keyed_text, good_lines}
+use Rattle.controller_file.proofs.Again.{numbers_again}
 
 -- ---- numbers
 
@@ -81,16 +84,35 @@ split_more (l ∷ ls) more h =
 pub pieces_of : (c : Numbers) → IsInForm c → FitsWord c → ArePieces 10 (map spelled (keyed_lines c))
 pieces_of c form fits = line_pieces (keyed_lines c) (good_lines c form fits)
 
+-- ---- the sizes
+
+abbrev version_line : Numbers → Keyed
+version_line c = keyed_line (codes "mpc-controller") (pos c.version ∷ [])
+
+abbrev size_line : Numbers → Keyed
+size_line c = keyed_line (codes "size") (pos c.states ∷ pos c.inputs ∷ pos c.stages ∷ pos c.rows ∷ [])
+
+sizes_same : (c d : Numbers) → version_line c ≡ version_line d → size_line c ≡ size_line d → sizes_of c ≡ sizes_of d
+sizes_same c d first second =
+    let one : pos c.version ∷ [] ≡ pos d.version ∷ [] = ap (λ (k : Keyed). k.numbers) first in
+    same_sizes c (sizes_of d) (cc one) (ap (λ (k : Keyed). k.numbers) second)
+
 -- ---- one controller
 
--- a text in form is the text of one choice of numbers
+-- lines in form are those of one choice of numbers
+pub one_choice : (c d : Numbers) → IsInForm c → IsInForm d → keyed_lines c ≡ keyed_lines d → c ≡ d
+one_choice c d form other e =
+    let sizes = sizes_same c d (ap (λ (ls : List Keyed). get_or ls 0 none) e) (ap (λ (ls : List Keyed). get_or ls 1 none) e) in
+    let long : map length (line_blocks c) ≡ map length (line_blocks d) = block_lengths c form ∙ ap (λ (z : Sizes). map (λ t. t.1) (table z)) sizes ∙ sym (block_lengths d other) in
+    sym (numbers_again c form) ∙ ap numbers_in (one_chain (line_blocks c) (line_blocks d) long e) ∙ numbers_again d other
+
+-- a text in form is the text of one
 pub one_form : (bytes : List ℕ) (c d : Numbers) → IsTextInForm bytes c → IsTextInForm bytes d → c ≡ d
 one_form bytes c d p q =
     let texts : text_of (map spelled (keyed_lines c)) ≡ text_of (map spelled (keyed_lines d)) = keyed_text c ∙ sym p.text ∙ q.text ∙ sym (keyed_text d) in
     let cut = sym (split_text (map spelled (keyed_lines c)) (pieces_of c p.form p.word)) ∙ ap (slice_split (λ b. eqb b 10)) texts ∙ split_text (map spelled (keyed_lines d)) (pieces_of d q.form q.word) in
     let spellings = (same_from_push (map spelled (keyed_lines c)) (map spelled (keyed_lines d)) [] [] cut).0 in
-    let lines = one_lines (keyed_lines c) (keyed_lines d) (good_lines c p.form p.word) (good_lines d q.form q.word) spellings in
-    some_is (sym (parts_again c p.form.sized.version (small_form c p.form) p.form.sized.shaped) ∙ ap parts_at lines ∙ parts_again d q.form.sized.version (small_form d q.form) q.form.sized.shaped)
+    one_choice c d p.form q.form (one_lines (keyed_lines c) (keyed_lines d) (good_lines c p.form p.word) (good_lines d q.form q.word) spellings)
 
 -- a controller's text is one in form
 pub in_form : (bytes : List ℕ) (c : Numbers) → IsControllerText bytes c → IsTextInForm bytes c
@@ -101,44 +123,6 @@ one_controller bytes c d p q = one_form bytes c d (in_form bytes c p) (in_form b
 
 -- ---- no prefix
 
--- how many lines a controller of these sizes has
-pub line_count : (c : Numbers) → IsShaped c → length (keyed_lines c) ≡ 11 + 2 * (c.inputs * c.stages) + 2 * c.rows
-line_count c shaped =
-    let last : List Keyed = keyed_line (codes "b") c.bounds ∷ keyed_line (codes "end") [] ∷ [] in
-    let r6 = row_lines (codes "E") c.state_rows.rows ++ last in
-    let r5 = row_lines (codes "G") c.plan_rows.rows ++ r6 in
-    let r4 = row_lines (codes "W") c.dual_gains.rows ++ r5 in
-    let e6 = length-append (row_lines (codes "E") c.state_rows.rows) last in
-    let e5 = length-append (row_lines (codes "G") c.plan_rows.rows) r6 in
-    let e4 = length-append (row_lines (codes "W") c.dual_gains.rows) r5 in
-    let e3 = length-append (row_lines (codes "P") c.state_gains.rows) (keyed_line (codes "T") c.offsets ∷ r4) in
-    omega (
-      arith,
-      e6,
-      e5,
-      e4,
-      e3,
-      length-map c.state_rows.rows (keyed_line (codes "E")),
-      length-map c.plan_rows.rows (keyed_line (codes "G")),
-      length-map c.dual_gains.rows (keyed_line (codes "W")),
-      length-map c.state_gains.rows (keyed_line (codes "P")),
-      shaped.state_rows.rows,
-      shaped.plan_rows.rows,
-      shaped.dual_gains.rows,
-      shaped.state_gains.rows,
-    )
-
--- the line of the sizes
-abbrev size_line : Numbers → Keyed
-size_line c = keyed_line (codes "size") (pos c.states ∷ pos c.inputs ∷ pos c.stages ∷ pos c.rows ∷ [])
-
-same_sizes : (c d : Numbers) → size_line c ≡ size_line d → (c.inputs * c.stages ≡ d.inputs * d.stages) × (c.rows ≡ d.rows)
-same_sizes c d e =
-    let numbers : pos c.states ∷ pos c.inputs ∷ pos c.stages ∷ pos c.rows ∷ [] ≡ pos d.states ∷ pos d.inputs ∷ pos d.stages ∷ pos d.rows ∷ [] = ap (λ (k : Keyed). k.numbers) e in
-    let inputs : c.inputs ≡ d.inputs = cc numbers in
-    let stages : c.stages ≡ d.stages = cc numbers in
-    ((λ i. inputs i * stages i), cc numbers)
-
 pub no_prefix : HasNoPrefix
 no_prefix bytes more c d p q =
     let form = p.controller.form in
@@ -147,8 +131,12 @@ no_prefix bytes more c d p q =
     let kd = keyed_lines d in
     let texts : text_of (map spelled kc) ++ more ≡ text_of (map spelled kd) = ap (λ (t : List ℕ). t ++ more) (keyed_text c ∙ sym p.text) ∙ q.text ∙ sym (keyed_text d) in
     let cut : map spelled kc ++ slice_split (λ b. eqb b 10) more ≡ map spelled kd ++ [] ∷ [] = sym (split_more (map spelled kc) more (pieces_of c form p.word)) ∙ ap (slice_split (λ b. eqb b 10)) texts ∙ split_text (map spelled kd) (pieces_of d other q.word) in
+    let first : spelled (version_line c) ≡ spelled (version_line d) = ap (λ (l : List (List ℕ)). get_or l 0 []) cut in
     let second : spelled (size_line c) ≡ spelled (size_line d) = ap (λ (l : List (List ℕ)). get_or l 1 []) cut in
-    let sizes = same_sizes c d (one_line (size_line c) (size_line d) (good_lines c form p.word 1 (size_line c) (omega arith)) (good_lines d other q.word 1 (size_line d) (omega arith)) second) in
-    let count : length (map spelled kc) ≡ length (map spelled kd) = omega (arith, length-map kc spelled, length-map kd spelled, line_count c form.sized.shaped, line_count d other.sized.shaped, sizes.0, sizes.1) in
+    let good = good_lines c form p.word in
+    let others = good_lines d other q.word in
+    let sizes = sizes_same c d (one_line (version_line c) (version_line d) (good 0 (version_line c) (omega arith)) (others 0 (version_line d) (omega arith)) first) (one_line (size_line c) (size_line d) (good 1 (size_line c) (omega arith)) (others 1 (size_line d) (omega arith)) second) in
+    let placed : length (map place_of kc) ≡ length (map place_of kd) = ap length (lines_placed c form ∙ ap places sizes ∙ sym (lines_placed d other)) in
+    let count : length (map spelled kc) ≡ length (map spelled kd) = omega (arith, length-map kc spelled, length-map kd spelled, length-map kc place_of, length-map kd place_of, placed) in
     let rest : slice_split (λ b. eqb b 10) more ≡ [] ∷ [] = sym (drop_at (map spelled kc) (slice_split (λ b. eqb b 10) more) (length (map spelled kd)) count) ∙ ap (drop (length (map spelled kd))) cut ∙ drop_at (map spelled kd) ([] ∷ []) (length (map spelled kd)) refl in
     sym (join_with_byte-slice_split 10 more) ∙ ap (join_with_byte 10) rest

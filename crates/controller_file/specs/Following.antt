@@ -1,12 +1,12 @@
--- Lines with which a text in form begins, and what each line must be.
-use Rattle.std.specs.Prelude.{◌≡◌, ℕ, suc, ◌+◌, ◌*◌, ◌^◌, ◌≤◌, ℤ, pos, ◌≤ℤ◌, List, [], ◌∷◌, ◌++◌, length, map, take, replicate, codes, All, slice_index_or}
+-- Lines with which a text in form begins, and what the numbers of each line must be.
+use Rattle.std.specs.Prelude.{◌≡◌, ℕ, zero, suc, ◌+◌, ◌-◌, ◌*◌, ◌^◌, ◌≤◌, ℤ, pos, ◌≤ℤ◌, List, ◌++◌, length, map, take, All, ◌==◌, ◌&&◌, nat_lt, if◌then◌else◌}
 use Rattle.integer_algebra.specs.Sums.{at}
-use Rattle.qp_model.specs.Limits.{text_version, most_states, most_inputs, most_stages, most_rows}
-use Rattle.qp_model.specs.Range.{LiesIn, IsNumerator}
+use Rattle.qp_model.specs.Limits.{text_version, last_version, most_states, most_inputs, most_stages, most_rows}
+use Rattle.qp_model.specs.Range.{IsNumerator}
 use Rattle.qp_model.specs.PartRules.{AreHighs}
 use Rattle.qp_model.specs.Controller.{Numbers, IsInForm, FitsWord}
-use Rattle.controller_file.specs.declared.following.Sizes.{Sizes}
-use Rattle.controller_file.specs.Lines.{Keyed, keyed_line, keyed_lines, spelled, Place, place, place_of}
+use Rattle.controller_file.specs.declared.table.Sizes.{Sizes}
+use Rattle.controller_file.specs.Lines.{Keyed, keyed_lines, spelled, line_in}
 
 -- some text in form begins with these lines
 pub record IsBeginning (ls : List Keyed) : Type 0 where
@@ -15,6 +15,13 @@ pub record IsBeginning (ls : List Keyed) : Type 0 where
   pub word : FitsWord numbers
   pub more : List Keyed
   pub lines : keyed_lines numbers ≡ ls ++ more
+
+-- they are all lines of one
+pub record IsWhole (ls : List Keyed) : Type 0 where
+  pub numbers : Numbers
+  pub form : IsInForm numbers
+  pub word : FitsWord numbers
+  pub lines : keyed_lines numbers ≡ ls
 
 -- so many pieces, from the first, are lines with which a text in form begins
 pub record BeginsWith (pieces : List (List ℕ)) (count : ℕ) : Type 0 where
@@ -28,70 +35,40 @@ pub record IsMost (pieces : List (List ℕ)) (count : ℕ) : Type 0 where
   pub these : BeginsWith pieces count
   pub no_more : ¬ BeginsWith pieces (suc count)
 
--- ---- lines alone
+-- ---- the numbers of a line
 
 -- from low to high
 pub record IsFrom (low high z : ℤ) : Type 0 where
   pub least : low ≤ℤ z
   pub greatest : z ≤ℤ high
 
-abbrev pub IsVersionLine : Keyed → Type 0
-IsVersionLine l = (place_of l ≡ place (codes "mpc-controller") 1) × (at l.numbers 0 ≡ pos text_version)
+abbrev pub AreSizes : (version : ℕ) (n p stages m : ℤ) → Type 0
+AreSizes version n p stages m =
+    IsFrom (pos 1) (pos (most_states version)) n × IsFrom (pos 1) (pos (most_inputs version)) p × IsFrom (pos 1) (pos (most_stages version)) stages × IsFrom (pos 1) (pos (most_rows version)) m
 
--- n, p, stages and m
-abbrev pub AreHeadSizes : List ℤ → Type 0
-AreHeadSizes zs =
-    IsFrom (pos 1) (pos (most_states text_version)) (at zs 0) × IsFrom (pos 1) (pos (most_inputs text_version)) (at zs 1)
-    × IsFrom (pos 1) (pos (most_stages text_version)) (at zs 2) × IsFrom (pos 1) (pos (most_rows text_version)) (at zs 3)
+abbrev pub AreBits : (f g s w : ℤ) → Type 0
+AreBits f g s w = IsFrom (pos 0) (pos 24) g × IsFrom g (pos 48) f × IsFrom (pos 0) (pos 40) s × IsFrom (pos 2) (pos 128) w
 
-abbrev pub IsSizeLine : Keyed → Type 0
-IsSizeLine l = (place_of l ≡ place (codes "size") 4) × AreHeadSizes l.numbers
+abbrev pub words_of : Sizes → ℕ
+words_of z = z.n + z.m + 2 * (z.p * z.stages)
 
--- f, g, s and w
-abbrev pub AreBits : List ℤ → Type 0
-AreBits zs = IsFrom (pos 0) (pos 24) (at zs 1) × IsFrom (at zs 1) (pos 48) (at zs 0) × IsFrom (pos 0) (pos 40) (at zs 2) × IsFrom (pos 2) (pos 128) (at zs 3)
+-- as many, each at least its lower one
+abbrev pub AreUpper : List ℤ → List ℤ → Type 0
+AreUpper high low = (length high ≡ length low) × AreHighs high low (length low)
 
-abbrev pub IsBitsLine : Keyed → Type 0
-IsBitsLine l = (place_of l ≡ place (codes "bits") 4) × AreBits l.numbers
+-- in which block of the table a line is by its index, as far as these have one line; from 9 on in one after them
+abbrev pub block_of : Sizes → ℕ → ℕ
+block_of z i = if nat_lt 5 i && (z.version == text_version) then i + 1 else i
 
-abbrev pub IsStepsLine : Keyed → Type 0
-IsStepsLine l = (place_of l ≡ place (codes "steps") 1) × IsFrom (pos 1) (pos 4194304) (at l.numbers 0)
-
-abbrev pub IsClampLine : Keyed → Type 0
-IsClampLine l = (place_of l ≡ place (codes "clamp") 1) × IsFrom (pos 0) (pos (2 ^ 126)) (at l.numbers 0)
-
--- ---- lines after the sizes
-
--- the line of the sizes
-abbrev pub second_of : List Keyed → Keyed
-second_of ls = slice_index_or ls 1 (keyed_line [] [])
-
--- each size lies in its range
-pub record AreInRange (sizes : Sizes) : Type 0 where
-  pub n : LiesIn 1 (most_states text_version) sizes.n
-  pub p : LiesIn 1 (most_inputs text_version) sizes.p
-  pub stages : LiesIn 1 (most_stages text_version) sizes.stages
-  pub m : LiesIn 1 (most_rows text_version) sizes.m
-
--- a line says these sizes
-pub record Says (l : Keyed) (sizes : Sizes) : Type 0 where
-  pub line : l ≡ keyed_line (codes "size") (pos sizes.n ∷ pos sizes.p ∷ pos sizes.stages ∷ pos sizes.m ∷ [])
-  pub range : AreInRange sizes
-
-abbrev pub IsWordsLine : Sizes → Keyed → Type 0
-IsWordsLine sizes l = (place_of l ≡ place (codes "words") 1) × (at l.numbers 0 ≡ pos (sizes.n + sizes.m + 2 * (sizes.p * sizes.stages)))
-
-abbrev pub IsLowLine : Sizes → Keyed → Type 0
-IsLowLine sizes l = (place_of l ≡ place (codes "lo") sizes.n) × All IsNumerator l.numbers
-
-abbrev pub IsHighLine : List ℤ → Keyed → Type 0
-IsHighLine low l = (place_of l ≡ place (codes "hi") (length low)) × AreHighs l.numbers low (length low)
-
--- the lines after `hi`
-abbrev pub list_places : ℕ → ℕ → ℕ → List Place
-list_places n nu m =
-    replicate nu (place (codes "P") n) ++ (place (codes "T") nu ∷ (replicate nu (place (codes "W") m)
-    ++ (replicate m (place (codes "G") nu) ++ (replicate m (place (codes "E") n) ++ (place (codes "b") m ∷ place (codes "end") 0 ∷ [])))))
-
-abbrev pub places_after : Sizes → List Place
-places_after sizes = list_places sizes.n (sizes.p * sizes.stages) sizes.m
+-- the numbers of a line of a block, after these lines
+abbrev pub InRange : ℕ → List Keyed → Sizes → List ℤ → Type 0
+InRange zero ls z zs = IsFrom (pos text_version) (pos last_version) (at zs 0)
+InRange (suc zero) ls z zs = AreSizes z.version (at zs 0) (at zs 1) (at zs 2) (at zs 3)
+InRange (suc (suc zero)) ls z zs = AreBits (at zs 0) (at zs 1) (at zs 2) (at zs 3)
+InRange (suc (suc (suc zero))) ls z zs = IsFrom (pos 1) (pos 4194304) (at zs 0)
+InRange (suc (suc (suc (suc zero)))) ls z zs = IsFrom (pos 0) (pos (2 ^ 126)) (at zs 0)
+InRange (suc (suc (suc (suc (suc zero))))) ls z zs = at zs 0 ≡ pos (words_of z)
+InRange (suc (suc (suc (suc (suc (suc zero)))))) ls z zs = All (IsFrom (pos 0) (at (line_in ls 2) 2)) zs
+InRange (suc (suc (suc (suc (suc (suc (suc zero))))))) ls z zs = All IsNumerator zs
+InRange (suc (suc (suc (suc (suc (suc (suc (suc zero)))))))) ls z zs = AreUpper zs (line_in ls (length ls - 1))
+InRange k ls z zs = Unit {0}

@@ -1,6 +1,6 @@
 pub mod Lines
-pub mod Reading
-pub mod Laws
-pub mod FirstLine
+pub mod Table
 pub mod Following
-pub mod Told
+pub mod Reading
+pub mod FirstLine
+pub mod Laws

@@ -1,10 +1,9 @@
 -- Lines as words and numbers, and those of a controller.
-use Rattle.std.specs.Prelude.{ℕ, ◌<◌, ℤ, pos, List, [], ◌∷◌, ◌++◌, length, map, codes, All, FitsSigned}
+use Rattle.std.specs.Prelude.{ℕ, ◌<◌, ◌^◌, ℤ, pos, negsuc, List, [], ◌∷◌, ◌++◌, length, map, codes, All, FitsSigned, ◌==◌, if◌then◌else◌, nat_lt, slice_index_or}
 use Rattle.std.specs.Int.{w128}
-use Rattle.qp_model.specs.Lines.{line_of, text_of}
+use Rattle.qp_model.specs.Lines.{line_of}
 use Rattle.qp_model.specs.Limits.{text_version}
 use Rattle.qp_model.specs.Controller.{Numbers}
-use Rattle.controller_file.specs.declared.parts.Head.{Head}
 use Rattle.controller_file.specs.declared.line.Line.{Line}
 
 -- a line's word and its numbers
@@ -50,39 +49,48 @@ place_of l = place l.key (length l.numbers)
 abbrev pub row_lines : List ℕ → List (List ℤ) → List Keyed
 row_lines key rows = map (keyed_line key) rows
 
--- the numbers of a controller that stand before its lists
-abbrev pub head_of : Numbers → Head
-head_of c = record { n = c.states; p = c.inputs; stages = c.stages; m = c.rows; f = c.fraction_bits; g = c.grid_bits; s = c.step_exponent; w = c.width; steps = c.steps; clamp = c.clamp; words = c.words }
+-- the exponents of the rows, which a text of the first version doesn't say
+abbrev pub exponent_lines : Numbers → List Keyed
+exponent_lines c = if c.version == text_version then [] else keyed_line (codes "exps") (map pos c.exponents) ∷ []
 
--- their lines
-abbrev pub head_lines : Head → List Keyed
-head_lines h =
-    keyed_line (codes "mpc-controller") (pos text_version ∷ [])
-    ∷ keyed_line (codes "size") (pos h.n ∷ pos h.p ∷ pos h.stages ∷ pos h.m ∷ [])
-    ∷ keyed_line (codes "bits") (pos h.f ∷ pos h.g ∷ pos h.s ∷ pos h.w ∷ [])
-    ∷ keyed_line (codes "steps") (pos h.steps ∷ [])
-    ∷ keyed_line (codes "clamp") (h.clamp ∷ [])
-    ∷ keyed_line (codes "words") (pos h.words ∷ []) ∷ []
+-- the lines of a controller in their order, those with one word together
+abbrev pub line_blocks : Numbers → List (List Keyed)
+line_blocks c =
+    (keyed_line (codes "mpc-controller") (pos c.version ∷ []) ∷ [])
+    ∷ (keyed_line (codes "size") (pos c.states ∷ pos c.inputs ∷ pos c.stages ∷ pos c.rows ∷ []) ∷ [])
+    ∷ (keyed_line (codes "bits") (pos c.fraction_bits ∷ pos c.grid_bits ∷ pos c.step_exponent ∷ pos c.width ∷ []) ∷ [])
+    ∷ (keyed_line (codes "steps") (pos c.steps ∷ []) ∷ [])
+    ∷ (keyed_line (codes "clamp") (c.clamp ∷ []) ∷ [])
+    ∷ (keyed_line (codes "words") (pos c.words ∷ []) ∷ [])
+    ∷ exponent_lines c
+    ∷ (keyed_line (codes "lo") c.low ∷ [])
+    ∷ (keyed_line (codes "hi") c.high ∷ [])
+    ∷ row_lines (codes "P") c.state_gains.rows
+    ∷ (keyed_line (codes "T") c.offsets ∷ [])
+    ∷ row_lines (codes "W") c.dual_gains.rows
+    ∷ row_lines (codes "G") c.plan_rows.rows
+    ∷ row_lines (codes "E") c.state_rows.rows
+    ∷ (keyed_line (codes "b") c.bounds ∷ [])
+    ∷ (keyed_line (codes "end") [] ∷ []) ∷ []
 
--- the lines of its lists
-abbrev pub list_lines : Numbers → List Keyed
-list_lines c =
-    keyed_line (codes "lo") c.low ∷ keyed_line (codes "hi") c.high
-    ∷ (row_lines (codes "P") c.state_gains.rows
-    ++ (keyed_line (codes "T") c.offsets ∷ (row_lines (codes "W") c.dual_gains.rows
-    ++ (row_lines (codes "G") c.plan_rows.rows
-    ++ (row_lines (codes "E") c.state_rows.rows
-    ++ (keyed_line (codes "b") c.bounds ∷ keyed_line (codes "end") [] ∷ []))))))
+-- lists one after the other
+abbrev pub chained : {X : Type 0} → List (List X) → List X
+chained [] = []
+chained (xs ∷ xss) = xs ++ chained xss
 
 abbrev pub keyed_lines : Numbers → List Keyed
-keyed_lines c = head_lines (head_of c) ++ list_lines c
+keyed_lines c = chained (line_blocks c)
 
--- the bytes of the first six lines of a controller's text
-abbrev pub head_text : Numbers → List ℕ
-head_text c = text_of (
-    codes "mpc-controller 1"
-    ∷ line_of (codes "size") (pos c.states ∷ pos c.inputs ∷ pos c.stages ∷ pos c.rows ∷ [])
-    ∷ line_of (codes "bits") (pos c.fraction_bits ∷ pos c.grid_bits ∷ pos c.step_exponent ∷ pos c.width ∷ [])
-    ∷ line_of (codes "steps") (pos c.steps ∷ [])
-    ∷ line_of (codes "clamp") (c.clamp ∷ [])
-    ∷ line_of (codes "words") (pos c.words ∷ []) ∷ [])
+-- ---- reading
+
+abbrev pub none : Keyed
+none = keyed_line [] []
+
+-- the numbers of a line, none where there is no such line
+abbrev pub line_in : List Keyed → ℕ → List ℤ
+line_in ls i = (slice_index_or ls i none).numbers
+
+-- as a number of 32 bits
+abbrev pub small : ℤ → ℕ
+small (pos n) = if nat_lt n (2 ^ 32) then n else 0
+small (negsuc n) = 0

@@ -2,13 +2,12 @@
 #![tactic(auto)]
 
 mod bad_controller;
-mod bad_line;
-mod fault;
 mod following;
 mod laws;
 mod line;
 mod parts;
 mod reader;
+mod table;
 mod writer;
 
 pub use bad_controller::BadController;

@@ -1,64 +1,31 @@
 // A controller's numbers from the lines of its text.
-ghost use Rattle.std.specs.Prelude.{◌≡◌, ℤ, List, length, IfOk, MatchResult};
-ghost use Rattle.mat_int.specs.Matrix.{Matrix};
-ghost use Rattle.qp_model.specs.Controller.{Numbers, numbers, IsShaped, IsInForm, FitsWord};
-ghost use Rattle.qp_model.specs.ControllerText.{controller_text};
-ghost use Rattle.controller_file.specs.declared.fault.LineFault.TheVariants.{Memory};
-ghost use Rattle.controller_file.specs.Lines.{view, views};
-ghost use Rattle.controller_file.specs.Reading.{Gives, natural, numbers_in, numbers_at, natural_at, four_at, all_rows_at, matrix_at, head_at, rest_at, whole_of, parts_at};
+ghost use Rattle.std.specs.Prelude.{◌≡◌, ◌<◌, [], IfOk, All, length, map, take, slice_index_or};
+ghost use Rattle.qp_model.specs.Controller.{Numbers, numbers, IsInForm};
+ghost use Rattle.controller_file.specs.Lines.{views, line_blocks, keyed_lines, small};
+ghost use Rattle.controller_file.specs.Table.{table, block_at, sizes_of, total_rows, AreSmall};
+ghost use Rattle.controller_file.specs.Following.{IsWhole};
+ghost use Rattle.controller_file.specs.Reading.{list_in, matrix_in, IsFront, IsBack};
 
-use crate::fault::LineFault;
-use crate::line::{Line, has_place, lines_of};
+use crate::line::{Line, number_in, numbers_in, small};
+use crate::table::{Sizes, sizes_in, table};
 use mat_int::Mat;
 use qp_model::{ControllerParts, VERSION};
-use std::alloc::Global;
+use std::alloc::{AllocError, Global};
 
-pub fn read_parts(alloc: Global, text: &[u8]) -> Result<ControllerParts, LineFault>
-    // What is read is spelled so.
-    ensures found { IfOk result (λ parts. text.now ≡ controller_text (numbers parts)) }
-    ensures shaped { IfOk result (λ parts. IsShaped (numbers parts)) }
-    ensures word { IfOk result (λ parts. FitsWord (numbers parts)) }
-    // What is spelled so is read.
-    ensures only { (c : Numbers) → IsInForm c → FitsWord c → text.now ≡ controller_text c → MatchResult result (λ parts. numbers parts ≡ c) (λ e. e ≡ Memory) }
+/// The numbers of the controller whose lines these are.
+pub fn parts_of(alloc: Global, lines: &[Line]) -> Result<ControllerParts, AllocError>
+    requires { IsWhole (views lines.now) }
+    ensures { IfOk result (λ parts. (c : Numbers) → IsInForm c → keyed_lines c ≡ views lines.now → numbers parts ≡ c) }
 {
-    let lines = lines_of(alloc, text)?;
-    parts_of(alloc, &lines)
+    let front = front_of(alloc, lines)?;
+    let back = back_of(alloc, lines)?;
+    Ok(joined(lines, front, back))
 }
 
-// What the lines before the lists say.
-#[derive(Clone, Copy)]
-struct Head {
-    n: u32,
-    p: u32,
-    stages: u32,
-    m: u32,
-    f: u32,
-    g: u32,
-    s: u32,
-    w: u32,
-    steps: u32,
-    clamp: i128,
-    words: u32,
-}
-
-// The controller that these lines are, line by line.
-#[tactic(auto, unfolding(crate::specs::Reading::parts_at, crate::specs::Reading::lists_at))]
-fn parts_of(alloc: Global, lines: &[Line]) -> Result<ControllerParts, LineFault>
-    ensures { Gives (λ x. numbers x) result (parts_at (views lines.now)) }
-{
-    let (head, lines) = read_head(lines)?;
-    let n = head.n as usize;
-    let nu = head.p as usize * head.stages as usize;
-    let (lo, lines) = read_list(alloc, "lo", n, lines)?;
-    let (hi, lines) = read_list(alloc, "hi", n, lines)?;
-    let (p_mat, lines) = read_matrix(alloc, "P", nu, n, lines)?;
-    let (t, lines) = read_list(alloc, "T", nu, lines)?;
-    rest_of(alloc, head, Front { lo, hi, p_mat, t }, lines)
-}
-
-// The first four lists.
+// The exponents, and the lists before those of the constraints.
 #[derive(Drop)]
 struct Front {
+    exps: Vec<u32>,
     lo: Vec<i128>,
     hi: Vec<i128>,
     p_mat: Mat,
@@ -74,59 +41,126 @@ struct Back {
     bound: Vec<i128>,
 }
 
-// The controller of this head and these lists whose other lists are these lines.
-fn rest_of(
-    alloc: Global,
-    head: Head,
-    front: Front,
-    lines: &[Line],
-) -> Result<ControllerParts, LineFault>
-    ensures { Gives (λ x. numbers x) result (rest_at head front.lo.items front.hi.items front.p_mat front.t.items (views lines.now)) }
+fn front_of(alloc: Global, lines: &[Line]) -> Result<Front, AllocError>
+    requires { IsWhole (views lines.now) }
+    ensures { IfOk result (λ front. (c : Numbers) → IsInForm c → keyed_lines c ≡ views lines.now → IsFront c front) }
 {
-    let back = read_back(alloc, head, lines)?;
-    Ok(joined(head, front, back))
-}
-
-// The lists after the offsets, to the last line, whatever stands before them.
-#[tactic(auto, unfolding(crate::specs::Reading::rest_at))]
-fn read_back(alloc: Global, head: Head, lines: &[Line]) -> Result<Back, LineFault>
-    ensures { (low high : List ℤ) (p : Matrix) (t : List ℤ) → Gives (whole_of head low high p t) result (rest_at head low high p t (views lines.now)) }
-{
-    let n = head.n as usize;
-    let m = head.m as usize;
-    let plan = head.p as usize * head.stages as usize;
-    let (w_mat, lines) = read_matrix(alloc, "W", plan, m, lines)?;
-    let (g_mat, lines) = read_matrix(alloc, "G", m, plan, lines)?;
-    let (e_mat, lines) = read_matrix(alloc, "E", m, n, lines)?;
-    let (bound, lines) = read_list(alloc, "b", m, lines)?;
-    let (_, lines) = read_numbers("end", 0, lines)?;
-    if !lines.is_empty() {
-        return Err(LineFault::Form);
-    }
-    Ok(Back {
-        w_mat,
-        g_mat,
-        e_mat,
-        bound,
+    Ok(Front {
+        exps: exponents_of(alloc, lines)?,
+        lo: list_of(alloc, lines, 7)?,
+        hi: list_of(alloc, lines, 8)?,
+        p_mat: matrix_of(alloc, lines, 9)?,
+        t: list_of(alloc, lines, 10)?,
     })
 }
 
-// The controller of a head and all lists.
-fn joined(head: Head, front: Front, back: Back) -> ControllerParts
-    ensures { numbers result ≡ whole_of head front.lo.items front.hi.items front.p_mat front.t.items back }
+fn back_of(alloc: Global, lines: &[Line]) -> Result<Back, AllocError>
+    requires { IsWhole (views lines.now) }
+    ensures { IfOk result (λ back. (c : Numbers) → IsInForm c → keyed_lines c ≡ views lines.now → IsBack c back) }
 {
+    Ok(Back {
+        w_mat: matrix_of(alloc, lines, 11)?,
+        g_mat: matrix_of(alloc, lines, 12)?,
+        e_mat: matrix_of(alloc, lines, 13)?,
+        bound: list_of(alloc, lines, 14)?,
+    })
+}
+
+// The exponents of the rows: the numbers of their line, or the greatest one for each row where the version has no such line.
+fn exponents_of(alloc: Global, lines: &[Line]) -> Result<Vec<u32>, AllocError>
+    requires { IsWhole (views lines.now) }
+    ensures { IfOk result (λ v. (c : Numbers) → IsInForm c → keyed_lines c ≡ views lines.now → v.items ≡ c.exponents) }
+{
+    let sizes = sizes_in(lines);
+    if sizes.version == VERSION {
+        vec![in alloc; small(number_in(lines, 2, 2)); sizes.m]
+    } else {
+        smalls(alloc, numbers_in(block_in(lines, 6), 0))
+    }
+}
+
+// Numbers as numbers of 32 bits.
+fn smalls(alloc: Global, numbers: &[i128]) -> Result<Vec<u32>, AllocError>
+    ensures { IfOk result (λ v. v.items ≡ map small numbers.now) }
+{
+    numbers.iter().map(|number| small(*number)).collect(alloc)
+}
+
+// The numbers of the one line of a block.
+fn list_of(alloc: Global, lines: &[Line], k: usize) -> Result<Vec<i128>, AllocError>
+    requires whole { IsWhole (views lines.now) }
+    requires inside { k < 16 }
+    ensures { IfOk result (λ v. (c : Numbers) → IsInForm c → keyed_lines c ≡ views lines.now → v.items ≡ list_in (line_blocks c) k) }
+{
+    numbers_in(block_in(lines, k), 0).to_vec(alloc)
+}
+
+// The numbers of the lines of a block as rows.
+fn matrix_of(alloc: Global, lines: &[Line], k: usize) -> Result<Mat, AllocError>
+    requires whole { IsWhole (views lines.now) }
+    requires inside { k < 16 }
+    ensures { IfOk result (λ m. (c : Numbers) → IsInForm c → keyed_lines c ≡ views lines.now → m ≡ matrix_in (line_blocks c) k (block_at (sizes_of c) k).2) }
+{
+    rows_of(alloc, table(sizes_in(lines))[k].2, block_in(lines, k))
+}
+
+// The numbers of these lines as rows.
+fn rows_of(alloc: Global, cols: usize, lines: &[Line]) -> Result<Mat, AllocError>
+    requires { All (λ l. length l.numbers ≡ cols) (views lines.now) }
+    ensures { IfOk result (λ m. m ≡ record { cols = cols; rows = map (λ l. l.numbers) (views lines.now) }) }
+{
+    let mut matrix = Mat::zero(alloc, 0, cols)?;
+    for line in lines {
+        matrix.push_row(alloc, &line.numbers)?;
+    }
+    Ok(matrix)
+}
+
+// The lines of a block of the table.
+fn block_in<'a, 't>(lines: &'a [Line<'t>], k: usize) -> &'a [Line<'t>]
+    requires whole { IsWhole (views lines.now) }
+    requires inside { k < 16 }
+    ensures { (c : Numbers) → IsInForm c → keyed_lines c ≡ views lines.now → views result.now ≡ slice_index_or (line_blocks c) k [] }
+{
+    let sizes = sizes_in(lines);
+    let start = rows_before(sizes, k);
+    &lines[start..start + table(sizes)[k].1]
+}
+
+// How many lines are before those of a block.
+fn rows_before(sizes: Sizes, k: usize) -> usize
+    requires small { AreSmall sizes }
+    requires inside { k < 16 }
+    ensures { result ≡ total_rows (take k (table sizes)) }
+{
+    let blocks = table(sizes);
+    let mut rows = 0;
+    for i in 0..k {
+        rows += blocks[i].1;
+    }
+    rows
+}
+
+// The controller of the first lines and all lists.
+fn joined(lines: &[Line], front: Front, back: Back) -> ControllerParts
+    requires { IsWhole (views lines.now) }
+    ensures { (c : Numbers) → IsInForm c → keyed_lines c ≡ views lines.now → IsFront c front → IsBack c back → numbers result ≡ c }
+{
+    let sizes = sizes_in(lines);
     ControllerParts {
-        n: head.n as usize,
-        p: head.p as usize,
-        stages: head.stages as usize,
-        m: head.m as usize,
-        f: head.f,
-        g: head.g,
-        s: head.s,
-        w: head.w,
-        steps: head.steps,
-        clamp: head.clamp,
-        words: head.words as usize,
+        version: sizes.version,
+        n: sizes.n,
+        p: sizes.p,
+        stages: sizes.stages,
+        m: sizes.m,
+        f: small(number_in(lines, 2, 0)),
+        g: small(number_in(lines, 2, 1)),
+        s: small(number_in(lines, 2, 2)),
+        w: small(number_in(lines, 2, 3)),
+        steps: small(number_in(lines, 3, 0)),
+        clamp: number_in(lines, 4, 0),
+        words: small(number_in(lines, 5, 0)) as usize,
+        exps: front.exps,
         lo: front.lo,
         hi: front.hi,
         p_mat: front.p_mat,
@@ -136,142 +170,4 @@ fn joined(head: Head, front: Front, back: Back) -> ControllerParts
         e_mat: back.e_mat,
         bound: back.bound,
     }
-}
-
-// The first six lines, and the others.
-#[tactic(auto, unfolding(crate::specs::Reading::head_at))]
-fn read_head<'a, 't>(lines: &'a [Line<'t>]) -> Result<(Head, &'a [Line<'t>]), LineFault>
-    ensures { Gives (λ x. (x.0, views x.1.now)) result (head_at (views lines.now)) }
-{
-    let (version, lines) = read_natural("mpc-controller", lines)?;
-    if version != VERSION as u32 {
-        return Err(LineFault::Form);
-    }
-    let ((n, p, stages, m), lines) = read_four("size", lines)?;
-    let ((f, g, s, w), lines) = read_four("bits", lines)?;
-    let (steps, lines) = read_natural("steps", lines)?;
-    let (clamp, lines) = read_numbers("clamp", 1, lines)?;
-    let (words, lines) = read_natural("words", lines)?;
-    Ok((
-        Head {
-            n,
-            p,
-            stages,
-            m,
-            f,
-            g,
-            s,
-            w,
-            steps,
-            clamp: clamp[0],
-            words,
-        },
-        lines,
-    ))
-}
-
-// The numbers of so many lines with this word, as rows, and the other lines.
-#[tactic(auto, unfolding(crate::specs::Reading::matrix_at))]
-fn read_matrix<'a, 't>(
-    alloc: Global,
-    key: &str,
-    rows: usize,
-    cols: usize,
-    lines: &'a [Line<'t>],
-) -> Result<(Mat, &'a [Line<'t>]), LineFault>
-    ensures { Gives (λ x. (x.0, views x.1.now)) result (matrix_at key.now rows cols (views lines.now)) }
-{
-    if lines.len() < rows {
-        return Err(LineFault::Form);
-    }
-    let (front, rest) = lines.split_at(rows);
-    Ok((read_rows(alloc, key, cols, front)?, rest))
-}
-
-// The numbers of these lines with this word, as rows.
-fn read_rows(alloc: Global, key: &str, cols: usize, lines: &[Line]) -> Result<Mat, LineFault>
-    ensures { Gives (λ m. m) result (all_rows_at key.now cols (views lines.now)) }
-{
-    let mut matrix = Mat::zero(alloc, 0, cols)?;
-    for line in lines {
-        matrix.push_row(alloc, list_in(key, cols, line)?)?;
-    }
-    Ok(matrix)
-}
-
-// The numbers of the first line as a list, and the other lines.
-fn read_list<'a, 't>(
-    alloc: Global,
-    key: &str,
-    count: usize,
-    lines: &'a [Line<'t>],
-) -> Result<(Vec<i128>, &'a [Line<'t>]), LineFault>
-    ensures { Gives (λ x. (x.0.items, views x.1.now)) result (numbers_at key.now count (views lines.now)) }
-{
-    let (numbers, lines) = read_numbers(key, count, lines)?;
-    Ok((numbers.to_vec(alloc)?, lines))
-}
-
-// The natural numbers of the first line, which has four, and the other lines.
-#[tactic(auto, unfolding(crate::specs::Reading::four_at))]
-fn read_four<'a, 't>(
-    key: &str,
-    lines: &'a [Line<'t>],
-) -> Result<((u32, u32, u32, u32), &'a [Line<'t>]), LineFault>
-    ensures { Gives (λ x. (x.0, views x.1.now)) result (four_at key.now (views lines.now)) }
-{
-    let (numbers, lines) = read_numbers(key, 4, lines)?;
-    let first = read_small(numbers[0])?;
-    let second = read_small(numbers[1])?;
-    let third = read_small(numbers[2])?;
-    let fourth = read_small(numbers[3])?;
-    Ok(((first, second, third, fourth), lines))
-}
-
-// The natural number of the first line, which has one, and the other lines.
-#[tactic(auto, unfolding(crate::specs::Reading::natural_at))]
-fn read_natural<'a, 't>(
-    key: &str,
-    lines: &'a [Line<'t>],
-) -> Result<(u32, &'a [Line<'t>]), LineFault>
-    ensures { Gives (λ x. (x.0, views x.1.now)) result (natural_at key.now (views lines.now)) }
-{
-    let (numbers, lines) = read_numbers(key, 1, lines)?;
-    Ok((read_small(numbers[0])?, lines))
-}
-
-// The numbers of the first line, and the other lines.
-#[tactic(auto, unfolding(crate::specs::Reading::numbers_at))]
-fn read_numbers<'a, 't>(
-    key: &str,
-    count: usize,
-    lines: &'a [Line<'t>],
-) -> Result<(&'a [i128], &'a [Line<'t>]), LineFault>
-    ensures value { Gives (λ x. (x.0.now, views x.1.now)) result (numbers_at key.now count (views lines.now)) }
-    ensures count { IfOk result (λ x. length x.0.now ≡ count) }
-{
-    let (line, rest) = lines.split_first().ok_or(LineFault::Form)?;
-    Ok((list_in(key, count, line)?, rest))
-}
-
-// The numbers of a line, which begins with this word and has so many.
-#[tactic(auto, unfolding(crate::specs::Reading::numbers_in))]
-fn list_in<'a, 't>(key: &str, count: usize, line: &'a Line<'t>) -> Result<&'a [i128], LineFault>
-    ensures value { Gives (λ x. x.now) result (numbers_in key.now count (view line.now)) }
-    ensures count { IfOk result (λ x. length x.now ≡ count) }
-{
-    if !has_place(line, key, count) {
-        return Err(LineFault::Form);
-    }
-    Ok(&line.numbers)
-}
-
-// A number of 32 bits that isn't negative.
-fn read_small(number: i128) -> Result<u32, LineFault>
-    ensures { Gives (λ x. x) result (natural number) }
-{
-    if number < 0 || number >= 1 << 32 {
-        return Err(LineFault::Form);
-    }
-    Ok(number as u32)
 }

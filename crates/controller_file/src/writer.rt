@@ -1,17 +1,19 @@
 // The text of a controller.
-ghost use Rattle.std.specs.Prelude.{◌≡◌, ◌++◌, IfOk, OnOk, All, FitsSigned, string_bytes};
+ghost use Rattle.std.specs.Prelude.{◌≡◌, ◌<◌, ◌++◌, IfOk, OnOk, All, FitsSigned, pos, string_bytes, codes, map, slice_index_or, []};
 ghost use Rattle.std.specs.Int.{w128};
-ghost use Rattle.qp_model.specs.Controller.{numbers, FitsWord};
+ghost use Rattle.qp_model.specs.Controller.{numbers, IsInForm, FitsWord};
 ghost use Rattle.qp_model.specs.Lines.{text_of};
 ghost use Rattle.qp_model.specs.ControllerText.{matrix_lines, controller_text, IsControllerText};
-ghost use Rattle.controller_file.specs.Lines.{head_text};
+ghost use Rattle.controller_file.specs.Lines.{Fits, spelled, line_blocks};
+ghost use Rattle.controller_file.specs.Table.{table, sizes_of};
 
+use crate::table::{Sizes, table};
 use mat_int::Mat;
 use overflow_check::Controller;
-use qp_model::{ControllerParts, push_line};
+use qp_model::{ControllerParts, VERSION, push_line};
 use std::alloc::{AllocError, Global};
 
-/// The one text of a controller: lines of a word and numbers, the header `mpc-controller 1` first and `end` last.
+/// The one text of a controller: lines of a word and numbers, `mpc-controller` and the version first and `end` last.
 pub fn write_controller(alloc: Global, controller: &Controller) -> Result<Vec<u8>, AllocError>
     ensures { IfOk result (λ v. IsControllerText v.items controller.now) }
 {
@@ -20,45 +22,105 @@ pub fn write_controller(alloc: Global, controller: &Controller) -> Result<Vec<u8
 
 // The text that these numbers make.
 fn parts_text(alloc: Global, parts: &ControllerParts) -> Result<String, AllocError>
+    requires { IsInForm (numbers parts.now) }
     ensures text { IfOk result (λ text. string_bytes text ≡ controller_text (numbers parts.now)) }
     ensures word { OnOk result (FitsWord (numbers parts.now)) }
 {
-    let mut text = head_text(alloc, parts)?;
-    push_line(alloc, &mut text, "lo", &parts.lo)?;
-    push_line(alloc, &mut text, "hi", &parts.hi)?;
-    push_rows(alloc, &mut text, "P", &parts.p_mat)?;
-    push_line(alloc, &mut text, "T", &parts.t)?;
-    push_rows(alloc, &mut text, "W", &parts.w_mat)?;
-    push_rows(alloc, &mut text, "G", &parts.g_mat)?;
-    push_rows(alloc, &mut text, "E", &parts.e_mat)?;
-    push_line(alloc, &mut text, "b", &parts.bound)?;
-    text.push_str("end\n")?;
+    let mut text = String::new(alloc);
+    let blocks = table(sizes_of(parts));
+    for block in 0..16 {
+        push_block(alloc, &mut text, parts, block, blocks[block].0)?;
+    }
     Ok(text)
 }
 
-// The first six lines.
-fn head_text(alloc: Global, parts: &ControllerParts) -> Result<String, AllocError>
-    ensures { IfOk result (λ text. string_bytes text ≡ head_text (numbers parts.now)) }
+fn sizes_of(parts: &ControllerParts) -> Sizes
+    ensures { result ≡ sizes_of (numbers parts.now) }
 {
-    let sizes = [
-        parts.n as i128,
-        parts.p as i128,
-        parts.stages as i128,
-        parts.m as i128,
-    ];
-    let bits = [
-        parts.f as i128,
-        parts.g as i128,
-        parts.s as i128,
-        parts.w as i128,
-    ];
-    let mut text = String::from_str(alloc, "mpc-controller 1\n")?;
-    push_line(alloc, &mut text, "size", &sizes)?;
-    push_line(alloc, &mut text, "bits", &bits)?;
-    push_line(alloc, &mut text, "steps", &[parts.steps as i128])?;
-    push_line(alloc, &mut text, "clamp", &[parts.clamp])?;
-    push_line(alloc, &mut text, "words", &[parts.words as i128])?;
-    Ok(text)
+    Sizes {
+        version: parts.version,
+        n: parts.n,
+        p: parts.p,
+        stages: parts.stages,
+        m: parts.m,
+    }
+}
+
+// The lines of a block, which have this word, at the end.
+fn push_block(
+    alloc: Global,
+    text: &mut String,
+    parts: &ControllerParts,
+    block: usize,
+    key: &str,
+) -> Result<(), AllocError>
+    requires inside { block < 16 }
+    requires key { key.now ≡ (slice_index_or (table (sizes_of (numbers parts.now))) block ([], 0, 0)).0 }
+    ensures text { OnOk result (string_bytes text.new ≡ string_bytes text.old ++ text_of (map spelled (slice_index_or (line_blocks (numbers parts.now)) block []))) }
+    ensures word { OnOk result (All Fits (slice_index_or (line_blocks (numbers parts.now)) block [])) }
+{
+    match block {
+        0 => push_line(alloc, text, key, &[parts.version as i128]),
+        1 => push_line(
+            alloc,
+            text,
+            key,
+            &[
+                parts.n as i128,
+                parts.p as i128,
+                parts.stages as i128,
+                parts.m as i128,
+            ],
+        ),
+        2 => push_line(
+            alloc,
+            text,
+            key,
+            &[
+                parts.f as i128,
+                parts.g as i128,
+                parts.s as i128,
+                parts.w as i128,
+            ],
+        ),
+        3 => push_line(alloc, text, key, &[parts.steps as i128]),
+        4 => push_line(alloc, text, key, &[parts.clamp]),
+        5 => push_line(alloc, text, key, &[parts.words as i128]),
+        6 => push_exponents(alloc, text, key, parts),
+        7 => push_line(alloc, text, key, &parts.lo),
+        8 => push_line(alloc, text, key, &parts.hi),
+        9 => push_rows(alloc, text, key, &parts.p_mat),
+        10 => push_line(alloc, text, key, &parts.t),
+        11 => push_rows(alloc, text, key, &parts.w_mat),
+        12 => push_rows(alloc, text, key, &parts.g_mat),
+        13 => push_rows(alloc, text, key, &parts.e_mat),
+        14 => push_line(alloc, text, key, &parts.bound),
+        _ => push_line(alloc, text, key, &[]),
+    }
+}
+
+// The line of the exponents, where the version has one.
+fn push_exponents(
+    alloc: Global,
+    text: &mut String,
+    key: &str,
+    parts: &ControllerParts,
+) -> Result<(), AllocError>
+    requires { key.now ≡ codes "exps" }
+    ensures text { OnOk result (string_bytes text.new ≡ string_bytes text.old ++ text_of (map spelled (slice_index_or (line_blocks (numbers parts.now)) 6 []))) }
+    ensures word { OnOk result (All Fits (slice_index_or (line_blocks (numbers parts.now)) 6 [])) }
+{
+    if parts.version == VERSION {
+        return Ok(());
+    }
+    let numbers = widened(alloc, &parts.exps)?;
+    push_line(alloc, text, key, &numbers)
+}
+
+fn widened(alloc: Global, numbers: &[u32]) -> Result<Vec<i128>, AllocError>
+    ensures { IfOk result (λ v. v.items ≡ map pos numbers.now) }
+{
+    numbers.iter().map(|number| *number as i128).collect(alloc)
 }
 
 // A line for each row, at the end.

@@ -7,7 +7,7 @@ use std::test::Fail;
 use worked_designs::{CONTROLLER, CONTROLLER_OF_TWO, has_rows};
 
 // What stands in place of a part of the first text, and why it is refused then, none where it is a controller's text.
-static CHANGES: [(&str, &str, Option<BadController>); 36] = [
+static CHANGES: [(&str, &str, Option<BadController>); 39] = [
     ("steps 4", "steps 5", None),
     ("bits 10 0 1 26", "bits 10 0 1 27", None),
     (
@@ -55,8 +55,23 @@ static CHANGES: [(&str, &str, Option<BadController>); 36] = [
     ),
     (
         "mpc-controller 1",
-        "mpc-controller 2",
+        "mpc-controller 0",
         Some(BadController::Line { line: 1 }),
+    ),
+    (
+        "mpc-controller 1",
+        "mpc-controller 3",
+        Some(BadController::Line { line: 1 }),
+    ),
+    (
+        "mpc-controller 1",
+        "mpc-controller 2",
+        Some(BadController::Line { line: 7 }),
+    ),
+    (
+        "words 6",
+        "words 6\nexps 0 1 1",
+        Some(BadController::Line { line: 7 }),
     ),
     (
         "clamp 32768",
@@ -148,19 +163,25 @@ fn refusal_of(alloc: Global, bytes: &[u8]) -> Result<Option<BadController>, Allo
     }
 }
 
-// The same of the first text with one part of it replaced, wherever it stands.
-fn refusal_with(alloc: Global, old: &str, new: &str) -> Result<Option<BadController>, AllocError> {
-    let text = CONTROLLER.replace(alloc, old, new)?;
-    refusal_of(alloc, text.as_bytes())
+// The same of a text with one part of it replaced, wherever it stands.
+fn refusal_with(
+    alloc: Global,
+    text: &str,
+    old: &str,
+    new: &str,
+) -> Result<Option<BadController>, AllocError> {
+    let changed = text.replace(alloc, old, new)?;
+    refusal_of(alloc, changed.as_bytes())
 }
 
-// The first change that has another answer.
+// The first change of a text that has another answer.
 fn first_other(
     alloc: Global,
+    text: &str,
     cases: &[(&'static str, &'static str, Option<BadController>)],
 ) -> Result<Option<&'static str>, AllocError> {
     for (old, new, answer) in cases {
-        if refusal_with(alloc, old, new)? != *answer {
+        if refusal_with(alloc, text, old, new)? != *answer {
             return Ok(Some(new));
         }
     }
@@ -169,7 +190,138 @@ fn first_other(
 
 #[test]
 fn changed(rt: HostRuntime) -> Result<(), Fail> {
-    assert_eq!(rt; first_other(rt.alloc(), &CHANGES)?, None);
+    assert_eq!(rt; first_other(rt.alloc(), CONTROLLER, &CHANGES)?, None);
+    Ok(())
+}
+
+// The first text in version 2, with exponents that are not all the greatest.
+const SECOND_VERSION: &str = "mpc-controller 2
+size 1 1 1 3
+bits 10 0 1 26
+steps 4
+clamp 32768
+words 6
+exps 0 1 1
+lo 0
+hi 1
+P 512
+T 0
+W 256 -256 256
+G 1024
+G -1024
+G 1024
+E 0
+E 0
+E 1024
+b 1024 1024 256
+end
+";
+
+// What stands in place of a part of it, and why it is refused then.
+static SECOND_CHANGES: [(&str, &str, Option<BadController>); 15] = [
+    ("exps 0 1 1", "exps 0 0 0", None),
+    (
+        "exps 0 1 1",
+        "exps 0 1 2",
+        Some(BadController::Line { line: 7 }),
+    ),
+    (
+        "exps 0 1 1",
+        "exps -1 1 1",
+        Some(BadController::Line { line: 7 }),
+    ),
+    (
+        "exps 0 1 1",
+        "exps 0 1",
+        Some(BadController::Line { line: 7 }),
+    ),
+    (
+        "exps 0 1 1",
+        "exps 0 1 1 1",
+        Some(BadController::Line { line: 7 }),
+    ),
+    (
+        "exps 0 1 1",
+        "exps 0 1 01",
+        Some(BadController::Line { line: 7 }),
+    ),
+    ("exps 0 1 1\n", "", Some(BadController::Line { line: 7 })),
+    (
+        "exps 0 1 1\n",
+        "exps 0 1 1\nexps 0 1 1\n",
+        Some(BadController::Line { line: 8 }),
+    ),
+    (
+        "exps 0 1 1\nlo 0\nhi 1\nP 512",
+        "lo 0\nhi 1\nP 512\nexps 0 1 1",
+        Some(BadController::Line { line: 7 }),
+    ),
+    (
+        "mpc-controller 2",
+        "mpc-controller 1",
+        Some(BadController::Line { line: 7 }),
+    ),
+    ("W 256", "W 512", Some(BadController::Unsafe)),
+    ("hi 1", "hi -1", Some(BadController::Line { line: 9 })),
+    ("end\n", "", Some(BadController::Line { line: 20 })),
+    ("end\n", "end\nx", Some(BadController::Line { line: 21 })),
+    ("size 1", "size 7", Some(BadController::Line { line: 2 })),
+];
+
+// The first text with sizes of version 2, in version 1 and in version 2, whose other lines are then bad.
+static GREATER_SIZES: [(&str, &str, Option<BadController>); 4] = [
+    (
+        "2\nsize 1 1 1 3",
+        "1\nsize 5 1 1 3",
+        Some(BadController::Line { line: 2 }),
+    ),
+    (
+        "2\nsize 1 1 1 3",
+        "1\nsize 1 1 21 3",
+        Some(BadController::Line { line: 2 }),
+    ),
+    (
+        "size 1 1 1 3",
+        "size 5 1 1 3",
+        Some(BadController::Line { line: 6 }),
+    ),
+    (
+        "size 1 1 1 3",
+        "size 1 1 30 3",
+        Some(BadController::Line { line: 6 }),
+    ),
+];
+
+#[test]
+fn second_version_written_back(rt: HostRuntime) -> Result<(), Fail> {
+    assert!(rt; is_written_back(rt.alloc(), SECOND_VERSION)?);
+    Ok(())
+}
+
+#[test]
+fn second_version_changed(rt: HostRuntime) -> Result<(), Fail> {
+    assert_eq!(rt;
+        first_other(rt.alloc(), SECOND_VERSION, &SECOND_CHANGES)?,
+        None
+    );
+    Ok(())
+}
+
+#[test]
+fn greater_sizes(rt: HostRuntime) -> Result<(), Fail> {
+    assert_eq!(rt;
+        first_other(rt.alloc(), SECOND_VERSION, &GREATER_SIZES)?,
+        None
+    );
+    Ok(())
+}
+
+#[test]
+fn second_version_cut(rt: HostRuntime) -> Result<(), Fail> {
+    assert_eq!(rt;
+        first_other_cut(rt.alloc(), SECOND_VERSION.as_bytes())?,
+        None
+    );
     Ok(())
 }
 

@@ -1,44 +1,40 @@
-use Rattle.std.proofs.Common.{◌≡◌, ◌++◌, ◌∷◌, [], List, ℕ, ◌∙◌, string_bytes, pos, rules}
-use Rattle.std.specs.Prelude.{codes}
-use Rattle.qp_model.specs.Lines.{line_of, text_of}
-use Rattle.qp_model.specs.ControllerText.{matrix_lines}
-use Rattle.controller_file.proofs.Pushed.{lists_pushed}
+use Rattle.std.proofs.Common.{◌<◌, ◌≤◌, ◌∙◌, List, [], take, map, length, get_or, string_bytes, ap, sym, subst, arith}
+use Rattle.std.specs.Prelude.{All}
+use Rattle.std.proofs.lemmas.List.{take_all}
+use Rattle.std.proofs.lemmas.List.Elements.{All-append}
+use Rattle.qp_model.specs.Lines.{text_of}
+use Rattle.qp_model.specs.Controller.{numbers}
+use Rattle.controller_file.specs.Lines.{Keyed, spelled, Fits, chained, line_blocks}
+use Rattle.controller_file.specs.Table.{table, sizes_of}
+use Rattle.controller_file.proofs.Chained.{chain_more}
+use Rattle.controller_file.proofs.Blocks.{row_at}
+use Rattle.controller_file.proofs.Pushed.{block_pushed}
+use Rattle.controller_file.proofs.Texts.{keyed_text, fits_word}
 use Rattle.controller_file.proofs.writer.parts_text.Goals as goal
+
+pub push_block-requires-clause-key : goal.push_block-requires-clause-key
+push_block-requires-clause-key c = (row_at c.table-blocks.result (sizes_of (numbers c.args.parts.now)) c.loop-block.block (c.table-blocks.ensures ∙ ap table c.sizes_of.ensures) c.loop-block-test.true).0
+
+pub loop-block-preserved : goal.loop-block-preserved
+loop-block-preserved c =
+    let bs = line_blocks (numbers c.args.parts.now) in
+    let i = c.loop-block.block in
+    let lt : i < length bs = c.loop-block-test.true in
+    record {
+      text = block_pushed bs i (string_bytes c.loop-block.text) (string_bytes c.push_block.new.text) lt c.loop-block.invariant.text c.in_ok-push_block.ensures.text;
+      word = subst (λ (ls : List Keyed). All Fits ls) (sym (chain_more bs i lt)) (All-append Fits (chained (take i bs)) (get_or bs i []) c.loop-block.invariant.word c.in_ok-push_block.ensures.word);
+    }
 
 pub returns-clause-text : goal.returns-clause-text
 returns-clause-text c =
-    let p = c.args.parts.now in
-    let head : List (List ℕ) =
-    codes "mpc-controller 1"
-    ∷ line_of (codes "size") (pos p.n ∷ pos p.p ∷ pos p.stages ∷ pos p.m ∷ [])
-    ∷ line_of (codes "bits") (pos p.f ∷ pos p.g ∷ pos p.s ∷ pos p.w ∷ [])
-    ∷ line_of (codes "steps") (pos p.steps ∷ [])
-    ∷ line_of (codes "clamp") (p.clamp ∷ [])
-    ∷ line_of (codes "words") (pos p.words ∷ []) ∷ [] in
-    let lo = c.deref.ensures.value in
-    let hi = c.deref-2.ensures.value in
-    let t = c.deref-3.ensures.value in
-    let bound = c.deref-4.ensures.value in
-    let text0 : List ℕ = string_bytes c.in_ok-text.text in
-    let text1 : List ℕ = string_bytes c.push_line.new.text in
-    let text2 : List ℕ = string_bytes c.push_line-2.new.text in
-    let text3 : List ℕ = string_bytes c.push_rows.new.text in
-    let text4 : List ℕ = string_bytes c.push_line-3.new.text in
-    let text5 : List ℕ = string_bytes c.push_rows-2.new.text in
-    let text6 : List ℕ = string_bytes c.push_rows-3.new.text in
-    let text7 : List ℕ = string_bytes c.push_rows-4.new.text in
-    let text8 : List ℕ = string_bytes c.push_line-4.new.text in
-    let end : string_bytes c.push_str.new.self ≡ text8 ++ text_of (codes "end" ∷ []) = search rules in
-    lists_pushed head (matrix_lines (codes "P") p.p_mat) (matrix_lines (codes "W") p.w_mat) (matrix_lines (codes "G") p.g_mat) (matrix_lines (codes "E") p.e_mat)
-    (line_of (codes "lo") p.lo.items) (line_of (codes "hi") p.hi.items) (line_of (codes "T") p.t.items) (line_of (codes "b") p.bound.items) (codes "end")
-    text0 text1 text2 text3 text4 text5 text6 text7 text8 (string_bytes c.push_str.new.self)
-    c.in_ok-text.ensures
-    (c.in_ok-push_line.ensures.text ∙ (λ i. text0 ++ text_of (line_of (codes "lo") (lo i) ∷ [])))
-    (c.in_ok-push_line-2.ensures.text ∙ (λ i. text1 ++ text_of (line_of (codes "hi") (hi i) ∷ [])))
-    c.in_ok-push_rows.ensures.text
-    (c.in_ok-push_line-3.ensures.text ∙ (λ i. text3 ++ text_of (line_of (codes "T") (t i) ∷ [])))
-    c.in_ok-push_rows-2.ensures.text
-    c.in_ok-push_rows-3.ensures.text
-    c.in_ok-push_rows-4.ensures.text
-    (c.in_ok-push_line-4.ensures.text ∙ (λ i. text7 ++ text_of (line_of (codes "b") (bound i) ∷ [])))
-    end
+    let n = numbers c.args.parts.now in
+    let bs = line_blocks n in
+    let past : length bs ≤ c.loop-block.block = omega (arith, c.loop-block-test.false) in
+    c.loop-block.invariant.text ∙ ap (λ (xss : List (List Keyed)). text_of (map spelled (chained xss))) (take_all c.loop-block.block bs past) ∙ keyed_text n
+
+pub returns-clause-word : goal.returns-clause-word
+returns-clause-word c =
+    let n = numbers c.args.parts.now in
+    let bs = line_blocks n in
+    let past : length bs ≤ c.loop-block.block = omega (arith, c.loop-block-test.false) in
+    fits_word n (subst (λ (ls : List Keyed). All Fits ls) (ap chained (take_all c.loop-block.block bs past)) c.loop-block.invariant.word)

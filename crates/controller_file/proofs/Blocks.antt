@@ -1,0 +1,176 @@
+-- The lines of a controller stand as the table says.
+use Rattle.std.proofs.Common.{◌≡◌, Bor, ℕ, zero, suc, ◌+◌, ◌-◌, ◌*◌, ◌<◌, ◌≤◌, ℤ, pos, List, [], ◌∷◌, ◌++◌, length, get_or, take, drop, map, replicate, refl, sym, ap, ◌∙◌, arith}
+use Rattle.std.specs.Prelude.{All, Result, Ok, Err, IfOk, codes, ◌==◌, if◌then◌else◌}
+use Rattle.std.specs.List.{AllByRecursion}
+use Rattle.std.proofs.Math.Nat.{mul-le-mul}
+use Rattle.std.proofs.lemmas.List.{length-map, length-append, length-replicate, take_at, drop_at, drop-drop, take-map, drop-map, get_or-map, get_or-replicate}
+use Rattle.std.proofs.lemmas.List.Elements.{recursion_from_All}
+use Rattle.mat_int.specs.Matrix.{Matrix}
+use Rattle.qp_model.specs.Range.{LiesIn}
+use Rattle.qp_model.specs.Controller.{Numbers, HasShape, IsInForm}
+use Rattle.qp_model.proofs.VersionLaws.{states_le, stages_le, limits_le}
+use Rattle.controller_file.specs.declared.table.Sizes.{Sizes}
+use Rattle.controller_file.specs.declared.line.Line.{Line}
+use Rattle.controller_file.specs.Lines.{Keyed, keyed_line, view, views, line_in, row_lines, line_blocks, keyed_lines, chained, Place, place, place_of}
+use Rattle.controller_file.specs.Table.{Block, block_places, table, spread, places, sizes_of, AreSmall, Says, block_at, total_rows}
+use Rattle.controller_file.proofs.Chained.{map_chained}
+
+-- ---- a line in its place
+
+pub key_is : (l : Keyed) (key : List ℕ) (count : ℕ) → place_of l ≡ place key count → l ≡ keyed_line key l.numbers
+key_is l key count e = let same : l.key ≡ key = ap (λ (p : Place). p.key) e in (λ i. keyed_line (same i) l.numbers)
+
+pub count_is : (l : Keyed) (key : List ℕ) (count : ℕ) → place_of l ≡ place key count → length l.numbers ≡ count
+count_is l key count e = ap (λ (p : Place). p.count) e
+
+-- ---- the blocks
+
+rows_placed : (key : List ℕ) (cols : ℕ) (rows : List (List ℤ)) → AllByRecursion (λ row. length row ≡ cols) rows → map place_of (row_lines key rows) ≡ replicate (length rows) (place key cols)
+rows_placed key cols [] h = refl
+rows_placed key cols (row ∷ rows) h =
+    let first = h.0 in
+    let others = rows_placed key cols rows h.1 in
+    (λ i. place key (first i) ∷ others i)
+
+matrix_placed : (key : List ℕ) (height breadth : ℕ) (a : Matrix) → HasShape a height breadth → map place_of (row_lines key a.rows) ≡ replicate height (place key breadth)
+matrix_placed key height breadth a h = rows_placed key breadth a.rows (recursion_from_All (λ row. length row ≡ breadth) a.rows h.each) ∙ ap (λ (n : ℕ). replicate n (place key breadth)) h.rows
+
+exponents_placed : (version m : ℕ) (exps : List ℕ) → LiesIn 1 2 version → length exps ≡ m → map place_of (if version == 1 then [] else keyed_line (codes "exps") (map pos exps) ∷ []) ≡ replicate (version - 1) (place (codes "exps") m)
+exponents_placed zero m exps h len = absurd (omega (arith, h.0))
+exponents_placed (suc zero) m exps h len = refl
+exponents_placed (suc (suc zero)) m exps h len = ap (λ (n : ℕ). place (codes "exps") n ∷ []) (length-map exps pos ∙ len)
+exponents_placed (suc (suc (suc n))) m exps h len = absurd (omega (arith, h.1))
+
+pub blocks_placed : (c : Numbers) → IsInForm c → map (map place_of) (line_blocks c) ≡ map block_places (table (sizes_of c))
+blocks_placed c form =
+    let h = form.sized.shaped in
+    let nu = c.inputs * c.stages in
+    let e6 = exponents_placed c.version c.rows c.exponents form.sized.version h.exponents in
+    let e9 = matrix_placed (codes "P") nu c.states c.state_gains h.state_gains in
+    let e11 = matrix_placed (codes "W") nu c.rows c.dual_gains h.dual_gains in
+    let e12 = matrix_placed (codes "G") c.rows nu c.plan_rows h.plan_rows in
+    let e13 = matrix_placed (codes "E") c.rows c.states c.state_rows h.state_rows in
+    rw (e6, h.low, h.high, e9, h.offsets, e11, e12, e13, h.bounds) refl
+
+pub lines_placed : (c : Numbers) → IsInForm c → map place_of (keyed_lines c) ≡ places (sizes_of c)
+lines_placed c form = map_chained place_of (line_blocks c) ∙ ap chained (blocks_placed c form)
+
+-- ---- how many lines there are
+
+lengths_from : (bs : List (List Keyed)) (ts : List Block) → map (map place_of) bs ≡ map block_places ts → map length bs ≡ map (λ t. t.1) ts
+lengths_from [] [] e = refl
+lengths_from [] (t ∷ ts) e = absurd cc
+lengths_from (b ∷ bs) [] e = absurd cc
+lengths_from (b ∷ bs) (t ∷ ts) e =
+    let first : length b ≡ t.1 = sym (length-map b place_of) ∙ ap (λ (ps : List (List Place)). length (get_or ps 0 [])) e ∙ length-replicate t.1 (place t.0 t.2) in
+    let others = lengths_from bs ts (ap (drop 1) e) in
+    (λ i. first i ∷ others i)
+
+pub block_lengths : (c : Numbers) → IsInForm c → map length (line_blocks c) ≡ map (λ t. t.1) (table (sizes_of c))
+block_lengths c form = lengths_from (line_blocks c) (table (sizes_of c)) (blocks_placed c form)
+
+spread_length : (ts : List Block) → length (spread ts) ≡ total_rows ts
+spread_length [] = refl
+spread_length (t ∷ ts) = length-append (block_places t) (spread ts) ∙ (λ i. length-replicate t.1 (place t.0 t.2) i + spread_length ts i)
+
+pub sizes_small : (c : Numbers) → IsInForm c → AreSmall (sizes_of c)
+sizes_small c form = record { version = form.sized.version.1; n = states_le c form.sized; p = form.sized.inputs.1; stages = stages_le c form.sized; m = limits_le c form.sized }
+
+pub line_count : (c : Numbers) → IsInForm c → length (keyed_lines c) ≡ total_rows (table (sizes_of c))
+line_count c form = sym (length-map (keyed_lines c) place_of) ∙ ap length (lines_placed c form) ∙ spread_length (table (sizes_of c))
+
+pub few_rows : (z : Sizes) → AreSmall z → total_rows (table z) ≤ 936
+few_rows z small = omega (arith, mul-le-mul small.p small.stages, small.m, small.version)
+
+pub few_lines : (c : Numbers) → IsInForm c → length (keyed_lines c) ≤ 936
+few_lines c form = omega (arith, line_count c form, few_rows (sizes_of c) (sizes_small c form))
+
+-- ---- the lines of a block
+
+-- a block more
+pub rows_more : (ts : List Block) (i : ℕ) (d : Block) → i < length ts → total_rows (take (suc i) ts) ≡ total_rows (take i ts) + (get_or ts i d).1
+rows_more [] i d lt = absurd (omega (arith, lt))
+rows_more (t ∷ ts) zero d lt = omega arith
+rows_more (t ∷ ts) (suc i) d lt = omega (arith, rows_more ts i d (omega (arith, lt)))
+
+pub rows_up_to : (ts : List Block) (i : ℕ) → total_rows (take i ts) ≤ total_rows ts
+rows_up_to ts zero = omega arith
+rows_up_to [] (suc i) = omega arith
+rows_up_to (t ∷ ts) (suc i) = omega (arith, rows_up_to ts i)
+
+block_is : {X : Type 0} (bs : List (List X)) (ts : List Block) (k : ℕ) (d : Block) → map length bs ≡ map (λ t. t.1) ts → k < length ts → take (get_or ts k d).1 (drop (total_rows (take k ts)) (chained bs)) ≡ get_or bs k []
+block_is bs [] k d e lt = absurd (omega (arith, lt))
+block_is [] (t ∷ ts) k d e lt = absurd (cc e)
+block_is (b ∷ bs) (t ∷ ts) zero d e lt = take_at b (chained bs) t.1 (ap (λ (ns : List ℕ). get_or ns 0 0) e)
+block_is (b ∷ bs) (t ∷ ts) (suc k) d e lt =
+    let len : length b ≡ t.1 = ap (λ (ns : List ℕ). get_or ns 0 0) e in
+    let rest : drop (t.1 + total_rows (take k ts)) (b ++ chained bs) ≡ drop (total_rows (take k ts)) (chained bs) = sym (drop-drop (total_rows (take k ts)) t.1 (b ++ chained bs)) ∙ ap (drop (total_rows (take k ts))) (drop_at b (chained bs) t.1 len) in
+    ap (take (get_or ts k d).1) rest ∙ block_is bs ts k d (ap (drop 1) e) (omega (arith, lt))
+
+-- the lines in the place of a block are those of the block
+pub block_there : (c : Numbers) (z : Sizes) (k : ℕ) (d : Block) → IsInForm c → sizes_of c ≡ z → k < 16 → take (get_or (table z) k d).1 (drop (total_rows (take k (table z))) (keyed_lines c)) ≡ get_or (line_blocks c) k []
+block_there c z k d form e lt = block_is (line_blocks c) (table z) k d (block_lengths c form ∙ ap (λ (y : Sizes). map (λ t. t.1) (table y)) e) lt
+
+-- each has as many numbers as the table says
+pub block_breadth : (c : Numbers) (z : Sizes) (k : ℕ) (d : Block) → IsInForm c → sizes_of c ≡ z → k < 16 → All (λ l. length l.numbers ≡ (get_or (table z) k d).2) (get_or (line_blocks c) k [])
+block_breadth c z k d form e lt = breadth (get_or (line_blocks c) k []) (get_or (table z) k d) (
+    sym (get_or-map (map place_of) (line_blocks c) k [] [] (omega (arith, lt)))
+    ∙ ap (λ (ps : List (List Place)). get_or ps k []) (blocks_placed c form ∙ ap (λ (y : Sizes). map block_places (table y)) e)
+    ∙ get_or-map block_places (table z) k d [] lt)
+  where
+    breadth : (ls : List Keyed) (t : Block) → map place_of ls ≡ block_places t → All (λ l. length l.numbers ≡ t.2) ls
+    breadth ls t e i o l =
+        let within : i < t.1 = omega (arith, l, sym (length-map ls place_of) ∙ ap length e ∙ length-replicate t.1 (place t.0 t.2)) in
+        let here : place_of (get_or ls i o) ≡ place t.0 t.2 = sym (get_or-map place_of ls i o (place_of o) l) ∙ ap (λ (ps : List Place). get_or ps i (place_of o)) e ∙ get_or-replicate t.1 i (place t.0 t.2) (place_of o) within in
+        ap (λ (p : Place). p.count) here
+
+-- ---- the sizes
+
+pub same_sizes : (c : Numbers) (z : Sizes) → c.version ≡ z.version → pos c.states ∷ pos c.inputs ∷ pos c.stages ∷ pos c.rows ∷ [] ≡ pos z.n ∷ pos z.p ∷ pos z.stages ∷ pos z.m ∷ [] → sizes_of c ≡ z
+same_sizes c z version four =
+    let n : c.states ≡ z.n = cc four in
+    let p : c.inputs ≡ z.p = cc four in
+    let stages : c.stages ≡ z.stages = cc four in
+    let m : c.rows ≡ z.m = cc four in
+    (λ i. record { version = version i; n = n i; p = p i; stages = stages i; m = m i })
+
+pub said_sizes : (ls : List Keyed) (z : Sizes) (c : Numbers) → keyed_lines c ≡ ls → Says ls z → sizes_of c ≡ z
+said_sizes ls z c e says =
+    let long : 1 < length ls = omega (arith, ap length e) in
+    let one : pos c.version ∷ [] ≡ pos z.version ∷ [] = ap (λ (ms : List Keyed). line_in ms 0) e ∙ says.version (omega (arith, long)) in
+    same_sizes c z (cc one) (ap (λ (ms : List Keyed). line_in ms 1) e ∙ says.sizes long)
+
+-- ---- as the code has them
+
+-- a block of the table
+abbrev pub Row : Type 0
+Row = Bor (List ℕ) × ℕ × ℕ
+
+abbrev pub seen : List Row → List Block
+seen bs = map (λ b. (b.0.now, b.1, b.2)) bs
+
+abbrev pub no_row : Row
+no_row = (record { ref_ptr = (0, 0); now = [] }, 0, 0)
+
+pub row_at : (rs : List Row) (z : Sizes) (k : ℕ) → seen rs ≡ table z → k < 16 → ((get_or rs k no_row).0.now ≡ (block_at z k).0) × ((get_or rs k no_row).1 ≡ (block_at z k).1) × ((get_or rs k no_row).2 ≡ (block_at z k).2)
+row_at rs z k e lt =
+    let long : length rs ≡ 16 = sym (length-map rs (λ (b : Row). (b.0.now, b.1, b.2))) ∙ ap length e in
+    let raw : Block = ((get_or rs k no_row).0.now, (get_or rs k no_row).1, (get_or rs k no_row).2) in
+    let same : raw ≡ block_at z k = sym (get_or-map (λ (b : Row). (b.0.now, b.1, b.2)) rs k no_row ([], 0, 0) (omega (arith, lt, long))) ∙ ap (λ (ts : List Block). get_or ts k ([], 0, 0)) e in
+    (ap (λ (t : Block). t.0) same, ap (λ (t : Block). t.1) same, ap (λ (t : Block). t.2) same)
+
+-- a part of lines
+pub part_is : (lines : List Line) (c : Numbers) (z : Sizes) (k s n m : ℕ) → IsInForm c → keyed_lines c ≡ views lines → sizes_of c ≡ z → k < 16 → s ≡ total_rows (take k (table z)) → n ≡ (block_at z k).1 → m ≡ s + n
+    → views (take (m - s) (drop s lines)) ≡ get_or (line_blocks c) k []
+part_is lines c z k s n m form e same lt start rows end =
+    let count : m - s ≡ (block_at z k).1 = omega (arith, rows, end) in
+    sym (take-map view (m - s) (drop s lines)) ∙ ap (take (m - s)) (sym (drop-map view s lines) ∙ ap (drop s) (sym e)) ∙ (λ i. take (count i) (drop (start i) (keyed_lines c))) ∙ block_there c z k ([], 0, 0) form same lt
+
+pub part_within : (lines : List Line) (c : Numbers) (z : Sizes) (k : ℕ) → IsInForm c → keyed_lines c ≡ views lines → sizes_of c ≡ z → k < 16 → total_rows (take k (table z)) + (block_at z k).1 ≤ length lines
+part_within lines c z k form e same lt = omega (arith, rows_more (table z) k ([], 0, 0) lt, rows_up_to (table z) (suc k), line_count c form, ap (λ (y : Sizes). total_rows (table y)) same, ap length e, length-map lines view)
+
+-- ---- what a call answers
+
+pub if_ok : {A E : Type 0} {P Q : A → Type 0} (r : Result A E) → IfOk r P → ((a : A) → P a → Q a) → IfOk r Q
+if_ok (Ok a) h f = f a h
+if_ok (Err e) h f = tt

@@ -1,8 +1,0 @@
-use Rattle.controller_file.proofs.Spread.{found_here, found_later}
-use Rattle.controller_file.proofs.following.place_at.Goals as goal
-
-pub returns-then-left-rows : goal.returns-then-left-rows
-returns-then-left-rows c = found_here _ c.loop-key.key-index _ c.loop-key.left _ c.loop-key-test.true c.if-left-rows.true c.loop-key.invariant
-
-pub loop-key-preserved : goal.loop-key-preserved
-loop-key-preserved c = found_later _ c.loop-key.key-index _ c.loop-key.left _ c.loop-key-test.true c.if-left-rows.false c.loop-key.invariant

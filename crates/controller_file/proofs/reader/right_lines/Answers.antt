@@ -1,0 +1,53 @@
+use Rattle.std.proofs.Common.{◌≡◌, ◌≢◌, ◌<◌, ◌≤◌, ◌++◌, ◌∷◌, [], ℕ, List, map, length, get_or, Bor, sym, ap, subst, ◌∙◌, arith}
+use Rattle.std.proofs.lemmas.List.{length-map, get_or-map, map-append}
+use Rattle.std.proofs.lemmas.Option.{MatchOption-at_some, MatchOption-at_none}
+use Rattle.controller_file.specs.declared.line.Line.{Line}
+use Rattle.controller_file.specs.Lines.{Keyed, view, views, spelled}
+use Rattle.controller_file.specs.Following.{IsBeginning}
+use Rattle.controller_file.proofs.FirstLines.{none_read, nothing, one_more, stuck, most_from, all_right}
+use Rattle.controller_file.proofs.reader.right_lines.Goals as goal
+
+pub loop-piece-init : goal.loop-piece-init
+loop-piece-init c =
+    let none : views c.new-lines.result.items ≡ [] = ap views c.new-lines.ensures.items in
+    record { beginning = subst (λ (ls : List Keyed). IsBeginning ls) (sym none) nothing; spelling = ap (map spelled) none }
+
+pub returns-in_default-clause-most : goal.returns-in_default-clause-most
+returns-in_default-clause-most c =
+    let ps = map (λ (x : Bor (List ℕ)). x.now) c.args.pieces.now in
+    let i = c.loop-piece.piece-index in
+    let items = c.loop-piece.lines.items in
+    let ls = views items in
+    let lt : i < length ps = omega (arith, length-map c.args.pieces.now (λ (x : Bor (List ℕ)). x.now)) in
+    let count : length ls ≡ length items = length-map items view in
+    let here : get_or ps i [] ≡ (get_or c.args.pieces.now i none_read).now = get_or-map (λ (x : Bor (List ℕ)). x.now) c.args.pieces.now i none_read [] c.loop-piece-test.true in
+    let none = MatchOption-at_none _ _ c.in_default.is c.in_ok-line.ensures.none in
+    let follows : (l : Keyed) → IsBeginning (ls ++ l ∷ []) → get_or ps i [] ≢ spelled l = λ l b e. none l (subst (λ (xs : List Line). IsBeginning (views xs ++ l ∷ [])) (sym c.deref.ensures.value) b) (sym here ∙ e) in
+    most_from ps ls i (length items) c.loop-piece.invariant.beginning (omega (arith, lt)) c.loop-piece.invariant.spelling count (stuck ps ls i c.loop-piece.invariant.beginning lt c.loop-piece.invariant.spelling follows)
+
+pub loop-piece-preserved : goal.loop-piece-preserved
+loop-piece-preserved c =
+    let ps = map (λ (x : Bor (List ℕ)). x.now) c.args.pieces.now in
+    let i = c.loop-piece.piece-index in
+    let old = c.loop-piece.lines.items in
+    let l = c.in-Some.line in
+    let lt : i < length ps = omega (arith, length-map c.args.pieces.now (λ (x : Bor (List ℕ)). x.now)) in
+    let items : c.push.new.self.items ≡ old ++ l ∷ [] = c.in_ok-push.ensures.items in
+    let more : views c.push.new.self.items ≡ views old ++ view l ∷ [] = ap views items ∙ map-append view old (l ∷ []) in
+    let here : get_or ps i [] ≡ (get_or c.args.pieces.now i none_read).now = get_or-map (λ (x : Bor (List ℕ)). x.now) c.args.pieces.now i none_read [] c.loop-piece-test.true in
+    let found : (get_or c.args.pieces.now i none_read).now ≡ spelled (view l) = MatchOption-at_some _ (λ (k : Line). (get_or c.args.pieces.now i none_read).now ≡ spelled (view k)) l c.in-Some.is c.in_ok-line.ensures.found in
+    let follows : IsBeginning (views c.deref.result.now ++ view l ∷ []) = MatchOption-at_some _ (λ (k : Line). IsBeginning (views c.deref.result.now ++ view k ∷ [])) l c.in-Some.is c.in_ok-line.ensures.follows in
+    record {
+      beginning = subst (λ (ls : List Keyed). IsBeginning ls) (ap (λ (xs : List Line). views xs ++ view l ∷ []) c.deref.ensures.value ∙ sym more) follows;
+      spelling = ap (map spelled) more ∙ one_more ps (views old) i (view l) lt c.loop-piece.invariant.spelling (here ∙ found);
+    }
+
+pub returns-clause-most : goal.returns-clause-most
+returns-clause-most c =
+    let ps = map (λ (x : Bor (List ℕ)). x.now) c.args.pieces.now in
+    let i = c.loop-piece.piece-index in
+    let items = c.loop-piece.lines.items in
+    let count : length (views items) ≡ length items = length-map items view in
+    let past : length ps ≤ i = omega (arith, length-map c.args.pieces.now (λ (x : Bor (List ℕ)). x.now)) in
+    let within : i ≤ length ps = omega (arith, length-map c.args.pieces.now (λ (x : Bor (List ℕ)). x.now)) in
+    most_from ps (views items) i (length items) c.loop-piece.invariant.beginning within c.loop-piece.invariant.spelling count (all_right ps i past)

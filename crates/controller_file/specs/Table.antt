@@ -1,0 +1,63 @@
+-- Which lines a text has, by its version and its sizes.
+use Rattle.std.specs.Prelude.{◌≡◌, ℕ, ◌+◌, ◌-◌, ◌*◌, ◌<◌, ◌≤◌, pos, List, [], ◌∷◌, length, map, replicate, codes, slice_index_or}
+use Rattle.qp_model.specs.Controller.{Numbers}
+use Rattle.controller_file.specs.declared.table.Sizes.{Sizes}
+use Rattle.controller_file.specs.Lines.{Keyed, Place, place, line_in, chained}
+
+-- a word, how many lines have it, and how many numbers each of them has
+abbrev pub Block : Type 0
+Block = List ℕ × ℕ × ℕ
+
+abbrev pub block_places : Block → List Place
+block_places b = replicate b.1 (place b.0 b.2)
+
+abbrev pub table : Sizes → List Block
+table z =
+    (codes "mpc-controller", 1, 1)
+    ∷ (codes "size", 1, 4)
+    ∷ (codes "bits", 1, 4)
+    ∷ (codes "steps", 1, 1)
+    ∷ (codes "clamp", 1, 1)
+    ∷ (codes "words", 1, 1)
+    ∷ (codes "exps", z.version - 1, z.m)
+    ∷ (codes "lo", 1, z.n)
+    ∷ (codes "hi", 1, z.n)
+    ∷ (codes "P", z.p * z.stages, z.n)
+    ∷ (codes "T", 1, z.p * z.stages)
+    ∷ (codes "W", z.p * z.stages, z.m)
+    ∷ (codes "G", z.m, z.p * z.stages)
+    ∷ (codes "E", z.m, z.n)
+    ∷ (codes "b", 1, z.m)
+    ∷ (codes "end", 1, 0) ∷ []
+
+abbrev pub block_at : Sizes → ℕ → Block
+block_at z k = slice_index_or (table z) k ([], 0, 0)
+
+-- how many lines they are
+abbrev pub total_rows : List Block → ℕ
+total_rows [] = 0
+total_rows (b ∷ bs) = b.1 + total_rows bs
+
+-- the places of the lines of blocks
+abbrev pub spread : List Block → List Place
+spread bs = chained (map block_places bs)
+
+abbrev pub places : Sizes → List Place
+places z = spread (table z)
+
+abbrev pub sizes_of : Numbers → Sizes
+sizes_of c = record { version = c.version; n = c.states; p = c.inputs; stages = c.stages; m = c.rows }
+
+-- none is above the greatest of any version
+pub record AreSmall (z : Sizes) : Type 0 where
+  pub version : z.version ≤ 2
+  pub n : z.n ≤ 6
+  pub p : z.p ≤ 3
+  pub stages : z.stages ≤ 30
+  pub m : z.m ≤ 372
+
+-- the first of these lines say these sizes, as far as they are there
+pub record Says (ls : List Keyed) (z : Sizes) : Type 0 where
+  pub small : AreSmall z
+  pub version : 0 < length ls → line_in ls 0 ≡ pos z.version ∷ []
+  pub sizes : 1 < length ls → line_in ls 1 ≡ pos z.n ∷ pos z.p ∷ pos z.stages ∷ pos z.m ∷ []
