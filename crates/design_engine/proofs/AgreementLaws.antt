@@ -1,5 +1,5 @@
 -- Two controllers that are built for one design and policy agree in all but their gains, and the width and the bounds that follow from these.
-use Rattle.std.proofs.Common.{◌≡◌, ℕ, ◌+◌, ◌*◌, ◌^◌, ◌<◌, ℤ, pos, ◌*ℤ◌, unsigned_abs, List, [], length, arith, refl, ap, sym, subst, ◌∙◌}
+use Rattle.std.proofs.Common.{◌≡◌, ℕ, ◌+◌, ◌*◌, ◌^◌, ◌<◌, ℤ, pos, ◌*ℤ◌, unsigned_abs, List, [], length, replicate, arith, refl, ap, sym, subst, ◌∙◌}
 use Rattle.std.proofs.lemmas.List.{same_lists, get_or_default}
 use Rattle.integer_algebra.specs.Sums.{at}
 use Rattle.integer_algebra.specs.Division.{round_of}
@@ -65,7 +65,7 @@ module _ (p : DesignParts) (plans : Plans) (c other : Numbers) (b printed : Prin
   r = ap multiplier_of margin
 
   version : c.version ≡ other.version
-  version = h.controller.form.sized.version ∙ sym k.controller.form.sized.version
+  version = h.version ∙ sym k.version
 
   states : c.states ≡ other.states
   states = h.made.sizes.states ∙ sym k.made.sizes.states
@@ -87,6 +87,10 @@ module _ (p : DesignParts) (plans : Plans) (c other : Numbers) (b printed : Prin
 
   exponent : c.step_exponent ≡ other.step_exponent
   exponent = one_exponent d c.step_exponent other.step_exponent h.exponent k.exponent
+
+  exponents : c.exponents ≡ other.exponents
+  exponents = h.controller.form.sized.same_exponents (h.version ∙ h.design.version) ∙ (λ i. replicate (limits i) (exponent i)) ∙
+      sym (k.controller.form.sized.same_exponents (k.version ∙ k.design.version))
 
   steps : c.steps ≡ other.steps
   steps = h.steps ∙ (λ i. step_count (exponent i) (r i) (half_target t)) ∙ sym k.steps
@@ -148,6 +152,7 @@ module _ (p : DesignParts) (plans : Plans) (c other : Numbers) (b printed : Prin
     steps = steps i;
     clamp = clamp i;
     words = words i;
+    exponents = exponents i;
     low = low i;
     high = high i;
     state_gains = state i;

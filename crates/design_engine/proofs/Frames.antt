@@ -1,15 +1,18 @@
 -- From the parts of a controller that are made of a design to what is promised of it.
-use Rattle.std.proofs.Common.{◌≡◌, inl, inr, Option, Some, None, is_some, Bool, true, false, not, ℕ, ◌+◌, ◌*◌, ◌^◌, ◌<◌, ◌≤◌, ℤ, pos, ◌≤ℤ◌, List, length, unsigned_abs, arith, refl, ap, sym, subst, ◌∙◌, le_refl}
+use Rattle.std.proofs.Common.{◌≡◌, inl, inr, Option, Some, None, is_some, Bool, true, false, not, ℕ, ◌+◌, ◌*◌, ◌^◌, ◌<◌, ◌≤◌, ℤ, pos, ◌≤ℤ◌, List, length, replicate, unsigned_abs, arith, refl, ap, sym, subst, ◌∙◌, le_refl}
 use Rattle.std.specs.Option.{SomeIff}
 use Rattle.std.proofs.lemmas.Bool.{cases_lt}
 use Rattle.std.proofs.lemmas.Int.{ints}
 use Rattle.std.proofs.lemmas.Nat.{mul-le}
+use Rattle.std.proofs.lemmas.List.{length-replicate}
+use Rattle.std.proofs.lemmas.List.Elements.{All-replicate}
 use Rattle.std.proofs.lemmas.List.FromFn.{fill_by_all}
 use Rattle.integer_algebra.specs.Sums.{at}
 use Rattle.mat_int.specs.Matrix.{Matrix}
 use Rattle.qp_model.specs.Class.{form_of}
 use Rattle.qp_model.specs.declared.design_parts.DesignParts.{DesignParts}
 use Rattle.qp_model.specs.Design.{Design, entries, rows}
+use Rattle.qp_model.specs.Limits.{text_version, last_version}
 use Rattle.qp_model.specs.Parts.{IsDesign, design_of}
 use Rattle.qp_model.specs.Range.{LiesIn}
 use Rattle.qp_model.specs.Columns.{column_bound, solve_matrix, solve_column}
@@ -134,23 +137,27 @@ sized_rows p h = (
 pub sized : (p : DesignParts) (r s k f : ℕ) (c : Numbers) (v : Inverse) → IsDesign p → IsFrame (design_of p) r s k f c → AreGains v c →
     HasGainSizes v (entries (design_of p)) p.states (rows (design_of p)) → LiesIn p.grid 48 f → s ≤ 40 → LiesIn 1 (2 ^ 22) k → 2 * r * 2 ^ (f + s) ≤ 2 ^ 126 → IsSized c
 sized p r s k f c v h fr g sizes bits exponent steps room =
+    let first : c.version ≡ text_version = fr.version ∙ h.version in
     let nu : entries (design_of p) ≡ c.inputs * c.stages = rw (fr.inputs, fr.stages) (turn p.stages p.inputs) in
     let lo : c.low ≡ p.lo.items = fr.low ∙ sym (box_line p.states p.lo.items h.lo.long) in
     let hi : c.high ≡ p.hi.items = fr.high ∙ sym (box_line p.states p.hi.items h.hi.long) in
     record {
-      version = fr.version ∙ h.version;
-      states = rw fr.states h.states;
+      version = rw first first_version;
+      states = rw (first, fr.states) h.states;
       inputs = rw fr.inputs h.inputs;
-      stages = rw fr.stages h.stages;
-      rows = rw fr.limits (sized_rows p h);
+      stages = rw (first, fr.stages) h.stages;
+      rows = rw (first, fr.limits) (sized_rows p h);
       grid_bits = rw fr.grid_bits h.grid;
       fraction_bits = rw (fr.grid_bits, fr.fraction_bits) bits;
       step_exponent = rw fr.step_exponent exponent;
+      exponents = rw (fr.exponents, fr.step_exponent) (All-replicate (λ n. n ≤ s) (rows (design_of p)) s (le_refl s));
+      same_exponents = λ e. rw (fr.limits, fr.step_exponent) fr.exponents;
       steps = rw fr.steps steps;
       clamp_low = rw fr.clamp (omega (arith, ints));
       clamp_high = rw fr.clamp (at_most _ _ room);
       words = rw (fr.words, fr.states, fr.limits) (ap (λ (n : ℕ). p.states + rows (design_of p) + 2 * n) nu);
       shaped = record {
+        exponents = ap (λ (xs : List ℕ). length xs) fr.exponents ∙ length-replicate (rows (design_of p)) s ∙ sym fr.limits;
         low = ap (λ (xs : List ℤ). length xs) lo ∙ h.lo.long ∙ sym fr.states;
         high = ap (λ (xs : List ℤ). length xs) hi ∙ h.hi.long ∙ sym fr.states;
         state_gains = shape_to v.p_mat c.state_gains _ _ _ _ g.state_gains (sym nu) fr.states sizes.p_mat;
@@ -165,6 +172,9 @@ sized p r s k f c v h fr g sizes bits exponent steps room =
       box = λ i l. rw (lo, hi) (h.box i (omega (arith, fr.states)));
     }
   where
+    first_version : LiesIn text_version last_version text_version
+    first_version = (omega arith, omega arith)
+
     turn : (a b : ℕ) → a * b ≡ b * a
     turn a b = omega arith
 
@@ -177,6 +187,7 @@ sized p r s k f c v h fr g sizes bits exponent steps room =
 -- ---- the controller
 width_free : (c : Numbers) (w : ℕ) → IsShaped c → IsShaped (record c { width = w })
 width_free c w s = record {
+  exponents = s.exponents;
   low = s.low;
   high = s.high;
   state_gains = s.state_gains;
@@ -197,6 +208,8 @@ sized_again c w s = record {
   grid_bits = s.grid_bits;
   fraction_bits = s.fraction_bits;
   step_exponent = s.step_exponent;
+  exponents = s.exponents;
+  same_exponents = s.same_exponents;
   steps = s.steps;
   clamp_low = s.clamp_low;
   clamp_high = s.clamp_high;
@@ -233,6 +246,9 @@ within_at d f b i v c e small same j l =
 pub assembled : (d : Design) (r s k f : ℕ) (c : Numbers) (v : Inverse) (w : ℕ) → IsFrame d r s k f c → AreGains v c → IsInverseOf (form_of d) f v → IsWidth (greatest_sum c) w →
     IsAssembled d r s k f (record c { width = w })
 assembled d r s k f c v w fr g is wide = record {
+  version = fr.version;
+  step_exponent = fr.step_exponent;
+  exponents = fr.exponents;
   sizes = record {
     states = fr.states;
     inputs = fr.inputs;
@@ -250,7 +266,6 @@ assembled d r s k f c v w fr g is wide = record {
   gains = λ i l. good_at d f c.fraction_bits i v (record c { width = w }) fr.fraction_bits (is.good i l) (gains_same c v states g i);
   within = λ i l. within_at d f c.fraction_bits i v (record c { width = w }) fr.fraction_bits (is.within i l) (gains_same c v states g i);
   clamp = fr.clamp;
-  step_exponent = fr.step_exponent;
   steps = fr.steps;
   fraction_bits = fr.fraction_bits;
   width = wide;
@@ -273,9 +288,9 @@ wide_clamp p r s k f h over =
 -- the frame that code makes
 pub frame_from : (p : DesignParts) (r s k f : ℕ) (c : Numbers) (rs : Rows) → IsDesign p → AreRowsOf (design_of p) f rs →
     c.version ≡ (design_of p).version → c.states ≡ p.states → c.inputs ≡ p.inputs → c.stages ≡ p.stages → c.rows ≡ length rs.g_mat.rows → c.fraction_bits ≡ f → c.grid_bits ≡ p.grid → c.step_exponent ≡ s →
-    c.steps ≡ k → c.clamp ≡ pos (2 * r * 2 ^ (f + s)) → c.words ≡ p.states + length rs.g_mat.rows + 2 * rs.g_mat.cols → c.low ≡ p.lo.items → c.high ≡ p.hi.items →
+    c.steps ≡ k → c.clamp ≡ pos (2 * r * 2 ^ (f + s)) → c.words ≡ p.states + length rs.g_mat.rows + 2 * rs.g_mat.cols → c.exponents ≡ replicate (length rs.g_mat.rows) s → c.low ≡ p.lo.items → c.high ≡ p.hi.items →
     c.plan_rows ≡ rs.g_mat → c.state_rows ≡ rs.e_mat → c.bounds ≡ rs.bound.items → IsFrame (design_of p) r s k f c
-frame_from p r s k f c rs h are version states inputs stages rows_are bits grid exponent steps clamp words low high plan state bound = record {
+frame_from p r s k f c rs h are version states inputs stages rows_are bits grid exponent steps clamp words exponents low high plan state bound = record {
   version = version;
   states = states;
   inputs = inputs;
@@ -287,6 +302,7 @@ frame_from p r s k f c rs h are version states inputs stages rows_are bits grid 
   steps = steps;
   clamp = clamp;
   words = words ∙ count p.states _ _ _ _ are.plan.rows are.plan.cols;
+  exponents = exponents ∙ (λ i. replicate (are.plan.rows i) s);
   low = low ∙ box_line p.states p.lo.items h.lo.long;
   high = high ∙ box_line p.states p.hi.items h.hi.long;
   plan_rows = rw plan are.plan;

@@ -4,10 +4,11 @@
 use Rattle.std.proofs.Common.{◌≡◌, ℕ, ◌+◌, ◌*◌, ◌^◌, ◌≤◌, ℤ, pos, ◌+ℤ◌, ◌*ℤ◌, ◌≤ℤ◌, ◌<ℤ◌, [], ◌∷◌, arith, refl}
 use Rattle.std.proofs.lemmas.Int.{ints}
 use Rattle.std.proofs.lemmas.Nat.{pow-add}
+use Rattle.std.proofs.Math.Pow.{pow_mono}
 use Rattle.integer_algebra.specs.Sums.{square}
 use Rattle.integer_algebra.specs.Division.{ceil_div}
 use Rattle.integer_algebra.proofs.OrderLaws.{le_of_lt_z, le_trans_z, add-le-add_z, le_by, mul_nonneg_z, mul_pos_z, square_nonneg_z}
-use Rattle.integer_algebra.proofs.OrderLaws.{mul-le-mul_left_z, cancel-le_z}
+use Rattle.integer_algebra.proofs.OrderLaws.{mul-le-mul_left_z, mul-le-mul_right_z, cancel-le_z}
 use Rattle.integer_algebra.proofs.DivisionLaws.{le-mul-ceil_div}
 use Rattle.integer_algebra.proofs.Quoting.{by_ring, quotes}
 
@@ -21,11 +22,23 @@ gap_closed unit twice scale n cs rs a r c t e drive move pn ps ht hd hm h =
     cancel-le_z (pos 2 *ℤ (n *ℤ rs)) _ _ (mul_pos_z (pos 2) (n *ℤ rs) (omega (arith, ints)) (mul_pos_z n rs pn ps))
     (le_by (rw (ht, hd, hm) at h) (by_ring (unit ∷ scale ∷ n ∷ cs ∷ rs ∷ a ∷ r ∷ c ∷ t ∷ e ∷ []) (search quotes depth 90 fits 20000) refl))
 
--- a run's bound, whose rows have one exponent: the move is the sum of the squares, times the power of two that the scale takes
-pub one_power : (left before unit power scale cs rs a move squares after : ℤ) → move ≡ power *ℤ squares → scale ≡ unit *ℤ power →
+-- a run's bound, whose rows' powers of two are at most one power, which the scale takes
+pub greatest_power : (left before unit power scale cs rs a move squares after : ℤ) → pos 0 ≤ℤ unit → pos 0 ≤ℤ cs → pos 0 ≤ℤ rs →
+    move ≤ℤ (power *ℤ squares) → scale ≡ unit *ℤ power →
     left ≤ℤ (before +ℤ unit *ℤ cs *ℤ rs *ℤ square a *ℤ move +ℤ after) → left ≤ℤ (before +ℤ scale *ℤ cs *ℤ rs *ℤ square a *ℤ squares +ℤ after)
-one_power left before unit power scale cs rs a move squares after e g h =
-    rw g (le_by (rw e at h) (by_ring (left ∷ before ∷ unit ∷ power ∷ cs ∷ rs ∷ a ∷ squares ∷ after ∷ []) (search quotes depth 60 fits 20000) refl))
+greatest_power left before unit power scale cs rs a move squares after pu pc ps l g h =
+    rw g (le_by (add-le-add_z h (mul-le-mul_left_z (unit *ℤ cs *ℤ rs *ℤ square a) nonneg l))
+    (by_ring (left ∷ before ∷ unit ∷ power ∷ cs ∷ rs ∷ a ∷ move ∷ squares ∷ after ∷ []) (search quotes depth 60 fits 20000) refl))
+  where
+    nonneg : pos 0 ≤ℤ (unit *ℤ cs *ℤ rs *ℤ square a)
+    nonneg = mul_nonneg_z (unit *ℤ cs *ℤ rs) (square a) (mul_nonneg_z (unit *ℤ cs) rs (mul_nonneg_z unit cs pu pc) ps) (square_nonneg_z a)
+
+-- a power of two by an exponent that is not greater, times a square
+pub power_mono : (n k : ℕ) (z : ℤ) → n ≤ k → (pos (2 ^ n) *ℤ square z) ≤ℤ (pos (2 ^ k) *ℤ square z)
+power_mono n k z h = mul-le-mul_right_z (square z) {a = pos (2 ^ n)} {b = pos (2 ^ k)} (square_nonneg_z z) (as_whole (2 ^ n) (2 ^ k) (pow_mono {i = n} {j = k} h))
+  where
+    as_whole : (a b : ℕ) → a ≤ b → pos a ≤ℤ pos b
+    as_whole a b l = omega (arith, ints, l)
 
 -- ---- the violation
 -- A run's bound with the multiplier g = 2 f at the row whose residual v is the greatest, against a repair of the average that costs at most f v

@@ -5,7 +5,7 @@ use Rattle.std.proofs.lemmas.Nat.{pow_pos}
 use Rattle.std.proofs.lemmas.List.Elements.{All-get_or}
 use Rattle.std.proofs.Math.Nat.{one-le-mul}
 use Rattle.integer_algebra.specs.Sums.{at, none, total, dot, square}
-use Rattle.integer_algebra.proofs.SumLaws.{total_scale}
+use Rattle.integer_algebra.proofs.SumLaws.{total_scale, total_mono}
 use Rattle.dual_method.specs.Dual.{InBox}
 use Rattle.integer_algebra.specs.Division.{ceil_div}
 use Rattle.integer_algebra.proofs.OrderLaws.{pos_positive, le_of_lt_z, mul_nonneg_z, mul_pos_z}
@@ -38,7 +38,7 @@ use Rattle.step_error.specs.MachineLaws.{IsRunOf, MachineRunLaw}
 use Rattle.design_engine.specs.Bounds.{margin_of}
 use Rattle.design_engine.specs.Promise.{IsBacked, CertifiedLaw}
 use Rattle.design_engine.proofs.TargetLaws.{some_of}
-use Rattle.design_engine.proofs.PromiseFacts.{one_power, gap_closed, violation_closed, row_within, row_kept, row_over, first_part, second_part}
+use Rattle.design_engine.proofs.PromiseFacts.{greatest_power, power_mono, gap_closed, violation_closed, row_within, row_kept, row_over, first_part, second_part}
 use Rattle.design_engine.proofs.RowChoice.{at_row, dot_single, squares_single, row_in_box, dot_none, squares_none, none_in_box, greatest_row}
 
 -- ---- a design's numbers
@@ -162,6 +162,14 @@ rows_over_positive w = residual_scale_positive (design w) (sound_at w)
 top_nonneg : (w : Point) (r : ℤ) → pos 0 <ℤ r → pos 0 ≤ℤ top w r
 top_nonneg w r h = mul_nonneg_z (pos (2 * bound w)) r (omega (arith, ints)) (le_of_lt_z h)
 
+-- no row's exponent is above the step exponent
+moves_at_most : (w : Point) (v : ℕ → ℤ) →
+    total (count w) (λ i. pos (2 ^ exponent_of w.c i) *ℤ square (v i)) ≤ℤ (pos (2 ^ w.c.step_exponent) *ℤ total (count w) (λ i. square (v i)))
+moves_at_most w v =
+    rw (← (total_scale (count w) (pos (2 ^ w.c.step_exponent)) (λ i. square (v i))))
+    (total_mono (count w) (λ i. pos (2 ^ exponent_of w.c i) *ℤ square (v i)) (λ i. pos (2 ^ w.c.step_exponent) *ℤ square (v i))
+    (λ i l. power_mono (exponent_of w.c i) w.c.step_exponent (v i) (w.backed.made.exponents.bounded i l)))
+
 -- the run's bound, against a feasible plan t over r, with multipliers v
 run_bound : MachineRunLaw → (w : Point) → (r : ℤ) (t v : ℕ → ℤ) → pos 0 <ℤ r → IsFeasible (design w) r (at w.xi) t → InBox (count w) (top w r) v →
     (pos (2 ^ 41) *ℤ pos w.c.steps *ℤ rows_over w *ℤ square r *ℤ costs w (over w) (plan w) +ℤ
@@ -170,9 +178,9 @@ run_bound : MachineRunLaw → (w : Point) → (r : ℤ) (t v : ℕ → ℤ) → 
     pos (2 ^ 40 * 2 ^ w.c.step_exponent) *ℤ costs_over w *ℤ rows_over w *ℤ square (over w) *ℤ total (count w) (λ i. square (v i)) +ℤ
     pos 2 *ℤ pos w.c.steps *ℤ costs_over w *ℤ rows_over w *ℤ square r *ℤ square (over w) *ℤ pos (errors w))
 run_bound run w r t v pr f b =
-    one_power _ _ (pos (2 ^ 40)) (pos (2 ^ w.c.step_exponent)) (pos (2 ^ 40 * 2 ^ w.c.step_exponent)) (costs_over w) (rows_over w) (over w)
+    greatest_power _ _ (pos (2 ^ 40)) (pos (2 ^ w.c.step_exponent)) (pos (2 ^ 40 * 2 ^ w.c.step_exponent)) (costs_over w) (rows_over w) (over w)
     (total (count w) (λ i. pos (2 ^ exponent_of w.c i) *ℤ square (v i))) (total (count w) (λ i. square (v i))) _
-    (total_scale (count w) (pos (2 ^ w.c.step_exponent)) (λ i. square (v i))) refl
+    (omega (arith, ints)) (le_of_lt_z (costs_over_positive w)) (le_of_lt_z (rows_over_positive w)) (moves_at_most w v) refl
     (run w.p w.h (bound w) w.c w.xi (run_of w) w.e (errors w) (w.backed.errors w.xi w.long w.inside) (omega arith) r t v pr f b)
 
 -- ---- the gap

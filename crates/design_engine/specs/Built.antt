@@ -36,6 +36,8 @@ pub record IsBuilt (p : DesignParts) (plans : Plans) (c : Numbers) (b : Printed)
   -- so the form is one that a controller may be made of
   pub narrow : hessian_quantity (design_of p) ≤ 2 ^ 126
   pub controller : IsController c
+  -- the first, so each row has the step exponent
+  pub version : c.version ≡ (design_of p).version
   pub made : IsDerivedFrom (design_of p) (form_of (design_of p)) (printed_multiplier b) c
   pub exponent : IsExponentOf (design_of p) c.step_exponent
   pub steps : c.steps ≡ step_count c.step_exponent (printed_multiplier b) (half_target (targets_of p))

@@ -1,5 +1,5 @@
 -- The quantity `width`: the greatest absolute sum that a controller of a design can have, whichever good solutions its gains are.
-use Rattle.std.specs.Prelude.{ℕ, ◌+◌, ◌*◌, ◌^◌, ℤ, pos, ◌*ℤ◌, List, map}
+use Rattle.std.specs.Prelude.{ℕ, ◌+◌, ◌*◌, ◌^◌, ℤ, pos, ◌*ℤ◌, List, map, replicate}
 use Rattle.std.specs.List.{range_with_len}
 use Rattle.integer_algebra.specs.Division.{round_of}
 use Rattle.mat_int.specs.Matrix.{Matrix}
@@ -21,7 +21,7 @@ table height width f = record { rows = map (λ i. listed width (f i)) (range_wit
 abbrev pub rounded : Design → ℕ → ℤ → ℤ
 rounded d f z = round_of (pos (2 ^ f) *ℤ z) (form_of d).rows_scale
 
--- the numbers of a controller with R, the step exponent s, k steps and f bits, whose gains are each the bound of its column
+-- the numbers of a controller with R, the step exponent s of all rows, k steps and f bits, whose gains are each the bound of its column
 abbrev pub widest : Design → (r s k f : ℕ) → Numbers
 widest d r s k f =
     record {
@@ -37,6 +37,7 @@ widest d r s k f =
       steps = k;
       clamp = pos (2 * r * 2 ^ (f + s));
       words = d.states + rows d + 2 * entries d;
+      exponents = replicate (rows d) s;
       low = listed d.states d.low;
       high = listed d.states d.high;
       state_gains = table (entries d) d.states (λ j i. pos (column_bound (form_of d) f i));

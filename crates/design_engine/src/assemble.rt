@@ -22,7 +22,7 @@ use approx_inverse::Inverse;
 use frac_scaled::shift_left;
 use overflow_check::{Controller, greatest_sum, width};
 use plant_condense::Condensed;
-use qp_model::{ControllerParts, Design, DesignParts, Quantity};
+use qp_model::{ControllerParts, Design, DesignParts, Quantity, VERSION};
 use std::alloc::{AllocError, Global};
 
 // The sum is too wide.
@@ -30,7 +30,7 @@ const WIDE: WidthFault = WidthFault::TooWide {
     quantity: Quantity::Width,
 };
 
-// The chosen numbers: fraction bits, step exponent, steps and the greatest multiplier.
+// The chosen numbers: fraction bits, the step exponent of all rows, steps and the greatest multiplier.
 #[derive(Clone, Copy)]
 struct Chosen {
     f: u32,
@@ -67,7 +67,9 @@ fn parts_with(
     ensures gains { IfOk result (λ c. AreGains gains (numbers c)) }
 {
     let (m, nu) = (rows.g_mat.rows(), rows.g_mat.cols());
+    let exps = vec![in alloc; chosen.s; m]?;
     Ok(ControllerParts {
+        version: VERSION,
         n: parts.states,
         p: parts.inputs,
         stages: parts.stages,
@@ -79,6 +81,7 @@ fn parts_with(
         steps: chosen.steps,
         clamp: chosen.clamp,
         words: parts.states + m + 2 * nu,
+        exps,
         lo: parts.lo.clone()?,
         hi: parts.hi.clone()?,
         p_mat: gains.p_mat,
@@ -119,8 +122,8 @@ fn with_width(parts: ControllerParts) -> Controller
     }
 }
 
-/// The controller of a design with these gains, at f bits, the step exponent s, R and so many steps: its width is the least that its absolute
-/// sums let pass. `TooWide` exactly where these sums could be above `2^126` with gains as large as those of any good solutions.
+/// The controller of a design with these gains, at f bits, the step exponent s for all rows, R and so many steps: its width is the least that its
+/// absolute sums let pass. `TooWide` exactly where these sums could be above `2^126` with gains as large as those of any good solutions.
 pub fn controller_of(
     alloc: Global,
     design: &Design,
