@@ -54,6 +54,11 @@ returns-in-Some-Solve-clause-read_fault g c =
     let is : IsSolve c.args.words.now = rw c.in-Some-Solve.field-0-is at c.in-Some-Solve.ensures in
     solve_read c.args.words.now (g.S.Store.held c.args.store.now) c.solve.result (λ file. Rose (g.S.Store.read_faults c.args.store.now (word_of c.args.words.now file)) (g.S.Store.read_faults c.solve.new.store (word_of c.args.words.now file))) is c.solve.ensures.read_fault
 
+pub returns-in-Some-Solve-clause-write_fault : goal.returns-in-Some-Solve-clause-write_fault
+returns-in-Some-Solve-clause-write_fault g c =
+    let is : IsSolve c.args.words.now = rw c.in-Some-Solve.field-0-is at c.in-Some-Solve.ensures in
+    solve_written c.args.words.now (g.S.Store.held c.args.store.now) c.solve.result (g.S.Store.write_faults c.args.store.now) (g.S.Store.write_faults c.solve.new.store) (g.O.Sink.faults c.args.out.now) (g.O.Sink.faults c.solve.new.out) is c.solve.ensures.write_fault
+
 -- ---- `loop`
 pub returns-in-Some-Loop-clause-called : goal.returns-in-Some-Loop-clause-called
 returns-in-Some-Loop-clause-called g c =
