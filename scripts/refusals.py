@@ -333,14 +333,16 @@ def too_wide(call, name):
 
 
 def controller_lines(text):
-    """What should stand in each line, as far as the second line tells the sizes."""
+    """What should stand in each line, as far as the first two lines tell the version and the sizes."""
+    second = text.startswith("mpc-controller 2\n")
     head = [
-        "`mpc-controller 1`",
+        "`mpc-controller 2`" if second else "`mpc-controller 1`",
         "`size` and n, p, N, m",
         "`bits` and f, g, s, w",
         "`steps` and K",
         "`clamp` and the greatest multiplier",
         "`words` and n + m + 2 p N",
+        *["`exps` and a number from 0 to s for each row"] * second,
         "`lo` and a number for each state",
         "`hi` and a number for each state, at least its `lo`",
     ]
@@ -348,14 +350,14 @@ def controller_lines(text):
         n, p, stages, rows = (int(word) for word in text.splitlines()[1].split(" ")[1:])
     except (ValueError, IndexError):
         return head
-    entries = min(p * stages, 60)
+    entries, rows_shown = min(p * stages, 90), min(rows, 372)
     return (
         head
         + [f"`P` and {n} numbers"] * entries
         + [f"`T` and {entries} numbers"]
         + [f"`W` and {rows} numbers"] * entries
-        + [f"`G` and {entries} numbers"] * min(rows, 252)
-        + [f"`E` and {n} numbers"] * min(rows, 252)
+        + [f"`G` and {entries} numbers"] * rows_shown
+        + [f"`E` and {n} numbers"] * rows_shown
         + [f"`b` and {rows} numbers", "`end`", "absent: nothing follows `end`"]
     )
 
@@ -383,7 +385,7 @@ def outside_box(call, entry, turn, coordinate):
     records, fault, step = call.records("states"), "", "1/2^grid"
     try:
         value = int(records[entry - 1].split(",")[coordinate - 1])
-        lines = {line.split(" ")[0]: line.split(" ")[1:] for line in read_text(call.path("controller")).splitlines()[:8]}
+        lines = {line.split(" ")[0]: line.split(" ")[1:] for line in read_text(call.path("controller")).splitlines()[:9]}
         fault = f" ({value}, and the box is {lines['lo'][coordinate - 1]} to {lines['hi'][coordinate - 1]})"
         step = f"1/{2 ** int(lines['bits'][1])}"
     except (IndexError, ValueError, KeyError, OSError, TypeError):

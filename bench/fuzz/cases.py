@@ -294,7 +294,7 @@ def design_and_policy(pick, base):
 
 
 def small_controllers(base):
-    """Controllers of designs whose targets are so coarse that a run has few steps."""
+    """Controllers of designs whose targets are so coarse that a run has few steps, each as it is made and with an exponent for each row."""
     for design, policy in [*base, *(program.make(number, stages)[:2] for number, stages in ((1, 1), (7, 2), (9, 1)))]:
         coarse = re.sub(rb"violation = [0-9]+\ngap = [0-9]+", b"violation = 2147483647\ngap = 2147483647", re.sub(rb"(targets\]\nden = )[0-9]+", rb"\g<1>1", design))
         for text in (design, coarse):
@@ -304,13 +304,17 @@ def small_controllers(base):
             except model.Refused:
                 continue
             if choice.report["steps"] <= 64:
-                yield text, control.text_of(program.generate(d, model.read_policy(policy, d), model.exact_gains)[0])
+                c = program.generate(d, model.read_policy(policy, d), model.exact_gains)[0]
+                yield text, control.text_of(c)
+                c.version, c.exps = 2, [max(0, c.s - i % 5) for i in range(c.m)]
+                yield text, control.text_of(c)
                 break
 
 
 def random_controller(pick):
     """A controller in form whose width is near the least one. Some have sums near 2^126, some entries of any size that are only ever multiplied by 0."""
-    n, p, stages, m = pick.choice([1, 1, 2, 3, 4]), pick.choice([1, 1, 2, 3]), pick.choice([1, 1, 2, 3]), pick.choice([1, 1, 2, 3, 5, 8])
+    version = pick.choice([1, 2])
+    n, p, stages, m = pick.choice([1, 1, 2, 3, 4 if version == 1 else 6]), pick.choice([1, 1, 2, 3]), pick.choice([1, 1, 2, 3]), pick.choice([1, 1, 2, 3, 5, 8])
     g = pick.choice([0, 0, 2, 4, 24])
     f, s, nu = pick.choice([g, pick.randrange(g, 49), min(48, g + 6), 48]), pick.choice([0, 0, 1, 2, 7, 40]), p * stages
     room = pick.choice([3, 8, 16, 31, 40, 60, 80])
@@ -321,7 +325,7 @@ def random_controller(pick):
     hi = [pick.choice([side, max(low, 0), pick.randrange(low, side + 1)]) for low in lo]
     clamp = pick.choice([0, 1, 1 << f, pick.randrange(1 << room), 1 << min(126, f + s + 5)])
     c = control.Controller(n, p, stages, m, f, g, s, 128, pick.choice([1, 1, 2, 3, 5, 9]), clamp, lo, hi, matrix(nu, n), [number() for _ in range(nu)], matrix(nu, m),
-                           matrix(m, nu), matrix(m, n), [number() for _ in range(m)])
+                           matrix(m, nu), matrix(m, n), [number() for _ in range(m)], version, [pick.choice([s, 0, pick.randrange(s + 1)]) for _ in range(m)] if version == 2 else None)
     any_number = lambda: pick.choice([-(2**127), 2**127 - 1, pick.randrange(-(2**127), 2**127)])
     kind = pick.choice(["plain", "plain", "near", "near", "idle"])
     if kind == "idle":

@@ -31,6 +31,13 @@ class Controller:
     g_mat: list
     e_mat: list
     bound: list
+    version: int = 1
+    # the step exponent of each row; without a list each is s, and version 1 has no other
+    exps: list = None
+
+    def __post_init__(self):
+        if self.exps is None:
+            self.exps = [self.s] * self.m
 
     @property
     def nu(self):
@@ -46,12 +53,14 @@ class Controller:
 
 def lines_of(c):
     """The text's lines: a name and numbers each."""
-    yield "mpc-controller", [1]
+    yield "mpc-controller", [c.version]
     yield "size", [c.n, c.p, c.stages, c.m]
     yield "bits", [c.f, c.g, c.s, c.w]
     yield "steps", [c.steps]
     yield "clamp", [c.clamp]
     yield "words", [c.words]
+    if c.version > 1:
+        yield "exps", c.exps
     yield "lo", c.lo
     yield "hi", c.hi
     yield from (("P", row) for row in c.p_mat)
@@ -101,18 +110,20 @@ def read_controller(data):
     """The controller, or the status 11 with the first line that no controller text has there, or unsafe."""
     text = Reader(data)
     within = lambda *ranges: lambda numbers: all(low <= v <= high for v, (low, high) in zip(numbers, ranges))
-    text.take(b"mpc-controller", 1, within((1, 1)))
-    n, p, stages, m = text.take(b"size", 4, within((1, 4), (1, 3), (1, 20), (1, 252)))
+    (version,) = text.take(b"mpc-controller", 1, within((1, 2)))
+    most_states, most_stages, most_rows = (4, 20, 252) if version == 1 else (6, 30, 372)
+    n, p, stages, m = text.take(b"size", 4, within((1, most_states), (1, 3), (1, most_stages), (1, most_rows)))
     f, g, s, w = text.take(b"bits", 4, lambda v: within((v[1], 48), (0, 24), (0, 40), (2, 128))(v))
     (steps,) = text.take(b"steps", 1, within((1, 2**22)))
     (clamp,) = text.take(b"clamp", 1, within((0, LIMIT)))
     nu = p * stages
     text.take(b"words", 1, within((n + m + 2 * nu, n + m + 2 * nu)))
+    exps = text.take(b"exps", m, within(*[(0, s)] * m)) if version > 1 else None
     side = (-(2**31) + 1, 2**31 - 1)
     lo = text.take(b"lo", n, within(*[side] * n))
     hi = text.take(b"hi", n, within(*[(low, 2**31 - 1) for low in lo]))
     c = Controller(n, p, stages, m, f, g, s, w, steps, clamp, lo, hi, text.rows(b"P", nu, n), text.take(b"T", nu), text.rows(b"W", nu, m),
-                   text.rows(b"G", m, nu), text.rows(b"E", m, n), text.take(b"b", m))
+                   text.rows(b"G", m, nu), text.rows(b"E", m, n), text.take(b"b", m), version, exps)
     text.end()
     greatest = greatest_sum(c)
     if greatest > LIMIT or greatest > 2 ** (w - 1) - 1:
@@ -160,18 +171,21 @@ def run(c, state):
     # what the state alone decides stands still over the steps
     pull = [(sum(map(mul, row, x)) + t * 2**c.f) << c.s for row, t in zip(c.p_mat, c.t)]
     rest = [sum(map(mul, row, x)) - (b << c.f) for row, b in zip(c.e_mat, c.bound)]
-    shift, f, clamp = c.f + c.s, c.f, c.clamp
+    shift, f = c.f + c.s, c.f
+    powers = [2 ** (c.s - exponent) for exponent in c.exps]
+    tops = [c.clamp // power for power in powers]
     multipliers, sums = [0] * c.m, [0] * c.nu
     for _ in range(c.steps):
-        plan = [-((fixed + sum(map(mul, row, multipliers))) >> shift) for fixed, row in zip(pull, c.w_mat)]
-        multipliers = [min(clamp, max(0, old + ((fixed + sum(map(mul, row, plan))) >> f))) for old, fixed, row in zip(multipliers, rest, c.g_mat)]
+        raised = list(map(mul, powers, multipliers))
+        plan = [-((fixed + sum(map(mul, row, raised))) >> shift) for fixed, row in zip(pull, c.w_mat)]
+        multipliers = [min(top, max(0, old + ((fixed + sum(map(mul, row, plan))) >> f))) for top, old, fixed, row in zip(tops, multipliers, rest, c.g_mat)]
         sums = [old + new for old, new in zip(sums, plan)]
     return sums
 
 
 def traced(c, state):
-    """The sums of all plans, and the least and the greatest value that the run meets: every product, every partial sum in the written order, every value before
-    and after a floor, and the sums."""
+    """The sums of all plans, and the least and the greatest value that the run meets: every product, every partial sum in the written order, every raised
+    multiplier, every value before and after a floor, and the sums."""
     met = [0, 0]
 
     def meet(v):
@@ -188,21 +202,23 @@ def traced(c, state):
         return start
 
     x = [meet(v * 2 ** (c.f - c.g)) for v in state]
+    tops = [meet(meet(c.clamp) // 2 ** (c.s - exponent)) for exponent in c.exps]
     multipliers, sums = [0] * c.m, [0] * c.nu
     for _ in range(c.steps):
         plan = []
+        raised = [meet(2 ** (c.s - exponent) * v) for exponent, v in zip(c.exps, multipliers)]
         for j in range(c.nu):
             pull = meet(total(0, c.p_mat[j], x) + meet(c.t[j] * 2**c.f))
-            whole = total(meet(2**c.s * pull), c.w_mat[j], multipliers)
+            whole = total(meet(2**c.s * pull), c.w_mat[j], raised)
             # the part of the multipliers by itself, too
-            total(0, c.w_mat[j], multipliers)
+            total(0, c.w_mat[j], raised)
             plan.append(meet(-meet(whole // 2 ** (c.f + c.s))))
         new = []
         for i in range(c.m):
             residual = total(total(0, c.g_mat[i], plan), c.e_mat[i], x)
             total(0, c.e_mat[i], x)
             residual = meet(residual - meet(2**c.f * c.bound[i]))
-            new.append(min(c.clamp, max(0, meet(multipliers[i] + meet(residual // 2**c.f)))))
+            new.append(min(tops[i], max(0, meet(multipliers[i] + meet(residual // 2**c.f)))))
         multipliers = [meet(v) for v in new]
         sums = [meet(old + v) for old, v in zip(sums, plan)]
     return sums, met[0], met[1]

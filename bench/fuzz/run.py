@@ -135,7 +135,8 @@ class Maker:
             words[pick.randrange(len(words))] = pick.choice(["", "Solve", "generate", "stay", "c", "d", "01", "4294967296", "-1", "1000001", "99999999999999999999999"])
         elif words:
             words[-1] = pick.choice(["01", "-0", "4294967296", "4294967295 ", "x", "", "1000001", "d", "p", "c"])
-        if words[:1] == ["demo"] and words[1:] in (["1"],):
+        # (a demo that is none of a wrong usage has the program's gains, as the kind `demo` has)
+        if words[:1] == ["demo"] and words[1:] in (["1"], ["1000001"]):
             words = ["demo", "1", "1"]
         return Case("usage", words, {"d": design, "p": policy, "c": text, "s": b"0\n"})
 

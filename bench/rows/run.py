@@ -223,6 +223,28 @@ def rows():
         "mpc-report 1", "margin 16384 65536", "cost 63", "multiplier 252", "step 1", "steps 8064", "bits 31", "words 78", "end"]})
 
 
+def version_rows():
+    """Controllers with an exponent for each row; the sums are an independent model's."""
+    second = lambda exponents, *changes: sub(FIRST, ("mpc-controller 1", "mpc-controller 2"), ("words 6\n", f"words 6\nexps {exponents}\n"), *changes)
+    for exponents, out in (("1 1 1", "4096 -2224\n"), ("0 1 1", "4096 -2224\n"), ("1 0 1", "4096 -2224\n"), ("1 1 0", "4096 -2372\n"), ("0 0 0", "4096 -2372\n")):
+        yield f"version 2: exponents {exponents}", put(SOLVE, {"c": second(exponents), "s": "1"}, out)
+    yield "version 2: a clamp that a row's power doesn't divide", put(SOLVE, {"c": second("1 1 0", ("clamp 32768", "clamp 255")), "s": "1"}, "4096 -2141\n")
+    for exponents in ("0 1 2", "0 1", "0 1 1 1", "0 1 -1", "0 1 01", ""):
+        yield f"version 2: exponents {exponents!r}", refused(SOLVE, {"c": second(exponents), "s": "1"}, 11, "controller 1 line 7")
+    yield "version 2: none", refused(SOLVE, {"c": sub(FIRST, ("mpc-controller 1", "mpc-controller 2")), "s": "1"}, 11, "controller 1 line 7")
+    yield "version 1: exponents", refused(SOLVE, {"c": sub(FIRST, ("words 6\n", "words 6\nexps 1 1 1\n")), "s": "1"}, 11, "controller 1 line 7")
+    yield "version 2: exponents after the box", refused(SOLVE, {"c": sub(FIRST, ("mpc-controller 1", "mpc-controller 2"), ("hi 1\n", "hi 1\nexps 1 1 1\n")), "s": "1"}, 11, "controller 1 line 7")
+    yield "version 3", refused(SOLVE, {"c": sub(FIRST, ("mpc-controller 1", "mpc-controller 3")), "s": "1"}, 11, "controller 1 line 1")
+    yield "version 2: a width that its sums pass", refused(SOLVE, {"c": second("1 1 0", ("bits 10 0 1 26", "bits 10 0 1 25")), "s": "1"}, 11, "controller 1 unsafe")
+    for version, size, line in ((1, "5 1 1 3", 2), (1, "1 1 21 3", 2), (1, "1 1 1 253", 2), (2, "6 1 1 3", 6), (2, "1 1 30 3", 6), (2, "1 1 1 372", 6), (2, "7 1 1 3", 2), (2, "1 1 31 3", 2),
+                                (2, "1 1 1 373", 2)):
+        text = sub(FIRST, ("mpc-controller 1", f"mpc-controller {version}"), ("size 1 1 1 3", f"size {size}"))
+        yield f"version {version}: size {size}", refused(SOLVE, {"c": text, "s": "1"}, 11, f"controller 1 line {line}")
+    six = "mpc-controller 2\nsize 6 1 1 1\nbits 0 0 1 16\nsteps 2\nclamp 9\nwords 9\nexps 0\nlo 0 0 0 0 0 0\nhi 1 2 3 4 5 6\nP 1 2 3 4 5 6\nT 0\nW -1\nG -1\nE 1 1 1 1 1 1\nb 1\nend\n"
+    yield "version 2: six states", put(SOLVE, {"c": six, "s": "1,2,3,4,5,6\n0,0,0,0,0,1\n"}, "2 -178\n2 -8\n")
+    yield "version 2: a loop", put(["loop", "d", "c", "s", "2"], {"d": BASE, "c": second("1 1 0"), "s": "1"}, "1 1 1 4096 -2372\n1 2 0 4096 0\n")
+
+
 def fine_rows():
     """Rows of fine designs, as those above."""
     coast = lambda stages, corners=2: ("1" + ",0" * stages + "\n") * corners
@@ -361,7 +383,7 @@ def wrong(words, files, status, out, line, whole, lines):
 
 def main():
     failed = count = 0
-    for name, row in [*rows(), *fine_rows(), *corner_rows()]:
+    for name, row in [*rows(), *fine_rows(), *corner_rows(), *version_rows()]:
         count += 1
         found = wrong(*row)
         if found:
