@@ -8,7 +8,7 @@ use Rattle.std.proofs.lemmas.List.Elements.{recursion_from_All}
 use Rattle.mat_int.specs.Matrix.{Matrix}
 use Rattle.qp_model.specs.Range.{LiesIn}
 use Rattle.qp_model.specs.Controller.{Numbers, HasShape, IsInForm}
-use Rattle.controller_file.specs.Lines.{keyed_line, row_lines, line_in, exponent_lines, line_blocks, small}
+use Rattle.controller_file.specs.Lines.{keyed_line, row_lines, line_in, keyed_exponents, line_blocks, small}
 use Rattle.controller_file.specs.Reading.{numbers_in}
 use Rattle.controller_file.proofs.Texts.{small_form}
 
@@ -65,7 +65,7 @@ numbers_again c form =
     rw (exponents, state_gains, dual_gains, plan_rows, state_rows, version, states, inputs, stages, rows, fraction_bits, grid_bits, step_exponent, width, steps, words) refl
 
 -- the exponents that stand there
-pub exponents_second : (c : Numbers) → IsInForm c → c.version ≢ 1 → map small (line_in (exponent_lines c) 0) ≡ c.exponents
+pub exponents_second : (c : Numbers) → IsInForm c → c.version ≢ 1 → map small (line_in (keyed_exponents c) 0) ≡ c.exponents
 exponents_second c form second =
     let line = keyed_line (codes "exps") (map pos c.exponents) in
     let below : AllByRecursion (λ e. e < 2 ^ 32) c.exponents = recursion_from_All (λ e. e < 2 ^ 32) c.exponents (λ j d lt. omega (arith, form.sized.exponents j d lt, form.sized.step_exponent)) in

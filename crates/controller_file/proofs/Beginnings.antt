@@ -3,7 +3,7 @@ use Rattle.std.proofs.Common.{◌≡◌, ℕ, ◌<◌, List, [], ◌∷◌, ◌+
 use Rattle.std.specs.Prelude.{All}
 use Rattle.std.proofs.lemmas.List.{get_or_at, get_or_append_left, length-append, take_at, drop_at, take-append-drop}
 use Rattle.qp_model.specs.Controller.{Numbers, IsInForm, FitsWord}
-use Rattle.controller_file.specs.Lines.{Keyed, none, IsKeyedLine, keyed_lines}
+use Rattle.controller_file.specs.Lines.{Keyed, no_line, IsKeyedLine, keyed_lines}
 use Rattle.controller_file.specs.Following.{IsBeginning}
 use Rattle.controller_file.proofs.Texts.{good_lines}
 
@@ -26,11 +26,11 @@ begins k c form word = record { numbers = c; form = form; word = word; more = dr
 pub front_is : (ls : List Keyed) (b : IsBeginning ls) (k : ℕ) → length ls ≡ k → take k (keyed_lines b.numbers) ≡ ls
 front_is ls b k len = ap (take k) b.lines ∙ take_at ls b.more k len
 
-pub line_is : (ls : List Keyed) (b : IsBeginning ls) (k : ℕ) → k < length ls → get_or (keyed_lines b.numbers) k none ≡ get_or ls k none
-line_is ls b k lt = ap (λ (ms : List Keyed). get_or ms k none) b.lines ∙ get_or_append_left ls b.more none k lt
+pub line_is : (ls : List Keyed) (b : IsBeginning ls) (k : ℕ) → k < length ls → get_or (keyed_lines b.numbers) k no_line ≡ get_or ls k no_line
+line_is ls b k lt = ap (λ (ms : List Keyed). get_or ms k no_line) b.lines ∙ get_or_append_left ls b.more no_line k lt
 
-pub last_is : (ls : List Keyed) (l : Keyed) (b : IsBeginning (ls ++ l ∷ [])) (k : ℕ) → length ls ≡ k → get_or (keyed_lines b.numbers) k none ≡ l
-last_is ls l b k len = ap (λ (ms : List Keyed). get_or ms k none) (b.lines ∙ append_assoc ls (l ∷ []) b.more) ∙ get_or_at ls l b.more none k len
+pub last_is : (ls : List Keyed) (l : Keyed) (b : IsBeginning (ls ++ l ∷ [])) (k : ℕ) → length ls ≡ k → get_or (keyed_lines b.numbers) k no_line ≡ l
+last_is ls l b k len = ap (λ (ms : List Keyed). get_or ms k no_line) (b.lines ∙ append_assoc ls (l ∷ []) b.more) ∙ get_or_at ls l b.more no_line k len
 
 -- lines of the text that are as many, and those after them
 pub parted : (ls : List Keyed) (b : IsBeginning ls) (front rest : List Keyed) → keyed_lines b.numbers ≡ front ++ rest → length ls ≡ length front → (front ≡ ls) × (rest ≡ b.more)
@@ -40,7 +40,7 @@ parted ls b front rest e len =
 
 -- the line after them, where they go on
 pub next_is : (ls : List Keyed) (l : Keyed) (b : IsBeginning (ls ++ l ∷ [])) (front : List Keyed) (a : Keyed) (rest : List Keyed) → keyed_lines b.numbers ≡ front ++ (a ∷ rest) → length ls ≡ length front → a ≡ l
-next_is ls l b front a rest e len = ap (λ (ms : List Keyed). get_or ms 0 none) (parted ls (fewer ls (l ∷ []) b) front (a ∷ rest) e len).1
+next_is ls l b front a rest e len = ap (λ (ms : List Keyed). get_or ms 0 no_line) (parted ls (fewer ls (l ∷ []) b) front (a ∷ rest) e len).1
 
 -- each of them can be read
 pub lines_good : (ls : List Keyed) → IsBeginning ls → All IsKeyedLine ls

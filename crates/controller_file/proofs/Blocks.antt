@@ -12,7 +12,7 @@ use Rattle.qp_model.proofs.VersionLaws.{states_le, stages_le, limits_le}
 use Rattle.controller_file.specs.declared.table.Sizes.{Sizes}
 use Rattle.controller_file.specs.declared.line.Line.{Line}
 use Rattle.controller_file.specs.Lines.{Keyed, keyed_line, view, views, line_in, row_lines, line_blocks, keyed_lines, chained, Place, place, place_of}
-use Rattle.controller_file.specs.Table.{Block, block_places, table, spread, places, sizes_of, AreSmall, Says, block_at, total_rows}
+use Rattle.controller_file.specs.Table.{Block, block_places, text_table, spread, places, sizes_of, AreSmall, Says, block_at, total_rows}
 use Rattle.controller_file.proofs.Chained.{map_chained}
 
 -- ---- a line in its place
@@ -41,7 +41,7 @@ exponents_placed (suc zero) m exps h len = refl
 exponents_placed (suc (suc zero)) m exps h len = ap (λ (n : ℕ). place (codes "exps") n ∷ []) (length-map exps pos ∙ len)
 exponents_placed (suc (suc (suc n))) m exps h len = absurd (omega (arith, h.1))
 
-pub blocks_placed : (c : Numbers) → IsInForm c → map (map place_of) (line_blocks c) ≡ map block_places (table (sizes_of c))
+pub blocks_placed : (c : Numbers) → IsInForm c → map (map place_of) (line_blocks c) ≡ map block_places (text_table (sizes_of c))
 blocks_placed c form =
     let h = form.sized.shaped in
     let nu = c.inputs * c.stages in
@@ -66,8 +66,8 @@ lengths_from (b ∷ bs) (t ∷ ts) e =
     let others = lengths_from bs ts (ap (drop 1) e) in
     (λ i. first i ∷ others i)
 
-pub block_lengths : (c : Numbers) → IsInForm c → map length (line_blocks c) ≡ map (λ t. t.1) (table (sizes_of c))
-block_lengths c form = lengths_from (line_blocks c) (table (sizes_of c)) (blocks_placed c form)
+pub block_lengths : (c : Numbers) → IsInForm c → map length (line_blocks c) ≡ map (λ t. t.1) (text_table (sizes_of c))
+block_lengths c form = lengths_from (line_blocks c) (text_table (sizes_of c)) (blocks_placed c form)
 
 spread_length : (ts : List Block) → length (spread ts) ≡ total_rows ts
 spread_length [] = refl
@@ -76,10 +76,10 @@ spread_length (t ∷ ts) = length-append (block_places t) (spread ts) ∙ (λ i.
 pub sizes_small : (c : Numbers) → IsInForm c → AreSmall (sizes_of c)
 sizes_small c form = record { version = form.sized.version.1; n = states_le c form.sized; p = form.sized.inputs.1; stages = stages_le c form.sized; m = limits_le c form.sized }
 
-pub line_count : (c : Numbers) → IsInForm c → length (keyed_lines c) ≡ total_rows (table (sizes_of c))
-line_count c form = sym (length-map (keyed_lines c) place_of) ∙ ap length (lines_placed c form) ∙ spread_length (table (sizes_of c))
+pub line_count : (c : Numbers) → IsInForm c → length (keyed_lines c) ≡ total_rows (text_table (sizes_of c))
+line_count c form = sym (length-map (keyed_lines c) place_of) ∙ ap length (lines_placed c form) ∙ spread_length (text_table (sizes_of c))
 
-pub few_rows : (z : Sizes) → AreSmall z → total_rows (table z) ≤ 936
+pub few_rows : (z : Sizes) → AreSmall z → total_rows (text_table z) ≤ 936
 few_rows z small = omega (arith, mul-le-mul small.p small.stages, small.m, small.version)
 
 pub few_lines : (c : Numbers) → IsInForm c → length (keyed_lines c) ≤ 936
@@ -108,15 +108,15 @@ block_is (b ∷ bs) (t ∷ ts) (suc k) d e lt =
     ap (take (get_or ts k d).1) rest ∙ block_is bs ts k d (ap (drop 1) e) (omega (arith, lt))
 
 -- the lines in the place of a block are those of the block
-pub block_there : (c : Numbers) (z : Sizes) (k : ℕ) (d : Block) → IsInForm c → sizes_of c ≡ z → k < 16 → take (get_or (table z) k d).1 (drop (total_rows (take k (table z))) (keyed_lines c)) ≡ get_or (line_blocks c) k []
-block_there c z k d form e lt = block_is (line_blocks c) (table z) k d (block_lengths c form ∙ ap (λ (y : Sizes). map (λ t. t.1) (table y)) e) lt
+pub block_there : (c : Numbers) (z : Sizes) (k : ℕ) (d : Block) → IsInForm c → sizes_of c ≡ z → k < 16 → take (get_or (text_table z) k d).1 (drop (total_rows (take k (text_table z))) (keyed_lines c)) ≡ get_or (line_blocks c) k []
+block_there c z k d form e lt = block_is (line_blocks c) (text_table z) k d (block_lengths c form ∙ ap (λ (y : Sizes). map (λ t. t.1) (text_table y)) e) lt
 
 -- each has as many numbers as the table says
-pub block_breadth : (c : Numbers) (z : Sizes) (k : ℕ) (d : Block) → IsInForm c → sizes_of c ≡ z → k < 16 → All (λ l. length l.numbers ≡ (get_or (table z) k d).2) (get_or (line_blocks c) k [])
-block_breadth c z k d form e lt = breadth (get_or (line_blocks c) k []) (get_or (table z) k d) (
+pub block_breadth : (c : Numbers) (z : Sizes) (k : ℕ) (d : Block) → IsInForm c → sizes_of c ≡ z → k < 16 → All (λ l. length l.numbers ≡ (get_or (text_table z) k d).2) (get_or (line_blocks c) k [])
+block_breadth c z k d form e lt = breadth (get_or (line_blocks c) k []) (get_or (text_table z) k d) (
     sym (get_or-map (map place_of) (line_blocks c) k [] [] (omega (arith, lt)))
-    ∙ ap (λ (ps : List (List Place)). get_or ps k []) (blocks_placed c form ∙ ap (λ (y : Sizes). map block_places (table y)) e)
-    ∙ get_or-map block_places (table z) k d [] lt)
+    ∙ ap (λ (ps : List (List Place)). get_or ps k []) (blocks_placed c form ∙ ap (λ (y : Sizes). map block_places (text_table y)) e)
+    ∙ get_or-map block_places (text_table z) k d [] lt)
   where
     breadth : (ls : List Keyed) (t : Block) → map place_of ls ≡ block_places t → All (λ l. length l.numbers ≡ t.2) ls
     breadth ls t e i o l =
@@ -152,7 +152,7 @@ seen bs = map (λ b. (b.0.now, b.1, b.2)) bs
 abbrev pub no_row : Row
 no_row = (record { ref_ptr = (0, 0); now = [] }, 0, 0)
 
-pub row_at : (rs : List Row) (z : Sizes) (k : ℕ) → seen rs ≡ table z → k < 16 → ((get_or rs k no_row).0.now ≡ (block_at z k).0) × ((get_or rs k no_row).1 ≡ (block_at z k).1) × ((get_or rs k no_row).2 ≡ (block_at z k).2)
+pub row_at : (rs : List Row) (z : Sizes) (k : ℕ) → seen rs ≡ text_table z → k < 16 → ((get_or rs k no_row).0.now ≡ (block_at z k).0) × ((get_or rs k no_row).1 ≡ (block_at z k).1) × ((get_or rs k no_row).2 ≡ (block_at z k).2)
 row_at rs z k e lt =
     let long : length rs ≡ 16 = sym (length-map rs (λ (b : Row). (b.0.now, b.1, b.2))) ∙ ap length e in
     let raw : Block = ((get_or rs k no_row).0.now, (get_or rs k no_row).1, (get_or rs k no_row).2) in
@@ -160,14 +160,14 @@ row_at rs z k e lt =
     (ap (λ (t : Block). t.0) same, ap (λ (t : Block). t.1) same, ap (λ (t : Block). t.2) same)
 
 -- a part of lines
-pub part_is : (lines : List Line) (c : Numbers) (z : Sizes) (k s n m : ℕ) → IsInForm c → keyed_lines c ≡ views lines → sizes_of c ≡ z → k < 16 → s ≡ total_rows (take k (table z)) → n ≡ (block_at z k).1 → m ≡ s + n
+pub part_is : (lines : List Line) (c : Numbers) (z : Sizes) (k s n m : ℕ) → IsInForm c → keyed_lines c ≡ views lines → sizes_of c ≡ z → k < 16 → s ≡ total_rows (take k (text_table z)) → n ≡ (block_at z k).1 → m ≡ s + n
     → views (take (m - s) (drop s lines)) ≡ get_or (line_blocks c) k []
 part_is lines c z k s n m form e same lt start rows end =
     let count : m - s ≡ (block_at z k).1 = omega (arith, rows, end) in
     sym (take-map view (m - s) (drop s lines)) ∙ ap (take (m - s)) (sym (drop-map view s lines) ∙ ap (drop s) (sym e)) ∙ (λ i. take (count i) (drop (start i) (keyed_lines c))) ∙ block_there c z k ([], 0, 0) form same lt
 
-pub part_within : (lines : List Line) (c : Numbers) (z : Sizes) (k : ℕ) → IsInForm c → keyed_lines c ≡ views lines → sizes_of c ≡ z → k < 16 → total_rows (take k (table z)) + (block_at z k).1 ≤ length lines
-part_within lines c z k form e same lt = omega (arith, rows_more (table z) k ([], 0, 0) lt, rows_up_to (table z) (suc k), line_count c form, ap (λ (y : Sizes). total_rows (table y)) same, ap length e, length-map lines view)
+pub part_within : (lines : List Line) (c : Numbers) (z : Sizes) (k : ℕ) → IsInForm c → keyed_lines c ≡ views lines → sizes_of c ≡ z → k < 16 → total_rows (take k (text_table z)) + (block_at z k).1 ≤ length lines
+part_within lines c z k form e same lt = omega (arith, rows_more (text_table z) k ([], 0, 0) lt, rows_up_to (text_table z) (suc k), line_count c form, ap (λ (y : Sizes). total_rows (text_table y)) same, ap length e, length-map lines view)
 
 -- ---- what a call answers
 

@@ -9,7 +9,7 @@ use Rattle.std.proofs.lemmas.List.Splits.{join_with_byte-slice_split}
 use Rattle.qp_model.specs.Lines.{text_of}
 use Rattle.qp_model.proofs.Pieces.{IsPiece, ArePieces, split_text}
 use Rattle.controller_file.specs.FirstLine.{IsOneLine, IsTextInForm, BeginsInForm, IsFirstLine, IsBadLine}
-use Rattle.controller_file.specs.Lines.{Keyed, none, spelled, keyed_lines}
+use Rattle.controller_file.specs.Lines.{Keyed, no_line, spelled, keyed_lines}
 use Rattle.controller_file.specs.Following.{IsBeginning, IsWhole, BeginsWith, IsMost}
 use Rattle.controller_file.proofs.Cuts.{cut_some, line_pieces, text_cut}
 use Rattle.qp_model.specs.Controller.{Numbers}
@@ -125,11 +125,11 @@ stuck ps ls i b lt so_far none_follows w =
     let ms = w.lines in
     let count : length ms ≡ suc i = sym (length-map ms spelled) ∙ ap length w.spelling ∙ length-take-le (suc i) ps w.within in
     let within : i < length ms = omega (arith, count) in
-    let m = get_or ms i none in
-    let parts : ms ≡ take i ms ++ m ∷ [] = sym (take_all (i + 1) ms (omega (arith, count))) ∙ take_more ms i none within in
+    let m = get_or ms i no_line in
+    let parts : ms ≡ take i ms ++ m ∷ [] = sym (take_all (i + 1) ms (omega (arith, count))) ∙ take_more ms i no_line within in
     let front : map spelled (take i ms) ≡ map spelled ls = sym (take-map spelled i ms) ∙ ap (take i) w.spelling ∙ take-take i (suc i) ps (omega arith) ∙ sym so_far in
     let same : take i ms ≡ ls = one_lines (take i ms) ls (lines_good (take i ms) (shorter i ms w.beginning)) (lines_good ls b) front in
-    let here : get_or ps i [] ≡ spelled m = sym (get_or-take (suc i) ps i [] (omega arith)) ∙ ap (λ (qs : List (List ℕ)). get_or qs i []) (sym w.spelling) ∙ get_or-map spelled ms i none [] within in
+    let here : get_or ps i [] ≡ spelled m = sym (get_or-take (suc i) ps i [] (omega arith)) ∙ ap (λ (qs : List (List ℕ)). get_or qs i []) (sym w.spelling) ∙ get_or-map spelled ms i no_line [] within in
     none_follows m (subst (λ (ks : List Keyed). IsBeginning ks) (parts ∙ ap (λ (ks : List Keyed). ks ++ m ∷ []) same) w.beginning) here
 
 pub most_from : (ps : List (List ℕ)) (ls : List Keyed) (i n : ℕ) → IsBeginning ls → i ≤ length ps → map spelled ls ≡ take i ps → length ls ≡ n → ¬ BeginsWith ps (suc i) → IsMost ps n

@@ -8,9 +8,9 @@ use Rattle.integer_algebra.specs.Sums.{at}
 use Rattle.qp_model.specs.Limits.{most_states, most_stages, most_rows}
 use Rattle.qp_model.specs.Range.{LiesIn}
 use Rattle.controller_file.specs.declared.table.Sizes.{Sizes}
-use Rattle.controller_file.specs.Lines.{Keyed, keyed_line, none, Fits, line_in, small, Place, place, place_of}
+use Rattle.controller_file.specs.Lines.{Keyed, keyed_line, no_line, Fits, line_in, small, Place, place, place_of}
 use Rattle.controller_file.specs.Table.{places, sizes_of, Says}
-use Rattle.controller_file.specs.Following.{IsBeginning, IsWhole, IsFrom, AreSizes, AreUpper, words_of, block_of, InRange}
+use Rattle.controller_file.specs.Following.{IsBeginning, IsWhole, IsFrom, AreSizes, AreUpper, word_count, block_of, InRange}
 use Rattle.controller_file.proofs.Blocks.{sizes_small}
 use Rattle.controller_file.proofs.Again.{small_is}
 use Rattle.controller_file.proofs.Beginnings.{fewer, line_is, last_is, parted, next_is}
@@ -54,7 +54,7 @@ lower_is ls b len =
     let count = first_count c b.form in
     let index : length ls - 1 ≡ k = omega (arith, len) in
     let same = (parted ls b (up_to 1 c) (keyed_line (codes "hi") c.high ∷ tail_lines c) (split_at 1 c) (omega (arith, len, count_to 1 c b.form (omega arith)))).0 in
-    ap (line_in ls) index ∙ ap (λ (ms : List Keyed). line_in ms k) (sym same) ∙ ap (λ (l : Keyed). l.numbers) (get_or_at (first_lines c) (keyed_line (codes "lo") c.low) [] none k count)
+    ap (line_in ls) index ∙ ap (λ (ms : List Keyed). line_in ms k) (sym same) ∙ ap (λ (l : Keyed). l.numbers) (get_or_at (first_lines c) (keyed_line (codes "lo") c.low) [] no_line k count)
 
 -- ---- what is in its place and in range can follow
 
@@ -87,7 +87,7 @@ follows_on ls l z b (suc (suc zero)) len says fits h = bits_follow ls l b len (p
 follows_on ls l z b (suc (suc (suc zero))) len says fits h = steps_follow ls l b len (place_is h.place) h.range
 follows_on ls l z b (suc (suc (suc (suc zero)))) len says fits h = clamp_follows ls l b len (place_is h.place) h.range
 follows_on ls l z b (suc (suc (suc (suc (suc zero))))) len says fits h =
-    words_follow ls l b len (place_is h.place) (h.range ∙ ap pos (sym (b.form.sized.words ∙ ap words_of (sizes_are ls b z (omega (arith, len)) says))))
+    words_follow ls l b len (place_is h.place) (h.range ∙ ap pos (sym (b.form.sized.words ∙ ap word_count (sizes_are ls b z (omega (arith, len)) says))))
 follows_on ls l z b (suc (suc (suc (suc (suc (suc n)))))) len says fits h =
     let e = sizes_are ls b z (omega (arith, len)) says in
     let between = subst (LiesIn 1 2) (ap (λ (y : Sizes). y.version) e) b.form.sized.version in
@@ -118,7 +118,7 @@ exponents_in ls l z more two len =
     let each : All (λ e. IsFrom (pos 0) (pos most) (pos e)) c.exponents = λ i d lt. from_natural 0 most (get_or c.exponents i d) (omega arith, more.form.sized.exponents i d lt) in
     let exps = All-map (IsFrom (pos 0) (pos most)) pos c.exponents each in
     let greatest : at (line_in ls 2) 2 ≡ pos c.step_exponent = ap (λ (k : Keyed). at k.numbers 2) (sym (line_is ls (fewer ls (l ∷ []) more) 2 (omega (arith, len)))) in
-    let last : keyed_line (codes "exps") (map pos c.exponents) ≡ l = ap (λ (ms : List Keyed). get_or (ms ++ list_lines c) 0 none) (sym (exponent_line c two)) ∙ last_is ls l more 6 len in
+    let last : keyed_line (codes "exps") (map pos c.exponents) ≡ l = ap (λ (ms : List Keyed). get_or (ms ++ list_lines c) 0 no_line) (sym (exponent_line c two)) ∙ last_is ls l more 6 len in
     subst (λ (s : ℤ). All (IsFrom (pos 0) s) l.numbers) (sym greatest) (subst (λ (k : Keyed). All (IsFrom (pos 0) (pos c.step_exponent)) k.numbers) last exps)
 
 first_in : (ls : List Keyed) (l : Keyed) (z : Sizes) (more : IsBeginning (ls ++ l ∷ [])) (n : ℕ) → length ls ≡ suc (suc (suc (suc (suc (suc n))))) → more.numbers.version ≡ 1 → InRange (block_of (versioned z 1) (suc (suc (suc (suc (suc (suc n))))))) ls (versioned z 1) l.numbers
@@ -151,7 +151,7 @@ range_in ls l z more (suc (suc zero)) len says =
 range_in ls l z more (suc (suc (suc zero))) len says = subst (λ (k : Keyed). InRange 3 ls z k.numbers) (last_is ls l more 3 len) (from_natural 1 4194304 more.numbers.steps more.form.sized.steps)
 range_in ls l z more (suc (suc (suc (suc zero)))) len says = subst (λ (k : Keyed). InRange 4 ls z k.numbers) (last_is ls l more 4 len) (record { least = more.form.sized.clamp_low; greatest = more.form.sized.clamp_high })
 range_in ls l z more (suc (suc (suc (suc (suc zero))))) len says =
-    subst (λ (k : Keyed). InRange 5 ls z k.numbers) (last_is ls l more 5 len) (ap pos (more.form.sized.words ∙ ap words_of (sizes_are ls (fewer ls (l ∷ []) more) z (omega (arith, len)) says)))
+    subst (λ (k : Keyed). InRange 5 ls z k.numbers) (last_is ls l more 5 len) (ap pos (more.form.sized.words ∙ ap word_count (sizes_are ls (fewer ls (l ∷ []) more) z (omega (arith, len)) says)))
 range_in ls l z more (suc (suc (suc (suc (suc (suc n)))))) len says =
     let same : more.numbers.version ≡ z.version = ap (λ (y : Sizes). y.version) (sizes_are ls (fewer ls (l ∷ []) more) z (omega (arith, len)) says) in
     let between = subst (LiesIn 1 2) same more.form.sized.version in

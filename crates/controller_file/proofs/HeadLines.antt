@@ -11,7 +11,7 @@ use Rattle.qp_model.specs.Limits.{most_states, most_stages, most_rows}
 use Rattle.qp_model.specs.Range.{LiesIn, IsNumerator}
 use Rattle.qp_model.specs.Controller.{Numbers, plan_length, HasShape, IsInForm, FitsWord}
 use Rattle.controller_file.specs.declared.table.Sizes.{Sizes}
-use Rattle.controller_file.specs.Lines.{Keyed, keyed_line, row_lines, exponent_lines, keyed_lines, chained, place, place_of}
+use Rattle.controller_file.specs.Lines.{Keyed, keyed_line, row_lines, keyed_exponents, keyed_lines, chained, place, place_of}
 use Rattle.controller_file.specs.Following.{IsBeginning, IsFrom, AreSizes, AreBits, AreUpper}
 use Rattle.controller_file.proofs.Blocks.{key_is, count_is, block_lengths}
 use Rattle.controller_file.proofs.Beginnings.{grown, front_is, parted}
@@ -62,7 +62,7 @@ first_lines c =
     ∷ keyed_line (codes "bits") (pos c.fraction_bits ∷ pos c.grid_bits ∷ pos c.step_exponent ∷ pos c.width ∷ [])
     ∷ keyed_line (codes "steps") (pos c.steps ∷ [])
     ∷ keyed_line (codes "clamp") (c.clamp ∷ [])
-    ∷ keyed_line (codes "words") (pos c.words ∷ []) ∷ exponent_lines c
+    ∷ keyed_line (codes "words") (pos c.words ∷ []) ∷ keyed_exponents c
 
 -- the others
 abbrev pub list_lines : Numbers → List Keyed
@@ -231,7 +231,7 @@ naturals_from s (z ∷ zs) h =
     (n.0 ∷ others.0, (λ i. first i ∷ rest i), (n.2.1, others.2))
 
 -- the line of the exponents in the second version
-pub exponent_line : (c : Numbers) → c.version ≡ 2 → exponent_lines c ≡ keyed_line (codes "exps") (map pos c.exponents) ∷ []
+pub exponent_line : (c : Numbers) → c.version ≡ 2 → keyed_exponents c ≡ keyed_line (codes "exps") (map pos c.exponents) ∷ []
 exponent_line c second = ap (λ (v : ℕ). if v == 1 then [] else keyed_line (codes "exps") (map pos c.exponents) ∷ []) second
 
 pub exponents_follow : (ls : List Keyed) (l : Keyed) (b : IsBeginning ls) → b.numbers.version ≡ 2 → length ls ≡ 6 → place_of l ≡ place (codes "exps") b.numbers.rows → All (IsFrom (pos 0) (pos b.numbers.step_exponent)) l.numbers → IsBeginning (ls ++ l ∷ [])
@@ -242,7 +242,7 @@ exponents_follow ls l b second len p h =
     let long : length es.0 ≡ c.rows = sym (length-map es.0 pos) ∙ ap length (sym es.1) ∙ count_is l (codes "exps") c.rows p in
     let are : HasExponents d = (long, All-from_recursion (λ e. e ≤ c.step_exponent) es.0 es.2, λ first. absurd (omega (arith, first, second))) in
     let front = front_is ls b 6 len in
-    let last : exponent_lines d ≡ l ∷ [] = exponent_line d second ∙ ap (λ (zs : List ℤ). keyed_line (codes "exps") zs ∷ []) (sym es.1) ∙ ap (λ (k : Keyed). k ∷ []) (sym (key_is l (codes "exps") c.rows p)) in
+    let last : keyed_exponents d ≡ l ∷ [] = exponent_line d second ∙ ap (λ (zs : List ℤ). keyed_line (codes "exps") zs ∷ []) (sym es.1) ∙ ap (λ (k : Keyed). k ∷ []) (sym (key_is l (codes "exps") c.rows p)) in
     changed ls l b d (list_lines d) (own_head c b.form) are (own_box c b.form) (λ i. front i ++ (last i ++ list_lines d))
 
 -- ---- the box

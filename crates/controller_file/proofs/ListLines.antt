@@ -8,7 +8,7 @@ use Rattle.mat_int.specs.Matrix.{Matrix}
 use Rattle.qp_model.specs.Controller.{Numbers, plan_length, HasShape, IsInForm, FitsWord}
 use Rattle.controller_file.specs.declared.table.Sizes.{Sizes}
 use Rattle.controller_file.specs.Lines.{Keyed, keyed_line, row_lines, Fits, chained, keyed_lines, Place, place, place_of}
-use Rattle.controller_file.specs.Table.{table, spread, places, sizes_of, Says}
+use Rattle.controller_file.specs.Table.{text_table, spread, places, sizes_of, Says}
 use Rattle.controller_file.specs.Following.{IsBeginning}
 use Rattle.controller_file.proofs.Chained.{all_append, all_parts, map_chained}
 use Rattle.controller_file.proofs.Blocks.{same_sizes, key_is, count_is, blocks_placed, lines_placed}
@@ -20,7 +20,7 @@ use Rattle.controller_file.proofs.Texts.{good_lines, fits_word}
 
 -- those of the lines after the box
 abbrev tail_places : Sizes → List Place
-tail_places z = spread (drop 9 (table z))
+tail_places z = spread (drop 9 (text_table z))
 
 tail_placed : (c : Numbers) → IsInForm c → map place_of (tail_lines c) ≡ tail_places (sizes_of c)
 tail_placed c form = map_chained place_of (row_lines (codes "P") c.state_gains.rows ∷ (keyed_line (codes "T") c.offsets ∷ []) ∷ row_lines (codes "W") c.dual_gains.rows ∷ row_lines (codes "G") c.plan_rows.rows ∷ row_lines (codes "E") c.state_rows.rows ∷ (keyed_line (codes "b") c.bounds ∷ []) ∷ (keyed_line (codes "end") [] ∷ []) ∷ [])

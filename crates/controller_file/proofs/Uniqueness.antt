@@ -16,8 +16,8 @@ use Rattle.qp_model.proofs.Pieces.{ArePieces, split_text}
 use Rattle.controller_file.specs.FirstLine.{IsTextInForm}
 use Rattle.controller_file.specs.Laws.{HasOneController, HasNoPrefix}
 use Rattle.controller_file.specs.declared.table.Sizes.{Sizes}
-use Rattle.controller_file.specs.Lines.{Keyed, keyed_line, none, IsKeyedLine, spelled, place_of, line_blocks, keyed_lines}
-use Rattle.controller_file.specs.Table.{table, places, sizes_of}
+use Rattle.controller_file.specs.Lines.{Keyed, keyed_line, no_line, IsKeyedLine, spelled, place_of, line_blocks, keyed_lines}
+use Rattle.controller_file.specs.Table.{text_table, places, sizes_of}
 use Rattle.controller_file.specs.Reading.{numbers_in}
 use Rattle.controller_file.proofs.Cuts.{line_cut, line_pieces}
 use Rattle.controller_file.proofs.Chained.{one_chain}
@@ -102,8 +102,8 @@ sizes_same c d first second =
 -- lines in form are those of one choice of numbers
 pub one_choice : (c d : Numbers) → IsInForm c → IsInForm d → keyed_lines c ≡ keyed_lines d → c ≡ d
 one_choice c d form other e =
-    let sizes = sizes_same c d (ap (λ (ls : List Keyed). get_or ls 0 none) e) (ap (λ (ls : List Keyed). get_or ls 1 none) e) in
-    let long : map length (line_blocks c) ≡ map length (line_blocks d) = block_lengths c form ∙ ap (λ (z : Sizes). map (λ t. t.1) (table z)) sizes ∙ sym (block_lengths d other) in
+    let sizes = sizes_same c d (ap (λ (ls : List Keyed). get_or ls 0 no_line) e) (ap (λ (ls : List Keyed). get_or ls 1 no_line) e) in
+    let long : map length (line_blocks c) ≡ map length (line_blocks d) = block_lengths c form ∙ ap (λ (z : Sizes). map (λ t. t.1) (text_table z)) sizes ∙ sym (block_lengths d other) in
     sym (numbers_again c form) ∙ ap numbers_in (one_chain (line_blocks c) (line_blocks d) long e) ∙ numbers_again d other
 
 -- a text in form is the text of one

@@ -49,8 +49,8 @@ AreSizes version n p stages m =
 abbrev pub AreBits : (f g s w : ℤ) → Type 0
 AreBits f g s w = IsFrom (pos 0) (pos 24) g × IsFrom g (pos 48) f × IsFrom (pos 0) (pos 40) s × IsFrom (pos 2) (pos 128) w
 
-abbrev pub words_of : Sizes → ℕ
-words_of z = z.n + z.m + 2 * (z.p * z.stages)
+abbrev pub word_count : Sizes → ℕ
+word_count z = z.n + z.m + 2 * (z.p * z.stages)
 
 -- as many, each at least its lower one
 abbrev pub AreUpper : List ℤ → List ℤ → Type 0
@@ -67,7 +67,7 @@ InRange (suc zero) ls z zs = AreSizes z.version (at zs 0) (at zs 1) (at zs 2) (a
 InRange (suc (suc zero)) ls z zs = AreBits (at zs 0) (at zs 1) (at zs 2) (at zs 3)
 InRange (suc (suc (suc zero))) ls z zs = IsFrom (pos 1) (pos 4194304) (at zs 0)
 InRange (suc (suc (suc (suc zero)))) ls z zs = IsFrom (pos 0) (pos (2 ^ 126)) (at zs 0)
-InRange (suc (suc (suc (suc (suc zero))))) ls z zs = at zs 0 ≡ pos (words_of z)
+InRange (suc (suc (suc (suc (suc zero))))) ls z zs = at zs 0 ≡ pos (word_count z)
 InRange (suc (suc (suc (suc (suc (suc zero)))))) ls z zs = All (IsFrom (pos 0) (at (line_in ls 2) 2)) zs
 InRange (suc (suc (suc (suc (suc (suc (suc zero))))))) ls z zs = All IsNumerator zs
 InRange (suc (suc (suc (suc (suc (suc (suc (suc zero)))))))) ls z zs = AreUpper zs (line_in ls (length ls - 1))

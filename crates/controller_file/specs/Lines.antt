@@ -50,8 +50,8 @@ abbrev pub row_lines : List ℕ → List (List ℤ) → List Keyed
 row_lines key rows = map (keyed_line key) rows
 
 -- the exponents of the rows, which a text of the first version doesn't say
-abbrev pub exponent_lines : Numbers → List Keyed
-exponent_lines c = if c.version == text_version then [] else keyed_line (codes "exps") (map pos c.exponents) ∷ []
+abbrev pub keyed_exponents : Numbers → List Keyed
+keyed_exponents c = if c.version == text_version then [] else keyed_line (codes "exps") (map pos c.exponents) ∷ []
 
 -- the lines of a controller in their order, those with one word together
 abbrev pub line_blocks : Numbers → List (List Keyed)
@@ -62,7 +62,7 @@ line_blocks c =
     ∷ (keyed_line (codes "steps") (pos c.steps ∷ []) ∷ [])
     ∷ (keyed_line (codes "clamp") (c.clamp ∷ []) ∷ [])
     ∷ (keyed_line (codes "words") (pos c.words ∷ []) ∷ [])
-    ∷ exponent_lines c
+    ∷ keyed_exponents c
     ∷ (keyed_line (codes "lo") c.low ∷ [])
     ∷ (keyed_line (codes "hi") c.high ∷ [])
     ∷ row_lines (codes "P") c.state_gains.rows
@@ -83,12 +83,12 @@ keyed_lines c = chained (line_blocks c)
 
 -- ---- reading
 
-abbrev pub none : Keyed
-none = keyed_line [] []
+abbrev pub no_line : Keyed
+no_line = keyed_line [] []
 
 -- the numbers of a line, none where there is no such line
 abbrev pub line_in : List Keyed → ℕ → List ℤ
-line_in ls i = (slice_index_or ls i none).numbers
+line_in ls i = (slice_index_or ls i no_line).numbers
 
 -- as a number of 32 bits
 abbrev pub small : ℤ → ℕ

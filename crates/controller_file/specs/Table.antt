@@ -11,8 +11,8 @@ Block = List ℕ × ℕ × ℕ
 abbrev pub block_places : Block → List Place
 block_places b = replicate b.1 (place b.0 b.2)
 
-abbrev pub table : Sizes → List Block
-table z =
+abbrev pub text_table : Sizes → List Block
+text_table z =
     (codes "mpc-controller", 1, 1)
     ∷ (codes "size", 1, 4)
     ∷ (codes "bits", 1, 4)
@@ -31,7 +31,7 @@ table z =
     ∷ (codes "end", 1, 0) ∷ []
 
 abbrev pub block_at : Sizes → ℕ → Block
-block_at z k = slice_index_or (table z) k ([], 0, 0)
+block_at z k = slice_index_or (text_table z) k ([], 0, 0)
 
 -- how many lines they are
 abbrev pub total_rows : List Block → ℕ
@@ -43,7 +43,7 @@ abbrev pub spread : List Block → List Place
 spread bs = chained (map block_places bs)
 
 abbrev pub places : Sizes → List Place
-places z = spread (table z)
+places z = spread (text_table z)
 
 abbrev pub sizes_of : Numbers → Sizes
 sizes_of c = record { version = c.version; n = c.states; p = c.inputs; stages = c.stages; m = c.rows }

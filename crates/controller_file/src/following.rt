@@ -2,7 +2,7 @@
 ghost use Rattle.std.specs.Prelude.{◌≡◌, ◌<◌, ◌^◌, ◌↔◌, [], ◌∷◌, ◌++◌, length, All, IsTrue};
 ghost use Rattle.controller_file.specs.Lines.{view, views, Fits};
 ghost use Rattle.controller_file.specs.Table.{AreSmall};
-ghost use Rattle.controller_file.specs.Following.{IsBeginning, IsFrom, AreSizes, AreBits, AreUpper, words_of, block_of, InRange};
+ghost use Rattle.controller_file.specs.Following.{IsBeginning, IsFrom, AreSizes, AreBits, AreUpper, word_count, block_of, InRange};
 
 use crate::line::{Line, has_place, number_at, number_in, numbers_in};
 use crate::table::{Sizes, place_at, sizes_in};
@@ -71,7 +71,7 @@ fn block_of(sizes: Sizes, index: usize) -> usize
 // The words of memory of a run.
 fn words(sizes: Sizes) -> usize
     requires { AreSmall sizes }
-    ensures { result ≡ words_of sizes }
+    ensures { result ≡ word_count sizes }
 {
     sizes.n + sizes.m + 2 * (sizes.p * sizes.stages)
 }

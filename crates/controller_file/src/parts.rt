@@ -2,9 +2,9 @@
 ghost use Rattle.std.specs.Prelude.{◌≡◌, ◌<◌, [], IfOk, All, length, map, take, slice_index_or};
 ghost use Rattle.qp_model.specs.Controller.{Numbers, numbers, IsInForm};
 ghost use Rattle.controller_file.specs.Lines.{views, line_blocks, keyed_lines, small};
-ghost use Rattle.controller_file.specs.Table.{table, block_at, sizes_of, total_rows, AreSmall};
+ghost use Rattle.controller_file.specs.Table.{text_table, block_at, sizes_of, total_rows, AreSmall};
 ghost use Rattle.controller_file.specs.Following.{IsWhole};
-ghost use Rattle.controller_file.specs.Reading.{list_in, matrix_in, IsFront, IsBack};
+ghost use Rattle.controller_file.specs.Reading.{list_of_block, matrix_in, IsFront, IsBack};
 
 use crate::line::{Line, number_in, numbers_in, small};
 use crate::table::{Sizes, sizes_in, table};
@@ -90,7 +90,7 @@ fn smalls(alloc: Global, numbers: &[i128]) -> Result<Vec<u32>, AllocError>
 fn list_of(alloc: Global, lines: &[Line], k: usize) -> Result<Vec<i128>, AllocError>
     requires whole { IsWhole (views lines.now) }
     requires inside { k < 16 }
-    ensures { IfOk result (λ v. (c : Numbers) → IsInForm c → keyed_lines c ≡ views lines.now → v.items ≡ list_in (line_blocks c) k) }
+    ensures { IfOk result (λ v. (c : Numbers) → IsInForm c → keyed_lines c ≡ views lines.now → v.items ≡ list_of_block (line_blocks c) k) }
 {
     numbers_in(block_in(lines, k), 0).to_vec(alloc)
 }
@@ -131,7 +131,7 @@ fn block_in<'a, 't>(lines: &'a [Line<'t>], k: usize) -> &'a [Line<'t>]
 fn rows_before(sizes: Sizes, k: usize) -> usize
     requires small { AreSmall sizes }
     requires inside { k < 16 }
-    ensures { result ≡ total_rows (take k (table sizes)) }
+    ensures { result ≡ total_rows (take k (text_table sizes)) }
 {
     let blocks = table(sizes);
     let mut rows = 0;

@@ -1,7 +1,7 @@
 // The lines of a text, by its version and its sizes: their words, how many there are of each, and how many numbers each has.
 ghost use Rattle.std.specs.Prelude.{◌≡◌, ◌↔◌, IsTrue, None, Some, MatchOption, map, slice_get};
 ghost use Rattle.controller_file.specs.Lines.{views, place};
-ghost use Rattle.controller_file.specs.Table.{table, places, AreSmall, Says};
+ghost use Rattle.controller_file.specs.Table.{text_table, places, AreSmall, Says};
 ghost use Rattle.controller_file.specs.Following.{IsBeginning, IsWhole};
 
 use crate::line::{Line, number_in, small};
@@ -19,7 +19,7 @@ pub struct Sizes {
 /// Blocks of lines in their order, each a word, how many lines have it, and how many numbers each of them has.
 pub fn table(sizes: Sizes) -> [(&'static str, usize, usize); 16]
     requires { AreSmall sizes }
-    ensures { map (λ block. (block.0.now, block.1, block.2)) result ≡ table sizes }
+    ensures { map (λ block. (block.0.now, block.1, block.2)) result ≡ text_table sizes }
 {
     let Sizes {
         version,

@@ -5,7 +5,7 @@ ghost use Rattle.qp_model.specs.Controller.{numbers, IsInForm, FitsWord};
 ghost use Rattle.qp_model.specs.Lines.{text_of};
 ghost use Rattle.qp_model.specs.ControllerText.{matrix_lines, controller_text, IsControllerText};
 ghost use Rattle.controller_file.specs.Lines.{Fits, spelled, line_blocks};
-ghost use Rattle.controller_file.specs.Table.{table, sizes_of};
+ghost use Rattle.controller_file.specs.Table.{text_table, sizes_of};
 
 use crate::table::{Sizes, table};
 use mat_int::Mat;
@@ -55,7 +55,7 @@ fn push_block(
     key: &str,
 ) -> Result<(), AllocError>
     requires inside { block < 16 }
-    requires key { key.now ≡ (slice_index_or (table (sizes_of (numbers parts.now))) block ([], 0, 0)).0 }
+    requires key { key.now ≡ (slice_index_or (text_table (sizes_of (numbers parts.now))) block ([], 0, 0)).0 }
     ensures text { OnOk result (string_bytes text.new ≡ string_bytes text.old ++ text_of (map spelled (slice_index_or (line_blocks (numbers parts.now)) block []))) }
     ensures word { OnOk result (All Fits (slice_index_or (line_blocks (numbers parts.now)) block [])) }
 {

@@ -22,7 +22,7 @@ use Rattle.design_engine.proofs.Tables.{row_long, shape_as, plan_long}
 use Rattle.design_engine.specs.Targets.{Targets, targets_of, half_target, error_limit}
 use Rattle.design_engine.specs.Bounds.{margin_of, printed_multiplier}
 use Rattle.design_engine.specs.Built.{IsBuilt}
-use Rattle.design_engine.specs.Agreement.{HaveSameGains, AreSame, AgreementLaw}
+use Rattle.design_engine.specs.Agreement.{HaveSameGains, AreIdentical, AgreementLaw}
 use Rattle.design_engine.proofs.OneOfEach.{one_margin, one_exponent, one_choice}
 
 -- ---- lists and matrices of one shape with the same entries
@@ -183,7 +183,7 @@ module _ (p : DesignParts) (plans : Plans) (c other : Numbers) (b printed : Prin
   }
 
   -- with the same gains
-  all_same : HaveSameGains c other → AreSame c other b printed
+  all_same : HaveSameGains c other → AreIdentical c other b printed
   all_same g = record {
     numbers = whole;
     bounds = bounds_with b.width printed.width b.violation printed.violation b.gap printed.gap b.undercut printed.undercut

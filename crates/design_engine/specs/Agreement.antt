@@ -13,7 +13,7 @@ pub record HaveSameGains (c other : Numbers) : Type 0 where
   pub dual_gains : c.dual_gains ≡ other.dual_gains
 
 -- all is the same, the violations row by row
-pub record AreSame (c other : Numbers) (b other_bounds : Printed) : Type 0 where
+pub record AreIdentical (c other : Numbers) (b other_bounds : Printed) : Type 0 where
   pub numbers : c ≡ other
   pub bounds : record b { row_violation = other_bounds.row_violation } ≡ other_bounds
   pub row_violations : (i : ℕ) → i < c.rows → b.row_violation i ≡ other_bounds.row_violation i
@@ -29,7 +29,7 @@ pub record AgreeButGains (c other : Numbers) (b other_bounds : Printed) : Type 0
     gap = other_bounds.gap;
     undercut = other_bounds.undercut;
   } ≡ other_bounds
-  pub followed : HaveSameGains c other → AreSame c other b other_bounds
+  pub followed : HaveSameGains c other → AreIdentical c other b other_bounds
 
 -- all else is a function of the design and the policy
 abbrev pub AgreementLaw : Type 0

@@ -14,24 +14,24 @@ use Rattle.qp_model.specs.AbsoluteSums.{clamp_magnitudes, IsController}
 use Rattle.qp_model.specs.Within.{AreWithin}
 use Rattle.qp_model.proofs.AbsoluteLaws.{abs-floor_le}
 use Rattle.fixed_kernel.specs.Factors.{HasNarrowFactors}
-use Rattle.fixed_kernel.specs.Lowered.{lowered}
+use Rattle.fixed_kernel.specs.Unraised.{unraised}
 use Rattle.fixed_kernel.proofs.States.{floor-scaled}
 
 -- ---- single multipliers
 pub raised_at : (c : Numbers) (multipliers : List ℤ) (i : ℕ) → i < length c.bounds → at (raised c multipliers) i ≡ at multipliers i *ℤ pos (2 ^ lowering_of c i)
 raised_at c multipliers i lt = get_or-map-range_with_len (λ j. at multipliers j *ℤ pos (2 ^ lowering_of c j)) 0 (length c.bounds) i i (pos 0) lt (omega arith)
 
-pub lowered_at : (c : Numbers) (multipliers : List ℤ) (i : ℕ) → i < length c.bounds → at (lowered c multipliers) i ≡ floor_of (at multipliers i) (2 ^ lowering_of c i)
-lowered_at c multipliers i lt = get_or-map-range_with_len (λ j. floor_of (at multipliers j) (2 ^ lowering_of c j)) 0 (length c.bounds) i i (pos 0) lt (omega arith)
+pub unraised_at : (c : Numbers) (multipliers : List ℤ) (i : ℕ) → i < length c.bounds → at (unraised c multipliers) i ≡ floor_of (at multipliers i) (2 ^ lowering_of c i)
+unraised_at c multipliers i lt = get_or-map-range_with_len (λ j. floor_of (at multipliers j) (2 ^ lowering_of c j)) 0 (length c.bounds) i i (pos 0) lt (omega arith)
 
 -- lowering undoes raising
-pub lowered-raised : (c : Numbers) (multipliers : List ℤ) → length multipliers ≡ length c.bounds → lowered c (raised c multipliers) ≡ multipliers
-lowered-raised c multipliers long =
+pub unraised-raised : (c : Numbers) (multipliers : List ℤ) → length multipliers ≡ length c.bounds → unraised c (raised c multipliers) ≡ multipliers
+unraised-raised c multipliers long =
     let count = length c.bounds in
-    let size : length (lowered c (raised c multipliers)) ≡ count = length-map-range_with_len (λ i. floor_of (at (raised c multipliers) i) (2 ^ lowering_of c i)) 0 count in
-    same_lists (lowered c (raised c multipliers)) multipliers (omega (arith, size, long)) (λ i d l.
+    let size : length (unraised c (raised c multipliers)) ≡ count = length-map-range_with_len (λ i. floor_of (at (raised c multipliers) i) (2 ^ lowering_of c i)) 0 count in
+    same_lists (unraised c (raised c multipliers)) multipliers (omega (arith, size, long)) (λ i d l.
     let inside : i < count = omega (arith, l, size) in
-    get_or_default (lowered c (raised c multipliers)) i d (pos 0) l ∙ lowered_at c (raised c multipliers) i inside ∙
+    get_or_default (unraised c (raised c multipliers)) i d (pos 0) l ∙ unraised_at c (raised c multipliers) i inside ∙
     ap (λ (z : ℤ). floor_of z (2 ^ lowering_of c i)) (raised_at c multipliers i inside) ∙ floor-scaled (at multipliers i) (2 ^ lowering_of c i) (pow_pos (lowering_of c i)) ∙
     get_or_default multipliers i (pos 0) d (omega (arith, inside, long)))
 

@@ -2,5 +2,5 @@ pub mod Outside
 pub mod Spans
 pub mod Progress
 pub mod Factors
-pub mod Lowered
+pub mod Unraised
 pub mod Ready

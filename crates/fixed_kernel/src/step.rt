@@ -10,7 +10,7 @@ ghost use Rattle.qp_model.specs.AbsoluteSums.{IsController, clamp_magnitudes, st
 ghost use Rattle.qp_model.specs.Within.{AreWithin};
 ghost use Rattle.fixed_kernel.specs.Factors.{HasNarrowFactors};
 ghost use Rattle.fixed_kernel.specs.Spans.{words_of, made_of, state_in, made_in};
-ghost use Rattle.fixed_kernel.specs.Lowered.{lowered};
+ghost use Rattle.fixed_kernel.specs.Unraised.{unraised};
 ghost use Rattle.fixed_kernel.specs.Ready.{IsReadyToStep};
 
 use crate::entry::{entry_from, multiplier_from, short_shift};
@@ -151,7 +151,7 @@ fn move_raised(
     requires state { AreWithin state.now (state_magnitudes (numbers c.now)) }
     requires plan { AreWithin plan.now (plan_magnitudes (numbers c.now)) }
     requires multipliers { AreWithin multipliers.old (clamp_magnitudes (numbers c.now)) }
-    ensures { multipliers.new ≡ next_multipliers (numbers c.now) state.now plan.now (lowered (numbers c.now) multipliers.old) }
+    ensures { multipliers.new ≡ next_multipliers (numbers c.now) state.now plan.now (unraised (numbers c.now) multipliers.old) }
 {
     let exps = exponents_of(c, multipliers.len());
     for (i, l) in multipliers.iter_mut().enumerate() {

@@ -13,7 +13,7 @@ use Rattle.command_line.specs.declared.status.Status.{Status}
 use Rattle.command_line.specs.declared.status.Status.TheVariants.{Done, Usage, ReadFault, WriteFault}
 use Rattle.mpc_cli.specs.Calls.{Calls}
 use Rattle.mpc_cli.specs.Prints.{Prints}
-use Rattle.mpc_cli.specs.Faults.{Reaches, PassesTests, WriteFailed}
+use Rattle.mpc_cli.specs.Faults.{ReachesFile, PassesTests, WriteFailed}
 use Rattle.mpc_cli.proofs.Lifting.{weaker, some_contents, usage_answer, generate_answer, solve_answer, loop_answer, demo_answer, usage_prints, generate_prints, loop_prints, demo_prints}
 
 module _ (words : List (List ℕ)) (held : Option Files) (s : Status) where
@@ -41,14 +41,14 @@ module _ (words : List (List ℕ)) (held : Option Files) (s : Status) where
     abbrev pub Read : (Contents → ℕ → Type 0) → Type 0
     Read K = (file : ℕ) → s ≡ ReadFault file → ForContents words held (λ k. K k file) × R file
 
-    pub generate_read : IsGenerate words → Read (λ k file. GenerateReaches k.first file) → Read (λ k file. Reaches words k file)
-    generate_read is h file fault = let f = h file fault in (weaker words held _ (λ k. Reaches words k file) (λ k reach. inl (is, reach)) f.0, f.1)
+    pub generate_read : IsGenerate words → Read (λ k file. GenerateReaches k.first file) → Read (λ k file. ReachesFile words k file)
+    generate_read is h file fault = let f = h file fault in (weaker words held _ (λ k. ReachesFile words k file) (λ k reach. inl (is, reach)) f.0, f.1)
 
-    pub solve_read : IsSolve words → Read (λ k file. SolveReaches k.first file) → Read (λ k file. Reaches words k file)
-    solve_read is h file fault = let f = h file fault in (weaker words held _ (λ k. Reaches words k file) (λ k reach. inr (inl (is, reach))) f.0, f.1)
+    pub solve_read : IsSolve words → Read (λ k file. SolveReaches k.first file) → Read (λ k file. ReachesFile words k file)
+    solve_read is h file fault = let f = h file fault in (weaker words held _ (λ k. ReachesFile words k file) (λ k reach. inr (inl (is, reach))) f.0, f.1)
 
-    pub loop_read : (turns : ℕ) → IsLoop words turns → Read (λ k file. LoopReaches k.first k.second file) → Read (λ k file. Reaches words k file)
-    loop_read turns is h file fault = let f = h file fault in (weaker words held _ (λ k. Reaches words k file) (λ k reach. inr (inr (turns, is, reach))) f.0, f.1)
+    pub loop_read : (turns : ℕ) → IsLoop words turns → Read (λ k file. LoopReaches k.first k.second file) → Read (λ k file. ReachesFile words k file)
+    loop_read turns is h file fault = let f = h file fault in (weaker words held _ (λ k. ReachesFile words k file) (λ k reach. inr (inr (turns, is, reach))) f.0, f.1)
 
   -- ---- faults of writing and printing
   module _ (wb wn : List ℕ → ℕ) (pb pn : ℕ) where

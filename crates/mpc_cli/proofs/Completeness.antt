@@ -9,7 +9,7 @@ use Rattle.loop_command.specs.Loop.{LoopReaches}
 use Rattle.command_line.specs.declared.status.Status.{Status}
 use Rattle.command_line.specs.declared.status.Status.TheVariants.{Done, Memory, Usage, ReadFault, WriteFault, Text, NoMargin, Curvature, TooManySteps, TooFine, TooWide, Controller, OutsideBox, Long, Mismatch}
 use Rattle.mpc_cli.specs.Calls.{Calls, IsCalledFor}
-use Rattle.mpc_cli.specs.Faults.{MayRead, Reaches, WriteFailed, NoneRises}
+use Rattle.mpc_cli.specs.Faults.{MayRead, ReachesFile, WriteFailed, NoneRises}
 
 -- ---- what an answer is
 pub data Kind : Status → Type 0 where
@@ -49,7 +49,7 @@ loop_reads design controller file (inl first) = inl first
 loop_reads design controller file (inr (inl second)) = inr (inl second.0)
 loop_reads design controller file (inr (inr third)) = inr (inr third.0)
 
-reached_read : (words : List (List ℕ)) (contents : Contents) (file : ℕ) → Reaches words contents file → MayRead words file
+reached_read : (words : List (List ℕ)) (contents : Contents) (file : ℕ) → ReachesFile words contents file → MayRead words file
 reached_read words contents file (inl a) = inl (a.0, generate_reads contents.first file a.1)
 reached_read words contents file (inr (inl a)) = inr (inl (a.0, solve_reads contents.first file a.1))
 reached_read words contents file (inr (inr a)) = inr (inr (a.0, a.1, loop_reads contents.first contents.second file a.2))
@@ -62,7 +62,7 @@ module _ (words : List (List ℕ)) (held : Option Files) (result : Status)
   no_write file none (inr a) = none.writes file a.0 a.1
 
   pub complete : (IsCaused result → ForContents words held (λ contents. IsAnswer (Calls words contents) result)) →
-      ((file : ℕ) → result ≡ ReadFault file → ForContents words held (λ contents. Reaches words contents file) × Rose (rb (word_of words file)) (rn (word_of words file))) →
+      ((file : ℕ) → result ≡ ReadFault file → ForContents words held (λ contents. ReachesFile words contents file) × Rose (rb (word_of words file)) (rn (word_of words file))) →
       ((file : ℕ) → result ≡ WriteFault file → WriteFailed words file wb wn pb pn) →
       (s : Status) → IsCalledFor words held s → NoneRises words rb rn wb wn pb pn → (result ≡ s) ⊎ (result ≡ Memory)
   complete called read_fault write_fault s for_s none = by_kind (kind result) refl

@@ -27,8 +27,8 @@ MayPrint words = IsSolve words ⊎ (((turns : ℕ) × IsLoop words turns) ⊎ ((
 
 -- ---- in order
 -- the file at this position is read, where the files hold this: those before it are in order
-abbrev pub Reaches : List (List ℕ) → Contents → ℕ → Type 0
-Reaches words contents file =
+abbrev pub ReachesFile : List (List ℕ) → Contents → ℕ → Type 0
+ReachesFile words contents file =
     (IsGenerate words × GenerateReaches contents.first file) ⊎
     ((IsSolve words × SolveReaches contents.first file) ⊎
     ((turns : ℕ) × IsLoop words turns × LoopReaches contents.first contents.second file))

@@ -10,7 +10,7 @@ ghost use Rattle.generate_command.specs.Generate.{IsGenerated, IsControllerCut, 
 ghost use Rattle.loop_command.specs.Loop.{TellsLeaving};
 ghost use Rattle.mpc_cli.specs.Calls.{Calls, IsCalledFor};
 ghost use Rattle.mpc_cli.specs.Prints.{Prints};
-ghost use Rattle.mpc_cli.specs.Faults.{MayWrite, MayPrint, Reaches, PassesTests, WriteFailed, NoneRises};
+ghost use Rattle.mpc_cli.specs.Faults.{MayWrite, MayPrint, ReachesFile, PassesTests, WriteFailed, NoneRises};
 
 use command_line::{Command, Status, command_of};
 use demo_command::demo;
@@ -56,7 +56,7 @@ pub fn run<S: Store, O: Sink>(alloc: Global, words: &Words, store: &mut S, out: 
     ensures unused { IsUsage words.now ⊎ ((number : ℕ) × IsDemo words.now number) → store.new ≡ store.old }
 
     // A fault comes only where the count of that very file, or of the output, rose, and where all that comes before it is in order.
-    ensures read_fault { (file : ℕ) → result ≡ Status.ReadFault file → ForContents words.now (S.held store.old) (λ contents. Reaches words.now contents file)
+    ensures read_fault { (file : ℕ) → result ≡ Status.ReadFault file → ForContents words.now (S.held store.old) (λ contents. ReachesFile words.now contents file)
         × Rose (S.read_faults store.old (word_of words.now file)) (S.read_faults store.new (word_of words.now file)) }
     ensures write_fault { (file : ℕ) → result ≡ Status.WriteFault file → ForContents words.now (S.held store.old) (λ contents. PassesTests words.now contents)
         × WriteFailed words.now file (S.write_faults store.old) (S.write_faults store.new) (O.faults out.old) (O.faults out.new) }

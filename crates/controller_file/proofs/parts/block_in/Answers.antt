@@ -2,13 +2,13 @@ use Rattle.std.proofs.Common.{◌≡◌, ◌+◌, ◌<◌, ◌≤◌, ℕ, List,
 use Rattle.controller_file.specs.declared.table.Sizes.{Sizes}
 use Rattle.controller_file.specs.declared.line.Line.{Line}
 use Rattle.controller_file.specs.Lines.{views}
-use Rattle.controller_file.specs.Table.{table, total_rows, Says}
+use Rattle.controller_file.specs.Table.{text_table, total_rows, Says}
 use Rattle.controller_file.specs.Following.{IsWhole}
 use Rattle.controller_file.proofs.Blocks.{Row, seen, no_row, said_sizes, row_at, part_is, part_within}
 use Rattle.controller_file.proofs.parts.block_in.Goals as goal
 
 -- the lines of a block are there
-room : (lines : List Line) (rs : List Row) (z : Sizes) (k start : ℕ) → IsWhole (views lines) → Says (views lines) z → seen rs ≡ table z → k < 16 → start ≡ total_rows (take k (table z))
+room : (lines : List Line) (rs : List Row) (z : Sizes) (k start : ℕ) → IsWhole (views lines) → Says (views lines) z → seen rs ≡ text_table z → k < 16 → start ≡ total_rows (take k (text_table z))
     → start + (get_or rs k no_row).1 ≤ length lines
 room lines rs z k start w says same lt before = omega (arith, (row_at rs z k same lt).1, part_within lines w.numbers z k w.form w.lines (said_sizes (views lines) z w.numbers w.lines says) lt, before)
 

@@ -5,7 +5,7 @@ use Rattle.std.proofs.lemmas.List.Elements.{All-append}
 use Rattle.qp_model.specs.Lines.{text_of}
 use Rattle.qp_model.specs.Controller.{numbers}
 use Rattle.controller_file.specs.Lines.{Keyed, spelled, Fits, chained, line_blocks}
-use Rattle.controller_file.specs.Table.{table, sizes_of}
+use Rattle.controller_file.specs.Table.{text_table, sizes_of}
 use Rattle.controller_file.proofs.Chained.{chain_more}
 use Rattle.controller_file.proofs.Blocks.{row_at}
 use Rattle.controller_file.proofs.Pushed.{block_pushed}
@@ -13,7 +13,7 @@ use Rattle.controller_file.proofs.Texts.{keyed_text, fits_word}
 use Rattle.controller_file.proofs.writer.parts_text.Goals as goal
 
 pub push_block-requires-clause-key : goal.push_block-requires-clause-key
-push_block-requires-clause-key c = (row_at c.table-blocks.result (sizes_of (numbers c.args.parts.now)) c.loop-block.block (c.table-blocks.ensures ∙ ap table c.sizes_of.ensures) c.loop-block-test.true).0
+push_block-requires-clause-key c = (row_at c.table-blocks.result (sizes_of (numbers c.args.parts.now)) c.loop-block.block (c.table-blocks.ensures ∙ ap text_table c.sizes_of.ensures) c.loop-block-test.true).0
 
 pub loop-block-preserved : goal.loop-block-preserved
 loop-block-preserved c =

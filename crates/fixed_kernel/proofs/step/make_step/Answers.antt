@@ -4,9 +4,9 @@ use Rattle.qp_model.specs.Controller.{Numbers, numbers}
 use Rattle.qp_model.specs.Machine.{raised, plan_of, next_multipliers, added}
 use Rattle.qp_model.specs.AbsoluteSums.{IsController}
 use Rattle.qp_model.proofs.VersionLaws.{first_raised}
-use Rattle.fixed_kernel.specs.Lowered.{lowered}
+use Rattle.fixed_kernel.specs.Unraised.{unraised}
 use Rattle.fixed_kernel.specs.Spans.{made_of}
-use Rattle.fixed_kernel.proofs.Raised.{lowered-raised}
+use Rattle.fixed_kernel.proofs.Raised.{unraised-raised}
 use Rattle.fixed_kernel.proofs.step.make_step.Goals.{then-raising, else-raising, then-raising-2, else-raising-2}
 use Rattle.fixed_kernel.proofs.step.make_step.Goals as goal
 
@@ -62,7 +62,7 @@ returns c =
     ] in
     let plan = c.make_plan.new.plan in
     let moved : c.if-raising-2.multipliers ≡ next_multipliers n state plan ls = elim c.if-raising-2.branch [
-      | then-raising-2 w ↦ w.multipliers-is ∙ w.move_raised.ensures ∙ ap (next_multipliers n state plan) (ap (lowered n) up ∙ lowered-raised n ls long)
+      | then-raising-2 w ↦ w.multipliers-is ∙ w.move_raised.ensures ∙ ap (next_multipliers n state plan) (ap (unraised n) up ∙ unraised-raised n ls long)
       | else-raising-2 w ↦ w.multipliers-is ∙ w.move_multipliers.ensures ∙ ap (next_multipliers n state plan) (up ∙ as_they_are n ls c.requires.sound w.if-raising-2.false long)
     ] in
     rw (moved, c.add_plan.ensures)

@@ -8,8 +8,8 @@ use Rattle.integer_algebra.specs.Sums.{at}
 use Rattle.qp_model.specs.Controller.{numbers}
 use Rattle.qp_model.specs.Machine.{lowering_of, next_multiplier}
 use Rattle.overflow_check.proofs.Sizes.{length-clamp_reach}
-use Rattle.fixed_kernel.specs.Lowered.{lowered}
-use Rattle.fixed_kernel.proofs.Raised.{lowered_at, lowered_within, within_narrow_clamp}
+use Rattle.fixed_kernel.specs.Unraised.{unraised}
+use Rattle.fixed_kernel.proofs.Raised.{unraised_at, lowered_within, within_narrow_clamp}
 use Rattle.fixed_kernel.proofs.step.move_raised.Goals as goal
 
 pub shifted_by-old-requires-clause-narrow : goal.shifted_by-old-requires-clause-narrow
@@ -63,5 +63,5 @@ returns c =
     let state = c.args.state.now in
     let plan = c.args.plan.now in
     let ls = c.args.multipliers.now in
-    fill_by_all (λ k. next_multiplier n state plan (at (lowered n ls) k) k) c.loop-i.multipliers (length n.bounds) (pos 0) (omega (arith, c.requires.multipliers.long, length-clamp_reach n))
-    (λ k h. c.loop-i.invariant.moved k (omega (arith, h, c.requires.multipliers.long, length-clamp_reach n)) ∙ ap (λ (z : _). next_multiplier n state plan z k) (sym (lowered_at n ls k h)))
+    fill_by_all (λ k. next_multiplier n state plan (at (unraised n ls) k) k) c.loop-i.multipliers (length n.bounds) (pos 0) (omega (arith, c.requires.multipliers.long, length-clamp_reach n))
+    (λ k h. c.loop-i.invariant.moved k (omega (arith, h, c.requires.multipliers.long, length-clamp_reach n)) ∙ ap (λ (z : _). next_multiplier n state plan z k) (sym (unraised_at n ls k h)))
