@@ -195,27 +195,10 @@ fn changed(rt: HostRuntime) -> Result<(), Fail> {
 }
 
 // The first text in version 2, with exponents that are not all the greatest.
-const SECOND_VERSION: &str = "mpc-controller 2
-size 1 1 1 3
-bits 10 0 1 26
-steps 4
-clamp 32768
-words 6
-exps 0 1 1
-lo 0
-hi 1
-P 512
-T 0
-W 256 -256 256
-G 1024
-G -1024
-G 1024
-E 0
-E 0
-E 1024
-b 1024 1024 256
-end
-";
+fn second_version(alloc: Global) -> Result<String, AllocError> {
+    let text = CONTROLLER.replace(alloc, "mpc-controller 1", "mpc-controller 2")?;
+    Ok(text.replace(alloc, "words 6\n", "words 6\nexps 0 1 1\n")?)
+}
 
 // What stands in place of a part of it, and why it is refused then.
 static SECOND_CHANGES: [(&str, &str, Option<BadController>); 15] = [
@@ -294,14 +277,16 @@ static GREATER_SIZES: [(&str, &str, Option<BadController>); 4] = [
 
 #[test]
 fn second_version_written_back(rt: HostRuntime) -> Result<(), Fail> {
-    assert!(rt; is_written_back(rt.alloc(), SECOND_VERSION)?);
+    let text = second_version(rt.alloc())?;
+    assert!(rt; is_written_back(rt.alloc(), &text)?);
     Ok(())
 }
 
 #[test]
 fn second_version_changed(rt: HostRuntime) -> Result<(), Fail> {
+    let text = second_version(rt.alloc())?;
     assert_eq!(rt;
-        first_other(rt.alloc(), SECOND_VERSION, &SECOND_CHANGES)?,
+        first_other(rt.alloc(), &text, &SECOND_CHANGES)?,
         None
     );
     Ok(())
@@ -309,8 +294,9 @@ fn second_version_changed(rt: HostRuntime) -> Result<(), Fail> {
 
 #[test]
 fn greater_sizes(rt: HostRuntime) -> Result<(), Fail> {
+    let text = second_version(rt.alloc())?;
     assert_eq!(rt;
-        first_other(rt.alloc(), SECOND_VERSION, &GREATER_SIZES)?,
+        first_other(rt.alloc(), &text, &GREATER_SIZES)?,
         None
     );
     Ok(())
@@ -318,8 +304,9 @@ fn greater_sizes(rt: HostRuntime) -> Result<(), Fail> {
 
 #[test]
 fn second_version_cut(rt: HostRuntime) -> Result<(), Fail> {
+    let text = second_version(rt.alloc())?;
     assert_eq!(rt;
-        first_other_cut(rt.alloc(), SECOND_VERSION.as_bytes())?,
+        first_other_cut(rt.alloc(), text.as_bytes())?,
         None
     );
     Ok(())
