@@ -28,14 +28,7 @@ amount_mono : (n : ℕ) (f g : ℕ → ℕ) → ((i : ℕ) → i < n → f i ≤
 amount_mono zero f g h = omega arith
 amount_mono (suc n) f g h = omega (arith, amount_mono n f g (λ i l. h i (omega arith)), h n (omega arith))
 
--- a number of a table
-pub entry_small : (m : Matrix) (i j : ℕ) → All (All IsNumerator) m.rows → i < length m.rows → unsigned_abs (entry_of m i j) < 2 ^ 31
-entry_small m i j all h = elim (cases_lt j (length (row_of m i))) [
-  | inl lt ↦ all i [] h j (pos 0) lt
-  | inr le ↦ rw (get_or_past (row_of m i) j (pos 0) le) (omega arith)
-]
-
--- the product of two such
+-- the product of two numerators
 pub product_small : (a b : ℕ) → a < 2 ^ 31 → b < 2 ^ 31 → a * b ≤ 2 ^ 62
 product_small a b h l = omega (arith, mul-le a b (2 ^ 31) (2 ^ 31) (omega arith) (omega arith))
 

@@ -1,13 +1,16 @@
 -- Controllers by the version of their text: the greatest sizes of all versions, and the first version, where each row has the greatest exponent.
 use Rattle.std.proofs.Common.{◌≡◌, ℕ, ◌-◌, ◌*◌, ◌/◌, ◌^◌, ◌<◌, ◌≤◌, ℤ, pos, negsuc, ◌*ℤ◌, List, length, map, get_or, replicate, arith, ap, ◌∙◌, le_refl, le_trans, Bool, true, false, ◌==◌, if◌then◌else◌}
 use Rattle.std.specs.List.{range_with_len}
-use Rattle.std.proofs.Math.Nat.{div-one}
+use Rattle.std.proofs.Math.Nat.{div-one, mul-le-mul}
 use Rattle.std.proofs.lemmas.Int.{ints}
 use Rattle.std.proofs.lemmas.List.{get_or-replicate, same_lists, get_or_default}
 use Rattle.std.proofs.lemmas.List.FromFn.{length-map-range_with_len, get_or-map-range_with_len}
 use Rattle.integer_algebra.specs.Division.{floor_of}
 use Rattle.integer_algebra.specs.Sums.{at}
 use Rattle.qp_model.specs.Limits.{text_version, most_states, most_stages, most_rows}
+use Rattle.qp_model.specs.declared.design_parts.DesignParts.{DesignParts}
+use Rattle.qp_model.specs.Design.{rows}
+use Rattle.qp_model.specs.Parts.{IsDesign, design_of}
 use Rattle.qp_model.specs.Controller.{Numbers, IsSized}
 use Rattle.qp_model.specs.Machine.{exponent_of, lowering_of, raised, top_of}
 
@@ -24,6 +27,15 @@ stages_le c sized = omega (arith, sized.stages.1, either_le (c.version == 1) 20 
 
 pub limits_le : (c : Numbers) → IsSized c → c.rows ≤ 372
 limits_le c sized = omega (arith, sized.rows.1, either_le (c.version == 1) 20 30 (omega arith))
+
+pub design_states_le : (p : DesignParts) → IsDesign p → p.states ≤ 6
+design_states_le p h = omega (arith, h.states.1, either_le (p.version == 1) 4 6 (omega arith))
+
+pub design_stages_le : (p : DesignParts) → IsDesign p → p.stages ≤ 30
+design_stages_le p h = omega (arith, h.stages.1, either_le (p.version == 1) 20 30 (omega arith))
+
+pub design_rows_le : (p : DesignParts) → IsDesign p → rows (design_of p) ≤ 372
+design_rows_le p h = omega (arith, mul-le-mul (design_stages_le p h) h.stage_rows.rows.1, h.final_rows.rows.1)
 
 -- ---- the first version
 pub first_exponent : (c : Numbers) → IsSized c → c.version ≡ text_version → (i : ℕ) → i < c.rows → exponent_of c i ≡ c.step_exponent

@@ -13,6 +13,7 @@ use Rattle.qp_model.specs.Condensing.{condensed_of}
 use Rattle.qp_model.specs.Form.{Form}
 use Rattle.qp_model.specs.Class.{form_of}
 use Rattle.qp_model.specs.Errors.{error_sums_of, plan_bound, residual_error, radius_error, epsilon, error_size}
+use Rattle.qp_model.specs.Choices.{violation_bound, row_violation_bound}
 use Rattle.qp_model.specs.Controller.{Numbers}
 use Rattle.qp_model.specs.Machine.{loaded, after, entry_sum, averaged_plan, average_denominator, raised, top_of}
 use Rattle.qp_model.specs.AbsoluteSums.{greatest_sum, entry_absolute_sum, plan_magnitudes, sum_magnitude}
@@ -298,7 +299,17 @@ real_plan_is = refl
 real_cost_is : real_cost base (form_of base) 8 first_controller ≡ 438095052800
 real_cost_is = refl
 
--- and where its gains are a little off
+-- ---- what is printed of its rows: the greatest violation, and that of a row whose exponent is 0
+greatest_violation : violation_bound 1 8 4 438095052800 ≡ 8850854903808
+greatest_violation = refl
+
+own_violation : row_violation_bound 0 1 8 4 438095052800 ≡ 6651831648256
+own_violation = refl
+
+same_violation : row_violation_bound 1 1 8 4 438095052800 ≡ 8850854903808
+same_violation = refl
+
+-- ---- and where its gains are a little off
 abbrev rough_controller : Numbers
 rough_controller = record first_controller {
   state_gains = matrix 1 ((pos 512 ∷ []) ∷ []);

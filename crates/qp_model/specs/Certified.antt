@@ -40,7 +40,7 @@ CostsNoMoreThanFeasible d xi q u more = (r : ℤ) (t : ℕ → ℤ) → pos 0 <�
 
 -- the printed violation of each row and that of all, the gap and the undercut hold of it
 pub record KeepsBounds (d : Design) (b : Printed) (xi : ℕ → ℤ) (q : ℤ) (u : ℕ → ℤ) : Type 0 where
-  pub rows : ExceedsNoRowBy d xi q u b.row_violation
+  pub rows : ExceedsNoRowBy d xi q u (at b.row_violations)
   pub violation : ExceedsNoRowBy d xi q u (λ i. b.violation)
   pub costs : CostsNoMoreThanFeasible d xi q u b.gap
   pub repair : HasFeasible d xi q u b.undercut

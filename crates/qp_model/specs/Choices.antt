@@ -22,7 +22,11 @@ multiplier_size_of m = multiplier_size (unsigned_abs m.units) (unsigned_abs m.co
 abbrev pub step_count : (s r half_target : ℕ) → ℕ
 step_count s r half_target = ceil_div (2 ^ (s + 41) * r) half_target
 
--- by how much a plan exceeds a row at most, in units of 2^-40
+-- by how much a plan exceeds a row with the step exponent e at most, in units of 2^-40, where s is the greatest exponent
+abbrev pub row_violation_bound : (e s r k eps : ℕ) → ℕ
+row_violation_bound e s r k eps = ceil_div ((2 ^ e + 2 ^ s) * 2 ^ 40 * r) k + ceil_div eps r
+
+-- by how much it exceeds any row at most: a row with the greatest exponent
 abbrev pub violation_bound : (s r k eps : ℕ) → ℕ
 violation_bound s r k eps = ceil_div (2 ^ (s + 41) * r) k + ceil_div eps r
 

@@ -1,6 +1,7 @@
 -- The class of a design: whether its controller is made of the exact condensed numbers or of enclosures of them; and what that decides.
-use Rattle.std.specs.Prelude.{ℕ, ◌≤◌, ◌^◌, Bool, true, false}
-use Rattle.qp_model.specs.Design.{Design}
+use Rattle.std.specs.Prelude.{ℕ, ◌+◌, ◌*◌, ◌≤◌, ◌^◌, Bool, true, false}
+use Rattle.integer_algebra.specs.Division.{ceil_div}
+use Rattle.qp_model.specs.Design.{Design, entries}
 use Rattle.qp_model.specs.Parts.{IsDesign, design_of}
 use Rattle.qp_model.specs.Form.{Form, exact_form, IsFormFor}
 use Rattle.qp_model.specs.Quantities.{prediction_size, hessian_size, rows_size}
@@ -34,6 +35,22 @@ cost_row_in false d = hessian_size d
 abbrev pub product_row_in : (fine : Bool) → Design → ℕ
 product_row_in true d = fine_product_row_size d
 product_row_in false d = rows_size d
+
+-- ---- where the rows may count more than once, as a row does whose step exponent is below the greatest
+-- what a row of a matrix comes to at most, by the quantity of the numbers that it is made of
+abbrev pub row_quantity : (fine : Bool) → (size entries : ℕ) → ℕ
+row_quantity true size entries = ceil_div size (2 ^ 40) + 4 * entries
+row_quantity false size entries = size
+
+-- the quantity `curvature`, with this number for `rows`
+abbrev pub curvature_with : (fine : Bool) → Design → (size : ℕ) → ℕ
+curvature_with fine d size = curvature_of (covering_exponent d (form_in fine d)) d.limit_denominator (cost_row_in fine d)
+    d.cost_denominator d.row_denominator (row_quantity fine size (entries d))
+
+-- each row may count up to 2^4 times
+pub record HasLoweringRoom (fine : Bool) (d : Design) : Type 0 where
+  pub rows : 2 ^ 4 * rows_in fine d ≤ 2 ^ 126
+  pub curvature : curvature_with fine d (2 ^ 4 * rows_in fine d) ≤ 2 ^ 126
 
 -- ---- of the design's own class
 -- the form that a controller of the design is made of

@@ -1,11 +1,11 @@
--- The versions of the text of a design and of a controller, and their greatest sizes by them.
+-- The versions of the texts of a design and of a controller, and their greatest sizes by them.
 use Rattle.std.specs.Prelude.{ℕ, ◌+◌, ◌*◌, ◌==◌, if◌then◌else◌}
 
--- `VERSION` of the code: that of a design's text, and the first of a controller's
+-- `VERSION` of the code: the first
 abbrev pub text_version : ℕ
 text_version = 1
 
--- `LAST_VERSION` of the code: the last of a controller's
+-- `LAST_VERSION` of the code: the last
 abbrev pub last_version : ℕ
 last_version = 2
 

@@ -2,7 +2,7 @@
 use Rattle.std.specs.Prelude.{◌≡◌, ℕ, ◌+◌, ◌≤◌, ◌<◌, ℤ, pos, ◌≤ℤ◌, List, [], ◌∷◌, ◌++◌, length, All, slice_index_or}
 use Rattle.integer_algebra.specs.Sums.{at}
 use Rattle.mat_int.specs.Matrix.{Matrix}
-use Rattle.qp_model.specs.Limits.{text_version, most_states, most_inputs, most_stages}
+use Rattle.qp_model.specs.Limits.{text_version, last_version, most_states, most_inputs, most_stages}
 use Rattle.qp_model.specs.Range.{LiesIn, IsDenominator, IsNumerator, IsPositive}
 use Rattle.qp_model.specs.Rules.{Rule, shape, range}
 use Rattle.qp_model.specs.declared.design_parts.DesignParts.{DesignParts}
@@ -29,10 +29,10 @@ pub record AreHighs (high low : List ℤ) (n : ℕ) : Type 0 where
 
 abbrev pub size_rules : DesignParts → List Rule
 size_rules p =
-    range 1 (p.version ≡ text_version)
-    ∷ range 2 (LiesIn 1 (most_states text_version) p.states)
-    ∷ range 3 (LiesIn 1 (most_inputs text_version) p.inputs)
-    ∷ range 4 (LiesIn 1 (most_stages text_version) p.stages)
+    range 1 (LiesIn text_version last_version p.version)
+    ∷ range 2 (LiesIn 1 (most_states p.version) p.states)
+    ∷ range 3 (LiesIn 1 (most_inputs p.version) p.inputs)
+    ∷ range 4 (LiesIn 1 (most_stages p.version) p.stages)
     ∷ []
 
 abbrev pub plant_rules : DesignParts → List Rule

@@ -3,7 +3,7 @@ use Rattle.std.specs.Prelude.{◌≡◌, ℕ, ◌+◌, ◌≤◌, ◌<◌, ℤ, 
 use Rattle.integer_algebra.specs.Sums.{at, none}
 use Rattle.mat_int.specs.Matrix.{Matrix, entry_of}
 use Rattle.qp_model.specs.Design.{Design, CostRow, LimitRow}
-use Rattle.qp_model.specs.Limits.{text_version, most_states, most_inputs, most_stages}
+use Rattle.qp_model.specs.Limits.{text_version, last_version, most_states, most_inputs, most_stages}
 use Rattle.qp_model.specs.Range.{LiesIn, IsDenominator, IsNumerator, IsPositive}
 use Rattle.qp_model.specs.declared.design_parts.DesignParts.{DesignParts}
 
@@ -108,10 +108,10 @@ pub record IsNumeratorList (xs : List ℤ) (n : ℕ) : Type 0 where
   pub numbers : All IsNumerator xs
 
 pub record IsDesign (p : DesignParts) : Type 0 where
-  pub version : p.version ≡ text_version
-  pub states : LiesIn 1 (most_states text_version) p.states
-  pub inputs : LiesIn 1 (most_inputs text_version) p.inputs
-  pub stages : LiesIn 1 (most_stages text_version) p.stages
+  pub version : LiesIn text_version last_version p.version
+  pub states : LiesIn 1 (most_states p.version) p.states
+  pub inputs : LiesIn 1 (most_inputs p.version) p.inputs
+  pub stages : LiesIn 1 (most_stages p.version) p.stages
   pub plant_den : IsDenominator p.plant_den
   pub a : IsTable p.a p.states p.states p.states
   pub b : IsTable p.b p.states p.states p.inputs

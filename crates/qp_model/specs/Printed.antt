@@ -1,9 +1,10 @@
 -- The numbers that are printed of a controller, as the promise speaks of them.
-use Rattle.std.specs.Prelude.{ℕ, ℤ}
+use Rattle.std.specs.Prelude.{ℕ, ℤ, List}
 use Rattle.qp_model.specs.declared.bounds.Bounds.{Bounds}
 
 -- `violation`, the greatest of all rows, and that of each row, `gap` and `undercut` are over 2^40, the margin over 2^16
 pub record Printed : Type 0 where
+  pub version : ℕ
   pub margin : ℤ
   pub cost : ℤ
   pub multiplier : ℤ
@@ -13,13 +14,13 @@ pub record Printed : Type 0 where
   pub width : ℕ
   pub words : ℕ
   pub violation : ℤ
-  pub row_violation : ℕ → ℤ
+  pub row_violations : List ℤ
   pub gap : ℤ
   pub undercut : ℤ
 
--- the same violation for every row
 abbrev pub printed : Bounds → Printed
 printed b = record {
+  version = b.version;
   margin = b.margin;
   cost = b.cost;
   multiplier = b.multiplier;
@@ -29,7 +30,7 @@ printed b = record {
   width = b.width;
   words = b.words;
   violation = b.violation;
-  row_violation = λ i. b.violation;
+  row_violations = b.rows.items;
   gap = b.gap;
   undercut = b.undercut;
 }

@@ -8,15 +8,17 @@ pub struct Margin {
 }
 
 /// What a report prints of a controller.
-#[derive(Clone, Copy, Debug, PartialEq, Eq)]
+#[derive(Debug, Drop)]
 pub struct Bounds {
+    /// The version of the design's and the controller's text, 1 or 2.
+    pub version: u32,
     /// The corners' least slack, over `2^16`.
     pub margin: i128,
     /// The corners' greatest cost.
     pub cost: i128,
     /// R: half the greatest multiplier.
     pub multiplier: i128,
-    /// s: a step is `2^-s`.
+    /// s: a step is at least `2^-s`.
     pub step: u32,
     /// K, the steps of a run.
     pub steps: u32,
@@ -28,6 +30,9 @@ pub struct Bounds {
     pub words: usize,
     /// By how much a plan exceeds a constraint at most, over `2^40`.
     pub violation: i128,
+    /// By how much it exceeds each of the m constraints at most, over `2^40`: in version 1 the same for all, in version 2 less for a row with a
+    /// smaller step exponent.
+    pub rows: Vec<i128>,
     /// How much more than any feasible plan it costs at most, over `2^40`.
     pub gap: i128,
     /// How much more than it some feasible plan costs at most, over `2^40`.

@@ -4,7 +4,7 @@ use mat_int::Mat;
 /// limits' rows, the box of initial states and the targets.
 #[derive(Debug, Drop)]
 pub struct DesignParts {
-    /// The version of its text, which is 1.
+    /// The version of its text, 1 or 2.
     pub version: u32,
     /// n, the states.
     pub states: usize,

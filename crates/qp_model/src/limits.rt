@@ -1,11 +1,11 @@
-// The greatest sizes of a design and of a controller, by the version of its text: a design's is 1, a controller's 1 or 2.
+// The greatest sizes of a design and of a controller, by the version of its text.
 ghost use Rattle.std.specs.Prelude.{◌≡◌};
 ghost use Rattle.qp_model.specs.Limits as limits;
 
-/// The version of a design's text, and the first of a controller's.
+/// The first version of the texts of a design and of a controller.
 pub const VERSION: u32 = 1;
 
-/// The last version of a controller's text.
+/// Their last version.
 pub const LAST_VERSION: u32 = 2;
 
 /// The most states of any version.

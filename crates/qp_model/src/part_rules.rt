@@ -4,7 +4,7 @@ ghost use Rattle.qp_model.specs.Rules.{AllHold, Tests};
 ghost use Rattle.qp_model.specs.PartRules.{HasSize, size_rules, plant_rules, cost_rules, limit_rules, box_rules, target_rules, part_rules};
 
 use crate::design_parts::DesignParts;
-use crate::limits::{MOST_INPUTS, VERSION, most_stages, most_states};
+use crate::limits::{LAST_VERSION, MOST_INPUTS, VERSION, most_stages, most_states};
 use crate::range::{
     are_costs, are_highs, are_limits, are_numerators, are_positive, has_numerators, is_denominator,
     is_positive, lies_in,
@@ -35,10 +35,10 @@ fn has_size(m: &Mat, low: usize, high: usize, width: usize) -> bool
 fn test_sizes(p: &DesignParts) -> Result<(), TextFault>
     ensures { Tests result (size_rules p.now) }
 {
-    in_range(1, p.version == VERSION)?;
-    in_range(2, lies_in(1, most_states(VERSION), p.states))?;
+    in_range(1, (VERSION..=LAST_VERSION).contains(&p.version))?;
+    in_range(2, lies_in(1, most_states(p.version), p.states))?;
     in_range(3, lies_in(1, MOST_INPUTS, p.inputs))?;
-    in_range(4, lies_in(1, most_stages(VERSION), p.stages))
+    in_range(4, lies_in(1, most_stages(p.version), p.stages))
 }
 
 fn test_plant(p: &DesignParts) -> Result<(), TextFault>

@@ -5,7 +5,8 @@ use Rattle.integer_algebra.proofs.SizeLaws.{amount_more}
 use Rattle.mat_int.specs.Matrix.{entry_of}
 use Rattle.qp_model.specs.Controller.{numbers}
 use Rattle.qp_model.specs.LoopSize.{coordinate_magnitude}
-use Rattle.closed_loop.proofs.Reaches.{entry_small, product_small}
+use Rattle.qp_model.proofs.TableLaws.{entry_small}
+use Rattle.closed_loop.proofs.Reaches.{product_small}
 use Rattle.closed_loop.proofs.size.state_absolute_sum.Goals as goal
 
 pub overflow_mul-sum : goal.overflow_mul-sum

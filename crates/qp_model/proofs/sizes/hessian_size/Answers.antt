@@ -1,9 +1,10 @@
-use Rattle.std.proofs.Common.{◌≡◌, ℕ, ◌+◌, ◌*◌, ◌^◌, ◌≤◌, ◌∙◌, sym, subst, arith, refl}
-use Rattle.std.proofs.Math.Nat.{one-le-mul}
+use Rattle.std.proofs.Common.{◌≡◌, ℕ, ◌+◌, ◌*◌, ◌^◌, ◌<◌, ◌≤◌, ◌∙◌, sym, subst, arith, refl}
+use Rattle.std.proofs.Math.Nat.{mul-le-mul, one-le-mul}
 use Rattle.std.specs.Option.{SomeIff}
 use Rattle.qp_model.specs.Design.{entries}
 use Rattle.qp_model.specs.Parts.{design_of}
 use Rattle.qp_model.specs.Quantities.{growth, cost_width, weight_sum, prediction_size, hessian_size}
+use Rattle.qp_model.proofs.VersionLaws.{design_states_le, design_stages_le}
 use Rattle.qp_model.proofs.SizeFacts.{hessian_parts, hessian_value, some_weight, some_cost, some_entry}
 use Rattle.qp_model.proofs.sizes.hessian_size.Goals as goal
 
@@ -27,3 +28,20 @@ returns c =
     let P : ℕ → Type 0 = λ z. SomeIff c.limited_area.result (z ≤ 2 ^ 126) z in
     subst P (sym (hessian_value (entries d * (entries d + p.states + 1)) (weight_sum d) c.weight_sum.result c.in_ok-response.response (cost_width d) (prediction_size d) (prediction_size d)
     c.weight_sum.ensures.sum (c.in_ok-response.ensures.1 ∙ rw (c.cost_width.ensures, c.in_ok-prediction_size.ensures.1) refl) refl)) c.limited_area.ensures
+
+-- the count of the entries, twice, times the weights
+fits : (stages inputs states weight : ℕ) → stages ≤ 30 → inputs ≤ 3 → states ≤ 6 → weight < 2 ^ 64
+    → stages * inputs * (stages * inputs + states + 1) * 2 * weight < 2 ^ 128
+fits stages inputs states weight s i n w =
+    let entries : stages * inputs ≤ 90 = mul-le-mul s i in
+    let beside : stages * inputs + states + 1 ≤ 97 = omega (arith, entries, n) in
+    let count : stages * inputs * (stages * inputs + states + 1) ≤ 8730 = mul-le-mul entries beside in
+    let twice : stages * inputs * (stages * inputs + states + 1) * 2 ≤ 17460 = omega (arith, count) in
+    let weights : weight ≤ 2 ^ 64 = omega (arith, w) in
+    let all : stages * inputs * (stages * inputs + states + 1) * 2 * weight ≤ 17460 * 2 ^ 64 = mul-le-mul twice weights in
+    omega (arith, all)
+
+pub overflow_mul-count-3 : goal.overflow_mul-count-3
+overflow_mul-count-3 c =
+    let p = c.args.parts.now in
+    record { fits = fits p.stages p.inputs p.states c.weight_sum.result (design_stages_le p c.requires) c.requires.inputs.1 (design_states_le p c.requires) c.weight_sum.ensures.small }
