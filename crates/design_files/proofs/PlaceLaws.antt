@@ -1,13 +1,14 @@
 -- The numbers of the tables together.
-use Rattle.std.proofs.Common.{◌≡◌, ℕ, pos, List, ◌++◌, Option, Some, arith, refl, sym, ap, ◌∙◌}
+use Rattle.std.proofs.Common.{◌≡◌, ℕ, pos, List, ◌++◌, Option, Some, refl, sym, ap, ◌∙◌}
 use Rattle.std.proofs.lemmas.List.{append_assoc}
 use Rattle.toml.specs.Data.{Data}
+use Rattle.qp_model.specs.Limits.{most_states, most_inputs, most_stages}
 use Rattle.qp_model.specs.Parts.{IsDesign}
 use Rattle.qp_model.specs.Rules.{Rule}
 use Rattle.qp_model.specs.declared.design_parts.DesignParts.{DesignParts}
 use Rattle.design_files.specs.Numbers.{number_in, count_of}
 use Rattle.design_files.specs.Values.{Values}
-use Rattle.design_files.specs.Places.{size_places, plant_places, cost_places, limit_places, box_places, target_places, rules_for, place_rules}
+use Rattle.design_files.specs.Places.{count_rules, size_places, plant_places, cost_places, limit_places, box_places, target_places, rules_for, place_rules}
 use Rattle.design_files.specs.DesignText.{HasNumbers}
 use Rattle.design_files.specs.Sections.{HasSizeNumbers, HasPlant, HasCostNumbers, HasLimits, HasBox, HasTargets}
 use Rattle.design_files.specs.declared.places.Sizes.{Sizes}
@@ -21,6 +22,10 @@ pub count_is : (value : Option Data) (n : ℕ) → number_in value ≡ Some (pos
 count_is value n is = rw is refl
 
 -- ---- the rules after those of a table
+-- after those of the version: the sizes up to its greatest
+abbrev pub after_version : (version : ℕ) → Values → List Rule
+after_version version v = count_rules 2 1 (most_states version) v.states ++ (count_rules 3 1 (most_inputs version) v.inputs ++ count_rules 4 1 (most_stages version) v.stages)
+
 abbrev pub after_limits : ℕ → ℕ → Values → List Rule
 after_limits n p v = box_places n v ++ target_places v
 
@@ -112,7 +117,7 @@ module _ (v : Values) (s : Sizes) (plant : PlantNumbers) (cost : CostNumbers) (l
 
   pub is_design : IsDesign (assembled s plant cost limits box targets)
   is_design = record {
-    version = omega (arith, in_sizes.version.fits.0, in_sizes.version.fits.1);
+    version = in_sizes.version.fits;
     states = in_sizes.states.fits;
     inputs = in_sizes.inputs.fits;
     stages = in_sizes.stages.fits;

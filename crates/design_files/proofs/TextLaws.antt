@@ -1,11 +1,12 @@
 -- A text is a design text or has a first fault, and not both; and it has one of either.
-use Rattle.std.proofs.Common.{◌≡◌, ◌⊎◌, ℕ, ◌+◌, ◌≤◌, ◌<◌, ℤ, pos, ◌≤ℤ◌, List, ◌++◌, length, All, Option, Some, None, IsSome, refl, sym, ap, ◌∙◌, inl, inr, Result, Ok, Err, lit≤, zero-le, arith}
+use Rattle.std.proofs.Common.{◌≡◌, ◌⊎◌, ℕ, ◌+◌, ◌≤◌, ◌<◌, ℤ, pos, ◌≤ℤ◌, List, ◌++◌, length, All, Option, Some, None, IsSome, refl, sym, ap, ◌∙◌, inl, inr, Result, Ok, Err, zero-le, arith}
 use Rattle.std.specs.Prelude.{IsSomeAnd, MatchOption, IfOk, IfErr, IsOkAnd}
 use Rattle.std.proofs.lemmas.Int.{ints}
 use Rattle.std.proofs.lemmas.Option.{same_Some, none-some}
 use Rattle.integer_algebra.specs.Sums.{at}
 use Rattle.mat_int.specs.Matrix.{Matrix, entry_of}
 use Rattle.toml.specs.Data.{Data, Members}
+use Rattle.qp_model.specs.Limits.{text_version, last_version, most_states, most_inputs, most_stages}
 use Rattle.qp_model.specs.Range.{LiesIn, IsDenominator, IsPositive}
 use Rattle.qp_model.specs.Parts.{IsDesign, IsTable, IsNumeratorList, design_numbers}
 use Rattle.qp_model.specs.Rules.{AllHold, IsFirstBroken}
@@ -22,7 +23,7 @@ use Rattle.design_files.specs.Places.{count_rules, denominator_rules, positive_r
 use Rattle.design_files.specs.DesignText.{HasNumbers, IsDesignDocument, IsDesignText, rules_of, IsDesignFault}
 use Rattle.design_files.specs.Sections.{HasSizeNumbers}
 use Rattle.design_files.specs.declared.places.Sizes.{Sizes}
-use Rattle.design_files.proofs.PlaceLaws.{place_rules_at, after_sizes, after_plant, after_cost, after_limits}
+use Rattle.design_files.proofs.PlaceLaws.{count_is, place_rules_at, after_version, after_sizes, after_plant, after_cost, after_limits}
 
 -- ---- each place
 number_there : (value : Option Data) (z : ℤ) → number_in value ≡ Some z → IsSome value
@@ -76,7 +77,14 @@ keys_hold document p h further =
 
 sizes_hold : (v : Values) (p : DesignParts) → HasNumbers v p → IsDesign p → AllHold (size_places v)
 sizes_hold v p h d =
-    all_hold (count_rules 1 1 1 v.version) (count_rules 2 1 4 v.states ++ (count_rules 3 1 3 v.inputs ++ (count_rules 4 1 20 v.stages))) (count_holds 1 1 1 v.version p.version h.version (rw d.version (lit≤ tt, lit≤ tt))) (all_hold (count_rules 2 1 4 v.states) (count_rules 3 1 3 v.inputs ++ (count_rules 4 1 20 v.stages)) (count_holds 2 1 4 v.states p.states h.states d.states) (all_hold (count_rules 3 1 3 v.inputs) (count_rules 4 1 20 v.stages) (count_holds 3 1 3 v.inputs p.inputs h.inputs d.inputs) (count_holds 4 1 20 v.stages p.stages h.stages d.stages)))
+    let version = p.version in
+    let states = count_rules 2 1 (most_states version) v.states in
+    let inputs = count_rules 3 1 (most_inputs version) v.inputs in
+    let stages = count_rules 4 1 (most_stages version) v.stages in
+    rw (count_is v.version version h.version) (all_hold (count_rules 1 text_version last_version v.version) (after_version version v) (count_holds 1 text_version last_version v.version version h.version d.version)
+    (all_hold states (inputs ++ stages) (count_holds 2 1 (most_states version) v.states p.states h.states d.states)
+    (all_hold inputs stages (count_holds 3 1 (most_inputs version) v.inputs p.inputs h.inputs d.inputs)
+    (count_holds 4 1 (most_stages version) v.stages p.stages h.stages d.stages))))
 
 plant_hold : (v : Values) (p : DesignParts) → HasNumbers v p → IsDesign p → AllHold (plant_places p.states p.inputs v)
 plant_hold v p h d =
@@ -111,7 +119,7 @@ places_hold v p h d =
     let m = p.inputs in
     let sizes : Sizes = record { version = p.version; states = n; inputs = m; stages = p.stages } in
     let known : HasSizeNumbers v sizes = record {
-      version = record { number = h.version; fits = rw d.version (lit≤ tt, lit≤ tt) };
+      version = record { number = h.version; fits = d.version };
       states = record { number = h.states; fits = d.states };
       inputs = record { number = h.inputs; fits = d.inputs };
       stages = record { number = h.stages; fits = d.stages };

@@ -1,7 +1,7 @@
 -- The rules of a design text's places: the shape of the value at each, and then the range of its numbers.
 use Rattle.std.specs.Prelude.{ℕ, ◌+◌, pos, ◌≤ℤ◌, List, [], ◌∷◌, ◌++◌, All, Option}
 use Rattle.toml.specs.Data.{Data, Members}
-use Rattle.qp_model.specs.Limits.{text_version, most_states, most_inputs, most_stages}
+use Rattle.qp_model.specs.Limits.{text_version, last_version, most_states, most_inputs, most_stages}
 use Rattle.qp_model.specs.Range.{IsDenominator, IsNumerator, IsPositive}
 use Rattle.qp_model.specs.Rules.{Rule, shape, range}
 use Rattle.qp_model.specs.PartRules.{AreCosts, AreLimits, AreHighs}
@@ -52,10 +52,12 @@ abbrev pub high_rules : ℕ → Option Data → Option Data → List Rule
 high_rules n low value = shape 18 (IsList n value) ∷ range 18 (AreHighs (list_of value) (list_of low) n) ∷ []
 
 -- ---- the places, by tables, for n states and p inputs
+-- the version, and the sizes up to its greatest
 abbrev pub size_places : Values → List Rule
 size_places v =
-    count_rules 1 1 text_version v.version
-    ++ (count_rules 2 1 (most_states text_version) v.states ++ (count_rules 3 1 (most_inputs text_version) v.inputs ++ count_rules 4 1 (most_stages text_version) v.stages))
+    let version = count_of v.version in
+    count_rules 1 text_version last_version v.version
+    ++ (count_rules 2 1 (most_states version) v.states ++ (count_rules 3 1 (most_inputs version) v.inputs ++ count_rules 4 1 (most_stages version) v.stages))
 
 abbrev pub plant_places : ℕ → ℕ → Values → List Rule
 plant_places n p v = denominator_rules 5 v.plant_den ++ (table_rules 6 n n n v.a ++ table_rules 7 n n p v.b)

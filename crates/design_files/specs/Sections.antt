@@ -3,7 +3,7 @@ use Rattle.std.specs.Prelude.{◌≡◌, ℕ, ◌+◌, ◌≤◌, ◌<◌, ℤ, 
 use Rattle.integer_algebra.specs.Sums.{at}
 use Rattle.mat_int.specs.Matrix.{Matrix, entry_of}
 use Rattle.toml.specs.Data.{Data}
-use Rattle.qp_model.specs.Limits.{text_version, most_states, most_inputs, most_stages}
+use Rattle.qp_model.specs.Limits.{text_version, last_version, most_states, most_inputs, most_stages}
 use Rattle.qp_model.specs.Range.{LiesIn, IsDenominator, IsPositive}
 use Rattle.qp_model.specs.Parts.{IsTable, IsNumeratorList}
 use Rattle.design_files.specs.Numbers.{number_in, list_in, IsMatrix}
@@ -49,10 +49,10 @@ pub record HasLine (value : Option Data) (n : ℕ) (zs : List ℤ) : Type 0 wher
 
 -- ---- table by table, for n states and p inputs
 pub record HasSizeNumbers (v : Values) (s : Sizes) : Type 0 where
-  pub version : HasCount v.version 1 text_version s.version
-  pub states : HasCount v.states 1 (most_states text_version) s.states
-  pub inputs : HasCount v.inputs 1 (most_inputs text_version) s.inputs
-  pub stages : HasCount v.stages 1 (most_stages text_version) s.stages
+  pub version : HasCount v.version text_version last_version s.version
+  pub states : HasCount v.states 1 (most_states s.version) s.states
+  pub inputs : HasCount v.inputs 1 (most_inputs s.version) s.inputs
+  pub stages : HasCount v.stages 1 (most_stages s.version) s.stages
 
 pub record HasPlant (v : Values) (n p : ℕ) (q : PlantNumbers) : Type 0 where
   pub den : HasDenominator v.plant_den q.den

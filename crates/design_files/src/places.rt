@@ -3,7 +3,7 @@ ghost use Rattle.std.specs.Prelude.{◌≡◌, ◌⊎◌, ◌≤◌, ◌+◌, �
 ghost use Rattle.toml.specs.View.{view};
 ghost use Rattle.qp_model.specs.declared.design_parts.DesignParts.{DesignParts};
 ghost use Rattle.qp_model.specs.declared.text_fault.TextFault.{TextFault};
-ghost use Rattle.qp_model.specs.Limits.{text_version, most_states, most_inputs};
+ghost use Rattle.qp_model.specs.Limits.{last_version, most_states, most_inputs};
 ghost use Rattle.qp_model.specs.Parts.{IsDesign, design_numbers};
 ghost use Rattle.design_files.specs.Document.{document_of};
 ghost use Rattle.design_files.specs.Numbers.{count_of};
@@ -24,12 +24,15 @@ use qp_model::range::{
     is_positive,
 };
 use qp_model::rules::in_range;
-use qp_model::{Design, DesignParts, MOST_INPUTS, TextFault, VERSION, most_stages, most_states};
+use qp_model::{
+    Design, DesignParts, LAST_VERSION, MOST_INPUTS, TextFault, VERSION, most_stages, most_states,
+};
 use std::alloc::Global;
 use toml::Value;
 
-/// The design that a text writes, or the text's first fault: that it is no TOML document, then the first key in the order of the
-/// places that is absent, then a further key, and then for each place in turn the shape of its value and the range of its numbers.
+/// The design that a text of version 1 or 2 writes, or the text's first fault: that it is no TOML document, then the first key in the
+/// order of the places that is absent, then a further key, and then for each place in turn the shape of its value and the range of
+/// its numbers. In version 1 a design has up to 4 states, 3 inputs and 20 stages, in version 2 up to 6, 3 and 30.
 pub fn read_design(alloc: Global, bytes: &[u8]) -> Result<Design, TextFault>
     ensures text { IfOk result (λ design. IsDesignText bytes.now design) }
     ensures fault { IfErr result (λ fault. (fault ≡ TextFault.Memory) ⊎ IsDesignFault bytes.now fault) }
@@ -168,8 +171,8 @@ fn read_first(alloc: Global, keys: &Keys) -> Result<FirstNumbers, TextFault>
 }
 
 fn read_last(alloc: Global, keys: &Keys, n: usize, p: usize) -> Result<LastNumbers, TextFault>
-    requires states { n ≤ 4 }
-    requires inputs { p ≤ 3 }
+    requires states { n ≤ most_states last_version }
+    requires inputs { p ≤ most_inputs last_version }
     ensures { let v = seen keys.now in
         Reads result (HasLast v n p) (limit_places n p v ++ (box_places n v ++ target_places v)) }
 {
@@ -230,7 +233,7 @@ fn read_table(
 
 // Rows of n coefficients, a target and a weight.
 fn read_cost_rows(alloc: Global, place: u32, value: &Value, n: usize) -> Result<Mat, TextFault>
-    requires { n ≤ most_states text_version }
+    requires { n ≤ most_states last_version }
     ensures { let seen = Some (view value.now) in
         Reads result (HasCosts seen n) (cost_row_rules place n seen) }
 {
@@ -261,11 +264,12 @@ fn read_sizes(keys: &Keys) -> Result<Sizes, TextFault>
     ensures { let v = seen keys.now in Reads result (HasSizeNumbers v) (size_places v) }
 {
     let keys = &keys.top;
+    let version = read_count(1, keys.version, VERSION as usize, LAST_VERSION as usize)? as u32;
     Ok(Sizes {
-        version: read_count(1, keys.version, 1, VERSION as usize)? as u32,
-        states: read_count(2, keys.states, 1, most_states(VERSION))?,
+        version,
+        states: read_count(2, keys.states, 1, most_states(version))?,
         inputs: read_count(3, keys.inputs, 1, MOST_INPUTS)?,
-        stages: read_count(4, keys.stages, 1, most_stages(VERSION))?,
+        stages: read_count(4, keys.stages, 1, most_stages(version))?,
     })
 }
 
@@ -281,7 +285,7 @@ fn read_plant(alloc: Global, keys: &Keys, n: usize, p: usize) -> Result<PlantNum
 }
 
 fn read_cost(alloc: Global, keys: &Keys, n: usize, p: usize) -> Result<CostNumbers, TextFault>
-    requires { n ≤ most_states text_version }
+    requires { n ≤ most_states last_version }
     ensures { let v = seen keys.now in Reads result (HasCostNumbers v n p) (cost_places n p v) }
 {
     let keys = &keys.cost;
@@ -295,8 +299,8 @@ fn read_cost(alloc: Global, keys: &Keys, n: usize, p: usize) -> Result<CostNumbe
 }
 
 fn read_limits(alloc: Global, keys: &Keys, n: usize, p: usize) -> Result<LimitNumbers, TextFault>
-    requires states { n ≤ most_states text_version }
-    requires inputs { p ≤ most_inputs text_version }
+    requires states { n ≤ most_states last_version }
+    requires inputs { p ≤ most_inputs last_version }
     ensures { let v = seen keys.now in Reads result (HasLimits v n p) (limit_places n p v) }
 {
     let keys = &keys.limits;

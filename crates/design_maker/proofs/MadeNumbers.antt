@@ -7,6 +7,7 @@ use Rattle.std.proofs.lemmas.Bool.Decides.{nat_tests}
 use Rattle.std.proofs.lemmas.Int.{ints}
 use Rattle.integer_algebra.specs.Sums.{at}
 use Rattle.mat_int.specs.Matrix.{Matrix, entry_of}
+use Rattle.qp_model.specs.Limits.{text_version}
 use Rattle.qp_model.specs.Range.{LiesIn, IsDenominator, IsNumerator, IsPositive}
 use Rattle.qp_model.specs.Parts.{IsDesign, DesignNumbers, design_numbers}
 use Rattle.qp_model.specs.Rules.{AllHold}
@@ -136,6 +137,7 @@ inside (suc (suc k)) l = absurd (omega arith)
 pub is_design : (d : Drawn) (stages : ℕ) (p : DesignParts) → InRange d → LiesIn 1 20 stages → design_numbers p ≡ made_numbers d stages → IsDesign p
 is_design d stages p r s e =
     let small = are_small d r in
+    let version : p.version ≡ text_version = ap (λ (n : DesignNumbers). n.version) e in
     let states : p.states ≡ 2 = ap (λ (n : DesignNumbers). n.states) e in
     let inputs : p.inputs ≡ 2 = ap (λ (n : DesignNumbers). n.inputs) e in
     let horizon : p.stages ≡ stages = ap (λ (n : DesignNumbers). n.stages) e in
@@ -157,10 +159,10 @@ is_design d stages p r s e =
     let violation : p.violation ≡ pos 1 = ap (λ (n : DesignNumbers). n.violation) e in
     let gap : p.gap ≡ pos 4 = ap (λ (n : DesignNumbers). n.gap) e in
     record {
-      version = ap (λ (n : DesignNumbers). n.version) e;
-      states = rw states (lit≤ tt, lit≤ tt);
+      version = rw version (lit≤ tt, lit≤ tt);
+      states = rw (version, states) (lit≤ tt, lit≤ tt);
       inputs = rw inputs (lit≤ tt, lit≤ tt);
-      stages = rw horizon s;
+      stages = rw (version, horizon) s;
       plant_den = rw plant_den (denominator (pos 4) (omega arith) (omega arith));
       a = rw (a, states) (record { rows = (lit≤ tt, lit≤ tt); cols = refl; numbers = rows_numerators (plant_rows d) small.plant });
       b = rw (b, states, inputs) (record { rows = (lit≤ tt, lit≤ tt); cols = refl; numbers = rows_numerators input_rows inputs_small });

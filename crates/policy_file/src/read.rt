@@ -1,7 +1,7 @@
 // Texts of records as matrices.
 ghost use Rattle.std.specs.Prelude.{◌≡◌, ◌⊎◌, ℕ, ◌<◌, ◌≤◌, ◌^◌, length, IfOk, IfErr, MatchResult};
 ghost use Rattle.mat_int.specs.Matrix.{Matrix};
-ghost use Rattle.qp_model.specs.Limits.{text_version, most_states};
+ghost use Rattle.qp_model.specs.Limits.{last_version, most_states};
 ghost use Rattle.qp_model.specs.Parts.{design_of, IsDesign};
 ghost use Rattle.qp_model.specs.Policy.{Plans, plans_of, IsPolicyFor};
 ghost use Rattle.qp_model.specs.declared.text_fault.TextFault.{TextFault};
@@ -48,8 +48,8 @@ fn states_of(alloc: Global, bytes: &[u8], n: usize) -> Result<Mat, TextFault>
     Ok(states)
 }
 
-/// The plans of a text of `2^n` records, one for each corner of the box, of a denominator `1 .. 2^40` and the numerators of a plan,
-/// stage by stage. The text has fewer than `2^32` bytes.
+/// The plans of a text of `2^n` records, one for each corner of the box of n states (16 at most in version 1, 64 in version 2), of a
+/// denominator `1 .. 2^40` and the numerators of a plan, stage by stage. The text has fewer than `2^32` bytes.
 ///
 /// # Errors
 /// The first fault: for the records in turn `Fields` where one has another number of fields, then `Number` for its first field that
@@ -95,7 +95,7 @@ fn policy_of(alloc: Global, bytes: &[u8], parts: &DesignParts) -> Result<Policy,
 
 // How many corners a box of so many states has.
 fn corner_count(states: usize) -> usize
-    requires { states ≤ most_states text_version }
+    requires { states ≤ most_states last_version }
     ensures { result ≡ 2 ^ states }
 {
     1 << states

@@ -50,21 +50,21 @@ fn is_in_range(layout: Layout, i: usize, number: i128) -> bool
 /// The numbers of a record of `count` fields, which is entry number `entry` of the text, from 1.
 pub(crate) fn numbers_of(
     alloc: Global,
-    record: &ByteRecord,
+    row: &ByteRecord,
     layout: Layout,
     count: usize,
     entry: u32,
 ) -> Result<Vec<i128>, TextFault>
-    requires { field_room (fields_of record.now) ≤ 2 ^ 32 }
-    ensures found { IfOk result (λ v. HoldsNumbers (rule_of layout) count (fields_of record.now) v.items) }
-    ensures fault { IfErr result (λ e. (e ≡ Memory) ⊎ IsRecordFault (rule_of layout) count entry (fields_of record.now) e) }
+    requires { field_room (fields_of row.now) ≤ 2 ^ 32 }
+    ensures found { IfOk result (λ v. HoldsNumbers (rule_of layout) count (fields_of row.now) v.items) }
+    ensures fault { IfErr result (λ e. (e ≡ Memory) ⊎ IsRecordFault (rule_of layout) count entry (fields_of row.now) e) }
 {
-    if record.len() != count {
+    if row.len() != count {
         return Err(TextFault::Fields { entry });
     }
     let mut numbers = Vec::new(alloc);
     for i in 0..count {
-        let Some(field) = record.get(i) else {
+        let Some(field) = row.get(i) else {
             unreachable!();
         };
         let Some(number) = number_at(layout, i, field) else {

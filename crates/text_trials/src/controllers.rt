@@ -285,30 +285,21 @@ fn second_version_written_back(rt: HostRuntime) -> Result<(), Fail> {
 #[test]
 fn second_version_changed(rt: HostRuntime) -> Result<(), Fail> {
     let text = second_version(rt.alloc())?;
-    assert_eq!(rt;
-        first_other(rt.alloc(), &text, &SECOND_CHANGES)?,
-        None
-    );
+    assert_eq!(rt; first_other(rt.alloc(), &text, &SECOND_CHANGES)?, None);
     Ok(())
 }
 
 #[test]
 fn greater_sizes(rt: HostRuntime) -> Result<(), Fail> {
     let text = second_version(rt.alloc())?;
-    assert_eq!(rt;
-        first_other(rt.alloc(), &text, &GREATER_SIZES)?,
-        None
-    );
+    assert_eq!(rt; first_other(rt.alloc(), &text, &GREATER_SIZES)?, None);
     Ok(())
 }
 
 #[test]
 fn second_version_cut(rt: HostRuntime) -> Result<(), Fail> {
     let text = second_version(rt.alloc())?;
-    assert_eq!(rt;
-        first_other_cut(rt.alloc(), text.as_bytes())?,
-        None
-    );
+    assert_eq!(rt; first_other_cut(rt.alloc(), text.as_bytes())?, None);
     Ok(())
 }
 

@@ -4,7 +4,7 @@ use mat_int::Mat;
 use qp_model::{DesignParts, TextFault};
 use std::alloc::{AllocError, Global};
 use std::test::Fail;
-use worked_designs::{DESIGN, design};
+use worked_designs::{DESIGN, changed_design, design};
 
 // Whether a matrix has this row.
 fn has_row(m: &Mat, i: usize, row: &[i128]) -> bool {
@@ -91,12 +91,47 @@ fn spellings(rt: HostRuntime) -> Result<(), Fail> {
     Ok(())
 }
 
+// Whether the first design, with `new` for the first `old`, is one of this version and so many states and stages.
+fn reads_changed(
+    alloc: Global,
+    old: &str,
+    new: &str,
+    sizes: [usize; 3],
+) -> Result<bool, TextFault> {
+    let design = changed_design(alloc, DESIGN, old, new)?;
+    let p = design.parts();
+    Ok([p.version as usize, p.states, p.stages] == sizes)
+}
+
+#[test]
+fn second_version(rt: HostRuntime) -> Result<(), Fail> {
+    assert!(rt; reads_changed(rt.alloc(), "version = 1", "version = 2", [2, 1, 1])?);
+    Ok(())
+}
+
+// The sizes of the first design.
+const SIZES: &str = "version = 1\nstates = 1\ninputs = 1\nstages = 1";
+
+#[test]
+fn more_stages(rt: HostRuntime) -> Result<(), Fail> {
+    let sizes = "version = 2\nstates = 1\ninputs = 1\nstages = 21";
+    assert!(rt; reads_changed(rt.alloc(), SIZES, sizes, [2, 1, 21])?);
+    Ok(())
+}
+
+#[test]
+fn most_stages(rt: HostRuntime) -> Result<(), Fail> {
+    let sizes = "version = 2\nstates = 1\ninputs = 1\nstages = 30";
+    assert!(rt; reads_changed(rt.alloc(), SIZES, sizes, [2, 1, 30])?);
+    Ok(())
+}
+
 // Thirteen lists.
 const MANY: &str = "[[1, 0, 1], [1, 0, 1], [1, 0, 1], [1, 0, 1], [1, 0, 1], [1, 0, 1], [1, 0, 1],
     [1, 0, 1], [1, 0, 1], [1, 0, 1], [1, 0, 1], [1, 0, 1], [1, 0, 1]]";
 
 // What stands in place of a piece of the first design, and the fault then.
-static CHANGES: [(&str, &str, TextFault); 37] = [
+static CHANGES: [(&str, &str, TextFault); 42] = [
     ("version = 1", "x =", TextFault::NotToml),
     (
         "states = 1",
@@ -144,10 +179,31 @@ static CHANGES: [(&str, &str, TextFault); 37] = [
         "version = true",
         TextFault::Shape { place: 1 },
     ),
-    ("version = 1", "version = 2", TextFault::Range { place: 1 }),
+    ("version = 1", "version = 0", TextFault::Range { place: 1 }),
+    ("version = 1", "version = 3", TextFault::Range { place: 1 }),
     ("states = 1", "states = 5", TextFault::Range { place: 2 }),
     ("states = 1", "states = 0", TextFault::Range { place: 2 }),
     ("stages = 1", "stages = 21", TextFault::Range { place: 4 }),
+    (
+        "version = 1\nstates = 1",
+        "version = 2\nstates = 5",
+        TextFault::Shape { place: 6 },
+    ),
+    (
+        "version = 1\nstates = 1",
+        "version = 2\nstates = 6",
+        TextFault::Shape { place: 6 },
+    ),
+    (
+        "version = 1\nstates = 1",
+        "version = 2\nstates = 7",
+        TextFault::Range { place: 2 },
+    ),
+    (
+        SIZES,
+        "version = 2\nstates = 1\ninputs = 1\nstages = 31",
+        TextFault::Range { place: 4 },
+    ),
     ("den = 1", "den = 0", TextFault::Range { place: 5 }),
     ("den = 1", "den = 1048577", TextFault::Range { place: 5 }),
     ("a = [[1]]", "a = [[1, 2]]", TextFault::Shape { place: 6 }),

@@ -8,5 +8,5 @@ use Rattle.policy_file.proofs.record.numbers_of.Given as goal
 abbrev pub invariant-loop-i : goal.invariant-loop-i
 invariant-loop-i l = record {
   long : length l.numbers.items ≡ l.i;
-  each : (j : ℕ) → j < l.i → rule_of l.layout j (field_of (fields_of l.record) j) (at l.numbers.items j);
+  each : (j : ℕ) → j < l.i → rule_of l.layout j (field_of (fields_of l.row) j) (at l.numbers.items j);
 }
