@@ -9,6 +9,7 @@ use Rattle.qp_model.specs.Form.{Form, HaveSameNumbers}
 use Rattle.qp_model.specs.Class.{form_of}
 use Rattle.qp_model.specs.Columns.{columns, column_bound, descent_size, solve_matrix, solve_column}
 use Rattle.qp_model.specs.GoodSolution.{IsGood}
+use Rattle.qp_model.proofs.VersionLaws.{design_states_le, design_stages_le, design_rows_le}
 use Rattle.qp_model.proofs.SystemLaws.{count_same, matrix_same, column_is, column_bound_same, descent_same}
 use Rattle.plant_condense.specs.Form.{HasShapes, IsFormOf, held}
 use Rattle.plant_condense.specs.declared.condensed.Condensed.{Condensed}
@@ -37,9 +38,9 @@ module _ (h k : Form) (same : HaveSameNumbers h k) where
 -- ---- what solving asks
 few : (p : DesignParts) → IsDesign p → (entries (design_of p) < 2 ^ 32) × ((design_of p).states < 2 ^ 32) × (rows (design_of p) < 2 ^ 32)
 few p h = (
-  plain p.stages p.inputs (small p.stages p.inputs 0 20 3 0 h.stages.1 h.inputs.1 (omega arith) (omega arith)),
-  omega (arith, h.states.1),
-  small p.stages (length p.stage_rows.rows) (length p.final_rows.rows) 20 12 12 h.stages.1 h.stage_rows.rows.1 h.final_rows.rows.1 (omega arith),
+  plain p.stages p.inputs (small p.stages p.inputs 0 30 3 0 (design_stages_le p h) h.inputs.1 (omega arith) (omega arith)),
+  omega (arith, design_states_le p h),
+  omega (arith, design_rows_le p h),
 )
   where
     small : (a b c x y z : ℕ) → a ≤ x → b ≤ y → c ≤ z → x * y + z < 2 ^ 32 → a * b + c < 2 ^ 32

@@ -26,6 +26,7 @@ use Rattle.qp_model.specs.FineSizes.{fine_response_size}
 use Rattle.qp_model.specs.Quantities.{weight_sum}
 use Rattle.qp_model.specs.Runs.{counts}
 use Rattle.qp_model.specs.Range.{IsDenominator, IsPositive}
+use Rattle.qp_model.proofs.VersionLaws.{design_stages_le}
 use Rattle.plant_condense.proofs.Rooms.{read, narrow}
 use Rattle.plant_condense.proofs.StateFacts.{denominator_positive}
 use Rattle.fine_run.specs.Lists.{Reaches}
@@ -207,9 +208,9 @@ module _ (p : DesignParts) (mid rad : Matrix) (h : IsFineHessian p mid rad) wher
   row_sum_is i l = row_size (p.stages * p.inputs) rad i (h.held.rads.regular i l) ∙ size_same (p.stages * p.inputs) _ _ (λ j m. h.held.rads.is i j l m)
 
   few : p.stages * p.inputs ≤ 2 ^ 20
-  few = both p.stages p.inputs h.design.stages.1 h.design.inputs.1
+  few = both p.stages p.inputs (design_stages_le p h.design) h.design.inputs.1
     where
-      both : (a b : ℕ) → a ≤ 20 → b ≤ 3 → a * b ≤ 2 ^ 20
+      both : (a b : ℕ) → a ≤ 30 → b ≤ 3 → a * b ≤ 2 ^ 20
       both a b h k = omega (arith, mul-le-mul_left b h)
 
   pub row_sum_fits : (i : ℕ) → i < p.stages * p.inputs → abs_sum (row_of rad i) < 2 ^ 127

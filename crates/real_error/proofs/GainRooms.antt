@@ -126,13 +126,13 @@ module _ (c : Condensed) (p_mat : Matrix) (t : List ℤ) (w_mat : Matrix) (f sta
       half : {a b : ℕ} → 2 * a ≤ b → b ≤ 2 ^ 126 → a ≤ 2 ^ 125
       half {a} {b} h k = omega (arith, h, k)
 
-  pub states_room : (j : ℕ) → j < h.entries → h.states * unsigned_abs (solve_matrix h j j) ≤ 2 ^ 127
+  pub states_room : (j : ℕ) → j < h.entries → h.states * unsigned_abs (solve_matrix h j j) ≤ 2 ^ 128
   states_room j l = through (mul-le-mul s.systems.few (diagonal_small j l)) (omega arith)
 
-  pub rows_room : (j : ℕ) → unsigned_abs (solve_matrix h j j) * combined_of h state top ≤ 2 ^ 126 → h.rows * unsigned_abs (solve_matrix h j j) ≤ 2 ^ 127
+  pub rows_room : (j : ℕ) → unsigned_abs (solve_matrix h j j) * combined_of h state top ≤ 2 ^ 126 → h.rows * unsigned_abs (solve_matrix h j j) ≤ 2 ^ 128
   rows_room j room = closed h.states state h.rows top (unsigned_abs (solve_matrix h j j)) s.some room
     where
-      closed : (n x m y d : ℕ) → 1 ≤ y → d * (n * x + 1 + m * y) ≤ 2 ^ 126 → m * d ≤ 2 ^ 127
+      closed : (n x m y d : ℕ) → 1 ≤ y → d * (n * x + 1 + m * y) ≤ 2 ^ 126 → m * d ≤ 2 ^ 128
       closed n x m y d h k = omega (arith, mul-le-mul_left (m * d) h, k)
 
 -- ---- sums over columns, as the code counts them

@@ -62,7 +62,7 @@ pub record HasSystems (c : Condensed) : Type 0 where
   pub cost_row_den : pos 1 ≤ℤ c.cost_row_den
   pub power : pos 1 ≤ℤ c.power
   pub hess_den : pos 1 ≤ℤ c.hess_den
-  pub few : (held c).states ≤ 4
+  pub few : (held c).states ≤ 6
 
 -- gains that are good solutions at f bits of its systems, within their bounds, and reaches of states and multipliers
 pub record AreSolved (c : Condensed) (p_mat : Matrix) (t : List ℤ) (w_mat : Matrix) (f state top : ℕ) : Type 0 where

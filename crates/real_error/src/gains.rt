@@ -121,7 +121,7 @@ impl<'a> Gains<'a> {
     fn missed_by(&self, first: usize, n: usize, j: usize) -> u128
         requires columns { first + n ≤ columns (held self.now.c.now) }
         requires entry { j < (held self.now.c.now).entries }
-        requires room { n * unsigned_abs (solve_matrix (held self.now.c.now) j j) ≤ 2 ^ 127 }
+        requires room { n * unsigned_abs (solve_matrix (held self.now.c.now) j j) ≤ 2 ^ 128 }
         ensures { let gains = gain_at self.now.p_mat.now self.now.t.now self.now.w_mat.now in
             result ≡ missed_by (held self.now.c.now) self.now.f gains first n j }
     {

@@ -184,16 +184,16 @@ within d h r some spread room =
     factor {a} {b} h k = omega (arith, k, mul-le-mul_right b h)
 
 -- ---- small products
-pub reach_small : (w n s r k : ℕ) → w ≤ 2 ^ 20 → n ≤ 4 → s ≤ 2 ^ 31 → r ≤ 2 ^ 44 → k ≤ 252 → w * (n * s + 1 + 2 * r * k) ≤ 2 ^ 80
+pub reach_small : (w n s r k : ℕ) → w ≤ 2 ^ 20 → n ≤ 6 → s ≤ 2 ^ 31 → r ≤ 2 ^ 44 → k ≤ 372 → w * (n * s + 1 + 2 * r * k) ≤ 2 ^ 80
 reach_small w n s r k a b c d e = closed (mul-le-mul a (added (mul-le-mul b c) (mul-le-mul (mul-le-mul_left 2 d) e)))
   where
     added : {x y u v : ℕ} → x ≤ u → y ≤ v → x + 1 + y ≤ u + 1 + v
     added {x} {y} {u} {v} h o = omega (arith, h, o)
 
-    closed : w * (n * s + 1 + 2 * r * k) ≤ 2 ^ 20 * (4 * 2 ^ 31 + 1 + 2 * 2 ^ 44 * 252) → w * (n * s + 1 + 2 * r * k) ≤ 2 ^ 80
+    closed : w * (n * s + 1 + 2 * r * k) ≤ 2 ^ 20 * (6 * 2 ^ 31 + 1 + 2 * 2 ^ 44 * 372) → w * (n * s + 1 + 2 * r * k) ≤ 2 ^ 80
     closed h = omega (arith, h)
 
-pub top_small : (r k : ℕ) → r ≤ 2 ^ 44 → k ≤ 252 → 2 * r * k ≤ 2 ^ 60
+pub top_small : (r k : ℕ) → r ≤ 2 ^ 44 → k ≤ 372 → 2 * r * k ≤ 2 ^ 60
 top_small r k h o = let b = mul-le-mul (mul-le-mul_left 2 h) o in omega (arith, b)
 
 -- the numbers that the code gathers are those of a form

@@ -20,6 +20,7 @@ use Rattle.qp_model.specs.Errors as errors
 use Rattle.qp_model.specs.Errors.{plan_bound, residual_error, radius_error, row_radii, errors_cost, error_sums_of, error_size, pull, gradient_error, gradient_squares}
 use Rattle.qp_model.proofs.SizeFacts.{some_row, some_entry, positive}
 use Rattle.qp_model.proofs.SoundLaws.{least-met, weight_at}
+use Rattle.qp_model.proofs.VersionLaws.{design_states_le, design_stages_le}
 use Rattle.step_error.specs.declared.sums.ErrorSums.{ErrorSums}
 use Rattle.step_error.specs.declared.sums.Whole.{Whole}
 use Rattle.step_error.specs.ErrorSums.{sums_by, AreSums, whole_sums, sums_of, rounding_cost, radius_cost, radius_size}
@@ -38,18 +39,18 @@ floor_range p h =
 
 -- ---- what a design has few of
 pub record IsFew (d : Design) : Type 0 where
-  pub entries : entries d ≤ 60
-  pub rows : rows d ≤ 252
-  pub states : d.states ≤ 4
+  pub entries : entries d ≤ 90
+  pub rows : rows d ≤ 372
+  pub states : d.states ≤ 6
   pub weight : d.cost_denominator ≤ 2 ^ 20
   pub row : d.row_denominator ≤ 2 ^ 20
   pub limit : d.limit_denominator ≤ 2 ^ 20
 
 pub few : (p : DesignParts) → IsDesign p → IsFew (design_of p)
 few p h = record {
-  entries = mul-le-mul h.stages.1 h.inputs.1;
-  rows = both _ _ _ (mul-le-mul h.stages.1 h.stage_rows.rows.1) h.final_rows.rows.1;
-  states = h.states.1;
+  entries = mul-le-mul (design_stages_le p h) h.inputs.1;
+  rows = both _ _ _ (mul-le-mul (design_stages_le p h) h.stage_rows.rows.1) h.final_rows.rows.1;
+  states = design_states_le p h;
   weight = size p.cost_den h.cost_den.low h.cost_den.high;
   row = size p.row_den h.row_den.low h.row_den.high;
   limit = size p.limit_den h.limit_den.low h.limit_den.high;

@@ -1,8 +1,10 @@
-use Rattle.std.proofs.Common.{rules, ◌+◌, ◌*◌, FitsSigned, unsigned_abs, arith, ◌∙◌}
+use Rattle.std.proofs.Common.{◌≤◌, ◌<◌, ◌^◌, ℕ, rules, ◌+◌, ◌*◌, FitsSigned, unsigned_abs, arith, ◌∙◌}
+use Rattle.std.proofs.Math.Nat.{mul-le-mul}
 use Rattle.std.specs.Int.{w128}
 use Rattle.std.proofs.lemmas.Int.{to_z-of_z}
 use Rattle.qp_model.specs.Parts.{design_of}
 use Rattle.qp_model.specs.FineForm.{fine_constant}
+use Rattle.qp_model.proofs.VersionLaws.{design_states_le, design_stages_le}
 use Rattle.fine_run.proofs.ListFacts.{one_pushed}
 use Rattle.fine_condense.proofs.CostFacts.{product_at, product_near, constant_entry, negated_fits, negated_is}
 use Rattle.fine_condense.proofs.hessian.constant_numbers.Goals as goal
@@ -31,3 +33,12 @@ loop-j-preserved c =
     (negated_is c.doubled-twice.result.mid c.at.result.mid (unsigned_abs c.at.result.rad) f c.doubled-twice.ensures.mid
     (product_near p c.args.products.now.mid c.args.products.now.rad c.requires c.at.result c.loop-j.j (p.stages * p.inputs + p.states) (omega (arith, c.loop-j-test.true)) (omega arith) c.at.ensures))
     (to_z-of_z w128 _ g)) c.loop-j.invariant
+
+-- the column of the products
+fits : (stages inputs states : ℕ) → stages ≤ 30 → inputs ≤ 3 → states ≤ 6 → stages * inputs + states < 2 ^ 64
+fits stages inputs states s n m = omega (arith, mul-le-mul s n, m)
+
+pub overflow_add-count : goal.overflow_add-count
+overflow_add-count c =
+    let p = c.args.parts.now in
+    record { fits = fits p.stages p.inputs p.states (design_stages_le p c.requires.design) c.requires.design.inputs.1 (design_states_le p c.requires.design) }

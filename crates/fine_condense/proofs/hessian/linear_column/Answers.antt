@@ -1,6 +1,8 @@
-use Rattle.std.proofs.Common.{◌+◌, ◌*◌, arith, ◌∙◌}
+use Rattle.std.proofs.Common.{◌≤◌, ◌<◌, ◌^◌, ℕ, ◌+◌, ◌*◌, arith, ◌∙◌}
+use Rattle.std.proofs.Math.Nat.{mul-le-mul}
 use Rattle.qp_model.specs.Parts.{design_of}
 use Rattle.qp_model.specs.FineForm.{fine_linear}
+use Rattle.qp_model.proofs.VersionLaws.{design_states_le, design_stages_le}
 use Rattle.fine_run.proofs.ListFacts.{one_pushed}
 use Rattle.fine_condense.proofs.CostFacts.{product_at, product_near, linear_entry}
 use Rattle.fine_condense.proofs.hessian.linear_column.Goals as goal
@@ -18,3 +20,13 @@ loop-j-preserved c =
     (linear_entry (design_of p) c.at.result c.doubled.result c.loop-j.j c.args.i
     (c.at.ensures ∙ product_at p c.args.products.now.mid c.args.products.now.rad c.requires.products c.loop-j.j (p.stages * p.inputs + c.args.i) (omega (arith, c.loop-j-test.true)) (omega (arith, c.requires.column)))
     c.doubled.ensures.mid c.doubled.ensures.rad) c.loop-j.invariant
+
+-- the column of the products
+fits : (stages inputs i states : ℕ) → stages ≤ 30 → inputs ≤ 3 → i < states → states ≤ 6 → stages * inputs + i < 2 ^ 64
+fits stages inputs i states s n l m = omega (arith, mul-le-mul s n, l, m)
+
+pub overflow_add-count : goal.overflow_add-count
+overflow_add-count c =
+    let p = c.args.parts.now in
+    let design = c.requires.products.design in
+    record { fits = fits p.stages p.inputs c.args.i p.states (design_stages_le p design) design.inputs.1 c.requires.column (design_states_le p design) }

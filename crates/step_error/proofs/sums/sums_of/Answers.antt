@@ -173,3 +173,12 @@ pub returns : goal.returns
 returns c =
     let is = are (goal.at.returns c).After-radii_of in
     (within_of (sym (size_of _ _ _ _ is)) c.in_ok-size.ensures.0, c.sums.ensures ∙ (λ i. whole_sums (is.sums i)))
+
+pub overflow_add-combined-2 : goal.overflow_add-combined-2
+overflow_add-combined-2 c =
+    let p = c.args.parts.now in
+    let form = c.requires.form in
+    let count = count_is (is_fine (design_of p)) p c.args.c.now form _ c.rows.ensures.count in
+    let bounds = few p form.design in
+    let small = reach_small 1 p.states c.sizes_of-sizes.result.state c.args.r c.rows.result (omega arith) bounds.states c.sizes_of-sizes.ensures.near c.requires.narrow (rw count bounds.rows) in
+    record { fits = omega (arith, small) }

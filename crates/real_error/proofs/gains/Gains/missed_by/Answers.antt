@@ -16,5 +16,5 @@ overflow_add-sum c =
     (λ i l. half_each self.c.now _ _ _ _ _ _ self.made (c.args.first + i) c.args.j (omega (arith, l, c.requires.columns)) c.requires.entry) in
     close (amount_next c.loop-i.i c.args.n (λ i. missed h self.f gains (c.args.first + i) c.args.j) c.loop-i-test.true) c.loop-i.invariant c.missed-sum.ensures all c.requires.room
   where
-    close : {s m a b n t : ℕ} → a + b ≤ n → s ≡ a → m ≡ b → 2 * n ≤ t → t ≤ 2 ^ 127 → Fits w128 (s + m)
+    close : {s m a b n t : ℕ} → a + b ≤ n → s ≡ a → m ≡ b → 2 * n ≤ t → t ≤ 2 ^ 128 → Fits w128 (s + m)
     close {s} {m} {a} {b} {n} {t} h e g k l = omega (arith, h, e, g, k, l)

@@ -8,13 +8,14 @@ use Rattle.qp_model.specs.Policy.{plans_of}
 use Rattle.qp_model.specs.Margin.{simulated, corner_slack, slack_scale}
 use Rattle.qp_model.specs.Runs.{Holds}
 use Rattle.qp_model.proofs.SizeFacts.{some_row}
+use Rattle.qp_model.proofs.VersionLaws.{design_states_le, design_rows_le}
 use Rattle.frac_scaled.specs.declared.fraction.Frac.{Frac}
 use Rattle.plant_condense.proofs.Rooms.{read}
 use Rattle.plant_condense.proofs.StageFacts.{lifted_fits, lifted}
 use Rattle.plant_condense.proofs.DenominatorFacts.{denominator_fits}
 use Rattle.slater_margin.proofs.RoomFacts.{slack_den_size, over_is}
 use Rattle.slater_margin.proofs.SlackFacts.{slack_within, den_is, den_some, short_row, units_of, least_fits}
-use Rattle.slater_margin.proofs.FaultFacts.{no_margin_same}
+use Rattle.slater_margin.proofs.FaultFacts.{no_margin_same, corner_few}
 use Rattle.slater_margin.proofs.corner.Corner.units.Goals as goal
 
 pub overflow_mul-den : goal.overflow_mul-den
@@ -113,3 +114,31 @@ returns-clause-units c =
     (λ i l. rw (← (held_again.is i l)) (c.least_of.ensures.below i (rw held_again.long l)))
     met.0 inside (met.1.1 ∙ held_again.is met.0 inside)
     (c.floor_div.ensures ∙ rw (to_z-of_z w128 _ fs, c.scaled.ensures, to_z-of_z w128 _ fm, read_den) refl))
+
+-- ---- the places of a corner and of a row
+module _ (c : goal.After-row_known-1) where
+  corner : c.args.self.now.number < 64
+  corner = let self = c.args.self.now in corner_few self.number self.parts.now.states self.made.inside (design_states_le self.parts.now self.made.setting.design)
+
+  row : c.in-Some.i < 372
+  row =
+      let self = c.args.self.now in
+      omega (
+        arith,
+        c.in-Some.ensures.0,
+        ap (λ (xs : List ℤ). length xs) c.deref.ensures.value,
+        c.in_ok-slacks.ensures.long,
+        design_rows_le self.parts.now self.made.setting.design,
+      )
+
+pub overflow_cast-result : goal.overflow_cast-result
+overflow_cast-result c = record { fits = omega (arith, corner c) }
+
+pub overflow_add-result : goal.overflow_add-result
+overflow_add-result c = record { fits = omega (arith, corner c) }
+
+pub overflow_cast-result-in-Some : goal.overflow_cast-result-in-Some
+overflow_cast-result-in-Some c = record { fits = omega (arith, row c) }
+
+pub overflow_add-result-in-Some : goal.overflow_add-result-in-Some
+overflow_add-result-in-Some c = record { fits = omega (arith, row c) }
