@@ -15,7 +15,8 @@ mod types;
 
 pub use combination::combine;
 pub use matrix::gram;
-pub use single::{add, contains, enclose, mul};
+pub use room::magnitude;
+pub use single::{add, contains, divided, enclose, mul};
 pub use types::{Enc, EncMat};
 
 /// An enclosure of a fraction encloses each fraction that is equal to it.

@@ -3,8 +3,8 @@ ghost use Rattle.std.specs.Prelude.{◌≡◌, ◌+◌, unsigned_abs};
 
 use crate::types::Enc;
 
-// The absolute value of the midpoint, and the radius.
-pub(crate) fn magnitude(a: Enc) -> u128
+/// The absolute value of the midpoint, and the radius.
+pub fn magnitude(a: Enc) -> u128
     ensures { result ≡ unsigned_abs a.mid + unsigned_abs a.rad }
 {
     a.mid.unsigned_abs() + a.rad.unsigned_abs()

@@ -58,8 +58,8 @@ pub fn contains(a: Enc, num: i128, den: i128) -> Option<bool>
     Some(off.abs() <= a.rad * den)
 }
 
-// The enclosure over a divisor.
-pub(crate) fn divided(a: Enc, den: i128) -> Enc
+/// `a / den`: the midpoint rounded to the nearest and the radius up, and 1 more where the midpoint was rounded.
+pub fn divided(a: Enc, den: i128) -> Enc
     requires divisor { pos 1 ≤ℤ den }
     requires room { magnitude (pair a) ≤ℤ pos (2 ^ 126) }
     ensures { pair result ≡ divided (pair a) (unsigned_abs den) }

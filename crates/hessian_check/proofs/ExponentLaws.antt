@@ -1,17 +1,15 @@
 -- The numbers that are chosen are exponents of the design.
-use Rattle.std.proofs.Common.{rules}
+use Rattle.std.proofs.Common.{ℕ, ◌-◌, ◌^◌, rules}
 use Rattle.qp_model.specs.Parts.{design_of}
 use Rattle.qp_model.specs.Class.{CoversSquares, form_of}
 use Rattle.qp_model.specs.FineSizes.{is_fine}
 use Rattle.qp_model.proofs.CostLaws.{condensing}
-use Rattle.hessian_check.specs.Curvature.{held_exactly}
 use Rattle.hessian_check.specs.StepLaw.{ExponentLaw, FormSquaresLaw, RowsLaw}
-use Rattle.hessian_check.specs.Steps.{curved_by, curved_of, held_in, floor_of_design}
+use Rattle.hessian_check.specs.Steps.{curved_by, curved_of, held_by, held_in, floor_of_design}
 use Rattle.hessian_check.proofs.CurvatureLaws.{squares_law}
 use Rattle.hessian_check.proofs.ChosenLaws.{accepted_law, chosen_law, first_by}
-use Rattle.hessian_check.proofs.RadiusLaws.{exact_law}
-use Rattle.hessian_check.proofs.DesignLaws.{exponent_of, exponents_of, half_turned, floored, covers}
-use Rattle.hessian_check.proofs.HeldLaws.{held_law}
+use Rattle.hessian_check.proofs.DesignLaws.{exponent_of, exponents_of, floored, covers}
+use Rattle.hessian_check.proofs.HeldLaws.{held_law, weighted_law}
 use Rattle.qp_model.proofs.SoundLaws.{sound}
 
 pub step_law : ExponentLaw
@@ -31,7 +29,8 @@ form_squares_law p h g k s y =
     exponent_of d s e (squares_law (curved_of d) (floor_of_design d) s (search rules) (floored d (sound p h) e) (covers d g k.encloses k.rows_some s y))
 
 pub rows_law : RowsLaw
-rows_law p h s most b k =
+rows_law p h g s most b k =
     let d = design_of p in
     let e = condensing d h.inputs.0 in
-    exponents_of d s most e b (accepted_law (curved_by d s most) (held_exactly (curved_by d s most)) most (exact_law (curved_by d s most) (half_turned d e)) k)
+    let weight : ℕ → ℕ = λ l. 2 ^ (most - s l) in
+    exponents_of d s most e b (accepted_law (curved_by d s most) (held_by (is_fine d) d weight) most (weighted_law (is_fine d) d weight (sound p h) e g) k)

@@ -6,7 +6,9 @@ use Rattle.std.proofs.lemmas.List.{length-set, length-replicate, get_or-replicat
 use Rattle.std.proofs.lemmas.List.Elements.{All-get_or, All-from_get_or}
 use Rattle.mat_int.specs.Matrix.{Matrix, row_of, entry_of, with_entry, zero_matrix}
 use Rattle.mat_int.specs.Matrix.{HasEntries}
-use Rattle.hessian_check.specs.Filling.{HasFirstRows, HasFirstEntries, HasFirstMoved}
+use Rattle.mat_int.specs.Enclosures.{HasEnclosures}
+use Rattle.frac_scaled.specs.Enclosures.{Enclosure}
+use Rattle.hessian_check.specs.Filling.{HasFirstEnclosures, HasFirstEntries, HasFirstMoved, HasFirstRows, HasPartEnclosures}
 use Rattle.hessian_check.specs.Recipe.{IsEntryWritten}
 use Rattle.hessian_check.proofs.StepLaws.{written}
 
@@ -96,3 +98,32 @@ moved_more n f old m w i v p e g b h =
 
 pub moved_all : (n : ℕ) (f old : ℕ → ℕ → ℤ) (m : Matrix) (i : ℕ) → n ≤ i → HasFirstMoved n f old m i → HasEntries n n f m
 moved_all n f old m i q h = first_all n f m i q h.first
+
+-- ---- matrices of enclosures
+module _ (n : ℕ) (f : ℕ → ℕ → Enclosure) where
+  abbrev mid_of : ℕ → ℕ → ℤ
+  mid_of i j = (f i j).mid
+
+  abbrev rad_of : ℕ → ℕ → ℤ
+  rad_of i j = (f i j).rad
+
+  pub enclosures_zero : (m r : Matrix) → m ≡ zero_matrix n n → r ≡ zero_matrix n n → HasFirstEnclosures n f m r 0
+  enclosures_zero m r e g = record { mids = first_zero n mid_of m e; rads = first_zero n rad_of r g }
+
+  pub enclosures_start : (m r : Matrix) (i : ℕ) → HasFirstEnclosures n f m r i → HasPartEnclosures n f m r i 0
+  enclosures_start m r i h = record { mids = first_start n mid_of m i h.mids; rads = first_start n rad_of r i h.rads }
+
+  -- one more entry
+  pub enclosures_more : (m r w q : Matrix) (i j : ℕ) (u v : ℤ) → i < n → j < n → w ≡ with_entry m i j u → q ≡ with_entry r i j v → u ≡ (f i j).mid → v ≡ (f i j).rad →
+      HasPartEnclosures n f m r i j → HasPartEnclosures n f w q i (j + 1)
+  enclosures_more m r w q i j u v k l e g a b h = record {
+    mids = first_more n mid_of m w i j u k l e a h.mids;
+    rads = first_more n rad_of r q i j v k l g b h.rads;
+  }
+
+  -- one more row
+  pub enclosures_row : (m r : Matrix) (i j : ℕ) → n ≤ j → HasPartEnclosures n f m r i j → HasFirstEnclosures n f m r (i + 1)
+  enclosures_row m r i j k h = record { mids = first_row n mid_of m i j k h.mids; rads = first_row n rad_of r i j k h.rads }
+
+  pub enclosures_all : (m r : Matrix) (i : ℕ) → n ≤ i → HasFirstEnclosures n f m r i → HasEnclosures n n f m r
+  enclosures_all m r i k h = record { mids = first_all n mid_of m i k h.mids; rads = first_all n rad_of r i k h.rads }

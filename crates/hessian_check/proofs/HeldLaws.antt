@@ -23,7 +23,7 @@ use Rattle.qp_model.specs.Quantities.{input_floor}
 use Rattle.qp_model.specs.Sound.{IsSound}
 use Rattle.hessian_check.specs.Curvature.{IsHeld, weighted_products}
 use Rattle.hessian_check.specs.Dominance.{IsSymmetric}
-use Rattle.hessian_check.specs.Steps.{curved_of, held_in, row_enclosure}
+use Rattle.hessian_check.specs.Steps.{curved_of, held_by, held_in, row_enclosure, weighted_of}
 use Rattle.hessian_check.proofs.DesignLaws.{half_turned, half_two, hessian_even}
 use Rattle.hessian_check.proofs.RadiusLaws.{exact_law}
 
@@ -128,11 +128,12 @@ module _ (d : Design) (s : IsSound d (input_floor d)) (g : IsFormFor d (fine_for
   row_encloses l i k m = within_encloses _ _ _ (enclosing (2 ^ 40) power _ ((fine_form d).numbers.by_plan l i) ((condensed_of d).by_plan l i)
       (brought (2 ^ 40) d.limit_denominator power ((condensed_of d).by_plan l i) ((fine_form d).numbers.by_plan l i) _ _ _ s.limit_denominator refl refl (g.encloses.plan l i k m)))
 
-  products_within : (i j : ℕ) → i < entries d → j < entries d →
-      IsWithin (pos (power * power * (held_in true d).products_radius i j))
-      (pos (2 ^ 40) *ℤ weighted_products (rows d) (λ l. 1) (condensed_of d).by_plan i j -ℤ pos (power * power) *ℤ (held_in true d).products i j)
-  products_within i j k l = enclosed (2 ^ 40) (power * power) _ ((held_in true d).products i j) (weighted_products (rows d) (λ l. 1) (condensed_of d).by_plan i j)
-      (encloses_within (gram_law (rows d) (λ l. pos 1) (row_enclosure (fine_form d)) i j (condensed_of d).by_plan (λ i. pos power) some some (λ r o. (row_encloses r i o k, row_encloses r j o l))))
+  products_within : (weight : ℕ → ℕ) (i j : ℕ) → i < entries d → j < entries d →
+      IsWithin (pos (power * power * (held_by true d weight).products_radius i j))
+      (pos (2 ^ 40) *ℤ weighted_products (rows d) weight (condensed_of d).by_plan i j -ℤ pos (power * power) *ℤ (held_by true d weight).products i j)
+  products_within weight i j k l = enclosed (2 ^ 40) (power * power) _ ((held_by true d weight).products i j) (weighted_products (rows d) weight (condensed_of d).by_plan i j)
+      (encloses_within (gram_law (rows d) (λ l. pos (weight l)) (row_enclosure (fine_form d)) i j (condensed_of d).by_plan (λ i. pos power) some some
+      (λ r o. (row_encloses r i o k, row_encloses r j o l))))
     where
       some : pos 1 ≤ℤ pos power
       some = natural power (pow_positive d.plant_denominator d.stages s.plant_denominator)
@@ -140,19 +141,25 @@ module _ (d : Design) (s : IsSound d (input_floor d)) (g : IsFormFor d (fine_for
           natural : (n : ℕ) → 1 ≤ n → pos 1 ≤ℤ pos n
           natural n h = omega (arith, ints, h)
 
-  products_turned : IsSymmetric (entries d) (held_in true d).products
-  products_turned i j k l = ap (λ (z : ℤ). round_of z (2 ^ 40)) (total_same (rows d) _ _ (λ r o.
-      ap (λ (z : ℤ). pos 1 *ℤ z) (*ℤ_comm ((fine_form d).numbers.by_plan r i) ((fine_form d).numbers.by_plan r j))))
+  products_turned : (weight : ℕ → ℕ) → IsSymmetric (entries d) (held_by true d weight).products
+  products_turned weight i j k l = ap (λ (z : ℤ). round_of z (2 ^ 40)) (total_same (rows d) _ _ (λ r o.
+      ap (λ (z : ℤ). pos (weight r) *ℤ z) (*ℤ_comm ((fine_form d).numbers.by_plan r i) ((fine_form d).numbers.by_plan r j))))
 
-pub held_law : (fine : Bool) (d : Design) → IsSound d (input_floor d) → IsCondensed d (condensed_of d) → IsFormFor d (form_in fine d) → IsHeld (curved_of d) (held_in fine d)
-held_law true d s c g = record {
+-- by how often each row counts
+pub weighted_law : (fine : Bool) (d : Design) (weight : ℕ → ℕ) → IsSound d (input_floor d) → IsCondensed d (condensed_of d) → IsFormFor d (form_in fine d) →
+    IsHeld (weighted_of d weight) (held_by fine d weight)
+weighted_law true d weight s c g = record {
   exact_scale = power d s g * power d s g;
   held_scale = 2 ^ 40;
   some = omega arith;
   turned = half_turned d c;
   half_turned = λ i j k l. ap (λ (z : ℤ). floor_of z 2) (g.encloses.symmetric i j k l);
-  products_turned = products_turned d s g;
+  products_turned = products_turned d s g weight;
   half = half_within d s g;
-  products = products_within d s g;
+  products = products_within d s g weight;
 }
-held_law false d s c g = exact_law (curved_of d) (half_turned d c)
+weighted_law false d weight s c g = exact_law (weighted_of d weight) (half_turned d c)
+
+-- where each counts once
+pub held_law : (fine : Bool) (d : Design) → IsSound d (input_floor d) → IsCondensed d (condensed_of d) → IsFormFor d (form_in fine d) → IsHeld (curved_of d) (held_in fine d)
+held_law fine d s c g = weighted_law fine d (λ l. 1) s c g

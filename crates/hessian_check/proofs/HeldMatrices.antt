@@ -1,20 +1,21 @@
 -- What code makes of matrices with radii.
 use Rattle.std.proofs.Common.{◌≡◌, ◌≢◌, ◌⊎◌, inl, inr, ℕ, zero, suc, ◌+◌, ◌*◌, ◌<◌, ◌≤◌, ◌^◌, ℤ, pos, ◌+ℤ◌, ◌-ℤ◌, ◌*ℤ◌, ◌≤ℤ◌, ◌<ℤ◌, unsigned_abs, nat_eq, Bool, true, false, if◌then◌else◌, to_z, of_z, lit<, arith, ap, ap₂, sym, ◌∙◌, refl}
 use Rattle.std.specs.Int.{w128}
-use Rattle.std.proofs.lemmas.Int.{ints, fits_signed_from_abs, to_z_pos, to_z-of_z}
+use Rattle.std.proofs.lemmas.Int.{ints, fits_signed_from_abs, to_z_pos, to_z-of_z, unsigned_abs-mul}
 use Rattle.std.proofs.lemmas.Bool.{cases_eq}
 use Rattle.std.proofs.lemmas.Bool.Decides.{eqb_tells}
 use Rattle.integer_algebra.specs.Bounds.{absolute}
 use Rattle.integer_algebra.specs.Division.{ceil_of, round_of}
 use Rattle.integer_algebra.specs.Sizes.{amount, size}
-use Rattle.integer_algebra.proofs.AmountLaws.{amount_mono, amount_most, amount_none, amount_scale}
+use Rattle.integer_algebra.proofs.AmountLaws.{amount_mono, amount_none}
+use Rattle.integer_algebra.proofs.OrderLaws.{mul_nonneg_z}
 use Rattle.integer_algebra.proofs.DivisionLaws.{ceil_of_is, round_of_bounds}
-use Rattle.integer_algebra.proofs.SizeLaws.{at_size, total_amount}
+use Rattle.integer_algebra.proofs.SizeLaws.{at_size}
 use Rattle.integer_algebra.proofs.SumLaws.{total_same}
-use Rattle.frac_scaled.specs.Enclosures.{Enclosure, divided, inexact, magnitude, whole_product}
-use Rattle.mat_int.specs.Enclosures.{gram_magnitude, gram_sum, weighted_gram}
+use Rattle.frac_scaled.specs.Enclosures.{Enclosure, divided, inexact, whole_product}
+use Rattle.mat_int.specs.Enclosures.{gram_sum, weighted_gram}
 use Rattle.enclosure.proofs.GramLaws.{product_nonneg, product_reach}
-use Rattle.enclosure.proofs.RoomLaws.{inexact_small, reach_mul_is, same_pair}
+use Rattle.enclosure.proofs.RoomLaws.{inexact_small, same_pair}
 use Rattle.hessian_check.specs.Curvature.{lowered, raised_diagonal}
 
 -- ---- a diagonal that is moved
@@ -134,21 +135,30 @@ far_product x j l i = (unsigned_abs (x i j).mid + unsigned_abs (x i j).rad) * (u
 abbrev pub AreSigned : ℕ → (ℕ → ℕ → Enclosure) → ℕ → ℕ → Type 0
 AreSigned n x j l = (i : ℕ) → i < n → (pos 0 ≤ℤ (x i j).rad) × (pos 0 ≤ℤ (x i l).rad)
 
--- an entry, before it is rounded
-sum_reach : (n : ℕ) (x : ℕ → ℕ → Enclosure) (j l : ℕ) → AreSigned n x j l →
-    (pos 0 ≤ℤ (gram_sum n (λ i. pos 1) x j l).rad) ×
-    (unsigned_abs (gram_sum n (λ i. pos 1) x j l).mid + unsigned_abs (gram_sum n (λ i. pos 1) x j l).rad ≤ amount n (far_product x j l))
-sum_reach zero x j l h = (omega (arith, ints), omega arith)
-sum_reach (suc n) x j l h = more _ _ (whole_product (x n j) (x n l)).mid (whole_product (x n j) (x n l)).rad _ _
-    (sum_reach n x j l (λ i o. h i (omega arith))) (product_nonneg (x n j) (x n l) (h n (omega arith)).0 (h n (omega arith)).1)
+-- an entry, before it is rounded, by how often each row counts
+pub sum_reach : (n : ℕ) (w : ℕ → ℕ) (x : ℕ → ℕ → Enclosure) (j l : ℕ) → AreSigned n x j l →
+    (pos 0 ≤ℤ (gram_sum n (λ i. pos (w i)) x j l).rad) ×
+    (unsigned_abs (gram_sum n (λ i. pos (w i)) x j l).mid + unsigned_abs (gram_sum n (λ i. pos (w i)) x j l).rad ≤ amount n (λ i. w i * far_product x j l i))
+sum_reach zero w x j l h = (omega (arith, ints), omega arith)
+sum_reach (suc n) w x j l h = more _ _ (w n) (whole_product (x n j) (x n l)).mid (whole_product (x n j) (x n l)).rad _ _
+    (sum_reach n w x j l (λ i o. h i (omega arith))) (product_nonneg (x n j) (x n l) (h n (omega arith)).0 (h n (omega arith)).1)
     (product_reach (x n j) (x n l) (h n (omega arith)).0 (h n (omega arith)).1)
   where
-    more : (m r a b : ℤ) (t f : ℕ) → (pos 0 ≤ℤ r) × (unsigned_abs m + unsigned_abs r ≤ t) → pos 0 ≤ℤ b → unsigned_abs a + unsigned_abs b ≡ f →
-        (pos 0 ≤ℤ (r +ℤ pos 1 *ℤ b)) × (unsigned_abs (m +ℤ pos 1 *ℤ a) + unsigned_abs (r +ℤ pos 1 *ℤ b) ≤ t + f)
-    more m r a b t f k o e = (omega (arith, ints, k.0, o), omega (arith, ints, k.1, e))
+    more : (m r : ℤ) (w : ℕ) (a b : ℤ) (t f : ℕ) → (pos 0 ≤ℤ r) × (unsigned_abs m + unsigned_abs r ≤ t) → pos 0 ≤ℤ b → unsigned_abs a + unsigned_abs b ≡ f →
+        (pos 0 ≤ℤ (r +ℤ pos w *ℤ b)) × (unsigned_abs (m +ℤ pos w *ℤ a) + unsigned_abs (r +ℤ pos w *ℤ b) ≤ t + w * f)
+    more m r w a b t f k o e = numbers (pos w *ℤ a) (pos w *ℤ b) k (mul_nonneg_z (pos w) b (omega (arith, ints)) o) (
+      unsigned_abs-mul (pos w) a,
+      unsigned_abs-mul (pos w) b,
+      ap (λ (z : ℕ). w * z) e,
+    )
+      where
+        numbers : (x y : ℤ) → (pos 0 ≤ℤ r) × (unsigned_abs m + unsigned_abs r ≤ t) → pos 0 ≤ℤ y →
+            (unsigned_abs x ≡ w * unsigned_abs a) × (unsigned_abs y ≡ w * unsigned_abs b) × (w * (unsigned_abs a + unsigned_abs b) ≡ w * f) →
+            (pos 0 ≤ℤ (r +ℤ y)) × (unsigned_abs (m +ℤ x) + unsigned_abs (r +ℤ y) ≤ t + w * f)
+        numbers x y k o e = (omega (arith, ints, k.0, o), omega (arith, ints, k.1, e.0, e.1, e.2))
 
 -- rounding
-rounded_reach : (m r : ℤ) → pos 0 ≤ℤ r →
+pub rounded_reach : (m r : ℤ) → pos 0 ≤ℤ r →
     (unsigned_abs (round_of m (2 ^ 40)) + unsigned_abs (ceil_of r (2 ^ 40) +ℤ inexact m (2 ^ 40)) ≤ unsigned_abs m + unsigned_abs r) ×
     (2 ^ 40 * (unsigned_abs (round_of m (2 ^ 40)) + unsigned_abs (ceil_of r (2 ^ 40) +ℤ inexact m (2 ^ 40))) ≤ unsigned_abs m + unsigned_abs r + 3 * 2 ^ 40)
 rounded_reach m r h =
@@ -171,39 +181,3 @@ rounded_reach m r h =
         (2 ^ 40 * (unsigned_abs q + unsigned_abs (c +ℤ i)) ≤ unsigned_abs m + unsigned_abs r + 3 * 2 ^ 40)
     numbers m r q c i h a b k l o (inl e) = (omega (arith, ints, e.0, e.1), omega (arith, ints, e.0, e.1))
     numbers m r q c i h a b k l o (inr e) = (omega (arith, ints, e.0, e.1), omega (arith, ints, e.0, e.1))
-
--- an entry is at most what its terms reach, and at most that over 2^40 and 3 more
-pub entry_reach : (n : ℕ) (x : ℕ → ℕ → Enclosure) (j l : ℕ) → AreSigned n x j l → let e = weighted_gram n (λ i. pos 1) x j l in
-    (unsigned_abs e.mid + unsigned_abs e.rad ≤ amount n (far_product x j l)) ×
-    (2 ^ 40 * (unsigned_abs e.mid + unsigned_abs e.rad) ≤ amount n (far_product x j l) + 3 * 2 ^ 40)
-entry_reach n x j l h =
-    let s = sum_reach n x j l h in
-    let r = rounded_reach (gram_sum n (λ i. pos 1) x j l).mid (gram_sum n (λ i. pos 1) x j l).rad s.0 in
-    (omega (arith, s.1, r.0), omega (arith, s.1, r.1))
-
--- a row of them
-pub row_reach : (n m : ℕ) (x : ℕ → ℕ → Enclosure) (i : ℕ) → ((j : ℕ) → j < n → AreSigned m x i j) →
-    2 ^ 40 * amount n (λ j. unsigned_abs (weighted_gram m (λ l. pos 1) x i j).mid + unsigned_abs (weighted_gram m (λ l. pos 1) x i j).rad) ≤
-    amount n (λ j. amount m (far_product x i j)) + n * (3 * 2 ^ 40)
-row_reach n m x i h = together (2 ^ 40) _ (amount n (λ j. amount m (far_product x i j))) (n * (3 * 2 ^ 40))
-    (amount_scale n (2 ^ 40) (λ j. unsigned_abs (weighted_gram m (λ l. pos 1) x i j).mid + unsigned_abs (weighted_gram m (λ l. pos 1) x i j).rad))
-    (amount_mono n _ (λ j. amount m (far_product x i j) + 3 * 2 ^ 40) (λ j l. (entry_reach m x i j (h j l)).1))
-    (amount_add n (λ j. amount m (far_product x i j)) (λ j. 3 * 2 ^ 40)) (amount_most n (λ j. 3 * 2 ^ 40) (3 * 2 ^ 40) (λ j l. same (3 * 2 ^ 40)))
-  where
-    same : (n : ℕ) → n ≤ n
-    same n = omega arith
-
-    together : (t b v z : ℕ) {a u w : ℕ} → a ≡ t * b → a ≤ u → u ≡ v + w → w ≤ z → t * b ≤ v + z
-    together t b v z {a} {u} {w} e h g k = omega (arith, e, h, g, k)
-
--- what it is refused by
-pub magnitude_is : (n : ℕ) (w : ℕ → ℤ) (x : ℕ → ℕ → Enclosure) (j l : ℕ) → ((i : ℕ) → i < n → w i ≡ pos 1) → AreSigned n x j l →
-    gram_magnitude n w x j l ≡ pos (amount n (far_product x j l))
-magnitude_is n w x j l e h = total_same n _ _ (λ i o. term (x i j) (x i l) (e i o) (h i o).0 (h i o).1) ∙ total_amount n (far_product x j l)
-  where
-    once : (z : ℤ) → pos 1 *ℤ z ≡ z
-    once z = omega (arith, ints)
-
-    term : {w : ℤ} (a b : Enclosure) → w ≡ pos 1 → pos 0 ≤ℤ a.rad → pos 0 ≤ℤ b.rad →
-        w *ℤ (magnitude a *ℤ magnitude b) ≡ pos ((unsigned_abs a.mid + unsigned_abs a.rad) * (unsigned_abs b.mid + unsigned_abs b.rad))
-    term a b e h k = rw e (once (magnitude a *ℤ magnitude b) ∙ reach_mul_is a.mid a.rad b.mid b.rad h k)

@@ -14,7 +14,7 @@ use Rattle.hessian_check.specs.Dominance.{AreSame, IsSymmetric}
 use Rattle.integer_algebra.specs.Matrices.{off_diagonal_sum, IsDominant}
 use Rattle.hessian_check.specs.Recipe.{top, low, IsStart, IsPart, IsRow, IsRecipeRoot, diagonal_reserve, scaled_up}
 use Rattle.qp_model.specs.Least.{IsLeast}
-use Rattle.hessian_check.specs.Curvature.{HasPassingRoot, HasPassingRootBelow, IsChosen, IsDominantAt, IsFirst}
+use Rattle.hessian_check.specs.Curvature.{HasPassingRoot, HasPassingRootBelow, IsAccepted, IsChosen, IsDominantAt, IsFirst}
 use Rattle.hessian_check.proofs.PassLaws.{passes_same, same_back}
 
 -- a factor
@@ -79,6 +79,10 @@ certified_moved n m w h c = record {
   is_root = root_moved n m w c.shift c.root h c.is_root;
   passes = passes_same n (scaled_up (pos (4 ^ c.shift)) m) (scaled_up (pos (4 ^ c.shift)) w) c.root c.root (same_scaled n (pos (4 ^ c.shift)) m w h) (record { is = λ i j k l. refl }) c.passes;
 }
+
+pub accepted_moved : (n : ℕ) (m w : ℕ → ℕ → ℤ) → AreSame n m w → IsAccepted n m → IsAccepted n w
+accepted_moved n m w h (inl t) = inl (dominant_moved n m w h t)
+accepted_moved n m w h (inr t) = inr (certified_moved n m w h t)
 
 -- a matrix with the entries of an index function
 pub has_same : (n : ℕ) (f : ℕ → ℕ → ℤ) (m : Matrix) → HasEntries n n f m → AreSame n (entry_of m) f

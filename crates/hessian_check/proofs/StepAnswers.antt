@@ -4,7 +4,7 @@ use Rattle.std.specs.Prelude.{Result, Ok, Err, IfErr, IfOk, IsOk, unwrap_or}
 use Rattle.std.proofs.Math.Nat.{mul-le-mul_right, pow-le-pow_right}
 use Rattle.qp_model.specs.declared.design_parts.DesignParts.{DesignParts}
 use Rattle.qp_model.specs.Curvature.{IsExponent}
-use Rattle.qp_model.specs.Class.{CoversSquares, cost_row_in, curvature_quantity, form_of}
+use Rattle.qp_model.specs.Class.{CoversSquares, cost_row_in, curvature_quantity, form_of, product_row_in}
 use Rattle.qp_model.specs.FineSizes.{is_fine}
 use Rattle.qp_model.specs.Design.{Design, entries}
 use Rattle.qp_model.specs.Parts.{design_of}
@@ -33,7 +33,7 @@ use Rattle.hessian_check.proofs.PassLaws.{same_back}
 
 -- what is known of a design, its matrices and the number that its squares ask
 pub record Chosen (d : Design) (g : StepMatrices) (o : Option ℕ) : Type 0 where
-  pub matrices : AreMatricesOf (is_fine d) d g
+  pub matrices : AreMatricesOf (is_fine d) d (λ l. 1) (product_row_in (is_fine d) d) g
   pub squares : IsLeastBelow 41 (CoversSquares d) o
   pub some : HasLeast (CoversSquares d)
 
@@ -124,16 +124,18 @@ pub memory_refused : (d : Design) (r : Result StepExponents CurvatureFault) → 
 memory_refused d r e = rw e (inl refl)
 
 -- ---- the quantity
-at-le : (fine : Bool) (d : Design) (s t : ℕ) → s ≤ t → size_at fine d s ≤ size_at fine d t
-at-le fine d s t l =
+pub at-le : (fine : Bool) (d : Design) (most s t : ℕ) → s ≤ t → size_at fine d most s ≤ size_at fine d most t
+at-le fine d most s t l =
     let p : 2 ^ s ≤ 2 ^ t = pow-le-pow_right {n = 2} (omega arith) {i = s} {j = t} l in
     let q = mul-le-mul_right (d.limit_denominator ^ 2) p in
     let r = mul-le-mul_right (cost_row_in fine d) q in
     omega (arith, r)
 
-pub room_of : (d : Design) (g : StepMatrices) (o : Option ℕ) → AreMatricesOf (is_fine d) d g → IsLeastBelow 41 (CoversSquares d) o → curvature_quantity d ≤ 2 ^ 126 →
-    (s : ℕ) → s ≤ unwrap_or o 40 → HasMatrixRoom g s
-room_of d g o h b l s k = h.room s (under (at-le (is_fine d) d s (unwrap_or o 40) k) (ap (λ t. size_at (is_fine d) d t) (exponent_is d (form_of d) o b)) l)
+pub room_of : (d : Design) (g : StepMatrices) (o : Option ℕ) → AreMatricesOf (is_fine d) d (λ l. 1) (product_row_in (is_fine d) d) g → IsLeastBelow 41 (CoversSquares d) o →
+    curvature_quantity d ≤ 2 ^ 126 → (s : ℕ) → s ≤ unwrap_or o 40 → HasMatrixRoom g s
+room_of d g o h b l s k =
+    let most = product_row_in (is_fine d) d in
+    h.room s (under (at-le (is_fine d) d most s (unwrap_or o 40) k) (ap (λ t. size_at (is_fine d) d most t) (exponent_is d (form_of d) o b)) l)
   where
     under : {a b c e : ℕ} → a ≤ b → c ≡ b → c ≤ e → a ≤ e
     under {a} {b} {c} {e} h g k = omega (arith, h, g, k)
@@ -143,8 +145,8 @@ pub wide_of : (d : Design) → ¬ (curvature_quantity d ≤ 2 ^ 126) → 2 ^ 126
 wide_of d k = elim (cases_lt (2 ^ 126) (curvature_quantity d)) [ inl l ↦ l | inr l ↦ absurd (k l) ]
 
 -- all of it, of a condensed form
-pub chosen_of : (p : DesignParts) (c : Condensed) → IsFormOf p c → (g : StepMatrices) (o : Option ℕ) → AreMatricesOf (is_fine (design_of p)) (design_of p) g →
-    IsLeastBelow 41 (CoversSquares (design_of p)) o → Chosen (design_of p) g o
+pub chosen_of : (p : DesignParts) (c : Condensed) → IsFormOf p c → (g : StepMatrices) (o : Option ℕ) →
+    AreMatricesOf (is_fine (design_of p)) (design_of p) (λ l. 1) (product_row_in (is_fine (design_of p)) (design_of p)) g → IsLeastBelow 41 (CoversSquares (design_of p)) o → Chosen (design_of p) g o
 chosen_of p c f g o m s = record {
   matrices = m;
   squares = s;

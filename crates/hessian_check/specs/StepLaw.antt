@@ -20,7 +20,7 @@ abbrev pub FormSquaresLaw : Type 0
 FormSquaresLaw = (parts : DesignParts) → IsDesign parts → (h : Form) → IsFormFor (design_of parts) h → (s : ℕ) →
     (design_of parts).cost_denominator * limit_squares h ≤ floor_times (design_of parts) h s → IsExponent (design_of parts) s
 
--- an exponent for each row, whose matrix is accepted
+-- an exponent for each row, whose matrix is accepted, where a controller may be made of the form
 abbrev pub RowsLaw : Type 0
-RowsLaw = (parts : DesignParts) → IsDesign parts → (s : ℕ → ℕ) (most : ℕ) → ((i : ℕ) → i < rows (design_of parts) → s i ≤ most) →
+RowsLaw = (parts : DesignParts) → IsDesign parts → IsFormFor (design_of parts) (form_of (design_of parts)) → (s : ℕ → ℕ) (most : ℕ) → ((i : ℕ) → i < rows (design_of parts) → s i ≤ most) →
     IsAccepted (entries (design_of parts)) (rows_matrix (design_of parts) s most) → AreExponents (design_of parts) s most

@@ -1,5 +1,5 @@
 -- The exponents of a design's step.
-use Rattle.std.specs.Prelude.{ℕ, ◌-◌, ◌*◌, ◌/◌, ◌^◌, ◌<◌, Bool, true, false, ℤ, pos, unsigned_abs}
+use Rattle.std.specs.Prelude.{ℕ, ◌-◌, ◌*◌, ◌/◌, ◌^◌, ◌<◌, ◌≤◌, Bool, true, false, ℤ, pos, unsigned_abs}
 use Rattle.integer_algebra.specs.Division.{floor_of}
 use Rattle.frac_scaled.specs.Enclosures.{Enclosure}
 use Rattle.mat_int.specs.Enclosures.{weighted_gram}
@@ -46,23 +46,27 @@ curved_by d s most = weighted_of d (λ l. 2 ^ (most - s l))
 abbrev pub row_enclosure : Form → ℕ → ℕ → Enclosure
 row_enclosure h l i = record { mid = h.numbers.by_plan l i; rad = pos (h.plan_radius l i) }
 
--- the products of columns i and j of the rows, rounded once
-abbrev pub row_products : Form → ℕ → ℕ → Enclosure
-row_products h = weighted_gram h.rows (λ l. pos 1) (row_enclosure h)
+-- the products of columns i and j of the rows, each as often as its row counts, rounded once
+abbrev pub row_products : Form → (weight : ℕ → ℕ) → ℕ → ℕ → Enclosure
+row_products h weight = weighted_gram h.rows (λ l. pos (weight l)) (row_enclosure h)
 
 -- those of a form whose numbers are over 2^40; its hessian and the radii of that are even
-abbrev pub held_rounded : Form → HeldMatrices
-held_rounded h = record {
+abbrev pub held_rounded : Form → (weight : ℕ → ℕ) → HeldMatrices
+held_rounded h weight = record {
   half = half_of h.numbers.hessian;
   half_radius = λ i j. h.hessian_radius i j / 2;
-  products = λ i j. (row_products h i j).mid;
-  products_radius = λ i j. unsigned_abs (row_products h i j).rad;
+  products = λ i j. (row_products h weight i j).mid;
+  products_radius = λ i j. unsigned_abs (row_products h weight i j).rad;
 }
 
 -- by class: the exact matrices, or those of the enclosures
+abbrev pub held_by : (fine : Bool) → Design → (weight : ℕ → ℕ) → HeldMatrices
+held_by true d weight = held_rounded (fine_form d) weight
+held_by false d weight = held_exactly (weighted_of d weight)
+
+-- where each row counts once
 abbrev pub held_in : (fine : Bool) → Design → HeldMatrices
-held_in true d = held_rounded (fine_form d)
-held_in false d = held_exactly (curved_of d)
+held_in fine d = held_by fine d (λ l. 1)
 
 -- the matrix of s, made of them
 abbrev pub step_matrix_in : (fine : Bool) → Design → ℕ → ℕ → ℕ → ℤ
@@ -72,9 +76,13 @@ step_matrix_in fine d = exponent_matrix (curved_of d) (held_in fine d)
 abbrev pub step_matrix : Design → ℕ → ℕ → ℕ → ℤ
 step_matrix d = step_matrix_in (is_fine d) d
 
--- that of an exponent for each row, of the exact matrices
+-- that of an exponent for each row
+abbrev pub rows_matrix_in : (fine : Bool) → Design → (ℕ → ℕ) → ℕ → ℕ → ℕ → ℤ
+rows_matrix_in fine d s most = exponent_matrix (curved_by d s most) (held_by fine d (λ l. 2 ^ (most - s l))) most
+
+-- of the design's own class
 abbrev pub rows_matrix : Design → (ℕ → ℕ) → ℕ → ℕ → ℕ → ℤ
-rows_matrix d s most = exponent_matrix (curved_by d s most) (held_exactly (curved_by d s most)) most
+rows_matrix d = rows_matrix_in (is_fine d) d
 
 -- the least input weight, over what the squares of the condensed rows are over
 abbrev pub floor_of_design : Design → ℤ
@@ -87,6 +95,13 @@ IsPlainExponent d s1 = IsFirst (entries d) (step_matrix d) (CoversSquares d) s1
 -- s: the least number below s1 whose matrix has a root that the test passes, or s1
 abbrev pub IsStepExponent : Design → ℕ → ℕ → Type 0
 IsStepExponent d s1 s = IsChosen (entries d) (step_matrix d) s1 s
+
+-- s is the step exponent of the design: the least number whose certificate the recipe finds, or the plain exponent, which is at most 40
+pub record IsExponentOf (d : Design) (s : ℕ) : Type 0 where
+  pub plain : ℕ
+  pub is_plain : IsPlainExponent d plain
+  pub limit : plain ≤ 40
+  pub is_step : IsStepExponent d plain s
 
 -- s1 is above 40
 pub record HasNoStep (d : Design) : Type 0 where

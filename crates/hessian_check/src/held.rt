@@ -2,21 +2,21 @@
 // the first is lowered and of the second raised by the radii of its row, so that a difference that is nowhere negative stays so for the exact numbers.
 ghost use Rattle.std.specs.Prelude.{◌≡◌, ◌+◌, ◌<◌, ◌^◌, ℕ, Bool, length, IfOk};
 ghost use Rattle.integer_algebra.specs.Sizes.{size};
-ghost use Rattle.integer_algebra.specs.Matrices.{gram, gram_size};
 ghost use Rattle.mat_int.specs.Matrix.{entry_of, HasEntries};
-ghost use Rattle.mat_int.specs.Enclosures.{AreEnclosures};
+ghost use Rattle.mat_int.specs.Enclosures.{HasEnclosures};
 ghost use Rattle.qp_model.specs.declared.design_parts.DesignParts.{DesignParts};
 ghost use Rattle.qp_model.specs.Parts.{design_of};
 ghost use Rattle.plant_condense.specs.Form.{IsFormIn, IsSomeForm};
 ghost use Rattle.hessian_check.specs.Curvature.{lowered, raised_diagonal};
-ghost use Rattle.hessian_check.specs.DesignMatrices.{IsCostMatrix, IsRowMatrix};
-ghost use Rattle.hessian_check.specs.Filling.{HasFirstRows};
-ghost use Rattle.hessian_check.specs.Held.{HaveProductRoom, IsMovable, raised_gram};
+ghost use Rattle.hessian_check.specs.DesignMatrices.{IsCostMatrix};
+ghost use Rattle.hessian_check.specs.Filling.{HasFirstEnclosures, HasFirstRows};
+ghost use Rattle.hessian_check.specs.Held.{IsMovable};
+ghost use Rattle.hessian_check.specs.RowSums.{HaveSumRoom, rounded_sum, sums_matrix};
 ghost use Rattle.hessian_check.specs.Steps.{half_of};
 
-use enclosure::EncMat;
+use enclosure::{EncMat, divided};
 use frac_scaled::floor_shift;
-use mat_int::{Mat, MatFault, absolute_sum, gram};
+use mat_int::{Mat, absolute_sum};
 use plant_condense::Condensed;
 use std::alloc::{AllocError, Global};
 
@@ -31,50 +31,44 @@ pub fn cost_matrix(alloc: Global, c: &Condensed) -> Result<Mat, AllocError>
     Ok(cost)
 }
 
-/// The products of the columns of the rows; where these have radii, rounded, with each diagonal entry raised by the radii of its row.
-pub fn row_matrix(alloc: Global, c: &Condensed) -> Result<Mat, AllocError>
-    requires { IsSomeForm c.now }
-    ensures { (fine : Bool) (p : DesignParts) → IsFormIn fine p c.now → IfOk result (IsRowMatrix fine (design_of p)) }
+/// The matrix of these sums of the rows' products; where they have radii, rounded, with each diagonal entry raised by the radii of its row.
+pub fn row_matrix(alloc: Global, fine: bool, sums: &EncMat) -> Result<Mat, AllocError>
+    requires square { sums.now.mid.cols ≡ length sums.now.mid.rows }
+    requires room { HaveSumRoom sums.now.mid sums.now.rad }
+    ensures { let n = length sums.now.mid.rows in IfOk result (HasEntries n n (sums_matrix fine sums.now.mid sums.now.rad)) }
 {
-    if c.fine {
-        rounded_products(alloc, &c.g, &c.g_rad)
-    } else {
-        exact_products(alloc, &c.g)
+    if !fine {
+        return copied(alloc, &sums.mid);
     }
+    let made = rounded(alloc, sums)?;
+    let mut products = made.mid;
+    raise_diagonal(&mut products, &made.rad);
+    Ok(products)
 }
 
-// The products of the columns of a matrix.
-fn exact_products(alloc: Global, g: &Mat) -> Result<Mat, AllocError>
-    requires { (i j : ℕ) → i < g.now.cols → j < g.now.cols → gram_size (length g.now.rows) (entry_of g.now) i j < 2 ^ 127 }
-    ensures { let n = g.now.cols in IfOk result (HasEntries n n (gram (length g.now.rows) (entry_of g.now))) }
+// Sums over `2^40`.
+fn rounded(alloc: Global, sums: &EncMat) -> Result<EncMat, AllocError>
+    requires square { sums.now.mid.cols ≡ length sums.now.mid.rows }
+    requires room { HaveSumRoom sums.now.mid sums.now.rad }
+    ensures { let n = length sums.now.mid.rows in IfOk result (λ m. HasEnclosures n n (rounded_sum sums.now.mid sums.now.rad) m.mid m.rad) }
 {
-    let once = vec![in alloc; 1; g.rows()]?;
-    match gram(alloc, g, &once) {
-        Ok(products) => Ok(products),
-        Err(MatFault::Memory) => Err(AllocError),
-        Err(MatFault::Wide) => unreachable!(),
+    let mut out = EncMat::zero(alloc, sums.mid.rows(), sums.mid.rows())?;
+    for i in 0..sums.mid.rows() {
+        round_row(sums, &mut out, i);
     }
+    Ok(out)
 }
 
-// Those of a matrix of enclosures, with each diagonal entry raised by the radii of its row.
-fn rounded_products(alloc: Global, mid: &Mat, rad: &Mat) -> Result<Mat, AllocError>
-    requires enclosures { AreEnclosures mid.now rad.now }
-    requires room { HaveProductRoom mid.now rad.now }
-    ensures { let n = mid.now.cols in IfOk result (HasEntries n n (raised_gram mid.now rad.now)) }
+// Row i of them, where the rows before it are made.
+fn round_row(sums: &EncMat, out: &mut EncMat, i: usize)
+    requires square { sums.now.mid.cols ≡ length sums.now.mid.rows }
+    requires room { HaveSumRoom sums.now.mid sums.now.rad }
+    requires inside { i < length sums.now.mid.rows }
+    requires before { HasFirstEnclosures (length sums.now.mid.rows) (rounded_sum sums.now.mid sums.now.rad) out.old.mid out.old.rad i }
+    ensures { HasFirstEnclosures (length sums.now.mid.rows) (rounded_sum sums.now.mid sums.now.rad) out.new.mid out.new.rad (i + 1) }
 {
-    let rows = EncMat {
-        mid: copied(alloc, mid)?,
-        rad: copied(alloc, rad)?,
-    };
-    let once = vec![in alloc; 1; mid.rows()]?;
-    match enclosure::gram(alloc, &rows, &once) {
-        Ok(made) => {
-            let mut products = made.mid;
-            raise_diagonal(&mut products, &made.rad);
-            Ok(products)
-        }
-        Err(MatFault::Memory) => Err(AllocError),
-        Err(MatFault::Wide) => unreachable!(),
+    for j in 0..sums.mid.rows() {
+        out.set(i, j, divided(sums.at(i, j), 1 << 40));
     }
 }
 

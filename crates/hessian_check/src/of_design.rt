@@ -1,18 +1,22 @@
 // The exponents of a design's step.
 ghost use Rattle.std.specs.Prelude.{◌≡◌, ◌⊎◌, ◌<◌, ◌≤◌, ◌^◌, ℕ, Bool, Err, IfErr, IfOk, IsOk};
 ghost use Rattle.qp_model.specs.declared.design_parts.DesignParts.{DesignParts};
-ghost use Rattle.qp_model.specs.Class.{curvature_quantity};
+ghost use Rattle.qp_model.specs.Class.{curvature_quantity, product_row_in};
 ghost use Rattle.qp_model.specs.Curvature.{IsExponent};
 ghost use Rattle.qp_model.specs.Parts.{design_of};
 ghost use Rattle.plant_condense.specs.Form.{IsForm, IsFormIn, IsSomeForm};
 ghost use Rattle.hessian_check.specs.DesignMatrices.{AreMatricesOf};
+ghost use Rattle.hessian_check.specs.Lowering.{HasCostMatrix};
+ghost use Rattle.hessian_check.specs.RowSums.{AreRowSums};
 ghost use Rattle.hessian_check.specs.Refusals.{HasExponentCause, IsExponentRefused};
 ghost use Rattle.hessian_check.specs.Steps.{IsPlainExponent, IsStepExponent, OfDesign};
 
-use crate::exponents::exponents_of;
+use crate::choice::exponents_of;
 use crate::fault::{CurvatureFault, StepExponents};
 use crate::held::{cost_matrix, row_matrix};
 use crate::matrices::StepMatrices;
+use crate::sums::sums_once;
+use enclosure::EncMat;
 use plant_condense::{Condensed, is_curvature_limited, squares_exponent};
 use qp_model::Quantity;
 use std::alloc::{AllocError, Global};
@@ -52,11 +56,24 @@ pub fn curvature(alloc: Global, c: &Condensed) -> Result<StepExponents, Curvatur
 // The matrices of the cost and the rows.
 fn matrices_of(alloc: Global, c: &Condensed) -> Result<StepMatrices, AllocError>
     requires { IsSomeForm c.now }
-    ensures { (fine : Bool) (p : DesignParts) → IsFormIn fine p c.now → IfOk result (AreMatricesOf fine (design_of p)) }
+    ensures { (fine : Bool) (p : DesignParts) → IsFormIn fine p c.now →
+        IfOk result (AreMatricesOf fine (design_of p) (λ l. 1) (product_row_in fine (design_of p))) }
+{
+    let sums = sums_once(alloc, c)?;
+    matrices_by(alloc, c, &sums)
+}
+
+/// The same, where the sums of the rows' products are made.
+pub fn matrices_by(alloc: Global, c: &Condensed, sums: &EncMat) -> Result<StepMatrices, AllocError>
+    requires form { IsSomeForm c.now }
+    requires sums { AreRowSums c.now (λ l. 1) sums.now.mid sums.now.rad }
+    ensures matrices { (fine : Bool) (p : DesignParts) → IsFormIn fine p c.now →
+        IfOk result (AreMatricesOf fine (design_of p) (λ l. 1) (product_row_in fine (design_of p))) }
+    ensures cost { (fine : Bool) (p : DesignParts) → IsFormIn fine p c.now → IfOk result (HasCostMatrix fine (design_of p)) }
 {
     Ok(StepMatrices {
         cost: cost_matrix(alloc, c)?,
-        rows: row_matrix(alloc, c)?,
+        rows: row_matrix(alloc, c.fine, sums)?,
         cost_factor: c.limit_den * c.limit_den,
         row_factor: c.weight_den * (c.cost_row_den * c.cost_row_den),
     })

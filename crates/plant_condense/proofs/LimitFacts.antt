@@ -1,5 +1,5 @@
 -- What the quantity `curvature` of a condensed form is made of, and that none of it leaves 128 bits.
-use Rattle.std.proofs.Common.{◌≡◌, ℕ, ◌+◌, ◌*◌, ◌/◌, ◌<◌, ◌≤◌, ◌^◌, ℤ, unsigned_abs, length, Bool, true, false, IsTrue, ◌↔◌, Option, Some, None, rules, arith, sym, ◌∙◌, refl, Fits}
+use Rattle.std.proofs.Common.{◌≡◌, ℕ, ◌+◌, ◌*◌, ◌/◌, ◌<◌, ◌≤◌, ◌^◌, ℤ, unsigned_abs, length, Bool, true, false, IsTrue, ◌↔◌, Option, Some, None, rules, arith, sym, ◌∙◌, refl, Fits, subst}
 use Rattle.std.specs.Int.{w128}
 use Rattle.std.specs.Option.{SomeIff, is_some}
 use Rattle.std.proofs.lemmas.Int.{ints}
@@ -9,7 +9,7 @@ use Rattle.integer_algebra.specs.Sums.{at}
 use Rattle.integer_algebra.proofs.PowerLaws.{pow-two, pow_positive}
 use Rattle.integer_algebra.proofs.SizeLaws.{amount_same, amount_more, amount_next}
 use Rattle.qp_model.specs.declared.design_parts.DesignParts.{DesignParts}
-use Rattle.qp_model.specs.Class.{form_in, hessian_in, cost_row_in, rows_in, product_row_in}
+use Rattle.qp_model.specs.Class.{form_in, hessian_in, cost_row_in, rows_in, product_row_in, row_quantity, curvature_with, HasLoweringRoom}
 use Rattle.qp_model.specs.CurvatureSize.{CoversSquaresOf, limit_squares, floor_times}
 use Rattle.qp_model.specs.Design.{Design, entries, rows}
 use Rattle.qp_model.specs.Form.{Form, farthest}
@@ -20,7 +20,6 @@ use Rattle.qp_model.specs.Range.{IsDenominator}
 use Rattle.qp_model.proofs.SoundLaws.{least-met, weight_at}
 use Rattle.plant_condense.specs.declared.condensed.Condensed.{Condensed}
 use Rattle.plant_condense.specs.Form.{IsFormIn}
-use Rattle.plant_condense.specs.Limit.{row_quantity}
 use Rattle.plant_condense.proofs.CostFacts.{square_le}
 use Rattle.plant_condense.proofs.FormSums.{far_plan}
 
@@ -187,12 +186,23 @@ cost_row_by fine d b size n e g h = rw (e, g, h) (same fine)
     same true = refl
     same false = refl
 
-pub product_row_by : (fine : Bool) (d : Design) (b : Bool) (size n : ℕ) → b ≡ fine → size ≡ rows_in fine d → n ≡ entries d → row_quantity b size n ≡ product_row_in fine d
-product_row_by fine d b size n e g h = rw (e, g, h) (same fine)
-  where
-    same : (fine : Bool) → row_quantity fine (rows_in fine d) (entries d) ≡ product_row_in fine d
-    same true = refl
-    same false = refl
+-- with the quantity `rows` itself
+pub own_row : (fine : Bool) (d : Design) → row_quantity fine (rows_in fine d) (entries d) ≡ product_row_in fine d
+own_row true d = refl
+own_row false d = refl
+
+-- the two tests where rows may count up to 2^4 times
+pub lowering_by : (fine : Bool) (d : Design) (size raised : ℕ) → size ≡ rows_in fine d → size ≤ 2 ^ 122 → raised ≡ 16 * size
+    → (curvature_with fine d raised ≤ 2 ^ 126) → HasLoweringRoom fine d
+lowering_by fine d size raised e narrow up h =
+    let is : raised ≡ 2 ^ 4 * rows_in fine d = omega (arith, up, e) in
+    record { rows = omega (arith, e, narrow); curvature = subst (λ (n : ℕ). curvature_with fine d n ≤ 2 ^ 126) is h }
+
+pub lowering_back : (fine : Bool) (d : Design) (size raised : ℕ) → size ≡ rows_in fine d → raised ≡ 16 * size → HasLoweringRoom fine d
+    → (size ≤ 2 ^ 122) × (curvature_with fine d raised ≤ 2 ^ 126)
+lowering_back fine d size raised e up h =
+    let is : 2 ^ 4 * rows_in fine d ≡ raised = omega (arith, up, e) in
+    (omega (arith, e, h.rows), subst (λ (n : ℕ). curvature_with fine d n ≤ 2 ^ 126) is h.curvature)
 
 pub limited_by : (r : Option ℕ) (b : Bool) (n : ℕ) → b ≡ is_some r → SomeIff r (n ≤ 2 ^ 126) n → IsTrue b ↔ (n ≤ 2 ^ 126)
 limited_by None b n e h = rw e (λ t. absurd (not_true t), λ l. absurd (h l))

@@ -1,6 +1,5 @@
 -- What the quantity `curvature` of a condensed form is made of.
-use Rattle.std.specs.Prelude.{◌≡◌, ℕ, ◌+◌, ◌*◌, ◌^◌, Bool, true, false, length}
-use Rattle.integer_algebra.specs.Division.{ceil_div}
+use Rattle.std.specs.Prelude.{◌≡◌, ℕ, ◌*◌, Bool, length}
 use Rattle.mat_int.specs.Matrix.{Matrix}
 use Rattle.qp_model.specs.Design.{Design}
 use Rattle.qp_model.specs.Quantities.{input_floor}
@@ -12,11 +11,6 @@ use Rattle.plant_condense.specs.declared.limit.Scales.{Scales}
 abbrev pub curvature_in : (fine : Bool) → Design → ℕ
 curvature_in fine d = curvature_of (covering_exponent d (form_in fine d)) d.limit_denominator (cost_row_in fine d) d.cost_denominator d.row_denominator (product_row_in fine d)
 
--- what a row comes to at most, by the quantity of the numbers that it is made of
-abbrev pub row_quantity : (fine : Bool) → (size entries : ℕ) → ℕ
-row_quantity true size entries = ceil_div size (2 ^ 40) + 4 * entries
-row_quantity false size entries = size
-
 -- these are the numbers of a design's form
 pub record IsScales (fine : Bool) (d : Design) (s : Scales) : Type 0 where
   pub weight_den : s.weight_den ≡ d.cost_denominator
@@ -25,7 +19,6 @@ pub record IsScales (fine : Bool) (d : Design) (s : Scales) : Type 0 where
   pub lift : d.limit_denominator * s.lift ≡ (form_in fine d).rows_scale
   pub input_floor : s.input_floor ≡ input_floor d
   pub cost_row : s.cost_row ≡ cost_row_in fine d
-  pub product_row : s.product_row ≡ product_row_in fine d
 
 -- midpoints and radii of one shape
 pub record AreAlike (mid rad : Matrix) : Type 0 where

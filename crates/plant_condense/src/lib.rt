@@ -26,6 +26,6 @@ pub use counted::{costs_of, scaled_targets, target_at, weights_of};
 pub use denominators::least_of;
 pub use fault::CondenseFault;
 pub use form::condense_exact;
-pub use limit::{is_curvature_limited, squares_exponent};
+pub use limit::{is_curvature_limited, is_lowering_limited, squares_exponent};
 pub use powers::{last_power, powers_of};
 pub use sums::product;

@@ -4,13 +4,13 @@ ghost use Rattle.integer_algebra.specs.Sizes.{amount};
 ghost use Rattle.integer_algebra.specs.Sums.{at};
 ghost use Rattle.mat_int.specs.Matrix.{entry_of};
 ghost use Rattle.qp_model.specs.declared.design_parts.DesignParts.{DesignParts};
-ghost use Rattle.qp_model.specs.Class.{form_in};
+ghost use Rattle.qp_model.specs.Class.{form_in, row_quantity, curvature_with, HasLoweringRoom};
 ghost use Rattle.qp_model.specs.CurvatureSize.{CoversSquaresOf};
 ghost use Rattle.qp_model.specs.Form.{farthest};
 ghost use Rattle.qp_model.specs.Least.{IsLeastBelow};
 ghost use Rattle.qp_model.specs.Parts.{design_of};
 ghost use Rattle.plant_condense.specs.Form.{IsFormIn, IsSomeForm};
-ghost use Rattle.plant_condense.specs.Limit.{curvature_in, row_quantity, AreAlike, IsScales};
+ghost use Rattle.plant_condense.specs.Limit.{curvature_in, AreAlike, IsScales};
 
 use crate::condensed::Condensed;
 use crate::squares::least_exponent;
@@ -36,6 +36,23 @@ pub fn is_curvature_limited(c: &Condensed) -> bool
     requires { IsSomeForm c.now }
     ensures { (fine : Bool) (p : DesignParts) → IsFormIn fine p c.now → IsTrue result ↔ (curvature_in fine (design_of p) ≤ 2 ^ 126) }
 {
+    is_limited_with(c, c.rows_size.unsigned_abs())
+}
+
+/// Whether it still is where each row may count up to `2^4` times, and so is the quantity `rows`, times `2^4`.
+pub fn is_lowering_limited(c: &Condensed) -> bool
+    requires { IsSomeForm c.now }
+    ensures { (fine : Bool) (p : DesignParts) → IsFormIn fine p c.now → IsTrue result ↔ HasLoweringRoom fine (design_of p) }
+{
+    let size = c.rows_size.unsigned_abs();
+    size <= 1 << 122 && is_limited_with(c, 16 * size)
+}
+
+// Whether the quantity `curvature`, with this number for `rows`, is at most `2^126`.
+fn is_limited_with(c: &Condensed, size: u128) -> bool
+    requires { IsSomeForm c.now }
+    ensures { (fine : Bool) (p : DesignParts) → IsFormIn fine p c.now → IsTrue result ↔ (curvature_with fine (design_of p) size ≤ 2 ^ 126) }
+{
     let exponent = squares_exponent(c).unwrap_or(40);
     let scales = scales_of(c);
     let size = curvature_of(
@@ -44,13 +61,12 @@ pub fn is_curvature_limited(c: &Condensed) -> bool
         scales.cost_row,
         scales.weight_den,
         scales.cost_row_den,
-        scales.product_row,
+        row_quantity(c.fine, size, c.hess.rows()),
     );
     size.is_some()
 }
 
-// The denominators, the least input weight, and what a row of half the hessian and a row of the products come to at most; none is
-// negative. The rows are over `limit_den * lift`.
+// The denominators, the least input weight, and what a row of half the hessian comes to at most; none is negative. The rows are over `limit_den * lift`.
 #[derive(Clone, Copy)]
 struct Scales {
     weight_den: u128,
@@ -59,22 +75,19 @@ struct Scales {
     lift: u128,
     input_floor: u128,
     cost_row: u128,
-    product_row: u128,
 }
 
 fn scales_of(c: &Condensed) -> Scales
     requires { IsSomeForm c.now }
     ensures { (fine : Bool) (p : DesignParts) → IsFormIn fine p c.now → IsScales fine (design_of p) result }
 {
-    let entries = c.hess.rows();
     Scales {
         weight_den: c.weight_den.unsigned_abs(),
         cost_row_den: c.cost_row_den.unsigned_abs(),
         limit_den: c.limit_den.unsigned_abs(),
         lift: c.row_den.unsigned_abs() / c.limit_den.unsigned_abs(),
         input_floor: c.input_floor.unsigned_abs(),
-        cost_row: row_quantity(c.fine, c.hess_size.unsigned_abs(), entries),
-        product_row: row_quantity(c.fine, c.rows_size.unsigned_abs(), entries),
+        cost_row: row_quantity(c.fine, c.hess_size.unsigned_abs(), c.hess.rows()),
     }
 }
 

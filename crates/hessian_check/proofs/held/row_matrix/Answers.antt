@@ -1,14 +1,13 @@
-use Rattle.hessian_check.proofs.FormMatrices.{exact_ok, near_of, rounded_ok, sizes_fit}
+use Rattle.hessian_check.proofs.RowMatrices.{sums_movable, sums_raised}
 use Rattle.hessian_check.proofs.held.row_matrix.Goals as goal
 
-pub rounded_products-requires-clause-room : goal.rounded_products-requires-clause-room
-rounded_products-requires-clause-room c = near_of c.requires.fine c.requires.parts c.args.c.now c.requires.form
+pub raise_diagonal-requires : goal.raise_diagonal-requires
+raise_diagonal-requires c =
+    let s = c.args.sums.now in
+    sums_movable s.mid s.rad s.sound c.requires.square c.requires.room c.in_ok-made.made.mid c.in_ok-made.made.rad c.in_ok-made.ensures
 
-pub exact_products-requires : goal.exact_products-requires
-exact_products-requires c = sizes_fit c.requires.fine c.requires.parts c.args.c.now c.requires.form
-
-pub returns-then-c : goal.returns-then-c
-returns-then-c c = λ fine p f. rounded_ok fine p c.args.c.now f c.if-c.true c.rounded_products.result c.rounded_products.ensures
-
-pub returns-else-c : goal.returns-else-c
-returns-else-c c = λ fine p f. exact_ok fine p c.args.c.now f c.if-c.false c.exact_products.result c.exact_products.ensures
+pub returns : goal.returns
+returns c =
+    let s = c.args.sums.now in
+    rw c.if-not-fine.false
+    (sums_raised s.mid s.rad s.sound c.requires.square c.requires.room c.in_ok-made.made.mid c.in_ok-made.made.rad c.raise_diagonal.new.mat c.in_ok-made.ensures c.raise_diagonal.ensures)

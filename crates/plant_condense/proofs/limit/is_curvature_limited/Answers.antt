@@ -1,35 +1,18 @@
-use Rattle.std.proofs.Common.{◌≡◌, ℕ, ◌^◌, ◌≤◌, ℤ, unsigned_abs, arith, sym, ◌∙◌}
-use Rattle.std.proofs.lemmas.Int.{ints}
-use Rattle.qp_model.specs.Range.{IsDenominator}
-use Rattle.qp_model.specs.Class.{form_in}
-use Rattle.qp_model.specs.CurvatureSize.{covering_exponent}
+use Rattle.std.proofs.Common.{◌≡◌, ℕ, ◌^◌, ◌≤◌, FitsSigned, unsigned_abs, ap, ◌∙◌, ◌↔◌, IsTrue, rules, subst}
+use Rattle.std.specs.Int.{w128}
+use Rattle.std.proofs.lemmas.Int.{to_z-of_z}
+use Rattle.qp_model.specs.Class.{rows_in, cost_row_in, form_in, row_quantity}
+use Rattle.qp_model.specs.CurvatureSize.{covering_exponent, curvature_of}
+use Rattle.qp_model.specs.Design.{entries}
 use Rattle.qp_model.specs.Parts.{design_of}
-use Rattle.plant_condense.specs.Limit.{curvature_in}
-use Rattle.plant_condense.proofs.LeastLaws.{exponent_is}
-use Rattle.plant_condense.proofs.LimitFacts.{limited_by}
+use Rattle.plant_condense.proofs.LimitFacts.{own_row}
 use Rattle.plant_condense.proofs.limit.is_curvature_limited.Goals as goal
-
--- a denominator's absolute value
-narrow : (z : ℤ) (n : ℕ) → IsDenominator z → n ≡ unsigned_abs z → n ≤ 2 ^ 20
-narrow z n h e = omega (arith, ints, h.low, h.high, e)
-
-pub curvature_of-size-requires-clause-limit_den : goal.curvature_of-size-requires-clause-limit_den
-curvature_of-size-requires-clause-limit_den c =
-    narrow c.requires.parts.limit_den _ c.requires.form.design.limit_den (c.scales_of-scales.ensures c.requires.fine c.requires.parts c.requires.form).limit_den
-
-pub curvature_of-size-requires-clause-weight_den : goal.curvature_of-size-requires-clause-weight_den
-curvature_of-size-requires-clause-weight_den c =
-    narrow c.requires.parts.cost_den _ c.requires.form.design.cost_den (c.scales_of-scales.ensures c.requires.fine c.requires.parts c.requires.form).weight_den
-
-pub curvature_of-size-requires-clause-cost_row_den : goal.curvature_of-size-requires-clause-cost_row_den
-curvature_of-size-requires-clause-cost_row_den c =
-    narrow c.requires.parts.row_den _ c.requires.form.design.row_den (c.scales_of-scales.ensures c.requires.fine c.requires.parts c.requires.form).cost_row_den
 
 pub returns : goal.returns
 returns c = λ fine p f.
     let d = design_of p in
-    let s = c.scales_of-scales.ensures fine p f in
-    let e : c.unwrap_or-exponent.result ≡ covering_exponent d (form_in fine d) =
-    c.unwrap_or-exponent.ensures ∙ sym (exponent_is d (form_in fine d) c.squares_exponent.result (c.squares_exponent.ensures fine p f)) in
-    limited_by c.curvature_of-size.result c.is_some.result (curvature_in fine d) c.is_some.ensures
-    (rw (e, s.limit_den, s.cost_row, s.weight_den, s.cost_row_den, s.product_row) at c.curvature_of-size.ensures)
+    let fits : FitsSigned w128 c.args.c.now.rows_size = search rules in
+    let size : c.unsigned_abs.result ≡ rows_in fine d = c.unsigned_abs.ensures.value ∙ ap unsigned_abs (to_z-of_z w128 _ fits ∙ f.sizes.limit_size) in
+    let row = ap (λ (n : ℕ). row_quantity fine n (entries d)) size ∙ own_row fine d in
+    subst (λ (n : ℕ). IsTrue c.is_limited_with.result ↔ (curvature_of (covering_exponent d (form_in fine d)) d.limit_denominator (cost_row_in fine d) d.cost_denominator d.row_denominator n ≤ 2 ^ 126)) row
+    (c.is_limited_with.ensures fine p f)

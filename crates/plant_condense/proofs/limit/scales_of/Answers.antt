@@ -3,7 +3,7 @@ use Rattle.std.specs.Int.{w128}
 use Rattle.std.proofs.lemmas.Int.{to_z-of_z}
 use Rattle.qp_model.specs.Parts.{design_of}
 use Rattle.plant_condense.proofs.HeldLaws.{least_equal}
-use Rattle.plant_condense.proofs.LimitFacts.{cost_row_by, lift_is, product_row_by}
+use Rattle.plant_condense.proofs.LimitFacts.{cost_row_by, lift_is}
 use Rattle.plant_condense.proofs.limit.scales_of.Goals as goal
 
 pub returns : goal.returns
@@ -14,7 +14,6 @@ returns c =
     let f3 : FitsSigned w128 c.args.c.now.row_den = search rules in
     let f4 : FitsSigned w128 c.args.c.now.input_floor = search rules in
     let f5 : FitsSigned w128 c.args.c.now.hess_size = search rules in
-    let f6 : FitsSigned w128 c.args.c.now.rows_size = search rules in
     λ fine p f. record {
       weight_den = c.unsigned_abs.ensures.value ∙ ap unsigned_abs (to_z-of_z w128 _ f0 ∙ f.denominators.weight_den);
       cost_row_den = c.unsigned_abs-2.ensures.value ∙ ap unsigned_abs (to_z-of_z w128 _ f1 ∙ f.denominators.cost_row_den);
@@ -23,7 +22,5 @@ returns c =
           (c.unsigned_abs-5.ensures.value ∙ ap unsigned_abs (to_z-of_z w128 _ f2 ∙ f.denominators.limit_den));
       input_floor = c.unsigned_abs-6.ensures.value ∙ ap unsigned_abs (to_z-of_z w128 _ f4) ∙ least_equal p _ f.design f.denominators.input_floor;
       cost_row = c.row_quantity.ensures ∙ cost_row_by fine (design_of p) _ _ _ f.class
-          (c.unsigned_abs-7.ensures.value ∙ ap unsigned_abs (to_z-of_z w128 _ f5 ∙ f.sizes.cost_size)) (c.rows-entries.ensures.count ∙ f.shapes.hess.rows);
-      product_row = c.row_quantity-2.ensures ∙ product_row_by fine (design_of p) _ _ _ f.class
-          (c.unsigned_abs-8.ensures.value ∙ ap unsigned_abs (to_z-of_z w128 _ f6 ∙ f.sizes.limit_size)) (c.rows-entries.ensures.count ∙ f.shapes.hess.rows);
+          (c.unsigned_abs-7.ensures.value ∙ ap unsigned_abs (to_z-of_z w128 _ f5 ∙ f.sizes.cost_size)) (c.rows.ensures.count ∙ f.shapes.hess.rows);
     }

@@ -1,7 +1,0 @@
-use Rattle.std.proofs.Common.{ℕ, ◌<◌, length}
-use Rattle.integer_algebra.specs.Matrices.{IsDominant}
-use Rattle.hessian_check.specs.MatrixRoom.{matrix_at}
-use Rattle.hessian_check.proofs.exponents.first_dominant.Given as goal
-
-abbrev pub invariant-loop-s : goal.invariant-loop-s
-invariant-loop-s l = (k : ℕ) → k < l.s → ¬ IsDominant (length l.matrices.cost.rows) (matrix_at l.matrices k)

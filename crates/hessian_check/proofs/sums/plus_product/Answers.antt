@@ -1,0 +1,26 @@
+use Rattle.std.proofs.Common.{rules}
+use Rattle.std.specs.Int.{w128}
+use Rattle.std.proofs.lemmas.Int.{to_z-of_z}
+use Rattle.enclosure.proofs.RoomLaws.{same_pair}
+use Rattle.hessian_check.proofs.RowSumLaws.{AreWords, mid_fits, mid_is, product_is, rad_is, rad_nonneg, rest_inside}
+use Rattle.hessian_check.proofs.sums.plus_product.Goals as goal
+
+pub overflow_sub-rad : goal.overflow_sub-rad
+overflow_sub-rad c =
+    let words : AreWords c.args.sum c.args.a c.args.b = record { sum_mid = search rules; sum_rad = search rules; a_mid = search rules; b_mid = search rules } in
+    rest_inside c.args.sum c.args.a c.args.b words c.requires _ _ _ c.unsigned_abs.ensures.value c.magnitude.ensures c.magnitude-2.ensures
+
+pub overflow_add-result : goal.overflow_add-result
+overflow_add-result c =
+    let words : AreWords c.args.sum c.args.a c.args.b = record { sum_mid = search rules; sum_rad = search rules; a_mid = search rules; b_mid = search rules } in
+    rw (to_z-of_z w128 _ words.sum_mid, product_is c.args.sum c.args.a c.args.b words c.requires) (mid_fits c.args.sum c.args.a c.args.b words c.requires)
+
+pub invariant_of-result : goal.invariant_of-result
+invariant_of-result c =
+    let words : AreWords c.args.sum c.args.a c.args.b = record { sum_mid = search rules; sum_rad = search rules; a_mid = search rules; b_mid = search rules } in
+    record { nonnegative = rad_nonneg c.args.sum c.args.a c.args.b words c.requires _ _ _ c.unsigned_abs.ensures.value c.magnitude.ensures c.magnitude-2.ensures }
+
+pub returns : goal.returns
+returns c =
+    let words : AreWords c.args.sum c.args.a c.args.b = record { sum_mid = search rules; sum_rad = search rules; a_mid = search rules; b_mid = search rules } in
+    same_pair (mid_is c.args.sum c.args.a c.args.b words c.requires _ _ _ c.unsigned_abs.ensures.value c.magnitude.ensures c.magnitude-2.ensures) (rad_is c.args.sum c.args.a c.args.b words c.requires _ _ _ c.unsigned_abs.ensures.value c.magnitude.ensures c.magnitude-2.ensures)

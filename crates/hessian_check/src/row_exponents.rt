@@ -1,0 +1,97 @@
+// The step exponents of a design's rows.
+ghost use Rattle.std.specs.Prelude.{◌≡◌, ◌↔◌, ◌+◌, ◌<◌, ◌≤◌, length, IfOk, IsTrue};
+ghost use Rattle.qp_model.specs.Class.{HasLoweringRoom};
+ghost use Rattle.qp_model.specs.Curvature.{AreExponents};
+ghost use Rattle.qp_model.specs.FineSizes.{is_fine};
+ghost use Rattle.plant_condense.specs.Form.{IsForm};
+ghost use Rattle.hessian_check.specs.Curvature.{IsAccepted};
+ghost use Rattle.hessian_check.specs.Lowering.{AreTestedSums, HasCostMatrix, IsReadyToLower};
+ghost use Rattle.hessian_check.specs.MatrixRoom.{HasMatrixRoom, matrix_at};
+ghost use Rattle.hessian_check.specs.RowExponents.{AreLowered, AreRowExponents, exponent_in, IsLowered};
+ghost use Rattle.hessian_check.specs.Steps.{IsExponentOf, OfDesign};
+
+use crate::certificate::has_passing_root;
+use crate::held::row_matrix;
+use crate::matrices::StepMatrices;
+use crate::of_design::matrices_by;
+use crate::sums::{sums_once, with_row};
+use enclosure::EncMat;
+use plant_condense::{Condensed, is_lowering_limited};
+use std::alloc::{AllocError, Global};
+
+/// The step exponents of the rows of a design's condensed form, whose own step exponent is `s`: the rows are taken in their order, and each exponent
+/// is lowered from s by 1 as long as the matrix of the list is dominant or has a root that the test passes, at most 4 times and not below 0. Where
+/// the numbers leave no room for that, each is s.
+pub fn exponents(alloc: Global, c: &Condensed, s: u32) -> Result<Vec<u32>, AllocError>
+    requires form { IsForm c.now }
+    requires chosen { OfDesign c.now (λ d. IsExponentOf d s) }
+    ensures list { OfDesign c.now (λ d. IfOk result (λ es. AreRowExponents d s es.items)) }
+    ensures exponents { OfDesign c.now (λ d. IfOk result (λ es. AreExponents d (exponent_in es.items) s)) }
+{
+    if is_lowering_limited(c) {
+        lowered_rows(alloc, c, s)
+    } else {
+        vec![in alloc; s; c.g.rows()]
+    }
+}
+
+// Where there is room.
+fn lowered_rows(alloc: Global, c: &Condensed, s: u32) -> Result<Vec<u32>, AllocError>
+    requires form { IsForm c.now }
+    requires chosen { OfDesign c.now (λ d. IsExponentOf d s) }
+    requires room { OfDesign c.now (λ d. HasLoweringRoom (is_fine d) d) }
+    ensures { OfDesign c.now (λ d. IfOk result (λ es. AreLowered d s es.items)) }
+{
+    let mut sums = sums_once(alloc, c)?;
+    let mut matrices = matrices_by(alloc, c, &sums)?;
+    let mut list = Vec::with_capacity(alloc, c.g.rows())?;
+    for _ in 0..c.g.rows() {
+        let exponent = lowered(alloc, c, &list, s, &mut matrices, &mut sums)?;
+        list.push(exponent)?;
+    }
+    Ok(list)
+}
+
+// The exponent of the next row after those that have the exponents `before`. The sums, in which these rows count by their exponents and each other
+// row once, are then those in which it counts by its own too.
+fn lowered(
+    alloc: Global,
+    c: &Condensed,
+    before: &[u32],
+    s: u32,
+    matrices: &mut StepMatrices,
+    sums: &mut EncMat,
+) -> Result<u32, AllocError>
+    requires form { IsForm c.now }
+    requires ready { IsReadyToLower c.now s before.now }
+    requires cost { OfDesign c.now (λ d. HasCostMatrix (is_fine d) d matrices.old) }
+    requires sums { AreTestedSums c.now before.now (length before.now) s s sums.old }
+    ensures lowered { OfDesign c.now (λ d. IfOk result (IsLowered d s before.now (length before.now))) }
+    ensures cost { OfDesign c.now (λ d. HasCostMatrix (is_fine d) d matrices.new) }
+    ensures sums { IfOk result (λ e. AreTestedSums c.now before.now (length before.now) e s sums.new) }
+{
+    let i = before.len();
+    let most = s.min(4);
+    for k in 0..most {
+        let more = with_row(alloc, sums, &c.g, &c.g_rad, i, 1 << k)?;
+        matrices.rows = row_matrix(alloc, c.fine, &more)?;
+        if !is_accepted(alloc, matrices, s)? {
+            return Ok(s - k);
+        }
+        *sums = more;
+    }
+    Ok(s - most)
+}
+
+// Whether the matrix of s is dominant, or has a root that the test passes.
+fn is_accepted(alloc: Global, matrices: &StepMatrices, s: u32) -> Result<bool, AllocError>
+    requires small { s ≤ 40 }
+    requires room { HasMatrixRoom matrices.now s }
+    ensures { IfOk result (λ yes. IsTrue yes ↔ IsAccepted (length matrices.now.cost.rows) (matrix_at matrices.now s)) }
+{
+    let matrix = matrices.at(alloc, s)?;
+    if matrix.is_dominant().unwrap() {
+        return Ok(true);
+    }
+    has_passing_root(alloc, &matrix)
+}
