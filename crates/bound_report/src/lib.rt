@@ -5,17 +5,18 @@ ghost use Rattle.std.specs.Prelude.{◌≡◌, ◌++◌, IfOk, OnOk, string_byte
 ghost use Rattle.std.specs.Fmt.{signed_decimal};
 ghost use Rattle.qp_model.specs.Lines.{text_of};
 ghost use Rattle.qp_model.specs.Printed.{printed};
-ghost use Rattle.bound_report.specs.Report.{report_head, bound_lines, report_text, json_members, report_json};
-ghost use Rattle.bound_report.specs.Document.{members_of, object_of, IsJsonLine};
+ghost use Rattle.bound_report.specs.Report.{report_head, bound_lines, violation_lines, numbered_violations, report_text, first_members, last_members, json_members, report_json};
+ghost use Rattle.bound_report.specs.Document.{strings_of, members_of, object_of, IsJsonLine};
 ghost use Rattle.serde_json.specs.Data.{string, put};
-ghost use Rattle.serde_json.specs.View.{members_view};
+ghost use Rattle.serde_json.specs.View.{view, items_view, members_view};
 
 use qp_model::{Bounds, push_line};
 use serde_json::{Map, Value, put};
 use std::alloc::{AllocError, Global};
 
-/// The text of a report: lines of a word and its numbers, the header `mpc-report 1` first and `end` last. A number that is over a power of two
-/// has that power beside it.
+/// The text of a report: lines of a word and its numbers, the header `mpc-report` with the version first and `end` last. A number that is over a
+/// power of two has that power beside it. Version 1 has one line `violation`; any other has one for each of the m rows, with the row's number
+/// from 1 on before it.
 pub fn report_text(alloc: Global, b: &Bounds) -> Result<Vec<u8>, AllocError>
     ensures { IfOk result (λ v. v.items ≡ report_text (printed b.now)) }
 {
@@ -26,7 +27,8 @@ pub fn report_text(alloc: Global, b: &Bounds) -> Result<Vec<u8>, AllocError>
 }
 
 /// The report as one JSON object with no space in it, and a line feed. Each value is a string, the number in decimal, since a reader of JSON may
-/// keep no more of a number than a float does. `margin` is over `2^16`, `gap`, `undercut` and `violation` are over `2^40`, and `version` is 1.
+/// keep no more of a number than a float does. `margin` is over `2^16`, `gap`, `undercut` and `violation`, the greatest of all rows, are over
+/// `2^40`. Any version but 1 has `violations` too: an array of m such strings, over `2^40`, from the first row on.
 pub fn report_json(alloc: Global, b: &Bounds) -> Result<Vec<u8>, AllocError>
     ensures bytes { IfOk result (λ v. v.items ≡ report_json (printed b.now)) }
     ensures document { IfOk result (λ v. IsJsonLine v.items (object_of (json_members (printed b.now)))) }
@@ -41,6 +43,19 @@ pub fn report_json(alloc: Global, b: &Bounds) -> Result<Vec<u8>, AllocError>
 fn report_members(alloc: Global, b: &Bounds) -> Result<Map<String, Value>, AllocError>
     ensures { IfOk result (λ m. members_view m.entries ≡ members_of (json_members (printed b.now))) }
 {
+    let mut members = number_members(alloc, b)?;
+    if b.version == 1 {
+        return Ok(members);
+    }
+    let rows = number_strings(alloc, &b.rows)?;
+    put(&mut members, alloc, "violations", Value::Array(rows))?;
+    Ok(members)
+}
+
+// Those of one number.
+fn number_members(alloc: Global, b: &Bounds) -> Result<Map<String, Value>, AllocError>
+    ensures { IfOk result (λ m. members_view m.entries ≡ members_of (first_members (printed b.now) ++ last_members (printed b.now))) }
+{
     let mut members = Map::new(alloc);
     put_number(alloc, &mut members, "bits", i128::from(b.bits))?;
     put_number(alloc, &mut members, "cost", b.cost)?;
@@ -50,7 +65,7 @@ fn report_members(alloc: Global, b: &Bounds) -> Result<Map<String, Value>, Alloc
     put_number(alloc, &mut members, "step", i128::from(b.step))?;
     put_number(alloc, &mut members, "steps", i128::from(b.steps))?;
     put_number(alloc, &mut members, "undercut", b.undercut)?;
-    put_number(alloc, &mut members, "version", 1)?;
+    put_number(alloc, &mut members, "version", i128::from(b.version))?;
     put_number(alloc, &mut members, "violation", b.violation)?;
     put_number(alloc, &mut members, "width", i128::from(b.width))?;
     put_number(alloc, &mut members, "words", b.words as i128)?;
@@ -71,11 +86,24 @@ fn put_number(
     put(members, alloc, key, Value::String(text))
 }
 
+// Each number as a string.
+fn number_strings(alloc: Global, numbers: &[i128]) -> Result<Vec<Value>, AllocError>
+    ensures { IfOk result (λ v. items_view v.items ≡ strings_of numbers.now) }
+{
+    let mut strings = Vec::new(alloc);
+    for number in numbers {
+        let text = number.to_string(alloc)?;
+        strings.push(Value::String(text))?;
+    }
+    Ok(strings)
+}
+
 // The header, the margin and what was chosen.
 fn head_text(alloc: Global, b: &Bounds) -> Result<String, AllocError>
     ensures { IfOk result (λ text. string_bytes text ≡ text_of (report_head (printed b.now))) }
 {
-    let mut text = String::from_str(alloc, "mpc-report 1\n")?;
+    let mut text = String::new(alloc);
+    push_line(alloc, &mut text, "mpc-report", &[i128::from(b.version)])?;
     push_line(alloc, &mut text, "margin", &[b.margin, 1 << 16])?;
     push_line(alloc, &mut text, "cost", &[b.cost])?;
     push_line(alloc, &mut text, "multiplier", &[b.multiplier])?;
@@ -91,9 +119,29 @@ fn head_text(alloc: Global, b: &Bounds) -> Result<String, AllocError>
 fn push_bounds(alloc: Global, text: &mut String, b: &Bounds) -> Result<(), AllocError>
     ensures { OnOk result (string_bytes text.new ≡ string_bytes text.old ++ text_of (bound_lines (printed b.now))) }
 {
-    push_line(alloc, text, "violation", &[b.violation, 1 << 40])?;
+    push_violations(alloc, text, b)?;
     push_line(alloc, text, "gap", &[b.gap, 1 << 40])?;
     push_line(alloc, text, "undercut", &[b.undercut, 1 << 40])
+}
+
+// The violation of all rows in version 1, and else that of each.
+fn push_violations(alloc: Global, text: &mut String, b: &Bounds) -> Result<(), AllocError>
+    ensures { OnOk result (string_bytes text.new ≡ string_bytes text.old ++ text_of (violation_lines (printed b.now))) }
+{
+    if b.version == 1 {
+        return push_line(alloc, text, "violation", &[b.violation, 1 << 40]);
+    }
+    push_rows(alloc, text, b)
+}
+
+// A line for each row, counted from 1.
+fn push_rows(alloc: Global, text: &mut String, b: &Bounds) -> Result<(), AllocError>
+    ensures { OnOk result (string_bytes text.new ≡ string_bytes text.old ++ text_of (numbered_violations 1 b.now.rows.items)) }
+{
+    for (i, row) in b.rows.iter().enumerate() {
+        push_line(alloc, text, "violation", &[i as i128 + 1, *row, 1 << 40])?;
+    }
+    Ok(())
 }
 
 #[cfg(test)]

@@ -2,6 +2,7 @@
 
 -- ---- numbers
 pub mod NumberFacts
+pub mod RowBounds
 -- ---- mixtures of plans
 pub mod DesignMix
 pub mod MixLaws

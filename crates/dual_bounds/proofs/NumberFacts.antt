@@ -1,5 +1,5 @@
 -- The numbers that are made of a margin.
-use Rattle.std.proofs.Common.{◌≡◌, ℕ, ◌+◌, ◌*◌, ◌^◌, ◌<◌, ◌≤◌, ℤ, pos, negsuc, ◌*ℤ◌, ◌≤ℤ◌, unsigned_abs, FitsSigned, arith, sym, ◌∙◌}
+use Rattle.std.proofs.Common.{◌≡◌, ℕ, ◌*◌, ◌^◌, ◌<◌, ◌≤◌, ℤ, pos, negsuc, ◌*ℤ◌, ◌≤ℤ◌, unsigned_abs, FitsSigned, arith, sym, ◌∙◌}
 use Rattle.std.specs.Int.{w128, div_ceil}
 use Rattle.std.proofs.lemmas.Int.{ints}
 use Rattle.std.proofs.lemmas.Grind.{div_ceil_times}
@@ -13,21 +13,20 @@ same_ceil a b h =
     let t = div_ceil_times a b h in
     div-eq_of_lt-le b (omega (arith, t)) (omega (arith, t))
 
--- ---- 2^k r
-shifted : (s n : ℕ) → s ≤ 40 → n ≤ 2 ^ 44 → 2 ^ (s + 41) * n ≤ 2 ^ 125
-shifted s n h k =
+-- ---- 2^e r
+shifted : (e n : ℕ) → e ≤ 81 → n ≤ 2 ^ 44 → 2 ^ e * n ≤ 2 ^ 125
+shifted e n h k =
     let some : 0 < 2 = omega arith in
-    let e : s + 41 ≤ 81 = omega arith in
-    let p : 2 ^ (s + 41) ≤ 2 ^ 81 = pow-le-pow_right some e in
-    omega (arith, mul-le-mul_left (2 ^ (s + 41)) k, mul-le-mul_left (2 ^ 44) p)
+    let p : 2 ^ e ≤ 2 ^ 81 = pow-le-pow_right some h in
+    omega (arith, mul-le-mul_left (2 ^ e) k, mul-le-mul_left (2 ^ 44) p)
 
-pub shifted_fits : (s : ℕ) (r : ℤ) → s ≤ 40 → pos 1 ≤ℤ r → r ≤ℤ pos (2 ^ 44) → FitsSigned w128 (r *ℤ pos (2 ^ (s + 41)))
-shifted_fits s (pos n) h l k = let f = shifted s n h (omega (arith, ints, k)) in omega (arith, ints, f)
-shifted_fits s (negsuc n) h l k = absurd (omega (arith, ints, l))
+pub shifted_fits : (e : ℕ) (r : ℤ) → e ≤ 81 → pos 1 ≤ℤ r → r ≤ℤ pos (2 ^ 44) → FitsSigned w128 (r *ℤ pos (2 ^ e))
+shifted_fits e (pos n) h l k = let f = shifted e n h (omega (arith, ints, k)) in omega (arith, ints, f)
+shifted_fits e (negsuc n) h l k = absurd (omega (arith, ints, l))
 
-pub shifted_is : (s : ℕ) (r : ℤ) → s ≤ 40 → pos 1 ≤ℤ r → r ≤ℤ pos (2 ^ 44) → unsigned_abs (r *ℤ pos (2 ^ (s + 41))) ≤ 2 ^ 125
-shifted_is s (pos n) h l k = let f = shifted s n h (omega (arith, ints, k)) in omega (arith, f)
-shifted_is s (negsuc n) h l k = absurd (omega (arith, ints, l))
+pub shifted_is : (e : ℕ) (r : ℤ) → e ≤ 81 → pos 1 ≤ℤ r → r ≤ℤ pos (2 ^ 44) → unsigned_abs (r *ℤ pos (2 ^ e)) ≤ 2 ^ 125
+shifted_is e (pos n) h l k = let f = shifted e n h (omega (arith, ints, k)) in omega (arith, f)
+shifted_is e (negsuc n) h l k = absurd (omega (arith, ints, l))
 
 pub positive : (z : ℤ) → pos 1 ≤ℤ z → 0 < unsigned_abs z
 positive (pos n) h = omega (arith, ints, h)

@@ -1,7 +1,7 @@
 // The numbers that follow from a margin.
 ghost use Rattle.std.specs.Prelude.{◌≡◌, ℕ, ◌+◌, ◌*◌, ◌^◌, ◌≤◌, pos, ◌≤ℤ◌, unsigned_abs, IfErr};
 ghost use Rattle.std.specs.Result.{OkIff};
-ghost use Rattle.qp_model.specs.Choices.{multiplier_of, multiplier_size_of, step_count, violation_bound, undercut_bound};
+ghost use Rattle.qp_model.specs.Choices.{multiplier_of, multiplier_size_of, step_count, row_violation_bound, violation_bound, undercut_bound};
 ghost use Rattle.qp_model.specs.declared.quantity.Quantity.TheVariants.{Multiplier};
 
 use frac_scaled::scaled;
@@ -51,14 +51,14 @@ pub fn steps(s: u32, r: i128, half_target: i128) -> Result<u32, TooManySteps>
     ensures told { IfErr result (λ e. e.k ≡ pos (step_count s (unsigned_abs r) (unsigned_abs half_target))) }
 {
     let target = half_target.unsigned_abs();
-    let count = whole(s, r).div_ceil(target);
+    let count = whole(s + 41, r).div_ceil(target);
     if count > 1 << 22 {
         return Err(TooManySteps { k: count as i128 });
     }
     Ok(count as u32)
 }
 
-/// By how much a plan exceeds a row at most, over `2^40`: after `k` steps with the step exponent `s`, the multiplier bound `r` and the
+/// By how much a plan exceeds any row at most, over `2^40`: after `k` steps with the step exponent `s`, the multiplier bound `r` and the
 /// errors `eps` over `2^40`.
 pub fn violation(s: u32, r: i128, k: u32, eps: i128) -> i128
     requires exponent { s ≤ 40 }
@@ -69,7 +69,22 @@ pub fn violation(s: u32, r: i128, k: u32, eps: i128) -> i128
     requires small { eps ≤ℤ pos (2 ^ 114) }
     ensures { result ≡ pos (violation_bound s (unsigned_abs r) k (unsigned_abs eps)) }
 {
-    let of_steps = whole(s, r).div_ceil(u128::from(k));
+    row_violation(s, s, r, k, eps)
+}
+
+/// By how much a plan exceeds a row with the step exponent `si` at most, over `2^40`: after `k` steps with the greatest step exponent `s` of all
+/// rows, the multiplier bound `r` and the errors `eps` over `2^40`.
+pub fn row_violation(si: u32, s: u32, r: i128, k: u32, eps: i128) -> i128
+    requires row { si ≤ s }
+    requires exponent { s ≤ 40 }
+    requires some { pos 1 ≤ℤ r }
+    requires narrow { r ≤ℤ pos (2 ^ 44) }
+    requires steps { 1 ≤ k }
+    requires errors { pos 0 ≤ℤ eps }
+    requires small { eps ≤ℤ pos (2 ^ 114) }
+    ensures { result ≡ pos (row_violation_bound si s (unsigned_abs r) k (unsigned_abs eps)) }
+{
+    let of_steps = (whole(si + 40, r) + whole(s + 40, r)).div_ceil(u128::from(k));
     let bound = r.unsigned_abs();
     let of_errors = eps.unsigned_abs().div_ceil(bound);
     (of_steps + of_errors) as i128
@@ -85,13 +100,13 @@ pub fn undercut(r: i128, violation: i128) -> i128
     r * violation
 }
 
-// `2^(s+41) r`.
-fn whole(s: u32, r: i128) -> u128
-    requires exponent { s ≤ 40 }
+// `2^e r`.
+fn whole(e: u32, r: i128) -> u128
+    requires exponent { e ≤ 81 }
     requires some { pos 1 ≤ℤ r }
     requires narrow { r ≤ℤ pos (2 ^ 44) }
-    ensures value { result ≡ 2 ^ (s + 41) * unsigned_abs r }
+    ensures value { result ≡ 2 ^ e * unsigned_abs r }
     ensures small { result ≤ 2 ^ 125 }
 {
-    scaled(r, s + 41).unsigned_abs()
+    scaled(r, e).unsigned_abs()
 }

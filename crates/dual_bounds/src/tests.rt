@@ -1,4 +1,4 @@
-use crate::{TooManySteps, multiplier, steps, undercut, violation};
+use crate::{TooManySteps, multiplier, row_violation, steps, undercut, violation};
 use qp_model::{Margin, Quantity, Wide};
 
 #[test]
@@ -78,5 +78,14 @@ fn printed_bounds(rt: HostRuntime) {
     for (s, r, k, eps, row, cost) in bounds {
         assert_eq!(rt; violation(s, r, k, eps), row, "at {s} {r} {k} {eps}");
         assert_eq!(rt; undercut(r, row), cost, "at {r} {row}");
+    }
+}
+
+// A row with a smaller step exponent than the greatest, and one with the greatest.
+#[test]
+fn row_bounds(rt: HostRuntime) {
+    let bounds: [(u32, i128); 2] = [(0, 6651831648256), (1, 8850854903808)];
+    for (si, row) in bounds {
+        assert_eq!(rt; row_violation(si, 1, 8, 4, 438095052800), row, "at {si}");
     }
 }
