@@ -1,5 +1,5 @@
 -- Two controllers that are built for one design and policy agree in all but their gains, and the width and the bounds that follow from these.
-use Rattle.std.proofs.Common.{◌≡◌, ℕ, ◌+◌, ◌*◌, ◌^◌, ◌<◌, ℤ, pos, ◌*ℤ◌, unsigned_abs, List, [], length, replicate, arith, refl, ap, sym, subst, ◌∙◌}
+use Rattle.std.proofs.Common.{◌≡◌, ℕ, ◌+◌, ◌*◌, ◌^◌, ◌<◌, ℤ, pos, ◌*ℤ◌, unsigned_abs, List, [], length, slice_index_or, arith, refl, ap, sym, subst, ◌∙◌}
 use Rattle.std.proofs.lemmas.List.{same_lists, get_or_default}
 use Rattle.integer_algebra.specs.Sums.{at}
 use Rattle.integer_algebra.specs.Division.{round_of}
@@ -7,7 +7,7 @@ use Rattle.mat_int.specs.Matrix.{Matrix, row_of, entry_of}
 use Rattle.qp_model.specs.Design.{Design, entries, rows}
 use Rattle.qp_model.specs.Parts.{design_of}
 use Rattle.qp_model.specs.Class.{form_of}
-use Rattle.qp_model.specs.Choices.{multiplier_of, step_count, violation_bound, undercut_bound}
+use Rattle.qp_model.specs.Choices.{multiplier_of, step_count, violation_bound, row_violation_bound, undercut_bound}
 use Rattle.qp_model.specs.Errors.{error_sums_of}
 use Rattle.qp_model.specs.RealErrors.{real_cost}
 use Rattle.qp_model.specs.Controller.{Numbers, HasShape, plan_length}
@@ -16,6 +16,7 @@ use Rattle.qp_model.specs.Policy.{Plans}
 use Rattle.qp_model.specs.declared.design_parts.DesignParts.{DesignParts}
 use Rattle.qp_model.specs.Printed.{Printed}
 use Rattle.overflow_check.specs.Width.{IsWidth}
+use Rattle.hessian_check.proofs.RowExponentLaws.{one_list_law}
 use Rattle.bit_choice.specs.Choice.{IsChoice}
 use Rattle.design_engine.proofs.Classes.{entries_are, states_are, rows_are}
 use Rattle.design_engine.proofs.Tables.{row_long, shape_as, plan_long}
@@ -89,8 +90,7 @@ module _ (p : DesignParts) (plans : Plans) (c other : Numbers) (b printed : Prin
   exponent = one_exponent d c.step_exponent other.step_exponent h.exponent k.exponent
 
   exponents : c.exponents ≡ other.exponents
-  exponents = h.controller.form.sized.same_exponents (h.version ∙ h.design.version) ∙ (λ i. replicate (limits i) (exponent i)) ∙
-      sym (k.controller.form.sized.same_exponents (k.version ∙ k.design.version))
+  exponents = one_list_law d other.step_exponent c.exponents other.exponents (rw exponent at h.exponents) k.exponents
 
   steps : c.steps ≡ other.steps
   steps = h.steps ∙ (λ i. step_count (exponent i) (r i) (half_target t)) ∙ sym k.steps
@@ -164,10 +164,11 @@ module _ (p : DesignParts) (plans : Plans) (c other : Numbers) (b printed : Prin
   }
 
   -- with these widths, violations, gaps and undercuts
-  bounds_with : (w n : ℕ) (v x g y u z : ℤ) → w ≡ n → v ≡ x → g ≡ y → u ≡ z →
-      record b { width = w; violation = v; row_violation = printed.row_violation; gap = g; undercut = u } ≡
-      record printed { width = n; violation = x; gap = y; undercut = z }
-  bounds_with w n v x g y u z wide most gap under i = record {
+  bounds_with : (w n : ℕ) (v x g y u z : ℤ) (own rows : List ℤ) → w ≡ n → v ≡ x → own ≡ rows → g ≡ y → u ≡ z →
+      record b { width = w; violation = v; row_violations = own; gap = g; undercut = u } ≡
+      record printed { width = n; violation = x; row_violations = rows; gap = y; undercut = z }
+  bounds_with w n v x g y u z own rows wide most each gap under i = record {
+    version = (h.bounds.version ∙ version ∙ sym k.bounds.version) i;
     margin = (margin i).units;
     cost = (margin i).cost;
     multiplier = (h.bounds.multiplier ∙ ap pos r ∙ sym k.bounds.multiplier) i;
@@ -177,7 +178,7 @@ module _ (p : DesignParts) (plans : Plans) (c other : Numbers) (b printed : Prin
     width = wide i;
     words = (h.bounds.words ∙ words ∙ sym k.bounds.words) i;
     violation = most i;
-    row_violation = printed.row_violation;
+    row_violations = each i;
     gap = gap i;
     undercut = under i;
   }
@@ -186,10 +187,9 @@ module _ (p : DesignParts) (plans : Plans) (c other : Numbers) (b printed : Prin
   all_same : HaveSameGains c other → AreIdentical c other b printed
   all_same g = record {
     numbers = whole;
-    bounds = bounds_with b.width printed.width b.violation printed.violation b.gap printed.gap b.undercut printed.undercut
-        (h.bounds.width ∙ width ∙ sym k.bounds.width) violation (h.bounds.gap ∙ ap pos errors ∙ sym k.bounds.gap)
+    bounds = bounds_with b.width printed.width b.violation printed.violation b.gap printed.gap b.undercut printed.undercut b.row_violations printed.row_violations
+        (h.bounds.width ∙ width ∙ sym k.bounds.width) violation row_violations (h.bounds.gap ∙ ap pos errors ∙ sym k.bounds.gap)
         (h.bounds.undercut ∙ (λ j. pos (undercut_bound (r j) (unsigned_abs (violation j)))) ∙ sym k.bounds.undercut);
-    row_violations = λ i l. h.bounds.row_violation i l ∙ violations ∙ sym (k.bounds.row_violation i (omega (arith, l, limits)));
   }
     where
       numbers_by : (w n : ℕ) → w ≡ n → record c { width = w } ≡ record other { width = n }
@@ -207,17 +207,18 @@ module _ (p : DesignParts) (plans : Plans) (c other : Numbers) (b printed : Prin
       errors : real_cost d (form_of d) (printed_multiplier b) c ≡ real_cost d (form_of d) (printed_multiplier printed) other
       errors = λ i. real_cost d (form_of d) (r i) (whole i)
 
-      violations : pos (violation_bound c.step_exponent (printed_multiplier b) c.steps (real_cost d (form_of d) (printed_multiplier b) c)) ≡
-          pos (violation_bound other.step_exponent (printed_multiplier printed) other.steps (real_cost d (form_of d) (printed_multiplier printed) other))
-      violations = λ i. pos (violation_bound (exponent i) (r i) (steps i) (errors i))
-
       violation : b.violation ≡ printed.violation
-      violation = h.bounds.violation ∙ violations ∙ sym k.bounds.violation
+      violation = h.bounds.violation ∙ (λ j. pos (violation_bound (exponent j) (r j) (steps j) (errors j))) ∙ sym k.bounds.violation
+
+      row_violations : b.row_violations ≡ printed.row_violations
+      row_violations = same_numbers b.row_violations printed.row_violations c.rows h.bounds.row_count (k.bounds.row_count ∙ sym limits) (λ i l.
+          h.bounds.row_violations i l ∙ (λ j. pos (row_violation_bound (slice_index_or (exponents j) i 0) (exponent j) (r j) (steps j) (errors j))) ∙
+          sym (k.bounds.row_violations i (omega (arith, l, limits))))
 
 pub agreement : AgreementLaw
 agreement p plans c other b printed h k = record {
   numbers = numbers_with p plans c other b printed h k _ _ _ _ _ _ other.width other.width refl refl refl refl;
   bounds = bounds_with p plans c other b printed h k printed.width printed.width printed.violation printed.violation printed.gap printed.gap printed.undercut printed.undercut
-      refl refl refl refl;
+      printed.row_violations printed.row_violations refl refl refl refl refl;
   followed = all_same p plans c other b printed h k;
 }

@@ -1,53 +1,74 @@
 -- What passes every test is built.
-use Rattle.std.proofs.Common.{◌≡◌, ℕ, ◌-◌, ◌*◌, ◌^◌, ◌<◌, ℤ, pos, ◌*ℤ◌, ◌≤ℤ◌, arith, refl, ap, sym, subst, ◌∙◌}
-use Rattle.std.proofs.lemmas.List.{get_or-replicate}
-use Rattle.integer_algebra.specs.Sums.{square}
-use Rattle.integer_algebra.proofs.SumLaws.{total_same}
+use Rattle.std.proofs.Common.{◌≡◌, inl, inr, ℕ, ◌≤◌, List, length, replicate, arith, refl, ap, sym, subst, ◌∙◌, le_refl}
+use Rattle.std.proofs.lemmas.Bool.{cases_eq}
+use Rattle.std.proofs.lemmas.List.{length-replicate}
+use Rattle.std.proofs.lemmas.List.Elements.{All-from_get_or, All-replicate}
 use Rattle.qp_model.specs.Parts.{IsDesign, design_of}
 use Rattle.qp_model.specs.Policy.{Plans, IsPolicyFor}
-use Rattle.qp_model.specs.Curvature.{curvature, row_change, AreExponents, IsExponent}
+use Rattle.qp_model.specs.Curvature.{AreExponents}
 use Rattle.qp_model.specs.Choices.{step_count, multiplier_of}
 use Rattle.qp_model.specs.Class.{form_of}
-use Rattle.qp_model.specs.Cost.{cost_scale}
-use Rattle.qp_model.specs.Residual.{residual_scale}
 use Rattle.qp_model.specs.Design.{Design, rows}
 use Rattle.qp_model.specs.Built.{IsDerivedFrom}
 use Rattle.qp_model.specs.RealErrors.{real_cost}
 use Rattle.qp_model.specs.Controller.{Numbers}
-use Rattle.qp_model.specs.Machine.{exponent_of}
+use Rattle.qp_model.specs.Limits.{text_version}
 use Rattle.qp_model.specs.AbsoluteSums.{IsController}
 use Rattle.qp_model.specs.declared.design_parts.DesignParts.{DesignParts}
 use Rattle.qp_model.specs.Printed.{Printed}
 use Rattle.qp_model.specs.declared.bounds.Margin.{Margin}
+use Rattle.hessian_check.specs.Steps.{IsExponentOf}
+use Rattle.hessian_check.specs.RowExponents.{exponent_in, AreExponentsOf}
 use Rattle.design_engine.specs.Targets.{targets_of, half_target}
 use Rattle.design_engine.specs.Bounds.{margin_of, AreBoundsOf}
-use Rattle.design_engine.specs.Assembled.{IsAssembled}
+use Rattle.design_engine.specs.Assembled.{HasExponents, IsAssembled}
 use Rattle.design_engine.specs.Built.{IsBuilt}
 use Rattle.design_engine.specs.Refusals.{PassesMargin, PassesBits}
 
--- one exponent for all rows, told row by row
-each_exponent : (d : Design) (own : ℕ → ℕ) (s : ℕ) → ((i : ℕ) → i < rows d → own i ≡ s) → IsExponent d s → AreExponents d own s
-each_exponent d own s same h = record {
-  bounded = λ i l. omega (arith, same i l);
-  descent = λ v. subst (λ (z : ℤ). (pos (cost_scale d) *ℤ z) ≤ℤ (pos (2 ^ s * residual_scale d ^ 2) *ℤ curvature d v))
-      (sym (total_same (rows d) (λ i. pos (2 ^ (s - own i)) *ℤ square (row_change d v i)) (λ i. pos (2 ^ (s - s)) *ℤ square (row_change d v i))
-      (λ i l. ap (λ (n : ℕ). pos (2 ^ (s - n)) *ℤ square (row_change d v i)) (same i l)))) (h.descent v);
+-- the step exponent is at most 40
+pub exponent_small : (d : Design) (s : ℕ) → IsExponentOf d s → s ≤ 40
+exponent_small d s h = elim h.is_step [
+  | inl x ↦ omega (arith, x.holds.0, h.limit)
+  | inr x ↦ omega (arith, x.1, h.limit)
+]
+
+-- the exponents of a design's rows, as a controller has them: where each is s
+pub repeated_exponents : (d : Design) (s n : ℕ) (es : List ℕ) → es ≡ replicate n s → n ≡ rows d → HasExponents d s es
+repeated_exponents d s n es e count = record {
+  long = ap (λ (xs : List ℕ). length xs) e ∙ length-replicate n s ∙ count;
+  high = rw e (All-replicate (λ m. m ≤ s) n s (le_refl s));
+  first = λ f. e ∙ ap (λ (m : ℕ). replicate m s) count;
 }
 
--- what is assembled with a curvature exponent is made for the design
-pub derived_from : (d : Design) (c : Numbers) (r q s k f : ℕ) → IsExponent d s → r ≡ q → IsAssembled d r s k f c → IsDerivedFrom d (form_of d) q c
-derived_from d c r q s k f curved is a = record {
+-- and by the design's version
+pub exponents_listed : (d : Design) (s : ℕ) (es : List ℕ) → AreExponentsOf d s es → HasExponents d s es
+exponents_listed d s es h = elim (cases_eq d.version text_version) [
+  | inl e ↦ repeated_exponents d s (rows d) es (h.first e) refl
+  | inr e ↦ elim (h.second e) [
+    | inl low ↦ record {
+      long = low.1.long;
+      high = All-from_get_or (λ n. n ≤ s) es 0 (λ i l. (low.1.each i (omega (arith, l, low.1.long))).high);
+      first = λ f. absurd (e f);
+    }
+    | inr all ↦ repeated_exponents d s (rows d) es all.1 refl
+  ]
+]
+
+-- what is assembled with curvature exponents is made for the design
+pub derived_from : (d : Design) (c : Numbers) (r q s : ℕ) (es : List ℕ) (k f : ℕ) → AreExponents d (exponent_in es) s → r ≡ q → IsAssembled d r s es k f c →
+    IsDerivedFrom d (form_of d) q c
+derived_from d c r q s es k f curved is a = record {
   sizes = a.sizes;
   rows = a.rows;
   gains = a.gains;
-  exponents = each_exponent d (exponent_of c) c.step_exponent (λ i l. rw (a.exponents, a.step_exponent) (get_or-replicate (rows d) i s 0 l)) (rw a.step_exponent curved);
+  exponents = rw (a.exponents, a.step_exponent) curved;
   clamp = a.clamp ∙ rw (is, a.fraction_bits, a.step_exponent) refl;
 }
 
-pub built_from : (p : DesignParts) (plans : Plans) (c : Numbers) (b : Printed) (m : Margin) (r s k f : ℕ) → IsDesign p → IsPolicyFor (design_of p) plans →
-    PassesBits (design_of p) (targets_of p) plans m s f → IsExponent (design_of p) s → r ≡ multiplier_of m → k ≡ step_count s (multiplier_of m) (half_target (targets_of p)) →
-    margin_of b ≡ m → IsController c → IsAssembled (design_of p) r s k f c → AreBoundsOf c b (real_cost (design_of p) (form_of (design_of p)) (multiplier_of m) c) → IsBuilt p plans c b
-built_from p plans c b m r s k f design policy passes curved is count same sound a bounds = record {
+pub built_from : (p : DesignParts) (plans : Plans) (c : Numbers) (b : Printed) (m : Margin) (r s : ℕ) (es : List ℕ) (k f : ℕ) → IsDesign p → IsPolicyFor (design_of p) plans →
+    PassesBits (design_of p) (targets_of p) plans m s f → AreExponentsOf (design_of p) s es → AreExponents (design_of p) (exponent_in es) s → r ≡ multiplier_of m → k ≡ step_count s (multiplier_of m) (half_target (targets_of p)) →
+    margin_of b ≡ m → IsController c → IsAssembled (design_of p) r s es k f c → AreBoundsOf c b (real_cost (design_of p) (form_of (design_of p)) (multiplier_of m) c) → IsBuilt p plans c b
+built_from p plans c b m r s es k f design policy passes exponents curved is count same sound a bounds = record {
   design = design;
   policy = policy;
   margin = rw (units, cost) margin.margin;
@@ -55,8 +76,9 @@ built_from p plans c b m r s k f design policy passes curved is count same sound
   narrow = passes.before.before.hessian;
   controller = sound;
   version = a.version;
-  made = rw (units, cost) (derived_from (design_of p) c r (multiplier_of m) s k f curved is a);
+  made = rw (units, cost) (derived_from (design_of p) c r (multiplier_of m) s es k f curved is a);
   exponent = rw a.step_exponent passes.before.exponent;
+  exponents = rw (a.step_exponent, a.exponents) exponents;
   steps = a.steps ∙ count ∙ rw (a.step_exponent, units, cost) refl;
   bits = rw (a.fraction_bits, units, cost) passes.choice;
   width = a.width;

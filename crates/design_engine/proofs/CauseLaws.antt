@@ -16,13 +16,12 @@ use Rattle.qp_model.specs.declared.bounds.Margin.{Margin}
 use Rattle.qp_model.specs.declared.quantity.Quantity.{Quantity}
 use Rattle.qp_model.specs.declared.quantity.Quantity.TheVariants.{Prediction, CornerSlack, CornerCost, Multiplier, Hessian, Rows, Curvature as curvature_named, Error, Descent, Width, Turn}
 use Rattle.slater_margin.specs.Corners.{HasCornerRoom, IsFirstShort}
-use Rattle.hessian_check.specs.Steps.{HasNoStep}
+use Rattle.hessian_check.specs.Steps.{IsExponentOf, HasNoStep}
 use Rattle.bit_choice.specs.Choice.{IsChoice}
 use Rattle.step_error.proofs.SumFacts.{floor_range}
 use Rattle.design_engine.specs.Targets.{Targets, half_target, error_limit}
 use Rattle.design_engine.specs.Widest.{width_size}
 use Rattle.design_engine.specs.Bounds.{stated_cost}
-use Rattle.design_engine.specs.Built.{IsExponentOf}
 use Rattle.design_engine.specs.Refusals.{PassesMargin, PassesSizes, PassesSteps, PassesBits, PassesAll, HasCause, IsTooWide}
 use Rattle.design_engine.specs.Order.{CausesLaw, PassingLaw}
 use Rattle.design_engine.specs.declared.refusal.Refusal.{Refusal}

@@ -4,15 +4,13 @@ use Rattle.std.specs.Option.{SomeIff}
 use Rattle.std.proofs.lemmas.Bool.{cases_lt}
 use Rattle.std.proofs.lemmas.Int.{ints}
 use Rattle.std.proofs.lemmas.Nat.{mul-le}
-use Rattle.std.proofs.lemmas.List.{length-replicate}
-use Rattle.std.proofs.lemmas.List.Elements.{All-replicate}
 use Rattle.std.proofs.lemmas.List.FromFn.{fill_by_all}
 use Rattle.integer_algebra.specs.Sums.{at}
 use Rattle.mat_int.specs.Matrix.{Matrix}
 use Rattle.qp_model.specs.Class.{form_of}
 use Rattle.qp_model.specs.declared.design_parts.DesignParts.{DesignParts}
 use Rattle.qp_model.specs.Design.{Design, entries, rows}
-use Rattle.qp_model.specs.Limits.{text_version, last_version}
+use Rattle.qp_model.specs.Limits.{text_version, most_stages, most_rows}
 use Rattle.qp_model.specs.Parts.{IsDesign, design_of}
 use Rattle.qp_model.specs.Range.{LiesIn}
 use Rattle.qp_model.specs.Columns.{column_bound, solve_matrix, solve_column}
@@ -33,7 +31,7 @@ use Rattle.plant_condense.specs.declared.condensed.Condensed.{Condensed}
 use Rattle.approx_inverse.proofs.DesignLaws.{bound_equal}
 use Rattle.design_engine.proofs.Bounds.{resized}
 use Rattle.design_engine.proofs.Classes.{entries_are, states_are, rows_are, columns_are}
-use Rattle.design_engine.specs.Assembled.{AreRowsOf, AreBounds, IsFrame, AreGains, IsAssembled}
+use Rattle.design_engine.specs.Assembled.{AreRowsOf, AreBounds, HasExponents, IsFrame, AreGains, IsAssembled}
 use Rattle.design_engine.specs.declared.rounding.Rows.{Rows}
 use Rattle.design_engine.proofs.Monotone.{IsSmaller, greatest_sum_mono}
 use Rattle.design_engine.proofs.Tables.{line_long, line_at, under_line, line_under, under_table, table_under, shape_of, abs_le, abs_ge, solution_state, solution_constant, solution_row}
@@ -57,9 +55,9 @@ within_from d f v is = record {
 
 -- ---- the absolute sums
 -- the numbers of a frame are those of the widest controller
-pub under_widest : (d : Design) (r s k f : ℕ) (c : Numbers) (v : Inverse) → IsFrame d r s k f c → AreGains v c → AreWithin d f v →
+pub under_widest : (d : Design) (r s : ℕ) (es : List ℕ) (k f : ℕ) (c : Numbers) (v : Inverse) → IsFrame d r s es k f c → AreGains v c → AreWithin d f v →
     IsSmaller c (widest d r s k f) d.states (entries d) (rows d)
-under_widest d r s k f c v fr g w = record {
+under_widest d r s es k f c v fr g w = record {
   fraction_bits = fr.fraction_bits;
   grid_bits = fr.grid_bits;
   step_exponent = fr.step_exponent;
@@ -85,9 +83,9 @@ under_widest d r s k f c v fr g w = record {
     m = rows d
 
 -- those of the widest controller are at most a frame's with the widest gains
-pub widest_under : (d : Design) (r s k f : ℕ) (c : Numbers) (v : Inverse) → IsFrame d r s k f c → AreGains v c → AreWidest d f v →
+pub widest_under : (d : Design) (r s : ℕ) (es : List ℕ) (k f : ℕ) (c : Numbers) (v : Inverse) → IsFrame d r s es k f c → AreGains v c → AreWidest d f v →
     IsSmaller (widest d r s k f) c d.states (entries d) (rows d)
-widest_under d r s k f c v fr g w = record {
+widest_under d r s es k f c v fr g w = record {
   fraction_bits = sym fr.fraction_bits;
   grid_bits = sym fr.grid_bits;
   step_exponent = sym fr.step_exponent;
@@ -113,12 +111,12 @@ widest_under d r s k f c v fr g w = record {
     m = rows d
 
 -- no good solutions have larger sums
-pub sum_le : (d : Design) (r s k f : ℕ) (c : Numbers) (v : Inverse) → IsFrame d r s k f c → AreGains v c → AreWithin d f v → greatest_sum c ≤ width_size d r s k f
-sum_le d r s k f c v fr g w = greatest_sum_mono c (widest d r s k f) d.states (entries d) (rows d) (under_widest d r s k f c v fr g w)
+pub sum_le : (d : Design) (r s : ℕ) (es : List ℕ) (k f : ℕ) (c : Numbers) (v : Inverse) → IsFrame d r s es k f c → AreGains v c → AreWithin d f v → greatest_sum c ≤ width_size d r s k f
+sum_le d r s es k f c v fr g w = greatest_sum_mono c (widest d r s k f) d.states (entries d) (rows d) (under_widest d r s es k f c v fr g w)
 
 -- the widest gains have the quantity itself
-pub sum_ge : (d : Design) (r s k f : ℕ) (c : Numbers) (v : Inverse) → IsFrame d r s k f c → AreGains v c → AreWidest d f v → width_size d r s k f ≤ greatest_sum c
-sum_ge d r s k f c v fr g w = greatest_sum_mono (widest d r s k f) c d.states (entries d) (rows d) (widest_under d r s k f c v fr g w)
+pub sum_ge : (d : Design) (r s : ℕ) (es : List ℕ) (k f : ℕ) (c : Numbers) (v : Inverse) → IsFrame d r s es k f c → AreGains v c → AreWidest d f v → width_size d r s k f ≤ greatest_sum c
+sum_ge d r s es k f c v fr g w = greatest_sum_mono (widest d r s k f) c d.states (entries d) (rows d) (widest_under d r s es k f c v fr g w)
 
 pub widest_within : (d : Design) (f : ℕ) (v : Inverse) → AreWidest d f v → AreWithin d f v
 widest_within d f v w = record { sizes = w.sizes; each = λ i j l m. abs_le (solution_of v i j) (pos (column_bound (form_of d) f i)) (w.each i j l m) }
@@ -128,36 +126,37 @@ widest_within d f v w = record { sizes = w.sizes; each = λ i j l m. abs_le (sol
 pub box_line : (n : ℕ) (xs : List ℤ) → length xs ≡ n → xs ≡ listed n (at xs)
 box_line n xs e = fill_by_all (at xs) xs n (pos 0) e (λ k l. refl)
 
-sized_rows : (p : DesignParts) → IsDesign p → LiesIn 1 252 (rows (design_of p))
+sized_rows : (p : DesignParts) → IsDesign p → LiesIn 1 (most_rows p.version) (rows (design_of p))
 sized_rows p h = (
   some_row p h,
-  omega (arith, mul-le p.stages (length p.stage_rows.rows) 20 12 h.stages.1 h.stage_rows.rows.1, h.final_rows.rows.1),
+  omega (arith, mul-le p.stages (length p.stage_rows.rows) (most_stages p.version) 12 h.stages.1 h.stage_rows.rows.1, h.final_rows.rows.1),
 )
 
-pub sized : (p : DesignParts) (r s k f : ℕ) (c : Numbers) (v : Inverse) → IsDesign p → IsFrame (design_of p) r s k f c → AreGains v c →
-    HasGainSizes v (entries (design_of p)) p.states (rows (design_of p)) → LiesIn p.grid 48 f → s ≤ 40 → LiesIn 1 (2 ^ 22) k → 2 * r * 2 ^ (f + s) ≤ 2 ^ 126 → IsSized c
-sized p r s k f c v h fr g sizes bits exponent steps room =
-    let first : c.version ≡ text_version = fr.version ∙ h.version in
+pub sized : (p : DesignParts) (r s : ℕ) (es : List ℕ) (k f : ℕ) (c : Numbers) (v : Inverse) → IsDesign p → IsFrame (design_of p) r s es k f c → AreGains v c →
+    HasGainSizes v (entries (design_of p)) p.states (rows (design_of p)) → LiesIn p.grid 48 f → s ≤ 40 → HasExponents (design_of p) s es → LiesIn 1 (2 ^ 22) k →
+    2 * r * 2 ^ (f + s) ≤ 2 ^ 126 → IsSized c
+sized p r s es k f c v h fr g sizes bits exponent exponents steps room =
+    let version : c.version ≡ p.version = fr.version in
     let nu : entries (design_of p) ≡ c.inputs * c.stages = rw (fr.inputs, fr.stages) (turn p.stages p.inputs) in
     let lo : c.low ≡ p.lo.items = fr.low ∙ sym (box_line p.states p.lo.items h.lo.long) in
     let hi : c.high ≡ p.hi.items = fr.high ∙ sym (box_line p.states p.hi.items h.hi.long) in
     record {
-      version = rw first first_version;
-      states = rw (first, fr.states) h.states;
+      version = rw version h.version;
+      states = rw (version, fr.states) h.states;
       inputs = rw fr.inputs h.inputs;
-      stages = rw (first, fr.stages) h.stages;
-      rows = rw (first, fr.limits) (sized_rows p h);
+      stages = rw (version, fr.stages) h.stages;
+      rows = rw (version, fr.limits) (sized_rows p h);
       grid_bits = rw fr.grid_bits h.grid;
       fraction_bits = rw (fr.grid_bits, fr.fraction_bits) bits;
       step_exponent = rw fr.step_exponent exponent;
-      exponents = rw (fr.exponents, fr.step_exponent) (All-replicate (λ n. n ≤ s) (rows (design_of p)) s (le_refl s));
-      same_exponents = λ e. rw (fr.limits, fr.step_exponent) fr.exponents;
+      exponents = rw (fr.exponents, fr.step_exponent) exponents.high;
+      same_exponents = λ e. rw (fr.limits, fr.step_exponent) (fr.exponents ∙ exponents.first (sym version ∙ e));
       steps = rw fr.steps steps;
       clamp_low = rw fr.clamp (omega (arith, ints));
       clamp_high = rw fr.clamp (at_most _ _ room);
       words = rw (fr.words, fr.states, fr.limits) (ap (λ (n : ℕ). p.states + rows (design_of p) + 2 * n) nu);
       shaped = record {
-        exponents = ap (λ (xs : List ℕ). length xs) fr.exponents ∙ length-replicate (rows (design_of p)) s ∙ sym fr.limits;
+        exponents = ap (λ (xs : List ℕ). length xs) fr.exponents ∙ exponents.long ∙ sym fr.limits;
         low = ap (λ (xs : List ℤ). length xs) lo ∙ h.lo.long ∙ sym fr.states;
         high = ap (λ (xs : List ℤ). length xs) hi ∙ h.hi.long ∙ sym fr.states;
         state_gains = shape_to v.p_mat c.state_gains _ _ _ _ g.state_gains (sym nu) fr.states sizes.p_mat;
@@ -172,9 +171,6 @@ sized p r s k f c v h fr g sizes bits exponent steps room =
       box = λ i l. rw (lo, hi) (h.box i (omega (arith, fr.states)));
     }
   where
-    first_version : LiesIn text_version last_version text_version
-    first_version = (omega arith, omega arith)
-
     turn : (a b : ℕ) → a * b ≡ b * a
     turn a b = omega arith
 
@@ -243,9 +239,9 @@ within_at : (d : Design) (f b i : ℕ) (v : Inverse) (c : Numbers) → b ≡ f �
 within_at d f b i v c e small same j l =
     subst (λ (z : ℤ). unsigned_abs z ≤ column_bound (form_of d) b i) (same j) (subst (λ (k : ℕ). unsigned_abs (solution_of v i j) ≤ column_bound (form_of d) k i) (sym e) (small j l))
 
-pub assembled : (d : Design) (r s k f : ℕ) (c : Numbers) (v : Inverse) (w : ℕ) → IsFrame d r s k f c → AreGains v c → IsInverseOf (form_of d) f v → IsWidth (greatest_sum c) w →
-    IsAssembled d r s k f (record c { width = w })
-assembled d r s k f c v w fr g is wide = record {
+pub assembled : (d : Design) (r s : ℕ) (es : List ℕ) (k f : ℕ) (c : Numbers) (v : Inverse) (w : ℕ) → IsFrame d r s es k f c → AreGains v c → IsInverseOf (form_of d) f v → IsWidth (greatest_sum c) w →
+    IsAssembled d r s es k f (record c { width = w })
+assembled d r s es k f c v w fr g is wide = record {
   version = fr.version;
   step_exponent = fr.step_exponent;
   exponents = fr.exponents;
@@ -286,11 +282,11 @@ wide_clamp p r s k f h over =
     close clamp rest sum h l = omega arith
 
 -- the frame that code makes
-pub frame_from : (p : DesignParts) (r s k f : ℕ) (c : Numbers) (rs : Rows) → IsDesign p → AreRowsOf (design_of p) f rs →
+pub frame_from : (p : DesignParts) (r s : ℕ) (es : List ℕ) (k f : ℕ) (c : Numbers) (rs : Rows) → IsDesign p → AreRowsOf (design_of p) f rs →
     c.version ≡ (design_of p).version → c.states ≡ p.states → c.inputs ≡ p.inputs → c.stages ≡ p.stages → c.rows ≡ length rs.g_mat.rows → c.fraction_bits ≡ f → c.grid_bits ≡ p.grid → c.step_exponent ≡ s →
-    c.steps ≡ k → c.clamp ≡ pos (2 * r * 2 ^ (f + s)) → c.words ≡ p.states + length rs.g_mat.rows + 2 * rs.g_mat.cols → c.exponents ≡ replicate (length rs.g_mat.rows) s → c.low ≡ p.lo.items → c.high ≡ p.hi.items →
-    c.plan_rows ≡ rs.g_mat → c.state_rows ≡ rs.e_mat → c.bounds ≡ rs.bound.items → IsFrame (design_of p) r s k f c
-frame_from p r s k f c rs h are version states inputs stages rows_are bits grid exponent steps clamp words exponents low high plan state bound = record {
+    c.steps ≡ k → c.clamp ≡ pos (2 * r * 2 ^ (f + s)) → c.words ≡ p.states + length rs.g_mat.rows + 2 * rs.g_mat.cols → c.exponents ≡ es → c.low ≡ p.lo.items → c.high ≡ p.hi.items →
+    c.plan_rows ≡ rs.g_mat → c.state_rows ≡ rs.e_mat → c.bounds ≡ rs.bound.items → IsFrame (design_of p) r s es k f c
+frame_from p r s es k f c rs h are version states inputs stages rows_are bits grid exponent steps clamp words exponents low high plan state bound = record {
   version = version;
   states = states;
   inputs = inputs;
@@ -302,7 +298,7 @@ frame_from p r s k f c rs h are version states inputs stages rows_are bits grid 
   steps = steps;
   clamp = clamp;
   words = words ∙ count p.states _ _ _ _ are.plan.rows are.plan.cols;
-  exponents = exponents ∙ (λ i. replicate (are.plan.rows i) s);
+  exponents = exponents;
   low = low ∙ box_line p.states p.lo.items h.lo.long;
   high = high ∙ box_line p.states p.hi.items h.hi.long;
   plan_rows = rw plan are.plan;

@@ -17,10 +17,9 @@ use Rattle.slater_margin.specs.Simulation.{HasScales}
 use Rattle.slater_margin.proofs.MarginFacts.{scales}
 use Rattle.qp_model.specs.Least.{IsLeast}
 use Rattle.hessian_check.specs.Curvature.{IsFirst, IsChosen, IsDominantAt, HasPassingRootBelow}
-use Rattle.hessian_check.specs.Steps.{HasNoStep}
+use Rattle.hessian_check.specs.Steps.{IsExponentOf, HasNoStep}
 use Rattle.bit_choice.specs.Choice.{IsChoice}
 use Rattle.step_error.proofs.FallingLaws.{epsilon_falls}
-use Rattle.design_engine.specs.Built.{IsExponentOf}
 
 -- ---- what the corners' slacks and costs are over
 from_one : (z : ℤ) → pos 1 ≤ℤ z → pos 0 <ℤ z

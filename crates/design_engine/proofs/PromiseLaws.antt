@@ -1,11 +1,11 @@
 -- Why a controller that is made for a design keeps the whole promise.
-use Rattle.std.proofs.Common.{◌≡◌, ℕ, ◌+◌, ◌*◌, ◌^◌, ◌≤◌, ◌<◌, ℤ, pos, ◌+ℤ◌, ◌*ℤ◌, ◌≤ℤ◌, ◌<ℤ◌, List, length, arith, refl, sym, ◌∙◌}
+use Rattle.std.proofs.Common.{◌≡◌, ℕ, ◌+◌, ◌*◌, ◌^◌, ◌≤◌, ◌<◌, ℤ, pos, ◌+ℤ◌, ◌*ℤ◌, ◌≤ℤ◌, ◌<ℤ◌, List, length, arith, refl, sym, subst, ◌∙◌}
 use Rattle.std.proofs.lemmas.Int.{ints, by_lt_z}
 use Rattle.std.proofs.lemmas.Nat.{pow_pos}
 use Rattle.std.proofs.lemmas.List.Elements.{All-get_or}
 use Rattle.std.proofs.Math.Nat.{one-le-mul}
 use Rattle.integer_algebra.specs.Sums.{at, none, total, dot, square}
-use Rattle.integer_algebra.proofs.SumLaws.{total_scale, total_mono}
+use Rattle.integer_algebra.proofs.RingLaws.{mul_assoc_z}
 use Rattle.dual_method.specs.Dual.{InBox}
 use Rattle.integer_algebra.specs.Division.{ceil_div}
 use Rattle.integer_algebra.proofs.OrderLaws.{pos_positive, le_of_lt_z, mul_nonneg_z, mul_pos_z}
@@ -34,11 +34,12 @@ use Rattle.overflow_check.proofs.ValuesMet.{values_law}
 use Rattle.class_choice.proofs.CornerLaws.{shown_law}
 use Rattle.dual_bounds.specs.Corners.{KeepsMargin, HasRepair, ExceedsNoMore}
 use Rattle.dual_bounds.proofs.MixLaws.{repair_law}
+use Rattle.dual_bounds.proofs.RowBounds.{row_below}
 use Rattle.step_error.specs.MachineLaws.{IsRunOf, MachineRunLaw}
 use Rattle.design_engine.specs.Bounds.{margin_of}
 use Rattle.design_engine.specs.Promise.{IsBacked, CertifiedLaw}
 use Rattle.design_engine.proofs.TargetLaws.{some_of}
-use Rattle.design_engine.proofs.PromiseFacts.{greatest_power, power_mono, gap_closed, violation_closed, row_within, row_kept, row_over, first_part, second_part}
+use Rattle.design_engine.proofs.PromiseFacts.{power_mono, gap_closed, row_part, row_closed, row_kept, row_widened, row_over, first_part, second_part}
 use Rattle.design_engine.proofs.RowChoice.{at_row, dot_single, squares_single, row_in_box, dot_none, squares_none, none_in_box, greatest_row}
 
 -- ---- a design's numbers
@@ -162,43 +163,40 @@ rows_over_positive w = residual_scale_positive (design w) (sound_at w)
 top_nonneg : (w : Point) (r : ℤ) → pos 0 <ℤ r → pos 0 ≤ℤ top w r
 top_nonneg w r h = mul_nonneg_z (pos (2 * bound w)) r (omega (arith, ints)) (le_of_lt_z h)
 
--- no row's exponent is above the step exponent
-moves_at_most : (w : Point) (v : ℕ → ℤ) →
-    total (count w) (λ i. pos (2 ^ exponent_of w.c i) *ℤ square (v i)) ≤ℤ (pos (2 ^ w.c.step_exponent) *ℤ total (count w) (λ i. square (v i)))
-moves_at_most w v =
-    rw (← (total_scale (count w) (pos (2 ^ w.c.step_exponent)) (λ i. square (v i))))
-    (total_mono (count w) (λ i. pos (2 ^ exponent_of w.c i) *ℤ square (v i)) (λ i. pos (2 ^ w.c.step_exponent) *ℤ square (v i))
-    (λ i l. power_mono (exponent_of w.c i) w.c.step_exponent (v i) (w.backed.made.exponents.bounded i l)))
+-- how much a multiplier of row i moves
+abbrev moves : Point → ℕ → ℤ
+moves w i = pos (2 ^ exponent_of w.c i)
 
 -- the run's bound, against a feasible plan t over r, with multipliers v
 run_bound : MachineRunLaw → (w : Point) → (r : ℤ) (t v : ℕ → ℤ) → pos 0 <ℤ r → IsFeasible (design w) r (at w.xi) t → InBox (count w) (top w r) v →
     (pos (2 ^ 41) *ℤ pos w.c.steps *ℤ rows_over w *ℤ square r *ℤ costs w (over w) (plan w) +ℤ
     pos (2 ^ 41) *ℤ pos w.c.steps *ℤ costs_over w *ℤ over w *ℤ r *ℤ dot (count w) v (excess w)) ≤ℤ
     (pos (2 ^ 41) *ℤ pos w.c.steps *ℤ rows_over w *ℤ square (over w) *ℤ costs w r t +ℤ
-    pos (2 ^ 40 * 2 ^ w.c.step_exponent) *ℤ costs_over w *ℤ rows_over w *ℤ square (over w) *ℤ total (count w) (λ i. square (v i)) +ℤ
+    pos (2 ^ 40) *ℤ costs_over w *ℤ rows_over w *ℤ square (over w) *ℤ total (count w) (λ i. moves w i *ℤ square (v i)) +ℤ
     pos 2 *ℤ pos w.c.steps *ℤ costs_over w *ℤ rows_over w *ℤ square r *ℤ square (over w) *ℤ pos (errors w))
 run_bound run w r t v pr f b =
-    greatest_power _ _ (pos (2 ^ 40)) (pos (2 ^ w.c.step_exponent)) (pos (2 ^ 40 * 2 ^ w.c.step_exponent)) (costs_over w) (rows_over w) (over w)
-    (total (count w) (λ i. pos (2 ^ exponent_of w.c i) *ℤ square (v i))) (total (count w) (λ i. square (v i))) _
-    (omega (arith, ints)) (le_of_lt_z (costs_over_positive w)) (le_of_lt_z (rows_over_positive w)) (moves_at_most w v) refl
-    (run w.p w.h (bound w) w.c w.xi (run_of w) w.e (errors w) (w.backed.errors w.xi w.long w.inside) (omega arith) r t v pr f b)
+    run w.p w.h (bound w) w.c w.xi (run_of w) w.e (errors w) (w.backed.errors w.xi w.long w.inside) (omega arith) r t v pr f b
 
 -- ---- the gap
 costs_at : MachineRunLaw → (w : Point) → (r : ℤ) (t : ℕ → ℤ) → pos 0 <ℤ r → IsFeasible (design w) r (at w.xi) t →
     CostsAtMost (design w) (at w.xi) (over w) (plan w) r t (pos (errors w))
 costs_at run w r t pr f =
-    gap_closed (pos (2 ^ 40)) (pos (2 ^ 41)) (pos (2 ^ 40 * 2 ^ w.c.step_exponent)) (pos w.c.steps) (costs_over w) (rows_over w)
+    gap_closed (pos (2 ^ 40)) (pos (2 ^ 41)) (pos (2 ^ 40)) (pos w.c.steps) (costs_over w) (rows_over w)
     (over w) r (costs w (over w) (plan w)) (costs w r t) (pos (errors w)) _ _
-    (steps_positive w) (rows_over_positive w) refl (dot_none (count w) (excess w)) (squares_none (count w))
+    (steps_positive w) (rows_over_positive w) refl (dot_none (count w) (excess w)) (squares_none (count w) (moves w))
     (run_bound run w r t none pr f (none_in_box (count w) (top w r) (top_nonneg w r pr)))
 
 -- ---- the rows
--- the two parts of the violation
-abbrev first : Point → ℤ
-first w = pos (ceil_div (2 ^ (w.c.step_exponent + 41) * bound w) w.c.steps)
+-- the two parts of the violation of row i
+abbrev first : Point → ℕ → ℤ
+first w i = pos (ceil_div ((2 ^ exponent_of w.c i + 2 ^ w.c.step_exponent) * 2 ^ 40 * bound w) w.c.steps)
 
 abbrev second : Point → ℤ
 second w = pos (ceil_div (errors w) (bound w))
+
+-- the greatest
+abbrev violation_of : Point → ℕ
+violation_of w = violation_bound w.c.step_exponent (bound w) w.c.steps (errors w)
 
 -- the corners truly have the margin that is printed, since what is shown of them is no more than they have
 kept : (w : Point) → KeepsMargin (design w) w.plans (margin_of w.b)
@@ -222,29 +220,51 @@ near_by_row w v positive greatest =
     near w v (rows_over w *ℤ over w) (le_of_lt_z positive) (mul_pos_z (rows_over w) (over w) (rows_over_positive w) (over_positive w))
     (λ i l. row_over (rows_over w) (over w) v (excess w i) (le_of_lt_z (rows_over_positive w)) (le_of_lt_z (over_positive w)) (greatest i l))
 
--- the residual of a row is within the violation, if a repair costs at most R times it more
-row_at : MachineRunLaw → (w : Point) (k : ℕ) → k < count w →
-    HasRepair (design w) (at w.xi) (over w) (plan w) (pos (bound w) *ℤ excess w k) (rows_over w *ℤ over w) →
-    (pos (2 ^ 40) *ℤ excess w k) ≤ℤ ((first w +ℤ second w) *ℤ rows_over w *ℤ over w)
-row_at run w k l h =
-    violation_closed (pos (2 ^ 40)) (pos (2 ^ 41)) (pos (2 ^ 40 * 2 ^ w.c.step_exponent)) (pos w.c.steps) (costs_over w) (rows_over w)
-    (over w) h.denominator (costs w (over w) (plan w)) (costs w h.denominator h.plan) (pos (errors w))
-    (pos (bound w)) (pos (2 * bound w)) (excess w k) (first w) (second w) _ _
-    (steps_positive w) (costs_over_positive w) (rows_over_positive w) (over_positive w) h.positive (bound_positive w) (omega (arith, ints))
-    refl (omega (arith, ints)) (dot_single (count w) k (top w h.denominator) (excess w) l) (squares_single (count w) k (top w h.denominator) l)
+-- what the run's bound says of row k, if a repair costs at most R v more
+row_at : MachineRunLaw → (w : Point) (v : ℤ) (k : ℕ) → k < count w →
+    HasRepair (design w) (at w.xi) (over w) (plan w) (pos (bound w) *ℤ v) (rows_over w *ℤ over w) →
+    (pos 2 *ℤ pos (2 ^ 40) *ℤ pos w.c.steps *ℤ pos (bound w) *ℤ excess w k) ≤ℤ
+    (pos (2 ^ 40) *ℤ pos w.c.steps *ℤ pos (bound w) *ℤ v +ℤ
+    (pos 2 *ℤ pos (2 ^ 40) *ℤ moves w k *ℤ square (pos (bound w)) +ℤ pos w.c.steps *ℤ pos (errors w)) *ℤ (rows_over w *ℤ over w))
+row_at run w v k l h =
+    row_part (pos (2 ^ 40)) (pos (2 ^ 41)) (pos w.c.steps) (costs_over w) (rows_over w) (over w) h.denominator
+    (costs w (over w) (plan w)) (costs w h.denominator h.plan) (pos (errors w)) (pos (bound w)) (pos (2 * bound w)) v (excess w k) (moves w k) _ _
+    (steps_positive w) (costs_over_positive w) (over_positive w) h.positive (omega (arith, ints))
+    refl (omega (arith, ints)) (dot_single (count w) k (top w h.denominator) (excess w) l) (squares_single (count w) k (moves w) (top w h.denominator) l)
     (run_bound run w h.denominator h.plan (at_row k (top w h.denominator)) h.positive h.feasible
     (row_in_box (count w) k (top w h.denominator) (top_nonneg w h.denominator h.positive)))
-    h.cheap (first_part w.c.step_exponent (bound w) w.c.steps (steps_some w)) (second_part (errors w) (bound w) (omega arith))
+    h.cheap
 
--- and so is each row's, since the greatest one is
-rows_at : MachineRunLaw → (w : Point) → (i : ℕ) → i < count w → ExceedsAtMost (design w) (at w.xi) (over w) (plan w) i (first w +ℤ second w)
+-- each row is within its violation: the greatest residual is bounded by its own repair, and so the others' are
+rows_at : MachineRunLaw → (w : Point) → (i : ℕ) → i < count w → ExceedsAtMost (design w) (at w.xi) (over w) (plan w) i (first w i +ℤ second w)
 rows_at run w i l =
     let g = greatest_row (count w) (excess w) i l in
-    by_lt_z (pos 0) (excess w g.index)
-    (λ positive. row_within (pos (2 ^ 40)) (rows_over w) (over w) (excess w g.index) (excess w i) (first w +ℤ second w) (omega (arith, ints)) (g.top i l)
-    (row_at run w g.index g.inside (near_by_row w (excess w g.index) positive g.top)))
-    (λ kept. row_kept (pos (2 ^ 40)) (rows_over w) (over w) (excess w g.index) (excess w i) (first w +ℤ second w) (omega (arith, ints))
+    let v = excess w g.index in
+    by_lt_z (pos 0) v
+    (λ positive.
+    let h = near_by_row w v positive g.top in
+    split (first w i +ℤ second w) (row_closed (pos (2 ^ 40)) (pos w.c.steps) (rows_over w *ℤ over w) (pos (errors w)) (pos (bound w)) v (excess w i) (first w i) (second w)
+    (pos (2 ^ w.c.step_exponent)) (moves w i) (moves w g.index) (steps_positive w) (bound_positive w) (omega (arith, ints))
+    (le_of_lt_z (mul_pos_z (rows_over w) (over w) (rows_over_positive w) (over_positive w)))
+    (power_mono (exponent_of w.c g.index) w.c.step_exponent (w.backed.made.exponents.bounded g.index g.inside))
+    (row_at run w v i l h) (row_at run w v g.index g.inside h)
+    (first_part (exponent_of w.c i) w.c.step_exponent (bound w) w.c.steps (steps_some w)) (second_part (errors w) (bound w) (omega arith))))
+    (λ kept. row_kept (pos (2 ^ 40)) (rows_over w) (over w) v (excess w i) (first w i +ℤ second w) (omega (arith, ints))
     (le_of_lt_z (rows_over_positive w)) (le_of_lt_z (over_positive w)) (omega (arith, ints)) (g.top i l) kept)
+  where
+    split : (x : ℤ) → (pos (2 ^ 40) *ℤ excess w i) ≤ℤ (x *ℤ (rows_over w *ℤ over w)) → (pos (2 ^ 40) *ℤ excess w i) ≤ℤ (x *ℤ rows_over w *ℤ over w)
+    split x h = subst (λ (z : ℤ). (pos (2 ^ 40) *ℤ excess w i) ≤ℤ z) (sym (mul_assoc_z x (rows_over w) (over w))) h
+
+-- and so within the greatest
+violation_at : MachineRunLaw → (w : Point) → (i : ℕ) → i < count w → ExceedsAtMost (design w) (at w.xi) (over w) (plan w) i (pos (violation_of w))
+violation_at run w i l =
+    row_widened (pos (2 ^ 40)) (rows_over w) (over w) (excess w i) (first w i +ℤ second w) (pos (violation_of w))
+    (le_of_lt_z (rows_over_positive w)) (le_of_lt_z (over_positive w))
+    (whole _ _ (row_below (exponent_of w.c i) w.c.step_exponent (bound w) w.c.steps (errors w) (w.backed.made.exponents.bounded i l) (steps_some w)))
+    (rows_at run w i l)
+  where
+    whole : (m n : ℕ) → m ≤ n → pos m ≤ℤ pos n
+    whole m n h = omega (arith, ints, h)
 
 -- ---- the repair
 -- a feasible plan that costs at most R times the violation more
@@ -256,19 +276,16 @@ repair_at w n h = record { denominator = r.denominator; plan = r.plan; positive 
     r = near w (pos n) (pos (2 ^ 40)) (omega (arith, ints)) (omega (arith, ints)) h
 
 -- ---- the promise
-abbrev violation_of : Point → ℕ
-violation_of w = violation_bound w.c.step_exponent (bound w) w.c.steps (errors w)
-
 certified_at : MachineRunLaw → (w : Point) → IsCertifiedAt (design w) w.c w.b w.xi
 certified_at run w = record {
   values = rw w.backed.bounds.width
       (values_law w.c w.xi w.backed.controller (grid_state (design w) w.c w.xi w.backed.made.sizes w.long w.inside));
   steps = sym w.backed.bounds.steps;
   plan = record {
-    rows = λ i l. rw (w.backed.bounds.row_violation i (omega (arith, l, w.backed.made.sizes.rows))) (rows_at run w i l);
-    violation = λ i l. rw w.backed.bounds.violation (rows_at run w i l);
+    rows = λ i l. rw (w.backed.bounds.row_violations i (omega (arith, l, w.backed.made.sizes.rows))) (rows_at run w i l);
+    violation = λ i l. rw w.backed.bounds.violation (violation_at run w i l);
     costs = λ r t o f. rw w.backed.bounds.gap (costs_at run w r t o f);
-    repair = rw (w.backed.bounds.undercut, w.backed.bounds.violation) (repair_at w (violation_of w) (rows_at run w));
+    repair = rw (w.backed.bounds.undercut, w.backed.bounds.violation) (repair_at w (violation_of w) (violation_at run w));
   };
 }
 

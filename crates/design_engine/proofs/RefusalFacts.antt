@@ -30,9 +30,9 @@ use Rattle.bit_choice.specs.Choice.{IsChoice}
 use Rattle.approx_inverse.specs.Fault.{IsFault}
 use Rattle.approx_inverse.specs.declared.fault.SolveFault.{SolveFault}
 use Rattle.approx_inverse.specs.declared.fault.SolveFault.TheVariants.{Memory as solve_memory, TooWide as solve_wide}
+use Rattle.hessian_check.specs.Steps.{IsExponentOf}
 use Rattle.design_engine.specs.Targets.{Targets, half_target, error_limit}
 use Rattle.design_engine.specs.Widest.{width_size}
-use Rattle.design_engine.specs.Built.{IsExponentOf}
 use Rattle.design_engine.specs.Fault.{IsWidthFault}
 use Rattle.design_engine.specs.Faults.{of_margin, of_condense, of_curvature, of_solve, of_width}
 use Rattle.design_engine.specs.Refusals.{PassesMargin, PassesSizes, PassesSteps, PassesBits, HasCause, IsRefused, IsTooWide}

@@ -10,7 +10,8 @@ use Rattle.qp_model.specs.Columns.{descent_size}
 use Rattle.mat_int.specs.Matrix.{Matrix}
 use Rattle.qp_model.specs.Controller.{Numbers, IsShaped, plan_length}
 use Rattle.qp_model.specs.AbsoluteSums.{IsController}
-use Rattle.qp_model.specs.Curvature.{IsExponent}
+use Rattle.qp_model.specs.Curvature.{AreExponents}
+use Rattle.hessian_check.specs.RowExponents.{exponent_in}
 use Rattle.qp_model.specs.RealErrors.{real_cost}
 use Rattle.qp_model.specs.declared.design_parts.DesignParts.{DesignParts}
 use Rattle.plant_condense.specs.Form.{IsFormOf}
@@ -35,7 +36,8 @@ pub own_gains : (n : Numbers) (t : List ℤ) → t ≡ n.offsets → IsControlle
 own_gains n t offsets controller =
     record { states = sym controller.form.sized.shaped.state_gains.cols; bits = refl; state_gains = refl; offsets = sym offsets; dual_gains = refl }
 
-module _ (p : DesignParts) (r q s k f : ℕ) (c : Condensed) (n : Numbers) (form : IsFormOf p c) (is : r ≡ q) (made : IsAssembled (design_of p) r s k f n) where
+module _ (p : DesignParts) (r q s : ℕ) (es : List ℕ) (k f : ℕ) (c : Condensed) (n : Numbers) (form : IsFormOf p c) (is : r ≡ q)
+    (made : IsAssembled (design_of p) r s es k f n) where
   pub given_from : (e : ErrorSums) → AreSumsOf p q c e → IsController n → descent_size (form_of (design_of p)) f ≤ 2 ^ 126 → IsGivenFor p q c e n
   given_from e sums controller descent = record {
     sums = sums;
@@ -55,9 +57,9 @@ module _ (p : DesignParts) (r q s k f : ℕ) (c : Condensed) (n : Numbers) (form
       long : plan_length n ≡ entries (design_of p)
       long = plan_long (design_of p) n made.sizes.inputs made.sizes.stages
 
-  pub cost_within : IsExponent (design_of p) s → real_cost (design_of p) (form_of (design_of p)) q n ≤ stated_cost (design_of p) q f
+  pub cost_within : AreExponents (design_of p) (exponent_in es) s → real_cost (design_of p) (form_of (design_of p)) q n ≤ stated_cost (design_of p) q f
   cost_within curved = subst (λ (b : ℕ). real_cost (design_of p) (form_of (design_of p)) q n ≤ stated_cost (design_of p) q b) made.fraction_bits
-      (costs.cost p (form_of (design_of p)) q n form.design form.encloses (derived_from (design_of p) n r q s k f curved is made))
+      (costs.cost p (form_of (design_of p)) q n form.design form.encloses (derived_from (design_of p) n r q s es k f curved is made))
 
 -- the stated cost by other names
 pub stated_by : (d : Design) (b : Printed) (m : Margin) (f g : ℕ) (z : ℤ) → margin_of b ≡ m → g ≡ f → z ≡ pos (stated_cost d (multiplier_of m) f) →

@@ -15,12 +15,13 @@ at_row k z i = if nat_eq i k then z else pos 0
 pub dot_single : (n k : ℕ) (z : ℤ) (g : ℕ → ℤ) → k < n → dot n (at_row k z) g ≡ z *ℤ g k
 dot_single n k z g h = total_same n _ _ (λ i l. choose_times (nat_eq i k) z (g i)) ∙ total_single n k (λ i. z *ℤ g i) h
 
-pub squares_single : (n k : ℕ) (z : ℤ) → k < n → total n (λ i. square (at_row k z i)) ≡ square z
-squares_single n k z h = total_same n _ _ (λ i l. choose_square (nat_eq i k) z) ∙ total_single n k (λ i. square z) h
+-- and moves by its weight alone
+pub squares_single : (n k : ℕ) (weight : ℕ → ℤ) (z : ℤ) → k < n → total n (λ i. weight i *ℤ square (at_row k z i)) ≡ weight k *ℤ square z
+squares_single n k weight z h = total_same n _ _ (λ i l. choose_square (nat_eq i k) (weight i) z) ∙ total_single n k (λ i. weight i *ℤ square z) h
   where
-    choose_square : (b : Bool) (z : ℤ) → square (if b then z else pos 0) ≡ (if b then square z else pos 0)
-    choose_square true z = refl
-    choose_square false z = refl
+    choose_square : (b : Bool) (w z : ℤ) → w *ℤ square (if b then z else pos 0) ≡ (if b then w *ℤ square z else pos 0)
+    choose_square true w z = refl
+    choose_square false w z = omega (arith, ints)
 
 pub row_in_box : (n k : ℕ) (z : ℤ) → pos 0 ≤ℤ z → InBox n z (at_row k z)
 row_in_box n k z h = record { low = λ i l. low (nat_eq i k) z h; high = λ i l. high (nat_eq i k) z h }
@@ -40,8 +41,11 @@ dot_none n g = total_same n _ _ (λ i l. nothing (g i)) ∙ total_zero n
     nothing : (z : ℤ) → pos 0 *ℤ z ≡ pos 0
     nothing z = omega (arith, ints)
 
-pub squares_none : (n : ℕ) → total n (λ i. square (none i)) ≡ pos 0
-squares_none n = total_zero n
+pub squares_none : (n : ℕ) (weight : ℕ → ℤ) → total n (λ i. weight i *ℤ square (none i)) ≡ pos 0
+squares_none n weight = total_same n _ _ (λ i l. nothing (weight i)) ∙ total_zero n
+  where
+    nothing : (z : ℤ) → z *ℤ pos 0 ≡ pos 0
+    nothing z = omega (arith, ints)
 
 pub none_in_box : (n : ℕ) (z : ℤ) → pos 0 ≤ℤ z → InBox n z none
 none_in_box n z h = record { low = λ i l. ≤ℤ_refl (pos 0); high = λ i l. h }

@@ -1,5 +1,5 @@
 -- What a design and a policy leave open of a controller that is built for them.
-use Rattle.std.specs.Prelude.{◌≡◌, ℕ, ◌<◌}
+use Rattle.std.specs.Prelude.{◌≡◌}
 use Rattle.qp_model.specs.Policy.{Plans}
 use Rattle.qp_model.specs.Controller.{Numbers}
 use Rattle.qp_model.specs.declared.design_parts.DesignParts.{DesignParts}
@@ -12,20 +12,19 @@ pub record HaveSameGains (c other : Numbers) : Type 0 where
   pub offsets : c.offsets ≡ other.offsets
   pub dual_gains : c.dual_gains ≡ other.dual_gains
 
--- all is the same, the violations row by row
+-- all is the same
 pub record AreIdentical (c other : Numbers) (b other_bounds : Printed) : Type 0 where
   pub numbers : c ≡ other
-  pub bounds : record b { row_violation = other_bounds.row_violation } ≡ other_bounds
-  pub row_violations : (i : ℕ) → i < c.rows → b.row_violation i ≡ other_bounds.row_violation i
+  pub bounds : b ≡ other_bounds
 
--- With the gains and the width of the other, the controller is the other. With the other's width, violation, gap and undercut, so are the bounds: the
--- margin, the cost, R, the step, the steps, the bits and the words are the same. And the width and these three follow from the gains.
+-- With the gains and the width of the other, the controller is the other. With the other's width, violations, gap and undercut, so are the bounds: the
+-- version, the margin, the cost, R, the step, the steps, the bits and the words are the same. And the width and these follow from the gains.
 pub record AgreeButGains (c other : Numbers) (b other_bounds : Printed) : Type 0 where
   pub numbers : record c { state_gains = other.state_gains; offsets = other.offsets; dual_gains = other.dual_gains; width = other.width } ≡ other
   pub bounds : record b {
     width = other_bounds.width;
     violation = other_bounds.violation;
-    row_violation = other_bounds.row_violation;
+    row_violations = other_bounds.row_violations;
     gap = other_bounds.gap;
     undercut = other_bounds.undercut;
   } ≡ other_bounds

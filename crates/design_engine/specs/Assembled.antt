@@ -1,9 +1,10 @@
 -- What the parts of a controller are that is made of a design's condensed form and its chosen numbers.
-use Rattle.std.specs.Prelude.{◌≡◌, ℕ, ◌+◌, ◌*◌, ◌^◌, ◌<◌, pos, replicate}
+use Rattle.std.specs.Prelude.{◌≡◌, ℕ, ◌+◌, ◌*◌, ◌^◌, ◌<◌, ◌≤◌, pos, List, length, All, replicate}
 use Rattle.mat_int.specs.Matrix.{HasEntries}
 use Rattle.qp_model.specs.Form.{Form}
 use Rattle.qp_model.specs.Class.{form_of}
 use Rattle.qp_model.specs.Design.{Design, entries, rows}
+use Rattle.qp_model.specs.Limits.{text_version}
 use Rattle.qp_model.specs.Runs.{Holds}
 use Rattle.qp_model.specs.Columns.{columns, column_bound, solve_matrix, solve_column}
 use Rattle.qp_model.specs.GoodSolution.{IsGood}
@@ -31,8 +32,14 @@ pub record AreBounds (h : Form) (f : ℕ) (v : Inverse) : Type 0 where
   pub each : (i j : ℕ) → i < columns h → j < h.entries → solution_of v i j ≡ pos (column_bound h f i)
 
 -- ---- the whole
--- all of a controller but its gains and its width: of a design, with R, the step exponent s of all rows, k steps and f bits
-pub record IsFrame (d : Design) (r s k f : ℕ) (c : Numbers) : Type 0 where
+-- a step exponent for each row, none above s, and all of them s in version 1
+pub record HasExponents (d : Design) (s : ℕ) (es : List ℕ) : Type 0 where
+  pub long : length es ≡ rows d
+  pub high : All (λ e. e ≤ s) es
+  pub first : d.version ≡ text_version → es ≡ replicate (rows d) s
+
+-- all of a controller but its gains and its width: of a design, with R, the step exponent s and those of the rows, k steps and f bits
+pub record IsFrame (d : Design) (r s : ℕ) (es : List ℕ) (k f : ℕ) (c : Numbers) : Type 0 where
   pub version : c.version ≡ d.version
   pub states : c.states ≡ d.states
   pub inputs : c.inputs ≡ d.inputs
@@ -44,7 +51,7 @@ pub record IsFrame (d : Design) (r s k f : ℕ) (c : Numbers) : Type 0 where
   pub steps : c.steps ≡ k
   pub clamp : c.clamp ≡ pos (2 * r * 2 ^ (f + s))
   pub words : c.words ≡ d.states + rows d + 2 * entries d
-  pub exponents : c.exponents ≡ replicate (rows d) s
+  pub exponents : c.exponents ≡ es
   pub low : c.low ≡ listed d.states d.low
   pub high : c.high ≡ listed d.states d.high
   pub plan_rows : HasEntries (rows d) (entries d) (λ i j. rounded d f ((form_of d).numbers.by_plan i j)) c.plan_rows
@@ -57,12 +64,12 @@ pub record AreGains (v : Inverse) (c : Numbers) : Type 0 where
   pub offsets : c.offsets ≡ v.t.items
   pub dual_gains : c.dual_gains ≡ v.w_mat
 
--- a controller of a design with R, the step exponent s of all rows, k steps and f bits: its gains are good solutions within their bounds, its rows the
+-- a controller of a design with R, the step exponent s and those of the rows, k steps and f bits: its gains are good solutions within their bounds, its rows the
 -- condensed rows, and its width is the least that its absolute sums let pass
-pub record IsAssembled (d : Design) (r s k f : ℕ) (c : Numbers) : Type 0 where
+pub record IsAssembled (d : Design) (r s : ℕ) (es : List ℕ) (k f : ℕ) (c : Numbers) : Type 0 where
   pub version : c.version ≡ d.version
   pub step_exponent : c.step_exponent ≡ s
-  pub exponents : c.exponents ≡ replicate (rows d) s
+  pub exponents : c.exponents ≡ es
   pub sizes : HasSizesOf d c
   pub rows : HasRowsOf (form_of d) c
   pub gains : (i : ℕ) → i < columns (form_of d) → IsGood (form_of d).entries (solve_matrix (form_of d)) c.fraction_bits (solve_column (form_of d) i) (gain_column c i)

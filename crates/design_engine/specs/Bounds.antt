@@ -1,10 +1,12 @@
 -- The bounds that are printed of a controller.
-use Rattle.std.specs.Prelude.{◌≡◌, ℕ, ◌<◌, pos, unsigned_abs}
+use Rattle.std.specs.Prelude.{◌≡◌, ℕ, ◌<◌, pos, length, unsigned_abs}
+use Rattle.integer_algebra.specs.Sums.{at}
 use Rattle.qp_model.specs.Class.{form_of}
 use Rattle.qp_model.specs.Design.{Design}
-use Rattle.qp_model.specs.Choices.{multiplier_of, violation_bound, undercut_bound}
+use Rattle.qp_model.specs.Choices.{multiplier_of, violation_bound, row_violation_bound, undercut_bound}
 use Rattle.qp_model.specs.Errors.{error_sums_of, epsilon}
 use Rattle.qp_model.specs.Controller.{Numbers}
+use Rattle.qp_model.specs.Machine.{exponent_of}
 use Rattle.qp_model.specs.Printed.{Printed}
 use Rattle.qp_model.specs.declared.bounds.Margin.{Margin}
 
@@ -23,6 +25,7 @@ stated_cost d r f = epsilon (error_sums_of d (form_of d) r) f
 -- the bounds print the controller's numbers, the violation of all rows and of each, and the other two over 2^40, where the errors of each step cost at most
 -- `cost` over 2^40
 pub record AreBoundsOf (c : Numbers) (b : Printed) (cost : ℕ) : Type 0 where
+  pub version : b.version ≡ c.version
   pub multiplier : b.multiplier ≡ pos (printed_multiplier b)
   pub step : b.step ≡ c.step_exponent
   pub steps : b.steps ≡ c.steps
@@ -30,6 +33,8 @@ pub record AreBoundsOf (c : Numbers) (b : Printed) (cost : ℕ) : Type 0 where
   pub width : b.width ≡ c.width
   pub words : b.words ≡ c.words
   pub violation : b.violation ≡ pos (violation_bound c.step_exponent (printed_multiplier b) c.steps cost)
-  pub row_violation : (i : ℕ) → i < c.rows → b.row_violation i ≡ pos (violation_bound c.step_exponent (printed_multiplier b) c.steps cost)
+  pub row_count : length b.row_violations ≡ c.rows
+  pub row_violations : (i : ℕ) → i < c.rows →
+      at b.row_violations i ≡ pos (row_violation_bound (exponent_of c i) c.step_exponent (printed_multiplier b) c.steps cost)
   pub gap : b.gap ≡ pos cost
   pub undercut : b.undercut ≡ pos (undercut_bound (printed_multiplier b) (unsigned_abs b.violation))

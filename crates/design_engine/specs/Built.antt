@@ -14,17 +14,11 @@ use Rattle.qp_model.specs.AbsoluteSums.{IsController, greatest_sum}
 use Rattle.qp_model.specs.declared.design_parts.DesignParts.{DesignParts}
 use Rattle.qp_model.specs.Printed.{Printed}
 use Rattle.overflow_check.specs.Width.{IsWidth}
-use Rattle.hessian_check.specs.Steps.{IsPlainExponent, IsStepExponent}
+use Rattle.hessian_check.specs.Steps.{IsExponentOf}
+use Rattle.hessian_check.specs.RowExponents.{AreExponentsOf}
 use Rattle.bit_choice.specs.Choice.{IsChoice}
 use Rattle.design_engine.specs.Targets.{targets_of, half_target, error_limit}
 use Rattle.design_engine.specs.Bounds.{margin_of, printed_multiplier, AreBoundsOf}
-
--- s is the step exponent of the design: the least number whose certificate the recipe finds, or the plain exponent, which is at most 40
-pub record IsExponentOf (d : Design) (s : ℕ) : Type 0 where
-  pub plain : ℕ
-  pub is_plain : IsPlainExponent d plain
-  pub limit : plain ≤ 40
-  pub is_step : IsStepExponent d plain s
 
 -- the controller and the bounds are those of a design and a policy: the steps and the bits rest on the stated errors of a step, and the bounds on those
 -- that the controller's gains leave
@@ -36,10 +30,10 @@ pub record IsBuilt (p : DesignParts) (plans : Plans) (c : Numbers) (b : Printed)
   -- so the form is one that a controller may be made of
   pub narrow : hessian_quantity (design_of p) ≤ 2 ^ 126
   pub controller : IsController c
-  -- the first, so each row has the step exponent
   pub version : c.version ≡ (design_of p).version
   pub made : IsDerivedFrom (design_of p) (form_of (design_of p)) (printed_multiplier b) c
   pub exponent : IsExponentOf (design_of p) c.step_exponent
+  pub exponents : AreExponentsOf (design_of p) c.step_exponent c.exponents
   pub steps : c.steps ≡ step_count c.step_exponent (printed_multiplier b) (half_target (targets_of p))
   pub bits : IsChoice (error_sums_of (design_of p) (form_of (design_of p)) (printed_multiplier b)) (design_of p).grid
       (error_limit (targets_of p) (printed_multiplier b)) c.fraction_bits

@@ -21,7 +21,8 @@ table height width f = record { rows = map (λ i. listed width (f i)) (range_wit
 abbrev pub rounded : Design → ℕ → ℤ → ℤ
 rounded d f z = round_of (pos (2 ^ f) *ℤ z) (form_of d).rows_scale
 
--- the numbers of a controller with R, the step exponent s of all rows, k steps and f bits, whose gains are each the bound of its column
+-- the numbers of a controller with R, the step exponent s of all rows, k steps and f bits, whose gains are each the bound of its column; with lower exponents
+-- of rows the sums are the same
 abbrev pub widest : Design → (r s k f : ℕ) → Numbers
 widest d r s k f =
     record {

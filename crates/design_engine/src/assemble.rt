@@ -1,5 +1,5 @@
 // A controller, from a condensed form, the chosen numbers and the gains.
-ghost use Rattle.std.specs.Prelude.{ℕ, ◌≡◌, ◌≤◌, ◌<◌, ◌*◌, ◌+◌, ◌^◌, ◌≤ℤ◌, pos, unsigned_abs, IfOk, IfErr, OnOk};
+ghost use Rattle.std.specs.Prelude.{ℕ, List, ◌≡◌, ◌≤◌, ◌<◌, ◌*◌, ◌+◌, ◌^◌, ◌≤ℤ◌, pos, unsigned_abs, IfOk, IfErr, OnOk};
 ghost use Rattle.std.specs.Option.{SomeIff};
 ghost use Rattle.qp_model.specs.Class.{form_of};
 ghost use Rattle.qp_model.specs.Design as model;
@@ -13,7 +13,7 @@ ghost use Rattle.plant_condense.specs.Form.{IsFormOf};
 ghost use Rattle.approx_inverse.specs.Inverse.{IsInverseOf};
 ghost use Rattle.design_engine.specs.Widest.{width_size};
 ghost use Rattle.design_engine.specs.Fault.{IsWidthFault};
-ghost use Rattle.design_engine.specs.Assembled.{AreRowsOf, IsFrame, AreGains, IsAssembled};
+ghost use Rattle.design_engine.specs.Assembled.{AreRowsOf, HasExponents, IsFrame, AreGains, IsAssembled};
 
 use crate::fault::WidthFault;
 use crate::rounding::{Rows, rounded_rows};
@@ -22,7 +22,7 @@ use approx_inverse::Inverse;
 use frac_scaled::shift_left;
 use overflow_check::{Controller, greatest_sum, width};
 use plant_condense::Condensed;
-use qp_model::{ControllerParts, Design, DesignParts, Quantity, VERSION};
+use qp_model::{ControllerParts, Design, DesignParts, Quantity};
 use std::alloc::{AllocError, Global};
 
 // The sum is too wide.
@@ -30,13 +30,17 @@ const WIDE: WidthFault = WidthFault::TooWide {
     quantity: Quantity::Width,
 };
 
-// The chosen numbers: fraction bits, the step exponent of all rows, steps and the greatest multiplier.
+/// The chosen numbers of a controller.
 #[derive(Clone, Copy)]
-struct Chosen {
-    f: u32,
-    s: u32,
-    steps: u32,
-    clamp: i128,
+pub struct Settings {
+    /// s, the step exponent.
+    pub s: u32,
+    /// f, the fraction bits.
+    pub f: u32,
+    /// K, the steps of a run.
+    pub steps: u32,
+    /// R: half the greatest multiplier.
+    pub r: i128,
 }
 
 // `2 * r * 2^k`, where it is at most `2^126`.
@@ -52,34 +56,34 @@ fn clamp_of(r: i128, k: u32) -> Option<i128>
     }
 }
 
-// A controller's parts with these numbers, rows and gains. Its width is not chosen yet.
+// A controller's parts with these numbers, a greatest multiplier, step exponents of the rows, rows and gains. Its width is not chosen yet.
 fn parts_with(
-    alloc: Global,
     parts: &DesignParts,
-    chosen: Chosen,
+    settings: Settings,
+    clamp: i128,
+    exps: Vec<u32>,
     rows: Rows,
     gains: Inverse,
 ) -> Result<ControllerParts, AllocError>
     requires design { IsDesign parts.now }
-    requires rows { AreRowsOf (design_of parts.now) chosen.f rows }
-    ensures frame { IfOk result (λ c. (r : ℕ) → chosen.clamp ≡ pos (2 * r * 2 ^ (chosen.f + chosen.s)) →
-        IsFrame (design_of parts.now) r chosen.s chosen.steps chosen.f (numbers c)) }
+    requires rows { AreRowsOf (design_of parts.now) settings.f rows }
+    ensures frame { IfOk result (λ c. (r : ℕ) → clamp ≡ pos (2 * r * 2 ^ (settings.f + settings.s)) →
+        IsFrame (design_of parts.now) r settings.s exps.items settings.steps settings.f (numbers c)) }
     ensures gains { IfOk result (λ c. AreGains gains (numbers c)) }
 {
     let (m, nu) = (rows.g_mat.rows(), rows.g_mat.cols());
-    let exps = vec![in alloc; chosen.s; m]?;
     Ok(ControllerParts {
-        version: VERSION,
+        version: parts.version,
         n: parts.states,
         p: parts.inputs,
         stages: parts.stages,
         m,
-        f: chosen.f,
+        f: settings.f,
         g: parts.grid,
-        s: chosen.s,
+        s: settings.s,
         w: 128,
-        steps: chosen.steps,
-        clamp: chosen.clamp,
+        steps: settings.steps,
+        clamp,
         words: parts.states + m + 2 * nu,
         exps,
         lo: parts.lo.clone()?,
@@ -96,7 +100,7 @@ fn parts_with(
 // The parts with these gains in place of others.
 fn with_gains(parts: ControllerParts, gains: Inverse) -> ControllerParts
     ensures gains { AreGains gains (numbers result) }
-    ensures frame { (d : model.Design) (r s k f : ℕ) → IsFrame d r s k f (numbers parts) → IsFrame d r s k f (numbers result) }
+    ensures frame { (d : model.Design) (r s : ℕ) (es : List ℕ) (k f : ℕ) → IsFrame d r s es k f (numbers parts) → IsFrame d r s es k f (numbers result) }
 {
     ControllerParts {
         p_mat: gains.p_mat,
@@ -122,37 +126,36 @@ fn with_width(parts: ControllerParts) -> Controller
     }
 }
 
-/// The controller of a design with these gains, at f bits, the step exponent s for all rows, R and so many steps: its width is the least that its
-/// absolute sums let pass. `TooWide` exactly where these sums could be above `2^126` with gains as large as those of any good solutions.
+/// The controller of a design with these numbers, a step exponent of each row, and gains: its width is the least that its absolute sums let pass. `TooWide`
+/// exactly where these sums could be above `2^126` with gains as large as those of any good solutions.
 pub fn controller_of(
     alloc: Global,
     design: &Design,
     condensed: &Condensed,
-    s: u32,
-    f: u32,
-    steps: u32,
-    r: i128,
+    settings: Settings,
+    exps: Vec<u32>,
     gains: Inverse,
 ) -> Result<Controller, WidthFault>
     requires form { IsFormOf design.now condensed.now }
-    requires gains { IsInverseOf (form_of (design_of design.now)) f gains }
-    requires room { descent_size (form_of (design_of design.now)) f ≤ 2 ^ 126 }
-    requires bits { LiesIn design.now.grid 48 f }
-    requires exponent { s ≤ 40 }
-    requires steps { LiesIn 1 (2 ^ 22) steps }
-    requires low { pos 1 ≤ℤ r }
-    requires high { r ≤ℤ pos (2 ^ 44) }
-    ensures made { IfOk result (IsAssembled (design_of design.now) (unsigned_abs r) s steps f) }
-    ensures fits { OnOk result (width_size (design_of design.now) (unsigned_abs r) s steps f ≤ 2 ^ 126) }
-    ensures wide { IfErr result (λ e. IsWidthFault e (2 ^ 126 < width_size (design_of design.now) (unsigned_abs r) s steps f)) }
+    requires gains { IsInverseOf (form_of (design_of design.now)) settings.f gains }
+    requires room { descent_size (form_of (design_of design.now)) settings.f ≤ 2 ^ 126 }
+    requires bits { LiesIn design.now.grid 48 settings.f }
+    requires exponent { settings.s ≤ 40 }
+    requires exponents { HasExponents (design_of design.now) settings.s exps.items }
+    requires steps { LiesIn 1 (2 ^ 22) settings.steps }
+    requires low { pos 1 ≤ℤ settings.r }
+    requires high { settings.r ≤ℤ pos (2 ^ 44) }
+    ensures made { IfOk result (IsAssembled (design_of design.now) (unsigned_abs settings.r) settings.s exps.items settings.steps settings.f) }
+    ensures fits { OnOk result (width_size (design_of design.now) (unsigned_abs settings.r) settings.s settings.steps settings.f ≤ 2 ^ 126) }
+    ensures wide { IfErr result (λ e.
+        IsWidthFault e (2 ^ 126 < width_size (design_of design.now) (unsigned_abs settings.r) settings.s settings.steps settings.f)) }
 {
-    let Some(clamp) = clamp_of(r, f + s) else {
+    let Some(clamp) = clamp_of(settings.r, settings.f + settings.s) else {
         return Err(WIDE);
     };
-    let chosen = Chosen { f, s, steps, clamp };
-    let rows = rounded_rows(alloc, condensed, f)?;
-    let widest = widest_gains(alloc, condensed, f)?;
-    let parts = parts_with(alloc, design.parts(), chosen, rows, widest)?;
+    let rows = rounded_rows(alloc, condensed, settings.f)?;
+    let widest = widest_gains(alloc, condensed, settings.f)?;
+    let parts = parts_with(design.parts(), settings, clamp, exps, rows, widest)?;
     if greatest_sum(&parts).is_none() {
         return Err(WIDE);
     }

@@ -3,7 +3,7 @@ ghost use Rattle.std.specs.Prelude.{◌≡◌, ◌⊎◌, ◌≤◌, ◌≤ℤ�
 ghost use Rattle.qp_model.specs.Class.{form_of};
 ghost use Rattle.qp_model.specs.Parts.{IsDesign, design_of};
 ghost use Rattle.qp_model.specs.Policy.{Plans, plans_of, IsPolicyFor};
-ghost use Rattle.qp_model.specs.Curvature.{IsExponent};
+ghost use Rattle.qp_model.specs.Curvature.{AreExponents, IsExponent};
 ghost use Rattle.qp_model.specs.Choices.{step_count, violation_bound, undercut_bound, multiplier_of};
 ghost use Rattle.qp_model.specs.Errors.{error_sums_of};
 ghost use Rattle.qp_model.specs.Printed.{printed};
@@ -14,21 +14,24 @@ ghost use Rattle.real_error.specs.Made.{AreSumsOf};
 ghost use Rattle.bit_choice.specs.Choice.{IsChoice};
 ghost use Rattle.design_engine.specs.Targets.{targets_of, half_target, gap_target, error_limit, IsWithinTargets};
 ghost use Rattle.design_engine.specs.Bounds.{margin_of, printed_multiplier, stated_cost, AreBoundsOf};
-ghost use Rattle.design_engine.specs.Built.{IsBuilt, IsExponentOf};
+ghost use Rattle.hessian_check.specs.Steps.{IsExponentOf, OfDesign};
+ghost use Rattle.hessian_check.specs.RowExponents.{exponent_in, AreExponentsOf};
+ghost use Rattle.design_engine.specs.Built.{IsBuilt};
 ghost use Rattle.design_engine.specs.Refusals.{HasCause, IsRefused, PassesSizes, PassesBits, PassesAll};
 
-use crate::assemble::controller_of;
+use crate::assemble::{Settings, controller_of};
 use crate::refusal::Refusal;
 use crate::residuals::real_cost;
+use crate::violations::row_violations;
 use approx_inverse::solve_all;
 use bit_choice::{Choice, choose_bits};
 use class_choice::{condense, margins};
 use dual_bounds::{multiplier, steps, undercut, violation};
-use hessian_check::curvature;
+use hessian_check::{curvature, exponents};
 use overflow_check::Controller;
 use plant_condense::Condensed;
-use qp_model::{Bounds, Design, DesignParts, Margin, Policy};
-use std::alloc::Global;
+use qp_model::{Bounds, Design, DesignParts, Margin, Policy, VERSION};
+use std::alloc::{AllocError, Global};
 use step_error::{ErrorSums, error_sums};
 
 /// A controller and its bounds.
@@ -90,7 +93,7 @@ fn scaled_of(alloc: Global, design: &Design, policy: &Policy) -> Result<Scaled, 
     ensures passes { IfOk result (λ x. PassesSizes (design_of design.now) (targets_of design.now) (plans_of policy.now) x.margin) }
     ensures multiplier { IfOk result (λ x. x.r ≡ pos (multiplier_of x.margin)) }
     ensures form { IfOk result (λ x. IsFormOf design.now x.condensed) }
-    ensures exponent { IfOk result (λ x. IsExponentOf (design_of design.now) x.s) }
+    ensures exponent { IfOk result (λ x. OfDesign x.condensed (λ d. IsExponentOf d x.s)) }
     ensures curved { IfOk result (λ x. IsExponent (design_of design.now) x.s) }
     ensures refused { IfErr result (IsRefused (design_of design.now) (targets_of design.now) (plans_of policy.now)) }
 {
@@ -131,8 +134,34 @@ fn plan_of(design: &Design, scaled: &Scaled) -> Result<Chosen, Refusal>
     })
 }
 
+// The step exponents of the rows of a design with the step exponent `s`, by its version: in the first all of them are `s`.
+fn row_exponents(
+    alloc: Global,
+    design: &Design,
+    condensed: &Condensed,
+    s: u32,
+) -> Result<Vec<u32>, AllocError>
+    requires form { IsFormOf design.now condensed.now }
+    requires chosen { OfDesign condensed.now (λ d. IsExponentOf d s) }
+    requires curved { IsExponent (design_of design.now) s }
+    ensures list { IfOk result (λ es. AreExponentsOf (design_of design.now) s es.items) }
+    ensures curved { IfOk result (λ es. AreExponents (design_of design.now) (exponent_in es.items) s) }
+{
+    if design.parts().version == VERSION {
+        vec![in alloc; s; condensed.g.rows()]
+    } else {
+        exponents(alloc, condensed, s)
+    }
+}
+
 // The bounds of a controller, the errors of whose steps cost so much over `2^40`.
-fn bounds_of(scaled: &Scaled, plan: &Chosen, controller: &Controller, eps: i128) -> Bounds
+fn bounds_of(
+    alloc: Global,
+    scaled: &Scaled,
+    plan: &Chosen,
+    controller: &Controller,
+    eps: i128,
+) -> Result<Bounds, AllocError>
     requires multiplier { scaled.now.r ≡ pos (multiplier_of scaled.now.margin) }
     requires narrow { multiplier_of scaled.now.margin ≤ 2 ^ 44 }
     requires exponent { scaled.now.s ≤ 40 }
@@ -141,15 +170,17 @@ fn bounds_of(scaled: &Scaled, plan: &Chosen, controller: &Controller, eps: i128)
     requires small { eps ≤ℤ pos (2 ^ 114) }
     requires fits { let r = multiplier_of scaled.now.margin in
         undercut_bound r (violation_bound scaled.now.s r plan.now.steps (unsigned_abs eps)) ≤ 2 ^ 126 }
-    ensures margin { margin_of (printed result) ≡ scaled.now.margin }
-    ensures bounds { (cost : ℕ) → eps ≡ pos cost →
-        controller.now.step_exponent ≡ scaled.now.s → controller.now.steps ≡ plan.now.steps → controller.now.fraction_bits ≡ plan.now.choice.f →
-        AreBoundsOf controller.now (printed result) cost }
+    requires same { controller.now.step_exponent ≡ scaled.now.s }
+    ensures margin { IfOk result (λ bounds. margin_of (printed bounds) ≡ scaled.now.margin) }
+    ensures bounds { IfOk result (λ bounds. (cost : ℕ) → eps ≡ pos cost →
+        controller.now.steps ≡ plan.now.steps → controller.now.fraction_bits ≡ plan.now.choice.f →
+        AreBoundsOf controller.now (printed bounds) cost) }
 {
     let (s, r) = (scaled.s, scaled.r);
     let violation = violation(s, r, plan.steps, eps);
     let parts = controller.parts();
-    Bounds {
+    Ok(Bounds {
+        version: parts.version,
         margin: scaled.margin.units,
         cost: scaled.margin.cost,
         multiplier: r,
@@ -159,9 +190,10 @@ fn bounds_of(scaled: &Scaled, plan: &Chosen, controller: &Controller, eps: i128)
         width: parts.w,
         words: parts.words,
         violation,
+        rows: row_violations(alloc, &parts.exps, s, r, plan.steps, eps)?,
         gap: eps,
         undercut: undercut(r, violation),
-    }
+    })
 }
 
 // The last tests, and the controller with its bounds.
@@ -169,7 +201,7 @@ fn finished(alloc: Global, design: &Design, scaled: &Scaled, plan: &Chosen) -> R
     requires multiplier { scaled.now.r ≡ pos (multiplier_of scaled.now.margin) }
     requires narrow { multiplier_of scaled.now.margin ≤ 2 ^ 44 }
     requires form { IsFormOf design.now scaled.now.condensed }
-    requires exponent { IsExponentOf (design_of design.now) scaled.now.s }
+    requires exponent { OfDesign scaled.now.condensed (λ d. IsExponentOf d scaled.now.s) }
     requires curved { IsExponent (design_of design.now) scaled.now.s }
     requires steps { plan.now.steps ≡ step_count scaled.now.s (multiplier_of scaled.now.margin) (half_target (targets_of design.now)) }
     requires few { plan.now.steps ≤ 2 ^ 22 }
@@ -190,18 +222,16 @@ fn finished(alloc: Global, design: &Design, scaled: &Scaled, plan: &Chosen) -> R
         IfErr result (IsRefused (design_of design.now) (targets_of design.now) plans) }
 {
     let gains = solve_all(alloc, &scaled.condensed, plan.choice.f)?;
-    let controller = controller_of(
-        alloc,
-        design,
-        &scaled.condensed,
-        scaled.s,
-        plan.choice.f,
-        plan.steps,
-        scaled.r,
-        gains,
-    )?;
+    let exps = row_exponents(alloc, design, &scaled.condensed, scaled.s)?;
+    let settings = Settings {
+        s: scaled.s,
+        f: plan.choice.f,
+        steps: plan.steps,
+        r: scaled.r,
+    };
+    let controller = controller_of(alloc, design, &scaled.condensed, settings, exps, gains)?;
     let eps = real_cost(&scaled.condensed, &plan.sums, &controller);
-    let bounds = bounds_of(scaled, plan, &controller, eps);
+    let bounds = bounds_of(alloc, scaled, plan, &controller, eps)?;
     Ok(Made {
         controller,
         bounds,

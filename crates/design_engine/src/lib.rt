@@ -9,9 +9,10 @@ mod refusal;
 mod refused;
 mod residuals;
 mod rounding;
+mod violations;
 mod widest;
 
-pub use assemble::controller_of;
+pub use assemble::{Settings, controller_of};
 pub use fault::WidthFault;
 pub use generation::{Made, generate};
 pub use laws::{agreement_law, causes_law, certified_law, targets_law};

@@ -1,6 +1,6 @@
 // The refusals that the faults of the parts become.
 ghost use Rattle.std.specs.Prelude.{◌≡◌};
-ghost use Rattle.design_engine.specs.declared.refusal.Refusal.TheVariants.{TooManySteps as too_many, TooFine as too_fine, TooWide as too_wide};
+ghost use Rattle.design_engine.specs.declared.refusal.Refusal.TheVariants.{Memory as memory, TooManySteps as too_many, TooFine as too_fine, TooWide as too_wide};
 ghost use Rattle.design_engine.specs.Faults.{of_margin, of_condense, of_curvature, of_solve, of_width};
 
 use crate::fault::WidthFault;
@@ -12,6 +12,7 @@ use hessian_check::CurvatureFault;
 use plant_condense::CondenseFault;
 use qp_model::Wide;
 use slater_margin::MarginFault;
+use std::alloc::AllocError;
 
 impl From<MarginFault> for Refusal {
     ghost from_gives = { λ fault e. e ≡ of_margin fault };
@@ -24,6 +25,14 @@ impl From<MarginFault> for Refusal {
                 Refusal::NoMargin { corner, row, slack }
             }
         }
+    }
+}
+
+impl From<AllocError> for Refusal {
+    ghost from_gives = { λ _ e. e ≡ memory };
+
+    fn from(_: AllocError) -> Self {
+        Refusal::Memory
     }
 }
 

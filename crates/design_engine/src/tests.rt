@@ -69,7 +69,9 @@ fn controller(
 {
     let condensed = condense(alloc, design)?;
     let gains = solve_all(alloc, &condensed, f)?;
-    Ok(controller_of(alloc, design, &condensed, s, f, steps, r, gains))
+    let exps = vec![in alloc; s; condensed.g.rows()]?;
+    let settings = Settings { s, f, steps, r };
+    Ok(controller_of(alloc, design, &condensed, settings, exps, gains))
 }
 
 // Its numbers.

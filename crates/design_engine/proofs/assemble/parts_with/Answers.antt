@@ -1,17 +1,38 @@
-use Rattle.std.proofs.Common.{◌≡◌, length, replicate, FitsSigned, rules, refl, sym, ◌∙◌, arith}
+use Rattle.std.proofs.Common.{◌≡◌, ℕ, ◌+◌, ◌*◌, ◌^◌, ◌<◌, ◌≤◌, FitsSigned, rules, refl, arith, ◌∙◌}
 use Rattle.std.specs.Int.{w128}
 use Rattle.std.proofs.lemmas.Int.{to_z-of_z}
 use Rattle.std.proofs.lemmas.List.Elements.{same_from_all_zip}
+use Rattle.std.proofs.Math.Nat.{mul-le-mul}
+use Rattle.qp_model.proofs.VersionLaws.{design_states_le, design_stages_le, design_rows_le}
 use Rattle.design_engine.proofs.Frames.{frame_from}
 use Rattle.design_engine.proofs.assemble.parts_with.Goals as goal
 
 pub returns-clause-frame : goal.returns-clause-frame
 returns-clause-frame c = λ r e.
-    let f : FitsSigned w128 c.args.chosen.clamp = search rules in
-    let exps : c.in_ok-exps.exps.items ≡ replicate (length c.args.rows.g_mat.rows) c.args.chosen.s = c.in_ok-exps.ensures.items_if_clones_equal (λ y h. h)
-    ∙ (λ i. replicate (c.rows-m.ensures.count i) c.args.chosen.s) in
+    let f : FitsSigned w128 c.args.clamp = search rules in
     let lo : c.in_ok-clone.field-0.items ≡ c.args.parts.now.lo.items = same_from_all_zip _ _ _ c.in_ok-clone.ensures.cases.0 (λ x y h. h) in
     let hi : c.in_ok-clone-2.field-0.items ≡ c.args.parts.now.hi.items = same_from_all_zip _ _ _ c.in_ok-clone-2.ensures.cases.0 (λ x y h. h) in
-    rw (to_z-of_z w128 _ f) (frame_from c.args.parts.now r c.args.chosen.s c.args.chosen.steps c.args.chosen.f _ c.args.rows c.requires.design c.requires.rows
-    (sym c.requires.design.version) refl refl refl c.rows-m.ensures.count refl refl refl refl e (omega (arith, c.rows-m.ensures.count, c.cols-nu.ensures))
-    exps lo hi refl refl refl)
+    rw (to_z-of_z w128 _ f) (frame_from c.args.parts.now r c.args.settings.s c.args.exps.items c.args.settings.steps c.args.settings.f _ c.args.rows c.requires.design c.requires.rows
+    refl refl refl refl c.rows-m.ensures.count refl refl refl refl e (omega (arith, c.rows-m.ensures.count, c.cols-nu.ensures))
+    refl lo hi refl refl refl)
+
+-- the words of a run
+words_fit : (states stages inputs m limits nu : ℕ) → states ≤ 6 → stages ≤ 30 → inputs ≤ 3 → limits ≤ 372 → m ≡ limits → nu ≡ stages * inputs → states + m + 2 * nu < 2 ^ 64
+words_fit states stages inputs m limits nu n s p l e f = omega (arith, n, mul-le-mul s p, l, e, f)
+
+pub overflow_mul-result : goal.overflow_mul-result
+overflow_mul-result c =
+    let p = c.args.parts.now in
+    let d = c.requires.design in
+    let words = words_fit p.states p.stages p.inputs _ _ _ (design_states_le p d) (design_stages_le p d) d.inputs.1 (design_rows_le p d)
+    (c.rows-m.ensures.count ∙ c.requires.rows.plan.rows) (c.cols-nu.ensures ∙ c.requires.rows.plan.cols) in
+    record { fits = omega (arith, words) }
+
+pub overflow_add-result-2 : goal.overflow_add-result-2
+overflow_add-result-2 c =
+    let p = c.args.parts.now in
+    let d = c.requires.design in
+    record {
+      fits = words_fit p.states p.stages p.inputs _ _ _ (design_states_le p d) (design_stages_le p d) d.inputs.1 (design_rows_le p d)
+          (c.rows-m.ensures.count ∙ c.requires.rows.plan.rows) (c.cols-nu.ensures ∙ c.requires.rows.plan.cols);
+    }

@@ -1,22 +1,64 @@
-use Rattle.std.proofs.Common.{rules, ap}
+use Rattle.std.proofs.Common.{◌≡◌, ℕ, ◌<◌, ℤ, List, length, pos, unsigned_abs, rules, refl, ap, subst, sym, ◌∙◌}
 use Rattle.std.specs.Int.{w128}
 use Rattle.std.proofs.lemmas.Int.{to_z-of_z}
 use mir.Val.{SFits}
+use Rattle.qp_model.specs.Choices.{row_violation_bound}
 use Rattle.qp_model.specs.Controller.{Numbers}
+use Rattle.qp_model.specs.AbsoluteSums.{IsController}
+use Rattle.qp_model.specs.Runs.{Holds}
+use Rattle.hessian_check.specs.RowExponents.{exponent_in}
 use Rattle.design_engine.proofs.PrintedFacts.{bounds_from}
 use Rattle.design_engine.proofs.generation.bounds_of.Goals as goal
 
+-- the violations of a controller's rows, by the list of its exponents
+listed : (c : Numbers) (xs : List ℤ) (es : List ℕ) (s r k eps : ℕ) → IsController c → es ≡ c.exponents →
+    Holds xs (length es) (λ i. pos (row_violation_bound (exponent_in es i) s r k eps)) → Holds xs c.rows (λ i. pos (row_violation_bound (exponent_in c.exponents i) s r k eps))
+listed c xs es s r k eps sound e h =
+    let long = ap (λ (ls : List ℕ). length ls) e ∙ sound.form.sized.shaped.exponents in
+    record {
+      long = h.long ∙ long;
+      is = λ i l. h.is i (subst (λ (n : ℕ). i < n) (sym long) l) ∙ ap (λ (ls : List ℕ). pos (row_violation_bound (exponent_in ls i) s r k eps)) e;
+    }
+
 pub returns-clause-bounds : goal.returns-clause-bounds
-returns-clause-bounds c cost at step steps bits =
+returns-clause-bounds c = λ cost at steps bits.
+    let n = c.args.controller.now in
+    let sound : IsController n = search rules in
     let r : SFits w128 c.args.scaled.now.r = search rules in
     let v : SFits w128 c.violation-violation.result = search rules in
     let u : SFits w128 c.undercut.result = search rules in
     let e : SFits w128 c.args.eps = c.ranges.eps in
     let m : SFits w128 c.args.scaled.now.margin.units = search rules in
     let k : SFits w128 c.args.scaled.now.margin.cost = search rules in
+    let parts = c.parts-parts.ensures.value in
+    let rows = rw (to_z-of_z w128 _ r, to_z-of_z w128 _ e) at c.in_ok-row_violations.ensures in
     rw (to_z-of_z w128 _ r, to_z-of_z w128 _ v, to_z-of_z w128 _ u, to_z-of_z w128 _ e, to_z-of_z w128 _ m, to_z-of_z w128 _ k)
-    (bounds_from cost c.args.controller.now c.args.scaled.now.margin c.args.scaled.now.r c.args.eps c.violation-violation.result c.undercut.result
-    c.args.scaled.now.s c.args.plan.now.steps c.args.plan.now.choice.f c.parts-parts.result.now.w c.parts-parts.result.now.words
-    c.requires.multiplier at step steps bits
-    (ap (λ (n : Numbers). n.width) c.parts-parts.ensures.value) (ap (λ (n : Numbers). n.words) c.parts-parts.ensures.value)
-    (rw (to_z-of_z w128 _ r, to_z-of_z w128 _ e) at c.violation-violation.ensures) (rw (to_z-of_z w128 _ r, to_z-of_z w128 _ v) at c.undercut.ensures))
+    (bounds_from cost n c.args.scaled.now.margin (record {
+      version = c.parts-parts.result.now.version;
+      margin = c.args.scaled.now.margin.units;
+      cost = c.args.scaled.now.margin.cost;
+      multiplier = c.args.scaled.now.r;
+      step = c.args.scaled.now.s;
+      steps = c.args.plan.now.steps;
+      bits = c.args.plan.now.choice.f;
+      width = c.parts-parts.result.now.w;
+      words = c.parts-parts.result.now.words;
+      violation = c.violation-violation.result;
+      rows = c.in_ok-row_violations.field-0;
+      gap = c.args.eps;
+      undercut = c.undercut.result;
+    }) (record {
+      version = ap (λ (x : Numbers). x.version) parts;
+      margin = refl;
+      corners = refl;
+      multiplier = c.requires.multiplier;
+      step = c.requires.same;
+      steps = steps;
+      bits = bits;
+      width = ap (λ (x : Numbers). x.width) parts;
+      words = ap (λ (x : Numbers). x.words) parts;
+      gap = at;
+      violation = rw (to_z-of_z w128 _ r, to_z-of_z w128 _ e) at c.violation-violation.ensures;
+      rows = listed n _ _ _ _ _ _ sound (c.deref.ensures.value ∙ ap (λ (x : Numbers). x.exponents) parts) rows;
+      undercut = rw (to_z-of_z w128 _ r, to_z-of_z w128 _ v) at c.undercut.ensures;
+    }))

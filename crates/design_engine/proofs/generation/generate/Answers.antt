@@ -38,6 +38,10 @@ returns-in_err-plan-clause-accepted c =
     (refused_by c.from_residual-in_err-plan.result _ _ c.from_residual-in_err-plan.ensures.1
     (λ e f. rw f (inr (c.in_err-plan.ensures.refused (plans_of c.args.policy.now) c.in_ok-scaled.ensures.passes))))
 
+-- ---- the numbers
+pub plan_of-requires-clause-exponent : goal.plan_of-requires-clause-exponent
+plan_of-requires-clause-exponent c = c.in_ok-scaled.ensures.exponent c.args.design.now c.in_ok-scaled.ensures.form
+
 -- ---- the last tests
 pub finished-requires-clause-few : goal.finished-requires-clause-few
 finished-requires-clause-few c =

@@ -35,11 +35,11 @@ returns-clause-passes c =
     }
 
 pub returns-clause-exponent : goal.returns-clause-exponent
-returns-clause-exponent c = record {
+returns-clause-exponent c = λ p form. record {
   plain = c.in_ok-exponents.exponents.s1;
-  is_plain = c.in_ok-exponents.ensures.plain _ c.in_ok-condensed.ensures.form;
+  is_plain = c.in_ok-exponents.ensures.plain p form;
   limit = c.in_ok-exponents.ensures.order.1;
-  is_step = c.in_ok-exponents.ensures.certified _ c.in_ok-condensed.ensures.form;
+  is_step = c.in_ok-exponents.ensures.certified p form;
 }
 
 pub returns-clause-curved : goal.returns-clause-curved

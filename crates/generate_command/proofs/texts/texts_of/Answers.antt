@@ -14,3 +14,6 @@ returns-in_err-controller-clause-refused c = ended c.from_residual-in_err-contro
 
 pub returns-in_err-report-clause-refused : goal.returns-in_err-report-clause-refused
 returns-in_err-report-clause-refused c = ended c.from_residual-in_err-report.result _ _ c.from_residual-in_err-report.ensures.1 (λ e is. inl is)
+
+pub returns-in_err-report-clause-not_done : goal.returns-in_err-report-clause-not_done
+returns-in_err-report-clause-not_done c = ended c.from_residual-in_err-report.result _ _ c.from_residual-in_err-report.ensures.1 (λ e is done. cc)

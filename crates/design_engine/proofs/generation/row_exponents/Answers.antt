@@ -1,0 +1,27 @@
+use Rattle.std.proofs.Common.{◌≡◌, ℕ, ◌<◌, List, replicate, sym, ap, subst, ◌∙◌}
+use Rattle.std.proofs.lemmas.List.{get_or-replicate}
+use Rattle.qp_model.specs.Curvature.{AreExponents, IsExponent}
+use Rattle.qp_model.specs.Design.{Design, rows}
+use Rattle.qp_model.specs.Parts.{design_of}
+use Rattle.hessian_check.specs.RowExponents.{exponent_in}
+use Rattle.hessian_check.proofs.RowExponentLaws.{exponents_same}
+use Rattle.design_engine.proofs.AnswerLaws.{ok_map}
+use Rattle.design_engine.proofs.generation.row_exponents.Goals as goal
+
+-- one exponent for all rows, told row by row
+repeated : (d : Design) (s n : ℕ) (es : List ℕ) → es ≡ replicate n s → n ≡ rows d → IsExponent d s → AreExponents d (exponent_in es) s
+repeated d s n es e count one = exponents_same d (λ i. s) (exponent_in es) s (λ i l.
+    sym (ap (λ (xs : List ℕ). exponent_in xs i) e ∙ get_or-replicate n i s 0 (subst (λ (m : ℕ). i < m) (sym count) l))) one
+
+pub returns-then-parts-eq-VERSION-clause-curved : goal.returns-then-parts-eq-VERSION-clause-curved
+returns-then-parts-eq-VERSION-clause-curved c =
+    ok_map c.vec.result _ _ c.vec.ensures.items_if_clones_equal (λ es e.
+    repeated (design_of c.args.design.now) c.args.s c.rows.result es.items (e (λ y h. h)) (c.rows.ensures.count ∙ c.requires.form.shapes.g.rows) c.requires.curved)
+
+pub returns-else-parts-eq-VERSION-clause-list : goal.returns-else-parts-eq-VERSION-clause-list
+returns-else-parts-eq-VERSION-clause-list c =
+    ok_map c.exponents.result _ _ (c.exponents.ensures.list c.args.design.now c.requires.form) (λ es h.
+    record { first = λ e. absurd (c.if-parts-eq-VERSION.false (rw c.parts.ensures.value e)); second = λ n. h })
+
+pub returns-else-parts-eq-VERSION-clause-curved : goal.returns-else-parts-eq-VERSION-clause-curved
+returns-else-parts-eq-VERSION-clause-curved c = c.exponents.ensures.exponents c.args.design.now c.requires.form
