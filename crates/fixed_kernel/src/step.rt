@@ -1,8 +1,9 @@
 // Plan entries, multipliers and sums.
-ghost use Rattle.std.specs.Prelude.{◌≡◌, ◌≤◌, ◌<◌, ◌+◌, ◌^◌, ℕ, pos, ◌+ℤ◌, length, unsigned_abs, IsTrue};
-ghost use Rattle.std.specs.Int.{int_max, int_min};
+ghost use Rattle.std.specs.Prelude.{◌≡◌, ◌≤◌, ◌<◌, ◌+◌, ◌^◌, ℕ, pos, ◌+ℤ◌, ◌*ℤ◌, length, unsigned_abs, FitsSigned, IsTrue};
+ghost use Rattle.std.specs.Int.{w128, int_max, int_min};
 ghost use Rattle.integer_algebra.specs.Division.{floor_of};
 ghost use Rattle.integer_algebra.specs.Sums.{at};
+ghost use Rattle.mat_int.specs.Narrow.{IsNarrow};
 ghost use Rattle.qp_model.specs.Limits.{text_version};
 ghost use Rattle.qp_model.specs.Controller.{numbers};
 ghost use Rattle.qp_model.specs.Machine.{lowering_of, raised, plan_entry, plan_of, row_sum, next_multipliers, added, step_of};
@@ -37,6 +38,19 @@ fn lowering_at(c: &ControllerParts, exps: &[u32], i: usize) -> u32
     c.s - exps[i]
 }
 
+// Raises one multiplier by so many bits. Most rows have the greatest exponent, and their multipliers are not even read.
+#[inline]
+fn raise_by(narrow: bool, l: &mut i128, lowering: u32)
+    requires bits { lowering ≤ 62 }
+    requires narrow { IsTrue narrow → IsNarrow (l.old *ℤ pos (2 ^ lowering)) }
+    requires fits { FitsSigned w128 (l.old *ℤ pos (2 ^ lowering)) }
+    ensures { l.new ≡ l.old *ℤ pos (2 ^ lowering) }
+{
+    if lowering != 0 {
+        *l = scaled_by(narrow, *l, lowering);
+    }
+}
+
 // Raises multipliers: each was over `2^(f + exps[i])`, and is then over `2^(f+s)`.
 fn raise(c: &ControllerParts, narrow: bool, multipliers: &mut [i128])
     requires sound { IsController (numbers c.now) }
@@ -47,7 +61,7 @@ fn raise(c: &ControllerParts, narrow: bool, multipliers: &mut [i128])
 {
     let exps = exponents_of(c, multipliers.len());
     for (i, l) in multipliers.iter_mut().enumerate() {
-        *l = scaled_by(narrow, *l, lowering_at(c, exps, i));
+        raise_by(narrow, l, lowering_at(c, exps, i));
     }
 }
 
@@ -138,6 +152,25 @@ fn move_multipliers(
     }
 }
 
+// A raised multiplier and the clamp, both lowered by so many bits. Most rows are lowered by none, and then there is nothing to shift.
+#[inline]
+fn lowered(narrow: bool, raised: i128, clamp: i128, lowering: u32) -> (i128, i128)
+    requires bits { lowering ≤ 62 }
+    requires raised { IsTrue narrow → IsNarrow raised }
+    requires clamp { IsTrue narrow → IsNarrow clamp }
+    ensures old { result.0 ≡ floor_of raised (2 ^ lowering) }
+    ensures top { result.1 ≡ floor_of clamp (2 ^ lowering) }
+{
+    if lowering == 0 {
+        (raised, clamp)
+    } else {
+        (
+            shifted_by(narrow, raised, lowering),
+            shifted_by(narrow, clamp, lowering),
+        )
+    }
+}
+
 // The multipliers after a plan, from raised ones.
 fn move_raised(
     c: &ControllerParts,
@@ -155,9 +188,7 @@ fn move_raised(
 {
     let exps = exponents_of(c, multipliers.len());
     for (i, l) in multipliers.iter_mut().enumerate() {
-        let lowering = lowering_at(c, exps, i);
-        let old = shifted_by(narrow, *l, lowering);
-        let top = shifted_by(narrow, c.clamp, lowering);
+        let (old, top) = lowered(narrow, *l, c.clamp, lowering_at(c, exps, i));
         *l = multiplier_at(c, narrow, state, plan, old, top, i);
     }
 }

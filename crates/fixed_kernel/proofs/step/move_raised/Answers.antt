@@ -12,8 +12,8 @@ use Rattle.fixed_kernel.specs.Unraised.{unraised}
 use Rattle.fixed_kernel.proofs.Raised.{unraised_at, lowered_within, within_narrow_clamp}
 use Rattle.fixed_kernel.proofs.step.move_raised.Goals as goal
 
-pub shifted_by-old-requires-clause-narrow : goal.shifted_by-old-requires-clause-narrow
-shifted_by-old-requires-clause-narrow c = λ t.
+pub lowered-old-requires-clause-raised : goal.lowered-old-requires-clause-raised
+lowered-old-requires-clause-raised c = λ t.
     let n = numbers c.args.c.now in
     let i = c.loop-i.i in
     let old : FitsSigned w128 (get_or c.loop-i.multipliers i (pos 0)) = search rules in
@@ -21,8 +21,8 @@ shifted_by-old-requires-clause-narrow c = λ t.
     let same = c.loop-i.invariant.others i (omega arith) in
     rw (to_z-of_z w128 _ old, same) (within_narrow_clamp n c.args.multipliers.now i (c.requires.narrow t) row c.requires.multipliers)
 
-pub shifted_by-top-requires-clause-narrow : goal.shifted_by-top-requires-clause-narrow
-shifted_by-top-requires-clause-narrow c = λ t.
+pub lowered-old-requires-clause-clamp : goal.lowered-old-requires-clause-clamp
+lowered-old-requires-clause-clamp c = λ t.
     let clamp : FitsSigned w128 c.args.c.now.clamp = search rules in
     rw (to_z-of_z w128 _ clamp) (c.requires.narrow t).clamp
 
@@ -31,10 +31,10 @@ multiplier_at-requires-clause-old c =
     let n = numbers c.args.c.now in
     let i = c.loop-i.i in
     let old : FitsSigned w128 (get_or c.loop-i.multipliers i (pos 0)) = search rules in
-    let low : FitsSigned w128 c.shifted_by-old.result = search rules in
+    let low : FitsSigned w128 c.lowered-old.result.0 = search rules in
     let row : i < length n.bounds = omega (arith, c.requires.multipliers.long, length-clamp_reach n) in
     let same = c.loop-i.invariant.others i (omega arith) in
-    rw (to_z-of_z w128 _ low, c.shifted_by-old.ensures, c.lowering_at-lowering.ensures.value, to_z-of_z w128 _ old, same)
+    rw (to_z-of_z w128 _ low, c.lowered-old.ensures.old, c.lowering_at.ensures.value, to_z-of_z w128 _ old, same)
     (lowered_within n c.args.multipliers.now i row c.requires.multipliers)
 
 pub loop-i-preserved : goal.loop-i-preserved
@@ -43,14 +43,14 @@ loop-i-preserved c =
     let i = c.loop-i.i in
     let made : FitsSigned w128 c.multiplier_at.result = search rules in
     let old : FitsSigned w128 (get_or c.loop-i.multipliers i (pos 0)) = search rules in
-    let low : FitsSigned w128 c.shifted_by-old.result = search rules in
+    let low : FitsSigned w128 c.lowered-old.result.0 = search rules in
     let clamp : FitsSigned w128 n.clamp = search rules in
-    let top : FitsSigned w128 c.shifted_by-top.result = search rules in
+    let top : FitsSigned w128 c.lowered-old.result.1 = search rules in
     let lt : i < length c.loop-i.multipliers = omega arith in
     let same = c.loop-i.invariant.others i (omega arith) in
     let was = floor_of (get_or c.args.multipliers.now i (pos 0)) (2 ^ lowering_of n i) in
     let moved : c.multiplier_at.result ≡ next_multiplier n c.args.state.now c.args.plan.now was i =
-    rw (to_z-of_z w128 _ top, c.shifted_by-top.ensures, to_z-of_z w128 _ clamp, to_z-of_z w128 _ low, c.shifted_by-old.ensures, c.lowering_at-lowering.ensures.value, to_z-of_z w128 _ old, same) at c.multiplier_at.ensures in
+    rw (to_z-of_z w128 _ top, c.lowered-old.ensures.top, to_z-of_z w128 _ clamp, to_z-of_z w128 _ low, c.lowered-old.ensures.old, c.lowering_at.ensures.value, to_z-of_z w128 _ old, same) at c.multiplier_at.ensures in
     record {
       moved = rw (to_z-of_z w128 _ made, moved)
           (fill_by_more (λ k. next_multiplier n c.args.state.now c.args.plan.now (floor_of (get_or c.args.multipliers.now k (pos 0)) (2 ^ lowering_of n k)) k) c.loop-i.multipliers i (pos 0) lt c.loop-i.invariant.moved);

@@ -1,6 +1,4 @@
-use Rattle.std.proofs.Common.{◌≢◌, ◌^◌, ◌<◌, ◌*ℤ◌, length, pos, get_or, get_or-set_other, rules, arith, FitsSigned}
-use Rattle.std.specs.Int.{w128}
-use Rattle.std.proofs.lemmas.Int.{to_z-of_z}
+use Rattle.std.proofs.Common.{◌≢◌, ◌^◌, ◌<◌, ◌*ℤ◌, length, pos, get_or, get_or-set_other, arith}
 use Rattle.std.proofs.lemmas.List.Edits.{fill_by_more}
 use Rattle.std.proofs.lemmas.List.FromFn.{fill_by_all}
 use Rattle.qp_model.specs.Controller.{numbers}
@@ -8,31 +6,25 @@ use Rattle.qp_model.specs.Machine.{lowering_of}
 use Rattle.fixed_kernel.proofs.Raised.{raised_fits, raised_narrow}
 use Rattle.fixed_kernel.proofs.step.raise.Goals as goal
 
-pub scaled_by-requires-clause-narrow : goal.scaled_by-requires-clause-narrow
-scaled_by-requires-clause-narrow c = λ t.
+pub raise_by-requires-clause-narrow : goal.raise_by-requires-clause-narrow
+raise_by-requires-clause-narrow c = λ t.
     let i = c.loop-i.i in
-    let old : FitsSigned w128 (get_or c.loop-i.multipliers i (pos 0)) = search rules in
     let same = c.loop-i.invariant.others i (omega arith) in
-    rw (to_z-of_z w128 _ old, c.lowering_at.ensures.value, same)
-    (raised_narrow (numbers c.args.c.now) c.args.multipliers.now i (c.requires.narrow t) (omega (arith, c.requires.long)) c.requires.within)
+    rw (c.lowering_at.ensures.value, same) (raised_narrow (numbers c.args.c.now) c.args.multipliers.now i (c.requires.narrow t) (omega (arith, c.requires.long)) c.requires.within)
 
-pub scaled_by-requires-clause-fits : goal.scaled_by-requires-clause-fits
-scaled_by-requires-clause-fits c =
+pub raise_by-requires-clause-fits : goal.raise_by-requires-clause-fits
+raise_by-requires-clause-fits c =
     let i = c.loop-i.i in
-    let old : FitsSigned w128 (get_or c.loop-i.multipliers i (pos 0)) = search rules in
     let same = c.loop-i.invariant.others i (omega arith) in
-    rw (to_z-of_z w128 _ old, c.lowering_at.ensures.value, same)
-    (raised_fits (numbers c.args.c.now) c.args.multipliers.now i c.requires.sound (omega (arith, c.requires.long)) c.requires.within)
+    rw (c.lowering_at.ensures.value, same) (raised_fits (numbers c.args.c.now) c.args.multipliers.now i c.requires.sound (omega (arith, c.requires.long)) c.requires.within)
 
 pub loop-i-preserved : goal.loop-i-preserved
 loop-i-preserved c =
     let i = c.loop-i.i in
-    let made : FitsSigned w128 c.scaled_by.result = search rules in
-    let old : FitsSigned w128 (get_or c.loop-i.multipliers i (pos 0)) = search rules in
     let lt : i < length c.loop-i.multipliers = omega arith in
     let same = c.loop-i.invariant.others i (omega arith) in
     record {
-      raised = rw (to_z-of_z w128 _ made, c.scaled_by.ensures, c.lowering_at.ensures.value, to_z-of_z w128 _ old, same)
+      raised = rw (c.raise_by.ensures, c.lowering_at.ensures.value, same)
           (fill_by_more (λ k. get_or c.args.multipliers.now k (pos 0) *ℤ pos (2 ^ lowering_of (numbers c.args.c.now) k)) c.loop-i.multipliers i (pos 0) lt c.loop-i.invariant.raised);
       others = λ k h. let ne : k ≢ i = omega arith in rw get_or-set_other (c.loop-i.invariant.others k (omega arith));
     }
