@@ -14,6 +14,8 @@ from dataclasses import dataclass, field
 from fractions import Fraction
 
 NAMED = re.compile(r"#\s*(state|input|stage row|final row) (\d+): ([^,]+?)(?:, 1 is ([0-9][0-9.eE+-]*) (.+?))?\s*$")
+# the greatest numbers of states and of stages, by version
+STATES, STAGES = {1: 4, 2: 6}, {1: 20, 2: 30}
 LASTS = re.compile(r"#\s*a stage lasts ([0-9][0-9.eE+-]*) s\s*$")
 
 
@@ -43,6 +45,7 @@ def plain(value):
 class Design:
     """The numbers of a design text, by the names of the text; rows as lists."""
 
+    version: int
     states: int
     inputs: int
     stages: int
@@ -89,6 +92,11 @@ class Design:
         short = {"state": f"x{number}", "input": f"u{number}"}
         return self.names.get((kind, number), Name(short.get(kind, f"{kind} {number}")))
 
+    def rows_of(self, kind, number):
+        """The limit rows of the plan, from 1, that are a stage row at all its stages or a final row, each with its stage."""
+        rows = range(1, self.rows + 1)
+        return [(row, stage) for row in rows for *place, stage in [self.place_of_row(row)] if place == [kind, number]]
+
     def place_of_row(self, row):
         """The kind of limit row `row` of the plan, from 1, its number among its kind, and its stage."""
         at = row - 1
@@ -123,6 +131,7 @@ def design_of(text):
     t = tomllib.loads(text)
     plant, cost, limits, box, targets = t["plant"], t["cost"], t["limits"], t["box"], t["targets"]
     design = Design(
+        t["version"],
         t["states"],
         t["inputs"],
         t["stages"],
@@ -161,7 +170,7 @@ def text_of(design, title=""):
     for (kind, number), name in design.names.items():
         lines.append(f"# {kind} {number}: {name.word}" + (f", 1 is {name.size!r} {name.unit}" if name.unit else ""))
     rows = lambda table: "[" + ", ".join(str([int(v) for v in row]) for row in table) + "]"
-    lines += ["version = 1", f"states = {design.states}", f"inputs = {design.inputs}", f"stages = {design.stages}"]
+    lines += [f"version = {design.version}", f"states = {design.states}", f"inputs = {design.inputs}", f"stages = {design.stages}"]
     lines += ["", "[plant]", f"den = {design.plant_den}", f"a = {rows(design.a)}", f"b = {rows(design.b)}"]
     lines += [
         "",

@@ -4,8 +4,9 @@
     scripts/draft.py MODEL [DESIGN] [--gap PART] [--keep-weights]
 
 It samples and rounds the plant, divides each limit row by its tolerance (so that the violation target is 1 for all), holds limits on states at the next state,
-takes all weights by one factor so that the curvature is just below 1 (step 0), and asks for a gap of PART (0.1) of the greatest cost. The design goes to DESIGN, or is
-printed; what was done goes to standard error. The policy is the next step: scripts/policy.py DESIGN POLICY.
+takes all weights by one factor so that the curvature is just below 1 (step 0), and asks for a gap of PART (0.1) of the greatest cost. In version 2 the curvature is just
+below 16 (step 4): that leaves the steps as they are, and the exponents of flat rows can be lowered. The design goes to DESIGN, or is printed; what was done goes to
+standard error. The policy is the next step: scripts/policy.py DESIGN POLICY.
 
     --keep-weights    takes the weights as they are, in whole 16ths
 """
@@ -27,6 +28,10 @@ from policy import plans_with
 from programs import Programs
 
 
+# the step exponent, by version: in version 2 that of a row is up to 4 less
+STEP = {1: 0, 2: 4}
+
+
 def say(*words):
     print(*words, file=sys.stderr)
 
@@ -41,12 +46,11 @@ def limit_row(model, limit, a, b):
     return numpy.r_[states, inputs, float(limit["bound"])] / tolerance
 
 
-def limit_rows(rows, most=64):
-    """Numerators over the least power of two, up to 64, that keeps each factor within 1 % of its row's greatest. Bounds are rounded down."""
-    den = 1
-    off = lambda row: max(abs(row[:-1] * den - numpy.rint(row[:-1] * den))) > 0.01 * max(abs(row[:-1])) * den
-    while den < most and any(map(off, rows)):
-        den *= 2
+def limit_rows(rows, den=None, most=64):
+    """Numerators over the denominator, or over the least power of two, up to 64, that keeps each factor within 1 % of its row's greatest. Bounds are rounded down."""
+    off = lambda row, den: max(abs(row[:-1] * den - numpy.rint(row[:-1] * den))) > 0.01 * max(abs(row[:-1])) * den
+    if den is None:
+        den = next((2**k for k in range(most.bit_length() - 1) if not any(off(row, 2**k) for row in rows)), most)
     return den, [[int(v) for v in numpy.rint(row[:-1] * den)] + [math.floor(row[-1] * den + 1e-6)] for row in rows]
 
 
@@ -76,11 +80,12 @@ def set_weights(design, inputs, stage, final, factor):
 
 
 def fit_weights(design, inputs, stage, final):
-    """All weights by one factor, over the least power of two that gives each at least 32, so that the curvature is just below 1."""
+    """All weights by one factor, over the least power of two that gives each at least 32, so that the curvature is just below the power of the version's step."""
     set_weights(design, inputs, stage, final, 2**20 / min(inputs))
     steep = curvature(design) * 2**20 / min(inputs)
-    factor = steep * 1.003
-    while min(inputs + [w for _, w in stage + final]) * factor * design.cost_den < 32 and design.cost_den < 4096:
+    power = 2 ** STEP[design.version]
+    factor = steep * 1.003 / power
+    while min(inputs + [w for _, w in stage + final]) * factor * design.cost_den < 32 and design.cost_den < 4096 * power:
         design.cost_den *= 2
     set_weights(design, inputs, stage, final, factor)
 
@@ -102,11 +107,12 @@ def draft(model, part=0.1, keep=False):
     text, den = model.text, model.den or 64
     a, b = (m / den for m in rounded(*model.scaled(), den))
     limits, cost, box = text.get("limit", []), text["cost"], text["box"]
-    limit_den, rows = limit_rows([limit_row(model, limit, a, b) for limit in limits])
+    limit_den, rows = limit_rows([limit_row(model, limit, a, b) for limit in limits], model.limit_den)
     grid = box.get("grid", 4)
     hi = [int(round(v / u * 2**grid)) for v, u in zip(box["hi"], model.state_units)]
     lo = [int(round(v / u * 2**grid)) for v, u in zip(box["lo"], model.state_units)] if "lo" in box else [-v for v in hi]
     design = Design(
+        model.version,
         model.n,
         model.p,
         model.stages,

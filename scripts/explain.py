@@ -5,9 +5,9 @@
 
 The files come in any order; each is known by what it holds. FILE alone will do, and each further one adds what follows from it:
 
-    a report          every bound in decimals, and K = 2^(s+2) R over the violation target
-    with a controller the products of a run and its time at a clock (100 MHz, one cycle a product), and the bits of gains, multipliers and plan
-    with a design     bounds in the units that its comments name, and the sizes in bits of 126
+    a report          every bound in decimals, and K = 2^(s+2) R over the violation target; in version 2 by how much each row may be exceeded
+    with a controller the products of a run and its time at a clock (100 MHz, one cycle a product), the bits of gains, multipliers and plan, and the exponents of rows
+    with a design     bounds in the units that its comments name, row by row, and the sizes in bits of 126
     with its policy   where R comes from: the corner and row of the least slack, the corner of the greatest cost, the step against the curvature
     lines             each number as a decimal; with a design, by name and unit
 
@@ -36,11 +36,15 @@ def flat(rows):
 
 def report_words(report, design):
     """A report's lines in decimals."""
-    yield f"every run takes K = {report['steps']} steps, a step is 2^-{report['step']}, plans and gains have f = {report['bits']} fraction bits"
+    least = " or more" if min(report["violations"], default=report["violation"]) < report["violation"] else ""
+    yield f"every run takes K = {report['steps']} steps, a step is 2^-{report['step']}{least}, plans and gains have f = {report['bits']} fraction bits"
     yield f"no product and no partial sum leaves a signed word of {report['width']} bits; {report['words']} words hold all that changes"
     yield (f"R = {report['multiplier']}: the greatest cost {report['cost']} over the least slack {plain(report['margin'])}, rounded up")
     if design is None:
-        yield f"a limit is exceeded by at most {plain(report['violation'])}, in the unit of its row"
+        by_row = list(enumerate(report["violations"], 1))
+        yield f"a limit is exceeded by at most {plain(report['violation'])}, in the unit of its row" + (f": {parted(by_row, plain, 'in row')}" if by_row else "")
+    elif report["violations"] and len(report["violations"]) != design.rows:
+        raise ValueError(f"the report has {len(report['violations'])} rows, and the design {design.rows}")
     else:
         for number in range(1, len(design.stage_rows) + 1):
             yield violation_words(report, design, "stage row", number)
@@ -52,9 +56,32 @@ def report_words(report, design):
 
 
 def violation_words(report, design, kind, number):
+    """By how much a row is exceeded at most; where its rows of the plan differ, at which stages."""
     name = design.name(kind, number)
     word = f"{kind} {number} ({name.word})" if (kind, number) in design.names else f"{kind} {number}"
-    return f"{word} is exceeded by at most {name.shown(report['violation'])}, at any state of the box"
+    by_stage = [(stage, report["violations"][row - 1] if report["violations"] else report["violation"]) for row, stage in design.rows_of(kind, number)]
+    bounds = {bound for _, bound in by_stage}
+    told = name.shown(*bounds) if len(bounds) == 1 else parted(by_stage, name.shown, "at stage")
+    return f"{word} is exceeded by at most {told}, at any state of the box"
+
+
+def parted(places, shown, at):
+    """Bounds with the places that have them, the greatest first, as '2 V at stage 3, 1 V at stages 0 to 2 and 4'."""
+    bounds = sorted({bound for _, bound in places}, reverse=True)
+    found = [(bound, [place for place, other in places if other == bound]) for bound in bounds]
+    return ", ".join(f"{shown(bound)} {at}{'s' * (len(some) > 1)} {ranges(some)}" for bound, some in found)
+
+
+def ranges(numbers):
+    """Rising numbers in words, as '0 to 2, 4 and 6'."""
+    runs = []
+    for number in numbers:
+        if runs and runs[-1][-1] == number - 1:
+            runs[-1].append(number)
+        else:
+            runs.append([number])
+    words = [word for run in runs for word in (map(str, run) if len(run) < 3 else [f"{run[0]} to {run[-1]}"])]
+    return " and ".join([", ".join(words[:-1]), words[-1]] if len(words) > 1 else words)
 
 
 def cost_words(controller, period, clock, cycles):
@@ -68,6 +95,8 @@ def cost_words(controller, period, clock, cycles):
     time = run * cycles / (clock * 1e6)
     share = f", {plain(100 * time / period)} % of a stage of {plain(period)} s" if period else ""
     yield f"a run has {run} products ({gains * c.steps}; {plain_step * c.steps}): {plain(time * 1e3)} ms at {plain(clock)} MHz and {plain(cycles)} {'cycle' if cycles == 1 else 'cycles'} a product{share}"
+    if c.version > 1:
+        yield exponent_words(c)
     multiplier, plan = bits_of([c.clamp]), plan_bits(c)
     yield (
         f"signed words: gains W {bits_of(flat(c.W))} bits, P {bits_of(flat(c.P))}, rows G {bits_of(flat(c.G))}, E {bits_of(flat(c.E))}, multipliers {multiplier}, "
@@ -78,6 +107,15 @@ def cost_words(controller, period, clock, cycles):
         yield f"each product is of two 32-bit factors and each sum fits 64 bits (width {c.width}): one multiply-accumulate"
     else:
         yield f"32-bit factors and 64-bit sums do not serve: the greatest factor has {factors} bits, the greatest sum {c.width}"
+
+
+def exponent_words(c):
+    """How many rows have which step exponent."""
+    counts = [(exponent, c.exps.count(exponent)) for exponent in sorted(set(c.exps), reverse=True)]
+    if len(counts) == 1:
+        return f"each row has the step exponent {c.exps[0]}"
+    told = ", ".join(f"{exponent} in {count} row{'s' * (count > 1)}" for exponent, count in counts)
+    return f"the step exponent of a row is {told}; its multiplier is shifted left by what that is below {c.step}, which is no product"
 
 
 def plan_bits(c):
@@ -132,6 +170,9 @@ def class_words(design, policy, form):
     if form.fine:
         found = told_sizes(wide(sizes.exact_sizes(design, condense(design))))
         yield f"exact condensed numbers pass 126 bits ({found}), so they are held as enclosures, midpoints and radii over 2^40: a fine design"
+    lowered, own = wide(sizes.lowered_sizes(design, form)), wide(sizes.form_sizes(design, form))
+    if design.version > 1 and lowered and not own:
+        yield f"with rows that count 16 times, sizes pass 126 bits ({told_sizes(lowered)}), so that no row has a smaller step exponent, and each the same violation"
 
 
 def size_words(design, policy, report):

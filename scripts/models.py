@@ -1,5 +1,6 @@
 """A continuous model in physical units, as a text:
 
+    version = 2                                  # optional: up to 6 states and 30 stages, and each limit row has its own violation; 1: up to 4 and 20
     period = 0.005                               # seconds a stage
     stages = 4
     a = [[0.0, 1.0], [0.0, -26.3]]               # x' = a x + b u
@@ -15,6 +16,7 @@
     states = [0.0625, 5.0]
     inputs = [1.0]
     den = 64                                     # the plant's denominator
+    limits = 64                                  # that of the limits; left out: the least power of two up to 64 with each factor within 1 % of its row's greatest
 
     [[limit]]                                    # input and state: factors over the model's inputs and states; a limit on states alone holds for the next state
     name = "voltage above"
@@ -38,7 +40,7 @@ need("numpy", "scipy")
 import numpy
 import scipy.linalg
 
-from design_text import Name
+from design_text import STAGES, STATES, Name
 
 
 class Model:
@@ -51,6 +53,7 @@ class Model:
         if a.ndim != 2 or a.shape[0] != a.shape[1] or b.ndim != 2 or b.shape[0] != a.shape[0]:
             raise ValueError("a must be a square table, and b a table with as many rows")
         self.n, self.p = b.shape
+        self.version = version_of(t, self.n, self.stages)
         turn = t.get("coordinates", {})
         self.to = numpy.array(turn.get("rows", numpy.eye(self.n)), float)
         self.names = [split_name(v, f"x{i + 1}") for i, v in enumerate(turn.get("names", t.get("states", [])) or [""] * self.n)]
@@ -63,7 +66,7 @@ class Model:
         chosen = units_for(self.a, self.b, box)
         self.state_units = numpy.array(units.get("states", chosen[0]), float)
         self.input_units = numpy.array(units.get("inputs", chosen[1]), float)
-        self.den = units.get("den")
+        self.den, self.limit_den = units.get("den"), units.get("limits")
 
     def scaled(self):
         """A and B in the design's units."""
@@ -73,6 +76,16 @@ class Model:
     def row(self, factors):
         """Factors over the model's states, as factors over the design's."""
         return numpy.array(factors, float) @ numpy.linalg.inv(self.to) * self.state_units
+
+
+def version_of(text, states, stages):
+    """The version that a model asks for, or 1; ValueError where it has not so many states or stages."""
+    version = text.get("version", 1)
+    if version not in STATES:
+        raise ValueError(f"version is 1 or 2, not {version}")
+    if states > STATES[version] or stages > STAGES[version]:
+        raise ValueError(f"version {version} has at most {STATES[version]} states and {STAGES[version]} stages" + (": version = 2 has more" if version == 1 else ""))
+    return version
 
 
 def split_name(text, other):

@@ -4,7 +4,8 @@
     scripts/plot.py DESIGN LINES [LINES ..] --out FILE.svg [--labels NAME,NAME] [--starts N,N] [--turns N]
 
 The first LINES are drawn full, the second dashed, and so on, so that two controllers can be laid beside each other (as scripts/exact_loop.py beside `loop`). Names,
-units and the period come from the design's comments. Grey lines are the box, red ones the limits on one state or one input alone.
+units and the period come from the design's comments. Grey lines are the box, red ones the limits on one state or one input alone. Up to five curves stand in one column,
+more in three, as positions, velocities and accelerations along three axes do.
 
     --labels   what the files are called in the legend
     --starts   the records to draw, from 1 (all)
@@ -25,6 +26,7 @@ from design_text import read_design
 from texts import loop_lines_of, read_text
 
 STYLES = ["-", "--", ":", "-."]
+ONE_COLUMN = 5
 SALT = "loop"
 
 
@@ -63,7 +65,12 @@ def draw_limits(axes, design):
 def draw(design, files, labels, starts=None, turns=None):
     """The figure of these loops, a dictionary of record -> loop for each file."""
     count = design.states + design.inputs
-    figure, axes = pyplot.subplots(count, 1, sharex=True, figsize=(7, 1.6 * count))
+    columns = 1 if count <= ONE_COLUMN else 3
+    lines = -(-count // columns)
+    figure, grid = pyplot.subplots(lines, columns, sharex=True, squeeze=False, figsize=(7 if columns == 1 else 10, 1.6 * lines))
+    axes, spare = list(grid.flat)[:count], list(grid.flat)[count:]
+    for none in spare:
+        none.set_axis_off()
     step = design.period or 1
     draw_limits(axes, design)
     for number, (loops, label) in enumerate(zip(files, labels)):
@@ -71,7 +78,8 @@ def draw(design, files, labels, starts=None, turns=None):
         for place, record in enumerate(chosen):
             draw_start(axes, design, loops[record][:turns], STYLES[number % 4], f"C{place % 10}", f"{label}, start {record}", step)
     axes[0].legend(fontsize=6, loc="upper right", ncol=len(files))
-    axes[-1].set_xlabel("s" if design.period else "turn", fontsize=8)
+    for last in axes[-columns:]:
+        last.set_xlabel("s" if design.period else "turn", fontsize=8)
     figure.tight_layout()
     return figure
 

@@ -63,10 +63,10 @@ LEFT = {
 DENOMINATOR, NUMERATOR = "a denominator, 1 to 1048576", "-2147483647 to 2147483647"
 # key, shape, range: by the place in a design text
 PLACES = [
-    ("version", "an integer", "1"),
-    ("states", "an integer", "1 to 4"),
+    ("version", "an integer", "1 or 2"),
+    ("states", "an integer", "1 to 4, in version 2 up to 6"),
     ("inputs", "an integer", "1 to 3"),
-    ("stages", "an integer", "1 to 20"),
+    ("stages", "an integer", "1 to 20, in version 2 up to 30"),
     ("plant.den", "an integer", DENOMINATOR),
     ("plant.a", "{n} lists of {n} integers", NUMERATOR),
     ("plant.b", "{n} lists of {p} integers", NUMERATOR),

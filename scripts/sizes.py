@@ -81,11 +81,11 @@ def corner_sizes(design, policy):
 # ---- the condensed form, by class
 
 
-def number_sizes(design, reach):
-    """`hessian` and `rows`, where no state's response is above this."""
+def number_sizes(design, reach, times):
+    """`hessian` and `rows`, where no state's response is above this and each row counts so many times."""
     cost_width, width, weights = scales(design)
     nu, n = design.entries, design.states
-    return 2 * nu * (nu + n + 1) * weights * (cost_width * reach) ** 2, (nu + n + 1) * design.rows * (width * reach) ** 2
+    return 2 * nu * (nu + n + 1) * weights * (cost_width * reach) ** 2, times * (nu + n + 1) * design.rows * (width * reach) ** 2
 
 
 def curvature_size(design, form, hessian, rows):
@@ -95,17 +95,17 @@ def curvature_size(design, form, hessian, rows):
     return 2**least * design.limit_den**2 * hessian + design.cost_den * design.row_den**2 * rows
 
 
-def exact_sizes(design, form):
+def exact_sizes(design, form, times=1):
     """The sizes of the exact numbers."""
     big = growth(design) ** design.stages
-    hessian, rows = number_sizes(design, big)
+    hessian, rows = number_sizes(design, big, times)
     return {"prediction": big, "hessian": hessian, "rows": rows, "curvature": curvature_size(design, form, hessian, rows)}
 
 
-def fine_sizes(design, form):
+def fine_sizes(design, form, times=1):
     """The sizes of the enclosures."""
     omega = reached(design, ONE)
-    hessian, rows = number_sizes(design, omega)
+    hessian, rows = number_sizes(design, omega, times)
     hessian = max(hessian, 2**86 * total(form.hess_radii))
     in_a_row = lambda size: over(size, ONE) + 4 * design.entries
     return {"prediction": growth(design) * omega, "hessian": hessian, "rows": rows, "curvature": curvature_size(design, form, in_a_row(hessian), in_a_row(rows))}
@@ -117,9 +117,14 @@ def form_of(design):
     return form if max(exact_sizes(design, form).values()) <= LIMIT else condense_fine(design)
 
 
-def form_sizes(design, form):
-    """`prediction`, `hessian`, `rows` and `curvature` of the condensed form."""
-    return fine_sizes(design, form) if form.fine else exact_sizes(design, form)
+def form_sizes(design, form, times=1):
+    """`prediction`, `hessian`, `rows` and `curvature` of the condensed form, where each row counts so many times."""
+    return fine_sizes(design, form, times) if form.fine else exact_sizes(design, form, times)
+
+
+def lowered_sizes(design, form):
+    """Those with rows that count 16 times, as a row does whose step exponent is 4 below the greatest: where one is too wide, no exponent of version 2 is lowered."""
+    return form_sizes(design, form, 16)
 
 
 def multiplier_size(cost, multiplier):

@@ -19,8 +19,9 @@ def records_of(text):
 
 @dataclass
 class Controller:
-    """The numbers of a controller text, by its words."""
+    """The numbers of a controller text, by its words; exps has a step exponent for each row."""
 
+    version: int
     states: int
     inputs: int
     stages: int
@@ -40,6 +41,7 @@ class Controller:
     G: list
     E: list
     b: list
+    exps: list
 
     @property
     def entries(self):
@@ -49,11 +51,12 @@ class Controller:
 def controller_of(text):
     """The controller of a text that `generate` wrote."""
     lines = {}
-    for line in text.splitlines()[1:-1]:
+    for line in text.splitlines()[:-1]:
         word, *numbers = line.split(" ")
         lines.setdefault(word, []).append([int(n) for n in numbers])
     (states, inputs, stages, rows), (bits, grid, step, width) = lines["size"][0], lines["bits"][0]
     return Controller(
+        lines["mpc-controller"][0][0],
         states,
         inputs,
         stages,
@@ -73,18 +76,24 @@ def controller_of(text):
         lines["G"],
         lines["E"],
         lines["b"][0],
+        lines["exps"][0] if "exps" in lines else [step] * rows,
     )
 
 
 def report_of(text):
-    """The numbers of a report, text or JSON, by its words: margin over 2^16, the three bounds over 2^40, as fractions."""
+    """The numbers of a report, text or JSON, by its words: margin over 2^16, the bounds over 2^40, as fractions. `violations` has the one of each row in version 2,
+    and nothing in version 1, where all are `violation`."""
     if text.lstrip().startswith("{"):
-        numbers = {key: int(value) for key, value in json.loads(text).items() if isinstance(value, str)}
+        told = json.loads(text)
+        numbers, rows = {key: int(value) for key, value in told.items() if isinstance(value, str)}, told.get("violations", [])
     else:
-        numbers = {line.split()[0]: int(line.split()[1]) for line in text.splitlines()[1:-1]}
-    out = {key: numbers[key] for key in REPORT_LINES}
-    out["margin"] = Fraction(numbers["margin"], 2**16)
-    return out | {key: Fraction(numbers[key], SCALE) for key in ("violation", "gap", "undercut")}
+        lines = [line.split() for line in text.splitlines()[:-1]]
+        numbers = {word: int(number) for word, number, *_ in lines} | {"version": int(lines[0][1])}
+        rows = [row[2] for row in lines if row[0] == "violation"] if numbers["version"] > 1 else []
+    violations = [Fraction(int(number), SCALE) for number in rows]
+    out = {key: numbers[key] for key in ["version", *REPORT_LINES]} | {"violations": violations, "margin": Fraction(numbers["margin"], 2**16)}
+    out |= {key: Fraction(numbers[key], SCALE) for key in ("violation", "gap", "undercut")}
+    return out | {"violation": max(violations)} if violations else out
 
 
 def loop_lines_of(text, states, inputs, grid):

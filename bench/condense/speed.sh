@@ -53,6 +53,7 @@ fn list(alloc: Global, len: usize, number: i128) -> Result<Vec<i128>, AllocError
 
 fn parts(alloc: Global) -> Result<DesignParts, AllocError> {
     Ok(DesignParts {
+        version: 1,
         states: 4,
         inputs: 3,
         stages: 20,

@@ -3,12 +3,13 @@
 exact ones is above 2^126.
 
     exponents.py            prints what the tests of `hessian_check` expect
-    exponents.py DESIGN     prints the exponents of a design text
+    exponents.py DESIGN     prints the exponents of a design text, and those of its rows
 
 A program of its own: it simulates unit plans over the plant's recursion, and shares no formula with the crates.
 """
 import sys
 from math import isqrt
+from operator import mul
 
 
 def responses(d):
@@ -77,9 +78,8 @@ def root(M):
 
 def check(M, R):
     n = len(M)
-    rest = [[M[i][j] - sum(R[i][k] * R[j][k] for k in range(n)) for j in range(n)] for i in range(n)]
-    room = all(sum(abs(M[i][j]) + sum(abs(R[i][k] * R[j][k]) for k in range(n)) for j in range(n)) <= 2 ** 127 - 1
-               for i in range(n))
+    rest = [[M[i][j] - sum(map(mul, R[i], R[j])) for j in range(n)] for i in range(n)]
+    room = all(sum(abs(M[i][j]) + sum(map(abs, map(mul, R[i], R[j]))) for j in range(n)) <= 2 ** 127 - 1 for i in range(n))
     return room and dominant(rest)
 
 
@@ -185,8 +185,59 @@ def exponents(d):
     return s, s1, s2, sd
 
 
-def quantities(d, fine):
-    """`prediction`, `hessian`, `rows` and `curvature`, of the exact numbers or of enclosures."""
+class Weighed:
+    """The matrix of s of a design's class, in which each limit row counts a number of times, at first once."""
+
+    def __init__(self, d, fine):
+        exact = lambda rows: [[(x, 0) for x in row] for row in rows]
+        if fine:
+            self.half, limits, self.den = fine_hessian(d), fine_responses(d)[1], 2 ** 40
+            self.rows = [list(row) for row in zip(*limits)]
+        else:
+            Q, G, _ = condensed(d)
+            self.half, self.rows, self.den = exact(Q), exact(G), 1
+        self.of_cost, self.of_rows, self.size = d['limit_den'] ** 2, d['cost_den'] * d['row_den'] ** 2, len(self.half)
+        self.sums = [[[0, 0] for _ in range(self.size)] for _ in range(self.size)]
+        for number in range(len(self.rows)):
+            self.add(number, 1)
+
+    def add(self, number, times):
+        moved = [(j, x) for j, x in enumerate(self.rows[number]) if x != (0, 0)]
+        for i, x in moved:
+            for j, y in moved:
+                mid, rad = product(x, y)
+                self.sums[i][j][0] += times * mid
+                self.sums[i][j][1] += times * rad
+
+    def matrix(self, s):
+        """Each sum rounded once, and each diagonal entry lowered by the radii of its row."""
+        rows = [[rounded(mid, rad, self.den) for mid, rad in line] for line in self.sums]
+        combine = lambda which, sign: [[2 ** s * self.of_cost * x[which] + sign * self.of_rows * y[which] for x, y in zip(*lines)] for lines in zip(self.half, rows)]
+        mids, radii = combine(0, -1), combine(1, 1)
+        return [[x - (sum(radii[i]) if i == j else 0) for j, x in enumerate(line)] for i, line in enumerate(mids)]
+
+
+def row_exponents(d):
+    """The exponent of each limit row of a design of version 2: each in its turn is lowered from s by 1, up to 4 times and not below 0, as long as the matrix
+    with the row counted twice as often is dominant or certified. Without room for rows that count 16 times each stays s."""
+    fine, s = is_fine(d), exponents(d)[0]
+    weighed = Weighed(d, fine)
+    found = [s] * len(weighed.rows)
+    if max(quantities(d, fine, 16)) > 2 ** 126:
+        return found
+    for i in range(len(found)):
+        for e in range(s - 1, max(-1, s - 5), -1):
+            weighed.add(i, 2 ** (s - e - 1))
+            m = weighed.matrix(s)
+            if not (dominant(m) or certified(m)):
+                weighed.add(i, -2 ** (s - e - 1))
+                break
+            found[i] = e
+    return found
+
+
+def quantities(d, fine, times=1):
+    """`prediction`, `hessian`, `rows` and `curvature`, of the exact numbers or of enclosures, where each row counts so many times."""
     n, nu, N = d['states'], d['inputs'] * d['stages'], d['stages']
     size = lambda row: sum(abs(x) for x in row)
     alpha = max([d['a_den']] + [size(a) + size(b) for a, b in zip(d['A'], d['B'])])
@@ -202,7 +253,7 @@ def quantities(d, fine):
             reach = -(-alpha * reach // d['a_den']) + 3
         prediction = alpha * reach
     hessian = 2 * nu * (nu + n + 1) * Wt * (C * reach) ** 2
-    rows = (nu + n + 1) * m * (L * reach) ** 2
+    rows = times * (nu + n + 1) * m * (L * reach) ** 2
     if fine:
         hessian = max(hessian, 2 ** 86 * max(2 * sum(x[1] for x in row) for row in fine_hessian(d)))
     over = 2 ** 40 if fine else 1
@@ -255,13 +306,15 @@ ROOTS = [[[1]], [[4]], [[2 ** 62]], [[2 ** 60 - 1]], [[2 ** 116 - 1]], [[2 ** 11
 
 if __name__ == '__main__':
     if len(sys.argv) > 1:
-        print(exponents(read(sys.argv[1])))
+        design = read(sys.argv[1])
+        print(exponents(design))
+        print('rows', *row_exponents(design))
         sys.exit()
     for name, d in [('base', BASE), ('steep', dict(STEEP, stage_rows=[[0, 1400000, 1400000]])),
                     ('steeper', dict(STEEP, stage_rows=[[0, 1500000, 1500000]])), ('certified', CERTIFIED),
                     ('satellite', SATELLITE), ('wide', WIDE), ('third', THIRD), ('mixed', MIXED), ('over', OVER)]:
-        _, _, s2, sd = exponents(d)
-        print(f'{name}:', 'fine' if is_fine(d) else 'exact', answer(d), f's2 {s2} sd {sd}')
+        s, _, s2, sd = exponents(d)
+        print(f'{name}:', 'fine' if is_fine(d) else 'exact', answer(d), f's2 {s2} sd {sd}', *([] if s is None else ['rows', *row_exponents(d)]))
     for m, r in CHECKS:
         print('check', m, r, check(m, r))
     for m in ROOTS:

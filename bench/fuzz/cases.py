@@ -13,8 +13,10 @@ import program
 EXAMPLES = os.path.join(os.path.dirname(os.path.abspath(__file__)), "..", "..", "examples")
 PIECES = [b"-", b"0", b"1", b"9", b",", b" ", b"\n", b"\r", b"\r\n", b'"', b"[", b"]", b".", b"=", b"#", b"\xff", b"\x00", b"_", b"x", b"e", b"\t", b"'", b"{", b"}",
           b"\xef\xbb\xbf", b"+1", b"4294967296", b"9223372036854775808"]
-NUMBERS = [0, 0, 1, 1, 2, 3, 4, 5, 7, 8, 9, 12, 13, 16, 20, 21, 24, 25, 40, 41, 48, 49, 64, 128, 129, 252, 253, 255, 1000, 4096, 65536, 1048576, 1048577, 4194304, 4194305, 2147483647,
-           2147483648, 2**40, 2**40 + 1, 2**62, 2**63 - 1, 2**63, 2**126, 2**126 + 1, 2**127 - 1, 2**127]
+NUMBERS = [0, 0, 1, 1, 2, 3, 4, 5, 6, 7, 8, 9, 12, 13, 16, 20, 21, 24, 25, 30, 31, 40, 41, 48, 49, 64, 128, 129, 252, 253, 255, 372, 373, 1000, 4096, 65536, 1048576, 1048577, 4194304,
+           4194305, 2147483647, 2147483648, 2**40, 2**40 + 1, 2**62, 2**63 - 1, 2**63, 2**126, 2**126 + 1, 2**127 - 1, 2**127]
+# an example with a longer policy takes the model seconds
+LONG_POLICY = 1000
 
 
 def bytes_changed(pick, data):
@@ -93,7 +95,7 @@ def changed(pick, data):
 def design_text(v):
     """The text of a design's values, by their places."""
     table = lambda rows: "[" + ", ".join(f"[{', '.join(map(str, row))}]" for row in rows) + "]"
-    return f"""version = 1
+    return f"""version = {v.get("version", 1)}
 states = {v["n"]}
 inputs = {v["p"]}
 stages = {v["stages"]}
@@ -122,20 +124,28 @@ gap = {v["gap"]}
 """.encode()
 
 
+def random_sizes(pick):
+    """The version, the states, the inputs and the stages: mostly few, now and then as many as the version has."""
+    version = pick.choice([1, 2])
+    if pick.random() < 0.02:
+        return version, pick.choice([1, 2]), 1, model.STAGES[version] - pick.choice([0, 0, 1])
+    return version, pick.choice([1, 1, 2, 2, 3, 4] if version == 1 else [1, 1, 2, 2, 3, 4, 5, 6]), pick.choice([1, 1, 2, 3]), pick.choice([1, 1, 2, 3, 4])
+
+
 def random_design(pick):
     """A design of any sizes with a policy of no input, whose corners mostly stand within the limits; now and then its numbers are so large that a quantity is."""
-    n, p, stages = pick.choice([1, 1, 2, 2, 3, 4]), pick.choice([1, 1, 2, 3]), pick.choice([1, 1, 2, 3, 4])
+    version, n, p, stages = random_sizes(pick)
     den = pick.choice([1, 2, 4, 8, 10, 1000, 65536, 1048576])
     large = pick.choice([1, 1, 1, 1, 1, 10, 10**4, 2**20])
     some = lambda count, reach: [pick.randrange(-reach, reach + 1) for _ in range(count)]
     grid = pick.choice([0, 0, 1, 4, 12, 24])
     side = pick.choice([0, 1, 1, 2]) << grid
     limit_den = pick.choice([1, 1, 2, 4, 100, 65536, 1048576])
-    v = {"n": n, "p": p, "stages": stages, "den": den, "a": [some(n, max(1, den // n)) for _ in range(n)], "b": [some(p, 2 * den) for _ in range(n)],
+    v = {"version": version, "n": n, "p": p, "stages": stages, "den": den, "a": [some(n, max(1, den // n)) for _ in range(n)], "b": [some(p, 2 * den) for _ in range(n)],
          "cost_den": pick.choice([1, 1, 1, 8, 256, 1048576]), "row_den": pick.choice([1, 1, 2, 16]), "input": [pick.randrange(1, 9) * large for _ in range(p)]}
     cost = lambda: [*some(n, 3), pick.choice([0, 0, 1, -2, -large]), pick.randrange(0, 5) * large]
     reach = lambda row: sum(map(abs, row)) * max(1, side >> grid) + pick.choice([0, 1, 1, 2, limit_den, limit_den, 3 * limit_den])
-    stage_row = lambda: (lambda sigma, phi: [*sigma, *phi, reach(sigma)])(some(n, pick.choice([0, 1, 3, limit_den])), some(p, pick.choice([1, 2, limit_den])))
+    stage_row = lambda: (lambda sigma, phi: [*sigma, *phi, reach(sigma)])(some(n, pick.choice([0, 1, 3, limit_den])), some(p, pick.choice([1, 2, limit_den, 8 * limit_den])))
     final_row = lambda: (lambda sigma: [*sigma, reach(sigma)])(some(n, pick.choice([1, 3, limit_den])))
     v |= {"cost": [cost() for _ in range(pick.choice([0, 1, 2]))], "final_cost": [cost() for _ in range(pick.choice([0, 0, 1]))], "limit_den": limit_den,
           "rows": [stage_row() for _ in range(pick.choice([0, 1, 2, 3]))], "final_rows": [final_row() for _ in range(pick.choice([0, 1, 2]))], "grid": grid,
@@ -154,7 +164,7 @@ def large_design(pick):
     den, limit_den, grid = power(20), power(20), pick.choice([0, 0, 0, 0, 3, 24])
     plant = pick.choice([den, den, min(top, power(30))])
     number = lambda reach: pick.choice([-1, 1, 1]) * min(top, max(1, reach))
-    v = {"n": n, "p": p, "stages": stages, "den": den, "a": [[number(plant) if i == j else 0 for j in range(n)] for i in range(n)],
+    v = {"version": pick.choice([1, 2]), "n": n, "p": p, "stages": stages, "den": den, "a": [[number(plant) if i == j else 0 for j in range(n)] for i in range(n)],
          "b": [[number(pick.choice([plant, 1, power(30)])) for _ in range(p)] for _ in range(n)], "cost_den": power(20), "row_den": power(20),
          "input": [min(top, power(31)) for _ in range(p)], "final_cost": []}
     side = pick.choice([0, 0, 1]) << grid
@@ -165,6 +175,20 @@ def large_design(pick):
           "target_den": power(20), "violation": min(top, power(31)), "gap": min(top, power(31))}
     policy = "".join(",".join(["1", *["0"] * (p * stages)]) + "\n" for _ in range(2**n))
     return design_text(v), policy.encode()
+
+
+def greatest_design(pick):
+    """A design of the greatest sizes of its version, or nearly so: a chain of states that doesn't grow, in either class. It takes the model a minute."""
+    version, den = pick.choice([1, 2]), pick.choice([1, 4])
+    n, stages = model.STATES[version], model.STAGES[version]
+    unit = lambda at: [int(i == at) for i in range(n)]
+    v = {"version": version, "n": n, "p": 3, "stages": stages, "den": den, "a": [[den // 2 * a + b for a, b in zip(unit(i), unit(i + 1))] for i in range(n)],
+         "b": [[int(i == n - 1 - l) for l in range(3)] for i in range(n)], "cost_den": 1, "row_den": 1, "input": [pick.randrange(1, 4) for _ in range(3)],
+         "cost": [[*unit(0), 0, 1]], "final_cost": [], "limit_den": 8}
+    row = lambda: [*[pick.choice([0, 0, 1, -1]) for _ in range(n)], *[pick.choice([0, 1, -2, pick.choice([8, -8])]) for _ in range(3)], 16]
+    v |= {"rows": [row() for _ in range(12)], "final_rows": [[*[pick.choice([0, 1, -1]) for _ in range(n)], 16] for _ in range(pick.choice([12, 12, 11]))], "grid": 0, "lo": [0] * n,
+          "hi": [1] * n, "target_den": 1, "violation": 16, "gap": 16}
+    return design_text(v), ("1" + ",0" * 3 * stages + "\n").encode() * 2**n
 
 
 # ---- designs at a border
@@ -193,10 +217,14 @@ def read_over(real, dens):
     return model.read_design(design_text(over(real, dens))), plans_over(real, dens)
 
 
-def real_design(pick, lengths):
+def real_design(pick, lengths, versions):
     """Real numbers of a design and a policy; the bounds of its rows are 0."""
-    stages = pick.choice(lengths)
+    version, stages = pick.choice(versions), pick.choice(lengths)
+    if version > 1 and stages == 20:
+        stages = pick.choice([20, 25, 30])
     n, p = pick.choice([1, 1, 1, 2, 2, 3, 4] if stages < 10 else [1, 1, 2, 2, 3]), pick.choice([1, 1, 2, 3] if stages < 10 else [1, 1, 1, 2])
+    if version > 1 and stages < 5:
+        n = pick.choice([n, n, n, 5, 6])
     some = lambda count, reach: [pick.choice([0, pick.uniform(-reach, reach), pick.uniform(-reach, reach), reach]) for _ in range(count)]
     many = lambda counts, make: [make() for _ in range(pick.choice(counts))]
     cost = lambda: [*some(n, 2), pick.choice([0, 0, pick.uniform(-1, 1)]), pick.choice([0, pick.uniform(0, 4), 1, 1, 100])]
@@ -204,7 +232,7 @@ def real_design(pick, lengths):
     target_den, violation, gap = pick.choice([(4, 16, 100), (4, 16, 1), (1, 1000, 10**5), (1, 1, 1), (1, 2**31 - 1, 2**31 - 1), (2**20, 2**31 - 1, 1), (2**20, 2**24, 2**12)])
     side = pick.choice([1, 1, 1, 1, 1 / 8, 100])
     plan = pick.choice([lambda: 0, lambda: pick.uniform(-0.25, 0.25)])
-    return {"n": n, "p": p, "stages": stages, "a": [some(n, growth / n) for _ in range(n)], "b": [some(p, pick.choice([0.1, 1])) for _ in range(n)],
+    return {"version": version, "n": n, "p": p, "stages": stages, "a": [some(n, growth / n) for _ in range(n)], "b": [some(p, pick.choice([0.1, 1])) for _ in range(n)],
             "input": [pick.choice([1, pick.uniform(0.01, 8)]) for _ in range(p)], "cost": many([0, 1, 2], cost), "final_cost": many([0, 0, 1], cost),
             "rows": many([1, 1, 2, 3], lambda: [*some(n + p, steep), 0]), "final_rows": many([0, 1], lambda: [*some(n, 1), 0]),
             "lo": [pick.choice([-side, 0]) for _ in range(n)], "hi": [pick.choice([side, side, 0]) for _ in range(n)],
@@ -212,14 +240,15 @@ def real_design(pick, lengths):
 
 
 class Border:
-    """Something that a design and its policy are within or not, and what is brought to where it changes."""
+    """Something that a design and its policy are within or not, and what is brought to where it changes. How much more than it needs a row's bound may be: a long one
+    makes the numbers of the rows long."""
 
-    def __init__(self, share, lengths, knobs, is_within):
-        self.share, self.lengths, self.knobs, self.is_within = share, lengths, knobs, is_within
+    def __init__(self, share, lengths, knobs, is_within, versions=(1, 2), spare=(0, 0, 0, 1)):
+        self.share, self.lengths, self.knobs, self.is_within, self.versions, self.spare = share, lengths, knobs, is_within, versions, spare
 
 
 # the exponent that covers the squares is a ratio, and hardly depends on what the numbers are over: so one form serves the search
-within_form = lambda make: lambda real, dens: lambda d, plans, form=make(read_over(real, dens)[0]): forms.is_within_limit(d, form)
+within_form = lambda make, times=1: lambda real, dens: lambda d, plans, form=make(read_over(real, dens)[0]): forms.is_within_limit(d, form, times)
 within_corners = lambda sizes, *names: lambda real, dens: lambda d, plans: all(v <= forms.LIMIT for name, v in sizes(d, plans).items() if not names or name in names)
 SHORT, LONG = [1, 1, 2, 2, 3, 3, 4, 5, 7, 10, 20], [1, 2, 3, 5, 7, 10, 10, 14, 20, 20]
 BORDERS = [
@@ -230,6 +259,9 @@ BORDERS = [
     Border(3, LONG, ["growth"], within_corners(at_corners.fine_sizes, "prediction")),
     Border(4, LONG, ["reach", "growth", "limit_den"], within_corners(at_corners.fine_sizes, "corner_slack")),
     Border(8, LONG, ["reach", "growth", "row_den", "cost_den"], within_corners(at_corners.fine_sizes, "corner_cost")),
+    # whether exponents may be lowered
+    Border(15, SHORT, ["limit_den", "limit_den", "cost_den", "row_den", "den"], within_form(forms.exact_form, 16), [2], [0, 100, 10000, 10**6]),
+    Border(15, LONG, ["limit_den", "limit_den", "cost_den", "row_den"], within_form(forms.fine_form, 16), [2], [0, 100, 10000, 10**6]),
 ]
 # the greatest value of what is brought to a border
 MOST = {"den": 2**20, "limit_den": 2**20, "cost_den": 2**20, "row_den": 2**20, "grid": 24, "plan_den": 2**40, "growth": 2**31, "reach": 2**63}
@@ -239,7 +271,7 @@ def border_design(pick):
     """A design and a policy near a border: of exact numbers, of enclosures, or of the corners in either class. Real numbers are drawn, and then what they are over
     is chosen, or how far the plant or the plans go."""
     (border,) = pick.choices(BORDERS, [border.share for border in BORDERS])
-    real, knob = real_design(pick, border.lengths), pick.choice(border.knobs)
+    real, knob = real_design(pick, border.lengths, border.versions), pick.choice(border.knobs)
     power = lambda most: min(2**most, max(1, (1 << pick.randrange(most + 1)) + pick.choice([0, 0, -1, 1])))
     dens = {"den": power(min(20, 56 // real["stages"])) if border.lengths is SHORT else power(pick.choice([6, 16, 20, 20])), "limit_den": power(pick.choice([3, 20, 20])),
             "cost_den": power(pick.choice([3, 12, 20])), "row_den": power(pick.choice([3, 6, 20])), "grid": pick.choice([0, 0, 0, 1, 3, 24]),
@@ -251,7 +283,7 @@ def border_design(pick):
     slack, rows, stages = pick.choice([-0.1, 0, 2**-16, 2**-15, 0.01, 0.1, 0.1, 0.1, 1, 1, 1, 1, 1, 3, 3]), len(real["rows"]), real["stages"]
     for i, row in enumerate(real["rows"] + real["final_rows"]):
         own = slice(i, rows * stages, rows) if i < rows else slice(rows * (stages - 1) + i, rows * (stages - 1) + i + 1)
-        row[-1] = float(max(max(r[own]) for r in residuals)) + slack + pick.choice([0, 0, 0, 1])
+        row[-1] = float(max(max(r[own]) for r in residuals)) + slack + pick.choice(border.spare)
     is_within = border.is_within(real, dens)
     low, high = 0, MOST[knob]
     while low < high:
@@ -269,19 +301,48 @@ def examples():
             yield tuple(open(text, "rb").read() for text in texts)
 
 
+def size_changed(pick, data):
+    """The version or one of the sizes is made another, near the greatest of either version."""
+    key, numbers = pick.choice([(b"version", [0, 1, 2, 2, 2, 3]), (b"states", [4, 5, 6, 7]), (b"stages", [20, 21, 30, 31]), (b"inputs", [3, 4])])
+    return re.sub(rb"(?m)^" + key + rb" = [0-9]+$", key + b" = %d" % pick.choice(numbers), data)
+
+
+def example(pick, base):
+    """One of the examples, which are of the first version but for the largest; half of the others are made of the second, mostly with a step exponent that is 4 more."""
+    design, policy = pick.choices(base, [1 if len(policy) < LONG_POLICY else 0.02 for _, policy in base])[0]
+    if len(policy) >= LONG_POLICY or pick.random() < 0.5:
+        return design, policy
+    second = in_version(2, design)
+    return lighter(second, 16) if pick.random() < 0.7 else second, policy
+
+
+def in_version(version, design):
+    return re.sub(rb"(?m)^version = [0-9]+$", b"version = %d" % version, design)
+
+
+def lighter(design, times):
+    """All weights divided by a number."""
+    return re.sub(rb"(\[cost\]\nden = )([0-9]+)", lambda it: it[1] + b"%d" % (times * int(it[2])), design)
+
+
 def design_and_policy(pick, base):
     how = pick.random()
+    if how < 0.0005:
+        return greatest_design(pick)
     if how < 0.45:
-        design, policy = pick.choice(base)
+        design, policy = example(pick, base)
     elif how < 0.55:
         design, policy, _ = program.make(pick.randrange(2**32), pick.choice([1, 1, 2]))
+        design = in_version(pick.choice([1, 2]), design)
     elif how < 0.7:
         return large_design(pick)
     else:
         design, policy = random_design(pick)
         if pick.random() < 0.6:
             return design, policy
-    if pick.random() < 0.65:
+    if pick.random() < 0.1:
+        design = size_changed(pick, design)
+    elif pick.random() < 0.65:
         design = changed(pick, design)
     else:
         policy = changed(pick, policy)
@@ -294,8 +355,8 @@ def design_and_policy(pick, base):
 
 
 def small_controllers(base):
-    """Controllers of designs whose targets are so coarse that a run has few steps, each as it is made and with an exponent for each row."""
-    for design, policy in [*base, *(program.make(number, stages)[:2] for number, stages in ((1, 1), (7, 2), (9, 1)))]:
+    """Controllers of designs whose targets are so coarse that a run has few steps: of both versions, and with other exponents."""
+    for design, policy in [*(it for it in base if len(it[1]) < LONG_POLICY), *(program.make(number, stages)[:2] for number, stages in ((1, 1), (7, 2), (9, 1)))]:
         coarse = re.sub(rb"violation = [0-9]+\ngap = [0-9]+", b"violation = 2147483647\ngap = 2147483647", re.sub(rb"(targets\]\nden = )[0-9]+", rb"\g<1>1", design))
         for text in (design, coarse):
             try:
@@ -304,10 +365,12 @@ def small_controllers(base):
             except model.Refused:
                 continue
             if choice.report["steps"] <= 64:
-                c = program.generate(d, model.read_policy(policy, d), model.exact_gains)[0]
-                yield text, control.text_of(c)
-                c.version, c.exps = 2, [max(0, c.s - i % 5) for i in range(c.m)]
-                yield text, control.text_of(c)
+                for version in (1, 2):
+                    d = model.read_design(in_version(version, text))
+                    c = program.generate(d, model.read_policy(policy, d), model.exact_gains)[0]
+                    yield in_version(version, text), control.text_of(c)
+                c.exps = [max(0, c.s - i % 5) for i in range(c.m)]
+                yield in_version(2, text), control.text_of(c)
                 break
 
 
@@ -393,11 +456,13 @@ def design_beside(pick, c):
     """A design of any plant with a controller's sizes and grid, or one of them another."""
     n, p, g = c.n, c.p, c.g
     if pick.random() < 0.15:
-        n, p, g = pick.choice([(n % 4 + 1, p, g), (n, p % 3 + 1, g), (n, p, pick.choice([0, 1, 24])), (n % 4 + 1, p % 3 + 1, g + 1 if g < 24 else 0)])
+        other = n % model.STATES[c.version] + 1
+        n, p, g = pick.choice([(other, p, g), (n, p % 3 + 1, g), (n, p, pick.choice([0, 1, 24])), (other, p % 3 + 1, g + 1 if g < 24 else 0)])
+    version = 2 if n > 4 and pick.random() < 0.9 else pick.choice([1, 2])
     is_wide = control.greatest_sum(c) > 2**92
     reach = 2**31 - 1 if is_wide and pick.random() < 0.8 else pick.choice([1, 2, 9, 1000, 2**31 - 1])
     some = lambda count: [pick.randrange(-reach, reach + 1) for _ in range(count)]
-    v = {"n": n, "p": p, "stages": pick.randrange(1, 21), "den": pick.choice([1, 2, 3, 7, 1000, 1048575, 1048576]), "a": [some(n) for _ in range(n)],
+    v = {"version": version, "n": n, "p": p, "stages": pick.randrange(1, model.STAGES[version] + 1), "den": pick.choice([1, 2, 3, 7, 1000, 1048575, 1048576]), "a": [some(n) for _ in range(n)],
          "b": [some(p) for _ in range(n)], "cost_den": 1, "row_den": 1, "input": [1] * p, "cost": [], "final_cost": [], "limit_den": 1, "rows": [[0] * (n + p) + [1]],
          "final_rows": [], "grid": g, "lo": [0] * n, "hi": [0] * n, "target_den": 1, "violation": 1, "gap": 1}
     return design_text(v)

@@ -5,6 +5,7 @@ radius is left. Enclosures are over 2^40 and rounded, for designs whose exact nu
 """
 from dataclasses import dataclass
 from fractions import Fraction
+from itertools import combinations_with_replacement
 from operator import mul
 from typing import NamedTuple
 
@@ -46,11 +47,16 @@ def combined(factors, xs, den=1):
     return divided(sum(c * x.mid for c, x in zip(factors, xs)), sum(abs(c) * x.rad for c, x in zip(factors, xs)), den)
 
 
-def product(weights, xs, ys, den):
-    """The sum of the weighted products, over den."""
+def products(weights, xs, ys):
+    """The sum of the weighted products, and of what their radii make of it; nothing is rounded."""
     mid = sum(w * x.mid * y.mid for w, x, y in zip(weights, xs, ys))
     rad = sum(w * (abs(x.mid) * y.rad + x.rad * abs(y.mid) + x.rad * y.rad) for w, x, y in zip(weights, xs, ys) if x.rad or y.rad)
-    return divided(mid, rad, den)
+    return mid, rad
+
+
+def product(weights, xs, ys, den):
+    """The same, over den."""
+    return divided(*products(weights, xs, ys), den)
 
 
 def gram(weights, columns, count, den):
@@ -64,8 +70,7 @@ def gram(weights, columns, count, den):
 
 @dataclass
 class Form:
-    """q (half the hessian), f and h0 are over hess_den; g, e and b over row_den; gram has the products of the columns of g, over row_den^2 / den. A row of g times
-    row_factor is over what limit_den times the hessian is over."""
+    """q (half the hessian), f and h0 are over hess_den; g, e and b over row_den. A row of g times row_factor is over what limit_den times the hessian is over."""
 
     is_fine: bool
     q: list
@@ -74,7 +79,6 @@ class Form:
     g: list
     e: list
     b: list
-    gram: list
     hess_den: int
     row_den: int
     row_factor: int
@@ -123,7 +127,6 @@ def condense(d, unit, den):
         side_by_side(rows[:nu]),
         side_by_side(rows[nu:]),
         [unit * row[-1] for row in d.stage_rows * d.stages + d.final_rows],
-        gram([1] * d.rows, rows[:nu], nu, den),
         d.cost_den * scale,
         d.limit_den * unit,
         d.cost_den * d.row_den**2 * unit // den,
@@ -136,6 +139,27 @@ def exact_form(d):
 
 def fine_form(d):
     return condense(d, FINE, FINE)
+
+
+class RowProducts:
+    """The products of the columns of a form's rows, over row_den^2 / den, where each row counts a number of times, at first once."""
+
+    def __init__(self, form):
+        self.rows, self.size, self.den = form.g, len(form.q), FINE if form.is_fine else 1
+        columns, once = list(zip(*form.g)), [1] * len(form.g)
+        self.found = {(i, j): products(once, columns[i], columns[j]) for i, j in combinations_with_replacement(range(self.size), 2)}
+
+    def count(self, number, times):
+        """Counts a row so many times more, or less."""
+        row = self.rows[number]
+        for i, j in combinations_with_replacement([j for j, v in enumerate(row) if v.far], 2):
+            mid, rad = products([times], [row[i]], [row[j]])
+            self.found[i, j] = self.found[i, j][0] + mid, self.found[i, j][1] + rad
+
+    def matrix(self):
+        """Each sum rounded once."""
+        rounded = {(i, j): divided(*parts, self.den) for (i, j), parts in self.found.items()}
+        return [[rounded[min(i, j), max(i, j)] for j in range(self.size)] for i in range(self.size)]
 
 
 # ---- the quantities
@@ -156,15 +180,15 @@ def reached(d, first):
     return first
 
 
-def sizes(d, form):
-    """The quantities of condensing, in the order in which they are tested."""
+def sizes(d, form, times=1):
+    """The quantities of condensing, in the order in which they are tested, where each row counts so many times."""
     nu, width = d.entries, d.entries + d.states + 1
     reach = prediction = d.growth**d.stages
     if form.is_fine:
         reach = reached(d, FINE)
         prediction = d.growth * reach
     hessian = 2 * nu * width * d.weights * (d.cost_width * reach) ** 2
-    rows = width * d.rows * (d.limit_width * reach) ** 2
+    rows = times * width * d.rows * (d.limit_width * reach) ** 2
     numbers = hessian, rows
     if form.is_fine:
         hessian = max(hessian, 2**86 * form.hess_rad)
@@ -173,8 +197,13 @@ def sizes(d, form):
     return {"prediction": prediction, "hessian": hessian, "rows": rows, "curvature": curvature}
 
 
-def is_within_limit(d, form):
-    return max(sizes(d, form).values()) <= LIMIT
+def is_within_limit(d, form, times=1):
+    return max(sizes(d, form, times).values()) <= LIMIT
+
+
+def has_lowering_room(d, form):
+    """Whether the sizes of an accepted design leave room for rows that count up to 16 times, as those do whose exponents are 4 below the greatest."""
+    return is_within_limit(d, form, 16)
 
 
 # ---- beside a simulated plant

@@ -20,6 +20,10 @@ sys.set_int_max_str_digits(0)
 csv.field_size_limit(2**31 - 1)
 
 NUMERATOR = 2**31 - 1
+# the greatest states and stages of each version
+STATES, STAGES = {1: 4, 2: 6}, {1: 20, 2: 30}
+# by how much the exponent of a row is lowered at most
+LOWERED = 4
 TABLES = ["plant", "cost", "limits", "box", "targets"]
 KEYS = {
     "": ["version", "states", "inputs", "stages"],
@@ -93,8 +97,8 @@ def read_design(data):
     def numerators(place, rows):
         need(all(abs(v) <= NUMERATOR for r in rows for v in r), "range", place)
 
-    number(1, 1, 1)
-    n, p, stages = number(2, 1, 4), number(3, 1, 3), number(4, 1, 20)
+    version = number(1, 1, 2)
+    n, p, stages = number(2, 1, STATES[version]), number(3, 1, 3), number(4, 1, STAGES[version])
     number(5, 1, 2**20)
     a, b = values[5], values[6]
     need(is_table(a, n, n, n), "shape", 6)
@@ -162,7 +166,7 @@ def read_policy(data, design):
 
 class Design:
     def __init__(self, v):
-        _, self.states, self.inputs, self.stages, self.plant_den, self.a, self.b = v[:7]
+        self.version, self.states, self.inputs, self.stages, self.plant_den, self.a, self.b = v[:7]
         self.cost_den, self.row_den, self.input_weights, self.stage_cost, self.final_cost = v[7:12]
         self.limit_den, self.stage_rows, self.final_rows, self.grid, self.lo, self.hi = v[12:18]
         self.target_den, self.violation, self.gap = v[18:]
@@ -234,23 +238,50 @@ def has_certificate(m):
     return is_dominant([[b[i][j] - sum(root[i][k] * root[j][k] for k in size) for j in size] for i in size])
 
 
-def step_exponent(d, form):
-    """The step exponent, or the status 7."""
-    of_cost, of_rows = d.limit_den**2, d.cost_den * d.row_den**2
+class StepMatrices:
+    """What exponents leave of the curvature over the squares of the rows."""
 
-    def gap(s):
-        """What the exponent leaves of the curvature over the squares of the rows; each diagonal entry is lowered by the radii of its row."""
-        left = [[2**s * of_cost * q.mid - of_rows * v.mid for q, v in zip(*rows)] for rows in zip(form.q, form.gram)]
-        for i, rows in enumerate(zip(form.q, form.gram)):
-            left[i][i] -= sum(2**s * of_cost * q.rad + of_rows * v.rad for q, v in zip(*rows))
+    def __init__(self, d, form):
+        self.of_cost, self.of_rows, self.half, self.products = d.limit_den**2, d.cost_den * d.row_den**2, form.q, forms.RowProducts(form)
+
+    def at(self, s):
+        """The matrix of s, with each row as often as it counts; each diagonal entry is lowered by the radii of its row."""
+        products = self.products.matrix()
+        left = [[2**s * self.of_cost * q.mid - self.of_rows * v.mid for q, v in zip(*rows)] for rows in zip(self.half, products)]
+        for i, rows in enumerate(zip(self.half, products)):
+            left[i][i] -= sum(2**s * self.of_cost * q.rad + self.of_rows * v.rad for q, v in zip(*rows))
         return left
 
+
+def step_exponent(d, form, matrices):
+    """The step exponent, or the status 7."""
     by_squares = forms.squares_exponent(d, form)
-    plain = next((s for s in range(min(by_squares, 40) + 1) if is_dominant(gap(s))), by_squares)
+    plain = next((s for s in range(min(by_squares, 40) + 1) if is_dominant(matrices.at(s))), by_squares)
     plain = min(plain, by_squares)
     if plain > 40:
         raise Refused(7)
-    return next((s for s in range(plain) if has_certificate(gap(s))), plain)
+    return next((s for s in range(plain) if has_certificate(matrices.at(s))), plain)
+
+
+def is_accepted(m):
+    return is_dominant(m) or has_certificate(m)
+
+
+def row_exponents(d, form, matrices, s):
+    """The exponent of each row. In version 2 each in its turn is lowered from s, 1 at a time, as long as the matrix is accepted in which a row counts 2^(s - its own)
+    times; where the sizes have no room for that, none is."""
+    exponents = [s] * d.rows
+    if d.version == 1 or not forms.has_lowering_room(d, form):
+        return exponents
+    for row in range(d.rows):
+        while exponents[row] > max(0, s - LOWERED):
+            times = 2 ** (s - exponents[row])
+            matrices.products.count(row, times)
+            if not is_accepted(matrices.at(s)):
+                matrices.products.count(row, -times)
+                break
+            exponents[row] -= 1
+    return exponents
 
 
 # ---- the whole
@@ -356,6 +387,7 @@ class Choice:
 
     design: Design
     report: dict
+    exponents: list
     clamp: int
     rows: list
     states: list
@@ -367,11 +399,12 @@ class Choice:
     errors: Errors
 
     def printed(self, solutions, magnitude):
-        """The three bounds that are printed, by the residuals that these gains leave; a plan entry of theirs is at most `magnitude` over 2^bits."""
-        r, k, f = self.report["multiplier"], self.report["steps"], self.report["bits"]
+        """The bounds that are printed, by the residuals that these gains leave: the violations are of each row. A plan entry of theirs is at most `magnitude` over
+        2^bits."""
+        r, k, f, s = (self.report[key] for key in ("multiplier", "steps", "bits", "step"))
         cost = self.errors.real(self, solutions, magnitude, f)
-        violation = ceil_div(2 ** (self.report["step"] + 41) * r, k) + ceil_div(cost, r)
-        return {"violation": violation, "gap": cost, "undercut": r * violation}
+        of = lambda exponent: ceil_div((2**exponent + 2**s) * 2**40 * r, k) + ceil_div(cost, r)
+        return {"violation": of(s), "violations": list(map(of, self.exponents)), "gap": cost, "undercut": r * of(s)}
 
 
 def choose(d, plans):
@@ -383,7 +416,8 @@ def choose(d, plans):
     form = form_of(d)
     for name, size in forms.sizes(d, form).items():
         limited(size, name)
-    s = step_exponent(d, form)
+    matrices = StepMatrices(d, form)
+    s = step_exponent(d, form, matrices)
     half, gap_target = 2**39 * d.violation // d.target_den, 2**40 * d.gap // d.target_den
     k = ceil_div(2 ** (s + 41) * r, half)
     if k > 2**22:
@@ -408,7 +442,8 @@ def choose(d, plans):
     row_sums = [sum(map(abs, row)) * plan + forms.dot(map(abs, state), reaches) + 2**f * abs(limit) for row, state, limit in zip(rows, states, limits)]
     greatest = limited(max(reaches + [entry, k * plan] + row_sums + [clamp + ceil_div(v, 2**f) for v in row_sums]), "width")
     report = {"margin": margin, "cost": cost, "multiplier": r, "step": s, "steps": k, "bits": f, "words": n + m + 2 * nu}
-    return Choice(d, report, clamp, rows, states, limits, matrix, columns, bounds, greatest, errors)
+    exponents = row_exponents(d, form, matrices, s)
+    return Choice(d, report, exponents, clamp, rows, states, limits, matrix, columns, bounds, greatest, errors)
 
 
 def why_no_gains(choice, solutions):

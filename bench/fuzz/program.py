@@ -6,6 +6,7 @@
 The one thing that isn't determined is which good solutions a design's gains are. So `answer` is told them by `gains`, a function of the choice; run as a
 program, it takes its own. Everything else is exact: the status, its line on standard error, standard output, and what each file holds.
 """
+import json
 import os
 import sys
 from dataclasses import dataclass, field
@@ -45,14 +46,19 @@ def decimal(word, most):
 
 
 def report_text(b):
-    rows = [("mpc-report", 1), ("margin", b["margin"], 65536), ("cost", b["cost"]), ("multiplier", b["multiplier"]), ("step", b["step"]), ("steps", b["steps"]),
-            ("bits", b["bits"]), ("width", b["width"]), ("words", b["words"]), ("violation", b["violation"], OVER), ("gap", b["gap"], OVER),
-            ("undercut", b["undercut"], OVER), ("end",)]
+    violations = [("violation", b["violation"], OVER)]
+    if b["version"] > 1:
+        violations = [("violation", row, value, OVER) for row, value in enumerate(b["violations"], 1)]
+    rows = [("mpc-report", b["version"]), ("margin", b["margin"], 65536), ("cost", b["cost"]), ("multiplier", b["multiplier"]), ("step", b["step"]), ("steps", b["steps"]),
+            ("bits", b["bits"]), ("width", b["width"]), ("words", b["words"]), *violations, ("gap", b["gap"], OVER), ("undercut", b["undercut"], OVER), ("end",)]
     return "".join(" ".join(map(str, row)) + "\n" for row in rows).encode()
 
 
 def report_json(b):
-    return ("{" + ",".join(f'"{key}":"{value}"' for key, value in sorted({**b, "version": 1}.items())) + "}\n").encode()
+    told = {key: str(value) for key, value in b.items() if key != "violations"}
+    if b["version"] > 1:
+        told["violations"] = [str(value) for value in b["violations"]]
+    return (json.dumps(told, sort_keys=True, separators=(",", ":")) + "\n").encode()
 
 
 def make(number, stages):
@@ -102,9 +108,9 @@ def generate(d, plans, gains):
     columns, n, r = gains(choice), d.states, choice.report
     side_by_side = lambda some: [list(row) for row in zip(*some)]
     c = control.Controller(n, d.inputs, d.stages, d.rows, r["bits"], d.grid, r["step"], 2, r["steps"], choice.clamp, list(d.lo), list(d.hi),
-                           side_by_side(columns[:n]), list(columns[n]), side_by_side(columns[n + 1 :]), choice.rows, choice.states, choice.bounds)
+                           side_by_side(columns[:n]), list(columns[n]), side_by_side(columns[n + 1 :]), choice.rows, choice.states, choice.bounds, d.version, choice.exponents)
     c.w = control.least_width(c)
-    return c, {**r, **choice.printed(columns, control.greatest_entry(c)), "width": c.w}
+    return c, {"version": d.version, **r, **choice.printed(columns, control.greatest_entry(c)), "width": c.w}
 
 
 class Program:
@@ -115,6 +121,8 @@ class Program:
         self.words, self.read, self.write, self.gains, self.run = words, read, write, gains, run
         self.answer = Answer()
         self.put = put or self.answer.out.append
+        # the controller that `generate` made
+        self.made = None
 
     def text(self, file, reader):
         """What the reader makes of the file at this place among the words."""
@@ -151,6 +159,7 @@ class Program:
         d = self.text(1, model.read_design)
         plans = self.text(2, lambda data: model.read_policy(data, d))
         c, b = generate(d, plans, self.gains)
+        self.made = c
         told = report_json if self.words[4].endswith(".json") else report_text
         for file, data in ((3, control.text_of(c)), (4, told(b))):
             if not self.write(self.words[file]):

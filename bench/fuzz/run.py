@@ -8,9 +8,10 @@ determined: they are taken from the controller that the program wrote, once they
 product and partial sum traced, and all must fit its width; but a run of many steps of a controller that isn't of the kind `controller` only has its sums compared.
 
 A case is made of the seed and its number alone. --case runs one again and shows it; --kind makes all cases of that kind: generate, border, solve, controller, loop,
-demo, usage. A border design's exact numbers, its enclosures, or the corners of its policy in either class, pass the limit by little or stay below it by little. Of
-each, the model's exact numbers must be the simulated plant's, its enclosures must hold them, no corner may have less slack or a greater cost than its enclosures show,
-and both classes are counted beside the status.
+demo, usage. Half of the designs are of version 2; how many of these were accepted, and how many of them have a row with a smaller exponent, the last line says. A border
+design's exact numbers, its enclosures, the corners of its policy in either class, or what its rows come to where they count 16 times, pass the limit by little or stay
+below it by little. Of each, the model's exact numbers must be the simulated plant's, its enclosures must hold them, no corner may have less slack or a greater cost than
+its enclosures show, and both classes are counted beside the status, and whether a design of version 2 has room for smaller exponents.
 Two sorts of case are counted apart. A design that TOML 1.1 reads and Python's reader (1.0) doesn't must still end with a status of generate. Where a run would be
 too long for the model, its status, its line and the number of lines are compared, and not the sums.
 """
@@ -36,6 +37,8 @@ KINDS = ["generate"] * 30 + ["border"] * 4 + ["solve"] * 26 + ["controller"] * 1
 DEMO_EVERY = 2500
 # the most products that the model makes in a case, and the most in a run whose every value it traces
 MOST_PRODUCTS, MOST_TRACED = 3_000_000, 60_000
+SECOND = "a design of version 2, accepted"
+LOWERED = SECOND + ", with a row whose exponent is below the greatest"
 
 
 class TooLong(Exception):
@@ -189,9 +192,10 @@ class Runner:
             d = model.read_design(case.files["d"])
             plans = model.read_policy(case.files["p"], d)
             wrong = "; ".join(filter(None, [wrong, forms.fault(d), at_corners.fault(d, plans)])) or None
-            told = lambda is_fine: "fine" if is_fine else "exact"
-            classes = f"{told(model.form_of(d).is_fine)} numbers, {told(at_corners.are_fine(d, plans))} corners"
-            notes = [*notes, f"a border design, {classes}, {ending(ran.stderr)}"]
+            told, form = lambda is_fine: "fine" if is_fine else "exact", model.form_of(d)
+            classes = f"{told(form.is_fine)} numbers, {told(at_corners.are_fine(d, plans))} corners"
+            room = "" if SECOND not in notes else ", which has room for smaller exponents" if forms.has_lowering_room(d, form) else ", which has no room for smaller exponents"
+            notes = [*notes, f"a border design, {classes}, {ending(ran.stderr)}{room}"]
         return wrong, status, notes
 
     def compare(self, case, ran, left, read, write, gains):
@@ -221,6 +225,8 @@ class Runner:
             return str(why), ran.returncode, notes
         if case.kind == "controller" and said.status != 11:
             notes.append("a random controller that is accepted")
+        if told.made and told.made.version == 2:
+            notes += [SECOND, LOWERED] if min(told.made.exps) < told.made.s else [SECOND]
         if said.line.endswith(b"not-toml\n") and not ran.stderr.endswith(b"not-toml\n"):
             well = ran.returncode in (0, 3, 5, 6, 7, 8, 9, 10, 11, 12, 13, 14)
             return None if well else f"status {ran.returncode}", ran.returncode, ["read by TOML 1.1 alone"]
@@ -369,7 +375,7 @@ def run_all(options):
         print(f"  {kind}: " + ", ".join(f"{count} of status {status}" for status, count in found))
     for what, count in sorted(apart.items()):
         print(f"  {count} cases: {what}")
-    print(f"{done - len(wrong)} as the model says, {len(wrong)} not")
+    print(f"{done - len(wrong)} as the model says, {len(wrong)} not; {apart[SECOND]} designs of version 2 were accepted, {apart[LOWERED]} of them with a row whose exponent is lowered")
     return 1 if wrong or done != options.cases else 0
 
 

@@ -245,6 +245,80 @@ def version_rows():
     yield "version 2: a loop", put(["loop", "d", "c", "s", "2"], {"d": BASE, "c": second("1 1 0"), "s": "1"}, "1 1 1 4096 -2372\n1 2 0 4096 0\n")
 
 
+def in_second(text):
+    """A design of version 2."""
+    return sub(text, ("version = 1", "version = 2"))
+
+
+def violations(*numbers):
+    return [f"violation {row} {number} 1099511627776" for row, number in enumerate(numbers, 1)]
+
+
+def second_rows():
+    """Rows of designs of version 2, as those above: the exponents of the rows by hand where the plan has one entry or no stage moves another, the bounds by the model."""
+    base, rolled = in_second(BASE), sub(FIRST, ("mpc-controller 1", "mpc-controller 2"), ("words 6\n", "words 6\nexps 0 1 1\n"))
+    bounds = violations(6651831648256, 8850854903808, 8850854903808)
+    report = sub(REPORT, ("mpc-report 1", "mpc-report 2"), ("violation 8850854903808 1099511627776", "\n".join(bounds)))
+    told = sub(JSON, ('"version":"1"', '"version":"2"'), ('"violation":"8850854903808"', '"violation":"8850854903808","violations":["6651831648256","8850854903808","8850854903808"]'))
+    yield "version 2: first design", (GENERATE, {"d": base, "p": POLICY}, 0, "", "", {"c": rolled, "r": report}, {})
+    yield "version 2: first design, JSON", (["generate", "d", "p", "c", "r.json"], {"d": base, "p": POLICY}, 0, "", "", {"c": rolled, "r.json": told}, {})
+    yield "version 2: a box of one point", (GENERATE, {"d": sub(base, ("lo = [0]", "lo = [1]")), "p": "8,-7\n8,-7\n"}, 0, "", "", {"c": sub(rolled, ("lo 0\n", "lo 1\n")), "r": report}, {})
+    yield "version 2: finer targets", written(sub(base, targets(10, 1, 10)), POLICY, c=["exps 0 1 1", "clamp 65536"], r=[
+        "mpc-report 2", "steps 641", "bits 11", "width 28", *violations(68548040695, 82270494708, 82270494708), "gap 219045429248 1099511627776", "undercut 658163957664 1099511627776"])
+    # 2^8 * 32 is 3822 above the squares, 4370: there is no room for 4096 more, there is for 256 + 512 + 1024, and then for 15 times 16, 1 and 1: 4 is the most
+    flat = sub(base, limits(4, [[0, 64, 64], [0, -16, 64], [0, 4, 64], [0, 1, 64]], [[1, 9]]), targets(1, 1024, 1))
+    found = [563293685022720, 317003080400896, *[299410894356480] * 3]
+    yield "version 2: rows of several slopes", written(flat, "1,0\n1,0\n", c=["bits 8 0 8 29", "clamp 131072", "exps 8 5 4 4 4"], r=[
+        "step 8", "steps 1", "words 8", *violations(*found), "gap 343731601408 1099511627776", "undercut 563293685022720 1099511627776"])
+    listed = ",".join(f'"{number}"' for number in found)
+    yield "version 2: rows of several slopes, JSON", (["generate", "d", "p", "c", ".json"], {"d": flat, "p": "1,0\n1,0\n"}, 0, "", "", {
+        ".json": '{"bits":"8","cost":"1","gap":"343731601408","margin":"131072","multiplier":"1","step":"8","steps":"1","undercut":"563293685022720","version":"2",'
+        f'"violation":"563293685022720","violations":[{listed}],"width":"29","words":"8"}}\n'}, {"c": ["exps 8 5 4 4 4"]})
+    yield "version 2: the steepest rows", written(in_second(steep(1400000)), "1,0\n1,0\n", c=["exps 40"], r=["step 40", *violations(576461119307644930)])
+    yield "version 2: steeper rows", refused(GENERATE, {"d": in_second(steep(1500000)), "p": "1,0\n1,0\n"}, 7, "curvature")
+    yield "version 2: too many steps", refused(GENERATE, {"d": sub(base, targets(131072, 1, 131072)), "p": POLICY}, 8, "too-many-steps 8388608")
+    yield "version 2: a certificate", written(sub(base, ("stages = 1\n", "stages = 2\n"), ("a = [[1]]", "a = [[2]]"), ("stage = [[1, 0, 1]]", "stage = []"), ("final = []", "final = [[1, 0, 100]]"), (
+        LIMITS, "den = 1\nstage = [[0, 1, 1], [0, 1, 2], [0, -1, 1]]\nfinal = []\n"), targets(1, 16, 16)), "1,0,0\n1,0,0\n", c=["exps 0 1 2 2 2 2"], r=[
+        "step 2", "steps 1600", "bits 24", *violations(5502100777010, 6601612404786, *[8800635660338] * 4), "gap 7268221007146 1099511627776"])
+    # beside the report of version 1: (2^0 + 2^1) 2^40 R / K in place of 2^42 R / K
+    yield "version 2: one axis of a satellite", written(in_second(AXIS), COAST, c=["exps 1 1 0 0 0 0" + 28 * " 1"], r=[
+        "step 1", "steps 20352", "bits 28", *violations(*[34845909021] * 2, *[26255974429] * 4, *[34845909021] * 28), "gap 77301133813 1099511627776", "undercut 5540499534339 1099511627776"])
+    unit = lambda *at: [int(i in at) for i in range(6)]
+    six = sub(base, ("states = 1", "states = 6"), ("a = [[1]]\nb = [[1]]", f"a = {[unit(i) for i in range(6)]}\nb = [[1], [2], [0], [1], [0], [-1]]"), costs(1, 1, 1, [[*unit(0, 3), 0, 1]]), limits(
+        4, [[*unit(), 4, 16], [*unit(), -1, 16]], [[*unit(0, 1), 16], [0, 0, 0, 0, 2, 8, 64]]), ("lo = [0]\nhi = [1]", f"lo = {unit()}\nhi = {[1] * 6}"))
+    yield "version 2: six states", written(six, 64 * "1,0\n", c=["size 6 1 1 4", "exps 0 0 0 1", "P 102 0 0 102 0 0", "W 26 -6 19 -51", "E 0 0 0 0 128 512"], r=[
+        "margin 229376 65536", "cost 4", "multiplier 2", "step 1", "steps 1", "bits 8", "words 12", *violations(*[6821498585088] * 3, 9020521840640), "gap 448857636864 1099511627776"])
+    yield "version 2: 63 corners of six states", refused(GENERATE, {"d": six, "p": 63 * "1,0\n"}, 5, "text 2 count 63")
+    yield "version 1: six states", refused(GENERATE, {"d": sub(six, ("version = 2", "version = 1")), "p": 64 * "1,0\n"}, 5, "text 1 range 2")
+    # no input moves the state, so each stage is by itself, and the final rows cost nothing
+    most = sub(base, ("stages = 1\n", "stages = 30\n"), ("b = [[1]]", "b = [[0]]"), costs(1, 1, 3, []), limits(4, 3 * [[0, 8, 8], [0, -4, 8], [0, 2, 8], [0, 1, 8]], 12 * [[4, 5]]))
+    yield "version 2: the most stages and rows", written(most, 2 * ("1" + 30 * ",0" + "\n"), c=["size 1 1 30 372", "exps" + 30 * " 2 1 1 1 3 3 3 2 3 3 3 2" + 12 * " 0"], r=[
+        "step 3", "steps 2", "bits 21", "words 433", *violations(6621254127165, 5521742499389), "violation 372 4971986685501 1099511627776"])
+    # with this bound and the next one `curvature` is below and above 2^126 where the rows count 16 times
+    wide = ("den = 1\na = [[1]]\nb = [[1]]", "den = 1048576\na = [[1048576]]\nb = [[1048576]]")
+    for bound, exponents, found in ((1431655763, "3 2 2", (9622874226688, *[7423850971136] * 2)), (1431655764, "3 3 3", [9622874226688] * 3)):
+        yield f"version 2: room for lower exponents, a bound of {bound}", written(sub(base, wide, costs(1, 256, 1, []), limits(1, [[0, 2, bound], [0, 1, 4], [0, -1, 4]])), "1,0\n1,0\n", c=[
+            f"exps {exponents}"], r=["step 3", "steps 2", "bits 5", *violations(*found), "undercut 9622874226688 1099511627776"])
+    # and of enclosures `rows`
+    for bound, exponents, flatter in ((524285, "3 1 3 1", 5669491048448), (524286, "3 3 3 3", 8968025931776)):
+        half = plant_over(2, 1048576, 524288, 524288)
+        yield f"version 2, fine: room for lower exponents, a bound of {bound}", written(sub(base, *half, costs(1, 1024, 1, []), limits(1, [[0, 2, bound], [0, 1, 4]])), 2 * "1,0,0\n", c=[
+            f"exps {exponents}"], r=["step 3", "steps 2", "bits 8", *violations(*2 * (8968025931776, flatter)), "gap 171932909568 1099511627776"])
+    for controller in (rolled, FIRST):
+        yield f"a loop with a design of version 2 and {controller[:16]}", put(["loop", "d", "c", "s", "2"], {"d": base, "c": controller, "s": "1"}, "1 1 1 4096 -2224\n1 2 0 4096 0\n")
+    yield "a loop of six states and one", refused(["loop", "d", "c", "s", "1"], {"d": six, "c": FIRST, "s": "1"}, 14, "mismatch states 6 1")
+    lasts = lambda version, stages: sub(BASE, ("version = 1", f"version = {version}"), ("stages = 1\n", f"stages = {stages}\n"))
+    has = lambda version, states: sub(BASE, ("version = 1", f"version = {version}"), ("states = 1", f"states = {states}"))
+    for what, design, fault in (
+        ("version 0", has(0, 1), "1 range 1"), ("version 3", has(3, 9), "1 range 1"), ("version 2.0", has("2.0", 1), "1 shape 1"), ("version 2 as a word", has('"2"', 1), "1 shape 1"),
+        ("5 states, version 1", has(1, 5), "1 range 2"), ("5 states, version 2", has(2, 5), "1 shape 6"), ("7 states, version 2", has(2, 7), "1 range 2"), ("no state, version 2", has(2, 0), "1 range 2"),
+        # the policy is no longer of the design's size
+        ("21 stages, version 1", lasts(1, 21), "1 range 4"), ("21 stages, version 2", lasts(2, 21), "2 fields 1"), ("30 stages, version 2", lasts(2, 30), "2 fields 1"),
+        ("31 stages, version 2", lasts(2, 31), "1 range 4"), ("4 inputs, version 2", sub(base, ("inputs = 1", "inputs = 4")), "1 range 3"),
+    ):
+        yield f"design: {what}", refused(GENERATE, {"d": design, "p": POLICY}, 5, f"text {fault}")
+
+
 def fine_rows():
     """Rows of fine designs, as those above."""
     coast = lambda stages, corners=2: ("1" + ",0" * stages + "\n") * corners
@@ -383,7 +457,7 @@ def wrong(words, files, status, out, line, whole, lines):
 
 def main():
     failed = count = 0
-    for name, row in [*rows(), *fine_rows(), *corner_rows(), *version_rows()]:
+    for name, row in [*rows(), *fine_rows(), *corner_rows(), *version_rows(), *second_rows()]:
         count += 1
         found = wrong(*row)
         if found:

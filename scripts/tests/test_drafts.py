@@ -9,7 +9,7 @@ import unittest
 import xml.dom.minidom
 
 from libraries import PACKAGES, missing
-from tests.worked import AXIS, AXIS_POLICY, EXAMPLES, FIRST, TOP, folder_with
+from tests.worked import AXIS, AXIS_POLICY, EXAMPLES, FIRST, SIX, TOP, folder_with
 
 LACKING = missing(*PACKAGES)
 if not LACKING:
@@ -31,7 +31,7 @@ if not LACKING:
     from texts import loop_lines_of, records_of
 
 # the examples that were drafted from their models
-MADE = ("antenna", "motor", "pmsm", "satellite", "wheel")
+MADE = ("antenna", "motor", "pmsm", "rendezvous", "satellite", "wheel")
 DOUBLE = "period = 0.5\nstages = 5\na = [[0.0, 1.0], [0.0, 0.0]]\nb = [[0.0], [1.0]]\n"
 
 
@@ -81,15 +81,49 @@ class Drafts(unittest.TestCase):
         for name in MADE:
             self.assertEqual(draft.draft(self.model(name)), self.design(name))
 
-    def test_curvature_is_just_below_one(self):
+    def test_curvature_is_just_below_the_power_of_the_step(self):
         for name in MADE:
-            self.assertTrue(0.98 < draft.curvature(self.design(name)) <= 1)
+            design = self.design(name)
+            self.assertTrue(0.97 < draft.curvature(design) / 2 ** draft.STEP[design.version] <= 1)
+
+    def test_model_of_version_2(self):
+        sides = "".join(f"[[limit]]\ninput = [{side}]\nbound = 1.0\ntolerance = 0.25\n" for side in (1.0, -1.0))
+        text = DOUBLE + sides + "[cost]\ninput = [1.0]\nrows = [{ state = [1.0, 0.0], weight = 1.0 }]\n[box]\nhi = [2.0, 0.5]\n"
+        first, second = (draft.draft(models.Model(version + text)) for version in ("", "version = 2\n"))
+        self.assertEqual((first.version, second.version, second.cost_den), (1, 2, 16 * first.cost_den))
+        self.assertTrue(0.95 < draft.curvature(first) <= 1 and 15.2 < draft.curvature(second) <= 16)
+        second.version, second.cost_den, second.gap = first.version, first.cost_den, first.gap
+        self.assertEqual(second, first)
+
+    def test_sizes_by_version(self):
+        six = f"period = 1.0\nstages = 3\na = {[[0.0] * 6] * 6}\nb = {[[1.0]] * 6}\n"
+        with self.assertRaisesRegex(ValueError, "version 1 has at most 4 states and 20 stages: version = 2 has more"):
+            models.Model(six)
+        self.assertEqual(models.Model("version = 2\n" + six).n, 6)
+        for text, fault in (
+            (six.replace("stages = 3", "stages = 31"), "version 2 has at most 6 states and 30 stages$"),
+            (f"period = 1.0\na = {[[0.0] * 7] * 7}\nb = {[[1.0]] * 7}\n", "version 2 has at most 6 states"),
+        ):
+            with self.assertRaisesRegex(ValueError, fault):
+                models.Model("version = 2\n" + text)
+        self.assertEqual(models.Model("version = 2\n" + DOUBLE.replace("stages = 5", "stages = 30")).stages, 30)
+        with self.assertRaisesRegex(ValueError, "version 1 has at most 4 states and 20 stages"):
+            models.Model(DOUBLE.replace("stages = 5", "stages = 21"))
+        with self.assertRaisesRegex(ValueError, "version is 1 or 2, not 3"):
+            models.Model("version = 3\n" + DOUBLE)
 
     def test_growth_of_exact_numbers_and_of_enclosures(self):
         design = self.design("antenna")
         found = sizes.exact_sizes(design, condense(design))["prediction"], sizes.fine_sizes(design, condense_fine(design))["prediction"]
         for bits, size in zip(discretise.growth_bits(sizes.growth(design), design.plant_den, design.stages), found):
             self.assertAlmostEqual(float(bits), sizes.bits(size), places=6)
+
+    def test_denominator_of_the_limits(self):
+        rows = [numpy.array([1.0, 0.304, 7.3])]
+        self.assertEqual(draft.limit_rows(rows), (16, [[16, 5, 116]]))
+        self.assertEqual(draft.limit_rows(rows, 256), (256, [[256, 78, 1868]]))
+        self.assertEqual(draft.limit_rows([numpy.array([1.0, 0.0102, 7.3])])[0], 64)
+        self.assertEqual(draft.limit_rows([numpy.array([2.0, 1.0, 7.0])]), (1, [[2, 1, 7]]))
 
     def test_state_limit_holds_for_the_next_state(self):
         design = self.design("pmsm")
@@ -155,6 +189,12 @@ class Drafts(unittest.TestCase):
         text = self.drawn("1 1 1 4096 -2224\n1 2 0 4096 0\n2 1 0 4096 0\n2 2 0 4096 0\n")
         self.assertEqual(xml.dom.minidom.parseString(text).documentElement.tagName, "svg")
         self.assertEqual(len(re.findall("stroke: #(1f77b4|ff7f0e)", text)), 6)
+
+    def test_picture_of_nine_curves(self):
+        turns = [([1.0] * 6, [0.0] * 3)] * 2
+        figure = plot.draw(design_of(SIX), [{1: turns}], ["still"])
+        self.assertEqual((len(figure.axes), figure.axes[0].get_gridspec().get_geometry()), (9, (3, 3)))
+        self.assertEqual([axes.get_ylabel() for axes in figure.axes], ["first\nm", "x2", "x3", "fourth\nm/s", "x5", "x6", "u1", "u2", "last\nN"])
 
     def test_same_lines_same_picture(self):
         self.assertEqual(self.drawn("1 1 1 4096 -2224\n"), self.drawn("1 1 1 4096 -2224\n"))

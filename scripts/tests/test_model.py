@@ -6,7 +6,7 @@ import unittest
 
 from condensed import condense
 from design_text import design_of
-from tests.worked import AXIS, FIRST, ROOMY_FINE_AXIS, TOP
+from tests.worked import AXIS, FIRST, ROOMY_FINE_AXIS, SECOND_JSON, SECOND_REPORT, TOP
 
 sys.path.insert(0, os.path.join(TOP, "bench", "fuzz"))
 import at_corners
@@ -26,6 +26,9 @@ CROSSED = {**THIRD, "n": 2, "p": 2, "a": [[2, 1], [0, -4]], "b": [[1, 0], [2, -5
            "rows": [[1, 2, -3, 8, 5]], "final_rows": [[7, 0, 2]], "lo": [0, 0], "hi": [1, 1]}
 
 
+# the rows of `bench/rows` whose exponents were computed by hand
+FLAT = {"version": 2, "rows": [[0, 64, 64], [0, -16, 64], [0, 4, 64], [0, 1, 64]], "final_rows": [[1, 9]]}
+ROOMY = {"version": 2, "stages": 2, "den": 1048576, "a": [[524288]], "b": [[524288]], "row_den": 1024, "cost": [], "limit_den": 1, "rows": [[0, 2, 524285], [0, 1, 4]], "final_rows": []}
 THIRDS = [(3, [1, -2]), (7, [5, 0])]
 NINTHS = [(3, [1, -2, 4, 0]), (7, [5, 0, -1, 2]), (9, [1, 1, 1, 1]), (11, [3, -3, 2, -2])]
 
@@ -130,6 +133,63 @@ class FineCorners(unittest.TestCase):
     def test_each_shows_less_than_the_exact_corners(self):
         for changes, plans in (({}, [(1, [0]), (8, [-7])]), (LONG, LONG_POLICY), (THIRD, THIRDS), (CROSSED, NINTHS)):
             self.assertIsNone(at_corners.fault(design(**changes), plans))
+
+
+class RowExponents(unittest.TestCase):
+    def found(self, plan=(0,), **changes):
+        return model.choose(design(**changes), [(1, list(plan))] * 2 ** changes.get("n", 1)).exponents
+
+    def test_first(self):
+        d, plans = design(version=2), [(1, [0]), (8, [-7])]
+        c, b = program.generate(d, plans, model.exact_gains)
+        self.assertEqual((c.version, c.exps, b["violation"], b["violations"]), (2, [0, 1, 1], 8850854903808, [6651831648256, 8850854903808, 8850854903808]))
+        self.assertEqual((b["gap"], b["undercut"]), (438095052800, 70806839230464))
+        first, bounds = program.generate(design(), plans, model.exact_gains)
+        self.assertEqual((first.version, first.exps, bounds["violations"]), (1, [1, 1, 1], [8850854903808] * 3))
+
+    def test_flat_rows_are_lowered_by_4_at_most(self):
+        self.assertEqual(self.found(**FLAT), [8, 5, 4, 4, 4])
+
+    def test_room(self):
+        self.assertEqual(self.found(plan=(0, 0), **ROOMY), [3, 1, 3, 1])
+        self.assertEqual(self.found(plan=(0, 0), **{**ROOMY, "rows": [[0, 2, 524286], [0, 1, 4]]}), [3, 3, 3, 3])
+
+    def test_each_weighted_sum_is_rounded_once(self):
+        products = forms.RowProducts(forms.fine_form(design(**THIRD)))
+        before = products.matrix()
+        products.count(1, 3)
+        # (3 * 2^40 / 3)^2 is 366503875925^2, whose thrice is added before the sum is rounded over 2^40
+        rows = [(-3298534883328, 0), (-366503875925, 1), (-366503875925, 1), (-366503875925, 1), (-366503875925, 1), (-1710351420981, 14)]
+        mid, rad = sum(m * m for m, _ in rows), sum(2 * abs(m) * r + r * r for m, r in rows)
+        self.assertEqual(products.matrix()[0][0], forms.divided(mid, rad, 2**40))
+        products.count(1, -3)
+        self.assertEqual(products.matrix(), before)
+
+    def test_rendezvous(self):
+        texts = []
+        for file in ("design.toml", "policy.csv"):
+            with open(os.path.join(TOP, "examples", "rendezvous", file), "rb") as text:
+                texts.append(text.read())
+        d = model.read_design(texts[0])
+        choice = model.choose(d, model.read_policy(texts[1], d))
+        self.assertEqual([choice.report[key] for key in ("multiplier", "step", "steps", "bits", "words")], [64, 4, 4096, 33, 176])
+        by_row = [choice.exponents[row :: len(d.stage_rows)] for row in range(len(d.stage_rows))]
+        # the rows of the thrust across the plane, and then those of the rates, of which a stage or two are lowered
+        self.assertEqual(by_row[4:6], [[0] * 10] * 2)
+        self.assertEqual([min(row) for row in by_row[6:]], [3, 3, 2, 4, 2])
+        self.assertEqual(sorted(choice.exponents), [0] * 20 + [1] * 2 + [2] * 4 + [3] * 7 + [4] * 77)
+
+    def test_sizes_by_version(self):
+        for changes, fault in (({"n": 5}, ("range", 2)), ({"version": 2, "n": 7}, ("range", 2)), ({"version": 2, "n": 5}, ("shape", 6)), ({"stages": 21}, ("range", 4)), ({"version": 2, "stages": 31}, ("range", 4)), (
+                {"version": 3}, ("range", 1))):
+            with self.assertRaises(model.Refused) as caught:
+                design(**changes)
+            self.assertEqual(caught.exception.args, (5, *fault))
+        self.assertEqual(design(version=2, stages=30).stages, 30)
+
+    def test_report_as_json(self):
+        b = program.generate(design(version=2), [(1, [0]), (8, [-7])], model.exact_gains)[1]
+        self.assertEqual((program.report_text(b).decode(), program.report_json(b).decode()), (SECOND_REPORT, SECOND_JSON))
 
 
 class FineDesigns(unittest.TestCase):

@@ -9,9 +9,9 @@ from condensed import condense, curvature
 from corners import corners_of, exact_corner, fine_corner, margin_of, multiplier_of, steps_of
 from design_text import design_of, plain, read_design, text_of
 from enclosures import combined, condense_fine, product
-from explain import explain
+from explain import explain, ranges
 from trajectories import slacks_of
-from texts import kind_of, loop_lines_of, records_of, report_of
+from texts import controller_of, kind_of, loop_lines_of, records_of, report_of
 from tests.worked import (
     AXIS,
     AXIS_OVER_1000,
@@ -30,7 +30,14 @@ from tests.worked import (
     FIRST_REPORT,
     LONG,
     LONG_POLICY,
+    ROOMY,
     ROOMY_FINE_AXIS,
+    ROOMY_POLICY,
+    SECOND,
+    SECOND_CONTROLLER,
+    SECOND_JSON,
+    SECOND_REPORT,
+    SIX,
     STEEP,
     STEEP_POLICY,
     THIRD,
@@ -175,6 +182,13 @@ class Sizes(unittest.TestCase):
             self.assertEqual(self.exact(text)["curvature"] > 2**126, fine)
             self.assertEqual(sizes.form_of(design_of(text)).fine, fine)
 
+    def test_room_for_rows_that_count_16_times(self):
+        self.assertEqual(sizes.lowered_sizes(design_of(FIRST), condense(design_of(FIRST)))["rows"], 16 * self.exact(FIRST)["rows"])
+        for bound, has_room in ((524285, True), (524286, False)):
+            design = design_of(ROOMY.replace("524285", str(bound)))
+            found, own = sizes.lowered_sizes(design, sizes.form_of(design)), sizes.form_sizes(design, sizes.form_of(design))
+            self.assertEqual((found["rows"] <= sizes.LIMIT, found["curvature"] < 2**107, max(own.values()) < 2**124), (has_room, True, True))
+
     def test_width_covers_the_first_controller(self):
         design, form = design_of(FIRST), condense(design_of(FIRST))
         _, bounds = sizes.gain_bounds(design, form, 10)
@@ -201,8 +215,44 @@ class Texts(unittest.TestCase):
         self.assertEqual(report_of(text), report_of(FIRST_REPORT))
 
     def test_design_text_is_read_as_written(self):
-        design = read_design(os.path.join(EXAMPLES, "motor", "design.toml"))
-        self.assertEqual(design_of(text_of(design)), design)
+        for name, version in (("motor", 1), ("rendezvous", 2)):
+            design = read_design(os.path.join(EXAMPLES, name, "design.toml"))
+            self.assertEqual((design_of(text_of(design)), design.version), (design, version))
+        self.assertEqual(design_of(text_of(design_of(SIX))), design_of(SIX))
+        self.assertIn("version = 2\nstates = 6\n", text_of(design_of(SIX)))
+
+    def test_kinds_of_version_2(self):
+        self.assertEqual([kind_of(t) for t in (SECOND, SECOND_CONTROLLER, SECOND_REPORT, SECOND_JSON)], ["design", "controller", "report", "report"])
+
+    def test_report_of_version_2(self):
+        report = report_of(SECOND_REPORT)
+        self.assertEqual(report, report_of(SECOND_JSON))
+        self.assertEqual([v * 2**40 for v in report["violations"]], [6651831648256, 8850854903808, 8850854903808])
+        self.assertEqual((report["version"], report_of(FIRST_REPORT)["version"]), (2, 1))
+        self.assertEqual({key: v for key, v in report.items() if report_of(FIRST_REPORT)[key] != v}, {"version": 2, "violations": report["violations"]})
+
+    def test_greatest_violation_of_version_2(self):
+        rows = [5, 7, 6]
+        text = SECOND_REPORT
+        for number, row in enumerate(rows, 1):
+            text = text.replace(f"violation {number} {(6651831648256, 8850854903808)[number > 1]} ", f"violation {number} {row * 2**40} ")
+        self.assertEqual((report_of(text)["violation"], report_of(text)["violations"]), (7, rows))
+
+    def test_controllers_of_both_versions(self):
+        first, second = controller_of(FIRST_CONTROLLER), controller_of(SECOND_CONTROLLER)
+        self.assertEqual((first.version, first.exps, second.version, second.exps), (1, [1, 1, 1], 2, [0, 1, 1]))
+        second.version, second.exps = first.version, first.exps
+        self.assertEqual(second, first)
+
+    def test_corners_of_six_states(self):
+        design = design_of(SIX)
+        self.assertEqual([corner.cost for corner in corners_of(design, records_of(64 * "1,0,0,0,0,0,1\n"))], [1] * 64)
+        self.assertEqual((design.corner(64), design.corner(33)), ([1] * 6, [0, 0, 0, 0, 0, 1]))
+
+    def test_rows_of_a_kind(self):
+        design = design_of(AXIS)
+        self.assertEqual(design.rows_of("stage row", 2), [(2, 0), (8, 1), (14, 2), (20, 3), (26, 4)])
+        self.assertEqual(design.rows_of("final row", 4), [(34, 5)])
 
     def test_names(self):
         design = design_of("# state 1: angle, 1 is 0.0625 rad\n# stage row 2: force\n# a stage lasts 0.5 s\n" + FIRST)
@@ -231,6 +281,51 @@ class Explain(unittest.TestCase):
         told = self.told(report=FIRST_REPORT)
         self.assertIn("R = 8: the greatest cost 1 over the least slack 0.125", told)
         self.assertIn("exceeded by at most 8.05", told)
+
+    def test_report_of_version_2(self):
+        told = self.told(report=SECOND_REPORT)
+        self.assertIn("a step is 2^-1 or more, plans", told)
+        self.assertIn("a limit is exceeded by at most 8.05, in the unit of its row: 8.05 in rows 2 and 3, 6.05 in row 1", told)
+        self.assertEqual(told, self.told(report=SECOND_JSON))
+        self.assertNotIn("or more", self.told(report=SECOND_REPORT.replace("6651831648256", "8850854903808")))
+
+    def test_rows_of_version_2_by_name(self):
+        names = "# stage row 1: force above, 1 is 3 N\n# final row 1: place, 1 is 2 m\n"
+        told = self.told(report=SECOND_REPORT, design=names + SECOND)
+        self.assertIn("stage row 1 (force above) is exceeded by at most 18.15 N, at any state of the box\nstage row 2 is exceeded by at most 8.05, at any", told)
+        self.assertIn("final row 1 (place) is exceeded by at most 16.1 m, at any state of the box", told)
+
+    def rolled(self, exponents):
+        """A report of the axis: row i has the violation 2^exponent, at the stages one after the other, and last the final rows."""
+        lines = "".join(f"violation {row} {2**exponent << 40} 1099511627776\n" for row, exponent in enumerate(exponents, 1))
+        return SECOND_REPORT[: SECOND_REPORT.index("violation")] + lines + SECOND_REPORT[SECOND_REPORT.index("gap") :]
+
+    def test_stages_of_version_2(self):
+        exponents = [0, 4, 4, 4, 4, 4] + [1, 4, 4, 4, 4, 4] + [1, 3, 4, 4, 4, 4] + [0, 4, 4, 4, 4, 4] + [0, 4, 4, 4, 4, 4] + [4, 4, 4, 2]
+        told = self.told(report=self.rolled(exponents), design="# stage row 1: torque, 1 is 5 mNm\n" + AXIS.replace("version = 1", "version = 2"))
+        self.assertIn("stage row 1 (torque) is exceeded by at most 10 mNm at stages 1 and 2, 5 mNm at stages 0, 3 and 4, at any state of the box", told)
+        self.assertIn("stage row 2 is exceeded by at most 16 at stages 0, 1, 3 and 4, 8 at stage 2, at any state of the box", told)
+        self.assertIn("stage row 3 is exceeded by at most 16, at any state of the box", told)
+        self.assertIn("final row 4 is exceeded by at most 4, at any state of the box", told)
+
+    def test_report_of_another_design(self):
+        with self.assertRaises(ValueError):
+            self.told(report=SECOND_REPORT, design=AXIS)
+
+    def test_ranges(self):
+        self.assertEqual([ranges(v) for v in ([3], [3, 4], [3, 4, 5], [0, 1, 3, 5, 6, 7], [1, 3])], ["3", "3 and 4", "3 to 5", "0, 1, 3 and 5 to 7", "1 and 3"])
+
+    def test_exponents(self):
+        told = self.told(controller=SECOND_CONTROLLER)
+        self.assertIn("the step exponent of a row is 1 in 2 rows, 0 in 1 row; its multiplier is shifted left by what that is below 1, which is no product", told)
+        self.assertIn("each row has the step exponent 1", self.told(controller=SECOND_CONTROLLER.replace("exps 0", "exps 1")))
+        self.assertNotIn("exponent", self.told(controller=FIRST_CONTROLLER))
+
+    def test_no_room_for_smaller_exponents(self):
+        wide = ROOMY.replace("524285", "524286")
+        self.assertIn("with rows that count 16 times, sizes pass 126 bits (rows 126.0), so that no row has a smaller", self.told(design=wide, policy=ROOMY_POLICY))
+        self.assertNotIn("16 times", self.told(design=ROOMY, policy=ROOMY_POLICY))
+        self.assertNotIn("16 times", self.told(design=wide.replace("version = 2", "version = 1"), policy=ROOMY_POLICY))
 
     def test_controller(self):
         told = self.told(controller=FIRST_CONTROLLER)

@@ -19,6 +19,8 @@ from tests.worked import (
     LONG,
     LONG_POLICY,
     ROOMY_FINE_AXIS,
+    SECOND,
+    SECOND_CONTROLLER,
     STEEP,
     STEEP_POLICY,
     STEEPER,
@@ -105,6 +107,17 @@ class Explained(unittest.TestCase):
     def test_shape_of_limits(self):
         self.assertIn("4 (states, inputs and a bound)", self.generate("error 5 text 1 shape 14", AXIS))
 
+    def test_ranges_of_versions(self):
+        told = self.generate("error 5 text 1 range 2", FIRST.replace("states = 1", "states = 5"))
+        self.assertIn("`states` in the design file", told)
+        self.assertIn("1 to 4, in version 2 up to 6", told)
+        self.assertIn("1 to 20, in version 2 up to 30", self.generate("error 5 text 1 range 4", SECOND.replace("stages = 1", "stages = 31")))
+        self.assertIn("out of its range: 1 or 2.", self.generate("error 5 text 1 range 1", FIRST.replace("version = 1", "version = 3")))
+
+    def test_policy_count_of_six_states(self):
+        six = SECOND.replace("states = 1", "states = 6")
+        self.assertIn("has 63 records, and the design has 64 corners", self.generate("error 5 text 2 count 63", six, 63 * "1,0\n"))
+
     def test_range(self):
         self.assertIn("`cost.input`", self.generate("error 5 text 1 range 10", FIRST.replace("input = [1]", "input = [0]")))
 
@@ -184,6 +197,11 @@ class Explained(unittest.TestCase):
         told = self.solve("error 11 controller 1 line 10", FIRST_CONTROLLER.replace("T 0", "T -0"))
         self.assertIn("line 10 (`T -0`)", told)
         self.assertIn("`T` and 1 numbers", told)
+
+    def test_controller_line_of_version_2(self):
+        told = self.solve("error 11 controller 1 line 7", SECOND_CONTROLLER.replace("exps 0 1 1", "exps 0 1 2"))
+        self.assertIn("line 7 (`exps 0 1 2`) should be `exps` and a number from 0 to s for each row", told)
+        self.assertIn("`lo` and a number for each state", self.solve("error 11 controller 1 line 8", SECOND_CONTROLLER))
 
     def test_controller_cut_short(self):
         self.assertIn("line 19", self.solve("error 11 controller 1 line 19", FIRST_CONTROLLER[:-4]))

@@ -69,6 +69,31 @@ gap 438095052800 1099511627776
 undercut 70806839230464 1099511627776
 end
 """
+# the first design as one of version 2: the exponent of its first row is lowered from 1 to 0
+SECOND = FIRST.replace("version = 1", "version = 2")
+SECOND_CONTROLLER = FIRST_CONTROLLER.replace("mpc-controller 1", "mpc-controller 2").replace("words 6\n", "words 6\nexps 0 1 1\n")
+SECOND_REPORT = FIRST_REPORT.replace("mpc-report 1", "mpc-report 2").replace(
+    "violation 8850854903808 1099511627776\n",
+    "violation 1 6651831648256 1099511627776\nviolation 2 8850854903808 1099511627776\nviolation 3 8850854903808 1099511627776\n",
+)
+SECOND_JSON = (
+    '{"bits":"10","cost":"1","gap":"438095052800","margin":"8192","multiplier":"8","step":"1","steps":"4","undercut":"70806839230464","version":"2",'
+    '"violation":"8850854903808","violations":["6651831648256","8850854903808","8850854903808"],"width":"26","words":"6"}\n'
+)
+# six states that stand where they are, and three inputs
+SIX = f"""# state 1: first, 1 is 2 m
+# state 4: fourth, 1 is 3 m/s
+# input 3: last, 1 is 4 N
+version = 2
+states = 6
+inputs = 3
+stages = 2
+plant = {{ den = 1, a = {[[int(i == j) for j in range(6)] for i in range(6)]}, b = {[[0, 0, 0]] * 6} }}
+cost = {{ den = 1, row_den = 1, input = [1, 1, 1], stage = [], final = [] }}
+limits = {{ den = 1, stage = [[0, 0, 0, 0, 0, 0, 0, 0, 1, 1]], final = [] }}
+box = {{ grid = 0, lo = {[0] * 6}, hi = {[1] * 6} }}
+targets = {{ den = 1, violation = 16, gap = 1 }}
+"""
 # an axis that coasts: margin 1, cost 158.75, R 159, step 1, K 20352, f 28, where the stated errors cost 699629521553 over 2^40
 AXIS = """version = 1
 states = 2
@@ -141,6 +166,14 @@ THIRDS = (
     .replace("grid = 0\nlo = [0]\nhi = [1]", "grid = 24\nlo = [16777216, 16777216]\nhi = [16777216, 16777216]")
 )
 THIRDS_POLICY = "1099511627776,0\n" * 4
+# over two stages, with a bound that leaves room for rows that count 16 times: 524286 doesn't, by `rows` of the enclosures
+ROOMY = (
+    SECOND.replace("stages = 1", "stages = 2")
+    .replace("[plant]\nden = 1\na = [[1]]\nb = [[1]]", "[plant]\nden = 1048576\na = [[524288]]\nb = [[524288]]")
+    .replace("row_den = 1\ninput = [1]\nstage = [[1, 0, 1]]", "row_den = 1024\ninput = [1]\nstage = []")
+    .replace("den = 4\nstage = [[0, 4, 4], [0, -4, 4]]\nfinal = [[4, 1]]", "den = 1\nstage = [[0, 2, 524285], [0, 1, 4]]\nfinal = []")
+)
+ROOMY_POLICY = "1,0,0\n" * 2
 # x+ = (2 x - u) / 3 over two stages, with each kind of row
 THIRD = """version = 1
 states = 1
