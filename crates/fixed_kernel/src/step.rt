@@ -3,6 +3,8 @@ ghost use Rattle.std.specs.Prelude.{◌≡◌, ◌≤◌, ◌<◌, ◌+◌, ◌^
 ghost use Rattle.std.specs.Int.{w128, int_max, int_min};
 ghost use Rattle.integer_algebra.specs.Division.{floor_of};
 ghost use Rattle.integer_algebra.specs.Sums.{at};
+ghost use Rattle.mat_int.specs.Row.{list_dot};
+ghost use Rattle.mat_int.specs.Matrix.{row_of};
 ghost use Rattle.mat_int.specs.Narrow.{IsNarrow};
 ghost use Rattle.qp_model.specs.Limits.{text_version};
 ghost use Rattle.qp_model.specs.Controller.{numbers};
@@ -106,8 +108,21 @@ fn make_plan(
     }
 }
 
-// One multiplier, from the one before it and the greatest of its row. One running sum goes through both parts of the row. It stays within
-// each of the loops that call it.
+// The sum of a row's products with a plan and with a state, by one running sum. It stays within each of the loops that call it.
+#[inline(always)]
+fn row_products(c: &ControllerParts, narrow: bool, state: &[i128], plan: &[i128], i: usize) -> i128
+    requires sound { IsController (numbers c.now) }
+    requires narrow { IsTrue narrow → HasNarrowFactors (numbers c.now) }
+    requires state { AreWithin state.now (state_magnitudes (numbers c.now)) }
+    requires plan { AreWithin plan.now (plan_magnitudes (numbers c.now)) }
+    requires in_range { i < length c.now.bound.items }
+    ensures { result ≡ list_dot (row_of c.now.g_mat i) plan.now +ℤ list_dot (row_of c.now.e_mat i) state.now }
+{
+    let planned = sum_of_products(narrow, 0, c.g_mat.row(i), plan);
+    sum_of_products(narrow, planned, c.e_mat.row(i), state)
+}
+
+// One multiplier, from the one before it and the greatest of its row. It stays within the loop that calls it.
 #[inline(always)]
 fn multiplier_at(
     c: &ControllerParts,
@@ -126,8 +141,7 @@ fn multiplier_at(
     requires in_range { i < length c.now.bound.items }
     ensures { result ≡ int_min top (int_max (old +ℤ floor_of (row_sum (numbers c.now) state.now plan.now i) (2 ^ c.now.f)) (pos 0)) }
 {
-    let planned = sum_of_products(narrow, 0, c.g_mat.row(i), plan);
-    let row = sum_of_products(narrow, planned, c.e_mat.row(i), state);
+    let row = row_products(c, narrow, state, plan, i);
     multiplier_from(row, c.bound[i], old, top, c.f)
 }
 
@@ -171,8 +185,9 @@ fn lowered(narrow: bool, raised: i128, clamp: i128, lowering: u32) -> (i128, i12
     }
 }
 
-// The multipliers after a plan, from raised ones.
-fn move_raised(
+// The loop of `move_raised`. It stays within each of the two calls there.
+#[inline(always)]
+fn move_rows(
     c: &ControllerParts,
     narrow: bool,
     state: &[i128],
@@ -188,8 +203,32 @@ fn move_raised(
 {
     let exps = exponents_of(c, multipliers.len());
     for (i, l) in multipliers.iter_mut().enumerate() {
+        // The products come first: they need the registers that the lowered ones would stay in.
+        let row = row_products(c, narrow, state, plan, i);
         let (old, top) = lowered(narrow, *l, c.clamp, lowering_at(c, exps, i));
-        *l = multiplier_at(c, narrow, state, plan, old, top, i);
+        *l = multiplier_from(row, c.bound[i], old, top, c.f);
+    }
+}
+
+// The multipliers after a plan, from raised ones. Each call is a loop of its own, which doesn't ask at each row how wide the factors are.
+fn move_raised(
+    c: &ControllerParts,
+    narrow: bool,
+    state: &[i128],
+    plan: &[i128],
+    multipliers: &mut [i128],
+)
+    requires sound { IsController (numbers c.now) }
+    requires narrow { IsTrue narrow → HasNarrowFactors (numbers c.now) }
+    requires state { AreWithin state.now (state_magnitudes (numbers c.now)) }
+    requires plan { AreWithin plan.now (plan_magnitudes (numbers c.now)) }
+    requires multipliers { AreWithin multipliers.old (clamp_magnitudes (numbers c.now)) }
+    ensures { multipliers.new ≡ next_multipliers (numbers c.now) state.now plan.now (unraised (numbers c.now) multipliers.old) }
+{
+    if narrow {
+        move_rows(c, true, state, plan, multipliers);
+    } else {
+        move_rows(c, false, state, plan, multipliers);
     }
 }
 

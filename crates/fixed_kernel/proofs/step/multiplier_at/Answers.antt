@@ -1,83 +1,31 @@
-use Rattle.std.proofs.Common.{◌≡◌, ℤ, ◌+ℤ◌, pos, get_or, rules, FitsSigned, arith, [], refl, ◌∙◌}
+use Rattle.std.proofs.Common.{◌≡◌, pos, get_or, rules, FitsSigned, refl}
 use Rattle.std.specs.Int.{w128}
-use Rattle.std.proofs.lemmas.Int.{ints, to_z-of_z}
+use Rattle.std.proofs.lemmas.Int.{to_z-of_z}
 use Rattle.std.proofs.lemmas.List.{get_or_read}
-use Rattle.mat_int.specs.Row.{list_dot}
-use Rattle.mat_int.specs.Matrix.{row_of}
 use Rattle.qp_model.specs.Controller.{numbers}
-use Rattle.fixed_kernel.proofs.Rooms.{state_long, plan_long, planned_room, state_room, row_room, next_room}
-use Rattle.fixed_kernel.proofs.NarrowFactors.{state_narrow, plan_narrow}
+use Rattle.fixed_kernel.proofs.Rooms.{row_room, next_room}
 use Rattle.fixed_kernel.proofs.step.multiplier_at.Goals as goal
 
-from_zero : (z : ℤ) → pos 0 +ℤ z ≡ z
-from_zero z = omega (arith, ints)
-
--- ---- the plan's sum
-pub sum_of_products-planned-requires-clause-lengths : goal.sum_of_products-planned-requires-clause-lengths
-sum_of_products-planned-requires-clause-lengths c =
-    omega (arith, c.row.ensures.len, c.requires.sound.form.sized.shaped.plan_rows.cols, c.requires.sound.form.sized.shaped.offsets, plan_long (numbers c.args.c.now) c.args.plan.now c.requires.plan)
-
-pub sum_of_products-planned-requires-clause-left : goal.sum_of_products-planned-requires-clause-left
-sum_of_products-planned-requires-clause-left c = λ t.
-    let shaped = c.requires.sound.form.sized.shaped in
-    rw c.row.ensures.value ((c.requires.narrow t).plan_rows c.args.i [] (omega (arith, c.requires.in_range, shaped.bounds, shaped.plan_rows.rows)))
-
-pub sum_of_products-planned-requires-clause-right : goal.sum_of_products-planned-requires-clause-right
-sum_of_products-planned-requires-clause-right c = λ t. plan_narrow (numbers c.args.c.now) c.args.plan.now c.requires.sound (c.requires.narrow t) c.requires.plan
-
-pub sum_of_products-planned-requires-clause-room : goal.sum_of_products-planned-requires-clause-room
-sum_of_products-planned-requires-clause-room c = rw c.row.ensures.value (omega (arith, planned_room (numbers c.args.c.now) c.args.plan.now c.args.i c.requires.sound c.requires.in_range c.requires.plan))
-
--- ---- the state's products on top of it
-pub sum_of_products-row-requires-clause-lengths : goal.sum_of_products-row-requires-clause-lengths
-sum_of_products-row-requires-clause-lengths c =
-    omega (arith, c.row-2.ensures.len, c.requires.sound.form.sized.shaped.state_rows.cols, state_long (numbers c.args.c.now) c.args.state.now c.requires.sound c.requires.state)
-
-pub sum_of_products-row-requires-clause-left : goal.sum_of_products-row-requires-clause-left
-sum_of_products-row-requires-clause-left c = λ t.
-    let shaped = c.requires.sound.form.sized.shaped in
-    rw c.row-2.ensures.value ((c.requires.narrow t).state_rows c.args.i [] (omega (arith, c.requires.in_range, shaped.bounds, shaped.state_rows.rows)))
-
-pub sum_of_products-row-requires-clause-right : goal.sum_of_products-row-requires-clause-right
-sum_of_products-row-requires-clause-right c = λ t. state_narrow (numbers c.args.c.now) c.args.state.now c.requires.sound (c.requires.narrow t) c.requires.state
-
-pub sum_of_products-row-requires-clause-room : goal.sum_of_products-row-requires-clause-room
-sum_of_products-row-requires-clause-room c =
-    let n = numbers c.args.c.now in
-    let made : FitsSigned w128 c.sum_of_products-planned.result = search rules in
-    let planned : c.sum_of_products-planned.result ≡ list_dot (row_of n.plan_rows c.args.i) c.args.plan.now = rw c.row.ensures.value at c.sum_of_products-planned.ensures ∙ from_zero _ in
-    rw (to_z-of_z w128 _ made, planned, c.row-2.ensures.value) (state_room n c.args.state.now c.args.plan.now c.args.i c.requires.sound c.requires.in_range c.requires.state c.requires.plan)
-
--- ---- the multiplier
 pub multiplier_from-requires-clause-row : goal.multiplier_from-requires-clause-row
 multiplier_from-requires-clause-row c =
-    let n = numbers c.args.c.now in
-    let made : FitsSigned w128 c.sum_of_products-planned.result = search rules in
-    let row : FitsSigned w128 c.sum_of_products-row.result = search rules in
+    let row : FitsSigned w128 c.row_products-row.result = search rules in
     let bound : FitsSigned w128 c.index.result.now = search rules in
     let read : c.index.result.now ≡ get_or c.args.c.now.bound.items c.args.i (pos 0) = get_or_read _ _ _ c.requires.in_range c.index.ensures (pos 0) in
-    let planned : c.sum_of_products-planned.result ≡ list_dot (row_of n.plan_rows c.args.i) c.args.plan.now = rw c.row.ensures.value at c.sum_of_products-planned.ensures ∙ from_zero _ in
-    rw (to_z-of_z w128 _ row, to_z-of_z w128 _ bound, read, c.sum_of_products-row.ensures, to_z-of_z w128 _ made, planned, c.row-2.ensures.value)
-    (row_room n c.args.state.now c.args.plan.now c.args.i c.requires.sound c.requires.in_range c.requires.state c.requires.plan)
+    rw (to_z-of_z w128 _ row, to_z-of_z w128 _ bound, read, c.row_products-row.ensures)
+    (row_room (numbers c.args.c.now) c.args.state.now c.args.plan.now c.args.i c.requires.sound c.requires.in_range c.requires.state c.requires.plan)
 
 pub multiplier_from-requires-clause-next : goal.multiplier_from-requires-clause-next
 multiplier_from-requires-clause-next c =
-    let n = numbers c.args.c.now in
-    let made : FitsSigned w128 c.sum_of_products-planned.result = search rules in
-    let row : FitsSigned w128 c.sum_of_products-row.result = search rules in
+    let row : FitsSigned w128 c.row_products-row.result = search rules in
     let bound : FitsSigned w128 c.index.result.now = search rules in
     let read : c.index.result.now ≡ get_or c.args.c.now.bound.items c.args.i (pos 0) = get_or_read _ _ _ c.requires.in_range c.index.ensures (pos 0) in
-    let planned : c.sum_of_products-planned.result ≡ list_dot (row_of n.plan_rows c.args.i) c.args.plan.now = rw c.row.ensures.value at c.sum_of_products-planned.ensures ∙ from_zero _ in
-    rw (to_z-of_z w128 _ row, to_z-of_z w128 _ bound, to_z-of_z w128 _ c.ranges.old, read, c.sum_of_products-row.ensures, to_z-of_z w128 _ made, planned, c.row-2.ensures.value)
-    (next_room n c.args.state.now c.args.plan.now c.args.old c.args.i c.requires.sound c.requires.in_range c.requires.old c.requires.state c.requires.plan)
+    rw (to_z-of_z w128 _ row, to_z-of_z w128 _ bound, to_z-of_z w128 _ c.ranges.old, read, c.row_products-row.ensures)
+    (next_room (numbers c.args.c.now) c.args.state.now c.args.plan.now c.args.old c.args.i c.requires.sound c.requires.in_range c.requires.old c.requires.state c.requires.plan)
 
 pub returns : goal.returns
 returns c =
-    let n = numbers c.args.c.now in
     let result : FitsSigned w128 c.multiplier_from.result = search rules in
-    let made : FitsSigned w128 c.sum_of_products-planned.result = search rules in
-    let row : FitsSigned w128 c.sum_of_products-row.result = search rules in
+    let row : FitsSigned w128 c.row_products-row.result = search rules in
     let bound : FitsSigned w128 c.index.result.now = search rules in
     let read : c.index.result.now ≡ get_or c.args.c.now.bound.items c.args.i (pos 0) = get_or_read _ _ _ c.requires.in_range c.index.ensures (pos 0) in
-    let planned : c.sum_of_products-planned.result ≡ list_dot (row_of n.plan_rows c.args.i) c.args.plan.now = rw c.row.ensures.value at c.sum_of_products-planned.ensures ∙ from_zero _ in
-    rw (to_z-of_z w128 _ result, c.multiplier_from.ensures, to_z-of_z w128 _ c.ranges.top, to_z-of_z w128 _ c.ranges.old, to_z-of_z w128 _ row, to_z-of_z w128 _ bound, read, c.sum_of_products-row.ensures, to_z-of_z w128 _ made, planned, c.row-2.ensures.value) refl
+    rw (to_z-of_z w128 _ result, c.multiplier_from.ensures, to_z-of_z w128 _ c.ranges.top, to_z-of_z w128 _ c.ranges.old, to_z-of_z w128 _ row, to_z-of_z w128 _ bound, read, c.row_products-row.ensures) refl

@@ -2,7 +2,7 @@ use Rattle.std.proofs.Common.{◌≡◌, ℕ, ◌<◌, ◌≤◌, ◌^◌, get_o
 use Rattle.integer_algebra.specs.Division.{floor_of}
 use Rattle.qp_model.specs.Controller.{numbers}
 use Rattle.qp_model.specs.Machine.{lowering_of, next_multiplier}
-use Rattle.fixed_kernel.proofs.step.move_raised.Given as goal
+use Rattle.fixed_kernel.proofs.step.move_rows.Given as goal
 
 abbrev pub invariant-loop-i : goal.invariant-loop-i
 invariant-loop-i l = record {
