@@ -50,6 +50,13 @@ FINE = {"d": cases.design_text({
     "gap": 1}), "p": b"1,0,0\n8,-7,0\n"}
 # the same policy over 2^40, with which its corners pass the limit, too
 FINE_CORNERS = {**FINE, "p": b"1099511627776,0,0\n1099511627776,-962072674304,0\n"}
+# in version 2, with rows of several slopes, whose exponents are not all the same
+SECOND = {"d": cases.design_text({
+    "version": 2, "n": 1, "p": 1, "stages": 1, "den": 1, "a": [[1]], "b": [[1]], "cost_den": 1, "row_den": 1, "input": [1], "cost": [[1, 0, 1]], "final_cost": [],
+    "limit_den": 4, "rows": [[0, 64, 64], [0, -16, 64], [0, 4, 64], [0, 1, 64]], "final_rows": [[1, 9]], "grid": 0, "lo": [0], "hi": [1], "target_den": 1, "violation": 1024,
+    "gap": 1}), "p": b"1,0\n1,0\n"}
+# the first controller with an exponent for each row
+SECOND_CONTROLLER = FIRST["k"].replace(b"mpc-controller 1\n", b"mpc-controller 2\n").replace(b"\nlo ", b"\nexps 0 1 1\nlo ")
 
 
 class Command:
@@ -119,7 +126,10 @@ def commands(executable):
     yield Command(executable, "generate, a motor", ["generate", "d", "p", "c", "r"], dict(zip("dp", motor)))
     yield Command(executable, "generate, a fine plant", ["generate", "d", "p", "c", "r"], FINE)
     yield Command(executable, "generate, fine corners", ["generate", "d", "p", "c", "r"], FINE_CORNERS)
+    yield Command(executable, "generate, version 2", ["generate", "d", "p", "c", "r"], SECOND)
+    yield Command(executable, "generate, version 2, JSON", ["generate", "d", "p", "c", "r.json"], SECOND)
     yield Command(executable, "solve", ["solve", "k", "s"], FIRST)
+    yield Command(executable, "solve, version 2", ["solve", "k", "s"], {**FIRST, "k": SECOND_CONTROLLER})
     yield Command(executable, "loop", ["loop", "d", "k", "s", "4"], FIRST)
     yield Command(executable, "demo", ["demo", "7"], {})
 
