@@ -287,18 +287,18 @@ class Launcher(unittest.TestCase):
         self.assertEqual((got.returncode, got.stderr.split("\n")[-2]), (4, "error 4 write-fault 0"))
 
     def test_progress_of_a_build(self):
-        """A stand-in for the toolchain proves two crates and then builds the program."""
+        """A stand-in for the toolchain proves the two crates of the program, not that of tests, and then builds it."""
         folder = self.folder("exit 0")
         os.remove(os.path.join(folder, "crates/mpc_cli/out/mpc_cli"))
         os.makedirs(os.path.join(folder, "crates/low/out"))
         os.makedirs(os.path.join(folder, "bin"))
         with open(os.path.join(folder, "crates.txt"), "w") as file:
-            file.write("low:\nmpc_cli: low\n")
+            file.write("low:\nmpc_cli: low\ntrials: low\n")
         with open(os.path.join(folder, "bin", "rt"), "w") as file:
             file.write(
                 """#!/bin/bash
 if [ "$1" = all ]; then
-    sleep 1; mkdir -p crates/low/out/incremental; sleep 6; echo "== low"; echo "logic=proved functions=1"; sleep 6; exit
+    sleep 1; mkdir -p ../low/out/incremental; sleep 6; echo "== low"; echo "logic=proved functions=1"; sleep 6; exit
 fi
 echo "== mpc_cli"; echo "logic=proved functions=1"; printf '#!/bin/bash\\necho built\\n' > out/mpc_cli; chmod +x out/mpc_cli
 """
