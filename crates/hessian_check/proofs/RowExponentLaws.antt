@@ -1,5 +1,5 @@
 -- The exponents of the rows, which are lowered in their order.
-use Rattle.std.proofs.Common.{◌≡◌, ◌≢◌, inl, inr, ℕ, zero, suc, ◌+◌, ◌-◌, ◌*◌, ◌<◌, ◌≤◌, ◌^◌, Bool, true, false, ℤ, pos, ◌*ℤ◌, ◌-ℤ◌, unsigned_abs, List, replicate, arith, ap, ap₂, sym, ◌∙◌, refl}
+use Rattle.std.proofs.Common.{◌≡◌, ◌≢◌, inl, inr, ℕ, zero, suc, ◌+◌, ◌-◌, ◌*◌, ◌<◌, ◌≤◌, ◌^◌, Bool, true, false, ℤ, pos, ◌*ℤ◌, ◌-ℤ◌, unsigned_abs, List, replicate, arith, ap, ap₂, sym, subst, ◌∙◌, refl}
 use Rattle.std.proofs.lemmas.Bool.{cases_eq, cases_lt, eq-eqb, le-ltb, lt-ltb, ne_eqb}
 use Rattle.std.proofs.lemmas.List.{ext_get_or, get_or-replicate}
 use Rattle.integer_algebra.specs.Sizes.{amount}
@@ -8,7 +8,7 @@ use Rattle.integer_algebra.proofs.SizeLaws.{amount_same}
 use Rattle.integer_algebra.proofs.SumLaws.{total_same}
 use Rattle.frac_scaled.specs.Enclosures.{Enclosure}
 use Rattle.qp_model.specs.declared.design_parts.DesignParts.{DesignParts}
-use Rattle.qp_model.specs.Class.{form_of}
+use Rattle.qp_model.specs.Class.{form_in, form_of}
 use Rattle.qp_model.specs.Condensing.{condensed_of}
 use Rattle.qp_model.specs.Curvature.{AreExponents, IsExponent, row_change}
 use Rattle.qp_model.specs.Design.{Design, entries, rows}
@@ -112,8 +112,11 @@ module _ (p : DesignParts) (h : IsDesign p) (g : IsFormFor (design_of p) (form_o
     last_lowered i o n after =
         let row = low.each i o in
         let whole = λ (l : ℕ) (t : l < rows (design_of p)). tested_whole es i s (rows (design_of p)) l after t in
+        let fine_form_for : is_fine (design_of p) ≡ true → IsFormFor (design_of p) (fine_form (design_of p)) =
+        λ e. subst (λ (fine : Bool). IsFormFor (design_of p) (form_in fine (design_of p))) e g in
         exponents_same (design_of p) (tested es i (exponent_in es i) s) (exponent_in es) s whole
-        (rows_law p h g (tested es i (exponent_in es i) s) s (λ l t. rw (whole l t) (low.each l t).high) (row.accepted (exponent_in es i) (omega arith) (omega (arith, row.high, n))))
+        (rows_law (is_fine (design_of p)) p h fine_form_for (tested es i (exponent_in es i) s) s (λ l t. rw (whole l t) (low.each l t).high)
+        (row.accepted (exponent_in es i) (omega arith) (omega (arith, row.high, n))))
 
     -- the rows from n on were not lowered
     lowered_below : (n : ℕ) → n ≤ rows (design_of p) → ((l : ℕ) → n ≤ l → l < rows (design_of p) → exponent_in es l ≡ s) → AreExponents (design_of p) (exponent_in es) s

@@ -1,4 +1,4 @@
-use Rattle.std.proofs.Common.{◌≡◌, ◌<◌, ◌^◌, pos, length, rules, refl, FitsSigned}
+use Rattle.std.proofs.Common.{length, rules, refl, FitsSigned}
 use Rattle.std.specs.Int.{w128}
 use Rattle.mat_int.specs.Row.{abs_sum}
 use Rattle.mat_int.proofs.Indices.{abs_sum_is}

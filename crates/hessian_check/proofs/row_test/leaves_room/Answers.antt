@@ -1,4 +1,4 @@
-use Rattle.std.proofs.Common.{◌≡◌, ◌≤◌, ◌^◌, IsTrue, true, length, rules, sym, ◌∙◌}
+use Rattle.std.proofs.Common.{◌≤◌, ◌^◌, IsTrue, true, length, rules, sym, ◌∙◌}
 use Rattle.integer_algebra.specs.Sizes.{size}
 use Rattle.mat_int.specs.Matrix.{entry_of}
 use Rattle.hessian_check.proofs.PassLaws.{short_room}
