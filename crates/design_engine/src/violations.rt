@@ -29,24 +29,8 @@ pub fn row_violations(
         (λ i. pos (row_violation_bound (exponent_in exps.now i) s (unsigned_abs r) k (unsigned_abs eps)))) }
 {
     let mut out = vec![in alloc; 0; exps.len()]?;
-    fill(exps, s, r, k, eps, &mut out);
-    Ok(out)
-}
-
-// Puts them into a list.
-fn fill(exps: &[u32], s: u32, r: i128, k: u32, eps: i128, out: &mut [i128])
-    requires long { length exps.now ≡ length out.old }
-    requires exponent { s ≤ 40 }
-    requires rows { (i : ℕ) → i < length exps.now → exponent_in exps.now i ≤ s }
-    requires some { pos 1 ≤ℤ r }
-    requires narrow { r ≤ℤ pos (2 ^ 44) }
-    requires steps { 1 ≤ k }
-    requires errors { pos 0 ≤ℤ eps }
-    requires small { eps ≤ℤ pos (2 ^ 114) }
-    ensures { (i : ℕ) → i < length exps.now →
-        at out.new i ≡ pos (row_violation_bound (exponent_in exps.now i) s (unsigned_abs r) k (unsigned_abs eps)) }
-{
     for (i, own) in exps.iter().enumerate() {
         out[i] = row_violation(*own, s, r, k, eps);
     }
+    Ok(out)
 }
