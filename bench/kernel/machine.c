@@ -138,16 +138,13 @@ static factor kept(word next, word top) {
     return (factor)(next < top ? next : top);
 }
 
-/* In version 2 the multipliers are raised for the plan, in place, and lowered as they move. */
-static void raise_all(factor *l) {
-    for (int i = 0; i < c.m; i++) l[i] = (factor)(l[i] * ((word)1 << c.lowering[i]));
-}
-
+/* In version 2 the multipliers are kept raised, as the plan is made of them: each is lowered, moved and raised again. */
 static void move_raised(const word *row, const factor *u, factor *l) {
     for (int i = 0; i < c.m; i++) {
+        word moved = (dot(c.G + (size_t)i * c.nu, u, c.nu) + row[i]) >> c.f;
         int k = c.lowering[i];
-        word old = (word)l[i] >> k;
-        l[i] = kept(old + ((dot(c.G + (size_t)i * c.nu, u, c.nu) + row[i]) >> c.f), c.clamp >> k);
+        factor old = l[i] >> k, top = (factor)c.clamp >> k;
+        l[i] = kept(old + moved, top) << k;
     }
 }
 
@@ -156,10 +153,8 @@ static void move(const word *row, const factor *u, factor *l) {
 }
 
 static void step(const word *own, const word *row, factor *u, factor *l, word *sums) {
-    int raising = c.version == 2;
-    if (raising) raise_all(l);
     for (int j = 0; j < c.nu; j++) u[j] = (factor)-((own[j] + dot(c.W + (size_t)j * c.m, l, c.m)) >> (c.f + c.s));
-    if (raising)
+    if (c.version == 2)
         move_raised(row, u, l);
     else
         move(row, u, l);

@@ -1,20 +1,23 @@
 -- Multipliers raised and lowered again.
-use Rattle.std.proofs.Common.{◌≡◌, ℕ, ◌^◌, ◌≤◌, ◌<◌, ℤ, pos, ◌+ℤ◌, ◌*ℤ◌, List, length, unsigned_abs, FitsSigned, arith, ap, ◌∙◌}
+use Rattle.std.proofs.Common.{◌≡◌, ℕ, ◌*◌, ◌^◌, ◌≤◌, ◌<◌, ℤ, pos, ◌+ℤ◌, ◌*ℤ◌, List, length, replicate, unsigned_abs, FitsSigned, arith, ap, sym, refl, ◌∙◌}
 use Rattle.std.specs.Int.{w128, int_max, int_min}
 use Rattle.std.proofs.lemmas.Int.{ints, fits_signed_from_abs}
 use Rattle.std.proofs.lemmas.Nat.{pow_pos}
-use Rattle.std.proofs.lemmas.List.{same_lists, get_or_default, get_or-replicate}
+use Rattle.std.proofs.lemmas.List.{same_lists, get_or_default, get_or-replicate, length-replicate}
 use Rattle.std.proofs.lemmas.List.FromFn.{length-map-range_with_len, get_or-map-range_with_len}
 use Rattle.integer_algebra.specs.Division.{floor_of}
 use Rattle.integer_algebra.specs.Sums.{at}
 use Rattle.mat_int.specs.Narrow.{IsNarrow}
-use Rattle.qp_model.specs.Controller.{Numbers}
-use Rattle.qp_model.specs.Machine.{lowering_of, raised, top_of, row_sum, next_multiplier}
+use Rattle.qp_model.specs.Limits.{text_version}
+use Rattle.qp_model.specs.Controller.{Numbers, IsSized}
+use Rattle.qp_model.specs.Machine.{Iterate, lowering_of, raised, top_of, row_sum, next_multiplier, next_multipliers, start_of, step_of}
 use Rattle.qp_model.specs.AbsoluteSums.{clamp_magnitudes, IsController}
 use Rattle.qp_model.specs.Within.{AreWithin}
 use Rattle.qp_model.proofs.AbsoluteLaws.{abs-floor_le}
+use Rattle.qp_model.proofs.MagnitudeLaws.{zeros_at, raised_within, tops_kept}
+use Rattle.qp_model.proofs.VersionLaws.{first_raised}
 use Rattle.fixed_kernel.specs.Factors.{HasNarrowFactors}
-use Rattle.fixed_kernel.specs.Unraised.{unraised}
+use Rattle.fixed_kernel.specs.Raised.{unraised, with_raised, raised_step}
 use Rattle.fixed_kernel.proofs.States.{floor-scaled}
 
 -- ---- single multipliers
@@ -35,6 +38,41 @@ unraised-raised c multipliers long =
     ap (λ (z : ℤ). floor_of z (2 ^ lowering_of c i)) (raised_at c multipliers i inside) ∙ floor-scaled (at multipliers i) (2 ^ lowering_of c i) (pow_pos (lowering_of c i)) ∙
     get_or_default multipliers i (pos 0) d (omega (arith, inside, long)))
 
+pub raised_long : (c : Numbers) (multipliers : List ℤ) → length (raised c multipliers) ≡ length c.bounds
+raised_long c multipliers = length-map-range_with_len (λ i. at multipliers i *ℤ pos (2 ^ lowering_of c i)) 0 (length c.bounds)
+
+-- in version 1 there is nothing to lower and nothing to raise
+first_unraised : (c : Numbers) → IsSized c → c.version ≡ text_version → (multipliers : List ℤ) → length multipliers ≡ length c.bounds → unraised c multipliers ≡ multipliers
+first_unraised c sized first multipliers long =
+    ap (unraised c) (sym (first_raised c sized first multipliers (long ∙ sized.shaped.bounds))) ∙ unraised-raised c multipliers long
+
+pub first_moved : (c : Numbers) → IsSized c → c.version ≡ text_version → (state plan multipliers : List ℤ) → length multipliers ≡ length c.bounds →
+    next_multipliers c state plan multipliers ≡ raised c (next_multipliers c state plan (unraised c multipliers))
+first_moved c sized first state plan multipliers long =
+    let olds = unraised c multipliers in
+    let moved : length (next_multipliers c state plan olds) ≡ length c.bounds = length-map-range_with_len (λ i. next_multiplier c state plan (at olds i) i) 0 (length c.bounds) in
+    ap (next_multipliers c state plan) (sym (first_unraised c sized first multipliers long)) ∙ sym (first_raised c sized first (next_multipliers c state plan olds) (moved ∙ sized.shaped.bounds))
+
+-- ---- what the machine has made
+raised_zeros : (c : Numbers) → raised c (replicate (length c.bounds) (pos 0)) ≡ replicate (length c.bounds) (pos 0)
+raised_zeros c =
+    let count = length c.bounds in
+    let zeros = replicate count (pos 0) in
+    same_lists (raised c zeros) zeros (raised_long c zeros ∙ sym (length-replicate count (pos 0))) (λ i d l.
+    let inside : i < count = omega (arith, l, raised_long c zeros) in
+    get_or_default (raised c zeros) i d (pos 0) l ∙ raised_at c zeros i inside ∙ nothing (at zeros i) (2 ^ lowering_of c i) (zeros_at count i) ∙ sym (get_or-replicate count i (pos 0) d inside))
+  where
+    nothing : (z : ℤ) (power : ℕ) → z ≡ pos 0 → z *ℤ pos power ≡ pos 0
+    nothing z power e = rw e (ap pos (let h : 0 * power ≡ 0 = omega arith in h))
+
+-- at the start there is nothing to raise
+pub start_with_raised : (c : Numbers) → with_raised c (start_of c) ≡ start_of c
+start_with_raised c = rw (raised_zeros c) refl
+
+-- a step with raised multipliers is the machine's step
+pub step_with_raised : (c : Numbers) (state : List ℤ) (made : Iterate) → length made.multipliers ≡ length c.bounds → raised_step c state (with_raised c made) ≡ with_raised c (step_of c state made)
+step_with_raised c state made long = rw (unraised-raised c made.multipliers long) refl
+
 -- ---- within the clamp
 pub within_clamp : (c : Numbers) (multipliers : List ℤ) (i : ℕ) → i < length c.bounds → AreWithin multipliers (clamp_magnitudes c) → unsigned_abs (at multipliers i) ≤ unsigned_abs c.clamp
 within_clamp c multipliers i lt w = rw get_or-replicate at (w.each i)
@@ -42,22 +80,36 @@ within_clamp c multipliers i lt w = rw get_or-replicate at (w.each i)
 clamp_le : (c : Numbers) → IsController c → unsigned_abs c.clamp ≤ 2 ^ 126
 clamp_le c s = omega (arith, ints, s.form.sized.clamp_low, s.form.sized.clamp_high)
 
--- a multiplier that is raised fits the word, and so does one that is lowered
-pub raised_fits : (c : Numbers) (multipliers : List ℤ) (i : ℕ) → IsController c → i < length c.bounds → AreWithin (raised c multipliers) (clamp_magnitudes c) → FitsSigned w128 (at multipliers i *ℤ pos (2 ^ lowering_of c i))
-raised_fits c multipliers i s lt w =
-    rw (← raised_at c multipliers i lt) (fits_signed_from_abs w128 _ (omega (arith, within_clamp c (raised c multipliers) i lt w, clamp_le c s)))
-
--- and a word of 64 bits where the clamp does
-pub within_narrow_clamp : (c : Numbers) (multipliers : List ℤ) (i : ℕ) → HasNarrowFactors c → i < length c.bounds → AreWithin multipliers (clamp_magnitudes c) → IsNarrow (at multipliers i)
-within_narrow_clamp c multipliers i n lt w = omega (arith, within_clamp c multipliers i lt w, n.clamp)
-
-pub raised_narrow : (c : Numbers) (multipliers : List ℤ) (i : ℕ) → HasNarrowFactors c → i < length c.bounds → AreWithin (raised c multipliers) (clamp_magnitudes c) → IsNarrow (at multipliers i *ℤ pos (2 ^ lowering_of c i))
-raised_narrow c multipliers i n lt w = rw (← raised_at c multipliers i lt) (within_narrow_clamp c (raised c multipliers) i n lt w)
-
-pub lowered_within : (c : Numbers) (multipliers : List ℤ) (i : ℕ) → i < length c.bounds → AreWithin multipliers (clamp_magnitudes c) → unsigned_abs (floor_of (at multipliers i) (2 ^ lowering_of c i)) ≤ unsigned_abs c.clamp
-lowered_within c multipliers i lt w = omega (arith, abs-floor_le (at multipliers i) (2 ^ lowering_of c i), within_clamp c multipliers i lt w)
+-- a multiplier that is lowered
+pub lowered_within : (c : Numbers) (multiplier : ℤ) (i : ℕ) → unsigned_abs multiplier ≤ unsigned_abs c.clamp → unsigned_abs (floor_of multiplier (2 ^ lowering_of c i)) ≤ unsigned_abs c.clamp
+lowered_within c multiplier i le = omega (arith, abs-floor_le multiplier (2 ^ lowering_of c i), le)
 
 -- ---- a multiplier that moved
 pub moved_is : (c : Numbers) (state plan : List ℤ) (old top : ℤ) (i : ℕ) → top ≡ top_of c i →
     int_min top (int_max (old +ℤ floor_of (row_sum c state plan i) (2 ^ c.fraction_bits)) (pos 0)) ≡ next_multiplier c state plan old i
 moved_is c state plan old top i e = ap (λ (z : ℤ). int_min z (int_max (old +ℤ floor_of (row_sum c state plan i) (2 ^ c.fraction_bits)) (pos 0))) e
+
+next_at : (c : Numbers) (state plan multipliers : List ℤ) (i : ℕ) → i < length c.bounds → at (next_multipliers c state plan multipliers) i ≡ next_multiplier c state plan (at multipliers i) i
+next_at c state plan multipliers i lt = get_or-map-range_with_len (λ j. next_multiplier c state plan (at multipliers j) j) 0 (length c.bounds) i i (pos 0) lt (omega arith)
+
+pub next_unraised_at : (c : Numbers) (state plan multipliers : List ℤ) (i : ℕ) → i < length c.bounds →
+    at (next_multipliers c state plan (unraised c multipliers)) i ≡ next_multiplier c state plan (floor_of (at multipliers i) (2 ^ lowering_of c i)) i
+next_unraised_at c state plan multipliers i lt = next_at c state plan (unraised c multipliers) i lt ∙ ap (λ (z : ℤ). next_multiplier c state plan z i) (unraised_at c multipliers i lt)
+
+-- raised, it is at most the clamp, as each of a list is
+pub moved_within : (c : Numbers) (state plan : List ℤ) (old : ℤ) (i : ℕ) → IsController c → i < length c.bounds →
+    unsigned_abs (next_multiplier c state plan old i *ℤ pos (2 ^ lowering_of c i)) ≤ unsigned_abs c.clamp
+moved_within c state plan old i s lt =
+    let h = s.form.sized.clamp_low in
+    let olds = replicate (length c.bounds) old in
+    let next = next_multipliers c state plan olds in
+    let same : at next i ≡ next_multiplier c state plan old i = next_at c state plan olds i lt ∙ ap (λ (z : ℤ). next_multiplier c state plan z i) (get_or-replicate (length c.bounds) i old (pos 0) lt) in
+    let up : at (raised c next) i ≡ next_multiplier c state plan old i *ℤ pos (2 ^ lowering_of c i) = raised_at c next i lt ∙ ap (λ (z : ℤ). z *ℤ pos (2 ^ lowering_of c i)) same in
+    rw (← up) (within_clamp c (raised c next) i lt (raised_within c next h (tops_kept c state plan olds h)))
+
+-- so it fits the word, and a word of 64 bits where the clamp does
+pub moved_fits : (c : Numbers) (state plan : List ℤ) (old : ℤ) (i : ℕ) → IsController c → i < length c.bounds → FitsSigned w128 (next_multiplier c state plan old i *ℤ pos (2 ^ lowering_of c i))
+moved_fits c state plan old i s lt = fits_signed_from_abs w128 _ (omega (arith, moved_within c state plan old i s lt, clamp_le c s))
+
+pub moved_narrow : (c : Numbers) (state plan : List ℤ) (old : ℤ) (i : ℕ) → IsController c → HasNarrowFactors c → i < length c.bounds → IsNarrow (next_multiplier c state plan old i *ℤ pos (2 ^ lowering_of c i))
+moved_narrow c state plan old i s n lt = omega (arith, moved_within c state plan old i s lt, n.clamp)

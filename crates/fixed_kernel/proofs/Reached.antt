@@ -1,10 +1,10 @@
 -- What a kernel's words are, by its rule.
-use Rattle.std.proofs.Common.{◌≡◌, ℕ, ◌+◌, ◌*◌, ◌≤◌, ◌<◌, ◌^◌, List, ℤ, length, get_or, unsigned_abs, ap, sym, subst, ◌∙◌, arith, refl, IsTrue}
+use Rattle.std.proofs.Common.{◌≡◌, ℕ, ◌+◌, ◌*◌, ◌≤◌, ◌<◌, ◌^◌, List, ℤ, pos, ◌*ℤ◌, length, get_or, unsigned_abs, ap, sym, subst, ◌∙◌, arith, refl, IsTrue}
 use Rattle.std.proofs.lemmas.Nat.{mul-le}
 use Rattle.std.proofs.lemmas.List.{length-map}
 use Rattle.integer_algebra.specs.Sums.{at}
 use Rattle.qp_model.specs.Controller.{Numbers, plan_length}
-use Rattle.qp_model.specs.Machine.{Iterate, IsAdmissible, loaded, start_of, step_of}
+use Rattle.qp_model.specs.Machine.{Iterate, IsAdmissible, loaded, lowering_of, raised, start_of}
 use Rattle.qp_model.specs.AbsoluteSums.{state_magnitudes, plan_magnitudes, IsController}
 use Rattle.qp_model.specs.Within.{AreWithin}
 use Rattle.qp_model.proofs.MagnitudeLaws.{state_within, after_multipliers}
@@ -15,12 +15,14 @@ use Rattle.word_region.specs.Lending.{written_over}
 use Rattle.word_region.specs.declared.Span.{Span}
 use Rattle.fixed_kernel.specs.declared.kernel.Kernel.TheInside.{Inside}
 use Rattle.fixed_kernel.specs.Factors.{HasNarrowFactors}
+use Rattle.fixed_kernel.specs.Raised.{with_raised, raised_step}
 use Rattle.fixed_kernel.specs.Spans.{words_of, spans_of, state_in, made_in}
 use Rattle.fixed_kernel.specs.Ready.{IsReadyToStep}
 use Rattle.fixed_kernel.specs.Progress.{Progress, iterate_of, region_of, unloaded, progress_of, IsReached}
 use Rattle.fixed_kernel.proofs.Rooms.{fit}
+use Rattle.fixed_kernel.proofs.Raised.{raised_at, raised_long, start_with_raised, step_with_raised}
 use Rattle.fixed_kernel.proofs.States.{unloaded-loaded}
-use Rattle.fixed_kernel.proofs.Words.{state_back, made_back, words_long, written_whole, lent_whole}
+use Rattle.fixed_kernel.proofs.Words.{at_multipliers, state_back, made_back, words_long, written_whole, lent_whole}
 
 -- ---- the machine's values after some steps from a state
 -- a controller, a state of its box, and steps that it has
@@ -35,6 +37,10 @@ loaded_long p g = length-map p.state _ ∙ g.grid.long
 pub multipliers_long : (p : Progress) → Goes p → length (iterate_of p).multipliers ≡ p.controller.rows
 multipliers_long p g = after_multipliers_length p.controller (loaded p.controller p.state) p.made ∙ g.sound.form.sized.shaped.bounds
 
+-- and the raised ones among the words
+pub words_multipliers_long : (p : Progress) → Goes p → length (raised p.controller (iterate_of p).multipliers) ≡ p.controller.rows
+words_multipliers_long p g = raised_long p.controller (iterate_of p).multipliers ∙ g.sound.form.sized.shaped.bounds
+
 pub plan_long : (p : Progress) → length (iterate_of p).plan ≡ length p.controller.offsets
 plan_long p = after_plan_length p.controller (loaded p.controller p.state) p.made
 
@@ -47,8 +53,8 @@ sums_entries p g = after_sums_length p.controller (loaded p.controller p.state) 
 -- the region has as many words as the controller says
 pub region_long : (p : Progress) → Goes p → length (region_of p).words ≡ p.controller.words
 region_long p g =
-    words_long p.controller.states p.controller.rows (plan_length p.controller) p.controller.words (loaded p.controller p.state) (iterate_of p) g.sound.form.sized.words
-    (loaded_long p g) (multipliers_long p g) (plan_entries p g) (sums_entries p g)
+    words_long p.controller.states p.controller.rows (plan_length p.controller) p.controller.words (loaded p.controller p.state) (with_raised p.controller (iterate_of p)) g.sound.form.sized.words
+    (loaded_long p g) (words_multipliers_long p g) (plan_entries p g) (sums_entries p g)
 
 state_reached : (p : Progress) → Goes p → AreWithin (loaded p.controller p.state) (state_magnitudes p.controller)
 state_reached p g = state_within p.controller p.state g.sound.form.sized.shaped.low g.sound.form.sized.shaped.high g.grid
@@ -62,11 +68,10 @@ sums_room p g lt j h =
     omega (arith, sum, all, (fit c g.sound).sums j h)
 
 -- one more step may be made
-ready : (p : Progress) → Goes p → p.made < p.controller.steps → IsReadyToStep p.controller (loaded p.controller p.state) (iterate_of p)
+ready : (p : Progress) → Goes p → p.made < p.controller.steps → IsReadyToStep p.controller (loaded p.controller p.state) (with_raised p.controller (iterate_of p))
 ready p g lt = record {
   state_within = state_reached p g;
-  multipliers_long = after_multipliers_length p.controller (loaded p.controller p.state) p.made;
-  raised_within = after_multipliers p.controller (loaded p.controller p.state) p.made g.sound.form.sized.clamp_low;
+  multipliers_within = after_multipliers p.controller (loaded p.controller p.state) p.made g.sound.form.sized.clamp_low;
   plan_long = plan_long p;
   sums_long = after_sums_length p.controller (loaded p.controller p.state) p.made;
   room = sums_room p g lt;
@@ -74,10 +79,10 @@ ready p g lt = record {
 
 -- what the region's words hold
 pub state_held : (p : Progress) → Goes p → state_in p.controller (region_of p).words ≡ loaded p.controller p.state
-state_held p g = state_back p.controller (loaded p.controller p.state) (iterate_of p) (loaded_long p g)
+state_held p g = state_back p.controller (loaded p.controller p.state) (with_raised p.controller (iterate_of p)) (loaded_long p g)
 
-pub made_held : (p : Progress) → Goes p → made_in p.controller (region_of p).words ≡ iterate_of p
-made_held p g = made_back p.controller (loaded p.controller p.state) (iterate_of p) (loaded_long p g) (multipliers_long p g) (plan_long p)
+pub made_held : (p : Progress) → Goes p → made_in p.controller (region_of p).words ≡ with_raised p.controller (iterate_of p)
+made_held p g = made_back p.controller (loaded p.controller p.state) (with_raised p.controller (iterate_of p)) (loaded_long p g) (words_multipliers_long p g) (plan_long p)
 
 pub ready_held : (p : Progress) → Goes p → p.made < p.controller.steps → IsReadyToStep p.controller (state_in p.controller (region_of p).words) (made_in p.controller (region_of p).words)
 ready_held p g lt =
@@ -86,15 +91,17 @@ ready_held p g lt =
 
 -- the words after one more step
 pub words_after : (p : Progress) → Goes p →
-    words_of (state_in p.controller (region_of p).words) (step_of p.controller (state_in p.controller (region_of p).words) (made_in p.controller (region_of p).words)) ≡ (region_of (record p { made = p.made + 1 })).words
+    words_of (state_in p.controller (region_of p).words) (raised_step p.controller (state_in p.controller (region_of p).words) (made_in p.controller (region_of p).words)) ≡ (region_of (record p { made = p.made + 1 })).words
 words_after p g =
-    ap (λ (s : List ℤ). words_of s (step_of p.controller s (made_in p.controller (region_of p).words))) (state_held p g) ∙
-    ap (λ (m : Iterate). words_of (loaded p.controller p.state) (step_of p.controller (loaded p.controller p.state) m)) (made_held p g) ∙
-    ap (words_of (loaded p.controller p.state)) (sym (after_suc p.controller (loaded p.controller p.state) p.made))
+    ap (λ (s : List ℤ). words_of s (raised_step p.controller s (made_in p.controller (region_of p).words))) (state_held p g) ∙
+    ap (λ (m : Iterate). words_of (loaded p.controller p.state) (raised_step p.controller (loaded p.controller p.state) m)) (made_held p g) ∙
+    ap (words_of (loaded p.controller p.state))
+    (step_with_raised p.controller (loaded p.controller p.state) (iterate_of p) (after_multipliers_length p.controller (loaded p.controller p.state) p.made) ∙
+    ap (with_raised p.controller) (sym (after_suc p.controller (loaded p.controller p.state) p.made)))
 
 -- the words at the start
 pub words_first : (c : Numbers) (xi : List ℤ) → words_of (loaded c xi) (start_of c) ≡ (region_of (record { controller = c; state = xi; made = 0 })).words
-words_first c xi = ap (words_of (loaded c xi)) (sym (after_zero c (loaded c xi)))
+words_first c xi = ap (words_of (loaded c xi)) (sym (start_with_raised c) ∙ ap (with_raised c) (sym (after_zero c (loaded c xi))))
 
 -- ---- a kernel that stands there
 pub record Stands (k : Inside) (p : Progress) : Type 0 where
@@ -160,7 +167,7 @@ loaded_stands k r n xi start ws e same grid h =
 
 -- a step is made
 pub stepped_stands : (k : Inside) → IsReached k → k.made < k.controller.now.steps → (n : Numbers) (start : ℕ) (lent ws : List ℤ) → start ≡ 0 → n ≡ k.controller.now → lent ≡ k.region.words →
-    ws ≡ words_of (state_in n lent) (step_of n (state_in n lent) (made_in n lent)) →
+    ws ≡ words_of (state_in n lent) (raised_step n (state_in n lent) (made_in n lent)) →
     Stands (kernel_with k start ws (k.made + 1)) (record (progress_of k) { made = k.made + 1 })
 stepped_stands k r lt n start lent ws e same taken h =
     let c = k.controller.now in
@@ -172,8 +179,8 @@ stepped_stands k r lt n start lent ws e same taken h =
       made = refl;
       goes = g;
       region = written_region k.region start ws p e (held_long k r) g (ap (λ (w : RegionWords). w.used) r.region)
-          (h ∙ ap (λ (m : Numbers). words_of (state_in m lent) (step_of m (state_in m lent) (made_in m lent))) same ∙
-          ap (λ (w : List ℤ). words_of (state_in c w) (step_of c (state_in c w) (made_in c w))) was ∙ words_after (progress_of k) (goes k r));
+          (h ∙ ap (λ (m : Numbers). words_of (state_in m lent) (raised_step m (state_in m lent) (made_in m lent))) same ∙
+          ap (λ (w : List ℤ). words_of (state_in c w) (raised_step c (state_in c w) (made_in c w))) was ∙ words_after (progress_of k) (goes k r));
       spans = r.spans;
       narrow = r.narrow;
     }
@@ -192,3 +199,10 @@ ready_lent k r lt n lent same h =
 -- word i of the region, where the machine's values have it
 pub word_held : (k : Inside) → IsReached k → (i : ℕ) → at k.region.words i ≡ at (region_of (progress_of k)).words i
 word_held k r i = ap (λ (w : RegionWords). at w.words i) r.region
+
+-- the word of a multiplier
+pub raised_word : (p : Progress) → Goes p → (i : ℕ) → i < p.controller.rows →
+    at (region_of p).words (p.controller.states + i) ≡ at (iterate_of p).multipliers i *ℤ pos (2 ^ lowering_of p.controller i)
+raised_word p g i lt =
+    at_multipliers p.controller.states p.controller.rows i (loaded p.controller p.state) (with_raised p.controller (iterate_of p)) (loaded_long p g) (words_multipliers_long p g) lt ∙
+    raised_at p.controller (iterate_of p).multipliers i (omega (arith, lt, g.sound.form.sized.shaped.bounds))

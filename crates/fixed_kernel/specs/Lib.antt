@@ -1,6 +1,6 @@
 pub mod Outside
 pub mod Spans
+pub mod Raised
 pub mod Progress
 pub mod Factors
-pub mod Unraised
 pub mod Ready

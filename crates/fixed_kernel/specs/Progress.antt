@@ -6,6 +6,7 @@ use Rattle.qp_model.specs.Machine.{Iterate, IsAdmissible, loaded, after}
 use Rattle.qp_model.specs.AbsoluteSums.{IsController}
 use Rattle.word_region.specs.Words.{RegionWords}
 use Rattle.fixed_kernel.specs.Factors.{HasNarrowFactors}
+use Rattle.fixed_kernel.specs.Raised.{with_raised}
 use Rattle.fixed_kernel.specs.Spans.{words_of, spans_of, state_in}
 use Rattle.fixed_kernel.specs.declared.kernel.Kernel.TheInside.{Inside}
 
@@ -23,9 +24,9 @@ iterate_of k = after k.controller (loaded k.controller k.state) k.made
 abbrev pub unloaded : Numbers → List ℤ → List ℤ
 unloaded c xs = map (λ x. floor_of x (2 ^ (c.fraction_bits - c.grid_bits))) xs
 
--- the region's words, all of which are in use
+-- the region's words, all of which are in use: the multipliers are raised to over 2^(fraction_bits + step_exponent)
 abbrev pub region_of : Progress → RegionWords
-region_of k = record { words = words_of (loaded k.controller k.state) (iterate_of k); used = k.controller.words }
+region_of k = record { words = words_of (loaded k.controller k.state) (with_raised k.controller (iterate_of k)); used = k.controller.words }
 
 abbrev pub progress_of : Inside → Progress
 progress_of k = record { controller = k.controller.now; state = unloaded k.controller.now (state_in k.controller.now k.region.words); made = k.made }

@@ -2,15 +2,14 @@
 use Rattle.std.specs.Prelude.{◌≡◌, ℕ, ◌+◌, ◌^◌, ◌≤◌, ◌<◌, ℤ, List, length, unsigned_abs, slice_index_or}
 use Rattle.integer_algebra.specs.Sums.{at}
 use Rattle.qp_model.specs.Controller.{Numbers}
-use Rattle.qp_model.specs.Machine.{Iterate, raised}
+use Rattle.qp_model.specs.Machine.{Iterate}
 use Rattle.qp_model.specs.AbsoluteSums.{state_magnitudes, clamp_magnitudes, plan_magnitudes}
 use Rattle.qp_model.specs.Within.{AreWithin}
 
--- the state and the raised multipliers are within their reaches, and the sums leave room for one more plan
+-- the state and the multipliers, which are raised there, are within their reaches, and the sums leave room for one more plan
 pub record IsReadyToStep (c : Numbers) (state : List ℤ) (made : Iterate) : Type 0 where
   pub state_within : AreWithin state (state_magnitudes c)
-  pub multipliers_long : length made.multipliers ≡ length c.bounds
-  pub raised_within : AreWithin (raised c made.multipliers) (clamp_magnitudes c)
+  pub multipliers_within : AreWithin made.multipliers (clamp_magnitudes c)
   pub plan_long : length made.plan ≡ length c.offsets
   pub sums_long : length made.sums ≡ length c.offsets
   pub room : (k : ℕ) → k < length c.offsets → unsigned_abs (at made.sums k) + slice_index_or (plan_magnitudes c) k 0 ≤ 2 ^ 126

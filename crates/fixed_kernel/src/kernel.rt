@@ -1,15 +1,15 @@
 // The machine's state, its steps and its runs.
-ghost use Rattle.std.specs.Prelude.{◌≡◌, ◌<◌, ◌≤◌, ◌+◌, ◌↔◌, length, IsOk, IfOk, IfErr, OnOk, OnErr};
+ghost use Rattle.std.specs.Prelude.{◌≡◌, ◌<◌, ◌≤◌, ◌+◌, ◌^◌, ◌↔◌, pos, ◌*ℤ◌, length, IsOk, IfOk, IfErr, OnOk, OnErr};
 ghost use Rattle.integer_algebra.specs.Sums.{at};
 ghost use Rattle.qp_model.specs.Controller.{plan_length};
-ghost use Rattle.qp_model.specs.Machine.{IsAdmissible, loaded, step_of, run_of};
+ghost use Rattle.qp_model.specs.Machine.{IsAdmissible, lowering_of, loaded, step_of, run_of};
 ghost use Rattle.fixed_kernel.specs.Outside.{IsFirstOutside};
 ghost use Rattle.fixed_kernel.specs.Spans.{multipliers_span, plan_span, sums_span};
 
 use crate::narrow::has_narrow_factors;
 use crate::spans::{Spans, take_spans};
 use crate::state::{OutsideBox, first_outside, put_start};
-use crate::step::advance;
+use crate::step::{advance, lowered};
 use overflow_check::Controller;
 use qp_model::ControllerParts;
 use std::alloc::{AllocError, Global};
@@ -17,8 +17,8 @@ use std::marker::Model;
 use word_region::{Region, Span};
 
 /// A controller at work on one state. It is seen as the controller, the grid state and the number of steps made; plan,
-/// multipliers and sums are those of the machine after that many steps from that state. They and the state are the words of one
-/// region, and it has no others.
+/// multipliers and sums are those of the machine after that many steps from that state. They, the multipliers raised to over `2^(f+s)`, and
+/// the state are the words of one region, and it has no others.
 ///
 /// Each answer is the written machine's, and the promise that no value leaves the controller's width speaks of that machine. On the way to
 /// them the code meets some other values, as a floor of one part of a sum alone; that these fit 128 bits is proved here.
@@ -134,13 +134,14 @@ impl<'a> Kernel<'a> {
         self.region.word(&self.spans.sums, j)
     }
 
-    /// Multiplier `i`, over `2^(f + exps[i])`.
+    /// Multiplier `i`, over `2^(f + exps[i])`. The region's word there is over `2^(f+s)`, the same for all rows.
     pub fn multiplier(&self, i: usize) -> i128
         requires { i < self.now.controller.rows }
         ensures value { result ≡ at (iterate_of self.now).multipliers i }
-        ensures word { result ≡ at (region_of self.now).words ((multipliers_span self.now.controller).start + i) }
+        ensures word { at (region_of self.now).words ((multipliers_span self.now.controller).start + i) ≡ result *ℤ pos (2 ^ lowering_of self.now.controller i) }
     {
-        self.region.word(&self.spans.multipliers, i)
+        let raised = self.region.word(&self.spans.multipliers, i);
+        lowered(self.controller.parts(), raised, i)
     }
 
     /// Entry `j` of the last plan, over `2^f`.
@@ -161,7 +162,7 @@ impl<'a> Kernel<'a> {
     }
 
     /// All the memory that the kernel ever uses: the words of the state over `2^f`, of the multipliers, of the last plan and of the sums, one
-    /// behind the other.
+    /// behind the other. Each multiplier is raised there to over `2^(f+s)`, as the plan is made of it; in version 1 that is the multiplier itself.
     pub fn region(&self) -> &Region
         ensures words { result.now ≡ region_of self.now }
         ensures size { length result.now.words ≡ self.now.controller.words }

@@ -1,6 +1,6 @@
 // Plan entries, multipliers and sums.
-ghost use Rattle.std.specs.Prelude.{◌≡◌, ◌≤◌, ◌<◌, ◌+◌, ◌^◌, ℕ, pos, ◌+ℤ◌, ◌*ℤ◌, length, unsigned_abs, FitsSigned, IsTrue};
-ghost use Rattle.std.specs.Int.{w128, int_max, int_min};
+ghost use Rattle.std.specs.Prelude.{◌≡◌, ◌≤◌, ◌<◌, ◌+◌, ◌^◌, ℕ, pos, ◌+ℤ◌, ◌*ℤ◌, length, unsigned_abs, IsTrue};
+ghost use Rattle.std.specs.Int.{int_max, int_min};
 ghost use Rattle.integer_algebra.specs.Division.{floor_of};
 ghost use Rattle.integer_algebra.specs.Sums.{at};
 ghost use Rattle.mat_int.specs.Row.{list_dot};
@@ -8,12 +8,12 @@ ghost use Rattle.mat_int.specs.Matrix.{row_of};
 ghost use Rattle.mat_int.specs.Narrow.{IsNarrow};
 ghost use Rattle.qp_model.specs.Limits.{text_version};
 ghost use Rattle.qp_model.specs.Controller.{numbers};
-ghost use Rattle.qp_model.specs.Machine.{lowering_of, raised, plan_entry, plan_of, row_sum, next_multipliers, added, step_of};
+ghost use Rattle.qp_model.specs.Machine.{lowering_of, raised, plan_entry, plan_of, row_sum, next_multiplier, next_multipliers, added};
 ghost use Rattle.qp_model.specs.AbsoluteSums.{IsController, clamp_magnitudes, state_magnitudes, plan_magnitudes};
 ghost use Rattle.qp_model.specs.Within.{AreWithin};
 ghost use Rattle.fixed_kernel.specs.Factors.{HasNarrowFactors};
+ghost use Rattle.fixed_kernel.specs.Raised.{unraised, raised_step};
 ghost use Rattle.fixed_kernel.specs.Spans.{words_of, made_of, state_in, made_in};
-ghost use Rattle.fixed_kernel.specs.Unraised.{unraised};
 ghost use Rattle.fixed_kernel.specs.Ready.{IsReadyToStep};
 
 use crate::entry::{entry_from, multiplier_from, short_shift};
@@ -40,31 +40,13 @@ fn lowering_at(c: &ControllerParts, exps: &[u32], i: usize) -> u32
     c.s - exps[i]
 }
 
-// Raises one multiplier by so many bits. Most rows have the greatest exponent, and their multipliers are not even read.
-#[inline]
-fn raise_by(narrow: bool, l: &mut i128, lowering: u32)
-    requires bits { lowering ≤ 62 }
-    requires narrow { IsTrue narrow → IsNarrow (l.old *ℤ pos (2 ^ lowering)) }
-    requires fits { FitsSigned w128 (l.old *ℤ pos (2 ^ lowering)) }
-    ensures { l.new ≡ l.old *ℤ pos (2 ^ lowering) }
-{
-    if lowering != 0 {
-        *l = scaled_by(narrow, *l, lowering);
-    }
-}
-
-// Raises multipliers: each was over `2^(f + exps[i])`, and is then over `2^(f+s)`.
-fn raise(c: &ControllerParts, narrow: bool, multipliers: &mut [i128])
+// A raised multiplier, lowered: it was over `2^(f+s)`, and is then over `2^(f + exps[i])`.
+pub fn lowered(c: &ControllerParts, raised: i128, i: usize) -> i128
     requires sound { IsController (numbers c.now) }
-    requires narrow { IsTrue narrow → HasNarrowFactors (numbers c.now) }
-    requires long { length multipliers.old ≡ length c.now.bound.items }
-    requires within { AreWithin (raised (numbers c.now) multipliers.old) (clamp_magnitudes (numbers c.now)) }
-    ensures { multipliers.new ≡ raised (numbers c.now) multipliers.old }
+    requires in_range { i < length c.now.bound.items }
+    ensures { result ≡ floor_of raised (2 ^ lowering_of (numbers c.now) i) }
 {
-    let exps = exponents_of(c, multipliers.len());
-    for (i, l) in multipliers.iter_mut().enumerate() {
-        raise_by(narrow, l, lowering_at(c, exps, i));
-    }
+    short_shift(raised, lowering_at(c, &c.exps, i))
 }
 
 // One plan entry, at raised multipliers. One running sum goes through the multipliers' products, is shifted, and goes on through the state's.
@@ -166,23 +148,34 @@ fn move_multipliers(
     }
 }
 
-// A raised multiplier and the clamp, both lowered by so many bits. Most rows are lowered by none, and then there is nothing to shift.
-#[inline]
-fn lowered(narrow: bool, raised: i128, clamp: i128, lowering: u32) -> (i128, i128)
-    requires bits { lowering ≤ 62 }
-    requires raised { IsTrue narrow → IsNarrow raised }
-    requires clamp { IsTrue narrow → IsNarrow clamp }
-    ensures old { result.0 ≡ floor_of raised (2 ^ lowering) }
-    ensures top { result.1 ≡ floor_of clamp (2 ^ lowering) }
+// One raised multiplier, from the one before it: that and the clamp are lowered for the move, and the moved one is raised again. Where factors
+// are narrow each shift is one instruction, and no row asks whether it has any. It stays within the loop that calls it.
+#[inline(always)]
+fn raised_multiplier_at(
+    c: &ControllerParts,
+    narrow: bool,
+    state: &[i128],
+    plan: &[i128],
+    raised: i128,
+    exps: &[u32],
+    i: usize,
+) -> i128
+    requires sound { IsController (numbers c.now) }
+    requires narrow { IsTrue narrow → HasNarrowFactors (numbers c.now) }
+    requires state { AreWithin state.now (state_magnitudes (numbers c.now)) }
+    requires plan { AreWithin plan.now (plan_magnitudes (numbers c.now)) }
+    requires raised { unsigned_abs raised ≤ unsigned_abs c.now.clamp }
+    requires exps { exps.now ≡ c.now.exps.items }
+    requires in_range { i < length c.now.bound.items }
+    ensures { let lowering = lowering_of (numbers c.now) i in result ≡ next_multiplier (numbers c.now) state.now plan.now (floor_of raised (2 ^ lowering)) i *ℤ pos (2 ^ lowering) }
 {
-    if lowering == 0 {
-        (raised, clamp)
-    } else {
-        (
-            shifted_by(narrow, raised, lowering),
-            shifted_by(narrow, clamp, lowering),
-        )
-    }
+    // The products come first: they need the registers that the lowered ones would stay in.
+    let row = row_products(c, narrow, state, plan, i);
+    let lowering = lowering_at(c, exps, i);
+    let old = shifted_by(narrow, raised, lowering);
+    let top = shifted_by(narrow, c.clamp, lowering);
+    let next = multiplier_from(row, c.bound[i], old, top, c.f);
+    scaled_by(narrow, next, lowering)
 }
 
 // The loop of `move_raised`. It stays within each of the two calls there.
@@ -199,18 +192,16 @@ fn move_rows(
     requires state { AreWithin state.now (state_magnitudes (numbers c.now)) }
     requires plan { AreWithin plan.now (plan_magnitudes (numbers c.now)) }
     requires multipliers { AreWithin multipliers.old (clamp_magnitudes (numbers c.now)) }
-    ensures { multipliers.new ≡ next_multipliers (numbers c.now) state.now plan.now (unraised (numbers c.now) multipliers.old) }
+    ensures { multipliers.new ≡ raised (numbers c.now) (next_multipliers (numbers c.now) state.now plan.now (unraised (numbers c.now) multipliers.old)) }
 {
     let exps = exponents_of(c, multipliers.len());
     for (i, l) in multipliers.iter_mut().enumerate() {
-        // The products come first: they need the registers that the lowered ones would stay in.
-        let row = row_products(c, narrow, state, plan, i);
-        let (old, top) = lowered(narrow, *l, c.clamp, lowering_at(c, exps, i));
-        *l = multiplier_from(row, c.bound[i], old, top, c.f);
+        *l = raised_multiplier_at(c, narrow, state, plan, *l, exps, i);
     }
 }
 
-// The multipliers after a plan, from raised ones. Each call is a loop of its own, which doesn't ask at each row how wide the factors are.
+// The raised multipliers after a plan, from those before it. Each call is a loop of its own, which doesn't ask at each row how wide the
+// factors are.
 fn move_raised(
     c: &ControllerParts,
     narrow: bool,
@@ -223,7 +214,7 @@ fn move_raised(
     requires state { AreWithin state.now (state_magnitudes (numbers c.now)) }
     requires plan { AreWithin plan.now (plan_magnitudes (numbers c.now)) }
     requires multipliers { AreWithin multipliers.old (clamp_magnitudes (numbers c.now)) }
-    ensures { multipliers.new ≡ next_multipliers (numbers c.now) state.now plan.now (unraised (numbers c.now) multipliers.old) }
+    ensures { multipliers.new ≡ raised (numbers c.now) (next_multipliers (numbers c.now) state.now plan.now (unraised (numbers c.now) multipliers.old)) }
 {
     if narrow {
         move_rows(c, true, state, plan, multipliers);
@@ -243,7 +234,7 @@ fn add_plan(plan: &[i128], sums: &mut [i128])
     }
 }
 
-// One step, in the four parts of the region's words.
+// One step, in the four parts of the region's words. The multipliers there are raised, before it and after it.
 fn make_step(
     c: &ControllerParts,
     narrow: bool,
@@ -255,18 +246,15 @@ fn make_step(
     requires sound { IsController (numbers c.now) }
     requires narrow { IsTrue narrow → HasNarrowFactors (numbers c.now) }
     requires ready { IsReadyToStep (numbers c.now) state.now (made_of plan.old multipliers.old sums.old) }
-    ensures { made_of plan.new multipliers.new sums.new ≡ step_of (numbers c.now) state.now (made_of plan.old multipliers.old sums.old) }
+    ensures { made_of plan.new multipliers.new sums.new ≡ raised_step (numbers c.now) state.now (made_of plan.old multipliers.old sums.old) }
 {
-    // In version 1 all exponents are the greatest, and raising changes nothing.
-    let raising = c.version != VERSION;
-    if raising {
-        raise(c, narrow, multipliers);
-    }
     make_plan(c, narrow, state, multipliers, plan);
-    if raising {
-        move_raised(c, narrow, state, plan, multipliers);
-    } else {
+    // In version 1 all exponents are the greatest, and raising changes nothing.
+    let first = c.version == VERSION;
+    if first {
         move_multipliers(c, narrow, state, plan, multipliers);
+    } else {
+        move_raised(c, narrow, state, plan, multipliers);
     }
     add_plan(plan, sums);
 }
@@ -278,7 +266,7 @@ pub fn advance(c: &ControllerParts, narrow: bool, words: &mut [i128])
     requires narrow { IsTrue narrow → HasNarrowFactors (numbers c.now) }
     requires long { length words.old ≡ c.now.words }
     requires ready { IsReadyToStep (numbers c.now) (state_in (numbers c.now) words.old) (made_in (numbers c.now) words.old) }
-    ensures { let state = state_in (numbers c.now) words.old in words.new ≡ words_of state (step_of (numbers c.now) state (made_in (numbers c.now) words.old)) }
+    ensures { let state = state_in (numbers c.now) words.old in words.new ≡ words_of state (raised_step (numbers c.now) state (made_in (numbers c.now) words.old)) }
 {
     let (state, rest) = words.split_at_mut(c.n);
     let (multipliers, rest) = rest.split_at_mut(c.m);

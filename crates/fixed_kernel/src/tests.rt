@@ -102,30 +102,30 @@ fn makes_steps(kernel: &mut Kernel) -> bool
         && steps_to(kernel, &[1024, 0, 0, 848, -596, -2224])
 }
 
-// The same where the third row has the exponent 0: its multiplier is over 2^f, and raised for the plan.
+// The same where the third row has the exponent 0: its multiplier is over 2^f, 256 after the first step, and its word has twice that.
 fn makes_longer_steps(kernel: &mut Kernel) -> bool
     requires states { kernel.old.controller.states ≡ 1 }
     requires words { kernel.old.controller.words ≡ 6 }
     ensures { kernel.new.controller ≡ kernel.old.controller }
 {
     kernel.load(&[1]).is_ok()
-        && steps_to(kernel, &[1024, 0, 0, 256, -512, -512])
-        && steps_to(kernel, &[1024, 0, 0, 448, -576, -1088])
-        && steps_to(kernel, &[1024, 0, 0, 592, -624, -1712])
-        && steps_to(kernel, &[1024, 0, 0, 700, -660, -2372])
+        && steps_to(kernel, &[1024, 0, 0, 512, -512, -512])
+        && steps_to(kernel, &[1024, 0, 0, 896, -576, -1088])
+        && steps_to(kernel, &[1024, 0, 0, 1184, -624, -1712])
+        && steps_to(kernel, &[1024, 0, 0, 1400, -660, -2372])
 }
 
-// The same where the clamp is 1001, so that the third multiplier is at most 500.
+// The same where the clamp is 1001, so that the third multiplier is at most 500, and its word 1000.
 fn stops_at_the_top(kernel: &mut Kernel) -> bool
     requires states { kernel.old.controller.states ≡ 1 }
     requires words { kernel.old.controller.words ≡ 6 }
     ensures { kernel.new.controller ≡ kernel.old.controller }
 {
     kernel.load(&[1]).is_ok()
-        && steps_to(kernel, &[1024, 0, 0, 256, -512, -512])
-        && steps_to(kernel, &[1024, 0, 0, 448, -576, -1088])
-        && steps_to(kernel, &[1024, 0, 0, 500, -624, -1712])
-        && steps_to(kernel, &[1024, 0, 0, 500, -637, -2349])
+        && steps_to(kernel, &[1024, 0, 0, 512, -512, -512])
+        && steps_to(kernel, &[1024, 0, 0, 896, -576, -1088])
+        && steps_to(kernel, &[1024, 0, 0, 1000, -624, -1712])
+        && steps_to(kernel, &[1024, 0, 0, 1000, -637, -2349])
 }
 
 // Whether a run from this state answers so and leaves these words.

@@ -1,6 +1,7 @@
 use Rattle.std.proofs.Common.{◌≡◌, List, ℤ, length, ap, ◌∙◌, refl, rules}
 use Rattle.qp_model.specs.Controller.{numbers}
-use Rattle.qp_model.specs.Machine.{Iterate, step_of}
+use Rattle.qp_model.specs.Machine.{Iterate}
+use Rattle.fixed_kernel.specs.Raised.{raised_step}
 use Rattle.fixed_kernel.specs.Spans.{words_of, made_of, state_in, made_in}
 use Rattle.fixed_kernel.proofs.step.advance.Goals as goal
 
@@ -15,5 +16,5 @@ returns c =
     let old : made_of plan.result.0.now multipliers.result.0.now plan.result.1.now ≡ made_in n words =
     rw (plan.ensures.front, plan.ensures.back, multipliers.ensures.front, multipliers.ensures.back, state.ensures.back, entries) refl in
     ap (words_of state.result.0.now) c.make_step.ensures
-    ∙ ap (λ (xs : List ℤ). words_of xs (step_of n xs (made_of plan.result.0.now multipliers.result.0.now plan.result.1.now))) state.ensures.front
-    ∙ ap (λ (made : Iterate). words_of (state_in n words) (step_of n (state_in n words) made)) old
+    ∙ ap (λ (xs : List ℤ). words_of xs (raised_step n xs (made_of plan.result.0.now multipliers.result.0.now plan.result.1.now))) state.ensures.front
+    ∙ ap (λ (made : Iterate). words_of (state_in n words) (raised_step n (state_in n words) made)) old

@@ -7,8 +7,9 @@ use Rattle.qp_model.specs.Controller.{plan_length}
 use Rattle.qp_model.specs.Machine.{loaded}
 use Rattle.fixed_kernel.specs.declared.spans.Spans.{Spans}
 use Rattle.fixed_kernel.specs.Progress.{Progress, iterate_of, progress_of}
+use Rattle.fixed_kernel.specs.Raised.{with_raised}
 use Rattle.fixed_kernel.proofs.Words.{at_plan}
-use Rattle.fixed_kernel.proofs.Reached.{goes, loaded_long, multipliers_long, plan_entries, word_held}
+use Rattle.fixed_kernel.proofs.Reached.{goes, loaded_long, words_multipliers_long, plan_entries, word_held}
 use Rattle.fixed_kernel.proofs.kernel.Kernel.last.Goals as goal
 
 pub returns-clause-value : goal.returns-clause-value
@@ -20,5 +21,5 @@ returns-clause-value c =
     let lt : c.args.j < plan_length p.controller = subst (λ (q : Progress). c.args.j < plan_length q.controller) (sym c.self.view_is) c.requires in
     let fits : FitsSigned w128 c.word.result = search rules in
     to_z-of_z w128 _ fits ∙ c.word.ensures ∙ ap (λ (s : Spans). slice_index_or k.region.words (s.plan.start + c.args.j) (pos 0)) r.spans ∙ word_held k r (p.controller.states + p.controller.rows + c.args.j) ∙
-    at_plan p.controller.states p.controller.rows (plan_length p.controller) c.args.j (loaded p.controller p.state) (iterate_of p) (loaded_long p g) (multipliers_long p g) (plan_entries p g) lt ∙
+    at_plan p.controller.states p.controller.rows (plan_length p.controller) c.args.j (loaded p.controller p.state) (with_raised p.controller (iterate_of p)) (loaded_long p g) (words_multipliers_long p g) (plan_entries p g) lt ∙
     ap (λ (q : Progress). at (iterate_of q).plan c.args.j) c.self.view_is
