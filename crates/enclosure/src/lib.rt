@@ -9,8 +9,6 @@ mod matrix;
 mod room;
 mod single;
 mod sum;
-#[cfg(test)]
-mod tests;
 mod types;
 
 pub use combination::combine;

@@ -7,8 +7,6 @@ ghost use Rattle.std.specs.Option.{SomeIff};
 ghost use Rattle.integer_algebra.specs.Division.{floor_of, ceil_of, round_of, IsFloor};
 
 mod fraction;
-#[cfg(test)]
-mod tests;
 
 pub use fraction::{Frac, floor_scaled};
 
