@@ -14,6 +14,3 @@ pub fn corner_law()
     ensures box_margin { BoxLaw }
     ensures repair { RepairLaw }
 {}
-
-#[cfg(test)]
-mod tests;

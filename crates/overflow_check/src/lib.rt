@@ -11,6 +11,3 @@ pub use absolute_sums::{greatest_sum, plan_entry_magnitude, plan_sum};
 pub use controller::{BadParts, Controller};
 pub use laws::values_law;
 pub use word_width::width;
-
-#[cfg(test)]
-mod tests;

@@ -1,4 +1,5 @@
-use crate::{TooManySteps, multiplier, row_violation, steps, undercut, violation};
+// What follows from a margin.
+use dual_bounds::{TooManySteps, multiplier, row_violation, steps, undercut, violation};
 use qp_model::{Margin, Quantity, Wide};
 
 #[test]
