@@ -17,6 +17,3 @@ pub use fault::WidthFault;
 pub use generation::{Made, generate};
 pub use laws::{agreement_law, causes_law, certified_law, targets_law};
 pub use refusal::Refusal;
-
-#[cfg(test)]
-mod tests;

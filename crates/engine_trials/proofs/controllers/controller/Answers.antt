@@ -1,7 +1,7 @@
 use Rattle.std.proofs.Common.{◌∙◌}
 use Rattle.qp_model.specs.Parts.{design_of}
 use Rattle.design_engine.proofs.BuiltFacts.{repeated_exponents}
-use Rattle.design_engine.proofs.tests.controller.Goals as goal
+use Rattle.engine_trials.proofs.controllers.controller.Goals as goal
 
 pub controller_of-requires-clause-gains : goal.controller_of-requires-clause-gains
 controller_of-requires-clause-gains c = c.in_ok-gains.ensures.solved _ c.in_ok-condensed.ensures.form

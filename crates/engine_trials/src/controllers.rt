@@ -1,10 +1,10 @@
-// Expected values are those of bench/assemble/expected.py.
+// Controllers of one design. Expected values are those of bench/assemble/expected.py.
 ghost use Rattle.std.specs.Prelude.{◌≤◌, ◌^◌, pos, ◌≤ℤ◌, IfOk};
 ghost use Rattle.qp_model.specs.Range.{LiesIn};
 
-use super::*;
 use approx_inverse::solve_all;
 use class_choice::condense;
+use design_engine::{Settings, WidthFault, controller_of};
 use design_files::read_design;
 use mat_int::Mat;
 use overflow_check::Controller;
