@@ -7,6 +7,3 @@ mod texts;
 
 pub use laws::made_law;
 pub use texts::{Texts, make};
-
-#[cfg(test)]
-mod tests;
