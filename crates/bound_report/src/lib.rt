@@ -143,6 +143,3 @@ fn push_rows(alloc: Global, text: &mut String, b: &Bounds) -> Result<(), AllocEr
     }
     Ok(())
 }
-
-#[cfg(test)]
-mod tests;

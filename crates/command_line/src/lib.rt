@@ -8,6 +8,3 @@ mod words;
 pub use error_line::status_line;
 pub use status::{Field, Status, status_number};
 pub use words::{Command, command_of, is_json};
-
-#[cfg(test)]
-mod tests;

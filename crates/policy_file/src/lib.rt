@@ -8,6 +8,3 @@ mod text;
 
 pub use number::number_field;
 pub use read::{read_policy, read_states};
-
-#[cfg(test)]
-mod tests;

@@ -1,7 +1,5 @@
 // The lines that tell of answers, and the commands.
-use crate::error_line::status_line;
-use crate::status::{Field, Status};
-use crate::words::{Command, command_of, is_json};
+use command_line::{Command, Field, Status, command_of, is_json, status_line};
 use controller_file::BadController;
 use frac_scaled::Frac;
 use io_edge::Words;
@@ -16,12 +14,25 @@ fn is_line(alloc: Global, status: &Status, line: &str) -> Result<bool, AllocErro
 }
 
 // Whether the arguments, with one space between two, are those of this command.
-fn are_of(alloc: Global, arguments: &str, command: Option<Command>) -> Result<bool, AllocError> {
+fn are_of(alloc: Global, arguments: &str, command: &Option<Command>) -> Result<bool, AllocError> {
     let mut words = Words::empty(alloc);
     for word in arguments.split(' ') {
         words.push(word)?;
     }
-    Ok(command_of(&words) == command)
+    Ok(command_of(&words) == *command)
+}
+
+// The first line that doesn't tell of its answer.
+fn first_other_line(
+    alloc: Global,
+    cases: &[(Status, &'static str)],
+) -> Result<Option<&'static str>, AllocError> {
+    for (status, line) in cases {
+        if !is_line(alloc, status, line)? {
+            return Ok(Some(line));
+        }
+    }
+    Ok(None)
 }
 
 // Each answer once, with each fault of a text and of a controller.
@@ -37,29 +48,53 @@ fn lines(rt: HostRuntime) -> Result<(), Fail> {
         (Status::Usage, "error 2 usage\n"),
         (Status::ReadFault { file: 2 }, "error 3 read-fault 2\n"),
         (Status::WriteFault { file: 0 }, "error 4 write-fault 0\n"),
-        (text(1, TextFault::NotToml), "error 5 text 1 not-toml\n"),
         (
-            text(1, TextFault::Key { place: 13 }),
+            Status::Text {
+                file: 1,
+                fault: TextFault::NotToml,
+            },
+            "error 5 text 1 not-toml\n",
+        ),
+        (
+            Status::Text {
+                file: 1,
+                fault: TextFault::Key { place: 13 },
+            },
             "error 5 text 1 key 13\n",
         ),
         (
-            text(1, TextFault::Shape { place: 6 }),
+            Status::Text {
+                file: 1,
+                fault: TextFault::Shape { place: 6 },
+            },
             "error 5 text 1 shape 6\n",
         ),
         (
-            text(1, TextFault::Range { place: 18 }),
+            Status::Text {
+                file: 1,
+                fault: TextFault::Range { place: 18 },
+            },
             "error 5 text 1 range 18\n",
         ),
         (
-            text(2, TextFault::Fields { entry: 2 }),
+            Status::Text {
+                file: 2,
+                fault: TextFault::Fields { entry: 2 },
+            },
             "error 5 text 2 fields 2\n",
         ),
         (
-            text(2, TextFault::Number { entry: 2, field: 2 }),
+            Status::Text {
+                file: 2,
+                fault: TextFault::Number { entry: 2, field: 2 },
+            },
             "error 5 text 2 number 2 2\n",
         ),
         (
-            text(2, TextFault::Count { entries: 0 }),
+            Status::Text {
+                file: 2,
+                fault: TextFault::Count { entries: 0 },
+            },
             "error 5 text 2 count 0\n",
         ),
         (
@@ -123,64 +158,67 @@ fn lines(rt: HostRuntime) -> Result<(), Fail> {
             "error 14 mismatch states 2 1\n",
         ),
     ];
-    for (status, line) in cases {
-        let same = is_line(rt.alloc(), &status, line)?;
-        assert!(rt; same, "{status:?}");
-    }
+    assert_eq!(rt; first_other_line(rt.alloc(), &cases)?, None);
     Ok(())
 }
 
-// The answer that tells of a text's fault.
-fn text(file: u32, fault: TextFault) -> Status {
-    Status::Text { file, fault }
+// Each command, and next to it the arguments of none.
+static COMMANDS: [(&str, Option<Command>); 34] = [
+    ("generate d p c r", Some(Command::Generate)),
+    ("generate d d c r.json", Some(Command::Generate)),
+    ("solve c s", Some(Command::Solve)),
+    ("solve s s", Some(Command::Solve)),
+    ("loop d c s 0", Some(Command::Loop { turns: 0 })),
+    ("loop d c s 1000000", Some(Command::Loop { turns: 1000000 })),
+    ("demo 0", Some(Command::Demo { number: 0 })),
+    (
+        "demo 4294967295",
+        Some(Command::Demo { number: 4294967295 }),
+    ),
+    ("", None),
+    ("solve", None),
+    ("solve c", None),
+    ("solve c s t", None),
+    ("Solve c s", None),
+    ("generate d p c", None),
+    ("generate d p c r x", None),
+    ("generate d p d r", None),
+    ("generate d p p r", None),
+    ("generate d p c d", None),
+    ("generate d p c p", None),
+    ("generate d p c c", None),
+    ("loop d c s", None),
+    ("loop d c s 1000001", None),
+    ("loop d c s 01", None),
+    ("loop d c s -1", None),
+    ("loop d c s -0", None),
+    ("loop d c s +1", None),
+    ("loop d c s x", None),
+    ("loop d c s ", None),
+    ("loop d c s 1 2", None),
+    ("demo", None),
+    ("demo 4294967296", None),
+    ("demo 00", None),
+    ("demo 1 2", None),
+    ("run c s", None),
+];
+
+// The first arguments of another command.
+fn first_other_command(
+    alloc: Global,
+    cases: &[(&'static str, Option<Command>)],
+) -> Result<Option<&'static str>, AllocError> {
+    for (arguments, command) in cases {
+        if !are_of(alloc, arguments, command)? {
+            return Ok(Some(arguments));
+        }
+    }
+    Ok(None)
 }
 
-// Each command, and next to it the arguments of none.
 #[test]
 fn commands(rt: HostRuntime) -> Result<(), Fail> {
-    let cases = [
-        ("generate d p c r", Some(Command::Generate)),
-        ("generate d d c r.json", Some(Command::Generate)),
-        ("solve c s", Some(Command::Solve)),
-        ("solve s s", Some(Command::Solve)),
-        ("loop d c s 0", Some(Command::Loop { turns: 0 })),
-        ("loop d c s 1000000", Some(Command::Loop { turns: 1000000 })),
-        ("demo 0", Some(Command::Demo { number: 0 })),
-        (
-            "demo 4294967295",
-            Some(Command::Demo { number: 4294967295 }),
-        ),
-        ("", None),
-        ("solve", None),
-        ("solve c", None),
-        ("solve c s t", None),
-        ("Solve c s", None),
-        ("generate d p c", None),
-        ("generate d p c r x", None),
-        ("generate d p d r", None),
-        ("generate d p p r", None),
-        ("generate d p c d", None),
-        ("generate d p c p", None),
-        ("generate d p c c", None),
-        ("loop d c s", None),
-        ("loop d c s 1000001", None),
-        ("loop d c s 01", None),
-        ("loop d c s -1", None),
-        ("loop d c s -0", None),
-        ("loop d c s +1", None),
-        ("loop d c s x", None),
-        ("loop d c s ", None),
-        ("loop d c s 1 2", None),
-        ("demo", None),
-        ("demo 4294967296", None),
-        ("demo 00", None),
-        ("demo 1 2", None),
-        ("run c s", None),
-    ];
-    for (arguments, command) in cases {
-        let same = are_of(rt.alloc(), arguments, command)?;
-        assert!(rt; same, "{arguments}");
-    }
+    assert_eq!(rt; first_other_command(rt.alloc(), &COMMANDS)?, None);
     Ok(())
 }
 

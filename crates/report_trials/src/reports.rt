@@ -1,4 +1,7 @@
-use super::*;
+// Reports as lines and as JSON.
+use bound_report::{report_json, report_text};
+use qp_model::Bounds;
+use std::alloc::{AllocError, Global};
 use std::test::Fail;
 
 // The first controller's bounds.

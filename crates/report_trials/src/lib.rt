@@ -1,0 +1,9 @@
+//! Trials of what is read of policies and states, of reports, and of the arguments and answers of the program.
+#![tactic(auto)]
+
+#[cfg(test)]
+mod commands;
+#[cfg(test)]
+mod policies;
+#[cfg(test)]
+mod reports;

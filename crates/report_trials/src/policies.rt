@@ -1,0 +1,140 @@
+// Fields of numbers, and texts of states.
+ghost use Rattle.std.specs.Prelude.{length, ◌<◌, ◌^◌};
+
+use mat_int::Mat;
+use policy_file::{number_field, read_states};
+use qp_model::TextFault;
+use std::alloc::{AllocError, Global};
+use std::test::Fail;
+
+// Fields of one number, and fields that hold none.
+static NUMBERS: [(&[u8], Option<i128>); 22] = [
+    (b"0", Some(0)),
+    (b"-0", Some(0)),
+    (b"8", Some(8)),
+    (b"-07", Some(-7)),
+    (b" -7", Some(-7)),
+    (b"7   ", Some(7)),
+    (b"0000000000000000001", Some(1)),
+    (b"9223372036854775807", Some(9223372036854775807)),
+    (b"-9223372036854775807", Some(-9223372036854775807)),
+    (b"9223372036854775808", None),
+    (b"-9223372036854775808", None),
+    (b"9999999999999999999", None),
+    (b"00000000000000000001", None),
+    (b"", None),
+    (b"   ", None),
+    (b"-", None),
+    (b"- 7", None),
+    (b"+7", None),
+    (b"1 2", None),
+    (b"\t7", None),
+    (b"7\t", None),
+    (b"7.0", None),
+];
+
+// The first field that holds something else.
+fn first_other_number(cases: &[(&'static [u8], Option<i128>)]) -> Option<&'static [u8]> {
+    for (field, number) in cases {
+        if number_field(field) != *number {
+            return Some(field);
+        }
+    }
+    None
+}
+
+#[test]
+fn numbers(rt: HostRuntime) {
+    assert_eq!(rt; first_other_number(&NUMBERS), None);
+}
+
+// Texts of states of two numbers each, with those of all rows in turn.
+static STATES: [(&[u8], &[i128]); 7] = [
+    (b"", &[]),
+    (b"\n\r\n\n", &[]),
+    (b"1,-2\n3,4\n", &[1, -2, 3, 4]),
+    (b"1,-2\r3,4", &[1, -2, 3, 4]),
+    (b"\n1,-2\n\n3,4\r\n", &[1, -2, 3, 4]),
+    (b"\"1\", -02 \n", &[1, -2]),
+    (b"\xef\xbb\xbf1,-2\n", &[1, -2]),
+];
+
+// Whether a matrix has two columns, and these numbers in its rows in turn.
+fn has_numbers(alloc: Global, states: &Mat, numbers: &[i128]) -> Result<bool, AllocError> {
+    let mut all = Vec::new(alloc);
+    for i in 0..states.rows() {
+        all.extend_from_slice(states.row(i))?;
+    }
+    Ok(states.cols() == 2 && all.as_slice() == numbers)
+}
+
+// Whether a text of states of two numbers each has these.
+fn is_states(alloc: Global, text: &[u8], numbers: &[i128]) -> Result<bool, Fail>
+    requires { length text.now < 2 ^ 32 }
+{
+    let states = read_states(alloc, text, 2)?;
+    Ok(has_numbers(alloc, &states, numbers)?)
+}
+
+// The first text that has other numbers.
+fn first_other_states(
+    alloc: Global,
+    cases: &[(&'static [u8], &'static [i128])],
+) -> Result<Option<&'static [u8]>, Fail> {
+    for (text, numbers) in cases {
+        if text.len() > 99 || !is_states(alloc, text, numbers)? {
+            return Ok(Some(text));
+        }
+    }
+    Ok(None)
+}
+
+#[test]
+fn states(rt: HostRuntime) -> Result<(), Fail> {
+    assert_eq!(rt; first_other_states(rt.alloc(), &STATES)?, None);
+    Ok(())
+}
+
+// Texts that are none of states of so many numbers, with their first fault.
+static FAULTS: [(&[u8], usize, TextFault); 10] = [
+    (b"1,2\n3\n", 2, TextFault::Fields { entry: 2 }),
+    (b"1,2,\n", 2, TextFault::Fields { entry: 1 }),
+    (b"1,2\n3,x\n", 2, TextFault::Number { entry: 2, field: 2 }),
+    (b"1,y\nx\n", 2, TextFault::Number { entry: 1, field: 2 }),
+    (b"x,y\n", 2, TextFault::Number { entry: 1, field: 1 }),
+    (b"\"1,2\"\n", 2, TextFault::Fields { entry: 1 }),
+    (b" ", 2, TextFault::Fields { entry: 1 }),
+    (b" ", 1, TextFault::Number { entry: 1, field: 1 }),
+    (b"\"\"\n", 1, TextFault::Number { entry: 1, field: 1 }),
+    (b"1\n1\t\n", 1, TextFault::Number { entry: 2, field: 1 }),
+];
+
+// The first fault of a text, none where it is one of states; an error where memory runs out, so that it is taken for no answer.
+fn fault_of(alloc: Global, text: &[u8], n: usize) -> Result<Option<TextFault>, AllocError>
+    requires { length text.now < 2 ^ 32 }
+{
+    match read_states(alloc, text, n) {
+        Ok(_) => Ok(None),
+        Err(TextFault::Memory) => Err(AllocError),
+        Err(fault) => Ok(Some(fault)),
+    }
+}
+
+// The first text with another fault.
+fn first_other_fault(
+    alloc: Global,
+    cases: &[(&'static [u8], usize, TextFault)],
+) -> Result<Option<&'static [u8]>, AllocError> {
+    for (text, n, fault) in cases {
+        if text.len() > 99 || fault_of(alloc, text, *n)? != Some(*fault) {
+            return Ok(Some(text));
+        }
+    }
+    Ok(None)
+}
+
+#[test]
+fn faults(rt: HostRuntime) -> Result<(), Fail> {
+    assert_eq!(rt; first_other_fault(rt.alloc(), &FAULTS)?, None);
+    Ok(())
+}
