@@ -1,5 +1,5 @@
 // The stores and sinks in memory at work: listed calls and room.
-use crate::{Failed, MemSink, MemStore, ReadRefusal, Sink, Store, Words};
+use io_edge::{Failed, MemSink, MemStore, ReadRefusal, Sink, Store, Words};
 use std::test::Fail;
 
 // Reads of a store in memory, by their numbers.
@@ -14,17 +14,18 @@ fn listed_reads(rt: HostRuntime) -> Result<(), Fail> {
         store.read_all(alloc, "a", 3)?.as_slice(),
         b"abc".as_slice()
     );
-    assert_eq!(rt;
+    let refused = [
         store.read_all(alloc, "a", 3).err(),
-        Some(ReadRefusal::Failed)
-    );
-    assert_eq!(rt;
         store.read_all(alloc, "a", 2).err(),
-        Some(ReadRefusal::Long)
-    );
-    assert_eq!(rt;
         store.read_all(alloc, "b", 9).err(),
-        Some(ReadRefusal::Failed)
+    ];
+    assert_eq!(rt;
+        refused,
+        [
+            Some(ReadRefusal::Failed),
+            Some(ReadRefusal::Long),
+            Some(ReadRefusal::Failed)
+        ]
     );
     Ok(())
 }
@@ -37,14 +38,17 @@ fn listed_writes(rt: HostRuntime) -> Result<(), Fail> {
     store.reserve("b", 5)?;
     store.fail_write(2, 3)?;
     store.fail_write(2, 1)?;
-    assert_eq!(rt; store.write_all("b", b"12345"), Ok(()));
-    assert_eq!(rt; store.write_all("b", b"6789"), Err(Failed));
+    let first = [
+        store.write_all("b", b"12345"),
+        store.write_all("b", b"6789"),
+    ];
+    assert_eq!(rt; first, [Ok(()), Err(Failed)]);
     assert_eq!(rt;
         store.read_all(alloc, "b", 9)?.as_slice(),
         b"678".as_slice()
     );
-    assert_eq!(rt; store.write_all("b", b"123456"), Err(Failed));
-    assert_eq!(rt; store.write_all("c", b""), Err(Failed));
+    let second = [store.write_all("b", b"123456"), store.write_all("c", b"")];
+    assert_eq!(rt; second, [Err(Failed), Err(Failed)]);
     assert_eq!(rt;
         store.read_all(alloc, "b", 9)?.as_slice(),
         b"678".as_slice()
@@ -69,10 +73,13 @@ fn kept_and_held(rt: HostRuntime) -> Result<(), Fail> {
 #[test]
 fn sinks(rt: HostRuntime) -> Result<(), Fail> {
     let mut out = MemSink::with(rt.alloc(), 6, &[2])?;
-    assert_eq!(rt; out.put(b"abc"), Ok(()));
-    assert_eq!(rt; out.put(b"d"), Err(Failed));
-    assert_eq!(rt; out.put(b"defg"), Err(Failed));
-    assert_eq!(rt; out.put(b"def"), Ok(()));
+    let put = [
+        out.put(b"abc"),
+        out.put(b"d"),
+        out.put(b"defg"),
+        out.put(b"def"),
+    ];
+    assert_eq!(rt; put, [Ok(()), Err(Failed), Err(Failed), Ok(())]);
     assert_eq!(rt; out.seen(), b"abcdef".as_slice());
     Ok(())
 }
@@ -83,8 +90,6 @@ fn words(rt: HostRuntime) -> Result<(), Fail> {
     assert_eq!(rt; words.count(), 0);
     words.push("solve")?;
     words.push("")?;
-    assert_eq!(rt; words.count(), 2);
-    assert_eq!(rt; words.at(0), "solve");
-    assert_eq!(rt; words.at(1), "");
+    assert_eq!(rt; (words.count(), words.at(0), words.at(1)), (2, "solve", ""));
     Ok(())
 }

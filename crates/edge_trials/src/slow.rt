@@ -1,0 +1,200 @@
+// Files and outputs that give or take a few bytes at a time.
+use io_edge::{Failed, HostStore, ReadRefusal, Sink, StdSink, Store};
+use std::alloc::Allocator;
+use std::cell::Cell;
+use std::fs::{Metadata, OpenFile, OpenOptions};
+use std::io;
+use std::io::{Read, Seek, SeekFrom, Write};
+use std::rt::Files;
+use std::test::Fail;
+
+// A file that gives three bytes at a time of those that are left, and takes three at a time of just those.
+#[derive(Drop)]
+struct SlowFile<'a> {
+    left: &'a Cell<&'static [u8]>,
+}
+
+impl Read for SlowFile<'_> {
+    fn read(&mut self, buf: &mut [u8]) -> io::Result<usize> {
+        let left = self.left.get();
+        let count = buf.len().min(left.len()).min(3);
+        buf[..count].copy_from_slice(&left[..count]);
+        self.left.set(&left[count..]);
+        Ok(count)
+    }
+}
+
+impl Write for SlowFile<'_> {
+    fn write(&mut self, buf: &[u8]) -> io::Result<usize> {
+        let left = self.left.get();
+        let count = buf.len().min(3);
+        if left.len() < count || left[..count] != buf[..count] {
+            return Err(io::Error::from(io::ErrorKind::InvalidData));
+        }
+        self.left.set(&left[count..]);
+        Ok(count)
+    }
+
+    fn flush(&mut self) -> io::Result<()> {
+        Ok(())
+    }
+}
+
+// What neither store asks of a file.
+fn not_asked<T>() -> io::Result<T> {
+    Err(io::Error::from(io::ErrorKind::Unsupported))
+}
+
+impl Seek for SlowFile<'_> {
+    fn seek(&mut self, _to: SeekFrom) -> io::Result<u64> {
+        not_asked()
+    }
+}
+
+impl OpenFile for SlowFile<'_> {
+    fn metadata(&self) -> io::Result<Metadata> {
+        not_asked()
+    }
+
+    fn set_len(&self, _size: u64) -> io::Result<()> {
+        not_asked()
+    }
+
+    fn sync_all(&self) -> io::Result<()> {
+        not_asked()
+    }
+
+    fn sync_data(&self) -> io::Result<()> {
+        not_asked()
+    }
+}
+
+// A system with one such file, under each name.
+#[derive(Drop)]
+struct SlowFiles<'a> {
+    left: &'a Cell<&'static [u8]>,
+}
+
+impl<'a> Files for SlowFiles<'a> {
+    type File = SlowFile<'a>;
+
+    type Dir = SlowFile<'a>;
+
+    fn open_file(&self, _how: &OpenOptions, _path: &str) -> io::Result<SlowFile<'a>> {
+        Ok(SlowFile { left: self.left })
+    }
+
+    fn open_dir(&self, _path: &str) -> io::Result<SlowFile<'a>> {
+        not_asked()
+    }
+
+    fn metadata(&self, _path: &str) -> io::Result<Metadata> {
+        not_asked()
+    }
+
+    fn symlink_metadata(&self, _path: &str) -> io::Result<Metadata> {
+        not_asked()
+    }
+
+    fn copy(&self, _from: &str, _to: &str) -> io::Result<u64> {
+        not_asked()
+    }
+
+    fn rename(&self, _from: &str, _to: &str) -> io::Result<()> {
+        not_asked()
+    }
+
+    fn remove_file(&self, _path: &str) -> io::Result<()> {
+        not_asked()
+    }
+
+    fn create_dir(&self, _path: &str) -> io::Result<()> {
+        not_asked()
+    }
+
+    fn remove_dir(&self, _path: &str) -> io::Result<()> {
+        not_asked()
+    }
+
+    fn remove_dir_all<B: Allocator>(&self, _alloc: B, _path: &str) -> io::Result<()> {
+        not_asked()
+    }
+}
+
+// Ten bytes.
+static TEN: &[u8] = b"0123456789";
+
+#[test]
+fn slow_reader(rt: HostRuntime) -> Result<(), Fail> {
+    let left = Cell::new(TEN);
+    let files = SlowFiles { left: &left };
+    let read = HostStore::new(&files).read_all(rt.alloc(), "file", 10)?;
+    assert!(rt; read.as_slice() == TEN);
+    Ok(())
+}
+
+// No more than one byte beyond the limit is taken.
+#[test]
+fn slow_reader_at_limit(rt: HostRuntime) -> Result<(), Fail> {
+    let left = Cell::new(TEN);
+    let files = SlowFiles { left: &left };
+    let read = HostStore::new(&files).read_all(rt.alloc(), "file", 4).err();
+    assert_eq!(rt;
+        (read, left.get()),
+        (Some(ReadRefusal::Long), b"56789".as_slice())
+    );
+    Ok(())
+}
+
+#[test]
+fn slow_writer(rt: HostRuntime) -> Result<(), Fail> {
+    let left = Cell::new(TEN);
+    let files = SlowFiles { left: &left };
+    let written = HostStore::new(&files).write_all("file", TEN);
+    assert_eq!(rt; (written, left.get()), (Ok(()), b"".as_slice()));
+    Ok(())
+}
+
+// An output that takes three bytes at a time, up to so many in all, and then none.
+#[derive(Drop)]
+struct SlowOutput {
+    free: Cell<usize>,
+}
+
+impl Print for SlowOutput {
+    fn print<D: std::fmt::Display + Drop>(&self, _value: D) -> io::Result<()> {
+        Ok(())
+    }
+
+    fn println<D: std::fmt::Display + Drop>(&self, _value: D) -> io::Result<()> {
+        Ok(())
+    }
+
+    fn write_all(&self, _bytes: &[u8]) -> io::Result<()> {
+        Ok(())
+    }
+
+    fn write_some(&self, bytes: &[u8]) -> io::Result<usize> {
+        let count = bytes.len().min(self.free.get()).min(3);
+        self.free.set(self.free.get().saturating_sub(count));
+        Ok(count)
+    }
+}
+
+#[test]
+fn slow_output(rt: HostRuntime) -> Result<(), Fail> {
+    let output = SlowOutput {
+        free: Cell::new(12),
+    };
+    let put = StdSink::new(&output).put(b"0123456789");
+    assert_eq!(rt; (put, output.free.get()), (Ok(()), 2));
+    Ok(())
+}
+
+#[test]
+fn full_output(rt: HostRuntime) -> Result<(), Fail> {
+    let output = SlowOutput { free: Cell::new(8) };
+    let put = StdSink::new(&output).put(b"0123456789");
+    assert_eq!(rt; (put, output.free.get()), (Err(Failed), 0));
+    Ok(())
+}
