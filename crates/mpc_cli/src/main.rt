@@ -4,10 +4,8 @@
 ghost use Rattle.std.specs.Prelude.{◌≡◌, IfOk, drop, map, string_bytes};
 ghost use Rattle.std.specs.Vec.Iter.{into_iter_items};
 
-mod command;
-
-use command::run;
 use command_line::{Status, status_line, status_number};
+use command_run::run;
 use io_edge::{HostStore, StdSink, Words};
 use std::alloc::{AllocError, Global};
 use std::env;

@@ -1,6 +1,6 @@
 // Whole runs over stores and sinks in memory, in tables.
-use crate::command::run;
 use command_line::{Status, status_line};
+use command_run::run;
 use io_edge::{MemSink, MemStore, ReadRefusal, Words};
 use std::alloc::{AllocError, Global};
 use std::test::Fail;

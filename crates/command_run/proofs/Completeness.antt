@@ -8,8 +8,8 @@ use Rattle.solve_command.specs.Solve.{SolveReaches}
 use Rattle.loop_command.specs.Loop.{LoopReaches}
 use Rattle.command_line.specs.declared.status.Status.{Status}
 use Rattle.command_line.specs.declared.status.Status.TheVariants.{Done, Memory, Usage, ReadFault, WriteFault, Text, NoMargin, Curvature, TooManySteps, TooFine, TooWide, Controller, OutsideBox, Long, Mismatch}
-use Rattle.mpc_cli.specs.Calls.{Calls, IsCalledFor}
-use Rattle.mpc_cli.specs.Faults.{MayRead, ReachesFile, WriteFailed, NoneRises}
+use Rattle.command_run.specs.Calls.{Calls, IsCalledFor}
+use Rattle.command_run.specs.Faults.{MayRead, ReachesFile, WriteFailed, NoneRises}
 
 -- ---- what an answer is
 pub data Kind : Status → Type 0 where

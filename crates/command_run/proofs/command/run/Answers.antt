@@ -2,9 +2,9 @@ use Rattle.std.proofs.Common.{refl, rules}
 use Rattle.io_edge.specs.Faults.{Rose}
 use Rattle.command_line.specs.Words.{word_of, IsGenerate, IsSolve, IsLoop, IsDemo}
 use Rattle.command_line.specs.Commands.{IsUsage}
-use Rattle.mpc_cli.proofs.Commands.{usage_called, generate_called, solve_called, loop_called, demo_called, generate_read, solve_read, loop_read, generate_written, solve_written, loop_written, demo_written, usage_printed, generate_printed, loop_printed, demo_printed}
-use Rattle.mpc_cli.proofs.Completeness.{complete}
-use Rattle.mpc_cli.proofs.command.run.Goals as goal
+use Rattle.command_run.proofs.Commands.{usage_called, generate_called, solve_called, loop_called, demo_called, generate_read, solve_read, loop_read, generate_written, solve_written, loop_written, demo_written, usage_printed, generate_printed, loop_printed, demo_printed}
+use Rattle.command_run.proofs.Completeness.{complete}
+use Rattle.command_run.proofs.command.run.Goals as goal
 
 -- ---- `generate`
 pub returns-in-Some-Generate-clause-called : goal.returns-in-Some-Generate-clause-called

@@ -8,9 +8,9 @@ ghost use Rattle.command_line.specs.Commands.{IsUsage};
 ghost use Rattle.command_line.specs.Answers.{ForContents, IsAnswer, IsCaused};
 ghost use Rattle.generate_command.specs.Generate.{IsGenerated, IsControllerCut, IsReportCut};
 ghost use Rattle.loop_command.specs.Loop.{TellsLeaving};
-ghost use Rattle.mpc_cli.specs.Calls.{Calls, IsCalledFor};
-ghost use Rattle.mpc_cli.specs.Prints.{Prints};
-ghost use Rattle.mpc_cli.specs.Faults.{MayWrite, MayPrint, ReachesFile, PassesTests, WriteFailed, NoneRises};
+ghost use Rattle.command_run.specs.Calls.{Calls, IsCalledFor};
+ghost use Rattle.command_run.specs.Prints.{Prints};
+ghost use Rattle.command_run.specs.Faults.{MayWrite, MayPrint, ReachesFile, PassesTests, WriteFailed, NoneRises};
 
 use command_line::{Command, Status, command_of};
 use demo_command::demo;

@@ -11,9 +11,9 @@ use Rattle.loop_command.specs.Loop.{LoopCalls, LoopPrints}
 use Rattle.demo_command.specs.Demo.{DemoCalls, DemoPrints}
 use Rattle.command_line.specs.declared.status.Status.{Status}
 use Rattle.command_line.specs.declared.status.Status.TheVariants.{Usage}
-use Rattle.mpc_cli.specs.Calls.{Calls}
-use Rattle.mpc_cli.specs.Prints.{Prints}
-use Rattle.mpc_cli.proofs.Arguments.{generate_solve, generate_loop, generate_demo, solve_loop, solve_demo, loop_demo, one_loop, one_demo}
+use Rattle.command_run.specs.Calls.{Calls}
+use Rattle.command_run.specs.Prints.{Prints}
+use Rattle.command_run.proofs.Arguments.{generate_solve, generate_loop, generate_demo, solve_loop, solve_demo, loop_demo, one_loop, one_demo}
 
 -- ---- contents
 -- what is true of some contents by which P goes to Q

@@ -11,10 +11,10 @@ use Rattle.loop_command.specs.Loop.{LoopCalls, LoopReaches, LoopStarts, LoopPrin
 use Rattle.demo_command.specs.Demo.{DemoCalls, DemoPrints}
 use Rattle.command_line.specs.declared.status.Status.{Status}
 use Rattle.command_line.specs.declared.status.Status.TheVariants.{Done, Usage, ReadFault, WriteFault}
-use Rattle.mpc_cli.specs.Calls.{Calls}
-use Rattle.mpc_cli.specs.Prints.{Prints}
-use Rattle.mpc_cli.specs.Faults.{ReachesFile, PassesTests, WriteFailed}
-use Rattle.mpc_cli.proofs.Lifting.{weaker, some_contents, usage_answer, generate_answer, solve_answer, loop_answer, demo_answer, usage_prints, generate_prints, loop_prints, demo_prints}
+use Rattle.command_run.specs.Calls.{Calls}
+use Rattle.command_run.specs.Prints.{Prints}
+use Rattle.command_run.specs.Faults.{ReachesFile, PassesTests, WriteFailed}
+use Rattle.command_run.proofs.Lifting.{weaker, some_contents, usage_answer, generate_answer, solve_answer, loop_answer, demo_answer, usage_prints, generate_prints, loop_prints, demo_prints}
 
 module _ (words : List (List ℕ)) (held : Option Files) (s : Status) where
   -- ---- causes

@@ -26,7 +26,7 @@ use Rattle.loop_command.specs.Loop.{LoopCalls, LoopsCall, IsMismatch}
 use Rattle.demo_command.specs.Demo.{DemoCalls}
 use Rattle.command_line.specs.declared.status.Status.{Status}
 use Rattle.command_line.specs.declared.status.Status.TheVariants.{Done, Usage, Text, Controller, Long}
-use Rattle.mpc_cli.specs.Calls.{Calls}
+use Rattle.command_run.specs.Calls.{Calls}
 
 -- an answer that a command with files gives: it isn't `Usage`, and no fault in it is that memory ran out
 pub record IsTelling (s : Status) : Type 0 where
