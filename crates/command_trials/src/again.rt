@@ -1,12 +1,12 @@
 // Each answer but one of memory, and after it the right ones over the same store. The plans of two states are those of the model in exact fractions.
-use crate::runs::{generates, given, solves, tells, told_by};
 use io_edge::MemStore;
+use run_trials::{generates, given, solves, tells, told_by};
 use std::alloc::{AllocError, Global};
 use std::test::Fail;
 use worked_designs::{CONTROLLER, CONTROLLER_OF_TWO, DESIGN, POLICY, STATES};
 
 // Further files, most with a fault, or that no controller is made of: a name, and a text with this part in that one's place.
-const FILES: [(&str, &str, &str, &str); 20] = [
+static FILES: [(&str, &str, &str, &str); 20] = [
     ("toml", DESIGN, "version = 1", "x ="),
     ("halves", DESIGN, "grid = 0", "grid = 1"),
     ("triples", DESIGN, "a = [[1]]", "a = [[3]]"),

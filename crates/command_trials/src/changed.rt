@@ -1,6 +1,6 @@
 // A controller's text of which one byte is another.
-use crate::runs::{SOLVE, given, solves, tells, told_by};
 use io_edge::MemStore;
+use run_trials::{SOLVE, given, solves, tells, told_by};
 use std::alloc::{AllocError, Global};
 use std::test::Fail;
 use worked_designs::{CONTROLLER, STATES};

@@ -1,6 +1,6 @@
 // A controller's text that is cut.
-use crate::runs::{SOLVE, given, solves, tells};
 use io_edge::MemStore;
+use run_trials::{SOLVE, given, solves, tells};
 use std::alloc::{AllocError, Global};
 use std::test::Fail;
 use worked_designs::CONTROLLER;

@@ -11,5 +11,3 @@ mod cut;
 mod failing;
 #[cfg(test)]
 mod limits;
-#[cfg(test)]
-mod runs;

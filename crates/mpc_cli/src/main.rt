@@ -44,12 +44,3 @@ fn main(rt: HostRuntime) -> ExitCode {
     }
     ExitCode::from(status_number(&status))
 }
-
-#[cfg(test)]
-mod tests;
-#[cfg(test)]
-mod tests_fine;
-#[cfg(test)]
-mod tests_generate;
-#[cfg(test)]
-mod tests_runs;

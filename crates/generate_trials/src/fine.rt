@@ -1,25 +1,6 @@
 // `generate` on designs whose exact condensed numbers pass 2^126. The numbers of the reports are those of the model in exact fractions and enclosures.
-use crate::tests::{NONE, left_by, store_of};
-use crate::tests_generate::has_lines;
-use std::alloc::Global;
+use crate::texts::writes;
 use std::test::Fail;
-
-// Whether a run writes texts with these lines.
-fn writes(
-    alloc: Global,
-    design: &str,
-    policy: &str,
-    controller: &str,
-    report: &str,
-) -> Result<bool, Fail> {
-    let mut store = store_of(alloc, design, policy, "", "")?;
-    let left = left_by(alloc, "generate d p out r", &mut store, &NONE)?;
-    Ok(
-        left.line.is_empty()
-            && has_lines(alloc, &mut store, "out", controller)?
-            && has_lines(alloc, &mut store, "r", report)?,
-    )
-}
 
 // The quantity `curvature` of the exact numbers is above the limit. The enclosures have midpoints that are exact.
 #[test]
