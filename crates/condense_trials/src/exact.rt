@@ -183,17 +183,25 @@ fn is_exact(found: &Condensed) -> bool {
         && !found.fine
 }
 
-// Whether a design is condensed to these numbers, without radii.
-fn is_form(alloc: Global, text: &str, want: &Form) -> Result<bool, Fail> {
+// Whether a form has these numbers, without radii.
+fn has_numbers(found: &Condensed, want: &Form) -> bool {
+    has_cost(found, want)
+        && has_limits(found, want)
+        && is_exact(found)
+        && found.floor == want.floor
+        && found.power == want.power
+}
+
+// The condensed form of a design.
+fn condensed(alloc: Global, text: &str) -> Result<Condensed, Fail> {
     let design = design(alloc, text)?;
-    let found = condense_exact(alloc, &design)?;
-    Ok(
-        has_cost(&found, want)
-            && has_limits(&found, want)
-            && is_exact(&found)
-            && found.floor == want.floor
-            && found.power == want.power,
-    )
+    Ok(condense_exact(alloc, &design)?)
+}
+
+// Whether a design is condensed to these numbers.
+fn is_form(alloc: Global, text: &str, want: &Form) -> Result<bool, Fail> {
+    let found = condensed(alloc, text)?;
+    Ok(has_numbers(&found, want))
 }
 
 #[test]

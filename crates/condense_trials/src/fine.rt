@@ -81,6 +81,11 @@ fn are_third_scales(found: &Condensed) -> bool {
         && found.fine
 }
 
+// Whether the condensed form of `THIRD` is the one that it has.
+fn is_third(found: &Condensed) -> bool {
+    is_third_cost(found) && are_third_limits(found) && are_third_scales(found)
+}
+
 // Whether the linear part, the rows and the floor of `CROSSED` are those that it has.
 fn is_crossed(found: &Condensed) -> bool {
     let lin: [&[i128]; 4] = [
@@ -105,20 +110,8 @@ fn is_crossed(found: &Condensed) -> bool {
 }
 
 #[test]
-fn third_cost(rt: HostRuntime) -> Result<(), Fail> {
-    assert!(rt; is_third_cost(&condensed(rt.alloc(), THIRD)?));
-    Ok(())
-}
-
-#[test]
-fn third_limits(rt: HostRuntime) -> Result<(), Fail> {
-    assert!(rt; are_third_limits(&condensed(rt.alloc(), THIRD)?));
-    Ok(())
-}
-
-#[test]
-fn third_scales(rt: HostRuntime) -> Result<(), Fail> {
-    assert!(rt; are_third_scales(&condensed(rt.alloc(), THIRD)?));
+fn third(rt: HostRuntime) -> Result<(), Fail> {
+    assert!(rt; is_third(&condensed(rt.alloc(), THIRD)?));
     Ok(())
 }
 

@@ -1,10 +1,6 @@
-//! Trials of the corners and of the condensed forms, exact and in enclosures, on worked designs.
+//! Trials of the condensed forms, exact and in enclosures, on worked designs.
 #![tactic(auto)]
 
-#[cfg(test)]
-mod classes;
-#[cfg(test)]
-mod corners;
 #[cfg(test)]
 mod exact;
 #[cfg(test)]

@@ -1,8 +1,7 @@
 // Expected values are those of bench/condense/classes.py.
-use crate::refusal::wide;
 use class_choice::condense;
 use mat_int::Mat;
-use plant_condense::Condensed;
+use plant_condense::{CondenseFault, Condensed};
 use qp_model::{Design, Quantity};
 use std::alloc::{AllocError, Global};
 use std::test::Fail;
@@ -92,16 +91,31 @@ fn is_answer(found: &Condensed, want: &Answer) -> bool {
         && found.hess_den == want.den
 }
 
-fn is_condensed(alloc: Global, written: Written, want: &Answer) -> Result<bool, Fail> {
+fn condensed(alloc: Global, written: Written) -> Result<Condensed, Fail> {
     let design = design_of(alloc, written)?;
-    let found = condense(alloc, &design)?;
+    Ok(condense(alloc, &design)?)
+}
+
+fn is_condensed(alloc: Global, written: Written, want: &Answer) -> Result<bool, Fail> {
+    let found = condensed(alloc, written)?;
     Ok(is_answer(&found, want))
 }
 
-// The quantity by which the design is too wide, if any.
-fn wide_as(alloc: Global, written: Written) -> Result<Option<Quantity>, Fail> {
+// Whether this is no form, but too wide by this quantity; an error where memory ran out, so that it is taken for no answer.
+fn is_too_wide(
+    found: Result<Condensed, CondenseFault>,
+    quantity: Quantity,
+) -> Result<bool, AllocError> {
+    match found {
+        Ok(_) => Ok(false),
+        Err(CondenseFault::Memory) => Err(AllocError),
+        Err(fault) => Ok(fault == CondenseFault::TooWide { quantity }),
+    }
+}
+
+fn is_wide(alloc: Global, written: Written, quantity: Quantity) -> Result<bool, Fail> {
     let design = design_of(alloc, written)?;
-    Ok(wide(condense(alloc, &design))?)
+    Ok(is_too_wide(condense(alloc, &design), quantity)?)
 }
 
 #[test]
@@ -187,6 +201,6 @@ fn wide_rows(rt: HostRuntime) -> Result<(), Fail> {
         limit_den: LONG,
         ..TWO
     };
-    assert!(rt; wide_as(rt.alloc(), wide_limits)? == Some(Quantity::Rows));
+    assert!(rt; is_wide(rt.alloc(), wide_limits, Quantity::Rows)?);
     Ok(())
 }

@@ -1,0 +1,7 @@
+//! Trials of the corners and the condensed form in the class that a design asks for, exact or in enclosures, on worked designs.
+#![tactic(auto)]
+
+#[cfg(test)]
+mod classes;
+#[cfg(test)]
+mod corners;
