@@ -89,6 +89,17 @@ pub moved_is : (c : Numbers) (state plan : List ℤ) (old top : ℤ) (i : ℕ) �
     int_min top (int_max (old +ℤ floor_of (row_sum c state plan i) (2 ^ c.fraction_bits)) (pos 0)) ≡ next_multiplier c state plan old i
 moved_is c state plan old top i e = ap (λ (z : ℤ). int_min z (int_max (old +ℤ floor_of (row_sum c state plan i) (2 ^ c.fraction_bits)) (pos 0))) e
 
+-- where no bit is lowered, it moves as it is
+pub moved_unlowered : (c : Numbers) (state plan : List ℤ) (raised : ℤ) (i : ℕ) → lowering_of c i ≡ 0 →
+    int_min c.clamp (int_max (raised +ℤ floor_of (row_sum c state plan i) (2 ^ c.fraction_bits)) (pos 0)) ≡ next_multiplier c state plan (floor_of raised (2 ^ lowering_of c i)) i *ℤ pos (2 ^ lowering_of c i)
+moved_unlowered c state plan raised i e = rw (e, floor_of_one, floor_of_one) (sym (times_one _))
+  where
+    times_one : (z : ℤ) → z *ℤ pos 1 ≡ z
+    times_one z = omega (arith, ints)
+
+    floor_of_one : (z : ℤ) → floor_of z 1 ≡ z
+    floor_of_one z = ap (λ (y : ℤ). floor_of y 1) (sym (times_one z)) ∙ floor-scaled z 1 (omega arith)
+
 next_at : (c : Numbers) (state plan multipliers : List ℤ) (i : ℕ) → i < length c.bounds → at (next_multipliers c state plan multipliers) i ≡ next_multiplier c state plan (at multipliers i) i
 next_at c state plan multipliers i lt = get_or-map-range_with_len (λ j. next_multiplier c state plan (at multipliers j) j) 0 (length c.bounds) i i (pos 0) lt (omega arith)
 
@@ -97,9 +108,9 @@ pub next_unraised_at : (c : Numbers) (state plan multipliers : List ℤ) (i : �
 next_unraised_at c state plan multipliers i lt = next_at c state plan (unraised c multipliers) i lt ∙ ap (λ (z : ℤ). next_multiplier c state plan z i) (unraised_at c multipliers i lt)
 
 -- raised, it is at most the clamp, as each of a list is
-pub moved_within : (c : Numbers) (state plan : List ℤ) (old : ℤ) (i : ℕ) → IsController c → i < length c.bounds →
+pub moved_raised_within : (c : Numbers) (state plan : List ℤ) (old : ℤ) (i : ℕ) → IsController c → i < length c.bounds →
     unsigned_abs (next_multiplier c state plan old i *ℤ pos (2 ^ lowering_of c i)) ≤ unsigned_abs c.clamp
-moved_within c state plan old i s lt =
+moved_raised_within c state plan old i s lt =
     let h = s.form.sized.clamp_low in
     let olds = replicate (length c.bounds) old in
     let next = next_multipliers c state plan olds in
@@ -108,8 +119,8 @@ moved_within c state plan old i s lt =
     rw (← up) (within_clamp c (raised c next) i lt (raised_within c next h (tops_kept c state plan olds h)))
 
 -- so it fits the word, and a word of 64 bits where the clamp does
-pub moved_fits : (c : Numbers) (state plan : List ℤ) (old : ℤ) (i : ℕ) → IsController c → i < length c.bounds → FitsSigned w128 (next_multiplier c state plan old i *ℤ pos (2 ^ lowering_of c i))
-moved_fits c state plan old i s lt = fits_signed_from_abs w128 _ (omega (arith, moved_within c state plan old i s lt, clamp_le c s))
+pub moved_raised_fits : (c : Numbers) (state plan : List ℤ) (old : ℤ) (i : ℕ) → IsController c → i < length c.bounds → FitsSigned w128 (next_multiplier c state plan old i *ℤ pos (2 ^ lowering_of c i))
+moved_raised_fits c state plan old i s lt = fits_signed_from_abs w128 _ (omega (arith, moved_raised_within c state plan old i s lt, clamp_le c s))
 
-pub moved_narrow : (c : Numbers) (state plan : List ℤ) (old : ℤ) (i : ℕ) → IsController c → HasNarrowFactors c → i < length c.bounds → IsNarrow (next_multiplier c state plan old i *ℤ pos (2 ^ lowering_of c i))
-moved_narrow c state plan old i s n lt = omega (arith, moved_within c state plan old i s lt, n.clamp)
+pub moved_raised_narrow : (c : Numbers) (state plan : List ℤ) (old : ℤ) (i : ℕ) → IsController c → HasNarrowFactors c → i < length c.bounds → IsNarrow (next_multiplier c state plan old i *ℤ pos (2 ^ lowering_of c i))
+moved_raised_narrow c state plan old i s n lt = omega (arith, moved_raised_within c state plan old i s lt, n.clamp)

@@ -34,10 +34,7 @@ pub record Goes (p : Progress) : Type 0 where
 pub loaded_long : (p : Progress) → Goes p → length (loaded p.controller p.state) ≡ p.controller.states
 loaded_long p g = length-map p.state _ ∙ g.grid.long
 
-pub multipliers_long : (p : Progress) → Goes p → length (iterate_of p).multipliers ≡ p.controller.rows
-multipliers_long p g = after_multipliers_length p.controller (loaded p.controller p.state) p.made ∙ g.sound.form.sized.shaped.bounds
-
--- and the raised ones among the words
+-- the raised multipliers, among the words
 pub words_multipliers_long : (p : Progress) → Goes p → length (raised p.controller (iterate_of p).multipliers) ≡ p.controller.rows
 words_multipliers_long p g = raised_long p.controller (iterate_of p).multipliers ∙ g.sound.form.sized.shaped.bounds
 

@@ -69,7 +69,8 @@ fn entry_at(
     entry_from(sum, c.t[j], c.f)
 }
 
-// The plan at a state and raised multipliers.
+// The plan at a state and raised multipliers. It is never inlined, so that its loops and those of the rows don't share registers.
+#[inline(never)]
 fn make_plan(
     c: &ControllerParts,
     narrow: bool,
@@ -148,8 +149,8 @@ fn move_multipliers(
     }
 }
 
-// One raised multiplier, from the one before it: that and the clamp are lowered for the move, and the moved one is raised again. Where factors
-// are narrow each shift is one instruction, and no row asks whether it has any. It stays within the loop that calls it.
+// One raised multiplier, from the one before it: that and the clamp are lowered for the move, and the moved one is raised again. Most rows are
+// lowered by no bit, and nothing of theirs is shifted. It stays within the loop that calls it.
 #[inline(always)]
 fn raised_multiplier_at(
     c: &ControllerParts,
@@ -172,10 +173,14 @@ fn raised_multiplier_at(
     // The products come first: they need the registers that the lowered ones would stay in.
     let row = row_products(c, narrow, state, plan, i);
     let lowering = lowering_at(c, exps, i);
-    let old = shifted_by(narrow, raised, lowering);
-    let top = shifted_by(narrow, c.clamp, lowering);
-    let next = multiplier_from(row, c.bound[i], old, top, c.f);
-    scaled_by(narrow, next, lowering)
+    if lowering == 0 {
+        multiplier_from(row, c.bound[i], raised, c.clamp, c.f)
+    } else {
+        let old = shifted_by(narrow, raised, lowering);
+        let top = shifted_by(narrow, c.clamp, lowering);
+        let next = multiplier_from(row, c.bound[i], old, top, c.f);
+        scaled_by(narrow, next, lowering)
+    }
 }
 
 // The loop of `move_raised`. It stays within each of the two calls there.
@@ -201,7 +206,8 @@ fn move_rows(
 }
 
 // The raised multipliers after a plan, from those before it. Each call is a loop of its own, which doesn't ask at each row how wide the
-// factors are.
+// factors are. It is never inlined, as it would take registers from the loop of version 1.
+#[inline(never)]
 fn move_raised(
     c: &ControllerParts,
     narrow: bool,
