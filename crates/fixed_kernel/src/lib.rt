@@ -10,6 +10,3 @@ mod step;
 
 pub use kernel::Kernel;
 pub use state::OutsideBox;
-
-#[cfg(test)]
-mod tests;

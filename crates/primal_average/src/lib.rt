@@ -47,6 +47,3 @@ pub fn plan_line(alloc: Global, k: &Kernel) -> Result<Vec<u8>, AllocError>
     line.push('\n')?;
     Ok(line.into_bytes())
 }
-
-#[cfg(test)]
-mod tests;

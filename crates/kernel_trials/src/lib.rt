@@ -1,0 +1,9 @@
+//! Trials of a kernel's steps and runs, of its words and of the line of the averaged plan, on a worked controller.
+#![tactic(auto)]
+
+#[cfg(test)]
+mod averages;
+#[cfg(test)]
+mod controllers;
+#[cfg(test)]
+mod steps;
