@@ -17,7 +17,7 @@ const ROUNDS: u32 = 16;
 
 /// Lower triangular R with R R' near D h D, for a symmetric matrix h. D is diagonal, of powers 2^-shift that bring the diagonal of
 /// D h D below 1 (Cholesky's root, rounded, after scaling).
-#[derive(Debug, Drop)]
+#[derive(Drop)]
 pub struct Root {
     // below the diagonal, and the same mirrored
     lower: Mat,

@@ -7,7 +7,7 @@ use mat_int::Mat;
 use std::alloc::{AllocError, Global};
 
 /// The gains of a controller, over `2^f`: solutions of the condensed form's columns.
-#[derive(Debug, Drop)]
+#[derive(Drop)]
 pub struct Inverse {
     /// For each state a column, nu by n.
     pub p_mat: Mat,

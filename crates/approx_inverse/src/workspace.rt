@@ -15,7 +15,7 @@ use std::alloc::{AllocError, Global};
 use word_region::{Region, Span};
 
 /// A column with its guess and that one's residual, and a region with the solution and as many free words.
-#[derive(Debug, Drop)]
+#[derive(Drop)]
 pub struct Workspace {
     pub column: Vec<i128>,
     guess: Vec<i128>,

@@ -8,7 +8,7 @@ use step_error::{ErrorSums, epsilon};
 use thiserror::Error;
 
 /// A number of fraction bits, and what the errors of a step cost with it.
-#[derive(Clone, Copy, Debug, PartialEq, Eq)]
+#[derive(Clone, Copy, PartialEq, Eq)]
 pub struct Choice {
     /// f, the fraction bits.
     pub f: u32,

@@ -9,7 +9,7 @@ use qp_model::{Quantity, TextFault};
 use std::alloc::AllocError;
 
 /// What a design and a controller may differ in.
-#[derive(Clone, Copy, Debug, PartialEq, Eq)]
+#[derive(Clone, Copy, PartialEq, Eq)]
 pub enum Field {
     States,
     Inputs,
@@ -18,7 +18,7 @@ pub enum Field {
 
 /// What a run answers. Files are told by their positions among the arguments, where the command is at position 0; records, turns, coordinates, corners and
 /// rows are counted from 1.
-#[derive(Clone, Copy, Debug, PartialEq, Eq)]
+#[derive(Clone, Copy, PartialEq, Eq)]
 pub enum Status {
     /// All was done.
     Done,

@@ -7,7 +7,7 @@ use io_edge::Words;
 use qp_model::number_word;
 
 /// A command, with its number where it has one.
-#[derive(Clone, Copy, Debug, PartialEq, Eq)]
+#[derive(Clone, Copy, PartialEq, Eq)]
 pub enum Command {
     Generate,
     Solve,

@@ -23,7 +23,7 @@ use std::alloc::{AllocError, Global};
 const STAGES: usize = 6;
 
 /// What the made texts are read as.
-#[derive(Debug, Drop)]
+#[derive(Drop)]
 pub struct Inputs {
     pub design: Design,
     pub policy: Policy,

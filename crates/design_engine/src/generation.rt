@@ -35,7 +35,7 @@ use std::alloc::{AllocError, Global};
 use step_error::{ErrorSums, error_sums};
 
 /// A controller and its bounds.
-#[derive(Debug, Drop)]
+#[derive(Drop)]
 pub struct Made {
     pub controller: Controller,
     pub bounds: Bounds,

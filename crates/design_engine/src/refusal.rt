@@ -3,7 +3,7 @@ use qp_model::Quantity;
 use thiserror::Error;
 
 /// Why a design with a policy has no controller.
-#[derive(Clone, Copy, Debug, PartialEq, Eq, Error)]
+#[derive(Clone, Copy, Debug, Error)]
 pub enum Refusal {
     #[error("memory")]
     Memory,

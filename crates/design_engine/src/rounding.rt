@@ -16,7 +16,7 @@ use plant_condense::Condensed;
 use std::alloc::{AllocError, Global};
 
 /// The rows of a controller, over `2^f`. With nu plan entries, n states and m limit rows:
-#[derive(Debug, Drop)]
+#[derive(Drop)]
 pub struct Rows {
     /// G, m by nu.
     pub g_mat: Mat,

@@ -24,7 +24,7 @@ gap = 4
 ";
 
 /// The texts of a made design, its policy and states of its box.
-#[derive(Debug, Drop)]
+#[derive(Drop)]
 pub struct Texts {
     pub design: Vec<u8>,
     pub policy: Vec<u8>,

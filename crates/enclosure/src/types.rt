@@ -5,7 +5,7 @@ ghost use Rattle.mat_int.specs.Enclosures.{AreEnclosures};
 use mat_int::Mat;
 
 /// A midpoint and a radius, both over `2^40`: it encloses the fractions within the radius of the midpoint.
-#[derive(Clone, Copy, Debug, PartialEq, Eq)]
+#[derive(Clone, Copy)]
 pub struct Enc {
     pub mid: i128,
     pub rad: i128,
@@ -13,7 +13,7 @@ pub struct Enc {
 }
 
 /// A matrix of enclosures, as the matrix of their midpoints and that of their radii, both over `2^40`.
-#[derive(Debug, Drop)]
+#[derive(Drop)]
 pub struct EncMat {
     pub mid: Mat,
     pub rad: Mat,

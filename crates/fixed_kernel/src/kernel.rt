@@ -22,7 +22,7 @@ use word_region::{Region, Span};
 ///
 /// Each answer is the written machine's, and the promise that no value leaves the controller's width speaks of that machine. On the way to
 /// them the code meets some other values, as a floor of one part of a sum alone; that these fit 128 bits is proved here.
-#[derive(Debug, Drop)]
+#[derive(Drop)]
 pub struct Kernel<'a> {
     controller: &'a Controller,
     region: Region,

@@ -7,7 +7,7 @@ use qp_model::ControllerParts;
 use word_region::{Region, Span};
 
 // The spans of the state, the multipliers, the plan and the sums.
-#[derive(Debug, Clone, Copy)]
+#[derive(Clone, Copy)]
 pub struct Spans {
     pub state: Span,
     pub multipliers: Span,

@@ -19,7 +19,7 @@ use qp_model::{Bounds, Design, Policy};
 use std::alloc::{AllocError, Global};
 
 /// The texts of a controller and of the report of its bounds.
-#[derive(Debug, Drop)]
+#[derive(Drop)]
 pub struct Texts {
     pub controller: Vec<u8>,
     pub report: Vec<u8>,

@@ -7,7 +7,7 @@ use std::alloc::AllocError;
 use thiserror::Error;
 
 /// Two exponents of the step: `s`, and the one that needs no certificate.
-#[derive(Clone, Copy, Debug, PartialEq, Eq)]
+#[derive(Clone, Copy, PartialEq, Eq)]
 pub struct StepExponents {
     /// The least number below `s1` whose matrix has a certificate, or `s1`.
     pub s: u32,

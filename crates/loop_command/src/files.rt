@@ -16,7 +16,7 @@ use qp_model::Design;
 use std::alloc::Global;
 
 /// A design, a controller for it, and the states that its loops are to start from, a row each.
-#[derive(Debug, Drop)]
+#[derive(Drop)]
 pub struct Loops {
     pub design: Design,
     pub controller: Controller,

@@ -21,7 +21,7 @@ pub enum BadParts {
 }
 
 /// Numbers of a controller, none of whose values leaves its width in a run from a state of its box.
-#[derive(Debug, Drop)]
+#[derive(Drop)]
 pub struct Controller {
     parts: ControllerParts,
 }

@@ -3,7 +3,7 @@ use mat_int::Mat;
 /// The condensed form of a design: its cost and its limits as functions of the plan alone. With nu plan entries, n states and
 /// m limit rows, the cost is `1/2 u'Hu + (F x + h0)'u` and a constant, and the residuals are `G u + E x - b`. The numbers are exact, or
 /// midpoints that the exact ones are no further from than the radii beside them; the bounds of the rows are exact.
-#[derive(Debug, Drop)]
+#[derive(Drop)]
 pub struct Condensed {
     /// H, nu by nu, over `hess_den`.
     pub hess: Mat,

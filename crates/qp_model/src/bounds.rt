@@ -1,5 +1,5 @@
 /// What the policy shows at the corners of the box.
-#[derive(Clone, Copy, Debug, PartialEq, Eq)]
+#[derive(Clone, Copy, PartialEq, Eq)]
 pub struct Margin {
     /// The least slack of all corners and rows in units of `2^-16`, rounded down.
     pub units: i128,
@@ -8,7 +8,7 @@ pub struct Margin {
 }
 
 /// What a report prints of a controller.
-#[derive(Debug, Drop)]
+#[derive(Drop)]
 pub struct Bounds {
     /// The version of the design's and the controller's text, 1 or 2.
     pub version: u32,

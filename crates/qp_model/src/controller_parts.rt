@@ -1,7 +1,7 @@
 use mat_int::Mat;
 
 /// The numbers of a controller, of any shapes and sizes. With `nu = p * stages` plan entries:
-#[derive(Debug, Drop)]
+#[derive(Drop)]
 pub struct ControllerParts {
     /// The version of its text, 1 or 2. In version 1 each row has the step exponent `s`.
     pub version: u32,

@@ -6,7 +6,7 @@ use crate::text_fault::TextFault;
 use std::marker::Model;
 
 /// Numbers that have a design's shapes and lie in its ranges.
-#[derive(Debug, Drop)]
+#[derive(Drop)]
 pub struct Design {
     parts: DesignParts,
 }

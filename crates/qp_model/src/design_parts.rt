@@ -2,7 +2,7 @@ use mat_int::Mat;
 
 /// The numbers of a design, of any shapes and sizes: the plant `x+ = (a x + b u) / plant_den`, the cost's rows and weights, the
 /// limits' rows, the box of initial states and the targets.
-#[derive(Debug, Drop)]
+#[derive(Drop)]
 pub struct DesignParts {
     /// The version of its text, 1 or 2.
     pub version: u32,

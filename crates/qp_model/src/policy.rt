@@ -1,7 +1,7 @@
 use mat_int::Mat;
 
 /// One plan for each corner of the box, in the corners' order.
-#[derive(Debug, Drop)]
+#[derive(Drop)]
 pub struct Policy {
     /// What each corner's plan is over.
     pub dens: Vec<i128>,
