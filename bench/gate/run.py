@@ -4,8 +4,8 @@
     bench/gate/run.py --anew [--lanes N] [--log FILE] [NAME ..]     the gate, `rt ci --anew`: every proof, every test, every must-fail edit
     bench/gate/run.py --first                                       the first answer: ./mpc, which proves and builds the program
 
-What is measured is what is committed. The clone has no kept work, and with --anew the gate reads none. Without it the gate takes what an earlier run on this machine passed of the
-same files, as it does in a checkout, and the table has what is left. With names, these crates and those below them are proved, and the others are taken out of the
+What is measured is what is committed. The clone has no kept work, and with --anew the gate reads none. Without it the gate of a kit that keeps what passed takes what an earlier
+run on this machine passed of the same files, as it does in a checkout, and the table has what is left; the gate of a kit without that flag always begins from nothing. With names, these crates and those below them are proved, and the others are taken out of the
 clone. --lanes N proves N crates side by side with one process each, whatever memory there is;
 without it the gate chooses by processors and memory, and a proof may share several processors, which costs some more processor time. Stopped by Ctrl-C or a
 SIGTERM, it tells what it has measured.
@@ -77,9 +77,19 @@ def watch():
     subprocess.Popen, os.waitpid = Watched, waitpid
 
 
+def gate_words(anew):
+    """What the gate is called with. A kit whose gate keeps nothing has no flag to begin from nothing."""
+    with open(tool_path(), encoding="utf-8") as file:
+        return ["ci", "--anew"] if anew and "--anew" in file.read() else ["ci"]
+
+
+def tool_path():
+    return os.path.realpath(shutil.which("rt") or sys.exit("rt isn't on the path"))
+
+
 def tool():
     """rt, as a module of this process."""
-    path = os.path.realpath(shutil.which("rt") or sys.exit("rt isn't on the path"))
+    path = tool_path()
     loader = importlib.machinery.SourceFileLoader("rt", path)
     module = importlib.util.module_from_spec(importlib.util.spec_from_loader("rt", loader))
     sys.modules["rt"] = module
@@ -211,7 +221,7 @@ def gate(options):
         os.chdir(root)
         watch()
         try:
-            status = tool().main(["ci", "--anew"] if options.anew else ["ci"])
+            status = tool().main(gate_words(options.anew))
         except SystemExit as ended:
             status = ended.code
         os.chdir("/")

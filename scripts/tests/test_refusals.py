@@ -286,23 +286,15 @@ class Launcher(unittest.TestCase):
         got = self.launched("echo there || { echo error 4 write-fault 0 >&2; exit 4; }", "demo", "7", redirected=">&-")
         self.assertEqual((got.returncode, got.stderr.split("\n")[-2]), (4, "error 4 write-fault 0"))
 
-    def test_progress_of_a_build(self):
-        """A stand-in for the toolchain proves the two crates of the program, not that of tests, and then builds it."""
+    def built(self, toolchain, kept=()):
+        """What the launcher says where the program isn't there: of the crates `low`, `mpc_cli` above it and `trials`, with a stand-in for the toolchain."""
         folder = self.folder("exit 0")
         os.remove(os.path.join(folder, "crates/mpc_cli/out/mpc_cli"))
-        os.makedirs(os.path.join(folder, "crates/low/out"))
-        os.makedirs(os.path.join(folder, "bin"))
-        with open(os.path.join(folder, "crates.txt"), "w") as file:
-            file.write("low:\nmpc_cli: low\ntrials: low\n")
-        with open(os.path.join(folder, "bin", "rt"), "w") as file:
-            file.write(
-                """#!/bin/bash
-if [ "$1" = all ]; then
-    sleep 1; mkdir -p ../low/out/incremental; sleep 6; echo "== low"; echo "logic=proved functions=1"; sleep 6; exit
-fi
-echo "== mpc_cli"; echo "logic=proved functions=1"; printf '#!/bin/bash\\necho built\\n' > out/mpc_cli; chmod +x out/mpc_cli
-"""
-            )
+        for part in ("crates/low/src", "crates/low/must-fail", "crates/trials/src", "bin", *kept):
+            os.makedirs(os.path.join(folder, part))
+        for name, text in (("crates.txt", "low:\nmpc_cli: low\ntrials: low\n"), ("HANDLES", "Handles allowed: none.\n"), ("bin/rt", "#!/bin/bash\n" + toolchain)):
+            with open(os.path.join(folder, name), "w") as file:
+                file.write(text)
         os.chmod(os.path.join(folder, "bin", "rt"), 0o755)
         got = subprocess.run(
             [os.path.join(folder, "mpc"), "solve"],
@@ -314,6 +306,28 @@ echo "== mpc_cli"; echo "logic=proved functions=1"; printf '#!/bin/bash\\necho b
         self.assertIn("mpc: 0 of 2 crates are proved; low\n", got.stderr)
         self.assertIn("mpc: 1 of 2 crates are proved\n", got.stderr)
         self.assertFalse(os.path.exists(os.path.join(folder, "crates/mpc_cli/build.log.begun")))
+
+    def test_progress_of_a_build_from_nothing(self):
+        """The gate is given the two crates of the program, not that of tests, without their wrong bodies, and the program that it made is taken."""
+        self.built(
+            """
+[ "$*" = ci ] && [ "$(echo crates/*)" = "crates/low crates/mpc_cli" ] && [ ! -e crates/low/must-fail ] && [ "$(sort crates.txt | tr '\n' ' ')" = "low: mpc_cli: low " ] || exit 1
+[ "$(cat HANDLES)" = "Handles allowed: none." ] || exit 1
+sleep 1; mkdir -p crates/low/out; sleep 6; echo "== low"; echo "logic=proved functions=1"; sleep 6
+mkdir -p crates/mpc_cli/out; printf '#!/bin/bash\necho built\n' >crates/mpc_cli/out/mpc_cli; chmod +x crates/mpc_cli/out/mpc_cli
+"""
+        )
+
+    def test_progress_of_a_build_over_kept_work(self):
+        self.built(
+            """
+if [ "$1" = all ]; then
+    sleep 1; mkdir -p ../low/out/incremental; sleep 6; echo "== low"; echo "logic=proved functions=1"; sleep 6; exit
+fi
+echo "== mpc_cli"; echo "logic=proved functions=1"; printf '#!/bin/bash\necho built\n' > out/mpc_cli; chmod +x out/mpc_cli
+""",
+            kept=["crates/mpc_cli/out/incremental"],
+        )
 
     def test_input_reaches_the_program(self):
         self.assertEqual(self.launched("cat; exit 0", "solve").stdout, "")
