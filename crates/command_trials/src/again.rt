@@ -1,5 +1,5 @@
 // Each answer but one of memory, and after it the right ones over the same store. The plans of two states are those of the model in exact fractions.
-use io_edge::MemStore;
+use memory_edge::MemStore;
 use run_trials::{generates, given, solves, tells, told_by};
 use std::alloc::{AllocError, Global};
 use std::test::Fail;

@@ -1,5 +1,5 @@
 // A controller's text of which one byte is another.
-use io_edge::MemStore;
+use memory_edge::MemStore;
 use run_trials::{SOLVE, given, solves, tells, told_by};
 use std::alloc::{AllocError, Global};
 use std::test::Fail;

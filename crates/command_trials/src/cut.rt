@@ -1,5 +1,5 @@
 // A controller's text that is cut.
-use io_edge::MemStore;
+use memory_edge::MemStore;
 use run_trials::{SOLVE, given, solves, tells};
 use std::alloc::{AllocError, Global};
 use std::test::Fail;

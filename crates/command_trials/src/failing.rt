@@ -1,7 +1,8 @@
 // Reads, writes and prints that fail, each in turn, and the next call over the same store.
 use crate::cut::is_refused_at;
 use command_line::Status;
-use io_edge::{MemSink, MemStore, ReadRefusal};
+use io_edge::ReadRefusal;
+use memory_edge::{MemSink, MemStore};
 use run_trials::{GENERATE, ROOM, SOLVE, answer_of, generates, given, holds, tells};
 use std::alloc::{AllocError, Global};
 use std::test::Fail;

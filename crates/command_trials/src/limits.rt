@@ -1,5 +1,5 @@
 // Files at the limit of their size, lines that end otherwise, bytes that are no text, and loops of no turns.
-use io_edge::MemStore;
+use memory_edge::MemStore;
 use run_trials::{GENERATE, SOLVE, generates, given, tells};
 use std::alloc::{AllocError, Global};
 use std::test::Fail;

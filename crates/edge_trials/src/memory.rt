@@ -1,5 +1,6 @@
 // The stores and sinks in memory at work: listed calls and room.
-use io_edge::{Failed, MemSink, MemStore, ReadRefusal, Sink, Store, Words};
+use io_edge::{Failed, ReadRefusal, Sink, Store, Words};
+use memory_edge::{MemSink, MemStore};
 use std::test::Fail;
 
 // Reads of a store in memory, by their numbers.

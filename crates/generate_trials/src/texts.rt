@@ -1,5 +1,5 @@
 // `generate`: what it refuses, what it writes, and calls that fail.
-use io_edge::MemStore;
+use memory_edge::MemStore;
 use run_trials::{Fails, GENERATE, NONE, changed, ends_with, held, holds, store_of};
 use std::alloc::{AllocError, Global};
 use std::test::Fail;

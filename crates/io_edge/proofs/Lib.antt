@@ -1,4 +1,1 @@
-pub mod Names
-pub mod Cuts
 pub mod Passing
-pub mod Slots

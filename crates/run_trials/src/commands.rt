@@ -1,7 +1,7 @@
 // `solve`, `loop` and `demo`, and arguments that are none.
 use crate::runs::{Fails, NONE, ends_with};
 use crate::stores::{changed, store_of};
-use io_edge::MemStore;
+use memory_edge::MemStore;
 use std::alloc::Global;
 use std::test::Fail;
 use worked_designs::{CONTROLLER, DEMO_OF_SEVEN, DESIGN, POLICY};

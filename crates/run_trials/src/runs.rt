@@ -2,7 +2,8 @@
 use crate::stores::{ROOM, holds};
 use command_line::{Status, status_line};
 use command_run::run;
-use io_edge::{MemSink, MemStore, Words};
+use io_edge::Words;
+use memory_edge::{MemSink, MemStore};
 use std::alloc::{AllocError, Global};
 use worked_designs::{CONTROLLER, PLANS, REPORT};
 

@@ -1,5 +1,6 @@
 // Stores in memory, and the texts that they hold.
-use io_edge::{MemStore, ReadRefusal};
+use io_edge::ReadRefusal;
+use memory_edge::MemStore;
 use std::alloc::{AllocError, Global};
 use std::test::Fail;
 use worked_designs::{CONTROLLER, DESIGN, POLICY, STATES};

@@ -6,7 +6,7 @@ use Rattle.std.specs.Str.{bytes_eq}
 use Rattle.std.specs.Ordering.{nat_cmp}
 use Rattle.std.specs.Cmp.Lexicographic.{slice_cmp}
 use Rattle.std.proofs.lemmas.Map.Text.{is_eq-slice_cmp}
-use Rattle.io_edge.specs.Slot.{Slot}
+use Rattle.memory_edge.specs.Slot.{Slot}
 
 in_entries : {Y : Type 0} (name : List ℕ) (es : List (String Y × Slot)) →
     lookup (bytes_eq name) (map (λ e. (string_bytes e.0, e.1)) es) ≡ lookup (is_at (λ k. slice_cmp nat_cmp name (string_bytes k))) es

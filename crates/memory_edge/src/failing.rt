@@ -1,6 +1,6 @@
 // The writes of a store in memory that are to fail.
 ghost use Rattle.std.specs.Prelude.{◌≡◌};
-ghost use Rattle.io_edge.specs.Failing.{keep_of};
+ghost use Rattle.memory_edge.specs.Failing.{keep_of};
 
 // A write that is to fail, and how many bytes it keeps.
 #[derive(Clone, Copy, Debug, PartialEq, Eq)]

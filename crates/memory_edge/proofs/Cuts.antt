@@ -3,7 +3,7 @@ use Rattle.std.proofs.Common.{◌≡◌, ◌⊎◌, ◌↔◌, ℕ, min, List, [
 use Rattle.std.proofs.lemmas.Bool.{cases_lt, lt-ltb, le-ltb}
 use Rattle.std.proofs.lemmas.List.{take-append-drop, length-drop}
 use Rattle.io_edge.specs.Faults.{IsProperPrefix}
-use Rattle.io_edge.specs.Memory.{after_write, after_fit, HasRoom}
+use Rattle.memory_edge.specs.Memory.{after_write, after_fit, HasRoom}
 
 front : (b : ℕ) (bytes : List ℕ) (keep : ℕ) → IsProperPrefix (b ∷ bytes) (take (min keep (length bytes)) (b ∷ bytes))
 front b bytes keep = record {

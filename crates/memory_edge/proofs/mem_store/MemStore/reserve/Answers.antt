@@ -2,9 +2,9 @@ use Rattle.std.proofs.Common.{◌≡◌, ◌∙◌, Some, rules, arith}
 use Rattle.std.proofs.lemmas.Map.Text.{text_keys}
 use Rattle.std.proofs.lemmas.Map.Steps.{set_value_same}
 use Rattle.std.specs.BTreeMap.{get_by_text}
-use Rattle.io_edge.proofs.Names.{at_each_name}
-use Rattle.io_edge.proofs.Slots.{slot_seen}
-use Rattle.io_edge.proofs.mem_store.MemStore.reserve.Goals as goal
+use Rattle.memory_edge.proofs.Names.{at_each_name}
+use Rattle.memory_edge.proofs.Slots.{slot_seen}
+use Rattle.memory_edge.proofs.mem_store.MemStore.reserve.Goals as goal
 
 pub returns-in-Some-clause-room : goal.returns-in-Some-clause-room
 returns-in-Some-clause-room c = rw (← c.self.view_is) (simp slot_seen (grind (arith, text_keys)))

@@ -1,6 +1,6 @@
 // What a store in memory keeps under a name.
 ghost use Rattle.std.specs.Prelude.{◌≡◌, ◌≤◌, ◌↔◌, length, OnOk, OnErr, IfOk, IsTrue, max, Some, None, option_map};
-ghost use Rattle.io_edge.specs.Memory.{after_write, HasRoom};
+ghost use Rattle.memory_edge.specs.Memory.{after_write, HasRoom};
 
 use std::alloc::{AllocError, Global};
 use std::marker::Model;
@@ -15,7 +15,7 @@ pub struct Entry {
 
 impl Model for Entry {
     ghost use Rattle.std.specs.Prelude.{◌≤◌, vec_len, vec_capacity, if◌then◌else◌, Some, None};
-    ghost use Rattle.io_edge.specs.Slot.{Slot};
+    ghost use Rattle.memory_edge.specs.Slot.{Slot};
 
     ghost Value = { Slot };
 

@@ -1,6 +1,6 @@
 -- The listed writes.
 use Rattle.std.specs.Prelude.{ℕ, ◌==◌, List, Option, find, option_map}
-use Rattle.io_edge.specs.declared.failing.FailingWrite.{FailingWrite}
+use Rattle.memory_edge.specs.declared.failing.FailingWrite.{FailingWrite}
 
 -- how many bytes the write of this number is to keep, where it is listed: by its first listing
 abbrev pub keep_of : List FailingWrite → ℕ → Option ℕ

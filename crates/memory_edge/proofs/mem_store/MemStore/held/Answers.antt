@@ -1,7 +1,7 @@
 use Rattle.std.proofs.Common.{arith}
 use Rattle.std.proofs.lemmas.Map.Text.{text_keys}
-use Rattle.io_edge.proofs.Slots.{slot_seen}
-use Rattle.io_edge.proofs.mem_store.MemStore.held.Goals as goal
+use Rattle.memory_edge.proofs.Slots.{slot_seen}
+use Rattle.memory_edge.proofs.mem_store.MemStore.held.Goals as goal
 
 pub returns-in_err-get : goal.returns-in_err-get
 returns-in_err-get c = rw (← c.self.view_is) (simp slot_seen (grind (arith, text_keys)))

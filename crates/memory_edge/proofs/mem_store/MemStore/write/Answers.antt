@@ -2,10 +2,10 @@ use Rattle.std.proofs.Common.{◌≡◌, Some, None, true, false, arith}
 use Rattle.std.proofs.lemmas.Map.Text.{text_keys}
 use Rattle.std.proofs.lemmas.Grind.{common_steps}
 use Rattle.std.specs.BTreeMap.{get_by_text}
-use Rattle.io_edge.proofs.Names.{at_each_name}
-use Rattle.io_edge.proofs.Slots.{slot_seen}
-use Rattle.io_edge.proofs.mem_store.MemStore.write.Goals as goal
-use Rattle.io_edge.proofs.mem_store.MemStore.write.Goals.{in-Some, in-None}
+use Rattle.memory_edge.proofs.Names.{at_each_name}
+use Rattle.memory_edge.proofs.Slots.{slot_seen}
+use Rattle.memory_edge.proofs.mem_store.MemStore.write.Goals as goal
+use Rattle.memory_edge.proofs.mem_store.MemStore.write.Goals.{in-Some, in-None}
 
 pub returns-then-written-clause-here : goal.returns-then-written-clause-here
 returns-then-written-clause-here c = rw (← c.self.view_is) (simp slot_seen (grind (arith, text_keys)))
