@@ -6,7 +6,7 @@ use std::alloc::{AllocError, Global};
 use std::marker::Model;
 
 // The bytes under a name, where it holds any, and the room for writing them.
-#[derive(Debug, Drop)]
+#[derive(Drop)]
 pub struct Entry {
     bytes: Vec<u8>,
     room: usize,

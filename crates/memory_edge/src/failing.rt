@@ -3,7 +3,7 @@ ghost use Rattle.std.specs.Prelude.{◌≡◌};
 ghost use Rattle.memory_edge.specs.Failing.{keep_of};
 
 // A write that is to fail, and how many bytes it keeps.
-#[derive(Clone, Copy, Debug, PartialEq, Eq)]
+#[derive(Clone, Copy)]
 pub struct FailingWrite {
     pub call: usize,
     pub keep: usize,
