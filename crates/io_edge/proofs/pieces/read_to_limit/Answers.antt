@@ -9,3 +9,9 @@ returns-in_err-extend_from_slice-clause-taken g c = record {
   gone = Consumes-trans _ _ _ _ _ c.loop-piece.invariant.gone c.in-Ok.ensures.bytes.0;
   within = grind (arith, common_steps);
 }
+
+pub loop-piece-preserved : goal.loop-piece-preserved
+loop-piece-preserved g c = grind (arith, common_steps)
+
+pub returns-clause-long : goal.returns-clause-long
+returns-clause-long g c = grind (arith, common_steps)
