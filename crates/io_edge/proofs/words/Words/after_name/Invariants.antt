@@ -1,5 +1,5 @@
 use Rattle.std.proofs.Common.{◌≡◌, map, string_bytes}
-use Rattle.mpc_cli.proofs.words_of.Given as goal
+use Rattle.io_edge.proofs.words.Words.after_name.Given as goal
 
 abbrev pub invariant-loop-word : goal.invariant-loop-word
 invariant-loop-word l = l.words ≡ map string_bytes l.yielded
