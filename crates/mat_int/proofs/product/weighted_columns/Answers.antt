@@ -51,3 +51,12 @@ loop-i-preserved c =
           below_more _ _ (λ k o j r. c.set_column.ensures.others j k (omega arith) ∙ inv.entries j k r o)
           (λ j r. c.set_column.ensures.put j (omega (arith, long)) ∙ numbers j r) in all k q j p);
     }
+
+pub loop-i-init : goal.loop-i-init
+loop-i-init c = record {
+  column = search rules;
+  rows = grind (arith, common_steps);
+  cols = search rules;
+  even = grind (arith, common_steps);
+  entries = search rules;
+}

@@ -17,3 +17,9 @@ loop-row-preserved c =
       rows = rw (pushed, c.loop-row.invariant.rows, more, map-append (λ (x : Bor (List ℤ)). x.now) (take i rows) (row ∷ [])) refl;
       even = grind (arith, common_steps);
     }
+
+pub returns-clause-made : goal.returns-clause-made
+returns-clause-made c = grind (arith, common_steps)
+
+pub returns-clause-even : goal.returns-clause-even
+returns-clause-even c = grind (arith, common_steps)
