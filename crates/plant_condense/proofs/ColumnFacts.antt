@@ -85,6 +85,14 @@ zero_holds height width f = record {
   is = λ i j l k. absurd (omega arith);
 }
 
+-- zeros that were made, of these sizes
+pub zero_held : (m : Matrix) (rows cols height width : ℕ) (f : ℕ → ℕ → ℤ) → m ≡ zero_matrix rows cols → rows ≡ height → cols ≡ width → HoldsMatrix m height width 0 f
+zero_held m rows cols height width f e h w = rw (e, h, w) (zero_holds height width f)
+
+-- all columns are written
+pub all_held : (m : Matrix) (height width j : ℕ) (f : ℕ → ℕ → ℤ) → HoldsMatrix m height width j f → j ≡ width → HoldsMatrix m height width width f
+all_held m height width j f h e = subst (λ (n : ℕ). HoldsMatrix m height width n f) e h
+
 -- a matrix whose column j is being written, up to row i
 record Writing (m : Matrix) (height width j i : ℕ) (f : ℕ → ℕ → ℤ) : Type 0 where
   long : length m.rows ≡ height

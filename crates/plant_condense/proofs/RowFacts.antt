@@ -1,12 +1,12 @@
 -- Rows of runs fit.
-use Rattle.std.proofs.Common.{◌≡◌, ℕ, ◌+◌, ◌-◌, ◌*◌, ◌^◌, ◌<◌, ◌≤◌, ℤ, ◌*ℤ◌, ◌/◌, ◌%◌, List, length, arith, ap, sym, ◌∙◌, add-one, refl}
+use Rattle.std.proofs.Common.{◌≡◌, ℕ, ◌+◌, ◌-◌, ◌*◌, ◌^◌, ◌<◌, ◌≤◌, ℤ, ◌*ℤ◌, ◌/◌, ◌%◌, List, length, arith, ap, sym, ◌∙◌, add-one, refl, Bool, true, false, if◌then◌else◌, ◌==◌}
 use Rattle.std.proofs.lemmas.Bool.{lt-ltb, le-ltb}
 use Rattle.integer_algebra.specs.Sums.{at, dot}
 use Rattle.integer_algebra.proofs.SumLaws.{total_same}
 use Rattle.integer_algebra.proofs.SizeLaws.{size_same}
 use Rattle.mat_int.specs.Matrix.{row_of}
 use Rattle.qp_model.specs.declared.design_parts.DesignParts.{DesignParts}
-use Rattle.qp_model.specs.Parts.{design_of}
+use Rattle.qp_model.specs.Parts.{design_of, IsDesign}
 use Rattle.std.proofs.Math.Nat.{mul-le-mul_left}
 use Rattle.integer_algebra.specs.Sizes.{size, product_size}
 use Rattle.qp_model.specs.Design.{Design, rows}
@@ -16,6 +16,17 @@ use Rattle.qp_model.proofs.CountLaws.{cost_room, counted_stage, counted_final}
 use Rattle.qp_model.proofs.RunLaws.{run_within, product_within}
 use Rattle.qp_model.proofs.RowLaws.{row_room, stage_inside, remainder_inside}
 use Rattle.plant_condense.specs.Lists.{RowsFit, CostsFit, CostRowFits, row_of_numbers}
+
+-- a design's stages have few rows in all
+pub stages_room : (p : DesignParts) → IsDesign p → (r : ℕ) → r ≤ 12 → p.stages * r ≤ 360
+stages_room p h r l = last p.stages r (few (p.version == 1) p.stages h.stages.1) l
+  where
+    few : (b : Bool) (s : ℕ) → s ≤ (if b then 20 else 30) → s ≤ 30
+    few true s h = omega (arith, h)
+    few false s h = h
+
+    last : (s r : ℕ) → s ≤ 30 → r ≤ 12 → s * r ≤ 360
+    last s r h l = omega (arith, mul-le-mul_left s l, h)
 
 pub stage_fits : (d : Design) (x v : ℕ → ℤ) → RowsFit d x v → 1 ≤ d.plant_denominator → (k r : ℕ) → k < d.stages → r < d.stage_limits →
     d.plant_denominator ^ (d.stages - k) * (product_size d.states (d.stage_limit r).of_state (run d x v k) +

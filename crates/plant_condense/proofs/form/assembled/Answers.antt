@@ -77,3 +77,34 @@ returns c =
       input_floor = rw (to_z-of_z w128 _ fi) c.least_input-input_floor.ensures;
       floor = to_z-of_z w128 _ fb ∙ c.bend_floor.ensures;
     })
+
+pub rows-requires : goal.rows-requires
+rows-requires c = tt
+
+pub rows-requires-2 : goal.rows-requires-2
+rows-requires-2 c = tt
+
+pub no_radii-requires : goal.no_radii-requires
+no_radii-requires c = tt
+
+pub square_scale-square-requires-clause-design : goal.square_scale-square-requires-clause-design
+square_scale-square-requires-clause-design c = c.requires.design
+
+pub square_scale-square-requires-clause-power : goal.square_scale-square-requires-clause-power
+square_scale-square-requires-clause-power c = to_z-of_z w128 _ c.ranges.power ∙ c.requires.power
+
+pub least_input-input_floor-requires : goal.least_input-input_floor-requires
+least_input-input_floor-requires c = c.requires.design
+
+pub bend_floor-requires-clause-design : goal.bend_floor-requires-clause-design
+bend_floor-requires-clause-design c = c.requires.design
+
+pub bend_floor-requires-clause-square : goal.bend_floor-requires-clause-square
+bend_floor-requires-clause-square c =
+    let fs : SFits w128 c.square_scale-square.result = search rules in
+    to_z-of_z w128 _ fs ∙ c.square_scale-square.ensures
+
+pub bend_floor-requires-clause-least : goal.bend_floor-requires-clause-least
+bend_floor-requires-clause-least c =
+    let fi : SFits w128 c.least_input-input_floor.result = search rules in
+    rw (to_z-of_z w128 _ fi) c.least_input-input_floor.ensures

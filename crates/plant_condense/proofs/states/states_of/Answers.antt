@@ -1,4 +1,4 @@
-use Rattle.std.proofs.Common.{rules, ◌≡◌, ℕ, ◌+◌, ◌*◌, pos, get_or, unsigned_abs, arith, ◌∙◌, subst}
+use Rattle.std.proofs.Common.{rules, ◌≡◌, ℕ, ◌+◌, ◌*◌, pos, get_or, unsigned_abs, arith, ◌∙◌, subst, refl}
 use Rattle.std.specs.Int.{w128}
 use mir.Val.{SFits}
 use Rattle.std.proofs.lemmas.Int.{to_z-of_z}
@@ -6,7 +6,7 @@ use Rattle.integer_algebra.specs.Sums.{at}
 use Rattle.mat_int.specs.Lines.{lists}
 use Rattle.qp_model.specs.Parts.{design_of}
 use Rattle.qp_model.specs.Runs.{run}
-use Rattle.plant_condense.proofs.Pushes.{pushed_vec, row_held}
+use Rattle.plant_condense.proofs.Pushes.{pushed_vec, row_held, row_inside, first_vec}
 use Rattle.plant_condense.proofs.StageFacts.{length-part}
 use Rattle.plant_condense.proofs.StateFacts.{at-part, part_inside, next_fits, next_is, power_positive, denominator_positive}
 use Rattle.plant_condense.specs.Lists.{HoldsRows}
@@ -62,3 +62,33 @@ returns c =
     let e : c.loop-k.k ≡ c.args.parts.now.stages = omega arith in
     subst (λ (n : ℕ). HoldsRows (lists c.loop-k.states.items) (n + 1) c.args.parts.now.states (run (design_of c.args.parts.now) (at c.args.start.now) (at c.args.plan.now)))
     e c.loop-k.invariant
+
+pub loop-k-init : goal.loop-k-init
+loop-k-init c =
+    first_vec _ _ c.extend_from_slice.new.self _ _ c.args.parts.now.states (run (design_of c.args.parts.now) (at c.args.start.now) (at c.args.plan.now))
+    c.new-states.ensures.items c.in_ok-push.ensures.items c.new-first.ensures.items c.in_ok-extend_from_slice.ensures.items
+    (record { long = c.requires.start; is = λ i l. refl })
+
+pub index-requires : goal.index-requires
+index-requires c = omega (arith, row_inside c.loop-k.states.items c.loop-k.k (c.loop-k.k + 1) _ _ c.loop-k.invariant (omega arith))
+
+pub overflow_mul-k : goal.overflow_mul-k
+overflow_mul-k c = omega (arith, part_inside c.loop-k.k c.args.parts.now.stages c.args.parts.now.inputs _ c.requires.plan c.loop-k-test.true)
+
+pub overflow_mul-k-in-loop-k : goal.overflow_mul-k-in-loop-k
+overflow_mul-k-in-loop-k c = omega (arith, part_inside c.loop-k.k c.args.parts.now.stages c.args.parts.now.inputs _ c.requires.plan c.loop-k-test.true)
+
+pub overflow_add-k : goal.overflow_add-k
+overflow_add-k c = omega (arith, part_inside c.loop-k.k c.args.parts.now.stages c.args.parts.now.inputs _ c.requires.plan c.loop-k-test.true)
+
+pub offset_bounds-plan-k : goal.offset_bounds-plan-k
+offset_bounds-plan-k c = omega (arith, part_inside c.loop-k.k c.args.parts.now.stages c.args.parts.now.inputs _ c.requires.plan c.loop-k-test.true)
+
+pub slice_bounds-next_state-start : goal.slice_bounds-next_state-start
+slice_bounds-next_state-start c = omega arith
+
+pub bounds-powers-k : goal.bounds-powers-k
+bounds-powers-k c = omega (arith, c.requires.powers.long, c.loop-k-test.true)
+
+pub next_state-requires-clause-design : goal.next_state-requires-clause-design
+next_state-requires-clause-design c = c.requires.design
