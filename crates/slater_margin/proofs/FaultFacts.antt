@@ -13,6 +13,9 @@ no_margin_same e = (cc, (cc, cc))
 pub same_error : {T U E : Type 0} {r : Result T E} {o : Result U E} {x y z : E} → r ≡ Err y → r ≡ Err z → o ≡ Err x → y ≡ x → o ≡ Err z
 same_error a b h e = cc
 
+pub handed_error : {T U E : Type 0} {r : Result T E} {o : Result U E} {x y z : E} → r ≡ Err y → o ≡ Err z → o ≡ Err x → y ≡ x → r ≡ Err z
+handed_error a b h e = cc
+
 -- ---- the places of a corner and of a row
 pub corner_few : (number states : ℕ) → number < 2 ^ states → states ≤ 6 → number < 64
 corner_few number states h k = let p : 2 ^ states ≤ 2 ^ 6 = pow-le-pow_right {n = 2} (omega arith) {i = states} {j = 6} k in omega (arith, h, p)

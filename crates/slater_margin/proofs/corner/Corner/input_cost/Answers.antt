@@ -1,4 +1,4 @@
-use Rattle.std.proofs.Common.{◌≡◌, ◌+◌, ◌*◌, ◌^◌, ◌<◌, ℕ, ℤ, pos, ◌*ℤ◌, List, length, unsigned_abs, arith, ap, ◌∙◌, rules, refl}
+use Rattle.std.proofs.Common.{◌≡◌, ◌+◌, ◌*◌, ◌^◌, ◌<◌, ℕ, ℤ, pos, ◌*ℤ◌, List, length, unsigned_abs, arith, ap, ◌∙◌, rules, refl, sym}
 use Rattle.std.specs.Int.{w128}
 use mir.Val.{SFits}
 use Rattle.std.proofs.lemmas.Int.{to_z-of_z}
@@ -11,6 +11,9 @@ use Rattle.plant_condense.proofs.Pushes.{holds_to}
 use Rattle.plant_condense.proofs.DenominatorFacts.{natural, denominator_fits, naturals_fit, naturals_read}
 use Rattle.slater_margin.proofs.RoomFacts.{cost_side, square_room}
 use Rattle.slater_margin.proofs.CostFacts.{own_is, own_fits, own_small, own_scale_fits, inputs_room, stage_held, squares_held, total_held, stage_part, next_stage, next_stage_fits}
+use Rattle.plant_condense.proofs.StateFacts.{part_inside}
+use Rattle.plant_condense.proofs.StageFacts.{length-part}
+use Rattle.plant_condense.proofs.RowFacts.{stages_room}
 use Rattle.slater_margin.proofs.corner.Corner.input_cost.Goals as goal
 
 pub overflow_mul-scale : goal.overflow_mul-scale
@@ -105,3 +108,50 @@ returns c =
     let self = c.args.self.now in
     let all : c.loop-k.k ≡ c.args.self.now.parts.now.stages = omega (arith, c.loop-k-test.false) in
     c.loop-k.invariant ∙ ap (λ (n : ℕ). total n (stage_part self.parts.now (plans_of self.policy.now) _ _ _ _ _ self.made)) all
+
+pub last_power-requires : goal.last_power-requires
+last_power-requires c = c.args.self.now.made.setting.powers_are
+
+pub loop-k-init : goal.loop-k-init
+loop-k-init c = refl
+
+pub overflow_mul-k : goal.overflow_mul-k
+overflow_mul-k c =
+    let p = c.args.self.now.parts.now in
+    omega (arith, part_inside c.loop-k.k p.stages p.inputs (p.stages * p.inputs) refl c.loop-k-test.true, stages_room p c.args.self.now.made.setting.design p.inputs (omega (arith, c.args.self.now.made.setting.design.inputs)))
+
+pub overflow_mul-k-in-loop-k : goal.overflow_mul-k-in-loop-k
+overflow_mul-k-in-loop-k c =
+    let p = c.args.self.now.parts.now in
+    omega (arith, part_inside c.loop-k.k p.stages p.inputs (p.stages * p.inputs) refl c.loop-k-test.true, stages_room p c.args.self.now.made.setting.design p.inputs (omega (arith, c.args.self.now.made.setting.design.inputs)))
+
+pub overflow_add-k : goal.overflow_add-k
+overflow_add-k c =
+    let p = c.args.self.now.parts.now in
+    omega (arith, part_inside c.loop-k.k p.stages p.inputs (p.stages * p.inputs) refl c.loop-k-test.true, stages_room p c.args.self.now.made.setting.design p.inputs (omega (arith, c.args.self.now.made.setting.design.inputs)))
+
+pub offset_bounds-deref-k : goal.offset_bounds-deref-k
+offset_bounds-deref-k c =
+    let p = c.args.self.now.parts.now in
+    omega (arith, part_inside c.loop-k.k p.stages p.inputs (p.stages * p.inputs) refl c.loop-k-test.true, stages_room p c.args.self.now.made.setting.design p.inputs (omega (arith, c.args.self.now.made.setting.design.inputs)))
+
+pub slice_bounds-weighted_squares-count : goal.slice_bounds-weighted_squares-count
+slice_bounds-weighted_squares-count c = omega arith
+
+pub slice_bounds-weighted_squares-start : goal.slice_bounds-weighted_squares-start
+slice_bounds-weighted_squares-start c = omega arith
+
+pub slice_bounds-weighted_squares-end : goal.slice_bounds-weighted_squares-end
+slice_bounds-weighted_squares-end c =
+    let p = c.args.self.now.parts.now in
+    let long : length c.deref-in-loop-k-2.result.now ≡ p.stages * p.inputs =
+    ap (λ (xs : List ℤ). length xs) c.deref-in-loop-k-2.ensures.value ∙ c.in_ok-inputs.ensures.long ∙ ap (λ (xs : List ℤ). length xs) c.deref.ensures.value ∙ c.args.self.now.made.plan_is.long in
+    part_inside c.loop-k.k p.stages p.inputs _ long c.loop-k-test.true
+
+pub weighted_squares-sum-requires-clause-same : goal.weighted_squares-sum-requires-clause-same
+weighted_squares-sum-requires-clause-same c =
+    let p = c.args.self.now.parts.now in
+    let long : length c.deref-in-loop-k-2.result.now ≡ p.stages * p.inputs =
+    ap (λ (xs : List ℤ). length xs) c.deref-in-loop-k-2.ensures.value ∙ c.in_ok-inputs.ensures.long ∙ ap (λ (xs : List ℤ). length xs) c.deref.ensures.value ∙ c.args.self.now.made.plan_is.long in
+    ap (λ (xs : List ℤ). length xs) c.deref-in-loop-k.ensures.value ∙ c.args.self.now.made.setting.design.input_count ∙
+    sym (length-part c.deref-in-loop-k-2.result.now (c.loop-k.k * p.inputs) p.inputs (part_inside c.loop-k.k p.stages p.inputs _ long c.loop-k-test.true))

@@ -1,4 +1,4 @@
-use Rattle.std.proofs.Common.{◌<◌, ℤ, ◌*ℤ◌, List, length, arith, ap, ◌∙◌, rules}
+use Rattle.std.proofs.Common.{◌<◌, ℤ, ◌*ℤ◌, List, length, arith, ap, ◌∙◌, rules, sym}
 use Rattle.std.specs.Int.{w128}
 use mir.Val.{SFits}
 use Rattle.std.proofs.lemmas.Int.{to_z-of_z}
@@ -70,3 +70,28 @@ returns c =
     let weights : Holds c.deref-5.result.now (counts d) (weight_of d) = rw c.deref-5.ensures.value c.in_ok-weights.ensures in
     to_z-of_z w128 _ r ∙ c.weighted_squares.ensures ∙ total_held (counts d) _ _ _ _ weights gaps ∙
     row_part_is self.parts.now (plans_of self.policy.now) _ _ _ _ _ self.made
+
+pub weights_of-requires : goal.weights_of-requires
+weights_of-requires c = c.args.self.now.made.setting.design
+
+pub costs_of-requires-clause-ready : goal.costs_of-requires-clause-ready
+costs_of-requires-clause-ready c =
+    let made = c.args.self.now.made in
+    record {
+      design = made.setting.design;
+      powers = made.setting.powers_are;
+      start = ap (λ (xs : List ℤ). length xs) c.deref.ensures.value ∙ made.start_is.long;
+      plan = ap (λ (xs : List ℤ). length xs) c.deref-2.ensures.value ∙ made.plan_is.long;
+    }
+
+pub scaled_targets-requires-clause-design : goal.scaled_targets-requires-clause-design
+scaled_targets-requires-clause-design c = c.args.self.now.made.setting.design
+
+pub differences-requires-clause-same : goal.differences-requires-clause-same
+differences-requires-clause-same c =
+    ap (λ (xs : List ℤ). length xs) c.deref-3.ensures.value ∙ c.in_ok-values.ensures.long ∙ sym (ap (λ (xs : List ℤ). length xs) c.deref-4.ensures.value ∙ c.in_ok-targets.ensures.long)
+
+pub weighted_squares-requires-clause-same : goal.weighted_squares-requires-clause-same
+weighted_squares-requires-clause-same c =
+    ap (λ (xs : List ℤ). length xs) c.deref-5.ensures.value ∙ c.in_ok-weights.ensures.long ∙
+    sym (ap (λ (xs : List ℤ). length xs) c.deref-6.ensures.value ∙ c.in_ok-gaps.ensures.long ∙ ap (λ (xs : List ℤ). length xs) c.deref-3.ensures.value ∙ c.in_ok-values.ensures.long)
