@@ -10,7 +10,7 @@ use Rattle.qp_model.specs.Parts.{design_of, IsDesign}
 use Rattle.std.proofs.Math.Nat.{mul-le-mul_left}
 use Rattle.integer_algebra.specs.Sizes.{size, product_size}
 use Rattle.qp_model.specs.Design.{Design, rows}
-use Rattle.qp_model.specs.Runs.{run, row_at, limit_at, cost_run, counted, counts, Holds}
+use Rattle.qp_model.specs.Runs.{run, row_at, limit_at, cost_run, counted, counts, Holds, TrajectoryFits}
 use Rattle.qp_model.specs.Trajectory.{lift}
 use Rattle.qp_model.proofs.CountLaws.{cost_room, counted_stage, counted_final}
 use Rattle.qp_model.proofs.RunLaws.{run_within, product_within}
@@ -27,6 +27,14 @@ stages_room p h r l = last p.stages r (few (p.version == 1) p.stages h.stages.1)
 
     last : (s r : ℕ) → s ≤ 30 → r ≤ 12 → s * r ≤ 360
     last s r h l = omega (arith, mul-le-mul_left s l, h)
+
+-- a run fits where a row's values do
+pub run_fits : (d : Design) (x v : ℕ → ℤ) (width : ℕ) → 1 ≤ width → TrajectoryFits d x v width → TrajectoryFits d x v 1
+run_fits d x v width some f =
+    record { alpha = f.alpha; z = f.z; tame = f.tame; state = f.state; plan = f.plan; fits = last width (f.z * f.alpha ^ d.stages) some f.fits }
+  where
+    last : (w t : ℕ) → 1 ≤ w → w * t ≤ 2 ^ 126 → 1 * t ≤ 2 ^ 126
+    last w t h k = omega (arith, mul-le-mul_left t h, k)
 
 pub stage_fits : (d : Design) (x v : ℕ → ℤ) → RowsFit d x v → 1 ≤ d.plant_denominator → (k r : ℕ) → k < d.stages → r < d.stage_limits →
     d.plant_denominator ^ (d.stages - k) * (product_size d.states (d.stage_limit r).of_state (run d x v k) +
