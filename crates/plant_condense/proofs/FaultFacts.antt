@@ -1,11 +1,20 @@
 -- The first quantity that is too wide.
-use Rattle.std.proofs.Common.{◌≡◌, ℕ, ◌^◌, ◌<◌, ◌≤◌, Option, Some, None, is_some, true, false, arith, refl}
+use Rattle.std.proofs.Common.{◌≡◌, Result, Ok, Err, ℕ, ◌^◌, ◌<◌, ◌≤◌, Option, Some, None, is_some, true, false, arith, refl}
 use Rattle.std.specs.Option.{SomeIff}
 use Rattle.qp_model.specs.declared.quantity.Quantity.{Quantity}
 use Rattle.qp_model.specs.declared.quantity.Quantity.TheVariants.{Prediction, Hessian, Rows}
 use Rattle.qp_model.specs.Design.{Design}
 use Rattle.qp_model.specs.Quantities.{prediction_size, hessian_size}
 use Rattle.plant_condense.specs.Fault.{IsFirstWideIn}
+use Rattle.plant_condense.specs.declared.fault.CondenseFault.{CondenseFault}
+use Rattle.plant_condense.specs.declared.fault.CondenseFault.TheVariants.{TooWide, Memory}
+
+-- neither a quantity nor a value says that memory ran out
+pub wide_has_memory : {T : Type 0} (q : Quantity) → ◌≡◌ {A = Result T CondenseFault} (Err (TooWide q)) (Err Memory) → ⊥
+wide_has_memory q e = cc
+
+pub value_has_memory : {T : Type 0} (v : T) → ◌≡◌ {A = Result T CondenseFault} (Ok v) (Err Memory) → ⊥
+value_has_memory v e = cc
 
 over : (a t : ℕ) → (a ≤ t → ⊥) → t < a
 over a t h = omega (arith, h)

@@ -13,3 +13,18 @@ returns-clause-wide c = λ q. (
       cc
       )),
 )
+
+pub parts-parts-requires : goal.parts-parts-requires
+parts-parts-requires c = tt
+
+pub sizes_of-requires : goal.sizes_of-requires
+sizes_of-requires c = c.parts-parts.ensures.sound
+
+pub exact_form-requires-clause-design : goal.exact_form-requires-clause-design
+exact_form-requires-clause-design c = c.parts-parts.ensures.sound
+
+pub exact_form-requires-clause-sizes : goal.exact_form-requires-clause-sizes
+exact_form-requires-clause-sizes c = c.in_ok-sizes.ensures.sizes
+
+pub returns-clause-form : goal.returns-clause-form
+returns-clause-form c = rw (← c.parts-parts.ensures.value) c.in_ok-exact_form.ensures

@@ -5,9 +5,10 @@ use Rattle.std.proofs.lemmas.Int.{to_z-of_z}
 use Rattle.integer_algebra.specs.Sums.{at, dot}
 use Rattle.qp_model.specs.Parts.{design_of}
 use Rattle.qp_model.specs.Runs.{run, Holds}
-use Rattle.plant_condense.proofs.Pushes.{row_held}
-use Rattle.plant_condense.proofs.StateFacts.{power_positive, denominator_positive}
+use Rattle.plant_condense.proofs.Pushes.{row_held, row_inside}
+use Rattle.plant_condense.proofs.StateFacts.{power_positive, denominator_positive, part_inside}
 use Rattle.plant_condense.proofs.StageFacts.{state_size, state_dot, input_size, input_dot, unlifted, lifted_fits, lifted, sum_size}
+use Rattle.plant_condense.proofs.RowFacts.{stages_room}
 use Rattle.plant_condense.proofs.run.Run.stage_row.Goals as goal
 
 pub mixed-sum-requires-clause-state : goal.mixed-sum-requires-clause-state
@@ -92,3 +93,51 @@ returns c =
     let power : get_or c.args.self.now.powers.now (parts.stages - c.args.k) (pos 0) ≡ pos (unsigned_abs parts.plant_den ^ (parts.stages - c.args.k)) =
     made.ready.powers.is (parts.stages - c.args.k) (omega arith) in
     lifted _ _ _ g s small (rw power c.requires.narrow) ∙ rw (power, value) refl
+
+pub slice_bounds-mixed-count : goal.slice_bounds-mixed-count
+slice_bounds-mixed-count c = omega (arith, c.requires.row)
+
+pub slice_bounds-mixed-start : goal.slice_bounds-mixed-start
+slice_bounds-mixed-start c = omega (arith, c.requires.row)
+
+pub slice_bounds-mixed-end : goal.slice_bounds-mixed-end
+slice_bounds-mixed-end c = omega (arith, c.requires.row)
+
+pub index-requires : goal.index-requires
+index-requires c = omega (arith, row_inside c.args.self.now.states.items c.args.k (c.args.self.now.parts.now.stages + 1) _ _ c.args.self.now.made.states (omega (arith, c.requires.stage)))
+
+pub overflow_mul-k : goal.overflow_mul-k
+overflow_mul-k c = omega (arith, part_inside c.args.k c.args.self.now.parts.now.stages c.args.self.now.parts.now.inputs _ c.args.self.now.made.ready.plan c.requires.stage)
+
+pub overflow_mul-k-2 : goal.overflow_mul-k-2
+overflow_mul-k-2 c = omega (arith, part_inside c.args.k c.args.self.now.parts.now.stages c.args.self.now.parts.now.inputs _ c.args.self.now.made.ready.plan c.requires.stage)
+
+pub overflow_add-k : goal.overflow_add-k
+overflow_add-k c = omega (arith, part_inside c.args.k c.args.self.now.parts.now.stages c.args.self.now.parts.now.inputs _ c.args.self.now.made.ready.plan c.requires.stage)
+
+pub offset_bounds-self-k : goal.offset_bounds-self-k
+offset_bounds-self-k c = omega (arith, part_inside c.args.k c.args.self.now.parts.now.stages c.args.self.now.parts.now.inputs _ c.args.self.now.made.ready.plan c.requires.stage)
+
+pub slice_bounds-mixed-count-2 : goal.slice_bounds-mixed-count-2
+slice_bounds-mixed-count-2 c = omega arith
+
+pub slice_bounds-mixed-start-2 : goal.slice_bounds-mixed-start-2
+slice_bounds-mixed-start-2 c = omega arith
+
+pub slice_bounds-mixed-end-2 : goal.slice_bounds-mixed-end-2
+slice_bounds-mixed-end-2 c = part_inside c.args.k c.args.self.now.parts.now.stages c.args.self.now.parts.now.inputs _ c.args.self.now.made.ready.plan c.requires.stage
+
+pub offset_bounds-self-k-2 : goal.offset_bounds-self-k-2
+offset_bounds-self-k-2 c = omega (arith, c.requires.stage, stages_room c.args.self.now.parts.now c.args.self.now.made.ready.design 12 (omega arith))
+
+pub bounds-self-k : goal.bounds-self-k
+bounds-self-k c = omega (arith, c.args.self.now.made.ready.powers.long, c.requires.stage)
+
+pub overflow_sub-result : goal.overflow_sub-result
+overflow_sub-result c = omega (arith, c.requires.stage)
+
+pub offset_bounds-self-self : goal.offset_bounds-self-self
+offset_bounds-self-self c = omega (arith, stages_room c.args.self.now.parts.now c.args.self.now.made.ready.design 12 (omega arith))
+
+pub bounds-self-self : goal.bounds-self-self
+bounds-self-self c = omega (arith, c.args.self.now.made.ready.powers.long)
