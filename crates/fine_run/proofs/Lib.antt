@@ -6,6 +6,7 @@ pub mod Runs
 pub mod Rooms
 pub mod RowRooms
 -- ---- states and rows as code makes them
+pub mod PlaceFacts
 pub mod ListFacts
 pub mod StateFacts
 pub mod RowFacts

@@ -1,5 +1,5 @@
 -- Lists of enclosures, as they grow and as they are cut.
-use Rattle.std.proofs.Common.{◌≡◌, ℕ, ◌+◌, ◌-◌, ◌^◌, ◌<◌, ◌≤◌, ◌++◌, [], ◌∷◌, List, ℤ, pos, ◌*ℤ◌, ◌≤ℤ◌, length, map, take, drop, below_more, inl, inr, ◌*◌, ◌/◌, ◌%◌, arith, ap, ap₂, sym, ◌∙◌, refl}
+use Rattle.std.proofs.Common.{◌≡◌, ℕ, ◌+◌, ◌-◌, ◌^◌, ◌<◌, ◌≤◌, ◌++◌, [], ◌∷◌, List, ℤ, pos, ◌*ℤ◌, ◌≤ℤ◌, length, map, take, drop, below_more, inl, inr, ◌*◌, ◌/◌, ◌%◌, arith, ap, ap₂, subst, sym, ◌∙◌, refl}
 use Rattle.std.proofs.lemmas.Int.{ints}
 use Rattle.std.proofs.lemmas.Bool.{cases_lt, lt-ltb, le-ltb}
 use Rattle.std.proofs.lemmas.List.{length_push, get_or_push, get_or_append_left, get_or-append_right, length-map, map-append, length-append, get_or-take, get_or-drop, length-take, length-drop}
@@ -135,3 +135,17 @@ module _ (m o : Matrix) (i : ℕ) (xs s u : List Enc) (cs a b : List ℤ) (n p :
 -- the same list, lent
 pub lent_holds : {xs ys : List Enc} {n : ℕ} {f : ℕ → Enclosure} → xs ≡ ys → HoldsEnclosures ys n f → HoldsEnclosures xs n f
 lent_holds e h = rw e h
+
+-- at the end of a loop
+pub all_held : (xs : List Enc) (k n : ℕ) (count : ℕ → ℕ) (f : ℕ → Enclosure) → k ≤ n → n ≤ k → HoldsEnclosures xs (count k) f → HoldsEnclosures xs (count n) f
+all_held xs k n count f h l p = subst (λ (m : ℕ). HoldsEnclosures xs (count m) f) (same k n h l) p
+  where
+    same : (k n : ℕ) → k ≤ n → n ≤ k → k ≡ n
+    same k n h l = omega arith
+
+-- ---- a loop over the rows of the plant
+pub row_of_rows : (i n m : ℕ) → i < n → n ≤ m → i < m
+row_of_rows i n m h l = omega arith
+
+pub same_lengths : (xs a b : List ℤ) (ys s u : List Enc) (n p : ℕ) → xs ≡ a ++ b → ys ≡ s ++ u → length a ≡ n → length b ≡ p → length s ≡ n → length u ≡ p → length xs ≡ length ys
+same_lengths xs a b ys s u n p e f ha hb hs hu = joined_length a b xs n p e ha hb ∙ sym (rw (f, length-append, hs, hu) refl)

@@ -1,8 +1,9 @@
 -- How far the numbers of a run in enclosures reach: no further than the quantities say.
-use Rattle.std.proofs.Common.{◌≡◌, inl, inr, ℕ, zero, suc, ◌+◌, ◌-◌, ◌*◌, ◌^◌, ◌<◌, ◌≤◌, [], ◌∷◌, ℤ, pos, negsuc, ◌+ℤ◌, ◌-ℤ◌, ◌*ℤ◌, ◌≤ℤ◌, ◌<ℤ◌, unsigned_abs, lit<, arith, ap, ap₂, ◌∙◌, refl}
-use Rattle.std.proofs.lemmas.Int.{ints, unsigned_abs-mul}
+use Rattle.std.proofs.Common.{◌≡◌, inl, inr, ℕ, zero, suc, ◌+◌, ◌-◌, ◌*◌, ◌/◌, ◌^◌, ◌<◌, ◌≤◌, [], ◌∷◌, ℤ, pos, negsuc, ◌+ℤ◌, ◌-ℤ◌, ◌*ℤ◌, ◌≤ℤ◌, ◌<ℤ◌, unsigned_abs, lit<, Fits, FitsSigned, to_z, of_z, add-one, arith, ap, ap₂, ◌∙◌, refl}
+use Rattle.std.specs.Int.{w128}
+use Rattle.std.proofs.lemmas.Int.{ints, unsigned_abs-mul, to_z-of_z}
 use Rattle.std.proofs.lemmas.Bool.{cases_lt, lt-ltb, le-ltb}
-use Rattle.std.proofs.Math.Nat.{mul-le-mul_left}
+use Rattle.std.proofs.Math.Nat.{mul-le-mul_left, div-le_self}
 use Rattle.integer_algebra.specs.Bounds.{absolute}
 use Rattle.integer_algebra.specs.Division.{ceil_div, ceil_of, round_of}
 use Rattle.integer_algebra.specs.Sums.{total}
@@ -260,3 +261,52 @@ module _ (d : Design) (one : 1 ≤ d.plant_denominator) (first : ℕ) where
         combination_magnitude d.inputs c (λ l. v (k * d.inputs + l)) ≤ℤ pos (width * reach_from d first d.stages)
     input_row_room c width k h l =
         under (combination_room d.inputs c (λ l. v (k * d.inputs + l)) (reach_from d first k) (λ i o. input_reaches k i l o)) (scaled _ _ _ _ h (reach_last k d.stages (before l)))
+
+-- ---- the reach as code makes it
+pub denominator_is : (z : ℤ) (den : ℕ) → pos 1 ≤ℤ z → z ≤ℤ pos (2 ^ 20) → den ≡ unsigned_abs (to_z w128 (of_z w128 z)) → den ≡ unsigned_abs z
+denominator_is z den low high e = rw (to_z-of_z w128 z (fits z low high)) at e
+  where
+    fits : (z : ℤ) → pos 1 ≤ℤ z → z ≤ℤ pos (2 ^ 20) → FitsSigned w128 z
+    fits z low high = omega (arith, ints)
+
+module _ (z : ℤ) (x y den : ℕ) (e : den ≡ unsigned_abs z) (low : pos 1 ≤ℤ z) (high : z ≤ℤ pos (2 ^ 20)) where
+  pub den_positive : 1 ≤ den
+  den_positive = omega (arith, ints)
+
+  den_small : den ≤ 2 ^ 20
+  den_small = omega (arith, ints)
+
+  brought_small : x ≡ y → y ≤ 2 ^ 126 → x + (den - 1) ≤ 2 ^ 127
+  brought_small f h = small x y den f h den_small
+    where
+      small : (x y den : ℕ) → x ≡ y → y ≤ 2 ^ 126 → den ≤ 2 ^ 20 → x + (den - 1) ≤ 2 ^ 127
+      small x y den f h k = omega arith
+
+  pub brought_fits : x ≡ y → y ≤ 2 ^ 126 → Fits w128 (x + (den - 1))
+  brought_fits f h = record { fits = under (brought_small f h) }
+    where
+      under : {n : ℕ} → n ≤ 2 ^ 127 → n < 2 ^ 128
+      under h = omega (arith, h)
+
+  pub reach_fits : x ≡ y → y ≤ 2 ^ 126 → Fits w128 ((x + (den - 1)) / den + 3)
+  reach_fits f h = record { fits = under (div-le_self (x + (den - 1)) den) (brought_small f h) }
+    where
+      under : {m n : ℕ} → m ≤ n → n ≤ 2 ^ 127 → m + 3 < 2 ^ 128
+      under h k = omega (arith, h, k)
+
+module _ (d : Design) (first g r k : ℕ) (e : g ≡ growth d) (f : r ≡ reach_from d first k) where
+  pub next_reach : (x den : ℕ) → x ≡ g * r → den ≡ d.plant_denominator → (x + (den - 1)) / den + 3 ≡ reach_from d first (k + 1)
+  next_reach x den h i = rw (h, e, f, i, add-one) refl
+
+  module _ (l : k ≤ d.stages) (m : d.stages ≤ k) where
+    pub last_is : r ≡ reach_from d first d.stages
+    last_is = f ∙ ap (reach_from d first) (at_end k d.stages l m)
+      where
+        at_end : (k n : ℕ) → k ≤ n → n ≤ k → k ≡ n
+        at_end k n l m = omega arith
+
+    pub last_room : (n : ℕ) → growth d * reach_from d first d.stages ≤ n → g * r ≤ n
+    last_room n h = rw (e, last_is) h
+
+    pub last_small : (n : ℕ) → g * r ≤ n → growth d * reach_from d first d.stages ≤ n
+    last_small n h = rw (e, last_is) at h
