@@ -1,17 +1,19 @@
 -- Matrices of enclosures, filled by columns.
-use Rattle.std.proofs.Common.{◌≡◌, ℕ, ◌+◌, ◌-◌, ◌*◌, ◌^◌, ◌<◌, ◌≤◌, List, ℤ, pos, length, get_or, add-one, arith, ap, ap₂, sym, subst, ◌∙◌, refl}
+use Rattle.std.proofs.Common.{◌≡◌, ℕ, ◌+◌, ◌-◌, ◌*◌, ◌^◌, ◌<◌, ◌≤◌, List, ℤ, pos, length, get_or, Fits, w64, add-one, arith, ap, ap₂, sym, subst, ◌∙◌, refl}
 use mathlib.Core.Path.{fun_ext}
+use Rattle.std.proofs.Math.Nat.{mul-le-mul}
 use Rattle.std.proofs.lemmas.Bool.{lt-ltb, le-ltb}
 use Rattle.std.proofs.lemmas.List.{get_or-map, length-map}
 use Rattle.integer_algebra.specs.Sums.{none}
 use Rattle.frac_scaled.specs.Enclosures.{Enclosure, exactly}
-use Rattle.mat_int.specs.Matrix.{Matrix, with_entry}
+use Rattle.mat_int.specs.Matrix.{Matrix, with_entry, zero_matrix}
 use Rattle.enclosure.specs.declared.types.Enc.{Enc}
 use Rattle.enclosure.specs.Values.{pair_at}
 use Rattle.enclosure.proofs.SumLaws.{pair_at_is}
 use Rattle.qp_model.specs.declared.design_parts.DesignParts.{DesignParts}
 use Rattle.qp_model.specs.Design.{entries, rows}
-use Rattle.qp_model.specs.Parts.{design_of}
+use Rattle.qp_model.specs.Parts.{design_of, IsDesign}
+use Rattle.qp_model.proofs.VersionLaws.{design_states_le, design_stages_le}
 use Rattle.qp_model.specs.Quantities.{cost_width, limit_width}
 use Rattle.qp_model.specs.Runs.{unit, counts, Holds}
 use Rattle.qp_model.specs.FineForm.{wholes, counted_row, fine_cost, fine_costs, fine_limit}
@@ -19,7 +21,7 @@ use Rattle.qp_model.specs.FineSizes.{reach_from, fine_response_size, fine_limit_
 use Rattle.plant_condense.specs.Lists.{with_column}
 use Rattle.fine_run.specs.Lists.{HoldsEnclosures}
 use Rattle.fine_condense.specs.Lists.{IsRunOfWholes, HoldsEncMatrix, mids, rads}
-use Rattle.plant_condense.proofs.ColumnFacts.{column_written}
+use Rattle.plant_condense.proofs.ColumnFacts.{column_written, zero_holds}
 
 zero : Enc
 zero = record { mid = pos 0; rad = pos 0; nonnegative = omega arith }
@@ -53,6 +55,59 @@ enclosures_written mid rad new_mid new_rad height width j f xs e g l h p = recor
   mids = column_written mid new_mid height width j (length xs) (λ i k. (f i k).mid) (mids xs) e h.long l (mids_hold xs height (λ i. f i j) h) p.mids;
   rads = column_written rad new_rad height width j (length xs) (λ i k. (f i k).rad) (rads xs) g h.long l (rads_hold xs height (λ i. f i j) h) p.rads;
 }
+
+-- before the first
+pub enclosures_zero : (mid rad : Matrix) (count height width : ℕ) (f : ℕ → ℕ → Enclosure) → count ≡ height → mid ≡ zero_matrix count width → rad ≡ zero_matrix count width →
+    HoldsEncMatrix mid rad height width 0 f
+enclosures_zero mid rad count height width f n e g = record {
+  mids = rw (e, n) (zero_holds height width (λ i j. (f i j).mid));
+  rads = rw (g, n) (zero_holds height width (λ i j. (f i j).rad));
+}
+
+-- a column has a number for each row
+pub column_long : (mid rad : Matrix) (height width known : ℕ) (f : ℕ → ℕ → Enclosure) (xs : List Enc) (g : ℕ → Enclosure) → HoldsEnclosures xs height g →
+    HoldsEncMatrix mid rad height width known f → length xs ≡ length mid.rows
+column_long mid rad height width known f xs g h p = h.long ∙ sym p.mids.long
+
+-- and its place is in the matrix
+pub column_inside : (mid rad : Matrix) (height width known j : ℕ) (f : ℕ → ℕ → Enclosure) → HoldsEncMatrix mid rad height width known f → j < width → j < mid.cols
+column_inside mid rad height width known j f p l = rw p.mids.wide l
+
+-- at the end of a loop
+pub all_columns : (mid rad : Matrix) (height width k n : ℕ) (f : ℕ → ℕ → Enclosure) → k ≤ n → n ≤ k → HoldsEncMatrix mid rad height width k f → HoldsEncMatrix mid rad height width n f
+all_columns mid rad height width k n f l m p = subst (λ (i : ℕ). HoldsEncMatrix mid rad height width i f) (same k n l m) p
+  where
+    same : (k n : ℕ) → k ≤ n → n ≤ k → k ≡ n
+    same k n l m = omega arith
+
+-- ---- counts of columns fit a word
+module _ (p : DesignParts) (h : IsDesign p) where
+  few_entries : p.stages * p.inputs ≤ 90
+  few_entries = few (mul-le-mul (design_stages_le p h) h.inputs.1)
+    where
+      few : {n : ℕ} → n ≤ 30 * 3 → n ≤ 90
+      few l = omega (arith, l)
+
+  under : (a b : ℕ) → a ≤ 90 → b ≤ 6 → a + b + 1 < 2 ^ 64
+  under a b l m = omega arith
+
+  both_under : p.stages * p.inputs + p.states + 1 < 2 ^ 64
+  both_under = under (p.stages * p.inputs) p.states few_entries (design_states_le p h)
+
+  pub entries_fit : Fits w64 (p.stages * p.inputs)
+  entries_fit = record { fits = part (p.stages * p.inputs) p.states both_under }
+    where
+      part : (a b : ℕ) → a + b + 1 < 2 ^ 64 → a < 2 ^ 64
+      part a b l = omega arith
+
+  pub states_fit : Fits w64 (p.stages * p.inputs + p.states)
+  states_fit = record { fits = part (p.stages * p.inputs + p.states) both_under }
+    where
+      part : (a : ℕ) → a + 1 < 2 ^ 64 → a < 2 ^ 64
+      part a l = omega arith
+
+  pub width_fits : Fits w64 (p.stages * p.inputs + p.states + 1)
+  width_fits = record { fits = both_under }
 
 -- ---- which column a run gives
 module _ (p q : DesignParts) (x v : ℕ → ℤ) (first : ℕ) (start plan : List Enc) (made : IsRunOfWholes p x v q first start plan) where

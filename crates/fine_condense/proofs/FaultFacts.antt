@@ -1,7 +1,8 @@
 -- The first quantity that is too wide is one alone.
-use Rattle.std.proofs.Common.{◌≡◌, ◌⊎◌, inl, inr, ℕ, ◌<◌, ◌≤◌, true, arith, ap, refl}
+use Rattle.std.proofs.Common.{◌≡◌, ◌⊎◌, inl, inr, ℕ, ◌<◌, ◌≤◌, ◌^◌, Result, Err, true, arith, ap, refl}
 use Rattle.qp_model.specs.declared.quantity.Quantity.{Quantity}
 use Rattle.qp_model.specs.declared.quantity.Quantity.TheVariants.{Prediction, Hessian, Rows}
+use Rattle.qp_model.specs.Class.{prediction_in, hessian_in, rows_in}
 use Rattle.qp_model.specs.Design.{Design}
 use Rattle.plant_condense.specs.declared.fault.CondenseFault.{CondenseFault}
 use Rattle.plant_condense.specs.declared.fault.CondenseFault.TheVariants.{Memory, TooWide}
@@ -30,3 +31,14 @@ pub refused : (d : Design) (fault : CondenseFault) → ((q : Quantity) → fault
     (fault ≡ TooWide q) ⊎ (fault ≡ Memory)
 refused d Memory h q w = inr refl
 refused d (TooWide r) h q w = inl (ap TooWide (first_unique d r q (h r refl) w))
+
+-- and that there is none, where all are within their limit
+pub none_wide : (d : Design) → prediction_in true d ≤ 2 ^ 126 → hessian_in true d ≤ 2 ^ 126 → rows_in true d ≤ 2 ^ 126 → (q : Quantity) → IsFirstWideIn true d q → ⊥
+none_wide d a b e Prediction h = both a h
+none_wide d a b e Hessian h = both b h.1
+none_wide d a b e Rows h = both e h.1.1
+none_wide d a b e q h = h
+
+-- a result is one fault alone
+pub same_fault : {T : Type 0} {r : Result T CondenseFault} {x y : CondenseFault} → r ≡ Err x → r ≡ Err y → x ≡ y
+same_fault h k = cc

@@ -5,7 +5,7 @@ ghost use Rattle.qp_model.specs.Parts.{design_of, IsDesign};
 ghost use Rattle.qp_model.specs.declared.quantity.Quantity.{Quantity};
 ghost use Rattle.qp_model.specs.FineForm.{fine_products, hessian_row_radius, hessian_radius};
 ghost use Rattle.qp_model.specs.FineSizes.{fine_reach, fine_prediction_size, fine_hessian_size};
-ghost use Rattle.fine_condense.specs.Numbers.{fine_cost_total, IsFineHessian, AreFineCosts};
+ghost use Rattle.fine_condense.specs.Numbers.{fine_cost_total, AreProducts, IsFineHessian, AreFineCosts};
 ghost use Rattle.plant_condense.specs.declared.fault.CondenseFault.{CondenseFault};
 
 use crate::columns::cost_columns;
@@ -16,7 +16,7 @@ use frac_scaled::limited_product;
 use mat_int::MatFault;
 use plant_condense::{CondenseFault, weights_of};
 use qp_model::{DesignParts, Quantity};
-use std::alloc::Global;
+use std::alloc::{AllocError, Global};
 
 /// The condensed cost in enclosures: the hessian, nu by nu, the linear part, nu by n, and the constant, all times `weight_den * cost_row_den^2`.
 #[derive(Drop)]
@@ -72,6 +72,56 @@ fn widest_row(parts: &DesignParts, hess: &EncMat) -> u128
     most
 }
 
+// The condensed cost of these products and this hessian. `size` is the quantity `hessian`.
+fn cost_of(
+    alloc: Global,
+    parts: &DesignParts,
+    products: &EncMat,
+    hess: EncMat,
+    radius: u128,
+    size: u128,
+) -> Result<FineCosts, AllocError>
+    requires products { AreProducts parts.now products.now.mid products.now.rad }
+    requires hessian { IsFineHessian parts.now hess.mid hess.rad }
+    requires radius { radius ≡ hessian_radius (design_of parts.now) }
+    requires size { size ≡ fine_hessian_size (design_of parts.now) }
+    requires room { fine_hessian_size (design_of parts.now) ≤ 2 ^ 126 }
+    ensures { IfOk result (λ c. AreFineCosts parts.now c.hess.mid c.hess.rad c.lin.mid c.lin.rad c.off.items c.radius c.size) }
+{
+    let lin = linear_numbers(alloc, parts, products)?;
+    let off = constant_numbers(alloc, parts, products)?;
+    Ok(FineCosts {
+        hess,
+        lin,
+        off,
+        radius,
+        size,
+    })
+}
+
+// The condensed cost of these products, or that the quantity `hessian` is above `2^126`. `total` is that of the absolute values of all its numbers.
+fn cost_of_products(
+    alloc: Global,
+    parts: &DesignParts,
+    products: &EncMat,
+    total: u128,
+) -> Result<FineCosts, CondenseFault>
+    requires products { AreProducts parts.now products.now.mid products.now.rad }
+    requires total { total ≡ fine_cost_total (design_of parts.now) }
+    ensures costs { IfOk result (λ c. AreFineCosts parts.now c.hess.mid c.hess.rad c.lin.mid c.lin.rad c.off.items c.radius c.size) }
+    ensures wide { (quantity : Quantity) → result ≡ Err (CondenseFault.TooWide quantity) →
+        (quantity ≡ Quantity.Hessian) × (2 ^ 126 < fine_hessian_size (design_of parts.now)) }
+{
+    let hess = hessian_numbers(alloc, parts, products)?;
+    let radius = widest_row(parts, &hess);
+    let Some(narrow) = limited_product(1 << 86, radius) else {
+        return Err(CondenseFault::TooWide {
+            quantity: Quantity::Hessian,
+        });
+    };
+    Ok(cost_of(alloc, parts, products, hess, radius, total.max(narrow))?)
+}
+
 /// The condensed cost, or that the quantity `hessian` is above `2^126`. `reach` is how far a response reaches at the last stage.
 pub fn fine_costs(
     alloc: Global,
@@ -91,20 +141,5 @@ pub fn fine_costs(
         });
     };
     let products = cost_products(alloc, parts)?;
-    let hess = hessian_numbers(alloc, parts, &products)?;
-    let radius = widest_row(parts, &hess);
-    let Some(narrow) = limited_product(1 << 86, radius) else {
-        return Err(CondenseFault::TooWide {
-            quantity: Quantity::Hessian,
-        });
-    };
-    let lin = linear_numbers(alloc, parts, &products)?;
-    let off = constant_numbers(alloc, parts, &products)?;
-    Ok(FineCosts {
-        hess,
-        lin,
-        off,
-        radius,
-        size: total.max(narrow),
-    })
+    cost_of_products(alloc, parts, &products, total)
 }

@@ -69,20 +69,32 @@ fn rads_of(alloc: Global, xs: &[Enc]) -> Result<Vec<i128>, AllocError>
     xs.iter().map(|x| x.rad).collect(alloc)
 }
 
-// The form of these numbers. `off` and `off_rad` are the midpoints and the radii of the constant.
-fn assembled(
-    parts: &DesignParts,
-    numbers: FineNumbers,
-    off: Vec<i128>,
-    off_rad: Vec<i128>,
-) -> Condensed
+// The midpoints and the radii of a list.
+#[derive(Drop)]
+struct SplitList {
+    mids: Vec<i128>,
+    rads: Vec<i128>,
+}
+
+// Those of the constant.
+fn split_constant(alloc: Global, numbers: &FineNumbers) -> Result<SplitList, AllocError>
+    ensures mids { IfOk result (λ s. s.mids.items ≡ mids numbers.now.costs.off.items) }
+    ensures rads { IfOk result (λ s. s.rads.items ≡ rads numbers.now.costs.off.items) }
+{
+    let mids = mids_of(alloc, &numbers.costs.off)?;
+    let rads = rads_of(alloc, &numbers.costs.off)?;
+    Ok(SplitList { mids, rads })
+}
+
+// The form of these numbers, where `off` is the constant.
+fn assembled(parts: &DesignParts, numbers: FineNumbers, off: SplitList) -> Condensed
     requires design { IsDesign parts.now }
     requires costs { AreFineCosts parts.now numbers.costs.hess.mid numbers.costs.hess.rad numbers.costs.lin.mid numbers.costs.lin.rad
         numbers.costs.off.items numbers.costs.radius numbers.costs.size }
     requires limits { AreFineLimits parts.now numbers.limits.g.mid numbers.limits.g.rad numbers.limits.e.mid numbers.limits.e.rad
         numbers.limits.bound.items numbers.limits.size }
-    requires mids { off.items ≡ mids numbers.costs.off.items }
-    requires rads { off_rad.items ≡ rads numbers.costs.off.items }
+    requires mids { off.mids.items ≡ mids numbers.costs.off.items }
+    requires rads { off.rads.items ≡ rads numbers.costs.off.items }
     ensures { IsFormIn true parts.now result }
 {
     let costs = numbers.costs;
@@ -93,8 +105,8 @@ fn assembled(
         hess_rad: costs.hess.rad,
         lin: costs.lin.mid,
         lin_rad: costs.lin.rad,
-        off,
-        off_rad,
+        off: off.mids,
+        off_rad: off.rads,
         hess_den: brought_weight(parts, parts.cost_den),
         g: limits.g.mid,
         g_rad: limits.g.rad,
@@ -114,6 +126,23 @@ fn assembled(
     }
 }
 
+// The form of these numbers.
+fn form_of(
+    alloc: Global,
+    parts: &DesignParts,
+    numbers: FineNumbers,
+) -> Result<Condensed, AllocError>
+    requires design { IsDesign parts.now }
+    requires costs { AreFineCosts parts.now numbers.costs.hess.mid numbers.costs.hess.rad numbers.costs.lin.mid numbers.costs.lin.rad
+        numbers.costs.off.items numbers.costs.radius numbers.costs.size }
+    requires limits { AreFineLimits parts.now numbers.limits.g.mid numbers.limits.g.rad numbers.limits.e.mid numbers.limits.e.rad
+        numbers.limits.bound.items numbers.limits.size }
+    ensures { IfOk result (IsFormIn true parts.now) }
+{
+    let off = split_constant(alloc, &numbers)?;
+    Ok(assembled(parts, numbers, off))
+}
+
 /// The condensed form of a design in enclosures. It refuses a design of which a quantity of these numbers, `prediction`, `hessian` or `rows`, is
 /// above `2^126`, and names the first.
 pub fn condense_fine(alloc: Global, design: &Design) -> Result<Condensed, CondenseFault>
@@ -124,7 +153,5 @@ pub fn condense_fine(alloc: Global, design: &Design) -> Result<Condensed, Conden
 {
     let parts = design.parts();
     let numbers = fine_numbers(alloc, parts)?;
-    let off = mids_of(alloc, &numbers.costs.off)?;
-    let off_rad = rads_of(alloc, &numbers.costs.off)?;
-    Ok(assembled(parts, numbers, off, off_rad))
+    Ok(form_of(alloc, parts, numbers)?)
 }

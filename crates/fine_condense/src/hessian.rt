@@ -126,7 +126,8 @@ pub fn linear_numbers(
     ensures { let count = parts.now.stages * parts.now.inputs in
         IfOk result (λ m. HoldsEncMatrix m.mid m.rad count parts.now.states parts.now.states (fine_linear (design_of parts.now))) }
 {
-    let mut mat = EncMat::zero(alloc, parts.stages * parts.inputs, parts.states)?;
+    let count = parts.stages * parts.inputs;
+    let mut mat = EncMat::zero(alloc, count, parts.states)?;
     for i in 0..parts.states {
         let column = linear_column(alloc, parts, products, i)?;
         set_column(&mut mat, i, &column);

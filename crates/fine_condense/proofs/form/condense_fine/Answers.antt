@@ -5,7 +5,7 @@ use Rattle.qp_model.specs.Parts.{design_of}
 use Rattle.plant_condense.specs.declared.fault.CondenseFault.{CondenseFault}
 use Rattle.plant_condense.specs.declared.fault.CondenseFault.TheVariants.{TooWide}
 use Rattle.plant_condense.specs.Fault.{IsFirstWideIn}
-use Rattle.fine_condense.proofs.FaultFacts.{refused}
+use Rattle.fine_condense.proofs.FaultFacts.{refused, none_wide, same_fault}
 use Rattle.fine_condense.proofs.form.condense_fine.Goals as goal
 
 pub returns-in_err-numbers-clause-every_refusal : goal.returns-in_err-numbers-clause-every_refusal
@@ -19,3 +19,15 @@ returns-in_err-numbers-clause-every_refusal c = λ q w.
       | inl e ↦ inl (gives ∙ ap Err e)
       | inr e ↦ inr (gives ∙ ap Err e)
     ]
+
+pub returns-in_err-numbers-clause-wide : goal.returns-in_err-numbers-clause-wide
+returns-in_err-numbers-clause-wide c = λ q e.
+    let given = err_from_is_err_and c.from_residual.result c.from_residual.ensures.1 in
+    let fault : c.in_err-numbers.field-0.0 ≡ TooWide q = same_fault (given.1 ∙ ap Err given.2) e in
+    rw (← c.parts-parts.ensures.value) (c.fine_numbers.ensures.wide q (c.in_err-numbers.was ∙ ap Err fault))
+
+pub returns-clause-every_refusal : goal.returns-clause-every_refusal
+returns-clause-every_refusal c = λ q w.
+    let d = design_of c.parts-parts.result.now in
+    let first : IsFirstWideIn true d q = rw c.parts-parts.ensures.value w in
+    absurd (none_wide d c.in_ok-numbers.ensures.prediction c.in_ok-numbers.ensures.costs.room c.in_ok-numbers.ensures.limits.room q first)
