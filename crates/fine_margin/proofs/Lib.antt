@@ -6,6 +6,7 @@ pub mod ReachFacts
 pub mod RoomFacts
 -- ---- a corner's run, its slacks and its cost
 pub mod ListFacts
+pub mod GapFacts
 pub mod RunFacts
 pub mod SlackFacts
 pub mod CostFacts

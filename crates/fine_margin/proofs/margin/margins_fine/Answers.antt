@@ -1,4 +1,4 @@
-use Rattle.std.proofs.Common.{◌≡◌, ◌^◌, ◌<◌, ◌≤◌, Err, true, arith, subst, rules}
+use Rattle.std.proofs.Common.{◌≡◌, ◌^◌, ◌<◌, ◌≤◌, Err, true, arith, subst, sym, rules}
 use Rattle.std.specs.Int.{w128}
 use mir.Val.{SFits}
 use Rattle.std.proofs.lemmas.Int.{to_z-of_z}
@@ -12,6 +12,7 @@ use Rattle.slater_margin.specs.Corners.{IsFirstWideCornerIn, IsFirstShortIn}
 use Rattle.slater_margin.specs.declared.fault.MarginFault.TheVariants.{TooWide, NoMargin}
 use Rattle.slater_margin.proofs.FaultFacts.{same_error}
 use Rattle.fine_margin.proofs.MarginFacts.{IsMarginUpTo, first_margin, next_margin, short_first, short_next, whole_margin, none_short}
+use Rattle.fine_margin.proofs.ReachFacts.{below_both}
 use Rattle.fine_margin.proofs.margin.margins_fine.Goals as goal
 
 pub returns-in_err-margin-clause-short : goal.returns-in_err-margin-clause-short
@@ -101,3 +102,68 @@ returns-clause-no_give_up c = λ corner row slack w.
     let known : IsMarginUpTo p s c.loop-c.c c.loop-c.margin = rw c.parts-parts.ensures.value c.loop-c.invariant in
     let short : IsFirstShortIn true (design_of p) s corner row slack = rw c.parts-parts.ensures.value w in
     absurd (none_short p s c.parts-parts.ensures.sound c.loop-c.c c.loop-c.margin known all corner row slack short)
+
+pub test_room-requires-clause-design : goal.test_room-requires-clause-design
+test_room-requires-clause-design c = c.parts-parts.ensures.sound
+
+pub first_reach-first-requires-clause-plans : goal.first_reach-first-requires-clause-plans
+first_reach-first-requires-clause-plans c = rw c.parts-parts.ensures.value c.requires
+
+pub corner_margin-requires-clause-setting : goal.corner_margin-requires-clause-setting
+corner_margin-requires-clause-setting c = record {
+  design = c.parts-parts.ensures.sound;
+  policy = rw c.parts-parts.ensures.value c.requires;
+  room = c.in_ok-test_room.ensures.room;
+  reach = c.first_reach-first.ensures;
+}
+
+pub corner_margin-requires-clause-corner : goal.corner_margin-requires-clause-corner
+corner_margin-requires-clause-corner c = pow_pos c.parts-parts.result.now.states
+
+pub corner_margin-requires-in-loop-c-clause-corner : goal.corner_margin-requires-in-loop-c-clause-corner
+corner_margin-requires-in-loop-c-clause-corner c =
+    let f : IsPolicyFor (design_of c.parts-parts.result.now) (plans_of c.args.policy.now) = rw c.parts-parts.ensures.value c.requires in
+    below_both c.loop-c.c _ _ _ c.loop-c-test.true c.rows-c-end.ensures.count f.rows
+
+pub returns-in_err-test_room-clause-wide : goal.returns-in_err-test_room-clause-wide
+returns-in_err-test_room-clause-wide c = λ q.
+    let y = err_from_is_err_and c.from_residual.result c.from_residual.ensures.1 in (
+      (λ e. (let back : c.test_room.result ≡ Err (TooWide q) = same_error y.1 e c.in_err-test_room.was y.2 in rw (← c.parts-parts.ensures.value) ((c.test_room.ensures.wide q).0 back))),
+      (λ w. (let first : IsFirstWideCornerIn true (design_of c.parts-parts.result.now) (plans_of c.args.policy.now) q = rw c.parts-parts.ensures.value w in
+          same_error c.in_err-test_room.was ((c.test_room.ensures.wide q).1 first) y.1 (sym y.2))),
+    )
+
+pub returns-in_err-test_room-clause-short : goal.returns-in_err-test_room-clause-short
+returns-in_err-test_room-clause-short c = λ corner row slack e.
+    let y = err_from_is_err_and c.from_residual.result c.from_residual.ensures.1 in
+    let back : c.test_room.result ≡ Err (NoMargin corner row slack) = same_error y.1 e c.in_err-test_room.was y.2 in
+    absurd (c.test_room.ensures.margin corner row slack back)
+
+pub returns-in_err-test_room-clause-no_give_up : goal.returns-in_err-test_room-clause-no_give_up
+returns-in_err-test_room-clause-no_give_up c = λ corner row slack w. c.from_residual.ensures.0
+
+pub returns-in_err-margin-clause-no_give_up : goal.returns-in_err-margin-clause-no_give_up
+returns-in_err-margin-clause-no_give_up c = λ corner row slack w. c.from_residual-in_err-margin.ensures.0
+
+pub returns-in_err-next-clause-no_give_up : goal.returns-in_err-next-clause-no_give_up
+returns-in_err-next-clause-no_give_up c = λ corner row slack w. c.from_residual-in_err-next.ensures.0
+
+pub returns-in_err-margin-clause-wide : goal.returns-in_err-margin-clause-wide
+returns-in_err-margin-clause-wide c = λ q.
+    let y = err_from_is_err_and c.from_residual-in_err-margin.result c.from_residual-in_err-margin.ensures.1 in (
+      (λ e. (let back : c.corner_margin.result ≡ Err (TooWide q) = same_error y.1 e c.in_err-margin.was y.2 in absurd (c.corner_margin.ensures.room q back))),
+      (λ w. (let first : IsFirstWideCornerIn true (design_of c.parts-parts.result.now) (plans_of c.args.policy.now) q = rw c.parts-parts.ensures.value w in
+          let no = (c.in_ok-test_room.ensures.wide q).1 first in cc)),
+    )
+
+pub returns-clause-room : goal.returns-clause-room
+returns-clause-room c = rw (← c.parts-parts.ensures.value) c.in_ok-test_room.ensures.room
+
+pub returns-clause-slack : goal.returns-clause-slack
+returns-clause-slack c = c.loop-c.invariant.units
+
+pub returns-clause-cost : goal.returns-clause-cost
+returns-clause-cost c = c.loop-c.invariant.cost
+
+pub returns-clause-short : goal.returns-clause-short
+returns-clause-short c = λ corner row slack e. (cc)

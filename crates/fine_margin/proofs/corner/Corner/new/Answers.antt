@@ -1,4 +1,4 @@
-use Rattle.std.proofs.Common.{◌≡◌, pos, arith, rules, ◌∙◌}
+use Rattle.std.proofs.Common.{◌≡◌, pos, arith, rules, refl, sym, ◌∙◌}
 use Rattle.std.specs.Int.{w128}
 use mir.Val.{SFits}
 use Rattle.std.proofs.lemmas.Int.{to_z-of_z}
@@ -8,6 +8,7 @@ use Rattle.qp_model.specs.Policy.{plans_of}
 use Rattle.slater_margin.proofs.RoomFacts.{over_is}
 use Rattle.fine_margin.specs.Corner.{IsFineCorner}
 use Rattle.fine_margin.proofs.RunFacts.{plan_held, ready}
+use Rattle.fine_margin.proofs.ReachFacts.{below, below_len, numerators_small}
 use Rattle.fine_margin.proofs.corner.Corner.new.Goals as goal
 
 pub plan_of-requires-clause-divisor : goal.plan_of-requires-clause-divisor
@@ -41,3 +42,15 @@ invariant_of-result c =
           (to_z-of_z w128 _ f ∙ over) c.in_ok-plan.ensures;
     } in
     record { made = rw (c.in_ok-run.ensures.parts, c.in_ok-run.ensures.first, c.in_ok-run.ensures.start, c.in_ok-run.ensures.plan) made }
+
+pub row-requires : goal.row-requires
+row-requires c = below c.args.number _ _ c.requires.corner (sym c.requires.setting.policy.rows)
+
+pub index-requires : goal.index-requires
+index-requires c = below_len c.args.policy.now.dens c.args.number _ c.requires.corner c.requires.setting.policy.count
+
+pub plan_of-requires-clause-small : goal.plan_of-requires-clause-small
+plan_of-requires-clause-small c = numerators_small (design_of c.args.parts.now) (plans_of c.args.policy.now) c.args.number c.row.result.now c.requires.setting.policy c.requires.corner c.row.ensures.value
+
+pub returns : goal.returns
+returns c = (c.in_ok-run.ensures.parts, refl, refl)
