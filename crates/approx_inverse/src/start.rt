@@ -51,13 +51,20 @@ fn make_rest(h: &Mat, c: &[i128], f: u32, x: &[i128], rest: &mut [i128]) -> bool
     true
 }
 
+// |a| + |b| + 1, where it fits.
+fn wide_sizes(a: i128, b: i128) -> Option<i128>
+    ensures { IfSome result (λ sizes. sizes ≡ absolute a +ℤ absolute b +ℤ pos 1) }
+{
+    a.checked_abs()?
+        .checked_add(b.checked_abs()?)?
+        .checked_add(1)
+}
+
 // a b + |a| + |b| + 1, where it fits.
 fn wide_product(a: i128, b: i128) -> Option<i128>
     ensures { IfSome result (λ product. product ≡ a *ℤ b +ℤ (absolute a +ℤ absolute b +ℤ pos 1)) }
 {
-    let product = a.checked_mul(b)?;
-    let sizes = a.checked_abs()?.checked_add(b.checked_abs()?)?;
-    product.checked_add(sizes.checked_add(1)?)
+    a.checked_mul(b)?.checked_add(wide_sizes(a, b)?)
 }
 
 // At least x s / 2^(p + q), where it fits.
