@@ -1,13 +1,16 @@
 -- What the rule starts from.
-use Rattle.std.proofs.Common.{◌≡◌, inl, inr, ℕ, zero, suc, ◌+◌, ◌<◌, ◌≤◌, ◌^◌, ℤ, pos, negsuc, ◌*ℤ◌, ◌≤ℤ◌, ◌<ℤ◌, unsigned_abs, arith, FitsSigned}
+use Rattle.std.proofs.Common.{◌≡◌, inl, inr, ℕ, zero, suc, ◌+◌, ◌<◌, ◌≤◌, ◌^◌, ℤ, pos, negsuc, ◌*ℤ◌, ◌≤ℤ◌, ◌<ℤ◌, unsigned_abs, length, arith, FitsSigned}
 use Rattle.std.specs.Int.{w128}
 use Rattle.std.proofs.lemmas.Int.{ints, clamps, unsigned_abs-mul}
 use Rattle.std.proofs.lemmas.Bool.{cases_lt}
+use Rattle.std.proofs.lemmas.Grind.{common_steps}
 use Rattle.std.proofs.Math.Nat.{pow-le-pow_right}
 use Rattle.std.proofs.Math.IntN.{*ℤ_comm}
 use Rattle.integer_algebra.proofs.OrderLaws.{mul-le-mul_left_z, mul-le-mul_right_z, mul_nonneg_z, le_trans_z}
 use Rattle.integer_algebra.specs.Division.{floor_of}
-use Rattle.hessian_check.specs.Recipe.{top, low, IsStart, IsShift, IsSmall, NoRows, NoRoot, scaled_up, diagonal_reserve}
+use Rattle.mat_int.specs.Matrix.{Matrix, entry_of, zero_matrix}
+use Rattle.hessian_check.specs.Passing.{AreSquare}
+use Rattle.hessian_check.specs.Recipe.{IsBlank, IsEven, top, low, IsStart, IsShift, IsSmall, NoRows, NoRoot, scaled_up, diagonal_reserve}
 use Rattle.hessian_check.proofs.RecipeLaws.{shift_next}
 
 -- ---- the greatest and the least
@@ -122,3 +125,13 @@ shift_bound t h p s = elim (cases_lt h 32) [
   where
     numbers : (t : ℤ) (p : ℕ) → pos 1 ≤ℤ t → (t *ℤ pos p) <ℤ pos (2 ^ 62) → 4 ^ 32 ≤ p → ⊥
     numbers t p h l m = let q = mul-le-mul_right_z (pos p) (omega (arith, ints)) h in omega (arith, ints, q)
+
+-- ---- the zeros that the rows are written over
+pub zero_square : (m z : Matrix) → m.cols ≡ length m.rows → z ≡ zero_matrix (length m.rows) (length m.rows) → AreSquare m z
+zero_square m z h e = grind (arith, common_steps)
+
+pub zero_even : (n : ℕ) (z : Matrix) → z ≡ zero_matrix n n → IsEven z
+zero_even n z e = grind (arith, common_steps)
+
+pub zero_blank : (n : ℕ) (z : Matrix) → z ≡ zero_matrix n n → IsBlank n (entry_of z) 0
+zero_blank n z e = grind (arith, common_steps)
