@@ -1,5 +1,5 @@
 -- The weighted products of a form's rows, as code makes them.
-use Rattle.std.proofs.Common.{◌≡◌, ◌≢◌, inl, inr, ℕ, zero, suc, ◌+◌, ◌-◌, ◌*◌, ◌<◌, ◌≤◌, ◌^◌, [], ◌∷◌, ℤ, pos, ◌+ℤ◌, ◌*ℤ◌, ◌≤ℤ◌, unsigned_abs, replicate, FitsSigned, to_z, arith, ap, ap₂, sym, ◌∙◌, refl}
+use Rattle.std.proofs.Common.{◌≡◌, ◌≢◌, inl, inr, ℕ, zero, suc, ◌+◌, ◌-◌, ◌*◌, ◌<◌, ◌≤◌, ◌^◌, [], ◌∷◌, ℤ, pos, ◌+ℤ◌, ◌*ℤ◌, ◌≤ℤ◌, unsigned_abs, replicate, Fits, FitsSigned, to_z, arith, ap, ap₂, sym, ◌∙◌, refl}
 use Rattle.std.specs.Int.{w128}
 use Rattle.std.proofs.Math.Nat.{mul-le-mul_right}
 use Rattle.std.proofs.lemmas.Bool.{cases_lt}
@@ -34,6 +34,19 @@ pub record AreWords (sum a b : Enc) : Type 0 where
   pub sum_rad : FitsSigned w128 sum.rad
   pub a_mid : FitsSigned w128 a.mid
   pub b_mid : FitsSigned w128 b.mid
+
+-- what the product of two reaches x and y needs
+pub reach_fits : {m n x y : ℕ} (s : ℕ) → m ≡ x → n ≡ y → s + x * y < 2 ^ 127 → Fits w128 (m * n)
+reach_fits {m} {n} {x} {y} s e f h = rw (e, f) (under s (x * y) h)
+  where
+    under : (s p : ℕ) → s + p < 2 ^ 127 → Fits w128 p
+    under s p h = omega (arith, h)
+
+pub rest_fits : {m n x y : ℕ} (s u : ℕ) → m ≡ x → n ≡ y → s + x * y < 2 ^ 127 → FitsSigned w128 (pos (m * n - u))
+rest_fits {m} {n} {x} {y} s u e f h = rw (e, f) (fits_signed_from_abs w128 _ (under s (x * y) u h))
+  where
+    under : (s p u : ℕ) → s + p < 2 ^ 127 → p - u < 2 ^ 127
+    under s p u h = omega (arith, h)
 
 module _ (sum a b : Enc) (words : AreWords sum a b)
     (room : unsigned_abs sum.mid + unsigned_abs sum.rad + (unsigned_abs a.mid + unsigned_abs a.rad) * (unsigned_abs b.mid + unsigned_abs b.rad) < 2 ^ 127) where
@@ -70,14 +83,17 @@ module _ (sum a b : Enc) (words : AreWords sum a b)
         under : {x y : ℕ} (z v : ℕ) → x ≡ y → z + y < 2 ^ 127 → x - v < 2 ^ 127
         under {x} {y} z v e h = omega (arith, e, h)
 
-    pub rad_is : read (read sum.rad +ℤ to_z w128 (m * n - u)) ≡ sum.rad +ℤ (whole_product (pair a) (pair b)).rad
-    rad_is = rw (to_z-of_z w128 _ words.sum_rad, rest_is) (to_z-of_z w128 _ fits)
+    rad_inside : FitsSigned w128 (sum.rad +ℤ (whole_product (pair a) (pair b)).rad)
+    rad_inside = fits_signed_from_abs w128 _ (under sum.rad (whole_product (pair a) (pair b)).rad (a.mid *ℤ b.mid) _ _ (product_reach (pair a) (pair b) a.nonnegative b.nonnegative) room)
       where
-        fits : FitsSigned w128 (sum.rad +ℤ (whole_product (pair a) (pair b)).rad)
-        fits = fits_signed_from_abs w128 _ (under sum.rad (whole_product (pair a) (pair b)).rad (a.mid *ℤ b.mid) _ _ (product_reach (pair a) (pair b) a.nonnegative b.nonnegative) room)
-          where
-            under : (x y z : ℤ) (r f : ℕ) → unsigned_abs z + unsigned_abs y ≡ f → r + unsigned_abs x + f < 2 ^ 127 → unsigned_abs (x +ℤ y) < 2 ^ 127
-            under x y z r f h k = omega (arith, ints, h, k)
+        under : (x y z : ℤ) (r f : ℕ) → unsigned_abs z + unsigned_abs y ≡ f → r + unsigned_abs x + f < 2 ^ 127 → unsigned_abs (x +ℤ y) < 2 ^ 127
+        under x y z r f h k = omega (arith, ints, h, k)
+
+    pub rad_fits : FitsSigned w128 (read sum.rad +ℤ to_z w128 (m * n - u))
+    rad_fits = rw (to_z-of_z w128 _ words.sum_rad, rest_is) rad_inside
+
+    pub rad_is : read (read sum.rad +ℤ to_z w128 (m * n - u)) ≡ sum.rad +ℤ (whole_product (pair a) (pair b)).rad
+    rad_is = rw (to_z-of_z w128 _ words.sum_rad, rest_is) (to_z-of_z w128 _ rad_inside)
 
     pub rad_nonneg : pos 0 ≤ℤ read (read sum.rad +ℤ to_z w128 (m * n - u))
     rad_nonneg = rw rad_is (add_nonneg_z sum.nonnegative (product_nonneg (pair a) (pair b) a.nonnegative b.nonnegative))
