@@ -1,5 +1,5 @@
 // The step exponents of a design's rows.
-ghost use Rattle.std.specs.Prelude.{◌≡◌, ◌↔◌, ◌+◌, ◌<◌, ◌≤◌, length, IfOk, IsTrue};
+ghost use Rattle.std.specs.Prelude.{◌≡◌, ◌↔◌, ◌+◌, ◌-◌, ◌<◌, ◌≤◌, length, IfOk, IsTrue};
 ghost use Rattle.qp_model.specs.Class.{HasLoweringRoom};
 ghost use Rattle.qp_model.specs.Curvature.{AreExponents};
 ghost use Rattle.qp_model.specs.FineSizes.{is_fine};
@@ -7,7 +7,8 @@ ghost use Rattle.plant_condense.specs.Form.{IsForm};
 ghost use Rattle.hessian_check.specs.Curvature.{IsAccepted};
 ghost use Rattle.hessian_check.specs.Lowering.{AreTestedSums, HasCostMatrix, IsReadyToLower};
 ghost use Rattle.hessian_check.specs.MatrixRoom.{HasMatrixRoom, matrix_at};
-ghost use Rattle.hessian_check.specs.RowExponents.{AreLowered, AreRowExponents, exponent_in, IsLowered};
+ghost use Rattle.hessian_check.specs.RowExponents.{AreLowered, AreRowExponents, exponent_in, IsAcceptedAt, IsLowered};
+ghost use Rattle.hessian_check.specs.RowSums.{AreRowSums};
 ghost use Rattle.hessian_check.specs.Steps.{IsExponentOf, OfDesign};
 
 use crate::certificate::has_passing_root;
@@ -44,9 +45,27 @@ fn lowered_rows(alloc: Global, c: &Condensed, s: u32) -> Result<Vec<u32>, AllocE
 {
     let mut sums = sums_once(alloc, c)?;
     let mut matrices = matrices_by(alloc, c, &sums)?;
+    lowered_from(alloc, c, s, &mut matrices, &mut sums)
+}
+
+// The same from the sums in which each row counts once.
+fn lowered_from(
+    alloc: Global,
+    c: &Condensed,
+    s: u32,
+    matrices: &mut StepMatrices,
+    sums: &mut EncMat,
+) -> Result<Vec<u32>, AllocError>
+    requires form { IsForm c.now }
+    requires chosen { OfDesign c.now (λ d. IsExponentOf d s) }
+    requires room { OfDesign c.now (λ d. HasLoweringRoom (is_fine d) d) }
+    requires cost { OfDesign c.now (λ d. HasCostMatrix (is_fine d) d matrices.old) }
+    requires sums { AreRowSums c.now (λ l. 1) sums.old.mid sums.old.rad }
+    ensures { OfDesign c.now (λ d. IfOk result (λ es. AreLowered d s es.items)) }
+{
     let mut list = Vec::with_capacity(alloc, c.g.rows())?;
     for _ in 0..c.g.rows() {
-        let exponent = lowered(alloc, c, &list, s, &mut matrices, &mut sums)?;
+        let exponent = lowered(alloc, c, &list, s, matrices, sums)?;
         list.push(exponent)?;
     }
     Ok(list)
@@ -70,17 +89,44 @@ fn lowered(
     ensures cost { OfDesign c.now (λ d. HasCostMatrix (is_fine d) d matrices.new) }
     ensures sums { IfOk result (λ e. AreTestedSums c.now before.now (length before.now) e s sums.new) }
 {
-    let i = before.len();
     let most = s.min(4);
     for k in 0..most {
-        let more = with_row(alloc, sums, &c.g, &c.g_rad, i, 1 << k)?;
-        matrices.rows = row_matrix(alloc, c.fine, &more)?;
-        if !is_accepted(alloc, matrices, s)? {
+        if !try_lower(alloc, c, before, s, k, matrices, sums)? {
             return Ok(s - k);
         }
-        *sums = more;
     }
     Ok(s - most)
+}
+
+// Lowers the exponent of that row from s - k by 1, where this is accepted; else the sums stay.
+fn try_lower(
+    alloc: Global,
+    c: &Condensed,
+    before: &[u32],
+    s: u32,
+    k: u32,
+    matrices: &mut StepMatrices,
+    sums: &mut EncMat,
+) -> Result<bool, AllocError>
+    requires form { IsForm c.now }
+    requires ready { IsReadyToLower c.now s before.now }
+    requires small { k < 4 }
+    requires below { k < s }
+    requires cost { OfDesign c.now (λ d. HasCostMatrix (is_fine d) d matrices.old) }
+    requires sums { AreTestedSums c.now before.now (length before.now) (s - k) s sums.old }
+    ensures cost { OfDesign c.now (λ d. HasCostMatrix (is_fine d) d matrices.new) }
+    ensures accepted { OfDesign c.now (λ d. IfOk result (λ yes. IsTrue yes ↔ IsAcceptedAt d before.now (length before.now) (s - (k + 1)) s)) }
+    ensures lowered { IfOk result (λ yes. IsTrue yes → AreTestedSums c.now before.now (length before.now) (s - (k + 1)) s sums.new) }
+    ensures refused { IfOk result (λ yes. ¬ IsTrue yes → sums.new ≡ sums.old) }
+{
+    let i = before.len();
+    let more = with_row(alloc, sums, &c.g, &c.g_rad, i, 1 << k)?;
+    matrices.rows = row_matrix(alloc, c.fine, &more)?;
+    if !is_accepted(alloc, matrices, s)? {
+        return Ok(false);
+    }
+    *sums = more;
+    Ok(true)
 }
 
 // Whether the matrix of s is dominant, or has a root that the test passes.

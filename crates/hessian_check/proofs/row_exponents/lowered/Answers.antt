@@ -1,9 +1,7 @@
-use Rattle.std.proofs.Common.{◌≡◌, ◌+◌, ◌-◌, ◌<◌, ◌≤◌, length, arith, rules}
-use Rattle.qp_model.specs.FineSizes.{is_fine}
+use Rattle.std.proofs.Common.{◌≡◌, ◌-◌, ◌<◌, length, arith, rules}
 use Rattle.qp_model.specs.Parts.{design_of}
-use Rattle.hessian_check.proofs.LoweringLaws.{exponent_small, lowered_room, lowered_sums, refused_next, shift_is, sums_along, taken_all, taken_more, tested_fits, tested_room, tested_sound, tested_told}
+use Rattle.hessian_check.proofs.LoweringLaws.{refused_next, sums_along, taken_all, taken_more}
 use Rattle.hessian_check.proofs.RowLaws.{not_true}
-use Rattle.hessian_check.proofs.RowMatrices.{form_enclosures}
 use Rattle.hessian_check.proofs.row_exponents.lowered.Goals as goal
 
 pub loop-k-init : goal.loop-k-init
@@ -15,126 +13,43 @@ loop-k-init c =
       sums = sums_along c.args.c.now c.args.before.now (length c.args.before.now) s c.args.sums.now.mid c.args.sums.now.rad s (s - 0) (omega arith) c.requires.sums;
     }
 
-pub with_row-requires-clause-enclosures : goal.with_row-requires-clause-enclosures
-with_row-requires-clause-enclosures c = form_enclosures (is_fine (design_of c.requires.form.parts)) c.requires.form.parts c.args.c.now c.requires.form.form
+pub try_lower-requires-clause-form : goal.try_lower-requires-clause-form
+try_lower-requires-clause-form c = c.requires.form
 
-pub with_row-requires-clause-room : goal.with_row-requires-clause-room
-with_row-requires-clause-room c =
-    let p = c.requires.form.parts in
-    let f = c.requires.form.form in
-    let s = c.args.s in
-    let es = c.args.before.now in
-    let k = c.loop-k.k in
-    let small : k < 4 = omega arith in
-    let below : k < s = omega arith in
-    lowered_room p c.args.c.now f s es c.requires.ready k small below c.loop-k.sums.mid c.loop-k.sums.rad c.loop-k.invariant.sums _ (shift_is k small)
+pub try_lower-requires-clause-ready : goal.try_lower-requires-clause-ready
+try_lower-requires-clause-ready c = c.requires.ready
 
-pub row_matrix-requires-clause-room : goal.row_matrix-requires-clause-room
-row_matrix-requires-clause-room c =
-    let p = c.requires.form.parts in
-    let f = c.requires.form.form in
-    let s = c.args.s in
-    let es = c.args.before.now in
-    let k = c.loop-k.k in
-    let small : k < 4 = omega arith in
-    let below : k < s = omega arith in
-    let low : s - 4 ≤ s - (k + 1) = omega arith in
-    let more = c.in_ok-more.more in
-    let next = lowered_sums p c.args.c.now f s es c.requires.ready k small below c.loop-k.sums.mid c.loop-k.sums.rad c.loop-k.invariant.sums _ (shift_is k small) more.mid more.rad c.in_ok-more.ensures in
-    tested_room p c.args.c.now f s es c.requires.ready (s - (k + 1)) low more.mid more.rad next
+pub try_lower-requires-clause-small : goal.try_lower-requires-clause-small
+try_lower-requires-clause-small c = omega (arith, c.loop-k-test.true, c.min-most.ensures)
 
-pub invariant_of-matrices : goal.invariant_of-matrices
-invariant_of-matrices c =
-    let p = c.requires.form.parts in
-    let f = c.requires.form.form in
-    let s = c.args.s in
-    let es = c.args.before.now in
-    let k = c.loop-k.k in
-    let small : k < 4 = omega arith in
-    let below : k < s = omega arith in
-    let low : s - 4 ≤ s - (k + 1) = omega arith in
-    let more = c.in_ok-more.more in
-    let next = lowered_sums p c.args.c.now f s es c.requires.ready k small below c.loop-k.sums.mid c.loop-k.sums.rad c.loop-k.invariant.sums _ (shift_is k small) more.mid more.rad c.in_ok-more.ensures in
-    let g = c.loop-k.matrices in
-    let m = c.in_ok-matrices.field-0 in
-    let h = c.in_ok-matrices.ensures in
-    let is = c.loop-k.invariant.cost p f in
-    record { sound = tested_sound p c.args.c.now f s es c.requires.ready (s - (k + 1)) low more.mid more.rad next more.sound m h g is }
+pub try_lower-requires-clause-below : goal.try_lower-requires-clause-below
+try_lower-requires-clause-below c = omega (arith, c.loop-k-test.true, c.min-most.ensures)
 
-pub is_accepted-requires-clause-small : goal.is_accepted-requires-clause-small
-is_accepted-requires-clause-small c = exponent_small (design_of c.requires.form.parts) c.args.s (c.requires.ready.chosen c.requires.form.parts c.requires.form.form)
+pub try_lower-requires-clause-cost : goal.try_lower-requires-clause-cost
+try_lower-requires-clause-cost c = c.loop-k.invariant.cost
 
-pub is_accepted-requires-clause-room : goal.is_accepted-requires-clause-room
-is_accepted-requires-clause-room c =
-    let p = c.requires.form.parts in
-    let f = c.requires.form.form in
-    let s = c.args.s in
-    let es = c.args.before.now in
-    let k = c.loop-k.k in
-    let small : k < 4 = omega arith in
-    let below : k < s = omega arith in
-    let low : s - 4 ≤ s - (k + 1) = omega arith in
-    let more = c.in_ok-more.more in
-    let next = lowered_sums p c.args.c.now f s es c.requires.ready k small below c.loop-k.sums.mid c.loop-k.sums.rad c.loop-k.invariant.sums _ (shift_is k small) more.mid more.rad c.in_ok-more.ensures in
-    let g = c.loop-k.matrices in
-    let m = c.in_ok-matrices.field-0 in
-    let h = c.in_ok-matrices.ensures in
-    let is = c.loop-k.invariant.cost p f in
-    tested_fits p c.args.c.now f s es c.requires.ready (s - (k + 1)) low more.mid more.rad next more.sound m h g is
-
-pub returns-in_err-is_accepted-clause-cost : goal.returns-in_err-is_accepted-clause-cost
-returns-in_err-is_accepted-clause-cost c = λ p f. let is = c.loop-k.invariant.cost p f in record { cost = is.cost; cost_factor = is.cost_factor; row_factor = is.row_factor }
+pub try_lower-requires-clause-sums : goal.try_lower-requires-clause-sums
+try_lower-requires-clause-sums c = c.loop-k.invariant.sums
 
 pub returns-then-not-branch-clause-cost : goal.returns-then-not-branch-clause-cost
-returns-then-not-branch-clause-cost c = λ p f. let is = c.loop-k.invariant.cost p f in record { cost = is.cost; cost_factor = is.cost_factor; row_factor = is.row_factor }
+returns-then-not-branch-clause-cost c = c.in_ok-try_lower.ensures.cost
 
 pub returns-then-not-branch-clause-lowered : goal.returns-then-not-branch-clause-lowered
 returns-then-not-branch-clause-lowered c = λ p f.
-    let s = c.args.s in
     let es = c.args.before.now in
-    let k = c.loop-k.k in
-    let small : k < 4 = omega arith in
-    let below : k < s = omega arith in
-    let low : s - 4 ≤ s - (k + 1) = omega arith in
-    let more = c.in_ok-more.more in
-    let next = lowered_sums p c.args.c.now f s es c.requires.ready k small below c.loop-k.sums.mid c.loop-k.sums.rad c.loop-k.invariant.sums _ (shift_is k small) more.mid more.rad c.in_ok-more.ensures in
-    let g = c.loop-k.matrices in
-    let m = c.in_ok-matrices.field-0 in
-    let h = c.in_ok-matrices.ensures in
-    let is = c.loop-k.invariant.cost p f in
-    let told = tested_told p c.args.c.now f s es c.requires.ready (s - (k + 1)) low more.mid more.rad next more.sound m h g is c.in_ok-is_accepted.field-0 c.in_ok-is_accepted.ensures in
-    refused_next (design_of p) s es (length es) k (c.loop-k.invariant.accepted p f) small (λ a. not_true (rw c.if-not-branch.true at (told.1 a)))
+    let small : c.loop-k.k < 4 = omega (arith, c.loop-k-test.true, c.min-most.ensures) in
+    refused_next (design_of p) c.args.s es (length es) c.loop-k.k (c.loop-k.invariant.accepted p f) small (λ a. not_true (rw c.if-not-branch.true at ((c.in_ok-try_lower.ensures.accepted p f).1 a)))
+
+pub returns-then-not-branch-clause-sums : goal.returns-then-not-branch-clause-sums
+returns-then-not-branch-clause-sums c = rw (c.in_ok-try_lower.ensures.refused (rw c.if-not-branch.true not_true)) c.loop-k.invariant.sums
 
 pub loop-k-preserved : goal.loop-k-preserved
 loop-k-preserved c = record {
-  cost = λ p f. (let is = c.loop-k.invariant.cost p f in record { cost = is.cost; cost_factor = is.cost_factor; row_factor = is.row_factor });
+  cost = c.in_ok-try_lower.ensures.cost;
   accepted = λ p f.
-      (let s = c.args.s in
-      let es = c.args.before.now in
-      let k = c.loop-k.k in
-      let small : k < 4 = omega arith in
-      let below : k < s = omega arith in
-      let low : s - 4 ≤ s - (k + 1) = omega arith in
-      let more = c.in_ok-more.more in
-      let next = lowered_sums p c.args.c.now f s es c.requires.ready k small below c.loop-k.sums.mid c.loop-k.sums.rad c.loop-k.invariant.sums _ (shift_is k small) more.mid more.rad c.in_ok-more.ensures in
-      let g = c.loop-k.matrices in
-      let m = c.in_ok-matrices.field-0 in
-      let h = c.in_ok-matrices.ensures in
-      let is = c.loop-k.invariant.cost p f in
-      let told = tested_told p c.args.c.now f s es c.requires.ready (s - (k + 1)) low more.mid more.rad next more.sound m h g is c.in_ok-is_accepted.field-0 c.in_ok-is_accepted.ensures in
-      taken_more (design_of p) s es (length es) k (c.loop-k.invariant.accepted p f) (told.0 (rw c.if-not-branch.false (search rules))));
-  sums =
-      (let p = c.requires.form.parts in
-      let f = c.requires.form.form in
-      let s = c.args.s in
-      let es = c.args.before.now in
-      let k = c.loop-k.k in
-      let small : k < 4 = omega arith in
-      let below : k < s = omega arith in
-      let low : s - 4 ≤ s - (k + 1) = omega arith in
-      let more = c.in_ok-more.more in
-      let next = lowered_sums p c.args.c.now f s es c.requires.ready k small below c.loop-k.sums.mid c.loop-k.sums.rad c.loop-k.invariant.sums _ (shift_is k small) more.mid more.rad c.in_ok-more.ensures in
-      next);
+      (let es = c.args.before.now in
+      taken_more (design_of p) c.args.s es (length es) c.loop-k.k (c.loop-k.invariant.accepted p f) ((c.in_ok-try_lower.ensures.accepted p f).0 (rw c.if-not-branch.false (search rules))));
+  sums = c.in_ok-try_lower.ensures.lowered (rw c.if-not-branch.false (search rules));
 }
 
 pub returns-clause-lowered : goal.returns-clause-lowered
