@@ -107,6 +107,10 @@ kept_on w0 w1 w2 x r a b = record {
   above = λ k m. b.above k m ∙ a.above k m;
 }
 
+-- they leave the spans where they are
+pub still_placed : (w0 w1 : RegionWords) (x r : Span) (n : ℕ) → ArePlaced w0 x r n → AreKept w0 w1 x r → ArePlaced w1 x r n
+still_placed w0 w1 x r n p k = record { x_len = p.x_len; r_len = p.r_len; order = p.order; end = rw k.used p.end; inside = rw k.size p.inside }
+
 -- what was lent and filled
 pub lent : (old : RegionWords) (s : Span) (ws : List ℤ) → s.start + s.len ≤ length old.words → length ws ≡ s.len →
     IsSpanWritten old (record old { words = written_over old.words s.start ws }) s (at ws)
