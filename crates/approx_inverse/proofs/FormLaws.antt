@@ -15,7 +15,7 @@ use Rattle.qp_model.specs.Columns.{columns, descent_size, solve_matrix, solve_co
 use Rattle.approx_inverse.specs.System.{IsSystem}
 use Rattle.approx_inverse.specs.Condensed.{IsMatrixOf}
 use Rattle.approx_inverse.specs.DescentSize.{EachWithin, entry_bound, descent_of_column}
-use Rattle.approx_inverse.specs.Inverse.{IsSolution, SolvesForm}
+use Rattle.approx_inverse.specs.Inverse.{HasGainSizes, IsSolution, SolvesForm}
 use Rattle.approx_inverse.specs.Fault.{IsFault}
 use Rattle.approx_inverse.specs.declared.fault.SolveFault.{SolveFault}
 use Rattle.approx_inverse.specs.declared.fault.SolveFault.TheVariants.{Memory, TooWide}
@@ -118,3 +118,11 @@ refusal_of (Err (TooWide q)) n fits wide h = inl (ap (λ (q : Quantity). Err (To
 -- where each column has a solution, all have room
 pub room_from : (h : Form) (f : ℕ) (v : Inverse) → pos 1 ≤ℤ h.floor → SolvesForm h f v → descent_size h f ≤ 2 ^ 126
 room_from h f v positive solves = all_fit h f positive (λ i l. (solves.solved i l).room)
+
+-- the sizes, told by the gains' own
+pub sizes_own : (v : Inverse) {k : ℕ} (nu n m : ℕ) → k ≡ nu → HasGainSizes v nu n m → HasGainSizes v k v.p_mat.cols v.w_mat.cols
+sizes_own v {k} nu n m e h = rw e (record {
+  p_mat = record { rows = h.p_mat.rows; cols = refl; each = rw h.p_mat.cols h.p_mat.each };
+  t = h.t;
+  w_mat = record { rows = h.w_mat.rows; cols = refl; each = rw h.w_mat.cols h.w_mat.each };
+})

@@ -6,15 +6,18 @@ ghost use Rattle.qp_model.specs.Parts.{design_of};
 ghost use Rattle.qp_model.specs.Class.{form_of};
 ghost use Rattle.qp_model.specs.Columns.{descent_size};
 ghost use Rattle.plant_condense.specs.Form.{IsForm, IsFormOf, held};
-ghost use Rattle.approx_inverse.specs.Condensed.{IsSolvable};
+ghost use Rattle.approx_inverse.specs.Condensed.{IsMatrixOf, IsSolvable};
 ghost use Rattle.approx_inverse.specs.Inverse.{IsInverseOf, SolvesForm};
 ghost use Rattle.approx_inverse.specs.Fault.{IsFault};
+ghost use Rattle.approx_inverse.specs.Root.{HasRootSizes};
+ghost use Rattle.approx_inverse.specs.Workspace.{IsWorkspace};
 
 use crate::fault::SolveFault;
 use crate::guess::Root;
 use crate::inverse::Inverse;
 use crate::system::matrix_of;
 use crate::workspace::Workspace;
+use mat_int::Mat;
 use plant_condense::Condensed;
 use qp_model::Quantity;
 use std::alloc::Global;
@@ -26,13 +29,49 @@ fn solve_form(alloc: Global, c: &Condensed, f: u32) -> Result<Inverse, SolveFaul
     ensures solved { IfOk result (SolvesForm (held c.now) f) }
     ensures wide { IfErr result (λ e. IsFault e (2 ^ 126 < descent_size (held c.now) f)) }
 {
-    let (entries, states, rows) = (c.hess.rows(), c.lin.cols(), c.g.rows());
-    let mut work = Workspace::with_entries(alloc, entries)?;
+    let mut work = Workspace::with_entries(alloc, c.hess.rows())?;
+    solve_in(alloc, c, f, &mut work)
+}
+
+// The same in what solving works in.
+fn solve_in(
+    alloc: Global,
+    c: &Condensed,
+    f: u32,
+    work: &mut Workspace,
+) -> Result<Inverse, SolveFault>
+    requires solvable { IsSolvable c.now }
+    requires bits { f ≤ 48 }
+    requires work { IsWorkspace (held c.now).entries work.old }
+    ensures solved { IfOk result (SolvesForm (held c.now) f) }
+    ensures wide { IfErr result (λ e. IsFault e (2 ^ 126 < descent_size (held c.now) f)) }
+{
     let h = matrix_of(alloc, c, &mut work.column)?;
     let root = Root::of(alloc, &h)?;
+    solve_from(alloc, c, f, &h, &root, work)
+}
+
+// The same with the matrix and its root.
+fn solve_from(
+    alloc: Global,
+    c: &Condensed,
+    f: u32,
+    h: &Mat,
+    root: &Root,
+    work: &mut Workspace,
+) -> Result<Inverse, SolveFault>
+    requires solvable { IsSolvable c.now }
+    requires bits { f ≤ 48 }
+    requires matrix { IsMatrixOf (held c.now) h.now }
+    requires root { HasRootSizes (held c.now).entries root.now }
+    requires work { IsWorkspace (held c.now).entries work.old }
+    ensures solved { IfOk result (SolvesForm (held c.now) f) }
+    ensures wide { IfErr result (λ e. IsFault e (2 ^ 126 < descent_size (held c.now) f)) }
+{
+    let (entries, states, rows) = (c.hess.rows(), c.lin.cols(), c.g.rows());
     let mut found = Inverse::zero(alloc, entries, states, rows)?;
     for i in 0..states + 1 + rows {
-        if !work.solve(c, i, f, &h, &root) {
+        if !work.solve(c, i, f, h, root) {
             return Err(SolveFault::TooWide {
                 quantity: Quantity::Descent,
             });

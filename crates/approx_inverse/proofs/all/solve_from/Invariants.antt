@@ -2,7 +2,7 @@ use Rattle.std.proofs.Common.{ℕ, ◌<◌}
 use Rattle.plant_condense.specs.Form.{held}
 use Rattle.approx_inverse.specs.Workspace.{IsWorkspace}
 use Rattle.approx_inverse.specs.Inverse.{HasGainSizes, IsSolution, solution_of}
-use Rattle.approx_inverse.proofs.all.solve_form.Given as goal
+use Rattle.approx_inverse.proofs.all.solve_from.Given as goal
 
 abbrev pub invariant-loop-i : goal.invariant-loop-i
 invariant-loop-i l = record {
