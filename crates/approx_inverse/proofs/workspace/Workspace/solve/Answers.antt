@@ -44,3 +44,76 @@ returns-clause-wide c = λ no.
     let room = rw (column, long, to_z-of_z w128 _ fits) at c.solve_near.ensures.fits in
     wide_from (held c.args.c.now) c.args.f c.args.i c.args.h.now c.put_column.new.out c.requires.matrix c.requires.column is
     (not_fit _ _ (sym c.is_ok.ensures.value ∙ no) room.1)
+
+pub put_column-requires-clause-solvable : goal.put_column-requires-clause-solvable
+put_column-requires-clause-solvable c = c.requires.solvable
+
+pub put_column-requires-clause-column : goal.put_column-requires-clause-column
+put_column-requires-clause-column c = c.requires.column
+
+pub put_column-requires-clause-len : goal.put_column-requires-clause-len
+put_column-requires-clause-len c = ap length c.deref_mut.ensures.value ∙ c.requires.work.column
+
+pub returns-then-not-put_column-clause-work : goal.returns-then-not-put_column-clause-work
+returns-then-not-put_column-clause-work c = record {
+  column = ap length (filled _ _ _ (c.put_column.auto.out ∙ c.deref_mut.ensures.len)) ∙ c.put_column.auto.out ∙ ap length c.deref_mut.ensures.value ∙ c.requires.work.column;
+  guess = c.requires.work.guess;
+  rest = c.requires.work.rest;
+  live = c.requires.work.live;
+  len = c.requires.work.len;
+  free = c.requires.work.free;
+}
+
+pub returns-then-not-put_column-clause-solved : goal.returns-then-not-put_column-clause-solved
+returns-then-not-put_column-clause-solved c = λ t. absurd (cc)
+
+pub guess-requires-clause-rows : goal.guess-requires-clause-rows
+guess-requires-clause-rows c =
+    let long : length c.put_column.new.out ≡ (held c.args.c.now).entries = c.put_column.auto.out ∙ ap length c.deref_mut.ensures.value ∙ c.requires.work.column in
+    let column : c.deref.result.now ≡ c.put_column.new.out = c.deref.ensures.value ∙ filled _ _ _ (c.put_column.auto.out ∙ c.deref_mut.ensures.len) in
+    rw (column, long) c.requires.matrix.rows
+
+pub guess-requires-clause-sizes : goal.guess-requires-clause-sizes
+guess-requires-clause-sizes c =
+    let long : length c.put_column.new.out ≡ (held c.args.c.now).entries = c.put_column.auto.out ∙ ap length c.deref_mut.ensures.value ∙ c.requires.work.column in
+    let column : c.deref.result.now ≡ c.put_column.new.out = c.deref.ensures.value ∙ filled _ _ _ (c.put_column.auto.out ∙ c.deref_mut.ensures.len) in
+    rw (column, long) c.requires.root
+
+pub guess-requires-clause-len : goal.guess-requires-clause-len
+guess-requires-clause-len c =
+    let long : length c.put_column.new.out ≡ (held c.args.c.now).entries = c.put_column.auto.out ∙ ap length c.deref_mut.ensures.value ∙ c.requires.work.column in
+    let column : c.deref.result.now ≡ c.put_column.new.out = c.deref.ensures.value ∙ filled _ _ _ (c.put_column.auto.out ∙ c.deref_mut.ensures.len) in
+    rw (column, long) (ap length c.deref_mut-2.ensures.value ∙ c.requires.work.guess)
+
+pub guess-requires-clause-rest_len : goal.guess-requires-clause-rest_len
+guess-requires-clause-rest_len c =
+    let long : length c.put_column.new.out ≡ (held c.args.c.now).entries = c.put_column.auto.out ∙ ap length c.deref_mut.ensures.value ∙ c.requires.work.column in
+    let column : c.deref.result.now ≡ c.put_column.new.out = c.deref.ensures.value ∙ filled _ _ _ (c.put_column.auto.out ∙ c.deref_mut.ensures.len) in
+    rw (column, long) (ap length c.deref_mut-3.ensures.value ∙ c.requires.work.rest)
+
+pub solve_near-requires-clause-live : goal.solve_near-requires-clause-live
+solve_near-requires-clause-live c = c.requires.work.live
+
+pub solve_near-requires-clause-len : goal.solve_near-requires-clause-len
+solve_near-requires-clause-len c =
+    let long : length c.put_column.new.out ≡ (held c.args.c.now).entries = c.put_column.auto.out ∙ ap length c.deref_mut.ensures.value ∙ c.requires.work.column in
+    let column : c.deref-2.result.now ≡ c.put_column.new.out = c.deref-2.ensures.value ∙ filled _ _ _ (c.put_column.auto.out ∙ c.deref_mut.ensures.len) in
+    rw (column, long) c.requires.work.len
+
+pub solve_near-requires-clause-free : goal.solve_near-requires-clause-free
+solve_near-requires-clause-free c =
+    let long : length c.put_column.new.out ≡ (held c.args.c.now).entries = c.put_column.auto.out ∙ ap length c.deref_mut.ensures.value ∙ c.requires.work.column in
+    let column : c.deref-2.result.now ≡ c.put_column.new.out = c.deref-2.ensures.value ∙ filled _ _ _ (c.put_column.auto.out ∙ c.deref_mut.ensures.len) in
+    rw (column, long) c.requires.work.free
+
+pub returns-clause-work : goal.returns-clause-work
+returns-clause-work c =
+    let only = c.solve_near.ensures.only in
+    record {
+      column = ap length (filled _ _ _ (c.put_column.auto.out ∙ c.deref_mut.ensures.len)) ∙ c.put_column.auto.out ∙ ap length c.deref_mut.ensures.value ∙ c.requires.work.column;
+      guess = ap length (filled _ _ _ (c.guess.auto.x ∙ c.deref_mut-2.ensures.len)) ∙ c.guess.auto.x ∙ ap length c.deref_mut-2.ensures.value ∙ c.requires.work.guess;
+      rest = ap length (filled _ _ _ (c.guess.auto.rest ∙ c.deref_mut-3.ensures.len)) ∙ c.guess.auto.rest ∙ ap length c.deref_mut-3.ensures.value ∙ c.requires.work.rest;
+      live = record { end = rw only.used c.requires.work.live.end };
+      len = c.requires.work.len;
+      free = rw (only.size, only.used) c.requires.work.free;
+    }
