@@ -5,10 +5,12 @@ use Rattle.std.proofs.Common.{inl, inr, ◌≡◌, ◌⊎◌, ℕ, ◌<◌, ◌�
 use Rattle.integer_algebra.specs.Sums.{image, at}
 use Rattle.integer_algebra.proofs.SumLaws.{total_same}
 use Rattle.integer_algebra.proofs.SizeLaws.{size_same}
-use Rattle.mat_int.specs.Matrix.{Matrix, entry_of}
+use Rattle.std.proofs.lemmas.Grind.{common_steps}
+use Rattle.mat_int.specs.Matrix.{Matrix, entry_of, zero_matrix}
 use Rattle.qp_model.specs.Convex.{IsConvex}
 use Rattle.qp_model.specs.declared.quantity.Quantity.{Quantity}
 use Rattle.qp_model.specs.declared.quantity.Quantity.TheVariants.{Descent}
+use Rattle.qp_model.specs.Controller.{HasShape}
 use Rattle.qp_model.specs.GoodSolution.{IsGood}
 use Rattle.qp_model.specs.Form.{Form}
 use Rattle.qp_model.specs.Columns.{columns, descent_size, solve_matrix, solve_column}
@@ -126,3 +128,7 @@ sizes_own v {k} nu n m e h = rw e (record {
   t = h.t;
   w_mat = record { rows = h.w_mat.rows; cols = refl; each = rw h.w_mat.cols h.w_mat.each };
 })
+
+-- the shape of zeros
+pub zero_shape : (a : Matrix) (height breadth : ℕ) → a ≡ zero_matrix height breadth → HasShape a height breadth
+zero_shape a height breadth e = grind (arith, common_steps)

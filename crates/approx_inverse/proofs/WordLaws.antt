@@ -4,11 +4,11 @@ use Rattle.std.proofs.Math.ListN.{length-set}
 use Rattle.std.proofs.Math.Seq.{take-length}
 use Rattle.std.proofs.lemmas.List.{get_or-take, get_or-drop, take-append-le}
 use Rattle.integer_algebra.specs.Sums.{at}
-use Rattle.word_region.specs.Words.{RegionWords}
+use Rattle.word_region.specs.Words.{IsCleared, IsLive, RegionWords}
 use Rattle.word_region.specs.declared.Span.{Span}
 use Rattle.word_region.specs.Lending.{written_over}
 use Rattle.word_region.proofs.LendingLaws.{written}
-use Rattle.approx_inverse.specs.Spans.{cells, ArePlaced, AreKept, IsSpanWritten, StaysOutside}
+use Rattle.approx_inverse.specs.Spans.{cells, ArePlaced, AreKept, IsOnlyIn, IsSpanWritten, StaysOutside}
 
 pub at_same : (ws ns : List ℤ) (p : ℕ) (z : ℤ) → ns ≡ set ws p z → p < length ws → at ns p ≡ z
 at_same ws ns p z e l = rw e (get_or-set_same ws p z (pos 0) l)
@@ -110,6 +110,26 @@ kept_on w0 w1 w2 x r a b = record {
 -- they leave the spans where they are
 pub still_placed : (w0 w1 : RegionWords) (x r : Span) (n : ℕ) → ArePlaced w0 x r n → AreKept w0 w1 x r → ArePlaced w1 x r n
 still_placed w0 w1 x r n p k = record { x_len = p.x_len; r_len = p.r_len; order = p.order; end = rw k.used p.end; inside = rw k.size p.inside }
+
+-- ---- a span that is taken behind x, and freed again
+pub taken_placed : (w0 w1 : RegionWords) (x r : Span) (n : ℕ) → IsLive w0 x → x.len ≡ n → n ≤ length w0.words - w0.used → w0.used ≤ length w0.words →
+    r ≡ record { start = w0.used; len = n } → w1.used ≡ w0.used + n → length w1.words ≡ length w0.words → ArePlaced w1 x r n
+taken_placed w0 w1 x r n live long free inside is used size = rw is (record {
+  x_len = long;
+  r_len = refl;
+  order = omega (arith, live.end, long);
+  end = omega (arith, used);
+  inside = omega (arith, free, inside, size);
+})
+
+pub freed_again : (w0 w1 w2 w3 : RegionWords) (x r : Span) (n used : ℕ) → IsLive w0 x → r ≡ record { start = w0.used; len = n } → IsCleared w0.words w1.words w0.used n →
+    AreKept w1 w2 x r → used ≡ w0.used → w3 ≡ record w2 { used = used } → IsOnlyIn w0 w3 x
+freed_again w0 w1 w2 w3 x r n used live is cleared kept same e = rw e (record {
+  used = same;
+  size = kept.size ∙ cleared.size;
+  below = λ k l. kept.below k l ∙ cleared.below k (omega (arith, live.end, l));
+  above = λ k l m. (let b : k < r.start = rw is m in kept.between k l b ∙ cleared.below k m);
+})
 
 -- what was lent and filled
 pub lent : (old : RegionWords) (s : Span) (ws : List ℤ) → s.start + s.len ≤ length old.words → length ws ≡ s.len →

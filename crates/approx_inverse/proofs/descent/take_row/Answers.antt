@@ -1,4 +1,4 @@
-use Rattle.std.proofs.Common.{rules, ℤ, ◌≡◌, ◌+◌, ◌*ℤ◌, ◌-ℤ◌, FitsSigned, length, arith, ap, ◌∙◌}
+use Rattle.std.proofs.Common.{rules, ℤ, ◌≡◌, ◌<◌, ◌+◌, ◌*ℤ◌, ◌-ℤ◌, FitsSigned, length, arith, ap, ◌∙◌, refl}
 use Rattle.std.specs.Int.{w128}
 use Rattle.std.proofs.Math.ListN.{length-set}
 use Rattle.std.proofs.lemmas.Int.{to_z-of_z}
@@ -28,4 +28,39 @@ loop-i-preserved c =
       done = rw t (row_step old ws _ c.args.row.now start i c.args.t _ e (omega arith) is inv.rest (rw t at inv.done));
       below = step_below old ws _ (start + i) start _ e (omega arith) inv.below;
       rest = step_above old ws _ (start + i) (start + i) (start + (i + 1)) _ e (omega arith) (omega arith) inv.rest;
+    }
+
+pub loop-i-init : goal.loop-i-init
+loop-i-init c = record { used = refl; size = refl; done = λ k l. absurd (omega arith); below = λ k l. refl; rest = λ k l. refl }
+
+pub word-old-requires-clause-live : goal.word-old-requires-clause-live
+word-old-requires-clause-live c = record { end = rw c.loop-i.invariant.used c.requires.live.end }
+
+pub less-new-requires-clause-product : goal.less-new-requires-clause-product
+less-new-requires-clause-product c =
+    let v : FitsSigned w128 (at c.args.row.now c.loop-i.i) = search rules in
+    let l : c.loop-i.i < c.args.r.now.len = omega arith in
+    rw (to_z-of_z w128 _ c.ranges.t, to_z-of_z w128 _ v) (c.requires.products c.loop-i.i l)
+
+pub less-new-requires-clause-difference : goal.less-new-requires-clause-difference
+less-new-requires-clause-difference c =
+    let v : FitsSigned w128 (at c.args.row.now c.loop-i.i) = search rules in
+    let l : c.loop-i.i < c.args.r.now.len = omega arith in
+    let u : FitsSigned w128 c.word-old.result = search rules in
+    let same = c.loop-i.invariant.rest (c.args.r.now.start + c.loop-i.i) (omega arith) in
+    rw (to_z-of_z w128 _ u, to_z-of_z w128 _ c.ranges.t, to_z-of_z w128 _ v, c.word-old.ensures, same) (c.requires.results c.loop-i.i l)
+
+pub set_word-requires-clause-live : goal.set_word-requires-clause-live
+set_word-requires-clause-live c = record { end = rw c.loop-i.invariant.used c.requires.live.end }
+
+pub returns : goal.returns
+returns c =
+    let inv = c.loop-i.invariant in
+    let t = to_z-of_z w128 _ c.ranges.t in
+    record {
+      used = inv.used;
+      size = inv.size;
+      done = λ k l. (rw t at inv.done) k (omega arith);
+      below = inv.below;
+      above = λ k l. inv.rest k (omega arith);
     }
