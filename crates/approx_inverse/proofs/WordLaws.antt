@@ -1,8 +1,8 @@
 -- Words that change, and words that stay.
-use Rattle.std.proofs.Common.{refl, take, drop, ◌++◌, ◌≡◌, ◌≢◌, ℕ, ◌+◌, ◌-◌, ◌<◌, ◌≤◌, ℤ, pos, ◌-ℤ◌, ◌*ℤ◌, List, length, set, get_or-set_same, get_or-set_other, below_more, arith, ap, ◌∙◌}
+use Rattle.std.proofs.Common.{refl, take, drop, ◌++◌, ◌≡◌, ◌≢◌, ℕ, ◌+◌, ◌-◌, ◌<◌, ◌≤◌, ℤ, pos, ◌-ℤ◌, ◌*ℤ◌, List, length, set, get_or-set_same, get_or-set_other, below_more, replicate, ◌*◌, arith, ap, ◌∙◌}
 use Rattle.std.proofs.Math.ListN.{length-set}
 use Rattle.std.proofs.Math.Seq.{take-length}
-use Rattle.std.proofs.lemmas.List.{get_or-take, get_or-drop, take-append-le}
+use Rattle.std.proofs.lemmas.List.{get_or-take, get_or-drop, length-replicate, take-append-le}
 use Rattle.integer_algebra.specs.Sums.{at}
 use Rattle.word_region.specs.Words.{IsCleared, IsLive, RegionWords}
 use Rattle.word_region.specs.declared.Span.{Span}
@@ -130,6 +130,22 @@ freed_again w0 w1 w2 w3 x r n used live is cleared kept same e = rw e (record {
   below = λ k l. kept.below k l ∙ cleared.below k (omega (arith, live.end, l));
   above = λ k l m. (let b : k < r.start = rw is m in kept.between k l b ∙ cleared.below k m);
 })
+
+-- two spans' words in a region of zeros, of which the first is taken
+pub record HasFreshSpan (w : RegionWords) (s : Span) (n : ℕ) : Type 0 where
+  pub live : IsLive w s
+  pub len : s.len ≡ n
+  pub free : n ≤ length w.words - w.used
+
+pub fresh_span : (w0 w1 : RegionWords) (s : Span) (n : ℕ) → w0 ≡ record { words = replicate (2 * n) (pos 0); used = 0 } → s ≡ record { start = w0.used; len = n } →
+    w1.used ≡ w0.used + n → length w1.words ≡ length w0.words → HasFreshSpan w1 s n
+fresh_span w0 w1 s n e is used size =
+    let long : length w0.words ≡ 2 * n = rw e (length-replicate (2 * n) (pos 0)) in
+    let none : w0.used ≡ 0 = rw e refl in
+    rw is (record { live = record { end = omega (arith, used) }; len = refl; free = omega (arith, long, none, used, size) })
+
+pub fresh_room : (w : RegionWords) (n : ℕ) → w ≡ record { words = replicate (2 * n) (pos 0); used = 0 } → n ≤ length w.words - w.used
+fresh_room w n e = rw (e, length-replicate (2 * n) (pos 0)) (omega arith)
 
 -- what was lent and filled
 pub lent : (old : RegionWords) (s : Span) (ws : List ℤ) → s.start + s.len ≤ length old.words → length ws ≡ s.len →
