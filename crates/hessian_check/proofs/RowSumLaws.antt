@@ -1,7 +1,7 @@
 -- The weighted products of a form's rows, as code makes them.
 use Rattle.std.proofs.Common.{◌≡◌, ◌≢◌, inl, inr, ℕ, zero, suc, ◌+◌, ◌-◌, ◌*◌, ◌<◌, ◌≤◌, ◌^◌, [], ◌∷◌, ℤ, pos, ◌+ℤ◌, ◌*ℤ◌, ◌≤ℤ◌, unsigned_abs, replicate, Fits, FitsSigned, to_z, arith, ap, ap₂, sym, ◌∙◌, refl}
 use Rattle.std.specs.Int.{w128}
-use Rattle.std.proofs.Math.Nat.{mul-le-mul_right}
+use Rattle.std.proofs.Math.Nat.{mul-le-mul_left, mul-le-mul_right}
 use Rattle.std.proofs.lemmas.Bool.{cases_lt}
 use Rattle.std.proofs.lemmas.Int.{ints, fits_signed_from_abs, to_z_pos, to_z-of_z, unsigned_abs-mul}
 use Rattle.std.proofs.lemmas.List.{get_or-replicate}
@@ -9,7 +9,7 @@ use Rattle.integer_algebra.specs.Bounds.{absolute}
 use Rattle.integer_algebra.specs.Sizes.{amount}
 use Rattle.integer_algebra.specs.Sums.{total}
 use Rattle.integer_algebra.proofs.AmountLaws.{amount_mono, amount_scale}
-use Rattle.integer_algebra.proofs.OrderLaws.{add_nonneg_z}
+use Rattle.integer_algebra.proofs.OrderLaws.{add_nonneg_z, mul_nonneg_z}
 use Rattle.integer_algebra.proofs.Quoting.{by_ring, quotes}
 use Rattle.integer_algebra.proofs.RingLaws.{add-mul_z, mul_assoc_z}
 use Rattle.integer_algebra.proofs.SizeLaws.{amount_same}
@@ -100,6 +100,26 @@ module _ (sum a b : Enc) (words : AreWords sum a b)
 
     pub mid_is : read (read sum.mid +ℤ read (read a.mid *ℤ read b.mid)) ≡ sum.mid +ℤ a.mid *ℤ b.mid
     mid_is = rw (to_z-of_z w128 _ words.sum_mid, product_is) (to_z-of_z w128 _ mid_fits)
+
+-- ---- a multiple, as code computes it
+times_is : (k : ℕ) (z : ℤ) (o : ℕ) → k < 2 ^ 32 → FitsSigned w128 z → unsigned_abs z ≤ o → k * o < 2 ^ 127 →
+    FitsSigned w128 (to_z w128 k *ℤ read z) × (read (to_z w128 k *ℤ read z) ≡ pos k *ℤ z)
+times_is k z o few fits below room =
+    let f : FitsSigned w128 (pos k *ℤ z) = fits_signed_from_abs w128 _ (rw (unsigned_abs-mul (pos k) z) (under (mul-le-mul_left k below) room)) in
+    rw (to_z_pos w128 k (omega (arith, few)), to_z-of_z w128 _ fits) (f, to_z-of_z w128 _ f)
+  where
+    under : {a b : ℕ} → a ≤ b → b < 2 ^ 127 → a < 2 ^ 127
+    under {a} {b} h l = omega (arith, h, l)
+
+module _ (k : ℕ) (a : Enc) (few : k < 2 ^ 32) (mid : FitsSigned w128 a.mid) (rad : FitsSigned w128 a.rad) (room : k * (unsigned_abs a.mid + unsigned_abs a.rad) < 2 ^ 127) where
+  pub times_mid : FitsSigned w128 (to_z w128 k *ℤ read a.mid) × (read (to_z w128 k *ℤ read a.mid) ≡ pos k *ℤ a.mid)
+  times_mid = times_is k a.mid (unsigned_abs a.mid + unsigned_abs a.rad) few mid (omega arith) room
+
+  pub times_rad : FitsSigned w128 (to_z w128 k *ℤ read a.rad) × (read (to_z w128 k *ℤ read a.rad) ≡ pos k *ℤ a.rad)
+  times_rad = times_is k a.rad (unsigned_abs a.mid + unsigned_abs a.rad) few rad (omega arith) room
+
+  pub times_nonneg : pos 0 ≤ℤ read (to_z w128 k *ℤ read a.rad)
+  times_nonneg = rw times_rad.1 (mul_nonneg_z (pos k) a.rad (omega (arith, ints)) a.nonnegative)
 
 -- ---- a row that counts more often
 -- what is added leaves room
