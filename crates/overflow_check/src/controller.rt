@@ -1,5 +1,5 @@
 // Controllers whose values stay within their width.
-ghost use Rattle.std.specs.Prelude.{◌≡◌, ◌↔◌, IsOk, IfOk, OnOk};
+ghost use Rattle.std.specs.Prelude.{◌≡◌, ◌↔◌, Some, None, IsTrue, IsOk, IfOk, OnOk};
 ghost use Rattle.qp_model.specs.Controller.{numbers, IsInForm};
 ghost use Rattle.qp_model.specs.AbsoluteSums.{IsController};
 
@@ -26,6 +26,33 @@ pub struct Controller {
     parts: ControllerParts,
 }
 
+// Whether no value of these numbers leaves its width: their greatest absolute sum is at most `2^(w-1) - 1` and at most `2^126`.
+fn is_safe(parts: &ControllerParts) -> bool
+    requires { IsInForm (numbers parts.now) }
+    ensures { IsTrue result ↔ IsController (numbers parts.now) }
+{
+    match greatest_sum(parts) {
+        Some(greatest) => greatest.unsigned_abs() < two_to(parts.w - 1),
+        None => false,
+    }
+}
+
+// Why numbers are no controller. None where they are one.
+fn fault_of(parts: &ControllerParts) -> Option<BadParts>
+    ensures sound { (result ≡ None) ↔ IsController (numbers parts.now) }
+    ensures form { (result ≡ Some BadParts.Form) ↔ (¬ IsInForm (numbers parts.now)) }
+    ensures wide { (result ≡ Some BadParts.Unsafe) ↔ (IsInForm (numbers parts.now) × (¬ IsController (numbers parts.now))) }
+{
+    if !is_in_form(parts) {
+        return Some(BadParts::Form);
+    }
+    if is_safe(parts) {
+        None
+    } else {
+        Some(BadParts::Unsafe)
+    }
+}
+
 impl Model for Controller {
     ghost use Rattle.qp_model.specs.Controller.{Numbers, numbers};
     ghost use Rattle.qp_model.specs.AbsoluteSums.{IsController};
@@ -46,14 +73,9 @@ impl Controller {
         ensures form { (result ≡ Err BadParts.Form) ↔ (¬ IsInForm (numbers parts)) }
         ensures wide { (result ≡ Err BadParts.Unsafe) ↔ (IsInForm (numbers parts) × (¬ IsController (numbers parts))) }
     {
-        if !is_in_form(&parts) {
-            return Err(BadParts::Form);
-        }
-        match greatest_sum(&parts) {
-            Some(greatest) if greatest.unsigned_abs() < two_to(parts.w - 1) => Ok(Controller {
-                parts,
-            }),
-            _ => Err(BadParts::Unsafe),
+        match fault_of(&parts) {
+            Some(fault) => Err(fault),
+            None => Ok(Controller { parts }),
         }
     }
 

@@ -1,6 +1,7 @@
 // Whether numbers are a controller's.
-ghost use Rattle.std.specs.Prelude.{◌≡◌, ◌≤◌, ◌<◌, ◌+◌, ◌*◌, ◌^◌, ◌≤ℤ◌, ◌↔◌, pos, replicate, length, All, IsTrue};
-ghost use Rattle.qp_model.specs.Range.{LiesIn};
+ghost use Rattle.std.specs.Prelude.{ℕ, ◌≡◌, ◌≤◌, ◌<◌, ◌+◌, ◌*◌, ◌^◌, ◌≤ℤ◌, ◌↔◌, pos, replicate, length, All, IsTrue};
+ghost use Rattle.integer_algebra.specs.Sums.{at};
+ghost use Rattle.qp_model.specs.Range.{LiesIn, IsNumerator};
 ghost use Rattle.qp_model.specs.Controller.{numbers, plan_length, HasShape, IsShaped, IsInForm};
 ghost use Rattle.qp_model.specs.Limits.{text_version, last_version, most_states, most_inputs, most_stages, most_rows};
 
@@ -84,6 +85,26 @@ fn is_shaped(c: &ControllerParts, nu: usize) -> bool
         && c.bound.len() == c.m
 }
 
+// Whether the steps, the clamp and the words of a run are those of a controller, with `nu` plan entries.
+fn are_counts_in_range(c: &ControllerParts, nu: usize) -> bool
+    requires states { c.now.n ≤ 6 }
+    requires rows { c.now.m ≤ 372 }
+    requires entries { nu ≤ 90 }
+    ensures { IsTrue result ↔ (LiesIn 1 4194304 c.now.steps × (pos 0 ≤ℤ c.now.clamp) × (c.now.clamp ≤ℤ pos (2 ^ 126))
+        × (c.now.words ≡ c.now.n + c.now.m + 2 * nu)) }
+{
+    (1..=4194304).contains(&c.steps) && is_clamp(c.clamp) && c.words == c.n + c.m + 2 * nu
+}
+
+// Whether the box of the states is one of numerators, its lower ends at most the upper ones.
+fn is_box(c: &ControllerParts) -> bool
+    requires { length c.now.lo.items ≡ length c.now.hi.items }
+    ensures { IsTrue result ↔ (All IsNumerator c.now.lo.items × All IsNumerator c.now.hi.items
+        × ((i : ℕ) → i < length c.now.lo.items → at c.now.lo.items i ≤ℤ at c.now.hi.items i)) }
+{
+    are_numerators(&c.lo) && are_numerators(&c.hi) && is_ordered(&c.lo, &c.hi)
+}
+
 // Whether the shapes and ranges of a controller hold.
 pub fn is_in_form(c: &ControllerParts) -> bool
     ensures { IsTrue result ↔ IsInForm (numbers c.now) }
@@ -92,12 +113,5 @@ pub fn is_in_form(c: &ControllerParts) -> bool
         return false;
     }
     let nu = c.p * c.stages;
-    (1..=4194304).contains(&c.steps)
-        && is_clamp(c.clamp)
-        && c.words == c.n + c.m + 2 * nu
-        && is_shaped(c, nu)
-        && have_exponents(c)
-        && are_numerators(&c.lo)
-        && are_numerators(&c.hi)
-        && is_ordered(&c.lo, &c.hi)
+    are_counts_in_range(c, nu) && is_shaped(c, nu) && have_exponents(c) && is_box(c)
 }
