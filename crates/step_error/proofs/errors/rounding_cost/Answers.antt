@@ -1,13 +1,56 @@
 use Rattle.std.proofs.Common.{◌≡◌, ℕ, ◌+◌, ◌*◌, ◌^◌, ◌≤◌, Fits, unsigned_abs, rules, arith, ◌∙◌}
 use Rattle.std.specs.Int.{w128}
 use mir.Val.{SFits}
-use Rattle.std.proofs.Math.Nat.{mul-le-mul_right}
+use Rattle.std.proofs.Math.Nat.{mul-le-mul_left, mul-le-mul_right}
 use Rattle.integer_algebra.proofs.PowerLaws.{pow_positive}
 use Rattle.qp_model.specs.Errors.{residual_error}
 use Rattle.step_error.specs.ErrorSums.{sums_of, rounding_cost}
-use Rattle.step_error.proofs.Ceilings.{quotient_is, ceil_small}
+use Rattle.step_error.proofs.Ceilings.{quotient_is, ceil_small, positive_by}
 use Rattle.step_error.proofs.SumFacts.{bounded, room_at, shifted, four_is, read_size}
 use Rattle.step_error.proofs.errors.rounding_cost.Goals as goal
+
+-- ---- the shifts
+pub overflow_mul-f : goal.overflow_mul-f
+overflow_mul-f c = omega (arith, c.requires.bits)
+
+pub overflow_cast-f : goal.overflow_cast-f
+overflow_cast-f c = omega (arith, c.requires.bits)
+
+pub overflow_shl-f : goal.overflow_shl-f
+overflow_shl-f c = omega (arith, c.requires.bits)
+
+pub overflow_add-f : goal.overflow_add-f
+overflow_add-f c = omega (arith, c.requires.bits)
+
+pub overflow_cast-f-2 : goal.overflow_cast-f-2
+overflow_cast-f-2 c = omega (arith, c.requires.bits)
+
+pub overflow_shl-f-2 : goal.overflow_shl-f-2
+overflow_shl-f-2 c = omega (arith, c.requires.bits)
+
+pub div_ceil-requires : goal.div_ceil-requires
+div_ceil-requires c = positive_by (shifted (2 * c.args.f) 96 (omega (arith, c.requires.bits)) (omega arith)) (pow_positive 2 (2 * c.args.f) (omega arith))
+
+pub div_ceil-requires-2 : goal.div_ceil-requires-2
+div_ceil-requires-2 c = positive_by (shifted (c.args.f + 1) 49 (omega (arith, c.requires.bits)) (omega arith)) (pow_positive 2 (c.args.f + 1) (omega arith))
+
+-- ---- the products
+pub residual_of-requires-clause-sums : goal.residual_of-requires-clause-sums
+residual_of-requires-clause-sums c = c.requires.sums
+
+pub residual_of-requires-clause-plan : goal.residual_of-requires-clause-plan
+residual_of-requires-clause-plan c = c.requires.plan
+
+pub overflow_mul-rows : goal.overflow_mul-rows
+overflow_mul-rows c =
+    let f : SFits w128 c.args.e.now.y_rows = search rules in
+    let top = read_size _ _ f c.unsigned_abs.ensures.value in
+    let some : 1 ≤ residual_error (sums_of c.args.e.now) c.args.plan = omega arith in
+    close (sums_of c.args.e.now).top_rows _ top some
+    (room_at (sums_of c.args.e.now) c.args.first c.args.plan (bounded c.args.e.now c.requires.sums) c.requires.first c.requires.plan).rows
+  where
+    close : {k : ℕ} (t x : ℕ) → k ≡ t → 1 ≤ x → 2 ^ 40 * t * x ≤ 2 ^ 126 → Fits w128 (1099511627776 * k)
+    close {k} t x e h o = omega (arith, e, mul-le-mul_left t h, o)
 
 pub overflow_mul-gradient : goal.overflow_mul-gradient
 overflow_mul-gradient c = omega (arith, c.spread.ensures, (bounded c.args.e.now c.requires.sums).spread_few)
