@@ -121,6 +121,12 @@ sum_ge d r s es k f c v fr g w = greatest_sum_mono (widest d r s k f) c d.states
 pub widest_within : (d : Design) (f : ℕ) (v : Inverse) → AreWidest d f v → AreWithin d f v
 widest_within d f v w = record { sizes = w.sizes; each = λ i j l m. abs_le (solution_of v i j) (pos (column_bound (form_of d) f i)) (w.each i j l m) }
 
+pub widest_sum : (d : Design) (r s : ℕ) (es : List ℕ) (k f : ℕ) (c : Numbers) (v : Inverse) → IsFrame d r s es k f c → AreGains v c → AreWidest d f v → greatest_sum c ≡ width_size d r s k f
+widest_sum d r s es k f c v fr g w = same _ _ (sum_le d r s es k f c v fr g (widest_within d f v w)) (sum_ge d r s es k f c v fr g w)
+  where
+    same : (n t : ℕ) → n ≤ t → t ≤ n → n ≡ t
+    same n t h k = omega (arith, h, k)
+
 -- ---- what code asks
 -- a list is that of its numbers
 pub box_line : (n : ℕ) (xs : List ℤ) → length xs ≡ n → xs ≡ listed n (at xs)

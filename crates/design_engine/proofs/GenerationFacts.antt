@@ -89,6 +89,12 @@ whole_is z n f e = ap unsigned_abs (to_z-of_z w128 z f ∙ e)
 pub whole_some : (z : ℤ) (n : ℕ) → SFits w128 z → z ≡ pos n → 1 ≤ n → pos 1 ≤ℤ to_z w128 (of_z w128 z)
 whole_some z n f e h = rw (to_z-of_z w128 z f, e) (omega (arith, ints, h))
 
+pub whole_narrow : (z : ℤ) (n : ℕ) → SFits w128 z → z ≡ pos n → n ≤ 2 ^ 44 → to_z w128 (of_z w128 z) ≤ℤ pos (2 ^ 44)
+whole_narrow z n f e h = rw (to_z-of_z w128 z f, e) (omega (arith, ints, h))
+
+pub whole_least : (z : ℤ) (n : ℕ) → SFits w128 z → z ≡ pos n → pos 0 ≤ℤ to_z w128 (of_z w128 z)
+whole_least z n f e = rw (to_z-of_z w128 z f, e) (omega (arith, ints))
+
 -- R times half the target
 pub product_fits : (r z : ℤ) (h : ℕ) → SFits w128 r → SFits w128 z → pos 1 ≤ℤ r → r ≤ℤ pos (2 ^ 44) → z ≡ pos h → h ≤ 2 ^ 70 →
     SFits w128 (to_z w128 (of_z w128 r) *ℤ to_z w128 (of_z w128 z))

@@ -97,6 +97,33 @@ fn parts_with(
     })
 }
 
+// A controller's parts with these numbers, whose gains are as large as those of any good solutions. Its width is not chosen yet.
+fn widest_parts(
+    alloc: Global,
+    design: &Design,
+    condensed: &Condensed,
+    settings: Settings,
+    clamp: i128,
+    exps: Vec<u32>,
+) -> Result<ControllerParts, AllocError>
+    requires form { IsFormOf design.now condensed.now }
+    requires room { descent_size (form_of (design_of design.now)) settings.f ≤ 2 ^ 126 }
+    requires bits { LiesIn design.now.grid 48 settings.f }
+    requires exponent { settings.s ≤ 40 }
+    requires exponents { HasExponents (design_of design.now) settings.s exps.items }
+    requires steps { LiesIn 1 (2 ^ 22) settings.steps }
+    requires clamp { clamp ≡ pos (2 * unsigned_abs settings.r * 2 ^ (settings.f + settings.s)) }
+    requires limit { 2 * unsigned_abs settings.r * 2 ^ (settings.f + settings.s) ≤ 2 ^ 126 }
+    ensures frame { IfOk result (λ c. IsFrame (design_of design.now) (unsigned_abs settings.r) settings.s exps.items settings.steps settings.f (numbers c)) }
+    ensures sized { IfOk result (λ c. IsSized (numbers c)) }
+    ensures sum { IfOk result (λ c.
+        greatest_sum (numbers c) ≡ width_size (design_of design.now) (unsigned_abs settings.r) settings.s settings.steps settings.f) }
+{
+    let rows = rounded_rows(alloc, condensed, settings.f)?;
+    let widest = widest_gains(alloc, condensed, settings.f)?;
+    parts_with(design.parts(), settings, clamp, exps, rows, widest)
+}
+
 // The parts with these gains in place of others.
 fn with_gains(parts: ControllerParts, gains: Inverse) -> ControllerParts
     ensures gains { AreGains gains (numbers result) }
@@ -153,9 +180,7 @@ pub fn controller_of(
     let Some(clamp) = clamp_of(settings.r, settings.f + settings.s) else {
         return Err(WIDE);
     };
-    let rows = rounded_rows(alloc, condensed, settings.f)?;
-    let widest = widest_gains(alloc, condensed, settings.f)?;
-    let parts = parts_with(design.parts(), settings, clamp, exps, rows, widest)?;
+    let parts = widest_parts(alloc, design, condensed, settings, clamp, exps)?;
     if greatest_sum(&parts).is_none() {
         return Err(WIDE);
     }

@@ -4,7 +4,7 @@ ghost use Rattle.qp_model.specs.Class.{form_of};
 ghost use Rattle.qp_model.specs.Parts.{IsDesign, design_of};
 ghost use Rattle.qp_model.specs.Policy.{Plans, plans_of, IsPolicyFor};
 ghost use Rattle.qp_model.specs.Curvature.{AreExponents, IsExponent};
-ghost use Rattle.qp_model.specs.Choices.{step_count, violation_bound, undercut_bound, multiplier_of};
+ghost use Rattle.qp_model.specs.Choices.{step_count, violation_bound, undercut_bound, multiplier_of, multiplier_size_of};
 ghost use Rattle.qp_model.specs.Errors.{error_sums_of};
 ghost use Rattle.qp_model.specs.Printed.{printed};
 ghost use Rattle.qp_model.specs.Certified.{IsCertified};
@@ -17,7 +17,7 @@ ghost use Rattle.design_engine.specs.Bounds.{margin_of, printed_multiplier, stat
 ghost use Rattle.hessian_check.specs.Steps.{IsExponentOf, OfDesign};
 ghost use Rattle.hessian_check.specs.RowExponents.{exponent_in, AreExponentsOf};
 ghost use Rattle.design_engine.specs.Built.{IsBuilt};
-ghost use Rattle.design_engine.specs.Refusals.{HasCause, IsRefused, PassesSizes, PassesBits, PassesAll};
+ghost use Rattle.design_engine.specs.Refusals.{HasCause, IsRefused, PassesMargin, PassesSizes, PassesBits, PassesAll};
 
 use crate::assemble::{Settings, controller_of};
 use crate::refusal::Refusal;
@@ -51,6 +51,13 @@ struct Scaled {
     r: i128,
     condensed: Condensed,
     s: u32,
+}
+
+// A design's margin, and R.
+#[derive(Clone, Copy)]
+struct Bounded {
+    margin: Margin,
+    r: i128,
 }
 
 // The number of steps, the sums of the rounding errors, and the fraction bits with what the errors of a step cost by these.
@@ -87,6 +94,43 @@ fn error_limit(parts: &DesignParts, r: i128) -> i128
     gap_target(parts).min(r * half_target(parts))
 }
 
+// The tests of the corners, and R.
+fn bounded_by(alloc: Global, design: &Design, policy: &Policy) -> Result<Bounded, Refusal>
+    requires { IsPolicyFor (design_of design.now) (plans_of policy.now) }
+    ensures passes { IfOk result (λ x. PassesMargin (design_of design.now) (targets_of design.now) (plans_of policy.now) x.margin) }
+    ensures room { IfOk result (λ x. multiplier_size_of x.margin ≤ 2 ^ 126) }
+    ensures multiplier { IfOk result (λ x. x.r ≡ pos (multiplier_of x.margin)) }
+    ensures refused { IfErr result (IsRefused (design_of design.now) (targets_of design.now) (plans_of policy.now)) }
+{
+    let margin = margins(alloc, design, policy)?;
+    let r = multiplier(&margin)?;
+    Ok(Bounded { margin, r })
+}
+
+// The tests of the condensed form and of the step exponent.
+fn scaled_by(alloc: Global, design: &Design, bounded: Bounded) -> Result<Scaled, Refusal>
+    requires multiplier { bounded.r ≡ pos (multiplier_of bounded.margin) }
+    ensures passes { (plans : Plans) → PassesMargin (design_of design.now) (targets_of design.now) plans bounded.margin →
+        multiplier_size_of bounded.margin ≤ 2 ^ 126 →
+        IfOk result (λ x. PassesSizes (design_of design.now) (targets_of design.now) plans x.margin) }
+    ensures multiplier { IfOk result (λ x. x.r ≡ pos (multiplier_of x.margin)) }
+    ensures form { IfOk result (λ x. IsFormOf design.now x.condensed) }
+    ensures exponent { IfOk result (λ x. OfDesign x.condensed (λ d. IsExponentOf d x.s)) }
+    ensures curved { IfOk result (λ x. IsExponent (design_of design.now) x.s) }
+    ensures refused { (plans : Plans) → PassesMargin (design_of design.now) (targets_of design.now) plans bounded.margin →
+        multiplier_size_of bounded.margin ≤ 2 ^ 126 →
+        IfErr result (IsRefused (design_of design.now) (targets_of design.now) plans) }
+{
+    let condensed = condense(alloc, design)?;
+    let exponents = curvature(alloc, &condensed)?;
+    Ok(Scaled {
+        margin: bounded.margin,
+        r: bounded.r,
+        condensed,
+        s: exponents.s,
+    })
+}
+
 // The first tests, up to the step exponent.
 fn scaled_of(alloc: Global, design: &Design, policy: &Policy) -> Result<Scaled, Refusal>
     requires { IsPolicyFor (design_of design.now) (plans_of policy.now) }
@@ -97,16 +141,8 @@ fn scaled_of(alloc: Global, design: &Design, policy: &Policy) -> Result<Scaled, 
     ensures curved { IfOk result (λ x. IsExponent (design_of design.now) x.s) }
     ensures refused { IfErr result (IsRefused (design_of design.now) (targets_of design.now) (plans_of policy.now)) }
 {
-    let margin = margins(alloc, design, policy)?;
-    let r = multiplier(&margin)?;
-    let condensed = condense(alloc, design)?;
-    let exponents = curvature(alloc, &condensed)?;
-    Ok(Scaled {
-        margin,
-        r,
-        condensed,
-        s: exponents.s,
-    })
+    let bounded = bounded_by(alloc, design, policy)?;
+    scaled_by(alloc, design, bounded)
 }
 
 // The number of steps and the fraction bits. It takes no memory.
@@ -239,6 +275,27 @@ fn finished(alloc: Global, design: &Design, scaled: &Scaled, plan: &Chosen) -> R
     })
 }
 
+// The tests after the step exponent, and the controller with its bounds.
+fn planned(alloc: Global, design: &Design, scaled: &Scaled) -> Result<Made, Refusal>
+    requires multiplier { scaled.now.r ≡ pos (multiplier_of scaled.now.margin) }
+    requires form { IsFormOf design.now scaled.now.condensed }
+    requires exponent { OfDesign scaled.now.condensed (λ d. IsExponentOf d scaled.now.s) }
+    requires curved { IsExponent (design_of design.now) scaled.now.s }
+    requires sizes { (plans : Plans) × PassesSizes (design_of design.now) (targets_of design.now) plans scaled.now.margin }
+    ensures built { (plans : Plans) → IsPolicyFor (design_of design.now) plans →
+        PassesSizes (design_of design.now) (targets_of design.now) plans scaled.now.margin →
+        IfOk result (λ made. IsBuilt design.now plans made.controller (printed made.bounds)) }
+    ensures errors { IfOk result (λ made.
+        made.eps ≡ pos (stated_cost (design_of design.now) (printed_multiplier (printed made.bounds)) made.controller.fraction_bits)) }
+    ensures passes { (plans : Plans) → PassesSizes (design_of design.now) (targets_of design.now) plans scaled.now.margin →
+        OnOk result ((f : ℕ) × PassesAll (design_of design.now) (targets_of design.now) plans scaled.now.margin scaled.now.s f) }
+    ensures refused { (plans : Plans) → PassesSizes (design_of design.now) (targets_of design.now) plans scaled.now.margin →
+        IfErr result (IsRefused (design_of design.now) (targets_of design.now) plans) }
+{
+    let plan = plan_of(design, scaled)?;
+    finished(alloc, design, scaled, &plan)
+}
+
 /// The controller of a design with a policy, which has one plan for each corner of the box, and its bounds.
 ///
 /// # Errors
@@ -265,6 +322,5 @@ pub fn generate(alloc: Global, design: &Design, policy: &Policy) -> Result<Made,
     // A design keeps its rules; with its numbers read, that is known on every way out.
     let _parts = design.parts();
     let scaled = scaled_of(alloc, design, policy)?;
-    let plan = plan_of(design, &scaled)?;
-    finished(alloc, design, &scaled, &plan)
+    planned(alloc, design, &scaled)
 }

@@ -7,6 +7,7 @@ use Rattle.qp_model.specs.Controller.{Numbers}
 use Rattle.qp_model.specs.AbsoluteSums.{IsController}
 use Rattle.qp_model.specs.Runs.{Holds}
 use Rattle.hessian_check.specs.RowExponents.{exponent_in}
+use Rattle.design_engine.proofs.GenerationFacts.{bound_some, whole_is, whole_some, whole_narrow, whole_least}
 use Rattle.design_engine.proofs.PrintedFacts.{bounds_from}
 use Rattle.design_engine.proofs.generation.bounds_of.Goals as goal
 
@@ -62,3 +63,71 @@ returns-clause-bounds c = λ cost at steps bits.
       rows = listed n _ _ _ _ _ _ sound (c.deref.ensures.value ∙ ap (λ (x : Numbers). x.exponents) parts) rows;
       undercut = rw (to_z-of_z w128 _ r, to_z-of_z w128 _ v) at c.undercut.ensures;
     }))
+
+-- ---- what each call asks
+pub violation-violation-requires-clause-some : goal.violation-violation-requires-clause-some
+violation-violation-requires-clause-some c =
+    let r : SFits w128 c.args.scaled.now.r = search rules in
+    whole_some c.args.scaled.now.r _ r c.requires.multiplier (bound_some c.args.scaled.now.margin)
+
+pub violation-violation-requires-clause-narrow : goal.violation-violation-requires-clause-narrow
+violation-violation-requires-clause-narrow c =
+    let r : SFits w128 c.args.scaled.now.r = search rules in
+    whole_narrow c.args.scaled.now.r _ r c.requires.multiplier c.requires.narrow
+
+pub violation-violation-requires-clause-errors : goal.violation-violation-requires-clause-errors
+violation-violation-requires-clause-errors c =
+    let e : SFits w128 c.args.eps = c.ranges.eps in
+    rw (to_z-of_z w128 _ e) c.requires.errors
+
+pub violation-violation-requires-clause-small : goal.violation-violation-requires-clause-small
+violation-violation-requires-clause-small c =
+    let e : SFits w128 c.args.eps = c.ranges.eps in
+    rw (to_z-of_z w128 _ e) c.requires.small
+
+pub violation-violation-requires-clause-steps : goal.violation-violation-requires-clause-steps
+violation-violation-requires-clause-steps c = c.requires.steps
+
+pub row_violations-requires-clause-some : goal.row_violations-requires-clause-some
+row_violations-requires-clause-some c =
+    let r : SFits w128 c.args.scaled.now.r = search rules in
+    whole_some c.args.scaled.now.r _ r c.requires.multiplier (bound_some c.args.scaled.now.margin)
+
+pub row_violations-requires-clause-narrow : goal.row_violations-requires-clause-narrow
+row_violations-requires-clause-narrow c =
+    let r : SFits w128 c.args.scaled.now.r = search rules in
+    whole_narrow c.args.scaled.now.r _ r c.requires.multiplier c.requires.narrow
+
+pub row_violations-requires-clause-errors : goal.row_violations-requires-clause-errors
+row_violations-requires-clause-errors c =
+    let e : SFits w128 c.args.eps = c.ranges.eps in
+    rw (to_z-of_z w128 _ e) c.requires.errors
+
+pub row_violations-requires-clause-small : goal.row_violations-requires-clause-small
+row_violations-requires-clause-small c =
+    let e : SFits w128 c.args.eps = c.ranges.eps in
+    rw (to_z-of_z w128 _ e) c.requires.small
+
+pub row_violations-requires-clause-steps : goal.row_violations-requires-clause-steps
+row_violations-requires-clause-steps c = c.requires.steps
+
+pub row_violations-requires-clause-exponent : goal.row_violations-requires-clause-exponent
+row_violations-requires-clause-exponent c = c.requires.exponent
+
+pub undercut-requires-clause-some : goal.undercut-requires-clause-some
+undercut-requires-clause-some c =
+    let r : SFits w128 c.args.scaled.now.r = search rules in
+    whole_some c.args.scaled.now.r _ r c.requires.multiplier (bound_some c.args.scaled.now.margin)
+
+pub undercut-requires-clause-rows : goal.undercut-requires-clause-rows
+undercut-requires-clause-rows c =
+    let v : SFits w128 c.violation-violation.result = search rules in
+    whole_least c.violation-violation.result _ v c.violation-violation.ensures
+
+pub undercut-requires-clause-fits : goal.undercut-requires-clause-fits
+undercut-requires-clause-fits c =
+    let r : SFits w128 c.args.scaled.now.r = search rules in
+    let v : SFits w128 c.violation-violation.result = search rules in
+    let e : SFits w128 c.args.eps = c.ranges.eps in
+    let bound = whole_is c.args.scaled.now.r _ r c.requires.multiplier in
+    rw (bound, whole_is c.violation-violation.result _ v (rw (bound, to_z-of_z w128 _ e) at c.violation-violation.ensures)) c.requires.fits

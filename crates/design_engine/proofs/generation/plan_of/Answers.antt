@@ -7,7 +7,9 @@ use Rattle.qp_model.specs.declared.design_parts.DesignParts.{DesignParts}
 use Rattle.design_engine.proofs.RefusalFacts.{refused_by, steps_refused, sums_refused, choice_refused, choice_same}
 use Rattle.qp_model.specs.Parts.{design_of}
 use Rattle.design_engine.proofs.Classes.{sums_back}
-use Rattle.design_engine.proofs.GenerationFacts.{half_some, limit_some, bound_some, whole_is, whole_some}
+use Rattle.design_engine.proofs.GenerationFacts.{half_some, limit_some, bound_some, whole_is, whole_some, whole_narrow}
+use Rattle.design_engine.proofs.AnswerLaws.{absent_of_error}
+use Rattle.design_engine.proofs.BuiltFacts.{exponent_small}
 use Rattle.design_engine.proofs.generation.plan_of.Goals as goal
 
 pub steps-requires-clause-target : goal.steps-requires-clause-target
@@ -88,3 +90,89 @@ returns-clause-cost c =
     let r : SFits w128 c.args.scaled.now.r = search rules in
     c.in_ok-choice.ensures.cost ∙ ap (λ (sums : ErrorSums). pos (epsilon sums c.in_ok-choice.choice.f))
     (rw (whole_is c.args.scaled.now.r _ r c.requires.multiplier) at (sums_back (design_of c.args.design.now) c.in_ok-sums.sums _ c.in_ok-sums.ensures.value.1))
+
+-- ---- what each call asks of R and of the design
+pub steps-requires-clause-some : goal.steps-requires-clause-some
+steps-requires-clause-some c =
+    let r : SFits w128 c.args.scaled.now.r = search rules in
+    whole_some c.args.scaled.now.r _ r c.requires.multiplier (bound_some c.args.scaled.now.margin)
+
+pub steps-requires-clause-narrow : goal.steps-requires-clause-narrow
+steps-requires-clause-narrow c =
+    let r : SFits w128 c.args.scaled.now.r = search rules in
+    whole_narrow c.args.scaled.now.r _ r c.requires.multiplier c.requires.narrow
+
+pub error_sums-requires-clause-some : goal.error_sums-requires-clause-some
+error_sums-requires-clause-some c =
+    let r : SFits w128 c.args.scaled.now.r = search rules in
+    whole_some c.args.scaled.now.r _ r c.requires.multiplier (bound_some c.args.scaled.now.margin)
+
+pub error_sums-requires-clause-narrow : goal.error_sums-requires-clause-narrow
+error_sums-requires-clause-narrow c =
+    let r : SFits w128 c.args.scaled.now.r = search rules in
+    whole_narrow c.args.scaled.now.r _ r c.requires.multiplier c.requires.narrow
+
+pub error_limit-requires-clause-some : goal.error_limit-requires-clause-some
+error_limit-requires-clause-some c =
+    let r : SFits w128 c.args.scaled.now.r = search rules in
+    whole_some c.args.scaled.now.r _ r c.requires.multiplier (bound_some c.args.scaled.now.margin)
+
+pub error_limit-requires-clause-narrow : goal.error_limit-requires-clause-narrow
+error_limit-requires-clause-narrow c =
+    let r : SFits w128 c.args.scaled.now.r = search rules in
+    whole_narrow c.args.scaled.now.r _ r c.requires.multiplier c.requires.narrow
+
+pub half_target-requires : goal.half_target-requires
+half_target-requires c = c.parts-parts.ensures.sound
+
+pub error_limit-requires-clause-design : goal.error_limit-requires-clause-design
+error_limit-requires-clause-design c = c.parts-parts.ensures.sound
+
+pub steps-requires-clause-exponent : goal.steps-requires-clause-exponent
+steps-requires-clause-exponent c = exponent_small (design_of c.args.design.now) _ c.requires.exponent
+
+pub error_sums-requires-clause-form : goal.error_sums-requires-clause-form
+error_sums-requires-clause-form c = c.requires.form
+
+pub choose_bits-requires-clause-sums : goal.choose_bits-requires-clause-sums
+choose_bits-requires-clause-sums c = c.in_ok-sums.ensures.given
+
+pub choose_bits-requires-clause-grid : goal.choose_bits-requires-clause-grid
+choose_bits-requires-clause-grid c = c.parts-parts.ensures.sound.grid
+
+-- ---- nothing is chosen on a refusal
+pub returns-in_err-steps-clause-passes : goal.returns-in_err-steps-clause-passes
+returns-in_err-steps-clause-passes c plans passes = absent_of_error c.from_residual.result _ c.from_residual.ensures.0
+
+pub returns-in_err-steps-clause-steps : goal.returns-in_err-steps-clause-steps
+returns-in_err-steps-clause-steps c = absent_of_error c.from_residual.result _ c.from_residual.ensures.0
+
+pub returns-in_err-steps-clause-sums : goal.returns-in_err-steps-clause-sums
+returns-in_err-steps-clause-sums c = absent_of_error c.from_residual.result _ c.from_residual.ensures.0
+
+pub returns-in_err-steps-clause-cost : goal.returns-in_err-steps-clause-cost
+returns-in_err-steps-clause-cost c = absent_of_error c.from_residual.result _ c.from_residual.ensures.0
+
+pub returns-in_err-sums-clause-passes : goal.returns-in_err-sums-clause-passes
+returns-in_err-sums-clause-passes c plans passes = absent_of_error c.from_residual-in_err-sums.result _ c.from_residual-in_err-sums.ensures.0
+
+pub returns-in_err-sums-clause-steps : goal.returns-in_err-sums-clause-steps
+returns-in_err-sums-clause-steps c = absent_of_error c.from_residual-in_err-sums.result _ c.from_residual-in_err-sums.ensures.0
+
+pub returns-in_err-sums-clause-sums : goal.returns-in_err-sums-clause-sums
+returns-in_err-sums-clause-sums c = absent_of_error c.from_residual-in_err-sums.result _ c.from_residual-in_err-sums.ensures.0
+
+pub returns-in_err-sums-clause-cost : goal.returns-in_err-sums-clause-cost
+returns-in_err-sums-clause-cost c = absent_of_error c.from_residual-in_err-sums.result _ c.from_residual-in_err-sums.ensures.0
+
+pub returns-in_err-choice-clause-passes : goal.returns-in_err-choice-clause-passes
+returns-in_err-choice-clause-passes c plans passes = absent_of_error c.from_residual-in_err-choice.result _ c.from_residual-in_err-choice.ensures.0
+
+pub returns-in_err-choice-clause-steps : goal.returns-in_err-choice-clause-steps
+returns-in_err-choice-clause-steps c = absent_of_error c.from_residual-in_err-choice.result _ c.from_residual-in_err-choice.ensures.0
+
+pub returns-in_err-choice-clause-sums : goal.returns-in_err-choice-clause-sums
+returns-in_err-choice-clause-sums c = absent_of_error c.from_residual-in_err-choice.result _ c.from_residual-in_err-choice.ensures.0
+
+pub returns-in_err-choice-clause-cost : goal.returns-in_err-choice-clause-cost
+returns-in_err-choice-clause-cost c = absent_of_error c.from_residual-in_err-choice.result _ c.from_residual-in_err-choice.ensures.0

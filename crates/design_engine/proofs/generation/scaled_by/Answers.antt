@@ -1,0 +1,46 @@
+use Rattle.qp_model.specs.declared.quantity.Quantity.TheVariants.{Prediction}
+use Rattle.design_engine.proofs.AnswerLaws.{absent_of_error}
+use Rattle.design_engine.proofs.RefusalFacts.{refused_by, condense_refused, curvature_refused, within_limit, condensed_within}
+use Rattle.design_engine.proofs.generation.scaled_by.Goals as goal
+
+pub returns-in_err-condensed-clause-passes : goal.returns-in_err-condensed-clause-passes
+returns-in_err-condensed-clause-passes c plans passes room = absent_of_error c.from_residual.result _ c.from_residual.ensures.0
+
+pub returns-in_err-condensed-clause-refused : goal.returns-in_err-condensed-clause-refused
+returns-in_err-condensed-clause-refused c plans passes room =
+    refused_by c.from_residual.result _ _ c.from_residual.ensures.1
+    (condense_refused _ _ plans c.args.bounded.margin passes room c.condense.result _ c.in_err-condensed.was c.condense.ensures.wide)
+
+pub returns-in_err-exponents-clause-passes : goal.returns-in_err-exponents-clause-passes
+returns-in_err-exponents-clause-passes c plans passes room =
+    absent_of_error c.from_residual-in_err-exponents.result _ c.from_residual-in_err-exponents.ensures.0
+
+pub returns-in_err-exponents-clause-refused : goal.returns-in_err-exponents-clause-refused
+returns-in_err-exponents-clause-refused c plans passes room =
+    let form = c.in_ok-condensed.ensures.form in
+    refused_by c.from_residual-in_err-exponents.result _ _ c.from_residual-in_err-exponents.ensures.1
+    (curvature_refused _ _ plans c.args.bounded.margin passes room (condensed_within _ Prediction _ (c.in_ok-condensed.ensures.every_refusal Prediction))
+    form.sizes.cost_room form.sizes.limit_room _ (c.in_err-exponents.ensures.refused _ form))
+
+pub returns-clause-passes : goal.returns-clause-passes
+returns-clause-passes c plans passes room =
+    let form = c.in_ok-condensed.ensures.form in
+    record {
+      before = passes;
+      multiplier = room;
+      prediction = condensed_within _ Prediction _ (c.in_ok-condensed.ensures.every_refusal Prediction);
+      hessian = form.sizes.cost_room;
+      rows = form.sizes.limit_room;
+      curvature = within_limit _ _ _ (c.in_ok-exponents.ensures.wide _ form);
+    }
+
+pub returns-clause-exponent : goal.returns-clause-exponent
+returns-clause-exponent c = λ p form. record {
+  plain = c.in_ok-exponents.exponents.s1;
+  is_plain = c.in_ok-exponents.ensures.plain p form;
+  limit = c.in_ok-exponents.ensures.order.1;
+  is_step = c.in_ok-exponents.ensures.certified p form;
+}
+
+pub returns-clause-curved : goal.returns-clause-curved
+returns-clause-curved c = (c.in_ok-exponents.ensures.exponents _ c.in_ok-condensed.ensures.form).0

@@ -1,0 +1,38 @@
+use Rattle.std.proofs.Common.{arith}
+use Rattle.std.specs.Int.{w128}
+use Rattle.std.proofs.lemmas.Int.{to_z-of_z}
+use Rattle.std.proofs.lemmas.Grind.{common_steps}
+use mir.Val.{SFits}
+use Rattle.design_engine.proofs.violations.row_violations.Goals as goal
+
+pub row_violation-requires-clause-some : goal.row_violation-requires-clause-some
+row_violation-requires-clause-some c =
+    let r : SFits w128 c.args.r = c.ranges.r in
+    rw (to_z-of_z w128 _ r) c.requires.some
+
+pub row_violation-requires-clause-narrow : goal.row_violation-requires-clause-narrow
+row_violation-requires-clause-narrow c =
+    let r : SFits w128 c.args.r = c.ranges.r in
+    rw (to_z-of_z w128 _ r) c.requires.narrow
+
+pub row_violation-requires-clause-errors : goal.row_violation-requires-clause-errors
+row_violation-requires-clause-errors c =
+    let e : SFits w128 c.args.eps = c.ranges.eps in
+    rw (to_z-of_z w128 _ e) c.requires.errors
+
+pub row_violation-requires-clause-small : goal.row_violation-requires-clause-small
+row_violation-requires-clause-small c =
+    let e : SFits w128 c.args.eps = c.ranges.eps in
+    rw (to_z-of_z w128 _ e) c.requires.small
+
+pub row_violation-requires-clause-exponent : goal.row_violation-requires-clause-exponent
+row_violation-requires-clause-exponent c = c.requires.exponent
+
+pub row_violation-requires-clause-steps : goal.row_violation-requires-clause-steps
+row_violation-requires-clause-steps c = c.requires.steps
+
+pub row_violation-requires-clause-row : goal.row_violation-requires-clause-row
+row_violation-requires-clause-row c = grind (arith, common_steps)
+
+pub loop-i-preserved : goal.loop-i-preserved
+loop-i-preserved c = grind (arith, common_steps)
