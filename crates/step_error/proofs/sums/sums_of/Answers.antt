@@ -1,5 +1,6 @@
-use Rattle.std.proofs.Common.{rules, ◌≡◌, ℕ, ◌+◌, ◌*◌, ◌^◌, ◌<◌, ℤ, pos, ◌≤ℤ◌, unsigned_abs, arith, ◌∙◌, sym, refl}
+use Rattle.std.proofs.Common.{rules, ◌≡◌, ℕ, ◌+◌, ◌*◌, ◌^◌, ◌<◌, ◌≤◌, Fits, Option, None, ℤ, pos, ◌≤ℤ◌, unsigned_abs, arith, ◌∙◌, sym, refl}
 use Rattle.std.specs.Int.{w128}
+use Rattle.std.specs.Option.{SomeIff}
 use mir.Val.{SFits}
 use Rattle.std.proofs.lemmas.Int.{ints}
 use Rattle.qp_model.specs.Parts.{design_of}
@@ -10,9 +11,31 @@ use Rattle.step_error.proofs.SumFacts.{read_size, few, spread_some, within_of}
 use Rattle.step_error.proofs.DesignSums.{hessian_pair, square, hessian_row_small, scale_one, weight_is, floor_is, count_is, reach_is, squares_is, within, reach_small, sums_are, room_of, size_of, AreOf}
 use Rattle.plant_condense.specs.Form.{held}
 use Rattle.step_error.specs.declared.sums.Whole.{Whole}
-use Rattle.step_error.specs.ErrorSums.{whole_sums}
+use Rattle.step_error.specs.ErrorSums.{HasErrorRoom, whole_sums}
 use Rattle.step_error.proofs.sums.sums_of.Goals as goal
 use Rattle.step_error.proofs.sums.sums_of.Goals.{After-radii_of}
+
+-- no sums, and the reason
+nothing : {T : Type 0} (r : Option T) (p : Type 0) (x : T) → r ≡ None → (p → ⊥) → SomeIff r p x
+nothing r p x e h = rw e h
+
+one : 1 ≤ 2 ^ 20
+one = omega arith
+
+fits : {n : ℕ} → n ≤ 2 ^ 80 → Fits w128 n
+fits {n} h = omega (arith, h)
+
+single : {n : ℕ} → 1 * n ≤ 2 ^ 80 → n < 2 ^ 128
+single {n} h = omega (arith, h)
+
+pub sizes_of-sizes-requires : goal.sizes_of-sizes-requires
+sizes_of-sizes-requires c = c.requires.form
+
+pub radii_of-requires : goal.radii_of-requires
+radii_of-requires c = c.requires.form
+
+pub pull_of-requires : goal.pull_of-requires
+pull_of-requires c = c.requires.narrow
 
 pub gradient_squares-requires-clause-small : goal.gradient_squares-requires-clause-small
 gradient_squares-requires-clause-small c = hessian_row_small (is_fine (design_of c.args.parts.now)) c.args.parts.now c.args.c.now c.requires.form
@@ -46,7 +69,7 @@ returns-in_err-squares c =
     let combined = reach_is (is_fine d) p c.args.c.now form c.args.r _ _ c.sizes_of-sizes.ensures.state c.rows.ensures.count in
     let squares = squares_is (is_fine d) p c.args.c.now form c.args.r _ _ scale combined in
     let fit = within d (held c.args.c.now) c.args.r (positive p.cost_den form.design.cost_den.low) (spread_some c.args.c.now.fine) in
-    rw c.from_residual.ensures (λ h. c.in_err-squares.ensures (within_of squares (fit h).squares))
+    nothing _ _ _ c.from_residual.ensures (λ h. c.in_err-squares.ensures (within_of squares (fit h).squares))
 
 pub returns-in_err-limited_product : goal.returns-in_err-limited_product
 returns-in_err-limited_product c =
@@ -60,7 +83,7 @@ returns-in_err-limited_product c =
     let combined = reach_is (is_fine d) p c.args.c.now form c.args.r _ _ c.sizes_of-sizes.ensures.state c.rows.ensures.count in
     let squares = squares_is (is_fine d) p c.args.c.now form c.args.r _ _ scale combined in
     let fit = within d (held c.args.c.now) c.args.r (positive p.cost_den form.design.cost_den.low) (spread_some c.args.c.now.fine) in
-    rw c.from_residual-in_err-limited_product.ensures (λ h. c.in_err-limited_product.ensures
+    nothing _ _ _ c.from_residual-in_err-limited_product.ensures (λ h. c.in_err-limited_product.ensures
     (within_of (λ i. weight i * (c.in_ok-squares.ensures.1 ∙ squares) i) (fit h).weighed))
 
 pub returns-in_err-pull_of : goal.returns-in_err-pull_of
@@ -69,7 +92,7 @@ returns-in_err-pull_of c =
     let d = design_of p in
     let sizes = c.sizes_of-sizes.ensures in
     let fit = within d (held c.args.c.now) c.args.r (positive p.cost_den c.requires.form.design.cost_den.low) (spread_some c.args.c.now.fine) in
-    rw c.from_residual-in_err-pull_of.ensures (λ h. c.in_err-pull_of.ensures
+    nothing _ _ _ c.from_residual-in_err-pull_of.ensures (λ h. c.in_err-pull_of.ensures
     (within_of (λ i. sizes.state i * sizes.linear i + sizes.constant i + 2 * c.args.r * sizes.rows i) (fit h).pulling))
 
 pub returns-in_err-limited_product-2 : goal.returns-in_err-limited_product-2
@@ -82,7 +105,7 @@ returns-in_err-limited_product-2 c =
     let sizes = c.sizes_of-sizes.ensures in
     let pulling = c.in_ok-pull_of.ensures.1 ∙ (λ i. sizes.state i * sizes.linear i + sizes.constant i + 2 * c.args.r * sizes.rows i) in
     let fit = within d (held c.args.c.now) c.args.r (positive p.cost_den form.design.cost_den.low) (spread_some c.args.c.now.fine) in
-    rw c.from_residual-in_err-limited_product-2.ensures (λ h. c.in_err-limited_product-2.ensures (within_of (λ i. weight i * pulling i) (fit h).pulled))
+    nothing _ _ _ c.from_residual-in_err-limited_product-2.ensures (λ h. c.in_err-limited_product-2.ensures (within_of (λ i. weight i * pulling i) (fit h).pulled))
 
 pub overflow_mul-weight_den : goal.overflow_mul-weight_den
 overflow_mul-weight_den c =
@@ -95,7 +118,7 @@ overflow_mul-weight_den c =
     let bounds = few p form.design in
     let small = reach_small c.unsigned_abs-weight_den.result p.states c.sizes_of-sizes.result.state c.args.r c.rows.result
     (rw weight bounds.weight) bounds.states c.sizes_of-sizes.ensures.near c.requires.narrow (rw count bounds.rows) in
-    omega (arith, small)
+    fits small
 
 pub returns-in_err-limited_product-3 : goal.returns-in_err-limited_product-3
 returns-in_err-limited_product-3 c =
@@ -106,7 +129,7 @@ returns-in_err-limited_product-3 c =
     let weight = read_size _ _ g c.unsigned_abs-weight_den.ensures.value ∙ weight_is (is_fine d) p c.args.c.now form in
     let combined = reach_is (is_fine d) p c.args.c.now form c.args.r _ _ c.sizes_of-sizes.ensures.state c.rows.ensures.count in
     let fit = within d (held c.args.c.now) c.args.r (positive p.cost_den form.design.cost_den.low) (spread_some c.args.c.now.fine) in
-    rw c.from_residual-in_err-limited_product-3.ensures (λ h. c.in_err-limited_product-3.ensures
+    nothing _ _ _ c.from_residual-in_err-limited_product-3.ensures (λ h. c.in_err-limited_product-3.ensures
     (within_of (λ i. weight i * combined i * c.sizes_of-sizes.ensures.trace i) (fit h).tail))
 
 -- the numbers that are gathered
@@ -150,24 +173,21 @@ are c =
     (λ i. p.states * sizes.state i)
     floor sizes.state refl weight c.radii_of.ensures.radii
 
-pub size-requires : goal.size-requires
-size-requires c =
-    let is = are (goal.at.size-requires c).After-radii_of in
-    room_of _ c.args.parts.now _ c.args.r c.requires.form.design c.requires.some c.requires.narrow c.sizes_of-sizes.ensures.near
+room : (c : After-radii_of) → HasErrorRoom (gathered c)
+room c = room_of _ c.args.parts.now _ c.args.r c.requires.form.design c.requires.some c.requires.narrow c.sizes_of-sizes.ensures.near
     (within_of c.in_ok-limited_product.ensures.1 c.in_ok-limited_product.ensures.0) (within_of c.in_ok-limited_product-2.ensures.1 c.in_ok-limited_product-2.ensures.0)
-    (within_of c.in_ok-limited_product-3.ensures.1 c.in_ok-limited_product-3.ensures.0) c.radii_of.ensures.room is
+    (within_of c.in_ok-limited_product-3.ensures.1 c.in_ok-limited_product-3.ensures.0) c.radii_of.ensures.room (are c)
+
+pub size-requires : goal.size-requires
+size-requires c = room (goal.at.size-requires c).After-radii_of
 
 pub returns-in_err-size : goal.returns-in_err-size
 returns-in_err-size c =
     let is = are (goal.at.returns-in_err-size c).After-radii_of in
-    rw c.from_residual-in_err-size.ensures (λ h. c.in_err-size.ensures (within_of (size_of _ _ _ _ is) h))
+    nothing _ _ _ c.from_residual-in_err-size.ensures (λ h. c.in_err-size.ensures (within_of (size_of _ _ _ _ is) h))
 
 pub sums-requires : goal.sums-requires
-sums-requires c =
-    let is = are (goal.at.sums-requires c).After-radii_of in
-    room_of _ c.args.parts.now _ c.args.r c.requires.form.design c.requires.some c.requires.narrow c.sizes_of-sizes.ensures.near
-    (within_of c.in_ok-limited_product.ensures.1 c.in_ok-limited_product.ensures.0) (within_of c.in_ok-limited_product-2.ensures.1 c.in_ok-limited_product-2.ensures.0)
-    (within_of c.in_ok-limited_product-3.ensures.1 c.in_ok-limited_product-3.ensures.0) c.radii_of.ensures.room is
+sums-requires c = room (goal.at.sums-requires c).After-radii_of
 
 pub returns : goal.returns
 returns c =
@@ -180,5 +200,5 @@ overflow_add-combined-2 c =
     let form = c.requires.form in
     let count = count_is (is_fine (design_of p)) p c.args.c.now form _ c.rows.ensures.count in
     let bounds = few p form.design in
-    let small = reach_small 1 p.states c.sizes_of-sizes.result.state c.args.r c.rows.result (omega arith) bounds.states c.sizes_of-sizes.ensures.near c.requires.narrow (rw count bounds.rows) in
-    record { fits = omega (arith, small) }
+    let small = reach_small 1 p.states c.sizes_of-sizes.result.state c.args.r c.rows.result one bounds.states c.sizes_of-sizes.ensures.near c.requires.narrow (rw count bounds.rows) in
+    record { fits = single small }
