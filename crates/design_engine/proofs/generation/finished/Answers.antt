@@ -1,14 +1,15 @@
-use Rattle.std.proofs.Common.{inl, rules, arith, ◌∙◌}
+use Rattle.std.proofs.Common.{◌*◌, ◌≤◌, min, ℕ, inl, rules, arith, ◌∙◌}
 use Rattle.std.specs.Int.{w128}
-use Rattle.std.proofs.lemmas.Int.{ints, to_z-of_z}
+use Rattle.std.proofs.lemmas.Int.{to_z-of_z}
 use mir.Val.{SFits}
 use Rattle.qp_model.specs.Parts.{design_of}
-use Rattle.design_engine.specs.Targets.{targets_of, half_target}
+use Rattle.design_engine.specs.Targets.{targets_of, half_target, gap_target}
 use Rattle.qp_model.specs.Choices.{multiplier_of}
 use Rattle.qp_model.specs.Printed.{printed}
 use Rattle.qp_model.specs.AbsoluteSums.{IsController}
+use Rattle.design_engine.proofs.AnswerLaws.{ok_of_error, absent_of_error}
 use Rattle.design_engine.proofs.RefusalFacts.{refused_by, solve_refused, width_refused}
-use Rattle.design_engine.proofs.GenerationFacts.{half_some, half_small, limit_small, bound_some, steps_some, undercut_small, whole_is, at_most}
+use Rattle.design_engine.proofs.GenerationFacts.{half_some, half_small, limit_small, bound_some, steps_some, undercut_small, whole_is, whole_least, at_most}
 use Rattle.design_engine.proofs.BuiltFacts.{built_from, exponent_small, exponents_listed}
 use Rattle.design_engine.proofs.ResidualFacts.{given_from, cost_within, stated_by}
 use Rattle.design_engine.proofs.generation.finished.Goals as goal
@@ -66,8 +67,10 @@ bounds_of-requires-clause-errors c =
     (whole_is c.args.scaled.now.r _ r c.requires.multiplier) c.in_ok-controller.ensures.made c.args.plan.now.sums c.requires.sums
     sound (c.in_ok-gains.ensures.fits _ c.requires.form) in
     let e : SFits w128 c.real_cost-eps.result = search rules in
-    let cost = to_z-of_z w128 _ e ∙ c.real_cost-eps.ensures c.args.design.now (multiplier_of c.args.scaled.now.margin) given in
-    rw cost (omega (arith, ints))
+    whole_least c.real_cost-eps.result _ e (c.real_cost-eps.ensures c.args.design.now (multiplier_of c.args.scaled.now.margin) given)
+
+through : (a b t : ℕ) → a ≤ b → b ≤ t → a ≤ t
+through a b t h k = omega (arith, h, k)
 
 pub bounds_of-requires-clause-small : goal.bounds_of-requires-clause-small
 bounds_of-requires-clause-small c =
@@ -80,7 +83,7 @@ bounds_of-requires-clause-small c =
     let cost = to_z-of_z w128 _ e ∙ c.real_cost-eps.ensures c.args.design.now (multiplier_of c.args.scaled.now.margin) given in
     let within = cost_within c.args.design.now _ (multiplier_of c.args.scaled.now.margin) _ _ _ _ c.args.scaled.now.condensed c.in_ok-controller.controller c.requires.form
     (whole_is c.args.scaled.now.r _ r c.requires.multiplier) c.in_ok-controller.ensures.made c.in_ok-exps.ensures.curved in
-    at_most _ _ cost (omega (arith, within, c.requires.choice.within))
+    at_most _ _ cost (through _ _ _ within c.requires.choice.within)
     (limit_small c.args.design.now (multiplier_of c.args.scaled.now.margin) c.requires.form.design)
 
 pub bounds_of-requires-clause-fits : goal.bounds_of-requires-clause-fits
@@ -97,7 +100,10 @@ bounds_of-requires-clause-fits c =
     rw (c.requires.steps, cost)
     (undercut_small c.args.scaled.now.s (multiplier_of c.args.scaled.now.margin) (half_target (targets_of c.args.design.now)) _
     (bound_some c.args.scaled.now.margin) c.requires.narrow (half_some c.args.design.now c.requires.form.design)
-    (half_small c.args.design.now c.requires.form.design) (omega (arith, within, c.requires.choice.within)))
+    (half_small c.args.design.now c.requires.form.design) (product _ (gap_target (targets_of c.args.design.now)) _ _ (through _ _ _ within c.requires.choice.within)))
+  where
+    product : (e g r h : ℕ) → e ≤ min g (r * h) → e ≤ r * h
+    product e g r h k = omega (arith, k)
 
 pub returns-in_err-bounds-clause-refused : goal.returns-in_err-bounds-clause-refused
 returns-in_err-bounds-clause-refused c plans passes =
@@ -131,3 +137,40 @@ returns-clause-passes c plans passes =
       descent = c.in_ok-gains.ensures.fits _ c.requires.form;
       width = rw (whole_is c.args.scaled.now.r _ r c.requires.multiplier, c.requires.steps) at c.in_ok-controller.ensures.fits;
     }
+
+-- ---- nothing is made on a refusal
+pub returns-in_err-gains-clause-built : goal.returns-in_err-gains-clause-built
+returns-in_err-gains-clause-built c plans policy passes = absent_of_error c.from_residual.result _ c.from_residual.ensures.0
+
+pub returns-in_err-gains-clause-errors : goal.returns-in_err-gains-clause-errors
+returns-in_err-gains-clause-errors c = absent_of_error c.from_residual.result _ c.from_residual.ensures.0
+
+pub returns-in_err-gains-clause-passes : goal.returns-in_err-gains-clause-passes
+returns-in_err-gains-clause-passes c plans passes = ok_of_error c.from_residual.result _ c.from_residual.ensures.0
+
+pub returns-in_err-exps-clause-built : goal.returns-in_err-exps-clause-built
+returns-in_err-exps-clause-built c plans policy passes = absent_of_error c.from_residual-in_err-exps.result _ c.from_residual-in_err-exps.ensures.0
+
+pub returns-in_err-exps-clause-errors : goal.returns-in_err-exps-clause-errors
+returns-in_err-exps-clause-errors c = absent_of_error c.from_residual-in_err-exps.result _ c.from_residual-in_err-exps.ensures.0
+
+pub returns-in_err-exps-clause-passes : goal.returns-in_err-exps-clause-passes
+returns-in_err-exps-clause-passes c plans passes = ok_of_error c.from_residual-in_err-exps.result _ c.from_residual-in_err-exps.ensures.0
+
+pub returns-in_err-controller-clause-built : goal.returns-in_err-controller-clause-built
+returns-in_err-controller-clause-built c plans policy passes = absent_of_error c.from_residual-in_err-controller.result _ c.from_residual-in_err-controller.ensures.0
+
+pub returns-in_err-controller-clause-errors : goal.returns-in_err-controller-clause-errors
+returns-in_err-controller-clause-errors c = absent_of_error c.from_residual-in_err-controller.result _ c.from_residual-in_err-controller.ensures.0
+
+pub returns-in_err-controller-clause-passes : goal.returns-in_err-controller-clause-passes
+returns-in_err-controller-clause-passes c plans passes = ok_of_error c.from_residual-in_err-controller.result _ c.from_residual-in_err-controller.ensures.0
+
+pub returns-in_err-bounds-clause-built : goal.returns-in_err-bounds-clause-built
+returns-in_err-bounds-clause-built c plans policy passes = absent_of_error c.from_residual-in_err-bounds.result _ c.from_residual-in_err-bounds.ensures.0
+
+pub returns-in_err-bounds-clause-errors : goal.returns-in_err-bounds-clause-errors
+returns-in_err-bounds-clause-errors c = absent_of_error c.from_residual-in_err-bounds.result _ c.from_residual-in_err-bounds.ensures.0
+
+pub returns-in_err-bounds-clause-passes : goal.returns-in_err-bounds-clause-passes
+returns-in_err-bounds-clause-passes c plans passes = ok_of_error c.from_residual-in_err-bounds.result _ c.from_residual-in_err-bounds.ensures.0
