@@ -1,3 +1,4 @@
 mod Growing
 mod RowLines
 mod Compact
+mod Members
