@@ -1,12 +1,12 @@
 //! The values at a design text's keys.
-ghost use Rattle.std.specs.Prelude.{◌≡◌, ◌↔◌, Some, None, IfOk, OnOk, IfErr, IsTrue, map, string_bytes};
+ghost use Rattle.std.specs.Prelude.{◌≡◌, ◌↔◌, ◌≤◌, ◌+◌, ◌∷◌, [], Some, None, IsSome, IfOk, OnOk, IfErr, IsTrue, map, string_bytes};
 ghost use Rattle.std.specs.List.{list_any, list_all};
 ghost use Rattle.std.specs.Str.{bytes_eq};
 ghost use Rattle.std.specs.BTreeMap.{keys};
 ghost use Rattle.toml.specs.Data.{get_member};
 ghost use Rattle.toml.specs.View.{view, table_view};
-ghost use Rattle.qp_model.specs.Rules.{Tests};
-ghost use Rattle.design_files.specs.Document.{table_at};
+ghost use Rattle.qp_model.specs.Rules.{Tests, key};
+ghost use Rattle.design_files.specs.Document.{table_at, value_at};
 ghost use Rattle.design_files.specs.Values.{values_of, HasOnly, top_keys, plant_keys, cost_keys, limit_keys, box_keys, target_keys, further_keys};
 ghost use Rattle.design_files.specs.Keys.{seen, AreTop, ArePlant, AreCost, AreLimitKeys, AreBox, AreTargets};
 ghost use Rattle.design_files.specs.Places.{key_rules};
@@ -106,62 +106,99 @@ fn find_top_keys(document: &Table) -> Result<TopKeys<'_>, TextFault>
 fn find_plant_keys(document: &Table) -> Result<PlantKeys<'_>, TextFault>
     ensures { let seen = table_view document.now in Reads result (ArePlant seen) (plant_keys (values_of seen)) }
 {
-    let table = find_table(5, document, "plant")?;
+    let found = find_three(5, document, "plant", "den", "a", "b")?;
     Ok(PlantKeys {
-        table,
-        den: find_value(5, table, "den")?,
-        a: find_value(6, table, "a")?,
-        b: find_value(7, table, "b")?,
+        table: found.table,
+        den: found.first,
+        a: found.second,
+        b: found.third,
     })
 }
 
 fn find_cost_keys(document: &Table) -> Result<CostKeys<'_>, TextFault>
     ensures { let seen = table_view document.now in Reads result (AreCost seen) (cost_keys (values_of seen)) }
 {
-    let table = find_table(8, document, "cost")?;
+    let found = find_three(8, document, "cost", "den", "row_den", "input")?;
     Ok(CostKeys {
-        table,
-        den: find_value(8, table, "den")?,
-        row_den: find_value(9, table, "row_den")?,
-        input: find_value(10, table, "input")?,
-        stage: find_value(11, table, "stage")?,
-        final_: find_value(12, table, "final")?,
+        table: found.table,
+        den: found.first,
+        row_den: found.second,
+        input: found.third,
+        stage: find_value(11, found.table, "stage")?,
+        final_: find_value(12, found.table, "final")?,
     })
 }
 
 fn find_limits_keys(document: &Table) -> Result<LimitsKeys<'_>, TextFault>
     ensures { let seen = table_view document.now in Reads result (AreLimitKeys seen) (limit_keys (values_of seen)) }
 {
-    let table = find_table(13, document, "limits")?;
+    let found = find_three(13, document, "limits", "den", "stage", "final")?;
     Ok(LimitsKeys {
-        table,
-        den: find_value(13, table, "den")?,
-        stage: find_value(14, table, "stage")?,
-        final_: find_value(15, table, "final")?,
+        table: found.table,
+        den: found.first,
+        stage: found.second,
+        final_: found.third,
     })
 }
 
 fn find_box_keys(document: &Table) -> Result<BoxKeys<'_>, TextFault>
     ensures { let seen = table_view document.now in Reads result (AreBox seen) (box_keys (values_of seen)) }
 {
-    let table = find_table(16, document, "box")?;
+    let found = find_three(16, document, "box", "grid", "lo", "hi")?;
     Ok(BoxKeys {
-        table,
-        grid: find_value(16, table, "grid")?,
-        lo: find_value(17, table, "lo")?,
-        hi: find_value(18, table, "hi")?,
+        table: found.table,
+        grid: found.first,
+        lo: found.second,
+        hi: found.third,
     })
 }
 
 fn find_targets_keys(document: &Table) -> Result<TargetsKeys<'_>, TextFault>
     ensures { let seen = table_view document.now in Reads result (AreTargets seen) (target_keys (values_of seen)) }
 {
-    let table = find_table(19, document, "targets")?;
+    let found = find_three(19, document, "targets", "den", "violation", "gap")?;
     Ok(TargetsKeys {
+        table: found.table,
+        den: found.first,
+        violation: found.second,
+        gap: found.third,
+    })
+}
+
+// A table, and the values at three of its keys.
+#[derive(Clone, Copy)]
+struct ThreeKeys<'a> {
+    table: &'a Table,
+    first: &'a Value,
+    second: &'a Value,
+    third: &'a Value,
+}
+
+// The table of a name and the values at three keys of it, at this place and the two after it.
+fn find_three<'a>(
+    place: u32,
+    document: &'a Table,
+    name: &str,
+    first: &str,
+    second: &str,
+    third: &str,
+) -> Result<ThreeKeys<'a>, TextFault>
+    requires { place ≤ 19 }
+    ensures { let seen = table_view document.now in
+        Reads result (λ found. (table_at name.now seen ≡ Some (table_view found.table.now))
+        × (value_at name.now first.now seen ≡ Some (view found.first.now))
+        × (value_at name.now second.now seen ≡ Some (view found.second.now))
+        × (value_at name.now third.now seen ≡ Some (view found.third.now)))
+        (key place (IsSome (value_at name.now first.now seen))
+        ∷ key (place + 1) (IsSome (value_at name.now second.now seen))
+        ∷ key (place + 2) (IsSome (value_at name.now third.now seen)) ∷ []) }
+{
+    let table = find_table(place, document, name)?;
+    Ok(ThreeKeys {
         table,
-        den: find_value(19, table, "den")?,
-        violation: find_value(20, table, "violation")?,
-        gap: find_value(21, table, "gap")?,
+        first: find_value(place, table, first)?,
+        second: find_value(place + 1, table, second)?,
+        third: find_value(place + 2, table, third)?,
     })
 }
 
