@@ -9,6 +9,9 @@ pub record Filled (P : ℕ → List ℤ → Type 0) (m : Matrix) (width i : ℕ)
   pub cols : m.cols ≡ width
   pub each : (e : ℕ) → e < i → P e (row_of m e)
 
+pub none_filled : (P : ℕ → List ℤ → Type 0) (m : Matrix) (width : ℕ) → m.cols ≡ width → length m.rows ≡ 0 → Filled P m width 0
+none_filled P m width c l = record { long = l; cols = c; each = λ e h. absurd (omega (arith, h)) }
+
 pub row_pushed : (P : ℕ → List ℤ → Type 0) (m new : Matrix) (width i : ℕ) (xs : List ℤ) → new ≡ record m { rows = m.rows ++ xs ∷ [] } → P i xs → Filled P m width i → Filled P new width (i + 1)
 row_pushed P m new width i xs e h f = rw e (record {
   long = length_push m.rows xs ∙ ap (λ (n : ℕ). n + 1) f.long;

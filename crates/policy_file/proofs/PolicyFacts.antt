@@ -1,11 +1,15 @@
 -- A policy record by record.
-use Rattle.std.proofs.Common.{◌≡◌, ◌≢◌, ◌⊎◌, ℕ, zero, suc, ◌+◌, ◌-◌, ◌*◌, ◌<◌, ◌≤◌, ◌^◌, ℤ, pos, List, [], ◌∷◌, ◌++◌, length, map, get_or, take, drop, refl, sym, ap, subst, ◌∙◌, arith, inl, inr}
-use Rattle.std.proofs.lemmas.List.{get_or_append_left, get_or_push, length-drop}
+use Rattle.std.proofs.Common.{◌≡◌, ◌≢◌, ◌⊎◌, ℕ, zero, suc, ◌+◌, ◌-◌, ◌*◌, ◌<◌, ◌≤◌, ◌^◌, ℤ, pos, List, [], ◌∷◌, ◌++◌, length, map, get_or, take, drop, refl, sym, ap, subst, ◌∙◌, arith, inl, inr, Bool, true, false, ◌==◌, if◌then◌else◌}
+use Rattle.std.proofs.lemmas.List.{get_or_append_left, get_or_push, length-drop, take_rest}
 use Rattle.integer_algebra.specs.Sums.{at}
 use Rattle.csv.specs.Records.{Row, fields_of}
 use Rattle.mat_int.specs.Matrix.{Matrix, row_of}
 use Rattle.qp_model.specs.declared.text_fault.TextFault.{TextFault}
 use Rattle.qp_model.specs.declared.text_fault.TextFault.TheVariants.{Count, Memory}
+use Rattle.std.proofs.Math.Nat.{mul-le-mul_right}
+use Rattle.qp_model.specs.Limits.{last_version, most_states}
+use Rattle.qp_model.specs.Parts.{IsDesign}
+use Rattle.qp_model.specs.declared.design_parts.DesignParts.{DesignParts}
 use Rattle.qp_model.specs.Design.{Design, entries}
 use Rattle.qp_model.specs.Policy.{Plans}
 use Rattle.policy_file.specs.Records.{HoldsNumbers, IsRecordsFault, records_of, record_at}
@@ -59,3 +63,23 @@ count_fault text d rows n i dens plans e s l k h = inr (inr (record {
 pub either_fault : (text : List ℕ) (d : Design) (fault : TextFault) → (fault ≡ Memory) ⊎ IsRecordsFault policy_rule (record_length d) (records_of text) fault → (fault ≡ Memory) ⊎ IsPolicyFault text d fault
 either_fault text d fault (inl m) = inl m
 either_fault text d fault (inr f) = inr (inl f)
+
+-- ---- a denominator and what stands after it
+pub numbered : (zs : List ℤ) (n : ℕ) → length zs ≡ n + 1 → 1 ≤ length zs
+numbered zs n l = omega (arith, l)
+
+pub rest_long : (zs : List ℤ) (n cols : ℕ) → length zs ≡ n + 1 → cols ≡ n → length (take (length zs - 1) (drop 1 zs)) ≡ cols
+rest_long zs n cols l m = rw (take_rest zs 1) (omega (arith, length-drop 1 zs, l, m))
+
+-- ---- sizes of a design's plans
+most_of : (b : Bool) (m n : ℕ) → m ≤ n → (if b then m else n) ≤ n
+most_of true m n l = l
+most_of false m n l = omega arith
+
+pub states_small : (p : DesignParts) → IsDesign p → p.states ≤ most_states last_version
+states_small p d = omega (arith, d.states, most_of (p.version == 1) 4 6 (omega arith))
+
+pub plan_small : (p : DesignParts) → IsDesign p → p.stages * p.inputs ≤ 90
+plan_small p d =
+    let stages : p.stages ≤ 30 = omega (arith, d.stages, most_of (p.version == 1) 20 30 (omega arith)) in
+    omega (arith, d.inputs, mul-le-mul_right p.inputs stages)

@@ -1,18 +1,22 @@
-use Rattle.std.proofs.Common.{◌≡◌, ◌<◌, ◌+◌, ◌*◌, ◌^◌, ◌∷◌, ◌++◌, [], ℕ, ℤ, pos, List, length, map, get_or, drop, rules, arith, sym, ap, ◌∙◌, refl, true}
+use Rattle.std.proofs.Common.{◌≡◌, ◌<◌, ◌+◌, ◌*◌, ◌^◌, ◌∷◌, ◌++◌, [], ℕ, ℤ, pos, List, length, map, get_or, drop, rules, arith, sym, ap, ◌∙◌, refl, true, inl}
 use Rattle.std.specs.Int.{w128}
+use Rattle.std.proofs.lemmas.Grind.{common_steps}
 use Rattle.std.specs.Result.{is_ok}
 use mir.Val.{SFits}
+use Rattle.std.proofs.lemmas.Result.{err_from_is_err_and}
 use Rattle.std.proofs.lemmas.Int.{to_z-of_z}
 use Rattle.std.proofs.lemmas.List.{take_rest, get_or_read, length-drop, length_push}
 use Rattle.csv.specs.Records.{fields_of}
 use Rattle.integer_algebra.specs.Sums.{at}
 use Rattle.mat_int.specs.Matrix.{row_of}
 use Rattle.qp_model.specs.Parts.{design_of}
+use Rattle.policy_file.proofs.MatrixFacts.{none_filled}
+use Rattle.qp_model.specs.declared.text_fault.TextFault.TheVariants.{Memory}
 use Rattle.policy_file.specs.Records.{HoldsNumbers, records_of, record_at}
 use Rattle.policy_file.specs.PolicyText.{policy_rule}
 use Rattle.policy_file.proofs.TextFacts.{record_is, records_count, entry_small, room_small, passed_on, first_fault}
 use Rattle.policy_file.proofs.RecordFacts.{records_few}
-use Rattle.policy_file.proofs.PolicyFacts.{plans_more, plans_found, count_fault, either_fault}
+use Rattle.policy_file.proofs.PolicyFacts.{numbered, rest_long, plan_small, states_small, plans_more, plans_found, count_fault, either_fault}
 use Rattle.policy_file.proofs.read.policy_of.Goals as goal
 
 pub overflow_cast-i : goal.overflow_cast-i
@@ -74,3 +78,79 @@ returns-then-len-corner_count-clause-fault c =
 pub returns-clause-found : goal.returns-clause-found
 returns-clause-found c =
     plans_found c.args.bytes.now (design_of c.args.parts.now) c.in_ok-records.records.items _ c.loop-i.i c.in_ok-records.ensures (omega arith) (omega (arith, c.corner_count.ensures, c.len.ensures)) c.loop-i.invariant.plans c.loop-i.invariant.dens (omega arith)
+
+pub overflow_mul-entries : goal.overflow_mul-entries
+overflow_mul-entries c = omega (arith, plan_small c.args.parts.now c.requires.design)
+
+pub returns-in_err-records-clause-found : goal.returns-in_err-records-clause-found
+returns-in_err-records-clause-found c = rw (err_from_is_err_and c.from_residual.result c.from_residual.ensures.1).1 tt
+
+pub returns-in_err-records-clause-fault : goal.returns-in_err-records-clause-fault
+returns-in_err-records-clause-fault c = passed_on _ _ Memory c.from_residual.ensures.1 (inl refl)
+
+pub zero-requires : goal.zero-requires
+zero-requires c = tt
+
+pub returns-in_err-plans-clause-found : goal.returns-in_err-plans-clause-found
+returns-in_err-plans-clause-found c = rw (err_from_is_err_and c.from_residual-in_err-plans.result c.from_residual-in_err-plans.ensures.1).1 tt
+
+pub returns-in_err-plans-clause-fault : goal.returns-in_err-plans-clause-fault
+returns-in_err-plans-clause-fault c = passed_on _ _ Memory c.from_residual-in_err-plans.ensures.1 (inl refl)
+
+pub loop-i-init : goal.loop-i-init
+loop-i-init c =
+    record {
+      dens = ap length c.new-dens.ensures.items;
+      plans = none_filled _ c.in_ok-plans.plans _ (ap (λ m. m.cols) c.in_ok-plans.ensures) (ap (λ m. length m.rows) c.in_ok-plans.ensures);
+    }
+
+pub offset_bounds-record-items-i : goal.offset_bounds-record-items-i
+offset_bounds-record-items-i c = grind (arith, common_steps)
+
+pub bounds-record-items-i : goal.bounds-record-items-i
+bounds-record-items-i c = c.loop-i-test.true
+
+pub overflow_add-entries : goal.overflow_add-entries
+overflow_add-entries c = omega (arith, plan_small c.args.parts.now c.requires.design)
+
+pub returns-in_err-numbers-clause-found : goal.returns-in_err-numbers-clause-found
+returns-in_err-numbers-clause-found c = rw (err_from_is_err_and c.from_residual-in_err-numbers.result c.from_residual-in_err-numbers.ensures.1).1 tt
+
+pub index-requires : goal.index-requires
+index-requires c = omega (arith, c.in_ok-numbers.ensures.found.numbers)
+
+pub returns-then-is_err-clause-found : goal.returns-then-is_err-clause-found
+returns-then-is_err-clause-found c = tt
+
+pub returns-then-is_err-clause-fault : goal.returns-then-is_err-clause-fault
+returns-then-is_err-clause-fault c = inl refl
+
+pub slice_bounds-push_row-count : goal.slice_bounds-push_row-count
+slice_bounds-push_row-count c = rw c.deref.ensures.value (numbered c.in_ok-numbers.numbers.items _ c.in_ok-numbers.ensures.found.numbers)
+
+pub slice_bounds-push_row-start : goal.slice_bounds-push_row-start
+slice_bounds-push_row-start c = omega (arith, c.in_ok-numbers.ensures.found.numbers)
+
+pub slice_bounds-push_row-end : goal.slice_bounds-push_row-end
+slice_bounds-push_row-end c = grind (arith, common_steps)
+
+pub push_row-requires : goal.push_row-requires
+push_row-requires c = rw c.deref.ensures.value (rest_long c.in_ok-numbers.numbers.items _ _ c.in_ok-numbers.ensures.found.numbers c.loop-i.invariant.plans.cols)
+
+pub returns-in_err-push_row-clause-found : goal.returns-in_err-push_row-clause-found
+returns-in_err-push_row-clause-found c = rw (err_from_is_err_and c.from_residual-in_err-push_row.result c.from_residual-in_err-push_row.ensures.1).1 tt
+
+pub returns-in_err-push_row-clause-fault : goal.returns-in_err-push_row-clause-fault
+returns-in_err-push_row-clause-fault c = passed_on _ _ Memory c.from_residual-in_err-push_row.ensures.1 (inl refl)
+
+pub loop-i-smaller : goal.loop-i-smaller
+loop-i-smaller c = grind (arith, common_steps)
+
+pub corner_count-requires : goal.corner_count-requires
+corner_count-requires c = states_small c.args.parts.now c.requires.design
+
+pub returns-then-len-corner_count-clause-found : goal.returns-then-len-corner_count-clause-found
+returns-then-len-corner_count-clause-found c = tt
+
+pub returns-clause-fault : goal.returns-clause-fault
+returns-clause-fault c = tt
