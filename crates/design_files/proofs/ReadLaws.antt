@@ -2,6 +2,7 @@
 use Rattle.std.proofs.Common.{◌≡◌, List, [], ◌∷◌, ◌++◌, Result, Ok, Err, inl, inr}
 use Rattle.qp_model.specs.declared.text_fault.TextFault.{TextFault}
 use Rattle.std.specs.Prelude.{OnOk, IfErr}
+use Rattle.std.specs.Result.{IsErrAnd}
 use Rattle.qp_model.specs.declared.text_fault.TextFault.TheVariants.{Key}
 use Rattle.qp_model.specs.Rules.{Rule, AllHold, IsFirstBroken, Tests, key}
 use Rattle.qp_model.proofs.RuleLaws.{broken_before, broken_after}
@@ -20,6 +21,11 @@ fails_before rules more fault failed = elim failed [ inl none ↦ inl none | inr
 
 pub fails_after : (rules more : List Rule) (fault : TextFault) → AllHold rules → FailsRule fault more → FailsRule fault (rules ++ more)
 fails_after rules more fault held failed = elim failed [ inl none ↦ inl none | inr broken ↦ inr (broken_after rules more fault held broken) ]
+
+-- a fault that was passed on
+pub passes_on : {X : Type 0} (answer : Result X TextFault) (P : X → Type 0) (rules : List Rule) (fault : TextFault) → IsErrAnd answer (λ told. told ≡ fault) → FailsRule fault rules → Reads answer P rules
+passes_on (Ok x) P rules fault passed failed = absurd passed
+passes_on (Err told) P rules fault passed failed = rw passed failed
 
 -- ---- a test of rules one after another
 pub test_next : (rule : Rule) (rules : List Rule) (answer : Result (Unit {0}) TextFault) → rule.holds → Tests answer rules → Tests answer (rule ∷ rules)

@@ -1,4 +1,4 @@
-use Rattle.std.proofs.Common.{◌≡◌, All, Some, length, inl, inr}
+use Rattle.std.proofs.Common.{◌≡◌, ◌∙◌, ◌<◌, [], All, Some, length, inl, inr, refl, sym}
 use Rattle.std.proofs.lemmas.Result.{err_from_is_err_and}
 use Rattle.std.specs.Prelude.{IsSomeAnd}
 use Rattle.toml.specs.View.{view, items_view}
@@ -20,3 +20,19 @@ returns-in_err-list c =
         | inr later ↦ absurd later.1
       ]
     ])
+
+pub returns-in_err-matrix : goal.returns-in_err-matrix
+returns-in_err-matrix c =
+    let e = err_from_is_err_and c.from_residual.result c.from_residual.ensures.1 in
+    rw (e.1, e.2) (inl refl)
+
+pub set_row-requires : goal.set_row-requires
+set_row-requires c =
+    let inv = c.loop-i.invariant in
+    let inside : c.loop-i.i < length c.loop-i.matrix.rows = rw inv.1 c.loop-i-test.true in
+    let long = (rw c.in_ok-list.ensures.1 at c.in_ok-list.ensures.0.0) in
+    record {
+      in_range = inside;
+      width = rw c.deref.ensures.value (long ∙ sym inv.0);
+      row_width = inv.2 c.loop-i.i [] inside ∙ sym inv.0;
+    }
