@@ -1,7 +1,9 @@
 -- Integers of items, and the rows of a matrix written one after the other.
-use Rattle.std.proofs.Common.{◌≡◌, ℕ, zero, suc, ◌+◌, ◌<◌, ℤ, pos, List, [], ◌∷◌, ◌++◌, length, get_or, take, drop, set, Option, get_or-set_same, set-set, add-one, Vec, Result, inl, inr, All, Some, None, option_map, refl, sym, ap, ◌∙◌, arith}
+use Rattle.std.proofs.Common.{◌≡◌, ℕ, zero, suc, ◌+◌, ◌<◌, ◌≤◌, append_assoc, ℤ, pos, List, [], ◌∷◌, ◌++◌, length, get_or, take, drop, set, Option, get_or-set_same, set-set, add-one, Vec, Result, inl, inr, All, Some, None, option_map, refl, sym, ap, ◌∙◌, arith}
 use Rattle.std.specs.Prelude.{IsSome, IsSomeAnd}
 use Rattle.std.specs.declared.alloc.Global.{Global}
+use Rattle.std.proofs.lemmas.List.{append-nil, drop_all, take_all, take_more_set}
+use Rattle.std.proofs.Math.Seq.{drop-cons}
 use Rattle.std.proofs.lemmas.Option.{same_Some, none-some, option_and_then_some}
 use Rattle.mat_int.specs.Matrix.{Matrix, with_entry}
 use Rattle.toml.specs.Data.{Data, as_integer, as_array}
@@ -92,6 +94,29 @@ rows_item (v ∷ vs) rows (suc i) d width inside is all = option_and_then_some _
     let rest = mapped (λ rows. row ∷ rows) (rows_of (items_view vs)) rows more in
     let others : All (λ row. length row ≡ width) rest.0 = λ k e h. (rw (← rest.2) at all) (suc k) e (omega arith) in
     rows_item vs rest.0 i d width (omega arith) rest.1 others)
+
+-- one more row, which stands where a row was
+row_after : (done : List (List ℤ)) (row : List ℤ) (more : Option (List (List ℤ))) → option_map (λ rows. done ++ rows) (option_map (λ rows. row ∷ rows) more) ≡ option_map (λ rows. (done ++ row ∷ []) ++ rows) more
+row_after done row None = refl
+row_after done row (Some rows) = ap Some (sym (append_assoc done (row ∷ []) rows))
+
+pub rows_more : (vs : List Value) (rows : List (List ℤ)) (i : ℕ) (v : Value) (row : List ℤ) → i < length vs → length rows ≡ length vs → v ≡ get_or vs i v → list_in (Some (view v)) ≡ Some row
+    → rows_of (items_view vs) ≡ option_map (λ more. take i rows ++ more) (rows_of (items_view (drop i vs)))
+    → rows_of (items_view vs) ≡ option_map (λ more. take (i + 1) (set rows i row) ++ more) (rows_of (items_view (drop (i + 1) vs)))
+rows_more vs rows i v row inside same is here so_far =
+    let items : drop i vs ≡ v ∷ drop (i + 1) vs = rw add-one (drop-cons vs i v inside ∙ ap (λ (first : Value). first ∷ drop (suc i) vs) (sym is)) in
+    let next : rows_of (items_view (v ∷ drop (i + 1) vs)) ≡ option_map (λ more. row ∷ more) (rows_of (items_view (drop (i + 1) vs))) = rw here refl in
+    so_far ∙ ap (λ (rest : List Value). option_map (λ more. take i rows ++ more) (rows_of (items_view rest))) items
+    ∙ ap (option_map (λ more. take i rows ++ more)) next
+    ∙ row_after (take i rows) row (rows_of (items_view (drop (i + 1) vs)))
+    ∙ ap (λ (done : List (List ℤ)). option_map (λ more. done ++ more) (rows_of (items_view (drop (i + 1) vs)))) (sym (take_more_set rows i row (omega (arith, inside, same))))
+
+-- all rows
+pub rows_done : (vs : List Value) (rows : List (List ℤ)) (i : ℕ) → length vs ≤ i → length rows ≡ length vs
+    → rows_of (items_view vs) ≡ option_map (λ more. take i rows ++ more) (rows_of (items_view (drop i vs))) → rows_of (items_view vs) ≡ Some rows
+rows_done vs rows i past same so_far =
+    so_far ∙ ap (λ (rest : List Value). option_map (λ more. take i rows ++ more) (rows_of (items_view rest))) (drop_all i vs past)
+    ∙ ap Some (append-nil (take i rows) ∙ take_all i rows (omega (arith, past, same)))
 
 -- rows of as many items as are asked
 pub lists_count : (vs : List Value) (low high width : ℕ) → IsSomeAnd (rows_of (items_view vs)) (λ rows. LiesIn low high (length rows) × All (λ row. length row ≡ width) rows) → LiesIn low high (length vs)
