@@ -57,6 +57,17 @@ module _ (words : List (List ℕ)) (held : Option Files) where
   abbrev third : Option (List ℕ)
   third = told_at held (word_of words 3)
 
+  -- ---- what ends the later files ends them all
+  pub ends_later : (before mid now : List ℕ → ℕ) (s : Status) → NoneFalls before mid → NoneFalls mid now → EndsLoops words held mid now s → EndsLoops words held before now s
+  ends_later before mid now s low high (inl memory) = inl memory
+  ends_later before mid now s low high (inr (inl fault)) = inr (inl (record {
+    file = fault.file;
+    is = fault.is;
+    reached = fault.reached;
+    rose = rose_later _ _ _ (low.each (word_of words fault.file)) (high.each (word_of words fault.file)) fault.rose;
+  }))
+  ends_later before mid now s low high (inr (inr called)) = inr (inr called)
+
   -- ---- the design's file ends it
   pub first_ends : (before now : List ℕ → ℕ) (s : Status) → EndsDesign 1 held (word_of words 1) (before (word_of words 1)) (now (word_of words 1)) s → EndsLoops words held before now s
   first_ends before now s (inl memory) = inl memory
@@ -79,21 +90,20 @@ module _ (words : List (List ℕ)) (held : Option Files) where
         go_on 1 (DesignWrong 1) DesignRight design_numbers held (word_of words 1) p s design (AfterDesign controller states turns) (λ y same t after. sees controller states turns p y same t after) answer
 
     -- and the controller's file ends it
-    pub second_ends : (before mid now : List ℕ → ℕ) (s : Status) → EndsMatching (design_of p) held (word_of words 2) (mid (word_of words 2)) (now (word_of words 2)) s → NoneFalls before mid → NoneFalls mid now →
-        EndsLoops words held before now s
-    second_ends before mid now s (inl memory) low high = inl memory
-    second_ends before mid now s (inr (inl fault)) low high = inr (inl (record {
+    pub second_ends : (before now : List ℕ → ℕ) (s : Status) → EndsMatching (design_of p) held (word_of words 2) (before (word_of words 2)) (now (word_of words 2)) s → EndsLoops words held before now s
+    second_ends before now s (inl memory) = inl memory
+    second_ends before now s (inr (inl fault)) = inr (inl (record {
       file = 2;
       is = fault.0;
       reached = for_contents words held (λ k. LoopReaches k.first k.second 2) design.content second third design.told (told held (word_of words 2)) (told held (word_of words 3)) (inr (inl (refl, p, design.right)));
-      rose = rose_later _ _ _ (low.each (word_of words 2)) (high.each (word_of words 2)) fault.1;
+      rose = fault.1;
     }))
-    second_ends before mid now s (inr (inr (inl wrong))) low high = inr (inr (
+    second_ends before now s (inr (inr (inl wrong))) = inr (inr (
         refused words held s
         (for_contents words held (λ k. (turns : ℕ) → IsAnswer (LoopCalls k.first k.second k.third turns) s) design.content wrong.content third design.told wrong.told (told held (word_of words 3))
         (λ turns. with_design wrong.content third turns s (stop 2 (ControllerWrong 2) ControllerRight held (word_of words 2) s wrong (AfterController third turns (design_of p)))))
         (controller_refusal 2 wrong.content s wrong.answer.called)))
-    second_ends before mid now s (inr (inr (inr other))) low high = inr (inr (
+    second_ends before now s (inr (inr (inr other))) = inr (inr (
         refused words held s
         (for_contents words held (λ k. (turns : ℕ) → IsAnswer (LoopCalls k.first k.second k.third turns) s) design.content other.right.content third design.told other.right.told (told held (word_of words 3))
         (λ turns. with_design other.right.content third turns s
@@ -109,18 +119,17 @@ module _ (words : List (List ℕ)) (held : Option Files) where
           (go_on_whole 2 (ControllerWrong 2) ControllerRight held (word_of words 2) c s controller (AfterController states turns (design_of p)) (matched_answer states turns (design_of p) c s for answer))
 
       -- and the states' file ends it
-      pub third_ends : (before mid now : List ℕ → ℕ) (s : Status) → EndsStates c.states 3 held (word_of words 3) (mid (word_of words 3)) (now (word_of words 3)) s → NoneFalls before mid → NoneFalls mid now →
-          EndsLoops words held before now s
-      third_ends before mid now s (inl memory) low high = inl memory
-      third_ends before mid now s (inr (inl fault)) low high = inr (inl (record {
+      pub third_ends : (before now : List ℕ → ℕ) (s : Status) → EndsStates c.states 3 held (word_of words 3) (before (word_of words 3)) (now (word_of words 3)) s → EndsLoops words held before now s
+      third_ends before now s (inl memory) = inl memory
+      third_ends before now s (inr (inl fault)) = inr (inl (record {
         file = 3;
         is = fault.0;
         reached =
             for_contents words held (λ k. LoopReaches k.first k.second 3) design.content controller.content third design.told controller.told (told held (word_of words 3))
             (inr (inr (refl, p, c, design.right, controller.right, for)));
-        rose = rose_later _ _ _ (low.each (word_of words 3)) (high.each (word_of words 3)) fault.1;
+        rose = fault.1;
       }))
-      third_ends before mid now s (inr (inr wrong)) low high = inr (inr (
+      third_ends before now s (inr (inr wrong)) = inr (inr (
           refused words held s
           (for_contents words held (λ k. (turns : ℕ) → IsAnswer (LoopCalls k.first k.second k.third turns) s) design.content controller.content wrong.content design.told controller.told wrong.told
           (λ turns. with_both wrong.content turns s (stop 3 (StatesWrong c.states 3) (StatesRight c.states) held (word_of words 3) s wrong (LoopsCall (design_of p) c turns))))

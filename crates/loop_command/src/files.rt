@@ -1,9 +1,10 @@
 // The three files of a loop.
-ghost use Rattle.std.specs.Prelude.{◌≡◌, ◌<◌, ◌^◌, length, IfOk, IfErr};
+ghost use Rattle.std.specs.Prelude.{◌≡◌, ◌<◌, ◌^◌, length, Ok, Err, IfOk, IfErr};
 ghost use Rattle.io_edge.specs.Faults.{NoneFalls};
 ghost use Rattle.qp_model.specs.Parts.{design_of};
 ghost use Rattle.qp_model.specs.Successor.{IsFor};
-ghost use Rattle.command_files.specs.Reading.{IsControllerRead};
+ghost use Rattle.command_line.specs.Words.{word_of};
+ghost use Rattle.command_files.specs.Reading.{IsDesignRead, IsControllerRead};
 ghost use Rattle.loop_command.specs.Files.{EndsMatching, AreLoopsRead, EndsLoops};
 
 use crate::mismatch::mismatch_of;
@@ -44,6 +45,72 @@ fn read_controller_for<S: Store>(
     }
 }
 
+// A design, a controller and the states that were read, or the status that ended their read.
+fn loops_of(
+    design: Design,
+    controller: Controller,
+    states: Result<Mat, Status>,
+) -> Result<Loops, Status>
+    ensures design { IfOk result (λ l. l.design ≡ design) }
+    ensures controller { IfOk result (λ l. l.controller ≡ controller) }
+    ensures states { IfOk result (λ l. states ≡ Ok l.states) }
+    ensures ends { IfErr result (λ e. states ≡ Err e) }
+{
+    match states {
+        Ok(states) => Ok(Loops {
+            design,
+            controller,
+            states,
+        }),
+        Err(status) => Err(status),
+    }
+}
+
+// The states' file, after a design and a controller for it were read from the first two.
+fn read_after_controller<S: Store>(
+    alloc: Global,
+    words: &Words,
+    design: Design,
+    controller: Controller,
+    store: &mut S,
+) -> Result<Loops, Status>
+    requires names { length words.now ≡ 5 }
+    requires design { IsDesignRead 1 (S.held store.now) (word_of words.now 1) design }
+    requires controller { IsControllerRead 2 (S.held store.now) (word_of words.now 2) controller }
+    requires matched { IsFor controller (design_of design) }
+    ensures right { IfOk result (λ l. AreLoopsRead words.now (S.held store.old) l.design l.controller l.states) }
+    ensures width { IfOk result (λ l. l.states.cols ≡ l.controller.states) }
+    ensures count { IfOk result (λ l. length l.states.rows < 2 ^ 32) }
+    ensures ends { IfErr result (λ e. EndsLoops words.now (S.held store.old) (S.read_faults store.old) (S.read_faults store.new) e) }
+    ensures held { S.held store.new ≡ S.held store.old }
+    ensures reads { NoneFalls (S.read_faults store.old) (S.read_faults store.new) }
+    ensures writes { NoneFalls (S.write_faults store.old) (S.write_faults store.new) }
+{
+    let states = read_states_file(alloc, 3, words.at(3), controller.parts().n, store);
+    loops_of(design, controller, states)
+}
+
+// The controller's file and the states' file, after a design was read from the first.
+fn read_after_design<S: Store>(
+    alloc: Global,
+    words: &Words,
+    design: Design,
+    store: &mut S,
+) -> Result<Loops, Status>
+    requires names { length words.now ≡ 5 }
+    requires design { IsDesignRead 1 (S.held store.now) (word_of words.now 1) design }
+    ensures right { IfOk result (λ l. AreLoopsRead words.now (S.held store.old) l.design l.controller l.states) }
+    ensures width { IfOk result (λ l. l.states.cols ≡ l.controller.states) }
+    ensures count { IfOk result (λ l. length l.states.rows < 2 ^ 32) }
+    ensures ends { IfErr result (λ e. EndsLoops words.now (S.held store.old) (S.read_faults store.old) (S.read_faults store.new) e) }
+    ensures held { S.held store.new ≡ S.held store.old }
+    ensures reads { NoneFalls (S.read_faults store.old) (S.read_faults store.new) }
+    ensures writes { NoneFalls (S.write_faults store.old) (S.write_faults store.new) }
+{
+    let controller = read_controller_for(alloc, words.at(2), &design, store)?;
+    read_after_controller(alloc, words, design, controller, store)
+}
+
 // The three files, or the status that ends the run.
 pub fn read_loops<S: Store>(alloc: Global, words: &Words, store: &mut S) -> Result<Loops, Status>
     requires { length words.now ≡ 5 }
@@ -56,11 +123,5 @@ pub fn read_loops<S: Store>(alloc: Global, words: &Words, store: &mut S) -> Resu
     ensures writes { NoneFalls (S.write_faults store.old) (S.write_faults store.new) }
 {
     let design = read_design_file(alloc, 1, words.at(1), store)?;
-    let controller = read_controller_for(alloc, words.at(2), &design, store)?;
-    let states = read_states_file(alloc, 3, words.at(3), controller.parts().n, store)?;
-    Ok(Loops {
-        design,
-        controller,
-        states,
-    })
+    read_after_design(alloc, words, design, store)
 }
