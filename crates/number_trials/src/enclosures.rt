@@ -218,8 +218,11 @@ fn combination_of_nothing(rt: HostRuntime) {
     assert_eq!(rt; combine(&[], &[], 5).map(numbers), Some((0, 0)));
 }
 
+// A row of two columns.
+type Row = (Numbers, Numbers);
+
 // Two rows of two columns.
-type Square = [[Numbers; 2]; 2];
+type Square = (Row, Row);
 
 // Puts an enclosure into row i and column j.
 fn set(made: &mut EncMat, i: usize, j: usize, (mid, rad): Numbers) -> Result<(), Fail> {
@@ -230,13 +233,17 @@ fn set(made: &mut EncMat, i: usize, j: usize, (mid, rad): Numbers) -> Result<(),
     Ok(())
 }
 
+// Puts enclosures into row i.
+fn set_row(made: &mut EncMat, i: usize, row: Row) -> Result<(), Fail> {
+    set(made, i, 0, row.0)?;
+    set(made, i, 1, row.1)
+}
+
 // The matrix of two rows and two columns.
-fn matrix(alloc: Global, rows: &Square) -> Result<EncMat, Fail> {
+fn matrix(alloc: Global, rows: Square) -> Result<EncMat, Fail> {
     let mut made = EncMat::zero(alloc, 2, 2)?;
-    for i in 0..2 {
-        set(&mut made, i, 0, rows[i][0])?;
-        set(&mut made, i, 1, rows[i][1])?;
-    }
+    set_row(&mut made, 0, rows.0)?;
+    set_row(&mut made, 1, rows.1)?;
     Ok(made)
 }
 
@@ -245,62 +252,76 @@ fn entries(made: &EncMat) -> Result<Square, Fail> {
     if made.mid.rows() != 2 || made.mid.cols() != 2 {
         return Err("another shape".into());
     }
-    Ok([
-        [numbers(made.at(0, 0)), numbers(made.at(0, 1))],
-        [numbers(made.at(1, 0)), numbers(made.at(1, 1))],
-    ])
+    Ok((
+        (numbers(made.at(0, 0)), numbers(made.at(0, 1))),
+        (numbers(made.at(1, 0)), numbers(made.at(1, 1))),
+    ))
 }
 
-// The weighted products of two columns of two. None where one is above the limit.
-fn products_of_columns(
-    alloc: Global,
-    rows: &Square,
-    weights: [i128; 2],
-) -> Result<Option<Square>, Fail> {
-    let x = matrix(alloc, rows)?;
-    if x.mid.rows() != 2 || weights[0] < 0 || weights[1] < 0 {
-        return Err("another shape, or a weight below 0".into());
-    }
-    match gram(alloc, &x, &weights) {
-        Ok(made) => Ok(Some(entries(&made)?)),
+// The entries of products, none where one is above the limit.
+fn entries_within(made: Result<EncMat, MatFault>) -> Result<Option<Square>, Fail> {
+    match made {
+        Ok(products) => Ok(Some(entries(&products)?)),
         Err(MatFault::Wide) => Ok(None),
         Err(MatFault::Memory) => Err(AllocError.into()),
     }
 }
 
+// The weighted products of the columns of two rows.
+fn weighted(
+    alloc: Global,
+    x: &EncMat,
+    weights: [i128; 2],
+) -> Result<Result<EncMat, MatFault>, Fail> {
+    if x.mid.rows() != 2 || weights[0] < 0 || weights[1] < 0 {
+        return Err("another shape, or a weight below 0".into());
+    }
+    Ok(gram(alloc, x, &weights))
+}
+
+// The weighted products of two columns of two. None where one is above the limit.
+fn products_of_columns(
+    alloc: Global,
+    rows: Square,
+    weights: [i128; 2],
+) -> Result<Option<Square>, Fail> {
+    let x = matrix(alloc, rows)?;
+    entries_within(weighted(alloc, &x, weights)?)
+}
+
 // Two columns, their weights, and the products.
-const GRAMS: [(Square, [i128; 2], Option<Square>); 4] = [
+static GRAMS: [(Square, [i128; 2], Option<Square>); 4] = [
     (
-        [[(SCALE, 0), (SCALE / 2, 1)], [(-3 * SCALE, 2), (7, 0)]],
+        (((SCALE, 0), (SCALE / 2, 1)), ((-3 * SCALE, 2), (7, 0))),
         [2, 5],
-        Some([
-            [(51677046505472, 61), (1099511627671, 3)],
-            [(1099511627671, 3), (549755813888, 4)],
-        ]),
+        Some((
+            ((51677046505472, 61), (1099511627671, 3)),
+            ((1099511627671, 3), (549755813888, 4)),
+        )),
     ),
     (
-        [[(ROOT / 2, 0), (0, ROOT)], [(MIN, MAX), (MAX, 1)]],
+        (((ROOT / 2, 0), (0, ROOT)), ((MIN, MAX), (MAX, 1))),
         [1, 0],
-        Some([
-            [
+        Some((
+            (
                 (19342813113834066795298816, 0),
                 (0, 38685626227668133590597632),
-            ],
-            [(0, 38685626227668133590597632), (0, LAST)],
-        ]),
+            ),
+            ((0, 38685626227668133590597632), (0, LAST)),
+        )),
     ),
-    ([[(ROOT / 2, 0), (0, ROOT)], [(0, 0), (1, 0)]], [1, 1], None),
-    ([[(0, 0), (0, ROOT)], [(0, 0), (0, 0)]], [2, 1], None),
+    ((((ROOT / 2, 0), (0, ROOT)), ((0, 0), (1, 0))), [1, 1], None),
+    ((((0, 0), (0, ROOT)), ((0, 0), (0, 0))), [2, 1], None),
 ];
 
-// The first columns and weights with other products.
+// The place of the first columns and weights with other products.
 fn first_other_gram(
     alloc: Global,
     cases: &[(Square, [i128; 2], Option<Square>)],
-) -> Result<Option<(Square, [i128; 2])>, Fail> {
-    for (rows, weights, made) in cases {
-        if products_of_columns(alloc, rows, *weights)? != *made {
-            return Ok(Some((*rows, *weights)));
+) -> Result<Option<usize>, Fail> {
+    for (i, (rows, weights, made)) in cases.iter().enumerate() {
+        if products_of_columns(alloc, *rows, *weights)? != *made {
+            return Ok(Some(i));
         }
     }
     Ok(None)
@@ -308,7 +329,6 @@ fn first_other_gram(
 
 #[test]
 fn grams(rt: HostRuntime) -> Result<(), Fail> {
-    let cases = GRAMS;
-    assert_eq!(rt; first_other_gram(rt.alloc(), &cases)?, None);
+    assert_eq!(rt; first_other_gram(rt.alloc(), &GRAMS)?, None);
     Ok(())
 }

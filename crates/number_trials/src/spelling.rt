@@ -62,11 +62,18 @@ static LISTS: [(&str, usize, Option<i128>); 6] = [
     ("1,2,", 3, None),
 ];
 
+// The second number, where each piece is one.
+fn second_of(alloc: Global, pieces: &[&[u8]]) -> Result<Option<i128>, AllocError> {
+    match numbers_of(alloc, pieces)? {
+        Some(numbers) => Ok(numbers.get(1).copied()),
+        None => Ok(None),
+    }
+}
+
 // How many pieces commas make of a text, and the second number, where each piece is one.
 fn list_of(alloc: Global, text: &str) -> Result<(usize, Option<i128>), AllocError> {
     let pieces = pieces_of(alloc, text.as_bytes(), b',')?;
-    let numbers = numbers_of(alloc, pieces.as_slice())?;
-    let second = numbers.as_ref().and_then(|v| v.get(1).copied());
+    let second = second_of(alloc, pieces.as_slice())?;
     Ok((pieces.len(), second))
 }
 
