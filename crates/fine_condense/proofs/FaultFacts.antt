@@ -42,3 +42,7 @@ none_wide d a b e q h = h
 -- a result is one fault alone
 pub same_fault : {T : Type 0} {r : Result T CondenseFault} {x y : CondenseFault} → r ≡ Err x → r ≡ Err y → x ≡ y
 same_fault h k = cc
+
+-- want of memory is no quantity
+pub memory_apart : (q : Quantity) → Memory ≡ TooWide q → ⊥
+memory_apart q e = cc

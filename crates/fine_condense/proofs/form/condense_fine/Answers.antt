@@ -5,7 +5,7 @@ use Rattle.qp_model.specs.Parts.{design_of}
 use Rattle.plant_condense.specs.declared.fault.CondenseFault.{CondenseFault}
 use Rattle.plant_condense.specs.declared.fault.CondenseFault.TheVariants.{TooWide}
 use Rattle.plant_condense.specs.Fault.{IsFirstWideIn}
-use Rattle.fine_condense.proofs.FaultFacts.{refused, none_wide, same_fault}
+use Rattle.fine_condense.proofs.FaultFacts.{refused, none_wide, same_fault, memory_apart}
 use Rattle.fine_condense.proofs.form.condense_fine.Goals as goal
 
 pub returns-in_err-numbers-clause-every_refusal : goal.returns-in_err-numbers-clause-every_refusal
@@ -31,3 +31,13 @@ returns-clause-every_refusal c = λ q w.
     let d = design_of c.parts-parts.result.now in
     let first : IsFirstWideIn true d q = rw c.parts-parts.ensures.value w in
     absurd (none_wide d c.in_ok-numbers.ensures.prediction c.in_ok-numbers.ensures.costs.room c.in_ok-numbers.ensures.limits.room q first)
+
+pub returns-in_err-form_of-clause-wide : goal.returns-in_err-form_of-clause-wide
+returns-in_err-form_of-clause-wide c = λ q e.
+    let given = err_from_is_err_and c.from_residual-in_err-form_of.result c.from_residual-in_err-form_of.ensures.1 in
+    absurd (memory_apart q (same_fault (given.1 ∙ ap Err given.2) e))
+
+pub returns-in_err-form_of-clause-every_refusal : goal.returns-in_err-form_of-clause-every_refusal
+returns-in_err-form_of-clause-every_refusal c = λ q w.
+    let given = err_from_is_err_and c.from_residual-in_err-form_of.result c.from_residual-in_err-form_of.ensures.1 in
+    inr (given.1 ∙ ap Err given.2)
