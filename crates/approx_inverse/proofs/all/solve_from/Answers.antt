@@ -1,4 +1,4 @@
-use Rattle.std.proofs.Common.{◌≡◌, ℕ, ◌<◌, length, arith, ap, sym, below_more, ◌∙◌, refl}
+use Rattle.std.proofs.Common.{◌≡◌, ℕ, ◌<◌, length, arith, ap, sym, below_more, ◌∙◌, refl, rules}
 use Rattle.integer_algebra.specs.Sums.{at}
 use Rattle.plant_condense.specs.Form.{held}
 use Rattle.approx_inverse.specs.Spans.{cells}
@@ -44,7 +44,7 @@ pub solve-requires-clause-bits : goal.solve-requires-clause-bits
 solve-requires-clause-bits c = c.requires.bits
 
 pub returns-then-not-solve-clause-wide : goal.returns-then-not-solve-clause-wide
-returns-then-not-solve-clause-wide c = (refl, c.if-not-solve.ensures.wide refl)
+returns-then-not-solve-clause-wide c = (refl, c.solve.ensures.wide (search rules))
 
 pub cells-requires : goal.cells-requires
 cells-requires c = c.solve.ensures.work.live
