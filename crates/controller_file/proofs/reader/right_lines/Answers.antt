@@ -1,11 +1,18 @@
-use Rattle.std.proofs.Common.{◌≡◌, ◌≢◌, ◌<◌, ◌≤◌, ◌++◌, ◌∷◌, [], ℕ, List, map, length, get_or, Bor, sym, ap, subst, ◌∙◌, arith}
-use Rattle.std.proofs.lemmas.List.{length-map, get_or-map, map-append}
+use Rattle.std.proofs.Common.{◌≡◌, ◌≢◌, ◌<◌, ◌≤◌, ◌++◌, ◌∷◌, [], ℕ, List, map, length, get_or, Bor, sym, ap, subst, ◌∙◌, arith, take}
+use Rattle.std.proofs.lemmas.List.{length-take, length-map, get_or-map, map-append}
+use Rattle.std.proofs.lemmas.Result.{err_from_is_err_and}
 use Rattle.std.proofs.lemmas.Option.{MatchOption-at_some, MatchOption-at_none}
 use Rattle.controller_file.specs.declared.line.Line.{Line}
 use Rattle.controller_file.specs.Lines.{Keyed, view, views, spelled}
 use Rattle.controller_file.specs.Following.{IsBeginning}
 use Rattle.controller_file.proofs.FirstLines.{none_read, nothing, one_more, stuck, most_from, all_right}
 use Rattle.controller_file.proofs.reader.right_lines.Goals as goal
+
+-- as many pieces as were read
+as_many : (ps : List (List ℕ)) (items : List Line) (i : ℕ) → i ≤ length ps → map spelled (views items) ≡ take i ps → map spelled (views items) ≡ take (length items) ps
+as_many ps items i within so_far =
+    let long : length items ≡ i = omega (arith, ap length so_far, length-map (views items) spelled, length-map items view, length-take i ps, within) in
+    rw long so_far
 
 pub loop-piece-init : goal.loop-piece-init
 loop-piece-init c =
@@ -51,3 +58,39 @@ returns-clause-most c =
     let past : length ps ≤ i = omega (arith, length-map c.args.pieces.now (λ (x : Bor (List ℕ)). x.now)) in
     let within : i ≤ length ps = omega (arith, length-map c.args.pieces.now (λ (x : Bor (List ℕ)). x.now)) in
     most_from ps (views items) i (length items) c.loop-piece.invariant.beginning within c.loop-piece.invariant.spelling count (all_right ps i past)
+
+pub returns-in_err-line-clause-beginning : goal.returns-in_err-line-clause-beginning
+returns-in_err-line-clause-beginning c = rw (err_from_is_err_and c.from_residual.result c.from_residual.ensures.1).1 tt
+
+pub returns-in_err-line-clause-spelling : goal.returns-in_err-line-clause-spelling
+returns-in_err-line-clause-spelling c = rw (err_from_is_err_and c.from_residual.result c.from_residual.ensures.1).1 tt
+
+pub returns-in_err-line-clause-most : goal.returns-in_err-line-clause-most
+returns-in_err-line-clause-most c = rw (err_from_is_err_and c.from_residual.result c.from_residual.ensures.1).1 tt
+
+pub returns-in_err-push-clause-beginning : goal.returns-in_err-push-clause-beginning
+returns-in_err-push-clause-beginning c = rw (err_from_is_err_and c.from_residual-in_err-push.result c.from_residual-in_err-push.ensures.1).1 tt
+
+pub returns-in_err-push-clause-spelling : goal.returns-in_err-push-clause-spelling
+returns-in_err-push-clause-spelling c = rw (err_from_is_err_and c.from_residual-in_err-push.result c.from_residual-in_err-push.ensures.1).1 tt
+
+pub returns-in_err-push-clause-most : goal.returns-in_err-push-clause-most
+returns-in_err-push-clause-most c = rw (err_from_is_err_and c.from_residual-in_err-push.result c.from_residual-in_err-push.ensures.1).1 tt
+
+pub next_line-requires : goal.next_line-requires
+next_line-requires c = rw c.deref.ensures.value c.loop-piece.invariant.beginning
+
+pub returns-in_default-clause-beginning : goal.returns-in_default-clause-beginning
+returns-in_default-clause-beginning c = c.loop-piece.invariant.beginning
+
+pub returns-clause-beginning : goal.returns-clause-beginning
+returns-clause-beginning c = c.loop-piece.invariant.beginning
+
+pub returns-in_default-clause-spelling : goal.returns-in_default-clause-spelling
+returns-in_default-clause-spelling c = as_many _ c.loop-piece.lines.items c.loop-piece.piece-index (omega (arith, length-map c.args.pieces.now (λ (x : Bor (List ℕ)). x.now), c.loop-piece-test.true)) c.loop-piece.invariant.spelling
+
+pub returns-clause-spelling : goal.returns-clause-spelling
+returns-clause-spelling c = as_many _ c.loop-piece.lines.items c.loop-piece.piece-index (omega (arith, length-map c.args.pieces.now (λ (x : Bor (List ℕ)). x.now))) c.loop-piece.invariant.spelling
+
+pub bounds-pieces-piece-index : goal.bounds-pieces-piece-index
+bounds-pieces-piece-index c = c.loop-piece-test.true
