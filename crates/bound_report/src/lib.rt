@@ -1,7 +1,7 @@
 //! What a report says of a controller, as lines of text or as JSON.
 #![tactic(auto)]
 
-ghost use Rattle.std.specs.Prelude.{◌≡◌, ◌++◌, IfOk, OnOk, string_bytes, take};
+ghost use Rattle.std.specs.Prelude.{◌≡◌, ◌++◌, IfOk, OnOk, string_bytes};
 ghost use Rattle.std.specs.Fmt.{signed_decimal};
 ghost use Rattle.qp_model.specs.Lines.{text_of};
 ghost use Rattle.qp_model.specs.Printed.{printed};
@@ -56,20 +56,6 @@ fn report_members(alloc: Global, b: &Bounds) -> Result<Map<String, Value>, Alloc
 fn number_members(alloc: Global, b: &Bounds) -> Result<Map<String, Value>, AllocError>
     ensures { IfOk result (λ m. members_view m.entries ≡ members_of (first_members (printed b.now) ++ last_members (printed b.now))) }
 {
-    let mut members = choice_members(alloc, b)?;
-    put_number(alloc, &mut members, "steps", i128::from(b.steps))?;
-    put_number(alloc, &mut members, "undercut", b.undercut)?;
-    put_number(alloc, &mut members, "version", i128::from(b.version))?;
-    put_number(alloc, &mut members, "violation", b.violation)?;
-    put_number(alloc, &mut members, "width", i128::from(b.width))?;
-    put_number(alloc, &mut members, "words", b.words as i128)?;
-    Ok(members)
-}
-
-// The first six of those, up to the step.
-fn choice_members(alloc: Global, b: &Bounds) -> Result<Map<String, Value>, AllocError>
-    ensures { IfOk result (λ m. members_view m.entries ≡ members_of (take 6 (first_members (printed b.now)))) }
-{
     let mut members = Map::new(alloc);
     put_number(alloc, &mut members, "bits", i128::from(b.bits))?;
     put_number(alloc, &mut members, "cost", b.cost)?;
@@ -77,6 +63,12 @@ fn choice_members(alloc: Global, b: &Bounds) -> Result<Map<String, Value>, Alloc
     put_number(alloc, &mut members, "margin", b.margin)?;
     put_number(alloc, &mut members, "multiplier", b.multiplier)?;
     put_number(alloc, &mut members, "step", i128::from(b.step))?;
+    put_number(alloc, &mut members, "steps", i128::from(b.steps))?;
+    put_number(alloc, &mut members, "undercut", b.undercut)?;
+    put_number(alloc, &mut members, "version", i128::from(b.version))?;
+    put_number(alloc, &mut members, "violation", b.violation)?;
+    put_number(alloc, &mut members, "width", i128::from(b.width))?;
+    put_number(alloc, &mut members, "words", b.words as i128)?;
     Ok(members)
 }
 
