@@ -32,17 +32,26 @@ pub fn first_input(k: &Kernel, l: usize) -> i128
     k.sum(l)
 }
 
-/// The line of the averaged plan after all steps: the denominator and each numerator, one space between two, and a line
-/// feed.
-pub fn plan_line(alloc: Global, k: &Kernel) -> Result<Vec<u8>, AllocError>
+// The numbers of the averaged plan after all steps: the denominator and each numerator.
+fn plan_numbers(alloc: Global, k: &Kernel) -> Result<Vec<i128>, AllocError>
     requires { k.now.made ≡ k.now.controller.steps }
-    ensures { IfOk result (λ line. line.items ≡ plan_line k.now.controller k.now.state) }
+    ensures { IfOk result (λ numbers. numbers.items ≡ pos (average_denominator k.now.controller) ∷ averaged_plan k.now.controller k.now.state) }
 {
     let mut numbers = Vec::new(alloc);
     numbers.push(denominator(k))?;
     for j in 0..k.controller().parts().t.len() {
         numbers.push(k.sum(j))?;
     }
+    Ok(numbers)
+}
+
+/// The line of the averaged plan after all steps: the denominator and each numerator, one space between two, and a line
+/// feed.
+pub fn plan_line(alloc: Global, k: &Kernel) -> Result<Vec<u8>, AllocError>
+    requires { k.now.made ≡ k.now.controller.steps }
+    ensures { IfOk result (λ line. line.items ≡ plan_line k.now.controller k.now.state) }
+{
+    let numbers = plan_numbers(alloc, k)?;
     let mut line = spaced_text(alloc, &numbers)?;
     line.push('\n')?;
     Ok(line.into_bytes())
