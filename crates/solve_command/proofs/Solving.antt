@@ -1,13 +1,12 @@
 -- What the two files make of the answer, the faults and the output.
 use Rattle.std.proofs.Common.{◌≡◌, ◌≢◌, ◌⊎◌, inl, inr, ℕ, List, length, Option, Some, None, refl, sym, subst}
 use Rattle.std.specs.Prelude.{IfSome, IsSomeAnd}
-use Rattle.io_edge.specs.Faults.{Files, Rose, NoneFalls}
+use Rattle.io_edge.specs.Faults.{Files, Rose}
 use Rattle.mat_int.specs.Matrix.{Matrix}
 use Rattle.qp_model.specs.Controller.{Numbers}
 use Rattle.command_line.specs.Words.{word_of}
 use Rattle.command_line.specs.Answers.{Contents, ForContents, IsAnswer, IsCaused}
 use Rattle.command_line.proofs.Composing.{told_at, told, for_contents, stop, go_on_whole}
-use Rattle.command_line.proofs.Counts.{rose_later}
 use Rattle.command_line.specs.declared.status.Status.{Status}
 use Rattle.command_line.specs.declared.status.Status.TheVariants.{Done, ReadFault, WriteFault}
 use Rattle.command_files.specs.Texts.{ControllerRight, ControllerWrong, StatesRight, StatesWrong}
@@ -74,16 +73,16 @@ module _ (words : List (List ℕ)) (held : Option Files) (c : Numbers) (first : 
       stopped words held got s (not_done 2 (StatesWrong c.states 2) (StatesRight c.states) held (word_of words 2) before now s (states_refused c.states 2) ends)
       (no_write 2 (StatesWrong c.states 2) (StatesRight c.states) held (word_of words 2) before now s (states_refused c.states 2) ends)
 
-  pub second_fault : (before mid now : List ℕ → ℕ) (s : Status) → EndsStates c.states 2 held (word_of words 2) (mid (word_of words 2)) (now (word_of words 2)) s → NoneFalls before mid → NoneFalls mid now →
+  pub second_fault : (before now : List ℕ → ℕ) (s : Status) → EndsStates c.states 2 held (word_of words 2) (before (word_of words 2)) (now (word_of words 2)) s →
       (file : ℕ) → s ≡ ReadFault file → ForContents words held (λ k. SolveReaches k.first file) × Rose (before (word_of words file)) (now (word_of words file))
-  second_fault before mid now s ends low high file is = (
+  second_fault before now s ends file is = (
     for_contents words held (λ k. SolveReaches k.first file) first.content (told_at held (word_of words 2)) (told_at held (word_of words 3)) first.told (told held (word_of words 2)) (told held (word_of words 3))
         (inr (found.0, c, first.right)),
-    subst (λ (i : ℕ). Rose (before (word_of words i)) (now (word_of words i))) (sym found.0) (rose_later _ _ _ (low.each (word_of words 2)) (high.each (word_of words 2)) found.1),
+    subst (λ (i : ℕ). Rose (before (word_of words i)) (now (word_of words i))) (sym found.0) found.1,
   )
     where
-      found : (file ≡ 2) × Rose (mid (word_of words 2)) (now (word_of words 2))
-      found = its_fault 2 (StatesWrong c.states 2) (StatesRight c.states) held (word_of words 2) (mid (word_of words 2)) (now (word_of words 2)) s (states_refused c.states 2) ends file is
+      found : (file ≡ 2) × Rose (before (word_of words 2)) (now (word_of words 2))
+      found = its_fault 2 (StatesWrong c.states 2) (StatesRight c.states) held (word_of words 2) (before (word_of words 2)) (now (word_of words 2)) s (states_refused c.states 2) ends file is
 
   -- and so is the second
   module _ (m : Matrix) (second : AreStatesRead c.states 2 held (word_of words 2) m) where
