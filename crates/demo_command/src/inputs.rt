@@ -1,5 +1,5 @@
 // The design, the policy and the states of made texts.
-ghost use Rattle.std.specs.Prelude.{◌≡◌, ℕ, ◌<◌, ◌^◌, length, IfOk};
+ghost use Rattle.std.specs.Prelude.{◌≡◌, ℕ, ◌<◌, ◌^◌, length, Ok, IfOk};
 ghost use Rattle.integer_algebra.specs.Sums.{at};
 ghost use Rattle.mat_int.specs.Matrix.{Matrix, row_of};
 ghost use Rattle.qp_model.specs.Box.{IsGridState};
@@ -10,10 +10,11 @@ ghost use Rattle.design_files.specs.DesignText.{IsDesignText};
 ghost use Rattle.policy_file.specs.PolicyText.{IsPolicyText};
 ghost use Rattle.policy_file.specs.StatesText.{IsStatesText};
 ghost use Rattle.design_maker.specs.Texts.{states_text};
+ghost use Rattle.design_maker.specs.MadeLaw.{AreMadeTexts};
 ghost use Rattle.demo_command.specs.Demo.{AreMadeFrom};
 
 use design_files::read_design;
-use design_maker::{made_law, make};
+use design_maker::{Texts, made_law, make};
 use mat_int::Mat;
 use policy_file::{read_policy, read_states};
 use qp_model::{Design, Policy, TextFault};
@@ -43,13 +44,45 @@ pub fn inputs_of(alloc: Global, number: u32) -> Result<Inputs, AllocError>
     made_law();
     let texts = make(alloc, number, STAGES)?;
     let design = right_design(alloc, &texts.design)?;
+    inputs_with(alloc, &texts, design)
+}
+
+// The policy and the states of made texts, with the design that was read of the first.
+fn inputs_with(alloc: Global, texts: &Texts, design: Design) -> Result<Inputs, AllocError>
+    requires right { AreMadeTexts design texts.now.design.items texts.now.policy.items texts.now.states.items }
+    requires policy_short { length texts.now.policy.items < 2 ^ 32 }
+    requires states_short { length texts.now.states.items < 2 ^ 32 }
+    ensures design { IfOk result (λ i. i.design ≡ design) }
+    ensures policy { IfOk result (λ i. IsPolicyText texts.now.policy.items (design_of i.design) (plans_of i.policy)) }
+    ensures one { IfOk result (λ i. (plans : Plans) → IsPolicyText texts.now.policy.items (design_of i.design) plans → plans ≡ plans_of i.policy) }
+    ensures sized { IfOk result (λ i. IsPolicyFor (design_of i.design) (plans_of i.policy)) }
+    ensures states { IfOk result (λ i. IsStatesText texts.now.states.items (design_of i.design).states i.states) }
+    ensures some { IfOk result (λ i. 0 < length i.states.rows) }
+    ensures inside { IfOk result (λ i. (e : ℕ) → e < length i.states.rows → IsGridState (design_of i.design) (at (row_of i.states e))) }
+{
     let policy = right_policy(alloc, &texts.policy, &design)?;
-    let states = right_states(alloc, &texts.states, design.parts().states)?;
-    Ok(Inputs {
-        design,
-        policy,
-        states,
-    })
+    let states = right_states(alloc, &texts.states, design.parts().states);
+    inputs_from(design, policy, states)
+}
+
+// A design, a policy and the states that were read; or out of memory, where they weren't.
+fn inputs_from(
+    design: Design,
+    policy: Policy,
+    states: Result<Mat, AllocError>,
+) -> Result<Inputs, AllocError>
+    ensures design { IfOk result (λ i. i.design ≡ design) }
+    ensures policy { IfOk result (λ i. i.policy ≡ policy) }
+    ensures states { IfOk result (λ i. states ≡ Ok i.states) }
+{
+    match states {
+        Ok(states) => Ok(Inputs {
+            design,
+            policy,
+            states,
+        }),
+        Err(_) => Err(AllocError),
+    }
 }
 
 // The design of a text that is one's.
