@@ -1,72 +1,130 @@
 // The stores and sinks in memory at work: listed calls and room.
 use io_edge::{Failed, ReadRefusal, Sink, Store, Words};
 use memory_edge::{MemSink, MemStore};
+use std::alloc::{AllocError, Global};
 use std::test::Fail;
 
-// Reads of a store in memory, by their numbers.
-#[test]
-fn listed_reads(rt: HostRuntime) -> Result<(), Fail> {
-    let alloc = rt.alloc();
+// Whether a read gives this.
+fn reads(
+    alloc: Global,
+    store: &mut MemStore,
+    name: &str,
+    limit: usize,
+    wanted: Result<&[u8], ReadRefusal>,
+) -> bool {
+    match store.read_all(alloc, name, limit) {
+        Ok(bytes) => wanted == Ok(bytes.as_slice()),
+        Err(refusal) => wanted == Err(refusal),
+    }
+}
+
+// The first place at which a name, read up to a limit, gives something else.
+fn first_other_read(
+    alloc: Global,
+    store: &mut MemStore,
+    cases: &[(&'static str, usize, Result<&'static [u8], ReadRefusal>)],
+) -> Option<usize> {
+    for (i, (name, limit, wanted)) in cases.iter().enumerate() {
+        if !reads(alloc, store, name, *limit, *wanted) {
+            return Some(i);
+        }
+    }
+    None
+}
+
+// A store that holds one name, has room for another, and fails its second read.
+fn held_store(alloc: Global) -> Result<MemStore, AllocError> {
     let mut store = MemStore::empty(alloc);
     store.hold("a", b"abc")?;
     store.reserve("b", 5)?;
     store.fail_read(2)?;
-    assert_eq!(rt;
-        store.read_all(alloc, "a", 3)?.as_slice(),
-        b"abc".as_slice()
-    );
-    let refused = [
-        store.read_all(alloc, "a", 3).err(),
-        store.read_all(alloc, "a", 2).err(),
-        store.read_all(alloc, "b", 9).err(),
-    ];
-    assert_eq!(rt;
-        refused,
-        [
-            Some(ReadRefusal::Failed),
-            Some(ReadRefusal::Long),
-            Some(ReadRefusal::Failed)
-        ]
-    );
+    Ok(store)
+}
+
+static READS: [(&str, usize, Result<&[u8], ReadRefusal>); 4] = [
+    ("a", 3, Ok(b"abc")),
+    ("a", 3, Err(ReadRefusal::Failed)),
+    ("a", 2, Err(ReadRefusal::Long)),
+    ("b", 9, Err(ReadRefusal::Failed)),
+];
+
+// Reads of a store in memory, by their numbers.
+#[test]
+fn listed_reads(rt: HostRuntime) -> Result<(), Fail> {
+    let mut store = held_store(rt.alloc())?;
+    assert_eq!(rt; first_other_read(rt.alloc(), &mut store, &READS), None);
     Ok(())
+}
+
+// A store with room for one name, whose second write is listed twice.
+fn listed_store(alloc: Global) -> Result<MemStore, AllocError> {
+    let mut store = MemStore::empty(alloc);
+    store.reserve("b", 5)?;
+    store.fail_write(2, 3)?;
+    store.fail_write(2, 1)?;
+    Ok(store)
+}
+
+// Names, bytes, and whether a write puts them there.
+static FIRST_WRITES: [(&str, &[u8], Result<(), Failed>); 2] = [
+    ("b", b"12345", Ok(())),
+    ("b", b"6789", Err(Failed)),
+];
+
+static SECOND_WRITES: [(&str, &[u8], Result<(), Failed>); 2] = [
+    ("b", b"123456", Err(Failed)),
+    ("c", b"", Err(Failed)),
+];
+
+// The first place at which a write has another answer.
+fn first_other_write(
+    store: &mut MemStore,
+    cases: &[(&'static str, &'static [u8], Result<(), Failed>)],
+) -> Option<usize> {
+    for (i, (name, bytes, answer)) in cases.iter().enumerate() {
+        if store.write_all(name, bytes) != *answer {
+            return Some(i);
+        }
+    }
+    None
+}
+
+// Whether each two writes have these answers, and leave the part that the listed one keeps.
+fn writes_listed(alloc: Global, store: &mut MemStore) -> bool {
+    first_other_write(store, &FIRST_WRITES).is_none()
+        && reads(alloc, store, "b", 9, Ok(b"678"))
+        && first_other_write(store, &SECOND_WRITES).is_none()
+        && reads(alloc, store, "b", 9, Ok(b"678"))
 }
 
 // Writes, by their numbers: what a listed one keeps, and one without room.
 #[test]
 fn listed_writes(rt: HostRuntime) -> Result<(), Fail> {
-    let alloc = rt.alloc();
-    let mut store = MemStore::empty(alloc);
-    store.reserve("b", 5)?;
-    store.fail_write(2, 3)?;
-    store.fail_write(2, 1)?;
-    let first = [
-        store.write_all("b", b"12345"),
-        store.write_all("b", b"6789"),
-    ];
-    assert_eq!(rt; first, [Ok(()), Err(Failed)]);
-    assert_eq!(rt;
-        store.read_all(alloc, "b", 9)?.as_slice(),
-        b"678".as_slice()
-    );
-    let second = [store.write_all("b", b"123456"), store.write_all("c", b"")];
-    assert_eq!(rt; second, [Err(Failed), Err(Failed)]);
-    assert_eq!(rt;
-        store.read_all(alloc, "b", 9)?.as_slice(),
-        b"678".as_slice()
-    );
+    let mut store = listed_store(rt.alloc())?;
+    assert!(rt; writes_listed(rt.alloc(), &mut store));
     Ok(())
+}
+
+// A store that holds one name, and whose first write is to keep more than it has.
+fn short_store(alloc: Global) -> Result<MemStore, AllocError> {
+    let mut store = MemStore::empty(alloc);
+    store.hold("b", b"12345")?;
+    store.fail_write(1, 9)?;
+    Ok(store)
+}
+
+// Whether that write keeps all but one byte, and the next one is whole.
+fn keeps_all_but_one(alloc: Global, store: &mut MemStore) -> bool {
+    store.write_all("b", b"xy") == Err(Failed)
+        && reads(alloc, store, "b", 9, Ok(b"x"))
+        && store.write_all("b", b"12345") == Ok(())
 }
 
 // A write that is to keep more than it has keeps all but one byte; what is held has room for itself.
 #[test]
 fn kept_and_held(rt: HostRuntime) -> Result<(), Fail> {
-    let alloc = rt.alloc();
-    let mut store = MemStore::empty(alloc);
-    store.hold("b", b"12345")?;
-    store.fail_write(1, 9)?;
-    assert_eq!(rt; store.write_all("b", b"xy"), Err(Failed));
-    assert_eq!(rt; store.read_all(alloc, "b", 9)?.as_slice(), b"x".as_slice());
-    assert_eq!(rt; store.write_all("b", b"12345"), Ok(()));
+    let mut store = short_store(rt.alloc())?;
+    assert!(rt; keeps_all_but_one(rt.alloc(), &mut store));
     Ok(())
 }
 

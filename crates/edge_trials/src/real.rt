@@ -60,14 +60,9 @@ fn empty_file(rt: HostRuntime) -> Result<(), Fail> {
 
 // One byte more than the limit.
 #[test]
-fn longer_file(rt: HostRuntime) -> Result<(), Fail> {
-    let mut store = HostStore::new(&rt);
-    let written = store.write_all("io_edge_real_longer", &numbered(rt.alloc(), 10000)?);
-    let read = store
-        .read_all(rt.alloc(), "io_edge_real_longer", 9999)
-        .err();
-    assert_eq!(rt; (written, read), (Ok(()), Some(ReadRefusal::Long)));
-    Ok(())
+fn longer_file(rt: HostRuntime) {
+    let read = reads_back(&rt, rt.alloc(), "io_edge_real_longer", 10000, 9999);
+    assert!(rt; read == Err(ReadRefusal::Long));
 }
 
 // What is written anew is all that the file holds.
