@@ -1,10 +1,9 @@
-use Rattle.std.proofs.Common.{◌≡◌, ◌++◌, ◌∷◌, [], ◌∙◌, ℤ, ℕ, ◌<◌, ◌+◌, ◌≤◌, length, List, pos, ap, map, take, get_or, sym, String, Global, string_bytes, rules, arith}
+use Rattle.std.proofs.Common.{◌≡◌, ◌++◌, ◌∷◌, [], ◌∙◌, ℤ, ℕ, ◌<◌, ◌+◌, length, List, pos, ap, map, take, get_or, sym, String, Global, string_bytes, rules}
 use Rattle.std.specs.Fmt.{signed_decimal}
-use Rattle.std.proofs.lemmas.List.{map_more, map-append, take_all}
+use Rattle.std.proofs.lemmas.List.{map_more, map-append}
 use Rattle.serde_json.specs.Data.{Data, string}
 use Rattle.serde_json.specs.View.{view}
 use Rattle.serde_json.specs.declared.value.Value.{Value, String as StringValue, the_lemmas}
-use Rattle.bound_report.specs.Document.{strings_of}
 use Rattle.bound_report.proofs.number_strings.Goals as goal
 
 abbrev as_string : ℤ → Data

@@ -1,18 +1,16 @@
-use Rattle.std.proofs.Common.{◌≡◌, ◌<◌, ◌+◌, ◌*◌, ◌^◌, ◌∷◌, ◌++◌, [], ℕ, ℤ, pos, List, length, map, get_or, drop, rules, arith, sym, ap, ◌∙◌, refl, true, inl}
+use Rattle.std.proofs.Common.{◌≡◌, ◌<◌, ◌+◌, ◌*◌, ◌∷◌, ◌++◌, [], ℕ, ℤ, pos, length, rules, arith, ap, ◌∙◌, refl, true, inl}
 use Rattle.std.specs.Int.{w128}
 use Rattle.std.proofs.lemmas.Grind.{common_steps}
 use Rattle.std.specs.Result.{is_ok}
 use mir.Val.{SFits}
 use Rattle.std.proofs.lemmas.Result.{err_from_is_err_and}
 use Rattle.std.proofs.lemmas.Int.{to_z-of_z}
-use Rattle.std.proofs.lemmas.List.{take_rest, get_or_read, length-drop, length_push}
-use Rattle.csv.specs.Records.{fields_of}
+use Rattle.std.proofs.lemmas.List.{take_rest, get_or_read, length_push}
 use Rattle.integer_algebra.specs.Sums.{at}
 use Rattle.mat_int.specs.Matrix.{row_of}
 use Rattle.qp_model.specs.Parts.{design_of}
 use Rattle.policy_file.proofs.MatrixFacts.{none_filled}
 use Rattle.qp_model.specs.declared.text_fault.TextFault.TheVariants.{Memory}
-use Rattle.policy_file.specs.Records.{HoldsNumbers, records_of, record_at}
 use Rattle.policy_file.specs.PolicyText.{policy_rule}
 use Rattle.policy_file.proofs.TextFacts.{record_is, records_count, entry_small, room_small, passed_on, first_fault}
 use Rattle.policy_file.proofs.RecordFacts.{records_few}
