@@ -4,17 +4,18 @@ use memory_edge::{MemSink, MemStore};
 use std::alloc::{AllocError, Global};
 use std::test::Fail;
 
-// Whether a read gives this.
+// Whether a read gives this, where there is memory for it.
 fn reads(
     alloc: Global,
     store: &mut MemStore,
     name: &str,
     limit: usize,
     wanted: Result<&[u8], ReadRefusal>,
-) -> bool {
+) -> Result<bool, AllocError> {
     match store.read_all(alloc, name, limit) {
-        Ok(bytes) => wanted == Ok(bytes.as_slice()),
-        Err(refusal) => wanted == Err(refusal),
+        Ok(bytes) => Ok(wanted == Ok(bytes.as_slice())),
+        Err(ReadRefusal::Memory) => Err(AllocError),
+        Err(refusal) => Ok(wanted == Err(refusal)),
     }
 }
 
@@ -23,13 +24,13 @@ fn first_other_read(
     alloc: Global,
     store: &mut MemStore,
     cases: &[(&'static str, usize, Result<&'static [u8], ReadRefusal>)],
-) -> Option<usize> {
+) -> Result<Option<usize>, AllocError> {
     for (i, (name, limit, wanted)) in cases.iter().enumerate() {
-        if !reads(alloc, store, name, *limit, *wanted) {
-            return Some(i);
+        if !reads(alloc, store, name, *limit, *wanted)? {
+            return Ok(Some(i));
         }
     }
-    None
+    Ok(None)
 }
 
 // A store that holds one name, has room for another, and fails its second read.
@@ -52,7 +53,7 @@ static READS: [(&str, usize, Result<&[u8], ReadRefusal>); 4] = [
 #[test]
 fn listed_reads(rt: HostRuntime) -> Result<(), Fail> {
     let mut store = held_store(rt.alloc())?;
-    assert_eq!(rt; first_other_read(rt.alloc(), &mut store, &READS), None);
+    assert_eq!(rt; first_other_read(rt.alloc(), &mut store, &READS)?, None);
     Ok(())
 }
 
@@ -90,18 +91,20 @@ fn first_other_write(
 }
 
 // Whether each two writes have these answers, and leave the part that the listed one keeps.
-fn writes_listed(alloc: Global, store: &mut MemStore) -> bool {
-    first_other_write(store, &FIRST_WRITES).is_none()
-        && reads(alloc, store, "b", 9, Ok(b"678"))
-        && first_other_write(store, &SECOND_WRITES).is_none()
-        && reads(alloc, store, "b", 9, Ok(b"678"))
+fn writes_listed(alloc: Global, store: &mut MemStore) -> Result<bool, AllocError> {
+    Ok(
+        first_other_write(store, &FIRST_WRITES).is_none()
+            && reads(alloc, store, "b", 9, Ok(b"678"))?
+            && first_other_write(store, &SECOND_WRITES).is_none()
+            && reads(alloc, store, "b", 9, Ok(b"678"))?,
+    )
 }
 
 // Writes, by their numbers: what a listed one keeps, and one without room.
 #[test]
 fn listed_writes(rt: HostRuntime) -> Result<(), Fail> {
     let mut store = listed_store(rt.alloc())?;
-    assert!(rt; writes_listed(rt.alloc(), &mut store));
+    assert!(rt; writes_listed(rt.alloc(), &mut store)?);
     Ok(())
 }
 
@@ -114,17 +117,19 @@ fn short_store(alloc: Global) -> Result<MemStore, AllocError> {
 }
 
 // Whether that write keeps all but one byte, and the next one is whole.
-fn keeps_all_but_one(alloc: Global, store: &mut MemStore) -> bool {
-    store.write_all("b", b"xy") == Err(Failed)
-        && reads(alloc, store, "b", 9, Ok(b"x"))
-        && store.write_all("b", b"12345") == Ok(())
+fn keeps_all_but_one(alloc: Global, store: &mut MemStore) -> Result<bool, AllocError> {
+    Ok(
+        store.write_all("b", b"xy") == Err(Failed)
+            && reads(alloc, store, "b", 9, Ok(b"x"))?
+            && store.write_all("b", b"12345") == Ok(()),
+    )
 }
 
 // A write that is to keep more than it has keeps all but one byte; what is held has room for itself.
 #[test]
 fn kept_and_held(rt: HostRuntime) -> Result<(), Fail> {
     let mut store = short_store(rt.alloc())?;
-    assert!(rt; keeps_all_but_one(rt.alloc(), &mut store));
+    assert!(rt; keeps_all_but_one(rt.alloc(), &mut store)?);
     Ok(())
 }
 

@@ -62,7 +62,7 @@ fn empty_file(rt: HostRuntime) -> Result<(), Fail> {
 #[test]
 fn longer_file(rt: HostRuntime) {
     let read = reads_back(&rt, rt.alloc(), "io_edge_real_longer", 10000, 9999);
-    assert!(rt; read == Err(ReadRefusal::Long));
+    assert_eq!(rt; read, Err(ReadRefusal::Long));
 }
 
 // What is written anew is all that the file holds.
