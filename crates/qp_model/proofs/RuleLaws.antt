@@ -1,5 +1,6 @@
 -- What follows from rules that hold, and from the first that is broken.
-use Rattle.std.proofs.Common.{◌≡◌, List, [], ◌∷◌, ◌++◌, ◌∙◌, sym, inl, inr, ◌⊎◌, Result, Ok, Err}
+use Rattle.std.proofs.Common.{◌≡◌, ◌↔◌, List, [], ◌∷◌, ◌++◌, ◌∙◌, sym, inl, inr, ◌⊎◌, Result, Ok, Err}
+use Rattle.std.specs.Result.{OnOk, IfErr, IsErrAnd}
 use Rattle.qp_model.specs.declared.text_fault.TextFault.{TextFault}
 use Rattle.qp_model.specs.Rules.{Rule, AllHold, IsFirstBroken, Tests}
 
@@ -40,3 +41,22 @@ test_after rules more (Err fault) held broken = broken_after rules more fault he
 pub held_after : (rules more : List Rule) → AllHold (rules ++ more) → AllHold more
 held_after [] more held = held
 held_after (rule ∷ rules) more held = held_after rules more held.1
+
+-- ---- rules tested one by one, each by what is true exactly where it holds
+-- the first is broken
+pub broken_first : (rule : Rule) (rules : List Rule) (answer : Result (Unit {0}) TextFault) (fault : TextFault) (test : Type 0) →
+    IsErrAnd answer (λ e. e ≡ fault) → (test ↔ rule.holds) → (fault ≡ rule.fault) × ¬ test → Tests answer (rule ∷ rules)
+broken_first rule rules (Ok done) fault test told exact broken = absurd told
+broken_first rule rules (Err e) fault test told exact broken = inl (λ holds. broken.1 (exact.1 holds), told ∙ broken.0)
+
+-- the first holds, and then a test of more
+pub test_next : (rule : Rule) (rules : List Rule) (answer : Result (Unit {0}) TextFault) (test : Type 0) →
+    (test ↔ rule.holds) → test → Tests answer rules → Tests answer (rule ∷ rules)
+test_next rule rules (Ok done) test exact met others = (exact.0 met, others)
+test_next rule rules (Err fault) test exact met broken = inr (exact.0 met, broken)
+
+-- the last one's answer
+pub test_last : (rule : Rule) (answer : Result (Unit {0}) TextFault) (test : Type 0) →
+    OnOk answer test → IfErr answer (λ fault. (fault ≡ rule.fault) × ¬ test) → (test ↔ rule.holds) → Tests answer (rule ∷ [])
+test_last rule (Ok done) test met broken exact = (exact.0 met, tt)
+test_last rule (Err fault) test met broken exact = inl (λ holds. broken.1 (exact.1 holds), broken.0)
