@@ -1,5 +1,5 @@
 -- What follows from rules that hold, and from the first that is broken.
-use Rattle.std.proofs.Common.{◌≡◌, ◌↔◌, List, [], ◌∷◌, ◌++◌, ◌∙◌, sym, inl, inr, ◌⊎◌, Result, Ok, Err}
+use Rattle.std.proofs.Common.{◌≡◌, ◌↔◌, List, [], ◌∷◌, ◌++◌, ◌∙◌, sym, inl, inr, Result, Ok, Err}
 use Rattle.std.specs.Result.{OnOk, IfErr, IsErrAnd}
 use Rattle.qp_model.specs.declared.text_fault.TextFault.{TextFault}
 use Rattle.qp_model.specs.Rules.{Rule, AllHold, IsFirstBroken, Tests}

@@ -1,22 +1,26 @@
 -- What a design's rows and weights give its quantities.
-use Rattle.std.proofs.Common.{◌≡◌, inl, inr, ℕ, zero, suc, ◌+◌, ◌*◌, ◌^◌, ◌<◌, ◌≤◌, max, ℤ, pos, ◌≤ℤ◌, unsigned_abs, arith, ap, sym, ◌∙◌, add-one, refl, List, length, take}
+use Rattle.std.proofs.Common.{◌≡◌, inl, inr, ℕ, zero, suc, ◌+◌, ◌*◌, ◌^◌, ◌<◌, ◌≤◌, max, ℤ, pos, ◌≤ℤ◌, unsigned_abs, arith, ap, ◌∙◌, add-one, refl, List, [], ◌∷◌, length, take, All}
 use Rattle.std.proofs.lemmas.Bool.{cases_lt}
 use Rattle.std.proofs.lemmas.Int.{ints}
 use Rattle.std.proofs.Math.Nat.{add-suc, mul-le-mul_left, pow-suc, pow-le-pow_right, one-le-mul}
 use Rattle.std.proofs.lemmas.List.{get_or-take, length-take-le}
 use Rattle.integer_algebra.specs.Sums.{none, at}
-use Rattle.integer_algebra.specs.Sizes.{amount, size}
+use Rattle.integer_algebra.specs.Sizes.{size}
 use Rattle.integer_algebra.proofs.SizeLaws.{amount_more, size_same}
 use Rattle.integer_algebra.proofs.PowerLaws.{pow-two}
-use Rattle.mat_int.specs.Matrix.{Matrix, entry_of}
+use Rattle.mat_int.specs.Matrix.{Matrix, row_of, entry_of}
 use Rattle.qp_model.specs.declared.design_parts.DesignParts.{DesignParts}
 use Rattle.qp_model.specs.Design.{entries, rows}
+use Rattle.qp_model.specs.Range.{IsNumerator}
 use Rattle.qp_model.specs.Parts.{cost_row, limit_row, final_row, design_of, IsDesign}
 use Rattle.qp_model.specs.Quantities.{greatest, cost_width, limit_width, weight_sum}
 
 -- one more number
 pub greatest_more : (n : ℕ) (f : ℕ → ℕ) → greatest (n + 1) f ≡ max (greatest n f) (f n)
 greatest_more n f = rw add-one refl
+
+pub greatest_next : (n : ℕ) (f : ℕ → ℕ) (most next x : ℕ) → most ≡ greatest n f → x ≡ f n → next ≡ max most x → next ≡ greatest (n + 1) f
+greatest_next n f most next x h e k = rw (greatest_more n f, k, h, e) refl
 
 pub greatest_same : (n : ℕ) (f g : ℕ → ℕ) → ((i : ℕ) → i < n → f i ≡ g i) → greatest n f ≡ greatest n g
 greatest_same zero f g h = refl
@@ -150,3 +154,12 @@ some_row p h = last p.stages (length p.stage_rows.rows) (length p.final_rows.row
 pub numerators_size : (n : ℕ) (f : ℕ → ℤ) → ((i : ℕ) → i < n → unsigned_abs (f i) < 2 ^ 31) → size n f ≤ 2 ^ 31 * n
 numerators_size zero f h = omega arith
 numerators_size (suc n) f h = omega (arith, numerators_size n f (λ i l. h i (omega arith)), h n (omega arith))
+
+-- ---- numerators
+pub numerator_at : (xs : List ℤ) → All IsNumerator xs → (j : ℕ) → unsigned_abs (at xs j) < 2 ^ 31
+numerator_at [] h j = omega arith
+numerator_at (x ∷ xs) h zero = h 0 (pos 0) (omega arith)
+numerator_at (x ∷ xs) h (suc j) = numerator_at xs (λ i d l. h (suc i) d (omega arith)) j
+
+pub numerator_entry : (m : Matrix) → All (All IsNumerator) m.rows → (r j : ℕ) → r < length m.rows → unsigned_abs (entry_of m r j) < 2 ^ 31
+numerator_entry m h r j l = numerator_at (row_of m r) (h r [] l) j

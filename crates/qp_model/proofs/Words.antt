@@ -181,6 +181,10 @@ line_of_more key zs i h =
     let push = join_with_byte-push 32 (key ∷ map signed_decimal (take i zs)) word (omega arith) in
     ap (λ (ws : List (List ℕ)). join_with_byte 32 (key ∷ ws)) (spelled_more zs i h) ∙ push ∙ sym (append_assoc (line_of key (take i zs)) (32 ∷ []) word)
 
+-- of no numbers all fit
+pub fits_none : All (FitsSigned w128) []
+fits_none k d l = absurd (omega arith)
+
 -- one number more fits
 pub fits_more : (zs : List ℤ) (i : ℕ) → i < length zs → All (FitsSigned w128) (take i zs) → FitsSigned w128 (get_or zs i (pos 0)) → All (FitsSigned w128) (take (i + 1) zs)
 fits_more zs i lt all one = rw (take_more zs i (pos 0) lt) (All-append (FitsSigned w128) (take i zs) (get_or zs i (pos 0) ∷ []) all (single (get_or zs i (pos 0)) one))

@@ -1,7 +1,7 @@
-use Rattle.std.proofs.Common.{◌≡◌, ◌<◌, ℕ, ℤ, pos, List, [], ◌∷◌, ◌++◌, map, take, length, get_or, Bor, FitsSigned, sym, ap, ◌∙◌, arith, refl, rules}
+use Rattle.std.proofs.Common.{◌≡◌, ◌<◌, ℕ, pos, List, [], ◌∷◌, ◌++◌, map, take, length, get_or, Bor, FitsSigned, sym, ap, ◌∙◌, arith, refl, rules}
 use Rattle.std.specs.Int.{w128}
 use Rattle.std.specs.Fmt.{signed_decimal}
-use Rattle.std.proofs.lemmas.List.{get_or-map, length-map, take_more, map-append}
+use Rattle.std.proofs.lemmas.List.{get_or-map, length-map, take_all, take_more, map-append}
 use Rattle.std.proofs.lemmas.Grind.{common_steps}
 use Rattle.qp_model.proofs.Words.{same_at}
 use Rattle.qp_model.proofs.number.numbers_of.Goals as goal
@@ -40,3 +40,21 @@ loop-word-preserved c =
           let same : c.in-Some.number ≡ get_or zs i (pos 0) = cc some in
           rw (items, c.loop-word.invariant.only zs fits e, take_more zs i (pos 0) at.0, same) refl;
     }
+
+pub returns-in_default-clause-found : goal.returns-in_default-clause-found
+returns-in_default-clause-found c = tt
+
+pub returns-in_default-clause-word : goal.returns-in_default-clause-word
+returns-in_default-clause-word c = tt
+
+pub returns-clause-found : goal.returns-clause-found
+returns-clause-found c =
+    c.loop-word.invariant.found ∙ ap (λ (ws : List (Bor (List ℕ))). map (λ (x : Bor (List ℕ)). x.now) ws) (take_all c.loop-word.word-index c.args.words.now (omega arith))
+
+pub returns-clause-word : goal.returns-clause-word
+returns-clause-word c = c.loop-word.invariant.word
+
+pub returns-clause-only : goal.returns-clause-only
+returns-clause-only c = λ zs fits e.
+    let long : length zs ≡ length c.args.words.now = sym (length-map zs signed_decimal) ∙ sym (ap length e) ∙ length-map c.args.words.now (λ (x : Bor (List ℕ)). x.now) in
+    c.loop-word.invariant.only zs fits e ∙ take_all c.loop-word.word-index zs (omega arith)

@@ -1,6 +1,7 @@
-use Rattle.std.proofs.Common.{◌≡◌, ℕ, map, take, ◌<◌, ◌+◌, pos, List, [], ◌∷◌, ◌++◌, length, get_or, arith, rules, sym, ◌∙◌, ap, string_bytes, append_assoc}
+use Rattle.std.proofs.Common.{◌≡◌, ℕ, ℤ, map, take, ◌<◌, ◌+◌, pos, List, [], ◌∷◌, ◌++◌, length, get_or, arith, rules, sym, ◌∙◌, ap, string_bytes, append_assoc}
 use Rattle.std.specs.List.{join_with_byte}
 use Rattle.std.specs.Fmt.{signed_decimal}
+use Rattle.std.proofs.lemmas.List.{take_all}
 use Rattle.qp_model.proofs.Words.{line_more, line_first}
 use Rattle.qp_model.proofs.number.spaced_text.Goals as goal
 use Rattle.qp_model.proofs.number.spaced_text.Goals.{then-i-gt0+in_ok-push, else-i-gt0}
@@ -25,3 +26,11 @@ loop-i-preserved c =
           ∙ ap (λ (k : ℕ). signed_decimal (get_or xs k (pos 0))) none ∙ sym (line_first xs some)
           ∙ ap (λ (k : ℕ). join_with_byte 32 (map signed_decimal (take (k + 1) xs))) (sym none)
     ]
+
+pub loop-i-init : goal.loop-i-init
+loop-i-init c = search rules
+
+pub returns : goal.returns
+returns c =
+    let xs = c.args.numbers.now in
+    c.loop-i.invariant ∙ ap (λ (zs : List ℤ). join_with_byte 32 (map signed_decimal zs)) (take_all c.loop-i.i xs (omega arith))
