@@ -1,4 +1,4 @@
-use Rattle.std.proofs.Common.{◌≡◌, ◌∙◌, ℕ, List, Result, Ok, map, refl, sym, ap, subst}
+use Rattle.std.proofs.Common.{◌≡◌, ◌∙◌, ℕ, List, Result, Ok, map, refl, sym, ap, subst, rules}
 use Rattle.std.specs.Prelude.{MatchResult}
 use Rattle.std.specs.Global.{Vec}
 use Rattle.std.proofs.lemmas.Bool.{false≢true}
@@ -56,3 +56,30 @@ returns-in-Ok-clause-right c = λ d text.
 pub returns-in-Ok-clause-bad_first : goal.returns-in-Ok-clause-bad_first
 returns-in-Ok-clause-bad_first c = λ l bad.
     absurd (bad.none _ (read c.args.bytes.now _ _ _ c.in_ok-parts-in-Ok.parts c.in_ok-lines.ensures c.in-Ok.is c.deref.ensures.value c.in_ok-parts-in-Ok.ensures))
+
+pub returns-in-Ok-from_parts-clause-bad_line : goal.returns-in-Ok-from_parts-clause-bad_line
+returns-in-Ok-from_parts-clause-bad_line c = search rules
+
+pub returns-in-Ok-from_parts-clause-wide : goal.returns-in-Ok-from_parts-clause-wide
+returns-in-Ok-from_parts-clause-wide c = search rules
+
+pub returns-in-Ok-clause-bad_line : goal.returns-in-Ok-clause-bad_line
+returns-in-Ok-clause-bad_line c = search rules
+
+pub returns-in-Ok-clause-bad_sums : goal.returns-in-Ok-clause-bad_sums
+returns-in-Ok-clause-bad_sums c = search rules
+
+pub returns-clause-bad_line : goal.returns-clause-bad_line
+returns-clause-bad_line c = search rules
+
+pub returns-clause-wide : goal.returns-clause-wide
+returns-clause-wide c = search rules
+
+pub returns-clause-right : goal.returns-clause-right
+returns-clause-right c = search rules
+
+pub returns-clause-bad_first : goal.returns-clause-bad_first
+returns-clause-bad_first c = search rules
+
+pub returns-clause-bad_sums : goal.returns-clause-bad_sums
+returns-clause-bad_sums c = search rules

@@ -11,3 +11,6 @@ pub loop-key-preserved : goal.loop-key-preserved
 loop-key-preserved c =
     let lt : c.loop-key.key-index < length c.table-key-items.result = search rules in
     found_later c.table-key-items.result c.loop-key.key-index _ c.loop-key.left _ lt c.if-left-rows.false c.loop-key.invariant
+
+pub returns : goal.returns
+returns c = search rules

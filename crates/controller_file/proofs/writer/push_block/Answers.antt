@@ -1,4 +1,4 @@
-use Rattle.std.proofs.Common.{◌≡◌, ◌∙◌, ◌++◌, ℕ, ℤ, List, [], get_or, map, FitsSigned, refl, ap, sym, subst}
+use Rattle.std.proofs.Common.{◌≡◌, ◌∙◌, ◌++◌, ℕ, ℤ, List, [], get_or, map, FitsSigned, refl, ap, sym, subst, rules}
 use Rattle.std.specs.Prelude.{All, Result, Ok, Err, OnOk}
 use Rattle.std.specs.Int.{w128}
 use Rattle.std.proofs.lemmas.List.Elements.{All-map}
@@ -44,3 +44,9 @@ returns-in-13-clause-text c = rows_text c.push_rows-in-13.result _ _ _ _ _ (rows
 
 pub returns-in-13-clause-word : goal.returns-in-13-clause-word
 returns-in-13-clause-word c = rows_word c.push_rows-in-13.result _ _ _ (rows_are (numbers c.args.parts.now) _ 13 _ _ c.in-13.is c.requires.key refl) c.push_rows-in-13.ensures.word
+
+pub returns-in-6-clause-text : goal.returns-in-6-clause-text
+returns-in-6-clause-text c = search rules
+
+pub returns-in-6-clause-word : goal.returns-in-6-clause-word
+returns-in-6-clause-word c = search rules

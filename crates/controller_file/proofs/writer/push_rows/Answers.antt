@@ -1,4 +1,4 @@
-use Rattle.std.proofs.Common.{◌<◌, ◌++◌, ◌∷◌, [], length, ap, ◌∙◌, string_bytes, List, ℤ, arith}
+use Rattle.std.proofs.Common.{◌<◌, ◌++◌, ◌∷◌, [], length, ap, ◌∙◌, string_bytes, List, ℤ, arith, rules}
 use Rattle.qp_model.specs.Lines.{line_of, text_of}
 use Rattle.controller_file.proofs.Pushed.{row_pushed}
 use Rattle.controller_file.proofs.writer.push_rows.Goals as goal
@@ -9,3 +9,9 @@ loop-i-preserved c =
     let lt : c.loop-i.i < length rows = omega arith in
     let grown = c.in_ok-push_line.ensures.text ∙ ap (λ (row : List ℤ). string_bytes c.loop-i.text ++ text_of (line_of c.args.key.now row ∷ [])) c.row.ensures.value in
     row_pushed c.args.key.now rows c.loop-i.i (string_bytes c.args.text.now) (string_bytes c.loop-i.text) (string_bytes c.push_line.new.text) lt c.loop-i.invariant grown
+
+pub loop-i-init : goal.loop-i-init
+loop-i-init c = search rules
+
+pub returns-clause-word : goal.returns-clause-word
+returns-clause-word c = search rules
