@@ -15,7 +15,7 @@ use Rattle.frac_scaled.specs.Enclosures.{Enclosure, whole_product, magnitude}
 use Rattle.mat_int.specs.Matrix.{Matrix, row_of, entry_of, with_entry, HasEntries}
 use Rattle.mat_int.specs.Enclosures.{gram_sum, weighted_gram, gram_magnitude, AreEnclosures}
 use Rattle.enclosure.specs.Rows.{HasRow}
-use Rattle.enclosure.proofs.RoomLaws.{reach_mul_is, ceil_small, inexact_small}
+use Rattle.enclosure.proofs.RoomLaws.{reach_is, reach_mul_is, ceil_small, inexact_small}
 use Rattle.enclosure.proofs.SumLaws.{combination_size}
 
 -- ---- products
@@ -30,6 +30,13 @@ product_reach a b h k = apart a.mid a.rad b.mid b.rad h k
     apart m (pos r) n (pos s) h k = omega (arith, unsigned_abs-mul m n)
     apart m (negsuc r) n s h k = absurd h.le
     apart m (pos r) n (negsuc s) h k = absurd k.le
+
+-- within the limit where the product of what both reach is
+pub product_near : (a b e : Enclosure) → pos 0 ≤ℤ a.rad → pos 0 ≤ℤ b.rad → pos 0 ≤ℤ e.rad → e ≡ whole_product a b →
+    (magnitude a *ℤ magnitude b) ≤ℤ pos (2 ^ 126) → magnitude e ≤ℤ pos (2 ^ 126)
+product_near a b e h k l is room =
+    rw (reach_is e.mid e.rad l, ap (λ (x : Enclosure). unsigned_abs x.mid + unsigned_abs x.rad) is ∙ product_reach a b h k)
+    (rw (reach_mul_is a.mid a.rad b.mid b.rad h k) at room)
 
 -- and its radius isn't negative
 pub product_nonneg : (a b : Enclosure) → pos 0 ≤ℤ a.rad → pos 0 ≤ℤ b.rad → pos 0 ≤ℤ (whole_product a b).rad
