@@ -16,13 +16,14 @@ use Rattle.qp_model.specs.CurvatureSize.{covering_exponent}
 use Rattle.qp_model.specs.Design.{Design, entries, rows}
 use Rattle.qp_model.specs.FineSizes.{is_fine}
 use Rattle.qp_model.specs.Parts.{design_of}
+use Rattle.enclosure.specs.declared.types.EncMat.{EncMat}
 use Rattle.plant_condense.specs.declared.condensed.Condensed.{Condensed}
 use Rattle.plant_condense.specs.Form.{IsFormOf}
 use Rattle.plant_condense.proofs.LeastLaws.{exponent_is}
 use Rattle.hessian_check.specs.declared.matrices.StepMatrices.{StepMatrices}
 use Rattle.hessian_check.specs.Curvature.{HasPassingRoot, IsAccepted, IsChosen, IsFirst}
 use Rattle.hessian_check.specs.DesignMatrices.{AreMatricesOf, IsRowMatrix}
-use Rattle.hessian_check.specs.Lowering.{AreFirstLowered, HasCostMatrix, IsReadyToLower, tested_weight}
+use Rattle.hessian_check.specs.Lowering.{AreFirstLowered, AreSumsToTest, AreTestedSums, HasCostMatrix, IsReadyToLower, tested_weight}
 use Rattle.hessian_check.specs.MatrixRoom.{HasMatrixRoom, matrix_at}
 use Rattle.hessian_check.specs.RowExponents.{AreLowered, AreRowExponents, exponent_in, IsAcceptedAt, IsLowered, tested}
 use Rattle.hessian_check.specs.RowSums.{AreRowSums, HasRoomFor, HaveSumRoom, more_sum, sums_matrix}
@@ -113,6 +114,17 @@ module _ (p : DesignParts) (c : Condensed) (f : IsFormOf p c) (s : ℕ) (es : Li
         AreRowSums c (tested_weight es (length es) (s - (k + 1)) s) a b
     lowered_sums count e a b h = sums_more c.g.cols (length c.g.rows) (enclosure_at c.g c.g_rad) (tested_weight es (length es) (s - k) s) (tested_weight es (length es) (s - (k + 1)) s) (length es) count r.left
         (twice es (length es) s k below ∙ ap (λ (n : ℕ). tested_weight es (length es) (s - k) s (length es) + n) (sym e)) (λ l t h. beside es (length es) s (s - (k + 1)) (s - k) l h) mid rad a b sums h
+
+  -- the list that is tested then
+  abbrev pub sums_to_test : (k : ℕ) → k < 4 → k < s → (sums : EncMat) → AreTestedSums c es (length es) (s - k) s sums → (count : ℕ) → count ≡ 2 ^ k → (more : EncMat) →
+      HasEnclosures c.g.cols c.g.cols (more_sum sums.mid sums.rad (enclosure_at c.g c.g_rad (length es)) count) more.mid more.rad → AreSumsToTest c s more
+  sums_to_test k small below sums h count e more is = record {
+    before = es;
+    exponent = s - (k + 1);
+    ready = r;
+    low = omega (arith, small);
+    sums = lowered_sums k small below sums.mid sums.rad h count e more.mid more.rad is;
+  }
 
   module _ (e : ℕ) (low : s - 4 ≤ e) (mid rad : Matrix) (sums : AreRowSums c (tested_weight es (length es) e s) mid rad) where
     pub tested_room : HaveSumRoom mid rad

@@ -30,6 +30,14 @@ pub record IsReadyToLower (c : Condensed) (s : ℕ) (es : List ℕ) : Type 0 whe
   pub before : OfDesign c (λ d. AreFirstLowered d s es)
   pub left : length es < length c.g.rows
 
+-- sums of a list that is to be tested, in which the row after those that were lowered has an exponent of its own
+pub record AreSumsToTest (c : Condensed) (s : ℕ) (m : EncMat) : Type 0 where
+  pub before : List ℕ
+  pub exponent : ℕ
+  pub ready : IsReadyToLower c s before
+  pub low : s - 4 ≤ exponent
+  pub sums : AreTestedSums c before (length before) exponent s m
+
 -- matrices of a design's cost, and factors
 pub record HasCostMatrix (fine : Bool) (d : Design) (g : StepMatrices) : Type 0 where
   pub cost : IsCostMatrix fine d g.cost

@@ -5,7 +5,7 @@ ghost use Rattle.qp_model.specs.Curvature.{AreExponents};
 ghost use Rattle.qp_model.specs.FineSizes.{is_fine};
 ghost use Rattle.plant_condense.specs.Form.{IsForm};
 ghost use Rattle.hessian_check.specs.Curvature.{IsAccepted};
-ghost use Rattle.hessian_check.specs.Lowering.{AreTestedSums, HasCostMatrix, IsReadyToLower};
+ghost use Rattle.hessian_check.specs.Lowering.{AreSumsToTest, AreTestedSums, HasCostMatrix, IsReadyToLower};
 ghost use Rattle.hessian_check.specs.MatrixRoom.{HasMatrixRoom, matrix_at};
 ghost use Rattle.hessian_check.specs.RowExponents.{AreLowered, AreRowExponents, exponent_in, IsAcceptedAt, IsLowered};
 ghost use Rattle.hessian_check.specs.RowSums.{AreRowSums};
@@ -121,12 +121,30 @@ fn try_lower(
 {
     let i = before.len();
     let more = with_row(alloc, sums, &c.g, &c.g_rad, i, 1 << k)?;
-    matrices.rows = row_matrix(alloc, c.fine, &more)?;
-    if !is_accepted(alloc, matrices, s)? {
+    if !is_list_accepted(alloc, c, &more, s, matrices)? {
         return Ok(false);
     }
     *sums = more;
     Ok(true)
+}
+
+// Whether the list of exponents is accepted whose sums these are. The matrix of its rows stays among the matrices.
+fn is_list_accepted(
+    alloc: Global,
+    c: &Condensed,
+    sums: &EncMat,
+    s: u32,
+    matrices: &mut StepMatrices,
+) -> Result<bool, AllocError>
+    requires form { IsForm c.now }
+    requires tested { AreSumsToTest c.now s sums.now }
+    requires cost { OfDesign c.now (λ d. HasCostMatrix (is_fine d) d matrices.old) }
+    ensures cost { OfDesign c.now (λ d. HasCostMatrix (is_fine d) d matrices.new) }
+    ensures accepted { (t : AreSumsToTest c.now s sums.now) →
+        OfDesign c.now (λ d. IfOk result (λ yes. IsTrue yes ↔ IsAcceptedAt d t.before (length t.before) t.exponent s)) }
+{
+    matrices.rows = row_matrix(alloc, c.fine, sums)?;
+    is_accepted(alloc, matrices, s)
 }
 
 // Whether the matrix of s is dominant, or has a root that the test passes.
