@@ -1,16 +1,20 @@
 -- The numbers that are chosen.
-use Rattle.std.proofs.Common.{◌≡◌, inl, inr, ℕ, zero, suc, ◌+◌, ◌*◌, ◌^◌, ◌<◌, ◌≤◌, ◌⊎◌, min, ℤ, ◌≤ℤ◌, ◌<ℤ◌, Option, Some, None, arith, sym, ◌∙◌, refl}
-use Rattle.std.specs.Prelude.{unwrap_or}
+use Rattle.std.proofs.Common.{◌≡◌, inl, inr, ℕ, zero, suc, ◌+◌, ◌*◌, ◌^◌, ◌<◌, ◌≤◌, ◌⊎◌, min, ℤ, ◌≤ℤ◌, ◌<ℤ◌, Option, Some, None, arith, sym, ◌∙◌, refl, rules}
+use Rattle.std.specs.Prelude.{Result, Err, IsErrAnd, unwrap_or}
 use Rattle.std.specs.Option.{option_or}
 use Rattle.integer_algebra.specs.Matrices.{IsDominant, off_diagonal_sum}
 use Rattle.qp_model.specs.Least.{IsLeast, IsLeastBelow}
 use Rattle.hessian_check.specs.Curvature.{HasPassingRoot, IsChosen, IsDominantAt, IsFirst}
-use Rattle.hessian_check.specs.Exponents.{IsEither}
+use Rattle.hessian_check.specs.declared.fault.CurvatureFault.{CurvatureFault}
+use Rattle.hessian_check.specs.declared.fault.CurvatureFault.TheVariants.{Memory}
+use Rattle.hessian_check.specs.declared.fault.StepExponents.{StepExponents}
+use Rattle.hessian_check.specs.Exponents.{IsEither, IsOutcome}
 use Rattle.qp_model.specs.Design.{Design}
 use Rattle.qp_model.specs.Form.{Form}
 use Rattle.qp_model.specs.CurvatureSize.{CoversSquaresOf, floor_times, limit_squares}
 use Rattle.std.proofs.lemmas.Int.{ints, by_lt_z}
 use Rattle.std.proofs.lemmas.Bool.{cases_lt}
+use Rattle.std.proofs.lemmas.Result.{err_from_is_err_and}
 use Rattle.std.proofs.Math.Nat.{mul-le-mul_left, one-le-mul, pow-suc}
 use Rattle.integer_algebra.proofs.PowerLaws.{pow_positive}
 use Rattle.qp_model.specs.Quantities.{input_floor}
@@ -168,3 +172,7 @@ first_above n m p h b k = (
   record { squares = h.number; by_squares = h.is; lesser = inr ((λ d t. k d t.0 t.1), refl) },
   elim (cases_lt h.number 41) [ inl t ↦ absurd (b h.number t h.is.holds) | inr t ↦ t ],
 )
+
+-- ---- no memory was left
+pub memory_outcome : (n : ℕ) (m : ℕ → ℕ → ℕ → ℤ) (squares : Option ℕ) (r : Result StepExponents CurvatureFault) → IsErrAnd r (λ e. e ≡ Memory) → IsOutcome n m squares r
+memory_outcome n m squares r h = let y = err_from_is_err_and r h in rw (y.1, y.2) (search rules)

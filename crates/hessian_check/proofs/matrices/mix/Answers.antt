@@ -22,3 +22,15 @@ returns c =
     let m = mixed c.args.x (entry_of c.args.a.now) c.args.y (entry_of c.args.b.now) in
     let v : HasFirstRows n m c.loop-i.out c.loop-i.i = rw (to_z-of_z w128 _ c.ranges.x, to_z-of_z w128 _ c.ranges.y) at c.loop-i.invariant in
     first_all n m c.loop-i.out c.loop-i.i (omega arith) v
+
+pub mix_row-requires-clause-shape : goal.mix_row-requires-clause-shape
+mix_row-requires-clause-shape c = c.requires.shape
+
+pub mix_row-requires-clause-room : goal.mix_row-requires-clause-room
+mix_row-requires-clause-room c = rw (to_z-of_z w128 _ c.ranges.x, to_z-of_z w128 _ c.ranges.y) c.requires.room
+
+pub mix_row-requires-clause-inside : goal.mix_row-requires-clause-inside
+mix_row-requires-clause-inside c = rw c.rows-i-end.ensures.count at c.loop-i-test.true
+
+pub mix_row-requires-clause-before : goal.mix_row-requires-clause-before
+mix_row-requires-clause-before c = c.loop-i.invariant
