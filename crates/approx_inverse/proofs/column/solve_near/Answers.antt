@@ -77,9 +77,6 @@ descend-requires-clause-placed c =
     taken_placed c.args.region.now c.take.new.self c.args.x.now c.in-Some.r (length c.args.c.now) c.requires.live c.requires.len c.requires.free c.mark-mark.ensures.inside taken.span
     taken.used taken.cleared.size
 
-pub release-requires : goal.release-requires
-release-requires c = rw (c.mark-mark.ensures.value, c.descend.ensures.kept.used, c.in-Some.ensures.used) (omega arith)
-
 pub returns-clause-only : goal.returns-clause-only
 returns-clause-only c =
     let taken = c.in-Some.ensures in
