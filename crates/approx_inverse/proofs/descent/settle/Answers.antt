@@ -56,3 +56,12 @@ returns-clause-descent c = c.loop-j.invariant.descent
 
 pub returns-clause-kept : goal.returns-clause-kept
 returns-clause-kept c = c.loop-j.invariant.kept
+
+pub move_entry-requires-clause-inside : goal.move_entry-requires-clause-inside
+move_entry-requires-clause-inside c = rw c.requires.placed.r_len at c.in-Some.ensures.0
+
+pub move_entry-requires-clause-wide : goal.move_entry-requires-clause-wide
+move_entry-requires-clause-wide c = c.in-Some.ensures.1
+
+pub returns-clause-good : goal.returns-clause-good
+returns-clause-good c = λ j l. c.in_default.ensures j (rw c.requires.placed.r_len l)

@@ -19,3 +19,12 @@ loop-i-preserved c =
     rw (to_z-of_z w128 _ n, is)
     (sum_more i (λ k. at c.args.x.now k *ℤ (at c.args.rest.now k -ℤ aim c.args.f c.args.c.now k)) (pos (2 ^ c.args.p) *ℤ pos (2 ^ c.args.q))
     (to_z w128 c.loop-i.sum-bits) c.in-Some.term _ c.loop-i.invariant refl term)
+
+pub value_term-requires-clause-bits : goal.value_term-requires-clause-bits
+value_term-requires-clause-bits c = c.requires.bits
+
+pub value_term-requires-clause-p_small : goal.value_term-requires-clause-p_small
+value_term-requires-clause-p_small c = c.requires.p_small
+
+pub value_term-requires-clause-q_small : goal.value_term-requires-clause-q_small
+value_term-requires-clause-q_small c = c.requires.q_small

@@ -17,3 +17,6 @@ loop-i-preserved c =
     below_more _ _
     (λ k l. get_or-set_other old i k _ (pos 0) (omega arith) ∙ c.loop-i.invariant k l)
     (get_or-set_same old i _ (pos 0) (omega (arith, c.loop-i.auto.rest)) ∙ to_z-of_z w128 _ e ∙ is)
+
+pub returns : goal.returns
+returns c = λ yes i l. c.loop-i.invariant i (omega arith)

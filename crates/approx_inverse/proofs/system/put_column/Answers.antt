@@ -14,3 +14,11 @@ returns-then-i-states-clause-wide c = λ no.
     wide_same (length c.args.out.now) (λ j. k *ℤ at c.copy_column.new.out j) _
     ((rw (c.copy_column.auto.out, to_z-of_z w128 _ fits) at c.scale.ensures.wide) no)
     (λ j m. ap (λ (z : ℤ). k *ℤ z) (c.copy_column.ensures j m) ∙ sym (column_of_state (held c.args.c.now) c.args.i j l))
+
+pub returns-then-i-states-clause-done : goal.returns-then-i-states-clause-done
+returns-then-i-states-clause-done c = λ yes j m.
+    let k = c.args.c.now.limit_den in
+    let fits : FitsSigned w128 k = search rules in
+    let l : c.args.i < (held c.args.c.now).states = omega arith in
+    (rw (c.copy_column.auto.out, to_z-of_z w128 _ fits) at c.scale.ensures.done) yes j m ∙
+    ap (λ (z : ℤ). k *ℤ z) (c.copy_column.ensures j m) ∙ sym (column_of_state (held c.args.c.now) c.args.i j l)

@@ -1,0 +1,31 @@
+use Rattle.std.proofs.Common.{◌+◌, ◌*ℤ◌, pos, length, arith, ap, ◌∙◌, refl, rules, FitsSigned}
+use Rattle.std.specs.Int.{w128}
+use Rattle.std.proofs.Math.ListN.{length-set}
+use Rattle.std.proofs.lemmas.Int.{to_z-of_z}
+use Rattle.integer_algebra.specs.Sums.{at}
+use Rattle.word_region.specs.Words.{RegionWords}
+use Rattle.approx_inverse.proofs.WordLaws.{step_above, step_below, write_step}
+use Rattle.approx_inverse.proofs.column.double.Goals as goal
+
+pub loop-i-preserved : goal.loop-i-preserved
+loop-i-preserved c = 
+    let ws = c.loop-i.region.words in
+    let old = c.args.region.now.words in
+    let start = c.args.s.now.start in
+    let i = c.loop-i.i in
+    let v = c.loop-i.invariant in
+    let e = ap (λ (w : RegionWords). w.words) c.set_word.ensures.put in
+    let u : FitsSigned w128 c.word-old.result = search rules in
+    let same = v.rest (start + i) (omega arith) in
+    let fits = c.requires.fits i (omega arith) in
+    record {
+      used = ap (λ (w : RegionWords). w.used) c.set_word.ensures.put ∙ v.used;
+      size = ap length e ∙ length-set ws (start + i) _ ∙ v.size;
+      done = write_step ws _ start i _ (λ k. pos 2 *ℤ at old (start + k)) e c.set_word.ensures.within (rw (to_z-of_z w128 _ u, c.word-old.ensures, same, to_z-of_z w128 _ fits) refl) v.done;
+      below = step_below old ws _ (start + i) start _ e (omega arith) v.below;
+      rest = step_above old ws _ (start + i) (start + i) (start + (i + 1)) _ e (omega arith) (omega arith) v.rest;
+    }
+
+pub returns : goal.returns
+returns c = let v = c.loop-i.invariant in
+    record { used = v.used; size = v.size; done = λ k l. v.done k (omega arith); below = v.below; above = λ k l. v.rest k (omega arith) }
