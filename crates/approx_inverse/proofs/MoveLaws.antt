@@ -1,5 +1,6 @@
 -- One move of one entry: what becomes of the residual and of the value.
-use Rattle.std.proofs.Common.{◌≡◌, ◌≢◌, inl, inr, ℕ, zero, suc, ◌<◌, ◌≤◌, [], ◌∷◌, nat_eq, if◌then◌else◌, ℤ, pos, negsuc, ◌+ℤ◌, ◌-ℤ◌, ◌*ℤ◌, ◌≤ℤ◌, ◌<ℤ◌, neg_ℤ, arith, ap, sym, ◌∙◌, refl}
+use Rattle.std.proofs.Common.{◌≡◌, ◌≢◌, ◌↔◌, false, IsTrue, inl, inr, ℕ, zero, suc, ◌<◌, ◌≤◌, [], ◌∷◌, nat_eq, if◌then◌else◌, ℤ, pos, negsuc, ◌+ℤ◌, ◌-ℤ◌, ◌*ℤ◌, ◌≤ℤ◌, ◌<ℤ◌, neg_ℤ, arith, ap, sym, ◌∙◌, refl}
+use lib.Signed.{lt_z}
 use Rattle.std.specs.Prelude.{FitsSigned, unsigned_abs, ◌^◌}
 use Rattle.std.specs.Int.{w128, int_div_euclid}
 use Rattle.std.proofs.lemmas.Int.{ints, by_lt_z}
@@ -246,3 +247,16 @@ measure_falls n h b x y floor convex lower = close (value n h b y) (value n h b 
   where
     close : (a e c : ℤ) → pos 0 ≤ℤ (a +ℤ c) → a <ℤ e → unsigned_abs (a +ℤ c) < unsigned_abs (e +ℤ c)
     close a e c p l = omega (arith, ints)
+
+-- ---- the test of a residual, whose twofold or the opposite of that is above the diagonal's entry
+pub wide_above : (r d : ℤ) → IsTrue (lt_z d (pos 2 *ℤ r)) → d <ℤ (pos 2 *ℤ absolute r)
+wide_above r d h = grind (arith, ints)
+
+pub wide_below : (r d : ℤ) → lt_z d (pos 2 *ℤ r) ≡ false → IsTrue (lt_z d (pos 0 -ℤ pos 2 *ℤ r)) ↔ (d <ℤ (pos 2 *ℤ absolute r))
+wide_below r d h = (told r d h, tell r d h)
+  where
+    told : (r d : ℤ) → lt_z d (pos 2 *ℤ r) ≡ false → IsTrue (lt_z d (pos 0 -ℤ pos 2 *ℤ r)) → d <ℤ (pos 2 *ℤ absolute r)
+    told r d h t = grind (arith, ints)
+
+    tell : (r d : ℤ) → lt_z d (pos 2 *ℤ r) ≡ false → d <ℤ (pos 2 *ℤ absolute r) → IsTrue (lt_z d (pos 0 -ℤ pos 2 *ℤ r))
+    tell r d h l = grind (arith, ints)

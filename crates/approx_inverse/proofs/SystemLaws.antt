@@ -1,6 +1,6 @@
 -- Lists that are multiplied, and their absolute sums.
 use Rattle.integer_algebra.proofs.Quoting.{by_ring, quotes}
-use Rattle.std.proofs.Common.{refl, sym, ap, ◌∙◌, [], ◌∷◌, ◌++◌, List, length, get_or, ◌≡◌, inl, inr, ℕ, zero, suc, ◌+◌, ◌^◌, ◌<◌, ◌≤◌, ℤ, pos, ◌*ℤ◌, ◌≤ℤ◌, unsigned_abs, arith}
+use Rattle.std.proofs.Common.{refl, sym, ap, ◌∙◌, [], ◌∷◌, ◌++◌, List, length, get_or, ◌≡◌, inl, inr, ℕ, zero, suc, ◌+◌, ◌-◌, ◌^◌, ◌<◌, ◌≤◌, ℤ, pos, ◌*ℤ◌, ◌≤ℤ◌, unsigned_abs, arith}
 use Rattle.std.proofs.lemmas.Int.{ints, unsigned_abs-mul}
 use Rattle.std.proofs.lemmas.Bool.{cases_lt}
 use Rattle.std.proofs.lemmas.Bool.Decides.{nat_tests}
@@ -44,6 +44,12 @@ factors p r w g = by_ring (p ∷ r ∷ w ∷ g ∷ []) (search quotes depth 60 f
 -- ---- the columns of a form
 pub column_of_state : (h : Form) (i j : ℕ) → i < h.states → solve_column h i j ≡ h.matrix_factor *ℤ h.numbers.linear j i
 column_of_state h i j l = grind (arith, nat_tests)
+
+pub column_of_constant : (h : Form) (i j : ℕ) → i ≡ h.states → solve_column h i j ≡ h.matrix_factor *ℤ h.numbers.constant j
+column_of_constant h i j l = grind (arith, nat_tests)
+
+pub column_of_row : (h : Form) (i j : ℕ) → h.states < i → solve_column h i j ≡ h.row_factor *ℤ h.numbers.by_plan (i - (h.states + 1)) j
+column_of_row h i j l = grind (arith, nat_tests)
 
 -- one more row of the matrix
 pub matrix_more : (h : Form) (old new : Matrix) (line : List ℤ) (i : ℕ) → new ≡ record old { rows = old.rows ++ line ∷ [] } → length old.rows ≡ i →
