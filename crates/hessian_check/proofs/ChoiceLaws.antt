@@ -1,6 +1,6 @@
 -- The numbers that are chosen.
 use Rattle.std.proofs.Common.{◌≡◌, inl, inr, ℕ, zero, suc, ◌+◌, ◌*◌, ◌^◌, ◌<◌, ◌≤◌, ◌⊎◌, min, ℤ, ◌≤ℤ◌, ◌<ℤ◌, Option, Some, None, arith, sym, ◌∙◌, refl, rules}
-use Rattle.std.specs.Prelude.{Result, Err, IsErrAnd, unwrap_or}
+use Rattle.std.specs.Prelude.{Result, IsErrAnd, unwrap_or}
 use Rattle.std.specs.Option.{option_or}
 use Rattle.integer_algebra.specs.Matrices.{IsDominant, off_diagonal_sum}
 use Rattle.qp_model.specs.Least.{IsLeast, IsLeastBelow}

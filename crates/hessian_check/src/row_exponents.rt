@@ -121,7 +121,21 @@ fn try_lower(
 {
     let i = before.len();
     let more = with_row(alloc, sums, &c.g, &c.g_rad, i, 1 << k)?;
-    if !is_list_accepted(alloc, c, &more, s, matrices)? {
+    let accepted = is_list_accepted(alloc, c, &more, s, matrices);
+    put_accepted(accepted, sums, more)
+}
+
+// Puts sums in the place of others where they are accepted.
+fn put_accepted(
+    accepted: Result<bool, AllocError>,
+    sums: &mut EncMat,
+    more: EncMat,
+) -> Result<bool, AllocError>
+    ensures same { result ≡ accepted }
+    ensures put { IfOk result (λ yes. IsTrue yes → sums.new ≡ more) }
+    ensures left { IfOk result (λ yes. ¬ IsTrue yes → sums.new ≡ sums.old) }
+{
+    if !accepted? {
         return Ok(false);
     }
     *sums = more;

@@ -37,6 +37,6 @@ overflow_add-result-2 c =
     rad_fits c.args.sum c.args.a c.args.b words c.requires _ _ _ c.unsigned_abs.ensures.value c.magnitude.ensures c.magnitude-2.ensures
 
 pub overflow_mul-mid : goal.overflow_mul-mid
-overflow_mul-mid c = 
+overflow_mul-mid c =
     let words : AreWords c.args.sum c.args.a c.args.b = record { sum_mid = search rules; sum_rad = search rules; a_mid = search rules; b_mid = search rules } in
     rw (to_z-of_z w128 _ words.a_mid, to_z-of_z w128 _ words.b_mid) (product_fits c.args.sum c.args.a c.args.b words c.requires)
