@@ -1,11 +1,11 @@
-use Rattle.std.proofs.Common.{◌+◌, ℤ, pos, length, arith, ap, ◌∙◌, refl}
+use Rattle.std.proofs.Common.{◌+◌, pos, length, arith, ap, ◌∙◌, refl}
 use Rattle.std.proofs.Math.ListN.{length-set}
 use Rattle.word_region.specs.Words.{RegionWords}
 use Rattle.approx_inverse.proofs.WordLaws.{step_above, step_below, write_step}
 use Rattle.approx_inverse.proofs.column.clear.Goals as goal
 
 pub loop-i-preserved : goal.loop-i-preserved
-loop-i-preserved c = 
+loop-i-preserved c =
     let ws = c.loop-i.region.words in
     let old = c.args.region.now.words in
     let start = c.args.s.now.start in

@@ -8,7 +8,7 @@ use Rattle.approx_inverse.proofs.WordLaws.{step_above, step_below, write_step}
 use Rattle.approx_inverse.proofs.column.double.Goals as goal
 
 pub loop-i-preserved : goal.loop-i-preserved
-loop-i-preserved c = 
+loop-i-preserved c =
     let ws = c.loop-i.region.words in
     let old = c.args.region.now.words in
     let start = c.args.s.now.start in
