@@ -10,6 +10,8 @@ pub mod StateFacts
 pub mod StageFacts
 pub mod RowFacts
 pub mod ColumnFacts
+pub mod UnitFacts
+pub mod CountedFacts
 -- ---- the condensed cost
 pub mod WeighedFacts
 pub mod CostFacts

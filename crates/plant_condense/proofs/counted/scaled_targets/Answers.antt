@@ -1,4 +1,4 @@
-use Rattle.std.proofs.Common.{◌≡◌, ◌*◌, ◌<◌, ◌≤◌, ℤ, ◌*ℤ◌, unsigned_abs, arith, ap, ◌∙◌, rules, refl}
+use Rattle.std.proofs.Common.{◌≡◌, ◌*◌, ◌<◌, ◌≤◌, ℤ, ◌*ℤ◌, unsigned_abs, arith, ap, ◌∙◌, rules, refl, ◌+◌}
 use Rattle.std.specs.Int.{w128}
 use mir.Val.{SFits}
 use Rattle.std.proofs.lemmas.Int.{to_z-of_z}
@@ -6,8 +6,9 @@ use Rattle.qp_model.specs.Parts.{design_of}
 use Rattle.qp_model.specs.Runs.{counts}
 use Rattle.plant_condense.specs.Costs.{target_of}
 use Rattle.plant_condense.proofs.Rooms.{read}
-use Rattle.plant_condense.proofs.Pushes.{pushed, holds_to}
+use Rattle.plant_condense.proofs.Pushes.{pushed, holds_to, no_entries}
 use Rattle.plant_condense.proofs.StageFacts.{lifted_fits, lifted}
+use Rattle.plant_condense.proofs.RowFacts.{stages_room}
 use Rattle.plant_condense.proofs.counted.scaled_targets.Goals as goal
 
 pub overflow_mul-scale : goal.overflow_mul-scale
@@ -31,3 +32,29 @@ returns c =
     let all : c.loop-c.c ≡ counts (design_of c.args.parts.now) = omega (arith, c.loop-c-test.false, ap (λ n. c.args.parts.now.stages * n) c.rows.ensures.count, c.rows-2.ensures.count) in
     holds_to _ _ _ (λ i. read c.args.scale *ℤ target_of (design_of c.args.parts.now) i) (λ i. c.args.scale *ℤ target_of (design_of c.args.parts.now) i)
     c.loop-c.invariant all (λ i l. ap (λ (z : ℤ). z *ℤ target_of (design_of c.args.parts.now) i) (to_z-of_z w128 _ c.ranges.scale))
+
+pub rows-requires : goal.rows-requires
+rows-requires c = tt
+
+pub rows-requires-2 : goal.rows-requires-2
+rows-requires-2 c = tt
+
+pub overflow_mul-count : goal.overflow_mul-count
+overflow_mul-count c =
+    omega (arith, stages_room c.args.parts.now c.requires.design c.rows.result (omega (arith, c.rows.ensures.count, c.requires.design.stage_cost.rows)))
+
+pub overflow_add-count : goal.overflow_add-count
+overflow_add-count c =
+    let room : c.args.parts.now.stages * c.rows.result ≤ 360 = stages_room c.args.parts.now c.requires.design c.rows.result (omega (arith, c.rows.ensures.count, c.requires.design.stage_cost.rows)) in
+    omega (arith, room, c.rows-2.ensures.count, c.requires.design.final_cost.rows)
+
+pub loop-c-init : goal.loop-c-init
+loop-c-init c = no_entries _ _ c.new-out.ensures.items
+
+pub target_at-requires-clause-design : goal.target_at-requires-clause-design
+target_at-requires-clause-design c = c.requires.design
+
+pub target_at-requires-clause-row : goal.target_at-requires-clause-row
+target_at-requires-clause-row c =
+    let count : c.args.parts.now.stages * c.rows.result + c.rows-2.result ≡ counts (design_of c.args.parts.now) = rw (c.rows.ensures.count, c.rows-2.ensures.count) refl in
+    omega (arith, c.loop-c-test.true, count)
