@@ -1,5 +1,6 @@
 -- Products of a row's first numbers with a list.
-use Rattle.std.proofs.Common.{◌≡◌, ℕ, ◌*◌, ◌^◌, ◌<◌, ◌≤◌, ℤ, pos, ◌*ℤ◌, List, length, take, unsigned_abs, arith, ap, sym, ◌∙◌, refl}
+use Rattle.std.proofs.Common.{◌≡◌, ℕ, ◌+◌, ◌*◌, ◌^◌, ◌<◌, ◌≤◌, ℤ, pos, ◌*ℤ◌, List, length, take, unsigned_abs, arith, ap, sym, ◌∙◌, refl}
+use Rattle.std.proofs.Math.Nat.{mul-le-mul_left}
 use Rattle.std.proofs.lemmas.List.{get_or-take, length-take-le}
 use Rattle.integer_algebra.specs.Sums.{at, dot}
 use Rattle.integer_algebra.specs.Sizes.{product_size}
@@ -23,3 +24,10 @@ taken_room row xs h k = rw (whole) (last _ k)
 
     last : (n : ℕ) → n ≤ 2 ^ 126 → n < 2 ^ 127
     last n l = omega arith
+
+-- the parts of a sum that fits
+pub first_room : (e s f : ℕ) → e + s * f ≤ 2 ^ 126 → e ≤ 2 ^ 126
+first_room e s f h = omega (arith, h)
+
+pub second_room : (e s f : ℕ) → 1 ≤ s → e + s * f ≤ 2 ^ 126 → f ≤ 2 ^ 126
+second_room e s f one h = omega (arith, mul-le-mul_left f one, h)

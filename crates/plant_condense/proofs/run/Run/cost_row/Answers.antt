@@ -9,6 +9,7 @@ use Rattle.qp_model.specs.Runs.{run, Holds}
 use Rattle.plant_condense.proofs.Pushes.{row_held}
 use Rattle.plant_condense.proofs.StateFacts.{denominator_positive}
 use Rattle.plant_condense.proofs.StageFacts.{held_size, held_dot, unlifted, lifted_fits, lifted}
+use Rattle.plant_condense.proofs.RowFacts.{stages_room}
 use Rattle.plant_condense.proofs.run.Run.cost_row.Goals as goal
 
 pub product-requires-clause-room : goal.product-requires-clause-room
@@ -63,3 +64,12 @@ returns c =
     let power : get_or c.args.self.now.powers.now (parts.stages - c.args.k) (pos 0) ≡ pos (unsigned_abs parts.plant_den ^ (parts.stages - c.args.k)) =
     made.ready.powers.is (parts.stages - c.args.k) (omega arith) in
     lifted _ _ _ g s small (rw power c.requires.slim) ∙ rw (power, value) refl
+
+pub overflow_sub-result : goal.overflow_sub-result
+overflow_sub-result c = omega (arith, c.requires.stage)
+
+pub offset_bounds-self-self : goal.offset_bounds-self-self
+offset_bounds-self-self c = omega (arith, stages_room c.args.self.now.parts.now c.args.self.now.made.ready.design 12 (omega arith))
+
+pub bounds-self-self : goal.bounds-self-self
+bounds-self-self c = omega (arith, c.args.self.now.made.ready.powers.long)
