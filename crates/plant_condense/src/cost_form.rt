@@ -1,7 +1,8 @@
 // The condensed cost.
-ghost use Rattle.std.specs.Prelude.{◌≤◌, ◌^◌, IfOk};
+ghost use Rattle.std.specs.Prelude.{◌≡◌, ◌≤◌, ◌^◌, pos, unsigned_abs, IfOk};
 ghost use Rattle.qp_model.specs.Parts.{design_of, IsDesign};
 ghost use Rattle.qp_model.specs.Quantities.{cost_entry_size};
+ghost use Rattle.plant_condense.specs.Form.{response_scale};
 ghost use Rattle.plant_condense.specs.Lists.{ArePowers};
 ghost use Rattle.plant_condense.specs.Numbers.{AreCostNumbers};
 
@@ -34,7 +35,24 @@ pub fn cost_numbers(
 {
     let power = last_power(parts, powers);
     let costs = Costs::new(alloc, parts, powers)?;
-    let hess = costs.hessian(alloc, square_scale(parts, power))?;
+    numbers_of(alloc, &costs, powers, power, square_scale(parts, power))
+}
+
+// The condensed cost of counted rows. `power` is the plant's denominator to the power of the stages, `square` the square of what the
+// responses are over.
+fn numbers_of(
+    alloc: Global,
+    costs: &Costs,
+    powers: &[i128],
+    power: i128,
+    square: i128,
+) -> Result<CostNumbers, AllocError>
+    requires powers { ArePowers costs.now.parts.now powers.now }
+    requires power { power ≡ pos (unsigned_abs costs.now.parts.now.plant_den ^ costs.now.parts.now.stages) }
+    requires square { square ≡ pos (response_scale (design_of costs.now.parts.now) ^ 2) }
+    ensures { IfOk result (λ r. AreCostNumbers (design_of costs.now.parts.now) r.hess r.lin r.off.items) }
+{
+    let hess = costs.hessian(alloc, square)?;
     let lin = costs.linear(alloc, powers)?;
     let off = costs.constant(alloc, power)?;
     Ok(CostNumbers { hess, lin, off })

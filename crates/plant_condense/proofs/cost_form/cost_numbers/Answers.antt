@@ -1,12 +1,8 @@
-use Rattle.plant_condense.proofs.CostFacts.{carried}
 use Rattle.std.proofs.Common.{rules, ◌∙◌}
 use Rattle.std.specs.Int.{w128}
 use mir.Val.{SFits}
 use Rattle.std.proofs.lemmas.Int.{to_z-of_z}
 use Rattle.plant_condense.proofs.cost_form.cost_numbers.Goals as goal
-
-pub returns : goal.returns
-returns c = carried _ _ c.in_ok-costs.ensures _ _ _ (record { hessian = c.in_ok-hess.ensures; linear = c.in_ok-lin.ensures; constant = c.in_ok-off.ensures })
 
 pub last_power-power-requires : goal.last_power-power-requires
 last_power-power-requires c = c.requires.powers
@@ -31,15 +27,18 @@ square_scale-requires-clause-power c =
     let f : SFits w128 c.last_power-power.result = search rules in
     to_z-of_z w128 _ f ∙ c.last_power-power.ensures
 
-pub hessian-requires : goal.hessian-requires
-hessian-requires c =
+pub numbers_of-requires-clause-powers : goal.numbers_of-requires-clause-powers
+numbers_of-requires-clause-powers c = rw c.in_ok-costs.ensures c.requires.powers
+
+pub numbers_of-requires-clause-power : goal.numbers_of-requires-clause-power
+numbers_of-requires-clause-power c =
+    let f : SFits w128 c.last_power-power.result = search rules in
+    rw c.in_ok-costs.ensures (to_z-of_z w128 _ f ∙ c.last_power-power.ensures)
+
+pub numbers_of-requires-clause-square : goal.numbers_of-requires-clause-square
+numbers_of-requires-clause-square c =
     let f : SFits w128 c.square_scale.result = search rules in
     rw c.in_ok-costs.ensures (to_z-of_z w128 _ f ∙ c.square_scale.ensures)
 
-pub linear-requires : goal.linear-requires
-linear-requires c = rw c.in_ok-costs.ensures c.requires.powers
-
-pub constant-requires : goal.constant-requires
-constant-requires c =
-    let f : SFits w128 c.last_power-power.result = search rules in
-    rw c.in_ok-costs.ensures (to_z-of_z w128 _ f ∙ c.last_power-power.ensures)
+pub returns : goal.returns
+returns c = rw c.in_ok-costs.ensures at c.numbers_of.ensures
