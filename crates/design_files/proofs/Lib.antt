@@ -1,5 +1,6 @@
 pub mod NumberLaws
 pub mod ReadLaws
+pub mod PartLaws
 pub mod KeyLaws
 pub mod PlaceLaws
 pub mod TextLaws

@@ -1,12 +1,15 @@
 //! The places of a design text, read in their order.
-ghost use Rattle.std.specs.Prelude.{◌≡◌, ◌⊎◌, ◌≤◌, ◌+◌, ◌++◌, Some, Err, IfOk, IfErr, IsOkAnd};
+ghost use Rattle.std.specs.Prelude.{◌≡◌, ◌⊎◌, ℕ, ◌<◌, ◌≤◌, ◌+◌, ◌≤ℤ◌, ◌++◌, [], ◌∷◌, length, Some, Err, IfOk, IfErr, IsOkAnd};
+ghost use Rattle.integer_algebra.specs.Sums.{at};
 ghost use Rattle.toml.specs.View.{view};
 ghost use Rattle.qp_model.specs.declared.design_parts.DesignParts.{DesignParts};
 ghost use Rattle.qp_model.specs.declared.text_fault.TextFault.{TextFault};
 ghost use Rattle.qp_model.specs.Limits.{last_version, most_states, most_inputs};
 ghost use Rattle.qp_model.specs.Parts.{IsDesign, design_numbers};
+ghost use Rattle.qp_model.specs.PartRules.{AreHighs, AreLimits};
+ghost use Rattle.qp_model.specs.Rules.{shape, range};
 ghost use Rattle.design_files.specs.Document.{document_of};
-ghost use Rattle.design_files.specs.Numbers.{count_of};
+ghost use Rattle.design_files.specs.Numbers.{IsList, IsLists, count_of, list_of, lists_of};
 ghost use Rattle.design_files.specs.Keys.{seen};
 ghost use Rattle.design_files.specs.Values.{Values};
 ghost use Rattle.design_files.specs.Places.{count_rules, denominator_rules, positive_rules, table_rules, cost_row_rules, input_rules, final_row_rules, low_rules, high_rules, size_places, plant_places, cost_places, limit_places, box_places, target_places, place_rules};
@@ -260,6 +263,29 @@ fn read_low(alloc: Global, value: &Value, n: usize) -> Result<Vec<i128>, TextFau
     Ok(low)
 }
 
+// As many numerators as low ones, each at least the low one at its place.
+fn read_high(alloc: Global, value: &Value, low: &[i128]) -> Result<Vec<i128>, TextFault>
+    ensures { let seen = Some (view value.now) in let n = length low.now in
+        Reads result (λ zs. HasLine seen n zs.items × ((i : ℕ) → i < n → at low.now i ≤ℤ at zs.items i))
+        (shape 18 (IsList n seen) ∷ range 18 (AreHighs (list_of seen) low.now n) ∷ []) }
+{
+    let high = list(alloc, 18, value, low.len())?;
+    in_range(18, are_highs(&high, low))?;
+    Ok(high)
+}
+
+// Rows of n coefficients and a bound, where there is one here or among the others.
+fn read_final_rows(alloc: Global, value: &Value, others: &Mat, n: usize) -> Result<Mat, TextFault>
+    requires { n ≤ most_states last_version }
+    ensures { let seen = Some (view value.now) in
+        Reads result (λ m. HasTable seen 0 12 (n + 1) m × (1 ≤ length others.now.rows + length m.rows))
+        (shape 15 (IsLists 0 12 (n + 1) seen) ∷ range 15 (AreLimits (lists_of seen) others.now.rows) ∷ []) }
+{
+    let m = lists(alloc, 15, value, 0, 12, n + 1)?;
+    in_range(15, are_limits(&m, others))?;
+    Ok(m)
+}
+
 fn read_sizes(keys: &Keys) -> Result<Sizes, TextFault>
     ensures { let v = seen keys.now in Reads result (HasSizeNumbers v) (size_places v) }
 {
@@ -306,8 +332,7 @@ fn read_limits(alloc: Global, keys: &Keys, n: usize, p: usize) -> Result<LimitNu
     let keys = &keys.limits;
     let den = read_denominator(13, keys.den)?;
     let stage = read_table(alloc, 14, keys.stage, 0, 12, n + p + 1)?;
-    let final_ = lists(alloc, 15, keys.final_, 0, 12, n + 1)?;
-    in_range(15, are_limits(&final_, &stage))?;
+    let final_ = read_final_rows(alloc, keys.final_, &stage, n)?;
     Ok(LimitNumbers { den, stage, final_ })
 }
 
@@ -317,8 +342,7 @@ fn read_box(alloc: Global, keys: &Keys, n: usize) -> Result<BoxNumbers, TextFaul
     let keys = &keys.box_;
     let grid = read_count(16, keys.grid, 0, 24)? as u32;
     let lo = read_low(alloc, keys.lo, n)?;
-    let hi = list(alloc, 18, keys.hi, n)?;
-    in_range(18, are_highs(&hi, &lo))?;
+    let hi = read_high(alloc, keys.hi, &lo)?;
     Ok(BoxNumbers { grid, lo, hi })
 }
 
