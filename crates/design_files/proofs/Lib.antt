@@ -1,6 +1,7 @@
 pub mod NumberLaws
 pub mod ReadLaws
 pub mod PartLaws
+pub mod FoundLaws
 pub mod KeyLaws
 pub mod PlaceLaws
 pub mod TextLaws
