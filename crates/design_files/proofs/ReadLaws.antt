@@ -1,10 +1,8 @@
 -- What a reader answers, from what the readers below it do.
-use Rattle.std.proofs.Common.{◌≡◌, List, [], ◌∷◌, ◌++◌, Result, Ok, Err, inl, inr}
+use Rattle.std.proofs.Common.{◌≡◌, List, ◌++◌, Result, Ok, Err, inl, inr}
 use Rattle.qp_model.specs.declared.text_fault.TextFault.{TextFault}
-use Rattle.std.specs.Prelude.{OnOk, IfErr}
 use Rattle.std.specs.Result.{IsErrAnd}
-use Rattle.qp_model.specs.declared.text_fault.TextFault.TheVariants.{Key}
-use Rattle.qp_model.specs.Rules.{Rule, AllHold, IsFirstBroken, Tests, key}
+use Rattle.qp_model.specs.Rules.{Rule, AllHold, IsFirstBroken}
 use Rattle.qp_model.proofs.RuleLaws.{broken_before, broken_after}
 use Rattle.design_files.specs.DesignText.{FailsRule, Reads}
 
@@ -26,12 +24,3 @@ fails_after rules more fault held failed = elim failed [ inl none ↦ inl none |
 pub passes_on : {X : Type 0} (answer : Result X TextFault) (P : X → Type 0) (rules : List Rule) (fault : TextFault) → IsErrAnd answer (λ told. told ≡ fault) → FailsRule fault rules → Reads answer P rules
 passes_on (Ok x) P rules fault passed failed = absurd passed
 passes_on (Err told) P rules fault passed failed = rw passed failed
-
--- ---- a test of rules one after another
-pub test_next : (rule : Rule) (rules : List Rule) (answer : Result (Unit {0}) TextFault) → rule.holds → Tests answer rules → Tests answer (rule ∷ rules)
-test_next rule rules (Ok done) held rest = (held, rest)
-test_next rule rules (Err fault) held rest = inr (held, rest)
-
-pub test_last : (P : Type 0) (answer : Result (Unit {0}) TextFault) → OnOk answer P → IfErr answer (λ fault. (fault ≡ Key 0) × ¬ P) → Tests answer (key 0 P ∷ [])
-test_last P (Ok done) ok err = (ok, tt)
-test_last P (Err fault) ok err = inl (err.1, err.0)

@@ -248,21 +248,13 @@ fn refuse_further_keys(document: &Table, keys: &Keys) -> Result<(), TextFault>
     requires targets { AreTargets (table_view document.now) keys.now.targets }
     ensures { Tests result (further_keys (table_view document.now)) }
 {
-    refuse_others(document, TOP)?;
-    refuse_others(keys.plant.table, PLANT)?;
-    refuse_others(keys.cost.table, COST)?;
-    refuse_others(keys.limits.table, LIMITS)?;
-    refuse_others(keys.box_.table, BOX)?;
-    refuse_others(keys.targets.table, TARGETS)
-}
-
-// The fault where a key of the table is none of these.
-fn refuse_others(table: &Table, names: &[&str]) -> Result<(), TextFault>
-    ensures ok { OnOk result (HasOnly (map (λ name. name.now) names.now) (table_view table.now)) }
-    ensures err { IfErr result (λ fault. (fault ≡ TextFault.Key 0)
-        × ¬ HasOnly (map (λ name. name.now) names.now) (table_view table.now)) }
-{
-    if has_only(table, names) {
+    let only_known = has_only(document, TOP)
+        & has_only(keys.plant.table, PLANT)
+        & has_only(keys.cost.table, COST)
+        & has_only(keys.limits.table, LIMITS)
+        & has_only(keys.box_.table, BOX)
+        & has_only(keys.targets.table, TARGETS);
+    if only_known {
         Ok(())
     } else {
         Err(TextFault::Key { place: 0 })
