@@ -1,5 +1,5 @@
 -- The sums of the condensed cost fit.
-use Rattle.std.proofs.Common.{◌≡◌, ◌≢◌, inl, inr, ℕ, zero, suc, ◌+◌, ◌*◌, ◌%◌, ◌^◌, ◌<◌, ◌≤◌, ℤ, pos, ◌+ℤ◌, ◌*ℤ◌, neg_ℤ, List, length, set, unsigned_abs, All, FitsSigned, arith, ap, sym, subst, ◌∙◌, refl}
+use Rattle.std.proofs.Common.{◌≡◌, ◌≢◌, inl, inr, ℕ, zero, suc, ◌+◌, ◌*◌, ◌%◌, ◌^◌, ◌<◌, ◌≤◌, ℤ, pos, ◌+ℤ◌, ◌*ℤ◌, neg_ℤ, List, length, set, unsigned_abs, All, FitsSigned, arith, ap, sym, ◌∙◌, refl}
 use mathlib.Core.Path.{fun_ext}
 use Rattle.std.proofs.lemmas.Int.{ints, unsigned_abs-mul}
 use Rattle.std.proofs.lemmas.Bool.{cases_eq, eq-eqb}
@@ -22,9 +22,7 @@ use Rattle.qp_model.specs.Runs.{counts, Holds}
 use Rattle.qp_model.proofs.RunLaws.{abs-add_le}
 use Rattle.qp_model.proofs.SizeFacts.{some_weight, some_cost}
 use Rattle.qp_model.proofs.QuantityLaws.{weights_size, plan_cost_size, target_width, powered_size}
-use Rattle.mat_int.specs.Matrix.{Matrix}
 use Rattle.plant_condense.specs.Form.{response_scale}
-use Rattle.plant_condense.specs.Numbers.{AreCostNumbers}
 use Rattle.plant_condense.specs.Costs.{plan_cost, weight_of, target_of, weighed, own_cost}
 use Rattle.plant_condense.proofs.WeighedFacts.{products_room}
 
@@ -227,7 +225,3 @@ abs-neg m = omega (arith, ints)
 pub weighed_function : (d : Design) (xs : List ℤ) (f : ℕ → ℤ) → Holds xs (counts d) f →
     (let g : ℕ → ℤ = λ j. weighed d j (at xs) in let h : ℕ → ℤ = λ j. weighed d j f in g ≡ h)
 weighed_function d xs f h = fun_ext (λ j. weighed_same d j (at xs) f h.is)
-
--- the same numbers of an equal design
-pub carried : (p q : DesignParts) → p ≡ q → (h l : Matrix) (o : List ℤ) → AreCostNumbers (design_of p) h l o → AreCostNumbers (design_of q) h l o
-carried p q e h l o k = subst (λ (x : DesignParts). AreCostNumbers (design_of x) h l o) e k
