@@ -5,7 +5,7 @@ use Rattle.qp_model.specs.Class.{form_in, row_quantity, curvature_with}
 use Rattle.qp_model.specs.CurvatureSize.{covering_exponent}
 use Rattle.qp_model.specs.Design.{entries}
 use Rattle.qp_model.specs.Parts.{design_of}
-use Rattle.plant_condense.proofs.LeastLaws.{exponent_is}
+use Rattle.plant_condense.proofs.LeastLaws.{exponent_is, few}
 use Rattle.plant_condense.proofs.LimitFacts.{limited_by}
 use Rattle.plant_condense.proofs.limit.is_limited_with.Goals as goal
 
@@ -35,3 +35,13 @@ returns c = λ fine p f.
     c.row_quantity.ensures ∙ ap₂ (λ (b : Bool) (n : ℕ). row_quantity b c.args.size n) f.class (c.rows.ensures.count ∙ f.shapes.hess.rows) in
     limited_by c.curvature_of-size.result c.is_some.result (curvature_with fine d c.args.size) c.is_some.ensures
     (rw (e, s.limit_den, s.cost_row, s.weight_den, s.cost_row_den, row) at c.curvature_of-size.ensures)
+
+pub squares_exponent-requires : goal.squares_exponent-requires
+squares_exponent-requires c = c.requires
+
+pub scales_of-scales-requires : goal.scales_of-scales-requires
+scales_of-scales-requires c = c.requires
+
+pub curvature_of-size-requires-clause-exponent : goal.curvature_of-size-requires-clause-exponent
+curvature_of-size-requires-clause-exponent c =
+    rw c.unwrap_or-exponent.ensures (few _ c.squares_exponent.result (c.squares_exponent.ensures c.requires.fine c.requires.parts c.requires.form))

@@ -32,3 +32,21 @@ returns c =
       state = c.in_ok-e.ensures;
       bound = rw (to_z-of_z w128 _ f, c.last_power.ensures) at c.in_ok-bound.ensures;
     }
+
+pub plan_columns-requires-clause-design : goal.plan_columns-requires-clause-design
+plan_columns-requires-clause-design c = c.requires.design
+
+pub plan_columns-requires-clause-powers : goal.plan_columns-requires-clause-powers
+plan_columns-requires-clause-powers c = c.requires.powers
+
+pub state_columns-requires-clause-design : goal.state_columns-requires-clause-design
+state_columns-requires-clause-design c = c.requires.design
+
+pub state_columns-requires-clause-powers : goal.state_columns-requires-clause-powers
+state_columns-requires-clause-powers c = c.requires.powers
+
+pub scaled_bounds-requires-clause-design : goal.scaled_bounds-requires-clause-design
+scaled_bounds-requires-clause-design c = c.requires.design
+
+pub last_power-requires : goal.last_power-requires
+last_power-requires c = c.requires.powers

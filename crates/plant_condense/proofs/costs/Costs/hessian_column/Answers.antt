@@ -1,6 +1,7 @@
 use Rattle.std.proofs.Common.{rules, ◌≡◌, ℕ, ◌≤◌, ◌^◌, pos, ◌+ℤ◌, unsigned_abs, arith, ◌∙◌, refl}
 use Rattle.std.specs.Int.{w128}
 use mir.Val.{SFits}
+use Rattle.std.proofs.lemmas.Int.{to_z-of_z}
 use Rattle.std.proofs.lemmas.List.{get_or_default}
 use Rattle.qp_model.specs.Design.{entries}
 use Rattle.qp_model.specs.Parts.{design_of}
@@ -60,3 +61,9 @@ returns c =
     let sum : unsigned_abs (c.index_mut.result.now +ℤ c.own.result) ≤ 2 ^ 126 = rw (old, c.own.ensures) (last _ _ (diagonal_small c.args.self.now.parts.now made.design c.args.j c.args.j) made.fits) in
     diagonal_added c.in_ok-column.column.items (entries d) c.args.j _ (λ i. weighed d i (plan_cost d c.args.j)) (λ i. own_cost d i c.args.j) column c.requires.entry
     (sum_read c.index_mut.result.now c.own.result t s sum ∙ rw (old, c.own.ensures) refl) (own_elsewhere d c.args.j)
+
+pub own-requires-clause-entry : goal.own-requires-clause-entry
+own-requires-clause-entry c = c.requires.entry
+
+pub own-requires-clause-square : goal.own-requires-clause-square
+own-requires-clause-square c = rw (to_z-of_z w128 _ c.ranges.square) c.requires.square
