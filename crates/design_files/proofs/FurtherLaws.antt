@@ -1,5 +1,5 @@
 -- What tests of keys one after another answer, where all are made and the fault is the same.
-use Rattle.std.proofs.Common.{◌≡◌, ◌↔◌, IsTrue, Bool, true, false, List, [], ◌∷◌, ◌++◌, Option, Some, Result, Ok, Err, inl, inr, refl}
+use Rattle.std.proofs.Common.{◌≡◌, ◌↔◌, IsTrue, Bool, true, false, List, [], ◌∷◌, ◌++◌, Option, Some, Result, Ok, Err, inl, refl}
 use Rattle.std.specs.Prelude.{◌&&◌, IfSome}
 use Rattle.toml.specs.Data.{Members}
 use Rattle.qp_model.specs.Rules.{Rule, AllHold, IsFirstBroken, Tests, key}

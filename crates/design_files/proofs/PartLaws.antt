@@ -1,6 +1,5 @@
 -- What a reader of several parts answers, from what the readers of the parts do.
-use Rattle.std.proofs.Common.{◌≡◌, ℕ, ◌+◌, ◌<◌, ◌++◌, [], ◌∷◌, ℤ, ◌≤ℤ◌, List, length, Option, Some, inl, inr}
-use Rattle.integer_algebra.specs.Sums.{at}
+use Rattle.std.proofs.Common.{◌≡◌, ℕ, ◌+◌, ◌++◌, [], ◌∷◌, ℤ, List, length, Option, Some, inl, inr}
 use Rattle.mat_int.specs.Matrix.{Matrix}
 use Rattle.toml.specs.Data.{Data}
 use Rattle.qp_model.specs.PartRules.{AreLimits, AreHighs}
