@@ -1,6 +1,8 @@
 -- Which class a design is of, by what is known of its exact form.
-use Rattle.std.proofs.Common.{◌≡◌, ℕ, ◌^◌, ◌<◌, ◌≤◌, ◌↔◌, max, Bool, true, false, Option, Some, None, nat_lt, arith, sym, subst, refl}
-use Rattle.std.specs.Prelude.{IsTrue, IsSome}
+use Rattle.std.proofs.Common.{◌≡◌, ℕ, ◌^◌, ◌<◌, ◌≤◌, ◌↔◌, max, Bool, true, false, Option, Some, None, nat_lt, arith, ap, sym, subst, refl, Result, Ok, Err}
+use Rattle.std.specs.Prelude.{IsTrue, IsSome, IfSome}
+use Rattle.std.specs.Bool.{then_some}
+use Rattle.std.specs.Result.{IsErrAnd}
 use Rattle.std.proofs.lemmas.Bool.{lt-ltb, le-ltb, ltb-false}
 use Rattle.qp_model.specs.declared.quantity.Quantity.{Quantity}
 use Rattle.qp_model.specs.declared.quantity.Quantity.TheVariants.{Prediction, Hessian, Rows}
@@ -10,7 +12,9 @@ use Rattle.qp_model.specs.Parts.{design_of}
 use Rattle.qp_model.specs.Quantities.{prediction_size, hessian_size, rows_size}
 use Rattle.qp_model.specs.FineSizes.{exact_curvature_size, is_fine}
 use Rattle.plant_condense.specs.declared.condensed.Condensed.{Condensed}
-use Rattle.plant_condense.specs.Form.{IsFormIn}
+use Rattle.plant_condense.specs.declared.fault.CondenseFault.{CondenseFault}
+use Rattle.plant_condense.specs.declared.fault.CondenseFault.TheVariants.{Memory}
+use Rattle.plant_condense.specs.Form.{IsFormIn, IsFormOf}
 use Rattle.plant_condense.specs.Fault.{IsFirstWideIn, IsFirstWideForm}
 
 -- ---- plain numbers
@@ -43,12 +47,14 @@ absent : (o : Option Condensed) → o ≡ None → IsSome o → ⊥
 absent (Some x) e s = cc
 absent None e s = cc
 
-module _ (P : Type 0) (limited : Bool) (form : Option Condensed) (class : IsTrue limited ↔ P) where
-  pub given : (c : Condensed) → limited ≡ true → form ≡ Some c → IsSome form ↔ P
-  given c t is = ((λ s. class.0 t), (λ h. rw is refl))
+-- where the test holds, and none elsewhere
+pub chosen : (P : Type 0) (limited : Bool) (c : Condensed) (form : Option Condensed) → form ≡ then_some limited c → IsTrue limited ↔ P → IsSome form ↔ P
+chosen P true c form is class = ((λ s. class.0 refl), (λ h. rw is refl))
+chosen P false c form is class = ((λ s. absurd (absent form is s)), (λ h. absurd (apart (class.1 h) refl)))
 
-  pub withheld : limited ≡ false → form ≡ None → IsSome form ↔ P
-  withheld f is = ((λ s. absurd (absent form is s)), (λ h. absurd (apart (class.1 h) f)))
+pub kept : (P : Condensed → Type 0) (limited : Bool) (c : Condensed) (form : Option Condensed) → form ≡ then_some limited c → P c → IfSome form P
+kept P true c form is h = rw is h
+kept P false c form is h = rw is tt
 
 -- ---- the class
 -- a quantity of the exact form is above the limit
@@ -69,14 +75,23 @@ limited_class p c limited is within curved = (
     d : Design
     d = design_of p
 
+-- an exact form is the design's
+pub exact_held : (p : DesignParts) (form : Option Condensed) (c : Condensed) → form ≡ Some c → IsSome form ↔ (is_fine (design_of p) ≡ false) →
+    IfSome form (λ condensed. IsFormIn false p condensed) → IsFormOf p c
+exact_held p form c is class held = subst (λ (b : Bool). IsFormIn b p c) (sym (class.0 (rw is refl))) (rw is at held)
+
 -- ---- what is refused
+pub out_of_memory : (r : Result Condensed CondenseFault) → IsErrAnd r (λ e. e ≡ Memory) → r ≡ Err Memory
+out_of_memory (Ok x) h = absurd h
+out_of_memory (Err e) h = ap (λ (fault : CondenseFault). Err fault) h
+
 -- no quantity of an exact design's form is above the limit
 pub none_wide : (d : Design) (q : Quantity) → is_fine d ≡ false → IsFirstWideForm d q → ⊥
 none_wide d q e h = apart (wide_class d q (subst (λ (b : Bool). IsFirstWideIn b d q) e h)) e
 
 -- those of the enclosures are the ones that count, where there is no exact form
 module _ (d : Design) (form : Option Condensed) (class : IsSome form ↔ (is_fine d ≡ false)) (none : form ≡ None) where
-  fine : is_fine d ≡ true
+  pub fine : is_fine d ≡ true
   fine = other (is_fine d) (λ e. absent form none (class.1 e))
     where
       other : (b : Bool) → (b ≡ false → ⊥) → b ≡ true

@@ -23,11 +23,7 @@ fn exact_form(alloc: Global, design: &Design) -> Result<Option<Condensed>, Alloc
     ensures class { IfOk result (λ form. IsSome form ↔ (is_fine (design_of design.now) ≡ false)) }
 {
     match condense_exact(alloc, design) {
-        Ok(condensed) => Ok(if is_curvature_limited(&condensed) {
-            Some(condensed)
-        } else {
-            None
-        }),
+        Ok(condensed) => Ok(is_curvature_limited(&condensed).then_some(condensed)),
         Err(CondenseFault::TooWide { .. }) => Ok(None),
         Err(CondenseFault::Memory) => Err(AllocError),
     }

@@ -4,21 +4,21 @@ use Rattle.qp_model.specs.declared.quantity.Quantity.TheVariants.{Prediction}
 use Rattle.qp_model.specs.Parts.{design_of}
 use Rattle.qp_model.specs.Quantities.{prediction_size}
 use Rattle.qp_model.specs.FineSizes.{is_fine}
+use Rattle.plant_condense.specs.Form.{IsFormIn}
 use Rattle.plant_condense.specs.declared.fault.CondenseFault.{CondenseFault}
-use Rattle.class_choice.proofs.ClassFacts.{limited_class, wide_class, given, withheld}
+use Rattle.class_choice.proofs.ClassFacts.{limited_class, wide_class, chosen, kept}
 use Rattle.class_choice.proofs.choice.exact_form.Goals as goal
-use Rattle.class_choice.proofs.choice.exact_form.Goals.{then-is_curvature_limited, else-is_curvature_limited}
 
-pub returns-after-is_curvature_limited-clause-class : goal.returns-after-is_curvature_limited-clause-class
-returns-after-is_curvature_limited-clause-class c =
+pub returns-in-Ok-clause-form : goal.returns-in-Ok-clause-form
+returns-in-Ok-clause-form c = kept (λ condensed. IsFormIn false c.args.design.now condensed) _ c.in-Ok.condensed c.then_some.result c.then_some.ensures c.in-Ok.ensures.form
+
+pub returns-in-Ok-clause-class : goal.returns-in-Ok-clause-class
+returns-in-Ok-clause-class c =
     let p = c.args.design.now in
     let within : 2 ^ 126 < prediction_size (design_of p) → ⊥ = λ h. (let e = (c.in-Ok.ensures.wide Prediction).1 h in cc) in
     let class : IsTrue c.is_curvature_limited.result ↔ (is_fine (design_of p) ≡ false) =
     limited_class p c.in-Ok.condensed c.is_curvature_limited.result c.in-Ok.ensures.form within (c.is_curvature_limited.ensures false p c.in-Ok.ensures.form) in
-    elim c.if-is_curvature_limited.branch [
-      | then-is_curvature_limited w ↦ given (is_fine (design_of p) ≡ false) c.is_curvature_limited.result c.if-is_curvature_limited.result class _ w.if-is_curvature_limited.true w.result-is
-      | else-is_curvature_limited w ↦ withheld (is_fine (design_of p) ≡ false) c.is_curvature_limited.result c.if-is_curvature_limited.result class w.if-is_curvature_limited.false w.result-is
-    ]
+    chosen (is_fine (design_of p) ≡ false) c.is_curvature_limited.result c.in-Ok.condensed c.then_some.result c.then_some.ensures class
 
 pub returns-in-Err-TooWide-clause-class : goal.returns-in-Err-TooWide-clause-class
 returns-in-Err-TooWide-clause-class c =

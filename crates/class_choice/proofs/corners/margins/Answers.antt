@@ -1,9 +1,18 @@
-use Rattle.std.proofs.Common.{Err, ap, ◌∙◌}
+use Rattle.std.proofs.Common.{Err, ap, refl, ◌∙◌}
 use Rattle.slater_margin.specs.declared.fault.MarginFault.{MarginFault}
 use Rattle.class_choice.proofs.CornerFacts.{exact_answer, fine_answer}
 use Rattle.class_choice.proofs.corners.margins.Goals as goal
 
 -- ---- in enclosures
+pub margins_fine-requires : goal.margins_fine-requires
+margins_fine-requires c = c.requires
+
+pub returns-in-Err-TooWide-clause-slack : goal.returns-in-Err-TooWide-clause-slack
+returns-in-Err-TooWide-clause-slack c = c.margins_fine.ensures.slack
+
+pub returns-in-Err-TooWide-clause-cost : goal.returns-in-Err-TooWide-clause-cost
+returns-in-Err-TooWide-clause-cost c = c.margins_fine.ensures.cost
+
 pub returns-in-Err-TooWide-clause-room : goal.returns-in-Err-TooWide-clause-room
 returns-in-Err-TooWide-clause-room c =
     let e = c.margins_fine.ensures in
@@ -35,6 +44,18 @@ returns-in-Err-TooWide-clause-no_give_up c =
     (record { room = e.room; margin = e.margin; wide = e.wide; short = e.short; no_give_up = e.no_give_up })).no_give_up
 
 -- ---- in exact numbers
+pub margins_exact-requires : goal.margins_exact-requires
+margins_exact-requires c = c.requires
+
+pub returns-in-Ok-clause-slack : goal.returns-in-Ok-clause-slack
+returns-in-Ok-clause-slack c = c.in-Ok.ensures.slack
+
+pub returns-in-Ok-clause-cost : goal.returns-in-Ok-clause-cost
+returns-in-Ok-clause-cost c = c.in-Ok.ensures.cost
+
+pub returns-in-Ok-clause-short : goal.returns-in-Ok-clause-short
+returns-in-Ok-clause-short c = λ corner row slack e. absurd (cc)
+
 pub returns-in-Ok-clause-room : goal.returns-in-Ok-clause-room
 returns-in-Ok-clause-room c =
     let e = c.margins_exact.ensures in
@@ -69,3 +90,12 @@ pub returns-in-Err-Memory-clause-wide : goal.returns-in-Err-Memory-clause-wide
 returns-in-Err-Memory-clause-wide c =
     let e = c.margins_exact.ensures in
     (exact_answer _ _ _ _ (c.in-Err-Memory.is ∙ ap (λ (f : MarginFault). Err f) c.in-Err-Memory.field-0-is) (λ q f. (cc)) (record { room = e.room; margin = e.margin; wide = e.wide; short = e.short; no_give_up = e.no_give_up })).wide
+
+pub returns-in-Err-NoMargin-clause-no_give_up : goal.returns-in-Err-NoMargin-clause-no_give_up
+returns-in-Err-NoMargin-clause-no_give_up c = λ corner row slack short. refl
+
+pub returns-in-Err-Memory-clause-short : goal.returns-in-Err-Memory-clause-short
+returns-in-Err-Memory-clause-short c = λ corner row slack e. absurd (cc)
+
+pub returns-in-Err-Memory-clause-no_give_up : goal.returns-in-Err-Memory-clause-no_give_up
+returns-in-Err-Memory-clause-no_give_up c = λ corner row slack short. refl
