@@ -18,8 +18,8 @@ use Rattle.qp_model.specs.Printed.{Printed}
 use Rattle.overflow_check.specs.Width.{IsWidth}
 use Rattle.hessian_check.proofs.RowExponentLaws.{one_list_law}
 use Rattle.bit_choice.specs.Choice.{IsChoice}
-use Rattle.design_engine.proofs.Classes.{entries_are, states_are, rows_are}
-use Rattle.design_engine.proofs.Tables.{row_long, shape_as, plan_long}
+use Rattle.controller_maker.proofs.Classes.{entries_are, states_are, rows_are}
+use Rattle.controller_maker.proofs.Tables.{row_long, shape_as, plan_long}
 use Rattle.design_engine.specs.Targets.{Targets, targets_of, half_target, error_limit}
 use Rattle.design_engine.specs.Bounds.{margin_of, printed_multiplier}
 use Rattle.design_engine.specs.Built.{IsBuilt}

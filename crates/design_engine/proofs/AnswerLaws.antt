@@ -30,10 +30,6 @@ pub ok_map : {T E : Type 0} (r : Result T E) (p q : T → Type 0) → IfOk r p �
 ok_map (Ok x) p q h f = f x h
 ok_map (Err e) p q h f = h
 
-pub ok_both : {T E : Type 0} (r : Result T E) (p q s : T → Type 0) → IfOk r p → IfOk r q → ((x : T) → p x → q x → s x) → IfOk r s
-ok_both (Ok x) p q s h k f = f x h k
-ok_both (Err e) p q s h k f = h
-
 pub absent_of_error : {T E : Type 0} (r : Result T E) (p : T → Type 0) → IsErr r → IfOk r p
 absent_of_error (Ok x) p h = absurd (search rules)
 absent_of_error (Err e) p h = tt

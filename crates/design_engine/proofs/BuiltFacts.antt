@@ -1,8 +1,7 @@
 -- What passes every test is built.
-use Rattle.std.proofs.Common.{◌≡◌, inl, inr, ℕ, ◌≤◌, List, length, replicate, arith, refl, ap, sym, subst, ◌∙◌, le_refl}
+use Rattle.std.proofs.Common.{◌≡◌, inl, inr, ℕ, ◌≤◌, List, arith, refl, ap, sym, subst, ◌∙◌}
 use Rattle.std.proofs.lemmas.Bool.{cases_eq}
-use Rattle.std.proofs.lemmas.List.{length-replicate}
-use Rattle.std.proofs.lemmas.List.Elements.{All-from_get_or, All-replicate}
+use Rattle.std.proofs.lemmas.List.Elements.{All-from_get_or}
 use Rattle.qp_model.specs.Parts.{IsDesign, design_of}
 use Rattle.qp_model.specs.Policy.{Plans, IsPolicyFor}
 use Rattle.qp_model.specs.Curvature.{AreExponents}
@@ -21,7 +20,8 @@ use Rattle.hessian_check.specs.Steps.{IsExponentOf}
 use Rattle.hessian_check.specs.RowExponents.{exponent_in, AreExponentsOf}
 use Rattle.design_engine.specs.Targets.{targets_of, half_target}
 use Rattle.design_engine.specs.Bounds.{margin_of, AreBoundsOf}
-use Rattle.design_engine.specs.Assembled.{HasExponents, IsAssembled}
+use Rattle.controller_maker.specs.Assembled.{HasExponents, IsAssembled}
+use Rattle.controller_maker.proofs.RowExponents.{repeated_exponents}
 use Rattle.design_engine.specs.Built.{IsBuilt}
 use Rattle.design_engine.specs.Refusals.{PassesMargin, PassesBits}
 
@@ -32,15 +32,7 @@ exponent_small d s h = elim h.is_step [
   | inr x ↦ omega (arith, x.1, h.limit)
 ]
 
--- the exponents of a design's rows, as a controller has them: where each is s
-pub repeated_exponents : (d : Design) (s n : ℕ) (es : List ℕ) → es ≡ replicate n s → n ≡ rows d → HasExponents d s es
-repeated_exponents d s n es e count = record {
-  long = ap (λ (xs : List ℕ). length xs) e ∙ length-replicate n s ∙ count;
-  high = rw e (All-replicate (λ m. m ≤ s) n s (le_refl s));
-  first = λ f. e ∙ ap (λ (m : ℕ). replicate m s) count;
-}
-
--- and by the design's version
+-- the exponents of a design's rows, as a controller has them
 pub exponents_listed : (d : Design) (s : ℕ) (es : List ℕ) → AreExponentsOf d s es → HasExponents d s es
 exponents_listed d s es h = elim (cases_eq d.version text_version) [
   | inl e ↦ repeated_exponents d s (rows d) es (h.first e) refl

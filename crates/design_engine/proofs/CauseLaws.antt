@@ -20,7 +20,7 @@ use Rattle.hessian_check.specs.Steps.{IsExponentOf, HasNoStep}
 use Rattle.bit_choice.specs.Choice.{IsChoice}
 use Rattle.step_error.proofs.SumFacts.{floor_range}
 use Rattle.design_engine.specs.Targets.{Targets, half_target, error_limit}
-use Rattle.design_engine.specs.Widest.{width_size}
+use Rattle.controller_maker.specs.Widest.{width_size}
 use Rattle.design_engine.specs.Bounds.{stated_cost}
 use Rattle.design_engine.specs.Refusals.{PassesMargin, PassesSizes, PassesSteps, PassesBits, PassesAll, HasCause, IsTooWide}
 use Rattle.design_engine.specs.Order.{CausesLaw, PassingLaw}

@@ -5,20 +5,13 @@ pub mod TargetLaws
 pub mod PromiseFacts
 pub mod RowChoice
 pub mod PromiseLaws
--- ---- the quantity `width`
-pub mod Monotone
-pub mod Classes
-pub mod Tables
-pub mod Bounds
--- ---- the parts of a controller
-pub mod Frames
-pub mod Roundings
 -- ---- one refusal, one controller but for its gains
 pub mod TestLaws
 pub mod OneOfEach
 pub mod CauseLaws
 pub mod AgreementLaws
 -- ---- what `generate` answers
+pub mod Classes
 pub mod GenerationFacts
 pub mod RefusalFacts
 pub mod PrintedFacts

@@ -32,12 +32,12 @@ use Rattle.approx_inverse.specs.declared.fault.SolveFault.{SolveFault}
 use Rattle.approx_inverse.specs.declared.fault.SolveFault.TheVariants.{Memory as solve_memory, TooWide as solve_wide}
 use Rattle.hessian_check.specs.Steps.{IsExponentOf}
 use Rattle.design_engine.specs.Targets.{Targets, half_target, error_limit}
-use Rattle.design_engine.specs.Widest.{width_size}
-use Rattle.design_engine.specs.Fault.{IsWidthFault}
+use Rattle.controller_maker.specs.Widest.{width_size}
+use Rattle.controller_maker.specs.Fault.{IsWidthFault}
 use Rattle.design_engine.specs.Faults.{of_margin, of_condense, of_curvature, of_solve, of_width}
 use Rattle.design_engine.specs.Refusals.{PassesMargin, PassesSizes, PassesSteps, PassesBits, HasCause, IsRefused, IsTooWide}
-use Rattle.design_engine.specs.declared.fault.WidthFault.{WidthFault}
-use Rattle.design_engine.specs.declared.fault.WidthFault.TheVariants.{Memory as width_memory, TooWide as width_wide}
+use Rattle.controller_maker.specs.declared.fault.WidthFault.{WidthFault}
+use Rattle.controller_maker.specs.declared.fault.WidthFault.TheVariants.{Memory as width_memory, TooWide as width_wide}
 use Rattle.design_engine.specs.declared.refusal.Refusal.{Refusal}
 use Rattle.design_engine.specs.declared.refusal.Refusal.TheVariants.{TooManySteps, TooFine, TooWide}
 

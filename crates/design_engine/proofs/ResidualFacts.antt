@@ -20,9 +20,9 @@ use Rattle.step_error.specs.declared.sums.ErrorSums.{ErrorSums}
 use Rattle.real_error.specs.Made.{AreSumsOf, HasGains}
 use Rattle.real_error.proofs.RealCosts as costs
 use Rattle.design_engine.specs.Bounds.{margin_of, printed_multiplier, stated_cost}
-use Rattle.design_engine.specs.Assembled.{IsAssembled}
+use Rattle.controller_maker.specs.Assembled.{IsAssembled}
 use Rattle.design_engine.specs.Residuals.{IsGivenFor}
-use Rattle.design_engine.proofs.Tables.{shape_as, plan_long}
+use Rattle.controller_maker.proofs.Tables.{shape_as, plan_long}
 use Rattle.design_engine.proofs.BuiltFacts.{derived_from}
 
 -- what is said of a controller's gains, by other names of these

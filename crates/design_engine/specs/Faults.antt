@@ -7,8 +7,8 @@ use Rattle.hessian_check.specs.declared.fault.CurvatureFault.{CurvatureFault}
 use Rattle.hessian_check.specs.declared.fault.CurvatureFault.TheVariants.{Memory as curvature_memory, TooWide as curvature_wide, NoStep}
 use Rattle.approx_inverse.specs.declared.fault.SolveFault.{SolveFault}
 use Rattle.approx_inverse.specs.declared.fault.SolveFault.TheVariants.{Memory as solve_memory, TooWide as solve_wide}
-use Rattle.design_engine.specs.declared.fault.WidthFault.{WidthFault}
-use Rattle.design_engine.specs.declared.fault.WidthFault.TheVariants.{Memory as width_memory, TooWide as width_wide}
+use Rattle.controller_maker.specs.declared.fault.WidthFault.{WidthFault}
+use Rattle.controller_maker.specs.declared.fault.WidthFault.TheVariants.{Memory as width_memory, TooWide as width_wide}
 use Rattle.design_engine.specs.declared.refusal.Refusal.{Refusal}
 use Rattle.design_engine.specs.declared.refusal.Refusal.TheVariants.{Memory, NoMargin, Curvature, TooWide}
 

@@ -1,12 +1,13 @@
 pub mod Targets
 pub mod Bounds
 pub mod Promise
-pub mod Widest
-pub mod Fault
-pub mod Assembled
 pub mod Residuals
 pub mod Built
 pub mod Refusals
 pub mod Order
 pub mod Faults
 pub mod Agreement
+-- ---- what `controller_of` says, which is handed on
+pub use Rattle.controller_maker.specs.Widest
+pub use Rattle.controller_maker.specs.Fault
+pub use Rattle.controller_maker.specs.Assembled

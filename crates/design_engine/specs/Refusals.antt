@@ -14,7 +14,7 @@ use Rattle.slater_margin.specs.Corners.{HasCornerRoom, IsFirstWideCorner, IsFirs
 use Rattle.hessian_check.specs.Steps.{IsExponentOf, HasNoStep}
 use Rattle.bit_choice.specs.Choice.{IsChoice}
 use Rattle.design_engine.specs.Targets.{Targets, half_target, error_limit}
-use Rattle.design_engine.specs.Widest.{width_size}
+use Rattle.controller_maker.specs.Widest.{width_size}
 use Rattle.design_engine.specs.Bounds.{stated_cost}
 use Rattle.design_engine.specs.declared.refusal.Refusal.{Refusal}
 use Rattle.design_engine.specs.declared.refusal.Refusal.TheVariants.{Memory, NoMargin, Curvature, TooManySteps, TooFine, TooWide}

@@ -1,19 +1,14 @@
 //! The generator: from a design and a policy to a controller and its bounds, and why the controller keeps them.
 #![tactic(auto)]
 
-mod assemble;
-mod fault;
 mod generation;
 mod laws;
 mod refusal;
 mod refused;
 mod residuals;
-mod rounding;
 mod violations;
-mod widest;
 
-pub use assemble::{Settings, controller_of};
-pub use fault::WidthFault;
+pub use controller_maker::{Settings, WidthFault, controller_of};
 pub use generation::{Made, generate};
 pub use laws::{agreement_law, causes_law, certified_law, targets_law};
 pub use refusal::Refusal;

@@ -3,10 +3,10 @@ ghost use Rattle.std.specs.Prelude.{◌≡◌};
 ghost use Rattle.design_engine.specs.declared.refusal.Refusal.TheVariants.{Memory as memory, TooManySteps as too_many, TooFine as too_fine, TooWide as too_wide};
 ghost use Rattle.design_engine.specs.Faults.{of_margin, of_condense, of_curvature, of_solve, of_width};
 
-use crate::fault::WidthFault;
 use crate::refusal::Refusal;
 use approx_inverse::SolveFault;
 use bit_choice::TooFine;
+use controller_maker::WidthFault;
 use dual_bounds::TooManySteps;
 use hessian_check::CurvatureFault;
 use plant_condense::CondenseFault;

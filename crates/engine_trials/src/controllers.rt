@@ -4,7 +4,7 @@ ghost use Rattle.qp_model.specs.Range.{LiesIn};
 
 use approx_inverse::solve_all;
 use class_choice::condense;
-use design_engine::{Settings, WidthFault, controller_of};
+use controller_maker::{Settings, WidthFault, controller_of};
 use design_files::read_design;
 use mat_int::Mat;
 use overflow_check::Controller;

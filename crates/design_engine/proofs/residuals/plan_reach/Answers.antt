@@ -4,7 +4,7 @@ use Rattle.std.proofs.lemmas.Int.{to_z-of_z}
 use Rattle.std.proofs.lemmas.Nat.{pow_pos}
 use mir.Val.{SFits}
 use Rattle.frac_scaled.proofs.Powers.{one_shifted}
-use Rattle.design_engine.proofs.Bounds.{ceil_of_pos}
+use Rattle.controller_maker.proofs.Bounds.{ceil_of_pos}
 use Rattle.design_engine.proofs.residuals.plan_reach.Goals as goal
 
 pub returns : goal.returns

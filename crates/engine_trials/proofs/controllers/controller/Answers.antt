@@ -1,6 +1,6 @@
 use Rattle.std.proofs.Common.{◌∙◌}
 use Rattle.qp_model.specs.Parts.{design_of}
-use Rattle.design_engine.proofs.BuiltFacts.{repeated_exponents}
+use Rattle.controller_maker.proofs.RowExponents.{repeated_exponents}
 use Rattle.engine_trials.proofs.controllers.controller.Goals as goal
 
 pub controller_of-requires-clause-gains : goal.controller_of-requires-clause-gains

@@ -1,0 +1,210 @@
+// A controller, from a condensed form, the chosen numbers and the gains.
+ghost use Rattle.std.specs.Prelude.{ℕ, List, ◌≡◌, ◌≤◌, ◌<◌, ◌*◌, ◌+◌, ◌^◌, ◌≤ℤ◌, pos, unsigned_abs, IfOk, IfErr, OnOk};
+ghost use Rattle.std.specs.Option.{SomeIff};
+ghost use Rattle.qp_model.specs.Class.{form_of};
+ghost use Rattle.qp_model.specs.Design as model;
+ghost use Rattle.qp_model.specs.Parts.{IsDesign, design_of};
+ghost use Rattle.qp_model.specs.Range.{LiesIn};
+ghost use Rattle.qp_model.specs.Columns.{descent_size};
+ghost use Rattle.qp_model.specs.Controller.{numbers, IsSized};
+ghost use Rattle.qp_model.specs.AbsoluteSums.{greatest_sum};
+ghost use Rattle.overflow_check.specs.Width.{IsWidth};
+ghost use Rattle.plant_condense.specs.Form.{IsFormOf};
+ghost use Rattle.approx_inverse.specs.Inverse.{IsInverseOf};
+ghost use Rattle.controller_maker.specs.Widest.{width_size};
+ghost use Rattle.controller_maker.specs.Fault.{IsWidthFault};
+ghost use Rattle.controller_maker.specs.Assembled.{AreRowsOf, HasExponents, IsFrame, AreGains, IsAssembled};
+
+use crate::fault::WidthFault;
+use crate::rounding::{Rows, rounded_rows};
+use crate::widest::widest_gains;
+use approx_inverse::Inverse;
+use frac_scaled::shift_left;
+use overflow_check::{Controller, greatest_sum, width};
+use plant_condense::Condensed;
+use qp_model::{ControllerParts, Design, DesignParts, Quantity};
+use std::alloc::{AllocError, Global};
+
+// The sum is too wide.
+const WIDE: WidthFault = WidthFault::TooWide {
+    quantity: Quantity::Width,
+};
+
+/// The chosen numbers of a controller.
+#[derive(Clone, Copy)]
+pub struct Settings {
+    /// s, the step exponent.
+    pub s: u32,
+    /// f, the fraction bits.
+    pub f: u32,
+    /// K, the steps of a run.
+    pub steps: u32,
+    /// R: half the greatest multiplier.
+    pub r: i128,
+}
+
+// `2 * r * 2^k`, where it is at most `2^126`.
+fn clamp_of(r: i128, k: u32) -> Option<i128>
+    requires low { pos 1 ≤ℤ r }
+    requires high { r ≤ℤ pos (2 ^ 44) }
+    requires bits { k ≤ 88 }
+    ensures { SomeIff result (2 * unsigned_abs r * 2 ^ k ≤ 2 ^ 126) (pos (2 * unsigned_abs r * 2 ^ k)) }
+{
+    match shift_left(2 * r, k) {
+        Some(clamp) if clamp <= 1 << 126 => Some(clamp),
+        _ => None,
+    }
+}
+
+// The box of a design's states: the least and the greatest of each coordinate, over `2^g`.
+#[derive(Drop)]
+struct StateBox {
+    lo: Vec<i128>,
+    hi: Vec<i128>,
+}
+
+fn state_box(parts: &DesignParts) -> Result<StateBox, AllocError>
+    ensures low { IfOk result (λ held. held.lo.items ≡ parts.now.lo.items) }
+    ensures high { IfOk result (λ held. held.hi.items ≡ parts.now.hi.items) }
+{
+    Ok(StateBox {
+        lo: parts.lo.clone()?,
+        hi: parts.hi.clone()?,
+    })
+}
+
+// A controller's parts with these numbers, a greatest multiplier, step exponents of the rows, rows, gains and box. Its width is not chosen yet.
+fn parts_with(
+    parts: &DesignParts,
+    settings: Settings,
+    clamp: i128,
+    exps: Vec<u32>,
+    rows: Rows,
+    gains: Inverse,
+    held: StateBox,
+) -> ControllerParts
+    requires design { IsDesign parts.now }
+    requires rows { AreRowsOf (design_of parts.now) settings.f rows }
+    requires low { held.lo.items ≡ parts.now.lo.items }
+    requires high { held.hi.items ≡ parts.now.hi.items }
+    ensures frame { (r : ℕ) → clamp ≡ pos (2 * r * 2 ^ (settings.f + settings.s)) →
+        IsFrame (design_of parts.now) r settings.s exps.items settings.steps settings.f (numbers result) }
+    ensures gains { AreGains gains (numbers result) }
+{
+    let (m, nu) = (rows.g_mat.rows(), rows.g_mat.cols());
+    ControllerParts {
+        version: parts.version,
+        n: parts.states,
+        p: parts.inputs,
+        stages: parts.stages,
+        m,
+        f: settings.f,
+        g: parts.grid,
+        s: settings.s,
+        w: 128,
+        steps: settings.steps,
+        clamp,
+        words: parts.states + m + 2 * nu,
+        exps,
+        lo: held.lo,
+        hi: held.hi,
+        p_mat: gains.p_mat,
+        t: gains.t,
+        w_mat: gains.w_mat,
+        g_mat: rows.g_mat,
+        e_mat: rows.e_mat,
+        bound: rows.bound,
+    }
+}
+
+// A controller's parts with these numbers, whose gains are as large as those of any good solutions. Its width is not chosen yet.
+fn widest_parts(
+    alloc: Global,
+    design: &Design,
+    condensed: &Condensed,
+    settings: Settings,
+    clamp: i128,
+    exps: Vec<u32>,
+) -> Result<ControllerParts, AllocError>
+    requires form { IsFormOf design.now condensed.now }
+    requires room { descent_size (form_of (design_of design.now)) settings.f ≤ 2 ^ 126 }
+    requires bits { LiesIn design.now.grid 48 settings.f }
+    requires exponent { settings.s ≤ 40 }
+    requires exponents { HasExponents (design_of design.now) settings.s exps.items }
+    requires steps { LiesIn 1 (2 ^ 22) settings.steps }
+    requires clamp { clamp ≡ pos (2 * unsigned_abs settings.r * 2 ^ (settings.f + settings.s)) }
+    requires limit { 2 * unsigned_abs settings.r * 2 ^ (settings.f + settings.s) ≤ 2 ^ 126 }
+    ensures frame { IfOk result (λ c. IsFrame (design_of design.now) (unsigned_abs settings.r) settings.s exps.items settings.steps settings.f (numbers c)) }
+    ensures sized { IfOk result (λ c. IsSized (numbers c)) }
+    ensures sum { IfOk result (λ c.
+        greatest_sum (numbers c) ≡ width_size (design_of design.now) (unsigned_abs settings.r) settings.s settings.steps settings.f) }
+{
+    let rows = rounded_rows(alloc, condensed, settings.f)?;
+    let widest = widest_gains(alloc, condensed, settings.f)?;
+    let parts = design.parts();
+    let held = state_box(parts)?;
+    Ok(parts_with(parts, settings, clamp, exps, rows, widest, held))
+}
+
+// The parts with these gains in place of others.
+fn with_gains(parts: ControllerParts, gains: Inverse) -> ControllerParts
+    ensures gains { AreGains gains (numbers result) }
+    ensures frame { (d : model.Design) (r s : ℕ) (es : List ℕ) (k f : ℕ) → IsFrame d r s es k f (numbers parts) → IsFrame d r s es k f (numbers result) }
+{
+    ControllerParts {
+        p_mat: gains.p_mat,
+        t: gains.t,
+        w_mat: gains.w_mat,
+        ..parts
+    }
+}
+
+// The controller with these parts and the least width that their absolute sums let pass.
+fn with_width(parts: ControllerParts) -> Controller
+    requires sized { IsSized (numbers parts) }
+    requires room { greatest_sum (numbers parts) ≤ 2 ^ 126 }
+    ensures parts { result ≡ record (numbers parts) { width = result.width } }
+    ensures width { IsWidth (greatest_sum (numbers parts)) result.width }
+{
+    let Some(w) = width(&parts) else {
+        unreachable!();
+    };
+    match Controller::from_parts(ControllerParts { w, ..parts }) {
+        Ok(controller) => controller,
+        Err(_) => unreachable!(),
+    }
+}
+
+/// The controller of a design with these numbers, a step exponent of each row, and gains: its width is the least that its absolute sums let pass. `TooWide`
+/// exactly where these sums could be above `2^126` with gains as large as those of any good solutions.
+pub fn controller_of(
+    alloc: Global,
+    design: &Design,
+    condensed: &Condensed,
+    settings: Settings,
+    exps: Vec<u32>,
+    gains: Inverse,
+) -> Result<Controller, WidthFault>
+    requires form { IsFormOf design.now condensed.now }
+    requires gains { IsInverseOf (form_of (design_of design.now)) settings.f gains }
+    requires room { descent_size (form_of (design_of design.now)) settings.f ≤ 2 ^ 126 }
+    requires bits { LiesIn design.now.grid 48 settings.f }
+    requires exponent { settings.s ≤ 40 }
+    requires exponents { HasExponents (design_of design.now) settings.s exps.items }
+    requires steps { LiesIn 1 (2 ^ 22) settings.steps }
+    requires low { pos 1 ≤ℤ settings.r }
+    requires high { settings.r ≤ℤ pos (2 ^ 44) }
+    ensures made { IfOk result (IsAssembled (design_of design.now) (unsigned_abs settings.r) settings.s exps.items settings.steps settings.f) }
+    ensures fits { OnOk result (width_size (design_of design.now) (unsigned_abs settings.r) settings.s settings.steps settings.f ≤ 2 ^ 126) }
+    ensures wide { IfErr result (λ e.
+        IsWidthFault e (2 ^ 126 < width_size (design_of design.now) (unsigned_abs settings.r) settings.s settings.steps settings.f)) }
+{
+    let Some(clamp) = clamp_of(settings.r, settings.f + settings.s) else {
+        return Err(WIDE);
+    };
+    let parts = widest_parts(alloc, design, condensed, settings, clamp, exps)?;
+    if greatest_sum(&parts).is_none() {
+        return Err(WIDE);
+    }
+    Ok(with_width(with_gains(parts, gains)))
+}

@@ -1,0 +1,24 @@
+ghost use Rattle.std.specs.Prelude.{◌≡◌};
+ghost use Rattle.controller_maker.specs.declared.fault.WidthFault.TheVariants.{Memory as width_memory};
+
+use qp_model::Quantity;
+use std::alloc::{AllocError, AllocFailed};
+use thiserror::Error;
+
+/// Why there is no controller with these gains.
+#[derive(Clone, Copy, Debug, Error)]
+pub enum WidthFault {
+    #[error("memory")]
+    Memory,
+    /// The quantity is above `2^126`.
+    #[error("too wide")]
+    TooWide { quantity: Quantity },
+}
+
+impl From<AllocError> for WidthFault {
+    ghost from_gives = { λ _ e. e ≡ width_memory };
+
+    fn from(_: AllocError) -> Self {
+        WidthFault::Memory
+    }
+}

@@ -1,0 +1,10 @@
+//! A controller, from a condensed form, the chosen numbers and the gains.
+#![tactic(auto)]
+
+mod assemble;
+mod fault;
+mod rounding;
+mod widest;
+
+pub use assemble::{Settings, controller_of};
+pub use fault::WidthFault;
