@@ -57,6 +57,11 @@ derived_from d c r q s es k f curved is a = record {
   clamp = a.clamp ∙ rw (is, a.fraction_bits, a.step_exponent) refl;
 }
 
+-- the exponents of the rows are those that it has
+pub assembled_with : (d : Design) (r q s : ℕ) (es : List ℕ) (k f : ℕ) (c : Numbers) → r ≡ q → IsAssembled d r s es k f c → IsAssembled d q s c.exponents k f c
+assembled_with d r q s es k f c is a =
+    subst (λ (xs : List ℕ). IsAssembled d q s xs k f c) (sym a.exponents) (subst (λ (n : ℕ). IsAssembled d n s es k f c) is a)
+
 pub built_from : (p : DesignParts) (plans : Plans) (c : Numbers) (b : Printed) (m : Margin) (r s : ℕ) (es : List ℕ) (k f : ℕ) → IsDesign p → IsPolicyFor (design_of p) plans →
     PassesBits (design_of p) (targets_of p) plans m s f → AreExponentsOf (design_of p) s es → AreExponents (design_of p) (exponent_in es) s → r ≡ multiplier_of m → k ≡ step_count s (multiplier_of m) (half_target (targets_of p)) →
     margin_of b ≡ m → IsController c → IsAssembled (design_of p) r s es k f c → AreBoundsOf c b (real_cost (design_of p) (form_of (design_of p)) (multiplier_of m) c) → IsBuilt p plans c b

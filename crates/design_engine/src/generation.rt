@@ -1,6 +1,11 @@
 // From a design and a policy to a controller and its bounds.
 ghost use Rattle.std.specs.Prelude.{◌≡◌, ◌⊎◌, ◌≤◌, ◌≤ℤ◌, ◌^◌, ℕ, pos, unsigned_abs, IfOk, IfErr, IsOk, OnOk, Err};
+ghost use Rattle.qp_model.specs.AbsoluteSums.{IsController};
 ghost use Rattle.qp_model.specs.Class.{form_of};
+ghost use Rattle.qp_model.specs.Columns.{descent_size};
+ghost use Rattle.qp_model.specs.Range.{LiesIn};
+ghost use Rattle.controller_maker.specs.Assembled.{IsAssembled};
+ghost use Rattle.controller_maker.specs.Widest.{width_size};
 ghost use Rattle.qp_model.specs.Parts.{IsDesign, design_of};
 ghost use Rattle.qp_model.specs.Policy.{Plans, plans_of, IsPolicyFor};
 ghost use Rattle.qp_model.specs.Curvature.{AreExponents, IsExponent};
@@ -232,6 +237,44 @@ fn bounds_of(
     })
 }
 
+// The last tests, and the controller.
+fn controller_by(
+    alloc: Global,
+    design: &Design,
+    scaled: &Scaled,
+    plan: &Chosen,
+) -> Result<Controller, Refusal>
+    requires multiplier { scaled.now.r ≡ pos (multiplier_of scaled.now.margin) }
+    requires narrow { multiplier_of scaled.now.margin ≤ 2 ^ 44 }
+    requires form { IsFormOf design.now scaled.now.condensed }
+    requires exponent { OfDesign scaled.now.condensed (λ d. IsExponentOf d scaled.now.s) }
+    requires curved { IsExponent (design_of design.now) scaled.now.s }
+    requires steps { plan.now.steps ≡ step_count scaled.now.s (multiplier_of scaled.now.margin) (half_target (targets_of design.now)) }
+    requires few { plan.now.steps ≤ 2 ^ 22 }
+    requires bits { LiesIn design.now.grid 48 plan.now.choice.f }
+    ensures sound { IfOk result IsController }
+    ensures made { IfOk result (λ c.
+        IsAssembled (design_of design.now) (multiplier_of scaled.now.margin) scaled.now.s c.exponents plan.now.steps plan.now.choice.f c) }
+    ensures exponents { IfOk result (λ c. AreExponentsOf (design_of design.now) scaled.now.s c.exponents) }
+    ensures curved { IfOk result (λ c. AreExponents (design_of design.now) (exponent_in c.exponents) scaled.now.s) }
+    ensures descent { OnOk result (descent_size (form_of (design_of design.now)) plan.now.choice.f ≤ 2 ^ 126) }
+    ensures width { OnOk result
+        (width_size (design_of design.now) (multiplier_of scaled.now.margin) scaled.now.s plan.now.steps plan.now.choice.f ≤ 2 ^ 126) }
+    ensures refused { (plans : Plans) →
+        PassesBits (design_of design.now) (targets_of design.now) plans scaled.now.margin scaled.now.s plan.now.choice.f →
+        IfErr result (IsRefused (design_of design.now) (targets_of design.now) plans) }
+{
+    let gains = solve_all(alloc, &scaled.condensed, plan.choice.f)?;
+    let exps = row_exponents(alloc, design, &scaled.condensed, scaled.s)?;
+    let settings = Settings {
+        s: scaled.s,
+        f: plan.choice.f,
+        steps: plan.steps,
+        r: scaled.r,
+    };
+    Ok(controller_of(alloc, design, &scaled.condensed, settings, exps, gains)?)
+}
+
 // The last tests, and the controller with its bounds.
 fn finished(alloc: Global, design: &Design, scaled: &Scaled, plan: &Chosen) -> Result<Made, Refusal>
     requires multiplier { scaled.now.r ≡ pos (multiplier_of scaled.now.margin) }
@@ -257,15 +300,7 @@ fn finished(alloc: Global, design: &Design, scaled: &Scaled, plan: &Chosen) -> R
         PassesBits (design_of design.now) (targets_of design.now) plans scaled.now.margin scaled.now.s plan.now.choice.f →
         IfErr result (IsRefused (design_of design.now) (targets_of design.now) plans) }
 {
-    let gains = solve_all(alloc, &scaled.condensed, plan.choice.f)?;
-    let exps = row_exponents(alloc, design, &scaled.condensed, scaled.s)?;
-    let settings = Settings {
-        s: scaled.s,
-        f: plan.choice.f,
-        steps: plan.steps,
-        r: scaled.r,
-    };
-    let controller = controller_of(alloc, design, &scaled.condensed, settings, exps, gains)?;
+    let controller = controller_by(alloc, design, scaled, plan)?;
     let eps = real_cost(&scaled.condensed, &plan.sums, &controller);
     let bounds = bounds_of(alloc, scaled, plan, &controller, eps)?;
     Ok(Made {

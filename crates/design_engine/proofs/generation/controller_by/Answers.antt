@@ -1,0 +1,154 @@
+use Rattle.std.proofs.Common.{ℕ, inl, List, sym, subst, rules}
+use Rattle.std.specs.Int.{w128}
+use mir.Val.{SFits}
+use Rattle.qp_model.specs.Parts.{design_of}
+use Rattle.qp_model.specs.Choices.{multiplier_of}
+use Rattle.qp_model.specs.Curvature.{AreExponents}
+use Rattle.hessian_check.specs.RowExponents.{exponent_in, AreExponentsOf}
+use Rattle.design_engine.proofs.AnswerLaws.{absent_of_error, ok_of_error}
+use Rattle.design_engine.proofs.RefusalFacts.{refused_by, solve_refused, width_refused}
+use Rattle.design_engine.proofs.GenerationFacts.{half_some, bound_some, steps_some, whole_is, whole_some, whole_narrow}
+use Rattle.design_engine.proofs.BuiltFacts.{exponent_small, exponents_listed, assembled_with}
+use Rattle.design_engine.proofs.generation.controller_by.Goals as goal
+
+-- ---- the gains, and the exponents of the rows
+pub solve_all-requires-clause-form : goal.solve_all-requires-clause-form
+solve_all-requires-clause-form c = record { parts = c.args.design.now; form = c.requires.form }
+
+pub solve_all-requires-clause-bits : goal.solve_all-requires-clause-bits
+solve_all-requires-clause-bits c = c.requires.bits.1
+
+pub row_exponents-requires-clause-form : goal.row_exponents-requires-clause-form
+row_exponents-requires-clause-form c = c.requires.form
+
+pub row_exponents-requires-clause-chosen : goal.row_exponents-requires-clause-chosen
+row_exponents-requires-clause-chosen c = c.requires.exponent
+
+pub row_exponents-requires-clause-curved : goal.row_exponents-requires-clause-curved
+row_exponents-requires-clause-curved c = c.requires.curved
+
+pub returns-in_err-gains-clause-refused : goal.returns-in_err-gains-clause-refused
+returns-in_err-gains-clause-refused c plans passes =
+    refused_by c.from_residual.result _ _ c.from_residual.ensures.1
+    (solve_refused _ _ plans c.args.scaled.now.margin c.args.scaled.now.s c.args.plan.now.choice.f passes _ (c.in_err-gains.ensures.wide _ c.requires.form))
+
+pub returns-in_err-exps-clause-refused : goal.returns-in_err-exps-clause-refused
+returns-in_err-exps-clause-refused c plans passes =
+    refused_by c.from_residual-in_err-exps.result _ _ c.from_residual-in_err-exps.ensures.1 (λ e f. inl f)
+
+-- ---- the controller
+pub controller_of-requires-clause-form : goal.controller_of-requires-clause-form
+controller_of-requires-clause-form c = c.requires.form
+
+pub controller_of-requires-clause-bits : goal.controller_of-requires-clause-bits
+controller_of-requires-clause-bits c = c.requires.bits
+
+pub controller_of-requires-clause-low : goal.controller_of-requires-clause-low
+controller_of-requires-clause-low c =
+    let r : SFits w128 c.args.scaled.now.r = search rules in
+    whole_some c.args.scaled.now.r _ r c.requires.multiplier (bound_some c.args.scaled.now.margin)
+
+pub controller_of-requires-clause-high : goal.controller_of-requires-clause-high
+controller_of-requires-clause-high c =
+    let r : SFits w128 c.args.scaled.now.r = search rules in
+    whole_narrow c.args.scaled.now.r _ r c.requires.multiplier c.requires.narrow
+
+pub controller_of-requires-clause-exponent : goal.controller_of-requires-clause-exponent
+controller_of-requires-clause-exponent c = exponent_small (design_of c.args.design.now) _ (c.requires.exponent c.args.design.now c.requires.form)
+
+pub controller_of-requires-clause-exponents : goal.controller_of-requires-clause-exponents
+controller_of-requires-clause-exponents c = exponents_listed (design_of c.args.design.now) _ _ c.in_ok-exps.ensures.list
+
+pub controller_of-requires-clause-gains : goal.controller_of-requires-clause-gains
+controller_of-requires-clause-gains c = c.in_ok-gains.ensures.solved _ c.requires.form
+
+pub controller_of-requires-clause-room : goal.controller_of-requires-clause-room
+controller_of-requires-clause-room c = c.in_ok-gains.ensures.fits _ c.requires.form
+
+pub controller_of-requires-clause-steps : goal.controller_of-requires-clause-steps
+controller_of-requires-clause-steps c =
+    let some = steps_some c.args.scaled.now.s (multiplier_of c.args.scaled.now.margin) _ (bound_some c.args.scaled.now.margin) (half_some c.args.design.now c.requires.form.design) in
+    (rw c.requires.steps some, c.requires.few)
+
+pub returns-in_err-controller_of-clause-refused : goal.returns-in_err-controller_of-clause-refused
+returns-in_err-controller_of-clause-refused c plans passes =
+    let r : SFits w128 c.args.scaled.now.r = search rules in
+    refused_by c.from_residual-in_err-controller_of.result _ _ c.from_residual-in_err-controller_of.ensures.1
+    (width_refused _ _ plans c.args.scaled.now.margin c.args.scaled.now.s c.args.plan.now.choice.f _ _ passes (c.in_ok-gains.ensures.fits _ c.requires.form)
+    (whole_is c.args.scaled.now.r _ r c.requires.multiplier) c.requires.steps _ c.in_err-controller_of.ensures.wide)
+
+pub returns-clause-made : goal.returns-clause-made
+returns-clause-made c =
+    let r : SFits w128 c.args.scaled.now.r = search rules in
+    assembled_with (design_of c.args.design.now) _ _ _ _ _ _ _ (whole_is c.args.scaled.now.r _ r c.requires.multiplier) c.in_ok-controller_of.ensures.made
+
+pub returns-clause-exponents : goal.returns-clause-exponents
+returns-clause-exponents c =
+    subst (λ (es : List ℕ). AreExponentsOf (design_of c.args.design.now) c.args.scaled.now.s es) (sym c.in_ok-controller_of.ensures.made.exponents) c.in_ok-exps.ensures.list
+
+pub returns-clause-curved : goal.returns-clause-curved
+returns-clause-curved c =
+    subst (λ (es : List ℕ). AreExponents (design_of c.args.design.now) (exponent_in es) c.args.scaled.now.s) (sym c.in_ok-controller_of.ensures.made.exponents) c.in_ok-exps.ensures.curved
+
+pub returns-clause-descent : goal.returns-clause-descent
+returns-clause-descent c = c.in_ok-gains.ensures.fits _ c.requires.form
+
+pub returns-clause-width : goal.returns-clause-width
+returns-clause-width c =
+    let r : SFits w128 c.args.scaled.now.r = search rules in
+    rw (whole_is c.args.scaled.now.r _ r c.requires.multiplier) at c.in_ok-controller_of.ensures.fits
+
+-- ---- nothing is made on a refusal
+pub returns-in_err-gains-clause-sound : goal.returns-in_err-gains-clause-sound
+returns-in_err-gains-clause-sound c = absent_of_error c.from_residual.result _ c.from_residual.ensures.0
+
+pub returns-in_err-gains-clause-made : goal.returns-in_err-gains-clause-made
+returns-in_err-gains-clause-made c = absent_of_error c.from_residual.result _ c.from_residual.ensures.0
+
+pub returns-in_err-gains-clause-exponents : goal.returns-in_err-gains-clause-exponents
+returns-in_err-gains-clause-exponents c = absent_of_error c.from_residual.result _ c.from_residual.ensures.0
+
+pub returns-in_err-gains-clause-curved : goal.returns-in_err-gains-clause-curved
+returns-in_err-gains-clause-curved c = absent_of_error c.from_residual.result _ c.from_residual.ensures.0
+
+pub returns-in_err-gains-clause-descent : goal.returns-in_err-gains-clause-descent
+returns-in_err-gains-clause-descent c = ok_of_error c.from_residual.result _ c.from_residual.ensures.0
+
+pub returns-in_err-gains-clause-width : goal.returns-in_err-gains-clause-width
+returns-in_err-gains-clause-width c = ok_of_error c.from_residual.result _ c.from_residual.ensures.0
+
+pub returns-in_err-exps-clause-sound : goal.returns-in_err-exps-clause-sound
+returns-in_err-exps-clause-sound c = absent_of_error c.from_residual-in_err-exps.result _ c.from_residual-in_err-exps.ensures.0
+
+pub returns-in_err-exps-clause-made : goal.returns-in_err-exps-clause-made
+returns-in_err-exps-clause-made c = absent_of_error c.from_residual-in_err-exps.result _ c.from_residual-in_err-exps.ensures.0
+
+pub returns-in_err-exps-clause-exponents : goal.returns-in_err-exps-clause-exponents
+returns-in_err-exps-clause-exponents c = absent_of_error c.from_residual-in_err-exps.result _ c.from_residual-in_err-exps.ensures.0
+
+pub returns-in_err-exps-clause-curved : goal.returns-in_err-exps-clause-curved
+returns-in_err-exps-clause-curved c = absent_of_error c.from_residual-in_err-exps.result _ c.from_residual-in_err-exps.ensures.0
+
+pub returns-in_err-exps-clause-descent : goal.returns-in_err-exps-clause-descent
+returns-in_err-exps-clause-descent c = ok_of_error c.from_residual-in_err-exps.result _ c.from_residual-in_err-exps.ensures.0
+
+pub returns-in_err-exps-clause-width : goal.returns-in_err-exps-clause-width
+returns-in_err-exps-clause-width c = ok_of_error c.from_residual-in_err-exps.result _ c.from_residual-in_err-exps.ensures.0
+
+pub returns-in_err-controller_of-clause-sound : goal.returns-in_err-controller_of-clause-sound
+returns-in_err-controller_of-clause-sound c = absent_of_error c.from_residual-in_err-controller_of.result _ c.from_residual-in_err-controller_of.ensures.0
+
+pub returns-in_err-controller_of-clause-made : goal.returns-in_err-controller_of-clause-made
+returns-in_err-controller_of-clause-made c = absent_of_error c.from_residual-in_err-controller_of.result _ c.from_residual-in_err-controller_of.ensures.0
+
+pub returns-in_err-controller_of-clause-exponents : goal.returns-in_err-controller_of-clause-exponents
+returns-in_err-controller_of-clause-exponents c = absent_of_error c.from_residual-in_err-controller_of.result _ c.from_residual-in_err-controller_of.ensures.0
+
+pub returns-in_err-controller_of-clause-curved : goal.returns-in_err-controller_of-clause-curved
+returns-in_err-controller_of-clause-curved c = absent_of_error c.from_residual-in_err-controller_of.result _ c.from_residual-in_err-controller_of.ensures.0
+
+pub returns-in_err-controller_of-clause-descent : goal.returns-in_err-controller_of-clause-descent
+returns-in_err-controller_of-clause-descent c = ok_of_error c.from_residual-in_err-controller_of.result _ c.from_residual-in_err-controller_of.ensures.0
+
+pub returns-in_err-controller_of-clause-width : goal.returns-in_err-controller_of-clause-width
+returns-in_err-controller_of-clause-width c = ok_of_error c.from_residual-in_err-controller_of.result _ c.from_residual-in_err-controller_of.ensures.0
