@@ -25,3 +25,9 @@ returns-else-parts-eq-VERSION-clause-list c =
 
 pub returns-else-parts-eq-VERSION-clause-curved : goal.returns-else-parts-eq-VERSION-clause-curved
 returns-else-parts-eq-VERSION-clause-curved c = c.exponents.ensures.exponents c.args.design.now c.requires.form
+
+pub exponents-requires-clause-form : goal.exponents-requires-clause-form
+exponents-requires-clause-form c = record { parts = c.args.design.now; form = c.requires.form }
+
+pub exponents-requires-clause-chosen : goal.exponents-requires-clause-chosen
+exponents-requires-clause-chosen c = c.requires.chosen

@@ -7,6 +7,7 @@ use Rattle.qp_model.specs.Parts.{design_of}
 use Rattle.qp_model.specs.Controller.{Numbers, numbers}
 use Rattle.qp_model.specs.RealErrors.{real_cost}
 use Rattle.real_error.specs.Made.{IsMade, IsMadeFor}
+use Rattle.design_engine.proofs.GenerationFacts.{whole_least}
 use Rattle.design_engine.proofs.ResidualFacts.{named, own_gains}
 use Rattle.design_engine.proofs.residuals.real_cost.Goals as goal
 
@@ -26,3 +27,14 @@ returns c p r given =
     (own_gains (numbers c.parts-parts.result.now) c.deref.result.now c.deref.ensures.value c.parts-parts.ensures.sound)
     (to_z-of_z w128 _ f ∙ c.plan_reach-plan.ensures) ∙
     ap (λ (k : Numbers). pos (real_cost (design_of p) (form_of (design_of p)) r k)) c.parts-parts.ensures.value
+
+pub plan_reach-plan-requires : goal.plan_reach-plan-requires
+plan_reach-plan-requires c = c.parts-parts.ensures.sound
+
+pub real_epsilon-requires-clause-bits : goal.real_epsilon-requires-clause-bits
+real_epsilon-requires-clause-bits c = c.parts-parts.ensures.sound.form.sized.fraction_bits.1
+
+pub real_epsilon-requires-clause-plan : goal.real_epsilon-requires-clause-plan
+real_epsilon-requires-clause-plan c =
+    let f : SFits w128 c.plan_reach-plan.result = search rules in
+    whole_least c.plan_reach-plan.result _ f c.plan_reach-plan.ensures

@@ -3,6 +3,7 @@ use Rattle.std.specs.Int.{w128}
 use Rattle.std.proofs.lemmas.Int.{to_z-of_z}
 use Rattle.std.proofs.lemmas.Grind.{common_steps}
 use mir.Val.{SFits}
+use Rattle.design_engine.proofs.AnswerLaws.{absent_of_error}
 use Rattle.design_engine.proofs.violations.row_violations.Goals as goal
 
 pub row_violation-requires-clause-some : goal.row_violation-requires-clause-some
@@ -36,3 +37,12 @@ row_violation-requires-clause-row c = grind (arith, common_steps)
 
 pub loop-i-preserved : goal.loop-i-preserved
 loop-i-preserved c = grind (arith, common_steps)
+
+pub returns-in_err-out : goal.returns-in_err-out
+returns-in_err-out c = absent_of_error c.from_residual.result _ c.from_residual.ensures.0
+
+pub loop-i-init : goal.loop-i-init
+loop-i-init c = λ k below. absurd (omega arith)
+
+pub bounds-exps-i : goal.bounds-exps-i
+bounds-exps-i c = omega arith
