@@ -46,3 +46,9 @@ loop-i-init c = λ k below. absurd (omega arith)
 
 pub bounds-exps-i : goal.bounds-exps-i
 bounds-exps-i c = omega arith
+
+pub index_mut-requires : goal.index_mut-requires
+index_mut-requires c = grind (arith, common_steps)
+
+pub returns : goal.returns
+returns c = grind (arith, common_steps)
