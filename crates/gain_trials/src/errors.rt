@@ -1,38 +1,23 @@
 // Expected values are those of exact integers in another program.
-ghost use Rattle.std.specs.Prelude.{IfOk, pos, ◌≤ℤ◌, ◌^◌, ◌≤◌};
+ghost use Rattle.std.specs.Prelude.{◌≤◌};
 ghost use Rattle.step_error.specs.ErrorSums.{AreSums};
 
-use class_choice::condense;
+use crate::sums::sums;
 use qp_model::{Quantity, Wide};
-use std::alloc::Global;
 use std::test::Fail;
-use step_error::{ErrorSums, epsilon, error_sums, plan_bound, residual_error};
-use worked_designs::{DESIGN, SATELLITE, design};
-
-// The sums of a design, or the quantity that is too wide.
-fn sums(alloc: Global, text: &str, r: i128) -> Result<Result<ErrorSums, Wide>, Fail>
-    requires low { pos 1 ≤ℤ r }
-    requires high { r ≤ℤ pos (2 ^ 44) }
-    ensures { IfOk result (λ answer. IfOk answer (λ e. AreSums e)) }
-{
-    let design = design(alloc, text)?;
-    let condensed = condense(alloc, &design)?;
-    Ok(error_sums(&condensed, &design, r))
-}
+use step_error::{ErrorSums, epsilon, plan_bound, residual_error};
+use worked_designs::{DESIGN, SATELLITE};
 
 // The bounds at so many bits: on a plan entry, on a residual, and the error of a step.
-fn bounds(alloc: Global, text: &str, r: i128, f: u32) -> Result<[i128; 3], Fail>
-    requires low { pos 1 ≤ℤ r }
-    requires high { r ≤ℤ pos (2 ^ 44) }
+fn bounds(e: &ErrorSums, f: u32) -> [i128; 3]
+    requires sums { AreSums e.now }
     requires bits { f ≤ 48 }
 {
-    let Ok(e) = sums(alloc, text, r)? else {
-        return Err("wide".into());
-    };
-    Ok([plan_bound(&e, f), residual_error(&e, f), epsilon(&e, f)])
+    [plan_bound(e, f), residual_error(e, f), epsilon(e, f)]
 }
 
-const FIRST: ErrorSums = ErrorSums {
+// Of the first design.
+static FIRST: ErrorSums = ErrorSums {
     first: 5408,
     lead: 25,
     tail: 200,
@@ -55,8 +40,16 @@ const FIRST: ErrorSums = ErrorSums {
 };
 
 #[test]
-fn first_sums(rt: HostRuntime) -> Result<(), Fail> {
-    assert!(rt; sums(rt.alloc(), DESIGN, 8)? == Ok(FIRST));
+fn first_sums_and_bounds(rt: HostRuntime) -> Result<(), Fail> {
+    let e = sums(rt.alloc(), DESIGN, 8)??;
+    assert!(rt; e == FIRST && bounds(&e, 10) == [27, 31, 804534616064]);
+    Ok(())
+}
+
+#[test]
+fn satellite_bounds(rt: HostRuntime) -> Result<(), Fail> {
+    let e = sums(rt.alloc(), SATELLITE, 159)??;
+    assert!(rt; bounds(&e, 28) == [6317, 31596, 699629521553]);
     Ok(())
 }
 
@@ -64,17 +57,5 @@ fn first_sums(rt: HostRuntime) -> Result<(), Fail> {
 #[test]
 fn wide_sums(rt: HostRuntime) -> Result<(), Fail> {
     assert!(rt; sums(rt.alloc(), DESIGN, 1 << 44)? == Err(Wide(Quantity::Error)));
-    Ok(())
-}
-
-#[test]
-fn first_bounds(rt: HostRuntime) -> Result<(), Fail> {
-    assert!(rt; bounds(rt.alloc(), DESIGN, 8, 10)? == [27, 31, 804534616064]);
-    Ok(())
-}
-
-#[test]
-fn satellite_bounds(rt: HostRuntime) -> Result<(), Fail> {
-    assert!(rt; bounds(rt.alloc(), SATELLITE, 159, 28)? == [6317, 31596, 699629521553]);
     Ok(())
 }

@@ -1,8 +1,10 @@
 // One plan entry, whose solutions may be worked out by hand.
+ghost use Rattle.plant_condense.specs.Form.{IsForm};
 
 use approx_inverse::{Inverse, solve_all, solve_column};
 use class_choice::condense;
 use mat_int::Mat;
+use plant_condense::Condensed;
 use qp_model::Design;
 use std::alloc::{AllocError, Global};
 use std::test::Fail;
@@ -33,45 +35,25 @@ fn solve_single(
     Ok(found)
 }
 
-// Whether that solution is the wanted one, or there is none where none is wanted.
-fn is_single(
-    alloc: Global,
-    h: i128,
-    c: i128,
-    floor: i128,
-    f: u32,
-    want: Option<i128>,
-) -> Result<bool, AllocError> {
-    Ok(solve_single(alloc, h, c, floor, f)? == want)
-}
+// h, c, floor, f, and the solution, none where it is refused.
+static SINGLES: [(i128, i128, i128, u32, Option<i128>); 5] = [
+    // rounded to nothing
+    (3, 1, 3, 0, Some(0)),
+    (3, 1, 3, 2, Some(1)),
+    (7, -5, 7, 10, Some(-731)),
+    // the most bits
+    (5, 3, 5, 48, Some(168884986026394)),
+    (1 << 100, 1 << 100, 1, 0, None),
+];
 
 #[test]
-fn rounded_to_nothing(rt: HostRuntime) -> Result<(), Fail> {
-    assert!(rt; is_single(rt.alloc(), 3, 1, 3, 0, Some(0))?);
-    Ok(())
-}
-
-#[test]
-fn rounded(rt: HostRuntime) -> Result<(), Fail> {
-    assert!(rt; is_single(rt.alloc(), 3, 1, 3, 2, Some(1))?);
-    Ok(())
-}
-
-#[test]
-fn below_zero(rt: HostRuntime) -> Result<(), Fail> {
-    assert!(rt; is_single(rt.alloc(), 7, -5, 7, 10, Some(-731))?);
-    Ok(())
-}
-
-#[test]
-fn most_bits(rt: HostRuntime) -> Result<(), Fail> {
-    assert!(rt; is_single(rt.alloc(), 5, 3, 5, 48, Some(168884986026394))?);
-    Ok(())
-}
-
-#[test]
-fn refuses_one_entry(rt: HostRuntime) -> Result<(), Fail> {
-    assert!(rt; is_single(rt.alloc(), 1 << 100, 1 << 100, 1, 0, None)?);
+fn solves_or_refuses_one_entry(rt: HostRuntime) -> Result<(), Fail> {
+    for &(h, c, floor, f, solution) in &SINGLES {
+        assert!(rt;
+            solve_single(rt.alloc(), h, c, floor, f)? == solution,
+            "{c} over {h}"
+        );
+    }
     Ok(())
 }
 
@@ -91,19 +73,25 @@ fn has_gains(v: &Inverse) -> bool {
         && v.w_mat.row(0) == [256, -256, 256].as_slice()
 }
 
-fn is_solved(alloc: Global) -> Result<bool, Fail> {
-    let design = design(alloc, DESIGN)?;
-    has_solutions(alloc, &design)
+fn has_solutions(alloc: Global, condensed: &Condensed) -> Result<bool, Fail>
+    requires { IsForm condensed.now }
+{
+    let found = solve_all(alloc, condensed, 10)?;
+    Ok(has_gains(&found))
 }
 
-fn has_solutions(alloc: Global, design: &Design) -> Result<bool, Fail> {
+fn is_solved(alloc: Global, design: &Design) -> Result<bool, Fail> {
     let condensed = condense(alloc, design)?;
-    let found = solve_all(alloc, &condensed, 10)?;
-    Ok(has_gains(&found))
+    has_solutions(alloc, &condensed)
+}
+
+fn is_first_solved(alloc: Global) -> Result<bool, Fail> {
+    let design = design(alloc, DESIGN)?;
+    is_solved(alloc, &design)
 }
 
 #[test]
 fn solves_all_columns(rt: HostRuntime) -> Result<(), Fail> {
-    assert!(rt; is_solved(rt.alloc())?);
+    assert!(rt; is_first_solved(rt.alloc())?);
     Ok(())
 }

@@ -9,3 +9,5 @@ mod errors;
 mod gains;
 #[cfg(test)]
 mod real;
+#[cfg(test)]
+mod sums;

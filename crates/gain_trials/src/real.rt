@@ -1,8 +1,10 @@
 // Expected values are worked out by hand.
 ghost use Rattle.std.specs.Prelude.{pos, ◌≤ℤ◌, ◌≤◌};
+ghost use Rattle.plant_condense.specs.Form.{IsFormOf};
 
 use approx_inverse::solve_all;
 use class_choice::condense;
+use plant_condense::Condensed;
 use qp_model::Design;
 use real_error::real_epsilon;
 use std::alloc::Global;
@@ -10,23 +12,30 @@ use std::test::Fail;
 use step_error::error_sums;
 use worked_designs::{DESIGN, design};
 
-// What the errors of a step of a design cost with its solutions at so many bits, where no plan entry is above `plan`.
+// What the errors of a step of a design cost with the solutions of its form at so many bits, where no plan entry is above `plan`.
+fn cost_with(
+    alloc: Global,
+    design: &Design,
+    condensed: &Condensed,
+    f: u32,
+    plan: i128,
+) -> Result<i128, Fail>
+    requires form { IsFormOf design.now condensed.now }
+    requires bits { f ≤ 48 }
+    requires plan { pos 0 ≤ℤ plan }
+{
+    let e = error_sums(condensed, design, 8)?;
+    let gains = solve_all(alloc, condensed, f)?;
+    Ok(real_epsilon(condensed, &e, &gains.p_mat, &gains.t, &gains.w_mat, plan, f))
+}
+
+// The same of a design that is yet to be condensed.
 fn cost_of(alloc: Global, design: &Design, f: u32, plan: i128) -> Result<i128, Fail>
     requires bits { f ≤ 48 }
     requires plan { pos 0 ≤ℤ plan }
 {
     let condensed = condense(alloc, design)?;
-    let e = error_sums(&condensed, design, 8)?;
-    let gains = solve_all(alloc, &condensed, f)?;
-    Ok(real_epsilon(
-        &condensed,
-        &e,
-        &gains.p_mat,
-        &gains.t,
-        &gains.w_mat,
-        plan,
-        f,
-    ))
+    cost_with(alloc, design, &condensed, f, plan)
 }
 
 fn first_cost(alloc: Global, f: u32, plan: i128) -> Result<i128, Fail>

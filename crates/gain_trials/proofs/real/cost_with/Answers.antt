@@ -8,7 +8,7 @@ use Rattle.approx_inverse.specs.declared.inverse.Inverse.{Inverse}
 use Rattle.plant_condense.specs.declared.condensed.Condensed.{Condensed}
 use Rattle.step_error.specs.declared.sums.ErrorSums.{ErrorSums}
 use Rattle.real_error.specs.Made.{AreSumsOf, IsMade}
-use Rattle.gain_trials.proofs.real.cost_of.Goals as goal
+use Rattle.gain_trials.proofs.real.cost_with.Goals as goal
 
 -- from what the calls before it answer
 made_of : (p : DesignParts) (r : ℕ) (c : Condensed) (e : ErrorSums) (v : Inverse) (f : ℕ) (t : List ℤ) → AreSumsOf p r c e → IsInverseOf (form_of (design_of p)) f v →
@@ -34,7 +34,7 @@ made_of p r c e v f t sums solved room is =
 pub real_epsilon-requires-clause-made : goal.real_epsilon-requires-clause-made
 real_epsilon-requires-clause-made c =
     let p = c.args.design.now in
-    let form = c.in_ok-condensed.ensures.form in
-    made_of p 8 c.in_ok-condensed.condensed c.in_ok-e.e c.in_ok-gains.gains c.args.f c.deref.result.now
+    let form = c.requires.form in
+    made_of p 8 c.args.condensed.now c.in_ok-e.e c.in_ok-gains.gains c.args.f c.deref.result.now
     (record { form = form; bound = omega arith; sums = c.in_ok-e.ensures.value.1; room = c.in_ok-e.ensures.value.0 })
     (c.in_ok-gains.ensures.solved p form) (c.in_ok-gains.ensures.fits p form) c.deref.ensures.value
