@@ -32,24 +32,16 @@ static WORDS: [(&str, Option<i128>); 25] = [
     ("\u{661}", None),
 ];
 
-// The first word that spells something else.
-fn first_other_word(cases: &[(&'static str, Option<i128>)]) -> Option<&'static str> {
-    for (word, number) in cases {
-        if number_word(word.as_bytes()) != *number {
-            return Some(word);
-        }
-    }
-    None
-}
-
 #[test]
 fn words(rt: HostRuntime) {
-    assert_eq!(rt; first_other_word(&WORDS), None);
+    for (word, number) in &WORDS {
+        assert!(rt; number_word(word.as_bytes()) == *number, "{word}");
+    }
 }
 
 #[test]
 fn other_bytes(rt: HostRuntime) {
-    assert_eq!(rt; number_word(&[49, 255]), None);
+    assert!(rt; number_word(&[49, 255]).is_none());
 }
 
 // Texts, how many pieces commas make of them, and the second number, where each piece is one.
@@ -70,31 +62,27 @@ fn second_of(alloc: Global, pieces: &[&[u8]]) -> Result<Option<i128>, AllocError
     }
 }
 
-// How many pieces commas make of a text, and the second number, where each piece is one.
-fn list_of(alloc: Global, text: &str) -> Result<(usize, Option<i128>), AllocError> {
-    let pieces = pieces_of(alloc, text.as_bytes(), b',')?;
-    let second = second_of(alloc, pieces.as_slice())?;
-    Ok((pieces.len(), second))
-}
-
-// The first text that has other pieces or another second number.
-fn first_other_list(
+// Whether commas make so many pieces of a text, and this is the second number, where each piece is one.
+fn is_list(
     alloc: Global,
-    cases: &[(&'static str, usize, Option<i128>)],
-) -> Result<Option<&'static str>, AllocError> {
-    for (text, count, second) in cases {
-        if list_of(alloc, text)? != (*count, *second) {
-            return Ok(Some(text));
-        }
-    }
-    Ok(None)
+    text: &str,
+    count: usize,
+    second: Option<i128>,
+) -> Result<bool, AllocError> {
+    let pieces = pieces_of(alloc, text.as_bytes(), b',')?;
+    Ok(pieces.len() == count && second_of(alloc, pieces.as_slice())? == second)
 }
 
 #[test]
 fn lists(rt: HostRuntime) -> Result<(), Fail> {
-    assert_eq!(rt; first_other_list(rt.alloc(), &LISTS)?, None);
+    for (text, count, second) in &LISTS {
+        assert!(rt; is_list(rt.alloc(), text, *count, *second)?, "{text}");
+    }
     Ok(())
 }
+
+// Numbers and their text.
+static SPACED: [(&[i128], &str); 3] = [(&[], ""), (&[0], "0"), (&[4096, -2224], "4096 -2224")];
 
 // Whether this is the text of the numbers.
 fn is_spaced(alloc: Global, numbers: &[i128], text: &str) -> Result<bool, AllocError> {
@@ -103,22 +91,22 @@ fn is_spaced(alloc: Global, numbers: &[i128], text: &str) -> Result<bool, AllocE
 }
 
 #[test]
-fn text_of_none(rt: HostRuntime) -> Result<(), Fail> {
-    assert!(rt; is_spaced(rt.alloc(), &[], "")?);
+fn texts(rt: HostRuntime) -> Result<(), Fail> {
+    for (numbers, text) in &SPACED {
+        assert!(rt; is_spaced(rt.alloc(), numbers, text)?, "{text}");
+    }
     Ok(())
 }
 
-#[test]
-fn text_of_one(rt: HostRuntime) -> Result<(), Fail> {
-    assert!(rt; is_spaced(rt.alloc(), &[0], "0")?);
-    Ok(())
-}
-
-#[test]
-fn text_of_two(rt: HostRuntime) -> Result<(), Fail> {
-    assert!(rt; is_spaced(rt.alloc(), &[4096, -2224], "4096 -2224")?);
-    Ok(())
-}
+// Words, numbers, and the line of the numbers after the word.
+static LINES: [(&str, &[i128], &str); 2] = [
+    ("end", &[], "end"),
+    (
+        "W",
+        &[256, -256, i128::MIN],
+        "W 256 -256 -170141183460469231731687303715884105728",
+    ),
+];
 
 // Whether this is the text of the numbers after a word.
 fn is_line(alloc: Global, key: &str, numbers: &[i128], text: &str) -> Result<bool, AllocError> {
@@ -127,14 +115,9 @@ fn is_line(alloc: Global, key: &str, numbers: &[i128], text: &str) -> Result<boo
 }
 
 #[test]
-fn line_of_none(rt: HostRuntime) -> Result<(), Fail> {
-    assert!(rt; is_line(rt.alloc(), "end", &[], "end")?);
-    Ok(())
-}
-
-#[test]
-fn line_of_three(rt: HostRuntime) -> Result<(), Fail> {
-    let text = "W 256 -256 -170141183460469231731687303715884105728";
-    assert!(rt; is_line(rt.alloc(), "W", &[256, -256, i128::MIN], text)?);
+fn lines(rt: HostRuntime) -> Result<(), Fail> {
+    for (key, numbers, text) in &LINES {
+        assert!(rt; is_line(rt.alloc(), key, numbers, text)?, "{text}");
+    }
     Ok(())
 }

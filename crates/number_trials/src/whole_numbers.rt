@@ -33,19 +33,14 @@ static QUOTIENTS: [(i128, i128, [i128; 3]); 19] = [
     (1 - HALF, MAX, [-1, 0, 0]),
 ];
 
-// The first two numbers with another quotient.
-fn first_other_quotient(cases: &[(i128, i128, [i128; 3])]) -> Option<(i128, i128)> {
-    for (a, b, made) in cases {
-        if *b < 1 || [floor_div(*a, *b), ceil_div(*a, *b), round_div(*a, *b)] != *made {
-            return Some((*a, *b));
-        }
-    }
-    None
-}
-
 #[test]
 fn quotients(rt: HostRuntime) {
-    assert_eq!(rt; first_other_quotient(&QUOTIENTS), None);
+    for (a, b, made) in &QUOTIENTS {
+        assert!(rt;
+            *b >= 1 && [floor_div(*a, *b), ceil_div(*a, *b), round_div(*a, *b)] == *made,
+            "{a} by {b}"
+        );
+    }
 }
 
 // A number, by how much it is shifted, and the result rounded down and to the nearest.
@@ -62,24 +57,19 @@ static SHIFTS: [(i128, u32, [i128; 2]); 10] = [
     (MIN, 0, [MIN, MIN]),
 ];
 
-// The first number and shift with another result.
-fn first_other_shift(cases: &[(i128, u32, [i128; 2])]) -> Option<(i128, u32)> {
-    for (v, k, made) in cases {
-        if *k > 126 || [floor_shift(*v, *k), round_shift(*v, *k)] != *made {
-            return Some((*v, *k));
-        }
-    }
-    None
-}
-
 #[test]
 fn shifts(rt: HostRuntime) {
-    assert_eq!(rt; first_other_shift(&SHIFTS), None);
+    for (v, k, made) in &SHIFTS {
+        assert!(rt;
+            *k <= 126 && [floor_shift(*v, *k), round_shift(*v, *k)] == *made,
+            "{v} by {k}"
+        );
+    }
 }
 
 #[test]
 fn shifts_up(rt: HostRuntime) {
-    assert_eq!(rt; scaled(-3, 4), -48);
+    assert!(rt; scaled(-3, 4) == -48);
 }
 
 // Numbers and their roots.
@@ -95,19 +85,11 @@ static ROOTS: [(i128, i128); 9] = [
     (MAX, 13043817825332782212),
 ];
 
-// The first number with another root.
-fn first_other_root(cases: &[(i128, i128)]) -> Option<i128> {
-    for (v, root) in cases {
-        if *v < 0 || isqrt(*v) != *root {
-            return Some(*v);
-        }
-    }
-    None
-}
-
 #[test]
 fn roots(rt: HostRuntime) {
-    assert_eq!(rt; first_other_root(&ROOTS), None);
+    for (v, root) in &ROOTS {
+        assert!(rt; *v >= 0 && isqrt(*v) == *root, "{v}");
+    }
 }
 
 // Two numbers, their sum and their product, none where it has no room.
@@ -120,19 +102,14 @@ static CHECKED: [(i128, i128, Option<i128>, Option<i128>); 6] = [
     (-HALF, 2, Some(2 - HALF), Some(MIN)),
 ];
 
-// The first two numbers with another sum or product.
-fn first_other_checked(cases: &[(i128, i128, Option<i128>, Option<i128>)]) -> Option<(i128, i128)> {
-    for (a, b, sum, product) in cases {
-        if add_checked(*a, *b) != *sum || mul_checked(*a, *b) != *product {
-            return Some((*a, *b));
-        }
-    }
-    None
-}
-
 #[test]
 fn checked(rt: HostRuntime) {
-    assert_eq!(rt; first_other_checked(&CHECKED), None);
+    for (a, b, sum, product) in &CHECKED {
+        assert!(rt;
+            add_checked(*a, *b) == *sum && mul_checked(*a, *b) == *product,
+            "{a} and {b}"
+        );
+    }
 }
 
 // A fraction, an exponent, the numerator times that power of two and the fraction over it, rounded down, none where it has no room.
@@ -151,23 +128,15 @@ static SCALED: [(i128, i128, u32, Option<i128>, Option<i128>); 6] = [
     (0, 5, 126, Some(0), Some(0)),
 ];
 
-// The first fraction with other results.
-fn first_other_scaled(
-    cases: &[(i128, i128, u32, Option<i128>, Option<i128>)],
-) -> Option<(i128, i128, u32)> {
-    for &(num, den, k, left, floor) in cases {
-        if den < 1
-            || k > 126
-            || shift_left(num, k) != left
-            || floor_scaled(&Frac { num, den }, k) != floor
-        {
-            return Some((num, den, k));
-        }
-    }
-    None
-}
-
 #[test]
 fn checked_shifts(rt: HostRuntime) {
-    assert_eq!(rt; first_other_scaled(&SCALED), None);
+    for &(num, den, k, left, floor) in &SCALED {
+        assert!(rt;
+            den >= 1
+                && k <= 126
+                && shift_left(num, k) == left
+                && floor_scaled(&Frac { num, den }, k) == floor,
+            "{num} over {den} by {k}"
+        );
+    }
 }
