@@ -9,7 +9,7 @@ cp -r "$top/crates" "$top/crates.txt" "$top/HANDLES" "$copy/"
 cd "$copy"
 rt new crates/condense_speed start_io > /dev/null
 rm -f crates/condense_speed/src/clock.rt crates/condense_speed/stdin crates/condense_speed/stdout
-echo "condense_speed: dual_method frac_scaled integer_algebra mat_int plant_condense qp_model thiserror anyhow" >> crates.txt
+echo "condense_speed: anyhow mat_int plant_condense qp_model" >> crates.txt
 cat > crates/condense_speed/src/main.rt <<'MAIN'
 #![tactic(auto)]
 

@@ -59,7 +59,19 @@ if [ $# -gt 0 ]; then
 fi
 
 cd "$top"
-for crate in integer_algebra frac_scaled mat_int enclosure dual_method qp_model plant_condense fine_run fine_condense class_choice hessian_check; do
+# the crates that the bench is made of, and those below them
+needed() {
+    awk -F: '
+        /^[a-z]/ { below[$1] = $2 }
+        function visit(crate, names, count, i) {
+            if (!(crate in below) || crate in seen) return
+            seen[crate]
+            count = split(below[crate], names, " ")
+            for (i = 1; i <= count; i++) visit(names[i])
+        }
+        END { visit("class_choice"); visit("hessian_check"); for (crate in seen) print crate }' crates.txt
+}
+for crate in $(needed); do
     mkdir -p "$work/crates/$crate"
     tar cf - --exclude=out -C "crates/$crate" . | tar xf - -C "$work/crates/$crate"
     grep "^$crate:" crates.txt >>"$work/crates.txt"

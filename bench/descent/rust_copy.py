@@ -120,7 +120,7 @@ pub mod qp_model {
     }
 }
 
-pub mod plant_condense {
+pub mod condensed_form {
     use mat_int::Mat;
     pub struct Condensed {
         pub hess: Mat,
@@ -185,7 +185,7 @@ use all::solve_all;
 use inverse::Inverse;
 use mat_int::Mat;
 use memory::Global;
-use plant_condense::Condensed;
+use condensed_form::Condensed;
 
 // The next `rows * cols` numbers of a text.
 fn matrix<'a>(words: &mut impl Iterator<Item = &'a str>, rows: usize, cols: usize) -> Mat {

@@ -11,8 +11,8 @@ use Rattle.qp_model.specs.Columns.{columns, column_bound, descent_size, solve_ma
 use Rattle.qp_model.specs.GoodSolution.{IsGood}
 use Rattle.qp_model.proofs.VersionLaws.{design_states_le, design_stages_le, design_rows_le}
 use Rattle.qp_model.proofs.SystemLaws.{count_same, matrix_same, column_is, column_bound_same, descent_same}
-use Rattle.plant_condense.specs.Form.{HasShapes, IsFormOf, held}
-use Rattle.plant_condense.specs.declared.condensed.Condensed.{Condensed}
+use Rattle.condensed_form.specs.Form.{HasShapes, IsFormOf, held}
+use Rattle.condensed_form.specs.declared.condensed.Condensed.{Condensed}
 use Rattle.approx_inverse.specs.Condensed.{IsSolvable}
 use Rattle.approx_inverse.specs.Inverse.{HasGainSizes, IsInverseOf, SolvesForm, solution_of}
 use Rattle.approx_inverse.specs.declared.inverse.Inverse.{Inverse}

@@ -4,8 +4,8 @@ use Rattle.mat_int.specs.Matrix.{Matrix, entry_of}
 use Rattle.qp_model.specs.Form.{Form}
 use Rattle.qp_model.specs.Columns.{solve_matrix}
 use Rattle.qp_model.specs.Convex.{IsConvex}
-use Rattle.plant_condense.specs.Form.{HasShapes, held}
-use Rattle.plant_condense.specs.declared.condensed.Condensed.{Condensed}
+use Rattle.condensed_form.specs.Form.{HasShapes, held}
+use Rattle.condensed_form.specs.declared.condensed.Condensed.{Condensed}
 
 -- numbers of a design's condensed form, as far as solving goes
 pub record IsSolvable (c : Condensed) : Type 0 where

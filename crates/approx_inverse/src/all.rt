@@ -5,7 +5,7 @@ ghost use Rattle.qp_model.specs.declared.quantity.Quantity.TheVariants.{Descent}
 ghost use Rattle.qp_model.specs.Parts.{design_of};
 ghost use Rattle.qp_model.specs.Class.{form_of};
 ghost use Rattle.qp_model.specs.Columns.{descent_size};
-ghost use Rattle.plant_condense.specs.Form.{IsForm, IsFormOf, held};
+ghost use Rattle.condensed_form.specs.Form.{IsForm, IsFormOf, held};
 ghost use Rattle.approx_inverse.specs.Condensed.{IsMatrixOf, IsSolvable};
 ghost use Rattle.approx_inverse.specs.Inverse.{IsInverseOf, SolvesForm};
 ghost use Rattle.approx_inverse.specs.Fault.{IsFault};
@@ -17,8 +17,8 @@ use crate::guess::Root;
 use crate::inverse::Inverse;
 use crate::system::matrix_of;
 use crate::workspace::Workspace;
+use condensed_form::Condensed;
 use mat_int::Mat;
-use plant_condense::Condensed;
 use qp_model::Quantity;
 use std::alloc::Global;
 

@@ -5,14 +5,14 @@ ghost use Rattle.integer_algebra.specs.Sums.{at};
 ghost use Rattle.integer_algebra.specs.Sizes.{size};
 ghost use Rattle.mat_int.specs.Matrix.{entry_of};
 ghost use Rattle.qp_model.specs.Columns.{columns, solve_column, solve_matrix};
-ghost use Rattle.plant_condense.specs.Form.{held};
+ghost use Rattle.condensed_form.specs.Form.{held};
 ghost use Rattle.approx_inverse.specs.Condensed.{IsSolvable, IsMatrixOf};
 ghost use Rattle.approx_inverse.specs.DescentSize.{greatest_row};
 ghost use Rattle.approx_inverse.specs.Fault.{IsFault};
 
 use crate::fault::SolveFault;
+use condensed_form::Condensed;
 use mat_int::Mat;
-use plant_condense::Condensed;
 use qp_model::Quantity;
 use std::alloc::Global;
 

@@ -1,7 +1,7 @@
 // What solving works in.
 ghost use Rattle.std.specs.Prelude.{ℕ, ◌≡◌, ◌<◌, ◌≤◌, ◌+◌, ◌^◌, length, IsTrue, IsFalse, IfOk};
 ghost use Rattle.qp_model.specs.Columns.{columns, descent_size};
-ghost use Rattle.plant_condense.specs.Form.{held};
+ghost use Rattle.condensed_form.specs.Form.{held};
 ghost use Rattle.approx_inverse.specs.Condensed.{IsSolvable, IsMatrixOf};
 ghost use Rattle.approx_inverse.specs.Spans.{cells};
 ghost use Rattle.approx_inverse.specs.Root.{HasRootSizes};
@@ -9,8 +9,8 @@ ghost use Rattle.approx_inverse.specs.Root.{HasRootSizes};
 use crate::column::solve_near;
 use crate::guess::Root;
 use crate::system::put_column;
+use condensed_form::Condensed;
 use mat_int::Mat;
-use plant_condense::Condensed;
 use std::alloc::{AllocError, Global};
 use word_region::{Region, Span};
 

@@ -1,6 +1,6 @@
 -- A text that grows line by line.
 use Rattle.std.proofs.Common.{◌≡◌, ℕ, List, [], ◌∷◌, ◌++◌, refl, sym, ap, ◌∙◌, append_assoc}
-use Rattle.qp_model.specs.Lines.{text_of}
+use Rattle.number_text.specs.Lines.{text_of}
 
 text_append : (xs ys : List (List ℕ)) → text_of (xs ++ ys) ≡ text_of xs ++ text_of ys
 text_append [] ys = refl

@@ -2,7 +2,7 @@
 use Rattle.std.specs.Prelude.{ℕ, suc, ℤ, pos, List, [], ◌∷◌, ◌++◌, ◌==◌, if◌then◌else◌, map, codes}
 use Rattle.std.specs.List.{join_with_byte}
 use Rattle.std.specs.Fmt.{signed_decimal}
-use Rattle.qp_model.specs.Lines.{line_of, text_of}
+use Rattle.number_text.specs.Lines.{line_of, text_of}
 use Rattle.qp_model.specs.Printed.{Printed}
 
 -- a word and its number each, the version first, and beside a number that is over 2^16 that power

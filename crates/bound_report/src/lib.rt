@@ -3,14 +3,15 @@
 
 ghost use Rattle.std.specs.Prelude.{◌≡◌, ◌++◌, IfOk, OnOk, string_bytes};
 ghost use Rattle.std.specs.Fmt.{signed_decimal};
-ghost use Rattle.qp_model.specs.Lines.{text_of};
+ghost use Rattle.number_text.specs.Lines.{text_of};
 ghost use Rattle.qp_model.specs.Printed.{printed};
 ghost use Rattle.bound_report.specs.Report.{report_head, bound_lines, violation_lines, numbered_violations, report_text, first_members, last_members, json_members, report_json};
 ghost use Rattle.bound_report.specs.Document.{strings_of, members_of, object_of, IsJsonLine};
 ghost use Rattle.serde_json.specs.Data.{string, put};
 ghost use Rattle.serde_json.specs.View.{view, items_view, members_view};
 
-use qp_model::{Bounds, push_line};
+use number_text::push_line;
+use qp_model::Bounds;
 use serde_json::{Map, Value, put};
 use std::alloc::{AllocError, Global};
 

@@ -11,11 +11,11 @@ use Rattle.qp_model.specs.Design.{Design}
 use Rattle.qp_model.specs.Parts.{design_of}
 use Rattle.qp_model.specs.Quantities.{prediction_size, hessian_size, rows_size}
 use Rattle.qp_model.specs.FineSizes.{exact_curvature_size, is_fine}
-use Rattle.plant_condense.specs.declared.condensed.Condensed.{Condensed}
-use Rattle.plant_condense.specs.declared.fault.CondenseFault.{CondenseFault}
-use Rattle.plant_condense.specs.declared.fault.CondenseFault.TheVariants.{Memory}
-use Rattle.plant_condense.specs.Form.{IsFormIn, IsFormOf}
-use Rattle.plant_condense.specs.Fault.{IsFirstWideIn, IsFirstWideForm}
+use Rattle.condensed_form.specs.declared.condensed.Condensed.{Condensed}
+use Rattle.condensed_form.specs.declared.fault.CondenseFault.{CondenseFault}
+use Rattle.condensed_form.specs.declared.fault.CondenseFault.TheVariants.{Memory}
+use Rattle.condensed_form.specs.Form.{IsFormIn, IsFormOf}
+use Rattle.condensed_form.specs.Fault.{IsFirstWideIn, IsFirstWideForm}
 
 -- ---- plain numbers
 first_above : (t a b c e : ℕ) → t < a → nat_lt t (max (max a b) (max c e)) ≡ true

@@ -4,11 +4,12 @@ ghost use Rattle.qp_model.specs.declared.quantity.Quantity.{Quantity};
 ghost use Rattle.qp_model.specs.Parts.{design_of};
 ghost use Rattle.qp_model.specs.FineSizes.{is_fine};
 ghost use Rattle.qp_model.specs.Class.{FormLaw};
-ghost use Rattle.plant_condense.specs.Form.{IsFormIn, IsFormOf};
-ghost use Rattle.plant_condense.specs.Fault.{IsFirstWideForm};
+ghost use Rattle.condensed_form.specs.Form.{IsFormIn, IsFormOf};
+ghost use Rattle.condensed_form.specs.Fault.{IsFirstWideForm};
 
+use condensed_form::{CondenseFault, Condensed, is_curvature_limited};
 use fine_condense::condense_fine;
-use plant_condense::{CondenseFault, Condensed, condense_exact, is_curvature_limited};
+use plant_condense::condense_exact;
 use qp_model::Design;
 use std::alloc::{AllocError, Global};
 

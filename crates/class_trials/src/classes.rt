@@ -1,7 +1,7 @@
 // Expected values are those of bench/condense/classes.py.
 use class_choice::condense;
+use condensed_form::{CondenseFault, Condensed};
 use mat_int::Mat;
-use plant_condense::{CondenseFault, Condensed};
 use qp_model::{Design, Quantity};
 use std::alloc::{AllocError, Global};
 use std::test::Fail;

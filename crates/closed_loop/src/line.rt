@@ -3,8 +3,8 @@ ghost use Rattle.std.specs.Prelude.{◌≡◌, IfOk};
 ghost use Rattle.qp_model.specs.LoopLines.{loop_line};
 
 use fixed_kernel::Kernel;
+use number_text::spaced_text;
 use primal_average::{denominator, first_input};
-use qp_model::spaced_text;
 use std::alloc::{AllocError, Global};
 
 // The record, the turn, the state, the averaged plan's denominator and its first inputs, one space between two, and a line

@@ -6,8 +6,8 @@ use Rattle.qp_model.specs.Policy.{Plans}
 use Rattle.qp_model.specs.Controller.{Numbers}
 use Rattle.qp_model.specs.ControllerText.{IsControllerText}
 use Rattle.qp_model.specs.declared.design_parts.DesignParts.{DesignParts}
-use Rattle.qp_model.specs.declared.text_fault.TextFault.{TextFault}
-use Rattle.qp_model.specs.declared.text_fault.TextFault.TheVariants.{Memory as no_memory}
+use Rattle.number_text.specs.declared.text_fault.TextFault.{TextFault}
+use Rattle.number_text.specs.declared.text_fault.TextFault.TheVariants.{Memory as no_memory}
 use Rattle.controller_file.specs.FirstLine.{IsBadLine, IsUnsafe}
 use Rattle.controller_file.specs.declared.bad_controller.BadController.{BadController}
 use Rattle.controller_file.specs.declared.bad_controller.BadController.TheVariants.{Line, Unsafe, Memory}

@@ -3,7 +3,7 @@ ghost use Rattle.std.specs.Prelude.{◌≡◌, ◌≢◌, ◌⊎◌};
 
 use command_line::Status;
 use controller_file::BadController;
-use qp_model::TextFault;
+use number_text::TextFault;
 
 /// The status that tells of the first fault of the text of the file at a position.
 pub fn text_status(file: u32, fault: TextFault) -> Status

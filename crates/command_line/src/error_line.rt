@@ -5,7 +5,8 @@ ghost use Rattle.command_line.specs.StatusLine.{quantity_name, field_name, fault
 
 use crate::status::{Field, Status, status_number};
 use controller_file::BadController;
-use qp_model::{Quantity, TextFault};
+use number_text::TextFault;
+use qp_model::Quantity;
 use std::alloc::{AllocError, Global};
 
 // The name of a quantity.

@@ -5,7 +5,8 @@ ghost use Rattle.command_line.specs.declared.status.Status.TheVariants.{Memory a
 
 use controller_file::BadController;
 use frac_scaled::Frac;
-use qp_model::{Quantity, TextFault};
+use number_text::TextFault;
+use qp_model::Quantity;
 use std::alloc::AllocError;
 
 /// What a design and a controller may differ in.

@@ -4,7 +4,7 @@ ghost use Rattle.command_line.specs.Words.{word_of, IsSolve, IsGenerate, IsLoop,
 ghost use Rattle.command_line.specs.Commands.{IsUsage, AreOf};
 
 use io_edge::Words;
-use qp_model::number_word;
+use number_text::number_word;
 
 /// A command, with its number where it has one.
 #[derive(Clone, Copy, PartialEq, Eq)]

@@ -8,8 +8,8 @@ use Rattle.qp_model.specs.Successor.{IsFor}
 use Rattle.qp_model.specs.Policy.{Plans}
 use Rattle.qp_model.specs.Controller.{Numbers}
 use Rattle.qp_model.specs.declared.design_parts.DesignParts.{DesignParts}
-use Rattle.qp_model.specs.declared.text_fault.TextFault.{TextFault}
-use Rattle.qp_model.specs.declared.text_fault.TextFault.TheVariants.{Memory as no_room}
+use Rattle.number_text.specs.declared.text_fault.TextFault.{TextFault}
+use Rattle.number_text.specs.declared.text_fault.TextFault.TheVariants.{Memory as no_room}
 use Rattle.controller_file.specs.declared.bad_controller.BadController.{BadController}
 use Rattle.controller_file.specs.declared.bad_controller.BadController.TheVariants.{Line, Unsafe, Memory as no_space}
 use Rattle.design_engine.specs.declared.refusal.Refusal.{Refusal}
@@ -18,7 +18,7 @@ use Rattle.command_line.specs.Commands.{IsUsage}
 use Rattle.command_line.specs.Answers.{Contents, FileHolds, IsFileRefused, ReadsThen, IsAnswer, ForContents, IsCaused}
 use Rattle.command_files.specs.Texts.{TellsFault, IsControllerFault, DesignRight, DesignWrong, PolicyRight, PolicyWrong, StatesRight, StatesWrong, ControllerRight, ControllerWrong}
 use Rattle.command_files.specs.Reading.{ReadsStates}
-use Rattle.generate_command.specs.Made.{MakingCalls, status_of}
+use Rattle.controller_answer.specs.Made.{MakingCalls, status_of}
 use Rattle.generate_command.specs.Generate.{GenerateCalls}
 use Rattle.solve_command.specs.Inside.{RunsCall}
 use Rattle.solve_command.specs.Solve.{SolveCalls}

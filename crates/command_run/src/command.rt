@@ -1,7 +1,7 @@
 // The arguments, the files and the output.
 ghost use Rattle.std.specs.Prelude.{◌≡◌, ◌≢◌, ◌⊎◌, ◌↔◌, ℕ, ◌≤◌, IfSome, IsSomeAnd};
 ghost use Rattle.io_edge.specs.Faults.{Rose, NoneFalls};
-ghost use Rattle.qp_model.specs.declared.text_fault.TextFault.TheVariants.{Memory as no_room};
+ghost use Rattle.number_text.specs.declared.text_fault.TextFault.TheVariants.{Memory as no_room};
 ghost use Rattle.controller_file.specs.declared.bad_controller.BadController.TheVariants.{Memory as no_space};
 ghost use Rattle.command_line.specs.Words.{word_of, IsGenerate, IsDemo};
 ghost use Rattle.command_line.specs.Commands.{IsUsage};

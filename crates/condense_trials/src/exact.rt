@@ -1,7 +1,8 @@
 // Expected values are those of bench/condense/expected.py.
 use crate::refusal::wide;
+use condensed_form::Condensed;
 use mat_int::Mat;
-use plant_condense::{Condensed, condense_exact};
+use plant_condense::condense_exact;
 use qp_model::Quantity;
 use std::alloc::Global;
 use std::test::Fail;

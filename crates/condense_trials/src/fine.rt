@@ -1,7 +1,7 @@
 // Expected values are those of another program, in exact whole numbers.
 use crate::refusal::wide;
+use condensed_form::Condensed;
 use fine_condense::condense_fine;
-use plant_condense::Condensed;
 use qp_model::Quantity;
 use std::alloc::Global;
 use std::test::Fail;

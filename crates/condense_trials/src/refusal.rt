@@ -1,5 +1,5 @@
 // Why a design is not condensed.
-use plant_condense::{CondenseFault, Condensed};
+use condensed_form::{CondenseFault, Condensed};
 use qp_model::Quantity;
 use std::alloc::AllocError;
 

@@ -7,8 +7,8 @@ use Rattle.std.specs.Fmt.{signed_decimal}
 use Rattle.std.proofs.lemmas.List.Splits.{join_with_byte-slice_split, length-slice_split}
 use Rattle.std.proofs.lemmas.List.{length-map, same_from_push}
 use Rattle.std.proofs.lemmas.Option.{MatchOption-at_some, MatchOption-at_none}
-use Rattle.qp_model.specs.Lines.{text_of}
-use Rattle.qp_model.proofs.Pieces.{IsPiece, ArePieces, piece_above, number_pieces, joined_piece, split_joined, split_text}
+use Rattle.number_text.specs.Lines.{text_of}
+use Rattle.number_text.proofs.Pieces.{IsPiece, ArePieces, piece_above, number_pieces, joined_piece, split_joined, split_text}
 use Rattle.controller_file.specs.Lines.{Keyed, IsKeyedLine, spelled}
 
 -- the words of a line

@@ -6,8 +6,8 @@ use Rattle.std.specs.List.{join_with_byte, slice_split}
 use Rattle.std.proofs.lemmas.Bool.{ne_eqb, false≢true}
 use Rattle.std.proofs.lemmas.List.{append-nil, take_at, take_all, take_more, take-take, take-map, take-append-le, take-append-drop, length-append, length-map, length-take-le, get_or-take, get_or-map, map-append}
 use Rattle.std.proofs.lemmas.List.Splits.{join_with_byte-slice_split}
-use Rattle.qp_model.specs.Lines.{text_of}
-use Rattle.qp_model.proofs.Pieces.{IsPiece, ArePieces, split_text}
+use Rattle.number_text.specs.Lines.{text_of}
+use Rattle.number_text.proofs.Pieces.{IsPiece, ArePieces, split_text}
 use Rattle.controller_file.specs.FirstLine.{IsOneLine, IsTextInForm, BeginsInForm, IsFirstLine, IsBadLine}
 use Rattle.controller_file.specs.Lines.{Keyed, no_line, spelled, keyed_lines}
 use Rattle.controller_file.specs.Following.{IsBeginning, IsWhole, BeginsWith, IsMost}

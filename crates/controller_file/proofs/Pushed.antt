@@ -1,7 +1,7 @@
 -- Texts that grow line by line.
 use Rattle.std.proofs.Common.{◌≡◌, ℕ, ◌+◌, ◌<◌, ℤ, List, [], ◌∷◌, ◌++◌, length, take, get_or, map, refl, sym, ap, ◌∙◌, append_assoc}
 use Rattle.std.proofs.lemmas.List.{take_more, map-append}
-use Rattle.qp_model.specs.Lines.{line_of, text_of}
+use Rattle.number_text.specs.Lines.{line_of, text_of}
 use Rattle.controller_file.specs.Lines.{Keyed, spelled, chained}
 use Rattle.controller_file.proofs.Chained.{chain_more}
 

@@ -10,7 +10,7 @@ use Rattle.std.proofs.lemmas.List.Elements.{All-map, All-from_recursion, recursi
 use Rattle.std.proofs.lemmas.Int.{ints}
 use Rattle.mat_int.specs.Matrix.{Matrix}
 use Rattle.qp_model.specs.Range.{IsNumerator}
-use Rattle.qp_model.specs.Lines.{line_of, text_of}
+use Rattle.number_text.specs.Lines.{line_of, text_of}
 use Rattle.qp_model.specs.Controller.{Numbers, IsInForm, FitsWord}
 use Rattle.qp_model.specs.ControllerText.{controller_lines, controller_text}
 use Rattle.controller_file.specs.Lines.{Keyed, keyed_line, spelled, Fits, IsKeyedLine, row_lines, line_blocks, keyed_lines}

@@ -9,10 +9,10 @@ use Rattle.std.proofs.lemmas.Fmt.{decimal_is_IsNumeral_wide}
 use Rattle.std.proofs.lemmas.Str.Parse.{digit_at}
 use Rattle.std.proofs.lemmas.List.{drop_at, length-map, same_from_push}
 use Rattle.std.proofs.lemmas.List.Splits.{slice_split_at, join_with_byte-slice_split}
-use Rattle.qp_model.specs.Lines.{text_of}
+use Rattle.number_text.specs.Lines.{text_of}
 use Rattle.qp_model.specs.Controller.{Numbers, IsInForm, FitsWord}
 use Rattle.qp_model.specs.ControllerText.{IsControllerText}
-use Rattle.qp_model.proofs.Pieces.{ArePieces, split_text}
+use Rattle.number_text.proofs.Pieces.{ArePieces, split_text}
 use Rattle.controller_file.specs.FirstLine.{IsTextInForm}
 use Rattle.controller_file.specs.Laws.{HasOneController, HasNoPrefix}
 use Rattle.controller_file.specs.declared.table.Sizes.{Sizes}

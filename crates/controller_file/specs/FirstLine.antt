@@ -1,6 +1,6 @@
 -- The first line of bytes at which they are no controller text.
 use Rattle.std.specs.Prelude.{◌≡◌, ◌≢◌, ℕ, ◌≤◌, ◌<◌, List, ◌++◌, length, All}
-use Rattle.qp_model.specs.Lines.{text_of}
+use Rattle.number_text.specs.Lines.{text_of}
 use Rattle.qp_model.specs.Controller.{Numbers, IsInForm, FitsWord}
 use Rattle.qp_model.specs.AbsoluteSums.{IsController}
 use Rattle.qp_model.specs.ControllerText.{controller_text}

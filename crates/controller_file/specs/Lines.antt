@@ -1,7 +1,7 @@
 -- Lines as words and numbers, and those of a controller.
 use Rattle.std.specs.Prelude.{ℕ, ◌<◌, ◌^◌, ℤ, pos, negsuc, List, [], ◌∷◌, ◌++◌, length, map, codes, All, FitsSigned, ◌==◌, if◌then◌else◌, nat_lt, slice_index_or}
 use Rattle.std.specs.Int.{w128}
-use Rattle.qp_model.specs.Lines.{line_of}
+use Rattle.number_text.specs.Lines.{line_of}
 use Rattle.qp_model.specs.Limits.{text_version}
 use Rattle.qp_model.specs.Controller.{Numbers}
 use Rattle.controller_file.specs.declared.line.Line.{Line}

@@ -3,7 +3,7 @@ ghost use Rattle.std.specs.Prelude.{◌≡◌, ◌↔◌, IsTrue, IfOk, IfSome, 
 ghost use Rattle.integer_algebra.specs.Sums.{at};
 ghost use Rattle.controller_file.specs.Lines.{Keyed, view, views, spelled, Fits, IsKeyedLine, place, place_of, line_in, small};
 
-use qp_model::{numbers_of, pieces_of};
+use number_text::{numbers_of, pieces_of};
 use std::alloc::{AllocError, Global};
 
 /// A line's first word and the numbers after it.

@@ -1,6 +1,6 @@
 // A controller from its text.
 ghost use Rattle.std.specs.Prelude.{◌≡◌, ◌≢◌, ◌⊎◌, ℕ, [], ◌∷◌, ◌++◌, ◌↔◌, Err, IsTrue, IfOk, IfSome, IfNone, MatchResult, map, take, length};
-ghost use Rattle.qp_model.specs.Lines.{text_of};
+ghost use Rattle.number_text.specs.Lines.{text_of};
 ghost use Rattle.qp_model.specs.Controller.{Numbers};
 ghost use Rattle.qp_model.specs.ControllerText.{IsControllerText};
 ghost use Rattle.controller_file.specs.FirstLine.{IsBadLine, IsUnsafe};
@@ -12,8 +12,8 @@ use crate::following::can_follow;
 use crate::line::{Line, line_of};
 use crate::parts::parts_of;
 use crate::table::is_whole;
+use number_text::pieces_of;
 use overflow_check::Controller;
-use qp_model::pieces_of;
 use std::alloc::{AllocError, Global};
 
 /// The controller whose text the bytes are.

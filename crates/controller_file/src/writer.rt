@@ -2,15 +2,16 @@
 ghost use Rattle.std.specs.Prelude.{◌≡◌, ◌<◌, ◌++◌, IfOk, OnOk, All, FitsSigned, pos, string_bytes, codes, map, slice_index_or, []};
 ghost use Rattle.std.specs.Int.{w128};
 ghost use Rattle.qp_model.specs.Controller.{numbers, IsInForm, FitsWord};
-ghost use Rattle.qp_model.specs.Lines.{text_of};
+ghost use Rattle.number_text.specs.Lines.{text_of};
 ghost use Rattle.qp_model.specs.ControllerText.{matrix_lines, controller_text, IsControllerText};
 ghost use Rattle.controller_file.specs.Lines.{Fits, spelled, line_blocks};
 ghost use Rattle.controller_file.specs.Table.{text_table, sizes_of};
 
 use crate::table::{Sizes, table};
 use mat_int::Mat;
+use number_text::push_line;
 use overflow_check::Controller;
-use qp_model::{ControllerParts, VERSION, push_line};
+use qp_model::{ControllerParts, VERSION};
 use std::alloc::{AllocError, Global};
 
 /// The one text of a controller: lines of a word and numbers, `mpc-controller` and the version first and `end` last.

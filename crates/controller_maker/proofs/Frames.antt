@@ -1,5 +1,5 @@
 -- From the parts of a controller that are made of a design to what is promised of it.
-use Rattle.std.proofs.Common.{◌≡◌, inl, inr, Option, Some, None, is_some, Bool, true, false, not, ℕ, ◌+◌, ◌*◌, ◌^◌, ◌<◌, ◌≤◌, ℤ, pos, ◌≤ℤ◌, List, length, replicate, unsigned_abs, arith, refl, ap, sym, subst, ◌∙◌, le_refl}
+use Rattle.std.proofs.Common.{◌≡◌, inl, inr, Option, Some, None, is_some, Bool, true, false, not, ℕ, ◌+◌, ◌*◌, ◌^◌, ◌<◌, ◌≤◌, ℤ, pos, ◌≤ℤ◌, List, length, unsigned_abs, arith, refl, ap, sym, subst, ◌∙◌, le_refl}
 use Rattle.std.specs.Option.{SomeIff}
 use Rattle.std.proofs.lemmas.Bool.{cases_lt}
 use Rattle.std.proofs.lemmas.Int.{ints}
@@ -10,7 +10,7 @@ use Rattle.mat_int.specs.Matrix.{Matrix}
 use Rattle.qp_model.specs.Class.{form_of}
 use Rattle.qp_model.specs.declared.design_parts.DesignParts.{DesignParts}
 use Rattle.qp_model.specs.Design.{Design, entries, rows}
-use Rattle.qp_model.specs.Limits.{text_version, most_stages, most_rows}
+use Rattle.qp_model.specs.Limits.{most_stages, most_rows}
 use Rattle.qp_model.specs.Parts.{IsDesign, design_of}
 use Rattle.qp_model.specs.Range.{LiesIn}
 use Rattle.qp_model.specs.Columns.{column_bound, solve_matrix, solve_column}
@@ -26,8 +26,8 @@ use Rattle.approx_inverse.specs.Inverse.{HasGainSizes, IsInverseOf, solution_of}
 use Rattle.approx_inverse.specs.declared.inverse.Inverse.{Inverse}
 use Rattle.approx_inverse.proofs.FormLaws.{good_same}
 use Rattle.controller_maker.specs.Widest.{widest, width_size, rounded, listed}
-use Rattle.plant_condense.specs.Form.{IsFormOf, held}
-use Rattle.plant_condense.specs.declared.condensed.Condensed.{Condensed}
+use Rattle.condensed_form.specs.Form.{IsFormOf, held}
+use Rattle.condensed_form.specs.declared.condensed.Condensed.{Condensed}
 use Rattle.approx_inverse.proofs.DesignLaws.{bound_equal}
 use Rattle.controller_maker.proofs.Bounds.{resized}
 use Rattle.controller_maker.proofs.Classes.{entries_are, states_are, rows_are, columns_are}

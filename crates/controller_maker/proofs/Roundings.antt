@@ -14,9 +14,9 @@ use Rattle.qp_model.specs.Design.{entries, rows}
 use Rattle.qp_model.specs.Parts.{design_of}
 use Rattle.qp_model.specs.Runs.{Holds}
 use Rattle.qp_model.specs.declared.design_parts.DesignParts.{DesignParts}
-use Rattle.plant_condense.specs.Form.{IsFormOf}
-use Rattle.plant_condense.proofs.FormSums.{plan_entry, state_entry, bound_entry}
-use Rattle.plant_condense.specs.declared.condensed.Condensed.{Condensed}
+use Rattle.condensed_form.specs.Form.{IsFormOf}
+use Rattle.condensed_form.proofs.FormSums.{plan_entry, state_entry, bound_entry}
+use Rattle.condensed_form.specs.declared.condensed.Condensed.{Condensed}
 use Rattle.controller_maker.specs.Assembled.{AreRowsOf}
 use Rattle.controller_maker.specs.declared.rounding.Rows.{Rows}
 

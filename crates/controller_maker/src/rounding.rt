@@ -7,12 +7,12 @@ ghost use Rattle.qp_model.specs.declared.design_parts.DesignParts.{DesignParts};
 ghost use Rattle.qp_model.specs.Controller.{HasShape};
 ghost use Rattle.qp_model.specs.Parts.{design_of};
 ghost use Rattle.qp_model.specs.Runs.{Holds};
-ghost use Rattle.plant_condense.specs.Form.{IsForm, IsFormOf};
+ghost use Rattle.condensed_form.specs.Form.{IsForm, IsFormOf};
 ghost use Rattle.controller_maker.specs.Assembled.{AreRowsOf};
 
+use condensed_form::Condensed;
 use frac_scaled::{round_div, scaled};
 use mat_int::Mat;
-use plant_condense::Condensed;
 use std::alloc::{AllocError, Global};
 
 /// The rows of a controller, over `2^f`. With nu plan entries, n states and m limit rows:

@@ -1,14 +1,14 @@
 // Gains that are as large as those of any good solutions.
 ghost use Rattle.std.specs.Prelude.{◌≡◌, ◌<◌, ◌≤◌, ◌^◌, pos, length, IfOk};
 ghost use Rattle.qp_model.specs.Columns.{columns, column_bound, descent_size};
-ghost use Rattle.plant_condense.specs.Form.{held};
+ghost use Rattle.condensed_form.specs.Form.{held};
 ghost use Rattle.approx_inverse.specs.Condensed.{IsSolvable};
 ghost use Rattle.controller_maker.specs.Assembled.{AreBounds};
 
 use approx_inverse::{Inverse, put_column};
+use condensed_form::Condensed;
 use frac_scaled::{ceil_div, scaled};
 use mat_int::abs_sum;
-use plant_condense::Condensed;
 use std::alloc::{AllocError, Global};
 
 // The bound on the entries of column i at f bits. `line` is for the column.

@@ -4,8 +4,8 @@ use Rattle.qp_model.specs.Policy.{Plans}
 use Rattle.qp_model.specs.Parts.{design_numbers}
 use Rattle.qp_model.specs.declared.design_parts.DesignParts.{DesignParts}
 use Rattle.command_line.specs.Answers.{IsAnswer, IsCaused}
-use Rattle.generate_command.specs.Made.{MakingCalls}
-use Rattle.generate_command.proofs.Inputs.{making_same}
+use Rattle.controller_answer.specs.Made.{MakingCalls}
+use Rattle.controller_answer.proofs.SameDesign.{making_same}
 use Rattle.demo_command.specs.Demo.{AreMadeFrom, DemoCalls}
 use Rattle.command_line.specs.declared.status.Status.{Status}
 use Rattle.command_line.specs.declared.status.Status.TheVariants.{Done, Memory, ReadFault, WriteFault}

@@ -13,7 +13,7 @@ use Rattle.qp_model.specs.Printed.{Printed}
 use Rattle.policy_file.specs.StatesText.{IsStatesText}
 use Rattle.design_maker.specs.Texts.{states_text}
 use Rattle.solve_command.specs.Inside.{AreInside}
-use Rattle.generate_command.specs.Made.{IsMadeOf}
+use Rattle.controller_answer.specs.Made.{IsMadeOf}
 use Rattle.demo_command.specs.Demo.{AreMadeFrom, IsShown}
 
 -- the states are grid states of the design's box

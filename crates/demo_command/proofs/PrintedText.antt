@@ -6,7 +6,7 @@ use Rattle.std.proofs.Math.Seq.{take-length}
 use Rattle.io_edge.specs.Faults.{GrowsByPart}
 use Rattle.mat_int.specs.Matrix.{Matrix}
 use Rattle.qp_model.specs.Controller.{Numbers}
-use Rattle.qp_model.specs.Lines.{spaced}
+use Rattle.number_text.specs.Lines.{spaced}
 use Rattle.qp_model.specs.Machine.{average_denominator, averaged_plan}
 use Rattle.qp_model.specs.ControllerText.{plan_line}
 use Rattle.qp_model.specs.Printed.{Printed}

@@ -10,7 +10,7 @@ use Rattle.policy_file.specs.PolicyText.{IsPolicyText}
 use Rattle.design_maker.specs.Texts.{design_text, policy_text, states_text}
 use Rattle.design_maker.specs.MadeParts.{corner_matrix}
 use Rattle.design_maker.specs.MadeLaw.{AreMadeTexts, AreMade, MadeLaw}
-use Rattle.generate_command.proofs.Inputs.{along}
+use Rattle.controller_answer.proofs.SameDesign.{along}
 use Rattle.demo_command.specs.Demo.{demo_stages}
 use Rattle.demo_command.proofs.Answering.{OneOf}
 use Rattle.demo_command.proofs.Inside.{AreInBox}

@@ -7,7 +7,7 @@ ghost use Rattle.demo_command.specs.Demo.{DemoCalls, DemoPrints};
 use crate::inputs::inputs_of;
 use crate::printing::print_text;
 use command_line::Status;
-use generate_command::make_controller;
+use controller_answer::make_controller;
 use io_edge::Sink;
 use std::alloc::Global;
 

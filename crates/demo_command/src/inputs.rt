@@ -16,8 +16,9 @@ ghost use Rattle.demo_command.specs.Demo.{AreMadeFrom};
 use design_files::read_design;
 use design_maker::{Texts, made_law, make};
 use mat_int::Mat;
+use number_text::TextFault;
 use policy_file::{read_policy, read_states};
-use qp_model::{Design, Policy, TextFault};
+use qp_model::{Design, Policy};
 use std::alloc::{AllocError, Global};
 
 /// The stages of a made design.

@@ -18,10 +18,10 @@ use Rattle.slater_margin.specs.Corners as corners
 use Rattle.slater_margin.specs.Corners.{HasCornerRoom, IsFirstShort}
 use Rattle.slater_margin.specs.declared.fault.MarginFault.{MarginFault}
 use Rattle.slater_margin.specs.declared.fault.MarginFault.TheVariants.{Memory as margin_memory, TooWide as margin_wide, NoMargin as margin_none}
-use Rattle.plant_condense.specs.Fault as condensing
-use Rattle.plant_condense.specs.declared.condensed.Condensed.{Condensed}
-use Rattle.plant_condense.specs.declared.fault.CondenseFault.{CondenseFault}
-use Rattle.plant_condense.specs.declared.fault.CondenseFault.TheVariants.{Memory as condense_memory, TooWide as condense_wide}
+use Rattle.condensed_form.specs.Fault as condensing
+use Rattle.condensed_form.specs.declared.condensed.Condensed.{Condensed}
+use Rattle.condensed_form.specs.declared.fault.CondenseFault.{CondenseFault}
+use Rattle.condensed_form.specs.declared.fault.CondenseFault.TheVariants.{Memory as condense_memory, TooWide as condense_wide}
 use Rattle.hessian_check.specs.Refusals as exponents
 use Rattle.hessian_check.specs.declared.fault.StepExponents.{StepExponents}
 use Rattle.hessian_check.specs.declared.fault.CurvatureFault.{CurvatureFault}

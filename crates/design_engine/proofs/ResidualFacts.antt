@@ -14,8 +14,8 @@ use Rattle.qp_model.specs.Curvature.{AreExponents}
 use Rattle.hessian_check.specs.RowExponents.{exponent_in}
 use Rattle.qp_model.specs.RealErrors.{real_cost}
 use Rattle.qp_model.specs.declared.design_parts.DesignParts.{DesignParts}
-use Rattle.plant_condense.specs.Form.{IsFormOf}
-use Rattle.plant_condense.specs.declared.condensed.Condensed.{Condensed}
+use Rattle.condensed_form.specs.Form.{IsFormOf}
+use Rattle.condensed_form.specs.declared.condensed.Condensed.{Condensed}
 use Rattle.step_error.specs.declared.sums.ErrorSums.{ErrorSums}
 use Rattle.real_error.specs.Made.{AreSumsOf, HasGains}
 use Rattle.real_error.proofs.RealCosts as costs

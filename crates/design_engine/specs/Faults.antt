@@ -1,8 +1,8 @@
 -- The refusal that a fault becomes.
 use Rattle.slater_margin.specs.declared.fault.MarginFault.{MarginFault}
 use Rattle.slater_margin.specs.declared.fault.MarginFault.TheVariants.{Memory as margin_memory, TooWide as margin_wide, NoMargin as margin_none}
-use Rattle.plant_condense.specs.declared.fault.CondenseFault.{CondenseFault}
-use Rattle.plant_condense.specs.declared.fault.CondenseFault.TheVariants.{Memory as condense_memory, TooWide as condense_wide}
+use Rattle.condensed_form.specs.declared.fault.CondenseFault.{CondenseFault}
+use Rattle.condensed_form.specs.declared.fault.CondenseFault.TheVariants.{Memory as condense_memory, TooWide as condense_wide}
 use Rattle.hessian_check.specs.declared.fault.CurvatureFault.{CurvatureFault}
 use Rattle.hessian_check.specs.declared.fault.CurvatureFault.TheVariants.{Memory as curvature_memory, TooWide as curvature_wide, NoStep}
 use Rattle.approx_inverse.specs.declared.fault.SolveFault.{SolveFault}

@@ -6,10 +6,10 @@ ghost use Rattle.design_engine.specs.Faults.{of_margin, of_condense, of_curvatur
 use crate::refusal::Refusal;
 use approx_inverse::SolveFault;
 use bit_choice::TooFine;
+use condensed_form::CondenseFault;
 use controller_maker::WidthFault;
 use dual_bounds::TooManySteps;
 use hessian_check::CurvatureFault;
-use plant_condense::CondenseFault;
 use qp_model::Wide;
 use slater_margin::MarginFault;
 use std::alloc::AllocError;

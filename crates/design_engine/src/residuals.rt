@@ -9,9 +9,9 @@ ghost use Rattle.qp_model.specs.RealErrors.{real_cost};
 ghost use Rattle.qp_model.specs.declared.design_parts.DesignParts.{DesignParts};
 ghost use Rattle.design_engine.specs.Residuals.{IsGivenFor, IsGiven};
 
+use condensed_form::Condensed;
 use frac_scaled::ceil_div;
 use overflow_check::{Controller, plan_sum};
-use plant_condense::Condensed;
 use qp_model::ControllerParts;
 use real_error::real_epsilon;
 use step_error::ErrorSums;

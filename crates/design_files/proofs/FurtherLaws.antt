@@ -3,8 +3,8 @@ use Rattle.std.proofs.Common.{◌≡◌, ◌↔◌, IsTrue, Bool, true, false, L
 use Rattle.std.specs.Prelude.{◌&&◌, IfSome}
 use Rattle.toml.specs.Data.{Members}
 use Rattle.qp_model.specs.Rules.{Rule, AllHold, IsFirstBroken, Tests, key}
-use Rattle.qp_model.specs.declared.text_fault.TextFault.{TextFault}
-use Rattle.qp_model.specs.declared.text_fault.TextFault.TheVariants.{Key}
+use Rattle.number_text.specs.declared.text_fault.TextFault.{TextFault}
+use Rattle.number_text.specs.declared.text_fault.TextFault.TheVariants.{Key}
 use Rattle.qp_model.proofs.RuleLaws.{all_hold, broken_before, broken_after}
 
 -- the answer of a test

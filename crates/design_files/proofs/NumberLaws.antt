@@ -10,7 +10,7 @@ use Rattle.toml.specs.Data.{Data, as_integer, as_array}
 use Rattle.toml.specs.View.{view, items_view}
 use Rattle.toml.specs.declared.value.Value.{Value}
 use Rattle.qp_model.specs.Range.{LiesIn}
-use Rattle.qp_model.specs.declared.text_fault.TextFault.{TextFault}
+use Rattle.number_text.specs.declared.text_fault.TextFault.{TextFault}
 use Rattle.qp_model.specs.Rules.{shape}
 use Rattle.design_files.specs.DesignText.{Reads}
 use Rattle.design_files.proofs.ReadLaws.{reads_as}

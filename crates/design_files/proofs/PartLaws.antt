@@ -4,7 +4,7 @@ use Rattle.mat_int.specs.Matrix.{Matrix}
 use Rattle.toml.specs.Data.{Data}
 use Rattle.qp_model.specs.PartRules.{AreLimits, AreHighs}
 use Rattle.qp_model.specs.Rules.{Rule, AllHold, shape, range}
-use Rattle.qp_model.specs.declared.text_fault.TextFault.{TextFault}
+use Rattle.number_text.specs.declared.text_fault.TextFault.{TextFault}
 use Rattle.qp_model.proofs.RuleLaws.{all_hold}
 use Rattle.design_files.specs.DesignText.{FailsRule}
 use Rattle.design_files.specs.Numbers.{list_in, lists_in, list_of, lists_of, IsList, IsLists}

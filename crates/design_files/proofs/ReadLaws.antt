@@ -1,6 +1,6 @@
 -- What a reader answers, from what the readers below it do.
 use Rattle.std.proofs.Common.{◌≡◌, List, ◌++◌, Result, Ok, Err, inl, inr}
-use Rattle.qp_model.specs.declared.text_fault.TextFault.{TextFault}
+use Rattle.number_text.specs.declared.text_fault.TextFault.{TextFault}
 use Rattle.std.specs.Result.{IsErrAnd}
 use Rattle.qp_model.specs.Rules.{Rule, AllHold, IsFirstBroken}
 use Rattle.qp_model.proofs.RuleLaws.{broken_before, broken_after}

@@ -11,8 +11,8 @@ use Rattle.qp_model.specs.Range.{LiesIn, IsDenominator, IsPositive}
 use Rattle.qp_model.specs.Parts.{IsDesign, IsTable, IsNumeratorList, design_numbers}
 use Rattle.qp_model.specs.Rules.{AllHold, IsFirstBroken}
 use Rattle.qp_model.specs.declared.design_parts.DesignParts.{DesignParts}
-use Rattle.qp_model.specs.declared.text_fault.TextFault.{TextFault}
-use Rattle.qp_model.specs.declared.text_fault.TextFault.TheVariants.{NotToml, Memory}
+use Rattle.number_text.specs.declared.text_fault.TextFault.{TextFault}
+use Rattle.number_text.specs.declared.text_fault.TextFault.TheVariants.{NotToml, Memory}
 use Rattle.qp_model.specs.declared.design.Design.{Design}
 use Rattle.qp_model.specs.declared.design.Design.{Design}
 use Rattle.qp_model.proofs.RuleLaws.{all_hold, held_after, none_broken, one_fault}

@@ -4,8 +4,8 @@ use Rattle.toml.specs.Data.{Members}
 use Rattle.qp_model.specs.Parts.{IsDesign}
 use Rattle.qp_model.specs.Rules.{Rule, AllHold, IsFirstBroken}
 use Rattle.qp_model.specs.declared.design_parts.DesignParts.{DesignParts}
-use Rattle.qp_model.specs.declared.text_fault.TextFault.{TextFault}
-use Rattle.qp_model.specs.declared.text_fault.TextFault.TheVariants.{NotToml, Memory}
+use Rattle.number_text.specs.declared.text_fault.TextFault.{TextFault}
+use Rattle.number_text.specs.declared.text_fault.TextFault.TheVariants.{NotToml, Memory}
 use Rattle.design_files.specs.Document.{document_of}
 use Rattle.design_files.specs.Numbers.{number_in, list_in, IsMatrix}
 use Rattle.design_files.specs.Values.{Values, values_of, further_keys}

@@ -3,7 +3,7 @@ ghost use Rattle.std.specs.Prelude.{◌≡◌, ◌⊎◌, Some, None, IfOk, IfEr
 ghost use Rattle.toml.specs.View.{table_view};
 ghost use Rattle.design_files.specs.Document.{document_of};
 
-use qp_model::TextFault;
+use number_text::TextFault;
 use std::alloc::Global;
 use toml::Table;
 

@@ -12,7 +12,7 @@ ghost use Rattle.design_files.specs.Keys.{seen, AreTop, ArePlant, AreCost, AreLi
 ghost use Rattle.design_files.specs.Places.{key_rules};
 ghost use Rattle.design_files.specs.DesignText.{Reads};
 
-use qp_model::TextFault;
+use number_text::TextFault;
 use toml::{Table, Value};
 
 /// The values at the keys of a design text, by its tables.

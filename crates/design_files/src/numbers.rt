@@ -7,7 +7,7 @@ ghost use Rattle.design_files.specs.Numbers.{number_in, integers_of, list_in, ro
 ghost use Rattle.design_files.specs.DesignText.{Reads};
 
 use mat_int::Mat;
-use qp_model::TextFault;
+use number_text::TextFault;
 use qp_model::range::lies_in;
 use qp_model::rules::in_shape;
 use std::alloc::Global;

@@ -3,7 +3,7 @@ ghost use Rattle.std.specs.Prelude.{◌≡◌, ◌⊎◌, ℕ, ◌<◌, ◌≤�
 ghost use Rattle.integer_algebra.specs.Sums.{at};
 ghost use Rattle.toml.specs.View.{view};
 ghost use Rattle.qp_model.specs.declared.design_parts.DesignParts.{DesignParts};
-ghost use Rattle.qp_model.specs.declared.text_fault.TextFault.{TextFault};
+ghost use Rattle.number_text.specs.declared.text_fault.TextFault.{TextFault};
 ghost use Rattle.qp_model.specs.Limits.{last_version, most_states, most_inputs};
 ghost use Rattle.qp_model.specs.Parts.{IsDesign, design_numbers};
 ghost use Rattle.qp_model.specs.PartRules.{AreHighs, AreLimits};
@@ -22,14 +22,13 @@ use crate::keys::{
 };
 use crate::numbers::{list, lists, number};
 use mat_int::Mat;
+use number_text::TextFault;
 use qp_model::range::{
     are_costs, are_highs, are_limits, are_numerators, are_positive, has_numerators, is_denominator,
     is_positive,
 };
 use qp_model::rules::in_range;
-use qp_model::{
-    Design, DesignParts, LAST_VERSION, MOST_INPUTS, TextFault, VERSION, most_stages, most_states,
-};
+use qp_model::{Design, DesignParts, LAST_VERSION, MOST_INPUTS, VERSION, most_stages, most_states};
 use std::alloc::Global;
 use toml::Value;
 

@@ -7,7 +7,7 @@ use Rattle.std.proofs.lemmas.Bool.{and_parts}
 use Rattle.std.proofs.lemmas.Bool.Decides.{nat_tests}
 use Rattle.std.proofs.lemmas.Fmt.{IsAscii-signed}
 use Rattle.std.proofs.lemmas.Str.{IsUtf8-from_ascii, utf8_valid_len-IsUtf8}
-use Rattle.qp_model.specs.Lines.{text_of}
+use Rattle.number_text.specs.Lines.{text_of}
 use Rattle.toml.specs.Parse.{parse_document}
 use Rattle.design_files.specs.Document.{document_of}
 use Rattle.design_maker.specs.declared.draws.Drawn.{Drawn}

@@ -1,7 +1,7 @@
 -- The lines of a made design, as they are written.
 use Rattle.std.proofs.Common.{◌≡◌, ◌∙◌, ℕ, ℤ, pos, List, [], ◌∷◌, ◌++◌, codes, refl, sym, ap, append_assoc}
 use Rattle.std.specs.Fmt.{decimal, signed_decimal, digits}
-use Rattle.qp_model.specs.Lines.{text_of}
+use Rattle.number_text.specs.Lines.{text_of}
 use Rattle.design_maker.specs.declared.draws.Drawn.{Drawn}
 use Rattle.design_maker.specs.Texts.{rows_text, list_text, plant_rows, cost_rows, input_weights, plant_lines, cost_lines, limit_lines, design_lines}
 use Rattle.design_maker.proofs.InBrackets.{bracketed_after, two_after}

@@ -1,7 +1,7 @@
 -- The TOML document that a made design's text is.
 use Rattle.std.proofs.Common.{◌≡◌, ℕ, ◌≤◌, suc, ℤ, pos, neg_ℤ, List, [], ◌∷◌, length, codes, Some, option_map, refl, arith}
 use Rattle.std.specs.Fmt.{digits}
-use Rattle.qp_model.specs.Lines.{text_of}
+use Rattle.number_text.specs.Lines.{text_of}
 use Rattle.toml_writer.specs.Text.{key_text}
 use Rattle.toml.specs.Data.{Data, integer, array, table, Members, member, no_members}
 use Rattle.toml.specs.Tables.{Document, Expression, no_nodes, close, key_value, std_table, along_header, along_dots, at_key, define}

@@ -2,7 +2,7 @@
 use Rattle.std.proofs.Common.{◌≡◌, ◌∙◌, ℕ, zero, suc, ◌+◌, ◌*◌, pos, List, [], ◌∷◌, ◌++◌, codes, replicate, refl, ap, arith, append_assoc}
 use Rattle.std.specs.Fmt.{digits}
 use Rattle.qp_model.specs.StateText.{comma_separated}
-use Rattle.qp_model.specs.Lines.{text_of}
+use Rattle.number_text.specs.Lines.{text_of}
 use Rattle.design_maker.specs.Texts.{policy_line}
 
 -- so many zeros, with a comma before each

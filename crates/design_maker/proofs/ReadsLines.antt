@@ -1,7 +1,7 @@
 -- A text of lines, each as `toml` prints it at a document's start, is read as the lines' expressions.
 use Rattle.std.proofs.Common.{◌≡◌, ◌∙◌, ℕ, ◌-◌, ◌<◌, ◌≤◌, true, false, ◌==◌, List, [], ◌∷◌, ◌++◌, length, codes, Option, Some, None, option_and_then, refl, sym, ap, arith, append_assoc}
 use Rattle.std.proofs.lemmas.Bool.Decides.{nat_tests}
-use Rattle.qp_model.specs.Lines.{text_of}
+use Rattle.number_text.specs.Lines.{text_of}
 use Rattle.toml_parser.specs.Lexical.{skip_blank}
 use Rattle.toml_writer.specs.Text.{key_text}
 use Rattle.toml.specs.Data.{Data, depth, has_valid_dates}

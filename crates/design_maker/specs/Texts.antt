@@ -1,7 +1,7 @@
 -- The bytes of a made design's three texts.
 use Rattle.std.specs.Prelude.{ℕ, ◌*◌, ℤ, pos, neg_ℤ, List, [], ◌∷◌, ◌++◌, map, codes, replicate}
 use Rattle.std.specs.Fmt.{decimal, signed_decimal}
-use Rattle.qp_model.specs.Lines.{text_of}
+use Rattle.number_text.specs.Lines.{text_of}
 use Rattle.qp_model.specs.StateText.{comma_separated}
 use Rattle.design_maker.specs.declared.draws.Drawn.{Drawn}
 use Rattle.design_maker.specs.Draws.{drawn}

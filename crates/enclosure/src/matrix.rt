@@ -11,7 +11,8 @@ use crate::combination::multiple;
 use crate::single::{SCALE, divided, whole_product};
 use crate::sum::Sum;
 use crate::types::{Enc, EncMat};
-use mat_int::{Mat, MatFault};
+use mat_int::Mat;
+use mat_products::MatFault;
 use std::alloc::{AllocError, Global};
 
 impl EncMat {

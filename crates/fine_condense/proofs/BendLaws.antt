@@ -18,8 +18,8 @@ use Rattle.qp_model.specs.FineForm.{fine_hessian, hessian_radius, hessian_row_ra
 use Rattle.qp_model.specs.Quantities.{input_floor}
 use Rattle.qp_model.proofs.CostLaws.{condensing}
 use Rattle.qp_model.proofs.SizeFacts.{greatest_term}
-use Rattle.plant_condense.specs.Form.{response_scale}
-use Rattle.plant_condense.proofs.FormLaws.{bent}
+use Rattle.condensed_form.specs.Form.{response_scale}
+use Rattle.condensed_form.proofs.FormLaws.{bent}
 use Rattle.fine_condense.proofs.Laws.{fine_law}
 use Rattle.fine_condense.proofs.RadiusLaws.{radius_law}
 

@@ -18,10 +18,10 @@ use Rattle.qp_model.specs.Quantities.{cost_width, limit_width}
 use Rattle.qp_model.specs.Runs.{unit, counts, Holds}
 use Rattle.qp_model.specs.FineForm.{wholes, counted_row, fine_cost, fine_costs, fine_limit}
 use Rattle.qp_model.specs.FineSizes.{reach_from, fine_response_size, fine_limit_entry_size}
-use Rattle.plant_condense.specs.Lists.{with_column}
+use Rattle.condensed_form.specs.Lists.{with_column}
 use Rattle.fine_run.specs.Lists.{HoldsEnclosures}
 use Rattle.fine_condense.specs.Lists.{IsRunOfWholes, HoldsEncMatrix, mids, rads}
-use Rattle.plant_condense.proofs.ColumnFacts.{column_written, zero_holds}
+use Rattle.condensed_form.proofs.ColumnFacts.{column_written, zero_holds}
 
 zero : Enc
 zero = record { mid = pos 0; rad = pos 0; nonnegative = omega arith }

@@ -27,8 +27,8 @@ use Rattle.qp_model.specs.Quantities.{weight_sum}
 use Rattle.qp_model.specs.Runs.{counts}
 use Rattle.qp_model.specs.Range.{IsDenominator, IsPositive}
 use Rattle.qp_model.proofs.VersionLaws.{design_stages_le}
-use Rattle.plant_condense.proofs.Rooms.{read, narrow}
-use Rattle.plant_condense.proofs.StateFacts.{denominator_positive}
+use Rattle.condensed_form.proofs.Rooms.{read, narrow}
+use Rattle.condensed_form.proofs.StateFacts.{denominator_positive}
 use Rattle.fine_run.specs.Lists.{Reaches}
 use Rattle.fine_run.proofs.Rooms.{reaches_more, combination_reaches, divided_reaches}
 use Rattle.fine_condense.proofs.RowRooms.{costs_reach, weights_narrow}

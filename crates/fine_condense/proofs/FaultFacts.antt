@@ -4,9 +4,9 @@ use Rattle.qp_model.specs.declared.quantity.Quantity.{Quantity}
 use Rattle.qp_model.specs.declared.quantity.Quantity.TheVariants.{Prediction, Hessian, Rows}
 use Rattle.qp_model.specs.Class.{prediction_in, hessian_in, rows_in}
 use Rattle.qp_model.specs.Design.{Design}
-use Rattle.plant_condense.specs.declared.fault.CondenseFault.{CondenseFault}
-use Rattle.plant_condense.specs.declared.fault.CondenseFault.TheVariants.{Memory, TooWide}
-use Rattle.plant_condense.specs.Fault.{IsFirstWideIn}
+use Rattle.condensed_form.specs.declared.fault.CondenseFault.{CondenseFault}
+use Rattle.condensed_form.specs.declared.fault.CondenseFault.TheVariants.{Memory, TooWide}
+use Rattle.condensed_form.specs.Fault.{IsFirstWideIn}
 
 both : {a t : ℕ} → a ≤ t → t < a → ⊥
 both h k = omega (arith, h, k)

@@ -11,10 +11,10 @@ use Rattle.qp_model.specs.Range.{IsDenominator, IsPositive}
 use Rattle.qp_model.specs.Quantities.{input_floor}
 use Rattle.qp_model.specs.FineForm.{hessian_radius}
 use Rattle.qp_model.specs.FineSizes.{fine_hessian_size}
-use Rattle.plant_condense.specs.Form.{IsLeastInput}
-use Rattle.plant_condense.proofs.Rooms.{read, narrow}
-use Rattle.plant_condense.proofs.DenominatorFacts.{natural, denominator_fits, least_is}
-use Rattle.plant_condense.proofs.HeldLaws.{least_equal}
+use Rattle.condensed_form.specs.Form.{IsLeastInput}
+use Rattle.condensed_form.proofs.Rooms.{read, narrow}
+use Rattle.condensed_form.proofs.DenominatorFacts.{natural, denominator_fits, least_is}
+use Rattle.condensed_form.proofs.HeldLaws.{least_equal}
 use Rattle.fine_condense.specs.Numbers.{fine_cost_total}
 use Rattle.fine_condense.proofs.FormSizes.{own_within}
 use Rattle.fine_condense.proofs.ProductFacts.{weighed_room}

@@ -26,9 +26,9 @@ use Rattle.qp_model.specs.FineSizes.{fine_cost_entry_size, fine_limit_entry_size
 use Rattle.qp_model.specs.Quantities.{input_floor}
 use Rattle.qp_model.specs.Runs.{Holds}
 use Rattle.qp_model.proofs.SoundLaws.{sound}
-use Rattle.plant_condense.specs.declared.condensed.Condensed.{Condensed}
-use Rattle.plant_condense.specs.Form.{held, hessian_row_sum, cost_sum, limit_sum, column_products, HasShapes, HasRadii, HasDenominators, IsLeastInput, HasSums, IsFormIn}
-use Rattle.plant_condense.specs.Lists.{HoldsMatrix}
+use Rattle.condensed_form.specs.declared.condensed.Condensed.{Condensed}
+use Rattle.condensed_form.specs.Form.{held, hessian_row_sum, cost_sum, limit_sum, column_products, HasShapes, HasRadii, HasDenominators, IsLeastInput, HasSums, IsFormIn}
+use Rattle.condensed_form.specs.Lists.{HoldsMatrix}
 use Rattle.fine_condense.specs.Lists.{mids, rads}
 use Rattle.fine_condense.specs.Numbers.{AreFineCosts, AreFineLimits}
 use Rattle.fine_condense.proofs.Laws.{fine_law, fine_form_law}

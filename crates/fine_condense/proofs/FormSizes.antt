@@ -22,7 +22,7 @@ use Rattle.qp_model.specs.Quantities.{cost_width, weight_sum}
 use Rattle.qp_model.specs.Runs.{bound_at}
 use Rattle.qp_model.proofs.QuantityLaws.{bound_width}
 use Rattle.qp_model.proofs.SizeFacts.{some_entry, some_weight}
-use Rattle.plant_condense.proofs.StateFacts.{denominator_positive}
+use Rattle.condensed_form.proofs.StateFacts.{denominator_positive}
 use Rattle.fine_run.specs.Lists.{Reaches}
 use Rattle.fine_run.proofs.Rooms.{reach_first}
 use Rattle.fine_condense.proofs.CostFacts.{products_reach}

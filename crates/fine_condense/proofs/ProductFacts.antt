@@ -19,10 +19,10 @@ use Rattle.qp_model.specs.FineSizes.{fine_reach, fine_response_size, fine_limit_
 use Rattle.qp_model.proofs.CountLaws.{counted_all}
 use Rattle.qp_model.proofs.SizeFacts.{hessian_parts, rows_parts, some_weight, some_cost, some_entry, some_limit, some_row}
 use Rattle.qp_model.proofs.QuantityLaws.{bound_width}
-use Rattle.plant_condense.proofs.StateFacts.{denominator_positive}
+use Rattle.condensed_form.proofs.StateFacts.{denominator_positive}
 use Rattle.fine_run.proofs.Rooms.{reach_first}
 use Rattle.fine_run.proofs.ListFacts.{combined_same}
-use Rattle.plant_condense.specs.Costs.{weight_of}
+use Rattle.condensed_form.specs.Costs.{weight_of}
 use Rattle.fine_condense.specs.Lists.{HoldsEncMatrix}
 use Rattle.fine_condense.specs.Numbers.{fine_cost_total}
 use Rattle.fine_condense.proofs.RowRooms.{counted_at, products_room}

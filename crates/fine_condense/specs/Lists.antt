@@ -6,7 +6,7 @@ use Rattle.enclosure.specs.declared.types.Enc.{Enc}
 use Rattle.enclosure.specs.Values.{pair_at}
 use Rattle.qp_model.specs.declared.design_parts.DesignParts.{DesignParts}
 use Rattle.qp_model.specs.FineForm.{wholes}
-use Rattle.plant_condense.specs.Lists.{HoldsMatrix}
+use Rattle.condensed_form.specs.Lists.{HoldsMatrix}
 
 -- what a run was made of: this design, and the whole numbers x as its state and v as its plan
 pub record IsRunOfWholes (p : DesignParts) (x v : ℕ → ℤ) (q : DesignParts) (reach : ℕ) (xs vs : List Enc) : Type 0 where

@@ -6,13 +6,13 @@ ghost use Rattle.qp_model.specs.Parts.{design_of, IsDesign};
 ghost use Rattle.qp_model.specs.Runs.{counts};
 ghost use Rattle.qp_model.specs.FineForm.{counted_row, fine_costs, fine_by_plan, fine_by_state};
 ghost use Rattle.qp_model.specs.FineSizes.{fine_prediction_size, fine_response_size, fine_limit_entry_size};
-ghost use Rattle.plant_condense.specs.Lists.{with_column};
+ghost use Rattle.condensed_form.specs.Lists.{with_column};
 ghost use Rattle.fine_run.specs.Lists.{HoldsEnclosures};
 ghost use Rattle.fine_condense.specs.Lists.{HoldsEncMatrix, mids, rads};
 
 use crate::units::{run_of_plan, run_of_state, whole};
+use condensed_form::target_at;
 use enclosure::{Enc, EncMat};
-use plant_condense::target_at;
 use qp_model::DesignParts;
 use std::alloc::{AllocError, Global};
 

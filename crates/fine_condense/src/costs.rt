@@ -6,15 +6,15 @@ ghost use Rattle.qp_model.specs.declared.quantity.Quantity.{Quantity};
 ghost use Rattle.qp_model.specs.FineForm.{fine_products, hessian_row_radius, hessian_radius};
 ghost use Rattle.qp_model.specs.FineSizes.{fine_reach, fine_prediction_size, fine_hessian_size};
 ghost use Rattle.fine_condense.specs.Numbers.{fine_cost_total, AreProducts, IsFineHessian, AreFineCosts};
-ghost use Rattle.plant_condense.specs.declared.fault.CondenseFault.{CondenseFault};
+ghost use Rattle.condensed_form.specs.declared.fault.CondenseFault.{CondenseFault};
 
 use crate::columns::cost_columns;
 use crate::hessian::{constant_numbers, hessian_numbers, linear_numbers};
 use crate::sizes::fine_cost_total;
+use condensed_form::{CondenseFault, weights_of};
 use enclosure::{Enc, EncMat, gram};
 use frac_scaled::limited_product;
-use mat_int::MatFault;
-use plant_condense::{CondenseFault, weights_of};
+use mat_products::MatFault;
 use qp_model::{DesignParts, Quantity};
 use std::alloc::{AllocError, Global};
 

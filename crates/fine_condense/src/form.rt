@@ -4,19 +4,19 @@ ghost use Rattle.qp_model.specs.declared.quantity.Quantity.{Quantity};
 ghost use Rattle.qp_model.specs.Parts.{design_of, IsDesign};
 ghost use Rattle.qp_model.specs.FineForm.{FineLaw};
 ghost use Rattle.qp_model.specs.FineSizes.{FineFormLaw, fine_prediction_size};
-ghost use Rattle.plant_condense.specs.declared.fault.CondenseFault.{CondenseFault};
-ghost use Rattle.plant_condense.specs.Fault.{IsFirstWideIn};
-ghost use Rattle.plant_condense.specs.Form.{IsFormIn};
+ghost use Rattle.condensed_form.specs.declared.fault.CondenseFault.{CondenseFault};
+ghost use Rattle.condensed_form.specs.Fault.{IsFirstWideIn};
+ghost use Rattle.condensed_form.specs.Form.{IsFormIn};
 ghost use Rattle.fine_condense.specs.Lists.{mids, rads};
 ghost use Rattle.fine_condense.specs.Numbers.{AreFineCosts, AreFineLimits};
 
 use crate::costs::{FineCosts, fine_costs};
 use crate::limits::{FineLimits, fine_limits};
 use crate::scales::{bend_floor, brought_weight};
+use condensed_form::{CondenseFault, Condensed, least_of};
 use enclosure::Enc;
 use fine_run::last_reach;
 use frac_scaled::scaled;
-use plant_condense::{CondenseFault, Condensed, least_of};
 use qp_model::{Design, DesignParts, Quantity};
 use std::alloc::{AllocError, Global};
 

@@ -4,12 +4,12 @@ ghost use Rattle.qp_model.specs.declared.quantity.Quantity.{Quantity};
 ghost use Rattle.qp_model.specs.Parts.{design_of, IsDesign};
 ghost use Rattle.qp_model.specs.FineSizes.{fine_reach, fine_prediction_size, fine_rows_size};
 ghost use Rattle.fine_condense.specs.Numbers.{AreFineLimits};
-ghost use Rattle.plant_condense.specs.declared.fault.CondenseFault.{CondenseFault};
+ghost use Rattle.condensed_form.specs.declared.fault.CondenseFault.{CondenseFault};
 
 use crate::columns::{fine_plan_columns, fine_state_columns};
 use crate::sizes::fine_rows_size;
+use condensed_form::{CondenseFault, scaled_bounds};
 use enclosure::EncMat;
-use plant_condense::{CondenseFault, scaled_bounds};
 use qp_model::{DesignParts, Quantity};
 use std::alloc::Global;
 

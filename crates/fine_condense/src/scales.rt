@@ -4,7 +4,7 @@ ghost use Rattle.qp_model.specs.Parts.{design_of, IsDesign};
 ghost use Rattle.qp_model.specs.Range.{IsPositive};
 ghost use Rattle.qp_model.specs.FineForm.{fine_form, hessian_radius};
 ghost use Rattle.qp_model.specs.FineSizes.{fine_hessian_size};
-ghost use Rattle.plant_condense.specs.Form.{IsLeastInput};
+ghost use Rattle.condensed_form.specs.Form.{IsLeastInput};
 
 use frac_scaled::scaled;
 use qp_model::DesignParts;

@@ -31,7 +31,7 @@ use Rattle.qp_model.specs.CornerClass.{FineCornersLaw}
 use Rattle.qp_model.proofs.RunLaws.{trajectory_run}
 use Rattle.qp_model.proofs.RowLaws.{lift_power, residual_law, remainder_inside}
 use Rattle.qp_model.proofs.GramLaws.{counted_total}
-use Rattle.plant_condense.proofs.DenominatorFacts.{natural}
+use Rattle.condensed_form.proofs.DenominatorFacts.{natural}
 use Rattle.fine_run.proofs.Runs.{EncloseRun, brought, cost_encloses, limit_encloses}
 
 -- ---- numbers alone

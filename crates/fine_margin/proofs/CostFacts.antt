@@ -31,10 +31,10 @@ use Rattle.qp_model.specs.FineCorners.{corner_input, corner_gap, most_row_cost, 
 use Rattle.qp_model.proofs.CornerFacts.{product_small}
 use Rattle.qp_model.proofs.CountLaws.{counted_all}
 use Rattle.qp_model.proofs.QuantityLaws.{target_width, weights_size}
-use Rattle.plant_condense.specs.Costs.{weight_of, target_of}
-use Rattle.plant_condense.proofs.DenominatorFacts.{natural, denominator_fits}
-use Rattle.plant_condense.proofs.Rooms.{read, narrow}
-use Rattle.plant_condense.proofs.StageFacts.{lifted, lifted_fits}
+use Rattle.condensed_form.specs.Costs.{weight_of, target_of}
+use Rattle.condensed_form.proofs.DenominatorFacts.{natural, denominator_fits}
+use Rattle.condensed_form.proofs.Rooms.{read, narrow}
+use Rattle.condensed_form.proofs.StageFacts.{lifted, lifted_fits}
 use Rattle.fine_run.specs.Lists.{Reaches}
 use Rattle.slater_margin.proofs.SlackFacts.{one-le-mul_z}
 use Rattle.slater_margin.proofs.SquareFacts.{squares_size}

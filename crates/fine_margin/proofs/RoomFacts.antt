@@ -24,7 +24,7 @@ use Rattle.qp_model.specs.FineCorners.{corner_state, corner_input, corner_limit,
 use Rattle.qp_model.proofs.RowLaws.{remainder_inside}
 use Rattle.qp_model.proofs.SizeFacts.{greatest_term, side_under, some_weight}
 use Rattle.qp_model.proofs.CornerFacts.{denominator_size}
-use Rattle.plant_condense.proofs.StateFacts.{denominator_positive}
+use Rattle.condensed_form.proofs.StateFacts.{denominator_positive}
 use Rattle.fine_run.specs.Lists.{Reaches}
 use Rattle.fine_run.proofs.Rooms.{reaches_more, exactly_reaches, sum_reaches, reach_first, row_reaches}
 use Rattle.fine_run.proofs.RowRooms.{counted_stage_in, limit_reaches}

@@ -11,10 +11,10 @@ ghost use Rattle.fine_run.specs.Lists.{HoldsEnclosures};
 ghost use Rattle.fine_margin.specs.Corner.{IsFineCorner};
 
 use crate::lists::{entry_weights, gaps, reaches, slacks};
+use condensed_form::{least_of, scaled_bounds, scaled_targets, weights_of};
 use enclosure::{Enc, enclose};
 use fine_run::FineRun;
 use frac_scaled::{Frac, ceil_div, floor_div, scaled};
-use plant_condense::{least_of, scaled_bounds, scaled_targets, weights_of};
 use qp_model::{DesignParts, Policy};
 use slater_margin::{MarginFault, coordinate, first_short, weighted_squares};
 use std::alloc::{AllocError, Global};

@@ -19,8 +19,8 @@ use Rattle.qp_model.specs.FineForm.{fine_run, fine_cost, fine_limit, fine_stage_
 use Rattle.qp_model.specs.FineSizes.{reach_from}
 use Rattle.qp_model.proofs.RowLaws.{remainder_inside}
 use Rattle.qp_model.proofs.QuantityLaws.{narrow}
-use Rattle.plant_condense.specs.Lists.{row_of_numbers}
-use Rattle.plant_condense.proofs.StateFacts.{denominator_positive, at-part}
+use Rattle.condensed_form.specs.Lists.{row_of_numbers}
+use Rattle.condensed_form.proofs.StateFacts.{denominator_positive, at-part}
 use Rattle.fine_run.specs.Lists.{HoldsEnclosures, IsFineReady}
 use Rattle.fine_run.proofs.ListFacts.{flat_run, combined_same, magnitude_same}
 use Rattle.fine_run.proofs.StateFacts.{stage_part, input_part}

@@ -33,7 +33,7 @@ impl<'a> FineRun<'a> {
     ghost use Rattle.qp_model.specs.Quantities.{cost_width, limit_width};
     ghost use Rattle.qp_model.specs.FineForm.{fine_run, fine_cost, fine_limit, fine_stage_limit};
     ghost use Rattle.qp_model.specs.FineSizes.{reach_from};
-    ghost use Rattle.plant_condense.specs.Lists.{row_of_numbers};
+    ghost use Rattle.condensed_form.specs.Lists.{row_of_numbers};
     ghost use Rattle.fine_run.specs.Lists.{HoldsEnclosures, IsFineReady};
 
     /// From the state `start`, n numbers, under the plan `plan`, N p numbers, of which none reaches further than `first`.

@@ -7,7 +7,7 @@ use Rattle.std.proofs.lemmas.List.{same_lists, get_or_default, get_or-replicate,
 use Rattle.std.proofs.lemmas.List.FromFn.{length-map-range_with_len, get_or-map-range_with_len}
 use Rattle.integer_algebra.specs.Division.{floor_of}
 use Rattle.integer_algebra.specs.Sums.{at}
-use Rattle.mat_int.specs.Narrow.{IsNarrow}
+use Rattle.mat_products.specs.Narrow.{IsNarrow}
 use Rattle.qp_model.specs.Limits.{text_version}
 use Rattle.qp_model.specs.Controller.{Numbers, IsSized}
 use Rattle.qp_model.specs.Machine.{Iterate, lowering_of, raised, top_of, row_sum, next_multiplier, next_multipliers, start_of, step_of}

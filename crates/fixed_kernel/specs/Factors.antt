@@ -1,6 +1,6 @@
 -- Factors that fit words of 64 bits.
 use Rattle.std.specs.Prelude.{◌+◌, ◌-◌, ◌^◌, ◌≤◌, ◌<◌, ℤ, All, unsigned_abs}
-use Rattle.mat_int.specs.Narrow.{IsNarrow}
+use Rattle.mat_products.specs.Narrow.{IsNarrow}
 use Rattle.qp_model.specs.Controller.{Numbers}
 
 -- a coordinate of the box that does over 2^fraction_bits

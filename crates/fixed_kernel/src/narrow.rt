@@ -3,12 +3,13 @@ ghost use Rattle.std.specs.Prelude.{◌≡◌, ◌≤◌, ◌<◌, ◌+◌, ◌^
 ghost use Rattle.std.specs.Int.{w128};
 ghost use Rattle.integer_algebra.specs.Division.{floor_of};
 ghost use Rattle.mat_int.specs.Row.{list_dot, abs_dot};
-ghost use Rattle.mat_int.specs.Narrow.{IsNarrow};
+ghost use Rattle.mat_products.specs.Narrow.{IsNarrow};
 ghost use Rattle.qp_model.specs.Controller.{numbers, IsSized};
 ghost use Rattle.fixed_kernel.specs.Factors.{IsNarrowCoordinate, HasNarrowFactors};
 
 use crate::entry::{short_scaled, short_shift};
-use mat_int::{dot, is_narrow_matrix, narrow_dot};
+use mat_int::dot;
+use mat_products::{is_narrow_matrix, narrow_dot};
 use qp_model::ControllerParts;
 
 // Whether each coordinate of the box is narrow over `2^f`.

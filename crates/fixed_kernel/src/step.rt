@@ -5,7 +5,7 @@ ghost use Rattle.integer_algebra.specs.Division.{floor_of};
 ghost use Rattle.integer_algebra.specs.Sums.{at};
 ghost use Rattle.mat_int.specs.Row.{list_dot};
 ghost use Rattle.mat_int.specs.Matrix.{row_of};
-ghost use Rattle.mat_int.specs.Narrow.{IsNarrow};
+ghost use Rattle.mat_products.specs.Narrow.{IsNarrow};
 ghost use Rattle.qp_model.specs.Limits.{text_version};
 ghost use Rattle.qp_model.specs.Controller.{numbers};
 ghost use Rattle.qp_model.specs.Machine.{lowering_of, raised, plan_entry, plan_of, row_sum, next_multiplier, next_multipliers, added};

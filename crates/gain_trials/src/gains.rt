@@ -1,10 +1,10 @@
 // One plan entry, whose solutions may be worked out by hand.
-ghost use Rattle.plant_condense.specs.Form.{IsForm};
+ghost use Rattle.condensed_form.specs.Form.{IsForm};
 
 use approx_inverse::{Inverse, solve_all, solve_column};
 use class_choice::condense;
+use condensed_form::Condensed;
 use mat_int::Mat;
-use plant_condense::Condensed;
 use qp_model::Design;
 use std::alloc::{AllocError, Global};
 use std::test::Fail;

@@ -1,10 +1,10 @@
 // Expected values are worked out by hand.
 ghost use Rattle.std.specs.Prelude.{pos, ◌≤ℤ◌, ◌≤◌};
-ghost use Rattle.plant_condense.specs.Form.{IsFormOf};
+ghost use Rattle.condensed_form.specs.Form.{IsFormOf};
 
 use approx_inverse::solve_all;
 use class_choice::condense;
-use plant_condense::Condensed;
+use condensed_form::Condensed;
 use qp_model::Design;
 use real_error::real_epsilon;
 use std::alloc::Global;

@@ -2,7 +2,7 @@
 use Rattle.std.proofs.Common.{◌≡◌, ◌⊎◌, inl, inr, ℕ, List, Option}
 use Rattle.io_edge.specs.Faults.{Files, Rose}
 use Rattle.qp_model.specs.Design.{Design}
-use Rattle.qp_model.specs.declared.text_fault.TextFault.{TextFault}
+use Rattle.number_text.specs.declared.text_fault.TextFault.{TextFault}
 use Rattle.command_line.specs.Answers.{IsFileRefused, EndsReading}
 use Rattle.command_files.specs.Texts.{DesignRight, DesignWrong, PolicyRight, PolicyWrong}
 use Rattle.command_files.specs.Reading.{EndsDesign, EndsPolicy}

@@ -1,12 +1,10 @@
 -- The answer that the contents of a design's and a policy's file call for.
-use Rattle.std.proofs.Common.{◌≡◌, ◌⊎◌, inl, inr, ℕ, List, Option, ap, sym, subst, unsigned_abs}
+use Rattle.std.proofs.Common.{◌≡◌, ◌⊎◌, inl, inr, ℕ, List, Option, sym, subst}
 use Rattle.io_edge.specs.Faults.{Files, Rose, NoneFalls}
 use Rattle.qp_model.specs.Design.{Design}
 use Rattle.qp_model.specs.Policy.{Plans}
-use Rattle.qp_model.specs.Parts.{DesignNumbers, design_numbers, design_of}
+use Rattle.qp_model.specs.Parts.{design_numbers, design_of}
 use Rattle.qp_model.specs.declared.design_parts.DesignParts.{DesignParts}
-use Rattle.design_engine.specs.Targets.{Targets, targets_of}
-use Rattle.design_engine.specs.Refusals.{HasCause, PassesAll}
 use Rattle.command_line.specs.Words.{word_of}
 use Rattle.command_line.specs.Answers.{IsTold, ForContents, FileHolds, IsFileRefused, IsAnswer, IsCaused}
 use Rattle.command_line.proofs.Composing.{stop, go_on, go_on_whole, for_contents, told_at, told}
@@ -14,29 +12,15 @@ use Rattle.command_line.proofs.Counts.{rose_later}
 use Rattle.command_files.specs.Texts.{DesignRight, DesignWrong, PolicyRight, PolicyWrong}
 use Rattle.command_files.specs.Reading.{ReadsPolicy, IsDesignRead, EndsDesign, EndsPolicy}
 use Rattle.command_files.proofs.Designs.{same_design}
-use Rattle.generate_command.specs.Made.{MakingCalls}
+use Rattle.controller_answer.specs.Made.{MakingCalls}
 use Rattle.generate_command.specs.Generate.{GenerateCalls, GenerateReaches}
 use Rattle.generate_command.specs.Writing.{AreRead, IsAnswered, IsReadFault}
 use Rattle.generate_command.proofs.Ends.{design_tells, policy_tells, tells_fault}
 use Rattle.command_line.specs.declared.status.Status.{Status}
 use Rattle.command_line.specs.declared.status.Status.TheVariants.{Memory, ReadFault}
+use Rattle.controller_answer.proofs.SameDesign.{making_same}
 
--- ---- a design is known by its numbers
-abbrev targets_from : DesignNumbers → Targets
-targets_from p = record { denominator = unsigned_abs p.target_den; violation = unsigned_abs p.violation; gap = unsigned_abs p.gap }
-
-same_targets : (p q : DesignParts) → design_numbers p ≡ design_numbers q → targets_of p ≡ targets_of q
-same_targets p q e = ap targets_from e
-
-pub along : (F : Design → Targets → Type 0) (p q : DesignParts) → design_numbers p ≡ design_numbers q → F (design_of p) (targets_of p) → F (design_of q) (targets_of q)
-along F p q e h = subst (λ (t : Targets). F (design_of q) t) (same_targets p q e) (subst (λ (d : Design). F d (targets_of p)) (same_design p q e) h)
-
-pub making_same : (p q : DesignParts) → design_numbers p ≡ design_numbers q → (plans : Plans) (s : Status) → MakingCalls p plans s → MakingCalls q plans s
-making_same p q e plans s (inl why) = inl (record { refusal = why.refusal; cause = along (λ d t. HasCause d t plans why.refusal) p q e why.cause; is = why.is })
-making_same p q e plans s (inr done) =
-    let passes = done.1 in
-    inr (done.0, record { margin = passes.margin; exponent = passes.exponent; bits = passes.bits; all = along (λ d t. PassesAll d t plans passes.margin passes.exponent passes.bits) p q e passes.all })
-
+-- ---- the answer with another design of the same numbers
 after_same : (policy : Option (List ℕ)) (p q : DesignParts) → design_numbers p ≡ design_numbers q → (s : Status) → ReadsPolicy (design_of p) 2 policy (MakingCalls p) s →
     ReadsPolicy (design_of q) 2 policy (MakingCalls q) s
 after_same policy p q e s (inl refused) = inl (subst (λ (d : Design). IsFileRefused 2 (PolicyWrong d 2) policy s) (same_design p q e) refused)

@@ -11,7 +11,7 @@ use Rattle.command_line.specs.Words.{word_of, IsGenerate}
 use Rattle.command_line.specs.Answers.{ForContents, FileHolds, IsCaused}
 use Rattle.command_line.proofs.Counts.{rose_later}
 use Rattle.command_files.specs.Texts.{DesignRight, PolicyRight}
-use Rattle.generate_command.specs.Made.{IsMadeOf}
+use Rattle.controller_answer.specs.Made.{IsMadeOf}
 use Rattle.generate_command.specs.Writing.{AreTextsFor, AreRead, AreTextsFrom, AreWritten, IsSecondCut, IsAnswered}
 use Rattle.generate_command.specs.Generate.{GenerateCalls, HoldsInputs, IsMadeFrom, IsGenerated, IsControllerCut, IsReportCut}
 use Rattle.generate_command.proofs.Inputs.{is_called}

@@ -14,7 +14,7 @@ use Rattle.command_line.specs.Words.{word_of}
 use Rattle.command_line.specs.Answers.{FileHolds}
 use Rattle.command_files.specs.Texts.{DesignRight, PolicyRight}
 use Rattle.command_files.specs.Reading.{ReadsDesign, ReadsPolicy}
-use Rattle.generate_command.specs.Made.{MakingCalls, IsReport}
+use Rattle.controller_answer.specs.Made.{MakingCalls, IsReport}
 use Rattle.command_line.specs.declared.status.Status.{Status}
 
 -- what the contents of a design's and a policy's file call for

@@ -1,3 +1,2 @@
 pub mod Generate
-pub mod Made
 pub mod Writing

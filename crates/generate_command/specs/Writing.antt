@@ -10,7 +10,7 @@ use Rattle.qp_model.specs.Printed.{Printed}
 use Rattle.command_line.specs.Words.{word_of}
 use Rattle.command_line.specs.Answers.{ForContents, IsAnswer}
 use Rattle.command_files.specs.Reading.{IsDesignRead, IsPolicyRead}
-use Rattle.generate_command.specs.Made.{IsMadeOf, IsReport}
+use Rattle.controller_answer.specs.Made.{IsMadeOf, IsReport}
 use Rattle.generate_command.specs.Generate.{GenerateCalls, GenerateReaches}
 use Rattle.command_line.specs.declared.status.Status.{Status}
 

@@ -2,8 +2,6 @@
 #![tactic(auto)]
 
 mod command;
-mod made;
 mod texts;
 
 pub use command::generate;
-pub use made::make_controller;

@@ -6,13 +6,13 @@ ghost use Rattle.qp_model.specs.Policy.{plans_of, IsPolicyFor};
 ghost use Rattle.qp_model.specs.Printed.{printed};
 ghost use Rattle.command_line.specs.Words.{IsGenerate};
 ghost use Rattle.command_line.specs.Answers.{IsAnswer, IsCaused};
-ghost use Rattle.generate_command.specs.Made.{MakingCalls, IsReport};
+ghost use Rattle.controller_answer.specs.Made.{MakingCalls, IsReport};
 ghost use Rattle.generate_command.specs.Writing.{AreTextsFor, AreTextsFrom, AreWritten, IsAnswered, IsReadFault, IsSecondCut};
 
-use crate::made::make_controller;
 use bound_report::{report_json, report_text};
 use command_files::{read_design_file, read_policy_file};
 use command_line::{Status, is_json};
+use controller_answer::make_controller;
 use controller_file::write_controller;
 use io_edge::{Store, Words};
 use qp_model::{Bounds, Design, Policy};

@@ -16,17 +16,17 @@ use Rattle.qp_model.specs.Design.{Design, entries}
 use Rattle.qp_model.specs.Parts.{design_of}
 use Rattle.qp_model.proofs.CostLaws.{condensing}
 use Rattle.qp_model.proofs.SoundLaws.{sound}
-use Rattle.plant_condense.specs.declared.condensed.Condensed.{Condensed}
-use Rattle.plant_condense.specs.Form.{IsFormIn}
-use Rattle.plant_condense.proofs.FormSums.{far_hessian, hessian_row}
+use Rattle.condensed_form.specs.declared.condensed.Condensed.{Condensed}
+use Rattle.condensed_form.specs.Form.{IsFormIn}
+use Rattle.condensed_form.proofs.FormSums.{far_hessian, hessian_row}
 use Rattle.hessian_check.specs.declared.matrices.StepMatrices.{StepMatrices}
 use Rattle.hessian_check.specs.Curvature.{HeldMatrices, IsHeld, lowered, radius_of}
 use Rattle.hessian_check.specs.DesignMatrices.{AreMatricesOf, IsCostMatrix, IsRowMatrix}
 use Rattle.hessian_check.specs.Held.{IsMovable}
 use Rattle.hessian_check.specs.StepMatrices.{AreMatrices}
 use Rattle.hessian_check.specs.Steps.{half_of, held_by, held_in, weighted_of}
-use Rattle.plant_condense.proofs.LimitFacts.{small, unit_small}
-use Rattle.plant_condense.proofs.Rooms.{read}
+use Rattle.condensed_form.proofs.LimitFacts.{small, unit_small}
+use Rattle.condensed_form.proofs.Rooms.{read}
 use Rattle.hessian_check.proofs.HeldLaws.{hessian_twice, radius_twice, weighted_law}
 use Rattle.hessian_check.proofs.RadiusLaws.{lowered_turned, raised_turned}
 use Rattle.hessian_check.proofs.HeldMatrices.{amount_add, lowered_same, lowered_size, own_room}

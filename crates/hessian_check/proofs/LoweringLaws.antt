@@ -17,9 +17,9 @@ use Rattle.qp_model.specs.Design.{Design, entries, rows}
 use Rattle.qp_model.specs.FineSizes.{is_fine}
 use Rattle.qp_model.specs.Parts.{design_of}
 use Rattle.enclosure.specs.declared.types.EncMat.{EncMat}
-use Rattle.plant_condense.specs.declared.condensed.Condensed.{Condensed}
-use Rattle.plant_condense.specs.Form.{IsFormOf}
-use Rattle.plant_condense.proofs.LeastLaws.{exponent_is}
+use Rattle.condensed_form.specs.declared.condensed.Condensed.{Condensed}
+use Rattle.condensed_form.specs.Form.{IsFormOf}
+use Rattle.condensed_form.proofs.LeastLaws.{exponent_is}
 use Rattle.hessian_check.specs.declared.matrices.StepMatrices.{StepMatrices}
 use Rattle.hessian_check.specs.Curvature.{HasPassingRoot, IsAccepted, IsChosen, IsFirst}
 use Rattle.hessian_check.specs.DesignMatrices.{AreMatricesOf, IsRowMatrix}

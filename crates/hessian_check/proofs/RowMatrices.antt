@@ -17,9 +17,9 @@ use Rattle.qp_model.specs.Class.{product_row_in, row_quantity, rows_in}
 use Rattle.qp_model.specs.Design.{Design, entries, rows}
 use Rattle.qp_model.specs.FineForm.{fine_form}
 use Rattle.qp_model.specs.Parts.{design_of}
-use Rattle.plant_condense.specs.declared.condensed.Condensed.{Condensed}
-use Rattle.plant_condense.specs.Form.{IsFormIn}
-use Rattle.plant_condense.proofs.FormSums.{far_plan_small, products_pair, products_row}
+use Rattle.condensed_form.specs.declared.condensed.Condensed.{Condensed}
+use Rattle.condensed_form.specs.Form.{IsFormIn}
+use Rattle.condensed_form.proofs.FormSums.{far_plan_small, products_pair, products_row}
 use Rattle.hessian_check.specs.Curvature.{raised_diagonal}
 use Rattle.hessian_check.specs.DesignMatrices.{IsRowMatrix}
 use Rattle.hessian_check.specs.Held.{IsMovable}

@@ -22,7 +22,7 @@ use Rattle.enclosure.specs.declared.types.Enc.{Enc}
 use Rattle.enclosure.specs.Values.{pair}
 use Rattle.enclosure.proofs.GramLaws.{product_nonneg, product_reach}
 use Rattle.enclosure.proofs.RoomLaws.{product_rest, product_small, reach_is}
-use Rattle.plant_condense.proofs.Rooms.{read}
+use Rattle.condensed_form.proofs.Rooms.{read}
 use Rattle.hessian_check.specs.RowSums.{far_entry, more_sum}
 use Rattle.hessian_check.proofs.FillLaws.{first_zero}
 use Rattle.hessian_check.proofs.HeldMatrices.{AreSigned, far_product, sum_reach}

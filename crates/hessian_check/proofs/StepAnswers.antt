@@ -23,9 +23,9 @@ use Rattle.qp_model.specs.declared.quantity.Quantity.{Quantity}
 use Rattle.qp_model.specs.declared.quantity.Quantity.TheVariants.{Curvature}
 use Rattle.hessian_check.specs.Steps.{HasNoStep, IsPlainExponent, IsStepExponent, step_matrix}
 use Rattle.std.proofs.lemmas.Bool.{cases_lt}
-use Rattle.plant_condense.specs.declared.condensed.Condensed.{Condensed}
-use Rattle.plant_condense.specs.Form.{IsFormOf}
-use Rattle.plant_condense.proofs.LeastLaws.{exponent_is, few}
+use Rattle.condensed_form.specs.declared.condensed.Condensed.{Condensed}
+use Rattle.condensed_form.specs.Form.{IsFormOf}
+use Rattle.condensed_form.proofs.LeastLaws.{exponent_is, few}
 use Rattle.qp_model.proofs.SoundLaws.{sound}
 use Rattle.hessian_check.proofs.ChoiceLaws.{HasLeast, covers_least, first_above, first_made, first_same}
 use Rattle.hessian_check.proofs.SameLaws.{chosen_moved, dominant_moved, first_moved}

@@ -3,7 +3,7 @@ use Rattle.std.specs.Prelude.{◌≡◌, ℕ, ◌-◌, ◌*◌, ◌<◌, ◌≤�
 use Rattle.qp_model.specs.Class.{HasLoweringRoom}
 use Rattle.qp_model.specs.Design.{Design}
 use Rattle.qp_model.specs.FineSizes.{is_fine}
-use Rattle.plant_condense.specs.declared.condensed.Condensed.{Condensed}
+use Rattle.condensed_form.specs.declared.condensed.Condensed.{Condensed}
 use Rattle.enclosure.specs.declared.types.EncMat.{EncMat}
 use Rattle.hessian_check.specs.declared.matrices.StepMatrices.{StepMatrices}
 use Rattle.hessian_check.specs.DesignMatrices.{IsCostMatrix}

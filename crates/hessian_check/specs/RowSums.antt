@@ -4,7 +4,7 @@ use Rattle.integer_algebra.specs.Sizes.{amount, size}
 use Rattle.frac_scaled.specs.Enclosures.{Enclosure, divided, multiple, sum_of, whole_product}
 use Rattle.mat_int.specs.Matrix.{Matrix, entry_of}
 use Rattle.mat_int.specs.Enclosures.{enclosure_at, gram_sum, HasEnclosures}
-use Rattle.plant_condense.specs.declared.condensed.Condensed.{Condensed}
+use Rattle.condensed_form.specs.declared.condensed.Condensed.{Condensed}
 use Rattle.qp_model.specs.Form.{farthest}
 use Rattle.hessian_check.specs.Curvature.{raised_diagonal}
 

@@ -12,8 +12,8 @@ use Rattle.qp_model.specs.Form.{Form}
 use Rattle.qp_model.specs.Quantities.{input_floor}
 use Rattle.qp_model.specs.declared.design_parts.DesignParts.{DesignParts}
 use Rattle.qp_model.specs.Parts.{design_of}
-use Rattle.plant_condense.specs.declared.condensed.Condensed.{Condensed}
-use Rattle.plant_condense.specs.Form.{IsFormOf}
+use Rattle.condensed_form.specs.declared.condensed.Condensed.{Condensed}
+use Rattle.condensed_form.specs.Form.{IsFormOf}
 use Rattle.hessian_check.specs.Curvature.{Curved, HeldMatrices, held_exactly, exponent_matrix, IsFirst, IsChosen}
 
 -- half a matrix of even entries

@@ -6,7 +6,7 @@ ghost use Rattle.mat_int.specs.Matrix.{entry_of, HasEntries};
 ghost use Rattle.mat_int.specs.Enclosures.{HasEnclosures};
 ghost use Rattle.qp_model.specs.declared.design_parts.DesignParts.{DesignParts};
 ghost use Rattle.qp_model.specs.Parts.{design_of};
-ghost use Rattle.plant_condense.specs.Form.{IsFormIn, IsSomeForm};
+ghost use Rattle.condensed_form.specs.Form.{IsFormIn, IsSomeForm};
 ghost use Rattle.hessian_check.specs.Curvature.{lowered, raised_diagonal};
 ghost use Rattle.hessian_check.specs.DesignMatrices.{IsCostMatrix};
 ghost use Rattle.hessian_check.specs.Filling.{HasFirstEnclosures, HasFirstRows};
@@ -14,10 +14,10 @@ ghost use Rattle.hessian_check.specs.Held.{IsMovable};
 ghost use Rattle.hessian_check.specs.RowSums.{HaveSumRoom, rounded_sum, sums_matrix};
 ghost use Rattle.hessian_check.specs.Steps.{half_of};
 
+use condensed_form::Condensed;
 use enclosure::{EncMat, divided};
 use frac_scaled::floor_shift;
 use mat_int::{Mat, absolute_sum};
-use plant_condense::Condensed;
 use std::alloc::{AllocError, Global};
 
 /// Half the hessian, with each diagonal entry lowered by half the radii of its row.

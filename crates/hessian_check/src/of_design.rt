@@ -4,7 +4,7 @@ ghost use Rattle.qp_model.specs.declared.design_parts.DesignParts.{DesignParts};
 ghost use Rattle.qp_model.specs.Class.{curvature_quantity, product_row_in};
 ghost use Rattle.qp_model.specs.Curvature.{IsExponent};
 ghost use Rattle.qp_model.specs.Parts.{design_of};
-ghost use Rattle.plant_condense.specs.Form.{IsForm, IsFormIn, IsSomeForm};
+ghost use Rattle.condensed_form.specs.Form.{IsForm, IsFormIn, IsSomeForm};
 ghost use Rattle.hessian_check.specs.DesignMatrices.{AreMatricesOf};
 ghost use Rattle.hessian_check.specs.Lowering.{HasCostMatrix};
 ghost use Rattle.hessian_check.specs.RowSums.{AreRowSums};
@@ -16,8 +16,8 @@ use crate::fault::{CurvatureFault, StepExponents};
 use crate::held::{cost_matrix, row_matrix};
 use crate::matrices::StepMatrices;
 use crate::sums::sums_once;
+use condensed_form::{Condensed, is_curvature_limited, squares_exponent};
 use enclosure::EncMat;
-use plant_condense::{Condensed, is_curvature_limited, squares_exponent};
 use qp_model::Quantity;
 use std::alloc::{AllocError, Global};
 

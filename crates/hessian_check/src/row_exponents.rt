@@ -3,7 +3,7 @@ ghost use Rattle.std.specs.Prelude.{◌≡◌, ◌↔◌, ◌+◌, ◌-◌, ◌<
 ghost use Rattle.qp_model.specs.Class.{HasLoweringRoom};
 ghost use Rattle.qp_model.specs.Curvature.{AreExponents};
 ghost use Rattle.qp_model.specs.FineSizes.{is_fine};
-ghost use Rattle.plant_condense.specs.Form.{IsForm};
+ghost use Rattle.condensed_form.specs.Form.{IsForm};
 ghost use Rattle.hessian_check.specs.Curvature.{IsAccepted};
 ghost use Rattle.hessian_check.specs.Lowering.{AreSumsToTest, AreTestedSums, HasCostMatrix, IsReadyToLower};
 ghost use Rattle.hessian_check.specs.MatrixRoom.{HasMatrixRoom, matrix_at};
@@ -16,8 +16,8 @@ use crate::held::row_matrix;
 use crate::matrices::StepMatrices;
 use crate::of_design::matrices_by;
 use crate::sums::{sums_once, with_row};
+use condensed_form::{Condensed, is_lowering_limited};
 use enclosure::EncMat;
-use plant_condense::{Condensed, is_lowering_limited};
 use std::alloc::{AllocError, Global};
 
 /// The step exponents of the rows of a design's condensed form, whose own step exponent is `s`: the rows are taken in their order, and each exponent

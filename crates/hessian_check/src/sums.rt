@@ -3,13 +3,13 @@ ghost use Rattle.std.specs.Prelude.{◌≡◌, ◌+◌, ◌*◌, ◌<◌, ◌^�
 ghost use Rattle.frac_scaled.specs.Enclosures.{multiple, sum_of, whole_product};
 ghost use Rattle.mat_int.specs.Enclosures.{AreEnclosures, enclosure_at, HasEnclosures};
 ghost use Rattle.enclosure.specs.Values.{pair};
-ghost use Rattle.plant_condense.specs.Form.{IsSomeForm};
+ghost use Rattle.condensed_form.specs.Form.{IsSomeForm};
 ghost use Rattle.hessian_check.specs.RowSums.{AreRowSums, HasRoomFor, more_sum};
 ghost use Rattle.hessian_check.specs.Filling.{HasFirstEnclosures};
 
+use condensed_form::Condensed;
 use enclosure::{Enc, EncMat, magnitude};
 use mat_int::Mat;
-use plant_condense::Condensed;
 use std::alloc::{AllocError, Global};
 
 /// Those of rows that each count once.

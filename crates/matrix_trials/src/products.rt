@@ -2,7 +2,8 @@
 ghost use Rattle.std.specs.Prelude.{◌≡◌, length};
 
 use crate::rows::{HALF, MAX, MIN, has_rows, matrix};
-use mat_int::{Mat, MatFault, gram, mul, times_vec, try_dot};
+use mat_int::{Mat, times_vec, try_dot};
+use mat_products::{MatFault, gram, mul};
 use std::alloc::{AllocError, Global};
 use std::test::Fail;
 

@@ -2,7 +2,7 @@
 ghost use Rattle.std.specs.Prelude.{◌≡◌, ◌≤ℤ◌, pos};
 
 use enclosure::{Enc, EncMat, add, combine, contains, enclose, gram, mul};
-use mat_int::MatFault;
+use mat_products::MatFault;
 use std::alloc::{AllocError, Global};
 use std::test::Fail;
 

@@ -1,5 +1,5 @@
 // Words, lists and texts of whole numbers.
-use qp_model::{line_text, number_word, numbers_of, pieces_of, spaced_text};
+use number_text::{line_text, number_word, numbers_of, pieces_of, spaced_text};
 use std::alloc::{AllocError, Global};
 use std::test::Fail;
 

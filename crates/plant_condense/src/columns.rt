@@ -1,31 +1,15 @@
 // The limit rows' responses, column by column.
 ghost use Rattle.std.specs.Prelude.{◌<◌, ◌+◌, ◌*◌, IfOk};
-ghost use Rattle.integer_algebra.specs.Sums.{at, none};
+ghost use Rattle.integer_algebra.specs.Sums.{none};
 ghost use Rattle.qp_model.specs.Design.{rows};
 ghost use Rattle.qp_model.specs.Parts.{design_of, IsDesign};
 ghost use Rattle.qp_model.specs.Runs.{row_at, unit, Holds};
-ghost use Rattle.plant_condense.specs.Lists.{IsReady, RowsFit, ArePowers, UnitsFit, HoldsMatrix};
+ghost use Rattle.condensed_form.specs.Lists.{ArePowers, UnitsFit, HoldsMatrix};
 
-use crate::run::Run;
+use exact_run::column_of;
 use mat_int::Mat;
 use qp_model::DesignParts;
 use std::alloc::{AllocError, Global};
-
-/// What the rows have of the run from `start` under `plan`, over `limit_den * plant_den^N`.
-pub fn column_of(
-    alloc: Global,
-    parts: &DesignParts,
-    powers: &[i128],
-    start: &[i128],
-    plan: &[i128],
-) -> Result<Vec<i128>, AllocError>
-    requires ready { IsReady parts.now powers.now start.now plan.now }
-    requires fits { RowsFit (design_of parts.now) (at start.now) (at plan.now) }
-    ensures { IfOk result (λ v. Holds v.items (rows (design_of parts.now)) (row_at (design_of parts.now) (at start.now) (at plan.now))) }
-{
-    let run = Run::new(alloc, parts, powers, start, plan)?;
-    run.rows(alloc)
-}
 
 // What they have of entry `j` of the plan.
 fn plan_column(

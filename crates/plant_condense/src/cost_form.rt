@@ -2,13 +2,12 @@
 ghost use Rattle.std.specs.Prelude.{◌≡◌, ◌≤◌, ◌^◌, pos, unsigned_abs, IfOk};
 ghost use Rattle.qp_model.specs.Parts.{design_of, IsDesign};
 ghost use Rattle.qp_model.specs.Quantities.{cost_entry_size};
-ghost use Rattle.plant_condense.specs.Form.{response_scale};
-ghost use Rattle.plant_condense.specs.Lists.{ArePowers};
-ghost use Rattle.plant_condense.specs.Numbers.{AreCostNumbers};
+ghost use Rattle.condensed_form.specs.Form.{response_scale};
+ghost use Rattle.condensed_form.specs.Lists.{ArePowers};
+ghost use Rattle.condensed_form.specs.Numbers.{AreCostNumbers};
 
 use crate::costs::Costs;
-use crate::denominators::square_scale;
-use crate::powers::last_power;
+use condensed_form::{last_power, square_scale};
 use mat_int::Mat;
 use qp_model::DesignParts;
 use std::alloc::{AllocError, Global};

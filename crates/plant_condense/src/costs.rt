@@ -1,9 +1,9 @@
 // The condensed cost.
 ghost use Rattle.mat_int.specs.Lines.{lists};
-ghost use Rattle.plant_condense.specs.Costs.{AreCounted};
+ghost use Rattle.condensed_form.specs.Costs.{AreCounted};
 
-use crate::counted::{all_plan_costs, scaled_targets, state_costs, weights_of};
-use crate::sums::{product, products_of};
+use crate::counted::{all_plan_costs, state_costs};
+use condensed_form::{product, products_of, scaled_targets, weights_of};
 use mat_int::Mat;
 use qp_model::DesignParts;
 use std::alloc::{AllocError, Global};
@@ -24,9 +24,9 @@ impl<'a> Costs<'a> {
     ghost use Rattle.qp_model.specs.Parts.{design_of, IsDesign};
     ghost use Rattle.qp_model.specs.Quantities.{response_size, cost_entry_size};
     ghost use Rattle.qp_model.specs.Runs.{counts, Holds};
-    ghost use Rattle.plant_condense.specs.Form.{response_scale};
-    ghost use Rattle.plant_condense.specs.Costs.{plan_cost, state_cost, target_of, weighed, own_cost};
-    ghost use Rattle.plant_condense.specs.Lists.{ArePowers, HoldsMatrix};
+    ghost use Rattle.condensed_form.specs.Form.{response_scale};
+    ghost use Rattle.condensed_form.specs.Costs.{plan_cost, state_cost, target_of, weighed, own_cost};
+    ghost use Rattle.condensed_form.specs.Lists.{ArePowers, HoldsMatrix};
 
     /// The weights and the responses of a design.
     pub fn new(

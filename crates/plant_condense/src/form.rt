@@ -2,17 +2,16 @@
 ghost use Rattle.std.specs.Prelude.{◌≡◌, ◌≢◌, ◌↔◌, ◌^◌, false, pos, unsigned_abs, IfOk, Err};
 ghost use Rattle.qp_model.specs.declared.quantity.Quantity.{Quantity};
 ghost use Rattle.qp_model.specs.Parts.{design_of, IsDesign};
-ghost use Rattle.plant_condense.specs.Form.{IsFormIn};
-ghost use Rattle.plant_condense.specs.Fault.{IsFirstWideIn, AreEntrySizes};
-ghost use Rattle.plant_condense.specs.Numbers.{AreCostNumbers, AreLimitNumbers};
+ghost use Rattle.condensed_form.specs.Form.{IsFormIn};
+ghost use Rattle.condensed_form.specs.Fault.{IsFirstWideIn, AreEntrySizes};
+ghost use Rattle.condensed_form.specs.Numbers.{AreCostNumbers, AreLimitNumbers};
 
-use crate::condensed::Condensed;
 use crate::cost_form::{CostNumbers, cost_numbers};
-use crate::denominators::{bend_floor, least_input, square_scale};
-use crate::fault::CondenseFault;
 use crate::limits::{LimitNumbers, limit_numbers};
-use crate::powers::{last_power, powers_of};
 use crate::radii::no_radii;
+use condensed_form::{
+    CondenseFault, Condensed, bend_floor, last_power, least_input, powers_of, square_scale,
+};
 use qp_model::{Design, DesignParts, Quantity, hessian_size, prediction_size, rows_size};
 use std::alloc::{AllocError, Global};
 

@@ -2,12 +2,11 @@
 ghost use Rattle.std.specs.Prelude.{◌≤◌, ◌^◌, IfOk};
 ghost use Rattle.qp_model.specs.Parts.{design_of, IsDesign};
 ghost use Rattle.qp_model.specs.Quantities.{limit_entry_size};
-ghost use Rattle.plant_condense.specs.Lists.{ArePowers};
-ghost use Rattle.plant_condense.specs.Numbers.{AreLimitNumbers};
+ghost use Rattle.condensed_form.specs.Lists.{ArePowers};
+ghost use Rattle.condensed_form.specs.Numbers.{AreLimitNumbers};
 
-use crate::bounds::scaled_bounds;
 use crate::columns::{plan_columns, state_columns};
-use crate::powers::last_power;
+use condensed_form::{last_power, scaled_bounds};
 use mat_int::Mat;
 use qp_model::DesignParts;
 use std::alloc::{AllocError, Global};

@@ -1,6 +1,6 @@
 // Radii of exact numbers.
 ghost use Rattle.std.specs.Prelude.{IfOk};
-ghost use Rattle.plant_condense.specs.Numbers.{AreNoRadii};
+ghost use Rattle.condensed_form.specs.Numbers.{AreNoRadii};
 
 use mat_int::Mat;
 use std::alloc::{AllocError, Global};

@@ -4,8 +4,8 @@ use Rattle.std.proofs.lemmas.List.{get_or_append_left, get_or_push, length-drop,
 use Rattle.integer_algebra.specs.Sums.{at}
 use Rattle.csv.specs.Records.{Row, fields_of}
 use Rattle.mat_int.specs.Matrix.{Matrix, row_of}
-use Rattle.qp_model.specs.declared.text_fault.TextFault.{TextFault}
-use Rattle.qp_model.specs.declared.text_fault.TextFault.TheVariants.{Count, Memory}
+use Rattle.number_text.specs.declared.text_fault.TextFault.{TextFault}
+use Rattle.number_text.specs.declared.text_fault.TextFault.TheVariants.{Count, Memory}
 use Rattle.std.proofs.Math.Nat.{mul-le-mul_right}
 use Rattle.qp_model.specs.Limits.{last_version, most_states}
 use Rattle.qp_model.specs.Parts.{IsDesign}

@@ -5,8 +5,8 @@ use Rattle.std.specs.Result.{IsErrAnd}
 use Rattle.std.proofs.lemmas.List.{get_or-map, length-map}
 use Rattle.csv.specs.Records.{Row, fields_of}
 use Rattle.mat_int.specs.Matrix.{Matrix, row_of}
-use Rattle.qp_model.specs.declared.text_fault.TextFault.{TextFault}
-use Rattle.qp_model.specs.declared.text_fault.TextFault.TheVariants.{NotToml, Key, Shape, Range, Fields, Number, Count, Memory}
+use Rattle.number_text.specs.declared.text_fault.TextFault.{TextFault}
+use Rattle.number_text.specs.declared.text_fault.TextFault.TheVariants.{NotToml, Key, Shape, Range, Fields, Number, Count, Memory}
 use Rattle.policy_file.specs.Records.{RecordRule, HoldsNumbers, IsFirstWrong, IsRecordFault, HoldUpTo, IsRecordsFault, records_of, record_at, field_of, field_room}
 use Rattle.policy_file.proofs.RecordFacts.{records_few, records_room}
 

@@ -2,8 +2,8 @@
 use Rattle.std.specs.Prelude.{◌≡◌, ◌≢◌, ℕ, ◌+◌, ◌-◌, ◌≤◌, ◌<◌, ℤ, List, [], length, get_or, sum_by}
 use Rattle.csv.specs.Reading.{default_config, strip_bom, records}
 use Rattle.integer_algebra.specs.Sums.{at}
-use Rattle.qp_model.specs.declared.text_fault.TextFault.{TextFault}
-use Rattle.qp_model.specs.declared.text_fault.TextFault.TheVariants.{NotToml, Key, Shape, Range, Fields, Number, Count, Memory}
+use Rattle.number_text.specs.declared.text_fault.TextFault.{TextFault}
+use Rattle.number_text.specs.declared.text_fault.TextFault.TheVariants.{NotToml, Key, Shape, Range, Fields, Number, Count, Memory}
 
 -- the records of a text, as `csv` reads it: commas and double quotes, no header, records of any length, no byte order mark
 abbrev pub records_of : List ℕ → List (List (List ℕ))

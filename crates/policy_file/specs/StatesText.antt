@@ -1,7 +1,7 @@
 -- A states text: records of as many numbers as there are states.
 use Rattle.std.specs.Prelude.{◌≡◌, ℕ, ◌<◌, ℤ, List, length}
 use Rattle.mat_int.specs.Matrix.{Matrix, row_of}
-use Rattle.qp_model.specs.declared.text_fault.TextFault.{TextFault}
+use Rattle.number_text.specs.declared.text_fault.TextFault.{TextFault}
 use Rattle.policy_file.specs.NumberField.{IsNumberField}
 use Rattle.policy_file.specs.Records.{RecordRule, HoldsNumbers, IsRecordsFault, records_of, record_at}
 

@@ -4,15 +4,16 @@ ghost use Rattle.mat_int.specs.Matrix.{Matrix};
 ghost use Rattle.qp_model.specs.Limits.{last_version, most_states};
 ghost use Rattle.qp_model.specs.Parts.{design_of, IsDesign};
 ghost use Rattle.qp_model.specs.Policy.{Plans, plans_of, IsPolicyFor};
-ghost use Rattle.qp_model.specs.declared.text_fault.TextFault.{TextFault};
-ghost use Rattle.qp_model.specs.declared.text_fault.TextFault.TheVariants.{Memory};
+ghost use Rattle.number_text.specs.declared.text_fault.TextFault.{TextFault};
+ghost use Rattle.number_text.specs.declared.text_fault.TextFault.TheVariants.{Memory};
 ghost use Rattle.policy_file.specs.StatesText.{IsStatesText, IsStatesFault};
 ghost use Rattle.policy_file.specs.PolicyText.{IsPolicyText, IsPolicyFault};
 
 use crate::record::{Layout, numbers_of};
 use crate::text::all_records;
 use mat_int::Mat;
-use qp_model::{Design, DesignParts, Policy, TextFault};
+use number_text::TextFault;
+use qp_model::{Design, DesignParts, Policy};
 use std::alloc::Global;
 
 /// The states of a text of records of `n` numbers over `2^grid`, a row for each record. The text has fewer than `2^32` bytes.

@@ -3,11 +3,11 @@ ghost use Rattle.std.specs.Prelude.{◌≡◌, ◌⊎◌, ℕ, ℤ, ◌+◌, ◌
 ghost use Rattle.csv.specs.Records.{fields_of};
 ghost use Rattle.policy_file.specs.Records.{HoldsNumbers, IsRecordFault, field_room};
 ghost use Rattle.policy_file.specs.Layout.{rule_of, IsInRange};
-ghost use Rattle.qp_model.specs.declared.text_fault.TextFault.TheVariants.{Memory};
+ghost use Rattle.number_text.specs.declared.text_fault.TextFault.TheVariants.{Memory};
 
 use crate::number::number_field;
 use csv::ByteRecord;
-use qp_model::TextFault;
+use number_text::TextFault;
 use std::alloc::Global;
 
 /// The greatest denominator of a plan.

@@ -9,7 +9,7 @@ ghost use Rattle.fixed_kernel.specs.Progress.{iterate_of};
 
 use fixed_kernel::Kernel;
 use frac_scaled::scaled;
-use qp_model::spaced_text;
+use number_text::spaced_text;
 use std::alloc::{AllocError, Global};
 
 /// The denominator of the averaged plan after all steps: steps times `2^f`.

@@ -1,7 +1,7 @@
 -- What follows from rules that hold, and from the first that is broken.
 use Rattle.std.proofs.Common.{◌≡◌, ◌↔◌, List, [], ◌∷◌, ◌++◌, ◌∙◌, sym, inl, inr, Result, Ok, Err}
 use Rattle.std.specs.Result.{OnOk, IfErr, IsErrAnd}
-use Rattle.qp_model.specs.declared.text_fault.TextFault.{TextFault}
+use Rattle.number_text.specs.declared.text_fault.TextFault.{TextFault}
 use Rattle.qp_model.specs.Rules.{Rule, AllHold, IsFirstBroken, Tests}
 
 pub broken_before : (rules more : List Rule) (fault : TextFault) → IsFirstBroken rules fault → IsFirstBroken (rules ++ more) fault

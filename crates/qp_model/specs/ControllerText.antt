@@ -4,7 +4,7 @@ use Rattle.mat_int.specs.Matrix.{Matrix}
 use Rattle.qp_model.specs.Limits.{text_version}
 use Rattle.qp_model.specs.Controller.{Numbers, FitsWord}
 use Rattle.qp_model.specs.AbsoluteSums.{IsController}
-use Rattle.qp_model.specs.Lines.{spaced, line_of, text_of}
+use Rattle.number_text.specs.Lines.{spaced, line_of, text_of}
 use Rattle.qp_model.specs.Machine.{average_denominator, averaged_plan}
 
 -- a line for each row

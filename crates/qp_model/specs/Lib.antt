@@ -23,8 +23,6 @@ pub mod Machine
 pub mod AbsoluteSums
 pub mod ValuesMet
 pub mod Within
-pub mod Lines
-pub mod Spelling
 pub mod ControllerText
 pub mod Runs
 pub mod Scaling

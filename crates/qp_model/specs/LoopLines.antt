@@ -3,7 +3,7 @@ use Rattle.std.specs.Prelude.{ℕ, zero, suc, ◌+◌, ℤ, pos, List, [], ◌�
 use Rattle.qp_model.specs.Design.{Design}
 use Rattle.qp_model.specs.Controller.{Numbers}
 use Rattle.qp_model.specs.Machine.{average_denominator, averaged_plan}
-use Rattle.qp_model.specs.Lines.{spaced}
+use Rattle.number_text.specs.Lines.{spaced}
 use Rattle.qp_model.specs.Successor.{state_after}
 
 -- the record, the turn, the state, and the first inputs of the averaged plan with their denominator

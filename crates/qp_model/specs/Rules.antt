@@ -1,7 +1,7 @@
 -- Rules in an order, each with the fault of breaking it.
 use Rattle.std.specs.Prelude.{◌≡◌, ℕ, ◌⊎◌, List, [], ◌∷◌, Result, Ok, Err}
-use Rattle.qp_model.specs.declared.text_fault.TextFault.{TextFault}
-use Rattle.qp_model.specs.declared.text_fault.TextFault.TheVariants.{Shape, Range, Key}
+use Rattle.number_text.specs.declared.text_fault.TextFault.{TextFault}
+use Rattle.number_text.specs.declared.text_fault.TextFault.TheVariants.{Shape, Range, Key}
 
 pub record Rule : Type 1 where
   pub holds : Type 0

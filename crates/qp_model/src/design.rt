@@ -2,7 +2,7 @@ ghost use Rattle.qp_model.specs.Parts.{IsDesign};
 
 use crate::design_parts::DesignParts;
 use crate::part_rules::test_parts;
-use crate::text_fault::TextFault;
+use number_text::TextFault;
 use std::marker::Model;
 
 /// Numbers that have a design's shapes and lie in its ranges.
@@ -24,7 +24,7 @@ impl Model for Design {
 
 impl Design {
     ghost use Rattle.std.specs.Prelude.{◌≡◌, ◌↔◌, IfOk, IfErr, IsOk, Err};
-    ghost use Rattle.qp_model.specs.declared.text_fault.TextFault.{TextFault};
+    ghost use Rattle.number_text.specs.declared.text_fault.TextFault.{TextFault};
     ghost use Rattle.qp_model.specs.Rules.{IsFirstBroken};
     ghost use Rattle.qp_model.specs.PartRules.{part_rules};
 

@@ -8,14 +8,12 @@ mod design;
 mod design_parts;
 mod laws;
 mod limits;
-mod number;
 mod part_rules;
 mod policy;
 mod quantity;
 pub mod range;
 pub mod rules;
 mod sizes;
-mod text_fault;
 
 pub use bounds::{Bounds, Margin};
 pub use controller_parts::ControllerParts;
@@ -31,11 +29,9 @@ pub use limits::{
     LAST_VERSION, MOST_INPUTS, MOST_ROWS, MOST_STAGES, MOST_STATES, VERSION, most_rows,
     most_stages, most_states,
 };
-pub use number::{line_text, number_word, numbers_of, pieces_of, push_line, spaced_text};
 pub use policy::Policy;
 pub use quantity::{Quantity, Wide};
 pub use sizes::{
     cost_width, curvature_of, growth, hessian_size, limit_width, limited_area, limited_power,
     prediction_size, rows_size, weight_sum,
 };
-pub use text_fault::TextFault;

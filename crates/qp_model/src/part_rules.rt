@@ -10,8 +10,8 @@ use crate::range::{
     is_positive, lies_in,
 };
 use crate::rules::{in_range, in_shape};
-use crate::text_fault::TextFault;
 use mat_int::Mat;
+use number_text::TextFault;
 
 /// The rules of all places: the fault of the first that is broken.
 pub fn test_parts(p: &DesignParts) -> Result<(), TextFault>

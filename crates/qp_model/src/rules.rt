@@ -1,7 +1,7 @@
 //! Rules tested one after the other: each answers its fault where it is broken.
 ghost use Rattle.std.specs.Prelude.{◌≡◌, OnOk, IfErr, IsTrue};
 
-use crate::text_fault::TextFault;
+use number_text::TextFault;
 
 /// The fault `Shape` of a place, unless the value there has its shape.
 pub fn in_shape(place: u32, holds: bool) -> Result<(), TextFault>

@@ -13,8 +13,8 @@ use Rattle.qp_model.specs.Form.{Form}
 use Rattle.qp_model.specs.Columns.{columns, column_bound, column_size, solve_matrix, solve_column}
 use Rattle.qp_model.specs.Quantities.{greatest}
 use Rattle.qp_model.proofs.SizeFacts.{greatest_term, positive}
-use Rattle.plant_condense.specs.Form.{held}
-use Rattle.plant_condense.specs.declared.condensed.Condensed.{Condensed}
+use Rattle.condensed_form.specs.Form.{held}
+use Rattle.condensed_form.specs.declared.condensed.Condensed.{Condensed}
 use Rattle.step_error.proofs.Gains.{below, beyond, same, other}
 use Rattle.step_error.proofs.Slopes.{size_factor}
 use Rattle.real_error.specs.Gains.{gain_at, missed, missed_by, missed_sum, combined_of, AreSolved}

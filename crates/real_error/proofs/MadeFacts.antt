@@ -23,8 +23,8 @@ use Rattle.qp_model.specs.Errors.{state_bound, combined_bound, gradient_error, g
 use Rattle.qp_model.specs.RealErrors.{has_residual_room, real_gradient, real_plan, real_cost}
 use Rattle.qp_model.proofs.SizeFacts.{positive}
 use Rattle.qp_model.proofs.SystemLaws.{count_same, solutions_same, column_bound_same, descent_same}
-use Rattle.plant_condense.specs.Form.{HasShapes, IsFormOf, held}
-use Rattle.plant_condense.specs.declared.condensed.Condensed.{Condensed}
+use Rattle.condensed_form.specs.Form.{HasShapes, IsFormOf, held}
+use Rattle.condensed_form.specs.declared.condensed.Condensed.{Condensed}
 use Rattle.step_error.specs.declared.sums.ErrorSums.{ErrorSums}
 use Rattle.step_error.specs.ErrorSums.{AreSums, sums_of}
 use Rattle.step_error.proofs.Ceilings.{ceil_rises}

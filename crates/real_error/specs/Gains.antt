@@ -11,8 +11,8 @@ use Rattle.qp_model.specs.Controller.{HasShape}
 use Rattle.qp_model.specs.GoodSolution.{IsGood}
 use Rattle.qp_model.specs.Errors.{ErrorSums}
 use Rattle.qp_model.specs.Quantities.{greatest}
-use Rattle.plant_condense.specs.Form.{HasShapes, held}
-use Rattle.plant_condense.specs.declared.condensed.Condensed.{Condensed}
+use Rattle.condensed_form.specs.Form.{HasShapes, held}
+use Rattle.condensed_form.specs.declared.condensed.Condensed.{Condensed}
 
 -- entry j of the gains for column i: those for the states, those for the constant, and those for the rows
 abbrev pub gain_at : (p_mat : Matrix) (t : List ℤ) (w_mat : Matrix) → ℕ → ℕ → ℤ

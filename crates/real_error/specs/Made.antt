@@ -9,8 +9,8 @@ use Rattle.qp_model.specs.GoodSolution.{IsGood}
 use Rattle.qp_model.specs.Controller.{Numbers, HasShape}
 use Rattle.qp_model.specs.Errors.{error_sums_of, error_size}
 use Rattle.qp_model.specs.declared.design_parts.DesignParts.{DesignParts}
-use Rattle.plant_condense.specs.Form.{IsFormOf}
-use Rattle.plant_condense.specs.declared.condensed.Condensed.{Condensed}
+use Rattle.condensed_form.specs.Form.{IsFormOf}
+use Rattle.condensed_form.specs.declared.condensed.Condensed.{Condensed}
 use Rattle.step_error.specs.ErrorSums.{whole_sums}
 use Rattle.step_error.specs.declared.sums.ErrorSums.{ErrorSums}
 use Rattle.real_error.specs.Gains.{gain_at}

@@ -7,14 +7,14 @@ ghost use Rattle.qp_model.specs.Controller.{Numbers};
 ghost use Rattle.qp_model.specs.Parts.{design_of};
 ghost use Rattle.qp_model.specs.RealErrors.{real_cost};
 ghost use Rattle.qp_model.specs.declared.design_parts.DesignParts.{DesignParts};
-ghost use Rattle.plant_condense.specs.Form.{held};
+ghost use Rattle.condensed_form.specs.Form.{held};
 ghost use Rattle.step_error.specs.ErrorSums.{AreSums, sums_of};
 ghost use Rattle.real_error.specs.Gains.{gain_at, missed_squares, missed_cost};
 ghost use Rattle.real_error.specs.Made.{IsMadeFor, IsMade, HasGains};
 
 use crate::gains::Gains;
+use condensed_form::Condensed;
 use mat_int::Mat;
-use plant_condense::Condensed;
 use step_error::{ErrorSums, errors_cost, plan_bound};
 
 // What the squares of the gradient's errors cost, over `4^f`.

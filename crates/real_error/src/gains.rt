@@ -1,11 +1,11 @@
 // The gains of a controller, and by how much they miss the systems that they solve.
 ghost use Rattle.std.specs.Prelude.{◌≡◌, ◌≤◌, ◌+◌, ◌*◌, ◌^◌, ◌≤ℤ◌, ◌-ℤ◌, ◌*ℤ◌, pos, unsigned_abs};
-ghost use Rattle.plant_condense.specs.Form.{held};
+ghost use Rattle.condensed_form.specs.Form.{held};
 ghost use Rattle.real_error.specs.Gains.{AreSolved};
 
+use condensed_form::Condensed;
 use frac_scaled::limited_product;
 use mat_int::Mat;
-use plant_condense::Condensed;
 use step_error::farthest_row;
 
 // A number of a limit row on the denominator of the systems.
@@ -55,7 +55,7 @@ impl<'a> Gains<'a> {
     ghost use Rattle.mat_int.specs.Matrix.{entry_of};
     ghost use Rattle.qp_model.specs.Columns.{columns, solve_matrix, solve_column};
     ghost use Rattle.qp_model.specs.Quantities.{greatest};
-    ghost use Rattle.plant_condense.specs.Form.{held};
+    ghost use Rattle.condensed_form.specs.Form.{held};
     ghost use Rattle.real_error.specs.Gains.{gain_at, missed, missed_by, missed_sum, missed_gradient, missed_squares, combined_of, has_room};
 
     // Entry `l` for column `i`.

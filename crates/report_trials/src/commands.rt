@@ -3,7 +3,8 @@ use command_line::{Command, Field, Status, command_of, is_json, status_line};
 use controller_file::BadController;
 use frac_scaled::Frac;
 use io_edge::Words;
-use qp_model::{Quantity, TextFault};
+use number_text::TextFault;
+use qp_model::Quantity;
 use std::alloc::{AllocError, Global};
 use std::test::Fail;
 

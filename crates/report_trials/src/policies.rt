@@ -2,8 +2,8 @@
 ghost use Rattle.std.specs.Prelude.{length, ◌<◌, ◌^◌};
 
 use mat_int::Mat;
+use number_text::TextFault;
 use policy_file::{number_field, read_states};
-use qp_model::TextFault;
 use std::alloc::{AllocError, Global};
 use std::test::Fail;
 

@@ -30,17 +30,17 @@ use Rattle.qp_model.proofs.SizeFacts.{greatest_term}
 use Rattle.qp_model.proofs.CornerFacts.{product_small, cost_parts}
 use Rattle.qp_model.specs.Range.{IsPositive}
 use Rattle.qp_model.specs.Margin.{Shown, corner_cost, corner_cost_scale}
-use Rattle.plant_condense.proofs.DenominatorFacts.{natural}
+use Rattle.condensed_form.proofs.DenominatorFacts.{natural}
 use Rattle.qp_model.proofs.GramLaws.{counted_total}
 use Rattle.qp_model.proofs.CountLaws as Count
 use Rattle.qp_model.proofs.CountLaws.{counted_all}
 use Rattle.qp_model.proofs.QuantityLaws.{tame, slim, target_width, weights_size}
-use Rattle.plant_condense.specs.Costs.{weight_of, target_of}
+use Rattle.condensed_form.specs.Costs.{weight_of, target_of}
 use Rattle.std.specs.Int.{w128}
-use Rattle.plant_condense.proofs.Rooms as Rooms
-use Rattle.plant_condense.proofs.StateFacts.{at-part, part_inside}
-use Rattle.plant_condense.proofs.StageFacts.{length-part, lifted_fits}
-use Rattle.plant_condense.proofs.ColumnFacts.{at_both}
+use Rattle.condensed_form.proofs.Rooms as Rooms
+use Rattle.condensed_form.proofs.StateFacts.{at-part, part_inside}
+use Rattle.condensed_form.proofs.StageFacts.{length-part, lifted_fits}
+use Rattle.condensed_form.proofs.ColumnFacts.{at_both}
 use Rattle.slater_margin.specs.Simulation.{IsCorner, HasCornerCost, SquaresFit, row_costs, input_cost}
 use Rattle.slater_margin.proofs.RoomFacts as Room
 use Rattle.slater_margin.proofs.RoomFacts.{cost_side, side_room, square_room, power_size, unit_size, start_held, plan_held}

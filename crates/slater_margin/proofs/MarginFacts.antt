@@ -17,7 +17,7 @@ use Rattle.qp_model.specs.Policy.{Plans, IsPolicyFor, corner_denominator}
 use Rattle.qp_model.specs.Margin.{Shown, simulated, HasSlack, HasCost, IsMarginOf}
 use Rattle.qp_model.specs.FineCorners.{enclosed_corners}
 use Rattle.qp_model.specs.CornerClass.{shown_in, IsMarginIn}
-use Rattle.plant_condense.proofs.StateFacts.{denominator_positive}
+use Rattle.condensed_form.proofs.StateFacts.{denominator_positive}
 use Rattle.slater_margin.specs.Corners.{AllSlackOf, IsFirstShortIn}
 use Rattle.slater_margin.specs.Simulation.{IsCornerMargin, IsShortRow, HasScales}
 use Rattle.slater_margin.proofs.SlackFacts.{one-le-mul_z}

@@ -19,11 +19,11 @@ use Rattle.qp_model.proofs.SizeFacts.{greatest_term, side_under, some_limit, som
 use Rattle.qp_model.proofs.QuantityLaws.{tame, narrow, slim, bound_width}
 use Rattle.qp_model.proofs.RowLaws.{row_bound_law}
 use Rattle.qp_model.proofs.CornerFacts.{product_small, denominator_size}
-use Rattle.plant_condense.specs.Lists.{IsReady, RowsFit, CostsFit}
-use Rattle.plant_condense.proofs.StateFacts.{denominator_positive}
-use Rattle.plant_condense.proofs.Rooms.{read}
-use Rattle.plant_condense.proofs.StageFacts.{lifted_fits, lifted}
-use Rattle.plant_condense.proofs.DenominatorFacts.{naturals_fit, naturals_read}
+use Rattle.condensed_form.specs.Lists.{IsReady, RowsFit, CostsFit}
+use Rattle.condensed_form.proofs.StateFacts.{denominator_positive}
+use Rattle.condensed_form.proofs.Rooms.{read}
+use Rattle.condensed_form.proofs.StageFacts.{lifted_fits, lifted}
+use Rattle.condensed_form.proofs.DenominatorFacts.{naturals_fit, naturals_read}
 use Rattle.slater_margin.specs.Corners.{HasCornerRoomIn}
 use Rattle.slater_margin.specs.Simulation.{IsSetting, IsCorner}
 

@@ -4,7 +4,7 @@ use mathlib.Core.Path.{fun_ext}
 use Rattle.std.proofs.lemmas.Bool.{cases_lt}
 use Rattle.std.proofs.lemmas.Int.{ints, by_lt_z, unsigned_abs-mul}
 use Rattle.std.specs.Int.{w128}
-use Rattle.plant_condense.proofs.Rooms.{narrow}
+use Rattle.condensed_form.proofs.Rooms.{narrow}
 use Rattle.std.proofs.Math.IntN.{*ℤ_comm, *ℤ-zero}
 use Rattle.std.proofs.lemmas.Nat.{pow_pos}
 use Rattle.std.proofs.Math.Nat.{one-le-mul}
@@ -26,10 +26,10 @@ use Rattle.qp_model.specs.Margin.{Shown, corner_slack, slack_scale}
 use Rattle.qp_model.specs.Runs.{Holds, row_at, bound_at}
 use Rattle.qp_model.proofs.RowLaws.{residual_law}
 use Rattle.qp_model.proofs.CornerFacts.{row_length}
-use Rattle.plant_condense.proofs.ColumnFacts.{at_both}
+use Rattle.condensed_form.proofs.ColumnFacts.{at_both}
 use Rattle.frac_scaled.specs.declared.fraction.Frac.{Frac}
-use Rattle.plant_condense.proofs.StateFacts.{denominator_positive}
-use Rattle.plant_condense.proofs.DenominatorFacts.{natural}
+use Rattle.condensed_form.proofs.StateFacts.{denominator_positive}
+use Rattle.condensed_form.proofs.DenominatorFacts.{natural}
 use Rattle.slater_margin.specs.Simulation.{IsCorner, HasUnits, IsShortRow}
 use Rattle.slater_margin.proofs.RoomFacts.{slack_size}
 

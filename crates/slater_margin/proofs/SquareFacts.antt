@@ -9,7 +9,7 @@ use Rattle.integer_algebra.proofs.SumLaws.{total_more}
 use Rattle.integer_algebra.proofs.SizeLaws.{at_size, part_size}
 use Rattle.qp_model.proofs.RunLaws.{product_within}
 use Rattle.qp_model.proofs.CornerFacts.{product_small}
-use Rattle.plant_condense.proofs.Rooms.{read, narrow}
+use Rattle.condensed_form.proofs.Rooms.{read, narrow}
 use Rattle.slater_margin.specs.Simulation.{SquaresFit}
 
 pub square_size : (x : ℤ) (s : ℕ) → unsigned_abs x ≤ s → unsigned_abs (square x) ≤ s ^ 2

@@ -13,7 +13,7 @@ use Rattle.qp_model.specs.Cost.{cost_term}
 use Rattle.qp_model.specs.Policy.{Plans, IsPolicyFor, corner_denominator, corner_plan}
 use Rattle.qp_model.specs.Runs.{Holds}
 use Rattle.qp_model.specs.Margin.{Shown, HasSlack, HasCost}
-use Rattle.plant_condense.specs.Lists.{ArePowers}
+use Rattle.condensed_form.specs.Lists.{ArePowers}
 use Rattle.slater_margin.specs.Corners.{HasCornerRoomIn, AllSlackOf}
 
 -- ---- what a corner is simulated from

@@ -12,7 +12,7 @@ ghost use Rattle.slater_margin.specs.Simulation.{IsSetting, IsCornerMargin, IsSh
 
 use crate::corner::Corner;
 use crate::fault::MarginFault;
-use plant_condense::powers_of;
+use condensed_form::powers_of;
 use qp_model::{
     Design, DesignParts, Margin, Policy, Quantity, corner_cost_size, corner_slack_size,
     prediction_size,

@@ -17,10 +17,10 @@ use Rattle.qp_model.specs.Form.{Form, spread_of}
 use Rattle.qp_model.specs.Errors as errors
 use Rattle.qp_model.specs.Errors.{pull, combined_bound, trace_sum, gradient_squares, gradient_error, error_sums_of, error_size, state_bound, linear_sum, constant_sum, plan_row_sum}
 use Rattle.qp_model.proofs.SizeFacts.{some_entry, some_row, positive}
-use Rattle.plant_condense.specs.Form.{IsFormIn, held}
-use Rattle.plant_condense.specs.declared.condensed.Condensed.{Condensed}
-use Rattle.plant_condense.proofs.FormSums.{far_hessian, far_linear, far_constant, far_plan, linear_numbers, constant_numbers, diagonal_numbers, hessian_row, plan_numbers, state_numbers}
-use Rattle.plant_condense.proofs.HeldLaws.{least_equal}
+use Rattle.condensed_form.specs.Form.{IsFormIn, held}
+use Rattle.condensed_form.specs.declared.condensed.Condensed.{Condensed}
+use Rattle.condensed_form.proofs.FormSums.{far_hessian, far_linear, far_constant, far_plan, linear_numbers, constant_numbers, diagonal_numbers, hessian_row, plan_numbers, state_numbers}
+use Rattle.condensed_form.proofs.HeldLaws.{least_equal}
 use Rattle.step_error.specs.declared.radii.Radii.{Radii}
 use Rattle.step_error.specs.declared.sums.Whole.{Whole}
 use Rattle.step_error.specs.ErrorSums.{farthest_entry, entry_squares, sums_by, size_by, AreRadii, HaveRoom, HasErrorRoom}

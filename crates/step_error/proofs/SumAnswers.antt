@@ -13,8 +13,8 @@ use Rattle.qp_model.specs.Form.{Form, IsFormFor}
 use Rattle.qp_model.specs.Class.{form_in}
 use Rattle.qp_model.specs.Errors as errors
 use Rattle.qp_model.specs.Errors.{error_sums_of, error_size}
-use Rattle.plant_condense.specs.Form.{IsFormIn, IsFormOf, held}
-use Rattle.plant_condense.specs.declared.condensed.Condensed.{Condensed}
+use Rattle.condensed_form.specs.Form.{IsFormIn, IsFormOf, held}
+use Rattle.condensed_form.specs.declared.condensed.Condensed.{Condensed}
 use Rattle.step_error.specs.declared.sums.ErrorSums.{ErrorSums}
 use Rattle.step_error.specs.ErrorSums.{AreSums, whole_sums}
 use Rattle.step_error.proofs.SameSums.{sums_same, size_same}

@@ -7,11 +7,11 @@ ghost use Rattle.mat_int.specs.Matrix.{entry_of};
 ghost use Rattle.qp_model.specs.Form.{farthest};
 ghost use Rattle.qp_model.specs.Parts.{design_of};
 ghost use Rattle.qp_model.specs.Quantities.{greatest};
-ghost use Rattle.plant_condense.specs.Form.{IsFormOf, held};
+ghost use Rattle.condensed_form.specs.Form.{IsFormOf, held};
 ghost use Rattle.step_error.specs.ErrorSums.{AreRadii, HaveRoom, farthest_entry};
 
+use condensed_form::Condensed;
 use mat_int::{Mat, absolute_sum};
-use plant_condense::Condensed;
 use qp_model::DesignParts;
 
 // The sums of a form's radii, as in `ErrorSums`.

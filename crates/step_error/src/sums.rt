@@ -10,15 +10,15 @@ ghost use Rattle.qp_model.specs.Form.{spread_of};
 ghost use Rattle.qp_model.specs.Class.{form_of};
 ghost use Rattle.qp_model.specs.Errors.{state_bound, linear_sum, constant_sum, plan_row_sum, trace_sum, error_sums_of, error_size};
 ghost use Rattle.qp_model.specs.declared.quantity.Quantity.TheVariants.{Error};
-ghost use Rattle.plant_condense.specs.Form.{IsFormOf, held};
+ghost use Rattle.condensed_form.specs.Form.{IsFormOf, held};
 ghost use Rattle.step_error.specs.ErrorSums.{AreSums, whole_sums, farthest_entry, entry_error, entry_squares};
 
 use crate::radii::{
     Radii, farthest_at, farthest_diagonal, farthest_list, farthest_row, farthest_sum, radii_of,
 };
+use condensed_form::Condensed;
 use frac_scaled::{limited_product, limited_sum};
 use mat_int::Mat;
-use plant_condense::Condensed;
 use qp_model::{Design, DesignParts, Quantity, Wide, box_magnitude};
 
 /// What the bounds of the rounding errors at each number of fraction bits f are made of, for a condensed form of a design and multipliers

@@ -1,7 +1,8 @@
 // Texts of designs.
 use design_files::read_design;
 use mat_int::Mat;
-use qp_model::{DesignParts, TextFault};
+use number_text::TextFault;
+use qp_model::DesignParts;
 use std::alloc::{AllocError, Global};
 use std::test::Fail;
 use worked_designs::{DESIGN, changed_design, design};

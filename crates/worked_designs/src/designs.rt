@@ -1,10 +1,11 @@
 // Designs from texts.
 ghost use Rattle.std.specs.Prelude.{◌≡◌, ◌⊎◌, IfOk, IfErr};
-ghost use Rattle.qp_model.specs.declared.text_fault.TextFault.{TextFault};
+ghost use Rattle.number_text.specs.declared.text_fault.TextFault.{TextFault};
 ghost use Rattle.design_files.specs.DesignText.{IsDesignText, IsDesignFault};
 
 use design_files::read_design;
-use qp_model::{Design, TextFault};
+use number_text::TextFault;
+use qp_model::Design;
 use std::alloc::Global;
 
 /// The design that a text writes, or the text's first fault.

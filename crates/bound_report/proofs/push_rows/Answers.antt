@@ -1,7 +1,7 @@
 use Rattle.std.proofs.Common.{rules, ◌≡◌, ◌∙◌, ◌+◌, ◌<◌, ◌∷◌, [], ◌++◌, ℕ, ℤ, List, pos, length, get_or, take, arith, string_bytes, sym, ap, codes, FitsSigned, ◌+ℤ◌, to_z, of_z}
 use Rattle.std.specs.Int.{w128}
 use Rattle.std.proofs.lemmas.Int.{ints, to_z_pos, to_z-of_z}
-use Rattle.qp_model.specs.Lines.{line_of, text_of}
+use Rattle.number_text.specs.Lines.{line_of, text_of}
 use Rattle.bound_report.specs.Report.{numbered_violations}
 use Rattle.bound_report.proofs.Growing.{lines_pushed}
 use Rattle.bound_report.proofs.RowLines.{line_at, line_more}

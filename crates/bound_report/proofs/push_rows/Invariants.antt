@@ -1,5 +1,5 @@
 use Rattle.std.proofs.Common.{◌≡◌, ◌++◌, take, string_bytes}
-use Rattle.qp_model.specs.Lines.{text_of}
+use Rattle.number_text.specs.Lines.{text_of}
 use Rattle.bound_report.specs.Report.{numbered_violations}
 use Rattle.bound_report.proofs.push_rows.Given as goal
 

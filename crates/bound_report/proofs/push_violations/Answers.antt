@@ -1,5 +1,5 @@
 use Rattle.std.proofs.Common.{◌≡◌, ◌++◌, OnOk, string_bytes, ℕ, List, sym, subst}
-use Rattle.qp_model.specs.Lines.{text_of}
+use Rattle.number_text.specs.Lines.{text_of}
 use Rattle.bound_report.proofs.RowLines.{rows_told}
 use Rattle.bound_report.proofs.push_violations.Goals as goal
 

@@ -4,8 +4,8 @@ use Rattle.qp_model.specs.declared.design_parts.DesignParts.{DesignParts}
 use Rattle.qp_model.specs.Parts.{design_of}
 use Rattle.qp_model.specs.Class.{form_of}
 use Rattle.qp_model.specs.Columns.{descent_size}
-use Rattle.plant_condense.specs.Form.{IsFormOf, held}
-use Rattle.plant_condense.specs.declared.condensed.Condensed.{Condensed}
+use Rattle.condensed_form.specs.Form.{IsFormOf, held}
+use Rattle.condensed_form.specs.declared.condensed.Condensed.{Condensed}
 use Rattle.approx_inverse.specs.Inverse.{SolvesForm}
 use Rattle.approx_inverse.specs.Fault.{IsFault}
 use Rattle.approx_inverse.specs.declared.fault.SolveFault.{SolveFault}

@@ -1,6 +1,6 @@
 use Rattle.std.proofs.Common.{◌≡◌, ℕ, ◌<◌, length, arith, ap, sym, below_more, ◌∙◌, refl, rules}
 use Rattle.integer_algebra.specs.Sums.{at}
-use Rattle.plant_condense.specs.Form.{held}
+use Rattle.condensed_form.specs.Form.{held}
 use Rattle.approx_inverse.specs.Spans.{cells}
 use Rattle.approx_inverse.proofs.WordLaws.{at-slice}
 use Rattle.approx_inverse.proofs.FormLaws.{sizes_own, solution_kept}

@@ -1,5 +1,5 @@
 use Rattle.std.proofs.Common.{ℕ, ◌<◌}
-use Rattle.plant_condense.specs.Form.{held}
+use Rattle.condensed_form.specs.Form.{held}
 use Rattle.approx_inverse.specs.Workspace.{IsWorkspace}
 use Rattle.approx_inverse.specs.Inverse.{HasGainSizes, IsSolution, solution_of}
 use Rattle.approx_inverse.proofs.all.solve_from.Given as goal

@@ -2,7 +2,7 @@ use Rattle.std.proofs.Common.{rules, ℤ, ◌<◌, ◌*ℤ◌, FitsSigned, lengt
 use Rattle.std.specs.Int.{w128}
 use Rattle.std.proofs.lemmas.Int.{to_z-of_z}
 use Rattle.integer_algebra.specs.Sums.{at}
-use Rattle.plant_condense.specs.Form.{held}
+use Rattle.condensed_form.specs.Form.{held}
 use Rattle.approx_inverse.proofs.SystemLaws.{column_of_state, wide_same, column_of_constant, column_of_row}
 use Rattle.approx_inverse.proofs.system.put_column.Goals as goal
 

@@ -3,7 +3,7 @@ use Rattle.std.specs.Prelude.{IfOk}
 use Rattle.std.proofs.lemmas.Result.{IfOk-from_err}
 use Rattle.qp_model.specs.Parts.{design_of}
 use Rattle.qp_model.specs.FineSizes.{is_fine}
-use Rattle.plant_condense.specs.Form.{IsFormIn}
+use Rattle.condensed_form.specs.Form.{IsFormIn}
 use Rattle.class_choice.proofs.ClassFacts.{none_wide, fine, fine_wide, wide_fine, exact_held, out_of_memory}
 use Rattle.class_choice.proofs.choice.condense.Goals as goal
 

@@ -4,8 +4,8 @@ use Rattle.qp_model.specs.declared.quantity.Quantity.TheVariants.{Prediction}
 use Rattle.qp_model.specs.Parts.{design_of}
 use Rattle.qp_model.specs.Quantities.{prediction_size}
 use Rattle.qp_model.specs.FineSizes.{is_fine}
-use Rattle.plant_condense.specs.Form.{IsFormIn}
-use Rattle.plant_condense.specs.declared.fault.CondenseFault.{CondenseFault}
+use Rattle.condensed_form.specs.Form.{IsFormIn}
+use Rattle.condensed_form.specs.declared.fault.CondenseFault.{CondenseFault}
 use Rattle.class_choice.proofs.ClassFacts.{limited_class, wide_class, chosen, kept}
 use Rattle.class_choice.proofs.choice.exact_form.Goals as goal
 

@@ -1,5 +1,5 @@
 use Rattle.std.proofs.Common.{Err, sym, ap}
-use Rattle.qp_model.specs.declared.text_fault.TextFault.TheVariants.{Memory as no_room}
+use Rattle.number_text.specs.declared.text_fault.TextFault.TheVariants.{Memory as no_room}
 use Rattle.policy_file.specs.StatesText.{IsStatesFault}
 use Rattle.command_line.proofs.Results.{err_same}
 use Rattle.command_line.specs.declared.status.Status.TheVariants.{Text}

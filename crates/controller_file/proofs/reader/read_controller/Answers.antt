@@ -2,7 +2,7 @@ use Rattle.std.proofs.Common.{◌≡◌, ◌∙◌, ℕ, List, Result, Ok, map, 
 use Rattle.std.specs.Prelude.{MatchResult}
 use Rattle.std.specs.Global.{Vec}
 use Rattle.std.proofs.lemmas.Bool.{false≢true}
-use Rattle.qp_model.specs.Lines.{text_of}
+use Rattle.number_text.specs.Lines.{text_of}
 use Rattle.qp_model.specs.declared.controller_parts.ControllerParts.{ControllerParts}
 use Rattle.qp_model.specs.Controller.{Numbers, numbers, IsInForm}
 use Rattle.qp_model.specs.AbsoluteSums.{IsController}

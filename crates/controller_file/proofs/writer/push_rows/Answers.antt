@@ -1,5 +1,5 @@
 use Rattle.std.proofs.Common.{◌<◌, ◌++◌, ◌∷◌, [], length, ap, ◌∙◌, string_bytes, List, ℤ, arith, rules}
-use Rattle.qp_model.specs.Lines.{line_of, text_of}
+use Rattle.number_text.specs.Lines.{line_of, text_of}
 use Rattle.controller_file.proofs.Pushed.{row_pushed}
 use Rattle.controller_file.proofs.writer.push_rows.Goals as goal
 

@@ -1,5 +1,5 @@
 use Rattle.std.proofs.Common.{◌≡◌, ◌++◌, take, string_bytes, map}
-use Rattle.qp_model.specs.Lines.{line_of, text_of}
+use Rattle.number_text.specs.Lines.{line_of, text_of}
 use Rattle.controller_file.proofs.writer.push_rows.Given as goal
 
 abbrev pub invariant-loop-i : goal.invariant-loop-i

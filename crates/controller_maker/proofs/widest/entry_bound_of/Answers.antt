@@ -1,7 +1,7 @@
 use Rattle.std.proofs.Common.{◌≡◌, FitsSigned, length, rules, arith, refl, ◌∙◌}
 use Rattle.std.specs.Int.{w128}
 use Rattle.std.proofs.lemmas.Int.{to_z-of_z}
-use Rattle.plant_condense.specs.Form.{held}
+use Rattle.condensed_form.specs.Form.{held}
 use Rattle.controller_maker.proofs.Bounds.{column_room, column_small, sum_is, bound_fits, bound_is}
 use Rattle.controller_maker.proofs.widest.entry_bound_of.Goals as goal
 

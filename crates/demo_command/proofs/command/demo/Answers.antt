@@ -5,7 +5,7 @@ use Rattle.qp_model.specs.Printed.{printed}
 use Rattle.command_line.specs.Answers.{IsAnswer}
 use Rattle.command_line.specs.declared.status.Status.{Status}
 use Rattle.command_line.specs.declared.status.Status.TheVariants.{Done}
-use Rattle.generate_command.proofs.Making.{refused_no_write}
+use Rattle.controller_answer.proofs.Making.{refused_no_write}
 use Rattle.demo_command.specs.Demo.{DemoCalls}
 use Rattle.demo_command.proofs.Inside.{inside, shown}
 use Rattle.demo_command.proofs.Answering.{answer_is, refused_is, printed_done, printed_no_read, printed_fault}

@@ -1,6 +1,6 @@
 use Rattle.std.proofs.Common.{◌≡◌, ◌∙◌, sym, string_bytes}
 use Rattle.std.proofs.lemmas.Result.{IfOk-weaker}
-use Rattle.qp_model.specs.Lines.{text_of}
+use Rattle.number_text.specs.Lines.{text_of}
 use Rattle.design_maker.specs.Texts.{design_lines}
 use Rattle.design_maker.proofs.Lines.{design_written, limits_written}
 use Rattle.design_maker.proofs.texts.design_of.Goals as goal

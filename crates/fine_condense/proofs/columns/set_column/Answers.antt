@@ -1,7 +1,7 @@
 use Rattle.std.proofs.Common.{arith, ap, length}
 use Rattle.mat_int.specs.Matrix.{Matrix}
 use Rattle.fine_condense.specs.Lists.{mids}
-use Rattle.plant_condense.proofs.ColumnFacts.{column_height, column_width}
+use Rattle.condensed_form.proofs.ColumnFacts.{column_height, column_width}
 use Rattle.fine_condense.proofs.ColumnFacts.{mid_set, rad_set}
 use Rattle.fine_condense.proofs.columns.set_column.Goals as goal
 

@@ -1,5 +1,5 @@
 use Rattle.std.proofs.Common.{◌≡◌}
-use Rattle.plant_condense.specs.Lists.{with_column}
+use Rattle.condensed_form.specs.Lists.{with_column}
 use Rattle.fine_condense.specs.Lists.{mids, rads}
 use Rattle.fine_condense.proofs.columns.set_column.Given as goal
 

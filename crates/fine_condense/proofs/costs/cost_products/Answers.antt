@@ -1,8 +1,8 @@
 use Rattle.std.proofs.Common.{◌+◌, ◌*◌, ℕ, ◌^◌, ◌≤◌, arith}
 use Rattle.qp_model.specs.Parts.{design_of}
 use Rattle.qp_model.specs.Runs.{counts, Holds}
-use Rattle.plant_condense.specs.Costs.{weight_of}
-use Rattle.plant_condense.proofs.StateFacts.{denominator_positive}
+use Rattle.condensed_form.specs.Costs.{weight_of}
+use Rattle.condensed_form.proofs.StateFacts.{denominator_positive}
 use Rattle.fine_condense.proofs.ProductFacts.{response_room, weighed_room, weights_signed, products_hold, products_near}
 use Rattle.fine_condense.proofs.costs.cost_products.Goals as goal
 

@@ -2,7 +2,7 @@ use Rattle.std.proofs.Common.{rules, FitsSigned, ◌∙◌, refl}
 use Rattle.std.specs.Int.{w128}
 use Rattle.std.proofs.lemmas.Int.{to_z-of_z}
 use Rattle.qp_model.specs.Parts.{design_of}
-use Rattle.plant_condense.specs.Form.{IsLeastInput}
+use Rattle.condensed_form.specs.Form.{IsLeastInput}
 use Rattle.fine_condense.proofs.FloorFacts.{least_input, denominator_weight, hess_den_is, row_den_is, den_is, size_is}
 use Rattle.fine_condense.proofs.FormLaws.{numbers_of, form_of}
 use Rattle.fine_condense.proofs.form.assembled.Goals as goal

@@ -2,9 +2,9 @@ use Rattle.std.proofs.Common.{◌≡◌, inl, inr, Err, true, ap, ◌∙◌}
 use Rattle.std.proofs.lemmas.Result.{err_from_is_err_and}
 use Rattle.qp_model.specs.declared.quantity.Quantity.{Quantity}
 use Rattle.qp_model.specs.Parts.{design_of}
-use Rattle.plant_condense.specs.declared.fault.CondenseFault.{CondenseFault}
-use Rattle.plant_condense.specs.declared.fault.CondenseFault.TheVariants.{TooWide}
-use Rattle.plant_condense.specs.Fault.{IsFirstWideIn}
+use Rattle.condensed_form.specs.declared.fault.CondenseFault.{CondenseFault}
+use Rattle.condensed_form.specs.declared.fault.CondenseFault.TheVariants.{TooWide}
+use Rattle.condensed_form.specs.Fault.{IsFirstWideIn}
 use Rattle.fine_condense.proofs.FaultFacts.{refused, none_wide, same_fault, memory_apart}
 use Rattle.fine_condense.proofs.form.condense_fine.Goals as goal
 

@@ -1,7 +1,7 @@
 use Rattle.std.proofs.Common.{rules, FitsSigned, ◌≡◌, ◌^◌, pos, ◌-ℤ◌, ◌*ℤ◌, unsigned_abs}
 use Rattle.std.specs.Int.{w128}
 use Rattle.std.proofs.lemmas.Int.{to_z-of_z}
-use Rattle.plant_condense.proofs.DenominatorFacts.{natural}
+use Rattle.condensed_form.proofs.DenominatorFacts.{natural}
 use Rattle.fine_condense.proofs.FloorFacts.{radius_room, bend_small, least_natural, floor_fits, floor_value}
 use Rattle.fine_condense.proofs.scales.bend_floor.Goals as goal
 

@@ -4,7 +4,7 @@ use mir.Val.{SFits}
 use Rattle.std.proofs.lemmas.Int.{to_z-of_z}
 use Rattle.integer_algebra.specs.Sums.{at}
 use Rattle.frac_scaled.specs.Enclosures.{enclosed}
-use Rattle.plant_condense.proofs.Rooms.{read}
+use Rattle.condensed_form.proofs.Rooms.{read}
 use Rattle.fine_run.proofs.ListFacts.{one_pushed}
 use Rattle.fine_margin.proofs.corner.plan_of.Goals as goal
 

@@ -4,7 +4,7 @@ use mir.Val.{SFits}
 use Rattle.std.proofs.lemmas.Int.{to_z-of_z}
 use Rattle.std.proofs.lemmas.List.{get_or_read_under}
 use Rattle.integer_algebra.specs.Sums.{at}
-use Rattle.plant_condense.proofs.Pushes.{pushed}
+use Rattle.condensed_form.proofs.Pushes.{pushed}
 use Rattle.fine_margin.proofs.lists.entry_weights.Goals as goal
 
 pub loop-j-preserved : goal.loop-j-preserved

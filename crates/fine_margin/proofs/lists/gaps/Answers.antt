@@ -6,7 +6,7 @@ use Rattle.integer_algebra.specs.Bounds.{absolute}
 use Rattle.integer_algebra.specs.Sums.{at}
 use Rattle.frac_scaled.specs.Enclosures.{Enclosure}
 use Rattle.enclosure.specs.Values.{pair_at}
-use Rattle.plant_condense.proofs.Pushes.{pushed}
+use Rattle.condensed_form.proofs.Pushes.{pushed}
 use Rattle.fine_margin.proofs.ListFacts.{element_is}
 use Rattle.fine_margin.proofs.lists.gaps.Goals as goal
 

@@ -5,9 +5,9 @@ use Rattle.std.proofs.lemmas.Int.{ints, to_z-of_z}
 use Rattle.frac_scaled.specs.Enclosures.{Enclosure, magnitude}
 use Rattle.enclosure.specs.Values.{pair_at}
 use Rattle.enclosure.proofs.SumLaws.{radius_nonneg}
-use Rattle.plant_condense.proofs.Rooms.{read}
-use Rattle.plant_condense.proofs.Pushes.{pushed}
-use Rattle.plant_condense.proofs.StageFacts.{lifted, lifted_fits}
+use Rattle.condensed_form.proofs.Rooms.{read}
+use Rattle.condensed_form.proofs.Pushes.{pushed}
+use Rattle.condensed_form.proofs.StageFacts.{lifted, lifted_fits}
 use Rattle.fine_margin.proofs.ListFacts.{element_is, factors_room}
 use Rattle.fine_margin.proofs.lists.reaches.Goals as goal
 

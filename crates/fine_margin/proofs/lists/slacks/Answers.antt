@@ -5,7 +5,7 @@ use Rattle.std.proofs.lemmas.Int.{to_z-of_z}
 use Rattle.integer_algebra.specs.Sums.{at}
 use Rattle.frac_scaled.specs.Enclosures.{Enclosure}
 use Rattle.enclosure.specs.Values.{pair_at}
-use Rattle.plant_condense.proofs.Pushes.{pushed}
+use Rattle.condensed_form.proofs.Pushes.{pushed}
 use Rattle.fine_margin.proofs.ListFacts.{element_is, slack_room}
 use Rattle.fine_margin.proofs.lists.slacks.Goals as goal
 

@@ -2,7 +2,7 @@ use Rattle.std.proofs.Common.{◌≡◌, ℕ, ℤ, pos, ◌*◌, ◌*ℤ◌, ◌
 use Rattle.std.specs.Int.{w64, w128}
 use Rattle.std.proofs.lemmas.Int.{to_z-of_z, to_z_pos, fits_signed_from_abs}
 use Rattle.std.proofs.lemmas.Nat.{one_shl, pow_below}
-use Rattle.mat_int.specs.Narrow.{IsNarrow}
+use Rattle.mat_products.specs.Narrow.{IsNarrow}
 use Rattle.qp_model.proofs.AbsoluteLaws.{le_times_pow, abs-shifted}
 use Rattle.fixed_kernel.proofs.narrow.narrow_scaled.Goals as goal
 

@@ -5,7 +5,7 @@ use Rattle.qp_model.specs.Class.{form_of}
 use Rattle.qp_model.specs.Columns.{descent_size}
 use Rattle.approx_inverse.specs.Inverse.{IsInverseOf}
 use Rattle.approx_inverse.specs.declared.inverse.Inverse.{Inverse}
-use Rattle.plant_condense.specs.declared.condensed.Condensed.{Condensed}
+use Rattle.condensed_form.specs.declared.condensed.Condensed.{Condensed}
 use Rattle.step_error.specs.declared.sums.ErrorSums.{ErrorSums}
 use Rattle.real_error.specs.Made.{AreSumsOf, IsMade}
 use Rattle.gain_trials.proofs.real.cost_with.Goals as goal

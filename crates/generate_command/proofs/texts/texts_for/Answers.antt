@@ -6,7 +6,7 @@ use Rattle.command_line.specs.declared.status.Status.TheVariants.{Done}
 use Rattle.command_line.proofs.Results.{err_same}
 use Rattle.generate_command.specs.Writing.{AreRead}
 use Rattle.generate_command.proofs.Ends.{design_tells, policy_tells, tells_not_done, tells_no_write}
-use Rattle.generate_command.proofs.Making.{refused_no_read, refused_no_write}
+use Rattle.controller_answer.proofs.Making.{refused_no_read, refused_no_write}
 use Rattle.generate_command.proofs.Inputs.{design_ends, policy_ends, making_ends, refused_ends, design_fault, policy_fault}
 use Rattle.generate_command.proofs.texts.texts_for.Goals as goal
 

@@ -3,7 +3,7 @@ use Rattle.std.proofs.lemmas.Result.{err_from_is_err_and}
 use Rattle.qp_model.specs.Class.{CoversSquares}
 use Rattle.qp_model.specs.FineSizes.{is_fine}
 use Rattle.qp_model.specs.Parts.{design_of}
-use Rattle.plant_condense.proofs.LeastLaws.{few}
+use Rattle.condensed_form.proofs.LeastLaws.{few}
 use Rattle.hessian_check.proofs.ExponentLaws.{step_law}
 use Rattle.hessian_check.proofs.RowLaws.{not_true}
 use Rattle.hessian_check.proofs.StepAnswers.{accepted_of, chosen_of, every_of, exponents_of, memory_is, memory_refused, order_of, plain_of, refused_of, room_of, step_of, wide_every, wide_of, wide_refused}

@@ -3,8 +3,8 @@ use Rattle.integer_algebra.specs.Sums.{none}
 use Rattle.qp_model.specs.Design.{rows}
 use Rattle.qp_model.specs.Parts.{design_of}
 use Rattle.qp_model.specs.Runs.{row_at, unit}
-use Rattle.plant_condense.proofs.ColumnFacts.{column_put, zero_held, all_held}
-use Rattle.plant_condense.proofs.RowFacts.{stages_room}
+use Rattle.condensed_form.proofs.ColumnFacts.{column_put, zero_held, all_held}
+use Rattle.condensed_form.proofs.RowFacts.{stages_room}
 use Rattle.plant_condense.proofs.columns.plan_columns.Goals as goal
 
 pub loop-j-preserved : goal.loop-j-preserved

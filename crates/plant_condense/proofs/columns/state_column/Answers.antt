@@ -4,10 +4,10 @@ use Rattle.integer_algebra.specs.Sums.{none}
 use Rattle.qp_model.specs.Design.{rows}
 use Rattle.qp_model.specs.Parts.{design_of}
 use Rattle.qp_model.specs.Runs.{row_at, unit, Holds}
-use Rattle.plant_condense.specs.Lists.{RowsFit}
-use Rattle.plant_condense.proofs.RowFacts.{stages_room}
-use Rattle.plant_condense.proofs.ColumnFacts.{state_fits, at_both}
-use Rattle.plant_condense.proofs.UnitFacts.{zeros_long, zeros_none, one_long, one_unit}
+use Rattle.condensed_form.specs.Lists.{RowsFit}
+use Rattle.condensed_form.proofs.RowFacts.{stages_room}
+use Rattle.condensed_form.proofs.ColumnFacts.{state_fits, at_both}
+use Rattle.condensed_form.proofs.UnitFacts.{zeros_long, zeros_none, one_long, one_unit}
 use Rattle.plant_condense.proofs.columns.state_column.Goals as goal
 
 pub overflow_mul-parts : goal.overflow_mul-parts

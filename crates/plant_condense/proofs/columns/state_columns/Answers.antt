@@ -2,9 +2,9 @@ use Rattle.integer_algebra.specs.Sums.{none}
 use Rattle.qp_model.specs.Design.{rows}
 use Rattle.qp_model.specs.Parts.{design_of}
 use Rattle.qp_model.specs.Runs.{row_at, unit}
-use Rattle.plant_condense.proofs.ColumnFacts.{column_put, zero_held, all_held}
+use Rattle.condensed_form.proofs.ColumnFacts.{column_put, zero_held, all_held}
 use Rattle.std.proofs.Common.{◌≡◌, ℤ, List, length, arith, ap, sym, ◌∙◌, refl, ◌≤◌, ◌+◌, ◌*◌}
-use Rattle.plant_condense.proofs.RowFacts.{stages_room}
+use Rattle.condensed_form.proofs.RowFacts.{stages_room}
 use Rattle.plant_condense.proofs.columns.state_columns.Goals as goal
 
 pub loop-j-preserved : goal.loop-j-preserved

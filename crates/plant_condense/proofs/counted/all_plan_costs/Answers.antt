@@ -2,11 +2,11 @@ use Rattle.std.proofs.Common.{◌≡◌, ℕ, ◌*◌, arith, subst}
 use Rattle.mat_int.specs.Lines.{lists}
 use Rattle.qp_model.specs.Parts.{design_of}
 use Rattle.qp_model.specs.Runs.{counts}
-use Rattle.plant_condense.specs.Costs.{plan_cost}
-use Rattle.plant_condense.specs.Lists.{HoldsRows}
-use Rattle.plant_condense.proofs.Pushes.{pushed_vec}
-use Rattle.plant_condense.proofs.RowFacts.{stages_room}
-use Rattle.plant_condense.proofs.CountedFacts.{no_rows}
+use Rattle.condensed_form.specs.Costs.{plan_cost}
+use Rattle.condensed_form.specs.Lists.{HoldsRows}
+use Rattle.condensed_form.proofs.Pushes.{pushed_vec}
+use Rattle.condensed_form.proofs.RowFacts.{stages_room}
+use Rattle.condensed_form.proofs.CountedFacts.{no_rows}
 use Rattle.plant_condense.proofs.counted.all_plan_costs.Goals as goal
 
 pub loop-j-preserved : goal.loop-j-preserved

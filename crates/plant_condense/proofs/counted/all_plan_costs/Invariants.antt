@@ -1,8 +1,8 @@
 use Rattle.mat_int.specs.Lines.{lists}
 use Rattle.qp_model.specs.Parts.{design_of}
 use Rattle.qp_model.specs.Runs.{counts}
-use Rattle.plant_condense.specs.Costs.{plan_cost}
-use Rattle.plant_condense.specs.Lists.{HoldsRows}
+use Rattle.condensed_form.specs.Costs.{plan_cost}
+use Rattle.condensed_form.specs.Lists.{HoldsRows}
 use Rattle.plant_condense.proofs.counted.all_plan_costs.Given as goal
 
 abbrev pub invariant-loop-j : goal.invariant-loop-j

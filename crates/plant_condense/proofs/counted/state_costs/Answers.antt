@@ -3,10 +3,10 @@ use Rattle.std.specs.Prelude.{IfOk}
 use Rattle.integer_algebra.specs.Sums.{none}
 use Rattle.qp_model.specs.Parts.{design_of}
 use Rattle.qp_model.specs.Runs.{unit, counted, cost_run, counts, Holds}
-use Rattle.plant_condense.specs.Lists.{CostsFit}
-use Rattle.plant_condense.proofs.RowFacts.{stages_room}
-use Rattle.plant_condense.proofs.ColumnFacts.{state_costs_fit, at_both}
-use Rattle.plant_condense.proofs.UnitFacts.{zeros_long, zeros_none, one_long, one_unit}
+use Rattle.condensed_form.specs.Lists.{CostsFit}
+use Rattle.condensed_form.proofs.RowFacts.{stages_room}
+use Rattle.condensed_form.proofs.ColumnFacts.{state_costs_fit, at_both}
+use Rattle.condensed_form.proofs.UnitFacts.{zeros_long, zeros_none, one_long, one_unit}
 use Rattle.plant_condense.proofs.counted.state_costs.Goals as goal
 
 pub overflow_mul-parts : goal.overflow_mul-parts

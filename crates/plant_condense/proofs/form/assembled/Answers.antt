@@ -4,10 +4,10 @@ use mir.Val.{SFits}
 use Rattle.std.proofs.lemmas.Int.{to_z-of_z}
 use Rattle.mat_int.specs.Matrix.{Matrix}
 use Rattle.qp_model.specs.Parts.{design_of}
-use Rattle.plant_condense.specs.Form.{response_scale}
-use Rattle.plant_condense.specs.Numbers.{AreNoRadii}
-use Rattle.plant_condense.proofs.DenominatorFacts.{natural, denominator_fits, naturals_fit, naturals_read, hess_den_room, row_den_room, size_fits}
-use Rattle.plant_condense.proofs.FormLaws.{cost_room, limit_room, exact_form_of}
+use Rattle.condensed_form.specs.Form.{response_scale}
+use Rattle.condensed_form.specs.Numbers.{AreNoRadii}
+use Rattle.condensed_form.proofs.DenominatorFacts.{natural, denominator_fits, naturals_fit, naturals_read, hess_den_room, row_den_room, size_fits}
+use Rattle.condensed_form.proofs.FormLaws.{cost_room, limit_room, exact_form_of}
 use Rattle.plant_condense.proofs.form.assembled.Goals as goal
 
 -- of as many numbers

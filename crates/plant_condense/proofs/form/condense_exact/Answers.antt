@@ -1,6 +1,6 @@
 use Rattle.std.proofs.Common.{false}
 use Rattle.qp_model.specs.Parts.{design_of}
-use Rattle.plant_condense.specs.Fault.{IsFirstWideIn}
+use Rattle.condensed_form.specs.Fault.{IsFirstWideIn}
 use Rattle.plant_condense.proofs.form.condense_exact.Goals as goal
 
 pub returns-clause-wide : goal.returns-clause-wide

@@ -1,5 +1,5 @@
-use Rattle.plant_condense.proofs.CostFacts.{power_room}
-use Rattle.plant_condense.proofs.FormLaws.{cost_room, limit_room}
+use Rattle.condensed_form.proofs.CostFacts.{power_room}
+use Rattle.condensed_form.proofs.FormLaws.{cost_room, limit_room}
 use Rattle.std.proofs.Common.{rules, ◌∙◌}
 use Rattle.std.specs.Int.{w128}
 use mir.Val.{SFits}

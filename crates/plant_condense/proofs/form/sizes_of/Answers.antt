@@ -1,6 +1,6 @@
 use Rattle.qp_model.specs.declared.quantity.Quantity.TheVariants.{Prediction, Hessian, Rows}
 use Rattle.qp_model.specs.Parts.{design_of}
-use Rattle.plant_condense.proofs.FaultFacts.{prediction_first, first_prediction, hessian_first, first_hessian, rows_first, first_rows, fault_wide, value_wide, entry_sizes, some_holds, none_fails, wide_has_memory, value_has_memory}
+use Rattle.condensed_form.proofs.FaultFacts.{prediction_first, first_prediction, hessian_first, first_hessian, rows_first, first_rows, fault_wide, value_wide, entry_sizes, some_holds, none_fails, wide_has_memory, value_has_memory}
 use Rattle.plant_condense.proofs.form.sizes_of.Goals as goal
 
 pub prediction_size-requires : goal.prediction_size-requires

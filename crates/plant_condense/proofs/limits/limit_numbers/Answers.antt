@@ -6,7 +6,7 @@ use Rattle.qp_model.specs.Parts.{design_of}
 use Rattle.qp_model.specs.Quantities.{limit_width}
 use Rattle.qp_model.specs.Runs.{bound_at}
 use Rattle.qp_model.proofs.QuantityLaws.{bound_width, powered_size}
-use Rattle.plant_condense.proofs.ColumnFacts.{units_fit}
+use Rattle.condensed_form.proofs.ColumnFacts.{units_fit}
 use Rattle.plant_condense.proofs.limits.limit_numbers.Goals as goal
 
 last : (a b : ℕ) → a ≤ b → b ≤ 2 ^ 126 → a ≤ 2 ^ 126

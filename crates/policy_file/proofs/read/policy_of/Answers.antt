@@ -10,7 +10,7 @@ use Rattle.integer_algebra.specs.Sums.{at}
 use Rattle.mat_int.specs.Matrix.{row_of}
 use Rattle.qp_model.specs.Parts.{design_of}
 use Rattle.policy_file.proofs.MatrixFacts.{none_filled}
-use Rattle.qp_model.specs.declared.text_fault.TextFault.TheVariants.{Memory}
+use Rattle.number_text.specs.declared.text_fault.TextFault.TheVariants.{Memory}
 use Rattle.policy_file.specs.PolicyText.{policy_rule}
 use Rattle.policy_file.proofs.TextFacts.{record_is, records_count, entry_small, room_small, passed_on, first_fault}
 use Rattle.policy_file.proofs.RecordFacts.{records_few}

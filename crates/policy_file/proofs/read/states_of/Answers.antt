@@ -2,7 +2,7 @@ use Rattle.std.proofs.Common.{◌≡◌, ◌<◌, ◌≤◌, ℕ, List, length, 
 use Rattle.csv.specs.Records.{Row, fields_of}
 use Rattle.mat_int.specs.Matrix.{Matrix, row_of}
 use Rattle.policy_file.specs.Records.{HoldsNumbers, records_of, record_at}
-use Rattle.qp_model.specs.declared.text_fault.TextFault.TheVariants.{Memory}
+use Rattle.number_text.specs.declared.text_fault.TextFault.TheVariants.{Memory}
 use Rattle.std.proofs.lemmas.Result.{err_from_is_err_and}
 use Rattle.policy_file.specs.StatesText.{IsStatesText, state_rule}
 use Rattle.policy_file.proofs.MatrixFacts.{Filled, none_filled, row_pushed}

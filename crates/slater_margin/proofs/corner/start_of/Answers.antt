@@ -4,9 +4,9 @@ use mir.Val.{SFits}
 use Rattle.std.proofs.lemmas.Int.{to_z-of_z}
 use Rattle.qp_model.specs.Box.{corner}
 use Rattle.qp_model.specs.Parts.{design_of}
-use Rattle.plant_condense.proofs.Rooms.{read}
-use Rattle.plant_condense.proofs.Pushes.{pushed}
-use Rattle.plant_condense.proofs.StageFacts.{lifted_fits, lifted}
+use Rattle.condensed_form.proofs.Rooms.{read}
+use Rattle.condensed_form.proofs.Pushes.{pushed}
+use Rattle.condensed_form.proofs.StageFacts.{lifted_fits, lifted}
 use Rattle.slater_margin.proofs.corner.start_of.Goals as goal
 
 pub overflow_mul-over : goal.overflow_mul-over

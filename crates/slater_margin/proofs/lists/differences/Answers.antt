@@ -2,8 +2,8 @@ use Rattle.std.proofs.Common.{pos, ◌+ℤ◌, neg_ℤ, get_or, rules}
 use Rattle.std.specs.Int.{w128}
 use mir.Val.{SFits}
 use Rattle.integer_algebra.specs.Sums.{at}
-use Rattle.plant_condense.proofs.Rooms.{difference_fits, difference}
-use Rattle.plant_condense.proofs.Pushes.{pushed}
+use Rattle.condensed_form.proofs.Rooms.{difference_fits, difference}
+use Rattle.condensed_form.proofs.Pushes.{pushed}
 use Rattle.slater_margin.proofs.lists.differences.Goals as goal
 
 pub overflow_sub-xs : goal.overflow_sub-xs

@@ -3,9 +3,9 @@ use Rattle.std.specs.Int.{w128}
 use mir.Val.{SFits}
 use Rattle.std.proofs.lemmas.Int.{to_z-of_z}
 use Rattle.integer_algebra.specs.Sums.{at}
-use Rattle.plant_condense.proofs.Rooms.{read}
-use Rattle.plant_condense.proofs.Pushes.{pushed}
-use Rattle.plant_condense.proofs.StageFacts.{lifted, lifted_fits}
+use Rattle.condensed_form.proofs.Rooms.{read}
+use Rattle.condensed_form.proofs.Pushes.{pushed}
+use Rattle.condensed_form.proofs.StageFacts.{lifted, lifted_fits}
 use Rattle.slater_margin.proofs.lists.multiples.Goals as goal
 
 pub overflow_mul-scale : goal.overflow_mul-scale

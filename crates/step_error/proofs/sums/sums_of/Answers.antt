@@ -9,7 +9,7 @@ use Rattle.qp_model.proofs.SizeFacts.{positive}
 use Rattle.step_error.proofs.Ceilings.{positive_by}
 use Rattle.step_error.proofs.SumFacts.{read_size, few, spread_some, within_of}
 use Rattle.step_error.proofs.DesignSums.{hessian_pair, square, hessian_row_small, scale_one, weight_is, floor_is, count_is, reach_is, squares_is, within, reach_small, sums_are, room_of, size_of, AreOf}
-use Rattle.plant_condense.specs.Form.{held}
+use Rattle.condensed_form.specs.Form.{held}
 use Rattle.step_error.specs.declared.sums.Whole.{Whole}
 use Rattle.step_error.specs.ErrorSums.{HasErrorRoom, whole_sums}
 use Rattle.step_error.proofs.sums.sums_of.Goals as goal

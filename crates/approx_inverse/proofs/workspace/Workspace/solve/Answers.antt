@@ -1,7 +1,7 @@
 use Rattle.std.proofs.Common.{rules, ◌≡◌, FitsSigned, length, refl, ap, sym, ◌∙◌}
 use Rattle.std.specs.Int.{w128}
 use Rattle.std.proofs.lemmas.Int.{to_z-of_z}
-use Rattle.plant_condense.specs.Form.{held}
+use Rattle.condensed_form.specs.Form.{held}
 use Rattle.approx_inverse.specs.Spans.{cells}
 use Rattle.approx_inverse.proofs.WordLaws.{filled}
 use Rattle.approx_inverse.proofs.SizeLaws.{wide_column}

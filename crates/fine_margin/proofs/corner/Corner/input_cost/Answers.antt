@@ -9,8 +9,8 @@ use Rattle.qp_model.specs.Design.{entries}
 use Rattle.qp_model.specs.Parts.{design_of}
 use Rattle.qp_model.specs.Policy.{plans_of}
 use Rattle.qp_model.specs.Runs.{Holds}
-use Rattle.plant_condense.proofs.DenominatorFacts.{denominator_fits}
-use Rattle.plant_condense.proofs.Pushes.{holds_to}
+use Rattle.condensed_form.proofs.DenominatorFacts.{denominator_fits}
+use Rattle.condensed_form.proofs.Pushes.{holds_to}
 use Rattle.slater_margin.proofs.CostFacts.{squares_held, total_held}
 use Rattle.fine_margin.proofs.RoomFacts.{cost_side, square_room}
 use Rattle.fine_margin.proofs.CostFacts.{own, entry_weight, own_small, own_fits, inputs_are, inputs_room}

@@ -10,8 +10,8 @@ use Rattle.qp_model.specs.Parts.{design_of}
 use Rattle.qp_model.specs.Policy.{plans_of}
 use Rattle.qp_model.specs.FineCorners.{corner_gap}
 use Rattle.qp_model.specs.Runs.{Holds, counts}
-use Rattle.plant_condense.specs.Costs.{weight_of}
-use Rattle.plant_condense.proofs.Pushes.{holds_to}
+use Rattle.condensed_form.specs.Costs.{weight_of}
+use Rattle.condensed_form.proofs.Pushes.{holds_to}
 use Rattle.slater_margin.proofs.CostFacts.{squares_held, total_held}
 use Rattle.fine_margin.proofs.RoomFacts.{cost_side, square_room}
 use Rattle.fine_margin.proofs.CostFacts.{width_room, target_fits, value_fits, value_gap, gap_small, rows_are, rows_room}

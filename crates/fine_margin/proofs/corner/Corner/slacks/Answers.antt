@@ -9,7 +9,7 @@ use Rattle.qp_model.specs.Parts.{design_of}
 use Rattle.qp_model.specs.Policy.{plans_of}
 use Rattle.qp_model.specs.FineCorners.{corner_limit, least_slack}
 use Rattle.qp_model.specs.Runs.{bound_at}
-use Rattle.plant_condense.proofs.Pushes.{holds_to}
+use Rattle.condensed_form.proofs.Pushes.{holds_to}
 use Rattle.fine_margin.proofs.ListFacts.{slack_room}
 use Rattle.fine_margin.proofs.RunFacts.{limit_is}
 use Rattle.fine_margin.proofs.SlackFacts.{bound_fits, value_fits}

@@ -10,8 +10,8 @@ use Rattle.qp_model.specs.Runs.{Holds}
 use Rattle.qp_model.proofs.SizeFacts.{some_row}
 use Rattle.qp_model.proofs.VersionLaws.{design_states_le, design_rows_le}
 use Rattle.frac_scaled.specs.declared.fraction.Frac.{Frac}
-use Rattle.plant_condense.proofs.Rooms.{read}
-use Rattle.plant_condense.proofs.DenominatorFacts.{denominator_fits}
+use Rattle.condensed_form.proofs.Rooms.{read}
+use Rattle.condensed_form.proofs.DenominatorFacts.{denominator_fits}
 use Rattle.slater_margin.proofs.RoomFacts.{over_is}
 use Rattle.slater_margin.proofs.SlackFacts.{short_row, units_of}
 use Rattle.slater_margin.proofs.FaultFacts.{no_margin_same, corner_few}

@@ -1,7 +1,7 @@
 use Rattle.std.proofs.Common.{◌+◌, ◌*◌, refl, ◌∙◌}
 use Rattle.enclosure.specs.Values.{pair_at}
 use Rattle.qp_model.specs.Parts.{design_of}
-use Rattle.plant_condense.proofs.StateFacts.{denominator_positive}
+use Rattle.condensed_form.proofs.StateFacts.{denominator_positive}
 use Rattle.fine_run.proofs.ListFacts.{flat_run, first_states, all_held}
 use Rattle.fine_run.proofs.StateFacts.{stage_part, input_part, next, states_room, next_states}
 use Rattle.fine_run.proofs.PlaceFacts.{state_start, state_end, state_bytes, input_start, input_end, input_bytes, in_order, part_ends}

@@ -3,10 +3,10 @@ use Rattle.qp_model.specs.Design.{entries}
 use Rattle.qp_model.specs.Parts.{design_of}
 use Rattle.qp_model.specs.Quantities.{response_size}
 use Rattle.qp_model.specs.Runs.{counts, Holds}
-use Rattle.plant_condense.specs.Costs.{target_of}
-use Rattle.plant_condense.proofs.Rooms.{read, negated}
-use Rattle.plant_condense.proofs.Pushes.{holds_to}
-use Rattle.plant_condense.proofs.CostFacts.{response_room, power_room, target_size, scaled_target_size, abs-neg, held_small, weighed_function}
+use Rattle.condensed_form.specs.Costs.{target_of}
+use Rattle.condensed_form.proofs.Rooms.{read, negated}
+use Rattle.condensed_form.proofs.Pushes.{holds_to}
+use Rattle.condensed_form.proofs.CostFacts.{response_room, power_room, target_size, scaled_target_size, abs-neg, held_small, weighed_function}
 use Rattle.plant_condense.proofs.costs.Costs.constant.Goals as goal
 
 last : (a b : ℕ) → a ≤ b → b ≤ 2 ^ 126 → a ≤ 2 ^ 126

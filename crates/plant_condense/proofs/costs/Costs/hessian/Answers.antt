@@ -4,8 +4,8 @@ use Rattle.std.specs.declared.alloc.Global.{Global}
 use Rattle.std.proofs.lemmas.List.{length-map}
 use Rattle.qp_model.specs.Design.{entries}
 use Rattle.qp_model.specs.Parts.{design_of}
-use Rattle.plant_condense.specs.Costs.{plan_cost, weighed, own_cost}
-use Rattle.plant_condense.proofs.ColumnFacts.{column_put, zero_held, all_held}
+use Rattle.condensed_form.specs.Costs.{plan_cost, weighed, own_cost}
+use Rattle.condensed_form.proofs.ColumnFacts.{column_put, zero_held, all_held}
 use Rattle.std.specs.Int.{w128}
 use Rattle.std.proofs.lemmas.Int.{to_z-of_z}
 use Rattle.plant_condense.proofs.costs.Costs.hessian.Goals as goal

@@ -1,8 +1,8 @@
 use Rattle.std.proofs.Common.{◌+ℤ◌}
 use Rattle.qp_model.specs.Design.{entries}
 use Rattle.qp_model.specs.Parts.{design_of}
-use Rattle.plant_condense.specs.Costs.{plan_cost, weighed, own_cost}
-use Rattle.plant_condense.specs.Lists.{HoldsMatrix}
+use Rattle.condensed_form.specs.Costs.{plan_cost, weighed, own_cost}
+use Rattle.condensed_form.specs.Lists.{HoldsMatrix}
 use Rattle.plant_condense.proofs.costs.Costs.hessian.Given as goal
 
 abbrev pub invariant-loop-j : goal.invariant-loop-j

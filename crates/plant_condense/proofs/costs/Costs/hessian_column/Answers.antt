@@ -8,10 +8,10 @@ use Rattle.qp_model.specs.Parts.{design_of}
 use Rattle.qp_model.specs.Quantities.{response_size}
 use Rattle.qp_model.specs.Runs.{counts, Holds}
 use Rattle.qp_model.proofs.QuantityLaws.{plan_cost_size}
-use Rattle.plant_condense.specs.Costs.{plan_cost, weighed, own_cost}
-use Rattle.plant_condense.proofs.Pushes.{row_held}
-use Rattle.plant_condense.proofs.Rooms.{sum_fits, sum_read}
-use Rattle.plant_condense.proofs.CostFacts.{held_small, weighed_list, diagonal_small, diagonal_added, own_elsewhere}
+use Rattle.condensed_form.specs.Costs.{plan_cost, weighed, own_cost}
+use Rattle.condensed_form.proofs.Pushes.{row_held}
+use Rattle.condensed_form.proofs.Rooms.{sum_fits, sum_read}
+use Rattle.condensed_form.proofs.CostFacts.{held_small, weighed_list, diagonal_small, diagonal_added, own_elsewhere}
 use Rattle.plant_condense.proofs.costs.Costs.hessian_column.Goals as goal
 
 last : (a b : ℕ) → a ≤ b → b ≤ 2 ^ 126 → a ≤ 2 ^ 126

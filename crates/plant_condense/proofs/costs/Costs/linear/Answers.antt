@@ -3,9 +3,9 @@ use Rattle.qp_model.specs.Parts.{design_of}
 use Rattle.qp_model.specs.Quantities.{response_size}
 use Rattle.qp_model.specs.Runs.{counts, Holds}
 use Rattle.qp_model.proofs.QuantityLaws.{state_cost_size}
-use Rattle.plant_condense.specs.Costs.{state_cost, weighed}
-use Rattle.plant_condense.proofs.ColumnFacts.{column_put, zero_held, all_held}
-use Rattle.plant_condense.proofs.CostFacts.{response_room, held_small, weighed_list}
+use Rattle.condensed_form.specs.Costs.{state_cost, weighed}
+use Rattle.condensed_form.proofs.ColumnFacts.{column_put, zero_held, all_held}
+use Rattle.condensed_form.proofs.CostFacts.{response_room, held_small, weighed_list}
 use Rattle.std.proofs.Common.{◌≡◌, ℤ, List, length, arith, ap, sym, ◌∙◌, refl}
 use Rattle.std.specs.Prelude.{Vec}
 use Rattle.std.specs.declared.alloc.Global.{Global}

@@ -1,7 +1,7 @@
 use Rattle.qp_model.specs.Design.{entries}
 use Rattle.qp_model.specs.Parts.{design_of}
-use Rattle.plant_condense.specs.Costs.{state_cost, weighed}
-use Rattle.plant_condense.specs.Lists.{HoldsMatrix}
+use Rattle.condensed_form.specs.Costs.{state_cost, weighed}
+use Rattle.condensed_form.specs.Lists.{HoldsMatrix}
 use Rattle.plant_condense.proofs.costs.Costs.linear.Given as goal
 
 abbrev pub invariant-loop-i : goal.invariant-loop-i

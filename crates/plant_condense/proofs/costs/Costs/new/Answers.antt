@@ -1,4 +1,4 @@
-use Rattle.plant_condense.proofs.CostFacts.{response_room}
+use Rattle.condensed_form.proofs.CostFacts.{response_room}
 use Rattle.plant_condense.proofs.costs.Costs.new.Goals as goal
 
 pub all_plan_costs-requires-clause-fits : goal.all_plan_costs-requires-clause-fits

@@ -3,8 +3,8 @@ use Rattle.std.specs.Int.{w128}
 use mir.Val.{SFits}
 use Rattle.std.proofs.lemmas.List.{get_or_default}
 use Rattle.integer_algebra.specs.Sums.{at}
-use Rattle.plant_condense.proofs.Rooms.{product_fits, doubled_product_fits, doubled_product}
-use Rattle.plant_condense.proofs.CostFacts.{own_room, own_value, weight_fits}
+use Rattle.condensed_form.proofs.Rooms.{product_fits, doubled_product_fits, doubled_product}
+use Rattle.condensed_form.proofs.CostFacts.{own_room, own_value, weight_fits}
 use Rattle.plant_condense.proofs.costs.Costs.own.Goals as goal
 
 pub overflow_mul-result : goal.overflow_mul-result

@@ -10,10 +10,10 @@ use Rattle.integer_algebra.proofs.SizeLaws.{total_size}
 use Rattle.qp_model.specs.Design.{entries}
 use Rattle.qp_model.specs.Parts.{design_of}
 use Rattle.qp_model.specs.Runs.{counts, Holds}
-use Rattle.plant_condense.specs.Costs.{plan_cost, weight_of, weighed}
-use Rattle.plant_condense.proofs.Pushes.{pushed, row_held}
-use Rattle.plant_condense.proofs.Rooms.{doubled_fits, doubled}
-use Rattle.plant_condense.proofs.CostFacts.{weight_room, weighed_room, held_products_size, held_products, halved}
+use Rattle.condensed_form.specs.Costs.{plan_cost, weight_of, weighed}
+use Rattle.condensed_form.proofs.Pushes.{pushed, row_held}
+use Rattle.condensed_form.proofs.Rooms.{doubled_fits, doubled}
+use Rattle.condensed_form.proofs.CostFacts.{weight_room, weighed_room, held_products_size, held_products, halved}
 use Rattle.plant_condense.proofs.costs.Costs.weighed.Goals as goal
 
 pub products_of-requires-clause-fits : goal.products_of-requires-clause-fits

@@ -1,7 +1,7 @@
 use Rattle.integer_algebra.specs.Sums.{at}
 use Rattle.qp_model.specs.Parts.{design_of}
 use Rattle.qp_model.specs.Runs.{Holds}
-use Rattle.plant_condense.specs.Costs.{weighed}
+use Rattle.condensed_form.specs.Costs.{weighed}
 use Rattle.plant_condense.proofs.costs.Costs.weighed.Given as goal
 
 abbrev pub invariant-loop-j : goal.invariant-loop-j

@@ -6,7 +6,7 @@ use Rattle.integer_algebra.specs.Sizes.{amount}
 use Rattle.mat_int.specs.Matrix.{entry_of}
 use Rattle.qp_model.specs.Form.{farthest}
 use Rattle.qp_model.proofs.SizeFacts.{positive}
-use Rattle.plant_condense.specs.Form.{held}
+use Rattle.condensed_form.specs.Form.{held}
 use Rattle.step_error.proofs.Ceilings.{quotient_is, ceil_small, ceil_twice}
 use Rattle.step_error.proofs.SumFacts.{read_size}
 use Rattle.real_error.specs.Gains.{gain_at, missed_sum}

@@ -3,7 +3,7 @@ use Rattle.std.specs.Int.{w128}
 use Rattle.std.proofs.lemmas.Int.{to_z-of_z}
 use Rattle.qp_model.specs.Columns.{solve_matrix}
 use Rattle.qp_model.proofs.SizeFacts.{greatest_more}
-use Rattle.plant_condense.specs.Form.{held}
+use Rattle.condensed_form.specs.Form.{held}
 use Rattle.real_error.proofs.GainRooms.{diagonal_small, through}
 use Rattle.real_error.proofs.Scaled.{product_fits, product_read}
 use Rattle.real_error.proofs.gains.Gains.greatest_diagonal.Goals as goal

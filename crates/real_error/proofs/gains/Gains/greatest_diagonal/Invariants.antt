@@ -1,7 +1,7 @@
 use Rattle.std.proofs.Common.{◌≡◌, unsigned_abs}
 use Rattle.qp_model.specs.Columns.{solve_matrix}
 use Rattle.qp_model.specs.Quantities.{greatest}
-use Rattle.plant_condense.specs.Form.{held}
+use Rattle.condensed_form.specs.Form.{held}
 use Rattle.real_error.proofs.gains.Gains.greatest_diagonal.Given as goal
 
 abbrev pub invariant-loop-j : goal.invariant-loop-j

@@ -1,5 +1,5 @@
 use Rattle.std.proofs.Common.{◌+◌, ◌*◌, ◌∙◌}
-use Rattle.plant_condense.specs.Form.{held}
+use Rattle.condensed_form.specs.Form.{held}
 use Rattle.real_error.proofs.RoomTests.{room_decided}
 use Rattle.real_error.proofs.gains.Gains.has_room.Goals as goal
 

@@ -1,7 +1,7 @@
 use Rattle.std.proofs.Common.{◌≤◌, ◌+◌, ◌*◌, ◌^◌, Fits, ℕ, ◌≡◌, arith}
 use Rattle.std.specs.Int.{w128}
 use Rattle.integer_algebra.proofs.SizeLaws.{amount_next}
-use Rattle.plant_condense.specs.Form.{held}
+use Rattle.condensed_form.specs.Form.{held}
 use Rattle.real_error.specs.Gains.{gain_at, missed}
 use Rattle.real_error.proofs.GainRooms.{half_each}
 use Rattle.real_error.proofs.Missed.{missed_by_le}

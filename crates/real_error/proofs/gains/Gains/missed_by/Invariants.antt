@@ -1,5 +1,5 @@
 use Rattle.std.proofs.Common.{◌≡◌}
-use Rattle.plant_condense.specs.Form.{held}
+use Rattle.condensed_form.specs.Form.{held}
 use Rattle.real_error.specs.Gains.{gain_at, missed_by}
 use Rattle.real_error.proofs.gains.Gains.missed_by.Given as goal
 

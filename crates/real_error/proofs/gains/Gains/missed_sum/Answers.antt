@@ -1,5 +1,5 @@
 use Rattle.std.proofs.Common.{◌≡◌, ℕ, ◌≤◌, ◌+◌, ◌*◌, ◌^◌, arith, ◌∙◌}
-use Rattle.plant_condense.specs.Form.{held}
+use Rattle.condensed_form.specs.Form.{held}
 use Rattle.real_error.specs.Gains.{gain_at}
 use Rattle.real_error.proofs.GainRooms.{sum_small, states_room, rows_room, states_read, own_read, rows_read}
 use Rattle.real_error.proofs.gains.Gains.missed_sum.Goals as goal

@@ -2,7 +2,7 @@ use Rattle.std.proofs.Common.{◌<◌, ◌*ℤ◌, FitsSigned, rules, arith, ref
 use Rattle.std.specs.Int.{w128}
 use Rattle.std.proofs.lemmas.Int.{to_z-of_z}
 use Rattle.mat_int.specs.Matrix.{entry_of}
-use Rattle.plant_condense.specs.Form.{held}
+use Rattle.condensed_form.specs.Form.{held}
 use Rattle.integer_algebra.proofs.SizeLaws.{product_room, dot_room}
 use Rattle.integer_algebra.proofs.SumLaws.{total_more}
 use Rattle.real_error.specs.Gains.{gain_at}

@@ -1,7 +1,7 @@
 use Rattle.std.proofs.Common.{◌≡◌, ℕ, ◌<◌, ◌≤◌, ◌+◌, ◌*◌, ◌^◌, arith, sym, ◌∙◌}
 use Rattle.integer_algebra.proofs.PowerLaws.{pow-two}
 use Rattle.integer_algebra.proofs.SizeLaws.{amount_next, amount_more}
-use Rattle.plant_condense.specs.Form.{held}
+use Rattle.condensed_form.specs.Form.{held}
 use Rattle.real_error.specs.Gains.{gain_at, missed_gradient, combined_of}
 use Rattle.real_error.proofs.RoomTests.{room_each}
 use Rattle.real_error.proofs.gains.Gains.squares.Goals as goal

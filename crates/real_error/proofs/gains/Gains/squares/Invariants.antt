@@ -1,6 +1,6 @@
 use Rattle.std.proofs.Common.{◌≡◌, ◌^◌}
 use Rattle.integer_algebra.specs.Sizes.{amount}
-use Rattle.plant_condense.specs.Form.{held}
+use Rattle.condensed_form.specs.Form.{held}
 use Rattle.real_error.specs.Gains.{gain_at, missed_gradient}
 use Rattle.real_error.proofs.gains.Gains.squares.Given as goal
 

@@ -5,8 +5,8 @@ use Rattle.std.proofs.lemmas.Int.{to_z-of_z}
 use Rattle.qp_model.specs.Parts.{design_of}
 use Rattle.qp_model.specs.Policy.{plans_of}
 use Rattle.qp_model.specs.Margin.{simulated, corner_cost}
-use Rattle.plant_condense.proofs.Rooms.{sum_fits, sum_read}
-use Rattle.plant_condense.proofs.DenominatorFacts.{denominator_fits}
+use Rattle.condensed_form.proofs.Rooms.{sum_fits, sum_read}
+use Rattle.condensed_form.proofs.DenominatorFacts.{denominator_fits}
 use Rattle.slater_margin.proofs.CostFacts.{side_fits, square_fits, den_fits, den_read, cost_den_is, cost_den_some, cost_fits, cost_nonneg, costs_of}
 use Rattle.slater_margin.proofs.corner.Corner.cost.Goals as goal
 

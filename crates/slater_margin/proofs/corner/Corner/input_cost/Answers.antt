@@ -7,13 +7,13 @@ use Rattle.qp_model.specs.Design.{entries}
 use Rattle.qp_model.specs.Parts.{design_of}
 use Rattle.qp_model.specs.Policy.{plans_of, corner_plan}
 use Rattle.qp_model.specs.Runs.{Holds}
-use Rattle.plant_condense.proofs.Pushes.{holds_to}
-use Rattle.plant_condense.proofs.DenominatorFacts.{natural, denominator_fits, naturals_fit, naturals_read}
+use Rattle.condensed_form.proofs.Pushes.{holds_to}
+use Rattle.condensed_form.proofs.DenominatorFacts.{natural, denominator_fits, naturals_fit, naturals_read}
 use Rattle.slater_margin.proofs.RoomFacts.{cost_side, square_room}
 use Rattle.slater_margin.proofs.CostFacts.{own_is, own_fits, own_small, own_scale_fits, inputs_room, stage_held, squares_held, total_held, stage_part, next_stage, next_stage_fits}
-use Rattle.plant_condense.proofs.StateFacts.{part_inside}
-use Rattle.plant_condense.proofs.StageFacts.{length-part}
-use Rattle.plant_condense.proofs.RowFacts.{stages_room}
+use Rattle.condensed_form.proofs.StateFacts.{part_inside}
+use Rattle.condensed_form.proofs.StageFacts.{length-part}
+use Rattle.condensed_form.proofs.RowFacts.{stages_room}
 use Rattle.slater_margin.proofs.corner.Corner.input_cost.Goals as goal
 
 pub overflow_mul-scale : goal.overflow_mul-scale

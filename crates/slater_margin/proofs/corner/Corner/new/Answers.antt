@@ -8,7 +8,7 @@ use Rattle.qp_model.specs.Box.{corner}
 use Rattle.qp_model.specs.Design.{entries}
 use Rattle.qp_model.specs.Parts.{design_of}
 use Rattle.qp_model.specs.Policy.{plans_of}
-use Rattle.plant_condense.proofs.Pushes.{holds_to}
+use Rattle.condensed_form.proofs.Pushes.{holds_to}
 use Rattle.slater_margin.proofs.RoomFacts.{start_room, plan_room, scale_room, unit_room, unit_inner, unit_outer, unit_value, one_times, over_is}
 use Rattle.slater_margin.proofs.corner.Corner.new.Goals as goal
 

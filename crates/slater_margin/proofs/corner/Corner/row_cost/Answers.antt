@@ -6,8 +6,8 @@ use Rattle.integer_algebra.specs.Sums.{at}
 use Rattle.qp_model.specs.Parts.{design_of}
 use Rattle.qp_model.specs.Policy.{plans_of}
 use Rattle.qp_model.specs.Runs.{Holds, cost_run, counted, counts}
-use Rattle.plant_condense.specs.Costs.{weight_of, target_of}
-use Rattle.plant_condense.proofs.Pushes.{holds_to}
+use Rattle.condensed_form.specs.Costs.{weight_of, target_of}
+use Rattle.condensed_form.proofs.Pushes.{holds_to}
 use Rattle.slater_margin.proofs.RoomFacts.{costs_fit, cost_side, square_room}
 use Rattle.slater_margin.proofs.SlackFacts.{pair_sum}
 use Rattle.slater_margin.proofs.CostFacts.{gap, gap_at, gaps_size, gap_fits, target_fits, row_part_is, rows_room, squares_held, total_held}

@@ -9,7 +9,7 @@ use Rattle.qp_model.specs.Parts.{design_of}
 use Rattle.qp_model.specs.Policy.{plans_of}
 use Rattle.qp_model.specs.Margin.{corner_slack}
 use Rattle.qp_model.specs.Runs.{Holds, row_at, bound_at}
-use Rattle.plant_condense.proofs.Pushes.{holds_to}
+use Rattle.condensed_form.proofs.Pushes.{holds_to}
 use Rattle.slater_margin.proofs.RoomFacts.{rows_fit, bound_fits, slack_size}
 use Rattle.slater_margin.proofs.SlackFacts.{slack_is, pair_size}
 use Rattle.slater_margin.proofs.corner.Corner.slacks.Goals as goal

@@ -10,9 +10,9 @@ use Rattle.qp_model.specs.Runs.{Holds}
 use Rattle.qp_model.proofs.SizeFacts.{some_row}
 use Rattle.qp_model.proofs.VersionLaws.{design_states_le, design_rows_le}
 use Rattle.frac_scaled.specs.declared.fraction.Frac.{Frac}
-use Rattle.plant_condense.proofs.Rooms.{read}
-use Rattle.plant_condense.proofs.StageFacts.{lifted_fits, lifted}
-use Rattle.plant_condense.proofs.DenominatorFacts.{denominator_fits}
+use Rattle.condensed_form.proofs.Rooms.{read}
+use Rattle.condensed_form.proofs.StageFacts.{lifted_fits, lifted}
+use Rattle.condensed_form.proofs.DenominatorFacts.{denominator_fits}
 use Rattle.slater_margin.proofs.RoomFacts.{slack_den_size, over_is}
 use Rattle.slater_margin.proofs.SlackFacts.{slack_within, den_is, den_some, short_row, units_of, least_fits}
 use Rattle.slater_margin.proofs.FaultFacts.{no_margin_same, corner_few}

@@ -1,0 +1,24 @@
+ghost use Rattle.std.specs.Prelude.{◌≡◌};
+ghost use Rattle.condensed_form.specs.declared.fault.CondenseFault.TheVariants.{Memory as condense_memory};
+
+use qp_model::Quantity;
+use std::alloc::{AllocError, AllocFailed};
+use thiserror::Error;
+
+/// Why a design isn't condensed.
+#[derive(Clone, Copy, Debug, PartialEq, Eq, Error)]
+pub enum CondenseFault {
+    #[error("memory")]
+    Memory,
+    /// The quantity is above `2^126`.
+    #[error("too wide")]
+    TooWide { quantity: Quantity },
+}
+
+impl From<AllocError> for CondenseFault {
+    ghost from_gives = { λ _ e. e ≡ condense_memory };
+
+    fn from(_: AllocError) -> Self {
+        CondenseFault::Memory
+    }
+}

@@ -1,7 +1,0 @@
-use Rattle.std.proofs.Common.{◌≡◌, ◌+ℤ◌, take}
-use Rattle.mat_int.specs.Row.{list_dot}
-use Rattle.mat_int.specs.InHalves.{whole}
-use Rattle.mat_int.proofs.narrow.narrow_dot.Given as goal
-
-abbrev pub invariant-loop-i : goal.invariant-loop-i
-invariant-loop-i l = whole l.sum ≡ l.start +ℤ list_dot (take l.i l.xs) (take l.i l.ys)

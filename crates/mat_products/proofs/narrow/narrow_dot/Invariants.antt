@@ -1,0 +1,7 @@
+use Rattle.std.proofs.Common.{◌≡◌, ◌+ℤ◌, take}
+use Rattle.mat_int.specs.Row.{list_dot}
+use Rattle.mat_products.specs.InHalves.{whole}
+use Rattle.mat_products.proofs.narrow.narrow_dot.Given as goal
+
+abbrev pub invariant-loop-i : goal.invariant-loop-i
+invariant-loop-i l = whole l.sum ≡ l.start +ℤ list_dot (take l.i l.xs) (take l.i l.ys)

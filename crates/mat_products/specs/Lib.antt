@@ -1,0 +1,3 @@
+pub mod Gram
+pub mod Narrow
+pub mod InHalves

@@ -1,0 +1,3 @@
+-- The lemmas by topic.
+pub mod Words
+pub mod Pieces
