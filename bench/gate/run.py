@@ -8,7 +8,7 @@ What is measured is what is committed. The clone has no kept work, and with --an
 run on this machine passed of the same files, as it does in a checkout, and the table has what is left; the gate of a kit without that flag always begins from nothing. With names, these crates and those below them are proved, and the others are taken out of the
 clone. --lanes N proves N crates side by side with one process each, whatever memory there is;
 without it the gate chooses by processors and memory, and a proof may share several processors, which costs some more processor time. Stopped by Ctrl-C or a
-SIGTERM, it tells what it has measured.
+SIGTERM, it tells what it has measured. Below the table stand the dearest must-fail edits, each with its seconds.
 
 Processor time is that of the prover's processes, as the system counts it, and memory the most that one process held. The longest chain is that of the proofs'
 times, each crate after those that it stands on: no number of processors gives the first answer sooner.
@@ -25,12 +25,15 @@ import signal
 import subprocess
 import sys
 import tempfile
+import threading
 import time
 
 # the marks, in seconds of processor time
 PROOF, TESTS, WHOLE, FIRST = 120, 180, 150 * 60, 25 * 60
 FIRST_WALL = 8 * 60
 PARTS = ("proof", "tests", "edits")
+# how many edits are told by name
+DEAREST = 20
 
 
 class Run:
@@ -39,6 +42,7 @@ class Run:
     def __init__(self, words, folder, pid):
         self.words, self.folder, self.pid, self.began = [str(it) for it in words], str(folder or os.getcwd()), pid, time.monotonic()
         self.seconds = self.memory = self.wall = None
+        self.thread = threading.get_ident()
 
     def end(self, usage):
         self.seconds, self.memory, self.wall = usage.ru_utime + usage.ru_stime, usage.ru_maxrss * 1024, time.monotonic() - self.began
@@ -55,6 +59,8 @@ class Run:
 
 
 RUNS = []
+# The processor's seconds of each must-fail edit, by crate and name.
+EDITS = collections.Counter()
 
 
 def watch():
@@ -75,6 +81,22 @@ def watch():
         return found, status
 
     subprocess.Popen, os.waitpid = Watched, waitpid
+
+
+def time_edits(tool):
+    """Has the tool's tries of must-fail edits counted by name, where it tries each in a call of its own."""
+    tries = getattr(tool, "must_fail", None)
+    if tries is None:
+        return
+
+    def must_fail(crate, edit, *given, **named):
+        since = len(RUNS)
+        found = tries(crate, edit, *given, **named)
+        mine = [it for it in RUNS[since:] if it.thread == threading.get_ident()]
+        EDITS[f"{crate.name}/{os.path.basename(edit).removesuffix('.edit')}"] += sum(it.seconds or 0 for it in mine)
+        return found
+
+    tool.must_fail = must_fail
 
 
 def gate_words(anew):
@@ -169,6 +191,8 @@ def table(crates, said, wall, total):
         print(f"| `{crate}` | {cell(crate, 'proof')} | {cell(crate, 'tests')} | {named[crate] or ''} | {cell(crate, 'edits')} | {together:.0f} |")
     most = max(memory.values(), default=0) / 2**20
     print(f"| all | {sums['proof']:.0f} | | {sums['tests']:.0f} | | {sum(named.values())} | {sums['edits']:.0f} | {most:.0f} | {sum(sums.values()):.0f} |\n")
+    if EDITS:
+        print("dearest edits: " + ", ".join(f"{edit} {seconds:.0f}" for edit, seconds in EDITS.most_common(DEAREST)))
     for what, seconds in sorted(others.items()):
         print(f"{what}: {seconds:.0f} s")
     rest = total - sum(sums.values()) - sum(others.values())
@@ -221,7 +245,9 @@ def gate(options):
         os.chdir(root)
         watch()
         try:
-            status = tool().main(gate_words(options.anew))
+            made = tool()
+            time_edits(made)
+            status = made.main(gate_words(options.anew))
         except SystemExit as ended:
             status = ended.code
         os.chdir("/")
