@@ -255,7 +255,15 @@ def gate(options):
         return status
 
 
+def tell_what_is_kept():
+    """Says where the gate that ./mpc calls will not begin from nothing."""
+    store = getattr(tool(), "STORE", None)
+    if store and os.path.isdir(store) and any(it.startswith("proof-") for it in os.listdir(store)):
+        print(f"note: what earlier runs on this machine passed is taken over; with {store} moved aside the time is that of a new machine", file=sys.stderr)
+
+
 def first():
+    tell_what_is_kept()
     with tempfile.TemporaryDirectory(prefix="gate-") as room:
         print(clone(f"{room}/clone"), flush=True)
         began = time.monotonic()
