@@ -73,14 +73,22 @@ design_fault words held before now s ends file is =
       subst (λ (at : ℕ). Rose (before (word_of words at)) (now (word_of words at))) (sym found.0) found.1,
     )
 
-pub policy_fault : (words : List (List ℕ)) (held : Option Files) (p : DesignParts) (before mid now : List ℕ → ℕ) (s : Status) → IsDesignRead 1 held (word_of words 1) p →
-    NoneFalls before mid → NoneFalls mid now → EndsPolicy (design_of p) 2 held (word_of words 2) (mid (word_of words 2)) (now (word_of words 2)) s →
+pub policy_fault : (words : List (List ℕ)) (held : Option Files) (p : DesignParts) (before now : List ℕ → ℕ) (s : Status) → IsDesignRead 1 held (word_of words 1) p →
+    EndsPolicy (design_of p) 2 held (word_of words 2) (before (word_of words 2)) (now (word_of words 2)) s →
     (file : ℕ) → s ≡ ReadFault file → IsReadFault words held before now file
-policy_fault words held p before mid now s right first second ends file is =
+policy_fault words held p before now s right ends file is =
     let name = word_of words 2 in
-    let found = tells_fault 2 _ s (policy_tells (design_of p) 2 held name (mid name) (now name) s ends) file is in (
+    let found = tells_fault 2 _ s (policy_tells (design_of p) 2 held name (before name) (now name) s ends) file is in (
       for_contents words held (λ contents. GenerateReaches contents.first file) right.content (told_at held name) (told_at held (word_of words 3))
           right.told (told held name) (told held (word_of words 3)) (inr (found.0, p, right.right)),
-      subst (λ (at : ℕ). Rose (before (word_of words at)) (now (word_of words at))) (sym found.0)
-          (rose_later (before name) (mid name) (now name) (first.each name) (second.each name) found.1),
+      subst (λ (at : ℕ). Rose (before (word_of words at)) (now (word_of words at))) (sym found.0) found.1,
+    )
+
+-- the counts stood no higher before, with the same files
+pub fault_later : (words : List (List ℕ)) (held after : Option Files) (before mid now : List ℕ → ℕ) → after ≡ held → NoneFalls before mid → NoneFalls mid now →
+    (file : ℕ) → IsReadFault words after mid now file → IsReadFault words held before now file
+fault_later words held after before mid now same first second file fault =
+    let name = word_of words file in (
+      subst (λ (o : Option Files). ForContents words o (λ contents. GenerateReaches contents.first file)) same fault.0,
+      rose_later (before name) (mid name) (now name) (first.each name) (second.each name) fault.1,
     )
