@@ -1,20 +1,75 @@
 -- What the clauses of each command say for the whole program.
-use Rattle.std.proofs.Common.{◌≡◌, ◌⊎◌, inl, inr, ℕ, List, Option, Some, None, refl}
+use Rattle.std.proofs.Common.{◌≡◌, ◌≢◌, ◌⊎◌, inl, inr, ℕ, List, Option, Some, None, refl, le_refl, arith}
 use Rattle.std.specs.Prelude.{IfSome, IsSomeAnd}
-use Rattle.io_edge.specs.Faults.{Files, Rose}
+use Rattle.io_edge.specs.Faults.{Files, Rose, NoneFalls}
 use Rattle.command_line.specs.Words.{word_of, IsGenerate, IsSolve, IsLoop, IsDemo}
 use Rattle.command_line.specs.Commands.{IsUsage}
 use Rattle.command_line.specs.Answers.{Contents, ForContents, IsAnswer, IsCaused}
 use Rattle.generate_command.specs.Generate.{GenerateCalls, GenerateReaches}
 use Rattle.solve_command.specs.Solve.{SolveCalls, SolveReaches, SolvePrints}
-use Rattle.loop_command.specs.Loop.{LoopCalls, LoopReaches, LoopStarts, LoopPrints}
+use Rattle.loop_command.specs.Loop.{LoopCalls, LoopReaches, LoopStarts, LoopPrints, TellsLeaving}
 use Rattle.demo_command.specs.Demo.{DemoCalls, DemoPrints}
 use Rattle.command_line.specs.declared.status.Status.{Status}
 use Rattle.command_line.specs.declared.status.Status.TheVariants.{Done, Usage, ReadFault, WriteFault}
 use Rattle.command_run.specs.Calls.{Calls}
 use Rattle.command_run.specs.Prints.{Prints}
-use Rattle.command_run.specs.Faults.{ReachesFile, PassesTests, WriteFailed}
-use Rattle.command_run.proofs.Lifting.{weaker, some_contents, usage_answer, generate_answer, solve_answer, loop_answer, demo_answer, usage_prints, generate_prints, loop_prints, demo_prints}
+use Rattle.command_run.specs.Faults.{MayPrint, ReachesFile, PassesTests, WriteFailed}
+use Rattle.command_run.proofs.Arguments.{generate_demo, solve_demo, loop_demo}
+use Rattle.command_run.proofs.Lifting.{weaker, some_contents, usage_answer, generate_answer, solve_answer, loop_answer, demo_answer, usage_prints, generate_prints, solve_prints, loop_prints, demo_prints}
+
+-- ---- what stays as it was, in these words or others
+-- the store, but for what `generate` wrote
+abbrev pub MayKeep : List (List ℕ) → Status → Type 0
+MayKeep words s = (¬ IsGenerate words) ⊎ ((s ≢ Done) × ((file : ℕ) → s ≢ WriteFault file))
+
+pub generate_kept : (words : List (List ℕ)) (s : Status) (Same : Type 0) → IsGenerate words → (s ≢ Done → ((file : ℕ) → s ≢ WriteFault file) → Same) → MayKeep words s → Same
+generate_kept words s Same is h (inl other) = absurd (other is)
+generate_kept words s Same is h (inr none) = h none.0 none.1
+
+-- the files that no command uses
+abbrev pub IsUnused : List (List ℕ) → Type 0
+IsUnused words = IsUsage words ⊎ ((number : ℕ) × IsDemo words number)
+
+pub generate_used : (words : List (List ℕ)) → IsGenerate words → IsUnused words → ⊥
+generate_used words is (inl usage) = usage.generate is
+generate_used words is (inr demo) = generate_demo words demo.0 is demo.1
+
+pub solve_used : (words : List (List ℕ)) → IsSolve words → IsUnused words → ⊥
+solve_used words is (inl usage) = usage.solve is
+solve_used words is (inr demo) = solve_demo words demo.0 is demo.1
+
+pub loop_used : (words : List (List ℕ)) (turns : ℕ) → IsLoop words turns → IsUnused words → ⊥
+loop_used words turns is (inl usage) = usage.loop turns is
+loop_used words turns is (inr demo) = loop_demo words turns demo.0 is demo.1
+
+-- the output, where nothing is printed
+abbrev pub IsQuiet : List (List ℕ) → Status → Type 0
+IsQuiet words s = (IsCaused s × (s ≢ Done) × ¬ TellsLeaving s) ⊎ ¬ MayPrint words
+
+pub printing_quiet : (words : List (List ℕ)) (s : Status) (Same : Type 0) → MayPrint words → (IsCaused s → s ≢ Done → ¬ TellsLeaving s → Same) → IsQuiet words s → Same
+printing_quiet words s Same may h (inl quiet) = h quiet.0 quiet.1 quiet.2
+printing_quiet words s Same may h (inr never) = absurd (never may)
+
+-- ---- what isn't answered
+-- no file's write failed, where the output's alone can fail
+pub no_third : (A : Type 0) → ◌≡◌ {A = ℕ} 3 0 → A
+no_third A e = absurd (let never : ⊥ = omega (arith, e) in never)
+
+pub no_fourth : (A : Type 0) → ◌≡◌ {A = ℕ} 4 0 → A
+no_fourth A e = absurd (let never : ⊥ = omega (arith, e) in never)
+
+pub usage_not_done : (A : Type 0) → Usage ≡ Done → A
+usage_not_done A e = absurd (let never : ⊥ = cc in never)
+
+pub usage_no_read : (A : Type 0) (file : ℕ) → Usage ≡ ReadFault file → A
+usage_no_read A file e = absurd (let never : ⊥ = cc in never)
+
+pub usage_no_write : (A : Type 0) (file : ℕ) → Usage ≡ WriteFault file → A
+usage_no_write A file e = absurd (let never : ⊥ = cc in never)
+
+-- counts that stand still
+pub same_counts : (counts : List ℕ → ℕ) → NoneFalls counts counts
+same_counts counts = record { each = λ name. le_refl (counts name) }
 
 module _ (words : List (List ℕ)) (held : Option Files) (s : Status) where
   -- ---- causes
@@ -87,6 +142,11 @@ module _ (words : List (List ℕ)) (held : Option Files) (s : Status) where
   pub generate_printed : IsGenerate words → (got : Option (List ℕ)) → Printed got got
   generate_printed is (Some old) = some_contents words held (λ k. Prints words k s old old) (λ k. generate_prints words k s old old is refl)
   generate_printed is None = tt
+
+  pub solve_printed : IsSolve words → (before now : Option (List ℕ)) → IfSome before (λ old. IsSomeAnd now (λ new. ForContents words held (λ k. SolvePrints k s old new))) → Printed before now
+  solve_printed is (Some old) (Some new) h = weaker words held _ (λ k. Prints words k s old new) (λ k prints. solve_prints words k s old new is prints) h
+  solve_printed is (Some old) None h = h
+  solve_printed is None now h = tt
 
   pub loop_printed : (turns : ℕ) → IsLoop words turns → (before now : Option (List ℕ)) → IfSome before (λ old. IsSomeAnd now (λ new. ForContents words held (λ k. LoopPrints k turns s old new))) → Printed before now
   loop_printed turns is (Some old) (Some new) h = weaker words held _ (λ k. Prints words k s old new) (λ k prints. loop_prints words k turns s old new is prints) h
