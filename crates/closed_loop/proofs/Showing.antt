@@ -1,5 +1,7 @@
 -- What the turns of a loop put and show.
-use Rattle.std.proofs.Common.{◌≡◌, ◌⊎◌, inl, inr, ℕ, ◌+◌, ◌-◌, ◌<◌, ◌≤◌, ℤ, List, [], ◌++◌, Option, Some, None, option_map, Result, Ok, Err, IfErr, IsErrAnd, IsOk, OnOk, IfSome, IsSomeAnd, arith, ap, sym, subst, refl, ◌∙◌, add-one, append_assoc}
+use Rattle.std.proofs.Common.{◌≡◌, ◌⊎◌, inl, inr, ℕ, ◌+◌, ◌-◌, ◌<◌, ◌≤◌, ℤ, List, [], ◌++◌, Bool, true, false, Option, Some, None, option_map, Result, Ok, Err, IfErr, IsErrAnd, IsOk, OnOk, IfSome, IsSomeAnd, arith, ap, sym, subst, refl, ◌∙◌, add-one, append_assoc}
+use Rattle.std.specs.Prelude.{◌↔◌, is_some, not}
+use Rattle.std.specs.Option.{SomeIff}
 use Rattle.std.proofs.lemmas.Bool.{cases_lt}
 use Rattle.std.proofs.lemmas.List.{append-nil}
 use Rattle.io_edge.specs.Faults.{Rose, GrowsByPart}
@@ -7,6 +9,8 @@ use Rattle.qp_model.specs.Design.{Design}
 use Rattle.qp_model.specs.Controller.{Numbers}
 use Rattle.qp_model.specs.Machine.{IsAdmissible}
 use Rattle.qp_model.specs.Successor.{successor, state_after}
+use Rattle.qp_model.specs.declared.quantity.Quantity.{Quantity}
+use Rattle.qp_model.specs.declared.quantity.Quantity.TheVariants.{Turn}
 use Rattle.qp_model.specs.LoopLines.{loop_line, loop_text}
 use Rattle.fixed_kernel.specs.Outside.{IsFirstOutside}
 use Rattle.closed_loop.specs.Answers.{StaysInside, LeavesAt, GrowsByTurns, GrowsByPrefix}
@@ -60,6 +64,15 @@ put_more d c entry start k (Some o) mid new e h =
 pub given : (r : Result (Unit {0}) LoopFault) (p : LoopFault → Type 0) (fault : LoopFault) → IsErrAnd r (λ e. e ≡ fault) → p fault → IfErr r p
 given (Ok done) p fault e h = absurd e
 given (Err x) p fault e h = subst p (sym e) h
+
+-- what an error doesn't meet, it needn't
+pub unmet : (r : Result (Unit {0}) LoopFault) (p : LoopFault → Type 0) (P : Type 0) → IsErrAnd r p → OnOk r P
+unmet (Ok done) p P e = absurd e
+unmet (Err x) p P e = tt
+
+-- what is said of an error that is known
+pub told : (r : Result (Unit {0}) LoopFault) (p : LoopFault → Type 0) (fault : LoopFault) → IfErr r p → r ≡ Err fault → p fault
+told r p fault h is = subst (λ (x : Result (Unit {0}) LoopFault). IfErr x p) is h
 
 rose_from : (first mid new : ℕ) → first ≤ mid → mid ≤ new → Rose mid new → Rose first new
 rose_from first mid new h l r = elim r.rise [
@@ -141,6 +154,35 @@ turn_one d c start turns t i u j a b = omega (arith, a.is, b.is, gone_one d c st
 first_one : (d : Design) (c : Numbers) (start : List ℤ) (turns t i u j : ℕ) → LeavesAt d c start turns t i → LeavesAt d c start turns u j → i ≡ j
 first_one d c start turns t i u j a b =
     coordinate_one c (state_after d c start b.gone) i j (subst (λ (k : ℕ). IsFirstOutside c (state_after d c start k) i) (gone_one d c start turns t i u j a b) a.outside) b.outside
+
+-- ---- the quantity `turn`
+pub none_wide : (o : Option ℕ) (none : Bool) (m n : ℕ) → is_some o ≡ not none → none ≡ true → SomeIff o (n ≤ m) n → m < n
+none_wide None none m n is one h = elim (cases_lt m n) [ inl lt ↦ lt | inr le ↦ absurd (h le) ]
+none_wide (Some x) none m n is one h = absurd (let flip = ap not one in let never : ⊥ = cc in never)
+
+pub some_narrow : (o : Option ℕ) (none : Bool) (m n : ℕ) → is_some o ≡ not none → none ≡ false → SomeIff o (n ≤ m) n → n ≤ m
+some_narrow None none m n is one h = absurd (let flip = ap not one in let never : ⊥ = cc in never)
+some_narrow (Some x) none m n is one h = h.0
+
+pub wide_or_narrow : (A : Type 0) (m n : ℕ) → m < n → n ≤ m → A
+wide_or_narrow A m n lt le = absurd (let never : ⊥ = omega (arith, lt, le) in never)
+
+module _ (r : Result (Unit {0}) LoopFault) (is : r ≡ Err (TooWide Turn)) where
+  pub wide_is : (W : Type 0) → W → (q : Quantity) → (r ≡ Err (TooWide q)) ↔ ((q ≡ Turn) × W)
+  wide_is W wide q = (λ e. (let same : q ≡ Turn = cc in same, wide), λ h. let e = h.0 in cc)
+
+  pub wide_not_outside : (A : Type 0) (turn coordinate : ℕ) → r ≡ Err (OutsideBox turn coordinate) → A
+  wide_not_outside A turn coordinate e = absurd (let never : ⊥ = cc in never)
+
+  pub wide_not_failed : (A : Type 0) → r ≡ Err WriteFault → A
+  wide_not_failed A e = absurd (let never : ⊥ = cc in never)
+
+  pub wide_not_memory : (A : Type 0) → r ≡ Err Memory → A
+  wide_not_memory A e = absurd (let never : ⊥ = cc in never)
+
+pub not_wide : (r : Result (Unit {0}) LoopFault) (p : LoopFault → Type 0) (W : Type 0) → IfErr r p → ((q : Quantity) → p (TooWide q) → ⊥) → (W → ⊥) → (q : Quantity) →
+    (r ≡ Err (TooWide q)) ↔ ((q ≡ Turn) × W)
+not_wide r p W h never narrow q = (λ e. absurd (never q (told r p (TooWide q) h e)), λ w. absurd (narrow w.1))
 
 -- what a loop that came to its limit or went on answers where some state leaves the box
 pub leaves : (d : Design) (c : Numbers) (entry : ℕ) (start : List ℤ) (turns : ℕ) (first new : Option (List ℕ)) (before now : ℕ) (r : Result (Unit {0}) LoopFault) →

@@ -1,33 +1,52 @@
-use Rattle.std.proofs.Common.{◌≡◌, ◌+◌, ◌++◌, ◌∙◌, ap, sym, subst, refl, le_refl, ℤ, List, Vec, Global, length, option_map, arith}
+use Rattle.std.proofs.Common.{◌≡◌, ◌+◌, ◌++◌, ◌∙◌, ap, sym, subst, refl, le_refl, le_trans, zero-le, ℕ, ℤ, List, Vec, Global, length, option_map, arith}
 use Rattle.std.proofs.lemmas.List.{with_items_is}
 use Rattle.std.proofs.lemmas.List.FromFn.{length-map-range_with_len}
 use Rattle.qp_model.specs.Controller.{Numbers}
 use Rattle.qp_model.specs.Machine.{IsAdmissible}
 use Rattle.qp_model.specs.Successor.{successor, state_after}
-use Rattle.qp_model.specs.LoopLines.{loop_line}
+use Rattle.qp_model.specs.LoopLines.{loop_line, loop_text}
 use Rattle.qp_model.specs.Parts.{design_of}
+use Rattle.closed_loop.specs.Answers.{StaysInside}
 use Rattle.closed_loop.specs.Shows.{TurnShows, LoopShows}
 use Rattle.closed_loop.specs.declared.fault.LoopFault.TheVariants.{Memory}
-use Rattle.closed_loop.proofs.Showing.{state_zero, state_more, inside_none, inside_more, put_none, put_more, grows_by_turns, given, turn_shows}
+use Rattle.closed_loop.proofs.Showing.{state_zero, state_more, inside_none, inside_more, put_none, put_more, grows_by_turns, given, unmet, turn_shows}
 use Rattle.closed_loop.proofs.turns.run_turns.Goals as goal
 
-pub returns-in_err-state-clause-refused : goal.returns-in_err-state-clause-refused
-returns-in_err-state-clause-refused g c =
+pub returns-in_err-state : goal.returns-in_err-state
+returns-in_err-state g c =
     let d = design_of c.args.design.now in
     let n = c.args.k.now.controller in
     let start = c.args.start.now in
     let got = g.O.Sink.got c.args.out.now in
-    given c.from_residual.result (LoopShows d n c.args.entry start c.args.turns got got (g.O.Sink.faults c.args.out.now) (g.O.Sink.faults c.args.out.now)) Memory c.from_residual.ensures.1
-    (grows_by_turns d n c.args.entry start c.args.turns 0 got got (omega arith) (inside_none d n start) (put_none d n c.args.entry start got))
+    let faults = g.O.Sink.faults c.args.out.now in
+    let r = c.from_residual.result in
+    let is = c.from_residual.ensures.1 in
+    record {
+      inside = unmet r _ _ is;
+      put = unmet r _ _ is;
+      refused = given r (LoopShows d n c.args.entry start c.args.turns got got faults faults) Memory is
+          (grows_by_turns d n c.args.entry start c.args.turns 0 got got zero-le (inside_none d n start) (put_none d n c.args.entry start got));
+      no_fewer = le_refl faults;
+      controller = refl;
+    }
 
-pub returns-in_err-next-clause-refused : goal.returns-in_err-next-clause-refused
-returns-in_err-next-clause-refused g c =
+pub returns-in_err-next : goal.returns-in_err-next
+returns-in_err-next g c =
     let d = design_of c.args.design.now in
     let n = c.args.k.now.controller in
     let start = c.args.start.now in
     let got = g.O.Sink.got c.args.out.now in
-    given c.from_residual-in_err-next.result (LoopShows d n c.args.entry start c.args.turns got got (g.O.Sink.faults c.args.out.now) (g.O.Sink.faults c.args.out.now)) Memory c.from_residual-in_err-next.ensures.1
-    (grows_by_turns d n c.args.entry start c.args.turns 0 got got (omega arith) (inside_none d n start) (put_none d n c.args.entry start got))
+    let faults = g.O.Sink.faults c.args.out.now in
+    let r = c.from_residual-in_err-next.result in
+    let is = c.from_residual-in_err-next.ensures.1 in
+    record {
+      inside = unmet r _ _ is;
+      put = unmet r _ _ is;
+      refused = given r (LoopShows d n c.args.entry start c.args.turns got got faults faults) Memory is
+          (grows_by_turns d n c.args.entry start c.args.turns 0 got got zero-le (inside_none d n start) (put_none d n c.args.entry start got));
+      no_fewer = le_refl faults;
+      controller = refl;
+    }
 
 pub loop-gone-init : goal.loop-gone-init
 loop-gone-init g c =
@@ -44,8 +63,8 @@ loop-gone-init g c =
       controller = refl;
     }
 
-pub returns-in_err-make_turn-clause-refused : goal.returns-in_err-make_turn-clause-refused
-returns-in_err-make_turn-clause-refused g c =
+pub returns-in_err-make_turn : goal.returns-in_err-make_turn
+returns-in_err-make_turn g c =
     let d = design_of c.args.design.now in
     let n = c.args.k.now.controller in
     let start = c.args.start.now in
@@ -57,9 +76,17 @@ returns-in_err-make_turn-clause-refused g c =
     let shows : TurnShows n c.args.entry (gone + 1) (state_after d n start gone) (got c.loop-gone.out) (got c.make_turn.new.out) (faults c.loop-gone.out) (faults c.make_turn.new.out) fault =
     subst (λ (m : Numbers). TurnShows m c.args.entry (gone + 1) (state_after d n start gone) (got c.loop-gone.out) (got c.make_turn.new.out) (faults c.loop-gone.out) (faults c.make_turn.new.out) fault) c.loop-gone.invariant.controller
     (subst (λ (s : List ℤ). TurnShows c.loop-gone.k.controller c.args.entry (gone + 1) s (got c.loop-gone.out) (got c.make_turn.new.out) (faults c.loop-gone.out) (faults c.make_turn.new.out) fault) same c.in_err-make_turn.ensures.refused) in
-    given c.from_residual-in_err-make_turn.result (LoopShows d n c.args.entry start c.args.turns (got c.args.out.now) (got c.make_turn.new.out) (faults c.args.out.now) (faults c.make_turn.new.out)) fault c.from_residual-in_err-make_turn.ensures.1
-    (turn_shows d n c.args.entry start c.args.turns gone (got c.args.out.now) (got c.loop-gone.out) (got c.make_turn.new.out) (faults c.args.out.now) (faults c.loop-gone.out) (faults c.make_turn.new.out) fault
-    (omega arith) c.loop-gone.invariant.inside c.loop-gone.invariant.put c.loop-gone.invariant.no_fewer c.make_turn.ensures.no_fewer shows)
+    let r = c.from_residual-in_err-make_turn.result in
+    let is = c.from_residual-in_err-make_turn.ensures.1 in
+    record {
+      inside = unmet r _ _ is;
+      put = unmet r _ _ is;
+      refused = given r (LoopShows d n c.args.entry start c.args.turns (got c.args.out.now) (got c.make_turn.new.out) (faults c.args.out.now) (faults c.make_turn.new.out)) fault is
+          (turn_shows d n c.args.entry start c.args.turns gone (got c.args.out.now) (got c.loop-gone.out) (got c.make_turn.new.out) (faults c.args.out.now) (faults c.loop-gone.out) (faults c.make_turn.new.out) fault
+          (omega arith) c.loop-gone.invariant.inside c.loop-gone.invariant.put c.loop-gone.invariant.no_fewer c.make_turn.ensures.no_fewer shows);
+      no_fewer = le_trans c.loop-gone.invariant.no_fewer c.make_turn.ensures.no_fewer;
+      controller = c.make_turn.ensures.controller ∙ c.loop-gone.invariant.controller;
+    }
 
 pub loop-gone-preserved : goal.loop-gone-preserved
 loop-gone-preserved g c =
@@ -85,4 +112,18 @@ loop-gone-preserved g c =
       put = put_more d n c.args.entry start gone (g.O.Sink.got c.args.out.now) (g.O.Sink.got c.loop-gone.out) (g.O.Sink.got c.make_turn.new.out) c.loop-gone.invariant.put put;
       no_fewer = omega (arith, c.loop-gone.invariant.no_fewer, c.make_turn.ensures.no_fewer);
       controller = kept;
+    }
+
+pub returns : goal.returns
+returns g c =
+    let d = design_of c.args.design.now in
+    let n = c.args.k.now.controller in
+    let start = c.args.start.now in
+    let all : c.loop-gone.gone ≡ c.args.turns = omega arith in
+    record {
+      inside = subst (λ (k : ℕ). StaysInside d n start k) all c.loop-gone.invariant.inside;
+      put = subst (λ (k : ℕ). g.O.Sink.got c.loop-gone.out ≡ option_map (λ old. old ++ loop_text d n c.args.entry start k) (g.O.Sink.got c.args.out.now)) all c.loop-gone.invariant.put;
+      refused = tt;
+      no_fewer = c.loop-gone.invariant.no_fewer;
+      controller = c.loop-gone.invariant.controller;
     }
