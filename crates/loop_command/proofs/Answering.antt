@@ -30,7 +30,7 @@ module _ (words : List (List ℕ)) (held : Option Files) (before now : List ℕ 
   not_done (inr (inl fault)) is = let e = fault.is in cc
   not_done (inr (inr refused)) is = refused.done is
 
-  no_write : EndsLoops words held before now s → (file : ℕ) → s ≢ WriteFault file
+  pub no_write : EndsLoops words held before now s → (file : ℕ) → s ≢ WriteFault file
   no_write (inl memory) file is = cc
   no_write (inr (inl fault)) file is = let e = fault.is in cc
   no_write (inr (inr refused)) file is = refused.write file is
@@ -88,6 +88,13 @@ module _ (words : List (List ℕ)) (held : Option Files) (p : DesignParts) (c : 
   started turns s (inr (inr (inl wide))) file is = let e = wide.is in absurd (let never : ⊥ = cc in never)
   started turns s (inr (inr (inr (inl leaving)))) file is = let e = leaving.1.is in absurd (let never : ⊥ = cc in never)
   started turns s (inr (inr (inr (inr done)))) file is = let e = done.0 in absurd (let never : ⊥ = cc in never)
+
+  pub loops_no_read : (turns : ℕ) (s : Status) → LoopsEnd (design_of p) c turns m s → (file : ℕ) → s ≡ ReadFault file → ⊥
+  loops_no_read turns s (inl memory) file is = cc
+  loops_no_read turns s (inr (inl cut)) file is = let e = cut.0 in cc
+  loops_no_read turns s (inr (inr (inl wide))) file is = let e = wide.is in cc
+  loops_no_read turns s (inr (inr (inr (inl leaving)))) file is = let e = leaving.1.is in cc
+  loops_no_read turns s (inr (inr (inr (inr done)))) file is = let e = done.0 in cc
 
   pub loops_fault : (turns : ℕ) (s : Status) (R : Type 0) → LoopsEnd (design_of p) c turns m s → (s ≡ WriteFault 0 → R) → (file : ℕ) → s ≡ WriteFault file → (file ≡ 0) × ForContents words held (λ k. LoopStarts k) × R
   loops_fault turns s R end rose file is =

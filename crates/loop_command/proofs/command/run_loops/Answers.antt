@@ -1,29 +1,49 @@
+use Rattle.std.proofs.Common.{refl, le_refl}
 use Rattle.io_edge.specs.Faults.{Rose}
-use Rattle.loop_command.proofs.Answering.{stop_called, stop_prints, loops_called, loops_print, loops_fault}
+use Rattle.loop_command.proofs.Answering.{stop_called, stop_prints, stop_fault, no_write, loops_called, loops_print, loops_fault, loops_no_read}
 use Rattle.loop_command.proofs.command.run_loops.Goals as goal
 
--- ---- all three files are right
-pub returns-in-Ok-clause-called : goal.returns-in-Ok-clause-called
-returns-in-Ok-clause-called g c =
-    loops_called c.args.words.now (g.S.Store.held c.args.store.now) c.in-Ok.loops.design c.in-Ok.loops.controller c.in-Ok.loops.states c.in-Ok.ensures.right c.args.turns c.print_loops.result
-    c.print_loops.ensures.ends
+-- all three files are right
+pub returns-in-Ok : goal.returns-in-Ok
+returns-in-Ok g c =
+    let words = c.args.words.now in
+    let held = g.S.Store.held c.args.store.now in
+    let p = c.in-Ok.loops.design in
+    let n = c.in-Ok.loops.controller in
+    let m = c.in-Ok.loops.states in
+    let turns = c.args.turns in
+    let s = c.print_loops.result in
+    let right = c.in-Ok.ensures.right in
+    let ends = c.print_loops.ensures.ends in
+    record {
+      called = loops_called words held p n m right turns s ends;
+      prints = loops_print words held p n m right turns s (g.O.Sink.got c.args.out.now) (g.O.Sink.got c.print_loops.new.out) ends c.print_loops.ensures.printed;
+      quiet = c.print_loops.ensures.quiet;
+      read_fault = λ file is. absurd (loops_no_read words held p n m right turns s ends file is);
+      write_fault = loops_fault words held p n m right turns s (Rose (g.O.Sink.faults c.args.out.now) (g.O.Sink.faults c.print_loops.new.out)) ends c.print_loops.ensures.failed;
+      held = c.read_loops.ensures.held;
+      reads = c.read_loops.ensures.reads;
+      writes = c.read_loops.ensures.writes;
+      no_fewer = c.print_loops.ensures.no_fewer;
+    }
 
-pub returns-in-Ok-clause-prints : goal.returns-in-Ok-clause-prints
-returns-in-Ok-clause-prints g c =
-    loops_print c.args.words.now (g.S.Store.held c.args.store.now) c.in-Ok.loops.design c.in-Ok.loops.controller c.in-Ok.loops.states c.in-Ok.ensures.right c.args.turns c.print_loops.result
-    (g.O.Sink.got c.args.out.now) (g.O.Sink.got c.print_loops.new.out) c.print_loops.ensures.ends c.print_loops.ensures.printed
-
-pub returns-in-Ok-clause-write_fault : goal.returns-in-Ok-clause-write_fault
-returns-in-Ok-clause-write_fault g c =
-    loops_fault c.args.words.now (g.S.Store.held c.args.store.now) c.in-Ok.loops.design c.in-Ok.loops.controller c.in-Ok.loops.states c.in-Ok.ensures.right c.args.turns c.print_loops.result
-    (Rose (g.O.Sink.faults c.args.out.now) (g.O.Sink.faults c.print_loops.new.out)) c.print_loops.ensures.ends c.print_loops.ensures.failed
-
--- ---- a file ends it
-pub returns-in-Err-clause-called : goal.returns-in-Err-clause-called
-returns-in-Err-clause-called g c =
-    stop_called c.args.words.now (g.S.Store.held c.args.store.now) (g.S.Store.read_faults c.args.store.now) (g.S.Store.read_faults c.read_loops.new.store) c.in-Err.status c.in-Err.ensures.ends c.args.turns
-
-pub returns-in-Err-clause-prints : goal.returns-in-Err-clause-prints
-returns-in-Err-clause-prints g c =
-    stop_prints c.args.words.now (g.S.Store.held c.args.store.now) (g.S.Store.read_faults c.args.store.now) (g.S.Store.read_faults c.read_loops.new.store) c.in-Err.status c.in-Err.ensures.ends c.args.turns
-    (g.O.Sink.got c.args.out.now)
+-- a file ends it
+pub returns-in-Err : goal.returns-in-Err
+returns-in-Err g c =
+    let words = c.args.words.now in
+    let held = g.S.Store.held c.args.store.now in
+    let before = g.S.Store.read_faults c.args.store.now in
+    let now = g.S.Store.read_faults c.read_loops.new.store in
+    let s = c.in-Err.status in
+    let ends = c.in-Err.ensures.ends in
+    record {
+      called = stop_called words held before now s ends c.args.turns;
+      prints = stop_prints words held before now s ends c.args.turns (g.O.Sink.got c.args.out.now);
+      quiet = λ caused done leaving. refl;
+      read_fault = stop_fault words held before now s ends;
+      write_fault = λ file is. absurd (no_write words held before now s ends file is);
+      held = c.read_loops.ensures.held;
+      reads = c.read_loops.ensures.reads;
+      writes = c.read_loops.ensures.writes;
+      no_fewer = le_refl (g.O.Sink.faults c.args.out.now);
+    }

@@ -1,16 +1,26 @@
 use Rattle.std.proofs.lemmas.Result.{IfErr-weaker}
 use Rattle.loop_command.specs.Files.{EndsLoops}
-use Rattle.loop_command.proofs.Refusals.{handed}
+use Rattle.loop_command.proofs.Refusals.{handed, unmet}
 use Rattle.loop_command.proofs.Opening.{ends_later, second_ends}
 use Rattle.loop_command.proofs.files.read_after_design.Goals as goal
 
-pub returns-in_err-controller-clause-ends : goal.returns-in_err-controller-clause-ends
-returns-in_err-controller-clause-ends g c =
+pub returns-in_err-controller : goal.returns-in_err-controller
+returns-in_err-controller g c =
     let held = g.S.Store.held c.args.store.now in
     let before = g.S.Store.read_faults c.args.store.now in
     let now = g.S.Store.read_faults c.read_controller_for.new.store in
-    handed c.from_residual.result (EndsLoops c.args.words.now held before now) c.in_err-controller.field-0.0 c.from_residual.ensures.1
-    (second_ends c.args.words.now held c.args.design c.requires.design before now c.in_err-controller.field-0.0 (rw c.at.ensures at c.in_err-controller.ensures.ends))
+    let r = c.from_residual.result in
+    let is = c.from_residual.ensures.1 in
+    let e = c.in_err-controller.field-0.0 in
+    record {
+      right = unmet r _ _ is;
+      width = unmet r _ _ is;
+      count = unmet r _ _ is;
+      ends = handed r (EndsLoops c.args.words.now held before now) e is (second_ends c.args.words.now held c.args.design c.requires.design before now e (rw c.at.ensures at c.in_err-controller.ensures.ends));
+      held = c.read_controller_for.ensures.held;
+      reads = c.read_controller_for.ensures.reads;
+      writes = c.read_controller_for.ensures.writes;
+    }
 
 pub returns-clause-ends : goal.returns-clause-ends
 returns-clause-ends g c =

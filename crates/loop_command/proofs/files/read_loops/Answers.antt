@@ -1,16 +1,26 @@
 use Rattle.std.proofs.lemmas.Result.{IfErr-weaker}
 use Rattle.loop_command.specs.Files.{EndsLoops}
-use Rattle.loop_command.proofs.Refusals.{handed}
+use Rattle.loop_command.proofs.Refusals.{handed, unmet}
 use Rattle.loop_command.proofs.Opening.{ends_later, first_ends}
 use Rattle.loop_command.proofs.files.read_loops.Goals as goal
 
-pub returns-in_err-design-clause-ends : goal.returns-in_err-design-clause-ends
-returns-in_err-design-clause-ends g c =
+pub returns-in_err-design : goal.returns-in_err-design
+returns-in_err-design g c =
     let held = g.S.Store.held c.args.store.now in
     let before = g.S.Store.read_faults c.args.store.now in
     let now = g.S.Store.read_faults c.read_design_file.new.store in
-    handed c.from_residual.result (EndsLoops c.args.words.now held before now) c.in_err-design.field-0.0 c.from_residual.ensures.1
-    (first_ends c.args.words.now held before now c.in_err-design.field-0.0 (rw c.at.ensures at c.in_err-design.ensures.ends))
+    let r = c.from_residual.result in
+    let is = c.from_residual.ensures.1 in
+    let e = c.in_err-design.field-0.0 in
+    record {
+      right = unmet r _ _ is;
+      width = unmet r _ _ is;
+      count = unmet r _ _ is;
+      ends = handed r (EndsLoops c.args.words.now held before now) e is (first_ends c.args.words.now held before now e (rw c.at.ensures at c.in_err-design.ensures.ends));
+      held = c.read_design_file.ensures.held;
+      reads = c.read_design_file.ensures.reads;
+      writes = c.read_design_file.ensures.writes;
+    }
 
 pub returns-clause-ends : goal.returns-clause-ends
 returns-clause-ends g c =
