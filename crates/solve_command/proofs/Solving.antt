@@ -46,6 +46,9 @@ module _ (words : List (List ℕ)) (held : Option Files) (before now : ℕ) (s :
       stopped words held got s (not_done 1 (ControllerWrong 1) ControllerRight held (word_of words 1) before now s (controller_refused 1) ends)
       (no_write 1 (ControllerWrong 1) ControllerRight held (word_of words 1) before now s (controller_refused 1) ends)
 
+  pub first_no_write : (file : ℕ) → s ≢ WriteFault file
+  first_no_write = no_write 1 (ControllerWrong 1) ControllerRight held (word_of words 1) before now s (controller_refused 1) ends
+
   reaches : (file : ℕ) → file ≡ 1 → ForContents words held (λ k. SolveReaches k.first file)
   reaches file is =
       for_contents words held (λ k. SolveReaches k.first file) (told_at held (word_of words 1)) (told_at held (word_of words 2)) (told_at held (word_of words 3))
@@ -72,6 +75,9 @@ module _ (words : List (List ℕ)) (held : Option Files) (c : Numbers) (first : 
   second_prints before now s ends got =
       stopped words held got s (not_done 2 (StatesWrong c.states 2) (StatesRight c.states) held (word_of words 2) before now s (states_refused c.states 2) ends)
       (no_write 2 (StatesWrong c.states 2) (StatesRight c.states) held (word_of words 2) before now s (states_refused c.states 2) ends)
+
+  pub second_no_write : (before now : ℕ) (s : Status) → EndsStates c.states 2 held (word_of words 2) before now s → (file : ℕ) → s ≢ WriteFault file
+  second_no_write before now s ends = no_write 2 (StatesWrong c.states 2) (StatesRight c.states) held (word_of words 2) before now s (states_refused c.states 2) ends
 
   pub second_fault : (before now : List ℕ → ℕ) (s : Status) → EndsStates c.states 2 held (word_of words 2) (before (word_of words 2)) (now (word_of words 2)) s →
       (file : ℕ) → s ≡ ReadFault file → ForContents words held (λ k. SolveReaches k.first file) × Rose (before (word_of words file)) (now (word_of words file))
@@ -113,6 +119,12 @@ module _ (words : List (List ℕ)) (held : Option Files) (c : Numbers) (first : 
     done_inside s (inr (inl cut)) is = cut.1
     done_inside s (inr (inr (inl out))) is = let told = out.is in absurd (let never : ⊥ = cc in never)
     done_inside s (inr (inr (inr all))) is = all.1
+
+    pub runs_no_read : (s : Status) → RunsEnd c m s → (file : ℕ) → s ≡ ReadFault file → ⊥
+    runs_no_read s (inl memory) file is = cc
+    runs_no_read s (inr (inl cut)) file is = let failed = cut.0 in cc
+    runs_no_read s (inr (inr (inl out))) file is = let told = out.is in cc
+    runs_no_read s (inr (inr (inr all))) file is = let done = all.0 in cc
 
     pub runs_fault : (s : Status) (R : Type 0) → RunsEnd c m s → (s ≡ WriteFault 0 → R) → (file : ℕ) → s ≡ WriteFault file →
         (file ≡ 0) × ForContents words held (λ k. SolveCalls k.first k.second Done) × R
