@@ -84,7 +84,12 @@ pub fn texts_for<S: Store>(alloc: Global, words: &Words, store: &mut S) -> Resul
 }
 
 // Both texts of this design, which the first file holds, and the policy in the second.
-fn texts_with<S: Store>(alloc: Global, design: &Design, words: &Words, store: &mut S) -> Result<Texts, Status>
+fn texts_with<S: Store>(
+    alloc: Global,
+    design: &Design,
+    words: &Words,
+    store: &mut S,
+) -> Result<Texts, Status>
     requires words { IsGenerate words.now }
     requires design { IsDesignRead 1 (S.held store.old) (word_of words.now 1) design.now }
     ensures texts { IfOk result (λ t. AreTextsFrom words.now (S.held store.old) t.controller.items t.report.items) }

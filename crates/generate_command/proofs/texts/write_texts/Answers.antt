@@ -1,4 +1,4 @@
-use Rattle.std.proofs.Common.{◌≡◌, inl, inr, Bool, true, false, List, ℕ, Option, Some, None, Result, Ok, Err, refl, sym, ◌∙◌}
+use Rattle.std.proofs.Common.{◌≡◌, inl, inr, true, false, ℕ, Option, Some, None, Result, Ok, Err, refl, sym, ◌∙◌}
 use Rattle.std.specs.Prelude.{IfSome, IsSomeAnd, is_err}
 use Rattle.std.specs.Result.{OnOk, OnErr}
 use Rattle.io_edge.specs.Faults.{Files, IsWritten, IsCutShort}

@@ -1,4 +1,4 @@
-use Rattle.std.proofs.Common.{◌⊎◌, inl, inr, ℕ, List, Option}
+use Rattle.std.proofs.Common.{inl, inr, ℕ, List, Option}
 use Rattle.io_edge.specs.Faults.{Files}
 use Rattle.qp_model.specs.Design.{Design}
 use Rattle.qp_model.specs.Parts.{design_of}
