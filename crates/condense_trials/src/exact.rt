@@ -3,14 +3,15 @@ use crate::refusal::wide;
 use condensed_form::Condensed;
 use mat_int::Mat;
 use plant_condense::condense_exact;
-use qp_model::Quantity;
+use qp_model::{Design, Quantity};
 use std::alloc::Global;
 use std::test::Fail;
 use worked_designs::{DESIGN, changed_design, design, has_rows};
 
-// The numbers of a form.
+// A design's text, and the numbers of its form.
 #[derive(Drop)]
 struct Form<'a> {
+    text: &'a str,
     hess: &'a [&'a [i128]],
     lin: &'a [&'a [i128]],
     off: &'a [i128],
@@ -25,21 +26,6 @@ struct Form<'a> {
     rows_size: i128,
 }
 
-const BASE_FORM: Form<'static> = Form {
-    hess: &[&[4]],
-    lin: &[&[2]],
-    off: &[0],
-    hess_den: 1,
-    g: &[&[4], &[-4], &[4]],
-    e: &[&[0], &[0], &[4]],
-    bound: &[4, 4, 1],
-    row_den: 4,
-    floor: 8,
-    power: 1,
-    hess_size: 72,
-    rows_size: 2304,
-};
-
 // Two of each, with rows of each kind.
 const TWO: &str = "version = 1
 states = 2
@@ -51,32 +37,6 @@ limits = { den = 6, stage = [[1, 0, 2, 0, 9], [0, -3, 0, 1, 8]], final = [[5, -1
 box = { grid = 0, lo = [0, 0], hi = [1, 1] }
 targets = { den = 1, violation = 16, gap = 16 }
 ";
-
-const TWO_FORM: Form<'static> = Form {
-    hess: &[
-        &[6122, -916, 1980, -360],
-        &[-916, 5816, -1584, 1584],
-        &[1980, -1584, 7308, -792],
-        &[-360, 1584, -792, 3744],
-    ],
-    lin: &[&[294, 2208], &[2076, -6216], &[0, 3564], &[1080, -3024]],
-    off: &[-504, -4068, -54, -1836],
-    hess_den: 1620,
-    g: &[
-        &[18, 0, 0, 0],
-        &[0, 9, 0, 0],
-        &[9, 0, 18, 0],
-        &[-9, 18, 0, 9],
-        &[34, -2, 42, 6],
-    ],
-    e: &[&[9, 0], &[0, -27], &[6, 3], &[9, -36], &[21, 15]],
-    bound: &[81, 72, 81, 72, 99],
-    row_den: 54,
-    floor: 15552,
-    power: 9,
-    hess_size: 363331584,
-    rows_size: 41431040,
-};
 
 // Cost rows at the end alone, and a bound below 0.
 const FINAL: &str = "version = 1
@@ -90,31 +50,6 @@ box = { grid = 0, lo = [0, 0], hi = [1, 1] }
 targets = { den = 1, violation = 16, gap = 16 }
 ";
 
-const FINAL_FORM: Form<'static> = Form {
-    hess: &[
-        &[75216, -2256, 3264, -1920],
-        &[-2256, 44880, -5312, 3456],
-        &[3264, -5312, 81152, -4608],
-        &[-1920, 3456, -4608, 44032],
-    ],
-    lin: &[&[-8280, -24], &[14552, 536], &[-19616, -416], &[12864, 576]],
-    off: &[5760, -7552, 11776, -6144],
-    hess_den: 12288,
-    g: &[
-        &[16, 16, 0, 0],
-        &[-8, 16, 16, 16],
-        &[8, -10, 16, -8],
-        &[-2, -3, 0, -4],
-    ],
-    e: &[&[48, -16], &[60, 4], &[-36, 2], &[-13, -6]],
-    bound: &[112, 112, 96, -48],
-    row_den: 32,
-    floor: 81920,
-    power: 16,
-    hess_size: 706019328,
-    rows_size: 19382272,
-};
-
 // Denominators at their greatest: the floor would be 2^127.
 const STEEP: &str = "version = 1
 states = 1
@@ -126,21 +61,6 @@ limits = { den = 1048576, stage = [[1, 2, 3]], final = [] }
 box = { grid = 0, lo = [0], hi = [1] }
 targets = { den = 1, violation = 16, gap = 16 }
 ";
-
-const STEEP_FORM: Form<'static> = Form {
-    hess: &[&[162259276829213363391578010288178]],
-    lin: &[&[-30]],
-    off: &[20971520],
-    hess_den: 8462480737302404222943232,
-    g: &[&[2097152]],
-    e: &[&[1048576]],
-    bound: &[3145728],
-    row_den: 1099511627776,
-    floor: 85070591730234615865843651857942052864,
-    power: 1048576,
-    hess_size: 486777888516079431676934416760832,
-    rows_size: 3626777458843887524118528,
-};
 
 fn has_cost(found: &Condensed, want: &Form) -> bool {
     has_rows(&found.hess, want.hess)
@@ -193,39 +113,108 @@ fn has_numbers(found: &Condensed, want: &Form) -> bool {
         && found.power == want.power
 }
 
-// The condensed form of a design.
-fn condensed(alloc: Global, text: &str) -> Result<Condensed, Fail> {
-    let design = design(alloc, text)?;
-    Ok(condense_exact(alloc, &design)?)
-}
-
-// Whether a design is condensed to these numbers.
-fn is_form(alloc: Global, text: &str, want: &Form) -> Result<bool, Fail> {
-    let found = condensed(alloc, text)?;
+// Whether a design has a form of these numbers.
+fn has_form(alloc: Global, design: &Design, want: &Form) -> Result<bool, Fail> {
+    let found = condense_exact(alloc, design)?;
     Ok(has_numbers(&found, want))
 }
 
-#[test]
-fn base_form(rt: HostRuntime) -> Result<(), Fail> {
-    assert!(rt; is_form(rt.alloc(), DESIGN, &BASE_FORM)?);
-    Ok(())
+// Whether a form's text is condensed to its numbers.
+fn is_form(alloc: Global, want: &Form) -> Result<bool, Fail> {
+    let design = design(alloc, want.text)?;
+    has_form(alloc, &design, want)
 }
 
-#[test]
-fn form_of_two(rt: HostRuntime) -> Result<(), Fail> {
-    assert!(rt; is_form(rt.alloc(), TWO, &TWO_FORM)?);
-    Ok(())
-}
+static FORMS: [Form<'static>; 4] = [
+    Form {
+        text: DESIGN,
+        hess: &[&[4]],
+        lin: &[&[2]],
+        off: &[0],
+        hess_den: 1,
+        g: &[&[4], &[-4], &[4]],
+        e: &[&[0], &[0], &[4]],
+        bound: &[4, 4, 1],
+        row_den: 4,
+        floor: 8,
+        power: 1,
+        hess_size: 72,
+        rows_size: 2304,
+    },
+    Form {
+        text: TWO,
+        hess: &[
+            &[6122, -916, 1980, -360],
+            &[-916, 5816, -1584, 1584],
+            &[1980, -1584, 7308, -792],
+            &[-360, 1584, -792, 3744],
+        ],
+        lin: &[&[294, 2208], &[2076, -6216], &[0, 3564], &[1080, -3024]],
+        off: &[-504, -4068, -54, -1836],
+        hess_den: 1620,
+        g: &[
+            &[18, 0, 0, 0],
+            &[0, 9, 0, 0],
+            &[9, 0, 18, 0],
+            &[-9, 18, 0, 9],
+            &[34, -2, 42, 6],
+        ],
+        e: &[&[9, 0], &[0, -27], &[6, 3], &[9, -36], &[21, 15]],
+        bound: &[81, 72, 81, 72, 99],
+        row_den: 54,
+        floor: 15552,
+        power: 9,
+        hess_size: 363331584,
+        rows_size: 41431040,
+    },
+    Form {
+        text: FINAL,
+        hess: &[
+            &[75216, -2256, 3264, -1920],
+            &[-2256, 44880, -5312, 3456],
+            &[3264, -5312, 81152, -4608],
+            &[-1920, 3456, -4608, 44032],
+        ],
+        lin: &[&[-8280, -24], &[14552, 536], &[-19616, -416], &[12864, 576]],
+        off: &[5760, -7552, 11776, -6144],
+        hess_den: 12288,
+        g: &[
+            &[16, 16, 0, 0],
+            &[-8, 16, 16, 16],
+            &[8, -10, 16, -8],
+            &[-2, -3, 0, -4],
+        ],
+        e: &[&[48, -16], &[60, 4], &[-36, 2], &[-13, -6]],
+        bound: &[112, 112, 96, -48],
+        row_den: 32,
+        floor: 81920,
+        power: 16,
+        hess_size: 706019328,
+        rows_size: 19382272,
+    },
+    // the greatest denominators
+    Form {
+        text: STEEP,
+        hess: &[&[162259276829213363391578010288178]],
+        lin: &[&[-30]],
+        off: &[20971520],
+        hess_den: 8462480737302404222943232,
+        g: &[&[2097152]],
+        e: &[&[1048576]],
+        bound: &[3145728],
+        row_den: 1099511627776,
+        floor: 85070591730234615865843651857942052864,
+        power: 1048576,
+        hess_size: 486777888516079431676934416760832,
+        rows_size: 3626777458843887524118528,
+    },
+];
 
 #[test]
-fn form_with_costs_at_the_end(rt: HostRuntime) -> Result<(), Fail> {
-    assert!(rt; is_form(rt.alloc(), FINAL, &FINAL_FORM)?);
-    Ok(())
-}
-
-#[test]
-fn form_with_the_greatest_denominators(rt: HostRuntime) -> Result<(), Fail> {
-    assert!(rt; is_form(rt.alloc(), STEEP, &STEEP_FORM)?);
+fn forms(rt: HostRuntime) -> Result<(), Fail> {
+    for want in &FORMS {
+        assert!(rt; is_form(rt.alloc(), want)?);
+    }
     Ok(())
 }
 
@@ -264,44 +253,33 @@ box = { grid = 0, lo = [0], hi = [1] }
 targets = { den = 1, violation = 16, gap = 16 }
 ";
 
-// The quantity by which a design is too wide, if any, with one part of its text in another's place.
+// The quantity by which a design is too wide, if any; an error where memory ran out, so that it is taken for no answer.
+fn wide_of(alloc: Global, design: &Design) -> Result<Option<Quantity>, Fail> {
+    Ok(wide(condense_exact(alloc, design))?)
+}
+
+// The same of a text, with one part of it in another's place.
 fn wide_with(alloc: Global, text: &str, old: &str, new: &str) -> Result<Option<Quantity>, Fail> {
     let design = changed_design(alloc, text, old, new)?;
-    Ok(wide(condense_exact(alloc, &design))?)
+    wide_of(alloc, &design)
 }
 
-#[test]
-fn prediction_within(rt: HostRuntime) -> Result<(), Fail> {
-    assert!(rt; wide_with(rt.alloc(), DEEP, "2097151", "2097151")? == Some(Quantity::Hessian));
-    Ok(())
-}
+static WIDTHS: [(&str, &str, &str, Option<Quantity>); 6] = [
+    // within the prediction's limit
+    (DEEP, "2097151", "2097151", Some(Quantity::Hessian)),
+    (DEEP, "2097151", "2097152", Some(Quantity::Prediction)),
+    // within the hessian's
+    (WIDE, "2097151", "2097151", None),
+    (WIDE, "2097151", "2097152", Some(Quantity::Hessian)),
+    // within the rows'
+    (LONG, "1, 0, 1]]", "1, 0, 1]]", None),
+    (LONG, "1, 0, 1]]", "1, 0, 2]]", Some(Quantity::Rows)),
+];
 
 #[test]
-fn wide_prediction(rt: HostRuntime) -> Result<(), Fail> {
-    assert!(rt; wide_with(rt.alloc(), DEEP, "2097151", "2097152")? == Some(Quantity::Prediction));
-    Ok(())
-}
-
-#[test]
-fn hessian_within(rt: HostRuntime) -> Result<(), Fail> {
-    assert!(rt; wide_with(rt.alloc(), WIDE, "2097151", "2097151")?.is_none());
-    Ok(())
-}
-
-#[test]
-fn wide_hessian(rt: HostRuntime) -> Result<(), Fail> {
-    assert!(rt; wide_with(rt.alloc(), WIDE, "2097151", "2097152")? == Some(Quantity::Hessian));
-    Ok(())
-}
-
-#[test]
-fn rows_within(rt: HostRuntime) -> Result<(), Fail> {
-    assert!(rt; wide_with(rt.alloc(), LONG, "1, 0, 1]]", "1, 0, 1]]")?.is_none());
-    Ok(())
-}
-
-#[test]
-fn wide_rows(rt: HostRuntime) -> Result<(), Fail> {
-    assert!(rt; wide_with(rt.alloc(), LONG, "1, 0, 1]]", "1, 0, 2]]")? == Some(Quantity::Rows));
+fn widths(rt: HostRuntime) -> Result<(), Fail> {
+    for &(text, old, new, quantity) in &WIDTHS {
+        assert!(rt; wide_with(rt.alloc(), text, old, new)? == quantity);
+    }
     Ok(())
 }

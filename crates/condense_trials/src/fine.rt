@@ -2,7 +2,7 @@
 use crate::refusal::wide;
 use condensed_form::Condensed;
 use fine_condense::condense_fine;
-use qp_model::Quantity;
+use qp_model::{Design, Quantity};
 use std::alloc::Global;
 use std::test::Fail;
 use worked_designs::{changed_design, design, has_rows};
@@ -30,12 +30,6 @@ limits = { den = 4, stage = [[1, 2, -3, 8, 5]], final = [[7, 0, 2]] }
 box = { grid = 0, lo = [0, 0], hi = [1, 1] }
 targets = { den = 1, violation = 16, gap = 16 }
 ";
-
-// The condensed form of a design.
-fn condensed(alloc: Global, text: &str) -> Result<Condensed, Fail> {
-    let design = design(alloc, text)?;
-    Ok(condense_fine(alloc, &design)?)
-}
 
 // Whether the condensed cost of `THIRD` is the one that it has.
 fn is_third_cost(found: &Condensed) -> bool {
@@ -109,54 +103,70 @@ fn is_crossed(found: &Condensed) -> bool {
         && found.floor == 439804651077688
 }
 
+// Whether the form of a design is that of `THIRD`.
+fn has_third(alloc: Global, design: &Design) -> Result<bool, Fail> {
+    let found = condense_fine(alloc, design)?;
+    Ok(is_third(&found))
+}
+
+// Whether it is that of `CROSSED`.
+fn has_crossed(alloc: Global, design: &Design) -> Result<bool, Fail> {
+    let found = condense_fine(alloc, design)?;
+    Ok(is_crossed(&found))
+}
+
+fn is_third_form(alloc: Global) -> Result<bool, Fail> {
+    let design = design(alloc, THIRD)?;
+    has_third(alloc, &design)
+}
+
+fn is_crossed_form(alloc: Global) -> Result<bool, Fail> {
+    let design = design(alloc, CROSSED)?;
+    has_crossed(alloc, &design)
+}
+
 #[test]
 fn third(rt: HostRuntime) -> Result<(), Fail> {
-    assert!(rt; is_third(&condensed(rt.alloc(), THIRD)?));
+    assert!(rt; is_third_form(rt.alloc())?);
     Ok(())
 }
 
 #[test]
 fn crossed(rt: HostRuntime) -> Result<(), Fail> {
-    assert!(rt; is_crossed(&condensed(rt.alloc(), CROSSED)?));
+    assert!(rt; is_crossed_form(rt.alloc())?);
     Ok(())
 }
 
-// The quantity by which `THIRD` is too wide, if any, with one part of its text in another's place.
+// The quantity by which a design is too wide, if any; an error where memory ran out, so that it is taken for no answer.
+fn wide_of(alloc: Global, design: &Design) -> Result<Option<Quantity>, Fail> {
+    Ok(wide(condense_fine(alloc, design))?)
+}
+
+// The same of `THIRD`, with one part of its text in another's place.
 fn wide_with(alloc: Global, old: &str, new: &str) -> Result<Option<Quantity>, Fail> {
     let design = changed_design(alloc, THIRD, old, new)?;
-    Ok(wide(condense_fine(alloc, &design))?)
+    wide_of(alloc, &design)
 }
 
-#[test]
-fn wide_prediction(rt: HostRuntime) -> Result<(), Fail> {
-    assert!(rt;
-        wide_with(
-            rt.alloc(),
-            "den = 3, a = [[2]]",
-            "den = 1, a = [[2147483647]]"
-        )? == Some(Quantity::Prediction)
-    );
-    Ok(())
-}
+static WIDTHS: [(&str, &str, Option<Quantity>); 4] = [
+    (
+        "den = 3, a = [[2]]",
+        "den = 1, a = [[2147483647]]",
+        Some(Quantity::Prediction),
+    ),
+    (
+        "[[4, 7, 6]]",
+        "[[2147483647, 0, 1]]",
+        Some(Quantity::Hessian),
+    ),
+    ("[[1, -3, 5]]", "[[2147483647, 0, 1]]", Some(Quantity::Rows)),
+    ("[[2]]", "[[2]]", None),
+];
 
 #[test]
-fn wide_hessian(rt: HostRuntime) -> Result<(), Fail> {
-    assert!(rt;
-        wide_with(rt.alloc(), "[[4, 7, 6]]", "[[2147483647, 0, 1]]")? == Some(Quantity::Hessian)
-    );
-    Ok(())
-}
-
-#[test]
-fn wide_rows(rt: HostRuntime) -> Result<(), Fail> {
-    assert!(rt;
-        wide_with(rt.alloc(), "[[1, -3, 5]]", "[[2147483647, 0, 1]]")? == Some(Quantity::Rows)
-    );
-    Ok(())
-}
-
-#[test]
-fn within(rt: HostRuntime) -> Result<(), Fail> {
-    assert!(rt; wide_with(rt.alloc(), "[[2]]", "[[2]]")?.is_none());
+fn widths(rt: HostRuntime) -> Result<(), Fail> {
+    for &(old, new, quantity) in &WIDTHS {
+        assert!(rt; wide_with(rt.alloc(), old, new)? == quantity);
+    }
     Ok(())
 }
