@@ -91,14 +91,15 @@ fn is_answer(found: &Condensed, want: &Answer) -> bool {
         && found.hess_den == want.den
 }
 
-fn condensed(alloc: Global, written: Written) -> Result<Condensed, Fail> {
-    let design = design_of(alloc, written)?;
-    Ok(condense(alloc, &design)?)
+// Whether a design's condensed form is so.
+fn has_answer(alloc: Global, design: &Design, want: &Answer) -> Result<bool, Fail> {
+    let found = condense(alloc, design)?;
+    Ok(is_answer(&found, want))
 }
 
 fn is_condensed(alloc: Global, written: Written, want: &Answer) -> Result<bool, Fail> {
-    let found = condensed(alloc, written)?;
-    Ok(is_answer(&found, want))
+    let design = design_of(alloc, written)?;
+    has_answer(alloc, &design, want)
 }
 
 // Whether this is no form, but too wide by this quantity; an error where memory ran out, so that it is taken for no answer.
@@ -113,88 +114,80 @@ fn is_too_wide(
     }
 }
 
+fn has_width(alloc: Global, design: &Design, quantity: Quantity) -> Result<bool, Fail> {
+    Ok(is_too_wide(condense(alloc, design), quantity)?)
+}
+
 fn is_wide(alloc: Global, written: Written, quantity: Quantity) -> Result<bool, Fail> {
     let design = design_of(alloc, written)?;
-    Ok(is_too_wide(condense(alloc, &design), quantity)?)
+    has_width(alloc, &design, quantity)
 }
 
+static ANSWERS: [(Written, Answer); 6] = [
+    (
+        BASE,
+        Answer {
+            fine: false,
+            first: 4,
+            den: 1,
+        },
+    ),
+    (TWO, TWO_FINE),
+    // The quantity `curvature` of the exact numbers, just within its limit.
+    (
+        Written {
+            limit_den: 78156,
+            ..TWO
+        },
+        Answer {
+            fine: false,
+            first: 7253554917687775048237056,
+            den: 1208925819614629174706176,
+        },
+    ),
+    // And just above it.
+    (
+        Written {
+            limit_den: 78160,
+            ..TWO
+        },
+        TWO_FINE,
+    ),
+    // `hessian`, and not `prediction`, is above the limit.
+    (
+        Written {
+            stages: 3,
+            den: LONG,
+            limit_den: 4,
+        },
+        Answer {
+            first: 8796093022208,
+            ..TWO_FINE
+        },
+    ),
+    // `prediction` is.
+    (
+        Written {
+            stages: 7,
+            den: LONG,
+            limit_den: 4,
+        },
+        Answer {
+            first: 17592186044416,
+            ..TWO_FINE
+        },
+    ),
+];
+
 #[test]
-fn base_is_exact(rt: HostRuntime) -> Result<(), Fail> {
-    let want = Answer {
-        fine: false,
-        first: 4,
-        den: 1,
-    };
-    assert!(rt; is_condensed(rt.alloc(), BASE, &want)?);
+fn classes(rt: HostRuntime) -> Result<(), Fail> {
+    for (written, want) in &ANSWERS {
+        assert!(rt; is_condensed(rt.alloc(), *written, want)?);
+    }
     Ok(())
 }
 
-#[test]
-fn long_denominator_is_fine(rt: HostRuntime) -> Result<(), Fail> {
-    assert!(rt; is_condensed(rt.alloc(), TWO, &TWO_FINE)?);
-    Ok(())
-}
-
-// The quantity `curvature` of the exact numbers, just within its limit.
-#[test]
-fn curvature_within(rt: HostRuntime) -> Result<(), Fail> {
-    let within = Written {
-        limit_den: 78156,
-        ..TWO
-    };
-    let want = Answer {
-        fine: false,
-        first: 7253554917687775048237056,
-        den: 1208925819614629174706176,
-    };
-    assert!(rt; is_condensed(rt.alloc(), within, &want)?);
-    Ok(())
-}
-
-// And just above it.
-#[test]
-fn curvature_above(rt: HostRuntime) -> Result<(), Fail> {
-    let above = Written {
-        limit_den: 78160,
-        ..TWO
-    };
-    assert!(rt; is_condensed(rt.alloc(), above, &TWO_FINE)?);
-    Ok(())
-}
-
-// `hessian`, and not `prediction`, is above the limit.
-#[test]
-fn hessian_above(rt: HostRuntime) -> Result<(), Fail> {
-    let three = Written {
-        stages: 3,
-        den: LONG,
-        limit_den: 4,
-    };
-    let want = Answer {
-        first: 8796093022208,
-        ..TWO_FINE
-    };
-    assert!(rt; is_condensed(rt.alloc(), three, &want)?);
-    Ok(())
-}
-
-// `prediction` is.
-#[test]
-fn prediction_above(rt: HostRuntime) -> Result<(), Fail> {
-    let seven = Written {
-        stages: 7,
-        den: LONG,
-        limit_den: 4,
-    };
-    let want = Answer {
-        first: 17592186044416,
-        ..TWO_FINE
-    };
-    assert!(rt; is_condensed(rt.alloc(), seven, &want)?);
-    Ok(())
-}
-
-// So is a quantity of the enclosures.
+// Where a quantity of the enclosures is above the limit too.
 #[test]
 fn wide_rows(rt: HostRuntime) -> Result<(), Fail> {
     let wide_limits = Written {

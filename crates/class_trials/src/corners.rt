@@ -1,9 +1,11 @@
-ghost use Rattle.std.specs.Prelude.{◌<◌, ◌^◌, pos, ◌≤ℤ◌, length};
+ghost use Rattle.std.specs.Prelude.{pos, ◌≤ℤ◌};
+ghost use Rattle.qp_model.specs.Parts.{design_of};
+ghost use Rattle.qp_model.specs.Policy.{plans_of, IsPolicyFor};
 
 use class_choice::margins;
 use frac_scaled::Frac;
 use policy_file::read_policy;
-use qp_model::{Margin, Quantity};
+use qp_model::{Design, Margin, Policy, Quantity};
 use slater_margin::MarginFault;
 use std::alloc::{AllocError, Global};
 use std::test::Fail;
@@ -103,26 +105,72 @@ const GROWING_PLANS: &[u8] = b"1,0,0,0,0,0,0,0,0,0,0,0,0,0,0,0,0,0,0,0,0
 1,0,0,0,0,0,0,0,0,0,0,0,0,0,0,0,0,0,0,0,0
 ";
 
-// Whether this is the margin of a design with these plans, or why there is none.
-fn is_margin(
+// Whether this is the margin of a design with a policy, or why there is none; an error where memory ran out, so that it is taken for no answer.
+fn is_margin_of(
     alloc: Global,
-    text: &str,
-    plans: &[u8],
+    design: &Design,
+    policy: &Policy,
     want: &Result<Margin, MarginFault>,
 ) -> Result<bool, Fail>
-    requires { length plans.now < 2 ^ 32 }
+    requires { IsPolicyFor (design_of design.now) (plans_of policy.now) }
 {
-    let design = design(alloc, text)?;
-    let policy = read_policy(alloc, plans, &design)?;
-    match margins(alloc, &design, &policy) {
+    match margins(alloc, design, policy) {
         Err(MarginFault::Memory) => Err(AllocError.into()),
         found => Ok(found == *want),
     }
 }
 
-// The margin of these numbers.
-fn margin(units: i128, cost: i128) -> Result<Margin, MarginFault> {
-    Ok(Margin { units, cost })
+// The same of these plans. No plans of the trials are longer than 1000 bytes.
+fn is_margin_with(
+    alloc: Global,
+    design: &Design,
+    plans: &[u8],
+    want: &Result<Margin, MarginFault>,
+) -> Result<bool, Fail> {
+    if plans.len() > 1000 {
+        return Ok(false);
+    }
+    let policy = read_policy(alloc, plans, design)?;
+    is_margin_of(alloc, design, &policy, want)
+}
+
+// The same of a design's text.
+fn is_margin(
+    alloc: Global,
+    text: &str,
+    plans: &[u8],
+    want: &Result<Margin, MarginFault>,
+) -> Result<bool, Fail> {
+    let design = design(alloc, text)?;
+    is_margin_with(alloc, &design, plans, want)
+}
+
+// A design, its plans, and the units and the cost of its margin.
+static MARGINS: [(&str, &[u8], i128, i128); 8] = [
+    (DESIGN, PLANS, 8192, 1),
+    // the least margin
+    (DESIGN, b"1,0\n65536,-65535\n", 1, 1),
+    (RESTING, b"1,0\n1,0\n", 16384, 0),
+    (WIDER, PLANS, 8192, 1),
+    (SATELLITE, RESTING_PLANS, 65536, 159),
+    // The corners of these are run in enclosures.
+    (
+        FINER,
+        b"1099511627776,0\n1099511627776,-962072674304\n",
+        8192,
+        1,
+    ),
+    // The true slack is a little over 4096 units, and the radius of the plan's entry takes it below.
+    (FINER, b"1,0\n1099511627775,-1030792151039\n", 4095, 1),
+    (LONGER, LONGER_PLANS, 65536, 487),
+];
+
+#[test]
+fn corners(rt: HostRuntime) -> Result<(), Fail> {
+    for &(text, plans, units, cost) in &MARGINS {
+        assert!(rt; is_margin(rt.alloc(), text, plans, &Ok(Margin { units, cost }))?);
+    }
+    Ok(())
 }
 
 // The fault of a policy whose slack is `num / den` in this row of this corner.
@@ -134,18 +182,6 @@ fn no_margin(corner: u32, row: u32, num: i128, den: i128) -> Result<Margin, Marg
         row,
         slack: Frac { num, den },
     })
-}
-
-#[test]
-fn first(rt: HostRuntime) -> Result<(), Fail> {
-    assert!(rt; is_margin(rt.alloc(), DESIGN, PLANS, &margin(8192, 1))?);
-    Ok(())
-}
-
-#[test]
-fn least(rt: HostRuntime) -> Result<(), Fail> {
-    assert!(rt; is_margin(rt.alloc(), DESIGN, b"1,0\n65536,-65535\n", &margin(1, 1))?);
-    Ok(())
 }
 
 #[test]
@@ -162,54 +198,8 @@ fn below_the_least(rt: HostRuntime) -> Result<(), Fail> {
 }
 
 #[test]
-fn resting(rt: HostRuntime) -> Result<(), Fail> {
-    assert!(rt; is_margin(rt.alloc(), RESTING, b"1,0\n1,0\n", &margin(16384, 0))?);
-    Ok(())
-}
-
-#[test]
 fn tight(rt: HostRuntime) -> Result<(), Fail> {
     assert!(rt; is_margin(rt.alloc(), TIGHT, PLANS, &no_margin(2, 3, 0, 32))?);
-    Ok(())
-}
-
-#[test]
-fn wider(rt: HostRuntime) -> Result<(), Fail> {
-    assert!(rt; is_margin(rt.alloc(), WIDER, PLANS, &margin(8192, 1))?);
-    Ok(())
-}
-
-#[test]
-fn satellite(rt: HostRuntime) -> Result<(), Fail> {
-    assert!(rt; is_margin(rt.alloc(), SATELLITE, RESTING_PLANS, &margin(65536, 159))?);
-    Ok(())
-}
-
-// The corners of these are run in enclosures.
-#[test]
-fn finer(rt: HostRuntime) -> Result<(), Fail> {
-    assert!(rt;
-        is_margin(
-            rt.alloc(),
-            FINER,
-            b"1099511627776,0\n1099511627776,-962072674304\n",
-            &margin(8192, 1)
-        )?
-    );
-    Ok(())
-}
-
-// The true slack is a little over 4096 units, and the radius of the plan's entry takes it below.
-#[test]
-fn rounded(rt: HostRuntime) -> Result<(), Fail> {
-    assert!(rt;
-        is_margin(
-            rt.alloc(),
-            FINER,
-            b"1,0\n1099511627775,-1030792151039\n",
-            &margin(4095, 1)
-        )?
-    );
     Ok(())
 }
 
@@ -223,12 +213,6 @@ fn finer_below_the_least(rt: HostRuntime) -> Result<(), Fail> {
             &no_margin(2, 2, 33554432, 4398046511104)
         )?
     );
-    Ok(())
-}
-
-#[test]
-fn longer(rt: HostRuntime) -> Result<(), Fail> {
-    assert!(rt; is_margin(rt.alloc(), LONGER, LONGER_PLANS, &margin(65536, 487))?);
     Ok(())
 }
 
