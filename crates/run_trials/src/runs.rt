@@ -51,6 +51,20 @@ pub fn answer_of(
     }
 }
 
+// Whether a run ends with this line of its answer, and has then printed this.
+fn leaves(
+    alloc: Global,
+    arguments: &str,
+    store: &mut MemStore,
+    out: &mut MemSink,
+    line: &str,
+    printed: &str,
+) -> Result<bool, AllocError> {
+    let status = answer_of(alloc, arguments, store, out)?;
+    let told = status_line(alloc, &status)?;
+    Ok(told.as_slice() == line.as_bytes() && out.seen() == printed.as_bytes())
+}
+
 /// Whether a run over a store, in which a call fails, ends with this line of its answer, and has then printed this.
 pub fn ends_with(
     alloc: Global,
@@ -63,9 +77,20 @@ pub fn ends_with(
     store.fail_read(fails.read)?;
     store.fail_write(fails.write, fails.keep)?;
     let mut out = MemSink::with(alloc, ROOM, &[fails.put])?;
-    let status = answer_of(alloc, arguments, store, &mut out)?;
+    leaves(alloc, arguments, store, &mut out, line, printed)
+}
+
+// Whether a run tells this.
+fn is_told(
+    alloc: Global,
+    arguments: &str,
+    store: &mut MemStore,
+    out: &mut MemSink,
+    text: &str,
+) -> Result<bool, AllocError> {
+    let status = answer_of(alloc, arguments, store, out)?;
     let told = status_line(alloc, &status)?;
-    Ok(told.as_slice() == line.as_bytes() && out.seen() == printed.as_bytes())
+    Ok(text.as_bytes().strip_prefix(told.as_slice()) == Some(out.seen()))
 }
 
 /// Whether a run tells this: the line of its answer, where it is refused, and then what it prints.
@@ -76,10 +101,7 @@ pub fn tells(
     text: &str,
 ) -> Result<bool, AllocError> {
     let mut out = MemSink::with(alloc, ROOM, &[])?;
-    let status = answer_of(alloc, arguments, store, &mut out)?;
-    let mut told = status_line(alloc, &status)?;
-    told.extend_from_slice(out.seen())?;
-    Ok(told.as_slice() == text.as_bytes())
+    is_told(alloc, arguments, store, &mut out, text)
 }
 
 /// Whether `generate` makes the two texts of the first worked design.

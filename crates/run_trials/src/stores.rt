@@ -8,6 +8,23 @@ use worked_designs::{CONTROLLER, DESIGN, POLICY, STATES};
 /// The bytes that are read, written or printed in one run at most, with room for any text of the trials.
 pub const ROOM: usize = 65536;
 
+// Puts the four texts into a store, and the room for what is made.
+fn fill(
+    store: &mut MemStore,
+    design: &str,
+    policy: &str,
+    controller: &str,
+    states: &str,
+) -> Result<(), AllocError> {
+    store.hold("d", design.as_bytes())?;
+    store.hold("p", policy.as_bytes())?;
+    store.hold("c", controller.as_bytes())?;
+    store.hold("s", states.as_bytes())?;
+    store.reserve("out", ROOM)?;
+    store.reserve("r", ROOM)?;
+    store.reserve("r.json", ROOM)
+}
+
 /// A store with a design, a policy, a controller and states, and with room for a controller `out` and a report `r`, or `r.json`.
 pub fn store_of(
     alloc: Global,
@@ -17,13 +34,7 @@ pub fn store_of(
     states: &str,
 ) -> Result<MemStore, AllocError> {
     let mut store = MemStore::empty(alloc);
-    store.hold("d", design.as_bytes())?;
-    store.hold("p", policy.as_bytes())?;
-    store.hold("c", controller.as_bytes())?;
-    store.hold("s", states.as_bytes())?;
-    store.reserve("out", ROOM)?;
-    store.reserve("r", ROOM)?;
-    store.reserve("r.json", ROOM)?;
+    fill(&mut store, design, policy, controller, states)?;
     Ok(store)
 }
 
