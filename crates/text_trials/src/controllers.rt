@@ -131,7 +131,7 @@ fn numbers(rt: HostRuntime) -> Result<(), Fail> {
 }
 
 // Whether this is written as the text of a controller.
-fn is_written(alloc: Global, controller: &Controller, text: &str) -> Result<bool, AllocError> {
+fn is_written(alloc: Global, controller: &Controller, text: &str) -> Result<bool, BadController> {
     let written = write_controller(alloc, controller)?;
     Ok(written.as_slice() == text.as_bytes())
 }
@@ -139,18 +139,16 @@ fn is_written(alloc: Global, controller: &Controller, text: &str) -> Result<bool
 // Whether the text of a controller is written as it was read.
 fn is_written_back(alloc: Global, text: &str) -> Result<bool, BadController> {
     let controller = read_controller(alloc, text.as_bytes())?;
-    Ok(is_written(alloc, &controller, text)?)
+    is_written(alloc, &controller, text)
 }
 
-#[test]
-fn first_written_back(rt: HostRuntime) -> Result<(), Fail> {
-    assert!(rt; is_written_back(rt.alloc(), CONTROLLER)?);
-    Ok(())
-}
+static TEXTS: [&str; 2] = [CONTROLLER, CONTROLLER_OF_TWO];
 
 #[test]
-fn second_written_back(rt: HostRuntime) -> Result<(), Fail> {
-    assert!(rt; is_written_back(rt.alloc(), CONTROLLER_OF_TWO)?);
+fn written_back(rt: HostRuntime) -> Result<(), Fail> {
+    for text in &TEXTS {
+        assert!(rt; is_written_back(rt.alloc(), text)?);
+    }
     Ok(())
 }
 
@@ -174,34 +172,22 @@ fn refusal_with(
     refusal_of(alloc, changed.as_bytes())
 }
 
-// The first change of a text that has another answer.
-fn first_other(
-    alloc: Global,
-    text: &str,
-    cases: &[(&'static str, &'static str, Option<BadController>)],
-) -> Result<Option<&'static str>, AllocError> {
-    for (old, new, answer) in cases {
-        if refusal_with(alloc, text, old, new)? != *answer {
-            return Ok(Some(new));
-        }
-    }
-    Ok(None)
-}
-
 #[test]
 fn changed(rt: HostRuntime) -> Result<(), Fail> {
-    assert_eq!(rt; first_other(rt.alloc(), CONTROLLER, &CHANGES)?, None);
+    for (old, new, answer) in &CHANGES {
+        assert!(rt; refusal_with(rt.alloc(), CONTROLLER, old, new)? == *answer);
+    }
     Ok(())
 }
 
 // The first text in version 2, with exponents that are not all the greatest.
 fn second_version(alloc: Global) -> Result<String, AllocError> {
     let text = CONTROLLER.replace(alloc, "mpc-controller 1", "mpc-controller 2")?;
-    Ok(text.replace(alloc, "words 6\n", "words 6\nexps 0 1 1\n")?)
+    text.replace(alloc, "words 6\n", "words 6\nexps 0 1 1\n")
 }
 
 // What stands in place of a part of it, and why it is refused then.
-static SECOND_CHANGES: [(&str, &str, Option<BadController>); 15] = [
+static SECOND_CHANGES: [(&str, &str, Option<BadController>); 19] = [
     ("exps 0 1 1", "exps 0 0 0", None),
     (
         "exps 0 1 1",
@@ -249,10 +235,7 @@ static SECOND_CHANGES: [(&str, &str, Option<BadController>); 15] = [
     ("end\n", "", Some(BadController::Line { line: 20 })),
     ("end\n", "end\nx", Some(BadController::Line { line: 21 })),
     ("size 1", "size 7", Some(BadController::Line { line: 2 })),
-];
-
-// The first text with sizes of version 2, in version 1 and in version 2, whose other lines are then bad.
-static GREATER_SIZES: [(&str, &str, Option<BadController>); 4] = [
+    // sizes of version 2, in version 1 and in version 2, whose other lines are then bad
     (
         "2\nsize 1 1 1 3",
         "1\nsize 5 1 1 3",
@@ -282,24 +265,21 @@ fn second_version_written_back(rt: HostRuntime) -> Result<(), Fail> {
     Ok(())
 }
 
+// The answer to the first text in version 2 with one part of it replaced.
+fn second_refusal(
+    alloc: Global,
+    old: &str,
+    new: &str,
+) -> Result<Option<BadController>, AllocError> {
+    let text = second_version(alloc)?;
+    refusal_with(alloc, &text, old, new)
+}
+
 #[test]
 fn second_version_changed(rt: HostRuntime) -> Result<(), Fail> {
-    let text = second_version(rt.alloc())?;
-    assert_eq!(rt; first_other(rt.alloc(), &text, &SECOND_CHANGES)?, None);
-    Ok(())
-}
-
-#[test]
-fn greater_sizes(rt: HostRuntime) -> Result<(), Fail> {
-    let text = second_version(rt.alloc())?;
-    assert_eq!(rt; first_other(rt.alloc(), &text, &GREATER_SIZES)?, None);
-    Ok(())
-}
-
-#[test]
-fn second_version_cut(rt: HostRuntime) -> Result<(), Fail> {
-    let text = second_version(rt.alloc())?;
-    assert_eq!(rt; first_other_cut(rt.alloc(), text.as_bytes())?, None);
+    for (old, new, answer) in &SECOND_CHANGES {
+        assert!(rt; second_refusal(rt.alloc(), old, new)? == *answer);
+    }
     Ok(())
 }
 
@@ -308,23 +288,34 @@ fn is_bad_at(alloc: Global, bytes: &[u8], line: u32) -> Result<bool, AllocError>
     Ok(refusal_of(alloc, bytes)? == Some(BadController::Line { line }))
 }
 
-// The first length at which a text that is cut has another first bad line than the one where it ends.
-fn first_other_cut(alloc: Global, bytes: &[u8]) -> Result<Option<usize>, AllocError> {
+// Whether a text that is cut at any length has its first bad line where it ends.
+fn is_bad_where_cut(alloc: Global, bytes: &[u8]) -> Result<bool, AllocError> {
     let mut line = 1u32;
     for (k, byte) in bytes.iter().enumerate() {
         if !is_bad_at(alloc, &bytes[..k], line)? {
-            return Ok(Some(k));
+            return Ok(false);
         }
         if *byte == b'\n' {
             line = line.saturating_add(1);
         }
     }
-    Ok(None)
+    Ok(true)
 }
 
 #[test]
 fn cut(rt: HostRuntime) -> Result<(), Fail> {
-    assert_eq!(rt; first_other_cut(rt.alloc(), CONTROLLER.as_bytes())?, None);
+    assert!(rt; is_bad_where_cut(rt.alloc(), CONTROLLER.as_bytes())?);
+    Ok(())
+}
+
+fn is_second_bad_where_cut(alloc: Global) -> Result<bool, AllocError> {
+    let text = second_version(alloc)?;
+    is_bad_where_cut(alloc, text.as_bytes())
+}
+
+#[test]
+fn second_version_cut(rt: HostRuntime) -> Result<(), Fail> {
+    assert!(rt; is_second_bad_where_cut(rt.alloc())?);
     Ok(())
 }
 

@@ -92,6 +92,11 @@ fn spellings(rt: HostRuntime) -> Result<(), Fail> {
     Ok(())
 }
 
+// Whether a design is one of this version and so many states and stages.
+fn has_sizes(p: &DesignParts, sizes: [usize; 3]) -> bool {
+    [p.version as usize, p.states, p.stages] == sizes
+}
+
 // Whether the first design, with `new` for the first `old`, is one of this version and so many states and stages.
 fn reads_changed(
     alloc: Global,
@@ -100,30 +105,33 @@ fn reads_changed(
     sizes: [usize; 3],
 ) -> Result<bool, TextFault> {
     let design = changed_design(alloc, DESIGN, old, new)?;
-    let p = design.parts();
-    Ok([p.version as usize, p.states, p.stages] == sizes)
-}
-
-#[test]
-fn second_version(rt: HostRuntime) -> Result<(), Fail> {
-    assert!(rt; reads_changed(rt.alloc(), "version = 1", "version = 2", [2, 1, 1])?);
-    Ok(())
+    Ok(has_sizes(design.parts(), sizes))
 }
 
 // The sizes of the first design.
 const SIZES: &str = "version = 1\nstates = 1\ninputs = 1\nstages = 1";
 
-#[test]
-fn more_stages(rt: HostRuntime) -> Result<(), Fail> {
-    let sizes = "version = 2\nstates = 1\ninputs = 1\nstages = 21";
-    assert!(rt; reads_changed(rt.alloc(), SIZES, sizes, [2, 1, 21])?);
-    Ok(())
-}
+// What stands in place of a piece of the first design, and the sizes then.
+static SECOND_VERSIONS: [(&str, &str, [usize; 3]); 3] = [
+    ("version = 1", "version = 2", [2, 1, 1]),
+    // more stages, and the most
+    (
+        SIZES,
+        "version = 2\nstates = 1\ninputs = 1\nstages = 21",
+        [2, 1, 21],
+    ),
+    (
+        SIZES,
+        "version = 2\nstates = 1\ninputs = 1\nstages = 30",
+        [2, 1, 30],
+    ),
+];
 
 #[test]
-fn most_stages(rt: HostRuntime) -> Result<(), Fail> {
-    let sizes = "version = 2\nstates = 1\ninputs = 1\nstages = 30";
-    assert!(rt; reads_changed(rt.alloc(), SIZES, sizes, [2, 1, 30])?);
+fn second_versions(rt: HostRuntime) -> Result<(), Fail> {
+    for (old, new, sizes) in &SECOND_VERSIONS {
+        assert!(rt; reads_changed(rt.alloc(), old, new, *sizes)?);
+    }
     Ok(())
 }
 
@@ -272,22 +280,11 @@ fn fault_with(alloc: Global, old: &str, new: &str) -> Result<Option<TextFault>, 
     fault_of(alloc, text.as_bytes())
 }
 
-// The first change that has another fault.
-fn first_other(
-    alloc: Global,
-    cases: &[(&'static str, &'static str, TextFault)],
-) -> Result<Option<&'static str>, AllocError> {
-    for (old, new, fault) in cases {
-        if fault_with(alloc, old, new)? != Some(*fault) {
-            return Ok(Some(new));
-        }
-    }
-    Ok(None)
-}
-
 #[test]
 fn faults(rt: HostRuntime) -> Result<(), Fail> {
-    assert_eq!(rt; first_other(rt.alloc(), &CHANGES)?, None);
+    for (old, new, fault) in &CHANGES {
+        assert!(rt; fault_with(rt.alloc(), old, new)? == Some(*fault));
+    }
     Ok(())
 }
 
