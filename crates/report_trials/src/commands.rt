@@ -14,12 +14,18 @@ fn is_line(alloc: Global, status: &Status, line: &str) -> Result<bool, AllocErro
     Ok(got.as_slice() == line.as_bytes())
 }
 
-// Whether the arguments, with one space between two, are those of this command.
-fn are_of(alloc: Global, arguments: &str, command: &Option<Command>) -> Result<bool, AllocError> {
+// The arguments, with one space between two.
+fn words_of(alloc: Global, arguments: &str) -> Result<Words, AllocError> {
     let mut words = Words::empty(alloc);
     for word in arguments.split(' ') {
         words.push(word)?;
     }
+    Ok(words)
+}
+
+// Whether the arguments are those of this command.
+fn are_of(alloc: Global, arguments: &str, command: &Option<Command>) -> Result<bool, AllocError> {
+    let words = words_of(alloc, arguments)?;
     Ok(command_of(&words) == *command)
 }
 
@@ -36,68 +42,30 @@ fn first_other_line(
     Ok(None)
 }
 
-// Each answer once, with each fault of a text and of a controller.
+// Each answer once: those without a number or with one.
 #[test]
-fn lines(rt: HostRuntime) -> Result<(), Fail> {
-    let slack = Frac {
-        num: 4,
-        den: 524288,
-    };
+fn short_lines(rt: HostRuntime) -> Result<(), Fail> {
     let cases = [
         (Status::Done, ""),
         (Status::Memory, "error 1 memory\n"),
         (Status::Usage, "error 2 usage\n"),
         (Status::ReadFault { file: 2 }, "error 3 read-fault 2\n"),
         (Status::WriteFault { file: 0 }, "error 4 write-fault 0\n"),
-        (
-            Status::Text {
-                file: 1,
-                fault: TextFault::NotToml,
-            },
-            "error 5 text 1 not-toml\n",
-        ),
-        (
-            Status::Text {
-                file: 1,
-                fault: TextFault::Key { place: 13 },
-            },
-            "error 5 text 1 key 13\n",
-        ),
-        (
-            Status::Text {
-                file: 1,
-                fault: TextFault::Shape { place: 6 },
-            },
-            "error 5 text 1 shape 6\n",
-        ),
-        (
-            Status::Text {
-                file: 1,
-                fault: TextFault::Range { place: 18 },
-            },
-            "error 5 text 1 range 18\n",
-        ),
-        (
-            Status::Text {
-                file: 2,
-                fault: TextFault::Fields { entry: 2 },
-            },
-            "error 5 text 2 fields 2\n",
-        ),
-        (
-            Status::Text {
-                file: 2,
-                fault: TextFault::Number { entry: 2, field: 2 },
-            },
-            "error 5 text 2 number 2 2\n",
-        ),
-        (
-            Status::Text {
-                file: 2,
-                fault: TextFault::Count { entries: 0 },
-            },
-            "error 5 text 2 count 0\n",
-        ),
+        (Status::Curvature, "error 7 curvature\n"),
+        (Status::Long { file: 1 }, "error 13 long 1\n"),
+    ];
+    assert_eq!(rt; first_other_line(rt.alloc(), &cases)?, None);
+    Ok(())
+}
+
+// And those with more, or long ones.
+#[test]
+fn long_lines(rt: HostRuntime) -> Result<(), Fail> {
+    let slack = Frac {
+        num: 4,
+        den: 524288,
+    };
+    let cases = [
         (
             Status::NoMargin {
                 corner: 2,
@@ -106,7 +74,6 @@ fn lines(rt: HostRuntime) -> Result<(), Fail> {
             },
             "error 6 no-margin 2 2 4 524288\n",
         ),
-        (Status::Curvature, "error 7 curvature\n"),
         (
             Status::TooManySteps { k: 8388608 },
             "error 8 too-many-steps 8388608\n",
@@ -116,32 +83,6 @@ fn lines(rt: HostRuntime) -> Result<(), Fail> {
             "error 9 too-fine 151000321\n",
         ),
         (
-            Status::TooWide {
-                quantity: Quantity::Prediction,
-            },
-            "error 10 too-wide prediction\n",
-        ),
-        (
-            Status::TooWide {
-                quantity: Quantity::CornerCost,
-            },
-            "error 10 too-wide corner_cost\n",
-        ),
-        (
-            Status::Controller {
-                file: 1,
-                fault: BadController::Unsafe,
-            },
-            "error 11 controller 1 unsafe\n",
-        ),
-        (
-            Status::Controller {
-                file: 1,
-                fault: BadController::Line { line: 19 },
-            },
-            "error 11 controller 1 line 19\n",
-        ),
-        (
             Status::OutsideBox {
                 entry: 2,
                 turn: 0,
@@ -149,7 +90,6 @@ fn lines(rt: HostRuntime) -> Result<(), Fail> {
             },
             "error 12 outside-box 2 0 1\n",
         ),
-        (Status::Long { file: 1 }, "error 13 long 1\n"),
         (
             Status::Mismatch {
                 field: Field::States,
@@ -160,6 +100,71 @@ fn lines(rt: HostRuntime) -> Result<(), Fail> {
         ),
     ];
     assert_eq!(rt; first_other_line(rt.alloc(), &cases)?, None);
+    Ok(())
+}
+
+// Each fault of a text: its file, and the line.
+static TEXTS: [(u32, TextFault, &str); 7] = [
+    (1, TextFault::NotToml, "error 5 text 1 not-toml\n"),
+    (1, TextFault::Key { place: 13 }, "error 5 text 1 key 13\n"),
+    (1, TextFault::Shape { place: 6 }, "error 5 text 1 shape 6\n"),
+    (
+        1,
+        TextFault::Range { place: 18 },
+        "error 5 text 1 range 18\n",
+    ),
+    (
+        2,
+        TextFault::Fields { entry: 2 },
+        "error 5 text 2 fields 2\n",
+    ),
+    (
+        2,
+        TextFault::Number { entry: 2, field: 2 },
+        "error 5 text 2 number 2 2\n",
+    ),
+    (
+        2,
+        TextFault::Count { entries: 0 },
+        "error 5 text 2 count 0\n",
+    ),
+];
+
+#[test]
+fn lines_of_texts(rt: HostRuntime) -> Result<(), Fail> {
+    for &(file, fault, line) in &TEXTS {
+        assert!(rt; is_line(rt.alloc(), &Status::Text { file, fault }, line)?);
+    }
+    Ok(())
+}
+
+static WIDTHS: [(Quantity, &str); 2] = [
+    (Quantity::Prediction, "error 10 too-wide prediction\n"),
+    (Quantity::CornerCost, "error 10 too-wide corner_cost\n"),
+];
+
+#[test]
+fn lines_of_widths(rt: HostRuntime) -> Result<(), Fail> {
+    for &(quantity, line) in &WIDTHS {
+        assert!(rt; is_line(rt.alloc(), &Status::TooWide { quantity }, line)?);
+    }
+    Ok(())
+}
+
+// Each fault of a controller.
+static CONTROLLERS: [(BadController, &str); 2] = [
+    (BadController::Unsafe, "error 11 controller 1 unsafe\n"),
+    (
+        BadController::Line { line: 19 },
+        "error 11 controller 1 line 19\n",
+    ),
+];
+
+#[test]
+fn lines_of_controllers(rt: HostRuntime) -> Result<(), Fail> {
+    for &(fault, line) in &CONTROLLERS {
+        assert!(rt; is_line(rt.alloc(), &Status::Controller { file: 1, fault }, line)?);
+    }
     Ok(())
 }
 
@@ -204,22 +209,11 @@ static COMMANDS: [(&str, Option<Command>); 34] = [
     ("run c s", None),
 ];
 
-// The first arguments of another command.
-fn first_other_command(
-    alloc: Global,
-    cases: &[(&'static str, Option<Command>)],
-) -> Result<Option<&'static str>, AllocError> {
-    for (arguments, command) in cases {
-        if !are_of(alloc, arguments, command)? {
-            return Ok(Some(arguments));
-        }
-    }
-    Ok(None)
-}
-
 #[test]
 fn commands(rt: HostRuntime) -> Result<(), Fail> {
-    assert_eq!(rt; first_other_command(rt.alloc(), &COMMANDS)?, None);
+    for (arguments, command) in &COMMANDS {
+        assert!(rt; are_of(rt.alloc(), arguments, command)?);
+    }
     Ok(())
 }
 

@@ -33,19 +33,11 @@ static NUMBERS: [(&[u8], Option<i128>); 22] = [
     (b"7.0", None),
 ];
 
-// The first field that holds something else.
-fn first_other_number(cases: &[(&'static [u8], Option<i128>)]) -> Option<&'static [u8]> {
-    for (field, number) in cases {
-        if number_field(field) != *number {
-            return Some(field);
-        }
-    }
-    None
-}
-
 #[test]
 fn numbers(rt: HostRuntime) {
-    assert_eq!(rt; first_other_number(&NUMBERS), None);
+    for (field, number) in &NUMBERS {
+        assert!(rt; number_field(field) == *number);
+    }
 }
 
 // Texts of states of two numbers each, with those of all rows in turn.
@@ -60,7 +52,7 @@ static STATES: [(&[u8], &[i128]); 7] = [
 ];
 
 // Whether a matrix has two columns, and these numbers in its rows in turn.
-fn has_numbers(alloc: Global, states: &Mat, numbers: &[i128]) -> Result<bool, AllocError> {
+fn has_numbers(alloc: Global, states: &Mat, numbers: &[i128]) -> Result<bool, TextFault> {
     let mut all = Vec::new(alloc);
     for i in 0..states.rows() {
         all.extend_from_slice(states.row(i))?;
@@ -68,30 +60,20 @@ fn has_numbers(alloc: Global, states: &Mat, numbers: &[i128]) -> Result<bool, Al
     Ok(states.cols() == 2 && all.as_slice() == numbers)
 }
 
-// Whether a text of states of two numbers each has these.
-fn is_states(alloc: Global, text: &[u8], numbers: &[i128]) -> Result<bool, Fail>
-    requires { length text.now < 2 ^ 32 }
-{
-    let states = read_states(alloc, text, 2)?;
-    Ok(has_numbers(alloc, &states, numbers)?)
-}
-
-// The first text that has other numbers.
-fn first_other_states(
-    alloc: Global,
-    cases: &[(&'static [u8], &'static [i128])],
-) -> Result<Option<&'static [u8]>, Fail> {
-    for (text, numbers) in cases {
-        if text.len() > 99 || !is_states(alloc, text, numbers)? {
-            return Ok(Some(text));
-        }
+// Whether a text of states of two numbers each has these. No text of the trials is longer than 99 bytes.
+fn is_states(alloc: Global, text: &[u8], numbers: &[i128]) -> Result<bool, TextFault> {
+    if text.len() > 99 {
+        return Ok(false);
     }
-    Ok(None)
+    let states = read_states(alloc, text, 2)?;
+    has_numbers(alloc, &states, numbers)
 }
 
 #[test]
 fn states(rt: HostRuntime) -> Result<(), Fail> {
-    assert_eq!(rt; first_other_states(rt.alloc(), &STATES)?, None);
+    for (text, numbers) in &STATES {
+        assert!(rt; is_states(rt.alloc(), text, numbers)?);
+    }
     Ok(())
 }
 
@@ -120,21 +102,15 @@ fn fault_of(alloc: Global, text: &[u8], n: usize) -> Result<Option<TextFault>, A
     }
 }
 
-// The first text with another fault.
-fn first_other_fault(
-    alloc: Global,
-    cases: &[(&'static [u8], usize, TextFault)],
-) -> Result<Option<&'static [u8]>, AllocError> {
-    for (text, n, fault) in cases {
-        if text.len() > 99 || fault_of(alloc, text, *n)? != Some(*fault) {
-            return Ok(Some(text));
-        }
-    }
-    Ok(None)
+// Whether this is the first fault of a text.
+fn is_fault(alloc: Global, text: &[u8], n: usize, fault: TextFault) -> Result<bool, AllocError> {
+    Ok(text.len() <= 99 && fault_of(alloc, text, n)? == Some(fault))
 }
 
 #[test]
 fn faults(rt: HostRuntime) -> Result<(), Fail> {
-    assert_eq!(rt; first_other_fault(rt.alloc(), &FAULTS)?, None);
+    for &(text, n, fault) in &FAULTS {
+        assert!(rt; is_fault(rt.alloc(), text, n, fault)?);
+    }
     Ok(())
 }

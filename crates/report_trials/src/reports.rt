@@ -44,50 +44,62 @@ fn second_bounds(alloc: Global) -> Result<Bounds, AllocError> {
     })
 }
 
-// Its report, as the definition's worked row has it.
+// Whether the report of these bounds has these lines.
+fn is_text(alloc: Global, bounds: &Bounds, lines: &str) -> Result<bool, AllocError> {
+    let text = report_text(alloc, bounds)?;
+    Ok(text.as_slice() == lines.as_bytes())
+}
+
+// Whether the same report as JSON is this.
+fn is_json(alloc: Global, bounds: &Bounds, line: &str) -> Result<bool, AllocError> {
+    let text = report_json(alloc, bounds)?;
+    Ok(text.as_slice() == line.as_bytes())
+}
+
+// The first report, as the definition's worked row has it, and the same as JSON.
+fn is_first(alloc: Global, lines: &str, line: &str) -> Result<bool, AllocError> {
+    let bounds = first_bounds(alloc)?;
+    are_reports(alloc, &bounds, lines, line)
+}
+
+// The report of the second version, with a line for each row, and the same as JSON.
+fn is_second(alloc: Global, lines: &str, line: &str) -> Result<bool, AllocError> {
+    let bounds = second_bounds(alloc)?;
+    are_reports(alloc, &bounds, lines, line)
+}
+
+fn are_reports(
+    alloc: Global,
+    bounds: &Bounds,
+    lines: &str,
+    line: &str,
+) -> Result<bool, AllocError> {
+    Ok(is_text(alloc, bounds, lines)? && is_json(alloc, bounds, line)?)
+}
+
 #[test]
-fn first_report(rt: HostRuntime) -> Result<(), Fail> {
-    let text = report_text(rt.alloc(), &first_bounds(rt.alloc())?)?;
+fn first(rt: HostRuntime) -> Result<(), Fail> {
     let lines =
         "mpc-report 1\nmargin 8192 65536\ncost 1\nmultiplier 8\nstep 1\nsteps 4\nbits 10\nwidth 26\nwords 6\nviolation 8896659849216 1099511627776\ngap 804534616064 1099511627776\nundercut 71173278793728 1099511627776\nend\n";
-    assert_eq!(rt; text.as_slice(), lines.as_bytes());
-    Ok(())
-}
-
-// The same report as JSON.
-#[test]
-fn first_json(rt: HostRuntime) -> Result<(), Fail> {
-    let text = report_json(rt.alloc(), &first_bounds(rt.alloc())?)?;
     let line =
         "{\"bits\":\"10\",\"cost\":\"1\",\"gap\":\"804534616064\",\"margin\":\"8192\",\"multiplier\":\"8\",\"step\":\"1\",\"steps\":\"4\",\"undercut\":\"71173278793728\",\"version\":\"1\",\"violation\":\"8896659849216\",\"width\":\"26\",\"words\":\"6\"}\n";
-    assert_eq!(rt; text.as_slice(), line.as_bytes());
+    assert!(rt; is_first(rt.alloc(), lines, line)?);
     Ok(())
 }
 
-// The report of the second version, with a line for each row.
 #[test]
-fn second_report(rt: HostRuntime) -> Result<(), Fail> {
-    let text = report_text(rt.alloc(), &second_bounds(rt.alloc())?)?;
+fn second(rt: HostRuntime) -> Result<(), Fail> {
     let lines =
         "mpc-report 2\nmargin 8192 65536\ncost 1\nmultiplier 8\nstep 1\nsteps 4\nbits 10\nwidth 26\nwords 6\nviolation 1 6651831648256 1099511627776\nviolation 2 8850854903808 1099511627776\nviolation 3 8850854903808 1099511627776\ngap 438095052800 1099511627776\nundercut 70806839230464 1099511627776\nend\n";
-    assert_eq!(rt; text.as_slice(), lines.as_bytes());
-    Ok(())
-}
-
-// The same report as JSON.
-#[test]
-fn second_json(rt: HostRuntime) -> Result<(), Fail> {
-    let text = report_json(rt.alloc(), &second_bounds(rt.alloc())?)?;
     let line =
         "{\"bits\":\"10\",\"cost\":\"1\",\"gap\":\"438095052800\",\"margin\":\"8192\",\"multiplier\":\"8\",\"step\":\"1\",\"steps\":\"4\",\"undercut\":\"70806839230464\",\"version\":\"2\",\"violation\":\"8850854903808\",\"violations\":[\"6651831648256\",\"8850854903808\",\"8850854903808\"],\"width\":\"26\",\"words\":\"6\"}\n";
-    assert_eq!(rt; text.as_slice(), line.as_bytes());
+    assert!(rt; is_second(rt.alloc(), lines, line)?);
     Ok(())
 }
 
-// Long numbers, up to the greatest of their types, are spelled whole.
-#[test]
-fn long_json(rt: HostRuntime) -> Result<(), Fail> {
-    let bounds = Bounds {
+// The greatest numbers of their types, or long ones.
+fn long_bounds(alloc: Global) -> Bounds {
+    Bounds {
         version: 1,
         margin: 1,
         cost: 0,
@@ -98,13 +110,22 @@ fn long_json(rt: HostRuntime) -> Result<(), Fail> {
         width: 128,
         words: usize::MAX,
         violation: 100000000000000000000000000000000000000,
-        rows: Vec::new(rt.alloc()),
+        rows: Vec::new(alloc),
         gap: 1 << 126,
         undercut: i128::MAX,
-    };
-    let text = report_json(rt.alloc(), &bounds)?;
+    }
+}
+
+fn is_long(alloc: Global, line: &str) -> Result<bool, AllocError> {
+    let bounds = long_bounds(alloc);
+    is_json(alloc, &bounds, line)
+}
+
+// They are spelled whole.
+#[test]
+fn long_json(rt: HostRuntime) -> Result<(), Fail> {
     let line =
         "{\"bits\":\"4294967295\",\"cost\":\"0\",\"gap\":\"85070591730234615865843651857942052864\",\"margin\":\"1\",\"multiplier\":\"18446744073709551616\",\"step\":\"0\",\"steps\":\"2147483648\",\"undercut\":\"170141183460469231731687303715884105727\",\"version\":\"1\",\"violation\":\"100000000000000000000000000000000000000\",\"width\":\"128\",\"words\":\"18446744073709551615\"}\n";
-    assert_eq!(rt; text.as_slice(), line.as_bytes());
+    assert!(rt; is_long(rt.alloc(), line)?);
     Ok(())
 }
