@@ -22,6 +22,12 @@ struct Made {
     report: &'static str,
 }
 
+// Whether the text under a name is this; where it holds nothing, it is empty.
+fn has_text(alloc: Global, store: &mut MemStore, name: &str, text: &str) -> Result<bool, Fail> {
+    let bytes = held(alloc, store, name)?;
+    Ok(bytes.as_slice() == text.as_bytes())
+}
+
 // Whether a run ends with this line, prints nothing, and leaves this under its two names.
 fn leaves(
     alloc: Global,
@@ -33,8 +39,8 @@ fn leaves(
 ) -> Result<bool, Fail> {
     Ok(
         ends_with(alloc, GENERATE, store, fails, line, "")?
-            && held(alloc, store, "out")?.as_slice() == controller.as_bytes()
-            && held(alloc, store, "r")?.as_slice() == report.as_bytes(),
+            && has_text(alloc, store, "out", controller)?
+            && has_text(alloc, store, "r", report)?,
     )
 }
 
@@ -60,8 +66,24 @@ fn is_refused(alloc: Global, case: &Refused) -> Result<bool, Fail> {
 // Whether the text under a name has these lines.
 fn has_lines(alloc: Global, store: &mut MemStore, name: &str, lines: &str) -> Result<bool, Fail> {
     let bytes = held(alloc, store, name)?;
-    let text = str::from_utf8(&bytes).map_err(|_| "bytes")?;
-    Ok(text.contains(lines))
+    match str::from_utf8(&bytes) {
+        Ok(text) => Ok(text.contains(lines)),
+        Err(_) => Ok(false),
+    }
+}
+
+// Whether a run writes texts with these lines.
+fn leaves_lines(
+    alloc: Global,
+    store: &mut MemStore,
+    controller: &str,
+    report: &str,
+) -> Result<bool, Fail> {
+    Ok(
+        ends_with(alloc, GENERATE, store, &NONE, "", "")?
+            && has_lines(alloc, store, "out", controller)?
+            && has_lines(alloc, store, "r", report)?,
+    )
 }
 
 /// Whether a run over a design and a policy writes texts with these lines.
@@ -73,11 +95,7 @@ pub fn writes(
     report: &str,
 ) -> Result<bool, Fail> {
     let mut store = store_of(alloc, design, policy, "", "")?;
-    Ok(
-        ends_with(alloc, GENERATE, &mut store, &NONE, "", "")?
-            && has_lines(alloc, &mut store, "out", controller)?
-            && has_lines(alloc, &mut store, "r", report)?,
-    )
+    leaves_lines(alloc, &mut store, controller, report)
 }
 
 // The same, where the design is changed.
@@ -195,19 +213,11 @@ static REFUSALS: [Refused; 18] = [
     },
 ];
 
-// Whether all of them are refused, and nothing is written.
-fn are_refused(alloc: Global) -> Result<bool, Fail> {
-    for case in &REFUSALS {
-        if !is_refused(alloc, case)? {
-            return Ok(false);
-        }
-    }
-    Ok(true)
-}
-
 #[test]
 fn refusals(rt: HostRuntime) -> Result<(), Fail> {
-    assert!(rt; are_refused(rt.alloc())?);
+    for case in &REFUSALS {
+        assert!(rt; is_refused(rt.alloc(), case)?);
+    }
     Ok(())
 }
 
@@ -275,79 +285,61 @@ static CHANGED_DESIGNS: [Made; 8] = [
     },
 ];
 
-// Whether all of them are made.
-fn are_made(alloc: Global) -> Result<bool, Fail> {
-    for case in &CHANGED_DESIGNS {
-        if !is_made(alloc, case)? {
-            return Ok(false);
-        }
-    }
-    Ok(true)
-}
-
 #[test]
 fn changed_designs(rt: HostRuntime) -> Result<(), Fail> {
-    assert!(rt; are_made(rt.alloc())?);
+    for case in &CHANGED_DESIGNS {
+        assert!(rt; is_made(rt.alloc(), case)?);
+    }
     Ok(())
 }
 
-// The first worked design, byte by byte.
+// Designs, policies, and both texts.
+static WORKED: [(&str, &str, &str, &str); 4] = [
+    // The first worked design, byte by byte.
+    (DESIGN, POLICY, CONTROLLER, REPORT),
+    // Two inputs and two states: both texts byte by byte, from the model in exact fractions. Its matrix is diagonal, so one gain alone is good.
+    (
+        "version = 1\nstates = 2\ninputs = 2\nstages = 1\n[plant]\nden = 2\na = [[2, 1], [0, 2]]\nb = [[2, 0], [0, 2]]\n[cost]\nden = 1\nrow_den = 1\ninput = [1, 3]\nstage = [[1, 0, 0, 1], [0, 1, 1, 2]]\nfinal = []\n[limits]\nden = 2\nstage = [[0, 0, 2, 0, 2], [0, 0, -2, 0, 2], [0, 0, 0, 2, 2], [0, 0, 0, -2, 2]]\nfinal = [[2, 0, 8], [-2, 0, 8]]\n[box]\ngrid = 1\nlo = [-2, -2]\nhi = [2, 2]\n[targets]\nden = 1\nviolation = 1\ngap = 2\n",
+        "1,0,0\n1,0,0\n1,0,0\n1,0,0\n",
+        "mpc-controller 1\nsize 2 2 1 6\nbits 13 1 1 33\nsteps 88\nclamp 360448\nwords 12\nlo -2 -2\nhi 2 2\nP 4096 2048\nP 0 3277\nT 0 -3277\nW 2048 -2048 0 0 2048 -2048\nW 0 0 819 -819 0 0\nG 8192 0\nG -8192 0\nG 0 8192\nG 0 -8192\nG 8192 0\nG -8192 0\nE 0 0\nE 0 0\nE 0 0\nE 0 0\nE 8192 4096\nE -8192 -4096\nb 8192 8192 8192 8192 32768 32768\nend\n",
+        "mpc-report 1\nmargin 65536 65536\ncost 11\nmultiplier 11\nstep 1\nsteps 88\nbits 13\nwidth 33\nwords 12\nviolation 590834198715 1099511627776\ngap 451862233088 1099511627776\nundercut 6499176185865 1099511627776\nend\n",
+    ),
+    // Three states, likewise.
+    (
+        "version = 1\nstates = 3\ninputs = 1\nstages = 1\n[plant]\nden = 2\na = [[2, 1, 0], [0, 2, 1], [0, 0, 1]]\nb = [[0], [1], [2]]\n[cost]\nden = 1\nrow_den = 1\ninput = [2]\nstage = [[1, 0, 0, 0, 1], [0, 2, 0, 0, 1], [0, 0, 1, 1, 1]]\nfinal = []\n[limits]\nden = 1\nstage = [[0, 0, 0, 1, 1], [0, 0, 0, -1, 1]]\nfinal = [[0, 0, 1, 3]]\n[box]\ngrid = 0\nlo = [-1, -1, -1]\nhi = [1, 1, 1]\n[targets]\nden = 1\nviolation = 1\ngap = 2\n",
+        "1,0\n1,0\n1,0\n1,0\n1,0\n1,0\n1,0\n1,0\n",
+        "mpc-controller 1\nsize 3 1 1 3\nbits 10 0 0 25\nsteps 56\nclamp 28672\nwords 8\nlo -1 -1 -1\nhi 1 1 1\nP 0 512 384\nT -256\nW 128 -128 128\nG 1024\nG -1024\nG 1024\nE 0 0 0\nE 0 0 0\nE 0 0 512\nb 1024 1024 3072\nend\n",
+        "mpc-report 1\nmargin 65536 65536\ncost 14\nmultiplier 14\nstep 0\nsteps 56\nbits 10\nwidth 25\nwords 8\nviolation 607739070757 1099511627776\ngap 811765596160 1099511627776\nundercut 8508346990598 1099511627776\nend\n",
+    ),
+    // Four states and two inputs, likewise.
+    (
+        "version = 1\nstates = 4\ninputs = 2\nstages = 1\n[plant]\nden = 2\na = [[2, 1, 0, 0], [0, 2, 0, 0], [0, 0, 2, 1], [0, 0, 0, 2]]\nb = [[0, 0], [2, 0], [0, 0], [0, 2]]\n[cost]\nden = 1\nrow_den = 1\ninput = [1, 1]\nstage = [[0, 1, 0, 0, 0, 1], [0, 0, 0, 1, 0, 1]]\nfinal = [[1, 0, 0, 0, 0, 1]]\n[limits]\nden = 1\nstage = [[0, 0, 0, 0, 1, 0, 1], [0, 0, 0, 0, 0, -1, 1]]\nfinal = [[0, 1, 0, 0, 3], [0, 0, 0, -1, 3]]\n[box]\ngrid = 0\nlo = [-1, -1, 0, -1]\nhi = [1, 1, 1, 1]\n[targets]\nden = 1\nviolation = 1\ngap = 2\n",
+        "1,0,0\n1,0,0\n1,0,0\n1,0,0\n1,0,0\n1,0,0\n1,0,0\n1,0,0\n1,0,0\n1,0,0\n1,0,0\n1,0,0\n1,0,0\n1,0,0\n1,0,0\n1,0,0\n",
+        "mpc-controller 1\nsize 4 2 1 4\nbits 10 0 0 25\nsteps 20\nclamp 10240\nwords 12\nlo -1 -1 0 -1\nhi 1 1 1 1\nP 0 512 0 0\nP 0 0 0 512\nT 0 0\nW 256 0 256 0\nW 0 -256 0 -256\nG 1024 0\nG 0 -1024\nG 1024 0\nG 0 -1024\nE 0 0 0 0\nE 0 0 0 0\nE 0 1024 0 0\nE 0 0 0 -1024\nb 1024 1024 3072 3072\nend\n",
+        "mpc-report 1\nmargin 65536 65536\ncost 5\nmultiplier 5\nstep 0\nsteps 20\nbits 10\nwidth 25\nwords 12\nviolation 631363547956 1099511627776\ngap 408038670336 1099511627776\nundercut 3156817739780 1099511627776\nend\n",
+    ),
+];
+
 #[test]
-fn first_texts(rt: HostRuntime) -> Result<(), Fail> {
-    assert!(rt; generates(rt.alloc(), DESIGN, POLICY, "", CONTROLLER, REPORT)?);
+fn worked_texts(rt: HostRuntime) -> Result<(), Fail> {
+    for &(design, policy, controller, report) in &WORKED {
+        assert!(rt; generates(rt.alloc(), design, policy, "", controller, report)?);
+    }
     Ok(())
 }
 
-// Two inputs and two states: both texts byte by byte, from the model in exact fractions. Its matrix is diagonal, so one gain alone is good.
-#[test]
-fn two_states(rt: HostRuntime) -> Result<(), Fail> {
-    let design =
-        "version = 1\nstates = 2\ninputs = 2\nstages = 1\n[plant]\nden = 2\na = [[2, 1], [0, 2]]\nb = [[2, 0], [0, 2]]\n[cost]\nden = 1\nrow_den = 1\ninput = [1, 3]\nstage = [[1, 0, 0, 1], [0, 1, 1, 2]]\nfinal = []\n[limits]\nden = 2\nstage = [[0, 0, 2, 0, 2], [0, 0, -2, 0, 2], [0, 0, 0, 2, 2], [0, 0, 0, -2, 2]]\nfinal = [[2, 0, 8], [-2, 0, 8]]\n[box]\ngrid = 1\nlo = [-2, -2]\nhi = [2, 2]\n[targets]\nden = 1\nviolation = 1\ngap = 2\n";
-    let policy = "1,0,0\n1,0,0\n1,0,0\n1,0,0\n";
-    let controller =
-        "mpc-controller 1\nsize 2 2 1 6\nbits 13 1 1 33\nsteps 88\nclamp 360448\nwords 12\nlo -2 -2\nhi 2 2\nP 4096 2048\nP 0 3277\nT 0 -3277\nW 2048 -2048 0 0 2048 -2048\nW 0 0 819 -819 0 0\nG 8192 0\nG -8192 0\nG 0 8192\nG 0 -8192\nG 8192 0\nG -8192 0\nE 0 0\nE 0 0\nE 0 0\nE 0 0\nE 8192 4096\nE -8192 -4096\nb 8192 8192 8192 8192 32768 32768\nend\n";
-    let report =
-        "mpc-report 1\nmargin 65536 65536\ncost 11\nmultiplier 11\nstep 1\nsteps 88\nbits 13\nwidth 33\nwords 12\nviolation 590834198715 1099511627776\ngap 451862233088 1099511627776\nundercut 6499176185865 1099511627776\nend\n";
-    assert!(rt; generates(rt.alloc(), design, policy, "", controller, report)?);
-    Ok(())
-}
-
-// Three states, likewise.
-#[test]
-fn three_states(rt: HostRuntime) -> Result<(), Fail> {
-    let design =
-        "version = 1\nstates = 3\ninputs = 1\nstages = 1\n[plant]\nden = 2\na = [[2, 1, 0], [0, 2, 1], [0, 0, 1]]\nb = [[0], [1], [2]]\n[cost]\nden = 1\nrow_den = 1\ninput = [2]\nstage = [[1, 0, 0, 0, 1], [0, 2, 0, 0, 1], [0, 0, 1, 1, 1]]\nfinal = []\n[limits]\nden = 1\nstage = [[0, 0, 0, 1, 1], [0, 0, 0, -1, 1]]\nfinal = [[0, 0, 1, 3]]\n[box]\ngrid = 0\nlo = [-1, -1, -1]\nhi = [1, 1, 1]\n[targets]\nden = 1\nviolation = 1\ngap = 2\n";
-    let policy = "1,0\n1,0\n1,0\n1,0\n1,0\n1,0\n1,0\n1,0\n";
-    let controller =
-        "mpc-controller 1\nsize 3 1 1 3\nbits 10 0 0 25\nsteps 56\nclamp 28672\nwords 8\nlo -1 -1 -1\nhi 1 1 1\nP 0 512 384\nT -256\nW 128 -128 128\nG 1024\nG -1024\nG 1024\nE 0 0 0\nE 0 0 0\nE 0 0 512\nb 1024 1024 3072\nend\n";
-    let report =
-        "mpc-report 1\nmargin 65536 65536\ncost 14\nmultiplier 14\nstep 0\nsteps 56\nbits 10\nwidth 25\nwords 8\nviolation 607739070757 1099511627776\ngap 811765596160 1099511627776\nundercut 8508346990598 1099511627776\nend\n";
-    assert!(rt; generates(rt.alloc(), design, policy, "", controller, report)?);
-    Ok(())
-}
-
-// Four states and two inputs, likewise.
-#[test]
-fn four_states(rt: HostRuntime) -> Result<(), Fail> {
-    let design =
-        "version = 1\nstates = 4\ninputs = 2\nstages = 1\n[plant]\nden = 2\na = [[2, 1, 0, 0], [0, 2, 0, 0], [0, 0, 2, 1], [0, 0, 0, 2]]\nb = [[0, 0], [2, 0], [0, 0], [0, 2]]\n[cost]\nden = 1\nrow_den = 1\ninput = [1, 1]\nstage = [[0, 1, 0, 0, 0, 1], [0, 0, 0, 1, 0, 1]]\nfinal = [[1, 0, 0, 0, 0, 1]]\n[limits]\nden = 1\nstage = [[0, 0, 0, 0, 1, 0, 1], [0, 0, 0, 0, 0, -1, 1]]\nfinal = [[0, 1, 0, 0, 3], [0, 0, 0, -1, 3]]\n[box]\ngrid = 0\nlo = [-1, -1, 0, -1]\nhi = [1, 1, 1, 1]\n[targets]\nden = 1\nviolation = 1\ngap = 2\n";
-    let policy =
-        "1,0,0\n1,0,0\n1,0,0\n1,0,0\n1,0,0\n1,0,0\n1,0,0\n1,0,0\n1,0,0\n1,0,0\n1,0,0\n1,0,0\n1,0,0\n1,0,0\n1,0,0\n1,0,0\n";
-    let controller =
-        "mpc-controller 1\nsize 4 2 1 4\nbits 10 0 0 25\nsteps 20\nclamp 10240\nwords 12\nlo -1 -1 0 -1\nhi 1 1 1 1\nP 0 512 0 0\nP 0 0 0 512\nT 0 0\nW 256 0 256 0\nW 0 -256 0 -256\nG 1024 0\nG 0 -1024\nG 1024 0\nG 0 -1024\nE 0 0 0 0\nE 0 0 0 0\nE 0 1024 0 0\nE 0 0 0 -1024\nb 1024 1024 3072 3072\nend\n";
-    let report =
-        "mpc-report 1\nmargin 65536 65536\ncost 5\nmultiplier 5\nstep 0\nsteps 20\nbits 10\nwidth 25\nwords 12\nviolation 631363547956 1099511627776\ngap 408038670336 1099511627776\nundercut 3156817739780 1099511627776\nend\n";
-    assert!(rt; generates(rt.alloc(), design, policy, "", controller, report)?);
-    Ok(())
+// Whether a run writes this report as JSON.
+fn leaves_json(alloc: Global, store: &mut MemStore, report: &str) -> Result<bool, AllocError> {
+    Ok(
+        ends_with(alloc, "generate d p out r.json", store, &NONE, "", "")?
+            && holds(alloc, store, "r.json", report.as_bytes())?,
+    )
 }
 
 // Whether the report as JSON is this.
 fn is_json(alloc: Global, report: &str) -> Result<bool, AllocError> {
     let mut store = store_of(alloc, DESIGN, POLICY, "", "")?;
-    Ok(
-        ends_with(alloc, "generate d p out r.json", &mut store, &NONE, "", "")?
-            && holds(alloc, &mut store, "r.json", report.as_bytes())?,
-    )
+    leaves_json(alloc, &mut store, report)
 }
 
 // The report as JSON, where its name asks for it.
@@ -367,36 +359,74 @@ fn leaves_parts(
     controller: usize,
     report: usize,
 ) -> Result<bool, Fail> {
-    let mut store = store_of(alloc, DESIGN, POLICY, "", "")?;
     let controller = CONTROLLER.get(..controller).ok_or("long")?;
     let report = REPORT.get(..report).ok_or("long")?;
+    generates_with(alloc, fails, line, controller, report)
+}
+
+fn generates_with(
+    alloc: Global,
+    fails: &Fails,
+    line: &str,
+    controller: &str,
+    report: &str,
+) -> Result<bool, Fail> {
+    let mut store = store_of(alloc, DESIGN, POLICY, "", "")?;
     leaves(alloc, &mut store, fails, line, controller, report)
 }
 
 // A read, the controller's write and the report's write that fail, and what stands then.
-fn are_faults(alloc: Global) -> Result<bool, Fail> {
-    let cases = [
-        (1, 9, 0, "error 3 read-fault 1\n", 0, 0),
-        (2, 9, 0, "error 3 read-fault 2\n", 0, 0),
-        (9, 1, 20, "error 4 write-fault 3\n", 20, 0),
-        (9, 2, 10, "error 4 write-fault 4\n", CONTROLLER.len(), 10),
-    ];
-    for (read, write, keep, line, controller, report) in cases {
-        let fails = Fails {
-            read,
-            write,
-            keep,
+static FAULTS: [(Fails, &str, usize, usize); 4] = [
+    (
+        Fails {
+            read: 1,
+            write: 9,
+            keep: 0,
             put: 9,
-        };
-        if !leaves_parts(alloc, &fails, line, controller, report)? {
-            return Ok(false);
-        }
-    }
-    Ok(true)
-}
+        },
+        "error 3 read-fault 1\n",
+        0,
+        0,
+    ),
+    (
+        Fails {
+            read: 2,
+            write: 9,
+            keep: 0,
+            put: 9,
+        },
+        "error 3 read-fault 2\n",
+        0,
+        0,
+    ),
+    (
+        Fails {
+            read: 9,
+            write: 1,
+            keep: 20,
+            put: 9,
+        },
+        "error 4 write-fault 3\n",
+        20,
+        0,
+    ),
+    (
+        Fails {
+            read: 9,
+            write: 2,
+            keep: 10,
+            put: 9,
+        },
+        "error 4 write-fault 4\n",
+        CONTROLLER.len(),
+        10,
+    ),
+];
 
 #[test]
 fn faults(rt: HostRuntime) -> Result<(), Fail> {
-    assert!(rt; are_faults(rt.alloc())?);
+    for (fails, line, controller, report) in &FAULTS {
+        assert!(rt; leaves_parts(rt.alloc(), fails, line, *controller, *report)?);
+    }
     Ok(())
 }
