@@ -75,6 +75,23 @@ fn controller(
 }
 
 // Its numbers.
+fn made_of(
+    alloc: Global,
+    design: &Design,
+    s: u32,
+    f: u32,
+    steps: u32,
+    r: i128,
+) -> Result<Vec<i128>, Fail>
+    requires bits { LiesIn design.now.grid 48 f }
+    requires exponent { s ≤ 40 }
+    requires steps { LiesIn 1 (2 ^ 22) steps }
+    requires low { pos 1 ≤ℤ r }
+    requires high { r ≤ℤ pos (2 ^ 44) }
+{
+    numbers_of(alloc, controller(alloc, design, s, f, steps, r)?)
+}
+
 fn made(alloc: Global, s: u32, f: u32, steps: u32, r: i128) -> Result<Vec<i128>, Fail>
     requires exponent { s ≤ 40 }
     requires steps { LiesIn 1 (2 ^ 22) steps }
@@ -82,10 +99,36 @@ fn made(alloc: Global, s: u32, f: u32, steps: u32, r: i128) -> Result<Vec<i128>,
     requires high { r ≤ℤ pos (2 ^ 44) }
 {
     let design = design_at(alloc, f)?;
-    numbers_of(alloc, controller(alloc, &design, s, f, steps, r)?)
+    made_of(alloc, &design, s, f, steps, r)
 }
 
-// Whether there is none, since its sums could be too wide.
+// Whether there is no controller, since its sums could be too wide.
+fn is_wide(made: Result<Controller, WidthFault>) -> Result<bool, Fail> {
+    match made {
+        Err(WidthFault::TooWide { quantity }) => Ok(quantity == Quantity::Width),
+        Err(WidthFault::Memory) => Err(AllocError.into()),
+        Ok(_) => Ok(false),
+    }
+}
+
+// The same of a design.
+fn is_wide_of(
+    alloc: Global,
+    design: &Design,
+    s: u32,
+    f: u32,
+    steps: u32,
+    r: i128,
+) -> Result<bool, Fail>
+    requires bits { LiesIn design.now.grid 48 f }
+    requires exponent { s ≤ 40 }
+    requires steps { LiesIn 1 (2 ^ 22) steps }
+    requires low { pos 1 ≤ℤ r }
+    requires high { r ≤ℤ pos (2 ^ 44) }
+{
+    is_wide(controller(alloc, design, s, f, steps, r)?)
+}
+
 fn is_too_wide(alloc: Global, s: u32, f: u32, steps: u32, r: i128) -> Result<bool, Fail>
     requires exponent { s ≤ 40 }
     requires steps { LiesIn 1 (2 ^ 22) steps }
@@ -93,32 +136,33 @@ fn is_too_wide(alloc: Global, s: u32, f: u32, steps: u32, r: i128) -> Result<boo
     requires high { r ≤ℤ pos (2 ^ 44) }
 {
     let design = design_at(alloc, f)?;
-    match controller(alloc, &design, s, f, steps, r)? {
-        Err(WidthFault::TooWide { quantity }) => Ok(quantity == Quantity::Width),
-        Err(WidthFault::Memory) => Err(AllocError.into()),
-        Ok(_) => Ok(false),
-    }
+    is_wide_of(alloc, &design, s, f, steps, r)
 }
 
 // The numbers of a controller that there is.
 fn numbers_of(alloc: Global, made: Result<Controller, WidthFault>) -> Result<Vec<i128>, Fail> {
     let controller = made?;
-    Ok(numbers(alloc, controller.parts())?)
+    numbers(alloc, controller.parts())
 }
 
 // The gains, the rows, the clamp, the words and the width, one after the other.
-fn numbers(alloc: Global, c: &ControllerParts) -> Result<Vec<i128>, AllocError> {
+fn numbers(alloc: Global, c: &ControllerParts) -> Result<Vec<i128>, Fail> {
     let mut out = Vec::new(alloc);
-    extend(&mut out, &c.p_mat)?;
+    append(&mut out, c)?;
+    Ok(out)
+}
+
+fn append(out: &mut Vec<i128>, c: &ControllerParts) -> Result<(), AllocError> {
+    extend(out, &c.p_mat)?;
     out.extend_from_slice(&c.t)?;
-    extend(&mut out, &c.w_mat)?;
-    extend(&mut out, &c.g_mat)?;
-    extend(&mut out, &c.e_mat)?;
+    extend(out, &c.w_mat)?;
+    extend(out, &c.g_mat)?;
+    extend(out, &c.e_mat)?;
     out.extend_from_slice(&c.bound)?;
     out.push(c.clamp)?;
     out.push(c.words as i128)?;
     out.push(i128::from(c.w))?;
-    Ok(out)
+    Ok(())
 }
 
 // Appends a matrix, row by row.
@@ -162,13 +206,13 @@ fn too_wide_clamp(rt: HostRuntime) -> Result<(), Fail> {
     Ok(())
 }
 
-const COARSE: [i128; 17] = [6, 0, 0, 0, 0, 1, -3, 1, 1, 0, 2, 9, 7, 7, 64, 6, 10];
+static COARSE: [i128; 17] = [6, 0, 0, 0, 0, 1, -3, 1, 1, 0, 2, 9, 7, 7, 64, 6, 10];
 
-const MIDDLE: [i128; 17] = [
+static MIDDLE: [i128; 17] = [
     1597, -82, 27, -55, 14, 341, -683, 171, 341, 0, 512, 2389, 1707, 1707, 294912, 6, 28,
 ];
 
-const FINE: [i128; 17] = [
+static FINE: [i128; 17] = [
     26172457,
     -1342177,
     447392,
