@@ -2,91 +2,98 @@
 use dual_bounds::{TooManySteps, multiplier, row_violation, steps, undercut, violation};
 use qp_model::{Margin, Quantity, Wide};
 
+// Units and costs, and the multiplier.
+static MULTIPLIERS: [(i128, i128, Result<i128, Wide>); 10] = [
+    (8192, 1, Ok(8)),
+    (16384, 0, Ok(1)),
+    (1, 1, Ok(65536)),
+    (65536, 1600, Ok(1600)),
+    (65536, 159, Ok(159)),
+    (16384, 63, Ok(252)),
+    (1, 1 << 28, Ok(1 << 44)),
+    (1, (1 << 28) + 1, Err(Wide(Quantity::Multiplier))),
+    // the greatest cost whose quantity is within its limit, and the one above
+    (1 << 90, 1 << 110, Ok(1 << 36)),
+    (1 << 90, (1 << 110) + 1, Err(Wide(Quantity::Multiplier))),
+];
+
+fn is_multiplier(units: i128, cost: i128, bound: Result<i128, Wide>) -> bool {
+    units >= 1 && cost >= 0 && multiplier(&Margin { units, cost }) == bound
+}
+
 #[test]
 fn multipliers(rt: HostRuntime) {
-    let bounds: [(i128, i128, Result<i128, Wide>); 8] = [
-        (8192, 1, Ok(8)),
-        (16384, 0, Ok(1)),
-        (1, 1, Ok(65536)),
-        (65536, 1600, Ok(1600)),
-        (65536, 159, Ok(159)),
-        (16384, 63, Ok(252)),
-        (1, 1 << 28, Ok(1 << 44)),
-        (1, (1 << 28) + 1, Err(Wide(Quantity::Multiplier))),
-    ];
-    for (units, cost, bound) in bounds {
-        assert_eq!(rt;
-            multiplier(&Margin { units, cost }),
-            bound,
-            "at {units} {cost}"
-        );
+    for &(units, cost, bound) in &MULTIPLIERS {
+        assert!(rt; is_multiplier(units, cost, bound));
     }
 }
 
-// The greatest cost whose quantity is within its limit, and the one above.
-#[test]
-fn wide_costs(rt: HostRuntime) {
-    let units = 1 << 90;
-    assert_eq!(rt;
-        multiplier(&Margin {
-            units,
-            cost: 1 << 110
-        }),
-        Ok(1 << 36)
-    );
-    assert_eq!(rt;
-        multiplier(&Margin {
-            units,
-            cost: (1 << 110) + 1
-        }),
-        Err(Wide(Quantity::Multiplier))
-    );
+// Step exponents, multipliers and half targets, and the count of steps.
+static STEPS: [(u32, i128, i128, Result<u32, TooManySteps>); 8] = [
+    (1, 8, 8796093022208, Ok(4)),
+    (1, 8, 54975581388, Ok(641)),
+    (1, 8, 8388608, Ok(4194304)),
+    (1, 8, 4194304, Err(TooManySteps { k: 8388608 })),
+    (1, 65536, 8796093022208, Ok(32768)),
+    (40, 1, 576460752303423488, Ok(4194304)),
+    (2, 1600, 8796093022208, Ok(1600)),
+    (1, 159, 34359738368, Ok(20352)),
+];
+
+fn is_count(s: u32, r: i128, half_target: i128, count: Result<u32, TooManySteps>) -> bool {
+    s <= 40 && r >= 1 && r <= 1 << 44 && half_target >= 1 && steps(s, r, half_target) == count
 }
 
 #[test]
 fn run_steps(rt: HostRuntime) {
-    let counts: [(u32, i128, i128, Result<u32, TooManySteps>); 8] = [
-        (1, 8, 8796093022208, Ok(4)),
-        (1, 8, 54975581388, Ok(641)),
-        (1, 8, 8388608, Ok(4194304)),
-        (1, 8, 4194304, Err(TooManySteps { k: 8388608 })),
-        (1, 65536, 8796093022208, Ok(32768)),
-        (40, 1, 576460752303423488, Ok(4194304)),
-        (2, 1600, 8796093022208, Ok(1600)),
-        (1, 159, 34359738368, Ok(20352)),
-    ];
-    for (s, r, half_target, count) in counts {
-        assert_eq!(rt; steps(s, r, half_target), count, "at {s} {r} {half_target}");
+    for &(s, r, half_target, count) in &STEPS {
+        assert!(rt; is_count(s, r, half_target, count));
     }
 }
 
+// Step exponents, multipliers, steps and errors, and the bound of the rows.
+static VIOLATIONS: [(u32, i128, u32, i128, i128); 5] = [
+    (1, 8, 4, 804534616064, 8896659849216),
+    (1, 8, 641, 400849633280, 104996020212),
+    (1, 1, 1, 998579896320, 5396626407424),
+    (1, 159, 20352, 699629521553, 38759924039),
+    (2, 1600, 1600, 13717765934507, 8804666625918),
+];
+
+fn is_violation(s: u32, r: i128, k: u32, eps: i128, row: i128) -> bool {
+    s <= 40
+        && r >= 1
+        && r <= 1 << 44
+        && k >= 1
+        && eps >= 0
+        && eps <= 1 << 114
+        && violation(s, r, k, eps) == row
+}
+
 #[test]
-fn printed_bounds(rt: HostRuntime) {
-    let bounds: [(u32, i128, u32, i128, i128, i128); 5] = [
-        (1, 8, 4, 804534616064, 8896659849216, 71173278793728),
-        (1, 8, 641, 400849633280, 104996020212, 839968161696),
-        (1, 1, 1, 998579896320, 5396626407424, 5396626407424),
-        (1, 159, 20352, 699629521553, 38759924039, 6162827922201),
-        (
-            2,
-            1600,
-            1600,
-            13717765934507,
-            8804666625918,
-            14087466601468800,
-        ),
-    ];
-    for (s, r, k, eps, row, cost) in bounds {
-        assert_eq!(rt; violation(s, r, k, eps), row, "at {s} {r} {k} {eps}");
-        assert_eq!(rt; undercut(r, row), cost, "at {r} {row}");
+fn violations(rt: HostRuntime) {
+    for &(s, r, k, eps, row) in &VIOLATIONS {
+        assert!(rt; is_violation(s, r, k, eps, row));
     }
+}
+
+// The multipliers times those bounds.
+#[test]
+fn undercuts(rt: HostRuntime) {
+    assert!(rt;
+        undercut(8, 8896659849216) == 71173278793728
+            && undercut(8, 104996020212) == 839968161696
+            && undercut(1, 5396626407424) == 5396626407424
+            && undercut(159, 38759924039) == 6162827922201
+            && undercut(1600, 8804666625918) == 14087466601468800
+    );
 }
 
 // A row with a smaller step exponent than the greatest, and one with the greatest.
 #[test]
 fn row_bounds(rt: HostRuntime) {
-    let bounds: [(u32, i128); 2] = [(0, 6651831648256), (1, 8850854903808)];
-    for (si, row) in bounds {
-        assert_eq!(rt; row_violation(si, 1, 8, 4, 438095052800), row, "at {si}");
-    }
+    assert!(rt;
+        row_violation(0, 1, 8, 4, 438095052800) == 6651831648256
+            && row_violation(1, 1, 8, 4, 438095052800) == 8850854903808
+    );
 }

@@ -2,7 +2,7 @@
 use mat_int::Mat;
 use overflow_check::{BadParts, Controller, greatest_sum, plan_sum, width};
 use qp_model::ControllerParts;
-use std::alloc::Global;
+use std::alloc::{AllocError, Global};
 use std::test::Fail;
 
 // The matrix of these rows.
@@ -47,10 +47,30 @@ fn three_rows(alloc: Global) -> Result<Rows, Fail> {
     })
 }
 
-// One input at one stage of one state, with three rows, a width and a second gain.
-fn one_stage(alloc: Global, w: u32, gain: i128) -> Result<ControllerParts, Fail> {
-    let gains = gains_with(alloc, gain)?;
-    let rows = three_rows(alloc)?;
+// The row exponents and the box of a controller.
+#[derive(Drop)]
+struct Sides {
+    exps: Vec<u32>,
+    lo: Vec<i128>,
+    hi: Vec<i128>,
+}
+
+fn unit_sides(alloc: Global) -> Result<Sides, Fail> {
+    Ok(Sides {
+        exps: vec![in alloc; 1, 1, 1]?,
+        lo: vec![in alloc; 0]?,
+        hi: vec![in alloc; 1]?,
+    })
+}
+
+// A width and the parts of one input at one stage of one state with three rows, put together.
+fn joined(
+    w: u32,
+    gains: Gains,
+    rows: Rows,
+    sides: Result<Sides, Fail>,
+) -> Result<ControllerParts, Fail> {
+    let sides = sides?;
     Ok(ControllerParts {
         version: 1,
         n: 1,
@@ -64,9 +84,9 @@ fn one_stage(alloc: Global, w: u32, gain: i128) -> Result<ControllerParts, Fail>
         steps: 4,
         clamp: 32768,
         words: 6,
-        exps: vec![in alloc; 1, 1, 1]?,
-        lo: vec![in alloc; 0]?,
-        hi: vec![in alloc; 1]?,
+        exps: sides.exps,
+        lo: sides.lo,
+        hi: sides.hi,
         p_mat: gains.p_mat,
         t: gains.t,
         w_mat: gains.w_mat,
@@ -74,6 +94,13 @@ fn one_stage(alloc: Global, w: u32, gain: i128) -> Result<ControllerParts, Fail>
         e_mat: rows.e_mat,
         bound: rows.bound,
     })
+}
+
+// Those with a width and a second gain.
+fn one_stage(alloc: Global, w: u32, gain: i128) -> Result<ControllerParts, Fail> {
+    let gains = gains_with(alloc, gain)?;
+    let rows = three_rows(alloc)?;
+    joined(w, gains, rows, unit_sides(alloc))
 }
 
 // The greatest sum where these parts make a controller.
@@ -96,29 +123,27 @@ static SUMS: [(u32, i128, Result<Option<i128>, BadParts>); 10] = [
     (129, 256, Err(BadParts::Form)),
 ];
 
-// The first width and gain with another sum.
-fn first_other_sum(
-    alloc: Global,
-    cases: &[(u32, i128, Result<Option<i128>, BadParts>)],
-) -> Result<Option<(u32, i128)>, Fail> {
-    for (w, gain, greatest) in cases {
-        if sum_of(one_stage(alloc, *w, *gain)?) != *greatest {
-            return Ok(Some((*w, *gain)));
-        }
-    }
-    Ok(None)
+fn sum_at(alloc: Global, w: u32, gain: i128) -> Result<Result<Option<i128>, BadParts>, Fail> {
+    Ok(sum_of(one_stage(alloc, w, gain)?))
 }
 
 #[test]
 fn sums(rt: HostRuntime) -> Result<(), Fail> {
-    assert_eq!(rt; first_other_sum(rt.alloc(), &SUMS)?, None);
+    for &(w, gain, greatest) in &SUMS {
+        assert!(rt; sum_at(rt.alloc(), w, gain)? == greatest);
+    }
     Ok(())
 }
 
-// The least width of the controller with this gain, and how far its plan's entry lies from 0.
-fn numbers_at(alloc: Global, gain: i128) -> Result<(Option<u32>, Option<i128>), Fail> {
-    let controller = Controller::from_parts(one_stage(alloc, 128, gain)?)?;
+// The least width of the controller of these parts, and how far its plan's entry lies from 0.
+fn numbers_of(parts: ControllerParts) -> Result<(Option<u32>, Option<i128>), BadParts> {
+    let controller = Controller::from_parts(parts)?;
     Ok((width(controller.parts()), plan_sum(controller.parts())))
+}
+
+// Those of the controller with this gain.
+fn numbers_at(alloc: Global, gain: i128) -> Result<(Option<u32>, Option<i128>), Fail> {
+    Ok(numbers_of(one_stage(alloc, 128, gain)?)?)
 }
 
 // A controller whose greatest sum is 26214400, below 2^25, and one whose is 34603008; and the same sums over 2^11, rounded up.
@@ -128,28 +153,16 @@ static WIDTHS: [(i128, (Option<u32>, Option<i128>)); 3] = [
     (1 << 110, (Some(127), Some((1 << 114) + 8704))),
 ];
 
-// The first gain with other numbers.
-fn first_other_width(
-    alloc: Global,
-    cases: &[(i128, (Option<u32>, Option<i128>))],
-) -> Result<Option<i128>, Fail> {
-    for (gain, numbers) in cases {
-        if numbers_at(alloc, *gain)? != *numbers {
-            return Ok(Some(*gain));
-        }
-    }
-    Ok(None)
-}
-
 #[test]
 fn widths_and_plans(rt: HostRuntime) -> Result<(), Fail> {
-    assert_eq!(rt; first_other_width(rt.alloc(), &WIDTHS)?, None);
+    for &(gain, numbers) in &WIDTHS {
+        assert!(rt; numbers_at(rt.alloc(), gain)? == numbers);
+    }
     Ok(())
 }
 
-// The parts with one of them outside its shape or its range.
-fn misshapen(alloc: Global, place: usize) -> Result<ControllerParts, Fail> {
-    let mut parts = one_stage(alloc, 26, 256)?;
+// Puts one of the parts outside its shape or its range.
+fn misshape(alloc: Global, parts: &mut ControllerParts, place: usize) -> Result<(), AllocError> {
     match place {
         0 => parts.n = 5,
         1 => parts.p = 4,
@@ -164,71 +177,66 @@ fn misshapen(alloc: Global, place: usize) -> Result<ControllerParts, Fail> {
         10 => parts.hi = vec![in alloc; -1]?,
         _ => parts.t = vec![in alloc; 0, 0]?,
     }
+    Ok(())
+}
+
+// The parts after that.
+fn misshapen(alloc: Global, place: usize) -> Result<ControllerParts, Fail> {
+    let mut parts = one_stage(alloc, 26, 256)?;
+    misshape(alloc, &mut parts, place)?;
     Ok(parts)
 }
 
-// The first place whose parts are not refused for their form.
-fn first_other_form(alloc: Global) -> Result<Option<usize>, Fail> {
-    for place in 0..12 {
-        if sum_of(misshapen(alloc, place)?) != Err(BadParts::Form) {
-            return Ok(Some(place));
-        }
-    }
-    Ok(None)
+// Whether they are refused for their form.
+fn is_no_form(alloc: Global, place: usize) -> Result<bool, Fail> {
+    Ok(sum_of(misshapen(alloc, place)?) == Err(BadParts::Form))
 }
 
 // What breaks a shape or a range.
 #[test]
 fn forms(rt: HostRuntime) -> Result<(), Fail> {
-    assert_eq!(rt; first_other_form(rt.alloc())?, None);
+    for place in 0..12 {
+        assert!(rt; is_no_form(rt.alloc(), place)?);
+    }
     Ok(())
 }
 
-// The greatest sum with this version and these exponents.
+// The parts with this version and these exponents.
+fn versioned(parts: ControllerParts, version: u32, exps: Vec<u32>) -> ControllerParts {
+    ControllerParts {
+        version,
+        exps,
+        ..parts
+    }
+}
+
+// Their greatest sum.
 fn sum_with(
     alloc: Global,
     version: u32,
     exps: &[u32],
 ) -> Result<Result<Option<i128>, BadParts>, Fail> {
-    let mut parts = one_stage(alloc, 26, 256)?;
-    parts.version = version;
-    parts.exps = exps.to_vec(alloc)?;
-    Ok(sum_of(parts))
+    let exps = exps.to_vec(alloc)?;
+    Ok(sum_of(versioned(one_stage(alloc, 26, 256)?, version, exps)))
 }
 
 // Versions and exponents, and whether they are a controller's, whose greatest sum doesn't rest on them.
-static VERSIONS: [(u32, [u32; 3], Result<Option<i128>, BadParts>); 7] = [
-    (1, [1, 1, 1], Ok(Some(26214400))),
-    (1, [0, 1, 1], Err(BadParts::Form)),
-    (2, [1, 1, 1], Ok(Some(26214400))),
-    (2, [0, 1, 0], Ok(Some(26214400))),
-    (2, [0, 1, 2], Err(BadParts::Form)),
-    (3, [1, 1, 1], Err(BadParts::Form)),
-    (0, [1, 1, 1], Err(BadParts::Form)),
+static VERSIONS: [(u32, &[u32], Result<Option<i128>, BadParts>); 8] = [
+    (1, &[1, 1, 1], Ok(Some(26214400))),
+    (1, &[0, 1, 1], Err(BadParts::Form)),
+    (2, &[1, 1, 1], Ok(Some(26214400))),
+    (2, &[0, 1, 0], Ok(Some(26214400))),
+    (2, &[0, 1, 2], Err(BadParts::Form)),
+    (3, &[1, 1, 1], Err(BadParts::Form)),
+    (0, &[1, 1, 1], Err(BadParts::Form)),
+    // no exponent for a row
+    (2, &[1, 1], Err(BadParts::Form)),
 ];
-
-// The first version and exponents with another sum.
-fn first_other_version(
-    alloc: Global,
-    cases: &[(u32, [u32; 3], Result<Option<i128>, BadParts>)],
-) -> Result<Option<(u32, [u32; 3])>, Fail> {
-    for (version, exps, greatest) in cases {
-        if sum_with(alloc, *version, exps)? != *greatest {
-            return Ok(Some((*version, *exps)));
-        }
-    }
-    Ok(None)
-}
 
 #[test]
 fn versions(rt: HostRuntime) -> Result<(), Fail> {
-    assert_eq!(rt; first_other_version(rt.alloc(), &VERSIONS)?, None);
-    Ok(())
-}
-
-// An exponent for each row.
-#[test]
-fn exponents(rt: HostRuntime) -> Result<(), Fail> {
-    assert_eq!(rt; sum_with(rt.alloc(), 2, &[1, 1])?, Err(BadParts::Form));
+    for &(version, exps, greatest) in &VERSIONS {
+        assert!(rt; sum_with(rt.alloc(), version, exps)? == greatest);
+    }
     Ok(())
 }
