@@ -4,7 +4,7 @@ ghost use Rattle.std.specs.Prelude.{◌≡◌};
 use crate::controllers::controller;
 use fixed_kernel::{Kernel, OutsideBox};
 use overflow_check::Controller;
-use std::alloc::{AllocError, Global};
+use std::alloc::Global;
 use std::test::Fail;
 use word_region::Span;
 
@@ -97,7 +97,7 @@ fn works(kernel: &mut Kernel) -> bool
     has_words(kernel, &[0; 6]) && makes_steps(kernel, &STEPS) && makes_runs(kernel)
 }
 
-fn works_on(alloc: Global, controller: &Controller) -> Result<bool, AllocError>
+fn works_on(alloc: Global, controller: &Controller) -> Result<bool, Fail>
     requires states { controller.now.states ≡ 1 }
     requires words { controller.now.words ≡ 6 }
 {
@@ -108,27 +108,21 @@ fn works_on(alloc: Global, controller: &Controller) -> Result<bool, AllocError>
 // Whether the kernel of version 1 with this clamp and width does.
 fn works_with(alloc: Global, clamp: i128, w: u32) -> Result<bool, Fail> {
     let controller = controller(alloc, 1, clamp, w, [1, 1, 1])?;
-    Ok(works_on(alloc, &controller)?)
+    works_on(alloc, &controller)
 }
+
+static CLAMPS: [(i128, u32); 2] = [(32768, 26), (1 << 63, 80)];
 
 // The steps are the same where the clamp, which no multiplier reaches, fits 64 bits and where it doesn't.
 #[test]
-fn narrow(rt: HostRuntime) -> Result<(), Fail> {
-    assert!(rt; works_with(rt.alloc(), 32768, 26)?);
+fn narrow_and_wide(rt: HostRuntime) -> Result<(), Fail> {
+    for &(clamp, w) in &CLAMPS {
+        assert!(rt; works_with(rt.alloc(), clamp, w)?);
+    }
     Ok(())
 }
 
-#[test]
-fn wide(rt: HostRuntime) -> Result<(), Fail> {
-    assert!(rt; works_with(rt.alloc(), 1 << 63, 80)?);
-    Ok(())
-}
-
-fn makes_steps_on(
-    alloc: Global,
-    controller: &Controller,
-    steps: &[Words; 4],
-) -> Result<bool, AllocError>
+fn makes_steps_on(alloc: Global, controller: &Controller, steps: &[Words; 4]) -> Result<bool, Fail>
     requires states { controller.now.states ≡ 1 }
     requires words { controller.now.words ≡ 6 }
 {
@@ -144,7 +138,7 @@ fn makes_steps_with(
     steps: &[Words; 4],
 ) -> Result<bool, Fail> {
     let controller = controller(alloc, 2, clamp, 26, exps)?;
-    Ok(makes_steps_on(alloc, &controller, steps)?)
+    makes_steps_on(alloc, &controller, steps)
 }
 
 // A row whose multiplier stays 0 may have any exponent.
