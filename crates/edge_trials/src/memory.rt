@@ -19,20 +19,6 @@ fn reads(
     }
 }
 
-// The first place at which a name, read up to a limit, gives something else.
-fn first_other_read(
-    alloc: Global,
-    store: &mut MemStore,
-    cases: &[(&'static str, usize, Result<&'static [u8], ReadRefusal>)],
-) -> Result<Option<usize>, AllocError> {
-    for (i, (name, limit, wanted)) in cases.iter().enumerate() {
-        if !reads(alloc, store, name, *limit, *wanted)? {
-            return Ok(Some(i));
-        }
-    }
-    Ok(None)
-}
-
 // A store that holds one name, has room for another, and fails its second read.
 fn held_store(alloc: Global) -> Result<MemStore, AllocError> {
     let mut store = MemStore::empty(alloc);
@@ -49,11 +35,21 @@ static READS: [(&str, usize, Result<&[u8], ReadRefusal>); 4] = [
     ("b", 9, Err(ReadRefusal::Failed)),
 ];
 
+// Whether a store gives these, one after the other.
+fn gives_listed(alloc: Global, store: &mut MemStore) -> Result<bool, AllocError> {
+    for &(name, limit, wanted) in &READS {
+        if !reads(alloc, store, name, limit, wanted)? {
+            return Ok(false);
+        }
+    }
+    Ok(true)
+}
+
 // Reads of a store in memory, by their numbers.
 #[test]
 fn listed_reads(rt: HostRuntime) -> Result<(), Fail> {
     let mut store = held_store(rt.alloc())?;
-    assert_eq!(rt; first_other_read(rt.alloc(), &mut store, &READS)?, None);
+    assert!(rt; gives_listed(rt.alloc(), &mut store)?);
     Ok(())
 }
 
@@ -133,27 +129,36 @@ fn kept_and_held(rt: HostRuntime) -> Result<(), Fail> {
     Ok(())
 }
 
-// A sink in memory takes all of a piece or nothing.
-#[test]
-fn sinks(rt: HostRuntime) -> Result<(), Fail> {
-    let mut out = MemSink::with(rt.alloc(), 6, &[2])?;
+// Whether a sink with room for six bytes, whose second piece fails, takes these.
+fn takes_pieces(out: &mut MemSink) -> bool {
     let put = [
         out.put(b"abc"),
         out.put(b"d"),
         out.put(b"defg"),
         out.put(b"def"),
     ];
-    assert_eq!(rt; put, [Ok(()), Err(Failed), Err(Failed), Ok(())]);
-    assert_eq!(rt; out.seen(), b"abcdef".as_slice());
+    put == [Ok(()), Err(Failed), Err(Failed), Ok(())] && out.seen() == b"abcdef".as_slice()
+}
+
+// A sink in memory takes all of a piece or nothing.
+#[test]
+fn sinks(rt: HostRuntime) -> Result<(), Fail> {
+    let mut out = MemSink::with(rt.alloc(), 6, &[2])?;
+    assert!(rt; takes_pieces(&mut out));
     Ok(())
+}
+
+// Whether there are no words, and then these two.
+fn takes_words(words: &mut Words) -> Result<bool, AllocError> {
+    let count = words.count();
+    words.push("solve")?;
+    words.push("")?;
+    Ok(count == 0 && words.count() == 2 && words.at(0) == "solve" && words.at(1) == "")
 }
 
 #[test]
 fn words(rt: HostRuntime) -> Result<(), Fail> {
     let mut words = Words::empty(rt.alloc());
-    assert_eq!(rt; words.count(), 0);
-    words.push("solve")?;
-    words.push("")?;
-    assert_eq!(rt; (words.count(), words.at(0), words.at(1)), (2, "solve", ""));
+    assert!(rt; takes_words(&mut words)?);
     Ok(())
 }

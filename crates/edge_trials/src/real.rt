@@ -30,31 +30,23 @@ fn reads_back<R: Files>(
     Ok(read.as_slice() == bytes.as_slice())
 }
 
-// A file of several pieces.
-#[test]
-fn long_file(rt: HostRuntime) -> Result<(), Fail> {
-    assert!(rt; reads_back(&rt, rt.alloc(), "io_edge_real_long", 10000, 20000)?);
-    Ok(())
-}
+// Names, counts of bytes and limits.
+static FILES: [(&str, usize, usize); 4] = [
+    // a file of several pieces
+    ("io_edge_real_long", 10000, 20000),
+    // a file of exactly the limit
+    ("io_edge_real_full", 10000, 10000),
+    // a file of exactly one piece, and no more
+    ("io_edge_real_piece", 4096, 4096),
+    // an empty file
+    ("io_edge_real_empty", 0, 0),
+];
 
-// A file of exactly the limit.
 #[test]
-fn full_file(rt: HostRuntime) -> Result<(), Fail> {
-    assert!(rt; reads_back(&rt, rt.alloc(), "io_edge_real_full", 10000, 10000)?);
-    Ok(())
-}
-
-// A file of exactly one piece, and no more.
-#[test]
-fn one_piece(rt: HostRuntime) -> Result<(), Fail> {
-    assert!(rt; reads_back(&rt, rt.alloc(), "io_edge_real_piece", 4096, 4096)?);
-    Ok(())
-}
-
-// An empty file.
-#[test]
-fn empty_file(rt: HostRuntime) -> Result<(), Fail> {
-    assert!(rt; reads_back(&rt, rt.alloc(), "io_edge_real_empty", 0, 0)?);
+fn files(rt: HostRuntime) -> Result<(), Fail> {
+    for &(name, count, limit) in &FILES {
+        assert!(rt; reads_back(&rt, rt.alloc(), name, count, limit)?);
+    }
     Ok(())
 }
 
