@@ -107,6 +107,23 @@ fn is_turned(mat: &Mat, i: usize) -> bool
 }
 
 // Whether `check` says so of a symmetric matrix and a root of its size.
+fn has_check(mat: &Mat, root: &Mat, yes: bool) -> Result<bool, Fail> {
+    if mat.cols() != mat.rows() || root.cols() != mat.rows() || root.rows() != mat.rows() {
+        return Err("other sizes".into());
+    }
+    if !is_symmetric(mat) {
+        return Err("not symmetric".into());
+    }
+    Ok(check(mat, root) == yes)
+}
+
+// The same of a root of these rows.
+fn has_check_of(alloc: Global, mat: &Mat, root_rows: &[&[i128]], yes: bool) -> Result<bool, Fail> {
+    let root = matrix(alloc, root_rows)?;
+    has_check(mat, &root, yes)
+}
+
+// And of a matrix of these rows.
 fn is_checked(
     alloc: Global,
     rows: &[&[i128]],
@@ -114,29 +131,14 @@ fn is_checked(
     yes: bool,
 ) -> Result<bool, Fail> {
     let mat = matrix(alloc, rows)?;
-    let root = matrix(alloc, root_rows)?;
-    if mat.cols() != mat.rows() || root.cols() != mat.rows() || root.rows() != mat.rows() {
-        return Err("other sizes".into());
-    }
-    if !is_symmetric(&mat) {
-        return Err("not symmetric".into());
-    }
-    Ok(check(&mat, &root) == yes)
-}
-
-// The first of these cases, from 0, of which `check` says otherwise.
-fn first_other_check(alloc: Global, cases: &[(Rows, Rows, bool)]) -> Result<Option<usize>, Fail> {
-    for (k, (rows, root_rows, yes)) in cases.iter().enumerate() {
-        if !is_checked(alloc, rows, root_rows, *yes)? {
-            return Ok(Some(k));
-        }
-    }
-    Ok(None)
+    has_check_of(alloc, &mat, root_rows, yes)
 }
 
 #[test]
 fn checks(rt: HostRuntime) -> Result<(), Fail> {
-    assert_eq!(rt; first_other_check(rt.alloc(), &CHECKS)?, None);
+    for &(rows, root_rows, yes) in &CHECKS {
+        assert!(rt; is_checked(rt.alloc(), rows, root_rows, yes)?);
+    }
     Ok(())
 }
 
@@ -152,32 +154,36 @@ fn is_root(found: &Option<Scaled>, want: &Option<(u32, Rows)>) -> bool {
 }
 
 // Whether a square matrix has this root.
-fn has_root(alloc: Global, rows: &[&[i128]], want: &Option<(u32, Rows)>) -> Result<bool, Fail> {
-    let mat = matrix(alloc, rows)?;
+fn has_root_of(alloc: Global, mat: &Mat, want: &Option<(u32, Rows)>) -> Result<bool, Fail> {
     if mat.cols() != mat.rows() {
         return Err("not square".into());
     }
-    let found = root_of(alloc, &mat)?;
+    let found = root_of(alloc, mat)?;
     Ok(is_root(&found, want))
 }
 
-// The first of these cases, from 0, of another root.
-fn first_other_root(
-    alloc: Global,
-    cases: &[(Rows, Option<(u32, Rows)>)],
-) -> Result<Option<usize>, Fail> {
-    for (k, (rows, want)) in cases.iter().enumerate() {
-        if !has_root(alloc, rows, want)? {
-            return Ok(Some(k));
-        }
-    }
-    Ok(None)
+// Whether that of these rows does.
+fn has_root(alloc: Global, rows: &[&[i128]], want: &Option<(u32, Rows)>) -> Result<bool, Fail> {
+    let mat = matrix(alloc, rows)?;
+    has_root_of(alloc, &mat, want)
 }
 
 #[test]
 fn roots(rt: HostRuntime) -> Result<(), Fail> {
-    assert_eq!(rt; first_other_root(rt.alloc(), &ROOTS)?, None);
+    for (rows, want) in &ROOTS {
+        assert!(rt; has_root(rt.alloc(), rows, want)?);
+    }
     Ok(())
+}
+
+// What is found; an error where memory ran out, so that it is taken for no answer.
+fn answer(
+    found: Result<StepExponents, CurvatureFault>,
+) -> Result<Result<StepExponents, CurvatureFault>, Fail> {
+    match found {
+        Err(CurvatureFault::Memory) => Err(AllocError.into()),
+        found => Ok(found),
+    }
 }
 
 // The exponents of a design's condensed form, or why there are none.
@@ -186,10 +192,7 @@ fn exponents_of(
     design: &Design,
 ) -> Result<Result<StepExponents, CurvatureFault>, Fail> {
     let condensed = condense(alloc, design)?;
-    match curvature(alloc, &condensed) {
-        Err(CurvatureFault::Memory) => Err(AllocError.into()),
-        found => Ok(found),
-    }
+    answer(curvature(alloc, &condensed))
 }
 
 fn exponents(alloc: Global, text: &str) -> Result<Result<StepExponents, CurvatureFault>, Fail> {
@@ -208,15 +211,21 @@ fn exponents_with(
     exponents_of(alloc, &design)
 }
 
-#[test]
-fn first(rt: HostRuntime) -> Result<(), Fail> {
-    assert!(rt; exponents(rt.alloc(), DESIGN)? == Ok(StepExponents { s: 1, s1: 1 }));
-    Ok(())
-}
+// Designs, and their exponents.
+static EXPONENTS: [(&str, StepExponents); 5] = [
+    (DESIGN, StepExponents { s: 1, s1: 1 }),
+    // the most
+    (STEEP, StepExponents { s: 40, s1: 40 }),
+    (CERTIFIED, StepExponents { s: 2, s1: 3 }),
+    (SATELLITE, StepExponents { s: 1, s1: 1 }),
+    (FINE, StepExponents { s: 1, s1: 1 }),
+];
 
 #[test]
-fn most(rt: HostRuntime) -> Result<(), Fail> {
-    assert!(rt; exponents(rt.alloc(), STEEP)? == Ok(StepExponents { s: 40, s1: 40 }));
+fn worked_exponents(rt: HostRuntime) -> Result<(), Fail> {
+    for &(text, want) in &EXPONENTS {
+        assert!(rt; exponents(rt.alloc(), text)? == Ok(want));
+    }
     Ok(())
 }
 
@@ -224,24 +233,6 @@ fn most(rt: HostRuntime) -> Result<(), Fail> {
 fn no_step(rt: HostRuntime) -> Result<(), Fail> {
     let found = exponents_with(rt.alloc(), STEEP, "1400000, 1400000", "1500000, 1500000")?;
     assert!(rt; found == Err(CurvatureFault::NoStep));
-    Ok(())
-}
-
-#[test]
-fn certified(rt: HostRuntime) -> Result<(), Fail> {
-    assert!(rt; exponents(rt.alloc(), CERTIFIED)? == Ok(StepExponents { s: 2, s1: 3 }));
-    Ok(())
-}
-
-#[test]
-fn satellite(rt: HostRuntime) -> Result<(), Fail> {
-    assert!(rt; exponents(rt.alloc(), SATELLITE)? == Ok(StepExponents { s: 1, s1: 1 }));
-    Ok(())
-}
-
-#[test]
-fn fine(rt: HostRuntime) -> Result<(), Fail> {
-    assert!(rt; exponents(rt.alloc(), FINE)? == Ok(StepExponents { s: 1, s1: 1 }));
     Ok(())
 }
 
