@@ -1,3 +1,4 @@
+use Rattle.fixed_kernel.proofs.Raised.{within_clamp}
 use Rattle.std.proofs.Common.{◌≡◌, ◌≢◌, ◌<◌, length, pos, get_or, get_or-set_other, rules, arith, FitsSigned, sym, ◌∙◌}
 use Rattle.std.specs.Int.{w128}
 use Rattle.std.proofs.lemmas.Int.{to_z-of_z}
@@ -33,3 +34,15 @@ loop-i-preserved c =
 pub returns : goal.returns
 returns c =
     fill_by_all (λ k. next_multiplier (numbers c.args.c.now) c.args.state.now c.args.plan.now (get_or c.args.multipliers.now k (pos 0)) k) c.loop-i.multipliers (length c.args.c.now.bound.items) (pos 0) (omega (arith, c.requires.multipliers.long, length-clamp_reach (numbers c.args.c.now))) (λ k h. c.loop-i.invariant.moved k (omega (arith, c.requires.multipliers.long, length-clamp_reach (numbers c.args.c.now))))
+
+pub multiplier_at-requires-clause-old : goal.multiplier_at-requires-clause-old
+multiplier_at-requires-clause-old c = 
+    let n = numbers c.args.c.now in
+    let i = c.loop-i.i in
+    let old : FitsSigned w128 (get_or c.loop-i.multipliers i (pos 0)) = search rules in
+    let row : i < length n.bounds = omega (arith, c.requires.multipliers.long, length-clamp_reach n) in
+    let same = c.loop-i.invariant.others i (omega arith) in
+    rw (to_z-of_z w128 _ old, same) (within_clamp n c.args.multipliers.now i row c.requires.multipliers)
+
+pub multiplier_at-requires-clause-in_range : goal.multiplier_at-requires-clause-in_range
+multiplier_at-requires-clause-in_range c = omega (arith, c.requires.multipliers.long, length-clamp_reach (numbers c.args.c.now))

@@ -43,3 +43,9 @@ returns c =
     let ls = c.args.multipliers.now in
     fill_by_all (λ k. at (next_multipliers n state plan (unraised n ls)) k *ℤ pos (2 ^ lowering_of n k)) c.loop-i.multipliers (length n.bounds) (pos 0) (omega (arith, c.requires.multipliers.long, length-clamp_reach n))
     (λ k h. c.loop-i.invariant.moved k (omega (arith, h, c.requires.multipliers.long, length-clamp_reach n)) ∙ ap (λ (z : _). z *ℤ pos (2 ^ lowering_of n k)) (sym (next_unraised_at n state plan ls k h)))
+
+pub exponents_of-exps-requires-clause-rows : goal.exponents_of-exps-requires-clause-rows
+exponents_of-exps-requires-clause-rows c = omega (arith, c.requires.multipliers.long, length-clamp_reach (numbers c.args.c.now))
+
+pub raised_multiplier_at-requires-clause-in_range : goal.raised_multiplier_at-requires-clause-in_range
+raised_multiplier_at-requires-clause-in_range c = omega (arith, c.requires.multipliers.long, length-clamp_reach (numbers c.args.c.now))

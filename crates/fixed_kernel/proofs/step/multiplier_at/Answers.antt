@@ -1,3 +1,4 @@
+use Rattle.std.proofs.Common.{arith}
 use Rattle.std.proofs.Common.{◌≡◌, pos, get_or, rules, FitsSigned, refl}
 use Rattle.std.specs.Int.{w128}
 use Rattle.std.proofs.lemmas.Int.{to_z-of_z}
@@ -29,3 +30,6 @@ returns c =
     let bound : FitsSigned w128 c.index.result.now = search rules in
     let read : c.index.result.now ≡ get_or c.args.c.now.bound.items c.args.i (pos 0) = get_or_read _ _ _ c.requires.in_range c.index.ensures (pos 0) in
     rw (to_z-of_z w128 _ result, c.multiplier_from.ensures, to_z-of_z w128 _ c.ranges.top, to_z-of_z w128 _ c.ranges.old, to_z-of_z w128 _ row, to_z-of_z w128 _ bound, read, c.row_products-row.ensures) refl
+
+pub multiplier_from-requires-clause-f : goal.multiplier_from-requires-clause-f
+multiplier_from-requires-clause-f c = omega (arith, c.requires.sound.form.sized.fraction_bits)

@@ -1,3 +1,4 @@
+use Rattle.std.proofs.Common.{arith}
 use Rattle.std.proofs.Common.{◌≡◌, ◌^◌, pos, get_or, rules, FitsSigned, refl, sym, ◌∙◌}
 use Rattle.std.specs.Int.{w128}
 use Rattle.std.proofs.lemmas.Int.{to_z-of_z}
@@ -97,3 +98,24 @@ returns-else-lowering-eq0 c =
     let raised : FitsSigned w128 c.scaled_by.result = search rules in
     let read : c.index-else-lowering-eq0.result.now ≡ get_or n.bounds c.args.i (pos 0) = get_or_read _ _ _ c.requires.in_range c.index-else-lowering-eq0.ensures (pos 0) in
     rw (to_z-of_z w128 _ raised, c.scaled_by.ensures, to_z-of_z w128 _ next, c.multiplier_from-next.ensures, to_z-of_z w128 _ top, c.shifted_by-top.ensures, to_z-of_z w128 _ clamp, to_z-of_z w128 _ old, c.shifted_by-old.ensures, c.lowering_at-lowering.ensures.value, to_z-of_z w128 _ c.ranges.raised, to_z-of_z w128 _ sum, to_z-of_z w128 _ bound, read, c.row_products-row.ensures) refl
+
+pub shifted_by-old-requires-clause-bits : goal.shifted_by-old-requires-clause-bits
+shifted_by-old-requires-clause-bits c = omega (arith, c.lowering_at-lowering.ensures.bits)
+
+pub shifted_by-top-requires-clause-bits : goal.shifted_by-top-requires-clause-bits
+shifted_by-top-requires-clause-bits c = omega (arith, c.lowering_at-lowering.ensures.bits)
+
+pub scaled_by-requires-clause-bits : goal.scaled_by-requires-clause-bits
+scaled_by-requires-clause-bits c = omega (arith, c.lowering_at-lowering.ensures.bits)
+
+pub shifted_by-old-requires-clause-narrow : goal.shifted_by-old-requires-clause-narrow
+shifted_by-old-requires-clause-narrow c = λ t. rw (to_z-of_z w128 _ c.ranges.raised) (omega (arith, c.requires.raised, (c.requires.narrow t).clamp))
+
+pub shifted_by-top-requires-clause-narrow : goal.shifted_by-top-requires-clause-narrow
+shifted_by-top-requires-clause-narrow c = λ t. let clamp : FitsSigned w128 c.args.c.now.clamp = search rules in rw (to_z-of_z w128 _ clamp) (c.requires.narrow t).clamp
+
+pub multiplier_from-requires-clause-f : goal.multiplier_from-requires-clause-f
+multiplier_from-requires-clause-f c = omega (arith, c.requires.sound.form.sized.fraction_bits)
+
+pub multiplier_from-next-requires-clause-f : goal.multiplier_from-next-requires-clause-f
+multiplier_from-next-requires-clause-f c = omega (arith, c.requires.sound.form.sized.fraction_bits)
