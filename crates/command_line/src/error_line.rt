@@ -1,10 +1,12 @@
 // The line that tells of an answer.
-ghost use Rattle.std.specs.Prelude.{◌≡◌, IfOk, string_bytes};
+ghost use Rattle.std.specs.Prelude.{◌≡◌, IfOk, string_bytes, codes, [], ◌∷◌};
 ghost use Rattle.std.specs.List.{join_with_byte};
+ghost use Rattle.std.specs.Fmt.{decimal, signed_decimal};
 ghost use Rattle.command_line.specs.StatusLine.{quantity_name, field_name, fault_words, controller_words, status_words, status_line};
 
 use crate::status::{Field, Status, status_number};
 use controller_file::BadController;
+use frac_scaled::Frac;
 use number_text::TextFault;
 use qp_model::Quantity;
 use std::alloc::{AllocError, Global};
@@ -66,6 +68,53 @@ fn controller_words(alloc: Global, fault: &BadController) -> Result<String, Allo
     }
 }
 
+// A file's fault, where it is a text.
+fn text_words(alloc: Global, file: u32, fault: &TextFault) -> Result<String, AllocError>
+    ensures { IfOk result (λ text. string_bytes text ≡ join_with_byte 32 (codes "text" ∷ decimal file ∷ fault_words fault.now)) }
+{
+    let fault = fault_words(alloc, fault)?;
+    format!(in alloc; "text {file} {fault}")
+}
+
+// A file's fault, where it is a controller.
+fn refusal_words(alloc: Global, file: u32, fault: &BadController) -> Result<String, AllocError>
+    ensures { IfOk result (λ text. string_bytes text ≡ join_with_byte 32 (codes "controller" ∷ decimal file ∷ controller_words fault.now)) }
+{
+    let fault = controller_words(alloc, fault)?;
+    format!(in alloc; "controller {file} {fault}")
+}
+
+// A slack that is less than the margin, and where it is.
+fn margin_words(alloc: Global, corner: u32, row: u32, slack: &Frac) -> Result<String, AllocError>
+    ensures { IfOk result (λ text. string_bytes text
+        ≡ join_with_byte 32 (codes "no-margin" ∷ decimal corner ∷ decimal row ∷ signed_decimal slack.now.num ∷ signed_decimal slack.now.den ∷ [])) }
+{
+    let (num, den) = (slack.num, slack.den);
+    format!(in alloc; "no-margin {corner} {row} {num} {den}")
+}
+
+// The quantity that is too large.
+fn wide_words(alloc: Global, quantity: &Quantity) -> Result<String, AllocError>
+    ensures { IfOk result (λ text. string_bytes text ≡ join_with_byte 32 (codes "too-wide" ∷ quantity_name quantity.now ∷ [])) }
+{
+    let name = quantity_name(quantity);
+    format!(in alloc; "too-wide {name}")
+}
+
+// What a design and a controller differ in, and both numbers.
+fn mismatch_words(
+    alloc: Global,
+    field: &Field,
+    design: i128,
+    controller: i128,
+) -> Result<String, AllocError>
+    ensures { IfOk result (λ text. string_bytes text
+        ≡ join_with_byte 32 (codes "mismatch" ∷ field_name field.now ∷ signed_decimal design ∷ signed_decimal controller ∷ [])) }
+{
+    let name = field_name(field);
+    format!(in alloc; "mismatch {name} {design} {controller}")
+}
+
 // The name of an answer, and its numbers.
 fn status_words(alloc: Global, status: &Status) -> Result<String, AllocError>
     ensures { IfOk result (λ text. string_bytes text ≡ join_with_byte 32 (status_words status.now)) }
@@ -76,25 +125,13 @@ fn status_words(alloc: Global, status: &Status) -> Result<String, AllocError>
         Status::Usage => format!(in alloc; "usage"),
         Status::ReadFault { file } => format!(in alloc; "read-fault {file}"),
         Status::WriteFault { file } => format!(in alloc; "write-fault {file}"),
-        Status::Text { file, fault } => {
-            let fault = fault_words(alloc, fault)?;
-            format!(in alloc; "text {file} {fault}")
-        }
-        Status::NoMargin { corner, row, slack } => {
-            let (num, den) = (slack.num, slack.den);
-            format!(in alloc; "no-margin {corner} {row} {num} {den}")
-        }
+        Status::Text { file, fault } => text_words(alloc, *file, fault),
+        Status::NoMargin { corner, row, slack } => margin_words(alloc, *corner, *row, slack),
         Status::Curvature => format!(in alloc; "curvature"),
         Status::TooManySteps { k } => format!(in alloc; "too-many-steps {k}"),
         Status::TooFine { eps } => format!(in alloc; "too-fine {eps}"),
-        Status::TooWide { quantity } => {
-            let name = quantity_name(quantity);
-            format!(in alloc; "too-wide {name}")
-        }
-        Status::Controller { file, fault } => {
-            let fault = controller_words(alloc, fault)?;
-            format!(in alloc; "controller {file} {fault}")
-        }
+        Status::TooWide { quantity } => wide_words(alloc, quantity),
+        Status::Controller { file, fault } => refusal_words(alloc, *file, fault),
         Status::OutsideBox {
             entry,
             turn,
@@ -105,10 +142,7 @@ fn status_words(alloc: Global, status: &Status) -> Result<String, AllocError>
             field,
             design,
             controller,
-        } => {
-            let name = field_name(field);
-            format!(in alloc; "mismatch {name} {design} {controller}")
-        }
+        } => mismatch_words(alloc, field, *design, *controller),
     }
 }
 

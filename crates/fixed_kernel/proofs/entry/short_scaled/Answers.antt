@@ -4,12 +4,12 @@ use Rattle.std.proofs.lemmas.Int.{to_z-of_z}
 use Rattle.fixed_kernel.proofs.entry.short_scaled.Goals as goal
 
 pub scaled-requires-clause-fits : goal.scaled-requires-clause-fits
-scaled-requires-clause-fits c = 
+scaled-requires-clause-fits c =
     let same : c.args.k % 64 ≡ c.args.k = omega (arith, c.requires.bits) in
     rw (to_z-of_z w128 _ c.ranges.v, same) c.requires.fits
 
 pub returns : goal.returns
-returns c = 
+returns c =
     let fits : FitsSigned w128 c.scaled.result = search rules in
     let same : c.args.k % 64 ≡ c.args.k = omega (arith, c.requires.bits) in
     rw (to_z-of_z w128 _ fits, c.scaled.ensures, to_z-of_z w128 _ c.ranges.v, same) refl

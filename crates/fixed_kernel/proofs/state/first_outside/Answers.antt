@@ -32,11 +32,11 @@ outside c h =
     let low : FitsSigned w128 c.index.result.now = search rules in
     let low_read : c.index.result.now ≡ at c.args.c.now.lo.items i = get_or_read c.args.c.now.lo.items i c.index.result.now (omega (arith, shaped.low, c.requires.long)) c.index.ensures (pos 0) in
     elim c.then-x-index.branch [
-      then-x-index-via-then-x-index w ↦ omega (arith, ints, low_read, h.low, w.if-x-index.true)
-    | then-x-index-via-else-x-index+then-index-x w ↦
-        let high : FitsSigned w128 w.index-else-x-index.result.now = search rules in
-        let high_read : w.index-else-x-index.result.now ≡ at c.args.c.now.hi.items i = get_or_read c.args.c.now.hi.items i w.index-else-x-index.result.now (omega (arith, shaped.high, c.requires.long)) w.index-else-x-index.ensures (pos 0) in
-        omega (arith, ints, high_read, h.high, w.if-index-x.true)
+      | then-x-index-via-then-x-index w ↦ omega (arith, ints, low_read, h.low, w.if-x-index.true)
+      | then-x-index-via-else-x-index+then-index-x w ↦
+          let high : FitsSigned w128 w.index-else-x-index.result.now = search rules in
+          let high_read : w.index-else-x-index.result.now ≡ at c.args.c.now.hi.items i = get_or_read c.args.c.now.hi.items i w.index-else-x-index.result.now (omega (arith, shaped.high, c.requires.long)) w.index-else-x-index.ensures (pos 0) in
+          omega (arith, ints, high_read, h.high, w.if-index-x.true)
     ]
 
 pub returns-then-x-index-clause-inside : goal.returns-then-x-index-clause-inside

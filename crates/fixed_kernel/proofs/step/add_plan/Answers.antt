@@ -17,14 +17,14 @@ returns c =
     fill_by_all (λ j. get_or c.args.sums.now j (pos 0) +ℤ get_or c.args.plan.now j (pos 0)) c.loop-j.sums (length c.args.plan.now) (pos 0) (omega arith) (λ k h. c.loop-j.invariant.moved k (omega arith))
 
 pub overflow_add-sum : goal.overflow_add-sum
-overflow_add-sum c = 
+overflow_add-sum c =
     let j = c.loop-j.j in
     let old : FitsSigned w128 (get_or c.loop-j.sums j (pos 0)) = search rules in
     let entry : FitsSigned w128 (get_or c.args.plan.now j (pos 0)) = search rules in
     rw (to_z-of_z w128 _ old, to_z-of_z w128 _ entry, c.loop-j.invariant.others j (omega arith)) (sum_fits c)
 
 pub loop-j-preserved : goal.loop-j-preserved
-loop-j-preserved c = 
+loop-j-preserved c =
     let j = c.loop-j.j in
     let old : FitsSigned w128 (get_or c.loop-j.sums j (pos 0)) = search rules in
     let entry : FitsSigned w128 (get_or c.args.plan.now j (pos 0)) = search rules in

@@ -36,7 +36,7 @@ returns c =
     fill_by_all (λ k. next_multiplier (numbers c.args.c.now) c.args.state.now c.args.plan.now (get_or c.args.multipliers.now k (pos 0)) k) c.loop-i.multipliers (length c.args.c.now.bound.items) (pos 0) (omega (arith, c.requires.multipliers.long, length-clamp_reach (numbers c.args.c.now))) (λ k h. c.loop-i.invariant.moved k (omega (arith, c.requires.multipliers.long, length-clamp_reach (numbers c.args.c.now))))
 
 pub multiplier_at-requires-clause-old : goal.multiplier_at-requires-clause-old
-multiplier_at-requires-clause-old c = 
+multiplier_at-requires-clause-old c =
     let n = numbers c.args.c.now in
     let i = c.loop-i.i in
     let old : FitsSigned w128 (get_or c.loop-i.multipliers i (pos 0)) = search rules in

@@ -34,15 +34,15 @@ pub put_start-requires-clause-long : goal.put_start-requires-clause-long
 put_start-requires-clause-long c = c.cells_mut.ensures.len ∙ ap (λ (s : Span). s.len) c.all_of.ensures
 
 pub returns-in-Some-clause-inside : goal.returns-in-Some-clause-inside
-returns-in-Some-clause-inside c = 
+returns-in-Some-clause-inside c =
     let own = c.parts-c.ensures.value ∙ ap (λ (p : Progress). p.controller) c.self.view_is in
     (λ ok. cc, λ inside. cc (c.in-Some.ensures.inside.1 (subst (λ (n : Numbers). IsAdmissible n c.args.state.now) (sym own) inside)))
 
 pub returns-in-Some-clause-first : goal.returns-in-Some-clause-first
-returns-in-Some-clause-first c = 
+returns-in-Some-clause-first c =
     subst (λ (n : Numbers). IsFirstOutside n c.args.state.now c.in-Some.coordinate) (c.parts-c.ensures.value ∙ ap (λ (p : Progress). p.controller) c.self.view_is) c.in-Some.ensures.first
 
 pub returns-clause-inside : goal.returns-clause-inside
-returns-clause-inside c = 
+returns-clause-inside c =
     let own = c.parts-c.ensures.value ∙ ap (λ (p : Progress). p.controller) c.self.view_is in
     (λ ok. subst (λ (n : Numbers). IsAdmissible n c.args.state.now) own (c.in_default.ensures.inside.0 refl), λ inside. refl)
