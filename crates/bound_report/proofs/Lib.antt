@@ -1,4 +1,3 @@
 mod Growing
 mod RowLines
 mod Compact
-mod Members

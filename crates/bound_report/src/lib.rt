@@ -1,11 +1,11 @@
 //! What a report says of a controller, as lines of text or as JSON.
 #![tactic(auto)]
 
-ghost use Rattle.std.specs.Prelude.{◌≡◌, ◌++◌, IfOk, OnOk, string_bytes};
+ghost use Rattle.std.specs.Prelude.{◌≡◌, ◌++◌, ◌∷◌, [], map, fold, IfOk, OnOk, string_bytes};
 ghost use Rattle.std.specs.Fmt.{signed_decimal};
 ghost use Rattle.number_text.specs.Lines.{text_of};
 ghost use Rattle.qp_model.specs.Printed.{printed};
-ghost use Rattle.bound_report.specs.Report.{report_head, bound_lines, violation_lines, numbered_violations, report_text, first_members, last_members, json_members, report_json};
+ghost use Rattle.bound_report.specs.Report.{One, report_head, bound_lines, violation_lines, numbered_violations, report_text, first_members, last_members, json_members, report_json};
 ghost use Rattle.bound_report.specs.Document.{strings_of, members_of, object_of, IsJsonLine};
 ghost use Rattle.serde_json.specs.Data.{string, put};
 ghost use Rattle.serde_json.specs.View.{view, items_view, members_view};
@@ -53,24 +53,92 @@ fn report_members(alloc: Global, b: &Bounds) -> Result<Map<String, Value>, Alloc
     Ok(members)
 }
 
+// A number and its key.
+#[derive(Clone, Copy)]
+struct KeyedNumber {
+    key: &'static str,
+    number: i128,
+}
+
 // Those of one number.
 fn number_members(alloc: Global, b: &Bounds) -> Result<Map<String, Value>, AllocError>
     ensures { IfOk result (λ m. members_view m.entries ≡ members_of (first_members (printed b.now) ++ last_members (printed b.now))) }
 {
     let mut members = Map::new(alloc);
-    put_number(alloc, &mut members, "bits", i128::from(b.bits))?;
-    put_number(alloc, &mut members, "cost", b.cost)?;
-    put_number(alloc, &mut members, "gap", b.gap)?;
-    put_number(alloc, &mut members, "margin", b.margin)?;
-    put_number(alloc, &mut members, "multiplier", b.multiplier)?;
-    put_number(alloc, &mut members, "step", i128::from(b.step))?;
-    put_number(alloc, &mut members, "steps", i128::from(b.steps))?;
-    put_number(alloc, &mut members, "undercut", b.undercut)?;
-    put_number(alloc, &mut members, "version", i128::from(b.version))?;
-    put_number(alloc, &mut members, "violation", b.violation)?;
-    put_number(alloc, &mut members, "width", i128::from(b.width))?;
-    put_number(alloc, &mut members, "words", b.words as i128)?;
+    put_numbers(alloc, &mut members, &figures_of(b))?;
     Ok(members)
+}
+
+// The numbers under their keys, in the order of the keys.
+fn figures_of(b: &Bounds) -> [KeyedNumber; 12]
+    ensures { let p = printed b.now in
+        map (λ f. (f.key.now, One f.number)) result ≡ first_members p ++ last_members p }
+{
+    [
+        KeyedNumber {
+            key: "bits",
+            number: i128::from(b.bits),
+        },
+        KeyedNumber {
+            key: "cost",
+            number: b.cost,
+        },
+        KeyedNumber {
+            key: "gap",
+            number: b.gap,
+        },
+        KeyedNumber {
+            key: "margin",
+            number: b.margin,
+        },
+        KeyedNumber {
+            key: "multiplier",
+            number: b.multiplier,
+        },
+        KeyedNumber {
+            key: "step",
+            number: i128::from(b.step),
+        },
+        KeyedNumber {
+            key: "steps",
+            number: i128::from(b.steps),
+        },
+        KeyedNumber {
+            key: "undercut",
+            number: b.undercut,
+        },
+        KeyedNumber {
+            key: "version",
+            number: i128::from(b.version),
+        },
+        KeyedNumber {
+            key: "violation",
+            number: b.violation,
+        },
+        KeyedNumber {
+            key: "width",
+            number: i128::from(b.width),
+        },
+        KeyedNumber {
+            key: "words",
+            number: b.words as i128,
+        },
+    ]
+}
+
+// Numbers under their keys, one by one.
+fn put_numbers(
+    alloc: Global,
+    members: &mut Map<String, Value>,
+    figures: &[KeyedNumber],
+) -> Result<(), AllocError>
+    ensures { OnOk result (members_view members.new.entries
+        ≡ fold (λ m f. put f.key.now (string (signed_decimal f.number)) m) (members_view members.old.entries) figures.now) }
+{
+    for figure in figures {
+        put_number(alloc, members, figure.key, figure.number)?;
+    }
+    Ok(())
 }
 
 // A number under its key, as a string.
@@ -93,10 +161,18 @@ fn number_strings(alloc: Global, numbers: &[i128]) -> Result<Vec<Value>, AllocEr
 {
     let mut strings = Vec::new(alloc);
     for number in numbers {
-        let text = number.to_string(alloc)?;
-        strings.push(Value::String(text))?;
+        push_string(alloc, &mut strings, *number)?;
     }
     Ok(strings)
+}
+
+// One more number as a string.
+fn push_string(alloc: Global, strings: &mut Vec<Value>, number: i128) -> Result<(), AllocError>
+    ensures { OnOk result (map view strings.new.items ≡ map view strings.old.items ++ string (signed_decimal number) ∷ []) }
+{
+    let text = number.to_string(alloc)?;
+    strings.push(Value::String(text))?;
+    Ok(())
 }
 
 // The header, the margin and what was chosen.

@@ -1,4 +1,4 @@
-use Rattle.std.proofs.Common.{◌≡◌, ◌≢◌, ◌<◌, ◌+ℤ◌, length, pos, get_or, get_or-set_other, rules, arith, FitsSigned}
+use Rattle.std.proofs.Common.{◌≢◌, ◌<◌, ◌+ℤ◌, length, pos, get_or, get_or-set_other, rules, arith, FitsSigned}
 use Rattle.std.specs.Int.{w128}
 use Rattle.std.proofs.lemmas.Int.{to_z-of_z, fits_signed_from_abs}
 use Rattle.std.proofs.lemmas.List.Edits.{fill_by_more}
