@@ -70,3 +70,6 @@ returns-in-Ok-clause-reads g c =
 pub returns-in-Ok-clause-writes : goal.returns-in-Ok-clause-writes
 returns-in-Ok-clause-writes g c =
     none_falls_twice (g.S.Store.write_faults c.args.store.now) (g.S.Store.write_faults c.texts_for.new.store) (g.S.Store.write_faults c.write_texts.new.store) c.in-Ok.ensures.writes c.write_texts.ensures.writes
+
+pub returns-in-Err-clause-read_fault : goal.returns-in-Err-clause-read_fault
+returns-in-Err-clause-read_fault g c = c.in-Err.ensures.read_fault
