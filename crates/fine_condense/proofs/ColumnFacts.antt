@@ -4,6 +4,8 @@ use mathlib.Core.Path.{fun_ext}
 use Rattle.std.proofs.Math.Nat.{mul-le-mul}
 use Rattle.std.proofs.lemmas.Bool.{lt-ltb, le-ltb}
 use Rattle.std.proofs.lemmas.List.{get_or-map, length-map}
+use Rattle.std.specs.Prelude.{Result, IfOk}
+use Rattle.std.proofs.lemmas.Result.{IfOk-weaker}
 use Rattle.integer_algebra.specs.Sums.{none}
 use Rattle.frac_scaled.specs.Enclosures.{Enclosure, exactly}
 use Rattle.mat_int.specs.Matrix.{Matrix, with_entry, zero_matrix}
@@ -69,6 +71,12 @@ pub column_long : (mid rad : Matrix) (height width known : ℕ) (f : ℕ → ℕ
     HoldsEncMatrix mid rad height width known f → length xs ≡ length mid.rows
 column_long mid rad height width known f xs g h p = h.long ∙ sym p.mids.long
 
+-- also where it was perhaps not made
+pub column_rows : {V E : Type 0} (r : Result V E) (items : V → List Enc) (mid rad : Matrix) (height width known : ℕ) (f : ℕ → ℕ → Enclosure) (g : ℕ → Enclosure) →
+    IfOk r (λ v. HoldsEnclosures (items v) height g) → HoldsEncMatrix mid rad height width known f → IfOk r (λ v. length (items v) ≡ length mid.rows)
+column_rows r items mid rad height width known f g h p =
+    IfOk-weaker r _ (λ v. length (items v) ≡ length mid.rows) (λ v held. column_long mid rad height width known f (items v) g held p) h
+
 -- and its place is in the matrix
 pub column_inside : (mid rad : Matrix) (height width known j : ℕ) (f : ℕ → ℕ → Enclosure) → HoldsEncMatrix mid rad height width known f → j < width → j < mid.cols
 column_inside mid rad height width known j f p l = rw p.mids.wide l
@@ -132,6 +140,18 @@ module _ (p q : DesignParts) (x v : ℕ → ℤ) (first : ℕ) (start plan : Lis
 
     pub limit_to : P (rows (design_of q)) (fine_limit (design_of q) (pair_at start) (pair_at plan)) → P (rows (design_of p)) (fine_limit (design_of p) (wholes x) (wholes v))
     limit_to = written (λ (r : DesignParts) (n : ℕ) (x v : ℕ → Enclosure). P (rows (design_of r)) (fine_limit (design_of r) x v))
+
+-- that a run's rows fit, where it was perhaps not made
+module _ {R E : Type 0} (run : Result R E) (parts : R → DesignParts) (first : R → ℕ) (start plan : R → List Enc) (p : DesignParts) (x v : ℕ → ℤ) where
+  pub costs_fit : fine_response_size (design_of p) ≤ 2 ^ 126 → IfOk run (λ r. IsRunOfWholes p x v (parts r) (first r) (start r) (plan r)) →
+      IfOk run (λ r. cost_width (design_of (parts r)) * reach_from (design_of (parts r)) (first r) (parts r).stages ≤ 2 ^ 126)
+  costs_fit l h = IfOk-weaker run _ (λ r. cost_width (design_of (parts r)) * reach_from (design_of (parts r)) (first r) (parts r).stages ≤ 2 ^ 126)
+      (λ r made. cost_fits p (parts r) x v (first r) (start r) (plan r) made l) h
+
+  pub limits_fit : fine_limit_entry_size (design_of p) ≤ 2 ^ 126 → IfOk run (λ r. IsRunOfWholes p x v (parts r) (first r) (start r) (plan r)) →
+      IfOk run (λ r. limit_width (design_of (parts r)) * reach_from (design_of (parts r)) (first r) (parts r).stages ≤ 2 ^ 126)
+  limits_fit l h = IfOk-weaker run _ (λ r. limit_width (design_of (parts r)) * reach_from (design_of (parts r)) (first r) (parts r).stages ≤ 2 ^ 126)
+      (λ r made. limit_fits p (parts r) x v (first r) (start r) (plan r) made l) h
 
 -- a cost column by its place
 module _ (P : (ℕ → Enclosure) → Type 0) (p : DesignParts) (j : ℕ) where

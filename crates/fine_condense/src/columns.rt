@@ -1,18 +1,21 @@
 // What the rows have of each entry of the plan and of each state, in enclosures, column by column.
-ghost use Rattle.std.specs.Prelude.{◌≡◌, ◌≤◌, ◌<◌, ◌+◌, ◌*◌, ◌^◌, ℕ, length, IfOk};
-ghost use Rattle.frac_scaled.specs.Enclosures.{exactly};
+ghost use Rattle.std.specs.Prelude.{◌≡◌, ◌≤◌, ◌<◌, ◌+◌, ◌*◌, ◌^◌, ℕ, ℤ, length, IfOk, OnOk};
+ghost use Rattle.frac_scaled.specs.Enclosures.{Enclosure, exactly};
 ghost use Rattle.qp_model.specs.Design.{entries, rows};
+ghost use Rattle.qp_model.specs.declared.design_parts.DesignParts.{DesignParts};
 ghost use Rattle.qp_model.specs.Parts.{design_of, IsDesign};
 ghost use Rattle.qp_model.specs.Runs.{counts};
-ghost use Rattle.qp_model.specs.FineForm.{counted_row, fine_costs, fine_by_plan, fine_by_state};
-ghost use Rattle.qp_model.specs.FineSizes.{fine_prediction_size, fine_response_size, fine_limit_entry_size};
+ghost use Rattle.qp_model.specs.Quantities.{cost_width, limit_width};
+ghost use Rattle.qp_model.specs.FineForm.{counted_row, wholes, fine_cost, fine_costs, fine_limit, fine_by_plan, fine_by_state};
+ghost use Rattle.qp_model.specs.FineSizes.{reach_from, fine_prediction_size, fine_response_size, fine_limit_entry_size};
 ghost use Rattle.condensed_form.specs.Lists.{with_column};
 ghost use Rattle.fine_run.specs.Lists.{HoldsEnclosures};
-ghost use Rattle.fine_condense.specs.Lists.{HoldsEncMatrix, mids, rads};
+ghost use Rattle.fine_condense.specs.Lists.{IsRunOfWholes, HoldsEncMatrix, mids, rads};
 
 use crate::units::{run_of_plan, run_of_state, whole};
 use condensed_form::target_at;
 use enclosure::{Enc, EncMat};
+use fine_run::FineRun;
 use qp_model::DesignParts;
 use std::alloc::{AllocError, Global};
 
@@ -28,6 +31,22 @@ pub fn set_column(mat: &mut EncMat, j: usize, column: &[Enc])
     }
 }
 
+// Puts a list into column `j`, unless there was no memory for the list. It is handed the call's answer, so that a loop over columns drops no list.
+pub fn put_column(
+    mat: &mut EncMat,
+    j: usize,
+    column: Result<Vec<Enc>, AllocError>,
+) -> Result<(), AllocError>
+    requires rows { IfOk column (λ v. length v.items ≡ length mat.old.mid.rows) }
+    requires column { j < mat.old.mid.cols }
+    ensures { OnOk result ((height width : ℕ) → (f : ℕ → ℕ → Enclosure) → j < width → IfOk column (λ v. HoldsEnclosures v.items height (λ i. f i j)) →
+        HoldsEncMatrix mat.old.mid mat.old.rad height width j f → HoldsEncMatrix mat.new.mid mat.new.rad height width (j + 1) f) }
+{
+    let column = column?;
+    set_column(mat, j, &column);
+    Ok(())
+}
+
 // The target of each counted cost row, times `row_den`.
 fn targets(alloc: Global, parts: &DesignParts) -> Result<Vec<Enc>, AllocError>
     requires { IsDesign parts.now }
@@ -41,6 +60,26 @@ fn targets(alloc: Global, parts: &DesignParts) -> Result<Vec<Enc>, AllocError>
     Ok(out)
 }
 
+// What the counted cost rows have of a run that was made.
+fn costs_of<'a>(alloc: Global, run: Result<FineRun<'a>, AllocError>) -> Result<Vec<Enc>, AllocError>
+    requires { IfOk run (λ r. cost_width (design_of r.parts.now) * reach_from (design_of r.parts.now) r.first r.parts.now.stages ≤ 2 ^ 126) }
+    ensures { (p : DesignParts) → (x v : ℕ → ℤ) → IfOk run.entry (λ r. IsRunOfWholes p x v r.parts.now r.first r.start.items r.plan.items) →
+        IfOk result (λ c. HoldsEnclosures c.items (counts (design_of p)) (fine_cost (design_of p) (wholes x) (wholes v))) }
+{
+    let run = run?;
+    run.costs(alloc)
+}
+
+// What the limit rows have of such a run.
+fn limits_of<'a>(alloc: Global, run: Result<FineRun<'a>, AllocError>) -> Result<Vec<Enc>, AllocError>
+    requires { IfOk run (λ r. limit_width (design_of r.parts.now) * reach_from (design_of r.parts.now) r.first r.parts.now.stages ≤ 2 ^ 126) }
+    ensures { (p : DesignParts) → (x v : ℕ → ℤ) → IfOk run.entry (λ r. IsRunOfWholes p x v r.parts.now r.first r.start.items r.plan.items) →
+        IfOk result (λ c. HoldsEnclosures c.items (rows (design_of p)) (fine_limit (design_of p) (wholes x) (wholes v))) }
+{
+    let run = run?;
+    run.limits(alloc)
+}
+
 // What the counted cost rows have of column `j`: of the plan's entries, then of the states, and then their targets.
 fn cost_column(alloc: Global, parts: &DesignParts, j: usize) -> Result<Vec<Enc>, AllocError>
     requires design { IsDesign parts.now }
@@ -50,10 +89,10 @@ fn cost_column(alloc: Global, parts: &DesignParts, j: usize) -> Result<Vec<Enc>,
 {
     let entries = parts.stages * parts.inputs;
     if j < entries {
-        return run_of_plan(alloc, parts, j)?.costs(alloc);
+        return costs_of(alloc, run_of_plan(alloc, parts, j));
     }
     if j < entries + parts.states {
-        return run_of_state(alloc, parts, j - entries)?.costs(alloc);
+        return costs_of(alloc, run_of_state(alloc, parts, j - entries));
     }
     targets(alloc, parts)
 }
@@ -70,8 +109,7 @@ pub fn cost_columns(alloc: Global, parts: &DesignParts) -> Result<EncMat, AllocE
     let count = parts.stages * parts.stage_cost.rows() + parts.final_cost.rows();
     let mut mat = EncMat::zero(alloc, count, width)?;
     for j in 0..width {
-        let column = cost_column(alloc, parts, j)?;
-        set_column(&mut mat, j, &column);
+        put_column(&mut mat, j, cost_column(alloc, parts, j))?;
     }
     Ok(mat)
 }
@@ -88,9 +126,7 @@ pub fn fine_plan_columns(alloc: Global, parts: &DesignParts) -> Result<EncMat, A
     let count = parts.stages * parts.stage_rows.rows() + parts.final_rows.rows();
     let mut mat = EncMat::zero(alloc, count, width)?;
     for j in 0..width {
-        let run = run_of_plan(alloc, parts, j)?;
-        let column = run.limits(alloc)?;
-        set_column(&mut mat, j, &column);
+        put_column(&mut mat, j, limits_of(alloc, run_of_plan(alloc, parts, j)))?;
     }
     Ok(mat)
 }
@@ -106,9 +142,7 @@ pub fn fine_state_columns(alloc: Global, parts: &DesignParts) -> Result<EncMat, 
     let count = parts.stages * parts.stage_rows.rows() + parts.final_rows.rows();
     let mut mat = EncMat::zero(alloc, count, parts.states)?;
     for j in 0..parts.states {
-        let run = run_of_state(alloc, parts, j)?;
-        let column = run.limits(alloc)?;
-        set_column(&mut mat, j, &column);
+        put_column(&mut mat, j, limits_of(alloc, run_of_state(alloc, parts, j)))?;
     }
     Ok(mat)
 }

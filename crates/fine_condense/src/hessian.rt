@@ -7,7 +7,7 @@ ghost use Rattle.fine_run.specs.Lists.{HoldsEnclosures};
 ghost use Rattle.fine_condense.specs.Lists.{HoldsEncMatrix};
 ghost use Rattle.fine_condense.specs.Numbers.{AreProducts};
 
-use crate::columns::set_column;
+use crate::columns::put_column;
 use crate::scales::brought_weight;
 use enclosure::{Enc, EncMat};
 use qp_model::DesignParts;
@@ -110,8 +110,7 @@ pub fn hessian_numbers(
     let count = parts.stages * parts.inputs;
     let mut mat = EncMat::zero(alloc, count, count)?;
     for j in 0..count {
-        let column = hessian_column(alloc, parts, products, j)?;
-        set_column(&mut mat, j, &column);
+        put_column(&mut mat, j, hessian_column(alloc, parts, products, j))?;
     }
     Ok(mat)
 }
@@ -129,8 +128,7 @@ pub fn linear_numbers(
     let count = parts.stages * parts.inputs;
     let mut mat = EncMat::zero(alloc, count, parts.states)?;
     for i in 0..parts.states {
-        let column = linear_column(alloc, parts, products, i)?;
-        set_column(&mut mat, i, &column);
+        put_column(&mut mat, i, linear_column(alloc, parts, products, i))?;
     }
     Ok(mat)
 }

@@ -6,33 +6,28 @@ use Rattle.qp_model.specs.Design.{entries}
 use Rattle.qp_model.specs.Parts.{design_of}
 use Rattle.qp_model.specs.Runs.{unit, counts}
 use Rattle.fine_run.specs.Lists.{HoldsEnclosures}
-use Rattle.fine_condense.proofs.ColumnFacts.{cost_fits, cost_to, plan_cost_to, state_cost_to, target_to}
+use Rattle.fine_condense.proofs.ColumnFacts.{costs_fit, plan_cost_to, state_cost_to, target_to}
 use Rattle.fine_condense.proofs.columns.cost_column.Goals as goal
 
-pub costs-requires : goal.costs-requires
-costs-requires c =
-    let r = c.in_ok-run_of_plan.field-0 in
-    cost_fits c.args.parts.now r.parts.now none (unit c.args.j) r.first r.start.items r.plan.items c.in_ok-run_of_plan.ensures c.requires.fits
+pub costs_of-requires : goal.costs_of-requires
+costs_of-requires c =
+    costs_fit c.run_of_plan.result (λ r. r.parts.now) (λ r. r.first) (λ r. r.start.items) (λ r. r.plan.items) c.args.parts.now none (unit c.args.j) c.requires.fits c.run_of_plan.ensures
 
-pub costs-requires-then-j-entries-2 : goal.costs-requires-then-j-entries-2
-costs-requires-then-j-entries-2 c =
-    let r = c.in_ok-run_of_state.field-0 in
-    cost_fits c.args.parts.now r.parts.now (unit (c.args.j - entries (design_of c.args.parts.now))) none r.first r.start.items r.plan.items c.in_ok-run_of_state.ensures c.requires.fits
+pub costs_of-requires-then-j-entries-2 : goal.costs_of-requires-then-j-entries-2
+costs_of-requires-then-j-entries-2 c =
+    costs_fit c.run_of_state.result (λ r. r.parts.now) (λ r. r.first) (λ r. r.start.items) (λ r. r.plan.items) c.args.parts.now
+    (unit (c.args.j - entries (design_of c.args.parts.now))) none c.requires.fits c.run_of_state.ensures
 
 pub returns-then-j-entries : goal.returns-then-j-entries
 returns-then-j-entries c =
-    let r = c.in_ok-run_of_plan.field-0 in
-    plan_cost_to (λ (f : ℕ → Enclosure). IfOk c.costs.result (λ v. HoldsEnclosures v.items (counts (design_of c.args.parts.now)) f)) c.args.parts.now c.args.j c.if-j-entries.true
-    (cost_to c.args.parts.now r.parts.now none (unit c.args.j) r.first r.start.items r.plan.items c.in_ok-run_of_plan.ensures
-    (λ (n : ℕ) (f : ℕ → Enclosure). IfOk c.costs.result (λ v. HoldsEnclosures v.items n f)) c.costs.ensures)
+    plan_cost_to (λ (f : ℕ → Enclosure). IfOk c.costs_of.result (λ v. HoldsEnclosures v.items (counts (design_of c.args.parts.now)) f)) c.args.parts.now c.args.j c.if-j-entries.true
+    (c.costs_of.ensures c.args.parts.now none (unit c.args.j) c.run_of_plan.ensures)
 
 pub returns-then-j-entries-2 : goal.returns-then-j-entries-2
 returns-then-j-entries-2 c =
-    let r = c.in_ok-run_of_state.field-0 in
-    state_cost_to (λ (f : ℕ → Enclosure). IfOk c.costs-then-j-entries-2.result (λ v. HoldsEnclosures v.items (counts (design_of c.args.parts.now)) f)) c.args.parts.now c.args.j
+    state_cost_to (λ (f : ℕ → Enclosure). IfOk c.costs_of-then-j-entries-2.result (λ v. HoldsEnclosures v.items (counts (design_of c.args.parts.now)) f)) c.args.parts.now c.args.j
     c.if-j-entries.false c.if-j-entries-2.true
-    (cost_to c.args.parts.now r.parts.now (unit (c.args.j - entries (design_of c.args.parts.now))) none r.first r.start.items r.plan.items c.in_ok-run_of_state.ensures
-    (λ (n : ℕ) (f : ℕ → Enclosure). IfOk c.costs-then-j-entries-2.result (λ v. HoldsEnclosures v.items n f)) c.costs-then-j-entries-2.ensures)
+    (c.costs_of-then-j-entries-2.ensures c.args.parts.now (unit (c.args.j - entries (design_of c.args.parts.now))) none c.run_of_state.ensures)
 
 pub returns : goal.returns
 returns c =

@@ -2,31 +2,28 @@ use Rattle.std.proofs.Common.{◌+◌, ◌*◌}
 use Rattle.qp_model.specs.Parts.{design_of}
 use Rattle.qp_model.specs.Runs.{counts}
 use Rattle.qp_model.specs.FineForm.{fine_costs}
-use Rattle.fine_run.proofs.ListFacts.{lent_holds}
-use Rattle.fine_condense.proofs.ColumnFacts.{enclosures_written, enclosures_zero, column_long, column_inside, all_columns, entries_fit, states_fit, width_fits}
+use Rattle.fine_condense.proofs.ColumnFacts.{enclosures_zero, column_inside, all_columns, entries_fit, states_fit, width_fits, column_rows}
 use Rattle.qp_model.proofs.VersionLaws.{design_stages_le}
 use Rattle.fine_run.proofs.PlaceFacts.{stage_rows_fit, all_rows_fit, all_rows_are}
 use Rattle.fine_condense.proofs.columns.cost_columns.Goals as goal
 
 pub loop-j-preserved : goal.loop-j-preserved
 loop-j-preserved c =
-    let parts = c.args.parts.now in
-    enclosures_written c.loop-j.mat.mid c.loop-j.mat.rad _ _ (counts (design_of parts)) (parts.stages * parts.inputs + parts.states + 1) c.loop-j.j (fine_costs (design_of parts)) c.deref.result.now
-    c.set_column.ensures.mid c.set_column.ensures.rad c.loop-j-test.true (lent_holds c.deref.ensures.value c.in_ok-column.ensures) c.loop-j.invariant
+    let p = c.args.parts.now in
+    c.in_ok-put_column.ensures (counts (design_of p)) (p.stages * p.inputs + p.states + 1) (fine_costs (design_of p)) c.loop-j-test.true c.cost_column.ensures c.loop-j.invariant
 
 pub loop-j-init : goal.loop-j-init
 loop-j-init c =
     let p = c.args.parts.now in
     enclosures_zero c.in_ok-mat.mat.mid c.in_ok-mat.mat.rad _ (counts (design_of p)) (p.stages * p.inputs + p.states + 1) (fine_costs (design_of p)) (all_rows_are p.stages c.rows.result _ c.rows-2.result _ c.rows.ensures.count c.rows-2.ensures.count) c.in_ok-mat.ensures.mid c.in_ok-mat.ensures.rad
 
-pub set_column-requires-clause-rows : goal.set_column-requires-clause-rows
-set_column-requires-clause-rows c =
+pub put_column-requires-clause-rows : goal.put_column-requires-clause-rows
+put_column-requires-clause-rows c =
     let p = c.args.parts.now in
-    column_long c.loop-j.mat.mid c.loop-j.mat.rad (counts (design_of p)) (p.stages * p.inputs + p.states + 1) c.loop-j.j (fine_costs (design_of p)) c.deref.result.now _
-    (lent_holds c.deref.ensures.value c.in_ok-column.ensures) c.loop-j.invariant
+    column_rows c.cost_column.result (λ v. v.items) c.loop-j.mat.mid c.loop-j.mat.rad (counts (design_of p)) (p.stages * p.inputs + p.states + 1) c.loop-j.j (fine_costs (design_of p)) _ c.cost_column.ensures c.loop-j.invariant
 
-pub set_column-requires-clause-column : goal.set_column-requires-clause-column
-set_column-requires-clause-column c =
+pub put_column-requires-clause-column : goal.put_column-requires-clause-column
+put_column-requires-clause-column c =
     let p = c.args.parts.now in
     column_inside c.loop-j.mat.mid c.loop-j.mat.rad (counts (design_of p)) (p.stages * p.inputs + p.states + 1) c.loop-j.j c.loop-j.j (fine_costs (design_of p)) c.loop-j.invariant c.loop-j-test.true
 

@@ -1,46 +1,33 @@
-use Rattle.std.proofs.Common.{ℕ}
 use Rattle.integer_algebra.specs.Sums.{none}
-use Rattle.frac_scaled.specs.Enclosures.{Enclosure}
 use Rattle.qp_model.specs.Design.{rows}
 use Rattle.qp_model.specs.Parts.{design_of}
 use Rattle.qp_model.specs.Runs.{unit}
 use Rattle.qp_model.specs.FineForm.{fine_by_state}
-use Rattle.fine_run.specs.Lists.{HoldsEnclosures}
-use Rattle.fine_run.proofs.ListFacts.{lent_holds}
-use Rattle.fine_condense.proofs.ColumnFacts.{enclosures_written, enclosures_zero, column_long, column_inside, all_columns, limit_fits, limit_to}
+use Rattle.fine_condense.proofs.ColumnFacts.{enclosures_zero, column_inside, all_columns, column_rows, limits_fit}
 use Rattle.qp_model.proofs.VersionLaws.{design_stages_le}
 use Rattle.fine_run.proofs.PlaceFacts.{stage_rows_fit, all_rows_fit, all_rows_are}
 use Rattle.fine_condense.proofs.columns.fine_state_columns.Goals as goal
 
-pub limits-requires : goal.limits-requires
-limits-requires c =
-    let r = c.in_ok-run.run' in
-    limit_fits c.args.parts.now r.parts.now (unit c.loop-j.j) none r.first r.start.items r.plan.items c.in_ok-run.ensures c.requires.fits
+pub limits_of-requires : goal.limits_of-requires
+limits_of-requires c = limits_fit c.run_of_state.result (λ r. r.parts.now) (λ r. r.first) (λ r. r.start.items) (λ r. r.plan.items) c.args.parts.now (unit c.loop-j.j) none c.requires.fits c.run_of_state.ensures
 
 pub loop-j-preserved : goal.loop-j-preserved
 loop-j-preserved c =
-    let parts = c.args.parts.now in
-    let r = c.in_ok-run.run' in
-    enclosures_written c.loop-j.mat.mid c.loop-j.mat.rad _ _ (rows (design_of parts)) parts.states c.loop-j.j (fine_by_state (design_of parts)) c.deref.result.now
-    c.set_column.ensures.mid c.set_column.ensures.rad c.loop-j-test.true
-    (lent_holds c.deref.ensures.value (limit_to parts r.parts.now (unit c.loop-j.j) none r.first r.start.items r.plan.items c.in_ok-run.ensures
-    (λ (n : ℕ) (f : ℕ → Enclosure). HoldsEnclosures c.in_ok-column.column.items n f) c.in_ok-column.ensures)) c.loop-j.invariant
+    let p = c.args.parts.now in
+    c.in_ok-put_column.ensures (rows (design_of p)) p.states (fine_by_state (design_of p)) c.loop-j-test.true (c.limits_of.ensures p (unit c.loop-j.j) none c.run_of_state.ensures) c.loop-j.invariant
 
 pub loop-j-init : goal.loop-j-init
 loop-j-init c =
     let p = c.args.parts.now in
     enclosures_zero c.in_ok-mat.mat.mid c.in_ok-mat.mat.rad _ (rows (design_of p)) p.states (fine_by_state (design_of p)) (all_rows_are p.stages c.rows.result _ c.rows-2.result _ c.rows.ensures.count c.rows-2.ensures.count) c.in_ok-mat.ensures.mid c.in_ok-mat.ensures.rad
 
-pub set_column-requires-clause-rows : goal.set_column-requires-clause-rows
-set_column-requires-clause-rows c =
+pub put_column-requires-clause-rows : goal.put_column-requires-clause-rows
+put_column-requires-clause-rows c =
     let p = c.args.parts.now in
-    let r = c.in_ok-run.run' in
-    column_long c.loop-j.mat.mid c.loop-j.mat.rad (rows (design_of p)) p.states c.loop-j.j (fine_by_state (design_of p)) c.deref.result.now _
-    (lent_holds c.deref.ensures.value (limit_to p r.parts.now (unit c.loop-j.j) none r.first r.start.items r.plan.items c.in_ok-run.ensures
-    (λ (n : ℕ) (f : ℕ → Enclosure). HoldsEnclosures c.in_ok-column.column.items n f) c.in_ok-column.ensures)) c.loop-j.invariant
+    column_rows c.limits_of.result (λ v. v.items) c.loop-j.mat.mid c.loop-j.mat.rad (rows (design_of p)) p.states c.loop-j.j (fine_by_state (design_of p)) _ (c.limits_of.ensures p (unit c.loop-j.j) none c.run_of_state.ensures) c.loop-j.invariant
 
-pub set_column-requires-clause-column : goal.set_column-requires-clause-column
-set_column-requires-clause-column c =
+pub put_column-requires-clause-column : goal.put_column-requires-clause-column
+put_column-requires-clause-column c =
     let p = c.args.parts.now in
     column_inside c.loop-j.mat.mid c.loop-j.mat.rad (rows (design_of p)) p.states c.loop-j.j c.loop-j.j (fine_by_state (design_of p)) c.loop-j.invariant c.loop-j-test.true
 

@@ -1,29 +1,26 @@
 use Rattle.std.proofs.Common.{◌*◌, refl}
 use Rattle.qp_model.specs.Parts.{design_of}
 use Rattle.qp_model.specs.FineForm.{fine_hessian}
-use Rattle.fine_run.proofs.ListFacts.{lent_holds}
-use Rattle.fine_condense.proofs.ColumnFacts.{enclosures_written, enclosures_zero, column_long, column_inside, all_columns, entries_fit}
+use Rattle.fine_condense.proofs.ColumnFacts.{enclosures_zero, column_inside, all_columns, entries_fit, column_rows}
 use Rattle.fine_condense.proofs.hessian.hessian_numbers.Goals as goal
 
 pub loop-j-preserved : goal.loop-j-preserved
 loop-j-preserved c =
     let p = c.args.parts.now in
-    enclosures_written c.loop-j.mat.mid c.loop-j.mat.rad _ _ (p.stages * p.inputs) (p.stages * p.inputs) c.loop-j.j (fine_hessian (design_of p)) c.deref.result.now
-    c.set_column.ensures.mid c.set_column.ensures.rad c.loop-j-test.true (lent_holds c.deref.ensures.value c.in_ok-column.ensures) c.loop-j.invariant
+    c.in_ok-put_column.ensures (p.stages * p.inputs) (p.stages * p.inputs) (fine_hessian (design_of p)) c.loop-j-test.true c.hessian_column.ensures c.loop-j.invariant
 
 pub loop-j-init : goal.loop-j-init
 loop-j-init c =
     let p = c.args.parts.now in
     enclosures_zero c.in_ok-mat.mat.mid c.in_ok-mat.mat.rad _ (p.stages * p.inputs) (p.stages * p.inputs) (fine_hessian (design_of p)) (refl) c.in_ok-mat.ensures.mid c.in_ok-mat.ensures.rad
 
-pub set_column-requires-clause-rows : goal.set_column-requires-clause-rows
-set_column-requires-clause-rows c =
+pub put_column-requires-clause-rows : goal.put_column-requires-clause-rows
+put_column-requires-clause-rows c =
     let p = c.args.parts.now in
-    column_long c.loop-j.mat.mid c.loop-j.mat.rad (p.stages * p.inputs) (p.stages * p.inputs) c.loop-j.j (fine_hessian (design_of p)) c.deref.result.now _
-    (lent_holds c.deref.ensures.value c.in_ok-column.ensures) c.loop-j.invariant
+    column_rows c.hessian_column.result (λ v. v.items) c.loop-j.mat.mid c.loop-j.mat.rad (p.stages * p.inputs) (p.stages * p.inputs) c.loop-j.j (fine_hessian (design_of p)) _ c.hessian_column.ensures c.loop-j.invariant
 
-pub set_column-requires-clause-column : goal.set_column-requires-clause-column
-set_column-requires-clause-column c =
+pub put_column-requires-clause-column : goal.put_column-requires-clause-column
+put_column-requires-clause-column c =
     let p = c.args.parts.now in
     column_inside c.loop-j.mat.mid c.loop-j.mat.rad (p.stages * p.inputs) (p.stages * p.inputs) c.loop-j.j c.loop-j.j (fine_hessian (design_of p)) c.loop-j.invariant c.loop-j-test.true
 

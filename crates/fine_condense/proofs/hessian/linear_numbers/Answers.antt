@@ -1,29 +1,26 @@
 use Rattle.std.proofs.Common.{◌*◌, refl}
 use Rattle.qp_model.specs.Parts.{design_of}
 use Rattle.qp_model.specs.FineForm.{fine_linear}
-use Rattle.fine_run.proofs.ListFacts.{lent_holds}
-use Rattle.fine_condense.proofs.ColumnFacts.{enclosures_written, enclosures_zero, column_long, column_inside, all_columns, entries_fit}
+use Rattle.fine_condense.proofs.ColumnFacts.{enclosures_zero, column_inside, all_columns, entries_fit, column_rows}
 use Rattle.fine_condense.proofs.hessian.linear_numbers.Goals as goal
 
 pub loop-i-preserved : goal.loop-i-preserved
 loop-i-preserved c =
     let p = c.args.parts.now in
-    enclosures_written c.loop-i.mat.mid c.loop-i.mat.rad _ _ (p.stages * p.inputs) p.states c.loop-i.i (fine_linear (design_of p)) c.deref.result.now
-    c.set_column.ensures.mid c.set_column.ensures.rad c.loop-i-test.true (lent_holds c.deref.ensures.value c.in_ok-column.ensures) c.loop-i.invariant
+    c.in_ok-put_column.ensures (p.stages * p.inputs) p.states (fine_linear (design_of p)) c.loop-i-test.true c.linear_column.ensures c.loop-i.invariant
 
 pub loop-i-init : goal.loop-i-init
 loop-i-init c =
     let p = c.args.parts.now in
     enclosures_zero c.in_ok-mat.mat.mid c.in_ok-mat.mat.rad _ (p.stages * p.inputs) p.states (fine_linear (design_of p)) (refl) c.in_ok-mat.ensures.mid c.in_ok-mat.ensures.rad
 
-pub set_column-requires-clause-rows : goal.set_column-requires-clause-rows
-set_column-requires-clause-rows c =
+pub put_column-requires-clause-rows : goal.put_column-requires-clause-rows
+put_column-requires-clause-rows c =
     let p = c.args.parts.now in
-    column_long c.loop-i.mat.mid c.loop-i.mat.rad (p.stages * p.inputs) p.states c.loop-i.i (fine_linear (design_of p)) c.deref.result.now _
-    (lent_holds c.deref.ensures.value c.in_ok-column.ensures) c.loop-i.invariant
+    column_rows c.linear_column.result (λ v. v.items) c.loop-i.mat.mid c.loop-i.mat.rad (p.stages * p.inputs) p.states c.loop-i.i (fine_linear (design_of p)) _ c.linear_column.ensures c.loop-i.invariant
 
-pub set_column-requires-clause-column : goal.set_column-requires-clause-column
-set_column-requires-clause-column c =
+pub put_column-requires-clause-column : goal.put_column-requires-clause-column
+put_column-requires-clause-column c =
     let p = c.args.parts.now in
     column_inside c.loop-i.mat.mid c.loop-i.mat.rad (p.stages * p.inputs) p.states c.loop-i.i c.loop-i.i (fine_linear (design_of p)) c.loop-i.invariant c.loop-i-test.true
 
