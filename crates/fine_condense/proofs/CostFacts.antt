@@ -1,5 +1,5 @@
 -- The numbers of the condensed cost in enclosures, from the products of the cost rows.
-use Rattle.std.proofs.Common.{◌≡◌, ℕ, zero, suc, ◌+◌, ◌*◌, ◌^◌, ◌<◌, ◌≤◌, [], ◌∷◌, ℤ, pos, negsuc, neg_ℤ, ◌+ℤ◌, ◌-ℤ◌, ◌*ℤ◌, ◌≤ℤ◌, unsigned_abs, FitsSigned, lit<, arith, ap, ap₂, sym, subst, ◌∙◌, refl}
+use Rattle.std.proofs.Common.{◌≡◌, ℕ, zero, suc, ◌+◌, ◌*◌, ◌^◌, ◌<◌, ◌≤◌, [], ◌∷◌, ℤ, pos, negsuc, neg_ℤ, ◌+ℤ◌, ◌-ℤ◌, ◌*ℤ◌, ◌≤ℤ◌, unsigned_abs, length, FitsSigned, lit<, arith, ap, ap₂, sym, subst, ◌∙◌, refl}
 use Rattle.std.specs.Int.{w128}
 use Rattle.std.proofs.lemmas.Int.{ints, unsigned_abs-mul, to_z-of_z}
 use Rattle.std.proofs.Math.Nat.{mul-le-mul_left}
@@ -23,7 +23,7 @@ use Rattle.qp_model.specs.Design.{Design, entries}
 use Rattle.qp_model.specs.Parts.{design_of, IsDesign}
 use Rattle.qp_model.specs.FineForm.{own_weight, counted_row, fine_costs, fine_products, fine_hessian, fine_linear, fine_constant, hessian_row_radius}
 use Rattle.qp_model.specs.FineSizes.{fine_response_size}
-use Rattle.qp_model.specs.Quantities.{weight_sum}
+use Rattle.qp_model.specs.Quantities.{greatest, weight_sum}
 use Rattle.qp_model.specs.Runs.{counts}
 use Rattle.qp_model.specs.Range.{IsDenominator, IsPositive}
 use Rattle.qp_model.proofs.VersionLaws.{design_stages_le}
@@ -39,6 +39,12 @@ use Rattle.fine_condense.specs.Numbers.{AreProducts, IsFineHessian}
 module _ (p : DesignParts) (mid rad : Matrix) (h : AreProducts p mid rad) where
   pub product_at : (i j : ℕ) → i < p.stages * p.inputs + p.states + 1 → j < p.stages * p.inputs + p.states + 1 → enclosure_at mid rad i j ≡ fine_products (design_of p) i j
   product_at i j l m = same_pair (h.held.mids.entries i j l m) (h.held.rads.entries i j l m)
+
+  pub product_row : (i : ℕ) → i < p.stages * p.inputs + p.states + 1 → i < length mid.rows
+  product_row i l = rw h.held.mids.rows l
+
+  pub product_column : (j : ℕ) → j < p.stages * p.inputs + p.states + 1 → j < mid.cols
+  product_column j l = rw h.held.mids.cols l
 
 -- ---- what is made of it
 pub hessian_entry : (d : Design) (e r : Enc) (more : ℤ) (i j : ℕ) → pair e ≡ fine_products d i j → more ≡ pos (2 ^ 40) *ℤ own_weight d i j →
@@ -218,3 +224,10 @@ module _ (p : DesignParts) (mid rad : Matrix) (h : IsFineHessian p mid rad) wher
     where
       last : (n : ℕ) {a : ℕ} → a ≤ n * 2 ^ 90 → n ≤ 2 ^ 20 → a < 2 ^ 127
       last n h k = omega (arith, h, k)
+
+-- at the end of the loop over the rows
+pub all_rows : (most k n : ℕ) (f : ℕ → ℕ) → k ≤ n → n ≤ k → most ≡ greatest k f → most ≡ greatest n f
+all_rows most k n f l m h = subst (λ (i : ℕ). most ≡ greatest i f) (same k n l m) h
+  where
+    same : (k n : ℕ) → k ≤ n → n ≤ k → k ≡ n
+    same k n l m = omega arith

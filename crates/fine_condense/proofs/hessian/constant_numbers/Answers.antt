@@ -5,8 +5,9 @@ use Rattle.std.proofs.lemmas.Int.{to_z-of_z}
 use Rattle.qp_model.specs.Parts.{design_of}
 use Rattle.qp_model.specs.FineForm.{fine_constant}
 use Rattle.qp_model.proofs.VersionLaws.{design_states_le, design_stages_le}
-use Rattle.fine_run.proofs.ListFacts.{one_pushed}
-use Rattle.fine_condense.proofs.CostFacts.{product_at, product_near, constant_entry, negated_fits, negated_is}
+use Rattle.fine_run.proofs.ListFacts.{one_pushed, all_held}
+use Rattle.fine_condense.proofs.ColumnFacts.{entries_fit}
+use Rattle.fine_condense.proofs.CostFacts.{product_row, product_column, product_at, product_near, constant_entry, negated_fits, negated_is}
 use Rattle.fine_condense.proofs.hessian.constant_numbers.Goals as goal
 
 pub doubled-twice-requires-clause-near : goal.doubled-twice-requires-clause-near
@@ -42,3 +43,19 @@ pub overflow_add-count : goal.overflow_add-count
 overflow_add-count c =
     let p = c.args.parts.now in
     record { fits = fits p.stages p.inputs p.states (design_stages_le p c.requires.design) c.requires.design.inputs.1 (design_states_le p c.requires.design) }
+
+pub at-requires-clause-row_in : goal.at-requires-clause-row_in
+at-requires-clause-row_in c = product_row c.args.parts.now c.args.products.now.mid c.args.products.now.rad c.requires c.loop-j.j (omega (arith, c.loop-j-test.true))
+
+pub at-requires-clause-col_in : goal.at-requires-clause-col_in
+at-requires-clause-col_in c =
+    let p = c.args.parts.now in
+    product_column p c.args.products.now.mid c.args.products.now.rad c.requires (p.stages * p.inputs + p.states) (omega arith)
+
+pub overflow_mul-count : goal.overflow_mul-count
+overflow_mul-count c = entries_fit c.args.parts.now c.requires.design
+
+pub returns : goal.returns
+returns c =
+    let p = c.args.parts.now in
+    all_held c.loop-j.out.items c.loop-j.j (p.stages * p.inputs) (λ k. k) (fine_constant (design_of p)) c.loop-j.auto.j-end c.loop-j-test.false c.loop-j.invariant

@@ -3,8 +3,9 @@ use Rattle.std.proofs.Math.Nat.{mul-le-mul}
 use Rattle.qp_model.specs.Parts.{design_of}
 use Rattle.qp_model.specs.FineForm.{fine_linear}
 use Rattle.qp_model.proofs.VersionLaws.{design_states_le, design_stages_le}
-use Rattle.fine_run.proofs.ListFacts.{one_pushed}
-use Rattle.fine_condense.proofs.CostFacts.{product_at, product_near, linear_entry}
+use Rattle.fine_run.proofs.ListFacts.{one_pushed, all_held}
+use Rattle.fine_condense.proofs.ColumnFacts.{entries_fit}
+use Rattle.fine_condense.proofs.CostFacts.{product_row, product_column, product_at, product_near, linear_entry}
 use Rattle.fine_condense.proofs.hessian.linear_column.Goals as goal
 
 pub doubled-requires-clause-near : goal.doubled-requires-clause-near
@@ -30,3 +31,19 @@ overflow_add-count c =
     let p = c.args.parts.now in
     let design = c.requires.products.design in
     record { fits = fits p.stages p.inputs c.args.i p.states (design_stages_le p design) design.inputs.1 c.requires.column (design_states_le p design) }
+
+pub at-requires-clause-row_in : goal.at-requires-clause-row_in
+at-requires-clause-row_in c = product_row c.args.parts.now c.args.products.now.mid c.args.products.now.rad c.requires.products c.loop-j.j (omega (arith, c.loop-j-test.true))
+
+pub at-requires-clause-col_in : goal.at-requires-clause-col_in
+at-requires-clause-col_in c =
+    let p = c.args.parts.now in
+    product_column p c.args.products.now.mid c.args.products.now.rad c.requires.products (p.stages * p.inputs + c.args.i) (omega (arith, c.requires.column))
+
+pub overflow_mul-count : goal.overflow_mul-count
+overflow_mul-count c = entries_fit c.args.parts.now c.requires.products.design
+
+pub returns : goal.returns
+returns c =
+    let p = c.args.parts.now in
+    all_held c.loop-j.out.items c.loop-j.j (p.stages * p.inputs) (λ k. k) (λ j. fine_linear (design_of p) j c.args.i) c.loop-j.auto.j-end c.loop-j-test.false c.loop-j.invariant
