@@ -9,6 +9,7 @@ pub mod ListFacts
 pub mod GapFacts
 pub mod RunFacts
 pub mod SlackFacts
+pub mod TestFacts
 pub mod CostFacts
 -- ---- the margin
 pub mod MarginFacts

@@ -1,0 +1,33 @@
+-- What the tests of the quantities of corners in enclosures tell.
+use Rattle.std.proofs.Common.{◌≡◌, ℕ, ◌*◌, ◌^◌, ◌<◌, ◌≤◌, max, true, ap, subst, ◌∙◌}
+use Rattle.qp_model.specs.Design.{Design}
+use Rattle.qp_model.specs.Policy.{Plans}
+use Rattle.qp_model.specs.Quantities.{growth, limit_width, cost_width, weight_sum}
+use Rattle.qp_model.specs.FineSizes.{reach_from, fine_prediction_size}
+use Rattle.qp_model.specs.CornerSizes.{first_reach, fine_corner_slack_size, fine_corner_cost_size}
+use Rattle.slater_margin.specs.Corners.{HasCornerRoomIn}
+use Rattle.slater_margin.proofs.FaultFacts.{outside}
+
+-- the slacks of corners that reach so far, and the costs of those whose runs do
+abbrev pub slack_size : Design → ℕ → ℕ
+slack_size d first = max (2 ^ 17 * limit_width d * reach_from d first d.stages) (growth d * reach_from d first d.stages)
+
+abbrev pub cost_size : Design → ℕ → ℕ
+cost_size d reach = weight_sum d * (cost_width d * reach) ^ 2
+
+module _ (d : Design) (s : Plans) (first : ℕ) (e : first ≡ first_reach d s) where
+  pub slack_room : slack_size d first ≤ 2 ^ 126 → fine_corner_slack_size d s ≤ 2 ^ 126
+  slack_room = subst (λ (n : ℕ). slack_size d n ≤ 2 ^ 126) e
+
+  pub slack_wide : (slack_size d first ≤ 2 ^ 126 → ⊥) → 2 ^ 126 < fine_corner_slack_size d s
+  slack_wide h = subst (λ (n : ℕ). 2 ^ 126 < slack_size d n) e (outside (slack_size d first) h)
+
+module _ (d : Design) (s : Plans) (first reach : ℕ) (e : first ≡ first_reach d s) (k : reach ≡ reach_from d first d.stages) where
+  whole : reach ≡ reach_from d (first_reach d s) d.stages
+  whole = k ∙ ap (λ (n : ℕ). reach_from d n d.stages) e
+
+  pub cost_wide : 2 ^ 126 < cost_size d reach → 2 ^ 126 < fine_corner_cost_size d s
+  cost_wide = subst (λ (n : ℕ). 2 ^ 126 < cost_size d n) whole
+
+  pub room_of : fine_prediction_size d ≤ 2 ^ 126 → slack_size d first ≤ 2 ^ 126 → cost_size d reach ≤ 2 ^ 126 → HasCornerRoomIn true d s
+  room_of a b h = record { prediction = a; slack = slack_room d s first e b; cost = subst (λ (n : ℕ). cost_size d n ≤ 2 ^ 126) whole h }
