@@ -3,8 +3,10 @@ ghost use Rattle.std.specs.Prelude.{◌≡◌, ◌≤◌, ◌<◌, ◌+◌, ◌*
 ghost use Rattle.mat_int.specs.Enclosures.{HasEnclosures};
 ghost use Rattle.qp_model.specs.Parts.{design_of, IsDesign};
 ghost use Rattle.qp_model.specs.declared.quantity.Quantity.{Quantity};
-ghost use Rattle.qp_model.specs.FineForm.{fine_products, hessian_row_radius, hessian_radius};
+ghost use Rattle.qp_model.specs.Runs.{counts};
+ghost use Rattle.qp_model.specs.FineForm.{fine_costs, fine_products, hessian_row_radius, hessian_radius};
 ghost use Rattle.qp_model.specs.FineSizes.{fine_reach, fine_prediction_size, fine_hessian_size};
+ghost use Rattle.fine_condense.specs.Lists.{HoldsEncMatrix};
 ghost use Rattle.fine_condense.specs.Numbers.{fine_cost_total, AreProducts, IsFineHessian, AreFineCosts};
 ghost use Rattle.condensed_form.specs.declared.fault.CondenseFault.{CondenseFault};
 
@@ -30,7 +32,25 @@ pub struct FineCosts {
     pub size: u128,
 }
 
-// The products of the columns of all counted cost rows, with their weights: of the plan's entries, then of the states, and then of the targets.
+// The products of these columns of all counted cost rows, with their weights.
+fn weighed_products(alloc: Global, parts: &DesignParts, columns: &EncMat) -> Result<EncMat, CondenseFault>
+    requires design { IsDesign parts.now }
+    requires fits { fine_cost_total (design_of parts.now) ≤ 2 ^ 126 }
+    requires columns { let width = parts.now.stages * parts.now.inputs + parts.now.states + 1 in
+        HoldsEncMatrix columns.now.mid columns.now.rad (counts (design_of parts.now)) width width (fine_costs (design_of parts.now)) }
+    ensures value { let width = parts.now.stages * parts.now.inputs + parts.now.states + 1 in
+        IfOk result (λ g. HasEnclosures width width (fine_products (design_of parts.now)) g.mid g.rad) }
+    ensures memory { (fault : CondenseFault) → result ≡ Err fault → fault ≡ CondenseFault.Memory }
+{
+    let weights = weights_of(alloc, parts)?;
+    match gram(alloc, columns, &weights) {
+        Ok(products) => Ok(products),
+        Err(MatFault::Memory) => Err(CondenseFault::Memory),
+        Err(MatFault::Wide) => unreachable!(),
+    }
+}
+
+// Those of the plan's entries, then of the states, and then of the targets.
 fn cost_products(alloc: Global, parts: &DesignParts) -> Result<EncMat, CondenseFault>
     requires design { IsDesign parts.now }
     requires prediction { fine_prediction_size (design_of parts.now) ≤ 2 ^ 126 }
@@ -40,12 +60,7 @@ fn cost_products(alloc: Global, parts: &DesignParts) -> Result<EncMat, CondenseF
     ensures memory { (fault : CondenseFault) → result ≡ Err fault → fault ≡ CondenseFault.Memory }
 {
     let columns = cost_columns(alloc, parts)?;
-    let weights = weights_of(alloc, parts)?;
-    match gram(alloc, &columns, &weights) {
-        Ok(products) => Ok(products),
-        Err(MatFault::Memory) => Err(CondenseFault::Memory),
-        Err(MatFault::Wide) => unreachable!(),
-    }
+    weighed_products(alloc, parts, &columns)
 }
 
 // The sum of the hessian's radii in row `i`.

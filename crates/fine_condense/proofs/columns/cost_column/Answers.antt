@@ -6,7 +6,7 @@ use Rattle.qp_model.specs.Design.{entries}
 use Rattle.qp_model.specs.Parts.{design_of}
 use Rattle.qp_model.specs.Runs.{unit, counts}
 use Rattle.fine_run.specs.Lists.{HoldsEnclosures}
-use Rattle.fine_condense.proofs.ColumnFacts.{costs_fit, plan_cost_to, state_cost_to, target_to}
+use Rattle.fine_condense.proofs.ColumnFacts.{entries_fit, costs_fit, plan_cost_to, state_cost_to, target_to}
 use Rattle.fine_condense.proofs.columns.cost_column.Goals as goal
 
 pub costs_of-requires : goal.costs_of-requires
@@ -33,3 +33,6 @@ pub returns : goal.returns
 returns c =
     target_to (λ (f : ℕ → Enclosure). IfOk c.targets.result (λ v. HoldsEnclosures v.items (counts (design_of c.args.parts.now)) f)) c.args.parts.now c.args.j
     c.if-j-entries.false c.if-j-entries-2.false c.targets.ensures
+
+pub overflow_mul-entries : goal.overflow_mul-entries
+overflow_mul-entries c = entries_fit c.args.parts.now c.requires.design

@@ -1,7 +1,7 @@
 use Rattle.std.proofs.Common.{rules, FitsSigned, ◌≡◌, ◌^◌, pos, ◌-ℤ◌, ◌*ℤ◌, unsigned_abs}
 use Rattle.std.specs.Int.{w128}
 use Rattle.std.proofs.lemmas.Int.{to_z-of_z}
-use Rattle.condensed_form.proofs.DenominatorFacts.{natural}
+use Rattle.condensed_form.proofs.DenominatorFacts.{natural, least_is}
 use Rattle.fine_condense.proofs.FloorFacts.{radius_room, bend_small, least_natural, floor_fits, floor_value}
 use Rattle.fine_condense.proofs.scales.bend_floor.Goals as goal
 
@@ -30,3 +30,6 @@ returns c =
     let bends : c.bend.result ≡ pos 2 *ℤ c.brought_weight.result -ℤ pos c.args.radius = rw (to_z-of_z w128 _ f) at c.bend.ensures.value in
     rw (← c.requires.radius) (floor_value p.limit_den c.bend.result h.limit_den g c.bend.ensures.small c.brought_weight.result c.args.input_floor
     (unsigned_abs p.limit_den) (unsigned_abs p.row_den ^ 2) _ c.args.radius (natural p.limit_den h.limit_den.low) bends value (least_natural p h c.args.input_floor c.requires.least c.requires.room))
+
+pub brought_weight-requires-clause-weight : goal.brought_weight-requires-clause-weight
+brought_weight-requires-clause-weight c = rw (to_z-of_z w128 _ c.ranges.input_floor) (least_is c.args.parts.now c.requires.design c.args.input_floor c.requires.least)

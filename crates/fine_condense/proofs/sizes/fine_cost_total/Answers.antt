@@ -6,6 +6,7 @@ use Rattle.qp_model.specs.Parts.{design_of}
 use Rattle.qp_model.specs.Quantities.{cost_width, weight_sum}
 use Rattle.qp_model.specs.FineSizes.{fine_reach}
 use Rattle.qp_model.proofs.SizeFacts.{hessian_parts, hessian_value, some_weight, some_cost, some_entry}
+use Rattle.fine_condense.proofs.ColumnFacts.{entries_fit}
 use Rattle.fine_condense.proofs.sizes.fine_cost_total.Goals as goal
 
 pub returns-in_err-response : goal.returns-in_err-response
@@ -23,3 +24,6 @@ returns c =
     let P : ℕ → Type 0 = λ z. SomeIff c.limited_area.result (z ≤ 2 ^ 126) z in
     subst P (sym (hessian_value (entries d * (entries d + p.states + 1)) (weight_sum d) c.weight_sum.result c.in_ok-response.response (cost_width d) (fine_reach d p.stages) (fine_reach d p.stages)
     c.weight_sum.ensures.sum (c.in_ok-response.ensures.1 ∙ rw (c.cost_width.ensures, c.requires.reach) refl) refl)) c.limited_area.ensures
+
+pub overflow_mul-entries : goal.overflow_mul-entries
+overflow_mul-entries c = entries_fit c.args.parts.now c.requires.design

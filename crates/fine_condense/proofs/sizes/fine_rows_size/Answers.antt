@@ -5,6 +5,7 @@ use Rattle.qp_model.specs.Parts.{design_of}
 use Rattle.qp_model.specs.Quantities.{limit_width}
 use Rattle.qp_model.specs.FineSizes.{fine_reach}
 use Rattle.qp_model.proofs.SizeFacts.{rows_parts, rows_value, some_limit, some_row}
+use Rattle.fine_condense.proofs.ColumnFacts.{entries_fit}
 use Rattle.fine_condense.proofs.sizes.fine_rows_size.Goals as goal
 
 pub returns-in_err-entry : goal.returns-in_err-entry
@@ -20,3 +21,6 @@ returns c =
     let count : (entries d + p.states + 1) * (p.stages * c.rows.result + c.rows-2.result) ≡ (entries d + p.states + 1) * rows d = rw (c.rows.ensures.count, c.rows-2.ensures.count) refl in
     subst P (sym (rows_value _ ((entries d + p.states + 1) * rows d) c.in_ok-entry.entry (limit_width d) (fine_reach d p.stages) (fine_reach d p.stages)
     count (c.in_ok-entry.ensures.1 ∙ rw (c.limit_width.ensures, c.requires.reach) refl) refl)) c.limited_area.ensures
+
+pub overflow_mul-entries : goal.overflow_mul-entries
+overflow_mul-entries c = entries_fit c.args.parts.now c.requires.design
