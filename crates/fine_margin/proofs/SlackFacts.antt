@@ -1,6 +1,7 @@
 -- What code makes of a corner's rows are what its slacks are at least.
-use Rattle.std.proofs.Common.{◌≡◌, ℕ, ◌+◌, ◌*◌, ◌^◌, ◌<◌, ◌≤◌, ℤ, pos, ◌+ℤ◌, ◌-ℤ◌, ◌*ℤ◌, ◌≤ℤ◌, unsigned_abs, List, arith}
-use Rattle.std.proofs.lemmas.Int.{ints, unsigned_abs-mul}
+use Rattle.std.proofs.Common.{◌≡◌, ℕ, ◌+◌, ◌*◌, ◌^◌, ◌<◌, ◌≤◌, ℤ, pos, ◌+ℤ◌, ◌-ℤ◌, ◌*ℤ◌, ◌≤ℤ◌, unsigned_abs, FitsSigned, List, arith}
+use Rattle.std.specs.Int.{w128}
+use Rattle.std.proofs.lemmas.Int.{ints, unsigned_abs-mul, to_z-of_z}
 use Rattle.integer_algebra.specs.Bounds.{absolute}
 use Rattle.frac_scaled.specs.Enclosures.{Enclosure, magnitude}
 use Rattle.enclosure.specs.declared.types.Enc.{Enc}
@@ -14,6 +15,8 @@ use Rattle.qp_model.specs.Runs.{bound_at}
 use Rattle.qp_model.specs.FineCorners.{corner_limit, least_slack}
 use Rattle.qp_model.specs.Range.{IsDenominator}
 use Rattle.qp_model.proofs.QuantityLaws.{bound_width}
+use Rattle.condensed_form.proofs.Rooms.{read, narrow}
+use Rattle.condensed_form.proofs.DenominatorFacts.{denominator_fits}
 use Rattle.fine_run.specs.Lists.{Reaches}
 use Rattle.fine_margin.specs.Corner.{IsFineCorner}
 use Rattle.fine_margin.proofs.RoomFacts.{brought_size, slack_room, limit_room, limit_within}
@@ -57,3 +60,9 @@ module _ (z : ℤ) (h : IsDenominator z) where
 
   pub den_some : pos 1 ≤ℤ (z *ℤ pos (2 ^ 40))
   den_some = omega (arith, ints, h.low)
+
+  pub den_fits : FitsSigned w128 (read z *ℤ pos (2 ^ 40))
+  den_fits = rw (to_z-of_z w128 z (denominator_fits z h)) (narrow _ small)
+    where
+      small : unsigned_abs (z *ℤ pos (2 ^ 40)) ≤ 2 ^ 126
+      small = omega (arith, ints, h.low, h.high)

@@ -1,10 +1,14 @@
 -- What the tests of the quantities of corners in enclosures tell.
-use Rattle.std.proofs.Common.{◌≡◌, ℕ, ◌*◌, ◌^◌, ◌<◌, ◌≤◌, max, true, ap, subst, ◌∙◌}
+use Rattle.std.proofs.Common.{◌≡◌, ℕ, Result, Err, mul_assoc, arith, ◌*◌, ◌^◌, ◌<◌, ◌≤◌, max, true, ap, subst, ◌∙◌}
 use Rattle.qp_model.specs.Design.{Design}
 use Rattle.qp_model.specs.Policy.{Plans}
 use Rattle.qp_model.specs.Quantities.{growth, limit_width, cost_width, weight_sum}
 use Rattle.qp_model.specs.FineSizes.{reach_from, fine_prediction_size}
 use Rattle.qp_model.specs.CornerSizes.{first_reach, fine_corner_slack_size, fine_corner_cost_size}
+use Rattle.frac_scaled.specs.declared.fraction.Frac.{Frac}
+use Rattle.qp_model.specs.declared.quantity.Quantity.{Quantity}
+use Rattle.slater_margin.specs.declared.fault.MarginFault.{MarginFault}
+use Rattle.slater_margin.specs.declared.fault.MarginFault.TheVariants.{Memory, TooWide, NoMargin}
 use Rattle.slater_margin.specs.Corners.{HasCornerRoomIn}
 use Rattle.slater_margin.proofs.FaultFacts.{outside}
 
@@ -31,3 +35,27 @@ module _ (d : Design) (s : Plans) (first reach : ℕ) (e : first ≡ first_reach
 
   pub room_of : fine_prediction_size d ≤ 2 ^ 126 → slack_size d first ≤ 2 ^ 126 → cost_size d reach ≤ 2 ^ 126 → HasCornerRoomIn true d s
   room_of a b h = record { prediction = a; slack = slack_room d s first e b; cost = subst (λ (n : ℕ). cost_size d n ≤ 2 ^ 126) whole h }
+
+-- ---- the parts of the slacks' quantity, where w is the widest limit row, r what the runs reach and g the states before they are divided
+module _ (w r g : ℕ) where
+  brought : 2 ^ 17 * w * r ≡ 2 ^ 17 * (w * r)
+  brought = mul_assoc (2 ^ 17) w r
+
+  pub states_room : max (2 ^ 17 * w * r) g ≤ 2 ^ 126 → g ≤ 2 ^ 126
+  states_room h = omega (arith, h)
+
+  pub brought_room : max (2 ^ 17 * w * r) g ≤ 2 ^ 126 → 2 ^ 17 * (w * r) ≤ 2 ^ 126
+  brought_room h = omega (arith, h, brought)
+
+  pub row_room : max (2 ^ 17 * w * r) g ≤ 2 ^ 126 → w * r ≤ 2 ^ 126
+  row_room h = omega (arith, h, brought)
+
+  pub parts_room : 2 ^ 17 * (w * r) ≤ 2 ^ 126 → g ≤ 2 ^ 126 → max (2 ^ 17 * w * r) g ≤ 2 ^ 126
+  parts_room h k = omega (arith, h, k, brought)
+
+-- ---- want of memory is no other fault
+pub memory_unshort : {T : Type 0} {o : Result T MarginFault} {x : MarginFault} {corner row : ℕ} {slack : Frac} → o ≡ Err x → x ≡ Memory → o ≡ Err (NoMargin corner row slack) → ⊥
+memory_unshort a b e = cc
+
+pub memory_unwide : {T : Type 0} {o : Result T MarginFault} {x : MarginFault} {q : Quantity} → o ≡ Err x → x ≡ Memory → o ≡ Err (TooWide q) → ⊥
+memory_unwide a b e = cc

@@ -2,6 +2,7 @@ use Rattle.std.proofs.Common.{◌≡◌, ◌+◌, ◌*◌, ◌^◌, ◌<◌, ℤ
 use Rattle.std.specs.Int.{w128}
 use mir.Val.{SFits}
 use Rattle.std.proofs.lemmas.Int.{to_z-of_z}
+use Rattle.std.proofs.lemmas.Result.{err_from_is_err_and}
 use Rattle.qp_model.specs.Design.{rows}
 use Rattle.qp_model.specs.Parts.{design_of}
 use Rattle.qp_model.specs.Policy.{plans_of}
@@ -15,7 +16,8 @@ use Rattle.condensed_form.proofs.DenominatorFacts.{denominator_fits}
 use Rattle.slater_margin.proofs.RoomFacts.{over_is}
 use Rattle.slater_margin.proofs.SlackFacts.{short_row, units_of}
 use Rattle.slater_margin.proofs.FaultFacts.{no_margin_same, corner_few}
-use Rattle.fine_margin.proofs.SlackFacts.{slack_within, den_is, den_some}
+use Rattle.fine_margin.proofs.SlackFacts.{slack_within, den_is, den_some, den_fits}
+use Rattle.fine_margin.proofs.TestFacts.{memory_unshort, memory_unwide}
 use Rattle.fine_margin.proofs.corner.Corner.units.Goals as goal
 
 pub first_short-requires : goal.first_short-requires
@@ -125,3 +127,17 @@ overflow_cast-result-in-Some c = record { fits = omega (arith, row c) }
 
 pub overflow_add-result-in-Some : goal.overflow_add-result-in-Some
 overflow_add-result-in-Some c = record { fits = omega (arith, row c) }
+
+-- ---- what the slacks are over
+pub scaled-den-requires-clause-fits : goal.scaled-den-requires-clause-fits
+scaled-den-requires-clause-fits c = den_fits _ c.args.self.now.made.setting.design.limit_den
+
+pub returns-in_err-slacks-clause-short : goal.returns-in_err-slacks-clause-short
+returns-in_err-slacks-clause-short c = λ corner row slack e.
+    let y = err_from_is_err_and c.from_residual.result c.from_residual.ensures.1 in
+    absurd (memory_unshort y.1 y.2 e)
+
+pub returns-in_err-slacks-clause-room : goal.returns-in_err-slacks-clause-room
+returns-in_err-slacks-clause-room c = λ q e.
+    let y = err_from_is_err_and c.from_residual.result c.from_residual.ensures.1 in
+    memory_unwide y.1 y.2 e
