@@ -11,7 +11,7 @@ use Rattle.qp_model.specs.Design.{Design}
 use Rattle.qp_model.specs.Policy.{Plans}
 use Rattle.slater_margin.specs.Corners.{HasCornerRoomIn, IsFirstWideCornerIn}
 use Rattle.slater_margin.specs.declared.fault.MarginFault.{MarginFault}
-use Rattle.slater_margin.specs.declared.fault.MarginFault.TheVariants.{NoMargin, TooWide}
+use Rattle.slater_margin.specs.declared.fault.MarginFault.TheVariants.{Memory, TooWide, NoMargin}
 
 -- what two equal refusals say is equal
 pub no_margin_same : {T : Type 0} {a b c r : ℕ} {x y : Frac} → ◌≡◌ {A = Result T MarginFault} (Err (NoMargin a b x)) (Err (NoMargin c r y)) → (a ≡ c) × ((b ≡ r) × (x ≡ y))
@@ -86,3 +86,10 @@ quantity_above (Some x) n v b h e t = absurd (let f = rw t at e in cc)
 pub quantity_within : (r : Option ℕ) (n v : ℕ) (b : Bool) → SomeIff r (n ≤ 2 ^ 126) v → is_some r ≡ not b → b ≡ false → n ≤ 2 ^ 126
 quantity_within None n v b h e t = absurd (let f = rw t at e in cc)
 quantity_within (Some x) n v b h e t = h.0
+
+-- ---- want of memory is no other fault
+pub memory_unshort : {T : Type 0} {o : Result T MarginFault} {x : MarginFault} {corner row : ℕ} {slack : Frac} → o ≡ Err x → x ≡ Memory → o ≡ Err (NoMargin corner row slack) → ⊥
+memory_unshort a b e = cc
+
+pub memory_unwide : {T : Type 0} {o : Result T MarginFault} {x : MarginFault} {q : Quantity} → o ≡ Err x → x ≡ Memory → o ≡ Err (TooWide q) → ⊥
+memory_unwide a b e = cc

@@ -1,5 +1,5 @@
 -- What code makes of a corner's rows are its slacks.
-use Rattle.std.proofs.Common.{◌≡◌, inl, inr, ℕ, ◌+◌, ◌-◌, ◌*◌, ◌/◌, ◌%◌, ◌^◌, ◌<◌, ◌≤◌, ◌==◌, Bool, true, false, if◌then◌else◌, ℤ, pos, ◌+ℤ◌, ◌-ℤ◌, ◌*ℤ◌, neg_ℤ, ◌≤ℤ◌, ◌<ℤ◌, unsigned_abs, FitsSigned, List, [], ◌∷◌, arith, ap, sym, ◌∙◌, refl}
+use Rattle.std.proofs.Common.{◌≡◌, inl, inr, ℕ, ◌+◌, ◌-◌, ◌*◌, ◌/◌, ◌%◌, ◌^◌, ◌<◌, ◌≤◌, ◌==◌, Bool, true, false, if◌then◌else◌, ℤ, pos, ◌+ℤ◌, ◌-ℤ◌, ◌*ℤ◌, neg_ℤ, ◌≤ℤ◌, ◌<ℤ◌, unsigned_abs, FitsSigned, List, [], ◌∷◌, arith, ap, sym, subst, ◌∙◌, refl}
 use mathlib.Core.Path.{fun_ext}
 use Rattle.std.proofs.lemmas.Bool.{cases_lt}
 use Rattle.std.proofs.lemmas.Int.{ints, by_lt_z, unsigned_abs-mul}
@@ -7,7 +7,7 @@ use Rattle.std.specs.Int.{w128}
 use Rattle.condensed_form.proofs.Rooms.{narrow}
 use Rattle.std.proofs.Math.IntN.{*ℤ_comm, *ℤ-zero}
 use Rattle.std.proofs.lemmas.Nat.{pow_pos}
-use Rattle.std.proofs.Math.Nat.{one-le-mul}
+use Rattle.std.proofs.Math.Nat.{one-le-mul, pow-le-pow_right}
 use Rattle.std.proofs.lemmas.List.{get_or_past}
 use Rattle.integer_algebra.specs.Sums.{at}
 use Rattle.integer_algebra.specs.Division.{floor_of, IsFloor}
@@ -50,6 +50,20 @@ one-le-mul_z {a} {b} h k = last a (a *ℤ b) h (mul-le-mul_left_z a (omega (arit
     last a y h k = omega (arith, ints, h, k)
 
 -- what two equal numbers leave room for
+-- at the end of a loop over a list
+pub all_pushed : (xs : List ℤ) (k n : ℕ) (f : ℕ → ℤ) → k ≤ n → n ≤ k → Holds xs k f → Holds xs n f
+all_pushed xs k n f l m h = subst (λ (i : ℕ). Holds xs i f) (same k n l m) h
+  where
+    same : (k n : ℕ) → k ≤ n → n ≤ k → k ≡ n
+    same k n l m = omega arith
+
+-- a grid of at most 2^24
+pub grid_fits : (grid : ℕ) → grid ≤ 24 → FitsSigned w128 (pos 1 *ℤ pos (2 ^ grid))
+grid_fits grid h = rw (one_is (pos (2 ^ grid))) (narrow _ (small (pow-le-pow_right {n = 2} (omega arith) {i = grid} {j = 24} h)))
+  where
+    small : {n : ℕ} → n ≤ 2 ^ 24 → n ≤ 2 ^ 126
+    small h = omega (arith, h)
+
 pub pair_sum : (a b u r : ℤ) → a ≡ u → b ≡ r → unsigned_abs u + unsigned_abs r ≤ 2 ^ 126 → unsigned_abs a + unsigned_abs b ≤ 2 ^ 126
 pair_sum a b u r e f h = rw (e, f) h
 

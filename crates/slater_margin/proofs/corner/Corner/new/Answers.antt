@@ -10,6 +10,7 @@ use Rattle.qp_model.specs.Parts.{design_of}
 use Rattle.qp_model.specs.Policy.{plans_of}
 use Rattle.condensed_form.proofs.Pushes.{holds_to}
 use Rattle.slater_margin.proofs.RoomFacts.{start_room, plan_room, scale_room, unit_room, unit_inner, unit_outer, unit_value, one_times, over_is}
+use Rattle.slater_margin.proofs.SlackFacts.{grid_fits}
 use Rattle.slater_margin.proofs.corner.Corner.new.Goals as goal
 
 pub start_of-requires-clause-fits : goal.start_of-requires-clause-fits
@@ -74,3 +75,9 @@ invariant_of-result c =
             ap (λ (z : ℤ). z *ℤ pos (2 ^ c.args.parts.now.grid * unsigned_abs c.args.parts.now.plant_den ^ c.args.parts.now.stages)) over;
       };
     }
+
+pub scaled-grid-requires-clause-fits : goal.scaled-grid-requires-clause-fits
+scaled-grid-requires-clause-fits c = grid_fits c.args.parts.now.grid c.requires.setting.design.grid
+
+pub row-requires : goal.row-requires
+row-requires c = rw c.requires.setting.policy.rows c.requires.corner

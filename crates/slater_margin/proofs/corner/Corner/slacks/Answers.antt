@@ -1,4 +1,4 @@
-use Rattle.std.proofs.Common.{◌+◌, ◌<◌, ℤ, ◌*ℤ◌, List, length, arith, ap, ◌∙◌, rules}
+use Rattle.std.proofs.Common.{◌+◌, ◌<◌, ℤ, ◌*ℤ◌, List, length, arith, ap, sym, ◌∙◌, rules}
 use Rattle.std.specs.Int.{w128}
 use mir.Val.{SFits}
 use Rattle.std.proofs.lemmas.Int.{to_z-of_z}
@@ -10,7 +10,7 @@ use Rattle.qp_model.specs.Policy.{plans_of}
 use Rattle.qp_model.specs.Margin.{corner_slack}
 use Rattle.qp_model.specs.Runs.{Holds, row_at, bound_at}
 use Rattle.condensed_form.proofs.Pushes.{holds_to}
-use Rattle.slater_margin.proofs.RoomFacts.{rows_fit, bound_fits, slack_size}
+use Rattle.slater_margin.proofs.RoomFacts.{ready, rows_fit, bound_fits, slack_size}
 use Rattle.slater_margin.proofs.SlackFacts.{slack_is, pair_size}
 use Rattle.slater_margin.proofs.corner.Corner.slacks.Goals as goal
 
@@ -52,3 +52,12 @@ returns c =
     (λ i l. rw (c.deref-3.ensures.value, c.deref-4.ensures.value, c.in_ok-bounds.ensures.is i l, values.is i l, to_z-of_z w128 _ f)
     (slack_is self.parts.now (plans_of self.policy.now) _ _ _ _ _ self.made i)))
     c.differences.ensures
+
+pub column_of-requires-clause-ready : goal.column_of-requires-clause-ready
+column_of-requires-clause-ready c =
+    let self = c.args.self.now in
+    rw (c.deref.ensures.value, c.deref-2.ensures.value) (ready self.parts.now (plans_of self.policy.now) _ _ _ _ _ self.made)
+
+pub differences-requires-clause-same : goal.differences-requires-clause-same
+differences-requires-clause-same c =
+    ap (λ (xs : List ℤ). length xs) c.deref-3.ensures.value ∙ c.in_ok-bounds.ensures.long ∙ sym (ap (λ (xs : List ℤ). length xs) c.deref-4.ensures.value ∙ c.in_ok-values.ensures.long)

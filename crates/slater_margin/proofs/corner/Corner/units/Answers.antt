@@ -2,6 +2,7 @@ use Rattle.std.proofs.Common.{◌≡◌, ◌+◌, ◌<◌, ℤ, ◌*ℤ◌, List
 use Rattle.std.specs.Int.{w128}
 use mir.Val.{SFits}
 use Rattle.std.proofs.lemmas.Int.{to_z-of_z}
+use Rattle.std.proofs.lemmas.Result.{err_from_is_err_and}
 use Rattle.qp_model.specs.Design.{rows}
 use Rattle.qp_model.specs.Parts.{design_of}
 use Rattle.qp_model.specs.Policy.{plans_of}
@@ -15,7 +16,7 @@ use Rattle.condensed_form.proofs.StageFacts.{lifted_fits, lifted}
 use Rattle.condensed_form.proofs.DenominatorFacts.{denominator_fits}
 use Rattle.slater_margin.proofs.RoomFacts.{slack_den_size, over_is}
 use Rattle.slater_margin.proofs.SlackFacts.{slack_within, den_is, den_some, short_row, units_of, least_fits}
-use Rattle.slater_margin.proofs.FaultFacts.{no_margin_same, corner_few}
+use Rattle.slater_margin.proofs.FaultFacts.{no_margin_same, corner_few, memory_unshort, memory_unwide}
 use Rattle.slater_margin.proofs.corner.Corner.units.Goals as goal
 
 pub overflow_mul-den : goal.overflow_mul-den
@@ -142,3 +143,13 @@ overflow_cast-result-in-Some c = record { fits = omega (arith, row c) }
 
 pub overflow_add-result-in-Some : goal.overflow_add-result-in-Some
 overflow_add-result-in-Some c = record { fits = omega (arith, row c) }
+
+pub returns-in_err-slacks-clause-short : goal.returns-in_err-slacks-clause-short
+returns-in_err-slacks-clause-short c = λ corner row slack e.
+    let y = err_from_is_err_and c.from_residual.result c.from_residual.ensures.1 in
+    absurd (memory_unshort y.1 y.2 e)
+
+pub returns-in_err-slacks-clause-room : goal.returns-in_err-slacks-clause-room
+returns-in_err-slacks-clause-room c = λ q e.
+    let y = err_from_is_err_and c.from_residual.result c.from_residual.ensures.1 in
+    memory_unwide y.1 y.2 e
