@@ -4,12 +4,12 @@
 pub mod EnclosedFacts
 pub mod ReachFacts
 pub mod RoomFacts
+pub mod TestFacts
 -- ---- a corner's run, its slacks and its cost
 pub mod ListFacts
 pub mod GapFacts
 pub mod RunFacts
 pub mod SlackFacts
-pub mod TestFacts
 pub mod CostFacts
 -- ---- the margin
 pub mod MarginFacts

@@ -1,14 +1,10 @@
 -- What the tests of the quantities of corners in enclosures tell.
-use Rattle.std.proofs.Common.{◌≡◌, ℕ, Result, Err, mul_assoc, arith, ◌*◌, ◌^◌, ◌<◌, ◌≤◌, max, true, ap, subst, ◌∙◌}
+use Rattle.std.proofs.Common.{◌≡◌, ℕ, mul_assoc, arith, ◌*◌, ◌^◌, ◌<◌, ◌≤◌, max, true, ap, subst, ◌∙◌}
 use Rattle.qp_model.specs.Design.{Design}
 use Rattle.qp_model.specs.Policy.{Plans}
 use Rattle.qp_model.specs.Quantities.{growth, limit_width, cost_width, weight_sum}
 use Rattle.qp_model.specs.FineSizes.{reach_from, fine_prediction_size}
 use Rattle.qp_model.specs.CornerSizes.{first_reach, fine_corner_slack_size, fine_corner_cost_size}
-use Rattle.frac_scaled.specs.declared.fraction.Frac.{Frac}
-use Rattle.qp_model.specs.declared.quantity.Quantity.{Quantity}
-use Rattle.slater_margin.specs.declared.fault.MarginFault.{MarginFault}
-use Rattle.slater_margin.specs.declared.fault.MarginFault.TheVariants.{Memory, TooWide, NoMargin}
 use Rattle.slater_margin.specs.Corners.{HasCornerRoomIn}
 use Rattle.slater_margin.proofs.FaultFacts.{outside}
 
@@ -52,10 +48,3 @@ module _ (w r g : ℕ) where
 
   pub parts_room : 2 ^ 17 * (w * r) ≤ 2 ^ 126 → g ≤ 2 ^ 126 → max (2 ^ 17 * w * r) g ≤ 2 ^ 126
   parts_room h k = omega (arith, h, k, brought)
-
--- ---- want of memory is no other fault
-pub memory_unshort : {T : Type 0} {o : Result T MarginFault} {x : MarginFault} {corner row : ℕ} {slack : Frac} → o ≡ Err x → x ≡ Memory → o ≡ Err (NoMargin corner row slack) → ⊥
-memory_unshort a b e = cc
-
-pub memory_unwide : {T : Type 0} {o : Result T MarginFault} {x : MarginFault} {q : Quantity} → o ≡ Err x → x ≡ Memory → o ≡ Err (TooWide q) → ⊥
-memory_unwide a b e = cc

@@ -8,9 +8,8 @@ use Rattle.qp_model.specs.declared.design_parts.DesignParts.{DesignParts}
 use Rattle.qp_model.specs.declared.policy.Policy.{Policy}
 use Rattle.qp_model.specs.Policy.{plans_of}
 use Rattle.slater_margin.specs.declared.fault.MarginFault.TheVariants.{TooWide, NoMargin}
-use Rattle.slater_margin.proofs.FaultFacts.{same_error}
+use Rattle.slater_margin.proofs.FaultFacts.{same_error, memory_unshort, memory_unwide}
 use Rattle.fine_margin.proofs.MarginFacts.{carried, HasMargin, HasShortRow}
-use Rattle.fine_margin.proofs.TestFacts.{memory_unshort, memory_unwide}
 use Rattle.fine_margin.proofs.margin.corner_margin.Goals as goal
 
 pub returns-in_err-units-clause-short : goal.returns-in_err-units-clause-short

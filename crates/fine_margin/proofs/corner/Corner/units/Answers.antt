@@ -15,9 +15,8 @@ use Rattle.condensed_form.proofs.Rooms.{read}
 use Rattle.condensed_form.proofs.DenominatorFacts.{denominator_fits}
 use Rattle.slater_margin.proofs.RoomFacts.{over_is}
 use Rattle.slater_margin.proofs.SlackFacts.{short_row, units_of}
-use Rattle.slater_margin.proofs.FaultFacts.{no_margin_same, corner_few}
+use Rattle.slater_margin.proofs.FaultFacts.{no_margin_same, corner_few, memory_unshort, memory_unwide}
 use Rattle.fine_margin.proofs.SlackFacts.{slack_within, den_is, den_some, den_fits}
-use Rattle.fine_margin.proofs.TestFacts.{memory_unshort, memory_unwide}
 use Rattle.fine_margin.proofs.corner.Corner.units.Goals as goal
 
 pub first_short-requires : goal.first_short-requires
