@@ -71,7 +71,10 @@ fn costs_of<'a>(alloc: Global, run: Result<FineRun<'a>, AllocError>) -> Result<V
 }
 
 // What the limit rows have of such a run.
-fn limits_of<'a>(alloc: Global, run: Result<FineRun<'a>, AllocError>) -> Result<Vec<Enc>, AllocError>
+fn limits_of<'a>(
+    alloc: Global,
+    run: Result<FineRun<'a>, AllocError>,
+) -> Result<Vec<Enc>, AllocError>
     requires { IfOk run (λ r. limit_width (design_of r.parts.now) * reach_from (design_of r.parts.now) r.first r.parts.now.stages ≤ 2 ^ 126) }
     ensures { (p : DesignParts) → (x v : ℕ → ℤ) → IfOk run.entry (λ r. IsRunOfWholes p x v r.parts.now r.first r.start.items r.plan.items) →
         IfOk result (λ c. HoldsEnclosures c.items (rows (design_of p)) (fine_limit (design_of p) (wholes x) (wholes v))) }

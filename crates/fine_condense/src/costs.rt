@@ -33,7 +33,11 @@ pub struct FineCosts {
 }
 
 // The products of these columns of all counted cost rows, with their weights.
-fn weighed_products(alloc: Global, parts: &DesignParts, columns: &EncMat) -> Result<EncMat, CondenseFault>
+fn weighed_products(
+    alloc: Global,
+    parts: &DesignParts,
+    columns: &EncMat,
+) -> Result<EncMat, CondenseFault>
     requires design { IsDesign parts.now }
     requires fits { fine_cost_total (design_of parts.now) ≤ 2 ^ 126 }
     requires columns { let width = parts.now.stages * parts.now.inputs + parts.now.states + 1 in

@@ -1,4 +1,4 @@
-use Rattle.std.proofs.Common.{ℕ, rules}
+use Rattle.std.proofs.Common.{ℕ}
 use Rattle.std.specs.Prelude.{IfOk}
 use Rattle.frac_scaled.specs.Enclosures.{Enclosure}
 use Rattle.fine_run.specs.Lists.{HoldsEnclosures}

@@ -1,9 +1,8 @@
-use Rattle.std.proofs.Common.{◌≡◌, ◌<◌, ◌%◌, pos, rules, length, arith, ◌∙◌}
+use Rattle.std.proofs.Common.{◌<◌, ◌%◌, pos, rules, length, arith, ◌∙◌}
 use Rattle.std.specs.Int.{w128}
 use mir.Val.{SFits}
 use Rattle.std.proofs.lemmas.Int.{to_z-of_z}
 use Rattle.std.proofs.lemmas.List.{get_or_default}
-use Rattle.integer_algebra.specs.Sums.{at}
 use Rattle.qp_model.proofs.SoundLaws.{weight_at}
 use Rattle.fine_condense.proofs.hessian.own_cost.Goals as goal
 

@@ -31,7 +31,7 @@ returns-then-is_none-2-clause-wide c =
       (
         slack_room d s c.args.first c.requires.first c.in-Some.ensures.0,
         cost_wide d s c.args.first c.in-Some.reach c.requires.first c.in-Some.ensures.1
-        (quantity_above _ (cost_size d c.in-Some.reach) _ _ c.corner_cost_size.ensures c.is_none-2.ensures c.if-is_none-2.true),
+            (quantity_above _ (cost_size d c.in-Some.reach) _ _ c.corner_cost_size.ensures c.is_none-2.ensures c.if-is_none-2.true),
       ),
     )
 

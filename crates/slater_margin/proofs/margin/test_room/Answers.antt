@@ -1,4 +1,4 @@
-use Rattle.std.proofs.Common.{◌≤◌, ◌<◌, ◌^◌, false, refl}
+use Rattle.std.proofs.Common.{false, refl}
 use Rattle.qp_model.specs.declared.quantity.Quantity.TheVariants.{Prediction, CornerSlack, CornerCost}
 use Rattle.qp_model.specs.Parts.{design_of}
 use Rattle.qp_model.specs.Policy.{plans_of}
