@@ -41,3 +41,12 @@ pub returns-in_err-form_of-clause-every_refusal : goal.returns-in_err-form_of-cl
 returns-in_err-form_of-clause-every_refusal c = λ q w.
     let given = err_from_is_err_and c.from_residual-in_err-form_of.result c.from_residual-in_err-form_of.ensures.1 in
     inr (given.1 ∙ ap Err given.2)
+
+pub returns-clause-form : goal.returns-clause-form
+returns-clause-form c = rw (← c.parts-parts.ensures.value) c.in_ok-form_of.ensures
+
+pub form_of-requires-clause-costs : goal.form_of-requires-clause-costs
+form_of-requires-clause-costs c = c.in_ok-numbers.ensures.costs
+
+pub form_of-requires-clause-limits : goal.form_of-requires-clause-limits
+form_of-requires-clause-limits c = c.in_ok-numbers.ensures.limits

@@ -1,3 +1,6 @@
+use Rattle.std.proofs.Common.{Err, ap, ◌∙◌}
+use Rattle.std.proofs.lemmas.Result.{err_from_is_err_and}
+use Rattle.fine_condense.proofs.FaultFacts.{same_fault, memory_apart}
 use Rattle.fine_condense.proofs.ProductFacts.{limit_room, bound_room}
 use Rattle.fine_condense.proofs.limits.fine_limits.Goals as goal
 
@@ -9,3 +12,27 @@ fine_state_columns-requires-clause-fits c = limit_room c.args.parts.now c.requir
 
 pub scaled_bounds-requires-clause-fits : goal.scaled_bounds-requires-clause-fits
 scaled_bounds-requires-clause-fits c = bound_room c.args.parts.now c.requires.design c.in-Some.ensures.0
+
+pub returns-in_err-g-clause-wide : goal.returns-in_err-g-clause-wide
+returns-in_err-g-clause-wide c = λ q e.
+    let given = err_from_is_err_and c.from_residual.result c.from_residual.ensures.1 in
+    absurd (memory_apart q (same_fault (given.1 ∙ ap Err given.2) e))
+
+pub returns-in_err-e-clause-wide : goal.returns-in_err-e-clause-wide
+returns-in_err-e-clause-wide c = λ q e.
+    let given = err_from_is_err_and c.from_residual-in_err-e.result c.from_residual-in_err-e.ensures.1 in
+    absurd (memory_apart q (same_fault (given.1 ∙ ap Err given.2) e))
+
+pub returns-in_err-bound-clause-wide : goal.returns-in_err-bound-clause-wide
+returns-in_err-bound-clause-wide c = λ q e.
+    let given = err_from_is_err_and c.from_residual-in_err-bound.result c.from_residual-in_err-bound.ensures.1 in
+    absurd (memory_apart q (same_fault (given.1 ∙ ap Err given.2) e))
+
+pub returns-clause-limits : goal.returns-clause-limits
+returns-clause-limits c = record {
+  plan = c.in_ok-g.ensures;
+  state = c.in_ok-e.ensures;
+  bound = c.in_ok-bound.ensures;
+  quantity = c.in-Some.ensures.1;
+  room = c.in-Some.ensures.0;
+}
