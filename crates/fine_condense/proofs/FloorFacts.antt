@@ -90,6 +90,12 @@ denominator_weight z h = rw (to_z-of_z w128 z (denominator_fits z h)) (record { 
     more k = omega (arith, ints, k)
 
 -- the denominators
+pub shifted_fits : (z : ℤ) → IsDenominator z → FitsSigned w128 (read z *ℤ pos (2 ^ 40))
+shifted_fits z h = rw (to_z-of_z w128 z (denominator_fits z h)) (narrow _ (small z h.low h.high))
+  where
+    small : (z : ℤ) → pos 1 ≤ℤ z → z ≤ℤ pos (2 ^ 20) → unsigned_abs (z *ℤ pos (2 ^ 40)) ≤ 2 ^ 126
+    small z l m = omega (arith, ints, l, m)
+
 pub hess_den_is : (p : DesignParts) → IsDesign p → (z : ℤ) → FitsSigned w128 z → z ≡ pos (2 ^ 40) *ℤ (read p.cost_den *ℤ pos (unsigned_abs p.row_den ^ 2)) →
     read z ≡ pos (unsigned_abs p.cost_den * unsigned_abs p.row_den ^ 2 * 2 ^ 40)
 hess_den_is p h z f e = to_z-of_z w128 z f ∙ e ∙ ap (λ (y : ℤ). pos (2 ^ 40) *ℤ (y *ℤ pos (unsigned_abs p.row_den ^ 2)))

@@ -1,9 +1,9 @@
-use Rattle.std.proofs.Common.{rules, FitsSigned, ◌∙◌, refl}
+use Rattle.std.proofs.Common.{◌≡◌, ℤ, List, length, rules, FitsSigned, arith, ap, ◌∙◌, refl}
 use Rattle.std.specs.Int.{w128}
 use Rattle.std.proofs.lemmas.Int.{to_z-of_z}
 use Rattle.qp_model.specs.Parts.{design_of}
 use Rattle.condensed_form.specs.Form.{IsLeastInput}
-use Rattle.fine_condense.proofs.FloorFacts.{least_input, denominator_weight, hess_den_is, row_den_is, den_is, size_is}
+use Rattle.fine_condense.proofs.FloorFacts.{shifted_fits, least_input, denominator_weight, hess_den_is, row_den_is, den_is, size_is}
 use Rattle.fine_condense.proofs.FormLaws.{numbers_of, form_of}
 use Rattle.fine_condense.proofs.form.assembled.Goals as goal
 
@@ -42,3 +42,11 @@ returns c =
       rows_size = size_is _ _ l.quantity l.room;
       fine = refl;
     })
+
+pub scaled-requires-clause-fits : goal.scaled-requires-clause-fits
+scaled-requires-clause-fits c = shifted_fits c.args.parts.now.limit_den c.requires.design.limit_den
+
+pub least_of-input_floor-requires : goal.least_of-input_floor-requires
+least_of-input_floor-requires c =
+    let count : length c.deref.result.now ≡ c.args.parts.now.inputs = ap (λ (xs : List ℤ). length xs) c.deref.ensures.value ∙ c.requires.design.input_count in
+    omega (arith, count, c.requires.design.inputs)
