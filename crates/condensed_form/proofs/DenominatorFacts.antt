@@ -1,10 +1,11 @@
 -- The denominators fit.
-use Rattle.std.proofs.Common.{◌≡◌, ℕ, ◌*◌, ◌^◌, ◌<◌, ◌≤◌, min, ℤ, pos, negsuc, ◌*ℤ◌, ◌≤ℤ◌, unsigned_abs, FitsSigned, arith, ◌∙◌, refl}
-use Rattle.std.specs.Int.{w128}
-use Rattle.std.proofs.lemmas.Int.{ints, to_z-of_z}
+use Rattle.std.proofs.Common.{◌≡◌, ℕ, ◌+◌, ◌*◌, ◌^◌, ◌<◌, ◌≤◌, min, List, length, below_more, ℤ, pos, negsuc, ◌*ℤ◌, ◌≤ℤ◌, unsigned_abs, FitsSigned, arith, ◌∙◌, refl}
+use Rattle.std.specs.Int.{w128, int_min}
+use Rattle.std.proofs.lemmas.Int.{ints, clamps, by_lt_z, to_z-of_z}
 use Rattle.std.proofs.lemmas.List.Elements.{All-get_or}
 use Rattle.std.proofs.Math.Nat.{mul-le-mul_left, pow-le-pow_left}
 use Rattle.integer_algebra.proofs.PowerLaws.{pow-two}
+use Rattle.integer_algebra.specs.Sums.{at}
 use Rattle.qp_model.specs.declared.design_parts.DesignParts.{DesignParts}
 use Rattle.qp_model.specs.Parts.{design_of, IsDesign}
 use Rattle.qp_model.specs.Range.{IsDenominator, IsPositive}
@@ -49,7 +50,25 @@ square_size p h k = rw (← (pow-two (response_scale (design_of p)))) (last _ _ 
     last : (a b w : ℕ) → a ≤ b → 1 ≤ w → 2 * w * b ≤ 2 ^ 126 → a ≤ 2 ^ 126
     last a b w h k l = omega (arith, mul-le-mul_left b k)
 
+-- ---- the least of a list
+module _ (xs : List ℤ) (i : ℕ) (least next : ℤ) (e : next ≡ int_min least (at xs i)) where
+  pub least_below : ((k : ℕ) → k < i → least ≤ℤ at xs k) → (k : ℕ) → k < i + 1 → next ≤ℤ at xs k
+  least_below h = below_more _ _ (λ k l. under (h k l)) (omega (arith, ints, clamps, e))
+    where
+      under : {z : ℤ} → least ≤ℤ z → next ≤ℤ z
+      under h = omega (arith, ints, clamps, e, h)
+
+  pub least_met : i < length xs → ((k : ℕ) × ((k < length xs) × (least ≡ at xs k))) → (k : ℕ) × ((k < length xs) × (next ≡ at xs k))
+  least_met l m = by_lt_z (at xs i) least (λ o. (i, (l, omega (arith, ints, clamps, e, o)))) (λ o. (m.0, (m.1.0, omega (arith, ints, clamps, e, o, m.1.1))))
+
 -- ---- the least input weight
+pub least_weight : (p : DesignParts) → IsDesign p → (xs : List ℤ) (w : ℤ) → xs ≡ p.input_weights.items → ((l : ℕ) → l < length xs → w ≤ℤ at xs l) →
+    ((l : ℕ) × ((l < length xs) × (w ≡ at xs l))) → IsLeastInput (design_of p) w
+least_weight p h xs w e b m =
+    let below : (l : ℕ) → l < length p.input_weights.items → w ≤ℤ at p.input_weights.items l = rw e at b in
+    let met : (l : ℕ) × ((l < length p.input_weights.items) × (w ≡ at p.input_weights.items l)) = rw e at m in
+    record { below = λ l o. below l (rw h.input_count o); met = (met.0, (rw (← h.input_count) met.1.0, met.1.1)) }
+
 pub least_is : (p : DesignParts) → IsDesign p → (rho : ℤ) → IsLeastInput (design_of p) rho → IsPositive rho
 least_is p h rho k = rw k.met.1.1 (All-get_or IsPositive p.input_weights.items k.met.0 (pos 0) (rw h.input_count k.met.1.0) h.input_weights)
 

@@ -16,9 +16,7 @@ pub fn least_of(numbers: &[i128]) -> i128
 {
     let mut least = numbers[0];
     for number in numbers {
-        if *number < least {
-            least = *number;
-        }
+        least = least.min(*number);
     }
     least
 }
