@@ -1,9 +1,8 @@
 -- How much the form bends a plan up at least, and that it fits.
-use Rattle.std.proofs.Common.{◌≡◌, ℕ, ◌*◌, ◌^◌, ◌<◌, ◌≤◌, max, [], ◌∷◌, List, length, ℤ, pos, ◌-ℤ◌, ◌*ℤ◌, ◌≤ℤ◌, ◌<ℤ◌, unsigned_abs, FitsSigned, to_z, arith, ap, ◌∙◌, refl}
+use Rattle.std.proofs.Common.{◌≡◌, ℕ, ◌*◌, ◌^◌, ◌≤◌, max, [], ◌∷◌, ℤ, pos, ◌-ℤ◌, ◌*ℤ◌, ◌≤ℤ◌, ◌<ℤ◌, unsigned_abs, FitsSigned, to_z, arith, ap, ◌∙◌, refl}
 use Rattle.std.specs.Int.{w128, int_min}
 use Rattle.std.proofs.lemmas.Int.{ints, clamps, unsigned_abs-mul, to_z-of_z}
 use Rattle.std.proofs.Math.Nat.{mul-le-mul_left}
-use Rattle.integer_algebra.specs.Sums.{at}
 use Rattle.integer_algebra.proofs.Quoting.{by_ring, quotes}
 use Rattle.qp_model.specs.declared.design_parts.DesignParts.{DesignParts}
 use Rattle.qp_model.specs.Parts.{design_of, IsDesign}
@@ -76,13 +75,6 @@ module _ (p : DesignParts) (h : IsDesign p) (w : ℤ) (is : IsLeastInput (design
   least_natural = natural w (least_is p h w is).low ∙ ap pos (least_equal p w h is)
 
 -- ---- what the form says of its numbers
-pub least_input : (p : DesignParts) → IsDesign p → (xs : List ℤ) (w : ℤ) → xs ≡ p.input_weights.items → ((l : ℕ) → l < length xs → w ≤ℤ at xs l) →
-    ((l : ℕ) × ((l < length xs) × (w ≡ at xs l))) → IsLeastInput (design_of p) w
-least_input p h xs w e b m =
-    let below : (l : ℕ) → l < length p.input_weights.items → w ≤ℤ at p.input_weights.items l = rw e at b in
-    let met : (l : ℕ) × ((l < length p.input_weights.items) × (w ≡ at p.input_weights.items l)) = rw e at m in
-    record { below = λ l o. below l (rw h.input_count o); met = (met.0, (rw (← h.input_count) met.1.0, met.1.1)) }
-
 pub denominator_weight : (z : ℤ) → IsDenominator z → IsPositive (read z)
 denominator_weight z h = rw (to_z-of_z w128 z (denominator_fits z h)) (record { low = h.low; high = more h.high })
   where

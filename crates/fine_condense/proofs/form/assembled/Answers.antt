@@ -3,7 +3,8 @@ use Rattle.std.specs.Int.{w128}
 use Rattle.std.proofs.lemmas.Int.{to_z-of_z}
 use Rattle.qp_model.specs.Parts.{design_of}
 use Rattle.condensed_form.specs.Form.{IsLeastInput}
-use Rattle.fine_condense.proofs.FloorFacts.{shifted_fits, least_input, denominator_weight, hess_den_is, row_den_is, den_is, size_is}
+use Rattle.condensed_form.proofs.DenominatorFacts.{least_weight}
+use Rattle.fine_condense.proofs.FloorFacts.{shifted_fits, denominator_weight, hess_den_is, row_den_is, den_is, size_is}
 use Rattle.fine_condense.proofs.FormLaws.{numbers_of, form_of}
 use Rattle.fine_condense.proofs.form.assembled.Goals as goal
 
@@ -13,7 +14,7 @@ brought_weight-requires-clause-weight c = denominator_weight c.args.parts.now.co
 pub bend_floor-requires-clause-least : goal.bend_floor-requires-clause-least
 bend_floor-requires-clause-least c =
     let f : FitsSigned w128 c.least_of-input_floor.result = search rules in
-    rw (to_z-of_z w128 _ f) (least_input c.args.parts.now c.requires.design c.deref.result.now c.least_of-input_floor.result c.deref.ensures.value
+    rw (to_z-of_z w128 _ f) (least_weight c.args.parts.now c.requires.design c.deref.result.now c.least_of-input_floor.result c.deref.ensures.value
     c.least_of-input_floor.ensures.below c.least_of-input_floor.ensures.met)
 
 pub returns : goal.returns
@@ -27,7 +28,7 @@ returns c =
     let fh : FitsSigned w128 c.brought_weight.result = search rules in
     let fr : FitsSigned w128 c.scaled.result = search rules in
     let least : IsLeastInput (design_of p) c.least_of-input_floor.result =
-    least_input p h c.deref.result.now c.least_of-input_floor.result c.deref.ensures.value c.least_of-input_floor.ensures.below c.least_of-input_floor.ensures.met in
+    least_weight p h c.deref.result.now c.least_of-input_floor.result c.deref.ensures.value c.least_of-input_floor.ensures.below c.least_of-input_floor.ensures.met in
     form_of p _ h (numbers_of p _ _ _ _ _ k l c.requires.mids c.requires.rads) k.room l.room
     (record {
       weight_den = den_is p.cost_den h.cost_den;
