@@ -73,3 +73,6 @@ returns-clause-made c =
     (assembled (design_of p) (unsigned_abs c.args.settings.r) c.args.settings.s c.args.exps.items c.args.settings.steps c.args.settings.f (numbers c.with_gains.result) c.args.gains c.with_width.result.width
     (c.with_gains.ensures.frame (design_of p) (unsigned_abs c.args.settings.r) c.args.settings.s c.args.exps.items c.args.settings.steps c.args.settings.f c.in_ok-parts.ensures.frame)
     c.with_gains.ensures.gains c.requires.gains c.with_width.ensures.width)
+
+pub overflow_add-settings : goal.overflow_add-settings
+overflow_add-settings c = omega (arith, c.requires.bits, c.requires.exponent)

@@ -7,6 +7,7 @@ use Rattle.qp_model.specs.Columns.{column_bound}
 use Rattle.condensed_form.specs.Form.{held}
 use Rattle.approx_inverse.specs.Inverse.{solution_of}
 use Rattle.controller_maker.proofs.Bounds.{resized}
+use Rattle.std.proofs.lemmas.Result.{IfOk-from_err}
 use Rattle.controller_maker.proofs.widest.widest_gains.Goals as goal
 
 pub put-requires-clause-sizes : goal.put-requires-clause-sizes
@@ -32,4 +33,31 @@ loop-i-preserved c =
       each = λ i j l m. (below_more (λ i. (j : ℕ) → j < (held c.args.c.now).entries → solution_of c.put.new.self i j ≡ pos (column_bound (held c.args.c.now) c.args.f i)) c.loop-i.i
           (λ k o j m. c.put.ensures.others k j (omega arith) ∙ inv.each k j o m)
           (λ j m. c.put.ensures.put j (omega (arith, long)) ∙ same j m ∙ c.entry_bound_of-bound.ensures)) i l j m;
+    }
+
+pub returns-in_err-line : goal.returns-in_err-line
+returns-in_err-line c = IfOk-from_err c.from_residual.result _ c.from_residual.ensures.0
+
+pub returns-in_err-gains : goal.returns-in_err-gains
+returns-in_err-gains c = IfOk-from_err c.from_residual-in_err-gains.result _ c.from_residual-in_err-gains.ensures.0
+
+pub overflow_add-i-end : goal.overflow_add-i-end
+overflow_add-i-end c = omega (arith, c.cols-states.ensures, c.requires.solvable.few_states)
+
+pub overflow_add-i-end-2 : goal.overflow_add-i-end-2
+overflow_add-i-end-2 c = omega (arith, c.cols-states.ensures, c.rows-rows.ensures.count, c.requires.solvable.few_states, c.requires.solvable.few_rows)
+
+pub loop-i-init : goal.loop-i-init
+loop-i-init c =
+    record {
+      long = c.in_ok-line.ensures.len ∙ c.rows-entries.ensures.count;
+      sizes = rw (c.rows-entries.ensures.count, c.cols-states.ensures, c.rows-rows.ensures.count) at c.in_ok-gains.ensures;
+      each = λ i j l m. absurd (omega arith);
+    }
+
+pub returns : goal.returns
+returns c =
+    record {
+      sizes = c.loop-i.invariant.sizes;
+      each = λ i j l m. c.loop-i.invariant.each i j (omega (arith, c.cols-states.ensures, c.rows-rows.ensures.count)) m;
     }
