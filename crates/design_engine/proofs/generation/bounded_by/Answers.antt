@@ -1,4 +1,5 @@
 use Rattle.design_engine.proofs.RefusalFacts.{refused_by, margin_refused}
+use Rattle.design_engine.proofs.AnswerLaws.{absent_of_error}
 use Rattle.design_engine.proofs.generation.bounded_by.Goals as goal
 
 pub returns-in_err-margin-clause-refused : goal.returns-in_err-margin-clause-refused
@@ -11,3 +12,21 @@ returns-clause-passes c = record { room = c.in_ok-margin.ensures.room; margin = 
 
 pub returns-clause-room : goal.returns-clause-room
 returns-clause-room c = c.in_ok-r.ensures.value.0
+
+pub returns-in_err-margin-clause-passes : goal.returns-in_err-margin-clause-passes
+returns-in_err-margin-clause-passes c = absent_of_error c.from_residual.result _ c.from_residual.ensures.0
+
+pub returns-in_err-margin-clause-room : goal.returns-in_err-margin-clause-room
+returns-in_err-margin-clause-room c = absent_of_error c.from_residual.result _ c.from_residual.ensures.0
+
+pub returns-in_err-margin-clause-multiplier : goal.returns-in_err-margin-clause-multiplier
+returns-in_err-margin-clause-multiplier c = absent_of_error c.from_residual.result _ c.from_residual.ensures.0
+
+pub returns-in_err-r-clause-passes : goal.returns-in_err-r-clause-passes
+returns-in_err-r-clause-passes c = absent_of_error c.from_residual-in_err-r.result _ c.from_residual-in_err-r.ensures.0
+
+pub returns-in_err-r-clause-room : goal.returns-in_err-r-clause-room
+returns-in_err-r-clause-room c = absent_of_error c.from_residual-in_err-r.result _ c.from_residual-in_err-r.ensures.0
+
+pub returns-in_err-r-clause-multiplier : goal.returns-in_err-r-clause-multiplier
+returns-in_err-r-clause-multiplier c = absent_of_error c.from_residual-in_err-r.result _ c.from_residual-in_err-r.ensures.0

@@ -9,6 +9,8 @@ use Rattle.qp_model.specs.Runs.{Holds}
 use Rattle.hessian_check.specs.RowExponents.{exponent_in}
 use Rattle.design_engine.proofs.GenerationFacts.{bound_some, whole_is, whole_some, whole_narrow, whole_least}
 use Rattle.design_engine.proofs.PrintedFacts.{bounds_from}
+use Rattle.std.proofs.Common.{◌≤◌}
+use Rattle.design_engine.proofs.AnswerLaws.{absent_of_error}
 use Rattle.design_engine.proofs.generation.bounds_of.Goals as goal
 
 -- the violations of a controller's rows, by the list of its exponents
@@ -20,6 +22,10 @@ listed c xs es s r k eps sound e h =
       long = h.long ∙ long;
       is = λ i l. h.is i (subst (λ (n : ℕ). i < n) (sym long) l) ∙ ap (λ (ls : List ℕ). pos (row_violation_bound (exponent_in ls i) s r k eps)) e;
     }
+
+-- none of a controller's exponents is above its step exponent
+below : (c : Numbers) (es : List ℕ) (s : ℕ) → IsController c → es ≡ c.exponents → c.step_exponent ≡ s → (i : ℕ) → i < length es → exponent_in es i ≤ s
+below c es s sound e k i l = subst (λ (s : ℕ). exponent_in es i ≤ s) k (subst (λ (xs : List ℕ). (i < length xs) → exponent_in xs i ≤ c.step_exponent) (sym e) (λ l. sound.form.sized.exponents i 0 l) l)
 
 pub returns-clause-bounds : goal.returns-clause-bounds
 returns-clause-bounds c = λ cost at steps bits.
@@ -131,3 +137,24 @@ undercut-requires-clause-fits c =
     let e : SFits w128 c.args.eps = c.ranges.eps in
     let bound = whole_is c.args.scaled.now.r _ r c.requires.multiplier in
     rw (bound, whole_is c.violation-violation.result _ v (rw (bound, to_z-of_z w128 _ e) at c.violation-violation.ensures)) c.requires.fits
+
+pub violation-violation-requires-clause-exponent : goal.violation-violation-requires-clause-exponent
+violation-violation-requires-clause-exponent c = c.requires.exponent
+
+pub row_violations-requires-clause-rows : goal.row_violations-requires-clause-rows
+row_violations-requires-clause-rows c =
+    let n = c.args.controller.now in
+    let sound : IsController n = search rules in
+    below n _ _ sound (c.deref.ensures.value ∙ ap (λ (x : Numbers). x.exponents) c.parts-parts.ensures.value) c.requires.same
+
+pub returns-in_err-row_violations-clause-margin : goal.returns-in_err-row_violations-clause-margin
+returns-in_err-row_violations-clause-margin c = absent_of_error c.from_residual.result _ c.from_residual.ensures.0
+
+pub returns-in_err-row_violations-clause-bounds : goal.returns-in_err-row_violations-clause-bounds
+returns-in_err-row_violations-clause-bounds c = absent_of_error c.from_residual.result _ c.from_residual.ensures.0
+
+pub returns-clause-margin : goal.returns-clause-margin
+returns-clause-margin c =
+    let m : SFits w128 c.args.scaled.now.margin.units = search rules in
+    let k : SFits w128 c.args.scaled.now.margin.cost = search rules in
+    rw (to_z-of_z w128 _ m, to_z-of_z w128 _ k) refl

@@ -152,3 +152,9 @@ returns-in_err-controller_of-clause-descent c = ok_of_error c.from_residual-in_e
 
 pub returns-in_err-controller_of-clause-width : goal.returns-in_err-controller_of-clause-width
 returns-in_err-controller_of-clause-width c = ok_of_error c.from_residual-in_err-controller_of.result _ c.from_residual-in_err-controller_of.ensures.0
+
+pub returns-clause-sound : goal.returns-clause-sound
+returns-clause-sound c = search rules
+
+pub returns-clause-refused : goal.returns-clause-refused
+returns-clause-refused c plans passes = tt

@@ -5,6 +5,7 @@ use Rattle.design_engine.specs.Targets.{targets_of}
 use Rattle.design_engine.specs.declared.generation.Made.{Made}
 use Rattle.design_engine.proofs.RefusalFacts.{refused_by}
 use Rattle.design_engine.proofs.AnswerLaws.{ok_map, ok_of_error, IsPassed, every_from, accepted_from, built_certified, built_within}
+use Rattle.design_engine.proofs.AnswerLaws.{absent_of_error}
 use Rattle.design_engine.proofs.generation.generate.Goals as goal
 
 -- ---- a refusal by the first tests
@@ -51,3 +52,33 @@ pub returns-clause-accepted : goal.returns-clause-accepted
 returns-clause-accepted c =
     accepted_from c.args.design.now (targets_of c.args.design.now) (plans_of c.args.policy.now) (search rules) c.requires c.planned.result
     (c.planned.ensures.refused (plans_of c.args.policy.now) c.in_ok-scaled.ensures.passes)
+
+pub scaled_of-requires : goal.scaled_of-requires
+scaled_of-requires c = c.requires
+
+pub returns-in_err-scaled-clause-built : goal.returns-in_err-scaled-clause-built
+returns-in_err-scaled-clause-built c = absent_of_error c.from_residual.result _ c.from_residual.ensures.0
+
+pub returns-in_err-scaled-clause-certified : goal.returns-in_err-scaled-clause-certified
+returns-in_err-scaled-clause-certified c = absent_of_error c.from_residual.result _ c.from_residual.ensures.0
+
+pub returns-in_err-scaled-clause-targets : goal.returns-in_err-scaled-clause-targets
+returns-in_err-scaled-clause-targets c = absent_of_error c.from_residual.result _ c.from_residual.ensures.0
+
+pub returns-in_err-scaled-clause-errors : goal.returns-in_err-scaled-clause-errors
+returns-in_err-scaled-clause-errors c = absent_of_error c.from_residual.result _ c.from_residual.ensures.0
+
+pub planned-requires-clause-multiplier : goal.planned-requires-clause-multiplier
+planned-requires-clause-multiplier c = c.in_ok-scaled.ensures.multiplier
+
+pub planned-requires-clause-form : goal.planned-requires-clause-form
+planned-requires-clause-form c = c.in_ok-scaled.ensures.form
+
+pub planned-requires-clause-exponent : goal.planned-requires-clause-exponent
+planned-requires-clause-exponent c = c.in_ok-scaled.ensures.exponent
+
+pub planned-requires-clause-curved : goal.planned-requires-clause-curved
+planned-requires-clause-curved c = c.in_ok-scaled.ensures.curved
+
+pub returns-clause-errors : goal.returns-clause-errors
+returns-clause-errors c = c.planned.ensures.errors

@@ -41,3 +41,36 @@ returns-clause-passes c plans passes =
 
 pub returns-clause-refused : goal.returns-clause-refused
 returns-clause-refused c plans passes = c.finished.ensures.refused plans (c.in_ok-plan.ensures.passes plans passes)
+
+pub plan_of-requires-clause-multiplier : goal.plan_of-requires-clause-multiplier
+plan_of-requires-clause-multiplier c = c.requires.multiplier
+
+pub plan_of-requires-clause-form : goal.plan_of-requires-clause-form
+plan_of-requires-clause-form c = c.requires.form
+
+pub returns-in_err-plan-clause-errors : goal.returns-in_err-plan-clause-errors
+returns-in_err-plan-clause-errors c = absent_of_error c.from_residual.result _ c.from_residual.ensures.0
+
+pub finished-requires-clause-multiplier : goal.finished-requires-clause-multiplier
+finished-requires-clause-multiplier c = c.requires.multiplier
+
+pub finished-requires-clause-form : goal.finished-requires-clause-form
+finished-requires-clause-form c = c.requires.form
+
+pub finished-requires-clause-exponent : goal.finished-requires-clause-exponent
+finished-requires-clause-exponent c = c.requires.exponent
+
+pub finished-requires-clause-curved : goal.finished-requires-clause-curved
+finished-requires-clause-curved c = c.requires.curved
+
+pub finished-requires-clause-steps : goal.finished-requires-clause-steps
+finished-requires-clause-steps c = c.in_ok-plan.ensures.steps
+
+pub finished-requires-clause-sums : goal.finished-requires-clause-sums
+finished-requires-clause-sums c = c.in_ok-plan.ensures.sums
+
+pub finished-requires-clause-cost : goal.finished-requires-clause-cost
+finished-requires-clause-cost c = c.in_ok-plan.ensures.cost
+
+pub returns-clause-errors : goal.returns-clause-errors
+returns-clause-errors c = c.finished.ensures.errors

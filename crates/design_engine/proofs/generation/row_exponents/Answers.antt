@@ -31,3 +31,11 @@ exponents-requires-clause-form c = record { parts = c.args.design.now; form = c.
 
 pub exponents-requires-clause-chosen : goal.exponents-requires-clause-chosen
 exponents-requires-clause-chosen c = c.requires.chosen
+
+pub returns-then-parts-eq-VERSION-clause-list : goal.returns-then-parts-eq-VERSION-clause-list
+returns-then-parts-eq-VERSION-clause-list c =
+    let count = c.rows.ensures.count ∙ c.requires.form.shapes.g.rows in
+    ok_map c.vec.result _ _ c.vec.ensures.items_if_clones_equal (λ es e. record {
+      first = λ v. e (λ y h. h) ∙ ap (λ (n : ℕ). replicate n c.args.s) count;
+      second = λ other. absurd (other (rw c.parts.ensures.value at c.if-parts-eq-VERSION.true));
+    })

@@ -44,3 +44,33 @@ returns-clause-exponent c = λ p form. record {
 
 pub returns-clause-curved : goal.returns-clause-curved
 returns-clause-curved c = (c.in_ok-exponents.ensures.exponents _ c.in_ok-condensed.ensures.form).0
+
+pub returns-in_err-condensed-clause-multiplier : goal.returns-in_err-condensed-clause-multiplier
+returns-in_err-condensed-clause-multiplier c = absent_of_error c.from_residual.result _ c.from_residual.ensures.0
+
+pub returns-in_err-condensed-clause-form : goal.returns-in_err-condensed-clause-form
+returns-in_err-condensed-clause-form c = absent_of_error c.from_residual.result _ c.from_residual.ensures.0
+
+pub returns-in_err-condensed-clause-exponent : goal.returns-in_err-condensed-clause-exponent
+returns-in_err-condensed-clause-exponent c = absent_of_error c.from_residual.result _ c.from_residual.ensures.0
+
+pub returns-in_err-condensed-clause-curved : goal.returns-in_err-condensed-clause-curved
+returns-in_err-condensed-clause-curved c = absent_of_error c.from_residual.result _ c.from_residual.ensures.0
+
+pub returns-in_err-exponents-clause-multiplier : goal.returns-in_err-exponents-clause-multiplier
+returns-in_err-exponents-clause-multiplier c = absent_of_error c.from_residual-in_err-exponents.result _ c.from_residual-in_err-exponents.ensures.0
+
+pub returns-in_err-exponents-clause-form : goal.returns-in_err-exponents-clause-form
+returns-in_err-exponents-clause-form c = absent_of_error c.from_residual-in_err-exponents.result _ c.from_residual-in_err-exponents.ensures.0
+
+pub returns-in_err-exponents-clause-exponent : goal.returns-in_err-exponents-clause-exponent
+returns-in_err-exponents-clause-exponent c = absent_of_error c.from_residual-in_err-exponents.result _ c.from_residual-in_err-exponents.ensures.0
+
+pub returns-in_err-exponents-clause-curved : goal.returns-in_err-exponents-clause-curved
+returns-in_err-exponents-clause-curved c = absent_of_error c.from_residual-in_err-exponents.result _ c.from_residual-in_err-exponents.ensures.0
+
+pub returns-clause-form : goal.returns-clause-form
+returns-clause-form c = c.in_ok-condensed.ensures.form
+
+pub returns-clause-refused : goal.returns-clause-refused
+returns-clause-refused c plans passes room = tt

@@ -13,3 +13,9 @@ returns c =
     let r : SFits w128 c.ceil_div.result = search rules in
     to_z-of_z w128 _ r ∙ c.ceil_div.ensures ∙ rw (to_z-of_z w128 _ s, one_shifted c.args.parts.now.f (omega (arith, c.requires.form.sized.fraction_bits.1)), c.in-Some.ensures.1)
     (ceil_of_pos _ _ (pow_pos c.args.parts.now.f))
+
+pub plan_sum-requires : goal.plan_sum-requires
+plan_sum-requires c = c.requires.form.sized
+
+pub overflow_shl-parts : goal.overflow_shl-parts
+overflow_shl-parts c = omega (arith, c.requires.form.sized.fraction_bits.1)

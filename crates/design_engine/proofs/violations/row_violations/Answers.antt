@@ -1,9 +1,8 @@
-use Rattle.std.proofs.Common.{arith}
 use Rattle.std.specs.Int.{w128}
 use Rattle.std.proofs.lemmas.Int.{to_z-of_z}
-use Rattle.std.proofs.lemmas.Grind.{common_steps}
 use mir.Val.{SFits}
 use Rattle.design_engine.proofs.AnswerLaws.{absent_of_error}
+use Rattle.std.proofs.Common.{arith, pos, get_or-set_same, get_or-set_other, below_more, rules, ◌∙◌}
 use Rattle.design_engine.proofs.violations.row_violations.Goals as goal
 
 pub row_violation-requires-clause-some : goal.row_violation-requires-clause-some
@@ -32,23 +31,35 @@ row_violation-requires-clause-exponent c = c.requires.exponent
 pub row_violation-requires-clause-steps : goal.row_violation-requires-clause-steps
 row_violation-requires-clause-steps c = c.requires.steps
 
-pub row_violation-requires-clause-row : goal.row_violation-requires-clause-row
-row_violation-requires-clause-row c = grind (arith, common_steps)
-
-pub loop-i-preserved : goal.loop-i-preserved
-loop-i-preserved c = grind (arith, common_steps)
-
 pub returns-in_err-out : goal.returns-in_err-out
 returns-in_err-out c = absent_of_error c.from_residual.result _ c.from_residual.ensures.0
 
 pub loop-i-init : goal.loop-i-init
-loop-i-init c = λ k below. absurd (omega arith)
+loop-i-init c = record { long = c.in_ok-out.ensures.len; each = λ k below. absurd (omega arith) }
 
 pub bounds-exps-i : goal.bounds-exps-i
 bounds-exps-i c = omega arith
 
+pub row_violation-requires-clause-row : goal.row_violation-requires-clause-row
+row_violation-requires-clause-row c = c.requires.rows c.loop-i.i (omega arith)
+
 pub index_mut-requires : goal.index_mut-requires
-index_mut-requires c = grind (arith, common_steps)
+index_mut-requires c = omega (arith, c.loop-i.invariant.long)
+
+pub loop-i-preserved : goal.loop-i-preserved
+loop-i-preserved c =
+    let i = c.loop-i.i in
+    let v : SFits w128 c.row_violation.result = search rules in
+    record {
+      long = c.loop-i.invariant.long;
+      each = below_more _ _
+          (λ k l. get_or-set_other c.loop-i.out.items i k _ (pos 0) (omega arith) ∙ c.loop-i.invariant.each k l)
+          (get_or-set_same c.loop-i.out.items i _ (pos 0) (omega (arith, c.loop-i.invariant.long, c.loop-i.out.ok.0)) ∙ to_z-of_z w128 _ v ∙ c.row_violation.ensures);
+    }
 
 pub returns : goal.returns
-returns c = grind (arith, common_steps)
+returns c =
+    record {
+      long = omega (arith, c.loop-i.invariant.long, c.loop-i.out.ok.0);
+      is = λ i l. (rw (to_z-of_z w128 _ c.ranges.r, to_z-of_z w128 _ c.ranges.eps) at (c.loop-i.invariant.each i (omega arith)));
+    }

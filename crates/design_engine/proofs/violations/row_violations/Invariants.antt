@@ -1,8 +1,11 @@
-use Rattle.std.proofs.Common.{◌≡◌, ℕ, ◌<◌, pos, unsigned_abs}
+use Rattle.std.proofs.Common.{◌≡◌, ℕ, ◌<◌, pos, length, unsigned_abs, vec_len}
 use Rattle.integer_algebra.specs.Sums.{at}
 use Rattle.qp_model.specs.Choices.{row_violation_bound}
 use Rattle.hessian_check.specs.RowExponents.{exponent_in}
 use Rattle.design_engine.proofs.violations.row_violations.Given as goal
 
 abbrev pub invariant-loop-i : goal.invariant-loop-i
-invariant-loop-i l = (k : ℕ) → k < l.i → at l.out.items k ≡ pos (row_violation_bound (exponent_in l.exps k) l.s (unsigned_abs l.r) l.k (unsigned_abs l.eps))
+invariant-loop-i l = record {
+  long : vec_len l.out ≡ length l.exps;
+  each : (k : ℕ) → k < l.i → at l.out.items k ≡ pos (row_violation_bound (exponent_in l.exps k) l.s (unsigned_abs l.r) l.k (unsigned_abs l.eps));
+}
