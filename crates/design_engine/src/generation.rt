@@ -127,13 +127,18 @@ fn scaled_by(alloc: Global, design: &Design, bounded: Bounded) -> Result<Scaled,
         IfErr result (IsRefused (design_of design.now) (targets_of design.now) plans) }
 {
     let condensed = condense(alloc, design)?;
-    let exponents = curvature(alloc, &condensed)?;
-    Ok(Scaled {
-        margin: bounded.margin,
-        r: bounded.r,
-        condensed,
-        s: exponents.s,
-    })
+    match curvature(alloc, &condensed) {
+        Ok(exponents) => Ok(Scaled {
+            margin: bounded.margin,
+            r: bounded.r,
+            condensed,
+            s: exponents.s,
+        }),
+        Err(fault) => {
+            drop(condensed);
+            Err(Refusal::from(fault))
+        }
+    }
 }
 
 // The first tests, up to the step exponent.
@@ -357,5 +362,8 @@ pub fn generate(alloc: Global, design: &Design, policy: &Policy) -> Result<Made,
     // A design keeps its rules; with its numbers read, that is known on every way out.
     let _parts = design.parts();
     let scaled = scaled_of(alloc, design, policy)?;
-    planned(alloc, design, &scaled)
+    let made = planned(alloc, design, &scaled);
+    // By a call: at the end of the function each of its matrices would be dropped beside what is made.
+    drop(scaled);
+    made
 }

@@ -21,37 +21,37 @@ returns-in_err-scaled-clause-accepted c =
     (refused_by c.from_residual.result _ _ c.from_residual.ensures.1 (λ e f. rw f c.in_err-scaled.ensures.refused))
 
 -- ---- by the later ones, and what is made
-pub planned-requires-clause-sizes : goal.planned-requires-clause-sizes
-planned-requires-clause-sizes c = (plans_of c.args.policy.now, c.in_ok-scaled.ensures.passes)
+pub planned-made-requires-clause-sizes : goal.planned-made-requires-clause-sizes
+planned-made-requires-clause-sizes c = (plans_of c.args.policy.now, c.in_ok-scaled.ensures.passes)
 
 pub returns-clause-built : goal.returns-clause-built
-returns-clause-built c = c.planned.ensures.built (plans_of c.args.policy.now) c.requires c.in_ok-scaled.ensures.passes
+returns-clause-built c = c.planned-made.ensures.built (plans_of c.args.policy.now) c.requires c.in_ok-scaled.ensures.passes
 
 pub returns-clause-certified : goal.returns-clause-certified
 returns-clause-certified c =
-    ok_map c.planned.result _ _ (c.planned.ensures.built (plans_of c.args.policy.now) c.requires c.in_ok-scaled.ensures.passes)
+    ok_map c.planned-made.result _ _ (c.planned-made.ensures.built (plans_of c.args.policy.now) c.requires c.in_ok-scaled.ensures.passes)
     (λ (made : Made). built_certified c.args.design.now (plans_of c.args.policy.now) made.controller (printed made.bounds))
 
 pub returns-clause-targets : goal.returns-clause-targets
 returns-clause-targets c =
-    ok_map c.planned.result _ _ (c.planned.ensures.built (plans_of c.args.policy.now) c.requires c.in_ok-scaled.ensures.passes)
+    ok_map c.planned-made.result _ _ (c.planned-made.ensures.built (plans_of c.args.policy.now) c.requires c.in_ok-scaled.ensures.passes)
     (λ (made : Made). built_within c.args.design.now (plans_of c.args.policy.now) made.controller (printed made.bounds))
 
 pub returns-clause-refused : goal.returns-clause-refused
-returns-clause-refused c = c.planned.ensures.refused (plans_of c.args.policy.now) c.in_ok-scaled.ensures.passes
+returns-clause-refused c = c.planned-made.ensures.refused (plans_of c.args.policy.now) c.in_ok-scaled.ensures.passes
 
 pub returns-clause-every_refusal : goal.returns-clause-every_refusal
 returns-clause-every_refusal c =
-    every_from c.args.design.now (targets_of c.args.design.now) (plans_of c.args.policy.now) (search rules) c.requires c.planned.result
-    (c.planned.ensures.refused (plans_of c.args.policy.now) c.in_ok-scaled.ensures.passes)
-    (ok_map c.planned.result _ (λ made. IsPassed c.args.design.now (targets_of c.args.design.now) (plans_of c.args.policy.now))
-    (c.planned.ensures.passes (plans_of c.args.policy.now) c.in_ok-scaled.ensures.passes)
+    every_from c.args.design.now (targets_of c.args.design.now) (plans_of c.args.policy.now) (search rules) c.requires c.planned-made.result
+    (c.planned-made.ensures.refused (plans_of c.args.policy.now) c.in_ok-scaled.ensures.passes)
+    (ok_map c.planned-made.result _ (λ made. IsPassed c.args.design.now (targets_of c.args.design.now) (plans_of c.args.policy.now))
+    (c.planned-made.ensures.passes (plans_of c.args.policy.now) c.in_ok-scaled.ensures.passes)
     (λ made h. record { margin = c.in_ok-scaled.scaled.margin; exponent = c.in_ok-scaled.scaled.s; bits = h.0; passes = h.1 }))
 
 pub returns-clause-accepted : goal.returns-clause-accepted
 returns-clause-accepted c =
-    accepted_from c.args.design.now (targets_of c.args.design.now) (plans_of c.args.policy.now) (search rules) c.requires c.planned.result
-    (c.planned.ensures.refused (plans_of c.args.policy.now) c.in_ok-scaled.ensures.passes)
+    accepted_from c.args.design.now (targets_of c.args.design.now) (plans_of c.args.policy.now) (search rules) c.requires c.planned-made.result
+    (c.planned-made.ensures.refused (plans_of c.args.policy.now) c.in_ok-scaled.ensures.passes)
 
 pub scaled_of-requires : goal.scaled_of-requires
 scaled_of-requires c = c.requires
@@ -68,17 +68,17 @@ returns-in_err-scaled-clause-targets c = absent_of_error c.from_residual.result 
 pub returns-in_err-scaled-clause-errors : goal.returns-in_err-scaled-clause-errors
 returns-in_err-scaled-clause-errors c = absent_of_error c.from_residual.result _ c.from_residual.ensures.0
 
-pub planned-requires-clause-multiplier : goal.planned-requires-clause-multiplier
-planned-requires-clause-multiplier c = c.in_ok-scaled.ensures.multiplier
+pub planned-made-requires-clause-multiplier : goal.planned-made-requires-clause-multiplier
+planned-made-requires-clause-multiplier c = c.in_ok-scaled.ensures.multiplier
 
-pub planned-requires-clause-form : goal.planned-requires-clause-form
-planned-requires-clause-form c = c.in_ok-scaled.ensures.form
+pub planned-made-requires-clause-form : goal.planned-made-requires-clause-form
+planned-made-requires-clause-form c = c.in_ok-scaled.ensures.form
 
-pub planned-requires-clause-exponent : goal.planned-requires-clause-exponent
-planned-requires-clause-exponent c = c.in_ok-scaled.ensures.exponent
+pub planned-made-requires-clause-exponent : goal.planned-made-requires-clause-exponent
+planned-made-requires-clause-exponent c = c.in_ok-scaled.ensures.exponent
 
-pub planned-requires-clause-curved : goal.planned-requires-clause-curved
-planned-requires-clause-curved c = c.in_ok-scaled.ensures.curved
+pub planned-made-requires-clause-curved : goal.planned-made-requires-clause-curved
+planned-made-requires-clause-curved c = c.in_ok-scaled.ensures.curved
 
 pub returns-clause-errors : goal.returns-clause-errors
-returns-clause-errors c = c.planned.ensures.errors
+returns-clause-errors c = c.planned-made.ensures.errors

@@ -5,3 +5,6 @@ use Rattle.design_engine.proofs.generation.half_target.Goals as goal
 
 pub nonzero_div-result : goal.nonzero_div-result
 nonzero_div-result c = grind (ints, arith, common_steps)
+
+pub returns : goal.returns
+returns c = grind (ints, arith, common_steps)

@@ -11,19 +11,14 @@ returns-in_err-condensed-clause-refused c plans passes room =
     refused_by c.from_residual.result _ _ c.from_residual.ensures.1
     (condense_refused _ _ plans c.args.bounded.margin passes room c.condense.result _ c.in_err-condensed.was c.condense.ensures.wide)
 
-pub returns-in_err-exponents-clause-passes : goal.returns-in_err-exponents-clause-passes
-returns-in_err-exponents-clause-passes c plans passes room =
-    absent_of_error c.from_residual-in_err-exponents.result _ c.from_residual-in_err-exponents.ensures.0
-
-pub returns-in_err-exponents-clause-refused : goal.returns-in_err-exponents-clause-refused
-returns-in_err-exponents-clause-refused c plans passes room =
+pub returns-in-Err-clause-refused : goal.returns-in-Err-clause-refused
+returns-in-Err-clause-refused c plans passes room =
     let form = c.in_ok-condensed.ensures.form in
-    refused_by c.from_residual-in_err-exponents.result _ _ c.from_residual-in_err-exponents.ensures.1
-    (curvature_refused _ _ plans c.args.bounded.margin passes room (condensed_within _ Prediction _ (c.in_ok-condensed.ensures.every_refusal Prediction))
-    form.sizes.cost_room form.sizes.limit_room _ (c.in_err-exponents.ensures.refused _ form))
+    curvature_refused _ _ plans c.args.bounded.margin passes room (condensed_within _ Prediction _ (c.in_ok-condensed.ensures.every_refusal Prediction))
+    form.sizes.cost_room form.sizes.limit_room _ (c.in-Err.ensures.refused _ form) _ c.from.ensures
 
-pub returns-clause-passes : goal.returns-clause-passes
-returns-clause-passes c plans passes room =
+pub returns-in-Ok-clause-passes : goal.returns-in-Ok-clause-passes
+returns-in-Ok-clause-passes c plans passes room =
     let form = c.in_ok-condensed.ensures.form in
     record {
       before = passes;
@@ -31,19 +26,19 @@ returns-clause-passes c plans passes room =
       prediction = condensed_within _ Prediction _ (c.in_ok-condensed.ensures.every_refusal Prediction);
       hessian = form.sizes.cost_room;
       rows = form.sizes.limit_room;
-      curvature = within_limit _ _ _ (c.in_ok-exponents.ensures.wide _ form);
+      curvature = within_limit _ _ _ (c.in-Ok.ensures.wide _ form);
     }
 
-pub returns-clause-exponent : goal.returns-clause-exponent
-returns-clause-exponent c = λ p form. record {
-  plain = c.in_ok-exponents.exponents.s1;
-  is_plain = c.in_ok-exponents.ensures.plain p form;
-  limit = c.in_ok-exponents.ensures.order.1;
-  is_step = c.in_ok-exponents.ensures.certified p form;
+pub returns-in-Ok-clause-exponent : goal.returns-in-Ok-clause-exponent
+returns-in-Ok-clause-exponent c = λ p form. record {
+  plain = c.in-Ok.exponents.s1;
+  is_plain = c.in-Ok.ensures.plain p form;
+  limit = c.in-Ok.ensures.order.1;
+  is_step = c.in-Ok.ensures.certified p form;
 }
 
-pub returns-clause-curved : goal.returns-clause-curved
-returns-clause-curved c = (c.in_ok-exponents.ensures.exponents _ c.in_ok-condensed.ensures.form).0
+pub returns-in-Ok-clause-curved : goal.returns-in-Ok-clause-curved
+returns-in-Ok-clause-curved c = (c.in-Ok.ensures.exponents _ c.in_ok-condensed.ensures.form).0
 
 pub returns-in_err-condensed-clause-multiplier : goal.returns-in_err-condensed-clause-multiplier
 returns-in_err-condensed-clause-multiplier c = absent_of_error c.from_residual.result _ c.from_residual.ensures.0
@@ -57,20 +52,5 @@ returns-in_err-condensed-clause-exponent c = absent_of_error c.from_residual.res
 pub returns-in_err-condensed-clause-curved : goal.returns-in_err-condensed-clause-curved
 returns-in_err-condensed-clause-curved c = absent_of_error c.from_residual.result _ c.from_residual.ensures.0
 
-pub returns-in_err-exponents-clause-multiplier : goal.returns-in_err-exponents-clause-multiplier
-returns-in_err-exponents-clause-multiplier c = absent_of_error c.from_residual-in_err-exponents.result _ c.from_residual-in_err-exponents.ensures.0
-
-pub returns-in_err-exponents-clause-form : goal.returns-in_err-exponents-clause-form
-returns-in_err-exponents-clause-form c = absent_of_error c.from_residual-in_err-exponents.result _ c.from_residual-in_err-exponents.ensures.0
-
-pub returns-in_err-exponents-clause-exponent : goal.returns-in_err-exponents-clause-exponent
-returns-in_err-exponents-clause-exponent c = absent_of_error c.from_residual-in_err-exponents.result _ c.from_residual-in_err-exponents.ensures.0
-
-pub returns-in_err-exponents-clause-curved : goal.returns-in_err-exponents-clause-curved
-returns-in_err-exponents-clause-curved c = absent_of_error c.from_residual-in_err-exponents.result _ c.from_residual-in_err-exponents.ensures.0
-
-pub returns-clause-form : goal.returns-clause-form
-returns-clause-form c = c.in_ok-condensed.ensures.form
-
-pub returns-clause-refused : goal.returns-clause-refused
-returns-clause-refused c plans passes room = tt
+pub returns-in-Ok-clause-form : goal.returns-in-Ok-clause-form
+returns-in-Ok-clause-form c = c.in_ok-condensed.ensures.form
