@@ -270,7 +270,10 @@ fn controller_by(
         IfErr result (IsRefused (design_of design.now) (targets_of design.now) plans) }
 {
     let gains = solve_all(alloc, &scaled.condensed, plan.choice.f)?;
-    let exps = row_exponents(alloc, design, &scaled.condensed, scaled.s)?;
+    let Ok(exps) = row_exponents(alloc, design, &scaled.condensed, scaled.s) else {
+        drop(gains);
+        return Err(Refusal::Memory);
+    };
     let settings = Settings {
         s: scaled.s,
         f: plan.choice.f,
@@ -307,7 +310,10 @@ fn finished(alloc: Global, design: &Design, scaled: &Scaled, plan: &Chosen) -> R
 {
     let controller = controller_by(alloc, design, scaled, plan)?;
     let eps = real_cost(&scaled.condensed, &plan.sums, &controller);
-    let bounds = bounds_of(alloc, scaled, plan, &controller, eps)?;
+    let Ok(bounds) = bounds_of(alloc, scaled, plan, &controller, eps) else {
+        drop(controller);
+        return Err(Refusal::Memory);
+    };
     Ok(Made {
         controller,
         bounds,

@@ -1,4 +1,4 @@
-use Rattle.std.proofs.Common.{ℕ, inl, List, sym, subst, rules}
+use Rattle.std.proofs.Common.{ℕ, inl, refl, List, sym, subst, rules}
 use Rattle.std.specs.Int.{w128}
 use mir.Val.{SFits}
 use Rattle.qp_model.specs.Parts.{design_of}
@@ -32,9 +32,8 @@ returns-in_err-gains-clause-refused c plans passes =
     refused_by c.from_residual.result _ _ c.from_residual.ensures.1
     (solve_refused _ _ plans c.args.scaled.now.margin c.args.scaled.now.s c.args.plan.now.choice.f passes _ (c.in_err-gains.ensures.wide _ c.requires.form))
 
-pub returns-in_err-exps-clause-refused : goal.returns-in_err-exps-clause-refused
-returns-in_err-exps-clause-refused c plans passes =
-    refused_by c.from_residual-in_err-exps.result _ _ c.from_residual-in_err-exps.ensures.1 (λ e f. inl f)
+pub returns-in_default-clause-refused : goal.returns-in_default-clause-refused
+returns-in_default-clause-refused c plans passes = inl refl
 
 -- ---- the controller
 pub controller_of-requires-clause-form : goal.controller_of-requires-clause-form
@@ -57,7 +56,7 @@ pub controller_of-requires-clause-exponent : goal.controller_of-requires-clause-
 controller_of-requires-clause-exponent c = exponent_small (design_of c.args.design.now) _ (c.requires.exponent c.args.design.now c.requires.form)
 
 pub controller_of-requires-clause-exponents : goal.controller_of-requires-clause-exponents
-controller_of-requires-clause-exponents c = exponents_listed (design_of c.args.design.now) _ _ c.in_ok-exps.ensures.list
+controller_of-requires-clause-exponents c = exponents_listed (design_of c.args.design.now) _ _ c.in-Ok.ensures.list
 
 pub controller_of-requires-clause-gains : goal.controller_of-requires-clause-gains
 controller_of-requires-clause-gains c = c.in_ok-gains.ensures.solved _ c.requires.form
@@ -84,11 +83,11 @@ returns-clause-made c =
 
 pub returns-clause-exponents : goal.returns-clause-exponents
 returns-clause-exponents c =
-    subst (λ (es : List ℕ). AreExponentsOf (design_of c.args.design.now) c.args.scaled.now.s es) (sym c.in_ok-controller_of.ensures.made.exponents) c.in_ok-exps.ensures.list
+    subst (λ (es : List ℕ). AreExponentsOf (design_of c.args.design.now) c.args.scaled.now.s es) (sym c.in_ok-controller_of.ensures.made.exponents) c.in-Ok.ensures.list
 
 pub returns-clause-curved : goal.returns-clause-curved
 returns-clause-curved c =
-    subst (λ (es : List ℕ). AreExponents (design_of c.args.design.now) (exponent_in es) c.args.scaled.now.s) (sym c.in_ok-controller_of.ensures.made.exponents) c.in_ok-exps.ensures.curved
+    subst (λ (es : List ℕ). AreExponents (design_of c.args.design.now) (exponent_in es) c.args.scaled.now.s) (sym c.in_ok-controller_of.ensures.made.exponents) c.in-Ok.ensures.curved
 
 pub returns-clause-descent : goal.returns-clause-descent
 returns-clause-descent c = c.in_ok-gains.ensures.fits _ c.requires.form
@@ -117,23 +116,23 @@ returns-in_err-gains-clause-descent c = ok_of_error c.from_residual.result _ c.f
 pub returns-in_err-gains-clause-width : goal.returns-in_err-gains-clause-width
 returns-in_err-gains-clause-width c = ok_of_error c.from_residual.result _ c.from_residual.ensures.0
 
-pub returns-in_err-exps-clause-sound : goal.returns-in_err-exps-clause-sound
-returns-in_err-exps-clause-sound c = absent_of_error c.from_residual-in_err-exps.result _ c.from_residual-in_err-exps.ensures.0
+pub returns-in_default-clause-sound : goal.returns-in_default-clause-sound
+returns-in_default-clause-sound c = tt
 
-pub returns-in_err-exps-clause-made : goal.returns-in_err-exps-clause-made
-returns-in_err-exps-clause-made c = absent_of_error c.from_residual-in_err-exps.result _ c.from_residual-in_err-exps.ensures.0
+pub returns-in_default-clause-made : goal.returns-in_default-clause-made
+returns-in_default-clause-made c = tt
 
-pub returns-in_err-exps-clause-exponents : goal.returns-in_err-exps-clause-exponents
-returns-in_err-exps-clause-exponents c = absent_of_error c.from_residual-in_err-exps.result _ c.from_residual-in_err-exps.ensures.0
+pub returns-in_default-clause-exponents : goal.returns-in_default-clause-exponents
+returns-in_default-clause-exponents c = tt
 
-pub returns-in_err-exps-clause-curved : goal.returns-in_err-exps-clause-curved
-returns-in_err-exps-clause-curved c = absent_of_error c.from_residual-in_err-exps.result _ c.from_residual-in_err-exps.ensures.0
+pub returns-in_default-clause-curved : goal.returns-in_default-clause-curved
+returns-in_default-clause-curved c = tt
 
-pub returns-in_err-exps-clause-descent : goal.returns-in_err-exps-clause-descent
-returns-in_err-exps-clause-descent c = ok_of_error c.from_residual-in_err-exps.result _ c.from_residual-in_err-exps.ensures.0
+pub returns-in_default-clause-descent : goal.returns-in_default-clause-descent
+returns-in_default-clause-descent c = tt
 
-pub returns-in_err-exps-clause-width : goal.returns-in_err-exps-clause-width
-returns-in_err-exps-clause-width c = ok_of_error c.from_residual-in_err-exps.result _ c.from_residual-in_err-exps.ensures.0
+pub returns-in_default-clause-width : goal.returns-in_default-clause-width
+returns-in_default-clause-width c = tt
 
 pub returns-in_err-controller_of-clause-sound : goal.returns-in_err-controller_of-clause-sound
 returns-in_err-controller_of-clause-sound c = absent_of_error c.from_residual-in_err-controller_of.result _ c.from_residual-in_err-controller_of.ensures.0

@@ -115,15 +115,14 @@ bounds_of-requires-clause-fits c =
     product : (e g r h : ℕ) → e ≤ min g (r * h) → e ≤ r * h
     product e g r h k = omega (arith, k)
 
-pub returns-in_err-bounds-clause-refused : goal.returns-in_err-bounds-clause-refused
-returns-in_err-bounds-clause-refused c plans passes =
-    refused_by c.from_residual-in_err-bounds.result _ _ c.from_residual-in_err-bounds.ensures.1 (λ e f. inl f)
+pub returns-in_default-clause-refused : goal.returns-in_default-clause-refused
+returns-in_default-clause-refused c plans passes = inl refl
 
 -- ---- the whole
 pub returns-clause-errors : goal.returns-clause-errors
 returns-clause-errors c =
     let e : SFits w128 c.args.plan.now.choice.eps = search rules in
-    stated_by (design_of c.args.design.now) (printed c.in_ok-bounds.bounds) _ _ _ _ c.in_ok-bounds.ensures.margin c.in_ok-controller.ensures.made.fraction_bits
+    stated_by (design_of c.args.design.now) (printed c.in-Ok.bounds) _ _ _ _ c.in-Ok.ensures.margin c.in_ok-controller.ensures.made.fraction_bits
     (to_z-of_z w128 _ e ∙ c.requires.cost)
 
 pub returns-clause-built : goal.returns-clause-built
@@ -136,9 +135,9 @@ returns-clause-built c plans policy passes =
     (given_from p q q c.args.scaled.now.s _ _ _ c.args.scaled.now.condensed n c.requires.form refl c.in_ok-controller.ensures.made c.args.plan.now.sums c.requires.sums
     c.in_ok-controller.ensures.sound c.in_ok-controller.ensures.descent) in
     let made = c.in_ok-controller.ensures.made in
-    built_from p plans n (printed c.in_ok-bounds.bounds) c.args.scaled.now.margin q _ _ _ _
-    c.requires.form.design policy passes c.in_ok-controller.ensures.exponents c.in_ok-controller.ensures.curved refl c.requires.steps c.in_ok-bounds.ensures.margin
-    c.in_ok-controller.ensures.sound made (c.in_ok-bounds.ensures.bounds _ cost made.steps made.fraction_bits)
+    built_from p plans n (printed c.in-Ok.bounds) c.args.scaled.now.margin q _ _ _ _
+    c.requires.form.design policy passes c.in_ok-controller.ensures.exponents c.in_ok-controller.ensures.curved refl c.requires.steps c.in-Ok.ensures.margin
+    c.in_ok-controller.ensures.sound made (c.in-Ok.ensures.bounds _ cost made.steps made.fraction_bits)
 
 pub returns-clause-passes : goal.returns-clause-passes
 returns-clause-passes c plans passes = record {
@@ -157,11 +156,11 @@ returns-in_err-controller-clause-errors c = absent_of_error c.from_residual.resu
 pub returns-in_err-controller-clause-passes : goal.returns-in_err-controller-clause-passes
 returns-in_err-controller-clause-passes c plans passes = ok_of_error c.from_residual.result _ c.from_residual.ensures.0
 
-pub returns-in_err-bounds-clause-built : goal.returns-in_err-bounds-clause-built
-returns-in_err-bounds-clause-built c plans policy passes = absent_of_error c.from_residual-in_err-bounds.result _ c.from_residual-in_err-bounds.ensures.0
+pub returns-in_default-clause-built : goal.returns-in_default-clause-built
+returns-in_default-clause-built c plans policy passes = tt
 
-pub returns-in_err-bounds-clause-errors : goal.returns-in_err-bounds-clause-errors
-returns-in_err-bounds-clause-errors c = absent_of_error c.from_residual-in_err-bounds.result _ c.from_residual-in_err-bounds.ensures.0
+pub returns-in_default-clause-errors : goal.returns-in_default-clause-errors
+returns-in_default-clause-errors c = tt
 
-pub returns-in_err-bounds-clause-passes : goal.returns-in_err-bounds-clause-passes
-returns-in_err-bounds-clause-passes c plans passes = ok_of_error c.from_residual-in_err-bounds.result _ c.from_residual-in_err-bounds.ensures.0
+pub returns-in_default-clause-passes : goal.returns-in_default-clause-passes
+returns-in_default-clause-passes c plans passes = tt
