@@ -140,10 +140,22 @@ fn widest_parts(
         greatest_sum (numbers c) ≡ width_size (design_of design.now) (unsigned_abs settings.r) settings.s settings.steps settings.f) }
 {
     let rows = rounded_rows(alloc, condensed, settings.f)?;
-    let widest = widest_gains(alloc, condensed, settings.f)?;
+    let widest = match widest_gains(alloc, condensed, settings.f) {
+        Ok(widest) => widest,
+        Err(fault) => {
+            drop(rows);
+            return Err(fault);
+        }
+    };
     let parts = design.parts();
-    let held = state_box(parts)?;
-    Ok(parts_with(parts, settings, clamp, exps, rows, widest, held))
+    match state_box(parts) {
+        Ok(held) => Ok(parts_with(parts, settings, clamp, exps, rows, widest, held)),
+        Err(fault) => {
+            drop(rows);
+            drop(widest);
+            Err(fault)
+        }
+    }
 }
 
 // The parts with these gains in place of others.
@@ -199,11 +211,18 @@ pub fn controller_of(
     ensures wide { IfErr result (λ e.
         IsWidthFault e (2 ^ 126 < width_size (design_of design.now) (unsigned_abs settings.r) settings.s settings.steps settings.f)) }
 {
+    // What is given back is dropped by one call: else each of its matrices is dropped beside the others.
     let Some(clamp) = clamp_of(settings.r, settings.f + settings.s) else {
+        drop(gains);
         return Err(WIDE);
     };
-    let parts = widest_parts(alloc, design, condensed, settings, clamp, exps)?;
+    let Ok(parts) = widest_parts(alloc, design, condensed, settings, clamp, exps) else {
+        drop(gains);
+        return Err(WidthFault::Memory);
+    };
     if greatest_sum(&parts).is_none() {
+        drop(parts);
+        drop(gains);
         return Err(WIDE);
     }
     Ok(with_width(with_gains(parts, gains)))
