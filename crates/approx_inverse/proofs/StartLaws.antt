@@ -2,6 +2,7 @@
 use Rattle.std.proofs.Common.{◌≡◌, ℕ, ◌+◌, ◌<◌, [], ◌∷◌, ℤ, pos, negsuc, ◌+ℤ◌, ◌-ℤ◌, ◌*ℤ◌, ◌≤ℤ◌, ◌<ℤ◌, List, arith, refl, ap, sym, ◌∙◌}
 use Rattle.std.proofs.lemmas.Int.{ints}
 use Rattle.std.specs.Prelude.{Option, None, Some, IfSome}
+use Rattle.std.specs.Option.{SomeIff}
 use Rattle.integer_algebra.specs.Sums.{total, dot, image, at}
 use Rattle.word_region.specs.Words.{RegionWords}
 use Rattle.word_region.specs.declared.Span.{Span}
@@ -96,3 +97,8 @@ started n h b g rest w0 w1 w2 x r placed at_g same low put =
           residual_same n h b (at g) (cells w2.words x.start) i (λ k m. sym (is k m));
       low = rw (value_same n h b (cells w2.words x.start) (at g) is, ← (value_by n h b (at g) (at rest) (λ i l. same i l ∙ at_g i l))) low;
     }
+
+-- an answer that is there is the number, by another name of it
+pub some_is : (r : Option ℤ) (p : Type 0) (v w : ℤ) → SomeIff r p v → v ≡ w → IfSome r (λ new. new ≡ w)
+some_is (Some x) p v w h e = h.1 ∙ e
+some_is None p v w h e = tt

@@ -30,7 +30,10 @@ fn solve_form(alloc: Global, c: &Condensed, f: u32) -> Result<Inverse, SolveFaul
     ensures wide { IfErr result (λ e. IsFault e (2 ^ 126 < descent_size (held c.now) f)) }
 {
     let mut work = Workspace::with_entries(alloc, c.hess.rows())?;
-    solve_in(alloc, c, f, &mut work)
+    let found = solve_in(alloc, c, f, &mut work);
+    // By a call: at the end of the function each of its lists would be dropped beside what is found.
+    drop(work);
+    found
 }
 
 // The same in what solving works in.
@@ -48,7 +51,9 @@ fn solve_in(
 {
     let h = matrix_of(alloc, c, &mut work.column)?;
     let root = Root::of(alloc, &h)?;
-    solve_from(alloc, c, f, &h, &root, work)
+    let found = solve_from(alloc, c, f, &h, &root, work);
+    drop(root);
+    found
 }
 
 // The same with the matrix and its root.
@@ -72,6 +77,7 @@ fn solve_from(
     let mut found = Inverse::zero(alloc, entries, states, rows)?;
     for i in 0..states + 1 + rows {
         if !work.solve(c, i, f, h, root) {
+            drop(found);
             return Err(SolveFault::TooWide {
                 quantity: Quantity::Descent,
             });

@@ -4,6 +4,7 @@ use Rattle.condensed_form.specs.Form.{held}
 use Rattle.approx_inverse.specs.Spans.{cells}
 use Rattle.approx_inverse.proofs.WordLaws.{at-slice}
 use Rattle.approx_inverse.proofs.FormLaws.{sizes_own, solution_kept}
+use Rattle.std.proofs.lemmas.Result.{IfOk-from_err}
 use Rattle.approx_inverse.proofs.all.solve_from.Goals as goal
 
 pub loop-i-preserved : goal.loop-i-preserved
@@ -68,3 +69,18 @@ pub put-requires-clause-sizes : goal.put-requires-clause-sizes
 put-requires-clause-sizes c =
     let long : length c.cells.result.now ≡ (held c.args.c.now).entries = c.cells.ensures.len ∙ c.solve.ensures.work.len in
     sizes_own c.loop-i.found _ _ _ long c.loop-i.invariant.sizes
+
+pub returns-in_err-found-clause-solved : goal.returns-in_err-found-clause-solved
+returns-in_err-found-clause-solved c = IfOk-from_err c.from_residual.result _ c.from_residual.ensures.0
+
+pub returns-then-not-solve-clause-solved : goal.returns-then-not-solve-clause-solved
+returns-then-not-solve-clause-solved c = tt
+
+pub returns-clause-wide : goal.returns-clause-wide
+returns-clause-wide c = tt
+
+pub overflow_add-i-end : goal.overflow_add-i-end
+overflow_add-i-end c = omega (arith, c.cols-states.ensures, c.requires.solvable.few_states)
+
+pub overflow_add-i-end-2 : goal.overflow_add-i-end-2
+overflow_add-i-end-2 c = omega (arith, c.cols-states.ensures, c.rows-rows.ensures.count, c.requires.solvable.few_states, c.requires.solvable.few_rows)

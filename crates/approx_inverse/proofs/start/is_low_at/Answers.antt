@@ -28,3 +28,9 @@ value_term-requires-clause-p_small c = c.requires.p_small
 
 pub value_term-requires-clause-q_small : goal.value_term-requires-clause-q_small
 value_term-requires-clause-q_small c = c.requires.q_small
+
+pub returns-in_default : goal.returns-in_default
+returns-in_default c = λ yes. absurd (cc)
+
+pub returns-in_default-checked_add : goal.returns-in_default-checked_add
+returns-in_default-checked_add c = λ yes. absurd (cc)

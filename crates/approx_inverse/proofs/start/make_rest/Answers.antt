@@ -20,3 +20,6 @@ loop-i-preserved c =
 
 pub returns : goal.returns
 returns c = λ yes i l. c.loop-i.invariant i (omega arith)
+
+pub returns-in_default : goal.returns-in_default
+returns-in_default c = λ yes. absurd (cc)

@@ -8,6 +8,7 @@ use Rattle.qp_model.specs.Columns.{solve_matrix}
 use Rattle.condensed_form.specs.Form.{held}
 use Rattle.qp_model.proofs.SizeFacts.{greatest_term}
 use Rattle.approx_inverse.proofs.SystemLaws.{matrix_more}
+use Rattle.std.proofs.lemmas.Result.{IfOk-from_err}
 use Rattle.approx_inverse.proofs.system.matrix_of.Goals as goal
 
 pub returns-then-not-scale-clause-err : goal.returns-then-not-scale-clause-err
@@ -31,3 +32,15 @@ loop-i-preserved c =
       cols = ap (λ (x : Matrix). x.cols) e ∙ inv.cols;
       entry = matrix_more (held c.args.c.now) old c.push_row.new.self c.scale.new.xs c.loop-i.i e inv.rows inv.entry (made refl);
     }
+
+pub returns-in_err-mat-clause-ok : goal.returns-in_err-mat-clause-ok
+returns-in_err-mat-clause-ok c = IfOk-from_err c.from_residual.result _ c.from_residual.ensures.0
+
+pub returns-then-not-scale-clause-ok : goal.returns-then-not-scale-clause-ok
+returns-then-not-scale-clause-ok c = tt
+
+pub returns-in_err-push_row-clause-ok : goal.returns-in_err-push_row-clause-ok
+returns-in_err-push_row-clause-ok c = IfOk-from_err c.from_residual-in_err-push_row.result _ c.from_residual-in_err-push_row.ensures.0
+
+pub returns-clause-err : goal.returns-clause-err
+returns-clause-err c = tt
