@@ -44,8 +44,18 @@ fn lowered_rows(alloc: Global, c: &Condensed, s: u32) -> Result<Vec<u32>, AllocE
     ensures { OfDesign c.now (λ d. IfOk result (λ es. AreLowered d s es.items)) }
 {
     let mut sums = sums_once(alloc, c)?;
-    let mut matrices = matrices_by(alloc, c, &sums)?;
-    lowered_from(alloc, c, s, &mut matrices, &mut sums)
+    // By calls: else each matrix of these is dropped beside the others, on the way out and at the end.
+    let mut matrices = match matrices_by(alloc, c, &sums) {
+        Ok(matrices) => matrices,
+        Err(fault) => {
+            drop(sums);
+            return Err(fault);
+        }
+    };
+    let list = lowered_from(alloc, c, s, &mut matrices, &mut sums);
+    drop(matrices);
+    drop(sums);
+    list
 }
 
 // The same from the sums in which each row counts once.
