@@ -86,3 +86,12 @@ returns-clause-trace c =
     let f : SFits w128 c.args.c.now.hess_den = search rules in
     let scale = read_size _ _ f c.unsigned_abs-hess_den.ensures.value in
     quotient_is _ _ _ _ _ (scale_one (is_fine (design_of c.args.parts.now)) c.args.parts.now c.args.c.now c.requires) c.div_ceil-4.ensures c.farthest_diagonal.ensures scale
+
+pub state_bound-requires : goal.state_bound-requires
+state_bound-requires c = c.requires.design
+
+pub returns-clause-state : goal.returns-clause-state
+returns-clause-state c = c.state_bound.ensures.value
+
+pub returns-clause-near : goal.returns-clause-near
+returns-clause-near c = c.state_bound.ensures.near

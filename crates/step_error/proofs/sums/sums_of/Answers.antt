@@ -12,6 +12,7 @@ use Rattle.step_error.proofs.DesignSums.{hessian_pair, square, hessian_row_small
 use Rattle.condensed_form.specs.Form.{held}
 use Rattle.step_error.specs.declared.sums.Whole.{Whole}
 use Rattle.step_error.specs.ErrorSums.{HasErrorRoom, whole_sums}
+use Rattle.std.proofs.lemmas.Nat.{mul-le}
 use Rattle.step_error.proofs.sums.sums_of.Goals as goal
 use Rattle.step_error.proofs.sums.sums_of.Goals.{After-radii_of}
 
@@ -202,3 +203,34 @@ overflow_add-combined-2 c =
     let bounds = few p form.design in
     let small = reach_small 1 p.states c.sizes_of-sizes.result.state c.args.r c.rows.result one bounds.states c.sizes_of-sizes.ensures.near c.requires.narrow (rw count bounds.rows) in
     record { fits = single small }
+
+-- what the box and the rows reach is small
+box_small : (n s : ℕ) → n ≤ 6 → s ≤ 2 ^ 31 → n * s + 1 ≤ 2 ^ 80
+box_small n s h k = omega (arith, mul-le n s 6 (2 ^ 31) h k)
+
+rows_small : (r m : ℕ) → r ≤ 2 ^ 44 → m ≤ 372 → 2 * r * m ≤ 2 ^ 80
+rows_small r m h k = omega (arith, mul-le (2 * r) m (2 ^ 45) 372 (omega (arith, h)) k)
+
+twice_small : (r : ℕ) → r ≤ 2 ^ 44 → 2 * r ≤ 2 ^ 80
+twice_small r h = omega (arith, h)
+
+part_small : (n : ℕ) → n + 1 ≤ 2 ^ 80 → n ≤ 2 ^ 80
+part_small n h = omega (arith, h)
+
+pub overflow_mul-n_box : goal.overflow_mul-n_box
+overflow_mul-n_box c = fits (part_small _ (box_small c.args.parts.now.states c.sizes_of-sizes.result.state (few c.args.parts.now c.requires.form.design).states c.sizes_of-sizes.ensures.near))
+
+pub overflow_add-combined : goal.overflow_add-combined
+overflow_add-combined c = fits (box_small c.args.parts.now.states c.sizes_of-sizes.result.state (few c.args.parts.now c.requires.form.design).states c.sizes_of-sizes.ensures.near)
+
+pub overflow_mul-y_rows : goal.overflow_mul-y_rows
+overflow_mul-y_rows c = fits (twice_small c.args.r c.requires.narrow)
+
+pub overflow_mul-whole : goal.overflow_mul-whole
+overflow_mul-whole c = fits (twice_small c.args.r c.requires.narrow)
+
+pub overflow_mul-y_rows-2 : goal.overflow_mul-y_rows-2
+overflow_mul-y_rows-2 c =
+    let p = c.args.parts.now in
+    let count = count_is (is_fine (design_of p)) p c.args.c.now c.requires.form _ c.rows.ensures.count in
+    fits (rows_small c.args.r c.rows.result c.requires.narrow (rw count (few p c.requires.form.design).rows))
