@@ -1,7 +1,6 @@
-use Rattle.std.proofs.Common.{◌≡◌, length, pos, ap, ◌∙◌}
+use Rattle.std.proofs.Common.{◌≡◌, length, ◌∙◌}
 use Rattle.std.specs.Int.{w128}
 use Rattle.std.proofs.lemmas.Int.{to_z-of_z}
-use Rattle.std.proofs.lemmas.List.{length-replicate}
 use Rattle.std.proofs.lemmas.Result.{IfOk-from_err}
 use Rattle.approx_inverse.proofs.WordLaws.{filled}
 use Rattle.controller_maker.proofs.rounding.rounded_list.Goals as goal
