@@ -81,6 +81,15 @@ cost_parts p plans h f k =
     let row = left_under (cost_width (design_of p) * prediction_size (design_of p)) _ _ (reach_some (design_of p) plans f) side in
     (side, row, factor_under (cost_width (design_of p)) _ _ (some_cost p h) row)
 
+-- from what the code has of them
+pub cost_value : (weight w width c prediction b magnitude m response row : ℕ) → weight ≡ w → width ≡ c → prediction ≡ b → magnitude ≡ m →
+    response ≡ width * prediction → row ≡ response * magnitude → weight * row ^ 2 ≡ w * (c * b * m) ^ 2
+cost_value weight w width c prediction b magnitude m response row e f g h k l = rw (l, k, e, f, g, h) refl
+
+pub slack_value : (width c prediction b magnitude m wide row : ℕ) → width ≡ c → prediction ≡ b → magnitude ≡ m →
+    wide ≡ 2 ^ 17 * width → row ≡ wide * prediction → row * magnitude ≡ 2 ^ 17 * c * b * m
+slack_value width c prediction b magnitude m wide row e f g k l = rw (l, k, e, f, g) refl
+
 -- ---- what the code reads
 pub over_is : (xs : List ℤ) (c n : ℕ) (x : ℤ) (over : ℕ) → x ≡ get_or xs c x → c < n → n ≡ length xs → over ≡ unsigned_abs x → over ≡ unsigned_abs (at xs c)
 over_is xs c n x over h l e o = o ∙ ap unsigned_abs (get_or_read_under xs c n x (pos 0) h l e)

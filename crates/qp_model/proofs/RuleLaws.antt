@@ -1,6 +1,6 @@
 -- What follows from rules that hold, and from the first that is broken.
 use Rattle.std.proofs.Common.{◌≡◌, ◌↔◌, List, [], ◌∷◌, ◌++◌, ◌∙◌, sym, inl, inr, Result, Ok, Err}
-use Rattle.std.specs.Result.{OnOk, IfErr, IsErrAnd}
+use Rattle.std.specs.Result.{OnOk, IfErr, IsErrAnd, result_and}
 use Rattle.number_text.specs.declared.text_fault.TextFault.{TextFault}
 use Rattle.qp_model.specs.Rules.{Rule, AllHold, IsFirstBroken, Tests}
 
@@ -60,3 +60,25 @@ pub test_last : (rule : Rule) (answer : Result (Unit {0}) TextFault) (test : Typ
     OnOk answer test → IfErr answer (λ fault. (fault ≡ rule.fault) × ¬ test) → (test ↔ rule.holds) → Tests answer (rule ∷ [])
 test_last rule (Ok done) test met broken exact = (exact.0 met, tt)
 test_last rule (Err fault) test met broken exact = inl (λ holds. broken.1 (exact.1 holds), broken.0)
+
+-- ---- tests that are all made, and joined in their order
+pub tests_and : (rules more : List Rule) (first second both : Result (Unit {0}) TextFault) →
+    both ≡ result_and first second → Tests first rules → Tests second more → Tests both (rules ++ more)
+tests_and rules more first second both same held others = rw same (joined first held)
+  where
+    joined : (first : Result (Unit {0}) TextFault) → Tests first rules → Tests (result_and first second) (rules ++ more)
+    joined (Ok done) held = test_after rules more second held others
+    joined (Err fault) broken = broken_before rules more fault broken
+
+-- one rule more, tested by what is true exactly where it holds
+pub tests_rule : (rules : List Rule) (rule : Rule) (first second both : Result (Unit {0}) TextFault) (test : Type 0) →
+    both ≡ result_and first second → Tests first rules →
+    OnOk second test → IfErr second (λ fault. (fault ≡ rule.fault) × ¬ test) → (test ↔ rule.holds) → Tests both (rules ++ (rule ∷ []))
+tests_rule rules rule first second both test same held met broken exact =
+    tests_and rules (rule ∷ []) first second both same held (test_last rule second test met broken exact)
+
+-- some rules that hold, where the one after them is broken
+pub broken_next : (rules : List Rule) (rule : Rule) (more : List Rule) (answer : Result (Unit {0}) TextFault) (fault : TextFault) (test : Type 0) →
+    AllHold rules → IsErrAnd answer (λ e. e ≡ fault) → (test ↔ rule.holds) → (fault ≡ rule.fault) × ¬ test → Tests answer (rules ++ (rule ∷ more))
+broken_next rules rule more answer fault test held told exact broken =
+    test_after rules (rule ∷ more) answer held (broken_first rule more answer fault test told exact broken)

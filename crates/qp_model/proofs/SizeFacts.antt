@@ -11,8 +11,9 @@ use Rattle.integer_algebra.proofs.PowerLaws.{pow-two}
 use Rattle.mat_int.specs.Matrix.{Matrix, row_of, entry_of}
 use Rattle.qp_model.specs.declared.design_parts.DesignParts.{DesignParts}
 use Rattle.qp_model.specs.Design.{entries, rows}
-use Rattle.qp_model.specs.Range.{IsNumerator}
+use Rattle.qp_model.specs.Range.{IsNumerator, IsPositive}
 use Rattle.qp_model.specs.Parts.{cost_row, limit_row, final_row, design_of, IsDesign}
+use Rattle.qp_model.proofs.VersionLaws.{design_rows_le}
 use Rattle.qp_model.specs.Quantities.{greatest, cost_width, limit_width, weight_sum}
 
 -- one more number
@@ -73,6 +74,10 @@ size_taken w xs h = rw (length-take-le w xs h) (size_same w _ _ (λ i l. get_or-
 pub plant_sum : (n p a b : ℕ) (xs ys : List ℤ) → length xs ≡ n → length ys ≡ p → a ≡ size (length xs) (at xs) → b ≡ size (length ys) (at ys) →
     a + b ≡ size n (at xs) + size p (at ys)
 plant_sum n p a b xs ys h k e f = rw (e, f, h, k) refl
+
+-- one more factor
+pub power_next : (b k p next : ℕ) → p ≡ b ^ k → next ≡ p * b → next ≡ b ^ (k + 1)
+power_next b k p next h e = rw (e, h, add-one, pow-suc) refl
 
 -- ---- what stays below the limit where more does
 pub power_under : (b k n p t : ℕ) → 1 ≤ b → k < n → p ≡ b ^ k → b ^ n ≤ t → p * b ≤ t
@@ -150,6 +155,11 @@ some_row p h = last p.stages (length p.stage_rows.rows) (length p.final_rows.row
     last : (a b c : ℕ) → 1 ≤ a → 1 ≤ b + c → 1 ≤ a * b + c
     last a b c h k = omega (arith, mul-le-mul_left b h)
 
+-- as many rows as the code counts
+pub counted_rows : (p : DesignParts) (stage final : ℕ) → IsDesign p → stage ≡ length p.stage_rows.rows → final ≡ length p.final_rows.rows →
+    (1 ≤ p.stages * stage + final) × (p.stages * stage + final ≤ 372)
+counted_rows p stage final h e f = rw (e, f) (some_row p h, design_rows_le p h)
+
 -- numerators, added up
 pub numerators_size : (n : ℕ) (f : ℕ → ℤ) → ((i : ℕ) → i < n → unsigned_abs (f i) < 2 ^ 31) → size n f ≤ 2 ^ 31 * n
 numerators_size zero f h = omega arith
@@ -163,3 +173,13 @@ numerator_at (x ∷ xs) h (suc j) = numerator_at xs (λ i d l. h (suc i) d (omeg
 
 pub numerator_entry : (m : Matrix) → All (All IsNumerator) m.rows → (r j : ℕ) → r < length m.rows → unsigned_abs (entry_of m r j) < 2 ^ 31
 numerator_entry m h r j l = numerator_at (row_of m r) (h r [] l) j
+
+pub numerator_row : (m : Matrix) (r : ℕ) (xs : List ℤ) → All (All IsNumerator) m.rows → r < length m.rows → xs ≡ row_of m r →
+    (j : ℕ) → j < length xs → unsigned_abs (at xs j) < 2 ^ 31
+numerator_row m r xs h l e j k = rw e (numerator_entry m h r j l)
+
+pub positive_row : (xs items : List ℤ) → xs ≡ items → All IsPositive items → (j : ℕ) → j < length xs → unsigned_abs (at xs j) < 2 ^ 31
+positive_row xs items e h j k = rw e (under (at items j) (h j (pos 0) (omega (arith, ap length e))))
+  where
+    under : (z : ℤ) → IsPositive z → unsigned_abs z < 2 ^ 31
+    under z positive = omega (arith, ints, positive.low, positive.high)

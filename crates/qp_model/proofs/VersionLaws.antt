@@ -34,6 +34,9 @@ design_states_le p h = omega (arith, h.states.1, either_le (p.version == 1) 4 6 
 pub design_stages_le : (p : DesignParts) → IsDesign p → p.stages ≤ 30
 design_stages_le p h = omega (arith, h.stages.1, either_le (p.version == 1) 20 30 (omega arith))
 
+pub design_entries_le : (p : DesignParts) → IsDesign p → p.stages * p.inputs ≤ 90
+design_entries_le p h = mul-le-mul (design_stages_le p h) h.inputs.1
+
 pub design_rows_le : (p : DesignParts) → IsDesign p → rows (design_of p) ≤ 372
 design_rows_le p h = omega (arith, mul-le-mul (design_stages_le p h) h.stage_rows.rows.1, h.final_rows.rows.1)
 

@@ -1,41 +1,21 @@
-use Rattle.std.proofs.Common.{rules}
+use Rattle.std.proofs.Common.{rules, [], ◌∷◌, ◌++◌, All}
 use Rattle.std.specs.Int.{w128}
 use mir.Val.{SFits}
-use Rattle.qp_model.proofs.RuleLaws.{broken_first, test_next, test_last}
+use Rattle.qp_model.specs.Range.{IsNumerator, IsDenominator}
+use Rattle.qp_model.specs.Rules.{shape, range}
+use Rattle.qp_model.specs.PartRules.{HasSize}
+use Rattle.qp_model.proofs.RuleLaws.{test_last, tests_and}
 use Rattle.qp_model.proofs.PartTests.{denominator_test}
 use Rattle.qp_model.proofs.part_rules.test_plant.Goals as goal
 
-pub returns-in_err-in_range : goal.returns-in_err-in_range
-returns-in_err-in_range c =
-    let plant : SFits w128 c.args.p.now.plant_den = search rules in
-    broken_first _ _ _ _ _ c.from_residual.ensures.1 (denominator_test _ _ plant c.is_denominator.ensures) c.in_err-in_range.ensures.err
-
-pub returns-in_err-in_shape : goal.returns-in_err-in_shape
-returns-in_err-in_shape c =
-    let plant : SFits w128 c.args.p.now.plant_den = search rules in
-    test_next _ _ _ _ (denominator_test _ _ plant c.is_denominator.ensures) c.in_ok-in_range.ensures.ok
-    (broken_first _ _ _ _ _ c.from_residual-in_err-in_shape.ensures.1 c.has_size.ensures c.in_err-in_shape.ensures.err)
-
-pub returns-in_err-in_range-2 : goal.returns-in_err-in_range-2
-returns-in_err-in_range-2 c =
-    let plant : SFits w128 c.args.p.now.plant_den = search rules in
-    test_next _ _ _ _ (denominator_test _ _ plant c.is_denominator.ensures) c.in_ok-in_range.ensures.ok
-    (test_next _ _ _ _ c.has_size.ensures c.in_ok-in_shape.ensures.ok
-    (broken_first _ _ _ _ _ c.from_residual-in_err-in_range-2.ensures.1 c.has_numerators.ensures c.in_err-in_range-2.ensures.err))
-
-pub returns-in_err-in_shape-2 : goal.returns-in_err-in_shape-2
-returns-in_err-in_shape-2 c =
-    let plant : SFits w128 c.args.p.now.plant_den = search rules in
-    test_next _ _ _ _ (denominator_test _ _ plant c.is_denominator.ensures) c.in_ok-in_range.ensures.ok
-    (test_next _ _ _ _ c.has_size.ensures c.in_ok-in_shape.ensures.ok
-    (test_next _ _ _ _ c.has_numerators.ensures c.in_ok-in_range-2.ensures.ok
-    (broken_first _ _ _ _ _ c.from_residual-in_err-in_shape-2.ensures.1 c.has_size-2.ensures c.in_err-in_shape-2.ensures.err)))
-
 pub returns : goal.returns
 returns c =
-    let plant : SFits w128 c.args.p.now.plant_den = search rules in
-    test_next _ _ _ _ (denominator_test _ _ plant c.is_denominator.ensures) c.in_ok-in_range.ensures.ok
-    (test_next _ _ _ _ c.has_size.ensures c.in_ok-in_shape.ensures.ok
-    (test_next _ _ _ _ c.has_numerators.ensures c.in_ok-in_range-2.ensures.ok
-    (test_next _ _ _ _ c.has_size-2.ensures c.in_ok-in_shape-2.ensures.ok
-    (test_last _ _ _ c.in_range-3.ensures.ok c.in_range-3.ensures.err c.has_numerators-2.ensures))))
+    let p = c.args.p.now in
+    let plant : SFits w128 p.plant_den = search rules in
+    let den = range 5 (IsDenominator p.plant_den) ∷ [] in
+    let a = shape 6 (HasSize p.a p.states p.states p.states) ∷ range 6 (All (All IsNumerator) p.a.rows) ∷ [] in
+    let b = shape 7 (HasSize p.b p.states p.states p.inputs) ∷ range 7 (All (All IsNumerator) p.b.rows) ∷ [] in
+    tests_and (den ++ a) b _ _ _ c.and-2.ensures
+    (tests_and den a _ _ _ c.and.ensures
+    (test_last _ _ _ c.in_range.ensures.ok c.in_range.ensures.err (denominator_test _ _ plant c.is_denominator.ensures))
+    c.test_table.ensures) c.test_table-2.ensures

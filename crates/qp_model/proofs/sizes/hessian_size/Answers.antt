@@ -4,7 +4,7 @@ use Rattle.std.specs.Option.{SomeIff}
 use Rattle.qp_model.specs.Design.{entries}
 use Rattle.qp_model.specs.Parts.{design_of}
 use Rattle.qp_model.specs.Quantities.{growth, cost_width, weight_sum, prediction_size, hessian_size}
-use Rattle.qp_model.proofs.VersionLaws.{design_states_le, design_stages_le}
+use Rattle.qp_model.proofs.VersionLaws.{design_states_le, design_entries_le}
 use Rattle.qp_model.proofs.SizeFacts.{hessian_parts, hessian_value, some_weight, some_cost, some_entry}
 use Rattle.qp_model.proofs.sizes.hessian_size.Goals as goal
 
@@ -29,19 +29,39 @@ returns c =
     subst P (sym (hessian_value (entries d * (entries d + p.states + 1)) (weight_sum d) c.weight_sum.result c.in_ok-response.response (cost_width d) (prediction_size d) (prediction_size d)
     c.weight_sum.ensures.sum (c.in_ok-response.ensures.1 ∙ rw (c.cost_width.ensures, c.in_ok-prediction_size.ensures.1) refl) refl)) c.limited_area.ensures
 
--- the count of the entries, twice, times the weights
-fits : (stages inputs states weight : ℕ) → stages ≤ 30 → inputs ≤ 3 → states ≤ 6 → weight < 2 ^ 64
-    → stages * inputs * (stages * inputs + states + 1) * 2 * weight < 2 ^ 128
-fits stages inputs states weight s i n w =
-    let entries : stages * inputs ≤ 90 = mul-le-mul s i in
-    let beside : stages * inputs + states + 1 ≤ 97 = omega (arith, entries, n) in
-    let count : stages * inputs * (stages * inputs + states + 1) ≤ 8730 = mul-le-mul entries beside in
-    let twice : stages * inputs * (stages * inputs + states + 1) * 2 ≤ 17460 = omega (arith, count) in
+-- the count of the entries, and twice it times the weights
+few : (entries states : ℕ) → entries ≤ 90 → states ≤ 6 → entries * (entries + states + 1) ≤ 8730
+few entries states e n =
+    let beside : entries + states + 1 ≤ 97 = omega (arith, e, n) in
+    mul-le-mul e beside
+
+fits : (entries states weight : ℕ) → entries ≤ 90 → states ≤ 6 → weight < 2 ^ 64 → entries * (entries + states + 1) * 2 * weight < 2 ^ 128
+fits entries states weight e n w =
+    let twice : entries * (entries + states + 1) * 2 ≤ 17460 = omega (arith, few entries states e n) in
     let weights : weight ≤ 2 ^ 64 = omega (arith, w) in
-    let all : stages * inputs * (stages * inputs + states + 1) * 2 * weight ≤ 17460 * 2 ^ 64 = mul-le-mul twice weights in
+    let all : entries * (entries + states + 1) * 2 * weight ≤ 17460 * 2 ^ 64 = mul-le-mul twice weights in
     omega (arith, all)
+
+pub overflow_mul-entries : goal.overflow_mul-entries
+overflow_mul-entries c = record { fits = omega (arith, design_entries_le c.args.parts.now c.requires) }
+
+pub overflow_add-count : goal.overflow_add-count
+overflow_add-count c = record { fits = omega (arith, design_entries_le c.args.parts.now c.requires, design_states_le c.args.parts.now c.requires) }
+
+pub overflow_add-count-2 : goal.overflow_add-count-2
+overflow_add-count-2 c = record { fits = omega (arith, design_entries_le c.args.parts.now c.requires, design_states_le c.args.parts.now c.requires) }
+
+pub overflow_mul-count : goal.overflow_mul-count
+overflow_mul-count c =
+    let p = c.args.parts.now in
+    record { fits = omega (arith, few (p.stages * p.inputs) p.states (design_entries_le p c.requires) (design_states_le p c.requires)) }
+
+pub overflow_mul-count-2 : goal.overflow_mul-count-2
+overflow_mul-count-2 c =
+    let p = c.args.parts.now in
+    record { fits = omega (arith, few (p.stages * p.inputs) p.states (design_entries_le p c.requires) (design_states_le p c.requires)) }
 
 pub overflow_mul-count-3 : goal.overflow_mul-count-3
 overflow_mul-count-3 c =
     let p = c.args.parts.now in
-    record { fits = fits p.stages p.inputs p.states c.weight_sum.result (design_stages_le p c.requires) c.requires.inputs.1 (design_states_le p c.requires) c.weight_sum.ensures.small }
+    record { fits = fits (p.stages * p.inputs) p.states c.weight_sum.result (design_entries_le p c.requires) (design_states_le p c.requires) c.weight_sum.ensures.small }
