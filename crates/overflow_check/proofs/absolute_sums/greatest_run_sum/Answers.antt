@@ -1,7 +1,7 @@
 use Rattle.std.proofs.Common.{◌≡◌, length, ap, ◌∙◌, arith}
 use Rattle.qp_model.specs.Controller.{numbers}
 use Rattle.qp_model.specs.AbsoluteSums.{sum_magnitude}
-use Rattle.overflow_check.proofs.Greatest.{le-greatest}
+use Rattle.overflow_check.proofs.Greatest.{le-greatest, greatest_steps}
 use Rattle.overflow_check.proofs.Sizes.{length-plan_reach}
 use Rattle.overflow_check.proofs.absolute_sums.greatest_run_sum.Goals as goal
 
@@ -18,3 +18,6 @@ returns c =
     let long : length c.args.plan.now ≡ length c.args.c.now.t.items = ap length c.requires ∙ length-plan_reach n in
     let all : c.loop-magnitudes.magnitudes-index ≡ length c.args.c.now.t.items = omega (arith, long) in
     rw (← all) (omega (arith, c.loop-magnitudes.invariant.fits, c.loop-magnitudes.invariant.greatest), c.loop-magnitudes.invariant.greatest)
+
+pub loop-magnitudes-preserved : goal.loop-magnitudes-preserved
+loop-magnitudes-preserved c = grind (arith, greatest_steps)

@@ -3,6 +3,7 @@ use Rattle.std.proofs.lemmas.List.FromFn.{get_or-map-range_with_len}
 use Rattle.integer_algebra.specs.Division.{ceil_div}
 use Rattle.qp_model.specs.Controller.{numbers}
 use Rattle.qp_model.specs.AbsoluteSums.{entry_absolute_sum}
+use Rattle.std.proofs.lemmas.Grind.{common_steps}
 use Rattle.overflow_check.proofs.SumLaws.{sums_fit}
 use Rattle.overflow_check.proofs.absolute_sums.plan_entry_magnitude.Goals as goal
 
@@ -18,3 +19,6 @@ returns c =
       c.in-Some.ensures.1,
       get_or-map-range_with_len (λ j. ceil_div (entry_absolute_sum n j) (2 ^ (n.fraction_bits + n.step_exponent))) 0 (length c.args.parts.now.t.items) c.args.j c.args.j 0 c.requires.in_range (omega arith),
     ) refl
+
+pub overflow_add-parts : goal.overflow_add-parts
+overflow_add-parts c = grind (arith, common_steps)

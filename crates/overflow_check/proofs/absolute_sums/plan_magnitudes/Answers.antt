@@ -5,7 +5,7 @@ use Rattle.std.proofs.lemmas.List.FromFn.{fill_by_all}
 use Rattle.integer_algebra.specs.Division.{ceil_div}
 use Rattle.qp_model.specs.Controller.{numbers}
 use Rattle.qp_model.specs.AbsoluteSums.{entry_absolute_sum}
-use Rattle.overflow_check.proofs.Greatest.{le-greatest, greatest-map_more}
+use Rattle.overflow_check.proofs.Greatest.{le-greatest, greatest-map_more, greatest_steps}
 use Rattle.overflow_check.proofs.Sizes.{entries_le}
 use Rattle.overflow_check.proofs.absolute_sums.plan_magnitudes.Goals as goal
 
@@ -32,3 +32,18 @@ returns-clause-magnitudes c =
     let room : nu ≤ length c.loop-j.magnitudes = omega (arith, entries_le n c.requires.sized) in
     fill_by_all (λ k. ceil_div (entry_absolute_sum n k) (2 ^ (n.fraction_bits + n.step_exponent))) (take nu c.loop-j.magnitudes) nu 0 (length-take-le nu c.loop-j.magnitudes room)
     (λ k h. rw (get_or-take nu c.loop-j.magnitudes k 0 h) (c.loop-j.invariant.magnitudes k (omega arith)))
+
+pub returns-in_err-sum-clause-greatest : goal.returns-in_err-sum-clause-greatest
+returns-in_err-sum-clause-greatest c = grind (arith, greatest_steps)
+
+pub returns-in_err-sum-clause-magnitudes : goal.returns-in_err-sum-clause-magnitudes
+returns-in_err-sum-clause-magnitudes c = grind (arith, greatest_steps)
+
+pub overflow_add-c : goal.overflow_add-c
+overflow_add-c c = grind (arith, greatest_steps)
+
+pub returns-clause-wide : goal.returns-clause-wide
+returns-clause-wide c = grind (arith, greatest_steps)
+
+pub returns-clause-greatest : goal.returns-clause-greatest
+returns-clause-greatest c = grind (arith, greatest_steps)

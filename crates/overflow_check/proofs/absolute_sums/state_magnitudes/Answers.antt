@@ -6,6 +6,7 @@ use Rattle.std.proofs.lemmas.List.Edits.{fill_by_more}
 use Rattle.qp_model.specs.Controller.{numbers}
 use Rattle.qp_model.specs.AbsoluteSums.{state_magnitudes}
 use Rattle.qp_model.proofs.VersionLaws.{states_le}
+use Rattle.std.proofs.lemmas.Grind.{common_steps}
 use Rattle.overflow_check.proofs.Sizes.{numerator_read, reach_below, length-state_reach, get_or-reach_of}
 use Rattle.overflow_check.proofs.absolute_sums.state_magnitudes.Goals as goal
 
@@ -40,3 +41,6 @@ returns c =
     rw (get_or-take c.args.c.now.n c.loop-i.magnitudes i 0 h, get_or-reach_of (n.fraction_bits - n.grid_bits) n.low n.high i (omega (arith, h, c.requires.shaped.low)) (omega (arith, c.requires.shaped.low, c.requires.shaped.high)))
     (c.loop-i.invariant.magnitudes i (omega (arith, h))) in
     ext_get_or 0 (take c.args.c.now.n c.loop-i.magnitudes) (state_magnitudes n) (long ∙ sym (length-state_reach n c.requires)) (λ i h. same i (rw long at h))
+
+pub overflow_sub-c : goal.overflow_sub-c
+overflow_sub-c c = grind (arith, common_steps)
