@@ -1,0 +1,9 @@
+-- The lemmas by topic.
+
+-- ---- groups of instructions
+pub mod Groups
+-- ---- the step of a controller
+pub mod Lengths
+pub mod Ranges
+-- ---- the text
+pub mod Lines

@@ -1,0 +1,5 @@
+pub mod Body
+pub mod Listing
+pub mod Count
+pub mod Text
+pub mod FirstLine

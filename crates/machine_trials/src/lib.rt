@@ -1,0 +1,7 @@
+//! Trials of a controller's listing and of its machine, on a worked controller.
+#![tactic(auto)]
+
+#[cfg(test)]
+mod controllers;
+#[cfg(test)]
+mod plays;
