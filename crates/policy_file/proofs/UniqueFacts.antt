@@ -68,7 +68,7 @@ same_number field z w r s = r.value ∙ rw (p.0, size) (sym s.value)
 
 -- ---- records
 -- a rule that gives a field one number
-pub IsFunctional : RecordRule → Type 0
+unfoldable pub IsFunctional : RecordRule → Type 0
 IsFunctional rule = (i : ℕ) (field : List ℕ) (z w : ℤ) → rule i field z → rule i field w → z ≡ w
 
 pub same_numbers : (rule : RecordRule) (count : ℕ) (fields : List (List ℕ)) (zs ws : List ℤ) → IsFunctional rule → HoldsNumbers rule count fields zs → HoldsNumbers rule count fields ws → zs ≡ ws

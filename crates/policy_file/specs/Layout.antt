@@ -4,14 +4,17 @@ use Rattle.qp_model.specs.Policy.{IsPlanDenominator}
 use Rattle.policy_file.specs.Records.{RecordRule}
 use Rattle.policy_file.specs.StatesText.{state_rule}
 use Rattle.policy_file.specs.PolicyText.{policy_rule}
+use Rattle.policy_file.specs.FaceRule.{IsFaceNumber, face_rule}
 use Rattle.policy_file.specs.declared.record.Layout.{Layout}
-use Rattle.policy_file.specs.declared.record.Layout.TheVariants.{States, Policy}
+use Rattle.policy_file.specs.declared.record.Layout.TheVariants.{States, Policy, Face}
 
 abbrev pub rule_of : Layout → RecordRule
 rule_of States = state_rule
 rule_of Policy = policy_rule
+rule_of Face = face_rule
 
 -- what it asks of a number beside its bytes
 abbrev pub IsInRange : Layout → ℕ → ℤ → Type 0
 IsInRange States i z = ⊤
 IsInRange Policy i z = i ≡ 0 → IsPlanDenominator z
+IsInRange Face i z = IsFaceNumber i z

@@ -2,4 +2,5 @@ pub mod NumberField
 pub mod Records
 pub mod StatesText
 pub mod PolicyText
+pub mod FaceRule
 pub mod Layout

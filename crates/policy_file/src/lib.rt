@@ -8,3 +8,5 @@ mod text;
 
 pub use number::number_field;
 pub use read::{read_policy, read_states};
+pub use record::{Layout, numbers_of};
+pub use text::all_records;

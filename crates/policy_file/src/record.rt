@@ -15,11 +15,13 @@ const MOST_DENOMINATOR: i128 = 1 << 40;
 
 /// What the records of a text hold.
 #[derive(Clone, Copy)]
-pub(crate) enum Layout {
+pub enum Layout {
     /// The numbers of a state.
     States,
     /// A denominator, and the numerators of a plan.
     Policy,
+    /// The factor of a face, and its weights.
+    Face,
 }
 
 // The number that field `i` of a record, from 0, holds, where it is right there.
@@ -44,11 +46,12 @@ fn is_in_range(layout: Layout, i: usize, number: i128) -> bool
     match layout {
         Layout::States => true,
         Layout::Policy => i > 0 || (1 <= number && number <= MOST_DENOMINATOR),
+        Layout::Face => (if i == 0 { 1 } else { 0 }) <= number && number < 1 << 31,
     }
 }
 
 /// The numbers of a record of `count` fields, which is entry number `entry` of the text, from 1.
-pub(crate) fn numbers_of(
+pub fn numbers_of(
     alloc: Global,
     row: &ByteRecord,
     layout: Layout,

@@ -7,7 +7,7 @@ use csv::{ByteRecord, ReaderBuilder};
 use std::alloc::{AllocError, Global};
 
 /// Every record of a text. The reader stands over bytes and takes records of any length, so that each error of it is out of memory.
-pub(crate) fn all_records(alloc: Global, text: &[u8]) -> Result<Vec<ByteRecord>, AllocError>
+pub fn all_records(alloc: Global, text: &[u8]) -> Result<Vec<ByteRecord>, AllocError>
     ensures { IfOk result (λ v. map fields_of v.items ≡ records_of text.now) }
 {
     let rdr = ReaderBuilder::new()

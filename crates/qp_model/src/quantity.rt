@@ -14,6 +14,7 @@ pub enum Quantity {
     Descent,
     Width,
     Turn,
+    Stay,
 }
 
 /// A quantity that passes `2^126`.

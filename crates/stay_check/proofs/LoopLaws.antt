@@ -1,0 +1,136 @@
+-- A loop stays in the box, by induction over its turns.
+use Rattle.std.proofs.Common.{◌≡◌, ℕ, zero, suc, ◌+◌, ◌-◌, ◌*◌, ◌<◌, ◌≤◌, ◌^◌, [], ◌∷◌, List, length, map, get_or, ℤ, pos, ◌+ℤ◌, ◌*ℤ◌, ◌≤ℤ◌, ◌<ℤ◌, unsigned_abs, arith, ap, sym, ◌∙◌, refl}
+use Rattle.std.specs.List.{range_with_len}
+use Rattle.std.specs.Int.Signed.{≤ℤ_refl}
+use Rattle.std.proofs.lemmas.Int.{ints}
+use Rattle.std.proofs.lemmas.Nat.{pow-add}
+use Rattle.std.proofs.lemmas.List.FromFn.{length-map-range_with_len, get_or-map-range_with_len}
+use Rattle.std.proofs.Math.Nat.{one-le-mul, mul_assoc, mul_comm}
+use Rattle.integer_algebra.specs.Sums.{at, image, none}
+use Rattle.integer_algebra.specs.Division.{round_of}
+use Rattle.integer_algebra.proofs.OrderLaws.{le_by, le_trans_z, mul-le-mul_right_z}
+use Rattle.integer_algebra.proofs.PowerLaws.{pow_positive}
+use Rattle.integer_algebra.proofs.Quoting.{by_ring, quotes}
+use Rattle.qp_model.specs.Design.{Design, rows}
+use Rattle.qp_model.specs.Parts.{design_of, IsDesign}
+use Rattle.qp_model.specs.declared.design_parts.DesignParts.{DesignParts}
+use Rattle.qp_model.specs.Trajectory.{trajectory}
+use Rattle.qp_model.specs.Box.{IsGridState}
+use Rattle.qp_model.specs.Residual.{residual, residual_scale}
+use Rattle.qp_model.specs.Controller.{Numbers, IsSized}
+use Rattle.qp_model.specs.AbsoluteSums.{IsController}
+use Rattle.qp_model.specs.Built.{HasSizesOf}
+use Rattle.qp_model.specs.Machine.{IsAdmissible, IsInside, average_denominator, averaged_plan}
+use Rattle.qp_model.specs.Printed.{Printed}
+use Rattle.qp_model.specs.Certified.{IsCertified, IsCertifiedAt, ExceedsAtMost}
+use Rattle.qp_model.specs.Successor.{grid_scale, next_sum, next_over, successor, state_after}
+use Rattle.stay_check.specs.FirstRows.{first_rows, first_row}
+use Rattle.stay_check.specs.Staying.{next_grid_state, ExceedsNoFirstRowBy, KeepsInBox}
+use Rattle.stay_check.specs.LoopStay.{CoversPrinted, StaysCertified, LoopStayLaw}
+use Rattle.stay_check.proofs.RoundLaws.{round_mono}
+use Rattle.stay_check.proofs.FirstRowLaws.{next_state}
+use Rattle.stay_check.proofs.FaceFacts.{row_inside, denominator_small}
+
+-- ---- a common factor is left out of a rounded quotient
+positive : (q a : ℕ) → 1 ≤ q → 1 ≤ a → 0 < q * a
+positive q a h k = let z = one-le-mul h k in omega (arith, z)
+
+round_scaled : (c : ℕ) (z : ℤ) (d : ℕ) → 1 ≤ c → 1 ≤ d → round_of (pos c *ℤ z) (c * d) ≡ round_of z d
+round_scaled c z d h k =
+    both _ _
+    (round_mono (pos c *ℤ z) z (c * d) d (positive c d h k) (omega (arith, k)) (up (pos c) z (pos d)))
+    (round_mono z (pos c *ℤ z) d (c * d) (omega (arith, k)) (positive c d h k) (down (pos c) z (pos d)))
+  where
+    both : (x y : ℤ) → x ≤ℤ y → y ≤ℤ x → x ≡ y
+    both x y h k = omega (arith, ints, h, k)
+
+    up : (c z d : ℤ) → ((c *ℤ z) *ℤ d) ≤ℤ (z *ℤ (c *ℤ d))
+    up c z d = le_by (≤ℤ_refl z) (by_ring (c ∷ z ∷ d ∷ []) (search quotes depth 60 fits 20000) refl)
+
+    down : (c z d : ℤ) → (z *ℤ (c *ℤ d)) ≤ℤ ((c *ℤ z) *ℤ d)
+    down c z d = le_by (≤ℤ_refl z) (by_ring (c ∷ z ∷ d ∷ []) (search quotes depth 60 fits 20000) refl)
+
+-- ---- the successor is the nearest grid state to the averaged plan's state of stage 1
+scale_some : (c : Numbers) → IsSized c → 1 ≤ grid_scale c
+scale_some c s = one-le-mul s.steps.0 (pow_positive 2 (c.fraction_bits - c.grid_bits) (omega arith))
+
+over_is : (c : Numbers) → IsSized c → average_denominator c ≡ 2 ^ c.grid_bits * grid_scale c
+over_is c s =
+    let split : c.fraction_bits - c.grid_bits + c.grid_bits ≡ c.fraction_bits = omega (arith, s.fraction_bits) in
+    ap (λ n. c.steps * 2 ^ n) (sym split) ∙ ap (λ n. c.steps * n) (pow-add 2 (c.fraction_bits - c.grid_bits) c.grid_bits) ∙ turn c.steps (2 ^ (c.fraction_bits - c.grid_bits)) (2 ^ c.grid_bits)
+  where
+    turn : (k a b : ℕ) → k * (a * b) ≡ b * (k * a)
+    turn k a b = omega (arith, mul_assoc k a b, mul_comm (k * a) b)
+
+nearest : (d : Design) (c : Numbers) (xi : List ℤ) (i : ℕ) → 1 ≤ d.plant_denominator → IsSized c → c.grid_bits ≡ d.grid →
+    next_grid_state d (pos (average_denominator c)) (at xi) (at (averaged_plan c xi)) i ≡ round_of (next_sum d c xi i) (next_over d c)
+nearest d c xi i a s g =
+    joined (average_denominator c) (2 ^ d.grid) (grid_scale c) d.plant_denominator _ _ _
+    (over_is c s ∙ ap (λ n. 2 ^ n * grid_scale c) g)
+    (next_state d (pos (average_denominator c)) (at xi) (at (averaged_plan c xi)) i)
+    (pow_positive 2 d.grid (omega arith)) (scale_some c s) a
+  where
+    factored : (g k x y : ℤ) → (g *ℤ k) *ℤ x +ℤ g *ℤ y ≡ g *ℤ (x *ℤ k +ℤ y)
+    factored g k x y = by_ring (g ∷ k ∷ x ∷ y ∷ []) (search quotes depth 60 fits 20000) refl
+
+    joined : (q g k a : ℕ) (t x y : ℤ) → q ≡ g * k → t ≡ pos q *ℤ x +ℤ pos g *ℤ y → 1 ≤ g → 1 ≤ k → 1 ≤ a →
+        round_of t (q * a) ≡ round_of (x *ℤ pos k +ℤ y) (a * k)
+    joined q g k a t x y e f h l m =
+        let top : pos (g * k) *ℤ x +ℤ pos g *ℤ y ≡ pos g *ℤ (x *ℤ pos k +ℤ y) = factored (pos g) (pos k) x y in
+        let low : g * k * a ≡ g * (a * k) = omega (arith, mul_assoc g k a, mul_comm k a) in
+        let some = one-le-mul m l in
+        rw (f, e, top, low) (round_scaled g (x *ℤ pos k +ℤ y) (a * k) h some)
+
+-- ---- a turn
+looser : (d : Design) (xi u : ℕ → ℤ) (q : ℕ) (i : ℕ) (v w : ℤ) → v ≤ℤ w → ExceedsAtMost d xi (pos q) u i v → ExceedsAtMost d xi (pos q) u i w
+looser d xi u q i v w h e = le_trans_z e (mul-le-mul_right_z (pos q) (omega (arith, ints)) (mul-le-mul_right_z (pos (residual_scale d)) (omega (arith, ints)) h))
+
+module _ (p : DesignParts) (c : Numbers) (b : Printed) (excess : ℕ → ℤ) (design : IsDesign p) (sound : IsController c) (sizes : HasSizesOf (design_of p) c)
+    (certified : IsCertified (design_of p) c b) (covers : CoversPrinted (design_of p) b excess) (keeps : KeepsInBox (design_of p) excess none none) where
+  grid_state : (xi : List ℤ) → IsAdmissible c xi → IsGridState (design_of p) (at xi)
+  grid_state xi h i l =
+      let in_c : i < c.states = omega (arith, l, sizes.states) in
+      let e = h.each i in_c in
+      (rw (← sizes.low i l) e.low, rw (← sizes.high i l) e.high)
+
+  pub certified_at : (xi : List ℤ) → IsAdmissible c xi → IsCertifiedAt (design_of p) c b xi
+  certified_at xi h = certified xi (h.long ∙ sizes.states) (grid_state xi h)
+
+  turn : (xi : List ℤ) → IsAdmissible c xi → IsGridState (design_of p) (λ i. round_of (next_sum (design_of p) c xi i) (next_over (design_of p) c))
+  turn xi h i l =
+      let q = average_denominator c in
+      let form = sound.form.sized in
+      let some : 1 ≤ q = one-le-mul form.steps.0 (pow_positive 2 c.fraction_bits (omega arith)) in
+      let rows_kept = (certified_at xi h).plan.rows in
+      let near = nearest (design_of p) c xi i (denominator_small p.plant_den design.plant_den).0 form sizes.grid in
+      let kept = keeps (pos q) (at xi) (at (averaged_plan c xi)) none (omega (arith, ints, some)) (grid_state xi h)
+      (λ r m. (let row = row_inside p r design m in looser (design_of p) (at xi) (at (averaged_plan c xi)) q (first_row (design_of p) r).row _ _ (covers _ row) (rows_kept _ row)))
+      (λ j m. (≤ℤ_refl (pos 0), ≤ℤ_refl (pos 0))) i l in
+      (unshifted_low _ _ _ near kept.0, unshifted_high _ _ _ near kept.1)
+    where
+      unshifted_low : (x y z : ℤ) → x ≡ y → z ≤ℤ (x +ℤ pos 0) → z ≤ℤ y
+      unshifted_low x y z e h = omega (arith, ints, e, h)
+
+      unshifted_high : (x y z : ℤ) → x ≡ y → (x +ℤ pos 0) ≤ℤ z → y ≤ℤ z
+      unshifted_high x y z e h = omega (arith, ints, e, h)
+
+  next_inside : (xi : List ℤ) → IsAdmissible c xi → IsAdmissible c (successor (design_of p) c xi)
+  next_inside xi h = record {
+    long = length-map-range_with_len (λ i. round_of (next_sum (design_of p) c xi i) (next_over (design_of p) c)) 0 p.states ∙ sym sizes.states;
+    each = λ i l. (
+        let in_d : i < p.states = omega (arith, l, sizes.states) in
+        let value = get_or-map-range_with_len (λ i. round_of (next_sum (design_of p) c xi i) (next_over (design_of p) c)) 0 p.states i i (pos 0) in_d (omega arith) in
+        let t = turn xi h i in_d in
+        record { low = rw (value, sizes.low i in_d) t.0; high = rw (value, sizes.high i in_d) t.1 }
+        );
+  }
+
+  inside : (start : List ℤ) → IsAdmissible c start → (turns : ℕ) → IsAdmissible c (state_after (design_of p) c start turns)
+  unfolding state_after
+  inside start h zero = h
+  inside start h (suc k) = next_inside (state_after (design_of p) c start k) (inside start h k)
+
+pub loop_stay_law : LoopStayLaw
+loop_stay_law p c b excess design sound sizes certified covers keeps start h turns =
+    let here = inside p c b excess design sound sizes certified covers keeps start h turns in
+    record { inside = here; certified = certified_at p c b excess design sound sizes certified covers keeps (state_after (design_of p) c start turns) here }

@@ -1,0 +1,27 @@
+use Rattle.std.proofs.Common.{◌≡◌, ◌<◌, ◌∙◌, true, false, sym, arith}
+use Rattle.qp_model.specs.Parts.{design_of}
+use Rattle.stay_check.specs.FirstRows.{next_limits, is_on_state}
+use Rattle.stay_check.proofs.RowFacts.{passes_more, passes_same, passes_at}
+use Rattle.stay_check.proofs.rows.limit_on_state.Goals as goal
+use Rattle.stay_check.proofs.rows.limit_on_state.Goals.{then-is_on_state+else-left-eq0, else-is_on_state}
+
+pub returns-then-left-eq0-clause-value : goal.returns-then-left-eq0-clause-value
+returns-then-left-eq0-clause-value c =
+    let d = design_of c.args.parts.now in
+    let lt : c.loop-i.i < next_limits d = omega (arith, c.loop-i.invariant.end) in
+    let yes : is_on_state d c.loop-i.i ≡ true = sym c.is_on_state.ensures ∙ c.if-is_on_state.true in
+    sym (passes_at (is_on_state d) c.loop-i.i c.args.k (next_limits d) lt yes (omega (arith, c.loop-i.invariant.passed)))
+
+pub loop-i-preserved : goal.loop-i-preserved
+loop-i-preserved c =
+    let d = design_of c.args.parts.now in
+    elim c.if-is_on_state.branch [
+      | then-is_on_state+else-left-eq0 w ↦ (
+          let yes : is_on_state d c.loop-i.i ≡ true = sym c.is_on_state.ensures ∙ w.if-is_on_state.true in
+          record { end = c.loop-i.invariant.end; passed = omega (arith, passes_more (is_on_state d) c.loop-i.i yes, c.loop-i.invariant.passed) }
+          )
+      | else-is_on_state w ↦ (
+          let no : is_on_state d c.loop-i.i ≡ false = sym c.is_on_state.ensures ∙ w.if-is_on_state.false in
+          record { end = c.loop-i.invariant.end; passed = omega (arith, passes_same (is_on_state d) c.loop-i.i no, c.loop-i.invariant.passed) }
+          )
+    ]
