@@ -2,13 +2,14 @@
 use Rattle.std.proofs.Common.{◌≡◌, ℕ, zero, suc, ◌+◌, ◌*◌, ◌/◌, ◌^◌, ◌<◌, ◌≤◌, ℤ, pos, ◌*ℤ◌, ◌≤ℤ◌, unsigned_abs, arith, refl}
 use Rattle.std.proofs.lemmas.Int.{ints}
 use Rattle.std.proofs.lemmas.Nat.{pow_pos}
-use Rattle.std.proofs.Math.Nat.{mul-le-mul_left, mul-le-mul_right, div-mul-le_self}
+use Rattle.std.proofs.Math.Nat.{mul-le-mul_left, mul-le-mul_right, div-mul-le_self, le-div_iff_mul-le}
 use Rattle.integer_algebra.specs.Division.{ceil_div}
 use Rattle.integer_algebra.proofs.DivisionLaws.{le-mul-ceil_div, ceil_div-le}
 use Rattle.qp_model.specs.Choices.{step_count, violation_bound, multiplier_of}
-use Rattle.design_engine.specs.Targets.{targets_of, half_target}
+use Rattle.design_engine.specs.Targets.{targets_of, half_target, violation_target, step_target, rest_target}
 use Rattle.design_engine.specs.Bounds.{margin_of}
 use Rattle.design_engine.specs.Promise.{TargetsLaw}
+use Rattle.design_engine.specs.Threshold.{ThresholdTargetsLaw}
 
 -- a divisor that is not too large leaves a quotient of at least 1
 pub quotient_some : (a d : ℕ) → 1 ≤ d → d ≤ a → 1 ≤ a / d
@@ -17,6 +18,10 @@ quotient_some a d h k = more (a / d) (omega arith) k
     more : (q : ℕ) → a < d * (q + 1) → d ≤ a → 1 ≤ q
     more zero l m = absurd (omega (arith, l))
     more (suc q) l m = omega arith
+
+-- what a divisor's multiple is at most, the quotient is
+at_most : (n a d : ℕ) → 1 ≤ d → n * d ≤ a → n ≤ a / d
+at_most n a d h k = (le-div_iff_mul-le {k = d} {x = n} {y = a} h).1 k
 
 -- after the chosen steps the first part of the violation is at most the half target
 steps_enough : (a h : ℕ) → 1 ≤ a → 1 ≤ h → ceil_div a (ceil_div a h) ≤ h
@@ -77,3 +82,42 @@ targets_law p cost c b h = record {
 
     parts : violation_bound c.step_exponent r (step_count c.step_exponent r (half_target (targets_of p))) cost ≤ 2 * half_target (targets_of p)
     parts = halves c.step_exponent r (half_target (targets_of p)) cost (omega arith) half_some (omega (arith, h.errors))
+
+-- ---- with a threshold
+-- the shares of a target are at most the target
+pub shares_fit : (v d : ℕ) → 1 ≤ d → 15 * 2 ^ 36 * v / d + 2 ^ 36 * v / d ≤ 2 ^ 40 * v / d
+shares_fit v d h =
+    let a : 15 * 2 ^ 36 * v / d * d ≤ 15 * 2 ^ 36 * v = div-mul-le_self (15 * 2 ^ 36 * v) d in
+    let b : 2 ^ 36 * v / d * d ≤ 2 ^ 36 * v = div-mul-le_self (2 ^ 36 * v) d in
+    at_most (15 * 2 ^ 36 * v / d + 2 ^ 36 * v / d) (2 ^ 40 * v) d h (omega (arith, a, b))
+
+-- and so is that over 2^16, brought over 2^40
+pub floor_fits : (v d : ℕ) → 1 ≤ d → 2 ^ 24 * (2 ^ 16 * v / d) ≤ 2 ^ 40 * v / d
+floor_fits v d h =
+    let a : 2 ^ 16 * v / d * d ≤ 2 ^ 16 * v = div-mul-le_self (2 ^ 16 * v) d in
+    at_most (2 ^ 24 * (2 ^ 16 * v / d)) (2 ^ 40 * v) d h (omega (arith, a))
+
+-- steps and errors of a share each leave no more than the whole
+shares_enough : (s r a e k t m n : ℕ) → 1 ≤ m → k ≡ ceil_div (2 ^ (s + 41) * r) m → e ≤ r * n → m + n ≤ t → 2 ^ (s + 41) * r * r + k * e ≤ k * r * t
+shares_enough s r a e k t m n l f h g =
+    let p : 2 ^ (s + 41) * r ≤ m * k = rw f (le-mul-ceil_div (2 ^ (s + 41) * r) m l) in
+    omega (arith, mul-le-mul_right r p, mul-le-mul_left k h, mul-le-mul_left (k * r) g)
+
+pub threshold_targets_law : ThresholdTargetsLaw
+threshold_targets_law p cost c b r h = record {
+  enough = shares_enough c.step_exponent r 0 cost c.steps (violation_target (targets_of p)) (step_target (targets_of p)) (rest_target (targets_of p))
+      step_some h.steps (omega (arith, h.errors)) (shares_fit (unsigned_abs p.violation) (unsigned_abs p.target_den) den);
+  within = record {
+    violation = as_targets b.violation _ (unsigned_abs p.target_den) (unsigned_abs p.violation) h.bounds.violation
+        (whole_target _ (unsigned_abs p.violation) (unsigned_abs p.target_den) (omega arith));
+    gap = as_targets b.gap _ (unsigned_abs p.target_den) (unsigned_abs p.gap) h.bounds.gap
+        (whole_target _ (unsigned_abs p.gap) (unsigned_abs p.target_den) (omega (arith, h.errors)));
+  };
+}
+  where
+    den : 1 ≤ unsigned_abs p.target_den
+    den = some_of p.target_den h.design.target_den.low
+
+    step_some : 1 ≤ step_target (targets_of p)
+    step_some = quotient_some (15 * 2 ^ 36 * unsigned_abs p.violation) (unsigned_abs p.target_den) den
+        (omega (arith, size_of p.target_den (2 ^ 20) h.design.target_den.low h.design.target_den.high, some_of p.violation h.design.violation.low))

@@ -1,6 +1,7 @@
 pub mod Targets
 pub mod Bounds
 pub mod Promise
+pub mod Threshold
 pub mod Residuals
 pub mod Built
 pub mod Refusals

@@ -16,6 +16,19 @@ targets_of p = record { denominator = unsigned_abs p.target_den; violation = uns
 abbrev pub half_target : Targets → ℕ
 half_target t = 2 ^ 39 * t.violation / t.denominator
 
+-- The target of the violation over 2^40, rounded down, and its shares: 15/16 for the steps, and 1/16 for the errors. And the target over 2^16.
+abbrev pub violation_target : Targets → ℕ
+violation_target t = 2 ^ 40 * t.violation / t.denominator
+
+abbrev pub step_target : Targets → ℕ
+step_target t = 15 * 2 ^ 36 * t.violation / t.denominator
+
+abbrev pub rest_target : Targets → ℕ
+rest_target t = 2 ^ 36 * t.violation / t.denominator
+
+abbrev pub floor_target : Targets → ℕ
+floor_target t = 2 ^ 16 * t.violation / t.denominator
+
 -- the target of the gap, over 2^40, rounded down
 abbrev pub gap_target : Targets → ℕ
 gap_target t = 2 ^ 40 * t.gap / t.denominator

@@ -2,6 +2,7 @@
 ghost use Rattle.design_engine.specs.Agreement.{AgreementLaw};
 ghost use Rattle.design_engine.specs.Order.{CausesLaw, PassingLaw};
 ghost use Rattle.design_engine.specs.Promise.{CertifiedLaw, TargetsLaw};
+ghost use Rattle.design_engine.specs.Threshold.{CoverLaw, MadeAboveLaw, RepairsLaw, ThresholdCertifiedLaw, ThresholdTargetsLaw};
 
 /// A controller that is made for a design, with the margin of a policy, keeps the whole promise of the bounds that are printed of
 /// it, at every state of the box.
@@ -12,6 +13,17 @@ pub fn certified_law()
 /// With the steps and the errors that the targets ask for, the printed violation and gap are at most the targets.
 pub fn targets_law()
     ensures { TargetsLaw }
+{}
+
+/// The same where a repair's cost is known only of plans that exceed some row by more than a threshold: the greatest violation is the threshold or
+/// what steps and errors leave, whichever is more, and a row has half of that and its own share. So where these leave no more than the threshold, the
+/// bounds by it are kept; and they meet the targets where the threshold is the violation's, and steps and errors have a share of it each.
+pub fn threshold_law()
+    ensures cover { CoverLaw }
+    ensures repairs { RepairsLaw }
+    ensures certified { ThresholdCertifiedLaw }
+    ensures targets { ThresholdTargetsLaw }
+    ensures made { MadeAboveLaw }
 {}
 
 /// Two controllers that are built for one design and policy are the same but for their gains and their width. So are their bounds, but for the

@@ -5,4 +5,5 @@ pub mod NumberFacts
 pub mod RowBounds
 -- ---- mixtures of plans
 pub mod DesignMix
+pub mod ExcessMix
 pub mod MixLaws

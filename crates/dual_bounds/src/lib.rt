@@ -2,7 +2,7 @@
 //! corners of the box says something of every state in it.
 #![tactic(auto)]
 
-ghost use Rattle.dual_bounds.specs.Corners.{BoxLaw, RepairLaw};
+ghost use Rattle.dual_bounds.specs.Corners.{BoxLaw, RepairLaw, ExcessBoxLaw, ThresholdLaw};
 
 mod numbers;
 
@@ -13,4 +13,12 @@ pub use numbers::{TooManySteps, multiplier, row_violation, steps, undercut, viol
 pub fn corner_law()
     ensures box_margin { BoxLaw }
     ensures repair { RepairLaw }
+{}
+
+/// The same with the excess of the corners' plans, by how much they cost more than the best plan without limits, in place of their cost, and for plans
+/// that exceed some row by more than a threshold: then a unit of excess is worth R where R is at least the corners' excess over the sum of their slack
+/// and the threshold.
+pub fn threshold_law()
+    ensures box_excess { ExcessBoxLaw }
+    ensures repair { ThresholdLaw }
 {}
