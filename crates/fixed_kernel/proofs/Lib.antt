@@ -6,3 +6,6 @@ pub mod States
 pub mod NarrowFactors
 pub mod Words
 pub mod Reached
+pub mod WordSums
+pub mod WordRooms
+pub mod WordSpans

@@ -4,3 +4,5 @@ pub mod Raised
 pub mod Progress
 pub mod Factors
 pub mod Ready
+pub mod WordForm
+pub mod WordLines

@@ -7,6 +7,11 @@ mod narrow;
 mod spans;
 mod state;
 mod step;
+mod word_bases;
+mod word_mat;
+mod word_run;
+mod word_step;
+mod wordwise;
 
 pub use kernel::Kernel;
 pub use state::OutsideBox;

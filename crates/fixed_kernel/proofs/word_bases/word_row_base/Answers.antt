@@ -1,0 +1,55 @@
+use Rattle.std.proofs.Common.{◌≡◌, pos, rules, FitsSigned, arith, refl}
+use Rattle.std.specs.Int.{w64, w128}
+use Rattle.std.proofs.lemmas.Int.{to_z-of_z}
+use Rattle.std.proofs.lemmas.List.{get_or_read}
+use Rattle.integer_algebra.specs.Sums.{at}
+use Rattle.qp_model.specs.Controller.{numbers}
+use Rattle.fixed_kernel.proofs.Rooms.{state_long}
+use Rattle.fixed_kernel.proofs.WordRooms.{own_row_room, row_base_fits}
+use Rattle.fixed_kernel.proofs.word_bases.word_row_base.Goals as goal
+
+pub dot-own-requires-clause-lengths : goal.dot-own-requires-clause-lengths
+dot-own-requires-clause-lengths c =
+    omega (arith, c.row.ensures.len, c.requires.sound.form.sized.shaped.state_rows.cols, state_long (numbers c.args.c.now) c.args.state.now c.requires.sound c.requires.state)
+
+pub dot-own-requires-clause-room : goal.dot-own-requires-clause-room
+dot-own-requires-clause-room c =
+    rw c.row.ensures.value (own_row_room (numbers c.args.c.now) c.args.state.now c.args.i c.requires.sound c.requires.words.width c.requires.in_range c.requires.state)
+
+pub short_scaled-requires-clause-fits : goal.short_scaled-requires-clause-fits
+short_scaled-requires-clause-fits c =
+    let n = numbers c.args.c.now in
+    let fits = row_base_fits n c.args.state.now c.args.i c.requires.sound c.requires.words.width c.requires.in_range c.requires.state in
+    let bound : FitsSigned w128 c.index.result.now = search rules in
+    let read : c.index.result.now ≡ at n.bounds c.args.i = get_or_read _ _ _ c.requires.in_range c.index.ensures (pos 0) in
+    rw (to_z-of_z w128 _ bound, read) fits.bound
+
+pub overflow_sub-result : goal.overflow_sub-result
+overflow_sub-result c =
+    let n = numbers c.args.c.now in
+    let fits = row_base_fits n c.args.state.now c.args.i c.requires.sound c.requires.words.width c.requires.in_range c.requires.state in
+    let bound : FitsSigned w128 c.index.result.now = search rules in
+    let read : c.index.result.now ≡ at n.bounds c.args.i = get_or_read _ _ _ c.requires.in_range c.index.ensures (pos 0) in
+    let own : FitsSigned w128 c.dot-own.result = search rules in
+    let shifted : FitsSigned w128 c.short_scaled.result = search rules in
+    rw (to_z-of_z w128 _ own, to_z-of_z w128 _ shifted, c.dot-own.ensures, c.row.ensures.value, c.short_scaled.ensures, to_z-of_z w128 _ bound, read) fits.base
+
+pub overflow_cast-result : goal.overflow_cast-result
+overflow_cast-result c =
+    let n = numbers c.args.c.now in
+    let fits = row_base_fits n c.args.state.now c.args.i c.requires.sound c.requires.words.width c.requires.in_range c.requires.state in
+    let bound : FitsSigned w128 c.index.result.now = search rules in
+    let read : c.index.result.now ≡ at n.bounds c.args.i = get_or_read _ _ _ c.requires.in_range c.index.ensures (pos 0) in
+    let own : FitsSigned w128 c.dot-own.result = search rules in
+    let shifted : FitsSigned w128 c.short_scaled.result = search rules in
+    rw (to_z-of_z w128 _ own, to_z-of_z w128 _ shifted, c.dot-own.ensures, c.row.ensures.value, c.short_scaled.ensures, to_z-of_z w128 _ bound, read, to_z-of_z w128 _ fits.base) fits.word
+
+pub returns : goal.returns
+returns c =
+    let n = numbers c.args.c.now in
+    let fits = row_base_fits n c.args.state.now c.args.i c.requires.sound c.requires.words.width c.requires.in_range c.requires.state in
+    let bound : FitsSigned w128 c.index.result.now = search rules in
+    let read : c.index.result.now ≡ at n.bounds c.args.i = get_or_read _ _ _ c.requires.in_range c.index.ensures (pos 0) in
+    let own : FitsSigned w128 c.dot-own.result = search rules in
+    let shifted : FitsSigned w128 c.short_scaled.result = search rules in
+    rw (to_z-of_z w128 _ own, to_z-of_z w128 _ shifted, c.dot-own.ensures, c.row.ensures.value, c.short_scaled.ensures, to_z-of_z w128 _ bound, read, to_z-of_z w128 _ fits.base, to_z-of_z w64 _ fits.word) refl

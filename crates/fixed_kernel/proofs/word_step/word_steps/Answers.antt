@@ -1,0 +1,20 @@
+use Rattle.std.proofs.Common.{ap, sym, subst, ◌∙◌, arith}
+use Rattle.qp_model.specs.Controller.{numbers}
+use Rattle.qp_model.specs.Machine.{Iterate, step_of}
+use Rattle.overflow_check.proofs.Runs.{after_suc}
+use Rattle.fixed_kernel.specs.WordForm.{IsReadyInWords}
+use Rattle.fixed_kernel.proofs.WordRooms.{ready_in_words}
+use Rattle.fixed_kernel.proofs.word_step.word_steps.Goals as goal
+
+pub word_step-requires-clause-ready : goal.word_step-requires-clause-ready
+word_step-requires-clause-ready c =
+    let n = numbers c.args.c.now in
+    let state = c.args.state.now in
+    subst (λ (m : Iterate). IsReadyInWords n state c.args.entry_starts.now c.args.row_starts.now m) (sym c.loop-k.invariant)
+    (ready_in_words n state c.args.entry_starts.now c.args.row_starts.now c.loop-k.k c.requires.sound c.requires.words c.requires.state c.requires.entry_starts c.requires.row_starts (omega arith))
+
+pub loop-k-preserved : goal.loop-k-preserved
+loop-k-preserved c =
+    let n = numbers c.args.c.now in
+    let state = c.args.state.now in
+    c.word_step.ensures ∙ ap (step_of n state) c.loop-k.invariant ∙ sym (after_suc n state c.loop-k.k)

@@ -1,0 +1,42 @@
+-- A step in words of 64 bits: what the state and the offsets add to each sum stands apart, and is made once a run.
+use Rattle.std.specs.Prelude.{◌≡◌, ℕ, ◌+◌, ◌^◌, ◌≤◌, ◌<◌, ℤ, pos, ◌+ℤ◌, ◌-ℤ◌, ◌*ℤ◌, List, length, map, unsigned_abs, slice_index_or}
+use Rattle.std.specs.List.{range_with_len}
+use Rattle.integer_algebra.specs.Sums.{at}
+use Rattle.mat_int.specs.Row.{list_dot}
+use Rattle.mat_int.specs.Matrix.{row_of}
+use Rattle.qp_model.specs.Limits.{text_version}
+use Rattle.qp_model.specs.Controller.{Numbers}
+use Rattle.qp_model.specs.Machine.{Iterate}
+use Rattle.qp_model.specs.AbsoluteSums.{state_magnitudes, clamp_magnitudes, plan_magnitudes}
+use Rattle.qp_model.specs.Within.{AreWithin}
+
+-- what the sum of plan entry j starts from, scaled as it is written; with the multipliers' products it is `entry_sum`
+abbrev pub entry_base : Numbers → List ℤ → ℕ → ℤ
+entry_base c state j = (list_dot (row_of c.state_gains j) state +ℤ at c.offsets j *ℤ pos (2 ^ c.fraction_bits)) *ℤ pos (2 ^ c.step_exponent)
+
+-- what the sum of row i starts from; with the plan's products it is `row_sum`
+abbrev pub row_base : Numbers → List ℤ → ℕ → ℤ
+row_base c state i = list_dot (row_of c.state_rows i) state -ℤ at c.bounds i *ℤ pos (2 ^ c.fraction_bits)
+
+-- those of all entries, and those of all rows
+abbrev pub entry_bases : Numbers → List ℤ → List ℤ
+entry_bases c state = map (entry_base c state) (range_with_len 0 (length c.offsets))
+
+abbrev pub row_bases : Numbers → List ℤ → List ℤ
+row_bases c state = map (row_base c state) (range_with_len 0 (length c.bounds))
+
+-- a controller whose steps are made in words of 64 bits: by its width each value fits, and each shift stays within a word
+pub record IsWordSized (c : Numbers) : Type 0 where
+  pub first : c.version ≡ text_version
+  pub width : c.width ≤ 64
+  pub bits : c.fraction_bits + c.step_exponent < 64
+
+-- what one more step asks of a state, its bases and what the machine has made
+pub record IsReadyInWords (c : Numbers) (state entry_starts row_starts : List ℤ) (made : Iterate) : Type 0 where
+  pub state_within : AreWithin state (state_magnitudes c)
+  pub entries : entry_starts ≡ entry_bases c state
+  pub rows : row_starts ≡ row_bases c state
+  pub multipliers_within : AreWithin made.multipliers (clamp_magnitudes c)
+  pub plan_long : length made.plan ≡ length c.offsets
+  pub sums_long : length made.sums ≡ length c.offsets
+  pub room : (k : ℕ) → k < length c.offsets → unsigned_abs (at made.sums k) + slice_index_or (plan_magnitudes c) k 0 < 2 ^ 63

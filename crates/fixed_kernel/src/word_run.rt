@@ -1,0 +1,98 @@
+// A run in words of 64 bits, from a region's words and back to them.
+ghost use Rattle.std.specs.Prelude.{◌≡◌, ◌≤◌, ◌↔◌, IsTrue, length, All};
+ghost use Rattle.qp_model.specs.Controller.{numbers, IsSized};
+ghost use Rattle.qp_model.specs.Machine.{after};
+ghost use Rattle.qp_model.specs.AbsoluteSums.{IsController, state_magnitudes};
+ghost use Rattle.qp_model.specs.Within.{AreWithin};
+ghost use Rattle.mat_products.specs.Narrow.{IsNarrow};
+ghost use Rattle.fixed_kernel.specs.Spans.{made_of};
+ghost use Rattle.fixed_kernel.specs.WordForm.{IsWordSized};
+
+use crate::word_bases::{put_entry_bases, put_row_bases};
+use crate::word_mat::{WordMat, narrowed};
+use crate::word_step::word_steps;
+use qp_model::{ControllerParts, VERSION};
+
+// Whether a controller's steps are made in words of 64 bits.
+pub fn is_word_sized(c: &ControllerParts) -> bool
+    requires { IsSized (numbers c.now) }
+    ensures { IsTrue result ↔ IsWordSized (numbers c.now) }
+{
+    c.version == VERSION && c.w <= 64 && c.f + c.s < 64
+}
+
+// Takes narrow numbers over.
+fn take_words(from: &[i128], to: &mut [i64])
+    requires narrow { All IsNarrow from.now }
+    requires long { length to.old ≡ length from.now }
+    ensures { to.new ≡ from.now }
+{
+    for (i, x) in from.iter().enumerate() {
+        to[i] = narrowed(*x);
+    }
+}
+
+// Puts them back.
+fn put_words(from: &[i64], to: &mut [i128])
+    requires long { length to.old ≡ length from.now }
+    ensures { to.new ≡ from.now }
+{
+    for (i, x) in from.iter().enumerate() {
+        to[i] = i128::from(*x);
+    }
+}
+
+// The steps that are left of a run, of which `made` were made: from what the region's words hold, and back into them.
+pub fn finish_in_words(
+    c: &ControllerParts,
+    gains: &WordMat,
+    rows: &WordMat,
+    top: i64,
+    made: u32,
+    state: &[i128],
+    entry_room: &mut [i64],
+    row_room: &mut [i64],
+    multiplier_room: &mut [i64],
+    plan_room: &mut [i64],
+    sum_room: &mut [i64],
+    multipliers: &mut [i128],
+    plan: &mut [i128],
+    sums: &mut [i128],
+)
+    requires sound { IsController (numbers c.now) }
+    requires words { IsWordSized (numbers c.now) }
+    requires gains { gains.now ≡ c.now.w_mat }
+    requires rows { rows.now ≡ c.now.g_mat }
+    requires top { top ≡ c.now.clamp }
+    requires state { AreWithin state.now (state_magnitudes (numbers c.now)) }
+    requires entry_room { length entry_room.old ≡ length c.now.t.items }
+    requires row_room { length row_room.old ≡ length c.now.bound.items }
+    requires multiplier_room { length multiplier_room.old ≡ length multipliers.old }
+    requires plan_room { length plan_room.old ≡ length plan.old }
+    requires sum_room { length sum_room.old ≡ length sums.old }
+    requires made { made ≤ c.now.steps }
+    requires start { made_of plan.old multipliers.old sums.old ≡ after (numbers c.now) state.now made }
+    ensures { made_of plan.new multipliers.new sums.new ≡ after (numbers c.now) state.now c.now.steps }
+{
+    put_entry_bases(c, state, entry_room);
+    put_row_bases(c, state, row_room);
+    take_words(multipliers, multiplier_room);
+    take_words(plan, plan_room);
+    take_words(sums, sum_room);
+    word_steps(
+        c,
+        gains,
+        rows,
+        top,
+        state,
+        entry_room,
+        row_room,
+        made,
+        multiplier_room,
+        plan_room,
+        sum_room,
+    );
+    put_words(multiplier_room, multipliers);
+    put_words(plan_room, plan);
+    put_words(sum_room, sums);
+}
