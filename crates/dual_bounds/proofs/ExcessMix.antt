@@ -17,7 +17,7 @@ use Rattle.qp_model.specs.Curvature.{curvature}
 use Rattle.qp_model.proofs.CostLaws.{condensing}
 use Rattle.qp_model.proofs.CurvatureLaws.{expansion_law}
 use Rattle.qp_model.proofs.ScalingLaws.{scaling_law}
-use Rattle.dual_bounds.specs.Corners.{IsNearBest}
+use Rattle.qp_model.specs.Excess.{IsNearBest}
 use Rattle.dual_bounds.proofs.DesignMix.{Mixture, over as over_of, plan}
 
 -- ---- the gradient at a mixture, all plans over one denominator q

@@ -7,6 +7,9 @@ use Rattle.qp_model.specs.Box.{IsGridState, corner}
 use Rattle.qp_model.specs.Cost.{cost, cost_scale}
 use Rattle.qp_model.specs.Residual.{residual, slack, residual_scale, IsFeasible}
 use Rattle.qp_model.specs.Policy.{Plans, IsPolicyFor, corner_denominator, corner_plan}
+use Rattle.qp_model.specs.Form.{Form, IsFormFor}
+use Rattle.qp_model.specs.Quantities.{input_floor}
+use Rattle.qp_model.specs.Excess.{IsNearBest, excess_of}
 use Rattle.qp_model.specs.Margin.{simulated, HasSlack, HasCost}
 use Rattle.qp_model.specs.Choices.{multiplier_of}
 use Rattle.qp_model.specs.declared.bounds.Margin.{Margin}
@@ -23,11 +26,6 @@ pub record HasMarginAt (d : Design) (m : Margin) (xi : ℕ → ℤ) : Type 0 whe
   pub positive : pos 0 <ℤ denominator
   pub slacks : (i : ℕ) → i < rows d → (m.units *ℤ (pos (residual_scale d) *ℤ denominator)) ≤ℤ (pos (2 ^ 16) *ℤ slack d denominator xi plan i)
   pub cheap : cost d denominator xi plan ≤ℤ (m.cost *ℤ (pos (cost_scale d) *ℤ square denominator))
-
--- at the state xi the plan u over q costs at most excess / 2^16 more than any plan, over whatever denominator and feasible or not
-abbrev pub IsNearBest : Design → (xi : ℕ → ℤ) → (q : ℤ) → (u : ℕ → ℤ) → (excess : ℤ) → Type 0
-IsNearBest d xi q u excess = (r : ℤ) (t : ℕ → ℤ) → pos 0 <ℤ r →
-    (pos (2 ^ 16) *ℤ cost d q xi u *ℤ square r) ≤ℤ ((pos (2 ^ 16) *ℤ cost d r xi t +ℤ excess *ℤ pos (cost_scale d) *ℤ square r) *ℤ square q)
 
 -- the corners' plans have in each row a slack of at least units / 2^16, and cost at most excess / 2^16 more than any plan from their corner
 pub record KeepsExcess (d : Design) (p : Plans) (units excess : ℤ) : Type 0 where
@@ -68,6 +66,11 @@ RepairLaw = (d : Design) (rho : ℕ) (p : Plans) (m : Margin) → IsSound d rho 
     (xi : ℕ → ℤ) → IsGridState d xi → (q : ℤ) (u : ℕ → ℤ) → pos 0 <ℤ q →
     (over over_denominator : ℤ) → pos 0 ≤ℤ over → pos 0 <ℤ over_denominator → ExceedsNoMore d xi q u over over_denominator →
     HasRepair d xi q u (pos (multiplier_of m) *ℤ over) over_denominator
+
+-- What any reference plans show of a policy as its excess, its plans keep.
+abbrev pub ExcessShownLaw : Type 0
+ExcessShownLaw = (d : Design) (h : Form) (p r : Plans) (units : ℤ) → IsSound d (input_floor d) → IsFormFor d h → IsPolicyFor d p → IsPolicyFor d r →
+    ((c i : ℕ) → 1 ≤ c → c ≤ 2 ^ d.states → i < rows d → HasSlack (simulated d p) units c i) → KeepsExcess d p units (pos (excess_of d h p r))
 
 -- At every grid state of the box some plan has the slack of the corners' plans, and costs as little more than any other plan.
 abbrev pub ExcessBoxLaw : Type 0

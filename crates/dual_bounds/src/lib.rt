@@ -2,7 +2,7 @@
 //! corners of the box says something of every state in it.
 #![tactic(auto)]
 
-ghost use Rattle.dual_bounds.specs.Corners.{BoxLaw, RepairLaw, ExcessBoxLaw, ThresholdLaw};
+ghost use Rattle.dual_bounds.specs.Corners.{BoxLaw, RepairLaw, ExcessBoxLaw, ThresholdLaw, ExcessShownLaw};
 
 mod numbers;
 
@@ -17,8 +17,9 @@ pub fn corner_law()
 
 /// The same with the excess of the corners' plans, by how much they cost more than the best plan without limits, in place of their cost, and for plans
 /// that exceed some row by more than a threshold: then a unit of excess is worth R where R is at least the corners' excess over the sum of their slack
-/// and the threshold.
+/// and the threshold. Reference plans show such an excess.
 pub fn threshold_law()
+    ensures shown { ExcessShownLaw }
     ensures box_excess { ExcessBoxLaw }
     ensures repair { ThresholdLaw }
 {}

@@ -1,3 +1,4 @@
 pub mod RoomLaws
 pub mod SumLaws
 pub mod GramLaws
+pub mod WideLaws

@@ -1,3 +1,4 @@
 pub mod Values
 pub mod Laws
 pub mod Rows
+pub mod Wide

@@ -10,12 +10,14 @@ mod room;
 mod single;
 mod sum;
 mod types;
+mod wide;
 
 pub use combination::combine;
 pub use matrix::gram;
 pub use room::magnitude;
 pub use single::{add, contains, divided, enclose, mul};
 pub use types::{Enc, EncMat};
+pub use wide::{enclose_wide, enclose_within};
 
 /// An enclosure of a fraction encloses each fraction that is equal to it.
 pub fn fraction_law()

@@ -31,7 +31,7 @@ abbrev stage_rows : ℕ → LimitRow
 stage_rows zero = limit (pos 0) (pos 4) (pos 4)
 stage_rows (suc r) = limit (pos 0) (negsuc 3) (pos 4)
 
-abbrev base : Design
+abbrev pub base : Design
 base = record {
   version = 1;
   states = 1;

@@ -37,6 +37,7 @@ pub mod CornerSizes
 pub mod FineCorners
 pub mod Class
 pub mod CornerClass
+pub mod Excess
 pub mod Errors
 pub mod Printed
 pub mod Certified

@@ -1,8 +1,9 @@
 // What the definitions give, each as the contract of a function with nothing to do.
 ghost use Rattle.qp_model.specs.Condensing.{CondensingLaw, TrajectoryLaw};
 ghost use Rattle.qp_model.specs.Runs.{PlantRunLaw, ResponseLaw, ResidualLaw, RowBoundLaw, GramLaw, AgreesLaw, CostBoundLaw};
-ghost use Rattle.qp_model.specs.CostShape.{ExpansionLaw, HessianLaw, CurvatureLaw, AverageLaw};
+ghost use Rattle.qp_model.specs.CostShape.{ExpansionLaw, HessianLaw, CurvatureLaw, AverageLaw, DifferenceLaw, FloorLaw};
 ghost use Rattle.qp_model.specs.Form.{ExactFormLaw};
+ghost use Rattle.qp_model.specs.Excess.{ExcessLaw};
 ghost use Rattle.qp_model.specs.Scaling.{ScalingLaw};
 ghost use Rattle.qp_model.specs.Within.{PlanMagnitudeLaw};
 
@@ -74,6 +75,21 @@ pub fn curvature_law()
 /// The average of some plans costs at most the average of their costs.
 pub fn average_law()
     ensures { AverageLaw }
+{}
+
+/// Twice what a plan costs more than another is the sum of the gradients at both along the step between them.
+pub fn difference_law()
+    ensures { DifferenceLaw }
+{}
+
+/// No plan costs less than a plan by more than the squares of the gradient there, over four times the least input weight.
+pub fn floor_law()
+    ensures { FloorLaw }
+{}
+
+/// The plans of a policy cost at their corners at most the excess more than any plan, whatever reference plans show it.
+pub fn excess_law()
+    ensures { ExcessLaw }
 {}
 
 /// What cost rows have of runs stays within bounds.

@@ -21,9 +21,10 @@ pub use corner_sizes::{box_magnitude, corner_cost_size, corner_slack_size, polic
 pub use design::Design;
 pub use design_parts::DesignParts;
 pub use laws::{
-    agrees_law, average_law, condensing_law, cost_bound_law, curvature_law, exact_form_law,
-    expansion_law, gram_law, hessian_law, plan_magnitude_law, residual_law, response_law,
-    row_bound_law, run_law, scaling_law, trajectory_law,
+    agrees_law, average_law, condensing_law, cost_bound_law, curvature_law, difference_law,
+    exact_form_law, excess_law, expansion_law, floor_law, gram_law, hessian_law,
+    plan_magnitude_law, residual_law, response_law, row_bound_law, run_law, scaling_law,
+    trajectory_law,
 };
 pub use limits::{
     LAST_VERSION, MOST_INPUTS, MOST_ROWS, MOST_STAGES, MOST_STATES, VERSION, most_rows,
