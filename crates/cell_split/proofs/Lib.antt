@@ -1,0 +1,14 @@
+-- The lemmas by topic.
+
+-- ---- parts and cells
+pub mod PartLaws
+pub mod CellLaws
+pub mod CountFacts
+-- ---- the text of cuts
+pub mod RecordFacts
+pub mod TextFacts
+pub mod UniqueFacts
+-- ---- the box of a cell
+pub mod CellFacts
+pub mod BoxFacts
+pub mod DesignFacts

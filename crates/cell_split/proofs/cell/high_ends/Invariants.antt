@@ -1,0 +1,10 @@
+use Rattle.std.proofs.Common.{slice_index_or}
+use Rattle.integer_algebra.specs.Sums.{at}
+use Rattle.mat_int.specs.Lines.{lists}
+use Rattle.qp_model.specs.Runs.{Holds}
+use Rattle.cell_split.specs.Cuts.{part_high}
+use Rattle.cell_split.specs.Cells.{cuts_of}
+use Rattle.cell_split.proofs.cell.high_ends.Given as goal
+
+abbrev pub invariant-loop-i : goal.invariant-loop-i
+invariant-loop-i l = Holds l.out.items l.i (λ i. part_high (at l.hi i) (cuts_of (lists l.cuts) i) (slice_index_or l.parts i 0))

@@ -1,0 +1,23 @@
+use Rattle.std.proofs.Common.{map, arith}
+use Rattle.csv.specs.Records.{fields_of}
+use Rattle.mat_int.specs.Lines.{lists}
+use Rattle.qp_model.specs.Parts.{design_of}
+use Rattle.policy_file.proofs.RecordFacts.{records_few}
+use Rattle.policy_file.proofs.TextFacts.{records_count}
+use Rattle.std.proofs.lemmas.List.{length-map}
+use Rattle.cell_split.proofs.TextFacts.{short, count_told}
+use Rattle.cell_split.proofs.read.cuts_of_text.Goals as goal
+
+pub overflow_cast-result : goal.overflow_cast-result
+overflow_cast-result c =
+    let n = records_count c.in_ok-records.records.items c.args.bytes.now c.in_ok-records.ensures in
+    let few = records_few c.args.bytes.now in
+    omega (arith, n, few)
+
+pub returns-then-len-parts-clause-fault : goal.returns-then-len-parts-clause-fault
+returns-then-len-parts-clause-fault c =
+    count_told c.args.bytes.now (design_of c.args.parts.now) (map fields_of c.in_ok-records.records.items) (lists c.in_ok-cuts.cuts.items) _ c.in_ok-records.ensures
+    (omega (arith, length-map c.in_ok-records.records.items fields_of)) (λ q. absurd (omega (arith, q, c.if-len-parts.true))) (rw c.deref.ensures.value at c.in_ok-cuts.ensures.found)
+
+pub counted-requires : goal.counted-requires
+counted-requires c = short (design_of c.args.parts.now) (map fields_of c.in_ok-records.records.items) c.in_ok-cuts.cuts.items (rw c.deref.ensures.value at c.in_ok-cuts.ensures.found)
