@@ -1,5 +1,5 @@
 #!/usr/bin/env python3
-"""Prints the numbers of controllers of a design of one plan entry, as the tests of engine_trials expect them.
+"""Prints the numbers of controllers of a design of one plan entry, as the tests of trials_engine expect them.
 
 The plant is x+ = (a x + b u) / D. A cost row (c, t, w) costs w (c x - t)^2 at stage 1, the input r u^2, and twice the whole is u H u + 2 (F x + h0) u + ..
 A limit row of stage 0 is (p x + q u) / L <= v / L, one of stage 1 is p x / L <= v / L. Gains solve H over D^2 exactly, up to half.

@@ -1,6 +1,6 @@
 #!/usr/bin/env python3
 """Condensed forms by simulation alone: the plant is simulated with fractions, and each number is a difference of costs or residuals of
-unit plans and unit states. Prints what the tests of condense_trials compare with."""
+unit plans and unit states. Prints what the tests of trials_condense compare with."""
 from fractions import Fraction as F
 
 LIMIT = 2 ** 126

@@ -2,7 +2,7 @@
 """Exponents of the step, from the definitions alone, in whole numbers without a limit: of the exact numbers, or of enclosures where a quantity of the
 exact ones is above 2^126.
 
-    exponents.py            prints what the tests of `step_trials` expect
+    exponents.py            prints what the tests of `trials_step` expect
     exponents.py DESIGN     prints the exponents of a design text, and those of its rows
 
 A program of its own: it simulates unit plans over the plant's recursion, and shares no formula with the crates.

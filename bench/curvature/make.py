@@ -30,7 +30,7 @@ def rows(m):
 
 MAIN = '''#![tactic(auto)]
 
-use class_choice::condense;
+use plant_condense::condense;
 use hessian_check::curvature;
 use mat_int::Mat;
 use qp_model::{Design, DesignParts};

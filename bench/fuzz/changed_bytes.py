@@ -4,7 +4,7 @@
     bench/fuzz/changed_bytes.py
 
 A row for each text that is not refused at the line of its changed byte: the byte's place, counted from 0; the byte that stands there, a space, `-`, `0` or `9`, as
-a number; what is told of the corners' states, with a comma for each line feed but the last. The tests of command_trials hold these rows.
+a number; what is told of the corners' states, with a comma for each line feed but the last. The tests of trials_command hold these rows.
 """
 import os
 import sys

@@ -16,8 +16,8 @@ use Rattle.integer_algebra.proofs.SizeLaws.{at_size}
 use Rattle.integer_algebra.proofs.PowerLaws.{two-pow-more}
 use Rattle.approx_inverse.specs.Descent.{system_residual, value, aim, IsDescent, IsRoomy, IsSettled}
 use Rattle.integer_algebra.specs.Bounds.{absolute}
-use Rattle.qp_model.specs.GoodSolution.{IsGood}
-use Rattle.qp_model.specs.Convex.{IsConvex}
+use Rattle.qp_model.specs.form.GoodSolution.{IsGood}
+use Rattle.qp_model.specs.form.Convex.{IsConvex}
 use Rattle.approx_inverse.specs.DescentSize.{greatest_row, entry_bound, descent_of_column}
 use Rattle.qp_model.proofs.SizeFacts.{greatest_term}
 use Rattle.approx_inverse.proofs.MoveLaws.{diagonal_positive, value_same, residual_same}

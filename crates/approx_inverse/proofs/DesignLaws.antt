@@ -3,12 +3,12 @@ use Rattle.std.proofs.Common.{◌≡◌, ℕ, ◌+◌, ◌*◌, ◌^◌, ◌<◌
 use Rattle.std.proofs.lemmas.Int.{ints}
 use Rattle.std.proofs.Math.Nat.{mul-le-mul}
 use Rattle.qp_model.specs.declared.design_parts.DesignParts.{DesignParts}
-use Rattle.qp_model.specs.Design.{entries, rows}
-use Rattle.qp_model.specs.Parts.{IsDesign, design_of}
-use Rattle.qp_model.specs.Form.{Form, HaveSameNumbers}
-use Rattle.qp_model.specs.Class.{form_of}
-use Rattle.qp_model.specs.Columns.{columns, column_bound, descent_size, solve_matrix, solve_column}
-use Rattle.qp_model.specs.GoodSolution.{IsGood}
+use Rattle.qp_model.specs.problem.Design.{entries, rows}
+use Rattle.qp_model.specs.problem.Parts.{IsDesign, design_of}
+use Rattle.qp_model.specs.form.Form.{Form, HaveSameNumbers}
+use Rattle.qp_model.specs.form.Class.{form_of}
+use Rattle.qp_model.specs.form.Columns.{columns, column_bound, descent_size, solve_matrix, solve_column}
+use Rattle.qp_model.specs.form.GoodSolution.{IsGood}
 use Rattle.qp_model.proofs.VersionLaws.{design_states_le, design_stages_le, design_rows_le}
 use Rattle.qp_model.proofs.SystemLaws.{count_same, matrix_same, column_is, column_bound_same, descent_same}
 use Rattle.condensed_form.specs.Form.{HasShapes, IsFormOf, held}

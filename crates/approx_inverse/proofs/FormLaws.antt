@@ -7,13 +7,13 @@ use Rattle.integer_algebra.proofs.SumLaws.{total_same}
 use Rattle.integer_algebra.proofs.SizeLaws.{size_same}
 use Rattle.std.proofs.lemmas.Grind.{common_steps}
 use Rattle.mat_int.specs.Matrix.{Matrix, entry_of, zero_matrix}
-use Rattle.qp_model.specs.Convex.{IsConvex}
+use Rattle.qp_model.specs.form.Convex.{IsConvex}
 use Rattle.qp_model.specs.declared.quantity.Quantity.{Quantity}
 use Rattle.qp_model.specs.declared.quantity.Quantity.TheVariants.{Descent}
-use Rattle.qp_model.specs.Controller.{HasShape}
-use Rattle.qp_model.specs.GoodSolution.{IsGood}
-use Rattle.qp_model.specs.Form.{Form}
-use Rattle.qp_model.specs.Columns.{columns, descent_size, solve_matrix, solve_column}
+use Rattle.qp_model.specs.machine.Controller.{HasShape}
+use Rattle.qp_model.specs.form.GoodSolution.{IsGood}
+use Rattle.qp_model.specs.form.Form.{Form}
+use Rattle.qp_model.specs.form.Columns.{columns, descent_size, solve_matrix, solve_column}
 use Rattle.approx_inverse.specs.System.{IsSystem}
 use Rattle.approx_inverse.specs.Condensed.{IsMatrixOf}
 use Rattle.approx_inverse.specs.DescentSize.{EachWithin, entry_bound, descent_of_column}

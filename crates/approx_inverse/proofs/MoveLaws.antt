@@ -14,7 +14,7 @@ use Rattle.integer_algebra.proofs.BlockLaws.{total_single, choose_times}
 use Rattle.integer_algebra.proofs.VectorLaws.{dot_comm, dot_same, dot_add, dot_add_right, image_same, image_add}
 use Rattle.integer_algebra.proofs.Quoting.{by_ring, quotes}
 use Rattle.approx_inverse.specs.Descent.{system_residual, value, IsNearestQuotient, IsDescent, IsRoomy}
-use Rattle.qp_model.specs.Convex.{IsConvex}
+use Rattle.qp_model.specs.form.Convex.{IsConvex}
 
 -- t at j, and 0 elsewhere
 abbrev pub point : ℕ → ℤ → ℕ → ℤ

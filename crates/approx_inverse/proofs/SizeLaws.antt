@@ -5,11 +5,11 @@ use Rattle.std.proofs.lemmas.Bool.{cases_lt}
 use Rattle.std.proofs.Math.Nat.{mul-le-mul_left, mul-le-mul_right, mul-div-le, pow-le-pow_right}
 use Rattle.integer_algebra.specs.Division.{ceil_div}
 use Rattle.integer_algebra.specs.Sizes.{size}
-use Rattle.qp_model.specs.Quantities.{greatest}
+use Rattle.qp_model.specs.form.Quantities.{greatest}
 use Rattle.qp_model.proofs.SizeFacts.{greatest_same, greatest_term}
 use Rattle.integer_algebra.proofs.SizeLaws.{size_same}
-use Rattle.qp_model.specs.Form.{Form}
-use Rattle.qp_model.specs.Columns.{columns, column_bound, column_size, descent_size, solve_matrix, solve_column}
+use Rattle.qp_model.specs.form.Form.{Form}
+use Rattle.qp_model.specs.form.Columns.{columns, column_bound, column_size, descent_size, solve_matrix, solve_column}
 use Rattle.approx_inverse.specs.DescentSize.{greatest_row, entry_bound, descent_sum, descent_of_column}
 
 -- ---- monotone

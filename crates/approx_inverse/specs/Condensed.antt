@@ -1,9 +1,9 @@
 -- What solving asks of the numbers of a condensed form, and the matrix that it makes of them.
 use Rattle.std.specs.Prelude.{◌≡◌, ℕ, ◌^◌, ◌<◌, pos, ◌≤ℤ◌, length}
 use Rattle.mat_int.specs.Matrix.{Matrix, entry_of}
-use Rattle.qp_model.specs.Form.{Form}
-use Rattle.qp_model.specs.Columns.{solve_matrix}
-use Rattle.qp_model.specs.Convex.{IsConvex}
+use Rattle.qp_model.specs.form.Form.{Form}
+use Rattle.qp_model.specs.form.Columns.{solve_matrix}
+use Rattle.qp_model.specs.form.Convex.{IsConvex}
 use Rattle.condensed_form.specs.Form.{HasShapes, held}
 use Rattle.condensed_form.specs.declared.condensed.Condensed.{Condensed}
 

@@ -3,7 +3,7 @@ use Rattle.std.specs.Prelude.{◌≡◌, ℕ, ◌^◌, ◌<◌, ◌≤◌, ℤ, 
 use Rattle.integer_algebra.specs.Sums.{dot, image, at}
 use Rattle.integer_algebra.specs.Bounds.{absolute}
 use Rattle.mat_int.specs.Matrix.{Matrix, entry_of}
-use Rattle.qp_model.specs.Convex.{IsConvex}
+use Rattle.qp_model.specs.form.Convex.{IsConvex}
 
 -- 2^f times a column
 abbrev pub aim : ℕ → List ℤ → ℕ → ℤ

@@ -2,10 +2,10 @@
 use Rattle.std.specs.Prelude.{◌≡◌, ℕ, ◌+◌, ◌-◌, ◌<◌, ◌≤◌, ◌^◌, ℤ, nat_lt, ◌==◌, if◌then◌else◌, length}
 use Rattle.integer_algebra.specs.Sums.{at}
 use Rattle.mat_int.specs.Matrix.{entry_of}
-use Rattle.qp_model.specs.Controller.{HasShape}
-use Rattle.qp_model.specs.GoodSolution.{IsGood}
-use Rattle.qp_model.specs.Form.{Form}
-use Rattle.qp_model.specs.Columns.{columns, column_bound, solve_matrix, solve_column}
+use Rattle.qp_model.specs.machine.Controller.{HasShape}
+use Rattle.qp_model.specs.form.GoodSolution.{IsGood}
+use Rattle.qp_model.specs.form.Form.{Form}
+use Rattle.qp_model.specs.form.Columns.{columns, column_bound, solve_matrix, solve_column}
 use Rattle.approx_inverse.specs.DescentSize.{EachWithin, descent_of_column}
 use Rattle.approx_inverse.specs.declared.inverse.Inverse.{Inverse}
 

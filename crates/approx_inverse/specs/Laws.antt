@@ -3,8 +3,8 @@ use Rattle.std.specs.Prelude.{ℕ, ◌+◌, ◌*◌, ◌^◌, ◌<◌, ℤ, pos,
 use Rattle.integer_algebra.specs.Sums.{total}
 use Rattle.integer_algebra.specs.Bounds.{absolute}
 use Rattle.integer_algebra.specs.Sizes.{size}
-use Rattle.qp_model.specs.Convex.{IsConvex}
-use Rattle.qp_model.specs.GoodSolution.{IsGood}
+use Rattle.qp_model.specs.form.Convex.{IsConvex}
+use Rattle.qp_model.specs.form.GoodSolution.{IsGood}
 
 -- twice the floor times an entry is at most 2^(f+1) times the column's absolute sum and the trace of the matrix
 abbrev pub GoodEntryLaw : Type 0

@@ -2,9 +2,9 @@
 ghost use Rattle.std.specs.Prelude.{ℕ, ◌≡◌, ◌⊎◌, ◌<◌, ◌≤◌, ◌^◌, Err, IfOk, OnOk, IfErr};
 ghost use Rattle.qp_model.specs.declared.design_parts.DesignParts.{DesignParts};
 ghost use Rattle.qp_model.specs.declared.quantity.Quantity.TheVariants.{Descent};
-ghost use Rattle.qp_model.specs.Parts.{design_of};
-ghost use Rattle.qp_model.specs.Class.{form_of};
-ghost use Rattle.qp_model.specs.Columns.{descent_size};
+ghost use Rattle.qp_model.specs.problem.Parts.{design_of};
+ghost use Rattle.qp_model.specs.form.Class.{form_of};
+ghost use Rattle.qp_model.specs.form.Columns.{descent_size};
 ghost use Rattle.condensed_form.specs.Form.{IsForm, IsFormOf, held};
 ghost use Rattle.approx_inverse.specs.Condensed.{IsMatrixOf, IsSolvable};
 ghost use Rattle.approx_inverse.specs.Inverse.{IsInverseOf, SolvesForm};

@@ -8,7 +8,7 @@ ghost use Rattle.word_region.specs.Words.{IsLive};
 ghost use Rattle.approx_inverse.specs.System.{IsSystem};
 ghost use Rattle.approx_inverse.specs.Descent.{IsSettled, IsDescent, IsTask, aim, system_residual};
 ghost use Rattle.approx_inverse.specs.Spans.{IsSpanWritten, IsOnlyIn, ArePlaced, AreKept, cells};
-ghost use Rattle.qp_model.specs.GoodSolution.{IsGood};
+ghost use Rattle.qp_model.specs.form.GoodSolution.{IsGood};
 ghost use Rattle.qp_model.specs.declared.quantity.Quantity.TheVariants.{Descent};
 ghost use Rattle.approx_inverse.specs.DescentSize.{entry_bound, descent_of_column, EachWithin};
 

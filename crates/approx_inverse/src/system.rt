@@ -4,7 +4,7 @@ ghost use Rattle.std.specs.Option.{SomeIff};
 ghost use Rattle.integer_algebra.specs.Sums.{at};
 ghost use Rattle.integer_algebra.specs.Sizes.{size};
 ghost use Rattle.mat_int.specs.Matrix.{entry_of};
-ghost use Rattle.qp_model.specs.Columns.{columns, solve_column, solve_matrix};
+ghost use Rattle.qp_model.specs.form.Columns.{columns, solve_column, solve_matrix};
 ghost use Rattle.condensed_form.specs.Form.{held};
 ghost use Rattle.approx_inverse.specs.Condensed.{IsSolvable, IsMatrixOf};
 ghost use Rattle.approx_inverse.specs.DescentSize.{greatest_row};

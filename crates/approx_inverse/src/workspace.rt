@@ -1,6 +1,6 @@
 // What solving works in.
 ghost use Rattle.std.specs.Prelude.{ℕ, ◌≡◌, ◌<◌, ◌≤◌, ◌+◌, ◌^◌, length, IsTrue, IsFalse, IfOk};
-ghost use Rattle.qp_model.specs.Columns.{columns, descent_size};
+ghost use Rattle.qp_model.specs.form.Columns.{columns, descent_size};
 ghost use Rattle.condensed_form.specs.Form.{held};
 ghost use Rattle.approx_inverse.specs.Condensed.{IsSolvable, IsMatrixOf};
 ghost use Rattle.approx_inverse.specs.Spans.{cells};

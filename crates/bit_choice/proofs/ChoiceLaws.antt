@@ -5,7 +5,7 @@ use Rattle.std.specs.Int.{w128}
 use mir.Val.{SFits}
 use Rattle.std.proofs.lemmas.Int.{ints, to_z-of_z}
 use Rattle.std.proofs.lemmas.Bool.{cases_lt}
-use Rattle.qp_model.specs.Errors.{ErrorSums, epsilon}
+use Rattle.qp_model.specs.bounds.Errors.{ErrorSums, epsilon}
 use Rattle.step_error.proofs.FallingLaws.{epsilon_falls}
 
 -- a test of the code

@@ -1,6 +1,6 @@
 // The search for the number of fraction bits.
 ghost use Rattle.std.specs.Prelude.{◌≡◌, ℕ, pos, ◌^◌, ◌<◌, ◌≤◌, ◌≤ℤ◌, unsigned_abs, IsErr, IfOk, IfErr, ◌↔◌};
-ghost use Rattle.qp_model.specs.Errors.{epsilon};
+ghost use Rattle.qp_model.specs.bounds.Errors.{epsilon};
 ghost use Rattle.step_error.specs.ErrorSums.{AreSums, sums_of};
 ghost use Rattle.bit_choice.specs.Choice.{IsChoice};
 

@@ -2,7 +2,7 @@
 use Rattle.std.proofs.Common.{◌≡◌, ℕ, zero, suc, ◌+◌, ◌<◌, ◌==◌, ℤ, pos, List, [], ◌∷◌, ◌++◌, length, get_or, take, codes, if◌then◌else◌, refl, ap, ◌∙◌, arith, ◌≢◌}
 use Rattle.std.proofs.lemmas.Bool.{ne_eqb}
 use Rattle.number_text.specs.Lines.{line_of}
-use Rattle.qp_model.specs.Printed.{printed}
+use Rattle.qp_model.specs.bounds.Printed.{printed}
 use Rattle.qp_model.specs.declared.bounds.Bounds.{Bounds}
 use Rattle.bound_report.specs.Report.{numbered_violations, violation_lines, Each, row_members}
 

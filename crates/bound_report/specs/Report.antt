@@ -3,7 +3,7 @@ use Rattle.std.specs.Prelude.{ℕ, suc, ℤ, pos, List, [], ◌∷◌, ◌++◌,
 use Rattle.std.specs.List.{join_with_byte}
 use Rattle.std.specs.Fmt.{signed_decimal}
 use Rattle.number_text.specs.Lines.{line_of, text_of}
-use Rattle.qp_model.specs.Printed.{Printed}
+use Rattle.qp_model.specs.bounds.Printed.{Printed}
 
 -- a word and its number each, the version first, and beside a number that is over 2^16 that power
 abbrev pub report_head : Printed → List (List ℕ)

@@ -4,7 +4,7 @@
 ghost use Rattle.std.specs.Prelude.{◌≡◌, ◌++◌, ◌∷◌, [], map, fold, IfOk, OnOk, string_bytes};
 ghost use Rattle.std.specs.Fmt.{signed_decimal};
 ghost use Rattle.number_text.specs.Lines.{text_of};
-ghost use Rattle.qp_model.specs.Printed.{printed};
+ghost use Rattle.qp_model.specs.bounds.Printed.{printed};
 ghost use Rattle.bound_report.specs.Report.{One, report_head, bound_lines, violation_lines, numbered_violations, report_text, first_members, last_members, json_members, report_json};
 ghost use Rattle.bound_report.specs.Document.{strings_of, members_of, object_of, IsJsonLine};
 ghost use Rattle.serde_json.specs.Data.{string, put};

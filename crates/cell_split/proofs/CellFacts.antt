@@ -4,7 +4,7 @@ use Rattle.std.specs.declared.alloc.Global.{Global}
 use Rattle.std.proofs.lemmas.List.{drop_more, get_or-map, length-map, length_push, get_or_append_left, get_or_push}
 use Rattle.integer_algebra.specs.Sums.{at}
 use Rattle.mat_int.specs.Lines.{lists}
-use Rattle.qp_model.specs.Runs.{Holds}
+use Rattle.qp_model.specs.problem.Runs.{Holds}
 use Rattle.cell_split.specs.Cuts.{part_low}
 use Rattle.cell_split.specs.Cells.{cuts_of, part_of}
 use Rattle.cell_split.specs.Parts.{AreParts}

@@ -1,8 +1,8 @@
 -- Cells: combinations of parts are counted, and each grid state of the box lies in exactly one.
 use Rattle.std.proofs.Common.{◌≡◌, ℕ, zero, suc, ◌+◌, ◌-◌, ◌*◌, ◌/◌, ◌%◌, ◌<◌, ◌≤◌, ℤ, ◌≤ℤ◌, List, [], ◌∷◌, length, sym, ap, ◌∙◌, subst, arith}
 use Rattle.std.proofs.lemmas.Nat.{div-mul-add, mod-mul-add, mul-add-lt, div_below, mod_below, div-add-mod'}
-use Rattle.qp_model.specs.Design.{Design}
-use Rattle.qp_model.specs.Box.{IsGridState}
+use Rattle.qp_model.specs.problem.Design.{Design}
+use Rattle.qp_model.specs.problem.Box.{IsGridState}
 use Rattle.cell_split.specs.Cuts.{part_count, AreCuts}
 use Rattle.cell_split.specs.Cells.{cuts_of, cell_count, part_of, cell_of, AreCutsFor, IsCell, LiesInside, IsServed, SplitLaw}
 use Rattle.cell_split.proofs.PartLaws.{IsIn, found, same_part, low_above, high_below, some_number}

@@ -7,7 +7,7 @@ use Rattle.csv.specs.Records.{Row, fields_of}
 use Rattle.mat_int.specs.Lines.{lists}
 use Rattle.number_text.specs.declared.text_fault.TextFault.{TextFault}
 use Rattle.number_text.specs.declared.text_fault.TextFault.TheVariants.{Memory, Range, Count}
-use Rattle.qp_model.specs.Design.{Design}
+use Rattle.qp_model.specs.problem.Design.{Design}
 use Rattle.policy_file.specs.Records.{records_of, record_at}
 use Rattle.cell_split.specs.Cells.{cuts_of, cell_count, AreCutsFor}
 use Rattle.cell_split.specs.CutsText.{HoldsCuts, IsCutsFault, HoldsCoordinate, IsRecordFault, IsCountFault, HoldLists, IsCutsText, IsCutsTextFault}

@@ -6,7 +6,7 @@ use Rattle.std.proofs.lemmas.List.{ext_get_or}
 use Rattle.integer_algebra.specs.Sums.{at}
 use Rattle.number_text.specs.declared.text_fault.TextFault.{TextFault}
 use Rattle.number_text.specs.declared.text_fault.TextFault.TheVariants.{Memory, Number}
-use Rattle.qp_model.specs.Design.{Design}
+use Rattle.qp_model.specs.problem.Design.{Design}
 use Rattle.policy_file.specs.Records.{records_of, record_at, field_of}
 use Rattle.policy_file.proofs.UniqueFacts.{same_number, both_ways}
 use Rattle.cell_split.specs.Cuts.{part_low}

@@ -1,7 +1,7 @@
 -- The cells of a box whose coordinates are split: all combinations of parts.
 use Rattle.std.specs.Prelude.{◌≡◌, ℕ, zero, suc, ◌-◌, ◌*◌, ◌/◌, ◌%◌, ◌<◌, ◌≤◌, ℤ, ◌≤ℤ◌, List, [], ◌∷◌, length, get_or}
-use Rattle.qp_model.specs.Design.{Design}
-use Rattle.qp_model.specs.Box.{IsGridState}
+use Rattle.qp_model.specs.problem.Design.{Design}
+use Rattle.qp_model.specs.problem.Box.{IsGridState}
 use Rattle.cell_split.specs.Cuts.{part_low, part_high, part_count, AreCuts}
 
 -- the cuts of coordinate i, from 0

@@ -3,7 +3,7 @@ use Rattle.std.specs.Prelude.{◌≡◌, ◌≢◌, ◌⊎◌, ℕ, ◌+◌, ◌
 use Rattle.integer_algebra.specs.Sums.{at}
 use Rattle.number_text.specs.declared.text_fault.TextFault.{TextFault}
 use Rattle.number_text.specs.declared.text_fault.TextFault.TheVariants.{Range, Fields, Number, Count}
-use Rattle.qp_model.specs.Design.{Design}
+use Rattle.qp_model.specs.problem.Design.{Design}
 use Rattle.policy_file.specs.NumberField.{IsNumberField}
 use Rattle.policy_file.specs.Records.{records_of, record_at, field_of}
 use Rattle.cell_split.specs.Cuts.{IsCut}

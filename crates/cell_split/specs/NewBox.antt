@@ -1,7 +1,7 @@
 -- A box that a design can have in place of its own.
 use Rattle.std.specs.Prelude.{ℕ, ◌<◌, ◌≤ℤ◌}
 use Rattle.integer_algebra.specs.Sums.{at}
-use Rattle.qp_model.specs.Parts.{IsNumeratorList}
+use Rattle.qp_model.specs.problem.Parts.{IsNumeratorList}
 use Rattle.qp_model.specs.declared.design_parts.DesignParts.{DesignParts}
 use Rattle.cell_split.specs.declared.finder.StateBox.{StateBox}
 

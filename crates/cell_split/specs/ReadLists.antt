@@ -1,6 +1,6 @@
 -- Lists of cuts that were read one after the other.
 use Rattle.std.specs.Prelude.{◌≡◌, ℕ, ◌<◌, ◌≤◌, ℤ, List, length}
-use Rattle.qp_model.specs.Design.{Design}
+use Rattle.qp_model.specs.problem.Design.{Design}
 use Rattle.cell_split.specs.Cells.{cuts_of}
 use Rattle.cell_split.specs.CutsText.{HoldsCoordinate}
 

@@ -3,8 +3,8 @@ ghost use Rattle.std.specs.Prelude.{◌≡◌, ◌≤◌, ◌-◌, ℕ, ◌<◌,
 ghost use Rattle.integer_algebra.specs.Sums.{at};
 ghost use Rattle.mat_int.specs.Lines.{lists};
 ghost use Rattle.cell_split.specs.Cuts.{part_low, part_high};
-ghost use Rattle.qp_model.specs.Runs.{Holds};
-ghost use Rattle.qp_model.specs.Parts.{IsDesign, design_of};
+ghost use Rattle.qp_model.specs.problem.Runs.{Holds};
+ghost use Rattle.qp_model.specs.problem.Parts.{IsDesign, design_of};
 ghost use Rattle.cell_split.specs.Cells.{cuts_of, cell_low, cell_high, AreCutsFor, IsCell};
 ghost use Rattle.cell_split.specs.Parts.{AreParts, AreSized, AreBelow};
 

@@ -1,8 +1,8 @@
 // The design of a cell.
 ghost use Rattle.std.specs.Prelude.{◌≡◌, IfOk};
-ghost use Rattle.qp_model.specs.Parts.{IsDesign, design_of, design_numbers};
+ghost use Rattle.qp_model.specs.problem.Parts.{IsDesign, design_of, design_numbers};
 ghost use Rattle.integer_algebra.specs.Sums.{at};
-ghost use Rattle.qp_model.specs.Runs.{Holds};
+ghost use Rattle.qp_model.specs.problem.Runs.{Holds};
 ghost use Rattle.cell_split.specs.Cells.{cell_low, cell_high, AreCutsFor, IsCell};
 ghost use Rattle.cell_split.specs.NewBox.{IsNewBox};
 

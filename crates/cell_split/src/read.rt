@@ -2,7 +2,7 @@
 ghost use Rattle.std.specs.Prelude.{◌≡◌, ◌⊎◌, ℤ, List, ◌^◌, ◌<◌, length, map, IfOk, IfErr, MatchResult};
 ghost use Rattle.csv.specs.Records.{fields_of};
 ghost use Rattle.mat_int.specs.Lines.{lists};
-ghost use Rattle.qp_model.specs.Parts.{IsDesign, design_of};
+ghost use Rattle.qp_model.specs.problem.Parts.{IsDesign, design_of};
 ghost use Rattle.number_text.specs.declared.text_fault.TextFault.{TextFault};
 ghost use Rattle.number_text.specs.declared.text_fault.TextFault.TheVariants.{Memory};
 ghost use Rattle.policy_file.specs.Records.{records_of};

@@ -3,7 +3,7 @@ use Rattle.std.proofs.Common.{◌≡◌, ℕ, ◌*◌, ◌^◌, ◌<◌, ◌≤�
 use Rattle.std.specs.Int.{w128}
 use Rattle.std.proofs.lemmas.Int.{ints, unsigned_abs-mul, fits_signed_from_abs}
 use Rattle.std.proofs.lemmas.Nat.{mul-le}
-use Rattle.qp_model.specs.Range.{IsDenominator}
+use Rattle.qp_model.specs.problem.Range.{IsDenominator}
 
 den_is : (a : ℤ) → IsDenominator a → a ≡ pos (unsigned_abs a)
 den_is (pos n) h = refl

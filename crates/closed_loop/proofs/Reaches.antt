@@ -11,13 +11,13 @@ use Rattle.integer_algebra.specs.Sizes.{amount}
 use Rattle.integer_algebra.proofs.SizeLaws.{dot_bound}
 use Rattle.mat_int.specs.Matrix.{Matrix, row_of, entry_of}
 use Rattle.mat_int.proofs.Dots.{abs-add_le}
-use Rattle.qp_model.specs.Range.{IsNumerator}
-use Rattle.qp_model.specs.Design.{Design}
-use Rattle.qp_model.specs.Controller.{Numbers, IsSized}
-use Rattle.qp_model.specs.Machine.{IsAdmissible, loaded, averaged_plan}
-use Rattle.qp_model.specs.AbsoluteSums.{IsController, plan_magnitudes}
-use Rattle.qp_model.specs.Successor.{IsFor, grid_scale, next_sum}
-use Rattle.qp_model.specs.LoopSize.{coordinate_magnitude, state_absolute_sum, input_absolute_sum, turn_absolute_sum, turn_size}
+use Rattle.qp_model.specs.problem.Range.{IsNumerator}
+use Rattle.qp_model.specs.problem.Design.{Design}
+use Rattle.qp_model.specs.machine.Controller.{Numbers, IsSized}
+use Rattle.qp_model.specs.machine.Machine.{IsAdmissible, loaded, averaged_plan}
+use Rattle.qp_model.specs.machine.AbsoluteSums.{IsController, plan_magnitudes}
+use Rattle.qp_model.specs.machine.Successor.{IsFor, grid_scale, next_sum}
+use Rattle.qp_model.specs.machine.LoopSize.{coordinate_magnitude, state_absolute_sum, input_absolute_sum, turn_absolute_sum, turn_size}
 use Rattle.qp_model.proofs.SizeFacts.{greatest_term}
 use Rattle.qp_model.proofs.MagnitudeLaws.{state_within}
 use Rattle.overflow_check.proofs.Runs.{after_sums_le}

@@ -5,13 +5,13 @@ use Rattle.std.specs.Option.{SomeIff}
 use Rattle.std.proofs.lemmas.Bool.{cases_lt}
 use Rattle.std.proofs.lemmas.List.{append-nil}
 use Rattle.io_edge.specs.Faults.{Rose, GrowsByPart}
-use Rattle.qp_model.specs.Design.{Design}
-use Rattle.qp_model.specs.Controller.{Numbers}
-use Rattle.qp_model.specs.Machine.{IsAdmissible}
-use Rattle.qp_model.specs.Successor.{successor, state_after}
+use Rattle.qp_model.specs.problem.Design.{Design}
+use Rattle.qp_model.specs.machine.Controller.{Numbers}
+use Rattle.qp_model.specs.machine.Machine.{IsAdmissible}
+use Rattle.qp_model.specs.machine.Successor.{successor, state_after}
 use Rattle.qp_model.specs.declared.quantity.Quantity.{Quantity}
 use Rattle.qp_model.specs.declared.quantity.Quantity.TheVariants.{Turn}
-use Rattle.qp_model.specs.LoopLines.{loop_line, loop_text}
+use Rattle.qp_model.specs.text.LoopLines.{loop_line, loop_text}
 use Rattle.fixed_kernel.specs.Outside.{IsFirstOutside}
 use Rattle.closed_loop.specs.Answers.{StaysInside, LeavesAt, GrowsByTurns, GrowsByPrefix}
 use Rattle.closed_loop.specs.Shows.{TurnShows, LoopShows}

@@ -1,11 +1,11 @@
 -- What a closed loop meets and puts.
 use Rattle.std.specs.Prelude.{◌≡◌, ℕ, ◌+◌, ◌≤◌, ◌<◌, ℤ, List, ◌++◌}
-use Rattle.qp_model.specs.Design.{Design}
-use Rattle.qp_model.specs.Controller.{Numbers}
-use Rattle.qp_model.specs.Machine.{IsAdmissible}
+use Rattle.qp_model.specs.problem.Design.{Design}
+use Rattle.qp_model.specs.machine.Controller.{Numbers}
+use Rattle.qp_model.specs.machine.Machine.{IsAdmissible}
 use Rattle.fixed_kernel.specs.Outside.{IsFirstOutside}
-use Rattle.qp_model.specs.Successor.{state_after}
-use Rattle.qp_model.specs.LoopLines.{loop_text}
+use Rattle.qp_model.specs.machine.Successor.{state_after}
+use Rattle.qp_model.specs.text.LoopLines.{loop_text}
 
 -- the states of the first turns lie in the box
 pub record StaysInside (d : Design) (c : Numbers) (start : List ℤ) (turns : ℕ) : Type 0 where

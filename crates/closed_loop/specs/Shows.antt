@@ -1,10 +1,10 @@
 -- What a refusal of a turn, and of a loop, shows.
 use Rattle.std.specs.Prelude.{◌≡◌, ℕ, ◌-◌, ℤ, List, ◌++◌, Option, option_map, IfSome, IsSomeAnd}
 use Rattle.io_edge.specs.Faults.{Rose, GrowsByPart}
-use Rattle.qp_model.specs.Design.{Design}
-use Rattle.qp_model.specs.Controller.{Numbers}
-use Rattle.qp_model.specs.Machine.{IsAdmissible}
-use Rattle.qp_model.specs.LoopLines.{loop_line, loop_text}
+use Rattle.qp_model.specs.problem.Design.{Design}
+use Rattle.qp_model.specs.machine.Controller.{Numbers}
+use Rattle.qp_model.specs.machine.Machine.{IsAdmissible}
+use Rattle.qp_model.specs.text.LoopLines.{loop_line, loop_text}
 use Rattle.fixed_kernel.specs.Outside.{IsFirstOutside}
 use Rattle.closed_loop.specs.Answers.{LeavesAt, GrowsByTurns, GrowsByPrefix}
 use Rattle.closed_loop.specs.declared.fault.LoopFault.{LoopFault}

@@ -1,6 +1,6 @@
 // A loop line.
 ghost use Rattle.std.specs.Prelude.{◌≡◌, IfOk};
-ghost use Rattle.qp_model.specs.LoopLines.{loop_line};
+ghost use Rattle.qp_model.specs.text.LoopLines.{loop_line};
 
 use fixed_kernel::Kernel;
 use number_text::spaced_text;

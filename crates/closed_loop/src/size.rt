@@ -1,12 +1,12 @@
 // The quantity `turn`, computed. None stands for a number above `2^126`.
 ghost use Rattle.std.specs.Prelude.{◌≡◌, ◌≤◌, ◌<◌, ◌*◌, ◌^◌, pos, unsigned_abs, slice_index_or};
 ghost use Rattle.std.specs.Option.{SomeIff};
-ghost use Rattle.qp_model.specs.Controller.{numbers};
-ghost use Rattle.qp_model.specs.AbsoluteSums.{IsController, plan_magnitudes};
-ghost use Rattle.qp_model.specs.Parts.{IsDesign, design_of};
-ghost use Rattle.qp_model.specs.Quantities.{greatest};
-ghost use Rattle.qp_model.specs.Successor.{IsFor, grid_scale, next_over};
-ghost use Rattle.qp_model.specs.LoopSize.{coordinate_magnitude, state_absolute_sum, input_absolute_sum, turn_absolute_sum, turn_size};
+ghost use Rattle.qp_model.specs.machine.Controller.{numbers};
+ghost use Rattle.qp_model.specs.machine.AbsoluteSums.{IsController, plan_magnitudes};
+ghost use Rattle.qp_model.specs.problem.Parts.{IsDesign, design_of};
+ghost use Rattle.qp_model.specs.form.Quantities.{greatest};
+ghost use Rattle.qp_model.specs.machine.Successor.{IsFor, grid_scale, next_over};
+ghost use Rattle.qp_model.specs.machine.LoopSize.{coordinate_magnitude, state_absolute_sum, input_absolute_sum, turn_absolute_sum, turn_size};
 
 use frac_scaled::{limited_product, limited_sum, scaled};
 use overflow_check::{Controller, plan_entry_magnitude};

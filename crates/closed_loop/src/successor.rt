@@ -2,11 +2,11 @@
 ghost use Rattle.std.specs.Prelude.{◌≡◌, ℕ, ◌≤◌, ◌<◌, ◌^◌, length};
 ghost use Rattle.integer_algebra.specs.Sums.{at, image};
 ghost use Rattle.integer_algebra.specs.Division.{round_of, IsNearest};
-ghost use Rattle.qp_model.specs.AbsoluteSums.{IsController};
-ghost use Rattle.qp_model.specs.Machine.{IsAdmissible, averaged_plan};
-ghost use Rattle.qp_model.specs.Parts.{IsDesign, design_of};
-ghost use Rattle.qp_model.specs.Successor.{IsFor, next_sum, next_over, successor};
-ghost use Rattle.qp_model.specs.LoopSize.{turn_size};
+ghost use Rattle.qp_model.specs.machine.AbsoluteSums.{IsController};
+ghost use Rattle.qp_model.specs.machine.Machine.{IsAdmissible, averaged_plan};
+ghost use Rattle.qp_model.specs.problem.Parts.{IsDesign, design_of};
+ghost use Rattle.qp_model.specs.machine.Successor.{IsFor, next_sum, next_over, successor};
+ghost use Rattle.qp_model.specs.machine.LoopSize.{turn_size};
 
 use crate::size::{grid_scale, next_over};
 use fixed_kernel::Kernel;

@@ -1,11 +1,11 @@
 // A closed loop, turn by turn.
 ghost use Rattle.std.specs.Prelude.{◌≡◌, ℕ, ◌≤◌, ◌<◌, ◌-◌, ◌^◌, ◌↔◌, ◌⊎◌, ◌++◌, length, Err, option_map, OnOk, IsOk, IfErr, IfSome, IsSomeAnd};
 ghost use Rattle.io_edge.specs.Faults.{Rose};
-ghost use Rattle.qp_model.specs.Machine.{IsAdmissible};
-ghost use Rattle.qp_model.specs.Parts.{design_of};
-ghost use Rattle.qp_model.specs.Successor.{IsFor};
-ghost use Rattle.qp_model.specs.LoopSize.{turn_size};
-ghost use Rattle.qp_model.specs.LoopLines.{loop_line, loop_text};
+ghost use Rattle.qp_model.specs.machine.Machine.{IsAdmissible};
+ghost use Rattle.qp_model.specs.problem.Parts.{design_of};
+ghost use Rattle.qp_model.specs.machine.Successor.{IsFor};
+ghost use Rattle.qp_model.specs.machine.LoopSize.{turn_size};
+ghost use Rattle.qp_model.specs.text.LoopLines.{loop_line, loop_text};
 ghost use Rattle.closed_loop.specs.Answers.{StaysInside, LeavesAt, GrowsByTurns, GrowsByPrefix};
 ghost use Rattle.closed_loop.specs.Shows.{TurnShows, LoopShows};
 

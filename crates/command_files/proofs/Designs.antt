@@ -2,8 +2,8 @@
 use Rattle.std.proofs.Common.{◌≡◌, ap, length, unsigned_abs}
 use Rattle.integer_algebra.specs.Sums.{at}
 use Rattle.mat_int.specs.Matrix.{entry_of}
-use Rattle.qp_model.specs.Design.{Design}
-use Rattle.qp_model.specs.Parts.{DesignNumbers, design_numbers, design_of, cost_row, limit_row, final_row}
+use Rattle.qp_model.specs.problem.Design.{Design}
+use Rattle.qp_model.specs.problem.Parts.{DesignNumbers, design_numbers, design_of, cost_row, limit_row, final_row}
 use Rattle.qp_model.specs.declared.design_parts.DesignParts.{DesignParts}
 
 -- the design with these numbers

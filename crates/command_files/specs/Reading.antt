@@ -2,10 +2,10 @@
 use Rattle.std.specs.Prelude.{ℕ, List, Option}
 use Rattle.io_edge.specs.Faults.{Files}
 use Rattle.mat_int.specs.Matrix.{Matrix}
-use Rattle.qp_model.specs.Design.{Design}
-use Rattle.qp_model.specs.Policy.{Plans}
-use Rattle.qp_model.specs.Parts.{design_numbers}
-use Rattle.qp_model.specs.Controller.{Numbers}
+use Rattle.qp_model.specs.problem.Design.{Design}
+use Rattle.qp_model.specs.problem.Policy.{Plans}
+use Rattle.qp_model.specs.problem.Parts.{design_numbers}
+use Rattle.qp_model.specs.machine.Controller.{Numbers}
 use Rattle.qp_model.specs.declared.design_parts.DesignParts.{DesignParts}
 use Rattle.command_line.specs.Answers.{ReadsThen, IsRightFor, EndsReading}
 use Rattle.command_line.specs.declared.status.Status.{Status}

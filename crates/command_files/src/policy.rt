@@ -1,8 +1,8 @@
 // A policy's file.
 ghost use Rattle.std.specs.Prelude.{◌≡◌, IfOk, IfErr};
 ghost use Rattle.io_edge.specs.Faults.{NoneFalls};
-ghost use Rattle.qp_model.specs.Parts.{design_of};
-ghost use Rattle.qp_model.specs.Policy.{plans_of, IsPolicyFor};
+ghost use Rattle.qp_model.specs.problem.Parts.{design_of};
+ghost use Rattle.qp_model.specs.problem.Policy.{plans_of, IsPolicyFor};
 ghost use Rattle.command_files.specs.Reading.{IsPolicyRead, EndsPolicy};
 
 use crate::bytes::read_bytes;

@@ -5,10 +5,10 @@ use Rattle.io_edge.specs.Faults.{Files, Rose, NoneFalls}
 use Rattle.command_line.specs.Words.{word_of, IsGenerate, IsSolve, IsLoop, IsDemo}
 use Rattle.command_line.specs.Commands.{IsUsage}
 use Rattle.command_line.specs.Answers.{Contents, ForContents, IsAnswer, IsCaused}
-use Rattle.generate_command.specs.Generate.{GenerateCalls, GenerateReaches}
-use Rattle.solve_command.specs.Solve.{SolveCalls, SolveReaches, SolvePrints}
-use Rattle.loop_command.specs.Loop.{LoopCalls, LoopReaches, LoopStarts, LoopPrints, TellsLeaving}
-use Rattle.demo_command.specs.Demo.{DemoCalls, DemoPrints}
+use Rattle.command_generate.specs.Generate.{GenerateCalls, GenerateReaches}
+use Rattle.command_solve.specs.Solve.{SolveCalls, SolveReaches, SolvePrints}
+use Rattle.command_loop.specs.Loop.{LoopCalls, LoopReaches, LoopStarts, LoopPrints, TellsLeaving}
+use Rattle.command_demo.specs.Demo.{DemoCalls, DemoPrints}
 use Rattle.command_line.specs.declared.status.Status.{Status}
 use Rattle.command_line.specs.declared.status.Status.TheVariants.{Done, Usage, ReadFault, WriteFault}
 use Rattle.command_run.specs.Calls.{Calls}

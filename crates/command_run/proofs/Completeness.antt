@@ -3,9 +3,9 @@ use Rattle.std.proofs.Common.{◌≡◌, ◌⊎◌, inl, inr, ℕ, ◌≤◌, Li
 use Rattle.io_edge.specs.Faults.{Files, Rose}
 use Rattle.command_line.specs.Words.{word_of}
 use Rattle.command_line.specs.Answers.{Contents, ForContents, IsAnswer, IsCaused}
-use Rattle.generate_command.specs.Generate.{GenerateReaches}
-use Rattle.solve_command.specs.Solve.{SolveReaches}
-use Rattle.loop_command.specs.Loop.{LoopReaches}
+use Rattle.command_generate.specs.Generate.{GenerateReaches}
+use Rattle.command_solve.specs.Solve.{SolveReaches}
+use Rattle.command_loop.specs.Loop.{LoopReaches}
 use Rattle.command_line.specs.declared.status.Status.{Status}
 use Rattle.command_line.specs.declared.status.Status.TheVariants.{Done, Memory, Usage, ReadFault, WriteFault, Text, NoMargin, Curvature, TooManySteps, TooFine, TooWide, Controller, OutsideBox, Long, Mismatch}
 use Rattle.command_run.specs.Calls.{Calls, IsCalledFor}

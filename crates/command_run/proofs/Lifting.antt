@@ -5,10 +5,10 @@ use Rattle.command_line.specs.Words.{word_of, IsGenerate, IsSolve, IsLoop, IsDem
 use Rattle.command_line.specs.Commands.{IsUsage}
 use Rattle.command_line.specs.Answers.{Contents, AreTold, ForContents, IsAnswer}
 use Rattle.command_line.proofs.Composing.{told_at, told, for_contents}
-use Rattle.generate_command.specs.Generate.{GenerateCalls}
-use Rattle.solve_command.specs.Solve.{SolveCalls, SolvePrints}
-use Rattle.loop_command.specs.Loop.{LoopCalls, LoopPrints}
-use Rattle.demo_command.specs.Demo.{DemoCalls, DemoPrints}
+use Rattle.command_generate.specs.Generate.{GenerateCalls}
+use Rattle.command_solve.specs.Solve.{SolveCalls, SolvePrints}
+use Rattle.command_loop.specs.Loop.{LoopCalls, LoopPrints}
+use Rattle.command_demo.specs.Demo.{DemoCalls, DemoPrints}
 use Rattle.command_line.specs.declared.status.Status.{Status}
 use Rattle.command_line.specs.declared.status.Status.TheVariants.{Usage}
 use Rattle.command_run.specs.Calls.{Calls}

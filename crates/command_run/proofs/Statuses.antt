@@ -2,11 +2,11 @@
 use Rattle.std.proofs.Common.{◌≡◌, ◌⊎◌, inl, inr, ℕ, List, Option, sym, ◌∙◌}
 use Rattle.io_edge.specs.Faults.{Files}
 use Rattle.mat_int.specs.Matrix.{Matrix}
-use Rattle.qp_model.specs.Design.{Design}
-use Rattle.qp_model.specs.Parts.{design_of}
-use Rattle.qp_model.specs.Successor.{IsFor}
-use Rattle.qp_model.specs.Policy.{Plans}
-use Rattle.qp_model.specs.Controller.{Numbers}
+use Rattle.qp_model.specs.problem.Design.{Design}
+use Rattle.qp_model.specs.problem.Parts.{design_of}
+use Rattle.qp_model.specs.machine.Successor.{IsFor}
+use Rattle.qp_model.specs.problem.Policy.{Plans}
+use Rattle.qp_model.specs.machine.Controller.{Numbers}
 use Rattle.qp_model.specs.declared.design_parts.DesignParts.{DesignParts}
 use Rattle.number_text.specs.declared.text_fault.TextFault.{TextFault}
 use Rattle.number_text.specs.declared.text_fault.TextFault.TheVariants.{Memory as no_room}
@@ -18,12 +18,12 @@ use Rattle.command_line.specs.Commands.{IsUsage}
 use Rattle.command_line.specs.Answers.{Contents, FileHolds, IsFileRefused, ReadsThen, IsAnswer, ForContents, IsCaused}
 use Rattle.command_files.specs.Texts.{TellsFault, IsControllerFault, DesignRight, DesignWrong, PolicyRight, PolicyWrong, StatesRight, StatesWrong, ControllerRight, ControllerWrong}
 use Rattle.command_files.specs.Reading.{ReadsStates}
-use Rattle.controller_answer.specs.Made.{MakingCalls, status_of}
-use Rattle.generate_command.specs.Generate.{GenerateCalls}
-use Rattle.solve_command.specs.Inside.{RunsCall}
-use Rattle.solve_command.specs.Solve.{SolveCalls}
-use Rattle.loop_command.specs.Loop.{LoopCalls, LoopsCall, IsMismatch}
-use Rattle.demo_command.specs.Demo.{DemoCalls}
+use Rattle.command_controller.specs.Made.{MakingCalls, status_of}
+use Rattle.command_generate.specs.Generate.{GenerateCalls}
+use Rattle.command_solve.specs.Inside.{RunsCall}
+use Rattle.command_solve.specs.Solve.{SolveCalls}
+use Rattle.command_loop.specs.Loop.{LoopCalls, LoopsCall, IsMismatch}
+use Rattle.command_demo.specs.Demo.{DemoCalls}
 use Rattle.command_line.specs.declared.status.Status.{Status}
 use Rattle.command_line.specs.declared.status.Status.TheVariants.{Done, Usage, Text, Controller, Long}
 use Rattle.command_run.specs.Calls.{Calls}

@@ -4,10 +4,10 @@ use Rattle.io_edge.specs.Faults.{Files}
 use Rattle.command_line.specs.Words.{IsGenerate, IsSolve, IsLoop, IsDemo}
 use Rattle.command_line.specs.Commands.{IsUsage}
 use Rattle.command_line.specs.Answers.{Contents, AreTold}
-use Rattle.generate_command.specs.Generate.{GenerateCalls}
-use Rattle.solve_command.specs.Solve.{SolveCalls}
-use Rattle.loop_command.specs.Loop.{LoopCalls}
-use Rattle.demo_command.specs.Demo.{DemoCalls}
+use Rattle.command_generate.specs.Generate.{GenerateCalls}
+use Rattle.command_solve.specs.Solve.{SolveCalls}
+use Rattle.command_loop.specs.Loop.{LoopCalls}
+use Rattle.command_demo.specs.Demo.{DemoCalls}
 use Rattle.command_line.specs.declared.status.Status.{Status}
 use Rattle.command_line.specs.declared.status.Status.TheVariants.{Usage}
 

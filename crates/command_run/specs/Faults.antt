@@ -3,10 +3,10 @@ use Rattle.std.specs.Prelude.{◌≡◌, ◌⊎◌, ℕ, List}
 use Rattle.io_edge.specs.Faults.{Rose}
 use Rattle.command_line.specs.Words.{word_of, IsGenerate, IsSolve, IsLoop, IsDemo}
 use Rattle.command_line.specs.Answers.{Contents}
-use Rattle.generate_command.specs.Generate.{GenerateCalls, GenerateReaches}
-use Rattle.solve_command.specs.Solve.{SolveCalls, SolveReaches}
-use Rattle.loop_command.specs.Loop.{LoopReaches, LoopStarts}
-use Rattle.demo_command.specs.Demo.{DemoCalls}
+use Rattle.command_generate.specs.Generate.{GenerateCalls, GenerateReaches}
+use Rattle.command_solve.specs.Solve.{SolveCalls, SolveReaches}
+use Rattle.command_loop.specs.Loop.{LoopReaches, LoopStarts}
+use Rattle.command_demo.specs.Demo.{DemoCalls}
 use Rattle.command_line.specs.declared.status.Status.TheVariants.{Done}
 
 -- ---- the places

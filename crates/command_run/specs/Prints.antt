@@ -3,9 +3,9 @@ use Rattle.std.specs.Prelude.{◌≡◌, ℕ, List}
 use Rattle.command_line.specs.Words.{IsGenerate, IsSolve, IsLoop, IsDemo}
 use Rattle.command_line.specs.Commands.{IsUsage}
 use Rattle.command_line.specs.Answers.{Contents}
-use Rattle.solve_command.specs.Solve.{SolvePrints}
-use Rattle.loop_command.specs.Loop.{LoopPrints}
-use Rattle.demo_command.specs.Demo.{DemoPrints}
+use Rattle.command_solve.specs.Solve.{SolvePrints}
+use Rattle.command_loop.specs.Loop.{LoopPrints}
+use Rattle.command_demo.specs.Demo.{DemoPrints}
 use Rattle.command_line.specs.declared.status.Status.{Status}
 
 -- by the command and the answer, where the files hold this

@@ -6,18 +6,18 @@ ghost use Rattle.controller_file.specs.declared.bad_controller.BadController.The
 ghost use Rattle.command_line.specs.Words.{word_of, IsGenerate, IsDemo};
 ghost use Rattle.command_line.specs.Commands.{IsUsage};
 ghost use Rattle.command_line.specs.Answers.{ForContents, IsAnswer, IsCaused};
-ghost use Rattle.generate_command.specs.Generate.{IsGenerated, IsControllerCut, IsReportCut};
-ghost use Rattle.loop_command.specs.Loop.{TellsLeaving};
+ghost use Rattle.command_generate.specs.Generate.{IsGenerated, IsControllerCut, IsReportCut};
+ghost use Rattle.command_loop.specs.Loop.{TellsLeaving};
 ghost use Rattle.command_run.specs.Calls.{Calls, IsCalledFor};
 ghost use Rattle.command_run.specs.Prints.{Prints};
 ghost use Rattle.command_run.specs.Faults.{MayWrite, MayPrint, ReachesFile, PassesTests, WriteFailed, NoneRises};
 
+use command_demo::demo;
+use command_generate::generate;
 use command_line::{Command, Status, command_of};
-use demo_command::demo;
-use generate_command::generate;
+use command_loop::run_loops;
+use command_solve::solve;
 use io_edge::{Sink, Store, Words};
-use loop_command::run_loops;
-use solve_command::solve;
 use std::alloc::Global;
 
 /// Runs the command that the arguments are.

@@ -8,12 +8,12 @@ use Rattle.std.proofs.lemmas.List.{length-set, length-replicate, get_or-replicat
 use Rattle.integer_algebra.specs.Sums.{at, none}
 use Rattle.mat_int.specs.Matrix.{Matrix, row_of, entry_of, with_entry, zero_matrix}
 use Rattle.qp_model.specs.declared.design_parts.DesignParts.{DesignParts}
-use Rattle.qp_model.specs.Design.{Design}
-use Rattle.qp_model.specs.Parts.{design_of, IsDesign}
-use Rattle.qp_model.specs.Quantities.{growth, cost_width, limit_width, response_size, limit_entry_size}
+use Rattle.qp_model.specs.problem.Design.{Design}
+use Rattle.qp_model.specs.problem.Parts.{design_of, IsDesign}
+use Rattle.qp_model.specs.form.Quantities.{growth, cost_width, limit_width, response_size, limit_entry_size}
 use Rattle.qp_model.proofs.QuantityLaws.{tame, slim, narrow, unit_small}
 use Rattle.qp_model.proofs.SizeFacts.{some_cost, some_limit}
-use Rattle.qp_model.specs.Runs.{unit, Holds}
+use Rattle.qp_model.specs.problem.Runs.{unit, Holds}
 use Rattle.condensed_form.specs.Lists.{HoldsMatrix, with_column, RowsFit, CostsFit, UnitsFit}
 
 pub zeros : (n i : ℕ) → at (replicate n (pos 0)) i ≡ pos 0

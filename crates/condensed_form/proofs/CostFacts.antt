@@ -13,12 +13,12 @@ use Rattle.integer_algebra.proofs.SumLaws.{total_same}
 use Rattle.integer_algebra.proofs.SizeLaws.{total_size, at_size, size_same}
 use Rattle.integer_algebra.proofs.PowerLaws.{pow-two}
 use Rattle.qp_model.specs.declared.design_parts.DesignParts.{DesignParts}
-use Rattle.qp_model.specs.Design.{Design, entries}
-use Rattle.qp_model.specs.Parts.{design_of, IsDesign}
-use Rattle.qp_model.specs.Range.{IsPositive}
+use Rattle.qp_model.specs.problem.Design.{Design, entries}
+use Rattle.qp_model.specs.problem.Parts.{design_of, IsDesign}
+use Rattle.qp_model.specs.problem.Range.{IsPositive}
 use Rattle.std.specs.Int.{w128}
-use Rattle.qp_model.specs.Quantities.{weight_sum, response_size, cost_width, cost_entry_size}
-use Rattle.qp_model.specs.Runs.{counts, Holds}
+use Rattle.qp_model.specs.form.Quantities.{weight_sum, response_size, cost_width, cost_entry_size}
+use Rattle.qp_model.specs.problem.Runs.{counts, Holds}
 use Rattle.qp_model.proofs.RunLaws.{abs-add_le}
 use Rattle.qp_model.proofs.SizeFacts.{some_weight, some_cost}
 use Rattle.qp_model.proofs.QuantityLaws.{weights_size, plan_cost_size, target_width, powered_size}

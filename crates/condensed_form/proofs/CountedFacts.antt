@@ -6,9 +6,9 @@ use Rattle.std.proofs.lemmas.Bool.{lt-ltb, le-ltb}
 use Rattle.mat_int.specs.Lines.{lists}
 use Rattle.mat_int.specs.Matrix.{entry_of}
 use Rattle.qp_model.specs.declared.design_parts.DesignParts.{DesignParts}
-use Rattle.qp_model.specs.Design.{CostRow}
-use Rattle.qp_model.specs.Parts.{design_of, cost_row, IsDesign}
-use Rattle.qp_model.specs.Runs.{counted, bound_at}
+use Rattle.qp_model.specs.problem.Design.{CostRow}
+use Rattle.qp_model.specs.problem.Parts.{design_of, cost_row, IsDesign}
+use Rattle.qp_model.specs.problem.Runs.{counted, bound_at}
 use Rattle.qp_model.proofs.CountLaws.{counted_stage, counted_final}
 use Rattle.condensed_form.specs.Lists.{HoldsRows}
 

@@ -7,9 +7,9 @@ use Rattle.std.proofs.Math.Nat.{mul-le-mul_left, pow-le-pow_left}
 use Rattle.integer_algebra.proofs.PowerLaws.{pow-two}
 use Rattle.integer_algebra.specs.Sums.{at}
 use Rattle.qp_model.specs.declared.design_parts.DesignParts.{DesignParts}
-use Rattle.qp_model.specs.Parts.{design_of, IsDesign}
-use Rattle.qp_model.specs.Range.{IsDenominator, IsPositive}
-use Rattle.qp_model.specs.Quantities.{weight_sum, cost_width, limit_width, response_size, cost_entry_size, limit_entry_size}
+use Rattle.qp_model.specs.problem.Parts.{design_of, IsDesign}
+use Rattle.qp_model.specs.problem.Range.{IsDenominator, IsPositive}
+use Rattle.qp_model.specs.form.Quantities.{weight_sum, cost_width, limit_width, response_size, cost_entry_size, limit_entry_size}
 use Rattle.qp_model.proofs.SizeFacts.{some_weight}
 use Rattle.qp_model.proofs.QuantityLaws.{powered_size}
 use Rattle.condensed_form.specs.Form.{IsLeastInput, response_scale}

@@ -5,8 +5,8 @@ use Rattle.std.specs.Int.{w128}
 use Rattle.std.proofs.lemmas.Int.{ints}
 use Rattle.qp_model.specs.declared.quantity.Quantity.{Quantity}
 use Rattle.qp_model.specs.declared.quantity.Quantity.TheVariants.{Prediction, Hessian, Rows}
-use Rattle.qp_model.specs.Design.{Design}
-use Rattle.qp_model.specs.Quantities.{prediction_size, hessian_size, rows_size}
+use Rattle.qp_model.specs.problem.Design.{Design}
+use Rattle.qp_model.specs.form.Quantities.{prediction_size, hessian_size, rows_size}
 use Rattle.condensed_form.specs.Fault.{IsFirstWideIn, AreEntrySizes}
 use Rattle.condensed_form.specs.declared.fault.CondenseFault.{CondenseFault}
 use Rattle.condensed_form.specs.declared.fault.CondenseFault.TheVariants.{TooWide, Memory}

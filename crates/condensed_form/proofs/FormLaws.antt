@@ -12,19 +12,19 @@ use Rattle.integer_algebra.proofs.PowerLaws.{pow-two, pow_positive, four-pow}
 use Rattle.integer_algebra.proofs.Quoting.{by_ring, quotes}
 use Rattle.mat_int.specs.Matrix.{Matrix, entry_of}
 use Rattle.qp_model.specs.declared.design_parts.DesignParts.{DesignParts}
-use Rattle.qp_model.specs.Design.{Design, entries, rows}
-use Rattle.qp_model.specs.Parts.{design_of, IsDesign}
-use Rattle.qp_model.specs.Sound.{IsSound}
-use Rattle.qp_model.specs.Controller.{HasShape}
-use Rattle.qp_model.specs.Form.{farthest, spread_of, exact_form, HaveSameNumbers}
-use Rattle.qp_model.specs.Cost as cost
-use Rattle.qp_model.specs.Condensed as form
-use Rattle.qp_model.specs.Condensed.{IsCondensed}
-use Rattle.qp_model.specs.Curvature.{curvature}
-use Rattle.qp_model.specs.Convex.{IsConvex}
-use Rattle.qp_model.specs.Columns.{solve_matrix}
-use Rattle.qp_model.specs.Runs.{Agrees, bound_at}
-use Rattle.qp_model.specs.Quantities.{cost_entry_size, limit_entry_size, hessian_size, rows_size, limit_width}
+use Rattle.qp_model.specs.problem.Design.{Design, entries, rows}
+use Rattle.qp_model.specs.problem.Parts.{design_of, IsDesign}
+use Rattle.qp_model.specs.problem.Sound.{IsSound}
+use Rattle.qp_model.specs.machine.Controller.{HasShape}
+use Rattle.qp_model.specs.form.Form.{farthest, spread_of, exact_form, HaveSameNumbers}
+use Rattle.qp_model.specs.problem.Cost as cost
+use Rattle.qp_model.specs.form.Condensed as form
+use Rattle.qp_model.specs.form.Condensed.{IsCondensed}
+use Rattle.qp_model.specs.form.Curvature.{curvature}
+use Rattle.qp_model.specs.form.Convex.{IsConvex}
+use Rattle.qp_model.specs.form.Columns.{solve_matrix}
+use Rattle.qp_model.specs.problem.Runs.{Agrees, bound_at}
+use Rattle.qp_model.specs.form.Quantities.{cost_entry_size, limit_entry_size, hessian_size, rows_size, limit_width}
 use Rattle.qp_model.proofs.CurvatureLaws.{hessian_law, curvature_law}
 use Rattle.qp_model.proofs.AgreesLaws.{agrees_law}
 use Rattle.qp_model.proofs.SizeFacts.{some_entry, some_row}

@@ -9,10 +9,10 @@ use Rattle.integer_algebra.proofs.AmountLaws.{amount_mono}
 use Rattle.integer_algebra.proofs.PowerLaws.{pow-two}
 use Rattle.mat_int.specs.Matrix.{entry_of}
 use Rattle.qp_model.specs.declared.design_parts.DesignParts.{DesignParts}
-use Rattle.qp_model.specs.Design.{entries, rows}
-use Rattle.qp_model.specs.Parts.{design_of}
-use Rattle.qp_model.specs.Form.{farthest}
-use Rattle.qp_model.specs.Class.{hessian_in, rows_in}
+use Rattle.qp_model.specs.problem.Design.{entries, rows}
+use Rattle.qp_model.specs.problem.Parts.{design_of}
+use Rattle.qp_model.specs.form.Form.{farthest}
+use Rattle.qp_model.specs.form.Class.{hessian_in, rows_in}
 use Rattle.condensed_form.specs.declared.condensed.Condensed.{Condensed}
 use Rattle.condensed_form.specs.Form.{IsFormIn}
 use Rattle.condensed_form.proofs.CostFacts.{square_le}

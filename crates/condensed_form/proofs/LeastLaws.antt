@@ -3,10 +3,10 @@ use Rattle.std.proofs.Common.{◌≡◌, inl, inr, ℕ, zero, suc, ◌*◌, ◌<
 use Rattle.std.specs.Prelude.{unwrap_or}
 use Rattle.std.proofs.lemmas.Bool.{cases_lt, le-leb}
 use Rattle.std.proofs.lemmas.Bool.Decides.{leb_tells}
-use Rattle.qp_model.specs.Design.{Design}
-use Rattle.qp_model.specs.Form.{Form}
-use Rattle.qp_model.specs.CurvatureSize.{CoversSquaresOf, covering_exponent, floor_times, limit_squares}
-use Rattle.qp_model.specs.Least.{IsLeast, IsLeastBelow, least_up_to}
+use Rattle.qp_model.specs.problem.Design.{Design}
+use Rattle.qp_model.specs.form.Form.{Form}
+use Rattle.qp_model.specs.form.CurvatureSize.{CoversSquaresOf, covering_exponent, floor_times, limit_squares}
+use Rattle.qp_model.specs.bounds.Least.{IsLeast, IsLeastBelow, least_up_to}
 
 -- a test that is decided
 record IsTest (t : ℕ → Bool) (p : ℕ → Type 0) : Type 0 where

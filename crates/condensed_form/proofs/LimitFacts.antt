@@ -9,14 +9,14 @@ use Rattle.integer_algebra.specs.Sums.{at}
 use Rattle.integer_algebra.proofs.PowerLaws.{pow-two, pow_positive}
 use Rattle.integer_algebra.proofs.SizeLaws.{amount_same, amount_more, amount_next}
 use Rattle.qp_model.specs.declared.design_parts.DesignParts.{DesignParts}
-use Rattle.qp_model.specs.Class.{form_in, hessian_in, cost_row_in, rows_in, product_row_in, row_quantity, curvature_with, HasLoweringRoom}
-use Rattle.qp_model.specs.CurvatureSize.{CoversSquaresOf, limit_squares, floor_times}
-use Rattle.qp_model.specs.Design.{Design, entries, rows}
-use Rattle.qp_model.specs.Form.{Form, farthest}
-use Rattle.qp_model.specs.Least.{IsLeastBelow}
-use Rattle.qp_model.specs.Parts.{IsDesign, design_of}
-use Rattle.qp_model.specs.Quantities.{input_floor, growth, cost_width, weight_sum, prediction_size, cost_entry_size, hessian_size}
-use Rattle.qp_model.specs.Range.{IsDenominator}
+use Rattle.qp_model.specs.form.Class.{form_in, hessian_in, cost_row_in, rows_in, product_row_in, row_quantity, curvature_with, HasLoweringRoom}
+use Rattle.qp_model.specs.form.CurvatureSize.{CoversSquaresOf, limit_squares, floor_times}
+use Rattle.qp_model.specs.problem.Design.{Design, entries, rows}
+use Rattle.qp_model.specs.form.Form.{Form, farthest}
+use Rattle.qp_model.specs.bounds.Least.{IsLeastBelow}
+use Rattle.qp_model.specs.problem.Parts.{IsDesign, design_of}
+use Rattle.qp_model.specs.form.Quantities.{input_floor, growth, cost_width, weight_sum, prediction_size, cost_entry_size, hessian_size}
+use Rattle.qp_model.specs.problem.Range.{IsDenominator}
 use Rattle.qp_model.proofs.SoundLaws.{least-met, weight_at}
 use Rattle.condensed_form.specs.declared.condensed.Condensed.{Condensed}
 use Rattle.condensed_form.specs.Form.{IsFormIn}

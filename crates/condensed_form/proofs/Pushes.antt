@@ -4,7 +4,7 @@ use Rattle.std.proofs.lemmas.List.{length_push, get_or_push, get_or_append_left,
 use Rattle.std.specs.Prelude.{Vec}
 use Rattle.std.specs.declared.alloc.Global.{Global}
 use Rattle.mat_int.specs.Lines.{lists}
-use Rattle.qp_model.specs.Runs.{Holds}
+use Rattle.qp_model.specs.problem.Runs.{Holds}
 use Rattle.condensed_form.specs.Lists.{HoldsRows}
 
 -- no entries yet

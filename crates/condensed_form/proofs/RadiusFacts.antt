@@ -5,7 +5,7 @@ use Rattle.std.proofs.lemmas.List.{length-replicate}
 use Rattle.std.proofs.lemmas.List.Elements.{All-replicate}
 use Rattle.integer_algebra.specs.Sums.{at}
 use Rattle.mat_int.specs.Matrix.{Matrix, entry_of, zero_matrix}
-use Rattle.qp_model.specs.Controller.{HasShape}
+use Rattle.qp_model.specs.machine.Controller.{HasShape}
 use Rattle.condensed_form.specs.declared.condensed.Condensed.{Condensed}
 use Rattle.condensed_form.specs.Form.{HasRadii}
 use Rattle.condensed_form.specs.Numbers.{AreNoRadii}

@@ -6,12 +6,12 @@ use Rattle.integer_algebra.proofs.SumLaws.{total_same}
 use Rattle.integer_algebra.proofs.SizeLaws.{size_same}
 use Rattle.mat_int.specs.Matrix.{row_of}
 use Rattle.qp_model.specs.declared.design_parts.DesignParts.{DesignParts}
-use Rattle.qp_model.specs.Parts.{design_of, IsDesign}
+use Rattle.qp_model.specs.problem.Parts.{design_of, IsDesign}
 use Rattle.std.proofs.Math.Nat.{mul-le-mul_left}
 use Rattle.integer_algebra.specs.Sizes.{size, product_size}
-use Rattle.qp_model.specs.Design.{Design, rows}
-use Rattle.qp_model.specs.Runs.{run, row_at, limit_at, cost_run, counted, counts, Holds, TrajectoryFits}
-use Rattle.qp_model.specs.Trajectory.{lift}
+use Rattle.qp_model.specs.problem.Design.{Design, rows}
+use Rattle.qp_model.specs.problem.Runs.{run, row_at, limit_at, cost_run, counted, counts, Holds, TrajectoryFits}
+use Rattle.qp_model.specs.problem.Trajectory.{lift}
 use Rattle.qp_model.proofs.CountLaws.{cost_room, counted_stage, counted_final}
 use Rattle.qp_model.proofs.RunLaws.{run_within, product_within}
 use Rattle.qp_model.proofs.RowLaws.{row_room, stage_inside, remainder_inside}

@@ -6,7 +6,7 @@ use Rattle.std.proofs.lemmas.Grind.{div_ceil_times}
 use Rattle.std.proofs.Math.Nat.{mul-le-mul_left, mul-le-mul, pow-le-pow_right}
 use Rattle.integer_algebra.specs.Division.{ceil_div}
 use Rattle.integer_algebra.proofs.DivisionLaws.{le-mul-ceil_div, ceil_div-le}
-use Rattle.qp_model.specs.Least.{IsLeastBelow}
+use Rattle.qp_model.specs.bounds.Least.{IsLeastBelow}
 
 -- a quotient rounded up, by its bounds
 ceil_is : (a b n : ℕ) → 0 < b → a ≤ b * n → b * n < a + b → ceil_div a b ≡ n

@@ -9,7 +9,7 @@ use Rattle.integer_algebra.specs.Sizes.{product_size}
 use Rattle.integer_algebra.proofs.SumLaws.{total_same}
 use Rattle.integer_algebra.proofs.SizeLaws.{size_same, total_size}
 use Rattle.integer_algebra.proofs.PowerLaws.{pow_positive}
-use Rattle.qp_model.specs.Runs.{Holds}
+use Rattle.qp_model.specs.problem.Runs.{Holds}
 use Rattle.qp_model.proofs.RunLaws.{abs-mixed_le}
 use Rattle.condensed_form.proofs.Rooms.{read, narrow}
 use Rattle.condensed_form.proofs.StateFacts.{at-part, part_inside}

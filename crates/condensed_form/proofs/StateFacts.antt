@@ -7,8 +7,8 @@ use Rattle.integer_algebra.specs.Sums.{at, image}
 use Rattle.integer_algebra.proofs.SizeLaws.{size_same}
 use Rattle.integer_algebra.proofs.VectorLaws.{image_same}
 use Rattle.integer_algebra.proofs.PowerLaws.{pow_positive}
-use Rattle.qp_model.specs.Design.{Design}
-use Rattle.qp_model.specs.Runs.{run, Holds, TrajectoryFits}
+use Rattle.qp_model.specs.problem.Design.{Design}
+use Rattle.qp_model.specs.problem.Runs.{run, Holds, TrajectoryFits}
 use Rattle.qp_model.proofs.RunLaws.{run_within, row_within, plan_inside}
 use Rattle.condensed_form.specs.Lists.{NextFits}
 

@@ -2,7 +2,7 @@
 use Rattle.std.proofs.Common.{◌≡◌, ℕ, ◌<◌, ℤ, pos, List, length, set, replicate, ap, ◌∙◌}
 use Rattle.std.proofs.lemmas.List.{length-set, length-replicate}
 use Rattle.integer_algebra.specs.Sums.{at, none}
-use Rattle.qp_model.specs.Runs.{unit}
+use Rattle.qp_model.specs.problem.Runs.{unit}
 use Rattle.condensed_form.proofs.ColumnFacts.{at-unit, at-zeros}
 
 module _ (now made : List ℤ) (n : ℕ) (zero : made ≡ replicate n (pos 0)) where

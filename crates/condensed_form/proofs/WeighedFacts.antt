@@ -9,9 +9,9 @@ use Rattle.integer_algebra.proofs.RingLaws.{add_equations}
 use Rattle.integer_algebra.proofs.SumLaws.{total_same, total_scale}
 use Rattle.integer_algebra.proofs.PowerLaws.{pow-two}
 use Rattle.integer_algebra.proofs.Quoting.{by_ring, quotes}
-use Rattle.qp_model.specs.Design.{Design, CostRow, entries}
-use Rattle.qp_model.specs.Condensing.{condensed_of, cost_target}
-use Rattle.qp_model.specs.Runs.{unit, cost_run, counted, counts}
+use Rattle.qp_model.specs.problem.Design.{Design, CostRow, entries}
+use Rattle.qp_model.specs.form.Condensing.{condensed_of, cost_target}
+use Rattle.qp_model.specs.problem.Runs.{unit, cost_run, counted, counts}
 use Rattle.qp_model.proofs.RowLaws.{lift_power, stage_inside}
 use Rattle.qp_model.proofs.GramLaws.{gram_law, own_diagonal}
 use Rattle.condensed_form.specs.Costs.{plan_cost, state_cost, weight_of, target_of, weighed, own_cost}

@@ -2,10 +2,10 @@
 use Rattle.std.specs.Prelude.{ℕ, ◌*◌, ◌%◌, ◌^◌, ◌≤◌, ℤ, pos, ◌*ℤ◌, List, nat_eq, if◌then◌else◌}
 use Rattle.integer_algebra.specs.Sums.{dot, none, square}
 use Rattle.qp_model.specs.declared.design_parts.DesignParts.{DesignParts}
-use Rattle.qp_model.specs.Design.{Design, entries}
-use Rattle.qp_model.specs.Parts.{design_of, IsDesign}
-use Rattle.qp_model.specs.Runs.{unit, cost_run, counted, counts, Holds}
-use Rattle.qp_model.specs.Quantities.{cost_entry_size}
+use Rattle.qp_model.specs.problem.Design.{Design, entries}
+use Rattle.qp_model.specs.problem.Parts.{design_of, IsDesign}
+use Rattle.qp_model.specs.problem.Runs.{unit, cost_run, counted, counts, Holds}
+use Rattle.qp_model.specs.form.Quantities.{cost_entry_size}
 use Rattle.condensed_form.specs.Lists.{HoldsRows}
 
 -- of entry j of the plan

@@ -2,10 +2,10 @@
 use Rattle.std.specs.Prelude.{◌≡◌, ◌^◌, ◌<◌, ◌≤◌, Bool, ℤ, pos}
 use Rattle.qp_model.specs.declared.quantity.Quantity.{Quantity}
 use Rattle.qp_model.specs.declared.quantity.Quantity.TheVariants.{Prediction, Hessian, Rows}
-use Rattle.qp_model.specs.Design.{Design}
-use Rattle.qp_model.specs.Quantities.{hessian_size, rows_size}
-use Rattle.qp_model.specs.FineSizes.{is_fine}
-use Rattle.qp_model.specs.Class.{prediction_in, hessian_in, rows_in}
+use Rattle.qp_model.specs.problem.Design.{Design}
+use Rattle.qp_model.specs.form.Quantities.{hessian_size, rows_size}
+use Rattle.qp_model.specs.form.FineSizes.{is_fine}
+use Rattle.qp_model.specs.form.Class.{prediction_in, hessian_in, rows_in}
 
 -- the quantity is the first of `prediction`, `hessian` and `rows` that is above 2^126: of the exact numbers or of enclosures
 abbrev pub IsFirstWideIn : (fine : Bool) → Design → Quantity → Type 0

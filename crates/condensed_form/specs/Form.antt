@@ -4,15 +4,15 @@ use Rattle.integer_algebra.specs.Sums.{at}
 use Rattle.integer_algebra.specs.Sizes.{amount}
 use Rattle.mat_int.specs.Matrix.{entry_of}
 use Rattle.qp_model.specs.declared.design_parts.DesignParts.{DesignParts}
-use Rattle.qp_model.specs.Design.{Design, entries, rows}
-use Rattle.qp_model.specs.Parts.{design_of, IsDesign}
-use Rattle.qp_model.specs.Controller.{HasShape}
-use Rattle.qp_model.specs.Condensed as form
-use Rattle.qp_model.specs.Form.{Form, farthest, spread_of, HaveSameNumbers, IsFormFor}
-use Rattle.qp_model.specs.FineSizes.{is_fine}
-use Rattle.qp_model.specs.Class.{form_in, hessian_in, rows_in, cost_row_in}
-use Rattle.qp_model.specs.Columns.{solve_matrix}
-use Rattle.qp_model.specs.Convex.{IsConvex}
+use Rattle.qp_model.specs.problem.Design.{Design, entries, rows}
+use Rattle.qp_model.specs.problem.Parts.{design_of, IsDesign}
+use Rattle.qp_model.specs.machine.Controller.{HasShape}
+use Rattle.qp_model.specs.form.Condensed as form
+use Rattle.qp_model.specs.form.Form.{Form, farthest, spread_of, HaveSameNumbers, IsFormFor}
+use Rattle.qp_model.specs.form.FineSizes.{is_fine}
+use Rattle.qp_model.specs.form.Class.{form_in, hessian_in, rows_in, cost_row_in}
+use Rattle.qp_model.specs.form.Columns.{solve_matrix}
+use Rattle.qp_model.specs.form.Convex.{IsConvex}
 use Rattle.condensed_form.specs.declared.condensed.Condensed.{Condensed}
 
 -- the condensed form that the numbers are

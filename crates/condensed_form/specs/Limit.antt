@@ -1,10 +1,10 @@
 -- What the quantity `curvature` of a condensed form is made of.
 use Rattle.std.specs.Prelude.{◌≡◌, ℕ, ◌*◌, Bool, length}
 use Rattle.mat_int.specs.Matrix.{Matrix}
-use Rattle.qp_model.specs.Design.{Design}
-use Rattle.qp_model.specs.Quantities.{input_floor}
-use Rattle.qp_model.specs.CurvatureSize.{covering_exponent, curvature_of}
-use Rattle.qp_model.specs.Class.{form_in, cost_row_in, product_row_in}
+use Rattle.qp_model.specs.problem.Design.{Design}
+use Rattle.qp_model.specs.form.Quantities.{input_floor}
+use Rattle.qp_model.specs.form.CurvatureSize.{covering_exponent, curvature_of}
+use Rattle.qp_model.specs.form.Class.{form_in, cost_row_in, product_row_in}
 use Rattle.condensed_form.specs.declared.limit.Scales.{Scales}
 
 -- the quantity `curvature` of a class's form

@@ -3,10 +3,10 @@ use Rattle.std.specs.Prelude.{◌≡◌, ℕ, zero, suc, ◌+◌, ◌-◌, ◌*�
 use Rattle.integer_algebra.specs.Sums.{at}
 use Rattle.mat_int.specs.Matrix.{Matrix, row_of, entry_of, with_entry}
 use Rattle.integer_algebra.specs.Sizes.{product_size}
-use Rattle.qp_model.specs.Design.{Design, LimitRow}
+use Rattle.qp_model.specs.problem.Design.{Design, LimitRow}
 use Rattle.qp_model.specs.declared.design_parts.DesignParts.{DesignParts}
-use Rattle.qp_model.specs.Parts.{design_of, IsDesign}
-use Rattle.qp_model.specs.Runs.{run, Holds, TrajectoryFits, HasNarrowLimits, HasNarrowCosts, IsTame}
+use Rattle.qp_model.specs.problem.Parts.{design_of, IsDesign}
+use Rattle.qp_model.specs.problem.Runs.{run, Holds, TrajectoryFits, HasNarrowLimits, HasNarrowCosts, IsTame}
 
 -- m rows of n numbers
 pub record HoldsRows (rows : List (List ℤ)) (m n : ℕ) (f : ℕ → ℕ → ℤ) : Type 0 where

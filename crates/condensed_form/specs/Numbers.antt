@@ -2,8 +2,8 @@
 use Rattle.std.specs.Prelude.{◌≡◌, ℕ, ◌^◌, ℤ, pos, ◌+ℤ◌, ◌*ℤ◌, neg_ℤ, List, replicate}
 use Rattle.integer_algebra.specs.Sums.{none}
 use Rattle.mat_int.specs.Matrix.{Matrix, zero_matrix}
-use Rattle.qp_model.specs.Design.{Design, entries, rows}
-use Rattle.qp_model.specs.Runs.{unit, row_at, bound_at, Holds}
+use Rattle.qp_model.specs.problem.Design.{Design, entries, rows}
+use Rattle.qp_model.specs.problem.Runs.{unit, row_at, bound_at, Holds}
 use Rattle.condensed_form.specs.Costs.{plan_cost, state_cost, target_of, weighed, own_cost}
 use Rattle.condensed_form.specs.Lists.{HoldsMatrix}
 

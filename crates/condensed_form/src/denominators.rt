@@ -1,8 +1,8 @@
 // The denominators of the condensed form, and how much it bends a plan up at least.
 ghost use Rattle.std.specs.Prelude.{◌≡◌, ℕ, pos, ◌*◌, ◌^◌, ◌<◌, ◌≤◌, ◌≤ℤ◌, min, length, unsigned_abs};
 ghost use Rattle.integer_algebra.specs.Sums.{at};
-ghost use Rattle.qp_model.specs.Parts.{design_of, IsDesign};
-ghost use Rattle.qp_model.specs.Quantities.{cost_entry_size};
+ghost use Rattle.qp_model.specs.problem.Parts.{design_of, IsDesign};
+ghost use Rattle.qp_model.specs.form.Quantities.{cost_entry_size};
 ghost use Rattle.condensed_form.specs.Form.{IsLeastInput, response_scale};
 
 use frac_scaled::limited_product;

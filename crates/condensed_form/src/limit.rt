@@ -4,11 +4,11 @@ ghost use Rattle.integer_algebra.specs.Sizes.{amount};
 ghost use Rattle.integer_algebra.specs.Sums.{at};
 ghost use Rattle.mat_int.specs.Matrix.{entry_of};
 ghost use Rattle.qp_model.specs.declared.design_parts.DesignParts.{DesignParts};
-ghost use Rattle.qp_model.specs.Class.{form_in, row_quantity, curvature_with, HasLoweringRoom};
-ghost use Rattle.qp_model.specs.CurvatureSize.{CoversSquaresOf};
-ghost use Rattle.qp_model.specs.Form.{farthest};
-ghost use Rattle.qp_model.specs.Least.{IsLeastBelow};
-ghost use Rattle.qp_model.specs.Parts.{design_of};
+ghost use Rattle.qp_model.specs.form.Class.{form_in, row_quantity, curvature_with, HasLoweringRoom};
+ghost use Rattle.qp_model.specs.form.CurvatureSize.{CoversSquaresOf};
+ghost use Rattle.qp_model.specs.form.Form.{farthest};
+ghost use Rattle.qp_model.specs.bounds.Least.{IsLeastBelow};
+ghost use Rattle.qp_model.specs.problem.Parts.{design_of};
 ghost use Rattle.condensed_form.specs.Form.{IsFormIn, IsSomeForm};
 ghost use Rattle.condensed_form.specs.Limit.{curvature_in, AreAlike, IsScales};
 

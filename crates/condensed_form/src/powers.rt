@@ -1,6 +1,6 @@
 // The powers of the plant's denominator.
 ghost use Rattle.std.specs.Prelude.{◌≡◌, ◌≤◌, ◌^◌, pos, IfOk, unsigned_abs};
-ghost use Rattle.qp_model.specs.Parts.{IsDesign};
+ghost use Rattle.qp_model.specs.problem.Parts.{IsDesign};
 ghost use Rattle.condensed_form.specs.Lists.{ArePowers};
 
 use qp_model::DesignParts;

@@ -2,7 +2,7 @@
 ghost use Rattle.std.specs.Prelude.{◌<◌, ◌≤◌, ◌^◌, ◌*◌};
 ghost use Rattle.std.specs.Option.{SomeIff};
 ghost use Rattle.integer_algebra.specs.Division.{ceil_div};
-ghost use Rattle.qp_model.specs.Least.{IsLeastBelow};
+ghost use Rattle.qp_model.specs.bounds.Least.{IsLeastBelow};
 
 /// The least number s up to 40 with `factor * squares <= 2^s * unit * part`. No product leaves 128 bits, since the sides are divided
 /// by `part` first.

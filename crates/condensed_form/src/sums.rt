@@ -1,6 +1,6 @@
 // Exact sums of products in 128 bits.
 ghost use Rattle.std.specs.Prelude.{◌≡◌, ℕ, ◌≤◌, ◌<◌, ◌^◌, ◌*◌, ◌+◌, ◌+ℤ◌, ◌*ℤ◌, ◌≤ℤ◌, pos, length, unsigned_abs, IfOk};
-ghost use Rattle.qp_model.specs.Runs.{Holds};
+ghost use Rattle.qp_model.specs.problem.Runs.{Holds};
 ghost use Rattle.integer_algebra.specs.Sums.{at, dot};
 ghost use Rattle.integer_algebra.specs.Sizes.{product_size};
 

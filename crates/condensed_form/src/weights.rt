@@ -1,7 +1,7 @@
 // The weights and targets of the counted cost rows: the stage rows of stage 1, of stage 2 and so on, then the final rows.
 ghost use Rattle.std.specs.Prelude.{◌≡◌, ℕ, ◌*◌, ◌^◌, ◌<◌, ◌≤◌, ◌*ℤ◌, IfOk, unsigned_abs};
-ghost use Rattle.qp_model.specs.Parts.{design_of, IsDesign};
-ghost use Rattle.qp_model.specs.Runs.{counted, counts, Holds};
+ghost use Rattle.qp_model.specs.problem.Parts.{design_of, IsDesign};
+ghost use Rattle.qp_model.specs.problem.Runs.{counted, counts, Holds};
 ghost use Rattle.condensed_form.specs.Costs.{weight_of, target_of};
 
 use qp_model::DesignParts;

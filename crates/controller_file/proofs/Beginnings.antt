@@ -2,7 +2,7 @@
 use Rattle.std.proofs.Common.{◌≡◌, ℕ, ◌<◌, List, [], ◌∷◌, ◌++◌, length, get_or, take, drop, refl, sym, ap, subst, ◌∙◌, append_assoc, arith}
 use Rattle.std.specs.Prelude.{All}
 use Rattle.std.proofs.lemmas.List.{get_or_at, get_or_append_left, length-append, take_at, drop_at, take-append-drop}
-use Rattle.qp_model.specs.Controller.{Numbers, IsInForm, FitsWord}
+use Rattle.qp_model.specs.machine.Controller.{Numbers, IsInForm, FitsWord}
 use Rattle.controller_file.specs.Lines.{Keyed, no_line, IsKeyedLine, keyed_lines}
 use Rattle.controller_file.specs.Following.{IsBeginning}
 use Rattle.controller_file.proofs.Texts.{good_lines}

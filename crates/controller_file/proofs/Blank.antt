@@ -5,9 +5,9 @@ use Rattle.std.specs.Int.{w128}
 use Rattle.std.proofs.lemmas.Int.{ints}
 use Rattle.std.proofs.lemmas.List.{length-replicate, get_or-replicate}
 use Rattle.mat_int.specs.Matrix.{zero_matrix}
-use Rattle.qp_model.specs.Limits.{most_states, most_stages, most_rows}
-use Rattle.qp_model.specs.Range.{LiesIn, IsNumerator}
-use Rattle.qp_model.specs.Controller.{Numbers, HasShape, IsInForm, FitsWord}
+use Rattle.qp_model.specs.problem.Limits.{most_states, most_stages, most_rows}
+use Rattle.qp_model.specs.problem.Range.{LiesIn, IsNumerator}
+use Rattle.qp_model.specs.machine.Controller.{Numbers, HasShape, IsInForm, FitsWord}
 
 pub all_same : {X : Type 0} (P : X → Type 0) (x : X) → P x → (n : ℕ) → All P (replicate n x)
 all_same P x h n k d lt = subst P (sym (get_or-replicate n k x d (omega (arith, lt, length-replicate n x)))) h

@@ -6,8 +6,8 @@ use Rattle.std.proofs.Math.Nat.{mul-le-mul}
 use Rattle.std.proofs.lemmas.List.{length-map, length-append, length-replicate, take_at, drop_at, drop-drop, take-map, drop-map, get_or-map, get_or-replicate}
 use Rattle.std.proofs.lemmas.List.Elements.{recursion_from_All}
 use Rattle.mat_int.specs.Matrix.{Matrix}
-use Rattle.qp_model.specs.Range.{LiesIn}
-use Rattle.qp_model.specs.Controller.{Numbers, HasShape, IsInForm}
+use Rattle.qp_model.specs.problem.Range.{LiesIn}
+use Rattle.qp_model.specs.machine.Controller.{Numbers, HasShape, IsInForm}
 use Rattle.qp_model.proofs.VersionLaws.{states_le, stages_le, limits_le}
 use Rattle.controller_file.specs.declared.table.Sizes.{Sizes}
 use Rattle.controller_file.specs.declared.line.Line.{Line}

@@ -12,7 +12,7 @@ use Rattle.controller_file.specs.FirstLine.{IsOneLine, IsTextInForm, BeginsInFor
 use Rattle.controller_file.specs.Lines.{Keyed, no_line, spelled, keyed_lines}
 use Rattle.controller_file.specs.Following.{IsBeginning, IsWhole, BeginsWith, IsMost}
 use Rattle.controller_file.proofs.Cuts.{cut_some, line_pieces, text_cut}
-use Rattle.qp_model.specs.Controller.{Numbers}
+use Rattle.qp_model.specs.machine.Controller.{Numbers}
 use Rattle.controller_file.proofs.Texts.{keyed_text, good_lines}
 use Rattle.controller_file.proofs.Blocks.{few_lines}
 use Rattle.controller_file.proofs.Pushed.{text_append}

@@ -5,8 +5,8 @@ use Rattle.std.proofs.lemmas.Bool.{lt-ltb}
 use Rattle.std.proofs.lemmas.List.{append-nil, get_or_at}
 use Rattle.std.proofs.lemmas.List.Elements.{All-map}
 use Rattle.integer_algebra.specs.Sums.{at}
-use Rattle.qp_model.specs.Limits.{most_states, most_stages, most_rows}
-use Rattle.qp_model.specs.Range.{LiesIn}
+use Rattle.qp_model.specs.problem.Limits.{most_states, most_stages, most_rows}
+use Rattle.qp_model.specs.problem.Range.{LiesIn}
 use Rattle.controller_file.specs.declared.table.Sizes.{Sizes}
 use Rattle.controller_file.specs.Lines.{Keyed, keyed_line, no_line, Fits, line_in, small, Place, place, place_of}
 use Rattle.controller_file.specs.Table.{places, sizes_of, Says}

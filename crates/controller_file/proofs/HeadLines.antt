@@ -7,9 +7,9 @@ use Rattle.std.proofs.lemmas.Int.{ints}
 use Rattle.std.proofs.lemmas.List.{length-map, length-append, length-replicate, length-take-le, take-append-drop}
 use Rattle.std.proofs.lemmas.List.Elements.{All-from_recursion, recursion_from_All}
 use Rattle.integer_algebra.specs.Sums.{at}
-use Rattle.qp_model.specs.Limits.{most_states, most_stages, most_rows}
-use Rattle.qp_model.specs.Range.{LiesIn, IsNumerator}
-use Rattle.qp_model.specs.Controller.{Numbers, plan_length, HasShape, IsInForm, FitsWord}
+use Rattle.qp_model.specs.problem.Limits.{most_states, most_stages, most_rows}
+use Rattle.qp_model.specs.problem.Range.{LiesIn, IsNumerator}
+use Rattle.qp_model.specs.machine.Controller.{Numbers, plan_length, HasShape, IsInForm, FitsWord}
 use Rattle.controller_file.specs.declared.table.Sizes.{Sizes}
 use Rattle.controller_file.specs.Lines.{Keyed, keyed_line, row_lines, keyed_exponents, keyed_lines, chained, place, place_of}
 use Rattle.controller_file.specs.Following.{IsBeginning, IsFrom, AreSizes, AreBits, AreUpper}

@@ -5,7 +5,7 @@ use Rattle.std.specs.List.{AllByRecursion}
 use Rattle.std.proofs.lemmas.List.{length-map, map-append, nil_from_length, length-take-le, take-append-drop}
 use Rattle.std.proofs.lemmas.List.Elements.{All-from_recursion, recursion_from_All}
 use Rattle.mat_int.specs.Matrix.{Matrix}
-use Rattle.qp_model.specs.Controller.{Numbers, plan_length, HasShape, IsInForm, FitsWord}
+use Rattle.qp_model.specs.machine.Controller.{Numbers, plan_length, HasShape, IsInForm, FitsWord}
 use Rattle.controller_file.specs.declared.table.Sizes.{Sizes}
 use Rattle.controller_file.specs.Lines.{Keyed, keyed_line, row_lines, Fits, chained, keyed_lines, Place, place, place_of}
 use Rattle.controller_file.specs.Table.{text_table, spread, places, sizes_of, Says}

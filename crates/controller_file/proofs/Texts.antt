@@ -9,10 +9,10 @@ use Rattle.std.proofs.lemmas.List.Sums.{AllPass-from_list_all}
 use Rattle.std.proofs.lemmas.List.Elements.{All-map, All-from_recursion, recursion_from_All}
 use Rattle.std.proofs.lemmas.Int.{ints}
 use Rattle.mat_int.specs.Matrix.{Matrix}
-use Rattle.qp_model.specs.Range.{IsNumerator}
+use Rattle.qp_model.specs.problem.Range.{IsNumerator}
 use Rattle.number_text.specs.Lines.{line_of, text_of}
-use Rattle.qp_model.specs.Controller.{Numbers, IsInForm, FitsWord}
-use Rattle.qp_model.specs.ControllerText.{controller_lines, controller_text}
+use Rattle.qp_model.specs.machine.Controller.{Numbers, IsInForm, FitsWord}
+use Rattle.qp_model.specs.text.ControllerText.{controller_lines, controller_text}
 use Rattle.controller_file.specs.Lines.{Keyed, keyed_line, spelled, Fits, IsKeyedLine, row_lines, line_blocks, keyed_lines}
 use Rattle.controller_file.specs.Table.{AreSmall}
 use Rattle.controller_file.proofs.Chained.{all_chained, all_blocks, map_chained}

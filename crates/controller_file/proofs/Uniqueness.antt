@@ -10,8 +10,8 @@ use Rattle.std.proofs.lemmas.Str.Parse.{digit_at}
 use Rattle.std.proofs.lemmas.List.{drop_at, length-map, same_from_push}
 use Rattle.std.proofs.lemmas.List.Splits.{slice_split_at, join_with_byte-slice_split}
 use Rattle.number_text.specs.Lines.{text_of}
-use Rattle.qp_model.specs.Controller.{Numbers, IsInForm, FitsWord}
-use Rattle.qp_model.specs.ControllerText.{IsControllerText}
+use Rattle.qp_model.specs.machine.Controller.{Numbers, IsInForm, FitsWord}
+use Rattle.qp_model.specs.text.ControllerText.{IsControllerText}
 use Rattle.number_text.proofs.Pieces.{ArePieces, split_text}
 use Rattle.controller_file.specs.FirstLine.{IsTextInForm}
 use Rattle.controller_file.specs.Laws.{HasOneController, HasNoPrefix}

@@ -1,9 +1,9 @@
 -- The first line of bytes at which they are no controller text.
 use Rattle.std.specs.Prelude.{◌≡◌, ◌≢◌, ℕ, ◌≤◌, ◌<◌, List, ◌++◌, length, All}
 use Rattle.number_text.specs.Lines.{text_of}
-use Rattle.qp_model.specs.Controller.{Numbers, IsInForm, FitsWord}
-use Rattle.qp_model.specs.AbsoluteSums.{IsController}
-use Rattle.qp_model.specs.ControllerText.{controller_text}
+use Rattle.qp_model.specs.machine.Controller.{Numbers, IsInForm, FitsWord}
+use Rattle.qp_model.specs.machine.AbsoluteSums.{IsController}
+use Rattle.qp_model.specs.text.ControllerText.{controller_text}
 
 -- the bytes are the text of these numbers, which have the shapes and ranges of a controller's; nothing is said of their sums
 pub record IsTextInForm (bytes : List ℕ) (c : Numbers) : Type 0 where

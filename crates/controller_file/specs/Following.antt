@@ -1,10 +1,10 @@
 -- Lines with which a text in form begins, and what the numbers of each line must be.
 use Rattle.std.specs.Prelude.{◌≡◌, ℕ, zero, suc, ◌+◌, ◌-◌, ◌*◌, ◌^◌, ◌≤◌, ℤ, pos, ◌≤ℤ◌, List, ◌++◌, length, map, take, All, ◌==◌, ◌&&◌, nat_lt, if◌then◌else◌}
 use Rattle.integer_algebra.specs.Sums.{at}
-use Rattle.qp_model.specs.Limits.{text_version, last_version, most_states, most_inputs, most_stages, most_rows}
-use Rattle.qp_model.specs.Range.{IsNumerator}
-use Rattle.qp_model.specs.PartRules.{AreHighs}
-use Rattle.qp_model.specs.Controller.{Numbers, IsInForm, FitsWord}
+use Rattle.qp_model.specs.problem.Limits.{text_version, last_version, most_states, most_inputs, most_stages, most_rows}
+use Rattle.qp_model.specs.problem.Range.{IsNumerator}
+use Rattle.qp_model.specs.problem.PartRules.{AreHighs}
+use Rattle.qp_model.specs.machine.Controller.{Numbers, IsInForm, FitsWord}
 use Rattle.controller_file.specs.declared.table.Sizes.{Sizes}
 use Rattle.controller_file.specs.Lines.{Keyed, keyed_lines, spelled, line_in}
 

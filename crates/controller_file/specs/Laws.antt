@@ -1,7 +1,7 @@
 -- What is said of all controller texts.
 use Rattle.std.specs.Prelude.{◌≡◌, ℕ, List, [], ◌++◌}
-use Rattle.qp_model.specs.Controller.{Numbers}
-use Rattle.qp_model.specs.ControllerText.{IsControllerText}
+use Rattle.qp_model.specs.machine.Controller.{Numbers}
+use Rattle.qp_model.specs.text.ControllerText.{IsControllerText}
 
 -- a text is the text of one controller
 abbrev pub HasOneController : Type 0

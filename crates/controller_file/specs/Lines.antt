@@ -2,8 +2,8 @@
 use Rattle.std.specs.Prelude.{ℕ, ◌<◌, ◌^◌, ℤ, pos, negsuc, List, [], ◌∷◌, ◌++◌, length, map, codes, All, FitsSigned, ◌==◌, if◌then◌else◌, nat_lt, slice_index_or}
 use Rattle.std.specs.Int.{w128}
 use Rattle.number_text.specs.Lines.{line_of}
-use Rattle.qp_model.specs.Limits.{text_version}
-use Rattle.qp_model.specs.Controller.{Numbers}
+use Rattle.qp_model.specs.problem.Limits.{text_version}
+use Rattle.qp_model.specs.machine.Controller.{Numbers}
 use Rattle.controller_file.specs.declared.line.Line.{Line}
 
 -- a line's word and its numbers

@@ -2,8 +2,8 @@
 use Rattle.std.specs.Prelude.{◌≡◌, ℕ, ◌*◌, ℤ, List, [], map, replicate, ◌==◌, if◌then◌else◌, slice_index_or}
 use Rattle.integer_algebra.specs.Sums.{at}
 use Rattle.mat_int.specs.Matrix.{Matrix}
-use Rattle.qp_model.specs.Limits.{text_version}
-use Rattle.qp_model.specs.Controller.{Numbers}
+use Rattle.qp_model.specs.problem.Limits.{text_version}
+use Rattle.qp_model.specs.machine.Controller.{Numbers}
 use Rattle.controller_file.specs.declared.parts.Front.{Front}
 use Rattle.controller_file.specs.declared.parts.Back.{Back}
 use Rattle.controller_file.specs.Lines.{Keyed, line_in, small}

@@ -1,6 +1,6 @@
 -- Which lines a text has, by its version and its sizes.
 use Rattle.std.specs.Prelude.{◌≡◌, ℕ, ◌+◌, ◌-◌, ◌*◌, ◌<◌, ◌≤◌, pos, List, [], ◌∷◌, length, map, replicate, codes, slice_index_or}
-use Rattle.qp_model.specs.Controller.{Numbers}
+use Rattle.qp_model.specs.machine.Controller.{Numbers}
 use Rattle.controller_file.specs.declared.table.Sizes.{Sizes}
 use Rattle.controller_file.specs.Lines.{Keyed, Place, place, line_in, chained}
 

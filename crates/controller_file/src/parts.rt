@@ -1,6 +1,6 @@
 // A controller's numbers from the lines of its text.
 ghost use Rattle.std.specs.Prelude.{◌≡◌, ◌<◌, [], IfOk, All, length, map, take, slice_index_or};
-ghost use Rattle.qp_model.specs.Controller.{Numbers, numbers, IsInForm};
+ghost use Rattle.qp_model.specs.machine.Controller.{Numbers, numbers, IsInForm};
 ghost use Rattle.controller_file.specs.Lines.{views, line_blocks, keyed_lines, small};
 ghost use Rattle.controller_file.specs.Table.{text_table, block_at, sizes_of, total_rows, AreSmall};
 ghost use Rattle.controller_file.specs.Following.{IsWhole};

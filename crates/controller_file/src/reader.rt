@@ -1,8 +1,8 @@
 // A controller from its text.
 ghost use Rattle.std.specs.Prelude.{◌≡◌, ◌≢◌, ◌⊎◌, ℕ, [], ◌∷◌, ◌++◌, ◌↔◌, Err, IsTrue, IfOk, IfSome, IfNone, MatchResult, map, take, length};
 ghost use Rattle.number_text.specs.Lines.{text_of};
-ghost use Rattle.qp_model.specs.Controller.{Numbers};
-ghost use Rattle.qp_model.specs.ControllerText.{IsControllerText};
+ghost use Rattle.qp_model.specs.machine.Controller.{Numbers};
+ghost use Rattle.qp_model.specs.text.ControllerText.{IsControllerText};
 ghost use Rattle.controller_file.specs.FirstLine.{IsBadLine, IsUnsafe};
 ghost use Rattle.controller_file.specs.Lines.{Keyed, view, views, spelled};
 ghost use Rattle.controller_file.specs.Following.{IsBeginning, IsWhole, IsMost};

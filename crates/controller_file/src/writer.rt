@@ -1,9 +1,9 @@
 // The text of a controller.
 ghost use Rattle.std.specs.Prelude.{◌≡◌, ◌<◌, ◌++◌, IfOk, OnOk, All, FitsSigned, pos, string_bytes, codes, map, slice_index_or, []};
 ghost use Rattle.std.specs.Int.{w128};
-ghost use Rattle.qp_model.specs.Controller.{numbers, IsInForm, FitsWord};
+ghost use Rattle.qp_model.specs.machine.Controller.{numbers, IsInForm, FitsWord};
 ghost use Rattle.number_text.specs.Lines.{text_of};
-ghost use Rattle.qp_model.specs.ControllerText.{matrix_lines, controller_text, IsControllerText};
+ghost use Rattle.qp_model.specs.text.ControllerText.{matrix_lines, controller_text, IsControllerText};
 ghost use Rattle.controller_file.specs.Lines.{Fits, spelled, line_blocks};
 ghost use Rattle.controller_file.specs.Table.{text_table, sizes_of};
 

@@ -10,9 +10,9 @@ use Rattle.integer_algebra.proofs.SizeLaws.{size_same}
 use Rattle.mat_int.specs.Row as lists
 use Rattle.mat_int.proofs.Indices.{abs_sum_is}
 use Rattle.qp_model.proofs.SizeFacts.{greatest_term}
-use Rattle.qp_model.specs.Form.{Form}
-use Rattle.qp_model.specs.Columns.{columns, column_size, solve_column, descent_size}
-use Rattle.qp_model.specs.Quantities.{greatest}
+use Rattle.qp_model.specs.form.Form.{Form}
+use Rattle.qp_model.specs.form.Columns.{columns, column_size, solve_column, descent_size}
+use Rattle.qp_model.specs.form.Quantities.{greatest}
 use Rattle.approx_inverse.specs.Inverse.{HasGainSizes}
 use Rattle.approx_inverse.specs.declared.inverse.Inverse.{Inverse}
 

@@ -1,10 +1,10 @@
 -- What a design's form has of the design, of whichever class it is.
 use Rattle.std.proofs.Common.{◌≡◌, ℕ, ◌+◌, Bool, true, false, arith, refl}
-use Rattle.qp_model.specs.Design.{Design, entries, rows}
-use Rattle.qp_model.specs.Form.{Form}
-use Rattle.qp_model.specs.FineSizes.{is_fine}
-use Rattle.qp_model.specs.Class.{form_in, form_of}
-use Rattle.qp_model.specs.Columns.{columns}
+use Rattle.qp_model.specs.problem.Design.{Design, entries, rows}
+use Rattle.qp_model.specs.form.Form.{Form}
+use Rattle.qp_model.specs.form.FineSizes.{is_fine}
+use Rattle.qp_model.specs.form.Class.{form_in, form_of}
+use Rattle.qp_model.specs.form.Columns.{columns}
 
 -- its sizes
 record IsSizedAs (d : Design) (h : Form) : Type 0 where

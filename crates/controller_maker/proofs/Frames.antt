@@ -7,17 +7,17 @@ use Rattle.std.proofs.lemmas.Nat.{mul-le}
 use Rattle.std.proofs.lemmas.List.FromFn.{fill_by_all}
 use Rattle.integer_algebra.specs.Sums.{at}
 use Rattle.mat_int.specs.Matrix.{Matrix}
-use Rattle.qp_model.specs.Class.{form_of}
+use Rattle.qp_model.specs.form.Class.{form_of}
 use Rattle.qp_model.specs.declared.design_parts.DesignParts.{DesignParts}
-use Rattle.qp_model.specs.Design.{Design, entries, rows}
-use Rattle.qp_model.specs.Limits.{most_stages, most_rows}
-use Rattle.qp_model.specs.Parts.{IsDesign, design_of}
-use Rattle.qp_model.specs.Range.{LiesIn}
-use Rattle.qp_model.specs.Columns.{column_bound, solve_matrix, solve_column}
-use Rattle.qp_model.specs.Built.{gain_column}
-use Rattle.qp_model.specs.GoodSolution.{IsGood}
-use Rattle.qp_model.specs.Controller.{Numbers, IsSized, IsShaped, HasShape}
-use Rattle.qp_model.specs.AbsoluteSums.{greatest_sum, IsController}
+use Rattle.qp_model.specs.problem.Design.{Design, entries, rows}
+use Rattle.qp_model.specs.problem.Limits.{most_stages, most_rows}
+use Rattle.qp_model.specs.problem.Parts.{IsDesign, design_of}
+use Rattle.qp_model.specs.problem.Range.{LiesIn}
+use Rattle.qp_model.specs.form.Columns.{column_bound, solve_matrix, solve_column}
+use Rattle.qp_model.specs.bounds.Built.{gain_column}
+use Rattle.qp_model.specs.form.GoodSolution.{IsGood}
+use Rattle.qp_model.specs.machine.Controller.{Numbers, IsSized, IsShaped, HasShape}
+use Rattle.qp_model.specs.machine.AbsoluteSums.{greatest_sum, IsController}
 use Rattle.qp_model.proofs.SizeFacts.{some_row}
 use Rattle.overflow_check.specs.Width.{IsWidth}
 use Rattle.overflow_check.proofs.SumLaws.{sums_fit}

@@ -6,8 +6,8 @@ use Rattle.std.proofs.lemmas.Nat.{mul-le, pow_pos}
 use Rattle.integer_algebra.specs.Division.{ceil_div}
 use Rattle.integer_algebra.specs.Sums.{at}
 use Rattle.mat_int.specs.Matrix.{row_of}
-use Rattle.qp_model.specs.Controller.{Numbers}
-use Rattle.qp_model.specs.AbsoluteSums.{weighted_abs_sum, state_magnitudes, clamp_magnitudes, entry_absolute_sum, plan_magnitudes, row_absolute_sum, next_magnitude, sum_magnitude, greatest_of, greatest_sum}
+use Rattle.qp_model.specs.machine.Controller.{Numbers}
+use Rattle.qp_model.specs.machine.AbsoluteSums.{weighted_abs_sum, state_magnitudes, clamp_magnitudes, entry_absolute_sum, plan_magnitudes, row_absolute_sum, next_magnitude, sum_magnitude, greatest_of, greatest_sum}
 use Rattle.qp_model.proofs.AbsoluteLaws.{ceil_div_mono}
 use Rattle.overflow_check.proofs.Greatest.{greatest-parts, greatest-map_more}
 

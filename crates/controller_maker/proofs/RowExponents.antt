@@ -2,7 +2,7 @@
 use Rattle.std.proofs.Common.{◌≡◌, ℕ, ◌≤◌, List, length, replicate, ap, ◌∙◌, le_refl}
 use Rattle.std.proofs.lemmas.List.{length-replicate}
 use Rattle.std.proofs.lemmas.List.Elements.{All-replicate}
-use Rattle.qp_model.specs.Design.{Design, rows}
+use Rattle.qp_model.specs.problem.Design.{Design, rows}
 use Rattle.controller_maker.specs.Assembled.{HasExponents}
 
 -- where each is s

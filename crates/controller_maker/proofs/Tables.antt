@@ -4,8 +4,8 @@ use Rattle.std.proofs.lemmas.Bool.Decides.{nat_tests}
 use Rattle.std.proofs.lemmas.List.FromFn.{get_or-map-range_with_len, length-map-range_with_len}
 use Rattle.integer_algebra.specs.Sums.{at}
 use Rattle.mat_int.specs.Matrix.{Matrix, row_of, entry_of, HasEntries}
-use Rattle.qp_model.specs.Design.{Design, entries}
-use Rattle.qp_model.specs.Controller.{Numbers, HasShape, plan_length}
+use Rattle.qp_model.specs.problem.Design.{Design, entries}
+use Rattle.qp_model.specs.machine.Controller.{Numbers, HasShape, plan_length}
 use Rattle.approx_inverse.specs.Inverse.{solution_of}
 use Rattle.approx_inverse.specs.declared.inverse.Inverse.{Inverse}
 use Rattle.controller_maker.specs.Widest.{listed, table}

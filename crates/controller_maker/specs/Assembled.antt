@@ -1,16 +1,16 @@
 -- What the parts of a controller are that is made of a design's condensed form and its chosen numbers.
 use Rattle.std.specs.Prelude.{◌≡◌, ℕ, ◌+◌, ◌*◌, ◌^◌, ◌<◌, ◌≤◌, pos, List, length, All, replicate}
 use Rattle.mat_int.specs.Matrix.{HasEntries}
-use Rattle.qp_model.specs.Form.{Form}
-use Rattle.qp_model.specs.Class.{form_of}
-use Rattle.qp_model.specs.Design.{Design, entries, rows}
-use Rattle.qp_model.specs.Limits.{text_version}
-use Rattle.qp_model.specs.Runs.{Holds}
-use Rattle.qp_model.specs.Columns.{columns, column_bound, solve_matrix, solve_column}
-use Rattle.qp_model.specs.GoodSolution.{IsGood}
-use Rattle.qp_model.specs.Controller.{Numbers}
-use Rattle.qp_model.specs.Built.{HasSizesOf, HasRowsOf, gain_column}
-use Rattle.qp_model.specs.AbsoluteSums.{greatest_sum}
+use Rattle.qp_model.specs.form.Form.{Form}
+use Rattle.qp_model.specs.form.Class.{form_of}
+use Rattle.qp_model.specs.problem.Design.{Design, entries, rows}
+use Rattle.qp_model.specs.problem.Limits.{text_version}
+use Rattle.qp_model.specs.problem.Runs.{Holds}
+use Rattle.qp_model.specs.form.Columns.{columns, column_bound, solve_matrix, solve_column}
+use Rattle.qp_model.specs.form.GoodSolution.{IsGood}
+use Rattle.qp_model.specs.machine.Controller.{Numbers}
+use Rattle.qp_model.specs.bounds.Built.{HasSizesOf, HasRowsOf, gain_column}
+use Rattle.qp_model.specs.machine.AbsoluteSums.{greatest_sum}
 use Rattle.overflow_check.specs.Width.{IsWidth}
 use Rattle.approx_inverse.specs.DescentSize.{EachWithin}
 use Rattle.approx_inverse.specs.Inverse.{HasGainSizes, solution_of}

@@ -3,11 +3,11 @@ use Rattle.std.specs.Prelude.{ℕ, ◌+◌, ◌*◌, ◌^◌, ℤ, pos, ◌*ℤ�
 use Rattle.std.specs.List.{range_with_len}
 use Rattle.integer_algebra.specs.Division.{round_of}
 use Rattle.mat_int.specs.Matrix.{Matrix}
-use Rattle.qp_model.specs.Design.{Design, entries, rows}
-use Rattle.qp_model.specs.Columns.{column_bound}
-use Rattle.qp_model.specs.Class.{form_of}
-use Rattle.qp_model.specs.Controller.{Numbers}
-use Rattle.qp_model.specs.AbsoluteSums.{greatest_sum}
+use Rattle.qp_model.specs.problem.Design.{Design, entries, rows}
+use Rattle.qp_model.specs.form.Columns.{column_bound}
+use Rattle.qp_model.specs.form.Class.{form_of}
+use Rattle.qp_model.specs.machine.Controller.{Numbers}
+use Rattle.qp_model.specs.machine.AbsoluteSums.{greatest_sum}
 
 -- f at 0, 1 .. n - 1
 abbrev pub listed : ℕ → (ℕ → ℤ) → List ℤ

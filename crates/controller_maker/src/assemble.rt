@@ -1,13 +1,13 @@
 // A controller, from a condensed form, the chosen numbers and the gains.
 ghost use Rattle.std.specs.Prelude.{ℕ, List, ◌≡◌, ◌≤◌, ◌<◌, ◌*◌, ◌+◌, ◌^◌, ◌≤ℤ◌, pos, unsigned_abs, IfOk, IfErr, OnOk};
 ghost use Rattle.std.specs.Option.{SomeIff};
-ghost use Rattle.qp_model.specs.Class.{form_of};
-ghost use Rattle.qp_model.specs.Design as model;
-ghost use Rattle.qp_model.specs.Parts.{IsDesign, design_of};
-ghost use Rattle.qp_model.specs.Range.{LiesIn};
-ghost use Rattle.qp_model.specs.Columns.{descent_size};
-ghost use Rattle.qp_model.specs.Controller.{numbers, IsSized};
-ghost use Rattle.qp_model.specs.AbsoluteSums.{greatest_sum};
+ghost use Rattle.qp_model.specs.form.Class.{form_of};
+ghost use Rattle.qp_model.specs.problem.Design as model;
+ghost use Rattle.qp_model.specs.problem.Parts.{IsDesign, design_of};
+ghost use Rattle.qp_model.specs.problem.Range.{LiesIn};
+ghost use Rattle.qp_model.specs.form.Columns.{descent_size};
+ghost use Rattle.qp_model.specs.machine.Controller.{numbers, IsSized};
+ghost use Rattle.qp_model.specs.machine.AbsoluteSums.{greatest_sum};
 ghost use Rattle.overflow_check.specs.Width.{IsWidth};
 ghost use Rattle.condensed_form.specs.Form.{IsFormOf};
 ghost use Rattle.approx_inverse.specs.Inverse.{IsInverseOf};

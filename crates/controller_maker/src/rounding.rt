@@ -4,9 +4,9 @@ ghost use Rattle.integer_algebra.specs.Sums.{at};
 ghost use Rattle.integer_algebra.specs.Division.{round_of};
 ghost use Rattle.mat_int.specs.Matrix.{entry_of, HasEntries};
 ghost use Rattle.qp_model.specs.declared.design_parts.DesignParts.{DesignParts};
-ghost use Rattle.qp_model.specs.Controller.{HasShape};
-ghost use Rattle.qp_model.specs.Parts.{design_of};
-ghost use Rattle.qp_model.specs.Runs.{Holds};
+ghost use Rattle.qp_model.specs.machine.Controller.{HasShape};
+ghost use Rattle.qp_model.specs.problem.Parts.{design_of};
+ghost use Rattle.qp_model.specs.problem.Runs.{Holds};
 ghost use Rattle.condensed_form.specs.Form.{IsForm, IsFormOf};
 ghost use Rattle.controller_maker.specs.Assembled.{AreRowsOf};
 

@@ -1,6 +1,6 @@
 // Gains that are as large as those of any good solutions.
 ghost use Rattle.std.specs.Prelude.{◌≡◌, ◌<◌, ◌≤◌, ◌^◌, pos, length, IfOk};
-ghost use Rattle.qp_model.specs.Columns.{columns, column_bound, descent_size};
+ghost use Rattle.qp_model.specs.form.Columns.{columns, column_bound, descent_size};
 ghost use Rattle.condensed_form.specs.Form.{held};
 ghost use Rattle.approx_inverse.specs.Condensed.{IsSolvable};
 ghost use Rattle.controller_maker.specs.Assembled.{AreBounds};

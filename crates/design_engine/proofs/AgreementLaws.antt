@@ -4,17 +4,17 @@ use Rattle.std.proofs.lemmas.List.{same_lists, get_or_default}
 use Rattle.integer_algebra.specs.Sums.{at}
 use Rattle.integer_algebra.specs.Division.{round_of}
 use Rattle.mat_int.specs.Matrix.{Matrix, row_of, entry_of}
-use Rattle.qp_model.specs.Design.{Design, entries, rows}
-use Rattle.qp_model.specs.Parts.{design_of}
-use Rattle.qp_model.specs.Class.{form_of}
-use Rattle.qp_model.specs.Choices.{multiplier_of, step_count, violation_bound, row_violation_bound, undercut_bound}
-use Rattle.qp_model.specs.Errors.{error_sums_of}
-use Rattle.qp_model.specs.RealErrors.{real_cost}
-use Rattle.qp_model.specs.Controller.{Numbers, HasShape, plan_length}
-use Rattle.qp_model.specs.AbsoluteSums.{greatest_sum}
-use Rattle.qp_model.specs.Policy.{Plans}
+use Rattle.qp_model.specs.problem.Design.{Design, entries, rows}
+use Rattle.qp_model.specs.problem.Parts.{design_of}
+use Rattle.qp_model.specs.form.Class.{form_of}
+use Rattle.qp_model.specs.bounds.Choices.{multiplier_of, step_count, violation_bound, row_violation_bound, undercut_bound}
+use Rattle.qp_model.specs.bounds.Errors.{error_sums_of}
+use Rattle.qp_model.specs.bounds.RealErrors.{real_cost}
+use Rattle.qp_model.specs.machine.Controller.{Numbers, HasShape, plan_length}
+use Rattle.qp_model.specs.machine.AbsoluteSums.{greatest_sum}
+use Rattle.qp_model.specs.problem.Policy.{Plans}
 use Rattle.qp_model.specs.declared.design_parts.DesignParts.{DesignParts}
-use Rattle.qp_model.specs.Printed.{Printed}
+use Rattle.qp_model.specs.bounds.Printed.{Printed}
 use Rattle.overflow_check.specs.Width.{IsWidth}
 use Rattle.hessian_check.proofs.RowExponentLaws.{one_list_law}
 use Rattle.bit_choice.specs.Choice.{IsChoice}

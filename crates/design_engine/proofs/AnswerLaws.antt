@@ -2,15 +2,15 @@
 use Rattle.std.proofs.Common.{◌≡◌, inl, inr, ◌⊎◌, ℕ, refl, ap, rules, arith, Result, Ok, Err}
 use Rattle.std.specs.Prelude.{IfOk, IfErr, OnOk, IsOk}
 use Rattle.std.specs.Result.{IsErr}
-use Rattle.qp_model.specs.Parts.{IsDesign, design_of}
-use Rattle.qp_model.specs.Policy.{Plans, IsPolicyFor}
-use Rattle.qp_model.specs.Controller.{Numbers}
-use Rattle.qp_model.specs.Class.{form_of}
-use Rattle.qp_model.specs.RealErrors.{real_errors, real_cost}
-use Rattle.qp_model.specs.Certified.{IsCertified}
-use Rattle.class_choice.proofs.FormLaws.{form_law}
+use Rattle.qp_model.specs.problem.Parts.{IsDesign, design_of}
+use Rattle.qp_model.specs.problem.Policy.{Plans, IsPolicyFor}
+use Rattle.qp_model.specs.machine.Controller.{Numbers}
+use Rattle.qp_model.specs.form.Class.{form_of}
+use Rattle.qp_model.specs.bounds.RealErrors.{real_errors, real_cost}
+use Rattle.qp_model.specs.bounds.Certified.{IsCertified}
+use Rattle.plant_condense.proofs.FormLaws.{form_law}
 use Rattle.qp_model.specs.declared.design_parts.DesignParts.{DesignParts}
-use Rattle.qp_model.specs.Printed.{Printed}
+use Rattle.qp_model.specs.bounds.Printed.{Printed}
 use Rattle.qp_model.specs.declared.bounds.Margin.{Margin}
 use Rattle.real_error.proofs.RealCosts as costs
 use Rattle.real_error.proofs.RealSteps.{carried}

@@ -2,19 +2,19 @@
 use Rattle.std.proofs.Common.{◌≡◌, inl, inr, ℕ, ◌≤◌, List, arith, refl, ap, sym, subst, ◌∙◌}
 use Rattle.std.proofs.lemmas.Bool.{cases_eq}
 use Rattle.std.proofs.lemmas.List.Elements.{All-from_get_or}
-use Rattle.qp_model.specs.Parts.{IsDesign, design_of}
-use Rattle.qp_model.specs.Policy.{Plans, IsPolicyFor}
-use Rattle.qp_model.specs.Curvature.{AreExponents}
-use Rattle.qp_model.specs.Choices.{step_count, multiplier_of}
-use Rattle.qp_model.specs.Class.{form_of}
-use Rattle.qp_model.specs.Design.{Design, rows}
-use Rattle.qp_model.specs.Built.{IsDerivedFrom}
-use Rattle.qp_model.specs.RealErrors.{real_cost}
-use Rattle.qp_model.specs.Controller.{Numbers}
-use Rattle.qp_model.specs.Limits.{text_version}
-use Rattle.qp_model.specs.AbsoluteSums.{IsController}
+use Rattle.qp_model.specs.problem.Parts.{IsDesign, design_of}
+use Rattle.qp_model.specs.problem.Policy.{Plans, IsPolicyFor}
+use Rattle.qp_model.specs.form.Curvature.{AreExponents}
+use Rattle.qp_model.specs.bounds.Choices.{step_count, multiplier_of}
+use Rattle.qp_model.specs.form.Class.{form_of}
+use Rattle.qp_model.specs.problem.Design.{Design, rows}
+use Rattle.qp_model.specs.bounds.Built.{IsDerivedFrom}
+use Rattle.qp_model.specs.bounds.RealErrors.{real_cost}
+use Rattle.qp_model.specs.machine.Controller.{Numbers}
+use Rattle.qp_model.specs.problem.Limits.{text_version}
+use Rattle.qp_model.specs.machine.AbsoluteSums.{IsController}
 use Rattle.qp_model.specs.declared.design_parts.DesignParts.{DesignParts}
-use Rattle.qp_model.specs.Printed.{Printed}
+use Rattle.qp_model.specs.bounds.Printed.{Printed}
 use Rattle.qp_model.specs.declared.bounds.Margin.{Margin}
 use Rattle.hessian_check.specs.Steps.{IsExponentOf}
 use Rattle.hessian_check.specs.RowExponents.{exponent_in, AreExponentsOf}

@@ -1,9 +1,9 @@
 -- The sums of a design's errors, of whichever class its form is.
 use Rattle.std.proofs.Common.{◌≡◌, ℕ, ◌≤◌, Bool, true, false, arith, ap, ◌∙◌}
-use Rattle.qp_model.specs.Design.{Design}
-use Rattle.qp_model.specs.FineSizes.{is_fine}
-use Rattle.qp_model.specs.Class.{form_in, form_of}
-use Rattle.qp_model.specs.Errors.{error_sums_of}
+use Rattle.qp_model.specs.problem.Design.{Design}
+use Rattle.qp_model.specs.form.FineSizes.{is_fine}
+use Rattle.qp_model.specs.form.Class.{form_in, form_of}
+use Rattle.qp_model.specs.bounds.Errors.{error_sums_of}
 use Rattle.step_error.specs.declared.sums.ErrorSums.{ErrorSums}
 use Rattle.step_error.specs.ErrorSums.{whole_sums, sums_of}
 use Rattle.step_error.proofs.SumFacts.{read_back}

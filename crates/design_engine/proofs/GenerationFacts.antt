@@ -7,9 +7,9 @@ use Rattle.std.specs.Int.{w128, int_min}
 use mir.Val.{SFits}
 use Rattle.integer_algebra.specs.Division.{ceil_div}
 use Rattle.integer_algebra.proofs.DivisionLaws.{le-mul-ceil_div}
-use Rattle.qp_model.specs.Parts.{IsDesign}
-use Rattle.qp_model.specs.Range.{IsDenominator, IsPositive}
-use Rattle.qp_model.specs.Choices.{multiplier_size, step_count, violation_bound, undercut_bound, multiplier_of}
+use Rattle.qp_model.specs.problem.Parts.{IsDesign}
+use Rattle.qp_model.specs.problem.Range.{IsDenominator, IsPositive}
+use Rattle.qp_model.specs.bounds.Choices.{multiplier_size, step_count, violation_bound, undercut_bound, multiplier_of}
 use Rattle.qp_model.specs.declared.design_parts.DesignParts.{DesignParts}
 use Rattle.qp_model.specs.declared.bounds.Margin.{Margin}
 use Rattle.design_engine.specs.Targets.{targets_of, half_target, gap_target, error_limit}

@@ -5,17 +5,17 @@ use Rattle.std.proofs.Props.{props}
 use Rattle.std.proofs.lemmas.Bool.{cases_lt}
 use Rattle.integer_algebra.proofs.OrderLaws.{mul-le-mul_right_z}
 use Rattle.frac_scaled.specs.declared.fraction.Frac.{Frac}
-use Rattle.qp_model.specs.Design.{Design}
-use Rattle.qp_model.specs.Parts.{IsDesign, design_of}
-use Rattle.qp_model.specs.Policy.{Plans, IsPolicyFor}
-use Rattle.qp_model.specs.CornerClass.{has_fine_corners, shown, IsMargin}
-use Rattle.qp_model.specs.Errors.{ErrorSums, epsilon}
+use Rattle.qp_model.specs.problem.Design.{Design}
+use Rattle.qp_model.specs.problem.Parts.{IsDesign, design_of}
+use Rattle.qp_model.specs.problem.Policy.{Plans, IsPolicyFor}
+use Rattle.qp_model.specs.bounds.CornerClass.{has_fine_corners, shown, IsMargin}
+use Rattle.qp_model.specs.bounds.Errors.{ErrorSums, epsilon}
 use Rattle.qp_model.specs.declared.design_parts.DesignParts.{DesignParts}
 use Rattle.qp_model.specs.declared.bounds.Margin.{Margin}
-use Rattle.slater_margin.specs.Corners.{IsFirstShort}
-use Rattle.slater_margin.specs.Simulation.{HasScales}
-use Rattle.slater_margin.proofs.MarginFacts.{scales}
-use Rattle.qp_model.specs.Least.{IsLeast}
+use Rattle.exact_margin.specs.Corners.{IsFirstShort}
+use Rattle.exact_margin.specs.Simulation.{HasScales}
+use Rattle.exact_margin.proofs.MarginFacts.{scales}
+use Rattle.qp_model.specs.bounds.Least.{IsLeast}
 use Rattle.hessian_check.specs.Curvature.{IsFirst, IsChosen, IsDominantAt, HasPassingRootBelow}
 use Rattle.hessian_check.specs.Steps.{IsExponentOf, HasNoStep}
 use Rattle.bit_choice.specs.Choice.{IsChoice}

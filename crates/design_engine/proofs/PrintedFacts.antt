@@ -1,10 +1,10 @@
 -- The printed bounds, by their numbers.
 use Rattle.std.proofs.Common.{◌≡◌, ℕ, ◌<◌, ℤ, pos, unsigned_abs, arith, ap, refl, sym, subst, ◌∙◌}
-use Rattle.qp_model.specs.Choices.{violation_bound, row_violation_bound, undercut_bound, multiplier_of}
-use Rattle.qp_model.specs.Controller.{Numbers}
-use Rattle.qp_model.specs.Machine.{exponent_of}
-use Rattle.qp_model.specs.Printed.{printed}
-use Rattle.qp_model.specs.Runs.{Holds}
+use Rattle.qp_model.specs.bounds.Choices.{violation_bound, row_violation_bound, undercut_bound, multiplier_of}
+use Rattle.qp_model.specs.machine.Controller.{Numbers}
+use Rattle.qp_model.specs.machine.Machine.{exponent_of}
+use Rattle.qp_model.specs.bounds.Printed.{printed}
+use Rattle.qp_model.specs.problem.Runs.{Holds}
 use Rattle.qp_model.specs.declared.bounds.Bounds.{Bounds}
 use Rattle.qp_model.specs.declared.bounds.Margin.{Margin}
 use Rattle.design_engine.specs.Bounds.{AreBoundsOf}

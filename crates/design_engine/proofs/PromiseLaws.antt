@@ -12,29 +12,29 @@ use Rattle.integer_algebra.specs.Division.{ceil_div}
 use Rattle.integer_algebra.proofs.OrderLaws.{pos_positive, le_of_lt_z, add-le-add_z, le_by, cancel-le_z, mul_nonneg_z, mul_pos_z, mul-le-mul_left_z}
 use Rattle.integer_algebra.proofs.PowerLaws.{pow_positive}
 use Rattle.integer_algebra.proofs.DivisionLaws.{le-mul-ceil_div}
-use Rattle.qp_model.specs.Design.{Design, rows}
-use Rattle.qp_model.specs.Parts.{IsDesign, design_of}
-use Rattle.qp_model.specs.Range.{IsPositive}
-use Rattle.qp_model.specs.Sound.{IsSound}
-use Rattle.qp_model.specs.Box.{IsGridState}
-use Rattle.qp_model.specs.Cost.{cost, cost_scale}
-use Rattle.qp_model.specs.Residual.{residual, residual_scale, IsFeasible}
-use Rattle.qp_model.specs.Policy.{Plans}
-use Rattle.qp_model.specs.Margin.{BoundsCorners}
-use Rattle.qp_model.specs.CornerClass.{shown}
-use Rattle.qp_model.specs.Controller.{Numbers}
-use Rattle.qp_model.specs.Machine.{average_denominator, averaged_plan, exponent_of}
-use Rattle.qp_model.specs.Machine as machine
-use Rattle.qp_model.specs.Form.{Form}
-use Rattle.qp_model.specs.Errors.{StepErrors, cost_of_errors}
-use Rattle.qp_model.specs.Built.{HasSizesOf}
-use Rattle.qp_model.specs.Choices.{violation_bound, row_violation_bound, multiplier_of}
-use Rattle.qp_model.specs.ValuesMet.{RunFits}
-use Rattle.qp_model.specs.Certified.{ExceedsAtMost, CostsAtMost, HasFeasible, IsCertifiedAt}
+use Rattle.qp_model.specs.problem.Design.{Design, rows}
+use Rattle.qp_model.specs.problem.Parts.{IsDesign, design_of}
+use Rattle.qp_model.specs.problem.Range.{IsPositive}
+use Rattle.qp_model.specs.problem.Sound.{IsSound}
+use Rattle.qp_model.specs.problem.Box.{IsGridState}
+use Rattle.qp_model.specs.problem.Cost.{cost, cost_scale}
+use Rattle.qp_model.specs.problem.Residual.{residual, residual_scale, IsFeasible}
+use Rattle.qp_model.specs.problem.Policy.{Plans}
+use Rattle.qp_model.specs.bounds.Margin.{BoundsCorners}
+use Rattle.qp_model.specs.bounds.CornerClass.{shown}
+use Rattle.qp_model.specs.machine.Controller.{Numbers}
+use Rattle.qp_model.specs.machine.Machine.{average_denominator, averaged_plan, exponent_of}
+use Rattle.qp_model.specs.machine.Machine as machine
+use Rattle.qp_model.specs.form.Form.{Form}
+use Rattle.qp_model.specs.bounds.Errors.{StepErrors, cost_of_errors}
+use Rattle.qp_model.specs.bounds.Built.{HasSizesOf}
+use Rattle.qp_model.specs.bounds.Choices.{violation_bound, row_violation_bound, multiplier_of}
+use Rattle.qp_model.specs.machine.ValuesMet.{RunFits}
+use Rattle.qp_model.specs.bounds.Certified.{ExceedsAtMost, CostsAtMost, HasFeasible, IsCertifiedAt}
 use Rattle.qp_model.specs.declared.design_parts.DesignParts.{DesignParts}
-use Rattle.qp_model.specs.Printed.{Printed}
+use Rattle.qp_model.specs.bounds.Printed.{Printed}
 use Rattle.overflow_check.proofs.ValuesMet.{values_law}
-use Rattle.class_choice.proofs.CornerLaws.{shown_law}
+use Rattle.slater_margin.proofs.CornerLaws.{shown_law}
 use Rattle.dual_bounds.specs.Corners.{KeepsMargin, HasRepair, ExceedsNoMore}
 use Rattle.dual_bounds.proofs.MixLaws.{repair_law, threshold_law}
 use Rattle.dual_bounds.proofs.RowBounds.{row_below}

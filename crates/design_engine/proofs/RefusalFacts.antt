@@ -4,20 +4,20 @@ use Rattle.std.specs.Prelude.{IfErr}
 use Rattle.std.specs.Result.{IsErrAnd}
 use Rattle.std.proofs.lemmas.Bool.{cases_lt}
 use Rattle.frac_scaled.specs.declared.fraction.Frac.{Frac}
-use Rattle.qp_model.specs.Class.{form_of, prediction_quantity, hessian_quantity, rows_quantity}
-use Rattle.qp_model.specs.Design.{Design}
-use Rattle.qp_model.specs.Policy.{Plans}
-use Rattle.qp_model.specs.Choices.{multiplier_size, step_count, multiplier_of}
-use Rattle.qp_model.specs.Columns.{descent_size}
-use Rattle.qp_model.specs.Errors as errors
-use Rattle.qp_model.specs.Errors.{error_size, error_sums_of, epsilon}
+use Rattle.qp_model.specs.form.Class.{form_of, prediction_quantity, hessian_quantity, rows_quantity}
+use Rattle.qp_model.specs.problem.Design.{Design}
+use Rattle.qp_model.specs.problem.Policy.{Plans}
+use Rattle.qp_model.specs.bounds.Choices.{multiplier_size, step_count, multiplier_of}
+use Rattle.qp_model.specs.form.Columns.{descent_size}
+use Rattle.qp_model.specs.bounds.Errors as errors
+use Rattle.qp_model.specs.bounds.Errors.{error_size, error_sums_of, epsilon}
 use Rattle.qp_model.specs.declared.bounds.Margin.{Margin}
 use Rattle.qp_model.specs.declared.quantity.Quantity.{Quantity}
 use Rattle.qp_model.specs.declared.quantity.Quantity.TheVariants.{Prediction, CornerSlack, CornerCost, Multiplier, Hessian, Rows, Curvature as curvature_named, Error, Descent, Width, Turn, Stay}
-use Rattle.slater_margin.specs.Corners as corners
-use Rattle.slater_margin.specs.Corners.{HasCornerRoom, IsFirstShort}
-use Rattle.slater_margin.specs.declared.fault.MarginFault.{MarginFault}
-use Rattle.slater_margin.specs.declared.fault.MarginFault.TheVariants.{Memory as margin_memory, TooWide as margin_wide, NoMargin as margin_none}
+use Rattle.exact_margin.specs.Corners as corners
+use Rattle.exact_margin.specs.Corners.{HasCornerRoom, IsFirstShort}
+use Rattle.exact_margin.specs.declared.fault.MarginFault.{MarginFault}
+use Rattle.exact_margin.specs.declared.fault.MarginFault.TheVariants.{Memory as margin_memory, TooWide as margin_wide, NoMargin as margin_none}
 use Rattle.condensed_form.specs.Fault as condensing
 use Rattle.condensed_form.specs.declared.condensed.Condensed.{Condensed}
 use Rattle.condensed_form.specs.declared.fault.CondenseFault.{CondenseFault}

@@ -1,18 +1,18 @@
 -- What a controller that is assembled for a design gives for its real errors, and that these cost no more than the stated ones.
 use Rattle.std.proofs.Common.{◌≡◌, ℕ, ◌^◌, ◌≤◌, List, ℤ, pos, refl, sym, subst, ◌∙◌}
-use Rattle.qp_model.specs.Design.{Design, entries}
-use Rattle.qp_model.specs.Parts.{design_of}
-use Rattle.qp_model.specs.Choices.{multiplier_of}
-use Rattle.qp_model.specs.Printed.{Printed}
+use Rattle.qp_model.specs.problem.Design.{Design, entries}
+use Rattle.qp_model.specs.problem.Parts.{design_of}
+use Rattle.qp_model.specs.bounds.Choices.{multiplier_of}
+use Rattle.qp_model.specs.bounds.Printed.{Printed}
 use Rattle.qp_model.specs.declared.bounds.Margin.{Margin}
-use Rattle.qp_model.specs.Class.{form_of}
-use Rattle.qp_model.specs.Columns.{descent_size}
+use Rattle.qp_model.specs.form.Class.{form_of}
+use Rattle.qp_model.specs.form.Columns.{descent_size}
 use Rattle.mat_int.specs.Matrix.{Matrix}
-use Rattle.qp_model.specs.Controller.{Numbers, IsShaped, plan_length}
-use Rattle.qp_model.specs.AbsoluteSums.{IsController}
-use Rattle.qp_model.specs.Curvature.{AreExponents}
+use Rattle.qp_model.specs.machine.Controller.{Numbers, IsShaped, plan_length}
+use Rattle.qp_model.specs.machine.AbsoluteSums.{IsController}
+use Rattle.qp_model.specs.form.Curvature.{AreExponents}
 use Rattle.hessian_check.specs.RowExponents.{exponent_in}
-use Rattle.qp_model.specs.RealErrors.{real_cost}
+use Rattle.qp_model.specs.bounds.RealErrors.{real_cost}
 use Rattle.qp_model.specs.declared.design_parts.DesignParts.{DesignParts}
 use Rattle.condensed_form.specs.Form.{IsFormOf}
 use Rattle.condensed_form.specs.declared.condensed.Condensed.{Condensed}

@@ -5,7 +5,7 @@ use Rattle.std.proofs.lemmas.Nat.{pow_pos}
 use Rattle.std.proofs.Math.Nat.{mul-le-mul_left, mul-le-mul_right, div-mul-le_self, le-div_iff_mul-le}
 use Rattle.integer_algebra.specs.Division.{ceil_div}
 use Rattle.integer_algebra.proofs.DivisionLaws.{le-mul-ceil_div, ceil_div-le}
-use Rattle.qp_model.specs.Choices.{step_count, violation_bound, multiplier_of}
+use Rattle.qp_model.specs.bounds.Choices.{step_count, violation_bound, multiplier_of}
 use Rattle.design_engine.specs.Targets.{targets_of, half_target, violation_target, step_target, rest_target}
 use Rattle.design_engine.specs.Bounds.{margin_of}
 use Rattle.design_engine.specs.Promise.{TargetsLaw}

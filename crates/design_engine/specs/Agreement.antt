@@ -1,9 +1,9 @@
 -- What a design and a policy leave open of a controller that is built for them.
 use Rattle.std.specs.Prelude.{◌≡◌}
-use Rattle.qp_model.specs.Policy.{Plans}
-use Rattle.qp_model.specs.Controller.{Numbers}
+use Rattle.qp_model.specs.problem.Policy.{Plans}
+use Rattle.qp_model.specs.machine.Controller.{Numbers}
 use Rattle.qp_model.specs.declared.design_parts.DesignParts.{DesignParts}
-use Rattle.qp_model.specs.Printed.{Printed}
+use Rattle.qp_model.specs.bounds.Printed.{Printed}
 use Rattle.design_engine.specs.Built.{IsBuilt}
 
 -- the two have the same gains

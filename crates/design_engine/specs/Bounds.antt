@@ -1,13 +1,13 @@
 -- The bounds that are printed of a controller.
 use Rattle.std.specs.Prelude.{◌≡◌, ℕ, ◌<◌, pos, length, unsigned_abs}
 use Rattle.integer_algebra.specs.Sums.{at}
-use Rattle.qp_model.specs.Class.{form_of}
-use Rattle.qp_model.specs.Design.{Design}
-use Rattle.qp_model.specs.Choices.{multiplier_of, violation_bound, row_violation_bound, undercut_bound}
-use Rattle.qp_model.specs.Errors.{error_sums_of, epsilon}
-use Rattle.qp_model.specs.Controller.{Numbers}
-use Rattle.qp_model.specs.Machine.{exponent_of}
-use Rattle.qp_model.specs.Printed.{Printed}
+use Rattle.qp_model.specs.form.Class.{form_of}
+use Rattle.qp_model.specs.problem.Design.{Design}
+use Rattle.qp_model.specs.bounds.Choices.{multiplier_of, violation_bound, row_violation_bound, undercut_bound}
+use Rattle.qp_model.specs.bounds.Errors.{error_sums_of, epsilon}
+use Rattle.qp_model.specs.machine.Controller.{Numbers}
+use Rattle.qp_model.specs.machine.Machine.{exponent_of}
+use Rattle.qp_model.specs.bounds.Printed.{Printed}
 use Rattle.qp_model.specs.declared.bounds.Margin.{Margin}
 
 -- the margin that the bounds print

@@ -1,18 +1,18 @@
 -- A controller and its bounds as they are made of a design and a policy.
 use Rattle.std.specs.Prelude.{◌≡◌, ℕ, ◌≤◌, ◌^◌, pos, ◌≤ℤ◌}
-use Rattle.qp_model.specs.Class.{form_of, hessian_quantity}
-use Rattle.qp_model.specs.Design.{Design}
-use Rattle.qp_model.specs.Parts.{IsDesign, design_of}
-use Rattle.qp_model.specs.Policy.{Plans, IsPolicyFor}
-use Rattle.qp_model.specs.CornerClass.{IsMargin}
-use Rattle.qp_model.specs.Choices.{step_count}
-use Rattle.qp_model.specs.Errors.{error_sums_of}
-use Rattle.qp_model.specs.RealErrors.{real_cost}
-use Rattle.qp_model.specs.Built.{IsDerivedFrom}
-use Rattle.qp_model.specs.Controller.{Numbers}
-use Rattle.qp_model.specs.AbsoluteSums.{IsController, greatest_sum}
+use Rattle.qp_model.specs.form.Class.{form_of, hessian_quantity}
+use Rattle.qp_model.specs.problem.Design.{Design}
+use Rattle.qp_model.specs.problem.Parts.{IsDesign, design_of}
+use Rattle.qp_model.specs.problem.Policy.{Plans, IsPolicyFor}
+use Rattle.qp_model.specs.bounds.CornerClass.{IsMargin}
+use Rattle.qp_model.specs.bounds.Choices.{step_count}
+use Rattle.qp_model.specs.bounds.Errors.{error_sums_of}
+use Rattle.qp_model.specs.bounds.RealErrors.{real_cost}
+use Rattle.qp_model.specs.bounds.Built.{IsDerivedFrom}
+use Rattle.qp_model.specs.machine.Controller.{Numbers}
+use Rattle.qp_model.specs.machine.AbsoluteSums.{IsController, greatest_sum}
 use Rattle.qp_model.specs.declared.design_parts.DesignParts.{DesignParts}
-use Rattle.qp_model.specs.Printed.{Printed}
+use Rattle.qp_model.specs.bounds.Printed.{Printed}
 use Rattle.overflow_check.specs.Width.{IsWidth}
 use Rattle.hessian_check.specs.Steps.{IsExponentOf}
 use Rattle.hessian_check.specs.RowExponents.{AreExponentsOf}

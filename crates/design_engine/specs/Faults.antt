@@ -1,6 +1,6 @@
 -- The refusal that a fault becomes.
-use Rattle.slater_margin.specs.declared.fault.MarginFault.{MarginFault}
-use Rattle.slater_margin.specs.declared.fault.MarginFault.TheVariants.{Memory as margin_memory, TooWide as margin_wide, NoMargin as margin_none}
+use Rattle.exact_margin.specs.declared.fault.MarginFault.{MarginFault}
+use Rattle.exact_margin.specs.declared.fault.MarginFault.TheVariants.{Memory as margin_memory, TooWide as margin_wide, NoMargin as margin_none}
 use Rattle.condensed_form.specs.declared.fault.CondenseFault.{CondenseFault}
 use Rattle.condensed_form.specs.declared.fault.CondenseFault.TheVariants.{Memory as condense_memory, TooWide as condense_wide}
 use Rattle.hessian_check.specs.declared.fault.CurvatureFault.{CurvatureFault}

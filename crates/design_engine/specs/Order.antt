@@ -1,7 +1,7 @@
 -- At most one refusal has a cause, and none has one where every test is passed.
 use Rattle.std.specs.Prelude.{◌≡◌, ℕ}
-use Rattle.qp_model.specs.Parts.{IsDesign, design_of}
-use Rattle.qp_model.specs.Policy.{Plans, IsPolicyFor}
+use Rattle.qp_model.specs.problem.Parts.{IsDesign, design_of}
+use Rattle.qp_model.specs.problem.Policy.{Plans, IsPolicyFor}
 use Rattle.qp_model.specs.declared.design_parts.DesignParts.{DesignParts}
 use Rattle.qp_model.specs.declared.bounds.Margin.{Margin}
 use Rattle.design_engine.specs.Targets.{Targets}

@@ -1,19 +1,19 @@
 -- From what a controller is made of to what it is certified for.
 use Rattle.std.specs.Prelude.{◌≡◌, ℕ, ◌<◌, ◌≤◌, ℤ, pos, ◌≤ℤ◌, List, length}
 use Rattle.integer_algebra.specs.Sums.{at}
-use Rattle.qp_model.specs.Form.{Form, IsFormFor}
-use Rattle.qp_model.specs.Parts.{IsDesign, design_of}
-use Rattle.qp_model.specs.Policy.{Plans, IsPolicyFor}
-use Rattle.qp_model.specs.CornerClass.{IsMargin}
-use Rattle.qp_model.specs.Choices.{step_count}
-use Rattle.qp_model.specs.Box.{IsGridState}
-use Rattle.qp_model.specs.Errors.{StepErrors, cost_of_errors}
-use Rattle.qp_model.specs.Built.{IsDerivedFrom}
-use Rattle.qp_model.specs.Controller.{Numbers}
-use Rattle.qp_model.specs.AbsoluteSums.{IsController}
-use Rattle.qp_model.specs.Certified.{IsCertified}
+use Rattle.qp_model.specs.form.Form.{Form, IsFormFor}
+use Rattle.qp_model.specs.problem.Parts.{IsDesign, design_of}
+use Rattle.qp_model.specs.problem.Policy.{Plans, IsPolicyFor}
+use Rattle.qp_model.specs.bounds.CornerClass.{IsMargin}
+use Rattle.qp_model.specs.bounds.Choices.{step_count}
+use Rattle.qp_model.specs.problem.Box.{IsGridState}
+use Rattle.qp_model.specs.bounds.Errors.{StepErrors, cost_of_errors}
+use Rattle.qp_model.specs.bounds.Built.{IsDerivedFrom}
+use Rattle.qp_model.specs.machine.Controller.{Numbers}
+use Rattle.qp_model.specs.machine.AbsoluteSums.{IsController}
+use Rattle.qp_model.specs.bounds.Certified.{IsCertified}
 use Rattle.qp_model.specs.declared.design_parts.DesignParts.{DesignParts}
-use Rattle.qp_model.specs.Printed.{Printed}
+use Rattle.qp_model.specs.bounds.Printed.{Printed}
 use Rattle.step_error.specs.MachineLaws.{HasErrors}
 use Rattle.design_engine.specs.Targets.{targets_of, half_target, error_limit, IsWithinTargets}
 use Rattle.design_engine.specs.Bounds.{margin_of, printed_multiplier, AreBoundsOf}

@@ -1,16 +1,16 @@
 -- Why a design with a policy has no controller: the first of these tests, in their order, that it fails.
 use Rattle.std.specs.Prelude.{◌≡◌, ◌⊎◌, ℕ, ◌^◌, ◌<◌, ◌≤◌, ℤ, pos, ◌≤ℤ◌}
-use Rattle.qp_model.specs.Class.{form_of, prediction_quantity, hessian_quantity, rows_quantity, curvature_quantity}
-use Rattle.qp_model.specs.Design.{Design}
-use Rattle.qp_model.specs.Policy.{Plans}
-use Rattle.qp_model.specs.CornerClass.{IsMargin}
-use Rattle.qp_model.specs.Choices.{multiplier_of, multiplier_size_of, step_count}
-use Rattle.qp_model.specs.Columns.{descent_size}
-use Rattle.qp_model.specs.Errors.{error_size, error_sums_of}
+use Rattle.qp_model.specs.form.Class.{form_of, prediction_quantity, hessian_quantity, rows_quantity, curvature_quantity}
+use Rattle.qp_model.specs.problem.Design.{Design}
+use Rattle.qp_model.specs.problem.Policy.{Plans}
+use Rattle.qp_model.specs.bounds.CornerClass.{IsMargin}
+use Rattle.qp_model.specs.bounds.Choices.{multiplier_of, multiplier_size_of, step_count}
+use Rattle.qp_model.specs.form.Columns.{descent_size}
+use Rattle.qp_model.specs.bounds.Errors.{error_size, error_sums_of}
 use Rattle.qp_model.specs.declared.bounds.Margin.{Margin}
 use Rattle.qp_model.specs.declared.quantity.Quantity.{Quantity}
 use Rattle.qp_model.specs.declared.quantity.Quantity.TheVariants.{Prediction, CornerSlack, CornerCost, Multiplier, Hessian, Rows, Curvature as curvature_named, Error, Descent, Width, Turn, Stay}
-use Rattle.slater_margin.specs.Corners.{HasCornerRoom, IsFirstWideCorner, IsFirstShort}
+use Rattle.exact_margin.specs.Corners.{HasCornerRoom, IsFirstWideCorner, IsFirstShort}
 use Rattle.hessian_check.specs.Steps.{IsExponentOf, HasNoStep}
 use Rattle.bit_choice.specs.Choice.{IsChoice}
 use Rattle.design_engine.specs.Targets.{Targets, half_target, error_limit}

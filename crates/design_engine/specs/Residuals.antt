@@ -1,6 +1,6 @@
 -- A controller beside what its real errors are computed from.
 use Rattle.std.specs.Prelude.{ℕ}
-use Rattle.qp_model.specs.Controller.{Numbers}
+use Rattle.qp_model.specs.machine.Controller.{Numbers}
 use Rattle.qp_model.specs.declared.design_parts.DesignParts.{DesignParts}
 use Rattle.condensed_form.specs.declared.condensed.Condensed.{Condensed}
 use Rattle.step_error.specs.declared.sums.ErrorSums.{ErrorSums}

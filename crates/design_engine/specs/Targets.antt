@@ -1,6 +1,6 @@
 -- What a design's targets leave for the bounds.
 use Rattle.std.specs.Prelude.{ℕ, ◌*◌, ◌/◌, ◌^◌, min, unsigned_abs, pos, ◌*ℤ◌, ◌≤ℤ◌}
-use Rattle.qp_model.specs.Printed.{Printed}
+use Rattle.qp_model.specs.bounds.Printed.{Printed}
 use Rattle.qp_model.specs.declared.design_parts.DesignParts.{DesignParts}
 
 -- the violation and the gap that the printed bounds are to stay within, over one denominator

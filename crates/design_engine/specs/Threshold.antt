@@ -2,22 +2,22 @@
 use Rattle.std.specs.Prelude.{◌≡◌, ℕ, ◌+◌, ◌*◌, ◌^◌, ◌<◌, ◌≤◌, min, max, ℤ, pos, ◌+ℤ◌, ◌*ℤ◌, ◌≤ℤ◌, ◌<ℤ◌, List, length}
 use Rattle.integer_algebra.specs.Sums.{at, square}
 use Rattle.integer_algebra.specs.Division.{ceil_div}
-use Rattle.qp_model.specs.Design.{Design, rows}
-use Rattle.qp_model.specs.Sound.{IsSound}
-use Rattle.qp_model.specs.Form.{Form, IsFormFor}
-use Rattle.qp_model.specs.Parts.{IsDesign, design_of}
-use Rattle.qp_model.specs.Policy.{Plans, IsPolicyFor}
-use Rattle.qp_model.specs.Choices.{step_count}
-use Rattle.qp_model.specs.Box.{IsGridState}
-use Rattle.qp_model.specs.Residual.{residual, residual_scale}
-use Rattle.qp_model.specs.Errors.{StepErrors, cost_of_errors}
-use Rattle.qp_model.specs.Built.{IsDerivedFrom}
-use Rattle.qp_model.specs.Controller.{Numbers}
-use Rattle.qp_model.specs.Machine.{average_denominator, averaged_plan, exponent_of}
-use Rattle.qp_model.specs.AbsoluteSums.{IsController}
-use Rattle.qp_model.specs.Certified.{CostsNoMoreThanFeasible, IsCertified}
+use Rattle.qp_model.specs.problem.Design.{Design, rows}
+use Rattle.qp_model.specs.problem.Sound.{IsSound}
+use Rattle.qp_model.specs.form.Form.{Form, IsFormFor}
+use Rattle.qp_model.specs.problem.Parts.{IsDesign, design_of}
+use Rattle.qp_model.specs.problem.Policy.{Plans, IsPolicyFor}
+use Rattle.qp_model.specs.bounds.Choices.{step_count}
+use Rattle.qp_model.specs.problem.Box.{IsGridState}
+use Rattle.qp_model.specs.problem.Residual.{residual, residual_scale}
+use Rattle.qp_model.specs.bounds.Errors.{StepErrors, cost_of_errors}
+use Rattle.qp_model.specs.bounds.Built.{IsDerivedFrom}
+use Rattle.qp_model.specs.machine.Controller.{Numbers}
+use Rattle.qp_model.specs.machine.Machine.{average_denominator, averaged_plan, exponent_of}
+use Rattle.qp_model.specs.machine.AbsoluteSums.{IsController}
+use Rattle.qp_model.specs.bounds.Certified.{CostsNoMoreThanFeasible, IsCertified}
 use Rattle.qp_model.specs.declared.design_parts.DesignParts.{DesignParts}
-use Rattle.qp_model.specs.Printed.{Printed}
+use Rattle.qp_model.specs.bounds.Printed.{Printed}
 use Rattle.step_error.specs.MachineLaws.{HasErrors}
 use Rattle.dual_bounds.specs.Corners.{KeepsExcess, ExceedsNoMore, HasRepair}
 use Rattle.design_engine.specs.Targets.{targets_of, gap_target, violation_target, step_target, rest_target, floor_target, IsWithinTargets}

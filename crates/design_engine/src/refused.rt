@@ -9,9 +9,9 @@ use bit_choice::TooFine;
 use condensed_form::CondenseFault;
 use controller_maker::WidthFault;
 use dual_bounds::TooManySteps;
+use exact_margin::MarginFault;
 use hessian_check::CurvatureFault;
 use qp_model::Wide;
-use slater_margin::MarginFault;
 use std::alloc::AllocError;
 
 impl From<MarginFault> for Refusal {

@@ -1,11 +1,11 @@
 // What the errors of a controller's steps cost, by the residuals that its gains leave.
 ghost use Rattle.std.specs.Prelude.{◌≡◌, ℕ, pos, ◌^◌};
 ghost use Rattle.integer_algebra.specs.Division.{ceil_div};
-ghost use Rattle.qp_model.specs.Class.{form_of};
-ghost use Rattle.qp_model.specs.Parts.{design_of};
-ghost use Rattle.qp_model.specs.Controller.{numbers};
-ghost use Rattle.qp_model.specs.AbsoluteSums.{IsController, plan_magnitudes, greatest_of};
-ghost use Rattle.qp_model.specs.RealErrors.{real_cost};
+ghost use Rattle.qp_model.specs.form.Class.{form_of};
+ghost use Rattle.qp_model.specs.problem.Parts.{design_of};
+ghost use Rattle.qp_model.specs.machine.Controller.{numbers};
+ghost use Rattle.qp_model.specs.machine.AbsoluteSums.{IsController, plan_magnitudes, greatest_of};
+ghost use Rattle.qp_model.specs.bounds.RealErrors.{real_cost};
 ghost use Rattle.qp_model.specs.declared.design_parts.DesignParts.{DesignParts};
 ghost use Rattle.design_engine.specs.Residuals.{IsGivenFor, IsGiven};
 

@@ -1,8 +1,8 @@
 // By how much each row may be exceeded.
 ghost use Rattle.std.specs.Prelude.{ℕ, ◌≡◌, ◌<◌, ◌≤◌, ◌^◌, pos, ◌≤ℤ◌, length, unsigned_abs, IfOk};
 ghost use Rattle.integer_algebra.specs.Sums.{at};
-ghost use Rattle.qp_model.specs.Choices.{row_violation_bound};
-ghost use Rattle.qp_model.specs.Runs.{Holds};
+ghost use Rattle.qp_model.specs.bounds.Choices.{row_violation_bound};
+ghost use Rattle.qp_model.specs.problem.Runs.{Holds};
 ghost use Rattle.hessian_check.specs.RowExponents.{exponent_in};
 
 use dual_bounds::row_violation;

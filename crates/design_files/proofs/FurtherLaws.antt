@@ -2,7 +2,7 @@
 use Rattle.std.proofs.Common.{◌≡◌, ◌↔◌, IsTrue, Bool, true, false, List, [], ◌∷◌, ◌++◌, Option, Some, Result, Ok, Err, inl, refl}
 use Rattle.std.specs.Prelude.{◌&&◌, IfSome}
 use Rattle.toml.specs.Data.{Members}
-use Rattle.qp_model.specs.Rules.{Rule, AllHold, IsFirstBroken, Tests, key}
+use Rattle.qp_model.specs.problem.Rules.{Rule, AllHold, IsFirstBroken, Tests, key}
 use Rattle.number_text.specs.declared.text_fault.TextFault.{TextFault}
 use Rattle.number_text.specs.declared.text_fault.TextFault.TheVariants.{Key}
 use Rattle.qp_model.proofs.RuleLaws.{all_hold, broken_before, broken_after}

@@ -9,9 +9,9 @@ use Rattle.mat_int.specs.Matrix.{Matrix, with_entry}
 use Rattle.toml.specs.Data.{Data, as_integer, as_array}
 use Rattle.toml.specs.View.{view, items_view}
 use Rattle.toml.specs.declared.value.Value.{Value}
-use Rattle.qp_model.specs.Range.{LiesIn}
+use Rattle.qp_model.specs.problem.Range.{LiesIn}
 use Rattle.number_text.specs.declared.text_fault.TextFault.{TextFault}
-use Rattle.qp_model.specs.Rules.{shape}
+use Rattle.qp_model.specs.problem.Rules.{shape}
 use Rattle.design_files.specs.DesignText.{Reads}
 use Rattle.design_files.proofs.ReadLaws.{reads_as}
 use Rattle.design_files.specs.Numbers.{integers_of, rows_of, list_in, lists_in, IsLists, IsMatrix}

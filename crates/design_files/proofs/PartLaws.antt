@@ -2,8 +2,8 @@
 use Rattle.std.proofs.Common.{◌≡◌, ℕ, ◌+◌, ◌++◌, [], ◌∷◌, ℤ, List, length, Option, Some, inl, inr}
 use Rattle.mat_int.specs.Matrix.{Matrix}
 use Rattle.toml.specs.Data.{Data}
-use Rattle.qp_model.specs.PartRules.{AreLimits, AreHighs}
-use Rattle.qp_model.specs.Rules.{Rule, AllHold, shape, range}
+use Rattle.qp_model.specs.problem.PartRules.{AreLimits, AreHighs}
+use Rattle.qp_model.specs.problem.Rules.{Rule, AllHold, shape, range}
 use Rattle.number_text.specs.declared.text_fault.TextFault.{TextFault}
 use Rattle.qp_model.proofs.RuleLaws.{all_hold}
 use Rattle.design_files.specs.DesignText.{FailsRule}

@@ -2,9 +2,9 @@
 use Rattle.std.proofs.Common.{◌≡◌, ℕ, pos, List, ◌++◌, Option, Some, refl, sym, ap, ◌∙◌}
 use Rattle.std.proofs.lemmas.List.{append_assoc}
 use Rattle.toml.specs.Data.{Data}
-use Rattle.qp_model.specs.Limits.{most_states, most_inputs, most_stages}
-use Rattle.qp_model.specs.Parts.{IsDesign}
-use Rattle.qp_model.specs.Rules.{Rule}
+use Rattle.qp_model.specs.problem.Limits.{most_states, most_inputs, most_stages}
+use Rattle.qp_model.specs.problem.Parts.{IsDesign}
+use Rattle.qp_model.specs.problem.Rules.{Rule}
 use Rattle.qp_model.specs.declared.design_parts.DesignParts.{DesignParts}
 use Rattle.design_files.specs.Numbers.{number_in, count_of}
 use Rattle.design_files.specs.Values.{Values}

@@ -2,7 +2,7 @@
 use Rattle.std.proofs.Common.{◌≡◌, List, ◌++◌, Result, Ok, Err, inl, inr}
 use Rattle.number_text.specs.declared.text_fault.TextFault.{TextFault}
 use Rattle.std.specs.Result.{IsErrAnd}
-use Rattle.qp_model.specs.Rules.{Rule, AllHold, IsFirstBroken}
+use Rattle.qp_model.specs.problem.Rules.{Rule, AllHold, IsFirstBroken}
 use Rattle.qp_model.proofs.RuleLaws.{broken_before, broken_after}
 use Rattle.design_files.specs.DesignText.{FailsRule, Reads}
 

@@ -6,10 +6,10 @@ use Rattle.std.proofs.lemmas.Option.{same_Some, none-some}
 use Rattle.integer_algebra.specs.Sums.{at}
 use Rattle.mat_int.specs.Matrix.{Matrix, entry_of}
 use Rattle.toml.specs.Data.{Data, Members}
-use Rattle.qp_model.specs.Limits.{text_version, last_version, most_states, most_inputs, most_stages}
-use Rattle.qp_model.specs.Range.{LiesIn, IsDenominator, IsPositive}
-use Rattle.qp_model.specs.Parts.{IsDesign, IsTable, IsNumeratorList, design_numbers}
-use Rattle.qp_model.specs.Rules.{AllHold, IsFirstBroken}
+use Rattle.qp_model.specs.problem.Limits.{text_version, last_version, most_states, most_inputs, most_stages}
+use Rattle.qp_model.specs.problem.Range.{LiesIn, IsDenominator, IsPositive}
+use Rattle.qp_model.specs.problem.Parts.{IsDesign, IsTable, IsNumeratorList, design_numbers}
+use Rattle.qp_model.specs.problem.Rules.{AllHold, IsFirstBroken}
 use Rattle.qp_model.specs.declared.design_parts.DesignParts.{DesignParts}
 use Rattle.number_text.specs.declared.text_fault.TextFault.{TextFault}
 use Rattle.number_text.specs.declared.text_fault.TextFault.TheVariants.{NotToml, Memory}

@@ -1,8 +1,8 @@
 -- Design texts, and the first fault of a text that is none.
 use Rattle.std.specs.Prelude.{◌≡◌, ◌⊎◌, ℕ, pos, List, ◌++◌, Some, IsSomeAnd, MatchOption, Result, Ok, Err}
 use Rattle.toml.specs.Data.{Members}
-use Rattle.qp_model.specs.Parts.{IsDesign}
-use Rattle.qp_model.specs.Rules.{Rule, AllHold, IsFirstBroken}
+use Rattle.qp_model.specs.problem.Parts.{IsDesign}
+use Rattle.qp_model.specs.problem.Rules.{Rule, AllHold, IsFirstBroken}
 use Rattle.qp_model.specs.declared.design_parts.DesignParts.{DesignParts}
 use Rattle.number_text.specs.declared.text_fault.TextFault.{TextFault}
 use Rattle.number_text.specs.declared.text_fault.TextFault.TheVariants.{NotToml, Memory}

@@ -3,7 +3,7 @@ use Rattle.std.specs.Prelude.{◌≡◌, ℕ, ℤ, pos, List, [], ◌∷◌, len
 use Rattle.std.specs.Option.{option_and_then, option_map}
 use Rattle.toml.specs.Data.{Data, Items, no_items, item, as_integer, as_array}
 use Rattle.mat_int.specs.Matrix.{Matrix}
-use Rattle.qp_model.specs.Range.{LiesIn}
+use Rattle.qp_model.specs.problem.Range.{LiesIn}
 
 -- the integer that a value is
 abbrev pub number_in : Option Data → Option ℤ

@@ -1,10 +1,10 @@
 -- The rules of a design text's places: the shape of the value at each, and then the range of its numbers.
 use Rattle.std.specs.Prelude.{ℕ, ◌+◌, pos, ◌≤ℤ◌, List, [], ◌∷◌, ◌++◌, All, Option}
 use Rattle.toml.specs.Data.{Data, Members}
-use Rattle.qp_model.specs.Limits.{text_version, last_version, most_states, most_inputs, most_stages}
-use Rattle.qp_model.specs.Range.{IsDenominator, IsNumerator, IsPositive}
-use Rattle.qp_model.specs.Rules.{Rule, shape, range}
-use Rattle.qp_model.specs.PartRules.{AreCosts, AreLimits, AreHighs}
+use Rattle.qp_model.specs.problem.Limits.{text_version, last_version, most_states, most_inputs, most_stages}
+use Rattle.qp_model.specs.problem.Range.{IsDenominator, IsNumerator, IsPositive}
+use Rattle.qp_model.specs.problem.Rules.{Rule, shape, range}
+use Rattle.qp_model.specs.problem.PartRules.{AreCosts, AreLimits, AreHighs}
 use Rattle.design_files.specs.Numbers.{IsNumber, IsList, IsLists, number_of, count_of, list_of, lists_of}
 use Rattle.design_files.specs.Values.{Values, values_of, top_keys, plant_keys, cost_keys, limit_keys, box_keys, target_keys, further_keys}
 

@@ -3,9 +3,9 @@ use Rattle.std.specs.Prelude.{◌≡◌, ℕ, ◌+◌, ◌≤◌, ◌<◌, ℤ, 
 use Rattle.integer_algebra.specs.Sums.{at}
 use Rattle.mat_int.specs.Matrix.{Matrix, entry_of}
 use Rattle.toml.specs.Data.{Data}
-use Rattle.qp_model.specs.Limits.{text_version, last_version, most_states, most_inputs, most_stages}
-use Rattle.qp_model.specs.Range.{LiesIn, IsDenominator, IsPositive}
-use Rattle.qp_model.specs.Parts.{IsTable, IsNumeratorList}
+use Rattle.qp_model.specs.problem.Limits.{text_version, last_version, most_states, most_inputs, most_stages}
+use Rattle.qp_model.specs.problem.Range.{LiesIn, IsDenominator, IsPositive}
+use Rattle.qp_model.specs.problem.Parts.{IsTable, IsNumeratorList}
 use Rattle.design_files.specs.Numbers.{number_in, list_in, IsMatrix}
 use Rattle.design_files.specs.Values.{Values}
 use Rattle.design_files.specs.declared.places.Sizes.{Sizes}

@@ -1,7 +1,7 @@
 -- The keys of a design text, in the order of their places, and the values that stand there.
 use Rattle.std.specs.Prelude.{ℕ, List, [], ◌∷◌, codes, All, Contains, Option, IsSome, IfSome}
 use Rattle.toml.specs.Data.{Data, Members, no_members, member, get_member}
-use Rattle.qp_model.specs.Rules.{Rule, key}
+use Rattle.qp_model.specs.problem.Rules.{Rule, key}
 use Rattle.design_files.specs.Document.{table_at, value_at}
 
 pub record Values : Type 0 where

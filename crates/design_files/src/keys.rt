@@ -5,7 +5,7 @@ ghost use Rattle.std.specs.Str.{bytes_eq};
 ghost use Rattle.std.specs.BTreeMap.{keys};
 ghost use Rattle.toml.specs.Data.{get_member};
 ghost use Rattle.toml.specs.View.{view, table_view};
-ghost use Rattle.qp_model.specs.Rules.{Tests, key};
+ghost use Rattle.qp_model.specs.problem.Rules.{Tests, key};
 ghost use Rattle.design_files.specs.Document.{table_at, value_at};
 ghost use Rattle.design_files.specs.Values.{values_of, HasOnly, top_keys, plant_keys, cost_keys, limit_keys, box_keys, target_keys, further_keys};
 ghost use Rattle.design_files.specs.Keys.{seen, AreTop, ArePlant, AreCost, AreLimitKeys, AreBox, AreTargets};

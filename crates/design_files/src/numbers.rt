@@ -2,7 +2,7 @@
 ghost use Rattle.std.specs.Prelude.{All, IsSome, IsSomeAnd, ◌≡◌, ◌<◌, ◌≤◌, ◌+◌, Some, [], ◌∷◌, length, slice_set, slice_index_or};
 ghost use Rattle.mat_int.specs.Matrix.{row_of};
 ghost use Rattle.toml.specs.View.{view, items_view};
-ghost use Rattle.qp_model.specs.Rules.{shape};
+ghost use Rattle.qp_model.specs.problem.Rules.{shape};
 ghost use Rattle.design_files.specs.Numbers.{number_in, integers_of, list_in, rows_of, IsMatrix, IsNumber, IsList, IsLists};
 ghost use Rattle.design_files.specs.DesignText.{Reads};
 

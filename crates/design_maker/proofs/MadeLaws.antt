@@ -1,8 +1,8 @@
 -- The law of made designs.
 use Rattle.std.proofs.Common.{◌≡◌, ℕ, zero, suc, ◌<◌, ℤ, pos, neg_ℤ, List, [], ◌∷◌, refl, sym, ap, subst, arith}
 use Rattle.integer_algebra.specs.Sums.{at}
-use Rattle.qp_model.specs.Range.{LiesIn}
-use Rattle.qp_model.specs.Parts.{DesignNumbers, design_numbers, design_of}
+use Rattle.qp_model.specs.problem.Range.{LiesIn}
+use Rattle.qp_model.specs.problem.Parts.{DesignNumbers, design_numbers, design_of}
 use Rattle.qp_model.specs.declared.design_parts.DesignParts.{DesignParts}
 use Rattle.design_files.specs.DesignText.{IsDesignText}
 use Rattle.policy_file.specs.PolicyText.{IsPolicyText}

@@ -7,10 +7,10 @@ use Rattle.std.proofs.lemmas.Bool.Decides.{nat_tests}
 use Rattle.std.proofs.lemmas.Int.{ints}
 use Rattle.integer_algebra.specs.Sums.{at}
 use Rattle.mat_int.specs.Matrix.{Matrix, entry_of}
-use Rattle.qp_model.specs.Limits.{text_version}
-use Rattle.qp_model.specs.Range.{LiesIn, IsDenominator, IsNumerator, IsPositive}
-use Rattle.qp_model.specs.Parts.{IsDesign, DesignNumbers, design_numbers}
-use Rattle.qp_model.specs.Rules.{AllHold}
+use Rattle.qp_model.specs.problem.Limits.{text_version}
+use Rattle.qp_model.specs.problem.Range.{LiesIn, IsDenominator, IsNumerator, IsPositive}
+use Rattle.qp_model.specs.problem.Parts.{IsDesign, DesignNumbers, design_numbers}
+use Rattle.qp_model.specs.problem.Rules.{AllHold}
 use Rattle.qp_model.specs.declared.design_parts.DesignParts.{DesignParts}
 use Rattle.design_files.specs.Values.{values_of, further_keys}
 use Rattle.design_files.specs.DesignText.{HasNumbers, IsDesignDocument}

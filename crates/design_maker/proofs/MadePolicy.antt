@@ -5,8 +5,8 @@ use Rattle.csv.specs.Machine.{next_record}
 use Rattle.csv.specs.Reading.{default_config, strip_bom, records_from}
 use Rattle.csv.specs.declared.parser.State.TheVariants as st
 use Rattle.integer_algebra.specs.Sums.{at}
-use Rattle.qp_model.specs.Design.{Design}
-use Rattle.qp_model.specs.Policy.{IsPlanDenominator}
+use Rattle.qp_model.specs.problem.Design.{Design}
+use Rattle.qp_model.specs.problem.Policy.{IsPlanDenominator}
 use Rattle.policy_file.specs.Records.{HoldsNumbers, records_of, record_at, field_of}
 use Rattle.policy_file.specs.PolicyText.{IsPolicyText, policy_rule, record_length}
 use Rattle.design_maker.specs.Texts.{policy_text, policy_line}

@@ -1,7 +1,7 @@
 -- A value of the design's type that has the made numbers.
 use Rattle.std.proofs.Common.{ℕ, ℤ, pos, neg_ℤ, [], ◌∷◌, refl, arith, lit<, Vec, Global}
 use Rattle.std.specs.Ptr.{null_ptr}
-use Rattle.qp_model.specs.Range.{LiesIn}
+use Rattle.qp_model.specs.problem.Range.{LiesIn}
 use Rattle.qp_model.specs.declared.design_parts.DesignParts.{DesignParts}
 use Rattle.design_maker.specs.declared.draws.Drawn.{Drawn}
 use Rattle.design_maker.specs.Draws.{drawn}

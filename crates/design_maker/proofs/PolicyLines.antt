@@ -1,7 +1,7 @@
 -- The lines of a policy text, as they are written.
 use Rattle.std.proofs.Common.{◌≡◌, ◌∙◌, ℕ, zero, suc, ◌+◌, ◌*◌, pos, List, [], ◌∷◌, ◌++◌, codes, replicate, refl, ap, arith, append_assoc}
 use Rattle.std.specs.Fmt.{digits}
-use Rattle.qp_model.specs.StateText.{comma_separated}
+use Rattle.qp_model.specs.text.StateText.{comma_separated}
 use Rattle.number_text.specs.Lines.{text_of}
 use Rattle.design_maker.specs.Texts.{policy_line}
 

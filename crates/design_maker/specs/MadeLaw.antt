@@ -2,10 +2,10 @@
 use Rattle.std.specs.Prelude.{◌≡◌, ℕ, ◌<◌, List, length}
 use Rattle.integer_algebra.specs.Sums.{at}
 use Rattle.mat_int.specs.Matrix.{row_of}
-use Rattle.qp_model.specs.Box.{IsGridState}
-use Rattle.qp_model.specs.Limits.{text_version, most_stages}
-use Rattle.qp_model.specs.Parts.{design_numbers, design_of}
-use Rattle.qp_model.specs.Range.{LiesIn}
+use Rattle.qp_model.specs.problem.Box.{IsGridState}
+use Rattle.qp_model.specs.problem.Limits.{text_version, most_stages}
+use Rattle.qp_model.specs.problem.Parts.{design_numbers, design_of}
+use Rattle.qp_model.specs.problem.Range.{LiesIn}
 use Rattle.qp_model.specs.declared.design_parts.DesignParts.{DesignParts}
 use Rattle.design_files.specs.DesignText.{IsDesignText}
 use Rattle.policy_file.specs.PolicyText.{IsPolicyText}

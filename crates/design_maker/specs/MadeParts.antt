@@ -1,9 +1,9 @@
 -- The numbers of a made design, its policy and the states of its box.
 use Rattle.std.specs.Prelude.{ℕ, ◌*◌, ℤ, pos, neg_ℤ, List, [], ◌∷◌, replicate}
 use Rattle.mat_int.specs.Matrix.{Matrix, zero_matrix}
-use Rattle.qp_model.specs.Limits.{text_version}
-use Rattle.qp_model.specs.Parts.{DesignNumbers}
-use Rattle.qp_model.specs.Policy.{Plans}
+use Rattle.qp_model.specs.problem.Limits.{text_version}
+use Rattle.qp_model.specs.problem.Parts.{DesignNumbers}
+use Rattle.qp_model.specs.problem.Policy.{Plans}
 use Rattle.design_maker.specs.declared.draws.Drawn.{Drawn}
 use Rattle.design_maker.specs.Texts.{plant_rows, input_weights, cost_rows, corner_states}
 

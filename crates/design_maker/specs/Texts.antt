@@ -2,7 +2,7 @@
 use Rattle.std.specs.Prelude.{ℕ, ◌*◌, ℤ, pos, neg_ℤ, List, [], ◌∷◌, ◌++◌, map, codes, replicate}
 use Rattle.std.specs.Fmt.{decimal, signed_decimal}
 use Rattle.number_text.specs.Lines.{text_of}
-use Rattle.qp_model.specs.StateText.{comma_separated}
+use Rattle.qp_model.specs.text.StateText.{comma_separated}
 use Rattle.design_maker.specs.declared.draws.Drawn.{Drawn}
 use Rattle.design_maker.specs.Draws.{drawn}
 

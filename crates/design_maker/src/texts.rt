@@ -1,6 +1,6 @@
 // The texts of a made design.
 ghost use Rattle.std.specs.Prelude.{◌≡◌, ◌≤◌, ◌<◌, ◌^◌, length, IfOk, string_bytes};
-ghost use Rattle.qp_model.specs.Limits.{text_version, most_stages};
+ghost use Rattle.qp_model.specs.problem.Limits.{text_version, most_stages};
 ghost use Rattle.number_text.specs.Lines.{text_of};
 ghost use Rattle.design_maker.specs.MadeLaw.{AreMade};
 ghost use Rattle.design_maker.specs.Texts.{cost_lines, design_lines, design_text, plant_lines, policy_line, policy_text, states_text};

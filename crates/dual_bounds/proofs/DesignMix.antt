@@ -7,11 +7,11 @@ use Rattle.integer_algebra.proofs.OrderLaws.{add-le-add_z, add_nonneg_z, le_by, 
 use Rattle.integer_algebra.proofs.SumLaws.{total_nonneg}
 use Rattle.integer_algebra.proofs.VectorLaws.{image_mix, image_same}
 use Rattle.integer_algebra.proofs.Quoting.{by_ring, quotes}
-use Rattle.qp_model.specs.Design.{Design, CostRow, LimitRow}
-use Rattle.qp_model.specs.Sound.{IsSound}
-use Rattle.qp_model.specs.Trajectory.{trajectory, lift}
-use Rattle.qp_model.specs.Residual.{residual, stage_residual, final_residual, slack}
-use Rattle.qp_model.specs.Cost.{cost, cost_term}
+use Rattle.qp_model.specs.problem.Design.{Design, CostRow, LimitRow}
+use Rattle.qp_model.specs.problem.Sound.{IsSound}
+use Rattle.qp_model.specs.problem.Trajectory.{trajectory, lift}
+use Rattle.qp_model.specs.problem.Residual.{residual, stage_residual, final_residual, slack}
+use Rattle.qp_model.specs.problem.Cost.{cost, cost_term}
 
 -- two states and plans, and their mixture
 pub record Mixture : Type 0 where

@@ -8,16 +8,16 @@ use Rattle.integer_algebra.proofs.RingLaws.{add_difference, add_equations, same_
 use Rattle.integer_algebra.proofs.SumLaws.{total_same}
 use Rattle.integer_algebra.proofs.VectorLaws.{dot_add, dot_scale, image_mix, image_same, image_scale}
 use Rattle.integer_algebra.proofs.Quoting.{by_ring, quotes}
-use Rattle.qp_model.specs.Design.{Design, entries}
-use Rattle.qp_model.specs.Sound.{IsSound}
-use Rattle.qp_model.specs.Cost.{cost, cost_scale}
-use Rattle.qp_model.specs.Condensed.{Condensed, IsCondensed, gradient_at}
-use Rattle.qp_model.specs.Condensing.{condensed_of}
-use Rattle.qp_model.specs.Curvature.{curvature}
+use Rattle.qp_model.specs.problem.Design.{Design, entries}
+use Rattle.qp_model.specs.problem.Sound.{IsSound}
+use Rattle.qp_model.specs.problem.Cost.{cost, cost_scale}
+use Rattle.qp_model.specs.form.Condensed.{Condensed, IsCondensed, gradient_at}
+use Rattle.qp_model.specs.form.Condensing.{condensed_of}
+use Rattle.qp_model.specs.form.Curvature.{curvature}
 use Rattle.qp_model.proofs.CostLaws.{condensing}
 use Rattle.qp_model.proofs.CurvatureLaws.{expansion_law}
 use Rattle.qp_model.proofs.ScalingLaws.{scaling_law}
-use Rattle.qp_model.specs.Excess.{IsNearBest}
+use Rattle.qp_model.specs.bounds.Excess.{IsNearBest}
 use Rattle.dual_bounds.proofs.DesignMix.{Mixture, over as over_of, plan}
 
 -- ---- the gradient at a mixture, all plans over one denominator q

@@ -11,13 +11,13 @@ use Rattle.integer_algebra.specs.Division.{ceil_div}
 use Rattle.integer_algebra.proofs.OrderLaws.{add_pos_z, add_nonneg_z, le_of_lt_z, add-le-add_z, difference_nonneg, le_by, mul_nonneg_z, mul_pos_z, square_nonneg_z, mul-le-mul_left_z}
 use Rattle.integer_algebra.proofs.DivisionLaws.{le-mul-ceil_div}
 use Rattle.integer_algebra.proofs.Quoting.{by_ring, quotes}
-use Rattle.qp_model.specs.Design.{Design}
-use Rattle.qp_model.specs.Sound.{IsSound}
-use Rattle.qp_model.specs.Box.{IsGridState, corner}
-use Rattle.qp_model.specs.Cost.{cost, cost_scale}
-use Rattle.qp_model.specs.Residual.{residual_scale}
-use Rattle.qp_model.specs.Policy.{Plans, IsPolicyFor, corner_denominator, corner_plan}
-use Rattle.qp_model.specs.Choices.{multiplier_bound, multiplier_of}
+use Rattle.qp_model.specs.problem.Design.{Design}
+use Rattle.qp_model.specs.problem.Sound.{IsSound}
+use Rattle.qp_model.specs.problem.Box.{IsGridState, corner}
+use Rattle.qp_model.specs.problem.Cost.{cost, cost_scale}
+use Rattle.qp_model.specs.problem.Residual.{residual_scale}
+use Rattle.qp_model.specs.problem.Policy.{Plans, IsPolicyFor, corner_denominator, corner_plan}
+use Rattle.qp_model.specs.bounds.Choices.{multiplier_bound, multiplier_of}
 use Rattle.qp_model.specs.declared.bounds.Margin.{Margin}
 use Rattle.dual_bounds.specs.Corners.{HasMarginAt, KeepsMargin, HasExcessAt, KeepsExcess, BoxLaw, RepairLaw, ExcessBoxLaw, ThresholdLaw}
 use Rattle.dual_bounds.proofs.DesignMix.{Mixture, over as over_of, plan, slack_mixed, residual_mixed, cost_below, cost_nonneg}

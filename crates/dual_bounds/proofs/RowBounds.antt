@@ -4,7 +4,7 @@ use Rattle.std.proofs.lemmas.Nat.{pow-add}
 use Rattle.std.proofs.Math.Nat.{add-mul, mul-le-mul_right, pow-le-pow_right}
 use Rattle.integer_algebra.specs.Division.{ceil_div}
 use Rattle.integer_algebra.proofs.DivisionLaws.{le-mul-ceil_div, ceil_div-le}
-use Rattle.qp_model.specs.Choices.{row_violation_bound, violation_bound}
+use Rattle.qp_model.specs.bounds.Choices.{row_violation_bound, violation_bound}
 
 -- a row's step and the greatest, each times 2^40 r
 pub step_sum : (e s r : ℕ) → 2 ^ (e + 40) * r + 2 ^ (s + 40) * r ≡ (2 ^ e + 2 ^ s) * 2 ^ 40 * r

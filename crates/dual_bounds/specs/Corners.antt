@@ -1,17 +1,17 @@
 -- What a margin at the corners of the box gives at every state of it.
 use Rattle.std.specs.Prelude.{ℕ, ◌^◌, ◌<◌, ◌≤◌, ℤ, pos, ◌+ℤ◌, ◌*ℤ◌, ◌≤ℤ◌, ◌<ℤ◌}
 use Rattle.integer_algebra.specs.Sums.{square}
-use Rattle.qp_model.specs.Design.{Design, rows}
-use Rattle.qp_model.specs.Sound.{IsSound}
-use Rattle.qp_model.specs.Box.{IsGridState, corner}
-use Rattle.qp_model.specs.Cost.{cost, cost_scale}
-use Rattle.qp_model.specs.Residual.{residual, slack, residual_scale, IsFeasible}
-use Rattle.qp_model.specs.Policy.{Plans, IsPolicyFor, corner_denominator, corner_plan}
-use Rattle.qp_model.specs.Form.{Form, IsFormFor}
-use Rattle.qp_model.specs.Quantities.{input_floor}
-use Rattle.qp_model.specs.Excess.{IsNearBest, excess_of}
-use Rattle.qp_model.specs.Margin.{simulated, HasSlack, HasCost}
-use Rattle.qp_model.specs.Choices.{multiplier_of}
+use Rattle.qp_model.specs.problem.Design.{Design, rows}
+use Rattle.qp_model.specs.problem.Sound.{IsSound}
+use Rattle.qp_model.specs.problem.Box.{IsGridState, corner}
+use Rattle.qp_model.specs.problem.Cost.{cost, cost_scale}
+use Rattle.qp_model.specs.problem.Residual.{residual, slack, residual_scale, IsFeasible}
+use Rattle.qp_model.specs.problem.Policy.{Plans, IsPolicyFor, corner_denominator, corner_plan}
+use Rattle.qp_model.specs.form.Form.{Form, IsFormFor}
+use Rattle.qp_model.specs.form.Quantities.{input_floor}
+use Rattle.qp_model.specs.bounds.Excess.{IsNearBest, excess_of}
+use Rattle.qp_model.specs.bounds.Margin.{simulated, HasSlack, HasCost}
+use Rattle.qp_model.specs.bounds.Choices.{multiplier_of}
 use Rattle.qp_model.specs.declared.bounds.Margin.{Margin}
 
 -- the corners' plans have in each row a slack of at least units / 2^16, and cost at most the margin's cost

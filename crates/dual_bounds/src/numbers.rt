@@ -1,7 +1,7 @@
 // The numbers that follow from a margin.
 ghost use Rattle.std.specs.Prelude.{◌≡◌, ℕ, ◌+◌, ◌*◌, ◌^◌, ◌≤◌, pos, ◌≤ℤ◌, unsigned_abs, IfErr};
 ghost use Rattle.std.specs.Result.{OkIff};
-ghost use Rattle.qp_model.specs.Choices.{multiplier_of, multiplier_size_of, step_count, row_violation_bound, violation_bound, undercut_bound};
+ghost use Rattle.qp_model.specs.bounds.Choices.{multiplier_of, multiplier_size_of, step_count, row_violation_bound, violation_bound, undercut_bound};
 ghost use Rattle.qp_model.specs.declared.quantity.Quantity.TheVariants.{Multiplier};
 
 use frac_scaled::scaled;

@@ -1,9 +1,9 @@
 // What rows have of a run: the limit rows, and the counted cost rows.
 ghost use Rattle.std.specs.Prelude.{◌<◌, ◌*◌, IfOk, ◌^◌};
 ghost use Rattle.integer_algebra.specs.Sums.{at};
-ghost use Rattle.qp_model.specs.Design.{rows};
-ghost use Rattle.qp_model.specs.Parts.{design_of};
-ghost use Rattle.qp_model.specs.Runs.{row_at, Holds, counted, cost_run, counts};
+ghost use Rattle.qp_model.specs.problem.Design.{rows};
+ghost use Rattle.qp_model.specs.problem.Parts.{design_of};
+ghost use Rattle.qp_model.specs.problem.Runs.{row_at, Holds, counted, cost_run, counts};
 ghost use Rattle.condensed_form.specs.Lists.{IsReady, RowsFit, CostsFit};
 
 use crate::run::Run;

@@ -23,10 +23,10 @@ impl<'a> Run<'a> {
     ghost use Rattle.std.specs.Prelude.{◌≡◌, ◌≤◌, ◌<◌, ◌+◌, ◌*ℤ◌, ℕ, length, IfOk};
     ghost use Rattle.integer_algebra.specs.Sums.{at, dot};
     ghost use Rattle.integer_algebra.specs.Sizes.{size};
-    ghost use Rattle.qp_model.specs.Design.{rows};
-    ghost use Rattle.qp_model.specs.Parts.{design_of};
-    ghost use Rattle.qp_model.specs.Runs.{run, row_at, limit_at, cost_run, counted, counts, TrajectoryFits, Holds};
-    ghost use Rattle.qp_model.specs.Trajectory.{lift};
+    ghost use Rattle.qp_model.specs.problem.Design.{rows};
+    ghost use Rattle.qp_model.specs.problem.Parts.{design_of};
+    ghost use Rattle.qp_model.specs.problem.Runs.{run, row_at, limit_at, cost_run, counted, counts, TrajectoryFits, Holds};
+    ghost use Rattle.qp_model.specs.problem.Trajectory.{lift};
     ghost use Rattle.condensed_form.specs.Lists.{IsReady, row_of_numbers, RowFits, RowsFit, CostRowFits, CostsFit};
 
     /// The run. `powers` are those of `plant_den`, up to the number of stages.

@@ -4,8 +4,8 @@ ghost use Rattle.integer_algebra.specs.Sums.{at, dot, image};
 ghost use Rattle.integer_algebra.specs.Sizes.{product_size};
 ghost use Rattle.mat_int.specs.Matrix.{entry_of};
 ghost use Rattle.mat_int.specs.Lines.{lists};
-ghost use Rattle.qp_model.specs.Parts.{design_of, IsDesign};
-ghost use Rattle.qp_model.specs.Runs.{run, Holds, TrajectoryFits};
+ghost use Rattle.qp_model.specs.problem.Parts.{design_of, IsDesign};
+ghost use Rattle.qp_model.specs.problem.Runs.{run, Holds, TrajectoryFits};
 ghost use Rattle.condensed_form.specs.Lists.{HoldsRows, ArePowers, NextFits};
 
 use condensed_form::mixed;

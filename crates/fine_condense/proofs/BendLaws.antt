@@ -10,12 +10,12 @@ use Rattle.integer_algebra.proofs.AmountLaws.{amount_mono, amount_scale}
 use Rattle.integer_algebra.proofs.PowerLaws.{pow_positive}
 use Rattle.integer_algebra.proofs.VectorLaws.{dot_same, dot_sub, dot_add_right, dot_neg_right, quadratic_scale}
 use Rattle.integer_algebra.proofs.Quoting.{by_ring, quotes}
-use Rattle.qp_model.specs.Design.{Design, entries}
-use Rattle.qp_model.specs.Sound.{IsSound}
-use Rattle.qp_model.specs.Condensing.{condensed_of}
-use Rattle.qp_model.specs.Form as held
-use Rattle.qp_model.specs.FineForm.{fine_hessian, hessian_radius, hessian_row_radius}
-use Rattle.qp_model.specs.Quantities.{input_floor}
+use Rattle.qp_model.specs.problem.Design.{Design, entries}
+use Rattle.qp_model.specs.problem.Sound.{IsSound}
+use Rattle.qp_model.specs.form.Condensing.{condensed_of}
+use Rattle.qp_model.specs.form.Form as held
+use Rattle.qp_model.specs.form.FineForm.{fine_hessian, hessian_radius, hessian_row_radius}
+use Rattle.qp_model.specs.form.Quantities.{input_floor}
 use Rattle.qp_model.proofs.CostLaws.{condensing}
 use Rattle.qp_model.proofs.SizeFacts.{greatest_term}
 use Rattle.condensed_form.specs.Form.{response_scale}

@@ -13,13 +13,13 @@ use Rattle.enclosure.specs.declared.types.Enc.{Enc}
 use Rattle.enclosure.specs.Values.{pair_at}
 use Rattle.enclosure.proofs.SumLaws.{pair_at_is}
 use Rattle.qp_model.specs.declared.design_parts.DesignParts.{DesignParts}
-use Rattle.qp_model.specs.Design.{entries, rows}
-use Rattle.qp_model.specs.Parts.{design_of, IsDesign}
+use Rattle.qp_model.specs.problem.Design.{entries, rows}
+use Rattle.qp_model.specs.problem.Parts.{design_of, IsDesign}
 use Rattle.qp_model.proofs.VersionLaws.{design_states_le, design_stages_le}
-use Rattle.qp_model.specs.Quantities.{cost_width, limit_width}
-use Rattle.qp_model.specs.Runs.{unit, counts, Holds}
-use Rattle.qp_model.specs.FineForm.{wholes, counted_row, fine_cost, fine_costs, fine_limit}
-use Rattle.qp_model.specs.FineSizes.{reach_from, fine_response_size, fine_limit_entry_size}
+use Rattle.qp_model.specs.form.Quantities.{cost_width, limit_width}
+use Rattle.qp_model.specs.problem.Runs.{unit, counts, Holds}
+use Rattle.qp_model.specs.form.FineForm.{wholes, counted_row, fine_cost, fine_costs, fine_limit}
+use Rattle.qp_model.specs.form.FineSizes.{reach_from, fine_response_size, fine_limit_entry_size}
 use Rattle.condensed_form.specs.Lists.{with_column}
 use Rattle.fine_run.specs.Lists.{HoldsEnclosures}
 use Rattle.fine_condense.specs.Lists.{IsRunOfWholes, HoldsEncMatrix, mids, rads}

@@ -19,13 +19,13 @@ use Rattle.enclosure.specs.declared.types.Enc.{Enc}
 use Rattle.enclosure.specs.Values.{pair}
 use Rattle.enclosure.proofs.RoomLaws.{same_pair}
 use Rattle.qp_model.specs.declared.design_parts.DesignParts.{DesignParts}
-use Rattle.qp_model.specs.Design.{Design, entries}
-use Rattle.qp_model.specs.Parts.{design_of, IsDesign}
-use Rattle.qp_model.specs.FineForm.{own_weight, counted_row, fine_costs, fine_products, fine_hessian, fine_linear, fine_constant, hessian_row_radius}
-use Rattle.qp_model.specs.FineSizes.{fine_response_size}
-use Rattle.qp_model.specs.Quantities.{greatest, weight_sum}
-use Rattle.qp_model.specs.Runs.{counts}
-use Rattle.qp_model.specs.Range.{IsDenominator, IsPositive}
+use Rattle.qp_model.specs.problem.Design.{Design, entries}
+use Rattle.qp_model.specs.problem.Parts.{design_of, IsDesign}
+use Rattle.qp_model.specs.form.FineForm.{own_weight, counted_row, fine_costs, fine_products, fine_hessian, fine_linear, fine_constant, hessian_row_radius}
+use Rattle.qp_model.specs.form.FineSizes.{fine_response_size}
+use Rattle.qp_model.specs.form.Quantities.{greatest, weight_sum}
+use Rattle.qp_model.specs.problem.Runs.{counts}
+use Rattle.qp_model.specs.problem.Range.{IsDenominator, IsPositive}
 use Rattle.qp_model.proofs.VersionLaws.{design_stages_le}
 use Rattle.condensed_form.proofs.Rooms.{read, narrow}
 use Rattle.condensed_form.proofs.StateFacts.{denominator_positive}

@@ -2,8 +2,8 @@
 use Rattle.std.proofs.Common.{◌≡◌, ◌⊎◌, inl, inr, ℕ, ◌<◌, ◌≤◌, ◌^◌, Result, Err, true, arith, ap, refl}
 use Rattle.qp_model.specs.declared.quantity.Quantity.{Quantity}
 use Rattle.qp_model.specs.declared.quantity.Quantity.TheVariants.{Prediction, Hessian, Rows}
-use Rattle.qp_model.specs.Class.{prediction_in, hessian_in, rows_in}
-use Rattle.qp_model.specs.Design.{Design}
+use Rattle.qp_model.specs.form.Class.{prediction_in, hessian_in, rows_in}
+use Rattle.qp_model.specs.problem.Design.{Design}
 use Rattle.condensed_form.specs.declared.fault.CondenseFault.{CondenseFault}
 use Rattle.condensed_form.specs.declared.fault.CondenseFault.TheVariants.{Memory, TooWide}
 use Rattle.condensed_form.specs.Fault.{IsFirstWideIn}

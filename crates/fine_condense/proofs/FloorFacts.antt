@@ -5,11 +5,11 @@ use Rattle.std.proofs.lemmas.Int.{ints, clamps, unsigned_abs-mul, to_z-of_z}
 use Rattle.std.proofs.Math.Nat.{mul-le-mul_left}
 use Rattle.integer_algebra.proofs.Quoting.{by_ring, quotes}
 use Rattle.qp_model.specs.declared.design_parts.DesignParts.{DesignParts}
-use Rattle.qp_model.specs.Parts.{design_of, IsDesign}
-use Rattle.qp_model.specs.Range.{IsDenominator, IsPositive}
-use Rattle.qp_model.specs.Quantities.{input_floor}
-use Rattle.qp_model.specs.FineForm.{hessian_radius}
-use Rattle.qp_model.specs.FineSizes.{fine_hessian_size}
+use Rattle.qp_model.specs.problem.Parts.{design_of, IsDesign}
+use Rattle.qp_model.specs.problem.Range.{IsDenominator, IsPositive}
+use Rattle.qp_model.specs.form.Quantities.{input_floor}
+use Rattle.qp_model.specs.form.FineForm.{hessian_radius}
+use Rattle.qp_model.specs.form.FineSizes.{fine_hessian_size}
 use Rattle.condensed_form.specs.Form.{IsLeastInput}
 use Rattle.condensed_form.proofs.Rooms.{read, narrow}
 use Rattle.condensed_form.proofs.DenominatorFacts.{natural, denominator_fits, least_is}

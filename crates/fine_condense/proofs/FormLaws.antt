@@ -15,16 +15,16 @@ use Rattle.integer_algebra.proofs.Quoting.{by_ring, quotes}
 use Rattle.mat_int.specs.Matrix.{Matrix, entry_of}
 use Rattle.enclosure.specs.declared.types.Enc.{Enc}
 use Rattle.qp_model.specs.declared.design_parts.DesignParts.{DesignParts}
-use Rattle.qp_model.specs.Design.{Design, entries, rows}
-use Rattle.qp_model.specs.Parts.{design_of, IsDesign}
-use Rattle.qp_model.specs.Controller.{HasShape}
-use Rattle.qp_model.specs.Convex.{IsConvex}
-use Rattle.qp_model.specs.Columns.{solve_matrix}
-use Rattle.qp_model.specs.Form.{farthest, HaveSameNumbers}
-use Rattle.qp_model.specs.FineForm.{fine_hessian, fine_linear, fine_constant, fine_by_plan, fine_by_state, fine_form, hessian_radius}
-use Rattle.qp_model.specs.FineSizes.{fine_cost_entry_size, fine_limit_entry_size, fine_hessian_size, fine_rows_size, fine_cost_row_size}
-use Rattle.qp_model.specs.Quantities.{input_floor}
-use Rattle.qp_model.specs.Runs.{Holds}
+use Rattle.qp_model.specs.problem.Design.{Design, entries, rows}
+use Rattle.qp_model.specs.problem.Parts.{design_of, IsDesign}
+use Rattle.qp_model.specs.machine.Controller.{HasShape}
+use Rattle.qp_model.specs.form.Convex.{IsConvex}
+use Rattle.qp_model.specs.form.Columns.{solve_matrix}
+use Rattle.qp_model.specs.form.Form.{farthest, HaveSameNumbers}
+use Rattle.qp_model.specs.form.FineForm.{fine_hessian, fine_linear, fine_constant, fine_by_plan, fine_by_state, fine_form, hessian_radius}
+use Rattle.qp_model.specs.form.FineSizes.{fine_cost_entry_size, fine_limit_entry_size, fine_hessian_size, fine_rows_size, fine_cost_row_size}
+use Rattle.qp_model.specs.form.Quantities.{input_floor}
+use Rattle.qp_model.specs.problem.Runs.{Holds}
 use Rattle.qp_model.proofs.SoundLaws.{sound}
 use Rattle.condensed_form.specs.declared.condensed.Condensed.{Condensed}
 use Rattle.condensed_form.specs.Form.{held, hessian_row_sum, cost_sum, limit_sum, column_products, HasShapes, HasRadii, HasDenominators, IsLeastInput, HasSums, IsFormIn}

@@ -13,13 +13,13 @@ use Rattle.integer_algebra.proofs.PowerLaws.{pow-two}
 use Rattle.integer_algebra.proofs.SizeLaws.{at_size}
 use Rattle.frac_scaled.specs.Enclosures.{Enclosure}
 use Rattle.qp_model.specs.declared.design_parts.DesignParts.{DesignParts}
-use Rattle.qp_model.specs.Design.{Design, entries, rows}
-use Rattle.qp_model.specs.Parts.{design_of, IsDesign}
-use Rattle.qp_model.specs.Form.{farthest}
-use Rattle.qp_model.specs.FineForm.{own_weight, fine_products, fine_hessian, fine_linear, fine_constant, fine_by_plan, fine_by_state}
-use Rattle.qp_model.specs.FineSizes.{fine_reach, fine_response_size, fine_cost_entry_size, fine_limit_entry_size, fine_hessian_size, fine_cost_row_size}
-use Rattle.qp_model.specs.Quantities.{cost_width, weight_sum}
-use Rattle.qp_model.specs.Runs.{bound_at}
+use Rattle.qp_model.specs.problem.Design.{Design, entries, rows}
+use Rattle.qp_model.specs.problem.Parts.{design_of, IsDesign}
+use Rattle.qp_model.specs.form.Form.{farthest}
+use Rattle.qp_model.specs.form.FineForm.{own_weight, fine_products, fine_hessian, fine_linear, fine_constant, fine_by_plan, fine_by_state}
+use Rattle.qp_model.specs.form.FineSizes.{fine_reach, fine_response_size, fine_cost_entry_size, fine_limit_entry_size, fine_hessian_size, fine_cost_row_size}
+use Rattle.qp_model.specs.form.Quantities.{cost_width, weight_sum}
+use Rattle.qp_model.specs.problem.Runs.{bound_at}
 use Rattle.qp_model.proofs.QuantityLaws.{bound_width}
 use Rattle.qp_model.proofs.SizeFacts.{some_entry, some_weight}
 use Rattle.condensed_form.proofs.StateFacts.{denominator_positive}

@@ -15,13 +15,13 @@ use Rattle.integer_algebra.proofs.Quoting.{by_ring, quotes}
 use Rattle.frac_scaled.specs.Enclosures.{Enclosure, Encloses, exactly, sum_of}
 use Rattle.frac_scaled.proofs.EnclosureLaws.{encloses_within, common_law, multiple_law, whole_law}
 use Rattle.mat_int.proofs.EnclosureLaws.{gram_law}
-use Rattle.qp_model.specs.Design.{Design, CostRow, entries}
-use Rattle.qp_model.specs.Condensing.{condensed_of, cost_target, own_input}
-use Rattle.qp_model.specs.Runs.{unit, bound_at, cost_run, counted, counts}
-use Rattle.qp_model.specs.Form as form
-use Rattle.qp_model.specs.FineForm.{counted_row, fine_costs, fine_products, own_weight, fine_hessian, fine_linear, fine_constant, fine_by_plan, fine_by_state, hessian_row_radius, FineLaw}
-use Rattle.qp_model.specs.FineSizes.{FineFormLaw}
-use Rattle.qp_model.specs.Quantities.{input_floor}
+use Rattle.qp_model.specs.problem.Design.{Design, CostRow, entries}
+use Rattle.qp_model.specs.form.Condensing.{condensed_of, cost_target, own_input}
+use Rattle.qp_model.specs.problem.Runs.{unit, bound_at, cost_run, counted, counts}
+use Rattle.qp_model.specs.form.Form as form
+use Rattle.qp_model.specs.form.FineForm.{counted_row, fine_costs, fine_products, own_weight, fine_hessian, fine_linear, fine_constant, fine_by_plan, fine_by_state, hessian_row_radius, FineLaw}
+use Rattle.qp_model.specs.form.FineSizes.{FineFormLaw}
+use Rattle.qp_model.specs.form.Quantities.{input_floor}
 use Rattle.qp_model.proofs.SizeFacts.{greatest_term}
 use Rattle.std.proofs.Math.Nat.{one-le-mul}
 use Rattle.qp_model.proofs.GramLaws as exact

@@ -10,12 +10,12 @@ use Rattle.mat_int.specs.Matrix.{Matrix, HasEntries}
 use Rattle.mat_int.specs.Enclosures.{weighted_gram, gram_magnitude, enclosure_at, HasEnclosures, SomeIsFar}
 use Rattle.enclosure.proofs.RoomLaws.{same_pair}
 use Rattle.qp_model.specs.declared.design_parts.DesignParts.{DesignParts}
-use Rattle.qp_model.specs.Design.{Design, CostRow, entries, rows}
-use Rattle.qp_model.specs.Parts.{design_of, IsDesign}
-use Rattle.qp_model.specs.Quantities.{weight_sum, cost_width, limit_width}
-use Rattle.qp_model.specs.Runs.{counts, bound_at, Holds}
-use Rattle.qp_model.specs.FineForm.{counted_row, fine_costs, fine_products}
-use Rattle.qp_model.specs.FineSizes.{fine_reach, fine_response_size, fine_limit_entry_size, fine_rows_size}
+use Rattle.qp_model.specs.problem.Design.{Design, CostRow, entries, rows}
+use Rattle.qp_model.specs.problem.Parts.{design_of, IsDesign}
+use Rattle.qp_model.specs.form.Quantities.{weight_sum, cost_width, limit_width}
+use Rattle.qp_model.specs.problem.Runs.{counts, bound_at, Holds}
+use Rattle.qp_model.specs.form.FineForm.{counted_row, fine_costs, fine_products}
+use Rattle.qp_model.specs.form.FineSizes.{fine_reach, fine_response_size, fine_limit_entry_size, fine_rows_size}
 use Rattle.qp_model.proofs.CountLaws.{counted_all}
 use Rattle.qp_model.proofs.SizeFacts.{hessian_parts, rows_parts, some_weight, some_cost, some_entry, some_limit, some_row}
 use Rattle.qp_model.proofs.QuantityLaws.{bound_width}

@@ -9,11 +9,11 @@ use Rattle.integer_algebra.proofs.PowerLaws.{pow-two}
 use Rattle.integer_algebra.proofs.SizeLaws.{size_same}
 use Rattle.frac_scaled.specs.Enclosures.{Enclosure, magnitude, exactly}
 use Rattle.mat_int.specs.Enclosures.{gram_magnitude}
-use Rattle.qp_model.specs.Design.{Design, CostRow, entries, rows}
-use Rattle.qp_model.specs.Quantities.{cost_width, weight_sum}
-use Rattle.qp_model.specs.Runs.{unit, counted, counts}
-use Rattle.qp_model.specs.FineForm.{wholes, counted_row, fine_cost, fine_costs, fine_by_plan, fine_by_state}
-use Rattle.qp_model.specs.FineSizes.{fine_response_size, fine_limit_entry_size}
+use Rattle.qp_model.specs.problem.Design.{Design, CostRow, entries, rows}
+use Rattle.qp_model.specs.form.Quantities.{cost_width, weight_sum}
+use Rattle.qp_model.specs.problem.Runs.{unit, counted, counts}
+use Rattle.qp_model.specs.form.FineForm.{wholes, counted_row, fine_cost, fine_costs, fine_by_plan, fine_by_state}
+use Rattle.qp_model.specs.form.FineSizes.{fine_response_size, fine_limit_entry_size}
 use Rattle.qp_model.proofs.QuantityLaws.{target_width, weights_size, unit_small}
 use Rattle.fine_run.specs.Lists.{Reaches}
 use Rattle.fine_run.proofs.Rooms.{reaches_more, exactly_reaches, reach_first}

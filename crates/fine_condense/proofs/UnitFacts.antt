@@ -10,10 +10,10 @@ use Rattle.enclosure.specs.declared.types.Enc.{Enc}
 use Rattle.enclosure.specs.Values.{pair, pair_at}
 use Rattle.enclosure.proofs.SumLaws.{pair_at_is}
 use Rattle.qp_model.specs.declared.design_parts.DesignParts.{DesignParts}
-use Rattle.qp_model.specs.Parts.{design_of, IsDesign}
-use Rattle.qp_model.specs.Runs.{unit}
-use Rattle.qp_model.specs.FineForm.{wholes}
-use Rattle.qp_model.specs.FineSizes.{fine_prediction_size}
+use Rattle.qp_model.specs.problem.Parts.{design_of, IsDesign}
+use Rattle.qp_model.specs.problem.Runs.{unit}
+use Rattle.qp_model.specs.form.FineForm.{wholes}
+use Rattle.qp_model.specs.form.FineSizes.{fine_prediction_size}
 use Rattle.qp_model.proofs.QuantityLaws.{unit_small}
 use Rattle.fine_run.specs.Lists.{HoldsEnclosures, Reaches, IsFineReady}
 use Rattle.fine_run.proofs.Rooms.{exactly_reaches}

@@ -5,7 +5,7 @@ use Rattle.mat_int.specs.Matrix.{Matrix}
 use Rattle.enclosure.specs.declared.types.Enc.{Enc}
 use Rattle.enclosure.specs.Values.{pair_at}
 use Rattle.qp_model.specs.declared.design_parts.DesignParts.{DesignParts}
-use Rattle.qp_model.specs.FineForm.{wholes}
+use Rattle.qp_model.specs.form.FineForm.{wholes}
 use Rattle.condensed_form.specs.Lists.{HoldsMatrix}
 
 -- what a run was made of: this design, and the whole numbers x as its state and v as its plan

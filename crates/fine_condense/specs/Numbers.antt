@@ -3,14 +3,14 @@ use Rattle.std.specs.Prelude.{◌≡◌, ℕ, ◌+◌, ◌*◌, ◌^◌, ◌≤�
 use Rattle.mat_int.specs.Matrix.{Matrix}
 use Rattle.mat_int.specs.Enclosures.{HasEnclosures}
 use Rattle.qp_model.specs.declared.design_parts.DesignParts.{DesignParts}
-use Rattle.qp_model.specs.Parts.{design_of, IsDesign}
-use Rattle.qp_model.specs.FineForm.{fine_products, fine_hessian, fine_linear, fine_constant, fine_by_plan, fine_by_state, hessian_radius}
-use Rattle.qp_model.specs.Runs.{bound_at, Holds}
-use Rattle.qp_model.specs.Design.{Design, entries, rows}
+use Rattle.qp_model.specs.problem.Parts.{design_of, IsDesign}
+use Rattle.qp_model.specs.form.FineForm.{fine_products, fine_hessian, fine_linear, fine_constant, fine_by_plan, fine_by_state, hessian_radius}
+use Rattle.qp_model.specs.problem.Runs.{bound_at, Holds}
+use Rattle.qp_model.specs.problem.Design.{Design, entries, rows}
 use Rattle.enclosure.specs.declared.types.Enc.{Enc}
 use Rattle.fine_run.specs.Lists.{HoldsEnclosures}
 use Rattle.fine_condense.specs.Lists.{HoldsEncMatrix}
-use Rattle.qp_model.specs.FineSizes.{fine_cost_entry_size, fine_hessian_size, fine_rows_size}
+use Rattle.qp_model.specs.form.FineSizes.{fine_cost_entry_size, fine_hessian_size, fine_rows_size}
 
 -- the absolute values of all numbers of the condensed cost, over 2^80
 abbrev pub fine_cost_total : Design → ℕ

@@ -1,13 +1,13 @@
 // What the rows have of each entry of the plan and of each state, in enclosures, column by column.
 ghost use Rattle.std.specs.Prelude.{◌≡◌, ◌≤◌, ◌<◌, ◌+◌, ◌*◌, ◌^◌, ℕ, ℤ, length, IfOk, OnOk};
 ghost use Rattle.frac_scaled.specs.Enclosures.{Enclosure, exactly};
-ghost use Rattle.qp_model.specs.Design.{entries, rows};
+ghost use Rattle.qp_model.specs.problem.Design.{entries, rows};
 ghost use Rattle.qp_model.specs.declared.design_parts.DesignParts.{DesignParts};
-ghost use Rattle.qp_model.specs.Parts.{design_of, IsDesign};
-ghost use Rattle.qp_model.specs.Runs.{counts};
-ghost use Rattle.qp_model.specs.Quantities.{cost_width, limit_width};
-ghost use Rattle.qp_model.specs.FineForm.{counted_row, wholes, fine_cost, fine_costs, fine_limit, fine_by_plan, fine_by_state};
-ghost use Rattle.qp_model.specs.FineSizes.{reach_from, fine_prediction_size, fine_response_size, fine_limit_entry_size};
+ghost use Rattle.qp_model.specs.problem.Parts.{design_of, IsDesign};
+ghost use Rattle.qp_model.specs.problem.Runs.{counts};
+ghost use Rattle.qp_model.specs.form.Quantities.{cost_width, limit_width};
+ghost use Rattle.qp_model.specs.form.FineForm.{counted_row, wholes, fine_cost, fine_costs, fine_limit, fine_by_plan, fine_by_state};
+ghost use Rattle.qp_model.specs.form.FineSizes.{reach_from, fine_prediction_size, fine_response_size, fine_limit_entry_size};
 ghost use Rattle.condensed_form.specs.Lists.{with_column};
 ghost use Rattle.fine_run.specs.Lists.{HoldsEnclosures};
 ghost use Rattle.fine_condense.specs.Lists.{IsRunOfWholes, HoldsEncMatrix, mids, rads};

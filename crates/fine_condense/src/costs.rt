@@ -1,11 +1,11 @@
 // The condensed cost in enclosures.
 ghost use Rattle.std.specs.Prelude.{◌≡◌, ◌≤◌, ◌<◌, ◌+◌, ◌*◌, ◌^◌, Err, IfOk};
 ghost use Rattle.mat_int.specs.Enclosures.{HasEnclosures};
-ghost use Rattle.qp_model.specs.Parts.{design_of, IsDesign};
+ghost use Rattle.qp_model.specs.problem.Parts.{design_of, IsDesign};
 ghost use Rattle.qp_model.specs.declared.quantity.Quantity.{Quantity};
-ghost use Rattle.qp_model.specs.Runs.{counts};
-ghost use Rattle.qp_model.specs.FineForm.{fine_costs, fine_products, hessian_row_radius, hessian_radius};
-ghost use Rattle.qp_model.specs.FineSizes.{fine_reach, fine_prediction_size, fine_hessian_size};
+ghost use Rattle.qp_model.specs.problem.Runs.{counts};
+ghost use Rattle.qp_model.specs.form.FineForm.{fine_costs, fine_products, hessian_row_radius, hessian_radius};
+ghost use Rattle.qp_model.specs.form.FineSizes.{fine_reach, fine_prediction_size, fine_hessian_size};
 ghost use Rattle.fine_condense.specs.Lists.{HoldsEncMatrix};
 ghost use Rattle.fine_condense.specs.Numbers.{fine_cost_total, AreProducts, IsFineHessian, AreFineCosts};
 ghost use Rattle.condensed_form.specs.declared.fault.CondenseFault.{CondenseFault};

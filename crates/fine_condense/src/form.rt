@@ -1,9 +1,9 @@
 // The condensed form of a design in enclosures.
 ghost use Rattle.std.specs.Prelude.{◌≡◌, ◌⊎◌, ◌≤◌, ◌^◌, true, Err, IfOk, OnOk};
 ghost use Rattle.qp_model.specs.declared.quantity.Quantity.{Quantity};
-ghost use Rattle.qp_model.specs.Parts.{design_of, IsDesign};
-ghost use Rattle.qp_model.specs.FineForm.{FineLaw};
-ghost use Rattle.qp_model.specs.FineSizes.{FineFormLaw, fine_prediction_size};
+ghost use Rattle.qp_model.specs.problem.Parts.{design_of, IsDesign};
+ghost use Rattle.qp_model.specs.form.FineForm.{FineLaw};
+ghost use Rattle.qp_model.specs.form.FineSizes.{FineFormLaw, fine_prediction_size};
 ghost use Rattle.condensed_form.specs.declared.fault.CondenseFault.{CondenseFault};
 ghost use Rattle.condensed_form.specs.Fault.{IsFirstWideIn};
 ghost use Rattle.condensed_form.specs.Form.{IsFormIn};

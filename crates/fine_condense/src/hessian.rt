@@ -1,8 +1,8 @@
 // The numbers of the condensed cost in enclosures, from the products of the cost rows.
 ghost use Rattle.std.specs.Prelude.{◌≡◌, ◌≤◌, ◌<◌, ◌+◌, ◌*◌, ◌^◌, pos, ◌+ℤ◌, ◌*ℤ◌, unsigned_abs, IfOk};
-ghost use Rattle.qp_model.specs.Design.{entries};
-ghost use Rattle.qp_model.specs.Parts.{design_of, IsDesign};
-ghost use Rattle.qp_model.specs.FineForm.{own_weight, fine_hessian, fine_linear, fine_constant};
+ghost use Rattle.qp_model.specs.problem.Design.{entries};
+ghost use Rattle.qp_model.specs.problem.Parts.{design_of, IsDesign};
+ghost use Rattle.qp_model.specs.form.FineForm.{own_weight, fine_hessian, fine_linear, fine_constant};
 ghost use Rattle.fine_run.specs.Lists.{HoldsEnclosures};
 ghost use Rattle.fine_condense.specs.Lists.{HoldsEncMatrix};
 ghost use Rattle.fine_condense.specs.Numbers.{AreProducts};

@@ -1,8 +1,8 @@
 // The condensed limits in enclosures.
 ghost use Rattle.std.specs.Prelude.{◌≡◌, ◌≤◌, ◌<◌, ◌^◌, Err, IfOk};
 ghost use Rattle.qp_model.specs.declared.quantity.Quantity.{Quantity};
-ghost use Rattle.qp_model.specs.Parts.{design_of, IsDesign};
-ghost use Rattle.qp_model.specs.FineSizes.{fine_reach, fine_prediction_size, fine_rows_size};
+ghost use Rattle.qp_model.specs.problem.Parts.{design_of, IsDesign};
+ghost use Rattle.qp_model.specs.form.FineSizes.{fine_reach, fine_prediction_size, fine_rows_size};
 ghost use Rattle.fine_condense.specs.Numbers.{AreFineLimits};
 ghost use Rattle.condensed_form.specs.declared.fault.CondenseFault.{CondenseFault};
 

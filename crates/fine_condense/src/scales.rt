@@ -1,9 +1,9 @@
 // What the condensed form in enclosures is over, and how much it bends a plan up at least.
 ghost use Rattle.std.specs.Prelude.{◌≡◌, ◌≤◌, ◌^◌, pos, ◌-ℤ◌, ◌*ℤ◌, unsigned_abs};
-ghost use Rattle.qp_model.specs.Parts.{design_of, IsDesign};
-ghost use Rattle.qp_model.specs.Range.{IsPositive};
-ghost use Rattle.qp_model.specs.FineForm.{fine_form, hessian_radius};
-ghost use Rattle.qp_model.specs.FineSizes.{fine_hessian_size};
+ghost use Rattle.qp_model.specs.problem.Parts.{design_of, IsDesign};
+ghost use Rattle.qp_model.specs.problem.Range.{IsPositive};
+ghost use Rattle.qp_model.specs.form.FineForm.{fine_form, hessian_radius};
+ghost use Rattle.qp_model.specs.form.FineSizes.{fine_hessian_size};
 ghost use Rattle.condensed_form.specs.Form.{IsLeastInput};
 
 use frac_scaled::scaled;

@@ -1,8 +1,8 @@
 // The quantities of the condensed numbers in enclosures. None stands for a number above `2^126`.
 ghost use Rattle.std.specs.Prelude.{◌≡◌, ◌≤◌, ◌^◌};
 ghost use Rattle.std.specs.Option.{SomeIff};
-ghost use Rattle.qp_model.specs.Parts.{design_of, IsDesign};
-ghost use Rattle.qp_model.specs.FineSizes.{fine_reach, fine_rows_size};
+ghost use Rattle.qp_model.specs.problem.Parts.{design_of, IsDesign};
+ghost use Rattle.qp_model.specs.form.FineSizes.{fine_reach, fine_rows_size};
 ghost use Rattle.fine_condense.specs.Numbers.{fine_cost_total};
 
 use frac_scaled::limited_product;

@@ -3,10 +3,10 @@ ghost use Rattle.std.specs.Prelude.{◌≡◌, ◌≤◌, ◌<◌, ◌*◌, ◌^
 ghost use Rattle.integer_algebra.specs.Sums.{none};
 ghost use Rattle.frac_scaled.specs.Enclosures.{exactly};
 ghost use Rattle.enclosure.specs.Values.{pair};
-ghost use Rattle.qp_model.specs.Parts.{design_of, IsDesign};
-ghost use Rattle.qp_model.specs.Runs.{unit};
-ghost use Rattle.qp_model.specs.FineForm.{wholes};
-ghost use Rattle.qp_model.specs.FineSizes.{fine_prediction_size};
+ghost use Rattle.qp_model.specs.problem.Parts.{design_of, IsDesign};
+ghost use Rattle.qp_model.specs.problem.Runs.{unit};
+ghost use Rattle.qp_model.specs.form.FineForm.{wholes};
+ghost use Rattle.qp_model.specs.form.FineSizes.{fine_prediction_size};
 ghost use Rattle.fine_run.specs.Lists.{HoldsEnclosures};
 ghost use Rattle.fine_condense.specs.Lists.{IsRunOfWholes};
 

@@ -16,18 +16,18 @@ use Rattle.integer_algebra.proofs.BlockLaws.{total_blocks}
 use Rattle.integer_algebra.proofs.Quoting.{by_ring, quotes}
 use Rattle.frac_scaled.specs.Enclosures.{Enclosure, Encloses, magnitude, exactly}
 use Rattle.frac_scaled.proofs.EnclosureLaws.{encloses_within, enclosed_law, whole_law, common_law}
-use Rattle.qp_model.specs.Design.{Design, CostRow, entries}
-use Rattle.qp_model.specs.Box.{corner}
-use Rattle.qp_model.specs.Sound.{IsSound}
-use Rattle.qp_model.specs.Cost.{cost, cost_term, cost_scale}
-use Rattle.qp_model.specs.Residual.{slack, residual_scale}
-use Rattle.qp_model.specs.Condensing.{over_costs}
-use Rattle.qp_model.specs.Policy.{Plans, IsPolicyFor, corner_denominator, corner_plan}
-use Rattle.qp_model.specs.Runs.{row_at, bound_at, cost_run, counted, counts}
-use Rattle.qp_model.specs.FineForm.{counted_row}
-use Rattle.qp_model.specs.FineCorners.{corner_state, corner_input, corner_limit, least_slack, corner_gap, most_row_cost, most_input_cost, enclosed_corners}
-use Rattle.qp_model.specs.Margin.{corner_slack, slack_scale, corner_cost, corner_cost_scale, HasSlack, HasCost, simulated}
-use Rattle.qp_model.specs.CornerClass.{FineCornersLaw}
+use Rattle.qp_model.specs.problem.Design.{Design, CostRow, entries}
+use Rattle.qp_model.specs.problem.Box.{corner}
+use Rattle.qp_model.specs.problem.Sound.{IsSound}
+use Rattle.qp_model.specs.problem.Cost.{cost, cost_term, cost_scale}
+use Rattle.qp_model.specs.problem.Residual.{slack, residual_scale}
+use Rattle.qp_model.specs.form.Condensing.{over_costs}
+use Rattle.qp_model.specs.problem.Policy.{Plans, IsPolicyFor, corner_denominator, corner_plan}
+use Rattle.qp_model.specs.problem.Runs.{row_at, bound_at, cost_run, counted, counts}
+use Rattle.qp_model.specs.form.FineForm.{counted_row}
+use Rattle.qp_model.specs.bounds.FineCorners.{corner_state, corner_input, corner_limit, least_slack, corner_gap, most_row_cost, most_input_cost, enclosed_corners}
+use Rattle.qp_model.specs.bounds.Margin.{corner_slack, slack_scale, corner_cost, corner_cost_scale, HasSlack, HasCost, simulated}
+use Rattle.qp_model.specs.bounds.CornerClass.{FineCornersLaw}
 use Rattle.qp_model.proofs.RunLaws.{trajectory_run}
 use Rattle.qp_model.proofs.RowLaws.{lift_power, residual_law, remainder_inside}
 use Rattle.qp_model.proofs.GramLaws.{counted_total}

@@ -18,16 +18,16 @@ use Rattle.frac_scaled.specs.Enclosures.{Enclosure, magnitude, exactly, sum_of}
 use Rattle.enclosure.specs.declared.types.Enc.{Enc}
 use Rattle.enclosure.specs.Values.{pair_at}
 use Rattle.qp_model.specs.declared.design_parts.DesignParts.{DesignParts}
-use Rattle.qp_model.specs.Design.{Design, CostRow, entries}
-use Rattle.qp_model.specs.Parts.{design_of}
-use Rattle.qp_model.specs.Policy.{Plans}
-use Rattle.qp_model.specs.Quantities.{cost_width, weight_sum}
-use Rattle.qp_model.specs.CornerSizes.{corner_reach}
-use Rattle.qp_model.specs.Range.{IsPositive}
-use Rattle.qp_model.specs.Runs.{counted, counts}
-use Rattle.qp_model.specs.FineForm.{counted_row, fine_cost}
-use Rattle.qp_model.specs.FineSizes.{reach_from}
-use Rattle.qp_model.specs.FineCorners.{corner_input, corner_gap, most_row_cost, most_input_cost}
+use Rattle.qp_model.specs.problem.Design.{Design, CostRow, entries}
+use Rattle.qp_model.specs.problem.Parts.{design_of}
+use Rattle.qp_model.specs.problem.Policy.{Plans}
+use Rattle.qp_model.specs.form.Quantities.{cost_width, weight_sum}
+use Rattle.qp_model.specs.bounds.CornerSizes.{corner_reach}
+use Rattle.qp_model.specs.problem.Range.{IsPositive}
+use Rattle.qp_model.specs.problem.Runs.{counted, counts}
+use Rattle.qp_model.specs.form.FineForm.{counted_row, fine_cost}
+use Rattle.qp_model.specs.form.FineSizes.{reach_from}
+use Rattle.qp_model.specs.bounds.FineCorners.{corner_input, corner_gap, most_row_cost, most_input_cost}
 use Rattle.qp_model.proofs.CornerFacts.{product_small}
 use Rattle.qp_model.proofs.CountLaws.{counted_all}
 use Rattle.qp_model.proofs.QuantityLaws.{target_width, weights_size}
@@ -36,8 +36,8 @@ use Rattle.condensed_form.proofs.DenominatorFacts.{natural, denominator_fits}
 use Rattle.condensed_form.proofs.Rooms.{read, narrow}
 use Rattle.condensed_form.proofs.StageFacts.{lifted, lifted_fits}
 use Rattle.fine_run.specs.Lists.{Reaches}
-use Rattle.slater_margin.proofs.SlackFacts.{one-le-mul_z}
-use Rattle.slater_margin.proofs.SquareFacts.{squares_size}
+use Rattle.exact_margin.proofs.SlackFacts.{one-le-mul_z}
+use Rattle.exact_margin.proofs.SquareFacts.{squares_size}
 use Rattle.fine_margin.specs.Corner.{IsFineCorner}
 use Rattle.fine_margin.proofs.RoomFacts.{cost_side, side_room, square_room, last_some, brought_size, gap_within, gap_room, input_within}
 use Rattle.fine_margin.proofs.RunFacts.{cost_is}

@@ -6,15 +6,15 @@ use Rattle.frac_scaled.specs.declared.fraction.Frac.{Frac}
 use Rattle.qp_model.specs.declared.bounds.Margin.{Margin}
 use Rattle.qp_model.specs.declared.design_parts.DesignParts.{DesignParts}
 use Rattle.qp_model.specs.declared.policy.Policy.{Policy}
-use Rattle.qp_model.specs.Design.{rows}
-use Rattle.qp_model.specs.Parts.{design_of, IsDesign}
-use Rattle.qp_model.specs.Policy.{Plans}
-use Rattle.qp_model.specs.CornerClass.{IsMarginIn}
-use Rattle.qp_model.specs.FineCorners.{enclosed_corners}
-use Rattle.qp_model.specs.Margin.{IsMarginOf}
-use Rattle.slater_margin.specs.Corners.{IsFirstShortIn}
-use Rattle.slater_margin.specs.Simulation.{IsCornerMargin, IsShortRow}
-use Rattle.slater_margin.proofs.MarginFacts.{fine_scales, one_margin, more_margin, min_some, max_some, all_slack, first_short, not_short}
+use Rattle.qp_model.specs.problem.Design.{rows}
+use Rattle.qp_model.specs.problem.Parts.{design_of, IsDesign}
+use Rattle.qp_model.specs.problem.Policy.{Plans}
+use Rattle.qp_model.specs.bounds.CornerClass.{IsMarginIn}
+use Rattle.qp_model.specs.bounds.FineCorners.{enclosed_corners}
+use Rattle.qp_model.specs.bounds.Margin.{IsMarginOf}
+use Rattle.exact_margin.specs.Corners.{IsFirstShortIn}
+use Rattle.exact_margin.specs.Simulation.{IsCornerMargin, IsShortRow}
+use Rattle.exact_margin.proofs.MarginFacts.{fine_scales, one_margin, more_margin, min_some, max_some, all_slack, first_short, not_short}
 
 -- what holds of a corner as it was made holds of the corner that was asked for
 pub carried : (P : DesignParts → Policy → ℕ → Type 0) {p q : DesignParts} {s t : Policy} {m n : ℕ} → p ≡ q → s ≡ t → m ≡ n → P p s m → P q t n

@@ -6,10 +6,10 @@ use Rattle.std.proofs.lemmas.Nat.{pow_pos}
 use Rattle.integer_algebra.specs.Division.{ceil_div}
 use Rattle.integer_algebra.specs.Sums.{at}
 use Rattle.mat_int.specs.Matrix.{row_of}
-use Rattle.qp_model.specs.Design.{Design}
-use Rattle.qp_model.specs.Policy.{Plans, IsPlanDenominator, IsPlanNumerator, IsPolicyFor}
-use Rattle.qp_model.specs.Quantities.{greatest}
-use Rattle.qp_model.specs.CornerSizes.{plan_reach}
+use Rattle.qp_model.specs.problem.Design.{Design}
+use Rattle.qp_model.specs.problem.Policy.{Plans, IsPlanDenominator, IsPlanNumerator, IsPolicyFor}
+use Rattle.qp_model.specs.form.Quantities.{greatest}
+use Rattle.qp_model.specs.bounds.CornerSizes.{plan_reach}
 use Rattle.qp_model.proofs.SizeFacts.{greatest_more}
 use Rattle.qp_model.proofs.CornerFacts.{row_length}
 

@@ -12,15 +12,15 @@ use Rattle.integer_algebra.proofs.DivisionLaws.{le-mul-ceil_div, ceil_div-le}
 use Rattle.frac_scaled.specs.Enclosures.{magnitude}
 use Rattle.mat_int.specs.Matrix.{entry_of}
 use Rattle.qp_model.specs.declared.design_parts.DesignParts.{DesignParts}
-use Rattle.qp_model.specs.Design.{Design, entries, rows}
-use Rattle.qp_model.specs.Parts.{design_of, IsDesign}
-use Rattle.qp_model.specs.Box.{corner}
-use Rattle.qp_model.specs.Policy.{Plans, IsPolicyFor}
-use Rattle.qp_model.specs.Quantities.{greatest, growth, cost_row_width, limit_width, cost_width, weight_sum}
-use Rattle.qp_model.specs.Runs.{counts}
-use Rattle.qp_model.specs.CornerSizes.{box_magnitude, plan_reach, first_reach, corner_reach}
-use Rattle.qp_model.specs.FineForm.{counted_row, counted_stage, fine_cost}
-use Rattle.qp_model.specs.FineCorners.{corner_state, corner_input, corner_limit, corner_gap}
+use Rattle.qp_model.specs.problem.Design.{Design, entries, rows}
+use Rattle.qp_model.specs.problem.Parts.{design_of, IsDesign}
+use Rattle.qp_model.specs.problem.Box.{corner}
+use Rattle.qp_model.specs.problem.Policy.{Plans, IsPolicyFor}
+use Rattle.qp_model.specs.form.Quantities.{greatest, growth, cost_row_width, limit_width, cost_width, weight_sum}
+use Rattle.qp_model.specs.problem.Runs.{counts}
+use Rattle.qp_model.specs.bounds.CornerSizes.{box_magnitude, plan_reach, first_reach, corner_reach}
+use Rattle.qp_model.specs.form.FineForm.{counted_row, counted_stage, fine_cost}
+use Rattle.qp_model.specs.bounds.FineCorners.{corner_state, corner_input, corner_limit, corner_gap}
 use Rattle.qp_model.proofs.RowLaws.{remainder_inside}
 use Rattle.qp_model.proofs.SizeFacts.{greatest_term, side_under, some_weight}
 use Rattle.qp_model.proofs.CornerFacts.{denominator_size}
@@ -28,9 +28,9 @@ use Rattle.condensed_form.proofs.StateFacts.{denominator_positive}
 use Rattle.fine_run.specs.Lists.{Reaches}
 use Rattle.fine_run.proofs.Rooms.{reaches_more, exactly_reaches, sum_reaches, reach_first, row_reaches}
 use Rattle.fine_run.proofs.RowRooms.{counted_stage_in, limit_reaches}
-use Rattle.slater_margin.specs.Corners.{HasCornerRoomIn}
-use Rattle.slater_margin.proofs.RoomFacts.{coordinate_size}
-use Rattle.slater_margin.proofs.SlackFacts.{index_is}
+use Rattle.exact_margin.specs.Corners.{HasCornerRoomIn}
+use Rattle.exact_margin.proofs.RoomFacts.{coordinate_size}
+use Rattle.exact_margin.proofs.SlackFacts.{index_is}
 use Rattle.fine_margin.proofs.EnclosedFacts.{enclosed_reaches, exact_reaches}
 
 under : {a b t : ℕ} → a ≤ b → b ≤ t → a ≤ t

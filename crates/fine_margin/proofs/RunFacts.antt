@@ -10,16 +10,16 @@ use Rattle.mat_int.specs.Matrix.{row_of, entry_of}
 use Rattle.enclosure.specs.declared.types.Enc.{Enc}
 use Rattle.enclosure.specs.Values.{pair, pair_at}
 use Rattle.qp_model.specs.declared.design_parts.DesignParts.{DesignParts}
-use Rattle.qp_model.specs.Design.{Design, entries}
-use Rattle.qp_model.specs.Parts.{design_of}
-use Rattle.qp_model.specs.Box.{corner}
-use Rattle.qp_model.specs.Policy.{Plans, IsPolicyFor}
-use Rattle.qp_model.specs.CornerSizes.{first_reach}
-use Rattle.qp_model.specs.FineForm.{fine_cost, fine_limit}
-use Rattle.qp_model.specs.FineCorners.{corner_state, corner_input, corner_limit}
+use Rattle.qp_model.specs.problem.Design.{Design, entries}
+use Rattle.qp_model.specs.problem.Parts.{design_of}
+use Rattle.qp_model.specs.problem.Box.{corner}
+use Rattle.qp_model.specs.problem.Policy.{Plans, IsPolicyFor}
+use Rattle.qp_model.specs.bounds.CornerSizes.{first_reach}
+use Rattle.qp_model.specs.form.FineForm.{fine_cost, fine_limit}
+use Rattle.qp_model.specs.bounds.FineCorners.{corner_state, corner_input, corner_limit}
 use Rattle.qp_model.proofs.CornerFacts.{denominator_size, row_length}
 use Rattle.fine_run.specs.Lists.{HoldsEnclosures, Reaches, IsFineReady}
-use Rattle.slater_margin.proofs.SlackFacts.{index_is}
+use Rattle.exact_margin.proofs.SlackFacts.{index_is}
 use Rattle.fine_margin.specs.Corner.{IsFineCorner}
 use Rattle.fine_margin.proofs.EnclosedFacts.{enclosed_none}
 use Rattle.fine_margin.proofs.RoomFacts.{growth_room, state_reaches, input_reaches}

@@ -6,14 +6,14 @@ use Rattle.integer_algebra.specs.Bounds.{absolute}
 use Rattle.frac_scaled.specs.Enclosures.{Enclosure, magnitude}
 use Rattle.enclosure.specs.declared.types.Enc.{Enc}
 use Rattle.qp_model.specs.declared.design_parts.DesignParts.{DesignParts}
-use Rattle.qp_model.specs.Design.{rows}
-use Rattle.qp_model.specs.Parts.{design_of}
-use Rattle.qp_model.specs.Policy.{Plans}
-use Rattle.qp_model.specs.Quantities.{limit_width}
-use Rattle.qp_model.specs.CornerSizes.{corner_reach}
-use Rattle.qp_model.specs.Runs.{bound_at}
-use Rattle.qp_model.specs.FineCorners.{corner_limit, least_slack}
-use Rattle.qp_model.specs.Range.{IsDenominator}
+use Rattle.qp_model.specs.problem.Design.{rows}
+use Rattle.qp_model.specs.problem.Parts.{design_of}
+use Rattle.qp_model.specs.problem.Policy.{Plans}
+use Rattle.qp_model.specs.form.Quantities.{limit_width}
+use Rattle.qp_model.specs.bounds.CornerSizes.{corner_reach}
+use Rattle.qp_model.specs.problem.Runs.{bound_at}
+use Rattle.qp_model.specs.bounds.FineCorners.{corner_limit, least_slack}
+use Rattle.qp_model.specs.problem.Range.{IsDenominator}
 use Rattle.qp_model.proofs.QuantityLaws.{bound_width}
 use Rattle.condensed_form.proofs.Rooms.{read, narrow}
 use Rattle.condensed_form.proofs.DenominatorFacts.{denominator_fits}

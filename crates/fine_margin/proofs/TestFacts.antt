@@ -1,12 +1,12 @@
 -- What the tests of the quantities of corners in enclosures tell.
 use Rattle.std.proofs.Common.{◌≡◌, ℕ, mul_assoc, arith, ◌*◌, ◌^◌, ◌<◌, ◌≤◌, max, true, ap, subst, ◌∙◌}
-use Rattle.qp_model.specs.Design.{Design}
-use Rattle.qp_model.specs.Policy.{Plans}
-use Rattle.qp_model.specs.Quantities.{growth, limit_width, cost_width, weight_sum}
-use Rattle.qp_model.specs.FineSizes.{reach_from, fine_prediction_size}
-use Rattle.qp_model.specs.CornerSizes.{first_reach, fine_corner_slack_size, fine_corner_cost_size}
-use Rattle.slater_margin.specs.Corners.{HasCornerRoomIn}
-use Rattle.slater_margin.proofs.FaultFacts.{outside}
+use Rattle.qp_model.specs.problem.Design.{Design}
+use Rattle.qp_model.specs.problem.Policy.{Plans}
+use Rattle.qp_model.specs.form.Quantities.{growth, limit_width, cost_width, weight_sum}
+use Rattle.qp_model.specs.form.FineSizes.{reach_from, fine_prediction_size}
+use Rattle.qp_model.specs.bounds.CornerSizes.{first_reach, fine_corner_slack_size, fine_corner_cost_size}
+use Rattle.exact_margin.specs.Corners.{HasCornerRoomIn}
+use Rattle.exact_margin.proofs.FaultFacts.{outside}
 
 -- the slacks of corners that reach so far, and the costs of those whose runs do
 abbrev pub slack_size : Design → ℕ → ℕ

@@ -2,13 +2,13 @@
 use Rattle.std.specs.Prelude.{◌≡◌, ℕ, ◌+◌, ◌^◌, ◌<◌, true, List}
 use Rattle.enclosure.specs.declared.types.Enc.{Enc}
 use Rattle.qp_model.specs.declared.design_parts.DesignParts.{DesignParts}
-use Rattle.qp_model.specs.Design.{entries}
-use Rattle.qp_model.specs.Parts.{design_of, IsDesign}
-use Rattle.qp_model.specs.Policy.{Plans, IsPolicyFor}
-use Rattle.qp_model.specs.CornerSizes.{first_reach}
-use Rattle.qp_model.specs.FineCorners.{corner_state, corner_input}
+use Rattle.qp_model.specs.problem.Design.{entries}
+use Rattle.qp_model.specs.problem.Parts.{design_of, IsDesign}
+use Rattle.qp_model.specs.problem.Policy.{Plans, IsPolicyFor}
+use Rattle.qp_model.specs.bounds.CornerSizes.{first_reach}
+use Rattle.qp_model.specs.bounds.FineCorners.{corner_state, corner_input}
 use Rattle.fine_run.specs.Lists.{HoldsEnclosures}
-use Rattle.slater_margin.specs.Corners.{HasCornerRoomIn}
+use Rattle.exact_margin.specs.Corners.{HasCornerRoomIn}
 
 -- a design with room for its policy, and what all corners and their plans reach
 pub record IsFineSetting (p : DesignParts) (s : Plans) (first : ℕ) : Type 0 where

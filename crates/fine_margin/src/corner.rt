@@ -4,19 +4,19 @@ ghost use Rattle.integer_algebra.specs.Division.{floor_of};
 ghost use Rattle.integer_algebra.specs.Sums.{at};
 ghost use Rattle.frac_scaled.specs.Enclosures.{enclosed};
 ghost use Rattle.enclosure.specs.Values.{pair};
-ghost use Rattle.qp_model.specs.Parts.{design_of, IsDesign};
-ghost use Rattle.qp_model.specs.Policy.{plans_of};
-ghost use Rattle.qp_model.specs.FineCorners.{corner_state};
+ghost use Rattle.qp_model.specs.problem.Parts.{design_of, IsDesign};
+ghost use Rattle.qp_model.specs.problem.Policy.{plans_of};
+ghost use Rattle.qp_model.specs.bounds.FineCorners.{corner_state};
 ghost use Rattle.fine_run.specs.Lists.{HoldsEnclosures};
 ghost use Rattle.fine_margin.specs.Corner.{IsFineCorner};
 
 use crate::lists::{entry_weights, gaps, reaches, slacks};
 use condensed_form::{least_of, scaled_bounds, scaled_targets, weights_of};
 use enclosure::{Enc, enclose};
+use exact_margin::{MarginFault, coordinate, first_short, weighted_squares};
 use fine_run::FineRun;
 use frac_scaled::{Frac, ceil_div, floor_div, scaled};
 use qp_model::{DesignParts, Policy};
-use slater_margin::{MarginFault, coordinate, first_short, weighted_squares};
 use std::alloc::{AllocError, Global};
 
 // `num / den`.
@@ -80,12 +80,12 @@ impl<'a> Corner<'a> {
     ghost use Rattle.std.specs.Prelude.{◌≡◌, ◌≢◌, ◌<◌, ◌+◌, ◌^◌, ℕ, IfOk, Err};
     ghost use Rattle.frac_scaled.specs.declared.fraction.Frac.{Frac};
     ghost use Rattle.qp_model.specs.declared.quantity.Quantity.{Quantity};
-    ghost use Rattle.qp_model.specs.Design.{rows};
-    ghost use Rattle.qp_model.specs.Parts.{design_of};
-    ghost use Rattle.qp_model.specs.Policy.{plans_of};
-    ghost use Rattle.qp_model.specs.Runs.{Holds};
-    ghost use Rattle.qp_model.specs.FineCorners.{least_slack, most_row_cost, most_input_cost, enclosed_corners};
-    ghost use Rattle.slater_margin.specs.Simulation.{HasUnits, HasCornerCost, IsShortRow};
+    ghost use Rattle.qp_model.specs.problem.Design.{rows};
+    ghost use Rattle.qp_model.specs.problem.Parts.{design_of};
+    ghost use Rattle.qp_model.specs.problem.Policy.{plans_of};
+    ghost use Rattle.qp_model.specs.problem.Runs.{Holds};
+    ghost use Rattle.qp_model.specs.bounds.FineCorners.{least_slack, most_row_cost, most_input_cost, enclosed_corners};
+    ghost use Rattle.exact_margin.specs.Simulation.{HasUnits, HasCornerCost, IsShortRow};
     ghost use Rattle.fine_margin.specs.Corner.{IsFineSetting};
 
     /// Corner `number`, from 0. `first` is what all corners and their plans reach.

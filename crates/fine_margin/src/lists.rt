@@ -4,9 +4,9 @@ ghost use Rattle.integer_algebra.specs.Bounds.{absolute};
 ghost use Rattle.integer_algebra.specs.Sums.{at};
 ghost use Rattle.frac_scaled.specs.Enclosures.{magnitude};
 ghost use Rattle.enclosure.specs.Values.{pair, pair_at};
-ghost use Rattle.qp_model.specs.Design.{entries};
-ghost use Rattle.qp_model.specs.Parts.{design_of, IsDesign};
-ghost use Rattle.qp_model.specs.Runs.{Holds};
+ghost use Rattle.qp_model.specs.problem.Design.{entries};
+ghost use Rattle.qp_model.specs.problem.Parts.{design_of, IsDesign};
+ghost use Rattle.qp_model.specs.problem.Runs.{Holds};
 
 use enclosure::Enc;
 use qp_model::DesignParts;

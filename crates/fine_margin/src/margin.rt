@@ -2,21 +2,21 @@
 ghost use Rattle.std.specs.Prelude.{◌≡◌, ◌≢◌, ◌↔◌, ◌<◌, ◌+◌, ◌^◌, ℕ, pos, ◌≤ℤ◌, true, IfOk, OnOk, IsErr, Err};
 ghost use Rattle.frac_scaled.specs.declared.fraction.Frac.{Frac};
 ghost use Rattle.qp_model.specs.declared.quantity.Quantity.{Quantity};
-ghost use Rattle.qp_model.specs.CornerClass.{IsMarginIn};
-ghost use Rattle.qp_model.specs.CornerSizes.{first_reach};
-ghost use Rattle.qp_model.specs.Design.{rows};
-ghost use Rattle.qp_model.specs.FineCorners.{enclosed_corners};
-ghost use Rattle.qp_model.specs.Parts.{design_of, IsDesign};
-ghost use Rattle.qp_model.specs.Policy.{plans_of, IsPolicyFor};
-ghost use Rattle.slater_margin.specs.Corners.{HasCornerRoomIn, IsFirstWideCornerIn, IsFirstShortIn};
-ghost use Rattle.slater_margin.specs.Simulation.{IsCornerMargin, IsShortRow};
+ghost use Rattle.qp_model.specs.bounds.CornerClass.{IsMarginIn};
+ghost use Rattle.qp_model.specs.bounds.CornerSizes.{first_reach};
+ghost use Rattle.qp_model.specs.problem.Design.{rows};
+ghost use Rattle.qp_model.specs.bounds.FineCorners.{enclosed_corners};
+ghost use Rattle.qp_model.specs.problem.Parts.{design_of, IsDesign};
+ghost use Rattle.qp_model.specs.problem.Policy.{plans_of, IsPolicyFor};
+ghost use Rattle.exact_margin.specs.Corners.{HasCornerRoomIn, IsFirstWideCornerIn, IsFirstShortIn};
+ghost use Rattle.exact_margin.specs.Simulation.{IsCornerMargin, IsShortRow};
 ghost use Rattle.fine_margin.specs.Corner.{IsFineSetting};
 
 use crate::corner::Corner;
 use crate::sizes::{corner_cost_size, corner_reach, first_reach};
+use exact_margin::MarginFault;
 use fine_run::last_reach;
 use qp_model::{Design, DesignParts, Margin, Policy, Quantity};
-use slater_margin::MarginFault;
 use std::alloc::Global;
 
 // Refuses the first of `prediction`, `corner_slack` and `corner_cost` that is above its limit. `first` is what all corners and their plans reach.

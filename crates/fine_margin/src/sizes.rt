@@ -3,11 +3,11 @@ ghost use Rattle.std.specs.Prelude.{◌≡◌, ℕ, ◌+◌, ◌*◌, ◌^◌, �
 ghost use Rattle.std.specs.Option.{SomeIff};
 ghost use Rattle.integer_algebra.specs.Division.{ceil_div};
 ghost use Rattle.integer_algebra.specs.Sums.{at};
-ghost use Rattle.qp_model.specs.Parts.{design_of, IsDesign};
-ghost use Rattle.qp_model.specs.Policy.{plans_of, IsPolicyFor};
-ghost use Rattle.qp_model.specs.Quantities.{greatest, growth, limit_width, cost_width, weight_sum};
-ghost use Rattle.qp_model.specs.FineSizes.{reach_from};
-ghost use Rattle.qp_model.specs.CornerSizes.{first_reach};
+ghost use Rattle.qp_model.specs.problem.Parts.{design_of, IsDesign};
+ghost use Rattle.qp_model.specs.problem.Policy.{plans_of, IsPolicyFor};
+ghost use Rattle.qp_model.specs.form.Quantities.{greatest, growth, limit_width, cost_width, weight_sum};
+ghost use Rattle.qp_model.specs.form.FineSizes.{reach_from};
+ghost use Rattle.qp_model.specs.bounds.CornerSizes.{first_reach};
 
 use fine_run::last_reach;
 use frac_scaled::limited_product;

@@ -14,8 +14,8 @@ use Rattle.enclosure.specs.declared.types.Enc.{Enc}
 use Rattle.enclosure.specs.Values.{pair, pair_at}
 use Rattle.enclosure.proofs.RoomLaws.{same_pair}
 use Rattle.enclosure.proofs.SumLaws.{pair_at_is}
-use Rattle.qp_model.specs.Design.{Design}
-use Rattle.qp_model.specs.FineForm.{followed, fine_run}
+use Rattle.qp_model.specs.problem.Design.{Design}
+use Rattle.qp_model.specs.form.FineForm.{followed, fine_run}
 use Rattle.fine_run.specs.Lists.{HoldsEnclosures}
 
 zero : Enc

@@ -3,7 +3,7 @@ use Rattle.std.proofs.Common.{◌≡◌, ℕ, ◌+◌, ◌-◌, ◌*◌, ◌/◌
 use Rattle.std.proofs.Math.Nat.{mul-le-mul, mul-le-mul_left, div-lt_iff_lt-mul}
 use Rattle.enclosure.specs.declared.types.Enc.{Enc}
 use Rattle.qp_model.specs.declared.design_parts.DesignParts.{DesignParts}
-use Rattle.qp_model.specs.Parts.{IsDesign}
+use Rattle.qp_model.specs.problem.Parts.{IsDesign}
 use Rattle.qp_model.proofs.VersionLaws.{design_states_le, design_stages_le}
 use Rattle.qp_model.proofs.RowLaws.{remainder_inside}
 

@@ -15,10 +15,10 @@ use Rattle.integer_algebra.proofs.Quoting.{by_ring, quotes}
 use Rattle.frac_scaled.specs.Enclosures.{Enclosure, magnitude, inexact, divided, exactly, sum_of}
 use Rattle.mat_int.specs.Enclosures.{combination, combination_magnitude, combined}
 use Rattle.enclosure.proofs.RoomLaws.{same_pair, ceil_small, inexact_small}
-use Rattle.qp_model.specs.Design.{Design, entries}
-use Rattle.qp_model.specs.Quantities.{growth}
-use Rattle.qp_model.specs.FineForm.{followed, fine_run}
-use Rattle.qp_model.specs.FineSizes.{reach_from}
+use Rattle.qp_model.specs.problem.Design.{Design, entries}
+use Rattle.qp_model.specs.form.Quantities.{growth}
+use Rattle.qp_model.specs.form.FineForm.{followed, fine_run}
+use Rattle.qp_model.specs.form.FineSizes.{reach_from}
 use Rattle.qp_model.proofs.SizeFacts.{size_append}
 use Rattle.qp_model.proofs.QuantityLaws.{tame}
 use Rattle.fine_run.specs.Lists.{Reaches}

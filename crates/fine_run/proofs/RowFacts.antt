@@ -11,12 +11,12 @@ use Rattle.mat_int.specs.Enclosures.{combined, combination_magnitude}
 use Rattle.enclosure.specs.declared.types.Enc.{Enc}
 use Rattle.enclosure.specs.Values.{pair_at}
 use Rattle.qp_model.specs.declared.design_parts.DesignParts.{DesignParts}
-use Rattle.qp_model.specs.Design.{Design, rows}
-use Rattle.qp_model.specs.Parts.{design_of}
-use Rattle.qp_model.specs.Quantities.{cost_width, limit_width}
-use Rattle.qp_model.specs.Runs.{counts}
-use Rattle.qp_model.specs.FineForm.{fine_run, fine_cost, fine_limit, fine_stage_limit}
-use Rattle.qp_model.specs.FineSizes.{reach_from}
+use Rattle.qp_model.specs.problem.Design.{Design, rows}
+use Rattle.qp_model.specs.problem.Parts.{design_of}
+use Rattle.qp_model.specs.form.Quantities.{cost_width, limit_width}
+use Rattle.qp_model.specs.problem.Runs.{counts}
+use Rattle.qp_model.specs.form.FineForm.{fine_run, fine_cost, fine_limit, fine_stage_limit}
+use Rattle.qp_model.specs.form.FineSizes.{reach_from}
 use Rattle.qp_model.proofs.RowLaws.{remainder_inside}
 use Rattle.qp_model.proofs.QuantityLaws.{narrow}
 use Rattle.condensed_form.specs.Lists.{row_of_numbers}

@@ -6,11 +6,11 @@ use Rattle.std.proofs.Math.Nat.{mul-le-mul_left}
 use Rattle.integer_algebra.specs.Sizes.{size}
 use Rattle.frac_scaled.specs.Enclosures.{Enclosure, magnitude}
 use Rattle.mat_int.specs.Enclosures.{combined, combination_magnitude}
-use Rattle.qp_model.specs.Design.{Design, LimitRow, entries, rows}
-use Rattle.qp_model.specs.Quantities.{cost_width, limit_width}
-use Rattle.qp_model.specs.Runs.{counts}
-use Rattle.qp_model.specs.FineForm.{fine_run, counted_stage, counted_row, fine_cost, fine_final_limit, fine_stage_limit, fine_limit}
-use Rattle.qp_model.specs.FineSizes.{reach_from}
+use Rattle.qp_model.specs.problem.Design.{Design, LimitRow, entries, rows}
+use Rattle.qp_model.specs.form.Quantities.{cost_width, limit_width}
+use Rattle.qp_model.specs.problem.Runs.{counts}
+use Rattle.qp_model.specs.form.FineForm.{fine_run, counted_stage, counted_row, fine_cost, fine_final_limit, fine_stage_limit, fine_limit}
+use Rattle.qp_model.specs.form.FineSizes.{reach_from}
 use Rattle.qp_model.proofs.RowLaws.{stage_inside, remainder_inside}
 use Rattle.qp_model.proofs.QuantityLaws.{slim, narrow}
 use Rattle.fine_run.specs.Lists.{Reaches}

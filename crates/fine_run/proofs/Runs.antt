@@ -14,10 +14,10 @@ use Rattle.frac_scaled.specs.Enclosures.{Enclosure, Encloses, exactly}
 use Rattle.frac_scaled.proofs.EnclosureLaws.{fraction_law, whole_law, common_law}
 use Rattle.mat_int.specs.Enclosures.{combined}
 use Rattle.mat_int.proofs.EnclosureLaws.{combined_law}
-use Rattle.qp_model.specs.Design.{Design, LimitRow, entries}
-use Rattle.qp_model.specs.Trajectory.{lift}
-use Rattle.qp_model.specs.Runs.{run, limit_at, row_at, cost_run, counted}
-use Rattle.qp_model.specs.FineForm.{followed, wholes, fine_run, fine_cost, fine_final_limit, fine_stage_limit, fine_limit}
+use Rattle.qp_model.specs.problem.Design.{Design, LimitRow, entries}
+use Rattle.qp_model.specs.problem.Trajectory.{lift}
+use Rattle.qp_model.specs.problem.Runs.{run, limit_at, row_at, cost_run, counted}
+use Rattle.qp_model.specs.form.FineForm.{followed, wholes, fine_run, fine_cost, fine_final_limit, fine_stage_limit, fine_limit}
 use Rattle.qp_model.proofs.RunLaws.{plan_inside}
 use Rattle.qp_model.proofs.RowLaws.{lift_power, stage_inside}
 

@@ -7,10 +7,10 @@ use Rattle.frac_scaled.specs.Enclosures.{Enclosure}
 use Rattle.mat_int.specs.Enclosures.{combined, combination_magnitude}
 use Rattle.enclosure.specs.declared.types.Enc.{Enc}
 use Rattle.enclosure.specs.Values.{pair_at}
-use Rattle.qp_model.specs.Design.{Design, entries}
-use Rattle.qp_model.specs.Quantities.{growth}
-use Rattle.qp_model.specs.FineForm.{followed, fine_run}
-use Rattle.qp_model.specs.FineSizes.{reach_from}
+use Rattle.qp_model.specs.problem.Design.{Design, entries}
+use Rattle.qp_model.specs.form.Quantities.{growth}
+use Rattle.qp_model.specs.form.FineForm.{followed, fine_run}
+use Rattle.qp_model.specs.form.FineSizes.{reach_from}
 use Rattle.fine_run.specs.Lists.{HoldsEnclosures, Reaches}
 use Rattle.fine_run.proofs.Rooms.{run_room}
 use Rattle.fine_run.proofs.ListFacts.{flat_run, flat_at, part, appended, magnitude_same, combined_same}

@@ -4,10 +4,10 @@ use Rattle.frac_scaled.specs.Enclosures.{Enclosure, magnitude}
 use Rattle.enclosure.specs.declared.types.Enc.{Enc}
 use Rattle.enclosure.specs.Values.{pair_at}
 use Rattle.qp_model.specs.declared.design_parts.DesignParts.{DesignParts}
-use Rattle.qp_model.specs.Parts.{design_of, IsDesign}
-use Rattle.qp_model.specs.Quantities.{growth}
-use Rattle.qp_model.specs.FineForm.{fine_run}
-use Rattle.qp_model.specs.FineSizes.{reach_from}
+use Rattle.qp_model.specs.problem.Parts.{design_of, IsDesign}
+use Rattle.qp_model.specs.form.Quantities.{growth}
+use Rattle.qp_model.specs.form.FineForm.{fine_run}
+use Rattle.qp_model.specs.form.FineSizes.{reach_from}
 
 -- a list holds the first n values of f
 pub record HoldsEnclosures (xs : List Enc) (n : ℕ) (f : ℕ → Enclosure) : Type 0 where

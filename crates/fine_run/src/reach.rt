@@ -1,9 +1,9 @@
 // How far a run in enclosures reaches. None stands for a number above `2^126`.
 ghost use Rattle.std.specs.Prelude.{◌≡◌, ◌≤◌, ◌*◌, ◌^◌};
 ghost use Rattle.std.specs.Option.{SomeIff};
-ghost use Rattle.qp_model.specs.Parts.{design_of, IsDesign};
-ghost use Rattle.qp_model.specs.Quantities.{growth};
-ghost use Rattle.qp_model.specs.FineSizes.{reach_from};
+ghost use Rattle.qp_model.specs.problem.Parts.{design_of, IsDesign};
+ghost use Rattle.qp_model.specs.form.Quantities.{growth};
+ghost use Rattle.qp_model.specs.form.FineSizes.{reach_from};
 
 use frac_scaled::limited_product;
 use qp_model::{DesignParts, growth};

@@ -27,12 +27,12 @@ impl<'a> FineRun<'a> {
     ghost use Rattle.integer_algebra.specs.Sizes.{size};
     ghost use Rattle.mat_int.specs.Enclosures.{combined, combination_magnitude};
     ghost use Rattle.enclosure.specs.Values.{pair, pair_at};
-    ghost use Rattle.qp_model.specs.Design.{rows};
-    ghost use Rattle.qp_model.specs.Parts.{design_of};
-    ghost use Rattle.qp_model.specs.Runs.{counts};
-    ghost use Rattle.qp_model.specs.Quantities.{cost_width, limit_width};
-    ghost use Rattle.qp_model.specs.FineForm.{fine_run, fine_cost, fine_limit, fine_stage_limit};
-    ghost use Rattle.qp_model.specs.FineSizes.{reach_from};
+    ghost use Rattle.qp_model.specs.problem.Design.{rows};
+    ghost use Rattle.qp_model.specs.problem.Parts.{design_of};
+    ghost use Rattle.qp_model.specs.problem.Runs.{counts};
+    ghost use Rattle.qp_model.specs.form.Quantities.{cost_width, limit_width};
+    ghost use Rattle.qp_model.specs.form.FineForm.{fine_run, fine_cost, fine_limit, fine_stage_limit};
+    ghost use Rattle.qp_model.specs.form.FineSizes.{reach_from};
     ghost use Rattle.condensed_form.specs.Lists.{row_of_numbers};
     ghost use Rattle.fine_run.specs.Lists.{HoldsEnclosures, IsFineReady};
 

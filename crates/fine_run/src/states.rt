@@ -3,8 +3,8 @@ ghost use Rattle.std.specs.Prelude.{◌≡◌, ◌≤◌, ◌<◌, ◌^◌, ◌+
 ghost use Rattle.mat_int.specs.Enclosures.{combined, combination_magnitude};
 ghost use Rattle.mat_int.specs.Matrix.{entry_of};
 ghost use Rattle.enclosure.specs.Values.{pair_at};
-ghost use Rattle.qp_model.specs.Parts.{IsDesign};
-ghost use Rattle.qp_model.specs.FineForm.{followed};
+ghost use Rattle.qp_model.specs.problem.Parts.{IsDesign};
+ghost use Rattle.qp_model.specs.form.FineForm.{followed};
 ghost use Rattle.fine_run.specs.Lists.{HoldsEnclosures};
 
 use enclosure::{Enc, combine};

@@ -8,9 +8,9 @@ use Rattle.std.proofs.lemmas.List.FromFn.{get_or-map-range_with_len}
 use Rattle.integer_algebra.specs.Division.{ceil_div}
 use Rattle.integer_algebra.proofs.DivisionLaws.{ceil_div-le}
 use Rattle.mat_products.specs.Narrow.{IsNarrow}
-use Rattle.qp_model.specs.Controller.{Numbers}
-use Rattle.qp_model.specs.AbsoluteSums.{state_magnitudes, clamp_magnitudes, plan_magnitudes, entry_absolute_sum, IsController}
-use Rattle.qp_model.specs.Within.{AreWithin}
+use Rattle.qp_model.specs.machine.Controller.{Numbers}
+use Rattle.qp_model.specs.machine.AbsoluteSums.{state_magnitudes, clamp_magnitudes, plan_magnitudes, entry_absolute_sum, IsController}
+use Rattle.qp_model.specs.machine.Within.{AreWithin}
 use Rattle.overflow_check.proofs.SumLaws.{sums_fit}
 use Rattle.overflow_check.proofs.Sizes.{length-state_reach, length-clamp_reach, length-plan_reach, get_or-reach_of}
 use Rattle.fixed_kernel.specs.Factors.{HasNarrowFactors}

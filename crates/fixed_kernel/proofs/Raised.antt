@@ -8,11 +8,11 @@ use Rattle.std.proofs.lemmas.List.FromFn.{length-map-range_with_len, get_or-map-
 use Rattle.integer_algebra.specs.Division.{floor_of}
 use Rattle.integer_algebra.specs.Sums.{at}
 use Rattle.mat_products.specs.Narrow.{IsNarrow}
-use Rattle.qp_model.specs.Limits.{text_version}
-use Rattle.qp_model.specs.Controller.{Numbers, IsSized}
-use Rattle.qp_model.specs.Machine.{Iterate, lowering_of, raised, top_of, row_sum, next_multiplier, next_multipliers, start_of, step_of}
-use Rattle.qp_model.specs.AbsoluteSums.{clamp_magnitudes, IsController}
-use Rattle.qp_model.specs.Within.{AreWithin}
+use Rattle.qp_model.specs.problem.Limits.{text_version}
+use Rattle.qp_model.specs.machine.Controller.{Numbers, IsSized}
+use Rattle.qp_model.specs.machine.Machine.{Iterate, lowering_of, raised, top_of, row_sum, next_multiplier, next_multipliers, start_of, step_of}
+use Rattle.qp_model.specs.machine.AbsoluteSums.{clamp_magnitudes, IsController}
+use Rattle.qp_model.specs.machine.Within.{AreWithin}
 use Rattle.qp_model.proofs.AbsoluteLaws.{abs-floor_le}
 use Rattle.qp_model.proofs.MagnitudeLaws.{zeros_at, raised_within, tops_kept}
 use Rattle.qp_model.proofs.VersionLaws.{first_raised}

@@ -3,10 +3,10 @@ use Rattle.std.proofs.Common.{◌≡◌, ℕ, ◌+◌, ◌*◌, ◌≤◌, ◌<�
 use Rattle.std.proofs.lemmas.Nat.{mul-le}
 use Rattle.std.proofs.lemmas.List.{length-map}
 use Rattle.integer_algebra.specs.Sums.{at}
-use Rattle.qp_model.specs.Controller.{Numbers, plan_length}
-use Rattle.qp_model.specs.Machine.{Iterate, IsAdmissible, loaded, lowering_of, raised, start_of}
-use Rattle.qp_model.specs.AbsoluteSums.{state_magnitudes, plan_magnitudes, IsController}
-use Rattle.qp_model.specs.Within.{AreWithin}
+use Rattle.qp_model.specs.machine.Controller.{Numbers, plan_length}
+use Rattle.qp_model.specs.machine.Machine.{Iterate, IsAdmissible, loaded, lowering_of, raised, start_of}
+use Rattle.qp_model.specs.machine.AbsoluteSums.{state_magnitudes, plan_magnitudes, IsController}
+use Rattle.qp_model.specs.machine.Within.{AreWithin}
 use Rattle.qp_model.proofs.MagnitudeLaws.{state_within, after_multipliers}
 use Rattle.overflow_check.proofs.Runs.{after_plan_length, after_multipliers_length, after_sums_length, after_sums_le, after_suc, after_zero}
 use Rattle.std.specs.Prelude.{slice_range}

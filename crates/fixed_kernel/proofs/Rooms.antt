@@ -6,9 +6,9 @@ use Rattle.integer_algebra.specs.Division.{floor_of, ceil_div}
 use Rattle.mat_int.specs.Row.{list_dot, abs_dot}
 use Rattle.mat_int.specs.Matrix.{row_of}
 use Rattle.mat_int.proofs.Dots.{abs-add_le, abs-dot_le}
-use Rattle.qp_model.specs.Controller.{Numbers}
-use Rattle.qp_model.specs.AbsoluteSums.{state_magnitudes, clamp_magnitudes, plan_magnitudes, entry_absolute_sum, weighted_abs_sum, IsController}
-use Rattle.qp_model.specs.Within.{AreWithin}
+use Rattle.qp_model.specs.machine.Controller.{Numbers}
+use Rattle.qp_model.specs.machine.AbsoluteSums.{state_magnitudes, clamp_magnitudes, plan_magnitudes, entry_absolute_sum, weighted_abs_sum, IsController}
+use Rattle.qp_model.specs.machine.Within.{AreWithin}
 use Rattle.overflow_check.proofs.Sizes.{length-state_reach, length-clamp_reach, length-plan_reach}
 use Rattle.qp_model.proofs.AbsoluteLaws.{le_times_pow, abs-floor_le, ceil_div_mono}
 use Rattle.qp_model.proofs.MagnitudeLaws.{abs_dot-magnitudes}

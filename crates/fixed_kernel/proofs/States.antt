@@ -6,8 +6,8 @@ use Rattle.std.proofs.lemmas.Nat.{pow_pos, pow_below, mul-lt}
 use Rattle.std.proofs.Math.Nat.{mul-div_cancel, div-eq_of_lt-le}
 use Rattle.integer_algebra.specs.Division.{floor_of}
 use Rattle.integer_algebra.specs.Sums.{at}
-use Rattle.qp_model.specs.Controller.{Numbers, IsSized}
-use Rattle.qp_model.specs.Machine.{IsAdmissible, loaded}
+use Rattle.qp_model.specs.machine.Controller.{Numbers, IsSized}
+use Rattle.qp_model.specs.machine.Machine.{IsAdmissible, loaded}
 use Rattle.qp_model.proofs.AbsoluteLaws.{abs-shifted}
 use Rattle.fixed_kernel.specs.Progress.{unloaded}
 

@@ -12,10 +12,10 @@ use Rattle.integer_algebra.specs.Division.{ceil_div}
 use Rattle.mat_int.specs.Row.{list_dot, abs_dot}
 use Rattle.mat_int.specs.Matrix.{row_of}
 use Rattle.mat_int.proofs.Dots.{abs-add_le, abs-dot_le}
-use Rattle.qp_model.specs.Controller.{Numbers}
-use Rattle.qp_model.specs.Machine.{row_sum, raised, plan_of, after}
-use Rattle.qp_model.specs.AbsoluteSums.{weighted_abs_sum, state_magnitudes, clamp_magnitudes, plan_magnitudes, entry_absolute_sum, row_absolute_sum, IsController}
-use Rattle.qp_model.specs.Within.{AreWithin}
+use Rattle.qp_model.specs.machine.Controller.{Numbers}
+use Rattle.qp_model.specs.machine.Machine.{row_sum, raised, plan_of, after}
+use Rattle.qp_model.specs.machine.AbsoluteSums.{weighted_abs_sum, state_magnitudes, clamp_magnitudes, plan_magnitudes, entry_absolute_sum, row_absolute_sum, IsController}
+use Rattle.qp_model.specs.machine.Within.{AreWithin}
 use Rattle.qp_model.proofs.AbsoluteLaws.{le_times_pow, abs-neg, abs-shifted, abs-own_le, abs-scaled_le, ceil_div_mono}
 use Rattle.qp_model.proofs.MagnitudeLaws.{abs_dot-magnitudes, entry_parts_le, after_multipliers, after_tops, zeros_at, plan_within}
 use Rattle.qp_model.proofs.VersionLaws.{first_raised}

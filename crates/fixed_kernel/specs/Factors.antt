@@ -1,7 +1,7 @@
 -- Factors that fit words of 64 bits.
 use Rattle.std.specs.Prelude.{◌+◌, ◌-◌, ◌^◌, ◌≤◌, ◌<◌, ℤ, All, unsigned_abs}
 use Rattle.mat_products.specs.Narrow.{IsNarrow}
-use Rattle.qp_model.specs.Controller.{Numbers}
+use Rattle.qp_model.specs.machine.Controller.{Numbers}
 
 -- a coordinate of the box that does over 2^fraction_bits
 abbrev pub IsNarrowCoordinate : Numbers → ℤ → Type 0

@@ -1,9 +1,9 @@
 -- A kernel as its controller, the grid state that it runs from and the number of steps made.
 use Rattle.std.specs.Prelude.{◌≡◌, ℕ, ◌-◌, ◌^◌, ◌≤◌, ℤ, List, map, IsTrue}
 use Rattle.integer_algebra.specs.Division.{floor_of}
-use Rattle.qp_model.specs.Controller.{Numbers}
-use Rattle.qp_model.specs.Machine.{Iterate, IsAdmissible, loaded, after}
-use Rattle.qp_model.specs.AbsoluteSums.{IsController}
+use Rattle.qp_model.specs.machine.Controller.{Numbers}
+use Rattle.qp_model.specs.machine.Machine.{Iterate, IsAdmissible, loaded, after}
+use Rattle.qp_model.specs.machine.AbsoluteSums.{IsController}
 use Rattle.word_region.specs.Words.{RegionWords}
 use Rattle.fixed_kernel.specs.Factors.{HasNarrowFactors}
 use Rattle.fixed_kernel.specs.Raised.{with_raised}

@@ -3,8 +3,8 @@ use Rattle.std.specs.Prelude.{◌^◌, ℤ, List, length, map}
 use Rattle.std.specs.List.{range_with_len}
 use Rattle.integer_algebra.specs.Division.{floor_of}
 use Rattle.integer_algebra.specs.Sums.{at}
-use Rattle.qp_model.specs.Controller.{Numbers}
-use Rattle.qp_model.specs.Machine.{Iterate, lowering_of, raised, plan_of, next_multipliers, added}
+use Rattle.qp_model.specs.machine.Controller.{Numbers}
+use Rattle.qp_model.specs.machine.Machine.{Iterate, lowering_of, raised, plan_of, next_multipliers, added}
 
 -- each multiplier over 2^(fraction_bits + its row's exponent), rounded down, of those over 2^(fraction_bits + step_exponent)
 abbrev pub unraised : Numbers → List ℤ → List ℤ

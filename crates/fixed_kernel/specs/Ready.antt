@@ -1,10 +1,10 @@
 -- What one more step asks of a kernel's words.
 use Rattle.std.specs.Prelude.{◌≡◌, ℕ, ◌+◌, ◌^◌, ◌≤◌, ◌<◌, ℤ, List, length, unsigned_abs, slice_index_or}
 use Rattle.integer_algebra.specs.Sums.{at}
-use Rattle.qp_model.specs.Controller.{Numbers}
-use Rattle.qp_model.specs.Machine.{Iterate}
-use Rattle.qp_model.specs.AbsoluteSums.{state_magnitudes, clamp_magnitudes, plan_magnitudes}
-use Rattle.qp_model.specs.Within.{AreWithin}
+use Rattle.qp_model.specs.machine.Controller.{Numbers}
+use Rattle.qp_model.specs.machine.Machine.{Iterate}
+use Rattle.qp_model.specs.machine.AbsoluteSums.{state_magnitudes, clamp_magnitudes, plan_magnitudes}
+use Rattle.qp_model.specs.machine.Within.{AreWithin}
 
 -- the state and the multipliers, which are raised there, are within their reaches, and the sums leave room for one more plan
 pub record IsReadyToStep (c : Numbers) (state : List ℤ) (made : Iterate) : Type 0 where

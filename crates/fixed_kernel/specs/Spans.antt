@@ -1,7 +1,7 @@
 -- The words of a kernel's region: the state, the multipliers, the plan and the sums, one behind the other.
 use Rattle.std.specs.Prelude.{◌+◌, ℤ, List, ◌++◌, length, take, drop}
-use Rattle.qp_model.specs.Controller.{Numbers, plan_length}
-use Rattle.qp_model.specs.Machine.{Iterate}
+use Rattle.qp_model.specs.machine.Controller.{Numbers, plan_length}
+use Rattle.qp_model.specs.machine.Machine.{Iterate}
 use Rattle.word_region.specs.declared.Span.{Span}
 use Rattle.fixed_kernel.specs.declared.spans.Spans.{Spans}
 

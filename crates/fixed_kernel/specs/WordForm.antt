@@ -4,11 +4,11 @@ use Rattle.std.specs.List.{range_with_len}
 use Rattle.integer_algebra.specs.Sums.{at}
 use Rattle.mat_int.specs.Row.{list_dot}
 use Rattle.mat_int.specs.Matrix.{row_of}
-use Rattle.qp_model.specs.Limits.{text_version}
-use Rattle.qp_model.specs.Controller.{Numbers}
-use Rattle.qp_model.specs.Machine.{Iterate}
-use Rattle.qp_model.specs.AbsoluteSums.{state_magnitudes, clamp_magnitudes, plan_magnitudes}
-use Rattle.qp_model.specs.Within.{AreWithin}
+use Rattle.qp_model.specs.problem.Limits.{text_version}
+use Rattle.qp_model.specs.machine.Controller.{Numbers}
+use Rattle.qp_model.specs.machine.Machine.{Iterate}
+use Rattle.qp_model.specs.machine.AbsoluteSums.{state_magnitudes, clamp_magnitudes, plan_magnitudes}
+use Rattle.qp_model.specs.machine.Within.{AreWithin}
 
 -- what the sum of plan entry j starts from, scaled as it is written; with the multipliers' products it is `entry_sum`
 abbrev pub entry_base : Numbers → List ℤ → ℕ → ℤ

@@ -1,8 +1,8 @@
 // The machine's state, its steps and its runs.
 ghost use Rattle.std.specs.Prelude.{◌≡◌, ◌<◌, ◌≤◌, ◌+◌, ◌^◌, ◌↔◌, pos, ◌*ℤ◌, length, IsOk, IfOk, IfErr, OnOk, OnErr};
 ghost use Rattle.integer_algebra.specs.Sums.{at};
-ghost use Rattle.qp_model.specs.Controller.{plan_length};
-ghost use Rattle.qp_model.specs.Machine.{IsAdmissible, lowering_of, loaded, step_of, run_of};
+ghost use Rattle.qp_model.specs.machine.Controller.{plan_length};
+ghost use Rattle.qp_model.specs.machine.Machine.{IsAdmissible, lowering_of, loaded, step_of, run_of};
 ghost use Rattle.fixed_kernel.specs.Outside.{IsFirstOutside};
 ghost use Rattle.fixed_kernel.specs.Spans.{multipliers_span, plan_span, sums_span};
 

@@ -4,7 +4,7 @@ ghost use Rattle.std.specs.Int.{w128};
 ghost use Rattle.integer_algebra.specs.Division.{floor_of};
 ghost use Rattle.mat_int.specs.Row.{list_dot, abs_dot};
 ghost use Rattle.mat_products.specs.Narrow.{IsNarrow};
-ghost use Rattle.qp_model.specs.Controller.{numbers, IsSized};
+ghost use Rattle.qp_model.specs.machine.Controller.{numbers, IsSized};
 ghost use Rattle.fixed_kernel.specs.Factors.{IsNarrowCoordinate, HasNarrowFactors};
 
 use crate::entry::{short_scaled, short_shift};

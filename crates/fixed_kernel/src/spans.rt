@@ -1,6 +1,6 @@
 // Where a kernel's words stand in its region.
 ghost use Rattle.std.specs.Prelude.{◌≡◌, ◌≤◌, ◌+◌, length};
-ghost use Rattle.qp_model.specs.Controller.{numbers, IsSized};
+ghost use Rattle.qp_model.specs.machine.Controller.{numbers, IsSized};
 ghost use Rattle.fixed_kernel.specs.Spans.{spans_of};
 
 use qp_model::ControllerParts;

@@ -1,8 +1,8 @@
 // States of the box.
 ghost use Rattle.std.specs.Prelude.{◌≡◌, ◌↔◌, length, pos, replicate, IsNone, IfSome};
-ghost use Rattle.qp_model.specs.Controller.{numbers};
-ghost use Rattle.qp_model.specs.Machine.{IsAdmissible, loaded, start_of};
-ghost use Rattle.qp_model.specs.AbsoluteSums.{IsController};
+ghost use Rattle.qp_model.specs.machine.Controller.{numbers};
+ghost use Rattle.qp_model.specs.machine.Machine.{IsAdmissible, loaded, start_of};
+ghost use Rattle.qp_model.specs.machine.AbsoluteSums.{IsController};
 ghost use Rattle.fixed_kernel.specs.Outside.{IsFirstOutside};
 ghost use Rattle.fixed_kernel.specs.Spans.{words_of};
 

@@ -1,8 +1,8 @@
 // What a state adds to each sum of a step, in words of 64 bits. It is made once a run.
 ghost use Rattle.std.specs.Prelude.{◌≡◌, ◌<◌, length};
-ghost use Rattle.qp_model.specs.Controller.{numbers};
-ghost use Rattle.qp_model.specs.AbsoluteSums.{IsController, state_magnitudes};
-ghost use Rattle.qp_model.specs.Within.{AreWithin};
+ghost use Rattle.qp_model.specs.machine.Controller.{numbers};
+ghost use Rattle.qp_model.specs.machine.AbsoluteSums.{IsController, state_magnitudes};
+ghost use Rattle.qp_model.specs.machine.Within.{AreWithin};
 ghost use Rattle.fixed_kernel.specs.WordForm.{entry_base, entry_bases, row_base, row_bases, IsWordSized};
 
 use crate::entry::short_scaled;

@@ -1,9 +1,9 @@
 // A run in words of 64 bits, from a region's words and back to them.
 ghost use Rattle.std.specs.Prelude.{◌≡◌, ◌≤◌, ◌↔◌, IsTrue, length, All};
-ghost use Rattle.qp_model.specs.Controller.{numbers, IsSized};
-ghost use Rattle.qp_model.specs.Machine.{after};
-ghost use Rattle.qp_model.specs.AbsoluteSums.{IsController, state_magnitudes};
-ghost use Rattle.qp_model.specs.Within.{AreWithin};
+ghost use Rattle.qp_model.specs.machine.Controller.{numbers, IsSized};
+ghost use Rattle.qp_model.specs.machine.Machine.{after};
+ghost use Rattle.qp_model.specs.machine.AbsoluteSums.{IsController, state_magnitudes};
+ghost use Rattle.qp_model.specs.machine.Within.{AreWithin};
 ghost use Rattle.mat_products.specs.Narrow.{IsNarrow};
 ghost use Rattle.fixed_kernel.specs.Spans.{made_of};
 ghost use Rattle.fixed_kernel.specs.WordForm.{IsWordSized};

@@ -3,10 +3,10 @@ ghost use Rattle.std.specs.Prelude.{◌≡◌, ◌≤◌, ◌<◌, ◌+◌, ◌^
 ghost use Rattle.std.specs.Int.{int_max, int_min};
 ghost use Rattle.integer_algebra.specs.Division.{floor_of};
 ghost use Rattle.integer_algebra.specs.Sums.{at};
-ghost use Rattle.qp_model.specs.Controller.{numbers};
-ghost use Rattle.qp_model.specs.Machine.{plan_entry, plan_of, row_sum, next_multipliers, added, step_of, after};
-ghost use Rattle.qp_model.specs.AbsoluteSums.{IsController, clamp_magnitudes, state_magnitudes, plan_magnitudes};
-ghost use Rattle.qp_model.specs.Within.{AreWithin};
+ghost use Rattle.qp_model.specs.machine.Controller.{numbers};
+ghost use Rattle.qp_model.specs.machine.Machine.{plan_entry, plan_of, row_sum, next_multipliers, added, step_of, after};
+ghost use Rattle.qp_model.specs.machine.AbsoluteSums.{IsController, clamp_magnitudes, state_magnitudes, plan_magnitudes};
+ghost use Rattle.qp_model.specs.machine.Within.{AreWithin};
 ghost use Rattle.fixed_kernel.specs.Spans.{made_of};
 ghost use Rattle.fixed_kernel.specs.WordForm.{entry_bases, row_bases, IsWordSized, IsReadyInWords};
 

@@ -3,21 +3,21 @@ use Rattle.std.proofs.Common.{◌≡◌, inl, inr, ℕ, zero, suc, ◌+◌, ◌*
 use Rattle.std.specs.Prelude.{Result, IsErrAnd, unwrap_or}
 use Rattle.std.specs.Option.{option_or}
 use Rattle.integer_algebra.specs.Matrices.{IsDominant, off_diagonal_sum}
-use Rattle.qp_model.specs.Least.{IsLeast, IsLeastBelow}
+use Rattle.qp_model.specs.bounds.Least.{IsLeast, IsLeastBelow}
 use Rattle.hessian_check.specs.Curvature.{HasPassingRoot, IsChosen, IsDominantAt, IsFirst}
 use Rattle.hessian_check.specs.declared.fault.CurvatureFault.{CurvatureFault}
 use Rattle.hessian_check.specs.declared.fault.CurvatureFault.TheVariants.{Memory}
 use Rattle.hessian_check.specs.declared.fault.StepExponents.{StepExponents}
 use Rattle.hessian_check.specs.Exponents.{IsEither, IsOutcome}
-use Rattle.qp_model.specs.Design.{Design}
-use Rattle.qp_model.specs.Form.{Form}
-use Rattle.qp_model.specs.CurvatureSize.{CoversSquaresOf, floor_times, limit_squares}
+use Rattle.qp_model.specs.problem.Design.{Design}
+use Rattle.qp_model.specs.form.Form.{Form}
+use Rattle.qp_model.specs.form.CurvatureSize.{CoversSquaresOf, floor_times, limit_squares}
 use Rattle.std.proofs.lemmas.Int.{ints, by_lt_z}
 use Rattle.std.proofs.lemmas.Bool.{cases_lt}
 use Rattle.std.proofs.lemmas.Result.{err_from_is_err_and}
 use Rattle.std.proofs.Math.Nat.{mul-le-mul_left, one-le-mul, pow-suc}
 use Rattle.integer_algebra.proofs.PowerLaws.{pow_positive}
-use Rattle.qp_model.specs.Quantities.{input_floor}
+use Rattle.qp_model.specs.form.Quantities.{input_floor}
 
 pub either_made : (n : ℕ) (m : ℕ → ℕ → ℕ → ℤ) (o squares : Option ℕ) (s1 : ℕ) → option_or o squares ≡ Some s1 →
     IsLeastBelow (unwrap_or squares 40 + 1) (λ s. IsDominant n (m s)) o → IsEither n m squares s1

@@ -12,16 +12,16 @@ use Rattle.integer_algebra.proofs.PowerLaws.{pow-two, four-pow}
 use Rattle.integer_algebra.proofs.Quoting.{by_ring, quotes}
 use Rattle.integer_algebra.proofs.SumLaws.{total_same, total_scale}
 use Rattle.integer_algebra.proofs.VectorLaws.{dot_same, image_none, quadratic_scale}
-use Rattle.qp_model.specs.Design.{Design, CostRow, entries, rows}
-use Rattle.qp_model.specs.Condensed.{Condensed, IsCondensed}
-use Rattle.qp_model.specs.Condensing.{condensed_of, over_costs, cost_plan, own_input}
-use Rattle.qp_model.specs.Quantities.{input_floor}
-use Rattle.qp_model.specs.Cost.{cost_scale}
-use Rattle.qp_model.specs.CurvatureSize.{limit_squares, floor_times}
-use Rattle.qp_model.specs.Curvature.{AreExponents, IsExponent, curvature, row_change}
-use Rattle.qp_model.specs.Form.{Form, EnclosesDesign, farthest, rows_scale}
-use Rattle.qp_model.specs.Residual.{residual, residual_scale}
-use Rattle.qp_model.specs.Sound.{IsSound}
+use Rattle.qp_model.specs.problem.Design.{Design, CostRow, entries, rows}
+use Rattle.qp_model.specs.form.Condensed.{Condensed, IsCondensed}
+use Rattle.qp_model.specs.form.Condensing.{condensed_of, over_costs, cost_plan, own_input}
+use Rattle.qp_model.specs.form.Quantities.{input_floor}
+use Rattle.qp_model.specs.problem.Cost.{cost_scale}
+use Rattle.qp_model.specs.form.CurvatureSize.{limit_squares, floor_times}
+use Rattle.qp_model.specs.form.Curvature.{AreExponents, IsExponent, curvature, row_change}
+use Rattle.qp_model.specs.form.Form.{Form, EnclosesDesign, farthest, rows_scale}
+use Rattle.qp_model.specs.problem.Residual.{residual, residual_scale}
+use Rattle.qp_model.specs.problem.Sound.{IsSound}
 use Rattle.qp_model.proofs.CurvatureLaws.{hessian_law, curvature_law}
 use Rattle.hessian_check.specs.Dominance.{IsSymmetric, form}
 use Rattle.hessian_check.specs.Curvature.{BoundsRows, IsFloored, CoversAll}

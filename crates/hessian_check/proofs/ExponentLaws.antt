@@ -1,11 +1,11 @@
 -- The numbers that are chosen are exponents of the design.
 use Rattle.std.proofs.Common.{◌≡◌, ℕ, ◌-◌, ◌^◌, Bool, true, false, refl, rules}
 use Rattle.qp_model.specs.declared.design_parts.DesignParts.{DesignParts}
-use Rattle.qp_model.specs.Parts.{IsDesign, design_of}
-use Rattle.qp_model.specs.Class.{CoversSquares, form_in, form_of}
-use Rattle.qp_model.specs.FineForm.{fine_form}
-use Rattle.qp_model.specs.FineSizes.{is_fine}
-use Rattle.qp_model.specs.Form.{IsFormFor}
+use Rattle.qp_model.specs.problem.Parts.{IsDesign, design_of}
+use Rattle.qp_model.specs.form.Class.{CoversSquares, form_in, form_of}
+use Rattle.qp_model.specs.form.FineForm.{fine_form}
+use Rattle.qp_model.specs.form.FineSizes.{is_fine}
+use Rattle.qp_model.specs.form.Form.{IsFormFor}
 use Rattle.qp_model.proofs.CostLaws.{condensing}
 use Rattle.qp_model.proofs.FormLaws.{exact_form_law}
 use Rattle.hessian_check.specs.StepLaw.{ExponentLaw, FormSquaresLaw, RowsLaw}

@@ -11,9 +11,9 @@ use Rattle.integer_algebra.proofs.Quoting.{by_ring, quotes}
 use Rattle.integer_algebra.proofs.SizeLaws.{amount_same, size_same}
 use Rattle.mat_int.specs.Matrix.{Matrix, entry_of, HasEntries}
 use Rattle.qp_model.specs.declared.design_parts.DesignParts.{DesignParts}
-use Rattle.qp_model.specs.Class.{cost_row_in, form_in}
-use Rattle.qp_model.specs.Design.{Design, entries}
-use Rattle.qp_model.specs.Parts.{design_of}
+use Rattle.qp_model.specs.form.Class.{cost_row_in, form_in}
+use Rattle.qp_model.specs.problem.Design.{Design, entries}
+use Rattle.qp_model.specs.problem.Parts.{design_of}
 use Rattle.qp_model.proofs.CostLaws.{condensing}
 use Rattle.qp_model.proofs.SoundLaws.{sound}
 use Rattle.condensed_form.specs.declared.condensed.Condensed.{Condensed}

@@ -13,14 +13,14 @@ use Rattle.integer_algebra.proofs.SumLaws.{total_same}
 use Rattle.frac_scaled.specs.Enclosures.{Encloses, exactly, sum_of}
 use Rattle.frac_scaled.proofs.EnclosureLaws.{encloses_within, within_encloses}
 use Rattle.mat_int.proofs.EnclosureLaws.{gram_law}
-use Rattle.qp_model.specs.Class.{form_in}
-use Rattle.qp_model.specs.Condensed.{IsCondensed}
-use Rattle.qp_model.specs.Condensing.{condensed_of}
-use Rattle.qp_model.specs.Design.{Design, entries, rows}
-use Rattle.qp_model.specs.FineForm.{fine_form, fine_products, own_weight}
-use Rattle.qp_model.specs.Form.{IsFormFor}
-use Rattle.qp_model.specs.Quantities.{input_floor}
-use Rattle.qp_model.specs.Sound.{IsSound}
+use Rattle.qp_model.specs.form.Class.{form_in}
+use Rattle.qp_model.specs.form.Condensed.{IsCondensed}
+use Rattle.qp_model.specs.form.Condensing.{condensed_of}
+use Rattle.qp_model.specs.problem.Design.{Design, entries, rows}
+use Rattle.qp_model.specs.form.FineForm.{fine_form, fine_products, own_weight}
+use Rattle.qp_model.specs.form.Form.{IsFormFor}
+use Rattle.qp_model.specs.form.Quantities.{input_floor}
+use Rattle.qp_model.specs.problem.Sound.{IsSound}
 use Rattle.hessian_check.specs.Curvature.{IsHeld, weighted_products}
 use Rattle.hessian_check.specs.Dominance.{IsSymmetric}
 use Rattle.hessian_check.specs.Steps.{curved_of, held_by, held_in, row_enclosure, weighted_of}

@@ -10,12 +10,12 @@ use Rattle.integer_algebra.specs.Matrices.{IsDominant}
 use Rattle.mat_int.specs.Matrix.{Matrix, entry_of, HasEntries}
 use Rattle.mat_int.specs.Enclosures.{AreEnclosures, enclosure_at, HasEnclosures}
 use Rattle.qp_model.specs.declared.design_parts.DesignParts.{DesignParts}
-use Rattle.qp_model.specs.Class.{CoversSquares, form_of, HasLoweringRoom, row_quantity, rows_in}
-use Rattle.qp_model.specs.Curvature.{AreExponents}
-use Rattle.qp_model.specs.CurvatureSize.{covering_exponent}
-use Rattle.qp_model.specs.Design.{Design, entries, rows}
-use Rattle.qp_model.specs.FineSizes.{is_fine}
-use Rattle.qp_model.specs.Parts.{design_of}
+use Rattle.qp_model.specs.form.Class.{CoversSquares, form_of, HasLoweringRoom, row_quantity, rows_in}
+use Rattle.qp_model.specs.form.Curvature.{AreExponents}
+use Rattle.qp_model.specs.form.CurvatureSize.{covering_exponent}
+use Rattle.qp_model.specs.problem.Design.{Design, entries, rows}
+use Rattle.qp_model.specs.form.FineSizes.{is_fine}
+use Rattle.qp_model.specs.problem.Parts.{design_of}
 use Rattle.enclosure.specs.declared.types.EncMat.{EncMat}
 use Rattle.condensed_form.specs.declared.condensed.Condensed.{Condensed}
 use Rattle.condensed_form.specs.Form.{IsFormOf}

@@ -8,15 +8,15 @@ use Rattle.integer_algebra.proofs.SizeLaws.{amount_same}
 use Rattle.integer_algebra.proofs.SumLaws.{total_same}
 use Rattle.frac_scaled.specs.Enclosures.{Enclosure}
 use Rattle.qp_model.specs.declared.design_parts.DesignParts.{DesignParts}
-use Rattle.qp_model.specs.Class.{form_in, form_of}
-use Rattle.qp_model.specs.Condensing.{condensed_of}
-use Rattle.qp_model.specs.Curvature.{AreExponents, IsExponent, row_change}
-use Rattle.qp_model.specs.Design.{Design, entries, rows}
-use Rattle.qp_model.specs.FineForm.{fine_form}
-use Rattle.qp_model.specs.FineSizes.{is_fine}
-use Rattle.qp_model.specs.Form.{IsFormFor}
-use Rattle.qp_model.specs.Limits.{text_version}
-use Rattle.qp_model.specs.Parts.{IsDesign, design_of}
+use Rattle.qp_model.specs.form.Class.{form_in, form_of}
+use Rattle.qp_model.specs.form.Condensing.{condensed_of}
+use Rattle.qp_model.specs.form.Curvature.{AreExponents, IsExponent, row_change}
+use Rattle.qp_model.specs.problem.Design.{Design, entries, rows}
+use Rattle.qp_model.specs.form.FineForm.{fine_form}
+use Rattle.qp_model.specs.form.FineSizes.{is_fine}
+use Rattle.qp_model.specs.form.Form.{IsFormFor}
+use Rattle.qp_model.specs.problem.Limits.{text_version}
+use Rattle.qp_model.specs.problem.Parts.{IsDesign, design_of}
 use Rattle.hessian_check.specs.Curvature.{Curved, HeldMatrices, difference, exponent_matrix, radius_of}
 use Rattle.hessian_check.specs.Dominance.{AreSame}
 use Rattle.hessian_check.specs.RowExponents.{AreLowered, AreRowExponents, exponent_in, IsAcceptedAt, IsLowered, OneListLaw, RowExponentLaw, tested}

@@ -13,10 +13,10 @@ use Rattle.mat_int.specs.Matrix.{Matrix, entry_of, zero_matrix, HasEntries}
 use Rattle.mat_int.specs.Enclosures.{AreEnclosures, enclosure_at, HasEnclosures}
 use Rattle.enclosure.proofs.RoomLaws.{same_pair}
 use Rattle.qp_model.specs.declared.design_parts.DesignParts.{DesignParts}
-use Rattle.qp_model.specs.Class.{product_row_in, row_quantity, rows_in}
-use Rattle.qp_model.specs.Design.{Design, entries, rows}
-use Rattle.qp_model.specs.FineForm.{fine_form}
-use Rattle.qp_model.specs.Parts.{design_of}
+use Rattle.qp_model.specs.form.Class.{product_row_in, row_quantity, rows_in}
+use Rattle.qp_model.specs.problem.Design.{Design, entries, rows}
+use Rattle.qp_model.specs.form.FineForm.{fine_form}
+use Rattle.qp_model.specs.problem.Parts.{design_of}
 use Rattle.condensed_form.specs.declared.condensed.Condensed.{Condensed}
 use Rattle.condensed_form.specs.Form.{IsFormIn}
 use Rattle.condensed_form.proofs.FormSums.{far_plan_small, products_pair, products_row}

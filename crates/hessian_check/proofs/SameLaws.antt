@@ -13,7 +13,7 @@ use Rattle.hessian_check.specs.StepMatrices.{mixed}
 use Rattle.hessian_check.specs.Dominance.{AreSame, IsSymmetric}
 use Rattle.integer_algebra.specs.Matrices.{off_diagonal_sum, IsDominant}
 use Rattle.hessian_check.specs.Recipe.{top, low, IsStart, IsPart, IsRow, IsRecipeRoot, diagonal_reserve, scaled_up}
-use Rattle.qp_model.specs.Least.{IsLeast}
+use Rattle.qp_model.specs.bounds.Least.{IsLeast}
 use Rattle.hessian_check.specs.Curvature.{HasPassingRoot, HasPassingRootBelow, IsAccepted, IsChosen, IsDominantAt, IsFirst}
 use Rattle.hessian_check.proofs.PassLaws.{passes_same, same_back}
 

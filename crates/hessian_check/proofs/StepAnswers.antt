@@ -3,16 +3,16 @@ use Rattle.std.proofs.Common.{◌≡◌, ◌⊎◌, inl, inr, ℕ, ◌<◌, ◌�
 use Rattle.std.specs.Prelude.{Result, Ok, Err, IfErr, IfOk, IsOk, unwrap_or}
 use Rattle.std.proofs.Math.Nat.{mul-le-mul_right, pow-le-pow_right}
 use Rattle.qp_model.specs.declared.design_parts.DesignParts.{DesignParts}
-use Rattle.qp_model.specs.Curvature.{IsExponent}
-use Rattle.qp_model.specs.Class.{CoversSquares, cost_row_in, curvature_quantity, form_of, product_row_in}
-use Rattle.qp_model.specs.FineSizes.{is_fine}
-use Rattle.qp_model.specs.Design.{Design, entries}
-use Rattle.qp_model.specs.Parts.{design_of}
+use Rattle.qp_model.specs.form.Curvature.{IsExponent}
+use Rattle.qp_model.specs.form.Class.{CoversSquares, cost_row_in, curvature_quantity, form_of, product_row_in}
+use Rattle.qp_model.specs.form.FineSizes.{is_fine}
+use Rattle.qp_model.specs.problem.Design.{Design, entries}
+use Rattle.qp_model.specs.problem.Parts.{design_of}
 use Rattle.hessian_check.specs.declared.fault.CurvatureFault.{CurvatureFault}
 use Rattle.hessian_check.specs.declared.fault.CurvatureFault.TheVariants.{Memory, TooWide, NoStep}
 use Rattle.hessian_check.specs.declared.fault.StepExponents.{StepExponents}
 use Rattle.hessian_check.specs.declared.matrices.StepMatrices.{StepMatrices}
-use Rattle.qp_model.specs.Least.{IsLeastBelow}
+use Rattle.qp_model.specs.bounds.Least.{IsLeastBelow}
 use Rattle.hessian_check.specs.Curvature.{IsChosen}
 use Rattle.hessian_check.specs.DesignMatrices.{AreMatricesOf, size_at}
 use Rattle.hessian_check.specs.Exponents.{IsEither, IsOutcome}

@@ -2,9 +2,9 @@
 use Rattle.std.specs.Prelude.{◌≡◌, ℕ, ◌≤◌, ◌<◌, ◌^◌, Bool, ℤ, length}
 use Rattle.integer_algebra.specs.Sizes.{amount, size}
 use Rattle.mat_int.specs.Matrix.{Matrix, entry_of, HasEntries}
-use Rattle.qp_model.specs.Design.{Design, entries}
-use Rattle.qp_model.specs.Class.{cost_row_in}
-use Rattle.qp_model.specs.CurvatureSize.{curvature_of}
+use Rattle.qp_model.specs.problem.Design.{Design, entries}
+use Rattle.qp_model.specs.form.Class.{cost_row_in}
+use Rattle.qp_model.specs.form.CurvatureSize.{curvature_of}
 use Rattle.hessian_check.specs.declared.matrices.StepMatrices.{StepMatrices}
 use Rattle.hessian_check.specs.Curvature.{exponent_matrix, lowered, raised_diagonal}
 use Rattle.hessian_check.specs.Dominance.{AreSame}

@@ -1,6 +1,6 @@
 -- What the choice among matrices answers.
 use Rattle.std.specs.Prelude.{◌≡◌, ◌⊎◌, ℕ, ◌≤◌, ℤ, Option, Some, None, Result, Ok, Err, unwrap_or}
-use Rattle.qp_model.specs.Least.{IsLeast}
+use Rattle.qp_model.specs.bounds.Least.{IsLeast}
 use Rattle.hessian_check.specs.Curvature.{IsChosen}
 use Rattle.integer_algebra.specs.Matrices.{IsDominant}
 use Rattle.hessian_check.specs.declared.fault.CurvatureFault.{CurvatureFault}

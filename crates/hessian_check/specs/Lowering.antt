@@ -1,8 +1,8 @@
 -- The rows of a design's form while their exponents are lowered one after the other.
 use Rattle.std.specs.Prelude.{◌≡◌, ℕ, ◌-◌, ◌*◌, ◌<◌, ◌≤◌, ◌^◌, Bool, List, length, pos}
-use Rattle.qp_model.specs.Class.{HasLoweringRoom}
-use Rattle.qp_model.specs.Design.{Design}
-use Rattle.qp_model.specs.FineSizes.{is_fine}
+use Rattle.qp_model.specs.form.Class.{HasLoweringRoom}
+use Rattle.qp_model.specs.problem.Design.{Design}
+use Rattle.qp_model.specs.form.FineSizes.{is_fine}
 use Rattle.condensed_form.specs.declared.condensed.Condensed.{Condensed}
 use Rattle.enclosure.specs.declared.types.EncMat.{EncMat}
 use Rattle.hessian_check.specs.declared.matrices.StepMatrices.{StepMatrices}

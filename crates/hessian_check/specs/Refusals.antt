@@ -1,7 +1,7 @@
 -- Why a design has no exponents of the step.
 use Rattle.std.specs.Prelude.{◌≡◌, ◌⊎◌, ◌^◌, ◌<◌, ◌≤◌}
-use Rattle.qp_model.specs.Design.{Design}
-use Rattle.qp_model.specs.Class.{curvature_quantity}
+use Rattle.qp_model.specs.problem.Design.{Design}
+use Rattle.qp_model.specs.form.Class.{curvature_quantity}
 use Rattle.qp_model.specs.declared.quantity.Quantity.TheVariants.{Curvature}
 use Rattle.hessian_check.specs.Steps.{HasNoStep}
 use Rattle.hessian_check.specs.declared.fault.CurvatureFault.{CurvatureFault}

@@ -1,13 +1,13 @@
 -- The step exponents of a design's rows.
 use Rattle.std.specs.Prelude.{◌≡◌, ◌≢◌, ◌⊎◌, ℕ, ◌-◌, ◌≤◌, ◌<◌, List, length, replicate, slice_index_or, nat_lt, ◌==◌, if◌then◌else◌}
 use Rattle.qp_model.specs.declared.design_parts.DesignParts.{DesignParts}
-use Rattle.qp_model.specs.Class.{form_of, HasLoweringRoom}
-use Rattle.qp_model.specs.Curvature.{AreExponents}
-use Rattle.qp_model.specs.Design.{Design, entries, rows}
-use Rattle.qp_model.specs.FineSizes.{is_fine}
-use Rattle.qp_model.specs.Form.{IsFormFor}
-use Rattle.qp_model.specs.Limits.{text_version}
-use Rattle.qp_model.specs.Parts.{IsDesign, design_of}
+use Rattle.qp_model.specs.form.Class.{form_of, HasLoweringRoom}
+use Rattle.qp_model.specs.form.Curvature.{AreExponents}
+use Rattle.qp_model.specs.problem.Design.{Design, entries, rows}
+use Rattle.qp_model.specs.form.FineSizes.{is_fine}
+use Rattle.qp_model.specs.form.Form.{IsFormFor}
+use Rattle.qp_model.specs.problem.Limits.{text_version}
+use Rattle.qp_model.specs.problem.Parts.{IsDesign, design_of}
 use Rattle.hessian_check.specs.Curvature.{IsAccepted}
 use Rattle.hessian_check.specs.Steps.{IsPlainExponent, IsStepExponent, rows_matrix}
 

@@ -5,7 +5,7 @@ use Rattle.frac_scaled.specs.Enclosures.{Enclosure, divided, multiple, sum_of, w
 use Rattle.mat_int.specs.Matrix.{Matrix, entry_of}
 use Rattle.mat_int.specs.Enclosures.{enclosure_at, gram_sum, HasEnclosures}
 use Rattle.condensed_form.specs.declared.condensed.Condensed.{Condensed}
-use Rattle.qp_model.specs.Form.{farthest}
+use Rattle.qp_model.specs.form.Form.{farthest}
 use Rattle.hessian_check.specs.Curvature.{raised_diagonal}
 
 -- before they are rounded, over the square of what the rows are over

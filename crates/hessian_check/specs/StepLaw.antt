@@ -1,14 +1,14 @@
 -- The numbers that are chosen are exponents of the design.
 use Rattle.std.specs.Prelude.{◌≡◌, ℕ, ◌*◌, ◌<◌, ◌≤◌, Bool, true}
 use Rattle.qp_model.specs.declared.design_parts.DesignParts.{DesignParts}
-use Rattle.qp_model.specs.Design.{entries, rows}
+use Rattle.qp_model.specs.problem.Design.{entries, rows}
 use Rattle.hessian_check.specs.Curvature.{IsAccepted}
-use Rattle.qp_model.specs.Class.{form_of}
-use Rattle.qp_model.specs.FineForm.{fine_form}
-use Rattle.qp_model.specs.Form.{Form, IsFormFor}
-use Rattle.qp_model.specs.CurvatureSize.{limit_squares, floor_times}
-use Rattle.qp_model.specs.Parts.{IsDesign, design_of}
-use Rattle.qp_model.specs.Curvature.{AreExponents, IsExponent}
+use Rattle.qp_model.specs.form.Class.{form_of}
+use Rattle.qp_model.specs.form.FineForm.{fine_form}
+use Rattle.qp_model.specs.form.Form.{Form, IsFormFor}
+use Rattle.qp_model.specs.form.CurvatureSize.{limit_squares, floor_times}
+use Rattle.qp_model.specs.problem.Parts.{IsDesign, design_of}
+use Rattle.qp_model.specs.form.Curvature.{AreExponents, IsExponent}
 use Rattle.hessian_check.specs.Steps.{IsPlainExponent, IsStepExponent, rows_matrix_in}
 
 -- where a controller may be made of the form of the design's class

@@ -3,15 +3,15 @@ use Rattle.std.specs.Prelude.{ℕ, ◌-◌, ◌*◌, ◌/◌, ◌^◌, ◌<◌, 
 use Rattle.integer_algebra.specs.Division.{floor_of}
 use Rattle.frac_scaled.specs.Enclosures.{Enclosure}
 use Rattle.mat_int.specs.Enclosures.{weighted_gram}
-use Rattle.qp_model.specs.Class.{CoversSquares}
-use Rattle.qp_model.specs.Design.{Design, entries, rows}
-use Rattle.qp_model.specs.Condensing.{condensed_of}
-use Rattle.qp_model.specs.FineForm.{fine_form}
-use Rattle.qp_model.specs.FineSizes.{is_fine}
-use Rattle.qp_model.specs.Form.{Form}
-use Rattle.qp_model.specs.Quantities.{input_floor}
+use Rattle.qp_model.specs.form.Class.{CoversSquares}
+use Rattle.qp_model.specs.problem.Design.{Design, entries, rows}
+use Rattle.qp_model.specs.form.Condensing.{condensed_of}
+use Rattle.qp_model.specs.form.FineForm.{fine_form}
+use Rattle.qp_model.specs.form.FineSizes.{is_fine}
+use Rattle.qp_model.specs.form.Form.{Form}
+use Rattle.qp_model.specs.form.Quantities.{input_floor}
 use Rattle.qp_model.specs.declared.design_parts.DesignParts.{DesignParts}
-use Rattle.qp_model.specs.Parts.{design_of}
+use Rattle.qp_model.specs.problem.Parts.{design_of}
 use Rattle.condensed_form.specs.declared.condensed.Condensed.{Condensed}
 use Rattle.condensed_form.specs.Form.{IsFormOf}
 use Rattle.hessian_check.specs.Curvature.{Curved, HeldMatrices, held_exactly, exponent_matrix, IsFirst, IsChosen}

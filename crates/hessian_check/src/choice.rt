@@ -1,6 +1,6 @@
 // The numbers that are chosen among the matrices.
 ghost use Rattle.std.specs.Prelude.{◌≡◌, ◌⊎◌, ◌<◌, ◌≤◌, ℕ, length, IfOk, unwrap_or, IsErrOf};
-ghost use Rattle.qp_model.specs.Least.{IsLeastBelow};
+ghost use Rattle.qp_model.specs.bounds.Least.{IsLeastBelow};
 ghost use Rattle.hessian_check.specs.Curvature.{HasPassingRoot};
 ghost use Rattle.integer_algebra.specs.Matrices.{IsDominant};
 ghost use Rattle.hessian_check.specs.MatrixRoom.{HasMatrixRoom, matrix_at};

@@ -5,7 +5,7 @@ ghost use Rattle.integer_algebra.specs.Sizes.{size};
 ghost use Rattle.mat_int.specs.Matrix.{entry_of, HasEntries};
 ghost use Rattle.mat_int.specs.Enclosures.{HasEnclosures};
 ghost use Rattle.qp_model.specs.declared.design_parts.DesignParts.{DesignParts};
-ghost use Rattle.qp_model.specs.Parts.{design_of};
+ghost use Rattle.qp_model.specs.problem.Parts.{design_of};
 ghost use Rattle.condensed_form.specs.Form.{IsFormIn, IsSomeForm};
 ghost use Rattle.hessian_check.specs.Curvature.{lowered, raised_diagonal};
 ghost use Rattle.hessian_check.specs.DesignMatrices.{IsCostMatrix};

@@ -1,9 +1,9 @@
 // The exponents of a design's step.
 ghost use Rattle.std.specs.Prelude.{◌≡◌, ◌⊎◌, ◌<◌, ◌≤◌, ◌^◌, ℕ, Bool, Err, IfErr, IfOk, IsOk};
 ghost use Rattle.qp_model.specs.declared.design_parts.DesignParts.{DesignParts};
-ghost use Rattle.qp_model.specs.Class.{curvature_quantity, product_row_in};
-ghost use Rattle.qp_model.specs.Curvature.{IsExponent};
-ghost use Rattle.qp_model.specs.Parts.{design_of};
+ghost use Rattle.qp_model.specs.form.Class.{curvature_quantity, product_row_in};
+ghost use Rattle.qp_model.specs.form.Curvature.{IsExponent};
+ghost use Rattle.qp_model.specs.problem.Parts.{design_of};
 ghost use Rattle.condensed_form.specs.Form.{IsForm, IsFormIn, IsSomeForm};
 ghost use Rattle.hessian_check.specs.DesignMatrices.{AreMatricesOf};
 ghost use Rattle.hessian_check.specs.Lowering.{HasCostMatrix};

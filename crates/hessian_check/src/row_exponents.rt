@@ -1,8 +1,8 @@
 // The step exponents of a design's rows.
 ghost use Rattle.std.specs.Prelude.{◌≡◌, ◌↔◌, ◌+◌, ◌-◌, ◌<◌, ◌≤◌, length, IfOk, IsTrue};
-ghost use Rattle.qp_model.specs.Class.{HasLoweringRoom};
-ghost use Rattle.qp_model.specs.Curvature.{AreExponents};
-ghost use Rattle.qp_model.specs.FineSizes.{is_fine};
+ghost use Rattle.qp_model.specs.form.Class.{HasLoweringRoom};
+ghost use Rattle.qp_model.specs.form.Curvature.{AreExponents};
+ghost use Rattle.qp_model.specs.form.FineSizes.{is_fine};
 ghost use Rattle.condensed_form.specs.Form.{IsForm};
 ghost use Rattle.hessian_check.specs.Curvature.{IsAccepted};
 ghost use Rattle.hessian_check.specs.Lowering.{AreSumsToTest, AreTestedSums, HasCostMatrix, IsReadyToLower};

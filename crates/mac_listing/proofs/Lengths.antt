@@ -4,8 +4,8 @@ use Rattle.std.proofs.lemmas.List.{length-append}
 use Rattle.integer_algebra.specs.Sums.{at}
 use Rattle.integer_algebra.specs.Sizes.{amount}
 use Rattle.mat_int.specs.Matrix.{Matrix, row_of}
-use Rattle.qp_model.specs.Controller.{Numbers, plan_length, HasShape, IsShaped}
-use Rattle.qp_model.specs.Machine.{lowering_of, top_of}
+use Rattle.qp_model.specs.machine.Controller.{Numbers, plan_length, HasShape, IsShaped}
+use Rattle.qp_model.specs.machine.Machine.{lowering_of, top_of}
 use Rattle.mac_listing.specs.declared.instruction.Op.{Op}
 use Rattle.mac_listing.specs.declared.instruction.Op.TheVariants.{Clear, Store, Con, AddM, Shl, Shr, Neg, Low, Cap}
 use Rattle.mac_listing.specs.Body.{multiplier_address, plan_address, groups, product_op, row_ops, unshifted, entry_ops, multiplier_ops, sum_ops, body_of}

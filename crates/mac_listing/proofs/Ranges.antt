@@ -7,9 +7,9 @@ use Rattle.std.proofs.lemmas.List.{length-append}
 use Rattle.std.proofs.lemmas.List.Elements.{All-nil, All-cons, All-append}
 use Rattle.integer_algebra.specs.Sums.{at}
 use Rattle.mat_int.specs.Matrix.{Matrix, row_of}
-use Rattle.qp_model.specs.Controller.{Numbers, plan_length, IsSized, HasShape}
-use Rattle.qp_model.specs.Machine.{lowering_of, top_of, average_denominator}
-use Rattle.qp_model.specs.AbsoluteSums.{IsController}
+use Rattle.qp_model.specs.machine.Controller.{Numbers, plan_length, IsSized, HasShape}
+use Rattle.qp_model.specs.machine.Machine.{lowering_of, top_of, average_denominator}
+use Rattle.qp_model.specs.machine.AbsoluteSums.{IsController}
 use Rattle.mac_listing.specs.declared.instruction.Op.{Op}
 use Rattle.mac_listing.specs.declared.instruction.Op.TheVariants.{Clear, Load, Store, Mac, Con, AddM, Shl, Shr, Neg, Low, Cap}
 use Rattle.mac_listing.specs.Body.{multiplier_address, plan_address, sum_address, groups, product_op, row_ops, unshifted, entry_ops, multiplier_ops, sum_ops, body_of}

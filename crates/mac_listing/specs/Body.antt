@@ -2,8 +2,8 @@
 use Rattle.std.specs.Prelude.{ℕ, zero, suc, ◌+◌, ℤ, pos, neg_ℤ, List, [], ◌∷◌, ◌++◌, length}
 use Rattle.integer_algebra.specs.Sums.{at}
 use Rattle.mat_int.specs.Matrix.{row_of}
-use Rattle.qp_model.specs.Controller.{Numbers, plan_length}
-use Rattle.qp_model.specs.Machine.{lowering_of, top_of}
+use Rattle.qp_model.specs.machine.Controller.{Numbers, plan_length}
+use Rattle.qp_model.specs.machine.Machine.{lowering_of, top_of}
 use Rattle.mac_listing.specs.declared.instruction.Op.{Op}
 use Rattle.mac_listing.specs.declared.instruction.Op.TheVariants.{Clear, Load, Store, Mac, Con, AddM, Shl, Shr, Neg, Low, Cap}
 

@@ -2,8 +2,8 @@
 use Rattle.std.specs.Prelude.{◌≡◌, ℕ, zero, suc, ◌+◌, ◌*◌, ℤ, pos, negsuc, List, [], ◌∷◌, length}
 use Rattle.integer_algebra.specs.Sizes.{amount}
 use Rattle.mat_int.specs.Matrix.{row_of}
-use Rattle.qp_model.specs.Controller.{Numbers, plan_length}
-use Rattle.qp_model.specs.AbsoluteSums.{IsController}
+use Rattle.qp_model.specs.machine.Controller.{Numbers, plan_length}
+use Rattle.qp_model.specs.machine.AbsoluteSums.{IsController}
 use Rattle.mac_listing.specs.Body.{body_of}
 
 -- how many numbers of a list are 0

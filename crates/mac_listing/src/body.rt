@@ -2,9 +2,9 @@
 ghost use Rattle.std.specs.Prelude.{◌≡◌, ◌≤◌, ◌<◌, ◌+◌, ◌++◌, length, neg_ℤ, OnOk, IfOk};
 ghost use Rattle.integer_algebra.specs.Sums.{at};
 ghost use Rattle.mat_int.specs.Matrix.{row_of};
-ghost use Rattle.qp_model.specs.Controller.{numbers};
-ghost use Rattle.qp_model.specs.Machine.{lowering_of, top_of};
-ghost use Rattle.qp_model.specs.AbsoluteSums.{IsController};
+ghost use Rattle.qp_model.specs.machine.Controller.{numbers};
+ghost use Rattle.qp_model.specs.machine.Machine.{lowering_of, top_of};
+ghost use Rattle.qp_model.specs.machine.AbsoluteSums.{IsController};
 ghost use Rattle.mac_listing.specs.Body.{product_op, row_ops, unshifted, groups, entry_ops, move_ops, multiplier_ops, sum_ops, body_of};
 
 use crate::instruction::Op;

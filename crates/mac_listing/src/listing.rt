@@ -1,8 +1,8 @@
 // Listings, and that of a controller.
 ghost use Rattle.std.specs.Prelude.{◌≡◌, ◌+◌, pos, length, IfOk};
-ghost use Rattle.qp_model.specs.Controller.{numbers};
-ghost use Rattle.qp_model.specs.Machine.{average_denominator};
-ghost use Rattle.qp_model.specs.AbsoluteSums.{IsController};
+ghost use Rattle.qp_model.specs.machine.Controller.{numbers};
+ghost use Rattle.qp_model.specs.machine.Machine.{average_denominator};
+ghost use Rattle.qp_model.specs.machine.AbsoluteSums.{IsController};
 ghost use Rattle.mac_listing.specs.Listing.{instructions, IsListing, listing_of};
 ghost use Rattle.mac_listing.specs.Count.{left_out, full_length};
 

@@ -9,10 +9,10 @@ use Rattle.integer_algebra.specs.Division.{floor_of}
 use Rattle.integer_algebra.specs.Sums.{at}
 use Rattle.mat_int.specs.Row.{list_dot}
 use Rattle.mat_int.specs.Matrix.{row_of}
-use Rattle.qp_model.specs.Controller.{Numbers}
-use Rattle.qp_model.specs.Machine.{top_of, entry_sum, plan_entry, row_sum, next_multiplier}
-use Rattle.qp_model.specs.AbsoluteSums.{IsController, row_absolute_sum}
-use Rattle.qp_model.specs.ValuesMet.{products, partial_sums, entry_values, row_values, FitsWidth}
+use Rattle.qp_model.specs.machine.Controller.{Numbers}
+use Rattle.qp_model.specs.machine.Machine.{top_of, entry_sum, plan_entry, row_sum, next_multiplier}
+use Rattle.qp_model.specs.machine.AbsoluteSums.{IsController, row_absolute_sum}
+use Rattle.qp_model.specs.machine.ValuesMet.{products, partial_sums, entry_values, row_values, FitsWidth}
 use Rattle.qp_model.proofs.AbsoluteLaws.{abs-shifted, abs-neg}
 use Rattle.overflow_check.proofs.SumLaws.{sums_fit}
 

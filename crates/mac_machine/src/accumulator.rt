@@ -1,7 +1,7 @@
 // One instruction.
 ghost use Rattle.std.specs.Prelude.{◌≡◌, ◌≤◌, ◌<◌, length, IfSome};
 ghost use Rattle.std.specs.Option.{SomeIff};
-ghost use Rattle.qp_model.specs.Range.{LiesIn};
+ghost use Rattle.qp_model.specs.problem.Range.{LiesIn};
 ghost use Rattle.mac_listing.specs.Listing.{IsOp};
 ghost use Rattle.mac_listing.specs.declared.instruction.Op.TheVariants.{Mac, Con};
 ghost use Rattle.mac_machine.specs.Machine.{held, result_of, words_after, OpFits};

@@ -1,8 +1,8 @@
 // Runs of a listing.
 ghost use Rattle.std.specs.Prelude.{◌≡◌, ◌≤◌, ◌<◌, ◌-◌, ◌↔◌, ℕ, pos, length, All, IsTrue, IsNone, IfSome, IfOk, IfErr, OnOk};
 ghost use Rattle.integer_algebra.specs.Sums.{at};
-ghost use Rattle.qp_model.specs.Range.{LiesIn};
-ghost use Rattle.qp_model.specs.ValuesMet.{FitsWidth};
+ghost use Rattle.qp_model.specs.problem.Range.{LiesIn};
+ghost use Rattle.qp_model.specs.machine.ValuesMet.{FitsWidth};
 ghost use Rattle.mac_listing.specs.Listing.{instructions, IsOp, IsListing};
 ghost use Rattle.mac_machine.specs.Machine.{held, played, OpsFit, repeated, inputs_of, begun, after_repetitions, HasRoom};
 ghost use Rattle.mac_machine.specs.Box.{IsInBox, IsFirstOutside};

@@ -1,8 +1,8 @@
 // Numbers with room in words of w bits.
 ghost use Rattle.std.specs.Prelude.{◌≤◌, ◌^◌, ◌↔◌, pos, ◌+ℤ◌, ◌*ℤ◌, neg_ℤ, IsTrue};
 ghost use Rattle.std.specs.Option.{SomeIff};
-ghost use Rattle.qp_model.specs.Range.{LiesIn};
-ghost use Rattle.qp_model.specs.ValuesMet.{FitsWidth};
+ghost use Rattle.qp_model.specs.problem.Range.{LiesIn};
+ghost use Rattle.qp_model.specs.machine.ValuesMet.{FitsWidth};
 
 use frac_scaled::{add_checked, mul_checked, shift_left};
 

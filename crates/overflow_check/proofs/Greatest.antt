@@ -2,8 +2,8 @@
 use Rattle.std.proofs.Common.{◌≡◌, ℕ, zero, suc, ◌+◌, ◌*◌, ◌^◌, ◌<◌, ◌≤◌, max, ℤ, pos, List, [], ◌∷◌, ◌++◌, length, take, get_or, map, unsigned_abs, refl, arith, add-one, zero-add}
 use Rattle.std.specs.List.{range_with_len}
 use Rattle.std.proofs.lemmas.List.FromFn.{map-range_with_len_more}
-use Rattle.qp_model.specs.Controller.{Numbers}
-use Rattle.qp_model.specs.AbsoluteSums.{weighted_abs_sum, state_magnitudes, entry_absolute_sum, row_absolute_sum, next_magnitude, sum_magnitude, greatest_of, greatest_sum}
+use Rattle.qp_model.specs.machine.Controller.{Numbers}
+use Rattle.qp_model.specs.machine.AbsoluteSums.{weighted_abs_sum, state_magnitudes, entry_absolute_sum, row_absolute_sum, next_magnitude, sum_magnitude, greatest_of, greatest_sum}
 use Rattle.qp_model.proofs.AbsoluteLaws.{le_times_pow}
 
 -- ---- sums up to an index

@@ -4,10 +4,10 @@ use Rattle.std.proofs.lemmas.List.{get_or-replicate, length-replicate}
 use Rattle.std.proofs.lemmas.List.FromFn.{length-map-range_with_len, get_or-map-range_with_len}
 use Rattle.integer_algebra.specs.Sums.{at}
 use Rattle.mat_int.proofs.Dots.{abs-add_le}
-use Rattle.qp_model.specs.Controller.{Numbers}
-use Rattle.qp_model.specs.Machine.{raised, plan_entry, plan_of, next_multiplier, start_of, step_of, after}
-use Rattle.qp_model.specs.AbsoluteSums.{state_magnitudes, plan_magnitudes}
-use Rattle.qp_model.specs.Within.{AreWithin}
+use Rattle.qp_model.specs.machine.Controller.{Numbers}
+use Rattle.qp_model.specs.machine.Machine.{raised, plan_entry, plan_of, next_multiplier, start_of, step_of, after}
+use Rattle.qp_model.specs.machine.AbsoluteSums.{state_magnitudes, plan_magnitudes}
+use Rattle.qp_model.specs.machine.Within.{AreWithin}
 use Rattle.qp_model.proofs.MagnitudeLaws.{AreUpToTops, top_le_clamp, plan_within, after_multipliers}
 
 -- each multiplier is at most the clamp

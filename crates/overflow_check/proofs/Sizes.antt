@@ -7,9 +7,9 @@ use Rattle.std.proofs.lemmas.List.{length-replicate}
 use Rattle.std.proofs.lemmas.List.FromFn.{length-map-range_with_len}
 use Rattle.integer_algebra.specs.Division.{ceil_div}
 use Rattle.integer_algebra.proofs.DivisionLaws.{ceil_div-le}
-use Rattle.qp_model.specs.Range.{IsNumerator}
-use Rattle.qp_model.specs.Controller.{Numbers, IsSized}
-use Rattle.qp_model.specs.AbsoluteSums.{magnitudes_of, state_magnitudes, clamp_magnitudes, entry_absolute_sum, plan_magnitudes, greatest_of, greatest_sum}
+use Rattle.qp_model.specs.problem.Range.{IsNumerator}
+use Rattle.qp_model.specs.machine.Controller.{Numbers, IsSized}
+use Rattle.qp_model.specs.machine.AbsoluteSums.{magnitudes_of, state_magnitudes, clamp_magnitudes, entry_absolute_sum, plan_magnitudes, greatest_of, greatest_sum}
 use Rattle.qp_model.proofs.VersionLaws.{stages_le, limits_le}
 use Rattle.overflow_check.proofs.Greatest.{greatest-parts}
 

@@ -10,11 +10,11 @@ use Rattle.integer_algebra.specs.Sums.{at}
 use Rattle.mat_int.specs.Row.{list_dot, abs_dot}
 use Rattle.mat_int.specs.Matrix.{row_of}
 use Rattle.mat_int.proofs.Dots.{abs-add_le}
-use Rattle.qp_model.specs.Controller.{Numbers}
-use Rattle.qp_model.specs.Machine.{Iterate, loaded, raised, top_of, entry_sum, plan_entry, plan_of, row_sum, next_multiplier, step_of, after}
-use Rattle.qp_model.specs.AbsoluteSums.{state_magnitudes, clamp_magnitudes, entry_absolute_sum, plan_magnitudes, row_absolute_sum, next_magnitude}
-use Rattle.qp_model.specs.ValuesMet.{products, partial_sums, entry_values, row_values, FitsWidth, StepFits}
-use Rattle.qp_model.specs.Within.{AreWithin}
+use Rattle.qp_model.specs.machine.Controller.{Numbers}
+use Rattle.qp_model.specs.machine.Machine.{Iterate, loaded, raised, top_of, entry_sum, plan_entry, plan_of, row_sum, next_multiplier, step_of, after}
+use Rattle.qp_model.specs.machine.AbsoluteSums.{state_magnitudes, clamp_magnitudes, entry_absolute_sum, plan_magnitudes, row_absolute_sum, next_magnitude}
+use Rattle.qp_model.specs.machine.ValuesMet.{products, partial_sums, entry_values, row_values, FitsWidth, StepFits}
+use Rattle.qp_model.specs.machine.Within.{AreWithin}
 use Rattle.overflow_check.specs.Laws.{ValuesLaw}
 use Rattle.qp_model.proofs.AbsoluteLaws.{le_times_pow, abs-neg, abs-shifted, abs-floor_le, abs-floor_le_ceil, abs-own_le, abs-scaled_le, abs-row_le, abs-clamped_le, ceil_div_mono}
 use Rattle.overflow_check.proofs.SumLaws.{SumsFit, sums_fit, own_le, dual_le, planned_le, row_parts_le, row_le, next_le}

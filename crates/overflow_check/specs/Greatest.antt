@@ -1,8 +1,8 @@
 -- The greatest of the absolute sums of each kind.
 use Rattle.std.specs.Prelude.{ℕ, length, map}
 use Rattle.std.specs.List.{range_with_len}
-use Rattle.qp_model.specs.Controller.{Numbers}
-use Rattle.qp_model.specs.AbsoluteSums.{entry_absolute_sum, row_absolute_sum, next_magnitude, sum_magnitude, greatest_of}
+use Rattle.qp_model.specs.machine.Controller.{Numbers}
+use Rattle.qp_model.specs.machine.AbsoluteSums.{entry_absolute_sum, row_absolute_sum, next_magnitude, sum_magnitude, greatest_of}
 
 -- of those that the plan's entries are made of
 abbrev pub greatest_entry_sum : Numbers → ℕ

@@ -2,8 +2,8 @@
 ghost use Rattle.std.specs.Prelude.{◌≡◌, ◌≤◌, ◌<◌, ◌+◌, ◌-◌, ◌*◌, ◌^◌, pos, max, take, length, unsigned_abs, slice_index_or, IfSome, IfNone};
 ghost use Rattle.std.specs.Option.{SomeIff};
 ghost use Rattle.integer_algebra.specs.Division.{ceil_div};
-ghost use Rattle.qp_model.specs.Controller.{numbers, IsSized};
-ghost use Rattle.qp_model.specs.AbsoluteSums.{IsController, weighted_abs_sum, state_magnitudes, clamp_magnitudes, entry_absolute_sum, plan_magnitudes, row_absolute_sum, greatest_of, greatest_sum};
+ghost use Rattle.qp_model.specs.machine.Controller.{numbers, IsSized};
+ghost use Rattle.qp_model.specs.machine.AbsoluteSums.{IsController, weighted_abs_sum, state_magnitudes, clamp_magnitudes, entry_absolute_sum, plan_magnitudes, row_absolute_sum, greatest_of, greatest_sum};
 ghost use Rattle.overflow_check.specs.Greatest.{greatest_entry_sum, greatest_row_sum, greatest_next_magnitude, greatest_run_sum};
 
 use qp_model::{ControllerParts, MOST_INPUTS, MOST_ROWS, MOST_STAGES, MOST_STATES};

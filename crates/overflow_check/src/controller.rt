@@ -1,7 +1,7 @@
 // Controllers whose values stay within their width.
 ghost use Rattle.std.specs.Prelude.{◌≡◌, ◌↔◌, Some, None, IsTrue, IsOk, IfOk, OnOk};
-ghost use Rattle.qp_model.specs.Controller.{numbers, IsInForm};
-ghost use Rattle.qp_model.specs.AbsoluteSums.{IsController};
+ghost use Rattle.qp_model.specs.machine.Controller.{numbers, IsInForm};
+ghost use Rattle.qp_model.specs.machine.AbsoluteSums.{IsController};
 
 use crate::absolute_sums::{greatest_sum, two_to};
 use crate::form::is_in_form;
@@ -54,8 +54,8 @@ fn fault_of(parts: &ControllerParts) -> Option<BadParts>
 }
 
 impl Model for Controller {
-    ghost use Rattle.qp_model.specs.Controller.{Numbers, numbers};
-    ghost use Rattle.qp_model.specs.AbsoluteSums.{IsController};
+    ghost use Rattle.qp_model.specs.machine.Controller.{Numbers, numbers};
+    ghost use Rattle.qp_model.specs.machine.AbsoluteSums.{IsController};
 
     ghost Value = { Numbers };
 

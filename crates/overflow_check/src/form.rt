@@ -1,9 +1,9 @@
 // Whether numbers are a controller's.
 ghost use Rattle.std.specs.Prelude.{ℕ, ◌≡◌, ◌≤◌, ◌<◌, ◌+◌, ◌*◌, ◌^◌, ◌≤ℤ◌, ◌↔◌, pos, replicate, length, All, IsTrue};
 ghost use Rattle.integer_algebra.specs.Sums.{at};
-ghost use Rattle.qp_model.specs.Range.{LiesIn, IsNumerator};
-ghost use Rattle.qp_model.specs.Controller.{numbers, plan_length, HasShape, IsShaped, IsInForm};
-ghost use Rattle.qp_model.specs.Limits.{text_version, last_version, most_states, most_inputs, most_stages, most_rows};
+ghost use Rattle.qp_model.specs.problem.Range.{LiesIn, IsNumerator};
+ghost use Rattle.qp_model.specs.machine.Controller.{numbers, plan_length, HasShape, IsShaped, IsInForm};
+ghost use Rattle.qp_model.specs.problem.Limits.{text_version, last_version, most_states, most_inputs, most_stages, most_rows};
 
 use mat_int::Mat;
 use qp_model::range::{are_numerators, is_ordered, lies_in};

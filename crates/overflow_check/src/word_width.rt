@@ -1,7 +1,7 @@
 // The width of a word that holds each value.
 ghost use Rattle.std.specs.Prelude.{◌≤◌, ◌^◌, ◌↔◌, IsSome, IfSome};
-ghost use Rattle.qp_model.specs.Controller.{numbers, IsSized};
-ghost use Rattle.qp_model.specs.AbsoluteSums.{greatest_sum};
+ghost use Rattle.qp_model.specs.machine.Controller.{numbers, IsSized};
+ghost use Rattle.qp_model.specs.machine.AbsoluteSums.{greatest_sum};
 ghost use Rattle.overflow_check.specs.Width.{IsWidth};
 
 use crate::absolute_sums::{greatest_sum, two_to};

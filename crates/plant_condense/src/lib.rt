@@ -1,12 +1,6 @@
-//! A design's cost and limits as functions of the plan alone, in exact numbers.
+//! The condensed form of a design in the class that its size calls for: exact numbers, or enclosures of them.
 #![tactic(auto)]
 
-mod columns;
-mod cost_form;
-mod costs;
-mod counted;
-mod form;
-mod limits;
-mod radii;
+mod choice;
 
-pub use form::condense_exact;
+pub use choice::{condense, form_law};

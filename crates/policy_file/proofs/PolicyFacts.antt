@@ -7,11 +7,11 @@ use Rattle.mat_int.specs.Matrix.{Matrix, row_of}
 use Rattle.number_text.specs.declared.text_fault.TextFault.{TextFault}
 use Rattle.number_text.specs.declared.text_fault.TextFault.TheVariants.{Count, Memory}
 use Rattle.std.proofs.Math.Nat.{mul-le-mul_right}
-use Rattle.qp_model.specs.Limits.{last_version, most_states}
-use Rattle.qp_model.specs.Parts.{IsDesign}
+use Rattle.qp_model.specs.problem.Limits.{last_version, most_states}
+use Rattle.qp_model.specs.problem.Parts.{IsDesign}
 use Rattle.qp_model.specs.declared.design_parts.DesignParts.{DesignParts}
-use Rattle.qp_model.specs.Design.{Design, entries}
-use Rattle.qp_model.specs.Policy.{Plans}
+use Rattle.qp_model.specs.problem.Design.{Design, entries}
+use Rattle.qp_model.specs.problem.Policy.{Plans}
 use Rattle.policy_file.specs.Records.{HoldsNumbers, IsRecordsFault, records_of, record_at}
 use Rattle.policy_file.specs.PolicyText.{policy_rule, record_length, IsPolicyText, IsPolicyFault}
 use Rattle.policy_file.proofs.MatrixFacts.{Filled, row_pushed}

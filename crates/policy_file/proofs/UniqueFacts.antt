@@ -10,8 +10,8 @@ use Rattle.integer_algebra.specs.Sums.{at}
 use Rattle.mat_int.specs.Matrix.{Matrix, row_of}
 use Rattle.number_text.specs.declared.text_fault.TextFault.{TextFault}
 use Rattle.number_text.specs.declared.text_fault.TextFault.TheVariants.{NotToml, Key, Shape, Range, Fields, Number, Count, Memory}
-use Rattle.qp_model.specs.Design.{Design, entries}
-use Rattle.qp_model.specs.Policy.{Plans, plans_of, IsPlanDenominator, IsPlanNumerator, IsPolicyFor}
+use Rattle.qp_model.specs.problem.Design.{Design, entries}
+use Rattle.qp_model.specs.problem.Policy.{Plans, plans_of, IsPlanDenominator, IsPlanNumerator, IsPolicyFor}
 use Rattle.qp_model.specs.declared.policy.Policy.{Policy}
 use Rattle.policy_file.specs.NumberField.{IsDigitsField, IsNumberField}
 use Rattle.policy_file.specs.Records.{RecordRule, HoldsNumbers, IsFirstWrong, IsRecordFault, HoldUpTo, IsRecordsFault, records_of, record_at, field_of}

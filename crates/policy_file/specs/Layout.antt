@@ -1,6 +1,6 @@
 -- Which numbers a text's records hold.
 use Rattle.std.specs.Prelude.{◌≡◌, ⊤, ℕ, ℤ}
-use Rattle.qp_model.specs.Policy.{IsPlanDenominator}
+use Rattle.qp_model.specs.problem.Policy.{IsPlanDenominator}
 use Rattle.policy_file.specs.Records.{RecordRule}
 use Rattle.policy_file.specs.StatesText.{state_rule}
 use Rattle.policy_file.specs.PolicyText.{policy_rule}

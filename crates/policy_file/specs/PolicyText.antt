@@ -2,10 +2,10 @@
 use Rattle.std.specs.Prelude.{◌≡◌, ◌≢◌, ◌⊎◌, ℕ, ◌+◌, ◌*◌, ◌^◌, ◌<◌, ℤ, pos, ◌≤ℤ◌, List, ◌∷◌, length}
 use Rattle.integer_algebra.specs.Sums.{at}
 use Rattle.mat_int.specs.Matrix.{row_of}
-use Rattle.qp_model.specs.Design.{Design, entries}
+use Rattle.qp_model.specs.problem.Design.{Design, entries}
 use Rattle.number_text.specs.declared.text_fault.TextFault.{TextFault}
 use Rattle.number_text.specs.declared.text_fault.TextFault.TheVariants.{Count}
-use Rattle.qp_model.specs.Policy.{Plans, IsPlanDenominator}
+use Rattle.qp_model.specs.problem.Policy.{Plans, IsPlanDenominator}
 use Rattle.policy_file.specs.NumberField.{IsNumberField}
 use Rattle.policy_file.specs.Records.{RecordRule, HoldsNumbers, HoldUpTo, IsRecordsFault, records_of, record_at}
 

@@ -1,9 +1,9 @@
 // Texts of records as matrices.
 ghost use Rattle.std.specs.Prelude.{◌≡◌, ◌⊎◌, ℕ, ◌<◌, ◌≤◌, ◌^◌, length, IfOk, IfErr, MatchResult};
 ghost use Rattle.mat_int.specs.Matrix.{Matrix};
-ghost use Rattle.qp_model.specs.Limits.{last_version, most_states};
-ghost use Rattle.qp_model.specs.Parts.{design_of, IsDesign};
-ghost use Rattle.qp_model.specs.Policy.{Plans, plans_of, IsPolicyFor};
+ghost use Rattle.qp_model.specs.problem.Limits.{last_version, most_states};
+ghost use Rattle.qp_model.specs.problem.Parts.{design_of, IsDesign};
+ghost use Rattle.qp_model.specs.problem.Policy.{Plans, plans_of, IsPolicyFor};
 ghost use Rattle.number_text.specs.declared.text_fault.TextFault.{TextFault};
 ghost use Rattle.number_text.specs.declared.text_fault.TextFault.TheVariants.{Memory};
 ghost use Rattle.policy_file.specs.StatesText.{IsStatesText, IsStatesFault};

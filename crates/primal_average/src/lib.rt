@@ -3,8 +3,8 @@
 
 ghost use Rattle.std.specs.Prelude.{◌≡◌, ◌<◌, ◌*◌, ◌^◌, ◌++◌, ◌∷◌, [], length, pos, take, IfOk};
 ghost use Rattle.integer_algebra.specs.Sums.{at};
-ghost use Rattle.qp_model.specs.Machine.{average_denominator, averaged_plan};
-ghost use Rattle.qp_model.specs.ControllerText.{plan_line};
+ghost use Rattle.qp_model.specs.machine.Machine.{average_denominator, averaged_plan};
+ghost use Rattle.qp_model.specs.text.ControllerText.{plan_line};
 ghost use Rattle.fixed_kernel.specs.Progress.{iterate_of};
 
 use fixed_kernel::Kernel;

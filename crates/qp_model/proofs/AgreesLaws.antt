@@ -4,11 +4,11 @@ use Rattle.integer_algebra.specs.Sums.{dot, image}
 use Rattle.integer_algebra.proofs.RingLaws.{add_equations}
 use Rattle.integer_algebra.proofs.SumLaws.{total_same}
 use Rattle.integer_algebra.proofs.VectorLaws.{dot_same}
-use Rattle.qp_model.specs.Design.{entries}
-use Rattle.qp_model.specs.Condensed.{slope_at}
-use Rattle.qp_model.specs.Condensing.{condensed_of}
+use Rattle.qp_model.specs.problem.Design.{entries}
+use Rattle.qp_model.specs.form.Condensed.{slope_at}
+use Rattle.qp_model.specs.form.Condensing.{condensed_of}
 use Rattle.qp_model.proofs.CostLaws.{condensing}
-use Rattle.qp_model.specs.Runs.{AgreesLaw}
+use Rattle.qp_model.specs.problem.Runs.{AgreesLaw}
 use Rattle.qp_model.proofs.RowLaws.{response_law}
 
 pub agrees_law : AgreesLaw

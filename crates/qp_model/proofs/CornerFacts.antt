@@ -9,11 +9,11 @@ use Rattle.integer_algebra.specs.Sums.{at}
 use Rattle.integer_algebra.proofs.PowerLaws.{pow_positive}
 use Rattle.mat_int.specs.Matrix.{row_of, entry_of}
 use Rattle.qp_model.specs.declared.design_parts.DesignParts.{DesignParts}
-use Rattle.qp_model.specs.Design.{Design, entries}
-use Rattle.qp_model.specs.Parts.{design_of, IsDesign}
-use Rattle.qp_model.specs.Policy.{Plans, IsPlanDenominator, IsPlanNumerator, IsPolicyFor}
-use Rattle.qp_model.specs.Quantities.{greatest, growth, limit_width, cost_width, weight_sum, prediction_size}
-use Rattle.qp_model.specs.CornerSizes.{box_magnitude, corner_magnitude, policy_magnitude, corner_slack_size, corner_cost_size}
+use Rattle.qp_model.specs.problem.Design.{Design, entries}
+use Rattle.qp_model.specs.problem.Parts.{design_of, IsDesign}
+use Rattle.qp_model.specs.problem.Policy.{Plans, IsPlanDenominator, IsPlanNumerator, IsPolicyFor}
+use Rattle.qp_model.specs.form.Quantities.{greatest, growth, limit_width, cost_width, weight_sum, prediction_size}
+use Rattle.qp_model.specs.bounds.CornerSizes.{box_magnitude, corner_magnitude, policy_magnitude, corner_slack_size, corner_cost_size}
 use Rattle.qp_model.proofs.SizeFacts.{positive, greatest_term, factor_under, side_under, some_limit, some_cost, some_weight}
 
 -- ---- sizes of a plan's numbers

@@ -1,9 +1,9 @@
 -- Corners in enclosures, tried on two small designs whose numbers were computed by another program.
 use Rattle.std.proofs.Common.{◌≡◌, ◌^◌, pos, negsuc, [], ◌∷◌, true, false, refl}
-use Rattle.qp_model.specs.Policy.{Plans}
-use Rattle.qp_model.specs.CornerSizes.{first_reach, corner_reach, fine_corner_slack_size, fine_corner_cost_size}
-use Rattle.qp_model.specs.FineCorners.{corner_state, corner_input, corner_gap, least_slack, most_row_cost, most_input_cost, enclosed_corners}
-use Rattle.qp_model.specs.CornerClass.{has_fine_corners, shown, corner_slack_quantity, corner_cost_quantity}
+use Rattle.qp_model.specs.problem.Policy.{Plans}
+use Rattle.qp_model.specs.bounds.CornerSizes.{first_reach, corner_reach, fine_corner_slack_size, fine_corner_cost_size}
+use Rattle.qp_model.specs.bounds.FineCorners.{corner_state, corner_input, corner_gap, least_slack, most_row_cost, most_input_cost, enclosed_corners}
+use Rattle.qp_model.specs.bounds.CornerClass.{has_fine_corners, shown, corner_slack_quantity, corner_cost_quantity}
 use Rattle.qp_model.proofs.FineWorked.{third, crossed, around}
 
 abbrev thirds : Plans

@@ -4,12 +4,12 @@ use Rattle.std.proofs.lemmas.Bool.{cases_lt, lt-ltb, le-ltb}
 use Rattle.std.proofs.lemmas.Nat as NatLemmas
 use Rattle.std.proofs.Math.Nat as Nat
 use Rattle.integer_algebra.specs.Sums.{total, dot, image, square, none}
-use Rattle.qp_model.specs.Design.{Design, CostRow, LimitRow, entries}
-use Rattle.qp_model.specs.Residual.{stage_residual, final_residual, residual}
-use Rattle.qp_model.specs.Trajectory.{trajectory, lift}
-use Rattle.qp_model.specs.Cost.{cost, cost_term}
-use Rattle.qp_model.specs.Condensed.{slope_at}
-use Rattle.qp_model.specs.Condensing.{power, response, cost_plan, cost_state, cost_target, own_input, limit_plan, limit_state, final_plan, condensed_of, CondensingLaw}
+use Rattle.qp_model.specs.problem.Design.{Design, CostRow, LimitRow, entries}
+use Rattle.qp_model.specs.problem.Residual.{stage_residual, final_residual, residual}
+use Rattle.qp_model.specs.problem.Trajectory.{trajectory, lift}
+use Rattle.qp_model.specs.problem.Cost.{cost, cost_term}
+use Rattle.qp_model.specs.form.Condensed.{slope_at}
+use Rattle.qp_model.specs.form.Condensing.{power, response, cost_plan, cost_state, cost_target, own_input, limit_plan, limit_state, final_plan, condensed_of, CondensingLaw}
 use Rattle.qp_model.proofs.TrajectoryLaws.{trajectory_is, own_row}
 use Rattle.integer_algebra.proofs.RingLaws.{add_equations, mul-add_z}
 use Rattle.integer_algebra.proofs.SumLaws.{total_same, total_zero, total_add, total_scale}

@@ -6,9 +6,9 @@ use Rattle.std.proofs.Math.Nat.{mul-le-mul_left, pow-le-pow_left}
 use Rattle.integer_algebra.specs.Sums.{dot}
 use Rattle.integer_algebra.specs.Sizes.{size, product_size}
 use Rattle.integer_algebra.proofs.SizeLaws.{total_size, size_same}
-use Rattle.qp_model.specs.Design.{Design, CostRow, entries}
-use Rattle.qp_model.specs.Trajectory.{lift}
-use Rattle.qp_model.specs.Runs.{run, counted, counts, cost_run, IsTame, HasNarrowCosts, CostBoundLaw}
+use Rattle.qp_model.specs.problem.Design.{Design, CostRow, entries}
+use Rattle.qp_model.specs.problem.Trajectory.{lift}
+use Rattle.qp_model.specs.problem.Runs.{run, counted, counts, cost_run, IsTame, HasNarrowCosts, CostBoundLaw}
 use Rattle.qp_model.proofs.RunLaws.{run_within, product_within, plan_inside}
 use Rattle.qp_model.proofs.RowLaws.{lift_power, stage_inside, remainder_inside}
 use Rattle.qp_model.proofs.SizeFacts.{size_append}

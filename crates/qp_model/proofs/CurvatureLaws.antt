@@ -7,14 +7,14 @@ use Rattle.std.proofs.Math.IntN.{*ℤ-zero}
 use Rattle.integer_algebra.specs.Sums.{total, dot, image, square, none}
 use Rattle.dual_method.specs.Objective.{Objective, bend, twice_cost, gradient, IsUpward}
 use Rattle.dual_method.proofs.ObjectiveLaws.{expands, convex}
-use Rattle.qp_model.specs.Design.{Design, CostRow, entries}
-use Rattle.qp_model.specs.Sound.{IsSound}
-use Rattle.qp_model.specs.Trajectory.{trajectory, lift}
-use Rattle.qp_model.specs.Cost.{cost, cost_term, cost_scale}
-use Rattle.qp_model.specs.Condensed.{Condensed, IsCondensed, slope_at, gradient_at}
-use Rattle.qp_model.specs.Condensing.{condensed_of}
-use Rattle.qp_model.specs.Curvature.{untargeted, curvature}
-use Rattle.qp_model.specs.CostShape.{ExpansionLaw, HessianLaw, CurvatureLaw, AverageLaw}
+use Rattle.qp_model.specs.problem.Design.{Design, CostRow, entries}
+use Rattle.qp_model.specs.problem.Sound.{IsSound}
+use Rattle.qp_model.specs.problem.Trajectory.{trajectory, lift}
+use Rattle.qp_model.specs.problem.Cost.{cost, cost_term, cost_scale}
+use Rattle.qp_model.specs.form.Condensed.{Condensed, IsCondensed, slope_at, gradient_at}
+use Rattle.qp_model.specs.form.Condensing.{condensed_of}
+use Rattle.qp_model.specs.form.Curvature.{untargeted, curvature}
+use Rattle.qp_model.specs.problem.CostShape.{ExpansionLaw, HessianLaw, CurvatureLaw, AverageLaw}
 use Rattle.qp_model.proofs.CostLaws.{condensing}
 use Rattle.qp_model.proofs.ScalingLaws.{cost_scaled}
 use Rattle.integer_algebra.proofs.OrderLaws.{pos_positive, add-le-add_z, difference_nonneg, le_by, mul_nonneg_z, square_nonneg_z, mul-le-mul_left_z, cancel-le_z, le_of_lt_z}

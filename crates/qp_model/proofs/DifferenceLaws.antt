@@ -8,12 +8,12 @@ use Rattle.integer_algebra.proofs.RingLaws.{add_difference}
 use Rattle.integer_algebra.proofs.SumLaws.{total_same, total_add, total_scale, total_nonneg}
 use Rattle.integer_algebra.proofs.VectorLaws.{dot_add, dot_neg_right, image_scale, quadratic_neg}
 use Rattle.integer_algebra.proofs.Quoting.{by_ring, quotes}
-use Rattle.qp_model.specs.Design.{Design, entries}
-use Rattle.qp_model.specs.Sound.{IsSound}
-use Rattle.qp_model.specs.Cost.{cost, cost_scale}
-use Rattle.qp_model.specs.Condensed.{Condensed, IsCondensed, slope_at, gradient_at}
-use Rattle.qp_model.specs.Curvature.{curvature}
-use Rattle.qp_model.specs.CostShape.{DifferenceLaw, FloorLaw}
+use Rattle.qp_model.specs.problem.Design.{Design, entries}
+use Rattle.qp_model.specs.problem.Sound.{IsSound}
+use Rattle.qp_model.specs.problem.Cost.{cost, cost_scale}
+use Rattle.qp_model.specs.form.Condensed.{Condensed, IsCondensed, slope_at, gradient_at}
+use Rattle.qp_model.specs.form.Curvature.{curvature}
+use Rattle.qp_model.specs.problem.CostShape.{DifferenceLaw, FloorLaw}
 use Rattle.qp_model.proofs.CurvatureLaws.{hessian_law, expansion_law, curvature_law}
 use Rattle.qp_model.proofs.ScalingLaws.{scaling_law}
 

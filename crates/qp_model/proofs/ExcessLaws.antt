@@ -16,16 +16,16 @@ use Rattle.integer_algebra.proofs.Quoting.{by_ring, quotes}
 use Rattle.frac_scaled.specs.Enclosures.{Enclosure, Encloses, magnitude, enclosed}
 use Rattle.frac_scaled.proofs.EnclosureLaws.{within_encloses, encloses_within, fraction_law, enclosed_law, sum_law, product_law, divided_law}
 use Rattle.mat_int.proofs.EnclosureLaws.{combined_law}
-use Rattle.qp_model.specs.Design.{Design, entries}
-use Rattle.qp_model.specs.Sound.{IsSound}
-use Rattle.qp_model.specs.Box.{corner}
-use Rattle.qp_model.specs.Cost.{cost, cost_scale}
-use Rattle.qp_model.specs.Condensed.{Condensed, IsCondensed, gradient_at}
-use Rattle.qp_model.specs.Condensing.{condensed_of}
-use Rattle.qp_model.specs.Form.{Form, hessian_scale, EnclosesDesign, IsFormFor}
-use Rattle.qp_model.specs.Policy.{Plans, IsPolicyFor, corner_denominator, corner_plan}
-use Rattle.qp_model.specs.Quantities.{input_floor}
-use Rattle.qp_model.specs.Excess.{IsNearBest, brought, hessian_at, linear_at, constant_at, of_plan, of_state, gradient_enclosure, step_enclosure, slope_enclosure, rise, steepness, pull, excess_at, corner_excess, at_least_none, excess_of, ExcessLaw}
+use Rattle.qp_model.specs.problem.Design.{Design, entries}
+use Rattle.qp_model.specs.problem.Sound.{IsSound}
+use Rattle.qp_model.specs.problem.Box.{corner}
+use Rattle.qp_model.specs.problem.Cost.{cost, cost_scale}
+use Rattle.qp_model.specs.form.Condensed.{Condensed, IsCondensed, gradient_at}
+use Rattle.qp_model.specs.form.Condensing.{condensed_of}
+use Rattle.qp_model.specs.form.Form.{Form, hessian_scale, EnclosesDesign, IsFormFor}
+use Rattle.qp_model.specs.problem.Policy.{Plans, IsPolicyFor, corner_denominator, corner_plan}
+use Rattle.qp_model.specs.form.Quantities.{input_floor}
+use Rattle.qp_model.specs.bounds.Excess.{IsNearBest, brought, hessian_at, linear_at, constant_at, of_plan, of_state, gradient_enclosure, step_enclosure, slope_enclosure, rise, steepness, pull, excess_at, corner_excess, at_least_none, excess_of, ExcessLaw}
 use Rattle.qp_model.proofs.CostLaws.{condensing}
 use Rattle.qp_model.proofs.FormLaws.{exact_form_sound}
 use Rattle.qp_model.proofs.SizeFacts.{greatest_term}

@@ -1,10 +1,10 @@
 -- The excess of a policy, tried on one small design whose numbers were computed by another program: at the state 1 the plan -7/8 costs 50/64, and the
 -- best without limits, -1/2, costs 32/64.
 use Rattle.std.proofs.Common.{◌≡◌, ℤ, pos, negsuc, [], ◌∷◌, refl}
-use Rattle.qp_model.specs.Policy.{Plans}
-use Rattle.qp_model.specs.Form.{exact_form}
-use Rattle.qp_model.specs.Excess.{corner_excess, excess_of, excess_size}
-use Rattle.qp_model.specs.FineForm.{fine_form}
+use Rattle.qp_model.specs.problem.Policy.{Plans}
+use Rattle.qp_model.specs.form.Form.{exact_form}
+use Rattle.qp_model.specs.bounds.Excess.{corner_excess, excess_of, excess_size}
+use Rattle.qp_model.specs.form.FineForm.{fine_form}
 use Rattle.qp_model.proofs.WorkedRow.{base}
 use Rattle.qp_model.proofs.FineWorked.{third}
 

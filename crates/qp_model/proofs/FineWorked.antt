@@ -1,15 +1,15 @@
 -- The condensed form in enclosures, tried on small designs, whose numbers were computed by another program: first the plant x+ = (2 x - u) / 3 over two
 -- stages, with each kind of row.
 use Rattle.std.proofs.Common.{◌≡◌, ℕ, ◌^◌, ◌*◌, ℤ, pos, negsuc, zero, suc, List, [], ◌∷◌, false, true, refl}
-use Rattle.qp_model.specs.Design.{Design, CostRow, LimitRow}
+use Rattle.qp_model.specs.problem.Design.{Design, CostRow, LimitRow}
 use Rattle.frac_scaled.specs.Enclosures.{Enclosure}
-use Rattle.qp_model.specs.FineForm.{fine_hessian, fine_linear, fine_constant, fine_by_plan, fine_by_state, fine_form, hessian_radius}
+use Rattle.qp_model.specs.form.FineForm.{fine_hessian, fine_linear, fine_constant, fine_by_plan, fine_by_state, fine_form, hessian_radius}
 use Rattle.integer_algebra.specs.Sums.{none, at, flat}
-use Rattle.qp_model.specs.Form.{Form}
-use Rattle.qp_model.specs.FineSizes.{is_fine, fine_reach, fine_prediction_size, fine_hessian_size, fine_rows_size, fine_curvature_size, exact_curvature_size}
-use Rattle.qp_model.specs.CurvatureSize.{covering_exponent}
-use Rattle.qp_model.specs.Class.{form_of, curvature_quantity}
-use Rattle.qp_model.specs.Errors.{error_sums_of, plan_bound, epsilon}
+use Rattle.qp_model.specs.form.Form.{Form}
+use Rattle.qp_model.specs.form.FineSizes.{is_fine, fine_reach, fine_prediction_size, fine_hessian_size, fine_rows_size, fine_curvature_size, exact_curvature_size}
+use Rattle.qp_model.specs.form.CurvatureSize.{covering_exponent}
+use Rattle.qp_model.specs.form.Class.{form_of, curvature_quantity}
+use Rattle.qp_model.specs.bounds.Errors.{error_sums_of, plan_bound, epsilon}
 
 abbrev pub third : Design
 third = record {

@@ -5,12 +5,12 @@ use Rattle.std.proofs.Math.Nat.{one-le-mul}
 use Rattle.integer_algebra.specs.Bounds.{IsWithin}
 use Rattle.integer_algebra.proofs.PowerLaws.{pow-two, pow_positive}
 use Rattle.qp_model.specs.declared.design_parts.DesignParts.{DesignParts}
-use Rattle.qp_model.specs.Design.{Design}
-use Rattle.qp_model.specs.Parts.{IsDesign, design_of}
-use Rattle.qp_model.specs.Sound.{IsSound}
-use Rattle.qp_model.specs.Quantities.{input_floor}
-use Rattle.qp_model.specs.Condensing.{condensed_of}
-use Rattle.qp_model.specs.Form.{hessian_scale, rows_scale, exact_form, HasNoRadii, EnclosesDesign, IsFormFor, ExactFormLaw}
+use Rattle.qp_model.specs.problem.Design.{Design}
+use Rattle.qp_model.specs.problem.Parts.{IsDesign, design_of}
+use Rattle.qp_model.specs.problem.Sound.{IsSound}
+use Rattle.qp_model.specs.form.Quantities.{input_floor}
+use Rattle.qp_model.specs.form.Condensing.{condensed_of}
+use Rattle.qp_model.specs.form.Form.{hessian_scale, rows_scale, exact_form, HasNoRadii, EnclosesDesign, IsFormFor, ExactFormLaw}
 use Rattle.qp_model.proofs.CostLaws.{condensing}
 use Rattle.qp_model.proofs.SoundLaws.{sound}
 

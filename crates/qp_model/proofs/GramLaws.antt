@@ -9,10 +9,10 @@ use Rattle.integer_algebra.proofs.RingLaws.{add_equations}
 use Rattle.integer_algebra.proofs.SumLaws.{total_same}
 use Rattle.integer_algebra.proofs.VectorLaws.{dot_same}
 use Rattle.integer_algebra.proofs.BlockLaws.{total_append, total_blocks, total_single}
-use Rattle.qp_model.specs.Design.{Design, CostRow, entries}
-use Rattle.qp_model.specs.Trajectory.{lift}
-use Rattle.qp_model.specs.Condensing.{own_input, cost_plan, cost_state, cost_target, over_costs}
-use Rattle.qp_model.specs.Runs.{unit, cost_run, counted, counts, GramLaw}
+use Rattle.qp_model.specs.problem.Design.{Design, CostRow, entries}
+use Rattle.qp_model.specs.problem.Trajectory.{lift}
+use Rattle.qp_model.specs.form.Condensing.{own_input, cost_plan, cost_state, cost_target, over_costs}
+use Rattle.qp_model.specs.problem.Runs.{unit, cost_run, counted, counts, GramLaw}
 use Rattle.qp_model.proofs.RunLaws.{power_run, response_run, plan_inside}
 
 -- a sum over stages and rows is one over the counted rows

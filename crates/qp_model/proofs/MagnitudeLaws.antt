@@ -11,10 +11,10 @@ use Rattle.integer_algebra.specs.Sums.{at}
 use Rattle.mat_int.specs.Row.{list_dot, abs_dot}
 use Rattle.mat_int.specs.Matrix.{row_of}
 use Rattle.mat_int.proofs.Dots.{abs-dot_le, abs-add_le}
-use Rattle.qp_model.specs.Controller.{Numbers}
-use Rattle.qp_model.specs.Machine.{IsAdmissible, loaded, lowering_of, raised, top_of, entry_sum, plan_entry, plan_of, row_sum, next_multiplier, next_multipliers, after}
-use Rattle.qp_model.specs.AbsoluteSums.{weighted_abs_sum, magnitudes_of, state_magnitudes, clamp_magnitudes, entry_absolute_sum, plan_magnitudes, greatest_of}
-use Rattle.qp_model.specs.Within.{AreWithin, PlanMagnitudeLaw}
+use Rattle.qp_model.specs.machine.Controller.{Numbers}
+use Rattle.qp_model.specs.machine.Machine.{IsAdmissible, loaded, lowering_of, raised, top_of, entry_sum, plan_entry, plan_of, row_sum, next_multiplier, next_multipliers, after}
+use Rattle.qp_model.specs.machine.AbsoluteSums.{weighted_abs_sum, magnitudes_of, state_magnitudes, clamp_magnitudes, entry_absolute_sum, plan_magnitudes, greatest_of}
+use Rattle.qp_model.specs.machine.Within.{AreWithin, PlanMagnitudeLaw}
 use Rattle.qp_model.proofs.AbsoluteLaws.{abs-neg, abs-scaled_le, abs-shifted, abs-floor_le, abs-floor_le_ceil, abs-clamped_le, ceil_div_mono, floor_nonneg, floor-times_le}
 
 -- ---- rows against lists within magnitudes

@@ -1,7 +1,7 @@
 -- The rules of a design's numbers are those of a design.
-use Rattle.qp_model.specs.Parts.{IsDesign}
-use Rattle.qp_model.specs.Rules.{AllHold}
-use Rattle.qp_model.specs.PartRules.{part_rules}
+use Rattle.qp_model.specs.problem.Parts.{IsDesign}
+use Rattle.qp_model.specs.problem.Rules.{AllHold}
+use Rattle.qp_model.specs.problem.PartRules.{part_rules}
 use Rattle.qp_model.specs.declared.design_parts.DesignParts.{DesignParts}
 
 pub design_from_rules : (p : DesignParts) → AllHold (part_rules p) → IsDesign p

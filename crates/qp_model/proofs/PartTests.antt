@@ -4,8 +4,8 @@ use Rattle.std.specs.Int.{w128}
 use mir.Val.{SFits, to_z, of_z}
 use Rattle.std.proofs.lemmas.Bool.Decides.{nat_tests}
 use Rattle.std.proofs.lemmas.Int.{to_z-of_z}
-use Rattle.qp_model.specs.PartRules.{AreHighs}
-use Rattle.qp_model.specs.Range.{LiesIn, IsDenominator, IsNumerator, IsPositive}
+use Rattle.qp_model.specs.problem.PartRules.{AreHighs}
+use Rattle.qp_model.specs.problem.Range.{LiesIn, IsDenominator, IsNumerator, IsPositive}
 
 -- of a denominator as a word
 pub denominator_test : (z : ℤ) (test : Type 0) → SFits w128 z → (test ↔ IsDenominator (to_z w128 (of_z w128 z))) → (test ↔ IsDenominator z)

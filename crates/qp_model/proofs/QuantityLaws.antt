@@ -5,9 +5,9 @@ use Rattle.std.proofs.Math.Nat.{mul-le-mul_left, pow-le-pow_left}
 use Rattle.integer_algebra.specs.Sums.{none}
 use Rattle.integer_algebra.specs.Sizes.{size}
 use Rattle.integer_algebra.proofs.PowerLaws.{pow_positive}
-use Rattle.qp_model.specs.Design.{Design, entries, rows}
-use Rattle.qp_model.specs.Quantities.{greatest, plant_width, cost_row_width, limit_row_width, growth, cost_width, limit_width, weight_sum, prediction_size, response_size, limit_entry_size}
-use Rattle.qp_model.specs.Runs.{unit, bound_at, row_at, counted, counts, cost_run, IsTame, HasNarrowLimits, HasNarrowCosts}
+use Rattle.qp_model.specs.problem.Design.{Design, entries, rows}
+use Rattle.qp_model.specs.form.Quantities.{greatest, plant_width, cost_row_width, limit_row_width, growth, cost_width, limit_width, weight_sum, prediction_size, response_size, limit_entry_size}
+use Rattle.qp_model.specs.problem.Runs.{unit, bound_at, row_at, counted, counts, cost_run, IsTame, HasNarrowLimits, HasNarrowCosts}
 use Rattle.qp_model.proofs.RowLaws.{remainder_inside, row_bound_law}
 use Rattle.qp_model.proofs.CountLaws.{counted_all, counted_size, cost_bound_law}
 use Rattle.qp_model.proofs.SizeFacts.{greatest_term}

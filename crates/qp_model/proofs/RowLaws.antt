@@ -11,12 +11,12 @@ use Rattle.integer_algebra.proofs.SumLaws.{total_same}
 use Rattle.integer_algebra.proofs.SizeLaws.{total_size}
 use Rattle.integer_algebra.proofs.VectorLaws.{dot_same, dot_scale_right, dot_none}
 use Rattle.integer_algebra.proofs.Quoting.{by_ring, quotes}
-use Rattle.qp_model.specs.Design.{Design, LimitRow, entries}
-use Rattle.qp_model.specs.Trajectory.{lift}
-use Rattle.qp_model.specs.Residual.{stage_residual, final_residual}
-use Rattle.qp_model.specs.Condensing.{condensed_of}
+use Rattle.qp_model.specs.problem.Design.{Design, LimitRow, entries}
+use Rattle.qp_model.specs.problem.Trajectory.{lift}
+use Rattle.qp_model.specs.problem.Residual.{stage_residual, final_residual}
+use Rattle.qp_model.specs.form.Condensing.{condensed_of}
 use Rattle.qp_model.proofs.CostLaws.{condensing}
-use Rattle.qp_model.specs.Runs.{run, unit, limit_at, row_at, bound_at, IsTame, ResponseLaw, ResidualLaw, RowBoundLaw}
+use Rattle.qp_model.specs.problem.Runs.{run, unit, limit_at, row_at, bound_at, IsTame, ResponseLaw, ResidualLaw, RowBoundLaw}
 use Rattle.qp_model.proofs.RunLaws.{trajectory_run, power_run, response_run, unit_row, run_within, row_within, product_within, plan_inside, abs-mixed_le}
 
 -- ---- the last power of the denominator

@@ -2,7 +2,7 @@
 use Rattle.std.proofs.Common.{◌≡◌, ◌↔◌, List, [], ◌∷◌, ◌++◌, ◌∙◌, sym, inl, inr, Result, Ok, Err}
 use Rattle.std.specs.Result.{OnOk, IfErr, IsErrAnd, result_and}
 use Rattle.number_text.specs.declared.text_fault.TextFault.{TextFault}
-use Rattle.qp_model.specs.Rules.{Rule, AllHold, IsFirstBroken, Tests}
+use Rattle.qp_model.specs.problem.Rules.{Rule, AllHold, IsFirstBroken, Tests}
 
 pub broken_before : (rules more : List Rule) (fault : TextFault) → IsFirstBroken rules fault → IsFirstBroken (rules ++ more) fault
 broken_before [] more fault broken = absurd broken

@@ -12,10 +12,10 @@ use Rattle.integer_algebra.proofs.SumLaws.{total_same}
 use Rattle.integer_algebra.proofs.SizeLaws.{total_size}
 use Rattle.integer_algebra.proofs.VectorLaws.{image_same, image_scale, image_none}
 use Rattle.integer_algebra.proofs.BlockLaws.{total_single, choose_total}
-use Rattle.qp_model.specs.Design.{Design, entries}
-use Rattle.qp_model.specs.Trajectory.{trajectory}
-use Rattle.qp_model.specs.Condensing.{power, response}
-use Rattle.qp_model.specs.Runs.{run, unit, IsTame, PlantRunLaw}
+use Rattle.qp_model.specs.problem.Design.{Design, entries}
+use Rattle.qp_model.specs.problem.Trajectory.{trajectory}
+use Rattle.qp_model.specs.form.Condensing.{power, response}
+use Rattle.qp_model.specs.problem.Runs.{run, unit, IsTame, PlantRunLaw}
 
 -- ---- trajectories
 pub trajectory_run : (d : Design) (q : ℤ) (xi u : ℕ → ℤ) (k i : ℕ) →

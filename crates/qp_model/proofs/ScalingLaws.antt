@@ -8,11 +8,11 @@ use Rattle.integer_algebra.proofs.RingLaws.{mul_assoc_z}
 use Rattle.integer_algebra.proofs.SumLaws.{total_same, total_scale}
 use Rattle.integer_algebra.proofs.VectorLaws.{dot_same, dot_scale_right, image_same, image_scale}
 use Rattle.integer_algebra.proofs.Quoting.{by_ring, quotes}
-use Rattle.qp_model.specs.Design.{Design, CostRow, LimitRow}
-use Rattle.qp_model.specs.Trajectory.{trajectory, lift}
-use Rattle.qp_model.specs.Cost.{cost, cost_term}
-use Rattle.qp_model.specs.Residual.{stage_residual, final_residual}
-use Rattle.qp_model.specs.Scaling.{ScalingLaw}
+use Rattle.qp_model.specs.problem.Design.{Design, CostRow, LimitRow}
+use Rattle.qp_model.specs.problem.Trajectory.{trajectory, lift}
+use Rattle.qp_model.specs.problem.Cost.{cost, cost_term}
+use Rattle.qp_model.specs.problem.Residual.{stage_residual, final_residual}
+use Rattle.qp_model.specs.problem.Scaling.{ScalingLaw}
 
 -- a trajectory
 scaled : (d : Design) (c q : ℤ) (xi u : ℕ → ℤ) (k i : ℕ) → trajectory d (c *ℤ q) xi (λ j. c *ℤ u j) k i ≡ c *ℤ trajectory d q xi u k i

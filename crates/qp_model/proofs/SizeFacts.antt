@@ -10,11 +10,11 @@ use Rattle.integer_algebra.proofs.SizeLaws.{amount_more, size_same}
 use Rattle.integer_algebra.proofs.PowerLaws.{pow-two}
 use Rattle.mat_int.specs.Matrix.{Matrix, row_of, entry_of}
 use Rattle.qp_model.specs.declared.design_parts.DesignParts.{DesignParts}
-use Rattle.qp_model.specs.Design.{entries, rows}
-use Rattle.qp_model.specs.Range.{IsNumerator, IsPositive}
-use Rattle.qp_model.specs.Parts.{cost_row, limit_row, final_row, design_of, IsDesign}
+use Rattle.qp_model.specs.problem.Design.{entries, rows}
+use Rattle.qp_model.specs.problem.Range.{IsNumerator, IsPositive}
+use Rattle.qp_model.specs.problem.Parts.{cost_row, limit_row, final_row, design_of, IsDesign}
 use Rattle.qp_model.proofs.VersionLaws.{design_rows_le}
-use Rattle.qp_model.specs.Quantities.{greatest, cost_width, limit_width, weight_sum}
+use Rattle.qp_model.specs.form.Quantities.{greatest, cost_width, limit_width, weight_sum}
 
 -- one more number
 pub greatest_more : (n : ℕ) (f : ℕ → ℕ) → greatest (n + 1) f ≡ max (greatest n f) (f n)

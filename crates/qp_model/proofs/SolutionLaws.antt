@@ -8,7 +8,7 @@ use Rattle.integer_algebra.proofs.SumLaws.{total_add, total_scale, greatest}
 use Rattle.integer_algebra.proofs.VectorLaws.{quadratic_scale, matrix_scale}
 use Rattle.integer_algebra.proofs.StrongLaws.{small_image}
 use Rattle.integer_algebra.proofs.Quoting.{by_ring, quotes}
-use Rattle.qp_model.specs.GoodSolution.{IsGood}
+use Rattle.qp_model.specs.form.GoodSolution.{IsGood}
 
 -- an entry of the solution's image, from both inequalities of its system
 within_of : (m d c p : ℤ) → pos 0 ≤ℤ p → (pos 2 *ℤ (m -ℤ p *ℤ c)) ≤ℤ d → (pos 2 *ℤ (p *ℤ c -ℤ m)) ≤ℤ d → IsWithin (pos 2 *ℤ p *ℤ absolute c +ℤ d) (pos 2 *ℤ m)

@@ -5,10 +5,10 @@ use Rattle.std.proofs.lemmas.Bool.{cases_lt}
 use Rattle.std.proofs.lemmas.List.Elements.{All-get_or}
 use Rattle.integer_algebra.specs.Sums.{at}
 use Rattle.qp_model.specs.declared.design_parts.DesignParts.{DesignParts}
-use Rattle.qp_model.specs.Parts.{IsDesign, design_of}
-use Rattle.qp_model.specs.Range.{IsPositive}
-use Rattle.qp_model.specs.Quantities.{input_floor, least}
-use Rattle.qp_model.specs.Sound.{IsSound}
+use Rattle.qp_model.specs.problem.Parts.{IsDesign, design_of}
+use Rattle.qp_model.specs.problem.Range.{IsPositive}
+use Rattle.qp_model.specs.form.Quantities.{input_floor, least}
+use Rattle.qp_model.specs.problem.Sound.{IsSound}
 
 -- the least of some numbers is at most each of them
 pub least-le : (n : ℕ) (f : ℕ → ℕ) (i : ℕ) → i < n → least n f ≤ f i

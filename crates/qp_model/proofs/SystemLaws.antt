@@ -7,10 +7,10 @@ use Rattle.integer_algebra.specs.Sizes.{size}
 use Rattle.integer_algebra.specs.Sums.{image}
 use Rattle.integer_algebra.proofs.SizeLaws.{size_same}
 use Rattle.integer_algebra.proofs.SumLaws.{total_same}
-use Rattle.qp_model.specs.Form.{Form, HaveSameNumbers}
-use Rattle.qp_model.specs.Columns.{columns, column_bound, column_size, descent_size, solve_matrix, solve_column}
-use Rattle.qp_model.specs.GoodSolution.{IsGood}
-use Rattle.qp_model.specs.Quantities.{greatest}
+use Rattle.qp_model.specs.form.Form.{Form, HaveSameNumbers}
+use Rattle.qp_model.specs.form.Columns.{columns, column_bound, column_size, descent_size, solve_matrix, solve_column}
+use Rattle.qp_model.specs.form.GoodSolution.{IsGood}
+use Rattle.qp_model.specs.form.Quantities.{greatest}
 use Rattle.qp_model.proofs.SizeFacts.{greatest_same}
 
 -- ---- a choice by an index, part by part

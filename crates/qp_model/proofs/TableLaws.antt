@@ -3,7 +3,7 @@ use Rattle.std.proofs.Common.{inl, inr, ℕ, ◌^◌, ◌<◌, List, [], length,
 use Rattle.std.proofs.lemmas.Bool.{cases_lt}
 use Rattle.std.proofs.lemmas.List.{get_or_past}
 use Rattle.mat_int.specs.Matrix.{Matrix, entry_of, row_of}
-use Rattle.qp_model.specs.Range.{IsNumerator}
+use Rattle.qp_model.specs.problem.Range.{IsNumerator}
 
 -- a number of a table
 pub entry_small : (m : Matrix) (i j : ℕ) → All (All IsNumerator) m.rows → i < length m.rows → unsigned_abs (entry_of m i j) < 2 ^ 31

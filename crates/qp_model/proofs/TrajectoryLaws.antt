@@ -3,9 +3,9 @@ use Rattle.std.proofs.Common.{◌≡◌, ℕ, zero, suc, ◌+◌, ◌*◌, ◌/�
 use Rattle.std.proofs.lemmas.Int.{ints}
 use Rattle.std.proofs.lemmas.Nat.{div-mul-add, mod-mul-add}
 use Rattle.integer_algebra.specs.Sums.{total, image}
-use Rattle.qp_model.specs.Design.{Design}
-use Rattle.qp_model.specs.Trajectory.{trajectory}
-use Rattle.qp_model.specs.Condensing.{power, response}
+use Rattle.qp_model.specs.problem.Design.{Design}
+use Rattle.qp_model.specs.problem.Trajectory.{trajectory}
+use Rattle.qp_model.specs.form.Condensing.{power, response}
 use Rattle.integer_algebra.proofs.RingLaws.{add_equations, mul_assoc_z, add-mul_z}
 use Rattle.integer_algebra.proofs.SumLaws.{total_same, total_zero, total_add, total_scale, total_scale_right, total_swap}
 use Rattle.integer_algebra.proofs.VectorLaws.{image_mix}

@@ -7,12 +7,12 @@ use Rattle.std.proofs.lemmas.List.{get_or-replicate, same_lists, get_or_default}
 use Rattle.std.proofs.lemmas.List.FromFn.{length-map-range_with_len, get_or-map-range_with_len}
 use Rattle.integer_algebra.specs.Division.{floor_of}
 use Rattle.integer_algebra.specs.Sums.{at}
-use Rattle.qp_model.specs.Limits.{text_version, most_states, most_stages, most_rows}
+use Rattle.qp_model.specs.problem.Limits.{text_version, most_states, most_stages, most_rows}
 use Rattle.qp_model.specs.declared.design_parts.DesignParts.{DesignParts}
-use Rattle.qp_model.specs.Design.{rows}
-use Rattle.qp_model.specs.Parts.{IsDesign, design_of}
-use Rattle.qp_model.specs.Controller.{Numbers, IsSized}
-use Rattle.qp_model.specs.Machine.{exponent_of, lowering_of, raised, top_of}
+use Rattle.qp_model.specs.problem.Design.{rows}
+use Rattle.qp_model.specs.problem.Parts.{IsDesign, design_of}
+use Rattle.qp_model.specs.machine.Controller.{Numbers, IsSized}
+use Rattle.qp_model.specs.machine.Machine.{exponent_of, lowering_of, raised, top_of}
 
 -- ---- the greatest sizes of all versions
 either_le : (first : Bool) (small great : ℕ) → small ≤ great → (if first then small else great) ≤ great

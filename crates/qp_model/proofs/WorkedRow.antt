@@ -3,21 +3,21 @@
 use Rattle.std.proofs.Common.{◌≡◌, ℕ, zero, suc, ◌^◌, ◌*◌, ◌+◌, ◌-◌, ℤ, pos, ◌*ℤ◌, negsuc, neg_ℤ, List, [], ◌∷◌, refl, map, length, true}
 use Rattle.integer_algebra.specs.Sums.{at, none}
 use Rattle.mat_int.specs.Matrix.{Matrix}
-use Rattle.qp_model.specs.Design.{Design, CostRow, LimitRow, rows, entries}
-use Rattle.qp_model.specs.Trajectory.{trajectory}
-use Rattle.qp_model.specs.Cost.{cost, cost_scale}
-use Rattle.qp_model.specs.Residual.{residual, residual_scale, slack}
-use Rattle.qp_model.specs.Box.{corner}
-use Rattle.qp_model.specs.Condensed.{Condensed}
-use Rattle.qp_model.specs.Condensing.{condensed_of}
-use Rattle.qp_model.specs.Form.{Form}
-use Rattle.qp_model.specs.Class.{form_of}
-use Rattle.qp_model.specs.Errors.{error_sums_of, plan_bound, residual_error, radius_error, epsilon, error_size}
-use Rattle.qp_model.specs.Choices.{violation_bound, row_violation_bound}
-use Rattle.qp_model.specs.Controller.{Numbers}
-use Rattle.qp_model.specs.Machine.{loaded, after, entry_sum, averaged_plan, average_denominator, raised, top_of}
-use Rattle.qp_model.specs.AbsoluteSums.{greatest_sum, entry_absolute_sum, plan_magnitudes, sum_magnitude}
-use Rattle.qp_model.specs.RealErrors.{gain_residual, has_residual_room, real_gradient, real_plan, real_cost}
+use Rattle.qp_model.specs.problem.Design.{Design, CostRow, LimitRow, rows, entries}
+use Rattle.qp_model.specs.problem.Trajectory.{trajectory}
+use Rattle.qp_model.specs.problem.Cost.{cost, cost_scale}
+use Rattle.qp_model.specs.problem.Residual.{residual, residual_scale, slack}
+use Rattle.qp_model.specs.problem.Box.{corner}
+use Rattle.qp_model.specs.form.Condensed.{Condensed}
+use Rattle.qp_model.specs.form.Condensing.{condensed_of}
+use Rattle.qp_model.specs.form.Form.{Form}
+use Rattle.qp_model.specs.form.Class.{form_of}
+use Rattle.qp_model.specs.bounds.Errors.{error_sums_of, plan_bound, residual_error, radius_error, epsilon, error_size}
+use Rattle.qp_model.specs.bounds.Choices.{violation_bound, row_violation_bound}
+use Rattle.qp_model.specs.machine.Controller.{Numbers}
+use Rattle.qp_model.specs.machine.Machine.{loaded, after, entry_sum, averaged_plan, average_denominator, raised, top_of}
+use Rattle.qp_model.specs.machine.AbsoluteSums.{greatest_sum, entry_absolute_sum, plan_magnitudes, sum_magnitude}
+use Rattle.qp_model.specs.bounds.RealErrors.{gain_residual, has_residual_room, real_gradient, real_plan, real_cost}
 
 -- x's only coefficient
 one : ℕ → ℤ

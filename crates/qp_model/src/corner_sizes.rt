@@ -2,10 +2,10 @@
 ghost use Rattle.std.specs.Prelude.{◌≡◌, ℕ, ◌*◌, ◌^◌, ◌<◌, ◌≤◌, length, unsigned_abs};
 ghost use Rattle.std.specs.Option.{SomeIff};
 ghost use Rattle.integer_algebra.specs.Sums.{at};
-ghost use Rattle.qp_model.specs.Parts.{IsDesign, design_of};
-ghost use Rattle.qp_model.specs.Policy.{plans_of, IsPolicyFor};
-ghost use Rattle.qp_model.specs.Quantities.{greatest};
-ghost use Rattle.qp_model.specs.CornerSizes.{box_magnitude, corner_magnitude, policy_magnitude, corner_slack_size, corner_cost_size};
+ghost use Rattle.qp_model.specs.problem.Parts.{IsDesign, design_of};
+ghost use Rattle.qp_model.specs.problem.Policy.{plans_of, IsPolicyFor};
+ghost use Rattle.qp_model.specs.form.Quantities.{greatest};
+ghost use Rattle.qp_model.specs.bounds.CornerSizes.{box_magnitude, corner_magnitude, policy_magnitude, corner_slack_size, corner_cost_size};
 
 use crate::design_parts::DesignParts;
 use crate::policy::Policy;

@@ -1,4 +1,4 @@
-ghost use Rattle.qp_model.specs.Parts.{IsDesign};
+ghost use Rattle.qp_model.specs.problem.Parts.{IsDesign};
 
 use crate::design_parts::DesignParts;
 use crate::part_rules::test_parts;
@@ -12,7 +12,7 @@ pub struct Design {
 }
 
 impl Model for Design {
-    ghost use Rattle.qp_model.specs.Parts.{IsDesign};
+    ghost use Rattle.qp_model.specs.problem.Parts.{IsDesign};
     ghost use Rattle.qp_model.specs.declared.design_parts.DesignParts.{DesignParts};
 
     ghost Value = { DesignParts };
@@ -25,8 +25,8 @@ impl Model for Design {
 impl Design {
     ghost use Rattle.std.specs.Prelude.{◌≡◌, ◌↔◌, IfOk, IfErr, IsOk, Err};
     ghost use Rattle.number_text.specs.declared.text_fault.TextFault.{TextFault};
-    ghost use Rattle.qp_model.specs.Rules.{IsFirstBroken};
-    ghost use Rattle.qp_model.specs.PartRules.{part_rules};
+    ghost use Rattle.qp_model.specs.problem.Rules.{IsFirstBroken};
+    ghost use Rattle.qp_model.specs.problem.PartRules.{part_rules};
 
     /// The design with these numbers, or the first rule that they break: as `Shape` or `Range`, with its place. The places are
     /// those of the keys of a design text; within one the shape comes first. It takes no memory.

@@ -1,11 +1,11 @@
 // What the definitions give, each as the contract of a function with nothing to do.
-ghost use Rattle.qp_model.specs.Condensing.{CondensingLaw, TrajectoryLaw};
-ghost use Rattle.qp_model.specs.Runs.{PlantRunLaw, ResponseLaw, ResidualLaw, RowBoundLaw, GramLaw, AgreesLaw, CostBoundLaw};
-ghost use Rattle.qp_model.specs.CostShape.{ExpansionLaw, HessianLaw, CurvatureLaw, AverageLaw, DifferenceLaw, FloorLaw};
-ghost use Rattle.qp_model.specs.Form.{ExactFormLaw};
-ghost use Rattle.qp_model.specs.Excess.{ExcessLaw};
-ghost use Rattle.qp_model.specs.Scaling.{ScalingLaw};
-ghost use Rattle.qp_model.specs.Within.{PlanMagnitudeLaw};
+ghost use Rattle.qp_model.specs.form.Condensing.{CondensingLaw, TrajectoryLaw};
+ghost use Rattle.qp_model.specs.problem.Runs.{PlantRunLaw, ResponseLaw, ResidualLaw, RowBoundLaw, GramLaw, AgreesLaw, CostBoundLaw};
+ghost use Rattle.qp_model.specs.problem.CostShape.{ExpansionLaw, HessianLaw, CurvatureLaw, AverageLaw, DifferenceLaw, FloorLaw};
+ghost use Rattle.qp_model.specs.form.Form.{ExactFormLaw};
+ghost use Rattle.qp_model.specs.bounds.Excess.{ExcessLaw};
+ghost use Rattle.qp_model.specs.problem.Scaling.{ScalingLaw};
+ghost use Rattle.qp_model.specs.machine.Within.{PlanMagnitudeLaw};
 
 /// Each state of a trajectory is the free state plus the responses times the plan.
 pub fn trajectory_law()

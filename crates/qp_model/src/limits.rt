@@ -1,6 +1,6 @@
 // The greatest sizes of a design and of a controller, by the version of its text.
 ghost use Rattle.std.specs.Prelude.{◌≡◌};
-ghost use Rattle.qp_model.specs.Limits as limits;
+ghost use Rattle.qp_model.specs.problem.Limits as limits;
 
 /// The first version of the texts of a design and of a controller.
 pub const VERSION: u32 = 1;

@@ -1,8 +1,8 @@
 //! The rules of a design's numbers, tested in the order of their places.
 ghost use Rattle.std.specs.Prelude.{◌≡◌, ◌↔◌, ◌<◌, ◌≤◌, IsTrue, All, [], ◌∷◌, length};
-ghost use Rattle.qp_model.specs.Range.{IsNumerator};
-ghost use Rattle.qp_model.specs.Rules.{AllHold, Tests, shape, range};
-ghost use Rattle.qp_model.specs.PartRules.{HasSize, AreCosts, size_rules, plant_rules, cost_rules, limit_rules, box_rules, target_rules, part_rules};
+ghost use Rattle.qp_model.specs.problem.Range.{IsNumerator};
+ghost use Rattle.qp_model.specs.problem.Rules.{AllHold, Tests, shape, range};
+ghost use Rattle.qp_model.specs.problem.PartRules.{HasSize, AreCosts, size_rules, plant_rules, cost_rules, limit_rules, box_rules, target_rules, part_rules};
 
 use crate::design_parts::DesignParts;
 use crate::limits::{LAST_VERSION, MOST_INPUTS, VERSION, most_stages, most_states};

@@ -2,8 +2,8 @@
 ghost use Rattle.std.specs.Prelude.{◌≡◌, ◌<◌, ℕ, ◌≤ℤ◌, pos, ◌↔◌, IsTrue, All, length};
 ghost use Rattle.integer_algebra.specs.Sums.{at};
 ghost use Rattle.mat_int.specs.Matrix.{entry_of};
-ghost use Rattle.qp_model.specs.Range.{LiesIn, IsNumerator, IsDenominator, IsPositive};
-ghost use Rattle.qp_model.specs.PartRules.{AreCosts, AreLimits, AreHighs};
+ghost use Rattle.qp_model.specs.problem.Range.{LiesIn, IsNumerator, IsDenominator, IsPositive};
+ghost use Rattle.qp_model.specs.problem.PartRules.{AreCosts, AreLimits, AreHighs};
 
 use mat_int::Mat;
 

@@ -4,9 +4,9 @@ ghost use Rattle.std.specs.Option.{SomeIff};
 ghost use Rattle.integer_algebra.specs.Sums.{at};
 ghost use Rattle.integer_algebra.specs.Sizes.{size};
 ghost use Rattle.mat_int.specs.Matrix.{entry_of};
-ghost use Rattle.qp_model.specs.Parts.{IsDesign, design_of};
-ghost use Rattle.qp_model.specs.Quantities.{greatest, growth, cost_width, limit_width, weight_sum, prediction_size, hessian_size, rows_size};
-ghost use Rattle.qp_model.specs.CurvatureSize.{curvature_of};
+ghost use Rattle.qp_model.specs.problem.Parts.{IsDesign, design_of};
+ghost use Rattle.qp_model.specs.form.Quantities.{greatest, growth, cost_width, limit_width, weight_sum, prediction_size, hessian_size, rows_size};
+ghost use Rattle.qp_model.specs.form.CurvatureSize.{curvature_of};
 
 use crate::design_parts::DesignParts;
 use frac_scaled::limited_product;

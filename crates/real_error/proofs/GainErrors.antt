@@ -10,14 +10,14 @@ use Rattle.integer_algebra.proofs.BoundLaws.{within_more}
 use Rattle.integer_algebra.proofs.DivisionLaws.{le-mul-ceil_div}
 use Rattle.integer_algebra.proofs.OrderLaws.{le_by}
 use Rattle.integer_algebra.proofs.Quoting.{by_ring, quotes}
-use Rattle.qp_model.specs.Design.{Design, entries, rows}
-use Rattle.qp_model.specs.Form.{Form, farthest}
-use Rattle.qp_model.specs.Columns.{solve_matrix, solve_column}
-use Rattle.qp_model.specs.Controller.{Numbers, IsShaped}
-use Rattle.qp_model.specs.Machine.{plan_entry}
-use Rattle.qp_model.specs.Built.{gain_column, IsDerivedFrom}
-use Rattle.qp_model.specs.Errors.{state_bound}
-use Rattle.qp_model.specs.RealErrors.{gain_residual, gain_error, residual_gradient}
+use Rattle.qp_model.specs.problem.Design.{Design, entries, rows}
+use Rattle.qp_model.specs.form.Form.{Form, farthest}
+use Rattle.qp_model.specs.form.Columns.{solve_matrix, solve_column}
+use Rattle.qp_model.specs.machine.Controller.{Numbers, IsShaped}
+use Rattle.qp_model.specs.machine.Machine.{plan_entry}
+use Rattle.qp_model.specs.bounds.Built.{gain_column, IsDerivedFrom}
+use Rattle.qp_model.specs.bounds.Errors.{state_bound}
+use Rattle.qp_model.specs.bounds.RealErrors.{gain_residual, gain_error, residual_gradient}
 use Rattle.step_error.specs.Carried.{AreNear, IsRounded}
 use Rattle.step_error.specs.Machine.{pulls}
 use Rattle.step_error.proofs.Forms.{counted}

@@ -9,9 +9,9 @@ use Rattle.integer_algebra.proofs.PowerLaws.{pow_positive, two-pow-more}
 use Rattle.integer_algebra.proofs.SizeLaws.{at_size, dot_bound, amount_same}
 use Rattle.integer_algebra.proofs.VectorLaws.{matrix_scale}
 use Rattle.mat_int.specs.Matrix.{Matrix, entry_of}
-use Rattle.qp_model.specs.Form.{Form}
-use Rattle.qp_model.specs.Columns.{columns, column_bound, column_size, solve_matrix, solve_column}
-use Rattle.qp_model.specs.Quantities.{greatest}
+use Rattle.qp_model.specs.form.Form.{Form}
+use Rattle.qp_model.specs.form.Columns.{columns, column_bound, column_size, solve_matrix, solve_column}
+use Rattle.qp_model.specs.form.Quantities.{greatest}
 use Rattle.qp_model.proofs.SizeFacts.{greatest_term, positive}
 use Rattle.condensed_form.specs.Form.{held}
 use Rattle.condensed_form.specs.declared.condensed.Condensed.{Condensed}

@@ -8,19 +8,19 @@ use Rattle.integer_algebra.specs.Division.{ceil_div}
 use Rattle.integer_algebra.proofs.AmountLaws.{amount_mono}
 use Rattle.mat_int.specs.Matrix.{Matrix, entry_of}
 use Rattle.qp_model.specs.declared.design_parts.DesignParts.{DesignParts}
-use Rattle.qp_model.specs.Design.{Design, entries, rows}
-use Rattle.qp_model.specs.Parts.{IsDesign, design_of}
-use Rattle.qp_model.specs.Form.{Form, IsFormFor}
-use Rattle.qp_model.specs.FineSizes.{is_fine}
-use Rattle.qp_model.specs.Class.{form_of}
-use Rattle.qp_model.specs.Columns.{columns}
-use Rattle.qp_model.specs.Controller.{Numbers}
-use Rattle.qp_model.specs.AbsoluteSums.{plan_magnitudes, greatest_of}
-use Rattle.qp_model.specs.Built.{gain_column}
-use Rattle.qp_model.specs.Quantities.{input_floor}
-use Rattle.qp_model.specs.Errors as errors
-use Rattle.qp_model.specs.Errors.{state_bound, combined_bound, gradient_error, gradient_squares, first_cost, error_sums_of, plan_bound, errors_cost}
-use Rattle.qp_model.specs.RealErrors.{has_residual_room, real_gradient, real_plan, real_cost}
+use Rattle.qp_model.specs.problem.Design.{Design, entries, rows}
+use Rattle.qp_model.specs.problem.Parts.{IsDesign, design_of}
+use Rattle.qp_model.specs.form.Form.{Form, IsFormFor}
+use Rattle.qp_model.specs.form.FineSizes.{is_fine}
+use Rattle.qp_model.specs.form.Class.{form_of}
+use Rattle.qp_model.specs.form.Columns.{columns}
+use Rattle.qp_model.specs.machine.Controller.{Numbers}
+use Rattle.qp_model.specs.machine.AbsoluteSums.{plan_magnitudes, greatest_of}
+use Rattle.qp_model.specs.bounds.Built.{gain_column}
+use Rattle.qp_model.specs.form.Quantities.{input_floor}
+use Rattle.qp_model.specs.bounds.Errors as errors
+use Rattle.qp_model.specs.bounds.Errors.{state_bound, combined_bound, gradient_error, gradient_squares, first_cost, error_sums_of, plan_bound, errors_cost}
+use Rattle.qp_model.specs.bounds.RealErrors.{has_residual_room, real_gradient, real_plan, real_cost}
 use Rattle.qp_model.proofs.SizeFacts.{positive}
 use Rattle.qp_model.proofs.SystemLaws.{count_same, solutions_same, column_bound_same, descent_same}
 use Rattle.condensed_form.specs.Form.{HasShapes, IsFormOf, held}

@@ -4,9 +4,9 @@ use Rattle.std.proofs.lemmas.Int.{ints}
 use Rattle.std.proofs.Math.Nat.{mul-le-mul_left}
 use Rattle.integer_algebra.specs.Sums.{image}
 use Rattle.integer_algebra.specs.Sizes.{amount}
-use Rattle.qp_model.specs.Form.{Form}
-use Rattle.qp_model.specs.Columns.{columns, solve_matrix, solve_column}
-use Rattle.qp_model.specs.GoodSolution.{IsGood}
+use Rattle.qp_model.specs.form.Form.{Form}
+use Rattle.qp_model.specs.form.Columns.{columns, solve_matrix, solve_column}
+use Rattle.qp_model.specs.form.GoodSolution.{IsGood}
 use Rattle.real_error.specs.Gains.{missed, missed_by, missed_sum, combined_of}
 
 -- of one system

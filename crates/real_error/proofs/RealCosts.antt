@@ -5,16 +5,16 @@ use Rattle.std.proofs.Math.Nat.{mul-le-mul_left, one-le-mul}
 use Rattle.integer_algebra.specs.Division.{ceil_div}
 use Rattle.integer_algebra.proofs.AmountLaws.{amount_mono}
 use Rattle.integer_algebra.proofs.DivisionLaws.{le-mul-ceil_div, ceil_div-le}
-use Rattle.qp_model.specs.Design.{Design, entries}
-use Rattle.qp_model.specs.Parts.{IsDesign, design_of}
-use Rattle.qp_model.specs.Form.{Form, IsFormFor, farthest}
-use Rattle.qp_model.specs.Columns.{columns, solve_matrix, solve_column}
-use Rattle.qp_model.specs.GoodSolution.{IsGood}
-use Rattle.qp_model.specs.Controller.{Numbers}
-use Rattle.qp_model.specs.Built.{gain_column, IsDerivedFrom}
-use Rattle.qp_model.specs.Quantities.{input_floor}
-use Rattle.qp_model.specs.Errors.{state_bound, combined_bound, gradient_error, first_cost, error_sums_of, plan_bound}
-use Rattle.qp_model.specs.RealErrors.{has_residual_room, real_gradient, real_plan}
+use Rattle.qp_model.specs.problem.Design.{Design, entries}
+use Rattle.qp_model.specs.problem.Parts.{IsDesign, design_of}
+use Rattle.qp_model.specs.form.Form.{Form, IsFormFor, farthest}
+use Rattle.qp_model.specs.form.Columns.{columns, solve_matrix, solve_column}
+use Rattle.qp_model.specs.form.GoodSolution.{IsGood}
+use Rattle.qp_model.specs.machine.Controller.{Numbers}
+use Rattle.qp_model.specs.bounds.Built.{gain_column, IsDerivedFrom}
+use Rattle.qp_model.specs.form.Quantities.{input_floor}
+use Rattle.qp_model.specs.bounds.Errors.{state_bound, combined_bound, gradient_error, first_cost, error_sums_of, plan_bound}
+use Rattle.qp_model.specs.bounds.RealErrors.{has_residual_room, real_gradient, real_plan}
 use Rattle.qp_model.specs.declared.design_parts.DesignParts.{DesignParts}
 use Rattle.qp_model.proofs.SizeFacts.{positive}
 use Rattle.step_error.proofs.Ceilings.{ceil_rises}

@@ -5,20 +5,20 @@ use Rattle.integer_algebra.specs.Sums.{at}
 use Rattle.integer_algebra.specs.Division.{ceil_div}
 use Rattle.integer_algebra.proofs.DivisionLaws.{le-mul-ceil_div}
 use Rattle.integer_algebra.proofs.PowerLaws.{pow_positive}
-use Rattle.qp_model.specs.Design.{Design, entries}
-use Rattle.qp_model.specs.Sound.{IsSound}
-use Rattle.qp_model.specs.Box.{IsGridState}
-use Rattle.qp_model.specs.Condensed.{IsCondensed}
-use Rattle.qp_model.specs.Condensing.{condensed_of}
-use Rattle.qp_model.specs.Parts.{design_of}
-use Rattle.qp_model.specs.Form.{Form, IsFormFor}
-use Rattle.qp_model.specs.Controller.{Numbers, IsSized}
-use Rattle.qp_model.specs.Machine.{loaded, raised, plan_entry}
-use Rattle.qp_model.specs.AbsoluteSums.{plan_magnitudes, greatest_of}
-use Rattle.qp_model.specs.Built.{IsDerivedFrom}
-use Rattle.qp_model.specs.Quantities.{input_floor}
-use Rattle.qp_model.specs.Errors.{gradient_error}
-use Rattle.qp_model.specs.RealErrors.{residual_gradient, real_gradient, real_plan, real_errors, real_cost, has_residual_room}
+use Rattle.qp_model.specs.problem.Design.{Design, entries}
+use Rattle.qp_model.specs.problem.Sound.{IsSound}
+use Rattle.qp_model.specs.problem.Box.{IsGridState}
+use Rattle.qp_model.specs.form.Condensed.{IsCondensed}
+use Rattle.qp_model.specs.form.Condensing.{condensed_of}
+use Rattle.qp_model.specs.problem.Parts.{design_of}
+use Rattle.qp_model.specs.form.Form.{Form, IsFormFor}
+use Rattle.qp_model.specs.machine.Controller.{Numbers, IsSized}
+use Rattle.qp_model.specs.machine.Machine.{loaded, raised, plan_entry}
+use Rattle.qp_model.specs.machine.AbsoluteSums.{plan_magnitudes, greatest_of}
+use Rattle.qp_model.specs.bounds.Built.{IsDerivedFrom}
+use Rattle.qp_model.specs.form.Quantities.{input_floor}
+use Rattle.qp_model.specs.bounds.Errors.{gradient_error}
+use Rattle.qp_model.specs.bounds.RealErrors.{residual_gradient, real_gradient, real_plan, real_errors, real_cost, has_residual_room}
 use Rattle.qp_model.proofs.CostLaws.{condensing}
 use Rattle.qp_model.proofs.MagnitudeLaws.{plan_magnitude_law, get_or-le-greatest}
 use Rattle.qp_model.proofs.SoundLaws.{sound}

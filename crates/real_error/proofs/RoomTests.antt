@@ -4,10 +4,10 @@ use Rattle.std.specs.Option.{SomeIff}
 use Rattle.std.proofs.lemmas.Bool.{cases_lt, lt-ltb, le-ltb}
 use Rattle.std.proofs.Math.Nat.{mul-le-mul_right}
 use Rattle.integer_algebra.specs.Division.{ceil_div}
-use Rattle.qp_model.specs.Form.{Form}
-use Rattle.qp_model.specs.Errors.{ErrorSums}
-use Rattle.qp_model.specs.Quantities.{greatest}
-use Rattle.qp_model.specs.Columns.{solve_matrix}
+use Rattle.qp_model.specs.form.Form.{Form}
+use Rattle.qp_model.specs.bounds.Errors.{ErrorSums}
+use Rattle.qp_model.specs.form.Quantities.{greatest}
+use Rattle.qp_model.specs.form.Columns.{solve_matrix}
 use Rattle.qp_model.proofs.SizeFacts.{greatest_term}
 use Rattle.real_error.specs.Gains.{combined_of, has_room, missed_squares, missed_cost}
 

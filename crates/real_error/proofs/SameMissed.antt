@@ -1,8 +1,8 @@
 -- Forms that agree number by number are missed by as much, and by gains that agree.
 use Rattle.std.proofs.Common.{◌≡◌, ℕ, ◌+◌, ◌*◌, ◌^◌, ◌<◌, ℤ, pos, ◌-ℤ◌, ◌*ℤ◌, unsigned_abs, nat_lt, arith, ap, ◌∙◌}
 use Rattle.integer_algebra.specs.Division.{ceil_div}
-use Rattle.qp_model.specs.Form.{Form, HaveSameNumbers, farthest}
-use Rattle.qp_model.specs.Columns.{columns, solve_matrix}
+use Rattle.qp_model.specs.form.Form.{Form, HaveSameNumbers, farthest}
+use Rattle.qp_model.specs.form.Columns.{columns, solve_matrix}
 use Rattle.qp_model.proofs.SystemLaws.{matrix_same, column_is, image_is}
 use Rattle.step_error.proofs.SameSums.{amount_over, greatest_over}
 use Rattle.real_error.specs.Gains.{missed, missed_sum, missed_gradient, missed_squares, has_room}

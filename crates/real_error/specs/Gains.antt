@@ -5,12 +5,12 @@ use Rattle.integer_algebra.specs.Sizes.{amount}
 use Rattle.integer_algebra.specs.Division.{ceil_div}
 use Rattle.mat_int.specs.Enclosures.{AreEnclosures}
 use Rattle.mat_int.specs.Matrix.{Matrix, entry_of}
-use Rattle.qp_model.specs.Form.{Form, farthest}
-use Rattle.qp_model.specs.Columns.{columns, column_bound, descent_size, solve_matrix, solve_column}
-use Rattle.qp_model.specs.Controller.{HasShape}
-use Rattle.qp_model.specs.GoodSolution.{IsGood}
-use Rattle.qp_model.specs.Errors.{ErrorSums}
-use Rattle.qp_model.specs.Quantities.{greatest}
+use Rattle.qp_model.specs.form.Form.{Form, farthest}
+use Rattle.qp_model.specs.form.Columns.{columns, column_bound, descent_size, solve_matrix, solve_column}
+use Rattle.qp_model.specs.machine.Controller.{HasShape}
+use Rattle.qp_model.specs.form.GoodSolution.{IsGood}
+use Rattle.qp_model.specs.bounds.Errors.{ErrorSums}
+use Rattle.qp_model.specs.form.Quantities.{greatest}
 use Rattle.condensed_form.specs.Form.{HasShapes, held}
 use Rattle.condensed_form.specs.declared.condensed.Condensed.{Condensed}
 

@@ -2,14 +2,14 @@
 use Rattle.std.specs.Prelude.{ℕ, ◌*◌, ◌≤◌, ℤ, pos, ◌*ℤ◌, ◌<ℤ◌, List}
 use Rattle.integer_algebra.specs.Sums.{at}
 use Rattle.dual_method.specs.Dual.{InBox}
-use Rattle.qp_model.specs.Design.{rows}
-use Rattle.qp_model.specs.Parts.{IsDesign, design_of}
-use Rattle.qp_model.specs.Form.{Form, IsFormFor}
-use Rattle.qp_model.specs.Residual.{IsFeasible}
-use Rattle.qp_model.specs.Controller.{Numbers}
-use Rattle.qp_model.specs.Built.{IsDerivedFrom}
-use Rattle.qp_model.specs.Errors.{error_sums_of, epsilon}
-use Rattle.qp_model.specs.RealErrors.{real_errors, real_cost}
+use Rattle.qp_model.specs.problem.Design.{rows}
+use Rattle.qp_model.specs.problem.Parts.{IsDesign, design_of}
+use Rattle.qp_model.specs.form.Form.{Form, IsFormFor}
+use Rattle.qp_model.specs.problem.Residual.{IsFeasible}
+use Rattle.qp_model.specs.machine.Controller.{Numbers}
+use Rattle.qp_model.specs.bounds.Built.{IsDerivedFrom}
+use Rattle.qp_model.specs.bounds.Errors.{error_sums_of, epsilon}
+use Rattle.qp_model.specs.bounds.RealErrors.{real_errors, real_cost}
 use Rattle.qp_model.specs.declared.design_parts.DesignParts.{DesignParts}
 use Rattle.step_error.specs.MachineLaws.{IsRunOf, HasErrors, MachineStepBound, MachineRunBound}
 

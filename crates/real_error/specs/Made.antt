@@ -1,13 +1,13 @@
 -- The numbers that the real errors of a controller's steps are made of.
 use Rattle.std.specs.Prelude.{◌≡◌, ℕ, ◌^◌, ◌<◌, ◌≤◌, ℤ, List, length, unsigned_abs}
 use Rattle.mat_int.specs.Matrix.{Matrix}
-use Rattle.qp_model.specs.Design.{entries, rows}
-use Rattle.qp_model.specs.Parts.{design_of}
-use Rattle.qp_model.specs.Class.{form_of}
-use Rattle.qp_model.specs.Columns.{columns, column_bound, descent_size, solve_matrix, solve_column}
-use Rattle.qp_model.specs.GoodSolution.{IsGood}
-use Rattle.qp_model.specs.Controller.{Numbers, HasShape}
-use Rattle.qp_model.specs.Errors.{error_sums_of, error_size}
+use Rattle.qp_model.specs.problem.Design.{entries, rows}
+use Rattle.qp_model.specs.problem.Parts.{design_of}
+use Rattle.qp_model.specs.form.Class.{form_of}
+use Rattle.qp_model.specs.form.Columns.{columns, column_bound, descent_size, solve_matrix, solve_column}
+use Rattle.qp_model.specs.form.GoodSolution.{IsGood}
+use Rattle.qp_model.specs.machine.Controller.{Numbers, HasShape}
+use Rattle.qp_model.specs.bounds.Errors.{error_sums_of, error_size}
 use Rattle.qp_model.specs.declared.design_parts.DesignParts.{DesignParts}
 use Rattle.condensed_form.specs.Form.{IsFormOf}
 use Rattle.condensed_form.specs.declared.condensed.Condensed.{Condensed}

@@ -1,11 +1,11 @@
 // What the errors of a step cost by the residuals that a controller's gains really leave.
 ghost use Rattle.std.specs.Prelude.{◌≡◌, ℕ, ◌*◌, ◌^◌, ◌≤◌, ◌≤ℤ◌, pos, unsigned_abs};
 ghost use Rattle.integer_algebra.specs.Division.{ceil_div};
-ghost use Rattle.qp_model.specs.AbsoluteSums.{plan_magnitudes, greatest_of};
-ghost use Rattle.qp_model.specs.Class.{form_of};
-ghost use Rattle.qp_model.specs.Controller.{Numbers};
-ghost use Rattle.qp_model.specs.Parts.{design_of};
-ghost use Rattle.qp_model.specs.RealErrors.{real_cost};
+ghost use Rattle.qp_model.specs.machine.AbsoluteSums.{plan_magnitudes, greatest_of};
+ghost use Rattle.qp_model.specs.form.Class.{form_of};
+ghost use Rattle.qp_model.specs.machine.Controller.{Numbers};
+ghost use Rattle.qp_model.specs.problem.Parts.{design_of};
+ghost use Rattle.qp_model.specs.bounds.RealErrors.{real_cost};
 ghost use Rattle.qp_model.specs.declared.design_parts.DesignParts.{DesignParts};
 ghost use Rattle.condensed_form.specs.Form.{held};
 ghost use Rattle.step_error.specs.ErrorSums.{AreSums, sums_of};

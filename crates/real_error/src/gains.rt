@@ -53,8 +53,8 @@ impl<'a> Gains<'a> {
     ghost use Rattle.std.specs.Prelude.{◌≡◌, ◌+◌, ◌*◌, ◌^◌, ◌<◌, ◌≤◌, true, ◌*ℤ◌, unsigned_abs};
     ghost use Rattle.integer_algebra.specs.Sums.{total};
     ghost use Rattle.mat_int.specs.Matrix.{entry_of};
-    ghost use Rattle.qp_model.specs.Columns.{columns, solve_matrix, solve_column};
-    ghost use Rattle.qp_model.specs.Quantities.{greatest};
+    ghost use Rattle.qp_model.specs.form.Columns.{columns, solve_matrix, solve_column};
+    ghost use Rattle.qp_model.specs.form.Quantities.{greatest};
     ghost use Rattle.condensed_form.specs.Form.{held};
     ghost use Rattle.real_error.specs.Gains.{gain_at, missed, missed_by, missed_sum, missed_gradient, missed_squares, combined_of, has_room};
 

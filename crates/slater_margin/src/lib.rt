@@ -1,14 +1,6 @@
-//! What a policy, a plan for each corner of a design's box, shows of the design: by how much the plans keep every limit, and what they cost at most.
-//! The plans are simulated in exact numbers; where these are too long, that is told.
-//! Slater's condition asks for a plan with some slack in each row; the corners of the box give one for each state in it.
+//! The margin of a policy of a design, its corners simulated in the class that their size calls for: exact numbers, or enclosures of them.
 #![tactic(auto)]
 
-mod corner;
-mod fault;
-mod lists;
-mod margin;
+mod corners;
 
-pub use corner::coordinate;
-pub use fault::MarginFault;
-pub use lists::{first_short, weighted_squares};
-pub use margin::margins_exact;
+pub use corners::{margins, shown_law};

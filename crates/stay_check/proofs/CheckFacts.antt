@@ -3,9 +3,9 @@ use Rattle.std.proofs.Common.{◌≡◌, ◌≢◌, inl, inr, ℕ, ◌+◌, ◌-
 use Rattle.std.specs.Prelude.{IfOk, IfErr, replicate}
 use Rattle.std.proofs.lemmas.Bool.{cases_lt}
 use Rattle.std.proofs.lemmas.List.{get_or-replicate, get_or_past, length-replicate}
-use Rattle.qp_model.specs.Parts.{IsNumeratorList}
+use Rattle.qp_model.specs.problem.Parts.{IsNumeratorList}
 use Rattle.integer_algebra.specs.Sums.{at, none}
-use Rattle.qp_model.specs.Design.{Design}
+use Rattle.qp_model.specs.problem.Design.{Design}
 use Rattle.stay_check.specs.FaceForms.{Face, FaceNumbers, face_of, input_of_rows, input_of_coordinate, FaceHolds}
 use Rattle.stay_check.specs.Staying.{KeepsInBox}
 use Rattle.stay_check.specs.Answers.{IsFirstUnequal, IsUnequalFault, IsFaceFault, IsFacesFault, IsStayFault, Stays}

@@ -8,9 +8,9 @@ use Rattle.std.proofs.lemmas.List.{get_or_default}
 use Rattle.std.proofs.Math.Nat.{mul-add, mul_assoc, mul-le-mul_right, one-le-mul}
 use Rattle.integer_algebra.specs.Sums.{at}
 use Rattle.mat_int.specs.Matrix.{entry_of}
-use Rattle.qp_model.specs.Design.{Design, rows}
-use Rattle.qp_model.specs.Range.{IsDenominator}
-use Rattle.qp_model.specs.Parts.{design_of, IsDesign}
+use Rattle.qp_model.specs.problem.Design.{Design, rows}
+use Rattle.qp_model.specs.problem.Range.{IsDenominator}
+use Rattle.qp_model.specs.problem.Parts.{design_of, IsDesign}
 use Rattle.qp_model.specs.declared.design_parts.DesignParts.{DesignParts}
 use Rattle.qp_model.proofs.CornerFacts.{grid_small, product_small}
 use Rattle.stay_check.specs.FirstRows.{first_rows, first_row, limits_on_state, next_limits}

@@ -18,10 +18,10 @@ use Rattle.integer_algebra.proofs.Quoting.{by_ring, quotes}
 use Rattle.integer_algebra.proofs.SizeLaws.{at_size}
 use Rattle.integer_algebra.proofs.SumLaws.{total_same, total_zero}
 use Rattle.integer_algebra.proofs.VectorLaws.{dot_same, dot_add_right, dot_scale, dot_scale_right, dot_image, image_same, image_scale}
-use Rattle.qp_model.specs.Design.{Design, LimitRow}
-use Rattle.qp_model.specs.Trajectory.{trajectory, lift}
-use Rattle.qp_model.specs.Residual.{residual, residual_scale, stage_residual, final_residual}
-use Rattle.qp_model.specs.Certified.{ExceedsAtMost}
+use Rattle.qp_model.specs.problem.Design.{Design, LimitRow}
+use Rattle.qp_model.specs.problem.Trajectory.{trajectory, lift}
+use Rattle.qp_model.specs.problem.Residual.{residual, residual_scale, stage_residual, final_residual}
+use Rattle.qp_model.specs.bounds.Certified.{ExceedsAtMost}
 use Rattle.qp_model.proofs.RowLaws.{lift_power}
 use Rattle.stay_check.specs.FirstRows.{FirstRow, row_at_start, row_at_next, next_limit, next_limits, is_on_state, limits_on_state, first_rows, first_row}
 

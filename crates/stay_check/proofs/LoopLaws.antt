@@ -11,19 +11,19 @@ use Rattle.integer_algebra.specs.Division.{round_of}
 use Rattle.integer_algebra.proofs.OrderLaws.{le_by, le_trans_z, mul-le-mul_right_z}
 use Rattle.integer_algebra.proofs.PowerLaws.{pow_positive}
 use Rattle.integer_algebra.proofs.Quoting.{by_ring, quotes}
-use Rattle.qp_model.specs.Design.{Design, rows}
-use Rattle.qp_model.specs.Parts.{design_of, IsDesign}
+use Rattle.qp_model.specs.problem.Design.{Design, rows}
+use Rattle.qp_model.specs.problem.Parts.{design_of, IsDesign}
 use Rattle.qp_model.specs.declared.design_parts.DesignParts.{DesignParts}
-use Rattle.qp_model.specs.Trajectory.{trajectory}
-use Rattle.qp_model.specs.Box.{IsGridState}
-use Rattle.qp_model.specs.Residual.{residual, residual_scale}
-use Rattle.qp_model.specs.Controller.{Numbers, IsSized}
-use Rattle.qp_model.specs.AbsoluteSums.{IsController}
-use Rattle.qp_model.specs.Built.{HasSizesOf}
-use Rattle.qp_model.specs.Machine.{IsAdmissible, IsInside, average_denominator, averaged_plan}
-use Rattle.qp_model.specs.Printed.{Printed}
-use Rattle.qp_model.specs.Certified.{IsCertified, IsCertifiedAt, ExceedsAtMost}
-use Rattle.qp_model.specs.Successor.{grid_scale, next_sum, next_over, successor, state_after}
+use Rattle.qp_model.specs.problem.Trajectory.{trajectory}
+use Rattle.qp_model.specs.problem.Box.{IsGridState}
+use Rattle.qp_model.specs.problem.Residual.{residual, residual_scale}
+use Rattle.qp_model.specs.machine.Controller.{Numbers, IsSized}
+use Rattle.qp_model.specs.machine.AbsoluteSums.{IsController}
+use Rattle.qp_model.specs.bounds.Built.{HasSizesOf}
+use Rattle.qp_model.specs.machine.Machine.{IsAdmissible, IsInside, average_denominator, averaged_plan}
+use Rattle.qp_model.specs.bounds.Printed.{Printed}
+use Rattle.qp_model.specs.bounds.Certified.{IsCertified, IsCertifiedAt, ExceedsAtMost}
+use Rattle.qp_model.specs.machine.Successor.{grid_scale, next_sum, next_over, successor, state_after}
 use Rattle.stay_check.specs.FirstRows.{first_rows, first_row}
 use Rattle.stay_check.specs.Staying.{next_grid_state, ExceedsNoFirstRowBy, KeepsInBox}
 use Rattle.stay_check.specs.LoopStay.{CoversPrinted, StaysCertified, LoopStayLaw}

@@ -12,9 +12,9 @@ use Rattle.mat_int.proofs.Dots.{abs-add_le}
 use Rattle.integer_algebra.specs.Sizes.{size}
 use Rattle.integer_algebra.proofs.SizeLaws.{at_size}
 use Rattle.integer_algebra.specs.Sums.{total}
-use Rattle.qp_model.specs.Design.{Design}
-use Rattle.qp_model.specs.Range.{IsDenominator}
-use Rattle.qp_model.specs.Parts.{design_of, IsDesign}
+use Rattle.qp_model.specs.problem.Design.{Design}
+use Rattle.qp_model.specs.problem.Range.{IsDenominator}
+use Rattle.qp_model.specs.problem.Parts.{design_of, IsDesign}
 use Rattle.qp_model.specs.declared.design_parts.DesignParts.{DesignParts}
 use Rattle.stay_check.specs.FirstRows.{row_at_start, row_at_next, next_limit, first_row}
 use Rattle.stay_check.specs.Columns.{plant_at, limit_at, coefficient}

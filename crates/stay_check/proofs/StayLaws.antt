@@ -10,9 +10,9 @@ use Rattle.integer_algebra.proofs.OrderLaws.{le_by, le_of_lt_z, le_trans_z, add-
 use Rattle.integer_algebra.proofs.Quoting.{by_ring, quotes}
 use Rattle.integer_algebra.proofs.SumLaws.{total_same, total_add, total_mono, total_scale}
 use Rattle.integer_algebra.proofs.VectorLaws.{dot_scale, dot_sub, dot_total_left}
-use Rattle.qp_model.specs.Design.{Design}
-use Rattle.qp_model.specs.Trajectory.{trajectory}
-use Rattle.qp_model.specs.Box.{IsGridState}
+use Rattle.qp_model.specs.problem.Design.{Design}
+use Rattle.qp_model.specs.problem.Trajectory.{trajectory}
+use Rattle.qp_model.specs.problem.Box.{IsGridState}
 use Rattle.stay_check.specs.FirstRows.{first_rows, first_row}
 use Rattle.stay_check.specs.FaceForms.{Face, FaceNumbers, AreFacesFor, face_of, towards, weighted, input_of_rows, HasEqualInputs, rest, greatest_rest, left_by_rows, reach, reach_over, IsOnSide, FaceHolds}
 use Rattle.stay_check.specs.Staying.{next_grid_state, ExceedsNoFirstRowBy, AreShifts, StayLaw}

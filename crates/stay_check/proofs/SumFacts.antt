@@ -13,10 +13,10 @@ use Rattle.integer_algebra.proofs.AmountLaws.{amount_mono, amount_scale}
 use Rattle.integer_algebra.proofs.RingLaws.{neg-mul_z}
 use Rattle.integer_algebra.proofs.Quoting.{by_ring, quotes}
 use Rattle.mat_int.proofs.Dots.{abs-add_le}
-use Rattle.qp_model.specs.Design.{Design}
-use Rattle.qp_model.specs.Parts.{design_of, IsDesign}
+use Rattle.qp_model.specs.problem.Design.{Design}
+use Rattle.qp_model.specs.problem.Parts.{design_of, IsDesign}
 use Rattle.qp_model.specs.declared.design_parts.DesignParts.{DesignParts}
-use Rattle.qp_model.specs.CornerSizes.{box_magnitude}
+use Rattle.qp_model.specs.bounds.CornerSizes.{box_magnitude}
 use Rattle.qp_model.proofs.SizeFacts.{greatest_term}
 use Rattle.stay_check.specs.FirstRows.{first_rows, first_row}
 use Rattle.stay_check.specs.FaceForms.{Face, FaceNumbers, AreFacesFor, towards, weighted, rest, greatest_rest, row_left, left_by_rows}

@@ -1,6 +1,6 @@
 -- What a check of faces answers.
 use Rattle.std.specs.Prelude.{◌≡◌, ◌≢◌, ◌⊎◌, ℕ, ◌+◌, ◌-◌, ◌*◌, ◌^◌, ◌<◌, ◌≤◌, ℤ}
-use Rattle.qp_model.specs.Design.{Design}
+use Rattle.qp_model.specs.problem.Design.{Design}
 use Rattle.qp_model.specs.declared.quantity.Quantity.TheVariants.{Stay}
 use Rattle.stay_check.specs.FaceForms.{Face, FaceNumbers, face_of, input_of_rows, input_of_coordinate, HasEqualInputs, farthest, IsOnSide, FaceHolds}
 use Rattle.stay_check.specs.Staying.{FacesHold}

@@ -1,6 +1,6 @@
 -- What the plant, a limit and a first row have of a state or of an input.
 use Rattle.std.specs.Prelude.{ℕ, ◌<◌, ℤ}
-use Rattle.qp_model.specs.Design.{Design, LimitRow}
+use Rattle.qp_model.specs.problem.Design.{Design, LimitRow}
 use Rattle.stay_check.specs.FirstRows.{FirstRow}
 use Rattle.stay_check.specs.declared.rows.Column.{Column}
 use Rattle.stay_check.specs.declared.rows.Column.TheVariants.{State, Input}

@@ -4,8 +4,8 @@ use Rattle.std.specs.Int.{int_max}
 use Rattle.integer_algebra.specs.Sums.{total, at}
 use Rattle.integer_algebra.specs.Division.{round_of}
 use Rattle.mat_int.specs.Matrix.{Matrix, entry_of}
-use Rattle.qp_model.specs.Design.{Design}
-use Rattle.qp_model.specs.Range.{IsPositive}
+use Rattle.qp_model.specs.problem.Design.{Design}
+use Rattle.qp_model.specs.problem.Range.{IsPositive}
 use Rattle.stay_check.specs.FirstRows.{first_rows, first_row}
 use Rattle.stay_check.specs.declared.faces.Faces.{Faces}
 

@@ -4,7 +4,7 @@ use Rattle.integer_algebra.specs.Sums.{at}
 use Rattle.mat_int.specs.Matrix.{row_of}
 use Rattle.number_text.specs.declared.text_fault.TextFault.{TextFault}
 use Rattle.number_text.specs.declared.text_fault.TextFault.TheVariants.{Count}
-use Rattle.qp_model.specs.Design.{Design}
+use Rattle.qp_model.specs.problem.Design.{Design}
 use Rattle.policy_file.specs.Records.{HoldsNumbers, HoldUpTo, IsRecordsFault, records_of, record_at}
 use Rattle.policy_file.specs.FaceRule.{face_rule}
 use Rattle.stay_check.specs.FirstRows.{first_rows}

@@ -3,7 +3,7 @@ use Rattle.std.specs.Prelude.{ℕ, ◌+◌, ◌-◌, ◌==◌, Bool, true, if◌
 use Rattle.std.specs.List.{range_with_len}
 use Rattle.integer_algebra.specs.Sums.{coimage}
 use Rattle.integer_algebra.specs.Sizes.{size}
-use Rattle.qp_model.specs.Design.{Design, LimitRow}
+use Rattle.qp_model.specs.problem.Design.{Design, LimitRow}
 
 -- asks that (of_state'x + of_input'u) / plant_denominator is at most bound, all over limit_denominator, at the first state x and the first
 -- inputs u; and the design's row that asks it

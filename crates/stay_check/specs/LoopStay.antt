@@ -1,16 +1,16 @@
 -- That a closed loop stays in the box for every number of turns.
 use Rattle.std.specs.Prelude.{ℕ, ◌<◌, ℤ, ◌≤ℤ◌, List}
 use Rattle.integer_algebra.specs.Sums.{at, none}
-use Rattle.qp_model.specs.Design.{Design, rows}
-use Rattle.qp_model.specs.Parts.{design_of, IsDesign}
+use Rattle.qp_model.specs.problem.Design.{Design, rows}
+use Rattle.qp_model.specs.problem.Parts.{design_of, IsDesign}
 use Rattle.qp_model.specs.declared.design_parts.DesignParts.{DesignParts}
-use Rattle.qp_model.specs.Controller.{Numbers}
-use Rattle.qp_model.specs.AbsoluteSums.{IsController}
-use Rattle.qp_model.specs.Built.{HasSizesOf}
-use Rattle.qp_model.specs.Machine.{IsAdmissible}
-use Rattle.qp_model.specs.Printed.{Printed}
-use Rattle.qp_model.specs.Certified.{IsCertified, IsCertifiedAt}
-use Rattle.qp_model.specs.Successor.{state_after}
+use Rattle.qp_model.specs.machine.Controller.{Numbers}
+use Rattle.qp_model.specs.machine.AbsoluteSums.{IsController}
+use Rattle.qp_model.specs.bounds.Built.{HasSizesOf}
+use Rattle.qp_model.specs.machine.Machine.{IsAdmissible}
+use Rattle.qp_model.specs.bounds.Printed.{Printed}
+use Rattle.qp_model.specs.bounds.Certified.{IsCertified, IsCertifiedAt}
+use Rattle.qp_model.specs.machine.Successor.{state_after}
 use Rattle.stay_check.specs.Staying.{KeepsInBox}
 
 -- no printed violation of a row is above its number of excess

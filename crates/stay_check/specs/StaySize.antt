@@ -1,9 +1,9 @@
 -- The quantity `stay`, which bounds each number that a face is tested with.
 use Rattle.std.specs.Prelude.{ℕ, ◌+◌, ◌*◌, ◌^◌, ℤ, unsigned_abs}
 use Rattle.integer_algebra.specs.Sizes.{amount}
-use Rattle.qp_model.specs.Design.{Design}
-use Rattle.qp_model.specs.Quantities.{greatest}
-use Rattle.qp_model.specs.CornerSizes.{box_magnitude}
+use Rattle.qp_model.specs.problem.Design.{Design}
+use Rattle.qp_model.specs.form.Quantities.{greatest}
+use Rattle.qp_model.specs.bounds.CornerSizes.{box_magnitude}
 use Rattle.stay_check.specs.FirstRows.{first_rows, first_row}
 use Rattle.stay_check.specs.FaceForms.{Face, FaceNumbers, face_of, reach_over}
 use Rattle.stay_check.specs.Columns.{plant_at, coefficient}

@@ -1,10 +1,10 @@
 -- That one turn of a loop stays in the box.
 use Rattle.std.specs.Prelude.{ℕ, ◌*◌, ◌<◌, ◌≤◌, ℤ, pos, ◌+ℤ◌, ◌≤ℤ◌, ◌<ℤ◌, unsigned_abs}
 use Rattle.integer_algebra.specs.Division.{round_of}
-use Rattle.qp_model.specs.Design.{Design}
-use Rattle.qp_model.specs.Trajectory.{trajectory}
-use Rattle.qp_model.specs.Box.{IsGridState}
-use Rattle.qp_model.specs.Certified.{ExceedsAtMost}
+use Rattle.qp_model.specs.problem.Design.{Design}
+use Rattle.qp_model.specs.problem.Trajectory.{trajectory}
+use Rattle.qp_model.specs.problem.Box.{IsGridState}
+use Rattle.qp_model.specs.bounds.Certified.{ExceedsAtMost}
 use Rattle.stay_check.specs.FirstRows.{first_rows, first_row}
 use Rattle.stay_check.specs.FaceForms.{FaceNumbers, AreFacesFor, face_of, FaceHolds}
 

@@ -1,8 +1,8 @@
 // The check of faces.
 ghost use Rattle.std.specs.Prelude.{◌≡◌, ◌+◌, ◌*◌, ◌^◌, ◌≤◌, ◌<◌, ◌≤ℤ◌, pos, length, IfOk, IfErr, Ok, Err, replicate};
 ghost use Rattle.integer_algebra.specs.Sums.{at, none};
-ghost use Rattle.qp_model.specs.Design.{rows};
-ghost use Rattle.qp_model.specs.Parts.{IsDesign, IsNumeratorList, design_of};
+ghost use Rattle.qp_model.specs.problem.Design.{rows};
+ghost use Rattle.qp_model.specs.problem.Parts.{IsDesign, IsNumeratorList, design_of};
 ghost use Rattle.stay_check.specs.FaceForms.{AreFacesFor, faces_of, face_of, HasEqualInputs, FaceHolds};
 ghost use Rattle.stay_check.specs.Staying.{KeepsInBox};
 ghost use Rattle.stay_check.specs.StaySize.{face_size};

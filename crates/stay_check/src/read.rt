@@ -1,6 +1,6 @@
 // The text of faces.
 ghost use Rattle.std.specs.Prelude.{◌≡◌, ◌⊎◌, ◌^◌, ◌<◌, length, IfOk, IfErr, MatchResult};
-ghost use Rattle.qp_model.specs.Parts.{IsDesign, design_of};
+ghost use Rattle.qp_model.specs.problem.Parts.{IsDesign, design_of};
 ghost use Rattle.number_text.specs.declared.text_fault.TextFault.{TextFault};
 ghost use Rattle.number_text.specs.declared.text_fault.TextFault.TheVariants.{Memory};
 ghost use Rattle.stay_check.specs.FaceForms.{FaceNumbers, faces_of, AreFacesFor};

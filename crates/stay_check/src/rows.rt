@@ -2,8 +2,8 @@
 ghost use Rattle.std.specs.Prelude.{◌≡◌, ◌<◌, ◌==◌, ◌*◌, ◌^◌, ◌≤◌, length, get_or, unsigned_abs};
 ghost use Rattle.integer_algebra.specs.Sums.{at};
 ghost use Rattle.integer_algebra.specs.Sizes.{size};
-ghost use Rattle.qp_model.specs.Design.{rows};
-ghost use Rattle.qp_model.specs.Parts.{IsDesign, design_of};
+ghost use Rattle.qp_model.specs.problem.Design.{rows};
+ghost use Rattle.qp_model.specs.problem.Parts.{IsDesign, design_of};
 ghost use Rattle.stay_check.specs.FirstRows.{next_limit, next_limits, is_on_state, limits_on_state, row_at_next, first_rows, first_row};
 ghost use Rattle.stay_check.specs.Columns.{IsColumn, plant_at, limit_at, coefficient};
 

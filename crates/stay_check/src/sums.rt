@@ -1,8 +1,8 @@
 // A face's sums over the first rows, and how far it lets the coordinate of the next state go.
 ghost use Rattle.std.specs.Prelude.{◌≡◌, ◌*◌, ◌/◌, ◌%◌, ◌^◌, ◌<◌, ◌≤◌, ◌==◌, if◌then◌else◌, neg_ℤ, pos, ◌*ℤ◌, ◌↔◌, IsTrue, length, unsigned_abs};
 ghost use Rattle.integer_algebra.specs.Sums.{at};
-ghost use Rattle.qp_model.specs.Design.{rows};
-ghost use Rattle.qp_model.specs.Parts.{IsDesign, IsNumeratorList, design_of};
+ghost use Rattle.qp_model.specs.problem.Design.{rows};
+ghost use Rattle.qp_model.specs.problem.Parts.{IsDesign, IsNumeratorList, design_of};
 ghost use Rattle.stay_check.specs.FirstRows.{first_rows, first_row};
 ghost use Rattle.stay_check.specs.FaceForms.{AreFacesFor, faces_of, face_of, towards, weighted, rest, rest_over_box, greatest_rest, row_left, left_by_rows, reach, farthest, IsOnSide};
 ghost use Rattle.stay_check.specs.Columns.{IsColumn, plant_at, coefficient};

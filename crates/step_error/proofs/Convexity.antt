@@ -14,15 +14,15 @@ use Rattle.integer_algebra.proofs.PowerLaws.{pow_positive, pow-two, four-pow}
 use Rattle.integer_algebra.proofs.Quoting.{by_ring, quotes}
 use Rattle.integer_algebra.proofs.AmountLaws.{amount_none}
 use Rattle.std.proofs.Math.Nat.{one-le-mul}
-use Rattle.qp_model.specs.Design.{Design, entries}
-use Rattle.qp_model.specs.Cost.{cost_scale}
-use Rattle.qp_model.specs.Sound.{IsSound}
-use Rattle.qp_model.specs.Condensed.{IsCondensed}
-use Rattle.qp_model.specs.Condensing.{condensed_of}
-use Rattle.qp_model.specs.Curvature.{curvature}
-use Rattle.qp_model.specs.Quantities.{input_floor}
-use Rattle.qp_model.specs.Form.{Form, IsFormFor, hessian_scale, hessian_radii}
-use Rattle.qp_model.specs.Columns.{solve_matrix}
+use Rattle.qp_model.specs.problem.Design.{Design, entries}
+use Rattle.qp_model.specs.problem.Cost.{cost_scale}
+use Rattle.qp_model.specs.problem.Sound.{IsSound}
+use Rattle.qp_model.specs.form.Condensed.{IsCondensed}
+use Rattle.qp_model.specs.form.Condensing.{condensed_of}
+use Rattle.qp_model.specs.form.Curvature.{curvature}
+use Rattle.qp_model.specs.form.Quantities.{input_floor}
+use Rattle.qp_model.specs.form.Form.{Form, IsFormFor, hessian_scale, hessian_radii}
+use Rattle.qp_model.specs.form.Columns.{solve_matrix}
 use Rattle.qp_model.proofs.CurvatureLaws as laws
 use Rattle.step_error.proofs.Forms.{counted}
 

@@ -9,13 +9,13 @@ use Rattle.integer_algebra.proofs.SizeLaws.{amount_term}
 use Rattle.mat_int.specs.Enclosures.{AreEnclosures}
 use Rattle.mat_int.specs.Matrix.{Matrix, entry_of}
 use Rattle.qp_model.specs.declared.design_parts.DesignParts.{DesignParts}
-use Rattle.qp_model.specs.Controller.{HasShape}
-use Rattle.qp_model.specs.Design.{Design, entries, rows}
-use Rattle.qp_model.specs.Parts.{IsDesign, design_of}
-use Rattle.qp_model.specs.Quantities.{greatest, input_floor}
-use Rattle.qp_model.specs.Form.{Form, spread_of}
-use Rattle.qp_model.specs.Errors as errors
-use Rattle.qp_model.specs.Errors.{pull, combined_bound, trace_sum, gradient_squares, gradient_error, error_sums_of, error_size, state_bound, linear_sum, constant_sum, plan_row_sum}
+use Rattle.qp_model.specs.machine.Controller.{HasShape}
+use Rattle.qp_model.specs.problem.Design.{Design, entries, rows}
+use Rattle.qp_model.specs.problem.Parts.{IsDesign, design_of}
+use Rattle.qp_model.specs.form.Quantities.{greatest, input_floor}
+use Rattle.qp_model.specs.form.Form.{Form, spread_of}
+use Rattle.qp_model.specs.bounds.Errors as errors
+use Rattle.qp_model.specs.bounds.Errors.{pull, combined_bound, trace_sum, gradient_squares, gradient_error, error_sums_of, error_size, state_bound, linear_sum, constant_sum, plan_row_sum}
 use Rattle.qp_model.proofs.SizeFacts.{some_entry, some_row, positive}
 use Rattle.condensed_form.specs.Form.{IsFormIn, held}
 use Rattle.condensed_form.specs.declared.condensed.Condensed.{Condensed}

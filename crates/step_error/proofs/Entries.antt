@@ -8,7 +8,7 @@ use Rattle.integer_algebra.proofs.OrderLaws.{mul-le-mul_left_z, mul-le-mul_right
 use Rattle.integer_algebra.proofs.SumLaws.{total_same, total_add, total_scale, total_mono}
 use Rattle.integer_algebra.proofs.BoundLaws.{within_total, absolute_nonneg}
 use Rattle.integer_algebra.proofs.Quoting.{by_ring, quotes}
-use Rattle.qp_model.specs.GoodSolution.{IsGood}
+use Rattle.qp_model.specs.form.GoodSolution.{IsGood}
 use Rattle.qp_model.proofs.SolutionLaws.{good_entry_times}
 
 -- ---- sums of solutions

@@ -3,7 +3,7 @@ use Rattle.std.proofs.Common.{◌≡◌, ℕ, ◌+◌, ◌*◌, ◌^◌, ◌≤�
 use Rattle.std.proofs.Math.Nat.{mul-le-mul, mul-le-mul_left, mul-le-mul_right, pow-le-pow_right, one-le-mul}
 use Rattle.integer_algebra.specs.Division.{ceil_div}
 use Rattle.integer_algebra.proofs.PowerLaws.{pow-two, pow_positive}
-use Rattle.qp_model.specs.Errors.{ErrorSums, plan_bound, residual_error, radius_error, row_radii, errors_cost, epsilon}
+use Rattle.qp_model.specs.bounds.Errors.{ErrorSums, plan_bound, residual_error, radius_error, row_radii, errors_cost, epsilon}
 use Rattle.step_error.specs.ErrorSums.{rounding_cost, radius_cost}
 use Rattle.step_error.proofs.Ceilings.{ceil_rises, ceil_anti}
 

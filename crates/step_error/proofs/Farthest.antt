@@ -3,7 +3,7 @@ use Rattle.std.proofs.Common.{◌≡◌, ℕ, zero, suc, ◌+◌, ◌<◌, ◌�
 use Rattle.integer_algebra.specs.Sizes.{size, amount}
 use Rattle.integer_algebra.proofs.SizeLaws.{amount_same, amount_term}
 use Rattle.integer_algebra.proofs.AmountLaws.{amount_mono}
-use Rattle.qp_model.specs.Form.{farthest}
+use Rattle.qp_model.specs.form.Form.{farthest}
 
 amount_add : (n : ℕ) (f g : ℕ → ℕ) → amount n (λ i. f i + g i) ≡ amount n f + amount n g
 amount_add zero f g = refl

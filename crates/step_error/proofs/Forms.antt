@@ -13,11 +13,11 @@ use Rattle.integer_algebra.proofs.DivisionLaws.{le-mul-ceil_div, ceil_div-le}
 use Rattle.integer_algebra.proofs.PowerLaws.{pow_positive}
 use Rattle.integer_algebra.proofs.Quoting.{by_ring, quotes}
 use Rattle.integer_algebra.proofs.AmountLaws.{amount_none}
-use Rattle.qp_model.specs.Design.{Design, entries, rows}
-use Rattle.qp_model.specs.Form.{Form, EnclosesDesign, IsFormFor, hessian_radii, linear_radii, plan_radii, state_radii, column_radii}
-use Rattle.qp_model.specs.Sound.{IsSound}
-use Rattle.qp_model.specs.Quantities.{greatest, input_floor}
-use Rattle.qp_model.specs.Errors.{state_bound, error_sums_of, radius_error, row_radii}
+use Rattle.qp_model.specs.problem.Design.{Design, entries, rows}
+use Rattle.qp_model.specs.form.Form.{Form, EnclosesDesign, IsFormFor, hessian_radii, linear_radii, plan_radii, state_radii, column_radii}
+use Rattle.qp_model.specs.problem.Sound.{IsSound}
+use Rattle.qp_model.specs.form.Quantities.{greatest, input_floor}
+use Rattle.qp_model.specs.bounds.Errors.{state_bound, error_sums_of, radius_error, row_radii}
 use Rattle.qp_model.proofs.SizeFacts.{greatest_term}
 use Rattle.step_error.specs.MachineLaws.{row_radius}
 

@@ -14,9 +14,9 @@ use Rattle.integer_algebra.proofs.PowerLaws.{pow_positive}
 use Rattle.integer_algebra.proofs.Quoting.{by_ring, quotes}
 use Rattle.mat_int.specs.Matrix.{Matrix, row_of, entry_of}
 use Rattle.mat_int.proofs.Indices.{dot_is}
-use Rattle.qp_model.specs.Controller.{Numbers, HasShape, IsShaped, plan_length}
-use Rattle.qp_model.specs.Machine.{entry_sum, plan_entry}
-use Rattle.qp_model.specs.Built.{gain_column}
+use Rattle.qp_model.specs.machine.Controller.{Numbers, HasShape, IsShaped, plan_length}
+use Rattle.qp_model.specs.machine.Machine.{entry_sum, plan_entry}
+use Rattle.qp_model.specs.bounds.Built.{gain_column}
 use Rattle.step_error.specs.Machine.{pulls}
 
 -- ---- a branch that is taken, and one that isn't

@@ -8,14 +8,14 @@ use Rattle.integer_algebra.proofs.OrderLaws.{le_by, mul-le-mul_left_z}
 use Rattle.integer_algebra.proofs.SumLaws.{total_scale}
 use Rattle.integer_algebra.proofs.BoundLaws.{within_nonneg, within_more}
 use Rattle.integer_algebra.proofs.Quoting.{by_ring, quotes}
-use Rattle.qp_model.specs.Design.{Design, entries}
-use Rattle.qp_model.specs.Form.{Form}
-use Rattle.qp_model.specs.Controller.{Numbers, IsShaped, plan_length}
-use Rattle.qp_model.specs.Machine.{plan_entry}
-use Rattle.qp_model.specs.GoodSolution.{IsGood}
-use Rattle.qp_model.specs.Columns.{solve_matrix, solve_column}
-use Rattle.qp_model.specs.Errors.{state_bound}
-use Rattle.qp_model.specs.Built.{gain_column, IsDerivedFrom}
+use Rattle.qp_model.specs.problem.Design.{Design, entries}
+use Rattle.qp_model.specs.form.Form.{Form}
+use Rattle.qp_model.specs.machine.Controller.{Numbers, IsShaped, plan_length}
+use Rattle.qp_model.specs.machine.Machine.{plan_entry}
+use Rattle.qp_model.specs.form.GoodSolution.{IsGood}
+use Rattle.qp_model.specs.form.Columns.{solve_matrix, solve_column}
+use Rattle.qp_model.specs.bounds.Errors.{state_bound}
+use Rattle.qp_model.specs.bounds.Built.{gain_column, IsDerivedFrom}
 use Rattle.step_error.specs.Carried.{AreGood, IsRounded}
 use Rattle.step_error.specs.Machine.{pulls}
 use Rattle.step_error.proofs.Forms.{counted}

@@ -1,17 +1,17 @@
 -- The errors of each step of a controller that is made for a design by a form of it.
 use Rattle.std.proofs.Common.{◌≡◌, ℕ, ℤ, List, length, sym, subst}
 use Rattle.integer_algebra.specs.Sums.{at}
-use Rattle.qp_model.specs.Design.{Design}
-use Rattle.qp_model.specs.Sound.{IsSound}
-use Rattle.qp_model.specs.Box.{IsGridState}
-use Rattle.qp_model.specs.Condensed.{IsCondensed}
-use Rattle.qp_model.specs.Condensing.{condensed_of}
-use Rattle.qp_model.specs.Parts.{design_of}
-use Rattle.qp_model.specs.Form.{Form, IsFormFor}
-use Rattle.qp_model.specs.Controller.{Numbers, IsSized}
-use Rattle.qp_model.specs.Built.{IsDerivedFrom}
-use Rattle.qp_model.specs.Quantities.{input_floor}
-use Rattle.qp_model.specs.Errors.{stated_errors}
+use Rattle.qp_model.specs.problem.Design.{Design}
+use Rattle.qp_model.specs.problem.Sound.{IsSound}
+use Rattle.qp_model.specs.problem.Box.{IsGridState}
+use Rattle.qp_model.specs.form.Condensed.{IsCondensed}
+use Rattle.qp_model.specs.form.Condensing.{condensed_of}
+use Rattle.qp_model.specs.problem.Parts.{design_of}
+use Rattle.qp_model.specs.form.Form.{Form, IsFormFor}
+use Rattle.qp_model.specs.machine.Controller.{Numbers, IsSized}
+use Rattle.qp_model.specs.bounds.Built.{IsDerivedFrom}
+use Rattle.qp_model.specs.form.Quantities.{input_floor}
+use Rattle.qp_model.specs.bounds.Errors.{stated_errors}
 use Rattle.qp_model.proofs.SoundLaws.{sound}
 use Rattle.qp_model.proofs.CostLaws.{condensing}
 use Rattle.step_error.specs.MachineLaws.{HasErrors, CarriedLaw}

@@ -14,14 +14,14 @@ use Rattle.integer_algebra.proofs.VectorLaws.{dot_same, dot_scale, dot_scale_rig
 use Rattle.integer_algebra.proofs.DivisionLaws.{le-mul-ceil_div}
 use Rattle.integer_algebra.proofs.PowerLaws.{pow_positive, pow-two}
 use Rattle.integer_algebra.proofs.Quoting.{by_ring, quotes}
-use Rattle.qp_model.specs.Design.{Design, entries, rows}
-use Rattle.qp_model.specs.Cost.{cost}
-use Rattle.qp_model.specs.Residual.{residual, IsFeasible}
-use Rattle.qp_model.specs.Sound.{IsSound}
-use Rattle.qp_model.specs.Quantities.{input_floor}
-use Rattle.qp_model.specs.Controller.{Numbers}
-use Rattle.qp_model.specs.Form.{Form, IsFormFor}
-use Rattle.qp_model.specs.Errors.{gradient_squares, first_cost, radius_error, residual_error, row_radii, ErrorSums, error_sums_of, StepErrors, cost_of_errors}
+use Rattle.qp_model.specs.problem.Design.{Design, entries, rows}
+use Rattle.qp_model.specs.problem.Cost.{cost}
+use Rattle.qp_model.specs.problem.Residual.{residual, IsFeasible}
+use Rattle.qp_model.specs.problem.Sound.{IsSound}
+use Rattle.qp_model.specs.form.Quantities.{input_floor}
+use Rattle.qp_model.specs.machine.Controller.{Numbers}
+use Rattle.qp_model.specs.form.Form.{Form, IsFormFor}
+use Rattle.qp_model.specs.bounds.Errors.{gradient_squares, first_cost, radius_error, residual_error, row_radii, ErrorSums, error_sums_of, StepErrors, cost_of_errors}
 use Rattle.qp_model.proofs.ScalingLaws.{scaling_law}
 use Rattle.step_error.specs.Carried.{Misses}
 use Rattle.step_error.specs.MachineLaws.{machine_scale, row_radius}

@@ -6,20 +6,20 @@ use Rattle.dual_method.specs.Dual.{InBox, distance}
 use Rattle.integer_algebra.proofs.OrderLaws.{le_by, pos_positive, mul-le-mul_left_z, mul_pos_z, cancel-le_z, add-le-add_z}
 use Rattle.integer_algebra.proofs.SumLaws.{total_same, total_scale}
 use Rattle.integer_algebra.proofs.Quoting.{by_ring, quotes}
-use Rattle.qp_model.specs.Design.{Design, entries, rows}
-use Rattle.qp_model.specs.Cost.{cost, cost_scale}
-use Rattle.qp_model.specs.Residual.{residual, residual_scale, IsFeasible}
-use Rattle.qp_model.specs.Scaling.{IsScaledPlan}
-use Rattle.qp_model.specs.Sound.{IsSound}
-use Rattle.qp_model.specs.Parts.{design_of}
-use Rattle.qp_model.specs.Form.{Form, IsFormFor}
-use Rattle.qp_model.specs.Machine.{exponent_of}
-use Rattle.qp_model.specs.Condensing.{condensed_of}
-use Rattle.qp_model.specs.Condensed.{IsCondensed}
-use Rattle.qp_model.specs.Quantities.{input_floor}
-use Rattle.qp_model.specs.Controller.{Numbers, IsShaped}
-use Rattle.qp_model.specs.Built.{IsDerivedFrom}
-use Rattle.qp_model.specs.Errors.{error_sums_of, epsilon, StepErrors, stated_errors, cost_of_errors}
+use Rattle.qp_model.specs.problem.Design.{Design, entries, rows}
+use Rattle.qp_model.specs.problem.Cost.{cost, cost_scale}
+use Rattle.qp_model.specs.problem.Residual.{residual, residual_scale, IsFeasible}
+use Rattle.qp_model.specs.problem.Scaling.{IsScaledPlan}
+use Rattle.qp_model.specs.problem.Sound.{IsSound}
+use Rattle.qp_model.specs.problem.Parts.{design_of}
+use Rattle.qp_model.specs.form.Form.{Form, IsFormFor}
+use Rattle.qp_model.specs.machine.Machine.{exponent_of}
+use Rattle.qp_model.specs.form.Condensing.{condensed_of}
+use Rattle.qp_model.specs.form.Condensed.{IsCondensed}
+use Rattle.qp_model.specs.form.Quantities.{input_floor}
+use Rattle.qp_model.specs.machine.Controller.{Numbers, IsShaped}
+use Rattle.qp_model.specs.bounds.Built.{IsDerivedFrom}
+use Rattle.qp_model.specs.bounds.Errors.{error_sums_of, epsilon, StepErrors, stated_errors, cost_of_errors}
 use Rattle.qp_model.proofs.CostLaws.{condensing}
 use Rattle.qp_model.proofs.ScalingLaws.{scaling_law}
 use Rattle.qp_model.proofs.SoundLaws.{sound}

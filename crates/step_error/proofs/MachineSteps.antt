@@ -13,16 +13,16 @@ use Rattle.integer_algebra.proofs.VectorLaws.{image_scale, dot_scale_right}
 use Rattle.integer_algebra.proofs.BoundLaws.{clamped_cases, clamped_low, clamped_high}
 use Rattle.integer_algebra.proofs.PowerLaws.{pow_positive}
 use Rattle.integer_algebra.proofs.Quoting.{by_ring, quotes}
-use Rattle.qp_model.specs.Design.{Design, entries, rows}
-use Rattle.qp_model.specs.Cost.{cost_scale}
-use Rattle.qp_model.specs.Residual.{residual, residual_scale}
-use Rattle.qp_model.specs.Condensed.{Condensed, slope_at}
-use Rattle.qp_model.specs.Condensing.{condensed_of}
-use Rattle.qp_model.specs.Form.{Form}
-use Rattle.qp_model.specs.Controller.{Numbers, IsShaped}
-use Rattle.qp_model.specs.Machine.{exponent_of, lowering_of, top_of, loaded}
-use Rattle.qp_model.specs.Errors.{radius_error, residual_error, error_sums_of, StepErrors}
-use Rattle.qp_model.specs.Built.{IsDerivedFrom}
+use Rattle.qp_model.specs.problem.Design.{Design, entries, rows}
+use Rattle.qp_model.specs.problem.Cost.{cost_scale}
+use Rattle.qp_model.specs.problem.Residual.{residual, residual_scale}
+use Rattle.qp_model.specs.form.Condensed.{Condensed, slope_at}
+use Rattle.qp_model.specs.form.Condensing.{condensed_of}
+use Rattle.qp_model.specs.form.Form.{Form}
+use Rattle.qp_model.specs.machine.Controller.{Numbers, IsShaped}
+use Rattle.qp_model.specs.machine.Machine.{exponent_of, lowering_of, top_of, loaded}
+use Rattle.qp_model.specs.bounds.Errors.{radius_error, residual_error, error_sums_of, StepErrors}
+use Rattle.qp_model.specs.bounds.Built.{IsDerivedFrom}
 use Rattle.qp_model.proofs.MagnitudeLaws.{top_nonneg}
 use Rattle.qp_model.proofs.ScalingLaws.{scaling_law}
 use Rattle.step_error.specs.Laws.{slant, IsDesignStep}

@@ -5,8 +5,8 @@ use Rattle.std.proofs.Math.IntN.{*ℤ-zero, *ℤ_comm}
 use Rattle.std.proofs.lemmas.List.{get_or_past}
 use Rattle.std.proofs.lemmas.List.FromFn.{length-map-range_with_len, get_or-map-range_with_len}
 use Rattle.integer_algebra.specs.Sums.{total, at}
-use Rattle.qp_model.specs.Controller.{Numbers}
-use Rattle.qp_model.specs.Machine.{lowering_of, raised, plan_entry, plan_of, next_multiplier, after}
+use Rattle.qp_model.specs.machine.Controller.{Numbers}
+use Rattle.qp_model.specs.machine.Machine.{lowering_of, raised, plan_entry, plan_of, next_multiplier, after}
 use Rattle.qp_model.proofs.MagnitudeLaws.{zeros_at}
 
 -- ---- the multipliers

@@ -12,14 +12,14 @@ use Rattle.integer_algebra.proofs.DivisionLaws.{le-mul-ceil_div}
 use Rattle.integer_algebra.proofs.OrderLaws.{mul_nonneg_z}
 use Rattle.integer_algebra.proofs.PowerLaws.{pow_positive}
 use Rattle.dual_method.specs.Dual.{InBox}
-use Rattle.qp_model.specs.Design.{Design, rows}
-use Rattle.qp_model.specs.Box.{IsGridState}
-use Rattle.qp_model.specs.Form.{Form}
-use Rattle.qp_model.specs.Quantities.{greatest}
-use Rattle.qp_model.specs.Controller.{Numbers, IsSized}
-use Rattle.qp_model.specs.Machine.{IsAdmissible, loaded, lowering_of, raised, top_of, plan_of, row_sum, after}
-use Rattle.qp_model.specs.Built.{IsDerivedFrom}
-use Rattle.qp_model.specs.Errors.{state_bound}
+use Rattle.qp_model.specs.problem.Design.{Design, rows}
+use Rattle.qp_model.specs.problem.Box.{IsGridState}
+use Rattle.qp_model.specs.form.Form.{Form}
+use Rattle.qp_model.specs.form.Quantities.{greatest}
+use Rattle.qp_model.specs.machine.Controller.{Numbers, IsSized}
+use Rattle.qp_model.specs.machine.Machine.{IsAdmissible, loaded, lowering_of, raised, top_of, plan_of, row_sum, after}
+use Rattle.qp_model.specs.bounds.Built.{IsDerivedFrom}
+use Rattle.qp_model.specs.bounds.Errors.{state_bound}
 use Rattle.qp_model.proofs.MagnitudeLaws.{top_nonneg, after_multipliers}
 use Rattle.qp_model.proofs.SizeFacts.{greatest_term}
 use Rattle.step_error.proofs.Gradients.{AreReached}

@@ -15,17 +15,17 @@ use Rattle.integer_algebra.proofs.BoundLaws.{absolute_nonneg, within_nonneg}
 use Rattle.integer_algebra.proofs.DivisionLaws.{le-mul-ceil_div}
 use Rattle.integer_algebra.proofs.PowerLaws.{pow_positive}
 use Rattle.integer_algebra.proofs.Quoting.{by_ring, quotes}
-use Rattle.qp_model.specs.Design.{Design, entries, rows}
-use Rattle.qp_model.specs.Sound.{IsSound}
-use Rattle.qp_model.specs.Condensed.{IsCondensed}
-use Rattle.qp_model.specs.Condensing.{condensed_of}
-use Rattle.qp_model.specs.Controller.{Numbers, IsShaped}
-use Rattle.qp_model.specs.Machine.{plan_entry}
-use Rattle.qp_model.specs.Columns.{solve_matrix, solve_column, columns}
-use Rattle.qp_model.specs.Form.{Form, IsFormFor, farthest}
-use Rattle.qp_model.specs.Quantities.{input_floor}
-use Rattle.qp_model.specs.Errors.{state_bound, combined_bound, linear_sum, constant_sum, plan_row_sum, trace_sum, pull, error_sums_of, plan_bound}
-use Rattle.qp_model.specs.Built.{gain_column, HasSizesOf, IsDerivedFrom}
+use Rattle.qp_model.specs.problem.Design.{Design, entries, rows}
+use Rattle.qp_model.specs.problem.Sound.{IsSound}
+use Rattle.qp_model.specs.form.Condensed.{IsCondensed}
+use Rattle.qp_model.specs.form.Condensing.{condensed_of}
+use Rattle.qp_model.specs.machine.Controller.{Numbers, IsShaped}
+use Rattle.qp_model.specs.machine.Machine.{plan_entry}
+use Rattle.qp_model.specs.form.Columns.{solve_matrix, solve_column, columns}
+use Rattle.qp_model.specs.form.Form.{Form, IsFormFor, farthest}
+use Rattle.qp_model.specs.form.Quantities.{input_floor}
+use Rattle.qp_model.specs.bounds.Errors.{state_bound, combined_bound, linear_sum, constant_sum, plan_row_sum, trace_sum, pull, error_sums_of, plan_bound}
+use Rattle.qp_model.specs.bounds.Built.{gain_column, HasSizesOf, IsDerivedFrom}
 use Rattle.step_error.specs.Machine.{pulls}
 use Rattle.step_error.proofs.Gains.{over_columns, own_pull, row_pull, plan_entry_is}
 use Rattle.step_error.proofs.Slants.{state_column, own_column, row_column}

@@ -6,7 +6,7 @@ use Rattle.std.proofs.Math.Nat.{mul-le-mul_left}
 use Rattle.integer_algebra.specs.Sums.{total, at}
 use Rattle.integer_algebra.specs.Bounds.{absolute}
 use Rattle.integer_algebra.proofs.SumLaws.{total_mono, total_const}
-use Rattle.qp_model.specs.Controller.{Numbers}
+use Rattle.qp_model.specs.machine.Controller.{Numbers}
 use Rattle.step_error.specs.Machine.{pulls}
 use Rattle.step_error.proofs.Gains.{over_columns, state_pull, own_pull, row_pull}
 

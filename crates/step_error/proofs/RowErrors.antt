@@ -15,15 +15,15 @@ use Rattle.integer_algebra.proofs.PowerLaws.{pow_positive}
 use Rattle.integer_algebra.proofs.Quoting.{by_ring, quotes}
 use Rattle.mat_int.specs.Matrix.{row_of, entry_of}
 use Rattle.mat_int.proofs.Indices.{dot_is}
-use Rattle.qp_model.specs.Design.{Design, entries, rows}
-use Rattle.qp_model.specs.Residual.{residual, residual_scale}
-use Rattle.qp_model.specs.Condensed.{IsCondensed}
-use Rattle.qp_model.specs.Condensing.{condensed_of}
-use Rattle.qp_model.specs.Controller.{Numbers, IsShaped, plan_length}
-use Rattle.qp_model.specs.Machine.{plan_entry, plan_of, row_sum}
-use Rattle.qp_model.specs.Form.{Form, IsFormFor, rows_scale, plan_radii, state_radii}
-use Rattle.qp_model.specs.Errors.{state_bound}
-use Rattle.qp_model.specs.Built.{IsDerivedFrom}
+use Rattle.qp_model.specs.problem.Design.{Design, entries, rows}
+use Rattle.qp_model.specs.problem.Residual.{residual, residual_scale}
+use Rattle.qp_model.specs.form.Condensed.{IsCondensed}
+use Rattle.qp_model.specs.form.Condensing.{condensed_of}
+use Rattle.qp_model.specs.machine.Controller.{Numbers, IsShaped, plan_length}
+use Rattle.qp_model.specs.machine.Machine.{plan_entry, plan_of, row_sum}
+use Rattle.qp_model.specs.form.Form.{Form, IsFormFor, rows_scale, plan_radii, state_radii}
+use Rattle.qp_model.specs.bounds.Errors.{state_bound}
+use Rattle.qp_model.specs.bounds.Built.{IsDerivedFrom}
 use Rattle.step_error.proofs.Forms.{counted, dot_apart}
 use Rattle.step_error.proofs.Gains.{row_length}
 use Rattle.step_error.proofs.Slopes.{within_cancel, within_factor, within_same}

@@ -3,11 +3,11 @@ use Rattle.std.proofs.Common.{◌≡◌, ℕ, ◌+◌, ◌*◌, ◌^◌, ◌<◌
 use Rattle.integer_algebra.specs.Division.{ceil_div}
 use Rattle.integer_algebra.specs.Sizes.{amount}
 use Rattle.integer_algebra.proofs.SizeLaws.{amount_same}
-use Rattle.qp_model.specs.Design.{Design, entries}
-use Rattle.qp_model.specs.Form.{Form, HaveSameNumbers, farthest, hessian_radii, linear_radii, plan_radii, state_radii, column_radii}
-use Rattle.qp_model.specs.Quantities.{greatest, input_floor}
-use Rattle.qp_model.specs.Errors as errors
-use Rattle.qp_model.specs.Errors.{linear_sum, constant_sum, plan_row_sum, trace_sum, combined_bound, gradient_error, gradient_squares, first_cost, pull, error_sums_of, error_size, state_bound, plan_bound, residual_error, radius_error, row_radii}
+use Rattle.qp_model.specs.problem.Design.{Design, entries}
+use Rattle.qp_model.specs.form.Form.{Form, HaveSameNumbers, farthest, hessian_radii, linear_radii, plan_radii, state_radii, column_radii}
+use Rattle.qp_model.specs.form.Quantities.{greatest, input_floor}
+use Rattle.qp_model.specs.bounds.Errors as errors
+use Rattle.qp_model.specs.bounds.Errors.{linear_sum, constant_sum, plan_row_sum, trace_sum, combined_bound, gradient_error, gradient_squares, first_cost, pull, error_sums_of, error_size, state_bound, plan_bound, residual_error, radius_error, row_radii}
 use Rattle.qp_model.proofs.SizeFacts.{greatest_same}
 
 pub amount_over : (m n : ℕ) (f g : ℕ → ℕ) → m ≡ n → ((i : ℕ) → i < n → f i ≡ g i) → amount m f ≡ amount n g

@@ -7,14 +7,14 @@ use Rattle.integer_algebra.proofs.SumLaws.{total_same, total_scale}
 use Rattle.integer_algebra.proofs.VectorLaws.{image_scale}
 use Rattle.integer_algebra.proofs.PowerLaws.{pow-two, four-pow}
 use Rattle.integer_algebra.proofs.Quoting.{by_ring, quotes}
-use Rattle.qp_model.specs.Design.{Design, entries, rows}
-use Rattle.qp_model.specs.Cost.{cost_scale}
-use Rattle.qp_model.specs.Residual.{residual_scale}
-use Rattle.qp_model.specs.Condensing.{condensed_of}
-use Rattle.qp_model.specs.Controller.{Numbers}
-use Rattle.qp_model.specs.Form.{Form, hessian_scale, rows_scale}
-use Rattle.qp_model.specs.Columns.{solve_column}
-use Rattle.qp_model.specs.Built.{HasSizesOf}
+use Rattle.qp_model.specs.problem.Design.{Design, entries, rows}
+use Rattle.qp_model.specs.problem.Cost.{cost_scale}
+use Rattle.qp_model.specs.problem.Residual.{residual_scale}
+use Rattle.qp_model.specs.form.Condensing.{condensed_of}
+use Rattle.qp_model.specs.machine.Controller.{Numbers}
+use Rattle.qp_model.specs.form.Form.{Form, hessian_scale, rows_scale}
+use Rattle.qp_model.specs.form.Columns.{solve_column}
+use Rattle.qp_model.specs.bounds.Built.{HasSizesOf}
 use Rattle.step_error.specs.Laws.{slant}
 use Rattle.step_error.specs.Machine.{pulls}
 use Rattle.step_error.proofs.Forms.{counted}

@@ -13,19 +13,19 @@ use Rattle.integer_algebra.proofs.BoundLaws.{within_more, within_sum}
 use Rattle.integer_algebra.proofs.DivisionLaws.{le-mul-ceil_div}
 use Rattle.integer_algebra.proofs.PowerLaws.{pow_positive, pow-two}
 use Rattle.integer_algebra.proofs.Quoting.{by_ring, quotes}
-use Rattle.qp_model.specs.Design.{Design, entries, rows}
-use Rattle.qp_model.specs.Sound.{IsSound}
-use Rattle.qp_model.specs.Quantities.{input_floor}
-use Rattle.qp_model.specs.Cost.{cost_scale}
-use Rattle.qp_model.specs.Residual.{residual_scale}
-use Rattle.qp_model.specs.Condensed.{Condensed}
-use Rattle.qp_model.specs.Condensing.{condensed_of}
-use Rattle.qp_model.specs.Controller.{Numbers, IsShaped}
-use Rattle.qp_model.specs.Machine.{plan_entry}
-use Rattle.qp_model.specs.Columns.{solve_matrix, solve_column}
-use Rattle.qp_model.specs.Form.{Form, IsFormFor, hessian_scale, rows_scale, farthest, hessian_radii, linear_radii, column_radii}
-use Rattle.qp_model.specs.Errors.{state_bound, combined_bound, gradient_error, error_sums_of, radius_error}
-use Rattle.qp_model.specs.Built.{IsDerivedFrom}
+use Rattle.qp_model.specs.problem.Design.{Design, entries, rows}
+use Rattle.qp_model.specs.problem.Sound.{IsSound}
+use Rattle.qp_model.specs.form.Quantities.{input_floor}
+use Rattle.qp_model.specs.problem.Cost.{cost_scale}
+use Rattle.qp_model.specs.problem.Residual.{residual_scale}
+use Rattle.qp_model.specs.form.Condensed.{Condensed}
+use Rattle.qp_model.specs.form.Condensing.{condensed_of}
+use Rattle.qp_model.specs.machine.Controller.{Numbers, IsShaped}
+use Rattle.qp_model.specs.machine.Machine.{plan_entry}
+use Rattle.qp_model.specs.form.Columns.{solve_matrix, solve_column}
+use Rattle.qp_model.specs.form.Form.{Form, IsFormFor, hessian_scale, rows_scale, farthest, hessian_radii, linear_radii, column_radii}
+use Rattle.qp_model.specs.bounds.Errors.{state_bound, combined_bound, gradient_error, error_sums_of, radius_error}
+use Rattle.qp_model.specs.bounds.Built.{IsDerivedFrom}
 use Rattle.step_error.specs.Laws.{slant}
 use Rattle.step_error.specs.Machine.{pulls}
 use Rattle.step_error.proofs.Gradients.{AreReached, gradient_within}

@@ -3,19 +3,19 @@ use Rattle.std.proofs.Common.{◌≡◌, ℕ, ◌+◌, ◌*◌, ◌^◌, ◌<◌
 use Rattle.integer_algebra.specs.Sums.{image, coimage, at}
 use Rattle.integer_algebra.specs.Bounds.{IsWithin}
 use Rattle.integer_algebra.proofs.VectorLaws.{image_same}
-use Rattle.qp_model.specs.Design.{Design, entries, rows}
-use Rattle.qp_model.specs.Sound.{IsSound}
-use Rattle.qp_model.specs.Box.{IsGridState}
-use Rattle.qp_model.specs.Cost.{cost_scale}
-use Rattle.qp_model.specs.Residual.{residual, residual_scale}
-use Rattle.qp_model.specs.Condensed.{Condensed, IsCondensed, slope_at}
-use Rattle.qp_model.specs.Condensing.{condensed_of}
-use Rattle.qp_model.specs.Controller.{Numbers, IsSized}
-use Rattle.qp_model.specs.Machine.{loaded, raised, plan_entry}
-use Rattle.qp_model.specs.Quantities.{input_floor}
-use Rattle.qp_model.specs.Form.{Form, IsFormFor}
-use Rattle.qp_model.specs.Errors.{gradient_error, error_sums_of, plan_bound, radius_error, residual_error, stated_errors}
-use Rattle.qp_model.specs.Built.{IsDerivedFrom}
+use Rattle.qp_model.specs.problem.Design.{Design, entries, rows}
+use Rattle.qp_model.specs.problem.Sound.{IsSound}
+use Rattle.qp_model.specs.problem.Box.{IsGridState}
+use Rattle.qp_model.specs.problem.Cost.{cost_scale}
+use Rattle.qp_model.specs.problem.Residual.{residual, residual_scale}
+use Rattle.qp_model.specs.form.Condensed.{Condensed, IsCondensed, slope_at}
+use Rattle.qp_model.specs.form.Condensing.{condensed_of}
+use Rattle.qp_model.specs.machine.Controller.{Numbers, IsSized}
+use Rattle.qp_model.specs.machine.Machine.{loaded, raised, plan_entry}
+use Rattle.qp_model.specs.form.Quantities.{input_floor}
+use Rattle.qp_model.specs.form.Form.{Form, IsFormFor}
+use Rattle.qp_model.specs.bounds.Errors.{gradient_error, error_sums_of, plan_bound, radius_error, residual_error, stated_errors}
+use Rattle.qp_model.specs.bounds.Built.{IsDerivedFrom}
 use Rattle.step_error.specs.Laws.{slant}
 use Rattle.step_error.specs.MachineLaws.{multipliers_at, raised_at, plan_at, used_residual, machine_scale, lifted_plan, row_radius, HasErrors}
 use Rattle.step_error.proofs.Forms.{counted}

@@ -7,12 +7,12 @@ use Rattle.std.specs.Result.{OkIff}
 use Rattle.qp_model.specs.declared.design_parts.DesignParts.{DesignParts}
 use Rattle.qp_model.specs.declared.quantity.Wide.{Wide}
 use Rattle.qp_model.specs.declared.quantity.Quantity.TheVariants.{Error}
-use Rattle.qp_model.specs.Design.{Design}
-use Rattle.qp_model.specs.Parts.{IsDesign, design_of}
-use Rattle.qp_model.specs.Form.{Form, IsFormFor}
-use Rattle.qp_model.specs.Class.{form_in}
-use Rattle.qp_model.specs.Errors as errors
-use Rattle.qp_model.specs.Errors.{error_sums_of, error_size}
+use Rattle.qp_model.specs.problem.Design.{Design}
+use Rattle.qp_model.specs.problem.Parts.{IsDesign, design_of}
+use Rattle.qp_model.specs.form.Form.{Form, IsFormFor}
+use Rattle.qp_model.specs.form.Class.{form_in}
+use Rattle.qp_model.specs.bounds.Errors as errors
+use Rattle.qp_model.specs.bounds.Errors.{error_sums_of, error_size}
 use Rattle.condensed_form.specs.Form.{IsFormIn, IsFormOf, held}
 use Rattle.condensed_form.specs.declared.condensed.Condensed.{Condensed}
 use Rattle.step_error.specs.declared.sums.ErrorSums.{ErrorSums}

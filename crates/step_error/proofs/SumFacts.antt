@@ -12,12 +12,12 @@ use Rattle.integer_algebra.specs.Sums.{at}
 use Rattle.integer_algebra.specs.Division.{ceil_div}
 use Rattle.integer_algebra.proofs.PowerLaws.{four-pow, pow_positive}
 use Rattle.qp_model.specs.declared.design_parts.DesignParts.{DesignParts}
-use Rattle.qp_model.specs.Design.{Design, entries, rows}
-use Rattle.qp_model.specs.Parts.{IsDesign, design_of}
-use Rattle.qp_model.specs.Form.{Form, IsFormFor, spread_of}
-use Rattle.qp_model.specs.Quantities.{input_floor}
-use Rattle.qp_model.specs.Errors as errors
-use Rattle.qp_model.specs.Errors.{plan_bound, residual_error, radius_error, row_radii, errors_cost, error_sums_of, error_size, pull, gradient_error, gradient_squares}
+use Rattle.qp_model.specs.problem.Design.{Design, entries, rows}
+use Rattle.qp_model.specs.problem.Parts.{IsDesign, design_of}
+use Rattle.qp_model.specs.form.Form.{Form, IsFormFor, spread_of}
+use Rattle.qp_model.specs.form.Quantities.{input_floor}
+use Rattle.qp_model.specs.bounds.Errors as errors
+use Rattle.qp_model.specs.bounds.Errors.{plan_bound, residual_error, radius_error, row_radii, errors_cost, error_sums_of, error_size, pull, gradient_error, gradient_squares}
 use Rattle.qp_model.proofs.SizeFacts.{some_row, some_entry, positive}
 use Rattle.qp_model.proofs.SoundLaws.{least-met, weight_at}
 use Rattle.qp_model.proofs.VersionLaws.{design_states_le, design_stages_le}

@@ -11,20 +11,20 @@ use Rattle.integer_algebra.specs.Division.{round_of}
 use Rattle.integer_algebra.proofs.OrderLaws.{le_by, square_nonneg_z, mul-le-mul_left_z}
 use Rattle.integer_algebra.proofs.Quoting.{by_ring, quotes}
 use Rattle.mat_int.specs.Matrix.{Matrix, entry_of}
-use Rattle.qp_model.specs.Design.{Design, LimitRow}
-use Rattle.qp_model.specs.Sound.{IsSound}
-use Rattle.qp_model.specs.Box.{IsGridState}
-use Rattle.qp_model.specs.Curvature.{AreExponents, curvature, row_change}
-use Rattle.qp_model.specs.GoodSolution.{IsGood}
-use Rattle.qp_model.specs.Columns.{columns, solve_matrix, solve_column}
-use Rattle.qp_model.specs.Quantities.{input_floor}
-use Rattle.qp_model.specs.Errors.{stated_errors}
-use Rattle.qp_model.specs.Form.{Form, IsFormFor, exact_form}
-use Rattle.qp_model.specs.Machine.{exponent_of}
+use Rattle.qp_model.specs.problem.Design.{Design, LimitRow}
+use Rattle.qp_model.specs.problem.Sound.{IsSound}
+use Rattle.qp_model.specs.problem.Box.{IsGridState}
+use Rattle.qp_model.specs.form.Curvature.{AreExponents, curvature, row_change}
+use Rattle.qp_model.specs.form.GoodSolution.{IsGood}
+use Rattle.qp_model.specs.form.Columns.{columns, solve_matrix, solve_column}
+use Rattle.qp_model.specs.form.Quantities.{input_floor}
+use Rattle.qp_model.specs.bounds.Errors.{stated_errors}
+use Rattle.qp_model.specs.form.Form.{Form, IsFormFor, exact_form}
+use Rattle.qp_model.specs.machine.Machine.{exponent_of}
 use Rattle.qp_model.proofs.FormLaws.{exact_form_sound}
-use Rattle.qp_model.specs.Condensing.{condensed_of}
-use Rattle.qp_model.specs.Controller.{Numbers, IsShaped, IsSized}
-use Rattle.qp_model.specs.Built.{gain_column, HasSizesOf, IsDerivedFrom}
+use Rattle.qp_model.specs.form.Condensing.{condensed_of}
+use Rattle.qp_model.specs.machine.Controller.{Numbers, IsShaped, IsSized}
+use Rattle.qp_model.specs.bounds.Built.{gain_column, HasSizesOf, IsDerivedFrom}
 use Rattle.qp_model.proofs.CostLaws.{condensing}
 use Rattle.step_error.specs.MachineLaws.{raised_at, plan_at, used_residual, HasErrors}
 use Rattle.step_error.proofs.Slopes.{within_cancel, within_same}

@@ -3,12 +3,12 @@ use Rattle.std.specs.Prelude.{◌≡◌, ℕ, ◌+◌, ◌*◌, ◌^◌, ◌≤�
 use Rattle.integer_algebra.specs.Division.{ceil_div}
 use Rattle.integer_algebra.specs.Sizes.{amount}
 use Rattle.mat_int.specs.Matrix.{Matrix, entry_of}
-use Rattle.qp_model.specs.Design.{Design}
-use Rattle.qp_model.specs.Parts.{IsDesign, design_of}
-use Rattle.qp_model.specs.Form.{Form, IsFormFor, spread_of, farthest, hessian_radii, linear_radii, plan_radii, state_radii, column_radii}
-use Rattle.qp_model.specs.Quantities.{greatest}
-use Rattle.qp_model.specs.Errors as errors
-use Rattle.qp_model.specs.Errors.{error_sums_of, error_size, plan_bound, residual_error, radius_error, row_radii}
+use Rattle.qp_model.specs.problem.Design.{Design}
+use Rattle.qp_model.specs.problem.Parts.{IsDesign, design_of}
+use Rattle.qp_model.specs.form.Form.{Form, IsFormFor, spread_of, farthest, hessian_radii, linear_radii, plan_radii, state_radii, column_radii}
+use Rattle.qp_model.specs.form.Quantities.{greatest}
+use Rattle.qp_model.specs.bounds.Errors as errors
+use Rattle.qp_model.specs.bounds.Errors.{error_sums_of, error_size, plan_bound, residual_error, radius_error, row_radii}
 use Rattle.qp_model.specs.declared.design_parts.DesignParts.{DesignParts}
 use Rattle.step_error.specs.declared.sums.ErrorSums.{ErrorSums}
 use Rattle.step_error.specs.declared.radii.Radii.{Radii}

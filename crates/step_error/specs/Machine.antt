@@ -1,7 +1,7 @@
 -- The machine's numbers, as the method's.
 use Rattle.std.specs.Prelude.{ℕ, ◌+◌, ◌-◌, ◌^◌, ℤ, pos, ◌*ℤ◌, List, nat_lt, ◌==◌, if◌then◌else◌}
 use Rattle.integer_algebra.specs.Sums.{at}
-use Rattle.qp_model.specs.Controller.{Numbers}
+use Rattle.qp_model.specs.machine.Controller.{Numbers}
 
 -- what the gains of each column are times, over 2^(2 fraction_bits + step_exponent): the state, 1, and the multipliers, which are over
 -- 2^(fraction_bits + step_exponent)

@@ -4,18 +4,18 @@ use Rattle.integer_algebra.specs.Sums.{at, total, dot, square}
 use Rattle.integer_algebra.specs.Bounds.{IsWithin}
 use Rattle.integer_algebra.specs.Division.{floor_of}
 use Rattle.dual_method.specs.Dual.{InBox}
-use Rattle.qp_model.specs.Design.{Design, entries, rows}
-use Rattle.qp_model.specs.Parts.{IsDesign, design_of}
-use Rattle.qp_model.specs.Form.{Form, IsFormFor, plan_radii, state_radii}
-use Rattle.qp_model.specs.Box.{IsGridState}
-use Rattle.qp_model.specs.Cost.{cost, cost_scale}
-use Rattle.qp_model.specs.Residual.{residual, residual_scale, IsFeasible}
-use Rattle.qp_model.specs.Condensing.{condensed_of}
-use Rattle.qp_model.specs.Controller.{Numbers}
-use Rattle.qp_model.specs.AbsoluteSums.{IsController}
-use Rattle.qp_model.specs.Machine.{exponent_of, raised, loaded, plan_of, row_sum, after, average_denominator, averaged_plan}
-use Rattle.qp_model.specs.Built.{IsDerivedFrom}
-use Rattle.qp_model.specs.Errors.{state_bound, error_sums_of, radius_error, residual_error, epsilon, StepErrors, stated_errors, cost_of_errors}
+use Rattle.qp_model.specs.problem.Design.{Design, entries, rows}
+use Rattle.qp_model.specs.problem.Parts.{IsDesign, design_of}
+use Rattle.qp_model.specs.form.Form.{Form, IsFormFor, plan_radii, state_radii}
+use Rattle.qp_model.specs.problem.Box.{IsGridState}
+use Rattle.qp_model.specs.problem.Cost.{cost, cost_scale}
+use Rattle.qp_model.specs.problem.Residual.{residual, residual_scale, IsFeasible}
+use Rattle.qp_model.specs.form.Condensing.{condensed_of}
+use Rattle.qp_model.specs.machine.Controller.{Numbers}
+use Rattle.qp_model.specs.machine.AbsoluteSums.{IsController}
+use Rattle.qp_model.specs.machine.Machine.{exponent_of, raised, loaded, plan_of, row_sum, after, average_denominator, averaged_plan}
+use Rattle.qp_model.specs.bounds.Built.{IsDerivedFrom}
+use Rattle.qp_model.specs.bounds.Errors.{state_bound, error_sums_of, radius_error, residual_error, epsilon, StepErrors, stated_errors, cost_of_errors}
 use Rattle.qp_model.specs.declared.design_parts.DesignParts.{DesignParts}
 use Rattle.step_error.specs.Laws.{slant}
 

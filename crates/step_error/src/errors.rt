@@ -1,6 +1,6 @@
 // The bounds of the rounding errors at a number of fraction bits.
 ghost use Rattle.std.specs.Prelude.{◌≡◌, pos, ◌≤◌, unsigned_abs};
-ghost use Rattle.qp_model.specs.Errors.{plan_bound, residual_error, radius_error, errors_cost, epsilon};
+ghost use Rattle.qp_model.specs.bounds.Errors.{plan_bound, residual_error, radius_error, errors_cost, epsilon};
 ghost use Rattle.step_error.specs.ErrorSums.{AreSums, sums_of, rounding_cost, radius_cost};
 
 use crate::sums::{ErrorSums, spread};

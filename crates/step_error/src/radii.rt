@@ -4,9 +4,9 @@ ghost use Rattle.integer_algebra.specs.Sums.{at};
 ghost use Rattle.integer_algebra.specs.Sizes.{size, amount};
 ghost use Rattle.mat_int.specs.Enclosures.{AreEnclosures};
 ghost use Rattle.mat_int.specs.Matrix.{entry_of};
-ghost use Rattle.qp_model.specs.Form.{farthest};
-ghost use Rattle.qp_model.specs.Parts.{design_of};
-ghost use Rattle.qp_model.specs.Quantities.{greatest};
+ghost use Rattle.qp_model.specs.form.Form.{farthest};
+ghost use Rattle.qp_model.specs.problem.Parts.{design_of};
+ghost use Rattle.qp_model.specs.form.Quantities.{greatest};
 ghost use Rattle.condensed_form.specs.Form.{IsFormOf, held};
 ghost use Rattle.step_error.specs.ErrorSums.{AreRadii, HaveRoom, farthest_entry};
 

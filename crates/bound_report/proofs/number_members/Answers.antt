@@ -2,7 +2,7 @@ use Rattle.std.proofs.Common.{◌≡◌, ◌∙◌, ◌++◌, ◌∷◌, [], ℕ
 use Rattle.std.specs.Fmt.{signed_decimal}
 use Rattle.serde_json.specs.Data.{Members, string, put}
 use Rattle.serde_json.specs.View.{members_view}
-use Rattle.qp_model.specs.Printed.{printed}
+use Rattle.qp_model.specs.bounds.Printed.{printed}
 use Rattle.bound_report.specs.Report.{Figure, One, first_members, last_members}
 use Rattle.bound_report.specs.Document.{value_of}
 use Rattle.bound_report.specs.declared.KeyedNumber.{KeyedNumber}

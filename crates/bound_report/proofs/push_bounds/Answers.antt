@@ -3,7 +3,7 @@ use Rattle.std.specs.Int.{w128}
 use Rattle.std.proofs.lemmas.Int.{to_z-of_z}
 use Rattle.std.proofs.lemmas.Result.{on_ok_weaker}
 use Rattle.number_text.specs.Lines.{line_of, text_of}
-use Rattle.qp_model.specs.Printed.{printed}
+use Rattle.qp_model.specs.bounds.Printed.{printed}
 use Rattle.bound_report.specs.Report.{violation_lines}
 use Rattle.bound_report.proofs.Growing.{lines_pushed}
 use Rattle.bound_report.proofs.push_bounds.Goals as goal

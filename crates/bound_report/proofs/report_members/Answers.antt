@@ -3,7 +3,7 @@ use Rattle.serde_json.specs.Data.{array, put}
 use Rattle.serde_json.specs.View.{view, members_view}
 use Rattle.serde_json.specs.declared.value.Value.{Array}
 use Rattle.serde_json.proofs.Views.{view-Array}
-use Rattle.qp_model.specs.Printed.{printed}
+use Rattle.qp_model.specs.bounds.Printed.{printed}
 use Rattle.bound_report.specs.Report.{Figure, first_members, last_members}
 use Rattle.bound_report.specs.Document.{strings_of, members_of}
 use Rattle.bound_report.proofs.RowLines.{rows_member}

@@ -1,7 +1,7 @@
 use Rattle.std.proofs.Common.{rules, ◌≡◌, ◌++◌, ◌∷◌, [], ◌∙◌, string_bytes, ℕ, List, ap}
 use Rattle.std.specs.Prelude.{codes}
 use Rattle.number_text.specs.Lines.{text_of}
-use Rattle.qp_model.specs.Printed.{printed}
+use Rattle.qp_model.specs.bounds.Printed.{printed}
 use Rattle.bound_report.specs.Report.{report_head, bound_lines}
 use Rattle.bound_report.proofs.Growing.{pushed}
 use Rattle.bound_report.proofs.report_text.Goals as goal

@@ -2,8 +2,8 @@ use Rattle.std.proofs.Common.{◌*◌, ◌^◌, ◌<◌, pos, arith, ap, ◌∙�
 use Rattle.std.specs.Int.{w128}
 use Rattle.std.proofs.lemmas.Int.{to_z-of_z, fits_signed_from_abs}
 use Rattle.std.proofs.lemmas.Nat.{mul-lt, pow_below}
-use Rattle.qp_model.specs.Controller.{Numbers}
-use Rattle.qp_model.specs.Machine.{average_denominator}
+use Rattle.qp_model.specs.machine.Controller.{Numbers}
+use Rattle.qp_model.specs.machine.Machine.{average_denominator}
 use Rattle.primal_average.proofs.denominator.Goals as goal
 
 pub scaled-requires-clause-fits : goal.scaled-requires-clause-fits

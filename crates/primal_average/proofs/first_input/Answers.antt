@@ -1,5 +1,5 @@
 use Rattle.std.proofs.Common.{◌<◌, ◌∙◌, subst, arith}
-use Rattle.qp_model.specs.Controller.{Numbers, plan_length}
+use Rattle.qp_model.specs.machine.Controller.{Numbers, plan_length}
 use Rattle.primal_average.proofs.first_input.Goals as goal
 
 pub sum-requires : goal.sum-requires

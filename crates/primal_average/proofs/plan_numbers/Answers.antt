@@ -4,7 +4,7 @@ use Rattle.std.specs.Int.{w128}
 use Rattle.std.proofs.lemmas.Int.{to_z-of_z}
 use Rattle.std.proofs.lemmas.List.FromFn.{map-range_with_len_more, fill_by_all}
 use Rattle.integer_algebra.specs.Sums.{at}
-use Rattle.qp_model.specs.Machine.{average_denominator, averaged_plan, loaded, after}
+use Rattle.qp_model.specs.machine.Machine.{average_denominator, averaged_plan, loaded, after}
 use Rattle.overflow_check.proofs.Runs.{after_sums_length}
 use Rattle.primal_average.proofs.plan_numbers.Goals as goal
 

@@ -1,7 +1,7 @@
 use Rattle.std.proofs.Common.{◌≡◌, ◌∷◌, length, map, pos}
 use Rattle.std.specs.List.{range_with_len}
 use Rattle.integer_algebra.specs.Sums.{at}
-use Rattle.qp_model.specs.Machine.{average_denominator, averaged_plan}
+use Rattle.qp_model.specs.machine.Machine.{average_denominator, averaged_plan}
 use Rattle.primal_average.proofs.plan_numbers.Given as goal
 
 abbrev pub invariant-loop-j : goal.invariant-loop-j

@@ -4,7 +4,7 @@ use Rattle.std.proofs.lemmas.Int.{to_z-of_z}
 use Rattle.std.proofs.lemmas.List.{length_push}
 use Rattle.integer_algebra.specs.Sizes.{size}
 use Rattle.mat_int.specs.Matrix.{Matrix}
-use Rattle.qp_model.specs.Columns.{solve_matrix}
+use Rattle.qp_model.specs.form.Columns.{solve_matrix}
 use Rattle.condensed_form.specs.Form.{held}
 use Rattle.qp_model.proofs.SizeFacts.{greatest_term}
 use Rattle.approx_inverse.proofs.SystemLaws.{matrix_more}

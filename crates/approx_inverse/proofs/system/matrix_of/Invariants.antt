@@ -1,6 +1,6 @@
 use Rattle.std.proofs.Common.{◌≡◌, ℕ, ◌<◌, length}
 use Rattle.mat_int.specs.Matrix.{entry_of}
-use Rattle.qp_model.specs.Columns.{solve_matrix}
+use Rattle.qp_model.specs.form.Columns.{solve_matrix}
 use Rattle.condensed_form.specs.Form.{held}
 use Rattle.approx_inverse.proofs.system.matrix_of.Given as goal
 

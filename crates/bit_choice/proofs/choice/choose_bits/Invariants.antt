@@ -1,5 +1,5 @@
 use Rattle.std.proofs.Common.{ℕ, ◌<◌, ◌≤◌, unsigned_abs}
-use Rattle.qp_model.specs.Errors.{epsilon}
+use Rattle.qp_model.specs.bounds.Errors.{epsilon}
 use Rattle.step_error.specs.ErrorSums.{sums_of}
 use Rattle.bit_choice.proofs.choice.choose_bits.Given as goal
 

@@ -1,7 +1,7 @@
 use Rattle.std.proofs.Common.{slice_index_or}
 use Rattle.integer_algebra.specs.Sums.{at}
 use Rattle.mat_int.specs.Lines.{lists}
-use Rattle.qp_model.specs.Runs.{Holds}
+use Rattle.qp_model.specs.problem.Runs.{Holds}
 use Rattle.cell_split.specs.Cuts.{part_low}
 use Rattle.cell_split.specs.Cells.{cuts_of}
 use Rattle.cell_split.proofs.cell.low_ends.Given as goal

@@ -1,7 +1,7 @@
 use Rattle.std.proofs.Common.{map, arith}
 use Rattle.csv.specs.Records.{fields_of}
 use Rattle.mat_int.specs.Lines.{lists}
-use Rattle.qp_model.specs.Parts.{design_of}
+use Rattle.qp_model.specs.problem.Parts.{design_of}
 use Rattle.policy_file.proofs.RecordFacts.{records_few}
 use Rattle.policy_file.proofs.TextFacts.{records_count}
 use Rattle.std.proofs.lemmas.List.{length-map}

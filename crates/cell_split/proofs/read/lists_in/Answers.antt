@@ -6,7 +6,7 @@ use Rattle.std.proofs.lemmas.List.{get_or_read, length-map}
 use Rattle.csv.specs.Records.{fields_of}
 use Rattle.mat_int.specs.Lines.{lists}
 use Rattle.integer_algebra.specs.Sums.{at}
-use Rattle.qp_model.specs.Parts.{design_of}
+use Rattle.qp_model.specs.problem.Parts.{design_of}
 use Rattle.policy_file.proofs.TextFacts.{passed_on}
 use Rattle.cell_split.proofs.TextFacts.{one_more, ended, first_fault}
 use Rattle.cell_split.proofs.read.lists_in.Goals as goal

@@ -1,4 +1,4 @@
-use Rattle.qp_model.specs.Parts.{design_of}
+use Rattle.qp_model.specs.problem.Parts.{design_of}
 use Rattle.cell_split.proofs.TextFacts.{all_are_cuts}
 use Rattle.cell_split.proofs.UniqueFacts.{cuts_told}
 use Rattle.cell_split.proofs.read.read_cuts.Goals as goal

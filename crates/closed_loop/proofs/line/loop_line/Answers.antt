@@ -5,8 +5,8 @@ use Rattle.std.proofs.lemmas.Int.{to_z-of_z}
 use Rattle.std.proofs.lemmas.List.{get_or-take, length-take-le}
 use Rattle.std.proofs.lemmas.List.FromFn.{map-range_with_len_more, fill_by_all}
 use Rattle.integer_algebra.specs.Sums.{at}
-use Rattle.qp_model.specs.AbsoluteSums.{IsController}
-use Rattle.qp_model.specs.Machine.{average_denominator, averaged_plan, loaded}
+use Rattle.qp_model.specs.machine.AbsoluteSums.{IsController}
+use Rattle.qp_model.specs.machine.Machine.{average_denominator, averaged_plan, loaded}
 use Rattle.overflow_check.proofs.Runs.{after_sums_length}
 use Rattle.closed_loop.proofs.Reaches.{inputs_le}
 use Rattle.closed_loop.proofs.line.loop_line.Goals as goal

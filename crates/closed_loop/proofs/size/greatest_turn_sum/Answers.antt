@@ -1,7 +1,7 @@
 use Rattle.std.proofs.Common.{◌<◌, arith}
-use Rattle.qp_model.specs.Controller.{numbers}
-use Rattle.qp_model.specs.Parts.{design_of}
-use Rattle.qp_model.specs.LoopSize.{turn_absolute_sum}
+use Rattle.qp_model.specs.machine.Controller.{numbers}
+use Rattle.qp_model.specs.problem.Parts.{design_of}
+use Rattle.qp_model.specs.machine.LoopSize.{turn_absolute_sum}
 use Rattle.qp_model.proofs.SizeFacts.{greatest_term}
 use Rattle.closed_loop.proofs.size.greatest_turn_sum.Goals as goal
 

@@ -1,8 +1,8 @@
 use Rattle.std.proofs.Common.{◌≡◌, ◌^◌, ◌≤◌}
-use Rattle.qp_model.specs.Controller.{numbers}
-use Rattle.qp_model.specs.Parts.{design_of}
-use Rattle.qp_model.specs.Quantities.{greatest}
-use Rattle.qp_model.specs.LoopSize.{turn_absolute_sum}
+use Rattle.qp_model.specs.machine.Controller.{numbers}
+use Rattle.qp_model.specs.problem.Parts.{design_of}
+use Rattle.qp_model.specs.form.Quantities.{greatest}
+use Rattle.qp_model.specs.machine.LoopSize.{turn_absolute_sum}
 use Rattle.closed_loop.proofs.size.greatest_turn_sum.Given as goal
 
 abbrev pub invariant-loop-i : goal.invariant-loop-i

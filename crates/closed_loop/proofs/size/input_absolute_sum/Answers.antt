@@ -1,8 +1,8 @@
 use Rattle.std.proofs.Common.{◌*◌, ◌<◌, ℕ, unsigned_abs, slice_index_or, arith}
 use Rattle.integer_algebra.proofs.SizeLaws.{amount_term, amount_next}
 use Rattle.mat_int.specs.Matrix.{entry_of}
-use Rattle.qp_model.specs.Controller.{numbers}
-use Rattle.qp_model.specs.AbsoluteSums.{plan_magnitudes}
+use Rattle.qp_model.specs.machine.Controller.{numbers}
+use Rattle.qp_model.specs.machine.AbsoluteSums.{plan_magnitudes}
 use Rattle.closed_loop.proofs.size.input_absolute_sum.Goals as goal
 
 pub returns-in_err-input_term : goal.returns-in_err-input_term

@@ -1,8 +1,8 @@
 use Rattle.std.proofs.Common.{◌≡◌, ◌*◌, ◌^◌, ◌≤◌, unsigned_abs, slice_index_or}
 use Rattle.integer_algebra.specs.Sizes.{amount}
 use Rattle.mat_int.specs.Matrix.{entry_of}
-use Rattle.qp_model.specs.Controller.{numbers}
-use Rattle.qp_model.specs.AbsoluteSums.{plan_magnitudes}
+use Rattle.qp_model.specs.machine.Controller.{numbers}
+use Rattle.qp_model.specs.machine.AbsoluteSums.{plan_magnitudes}
 use Rattle.closed_loop.proofs.size.input_absolute_sum.Given as goal
 
 abbrev pub invariant-loop-l : goal.invariant-loop-l

@@ -1,5 +1,5 @@
 use Rattle.std.proofs.Common.{arith}
-use Rattle.qp_model.specs.Controller.{numbers}
+use Rattle.qp_model.specs.machine.Controller.{numbers}
 use Rattle.closed_loop.proofs.Reaches.{input_room}
 use Rattle.closed_loop.proofs.size.input_term.Goals as goal
 

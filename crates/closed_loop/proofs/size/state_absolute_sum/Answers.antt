@@ -3,8 +3,8 @@ use Rattle.std.specs.Int.{w128}
 use Rattle.std.proofs.lemmas.Int.{to_z-of_z}
 use Rattle.integer_algebra.proofs.SizeLaws.{amount_more}
 use Rattle.mat_int.specs.Matrix.{entry_of}
-use Rattle.qp_model.specs.Controller.{numbers}
-use Rattle.qp_model.specs.LoopSize.{coordinate_magnitude}
+use Rattle.qp_model.specs.machine.Controller.{numbers}
+use Rattle.qp_model.specs.machine.LoopSize.{coordinate_magnitude}
 use Rattle.qp_model.proofs.TableLaws.{entry_small}
 use Rattle.closed_loop.proofs.Reaches.{product_small}
 use Rattle.closed_loop.proofs.size.state_absolute_sum.Goals as goal

@@ -1,8 +1,8 @@
 use Rattle.std.proofs.Common.{◌≡◌, ◌*◌, ◌^◌, ◌≤◌, unsigned_abs}
 use Rattle.integer_algebra.specs.Sizes.{amount}
 use Rattle.mat_int.specs.Matrix.{entry_of}
-use Rattle.qp_model.specs.Controller.{numbers}
-use Rattle.qp_model.specs.LoopSize.{coordinate_magnitude}
+use Rattle.qp_model.specs.machine.Controller.{numbers}
+use Rattle.qp_model.specs.machine.LoopSize.{coordinate_magnitude}
 use Rattle.closed_loop.proofs.size.state_absolute_sum.Given as goal
 
 abbrev pub invariant-loop-j : goal.invariant-loop-j

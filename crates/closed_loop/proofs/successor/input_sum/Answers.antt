@@ -3,8 +3,8 @@ use Rattle.std.specs.Int.{w128}
 use Rattle.std.proofs.lemmas.Int.{to_z-of_z}
 use Rattle.integer_algebra.specs.Sums.{at}
 use Rattle.integer_algebra.proofs.SizeLaws.{product_room, dot_room}
-use Rattle.qp_model.specs.Machine.{averaged_plan}
-use Rattle.qp_model.specs.Parts.{design_of}
+use Rattle.qp_model.specs.machine.Machine.{averaged_plan}
+use Rattle.qp_model.specs.problem.Parts.{design_of}
 use Rattle.closed_loop.proofs.Reaches.{inputs_room}
 use Rattle.closed_loop.proofs.successor.input_sum.Goals as goal
 

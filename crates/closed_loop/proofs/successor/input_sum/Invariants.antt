@@ -1,7 +1,7 @@
 use Rattle.std.proofs.Common.{◌≡◌, ◌*ℤ◌}
 use Rattle.integer_algebra.specs.Sums.{total, at}
 use Rattle.mat_int.specs.Matrix.{entry_of}
-use Rattle.qp_model.specs.Machine.{averaged_plan}
+use Rattle.qp_model.specs.machine.Machine.{averaged_plan}
 use Rattle.closed_loop.proofs.successor.input_sum.Given as goal
 
 abbrev pub invariant-loop-l : goal.invariant-loop-l

@@ -2,10 +2,10 @@ use Rattle.std.proofs.Common.{◌≡◌, ◌∙◌, ap, subst, pos, rules, refl,
 use Rattle.std.specs.Int.{w128}
 use Rattle.std.proofs.lemmas.Int.{to_z-of_z}
 use Rattle.integer_algebra.proofs.DivisionLaws.{round_of_is}
-use Rattle.qp_model.specs.Controller.{Numbers, numbers}
-use Rattle.qp_model.specs.AbsoluteSums.{IsController}
-use Rattle.qp_model.specs.Parts.{design_of}
-use Rattle.qp_model.specs.Successor.{grid_scale, next_sum, next_over}
+use Rattle.qp_model.specs.machine.Controller.{Numbers, numbers}
+use Rattle.qp_model.specs.machine.AbsoluteSums.{IsController}
+use Rattle.qp_model.specs.problem.Parts.{design_of}
+use Rattle.qp_model.specs.machine.Successor.{grid_scale, next_sum, next_over}
 use Rattle.closed_loop.proofs.Reaches.{scale_some}
 use Rattle.closed_loop.proofs.Overs.{over_some, at_least_one}
 use Rattle.closed_loop.proofs.successor.next_coordinate.Goals as goal

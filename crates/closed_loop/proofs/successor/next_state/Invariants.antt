@@ -1,7 +1,7 @@
 use Rattle.std.proofs.Common.{◌≡◌, ℕ, ◌<◌, get_or, pos}
 use Rattle.integer_algebra.specs.Division.{round_of, IsNearest}
-use Rattle.qp_model.specs.Parts.{design_of}
-use Rattle.qp_model.specs.Successor.{next_sum, next_over}
+use Rattle.qp_model.specs.problem.Parts.{design_of}
+use Rattle.qp_model.specs.machine.Successor.{next_sum, next_over}
 use Rattle.closed_loop.proofs.successor.next_state.Given as goal
 
 abbrev pub invariant-loop-i : goal.invariant-loop-i

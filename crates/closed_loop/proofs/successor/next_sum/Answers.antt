@@ -4,11 +4,11 @@ use Rattle.std.proofs.lemmas.Int.{to_z-of_z, fits_signed_from_abs}
 use Rattle.integer_algebra.specs.Sums.{at, dot, image}
 use Rattle.integer_algebra.specs.Sizes.{amount}
 use Rattle.mat_int.proofs.Indices.{dot_is, abs_dot_is}
-use Rattle.qp_model.specs.Controller.{Numbers, numbers}
-use Rattle.qp_model.specs.Machine.{IsAdmissible, averaged_plan}
-use Rattle.qp_model.specs.AbsoluteSums.{IsController}
-use Rattle.qp_model.specs.Parts.{design_of}
-use Rattle.qp_model.specs.Successor.{grid_scale, next_sum}
+use Rattle.qp_model.specs.machine.Controller.{Numbers, numbers}
+use Rattle.qp_model.specs.machine.Machine.{IsAdmissible, averaged_plan}
+use Rattle.qp_model.specs.machine.AbsoluteSums.{IsController}
+use Rattle.qp_model.specs.problem.Parts.{design_of}
+use Rattle.qp_model.specs.machine.Successor.{grid_scale, next_sum}
 use Rattle.closed_loop.proofs.Reaches.{dot_room, own_le, next_fits}
 use Rattle.closed_loop.proofs.successor.next_sum.Goals as goal
 

@@ -1,7 +1,7 @@
 use Rattle.std.proofs.Common.{◌≡◌, ◌++◌, ◌∙◌, ap, refl, le_refl, subst, List, ℕ, option_map, IfSome, IsSomeAnd}
 use Rattle.io_edge.specs.Faults.{GrowsByPart}
-use Rattle.qp_model.specs.Controller.{Numbers}
-use Rattle.qp_model.specs.LoopLines.{loop_line}
+use Rattle.qp_model.specs.machine.Controller.{Numbers}
+use Rattle.qp_model.specs.text.LoopLines.{loop_line}
 use Rattle.closed_loop.specs.Shows.{TurnShows}
 use Rattle.closed_loop.specs.declared.fault.LoopFault.TheVariants.{Memory}
 use Rattle.closed_loop.proofs.Showing.{given, unmet}

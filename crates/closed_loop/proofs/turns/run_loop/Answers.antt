@@ -1,8 +1,8 @@
 use Rattle.std.proofs.Common.{◌^◌, ◌≤◌, refl, le_refl, subst}
 use Rattle.std.specs.Option.{SomeIff}
-use Rattle.qp_model.specs.Controller.{Numbers}
-use Rattle.qp_model.specs.LoopSize.{turn_size}
-use Rattle.qp_model.specs.Parts.{design_of}
+use Rattle.qp_model.specs.machine.Controller.{Numbers}
+use Rattle.qp_model.specs.machine.LoopSize.{turn_size}
+use Rattle.qp_model.specs.problem.Parts.{design_of}
 use Rattle.closed_loop.specs.Shows.{LoopShows}
 use Rattle.closed_loop.specs.declared.fault.LoopFault.TheVariants.{Memory, OutsideBox, WriteFault}
 use Rattle.closed_loop.proofs.Showing.{told, leaves, stays, none_wide, some_narrow, wide_or_narrow, wide_is, wide_not_outside, wide_not_failed, wide_not_memory, not_wide}

@@ -1,11 +1,11 @@
 use Rattle.std.proofs.Common.{◌≡◌, ◌+◌, ◌++◌, ◌∙◌, ap, sym, subst, refl, le_refl, le_trans, zero-le, ℕ, ℤ, List, Vec, Global, length, option_map, arith}
 use Rattle.std.proofs.lemmas.List.{with_items_is}
 use Rattle.std.proofs.lemmas.List.FromFn.{length-map-range_with_len}
-use Rattle.qp_model.specs.Controller.{Numbers}
-use Rattle.qp_model.specs.Machine.{IsAdmissible}
-use Rattle.qp_model.specs.Successor.{successor, state_after}
-use Rattle.qp_model.specs.LoopLines.{loop_line, loop_text}
-use Rattle.qp_model.specs.Parts.{design_of}
+use Rattle.qp_model.specs.machine.Controller.{Numbers}
+use Rattle.qp_model.specs.machine.Machine.{IsAdmissible}
+use Rattle.qp_model.specs.machine.Successor.{successor, state_after}
+use Rattle.qp_model.specs.text.LoopLines.{loop_line, loop_text}
+use Rattle.qp_model.specs.problem.Parts.{design_of}
 use Rattle.closed_loop.specs.Answers.{StaysInside}
 use Rattle.closed_loop.specs.Shows.{TurnShows, LoopShows}
 use Rattle.closed_loop.specs.declared.fault.LoopFault.TheVariants.{Memory}

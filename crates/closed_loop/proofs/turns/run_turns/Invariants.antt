@@ -1,7 +1,7 @@
 use Rattle.std.proofs.Common.{◌≡◌, ◌≤◌, ◌++◌, length, option_map}
-use Rattle.qp_model.specs.Parts.{design_of}
-use Rattle.qp_model.specs.Successor.{state_after}
-use Rattle.qp_model.specs.LoopLines.{loop_text}
+use Rattle.qp_model.specs.problem.Parts.{design_of}
+use Rattle.qp_model.specs.machine.Successor.{state_after}
+use Rattle.qp_model.specs.text.LoopLines.{loop_text}
 use Rattle.closed_loop.specs.Answers.{StaysInside}
 use Rattle.closed_loop.proofs.turns.run_turns.Given as goal
 

@@ -1,5 +1,5 @@
 use Rattle.std.proofs.Common.{◌≡◌, Err, sym, ap}
-use Rattle.qp_model.specs.Parts.{design_numbers}
+use Rattle.qp_model.specs.problem.Parts.{design_numbers}
 use Rattle.number_text.specs.declared.text_fault.TextFault.TheVariants.{Memory as no_room}
 use Rattle.design_files.specs.DesignText.{IsDesignFault}
 use Rattle.command_line.proofs.Results.{err_same}

@@ -1,6 +1,6 @@
 use Rattle.std.proofs.Common.{Err, sym, ap}
-use Rattle.qp_model.specs.Parts.{design_of}
-use Rattle.qp_model.specs.Policy.{plans_of}
+use Rattle.qp_model.specs.problem.Parts.{design_of}
+use Rattle.qp_model.specs.problem.Policy.{plans_of}
 use Rattle.number_text.specs.declared.text_fault.TextFault.TheVariants.{Memory as no_room}
 use Rattle.policy_file.specs.PolicyText.{IsPolicyFault}
 use Rattle.command_line.proofs.Results.{err_same}

@@ -2,9 +2,9 @@ use Rattle.std.proofs.Common.{◌≡◌, ◌*◌, ◌<◌, ◌≤◌, ℤ, ◌*�
 use Rattle.std.specs.Int.{w128}
 use mir.Val.{SFits}
 use Rattle.std.proofs.lemmas.Int.{to_z-of_z}
-use Rattle.qp_model.specs.Design.{rows}
-use Rattle.qp_model.specs.Parts.{design_of}
-use Rattle.qp_model.specs.Runs.{bound_at}
+use Rattle.qp_model.specs.problem.Design.{rows}
+use Rattle.qp_model.specs.problem.Parts.{design_of}
+use Rattle.qp_model.specs.problem.Runs.{bound_at}
 use Rattle.condensed_form.proofs.Rooms.{read}
 use Rattle.condensed_form.proofs.Pushes.{pushed, holds_to, no_entries}
 use Rattle.condensed_form.proofs.StageFacts.{lifted_fits, lifted}

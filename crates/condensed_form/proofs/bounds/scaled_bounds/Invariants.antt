@@ -1,6 +1,6 @@
 use Rattle.std.proofs.Common.{◌*ℤ◌}
-use Rattle.qp_model.specs.Parts.{design_of}
-use Rattle.qp_model.specs.Runs.{bound_at, Holds}
+use Rattle.qp_model.specs.problem.Parts.{design_of}
+use Rattle.qp_model.specs.problem.Runs.{bound_at, Holds}
 use Rattle.condensed_form.proofs.bounds.scaled_bounds.Given as goal
 
 abbrev pub invariant-loop-i : goal.invariant-loop-i

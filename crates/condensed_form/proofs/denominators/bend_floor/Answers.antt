@@ -1,7 +1,7 @@
 use Rattle.std.proofs.Common.{◌≡◌, ℕ, ◌*◌, ◌^◌, ◌<◌, ◌≤◌, min, ℤ, pos, ◌*ℤ◌, unsigned_abs, arith, ap, ◌∙◌, to_z}
 use Rattle.std.specs.Int.{w128}
 use Rattle.std.proofs.lemmas.Int.{ints, unsigned_abs-mul, to_z-of_z}
-use Rattle.qp_model.specs.Parts.{design_of}
+use Rattle.qp_model.specs.problem.Parts.{design_of}
 use Rattle.condensed_form.specs.Form.{response_scale}
 use Rattle.condensed_form.proofs.Rooms.{product_fits, doubled_product_fits, doubled_product}
 use Rattle.condensed_form.proofs.DenominatorFacts.{denominator_fits, least_room, floor_some, floor_none}

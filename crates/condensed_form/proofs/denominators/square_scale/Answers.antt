@@ -2,7 +2,7 @@ use Rattle.std.proofs.Common.{◌≡◌, ℕ, ◌*◌, ◌^◌, ◌≤◌, pos, 
 use Rattle.std.specs.Int.{w128}
 use mir.Val.{SFits}
 use Rattle.integer_algebra.proofs.PowerLaws.{pow-two}
-use Rattle.qp_model.specs.Parts.{design_of}
+use Rattle.qp_model.specs.problem.Parts.{design_of}
 use Rattle.condensed_form.specs.Form.{response_scale}
 use Rattle.condensed_form.proofs.Rooms.{read}
 use Rattle.condensed_form.proofs.CostFacts.{response_room}

@@ -1,10 +1,10 @@
 use Rattle.std.proofs.Common.{◌≡◌, ℕ, ◌^◌, ◌≤◌, FitsSigned, unsigned_abs, ap, ◌∙◌, ◌↔◌, IsTrue, rules, subst}
 use Rattle.std.specs.Int.{w128}
 use Rattle.std.proofs.lemmas.Int.{to_z-of_z}
-use Rattle.qp_model.specs.Class.{rows_in, cost_row_in, form_in, row_quantity}
-use Rattle.qp_model.specs.CurvatureSize.{covering_exponent, curvature_of}
-use Rattle.qp_model.specs.Design.{entries}
-use Rattle.qp_model.specs.Parts.{design_of}
+use Rattle.qp_model.specs.form.Class.{rows_in, cost_row_in, form_in, row_quantity}
+use Rattle.qp_model.specs.form.CurvatureSize.{covering_exponent, curvature_of}
+use Rattle.qp_model.specs.problem.Design.{entries}
+use Rattle.qp_model.specs.problem.Parts.{design_of}
 use Rattle.condensed_form.proofs.LimitFacts.{own_row}
 use Rattle.condensed_form.proofs.limit.is_curvature_limited.Goals as goal
 

@@ -1,10 +1,10 @@
 use Rattle.std.proofs.Common.{◌≡◌, ℕ, ◌^◌, ◌≤◌, Bool, ℤ, unsigned_abs, arith, sym, ◌∙◌, ap₂}
 use Rattle.std.proofs.lemmas.Int.{ints}
-use Rattle.qp_model.specs.Range.{IsDenominator}
-use Rattle.qp_model.specs.Class.{form_in, row_quantity, curvature_with}
-use Rattle.qp_model.specs.CurvatureSize.{covering_exponent}
-use Rattle.qp_model.specs.Design.{entries}
-use Rattle.qp_model.specs.Parts.{design_of}
+use Rattle.qp_model.specs.problem.Range.{IsDenominator}
+use Rattle.qp_model.specs.form.Class.{form_in, row_quantity, curvature_with}
+use Rattle.qp_model.specs.form.CurvatureSize.{covering_exponent}
+use Rattle.qp_model.specs.problem.Design.{entries}
+use Rattle.qp_model.specs.problem.Parts.{design_of}
 use Rattle.condensed_form.proofs.LeastLaws.{exponent_is, few}
 use Rattle.condensed_form.proofs.LimitFacts.{limited_by}
 use Rattle.condensed_form.proofs.limit.is_limited_with.Goals as goal

@@ -2,8 +2,8 @@ use Rattle.std.proofs.Common.{◌≡◌, FitsSigned, unsigned_abs, arith, ap, �
 use Rattle.std.specs.Int.{w128}
 use Rattle.std.proofs.lemmas.Int.{to_z-of_z}
 use Rattle.std.proofs.lemmas.Bool.{leb-true}
-use Rattle.qp_model.specs.Class.{rows_in}
-use Rattle.qp_model.specs.Parts.{design_of}
+use Rattle.qp_model.specs.form.Class.{rows_in}
+use Rattle.qp_model.specs.problem.Parts.{design_of}
 use Rattle.condensed_form.proofs.LimitFacts.{lowering_by, lowering_back}
 use Rattle.condensed_form.proofs.limit.is_lowering_limited.Goals as goal
 

@@ -1,7 +1,7 @@
 use Rattle.std.proofs.Common.{rules, FitsSigned, unsigned_abs, ap, ◌∙◌}
 use Rattle.std.specs.Int.{w128}
 use Rattle.std.proofs.lemmas.Int.{to_z-of_z}
-use Rattle.qp_model.specs.Parts.{design_of}
+use Rattle.qp_model.specs.problem.Parts.{design_of}
 use Rattle.condensed_form.proofs.HeldLaws.{least_equal}
 use Rattle.condensed_form.proofs.LimitFacts.{cost_row_by, lift_is}
 use Rattle.condensed_form.proofs.limit.scales_of.Goals as goal

@@ -1,6 +1,6 @@
 use Rattle.std.proofs.Common.{arith, ◌∙◌}
-use Rattle.qp_model.specs.Class.{form_in}
-use Rattle.qp_model.specs.Parts.{design_of}
+use Rattle.qp_model.specs.form.Class.{form_in}
+use Rattle.qp_model.specs.problem.Parts.{design_of}
 use Rattle.condensed_form.proofs.FormSums.{plan_squares}
 use Rattle.condensed_form.proofs.LimitFacts.{covers_by, part_small, small, squares_are, unit_small}
 use Rattle.condensed_form.proofs.limit.squares_exponent.Goals as goal

@@ -2,7 +2,7 @@ use Rattle.std.proofs.Common.{◌+◌, length, rules, FitsSigned, unsigned_abs, 
 use Rattle.std.specs.Int.{w128}
 use Rattle.std.proofs.lemmas.Int.{to_z-of_z}
 use Rattle.integer_algebra.specs.Sums.{at}
-use Rattle.qp_model.specs.Form.{farthest}
+use Rattle.qp_model.specs.form.Form.{farthest}
 use Rattle.condensed_form.proofs.LimitFacts.{IsNextSquare, next_square}
 use Rattle.condensed_form.proofs.limit.squares_of_row.Goals as goal
 

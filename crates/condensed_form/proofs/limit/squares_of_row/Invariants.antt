@@ -1,7 +1,7 @@
 use Rattle.std.proofs.Common.{◌≡◌, ◌^◌, unsigned_abs}
 use Rattle.integer_algebra.specs.Sizes.{amount}
 use Rattle.integer_algebra.specs.Sums.{at}
-use Rattle.qp_model.specs.Form.{farthest}
+use Rattle.qp_model.specs.form.Form.{farthest}
 use Rattle.condensed_form.proofs.limit.squares_of_row.Given as goal
 
 abbrev pub invariant-loop-j : goal.invariant-loop-j

@@ -2,7 +2,7 @@ use Rattle.std.proofs.Common.{◌≡◌, ◌^◌, ◌∙◌, length, unsigned_ab
 use Rattle.integer_algebra.specs.Sizes.{amount}
 use Rattle.integer_algebra.proofs.SizeLaws.{amount_more, amount_next}
 use Rattle.mat_int.specs.Matrix.{entry_of}
-use Rattle.qp_model.specs.Form.{farthest}
+use Rattle.qp_model.specs.form.Form.{farthest}
 use Rattle.condensed_form.proofs.limit.sum_of_squares.Goals as goal
 
 pub squares_of_row-sum-requires-clause-room : goal.squares_of_row-sum-requires-clause-room

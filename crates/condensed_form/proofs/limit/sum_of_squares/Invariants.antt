@@ -1,7 +1,7 @@
 use Rattle.std.proofs.Common.{◌≡◌, ◌^◌, unsigned_abs}
 use Rattle.integer_algebra.specs.Sizes.{amount}
 use Rattle.mat_int.specs.Matrix.{entry_of}
-use Rattle.qp_model.specs.Form.{farthest}
+use Rattle.qp_model.specs.form.Form.{farthest}
 use Rattle.condensed_form.proofs.limit.sum_of_squares.Given as goal
 
 abbrev pub invariant-loop-i : goal.invariant-loop-i

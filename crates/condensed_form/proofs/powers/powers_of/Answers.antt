@@ -3,7 +3,7 @@ use Rattle.std.specs.Int.{w128}
 use mir.Val.{SFits}
 use Rattle.std.proofs.lemmas.Int.{to_z-of_z}
 use Rattle.std.proofs.Math.Nat.{pow-zero}
-use Rattle.qp_model.specs.Runs.{Holds}
+use Rattle.qp_model.specs.problem.Runs.{Holds}
 use Rattle.condensed_form.proofs.Pushes.{pushed, no_entries}
 use Rattle.condensed_form.proofs.PowerFacts.{power_value, power_fits}
 use Rattle.condensed_form.proofs.powers.powers_of.Goals as goal

@@ -1,5 +1,5 @@
 use Rattle.std.proofs.Common.{◌≡◌, ◌+◌, ◌^◌, pos, unsigned_abs}
-use Rattle.qp_model.specs.Runs.{Holds}
+use Rattle.qp_model.specs.problem.Runs.{Holds}
 use Rattle.condensed_form.proofs.powers.powers_of.Given as goal
 
 abbrev pub invariant-loop : goal.invariant-loop

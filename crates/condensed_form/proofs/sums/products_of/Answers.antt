@@ -2,7 +2,7 @@ use Rattle.std.proofs.Common.{◌≡◌, ℕ, ◌*ℤ◌, rules, get_or, length,
 use Rattle.std.specs.Int.{w128}
 use mir.Val.{SFits}
 use Rattle.integer_algebra.specs.Sums.{at}
-use Rattle.qp_model.specs.Runs.{Holds}
+use Rattle.qp_model.specs.problem.Runs.{Holds}
 use Rattle.condensed_form.proofs.Pushes.{pushed, no_entries}
 use Rattle.condensed_form.proofs.StageFacts.{lifted_fits, lifted}
 use Rattle.condensed_form.proofs.sums.products_of.Goals as goal

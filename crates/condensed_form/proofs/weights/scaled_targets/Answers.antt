@@ -2,8 +2,8 @@ use Rattle.std.proofs.Common.{◌≡◌, ◌*◌, ◌<◌, ◌≤◌, ℤ, ◌*�
 use Rattle.std.specs.Int.{w128}
 use mir.Val.{SFits}
 use Rattle.std.proofs.lemmas.Int.{to_z-of_z}
-use Rattle.qp_model.specs.Parts.{design_of}
-use Rattle.qp_model.specs.Runs.{counts}
+use Rattle.qp_model.specs.problem.Parts.{design_of}
+use Rattle.qp_model.specs.problem.Runs.{counts}
 use Rattle.condensed_form.specs.Costs.{target_of}
 use Rattle.condensed_form.proofs.Rooms.{read}
 use Rattle.condensed_form.proofs.Pushes.{pushed, holds_to, no_entries}

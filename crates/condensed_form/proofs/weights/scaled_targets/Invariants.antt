@@ -1,6 +1,6 @@
 use Rattle.std.proofs.Common.{◌*ℤ◌}
-use Rattle.qp_model.specs.Parts.{design_of}
-use Rattle.qp_model.specs.Runs.{Holds}
+use Rattle.qp_model.specs.problem.Parts.{design_of}
+use Rattle.qp_model.specs.problem.Runs.{Holds}
 use Rattle.condensed_form.specs.Costs.{target_of}
 use Rattle.condensed_form.proofs.weights.scaled_targets.Given as goal
 

@@ -2,9 +2,9 @@ use Rattle.std.proofs.Common.{rules, ◌≡◌, ◌+◌, ◌*◌, length, arith,
 use Rattle.std.specs.Int.{w128}
 use mir.Val.{SFits}
 use Rattle.std.proofs.lemmas.Int.{to_z-of_z}
-use Rattle.qp_model.specs.Design.{CostRow}
-use Rattle.qp_model.specs.Parts.{design_of}
-use Rattle.qp_model.specs.Runs.{counts}
+use Rattle.qp_model.specs.problem.Design.{CostRow}
+use Rattle.qp_model.specs.problem.Parts.{design_of}
+use Rattle.qp_model.specs.problem.Runs.{counts}
 use Rattle.qp_model.proofs.RowLaws.{remainder_inside}
 use Rattle.condensed_form.proofs.RowFacts.{stages_room}
 use Rattle.condensed_form.proofs.CountedFacts.{stage_number, final_number}

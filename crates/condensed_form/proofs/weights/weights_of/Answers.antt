@@ -2,11 +2,11 @@ use Rattle.std.proofs.Common.{rules, ◌∙◌, ◌≡◌, ◌+◌, ◌*◌, ◌
 use Rattle.std.specs.Int.{w128}
 use mir.Val.{SFits}
 use Rattle.std.proofs.lemmas.Int.{to_z-of_z}
-use Rattle.qp_model.specs.Parts.{design_of}
+use Rattle.qp_model.specs.problem.Parts.{design_of}
 use Rattle.condensed_form.specs.Costs.{weight_of}
 use Rattle.condensed_form.proofs.Pushes.{pushed, no_entries}
 use Rattle.condensed_form.proofs.RowFacts.{stages_room}
-use Rattle.qp_model.specs.Runs.{counts, Holds}
+use Rattle.qp_model.specs.problem.Runs.{counts, Holds}
 use Rattle.condensed_form.proofs.weights.weights_of.Goals as goal
 
 pub loop-c-preserved : goal.loop-c-preserved

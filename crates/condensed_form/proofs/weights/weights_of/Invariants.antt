@@ -1,5 +1,5 @@
-use Rattle.qp_model.specs.Parts.{design_of}
-use Rattle.qp_model.specs.Runs.{Holds}
+use Rattle.qp_model.specs.problem.Parts.{design_of}
+use Rattle.qp_model.specs.problem.Runs.{Holds}
 use Rattle.condensed_form.specs.Costs.{weight_of}
 use Rattle.condensed_form.proofs.weights.weights_of.Given as goal
 

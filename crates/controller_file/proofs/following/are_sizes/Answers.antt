@@ -1,6 +1,6 @@
 use Rattle.std.proofs.Common.{pos, rules}
 use Rattle.std.specs.Prelude.{◌↔◌, IsTrue}
-use Rattle.qp_model.specs.Limits.{most_states, most_inputs, most_stages, most_rows}
+use Rattle.qp_model.specs.problem.Limits.{most_states, most_inputs, most_stages, most_rows}
 use Rattle.controller_file.specs.Following.{IsFrom}
 use Rattle.controller_file.proofs.following.are_sizes.Goals as goal
 

@@ -2,7 +2,7 @@ use Rattle.std.proofs.Common.{◌∙◌, ◌-◌, ◌^◌, ℕ, pos, length, sym
 use Rattle.std.specs.Prelude.{◌↔◌, IsTrue}
 use Rattle.std.proofs.lemmas.List.{length-map}
 use Rattle.integer_algebra.specs.Sums.{at}
-use Rattle.qp_model.specs.Range.{IsNumerator}
+use Rattle.qp_model.specs.problem.Range.{IsNumerator}
 use Rattle.controller_file.specs.Lines.{view, views, line_in}
 use Rattle.controller_file.specs.Following.{AreSizes, AreBits, AreUpper, IsFrom, InRange}
 use Rattle.controller_file.proofs.following.is_in_range.Goals as goal

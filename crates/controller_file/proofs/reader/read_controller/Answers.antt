@@ -4,9 +4,9 @@ use Rattle.std.specs.Global.{Vec}
 use Rattle.std.proofs.lemmas.Bool.{false≢true}
 use Rattle.number_text.specs.Lines.{text_of}
 use Rattle.qp_model.specs.declared.controller_parts.ControllerParts.{ControllerParts}
-use Rattle.qp_model.specs.Controller.{Numbers, numbers, IsInForm}
-use Rattle.qp_model.specs.AbsoluteSums.{IsController}
-use Rattle.qp_model.specs.ControllerText.{IsControllerText}
+use Rattle.qp_model.specs.machine.Controller.{Numbers, numbers, IsInForm}
+use Rattle.qp_model.specs.machine.AbsoluteSums.{IsController}
+use Rattle.qp_model.specs.text.ControllerText.{IsControllerText}
 use Rattle.controller_file.specs.declared.line.Line.{Line}
 use Rattle.controller_file.specs.FirstLine.{IsTextInForm, IsBadLine}
 use Rattle.controller_file.specs.Lines.{Keyed, views, spelled, keyed_lines}

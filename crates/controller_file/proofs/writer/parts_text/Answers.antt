@@ -3,7 +3,7 @@ use Rattle.std.specs.Prelude.{All}
 use Rattle.std.proofs.lemmas.List.{take_all}
 use Rattle.std.proofs.lemmas.List.Elements.{All-append}
 use Rattle.number_text.specs.Lines.{text_of}
-use Rattle.qp_model.specs.Controller.{numbers}
+use Rattle.qp_model.specs.machine.Controller.{numbers}
 use Rattle.controller_file.specs.Lines.{Keyed, spelled, Fits, chained, line_blocks}
 use Rattle.controller_file.specs.Table.{text_table, sizes_of}
 use Rattle.controller_file.proofs.Chained.{chain_more}

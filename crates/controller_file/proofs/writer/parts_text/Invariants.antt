@@ -1,6 +1,6 @@
 use Rattle.std.proofs.Common.{◌≡◌, take, map, string_bytes}
 use Rattle.std.specs.Prelude.{All}
-use Rattle.qp_model.specs.Controller.{numbers}
+use Rattle.qp_model.specs.machine.Controller.{numbers}
 use Rattle.number_text.specs.Lines.{text_of}
 use Rattle.controller_file.specs.Lines.{spelled, Fits, chained, line_blocks}
 use Rattle.controller_file.proofs.writer.parts_text.Given as goal

@@ -2,7 +2,7 @@ use Rattle.std.proofs.Common.{◌≡◌, ◌∙◌, ◌++◌, ℕ, ℤ, List, []
 use Rattle.std.specs.Prelude.{All, Result, Ok, Err, OnOk}
 use Rattle.std.specs.Int.{w128}
 use Rattle.std.proofs.lemmas.List.Elements.{All-map}
-use Rattle.qp_model.specs.Controller.{Numbers, numbers}
+use Rattle.qp_model.specs.machine.Controller.{Numbers, numbers}
 use Rattle.number_text.specs.Lines.{line_of, text_of}
 use Rattle.controller_file.specs.Lines.{Keyed, keyed_line, spelled, Fits, row_lines, line_blocks}
 use Rattle.controller_file.specs.Table.{sizes_of, block_at}

@@ -1,9 +1,9 @@
 use Rattle.std.proofs.Common.{◌≡◌, ℕ, ◌^◌, ◌<◌, ◌≤◌, unsigned_abs, FitsSigned, rules, refl, sym, subst, arith}
 use Rattle.std.specs.Int.{w128}
 use Rattle.std.proofs.lemmas.Int.{to_z-of_z}
-use Rattle.qp_model.specs.Parts.{design_of}
-use Rattle.qp_model.specs.Controller.{Numbers, numbers}
-use Rattle.qp_model.specs.AbsoluteSums.{greatest_sum}
+use Rattle.qp_model.specs.problem.Parts.{design_of}
+use Rattle.qp_model.specs.machine.Controller.{Numbers, numbers}
+use Rattle.qp_model.specs.machine.AbsoluteSums.{greatest_sum}
 use Rattle.controller_maker.specs.Assembled.{IsAssembled}
 use Rattle.controller_maker.proofs.Frames.{wide_clamp, sized, sum_le, within_from, assembled, above, below, over}
 use Rattle.controller_maker.proofs.assemble.controller_of.Goals as goal

@@ -1,8 +1,8 @@
 use Rattle.std.proofs.Common.{FitsSigned, unsigned_abs, rules}
 use Rattle.std.specs.Int.{w128}
 use Rattle.std.proofs.lemmas.Int.{to_z-of_z}
-use Rattle.qp_model.specs.Parts.{design_of}
-use Rattle.qp_model.specs.Controller.{numbers}
+use Rattle.qp_model.specs.problem.Parts.{design_of}
+use Rattle.qp_model.specs.machine.Controller.{numbers}
 use Rattle.approx_inverse.proofs.DesignLaws.{solvable_from, descent_equal}
 use Rattle.controller_maker.proofs.Frames.{sized, widest_from, widest_sum}
 use Rattle.std.proofs.lemmas.Result.{IfOk-from_err}

@@ -3,7 +3,7 @@ use Rattle.std.specs.Int.{w128}
 use Rattle.std.proofs.lemmas.Int.{to_z-of_z}
 use Rattle.std.proofs.lemmas.List.{get_or-replicate}
 use Rattle.integer_algebra.specs.Sums.{at}
-use Rattle.qp_model.specs.Columns.{column_bound}
+use Rattle.qp_model.specs.form.Columns.{column_bound}
 use Rattle.condensed_form.specs.Form.{held}
 use Rattle.approx_inverse.specs.Inverse.{solution_of}
 use Rattle.controller_maker.proofs.Bounds.{resized}

@@ -1,5 +1,5 @@
 use Rattle.std.proofs.Common.{◌≡◌, ℕ, ◌<◌, pos, vec_len}
-use Rattle.qp_model.specs.Columns.{column_bound}
+use Rattle.qp_model.specs.form.Columns.{column_bound}
 use Rattle.condensed_form.specs.Form.{held}
 use Rattle.approx_inverse.specs.Inverse.{HasGainSizes, solution_of}
 use Rattle.controller_maker.proofs.widest.widest_gains.Given as goal

@@ -2,10 +2,10 @@ use Rattle.std.proofs.Common.{◌≡◌, ℕ, ◌<◌, ℤ, List, length, pos, r
 use Rattle.std.specs.Int.{w128}
 use Rattle.std.proofs.lemmas.Int.{to_z-of_z}
 use mir.Val.{SFits}
-use Rattle.qp_model.specs.Choices.{row_violation_bound}
-use Rattle.qp_model.specs.Controller.{Numbers}
-use Rattle.qp_model.specs.AbsoluteSums.{IsController}
-use Rattle.qp_model.specs.Runs.{Holds}
+use Rattle.qp_model.specs.bounds.Choices.{row_violation_bound}
+use Rattle.qp_model.specs.machine.Controller.{Numbers}
+use Rattle.qp_model.specs.machine.AbsoluteSums.{IsController}
+use Rattle.qp_model.specs.problem.Runs.{Holds}
 use Rattle.hessian_check.specs.RowExponents.{exponent_in}
 use Rattle.design_engine.proofs.GenerationFacts.{bound_some, whole_is, whole_some, whole_narrow, whole_least}
 use Rattle.design_engine.proofs.PrintedFacts.{bounds_from}

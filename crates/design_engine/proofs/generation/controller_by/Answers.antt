@@ -1,9 +1,9 @@
 use Rattle.std.proofs.Common.{ℕ, inl, refl, List, sym, subst, rules}
 use Rattle.std.specs.Int.{w128}
 use mir.Val.{SFits}
-use Rattle.qp_model.specs.Parts.{design_of}
-use Rattle.qp_model.specs.Choices.{multiplier_of}
-use Rattle.qp_model.specs.Curvature.{AreExponents}
+use Rattle.qp_model.specs.problem.Parts.{design_of}
+use Rattle.qp_model.specs.bounds.Choices.{multiplier_of}
+use Rattle.qp_model.specs.form.Curvature.{AreExponents}
 use Rattle.hessian_check.specs.RowExponents.{exponent_in, AreExponentsOf}
 use Rattle.design_engine.proofs.AnswerLaws.{absent_of_error, ok_of_error}
 use Rattle.design_engine.proofs.RefusalFacts.{refused_by, solve_refused, width_refused}

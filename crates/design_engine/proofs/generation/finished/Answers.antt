@@ -2,10 +2,10 @@ use Rattle.std.proofs.Common.{◌*◌, ◌≤◌, min, ℕ, inl, rules, arith, r
 use Rattle.std.specs.Int.{w128}
 use Rattle.std.proofs.lemmas.Int.{to_z-of_z}
 use mir.Val.{SFits}
-use Rattle.qp_model.specs.Parts.{design_of}
+use Rattle.qp_model.specs.problem.Parts.{design_of}
 use Rattle.design_engine.specs.Targets.{targets_of, half_target, gap_target}
-use Rattle.qp_model.specs.Choices.{multiplier_of}
-use Rattle.qp_model.specs.Printed.{printed}
+use Rattle.qp_model.specs.bounds.Choices.{multiplier_of}
+use Rattle.qp_model.specs.bounds.Printed.{printed}
 use Rattle.design_engine.proofs.AnswerLaws.{ok_of_error, absent_of_error}
 use Rattle.design_engine.proofs.RefusalFacts.{refused_by}
 use Rattle.design_engine.proofs.GenerationFacts.{half_some, half_small, limit_small, bound_some, steps_some, undercut_small, whole_least, at_most}

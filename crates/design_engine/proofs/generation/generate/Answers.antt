@@ -1,6 +1,6 @@
 use Rattle.std.proofs.Common.{rules}
-use Rattle.qp_model.specs.Policy.{plans_of}
-use Rattle.qp_model.specs.Printed.{printed}
+use Rattle.qp_model.specs.problem.Policy.{plans_of}
+use Rattle.qp_model.specs.bounds.Printed.{printed}
 use Rattle.design_engine.specs.Targets.{targets_of}
 use Rattle.design_engine.specs.declared.generation.Made.{Made}
 use Rattle.design_engine.proofs.RefusalFacts.{refused_by}

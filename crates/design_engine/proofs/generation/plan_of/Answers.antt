@@ -1,11 +1,11 @@
 use Rattle.std.proofs.Common.{rules, pos, ap, ◌∙◌, refl}
 use Rattle.std.specs.Int.{w128}
 use mir.Val.{SFits}
-use Rattle.qp_model.specs.Errors.{ErrorSums, epsilon}
+use Rattle.qp_model.specs.bounds.Errors.{ErrorSums, epsilon}
 use Rattle.step_error.specs.ErrorSums.{sums_of}
 use Rattle.qp_model.specs.declared.design_parts.DesignParts.{DesignParts}
 use Rattle.design_engine.proofs.RefusalFacts.{refused_by, steps_refused, sums_refused, choice_refused, choice_same}
-use Rattle.qp_model.specs.Parts.{design_of}
+use Rattle.qp_model.specs.problem.Parts.{design_of}
 use Rattle.design_engine.proofs.Classes.{sums_back}
 use Rattle.design_engine.proofs.GenerationFacts.{half_some, limit_some, bound_some, whole_is, whole_some, whole_narrow}
 use Rattle.design_engine.proofs.AnswerLaws.{absent_of_error}

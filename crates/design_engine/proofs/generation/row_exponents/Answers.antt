@@ -1,8 +1,8 @@
 use Rattle.std.proofs.Common.{◌≡◌, ℕ, ◌<◌, List, replicate, sym, ap, subst, ◌∙◌}
 use Rattle.std.proofs.lemmas.List.{get_or-replicate}
-use Rattle.qp_model.specs.Curvature.{AreExponents, IsExponent}
-use Rattle.qp_model.specs.Design.{Design, rows}
-use Rattle.qp_model.specs.Parts.{design_of}
+use Rattle.qp_model.specs.form.Curvature.{AreExponents, IsExponent}
+use Rattle.qp_model.specs.problem.Design.{Design, rows}
+use Rattle.qp_model.specs.problem.Parts.{design_of}
 use Rattle.hessian_check.specs.RowExponents.{exponent_in}
 use Rattle.hessian_check.proofs.RowExponentLaws.{exponents_same}
 use Rattle.design_engine.proofs.AnswerLaws.{ok_map}

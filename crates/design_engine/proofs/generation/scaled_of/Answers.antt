@@ -1,4 +1,4 @@
-use Rattle.qp_model.specs.Policy.{plans_of}
+use Rattle.qp_model.specs.problem.Policy.{plans_of}
 use Rattle.design_engine.proofs.RefusalFacts.{refused_by}
 use Rattle.design_engine.proofs.generation.scaled_of.Goals as goal
 

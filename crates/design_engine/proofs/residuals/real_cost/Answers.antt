@@ -2,10 +2,10 @@ use Rattle.std.proofs.Common.{rules, ◌∙◌, pos, ap}
 use Rattle.std.specs.Int.{w128}
 use Rattle.std.proofs.lemmas.Int.{to_z-of_z}
 use mir.Val.{SFits}
-use Rattle.qp_model.specs.Class.{form_of}
-use Rattle.qp_model.specs.Parts.{design_of}
-use Rattle.qp_model.specs.Controller.{Numbers, numbers}
-use Rattle.qp_model.specs.RealErrors.{real_cost}
+use Rattle.qp_model.specs.form.Class.{form_of}
+use Rattle.qp_model.specs.problem.Parts.{design_of}
+use Rattle.qp_model.specs.machine.Controller.{Numbers, numbers}
+use Rattle.qp_model.specs.bounds.RealErrors.{real_cost}
 use Rattle.real_error.specs.Made.{IsMade, IsMadeFor}
 use Rattle.design_engine.proofs.GenerationFacts.{whole_least}
 use Rattle.design_engine.proofs.ResidualFacts.{named, own_gains}

@@ -1,6 +1,6 @@
 use Rattle.std.proofs.Common.{◌≡◌, ℕ, ◌<◌, pos, length, unsigned_abs, vec_len}
 use Rattle.integer_algebra.specs.Sums.{at}
-use Rattle.qp_model.specs.Choices.{row_violation_bound}
+use Rattle.qp_model.specs.bounds.Choices.{row_violation_bound}
 use Rattle.hessian_check.specs.RowExponents.{exponent_in}
 use Rattle.design_engine.proofs.violations.row_violations.Given as goal
 

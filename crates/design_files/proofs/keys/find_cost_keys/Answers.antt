@@ -2,7 +2,7 @@ use Rattle.std.proofs.Common.{[], ◌∷◌, inl, inr}
 use Rattle.std.proofs.lemmas.Result.{err_from_is_err_and}
 use Rattle.toml.specs.View.{table_view}
 use Rattle.std.specs.Prelude.{IsSome, codes}
-use Rattle.qp_model.specs.Rules.{key}
+use Rattle.qp_model.specs.problem.Rules.{key}
 use Rattle.qp_model.proofs.RuleLaws.{all_hold}
 use Rattle.design_files.specs.Values.{values_of}
 use Rattle.design_files.proofs.ReadLaws.{fails_before, fails_after}

@@ -1,7 +1,7 @@
 use Rattle.std.proofs.Common.{List, ◌++◌, inr, refl}
 use Rattle.toml.specs.Data.{Members}
 use Rattle.toml.specs.View.{table_view}
-use Rattle.qp_model.specs.Rules.{Rule, AllHold}
+use Rattle.qp_model.specs.problem.Rules.{Rule, AllHold}
 use Rattle.number_text.specs.declared.text_fault.TextFault.{TextFault}
 use Rattle.design_files.specs.DesignText.{FailsRule}
 use Rattle.design_files.specs.declared.keys.Keys.{Keys}

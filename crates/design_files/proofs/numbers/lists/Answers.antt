@@ -2,7 +2,7 @@ use Rattle.std.proofs.Common.{◌≡◌, Some, length, sym, inl, inr, arith}
 use Rattle.std.proofs.lemmas.Result.{err_from_is_err_and}
 use Rattle.toml.specs.Data.{as_array}
 use Rattle.toml.specs.View.{view, items_view}
-use Rattle.qp_model.specs.Range.{LiesIn}
+use Rattle.qp_model.specs.problem.Range.{LiesIn}
 use Rattle.design_files.proofs.NumberLaws.{lists_count, lists_reads}
 use Rattle.design_files.proofs.numbers.lists.Goals as goal
 

@@ -3,7 +3,7 @@ use mir.Val.{SFits}
 use Rattle.std.specs.Int.{w128}
 use Rattle.std.proofs.lemmas.Int.{to_z-of_z}
 use Rattle.std.proofs.lemmas.Result.{err_from_is_err_and}
-use Rattle.qp_model.specs.Rules.{Rule}
+use Rattle.qp_model.specs.problem.Rules.{Rule}
 use Rattle.design_files.specs.Keys.{seen}
 use Rattle.design_files.specs.Values.{Values}
 use Rattle.design_files.specs.Places.{denominator_rules, input_rules, cost_row_rules}

@@ -1,8 +1,8 @@
 use Rattle.std.proofs.Common.{◌+◌, Some}
 use Rattle.std.proofs.lemmas.Result.{err_from_is_err_and}
 use Rattle.toml.specs.View.{view}
-use Rattle.qp_model.specs.PartRules.{AreLimits}
-use Rattle.qp_model.specs.Rules.{shape, range}
+use Rattle.qp_model.specs.problem.PartRules.{AreLimits}
+use Rattle.qp_model.specs.problem.Rules.{shape, range}
 use Rattle.design_files.specs.Numbers.{IsLists, lists_of}
 use Rattle.design_files.proofs.PartLaws.{fails_range}
 use Rattle.design_files.proofs.places.read_final_rows.Goals as goal

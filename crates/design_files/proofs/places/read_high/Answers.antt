@@ -1,8 +1,8 @@
 use Rattle.std.proofs.Common.{[], ◌∷◌, Some, length}
 use Rattle.std.proofs.lemmas.Result.{err_from_is_err_and}
 use Rattle.toml.specs.View.{view}
-use Rattle.qp_model.specs.PartRules.{AreHighs}
-use Rattle.qp_model.specs.Rules.{shape, range}
+use Rattle.qp_model.specs.problem.PartRules.{AreHighs}
+use Rattle.qp_model.specs.problem.Rules.{shape, range}
 use Rattle.design_files.specs.Numbers.{IsList, list_of}
 use Rattle.design_files.proofs.ReadLaws.{fails_before}
 use Rattle.design_files.proofs.PartLaws.{fails_range}

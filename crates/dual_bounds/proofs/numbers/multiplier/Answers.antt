@@ -3,7 +3,7 @@ use Rattle.std.specs.Int.{w128}
 use mir.Val.{SFits}
 use Rattle.std.proofs.lemmas.Int.{to_z-of_z, to_z_pos, ints}
 use Rattle.integer_algebra.specs.Division.{ceil_div}
-use Rattle.qp_model.specs.Choices.{multiplier_bound}
+use Rattle.qp_model.specs.bounds.Choices.{multiplier_bound}
 use Rattle.dual_bounds.proofs.NumberFacts.{quotient_is, size_le}
 use Rattle.dual_bounds.proofs.numbers.multiplier.Goals as goal
 

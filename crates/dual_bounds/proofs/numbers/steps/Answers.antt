@@ -1,7 +1,7 @@
 use Rattle.std.proofs.Common.{◌≡◌, ◌∙◌, ◌*◌, ◌^◌, ◌+◌, arith, pos, ap, unsigned_abs}
 use Rattle.std.specs.Int.{w128}
 use Rattle.std.proofs.lemmas.Int.{to_z-of_z, to_z_pos}
-use Rattle.qp_model.specs.Choices.{step_count}
+use Rattle.qp_model.specs.bounds.Choices.{step_count}
 use Rattle.dual_bounds.proofs.NumberFacts.{quotient_is, quotient_small, positive}
 use Rattle.dual_bounds.proofs.numbers.steps.Goals as goal
 

@@ -1,7 +1,7 @@
 use Rattle.std.proofs.Common.{◌+ℤ◌, ◌*ℤ◌}
 use Rattle.integer_algebra.specs.Sums.{at, image}
 use Rattle.mat_int.specs.Matrix.{entry_of}
-use Rattle.qp_model.specs.Runs.{Holds}
+use Rattle.qp_model.specs.problem.Runs.{Holds}
 use Rattle.exact_run.proofs.states.next_state.Given as goal
 
 abbrev pub invariant-loop-i : goal.invariant-loop-i

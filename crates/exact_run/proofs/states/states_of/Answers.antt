@@ -4,8 +4,8 @@ use mir.Val.{SFits}
 use Rattle.std.proofs.lemmas.Int.{to_z-of_z}
 use Rattle.integer_algebra.specs.Sums.{at}
 use Rattle.mat_int.specs.Lines.{lists}
-use Rattle.qp_model.specs.Parts.{design_of}
-use Rattle.qp_model.specs.Runs.{run}
+use Rattle.qp_model.specs.problem.Parts.{design_of}
+use Rattle.qp_model.specs.problem.Runs.{run}
 use Rattle.condensed_form.proofs.Pushes.{pushed_vec, row_held, row_inside, first_vec}
 use Rattle.condensed_form.proofs.StageFacts.{length-part}
 use Rattle.condensed_form.proofs.StateFacts.{at-part, part_inside, next_fits, next_is, power_positive, denominator_positive}

@@ -1,8 +1,8 @@
 use Rattle.std.proofs.Common.{◌+◌}
 use Rattle.integer_algebra.specs.Sums.{at}
 use Rattle.mat_int.specs.Lines.{lists}
-use Rattle.qp_model.specs.Parts.{design_of}
-use Rattle.qp_model.specs.Runs.{run}
+use Rattle.qp_model.specs.problem.Parts.{design_of}
+use Rattle.qp_model.specs.problem.Runs.{run}
 use Rattle.condensed_form.specs.Lists.{HoldsRows}
 use Rattle.exact_run.proofs.states.states_of.Given as goal
 

@@ -2,9 +2,9 @@ use Rattle.std.proofs.Common.{ℕ, ◌-◌}
 use Rattle.std.specs.Prelude.{IfOk}
 use Rattle.integer_algebra.specs.Sums.{none}
 use Rattle.frac_scaled.specs.Enclosures.{Enclosure}
-use Rattle.qp_model.specs.Design.{entries}
-use Rattle.qp_model.specs.Parts.{design_of}
-use Rattle.qp_model.specs.Runs.{unit, counts}
+use Rattle.qp_model.specs.problem.Design.{entries}
+use Rattle.qp_model.specs.problem.Parts.{design_of}
+use Rattle.qp_model.specs.problem.Runs.{unit, counts}
 use Rattle.fine_run.specs.Lists.{HoldsEnclosures}
 use Rattle.fine_condense.proofs.ColumnFacts.{entries_fit, costs_fit, plan_cost_to, state_cost_to, target_to}
 use Rattle.fine_condense.proofs.columns.cost_column.Goals as goal

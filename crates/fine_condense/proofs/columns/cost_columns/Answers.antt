@@ -1,7 +1,7 @@
 use Rattle.std.proofs.Common.{◌+◌, ◌*◌}
-use Rattle.qp_model.specs.Parts.{design_of}
-use Rattle.qp_model.specs.Runs.{counts}
-use Rattle.qp_model.specs.FineForm.{fine_costs}
+use Rattle.qp_model.specs.problem.Parts.{design_of}
+use Rattle.qp_model.specs.problem.Runs.{counts}
+use Rattle.qp_model.specs.form.FineForm.{fine_costs}
 use Rattle.fine_condense.proofs.ColumnFacts.{enclosures_zero, column_inside, all_columns, entries_fit, states_fit, width_fits, column_rows}
 use Rattle.qp_model.proofs.VersionLaws.{design_stages_le}
 use Rattle.fine_run.proofs.PlaceFacts.{stage_rows_fit, all_rows_fit, all_rows_are}

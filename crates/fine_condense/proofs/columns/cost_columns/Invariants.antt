@@ -1,7 +1,7 @@
 use Rattle.std.proofs.Common.{◌+◌, ◌*◌}
-use Rattle.qp_model.specs.Parts.{design_of}
-use Rattle.qp_model.specs.Runs.{counts}
-use Rattle.qp_model.specs.FineForm.{fine_costs}
+use Rattle.qp_model.specs.problem.Parts.{design_of}
+use Rattle.qp_model.specs.problem.Runs.{counts}
+use Rattle.qp_model.specs.form.FineForm.{fine_costs}
 use Rattle.fine_condense.specs.Lists.{HoldsEncMatrix}
 use Rattle.fine_condense.proofs.columns.cost_columns.Given as goal
 

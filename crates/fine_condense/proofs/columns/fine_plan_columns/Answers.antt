@@ -1,9 +1,9 @@
 use Rattle.std.proofs.Common.{◌*◌}
 use Rattle.integer_algebra.specs.Sums.{none}
-use Rattle.qp_model.specs.Design.{rows}
-use Rattle.qp_model.specs.Parts.{design_of}
-use Rattle.qp_model.specs.Runs.{unit}
-use Rattle.qp_model.specs.FineForm.{fine_by_plan}
+use Rattle.qp_model.specs.problem.Design.{rows}
+use Rattle.qp_model.specs.problem.Parts.{design_of}
+use Rattle.qp_model.specs.problem.Runs.{unit}
+use Rattle.qp_model.specs.form.FineForm.{fine_by_plan}
 use Rattle.fine_condense.proofs.ColumnFacts.{enclosures_zero, column_inside, all_columns, entries_fit, column_rows, limits_fit}
 use Rattle.qp_model.proofs.VersionLaws.{design_stages_le}
 use Rattle.fine_run.proofs.PlaceFacts.{stage_rows_fit, all_rows_fit, all_rows_are}

@@ -1,7 +1,7 @@
 use Rattle.std.proofs.Common.{◌*◌}
-use Rattle.qp_model.specs.Design.{rows}
-use Rattle.qp_model.specs.Parts.{design_of}
-use Rattle.qp_model.specs.FineForm.{fine_by_plan}
+use Rattle.qp_model.specs.problem.Design.{rows}
+use Rattle.qp_model.specs.problem.Parts.{design_of}
+use Rattle.qp_model.specs.form.FineForm.{fine_by_plan}
 use Rattle.fine_condense.specs.Lists.{HoldsEncMatrix}
 use Rattle.fine_condense.proofs.columns.fine_plan_columns.Given as goal
 

@@ -1,6 +1,6 @@
-use Rattle.qp_model.specs.Design.{rows}
-use Rattle.qp_model.specs.Parts.{design_of}
-use Rattle.qp_model.specs.FineForm.{fine_by_state}
+use Rattle.qp_model.specs.problem.Design.{rows}
+use Rattle.qp_model.specs.problem.Parts.{design_of}
+use Rattle.qp_model.specs.form.FineForm.{fine_by_state}
 use Rattle.fine_condense.specs.Lists.{HoldsEncMatrix}
 use Rattle.fine_condense.proofs.columns.fine_state_columns.Given as goal
 

@@ -3,10 +3,10 @@ use Rattle.std.specs.Int.{w128}
 use mir.Val.{SFits}
 use Rattle.std.proofs.lemmas.Int.{to_z-of_z}
 use Rattle.frac_scaled.specs.Enclosures.{exactly}
-use Rattle.qp_model.specs.Design.{CostRow}
-use Rattle.qp_model.specs.Parts.{design_of}
-use Rattle.qp_model.specs.Runs.{counts}
-use Rattle.qp_model.specs.FineForm.{counted_row}
+use Rattle.qp_model.specs.problem.Design.{CostRow}
+use Rattle.qp_model.specs.problem.Parts.{design_of}
+use Rattle.qp_model.specs.problem.Runs.{counts}
+use Rattle.qp_model.specs.form.FineForm.{counted_row}
 use Rattle.qp_model.proofs.CountLaws.{counted_all}
 use Rattle.qp_model.proofs.TableLaws.{entry_small}
 use Rattle.fine_run.specs.Lists.{HoldsEnclosures}

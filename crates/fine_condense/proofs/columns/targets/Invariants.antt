@@ -1,6 +1,6 @@
 use Rattle.frac_scaled.specs.Enclosures.{exactly}
-use Rattle.qp_model.specs.Parts.{design_of}
-use Rattle.qp_model.specs.FineForm.{counted_row}
+use Rattle.qp_model.specs.problem.Parts.{design_of}
+use Rattle.qp_model.specs.form.FineForm.{counted_row}
 use Rattle.fine_run.specs.Lists.{HoldsEnclosures}
 use Rattle.fine_condense.proofs.columns.targets.Given as goal
 

@@ -1,6 +1,6 @@
 use Rattle.std.proofs.Common.{◌+◌, ◌*◌, ℕ, ◌^◌, ◌≤◌, arith}
-use Rattle.qp_model.specs.Parts.{design_of}
-use Rattle.qp_model.specs.Runs.{counts, Holds}
+use Rattle.qp_model.specs.problem.Parts.{design_of}
+use Rattle.qp_model.specs.problem.Runs.{counts, Holds}
 use Rattle.condensed_form.specs.Costs.{weight_of}
 use Rattle.condensed_form.proofs.StateFacts.{denominator_positive}
 use Rattle.fine_condense.proofs.ProductFacts.{weighed_room, weights_signed, products_hold, products_near}

@@ -1,6 +1,6 @@
 use Rattle.std.proofs.Common.{◌*◌}
-use Rattle.qp_model.specs.Parts.{design_of}
-use Rattle.qp_model.specs.FineForm.{hessian_row_radius}
+use Rattle.qp_model.specs.problem.Parts.{design_of}
+use Rattle.qp_model.specs.form.FineForm.{hessian_row_radius}
 use Rattle.qp_model.proofs.SizeFacts.{greatest_next}
 use Rattle.fine_condense.proofs.ColumnFacts.{entries_fit}
 use Rattle.fine_condense.proofs.CostFacts.{all_rows}

@@ -1,7 +1,7 @@
 use Rattle.std.proofs.Common.{◌≡◌, ℤ, List, length, rules, FitsSigned, arith, ap, ◌∙◌, refl}
 use Rattle.std.specs.Int.{w128}
 use Rattle.std.proofs.lemmas.Int.{to_z-of_z}
-use Rattle.qp_model.specs.Parts.{design_of}
+use Rattle.qp_model.specs.problem.Parts.{design_of}
 use Rattle.condensed_form.specs.Form.{IsLeastInput}
 use Rattle.condensed_form.proofs.DenominatorFacts.{least_weight}
 use Rattle.fine_condense.proofs.FloorFacts.{shifted_fits, denominator_weight, hess_den_is, row_den_is, den_is, size_is}

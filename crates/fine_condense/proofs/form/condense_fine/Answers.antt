@@ -1,7 +1,7 @@
 use Rattle.std.proofs.Common.{◌≡◌, inl, inr, Err, true, ap, ◌∙◌}
 use Rattle.std.proofs.lemmas.Result.{err_from_is_err_and}
 use Rattle.qp_model.specs.declared.quantity.Quantity.{Quantity}
-use Rattle.qp_model.specs.Parts.{design_of}
+use Rattle.qp_model.specs.problem.Parts.{design_of}
 use Rattle.condensed_form.specs.declared.fault.CondenseFault.{CondenseFault}
 use Rattle.condensed_form.specs.declared.fault.CondenseFault.TheVariants.{TooWide}
 use Rattle.condensed_form.specs.Fault.{IsFirstWideIn}

@@ -2,8 +2,8 @@ use Rattle.std.proofs.Common.{◌≤◌, ◌<◌, ◌^◌, ℕ, rules, ◌+◌, 
 use Rattle.std.proofs.Math.Nat.{mul-le-mul}
 use Rattle.std.specs.Int.{w128}
 use Rattle.std.proofs.lemmas.Int.{to_z-of_z}
-use Rattle.qp_model.specs.Parts.{design_of}
-use Rattle.qp_model.specs.FineForm.{fine_constant}
+use Rattle.qp_model.specs.problem.Parts.{design_of}
+use Rattle.qp_model.specs.form.FineForm.{fine_constant}
 use Rattle.qp_model.proofs.VersionLaws.{design_states_le, design_stages_le}
 use Rattle.fine_run.proofs.ListFacts.{one_pushed, all_held}
 use Rattle.fine_condense.proofs.ColumnFacts.{entries_fit}

@@ -1,8 +1,8 @@
 use Rattle.std.proofs.Common.{arith, ◌*◌, ◌∙◌}
 use Rattle.std.specs.Int.{w128}
 use Rattle.std.proofs.lemmas.Int.{to_z-of_z}
-use Rattle.qp_model.specs.Parts.{design_of}
-use Rattle.qp_model.specs.FineForm.{fine_hessian}
+use Rattle.qp_model.specs.problem.Parts.{design_of}
+use Rattle.qp_model.specs.form.FineForm.{fine_hessian}
 use Rattle.fine_run.proofs.ListFacts.{one_pushed, all_held}
 use Rattle.fine_condense.proofs.ColumnFacts.{entries_fit}
 use Rattle.fine_condense.proofs.CostFacts.{product_row, product_column, product_at, product_near, hessian_entry, small_fits}

@@ -1,6 +1,6 @@
 use Rattle.std.proofs.Common.{◌*◌, refl}
-use Rattle.qp_model.specs.Parts.{design_of}
-use Rattle.qp_model.specs.FineForm.{fine_hessian}
+use Rattle.qp_model.specs.problem.Parts.{design_of}
+use Rattle.qp_model.specs.form.FineForm.{fine_hessian}
 use Rattle.fine_condense.proofs.ColumnFacts.{enclosures_zero, column_inside, all_columns, entries_fit, column_rows}
 use Rattle.fine_condense.proofs.hessian.hessian_numbers.Goals as goal
 

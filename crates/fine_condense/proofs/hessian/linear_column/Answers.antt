@@ -1,7 +1,7 @@
 use Rattle.std.proofs.Common.{◌≤◌, ◌<◌, ◌^◌, ℕ, ◌+◌, ◌*◌, arith, ◌∙◌}
 use Rattle.std.proofs.Math.Nat.{mul-le-mul}
-use Rattle.qp_model.specs.Parts.{design_of}
-use Rattle.qp_model.specs.FineForm.{fine_linear}
+use Rattle.qp_model.specs.problem.Parts.{design_of}
+use Rattle.qp_model.specs.form.FineForm.{fine_linear}
 use Rattle.qp_model.proofs.VersionLaws.{design_states_le, design_stages_le}
 use Rattle.fine_run.proofs.ListFacts.{one_pushed, all_held}
 use Rattle.fine_condense.proofs.ColumnFacts.{entries_fit}

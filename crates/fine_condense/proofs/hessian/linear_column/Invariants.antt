@@ -1,5 +1,5 @@
-use Rattle.qp_model.specs.Parts.{design_of}
-use Rattle.qp_model.specs.FineForm.{fine_linear}
+use Rattle.qp_model.specs.problem.Parts.{design_of}
+use Rattle.qp_model.specs.form.FineForm.{fine_linear}
 use Rattle.fine_run.specs.Lists.{HoldsEnclosures}
 use Rattle.fine_condense.proofs.hessian.linear_column.Given as goal
 

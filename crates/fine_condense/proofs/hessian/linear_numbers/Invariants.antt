@@ -1,6 +1,6 @@
 use Rattle.std.proofs.Common.{◌*◌}
-use Rattle.qp_model.specs.Parts.{design_of}
-use Rattle.qp_model.specs.FineForm.{fine_linear}
+use Rattle.qp_model.specs.problem.Parts.{design_of}
+use Rattle.qp_model.specs.form.FineForm.{fine_linear}
 use Rattle.fine_condense.specs.Lists.{HoldsEncMatrix}
 use Rattle.fine_condense.proofs.hessian.linear_numbers.Given as goal
 

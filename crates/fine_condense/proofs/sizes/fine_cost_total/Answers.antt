@@ -1,10 +1,10 @@
 use Rattle.std.proofs.Common.{ℕ, ◌+◌, ◌*◌, ◌^◌, ◌≤◌, ◌∙◌, sym, subst, arith, refl}
 use Rattle.std.proofs.Math.Nat.{one-le-mul}
 use Rattle.std.specs.Option.{SomeIff}
-use Rattle.qp_model.specs.Design.{entries}
-use Rattle.qp_model.specs.Parts.{design_of}
-use Rattle.qp_model.specs.Quantities.{cost_width, weight_sum}
-use Rattle.qp_model.specs.FineSizes.{fine_reach}
+use Rattle.qp_model.specs.problem.Design.{entries}
+use Rattle.qp_model.specs.problem.Parts.{design_of}
+use Rattle.qp_model.specs.form.Quantities.{cost_width, weight_sum}
+use Rattle.qp_model.specs.form.FineSizes.{fine_reach}
 use Rattle.qp_model.proofs.SizeFacts.{hessian_parts, hessian_value, some_weight, some_cost, some_entry}
 use Rattle.fine_condense.proofs.ColumnFacts.{entries_fit}
 use Rattle.fine_condense.proofs.sizes.fine_cost_total.Goals as goal

@@ -1,9 +1,9 @@
 use Rattle.std.proofs.Common.{◌≡◌, ℕ, ◌+◌, ◌*◌, ◌^◌, ◌≤◌, ◌∙◌, sym, subst, refl}
 use Rattle.std.specs.Option.{SomeIff}
-use Rattle.qp_model.specs.Design.{entries, rows}
-use Rattle.qp_model.specs.Parts.{design_of}
-use Rattle.qp_model.specs.Quantities.{limit_width}
-use Rattle.qp_model.specs.FineSizes.{fine_reach}
+use Rattle.qp_model.specs.problem.Design.{entries, rows}
+use Rattle.qp_model.specs.problem.Parts.{design_of}
+use Rattle.qp_model.specs.form.Quantities.{limit_width}
+use Rattle.qp_model.specs.form.FineSizes.{fine_reach}
 use Rattle.qp_model.proofs.SizeFacts.{rows_parts, rows_value, some_limit, some_row}
 use Rattle.fine_condense.proofs.ColumnFacts.{entries_fit}
 use Rattle.fine_condense.proofs.sizes.fine_rows_size.Goals as goal

@@ -1,5 +1,5 @@
 use Rattle.integer_algebra.specs.Sums.{none}
-use Rattle.qp_model.specs.Runs.{unit}
+use Rattle.qp_model.specs.problem.Runs.{unit}
 use Rattle.fine_condense.proofs.ColumnFacts.{entries_fit}
 use Rattle.fine_condense.proofs.UnitFacts.{none_everywhere, unit_everywhere, plan_ready, made_of}
 use Rattle.fine_condense.proofs.units.run_of_plan.Goals as goal

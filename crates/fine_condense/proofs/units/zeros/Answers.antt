@@ -1,6 +1,6 @@
 use Rattle.std.proofs.lemmas.Result.{IfOk-weaker}
 use Rattle.integer_algebra.specs.Sums.{none}
-use Rattle.qp_model.specs.FineForm.{wholes}
+use Rattle.qp_model.specs.form.FineForm.{wholes}
 use Rattle.fine_run.specs.Lists.{HoldsEnclosures}
 use Rattle.fine_condense.proofs.UnitFacts.{zeros_hold}
 use Rattle.fine_condense.proofs.units.zeros.Goals as goal

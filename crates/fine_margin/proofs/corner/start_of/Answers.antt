@@ -5,11 +5,11 @@ use mir.Val.{SFits}
 use Rattle.std.proofs.lemmas.Int.{to_z-of_z}
 use Rattle.integer_algebra.specs.Sums.{at}
 use Rattle.frac_scaled.specs.Enclosures.{enclosed}
-use Rattle.qp_model.specs.Parts.{design_of, IsNumeratorList}
-use Rattle.qp_model.specs.Range.{IsNumerator}
-use Rattle.qp_model.specs.FineCorners.{corner_state}
+use Rattle.qp_model.specs.problem.Parts.{design_of, IsNumeratorList}
+use Rattle.qp_model.specs.problem.Range.{IsNumerator}
+use Rattle.qp_model.specs.bounds.FineCorners.{corner_state}
 use Rattle.fine_run.proofs.ListFacts.{one_pushed}
-use Rattle.slater_margin.proofs.RoomFacts.{one_times}
+use Rattle.exact_margin.proofs.RoomFacts.{one_times}
 use Rattle.fine_margin.proofs.corner.start_of.Goals as goal
 
 pub loop-i-preserved : goal.loop-i-preserved

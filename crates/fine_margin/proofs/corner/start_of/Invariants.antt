@@ -1,6 +1,6 @@
 use Rattle.std.proofs.Common.{◌+◌}
-use Rattle.qp_model.specs.Parts.{design_of}
-use Rattle.qp_model.specs.FineCorners.{corner_state}
+use Rattle.qp_model.specs.problem.Parts.{design_of}
+use Rattle.qp_model.specs.bounds.FineCorners.{corner_state}
 use Rattle.fine_run.specs.Lists.{HoldsEnclosures}
 use Rattle.fine_margin.proofs.corner.start_of.Given as goal
 

@@ -1,6 +1,6 @@
 use Rattle.std.proofs.Common.{◌%◌}
 use Rattle.integer_algebra.specs.Sums.{at}
-use Rattle.qp_model.specs.Runs.{Holds}
+use Rattle.qp_model.specs.problem.Runs.{Holds}
 use Rattle.fine_margin.proofs.lists.entry_weights.Given as goal
 
 abbrev pub invariant-loop-j : goal.invariant-loop-j

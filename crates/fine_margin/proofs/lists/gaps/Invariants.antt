@@ -2,7 +2,7 @@ use Rattle.std.proofs.Common.{◌+ℤ◌, ◌-ℤ◌}
 use Rattle.integer_algebra.specs.Bounds.{absolute}
 use Rattle.integer_algebra.specs.Sums.{at}
 use Rattle.enclosure.specs.Values.{pair_at}
-use Rattle.qp_model.specs.Runs.{Holds}
+use Rattle.qp_model.specs.problem.Runs.{Holds}
 use Rattle.fine_margin.proofs.lists.gaps.Given as goal
 
 abbrev pub invariant-loop-i : goal.invariant-loop-i

@@ -1,7 +1,7 @@
 use Rattle.std.proofs.Common.{◌*ℤ◌}
 use Rattle.frac_scaled.specs.Enclosures.{magnitude}
 use Rattle.enclosure.specs.Values.{pair_at}
-use Rattle.qp_model.specs.Runs.{Holds}
+use Rattle.qp_model.specs.problem.Runs.{Holds}
 use Rattle.fine_margin.proofs.lists.reaches.Given as goal
 
 abbrev pub invariant-loop-j : goal.invariant-loop-j

@@ -1,7 +1,7 @@
 use Rattle.std.proofs.Common.{◌-ℤ◌}
 use Rattle.integer_algebra.specs.Sums.{at}
 use Rattle.enclosure.specs.Values.{pair_at}
-use Rattle.qp_model.specs.Runs.{Holds}
+use Rattle.qp_model.specs.problem.Runs.{Holds}
 use Rattle.fine_margin.proofs.lists.slacks.Given as goal
 
 abbrev pub invariant-loop-i : goal.invariant-loop-i

@@ -6,9 +6,9 @@ use Rattle.std.proofs.lemmas.Result.{err_from_is_err_and}
 use Rattle.qp_model.specs.declared.bounds.Margin.{Margin}
 use Rattle.qp_model.specs.declared.design_parts.DesignParts.{DesignParts}
 use Rattle.qp_model.specs.declared.policy.Policy.{Policy}
-use Rattle.qp_model.specs.Policy.{plans_of}
-use Rattle.slater_margin.specs.declared.fault.MarginFault.TheVariants.{TooWide, NoMargin}
-use Rattle.slater_margin.proofs.FaultFacts.{same_error, memory_unshort, memory_unwide}
+use Rattle.qp_model.specs.problem.Policy.{plans_of}
+use Rattle.exact_margin.specs.declared.fault.MarginFault.TheVariants.{TooWide, NoMargin}
+use Rattle.exact_margin.proofs.FaultFacts.{same_error, memory_unshort, memory_unwide}
 use Rattle.fine_margin.proofs.MarginFacts.{carried, HasMargin, HasShortRow}
 use Rattle.fine_margin.proofs.margin.corner_margin.Goals as goal
 

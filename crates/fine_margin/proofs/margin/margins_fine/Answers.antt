@@ -5,12 +5,12 @@ use Rattle.std.proofs.lemmas.Int.{to_z-of_z}
 use Rattle.std.proofs.lemmas.Nat.{pow_pos}
 use Rattle.std.proofs.lemmas.Result.{err_from_is_err_and}
 use Rattle.qp_model.specs.declared.design_parts.DesignParts.{DesignParts}
-use Rattle.qp_model.specs.CornerClass.{IsMarginIn}
-use Rattle.qp_model.specs.Parts.{design_of}
-use Rattle.qp_model.specs.Policy.{plans_of, IsPolicyFor}
-use Rattle.slater_margin.specs.Corners.{IsFirstWideCornerIn, IsFirstShortIn}
-use Rattle.slater_margin.specs.declared.fault.MarginFault.TheVariants.{TooWide, NoMargin}
-use Rattle.slater_margin.proofs.FaultFacts.{same_error}
+use Rattle.qp_model.specs.bounds.CornerClass.{IsMarginIn}
+use Rattle.qp_model.specs.problem.Parts.{design_of}
+use Rattle.qp_model.specs.problem.Policy.{plans_of, IsPolicyFor}
+use Rattle.exact_margin.specs.Corners.{IsFirstWideCornerIn, IsFirstShortIn}
+use Rattle.exact_margin.specs.declared.fault.MarginFault.TheVariants.{TooWide, NoMargin}
+use Rattle.exact_margin.proofs.FaultFacts.{same_error}
 use Rattle.fine_margin.proofs.MarginFacts.{IsMarginUpTo, first_margin, next_margin, short_first, short_next, whole_margin, none_short}
 use Rattle.fine_margin.proofs.ReachFacts.{below_both}
 use Rattle.fine_margin.proofs.margin.margins_fine.Goals as goal

@@ -1,4 +1,4 @@
-use Rattle.qp_model.specs.Policy.{plans_of}
+use Rattle.qp_model.specs.problem.Policy.{plans_of}
 use Rattle.fine_margin.proofs.MarginFacts.{IsMarginUpTo}
 use Rattle.fine_margin.proofs.margin.margins_fine.Given as goal
 

@@ -1,10 +1,10 @@
 use Rattle.std.proofs.Common.{true, refl}
 use Rattle.qp_model.specs.declared.quantity.Quantity.TheVariants.{Prediction, CornerSlack, CornerCost}
-use Rattle.qp_model.specs.FineSizes.{fine_prediction_size}
-use Rattle.qp_model.specs.Parts.{design_of}
-use Rattle.qp_model.specs.Policy.{plans_of}
-use Rattle.slater_margin.specs.Corners.{HasCornerRoomIn}
-use Rattle.slater_margin.proofs.FaultFacts.{refused_first, none_refused, quantity_above, quantity_within}
+use Rattle.qp_model.specs.form.FineSizes.{fine_prediction_size}
+use Rattle.qp_model.specs.problem.Parts.{design_of}
+use Rattle.qp_model.specs.problem.Policy.{plans_of}
+use Rattle.exact_margin.specs.Corners.{HasCornerRoomIn}
+use Rattle.exact_margin.proofs.FaultFacts.{refused_first, none_refused, quantity_above, quantity_within}
 use Rattle.fine_margin.proofs.TestFacts.{cost_size, room_of, slack_wide, slack_room, cost_wide}
 use Rattle.fine_margin.proofs.margin.test_room.Goals as goal
 

@@ -1,5 +1,5 @@
-use Rattle.qp_model.specs.Parts.{design_of}
-use Rattle.qp_model.specs.Quantities.{weight_sum}
+use Rattle.qp_model.specs.problem.Parts.{design_of}
+use Rattle.qp_model.specs.form.Quantities.{weight_sum}
 use Rattle.qp_model.proofs.SizeFacts.{side_under, some_weight}
 use Rattle.fine_margin.proofs.sizes.corner_cost_size.Goals as goal
 

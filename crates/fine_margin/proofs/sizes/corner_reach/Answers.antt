@@ -1,7 +1,7 @@
 use Rattle.std.proofs.Common.{◌≡◌, ℕ, ◌*◌, ◌^◌, ◌≤◌, subst, sym, ap, ap₂, ◌∙◌}
-use Rattle.qp_model.specs.Parts.{design_of}
-use Rattle.qp_model.specs.Quantities.{growth, limit_width}
-use Rattle.qp_model.specs.FineSizes.{reach_from}
+use Rattle.qp_model.specs.problem.Parts.{design_of}
+use Rattle.qp_model.specs.form.Quantities.{growth, limit_width}
+use Rattle.qp_model.specs.form.FineSizes.{reach_from}
 use Rattle.fine_margin.proofs.TestFacts.{states_room, brought_room, row_room, parts_room}
 use Rattle.fine_margin.proofs.sizes.corner_reach.Goals as goal
 

@@ -2,9 +2,9 @@ use Rattle.std.proofs.Common.{◌<◌, ◌^◌, rules, arith, sym}
 use Rattle.std.specs.Int.{w128}
 use mir.Val.{SFits}
 use Rattle.std.proofs.lemmas.Int.{to_z-of_z}
-use Rattle.qp_model.specs.Parts.{design_of}
-use Rattle.qp_model.specs.Policy.{plans_of}
-use Rattle.qp_model.specs.CornerSizes.{plan_reach}
+use Rattle.qp_model.specs.problem.Parts.{design_of}
+use Rattle.qp_model.specs.problem.Policy.{plans_of}
+use Rattle.qp_model.specs.bounds.CornerSizes.{plan_reach}
 use Rattle.qp_model.proofs.CornerFacts.{over_is}
 use Rattle.fine_margin.proofs.ReachFacts.{plan_reach_is, reach_more, below, below_len, below_both, at_end, numerators_small, denominator_within, grid_some, grid_within, small_box, reach_first, reach_all}
 use Rattle.fine_margin.proofs.sizes.first_reach.Goals as goal

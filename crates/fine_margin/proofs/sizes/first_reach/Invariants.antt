@@ -1,9 +1,9 @@
 use Rattle.std.proofs.Common.{◌≡◌, ◌*◌, ◌^◌, max}
 use Rattle.integer_algebra.specs.Division.{ceil_div}
-use Rattle.qp_model.specs.Parts.{design_of}
-use Rattle.qp_model.specs.Policy.{plans_of}
-use Rattle.qp_model.specs.Quantities.{greatest}
-use Rattle.qp_model.specs.CornerSizes.{box_magnitude, plan_reach}
+use Rattle.qp_model.specs.problem.Parts.{design_of}
+use Rattle.qp_model.specs.problem.Policy.{plans_of}
+use Rattle.qp_model.specs.form.Quantities.{greatest}
+use Rattle.qp_model.specs.bounds.CornerSizes.{box_magnitude, plan_reach}
 use Rattle.fine_margin.proofs.sizes.first_reach.Given as goal
 
 abbrev pub invariant-loop-c : goal.invariant-loop-c

@@ -1,7 +1,7 @@
 use Rattle.std.proofs.Common.{◌≡◌, ◌+◌, ◌*◌, ◌^◌, unsigned_abs}
 use Rattle.integer_algebra.specs.Division.{ceil_div}
 use Rattle.integer_algebra.specs.Sums.{at}
-use Rattle.qp_model.specs.Quantities.{greatest}
+use Rattle.qp_model.specs.form.Quantities.{greatest}
 use Rattle.fine_margin.proofs.sizes.plan_reach.Given as goal
 
 abbrev pub invariant-loop-number : goal.invariant-loop-number

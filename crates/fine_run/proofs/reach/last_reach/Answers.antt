@@ -1,4 +1,4 @@
-use Rattle.qp_model.specs.Parts.{design_of}
+use Rattle.qp_model.specs.problem.Parts.{design_of}
 use Rattle.condensed_form.proofs.StateFacts.{denominator_positive}
 use Rattle.fine_run.proofs.Rooms.{growth_from, denominator_is, den_positive, brought_fits, reach_fits, next_reach, last_is, last_room, last_small}
 use Rattle.fine_run.proofs.reach.last_reach.Goals as goal

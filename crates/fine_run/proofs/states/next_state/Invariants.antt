@@ -2,7 +2,7 @@ use Rattle.std.proofs.Common.{◌+◌, unsigned_abs}
 use Rattle.mat_int.specs.Enclosures.{combined}
 use Rattle.mat_int.specs.Matrix.{entry_of}
 use Rattle.enclosure.specs.Values.{pair_at}
-use Rattle.qp_model.specs.FineForm.{followed}
+use Rattle.qp_model.specs.form.FineForm.{followed}
 use Rattle.fine_run.specs.Lists.{HoldsEnclosures}
 use Rattle.fine_run.proofs.states.next_state.Given as goal
 

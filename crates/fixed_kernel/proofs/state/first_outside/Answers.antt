@@ -3,8 +3,8 @@ use Rattle.std.specs.Int.{w128}
 use Rattle.std.proofs.lemmas.Int.{ints}
 use Rattle.std.proofs.lemmas.List.{get_or_read}
 use Rattle.integer_algebra.specs.Sums.{at}
-use Rattle.qp_model.specs.Controller.{numbers}
-use Rattle.qp_model.specs.Machine.{IsInside}
+use Rattle.qp_model.specs.machine.Controller.{numbers}
+use Rattle.qp_model.specs.machine.Machine.{IsInside}
 use Rattle.fixed_kernel.proofs.state.first_outside.Goals as goal
 use Rattle.fixed_kernel.proofs.state.first_outside.Goals.{then-x-index-via-then-x-index, then-x-index-via-else-x-index+then-index-x}
 

@@ -1,6 +1,6 @@
 use Rattle.std.proofs.Common.{◌≡◌, ◌+◌, ◌<◌, ℕ}
-use Rattle.qp_model.specs.Controller.{numbers}
-use Rattle.qp_model.specs.Machine.{IsInside}
+use Rattle.qp_model.specs.machine.Controller.{numbers}
+use Rattle.qp_model.specs.machine.Machine.{IsInside}
 use Rattle.fixed_kernel.proofs.state.first_outside.Given as goal
 
 abbrev pub invariant-loop-i : goal.invariant-loop-i

@@ -1,7 +1,7 @@
 use Rattle.std.proofs.Common.{◌≡◌, ◌+◌, ◌++◌, length, pos, replicate, ap, sym, ◌∙◌, arith, ℕ, ℤ, List}
 use Rattle.std.proofs.lemmas.List.{replicate-append-replicate}
-use Rattle.qp_model.specs.Controller.{numbers}
-use Rattle.qp_model.specs.Machine.{loaded}
+use Rattle.qp_model.specs.machine.Controller.{numbers}
+use Rattle.qp_model.specs.machine.Machine.{loaded}
 use Rattle.fixed_kernel.proofs.state.put_start.Goals as goal
 
 zeros : (w m p : ℕ) → w ≡ m + (p + p) → replicate w (pos 0) ≡ replicate m (pos 0) ++ (replicate p (pos 0) ++ replicate p (pos 0))

@@ -1,6 +1,6 @@
 use Rattle.std.proofs.Common.{◌≡◌, List, ℤ, length, ap, ◌∙◌, refl, rules}
-use Rattle.qp_model.specs.Controller.{numbers}
-use Rattle.qp_model.specs.Machine.{Iterate}
+use Rattle.qp_model.specs.machine.Controller.{numbers}
+use Rattle.qp_model.specs.machine.Machine.{Iterate}
 use Rattle.fixed_kernel.specs.Raised.{raised_step}
 use Rattle.fixed_kernel.specs.Spans.{words_of, made_of, state_in, made_in}
 use Rattle.fixed_kernel.proofs.step.advance.Goals as goal

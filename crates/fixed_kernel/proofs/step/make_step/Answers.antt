@@ -1,6 +1,6 @@
 use Rattle.std.proofs.Common.{◌≡◌, ◌∙◌, ap, arith, length, List, ℤ}
-use Rattle.qp_model.specs.Controller.{numbers}
-use Rattle.qp_model.specs.Machine.{raised, next_multipliers, added}
+use Rattle.qp_model.specs.machine.Controller.{numbers}
+use Rattle.qp_model.specs.machine.Machine.{raised, next_multipliers, added}
 use Rattle.overflow_check.proofs.Sizes.{length-clamp_reach}
 use Rattle.fixed_kernel.specs.Raised.{unraised}
 use Rattle.fixed_kernel.specs.Spans.{made_of}

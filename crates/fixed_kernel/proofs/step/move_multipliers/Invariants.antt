@@ -1,6 +1,6 @@
 use Rattle.std.proofs.Common.{◌≡◌, ℕ, ◌<◌, ◌≤◌, get_or, pos}
-use Rattle.qp_model.specs.Controller.{numbers}
-use Rattle.qp_model.specs.Machine.{next_multiplier}
+use Rattle.qp_model.specs.machine.Controller.{numbers}
+use Rattle.qp_model.specs.machine.Machine.{next_multiplier}
 use Rattle.fixed_kernel.proofs.step.move_multipliers.Given as goal
 
 abbrev pub invariant-loop-i : goal.invariant-loop-i

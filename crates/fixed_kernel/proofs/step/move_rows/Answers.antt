@@ -5,8 +5,8 @@ use Rattle.std.proofs.lemmas.List.Edits.{fill_by_more}
 use Rattle.std.proofs.lemmas.List.FromFn.{fill_by_all}
 use Rattle.integer_algebra.specs.Division.{floor_of}
 use Rattle.integer_algebra.specs.Sums.{at}
-use Rattle.qp_model.specs.Controller.{numbers}
-use Rattle.qp_model.specs.Machine.{lowering_of, next_multiplier, next_multipliers}
+use Rattle.qp_model.specs.machine.Controller.{numbers}
+use Rattle.qp_model.specs.machine.Machine.{lowering_of, next_multiplier, next_multipliers}
 use Rattle.overflow_check.proofs.Sizes.{length-clamp_reach}
 use Rattle.fixed_kernel.specs.Raised.{unraised}
 use Rattle.fixed_kernel.proofs.Raised.{next_unraised_at, within_clamp}

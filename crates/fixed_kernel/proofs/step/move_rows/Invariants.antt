@@ -1,7 +1,7 @@
 use Rattle.std.proofs.Common.{◌≡◌, ℕ, ◌<◌, ◌≤◌, ◌^◌, ◌*ℤ◌, get_or, pos}
 use Rattle.integer_algebra.specs.Division.{floor_of}
-use Rattle.qp_model.specs.Controller.{numbers}
-use Rattle.qp_model.specs.Machine.{lowering_of, next_multiplier}
+use Rattle.qp_model.specs.machine.Controller.{numbers}
+use Rattle.qp_model.specs.machine.Machine.{lowering_of, next_multiplier}
 use Rattle.fixed_kernel.proofs.step.move_rows.Given as goal
 
 abbrev pub invariant-loop-i : goal.invariant-loop-i

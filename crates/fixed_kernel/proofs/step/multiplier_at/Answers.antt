@@ -3,7 +3,7 @@ use Rattle.std.proofs.Common.{◌≡◌, pos, get_or, rules, FitsSigned, refl}
 use Rattle.std.specs.Int.{w128}
 use Rattle.std.proofs.lemmas.Int.{to_z-of_z}
 use Rattle.std.proofs.lemmas.List.{get_or_read}
-use Rattle.qp_model.specs.Controller.{numbers}
+use Rattle.qp_model.specs.machine.Controller.{numbers}
 use Rattle.fixed_kernel.proofs.Rooms.{row_room, next_room}
 use Rattle.fixed_kernel.proofs.step.multiplier_at.Goals as goal
 

@@ -4,8 +4,8 @@ use Rattle.std.specs.Int.{w128}
 use Rattle.std.proofs.lemmas.Int.{to_z-of_z}
 use Rattle.std.proofs.lemmas.List.{get_or_read}
 use Rattle.integer_algebra.specs.Division.{floor_of}
-use Rattle.qp_model.specs.Controller.{numbers}
-use Rattle.qp_model.specs.Machine.{lowering_of, next_multiplier}
+use Rattle.qp_model.specs.machine.Controller.{numbers}
+use Rattle.qp_model.specs.machine.Machine.{lowering_of, next_multiplier}
 use Rattle.fixed_kernel.proofs.Rooms.{row_room, next_room}
 use Rattle.fixed_kernel.proofs.Raised.{lowered_within, moved_unlowered, moved_raised_fits, moved_raised_narrow}
 use Rattle.fixed_kernel.proofs.step.raised_multiplier_at.Goals as goal

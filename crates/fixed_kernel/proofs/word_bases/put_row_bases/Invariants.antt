@@ -1,5 +1,5 @@
 use Rattle.std.proofs.Common.{◌≡◌, ℕ, ◌<◌, get_or, pos}
-use Rattle.qp_model.specs.Controller.{numbers}
+use Rattle.qp_model.specs.machine.Controller.{numbers}
 use Rattle.fixed_kernel.specs.WordForm.{row_base}
 use Rattle.fixed_kernel.proofs.word_bases.put_row_bases.Given as goal
 

@@ -3,7 +3,7 @@ use Rattle.std.specs.Int.{w64, w128}
 use Rattle.std.proofs.lemmas.Int.{to_z-of_z}
 use Rattle.std.proofs.lemmas.List.{get_or_read}
 use Rattle.integer_algebra.specs.Sums.{at}
-use Rattle.qp_model.specs.Controller.{numbers}
+use Rattle.qp_model.specs.machine.Controller.{numbers}
 use Rattle.fixed_kernel.proofs.Rooms.{state_long}
 use Rattle.fixed_kernel.proofs.WordRooms.{own_word_room, entry_base_fits}
 use Rattle.fixed_kernel.proofs.word_bases.word_entry_base.Goals as goal

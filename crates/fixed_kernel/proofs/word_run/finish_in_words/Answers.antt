@@ -1,8 +1,8 @@
 use Rattle.std.proofs.Common.{ap, sym, subst}
 use Rattle.std.specs.Prelude.{All}
 use Rattle.mat_products.specs.Narrow.{IsNarrow}
-use Rattle.qp_model.specs.Controller.{numbers}
-use Rattle.qp_model.specs.Machine.{Iterate}
+use Rattle.qp_model.specs.machine.Controller.{numbers}
+use Rattle.qp_model.specs.machine.Machine.{Iterate}
 use Rattle.fixed_kernel.proofs.WordRooms.{after_multipliers_narrow, after_plan_narrow, after_sums_narrow}
 use Rattle.fixed_kernel.proofs.word_run.finish_in_words.Goals as goal
 

@@ -2,7 +2,7 @@ use Rattle.std.proofs.Common.{◌≡◌, get_or, pos, rules, FitsSigned, refl, �
 use Rattle.std.specs.Int.{w64}
 use Rattle.std.proofs.lemmas.Int.{to_z-of_z}
 use Rattle.mat_int.specs.Matrix.{row_of}
-use Rattle.qp_model.specs.Controller.{numbers}
+use Rattle.qp_model.specs.machine.Controller.{numbers}
 use Rattle.fixed_kernel.specs.WordForm.{entry_base}
 use Rattle.fixed_kernel.proofs.WordRooms.{entry_word_room, entry_bases_long, entry_bases_at}
 use Rattle.fixed_kernel.proofs.word_step.word_entry_at.Goals as goal

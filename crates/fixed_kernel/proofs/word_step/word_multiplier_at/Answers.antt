@@ -2,7 +2,7 @@ use Rattle.std.proofs.Common.{◌≡◌, get_or, pos, rules, FitsSigned, arith, 
 use Rattle.std.specs.Int.{w64}
 use Rattle.std.proofs.lemmas.Int.{to_z-of_z}
 use Rattle.mat_int.specs.Matrix.{row_of}
-use Rattle.qp_model.specs.Controller.{numbers}
+use Rattle.qp_model.specs.machine.Controller.{numbers}
 use Rattle.fixed_kernel.specs.WordForm.{row_base}
 use Rattle.fixed_kernel.proofs.Rooms.{plan_long}
 use Rattle.fixed_kernel.proofs.WordRooms.{row_word_room, next_word_room, row_bases_long, row_bases_at, row_sum_is}

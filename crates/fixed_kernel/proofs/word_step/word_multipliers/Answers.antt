@@ -4,8 +4,8 @@ use Rattle.std.specs.Int.{w64}
 use Rattle.std.proofs.lemmas.Int.{to_z-of_z}
 use Rattle.std.proofs.lemmas.List.Edits.{fill_by_more}
 use Rattle.std.proofs.lemmas.List.FromFn.{fill_by_all}
-use Rattle.qp_model.specs.Controller.{numbers}
-use Rattle.qp_model.specs.Machine.{next_multiplier}
+use Rattle.qp_model.specs.machine.Controller.{numbers}
+use Rattle.qp_model.specs.machine.Machine.{next_multiplier}
 use Rattle.qp_model.proofs.VersionLaws.{first_top}
 use Rattle.overflow_check.proofs.Sizes.{length-clamp_reach}
 use Rattle.fixed_kernel.proofs.Raised.{moved_is}

@@ -3,8 +3,8 @@ use Rattle.std.specs.Int.{w64}
 use Rattle.std.proofs.lemmas.Int.{to_z-of_z}
 use Rattle.std.proofs.lemmas.List.Edits.{fill_by_more}
 use Rattle.std.proofs.lemmas.List.FromFn.{fill_by_all}
-use Rattle.qp_model.specs.Controller.{numbers}
-use Rattle.qp_model.specs.Machine.{plan_entry}
+use Rattle.qp_model.specs.machine.Controller.{numbers}
+use Rattle.qp_model.specs.machine.Machine.{plan_entry}
 use Rattle.qp_model.proofs.MagnitudeLaws.{plan_within}
 use Rattle.fixed_kernel.proofs.word_step.word_plan.Goals as goal
 

@@ -1,6 +1,6 @@
 use Rattle.std.proofs.Common.{◌≡◌, ℕ, ◌<◌, get_or, pos}
-use Rattle.qp_model.specs.Controller.{numbers}
-use Rattle.qp_model.specs.Machine.{plan_entry}
+use Rattle.qp_model.specs.machine.Controller.{numbers}
+use Rattle.qp_model.specs.machine.Machine.{plan_entry}
 use Rattle.fixed_kernel.proofs.word_step.word_plan.Given as goal
 
 abbrev pub invariant-loop-j : goal.invariant-loop-j

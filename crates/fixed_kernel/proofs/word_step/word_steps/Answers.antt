@@ -1,6 +1,6 @@
 use Rattle.std.proofs.Common.{ap, sym, subst, ◌∙◌, arith}
-use Rattle.qp_model.specs.Controller.{numbers}
-use Rattle.qp_model.specs.Machine.{Iterate, step_of}
+use Rattle.qp_model.specs.machine.Controller.{numbers}
+use Rattle.qp_model.specs.machine.Machine.{Iterate, step_of}
 use Rattle.overflow_check.proofs.Runs.{after_suc}
 use Rattle.fixed_kernel.specs.WordForm.{IsReadyInWords}
 use Rattle.fixed_kernel.proofs.WordRooms.{ready_in_words}

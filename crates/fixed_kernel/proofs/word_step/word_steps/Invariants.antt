@@ -1,6 +1,6 @@
 use Rattle.std.proofs.Common.{◌≡◌}
-use Rattle.qp_model.specs.Controller.{numbers}
-use Rattle.qp_model.specs.Machine.{after}
+use Rattle.qp_model.specs.machine.Controller.{numbers}
+use Rattle.qp_model.specs.machine.Machine.{after}
 use Rattle.fixed_kernel.specs.Spans.{made_of}
 use Rattle.fixed_kernel.proofs.word_step.word_steps.Given as goal
 

@@ -1,7 +1,7 @@
 use Rattle.std.proofs.Common.{◌≡◌, ◌+◌, Some, length, arith}
 use Rattle.std.specs.Prelude.{unwrap_or}
 use Rattle.std.specs.Option.{option_or}
-use Rattle.qp_model.specs.Least.{IsLeastBelow}
+use Rattle.qp_model.specs.bounds.Least.{IsLeastBelow}
 use Rattle.integer_algebra.specs.Matrices.{IsDominant}
 use Rattle.hessian_check.specs.MatrixRoom.{matrix_at}
 use Rattle.hessian_check.proofs.ChoiceLaws.{either_made, chosen_made, memory_outcome}

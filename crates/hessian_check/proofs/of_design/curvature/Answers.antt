@@ -1,8 +1,8 @@
 use Rattle.std.proofs.Common.{inr, arith, rules, true, IsTrue, refl}
 use Rattle.std.proofs.lemmas.Result.{err_from_is_err_and}
-use Rattle.qp_model.specs.Class.{CoversSquares}
-use Rattle.qp_model.specs.FineSizes.{is_fine}
-use Rattle.qp_model.specs.Parts.{design_of}
+use Rattle.qp_model.specs.form.Class.{CoversSquares}
+use Rattle.qp_model.specs.form.FineSizes.{is_fine}
+use Rattle.qp_model.specs.problem.Parts.{design_of}
 use Rattle.condensed_form.proofs.LeastLaws.{few}
 use Rattle.hessian_check.proofs.ExponentLaws.{step_law}
 use Rattle.hessian_check.proofs.RowLaws.{not_true}

@@ -1,6 +1,6 @@
 use Rattle.std.proofs.Common.{refl}
-use Rattle.qp_model.specs.Class.{product_row_in}
-use Rattle.qp_model.specs.Parts.{design_of}
+use Rattle.qp_model.specs.form.Class.{product_row_in}
+use Rattle.qp_model.specs.problem.Parts.{design_of}
 use Rattle.hessian_check.proofs.FormMatrices.{factors_of, matrices_are, matrices_held}
 use Rattle.hessian_check.proofs.RowMatrices.{once_matrix_is, once_room}
 use Rattle.hessian_check.proofs.of_design.matrices_by.Goals as goal

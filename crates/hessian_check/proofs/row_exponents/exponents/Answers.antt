@@ -1,6 +1,6 @@
 use Rattle.std.proofs.Common.{rules, ◌∙◌}
-use Rattle.qp_model.specs.FineSizes.{is_fine}
-use Rattle.qp_model.specs.Parts.{design_of}
+use Rattle.qp_model.specs.form.FineSizes.{is_fine}
+use Rattle.qp_model.specs.problem.Parts.{design_of}
 use Rattle.hessian_check.proofs.LoweringLaws.{exponents_of, listed_of, replicated_of}
 use Rattle.hessian_check.proofs.RowLaws.{not_true}
 use Rattle.hessian_check.proofs.row_exponents.exponents.Goals as goal

@@ -1,6 +1,6 @@
 use Rattle.std.proofs.Common.{sym, ◌∙◌}
 use Rattle.std.proofs.lemmas.Result.{IfOk-weaker}
-use Rattle.qp_model.specs.Parts.{design_of}
+use Rattle.qp_model.specs.problem.Parts.{design_of}
 use Rattle.hessian_check.proofs.LoweringLaws.{exponent_small, tested_fits, tested_room, tested_sound, tested_told}
 use Rattle.hessian_check.proofs.row_exponents.is_list_accepted.Goals as goal
 

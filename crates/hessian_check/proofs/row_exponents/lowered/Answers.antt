@@ -1,5 +1,5 @@
 use Rattle.std.proofs.Common.{◌≡◌, ◌-◌, ◌<◌, length, arith, rules}
-use Rattle.qp_model.specs.Parts.{design_of}
+use Rattle.qp_model.specs.problem.Parts.{design_of}
 use Rattle.hessian_check.proofs.LoweringLaws.{refused_next, sums_along, taken_all, taken_more}
 use Rattle.hessian_check.proofs.RowLaws.{not_true}
 use Rattle.hessian_check.proofs.row_exponents.lowered.Goals as goal

@@ -1,6 +1,6 @@
 use Rattle.std.proofs.Common.{◌+◌, length, arith, ap, ◌∙◌, refl}
 use Rattle.std.proofs.lemmas.List.{length_push}
-use Rattle.qp_model.specs.Parts.{design_of}
+use Rattle.qp_model.specs.problem.Parts.{design_of}
 use Rattle.hessian_check.specs.Lowering.{AreTestedSums}
 use Rattle.hessian_check.specs.RowExponents.{IsLowered}
 use Rattle.hessian_check.specs.Steps.{OfDesign}

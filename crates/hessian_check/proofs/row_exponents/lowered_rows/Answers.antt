@@ -1,5 +1,5 @@
-use Rattle.qp_model.specs.FineSizes.{is_fine}
-use Rattle.qp_model.specs.Parts.{design_of}
+use Rattle.qp_model.specs.form.FineSizes.{is_fine}
+use Rattle.qp_model.specs.problem.Parts.{design_of}
 use Rattle.hessian_check.proofs.row_exponents.lowered_rows.Goals as goal
 
 pub lowered_from-list-requires-clause-cost : goal.lowered_from-list-requires-clause-cost

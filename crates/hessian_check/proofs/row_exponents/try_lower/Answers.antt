@@ -1,6 +1,6 @@
 use Rattle.std.proofs.lemmas.Result.{IfOk-weaker}
-use Rattle.qp_model.specs.FineSizes.{is_fine}
-use Rattle.qp_model.specs.Parts.{design_of}
+use Rattle.qp_model.specs.form.FineSizes.{is_fine}
+use Rattle.qp_model.specs.problem.Parts.{design_of}
 use Rattle.hessian_check.proofs.LoweringLaws.{lowered_room, sums_to_test, shift_is}
 use Rattle.hessian_check.proofs.RowMatrices.{form_enclosures}
 use Rattle.hessian_check.proofs.row_exponents.try_lower.Goals as goal

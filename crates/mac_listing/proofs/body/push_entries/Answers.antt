@@ -1,4 +1,4 @@
-use Rattle.qp_model.specs.Controller.{numbers}
+use Rattle.qp_model.specs.machine.Controller.{numbers}
 use Rattle.mac_listing.specs.Body.{entry_ops}
 use Rattle.mac_listing.proofs.Groups.{grown_none, grown_more}
 use Rattle.mac_listing.proofs.body.push_entries.Goals as goal

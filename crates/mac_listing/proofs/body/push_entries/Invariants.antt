@@ -1,5 +1,5 @@
 use Rattle.std.proofs.Common.{◌≡◌, ◌++◌}
-use Rattle.qp_model.specs.Controller.{numbers}
+use Rattle.qp_model.specs.machine.Controller.{numbers}
 use Rattle.mac_listing.specs.Body.{groups, entry_ops}
 use Rattle.mac_listing.proofs.body.push_entries.Given as goal
 

@@ -3,8 +3,8 @@ use Rattle.std.specs.Int.{w128}
 use Rattle.std.proofs.lemmas.Int.{to_z-of_z}
 use Rattle.integer_algebra.specs.Sums.{at}
 use Rattle.mat_int.specs.Matrix.{row_of}
-use Rattle.qp_model.specs.Controller.{Numbers, numbers}
-use Rattle.qp_model.specs.Machine.{lowering_of}
+use Rattle.qp_model.specs.machine.Controller.{Numbers, numbers}
+use Rattle.qp_model.specs.machine.Machine.{lowering_of}
 use Rattle.mac_listing.specs.declared.instruction.Op.{Op}
 use Rattle.mac_listing.specs.Body.{product_op}
 use Rattle.mac_listing.proofs.Groups.{grown_none, grown_more}

@@ -1,8 +1,8 @@
 use Rattle.std.proofs.Common.{◌≡◌, ◌+◌, ◌++◌}
 use Rattle.integer_algebra.specs.Sums.{at}
 use Rattle.mat_int.specs.Matrix.{row_of}
-use Rattle.qp_model.specs.Controller.{numbers}
-use Rattle.qp_model.specs.Machine.{lowering_of}
+use Rattle.qp_model.specs.machine.Controller.{numbers}
+use Rattle.qp_model.specs.machine.Machine.{lowering_of}
 use Rattle.mac_listing.specs.Body.{groups, product_op}
 use Rattle.mac_listing.proofs.body.push_raised_row.Given as goal
 

@@ -1,5 +1,5 @@
 use Rattle.std.proofs.Common.{◌≡◌, ◌+◌, ◌∙◌, length, ap, sym, subst}
-use Rattle.qp_model.specs.Controller.{Numbers, numbers}
+use Rattle.qp_model.specs.machine.Controller.{Numbers, numbers}
 use Rattle.mac_listing.specs.Count.{left_out, full_length}
 use Rattle.mac_listing.specs.Listing.{Instructions, IsListing}
 use Rattle.mac_listing.proofs.Lengths.{length_law}

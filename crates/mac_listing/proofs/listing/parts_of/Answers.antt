@@ -1,7 +1,7 @@
 use Rattle.std.proofs.Common.{◌≡◌, ◌∙◌, FitsSigned, arith, rules}
 use Rattle.std.specs.Int.{w128}
 use Rattle.std.proofs.lemmas.Int.{to_z-of_z}
-use Rattle.qp_model.specs.Controller.{numbers, plan_length}
+use Rattle.qp_model.specs.machine.Controller.{numbers, plan_length}
 use Rattle.mac_listing.proofs.Ranges.{listing_from}
 use Rattle.mac_listing.proofs.listing.parts_of.Goals as goal
 

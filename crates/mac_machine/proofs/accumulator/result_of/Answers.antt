@@ -4,7 +4,7 @@ use Rattle.std.specs.Int.{w128}
 use Rattle.std.proofs.lemmas.Int.{to_z-of_z}
 use Rattle.integer_algebra.specs.Division.{floor_of}
 use Rattle.integer_algebra.specs.Sums.{at}
-use Rattle.qp_model.specs.ValuesMet.{FitsWidth}
+use Rattle.qp_model.specs.machine.ValuesMet.{FitsWidth}
 use Rattle.mac_listing.specs.declared.instruction.Op.{Op}
 use Rattle.mac_listing.specs.declared.instruction.Op.TheVariants.{Mac, Con}
 use Rattle.mac_machine.specs.Machine.{held, OpFits, result_of}

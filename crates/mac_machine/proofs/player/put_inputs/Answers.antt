@@ -4,7 +4,7 @@ use Rattle.std.proofs.lemmas.Int.{to_z-of_z}
 use Rattle.std.proofs.lemmas.List.{length-set}
 use Rattle.std.proofs.lemmas.List.Edits.{fill_by_more}
 use Rattle.integer_algebra.specs.Sums.{at}
-use Rattle.qp_model.specs.ValuesMet.{FitsWidth}
+use Rattle.qp_model.specs.machine.ValuesMet.{FitsWidth}
 use Rattle.mac_listing.specs.Listing.{instructions}
 use Rattle.mac_machine.proofs.Inputs.{begun_there, inputs_fit, number_fits}
 use Rattle.mac_machine.proofs.player.put_inputs.Goals as goal

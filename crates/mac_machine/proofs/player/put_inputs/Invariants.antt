@@ -1,6 +1,6 @@
 use Rattle.std.proofs.Common.{◌≡◌, ◌<◌, ◌^◌, ℕ, pos, ◌*ℤ◌, length}
 use Rattle.integer_algebra.specs.Sums.{at}
-use Rattle.qp_model.specs.ValuesMet.{FitsWidth}
+use Rattle.qp_model.specs.machine.ValuesMet.{FitsWidth}
 use Rattle.mac_machine.proofs.player.put_inputs.Given as goal
 
 abbrev pub invariant-loop-i : goal.invariant-loop-i

@@ -2,7 +2,7 @@ use Rattle.std.proofs.Common.{◌≡◌, ◌∙◌, arith, replicate, take, refl
 use Rattle.std.specs.Int.{w128}
 use Rattle.std.proofs.lemmas.Int.{ints, to_z-of_z}
 use Rattle.std.proofs.lemmas.List.{take-replicate}
-use Rattle.qp_model.specs.Controller.{numbers}
+use Rattle.qp_model.specs.machine.Controller.{numbers}
 use Rattle.qp_model.proofs.VersionLaws.{limits_le}
 use Rattle.overflow_check.proofs.absolute_sums.clamp_magnitudes.Goals as goal
 

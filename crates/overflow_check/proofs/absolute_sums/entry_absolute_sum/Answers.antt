@@ -1,5 +1,5 @@
 use Rattle.std.proofs.Common.{arith}
-use Rattle.qp_model.specs.Controller.{numbers}
+use Rattle.qp_model.specs.machine.Controller.{numbers}
 use Rattle.std.proofs.lemmas.Grind.{common_steps}
 use Rattle.overflow_check.proofs.Sizes.{length-state_reach}
 use Rattle.overflow_check.proofs.absolute_sums.entry_absolute_sum.Goals as goal

@@ -1,5 +1,5 @@
 use Rattle.std.proofs.Common.{◌≡◌, take}
-use Rattle.qp_model.specs.AbsoluteSums.{greatest_of}
+use Rattle.qp_model.specs.machine.AbsoluteSums.{greatest_of}
 use Rattle.overflow_check.proofs.absolute_sums.greatest_of.Given as goal
 
 abbrev pub invariant-loop-x : goal.invariant-loop-x

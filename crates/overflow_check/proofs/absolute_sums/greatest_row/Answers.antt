@@ -1,6 +1,6 @@
 use Rattle.std.proofs.Common.{length, arith}
-use Rattle.qp_model.specs.Controller.{numbers}
-use Rattle.qp_model.specs.AbsoluteSums.{row_absolute_sum}
+use Rattle.qp_model.specs.machine.Controller.{numbers}
+use Rattle.qp_model.specs.machine.AbsoluteSums.{row_absolute_sum}
 use Rattle.overflow_check.proofs.Greatest.{le-greatest, greatest_steps}
 use Rattle.overflow_check.proofs.absolute_sums.greatest_row.Goals as goal
 

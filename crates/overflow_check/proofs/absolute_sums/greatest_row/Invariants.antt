@@ -1,7 +1,7 @@
 use Rattle.std.proofs.Common.{◌≡◌, ◌≤◌, ◌^◌, length, map, max}
 use Rattle.std.specs.List.{range_with_len}
-use Rattle.qp_model.specs.Controller.{numbers}
-use Rattle.qp_model.specs.AbsoluteSums.{greatest_of, row_absolute_sum, next_magnitude}
+use Rattle.qp_model.specs.machine.Controller.{numbers}
+use Rattle.qp_model.specs.machine.AbsoluteSums.{greatest_of, row_absolute_sum, next_magnitude}
 use Rattle.overflow_check.proofs.absolute_sums.greatest_row.Given as goal
 
 abbrev pub invariant-loop-i : goal.invariant-loop-i

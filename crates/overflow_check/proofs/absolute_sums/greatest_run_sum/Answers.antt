@@ -1,6 +1,6 @@
 use Rattle.std.proofs.Common.{◌≡◌, length, ap, ◌∙◌, arith}
-use Rattle.qp_model.specs.Controller.{numbers}
-use Rattle.qp_model.specs.AbsoluteSums.{sum_magnitude}
+use Rattle.qp_model.specs.machine.Controller.{numbers}
+use Rattle.qp_model.specs.machine.AbsoluteSums.{sum_magnitude}
 use Rattle.overflow_check.proofs.Greatest.{le-greatest, greatest_steps}
 use Rattle.overflow_check.proofs.Sizes.{length-plan_reach}
 use Rattle.overflow_check.proofs.absolute_sums.greatest_run_sum.Goals as goal

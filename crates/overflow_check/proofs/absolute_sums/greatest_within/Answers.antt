@@ -1,6 +1,6 @@
 use Rattle.std.proofs.Common.{◌≡◌, length, take, ap, rules, arith, ◌∙◌}
-use Rattle.qp_model.specs.Controller.{numbers}
-use Rattle.qp_model.specs.AbsoluteSums.{greatest_of, greatest_sum}
+use Rattle.qp_model.specs.machine.Controller.{numbers}
+use Rattle.qp_model.specs.machine.AbsoluteSums.{greatest_of, greatest_sum}
 use Rattle.overflow_check.proofs.Greatest.{greatest-parts}
 use Rattle.overflow_check.proofs.absolute_sums.greatest_within.Goals as goal
 

@@ -1,8 +1,8 @@
 use Rattle.std.proofs.Common.{◌^◌, ◌+◌, length, arith, refl}
 use Rattle.std.proofs.lemmas.List.FromFn.{get_or-map-range_with_len}
 use Rattle.integer_algebra.specs.Division.{ceil_div}
-use Rattle.qp_model.specs.Controller.{numbers}
-use Rattle.qp_model.specs.AbsoluteSums.{entry_absolute_sum}
+use Rattle.qp_model.specs.machine.Controller.{numbers}
+use Rattle.qp_model.specs.machine.AbsoluteSums.{entry_absolute_sum}
 use Rattle.std.proofs.lemmas.Grind.{common_steps}
 use Rattle.overflow_check.proofs.SumLaws.{sums_fit}
 use Rattle.overflow_check.proofs.absolute_sums.plan_entry_magnitude.Goals as goal

@@ -3,8 +3,8 @@ use Rattle.std.proofs.lemmas.List.{get_or-take, length-take-le}
 use Rattle.std.proofs.lemmas.List.Edits.{fill_by_more}
 use Rattle.std.proofs.lemmas.List.FromFn.{fill_by_all}
 use Rattle.integer_algebra.specs.Division.{ceil_div}
-use Rattle.qp_model.specs.Controller.{numbers}
-use Rattle.qp_model.specs.AbsoluteSums.{entry_absolute_sum}
+use Rattle.qp_model.specs.machine.Controller.{numbers}
+use Rattle.qp_model.specs.machine.AbsoluteSums.{entry_absolute_sum}
 use Rattle.overflow_check.proofs.Greatest.{le-greatest, greatest-map_more, greatest_steps}
 use Rattle.overflow_check.proofs.Sizes.{entries_le}
 use Rattle.overflow_check.proofs.absolute_sums.plan_magnitudes.Goals as goal

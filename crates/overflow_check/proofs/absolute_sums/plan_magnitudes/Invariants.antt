@@ -1,8 +1,8 @@
 use Rattle.std.proofs.Common.{◌≡◌, ◌+◌, ◌<◌, ◌^◌, ℕ, length, map, get_or}
 use Rattle.std.specs.List.{range_with_len}
 use Rattle.integer_algebra.specs.Division.{ceil_div}
-use Rattle.qp_model.specs.Controller.{numbers}
-use Rattle.qp_model.specs.AbsoluteSums.{greatest_of, entry_absolute_sum}
+use Rattle.qp_model.specs.machine.Controller.{numbers}
+use Rattle.qp_model.specs.machine.AbsoluteSums.{greatest_of, entry_absolute_sum}
 use Rattle.overflow_check.proofs.absolute_sums.plan_magnitudes.Given as goal
 
 abbrev pub invariant-loop-j : goal.invariant-loop-j

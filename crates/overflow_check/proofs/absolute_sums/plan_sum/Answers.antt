@@ -1,8 +1,8 @@
 use Rattle.std.proofs.Common.{◌≡◌, ◌≤◌, ◌^◌, pos, ap, arith, ◌∙◌}
 use Rattle.std.specs.Int.{w128}
 use Rattle.std.proofs.lemmas.Int.{to_z_pos}
-use Rattle.qp_model.specs.Controller.{numbers}
-use Rattle.qp_model.specs.AbsoluteSums.{plan_magnitudes, greatest_of}
+use Rattle.qp_model.specs.machine.Controller.{numbers}
+use Rattle.qp_model.specs.machine.AbsoluteSums.{plan_magnitudes, greatest_of}
 use Rattle.overflow_check.proofs.Sizes.{greatest_plan_le}
 use Rattle.overflow_check.proofs.absolute_sums.plan_sum.Goals as goal
 

@@ -1,5 +1,5 @@
 use Rattle.std.proofs.Common.{arith}
-use Rattle.qp_model.specs.Controller.{numbers}
+use Rattle.qp_model.specs.machine.Controller.{numbers}
 use Rattle.overflow_check.proofs.Sizes.{length-state_reach, length-plan_reach}
 use Rattle.overflow_check.proofs.absolute_sums.row_absolute_sum.Goals as goal
 

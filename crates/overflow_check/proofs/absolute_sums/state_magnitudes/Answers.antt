@@ -3,8 +3,8 @@ use Rattle.std.specs.Int.{w128}
 use Rattle.std.proofs.lemmas.Int.{to_z-of_z}
 use Rattle.std.proofs.lemmas.List.{ext_get_or, get_or-take, length-take-le, get_or_read}
 use Rattle.std.proofs.lemmas.List.Edits.{fill_by_more}
-use Rattle.qp_model.specs.Controller.{numbers}
-use Rattle.qp_model.specs.AbsoluteSums.{state_magnitudes}
+use Rattle.qp_model.specs.machine.Controller.{numbers}
+use Rattle.qp_model.specs.machine.AbsoluteSums.{state_magnitudes}
 use Rattle.qp_model.proofs.VersionLaws.{states_le}
 use Rattle.std.proofs.lemmas.Grind.{common_steps}
 use Rattle.overflow_check.proofs.Sizes.{numerator_read, reach_below, length-state_reach, get_or-reach_of}

@@ -1,5 +1,5 @@
 use Rattle.std.proofs.Common.{◌≡◌, ◌<◌, ◌^◌, take}
-use Rattle.qp_model.specs.AbsoluteSums.{weighted_abs_sum}
+use Rattle.qp_model.specs.machine.AbsoluteSums.{weighted_abs_sum}
 use Rattle.overflow_check.proofs.absolute_sums.weighted_abs_sum.Given as goal
 
 abbrev pub invariant-loop-i : goal.invariant-loop-i

@@ -8,7 +8,7 @@ use Rattle.std.proofs.lemmas.Int.{to_z-of_z}
 use Rattle.std.proofs.lemmas.List.{take_rest, get_or_read, length_push}
 use Rattle.integer_algebra.specs.Sums.{at}
 use Rattle.mat_int.specs.Matrix.{row_of}
-use Rattle.qp_model.specs.Parts.{design_of}
+use Rattle.qp_model.specs.problem.Parts.{design_of}
 use Rattle.policy_file.proofs.MatrixFacts.{none_filled}
 use Rattle.number_text.specs.declared.text_fault.TextFault.TheVariants.{Memory}
 use Rattle.policy_file.specs.PolicyText.{policy_rule}

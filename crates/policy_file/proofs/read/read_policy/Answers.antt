@@ -1,5 +1,5 @@
 use Rattle.std.proofs.Common.{Result, Ok, Err, ◌≡◌, rules}
-use Rattle.qp_model.specs.Parts.{design_of}
+use Rattle.qp_model.specs.problem.Parts.{design_of}
 use Rattle.policy_file.proofs.UniqueFacts.{policy_told, policy_all_sized}
 use Rattle.policy_file.proofs.read.read_policy.Goals as goal
 

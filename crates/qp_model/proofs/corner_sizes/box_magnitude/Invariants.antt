@@ -1,6 +1,6 @@
 use Rattle.std.proofs.Common.{◌≡◌, ◌<◌, ◌^◌, max, unsigned_abs}
 use Rattle.integer_algebra.specs.Sums.{at}
-use Rattle.qp_model.specs.Quantities.{greatest}
+use Rattle.qp_model.specs.form.Quantities.{greatest}
 use Rattle.qp_model.proofs.corner_sizes.box_magnitude.Given as goal
 
 abbrev pub invariant-loop-i : goal.invariant-loop-i

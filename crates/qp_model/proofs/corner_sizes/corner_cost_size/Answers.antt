@@ -1,9 +1,9 @@
 use Rattle.std.proofs.Common.{ℕ, ◌^◌, ◌≤◌, subst}
 use Rattle.std.specs.Option.{SomeIff}
-use Rattle.qp_model.specs.Parts.{design_of}
-use Rattle.qp_model.specs.Policy.{plans_of}
-use Rattle.qp_model.specs.Quantities.{cost_width, weight_sum, prediction_size}
-use Rattle.qp_model.specs.CornerSizes.{policy_magnitude}
+use Rattle.qp_model.specs.problem.Parts.{design_of}
+use Rattle.qp_model.specs.problem.Policy.{plans_of}
+use Rattle.qp_model.specs.form.Quantities.{cost_width, weight_sum, prediction_size}
+use Rattle.qp_model.specs.bounds.CornerSizes.{policy_magnitude}
 use Rattle.qp_model.proofs.CornerFacts.{cost_parts, cost_value}
 use Rattle.qp_model.proofs.corner_sizes.corner_cost_size.Goals as goal
 

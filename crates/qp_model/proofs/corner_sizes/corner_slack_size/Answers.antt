@@ -1,9 +1,9 @@
 use Rattle.std.proofs.Common.{ℕ, ◌^◌, ◌≤◌, subst}
 use Rattle.std.specs.Option.{SomeIff}
-use Rattle.qp_model.specs.Parts.{design_of}
-use Rattle.qp_model.specs.Policy.{plans_of}
-use Rattle.qp_model.specs.Quantities.{limit_width, prediction_size}
-use Rattle.qp_model.specs.CornerSizes.{policy_magnitude}
+use Rattle.qp_model.specs.problem.Parts.{design_of}
+use Rattle.qp_model.specs.problem.Policy.{plans_of}
+use Rattle.qp_model.specs.form.Quantities.{limit_width, prediction_size}
+use Rattle.qp_model.specs.bounds.CornerSizes.{policy_magnitude}
 use Rattle.qp_model.proofs.CornerFacts.{slack_parts, slack_value}
 use Rattle.qp_model.proofs.corner_sizes.corner_slack_size.Goals as goal
 

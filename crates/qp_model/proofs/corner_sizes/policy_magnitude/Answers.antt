@@ -1,7 +1,7 @@
 use Rattle.std.proofs.Common.{◌≡◌, ◌^◌, arith, refl, ◌∙◌}
-use Rattle.qp_model.specs.Parts.{design_of}
-use Rattle.qp_model.specs.Policy.{plans_of}
-use Rattle.qp_model.specs.CornerSizes.{corner_magnitude}
+use Rattle.qp_model.specs.problem.Parts.{design_of}
+use Rattle.qp_model.specs.problem.Policy.{plans_of}
+use Rattle.qp_model.specs.bounds.CornerSizes.{corner_magnitude}
 use Rattle.qp_model.proofs.SizeFacts.{greatest_next}
 use Rattle.qp_model.proofs.corner_sizes.policy_magnitude.Goals as goal
 

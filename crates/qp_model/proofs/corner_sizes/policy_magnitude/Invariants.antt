@@ -1,8 +1,8 @@
 use Rattle.std.proofs.Common.{◌≡◌}
-use Rattle.qp_model.specs.Parts.{design_of}
-use Rattle.qp_model.specs.Policy.{plans_of}
-use Rattle.qp_model.specs.Quantities.{greatest}
-use Rattle.qp_model.specs.CornerSizes.{corner_magnitude}
+use Rattle.qp_model.specs.problem.Parts.{design_of}
+use Rattle.qp_model.specs.problem.Policy.{plans_of}
+use Rattle.qp_model.specs.form.Quantities.{greatest}
+use Rattle.qp_model.specs.bounds.CornerSizes.{corner_magnitude}
 use Rattle.qp_model.proofs.corner_sizes.policy_magnitude.Given as goal
 
 abbrev pub invariant-loop-c : goal.invariant-loop-c

@@ -1,8 +1,8 @@
 use Rattle.std.proofs.Common.{◌≡◌, ◌≤◌, [], ◌∷◌, length, All}
 use Rattle.std.proofs.lemmas.Result.{err_from_is_err_and}
-use Rattle.qp_model.specs.Range.{IsNumerator}
-use Rattle.qp_model.specs.Rules.{shape, range}
-use Rattle.qp_model.specs.PartRules.{AreHighs}
+use Rattle.qp_model.specs.problem.Range.{IsNumerator}
+use Rattle.qp_model.specs.problem.Rules.{shape, range}
+use Rattle.qp_model.specs.problem.PartRules.{AreHighs}
 use Rattle.qp_model.proofs.RuleLaws.{test_after, test_next, test_last, broken_before, broken_next}
 use Rattle.qp_model.proofs.PartTests.{count_test, highs_test, highs_beside}
 use Rattle.qp_model.proofs.part_rules.test_box.Goals as goal

@@ -1,9 +1,9 @@
 use Rattle.std.proofs.Common.{◌≡◌, rules, ◌+◌, [], ◌∷◌, ◌++◌, length, All}
 use Rattle.std.specs.Int.{w128}
 use mir.Val.{SFits}
-use Rattle.qp_model.specs.Range.{IsPositive, IsDenominator}
-use Rattle.qp_model.specs.Rules.{shape, range}
-use Rattle.qp_model.specs.PartRules.{HasSize, AreCosts}
+use Rattle.qp_model.specs.problem.Range.{IsPositive, IsDenominator}
+use Rattle.qp_model.specs.problem.Rules.{shape, range}
+use Rattle.qp_model.specs.problem.PartRules.{HasSize, AreCosts}
 use Rattle.qp_model.proofs.RuleLaws.{test_last, tests_and, tests_rule}
 use Rattle.qp_model.proofs.PartTests.{denominator_test, count_test, weights_test}
 use Rattle.qp_model.proofs.part_rules.test_cost.Goals as goal

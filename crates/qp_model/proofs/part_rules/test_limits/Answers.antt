@@ -1,9 +1,9 @@
 use Rattle.std.proofs.Common.{rules, ◌+◌, [], ◌∷◌, ◌++◌, All}
 use Rattle.std.specs.Int.{w128}
 use mir.Val.{SFits}
-use Rattle.qp_model.specs.Range.{IsNumerator, IsDenominator}
-use Rattle.qp_model.specs.Rules.{shape, range}
-use Rattle.qp_model.specs.PartRules.{HasSize, AreLimits}
+use Rattle.qp_model.specs.problem.Range.{IsNumerator, IsDenominator}
+use Rattle.qp_model.specs.problem.Rules.{shape, range}
+use Rattle.qp_model.specs.problem.PartRules.{HasSize, AreLimits}
 use Rattle.qp_model.proofs.RuleLaws.{test_last, tests_and, tests_rule}
 use Rattle.qp_model.proofs.PartTests.{denominator_test}
 use Rattle.qp_model.proofs.part_rules.test_limits.Goals as goal

@@ -1,6 +1,6 @@
 use Rattle.std.proofs.Common.{◌≡◌, ◌≤◌, [], ◌∷◌, length, All}
-use Rattle.qp_model.specs.Range.{IsNumerator}
-use Rattle.qp_model.specs.Rules.{shape, range}
+use Rattle.qp_model.specs.problem.Range.{IsNumerator}
+use Rattle.qp_model.specs.problem.Rules.{shape, range}
 use Rattle.qp_model.proofs.RuleLaws.{test_last, tests_rule}
 use Rattle.qp_model.proofs.PartTests.{at_most_test, count_test, numerators_test}
 use Rattle.qp_model.proofs.part_rules.test_lows.Goals as goal

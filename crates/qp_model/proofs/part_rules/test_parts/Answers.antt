@@ -1,8 +1,8 @@
 use Rattle.std.proofs.Common.{List, ◌++◌}
 use Rattle.std.proofs.lemmas.Result.{err_from_is_err_and}
 use Rattle.qp_model.specs.declared.design_parts.DesignParts.{DesignParts}
-use Rattle.qp_model.specs.Rules.{Rule}
-use Rattle.qp_model.specs.PartRules.{size_rules, plant_rules, cost_rules, limit_rules, box_rules, target_rules, part_rules}
+use Rattle.qp_model.specs.problem.Rules.{Rule}
+use Rattle.qp_model.specs.problem.PartRules.{size_rules, plant_rules, cost_rules, limit_rules, box_rules, target_rules, part_rules}
 use Rattle.qp_model.proofs.RuleLaws.{broken_before, tests_and, test_after}
 use Rattle.qp_model.proofs.part_rules.test_parts.Goals as goal
 

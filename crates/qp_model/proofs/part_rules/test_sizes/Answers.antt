@@ -1,7 +1,7 @@
 use Rattle.std.proofs.Common.{[], ◌∷◌}
-use Rattle.qp_model.specs.Limits.{text_version, last_version, most_states, most_inputs}
-use Rattle.qp_model.specs.Range.{LiesIn}
-use Rattle.qp_model.specs.Rules.{range}
+use Rattle.qp_model.specs.problem.Limits.{text_version, last_version, most_states, most_inputs}
+use Rattle.qp_model.specs.problem.Range.{LiesIn}
+use Rattle.qp_model.specs.problem.Rules.{range}
 use Rattle.qp_model.proofs.RuleLaws.{test_last, tests_rule}
 use Rattle.qp_model.proofs.PartTests.{lies_test}
 use Rattle.qp_model.proofs.part_rules.test_sizes.Goals as goal

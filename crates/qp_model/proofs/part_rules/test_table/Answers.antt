@@ -1,7 +1,7 @@
 use Rattle.std.proofs.Common.{[], ◌∷◌, All}
-use Rattle.qp_model.specs.Range.{IsNumerator}
-use Rattle.qp_model.specs.Rules.{shape, range}
-use Rattle.qp_model.specs.PartRules.{HasSize}
+use Rattle.qp_model.specs.problem.Range.{IsNumerator}
+use Rattle.qp_model.specs.problem.Rules.{shape, range}
+use Rattle.qp_model.specs.problem.PartRules.{HasSize}
 use Rattle.qp_model.proofs.RuleLaws.{test_last, tests_rule}
 use Rattle.qp_model.proofs.part_rules.test_table.Goals as goal
 

@@ -1,8 +1,8 @@
 use Rattle.std.proofs.Common.{rules, [], ◌∷◌}
 use Rattle.std.specs.Int.{w128}
 use mir.Val.{SFits}
-use Rattle.qp_model.specs.Range.{IsPositive, IsDenominator}
-use Rattle.qp_model.specs.Rules.{range}
+use Rattle.qp_model.specs.problem.Range.{IsPositive, IsDenominator}
+use Rattle.qp_model.specs.problem.Rules.{range}
 use Rattle.qp_model.proofs.RuleLaws.{test_last, tests_rule}
 use Rattle.qp_model.proofs.PartTests.{denominator_test, positive_test}
 use Rattle.qp_model.proofs.part_rules.test_targets.Goals as goal

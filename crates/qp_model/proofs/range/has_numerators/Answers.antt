@@ -1,6 +1,6 @@
 use Rattle.std.proofs.Common.{◌<◌, [], All, arith, refl}
 use Rattle.std.proofs.lemmas.List.Elements.{All-from_get_or}
-use Rattle.qp_model.specs.Range.{IsNumerator}
+use Rattle.qp_model.specs.problem.Range.{IsNumerator}
 use Rattle.qp_model.proofs.range.has_numerators.Goals as goal
 
 pub returns : goal.returns

@@ -1,6 +1,6 @@
 use Rattle.std.proofs.Common.{◌<◌, ℕ, All}
 use Rattle.mat_int.specs.Matrix.{row_of}
-use Rattle.qp_model.specs.Range.{IsNumerator}
+use Rattle.qp_model.specs.problem.Range.{IsNumerator}
 use Rattle.qp_model.proofs.range.has_numerators.Given as goal
 
 abbrev pub invariant-loop-i : goal.invariant-loop-i

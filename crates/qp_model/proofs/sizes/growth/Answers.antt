@@ -4,8 +4,8 @@ use Rattle.std.proofs.lemmas.Int.{to_z-of_z}
 use Rattle.integer_algebra.specs.Sizes.{size}
 use Rattle.integer_algebra.specs.Sums.{at}
 use Rattle.mat_int.specs.Matrix.{row_of}
-use Rattle.qp_model.specs.Parts.{design_of}
-use Rattle.qp_model.specs.Quantities.{plant_width}
+use Rattle.qp_model.specs.problem.Parts.{design_of}
+use Rattle.qp_model.specs.form.Quantities.{plant_width}
 use Rattle.qp_model.proofs.SizeFacts.{greatest_more, numerator_row, plant_sum}
 use Rattle.qp_model.proofs.VersionLaws.{design_states_le}
 use Rattle.qp_model.proofs.sizes.growth.Goals as goal

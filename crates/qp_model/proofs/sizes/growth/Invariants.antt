@@ -1,6 +1,6 @@
 use Rattle.std.proofs.Common.{◌≡◌, max, unsigned_abs}
-use Rattle.qp_model.specs.Parts.{design_of}
-use Rattle.qp_model.specs.Quantities.{greatest, plant_width}
+use Rattle.qp_model.specs.problem.Parts.{design_of}
+use Rattle.qp_model.specs.form.Quantities.{greatest, plant_width}
 use Rattle.qp_model.proofs.sizes.growth.Given as goal
 
 abbrev pub invariant-loop-i : goal.invariant-loop-i

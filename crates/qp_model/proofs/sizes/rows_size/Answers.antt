@@ -1,9 +1,9 @@
 use Rattle.std.proofs.Common.{◌≡◌, ℕ, ◌+◌, ◌*◌, ◌^◌, ◌<◌, ◌≤◌, arith, ◌∙◌, sym, subst, refl}
 use Rattle.std.proofs.Math.Nat.{mul-le-mul, one-le-mul}
 use Rattle.std.specs.Option.{SomeIff}
-use Rattle.qp_model.specs.Design.{entries, rows}
-use Rattle.qp_model.specs.Parts.{design_of}
-use Rattle.qp_model.specs.Quantities.{limit_width, prediction_size}
+use Rattle.qp_model.specs.problem.Design.{entries, rows}
+use Rattle.qp_model.specs.problem.Parts.{design_of}
+use Rattle.qp_model.specs.form.Quantities.{limit_width, prediction_size}
 use Rattle.qp_model.proofs.SizeFacts.{rows_parts, rows_value, some_limit, some_row, counted_rows}
 use Rattle.qp_model.proofs.VersionLaws.{design_states_le, design_entries_le}
 use Rattle.qp_model.proofs.sizes.rows_size.Goals as goal

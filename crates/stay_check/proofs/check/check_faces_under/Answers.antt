@@ -1,6 +1,6 @@
 use Rattle.std.proofs.lemmas.Result.{IfOk-weaker}
 use Rattle.integer_algebra.specs.Sums.{at}
-use Rattle.qp_model.specs.Parts.{design_of}
+use Rattle.qp_model.specs.problem.Parts.{design_of}
 use Rattle.stay_check.specs.FaceForms.{faces_of}
 use Rattle.stay_check.proofs.StayLaws.{stay_law}
 use Rattle.stay_check.proofs.FaceFacts.{denominator_small}

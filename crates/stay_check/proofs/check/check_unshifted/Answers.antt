@@ -1,6 +1,6 @@
 use Rattle.std.proofs.Common.{◌≡◌}
 use Rattle.integer_algebra.specs.Sums.{at, none}
-use Rattle.qp_model.specs.Parts.{design_of}
+use Rattle.qp_model.specs.problem.Parts.{design_of}
 use Rattle.stay_check.proofs.CheckFacts.{zeros_are, unshifted}
 use Rattle.stay_check.proofs.check.check_unshifted.Goals as goal
 

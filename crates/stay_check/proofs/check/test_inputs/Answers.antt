@@ -1,7 +1,7 @@
 use Rattle.std.proofs.Common.{◌≡◌, ◌≢◌, ◌∙◌, rules, arith, sym, FitsSigned, below_more}
 use Rattle.std.specs.Int.{w128}
 use Rattle.std.proofs.lemmas.Int.{to_z-of_z}
-use Rattle.qp_model.specs.Parts.{design_of}
+use Rattle.qp_model.specs.problem.Parts.{design_of}
 use Rattle.qp_model.proofs.VersionLaws.{design_states_le}
 use Rattle.stay_check.specs.FaceForms.{faces_of, face_of}
 use Rattle.stay_check.proofs.CheckFacts.{unequal_fault}

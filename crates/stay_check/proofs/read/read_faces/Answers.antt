@@ -1,4 +1,4 @@
-use Rattle.qp_model.specs.Parts.{design_of}
+use Rattle.qp_model.specs.problem.Parts.{design_of}
 use Rattle.stay_check.proofs.FacesTextFacts.{faces_told, faces_all_sized}
 use Rattle.stay_check.proofs.read.read_faces.Goals as goal
 

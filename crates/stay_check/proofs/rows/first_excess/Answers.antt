@@ -1,6 +1,6 @@
 use Rattle.std.proofs.Common.{◌<◌, length, arith}
-use Rattle.qp_model.specs.Design.{rows}
-use Rattle.qp_model.specs.Parts.{design_of}
+use Rattle.qp_model.specs.problem.Design.{rows}
+use Rattle.qp_model.specs.problem.Parts.{design_of}
 use Rattle.qp_model.proofs.VersionLaws.{design_rows_le}
 use Rattle.stay_check.proofs.FaceFacts.{row_inside}
 use Rattle.stay_check.proofs.rows.first_excess.Goals as goal

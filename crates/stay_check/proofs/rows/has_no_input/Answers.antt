@@ -1,5 +1,5 @@
 use Rattle.std.proofs.Common.{◌≢◌, ◌<◌, ◌∙◌, pos, sym, rules, arith}
-use Rattle.qp_model.specs.Parts.{design_of}
+use Rattle.qp_model.specs.problem.Parts.{design_of}
 use Rattle.stay_check.proofs.RowFacts.{some_input}
 use Rattle.stay_check.proofs.rows.has_no_input.Goals as goal
 

@@ -1,6 +1,6 @@
 use Rattle.std.proofs.Common.{◌≡◌}
 use Rattle.integer_algebra.specs.Sizes.{size}
-use Rattle.qp_model.specs.Parts.{design_of}
+use Rattle.qp_model.specs.problem.Parts.{design_of}
 use Rattle.stay_check.proofs.rows.has_no_input.Given as goal
 
 abbrev pub invariant-loop-l : goal.invariant-loop-l

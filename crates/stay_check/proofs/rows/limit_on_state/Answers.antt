@@ -1,5 +1,5 @@
 use Rattle.std.proofs.Common.{◌≡◌, ◌<◌, ◌∙◌, true, false, sym, arith}
-use Rattle.qp_model.specs.Parts.{design_of}
+use Rattle.qp_model.specs.problem.Parts.{design_of}
 use Rattle.stay_check.specs.FirstRows.{next_limits, is_on_state}
 use Rattle.stay_check.proofs.RowFacts.{passes_more, passes_same, passes_at}
 use Rattle.stay_check.proofs.rows.limit_on_state.Goals as goal

@@ -1,7 +1,7 @@
 use Rattle.std.proofs.Common.{◌≡◌, ◌∙◌, ◌^◌, rules, arith, refl, FitsSigned, add-one, to_z}
 use Rattle.std.specs.Int.{w128}
 use Rattle.std.proofs.lemmas.Int.{to_z-of_z}
-use Rattle.qp_model.specs.Parts.{design_of}
+use Rattle.qp_model.specs.problem.Parts.{design_of}
 use Rattle.qp_model.proofs.VersionLaws.{design_states_le}
 use Rattle.stay_check.proofs.RowFacts.{added, through}
 use Rattle.stay_check.proofs.rows.through_plant.Goals as goal

@@ -1,6 +1,6 @@
 use Rattle.std.proofs.Common.{◌≡◌, ◌*◌, ◌^◌, ◌≤◌, ◌*ℤ◌, unsigned_abs}
 use Rattle.integer_algebra.specs.Sums.{total}
-use Rattle.qp_model.specs.Parts.{design_of}
+use Rattle.qp_model.specs.problem.Parts.{design_of}
 use Rattle.stay_check.specs.FirstRows.{next_limit}
 use Rattle.stay_check.specs.Columns.{plant_at}
 use Rattle.stay_check.proofs.rows.through_plant.Given as goal

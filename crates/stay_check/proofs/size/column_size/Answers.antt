@@ -2,7 +2,7 @@ use Rattle.std.proofs.Common.{◌<◌, ◌^◌, rules, arith, FitsSigned}
 use Rattle.std.specs.Int.{w128}
 use Rattle.std.proofs.lemmas.Int.{to_z-of_z}
 use Rattle.std.proofs.lemmas.Nat.{mul-lt}
-use Rattle.qp_model.specs.Parts.{design_of}
+use Rattle.qp_model.specs.problem.Parts.{design_of}
 use Rattle.stay_check.specs.FaceForms.{faces_of}
 use Rattle.stay_check.proofs.FaceFacts.{factor_size}
 use Rattle.stay_check.proofs.size.column_size.Goals as goal

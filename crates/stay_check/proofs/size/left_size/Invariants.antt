@@ -1,7 +1,7 @@
 use Rattle.std.proofs.Common.{◌≡◌, ◌^◌, ◌≤◌}
 use Rattle.integer_algebra.specs.Sums.{at}
 use Rattle.integer_algebra.specs.Sizes.{amount}
-use Rattle.qp_model.specs.Parts.{design_of}
+use Rattle.qp_model.specs.problem.Parts.{design_of}
 use Rattle.stay_check.specs.FirstRows.{first_rows}
 use Rattle.stay_check.specs.FaceForms.{faces_of, face_of}
 use Rattle.stay_check.specs.StaySize.{left_term}

@@ -1,7 +1,7 @@
 use Rattle.std.proofs.Common.{rules, FitsSigned}
 use Rattle.std.specs.Int.{w128}
 use Rattle.std.proofs.lemmas.Int.{to_z-of_z}
-use Rattle.qp_model.specs.Parts.{design_of}
+use Rattle.qp_model.specs.problem.Parts.{design_of}
 use Rattle.stay_check.specs.FaceForms.{faces_of}
 use Rattle.stay_check.proofs.FaceFacts.{factor_size, denominator_small, over_size}
 use Rattle.stay_check.proofs.size.reach_over.Goals as goal

@@ -3,7 +3,7 @@ use Rattle.std.specs.Int.{w128}
 use Rattle.std.proofs.lemmas.Int.{to_z-of_z}
 use Rattle.integer_algebra.proofs.SizeLaws.{amount_more}
 use Rattle.mat_int.specs.Matrix.{entry_of}
-use Rattle.qp_model.specs.Parts.{design_of}
+use Rattle.qp_model.specs.problem.Parts.{design_of}
 use Rattle.stay_check.specs.FirstRows.{first_row, first_rows}
 use Rattle.stay_check.specs.FaceForms.{faces_of}
 use Rattle.stay_check.specs.Columns.{coefficient}

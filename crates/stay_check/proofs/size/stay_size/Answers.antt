@@ -1,6 +1,6 @@
 use Rattle.std.proofs.Common.{◌<◌, ◌*◌, arith}
 use Rattle.integer_algebra.specs.Sums.{at}
-use Rattle.qp_model.specs.Parts.{design_of}
+use Rattle.qp_model.specs.problem.Parts.{design_of}
 use Rattle.qp_model.proofs.SizeFacts.{greatest_term}
 use Rattle.stay_check.specs.FaceForms.{faces_of, face_of}
 use Rattle.stay_check.specs.StaySize.{face_size}

@@ -1,7 +1,7 @@
 use Rattle.std.proofs.Common.{◌≡◌, ◌*◌, ◌^◌, ◌≤◌}
 use Rattle.integer_algebra.specs.Sums.{at}
-use Rattle.qp_model.specs.Parts.{design_of}
-use Rattle.qp_model.specs.Quantities.{greatest}
+use Rattle.qp_model.specs.problem.Parts.{design_of}
+use Rattle.qp_model.specs.form.Quantities.{greatest}
 use Rattle.stay_check.specs.FaceForms.{faces_of, face_of}
 use Rattle.stay_check.specs.StaySize.{face_size}
 use Rattle.stay_check.proofs.size.stay_size.Given as goal

@@ -3,7 +3,7 @@ use Rattle.std.specs.Int.{w128}
 use Rattle.std.proofs.lemmas.Int.{to_z-of_z}
 use Rattle.integer_algebra.specs.Sizes.{size}
 use Rattle.integer_algebra.proofs.SizeLaws.{sum_room}
-use Rattle.qp_model.specs.Parts.{design_of}
+use Rattle.qp_model.specs.problem.Parts.{design_of}
 use Rattle.stay_check.specs.FaceForms.{faces_of, face_of, rest_over_box}
 use Rattle.stay_check.proofs.SumFacts.{rests_size, box_part}
 use Rattle.stay_check.proofs.sums.greatest_rest.Goals as goal

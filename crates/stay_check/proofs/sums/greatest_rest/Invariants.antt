@@ -1,6 +1,6 @@
 use Rattle.std.proofs.Common.{◌≡◌}
 use Rattle.integer_algebra.specs.Sums.{total}
-use Rattle.qp_model.specs.Parts.{design_of}
+use Rattle.qp_model.specs.problem.Parts.{design_of}
 use Rattle.stay_check.specs.FaceForms.{faces_of, face_of, rest_over_box}
 use Rattle.stay_check.proofs.sums.greatest_rest.Given as goal
 

@@ -4,7 +4,7 @@ use Rattle.std.proofs.lemmas.Int.{to_z-of_z}
 use Rattle.integer_algebra.specs.Sums.{at}
 use Rattle.integer_algebra.specs.Sizes.{size}
 use Rattle.integer_algebra.proofs.SizeLaws.{sum_room, amount_term}
-use Rattle.qp_model.specs.Parts.{design_of}
+use Rattle.qp_model.specs.problem.Parts.{design_of}
 use Rattle.stay_check.specs.FirstRows.{first_rows}
 use Rattle.stay_check.specs.FaceForms.{faces_of, face_of, row_left}
 use Rattle.stay_check.specs.StaySize.{left_term}

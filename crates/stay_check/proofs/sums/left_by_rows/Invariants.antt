@@ -1,6 +1,6 @@
 use Rattle.std.proofs.Common.{◌≡◌}
 use Rattle.integer_algebra.specs.Sums.{total, at}
-use Rattle.qp_model.specs.Parts.{design_of}
+use Rattle.qp_model.specs.problem.Parts.{design_of}
 use Rattle.stay_check.specs.FirstRows.{first_rows}
 use Rattle.stay_check.specs.FaceForms.{faces_of, face_of, row_left}
 use Rattle.stay_check.proofs.sums.left_by_rows.Given as goal

@@ -1,7 +1,7 @@
 use Rattle.std.proofs.Common.{◌^◌, ◌%◌, ◌==◌, ◌*ℤ◌, rules, arith, refl, FitsSigned}
 use Rattle.std.specs.Int.{w128}
 use Rattle.std.proofs.lemmas.Int.{to_z-of_z, fits_signed_from_abs}
-use Rattle.qp_model.specs.Parts.{design_of}
+use Rattle.qp_model.specs.problem.Parts.{design_of}
 use Rattle.stay_check.specs.FaceForms.{faces_of}
 use Rattle.stay_check.proofs.RowFacts.{product_small}
 use Rattle.stay_check.proofs.FaceFacts.{factor_size}

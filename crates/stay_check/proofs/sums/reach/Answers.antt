@@ -2,7 +2,7 @@ use Rattle.std.proofs.Common.{◌≡◌, ◌*◌, ◌^◌, pos, ◌*ℤ◌, ◌+
 use Rattle.std.specs.Int.{w128}
 use Rattle.std.proofs.lemmas.Int.{to_z-of_z, fits_signed_from_abs}
 use Rattle.integer_algebra.specs.Sums.{at}
-use Rattle.qp_model.specs.Parts.{design_of}
+use Rattle.qp_model.specs.problem.Parts.{design_of}
 use Rattle.stay_check.specs.FaceForms.{faces_of, face_of, greatest_rest, left_by_rows}
 use Rattle.stay_check.proofs.SumFacts.{reach_room, left_room, cast}
 use Rattle.stay_check.proofs.sums.reach.Goals as goal

@@ -2,7 +2,7 @@ use Rattle.std.proofs.Common.{pos, rules, arith, ◌∙◌}
 use Rattle.std.specs.Int.{w128}
 use mir.Val.{SFits}
 use Rattle.std.proofs.lemmas.Int.{to_z-of_z}
-use Rattle.qp_model.specs.Errors.{errors_cost}
+use Rattle.qp_model.specs.bounds.Errors.{errors_cost}
 use Rattle.step_error.specs.ErrorSums.{sums_of}
 use Rattle.step_error.proofs.SumFacts.{bounded, plan_small, read_size, read_whole, within_of}
 use Rattle.step_error.proofs.errors.epsilon.Goals as goal

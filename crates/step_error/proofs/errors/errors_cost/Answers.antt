@@ -1,7 +1,7 @@
 use Rattle.std.proofs.Common.{◌≡◌, ℕ, ◌+◌, ◌^◌, ◌≤◌, pos, arith, ap, sym, ◌∙◌}
 use Rattle.std.specs.Int.{w128}
 use Rattle.std.proofs.lemmas.Int.{to_z_pos}
-use Rattle.qp_model.specs.Errors.{errors_cost}
+use Rattle.qp_model.specs.bounds.Errors.{errors_cost}
 use Rattle.step_error.specs.ErrorSums.{sums_of}
 use Rattle.step_error.proofs.FallingLaws.{halves}
 use Rattle.step_error.proofs.SumFacts.{bounded, room_at, within_of}

@@ -4,7 +4,7 @@ use mir.Val.{SFits}
 use Rattle.std.proofs.lemmas.Int.{to_z_pos}
 use Rattle.std.proofs.Math.Nat.{mul-le-mul, mul-le-mul_right, one-le-mul}
 use Rattle.integer_algebra.proofs.PowerLaws.{pow_positive}
-use Rattle.qp_model.specs.Errors.{plan_bound}
+use Rattle.qp_model.specs.bounds.Errors.{plan_bound}
 use Rattle.step_error.specs.ErrorSums.{sums_of}
 use Rattle.step_error.proofs.Ceilings.{quotient_is}
 use Rattle.step_error.proofs.SumFacts.{bounded, shifted, power_small, plan_small, read_size, within_of}

@@ -2,7 +2,7 @@ use Rattle.std.proofs.Common.{◌≡◌, ℕ, ◌+◌, ◌*◌, ◌^◌, ◌≤�
 use Rattle.std.specs.Int.{w128}
 use mir.Val.{SFits}
 use Rattle.integer_algebra.proofs.PowerLaws.{pow-two}
-use Rattle.qp_model.specs.Errors.{radius_error, row_radii}
+use Rattle.qp_model.specs.bounds.Errors.{radius_error, row_radii}
 use Rattle.step_error.specs.ErrorSums.{sums_of, radius_cost}
 use Rattle.step_error.proofs.Ceilings.{quotient_is, ceil_small, positive_by}
 use Rattle.step_error.proofs.SumFacts.{bounded, radii_at, read_size}

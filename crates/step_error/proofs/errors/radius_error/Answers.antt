@@ -1,7 +1,7 @@
 use Rattle.std.proofs.Common.{◌≡◌, ℕ, ◌+◌, ◌*◌, ◌^◌, ◌≤◌, Fits, unsigned_abs, rules, arith}
 use Rattle.std.specs.Int.{w128}
 use mir.Val.{SFits}
-use Rattle.qp_model.specs.Errors.{radius_error}
+use Rattle.qp_model.specs.bounds.Errors.{radius_error}
 use Rattle.step_error.specs.ErrorSums.{sums_of}
 use Rattle.step_error.proofs.Ceilings.{quotient_is, ceil_small, positive_by}
 use Rattle.step_error.proofs.SumFacts.{bounded, radii_at, read_size}

@@ -2,7 +2,7 @@ use Rattle.std.proofs.Common.{◌≡◌, ℕ, ◌^◌, ◌≤◌, pos, rules, ar
 use Rattle.std.specs.Int.{w128}
 use mir.Val.{SFits}
 use Rattle.std.proofs.lemmas.Int.{to_z_pos}
-use Rattle.qp_model.specs.Errors.{plan_bound, residual_error}
+use Rattle.qp_model.specs.bounds.Errors.{plan_bound, residual_error}
 use Rattle.step_error.specs.ErrorSums.{sums_of}
 use Rattle.step_error.proofs.SumFacts.{bounded, plan_small, room_at, read_whole, within_of}
 use Rattle.step_error.proofs.errors.residual_error.Goals as goal

@@ -1,7 +1,7 @@
 use Rattle.std.proofs.Common.{◌≡◌, ◌+◌, ◌*◌, ◌^◌, ◌≤◌, rules, arith}
 use Rattle.std.specs.Int.{w128}
 use mir.Val.{SFits}
-use Rattle.qp_model.specs.Errors.{residual_error}
+use Rattle.qp_model.specs.bounds.Errors.{residual_error}
 use Rattle.step_error.specs.ErrorSums.{sums_of}
 use Rattle.step_error.proofs.SumFacts.{bounded, room_at, read_size, within_of}
 use Rattle.step_error.proofs.errors.residual_of.Goals as goal

@@ -3,7 +3,7 @@ use Rattle.std.specs.Int.{w128}
 use mir.Val.{SFits}
 use Rattle.std.proofs.Math.Nat.{mul-le-mul_left, mul-le-mul_right}
 use Rattle.integer_algebra.proofs.PowerLaws.{pow_positive}
-use Rattle.qp_model.specs.Errors.{residual_error}
+use Rattle.qp_model.specs.bounds.Errors.{residual_error}
 use Rattle.step_error.specs.ErrorSums.{sums_of, rounding_cost}
 use Rattle.step_error.proofs.Ceilings.{quotient_is, ceil_small, positive_by}
 use Rattle.step_error.proofs.SumFacts.{bounded, room_at, shifted, four_is, read_size}

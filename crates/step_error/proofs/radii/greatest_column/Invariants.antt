@@ -1,7 +1,7 @@
 use Rattle.std.proofs.Common.{◌≡◌, length}
 use Rattle.integer_algebra.specs.Sizes.{size}
 use Rattle.mat_int.specs.Matrix.{entry_of}
-use Rattle.qp_model.specs.Quantities.{greatest}
+use Rattle.qp_model.specs.form.Quantities.{greatest}
 use Rattle.step_error.proofs.radii.greatest_column.Given as goal
 
 abbrev pub invariant-loop-j : goal.invariant-loop-j

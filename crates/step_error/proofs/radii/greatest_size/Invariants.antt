@@ -1,6 +1,6 @@
 use Rattle.std.proofs.Common.{◌≡◌, unsigned_abs}
 use Rattle.integer_algebra.specs.Sums.{at}
-use Rattle.qp_model.specs.Quantities.{greatest}
+use Rattle.qp_model.specs.form.Quantities.{greatest}
 use Rattle.step_error.proofs.radii.greatest_size.Given as goal
 
 abbrev pub invariant-loop-x : goal.invariant-loop-x

@@ -4,9 +4,9 @@ use mir.Val.{SFits}
 use Rattle.std.proofs.Math.Nat.{mul-le-mul, one-le-mul}
 use Rattle.integer_algebra.specs.Sums.{at}
 use Rattle.integer_algebra.proofs.PowerLaws.{pow-two}
-use Rattle.qp_model.specs.Parts.{design_of}
-use Rattle.qp_model.specs.FineSizes.{is_fine}
-use Rattle.qp_model.specs.Quantities.{greatest}
+use Rattle.qp_model.specs.problem.Parts.{design_of}
+use Rattle.qp_model.specs.form.FineSizes.{is_fine}
+use Rattle.qp_model.specs.form.Quantities.{greatest}
 use Rattle.qp_model.proofs.CornerFacts.{greatest_le}
 use Rattle.qp_model.proofs.SizeFacts.{positive}
 use Rattle.step_error.proofs.SumFacts.{few, read_size, through, within_of}

@@ -1,7 +1,7 @@
 use Rattle.std.proofs.Common.{unsigned_abs, ◌^◌, refl}
-use Rattle.qp_model.specs.Parts.{design_of}
-use Rattle.qp_model.specs.Class.{form_of}
-use Rattle.qp_model.specs.FineSizes.{is_fine}
+use Rattle.qp_model.specs.problem.Parts.{design_of}
+use Rattle.qp_model.specs.form.Class.{form_of}
+use Rattle.qp_model.specs.form.FineSizes.{is_fine}
 use Rattle.step_error.proofs.SumFacts.{read_size}
 use Rattle.step_error.proofs.SumAnswers.{valued, given, named, some_size, size_within, resumed, same_form}
 use Rattle.step_error.proofs.sums.error_sums.Goals as goal

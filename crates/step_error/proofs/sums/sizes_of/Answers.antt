@@ -3,9 +3,9 @@ use Rattle.std.specs.Int.{w128}
 use mir.Val.{SFits}
 use Rattle.integer_algebra.specs.Sums.{at}
 use Rattle.integer_algebra.specs.Sizes.{amount}
-use Rattle.qp_model.specs.Parts.{design_of}
-use Rattle.qp_model.specs.Form.{farthest}
-use Rattle.qp_model.specs.FineSizes.{is_fine}
+use Rattle.qp_model.specs.problem.Parts.{design_of}
+use Rattle.qp_model.specs.form.Form.{farthest}
+use Rattle.qp_model.specs.form.FineSizes.{is_fine}
 use Rattle.step_error.proofs.Ceilings.{quotient_is, positive_by}
 use Rattle.step_error.proofs.SumFacts.{read_size}
 use Rattle.step_error.proofs.DesignSums.{hessian_pair, linear_pair, plan_pair, constant_pair, square, linear_is, linear_small, constant_is, constant_small, rows_is, rows_small, diagonal_small, scale_one, rows_scale_one}

@@ -3,8 +3,8 @@ use Rattle.std.specs.Int.{w128}
 use Rattle.std.specs.Option.{SomeIff}
 use mir.Val.{SFits}
 use Rattle.std.proofs.lemmas.Int.{ints}
-use Rattle.qp_model.specs.Parts.{design_of}
-use Rattle.qp_model.specs.FineSizes.{is_fine}
+use Rattle.qp_model.specs.problem.Parts.{design_of}
+use Rattle.qp_model.specs.form.FineSizes.{is_fine}
 use Rattle.qp_model.proofs.SizeFacts.{positive}
 use Rattle.step_error.proofs.Ceilings.{positive_by}
 use Rattle.step_error.proofs.SumFacts.{read_size, few, spread_some, within_of}

@@ -4,8 +4,8 @@ use mir.Val.{SFits}
 use Rattle.std.proofs.lemmas.Int.{to_z-of_z}
 use Rattle.integer_algebra.specs.Sums.{at}
 use Rattle.condensed_form.proofs.RowFacts.{stage_cost_fits, final_cost_fits, stage_cost_value, final_cost_value, stages_room}
-use Rattle.qp_model.specs.Parts.{design_of}
-use Rattle.qp_model.specs.Runs.{counts}
+use Rattle.qp_model.specs.problem.Parts.{design_of}
+use Rattle.qp_model.specs.problem.Runs.{counts}
 use Rattle.qp_model.proofs.RowLaws.{stage_inside, remainder_inside}
 use Rattle.exact_run.proofs.run.Run.cost.Goals as goal
 

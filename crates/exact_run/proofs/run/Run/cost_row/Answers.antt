@@ -4,8 +4,8 @@ use mir.Val.{SFits}
 use Rattle.integer_algebra.specs.Sums.{at, dot}
 use Rattle.integer_algebra.specs.Sizes.{product_size}
 use Rattle.integer_algebra.proofs.SizeLaws.{total_size}
-use Rattle.qp_model.specs.Parts.{design_of}
-use Rattle.qp_model.specs.Runs.{run, Holds}
+use Rattle.qp_model.specs.problem.Parts.{design_of}
+use Rattle.qp_model.specs.problem.Runs.{run, Holds}
 use Rattle.condensed_form.proofs.Pushes.{row_held}
 use Rattle.condensed_form.proofs.StateFacts.{denominator_positive}
 use Rattle.condensed_form.proofs.StageFacts.{held_size, held_dot, unlifted, lifted_fits, lifted}

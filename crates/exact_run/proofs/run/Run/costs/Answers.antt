@@ -3,8 +3,8 @@ use Rattle.std.specs.Int.{w128}
 use mir.Val.{SFits}
 use Rattle.std.proofs.lemmas.Int.{to_z-of_z}
 use Rattle.integer_algebra.specs.Sums.{at}
-use Rattle.qp_model.specs.Parts.{design_of}
-use Rattle.qp_model.specs.Runs.{counted, cost_run, counts, Holds}
+use Rattle.qp_model.specs.problem.Parts.{design_of}
+use Rattle.qp_model.specs.problem.Runs.{counted, cost_run, counts, Holds}
 use Rattle.condensed_form.proofs.Pushes.{pushed, no_entries}
 use Rattle.condensed_form.proofs.RowFacts.{stages_room}
 use Rattle.exact_run.proofs.run.Run.costs.Goals as goal

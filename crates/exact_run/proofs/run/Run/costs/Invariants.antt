@@ -1,6 +1,6 @@
 use Rattle.integer_algebra.specs.Sums.{at}
-use Rattle.qp_model.specs.Parts.{design_of}
-use Rattle.qp_model.specs.Runs.{counted, cost_run, Holds}
+use Rattle.qp_model.specs.problem.Parts.{design_of}
+use Rattle.qp_model.specs.problem.Runs.{counted, cost_run, Holds}
 use Rattle.exact_run.proofs.run.Run.costs.Given as goal
 
 abbrev pub invariant-loop-c : goal.invariant-loop-c

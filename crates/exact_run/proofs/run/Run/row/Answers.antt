@@ -3,13 +3,13 @@ use Rattle.std.specs.Int.{w128}
 use mir.Val.{SFits}
 use Rattle.std.proofs.lemmas.Int.{to_z-of_z}
 use Rattle.integer_algebra.specs.Sums.{at}
-use Rattle.qp_model.specs.Parts.{design_of}
-use Rattle.qp_model.specs.Runs.{run, Holds}
+use Rattle.qp_model.specs.problem.Parts.{design_of}
+use Rattle.qp_model.specs.problem.Runs.{run, Holds}
 use Rattle.qp_model.proofs.RowLaws.{stage_inside, remainder_inside}
 use Rattle.condensed_form.proofs.Pushes.{row_held, row_inside}
 use Rattle.condensed_form.proofs.StateFacts.{denominator_positive}
 use Rattle.condensed_form.proofs.RowFacts.{stage_fits, stage_value, final_value, final_room, stages_room}
-use Rattle.qp_model.specs.Design.{rows}
+use Rattle.qp_model.specs.problem.Design.{rows}
 use Rattle.exact_run.proofs.run.Run.row.Goals as goal
 
 pub stage_row-requires-clause-narrow : goal.stage_row-requires-clause-narrow

@@ -3,10 +3,10 @@ use Rattle.std.specs.Int.{w128}
 use mir.Val.{SFits}
 use Rattle.std.proofs.lemmas.Int.{to_z-of_z}
 use Rattle.integer_algebra.specs.Sums.{at}
-use Rattle.qp_model.specs.Parts.{design_of}
-use Rattle.qp_model.specs.Runs.{row_at, Holds}
+use Rattle.qp_model.specs.problem.Parts.{design_of}
+use Rattle.qp_model.specs.problem.Runs.{row_at, Holds}
 use Rattle.condensed_form.proofs.Pushes.{pushed, no_entries}
-use Rattle.qp_model.specs.Design.{rows}
+use Rattle.qp_model.specs.problem.Design.{rows}
 use Rattle.condensed_form.proofs.RowFacts.{stages_room}
 use Rattle.exact_run.proofs.run.Run.rows.Goals as goal
 

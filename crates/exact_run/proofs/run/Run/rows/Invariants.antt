@@ -1,6 +1,6 @@
 use Rattle.integer_algebra.specs.Sums.{at}
-use Rattle.qp_model.specs.Parts.{design_of}
-use Rattle.qp_model.specs.Runs.{row_at, Holds}
+use Rattle.qp_model.specs.problem.Parts.{design_of}
+use Rattle.qp_model.specs.problem.Runs.{row_at, Holds}
 use Rattle.exact_run.proofs.run.Run.rows.Given as goal
 
 abbrev pub invariant-loop-i : goal.invariant-loop-i

@@ -3,8 +3,8 @@ use Rattle.std.specs.Int.{w128}
 use mir.Val.{SFits}
 use Rattle.std.proofs.lemmas.Int.{to_z-of_z}
 use Rattle.integer_algebra.specs.Sums.{at, dot}
-use Rattle.qp_model.specs.Parts.{design_of}
-use Rattle.qp_model.specs.Runs.{run, Holds}
+use Rattle.qp_model.specs.problem.Parts.{design_of}
+use Rattle.qp_model.specs.problem.Runs.{run, Holds}
 use Rattle.condensed_form.proofs.Pushes.{row_held, row_inside}
 use Rattle.condensed_form.proofs.StateFacts.{power_positive, denominator_positive, part_inside}
 use Rattle.condensed_form.proofs.StageFacts.{state_size, state_dot, input_size, input_dot, unlifted, lifted_fits, lifted, sum_size}

@@ -2,11 +2,11 @@ use Rattle.std.proofs.Common.{◌≡◌, ◌≤◌, ◌+◌, ◌^◌, ◌+ℤ◌
 use Rattle.std.specs.Int.{w128}
 use mir.Val.{SFits}
 use Rattle.std.proofs.lemmas.Int.{to_z-of_z}
-use Rattle.qp_model.specs.Parts.{design_of}
-use Rattle.qp_model.specs.Policy.{plans_of}
-use Rattle.qp_model.specs.FineCorners.{most_row_cost, most_input_cost, enclosed_corners}
+use Rattle.qp_model.specs.problem.Parts.{design_of}
+use Rattle.qp_model.specs.problem.Policy.{plans_of}
+use Rattle.qp_model.specs.bounds.FineCorners.{most_row_cost, most_input_cost, enclosed_corners}
 use Rattle.condensed_form.proofs.Rooms.{sum_fits, sum_read}
-use Rattle.slater_margin.proofs.CostFacts.{costs_of}
+use Rattle.exact_margin.proofs.CostFacts.{costs_of}
 use Rattle.fine_margin.proofs.CostFacts.{den_is, den_some, cost_fits, cost_nonneg, side_square_fits, side_den_fits, side_den_read}
 use Rattle.fine_margin.proofs.corner.Corner.cost.Goals as goal
 

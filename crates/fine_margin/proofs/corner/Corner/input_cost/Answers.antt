@@ -5,13 +5,13 @@ use Rattle.std.proofs.lemmas.Int.{to_z-of_z}
 use Rattle.frac_scaled.specs.Enclosures.{Enclosure, magnitude}
 use Rattle.enclosure.specs.declared.types.Enc.{Enc}
 use Rattle.enclosure.specs.Values.{pair_at}
-use Rattle.qp_model.specs.Design.{entries}
-use Rattle.qp_model.specs.Parts.{design_of}
-use Rattle.qp_model.specs.Policy.{plans_of}
-use Rattle.qp_model.specs.Runs.{Holds}
+use Rattle.qp_model.specs.problem.Design.{entries}
+use Rattle.qp_model.specs.problem.Parts.{design_of}
+use Rattle.qp_model.specs.problem.Policy.{plans_of}
+use Rattle.qp_model.specs.problem.Runs.{Holds}
 use Rattle.condensed_form.proofs.DenominatorFacts.{denominator_fits}
 use Rattle.condensed_form.proofs.Pushes.{holds_to}
-use Rattle.slater_margin.proofs.CostFacts.{squares_held, total_held}
+use Rattle.exact_margin.proofs.CostFacts.{squares_held, total_held}
 use Rattle.fine_margin.proofs.RoomFacts.{cost_side, square_room}
 use Rattle.fine_margin.proofs.CostFacts.{own, entry_weight, own_small, own_fits, inputs_are, inputs_room}
 use Rattle.fine_margin.proofs.corner.Corner.input_cost.Goals as goal

@@ -3,9 +3,9 @@ use Rattle.std.specs.Int.{w128}
 use mir.Val.{SFits}
 use Rattle.std.proofs.lemmas.Int.{to_z-of_z}
 use Rattle.integer_algebra.specs.Sums.{at}
-use Rattle.qp_model.specs.Parts.{design_of}
-use Rattle.qp_model.specs.Policy.{plans_of}
-use Rattle.slater_margin.proofs.RoomFacts.{over_is}
+use Rattle.qp_model.specs.problem.Parts.{design_of}
+use Rattle.qp_model.specs.problem.Policy.{plans_of}
+use Rattle.exact_margin.proofs.RoomFacts.{over_is}
 use Rattle.fine_margin.specs.Corner.{IsFineCorner}
 use Rattle.fine_margin.proofs.RunFacts.{plan_held, ready}
 use Rattle.fine_margin.proofs.ReachFacts.{below, below_len, numerators_small}

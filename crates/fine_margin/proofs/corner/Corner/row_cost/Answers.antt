@@ -6,13 +6,13 @@ use Rattle.integer_algebra.specs.Sums.{at}
 use Rattle.frac_scaled.specs.Enclosures.{magnitude}
 use Rattle.enclosure.specs.declared.types.Enc.{Enc}
 use Rattle.enclosure.specs.Values.{pair_at}
-use Rattle.qp_model.specs.Parts.{design_of}
-use Rattle.qp_model.specs.Policy.{plans_of}
-use Rattle.qp_model.specs.FineCorners.{corner_gap}
-use Rattle.qp_model.specs.Runs.{Holds, counts}
+use Rattle.qp_model.specs.problem.Parts.{design_of}
+use Rattle.qp_model.specs.problem.Policy.{plans_of}
+use Rattle.qp_model.specs.bounds.FineCorners.{corner_gap}
+use Rattle.qp_model.specs.problem.Runs.{Holds, counts}
 use Rattle.condensed_form.specs.Costs.{weight_of}
 use Rattle.condensed_form.proofs.Pushes.{holds_to}
-use Rattle.slater_margin.proofs.CostFacts.{squares_held, total_held}
+use Rattle.exact_margin.proofs.CostFacts.{squares_held, total_held}
 use Rattle.fine_margin.proofs.RoomFacts.{cost_side, square_room}
 use Rattle.fine_margin.proofs.CostFacts.{width_room, target_fits, value_fits, value_gap, gap_small, rows_are, rows_room}
 use Rattle.fine_margin.proofs.corner.Corner.row_cost.Goals as goal

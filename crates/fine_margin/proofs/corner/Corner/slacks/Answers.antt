@@ -4,11 +4,11 @@ use Rattle.integer_algebra.specs.Sums.{at}
 use Rattle.frac_scaled.specs.Enclosures.{Enclosure}
 use Rattle.enclosure.specs.declared.types.Enc.{Enc}
 use Rattle.enclosure.specs.Values.{pair_at}
-use Rattle.qp_model.specs.Design.{rows}
-use Rattle.qp_model.specs.Parts.{design_of}
-use Rattle.qp_model.specs.Policy.{plans_of}
-use Rattle.qp_model.specs.FineCorners.{corner_limit, least_slack}
-use Rattle.qp_model.specs.Runs.{bound_at}
+use Rattle.qp_model.specs.problem.Design.{rows}
+use Rattle.qp_model.specs.problem.Parts.{design_of}
+use Rattle.qp_model.specs.problem.Policy.{plans_of}
+use Rattle.qp_model.specs.bounds.FineCorners.{corner_limit, least_slack}
+use Rattle.qp_model.specs.problem.Runs.{bound_at}
 use Rattle.condensed_form.proofs.Pushes.{holds_to}
 use Rattle.fine_margin.proofs.ListFacts.{slack_room}
 use Rattle.fine_margin.proofs.RunFacts.{limit_is}

@@ -3,19 +3,19 @@ use Rattle.std.specs.Int.{w128}
 use mir.Val.{SFits}
 use Rattle.std.proofs.lemmas.Int.{to_z-of_z}
 use Rattle.std.proofs.lemmas.Result.{err_from_is_err_and}
-use Rattle.qp_model.specs.Design.{rows}
-use Rattle.qp_model.specs.Parts.{design_of}
-use Rattle.qp_model.specs.Policy.{plans_of}
-use Rattle.qp_model.specs.FineCorners.{least_slack, enclosed_corners}
-use Rattle.qp_model.specs.Runs.{Holds}
+use Rattle.qp_model.specs.problem.Design.{rows}
+use Rattle.qp_model.specs.problem.Parts.{design_of}
+use Rattle.qp_model.specs.problem.Policy.{plans_of}
+use Rattle.qp_model.specs.bounds.FineCorners.{least_slack, enclosed_corners}
+use Rattle.qp_model.specs.problem.Runs.{Holds}
 use Rattle.qp_model.proofs.SizeFacts.{some_row}
 use Rattle.qp_model.proofs.VersionLaws.{design_states_le, design_rows_le}
 use Rattle.frac_scaled.specs.declared.fraction.Frac.{Frac}
 use Rattle.condensed_form.proofs.Rooms.{read}
 use Rattle.condensed_form.proofs.DenominatorFacts.{denominator_fits}
-use Rattle.slater_margin.proofs.RoomFacts.{over_is}
-use Rattle.slater_margin.proofs.SlackFacts.{short_row, units_of}
-use Rattle.slater_margin.proofs.FaultFacts.{no_margin_same, corner_few, memory_unshort, memory_unwide}
+use Rattle.exact_margin.proofs.RoomFacts.{over_is}
+use Rattle.exact_margin.proofs.SlackFacts.{short_row, units_of}
+use Rattle.exact_margin.proofs.FaultFacts.{no_margin_same, corner_few, memory_unshort, memory_unwide}
 use Rattle.fine_margin.proofs.SlackFacts.{slack_within, den_is, den_some, den_fits}
 use Rattle.fine_margin.proofs.corner.Corner.units.Goals as goal
 

@@ -1,6 +1,6 @@
 use Rattle.enclosure.specs.Values.{pair_at}
-use Rattle.qp_model.specs.Parts.{design_of}
-use Rattle.qp_model.specs.FineForm.{fine_cost}
+use Rattle.qp_model.specs.problem.Parts.{design_of}
+use Rattle.qp_model.specs.form.FineForm.{fine_cost}
 use Rattle.fine_run.specs.Lists.{HoldsEnclosures}
 use Rattle.fine_run.proofs.run.FineRun.costs.Given as goal
 

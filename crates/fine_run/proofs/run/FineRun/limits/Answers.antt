@@ -1,6 +1,6 @@
 use Rattle.enclosure.specs.Values.{pair_at}
-use Rattle.qp_model.specs.Parts.{design_of}
-use Rattle.qp_model.specs.FineForm.{fine_limit}
+use Rattle.qp_model.specs.problem.Parts.{design_of}
+use Rattle.qp_model.specs.form.FineForm.{fine_limit}
 use Rattle.fine_run.proofs.ListFacts.{one_pushed, all_held}
 use Rattle.qp_model.proofs.VersionLaws.{design_stages_le}
 use Rattle.fine_run.proofs.PlaceFacts.{stage_rows_fit, all_rows_fit, all_rows_are, below_all}

@@ -1,6 +1,6 @@
 use Rattle.std.proofs.Common.{◌+◌, ◌*◌, refl, ◌∙◌}
 use Rattle.enclosure.specs.Values.{pair_at}
-use Rattle.qp_model.specs.Parts.{design_of}
+use Rattle.qp_model.specs.problem.Parts.{design_of}
 use Rattle.condensed_form.proofs.StateFacts.{denominator_positive}
 use Rattle.fine_run.proofs.ListFacts.{flat_run, first_states, all_held}
 use Rattle.fine_run.proofs.StateFacts.{stage_part, input_part, next, states_room, next_states}

@@ -1,6 +1,6 @@
 use Rattle.std.proofs.Common.{◌+◌, ◌*◌}
 use Rattle.enclosure.specs.Values.{pair_at}
-use Rattle.qp_model.specs.Parts.{design_of}
+use Rattle.qp_model.specs.problem.Parts.{design_of}
 use Rattle.fine_run.specs.Lists.{HoldsEnclosures}
 use Rattle.fine_run.proofs.ListFacts.{flat_run}
 use Rattle.fine_run.proofs.run.FineRun.new.Given as goal

@@ -1,6 +1,6 @@
 use Rattle.std.proofs.Common.{◌∙◌}
 use Rattle.enclosure.specs.Values.{pair_at}
-use Rattle.qp_model.specs.Parts.{design_of}
+use Rattle.qp_model.specs.problem.Parts.{design_of}
 use Rattle.fine_run.proofs.RowFacts.{sum_room, sum_value}
 use Rattle.fine_run.proofs.run.FineRun.state_sum.Goals as goal
 

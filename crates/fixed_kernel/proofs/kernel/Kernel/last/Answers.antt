@@ -3,8 +3,8 @@ use Rattle.std.specs.Prelude.{slice_index_or}
 use Rattle.std.specs.Int.{w128}
 use Rattle.std.proofs.lemmas.Int.{to_z-of_z}
 use Rattle.integer_algebra.specs.Sums.{at}
-use Rattle.qp_model.specs.Controller.{plan_length}
-use Rattle.qp_model.specs.Machine.{loaded}
+use Rattle.qp_model.specs.machine.Controller.{plan_length}
+use Rattle.qp_model.specs.machine.Machine.{loaded}
 use Rattle.fixed_kernel.specs.declared.spans.Spans.{Spans}
 use Rattle.fixed_kernel.specs.Progress.{Progress, iterate_of, progress_of}
 use Rattle.fixed_kernel.specs.Raised.{with_raised}

@@ -1,6 +1,6 @@
 use Rattle.std.proofs.Common.{◌≡◌, ap, ◌∙◌, refl, sym, subst}
-use Rattle.qp_model.specs.Controller.{Numbers, numbers}
-use Rattle.qp_model.specs.Machine.{IsAdmissible}
+use Rattle.qp_model.specs.machine.Controller.{Numbers, numbers}
+use Rattle.qp_model.specs.machine.Machine.{IsAdmissible}
 use Rattle.fixed_kernel.specs.Outside.{IsFirstOutside}
 use Rattle.word_region.specs.declared.Span.{Span}
 use Rattle.fixed_kernel.specs.Progress.{Progress}

@@ -5,8 +5,8 @@ use Rattle.std.proofs.lemmas.Int.{to_z-of_z}
 use Rattle.std.proofs.lemmas.Nat.{pow_pos}
 use Rattle.integer_algebra.specs.Division.{floor_of}
 use Rattle.integer_algebra.specs.Sums.{at}
-use Rattle.qp_model.specs.Controller.{Numbers, numbers}
-use Rattle.qp_model.specs.Machine.{lowering_of}
+use Rattle.qp_model.specs.machine.Controller.{Numbers, numbers}
+use Rattle.qp_model.specs.machine.Machine.{lowering_of}
 use Rattle.fixed_kernel.specs.declared.spans.Spans.{Spans}
 use Rattle.fixed_kernel.specs.Progress.{Progress, iterate_of, region_of, progress_of}
 use Rattle.fixed_kernel.proofs.Reached.{goes, word_held, raised_word}

@@ -1,8 +1,8 @@
 use Rattle.std.proofs.Common.{◌≡◌, length, pos, ap, subst, ◌∙◌, arith, refl}
 use Rattle.std.proofs.lemmas.List.{length-replicate}
-use Rattle.qp_model.specs.Controller.{Numbers, numbers}
-use Rattle.qp_model.specs.Machine.{loaded, start_of}
-use Rattle.qp_model.specs.AbsoluteSums.{IsController}
+use Rattle.qp_model.specs.machine.Controller.{Numbers, numbers}
+use Rattle.qp_model.specs.machine.Machine.{loaded, start_of}
+use Rattle.qp_model.specs.machine.AbsoluteSums.{IsController}
 use Rattle.word_region.specs.declared.Span.{Span}
 use Rattle.word_region.specs.Words.{RegionWords}
 use Rattle.word_region.specs.Lending.{written_over}

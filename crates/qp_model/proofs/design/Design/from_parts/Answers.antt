@@ -1,7 +1,7 @@
 use Rattle.std.proofs.Common.{ap, refl, Err}
 use Rattle.std.proofs.lemmas.Result.{err_from_is_err_and}
 use Rattle.std.proofs.lemmas.Bool.{false≢true}
-use Rattle.qp_model.specs.PartRules.{part_rules}
+use Rattle.qp_model.specs.problem.PartRules.{part_rules}
 use Rattle.qp_model.proofs.RuleLaws.{none_broken, one_fault}
 use Rattle.qp_model.proofs.PartLaws.{design_from_rules, rules_from_design}
 use Rattle.qp_model.proofs.design.Design.from_parts.Goals as goal

@@ -4,7 +4,7 @@ use mir.Val.{SFits}
 use Rattle.integer_algebra.specs.Division.{ceil_div}
 use Rattle.integer_algebra.specs.Sizes.{amount}
 use Rattle.mat_int.specs.Matrix.{entry_of}
-use Rattle.qp_model.specs.Form.{farthest}
+use Rattle.qp_model.specs.form.Form.{farthest}
 use Rattle.qp_model.proofs.SizeFacts.{positive}
 use Rattle.condensed_form.specs.Form.{held}
 use Rattle.step_error.proofs.Ceilings.{quotient_is, ceil_small, ceil_twice}

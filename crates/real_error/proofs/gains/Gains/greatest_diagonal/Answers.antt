@@ -1,7 +1,7 @@
 use Rattle.std.proofs.Common.{◌≡◌, ◌<◌, max, FitsSigned, unsigned_abs, rules, arith, ap, ◌∙◌}
 use Rattle.std.specs.Int.{w128}
 use Rattle.std.proofs.lemmas.Int.{to_z-of_z}
-use Rattle.qp_model.specs.Columns.{solve_matrix}
+use Rattle.qp_model.specs.form.Columns.{solve_matrix}
 use Rattle.qp_model.proofs.SizeFacts.{greatest_more}
 use Rattle.condensed_form.specs.Form.{held}
 use Rattle.real_error.proofs.GainRooms.{diagonal_small, through}

@@ -1,6 +1,6 @@
 use Rattle.std.proofs.Common.{◌≡◌, unsigned_abs}
-use Rattle.qp_model.specs.Columns.{solve_matrix}
-use Rattle.qp_model.specs.Quantities.{greatest}
+use Rattle.qp_model.specs.form.Columns.{solve_matrix}
+use Rattle.qp_model.specs.form.Quantities.{greatest}
 use Rattle.condensed_form.specs.Form.{held}
 use Rattle.real_error.proofs.gains.Gains.greatest_diagonal.Given as goal
 

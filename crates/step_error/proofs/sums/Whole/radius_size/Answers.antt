@@ -1,6 +1,6 @@
 use Rattle.std.proofs.Common.{◌≡◌, ℕ, ◌+◌, ◌*◌, ◌^◌, ◌≤◌, arith, ◌∙◌}
 use Rattle.integer_algebra.specs.Division.{ceil_div}
-use Rattle.qp_model.specs.Errors.{radius_error}
+use Rattle.qp_model.specs.bounds.Errors.{radius_error}
 use Rattle.step_error.specs.ErrorSums.{sums_by}
 use Rattle.step_error.proofs.SumFacts.{kept, radius_parts, within_of}
 use Rattle.step_error.proofs.sums.Whole.radius_size.Goals as goal

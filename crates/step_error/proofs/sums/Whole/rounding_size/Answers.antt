@@ -2,7 +2,7 @@ use Rattle.std.proofs.Common.{◌≡◌, ◌+◌, ◌*◌, ◌<◌, arith, ap, s
 use Rattle.std.proofs.Math.Nat.{mul-le-mul}
 use Rattle.integer_algebra.specs.Division.{ceil_div}
 use Rattle.integer_algebra.proofs.PowerLaws.{pow-two}
-use Rattle.qp_model.specs.Form.{spread_of}
+use Rattle.qp_model.specs.form.Form.{spread_of}
 use Rattle.step_error.proofs.Ceilings.{quotient_is, ceil_small}
 use Rattle.step_error.proofs.SumFacts.{kept, rounding_parts, spread_some, spread_few, within_of}
 use Rattle.step_error.proofs.sums.Whole.rounding_size.Goals as goal

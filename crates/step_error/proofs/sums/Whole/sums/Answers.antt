@@ -1,7 +1,7 @@
 use Rattle.std.proofs.Common.{◌≡◌, ℕ, ◌*◌, ◌^◌, ◌<◌, ◌≤◌, Bool, true, false, ltb, pos, arith, ap, ◌∙◌, refl, to_z}
 use Rattle.std.specs.Int.{w128}
 use Rattle.std.proofs.lemmas.Int.{to_z_pos}
-use Rattle.qp_model.specs.Form.{spread_of}
+use Rattle.qp_model.specs.form.Form.{spread_of}
 use Rattle.step_error.proofs.Ceilings.{quotient_is, ceil_small}
 use Rattle.step_error.proofs.sums.Whole.sums.Goals as goal
 

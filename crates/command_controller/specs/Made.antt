@@ -1,0 +1,55 @@
+-- What a design with a policy calls for, and what is made of them.
+use Rattle.std.specs.Prelude.{◌≡◌, ◌⊎◌, ℕ, List}
+use Rattle.qp_model.specs.problem.Policy.{Plans}
+use Rattle.qp_model.specs.problem.Parts.{design_of}
+use Rattle.qp_model.specs.machine.Controller.{Numbers}
+use Rattle.qp_model.specs.bounds.Certified.{IsCertified}
+use Rattle.qp_model.specs.declared.design_parts.DesignParts.{DesignParts}
+use Rattle.qp_model.specs.bounds.Printed.{Printed}
+use Rattle.qp_model.specs.declared.bounds.Margin.{Margin}
+use Rattle.bound_report.specs.Report.{report_text, report_json}
+use Rattle.design_engine.specs.Targets.{targets_of, IsWithinTargets}
+use Rattle.design_engine.specs.Built.{IsBuilt}
+use Rattle.design_engine.specs.Refusals.{HasCause, PassesAll}
+use Rattle.design_engine.specs.declared.refusal.Refusal.{Refusal}
+use Rattle.design_engine.specs.declared.refusal.Refusal.TheVariants as refusals
+use Rattle.command_line.specs.Words.{IsJson}
+use Rattle.command_line.specs.declared.status.Status.{Status}
+use Rattle.command_line.specs.declared.status.Status.TheVariants.{Done, Memory, NoMargin, Curvature, TooManySteps, TooFine, TooWide}
+
+-- the status that tells of a refusal
+abbrev pub status_of : Refusal → Status
+status_of refusals.Memory = Memory
+status_of (refusals.NoMargin corner row slack) = NoMargin corner row slack
+status_of refusals.Curvature = Curvature
+status_of (refusals.TooManySteps k) = TooManySteps k
+status_of (refusals.TooFine eps) = TooFine eps
+status_of (refusals.TooWide quantity) = TooWide quantity
+
+-- the design with the policy is refused, by the first test that fails
+pub record IsRefusedBy (p : DesignParts) (plans : Plans) (s : Status) : Type 0 where
+  pub refusal : Refusal
+  pub cause : HasCause (design_of p) (targets_of p) plans refusal
+  pub is : s ≡ status_of refusal
+
+-- a design with a policy passes every test
+pub record Passes (p : DesignParts) (plans : Plans) : Type 0 where
+  pub margin : Margin
+  pub exponent : ℕ
+  pub bits : ℕ
+  pub all : PassesAll (design_of p) (targets_of p) plans margin exponent bits
+
+-- what a design with a policy calls for: it is refused, or passes every test
+abbrev pub MakingCalls : DesignParts → Plans → Status → Type 0
+MakingCalls p plans s = IsRefusedBy p plans s ⊎ ((s ≡ Done) × Passes p plans)
+
+-- the controller and its bounds are built of the design and the policy, and certified, and the bounds are within the targets
+pub record IsMadeOf (p : DesignParts) (plans : Plans) (c : Numbers) (b : Printed) : Type 0 where
+  pub built : IsBuilt p plans c b
+  pub certified : IsCertified (design_of p) c b
+  pub targets : IsWithinTargets (targets_of p) b
+
+-- the report of the bounds, in the form that its name asks for
+pub record IsReport (name : List ℕ) (b : Printed) (report : List ℕ) : Type 0 where
+  pub json : IsJson name → report ≡ report_json b
+  pub text : ¬ IsJson name → report ≡ report_text b

@@ -1,0 +1,15 @@
+use Rattle.qp_model.specs.problem.Policy.{plans_of}
+use Rattle.command_demo.specs.Making.{AreOnlyMade}
+use Rattle.command_demo.proofs.command.demo.Goals as goal
+
+pub returns : goal.returns
+returns g c =
+    let made : AreOnlyMade c.args.number c.in-Ok.inputs.design (plans_of c.in-Ok.inputs.policy) = record { made = c.in-Ok.ensures.made; one = c.in-Ok.ensures.one } in
+    record {
+      called = λ caused. c.demo_of.ensures.called c.args.number made caused;
+      prints = c.demo_of.ensures.prints c.args.number made;
+      quiet = c.demo_of.ensures.quiet;
+      no_read = c.demo_of.ensures.no_read;
+      write_fault = λ file is. c.demo_of.ensures.write_fault c.args.number made file is;
+      no_fewer = c.demo_of.ensures.no_fewer;
+    }

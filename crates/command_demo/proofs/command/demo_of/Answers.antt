@@ -1,0 +1,55 @@
+use Rattle.std.proofs.Common.{le_refl, refl, sym, subst}
+use Rattle.qp_model.specs.problem.Parts.{design_of}
+use Rattle.qp_model.specs.problem.Policy.{plans_of}
+use Rattle.qp_model.specs.bounds.Printed.{printed}
+use Rattle.command_line.specs.Answers.{IsAnswer}
+use Rattle.command_line.specs.declared.status.Status.{Status}
+use Rattle.command_line.specs.declared.status.Status.TheVariants.{Done}
+use Rattle.command_controller.proofs.Making.{refused_no_read, refused_no_write}
+use Rattle.command_demo.specs.Demo.{DemoCalls}
+use Rattle.command_demo.proofs.Inside.{inside, shown}
+use Rattle.command_demo.proofs.Answering.{answer_is, refused_is, printed_done, printed_no_read, printed_fault}
+use Rattle.command_demo.proofs.PrintedText.{prints_told, quiet_told}
+use Rattle.command_demo.proofs.command.demo_of.Goals as goal
+
+pub print_text-requires-clause-inside : goal.print_text-requires-clause-inside
+print_text-requires-clause-inside g c =
+    let inputs = c.args.inputs.now in
+    inside (design_of inputs.design) c.in-Ok.made.controller inputs.states c.in-Ok.ensures.made.built.made.sizes c.requires.states c.requires.inside
+
+pub returns-in-Ok : goal.returns-in-Ok
+returns-in-Ok g c =
+    let inputs = c.args.inputs.now in
+    let plans = plans_of inputs.policy in
+    let controller = c.in-Ok.made.controller in
+    let bounds = printed c.in-Ok.made.bounds in
+    let s = c.print_text.result in
+    let only = c.print_text.ensures.only in
+    record {
+      called = λ number made caused. subst (λ (t : Status). IsAnswer (DemoCalls number) t) (sym (printed_done s only caused)) (answer_is number inputs.design plans Done made.made made.one c.in-Ok.ensures.called);
+      prints = λ number made.
+          prints_told controller bounds inputs.states number s (g.O.Sink.got c.args.out.now) (g.O.Sink.got c.print_text.new.out)
+          (shown number inputs.design plans controller bounds inputs.states made.made c.in-Ok.ensures.made c.requires.states c.requires.inside) only c.print_text.ensures.printed;
+      quiet = λ caused other. absurd (other (printed_done s only caused));
+      no_read = λ file is. printed_no_read s only file is;
+      write_fault = λ number made file is.
+          let rose = printed_fault _ s only c.print_text.ensures.failed file is in
+          let answer = answer_is number inputs.design plans Done made.made made.one c.in-Ok.ensures.called in
+          (rose.0, answer.called, rose.1);
+      no_fewer = c.print_text.ensures.no_fewer;
+    }
+
+pub returns-in-Err : goal.returns-in-Err
+returns-in-Err g c =
+    let inputs = c.args.inputs.now in
+    let plans = plans_of inputs.policy in
+    let s = c.in-Err.status in
+    let refused = c.in-Err.ensures.refused in
+    record {
+      called = λ number made caused. refused_is number inputs.design plans s made.made made.one refused caused;
+      prints = λ number made. quiet_told number s (g.O.Sink.got c.args.out.now) c.in-Err.ensures.not_done (λ is. refused_no_write inputs.design plans s refused 0 is);
+      quiet = λ caused other. refl;
+      no_read = λ file is. refused_no_read inputs.design plans s refused file is;
+      write_fault = λ number made file is. absurd (refused_no_write inputs.design plans s refused file is);
+      no_fewer = le_refl (g.O.Sink.faults c.args.out.now);
+    }

@@ -1,0 +1,60 @@
+// `demo` with its number.
+ghost use Rattle.std.specs.Prelude.{◌≡◌, ◌≢◌, ℕ, ◌≤◌, ◌<◌, length, IfSome, IsSomeAnd};
+ghost use Rattle.io_edge.specs.Faults.{Rose};
+ghost use Rattle.integer_algebra.specs.Sums.{at};
+ghost use Rattle.mat_int.specs.Matrix.{row_of};
+ghost use Rattle.qp_model.specs.problem.Box.{IsGridState};
+ghost use Rattle.qp_model.specs.problem.Parts.{design_of};
+ghost use Rattle.qp_model.specs.problem.Policy.{plans_of, IsPolicyFor};
+ghost use Rattle.policy_file.specs.StatesText.{IsStatesText};
+ghost use Rattle.design_maker.specs.Texts.{states_text};
+ghost use Rattle.command_line.specs.Answers.{IsAnswer, IsCaused};
+ghost use Rattle.command_demo.specs.Demo.{DemoCalls, DemoPrints};
+ghost use Rattle.command_demo.specs.Making.{AreOnlyMade};
+
+use crate::inputs::{Inputs, inputs_of};
+use crate::printing::print_text;
+use command_controller::make_controller;
+use command_line::Status;
+use io_edge::Sink;
+use std::alloc::Global;
+
+/// Makes the texts of a design, a policy and four states from a number, and a controller of them, and prints the report of its bounds and the
+/// line of the averaged plan from each state. It reads and writes no file.
+pub fn demo<O: Sink>(alloc: Global, number: u32, out: &mut O) -> Status
+    // Why: by the made texts this answer is called for, and no other.
+    ensures called { IsCaused result → IsAnswer (DemoCalls number) result }
+    // What the output got.
+    ensures prints { IfSome (O.got out.old) (λ old. IsSomeAnd (O.got out.new) (DemoPrints number result old)) }
+    ensures quiet { IsCaused result → result ≢ Status.Done → out.new ≡ out.old }
+    // Faults.
+    ensures no_read { (file : ℕ) → result ≢ Status.ReadFault file }
+    ensures write_fault { (file : ℕ) → result ≡ Status.WriteFault file → (file ≡ 0) × DemoCalls number Status.Done × Rose (O.faults out.old) (O.faults out.new) }
+    ensures no_fewer { O.faults out.old ≤ O.faults out.new }
+{
+    let Ok(inputs) = inputs_of(alloc, number) else {
+        return Status::Memory;
+    };
+    demo_of(alloc, &inputs, out)
+}
+
+// Makes a controller of these inputs, and prints the text. They are borrowed here, so that they end on one path alone.
+fn demo_of<O: Sink>(alloc: Global, inputs: &Inputs, out: &mut O) -> Status
+    requires sized { IsPolicyFor (design_of inputs.now.design) (plans_of inputs.now.policy) }
+    requires states { IsStatesText states_text (design_of inputs.now.design).states inputs.now.states }
+    requires some { 0 < length inputs.now.states.rows }
+    requires inside { (e : ℕ) → e < length inputs.now.states.rows → IsGridState (design_of inputs.now.design) (at (row_of inputs.now.states e)) }
+    ensures called { (number : ℕ) → AreOnlyMade number inputs.now.design (plans_of inputs.now.policy) → IsCaused result → IsAnswer (DemoCalls number) result }
+    ensures prints { (number : ℕ) → AreOnlyMade number inputs.now.design (plans_of inputs.now.policy)
+        → IfSome (O.got out.old) (λ old. IsSomeAnd (O.got out.new) (DemoPrints number result old)) }
+    ensures quiet { IsCaused result → result ≢ Status.Done → out.new ≡ out.old }
+    ensures no_read { (file : ℕ) → result ≢ Status.ReadFault file }
+    ensures write_fault { (number : ℕ) → AreOnlyMade number inputs.now.design (plans_of inputs.now.policy)
+        → (file : ℕ) → result ≡ Status.WriteFault file → (file ≡ 0) × DemoCalls number Status.Done × Rose (O.faults out.old) (O.faults out.new) }
+    ensures no_fewer { O.faults out.old ≤ O.faults out.new }
+{
+    match make_controller(alloc, &inputs.design, &inputs.policy) {
+        Ok(made) => print_text(alloc, &made.controller, &made.bounds, &inputs.states, out),
+        Err(status) => status,
+    }
+}

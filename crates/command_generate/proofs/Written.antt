@@ -1,0 +1,120 @@
+-- What is written, of the design and the policy that were read.
+use Rattle.std.proofs.Common.{◌≡◌, ◌≢◌, ◌⊎◌, inl, inr, ℕ, List, Option, Some, None, sym, ◌∙◌, subst}
+use Rattle.std.specs.Prelude.{IfSome, IsSomeAnd}
+use Rattle.io_edge.specs.Faults.{Files, Rose, NoneFalls, IsCutShort, IsProperPrefix}
+use Rattle.qp_model.specs.problem.Policy.{Plans}
+use Rattle.qp_model.specs.problem.Parts.{design_of}
+use Rattle.qp_model.specs.machine.Controller.{Numbers}
+use Rattle.qp_model.specs.declared.design_parts.DesignParts.{DesignParts}
+use Rattle.qp_model.specs.bounds.Printed.{Printed}
+use Rattle.command_line.specs.Words.{word_of, IsGenerate}
+use Rattle.command_line.specs.Answers.{ForContents, FileHolds, IsCaused}
+use Rattle.command_line.proofs.Counts.{rose_later}
+use Rattle.command_files.specs.Texts.{DesignRight, PolicyRight}
+use Rattle.command_controller.specs.Made.{IsMadeOf}
+use Rattle.command_generate.specs.Writing.{AreTextsFor, AreRead, AreTextsFrom, AreWritten, IsSecondCut, IsAnswered}
+use Rattle.command_generate.specs.Generate.{GenerateCalls, HoldsInputs, IsMadeFrom, IsGenerated, IsControllerCut, IsReportCut}
+use Rattle.command_generate.proofs.Inputs.{is_called}
+use Rattle.command_line.specs.declared.status.Status.{Status}
+use Rattle.command_line.specs.declared.status.Status.TheVariants.{Done, ReadFault, WriteFault}
+
+inputs_of : (words : List (List ℕ)) (files : Files) (p : DesignParts) (plans : Plans) → AreRead words (Some files) p plans → HoldsInputs (files (word_of words 1)) (files (word_of words 2)) p plans
+inputs_of words files p plans read = record {
+  design_right = subst (λ (o : Option (List ℕ)). FileHolds (DesignRight p) o) read.design.told read.design.right;
+  policy_right = subst (λ (o : Option (List ℕ)). FileHolds (PolicyRight (design_of p) plans) o) read.policy.told read.policy.right;
+}
+
+-- the files that were told before, and after
+pub carried : (words : List (List ℕ)) (held held1 held2 : Option Files) (text report : List ℕ) (Q R : Files → Files → Type 0) → held1 ≡ held → (from : AreTextsFrom words held text report) →
+    ((files new : Files) → HoldsInputs (files (word_of words 1)) (files (word_of words 2)) from.p from.plans → Q files new → R files new) →
+    IfSome held1 (λ old. IsSomeAnd held2 (Q old)) → IfSome held (λ files. IsSomeAnd held2 (R files))
+carried words held held1 held2 text report Q R same from each q = go held held2 from.read (subst (λ (o : Option Files). IfSome o (λ old. IsSomeAnd held2 (Q old))) same q)
+  where
+    go : (one two : Option Files) → AreRead words one from.p from.plans → IfSome one (λ old. IsSomeAnd two (Q old)) → IfSome one (λ files. IsSomeAnd two (R files))
+    go (Some files) (Some new) read q = each files new (inputs_of words files from.p from.plans read) q
+    go (Some files) None read q = q
+    go None two read q = tt
+
+made_from : (design policy : Option (List ℕ)) (p : DesignParts) (plans : Plans) (c : Numbers) (b : Printed) → HoldsInputs design policy p plans → IsMadeOf p plans c b → IsMadeFrom design policy c b
+made_from design policy p plans c b inputs made = record { p = p; plans = plans; inputs = inputs; built = made.built; certified = made.certified; targets = made.targets }
+
+module _ (words : List (List ℕ)) (p : DesignParts) (plans : Plans) (text report : List ℕ) (texts : AreTextsFor p plans (word_of words 4) text report) (files new : Files)
+    (inputs : HoldsInputs (files (word_of words 1)) (files (word_of words 2)) p plans) where
+  made : IsMadeFrom (files (word_of words 1)) (files (word_of words 2)) texts.controller texts.bounds
+  made = made_from (files (word_of words 1)) (files (word_of words 2)) p plans texts.controller texts.bounds inputs texts.made
+
+  pub generated : IsGenerate words → AreWritten files new (word_of words 3) (word_of words 4) text report → IsGenerated words files new
+  generated generate written = record {
+    controller = texts.controller;
+    bounds = texts.bounds;
+    made = made;
+    text = text;
+    is_text = texts.is_text;
+    report = report;
+    is_report = texts.is_report;
+    controller_file = written.second.others (word_of words 3) (λ e. generate.report_controller (sym e)) ∙ written.first.here;
+    report_file = written.second.here;
+    others = λ q third fourth. written.second.others q fourth ∙ written.first.others q third;
+  }
+
+  pub controller_cut : IsCutShort files new (word_of words 3) text → IsControllerCut words files new
+  controller_cut cut = record { controller = texts.controller; bounds = texts.bounds; made = made; text = text; is_text = texts.is_text; cut = cut }
+
+  pub report_cut : IsGenerate words → IsSecondCut files new (word_of words 3) (word_of words 4) text report → IsReportCut words files new
+  report_cut generate written = record {
+    controller = texts.controller;
+    bounds = texts.bounds;
+    made = made;
+    text = text;
+    is_text = texts.is_text;
+    report = report;
+    is_report = texts.is_report;
+    controller_file = written.second.others (word_of words 3) (λ e. generate.report_controller (sym e)) ∙ written.first.here;
+    report_file = kept written.second.here;
+    others = λ q third fourth. written.second.others q fourth ∙ written.first.others q third;
+  }
+    where
+      kept : (new (word_of words 4) ≡ written.mid (word_of words 4)) ⊎ IsSomeAnd (new (word_of words 4)) (IsProperPrefix report) →
+          (new (word_of words 4) ≡ files (word_of words 4)) ⊎ IsSomeAnd (new (word_of words 4)) (IsProperPrefix report)
+      kept (inl same) = inl (same ∙ written.first.others (word_of words 4) generate.report_controller)
+      kept (inr front) = inr front
+
+-- ---- the statuses of writing
+abbrev pub WritingEnds : Status → Type 0
+WritingEnds s = (s ≡ Done) ⊎ ((s ≡ WriteFault 3) ⊎ (s ≡ WriteFault 4))
+
+pub written_done : (s : Status) → WritingEnds s → IsCaused s → s ≡ Done
+written_done s (inl done) caused = done
+written_done s (inr (inl cut)) caused = absurd (caused.write 3 cut)
+written_done s (inr (inr cut)) caused = absurd (caused.write 4 cut)
+
+pub written_no_read : (s : Status) → WritingEnds s → (file : ℕ) → s ≡ ReadFault file → ⊥
+written_no_read s (inl done) file is = cc
+written_no_read s (inr (inl cut)) file is = cc
+written_no_read s (inr (inr cut)) file is = cc
+
+pub written_none : (s : Status) → WritingEnds s → s ≢ Done → ((file : ℕ) → s ≢ WriteFault file) → ⊥
+written_none s (inl is) done write = done is
+written_none s (inr (inl cut)) done write = write 3 cut
+written_none s (inr (inr cut)) done write = write 4 cut
+
+-- a fault of writing, where the status is called for and the count rose
+abbrev pub WriteFaultAt : List (List ℕ) → Option Files → (before now : List ℕ → ℕ) → ℕ → Type 0
+WriteFaultAt words held before now file =
+    ((file ≡ 3) ⊎ (file ≡ 4)) × ForContents words held (λ contents. GenerateCalls contents.first contents.second Done) × Rose (before (word_of words file)) (now (word_of words file))
+
+pub write_fault : (words : List (List ℕ)) (held : Option Files) (before mid now : List ℕ → ℕ) (s : Status) → IsAnswered words held Done → NoneFalls before mid → NoneFalls mid now →
+    WritingEnds s → (s ≡ WriteFault 3 → Rose (mid (word_of words 3)) (now (word_of words 3))) → (s ≡ WriteFault 4 → Rose (mid (word_of words 4)) (now (word_of words 4))) →
+    (file : ℕ) → s ≡ WriteFault file → WriteFaultAt words held before now file
+write_fault words held before mid now s answers one two ends third fourth file is = go ends
+  where
+    rose : (at : ℕ) → Rose (mid (word_of words at)) (now (word_of words at)) → Rose (before (word_of words at)) (now (word_of words at))
+    rose at h = let name = word_of words at in rose_later (before name) (mid name) (now name) (one.each name) (two.each name) h
+
+    moved : (at : ℕ) → file ≡ at → Rose (before (word_of words at)) (now (word_of words at)) → Rose (before (word_of words file)) (now (word_of words file))
+    moved at same h = subst (λ (k : ℕ). Rose (before (word_of words k)) (now (word_of words k))) (sym same) h
+
+    go : WritingEnds s → WriteFaultAt words held before now file
+    go (inl done) = absurd (let never : ⊥ = cc in never)
+    go (inr (inl cut)) = let same : file ≡ 3 = cc in (inl same, is_called words held Done answers, moved 3 same (rose 3 (third cut)))
+    go (inr (inr cut)) = let same : file ≡ 4 = cc in (inr same, is_called words held Done answers, moved 4 same (rose 4 (fourth cut)))

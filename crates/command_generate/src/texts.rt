@@ -1,0 +1,130 @@
+// The texts that are written.
+ghost use Rattle.std.specs.Prelude.{◌≡◌, ◌≢◌, ◌⊎◌, ℕ, IfOk, IfErr, IfSome, IsSomeAnd};
+ghost use Rattle.io_edge.specs.Faults.{Rose, NoneFalls, IsCutShort};
+ghost use Rattle.qp_model.specs.problem.Parts.{design_of};
+ghost use Rattle.qp_model.specs.problem.Policy.{plans_of, IsPolicyFor};
+ghost use Rattle.qp_model.specs.bounds.Printed.{printed};
+ghost use Rattle.qp_model.specs.text.ControllerText.{IsControllerText};
+ghost use Rattle.command_line.specs.Words.{word_of, IsGenerate};
+ghost use Rattle.command_line.specs.Answers.{IsAnswer, IsCaused};
+ghost use Rattle.command_files.specs.Reading.{IsDesignRead};
+ghost use Rattle.command_controller.specs.Made.{MakingCalls, IsReport};
+ghost use Rattle.command_generate.specs.Writing.{AreTextsFor, AreTextsFrom, AreWritten, IsAnswered, IsReadFault, IsSecondCut};
+
+use bound_report::{report_json, report_text};
+use command_controller::make_controller;
+use command_files::{read_design_file, read_policy_file};
+use command_line::{Status, is_json};
+use controller_file::write_controller;
+use design_engine::Made;
+use io_edge::{Store, Words};
+use qp_model::{Bounds, Design, Policy};
+use std::alloc::{AllocError, Global};
+
+/// The texts of a controller and of the report of its bounds.
+#[derive(Drop)]
+pub struct Texts {
+    pub controller: Vec<u8>,
+    pub report: Vec<u8>,
+}
+
+// The report in the form that its name asks for.
+fn report_for(alloc: Global, name: &str, bounds: &Bounds) -> Result<Vec<u8>, AllocError>
+    ensures { IfOk result (λ v. IsReport name.now (printed bounds.now) v.items) }
+{
+    if is_json(name) {
+        report_json(alloc, bounds)
+    } else {
+        report_text(alloc, bounds)
+    }
+}
+
+// Both texts of a design with a policy, the report in the form that its name asks for; or the status that tells why there are none.
+fn texts_of(
+    alloc: Global,
+    design: &Design,
+    policy: &Policy,
+    report_name: &str,
+) -> Result<Texts, Status>
+    requires { IsPolicyFor (design_of design.now) (plans_of policy.now) }
+    ensures texts { IfOk result (λ t. AreTextsFor design.now (plans_of policy.now) report_name.now t.controller.items t.report.items) }
+    ensures called { IfOk result (λ _. IsAnswer (MakingCalls design.now (plans_of policy.now)) Status.Done) }
+    ensures refused { IfErr result (λ e. (e ≡ Status.Memory) ⊎ IsAnswer (MakingCalls design.now (plans_of policy.now)) e) }
+    ensures not_done { IfErr result (λ e. e ≢ Status.Done) }
+{
+    let made = make_controller(alloc, design, policy)?;
+    texts_made(alloc, &made, report_name)
+}
+
+// Both texts of a controller and its bounds. They are borrowed here, so that they end on one path alone.
+fn texts_made(alloc: Global, made: &Made, report_name: &str) -> Result<Texts, Status>
+    ensures texts { IfOk result (λ t. IsControllerText t.controller.items made.now.controller × IsReport report_name.now (printed made.now.bounds) t.report.items) }
+    ensures memory { IfErr result (λ e. e ≡ Status.Memory) }
+{
+    let controller = write_controller(alloc, &made.controller)?;
+    let report = report_for(alloc, report_name, &made.bounds)?;
+    Ok(Texts { controller, report })
+}
+
+/// Both texts of the design and the policy in the first two files; or the status that ends the run.
+pub fn texts_for<S: Store>(alloc: Global, words: &Words, store: &mut S) -> Result<Texts, Status>
+    requires { IsGenerate words.now }
+    ensures texts { IfOk result (λ t. AreTextsFrom words.now (S.held store.old) t.controller.items t.report.items) }
+    ensures called { IfOk result (λ _. IsAnswered words.now (S.held store.old) Status.Done) }
+    ensures refused { IfErr result (λ e. IsCaused e → IsAnswered words.now (S.held store.old) e) }
+    ensures not_done { IfErr result (λ e. e ≢ Status.Done) }
+    ensures no_write { IfErr result (λ e. (file : ℕ) → e ≢ Status.WriteFault file) }
+    ensures read_fault { IfErr result (λ e. (file : ℕ) → e ≡ Status.ReadFault file → IsReadFault words.now (S.held store.old) (S.read_faults store.old) (S.read_faults store.new) file) }
+    ensures held { S.held store.new ≡ S.held store.old }
+    ensures reads { NoneFalls (S.read_faults store.old) (S.read_faults store.new) }
+    ensures writes { NoneFalls (S.write_faults store.old) (S.write_faults store.new) }
+{
+    let design = read_design_file(alloc, 1, words.at(1), store)?;
+    texts_with(alloc, &design, words, store)
+}
+
+// Both texts of this design, which the first file holds, and the policy in the second.
+fn texts_with<S: Store>(
+    alloc: Global,
+    design: &Design,
+    words: &Words,
+    store: &mut S,
+) -> Result<Texts, Status>
+    requires words { IsGenerate words.now }
+    requires design { IsDesignRead 1 (S.held store.old) (word_of words.now 1) design.now }
+    ensures texts { IfOk result (λ t. AreTextsFrom words.now (S.held store.old) t.controller.items t.report.items) }
+    ensures called { IfOk result (λ _. IsAnswered words.now (S.held store.old) Status.Done) }
+    ensures refused { IfErr result (λ e. IsCaused e → IsAnswered words.now (S.held store.old) e) }
+    ensures not_done { IfErr result (λ e. e ≢ Status.Done) }
+    ensures no_write { IfErr result (λ e. (file : ℕ) → e ≢ Status.WriteFault file) }
+    ensures read_fault { IfErr result (λ e. (file : ℕ) → e ≡ Status.ReadFault file → IsReadFault words.now (S.held store.old) (S.read_faults store.old) (S.read_faults store.new) file) }
+    ensures held { S.held store.new ≡ S.held store.old }
+    ensures reads { NoneFalls (S.read_faults store.old) (S.read_faults store.new) }
+    ensures writes { NoneFalls (S.write_faults store.old) (S.write_faults store.new) }
+{
+    let policy = read_policy_file(alloc, 2, words.at(2), design, store)?;
+    texts_of(alloc, design, &policy, words.at(4))
+}
+
+/// Writes both texts, the controller's first. It takes no memory.
+pub fn write_texts<S: Store>(third: &str, fourth: &str, texts: &Texts, store: &mut S) -> Status
+    ensures only { (result ≡ Status.Done) ⊎ ((result ≡ Status.WriteFault 3) ⊎ (result ≡ Status.WriteFault 4)) }
+    ensures done { result ≡ Status.Done → IfSome (S.held store.old) (λ old. IsSomeAnd (S.held store.new)
+        (λ new. AreWritten old new third.now fourth.now texts.now.controller.items texts.now.report.items)) }
+    ensures controller_cut { result ≡ Status.WriteFault 3 → IfSome (S.held store.old) (λ old. IsSomeAnd (S.held store.new)
+        (λ new. IsCutShort old new third.now texts.now.controller.items)) }
+    ensures report_cut { result ≡ Status.WriteFault 4 → IfSome (S.held store.old) (λ old. IsSomeAnd (S.held store.new)
+        (λ new. IsSecondCut old new third.now fourth.now texts.now.controller.items texts.now.report.items)) }
+    ensures third_failed { result ≡ Status.WriteFault 3 → Rose (S.write_faults store.old third.now) (S.write_faults store.new third.now) }
+    ensures fourth_failed { result ≡ Status.WriteFault 4 → Rose (S.write_faults store.old fourth.now) (S.write_faults store.new fourth.now) }
+    ensures reads { NoneFalls (S.read_faults store.old) (S.read_faults store.new) }
+    ensures writes { NoneFalls (S.write_faults store.old) (S.write_faults store.new) }
+{
+    if store.write_all(third, &texts.controller).is_err() {
+        return Status::WriteFault { file: 3 };
+    }
+    match store.write_all(fourth, &texts.report) {
+        Ok(()) => Status::Done,
+        Err(_) => Status::WriteFault { file: 4 },
+    }
+}

@@ -1,0 +1,62 @@
+-- A status that tells of a file.
+use Rattle.std.proofs.Common.{◌≡◌, ◌≢◌, inl, inr, ℕ, ℤ, List, Option, Result, Ok, Err}
+use Rattle.std.specs.Prelude.{IsErrAnd, IfOk, IfErr}
+use Rattle.std.proofs.Common.{subst, sym}
+use Rattle.controller_file.specs.declared.bad_controller.BadController.{BadController}
+use Rattle.qp_model.specs.problem.Design.{Design}
+use Rattle.qp_model.specs.machine.Controller.{Numbers}
+use Rattle.number_text.specs.declared.text_fault.TextFault.{TextFault}
+use Rattle.command_line.specs.Answers.{IsFileRefused}
+use Rattle.command_line.specs.declared.status.Field.{Field}
+use Rattle.command_line.specs.declared.status.Status.{Status}
+use Rattle.command_line.specs.declared.status.Status.TheVariants.{Done, Memory, ReadFault, WriteFault, Text, Controller, Long, Mismatch}
+use Rattle.command_files.specs.Texts.{DesignWrong, ControllerWrong, StatesWrong}
+use Rattle.command_loop.specs.Loop.{IsMismatch, TellsLeaving}
+
+-- neither done, nor out of memory, nor a fault, nor of a state that a loop met
+pub record IsRefusal (s : Status) : Type 0 where
+  pub done : s ≢ Done
+  pub memory : s ≢ Memory
+  pub read : (file : ℕ) → s ≢ ReadFault file
+  pub write : (file : ℕ) → s ≢ WriteFault file
+  pub leaving : ¬ TellsLeaving s
+
+long_refusal : (file : ℕ) (s : Status) → s ≡ Long file → IsRefusal s
+long_refusal file s is = record { done = λ e. cc; memory = λ e. cc; read = λ f e. cc; write = λ f e. cc; leaving = λ told. let e = told.3 in cc }
+
+text_refusal : (file : ℕ) (fault : TextFault) (s : Status) → s ≡ Text file fault → IsRefusal s
+text_refusal file fault s is = record { done = λ e. cc; memory = λ e. cc; read = λ f e. cc; write = λ f e. cc; leaving = λ told. let e = told.3 in cc }
+
+bad_refusal : (file : ℕ) (fault : BadController) (s : Status) → s ≡ Controller file fault → IsRefusal s
+bad_refusal file fault s is = record { done = λ e. cc; memory = λ e. cc; read = λ f e. cc; write = λ f e. cc; leaving = λ told. let e = told.3 in cc }
+
+field_refusal : (field : Field) (x y : ℤ) (s : Status) → s ≡ Mismatch field x y → IsRefusal s
+field_refusal field x y s is = record { done = λ e. cc; memory = λ e. cc; read = λ f e. cc; write = λ f e. cc; leaving = λ told. let e = told.3 in cc }
+
+-- ---- what a file is refused with
+pub design_refusal : (file : ℕ) (content : Option (List ℕ)) (s : Status) → IsFileRefused file (DesignWrong file) content s → IsRefusal s
+design_refusal file content s (inl long) = long_refusal file s long.is
+design_refusal file content s (inr wrong) = text_refusal file wrong.right.0 s wrong.right.2.1
+
+pub controller_refusal : (file : ℕ) (content : Option (List ℕ)) (s : Status) → IsFileRefused file (ControllerWrong file) content s → IsRefusal s
+controller_refusal file content s (inl long) = long_refusal file s long.is
+controller_refusal file content s (inr wrong) = bad_refusal file wrong.right.0 s wrong.right.2
+
+pub states_refusal : (n file : ℕ) (content : Option (List ℕ)) (s : Status) → IsFileRefused file (StatesWrong n file) content s → IsRefusal s
+states_refusal n file content s (inl long) = long_refusal file s long.is
+states_refusal n file content s (inr wrong) = text_refusal file wrong.right.0 s wrong.right.2.1
+
+pub mismatch_refusal : (d : Design) (c : Numbers) (s : Status) → IsMismatch d c s → IsRefusal s
+mismatch_refusal d c s (inl states) = field_refusal _ _ _ s states.1
+mismatch_refusal d c s (inr (inl inputs)) = field_refusal _ _ _ s inputs.2
+mismatch_refusal d c s (inr (inr grid)) = field_refusal _ _ _ s grid.3
+
+-- what a refusal doesn't meet, it needn't
+pub unmet : {T : Type 0} (r : Result T Status) (p : Status → Type 0) (P : T → Type 0) → IsErrAnd r p → IfOk r P
+unmet (Ok x) p P is = absurd is
+unmet (Err e) p P is = tt
+
+-- what a `?` hands on
+pub handed : {Y : Type 0} (r : Result Y Status) (P : Status → Type 0) (s : Status) → IsErrAnd r (λ e. e ≡ s) → P s → IfErr r P
+handed (Ok y) P s is h = absurd is
+handed (Err e) P s is h = subst P (sym is) h

@@ -1,0 +1,44 @@
+// `loop` with its arguments.
+ghost use Rattle.std.specs.Prelude.{◌≡◌, ◌≢◌, ◌⊎◌, ℕ, ◌≤◌, IfSome, IsSomeAnd};
+ghost use Rattle.io_edge.specs.Faults.{Rose, NoneFalls};
+ghost use Rattle.command_line.specs.Words.{word_of, IsLoop};
+ghost use Rattle.command_line.specs.Answers.{ForContents, IsAnswer, IsCaused};
+ghost use Rattle.command_loop.specs.Loop.{LoopCalls, LoopReaches, LoopPrints, LoopStarts, TellsLeaving};
+
+use crate::files::read_loops;
+use crate::records::print_loops;
+use command_line::Status;
+use io_edge::{Sink, Store, Words};
+use std::alloc::Global;
+
+/// Prints the lines of a closed loop of `turns` turns for each state of the third file: the plant of the design in the first file, controlled by the
+/// controller in the second. A record whose state leaves the box ends it, with the lines of the turns before that printed.
+pub fn run_loops<S: Store, O: Sink>(
+    alloc: Global,
+    words: &Words,
+    turns: u32,
+    store: &mut S,
+    out: &mut O,
+) -> Status
+    requires { IsLoop words.now turns }
+    // Why: by what the three files hold this answer is called for, and no other.
+    ensures called { IsCaused result → ForContents words.now (S.held store.old) (λ contents. IsAnswer (LoopCalls contents.first contents.second contents.third turns) result) }
+    // What the output got.
+    ensures prints { IfSome (O.got out.old) (λ old. IsSomeAnd (O.got out.new) (λ new. ForContents words.now (S.held store.old) (λ contents. LoopPrints contents turns result old new))) }
+    ensures quiet { IsCaused result → result ≢ Status.Done → ¬ TellsLeaving result → out.new ≡ out.old }
+    // Faults. Where a print failed, the files were in order, and `turn` within its limit.
+    ensures read_fault { (file : ℕ) → result ≡ Status.ReadFault file → ForContents words.now (S.held store.old) (λ contents. LoopReaches contents.first contents.second file)
+        × Rose (S.read_faults store.old (word_of words.now file)) (S.read_faults store.new (word_of words.now file)) }
+    ensures write_fault { (file : ℕ) → result ≡ Status.WriteFault file → (file ≡ 0) × ForContents words.now (S.held store.old) (λ contents. LoopStarts contents)
+        × Rose (O.faults out.old) (O.faults out.new) }
+    // What stays the same.
+    ensures held { S.held store.new ≡ S.held store.old }
+    ensures reads { NoneFalls (S.read_faults store.old) (S.read_faults store.new) }
+    ensures writes { NoneFalls (S.write_faults store.old) (S.write_faults store.new) }
+    ensures no_fewer { O.faults out.old ≤ O.faults out.new }
+{
+    match read_loops(alloc, words, store) {
+        Ok(loops) => print_loops(alloc, &loops, turns, out),
+        Err(status) => status,
+    }
+}

@@ -1,0 +1,28 @@
+ghost use Rattle.std.specs.Prelude.{◌≡◌};
+ghost use Rattle.exact_margin.specs.declared.fault.MarginFault.TheVariants.{Memory as margin_memory};
+
+use frac_scaled::Frac;
+use qp_model::Quantity;
+use std::alloc::AllocError;
+use thiserror::Error;
+
+/// Why a policy shows no margin.
+#[derive(Clone, Copy, Debug, PartialEq, Eq, Error)]
+pub enum MarginFault {
+    #[error("memory")]
+    Memory,
+    /// The quantity is above `2^126`.
+    #[error("too wide")]
+    TooWide { quantity: Quantity },
+    /// The first corner, and in it the first row, with less slack than `2^-16`, both counted from 1, and that slack.
+    #[error("no margin")]
+    NoMargin { corner: u32, row: u32, slack: Frac },
+}
+
+impl From<AllocError> for MarginFault {
+    ghost from_gives = { λ _ e. e ≡ margin_memory };
+
+    fn from(_: AllocError) -> Self {
+        MarginFault::Memory
+    }
+}

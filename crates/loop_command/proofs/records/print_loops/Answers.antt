@@ -1,6 +1,0 @@
-use Rattle.std.proofs.Common.{ap}
-use Rattle.fixed_kernel.specs.Progress.{Progress}
-use Rattle.loop_command.proofs.records.print_loops.Goals as goal
-
-pub returns-clause-ends : goal.returns-clause-ends
-returns-clause-ends g c = rw (ap (λ (k : Progress). k.controller) c.in-Ok.ensures) at c.print_records.ensures.ends

@@ -1,0 +1,68 @@
+// Expected values are worked out by hand.
+ghost use Rattle.std.specs.Prelude.{pos, ◌≤ℤ◌, ◌≤◌};
+ghost use Rattle.condensed_form.specs.Form.{IsFormOf};
+
+use approx_inverse::solve_all;
+use condensed_form::Condensed;
+use plant_condense::condense;
+use qp_model::Design;
+use real_error::real_epsilon;
+use std::alloc::Global;
+use std::test::Fail;
+use step_error::error_sums;
+use trials_worked_designs::{DESIGN, design};
+
+// What the errors of a step of a design cost with the solutions of its form at so many bits, where no plan entry is above `plan`.
+fn cost_with(
+    alloc: Global,
+    design: &Design,
+    condensed: &Condensed,
+    f: u32,
+    plan: i128,
+) -> Result<i128, Fail>
+    requires form { IsFormOf design.now condensed.now }
+    requires bits { f ≤ 48 }
+    requires plan { pos 0 ≤ℤ plan }
+{
+    let e = error_sums(condensed, design, 8)?;
+    let gains = solve_all(alloc, condensed, f)?;
+    Ok(real_epsilon(condensed, &e, &gains.p_mat, &gains.t, &gains.w_mat, plan, f))
+}
+
+// The same of a design that is yet to be condensed.
+fn cost_of(alloc: Global, design: &Design, f: u32, plan: i128) -> Result<i128, Fail>
+    requires bits { f ≤ 48 }
+    requires plan { pos 0 ≤ℤ plan }
+{
+    let condensed = condense(alloc, design)?;
+    cost_with(alloc, design, &condensed, f, plan)
+}
+
+fn first_cost(alloc: Global, f: u32, plan: i128) -> Result<i128, Fail>
+    requires bits { f ≤ 48 }
+    requires plan { pos 0 ≤ℤ plan }
+{
+    let design = design(alloc, DESIGN)?;
+    cost_of(alloc, &design, f, plan)
+}
+
+// The solutions are exact, so that the rounding of the plan alone is left.
+#[test]
+fn exact_gains(rt: HostRuntime) -> Result<(), Fail> {
+    assert!(rt; first_cost(rt.alloc(), 10, 13)? == 438095052800);
+    Ok(())
+}
+
+// The plan bound is 27.
+#[test]
+fn wide_plan(rt: HostRuntime) -> Result<(), Fail> {
+    assert!(rt; first_cost(rt.alloc(), 10, 1000)? == 798872305664);
+    Ok(())
+}
+
+// The solution for each of the three rows misses 8, half the diagonal.
+#[test]
+fn rounded_gains(rt: HostRuntime) -> Result<(), Fail> {
+    assert!(rt; first_cost(rt.alloc(), 1, 1000)? == 2100067209052160);
+    Ok(())
+}

@@ -1,0 +1,79 @@
+// Stores in memory, and the texts that they hold.
+use io_edge::ReadRefusal;
+use std::alloc::{AllocError, Global};
+use std::test::Fail;
+use trials_memory_edge::MemStore;
+use trials_worked_designs::{CONTROLLER, DESIGN, POLICY, STATES};
+
+/// The bytes that are read, written or printed in one run at most, with room for any text of the trials.
+pub const ROOM: usize = 65536;
+
+// Puts the four texts into a store, and the room for what is made.
+fn fill(
+    store: &mut MemStore,
+    design: &str,
+    policy: &str,
+    controller: &str,
+    states: &str,
+) -> Result<(), AllocError> {
+    store.hold("d", design.as_bytes())?;
+    store.hold("p", policy.as_bytes())?;
+    store.hold("c", controller.as_bytes())?;
+    store.hold("s", states.as_bytes())?;
+    store.reserve("out", ROOM)?;
+    store.reserve("r", ROOM)?;
+    store.reserve("r.json", ROOM)
+}
+
+/// A store with a design, a policy, a controller and states, and with room for a controller `out` and a report `r`, or `r.json`.
+pub fn store_of(
+    alloc: Global,
+    design: &str,
+    policy: &str,
+    controller: &str,
+    states: &str,
+) -> Result<MemStore, AllocError> {
+    let mut store = MemStore::empty(alloc);
+    fill(&mut store, design, policy, controller, states)?;
+    Ok(store)
+}
+
+/// The store of the first worked design, its policy, its controller and the states of its corners.
+pub fn given(alloc: Global) -> Result<MemStore, AllocError> {
+    store_of(alloc, DESIGN, POLICY, CONTROLLER, STATES)
+}
+
+/// What a name holds, and nothing where it holds nothing.
+pub fn held(alloc: Global, store: &mut MemStore, name: &str) -> Result<Vec<u8>, ReadRefusal> {
+    match store.read(alloc, name, ROOM) {
+        Err(ReadRefusal::Failed) => Ok(Vec::new(alloc)),
+        found => found,
+    }
+}
+
+/// Whether the name holds these bytes.
+pub fn holds(
+    alloc: Global,
+    store: &mut MemStore,
+    name: &str,
+    bytes: &[u8],
+) -> Result<bool, AllocError> {
+    match store.read(alloc, name, ROOM) {
+        Ok(held) => Ok(held.as_slice() == bytes),
+        Err(ReadRefusal::Memory) => Err(AllocError),
+        Err(_) => Ok(false),
+    }
+}
+
+/// A text with one part in place of another.
+pub fn changed(alloc: Global, text: &str, old: &str, new: &str) -> Result<String, Fail> {
+    let (before, after) = text.split_once(old).ok_or("absent")?;
+    Ok(format!(in alloc; "{before}{new}{after}")?)
+}
+
+/// What a row of a table tells, which has a comma for each line feed but the last.
+pub fn told_by(alloc: Global, row: &str) -> Result<String, AllocError> {
+    let mut told = row.replace(alloc, ",", "\n")?;
+    told.push('\n')?;
+    Ok(told)
+}

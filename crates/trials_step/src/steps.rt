@@ -1,0 +1,285 @@
+// Expected values are those of bench/curvature/exponents.py.
+ghost use Rattle.std.specs.Prelude.{◌≡◌, ◌<◌, ℕ, length, IsTrue};
+ghost use Rattle.mat_int.specs.Matrix.{entry_of};
+ghost use Rattle.hessian_check.specs.Dominance.{IsSymmetric};
+
+use hessian_check::{CurvatureFault, Scaled, StepExponents, check, curvature, root_of};
+use mat_int::Mat;
+use plant_condense::condense;
+use qp_model::{Design, Quantity};
+use std::alloc::{AllocError, Global};
+use std::test::Fail;
+use trials_worked_designs::{DESIGN, SATELLITE, changed_design, design, has_rows};
+
+// 2^126
+const MOST: i128 = 85070591730234615865843651857942052864;
+
+// The rows of a matrix.
+type Rows = &'static [&'static [i128]];
+
+// A matrix, a root, and whether `check` says so of them.
+static CHECKS: [(Rows, Rows, bool); 13] = [
+    (&[&[0, 1], &[1, 0]], &[&[0, 0], &[0, 0]], false),
+    (&[&[1]], &[&[1]], true),
+    (&[&[5, 3], &[3, 9]], &[&[2, 0], &[1, 2]], true),
+    (&[&[4, 0], &[0, 4]], &[&[2, 0], &[1, 2]], false),
+    (&[&[1, -1], &[-1, 1]], &[&[0, 0], &[0, 0]], true),
+    (&[&[1, -2], &[-2, 2]], &[&[0, 0], &[0, 0]], false),
+    (&[&[2, -2], &[-2, 1]], &[&[0, 0], &[0, 0]], false),
+    (&[&[0]], &[&[0]], true),
+    (&[&[-1]], &[&[0]], false),
+    (&[&[MOST]], &[&[0]], true),
+    (&[&[MOST]], &[&[1 << 63]], false),
+    (
+        &[&[MOST, MOST - 1], &[MOST - 1, MOST]],
+        &[&[0, 0], &[0, 0]],
+        true,
+    ),
+    (&[&[MOST, MOST], &[MOST, MOST]], &[&[0, 0], &[0, 0]], false),
+];
+
+// A matrix, and its root with the shift.
+static ROOTS: [(Rows, Option<(u32, Rows)>); 13] = [
+    (&[], None),
+    (&[&[1]], Some((30, &[&[1073610743]]))),
+    (&[&[4]], Some((29, &[&[1073610743]]))),
+    (&[&[1 << 62]], Some((0, &[&[2147221487]]))),
+    (&[&[(1 << 60) - 1]], Some((1, &[&[2147221487]]))),
+    (&[&[(1 << 116) - 1]], Some((0, &[&[288195189631877079]]))),
+    (&[&[1 << 116, 0], &[0, 1]], None),
+    (&[&[1, 2], &[2, 1]], None),
+    (&[&[0, 0], &[0, 1]], None),
+    (&[&[9, -9], &[-9, 9]], None),
+    (
+        &[&[10, -9], &[-9, 10]],
+        Some((29, &[&[1697527635, 0], &[-1528147956, 739164324]])),
+    ),
+    (
+        &[&[4, 2, -2], &[2, 10, 2], &[-2, 2, 14]],
+        Some((
+            29,
+            &[
+                &[1073610743, 0, 0],
+                &[536936460, 1610503500, 0],
+                &[-536936461, 536951031, 1859657661],
+            ],
+        )),
+    ),
+    (
+        &[&[1 << 100, 1 << 70], &[1 << 70, 1 << 99]],
+        Some((0, &[&[1125831185268607, 0], &[1048640, 796034269117356]])),
+    ),
+];
+
+// The matrix of these rows.
+fn matrix(alloc: Global, rows: &[&[i128]]) -> Result<Mat, Fail> {
+    match Mat::from_rows(alloc, rows.len(), rows)? {
+        Some(mat) => Ok(mat),
+        None => Err("rows of other lengths".into()),
+    }
+}
+
+// Whether a square matrix is its transpose.
+fn is_symmetric(mat: &Mat) -> bool
+    requires { mat.now.cols ≡ length mat.now.rows }
+    ensures { IsTrue result → IsSymmetric (length mat.now.rows) (entry_of mat.now) }
+{
+    for i in 0..mat.rows() {
+        if !is_turned(mat, i) {
+            return false;
+        }
+    }
+    true
+}
+
+// Whether row i is column i.
+fn is_turned(mat: &Mat, i: usize) -> bool
+    requires square { mat.now.cols ≡ length mat.now.rows }
+    requires inside { i < length mat.now.rows }
+    ensures { IsTrue result → (j : ℕ) → j < length mat.now.rows → entry_of mat.now i j ≡ entry_of mat.now j i }
+{
+    for j in 0..mat.rows() {
+        if mat.at(i, j) != mat.at(j, i) {
+            return false;
+        }
+    }
+    true
+}
+
+// Whether `check` says so of a symmetric matrix and a root of its size.
+fn has_check(mat: &Mat, root: &Mat, yes: bool) -> Result<bool, Fail> {
+    if mat.cols() != mat.rows() || root.cols() != mat.rows() || root.rows() != mat.rows() {
+        return Err("other sizes".into());
+    }
+    if !is_symmetric(mat) {
+        return Err("not symmetric".into());
+    }
+    Ok(check(mat, root) == yes)
+}
+
+// The same of a root of these rows.
+fn has_check_of(alloc: Global, mat: &Mat, root_rows: &[&[i128]], yes: bool) -> Result<bool, Fail> {
+    let root = matrix(alloc, root_rows)?;
+    has_check(mat, &root, yes)
+}
+
+// And of a matrix of these rows.
+fn is_checked(
+    alloc: Global,
+    rows: &[&[i128]],
+    root_rows: &[&[i128]],
+    yes: bool,
+) -> Result<bool, Fail> {
+    let mat = matrix(alloc, rows)?;
+    has_check_of(alloc, &mat, root_rows, yes)
+}
+
+#[test]
+fn checks(rt: HostRuntime) -> Result<(), Fail> {
+    for &(rows, root_rows, yes) in &CHECKS {
+        assert!(rt; is_checked(rt.alloc(), rows, root_rows, yes)?);
+    }
+    Ok(())
+}
+
+// Whether a root is that one, or there is none where none is wanted.
+fn is_root(found: &Option<Scaled>, want: &Option<(u32, Rows)>) -> bool {
+    match (found, want) {
+        (Some(scaled), Some((shift, rows))) => {
+            scaled.shift == *shift && has_rows(&scaled.root, rows)
+        }
+        (None, None) => true,
+        _ => false,
+    }
+}
+
+// Whether a square matrix has this root.
+fn has_root_of(alloc: Global, mat: &Mat, want: &Option<(u32, Rows)>) -> Result<bool, Fail> {
+    if mat.cols() != mat.rows() {
+        return Err("not square".into());
+    }
+    let found = root_of(alloc, mat)?;
+    Ok(is_root(&found, want))
+}
+
+// Whether that of these rows does.
+fn has_root(alloc: Global, rows: &[&[i128]], want: &Option<(u32, Rows)>) -> Result<bool, Fail> {
+    let mat = matrix(alloc, rows)?;
+    has_root_of(alloc, &mat, want)
+}
+
+#[test]
+fn roots(rt: HostRuntime) -> Result<(), Fail> {
+    for (rows, want) in &ROOTS {
+        assert!(rt; has_root(rt.alloc(), rows, want)?);
+    }
+    Ok(())
+}
+
+// What is found; an error where memory ran out, so that it is taken for no answer.
+fn answer(
+    found: Result<StepExponents, CurvatureFault>,
+) -> Result<Result<StepExponents, CurvatureFault>, Fail> {
+    match found {
+        Err(CurvatureFault::Memory) => Err(AllocError.into()),
+        found => Ok(found),
+    }
+}
+
+// The exponents of a design's condensed form, or why there are none.
+fn exponents_of(
+    alloc: Global,
+    design: &Design,
+) -> Result<Result<StepExponents, CurvatureFault>, Fail> {
+    let condensed = condense(alloc, design)?;
+    answer(curvature(alloc, &condensed))
+}
+
+fn exponents(alloc: Global, text: &str) -> Result<Result<StepExponents, CurvatureFault>, Fail> {
+    let design = design(alloc, text)?;
+    exponents_of(alloc, &design)
+}
+
+// The same with one part of the text in another's place.
+fn exponents_with(
+    alloc: Global,
+    text: &str,
+    old: &str,
+    new: &str,
+) -> Result<Result<StepExponents, CurvatureFault>, Fail> {
+    let design = changed_design(alloc, text, old, new)?;
+    exponents_of(alloc, &design)
+}
+
+// Designs, and their exponents.
+static EXPONENTS: [(&str, StepExponents); 5] = [
+    (DESIGN, StepExponents { s: 1, s1: 1 }),
+    // the most
+    (STEEP, StepExponents { s: 40, s1: 40 }),
+    (CERTIFIED, StepExponents { s: 2, s1: 3 }),
+    (SATELLITE, StepExponents { s: 1, s1: 1 }),
+    (FINE, StepExponents { s: 1, s1: 1 }),
+];
+
+#[test]
+fn worked_exponents(rt: HostRuntime) -> Result<(), Fail> {
+    for &(text, want) in &EXPONENTS {
+        assert!(rt; exponents(rt.alloc(), text)? == Ok(want));
+    }
+    Ok(())
+}
+
+#[test]
+fn no_step(rt: HostRuntime) -> Result<(), Fail> {
+    let found = exponents_with(rt.alloc(), STEEP, "1400000, 1400000", "1500000, 1500000")?;
+    assert!(rt; found == Err(CurvatureFault::NoStep));
+    Ok(())
+}
+
+// The numbers of the enclosures are above the limit too, by `scripts/sizes.py`.
+#[test]
+fn too_wide(rt: HostRuntime) -> Result<(), Fail> {
+    let old = "den = 1, row_den = 1, input = [1], stage = [[1, 0, 1]]";
+    let new = "den = 1048576, row_den = 1, input = [1], stage = [[1, 0, 16777216]]";
+    let quantity = Quantity::Curvature;
+    assert!(rt;
+        exponents_with(rt.alloc(), FINE, old, new)? == Err(CurvatureFault::TooWide { quantity })
+    );
+    Ok(())
+}
+
+// The first design with one limit row, which is steep.
+const STEEP: &str = "version = 1
+states = 1
+inputs = 1
+stages = 1
+plant = { den = 1, a = [[1]], b = [[1]] }
+cost = { den = 1, row_den = 1, input = [1], stage = [[1, 0, 1]], final = [] }
+limits = { den = 1, stage = [[0, 1400000, 1400000]], final = [] }
+box = { grid = 0, lo = [0], hi = [1] }
+targets = { den = 1, violation = 16, gap = 16 }
+";
+
+// Two stages, where no matrix is dominant, and the certificate is below the number that needs none.
+const CERTIFIED: &str = "version = 1
+states = 1
+inputs = 1
+stages = 2
+plant = { den = 1, a = [[2]], b = [[1]] }
+cost = { den = 1, row_den = 1, input = [1], stage = [], final = [[1, 0, 100]] }
+limits = { den = 1, stage = [[0, 1, 1], [0, 1, 2], [0, -1, 1]], final = [] }
+box = { grid = 0, lo = [0], hi = [1] }
+targets = { den = 1, violation = 16, gap = 16 }
+";
+
+// Denominators at their greatest: the matrices of the exact numbers would be above the limit.
+const FINE: &str = "version = 1
+states = 1
+inputs = 1
+stages = 2
+plant = { den = 1048576, a = [[1048576]], b = [[1048576]] }
+cost = { den = 1, row_den = 1, input = [1], stage = [[1, 0, 1]], final = [] }
+limits = { den = 131072, stage = [[0, 131072, 131072], [0, -131072, 131072]], final = [[131072, 32768]] }
+box = { grid = 0, lo = [0], hi = [1] }
+targets = { den = 1, violation = 16, gap = 16 }
+";
