@@ -12,7 +12,7 @@ import sys
 import tempfile
 
 TOP = os.path.dirname(os.path.dirname(os.path.dirname(os.path.abspath(__file__))))
-sys.path.insert(0, f"{TOP}/bench/fuzz")
+sys.path.insert(0, f"{TOP}/checks/fuzz")
 import control
 import model
 

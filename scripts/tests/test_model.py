@@ -1,4 +1,4 @@
-"""The independent model of bench/fuzz, on worked designs whose exact numbers are too long, and against the numbers that the prover computes in
+"""The independent model of checks/fuzz, on worked designs whose exact numbers are too long, and against the numbers that the prover computes in
 crates/qp_model/proofs/FineWorked.antt and CornersWorked.antt."""
 import os
 import sys
@@ -8,7 +8,7 @@ from condensed import condense
 from design_text import design_of
 from tests.worked import AXIS, FIRST, ROOMY_FINE_AXIS, SECOND_JSON, SECOND_REPORT, TOP
 
-sys.path.insert(0, os.path.join(TOP, "bench", "fuzz"))
+sys.path.insert(0, os.path.join(TOP, "checks", "fuzz"))
 import at_corners
 import cases
 import forms
@@ -26,7 +26,7 @@ CROSSED = {**THIRD, "n": 2, "p": 2, "a": [[2, 1], [0, -4]], "b": [[1, 0], [2, -5
            "rows": [[1, 2, -3, 8, 5]], "final_rows": [[7, 0, 2]], "lo": [0, 0], "hi": [1, 1]}
 
 
-# the rows of `bench/rows` whose exponents were computed by hand
+# the rows of `checks/rows` whose exponents were computed by hand
 FLAT = {"version": 2, "rows": [[0, 64, 64], [0, -16, 64], [0, 4, 64], [0, 1, 64]], "final_rows": [[1, 9]]}
 ROOMY = {"version": 2, "stages": 2, "den": 1048576, "a": [[524288]], "b": [[524288]], "row_den": 1024, "cost": [], "limit_den": 1, "rows": [[0, 2, 524285], [0, 1, 4]], "final_rows": []}
 THIRDS = [(3, [1, -2]), (7, [5, 0])]

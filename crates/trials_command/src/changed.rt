@@ -6,7 +6,7 @@ use trials_memory_edge::MemStore;
 use trials_worked_designs::{CONTROLLER, STATES};
 
 // What the model tells of each text that is not refused at the line of its byte: the byte's place, from 0, what stands there, and the lines of its corners' states,
-// or why it is refused, with a comma for each line feed but the last. All others are refused at the byte's own line. `bench/fuzz/changed_bytes.py` prints it.
+// or why it is refused, with a comma for each line feed but the last. All others are refused at the byte's own line. `checks/fuzz/changed_bytes.py` prints it.
 const ANSWERS: &str = "
 3 45 4096 0,4096 -2224
 14 32 4096 0,4096 -2224

@@ -1,7 +1,7 @@
 #!/usr/bin/env python3
 """Prints what `solve` tells of the first worked controller where one of its bytes is another, by the model.
 
-    bench/fuzz/changed_bytes.py
+    checks/fuzz/changed_bytes.py
 
 A row for each text that is not refused at the line of its changed byte: the byte's place, counted from 0; the byte that stands there, a space, `-`, `0` or `9`, as
 a number; what is told of the corners' states, with a comma for each line feed but the last. The tests of trials_command hold these rows.

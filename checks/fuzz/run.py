@@ -1,7 +1,7 @@
 #!/usr/bin/env python3
 """Runs the program's commands on changed and random texts, and compares each answer with the independent model beside this file, to the byte.
 
-    bench/fuzz/run.py PROGRAM [--cases COUNT] [--seed SEED] [--jobs JOBS] [--kind KIND] [--case NUMBER]
+    checks/fuzz/run.py PROGRAM [--cases COUNT] [--seed SEED] [--jobs JOBS] [--kind KIND] [--case NUMBER]
 
 For each of COUNT (1000) cases the exit status, the line on standard error, standard output and every file that is left must be the model's. A design's gains aren't
 determined: they are taken from the controller that the program wrote, once they are known to solve their systems. Each run of a controller is made with every

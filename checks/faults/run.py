@@ -1,7 +1,7 @@
 #!/usr/bin/env python3
 """Runs the built program while memory, files and its output fail, and checks what stands afterwards.
 
-    bench/faults/run.py PROGRAM [--jobs JOBS] [--only memory|files|output]
+    checks/faults/run.py PROGRAM [--jobs JOBS] [--only memory|files|output]
 
 Memory: under an allocator that refuses one request, the n-th, for every n that the run makes, and again one that refuses the n-th and all later ones. Each run
 must end with the status 1 and its line, or with the right answer; `generate` leaves both files as they were, the others have put some first lines. Where the

@@ -1,7 +1,7 @@
 #!/usr/bin/env python3
 """Runs the crates' tests while memory fails: each request of each test refused in turn.
 
-    bench/faults/allocations.py [NAME ..] [--most COUNT] [--jobs JOBS] [--build]
+    checks/faults/allocations.py [NAME ..] [--most COUNT] [--jobs JOBS] [--build]
 
 Each test runs in a process of its own under an allocator that refuses its n-th request, for every n up to COUNT (2000) and for as many more that are spread evenly
 over the rest. `rt test` leaves the program of a crate's tests in its folder out/, and is called where there is none, with --build also where there is one; with no

@@ -1,7 +1,7 @@
 #!/usr/bin/env python3
 """An independent model of the whole program: what each command answers with, to the byte.
 
-    bench/fuzz/program.py COMMAND ..    runs the command as the program does, in the present folder
+    checks/fuzz/program.py COMMAND ..    runs the command as the program does, in the present folder
 
 The one thing that isn't determined is which good solutions a design's gains are. So `answer` is told them by `gains`, a function of the choice; run as a
 program, it takes its own. Everything else is exact: the status, its line on standard error, standard output, and what each file holds.

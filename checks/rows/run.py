@@ -1,7 +1,7 @@
 #!/usr/bin/env python3
 """Runs worked examples whose answers were computed by hand, as commands over files, and compares the status, both outputs and every file.
 
-    bench/rows/run.py PROGRAM [--valgrind]
+    checks/rows/run.py PROGRAM [--valgrind]
 
 With --valgrind each runs under valgrind's memory checker, which must have nothing to report: no invalid read or write, no branch on what was never written, no
 block that is lost. The rows of fine designs, whose exact numbers pass 2^126, and of fine corners have the numbers of the model in ../fuzz.
