@@ -13,12 +13,12 @@ use Rattle.qp_model.specs.problem.Range.{IsDenominator}
 use Rattle.qp_model.specs.problem.Parts.{design_of, IsDesign}
 use Rattle.qp_model.specs.declared.design_parts.DesignParts.{DesignParts}
 use Rattle.qp_model.proofs.CornerFacts.{grid_small, product_small}
-use Rattle.stay_check.specs.FirstRows.{first_rows, first_row, limits_on_state, next_limits}
+use Rattle.stay_check.specs.FirstRows.{first_row_count, first_row, limits_on_state, next_limits}
 use Rattle.stay_check.specs.FaceForms.{FaceNumbers, AreFacesFor}
 use Rattle.stay_check.proofs.FirstRowLaws.{on_state_at}
 
 -- ---- weights and factors
-pub weight_small : (d : Design) (f : FaceNumbers) (e r : ℕ) → AreFacesFor d f → e < 2 * d.states → r < first_rows d → unsigned_abs (entry_of f.weights e r) < 2 ^ 31
+pub weight_small : (d : Design) (f : FaceNumbers) (e r : ℕ) → AreFacesFor d f → e < 2 * d.states → r < first_row_count d → unsigned_abs (entry_of f.weights e r) < 2 ^ 31
 weight_small d f e r for l m =
     let w = for.weights e r l m in
     let low = w.low in
@@ -67,7 +67,7 @@ scale_small p d = omega (arith, product_small (2 ^ p.grid) (unsigned_abs p.plant
 some_rows : (n l i : ℕ) → 2 ≤ n → i < l → l + i < n * l
 some_rows n l i h k = omega (arith, mul-le-mul_right l h)
 
-pub row_inside : (p : DesignParts) (r : ℕ) → IsDesign p → r < first_rows (design_of p) → (first_row (design_of p) r).row < rows (design_of p)
+pub row_inside : (p : DesignParts) (r : ℕ) → IsDesign p → r < first_row_count (design_of p) → (first_row (design_of p) r).row < rows (design_of p)
 row_inside p r d l = elim (cases_lt r (length p.stage_rows.rows)) [
   | inl o ↦ (let b = lt-ltb r (length p.stage_rows.rows) o in rw b (omega (arith, o, mul-le-mul_right (length p.stage_rows.rows) d.stages.0)))
   | inr o ↦ (let b = le-ltb r (length p.stage_rows.rows) o in

@@ -15,7 +15,7 @@ use Rattle.policy_file.proofs.MatrixFacts.{Filled, row_pushed, same_matrix}
 use Rattle.policy_file.proofs.PolicyFacts.{first_and_rest}
 use Rattle.policy_file.proofs.TextFacts.{records_count}
 use Rattle.policy_file.proofs.UniqueFacts.{IsFunctional, same_number, same_numbers, held_or_wrong, same_first_fault, both_ways}
-use Rattle.stay_check.specs.FirstRows.{first_rows}
+use Rattle.stay_check.specs.FirstRows.{first_row_count}
 use Rattle.stay_check.specs.FaceForms.{FaceNumbers, faces_of, AreFacesFor}
 use Rattle.stay_check.specs.FacesText.{face_length, IsFacesText, IsFacesTextFault}
 use Rattle.stay_check.specs.declared.faces.Faces.{Faces}
@@ -38,11 +38,11 @@ faces_more text count i kappa more k weights new zs n f l here e h =
     })
 
 -- all of them
-pub faces_found : (text : List ℕ) (d : Design) (rows : List Row) (f : FaceNumbers) (n i : ℕ) → n ≡ first_rows d → map fields_of rows ≡ records_of text → length rows ≤ i → length rows ≡ 2 * d.states →
+pub faces_found : (text : List ℕ) (d : Design) (rows : List Row) (f : FaceNumbers) (n i : ℕ) → n ≡ first_row_count d → map fields_of rows ≡ records_of text → length rows ≤ i → length rows ≡ 2 * d.states →
     Filled (IsFace text n f.factors) f.weights n i → length f.factors ≡ i → i ≤ length rows → IsFacesText text d f
 faces_found text d rows f w i q e l n h k m = by (subst (λ x. Filled (IsFace text x f.factors) f.weights x i) q h)
   where
-    by : Filled (IsFace text (first_rows d) f.factors) f.weights (first_rows d) i → IsFacesText text d f
+    by : Filled (IsFace text (first_row_count d) f.factors) f.weights (first_row_count d) i → IsFacesText text d f
     by h = record {
       records = omega (arith, records_count rows text e);
       count = omega arith;
@@ -52,7 +52,7 @@ faces_found text d rows f w i q e l n h k m = by (subst (λ x. Filled (IsFace te
     }
 
 -- too many, or too few
-pub count_fault : (text : List ℕ) (d : Design) (rows : List Row) (n w i : ℕ) (kappa : List ℤ) (weights : Matrix) → w ≡ first_rows d → map fields_of rows ≡ records_of text → n ≡ length rows → length rows ≤ i → length rows ≢ 2 * d.states →
+pub count_fault : (text : List ℕ) (d : Design) (rows : List Row) (n w i : ℕ) (kappa : List ℤ) (weights : Matrix) → w ≡ first_row_count d → map fields_of rows ≡ records_of text → n ≡ length rows → length rows ≤ i → length rows ≢ 2 * d.states →
     ((e : ℕ) → e < i → HoldsNumbers face_rule (w + 1) (record_at (records_of text) e) (at kappa e ∷ row_of weights e)) →
     (Count n ≡ Memory) ⊎ IsFacesTextFault text d (Count n)
 count_fault text d rows n w i kappa weights q e s l k h = inr (inr (record {
@@ -62,7 +62,7 @@ count_fault text d rows n w i kappa weights q e s l k h = inr (inr (record {
 }))
 
 -- that of a record is one of the text
-pub either_fault : (text : List ℕ) (d : Design) (n : ℕ) (fault : TextFault) → n ≡ first_rows d → (fault ≡ Memory) ⊎ IsRecordsFault face_rule (n + 1) (records_of text) fault →
+pub either_fault : (text : List ℕ) (d : Design) (n : ℕ) (fault : TextFault) → n ≡ first_row_count d → (fault ≡ Memory) ⊎ IsRecordsFault face_rule (n + 1) (records_of text) fault →
     (fault ≡ Memory) ⊎ IsFacesTextFault text d fault
 either_fault text d n fault e (inl m) = inl m
 either_fault text d n fault e (inr f) = inr (inl (subst (λ k. IsRecordsFault face_rule (k + 1) (records_of text) fault) e f))

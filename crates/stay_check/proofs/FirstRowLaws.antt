@@ -23,7 +23,7 @@ use Rattle.qp_model.specs.problem.Trajectory.{trajectory, lift}
 use Rattle.qp_model.specs.problem.Residual.{residual, residual_scale, stage_residual, final_residual}
 use Rattle.qp_model.specs.bounds.Certified.{ExceedsAtMost}
 use Rattle.qp_model.proofs.RowLaws.{lift_power}
-use Rattle.stay_check.specs.FirstRows.{FirstRow, row_at_start, row_at_next, next_limit, next_limits, is_on_state, limits_on_state, first_rows, first_row}
+use Rattle.stay_check.specs.FirstRows.{FirstRow, row_at_start, row_at_next, next_limit, next_limits, is_on_state, limits_on_state, first_row_count, first_row}
 
 -- what a first row has of the state xi and of the plan u over q
 abbrev pub form : Design → ℤ → (xi u : ℕ → ℤ) → FirstRow → ℤ
@@ -200,7 +200,7 @@ on_state_at d k l = record {
 }
 
 -- each first row bounds what it has of the first state and inputs
-pub first_bound : (d : Design) (q : ℤ) (xi u : ℕ → ℤ) (excess : ℕ → ℤ) (r : ℕ) → 1 ≤ d.plant_denominator → 1 ≤ d.stages → r < first_rows d →
+pub first_bound : (d : Design) (q : ℤ) (xi u : ℕ → ℤ) (excess : ℕ → ℤ) (r : ℕ) → 1 ≤ d.plant_denominator → 1 ≤ d.stages → r < first_row_count d →
     ExceedsAtMost d xi q u (first_row d r).row (excess (first_row d r).row) → IsBounded d q xi u (excess (first_row d r).row) (first_row d r)
 first_bound d q xi u excess r a n l h = elim (cases_lt r d.stage_limits) [
   | inl o ↦ (let b = lt-ltb r d.stage_limits o in rw b (start_row d q xi u (excess r) r a n o (rw b at h)))

@@ -24,7 +24,7 @@ use Rattle.qp_model.specs.machine.Machine.{IsAdmissible, IsInside, average_denom
 use Rattle.qp_model.specs.bounds.Printed.{Printed}
 use Rattle.qp_model.specs.bounds.Certified.{IsCertified, IsCertifiedAt, ExceedsAtMost}
 use Rattle.qp_model.specs.machine.Successor.{grid_scale, next_sum, next_over, successor, state_after}
-use Rattle.stay_check.specs.FirstRows.{first_rows, first_row}
+use Rattle.stay_check.specs.FirstRows.{first_row_count, first_row}
 use Rattle.stay_check.specs.Staying.{next_grid_state, ExceedsNoFirstRowBy, KeepsInBox}
 use Rattle.stay_check.specs.LoopStay.{CoversPrinted, StaysCertified, LoopStayLaw}
 use Rattle.stay_check.proofs.RoundLaws.{round_mono}

@@ -17,7 +17,7 @@ use Rattle.qp_model.specs.problem.Range.{IsDenominator}
 use Rattle.qp_model.specs.problem.Parts.{design_of, IsDesign}
 use Rattle.qp_model.specs.declared.design_parts.DesignParts.{DesignParts}
 use Rattle.stay_check.specs.FirstRows.{row_at_start, row_at_next, next_limit, first_row}
-use Rattle.stay_check.specs.Columns.{plant_at, limit_at, coefficient}
+use Rattle.stay_check.specs.Columns.{plant_at, limit_coefficient, coefficient}
 use Rattle.stay_check.specs.declared.rows.Column.{Column}
 use Rattle.stay_check.specs.declared.rows.Column.TheVariants.{State, Input}
 
@@ -90,13 +90,13 @@ scaled_small x y d h =
     let small = product_small x y (2 ^ 21) (2 ^ 31) den h in
     record { fits = fits_signed_from_abs w128 _ (omega (arith, small)); small = omega (arith, small) }
 
-pub at_start : (p : DesignParts) (r : ℕ) (x : Column) (y : ℤ) → IsDesign p → r < length p.stage_rows.rows → y ≡ limit_at ((design_of p).stage_limit r) x →
+pub at_start : (p : DesignParts) (r : ℕ) (x : Column) (y : ℤ) → IsDesign p → r < length p.stage_rows.rows → y ≡ limit_coefficient ((design_of p).stage_limit r) x →
     p.plant_den *ℤ y ≡ coefficient (first_row (design_of p) r) x
 at_start p r x y d l e =
     let low = d.plant_den.low in
     let den : pos (unsigned_abs p.plant_den) ≡ p.plant_den = omega (arith, ints, low) in
     rw (lt-ltb r (length p.stage_rows.rows) l, e) (by x den)
   where
-    by : (x : Column) → pos (unsigned_abs p.plant_den) ≡ p.plant_den → p.plant_den *ℤ limit_at ((design_of p).stage_limit r) x ≡ coefficient (row_at_start (design_of p) r) x
+    by : (x : Column) → pos (unsigned_abs p.plant_den) ≡ p.plant_den → p.plant_den *ℤ limit_coefficient ((design_of p).stage_limit r) x ≡ coefficient (row_at_start (design_of p) r) x
     by (State j) e = rw e refl
     by (Input l) e = rw e refl

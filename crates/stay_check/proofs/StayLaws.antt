@@ -13,8 +13,8 @@ use Rattle.integer_algebra.proofs.VectorLaws.{dot_scale, dot_sub, dot_total_left
 use Rattle.qp_model.specs.problem.Design.{Design}
 use Rattle.qp_model.specs.problem.Trajectory.{trajectory}
 use Rattle.qp_model.specs.problem.Box.{IsGridState}
-use Rattle.stay_check.specs.FirstRows.{first_rows, first_row}
-use Rattle.stay_check.specs.FaceForms.{Face, FaceNumbers, AreFacesFor, face_of, towards, weighted, input_of_rows, HasEqualInputs, rest, greatest_rest, left_by_rows, reach, reach_over, IsOnSide, FaceHolds}
+use Rattle.stay_check.specs.FirstRows.{first_row_count, first_row}
+use Rattle.stay_check.specs.FaceForms.{Face, FaceNumbers, AreFacesFor, face_of, towards, weighted, input_of_rows, HasEqualInputs, state_rest, greatest_rest, left_by_rows, face_reach, reach_over, IsOnSide, FaceHolds}
 use Rattle.stay_check.specs.Staying.{next_grid_state, ExceedsNoFirstRowBy, AreShifts, StayLaw}
 use Rattle.stay_check.proofs.RoundLaws.{round_mono}
 use Rattle.stay_check.proofs.FirstRowLaws.{form, next_state, first_bound}
@@ -37,8 +37,8 @@ product_le-max r x low high h k = by_lt_z r (pos 0)
         let p : pos 0 ≤ℤ neg_ℤ r = omega (arith, ints) in
         le_by (mul-le-mul_left_z (neg_ℤ r) p m) (by_ring (r ∷ a ∷ b ∷ []) (search quotes depth 60 fits 20000) refl)
 
-pub rest_le : (d : Design) (f : Face) (xi : ℕ → ℤ) → IsGridState d xi → dot d.states (rest d f) xi ≤ℤ greatest_rest d f
-rest_le d f xi g = total_mono d.states _ _ (λ j l. product_le-max (rest d f j) (xi j) (d.low j) (d.high j) (g j l).0 (g j l).1)
+pub rest_le : (d : Design) (f : Face) (xi : ℕ → ℤ) → IsGridState d xi → dot d.states (state_rest d f) xi ≤ℤ greatest_rest d f
+rest_le d f xi g = total_mono d.states _ _ (λ j l. product_le-max (state_rest d f j) (xi j) (d.low j) (d.high j) (g j l).0 (g j l).1)
 
 -- ---- the first rows, weighted
 -- a combination of forms of x is the form with the combined coefficients
@@ -50,13 +50,13 @@ pub rows_form : (d : Design) (q : ℤ) (xi u : ℕ → ℤ) (f : Face) →
     weighted d f (λ r. form d q xi u (first_row d r)) ≡
     q *ℤ dot d.states (λ j. weighted d f (λ r. (first_row d r).of_state j)) xi +ℤ pos (2 ^ d.grid) *ℤ dot d.inputs (input_of_rows d f) u
 rows_form d q xi u f =
-    total_same (first_rows d) _ _ (λ r l. spread (f.weight r) q (dot d.states (first_row d r).of_state xi) (pos (2 ^ d.grid)) (dot d.inputs (first_row d r).of_input u)) ∙
-    total_add (first_rows d) _ _ ∙
+    total_same (first_row_count d) _ _ (λ r l. spread (f.weight r) q (dot d.states (first_row d r).of_state xi) (pos (2 ^ d.grid)) (dot d.inputs (first_row d r).of_input u)) ∙
+    total_add (first_row_count d) _ _ ∙
     both _ _ _ _
-    (total_scale (first_rows d) q (λ r. f.weight r *ℤ dot d.states (first_row d r).of_state xi) ∙
-    ap (λ (z : ℤ). q *ℤ z) (sym (combined d.states (first_rows d) f.weight (λ r. (first_row d r).of_state) xi)))
-    (total_scale (first_rows d) (pos (2 ^ d.grid)) (λ r. f.weight r *ℤ dot d.inputs (first_row d r).of_input u) ∙
-    ap (λ (z : ℤ). pos (2 ^ d.grid) *ℤ z) (sym (combined d.inputs (first_rows d) f.weight (λ r. (first_row d r).of_input) u)))
+    (total_scale (first_row_count d) q (λ r. f.weight r *ℤ dot d.states (first_row d r).of_state xi) ∙
+    ap (λ (z : ℤ). q *ℤ z) (sym (combined d.states (first_row_count d) f.weight (λ r. (first_row d r).of_state) xi)))
+    (total_scale (first_row_count d) (pos (2 ^ d.grid)) (λ r. f.weight r *ℤ dot d.inputs (first_row d r).of_input u) ∙
+    ap (λ (z : ℤ). pos (2 ^ d.grid) *ℤ z) (sym (combined d.inputs (first_row_count d) f.weight (λ r. (first_row d r).of_input) u)))
   where
     spread : (w q s g t : ℤ) → w *ℤ (q *ℤ s +ℤ g *ℤ t) ≡ q *ℤ (w *ℤ s) +ℤ g *ℤ (w *ℤ t)
     spread w q s g t = by_ring (w ∷ q ∷ s ∷ g ∷ t ∷ []) (search quotes depth 60 fits 20000) refl
@@ -66,14 +66,14 @@ rows_form d q xi u f =
 
 -- is at most what they leave
 pub rows_le : (d : Design) (q : ℤ) (xi u : ℕ → ℤ) (excess : ℕ → ℤ) (f : Face) → 1 ≤ d.plant_denominator → 1 ≤ d.stages →
-    ((r : ℕ) → r < first_rows d → pos 0 ≤ℤ f.weight r) → ExceedsNoFirstRowBy d xi q u excess →
+    ((r : ℕ) → r < first_row_count d → pos 0 ≤ℤ f.weight r) → ExceedsNoFirstRowBy d xi q u excess →
     (pos (2 ^ 40) *ℤ weighted d f (λ r. form d q xi u (first_row d r))) ≤ℤ (q *ℤ (pos (2 ^ d.grid * d.plant_denominator) *ℤ left_by_rows d excess f))
 rows_le d q xi u excess f a n w h =
     rw (
-      ← (total_scale (first_rows d) (pos (2 ^ 40)) (λ r. f.weight r *ℤ form d q xi u (first_row d r))),
-      ← (total_scale (first_rows d) (pos (2 ^ d.grid * d.plant_denominator)) (λ r. f.weight r *ℤ left r)),
-      ← (total_scale (first_rows d) q (λ r. pos (2 ^ d.grid * d.plant_denominator) *ℤ (f.weight r *ℤ left r))),
-    ) (total_mono (first_rows d) _ _ (λ r l. times (f.weight r) (pos (2 ^ 40)) (form d q xi u (first_row d r)) q (pos (2 ^ d.grid * d.plant_denominator)) (left r)
+      ← (total_scale (first_row_count d) (pos (2 ^ 40)) (λ r. f.weight r *ℤ form d q xi u (first_row d r))),
+      ← (total_scale (first_row_count d) (pos (2 ^ d.grid * d.plant_denominator)) (λ r. f.weight r *ℤ left r)),
+      ← (total_scale (first_row_count d) q (λ r. pos (2 ^ d.grid * d.plant_denominator) *ℤ (f.weight r *ℤ left r))),
+    ) (total_mono (first_row_count d) _ _ (λ r l. times (f.weight r) (pos (2 ^ 40)) (form d q xi u (first_row d r)) q (pos (2 ^ d.grid * d.plant_denominator)) (left r)
     (w r l) (first_bound d q xi u excess r a n l (h r l))))
   where
     left : ℕ → ℤ
@@ -105,7 +105,7 @@ towards_dot n f a x =
 
 -- the coordinate of the next state, times the factor
 pub towards_form : (d : Design) (q : ℤ) (xi u : ℕ → ℤ) (f : Face) → HasEqualInputs d f →
-    towards f (pos f.factor *ℤ trajectory d q xi u 1 f.coordinate) ≡ q *ℤ dot d.states (rest d f) xi +ℤ weighted d f (λ r. form d q xi u (first_row d r))
+    towards f (pos f.factor *ℤ trajectory d q xi u 1 f.coordinate) ≡ q *ℤ dot d.states (state_rest d f) xi +ℤ weighted d f (λ r. form d q xi u (first_row d r))
 towards_form d q xi u f e =
     joined _ _ (sign f.upper) (pos f.factor) q (pos (2 ^ d.grid)) (image d.states d.plant_a xi f.coordinate) (image d.inputs d.plant_b u f.coordinate)
     (dot d.states (λ j. weighted d f (λ r. (first_row d r).of_state j)) xi) _ _ _
@@ -122,11 +122,11 @@ towards_form d q xi u f e =
 
 -- is at most the reach
 pub towards_le : (d : Design) (q : ℤ) (xi u : ℕ → ℤ) (excess : ℕ → ℤ) (f : Face) → 1 ≤ d.plant_denominator → 1 ≤ d.stages → pos 0 <ℤ q →
-    ((r : ℕ) → r < first_rows d → pos 0 ≤ℤ f.weight r) → HasEqualInputs d f → IsGridState d xi → ExceedsNoFirstRowBy d xi q u excess →
-    (pos (2 ^ 40) *ℤ towards f (pos f.factor *ℤ trajectory d q xi u 1 f.coordinate)) ≤ℤ (q *ℤ reach d excess f)
+    ((r : ℕ) → r < first_row_count d → pos 0 ≤ℤ f.weight r) → HasEqualInputs d f → IsGridState d xi → ExceedsNoFirstRowBy d xi q u excess →
+    (pos (2 ^ 40) *ℤ towards f (pos f.factor *ℤ trajectory d q xi u 1 f.coordinate)) ≤ℤ (q *ℤ face_reach d excess f)
 towards_le d q xi u excess f a n p w e g h =
     rw (towards_form d q xi u f e)
-    (both (pos (2 ^ 40)) q (dot d.states (rest d f) xi) (greatest_rest d f) _ _ (omega (arith, ints)) (le_of_lt_z p) (rest_le d f xi g) (rows_le d q xi u excess f a n w h))
+    (both (pos (2 ^ 40)) q (dot d.states (state_rest d f) xi) (greatest_rest d f) _ _ (omega (arith, ints)) (le_of_lt_z p) (rest_le d f xi g) (rows_le d q xi u excess f a n w h))
   where
     both : (F q s m w y : ℤ) → pos 0 ≤ℤ F → pos 0 ≤ℤ q → s ≤ℤ m → (F *ℤ w) ≤ℤ (q *ℤ y) → (F *ℤ (q *ℤ s +ℤ w)) ≤ℤ (q *ℤ (F *ℤ m +ℤ y))
     both F q s m w y o p h k =
@@ -180,7 +180,7 @@ module _ (d : Design) (excess low high : ℕ → ℤ) (q : ℤ) (xi u shift : �
     pub coordinate : f.coordinate ≡ i
     pub side : f.upper ≡ upper
     pub factor : 0 < f.factor
-    pub weights : (r : ℕ) → r < first_rows d → pos 0 ≤ℤ f.weight r
+    pub weights : (r : ℕ) → r < first_row_count d → pos 0 ≤ℤ f.weight r
     pub holds : FaceHolds d excess low high f
 
   whole : pos (unsigned_abs q) ≡ q
@@ -192,7 +192,7 @@ module _ (d : Design) (excess low high : ℕ → ℤ) (q : ℤ) (xi u shift : �
   upper_side : (i : ℕ) (f : Face) → i < d.states → Holds i true f → (next_grid_state d q xi u i +ℤ shift i) ≤ℤ d.high i
   upper_side i f l k =
       let most = moved (pos (2 ^ 40)) _ _ _ (first_of f.upper _ _ k.side) (towards_le d q xi u excess f a n p k.weights k.holds.inputs g h) in
-      let near = upper_le (pos (2 ^ 40)) f.factor d.plant_denominator (unsigned_abs q) (trajectory d q xi u 1 f.coordinate) (reach d excess f) (reach_over d f)
+      let near = upper_le (pos (2 ^ 40)) f.factor d.plant_denominator (unsigned_abs q) (trajectory d q xi u 1 f.coordinate) (face_reach d excess f) (reach_over d f)
       k.factor (omega (arith, a)) (omega (arith, ints, p)) (room f k.factor) refl (rw whole most) in
       within _ _ _ _ _ _ _ _ _ near (s i l).1 (on_upper _ _ _ _ k.side k.holds.inside)
       (ap (λ z. round_of z (reach_over d f)) (first_of f.upper _ _ k.side))
@@ -204,7 +204,7 @@ module _ (d : Design) (excess low high : ℕ → ℤ) (q : ℤ) (xi u shift : �
   lower_side : (i : ℕ) (f : Face) → i < d.states → Holds i false f → d.low i ≤ℤ (next_grid_state d q xi u i +ℤ shift i)
   lower_side i f l k =
       let most = moved (pos (2 ^ 40)) _ _ _ (second_of f.upper _ _ k.side) (towards_le d q xi u excess f a n p k.weights k.holds.inputs g h) in
-      let near = lower_le (pos (2 ^ 40)) f.factor d.plant_denominator (unsigned_abs q) (trajectory d q xi u 1 f.coordinate) (reach d excess f) (reach_over d f)
+      let near = lower_le (pos (2 ^ 40)) f.factor d.plant_denominator (unsigned_abs q) (trajectory d q xi u 1 f.coordinate) (face_reach d excess f) (reach_over d f)
       k.factor (omega (arith, a)) (omega (arith, ints, p)) (room f k.factor) refl (rw whole most) in
       within _ _ _ _ _ _ _ _ _ near (s i l).0 (on_lower _ _ _ _ k.side k.holds.inside)
       (ap (λ z. round_of z (reach_over d f)) (second_of f.upper _ _ k.side))

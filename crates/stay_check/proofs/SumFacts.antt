@@ -18,9 +18,9 @@ use Rattle.qp_model.specs.problem.Parts.{design_of, IsDesign}
 use Rattle.qp_model.specs.declared.design_parts.DesignParts.{DesignParts}
 use Rattle.qp_model.specs.bounds.CornerSizes.{box_magnitude}
 use Rattle.qp_model.proofs.SizeFacts.{greatest_term}
-use Rattle.stay_check.specs.FirstRows.{first_rows, first_row}
-use Rattle.stay_check.specs.FaceForms.{Face, FaceNumbers, AreFacesFor, towards, weighted, rest, greatest_rest, row_left, left_by_rows}
-use Rattle.stay_check.specs.StaySize.{column_size, rest_size, left_term, left_size}
+use Rattle.stay_check.specs.FirstRows.{first_row_count, first_row}
+use Rattle.stay_check.specs.FaceForms.{Face, FaceNumbers, AreFacesFor, towards, weighted, state_rest, greatest_rest, row_left, left_by_rows}
+use Rattle.stay_check.specs.StaySize.{coefficient_size, rest_size, left_term, left_size}
 use Rattle.stay_check.specs.declared.rows.Column.TheVariants.{State}
 use Rattle.stay_check.proofs.FaceFacts.{factor_at, denominator_small}
 use Rattle.stay_check.proofs.RoundLaws.{round_mono}
@@ -41,11 +41,11 @@ factor_is d f e x for l h =
     rw same (omega (arith, ints, low))
 
 -- ---- the rest
-rest_le_size : (d : Design) (f : Face) (j : ℕ) → unsigned_abs (rest d f j) ≤ column_size d f (State j)
+rest_le_size : (d : Design) (f : Face) (j : ℕ) → unsigned_abs (state_rest d f j) ≤ coefficient_size d f (State j)
 rest_le_size d f j =
     apart (towards f (pos f.factor *ℤ d.plant_a f.coordinate j)) (weighted d f (λ r. (first_row d r).of_state j)) _ _
     (rw (abs_towards f.upper (pos f.factor *ℤ d.plant_a f.coordinate j), unsigned_abs-mul (pos f.factor) (d.plant_a f.coordinate j)) (omega arith))
-    (dot_bound (first_rows d) f.weight (λ r. (first_row d r).of_state j))
+    (dot_bound (first_row_count d) f.weight (λ r. (first_row d r).of_state j))
   where
     apart : (x y : ℤ) (a b : ℕ) → unsigned_abs x ≤ a → unsigned_abs y ≤ b → unsigned_abs (x -ℤ y) ≤ a + b
     apart x y a b h k = omega (arith, ints, h, k)
@@ -69,27 +69,27 @@ coordinate_at xs n j x e l h = h ∙ get_or_default xs j x (pos 0) (omega (arith
 
 -- its products and their sum
 pub record IsRestRoom (d : Design) (f : Face) (j : ℕ) : Type 0 where
-  pub low : FitsSigned w128 (rest d f j *ℤ d.low j)
-  pub high : FitsSigned w128 (rest d f j *ℤ d.high j)
+  pub low : FitsSigned w128 (state_rest d f j *ℤ d.low j)
+  pub high : FitsSigned w128 (state_rest d f j *ℤ d.high j)
 
 pub rests_size : (d : Design) (f : Face) →
-    size d.states (λ j. int_max (rest d f j *ℤ d.low j) (rest d f j *ℤ d.high j)) ≤ box_magnitude d * amount d.states (λ j. column_size d f (State j))
+    size d.states (λ j. int_max (state_rest d f j *ℤ d.low j) (state_rest d f j *ℤ d.high j)) ≤ box_magnitude d * amount d.states (λ j. coefficient_size d f (State j))
 rests_size d f =
-    let sum = amount_scale d.states (box_magnitude d) (λ j. column_size d f (State j)) in
-    let each = amount_mono d.states (λ j. unsigned_abs (int_max (rest d f j *ℤ d.low j) (rest d f j *ℤ d.high j))) (λ j. box_magnitude d * column_size d f (State j))
-    (λ j l. max_le (rest d f j *ℤ d.low j) (rest d f j *ℤ d.high j) _
-    (product_le (rest d f j) (d.low j) _ _ (rest_le_size d f j) (coordinate_le d j l).0) (product_le (rest d f j) (d.high j) _ _ (rest_le_size d f j) (coordinate_le d j l).1)) in
+    let sum = amount_scale d.states (box_magnitude d) (λ j. coefficient_size d f (State j)) in
+    let each = amount_mono d.states (λ j. unsigned_abs (int_max (state_rest d f j *ℤ d.low j) (state_rest d f j *ℤ d.high j))) (λ j. box_magnitude d * coefficient_size d f (State j))
+    (λ j l. max_le (state_rest d f j *ℤ d.low j) (state_rest d f j *ℤ d.high j) _
+    (product_le (state_rest d f j) (d.low j) _ _ (rest_le_size d f j) (coordinate_le d j l).0) (product_le (state_rest d f j) (d.high j) _ _ (rest_le_size d f j) (coordinate_le d j l).1)) in
     omega (arith, sum, each)
 
-pub box_part : (d : Design) (f : Face) → rest_size d f ≤ 2 ^ 125 → box_magnitude d * amount d.states (λ j. column_size d f (State j)) ≤ 2 ^ 125
-box_part d f h = omega (arith, mul_assoc (2 ^ 40) (box_magnitude d) (amount d.states (λ j. column_size d f (State j))), h)
+pub box_part : (d : Design) (f : Face) → rest_size d f ≤ 2 ^ 125 → box_magnitude d * amount d.states (λ j. coefficient_size d f (State j)) ≤ 2 ^ 125
+box_part d f h = omega (arith, mul_assoc (2 ^ 40) (box_magnitude d) (amount d.states (λ j. coefficient_size d f (State j))), h)
 
 pub rest_room : (d : Design) (f : Face) (j : ℕ) → j < d.states → rest_size d f ≤ 2 ^ 125 → IsRestRoom d f j
 rest_room d f j l h =
     let part = box_part d f h in
-    let one = mul-le-mul_left (box_magnitude d) (amount_term j d.states (λ j. column_size d f (State j)) l) in
-    let below = product_le (rest d f j) (d.low j) _ _ (rest_le_size d f j) (coordinate_le d j l).0 in
-    let above = product_le (rest d f j) (d.high j) _ _ (rest_le_size d f j) (coordinate_le d j l).1 in
+    let one = mul-le-mul_left (box_magnitude d) (amount_term j d.states (λ j. coefficient_size d f (State j)) l) in
+    let below = product_le (state_rest d f j) (d.low j) _ _ (rest_le_size d f j) (coordinate_le d j l).0 in
+    let above = product_le (state_rest d f j) (d.high j) _ _ (rest_le_size d f j) (coordinate_le d j l).1 in
     record { low = fits_signed_from_abs w128 _ (omega (arith, part, one, below)); high = fits_signed_from_abs w128 _ (omega (arith, part, one, above)) }
 
 -- ---- what a row leaves
@@ -122,8 +122,8 @@ row_le d excess f r =
     let t = parts (f.weight r) (pos (2 ^ 40)) (first_row d r).bound (pos d.limit_denominator) (excess (first_row d r).row) in
     rw (← parts_are (f.weight r) (pos (2 ^ 40)) (first_row d r).bound (pos d.limit_denominator) (excess (first_row d r).row)) t.sum
 
-pub rows_left_size : (d : Design) (excess : ℕ → ℤ) (f : Face) → size (first_rows d) (row_left d excess f) ≤ left_size d excess f
-rows_left_size d excess f = amount_mono (first_rows d) _ _ (λ r l. row_le d excess f r)
+pub rows_left_size : (d : Design) (excess : ℕ → ℤ) (f : Face) → size (first_row_count d) (row_left d excess f) ≤ left_size d excess f
+rows_left_size d excess f = amount_mono (first_row_count d) _ _ (λ r l. row_le d excess f r)
 
 -- ---- the reach
 pub record AreReachParts (G L : ℤ) (s : ℕ) : Type 0 where
@@ -146,9 +146,9 @@ reach_parts G L s box most left h k l =
 pub reach_room : (d : Design) (excess : ℕ → ℤ) (f : Face) → rest_size d f + 2 ^ d.grid * d.plant_denominator * left_size d excess f ≤ 2 ^ 125 →
     AreReachParts (greatest_rest d f) (left_by_rows d excess f) (2 ^ d.grid * d.plant_denominator)
 reach_room d excess f h =
-    reach_parts _ _ _ (box_magnitude d) (amount d.states (λ j. column_size d f (State j))) (left_size d excess f)
-    (omega (arith, total_size d.states (λ j. int_max (rest d f j *ℤ d.low j) (rest d f j *ℤ d.high j)), rests_size d f))
-    (omega (arith, total_size (first_rows d) (row_left d excess f), rows_left_size d excess f)) h
+    reach_parts _ _ _ (box_magnitude d) (amount d.states (λ j. coefficient_size d f (State j))) (left_size d excess f)
+    (omega (arith, total_size d.states (λ j. int_max (state_rest d f j *ℤ d.low j) (state_rest d f j *ℤ d.high j)), rests_size d f))
+    (omega (arith, total_size (first_row_count d) (row_left d excess f), rows_left_size d excess f)) h
 
 pub left_room : (p : DesignParts) (excess : ℕ → ℤ) (f : Face) → IsDesign p →
     rest_size (design_of p) f + 2 ^ p.grid * unsigned_abs p.plant_den * left_size (design_of p) excess f ≤ 2 ^ 125 → left_size (design_of p) excess f ≤ 2 ^ 125

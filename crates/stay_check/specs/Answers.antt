@@ -2,7 +2,7 @@
 use Rattle.std.specs.Prelude.{◌≡◌, ◌≢◌, ◌⊎◌, ℕ, ◌+◌, ◌-◌, ◌*◌, ◌^◌, ◌<◌, ◌≤◌, ℤ}
 use Rattle.qp_model.specs.problem.Design.{Design}
 use Rattle.qp_model.specs.declared.quantity.Quantity.TheVariants.{Stay}
-use Rattle.stay_check.specs.FaceForms.{Face, FaceNumbers, face_of, input_of_rows, input_of_coordinate, HasEqualInputs, farthest, IsOnSide, FaceHolds}
+use Rattle.stay_check.specs.FaceForms.{Face, FaceNumbers, face_of, input_of_rows, input_of_coordinate, HasEqualInputs, farthest_next, IsOnSide, FaceHolds}
 use Rattle.stay_check.specs.Staying.{FacesHold}
 use Rattle.stay_check.specs.StaySize.{stay_size}
 use Rattle.stay_check.specs.declared.fault.StayFault.{StayFault}
@@ -26,7 +26,7 @@ IsUnequalFault d f e (NoStay entry bound) = ⊥
 -- the farthest coordinate is beyond the face
 pub record IsBeyond (d : Design) (excess low high : ℕ → ℤ) (f : Face) (bound : ℤ) : Type 0 where
   pub inputs : HasEqualInputs d f
-  pub is : bound ≡ farthest d excess low high f
+  pub is : bound ≡ farthest_next d excess low high f
   pub beyond : IsOnSide f.upper (d.low f.coordinate) (d.high f.coordinate) bound → ⊥
 
 -- the fault of a face

@@ -16,9 +16,9 @@ plant_at d i (State j) = d.plant_a i j
 plant_at d i (Input l) = d.plant_b i l
 
 -- a limit has so much of it
-abbrev pub limit_at : LimitRow → Column → ℤ
-limit_at r (State j) = r.of_state j
-limit_at r (Input l) = r.of_input l
+abbrev pub limit_coefficient : LimitRow → Column → ℤ
+limit_coefficient r (State j) = r.of_state j
+limit_coefficient r (Input l) = r.of_input l
 
 -- a first row has so much of it
 abbrev pub coefficient : FirstRow → Column → ℤ

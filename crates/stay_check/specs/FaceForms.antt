@@ -6,7 +6,7 @@ use Rattle.integer_algebra.specs.Division.{round_of}
 use Rattle.mat_int.specs.Matrix.{Matrix, entry_of}
 use Rattle.qp_model.specs.problem.Design.{Design}
 use Rattle.qp_model.specs.problem.Range.{IsPositive}
-use Rattle.stay_check.specs.FirstRows.{first_rows, first_row}
+use Rattle.stay_check.specs.FirstRows.{first_row_count, first_row}
 use Rattle.stay_check.specs.declared.faces.Faces.{Faces}
 
 -- which coordinate, from 0, and whether its upper face; the factor of the coordinate and a weight for each first row
@@ -38,8 +38,8 @@ pub record AreFacesFor (d : Design) (f : FaceNumbers) : Type 0 where
   pub count : length f.factors ≡ 2 * d.states
   pub factors : All IsPositive f.factors
   pub rows : length f.weights.rows ≡ 2 * d.states
-  pub cols : f.weights.cols ≡ first_rows d
-  pub weights : (e r : ℕ) → e < 2 * d.states → r < first_rows d → IsWeight (entry_of f.weights e r)
+  pub cols : f.weights.cols ≡ first_row_count d
+  pub weights : (e r : ℕ) → e < 2 * d.states → r < first_row_count d → IsWeight (entry_of f.weights e r)
 
 -- ---- what a face is made of
 -- z towards the face
@@ -48,7 +48,7 @@ towards f z = if f.upper then z else neg_ℤ z
 
 -- the sum of g over the first rows, each times its weight
 abbrev pub weighted : Design → Face → (ℕ → ℤ) → ℤ
-weighted d f g = total (first_rows d) (λ r. f.weight r *ℤ g r)
+weighted d f g = total (first_row_count d) (λ r. f.weight r *ℤ g r)
 
 -- of input l the rows have as much as the coordinate has
 abbrev pub input_of_rows : Design → Face → ℕ → ℤ
@@ -61,12 +61,12 @@ abbrev pub HasEqualInputs : Design → Face → Type 0
 HasEqualInputs d f = (l : ℕ) → l < d.inputs → input_of_rows d f l ≡ input_of_coordinate d f l
 
 -- what the coordinate has of state j beside the rows
-abbrev pub rest : Design → Face → ℕ → ℤ
-rest d f j = towards f (pos f.factor *ℤ d.plant_a f.coordinate j) -ℤ weighted d f (λ r. (first_row d r).of_state j)
+abbrev pub state_rest : Design → Face → ℕ → ℤ
+state_rest d f j = towards f (pos f.factor *ℤ d.plant_a f.coordinate j) -ℤ weighted d f (λ r. (first_row d r).of_state j)
 
 -- and at most, over the box
 abbrev pub rest_over_box : Design → Face → ℕ → ℤ
-rest_over_box d f j = int_max (rest d f j *ℤ d.low j) (rest d f j *ℤ d.high j)
+rest_over_box d f j = int_max (state_rest d f j *ℤ d.low j) (state_rest d f j *ℤ d.high j)
 
 -- of all states
 abbrev pub greatest_rest : Design → Face → ℤ
@@ -78,19 +78,19 @@ row_left d excess f r = f.weight r *ℤ (pos (2 ^ 40) *ℤ (first_row d r).bound
 
 -- and all of them
 abbrev pub left_by_rows : Design → (excess : ℕ → ℤ) → Face → ℤ
-left_by_rows d excess f = total (first_rows d) (row_left d excess f)
+left_by_rows d excess f = total (first_row_count d) (row_left d excess f)
 
 -- both: how far towards the face the coordinate of the next state can go, as a numerator over `reach_over`
-abbrev pub reach : Design → (excess : ℕ → ℤ) → Face → ℤ
-reach d excess f = pos (2 ^ 40) *ℤ greatest_rest d f +ℤ pos (2 ^ d.grid * d.plant_denominator) *ℤ left_by_rows d excess f
+abbrev pub face_reach : Design → (excess : ℕ → ℤ) → Face → ℤ
+face_reach d excess f = pos (2 ^ 40) *ℤ greatest_rest d f +ℤ pos (2 ^ d.grid * d.plant_denominator) *ℤ left_by_rows d excess f
 
 abbrev pub reach_over : Design → Face → ℕ
 reach_over d f = f.factor * d.plant_denominator * 2 ^ 40
 
 -- ---- where the coordinate of the next grid state is at the farthest, with shifts between low and high added
-abbrev pub farthest : Design → (excess low high : ℕ → ℤ) → Face → ℤ
-farthest d excess low high f =
-    round_of (towards f (reach d excess f)) (reach_over d f) +ℤ (if f.upper then high f.coordinate else low f.coordinate)
+abbrev pub farthest_next : Design → (excess low high : ℕ → ℤ) → Face → ℤ
+farthest_next d excess low high f =
+    round_of (towards f (face_reach d excess f)) (reach_over d f) +ℤ (if f.upper then high f.coordinate else low f.coordinate)
 
 -- a number is not beyond the upper face, or the lower
 abbrev pub IsOnSide : Bool → (low high z : ℤ) → Type 0
@@ -100,4 +100,4 @@ IsOnSide false low high z = low ≤ℤ z
 -- the face holds: the next grid state is not beyond it
 pub record FaceHolds (d : Design) (excess low high : ℕ → ℤ) (f : Face) : Type 0 where
   pub inputs : HasEqualInputs d f
-  pub inside : IsOnSide f.upper (d.low f.coordinate) (d.high f.coordinate) (farthest d excess low high f)
+  pub inside : IsOnSide f.upper (d.low f.coordinate) (d.high f.coordinate) (farthest_next d excess low high f)

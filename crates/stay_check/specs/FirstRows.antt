@@ -48,8 +48,8 @@ row_at_next d i = record {
 }
 
 -- ---- the first rows: those at stage 0, then those on the state of stage 1
-abbrev pub first_rows : Design → ℕ
-first_rows d = d.stage_limits + length (limits_on_state d)
+abbrev pub first_row_count : Design → ℕ
+first_row_count d = d.stage_limits + length (limits_on_state d)
 
 -- number r of them, from 0
 abbrev pub first_row : Design → ℕ → FirstRow

@@ -5,7 +5,7 @@ use Rattle.qp_model.specs.problem.Design.{Design}
 use Rattle.qp_model.specs.problem.Trajectory.{trajectory}
 use Rattle.qp_model.specs.problem.Box.{IsGridState}
 use Rattle.qp_model.specs.bounds.Certified.{ExceedsAtMost}
-use Rattle.stay_check.specs.FirstRows.{first_rows, first_row}
+use Rattle.stay_check.specs.FirstRows.{first_row_count, first_row}
 use Rattle.stay_check.specs.FaceForms.{FaceNumbers, AreFacesFor, face_of, FaceHolds}
 
 -- the nearest grid state to the state of stage 1 of the plan u over q, a tie upward: numerators over 2^grid
@@ -14,7 +14,7 @@ next_grid_state d q xi u i = round_of (trajectory d q xi u 1 i) (unsigned_abs q 
 
 -- the plan exceeds each first row by at most its number of excess over 2^40
 abbrev pub ExceedsNoFirstRowBy : Design → (xi : ℕ → ℤ) → (q : ℤ) → (u : ℕ → ℤ) → (excess : ℕ → ℤ) → Type 0
-ExceedsNoFirstRowBy d xi q u excess = (r : ℕ) → r < first_rows d → ExceedsAtMost d xi q u (first_row d r).row (excess (first_row d r).row)
+ExceedsNoFirstRowBy d xi q u excess = (r : ℕ) → r < first_row_count d → ExceedsAtMost d xi q u (first_row d r).row (excess (first_row d r).row)
 
 -- shifts of a state between two lists
 abbrev pub AreShifts : Design → (low high shift : ℕ → ℤ) → Type 0

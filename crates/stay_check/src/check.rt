@@ -13,7 +13,7 @@ use crate::faces::Faces;
 use crate::fault::StayFault;
 use crate::rows::Column;
 use crate::size::stay_size;
-use crate::sums::{farthest, is_on_side, of_coordinate, of_rows};
+use crate::sums::{farthest_next, is_on_side, of_coordinate, of_rows};
 use qp_model::{Design, DesignParts, MOST_STATES, Quantity};
 
 // Whether the rows of face `e` have together of each input as much as its coordinate has.
@@ -59,7 +59,7 @@ fn test_face(
     ensures fault { IfErr result (IsFaceFault (design_of parts.now) (at excess.now) (at low.now) (at high.now) (face_of (faces_of faces.now) e) (e + 1)) }
 {
     test_inputs(parts, faces, e)?;
-    let bound = farthest(parts, faces, excess, low, high, e);
+    let bound = farthest_next(parts, faces, excess, low, high, e);
     if is_on_side(parts, e, bound) {
         Ok(())
     } else {

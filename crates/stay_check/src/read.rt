@@ -7,7 +7,7 @@ ghost use Rattle.stay_check.specs.FaceForms.{FaceNumbers, faces_of, AreFacesFor}
 ghost use Rattle.stay_check.specs.FacesText.{IsFacesText, IsFacesTextFault};
 
 use crate::faces::Faces;
-use crate::rows::first_rows;
+use crate::rows::first_row_count;
 use mat_int::Mat;
 use number_text::TextFault;
 use policy_file::{Layout, all_records, numbers_of};
@@ -40,7 +40,7 @@ fn faces_in(alloc: Global, bytes: &[u8], parts: &DesignParts) -> Result<Faces, T
     ensures found { IfOk result (λ f. IsFacesText bytes.now (design_of parts.now) (faces_of f)) }
     ensures fault { IfErr result (λ e. (e ≡ Memory) ⊎ IsFacesTextFault bytes.now (design_of parts.now) e) }
 {
-    let weights_of = first_rows(parts);
+    let weights_of = first_row_count(parts);
     let records = all_records(alloc, bytes)?;
     let mut kappa = Vec::new(alloc);
     let mut weights = Mat::zero(alloc, 0, weights_of)?;

@@ -4,8 +4,8 @@ ghost use Rattle.integer_algebra.specs.Sums.{at};
 ghost use Rattle.integer_algebra.specs.Sizes.{size};
 ghost use Rattle.qp_model.specs.problem.Design.{rows};
 ghost use Rattle.qp_model.specs.problem.Parts.{IsDesign, design_of};
-ghost use Rattle.stay_check.specs.FirstRows.{next_limit, next_limits, is_on_state, limits_on_state, row_at_next, first_rows, first_row};
-ghost use Rattle.stay_check.specs.Columns.{IsColumn, plant_at, limit_at, coefficient};
+ghost use Rattle.stay_check.specs.FirstRows.{next_limit, next_limits, is_on_state, limits_on_state, row_at_next, first_row_count, first_row};
+ghost use Rattle.stay_check.specs.Columns.{IsColumn, plant_at, limit_coefficient, coefficient};
 
 use qp_model::DesignParts;
 
@@ -35,7 +35,7 @@ fn stage_limit_at(parts: &DesignParts, i: usize, column: Column) -> i128
     requires design { IsDesign parts.now }
     requires limit { i < length parts.now.stage_rows.rows }
     requires column { IsColumn (design_of parts.now) column }
-    ensures value { result ≡ limit_at ((design_of parts.now).stage_limit i) column }
+    ensures value { result ≡ limit_coefficient ((design_of parts.now).stage_limit i) column }
     ensures small { unsigned_abs result < 2 ^ 31 }
 {
     match column {
@@ -130,9 +130,9 @@ fn limit_on_state(parts: &DesignParts, k: usize) -> usize
 }
 
 /// How many first rows a design has: its stage limits at stage 0, and its limits on the state of stage 1 alone.
-pub(crate) fn first_rows(parts: &DesignParts) -> usize
+pub(crate) fn first_row_count(parts: &DesignParts) -> usize
     requires { IsDesign parts.now }
-    ensures value { result ≡ first_rows (design_of parts.now) }
+    ensures value { result ≡ first_row_count (design_of parts.now) }
     ensures few { result ≤ 24 }
 {
     parts.stage_rows.rows() + limits_on_state(parts)
@@ -156,7 +156,7 @@ fn through_plant(parts: &DesignParts, i: usize, column: Column) -> i128
 /// What first row `r` has of a column.
 pub(crate) fn coefficient(parts: &DesignParts, r: usize, column: Column) -> i128
     requires design { IsDesign parts.now }
-    requires row { r < first_rows (design_of parts.now) }
+    requires row { r < first_row_count (design_of parts.now) }
     requires column { IsColumn (design_of parts.now) column }
     ensures value { result ≡ coefficient (first_row (design_of parts.now) r) column }
     ensures small { unsigned_abs result < 2 ^ 66 }
@@ -172,7 +172,7 @@ pub(crate) fn coefficient(parts: &DesignParts, r: usize, column: Column) -> i128
 /// The bound of first row `r`.
 pub(crate) fn first_bound(parts: &DesignParts, r: usize) -> i128
     requires design { IsDesign parts.now }
-    requires row { r < first_rows (design_of parts.now) }
+    requires row { r < first_row_count (design_of parts.now) }
     ensures value { result ≡ (first_row (design_of parts.now) r).bound }
     ensures small { unsigned_abs result < 2 ^ 31 }
 {
@@ -192,7 +192,7 @@ pub(crate) fn first_bound(parts: &DesignParts, r: usize) -> i128
 // Which row of the design first row `r` is, from 0.
 fn row_number(parts: &DesignParts, r: usize) -> usize
     requires design { IsDesign parts.now }
-    requires row { r < first_rows (design_of parts.now) }
+    requires row { r < first_row_count (design_of parts.now) }
     ensures { result ≡ (first_row (design_of parts.now) r).row }
 {
     let count = parts.stage_rows.rows();
@@ -207,7 +207,7 @@ fn row_number(parts: &DesignParts, r: usize) -> usize
 pub(crate) fn first_excess(parts: &DesignParts, excess: &[i128], r: usize) -> i128
     requires design { IsDesign parts.now }
     requires excess { length excess.now ≡ rows (design_of parts.now) }
-    requires row { r < first_rows (design_of parts.now) }
+    requires row { r < first_row_count (design_of parts.now) }
     ensures { result ≡ at excess.now (first_row (design_of parts.now) r).row }
 {
     excess[row_number(parts, r)]

@@ -5,14 +5,14 @@ ghost use Rattle.integer_algebra.specs.Sums.{at};
 ghost use Rattle.integer_algebra.specs.Sizes.{amount};
 ghost use Rattle.qp_model.specs.problem.Design.{rows};
 ghost use Rattle.qp_model.specs.problem.Parts.{IsDesign, design_of};
-ghost use Rattle.stay_check.specs.FirstRows.{first_rows};
+ghost use Rattle.stay_check.specs.FirstRows.{first_row_count};
 ghost use Rattle.stay_check.specs.FaceForms.{AreFacesFor, faces_of, face_of, reach_over};
 ghost use Rattle.stay_check.specs.Columns.{IsColumn};
 ghost use Rattle.stay_check.specs.declared.rows.Column.TheVariants.{State, Input};
-ghost use Rattle.stay_check.specs.StaySize.{rows_size, column_size, left_term, left_size, reach_size, face_size, stay_size};
+ghost use Rattle.stay_check.specs.StaySize.{rows_size, coefficient_size, left_term, left_size, reach_size, face_size, stay_size};
 
 use crate::faces::Faces;
-use crate::rows::{Column, coefficient, first_bound, first_excess, first_rows, plant_at};
+use crate::rows::{Column, coefficient, first_bound, first_excess, first_row_count, plant_at};
 use frac_scaled::{limited_product, limited_sum};
 use qp_model::{DesignParts, box_magnitude};
 
@@ -29,7 +29,7 @@ fn rows_size(parts: &DesignParts, faces: &Faces, e: usize, column: Column) -> u1
     ensures small { result ≤ 2 ^ 102 }
 {
     let mut sum = 0;
-    for r in 0..first_rows(parts) {
+    for r in 0..first_row_count(parts) {
         let weight = faces.weights.at(e, r).unsigned_abs();
         sum += weight * coefficient(parts, r, column).unsigned_abs();
     }
@@ -37,12 +37,12 @@ fn rows_size(parts: &DesignParts, faces: &Faces, e: usize, column: Column) -> u1
 }
 
 // What its coordinate and its rows have of it.
-fn column_size(parts: &DesignParts, faces: &Faces, e: usize, column: Column) -> u128
+fn coefficient_size(parts: &DesignParts, faces: &Faces, e: usize, column: Column) -> u128
     requires design { IsDesign parts.now }
     requires faces { AreFacesFor (design_of parts.now) (faces_of faces.now) }
     requires face { e < 2 * parts.now.states }
     requires column { IsColumn (design_of parts.now) column }
-    ensures value { result ≡ column_size (design_of parts.now) (face_of (faces_of faces.now) e) column }
+    ensures value { result ≡ coefficient_size (design_of parts.now) (face_of (faces_of faces.now) e) column }
     ensures small { result ≤ 2 ^ 103 }
 {
     let own = plant_at(parts, e / 2, column).unsigned_abs();
@@ -54,11 +54,11 @@ fn states_size(parts: &DesignParts, faces: &Faces, e: usize) -> u128
     requires design { IsDesign parts.now }
     requires faces { AreFacesFor (design_of parts.now) (faces_of faces.now) }
     requires face { e < 2 * parts.now.states }
-    ensures { result ≡ amount parts.now.states (λ j. column_size (design_of parts.now) (face_of (faces_of faces.now) e) (State j)) }
+    ensures { result ≡ amount parts.now.states (λ j. coefficient_size (design_of parts.now) (face_of (faces_of faces.now) e) (State j)) }
 {
     let mut sum = 0;
     for j in 0..parts.states {
-        sum += column_size(parts, faces, e, Column::State(j));
+        sum += coefficient_size(parts, faces, e, Column::State(j));
     }
     sum
 }
@@ -68,11 +68,11 @@ fn inputs_size(parts: &DesignParts, faces: &Faces, e: usize) -> u128
     requires design { IsDesign parts.now }
     requires faces { AreFacesFor (design_of parts.now) (faces_of faces.now) }
     requires face { e < 2 * parts.now.states }
-    ensures { result ≡ amount parts.now.inputs (λ l. column_size (design_of parts.now) (face_of (faces_of faces.now) e) (Input l)) }
+    ensures { result ≡ amount parts.now.inputs (λ l. coefficient_size (design_of parts.now) (face_of (faces_of faces.now) e) (Input l)) }
 {
     let mut sum = 0;
     for l in 0..parts.inputs {
-        sum += column_size(parts, faces, e, Column::Input(l));
+        sum += coefficient_size(parts, faces, e, Column::Input(l));
     }
     sum
 }
@@ -89,7 +89,7 @@ fn left_term(
     requires faces { AreFacesFor (design_of parts.now) (faces_of faces.now) }
     requires excess { length excess.now ≡ rows (design_of parts.now) }
     requires face { e < 2 * parts.now.states }
-    requires row { r < first_rows (design_of parts.now) }
+    requires row { r < first_row_count (design_of parts.now) }
     ensures { let term = left_term (design_of parts.now) (at excess.now) (face_of (faces_of faces.now) e) r in SomeIff result (term ≤ 2 ^ 126) term }
 {
     let weight = faces.weights.at(e, r).unsigned_abs();
@@ -108,7 +108,7 @@ fn left_size(parts: &DesignParts, faces: &Faces, excess: &[i128], e: usize) -> O
     ensures { let size = left_size (design_of parts.now) (at excess.now) (face_of (faces_of faces.now) e) in SomeIff result (size ≤ 2 ^ 126) size }
 {
     let mut sum = 0;
-    for r in 0..first_rows(parts) {
+    for r in 0..first_row_count(parts) {
         sum = limited_sum(sum, left_term(parts, faces, excess, e, r)?)?;
     }
     Some(sum)
@@ -156,8 +156,8 @@ fn face_size(parts: &DesignParts, faces: &Faces, excess: &[i128], e: usize) -> O
     requires face { e < 2 * parts.now.states }
     ensures { let size = face_size (design_of parts.now) (at excess.now) (face_of (faces_of faces.now) e) in SomeIff result (size ≤ 2 ^ 126) size }
 {
-    let reach = limited_product(2, reach_size(parts, faces, excess, e)?)?;
-    let forms = limited_sum(reach, inputs_size(parts, faces, e))?;
+    let face_reach = limited_product(2, reach_size(parts, faces, excess, e)?)?;
+    let forms = limited_sum(face_reach, inputs_size(parts, faces, e))?;
     limited_sum(forms, 2 * reach_over(parts, faces, e))
 }
 

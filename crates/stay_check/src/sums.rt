@@ -3,13 +3,13 @@ ghost use Rattle.std.specs.Prelude.{◌≡◌, ◌*◌, ◌/◌, ◌%◌, ◌^�
 ghost use Rattle.integer_algebra.specs.Sums.{at};
 ghost use Rattle.qp_model.specs.problem.Design.{rows};
 ghost use Rattle.qp_model.specs.problem.Parts.{IsDesign, IsNumeratorList, design_of};
-ghost use Rattle.stay_check.specs.FirstRows.{first_rows, first_row};
-ghost use Rattle.stay_check.specs.FaceForms.{AreFacesFor, faces_of, face_of, towards, weighted, rest, rest_over_box, greatest_rest, row_left, left_by_rows, reach, farthest, IsOnSide};
+ghost use Rattle.stay_check.specs.FirstRows.{first_row_count, first_row};
+ghost use Rattle.stay_check.specs.FaceForms.{AreFacesFor, faces_of, face_of, towards, weighted, state_rest, rest_over_box, greatest_rest, row_left, left_by_rows, face_reach, farthest_next, IsOnSide};
 ghost use Rattle.stay_check.specs.Columns.{IsColumn, plant_at, coefficient};
 ghost use Rattle.stay_check.specs.StaySize.{rest_size, left_term, left_size, reach_size};
 
 use crate::faces::Faces;
-use crate::rows::{Column, coefficient, first_bound, first_excess, first_rows, plant_at};
+use crate::rows::{Column, coefficient, first_bound, first_excess, first_row_count, plant_at};
 use crate::size::{next_scale, reach_over};
 use frac_scaled::round_div;
 use qp_model::DesignParts;
@@ -44,19 +44,19 @@ pub(crate) fn of_rows(parts: &DesignParts, faces: &Faces, e: usize, column: Colu
     ensures small { unsigned_abs result ≤ 2 ^ 102 }
 {
     let mut sum = 0;
-    for r in 0..first_rows(parts) {
+    for r in 0..first_row_count(parts) {
         sum += faces.weights.at(e, r) * coefficient(parts, r, column);
     }
     sum
 }
 
 // What the coordinate has of state `j` beside the rows.
-fn rest(parts: &DesignParts, faces: &Faces, e: usize, j: usize) -> i128
+fn state_rest(parts: &DesignParts, faces: &Faces, e: usize, j: usize) -> i128
     requires design { IsDesign parts.now }
     requires faces { AreFacesFor (design_of parts.now) (faces_of faces.now) }
     requires face { e < 2 * parts.now.states }
     requires state { j < parts.now.states }
-    ensures { result ≡ rest (design_of parts.now) (face_of (faces_of faces.now) e) j }
+    ensures { result ≡ state_rest (design_of parts.now) (face_of (faces_of faces.now) e) j }
 {
     of_coordinate(parts, faces, e, Column::State(j)) - of_rows(parts, faces, e, Column::State(j))
 }
@@ -70,8 +70,8 @@ fn rest_over_box(parts: &DesignParts, faces: &Faces, e: usize, j: usize) -> i128
     requires narrow { rest_size (design_of parts.now) (face_of (faces_of faces.now) e) ≤ 2 ^ 125 }
     ensures { result ≡ rest_over_box (design_of parts.now) (face_of (faces_of faces.now) e) j }
 {
-    let rest = rest(parts, faces, e, j);
-    (rest * parts.lo[j]).max(rest * parts.hi[j])
+    let state_rest = state_rest(parts, faces, e, j);
+    (state_rest * parts.lo[j]).max(state_rest * parts.hi[j])
 }
 
 // And of all states.
@@ -95,7 +95,7 @@ fn left_by_row(parts: &DesignParts, faces: &Faces, excess: &[i128], e: usize, r:
     requires faces { AreFacesFor (design_of parts.now) (faces_of faces.now) }
     requires excess { length excess.now ≡ rows (design_of parts.now) }
     requires face { e < 2 * parts.now.states }
-    requires row { r < first_rows (design_of parts.now) }
+    requires row { r < first_row_count (design_of parts.now) }
     requires narrow { left_term (design_of parts.now) (at excess.now) (face_of (faces_of faces.now) e) r ≤ 2 ^ 125 }
     ensures { result ≡ row_left (design_of parts.now) (at excess.now) (face_of (faces_of faces.now) e) r }
 {
@@ -114,20 +114,20 @@ fn left_by_rows(parts: &DesignParts, faces: &Faces, excess: &[i128], e: usize) -
     ensures { result ≡ left_by_rows (design_of parts.now) (at excess.now) (face_of (faces_of faces.now) e) }
 {
     let mut sum = 0;
-    for r in 0..first_rows(parts) {
+    for r in 0..first_row_count(parts) {
         sum += left_by_row(parts, faces, excess, e, r);
     }
     sum
 }
 
 // The reach of face `e`.
-fn reach(parts: &DesignParts, faces: &Faces, excess: &[i128], e: usize) -> i128
+fn face_reach(parts: &DesignParts, faces: &Faces, excess: &[i128], e: usize) -> i128
     requires design { IsDesign parts.now }
     requires faces { AreFacesFor (design_of parts.now) (faces_of faces.now) }
     requires excess { length excess.now ≡ rows (design_of parts.now) }
     requires face { e < 2 * parts.now.states }
     requires narrow { reach_size (design_of parts.now) (at excess.now) (face_of (faces_of faces.now) e) ≤ 2 ^ 125 }
-    ensures value { result ≡ reach (design_of parts.now) (at excess.now) (face_of (faces_of faces.now) e) }
+    ensures value { result ≡ face_reach (design_of parts.now) (at excess.now) (face_of (faces_of faces.now) e) }
     ensures small { unsigned_abs result ≤ 2 ^ 125 }
 {
     let own = (1 << 40) * greatest_rest(parts, faces, e);
@@ -146,7 +146,7 @@ fn shift_of(low: &[i128], high: &[i128], e: usize) -> i128
 }
 
 /// How far the coordinate of the next grid state of face `e` can go at most, with a shift from `low` to `high`.
-pub(crate) fn farthest(
+pub(crate) fn farthest_next(
     parts: &DesignParts,
     faces: &Faces,
     excess: &[i128],
@@ -161,10 +161,10 @@ pub(crate) fn farthest(
     requires high { IsNumeratorList high.now parts.now.states }
     requires face { e < 2 * parts.now.states }
     requires narrow { reach_size (design_of parts.now) (at excess.now) (face_of (faces_of faces.now) e) ≤ 2 ^ 125 }
-    ensures { result ≡ farthest (design_of parts.now) (at excess.now) (at low.now) (at high.now) (face_of (faces_of faces.now) e) }
+    ensures { result ≡ farthest_next (design_of parts.now) (at excess.now) (at low.now) (at high.now) (face_of (faces_of faces.now) e) }
 {
     let over = reach_over(parts, faces, e) as i128;
-    let rounded = round_div(towards(e, reach(parts, faces, excess, e)), over);
+    let rounded = round_div(towards(e, face_reach(parts, faces, excess, e)), over);
     rounded + shift_of(low, high, e)
 }
 

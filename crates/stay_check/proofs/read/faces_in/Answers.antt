@@ -40,8 +40,8 @@ pub returns-in_err-numbers-clause-fault : goal.returns-in_err-numbers-clause-fau
 returns-in_err-numbers-clause-fault c =
     let lt : c.loop-i.i < length c.in_ok-records.records.items = omega arith in
     passed_on _ _ _ c.from_residual-in_err-numbers.ensures.1
-    (either_fault c.args.bytes.now (design_of c.args.parts.now) c.first_rows-weights_of.result _ c.first_rows-weights_of.ensures.value
-    (first_fault face_rule (c.first_rows-weights_of.result + 1) c.in_ok-records.records.items c.args.bytes.now c.record-item.result c.loop-i.i _
+    (either_fault c.args.bytes.now (design_of c.args.parts.now) c.first_row_count-weights_of.result _ c.first_row_count-weights_of.ensures.value
+    (first_fault face_rule (c.first_row_count-weights_of.result + 1) c.in_ok-records.records.items c.args.bytes.now c.record-item.result c.loop-i.i _
     (λ e. at c.loop-i.kappa.items e ∷ row_of c.loop-i.weights e) c.in_ok-records.ensures lt (rw (← c.deref-record-items.ensures.value) c.record-item.is)
     c.loop-i.invariant.weights.each c.in_err-numbers.ensures.fault))
 
@@ -59,7 +59,7 @@ loop-i-preserved c =
     (rw good at c.push.ensures.items) ∙ ap (λ (z : ℤ). c.loop-i.kappa.items ++ z ∷ []) (to_z-of_z w128 c.index.result.now f) in
     record {
       kappa = ap length items ∙ length_push c.loop-i.kappa.items c.index.result.now ∙ ap (λ (n : ℕ). n + 1) c.loop-i.invariant.kappa;
-      weights = faces_more c.args.bytes.now c.first_rows-weights_of.result c.loop-i.i c.loop-i.kappa.items c.push.new.self.items c.index.result.now c.loop-i.weights _ zs
+      weights = faces_more c.args.bytes.now c.first_row_count-weights_of.result c.loop-i.i c.loop-i.kappa.items c.push.new.self.items c.index.result.now c.loop-i.weights _ zs
           items first c.loop-i.invariant.kappa found (rw (← take_rest zs 1, ← c.deref.ensures.value) c.in_ok-push_row.ensures.ok) c.loop-i.invariant.weights;
     }
 
@@ -135,10 +135,10 @@ returns-clause-fault c = tt
 
 pub returns-then-len-parts-clause-fault : goal.returns-then-len-parts-clause-fault
 returns-then-len-parts-clause-fault c =
-    count_fault c.args.bytes.now (design_of c.args.parts.now) c.in_ok-records.records.items _ c.first_rows-weights_of.result c.loop-i.i c.loop-i.kappa.items c.loop-i.weights c.first_rows-weights_of.ensures.value c.in_ok-records.ensures
+    count_fault c.args.bytes.now (design_of c.args.parts.now) c.in_ok-records.records.items _ c.first_row_count-weights_of.result c.loop-i.i c.loop-i.kappa.items c.loop-i.weights c.first_row_count-weights_of.ensures.value c.in_ok-records.ensures
     (search rules) (omega arith) (λ q. absurd (omega (arith, q, c.if-len-parts.true))) c.loop-i.invariant.weights.each
 
 pub returns-clause-found : goal.returns-clause-found
 returns-clause-found c =
-    faces_found c.args.bytes.now (design_of c.args.parts.now) c.in_ok-records.records.items (record { factors = c.loop-i.kappa.items; weights = c.loop-i.weights }) c.first_rows-weights_of.result c.loop-i.i c.first_rows-weights_of.ensures.value c.in_ok-records.ensures
+    faces_found c.args.bytes.now (design_of c.args.parts.now) c.in_ok-records.records.items (record { factors = c.loop-i.kappa.items; weights = c.loop-i.weights }) c.first_row_count-weights_of.result c.loop-i.i c.first_row_count-weights_of.ensures.value c.in_ok-records.ensures
     (omega arith) (omega (arith, c.len.ensures, c.if-len-parts.false)) c.loop-i.invariant.weights c.loop-i.invariant.kappa (omega arith)

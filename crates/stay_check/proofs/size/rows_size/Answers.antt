@@ -4,7 +4,7 @@ use Rattle.std.proofs.lemmas.Int.{to_z-of_z}
 use Rattle.integer_algebra.proofs.SizeLaws.{amount_more}
 use Rattle.mat_int.specs.Matrix.{entry_of}
 use Rattle.qp_model.specs.problem.Parts.{design_of}
-use Rattle.stay_check.specs.FirstRows.{first_row, first_rows}
+use Rattle.stay_check.specs.FirstRows.{first_row, first_row_count}
 use Rattle.stay_check.specs.FaceForms.{faces_of}
 use Rattle.stay_check.specs.Columns.{coefficient}
 use Rattle.stay_check.proofs.FaceFacts.{weight_small, added_size}
@@ -14,7 +14,7 @@ pub overflow_mul-sum : goal.overflow_mul-sum
 overflow_mul-sum c =
     let a : FitsSigned w128 c.at.result = search rules in
     let b : FitsSigned w128 c.coefficient.result = search rules in
-    let lt : c.loop-r.r < first_rows (design_of c.args.parts.now) = omega (arith, c.loop-r.invariant.end) in
+    let lt : c.loop-r.r < first_row_count (design_of c.args.parts.now) = omega (arith, c.loop-r.invariant.end) in
     let weight : c.unsigned_abs-weight.result < 2 ^ 31 = rw (c.unsigned_abs-weight.ensures.value, to_z-of_z w128 _ a, c.at.ensures)
     (weight_small (design_of c.args.parts.now) (faces_of c.args.faces.now) c.args.e c.loop-r.r c.requires.faces c.requires.face lt) in
     let own : c.unsigned_abs.result < 2 ^ 66 = rw (c.unsigned_abs.ensures.value, to_z-of_z w128 _ b) c.coefficient.ensures.small in
@@ -25,7 +25,7 @@ pub overflow_add-sum : goal.overflow_add-sum
 overflow_add-sum c =
     let a : FitsSigned w128 c.at.result = search rules in
     let b : FitsSigned w128 c.coefficient.result = search rules in
-    let lt : c.loop-r.r < first_rows (design_of c.args.parts.now) = omega (arith, c.loop-r.invariant.end) in
+    let lt : c.loop-r.r < first_row_count (design_of c.args.parts.now) = omega (arith, c.loop-r.invariant.end) in
     let weight : c.unsigned_abs-weight.result < 2 ^ 31 = rw (c.unsigned_abs-weight.ensures.value, to_z-of_z w128 _ a, c.at.ensures)
     (weight_small (design_of c.args.parts.now) (faces_of c.args.faces.now) c.args.e c.loop-r.r c.requires.faces c.requires.face lt) in
     let own : c.unsigned_abs.result < 2 ^ 66 = rw (c.unsigned_abs.ensures.value, to_z-of_z w128 _ b) c.coefficient.ensures.small in
@@ -36,7 +36,7 @@ pub loop-r-preserved : goal.loop-r-preserved
 loop-r-preserved c =
     let a : FitsSigned w128 c.at.result = search rules in
     let b : FitsSigned w128 c.coefficient.result = search rules in
-    let lt : c.loop-r.r < first_rows (design_of c.args.parts.now) = omega (arith, c.loop-r.invariant.end) in
+    let lt : c.loop-r.r < first_row_count (design_of c.args.parts.now) = omega (arith, c.loop-r.invariant.end) in
     let weight : c.unsigned_abs-weight.result < 2 ^ 31 = rw (c.unsigned_abs-weight.ensures.value, to_z-of_z w128 _ a, c.at.ensures)
     (weight_small (design_of c.args.parts.now) (faces_of c.args.faces.now) c.args.e c.loop-r.r c.requires.faces c.requires.face lt) in
     let own : c.unsigned_abs.result < 2 ^ 66 = rw (c.unsigned_abs.ensures.value, to_z-of_z w128 _ b) c.coefficient.ensures.small in
@@ -53,5 +53,5 @@ loop-r-preserved c =
 
 pub returns-clause-value : goal.returns-clause-value
 returns-clause-value c =
-    let whole : c.loop-r.r ≡ first_rows (design_of c.args.parts.now) = omega (arith, c.loop-r.invariant.end) in
+    let whole : c.loop-r.r ≡ first_row_count (design_of c.args.parts.now) = omega (arith, c.loop-r.invariant.end) in
     rw (← whole) c.loop-r.invariant.sum

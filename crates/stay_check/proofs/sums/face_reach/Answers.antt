@@ -5,7 +5,7 @@ use Rattle.integer_algebra.specs.Sums.{at}
 use Rattle.qp_model.specs.problem.Parts.{design_of}
 use Rattle.stay_check.specs.FaceForms.{faces_of, face_of, greatest_rest, left_by_rows}
 use Rattle.stay_check.proofs.SumFacts.{reach_room, left_room, cast}
-use Rattle.stay_check.proofs.sums.reach.Goals as goal
+use Rattle.stay_check.proofs.sums.face_reach.Goals as goal
 
 pub overflow_mul-own : goal.overflow_mul-own
 overflow_mul-own c =

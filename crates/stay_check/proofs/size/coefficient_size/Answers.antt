@@ -5,7 +5,7 @@ use Rattle.std.proofs.lemmas.Nat.{mul-lt}
 use Rattle.qp_model.specs.problem.Parts.{design_of}
 use Rattle.stay_check.specs.FaceForms.{faces_of}
 use Rattle.stay_check.proofs.FaceFacts.{factor_size}
-use Rattle.stay_check.proofs.size.column_size.Goals as goal
+use Rattle.stay_check.proofs.size.coefficient_size.Goals as goal
 
 pub overflow_add-result : goal.overflow_add-result
 overflow_add-result c =
