@@ -10,6 +10,7 @@ use Rattle.serde_json.specs.Written.{compact_text, items_text, members_text, has
 use Rattle.qp_model.specs.bounds.Printed.{Printed}
 use Rattle.bound_report.specs.Report.{Figure, One, Each, first_members, last_members, json_members, number_string, figure_text, member, report_json}
 use Rattle.bound_report.specs.Document.{strings_of, value_of, members_of, object_of}
+use Rattle.bound_report.proofs.KeyLaws.{plain_by}
 
 -- these bytes stand in a JSON string as they are
 abbrev IsPlain : List ℕ → Type 0
@@ -77,17 +78,11 @@ joined (m ∷ n ∷ ns) plain =
     ∙ ap (λ (rest : List ℕ). member m.0 m.1 ++ 44 ∷ rest) (joined (n ∷ ns) (cc plain))
     ∙ one_member m.0 m.1 (44 ∷ members_text false (members_of (n ∷ ns))) (cc plain)
 
--- with and without the violations of the rows
-plain_keys : (b : Printed) (first : Bool) (rows : List ℤ) → HavePlainKeys (first_members b ++ (if first then [] else (codes "violations", Each rows) ∷ []) ++ last_members b)
-unfolding escape_byte
-plain_keys b true rows = refl
-plain_keys b false rows = refl
-
 -- the report is the object as it is written, and a line feed
 pub compact_report : (b : Printed) → report_json b ≡ compact_text (object_of (json_members b)) ++ 10 ∷ []
 compact_report b =
     let members : List ℕ = join_with_byte 44 (map (λ m. member m.0 m.1) (json_members b)) in
-    let written = joined (json_members b) (plain_keys b (b.version == 1) b.row_violations) in
+    let written = joined (json_members b) (plain_by b.lean (b.version == 1) b b.row_violations) in
     ap (λ (t : List ℕ). 123 ∷ t) (sym (append_assoc members (125 ∷ []) (10 ∷ [])) ∙ ap (λ (t : List ℕ). t ++ 10 ∷ []) written)
 
 -- ---- what every object of figures is

@@ -1,3 +1,4 @@
 mod Growing
+mod KeyLaws
 mod RowLines
 mod Compact

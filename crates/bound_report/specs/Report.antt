@@ -1,16 +1,20 @@
 -- The texts of a report.
-use Rattle.std.specs.Prelude.{ℕ, suc, ℤ, pos, List, [], ◌∷◌, ◌++◌, ◌==◌, if◌then◌else◌, map, codes}
+use Rattle.std.specs.Prelude.{ℕ, suc, ℤ, pos, Bool, List, [], ◌∷◌, ◌++◌, ◌==◌, if◌then◌else◌, map, codes}
 use Rattle.std.specs.List.{join_with_byte}
 use Rattle.std.specs.Fmt.{signed_decimal}
 use Rattle.number_text.specs.Lines.{line_of, text_of}
 use Rattle.qp_model.specs.bounds.Printed.{Printed}
+
+-- the greatest cost, or for a lean controller the greatest excess, which is over 2^16
+abbrev pub cost_line : Printed → List ℕ
+cost_line b = if b.lean then line_of (codes "excess") (b.cost ∷ pos 65536 ∷ []) else line_of (codes "cost") (b.cost ∷ [])
 
 -- a word and its number each, the version first, and beside a number that is over 2^16 that power
 abbrev pub report_head : Printed → List (List ℕ)
 report_head b =
     line_of (codes "mpc-report") (pos b.version ∷ [])
     ∷ line_of (codes "margin") (b.margin ∷ pos 65536 ∷ [])
-    ∷ line_of (codes "cost") (b.cost ∷ [])
+    ∷ cost_line b
     ∷ line_of (codes "multiplier") (b.multiplier ∷ [])
     ∷ line_of (codes "step") (pos b.step ∷ [])
     ∷ line_of (codes "steps") (pos b.steps ∷ [])
@@ -47,11 +51,15 @@ pub data Figure : Type 0 where
   One : ℤ → Figure
   Each : List ℤ → Figure
 
--- keys and their figures up to the violation of all rows; the margin is over 2^16, and what is promised over 2^40
+-- the key of the cost, or of the excess
+abbrev pub cost_key : Bool → List ℕ
+cost_key lean = if lean then codes "excess" else codes "cost"
+
+-- keys and their figures up to the violation of all rows; the margin and the excess are over 2^16, and what is promised over 2^40
 abbrev pub first_members : Printed → List (List ℕ × Figure)
 first_members b =
     (codes "bits", One (pos b.bits))
-    ∷ (codes "cost", One b.cost)
+    ∷ (cost_key b.lean, One b.cost)
     ∷ (codes "gap", One b.gap)
     ∷ (codes "margin", One b.margin)
     ∷ (codes "multiplier", One b.multiplier)

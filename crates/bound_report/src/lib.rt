@@ -5,7 +5,7 @@ ghost use Rattle.std.specs.Prelude.{◌≡◌, ◌++◌, ◌∷◌, [], map, fol
 ghost use Rattle.std.specs.Fmt.{signed_decimal};
 ghost use Rattle.number_text.specs.Lines.{text_of};
 ghost use Rattle.qp_model.specs.bounds.Printed.{printed};
-ghost use Rattle.bound_report.specs.Report.{One, report_head, bound_lines, violation_lines, numbered_violations, report_text, first_members, last_members, json_members, report_json};
+ghost use Rattle.bound_report.specs.Report.{One, cost_line, cost_key, report_head, bound_lines, violation_lines, numbered_violations, report_text, first_members, last_members, json_members, report_json};
 ghost use Rattle.bound_report.specs.Document.{strings_of, members_of, object_of, IsJsonLine};
 ghost use Rattle.serde_json.specs.Data.{string, put};
 ghost use Rattle.serde_json.specs.View.{view, items_view, members_view};
@@ -16,7 +16,7 @@ use serde_json::{Map, Value, put};
 use std::alloc::{AllocError, Global};
 
 /// The text of a report: lines of a word and its numbers, the header `mpc-report` with the version first and `end` last. A number that is over a
-/// power of two has that power beside it. Version 1 has one line `violation`; any other has one for each of the m rows, with the row's number
+/// power of two has that power beside it. A lean controller has the line `excess`, over `2^16`, in place of `cost`. Version 1 has one line `violation`; any other has one for each of the m rows, with the row's number
 /// from 1 on before it.
 pub fn report_text(alloc: Global, b: &Bounds) -> Result<Vec<u8>, AllocError>
     ensures { IfOk result (λ v. v.items ≡ report_text (printed b.now)) }
@@ -28,7 +28,7 @@ pub fn report_text(alloc: Global, b: &Bounds) -> Result<Vec<u8>, AllocError>
 }
 
 /// The report as one JSON object with no space in it, and a line feed. Each value is a string, the number in decimal, since a reader of JSON may
-/// keep no more of a number than a float does. `margin` is over `2^16`, `gap`, `undercut` and `violation`, the greatest of all rows, are over
+/// keep no more of a number than a float does. `margin` is over `2^16`, and so is `excess`, which a lean controller has in place of `cost`; `gap`, `undercut` and `violation`, the greatest of all rows, are over
 /// `2^40`. Any version but 1 has `violations` too: an array of m such strings, over `2^40`, from the first row on.
 pub fn report_json(alloc: Global, b: &Bounds) -> Result<Vec<u8>, AllocError>
     ensures bytes { IfOk result (λ v. v.items ≡ report_json (printed b.now)) }
@@ -69,6 +69,13 @@ fn number_members(alloc: Global, b: &Bounds) -> Result<Map<String, Value>, Alloc
     Ok(members)
 }
 
+// The key of the cost, or of the excess.
+fn cost_key(lean: bool) -> &'static str
+    ensures { result.now ≡ cost_key lean }
+{
+    if lean { "excess" } else { "cost" }
+}
+
 // The numbers under their keys, in the order of the keys.
 fn figures_of(b: &Bounds) -> [KeyedNumber; 12]
     ensures { let p = printed b.now in
@@ -80,7 +87,7 @@ fn figures_of(b: &Bounds) -> [KeyedNumber; 12]
             number: i128::from(b.bits),
         },
         KeyedNumber {
-            key: "cost",
+            key: cost_key(b.lean),
             number: b.cost,
         },
         KeyedNumber {
@@ -182,7 +189,7 @@ fn head_text(alloc: Global, b: &Bounds) -> Result<String, AllocError>
     let mut text = String::new(alloc);
     push_line(alloc, &mut text, "mpc-report", &[i128::from(b.version)])?;
     push_line(alloc, &mut text, "margin", &[b.margin, 1 << 16])?;
-    push_line(alloc, &mut text, "cost", &[b.cost])?;
+    push_cost(alloc, &mut text, b)?;
     push_line(alloc, &mut text, "multiplier", &[b.multiplier])?;
     push_line(alloc, &mut text, "step", &[i128::from(b.step)])?;
     push_line(alloc, &mut text, "steps", &[i128::from(b.steps)])?;
@@ -190,6 +197,16 @@ fn head_text(alloc: Global, b: &Bounds) -> Result<String, AllocError>
     push_line(alloc, &mut text, "width", &[i128::from(b.width)])?;
     push_line(alloc, &mut text, "words", &[b.words as i128])?;
     Ok(text)
+}
+
+// The greatest cost, or the greatest excess.
+fn push_cost(alloc: Global, text: &mut String, b: &Bounds) -> Result<(), AllocError>
+    ensures { OnOk result (string_bytes text.new ≡ string_bytes text.old ++ text_of (cost_line (printed b.now) ∷ [])) }
+{
+    if b.lean {
+        return push_line(alloc, text, "excess", &[b.cost, 1 << 16]);
+    }
+    push_line(alloc, text, "cost", &[b.cost])
 }
 
 // What is promised, at the end.

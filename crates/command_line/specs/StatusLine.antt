@@ -3,7 +3,7 @@ use Rattle.std.specs.Prelude.{ℕ, List, [], ◌∷◌, ◌++◌, codes}
 use Rattle.std.specs.List.{join_with_byte}
 use Rattle.std.specs.Fmt.{decimal, signed_decimal}
 use Rattle.qp_model.specs.declared.quantity.Quantity.{Quantity}
-use Rattle.qp_model.specs.declared.quantity.Quantity.TheVariants.{Prediction, CornerSlack, CornerCost, Multiplier, Hessian, Rows, Curvature as CurvatureSize, Error, Descent, Width, Turn, Stay}
+use Rattle.qp_model.specs.declared.quantity.Quantity.TheVariants.{Prediction, CornerSlack, CornerCost, Multiplier, Hessian, Rows, Curvature as CurvatureSize, Error, Descent, Width, Turn, Excess, Stay}
 use Rattle.number_text.specs.declared.text_fault.TextFault.{TextFault}
 use Rattle.number_text.specs.declared.text_fault.TextFault.TheVariants.{NotToml, Key, Shape, Range, Fields, Number, Count, Memory as NoRoom}
 use Rattle.controller_file.specs.declared.bad_controller.BadController.{BadController}
@@ -27,6 +27,7 @@ quantity_name Error = codes "error"
 quantity_name Descent = codes "descent"
 quantity_name Width = codes "width"
 quantity_name Turn = codes "turn"
+quantity_name Excess = codes "excess"
 quantity_name Stay = codes "stay"
 
 -- the fault of a text: its name, and where it is

@@ -27,6 +27,7 @@ fn quantity_name(quantity: &Quantity) -> &'static str
         Quantity::Descent => "descent",
         Quantity::Width => "width",
         Quantity::Turn => "turn",
+        Quantity::Excess => "excess",
         Quantity::Stay => "stay",
     }
 }

@@ -170,6 +170,7 @@ module _ (p : DesignParts) (plans : Plans) (c other : Numbers) (b printed : Prin
   bounds_with w n v x g y u z own rows wide most each gap under i = record {
     version = (h.bounds.version ∙ version ∙ sym k.bounds.version) i;
     margin = (margin i).units;
+    lean = (h.lean ∙ sym k.lean) i;
     cost = (margin i).cost;
     multiplier = (h.bounds.multiplier ∙ ap pos r ∙ sym k.bounds.multiplier) i;
     step = (h.bounds.step ∙ exponent ∙ sym k.bounds.step) i;

@@ -1,5 +1,5 @@
 -- What passes every test is built.
-use Rattle.std.proofs.Common.{◌≡◌, inl, inr, ℕ, ◌≤◌, List, arith, refl, ap, sym, subst, ◌∙◌}
+use Rattle.std.proofs.Common.{◌≡◌, inl, inr, ℕ, false, ◌≤◌, List, arith, refl, ap, sym, subst, ◌∙◌}
 use Rattle.std.proofs.lemmas.Bool.{cases_eq}
 use Rattle.std.proofs.lemmas.List.Elements.{All-from_get_or}
 use Rattle.qp_model.specs.problem.Parts.{IsDesign, design_of}
@@ -64,8 +64,8 @@ assembled_with d r q s es k f c is a =
 
 pub built_from : (p : DesignParts) (plans : Plans) (c : Numbers) (b : Printed) (m : Margin) (r s : ℕ) (es : List ℕ) (k f : ℕ) → IsDesign p → IsPolicyFor (design_of p) plans →
     PassesBits (design_of p) (targets_of p) plans m s f → AreExponentsOf (design_of p) s es → AreExponents (design_of p) (exponent_in es) s → r ≡ multiplier_of m → k ≡ step_count s (multiplier_of m) (half_target (targets_of p)) →
-    margin_of b ≡ m → IsController c → IsAssembled (design_of p) r s es k f c → AreBoundsOf c b (real_cost (design_of p) (form_of (design_of p)) (multiplier_of m) c) → IsBuilt p plans c b
-built_from p plans c b m r s es k f design policy passes exponents curved is count same sound a bounds = record {
+    margin_of b ≡ m → b.lean ≡ false → IsController c → IsAssembled (design_of p) r s es k f c → AreBoundsOf c b (real_cost (design_of p) (form_of (design_of p)) (multiplier_of m) c) → IsBuilt p plans c b
+built_from p plans c b m r s es k f design policy passes exponents curved is count same plain sound a bounds = record {
   design = design;
   policy = policy;
   margin = rw (units, cost) margin.margin;
@@ -79,6 +79,7 @@ built_from p plans c b m r s es k f design policy passes exponents curved is cou
   steps = a.steps ∙ count ∙ rw (a.step_exponent, units, cost) refl;
   bits = rw (a.fraction_bits, units, cost) passes.choice;
   width = a.width;
+  lean = plain;
   bounds = subst (λ (r : ℕ). AreBoundsOf c b (real_cost (design_of p) (form_of (design_of p)) r c)) (ap (λ (x : Margin). multiplier_of x) (sym same)) bounds;
 }
   where

@@ -14,7 +14,7 @@ use Rattle.qp_model.specs.bounds.Errors.{error_size, error_sums_of}
 use Rattle.qp_model.specs.declared.design_parts.DesignParts.{DesignParts}
 use Rattle.qp_model.specs.declared.bounds.Margin.{Margin}
 use Rattle.qp_model.specs.declared.quantity.Quantity.{Quantity}
-use Rattle.qp_model.specs.declared.quantity.Quantity.TheVariants.{Prediction, CornerSlack, CornerCost, Multiplier, Hessian, Rows, Curvature as curvature_named, Error, Descent, Width, Turn, Stay}
+use Rattle.qp_model.specs.declared.quantity.Quantity.TheVariants.{Prediction, CornerSlack, CornerCost, Multiplier, Hessian, Rows, Curvature as curvature_named, Error, Descent, Width, Turn, Excess, Stay}
 use Rattle.exact_margin.specs.Corners.{HasCornerRoom, IsFirstShort}
 use Rattle.hessian_check.specs.Steps.{IsExponentOf, HasNoStep}
 use Rattle.bit_choice.specs.Choice.{IsChoice}
@@ -106,6 +106,7 @@ module _ (d : Design) (t : Targets) (plans : Plans) where
   wide_told Descent h = from_bits _ h.0 h.1 h.2 h.3 (inl (refl, h.4))
   wide_told Width h = from_bits _ h.0 h.1 h.2 h.3.0 (inr (h.3.1, inl (refl, h.4)))
   wide_told Turn h = absurd h
+  wide_told Excess h = absurd h
   wide_told Stay h = absurd h
 
   told : (e : Refusal) → HasCause d t plans e → Whole d t plans e

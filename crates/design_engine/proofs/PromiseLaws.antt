@@ -28,7 +28,7 @@ use Rattle.qp_model.specs.machine.Machine as machine
 use Rattle.qp_model.specs.form.Form.{Form}
 use Rattle.qp_model.specs.bounds.Errors.{StepErrors, cost_of_errors}
 use Rattle.qp_model.specs.bounds.Built.{HasSizesOf}
-use Rattle.qp_model.specs.bounds.Choices.{violation_bound, row_violation_bound, multiplier_of}
+use Rattle.qp_model.specs.bounds.Choices.{violation_bound, row_violation_bound, multiplier_of, lean_multiplier, lean_row_violation}
 use Rattle.qp_model.specs.machine.ValuesMet.{RunFits}
 use Rattle.qp_model.specs.bounds.Certified.{ExceedsAtMost, CostsAtMost, HasFeasible, IsCertifiedAt}
 use Rattle.qp_model.specs.declared.design_parts.DesignParts.{DesignParts}
@@ -42,7 +42,7 @@ use Rattle.step_error.specs.MachineLaws.{IsRunOf, MachineRunLaw}
 use Rattle.design_engine.specs.Targets.{targets_of, violation_target, floor_target}
 use Rattle.design_engine.specs.Bounds.{margin_of}
 use Rattle.design_engine.specs.Promise.{IsBacked, CertifiedLaw}
-use Rattle.design_engine.specs.Threshold.{IsSupported, IsCover, KeepsCover, CoverLaw, RepairsLaw, IsEnough, threshold_violation, AreThresholdBoundsOf, ThresholdCertifiedLaw, threshold_multiplier, multiplier_above, MeetsTargets, MadeAboveLaw}
+use Rattle.design_engine.specs.Threshold.{IsSupported, IsCover, KeepsCover, CoverLaw, RepairsLaw, IsEnough, AreThresholdBoundsOf, ThresholdCertifiedLaw, multiplier_above, MeetsTargets, MadeAboveLaw}
 use Rattle.design_engine.proofs.TargetLaws.{some_of, floor_fits, threshold_targets_law}
 use Rattle.design_engine.proofs.PromiseFacts.{power_mono, power_more, gap_closed, row_part, greatest_within, threshold_within, row_within, row_closed, row_shared, row_widened, row_over, first_part, second_part, shared_part, half_part, error_part, enough_left, lesser}
 use Rattle.design_engine.proofs.RowChoice.{at_row, dot_single, squares_single, row_in_box, dot_none, squares_none, none_in_box, greatest_row}
@@ -423,7 +423,7 @@ threshold_covers w h = record {
 
 -- a row within the threshold, and within its three parts
 shared_at : MachineRunLaw → (w : Point) → IsEnough w.c w.bound w.threshold (errors w) → (i : ℕ) → i < count w → (e : ℕ) → 2 ^ exponent_of w.c i ≤ 2 ^ e →
-    ExceedsAtMost (design w) (at w.xi) (over w) (plan w) i (pos (threshold_violation e w.bound w.c.steps (errors w) w.threshold))
+    ExceedsAtMost (design w) (at w.xi) (over w) (plan w) i (pos (lean_row_violation e w.bound w.c.steps (errors w) w.threshold))
 shared_at run w h i l e o = lesser (λ (n : ℕ). ExceedsAtMost (design w) (at w.xi) (over w) (plan w) i (pos n)) w.threshold _
     ((kept_at run w (pos w.threshold) (pos (2 ^ 40)) (threshold_covers w h)).violation i l)
     (row_shared (pos (2 ^ 40)) (pos w.c.steps) (rows_over w) (over w) (pos (errors w)) (pos w.bound) (residuals w i) (pos w.threshold)
@@ -482,11 +482,11 @@ made_above_from run p plans units excess h e c b made = record {
     large : pos excess ≤ℤ (pos (multiplier_above p units excess) *ℤ (pos units +ℤ pos (floor_target (targets_of p))))
     large = reached units excess (floor_target (targets_of p)) made.slack
       where
-        reached : (u x s : ℕ) → 1 ≤ u → pos x ≤ℤ (pos (threshold_multiplier u x s) *ℤ (pos u +ℤ pos s))
+        reached : (u x s : ℕ) → 1 ≤ u → pos x ≤ℤ (pos (lean_multiplier u x s) *ℤ (pos u +ℤ pos s))
         reached u x s h =
             let some : 0 < u + s = omega (arith, h) in
-            let most : ceil_div x (u + s) ≤ threshold_multiplier u x s = omega arith in
-            joined (u + s) (threshold_multiplier u x s) refl (le_trans x _ _ (le-mul-ceil_div x (u + s) some) (mul-le-mul_left (u + s) most))
+            let most : ceil_div x (u + s) ≤ lean_multiplier u x s = omega arith in
+            joined (u + s) (lean_multiplier u x s) refl (le_trans x _ _ (le-mul-ceil_div x (u + s) some) (mul-le-mul_left (u + s) most))
           where
             le_trans : (a b c : ℕ) → a ≤ b → b ≤ c → a ≤ c
             le_trans a b c h k = omega (arith, h, k)

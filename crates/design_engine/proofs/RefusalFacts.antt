@@ -13,7 +13,7 @@ use Rattle.qp_model.specs.bounds.Errors as errors
 use Rattle.qp_model.specs.bounds.Errors.{error_size, error_sums_of, epsilon}
 use Rattle.qp_model.specs.declared.bounds.Margin.{Margin}
 use Rattle.qp_model.specs.declared.quantity.Quantity.{Quantity}
-use Rattle.qp_model.specs.declared.quantity.Quantity.TheVariants.{Prediction, CornerSlack, CornerCost, Multiplier, Hessian, Rows, Curvature as curvature_named, Error, Descent, Width, Turn, Stay}
+use Rattle.qp_model.specs.declared.quantity.Quantity.TheVariants.{Prediction, CornerSlack, CornerCost, Multiplier, Hessian, Rows, Curvature as curvature_named, Error, Descent, Width, Turn, Excess, Stay}
 use Rattle.exact_margin.specs.Corners as corners
 use Rattle.exact_margin.specs.Corners.{HasCornerRoom, IsFirstShort}
 use Rattle.exact_margin.specs.declared.fault.MarginFault.{MarginFault}
@@ -78,6 +78,7 @@ module _ (d : Design) (t : Targets) (plans : Plans) where
   corner_wide Descent h = absurd h
   corner_wide Width h = absurd h
   corner_wide Turn h = absurd h
+  corner_wide Excess h = absurd h
   corner_wide Stay h = absurd h
 
   pub margin_refused : (r : Result Margin MarginFault) (fault : MarginFault) → r ≡ Err fault →
@@ -108,6 +109,7 @@ module _ (d : Design) (t : Targets) (plans : Plans) where
   form_wide m h r Descent k = absurd k
   form_wide m h r Width k = absurd k
   form_wide m h r Turn k = absurd k
+  form_wide m h r Excess k = absurd k
   form_wide m h r Stay k = absurd k
 
   pub condense_refused : (m : Margin) → PassesMargin d t plans m → multiplier_size (unsigned_abs m.units) (unsigned_abs m.cost) ≤ 2 ^ 126 →

@@ -18,7 +18,7 @@ pub record AreIdentical (c other : Numbers) (b other_bounds : Printed) : Type 0 
   pub bounds : b ≡ other_bounds
 
 -- With the gains and the width of the other, the controller is the other. With the other's width, violations, gap and undercut, so are the bounds: the
--- version, the margin, the cost, R, the step, the steps, the bits and the words are the same. And the width and these follow from the gains.
+-- version, the margin, that they aren't lean, the cost, R, the step, the steps, the bits and the words are the same. And the width and these follow from the gains.
 pub record AgreeButGains (c other : Numbers) (b other_bounds : Printed) : Type 0 where
   pub numbers : record c { state_gains = other.state_gains; offsets = other.offsets; dual_gains = other.dual_gains; width = other.width } ≡ other
   pub bounds : record b {

@@ -1,5 +1,5 @@
 -- A controller and its bounds as they are made of a design and a policy.
-use Rattle.std.specs.Prelude.{◌≡◌, ℕ, ◌≤◌, ◌^◌, pos, ◌≤ℤ◌}
+use Rattle.std.specs.Prelude.{◌≡◌, ℕ, ◌≤◌, ◌^◌, pos, ◌≤ℤ◌, false}
 use Rattle.qp_model.specs.form.Class.{form_of, hessian_quantity}
 use Rattle.qp_model.specs.problem.Design.{Design}
 use Rattle.qp_model.specs.problem.Parts.{IsDesign, design_of}
@@ -38,4 +38,5 @@ pub record IsBuilt (p : DesignParts) (plans : Plans) (c : Numbers) (b : Printed)
   pub bits : IsChoice (error_sums_of (design_of p) (form_of (design_of p)) (printed_multiplier b)) (design_of p).grid
       (error_limit (targets_of p) (printed_multiplier b)) c.fraction_bits
   pub width : IsWidth (greatest_sum c) c.width
+  pub lean : b.lean ≡ false
   pub bounds : AreBoundsOf c b (real_cost (design_of p) (form_of (design_of p)) (printed_multiplier b) c)

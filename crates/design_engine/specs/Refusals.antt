@@ -9,7 +9,7 @@ use Rattle.qp_model.specs.form.Columns.{descent_size}
 use Rattle.qp_model.specs.bounds.Errors.{error_size, error_sums_of}
 use Rattle.qp_model.specs.declared.bounds.Margin.{Margin}
 use Rattle.qp_model.specs.declared.quantity.Quantity.{Quantity}
-use Rattle.qp_model.specs.declared.quantity.Quantity.TheVariants.{Prediction, CornerSlack, CornerCost, Multiplier, Hessian, Rows, Curvature as curvature_named, Error, Descent, Width, Turn, Stay}
+use Rattle.qp_model.specs.declared.quantity.Quantity.TheVariants.{Prediction, CornerSlack, CornerCost, Multiplier, Hessian, Rows, Curvature as curvature_named, Error, Descent, Width, Turn, Excess, Stay}
 use Rattle.exact_margin.specs.Corners.{HasCornerRoom, IsFirstWideCorner, IsFirstShort}
 use Rattle.hessian_check.specs.Steps.{IsExponentOf, HasNoStep}
 use Rattle.bit_choice.specs.Choice.{IsChoice}
@@ -97,6 +97,7 @@ IsTooWide d t plans Error = (m : Margin) × (s : ℕ) × PassesSteps d t plans m
 IsTooWide d t plans Descent = (m : Margin) × (s : ℕ) × (f : ℕ) × PassesBits d t plans m s f × IsWide (descent_size (form_of d) f)
 IsTooWide d t plans Width = (m : Margin) × (s : ℕ) × (f : ℕ) × HasDescent d t plans m s f × IsWide (width_at d t m s f)
 IsTooWide d t plans Turn = ⊥
+IsTooWide d t plans Excess = ⊥
 IsTooWide d t plans Stay = ⊥
 
 -- the steps are more than 2^22, and k is their number

@@ -1,13 +1,12 @@
 -- The promise with a threshold: a repair's cost is known only of plans that exceed some row by more than it.
 use Rattle.std.specs.Prelude.{◌≡◌, ℕ, ◌+◌, ◌*◌, ◌^◌, ◌<◌, ◌≤◌, min, max, ℤ, pos, ◌+ℤ◌, ◌*ℤ◌, ◌≤ℤ◌, ◌<ℤ◌, List, length}
 use Rattle.integer_algebra.specs.Sums.{at, square}
-use Rattle.integer_algebra.specs.Division.{ceil_div}
 use Rattle.qp_model.specs.problem.Design.{Design, rows}
 use Rattle.qp_model.specs.problem.Sound.{IsSound}
 use Rattle.qp_model.specs.form.Form.{Form, IsFormFor}
 use Rattle.qp_model.specs.problem.Parts.{IsDesign, design_of}
 use Rattle.qp_model.specs.problem.Policy.{Plans, IsPolicyFor}
-use Rattle.qp_model.specs.bounds.Choices.{step_count}
+use Rattle.qp_model.specs.bounds.Choices.{step_count, lean_multiplier, lean_row_violation}
 use Rattle.qp_model.specs.problem.Box.{IsGridState}
 use Rattle.qp_model.specs.problem.Residual.{residual, residual_scale}
 use Rattle.qp_model.specs.bounds.Errors.{StepErrors, cost_of_errors}
@@ -77,10 +76,6 @@ CoverLaw = (p : DesignParts) (h : Form) (e : StepErrors) (c : Numbers) (r thresh
     KeepsCover (design_of p) c r (cost_of_errors (design_of p) h r c.fraction_bits e) (at xi) (pos (average_denominator c)) (at (averaged_plan c xi)) over over_denominator
 
 -- ---- bounds within a threshold
--- by how much a plan exceeds a row with the step exponent e at most, over 2^40, where steps and errors leave no more than the threshold
-abbrev pub threshold_violation : (e r k eps threshold : ℕ) → ℕ
-threshold_violation e r k eps threshold = min threshold (ceil_div threshold 2 + ceil_div (2 ^ (e + 40) * r) k + ceil_div eps (2 * r))
-
 -- the bounds print the controller's numbers, R, the violation of all rows and of each, and the other two over 2^40
 pub record AreThresholdBoundsOf (c : Numbers) (b : Printed) (r threshold cost : ℕ) : Type 0 where
   pub version : b.version ≡ c.version
@@ -90,9 +85,9 @@ pub record AreThresholdBoundsOf (c : Numbers) (b : Printed) (r threshold cost : 
   pub bits : b.bits ≡ c.fraction_bits
   pub width : b.width ≡ c.width
   pub words : b.words ≡ c.words
-  pub violation : b.violation ≡ pos (threshold_violation c.step_exponent r c.steps cost threshold)
+  pub violation : b.violation ≡ pos (lean_row_violation c.step_exponent r c.steps cost threshold)
   pub row_count : length b.row_violations ≡ c.rows
-  pub row_violations : (i : ℕ) → i < c.rows → at b.row_violations i ≡ pos (threshold_violation (exponent_of c i) r c.steps cost threshold)
+  pub row_violations : (i : ℕ) → i < c.rows → at b.row_violations i ≡ pos (lean_row_violation (exponent_of c i) r c.steps cost threshold)
   pub gap : b.gap ≡ pos cost
   pub undercut : b.undercut ≡ pos (r * threshold)
 
@@ -127,12 +122,9 @@ abbrev pub ThresholdTargetsLaw : Type 0
 ThresholdTargetsLaw = (p : DesignParts) (cost : ℕ) (c : Numbers) (b : Printed) (r : ℕ) → IsAimedAbove p cost c b r → MeetsTargets p cost c b r
 
 -- ---- all of it
--- R: the least whole number from 1 on that is at least the excess over the sum of slack and threshold, where these are units / 2^16 and share / 2^16
-abbrev pub threshold_multiplier : (units excess share : ℕ) → ℕ
-threshold_multiplier units excess share = max 1 (ceil_div excess (units + share))
-
+-- R, where the target of the violation is the threshold
 abbrev pub multiplier_above : DesignParts → (units excess : ℕ) → ℕ
-multiplier_above p units excess = threshold_multiplier units excess (floor_target (targets_of p))
+multiplier_above p units excess = lean_multiplier units excess (floor_target (targets_of p))
 
 -- a controller that is made for a design by a form of it, with the slack and the excess of a policy, and the design's targets
 pub record IsMadeAbove (p : DesignParts) (plans : Plans) (units excess : ℕ) (h : Form) (e : StepErrors) (c : Numbers) (b : Printed) : Type 0 where

@@ -1,5 +1,5 @@
 // From a design and a policy to a controller and its bounds.
-ghost use Rattle.std.specs.Prelude.{◌≡◌, ◌⊎◌, ◌≤◌, ◌≤ℤ◌, ◌^◌, ℕ, pos, unsigned_abs, IfOk, IfErr, IsOk, OnOk, Err};
+ghost use Rattle.std.specs.Prelude.{◌≡◌, ◌⊎◌, ◌≤◌, ◌≤ℤ◌, ◌^◌, ℕ, pos, unsigned_abs, false, IfOk, IfErr, IsOk, OnOk, Err};
 ghost use Rattle.qp_model.specs.machine.AbsoluteSums.{IsController};
 ghost use Rattle.qp_model.specs.form.Class.{form_of};
 ghost use Rattle.qp_model.specs.form.Columns.{descent_size};
@@ -219,6 +219,7 @@ fn bounds_of(
         undercut_bound r (violation_bound scaled.now.s r plan.now.steps (unsigned_abs eps)) ≤ 2 ^ 126 }
     requires same { controller.now.step_exponent ≡ scaled.now.s }
     ensures margin { IfOk result (λ bounds. margin_of (printed bounds) ≡ scaled.now.margin) }
+    ensures lean { IfOk result (λ bounds. (printed bounds).lean ≡ false) }
     ensures bounds { IfOk result (λ bounds. (cost : ℕ) → eps ≡ pos cost →
         controller.now.steps ≡ plan.now.steps → controller.now.fraction_bits ≡ plan.now.choice.f →
         AreBoundsOf controller.now (printed bounds) cost) }
@@ -229,6 +230,7 @@ fn bounds_of(
     Ok(Bounds {
         version: parts.version,
         margin: scaled.margin.units,
+        lean: false,
         cost: scaled.margin.cost,
         multiplier: r,
         step: s,

@@ -6,7 +6,10 @@ ghost use Rattle.dual_bounds.specs.Corners.{BoxLaw, RepairLaw, ExcessBoxLaw, Thr
 
 mod numbers;
 
-pub use numbers::{TooManySteps, multiplier, row_violation, steps, undercut, violation};
+pub use numbers::{
+    TooManySteps, lean_multiplier, lean_row_violation, multiplier, row_violation, steps, undercut,
+    violation,
+};
 
 /// Where the corners' plans have a slack in each row and cost at most so much, some plan at every grid state of the box does. A plan there that
 /// exceeds each row by at most v has a feasible plan that costs at most R v more.

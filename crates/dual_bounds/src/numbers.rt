@@ -2,6 +2,7 @@
 ghost use Rattle.std.specs.Prelude.{◌≡◌, ℕ, ◌+◌, ◌*◌, ◌^◌, ◌≤◌, pos, ◌≤ℤ◌, unsigned_abs, IfErr};
 ghost use Rattle.std.specs.Result.{OkIff};
 ghost use Rattle.qp_model.specs.bounds.Choices.{multiplier_of, multiplier_size_of, step_count, row_violation_bound, violation_bound, undercut_bound};
+ghost use Rattle.qp_model.specs.bounds.Choices.{lean_multiplier, lean_multiplier_size, lean_row_violation};
 ghost use Rattle.qp_model.specs.declared.quantity.Quantity.TheVariants.{Multiplier};
 
 use frac_scaled::scaled;
@@ -31,6 +32,30 @@ pub fn multiplier(margin: &Margin) -> Result<i128, Wide>
     let cost = margin.cost.unsigned_abs() * 65536;
     let units = margin.units.unsigned_abs();
     let bound = cost.div_ceil(units).max(1);
+    if bound > 1 << 44 {
+        return Err(Wide(Quantity::Multiplier));
+    }
+    Ok(bound as i128)
+}
+
+/// R of a lean controller: the excess of the corners' plans over the sum of their least slack and the violation's target, rounded up, and at least 1.
+/// `excess`, `units` and `share` of the target are all over `2^16`.
+///
+/// # Errors
+/// `multiplier` is above `2^126`.
+pub fn lean_multiplier(units: i128, excess: i128, share: i128) -> Result<i128, Wide>
+    requires units { pos 1 ≤ℤ units }
+    requires excess { pos 0 ≤ℤ excess }
+    requires share { pos 0 ≤ℤ share }
+    ensures value { let size = lean_multiplier_size (unsigned_abs units) (unsigned_abs excess) (unsigned_abs share) in
+        OkIff result (size ≤ 2 ^ 126) (pos (lean_multiplier (unsigned_abs units) (unsigned_abs excess) (unsigned_abs share))) }
+    ensures named { IfErr result (λ e. e.0 ≡ Multiplier) }
+{
+    if excess > 1 << 126 {
+        return Err(Wide(Quantity::Multiplier));
+    }
+    let room = units.unsigned_abs() + share.unsigned_abs();
+    let bound = excess.unsigned_abs().div_ceil(room).max(1);
     if bound > 1 << 44 {
         return Err(Wide(Quantity::Multiplier));
     }
@@ -88,6 +113,25 @@ pub fn row_violation(si: u32, s: u32, r: i128, k: u32, eps: i128) -> i128
     let bound = r.unsigned_abs();
     let of_errors = eps.unsigned_abs().div_ceil(bound);
     (of_steps + of_errors) as i128
+}
+
+/// By how much a plan of a lean controller exceeds a row with the step exponent `e` at most, over `2^40`: after `k` steps, with the multiplier bound `r`,
+/// the errors `eps` and the violation's target `threshold`, both over `2^40`, where steps and errors leave no more than that.
+pub fn lean_row_violation(e: u32, r: i128, k: u32, eps: i128, threshold: i128) -> i128
+    requires exponent { e ≤ 40 }
+    requires some { pos 1 ≤ℤ r }
+    requires narrow { r ≤ℤ pos (2 ^ 44) }
+    requires steps { 1 ≤ k }
+    requires errors { pos 0 ≤ℤ eps }
+    requires small { eps ≤ℤ pos (2 ^ 114) }
+    requires target { pos 0 ≤ℤ threshold }
+    ensures { result ≡ pos (lean_row_violation e (unsigned_abs r) k (unsigned_abs eps) (unsigned_abs threshold)) }
+{
+    let target = threshold.unsigned_abs();
+    let of_steps = whole(e + 40, r).div_ceil(u128::from(k));
+    let of_errors = eps.unsigned_abs().div_ceil(2 * r.unsigned_abs());
+    let most = target.div_ceil(2) + of_steps + of_errors;
+    most.min(target) as i128
 }
 
 /// How much more than a plan that exceeds each row by at most `violation` some feasible plan costs at most, over `2^40`.

@@ -14,7 +14,9 @@ pub struct Bounds {
     pub version: u32,
     /// The corners' least slack, over `2^16`.
     pub margin: i128,
-    /// The corners' greatest cost.
+    /// Whether it is made leanly: by how much more than the best the corners' plans cost at most, in place of their cost.
+    pub lean: bool,
+    /// The corners' greatest cost; made leanly, the greatest excess of their plans, over `2^16`.
     pub cost: i128,
     /// R: half the greatest multiplier.
     pub multiplier: i128,

@@ -14,6 +14,7 @@ pub enum Quantity {
     Descent,
     Width,
     Turn,
+    Excess,
     Stay,
 }
 

@@ -10,6 +10,7 @@ fn first_bounds(alloc: Global) -> Result<Bounds, AllocError> {
     Ok(Bounds {
         version: 1,
         margin: 8192,
+        lean: false,
         cost: 1,
         multiplier: 8,
         step: 1,
@@ -30,6 +31,7 @@ fn second_bounds(alloc: Global) -> Result<Bounds, AllocError> {
     Ok(Bounds {
         version: 2,
         margin: 8192,
+        lean: false,
         cost: 1,
         multiplier: 8,
         step: 1,
@@ -41,6 +43,27 @@ fn second_bounds(alloc: Global) -> Result<Bounds, AllocError> {
         rows: Vec::from_array(alloc, [6651831648256, row, row])?,
         gap: 438095052800,
         undercut: 70806839230464,
+    })
+}
+
+// The bounds of the first design's lean controller.
+fn lean_bounds(alloc: Global) -> Result<Bounds, AllocError> {
+    let row = 11150808842240;
+    Ok(Bounds {
+        version: 1,
+        margin: 8192,
+        lean: true,
+        cost: 18432,
+        multiplier: 1,
+        step: 1,
+        steps: 1,
+        bits: 6,
+        width: 16,
+        words: 6,
+        violation: row,
+        rows: Vec::from_array(alloc, [row, row, row])?,
+        gap: 311385128960,
+        undercut: 17592186044416,
     })
 }
 
@@ -65,6 +88,12 @@ fn is_first(alloc: Global, lines: &str, line: &str) -> Result<bool, AllocError> 
 // The report of the second version, with a line for each row, and the same as JSON.
 fn is_second(alloc: Global, lines: &str, line: &str) -> Result<bool, AllocError> {
     let bounds = second_bounds(alloc)?;
+    are_reports(alloc, &bounds, lines, line)
+}
+
+// The report of the lean controller, with its excess in place of a cost, and the same as JSON.
+fn is_lean(alloc: Global, lines: &str, line: &str) -> Result<bool, AllocError> {
+    let bounds = lean_bounds(alloc)?;
     are_reports(alloc, &bounds, lines, line)
 }
 
@@ -97,11 +126,22 @@ fn second(rt: HostRuntime) -> Result<(), Fail> {
     Ok(())
 }
 
+#[test]
+fn lean(rt: HostRuntime) -> Result<(), Fail> {
+    let lines =
+        "mpc-report 1\nmargin 8192 65536\nexcess 18432 65536\nmultiplier 1\nstep 1\nsteps 1\nbits 6\nwidth 16\nwords 6\nviolation 11150808842240 1099511627776\ngap 311385128960 1099511627776\nundercut 17592186044416 1099511627776\nend\n";
+    let line =
+        "{\"bits\":\"6\",\"excess\":\"18432\",\"gap\":\"311385128960\",\"margin\":\"8192\",\"multiplier\":\"1\",\"step\":\"1\",\"steps\":\"1\",\"undercut\":\"17592186044416\",\"version\":\"1\",\"violation\":\"11150808842240\",\"width\":\"16\",\"words\":\"6\"}\n";
+    assert!(rt; is_lean(rt.alloc(), lines, line)?);
+    Ok(())
+}
+
 // The greatest numbers of their types, or long ones.
 fn long_bounds(alloc: Global) -> Bounds {
     Bounds {
         version: 1,
         margin: 1,
+        lean: false,
         cost: 0,
         multiplier: 1 << 64,
         step: 0,

@@ -25,6 +25,6 @@ returns c =
     let violation = to_z-of_z w128 b.violation violation_fits in
     let width = to_z-of_z w128 c.from-5.result (record { sfits = c.from-5.type_inv }) ∙ c.from-5.ensures in
     let words = to_z_pos w128 b.words (omega arith) in
-    λ i. (codes "bits", One (bits i)) ∷ (codes "cost", One (cost i)) ∷ (codes "gap", One (gap i)) ∷ (codes "margin", One (margin i))
+    λ i. (codes "bits", One (bits i)) ∷ (c.cost_key.ensures i, One (cost i)) ∷ (codes "gap", One (gap i)) ∷ (codes "margin", One (margin i))
     ∷ (codes "multiplier", One (multiplier i)) ∷ (codes "step", One (step i)) ∷ (codes "steps", One (steps i)) ∷ (codes "undercut", One (undercut i))
     ∷ (codes "version", One (version i)) ∷ (codes "violation", One (violation i)) ∷ (codes "width", One (width i)) ∷ (codes "words", One (words i)) ∷ []

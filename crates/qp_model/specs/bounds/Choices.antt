@@ -1,5 +1,5 @@
 -- The multiplier bound, the number of steps, and the bounds that are printed.
-use Rattle.std.specs.Prelude.{ℕ, ◌+◌, ◌*◌, ◌^◌, max, unsigned_abs}
+use Rattle.std.specs.Prelude.{ℕ, ◌+◌, ◌*◌, ◌^◌, min, max, unsigned_abs}
 use Rattle.integer_algebra.specs.Division.{ceil_div}
 use Rattle.qp_model.specs.declared.bounds.Margin.{Margin}
 
@@ -33,3 +33,17 @@ violation_bound s r k eps = ceil_div (2 ^ (s + 41) * r) k + ceil_div eps r
 -- how much more than it some feasible plan costs at most, in units of 2^-40
 abbrev pub undercut_bound : (r violation : ℕ) → ℕ
 undercut_bound r violation = r * violation
+
+-- ---- made leanly: by the excess of the corners' plans, and for plans that exceed some row by more than a threshold
+-- R: the least whole number from 1 on that is at least the greatest excess over the sum of the least slack and the threshold, which are excess, units
+-- and share over 2^16
+abbrev pub lean_multiplier : (units excess share : ℕ) → ℕ
+lean_multiplier units excess share = max 1 (ceil_div excess (units + share))
+
+-- `multiplier`
+abbrev pub lean_multiplier_size : (units excess share : ℕ) → ℕ
+lean_multiplier_size units excess share = max excess (2 ^ 82 * lean_multiplier units excess share)
+
+-- by how much a plan exceeds a row with the step exponent e at most, in units of 2^-40, where steps and errors leave no more than the threshold
+abbrev pub lean_row_violation : (e r k eps threshold : ℕ) → ℕ
+lean_row_violation e r k eps threshold = min threshold (ceil_div threshold 2 + ceil_div (2 ^ (e + 40) * r) k + ceil_div eps (2 * r))

@@ -1,11 +1,13 @@
 -- The numbers that are printed of a controller, as the promise speaks of them.
-use Rattle.std.specs.Prelude.{ℕ, ℤ, List}
+use Rattle.std.specs.Prelude.{ℕ, ℤ, List, Bool}
 use Rattle.qp_model.specs.declared.bounds.Bounds.{Bounds}
 
--- `violation`, the greatest of all rows, and that of each row, `gap` and `undercut` are over 2^40, the margin over 2^16
+-- `violation`, the greatest of all rows, and that of each row, `gap` and `undercut` are over 2^40, the margin over 2^16; where it is `lean`, the
+-- excess stands in place of the cost, over 2^16
 pub record Printed : Type 0 where
   pub version : ℕ
   pub margin : ℤ
+  pub lean : Bool
   pub cost : ℤ
   pub multiplier : ℤ
   pub step : ℕ
@@ -22,6 +24,7 @@ abbrev pub printed : Bounds → Printed
 printed b = record {
   version = b.version;
   margin = b.margin;
+  lean = b.lean;
   cost = b.cost;
   multiplier = b.multiplier;
   step = b.step;

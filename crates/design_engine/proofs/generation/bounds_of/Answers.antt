@@ -1,4 +1,4 @@
-use Rattle.std.proofs.Common.{◌≡◌, ℕ, ◌<◌, ℤ, List, length, pos, rules, refl, ap, subst, sym, ◌∙◌}
+use Rattle.std.proofs.Common.{◌≡◌, ℕ, ◌<◌, ℤ, List, length, pos, rules, false, refl, ap, subst, sym, ◌∙◌}
 use Rattle.std.specs.Int.{w128}
 use Rattle.std.proofs.lemmas.Int.{to_z-of_z}
 use mir.Val.{SFits}
@@ -43,6 +43,7 @@ returns-clause-bounds c = λ cost at steps bits.
     (bounds_from cost n c.args.scaled.now.margin (record {
       version = c.parts-parts.result.now.version;
       margin = c.args.scaled.now.margin.units;
+      lean = false;
       cost = c.args.scaled.now.margin.cost;
       multiplier = c.args.scaled.now.r;
       step = c.args.scaled.now.s;

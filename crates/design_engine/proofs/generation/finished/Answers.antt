@@ -136,7 +136,7 @@ returns-clause-built c plans policy passes =
     c.in_ok-controller.ensures.sound c.in_ok-controller.ensures.descent) in
     let made = c.in_ok-controller.ensures.made in
     built_from p plans n (printed c.in-Ok.bounds) c.args.scaled.now.margin q _ _ _ _
-    c.requires.form.design policy passes c.in_ok-controller.ensures.exponents c.in_ok-controller.ensures.curved refl c.requires.steps c.in-Ok.ensures.margin
+    c.requires.form.design policy passes c.in_ok-controller.ensures.exponents c.in_ok-controller.ensures.curved refl c.requires.steps c.in-Ok.ensures.margin c.in-Ok.ensures.lean
     c.in_ok-controller.ensures.sound made (c.in-Ok.ensures.bounds _ cost made.steps made.fraction_bits)
 
 pub returns-clause-passes : goal.returns-clause-passes
