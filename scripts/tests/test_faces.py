@@ -1,0 +1,73 @@
+"""Faces of a box: what holds of worked ones, and that those that are found hold."""
+import os
+import sys
+import unittest
+
+from tests.worked import FIRST, FIRST_POLICY, TOP
+
+sys.path.insert(0, os.path.join(TOP, "scripts"))
+from design_text import design_of
+from libraries import missing
+
+LACKING = missing("numpy", "scipy")
+if not LACKING:
+    import faces
+
+# x+ = x + u from 0 to 1, whose next state is to lie in it too; what each row may be exceeded by was computed by another program
+WORKED = FIRST.replace("final = [[4, 1]]", "final = [[4, 1], [-4, 1]]").replace("den = 1\nviolation = 16\ngap = 1\n", "den = 10\nviolation = 1\ngap = 10\n")
+EXCESS = 96841506804
+RIGHT = [[4, 0, 0, 1, 0], [4, 0, 0, 0, 1]]
+
+
+@unittest.skipIf(LACKING, f"no {', '.join(LACKING)}")
+class WorkedFaces(unittest.TestCase):
+    def setUp(self):
+        self.design = design_of(WORKED)
+        self.excess = [EXCESS] * 4
+
+    def test_rows(self):
+        rows = [(row.of_state, row.of_input, row.bound, row.number) for row in faces.first_rows(self.design)]
+        self.assertEqual(rows, [([0], [4], 4, 0), ([0], [-4], 4, 1), ([4], [4], 1, 2), ([-4], [-4], 1, 3)])
+
+    def test_excess(self):
+        policy = [[int(word) for word in line.split(",")] for line in FIRST_POLICY.splitlines()]
+        found = faces.excesses(self.design, policy)
+        # it takes K for what it is before it is rounded up, so it may be a little more
+        self.assertTrue(all(EXCESS <= excess <= 1.001 * EXCESS for excess in found), found)
+
+    def test_holds(self):
+        self.assertIsNone(faces.first_fault(self.design, RIGHT, self.excess))
+        self.assertIsNone(faces.first_fault(self.design, RIGHT, self.excess, [0], [1]))
+
+    def test_refused(self):
+        self.assertEqual(faces.first_fault(self.design, [RIGHT[0], [4, 0, 1, 0, 0]], self.excess), ("no-stay", 2, -1))
+        self.assertEqual(faces.first_fault(self.design, [[3, 0, 0, 1, 0], RIGHT[1]], self.excess), ("unequal", 1, 1, 4, 3))
+        self.assertEqual(faces.first_fault(self.design, RIGHT, self.excess, [-1], [0]), ("no-stay", 2, -1))
+
+    def test_found(self):
+        found = faces.find(self.design, self.excess, [0], [0])
+        self.assertIsNone(faces.first_fault(self.design, found, self.excess))
+        self.assertEqual(found, RIGHT)
+
+    def test_bearable(self):
+        # what is added to the next state, with the greatest excess, still rounds to 0 and 1
+        self.assertEqual(faces.bearable(self.design, RIGHT, self.excess), ([0], [1]))
+
+    def test_none(self):
+        self.assertIsNone(faces.find(design_of(WORKED.replace("final = [[4, 1], [-4, 1]]", "final = []")), [EXCESS] * 2, [0], [0]))
+
+
+@unittest.skipIf(LACKING, f"no {', '.join(LACKING)}")
+class Rounding(unittest.TestCase):
+    def test_equations_hold(self):
+        """Where a vertex's numbers are too long, the rounded record's equations hold all the same."""
+        design = design_of(WORKED.replace("b = [[1]]", "b = [[3]]").replace("stage = [[0, 4, 4], [0, -4, 4]]", "stage = [[0, 7, 4], [0, -5, 4]]"))
+        face = faces.faces_of(design)[0]
+        record = faces.rounded(design, face, [0.1, 0.3, 0.2, 0.1])
+        left, right = faces.sums(design, face, record)
+        self.assertEqual(left, right)
+        self.assertTrue(0 <= min(record) and max(record) < 2**31)
+
+
+if __name__ == "__main__":
+    unittest.main()
