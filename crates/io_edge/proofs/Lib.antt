@@ -1,1 +1,3 @@
 pub mod Passing
+-- ---- worked counts and bytes
+mod FaultsWorked

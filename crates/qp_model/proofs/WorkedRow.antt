@@ -170,10 +170,10 @@ fine_size : error_size base fine 8 ≡ 94843873012547816
 fine_size = refl
 
 -- ---- the controller and its machine
-abbrev matrix : ℕ → List (List ℤ) → Matrix
+abbrev pub matrix : ℕ → List (List ℤ) → Matrix
 matrix n lines = record { cols = n; rows = lines }
 
-abbrev first_controller : Numbers
+abbrev pub first_controller : Numbers
 first_controller = record {
   version = 1;
   states = 1;
@@ -253,7 +253,7 @@ unfolding after
 lowered_average = refl
 
 -- the third row's is 0, so its multiplier is over 2^10 and is raised to 2^11
-abbrev third_controller : Numbers
+abbrev pub third_controller : Numbers
 third_controller = record first_controller { version = 2; exponents = 1 ∷ 1 ∷ 0 ∷ [] }
 
 third_plans : map (λ k. (after third_controller (loaded third_controller (pos 1 ∷ [])) k).plan) (1 ∷ 2 ∷ 3 ∷ 4 ∷ [])
