@@ -4,9 +4,13 @@ import os
 import signal
 import sys
 
-PACKAGES = {"numpy": "python3-numpy", "scipy": "python3-scipy", "cvxopt": "python3-cvxopt", "matplotlib": "python3-matplotlib"}
+PACKAGES = {"numpy": "python3-numpy", "scipy": "python3-scipy", "cvxopt": "python3-cvxopt", "matplotlib": "python3-matplotlib", "jsonschema": "python3-jsonschema"}
 SYSTEM = "/usr/bin/python3"
 TRIED = "MPC_SCRIPTS_TRIED"
+
+
+class Refusal(ValueError):
+    """What is wrong with a file, in lines that stand alone."""
 
 
 def missing(*names):
@@ -33,6 +37,8 @@ def run(main):
     name = os.path.basename(sys.argv[0])
     try:
         sys.exit(main())
+    except Refusal as fault:
+        sys.exit("\n".join(f"{name}: {line}" for line in str(fault).splitlines()))
     except OSError as fault:
         sys.exit(f"{name}: {fault.filename}: {fault.strerror}")
     except KeyError as fault:
