@@ -7,13 +7,12 @@ For each denominator (8 to 1024 where none is given) it prints the greatest row 
 they are enclosures, the poles before and after, and by how much the step responses of the stages are off; and it warns of each coupling that is rounded to 0. With
 one denominator, given or named by the model, it prints the plant table of the design. How a model is written: scripts/draft.py --help.
 """
-import argparse
-
 from libraries import need, run
 
 need("numpy", "scipy")
 import numpy
 
+from arguments import Parser, several
 from design_text import plain
 from models import read_model
 
@@ -105,9 +104,9 @@ def tell(model, den):
 
 
 def main():
-    parser = argparse.ArgumentParser(description=__doc__, formatter_class=argparse.RawDescriptionHelpFormatter)
-    parser.add_argument("model")
-    parser.add_argument("--den", type=int, nargs="+")
+    parser = Parser(__doc__)
+    parser.add_argument("model", metavar="MODEL")
+    parser.add_argument("--den", type=several, nargs="+")
     given = parser.parse_args()
     model = read_model(given.model, plant_alone=True)
     dens = given.den or ([model.den] if model.den else [2**k for k in range(3, 11)])

@@ -12,11 +12,8 @@ standard error: what each rounding moved, and where the loop of the design settl
 
 Where a size of the design would pass what the program accepts, the plant is rounded to a smaller denominator, or weights and limits more coarsely, and that is said.
 """
-import argparse
 import math
-import os
 import sys
-import tempfile
 from dataclasses import dataclass, field, replace
 
 import models
@@ -25,7 +22,9 @@ from libraries import need, run
 need("numpy", "scipy", "cvxopt", "jsonschema")
 import numpy
 
+import files
 import sizes
+from arguments import Parser, positive
 from condensed import curvature
 from corners import corners_of, margin_of, multiplier_of
 from design_text import Design, Name, plain, text_of
@@ -420,30 +419,21 @@ def place_words(design: Design, place: Settled | None) -> str:
     return ", ".join(told) + (f", where {' and '.join(binding)} bind{'s' * (len(binding) == 1)}" if binding else "")
 
 
-def write(path: str, text: str) -> None:
-    """Writes a file beside its place, and then puts it there."""
-    with tempfile.NamedTemporaryFile("w", encoding="utf-8", dir=os.path.dirname(path) or ".", delete=False) as file:
-        file.write(text)
-    os.replace(file.name, path)
-
-
 def main() -> int:
-    parser = argparse.ArgumentParser(
-        description=__doc__ + "\nA model is\n" + models.__doc__.split("\n", 1)[0].lower()[2:] + "\n" + models.__doc__.split("\n", 1)[1],
-        formatter_class=argparse.RawDescriptionHelpFormatter,
-    )
-    parser.add_argument("model")
-    parser.add_argument("design", nargs="?")
-    parser.add_argument("--gap", type=float, default=0.1)
+    parser = Parser(__doc__ + "\nA model is\n" + models.__doc__.split("\n", 1)[0].lower()[2:] + "\n" + models.__doc__.split("\n", 1)[1])
+    parser.add_argument("model", metavar="MODEL")
+    parser.add_argument("design", metavar="DESIGN", nargs="?")
+    parser.add_argument("--gap", type=positive, default=0.1)
     parser.add_argument("--keep-weights", action="store_true")
     given = parser.parse_args()
+    files.keep_apart({"MODEL": given.model}, {"DESIGN": given.design or files.STANDARD_OUTPUT})
     model = read_model(given.model)
     made = drafted(model, given.gap, given.keep_weights)
     for words in made.said + settle_words(model, made):
         say(words)
     text = text_of(made.design)
     if given.design:
-        write(given.design, text)
+        files.write(given.design, text)
     else:
         sys.stdout.write(text)
     return 0

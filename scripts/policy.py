@@ -14,13 +14,14 @@ or is printed; what was found goes to standard error.
 Where no plan keeps every limit at some corner, it names the corner and the rows to blame, and ends with status 6. Nothing rests on the solver: `generate`
 simulates the policy in whole numbers.
 """
-import argparse
 import math
 import sys
 
 from libraries import need, run
 
 need("numpy", "cvxopt")
+import files
+from arguments import Parser, positive, several, turns
 from condensed import condense, curvature
 from corners import corners_of, margin_of, multiplier_of, steps_of
 from design_text import plain, read_design
@@ -169,13 +170,14 @@ def tell(design, policy, turns):
 
 
 def main():
-    parser = argparse.ArgumentParser(description=__doc__, formatter_class=argparse.RawDescriptionHelpFormatter)
-    parser.add_argument("design")
-    parser.add_argument("policy", nargs="?")
-    parser.add_argument("--denominator", type=int)
-    parser.add_argument("--margin", type=float)
-    parser.add_argument("--turns", type=int, default=50)
+    parser = Parser(__doc__)
+    parser.add_argument("design", metavar="DESIGN")
+    parser.add_argument("policy", metavar="POLICY", nargs="?")
+    parser.add_argument("--denominator", type=several)
+    parser.add_argument("--margin", type=positive)
+    parser.add_argument("--turns", type=turns, default=50)
     given = parser.parse_args()
+    files.keep_apart({"DESIGN": given.design}, {"POLICY": given.policy or files.STANDARD_OUTPUT})
     design = read_design(given.design)
     policy = find(design, given.margin, given.denominator)
     if policy is None:
@@ -183,8 +185,7 @@ def main():
     tell(design, policy, given.turns)
     text = "".join(",".join(map(str, record)) + "\n" for record in policy)
     if given.policy:
-        with open(given.policy, "w", encoding="ascii") as file:
-            file.write(text)
+        files.write(given.policy, text)
     else:
         sys.stdout.write(text)
     return 0
