@@ -181,7 +181,7 @@ class Commands(unittest.TestCase):
         self.assertNotIn("Traceback", got.stderr)
 
     def test_help_into_a_full_disk(self):
-        names = ["explain", "refusals", "pages"] + ([] if LACKING else ["draft", "discretise", "policy", "exact_loop", "plot", "judge"])
+        names = ["explain", "refusals", "pages"] + ([] if LACKING else ["draft", "discretise", "policy", "faces", "exact_loop", "plot", "judge"])
         with open("/dev/full", "w") as full:
             for name in names:
                 self.refused(1, "No space left on device", name, "--help", stdout=full, stderr=subprocess.PIPE)
@@ -197,6 +197,7 @@ class Commands(unittest.TestCase):
         d = p["d"]
         for status, told, name, *words in (
             (2, "POLICY .* is the same file as DESIGN", "policy", d, d),
+            (2, "FACES .* is the same file as DESIGN", "faces", d, p["s"], d),
             (2, "argument --denominator: 0 is not at least 1", "policy", d, "--denominator", "0"),
             (2, "DESIGN .* is the same file as MODEL", "draft", d, d),
             (2, "argument --den: -8 is not at least 1", "discretise", d, "--den", "-8"),
