@@ -7,7 +7,6 @@
 hold at every state; what is measured is mostly far below.
 """
 import os
-import random
 import subprocess
 import sys
 import tempfile
@@ -22,17 +21,11 @@ from design_text import Design, plain, read_design
 from files import STANDARD_OUTPUT, keep_apart
 from programs import Programs
 from progress import Progress
+from states import chosen
 from texts import controller_of, kind_of, read_text
 from trajectories import slacks_of
 
 LAUNCHER = os.path.join(os.path.dirname(os.path.dirname(os.path.realpath(__file__))), "mpc")
-
-
-def chosen(design: Design, count: int, seed: int) -> list[list[int]]:
-    """Every corner, and random grid states."""
-    draw = random.Random(seed)
-    corners = [[int(v * 2**design.grid) for v in design.corner(c)] for c in range(1, 2**design.states + 1)]
-    return corners + [[draw.randint(l, h) for l, h in zip(design.lo, design.hi)] for _ in range(count)]
 
 
 def solved(controller: str, states: list[list[int]], launcher: str = LAUNCHER) -> list[str]:
