@@ -8,7 +8,9 @@ use Rattle.std.proofs.lemmas.List.Elements.{recursion_from_All}
 use Rattle.mat_int.specs.Matrix.{Matrix}
 use Rattle.qp_model.specs.problem.Range.{LiesIn}
 use Rattle.qp_model.specs.machine.Controller.{Numbers, HasShape, IsInForm}
-use Rattle.controller_file.specs.Lines.{keyed_line, row_lines, line_in, keyed_exponents, line_blocks, small}
+use Rattle.text_lines.specs.Lines.{keyed_line, line_in, small}
+use Rattle.text_lines.specs.Blocks.{row_lines}
+use Rattle.controller_file.specs.Lines.{keyed_exponents, line_blocks}
 use Rattle.controller_file.specs.Reading.{numbers_in}
 use Rattle.controller_file.proofs.Texts.{small_form}
 

@@ -1,36 +1,22 @@
 -- The lines of a controller stand as the table says.
-use Rattle.std.proofs.Common.{◌≡◌, Bor, ℕ, zero, suc, ◌+◌, ◌-◌, ◌*◌, ◌<◌, ◌≤◌, ℤ, pos, List, [], ◌∷◌, ◌++◌, length, get_or, take, drop, map, replicate, refl, sym, ap, ◌∙◌, arith}
+use Rattle.std.proofs.Common.{◌≡◌, ℕ, zero, suc, ◌+◌, ◌-◌, ◌*◌, ◌<◌, ◌≤◌, pos, List, [], ◌∷◌, length, get_or, take, drop, map, replicate, refl, sym, ap, ◌∙◌, arith}
 use Rattle.std.specs.Prelude.{All, Result, Ok, Err, IfOk, codes, ◌==◌, if◌then◌else◌}
-use Rattle.std.specs.List.{AllByRecursion}
 use Rattle.std.proofs.Math.Nat.{mul-le-mul}
-use Rattle.std.proofs.lemmas.List.{length-map, length-append, length-replicate, take_at, drop_at, drop-drop, take-map, drop-map, get_or-map, get_or-replicate}
+use Rattle.std.proofs.lemmas.List.{length-map, length-replicate, take-map, drop-map, get_or-map, get_or-replicate}
 use Rattle.std.proofs.lemmas.List.Elements.{recursion_from_All}
 use Rattle.mat_int.specs.Matrix.{Matrix}
 use Rattle.qp_model.specs.problem.Range.{LiesIn}
 use Rattle.qp_model.specs.machine.Controller.{Numbers, HasShape, IsInForm}
 use Rattle.qp_model.proofs.VersionLaws.{states_le, stages_le, limits_le}
 use Rattle.controller_file.specs.declared.table.Sizes.{Sizes}
-use Rattle.controller_file.specs.declared.line.Line.{Line}
-use Rattle.controller_file.specs.Lines.{Keyed, keyed_line, view, views, line_in, row_lines, line_blocks, keyed_lines, chained, Place, place, place_of}
-use Rattle.controller_file.specs.Table.{Block, block_places, text_table, spread, places, sizes_of, AreSmall, Says, block_at, total_rows}
-use Rattle.controller_file.proofs.Chained.{map_chained}
-
--- ---- a line in its place
-
-pub key_is : (l : Keyed) (key : List ℕ) (count : ℕ) → place_of l ≡ place key count → l ≡ keyed_line key l.numbers
-key_is l key count e = let same : l.key ≡ key = ap (λ (p : Place). p.key) e in (λ i. keyed_line (same i) l.numbers)
-
-pub count_is : (l : Keyed) (key : List ℕ) (count : ℕ) → place_of l ≡ place key count → length l.numbers ≡ count
-count_is l key count e = ap (λ (p : Place). p.count) e
-
--- ---- the blocks
-
-rows_placed : (key : List ℕ) (cols : ℕ) (rows : List (List ℤ)) → AllByRecursion (λ row. length row ≡ cols) rows → map place_of (row_lines key rows) ≡ replicate (length rows) (place key cols)
-rows_placed key cols [] h = refl
-rows_placed key cols (row ∷ rows) h =
-    let first = h.0 in
-    let others = rows_placed key cols rows h.1 in
-    (λ i. place key (first i) ∷ others i)
+use Rattle.text_lines.specs.declared.line.Line.{Line}
+use Rattle.text_lines.specs.Lines.{Keyed, keyed_line, view, views, line_in, Place, place, place_of}
+use Rattle.text_lines.specs.Blocks.{row_lines, chained, seen, Row}
+use Rattle.controller_file.specs.Lines.{line_blocks, keyed_lines}
+use Rattle.text_lines.specs.Blocks.{Block, block_places, total_rows}
+use Rattle.controller_file.specs.Table.{text_table, places, sizes_of, AreSmall, Says, block_at}
+use Rattle.text_lines.proofs.Chained.{map_chained}
+use Rattle.text_lines.proofs.Blocks.{block_is, rows_more, rows_placed, rows_up_to, lengths_from, spread_length, no_row}
 
 matrix_placed : (key : List ℕ) (height breadth : ℕ) (a : Matrix) → HasShape a height breadth → map place_of (row_lines key a.rows) ≡ replicate height (place key breadth)
 matrix_placed key height breadth a h = rows_placed key breadth a.rows (recursion_from_All (λ row. length row ≡ breadth) a.rows h.each) ∙ ap (λ (n : ℕ). replicate n (place key breadth)) h.rows
@@ -57,21 +43,8 @@ lines_placed c form = map_chained place_of (line_blocks c) ∙ ap chained (block
 
 -- ---- how many lines there are
 
-lengths_from : (bs : List (List Keyed)) (ts : List Block) → map (map place_of) bs ≡ map block_places ts → map length bs ≡ map (λ t. t.1) ts
-lengths_from [] [] e = refl
-lengths_from [] (t ∷ ts) e = absurd cc
-lengths_from (b ∷ bs) [] e = absurd cc
-lengths_from (b ∷ bs) (t ∷ ts) e =
-    let first : length b ≡ t.1 = sym (length-map b place_of) ∙ ap (λ (ps : List (List Place)). length (get_or ps 0 [])) e ∙ length-replicate t.1 (place t.0 t.2) in
-    let others = lengths_from bs ts (ap (drop 1) e) in
-    (λ i. first i ∷ others i)
-
 pub block_lengths : (c : Numbers) → IsInForm c → map length (line_blocks c) ≡ map (λ t. t.1) (text_table (sizes_of c))
 block_lengths c form = lengths_from (line_blocks c) (text_table (sizes_of c)) (blocks_placed c form)
-
-spread_length : (ts : List Block) → length (spread ts) ≡ total_rows ts
-spread_length [] = refl
-spread_length (t ∷ ts) = length-append (block_places t) (spread ts) ∙ (λ i. length-replicate t.1 (place t.0 t.2) i + spread_length ts i)
 
 pub sizes_small : (c : Numbers) → IsInForm c → AreSmall (sizes_of c)
 sizes_small c form = record { version = form.sized.version.1; n = states_le c form.sized; p = form.sized.inputs.1; stages = stages_le c form.sized; m = limits_le c form.sized }
@@ -86,26 +59,6 @@ pub few_lines : (c : Numbers) → IsInForm c → length (keyed_lines c) ≤ 936
 few_lines c form = omega (arith, line_count c form, few_rows (sizes_of c) (sizes_small c form))
 
 -- ---- the lines of a block
-
--- a block more
-pub rows_more : (ts : List Block) (i : ℕ) (d : Block) → i < length ts → total_rows (take (suc i) ts) ≡ total_rows (take i ts) + (get_or ts i d).1
-rows_more [] i d lt = absurd (omega (arith, lt))
-rows_more (t ∷ ts) zero d lt = omega arith
-rows_more (t ∷ ts) (suc i) d lt = omega (arith, rows_more ts i d (omega (arith, lt)))
-
-pub rows_up_to : (ts : List Block) (i : ℕ) → total_rows (take i ts) ≤ total_rows ts
-rows_up_to ts zero = omega arith
-rows_up_to [] (suc i) = omega arith
-rows_up_to (t ∷ ts) (suc i) = omega (arith, rows_up_to ts i)
-
-block_is : {X : Type 0} (bs : List (List X)) (ts : List Block) (k : ℕ) (d : Block) → map length bs ≡ map (λ t. t.1) ts → k < length ts → take (get_or ts k d).1 (drop (total_rows (take k ts)) (chained bs)) ≡ get_or bs k []
-block_is bs [] k d e lt = absurd (omega (arith, lt))
-block_is [] (t ∷ ts) k d e lt = absurd (cc e)
-block_is (b ∷ bs) (t ∷ ts) zero d e lt = take_at b (chained bs) t.1 (ap (λ (ns : List ℕ). get_or ns 0 0) e)
-block_is (b ∷ bs) (t ∷ ts) (suc k) d e lt =
-    let len : length b ≡ t.1 = ap (λ (ns : List ℕ). get_or ns 0 0) e in
-    let rest : drop (t.1 + total_rows (take k ts)) (b ++ chained bs) ≡ drop (total_rows (take k ts)) (chained bs) = sym (drop-drop (total_rows (take k ts)) t.1 (b ++ chained bs)) ∙ ap (drop (total_rows (take k ts))) (drop_at b (chained bs) t.1 len) in
-    ap (take (get_or ts k d).1) rest ∙ block_is bs ts k d (ap (drop 1) e) (omega (arith, lt))
 
 -- the lines in the place of a block are those of the block
 pub block_there : (c : Numbers) (z : Sizes) (k : ℕ) (d : Block) → IsInForm c → sizes_of c ≡ z → k < 16 → take (get_or (text_table z) k d).1 (drop (total_rows (take k (text_table z))) (keyed_lines c)) ≡ get_or (line_blocks c) k []
@@ -141,16 +94,6 @@ said_sizes ls z c e says =
     same_sizes c z (cc one) (ap (λ (ms : List Keyed). line_in ms 1) e ∙ says.sizes long)
 
 -- ---- as the code has them
-
--- a block of the table
-abbrev pub Row : Type 0
-Row = Bor (List ℕ) × ℕ × ℕ
-
-abbrev pub seen : List Row → List Block
-seen bs = map (λ b. (b.0.now, b.1, b.2)) bs
-
-abbrev pub no_row : Row
-no_row = (record { ref_ptr = (0, 0); now = [] }, 0, 0)
 
 pub row_at : (rs : List Row) (z : Sizes) (k : ℕ) → seen rs ≡ text_table z → k < 16 → ((get_or rs k no_row).0.now ≡ (block_at z k).0) × ((get_or rs k no_row).1 ≡ (block_at z k).1) × ((get_or rs k no_row).2 ≡ (block_at z k).2)
 row_at rs z k e lt =

@@ -11,9 +11,13 @@ use Rattle.qp_model.specs.problem.Limits.{most_states, most_stages, most_rows}
 use Rattle.qp_model.specs.problem.Range.{LiesIn, IsNumerator}
 use Rattle.qp_model.specs.machine.Controller.{Numbers, plan_length, HasShape, IsInForm, FitsWord}
 use Rattle.controller_file.specs.declared.table.Sizes.{Sizes}
-use Rattle.controller_file.specs.Lines.{Keyed, keyed_line, row_lines, keyed_exponents, keyed_lines, chained, place, place_of}
-use Rattle.controller_file.specs.Following.{IsBeginning, IsFrom, AreSizes, AreBits, AreUpper}
-use Rattle.controller_file.proofs.Blocks.{key_is, count_is, block_lengths}
+use Rattle.text_lines.specs.Lines.{Keyed, keyed_line, place, place_of}
+use Rattle.text_lines.specs.Blocks.{row_lines, chained}
+use Rattle.controller_file.specs.Lines.{keyed_exponents, keyed_lines}
+use Rattle.text_lines.specs.Grammar.{IsBeginning}
+use Rattle.controller_file.specs.Following.{IsFrom, AreSizes, AreBits, AreUpper, IsWhole}
+use Rattle.text_lines.proofs.Blocks.{key_is, count_is}
+use Rattle.controller_file.proofs.Blocks.{block_lengths}
 use Rattle.controller_file.proofs.Beginnings.{grown, front_is, parted}
 use Rattle.controller_file.proofs.Blank.{same_le, blank, blank_form, blank_fits, all_same}
 
@@ -143,19 +147,19 @@ abbrev relisted : Numbers → Numbers → Numbers
 relisted c d = record (resized c d) { state_gains = c.state_gains; offsets = c.offsets; dual_gains = c.dual_gains; plan_rows = c.plan_rows; state_rows = c.state_rows; bounds = c.bounds }
 
 -- one line more, where only the head, the exponents and the bounds of the states are others
-changed : (ls : List Keyed) (l : Keyed) (b : IsBeginning ls) (d : Numbers) (rest : List Keyed) → HasHead d → HasExponents (relisted b.numbers d) → HasBox (relisted b.numbers d)
-    → keyed_lines (relisted b.numbers d) ≡ ls ++ (l ∷ rest) → IsBeginning (ls ++ l ∷ [])
+changed : (ls : List Keyed) (l : Keyed) (b : IsBeginning IsWhole ls) (d : Numbers) (rest : List Keyed) → HasHead d → HasExponents (relisted b.whole.numbers d) → HasBox (relisted b.whole.numbers d)
+    → keyed_lines (relisted b.whole.numbers d) ≡ ls ++ (l ∷ rest) → IsBeginning IsWhole (ls ++ l ∷ [])
 changed ls l b d rest head exps box e =
-    let c = relisted b.numbers d in
-    let h = b.form.sized.shaped in
+    let c = relisted b.whole.numbers d in
+    let h = b.whole.form.sized.shaped in
     let lists : HasLists c = (h.state_gains, h.offsets, h.dual_gains, h.plan_rows, h.state_rows, h.bounds) in
-    let w = b.word in
+    let w = b.whole.word in
     let word : FitsWord c = record { state_gains = w.state_gains; offsets = w.offsets; dual_gains = w.dual_gains; plan_rows = w.plan_rows; state_rows = w.state_rows; bounds = w.bounds } in
-    grown ls l c rest (resized_form b.numbers c b.form head exps box lists) word e
+    grown ls l c rest (resized_form b.whole.numbers c b.whole.form head exps box lists) word e
 
 -- ---- the head
 
-pub version_follows : (ls : List Keyed) (l : Keyed) → IsBeginning ls → length ls ≡ 0 → place_of l ≡ place (codes "mpc-controller") 1 → IsFrom (pos 1) (pos 2) (at l.numbers 0) → IsBeginning (ls ++ l ∷ [])
+pub version_follows : (ls : List Keyed) (l : Keyed) → IsBeginning IsWhole ls → length ls ≡ 0 → place_of l ≡ place (codes "mpc-controller") 1 → IsFrom (pos 1) (pos 2) (at l.numbers 0) → IsBeginning IsWhole (ls ++ l ∷ [])
 version_follows ls l b len p h =
     let v = natural_from 1 2 (at l.numbers 0) h in
     let states : LiesIn 1 (most_states v.0) 1 = (omega arith, grind (arith, nat_tests)) in
@@ -166,9 +170,9 @@ version_follows ls l b len p h =
     let last = sym (one_is l (codes "mpc-controller") (pos v.0) p v.1) in
     grown ls l d (drop 1 (keyed_lines d)) form (blank_fits v.0 1 1 1 1) (λ i. front i ++ (last i ∷ drop 1 (keyed_lines d)))
 
-pub size_follows : (ls : List Keyed) (l : Keyed) (z : Sizes) → (b : IsBeginning ls) → b.numbers.version ≡ z.version → length ls ≡ 1 → place_of l ≡ place (codes "size") 4 → AreSizes z.version (at l.numbers 0) (at l.numbers 1) (at l.numbers 2) (at l.numbers 3) → IsBeginning (ls ++ l ∷ [])
+pub size_follows : (ls : List Keyed) (l : Keyed) (z : Sizes) → (b : IsBeginning IsWhole ls) → b.whole.numbers.version ≡ z.version → length ls ≡ 1 → place_of l ≡ place (codes "size") 4 → AreSizes z.version (at l.numbers 0) (at l.numbers 1) (at l.numbers 2) (at l.numbers 3) → IsBeginning IsWhole (ls ++ l ∷ [])
 size_follows ls l z b same len p h =
-    let v = b.numbers.version in
+    let v = b.whole.numbers.version in
     let sizes = subst (λ (n : ℕ). AreSizes n (at l.numbers 0) (at l.numbers 1) (at l.numbers 2) (at l.numbers 3)) (sym same) h in
     let n = natural_from 1 (most_states v) (at l.numbers 0) sizes.0 in
     let inputs = natural_from 1 3 (at l.numbers 1) sizes.1 in
@@ -177,12 +181,12 @@ size_follows ls l z b same len p h =
     let d = blank v n.0 inputs.0 stages.0 m.0 in
     let front = front_is ls b 1 len in
     let last = sym (four_is l (codes "size") (pos n.0) (pos inputs.0) (pos stages.0) (pos m.0) p n.1 inputs.1 stages.1 m.1) in
-    grown ls l d (drop 2 (keyed_lines d)) (blank_form v n.0 inputs.0 stages.0 m.0 b.form.sized.version n.2 inputs.2 stages.2 m.2) (blank_fits v n.0 inputs.0 stages.0 m.0) (λ i. front i ++ (last i ∷ drop 2 (keyed_lines d)))
+    grown ls l d (drop 2 (keyed_lines d)) (blank_form v n.0 inputs.0 stages.0 m.0 b.whole.form.sized.version n.2 inputs.2 stages.2 m.2) (blank_fits v n.0 inputs.0 stages.0 m.0) (λ i. front i ++ (last i ∷ drop 2 (keyed_lines d)))
 
-pub bits_follow : (ls : List Keyed) (l : Keyed) → IsBeginning ls → length ls ≡ 2 → place_of l ≡ place (codes "bits") 4 → AreBits (at l.numbers 0) (at l.numbers 1) (at l.numbers 2) (at l.numbers 3) → IsBeginning (ls ++ l ∷ [])
+pub bits_follow : (ls : List Keyed) (l : Keyed) → IsBeginning IsWhole ls → length ls ≡ 2 → place_of l ≡ place (codes "bits") 4 → AreBits (at l.numbers 0) (at l.numbers 1) (at l.numbers 2) (at l.numbers 3) → IsBeginning IsWhole (ls ++ l ∷ [])
 bits_follow ls l b len p h =
-    let c = b.numbers in
-    let sized = b.form.sized in
+    let c = b.whole.numbers in
+    let sized = b.whole.form.sized in
     let g = natural_from 0 24 (at l.numbers 1) h.0 in
     let f = natural_from g.0 48 (at l.numbers 0) (subst (λ (z : ℤ). IsFrom z (pos 48) (at l.numbers 0)) g.1 h.1) in
     let s = natural_from 0 40 (at l.numbers 2) h.2 in
@@ -191,33 +195,33 @@ bits_follow ls l b len p h =
     let even : HasExponents d = (length-replicate c.rows s.0, all_same (λ e. e ≤ s.0) s.0 (omega arith) c.rows, λ first. refl) in
     let front = front_is ls b 2 len in
     let last = sym (four_is l (codes "bits") (pos f.0) (pos g.0) (pos s.0) (pos w.0) p f.1 g.1 s.1 w.1) in
-    changed ls l b d (drop 3 (keyed_lines d)) (g.2.1, f.2, s.2.1, w.2, sized.steps, sized.clamp_low, sized.clamp_high) even (own_box c b.form) (λ i. front i ++ (last i ∷ drop 3 (keyed_lines d)))
+    changed ls l b d (drop 3 (keyed_lines d)) (g.2.1, f.2, s.2.1, w.2, sized.steps, sized.clamp_low, sized.clamp_high) even (own_box c b.whole.form) (λ i. front i ++ (last i ∷ drop 3 (keyed_lines d)))
 
-pub steps_follow : (ls : List Keyed) (l : Keyed) → IsBeginning ls → length ls ≡ 3 → place_of l ≡ place (codes "steps") 1 → IsFrom (pos 1) (pos 4194304) (at l.numbers 0) → IsBeginning (ls ++ l ∷ [])
+pub steps_follow : (ls : List Keyed) (l : Keyed) → IsBeginning IsWhole ls → length ls ≡ 3 → place_of l ≡ place (codes "steps") 1 → IsFrom (pos 1) (pos 4194304) (at l.numbers 0) → IsBeginning IsWhole (ls ++ l ∷ [])
 steps_follow ls l b len p h =
-    let c = b.numbers in
-    let own = own_head c b.form in
+    let c = b.whole.numbers in
+    let own = own_head c b.whole.form in
     let steps = natural_from 1 4194304 (at l.numbers 0) h in
     let d = record c { steps = steps.0 } in
     let front = front_is ls b 3 len in
     let last = sym (one_is l (codes "steps") (pos steps.0) p steps.1) in
-    changed ls l b d (drop 4 (keyed_lines d)) (own.0, own.1, own.2, own.3, steps.2, own.5, own.6) (own_exponents c b.form) (own_box c b.form) (λ i. front i ++ (last i ∷ drop 4 (keyed_lines d)))
+    changed ls l b d (drop 4 (keyed_lines d)) (own.0, own.1, own.2, own.3, steps.2, own.5, own.6) (own_exponents c b.whole.form) (own_box c b.whole.form) (λ i. front i ++ (last i ∷ drop 4 (keyed_lines d)))
 
-pub clamp_follows : (ls : List Keyed) (l : Keyed) → IsBeginning ls → length ls ≡ 4 → place_of l ≡ place (codes "clamp") 1 → IsFrom (pos 0) (pos (2 ^ 126)) (at l.numbers 0) → IsBeginning (ls ++ l ∷ [])
+pub clamp_follows : (ls : List Keyed) (l : Keyed) → IsBeginning IsWhole ls → length ls ≡ 4 → place_of l ≡ place (codes "clamp") 1 → IsFrom (pos 0) (pos (2 ^ 126)) (at l.numbers 0) → IsBeginning IsWhole (ls ++ l ∷ [])
 clamp_follows ls l b len p h =
-    let c = b.numbers in
-    let own = own_head c b.form in
+    let c = b.whole.numbers in
+    let own = own_head c b.whole.form in
     let d = record c { clamp = at l.numbers 0 } in
     let front = front_is ls b 4 len in
     let last = sym (one_is l (codes "clamp") d.clamp p refl) in
-    changed ls l b d (drop 5 (keyed_lines d)) (own.0, own.1, own.2, own.3, own.4, h.least, h.greatest) (own_exponents c b.form) (own_box c b.form) (λ i. front i ++ (last i ∷ drop 5 (keyed_lines d)))
+    changed ls l b d (drop 5 (keyed_lines d)) (own.0, own.1, own.2, own.3, own.4, h.least, h.greatest) (own_exponents c b.whole.form) (own_box c b.whole.form) (λ i. front i ++ (last i ∷ drop 5 (keyed_lines d)))
 
-pub words_follow : (ls : List Keyed) (l : Keyed) (b : IsBeginning ls) → length ls ≡ 5 → place_of l ≡ place (codes "words") 1 → at l.numbers 0 ≡ pos b.numbers.words → IsBeginning (ls ++ l ∷ [])
+pub words_follow : (ls : List Keyed) (l : Keyed) (b : IsBeginning IsWhole ls) → length ls ≡ 5 → place_of l ≡ place (codes "words") 1 → at l.numbers 0 ≡ pos b.whole.numbers.words → IsBeginning IsWhole (ls ++ l ∷ [])
 words_follow ls l b len p h =
-    let c = b.numbers in
+    let c = b.whole.numbers in
     let front = front_is ls b 5 len in
     let last = sym (one_is l (codes "words") (pos c.words) p h) in
-    grown ls l c (drop 6 (keyed_lines c)) b.form b.word (λ i. front i ++ (last i ∷ drop 6 (keyed_lines c)))
+    grown ls l c (drop 6 (keyed_lines c)) b.whole.form b.whole.word (λ i. front i ++ (last i ∷ drop 6 (keyed_lines c)))
 
 -- ---- the exponents
 
@@ -234,34 +238,34 @@ naturals_from s (z ∷ zs) h =
 pub exponent_line : (c : Numbers) → c.version ≡ 2 → keyed_exponents c ≡ keyed_line (codes "exps") (map pos c.exponents) ∷ []
 exponent_line c second = ap (λ (v : ℕ). if v == 1 then [] else keyed_line (codes "exps") (map pos c.exponents) ∷ []) second
 
-pub exponents_follow : (ls : List Keyed) (l : Keyed) (b : IsBeginning ls) → b.numbers.version ≡ 2 → length ls ≡ 6 → place_of l ≡ place (codes "exps") b.numbers.rows → All (IsFrom (pos 0) (pos b.numbers.step_exponent)) l.numbers → IsBeginning (ls ++ l ∷ [])
+pub exponents_follow : (ls : List Keyed) (l : Keyed) (b : IsBeginning IsWhole ls) → b.whole.numbers.version ≡ 2 → length ls ≡ 6 → place_of l ≡ place (codes "exps") b.whole.numbers.rows → All (IsFrom (pos 0) (pos b.whole.numbers.step_exponent)) l.numbers → IsBeginning IsWhole (ls ++ l ∷ [])
 exponents_follow ls l b second len p h =
-    let c = b.numbers in
+    let c = b.whole.numbers in
     let es = naturals_from c.step_exponent l.numbers (recursion_from_All (IsFrom (pos 0) (pos c.step_exponent)) l.numbers h) in
     let d = record c { exponents = es.0 } in
     let long : length es.0 ≡ c.rows = sym (length-map es.0 pos) ∙ ap length (sym es.1) ∙ count_is l (codes "exps") c.rows p in
     let are : HasExponents d = (long, All-from_recursion (λ e. e ≤ c.step_exponent) es.0 es.2, λ first. absurd (omega (arith, first, second))) in
     let front = front_is ls b 6 len in
     let last : keyed_exponents d ≡ l ∷ [] = exponent_line d second ∙ ap (λ (zs : List ℤ). keyed_line (codes "exps") zs ∷ []) (sym es.1) ∙ ap (λ (k : Keyed). k ∷ []) (sym (key_is l (codes "exps") c.rows p)) in
-    changed ls l b d (list_lines d) (own_head c b.form) are (own_box c b.form) (λ i. front i ++ (last i ++ list_lines d))
+    changed ls l b d (list_lines d) (own_head c b.whole.form) are (own_box c b.whole.form) (λ i. front i ++ (last i ++ list_lines d))
 
 -- ---- the box
 
-pub low_follows : (ls : List Keyed) (l : Keyed) (b : IsBeginning ls) → length ls ≡ 5 + b.numbers.version → place_of l ≡ place (codes "lo") b.numbers.states → All IsNumerator l.numbers → IsBeginning (ls ++ l ∷ [])
+pub low_follows : (ls : List Keyed) (l : Keyed) (b : IsBeginning IsWhole ls) → length ls ≡ 5 + b.whole.numbers.version → place_of l ≡ place (codes "lo") b.whole.numbers.states → All IsNumerator l.numbers → IsBeginning IsWhole (ls ++ l ∷ [])
 low_follows ls l b len p h =
-    let c = b.numbers in
+    let c = b.whole.numbers in
     let d = record c { low = l.numbers; high = l.numbers } in
     let count : length l.numbers ≡ c.states = count_is l (codes "lo") c.states p in
-    let front = (parted ls b (first_lines c) (list_lines c) refl (len ∙ sym (first_count c b.form))).0 in
+    let front = (parted ls b (first_lines c) (list_lines c) refl (len ∙ sym (first_count c b.whole.form))).0 in
     let last = sym (key_is l (codes "lo") c.states p) in
-    changed ls l b d (drop 1 (list_lines d)) (own_head c b.form) (own_exponents c b.form) (count, count, h, h, λ i lt. same_le (at l.numbers i)) (λ i. front i ++ (last i ∷ drop 1 (list_lines d)))
+    changed ls l b d (drop 1 (list_lines d)) (own_head c b.whole.form) (own_exponents c b.whole.form) (count, count, h, h, λ i lt. same_le (at l.numbers i)) (λ i. front i ++ (last i ∷ drop 1 (list_lines d)))
 
-pub high_follows : (ls : List Keyed) (l : Keyed) (b : IsBeginning ls) → length ls ≡ 6 + b.numbers.version → place_of l ≡ place (codes "hi") b.numbers.states → AreUpper l.numbers b.numbers.low → IsBeginning (ls ++ l ∷ [])
+pub high_follows : (ls : List Keyed) (l : Keyed) (b : IsBeginning IsWhole ls) → length ls ≡ 6 + b.whole.numbers.version → place_of l ≡ place (codes "hi") b.whole.numbers.states → AreUpper l.numbers b.whole.numbers.low → IsBeginning IsWhole (ls ++ l ∷ [])
 high_follows ls l b len p h =
-    let c = b.numbers in
-    let sized = b.form.sized in
+    let c = b.whole.numbers in
+    let sized = b.whole.form.sized in
     let d = record c { high = l.numbers } in
     let box : HasBox d = (sized.shaped.low, count_is l (codes "hi") c.states p, sized.low, h.1.numbers, λ i lt. h.1.box i (omega (arith, lt, sized.shaped.low))) in
-    let front = (parted ls b (up_to 1 c) (drop 1 (list_lines c)) (split_at 1 c) (omega (arith, len, count_to 1 c b.form (omega arith)))).0 in
+    let front = (parted ls b (up_to 1 c) (drop 1 (list_lines c)) (split_at 1 c) (omega (arith, len, count_to 1 c b.whole.form (omega arith)))).0 in
     let last = sym (key_is l (codes "hi") c.states p) in
-    changed ls l b d (drop 2 (list_lines d)) (own_head c b.form) (own_exponents c b.form) box (split_at 1 d ∙ (λ i. front i ++ (last i ∷ drop 2 (list_lines d))))
+    changed ls l b d (drop 2 (list_lines d)) (own_head c b.whole.form) (own_exponents c b.whole.form) box (split_at 1 d ∙ (λ i. front i ++ (last i ∷ drop 2 (list_lines d))))

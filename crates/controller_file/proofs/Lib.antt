@@ -1,19 +1,14 @@
 -- The lemmas by topic.
 
--- ---- lines cut into words, and lists of lines
-pub mod Cuts
-pub mod Chained
+-- ---- the lines of a controller and its table
 pub mod Blocks
-pub mod Spread
 -- ---- the text of a controller, and what is read of it
 pub mod Texts
 pub mod Again
 pub mod Uniqueness
-pub mod Pushed
--- ---- which line can follow, and the first line at which bytes are no text
-pub mod Beginnings
+-- ---- which line can follow
 pub mod Blank
+pub mod Beginnings
 pub mod HeadLines
 pub mod ListLines
 pub mod Follows
-pub mod FirstLines

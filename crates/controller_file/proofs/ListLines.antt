@@ -7,14 +7,19 @@ use Rattle.std.proofs.lemmas.List.Elements.{All-from_recursion, recursion_from_A
 use Rattle.mat_int.specs.Matrix.{Matrix}
 use Rattle.qp_model.specs.machine.Controller.{Numbers, plan_length, HasShape, IsInForm, FitsWord}
 use Rattle.controller_file.specs.declared.table.Sizes.{Sizes}
-use Rattle.controller_file.specs.Lines.{Keyed, keyed_line, row_lines, Fits, chained, keyed_lines, Place, place, place_of}
-use Rattle.controller_file.specs.Table.{text_table, spread, places, sizes_of, Says}
-use Rattle.controller_file.specs.Following.{IsBeginning}
-use Rattle.controller_file.proofs.Chained.{all_append, all_parts, map_chained}
-use Rattle.controller_file.proofs.Blocks.{same_sizes, key_is, count_is, blocks_placed, lines_placed}
+use Rattle.text_lines.specs.Lines.{Keyed, keyed_line, Fits, Place, place, place_of}
+use Rattle.text_lines.specs.Blocks.{row_lines, chained}
+use Rattle.controller_file.specs.Lines.{keyed_lines}
+use Rattle.controller_file.specs.Table.{text_table, places, sizes_of, Says}
+use Rattle.text_lines.specs.Blocks.{spread}
+use Rattle.text_lines.specs.Grammar.{IsBeginning}
+use Rattle.text_lines.proofs.Chained.{all_append, all_parts, map_chained}
+use Rattle.text_lines.proofs.Blocks.{key_is, count_is}
+use Rattle.controller_file.proofs.Blocks.{same_sizes, blocks_placed, lines_placed}
 use Rattle.controller_file.proofs.Beginnings.{grown, line_is, parted}
 use Rattle.controller_file.proofs.HeadLines.{own_head, own_exponents, own_box, resized_form, tail_lines, up_to, split_at, count_to}
 use Rattle.controller_file.proofs.Texts.{good_lines, fits_word}
+use Rattle.controller_file.specs.Following.{IsWhole}
 
 -- ---- their places
 
@@ -150,19 +155,19 @@ at_line (f ∷ front) more l (suc i) len = at_line front more l i (omega (arith,
 
 -- ---- the sizes
 
-pub version_is : (ls : List Keyed) (b : IsBeginning ls) (z : Sizes) → 0 < length ls → Says ls z → b.numbers.version ≡ z.version
+pub version_is : (ls : List Keyed) (b : IsBeginning IsWhole ls) (z : Sizes) → 0 < length ls → Says ls z → b.whole.numbers.version ≡ z.version
 version_is ls b z lt says =
-    let one : pos b.numbers.version ∷ [] ≡ pos z.version ∷ [] = ap (λ (k : Keyed). k.numbers) (line_is ls b 0 lt) ∙ says.version lt in
+    let one : pos b.whole.numbers.version ∷ [] ≡ pos z.version ∷ [] = ap (λ (k : Keyed). k.numbers) (line_is ls b 0 lt) ∙ says.version lt in
     cc one
 
-pub sizes_are : (ls : List Keyed) (b : IsBeginning ls) (z : Sizes) → 1 < length ls → Says ls z → sizes_of b.numbers ≡ z
+pub sizes_are : (ls : List Keyed) (b : IsBeginning IsWhole ls) (z : Sizes) → 1 < length ls → Says ls z → sizes_of b.whole.numbers ≡ z
 sizes_are ls b z lt says =
-    let c = b.numbers in
+    let c = b.whole.numbers in
     let four : pos c.states ∷ pos c.inputs ∷ pos c.stages ∷ pos c.rows ∷ [] ≡ pos z.n ∷ pos z.p ∷ pos z.stages ∷ pos z.m ∷ [] = ap (λ (k : Keyed). k.numbers) (line_is ls b 1 lt) ∙ says.sizes lt in
     same_sizes c z (version_is ls b z (omega (arith, lt)) says) four
 
-pub places_are : (ls : List Keyed) (b : IsBeginning ls) (z : Sizes) → 1 < length ls → Says ls z → map place_of (ls ++ b.more) ≡ places z
-places_are ls b z lt says = ap (map place_of) (sym b.lines) ∙ lines_placed b.numbers b.form ∙ ap places (sizes_are ls b z lt says)
+pub places_are : (ls : List Keyed) (b : IsBeginning IsWhole ls) (z : Sizes) → 1 < length ls → Says ls z → map place_of (ls ++ b.more) ≡ places z
+places_are ls b z lt says = ap (map place_of) (sym b.whole.lines) ∙ lines_placed b.whole.numbers b.whole.form ∙ ap places (sizes_are ls b z lt says)
 
 -- ---- one line more
 
@@ -175,24 +180,24 @@ fits_swapped ls a l more c form word e fits =
     all_append Fits ls (l ∷ more) parts.0 (fits, parts.1.1)
 
 -- where another line stands in a text in form, one with the same word and count can stand
-swapped : (ls : List Keyed) (b : IsBeginning ls) (l a : Keyed) (others : List Keyed) → 7 + b.numbers.version ≤ length ls → Fits l → b.more ≡ a ∷ others → place_of a ≡ place_of l → IsBeginning (ls ++ l ∷ [])
+swapped : (ls : List Keyed) (b : IsBeginning IsWhole ls) (l a : Keyed) (others : List Keyed) → 7 + b.whole.numbers.version ≤ length ls → Fits l → b.more ≡ a ∷ others → place_of a ≡ place_of l → IsBeginning IsWhole (ls ++ l ∷ [])
 swapped ls b l a others le fits split place =
-    let c = b.numbers in
+    let c = b.whole.numbers in
     let k = 7 + c.version in
     let front = drop k ls in
-    let begun_lines = b.lines ∙ ap (λ (ms : List Keyed). ms ++ b.more) (sym (take-append-drop k ls)) ∙ append_assoc (take k ls) front b.more in
-    let begun : IsBeginning (take k ls) = record { numbers = c; form = b.form; word = b.word; more = front ++ b.more; lines = begun_lines } in
-    let parts = parted (take k ls) begun (up_to 2 c) (tail_lines c) (split_at 2 c) (omega (arith, length-take-le k ls le, count_to 2 c b.form (omega arith))) in
+    let begun_lines = b.whole.lines ∙ ap (λ (ms : List Keyed). ms ++ b.more) (sym (take-append-drop k ls)) ∙ append_assoc (take k ls) front b.more in
+    let begun : IsBeginning IsWhole (take k ls) = record { more = front ++ b.more; whole = record { numbers = c; form = b.whole.form; word = b.whole.word; lines = begun_lines } } in
+    let parts = parted (take k ls) begun (up_to 2 c) (tail_lines c) (split_at 2 c) (omega (arith, length-take-le k ls le, count_to 2 c b.whole.form (omega arith))) in
     let tail : tail_lines c ≡ front ++ (a ∷ others) = parts.1 ∙ ap (λ (ms : List Keyed). front ++ ms) split in
     let same : map place_of (front ++ (l ∷ others)) ≡ map place_of (front ++ (a ∷ others)) =
     map-append place_of front (l ∷ others) ∙ ap (λ (x : Place). map place_of front ++ (x ∷ map place_of others)) (sym place) ∙ sym (map-append place_of front (a ∷ others)) in
-    let d = remade c (front ++ (l ∷ others)) b.form (same ∙ sym (ap (map place_of) tail) ∙ tail_placed c b.form) in
+    let d = remade c (front ++ (l ∷ others)) b.whole.form (same ∙ sym (ap (map place_of) tail) ∙ tail_placed c b.whole.form) in
     let lines : keyed_lines d.numbers ≡ ls ++ (l ∷ others) =
     d.lines ∙ ap (λ (ms : List Keyed). ms ++ (front ++ (l ∷ others))) parts.0 ∙ sym (append_assoc (take k ls) front (l ∷ others)) ∙ ap (λ (ms : List Keyed). ms ++ (l ∷ others)) (take-append-drop k ls) in
-    let all = All-from_recursion Fits (ls ++ (l ∷ others)) (fits_swapped ls a l others c b.form b.word (b.lines ∙ ap (λ (ms : List Keyed). ls ++ ms) split) fits) in
+    let all = All-from_recursion Fits (ls ++ (l ∷ others)) (fits_swapped ls a l others c b.whole.form b.whole.word (b.whole.lines ∙ ap (λ (ms : List Keyed). ls ++ ms) split) fits) in
     grown ls l d.numbers others d.form (fits_word d.numbers (subst (λ (ms : List Keyed). All Fits ms) (sym lines) all)) lines
 
-pub list_follows : (ls : List Keyed) (l : Keyed) (z : Sizes) (b : IsBeginning ls) → 7 + b.numbers.version ≤ length ls → Says ls z → Fits l → slice_get (places z) (length ls) ≡ Some (place_of l) → IsBeginning (ls ++ l ∷ [])
+pub list_follows : (ls : List Keyed) (l : Keyed) (z : Sizes) (b : IsBeginning IsWhole ls) → 7 + b.whole.numbers.version ≤ length ls → Says ls z → Fits l → slice_get (places z) (length ls) ≡ Some (place_of l) → IsBeginning IsWhole (ls ++ l ∷ [])
 list_follows ls l z b le says fits h =
     let at = line_at ls b.more (length ls) (place_of l) refl (ap (λ (ps : List Place). slice_get ps (length ls)) (places_are ls b z (omega (arith, le)) says) ∙ h) in
     swapped ls b l at.first at.others le fits at.split at.place

@@ -13,9 +13,11 @@ use Rattle.qp_model.specs.problem.Range.{IsNumerator}
 use Rattle.number_text.specs.Lines.{line_of, text_of}
 use Rattle.qp_model.specs.machine.Controller.{Numbers, IsInForm, FitsWord}
 use Rattle.qp_model.specs.text.ControllerText.{controller_lines, controller_text}
-use Rattle.controller_file.specs.Lines.{Keyed, keyed_line, spelled, Fits, IsKeyedLine, row_lines, line_blocks, keyed_lines}
+use Rattle.text_lines.specs.Lines.{Keyed, keyed_line, spelled, Fits, IsKeyedLine}
+use Rattle.text_lines.specs.Blocks.{row_lines}
+use Rattle.controller_file.specs.Lines.{line_blocks, keyed_lines}
 use Rattle.controller_file.specs.Table.{AreSmall}
-use Rattle.controller_file.proofs.Chained.{all_chained, all_blocks, map_chained}
+use Rattle.text_lines.proofs.Chained.{all_chained, all_blocks, map_chained}
 use Rattle.controller_file.proofs.Blocks.{sizes_small}
 
 -- ---- the text

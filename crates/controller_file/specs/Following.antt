@@ -1,39 +1,22 @@
 -- Lines with which a text in form begins, and what the numbers of each line must be.
-use Rattle.std.specs.Prelude.{◌≡◌, ℕ, zero, suc, ◌+◌, ◌-◌, ◌*◌, ◌^◌, ◌≤◌, ℤ, pos, ◌≤ℤ◌, List, ◌++◌, length, map, take, All, ◌==◌, ◌&&◌, nat_lt, if◌then◌else◌}
+use Rattle.std.specs.Prelude.{◌≡◌, ℕ, ◌+◌, ◌-◌, ◌*◌, ◌^◌, ℤ, pos, ◌≤ℤ◌, List, [], ◌∷◌, length, All, Option, Some, slice_get, ◌==◌, ◌&&◌, nat_lt, if◌then◌else◌}
 use Rattle.integer_algebra.specs.Sums.{at}
 use Rattle.qp_model.specs.problem.Limits.{text_version, last_version, most_states, most_inputs, most_stages, most_rows}
 use Rattle.qp_model.specs.problem.Range.{IsNumerator}
 use Rattle.qp_model.specs.problem.PartRules.{AreHighs}
 use Rattle.qp_model.specs.machine.Controller.{Numbers, IsInForm, FitsWord}
+use Rattle.controller_file.specs.declared.block.Block.{Block}
+use Rattle.controller_file.specs.declared.block.Block.TheVariants.{Version, Size, Bits, Steps, Clamp, Words, Exponents, Low, High}
 use Rattle.controller_file.specs.declared.table.Sizes.{Sizes}
-use Rattle.controller_file.specs.Lines.{Keyed, keyed_lines, spelled, line_in}
+use Rattle.text_lines.specs.Lines.{Keyed, line_in}
+use Rattle.controller_file.specs.Lines.{keyed_lines}
 
--- some text in form begins with these lines
-pub record IsBeginning (ls : List Keyed) : Type 0 where
-  pub numbers : Numbers
-  pub form : IsInForm numbers
-  pub word : FitsWord numbers
-  pub more : List Keyed
-  pub lines : keyed_lines numbers ≡ ls ++ more
-
--- they are all lines of one
+-- they are all lines of a text in form
 pub record IsWhole (ls : List Keyed) : Type 0 where
   pub numbers : Numbers
   pub form : IsInForm numbers
   pub word : FitsWord numbers
   pub lines : keyed_lines numbers ≡ ls
-
--- so many pieces, from the first, are lines with which a text in form begins
-pub record BeginsWith (pieces : List (List ℕ)) (count : ℕ) : Type 0 where
-  pub lines : List Keyed
-  pub beginning : IsBeginning lines
-  pub within : count ≤ length pieces
-  pub spelling : map spelled lines ≡ take count pieces
-
--- the most pieces, from the first, that are such lines
-pub record IsMost (pieces : List (List ℕ)) (count : ℕ) : Type 0 where
-  pub these : BeginsWith pieces count
-  pub no_more : ¬ BeginsWith pieces (suc count)
 
 -- ---- the numbers of a line
 
@@ -56,19 +39,23 @@ word_count z = z.n + z.m + 2 * (z.p * z.stages)
 abbrev pub AreUpper : List ℤ → List ℤ → Type 0
 AreUpper high low = (length high ≡ length low) × AreHighs high low (length low)
 
--- in which block of the table a line is by its index, as far as these have one line; from 9 on in one after them
-abbrev pub block_of : Sizes → ℕ → ℕ
-block_of z i = if nat_lt 5 i && (z.version == text_version) then i + 1 else i
+-- the blocks before the lists, each of one line
+abbrev pub head_blocks : List Block
+head_blocks = Version ∷ Size ∷ Bits ∷ Steps ∷ Clamp ∷ Words ∷ Exponents ∷ Low ∷ High ∷ []
 
--- the numbers of a line of a block, after these lines
-abbrev pub InRange : ℕ → List Keyed → Sizes → List ℤ → Type 0
-InRange zero ls z zs = IsFrom (pos text_version) (pos last_version) (at zs 0)
-InRange (suc zero) ls z zs = AreSizes z.version (at zs 0) (at zs 1) (at zs 2) (at zs 3)
-InRange (suc (suc zero)) ls z zs = AreBits (at zs 0) (at zs 1) (at zs 2) (at zs 3)
-InRange (suc (suc (suc zero))) ls z zs = IsFrom (pos 1) (pos 4194304) (at zs 0)
-InRange (suc (suc (suc (suc zero)))) ls z zs = IsFrom (pos 0) (pos (2 ^ 126)) (at zs 0)
-InRange (suc (suc (suc (suc (suc zero))))) ls z zs = at zs 0 ≡ pos (word_count z)
-InRange (suc (suc (suc (suc (suc (suc zero)))))) ls z zs = All (IsFrom (pos 0) (at (line_in ls 2) 2)) zs
-InRange (suc (suc (suc (suc (suc (suc (suc zero))))))) ls z zs = All IsNumerator zs
-InRange (suc (suc (suc (suc (suc (suc (suc (suc zero)))))))) ls z zs = AreUpper zs (line_in ls (length ls - 1))
-InRange k ls z zs = Unit {0}
+-- the block of the line with an index, none where it is in the lists; the first version has no line of exponents
+abbrev pub head_block : Sizes → ℕ → Option Block
+head_block z i = slice_get head_blocks (if nat_lt 5 i && (z.version == text_version) then i + 1 else i)
+
+-- the numbers of a line of a block, after these lines; those of the lists are any
+abbrev pub InRange : Option Block → List Keyed → Sizes → List ℤ → Type 0
+InRange (Some Version) ls z zs = IsFrom (pos text_version) (pos last_version) (at zs 0)
+InRange (Some Size) ls z zs = AreSizes z.version (at zs 0) (at zs 1) (at zs 2) (at zs 3)
+InRange (Some Bits) ls z zs = AreBits (at zs 0) (at zs 1) (at zs 2) (at zs 3)
+InRange (Some Steps) ls z zs = IsFrom (pos 1) (pos 4194304) (at zs 0)
+InRange (Some Clamp) ls z zs = IsFrom (pos 0) (pos (2 ^ 126)) (at zs 0)
+InRange (Some Words) ls z zs = at zs 0 ≡ pos (word_count z)
+InRange (Some Exponents) ls z zs = All (IsFrom (pos 0) (at (line_in ls 2) 2)) zs
+InRange (Some Low) ls z zs = All IsNumerator zs
+InRange (Some High) ls z zs = AreUpper zs (line_in ls (length ls - 1))
+InRange b ls z zs = Unit {0}

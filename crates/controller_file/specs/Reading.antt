@@ -6,7 +6,7 @@ use Rattle.qp_model.specs.problem.Limits.{text_version}
 use Rattle.qp_model.specs.machine.Controller.{Numbers}
 use Rattle.controller_file.specs.declared.parts.Front.{Front}
 use Rattle.controller_file.specs.declared.parts.Back.{Back}
-use Rattle.controller_file.specs.Lines.{Keyed, line_in, small}
+use Rattle.text_lines.specs.Lines.{Keyed, line_in, small}
 
 -- the numbers of the one line of a block
 abbrev pub list_of_block : List (List Keyed) → ℕ → List ℤ

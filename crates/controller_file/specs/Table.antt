@@ -1,15 +1,9 @@
 -- Which lines a text has, by its version and its sizes.
-use Rattle.std.specs.Prelude.{◌≡◌, ℕ, ◌+◌, ◌-◌, ◌*◌, ◌<◌, ◌≤◌, pos, List, [], ◌∷◌, length, map, replicate, codes, slice_index_or}
+use Rattle.std.specs.Prelude.{◌≡◌, ℕ, ◌-◌, ◌*◌, ◌<◌, ◌≤◌, pos, List, [], ◌∷◌, length, codes, slice_index_or}
 use Rattle.qp_model.specs.machine.Controller.{Numbers}
 use Rattle.controller_file.specs.declared.table.Sizes.{Sizes}
-use Rattle.controller_file.specs.Lines.{Keyed, Place, place, line_in, chained}
-
--- a word, how many lines have it, and how many numbers each of them has
-abbrev pub Block : Type 0
-Block = List ℕ × ℕ × ℕ
-
-abbrev pub block_places : Block → List Place
-block_places b = replicate b.1 (place b.0 b.2)
+use Rattle.text_lines.specs.Lines.{Keyed, Place, line_in}
+use Rattle.text_lines.specs.Blocks.{spread, Block}
 
 abbrev pub text_table : Sizes → List Block
 text_table z =
@@ -32,15 +26,6 @@ text_table z =
 
 abbrev pub block_at : Sizes → ℕ → Block
 block_at z k = slice_index_or (text_table z) k ([], 0, 0)
-
--- how many lines they are
-abbrev pub total_rows : List Block → ℕ
-total_rows [] = 0
-total_rows (b ∷ bs) = b.1 + total_rows bs
-
--- the places of the lines of blocks
-abbrev pub spread : List Block → List Place
-spread bs = chained (map block_places bs)
 
 abbrev pub places : Sizes → List Place
 places z = spread (text_table z)

@@ -1,19 +1,21 @@
 // Which lines can stand after others in a text in form.
-ghost use Rattle.std.specs.Prelude.{◌≡◌, ◌<◌, ◌^◌, ◌↔◌, [], ◌∷◌, ◌++◌, length, All, IsTrue};
-ghost use Rattle.controller_file.specs.Lines.{view, views, Fits};
+ghost use Rattle.std.specs.Prelude.{◌≡◌, ◌<◌, ◌^◌, ◌↔◌, [], ◌∷◌, ◌++◌, length, All, IsTrue, slice_get};
+ghost use Rattle.text_lines.specs.Lines.{view, views, Fits};
 ghost use Rattle.controller_file.specs.Table.{AreSmall};
-ghost use Rattle.controller_file.specs.Following.{IsBeginning, IsFrom, AreSizes, AreBits, AreUpper, word_count, block_of, InRange};
+ghost use Rattle.text_lines.specs.Grammar.{IsBeginning};
+ghost use Rattle.controller_file.specs.Following.{IsFrom, AreSizes, AreBits, AreUpper, word_count, InRange, head_block, head_blocks, IsWhole};
 
-use crate::line::{Line, has_place, number_at, number_in, numbers_in};
+use crate::block::{BLOCKS, Block};
 use crate::table::{Sizes, place_at, sizes_in};
 use qp_model::range::{are_highs, are_numerators};
 use qp_model::{LAST_VERSION, MOST_INPUTS, VERSION, most_rows, most_stages, most_states};
+use text_lines::{Line, has_place, number_at, number_in, numbers_in};
 
 /// Whether a text in form has this line after these, which are the first lines of one.
 pub fn can_follow(before: &[Line], line: &Line) -> bool
-    requires beginning { IsBeginning (views before.now) }
+    requires beginning { IsBeginning IsWhole (views before.now) }
     requires fits { Fits (view line.now) }
-    ensures { IsTrue result ↔ IsBeginning (views before.now ++ view line.now ∷ []) }
+    ensures { IsTrue result ↔ IsBeginning IsWhole (views before.now ++ view line.now ∷ []) }
 {
     let sizes = sizes_in(before);
     match place_at(sizes, before.len()) {
@@ -24,48 +26,58 @@ pub fn can_follow(before: &[Line], line: &Line) -> bool
     }
 }
 
-// Whether the numbers of a line after these are in range, where they are as many as its place has. The blocks of more lines than one have any.
+// Whether the numbers of a line after these are in range, where they are as many as its place has. The lists after the bounds of the states have any.
 fn is_in_range(before: &[Line], sizes: Sizes, numbers: &[i128]) -> bool
     requires small { AreSmall sizes }
     requires few { length before.now < 2 ^ 40 }
-    ensures { IsTrue result ↔ InRange (block_of sizes (length before.now)) (views before.now) sizes numbers.now }
+    ensures { IsTrue result ↔ InRange (head_block sizes (length before.now)) (views before.now) sizes numbers.now }
 {
-    let block = block_of(sizes, before.len());
-    match block {
-        0 => is_from(VERSION as i128, LAST_VERSION as i128, number_at(numbers, 0)),
-        1 => are_sizes(
+    match head_block(sizes, before.len()) {
+        Some(Block::Version) => is_from(
+            VERSION as i128,
+            LAST_VERSION as i128,
+            number_at(numbers, 0),
+        ),
+        Some(Block::Size) => are_sizes(
             sizes.version,
             number_at(numbers, 0),
             number_at(numbers, 1),
             number_at(numbers, 2),
             number_at(numbers, 3),
         ),
-        2 => are_bits(
+        Some(Block::Bits) => are_bits(
             number_at(numbers, 0),
             number_at(numbers, 1),
             number_at(numbers, 2),
             number_at(numbers, 3),
         ),
-        3 => is_from(1, 4194304, number_at(numbers, 0)),
-        4 => is_from(0, 1 << 126, number_at(numbers, 0)),
-        5 => number_at(numbers, 0) == words(sizes) as i128,
-        6 => are_from(0, number_in(before, 2, 2), numbers),
-        7 => are_numerators(numbers),
-        8 => are_upper(numbers, numbers_in(before, before.len() - 1)),
+        Some(Block::Steps) => is_from(1, 4194304, number_at(numbers, 0)),
+        Some(Block::Clamp) => is_from(0, 1 << 126, number_at(numbers, 0)),
+        Some(Block::Words) => number_at(numbers, 0) == words(sizes) as i128,
+        Some(Block::Exponents) => are_from(0, number_in(before, 2, 2), numbers),
+        Some(Block::Low) => are_numerators(numbers),
+        Some(Block::High) => are_upper(numbers, numbers_in(before, before.len() - 1)),
         _ => true,
     }
 }
 
-// The block in which the line with this index is, by the lines before the lists of more lines; from 9 on in one of these.
-fn block_of(sizes: Sizes, index: usize) -> usize
+// The block of the line with this index, none where it is in the lists. The first version has no line of exponents.
+fn head_block(sizes: Sizes, index: usize) -> Option<Block>
     requires { index < 2 ^ 40 }
-    ensures { result ≡ block_of sizes index }
+    ensures { result ≡ head_block sizes index }
 {
-    if index > 5 && sizes.version == VERSION {
+    head_at(if index > 5 && sizes.version == VERSION {
         index + 1
     } else {
         index
-    }
+    })
+}
+
+// The block with this place among those before the lists.
+fn head_at(place: usize) -> Option<Block>
+    ensures { result ≡ slice_get head_blocks place }
+{
+    BLOCKS[..9].get(place).copied()
 }
 
 // The words of memory of a run.

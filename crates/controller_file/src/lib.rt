@@ -2,9 +2,10 @@
 #![tactic(auto)]
 
 mod bad_controller;
+mod block;
 mod following;
+mod grammar;
 mod laws;
-mod line;
 mod parts;
 mod reader;
 mod table;

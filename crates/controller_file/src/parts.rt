@@ -1,16 +1,20 @@
 // A controller's numbers from the lines of its text.
 ghost use Rattle.std.specs.Prelude.{◌≡◌, ◌<◌, [], IfOk, All, length, map, take, slice_index_or};
 ghost use Rattle.qp_model.specs.machine.Controller.{Numbers, numbers, IsInForm};
-ghost use Rattle.controller_file.specs.Lines.{views, line_blocks, keyed_lines, small};
-ghost use Rattle.controller_file.specs.Table.{text_table, block_at, sizes_of, total_rows, AreSmall};
+ghost use Rattle.text_lines.specs.Lines.{views, small};
+ghost use Rattle.controller_file.specs.Lines.{line_blocks, keyed_lines};
+ghost use Rattle.controller_file.specs.Table.{text_table, block_at, sizes_of, AreSmall};
+ghost use Rattle.text_lines.specs.Blocks.{total_rows};
 ghost use Rattle.controller_file.specs.Following.{IsWhole};
 ghost use Rattle.controller_file.specs.Reading.{list_of_block, matrix_in, IsFront, IsBack};
+ghost use Rattle.controller_file.specs.BlockPlace.{place_in_table};
 
-use crate::line::{Line, number_in, numbers_in, small};
-use crate::table::{Sizes, sizes_in, table};
+use crate::block::{Block, place_of};
+use crate::table::{sizes_in, table};
 use mat_int::Mat;
 use qp_model::{ControllerParts, VERSION};
 use std::alloc::{AllocError, Global};
+use text_lines::{Line, number_in, numbers_in, rows_before, small};
 
 /// The numbers of the controller whose lines these are.
 pub fn parts_of(alloc: Global, lines: &[Line]) -> Result<ControllerParts, AllocError>
@@ -47,10 +51,10 @@ fn front_of(alloc: Global, lines: &[Line]) -> Result<Front, AllocError>
 {
     Ok(Front {
         exps: exponents_of(alloc, lines)?,
-        lo: list_of(alloc, lines, 7)?,
-        hi: list_of(alloc, lines, 8)?,
-        p_mat: matrix_of(alloc, lines, 9)?,
-        t: list_of(alloc, lines, 10)?,
+        lo: list_of(alloc, lines, Block::Low)?,
+        hi: list_of(alloc, lines, Block::High)?,
+        p_mat: matrix_of(alloc, lines, Block::StateGains)?,
+        t: list_of(alloc, lines, Block::Offsets)?,
     })
 }
 
@@ -59,10 +63,10 @@ fn back_of(alloc: Global, lines: &[Line]) -> Result<Back, AllocError>
     ensures { IfOk result (λ back. (c : Numbers) → IsInForm c → keyed_lines c ≡ views lines.now → IsBack c back) }
 {
     Ok(Back {
-        w_mat: matrix_of(alloc, lines, 11)?,
-        g_mat: matrix_of(alloc, lines, 12)?,
-        e_mat: matrix_of(alloc, lines, 13)?,
-        bound: list_of(alloc, lines, 14)?,
+        w_mat: matrix_of(alloc, lines, Block::DualGains)?,
+        g_mat: matrix_of(alloc, lines, Block::PlanRows)?,
+        e_mat: matrix_of(alloc, lines, Block::StateRows)?,
+        bound: list_of(alloc, lines, Block::Bounds)?,
     })
 }
 
@@ -75,7 +79,7 @@ fn exponents_of(alloc: Global, lines: &[Line]) -> Result<Vec<u32>, AllocError>
     if sizes.version == VERSION {
         vec![in alloc; small(number_in(lines, 2, 2)); sizes.m]
     } else {
-        smalls(alloc, numbers_in(block_in(lines, 6), 0))
+        smalls(alloc, numbers_in(block_in(lines, Block::Exponents), 0))
     }
 }
 
@@ -87,21 +91,23 @@ fn smalls(alloc: Global, numbers: &[i128]) -> Result<Vec<u32>, AllocError>
 }
 
 // The numbers of the one line of a block.
-fn list_of(alloc: Global, lines: &[Line], k: usize) -> Result<Vec<i128>, AllocError>
-    requires whole { IsWhole (views lines.now) }
-    requires inside { k < 16 }
-    ensures { IfOk result (λ v. (c : Numbers) → IsInForm c → keyed_lines c ≡ views lines.now → v.items ≡ list_of_block (line_blocks c) k) }
+fn list_of(alloc: Global, lines: &[Line], block: Block) -> Result<Vec<i128>, AllocError>
+    requires { IsWhole (views lines.now) }
+    ensures { IfOk result (λ v. (c : Numbers) → IsInForm c → keyed_lines c ≡ views lines.now → v.items ≡ list_of_block (line_blocks c) (place_in_table block)) }
 {
-    numbers_in(block_in(lines, k), 0).to_vec(alloc)
+    numbers_in(block_in(lines, block), 0).to_vec(alloc)
 }
 
 // The numbers of the lines of a block as rows.
-fn matrix_of(alloc: Global, lines: &[Line], k: usize) -> Result<Mat, AllocError>
-    requires whole { IsWhole (views lines.now) }
-    requires inside { k < 16 }
-    ensures { IfOk result (λ m. (c : Numbers) → IsInForm c → keyed_lines c ≡ views lines.now → m ≡ matrix_in (line_blocks c) k (block_at (sizes_of c) k).2) }
+fn matrix_of(alloc: Global, lines: &[Line], block: Block) -> Result<Mat, AllocError>
+    requires { IsWhole (views lines.now) }
+    ensures { IfOk result (λ m. (c : Numbers) → IsInForm c → keyed_lines c ≡ views lines.now → m ≡ matrix_in (line_blocks c) (place_in_table block) (block_at (sizes_of c) (place_in_table block)).2) }
 {
-    rows_of(alloc, table(sizes_in(lines))[k].2, block_in(lines, k))
+    rows_of(
+        alloc,
+        table(sizes_in(lines))[place_of(block)].2,
+        block_in(lines, block),
+    )
 }
 
 // The numbers of these lines as rows.
@@ -117,28 +123,14 @@ fn rows_of(alloc: Global, cols: usize, lines: &[Line]) -> Result<Mat, AllocError
 }
 
 // The lines of a block of the table.
-fn block_in<'a, 't>(lines: &'a [Line<'t>], k: usize) -> &'a [Line<'t>]
-    requires whole { IsWhole (views lines.now) }
-    requires inside { k < 16 }
-    ensures { (c : Numbers) → IsInForm c → keyed_lines c ≡ views lines.now → views result.now ≡ slice_index_or (line_blocks c) k [] }
+fn block_in<'a, 't>(lines: &'a [Line<'t>], block: Block) -> &'a [Line<'t>]
+    requires { IsWhole (views lines.now) }
+    ensures { (c : Numbers) → IsInForm c → keyed_lines c ≡ views lines.now → views result.now ≡ slice_index_or (line_blocks c) (place_in_table block) [] }
 {
-    let sizes = sizes_in(lines);
-    let start = rows_before(sizes, k);
-    &lines[start..start + table(sizes)[k].1]
-}
-
-// How many lines are before those of a block.
-fn rows_before(sizes: Sizes, k: usize) -> usize
-    requires small { AreSmall sizes }
-    requires inside { k < 16 }
-    ensures { result ≡ total_rows (take k (text_table sizes)) }
-{
-    let blocks = table(sizes);
-    let mut rows = 0;
-    for i in 0..k {
-        rows += blocks[i].1;
-    }
-    rows
+    let blocks = table(sizes_in(lines));
+    let place = place_of(block);
+    let start = rows_before(&blocks, place);
+    &lines[start..start + blocks[place].1]
 }
 
 // The controller of the first lines and all lists.

@@ -1,10 +1,11 @@
 // The lines of a text, by its version and its sizes: their words, how many there are of each, and how many numbers each has.
 ghost use Rattle.std.specs.Prelude.{◌≡◌, ◌↔◌, IsTrue, None, Some, MatchOption, map, slice_get};
-ghost use Rattle.controller_file.specs.Lines.{views, place};
+ghost use Rattle.text_lines.specs.Lines.{views, place};
 ghost use Rattle.controller_file.specs.Table.{text_table, places, AreSmall, Says};
-ghost use Rattle.controller_file.specs.Following.{IsBeginning, IsWhole};
+ghost use Rattle.text_lines.specs.Grammar.{IsBeginning};
+ghost use Rattle.controller_file.specs.Following.{IsWhole};
 
-use crate::line::{Line, number_in, small};
+use text_lines::{Line, number_in, place_in, small};
 
 /// The version of a text, and its numbers of states, of inputs a stage, of stages and of rows.
 #[derive(Clone, Copy)]
@@ -51,7 +52,7 @@ pub fn table(sizes: Sizes) -> [(&'static str, usize, usize); 16]
 
 /// The version and the sizes that the first of these lines say: 0 each where they aren't there.
 pub fn sizes_in(lines: &[Line]) -> Sizes
-    requires { IsBeginning (views lines.now) }
+    requires { IsBeginning IsWhole (views lines.now) }
     ensures { Says (views lines.now) result }
 {
     Sizes {
@@ -68,19 +69,12 @@ pub fn place_at(sizes: Sizes, index: usize) -> Option<(&'static str, usize)>
     requires { AreSmall sizes }
     ensures { MatchOption result (slice_get (places sizes) index ≡ None) (λ p. slice_get (places sizes) index ≡ Some (place p.0.now p.1)) }
 {
-    let mut left = index;
-    for (key, rows, count) in table(sizes) {
-        if left < rows {
-            return Some((key, count));
-        }
-        left -= rows;
-    }
-    None
+    place_in(&table(sizes), index)
 }
 
 /// Whether these lines, with which a text in form begins, are all lines of one.
 pub fn is_whole(lines: &[Line]) -> bool
-    requires { IsBeginning (views lines.now) }
+    requires { IsBeginning IsWhole (views lines.now) }
     ensures { IsTrue result ↔ IsWhole (views lines.now) }
 {
     place_at(sizes_in(lines), lines.len()).is_none()

@@ -4,9 +4,12 @@ ghost use Rattle.std.specs.Int.{w128};
 ghost use Rattle.qp_model.specs.machine.Controller.{numbers, IsInForm, FitsWord};
 ghost use Rattle.number_text.specs.Lines.{text_of};
 ghost use Rattle.qp_model.specs.text.ControllerText.{matrix_lines, controller_text, IsControllerText};
-ghost use Rattle.controller_file.specs.Lines.{Fits, spelled, line_blocks};
+ghost use Rattle.text_lines.specs.Lines.{Fits, spelled};
+ghost use Rattle.controller_file.specs.Lines.{line_blocks};
 ghost use Rattle.controller_file.specs.Table.{text_table, sizes_of};
+ghost use Rattle.controller_file.specs.BlockPlace.{place_in_table};
 
+use crate::block::{BLOCKS, Block, place_of};
 use crate::table::{Sizes, table};
 use mat_int::Mat;
 use number_text::push_line;
@@ -29,8 +32,8 @@ fn parts_text(alloc: Global, parts: &ControllerParts) -> Result<String, AllocErr
 {
     let mut text = String::new(alloc);
     let blocks = table(sizes_of(parts));
-    for block in 0..16 {
-        push_block(alloc, &mut text, parts, block, blocks[block].0)?;
+    for block in BLOCKS {
+        push_block(alloc, &mut text, parts, block, blocks[place_of(block)].0)?;
     }
     Ok(text)
 }
@@ -52,17 +55,16 @@ fn push_block(
     alloc: Global,
     text: &mut String,
     parts: &ControllerParts,
-    block: usize,
+    block: Block,
     key: &str,
 ) -> Result<(), AllocError>
-    requires inside { block < 16 }
-    requires key { key.now ≡ (slice_index_or (text_table (sizes_of (numbers parts.now))) block ([], 0, 0)).0 }
-    ensures text { OnOk result (string_bytes text.new ≡ string_bytes text.old ++ text_of (map spelled (slice_index_or (line_blocks (numbers parts.now)) block []))) }
-    ensures word { OnOk result (All Fits (slice_index_or (line_blocks (numbers parts.now)) block [])) }
+    requires { key.now ≡ (slice_index_or (text_table (sizes_of (numbers parts.now))) (place_in_table block) ([], 0, 0)).0 }
+    ensures text { OnOk result (string_bytes text.new ≡ string_bytes text.old ++ text_of (map spelled (slice_index_or (line_blocks (numbers parts.now)) (place_in_table block) []))) }
+    ensures word { OnOk result (All Fits (slice_index_or (line_blocks (numbers parts.now)) (place_in_table block) [])) }
 {
     match block {
-        0 => push_line(alloc, text, key, &[parts.version as i128]),
-        1 => push_line(
+        Block::Version => push_line(alloc, text, key, &[parts.version as i128]),
+        Block::Size => push_line(
             alloc,
             text,
             key,
@@ -73,7 +75,7 @@ fn push_block(
                 parts.m as i128,
             ],
         ),
-        2 => push_line(
+        Block::Bits => push_line(
             alloc,
             text,
             key,
@@ -84,19 +86,19 @@ fn push_block(
                 parts.w as i128,
             ],
         ),
-        3 => push_line(alloc, text, key, &[parts.steps as i128]),
-        4 => push_line(alloc, text, key, &[parts.clamp]),
-        5 => push_line(alloc, text, key, &[parts.words as i128]),
-        6 => push_exponents(alloc, text, key, parts),
-        7 => push_line(alloc, text, key, &parts.lo),
-        8 => push_line(alloc, text, key, &parts.hi),
-        9 => push_rows(alloc, text, key, &parts.p_mat),
-        10 => push_line(alloc, text, key, &parts.t),
-        11 => push_rows(alloc, text, key, &parts.w_mat),
-        12 => push_rows(alloc, text, key, &parts.g_mat),
-        13 => push_rows(alloc, text, key, &parts.e_mat),
-        14 => push_line(alloc, text, key, &parts.bound),
-        _ => push_line(alloc, text, key, &[]),
+        Block::Steps => push_line(alloc, text, key, &[parts.steps as i128]),
+        Block::Clamp => push_line(alloc, text, key, &[parts.clamp]),
+        Block::Words => push_line(alloc, text, key, &[parts.words as i128]),
+        Block::Exponents => push_exponents(alloc, text, key, parts),
+        Block::Low => push_line(alloc, text, key, &parts.lo),
+        Block::High => push_line(alloc, text, key, &parts.hi),
+        Block::StateGains => push_rows(alloc, text, key, &parts.p_mat),
+        Block::Offsets => push_line(alloc, text, key, &parts.t),
+        Block::DualGains => push_rows(alloc, text, key, &parts.w_mat),
+        Block::PlanRows => push_rows(alloc, text, key, &parts.g_mat),
+        Block::StateRows => push_rows(alloc, text, key, &parts.e_mat),
+        Block::Bounds => push_line(alloc, text, key, &parts.bound),
+        Block::End => push_line(alloc, text, key, &[]),
     }
 }
 

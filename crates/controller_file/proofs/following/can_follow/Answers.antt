@@ -3,15 +3,16 @@ use Rattle.std.specs.Prelude.{slice_get}
 use Rattle.std.proofs.lemmas.Bool.{false≢true}
 use Rattle.std.proofs.lemmas.List.{length-map}
 use Rattle.std.proofs.lemmas.Option.{MatchOption-at_some, MatchOption-at_none}
-use Rattle.controller_file.specs.Lines.{view, views, Place, place, place_of}
+use Rattle.text_lines.specs.Lines.{view, views, Place, place, place_of}
 use Rattle.controller_file.specs.Table.{places}
-use Rattle.controller_file.specs.Following.{InRange, block_of}
-use Rattle.controller_file.proofs.FirstLines.{few_right}
+use Rattle.controller_file.specs.Following.{IsWhole, InRange, head_block}
+use Rattle.text_lines.proofs.Beginnings.{few_right}
+use Rattle.controller_file.proofs.Beginnings.{grammar}
 use Rattle.controller_file.proofs.Follows.{follows}
 use Rattle.controller_file.proofs.following.can_follow.Goals as goal
 
 pub is_in_range-requires-clause-few : goal.is_in_range-requires-clause-few
-is_in_range-requires-clause-few c = omega (arith, few_right (views c.args.before.now) c.requires.beginning, length-map c.args.before.now view)
+is_in_range-requires-clause-few c = omega (arith, few_right IsWhole grammar (views c.args.before.now) c.requires.beginning, length-map c.args.before.now view)
 
 pub returns-then-has_place : goal.returns-then-has_place
 returns-then-has_place c =
@@ -23,8 +24,8 @@ returns-then-has_place c =
     let at = MatchOption-at_some _ (λ p. slice_get (places z) n ≡ Some (place p.0.now p.1)) (c.in-Some.key, c.in-Some.count) c.in-Some.is c.place_at.ensures in
     let same : place_of l ≡ place c.in-Some.key.now c.in-Some.count = c.has_place.ensures.0 c.if-has_place.true in
     let numbers = c.deref.ensures.value in (
-      λ true. law.0 (record { place = at ∙ ap (λ (p : Place). Some p) (sym same); range = subst (λ (zs : List ℤ). InRange (block_of z n) ls z zs) numbers (c.is_in_range.ensures.0 true) }),
-      λ more. c.is_in_range.ensures.1 (subst (λ (zs : List ℤ). InRange (block_of z n) ls z zs) (sym numbers) (law.1 more).range),
+      λ true. law.0 (record { place = at ∙ ap (λ (p : Place). Some p) (sym same); range = subst (λ (zs : List ℤ). InRange (head_block z n) ls z zs) numbers (c.is_in_range.ensures.0 true) }),
+      λ more. c.is_in_range.ensures.1 (subst (λ (zs : List ℤ). InRange (head_block z n) ls z zs) (sym numbers) (law.1 more).range),
     )
 
 -- where a line has another place, or there is none

@@ -1,8 +1,8 @@
 use Rattle.std.proofs.Common.{◌≡◌, ◌<◌, ◌∙◌, ◌+◌, ◌++◌, ◌∷◌, [], ℕ, ℤ, List, length, take, get_or, map, ap, sym, arith}
 use Rattle.std.proofs.lemmas.List.{length-map, get_or-map, take_more, map-append}
 use Rattle.mat_int.specs.Matrix.{Matrix}
-use Rattle.controller_file.specs.declared.line.Line.{Line}
-use Rattle.controller_file.specs.Lines.{Keyed, view, views}
+use Rattle.text_lines.specs.declared.line.Line.{Line}
+use Rattle.text_lines.specs.Lines.{Keyed, view, views}
 use Rattle.controller_file.proofs.parts.rows_of.Goals as goal
 
 here_is : (lines : List Line) (i : ℕ) (l : Line) → i < length lines → l ≡ get_or lines i l → get_or (views lines) i (view l) ≡ view l

@@ -1,5 +1,5 @@
 use Rattle.std.proofs.Common.{◌≡◌, take, map}
-use Rattle.controller_file.specs.Lines.{views}
+use Rattle.text_lines.specs.Lines.{views}
 use Rattle.controller_file.proofs.parts.rows_of.Given as goal
 
 abbrev pub invariant-loop-line : goal.invariant-loop-line

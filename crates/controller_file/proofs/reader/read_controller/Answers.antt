@@ -7,9 +7,10 @@ use Rattle.qp_model.specs.declared.controller_parts.ControllerParts.{ControllerP
 use Rattle.qp_model.specs.machine.Controller.{Numbers, numbers, IsInForm}
 use Rattle.qp_model.specs.machine.AbsoluteSums.{IsController}
 use Rattle.qp_model.specs.text.ControllerText.{IsControllerText}
-use Rattle.controller_file.specs.declared.line.Line.{Line}
+use Rattle.text_lines.specs.declared.line.Line.{Line}
 use Rattle.controller_file.specs.FirstLine.{IsTextInForm, IsBadLine}
-use Rattle.controller_file.specs.Lines.{Keyed, views, spelled, keyed_lines}
+use Rattle.text_lines.specs.Lines.{Keyed, views, spelled}
+use Rattle.controller_file.specs.Lines.{keyed_lines}
 use Rattle.controller_file.specs.Following.{IsWhole}
 use Rattle.controller_file.proofs.Texts.{keyed_text}
 use Rattle.controller_file.proofs.Uniqueness.{one_form, in_form}
@@ -36,7 +37,7 @@ returns-in-Ok-from_parts-clause-right c = λ d text.
 
 pub returns-in-Ok-from_parts-clause-bad_first : goal.returns-in-Ok-from_parts-clause-bad_first
 returns-in-Ok-from_parts-clause-bad_first c = λ l bad.
-    absurd (bad.none _ (read c.args.bytes.now _ _ _ c.in_ok-parts-in-Ok.parts c.in_ok-lines.ensures c.in-Ok.is c.deref.ensures.value c.in_ok-parts-in-Ok.ensures))
+    absurd (bad.none (record { numbers = numbers c.in_ok-parts-in-Ok.parts; form = read c.args.bytes.now _ _ _ c.in_ok-parts-in-Ok.parts c.in_ok-lines.ensures c.in-Ok.is c.deref.ensures.value c.in_ok-parts-in-Ok.ensures }))
 
 pub returns-in-Ok-from_parts-clause-bad_sums : goal.returns-in-Ok-from_parts-clause-bad_sums
 returns-in-Ok-from_parts-clause-bad_sums c = λ u.
@@ -55,7 +56,7 @@ returns-in-Ok-clause-right c = λ d text.
 
 pub returns-in-Ok-clause-bad_first : goal.returns-in-Ok-clause-bad_first
 returns-in-Ok-clause-bad_first c = λ l bad.
-    absurd (bad.none _ (read c.args.bytes.now _ _ _ c.in_ok-parts-in-Ok.parts c.in_ok-lines.ensures c.in-Ok.is c.deref.ensures.value c.in_ok-parts-in-Ok.ensures))
+    absurd (bad.none (record { numbers = numbers c.in_ok-parts-in-Ok.parts; form = read c.args.bytes.now _ _ _ c.in_ok-parts-in-Ok.parts c.in_ok-lines.ensures c.in-Ok.is c.deref.ensures.value c.in_ok-parts-in-Ok.ensures }))
 
 pub returns-in-Ok-from_parts-clause-bad_line : goal.returns-in-Ok-from_parts-clause-bad_line
 returns-in-Ok-from_parts-clause-bad_line c = search rules

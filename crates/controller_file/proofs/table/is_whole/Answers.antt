@@ -2,7 +2,7 @@ use Rattle.std.proofs.Common.{◌≡◌, ◌∙◌, Bool, true, false, Option, S
 use Rattle.std.specs.Prelude.{◌↔◌, IsTrue, is_some, not, MatchOption, slice_get}
 use Rattle.std.proofs.lemmas.Bool.{false≢true}
 use Rattle.std.proofs.lemmas.List.{length-map}
-use Rattle.controller_file.specs.Lines.{view, views, place}
+use Rattle.text_lines.specs.Lines.{view, views, place}
 use Rattle.controller_file.specs.Table.{places}
 use Rattle.controller_file.specs.Following.{IsWhole}
 use Rattle.controller_file.proofs.Follows.{whole_if, whole_only}

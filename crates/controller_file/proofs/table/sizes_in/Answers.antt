@@ -2,7 +2,7 @@ use Rattle.std.proofs.Common.{◌≡◌, ℤ, FitsSigned, to_z, of_z, ap, sym, s
 use Rattle.std.specs.Int.{w128}
 use Rattle.std.proofs.lemmas.Int.{to_z-of_z}
 use Rattle.controller_file.specs.declared.table.Sizes.{Sizes}
-use Rattle.controller_file.specs.Lines.{views, small}
+use Rattle.text_lines.specs.Lines.{views, small}
 use Rattle.controller_file.specs.Table.{Says}
 use Rattle.controller_file.proofs.Follows.{sizes_read}
 use Rattle.controller_file.proofs.table.sizes_in.Goals as goal

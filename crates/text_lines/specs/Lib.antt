@@ -1,0 +1,4 @@
+pub mod Lines
+pub mod Blocks
+pub mod Grammar
+pub mod FirstLine
