@@ -8,6 +8,7 @@ mod spans;
 mod state;
 mod step;
 mod word_bases;
+mod word_machine;
 mod word_mat;
 mod word_run;
 mod word_step;
