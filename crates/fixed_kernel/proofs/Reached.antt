@@ -1,5 +1,5 @@
 -- What a kernel's words are, by its rule.
-use Rattle.std.proofs.Common.{◌≡◌, ℕ, ◌+◌, ◌*◌, ◌≤◌, ◌<◌, ◌^◌, List, ℤ, pos, ◌*ℤ◌, length, get_or, unsigned_abs, ap, sym, subst, ◌∙◌, arith, refl, IsTrue, Option, Some}
+use Rattle.std.proofs.Common.{◌≡◌, ℕ, ◌+◌, ◌*◌, ◌≤◌, ◌<◌, ◌^◌, List, ℤ, pos, ◌*ℤ◌, length, get_or, unsigned_abs, ap, sym, subst, ◌∙◌, arith, refl, IsTrue, Some}
 use Rattle.std.proofs.lemmas.Nat.{mul-le}
 use Rattle.std.proofs.lemmas.List.{length-map}
 use Rattle.integer_algebra.specs.Sums.{at}

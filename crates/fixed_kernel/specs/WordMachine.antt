@@ -1,16 +1,17 @@
 -- What runs in words of 64 bits are made with is a controller's.
-use Rattle.std.specs.Prelude.{◌≡◌, length}
+use Rattle.std.specs.Prelude.{◌≡◌, IsTrue, length}
 use Rattle.qp_model.specs.machine.Controller.{Numbers}
-use Rattle.fixed_kernel.specs.WordForm.{IsWordSized}
+use Rattle.fixed_kernel.specs.WordForm.{IsWordSized, HasHalfFactors}
 use Rattle.fixed_kernel.specs.declared.word_machine.WordForm.{WordForm}
 use Rattle.fixed_kernel.specs.declared.word_machine.WordRoom.{WordRoom}
 use Rattle.fixed_kernel.specs.declared.word_machine.WordMachine.{WordMachine}
 
--- its matrices and its clamp
+-- its matrices and its clamp, and its factors fit half a word where it says so
 pub record IsFormOf (c : Numbers) (w : WordForm) : Type 0 where
   pub gains : w.gains ≡ c.dual_gains
   pub rows : w.rows ≡ c.plan_rows
   pub top : w.top ≡ c.clamp
+  pub half : IsTrue w.half → HasHalfFactors c
 
 -- a word for each entry and each row
 pub record IsRoomFor (c : Numbers) (r : WordRoom) : Type 0 where

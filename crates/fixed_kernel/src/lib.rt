@@ -2,6 +2,7 @@
 #![tactic(auto)]
 
 mod entry;
+mod half;
 mod kernel;
 mod narrow;
 mod spans;

@@ -1,17 +1,13 @@
 // What runs in words of 64 bits are made with: a controller's matrices and clamp in such words, and room for what a run makes.
-ghost use Rattle.std.specs.Prelude.{◌≡◌, ◌≤◌, IsTrue, length, IfOk, IfSome};
-ghost use Rattle.qp_model.specs.machine.Controller.{numbers};
-ghost use Rattle.qp_model.specs.machine.Machine.{after};
-ghost use Rattle.qp_model.specs.machine.AbsoluteSums.{IsController, state_magnitudes};
-ghost use Rattle.qp_model.specs.machine.Within.{AreWithin};
+ghost use Rattle.std.specs.Prelude.{◌≡◌, ◌↔◌, IsTrue, length, IfOk, IfSome};
+ghost use Rattle.qp_model.specs.machine.Controller.{numbers, IsSized};
+ghost use Rattle.qp_model.specs.machine.AbsoluteSums.{IsController};
 ghost use Rattle.fixed_kernel.specs.Factors.{HasNarrowFactors};
-ghost use Rattle.fixed_kernel.specs.Raised.{with_raised};
-ghost use Rattle.fixed_kernel.specs.Spans.{words_of, state_in, made_in};
 ghost use Rattle.fixed_kernel.specs.WordForm.{IsWordSized};
 ghost use Rattle.fixed_kernel.specs.WordMachine.{IsFormOf, IsRoomFor, IsMachineOf};
 
+use crate::half::has_half_factors;
 use crate::word_mat::{WordMat, narrowed};
-use crate::word_run::{finish_in_words, is_word_sized};
 use qp_model::ControllerParts;
 use std::alloc::{AllocError, Global};
 
@@ -21,18 +17,28 @@ pub struct WordForm {
     pub gains: WordMat,
     pub rows: WordMat,
     pub top: i64,
+    // Only where each factor of a step's products fits half a word.
+    pub half: bool,
+    // Where products by the spans of the rows are faster.
+    pub sparse: bool,
 }
 
 impl WordForm {
     // Those of a controller.
     fn of(alloc: Global, c: &ControllerParts) -> Result<WordForm, AllocError>
-        requires { HasNarrowFactors (numbers c.now) }
+        requires sized { IsSized (numbers c.now) }
+        requires narrow { HasNarrowFactors (numbers c.now) }
         ensures { IfOk result (IsFormOf (numbers c.now)) }
     {
+        let gains = WordMat::of(alloc, &c.w_mat)?;
+        let rows = WordMat::of(alloc, &c.g_mat)?;
+        let sparse = rows.is_sparse();
         Ok(WordForm {
-            gains: WordMat::of(alloc, &c.w_mat)?,
-            rows: WordMat::of(alloc, &c.g_mat)?,
+            gains,
+            rows,
             top: narrowed(c.clamp),
+            half: has_half_factors(c),
+            sparse,
         })
     }
 }
@@ -89,38 +95,12 @@ impl WordMachine {
             Ok(None)
         }
     }
+}
 
-    // The steps that are left of a run, of which `made` were made, in a region's words, which are lent. The multipliers there are raised.
-    pub fn finish(&mut self, c: &ControllerParts, made: u32, words: &mut [i128])
-        requires sound { IsController (numbers c.now) }
-        requires machine { IsMachineOf (numbers c.now) self.old }
-        requires made { made ≤ c.now.steps }
-        requires long { length words.old ≡ c.now.words }
-        requires state { AreWithin (state_in (numbers c.now) words.old) (state_magnitudes (numbers c.now)) }
-        requires start { made_in (numbers c.now) words.old ≡ with_raised (numbers c.now) (after (numbers c.now) (state_in (numbers c.now) words.old) made) }
-        ensures machine { IsMachineOf (numbers c.now) self.new }
-        ensures words { let state = state_in (numbers c.now) words.old in words.new ≡ words_of state (with_raised (numbers c.now) (after (numbers c.now) state c.now.steps)) }
-    {
-        let (state, rest) = words.split_at_mut(c.n);
-        let (multipliers, rest) = rest.split_at_mut(c.m);
-        let (plan, sums) = rest.split_at_mut(c.t.len());
-        let form = &self.form;
-        let room = &mut self.room;
-        finish_in_words(
-            c,
-            &form.gains,
-            &form.rows,
-            form.top,
-            made,
-            state,
-            &mut room.entry_starts,
-            &mut room.row_starts,
-            &mut room.multipliers,
-            &mut room.plan,
-            &mut room.sums,
-            multipliers,
-            plan,
-            sums,
-        );
-    }
+// Whether a controller's steps are made in words of 64 bits.
+fn is_word_sized(c: &ControllerParts) -> bool
+    requires { IsSized (numbers c.now) }
+    ensures { IsTrue result ↔ IsWordSized (numbers c.now) }
+{
+    c.w <= 64 && c.f + c.s < 64
 }

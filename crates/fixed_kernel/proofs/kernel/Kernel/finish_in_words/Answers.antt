@@ -1,5 +1,5 @@
-use Rattle.std.proofs.Common.{◌≡◌, ap, sym, subst, ◌∙◌}
-use Rattle.qp_model.specs.machine.Controller.{Numbers, numbers}
+use Rattle.std.proofs.Common.{◌≡◌, ap, ◌∙◌}
+use Rattle.qp_model.specs.machine.Controller.{numbers}
 use Rattle.word_region.specs.declared.Span.{Span}
 use Rattle.fixed_kernel.specs.Progress.{Progress, progress_of}
 use Rattle.fixed_kernel.proofs.Reached.{Stands, reached, seen, kernel_after, finished_stands, lent_held, state_lent, made_lent}
