@@ -1,13 +1,16 @@
 /* The same machine in plain C, for controllers of both versions, with sizes and shifts at run time and no test of any value.
    It reads a controller text and a states text and puts the plan line of each state.
-   A factor is a word of 128 bits, or, with -DFACTOR=int64_t, one of 64: then the matrices, the state, the multipliers and the plan are
-   copied to such words, and sums keep 128 bits. */
+   A word is of 128 bits, or, with -DWORD=int64_t, of 64 throughout, which serves controllers of a width of at most 64. A factor is such a word, or, with
+   -DFACTOR=int64_t, one of 64 bits: then the matrices, the state, the multipliers and the plan are copied to such words, and sums keep 128 bits. */
 #include <stdint.h>
 #include <stdio.h>
 #include <stdlib.h>
 #include <string.h>
 
-typedef __int128 word;
+#ifndef WORD
+#define WORD __int128
+#endif
+typedef WORD word;
 
 #ifndef FACTOR
 #define FACTOR word

@@ -1,7 +1,10 @@
 #!/usr/bin/env python3
-"""make.py FOLDER STATES INPUTS STAGES ROWS BITS STEPS [COUNT]: writes FOLDER/controller, FOLDER/second and FOLDER/states: a controller of these
+"""make.py FOLDER STATES INPUTS STAGES ROWS BITS STEPS [COUNT [limits]]: writes FOLDER/controller, FOLDER/second and FOLDER/states: a controller of these
 sizes with as many fraction bits, in numbers of that many bits, the same numbers in version 2, where every other row has a smaller step exponent, and
-COUNT states of its box (1 where none is given)."""
+COUNT states of its box (1 where none is given). With `limits` its rows are as a design's: two for each plan entry, which limit that entry alone, and then rows
+that limit states, each with numbers up to its stage.
+
+make.py states CONTROLLER COUNT: puts COUNT states of the box of a controller text."""
 import sys
 
 G, S = 8, 4
@@ -19,6 +22,13 @@ def matrix(source, rows, cols):
     return [[next(source) for _ in range(cols)] for _ in range(rows)]
 
 
+def limits(g, nu, inputs, stages):
+    """Zeros where a design's rows have them."""
+    for i, row in enumerate(g):
+        first, last = (i // 2, i // 2 + 1) if i < 2 * nu else (0, inputs * ((i - 2 * nu) % stages + 1))
+        row[:] = [v if first <= j < last else 0 for j, v in enumerate(row)]
+
+
 def width(f, steps, clamp, low, high, p, t, w, g, e, b):
     """The least width of a word that holds every absolute sum."""
     x = [max(abs(l), abs(h)) << (f - G) for l, h in zip(low, high)]
@@ -32,7 +42,21 @@ def width(f, steps, clamp, low, high, p, t, w, g, e, b):
     return max(2, greatest.bit_length() + 1)
 
 
+def put_states(name, count):
+    box = {}
+    for line in open(name):
+        words = line.split()
+        if words[0] in ("lo", "hi"):
+            box[words[0]] = [int(word) for word in words[1:]]
+    source = numbers(48)
+    for _ in range(count):
+        print(",".join(str(low + next(source) % (high - low + 1)) for low, high in zip(box["lo"], box["hi"])))
+
+
 def main():
+    if sys.argv[1] == "states":
+        put_states(sys.argv[2], int(sys.argv[3]))
+        return
     folder = sys.argv[1]
     n, inputs, stages, m, f, steps = map(int, sys.argv[2:8])
     count = int(sys.argv[8]) if len(sys.argv) > 8 else 1
@@ -42,6 +66,8 @@ def main():
     low, high = [-1024] * n, [1024] * n
     p, (t,), w = matrix(source, nu, n), matrix(source, 1, nu), matrix(source, nu, m)
     g, e, (b,) = matrix(source, m, nu), matrix(source, m, n), matrix(source, 1, m)
+    if "limits" in sys.argv:
+        limits(g, nu, inputs, stages)
     bits = width(f, steps, clamp, low, high, p, t, w, g, e, b)
     head = [["size", n, inputs, stages, m], ["bits", f, G, S, bits], ["steps", steps], ["clamp", clamp], ["words", n + m + 2 * nu]]
     exponents = [S if i % 2 == 0 else i // 2 % S for i in range(m)]

@@ -9,3 +9,4 @@ pub mod Reached
 pub mod WordSums
 pub mod WordRooms
 pub mod WordSpans
+pub mod HalfFactors

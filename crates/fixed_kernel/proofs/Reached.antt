@@ -1,23 +1,25 @@
 -- What a kernel's words are, by its rule.
-use Rattle.std.proofs.Common.{◌≡◌, ℕ, ◌+◌, ◌*◌, ◌≤◌, ◌<◌, ◌^◌, List, ℤ, pos, ◌*ℤ◌, length, get_or, unsigned_abs, ap, sym, subst, ◌∙◌, arith, refl, IsTrue}
+use Rattle.std.proofs.Common.{◌≡◌, ℕ, ◌+◌, ◌*◌, ◌≤◌, ◌<◌, ◌^◌, List, ℤ, pos, ◌*ℤ◌, length, get_or, unsigned_abs, ap, sym, subst, ◌∙◌, arith, refl, IsTrue, Some}
 use Rattle.std.proofs.lemmas.Nat.{mul-le}
 use Rattle.std.proofs.lemmas.List.{length-map}
 use Rattle.integer_algebra.specs.Sums.{at}
 use Rattle.qp_model.specs.machine.Controller.{Numbers, plan_length}
-use Rattle.qp_model.specs.machine.Machine.{Iterate, IsAdmissible, loaded, lowering_of, raised, start_of}
+use Rattle.qp_model.specs.machine.Machine.{Iterate, IsAdmissible, loaded, lowering_of, raised, start_of, after}
 use Rattle.qp_model.specs.machine.AbsoluteSums.{state_magnitudes, plan_magnitudes, IsController}
 use Rattle.qp_model.specs.machine.Within.{AreWithin}
 use Rattle.qp_model.proofs.MagnitudeLaws.{state_within, after_multipliers}
 use Rattle.overflow_check.proofs.Runs.{after_plan_length, after_multipliers_length, after_sums_length, after_sums_le, after_suc, after_zero}
-use Rattle.std.specs.Prelude.{slice_range}
+use Rattle.std.specs.Prelude.{slice_range, IfSome}
 use Rattle.word_region.specs.Words.{RegionWords}
 use Rattle.word_region.specs.Lending.{written_over}
 use Rattle.word_region.specs.declared.Span.{Span}
 use Rattle.fixed_kernel.specs.declared.kernel.Kernel.TheInside.{Inside}
+use Rattle.fixed_kernel.specs.declared.word_machine.WordMachine.{WordMachine}
 use Rattle.fixed_kernel.specs.Factors.{HasNarrowFactors}
 use Rattle.fixed_kernel.specs.Raised.{with_raised, raised_step}
 use Rattle.fixed_kernel.specs.Spans.{words_of, spans_of, state_in, made_in}
 use Rattle.fixed_kernel.specs.Ready.{IsReadyToStep}
+use Rattle.fixed_kernel.specs.WordMachine.{IsMachineOf}
 use Rattle.fixed_kernel.specs.Progress.{Progress, iterate_of, region_of, unloaded, progress_of, IsReached}
 use Rattle.fixed_kernel.proofs.Rooms.{fit}
 use Rattle.fixed_kernel.proofs.Raised.{raised_at, raised_long, start_with_raised, step_with_raised}
@@ -108,6 +110,7 @@ pub record Stands (k : Inside) (p : Progress) : Type 0 where
   pub region : k.region ≡ region_of p
   pub spans : k.spans ≡ spans_of p.controller
   pub narrow : IsTrue k.narrow → HasNarrowFactors p.controller
+  pub words : IfSome k.words (IsMachineOf p.controller)
 
 pub seen : (k : Inside) (p : Progress) → Stands k p → progress_of k ≡ p
 seen k p s =
@@ -126,6 +129,7 @@ reached k p s =
       region = s.region ∙ ap region_of (sym e);
       spans = s.spans ∙ ap spans_of (sym s.controller);
       narrow = λ t. subst HasNarrowFactors (sym s.controller) (s.narrow t);
+      words = subst (λ (n : Numbers). IfSome k.words (IsMachineOf n)) (sym s.controller) s.words;
     }
 
 -- a kernel by its rule
@@ -160,6 +164,7 @@ loaded_stands k r n xi start ws e same grid h =
       region = written_region k.region start ws p e (held_long k r) g (ap (λ (w : RegionWords). w.used) r.region) (h ∙ ap (λ (m : Numbers). words_of (loaded m xi) (start_of m)) same ∙ words_first c xi);
       spans = r.spans;
       narrow = r.narrow;
+      words = r.words;
     }
 
 -- a step is made
@@ -180,6 +185,7 @@ stepped_stands k r lt n start lent ws e same taken h =
           ap (λ (w : List ℤ). words_of (state_in c w) (raised_step c (state_in c w) (made_in c w))) was ∙ words_after (progress_of k) (goes k r));
       spans = r.spans;
       narrow = r.narrow;
+      words = r.words;
     }
 
 -- all words are lent
@@ -191,6 +197,46 @@ pub ready_lent : (k : Inside) → IsReached k → k.made < k.controller.now.step
 ready_lent k r lt n lent same h =
     subst (λ (m : Numbers). IsReadyToStep m (state_in m lent) (made_in m lent)) (sym same)
     (subst (λ (w : List ℤ). IsReadyToStep k.controller.now (state_in k.controller.now w) (made_in k.controller.now w)) (sym (h ∙ ap (λ (w : RegionWords). w.words) r.region)) (ready_held (progress_of k) (goes k r) lt))
+
+-- ---- a run in words of 64 bits
+was_lent : (k : Inside) → IsReached k → (lent : List ℤ) → lent ≡ k.region.words → state_in k.controller.now lent ≡ loaded k.controller.now (progress_of k).state
+was_lent k r lent h = ap (state_in k.controller.now) (h ∙ ap (λ (w : RegionWords). w.words) r.region) ∙ state_held (progress_of k) (goes k r)
+
+pub state_lent : (k : Inside) → IsReached k → (n : Numbers) (lent : List ℤ) → n ≡ k.controller.now → lent ≡ k.region.words → AreWithin (state_in n lent) (state_magnitudes n)
+state_lent k r n lent same h =
+    subst (λ (m : Numbers). AreWithin (state_in m lent) (state_magnitudes m)) (sym same)
+    (subst (λ (s : List ℤ). AreWithin s (state_magnitudes k.controller.now)) (sym (was_lent k r lent h)) (state_reached (progress_of k) (goes k r)))
+
+pub made_lent : (k : Inside) → IsReached k → (n : Numbers) (lent : List ℤ) → n ≡ k.controller.now → lent ≡ k.region.words → made_in n lent ≡ with_raised n (after n (state_in n lent) k.made)
+made_lent k r n lent same h =
+    let c = k.controller.now in
+    let p = progress_of k in
+    subst (λ (m : Numbers). made_in m lent ≡ with_raised m (after m (state_in m lent) k.made)) (sym same)
+    (ap (made_in c) (h ∙ ap (λ (w : RegionWords). w.words) r.region) ∙ made_held p (goes k r) ∙ ap (λ (s : List ℤ). with_raised c (after c s k.made)) (sym (was_lent k r lent h)))
+
+-- a kernel with words written, all steps made, and other room
+abbrev pub kernel_after : Inside → ℕ → List ℤ → ℕ → WordMachine → Inside
+kernel_after k start ws made machine = record k { region = record { words = written_over k.region.words start ws; used = k.region.used }; made = made; words = Some machine }
+
+-- all steps are made
+pub finished_stands : (k : Inside) → IsReached k → (n : Numbers) (machine : WordMachine) (start : ℕ) (lent ws : List ℤ) → start ≡ 0 → n ≡ k.controller.now → lent ≡ k.region.words → IsMachineOf n machine →
+    ws ≡ words_of (state_in n lent) (with_raised n (after n (state_in n lent) n.steps)) →
+    Stands (kernel_after k start ws n.steps machine) (record (progress_of k) { made = k.controller.now.steps })
+finished_stands k r n machine start lent ws e same taken own h =
+    let c = k.controller.now in
+    let p : Progress = record (progress_of k) { made = c.steps } in
+    let g : Goes p = record { sound = r.sound; grid = r.grid; steps = omega arith } in
+    record {
+      controller = refl;
+      made = ap (λ (m : Numbers). m.steps) same;
+      goes = g;
+      region = written_region k.region start ws p e (held_long k r) g (ap (λ (w : RegionWords). w.used) r.region)
+          (h ∙ ap (λ (m : Numbers). words_of (state_in m lent) (with_raised m (after m (state_in m lent) m.steps))) same ∙
+          ap (λ (s : List ℤ). words_of s (with_raised c (after c s c.steps))) (was_lent k r lent taken));
+      spans = r.spans;
+      narrow = r.narrow;
+      words = subst (λ (m : Numbers). IsMachineOf m machine) same own;
+    }
 
 -- ---- single words
 -- word i of the region, where the machine's values have it

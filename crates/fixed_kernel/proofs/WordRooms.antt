@@ -13,15 +13,17 @@ use Rattle.mat_int.specs.Row.{list_dot, abs_dot}
 use Rattle.mat_int.specs.Matrix.{row_of}
 use Rattle.mat_int.proofs.Dots.{abs-add_le, abs-dot_le}
 use Rattle.qp_model.specs.machine.Controller.{Numbers}
-use Rattle.qp_model.specs.machine.Machine.{row_sum, raised, plan_of, after}
+use Rattle.qp_model.specs.machine.Machine.{lowering_of, row_sum, raised, plan_of, next_multiplier, after}
 use Rattle.qp_model.specs.machine.AbsoluteSums.{weighted_abs_sum, state_magnitudes, clamp_magnitudes, plan_magnitudes, entry_absolute_sum, row_absolute_sum, IsController}
 use Rattle.qp_model.specs.machine.Within.{AreWithin}
 use Rattle.qp_model.proofs.AbsoluteLaws.{le_times_pow, abs-neg, abs-shifted, abs-own_le, abs-scaled_le, ceil_div_mono}
-use Rattle.qp_model.proofs.MagnitudeLaws.{abs_dot-magnitudes, entry_parts_le, after_multipliers, after_tops, zeros_at, plan_within}
-use Rattle.qp_model.proofs.VersionLaws.{first_raised}
+use Rattle.qp_model.proofs.MagnitudeLaws.{abs_dot-magnitudes, entry_parts_le, after_multipliers, zeros_at, plan_within}
 use Rattle.overflow_check.proofs.SumLaws.{SumsFit, sums_fit}
-use Rattle.overflow_check.proofs.Runs.{after_plan_length, after_multipliers_length, after_sums_length, after_sums_le, clamped_at}
+use Rattle.overflow_check.proofs.Runs.{after_plan_length, after_sums_length, after_sums_le}
 use Rattle.std.proofs.lemmas.List.FromFn.{length-map-range_with_len, get_or-map-range_with_len}
+use Rattle.fixed_kernel.specs.Raised.{with_raised}
+use Rattle.fixed_kernel.proofs.Raised.{raised_long, within_clamp, moved_raised_within}
+use Rattle.fixed_kernel.proofs.WordSums.{whole_le}
 use Rattle.fixed_kernel.specs.WordForm.{entry_base, row_base, entry_bases, row_bases, IsWordSized, IsReadyInWords}
 
 -- no absolute sum passes a word's greatest number
@@ -65,9 +67,23 @@ next_word_room c state plan old i s narrow h le w v =
     let mono = ceil_div_mono (unsigned_abs (row_base c state i) + abs_dot (row_of c.plan_rows i) plan) (row_absolute_sum c i) (2 ^ c.fraction_bits) (pow_pos c.fraction_bits) (row_base_le c state plan i w v) in
     omega (arith, mono, le, (word_fit c s narrow).next i h)
 
+-- the sum that the floor is taken of, and the multiplier that it is added to
+pub entry_sum_narrow : (c : Numbers) (state multipliers : List ℤ) (j : ℕ) → IsController c → c.width ≤ 64 → j < length c.offsets → AreWithin state (state_magnitudes c) → AreWithin multipliers (clamp_magnitudes c) →
+    IsNarrow (entry_base c state j +ℤ list_dot (row_of c.dual_gains j) multipliers)
+entry_sum_narrow c state multipliers j s narrow h w v =
+    omega (arith, whole_le (entry_base c state j) (row_of c.dual_gains j) multipliers, entry_word_room c state multipliers j s narrow h w v)
+
 -- the row's sum is what the state and the bound add and the plan's products
 pub row_sum_is : (c : Numbers) (state plan : List ℤ) (i : ℕ) → row_base c state i +ℤ list_dot (row_of c.plan_rows i) plan ≡ row_sum c state plan i
 row_sum_is c state plan i = omega (arith, ints)
+
+pub next_sum_room : (c : Numbers) (state plan : List ℤ) (old : ℤ) (i : ℕ) → IsController c → c.width ≤ 64 → i < length c.bounds → unsigned_abs old ≤ unsigned_abs c.clamp → AreWithin state (state_magnitudes c) → AreWithin plan (plan_magnitudes c) →
+    unsigned_abs old + ceil_div (unsigned_abs (row_sum c state plan i)) (2 ^ c.fraction_bits) < 2 ^ 63
+next_sum_room c state plan old i s narrow h le w v =
+    let parts = unsigned_abs (row_base c state i) + abs_dot (row_of c.plan_rows i) plan in
+    let below : unsigned_abs (row_sum c state plan i) ≤ parts = subst (λ (z : ℤ). unsigned_abs z ≤ parts) (row_sum_is c state plan i) (whole_le (row_base c state i) (row_of c.plan_rows i) plan) in
+    let mono = ceil_div_mono (unsigned_abs (row_sum c state plan i)) parts (2 ^ c.fraction_bits) (pow_pos c.fraction_bits) below in
+    omega (arith, mono, next_word_room c state plan old i s narrow h le w v)
 
 -- ---- the bases of all
 pub entry_bases_long : (c : Numbers) (state : List ℤ) → length (entry_bases c state) ≡ length c.offsets
@@ -145,34 +161,39 @@ row_base_fits c state i s narrow h w =
 -- ---- a run
 -- one more step may be made
 pub ready_in_words : (c : Numbers) (state entry_starts row_starts : List ℤ) (k : ℕ) → IsController c → IsWordSized c → AreWithin state (state_magnitudes c) → entry_starts ≡ entry_bases c state → row_starts ≡ row_bases c state → k < c.steps →
-    IsReadyInWords c state entry_starts row_starts (after c state k)
-ready_in_words c state entry_starts row_starts k s words w e r lt =
-    let sized = s.form.sized in
-    let ls = (after c state k).multipliers in
-    let long : length ls ≡ c.rows = omega (arith, after_multipliers_length c state k, sized.shaped.bounds) in
-    record {
-      state_within = w;
-      entries = e;
-      rows = r;
-      multipliers_within = subst (λ (xs : List ℤ). AreWithin xs (clamp_magnitudes c)) (first_raised c sized words.first ls long) (after_multipliers c state k sized.clamp_low);
-      plan_long = after_plan_length c state k;
-      sums_long = after_sums_length c state k;
-      room = λ j h.
-          let u = get_or (plan_magnitudes c) j 0 in
-          let sum = after_sums_le c state k j sized.clamp_low w h in
-          let all : (k + 1) * u ≤ c.steps * u = mul-le (k + 1) u c.steps u (omega (arith, lt)) (omega arith) in
-          omega (arith, sum, all, (word_fit c s words.width).sums j h);
-    }
+    IsReadyInWords c state entry_starts row_starts (with_raised c (after c state k))
+ready_in_words c state entry_starts row_starts k s words w e r lt = record {
+  state_within = w;
+  entries = e;
+  rows = r;
+  multipliers_within = after_multipliers c state k s.form.sized.clamp_low;
+  plan_long = after_plan_length c state k;
+  sums_long = after_sums_length c state k;
+  room = λ j h.
+      let u = get_or (plan_magnitudes c) j 0 in
+      let sum = after_sums_le c state k j s.form.sized.clamp_low w h in
+      let all : (k + 1) * u ≤ c.steps * u = mul-le (k + 1) u c.steps u (omega (arith, lt)) (omega arith) in
+      omega (arith, sum, all, (word_fit c s words.width).sums j h);
+}
 
 -- ---- what a run has made fits the word
 -- a list whose numbers are below the word's bound
 narrow_each : (xs : List ℤ) → ((k : ℕ) → k < length xs → unsigned_abs (at xs k) < 2 ^ 63) → All IsNarrow xs
 narrow_each xs h = λ i d l. rw (get_or_default xs i d (pos 0) l) (h i l)
 
-pub after_multipliers_narrow : (c : Numbers) (state : List ℤ) (k : ℕ) → IsController c → IsWordSized c → All IsNarrow (after c state k).multipliers
+-- a row's raised multiplier, and so a row's greatest
+pub clamp_narrow : (c : Numbers) (i : ℕ) → IsController c → IsWordSized c → i < length c.bounds → IsNarrow c.clamp
+clamp_narrow c i s words lt = omega (arith, (word_fit c s words.width).next i lt)
+
+pub moved_raised_word : (c : Numbers) (state plan : List ℤ) (old : ℤ) (i : ℕ) → IsController c → IsWordSized c → i < length c.bounds → IsNarrow (next_multiplier c state plan old i *ℤ pos (2 ^ lowering_of c i))
+moved_raised_word c state plan old i s words lt = omega (arith, moved_raised_within c state plan old i s lt, clamp_narrow c i s words lt)
+
+pub after_multipliers_narrow : (c : Numbers) (state : List ℤ) (k : ℕ) → IsController c → IsWordSized c → All IsNarrow (raised c (after c state k).multipliers)
 after_multipliers_narrow c state k s words =
-    let tops = after_tops c state k s.form.sized.clamp_low in
-    narrow_each (after c state k).multipliers (λ i l. omega (arith, clamped_at c (after c state k).multipliers i tops, (word_fit c s words.width).next i (omega (arith, l, after_multipliers_length c state k))))
+    let ls = raised c (after c state k).multipliers in
+    narrow_each ls (λ i l.
+    let row : i < length c.bounds = omega (arith, l, raised_long c (after c state k).multipliers) in
+    omega (arith, within_clamp c ls i row (after_multipliers c state k s.form.sized.clamp_low), clamp_narrow c i s words row))
 
 pub after_sums_narrow : (c : Numbers) (state : List ℤ) (k : ℕ) → IsController c → IsWordSized c → AreWithin state (state_magnitudes c) → k ≤ c.steps → All IsNarrow (after c state k).sums
 after_sums_narrow c state k s words w le =

@@ -1,10 +1,12 @@
 -- A sum of products needs only the span of a row outside of which its numbers are 0.
 use Rattle.std.proofs.Common.{◌≡◌, ℕ, zero, suc, ◌+◌, ◌-◌, ◌≤◌, ◌<◌, ℤ, pos, ◌+ℤ◌, ◌*ℤ◌, List, [], ◌∷◌, take, drop, arith, refl, sym, ap, ◌∙◌}
-use Rattle.std.specs.Prelude.{slice_range}
+use Rattle.std.specs.Prelude.{slice_range, All}
+use Rattle.std.proofs.lemmas.List.Elements.{All-take, All-drop}
 use Rattle.std.proofs.lemmas.Int.{ints}
 use Rattle.integer_algebra.specs.Sums.{at}
 use Rattle.mat_int.specs.Row.{list_dot, abs_dot}
 use Rattle.mat_int.proofs.Dots.{abs_dot-take_le}
+use Rattle.fixed_kernel.specs.WordForm.{IsHalf}
 
 nil_dot : (xs : List ℤ) → list_dot xs [] ≡ pos 0
 nil_dot [] = refl
@@ -55,3 +57,7 @@ span_dot_is xs ys a e le before behind =
 
 pub span_abs_le : (xs ys : List ℤ) (a e : ℕ) → abs_dot (slice_range xs a e) (slice_range ys a e) ≤ abs_dot xs ys
 span_abs_le xs ys a e = omega (arith, abs_dot-take_le (drop a xs) (drop a ys) (e - a), drop_le a xs ys)
+
+-- its numbers
+pub span_half : (xs : List ℤ) (a e : ℕ) → All IsHalf xs → All IsHalf (slice_range xs a e)
+span_half xs a e h = All-take IsHalf (e - a) (drop a xs) (All-drop IsHalf a xs h)

@@ -1,12 +1,13 @@
 -- What sums of products meet fits words of 64 bits, where the absolute values leave room there.
-use Rattle.std.proofs.Common.{◌≡◌, ℕ, ◌+◌, ◌<◌, ◌≤◌, ◌^◌, ℤ, pos, ◌+ℤ◌, ◌-ℤ◌, ◌*ℤ◌, neg_ℤ, List, length, take, get_or, unsigned_abs, FitsSigned, arith}
+use Rattle.std.proofs.Common.{◌≡◌, ℕ, ◌+◌, ◌*◌, ◌%◌, ◌<◌, ◌≤◌, ◌^◌, ℤ, pos, to_z, ap, ◌∙◌, ◌+ℤ◌, ◌-ℤ◌, ◌*ℤ◌, neg_ℤ, List, length, take, get_or, unsigned_abs, FitsSigned, arith}
 use Rattle.std.specs.Int.{w64}
-use Rattle.std.proofs.lemmas.Int.{ints, unsigned_abs-mul, fits_signed_from_abs, to_z-of_z}
-use Rattle.std.proofs.lemmas.Nat.{pow_pos}
+use Rattle.std.proofs.lemmas.Int.{ints, unsigned_abs-mul, fits_signed_from_abs, to_z-of_z, to_z_pos}
+use Rattle.std.proofs.lemmas.Nat.{pow_pos, pow_below, one_shl}
 use Rattle.integer_algebra.specs.Division.{floor_of, ceil_div}
 use Rattle.mat_int.specs.Row.{list_dot, abs_dot}
+use Rattle.mat_products.specs.Narrow.{IsNarrow}
 use Rattle.mat_int.proofs.Dots.{abs-add_le, abs-dot_le, dot-take_more, abs_dot-take_suc, abs_dot-take_le, abs_dot_more_le}
-use Rattle.qp_model.proofs.AbsoluteLaws.{abs-neg, abs-floor_le, abs-floor_le_ceil, ceil_div_mono}
+use Rattle.qp_model.proofs.AbsoluteLaws.{abs-neg, abs-floor_le, abs-floor_le_ceil}
 
 -- ---- the loop
 pub word_product_fits : (start : ℤ) (xs ys : List ℤ) (i : ℕ) → i < length xs → i < length ys → unsigned_abs start + abs_dot xs ys < 2 ^ 63 → FitsSigned w64 (get_or xs i (pos 0) *ℤ get_or ys i (pos 0))
@@ -26,28 +27,28 @@ pub ruleset word_dot_steps = (word_product_fits, word_sum_fits, dot-take_more, t
 
 -- ---- after the loop
 -- the sum
-whole_le : (start : ℤ) (xs ys : List ℤ) → unsigned_abs (start +ℤ list_dot xs ys) ≤ unsigned_abs start + abs_dot xs ys
+pub whole_le : (start : ℤ) (xs ys : List ℤ) → unsigned_abs (start +ℤ list_dot xs ys) ≤ unsigned_abs start + abs_dot xs ys
 whole_le start xs ys = omega (arith, abs-add_le start (list_dot xs ys), abs-dot_le xs ys)
 
 pub word_whole_fits : (start : ℤ) (xs ys : List ℤ) → unsigned_abs start + abs_dot xs ys < 2 ^ 63 → FitsSigned w64 (start +ℤ list_dot xs ys)
 word_whole_fits start xs ys room = fits_signed_from_abs w64 _ (omega (arith, whole_le start xs ys, room))
 
--- its floor
-pub word_floor_fits : (start : ℤ) (xs ys : List ℤ) (d : ℕ) → unsigned_abs start + abs_dot xs ys < 2 ^ 63 → FitsSigned w64 (floor_of (start +ℤ list_dot xs ys) d)
-word_floor_fits start xs ys d room = fits_signed_from_abs w64 _ (omega (arith, abs-floor_le (start +ℤ list_dot xs ys) d, whole_le start xs ys, room))
-
--- the floor's negative
+-- ---- a plan entry
 pub minus_is : (z : ℤ) → pos 0 -ℤ z ≡ neg_ℤ z
 minus_is z = omega (arith, ints)
 
-pub word_minus_fits : (start : ℤ) (xs ys : List ℤ) (d : ℕ) → unsigned_abs start + abs_dot xs ys < 2 ^ 63 → FitsSigned w64 (pos 0 -ℤ floor_of (start +ℤ list_dot xs ys) d)
-word_minus_fits start xs ys d room =
-    let z = floor_of (start +ℤ list_dot xs ys) d in
-    rw (minus_is z) (fits_signed_from_abs w64 _ (omega (arith, abs-neg z, abs-floor_le (start +ℤ list_dot xs ys) d, whole_le start xs ys, room)))
+pub word_minus_fits : (sum : ℤ) (d : ℕ) → IsNarrow sum → FitsSigned w64 (pos 0 -ℤ floor_of sum d)
+word_minus_fits sum d room =
+    let z = floor_of sum d in
+    rw (minus_is z) (fits_signed_from_abs w64 _ (omega (arith, abs-neg z, abs-floor_le sum d, room)))
 
--- a multiplier that it is added to
-pub word_next_fits : (start old : ℤ) (xs ys : List ℤ) (f : ℕ) → unsigned_abs old + ceil_div (unsigned_abs start + abs_dot xs ys) (2 ^ f) < 2 ^ 63 → FitsSigned w64 (old +ℤ floor_of (start +ℤ list_dot xs ys) (2 ^ f))
-word_next_fits start old xs ys f room =
-    let z = start +ℤ list_dot xs ys in
-    let le = ceil_div_mono (unsigned_abs z) (unsigned_abs start + abs_dot xs ys) (2 ^ f) (pow_pos f) (whole_le start xs ys) in
-    fits_signed_from_abs w64 _ (omega (arith, abs-add_le old (floor_of z (2 ^ f)), abs-floor_le_ceil z (2 ^ f) (pow_pos f), le, room))
+-- ---- a multiplier
+pub word_next_fits : (sum old : ℤ) (f : ℕ) → unsigned_abs old + ceil_div (unsigned_abs sum) (2 ^ f) < 2 ^ 63 → FitsSigned w64 (old +ℤ floor_of sum (2 ^ f))
+word_next_fits sum old f room =
+    fits_signed_from_abs w64 _ (omega (arith, abs-add_le old (floor_of sum (2 ^ f)), abs-floor_le_ceil sum (2 ^ f) (pow_pos f), room))
+
+-- `1 << (k % 64)` is the power
+pub one_shifted : (k : ℕ) → k ≤ 62 → to_z w64 ((1 * 2 ^ (k % 64)) % 2 ^ 64) ≡ pos (2 ^ k)
+one_shifted k h =
+    let same : k % 64 ≡ k = omega (arith, h) in
+    rw same (ap (to_z w64) (one_shl k 64 (omega (arith, h))) ∙ to_z_pos w64 (2 ^ k) (pow_below k 63 (omega (arith, h))))

@@ -6,3 +6,4 @@ pub mod Factors
 pub mod Ready
 pub mod WordForm
 pub mod WordLines
+pub mod WordMachine

@@ -1,5 +1,5 @@
 -- A kernel as its controller, the grid state that it runs from and the number of steps made.
-use Rattle.std.specs.Prelude.{◌≡◌, ℕ, ◌-◌, ◌^◌, ◌≤◌, ℤ, List, map, IsTrue}
+use Rattle.std.specs.Prelude.{◌≡◌, ℕ, ◌-◌, ◌^◌, ◌≤◌, ℤ, List, map, IsTrue, IfSome}
 use Rattle.integer_algebra.specs.Division.{floor_of}
 use Rattle.qp_model.specs.machine.Controller.{Numbers}
 use Rattle.qp_model.specs.machine.Machine.{Iterate, IsAdmissible, loaded, after}
@@ -7,6 +7,7 @@ use Rattle.qp_model.specs.machine.AbsoluteSums.{IsController}
 use Rattle.word_region.specs.Words.{RegionWords}
 use Rattle.fixed_kernel.specs.Factors.{HasNarrowFactors}
 use Rattle.fixed_kernel.specs.Raised.{with_raised}
+use Rattle.fixed_kernel.specs.WordMachine.{IsMachineOf}
 use Rattle.fixed_kernel.specs.Spans.{words_of, spans_of, state_in}
 use Rattle.fixed_kernel.specs.declared.kernel.Kernel.TheInside.{Inside}
 
@@ -31,8 +32,8 @@ region_of k = record { words = words_of (loaded k.controller k.state) (with_rais
 abbrev pub progress_of : Inside → Progress
 progress_of k = record { controller = k.controller.now; state = unloaded k.controller.now (state_in k.controller.now k.region.words); made = k.made }
 
--- the rule of a kernel: its state is that of a grid state of the box, its region's words are the machine's after the steps made, its spans are the four, and
--- its factors are narrow where it says so
+-- the rule of a kernel: its state is that of a grid state of the box, its region's words are the machine's after the steps made, its spans are the four,
+-- its factors are narrow where it says so, and what it makes runs in words of 64 bits with is its controller's
 pub record IsReached (k : Inside) : Type 0 where
   pub sound : IsController k.controller.now
   pub made : k.made ≤ k.controller.now.steps
@@ -40,3 +41,4 @@ pub record IsReached (k : Inside) : Type 0 where
   pub region : k.region ≡ region_of (progress_of k)
   pub spans : k.spans ≡ spans_of k.controller.now
   pub narrow : IsTrue k.narrow → HasNarrowFactors k.controller.now
+  pub words : IfSome k.words (IsMachineOf k.controller.now)

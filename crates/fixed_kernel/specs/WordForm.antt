@@ -1,10 +1,9 @@
 -- A step in words of 64 bits: what the state and the offsets add to each sum stands apart, and is made once a run.
-use Rattle.std.specs.Prelude.{◌≡◌, ℕ, ◌+◌, ◌^◌, ◌≤◌, ◌<◌, ℤ, pos, ◌+ℤ◌, ◌-ℤ◌, ◌*ℤ◌, List, length, map, unsigned_abs, slice_index_or}
+use Rattle.std.specs.Prelude.{◌≡◌, ℕ, ◌+◌, ◌^◌, ◌≤◌, ◌<◌, ℤ, pos, ◌+ℤ◌, ◌-ℤ◌, ◌*ℤ◌, List, All, length, map, unsigned_abs, slice_index_or}
 use Rattle.std.specs.List.{range_with_len}
 use Rattle.integer_algebra.specs.Sums.{at}
 use Rattle.mat_int.specs.Row.{list_dot}
 use Rattle.mat_int.specs.Matrix.{row_of}
-use Rattle.qp_model.specs.problem.Limits.{text_version}
 use Rattle.qp_model.specs.machine.Controller.{Numbers}
 use Rattle.qp_model.specs.machine.Machine.{Iterate}
 use Rattle.qp_model.specs.machine.AbsoluteSums.{state_magnitudes, clamp_magnitudes, plan_magnitudes}
@@ -27,11 +26,21 @@ row_bases c state = map (row_base c state) (range_with_len 0 (length c.bounds))
 
 -- a controller whose steps are made in words of 64 bits: by its width each value fits, and each shift stays within a word
 pub record IsWordSized (c : Numbers) : Type 0 where
-  pub first : c.version ≡ text_version
   pub width : c.width ≤ 64
   pub bits : c.fraction_bits + c.step_exponent < 64
 
--- what one more step asks of a state, its bases and what the machine has made
+-- a number that fits half a word, as its negative does
+abbrev pub IsHalf : ℤ → Type 0
+IsHalf z = unsigned_abs z < 2 ^ 31
+
+-- each factor of a step's products does: each entry of the matrices and each raised multiplier, and, by the width, each entry of the plan
+pub record HasHalfFactors (c : Numbers) : Type 0 where
+  pub dual_gains : All (All IsHalf) c.dual_gains.rows
+  pub plan_rows : All (All IsHalf) c.plan_rows.rows
+  pub clamp : IsHalf c.clamp
+  pub width : c.width ≤ c.fraction_bits + c.step_exponent + 31
+
+-- what one more step asks of a state, its bases and what the machine has made, its multipliers raised
 pub record IsReadyInWords (c : Numbers) (state entry_starts row_starts : List ℤ) (made : Iterate) : Type 0 where
   pub state_within : AreWithin state (state_magnitudes c)
   pub entries : entry_starts ≡ entry_bases c state

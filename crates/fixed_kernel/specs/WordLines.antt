@@ -1,9 +1,17 @@
 -- Rows in words of 64 bits.
-use Rattle.std.specs.Prelude.{◌≡◌, ℕ, ℤ, All, FitsSigned, Vec, length}
+use Rattle.std.specs.Prelude.{◌≡◌, ℕ, ◌≤◌, ◌<◌, ℤ, pos, List, All, FitsSigned, length}
 use Rattle.std.specs.Int.{w64}
-use Rattle.std.specs.declared.alloc.Global.{Global}
+use Rattle.integer_algebra.specs.Sums.{at}
+use Rattle.fixed_kernel.specs.declared.word_mat.WordRow.TheInside.{Inside}
 
--- a row has one entry for each column, and each fits the word
-pub record IsWordStored (cols : ℕ) (v : Vec ℤ Global) : Type 0 where
-  pub even : length v.items ≡ cols
-  pub word : All (FitsSigned w64) v.items
+-- each number fits the word, and outside of the span each is 0
+pub record IsSpanned (r : Inside) : Type 0 where
+  pub word : All (FitsSigned w64) r.numbers.items
+  pub order : r.from ≤ r.to
+  pub inside : r.to ≤ length r.numbers.items
+  pub before : (k : ℕ) → k < r.from → at r.numbers.items k ≡ pos 0
+  pub behind : (k : ℕ) → r.to ≤ k → at r.numbers.items k ≡ pos 0
+
+-- a row has one number for each column
+abbrev pub IsLong : ℕ → List ℤ → Type 0
+IsLong cols row = length row ≡ cols

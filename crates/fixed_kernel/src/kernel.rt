@@ -1,5 +1,5 @@
 // The machine's state, its steps and its runs.
-ghost use Rattle.std.specs.Prelude.{◌≡◌, ◌<◌, ◌≤◌, ◌+◌, ◌^◌, ◌↔◌, pos, ◌*ℤ◌, length, IsOk, IfOk, IfErr, OnOk, OnErr};
+ghost use Rattle.std.specs.Prelude.{◌≡◌, ◌<◌, ◌≤◌, ◌+◌, ◌^◌, ◌↔◌, pos, ◌*ℤ◌, length, IsTrue, IsFalse, IsOk, IfOk, IfErr, OnOk, OnErr};
 ghost use Rattle.integer_algebra.specs.Sums.{at};
 ghost use Rattle.qp_model.specs.machine.Controller.{plan_length};
 ghost use Rattle.qp_model.specs.machine.Machine.{IsAdmissible, lowering_of, loaded, step_of, run_of};
@@ -10,6 +10,7 @@ use crate::narrow::has_narrow_factors;
 use crate::spans::{Spans, take_spans};
 use crate::state::{OutsideBox, first_outside, put_start};
 use crate::step::{advance, lowered};
+use crate::word_machine::WordMachine;
 use overflow_check::Controller;
 use qp_model::ControllerParts;
 use std::alloc::{AllocError, Global};
@@ -18,10 +19,11 @@ use word_region::{Region, Span};
 
 /// A controller at work on one state. It is seen as the controller, the grid state and the number of steps made; plan,
 /// multipliers and sums are those of the machine after that many steps from that state. They, the multipliers raised to over `2^(f+s)`, and
-/// the state are the words of one region, and it has no others.
+/// the state are the words of one region, and it has no others. Where a controller's width is at most 64, a whole run is made in words of 64
+/// bits, in room that stands beside the region, and its words are put back there.
 ///
 /// Each answer is the written machine's, and the promise that no value leaves the controller's width speaks of that machine. On the way to
-/// them the code meets some other values, as a floor of one part of a sum alone; that these fit 128 bits is proved here.
+/// them the code meets some other values, as a floor of one part of a sum alone; that these fit their words is proved here.
 #[derive(Drop)]
 pub struct Kernel<'a> {
     controller: &'a Controller,
@@ -30,6 +32,8 @@ pub struct Kernel<'a> {
     made: u32,
     // Only where each factor of the machine's products fits 64 bits.
     narrow: bool,
+    // Only where a whole run fits words of 64 bits.
+    words: Option<WordMachine>,
 }
 
 impl<'a> Model for Kernel<'a> {
@@ -53,12 +57,15 @@ impl<'a> Kernel<'a> {
         let mut region = Region::with_words(alloc, c.words)?;
         let spans = take_spans(&mut region, c);
         put_start(c, &c.lo, region.cells_mut(&all_of(c)));
+        let narrow = has_narrow_factors(c);
+        let words = WordMachine::of(alloc, c, narrow)?;
         Ok(Kernel {
             controller,
             region,
             spans,
             made: 0,
-            narrow: has_narrow_factors(c),
+            narrow,
+            words,
         })
     }
 
@@ -92,12 +99,35 @@ impl<'a> Kernel<'a> {
         self.made += 1;
     }
 
-    // The steps that are left.
-    fn finish(&mut self)
+    // The steps that are left, by `step`.
+    fn finish_by_steps(&mut self)
         ensures { self.new ≡ record self.old { made = self.old.controller.steps } }
     {
         for _ in self.made..self.controller.parts().steps {
             self.step();
+        }
+    }
+
+    // The same in words of 64 bits, where the kernel has them, or else nothing.
+    fn finish_in_words(&mut self) -> bool
+        ensures made { IsTrue result → self.new ≡ record self.old { made = self.old.controller.steps } }
+        ensures kept { IsFalse result → self.new ≡ self.old }
+    {
+        let c = self.controller.parts();
+        let Some(machine) = &mut self.words else {
+            return false;
+        };
+        machine.finish(c, self.made, self.region.cells_mut(&all_of(c)));
+        self.made = c.steps;
+        true
+    }
+
+    // The steps that are left.
+    fn finish(&mut self)
+        ensures { self.new ≡ record self.old { made = self.old.controller.steps } }
+    {
+        if !self.finish_in_words() {
+            self.finish_by_steps();
         }
     }
 
@@ -161,8 +191,12 @@ impl<'a> Kernel<'a> {
         self.controller
     }
 
-    /// All the memory that the kernel ever uses: the words of the state over `2^f`, of the multipliers, of the last plan and of the sums, one
+    /// All that a kernel knows of its run: the words of the state over `2^f`, of the multipliers, of the last plan and of the sums, one
     /// behind the other. Each multiplier is raised there to over `2^(f+s)`, as the plan is made of it; in version 1 that is the multiplier itself.
+    ///
+    /// Where the width and `f + s` allow words of 64 bits, and each factor of the machine's products fits one, `prepare` takes more memory beside the region, and
+    /// only a run that is made whole uses it: the matrices `W` and `G` in such words, and room for what the state adds to the sum of each plan entry and of
+    /// each row, for the multipliers, for the plan and for the sums. Nothing is read from that room that the same run hasn't written.
     pub fn region(&self) -> &Region
         ensures words { result.now ≡ region_of self.now }
         ensures size { length result.now.words ≡ self.now.controller.words }

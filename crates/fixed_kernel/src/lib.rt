@@ -2,12 +2,14 @@
 #![tactic(auto)]
 
 mod entry;
+mod half;
 mod kernel;
 mod narrow;
 mod spans;
 mod state;
 mod step;
 mod word_bases;
+mod word_machine;
 mod word_mat;
 mod word_run;
 mod word_step;

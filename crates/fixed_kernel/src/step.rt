@@ -21,7 +21,7 @@ use crate::narrow::{scaled_by, shifted_by, sum_of_products};
 use qp_model::{ControllerParts, VERSION};
 
 // The step exponents, cut to the number of rows, which they have: so the compiler knows that a row's index is in range.
-fn exponents_of(c: &ControllerParts, rows: usize) -> &[u32]
+pub fn exponents_of(c: &ControllerParts, rows: usize) -> &[u32]
     requires sound { IsController (numbers c.now) }
     requires rows { rows ≡ length c.now.bound.items }
     ensures { result.now ≡ c.now.exps.items }
@@ -30,7 +30,7 @@ fn exponents_of(c: &ControllerParts, rows: usize) -> &[u32]
 }
 
 // By how many bits the step exponent of row `i` is below the greatest.
-fn lowering_at(c: &ControllerParts, exps: &[u32], i: usize) -> u32
+pub fn lowering_at(c: &ControllerParts, exps: &[u32], i: usize) -> u32
     requires sound { IsController (numbers c.now) }
     requires exps { exps.now ≡ c.now.exps.items }
     requires in_range { i < length c.now.bound.items }

@@ -1,25 +1,20 @@
 // A run in words of 64 bits, from a region's words and back to them.
-ghost use Rattle.std.specs.Prelude.{◌≡◌, ◌≤◌, ◌↔◌, IsTrue, length, All};
-ghost use Rattle.qp_model.specs.machine.Controller.{numbers, IsSized};
+ghost use Rattle.std.specs.Prelude.{◌≡◌, ◌≤◌, length, All};
+ghost use Rattle.qp_model.specs.machine.Controller.{numbers};
 ghost use Rattle.qp_model.specs.machine.Machine.{after};
 ghost use Rattle.qp_model.specs.machine.AbsoluteSums.{IsController, state_magnitudes};
 ghost use Rattle.qp_model.specs.machine.Within.{AreWithin};
 ghost use Rattle.mat_products.specs.Narrow.{IsNarrow};
-ghost use Rattle.fixed_kernel.specs.Spans.{made_of};
+ghost use Rattle.fixed_kernel.specs.Raised.{with_raised};
+ghost use Rattle.fixed_kernel.specs.Spans.{words_of, made_of, state_in, made_in};
 ghost use Rattle.fixed_kernel.specs.WordForm.{IsWordSized};
+ghost use Rattle.fixed_kernel.specs.WordMachine.{IsFormOf, IsMachineOf};
 
 use crate::word_bases::{put_entry_bases, put_row_bases};
-use crate::word_mat::{WordMat, narrowed};
+use crate::word_machine::{WordForm, WordMachine};
+use crate::word_mat::narrowed;
 use crate::word_step::word_steps;
-use qp_model::{ControllerParts, VERSION};
-
-// Whether a controller's steps are made in words of 64 bits.
-pub fn is_word_sized(c: &ControllerParts) -> bool
-    requires { IsSized (numbers c.now) }
-    ensures { IsTrue result ↔ IsWordSized (numbers c.now) }
-{
-    c.version == VERSION && c.w <= 64 && c.f + c.s < 64
-}
+use qp_model::ControllerParts;
 
 // Takes narrow numbers over.
 fn take_words(from: &[i128], to: &mut [i64])
@@ -42,12 +37,11 @@ fn put_words(from: &[i64], to: &mut [i128])
     }
 }
 
-// The steps that are left of a run, of which `made` were made: from what the region's words hold, and back into them.
-pub fn finish_in_words(
+// The steps that are left of a run, of which `made` were made: from what the region's words hold, and back into them. The multipliers there
+// are raised.
+fn finish_in_words(
     c: &ControllerParts,
-    gains: &WordMat,
-    rows: &WordMat,
-    top: i64,
+    form: &WordForm,
     made: u32,
     state: &[i128],
     entry_room: &mut [i64],
@@ -61,9 +55,7 @@ pub fn finish_in_words(
 )
     requires sound { IsController (numbers c.now) }
     requires words { IsWordSized (numbers c.now) }
-    requires gains { gains.now ≡ c.now.w_mat }
-    requires rows { rows.now ≡ c.now.g_mat }
-    requires top { top ≡ c.now.clamp }
+    requires form { IsFormOf (numbers c.now) form.now }
     requires state { AreWithin state.now (state_magnitudes (numbers c.now)) }
     requires entry_room { length entry_room.old ≡ length c.now.t.items }
     requires row_room { length row_room.old ≡ length c.now.bound.items }
@@ -71,8 +63,8 @@ pub fn finish_in_words(
     requires plan_room { length plan_room.old ≡ length plan.old }
     requires sum_room { length sum_room.old ≡ length sums.old }
     requires made { made ≤ c.now.steps }
-    requires start { made_of plan.old multipliers.old sums.old ≡ after (numbers c.now) state.now made }
-    ensures { made_of plan.new multipliers.new sums.new ≡ after (numbers c.now) state.now c.now.steps }
+    requires start { made_of plan.old multipliers.old sums.old ≡ with_raised (numbers c.now) (after (numbers c.now) state.now made) }
+    ensures { made_of plan.new multipliers.new sums.new ≡ with_raised (numbers c.now) (after (numbers c.now) state.now c.now.steps) }
 {
     put_entry_bases(c, state, entry_room);
     put_row_bases(c, state, row_room);
@@ -81,9 +73,7 @@ pub fn finish_in_words(
     take_words(sums, sum_room);
     word_steps(
         c,
-        gains,
-        rows,
-        top,
+        form,
         state,
         entry_room,
         row_room,
@@ -95,4 +85,37 @@ pub fn finish_in_words(
     put_words(multiplier_room, multipliers);
     put_words(plan_room, plan);
     put_words(sum_room, sums);
+}
+
+impl WordMachine {
+    // The steps that are left of a run, of which `made` were made, in a region's words, which are lent.
+    pub fn finish(&mut self, c: &ControllerParts, made: u32, words: &mut [i128])
+        requires sound { IsController (numbers c.now) }
+        requires machine { IsMachineOf (numbers c.now) self.old }
+        requires made { made ≤ c.now.steps }
+        requires long { length words.old ≡ c.now.words }
+        requires state { AreWithin (state_in (numbers c.now) words.old) (state_magnitudes (numbers c.now)) }
+        requires start { made_in (numbers c.now) words.old ≡ with_raised (numbers c.now) (after (numbers c.now) (state_in (numbers c.now) words.old) made) }
+        ensures machine { IsMachineOf (numbers c.now) self.new }
+        ensures words { let state = state_in (numbers c.now) words.old in words.new ≡ words_of state (with_raised (numbers c.now) (after (numbers c.now) state c.now.steps)) }
+    {
+        let (state, rest) = words.split_at_mut(c.n);
+        let (multipliers, rest) = rest.split_at_mut(c.m);
+        let (plan, sums) = rest.split_at_mut(c.t.len());
+        let room = &mut self.room;
+        finish_in_words(
+            c,
+            &self.form,
+            made,
+            state,
+            &mut room.entry_starts,
+            &mut room.row_starts,
+            &mut room.multipliers,
+            &mut room.plan,
+            &mut room.sums,
+            multipliers,
+            plan,
+            sums,
+        );
+    }
 }

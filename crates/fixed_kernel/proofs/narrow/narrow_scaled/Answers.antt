@@ -1,16 +1,10 @@
-use Rattle.std.proofs.Common.{◌≡◌, ℕ, ℤ, pos, ◌*◌, ◌*ℤ◌, ◌%◌, ◌^◌, ◌≤◌, ◌∙◌, to_z, unsigned_abs, FitsSigned, arith, ap}
+use Rattle.std.proofs.Common.{◌≡◌, ℕ, ℤ, pos, ◌*ℤ◌, ◌^◌, unsigned_abs, FitsSigned, arith}
 use Rattle.std.specs.Int.{w64, w128}
-use Rattle.std.proofs.lemmas.Int.{to_z-of_z, to_z_pos, fits_signed_from_abs}
-use Rattle.std.proofs.lemmas.Nat.{one_shl, pow_below}
+use Rattle.std.proofs.lemmas.Int.{to_z-of_z, fits_signed_from_abs}
 use Rattle.mat_products.specs.Narrow.{IsNarrow}
 use Rattle.qp_model.proofs.AbsoluteLaws.{le_times_pow, abs-shifted}
+use Rattle.fixed_kernel.proofs.WordSums.{one_shifted}
 use Rattle.fixed_kernel.proofs.narrow.narrow_scaled.Goals as goal
-
--- `1 << (k % 64)` is the power
-one_shifted : (k : ℕ) → k ≤ 62 → to_z w64 ((1 * 2 ^ (k % 64)) % 2 ^ 64) ≡ pos (2 ^ k)
-one_shifted k h =
-    let same : k % 64 ≡ k = omega (arith, h) in
-    rw same (ap (to_z w64) (one_shl k 64 (omega (arith, h))) ∙ to_z_pos w64 (2 ^ k) (pow_below k 63 (omega (arith, h))))
 
 -- what is scaled is narrow too
 narrow_before : (v : ℤ) (k : ℕ) → IsNarrow (v *ℤ pos (2 ^ k)) → FitsSigned w64 v

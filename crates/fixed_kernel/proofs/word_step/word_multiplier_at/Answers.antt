@@ -1,47 +1,78 @@
-use Rattle.std.proofs.Common.{◌≡◌, get_or, pos, rules, FitsSigned, arith, refl, ◌∙◌, ap, List, ℤ}
+use Rattle.std.proofs.Common.{◌≡◌, ◌^◌, rules, arith, FitsSigned, refl, sym, ◌∙◌}
 use Rattle.std.specs.Int.{w64}
 use Rattle.std.proofs.lemmas.Int.{to_z-of_z}
-use Rattle.mat_int.specs.Matrix.{row_of}
+use Rattle.integer_algebra.specs.Division.{floor_of}
 use Rattle.qp_model.specs.machine.Controller.{numbers}
-use Rattle.fixed_kernel.specs.WordForm.{row_base}
-use Rattle.fixed_kernel.proofs.Rooms.{plan_long}
-use Rattle.fixed_kernel.proofs.WordRooms.{row_word_room, next_word_room, row_bases_long, row_bases_at, row_sum_is}
+use Rattle.qp_model.specs.machine.Machine.{lowering_of, next_multiplier}
+use Rattle.fixed_kernel.proofs.WordRooms.{next_sum_room, moved_raised_word}
+use Rattle.fixed_kernel.proofs.Raised.{lowered_within, moved_unlowered}
 use Rattle.fixed_kernel.proofs.word_step.word_multiplier_at.Goals as goal
 
-pub bounds-bases-i : goal.bounds-bases-i
-bounds-bases-i c = rw (c.requires.bases, row_bases_long (numbers c.args.c.now) c.args.state.now) c.requires.in_range
-
-pub word_multiplier-requires-clause-lengths : goal.word_multiplier-requires-clause-lengths
-word_multiplier-requires-clause-lengths c =
-    let shaped = c.requires.sound.form.sized.shaped in
-    let len = rw c.requires.rows at c.row.ensures.len in
-    omega (arith, len, shaped.plan_rows.cols, shaped.offsets, plan_long (numbers c.args.c.now) c.args.plan.now c.requires.plan)
-
-pub word_multiplier-requires-clause-room : goal.word_multiplier-requires-clause-room
-word_multiplier-requires-clause-room c =
-    let n = numbers c.args.c.now in
-    let base : FitsSigned w64 (get_or c.args.bases.now c.args.i (pos 0)) = search rules in
-    let read : get_or c.args.bases.now c.args.i (pos 0) ≡ row_base n c.args.state.now c.args.i =
-    ap (λ (xs : List ℤ). get_or xs c.args.i (pos 0)) c.requires.bases ∙ row_bases_at n c.args.state.now c.args.i c.requires.in_range in
-    let row : c.row.result.now ≡ row_of n.plan_rows c.args.i = rw c.requires.rows at c.row.ensures.value in
-    rw (to_z-of_z w64 _ base, read, row) (row_word_room n c.args.state.now c.args.plan.now c.args.i c.requires.sound c.requires.words.width c.requires.in_range c.requires.state c.requires.plan)
+-- ---- where no bit is lowered
+pub word_multiplier-requires-clause-f : goal.word_multiplier-requires-clause-f
+word_multiplier-requires-clause-f c = omega (arith, c.requires.sound.form.sized.fraction_bits)
 
 pub word_multiplier-requires-clause-next : goal.word_multiplier-requires-clause-next
 word_multiplier-requires-clause-next c =
-    let n = numbers c.args.c.now in
-    let base : FitsSigned w64 (get_or c.args.bases.now c.args.i (pos 0)) = search rules in
-    let read : get_or c.args.bases.now c.args.i (pos 0) ≡ row_base n c.args.state.now c.args.i =
-    ap (λ (xs : List ℤ). get_or xs c.args.i (pos 0)) c.requires.bases ∙ row_bases_at n c.args.state.now c.args.i c.requires.in_range in
-    let row : c.row.result.now ≡ row_of n.plan_rows c.args.i = rw c.requires.rows at c.row.ensures.value in
-    rw (to_z-of_z w64 _ c.ranges.old, to_z-of_z w64 _ base, read, row)
-    (next_word_room n c.args.state.now c.args.plan.now c.args.old c.args.i c.requires.sound c.requires.words.width c.requires.in_range c.requires.old c.requires.state c.requires.plan)
+    let sum : FitsSigned w64 c.word_row_sum-sum.result = search rules in
+    rw (to_z-of_z w64 _ sum, to_z-of_z w64 _ c.ranges.raised, c.word_row_sum-sum.ensures)
+    (next_sum_room (numbers c.args.c.now) c.args.state.now c.args.plan.now c.args.raised c.args.i c.requires.sound c.requires.words.width c.requires.in_range c.requires.raised c.requires.state c.requires.plan)
 
-pub returns : goal.returns
-returns c =
+pub returns-then-lowering-eq0 : goal.returns-then-lowering-eq0
+returns-then-lowering-eq0 c =
     let n = numbers c.args.c.now in
-    let made : FitsSigned w64 c.word_multiplier.result = search rules in
-    let base : FitsSigned w64 (get_or c.args.bases.now c.args.i (pos 0)) = search rules in
-    let read : get_or c.args.bases.now c.args.i (pos 0) ≡ row_base n c.args.state.now c.args.i =
-    ap (λ (xs : List ℤ). get_or xs c.args.i (pos 0)) c.requires.bases ∙ row_bases_at n c.args.state.now c.args.i c.requires.in_range in
-    let row : c.row.result.now ≡ row_of n.plan_rows c.args.i = rw c.requires.rows at c.row.ensures.value in
-    rw (to_z-of_z w64 _ made, c.word_multiplier.ensures, to_z-of_z w64 _ c.ranges.old, to_z-of_z w64 _ c.ranges.top, to_z-of_z w64 _ base, read, row, row_sum_is n c.args.state.now c.args.plan.now c.args.i) refl
+    let sum : FitsSigned w64 c.word_row_sum-sum.result = search rules in
+    let top : FitsSigned w64 c.args.form.now.top = search rules in
+    let moved : FitsSigned w64 c.word_multiplier.result = search rules in
+    rw (to_z-of_z w64 _ moved, c.word_multiplier.ensures, to_z-of_z w64 _ top, c.requires.form.top, to_z-of_z w64 _ c.ranges.raised, to_z-of_z w64 _ sum, c.word_row_sum-sum.ensures)
+    (moved_unlowered n c.args.state.now c.args.plan.now c.args.raised c.args.i (sym c.lowering_at-lowering.ensures.value ∙ c.if-lowering-eq0.true))
+
+-- ---- where some are
+pub word_shift-old-requires : goal.word_shift-old-requires
+word_shift-old-requires c = omega (arith, c.lowering_at-lowering.ensures.bits)
+
+pub word_shift-top-requires : goal.word_shift-top-requires
+word_shift-top-requires c = omega (arith, c.lowering_at-lowering.ensures.bits)
+
+pub word_multiplier-requires-else-lowering-eq0-clause-f : goal.word_multiplier-requires-else-lowering-eq0-clause-f
+word_multiplier-requires-else-lowering-eq0-clause-f c = omega (arith, c.requires.sound.form.sized.fraction_bits)
+
+pub word_multiplier-requires-else-lowering-eq0-clause-next : goal.word_multiplier-requires-else-lowering-eq0-clause-next
+word_multiplier-requires-else-lowering-eq0-clause-next c =
+    let n = numbers c.args.c.now in
+    let i = c.args.i in
+    let sum : FitsSigned w64 c.word_row_sum-sum.result = search rules in
+    let old : FitsSigned w64 c.word_shift-old.result = search rules in
+    rw (to_z-of_z w64 _ sum, c.word_row_sum-sum.ensures, to_z-of_z w64 _ old, c.word_shift-old.ensures, c.lowering_at-lowering.ensures.value, to_z-of_z w64 _ c.ranges.raised)
+    (next_sum_room n c.args.state.now c.args.plan.now (floor_of c.args.raised (2 ^ lowering_of n i)) i c.requires.sound c.requires.words.width c.requires.in_range (lowered_within n c.args.raised i c.requires.raised) c.requires.state c.requires.plan)
+
+is_next : (c : goal.After-word_multiplier-else-lowering-eq0) →
+    c.word_multiplier-else-lowering-eq0.result ≡ next_multiplier (numbers c.args.c.now) c.args.state.now c.args.plan.now (floor_of c.args.raised (2 ^ lowering_of (numbers c.args.c.now) c.args.i)) c.args.i
+is_next c =
+    let n = numbers c.args.c.now in
+    let sum : FitsSigned w64 c.word_row_sum-sum.result = search rules in
+    let clamp : FitsSigned w64 c.args.form.now.top = search rules in
+    let old : FitsSigned w64 c.word_shift-old.result = search rules in
+    let top : FitsSigned w64 c.word_shift-top.result = search rules in
+    rw (to_z-of_z w64 _ top, c.word_shift-top.ensures, to_z-of_z w64 _ clamp, c.requires.form.top, to_z-of_z w64 _ old, c.word_shift-old.ensures, c.lowering_at-lowering.ensures.value, to_z-of_z w64 _ c.ranges.raised, to_z-of_z w64 _ sum, c.word_row_sum-sum.ensures) at c.word_multiplier-else-lowering-eq0.ensures
+
+pub word_raised-requires-clause-bits : goal.word_raised-requires-clause-bits
+word_raised-requires-clause-bits c = omega (arith, c.lowering_at-lowering.ensures.bits)
+
+pub word_raised-requires-clause-room : goal.word_raised-requires-clause-room
+word_raised-requires-clause-room c =
+    let n = numbers c.args.c.now in
+    let i = c.args.i in
+    let next : FitsSigned w64 c.word_multiplier-else-lowering-eq0.result = search rules in
+    rw (to_z-of_z w64 _ next, is_next c, c.lowering_at-lowering.ensures.value)
+    (moved_raised_word n c.args.state.now c.args.plan.now (floor_of c.args.raised (2 ^ lowering_of n i)) i c.requires.sound c.requires.words c.requires.in_range)
+
+pub returns-else-lowering-eq0 : goal.returns-else-lowering-eq0
+returns-else-lowering-eq0 c =
+    let sum : FitsSigned w64 c.word_row_sum-sum.result = search rules in
+    let clamp : FitsSigned w64 c.args.form.now.top = search rules in
+    let old : FitsSigned w64 c.word_shift-old.result = search rules in
+    let top : FitsSigned w64 c.word_shift-top.result = search rules in
+    let next : FitsSigned w64 c.word_multiplier-else-lowering-eq0.result = search rules in
+    let made : FitsSigned w64 c.word_raised.result = search rules in
+    rw (to_z-of_z w64 _ made, c.word_raised.ensures, to_z-of_z w64 _ next, c.word_multiplier-else-lowering-eq0.ensures, to_z-of_z w64 _ top, c.word_shift-top.ensures, to_z-of_z w64 _ clamp, c.requires.form.top, to_z-of_z w64 _ old, c.word_shift-old.ensures, c.lowering_at-lowering.ensures.value, to_z-of_z w64 _ c.ranges.raised, to_z-of_z w64 _ sum, c.word_row_sum-sum.ensures) refl

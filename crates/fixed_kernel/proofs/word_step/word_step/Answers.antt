@@ -1,17 +1,28 @@
-use Rattle.std.proofs.Common.{◌≡◌, ap, arith, length, List, ℤ}
+use Rattle.std.proofs.Common.{ap, arith, List, ℤ}
 use Rattle.qp_model.specs.machine.Controller.{numbers}
-use Rattle.qp_model.specs.machine.Machine.{next_multipliers, added}
-use Rattle.qp_model.proofs.VersionLaws.{first_raised}
-use Rattle.overflow_check.proofs.Sizes.{length-clamp_reach}
+use Rattle.qp_model.specs.machine.Machine.{raised, next_multipliers, added}
+use Rattle.qp_model.specs.machine.AbsoluteSums.{plan_magnitudes}
+use Rattle.qp_model.specs.machine.Within.{AreWithin}
+use Rattle.qp_model.proofs.MagnitudeLaws.{plan_within}
+use Rattle.fixed_kernel.specs.Raised.{unraised}
 use Rattle.fixed_kernel.specs.Spans.{made_of}
 use Rattle.fixed_kernel.proofs.word_step.word_step.Goals as goal
+
+pub word_multipliers-requires-clause-plan : goal.word_multipliers-requires-clause-plan
+word_multipliers-requires-clause-plan c =
+    let ready = c.requires.ready in
+    rw c.word_plan.ensures (plan_within (numbers c.args.c.now) c.args.state.now c.args.multipliers.now ready.state_within ready.multipliers_within)
+
+pub word_add-requires-clause-fit : goal.word_add-requires-clause-fit
+word_add-requires-clause-fit c =
+    let ready = c.requires.ready in
+    let within : AreWithin c.word_plan.new.plan (plan_magnitudes (numbers c.args.c.now)) =
+    rw c.word_plan.ensures (plan_within (numbers c.args.c.now) c.args.state.now c.args.multipliers.now ready.state_within ready.multipliers_within) in
+    λ k h. omega (arith, within.each k, ready.room k (omega arith))
 
 pub returns : goal.returns
 returns c =
     let n = numbers c.args.c.now in
-    let sized = c.requires.sound.form.sized in
     let state = c.args.state.now in
     let ls = c.args.multipliers.now in
-    let long : length ls ≡ n.rows = omega (arith, c.requires.ready.multipliers_within.long, length-clamp_reach n, sized.shaped.bounds) in
-    rw (c.word_add.ensures, c.word_multipliers.ensures, first_raised n sized c.requires.words.first ls long)
-    (ap (λ (p : List ℤ). made_of p (next_multipliers n state p ls) (added c.args.sums.now p)) c.word_plan.ensures.value)
+    rw (c.word_add.ensures, c.word_multipliers.ensures) (ap (λ (p : List ℤ). made_of p (raised n (next_multipliers n state p (unraised n ls))) (added c.args.sums.now p)) c.word_plan.ensures)

@@ -1,4 +1,5 @@
-use Rattle.std.proofs.Common.{◌≡◌, length, pos, ap, subst, ◌∙◌, arith, refl}
+use Rattle.std.proofs.Common.{◌≡◌, length, pos, ap, subst, ◌∙◌, arith, refl, Option}
+use Rattle.std.specs.Prelude.{IfSome}
 use Rattle.std.proofs.lemmas.List.{length-replicate}
 use Rattle.qp_model.specs.machine.Controller.{Numbers, numbers}
 use Rattle.qp_model.specs.machine.Machine.{loaded, start_of}
@@ -7,6 +8,8 @@ use Rattle.word_region.specs.declared.Span.{Span}
 use Rattle.word_region.specs.Words.{RegionWords}
 use Rattle.word_region.specs.Lending.{written_over}
 use Rattle.fixed_kernel.specs.declared.kernel.Kernel.TheInside.{Inside}
+use Rattle.fixed_kernel.specs.declared.word_machine.WordMachine.{WordMachine}
+use Rattle.fixed_kernel.specs.WordMachine.{IsMachineOf}
 use Rattle.fixed_kernel.specs.Factors.{HasNarrowFactors}
 use Rattle.fixed_kernel.specs.Spans.{words_of, spans_of}
 use Rattle.fixed_kernel.specs.Progress.{Progress}
@@ -15,20 +18,21 @@ use Rattle.fixed_kernel.proofs.Reached.{Goes, Stands, reached, seen, written_reg
 use Rattle.fixed_kernel.proofs.kernel.Kernel.prepare.Goals as goal
 
 -- the fields
-abbrev made_kernel : goal.After-has_narrow_factors → Inside
-made_kernel c = record {
+abbrev made_kernel : goal.In_ok-words → Option WordMachine → Inside
+made_kernel c words = record {
   controller = c.args.controller;
   region = record { words = written_over c.take_spans-spans.new.region.words c.all_of.result.start c.put_start.new.words; used = c.take_spans-spans.new.region.used };
   spans = c.take_spans-spans.result;
   made = 0;
-  narrow = c.has_narrow_factors.result;
+  narrow = c.has_narrow_factors-narrow.result;
+  words = words;
 }
 
-abbrev first : goal.After-has_narrow_factors → Progress
+abbrev first : goal.In_ok-words → Progress
 first c = record { controller = c.args.controller.now; state = c.args.controller.now.low; made = 0 }
 
-fresh : (c : goal.After-has_narrow_factors) → Stands (made_kernel c) (first c)
-fresh c =
+fresh : (c : goal.In_ok-words) (words : Option WordMachine) → IfSome words (IsMachineOf (numbers c.parts-c.result.now)) → Stands (made_kernel c words) (first c)
+fresh c kept own =
     let n = numbers c.parts-c.result.now in
     let e = c.parts-c.ensures.value in
     let sound = subst IsController e c.parts-c.ensures.sound in
@@ -43,11 +47,12 @@ fresh c =
       goes = g;
       region = written_region c.take_spans-spans.new.region c.all_of.result.start c.put_start.new.words (first c) (ap (λ (s : Span). s.start) c.all_of.ensures) (c.take_spans-spans.ensures.size ∙ ap (λ (w : RegionWords). length w.words) c.in_ok-region.ensures ∙ length-replicate c.parts-c.result.now.words (pos 0) ∙ words) g (c.take_spans-spans.ensures.used ∙ words) made;
       spans = c.take_spans-spans.ensures.spans ∙ ap spans_of e;
-      narrow = λ t. subst HasNarrowFactors e (c.has_narrow_factors.ensures.0 t);
+      narrow = λ t. subst HasNarrowFactors e (c.has_narrow_factors-narrow.ensures.0 t);
+      words = subst (λ (m : Numbers). IfSome kept (IsMachineOf m)) e own;
     }
 
 pub invariant_of-result : goal.invariant_of-result
-invariant_of-result c = reached (made_kernel c) (first c) (fresh c)
+invariant_of-result c = reached (made_kernel c c.in_ok-words.words) (first c) (fresh c c.in_ok-words.words c.in_ok-words.ensures)
 
 pub returns : goal.returns
-returns c = seen (made_kernel c) (first c) (fresh c)
+returns c = seen (made_kernel c c.in_ok-words.words) (first c) (fresh c c.in_ok-words.words c.in_ok-words.ensures)

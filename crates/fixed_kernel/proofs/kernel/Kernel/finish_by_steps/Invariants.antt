@@ -1,5 +1,5 @@
 use Rattle.std.proofs.Common.{◌≡◌, ◌≤◌}
-use Rattle.fixed_kernel.proofs.kernel.Kernel.finish.Given as goal
+use Rattle.fixed_kernel.proofs.kernel.Kernel.finish_by_steps.Given as goal
 
 abbrev pub invariant-loop : goal.invariant-loop
 invariant-loop l = record {

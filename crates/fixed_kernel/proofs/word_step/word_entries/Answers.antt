@@ -5,8 +5,7 @@ use Rattle.std.proofs.lemmas.List.Edits.{fill_by_more}
 use Rattle.std.proofs.lemmas.List.FromFn.{fill_by_all}
 use Rattle.qp_model.specs.machine.Controller.{numbers}
 use Rattle.qp_model.specs.machine.Machine.{plan_entry}
-use Rattle.qp_model.proofs.MagnitudeLaws.{plan_within}
-use Rattle.fixed_kernel.proofs.word_step.word_plan.Goals as goal
+use Rattle.fixed_kernel.proofs.word_step.word_entries.Goals as goal
 
 pub loop-j-preserved : goal.loop-j-preserved
 loop-j-preserved c =
@@ -14,11 +13,6 @@ loop-j-preserved c =
     let lt : c.loop-j.j < length c.loop-j.plan = omega arith in
     rw (to_z-of_z w64 _ entry, c.word_entry_at.ensures) (fill_by_more (plan_entry (numbers c.args.c.now) c.args.state.now c.args.multipliers.now) c.loop-j.plan c.loop-j.j (pos 0) lt c.loop-j.invariant)
 
-pub returns-clause-value : goal.returns-clause-value
-returns-clause-value c =
+pub returns : goal.returns
+returns c =
     fill_by_all (plan_entry (numbers c.args.c.now) c.args.state.now c.args.multipliers.now) c.loop-j.plan (length c.args.c.now.t.items) (pos 0) (omega arith) (λ k h. c.loop-j.invariant k (omega arith))
-
-pub returns-clause-within : goal.returns-clause-within
-returns-clause-within c =
-    rw (fill_by_all (plan_entry (numbers c.args.c.now) c.args.state.now c.args.multipliers.now) c.loop-j.plan (length c.args.c.now.t.items) (pos 0) (omega arith) (λ k h. c.loop-j.invariant k (omega arith)))
-    (plan_within (numbers c.args.c.now) c.args.state.now c.args.multipliers.now c.requires.state c.requires.multipliers)

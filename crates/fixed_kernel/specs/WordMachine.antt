@@ -1,0 +1,28 @@
+-- What runs in words of 64 bits are made with is a controller's.
+use Rattle.std.specs.Prelude.{◌≡◌, IsTrue, length}
+use Rattle.qp_model.specs.machine.Controller.{Numbers}
+use Rattle.fixed_kernel.specs.WordForm.{IsWordSized, HasHalfFactors}
+use Rattle.fixed_kernel.specs.declared.word_machine.WordForm.{WordForm}
+use Rattle.fixed_kernel.specs.declared.word_machine.WordRoom.{WordRoom}
+use Rattle.fixed_kernel.specs.declared.word_machine.WordMachine.{WordMachine}
+
+-- its matrices and its clamp, and its factors fit half a word where it says so
+pub record IsFormOf (c : Numbers) (w : WordForm) : Type 0 where
+  pub gains : w.gains ≡ c.dual_gains
+  pub rows : w.rows ≡ c.plan_rows
+  pub top : w.top ≡ c.clamp
+  pub half : IsTrue w.half → HasHalfFactors c
+
+-- a word for each entry and each row
+pub record IsRoomFor (c : Numbers) (r : WordRoom) : Type 0 where
+  pub entry_starts : length r.entry_starts.items ≡ length c.offsets
+  pub row_starts : length r.row_starts.items ≡ length c.bounds
+  pub multipliers : length r.multipliers.items ≡ length c.bounds
+  pub plan : length r.plan.items ≡ length c.offsets
+  pub sums : length r.sums.items ≡ length c.offsets
+
+-- both, of a controller whose steps are made in such words
+pub record IsMachineOf (c : Numbers) (m : WordMachine) : Type 0 where
+  pub sized : IsWordSized c
+  pub form : IsFormOf c m.form
+  pub room : IsRoomFor c m.room
