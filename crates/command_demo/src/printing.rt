@@ -7,11 +7,11 @@ ghost use Rattle.command_demo.specs.Demo.{IsTextPrinted};
 
 use bound_report::report_text;
 use command_line::Status;
-use plan_lines::print_lines;
 use fixed_kernel::Kernel;
 use io_edge::Sink;
 use mat_int::Mat;
 use overflow_check::Controller;
+use plan_lines::print_lines;
 use qp_model::Bounds;
 use std::alloc::Global;
 

@@ -18,13 +18,13 @@ BlamesFile file s = (s ≡ Long file) ⊎ ((fault : TextFault) × (s ≡ Text fi
 abbrev pub TellsOf : ℕ → (failed : Type 0) → Status → Type 0
 TellsOf file failed s = (s ≡ Memory) ⊎ (((s ≡ ReadFault file) × failed) ⊎ BlamesFile file s)
 
-module _ {X : Type 0} (file : ℕ) (Wrong : List ℕ → Status → Type 0) (Right : X → List ℕ → Type 0) (held : Option Files) (name : List ℕ) (before now : ℕ) (s : Status) where
-  ends_tells : ((bytes : List ℕ) → Wrong bytes s → (fault : TextFault) × (s ≡ Text file fault)) → EndsReading {X = X} file_limit file Wrong Right held name before now s → TellsOf file (Rose before now) s
+module _ {X : Type 0} (limit file : ℕ) (Wrong : List ℕ → Status → Type 0) (Right : X → List ℕ → Type 0) (held : Option Files) (name : List ℕ) (before now : ℕ) (s : Status) where
+  ends_tells : ((bytes : List ℕ) → Wrong bytes s → (fault : TextFault) × (s ≡ Text file fault)) → EndsReading {X = X} limit file Wrong Right held name before now s → TellsOf file (Rose before now) s
   ends_tells tells (inl memory) = inl memory
   ends_tells tells (inr (inl failed)) = inr (inl failed)
   ends_tells tells (inr (inr wrong)) = inr (inr (go wrong.answer.called))
     where
-      go : IsFileRefused file_limit file Wrong wrong.content s → BlamesFile file s
+      go : IsFileRefused limit file Wrong wrong.content s → BlamesFile file s
       go (inl long) = inl long.is
       go (inr holds) = inr (tells holds.bytes holds.right)
 

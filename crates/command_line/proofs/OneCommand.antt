@@ -86,11 +86,3 @@ one_command words command other is that =
 -- what holds of the command that the arguments are those of holds of each that they are those of
 pub for_each : (words : List (List ℕ)) (command : Command) → AreOf command words → (P : Command → Type 0) → P command → (other : Command) → AreOf other words → P other
 for_each words command is P h other that = subst P (one_command words command other is that) h
-
--- arguments that are none of the commands'
-pub no_command : (words : List (List ℕ)) → ¬ AreOf commands.Generate words → ¬ AreOf commands.Solve words → ((n : ℕ) → ¬ AreOf (commands.Loop n) words) → ((n : ℕ) → ¬ AreOf (commands.Demo n) words) →
-    (command : Command) → ¬ AreOf command words
-no_command words generate solve loop demo commands.Generate = generate
-no_command words generate solve loop demo commands.Solve = solve
-no_command words generate solve loop demo (commands.Loop turns) = loop turns
-no_command words generate solve loop demo (commands.Demo number) = demo number

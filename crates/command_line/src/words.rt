@@ -43,8 +43,7 @@ pub fn command_of(words: &Words) -> Option<Command>
 /// The arguments are those of one command at most, with one number.
 pub fn one_command_law()
     ensures { OneCommandLaw }
-{
-}
+{}
 
 // Whether they are those that `solve` needs.
 fn is_solve(words: &Words) -> bool

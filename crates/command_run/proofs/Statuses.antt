@@ -65,11 +65,11 @@ bad_telling : (file : ℕ) (bytes : List ℕ) (s : Status) → ControllerWrong f
 bad_telling file bytes s wrong = controller_telling file bytes wrong.0 s wrong.1 wrong.2
 
 -- a file's refusal tells, where that of its bytes does; and so does what comes after
-then_telling : {X : Type 0} (file : ℕ) (Wrong : List ℕ → Status → Type 0) (Right : X → List ℕ → Type 0) (content : Option (List ℕ)) (After : X → Status → Type 0) →
-    ((bytes : List ℕ) (s : Status) → Wrong bytes s → IsTelling s) → ((x : X) (s : Status) → After x s → IsTelling s) → (s : Status) → ReadsThen {X = X} file_limit file Wrong Right content After s → IsTelling s
-then_telling file Wrong Right content After wrong after s (inl (inl long)) = long_telling file s long.is
-then_telling file Wrong Right content After wrong after s (inl (inr refused)) = wrong refused.bytes s refused.right
-then_telling file Wrong Right content After wrong after s (inr right) = after right.0 s right.2
+then_telling : {X : Type 0} (limit file : ℕ) (Wrong : List ℕ → Status → Type 0) (Right : X → List ℕ → Type 0) (content : Option (List ℕ)) (After : X → Status → Type 0) →
+    ((bytes : List ℕ) (s : Status) → Wrong bytes s → IsTelling s) → ((x : X) (s : Status) → After x s → IsTelling s) → (s : Status) → ReadsThen {X = X} limit file Wrong Right content After s → IsTelling s
+then_telling limit file Wrong Right content After wrong after s (inl (inl long)) = long_telling file s long.is
+then_telling limit file Wrong Right content After wrong after s (inl (inr refused)) = wrong refused.bytes s refused.right
+then_telling limit file Wrong Right content After wrong after s (inr right) = after right.0 s right.2
 
 -- ---- what comes after the files
 refusal_telling : (s : Status) (r : Refusal) → s ≡ status_of r → IsTelling s

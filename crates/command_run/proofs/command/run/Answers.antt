@@ -1,4 +1,4 @@
-use Rattle.std.proofs.Common.{◌≡◌, ℕ, inl, inr, refl, le_refl, rules}
+use Rattle.std.proofs.Common.{◌≡◌, inl, refl, le_refl}
 use Rattle.command_line.specs.Words.{IsGenerate, IsSolve, IsLoop, IsDemo}
 use Rattle.command_line.specs.Commands.{IsUsage}
 use Rattle.command_line.proofs.OneCommand.{one_command}
@@ -35,7 +35,7 @@ returns-in-Some-Generate g c =
       no_inner_memory = λ file. (no_text_memory Generate words held s called file, no_controller_memory Generate words held s called file);
       complete = each_completes words Generate is held s reads reads_now writes writes_now printed printed called read failed;
       prints = each_shown words Generate is held s (g.O.Sink.got c.args.out.now) (g.O.Sink.got c.args.out.now) (shown_nothing words held (g.O.Sink.got c.args.out.now));
-      quiet = λ d of unprinted. refl;
+      quiet = λ d that unprinted. refl;
       leaves = each_leaves words Generate is held s (g.S.Store.held c.generate.new.store)
           (record { generated = c.generate.ensures.generated; controller_cut = c.generate.ensures.controller_cut; report_cut = c.generate.ensures.report_cut });
       held = each_held words Generate is held s _ (writing_held generate_deeds s _ 3 (inl refl) c.generate.ensures.held);
@@ -73,7 +73,7 @@ returns-in-Some-Solve g c =
       prints = each_shown words Solve is held s (g.O.Sink.got c.args.out.now) (g.O.Sink.got c.solve.new.out) c.solve.ensures.prints;
       quiet = each_quiet words Solve is held s _ (printing_quiet solve_deeds s _ tt (λ done memory fault silent. c.solve.ensures.quiet done memory fault));
       leaves = each_leaves words Solve is held s (g.S.Store.held c.solve.new.store) c.solve.ensures.held;
-      held = λ d of unwritten. c.solve.ensures.held;
+      held = λ d that unwritten. c.solve.ensures.held;
       no_file = each_unused words Solve is held s _ (λ uses. absurd (uses.reads 1 (inl refl)));
       read_fault = each_read words Solve is held s reads reads_now read;
       write_fault = each_failed words Solve is held s writes writes_now printed printed_now failed;
@@ -94,7 +94,7 @@ returns-in-Some-Loop g c =
     let printed = g.O.Sink.faults c.args.out.now in
     let printed_now = g.O.Sink.faults c.run_loops.new.out in
     let s = c.run_loops.result in
-    let turns : ℕ = c.in-Some-Loop.turns in
+    let turns = c.in-Some-Loop.turns in
     let is : IsLoop words turns = rw c.in-Some-Loop.field-0-is at c.in-Some-Loop.ensures in
     let called = c.run_loops.ensures.called in
     let read = c.run_loops.ensures.read_fault in
@@ -109,7 +109,7 @@ returns-in-Some-Loop g c =
       prints = each_shown words (Loop turns) is held s (g.O.Sink.got c.args.out.now) (g.O.Sink.got c.run_loops.new.out) c.run_loops.ensures.prints;
       quiet = each_quiet words (Loop turns) is held s _ (printing_quiet (loop_deeds turns) s _ tt c.run_loops.ensures.quiet);
       leaves = each_leaves words (Loop turns) is held s (g.S.Store.held c.run_loops.new.store) c.run_loops.ensures.held;
-      held = λ d of unwritten. c.run_loops.ensures.held;
+      held = λ d that unwritten. c.run_loops.ensures.held;
       no_file = each_unused words (Loop turns) is held s _ (λ uses. absurd (uses.reads 1 (inl refl)));
       read_fault = each_read words (Loop turns) is held s reads reads_now read;
       write_fault = each_failed words (Loop turns) is held s writes writes_now printed printed_now failed;
@@ -130,7 +130,7 @@ returns-in-Some-Demo g c =
     let got = g.O.Sink.got c.args.out.now in
     let got_now = g.O.Sink.got c.demo.new.out in
     let s = c.demo.result in
-    let number : ℕ = c.in-Some-Demo.number in
+    let number = c.in-Some-Demo.number in
     let is : IsDemo words number = rw c.in-Some-Demo.field-0-is at c.in-Some-Demo.ensures in
     let called = demo_called words held number s c.demo.ensures.called in
     let read = demo_read words held number s reads reads c.demo.ensures.no_read in
@@ -145,8 +145,8 @@ returns-in-Some-Demo g c =
       prints = each_shown words (Demo number) is held s got got_now (shown_anyhow words held got got_now (DemoPrints number s) c.demo.ensures.prints);
       quiet = each_quiet words (Demo number) is held s _ (printing_quiet (demo_deeds number) s _ tt (λ done memory fault silent. c.demo.ensures.quiet done memory fault));
       leaves = each_leaves words (Demo number) is held s held refl;
-      held = λ d of unwritten. refl;
-      no_file = λ d of uses. refl;
+      held = λ d that unwritten. refl;
+      no_file = λ d that uses. refl;
       read_fault = each_read words (Demo number) is held s reads reads read;
       write_fault = each_failed words (Demo number) is held s writes writes printed printed_now failed;
       reads = same_counts reads;
@@ -158,21 +158,21 @@ returns-in-Some-Demo g c =
 pub returns-in-None : goal.returns-in-None
 returns-in-None g c =
     let words = c.args.words.now in
-    let is : IsUsage words = search rules in
+    let is : IsUsage words = c.in-None.ensures in
     record {
       generated = λ a done. usage_not_done _ done;
       usage = (λ e. is, λ u. refl);
       unused = λ u. (refl, refl);
-      called = λ d of. absurd (is d of);
+      called = λ d that. absurd (is d that);
       no_inner_memory = λ file. (λ e. cc, λ e. cc);
-      complete = λ d of. absurd (is d of);
-      prints = λ d of. absurd (is d of);
-      quiet = λ d of. absurd (is d of);
-      leaves = λ d of. absurd (is d of);
-      held = λ d of. absurd (is d of);
-      no_file = λ d of. absurd (is d of);
-      read_fault = λ d of. absurd (is d of);
-      write_fault = λ d of. absurd (is d of);
+      complete = λ d that. absurd (is d that);
+      prints = λ d that. absurd (is d that);
+      quiet = λ d that. absurd (is d that);
+      leaves = λ d that. absurd (is d that);
+      held = λ d that. absurd (is d that);
+      no_file = λ d that. absurd (is d that);
+      read_fault = λ d that. absurd (is d that);
+      write_fault = λ d that. absurd (is d that);
       reads = same_counts (g.S.Store.read_faults c.args.store.now);
       writes = same_counts (g.S.Store.write_faults c.args.store.now);
       no_fewer = le_refl (g.O.Sink.faults c.args.out.now);
