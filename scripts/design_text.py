@@ -13,6 +13,8 @@ import tomllib
 from dataclasses import dataclass, field
 from fractions import Fraction
 
+from files import read_bytes
+
 NAMED = re.compile(r"#\s*(state|input|stage row|final row) (\d+): ([^,]+?)(?:, 1 is ([0-9][0-9.eE+-]*) (.+?))?\s*$")
 # the greatest numbers of states and of stages, by version
 STATES, STAGES = {1: 4, 2: 6}, {1: 20, 2: 30}
@@ -122,9 +124,7 @@ class Design:
 
 def read_design(path):
     """The design of a file; ValueError or KeyError where it is no design text."""
-    with open(path, "rb") as file:
-        text = file.read().decode("utf-8-sig")
-    return design_of(text)
+    return design_of(read_bytes(path).decode("utf-8-sig"))
 
 
 def design_of(text):

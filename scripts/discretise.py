@@ -7,15 +7,17 @@ For each denominator (8 to 1024 where none is given) it prints the greatest row 
 they are enclosures, the poles before and after, and by how much the step responses of the stages are off; and it warns of each coupling that is rounded to 0. With
 one denominator, given or named by the model, it prints the plant table of the design. How a model is written: scripts/draft.py --help.
 """
-import argparse
-
 from libraries import need, run
 
 need("numpy", "scipy")
 import numpy
 
+from arguments import Parser, several
 from design_text import plain
 from models import read_model
+
+# what responses may be off by where no denominator is named
+WITHIN = 0.001
 
 
 def rounded(a, b, den):
@@ -46,6 +48,28 @@ def response_error(a, b, den, stages):
     whole_a, whole_b = rounded(a, b, den)
     exact, other = step_responses(a, b, stages), step_responses(whole_a / den, whole_b / den, stages)
     return float((abs(exact - other).max((0, 2)) / (abs(exact).max((0, 2)) + 1e-12)).max())
+
+
+def free_error(a, b, den, stages, reach):
+    """By how much the responses to states of the box are off, as a part of each state's greatest."""
+    box = numpy.diag(numpy.array(reach, float))
+    exact, other, most, off = box, box, abs(box).max(1), numpy.zeros(len(a))
+    whole_a = rounded(a, b, den)[0] / den
+    for _ in range(stages):
+        exact, other = a @ exact, whole_a @ other
+        most, off = numpy.maximum(most, abs(exact).max(1)), numpy.maximum(off, abs(exact - other).max(1))
+    return float((off / (most + 1e-12)).max())
+
+
+def responses_error(a, b, den, stages, reach):
+    """By how much the step responses or those to states of the box are off."""
+    return max(response_error(a, b, den, stages), free_error(a, b, den, stages, reach))
+
+
+def least_den(a, b, stages, reach):
+    """The least power of two at which responses are within 0.1 % and no coupling is lost; the greatest denominator where there is none."""
+    dens = [2**k for k in range(21)]
+    return next((den for den in dens if not lost(a, b, den) and responses_error(a, b, den, stages, reach) <= WITHIN), dens[-1])
 
 
 def row_sum(a, b, den):
@@ -80,11 +104,11 @@ def tell(model, den):
 
 
 def main():
-    parser = argparse.ArgumentParser(description=__doc__, formatter_class=argparse.RawDescriptionHelpFormatter)
-    parser.add_argument("model")
-    parser.add_argument("--den", type=int, nargs="+")
+    parser = Parser(__doc__)
+    parser.add_argument("model", metavar="MODEL")
+    parser.add_argument("--den", type=several, nargs="+")
     given = parser.parse_args()
-    model = read_model(given.model)
+    model = read_model(given.model, plant_alone=True)
     dens = given.den or ([model.den] if model.den else [2**k for k in range(3, 11)])
     print("units of states", ", ".join(map(plain, model.state_units)) + "; of inputs", ", ".join(map(plain, model.input_units)))
     for den in dens:

@@ -5,34 +5,49 @@
 
 Each turn takes the first inputs of the best plan (cvxopt), and rounds the next state to the grid as `loop` does. Inputs are over 2^40. Nothing rests on it.
 """
-import sys
+from collections.abc import Iterator
 
-from libraries import need, run
+from libraries import Refusal, need, run
 
 need("numpy", "cvxopt")
-from design_text import read_design
+import matching
+from arguments import Parser, turns
+from design_text import Design, read_design
+from files import STANDARD_OUTPUT, keep_apart
 from programs import Programs, exact_loop
+from progress import Progress
 from texts import read_text, records_of
 
 SCALE = 2**40
 
 
-def lines(design, states, turns):
+def lines(design: Design, states: list, turns: int, progress: Progress | None = None) -> Iterator[str]:
+    """The lines of the loops from these grid states."""
     programs = Programs(design)
     for record, state in enumerate(states, 1):
+        if progress:
+            progress.reach(record - 1)
         for turn, (now, inputs) in enumerate(exact_loop(design, state, turns, programs), 1):
             numbers = [int(round(v * 2**design.grid)) for v in now] + [SCALE] + [int(round(float(u) * SCALE)) for u in inputs]
             yield " ".join(map(str, [record, turn] + numbers))
 
 
-def main(arguments):
-    if len(arguments) != 3:
-        print(__doc__.strip())
-        return 0 if arguments == ["--help"] else 2
-    for line in lines(read_design(arguments[0]), records_of(read_text(arguments[1])), int(arguments[2])):
-        print(line)
+def main() -> int:
+    parser = Parser(__doc__)
+    parser.add_argument("design", metavar="DESIGN")
+    parser.add_argument("states", metavar="STATES")
+    parser.add_argument("turns", metavar="TURNS", type=turns)
+    given = parser.parse_args()
+    keep_apart({"DESIGN": given.design, "STATES": given.states}, {"LINES": STANDARD_OUTPUT})
+    design, states = read_design(given.design), records_of(read_text(given.states))
+    fault = matching.state_fault(states, design)
+    if fault:
+        raise Refusal(f"{given.states}: {fault}")
+    with Progress("starts", len(states)) as progress:
+        for line in lines(design, states, given.turns, progress):
+            print(line)
     return 0
 
 
 if __name__ == "__main__":
-    run(lambda: main(sys.argv[1:]))
+    run(main)

@@ -13,16 +13,22 @@ The files come in any order; each is known by what it holds. FILE alone will do,
 
 It computes anew, in Python, what it says of a design and a policy, and changes nothing; the program's report is what counts.
 """
-import argparse
 from fractions import Fraction
 
+import files
+import matching
 import sizes
+from arguments import Parser, positive
 from condensed import condense, curvature
 from corners import corners_of, half_target, margin_of, multiplier_of, steps_of
 from design_text import design_of, plain
-from libraries import run
+from libraries import Refusal, run
 from texts import controller_of, kind_of, read_text, records_of, report_of
 from trajectories import dot
+
+
+WORD = 32
+KINDS = {"design": "a design", "controller": "a controller", "report": "a report", "policy": "a policy", "lines": "lines of solve or loop, or nothing that is known"}
 
 
 def bits_of(numbers):
@@ -89,24 +95,39 @@ def cost_words(controller, period, clock, cycles):
     c = controller
     plain_step = c.entries * (c.states + c.rows) + c.rows * (c.entries + c.states)
     gains = c.entries * c.rows * 2
-    used = sum(v != 0 for v in flat(c.W) + flat(c.G))
+    counts = sum(v != 0 for v in flat(c.W)), sum(v != 0 for v in flat(c.G))
+    used = sum(counts)
     yield f"a step has {plain_step} products as the machine is written; {gains} where the state's share is made once a run; {used} of these are not with 0"
-    run = used * c.steps
-    time = run * cycles / (clock * 1e6)
+    multiplier, plan = bits_of([c.clamp]), plan_bits(c)
+    # each gain meets a multiplier, and each factor of a row a plan entry
+    pairs = (bits_of(flat(c.W)), multiplier), (bits_of(flat(c.G)), plan)
+    each = [words_of(left) * words_of(right) for left, right in pairs]
+    run, short = used * c.steps, c.steps * sum(count * pieces for count, pieces in zip(counts, each))
+    time = short * cycles / (clock * 1e6)
     share = f", {plain(100 * time / period)} % of a stage of {plain(period)} s" if period else ""
-    yield f"a run has {run} products ({gains * c.steps}; {plain_step * c.steps}): {plain(time * 1e3)} ms at {plain(clock)} MHz and {plain(cycles)} {'cycle' if cycles == 1 else 'cycles'} a product{share}"
+    pieces = f", which are {short} of 32-bit words" if short > run else ""
+    yield (
+        f"a run has {run} products ({gains * c.steps}; {plain_step * c.steps}){pieces}: {plain(time * 1e3)} ms at {plain(clock)} MHz and {plain(cycles)} "
+        f"{'cycle' if cycles == 1 else 'cycles'} a product{' of 32-bit words' if pieces else ''}{share}"
+    )
     if c.version > 1:
         yield exponent_words(c)
-    multiplier, plan = bits_of([c.clamp]), plan_bits(c)
     yield (
         f"signed words: gains W {bits_of(flat(c.W))} bits, P {bits_of(flat(c.P))}, rows G {bits_of(flat(c.G))}, E {bits_of(flat(c.E))}, multipliers {multiplier}, "
         f"plan {plan}"
     )
     factors = max(bits_of(flat(c.W) + flat(c.G)), multiplier, plan)
-    if factors <= 32 and c.width <= 64:
+    if factors <= WORD and c.width <= 2 * WORD:
         yield f"each product is of two 32-bit factors and each sum fits 64 bits (width {c.width}): one multiply-accumulate"
     else:
-        yield f"32-bit factors and 64-bit sums do not serve: the greatest factor has {factors} bits, the greatest sum {c.width}"
+        told = ", ".join(f"{left} by {right} bits is {count} of 32-bit words" for (left, right), count in zip(pairs, each))
+        sums = f"each sum fits 64 bits (width {c.width})" if c.width <= 2 * WORD else f"the greatest sum has {c.width} bits, so that additions carry"
+        yield f"32-bit factors and 64-bit sums do not serve: a product of {told}, and {sums}"
+
+
+def words_of(bits):
+    """The 32-bit words of a signed number of so many bits."""
+    return -(-bits // WORD)
 
 
 def exponent_words(c):
@@ -243,40 +264,68 @@ def line_words(line, design):
         yield f"{len(numbers)} numbers: no line of this design"
 
 
-def explain(files, clock=100.0, cycles=1.0):
-    """The words for these texts, by kind."""
-    design = design_of(files["design"]) if "design" in files else None
-    report = report_of(files["report"]) if "report" in files else None
-    policy = records_of(files["policy"]) if "policy" in files else None
+def explain(texts, clock=100.0, cycles=1.0):
+    """The words for these texts, by kind; of lines there may be any number."""
+    design = design_of(texts["design"]) if "design" in texts else None
+    report = report_of(texts["report"]) if "report" in texts else None
+    policy = records_of(texts["policy"]) if "policy" in texts else None
+    controller = controller_of(texts["controller"]) if "controller" in texts else None
+    refuse_others(design, report, policy, controller)
     if report:
         yield from report_words(report, design)
-    if "controller" in files:
-        yield from cost_words(controller_of(files["controller"]), design.period if design else None, clock, cycles)
+    if controller:
+        yield from cost_words(controller, design.period if design else None, clock, cycles)
     if design and policy:
         yield from bound_words(design, policy, report)
         yield from size_words(design, policy, report)
-    for line in files.get("lines", "").splitlines():
+    lines = texts.get("lines", [])
+    for line in lines.splitlines() if isinstance(lines, str) else lines:
         yield from line_words(line, design)
-    if design and len(files) == 1:
+    if design and len(texts) == 1:
         yield f"{design.states} states, {design.inputs} inputs, {design.stages} stages, {design.rows} limit rows; name its policy or its report, too"
 
 
+def refuse_others(design, report, policy, controller):
+    """Ends where two of these are not of one design, by what differs."""
+    if report and design:
+        matching.refuse("the report", "design", matching.report_difference(report, design))
+    if controller and design:
+        matching.refuse("the controller", "design", matching.controller_difference(controller, design))
+    if controller and report:
+        matching.refuse("the controller", "report", matching.made_difference(controller, report))
+    if design and policy:
+        matching.refuse("the policy", "design", matching.policy_fault(policy, design))
+    if report and design and policy:
+        matching.refuse("the report", "policy", matching.policy_difference(report, design, policy))
+
+
+def read_file(path):
+    """The kind of a file, and its text; of lines, as many as come."""
+    with open(path, "rb") as file:
+        start = file.peek(files.LONGEST_LINE).decode("utf-8-sig", "replace")
+    kind = kind_of(start)
+    return kind, files.lines_of(path) if kind == "lines" else read_text(path)
+
+
+def read_files(paths):
+    """The texts by kind, each of another kind."""
+    found, held = {}, {}
+    for path in paths:
+        kind, text = read_file(path)
+        if kind in found:
+            raise Refusal(f"{held[kind]} and {path} both hold {KINDS[kind]}: one of each kind is explained at a time")
+        found[kind], held[kind] = text, path
+    return found
+
+
 def main():
-    parser = argparse.ArgumentParser(
-        prog="./mpc explain",
-        usage="./mpc explain FILE [DESIGN] [POLICY] [CONTROLLER] [REPORT]",
-        description=__doc__,
-        formatter_class=argparse.RawDescriptionHelpFormatter,
-    )
+    parser = Parser(__doc__, prog="./mpc explain", usage="./mpc explain FILE [DESIGN] [POLICY] [CONTROLLER] [REPORT] [--clock MHZ] [--cycles N]")
     parser.add_argument("files", nargs="+")
-    parser.add_argument("--clock", type=float, default=100.0)
-    parser.add_argument("--cycles", type=float, default=1.0)
+    parser.add_argument("--clock", type=positive, default=100.0)
+    parser.add_argument("--cycles", type=positive, default=1.0)
     given = parser.parse_args()
-    files = {}
-    for path in given.files:
-        text = read_text(path)
-        files[kind_of(text)] = text
-    for words in explain(files, given.clock, given.cycles):
+    files.keep_apart({"FILE": path for path in given.files}, {"LINES": files.STANDARD_OUTPUT})
+    for words in explain(read_files(given.files), given.clock, given.cycles):
         print(words)
     return 0
 

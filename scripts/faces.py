@@ -15,7 +15,6 @@ The faces go to FACES, or are printed; how far each coordinate can go, and the g
 Where a face doesn't hold, it says which, by how much, and what a tolerance or a box would have to be, and ends with status 17, as `stay` will. Nothing rests on the solver: what is
 found is tested in whole numbers, as `stay` tests it.
 """
-import argparse
 import sys
 from dataclasses import dataclass
 from fractions import Fraction
@@ -27,7 +26,9 @@ need("numpy", "scipy")
 import numpy
 from scipy.optimize import linprog
 
+import files
 import sizes
+from arguments import Parser
 from corners import corners_of, half_target, margin_of, multiplier_of
 from design_text import plain, read_design
 from texts import read_text, records_of
@@ -333,12 +334,14 @@ def disturbances_of(design, path):
 
 
 def main():
-    parser = argparse.ArgumentParser(description=__doc__, formatter_class=argparse.RawDescriptionHelpFormatter)
-    parser.add_argument("design")
-    parser.add_argument("policy")
-    parser.add_argument("faces", nargs="?")
+    parser = Parser(__doc__)
+    parser.add_argument("design", metavar="DESIGN")
+    parser.add_argument("policy", metavar="POLICY")
+    parser.add_argument("faces", metavar="FACES", nargs="?")
     parser.add_argument("--disturbances", metavar="FILE")
     given = parser.parse_args()
+    inputs = {"DESIGN": given.design, "POLICY": given.policy} | ({"--disturbances": given.disturbances} if given.disturbances else {})
+    files.keep_apart(inputs, {"FACES": given.faces or files.STANDARD_OUTPUT})
     design = read_design(given.design)
     low, high = disturbances_of(design, given.disturbances) if given.disturbances else ([0] * design.states, [0] * design.states)
     excess = excesses(design, records_of(read_text(given.policy)))
@@ -357,8 +360,7 @@ def main():
         say(f"{name.word}: bears disturbances from {l} to {h} a turn, {name.shown(Fraction(l, 2**design.grid))} to {name.shown(Fraction(h, 2**design.grid))}")
     text = "".join(",".join(map(str, record)) + "\n" for record in faces)
     if given.faces:
-        with open(given.faces, "w", encoding="ascii") as file:
-            file.write(text)
+        files.write(given.faces, text)
     else:
         sys.stdout.write(text)
     return 0

@@ -6,32 +6,30 @@
 `./mpc solve` runs the controller at every corner of the box and at N random grid states of it (96); the exact problem (cvxopt) stands beside each. The report's bounds
 hold at every state; what is measured is mostly far below.
 """
-import argparse
 import os
-import random
 import subprocess
 import sys
 import tempfile
 from fractions import Fraction
 
-from libraries import need, run
+from libraries import Refusal, need, run
 
 need("numpy", "cvxopt")
-from trajectories import slacks_of
-from design_text import plain, read_design
+import matching
+from arguments import Parser, count
+from design_text import Design, plain, read_design
+from files import STANDARD_OUTPUT, keep_apart
 from programs import Programs
+from progress import Progress
+from states import chosen
+from texts import controller_of, kind_of, read_text
+from trajectories import slacks_of
+
+LAUNCHER = os.path.join(os.path.dirname(os.path.dirname(os.path.realpath(__file__))), "mpc")
 
 
-def chosen(design, count, seed):
-    """Every corner, and random grid states."""
-    draw = random.Random(seed)
-    corners = [[int(v * 2**design.grid) for v in design.corner(c)] for c in range(1, 2**design.states + 1)]
-    return corners + [[draw.randint(l, h) for l, h in zip(design.lo, design.hi)] for _ in range(count)]
-
-
-def solved(controller, states):
+def solved(controller: str, states: list[list[int]], launcher: str = LAUNCHER) -> list[str]:
     """The lines that the program prints for these states."""
-    launcher = os.path.join(os.path.dirname(os.path.dirname(os.path.abspath(__file__))), "mpc")
     with tempfile.NamedTemporaryFile("w", suffix=".csv") as file:
         file.write("".join(",".join(map(str, state)) + "\n" for state in states))
         file.flush()
@@ -41,40 +39,59 @@ def solved(controller, states):
     return got.stdout.splitlines()
 
 
-def judge(design, states, lines):
+def judge(design: Design, states: list[list[int]], lines: list[str]) -> list[tuple]:
     """For each state whose problem has a plan: the greatest excess of a row with its row, the controller's cost over the best, and whether a limit binds."""
     programs, out = Programs(design), []
-    for grid_state, line in zip(states, lines):
-        state = [Fraction(v, 2**design.grid) for v in grid_state]
-        scale, *sums = map(int, line.split())
-        plan = [Fraction(v, scale) for v in sums]
-        best = programs.best([float(v) for v in state])
-        if best is None:
-            continue
-        slacks = slacks_of(design, state, plan)
-        excess = -min(slacks)
-        binds = (programs.room([float(v) for v in state]) - programs.rows @ best).min() < 1e-5
-        out.append((excess, slacks.index(-excess) + 1, programs.cost(state, plan) - programs.cost(state, best), binds))
+    with Progress("states", len(states)) as progress:
+        for number, (grid_state, line) in enumerate(zip(states, lines)):
+            progress.reach(number)
+            out += judged(design, programs, grid_state, line)
     return out
 
 
-def main():
-    parser = argparse.ArgumentParser(description=__doc__, formatter_class=argparse.RawDescriptionHelpFormatter)
-    parser.add_argument("design")
-    parser.add_argument("controller")
-    parser.add_argument("--states", type=int, default=96)
-    parser.add_argument("--seed", type=int, default=1)
-    given = parser.parse_args()
-    design = read_design(given.design)
-    states = chosen(design, given.states, given.seed)
-    found = judge(design, states, solved(given.controller, states))
-    excess, row, _, _ = max(found)
+def judged(design: Design, programs: Programs, grid_state: list[int], line: str) -> list[tuple]:
+    """What `judge` says of one state; nothing where its problem has no plan."""
+    state = [Fraction(v, 2**design.grid) for v in grid_state]
+    scale, *sums = map(int, line.split())
+    plan = [Fraction(v, scale) for v in sums]
+    best = programs.best([float(v) for v in state])
+    if best is None:
+        return []
+    slacks = slacks_of(design, state, plan)
+    excess = -min(slacks)
+    binds = (programs.room([float(v) for v in state]) - programs.rows @ best).min() < 1e-5
+    return [(excess, slacks.index(-excess) + 1, programs.cost(state, plan) - programs.cost(state, best), binds)]
+
+
+def told(design: Design, found: list[tuple]) -> list[str]:
+    """What was found, in words."""
+    if not found:
+        return ["at no state that was tried has the exact problem a plan: there is nothing to judge"]
+    excess, row, _, _ = max(found, key=lambda one: one[:2])
     kind, number, _ = design.place_of_row(row)
-    print(f"at {len(found)} states, at {sum(f[3] for f in found)} of which a limit binds:")
-    print(f"greatest violation {plain(max(excess, 0))}, that is {design.name(kind, number).shown(max(excess, 0))}, in {design.row_words(row)}")
     # the exact problem is solved in floating point, so what is below a thousandth says nothing
     gap, undercut = max(0.0, max(f[2] for f in found)), max(0.0, -min(f[2] for f in found))
-    print(f"greatest gap {plain(round(gap, 3))}, greatest undercut {plain(round(undercut, 3))}")
+    return [
+        f"at {len(found)} states, at {sum(f[3] for f in found)} of which a limit binds:",
+        f"greatest violation {plain(max(excess, 0))}, that is {design.name(kind, number).shown(max(excess, 0))}, in {design.row_words(row)}",
+        f"greatest gap {plain(round(gap, 3))}, greatest undercut {plain(round(undercut, 3))}",
+    ]
+
+
+def main() -> int:
+    parser = Parser(__doc__)
+    parser.add_argument("design", metavar="DESIGN")
+    parser.add_argument("controller", metavar="CONTROLLER")
+    parser.add_argument("--states", type=count, default=96, metavar="N")
+    parser.add_argument("--seed", type=int, default=1)
+    given = parser.parse_args()
+    keep_apart({"DESIGN": given.design, "CONTROLLER": given.controller}, {"LINES": STANDARD_OUTPUT})
+    design, text = read_design(given.design), read_text(given.controller)
+    if kind_of(text) != "controller":
+        raise Refusal(f"{given.controller} is no controller text: `./mpc generate` writes one")
+    matching.refuse(f"the controller {given.controller}", "design", matching.controller_difference(controller_of(text), design))
+    states = chosen(design, given.states, given.seed)
+    print("\n".join(told(design, judge(design, states, solved(given.controller, states)))))
     return 0
 
 

@@ -7,6 +7,8 @@
     b = [[0.0], [520.8]]
     states = ["angle rad", "speed rad/s"]        # a name, then the unit
     inputs = ["voltage V"]
+    sampled = false                              # true where a and b are of a plant that is sampled already: x+ = a x + b u
+    delay = 0                                    # 1 where an input acts one stage after it is planned: its last value is then a state
 
     [coordinates]                                # optional: the design's states as sums of the model's
     rows = [[1.0, 0.01], [0.0, 1.0]]
@@ -15,97 +17,196 @@
     [units]                                      # how much 1 of the design is; left out: chosen so that the row sums of |A| + |B| are small
     states = [0.0625, 5.0]
     inputs = [1.0]
-    den = 64                                     # the plant's denominator
-    limits = 64                                  # that of the limits; left out: the least power of two up to 64 with each factor within 1 % of its row's greatest
+    den = 64                                     # the plant's denominator; left out: the least power of two at which responses are within 0.1 % and no coupling is lost
+    rounding = 0.001                             # by how much of itself a weight, a target or a limit may move, or a limit of its tolerance
+    limits = 64                                  # the limits' denominator; left out: the least at which they move by no more than that
+    weights = 64                                 # the weights' denominator, over which they are rounded up; left out: such that they move by no more than that
 
-    [[limit]]                                    # input and state: factors over the model's inputs and states; a limit on states alone holds for the next state
-    name = "voltage above"
+    [[held]]                                     # optional: a state that stays: a reference that you move, a disturbance that you measure, an offset (lo = hi)
+    name = "target rad"
+    into = [0.0, 0.0]                            # what 1 of it adds to x' (to x+ where the plant is sampled)
+    hi = 1.0                                     # its box; lo is -hi where it is left out
+    unit = 0.25                                  # how much 1 of the design is; left out: chosen
+
+    [[limit]]                                    # input, change (of an input from stage to stage), state and held: factors; a limit on states alone holds for the next state
+    name = "voltage"
     input = [1.0]
-    bound = 16.0
+    bound = 16.0                                 # at most this; inf or left out: no limit above
+    least = -16.0                                # at least this; -inf or left out: no limit below
     tolerance = 2.0                              # by how much it may be exceeded at most
 
     [cost]
     input = [1.0]                                # weights of the squares of the inputs
-    rows = [{ state = [1.0, 0.0], weight = 500.0 }]
+    rows = [{ state = [1.0, 0.0], weight = 500.0 }]   # of the square of what a row of states comes to, less its target: { .., held = [-1.0], target = 0.0 }
+    final = []                                   # such rows at the last stage alone
 
     [box]                                        # of the design's states, in physical units
     hi = [1.0, 125.0]                            # lo is -hi where it is left out
+    last = [16.0]                                # of last inputs, where these are states; left out: their limits and tolerances
     grid = 2
+
+The same keys may stand in a .json. In place of a and b there may be `plant = "FILE"`, beside the model: a .mat with variables A and B, or a struct of them, or a .json, each
+with Ts or dt where it is sampled.
 """
+import json
+import math
+import os
 import tomllib
+from typing import Any
 
-from libraries import need
+from libraries import Refusal, need
 
-need("numpy", "scipy")
+need("numpy", "scipy", "jsonschema")
 import numpy
+import scipy.io
 import scipy.linalg
 
-from design_text import STAGES, STATES, Name
+from design_text import Name
+from model_schema import changed, faults_of, version_of
+
+LONGEST = 4194304
+NUMERATOR = 2147483647
 
 
 class Model:
-    """A model's text; its plant sampled, in the design's coordinates and units."""
+    """A model; its plant sampled, in the design's coordinates and units, with held states and last inputs as further states."""
 
-    def __init__(self, text):
-        t = tomllib.loads(text)
+    def __init__(self, text: str | dict, plant_alone: bool = False):
+        t = text if isinstance(text, dict) else toml_of(text)
+        refuse(faults_of(t, plant_alone))
         self.text, self.period, self.stages = t, float(t["period"]), int(t.get("stages", 10))
-        a, b = numpy.array(t["a"], float), numpy.array(t["b"], float)
-        if a.ndim != 2 or a.shape[0] != a.shape[1] or b.ndim != 2 or b.shape[0] != a.shape[0]:
-            raise ValueError("a must be a square table, and b a table with as many rows")
-        self.n, self.p = b.shape
-        self.version = version_of(t, self.n, self.stages)
+        self.version = version_of(t)
+        self.own, self.p = len(t["a"]), len(t["b"][0])
+        self.held, self.last = t.get("held", []), changed(t)
+        self.n = self.own + len(self.held) + len(self.last)
+        self.delay = int(t.get("delay", 0))
         turn = t.get("coordinates", {})
-        self.to = numpy.array(turn.get("rows", numpy.eye(self.n)), float)
-        self.names = [split_name(v, f"x{i + 1}") for i, v in enumerate(turn.get("names", t.get("states", [])) or [""] * self.n)]
-        self.input_names = [split_name(v, f"u{i + 1}") for i, v in enumerate(t.get("inputs", []) or [""] * self.p)]
-        sampled_a, sampled_b = hold(a, b, self.period)
-        back = numpy.linalg.inv(self.to)
-        self.a, self.b = self.to @ sampled_a @ back, self.to @ sampled_b
+        self.to = numpy.array(turn.get("rows", numpy.eye(self.own)), float)
+        if not numpy.all(numpy.isfinite(self.to)) or numpy.linalg.cond(self.to) > 1e12:
+            refuse(["coordinates.rows: rows of which none is a sum of the others are expected, and these give no state back"])
+        self.input_names = [split_name(v, f"u{i + 1}") for i, v in enumerate(t.get("inputs", [""] * self.p))]
+        self.names = self.state_names(turn.get("names", t.get("states", [""] * self.own)))
+        self.lo, self.hi = self.box()
+        with numpy.errstate(all="ignore"):
+            self.sample(numpy.array(t["a"], float), numpy.array(t["b"], float))
         units = t.get("units", {})
-        box = t.get("box", {}).get("hi", [1.0] * self.n)
-        chosen = units_for(self.a, self.b, box)
-        self.state_units = numpy.array(units.get("states", chosen[0]), float)
-        self.input_units = numpy.array(units.get("inputs", chosen[1]), float)
-        self.den, self.limit_den = units.get("den"), units.get("limits")
+        self.choose_units(units)
+        self.den, self.limit_den, self.weight_den = (int(units[key]) if key in units else None for key in ("den", "limits", "weights"))
+        self.rounding = float(units.get("rounding", 0.001))
 
-    def scaled(self):
+    def state_names(self, own: list) -> list:
+        names = [split_name(v, f"x{i + 1}") for i, v in enumerate(own)]
+        names += [split_name(still.get("name", ""), f"held{i + 1}") for i, still in enumerate(self.held)]
+        return names + [(f"last {self.input_names[l][0]}", self.input_names[l][1]) for l in self.last]
+
+    def box(self) -> tuple[list, list]:
+        """The least and the greatest values of the design's states."""
+        box = self.text.get("box", {"hi": [1.0] * self.own})
+        hi = [float(v) for v in box["hi"]]
+        lo = [float(v) for v in box["lo"]] if "lo" in box else [-v for v in hi]
+        for still in self.held:
+            hi.append(float(still["hi"]))
+            lo.append(float(still.get("lo", -still["hi"])))
+        for l in self.last:
+            least, most = self.reach_of_input(l)
+            hi.append(most)
+            lo.append(least)
+        return lo, hi
+
+    def reach_of_input(self, l: int) -> tuple[float, float]:
+        """What an input's last value can be: as the box says, else within the limits on it alone and their tolerances."""
+        if "last" in self.text.get("box", {}):
+            most = float(self.text["box"]["last"][l])
+            return -most, most
+        least, most = -math.inf, math.inf
+        for limit in self.text.get("limit", []):
+            factors = limit.get("input", [])
+            alone = [i for i, f in enumerate(factors) if f] == [l] and not any(any(limit.get(key, [])) for key in ("state", "held", "change"))
+            if alone:
+                ends = [(limit.get("least", -math.inf) - limit["tolerance"]) / factors[l], (limit.get("bound", math.inf) + limit["tolerance"]) / factors[l]]
+                least, most = max(least, min(ends)), min(most, max(ends))
+        if not -math.inf < least <= most < math.inf:
+            refuse([f"box.last: is missing; the greatest last value of input {l + 1} is expected, since it is a state and no limits keep the input on both sides"])
+        return least, most
+
+    def sample(self, a: numpy.ndarray, b: numpy.ndarray) -> None:
+        """A and B of all states, in the design's coordinates."""
+        into = numpy.array([still.get("into", [0.0] * self.own) for still in self.held], float).reshape(-1, self.own).T
+        if self.text.get("sampled", False):
+            moved = numpy.hstack([b, into])
+        else:
+            a, moved = hold(a, numpy.hstack([b, into]), self.period)
+        back = numpy.linalg.inv(self.to)
+        own_a, moved = self.to @ a @ back, self.to @ moved
+        own_b, into = moved[:, : self.p], moved[:, self.p :]
+        held, last = len(self.held), len(self.last)
+        self.a, self.b = numpy.zeros((self.n, self.n)), numpy.zeros((self.n, self.p))
+        kept = self.own + held
+        self.a[: self.own, : self.own], self.a[: self.own, self.own : kept] = own_a, into
+        self.a[self.own : kept, self.own : kept] = numpy.eye(held)
+        for place, l in enumerate(self.last):
+            self.b[kept + place, l] = 1.0
+        if self.delay:
+            self.a[: self.own, kept:] = own_b
+        else:
+            self.b[: self.own] = own_b
+        self.moving = numpy.vstack([own_b, numpy.zeros((held, self.p))])
+        if not (numpy.all(numpy.isfinite(self.a)) and numpy.all(numpy.isfinite(self.b)) and max(abs(self.a).max(), abs(self.b).max()) < 1e9):
+            refuse([f"a: over a period of {self.period:g} s the plant grows beyond 10^9: slower numbers, other units or a shorter period are expected"])
+
+    def choose_units(self, units: dict) -> None:
+        kept, reach = self.own + len(self.held), [max(abs(l), abs(h)) or 1.0 for l, h in zip(self.lo, self.hi)]
+        states, inputs = units_for(self.a[:kept, :kept], self.moving, reach[:kept])
+        # a state that is one number is 1 of its unit, so that its box holds it
+        states = [abs(h) if l == h != 0 else unit for unit, l, h in zip(states, self.lo, self.hi)]
+        states = list(units.get("states", states[: self.own])) + [still.get("unit", unit) for still, unit in zip(self.held, states[self.own :])]
+        inputs = list(units.get("inputs", inputs))
+        self.state_units = numpy.array(states + [inputs[l] for l in self.last], float)
+        self.input_units = numpy.array(inputs, float)
+        a, b = self.scaled()
+        if not max(abs(a).max(), abs(b).max()) <= NUMERATOR:
+            refuse(["units: units are expected in which no number of the plant is above 2^31"])
+
+    def scaled(self) -> tuple[numpy.ndarray, numpy.ndarray]:
         """A and B in the design's units."""
         into = 1 / self.state_units
         return into[:, None] * self.a * self.state_units[None, :], into[:, None] * self.b * self.input_units[None, :]
 
-    def row(self, factors):
-        """Factors over the model's states, as factors over the design's."""
-        return numpy.array(factors, float) @ numpy.linalg.inv(self.to) * self.state_units
+    def row(self, factors: dict) -> numpy.ndarray:
+        """Factors over the model's states, held states and changes, as factors over the design's states."""
+        own = numpy.array(factors.get("state", [0.0] * self.own), float) @ numpy.linalg.inv(self.to)
+        held = numpy.array(factors.get("held", [0.0] * len(self.held)), float)
+        change = factors.get("change", [0.0] * self.p)
+        return numpy.r_[own, held, [-float(change[l]) for l in self.last]] * self.state_units
 
 
-def version_of(text, states, stages):
-    """The version that a model asks for, or 1; ValueError where it has not so many states or stages."""
-    version = text.get("version", 1)
-    if version not in STATES:
-        raise ValueError(f"version is 1 or 2, not {version}")
-    if states > STATES[version] or stages > STAGES[version]:
-        raise ValueError(f"version {version} has at most {STATES[version]} states and {STAGES[version]} stages" + (": version = 2 has more" if version == 1 else ""))
-    return version
+def refuse(faults: list[str]) -> None:
+    """Ends with these faults, a line each, where there are any."""
+    if faults:
+        raise Refusal("\n".join(faults))
 
 
-def split_name(text, other):
+def split_name(text: str, other: str) -> tuple[str, str]:
     """A name and its unit."""
     words = text.split()
     return (text or other, "") if len(words) < 2 else (" ".join(words[:-1]), words[-1])
 
 
-def named(words, size):
+def named(words: tuple[str, str], size: float) -> Name:
     return Name(words[0], float(size), words[1] or ("units" if size != 1 else ""))
 
 
-def hold(a, b, period):
+def hold(a: numpy.ndarray, b: numpy.ndarray, period: float) -> tuple[numpy.ndarray, numpy.ndarray]:
     """The plant over one period with its input held: exact for a continuous model."""
     n, p = b.shape
-    both = scipy.linalg.expm(numpy.block([[a, b], [numpy.zeros((p, n + p))]]) * period)
+    both = numpy.block([[a, b], [numpy.zeros((p, n + p))]]) * period
+    if not numpy.all(numpy.isfinite(both)) or abs(both).sum(1).max() > 1e6:
+        refuse([f"period: a period in which the plant changes less than 10^6 times is expected, and {period:g} stands there"])
+    both = scipy.linalg.expm(both)
     return both[:n, :n], both[:n, n:]
 
 
-def units_for(a, b, box):
+def units_for(a: numpy.ndarray, b: numpy.ndarray, box: list) -> tuple[list, list]:
     """Units in which the row sums of |A| + |B| are small: the growth of |A| between the box's sizes, and inputs in units that add 15 %."""
     box = numpy.array(box, float)
     coupled = abs(a) * box[None, :] / box[:, None] + 0.05
@@ -117,6 +218,99 @@ def units_for(a, b, box):
     return [neat(v / scale * 4) for v in states], [neat(v / scale * 4) for v in inputs]
 
 
-def read_model(path):
-    with open(path, encoding="utf-8") as file:
-        return Model(file.read())
+# ---- where models are
+
+
+def toml_of(text: str) -> dict:
+    try:
+        return tomllib.loads(text)
+    except (ValueError, RecursionError) as fault:
+        raise Refusal(f"no TOML document: {fault}") from None
+
+
+def json_of(text: str) -> dict:
+    try:
+        value = json.loads(text)
+    except (ValueError, RecursionError) as fault:
+        raise Refusal(f"no JSON document: {fault}") from None
+    refuse([] if isinstance(value, dict) else ["the model: an object of keys is expected"])
+    return value
+
+
+def text_at(path: str) -> str:
+    """The text of a file that is no longer than the files of the program."""
+    with open(path, "rb") as file:
+        data = file.read(LONGEST + 1)
+    refuse([f"a file of at most {LONGEST} bytes is expected"] if len(data) > LONGEST else [])
+    try:
+        return data.decode("utf-8-sig")
+    except UnicodeDecodeError as fault:
+        raise Refusal(f"no UTF-8: {fault.reason} at byte {fault.start + 1}") from None
+
+
+def matrices_of(path: str) -> dict[str, Any]:
+    """The variables of a .mat, or the fields of the struct in it that has A and B, as lists and numbers."""
+    try:
+        found = scipy.io.loadmat(path)
+    except OSError:
+        raise
+    except Exception as fault:  # scipy has many words for a file that is none
+        raise Refusal(f"no .mat file that scipy reads, of version 7 at most: {fault}") from None
+    fields = {key: value for key, value in found.items() if not key.startswith("__")}
+    for value in list(fields.values()):
+        names = getattr(getattr(value, "dtype", None), "names", None)
+        if names and value.size == 1 and {"A", "B"} <= set(names):
+            fields = {key: value.reshape(-1)[0][key] for key in names}
+    plain = lambda value: value.toarray().tolist() if hasattr(value, "toarray") else value.tolist() if hasattr(value, "tolist") else value
+    return {key: plain(value) for key, value in fields.items() if getattr(getattr(value, "dtype", None), "kind", "") in "biufc" or hasattr(value, "toarray")}
+
+
+def plant_of(found: dict[str, Any], path: str) -> dict[str, Any]:
+    """The keys of a model that a plant's variables give: A and B, and of a sampled plant its period (Ts or dt)."""
+    lower = {"A": "a", "B": "b"}
+    plant = {lower.get(key, key): value for key, value in found.items() if key in ("A", "B", "a", "b")}
+    refuse([f"plant: {path} has no {key.upper()}" for key in ("a", "b") if key not in plant])
+    period = next((found[key] for key in ("Ts", "dt") if key in found), None)
+    while isinstance(period, list) and len(period) == 1:
+        period = period[0]
+    if period in (None, 0, []):
+        return plant
+    if period is True or period == -1:
+        return plant | {"sampled": True}
+    return plant | {"sampled": True, "period": period}
+
+
+def with_plant(model: dict[str, Any], folder: str) -> dict[str, Any]:
+    """A model with the plant of the file that it names."""
+    path = model.get("plant")
+    if "plant" not in model:
+        return model
+    refuse(["plant: the name of a .mat or .json is expected"] if not isinstance(path, str) or not path.endswith((".mat", ".json")) or "\0" in path else [])
+    refuse([f"{key}: is given by plant, too" for key in ("a", "b") if key in model])
+    path = os.path.join(folder, path)
+    plant = plant_of(matrices_of(path) if path.endswith(".mat") else json_of(text_at(path)), path)
+    if "period" in plant and "period" in model and model["period"] != plant["period"]:
+        refuse([f"period: {plant['period']} is expected, which the plant of {path} is sampled with, and {model['period']} stands there"])
+    return {key: value for key, value in model.items() if key != "plant"} | plant
+
+
+def of_control(model: dict[str, Any]) -> dict[str, Any]:
+    """A model whose plant stands in it as A, B, C, D and dt, as python-control has it, with our keys."""
+    if not {"A", "B"} <= set(model):
+        return model
+    rest = {key: value for key, value in model.items() if key not in ("A", "B", "C", "D", "dt", "Ts", "name")}
+    names = {"state_labels": "states", "input_labels": "inputs"}
+    rest = {names.get(key, key): value for key, value in rest.items() if key != "output_labels"}
+    return rest | plant_of(model, "the model")
+
+
+def read_model(path: str, plant_alone: bool = False) -> Model:
+    """The model of a file, or its plant where it has no cost and no box; Refusal, with the file's name in each line, where something is wrong with it."""
+    try:
+        if path.endswith(".mat"):
+            raise Refusal(f'a .mat has a plant alone: a text with limits, cost and box is expected, that names it by plant = "{os.path.basename(path)}"')
+        text = text_at(path)
+        model = of_control(json_of(text)) if path.endswith(".json") else toml_of(text)
+        return Model(with_plant(model, os.path.dirname(path)), plant_alone)
+    except Refusal as fault:
+        raise Refusal("\n".join(f"{path}: {line}" for line in str(fault).splitlines())) from None

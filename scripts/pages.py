@@ -10,9 +10,10 @@ import os
 import subprocess
 import sys
 
-from libraries import PACKAGES, missing
+import files
+from libraries import PACKAGES, missing, run
 
-TOP = os.path.dirname(os.path.dirname(os.path.abspath(__file__)))
+TOP = os.path.dirname(os.path.dirname(os.path.realpath(__file__)))
 
 
 def blocks_of(text):
@@ -70,8 +71,7 @@ def write(pages):
     for page in pages:
         with open(page, encoding="utf-8") as file:
             text = rewritten(file.read(), run_at_top)
-        with open(page, "w", encoding="utf-8") as file:
-            file.write(text)
+        files.write(page, text)
     return 0
 
 
@@ -91,4 +91,4 @@ def main(pages):
 
 
 if __name__ == "__main__":
-    sys.exit(main(sys.argv[1:]))
+    run(lambda: main(sys.argv[1:]))

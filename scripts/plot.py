@@ -1,7 +1,9 @@
 #!/usr/bin/env python3
-"""Draws the lines of `./mpc loop` over time: states and inputs with their limits, one curve for each start, as SVG.
+"""Draws the lines of `./mpc loop` over time: states and inputs with their limits, one curve for each start.
 
     scripts/plot.py DESIGN LINES [LINES ..] --out FILE.svg [--labels NAME,NAME] [--starts N,N] [--turns N]
+
+The name of FILE says its format: .svg, .pdf or .png.
 
 The first LINES are drawn full, the second dashed, and so on, so that two controllers can be laid beside each other (as scripts/exact_loop.py beside `loop`). Names,
 units and the period come from the design's comments. Grey lines are the box, red ones the limits on one state or one input alone. Up to five curves stand in one column,
@@ -11,26 +13,35 @@ more in three, as positions, velocities and accelerations along three axes do.
     --starts   the records to draw, from 1 (all)
     --turns    the turns to draw (all)
 """
-import argparse
+import io
 import os
+from collections.abc import Iterator
 
-from libraries import need, run
+from libraries import Refusal, need, run
 
 need("matplotlib")
 import matplotlib
 
 matplotlib.use("Agg")
 import matplotlib.pyplot as pyplot
+from matplotlib.figure import Figure
 
-from design_text import read_design
-from texts import loop_lines_of, read_text
+import files
+import matching
+from arguments import Parser, numbers, several
+from design_text import Design, read_design
+from texts import loop_lines_of
 
 STYLES = ["-", "--", ":", "-."]
 ONE_COLUMN = 5
 SALT = "loop"
+# by the end of a name, with what keeps the same lines the same bytes
+FORMATS = {".svg": {"Date": None}, ".pdf": {"CreationDate": None}, ".png": {}}
+# no picture shows more
+MOST_LINES = 1000000
 
 
-def limits_of(design, coordinate):
+def limits_of(design: Design, coordinate: int) -> list[float]:
     """The values at which a stage row on this one coordinate binds: states first, then inputs."""
     out = []
     for row in design.stage_rows:
@@ -39,7 +50,7 @@ def limits_of(design, coordinate):
     return out
 
 
-def draw_start(axes, design, loop, style, color, label, step):
+def draw_start(axes: list, design: Design, loop: list, style: str, color: str, label: str, step: float) -> None:
     """One loop: its states joined, its inputs held."""
     times = [k * step for k in range(len(loop))]
     for i in range(design.states):
@@ -50,7 +61,7 @@ def draw_start(axes, design, loop, style, color, label, step):
         axes[design.states + l].step(times, [float(u[l]) * size for _, u in loop], style, where="post", color=color, linewidth=1.2)
 
 
-def draw_limits(axes, design):
+def draw_limits(axes: list, design: Design) -> None:
     for i in range(design.states + design.inputs):
         name = design.name("state", i + 1) if i < design.states else design.name("input", i - design.states + 1)
         axes[i].set_ylabel(f"{name.word}\n{name.unit}".strip(), fontsize=8)
@@ -62,7 +73,7 @@ def draw_limits(axes, design):
             axes[i].axhline(bound * name.size, color="tab:red", linewidth=0.8)
 
 
-def draw(design, files, labels, starts=None, turns=None):
+def draw(design: Design, files: list[dict], labels: list[str], starts: list[int] | None = None, turns: int | None = None) -> Figure:
     """The figure of these loops, a dictionary of record -> loop for each file."""
     count = design.states + design.inputs
     columns = 1 if count <= ONE_COLUMN else 3
@@ -84,22 +95,66 @@ def draw(design, files, labels, starts=None, turns=None):
     return figure
 
 
-def main():
-    parser = argparse.ArgumentParser(description=__doc__, formatter_class=argparse.RawDescriptionHelpFormatter)
-    parser.add_argument("design")
-    parser.add_argument("lines", nargs="+")
-    parser.add_argument("--out", required=True)
-    parser.add_argument("--labels")
-    parser.add_argument("--starts")
-    parser.add_argument("--turns", type=int)
+def format_of(path: str) -> str:
+    """The end of a picture's name."""
+    end = os.path.splitext(path)[1].lower()
+    if end not in FORMATS:
+        raise Refusal(f"{path} ends in none of {', '.join(FORMATS)}: the name says the picture's format", 2)
+    return end
+
+
+def chosen_lines(path: str, starts: list[int] | None, turns: int | None) -> Iterator[str]:
+    """The lines of a file that are to be drawn."""
+    count = 0
+    for line in files.lines_of(path):
+        words = line.split(" ", 2)
+        if len(words) < 3 or not (words[0].isdigit() and words[1].isdigit()):
+            raise Refusal(f"{path} holds `{line[:40]}`, which is no line of `./mpc loop`")
+        if (starts is None or int(words[0]) in starts) and (turns is None or int(words[1]) <= turns):
+            count += 1
+            yield line
+        if count > MOST_LINES:
+            raise Refusal(f"{path} has more than {MOST_LINES} lines to draw: --starts or --turns chooses fewer")
+
+
+def read_loops(path: str, design: Design, starts: list[int] | None, turns: int | None) -> dict:
+    """The loops of a file, where they are this design's and there are any."""
+    try:
+        loops = loop_lines_of("\n".join(chosen_lines(path, starts, turns)), design.states, design.inputs, design.grid)
+    except (ValueError, ZeroDivisionError) as fault:
+        raise fault if isinstance(fault, Refusal) else Refusal(f"{path}: {fault}") from None
+    if not loops:
+        chosen = " of the chosen starts" if starts else ""
+        raise Refusal(f"{path} has no line{chosen}: there is nothing to draw")
+    matching.refuse(f"{path}", "design", matching.loop_difference(loops, design))
+    return loops
+
+
+def shown(path: str) -> str:
+    """A file's name as a label, whatever its bytes are."""
+    return os.fsencode(os.path.basename(path)).decode("utf-8", "replace")
+
+
+def main() -> int:
+    parser = Parser(__doc__)
+    parser.add_argument("design", metavar="DESIGN")
+    parser.add_argument("lines", metavar="LINES", nargs="+")
+    parser.add_argument("--out", required=True, metavar="FILE")
+    parser.add_argument("--labels", metavar="NAME,NAME")
+    parser.add_argument("--starts", type=numbers, metavar="N,N")
+    parser.add_argument("--turns", type=several, metavar="N")
     given = parser.parse_args()
-    design = read_design(given.design)
-    files = [loop_lines_of(read_text(path), design.states, design.inputs, design.grid) for path in given.lines]
-    labels = given.labels.split(",") if given.labels else [os.path.basename(path) for path in given.lines]
-    starts = [int(word) for word in given.starts.split(",")] if given.starts else None
+    files.keep_apart({"DESIGN": given.design} | {f"LINES {place}": path for place, path in enumerate(given.lines, 1)}, {"--out": given.out})
+    end, design = format_of(given.out), read_design(given.design)
+    loops = [read_loops(path, design, given.starts, given.turns) for path in given.lines]
+    labels = given.labels.split(",") if given.labels else [shown(path) for path in given.lines]
+    if len(labels) != len(loops):
+        raise Refusal(f"--labels has {len(labels)} names, and there are {len(loops)} files of lines", 2)
     # the same lines give the same bytes
     matplotlib.rcParams["svg.hashsalt"], matplotlib.rcParams["svg.fonttype"] = SALT, "none"
-    draw(design, files, labels, starts, given.turns).savefig(given.out, format="svg", metadata={"Date": None})
+    picture = io.BytesIO()
+    draw(design, loops, labels, given.starts, given.turns).savefig(picture, format=end[1:], metadata=FORMATS[end])
+    files.write(given.out, picture.getvalue())
     return 0
 
 

@@ -14,12 +14,14 @@ or is printed; what was found goes to standard error.
 Where no plan keeps every limit at some corner, it names the corner and the rows to blame, and ends with status 6. Nothing rests on the solver: `generate`
 simulates the policy in whole numbers.
 """
-import argparse
+import math
 import sys
 
 from libraries import need, run
 
 need("numpy", "cvxopt")
+import files
+from arguments import Parser, positive, several, turns
 from condensed import condense, curvature
 from corners import corners_of, margin_of, multiplier_of, steps_of
 from design_text import plain, read_design
@@ -29,6 +31,7 @@ from programs import Programs, reach_of
 FINE = 2**24
 MOST = 1024
 GOLDEN = (5**0.5 - 1) / 2
+SECTIONS = 16
 
 
 def say(*words):
@@ -49,15 +52,39 @@ def plans_with(programs, slack):
 
 
 def search(programs, most):
-    """The slack below `most` with the least R."""
-    low, high = 0.02 * most, 0.985 * most
-    for _ in range(16):
+    """The slack below `most` with the least R. R falls and then rises with the slack, so that thirds of a bracket tell where it is least."""
+    if math.isinf(most):
+        return between(programs, *bracket(programs))
+    slack = golden(lambda slack: plans_with(programs, slack)[1], 0.02 * most, 0.985 * most)
+    # where the greatest slack is far above the best, this is below the bracket
+    return slack if slack > 0.03 * most else between(programs, 1e-9 * most, 0.06 * most)
+
+
+def golden(of, low, high):
+    """Where a function that falls and then rises is least."""
+    for _ in range(SECTIONS):
         first, second = high - GOLDEN * (high - low), low + GOLDEN * (high - low)
-        if plans_with(programs, first)[1] < plans_with(programs, second)[1]:
+        if of(first) < of(second):
             high = second
         else:
             low = first
     return (low + high) / 2
+
+
+def between(programs, low, high):
+    """The slack with the least R between two that are far apart."""
+    return math.exp(golden(lambda power: plans_with(programs, math.exp(power))[1], math.log(low), math.log(high)))
+
+
+def bracket(programs):
+    """Slacks below and above the best, where no limit stops the slack: R falls by doubling it, and then rises. Nothing is gained by an R below 1."""
+    low = 2**-12
+    bound = plans_with(programs, low)[1]
+    while True:
+        after = plans_with(programs, 2 * low)[1]
+        if after >= bound or bound <= 1:
+            return low / 2, 2 * low
+        low, bound = 2 * low, after
 
 
 def rounded(plans, denominator):
@@ -86,7 +113,18 @@ def blame(design, programs):
         slack, rows = programs.most_slack([float(v) for v in design.corner(corner)])
         found.append((slack, corner, rows))
     slack, corner, rows = min(found)
+    if math.isinf(slack):
+        return slack, "no corner"
     return slack, f"{design.corner_words(corner)}: {', '.join(design.row_words(row) for row in rows[:4])}"
+
+
+def binding_words(design, programs):
+    """At how many corners a limit binds: where none does, none binds in the box, since what the best plan without limits leaves in a row is linear in the state."""
+    states = [[float(v) for v in design.corner(c)] for c in range(1, 2**design.states + 1)]
+    binding = sum((programs.room(x) - programs.rows @ programs.unlimited(x)).min() < 0 for x in states)
+    if binding:
+        return [f"limits bind at {binding} of {len(states)} corners"]
+    return ["no limit binds anywhere in the box: the best plan is linear in the state there, and needs no steps; narrower limits or a larger box make use of a run"]
 
 
 def find(design, margin=None, denominator=None):
@@ -102,7 +140,9 @@ def find(design, margin=None, denominator=None):
     if plans is None:
         say(f"no plan keeps every limit with a slack of {plain(slack)}: at most {plain(most)} is possible at {where}")
         return None
-    say(f"margin {plain(slack)} of at most {plain(most)}, which is stopped at {where}")
+    stopped = f"of at most {plain(most)}, which is stopped at {where}" if math.isfinite(most) else "of any: plans can keep every limit with as much slack as they like"
+    say(f"margin {plain(slack)} {stopped}")
+    say(*binding_words(design, programs))
     return rounded(plans, denominator) if denominator else shortest(design, plans)
 
 
@@ -130,13 +170,14 @@ def tell(design, policy, turns):
 
 
 def main():
-    parser = argparse.ArgumentParser(description=__doc__, formatter_class=argparse.RawDescriptionHelpFormatter)
-    parser.add_argument("design")
-    parser.add_argument("policy", nargs="?")
-    parser.add_argument("--denominator", type=int)
-    parser.add_argument("--margin", type=float)
-    parser.add_argument("--turns", type=int, default=50)
+    parser = Parser(__doc__)
+    parser.add_argument("design", metavar="DESIGN")
+    parser.add_argument("policy", metavar="POLICY", nargs="?")
+    parser.add_argument("--denominator", type=several)
+    parser.add_argument("--margin", type=positive)
+    parser.add_argument("--turns", type=turns, default=50)
     given = parser.parse_args()
+    files.keep_apart({"DESIGN": given.design}, {"POLICY": given.policy or files.STANDARD_OUTPUT})
     design = read_design(given.design)
     policy = find(design, given.margin, given.denominator)
     if policy is None:
@@ -144,8 +185,7 @@ def main():
     tell(design, policy, given.turns)
     text = "".join(",".join(map(str, record)) + "\n" for record in policy)
     if given.policy:
-        with open(given.policy, "w", encoding="ascii") as file:
-            file.write(text)
+        files.write(given.policy, text)
     else:
         sys.stdout.write(text)
     return 0

@@ -1,9 +1,13 @@
 """The convex problems of a design in floating point: the best plan from a state, with a slack in every limit. Nothing of the tool rests on them."""
+import functools
+import math
+
 from libraries import need
 
-need("numpy", "cvxopt")
+need("numpy", "scipy", "cvxopt")
 import cvxopt
 import numpy
+import scipy.optimize
 
 from condensed import condense
 from trajectories import cost_of
@@ -45,18 +49,24 @@ class Programs:
         """The plan of least cost where there are no limits."""
         return -numpy.linalg.solve(self.hess, self.pull(state))
 
+    @functools.cached_property
+    def endless(self):
+        """Whether plans can keep every limit with any slack: some change of the plan gives room in all rows at once."""
+        found = scipy.optimize.linprog(numpy.zeros(self.rows.shape[1]), A_ub=self.rows, b_ub=-numpy.ones(len(self.rows)), bounds=(None, None))
+        return found.status == 0
+
     def most_slack(self, state):
-        """The greatest slack that one plan keeps in every limit, and the rows that stop it there, from 1, the one that weighs most first."""
+        """The greatest slack that one plan keeps in every limit, and the rows that stop it there, from 1, the one that weighs most first; an infinity where none does."""
+        if self.endless:
+            return math.inf, []
         count = self.rows.shape[1]
-        matrix = cvxopt.matrix
         rows = numpy.hstack([self.rows, numpy.ones((len(self.bounds), 1))])
-        # a box of any size keeps the program bounded where no limit does
-        far = 1e6 * (1 + abs(self.bounds).max())
-        rows = numpy.vstack([rows, numpy.eye(1, count + 1, count)])
-        found = cvxopt.solvers.lp(matrix(numpy.r_[numpy.zeros(count), -1.0]), matrix(rows), matrix(numpy.r_[self.room(state), far]))
-        weights = numpy.array(found["z"]).ravel()[:-1]
-        blamed = [int(i) + 1 for i in numpy.argsort(-weights) if weights[i] > 0.01 * weights.max()]
-        return float(-found["primal objective"]), blamed
+        found = scipy.optimize.linprog(numpy.r_[numpy.zeros(count), -1.0], A_ub=rows, b_ub=self.room(state), bounds=(None, None))
+        if found.fun is None:
+            return math.inf, []
+        weights = -found.ineqlin.marginals
+        blamed = [int(i) + 1 for i in numpy.argsort(-weights, kind="stable") if weights[i] > 0.01 * weights.max()]
+        return float(-found.fun), blamed
 
     def cost(self, state, plan):
         return float(cost_of(self.design, [float(v) for v in state], [float(v) for v in plan]))

@@ -15,9 +15,13 @@ import tomllib
 from fractions import Fraction
 
 import sizes
+from arguments import MOST_TURNS
 from corners import corners_of, exact_corner, margin_of, multiplier_of
 from design_text import plain, read_design
+from files import read_bytes, same
+from libraries import run
 from texts import read_text, records_of
+from usage import commands, files_of
 
 # ---- the texts: one for each status, and one for each fault that a status carries
 
@@ -51,6 +55,8 @@ TEXTS = {
     'the box is nearly invariant (docs/DESIGNING.md, "Boxes that loops stay in").',
     "long": "{file} is longer than 4194304 bytes, and no file of the tool is.",
     "mismatch": "The controller was not made for this design: its {field} are {controller}, and the design's are {design}. Run `generate` on this design.",
+    "no-text": "The argument {word} is no UTF-8 text, and the program reads no other: give the file another name.",
+    "no-arguments": "The system gave the program no arguments: the machine may have no memory left.",
     "unbuilt": "The launcher could not build the program: crates/mpc_cli/build.log has the reason.",
 }
 
@@ -104,28 +110,23 @@ QUANTITIES = {
     "turn": ("the next state of a loop", "a smaller plant.den, or a controller with fewer steps or bits"),
 }
 
-# file names by command: the names' kinds in the order of the words
-FILES = {"generate": ["design", "policy", "controller", "report"], "solve": ["controller", "states"], "loop": ["design", "controller", "states"]}
-COUNTS = {"generate": 4, "solve": 2, "loop": 4, "demo": 1}
-
-
 # ---- what the texts are filled with
 
 
 class Call:
     """The words of a command, with what its files say."""
 
-    def __init__(self, words):
+    def __init__(self, words: list[str]) -> None:
         self.words = words
         self.command = words[0] if words else ""
+        self.kinds = files_of(self.command)
 
     def kind(self, number):
-        kinds = FILES.get(self.command, [])
-        return kinds[number - 1] if 0 < number <= len(kinds) else "output"
+        return self.kinds[number - 1] if 0 < number <= len(self.kinds) else "output"
 
     def path(self, kind):
-        kinds = FILES.get(self.command, [])
-        return self.words[1 + kinds.index(kind)] if kind in kinds and len(self.words) > 1 + kinds.index(kind) else None
+        at = 1 + self.kinds.index(kind) if kind in self.kinds else len(self.words)
+        return self.words[at] if at < len(self.words) else None
 
     def named(self, number):
         """A file as 'the design file NAME'."""
@@ -153,22 +154,45 @@ class Call:
 
 
 def number_of(word, most):
+    """Whether a word is a number of an argument."""
     return word.isascii() and word.isdigit() and str(int(word)) == word and int(word) <= most
 
 
 def usage(call):
-    words, command = call.words, call.command
+    words, command, listed = call.words, call.command, commands()
     if not words:
         return "A command is needed."
-    if command not in COUNTS:
-        return f"`{command}` is no command: generate, solve, loop or demo is needed."
-    if len(words) - 1 != COUNTS[command]:
-        return f"`{command}` takes {COUNTS[command]} arguments, and {len(words) - 1} were given."
+    if command not in listed:
+        *others, last = listed
+        return f"`{command}` is no command: {', '.join(others)} or {last} is needed."
+    if len(words) - 1 != len(listed[command]):
+        return f"`{command}` takes {len(listed[command])} arguments, {' '.join(listed[command])}, and {len(words) - 1} were given."
     if command == "generate":
-        return "The controller's or the report's name is that of another file of the four: each needs its own."
+        return one_file_twice(call)
+    if command == "solve" or command == "loop" and number_of(words[4], MOST_TURNS):
+        return "Standard output is one of the files that are read: what is printed needs a file of its own."
     if command == "loop":
         return f"The turns `{words[4]}` are no number from 0 to 1000000 without sign or leading zero."
     return f"`{words[1]}` is no number from 0 to 4294967295 without sign or leading zero."
+
+
+def one_file_twice(call):
+    """Which of the four files of `generate` are one."""
+    for output in ("report", "controller"):
+        for kind in call.kinds[: call.kinds.index(output)]:
+            if same(call.path(output), call.path(kind)) or call.path(output) == call.path(kind):
+                return f"The {output} file {call.path(output)} is the {kind} file {call.path(kind)}: each of the four needs a file of its own."
+    return "The controller's or the report's name is that of another file of the four: each needs a file of its own."
+
+
+def without_arguments(call):
+    """Status 99: the system gave the program no arguments, as where one is no text."""
+    for word in call.words:
+        try:
+            word.encode()
+        except UnicodeEncodeError:
+            return TEXTS["no-text"].format(word=os.fsencode(word).decode("utf-8", "backslashreplace"))
+    return TEXTS["no-arguments"]
 
 
 def reading_fault(path):
@@ -193,13 +217,12 @@ def writing_fault(path):
 def toml_fault(path):
     """Where Python's reader stops, which reads nearly the same TOML."""
     try:
-        with open(path, "rb") as file:
-            tomllib.loads(file.read().decode("utf-8-sig"))
+        tomllib.loads(read_bytes(path).decode("utf-8-sig"))
     except UnicodeDecodeError:
         return ": its bytes are no UTF-8 text"
     except tomllib.TOMLDecodeError as fault:
         return f": {fault}"
-    except (OSError, TypeError, RecursionError):
+    except (OSError, TypeError, ValueError, RecursionError):
         pass
     return ": a number lies outside 64 bits, a float is too large, or it is nested too deep"
 
@@ -207,8 +230,7 @@ def toml_fault(path):
 def further_key(path):
     known = {key for key, _, _ in PLACES} | set(TABLES)
     try:
-        with open(path, "rb") as file:
-            top = tomllib.load(file)
+        top = tomllib.loads(read_bytes(path).decode())
     except (OSError, ValueError, TypeError):
         return "a further key"
     keys = [f"{table}.{key}" for table in TABLES if isinstance(top.get(table), dict) for key in top[table]] + list(top)
@@ -219,8 +241,7 @@ def further_key(path):
 def shape_words(words, path):
     """A shape with the design's numbers of states and inputs, where they can be read."""
     try:
-        with open(path, "rb") as file:
-            top = tomllib.load(file)
+        top = tomllib.loads(read_bytes(path).decode())
         n, p = int(top["states"]), int(top["inputs"])
         return words.format(
             n=n, p=p, n1=f"{n + 1} (states and a bound)", n2=f"{n + 2} (states, a target and a weight)", np1=f"{n + p + 1} (states, inputs and a bound)"
@@ -398,6 +419,8 @@ def explanation(status, line, words):
     call, fields = Call(words), line.split()
     if status == 98:
         return TEXTS["unbuilt"]
+    if status == 99:
+        return without_arguments(call)
     if status == 1:
         return TEXTS["memory"]
     if status == 2:
@@ -448,6 +471,7 @@ STATUSES = [
     (13, "long FILE", ["long"]),
     (14, "mismatch WORD DESIGN CONTROLLER", ["mismatch"]),
     (98, "", ["unbuilt"]),
+    (99, "", ["no-text", "no-arguments"]),
 ]
 
 
@@ -479,16 +503,21 @@ def main(arguments):
     if arguments[0] == "--table":
         print("\n".join(table()).replace("|a| + |b|", "\\|a\\| + \\|b\\|"))
         return 0
-    told = explanation(int(arguments[0]), arguments[1], arguments[2:])
-    if told:
-        print(re.sub(r"\b1 (list|integer|number|field|record|time)s\b", r"1 \1", told[0].upper() + told[1:]), file=sys.stderr)
+    say_why(int(arguments[0]), arguments[1], arguments[2:])
     return 0
 
 
-if __name__ == "__main__":
+def say_why(status: int, line: str, words: list[str]) -> None:
+    """An explanation is a help: the program's own line stands above it, and no traceback belongs below."""
     try:
-        main(sys.argv[1:])
-    except Exception as fault:  # an explanation is a help: the program's own line stands above it, and no traceback belongs below
+        told = explanation(status, line, words)
+    except Exception as fault:
         if os.environ.get("MPC_REFUSALS_RAISE"):
             raise
-        print(f"(no explanation: {fault})", file=sys.stderr)
+        told = f"(no explanation: {fault})"
+    if told:
+        print(re.sub(r"\b1 (list|integer|number|field|record|time)s\b", r"1 \1", told[0].upper() + told[1:]), file=sys.stderr)
+
+
+if __name__ == "__main__":
+    run(lambda: main(sys.argv[1:]))

@@ -3,13 +3,15 @@ import json
 from dataclasses import dataclass
 from fractions import Fraction
 
+from files import read_bytes
+
 REPORT_LINES = ["margin", "cost", "multiplier", "step", "steps", "bits", "width", "words", "violation", "gap", "undercut"]
 SCALE = 2**40
 
 
-def read_text(path):
-    with open(path, "rb") as file:
-        return file.read().decode("utf-8-sig", "replace")
+def read_text(path: str) -> str:
+    """A text of at most as many bytes as the program reads."""
+    return read_bytes(path).decode("utf-8-sig", "replace")
 
 
 def records_of(text):

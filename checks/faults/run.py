@@ -1,13 +1,14 @@
 #!/usr/bin/env python3
 """Runs the built program while memory, files and its output fail, and checks what stands afterwards.
 
-    checks/faults/run.py PROGRAM [--jobs JOBS] [--only memory|files|output]
+    checks/faults/run.py PROGRAM [--jobs JOBS] [--only memory|files|output] [--short]
 
 Memory: under an allocator that refuses one request, the n-th, for every n that the run makes, and again one that refuses the n-th and all later ones. Each run
 must end with the status 1 and its line, or with the right answer; `generate` leaves both files as they were, the others have put some first lines. Where the
 request is the runtime's own, for the arguments, the program ends with 99 and no word. Where all later requests are refused, the line may be missing.
 Files: a limit on a file's size at every number of bytes, a full disk, /dev/full, folders that aren't there, names that can't be read or never end.
 Output: closed, full, limited at every number of bytes, a pipe that nobody reads.
+With --short, as ./test runs it: files and output alone, at a few numbers of bytes.
 Each `generate`, `solve`, `loop` and `demo` is compared with the model in ../fuzz.
 """
 import argparse
@@ -32,6 +33,8 @@ EXAMPLES = os.path.join(HERE, "..", "..", "examples")
 MEMORY = b"error 1 memory\n"
 # of each group, so many faults are told
 SHOWN = 20
+# with --short, each so many bytes
+SHORT_STEP = 211
 OLD = {"c": b"an old controller\n", "r": b"an old report\n", "r.json": b"an old report\n"}
 
 
@@ -223,6 +226,11 @@ def is_proper_prefix(some, whole):
     return len(some) < len(whole) and whole.startswith(some)
 
 
+def sizes_of(whole, step):
+    """So many bytes of a whole as a file or an output is limited to: each where the step is 1, and always those about the end."""
+    return sorted({*range(0, whole, step), *(size for size in (whole - 1, whole, whole + 1) if size >= 0)})
+
+
 class Checks:
     def __init__(self):
         self.count, self.wrong = 0, 0
@@ -272,7 +280,8 @@ def files(options, _):
     text, json, *_ = given
     for command in (text, json):
         command.learn()
-        for size in range(max(map(len, command.made.values())) + 2):
+        # about the end of each file, too
+        for size in sorted({size for made in command.made.values() for size in sizes_of(len(made), SHORT_STEP if options.short else 1)}):
             with tempfile.TemporaryDirectory() as folder:
                 command.lay(folder)
                 ran = command.run(folder, preexec_fn=limited(size))
@@ -367,8 +376,7 @@ def output(options, _):
             os.close(writes)
             both = command.run(folder, stdout=None, stderr=None, preexec_fn=lambda: (os.close(1), os.close(2)))
             checks.expect(f"{command.name}, both outputs closed", both.returncode == 4, f"status {both.returncode}")
-            sizes = range(len(command.out) + 2) if len(command.out) < 600 else [*range(0, len(command.out), 97), len(command.out) - 1, len(command.out)]
-            for size in sizes:
+            for size in sizes_of(len(command.out), SHORT_STEP if options.short else 1 if len(command.out) < 600 else 97):
                 out = os.path.join(folder, "out")
                 with open(out, "wb") as file:
                     ran = command.run(folder, stdout=file, preexec_fn=limited(size))
@@ -396,14 +404,14 @@ def main():
     parser.add_argument("program")
     parser.add_argument("--jobs", type=int, default=os.cpu_count())
     parser.add_argument("--only", choices=["memory", "files", "output"])
+    parser.add_argument("--short", action="store_true")
     options = parser.parse_args()
     options.program = os.path.abspath(options.program)
     wrong = 0
     with tempfile.TemporaryDirectory() as folder:
-        library = compiled(folder)
         for name, check in (("files", files), ("output", output), ("memory", memory)):
-            if options.only in (None, name):
-                wrong += check(options, library)
+            if options.only in (None, name) and not (options.short and name == "memory"):
+                wrong += check(options, compiled(folder) if name == "memory" else None)
     print(f"{wrong} wrong")
     sys.exit(wrong > 0)
 

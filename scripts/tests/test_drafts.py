@@ -65,7 +65,7 @@ class Drafts(unittest.TestCase):
         self.assertTrue(numpy.allclose(b, [[3], [1]]))
 
     def test_units_that_are_left_out_keep_row_sums_small(self):
-        model = models.Model(DOUBLE + "[box]\nhi = [100.0, 0.001]\n")
+        model = models.Model(DOUBLE + "[box]\nhi = [100.0, 0.001]\n", plant_alone=True)
         self.assertLess(max(abs(numpy.hstack(model.scaled())).sum(1)), 2)
 
     def test_lost_coupling(self):
@@ -90,23 +90,25 @@ class Drafts(unittest.TestCase):
         sides = "".join(f"[[limit]]\ninput = [{side}]\nbound = 1.0\ntolerance = 0.25\n" for side in (1.0, -1.0))
         text = DOUBLE + sides + "[cost]\ninput = [1.0]\nrows = [{ state = [1.0, 0.0], weight = 1.0 }]\n[box]\nhi = [2.0, 0.5]\n"
         first, second = (draft.draft(models.Model(version + text)) for version in ("", "version = 2\n"))
-        self.assertEqual((first.version, second.version, second.cost_den), (1, 2, 16 * first.cost_den))
-        self.assertTrue(0.95 < draft.curvature(first) <= 1 and 15.2 < draft.curvature(second) <= 16)
-        second.version, second.cost_den, second.gap = first.version, first.cost_den, first.gap
+        self.assertEqual((first.version, second.version), (1, 2))
+        self.assertTrue(0.99 < draft.curvature(first) <= 1 and 15.84 < draft.curvature(second) <= 16)
+        for design in (first, second):
+            self.assertAlmostEqual(design.input_weights[0] / design.stage_cost[0][-1] / (0.037 / 0.94) ** 2, 1, delta=0.001)
+        second.version, second.cost_den, second.input_weights, second.stage_cost, second.gap = first.version, first.cost_den, first.input_weights, first.stage_cost, first.gap
         self.assertEqual(second, first)
 
     def test_sizes_by_version(self):
         six = f"period = 1.0\nstages = 3\na = {[[0.0] * 6] * 6}\nb = {[[1.0]] * 6}\n"
         with self.assertRaisesRegex(ValueError, "version 1 has at most 4 states and 20 stages: version = 2 has more"):
             models.Model(six)
-        self.assertEqual(models.Model("version = 2\n" + six).n, 6)
+        self.assertEqual(models.Model("version = 2\n" + six, plant_alone=True).n, 6)
         for text, fault in (
-            (six.replace("stages = 3", "stages = 31"), "version 2 has at most 6 states and 30 stages$"),
+            (six.replace("stages = 3", "stages = 31"), "version 2 has at most 6 states and 30 stages, and this model has 6 states and 31 stages"),
             (f"period = 1.0\na = {[[0.0] * 7] * 7}\nb = {[[1.0]] * 7}\n", "version 2 has at most 6 states"),
         ):
             with self.assertRaisesRegex(ValueError, fault):
                 models.Model("version = 2\n" + text)
-        self.assertEqual(models.Model("version = 2\n" + DOUBLE.replace("stages = 5", "stages = 30")).stages, 30)
+        self.assertEqual(models.Model("version = 2\n" + DOUBLE.replace("stages = 5", "stages = 30"), plant_alone=True).stages, 30)
         with self.assertRaisesRegex(ValueError, "version 1 has at most 4 states and 20 stages"):
             models.Model(DOUBLE.replace("stages = 5", "stages = 21"))
         with self.assertRaisesRegex(ValueError, "version is 1 or 2, not 3"):
@@ -117,13 +119,6 @@ class Drafts(unittest.TestCase):
         found = sizes.exact_sizes(design, condense(design))["prediction"], sizes.fine_sizes(design, condense_fine(design))["prediction"]
         for bits, size in zip(discretise.growth_bits(sizes.growth(design), design.plant_den, design.stages), found):
             self.assertAlmostEqual(float(bits), sizes.bits(size), places=6)
-
-    def test_denominator_of_the_limits(self):
-        rows = [numpy.array([1.0, 0.304, 7.3])]
-        self.assertEqual(draft.limit_rows(rows), (16, [[16, 5, 116]]))
-        self.assertEqual(draft.limit_rows(rows, 256), (256, [[256, 78, 1868]]))
-        self.assertEqual(draft.limit_rows([numpy.array([1.0, 0.0102, 7.3])])[0], 64)
-        self.assertEqual(draft.limit_rows([numpy.array([2.0, 1.0, 7.0])]), (1, [[2, 1, 7]]))
 
     def test_state_limit_holds_for_the_next_state(self):
         design = self.design("pmsm")

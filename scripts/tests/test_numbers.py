@@ -298,11 +298,12 @@ class Explain(unittest.TestCase):
     def rolled(self, exponents):
         """A report of the axis: row i has the violation 2^exponent, at the stages one after the other, and last the final rows."""
         lines = "".join(f"violation {row} {2**exponent << 40} 1099511627776\n" for row, exponent in enumerate(exponents, 1))
-        return SECOND_REPORT[: SECOND_REPORT.index("violation")] + lines + SECOND_REPORT[SECOND_REPORT.index("gap") :]
+        return SECOND_REPORT[: SECOND_REPORT.index("violation")].replace("words 6", "words 46") + lines + SECOND_REPORT[SECOND_REPORT.index("gap") :]
 
     def test_stages_of_version_2(self):
         exponents = [0, 4, 4, 4, 4, 4] + [1, 4, 4, 4, 4, 4] + [1, 3, 4, 4, 4, 4] + [0, 4, 4, 4, 4, 4] + [0, 4, 4, 4, 4, 4] + [4, 4, 4, 2]
-        told = self.told(report=self.rolled(exponents), design="# stage row 1: torque, 1 is 5 mNm\n" + AXIS.replace("version = 1", "version = 2"))
+        axis = AXIS.replace("version = 1", "version = 2").replace("violation = 1", "violation = 256")
+        told = self.told(report=self.rolled(exponents), design="# stage row 1: torque, 1 is 5 mNm\n" + axis)
         self.assertIn("stage row 1 (torque) is exceeded by at most 10 mNm at stages 1 and 2, 5 mNm at stages 0, 3 and 4, at any state of the box", told)
         self.assertIn("stage row 2 is exceeded by at most 16 at stages 0, 1, 3 and 4, 8 at stage 2, at any state of the box", told)
         self.assertIn("stage row 3 is exceeded by at most 16, at any state of the box", told)

@@ -1,5 +1,6 @@
 """Every refusal has words: one case a line that the program can print."""
 import os
+import pty
 import shlex
 import shutil
 import subprocess
@@ -7,6 +8,8 @@ import sys
 import unittest
 
 import refusals
+import usage
+from libraries import missing
 from tests.worked import (
     AXIS,
     AXIS_POLICY,
@@ -57,10 +60,10 @@ class Explained(unittest.TestCase):
         self.assertIn("`frob` is no command", self.words("error 2 usage", "frob"))
 
     def test_too_few_arguments(self):
-        self.assertIn("takes 2 arguments, and 1 were given", self.words("error 2 usage", "solve", "c"))
+        self.assertIn("takes 2 arguments, CONTROLLER STATES, and 1 were given", self.words("error 2 usage", "solve", "c"))
 
     def test_same_name_twice(self):
-        self.assertIn("name is that of another file", self.words("error 2 usage", "generate", "d", "p", "c", "c"))
+        self.assertIn("The report file c is the controller file c: each of the four needs a file of its own", self.words("error 2 usage", "generate", "d", "p", "c", "c"))
 
     def test_turns_with_a_leading_zero(self):
         self.assertIn("`01` are no number from 0 to 1000000", self.words("error 2 usage", "loop", "d", "c", "s", "01"))
@@ -255,6 +258,8 @@ class Launcher(unittest.TestCase):
         for part in ("crates/mpc_cli/out", "crates/mpc_cli/src", "crates/mpc_cli/specs", "crates/mpc_cli/proofs", "docs"):
             os.makedirs(os.path.join(folder, part))
         shutil.copy(os.path.join(TOP, "mpc"), folder)
+        shutil.copy(os.path.join(TOP, "CHANGELOG.md"), folder)
+        shutil.copy(os.path.join(TOP, "docs", "help.txt"), os.path.join(folder, "docs"))
         shutil.copytree(os.path.join(TOP, "scripts"), os.path.join(folder, "scripts"), ignore=shutil.ignore_patterns("__pycache__", "tests"))
         with open(os.path.join(folder, "crates.txt"), "w"):
             pass
@@ -328,6 +333,91 @@ echo "== mpc_cli"; echo "logic=proved functions=1"; printf '#!/bin/bash\necho bu
 """,
             kept=["crates/mpc_cli/out/incremental"],
         )
+
+    def run_in(self, folder, command, **how):
+        """A command of the shell in a folder with the launcher."""
+        return subprocess.run(command, shell=True, cwd=folder, capture_output=True, text=True, **how)
+
+    def test_outputs_that_are_inputs(self):
+        """By whatever name they are called, none of the files is touched, and the program is never run."""
+        folder = self.folder("echo never; exit 0")
+        for name in ("d", "p", "s"):
+            with open(os.path.join(folder, name), "w") as file:
+                file.write(name)
+        self.run_in(folder, "ln -s p symbolic; ln p hard; ln -s . here; ln -s new hanging")
+        for words, told in (
+            ("generate d p c ./p", "The report file ./p is the policy file p"),
+            ("generate d p c symbolic", "The report file symbolic is the policy file p"),
+            ("generate d p hard r", "The controller file hard is the policy file p"),
+            ("generate d p here/d r", "The controller file here/d is the design file d"),
+            ("generate d p new ./new", "The report file ./new is the controller file new"),
+            ("generate d p hanging new", "The report file new is the controller file hanging"),
+            ("solve c s >> s", "Standard output is one of the files that are read"),
+            ("loop d c s 3 >> ./here/s", "Standard output is one of the files that are read"),
+        ):
+            got = self.run_in(folder, "./mpc " + words)
+            self.assertEqual((got.returncode, got.stdout, got.stderr.split("\n")[0]), (2, "", "error 2 usage"), words)
+            self.assertIn(told, got.stderr)
+        self.assertEqual(self.run_in(folder, "cat d p s").stdout, "dps")
+        for words in ("generate d p c r", "generate d p /dev/null /dev/null", "solve c s > out", "loop d c s 3 | cat"):
+            self.assertEqual(self.run_in(folder, "./mpc " + words + " && cat out 2>/dev/null; true").stderr, "", words)
+
+    def test_answers_of_the_launcher(self):
+        """Without a program there is help and a version, and both fail where they can't be written."""
+        folder = self.folder("")
+        os.remove(os.path.join(folder, "crates/mpc_cli/out/mpc_cli"))
+        with open(os.path.join(TOP, "docs", "help.txt"), encoding="utf-8") as file:
+            page = file.read()
+        for words in ("--help", "-h", "help"):
+            self.assertEqual(self.run_in(folder, f"./mpc {words}").stdout, page)
+        for words in ("generate --help", "generate -h", "help generate"):
+            told = self.run_in(folder, f"./mpc {words}")
+            self.assertEqual((told.returncode, told.stdout.split("\n")[0]), (0, "  mpc generate DESIGN POLICY CONTROLLER REPORT"))
+            self.assertNotIn("mpc solve", told.stdout)
+        os.makedirs(os.path.join(folder, "bin"))
+        with open(os.path.join(folder, "bin", "rt"), "w") as file:
+            file.write("#!/bin/sh\necho the kit\n")
+        os.chmod(os.path.join(folder, "bin", "rt"), 0o755)
+        told = self.run_in(folder, "PATH=$PWD/bin:$PATH ./mpc --version")
+        self.assertRegex(told.stdout, "^mpc [0-9.]+\nthe kit\n$")
+        for words in ("--help", "-h", "help", "--version", "generate --help", "help solve"):
+            got = self.run_in(folder, f"./mpc {words} >/dev/full")
+            self.assertEqual((got.returncode, got.stderr.split("\n")[0]), (4, "error 4 write-fault 0"), words)
+
+    def test_name_that_is_no_text(self):
+        got = self.run_in(self.folder("exit 99"), "./mpc solve $'\\xff\\xfe' s", executable="/bin/bash")
+        self.assertEqual((got.returncode, got.stdout), (99, ""))
+        self.assertIn(r"The argument \xff\xfe is no UTF-8 text", got.stderr)
+        self.assertIn("The system gave the program no arguments", self.run_in(self.folder("exit 99"), "./mpc solve c s").stderr)
+
+    def test_link_to_a_launcher_and_a_script(self):
+        folder = self.folder('echo "$1"')
+        self.run_in(folder, "mkdir far; ln -s ../mpc far/mine; ln -s ../scripts/judge.py far/judge")
+        self.assertEqual(self.run_in(folder, "far/mine solve c s").stdout, "solve\n")
+        code = "import sys, runpy; sys.path.insert(0, 'scripts'); print(runpy.run_path('far/judge')['LAUNCHER'])"
+        if not missing("numpy", "cvxopt"):
+            self.assertEqual(self.run_in(folder, f'{sys.executable} -c "{code}"').stdout, os.path.realpath(os.path.join(folder, "mpc")) + "\n")
+
+    def test_lines_are_counted_on_a_terminal(self):
+        folder = self.folder("for i in 1 2 3; do echo $i; sleep 2; done")
+        with open(os.path.join(folder, "s"), "w") as file:
+            file.write("1\n" * 1000000)
+        here, there = pty.openpty()
+        with open(os.path.join(folder, "out"), "w") as out:
+            ran = subprocess.run(["./mpc", "solve", "c", "s"], cwd=folder, stdout=out, stderr=there)
+        os.close(there)
+        told = os.read(here, 1000)
+        os.close(here)
+        self.assertEqual(ran.returncode, 0)
+        self.assertRegex(told, rb"mpc: [23] of 1000000 lines")
+
+    def test_usage_stands_once(self):
+        """What the words below a refusal count by is what help lists, and the README's commands are among it."""
+        self.assertEqual(
+            usage.commands(),
+            {"demo": ["NUMBER"], "generate": ["DESIGN", "POLICY", "CONTROLLER", "REPORT"], "solve": ["CONTROLLER", "STATES"], "loop": ["DESIGN", "CONTROLLER", "STATES", "TURNS"]},
+        )
+        self.assertEqual(usage.files_of("loop"), ["design", "controller", "states"])
 
     def test_input_reaches_the_program(self):
         self.assertEqual(self.launched("cat; exit 0", "solve").stdout, "")

@@ -1,0 +1,246 @@
+#!/usr/bin/env python3
+"""Proposes coordinates, or a box, in which the closed loops of a model stay.
+
+    scripts/coordinates.py MODEL [NEW_MODEL] [--turns N]
+
+A box of a position and its rate is left at once from the corner where both have one sign: what moves goes on moving. In place of the position it tries the position in some time,
+`position + T rate`, for each state that another one moves, with T from half a period to 40 of them, and takes the T at which the loops from the corners of the box go least far. Where
+they leave all the same, it makes the box smaller, a fifth in one coordinate at a time, that which helps most. Loops are those of exact model predictive control (cvxopt), N turns (50).
+
+What was tried goes to standard error. The model with what was found goes to NEW_MODEL, or is printed; where loops stay in the model as it is, it is MODEL's own. It ends with status 12
+where nothing was found in which they stay. Nothing rests on it: `./mpc loop` shows the controller's own loops.
+"""
+import itertools
+import sys
+from collections.abc import Iterator
+from dataclasses import dataclass, field
+
+from libraries import need, run, say
+
+need("numpy", "scipy", "cvxopt")
+import numpy
+
+import files
+from arguments import Parser, turns
+from design_text import Design, plain
+from draft import draft
+from model_text import model_text
+from models import Model, read_model
+from programs import Programs, reach_of
+from progress import Progress
+
+# T in periods, and after how many that help no more the search ends
+TIMES = (0.5, 0.7, 1.0, 1.3, 1.6, 2.0, 2.5, 3.2, 4.0, 5.0, 6.3, 8.0, 10.0, 13.0, 16.0, 20.0, 25.0, 32.0, 40.0)
+PATIENCE = 5
+# trials whose loops go no further than this are drafted, those that go least far first, at most so many
+NEAR, DRAFTED = 1.05, 6
+# by which a coordinate of the box is made smaller, and how often at most
+SMALLER, ROUNDS = 0.8, 12
+# a coupling that moves less than this part of a coordinate's box in a period is none
+COUPLED = 0.02
+# the slack that a corner's plan must leave, in tolerances
+SLACK = 1 / 16
+
+
+@dataclass
+class Choice:
+    """The new coordinates as sums of the design's, T by the pair that has it, and the parts of the box that are kept."""
+
+    times: dict = field(default_factory=dict)
+    kept: list = field(default_factory=list)
+
+    def rows(self, size: int) -> numpy.ndarray:
+        rows = numpy.eye(size)
+        for (i, j), time in self.times.items():
+            rows[i, j] = time
+        return rows
+
+
+class Search:
+    """Loops of a design, from the corners of other boxes; all in the design's units."""
+
+    def __init__(self, design: Design, own: int, count: int) -> None:
+        self.design, self.own, self.count, self.programs = design, own, count, Programs(design)
+        self.a, self.b = numpy.array(design.a) / design.plant_den, numpy.array(design.b) / design.plant_den
+        lo, hi = numpy.array(design.lo) / 2**design.grid, numpy.array(design.hi) / 2**design.grid
+        self.middle, self.half = (lo + hi) / 2, (hi - lo) / 2
+
+    def corners(self, choice: Choice) -> list[numpy.ndarray]:
+        """The corners of the choice's box, in its coordinates; of a problem that looks the same from both sides, one of each two."""
+        sides = [(-1.0, 1.0) if half else (0.0,) for half in self.half]
+        if self.is_even():
+            sides[0] = (-1.0,)
+        return [self.middle + numpy.array(signs) * self.half * choice.kept for signs in itertools.product(*sides)]
+
+    def is_even(self) -> bool:
+        d = self.design
+        rows = lambda table: sorted(map(tuple, table))
+        turned = lambda table: sorted((*(-v for v in row[:-1]), row[-1]) for row in table)
+        targets = any(row[-2] for row in d.stage_cost + d.final_cost)
+        return not targets and not self.middle.any() and self.half[0] > 0 and all(rows(t) == turned(t) for t in (d.stage_rows, d.final_rows))
+
+    def far(self, choice: Choice, enough: float = float("inf")) -> float:
+        """How far the loops go after their start, as a part of the box; infinite where a corner has no plan, and no more than that it is beyond `enough`."""
+        rows = choice.rows(self.design.states)
+        back, half, most = numpy.linalg.inv(rows), self.half * numpy.array(choice.kept), 0.0
+        for corner in self.corners(choice):
+            state = back @ corner
+            if self.programs.best(state, SLACK) is None:
+                return float("inf")
+            for _ in range(self.count):
+                plan = self.programs.best(state)
+                plan = self.programs.unlimited(state) if plan is None else plan
+                before, state = state, self.a @ state + self.b @ plan[: self.design.inputs]
+                off = abs(rows @ state - self.middle)
+                most = max(most, *(float(v / h) for v, h in zip(off, half) if h > 0))
+                if most > enough:
+                    return most
+                if all(abs(state - before) < 1e-3 * numpy.maximum(self.half, 1e-9)) and all(off <= 0.5 * half + 1e-9):
+                    break
+        return most
+
+    def pairs(self) -> list[tuple[int, int]]:
+        """Each coordinate with one that moves it and that it moves less, the strongest coupling first."""
+        part = lambda i, j: abs(self.a[i, j]) * self.half[j] / self.half[i] if self.half[i] > 0 else 0.0
+        found = [(part(i, j), (i, j)) for i in range(self.own) for j in range(self.own) if i != j and self.half[j] > 0]
+        return [pair for weight, pair in sorted(found, reverse=True) if weight > COUPLED and self.a[pair] and self.a[pair[0], pair[0]] > 0.5 and weight > part(*pair[::-1])]
+
+
+def neat(value: float) -> float:
+    """A number of two digits."""
+    return float(f"{value:.2g}")
+
+
+def best_times(found: Search, units: numpy.ndarray, choice: Choice, far: float, progress: Progress) -> list[tuple[float, Choice]]:
+    """Choices with a T for each pair in turn, each with how far its loops go."""
+    trials, done = [], 0
+    for i, j in found.pairs():
+        # T in physical units has two digits, so that a text shows it
+        ratio, base, worse = units[i] / units[j], choice, 0
+        for time in TIMES:
+            trial = Choice({**base.times, (i, j): neat(time * found.a[i, j] * ratio) / ratio}, base.kept)
+            there = found.far(trial, max(far, NEAR))
+            trials.append((there, trial))
+            worse = 0 if there < far else worse + 1
+            if there < far:
+                choice, far = trial, there
+            done += 1
+            progress.reach(done)
+            if worse == PATIENCE and choice is not base:
+                break
+    return trials
+
+
+def smaller_boxes(found: Search, choice: Choice, far: float, progress: Progress) -> Iterator[tuple[float, Choice]]:
+    """Choices with a box that is smaller in one coordinate after the other, that which helps most."""
+    for round_ in range(ROUNDS):
+        trials = [(found.far(smaller), place, smaller) for place, smaller in enumerate(cut(choice, i) for i in range(found.own))]
+        far, _, choice = min(trials)
+        progress.reach(round_)
+        yield far, choice
+
+
+def cut(choice: Choice, i: int) -> Choice:
+    return Choice(choice.times, [part * SMALLER if k == i else part for k, part in enumerate(choice.kept)])
+
+
+def staying(model: Model, found: Search, trials: list[tuple[float, Choice]], count: int) -> Choice | None:
+    """The first of these, those that go least far first, whose drafted design keeps its loops in the box."""
+    near = sorted((trial for trial in trials if trial[0] <= NEAR), key=lambda trial: trial[0])
+    for far, choice in near[:DRAFTED]:
+        reached = float(max(reach_of(draft(Model(changed_text(model, choice))), count)))
+        say(f"{told(model, choice)}: the loops reach {plain(reached)} of the box")
+        if reached <= 1:
+            return choice
+    return None
+
+
+def told(model: Model, choice: Choice) -> str:
+    """A choice in words."""
+    units, names = model.state_units, model.names
+    words = [f"{name_of(model, i, j, time * units[i] / units[j])} in place of {names[i][0]}" for (i, j), time in choice.times.items()]
+    words += [f"{plain(part)} of the box of {names[i][0]}" for i, part in enumerate(choice.kept) if part < 1]
+    return "with " + ", ".join(words) if words else "as it is"
+
+
+def search(model: Model, found: Search, count: int) -> Choice | None:
+    """The choice in which loops stay, or None."""
+    choice = Choice({}, [1.0] * found.design.states)
+    far = found.far(choice)
+    say(f"as it is: the loops reach {plain(max(1.0, far))} of the box")
+    if far <= 1 and max(reach_of(found.design, count)) <= 1:
+        return choice
+    with Progress("trials", len(TIMES) * len(found.pairs()) + ROUNDS) as progress:
+        trials = best_times(found, model.state_units, choice, far, progress)
+        kept = staying(model, found, trials, count)
+        if kept:
+            return kept
+        far, choice = min(trials + [(far, choice)], key=lambda trial: trial[0])
+        for far, choice in smaller_boxes(found, choice, far, progress):
+            kept = staying(model, found, [(far, choice)], count)
+            if kept:
+                return kept
+    return None
+
+
+def changed_text(model: Model, choice: Choice) -> str:
+    return model_text(changed(model, choice), "a model in coordinates and a box in which its loops stay, by scripts/coordinates.py")
+
+
+def changed(model: Model, choice: Choice) -> dict:
+    """The model's keys with the choice's coordinates and box."""
+    own, text = len(model.to), dict(model.text)
+    units = model.state_units[:own]
+    rows = (units[:, None] * choice.rows(len(model.state_units))[:own, :own] / units[None, :]) @ model.to
+    if choice.times:
+        names = [" ".join(filter(None, words)) for words in model.names[:own]]
+        for (i, j), time in choice.times.items():
+            names[i] = name_of(model, i, j, time * units[i] / units[j])
+        text["coordinates"] = {"rows": [[neat_sum(v) for v in row] for row in rows], "names": names}
+    if any(part < 1 for part in choice.kept[:own]):
+        box = dict(text["box"])
+        hi, lo = box["hi"], box.get("lo", [-v for v in box["hi"]])
+        ends = [((h + l) / 2, (h - l) / 2 * part) for h, l, part in zip(hi, lo, choice.kept)]
+        box["hi"] = [float(f"{middle + half:.4g}") for middle, half in ends]
+        if "lo" in box:
+            box["lo"] = [float(f"{middle - half:.4g}") for middle, half in ends]
+        text["box"] = box
+    return text
+
+
+def neat_sum(value: float) -> float:
+    return float(f"{value:.9g}")
+
+
+def name_of(model: Model, i: int, j: int, time: float) -> str:
+    """What a state with another one in it is called: where that is its rate, by the time."""
+    (word, unit), (other, other_unit) = model.names[i], model.names[j]
+    plant = numpy.array(model.text["a"], float)
+    is_rate = not model.text.get("sampled") and plant[i][j] == 1.0 and numpy.allclose(model.to, numpy.eye(len(model.to)))
+    told = f"{word} in {plain(time * 1000)} ms" if is_rate and time < 1 else f"{word} in {plain(time)} s" if is_rate else f"{word} and {plain(time)} {other}"
+    return f"{told} {unit or 'units'}"
+
+
+def main() -> int:
+    parser = Parser(__doc__)
+    parser.add_argument("model", metavar="MODEL")
+    parser.add_argument("new", metavar="NEW_MODEL", nargs="?")
+    parser.add_argument("--turns", type=turns, default=50, metavar="N")
+    given = parser.parse_args()
+    files.keep_apart({"MODEL": given.model}, {"NEW_MODEL": given.new or files.STANDARD_OUTPUT})
+    model = read_model(given.model)
+    choice = search(model, Search(draft(model), len(model.to), given.turns), given.turns)
+    if choice is None:
+        say("no coordinates and no box were found in which loops stay: weights that move states less, more stages, or limits on what overshoots (docs/DESIGNING.md)")
+        return 12
+    changes = bool(choice.times) or min(choice.kept) < 1
+    text = changed_text(model, choice) if changes else files.read_bytes(given.model).decode()
+    if given.new:
+        files.write(given.new, text)
+    else:
+        sys.stdout.write(text)
+    return 0
+
+
+if __name__ == "__main__":
+    run(main)

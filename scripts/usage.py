@@ -1,0 +1,22 @@
+"""The commands, as docs/help.txt lists them: that page is what the launcher prints, and what words below a refusal count by."""
+import os
+import re
+
+TOP = os.path.dirname(os.path.dirname(os.path.realpath(__file__)))
+LISTED = re.compile(r"  mpc ([a-z]+)((?: [A-Z]+)*)(?:  |$)")
+# what isn't the name of a file
+NUMBERS = ("NUMBER", "TURNS")
+# the commands of the launcher, in Python
+OWN = ("explain", "design")
+
+
+def commands() -> dict[str, list[str]]:
+    """The program's commands, each with its arguments."""
+    with open(os.path.join(TOP, "docs", "help.txt"), encoding="utf-8") as file:
+        found = [LISTED.match(line.rstrip("\n")) for line in file]
+    return {line[1]: line[2].split() for line in found if line and line[1] not in OWN}
+
+
+def files_of(command: str) -> list[str]:
+    """What the files of a command are called, in the order of its arguments."""
+    return [word.lower() for word in commands().get(command, []) if word not in NUMBERS]
