@@ -13,7 +13,7 @@ use Rattle.qp_model.specs.declared.quantity.Quantity.{Quantity}
 use Rattle.qp_model.specs.declared.quantity.Quantity.TheVariants.{Turn}
 use Rattle.qp_model.specs.text.LoopLines.{loop_line, loop_text}
 use Rattle.fixed_kernel.specs.Outside.{IsFirstOutside}
-use Rattle.closed_loop.specs.Answers.{StaysInside, LeavesAt, GrowsByTurns, GrowsByPrefix}
+use Rattle.closed_loop.specs.Answers.{StaysInside, LeavesAt, IsBegun, GrowsByTurns, GrowsByPrefix}
 use Rattle.closed_loop.specs.Shows.{TurnShows, LoopShows}
 use Rattle.closed_loop.specs.declared.fault.LoopFault.{LoopFault}
 use Rattle.closed_loop.specs.declared.fault.LoopFault.TheVariants.{Memory, TooWide, OutsideBox, WriteFault}
@@ -109,6 +109,10 @@ grows_by_front d c entry start turns k None mid new h s e g = tt
 grows_by_front d c entry start turns k (Some o) mid new h s e g =
     front_of d c entry start turns k o new h s (subst (λ (m : Option (List ℕ)). IfSome m (λ o. IsSomeAnd new (λ n. GrowsByPart o n (loop_line c entry (k + 1) (state_after d c start k))))) e g)
 
+-- a turn that was made is one, and the first was made too
+begun_by : (d : Design) (c : Numbers) (start : List ℤ) (turns k : ℕ) → k < turns → StaysInside d c start (k + 1) → IsBegun d c start turns
+begun_by d c start turns k h s = record { some = omega (arith, h); inside = record { each = λ j l. s.each j (omega (arith, l)) } }
+
 -- what a turn shows, a loop shows that came to it
 pub turn_shows : (d : Design) (c : Numbers) (entry : ℕ) (start : List ℤ) (turns k : ℕ) (first mid new : Option (List ℕ)) (before between now : ℕ) (fault : LoopFault) → k < turns →
     StaysInside d c start k → mid ≡ option_map (λ o. o ++ loop_text d c entry start k) first → before ≤ between → between ≤ now →
@@ -121,7 +125,8 @@ turn_shows d c entry start turns k first mid new before between now (OutsideBox 
       t.2 ∙ e ∙ ap (λ (j : ℕ). option_map (λ o. o ++ loop_text d c entry start j) first) gone,
     )
 turn_shows d c entry start turns k first mid new before between now WriteFault h s e l m t =
-    (grows_by_front d c entry start turns k first mid new h (inside_more d c start k s t.0) e t.1, rose_from before between now l m t.2)
+    let inside = inside_more d c start k s t.0 in
+    (grows_by_front d c entry start turns k first mid new h inside e t.1, rose_from before between now l m t.2, begun_by d c start turns k h inside)
 
 -- ---- the first state outside the box is one
 not_inside : (c : Numbers) (xi : List ℤ) (k : ℕ) → IsFirstOutside c xi k → IsAdmissible c xi → ⊥

@@ -19,6 +19,11 @@ pub record LeavesAt (d : Design) (c : Numbers) (start : List ℤ) (turns turn co
   pub before : StaysInside d c start gone
   pub outside : IsFirstOutside c (state_after d c start gone) coordinate
 
+-- a line may be put: there is a turn, and the state of the first lies in the box
+pub record IsBegun (d : Design) (c : Numbers) (start : List ℤ) (turns : ℕ) : Type 0 where
+  pub some : 0 < turns
+  pub inside : StaysInside d c start 1
+
 -- what a sink got grew by the lines of some first turns, whose states lie in the box
 pub record GrowsByTurns (d : Design) (c : Numbers) (entry : ℕ) (start : List ℤ) (turns : ℕ) (old new : List ℕ) : Type 0 where
   pub done : ℕ

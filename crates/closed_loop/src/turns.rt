@@ -6,7 +6,7 @@ ghost use Rattle.qp_model.specs.problem.Parts.{design_of};
 ghost use Rattle.qp_model.specs.machine.Successor.{IsFor};
 ghost use Rattle.qp_model.specs.machine.LoopSize.{turn_size};
 ghost use Rattle.qp_model.specs.text.LoopLines.{loop_line, loop_text};
-ghost use Rattle.closed_loop.specs.Answers.{StaysInside, LeavesAt, GrowsByTurns, GrowsByPrefix};
+ghost use Rattle.closed_loop.specs.Answers.{StaysInside, LeavesAt, IsBegun, GrowsByTurns, GrowsByPrefix};
 ghost use Rattle.closed_loop.specs.Shows.{TurnShows, LoopShows};
 
 use crate::fault::LoopFault;
@@ -114,6 +114,7 @@ pub fn run_loop<O: Sink>(
         → ¬ Rose (O.faults out.old) (O.faults out.new) → IsOk result ⊎ (result ≡ Err LoopFault.Memory) }
     // A fault of the sink.
     ensures failed { result ≡ Err LoopFault.WriteFault → Rose (O.faults out.old) (O.faults out.new) }
+    ensures begun { result ≡ Err LoopFault.WriteFault → IsBegun (design_of design.now) k.old.controller start.now turns }
     ensures cut { result ≡ Err LoopFault.WriteFault → IfSome (O.got out.old) (λ old.
         IsSomeAnd (O.got out.new) (GrowsByPrefix (design_of design.now) k.old.controller entry start.now turns old)) }
     ensures no_fewer { O.faults out.old ≤ O.faults out.new }

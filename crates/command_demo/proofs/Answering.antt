@@ -37,6 +37,11 @@ printed_done s (inl memory) caused = absurd (caused.memory memory)
 printed_done s (inr (inl done)) caused = done
 printed_done s (inr (inr fault)) caused = absurd (caused.write 0 fault)
 
+pub printed_one : (A : Type 0) (s : Status) → PrintingEnds s → (s ≡ Done → ⊥) → (s ≡ Memory → ⊥) → (s ≡ WriteFault 0 → ⊥) → A
+printed_one A s (inl is) done memory fault = absurd (memory is)
+printed_one A s (inr (inl is)) done memory fault = absurd (done is)
+printed_one A s (inr (inr is)) done memory fault = absurd (fault is)
+
 pub printed_no_read : (s : Status) → PrintingEnds s → (file : ℕ) → s ≡ ReadFault file → ⊥
 printed_no_read s (inl memory) file is = cc
 printed_no_read s (inr (inl done)) file is = cc

@@ -12,7 +12,7 @@ use Rattle.qp_model.specs.declared.design_parts.DesignParts.{DesignParts}
 use Rattle.qp_model.specs.bounds.Printed.{Printed}
 use Rattle.policy_file.specs.StatesText.{IsStatesText}
 use Rattle.design_maker.specs.Texts.{states_text}
-use Rattle.command_solve.specs.Inside.{AreInside}
+use Rattle.plan_lines.specs.Inside.{AreInside}
 use Rattle.command_controller.specs.Made.{IsMadeOf}
 use Rattle.command_demo.specs.Demo.{AreMadeFrom, IsShown}
 

@@ -11,8 +11,8 @@ use Rattle.qp_model.specs.machine.Machine.{average_denominator, averaged_plan}
 use Rattle.qp_model.specs.text.ControllerText.{plan_line}
 use Rattle.qp_model.specs.bounds.Printed.{Printed}
 use Rattle.bound_report.specs.Report.{report_text}
-use Rattle.command_solve.specs.Lines.{plan_lines}
-use Rattle.command_solve.specs.Printing.{ArePrinted, AreFirstLines}
+use Rattle.plan_lines.specs.Lines.{plan_lines}
+use Rattle.plan_lines.specs.Printing.{ArePrinted, AreFirstLines}
 use Rattle.command_demo.specs.Demo.{IsShown, IsPrefixShown, IsTextPrinted, PrintsOf, DemoPrints}
 use Rattle.command_line.specs.declared.status.Status.{Status}
 use Rattle.command_line.specs.declared.status.Status.TheVariants.{Done, Memory, WriteFault}

@@ -12,8 +12,8 @@ use Rattle.design_files.specs.DesignText.{IsDesignText}
 use Rattle.policy_file.specs.PolicyText.{IsPolicyText}
 use Rattle.policy_file.specs.StatesText.{IsStatesText}
 use Rattle.design_maker.specs.Texts.{design_text, policy_text, states_text}
-use Rattle.command_solve.specs.Lines.{plan_lines}
-use Rattle.command_solve.specs.Inside.{AreInside}
+use Rattle.plan_lines.specs.Lines.{plan_lines}
+use Rattle.plan_lines.specs.Inside.{AreInside}
 use Rattle.command_controller.specs.Made.{MakingCalls, IsMadeOf}
 use Rattle.command_line.specs.declared.status.Status.{Status}
 use Rattle.command_line.specs.declared.status.Status.TheVariants.{Done, Memory, WriteFault}

@@ -26,7 +26,7 @@ pub fn demo<O: Sink>(alloc: Global, number: u32, out: &mut O) -> Status
     ensures called { IsCaused result → IsAnswer (DemoCalls number) result }
     // What the output got.
     ensures prints { IfSome (O.got out.old) (λ old. IsSomeAnd (O.got out.new) (DemoPrints number result old)) }
-    ensures quiet { IsCaused result → result ≢ Status.Done → out.new ≡ out.old }
+    ensures quiet { result ≢ Status.Done → result ≢ Status.Memory → result ≢ Status.WriteFault 0 → out.new ≡ out.old }
     // Faults.
     ensures no_read { (file : ℕ) → result ≢ Status.ReadFault file }
     ensures write_fault { (file : ℕ) → result ≡ Status.WriteFault file → (file ≡ 0) × DemoCalls number Status.Done × Rose (O.faults out.old) (O.faults out.new) }
@@ -47,7 +47,7 @@ fn demo_of<O: Sink>(alloc: Global, inputs: &Inputs, out: &mut O) -> Status
     ensures called { (number : ℕ) → AreOnlyMade number inputs.now.design (plans_of inputs.now.policy) → IsCaused result → IsAnswer (DemoCalls number) result }
     ensures prints { (number : ℕ) → AreOnlyMade number inputs.now.design (plans_of inputs.now.policy)
         → IfSome (O.got out.old) (λ old. IsSomeAnd (O.got out.new) (DemoPrints number result old)) }
-    ensures quiet { IsCaused result → result ≢ Status.Done → out.new ≡ out.old }
+    ensures quiet { result ≢ Status.Done → result ≢ Status.Memory → result ≢ Status.WriteFault 0 → out.new ≡ out.old }
     ensures no_read { (file : ℕ) → result ≢ Status.ReadFault file }
     ensures write_fault { (number : ℕ) → AreOnlyMade number inputs.now.design (plans_of inputs.now.policy)
         → (file : ℕ) → result ≡ Status.WriteFault file → (file ≡ 0) × DemoCalls number Status.Done × Rose (O.faults out.old) (O.faults out.new) }

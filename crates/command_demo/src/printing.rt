@@ -2,16 +2,16 @@
 ghost use Rattle.std.specs.Prelude.{◌≡◌, ◌⊎◌, ◌≤◌, ◌<◌, length, IfSome, IsSomeAnd};
 ghost use Rattle.io_edge.specs.Faults.{Rose};
 ghost use Rattle.qp_model.specs.bounds.Printed.{printed};
-ghost use Rattle.command_solve.specs.Inside.{AreInside};
+ghost use Rattle.plan_lines.specs.Inside.{AreInside};
 ghost use Rattle.command_demo.specs.Demo.{IsTextPrinted};
 
 use bound_report::report_text;
 use command_line::Status;
-use command_solve::print_lines;
 use fixed_kernel::Kernel;
 use io_edge::Sink;
 use mat_int::Mat;
 use overflow_check::Controller;
+use plan_lines::print_lines;
 use qp_model::Bounds;
 use std::alloc::Global;
 

@@ -3,7 +3,7 @@ ghost use Rattle.std.specs.Prelude.{◌≡◌, IfOk, IfErr};
 ghost use Rattle.io_edge.specs.Faults.{NoneFalls};
 ghost use Rattle.command_files.specs.Reading.{IsDesignRead, EndsDesign};
 
-use crate::bytes::read_bytes;
+use crate::bytes::{FILE_LIMIT, read_bytes};
 use crate::text_status::text_status;
 use command_line::Status;
 use design_files::read_design;
@@ -24,7 +24,7 @@ pub fn read_design_file<S: Store>(
     ensures reads { NoneFalls (S.read_faults store.old) (S.read_faults store.new) }
     ensures writes { NoneFalls (S.write_faults store.old) (S.write_faults store.new) }
 {
-    let bytes = read_bytes(alloc, file, name, store)?;
+    let bytes = read_bytes(alloc, FILE_LIMIT, file, name, store)?;
     match read_design(alloc, &bytes) {
         Ok(design) => Ok(design),
         Err(fault) => Err(text_status(file, fault)),

@@ -5,7 +5,7 @@ ghost use Rattle.qp_model.specs.problem.Parts.{design_of};
 ghost use Rattle.qp_model.specs.problem.Policy.{plans_of, IsPolicyFor};
 ghost use Rattle.command_files.specs.Reading.{IsPolicyRead, EndsPolicy};
 
-use crate::bytes::read_bytes;
+use crate::bytes::{FILE_LIMIT, read_bytes};
 use crate::text_status::text_status;
 use command_line::Status;
 use io_edge::Store;
@@ -28,7 +28,7 @@ pub fn read_policy_file<S: Store>(
     ensures reads { NoneFalls (S.read_faults store.old) (S.read_faults store.new) }
     ensures writes { NoneFalls (S.write_faults store.old) (S.write_faults store.new) }
 {
-    let bytes = read_bytes(alloc, file, name, store)?;
+    let bytes = read_bytes(alloc, FILE_LIMIT, file, name, store)?;
     match read_policy(alloc, &bytes, design) {
         Ok(policy) => Ok(policy),
         Err(fault) => Err(text_status(file, fault)),

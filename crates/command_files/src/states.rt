@@ -3,7 +3,7 @@ ghost use Rattle.std.specs.Prelude.{◌≡◌, ◌<◌, ◌^◌, length, IfOk, I
 ghost use Rattle.io_edge.specs.Faults.{NoneFalls};
 ghost use Rattle.command_files.specs.Reading.{AreStatesRead, EndsStates};
 
-use crate::bytes::read_bytes;
+use crate::bytes::{FILE_LIMIT, read_bytes};
 use crate::text_status::text_status;
 use command_line::Status;
 use io_edge::Store;
@@ -27,7 +27,7 @@ pub fn read_states_file<S: Store>(
     ensures reads { NoneFalls (S.read_faults store.old) (S.read_faults store.new) }
     ensures writes { NoneFalls (S.write_faults store.old) (S.write_faults store.new) }
 {
-    let bytes = read_bytes(alloc, file, name, store)?;
+    let bytes = read_bytes(alloc, FILE_LIMIT, file, name, store)?;
     match read_states(alloc, &bytes, n) {
         Ok(states) => Ok(states),
         Err(fault) => Err(text_status(file, fault)),

@@ -3,6 +3,7 @@ use Rattle.std.proofs.Common.{◌≡◌, ◌⊎◌, inl, inr, ℕ, List, Option}
 use Rattle.io_edge.specs.Faults.{Files, Rose}
 use Rattle.qp_model.specs.problem.Design.{Design}
 use Rattle.number_text.specs.declared.text_fault.TextFault.{TextFault}
+use Rattle.command_line.specs.Limit.{file_limit}
 use Rattle.command_line.specs.Answers.{IsFileRefused, EndsReading}
 use Rattle.command_files.specs.Texts.{DesignRight, DesignWrong, PolicyRight, PolicyWrong}
 use Rattle.command_files.specs.Reading.{EndsDesign, EndsPolicy}
@@ -17,21 +18,21 @@ BlamesFile file s = (s ≡ Long file) ⊎ ((fault : TextFault) × (s ≡ Text fi
 abbrev pub TellsOf : ℕ → (failed : Type 0) → Status → Type 0
 TellsOf file failed s = (s ≡ Memory) ⊎ (((s ≡ ReadFault file) × failed) ⊎ BlamesFile file s)
 
-module _ {X : Type 0} (file : ℕ) (Wrong : List ℕ → Status → Type 0) (Right : X → List ℕ → Type 0) (held : Option Files) (name : List ℕ) (before now : ℕ) (s : Status) where
-  ends_tells : ((bytes : List ℕ) → Wrong bytes s → (fault : TextFault) × (s ≡ Text file fault)) → EndsReading {X = X} file Wrong Right held name before now s → TellsOf file (Rose before now) s
+module _ {X : Type 0} (limit file : ℕ) (Wrong : List ℕ → Status → Type 0) (Right : X → List ℕ → Type 0) (held : Option Files) (name : List ℕ) (before now : ℕ) (s : Status) where
+  ends_tells : ((bytes : List ℕ) → Wrong bytes s → (fault : TextFault) × (s ≡ Text file fault)) → EndsReading {X = X} limit file Wrong Right held name before now s → TellsOf file (Rose before now) s
   ends_tells tells (inl memory) = inl memory
   ends_tells tells (inr (inl failed)) = inr (inl failed)
   ends_tells tells (inr (inr wrong)) = inr (inr (go wrong.answer.called))
     where
-      go : IsFileRefused file Wrong wrong.content s → BlamesFile file s
+      go : IsFileRefused limit file Wrong wrong.content s → BlamesFile file s
       go (inl long) = inl long.is
       go (inr holds) = inr (tells holds.bytes holds.right)
 
 pub design_tells : (file : ℕ) (held : Option Files) (name : List ℕ) (before now : ℕ) (s : Status) → EndsDesign file held name before now s → TellsOf file (Rose before now) s
-design_tells file held name before now s ends = ends_tells file (DesignWrong file) DesignRight held name before now s (λ bytes why. (why.0, why.2.1)) ends
+design_tells file held name before now s ends = ends_tells file_limit file (DesignWrong file) DesignRight held name before now s (λ bytes why. (why.0, why.2.1)) ends
 
 pub policy_tells : (d : Design) (file : ℕ) (held : Option Files) (name : List ℕ) (before now : ℕ) (s : Status) → EndsPolicy d file held name before now s → TellsOf file (Rose before now) s
-policy_tells d file held name before now s ends = ends_tells file (PolicyWrong d file) (PolicyRight d) held name before now s (λ bytes why. (why.0, why.2.1)) ends
+policy_tells d file held name before now s ends = ends_tells file_limit file (PolicyWrong d file) (PolicyRight d) held name before now s (λ bytes why. (why.0, why.2.1)) ends
 
 -- ---- what isn't told
 pub tells_not_done : (file : ℕ) (failed : Type 0) (s : Status) → TellsOf file failed s → s ≡ Done → ⊥

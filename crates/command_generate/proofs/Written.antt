@@ -8,6 +8,7 @@ use Rattle.qp_model.specs.machine.Controller.{Numbers}
 use Rattle.qp_model.specs.declared.design_parts.DesignParts.{DesignParts}
 use Rattle.qp_model.specs.bounds.Printed.{Printed}
 use Rattle.command_line.specs.Words.{word_of, IsGenerate}
+use Rattle.command_line.specs.Limit.{file_limit}
 use Rattle.command_line.specs.Answers.{ForContents, FileHolds, IsCaused}
 use Rattle.command_line.proofs.Counts.{rose_later}
 use Rattle.command_files.specs.Texts.{DesignRight, PolicyRight}
@@ -20,8 +21,8 @@ use Rattle.command_line.specs.declared.status.Status.TheVariants.{Done, ReadFaul
 
 inputs_of : (words : List (List ℕ)) (files : Files) (p : DesignParts) (plans : Plans) → AreRead words (Some files) p plans → HoldsInputs (files (word_of words 1)) (files (word_of words 2)) p plans
 inputs_of words files p plans read = record {
-  design_right = subst (λ (o : Option (List ℕ)). FileHolds (DesignRight p) o) read.design.told read.design.right;
-  policy_right = subst (λ (o : Option (List ℕ)). FileHolds (PolicyRight (design_of p) plans) o) read.policy.told read.policy.right;
+  design_right = subst (λ (o : Option (List ℕ)). FileHolds file_limit (DesignRight p) o) read.design.told read.design.right;
+  policy_right = subst (λ (o : Option (List ℕ)). FileHolds file_limit (PolicyRight (design_of p) plans) o) read.policy.told read.policy.right;
 }
 
 -- the files that were told before, and after
@@ -101,7 +102,7 @@ written_none s (inr (inr cut)) done write = write 4 cut
 -- a fault of writing, where the status is called for and the count rose
 abbrev pub WriteFaultAt : List (List ℕ) → Option Files → (before now : List ℕ → ℕ) → ℕ → Type 0
 WriteFaultAt words held before now file =
-    ((file ≡ 3) ⊎ (file ≡ 4)) × ForContents words held (λ contents. GenerateCalls contents.first contents.second Done) × Rose (before (word_of words file)) (now (word_of words file))
+    ((file ≡ 3) ⊎ (file ≡ 4)) × ForContents words held (λ contents. GenerateCalls (contents 1) (contents 2) Done) × Rose (before (word_of words file)) (now (word_of words file))
 
 pub write_fault : (words : List (List ℕ)) (held : Option Files) (before mid now : List ℕ → ℕ) (s : Status) → IsAnswered words held Done → NoneFalls before mid → NoneFalls mid now →
     WritingEnds s → (s ≡ WriteFault 3 → Rose (mid (word_of words 3)) (now (word_of words 3))) → (s ≡ WriteFault 4 → Rose (mid (word_of words 4)) (now (word_of words 4))) →

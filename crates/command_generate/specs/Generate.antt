@@ -11,6 +11,7 @@ use Rattle.qp_model.specs.bounds.Printed.{Printed}
 use Rattle.design_engine.specs.Targets.{targets_of, IsWithinTargets}
 use Rattle.design_engine.specs.Built.{IsBuilt}
 use Rattle.command_line.specs.Words.{word_of}
+use Rattle.command_line.specs.Limit.{file_limit}
 use Rattle.command_line.specs.Answers.{FileHolds}
 use Rattle.command_files.specs.Texts.{DesignRight, PolicyRight}
 use Rattle.command_files.specs.Reading.{ReadsDesign, ReadsPolicy}
@@ -23,12 +24,12 @@ GenerateCalls design policy s = ReadsDesign 1 design (λ p. ReadsPolicy (design_
 
 -- two files hold a design and a policy for it
 pub record HoldsInputs (design policy : Option (List ℕ)) (p : DesignParts) (plans : Plans) : Type 0 where
-  pub design_right : FileHolds (DesignRight p) design
-  pub policy_right : FileHolds (PolicyRight (design_of p) plans) policy
+  pub design_right : FileHolds file_limit (DesignRight p) design
+  pub policy_right : FileHolds file_limit (PolicyRight (design_of p) plans) policy
 
 -- the file at this position is read: the first, and the second where the first holds a design
 abbrev pub GenerateReaches : (design : Option (List ℕ)) → ℕ → Type 0
-GenerateReaches design file = (file ≡ 1) ⊎ ((file ≡ 2) × (p : DesignParts) × FileHolds (DesignRight p) design)
+GenerateReaches design file = (file ≡ 1) ⊎ ((file ≡ 2) × (p : DesignParts) × FileHolds file_limit (DesignRight p) design)
 
 -- ---- what is written
 -- the controller and its bounds are built of the design and the policy in the files, and certified, and the bounds are within the targets

@@ -1,2 +1,3 @@
 pub mod Generate
 pub mod Writing
+pub mod Deeds

@@ -49,9 +49,9 @@ pub record AreTextsFrom (words : List (List ℕ)) (held : Option Files) (text re
 
 -- by what they hold this status is called for, and no other
 abbrev pub IsAnswered : List (List ℕ) → Option Files → Status → Type 0
-IsAnswered words held s = ForContents words held (λ contents. IsAnswer (GenerateCalls contents.first contents.second) s)
+IsAnswered words held s = ForContents words held (λ contents. IsAnswer (GenerateCalls (contents 1) (contents 2)) s)
 
 -- the file at this position was to be read, and the count of its faults rose
 abbrev pub IsReadFault : List (List ℕ) → Option Files → (before now : List ℕ → ℕ) → ℕ → Type 0
 IsReadFault words held before now file =
-    ForContents words held (λ contents. GenerateReaches contents.first file) × Rose (before (word_of words file)) (now (word_of words file))
+    ForContents words held (λ contents. GenerateReaches (contents 1) file) × Rose (before (word_of words file)) (now (word_of words file))

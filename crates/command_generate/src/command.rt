@@ -19,12 +19,12 @@ pub fn generate<S: Store>(alloc: Global, words: &Words, store: &mut S) -> Status
     ensures controller_cut { result ≡ Status.WriteFault 3 → IfSome (S.held store.old) (λ files. IsSomeAnd (S.held store.new) (IsControllerCut words.now files)) }
     ensures report_cut { result ≡ Status.WriteFault 4 → IfSome (S.held store.old) (λ files. IsSomeAnd (S.held store.new) (IsReportCut words.now files)) }
     // Why: by what the two files hold this answer is called for, and no other.
-    ensures called { IsCaused result → ForContents words.now (S.held store.old) (λ contents. IsAnswer (GenerateCalls contents.first contents.second) result) }
+    ensures called { IsCaused result → ForContents words.now (S.held store.old) (λ contents. IsAnswer (GenerateCalls (contents 1) (contents 2)) result) }
     // Faults.
-    ensures read_fault { (file : ℕ) → result ≡ Status.ReadFault file → ForContents words.now (S.held store.old) (λ contents. GenerateReaches contents.first file)
+    ensures read_fault { (file : ℕ) → result ≡ Status.ReadFault file → ForContents words.now (S.held store.old) (λ contents. GenerateReaches (contents 1) file)
         × Rose (S.read_faults store.old (word_of words.now file)) (S.read_faults store.new (word_of words.now file)) }
     ensures write_fault { (file : ℕ) → result ≡ Status.WriteFault file → ((file ≡ 3) ⊎ (file ≡ 4))
-        × ForContents words.now (S.held store.old) (λ contents. GenerateCalls contents.first contents.second Status.Done)
+        × ForContents words.now (S.held store.old) (λ contents. GenerateCalls (contents 1) (contents 2) Status.Done)
         × Rose (S.write_faults store.old (word_of words.now file)) (S.write_faults store.new (word_of words.now file)) }
     // What stays the same.
     ensures held { result ≢ Status.Done → ((file : ℕ) → result ≢ Status.WriteFault file) → S.held store.new ≡ S.held store.old }
@@ -32,7 +32,7 @@ pub fn generate<S: Store>(alloc: Global, words: &Words, store: &mut S) -> Status
     ensures writes { NoneFalls (S.write_faults store.old) (S.write_faults store.new) }
 {
     match texts_for(alloc, words, store) {
-        Ok(texts) => write_texts(words.at(3), words.at(4), &texts, store),
+        Ok(texts) => write_texts(3, words.at(3), 4, words.at(4), &texts, store),
         Err(status) => status,
     }
 }

@@ -5,3 +5,4 @@ mod command;
 mod texts;
 
 pub use command::generate;
+pub use texts::{Texts, write_texts};

@@ -106,25 +106,33 @@ fn texts_with<S: Store>(
     texts_of(alloc, design, &policy, words.at(4))
 }
 
-/// Writes both texts, the controller's first. It takes no memory.
-pub fn write_texts<S: Store>(third: &str, fourth: &str, texts: &Texts, store: &mut S) -> Status
-    ensures only { (result ≡ Status.Done) ⊎ ((result ≡ Status.WriteFault 3) ⊎ (result ≡ Status.WriteFault 4)) }
+/// Writes both texts, the controller's first, each under the name that stands at that position among the arguments. It takes no memory.
+pub fn write_texts<S: Store>(
+    first: u32,
+    first_name: &str,
+    second: u32,
+    second_name: &str,
+    texts: &Texts,
+    store: &mut S,
+) -> Status
+    requires { first ≢ second }
+    ensures only { (result ≡ Status.Done) ⊎ ((result ≡ Status.WriteFault first) ⊎ (result ≡ Status.WriteFault second)) }
     ensures done { result ≡ Status.Done → IfSome (S.held store.old) (λ old. IsSomeAnd (S.held store.new)
-        (λ new. AreWritten old new third.now fourth.now texts.now.controller.items texts.now.report.items)) }
-    ensures controller_cut { result ≡ Status.WriteFault 3 → IfSome (S.held store.old) (λ old. IsSomeAnd (S.held store.new)
-        (λ new. IsCutShort old new third.now texts.now.controller.items)) }
-    ensures report_cut { result ≡ Status.WriteFault 4 → IfSome (S.held store.old) (λ old. IsSomeAnd (S.held store.new)
-        (λ new. IsSecondCut old new third.now fourth.now texts.now.controller.items texts.now.report.items)) }
-    ensures third_failed { result ≡ Status.WriteFault 3 → Rose (S.write_faults store.old third.now) (S.write_faults store.new third.now) }
-    ensures fourth_failed { result ≡ Status.WriteFault 4 → Rose (S.write_faults store.old fourth.now) (S.write_faults store.new fourth.now) }
+        (λ new. AreWritten old new first_name.now second_name.now texts.now.controller.items texts.now.report.items)) }
+    ensures first_cut { result ≡ Status.WriteFault first → IfSome (S.held store.old) (λ old. IsSomeAnd (S.held store.new)
+        (λ new. IsCutShort old new first_name.now texts.now.controller.items)) }
+    ensures second_cut { result ≡ Status.WriteFault second → IfSome (S.held store.old) (λ old. IsSomeAnd (S.held store.new)
+        (λ new. IsSecondCut old new first_name.now second_name.now texts.now.controller.items texts.now.report.items)) }
+    ensures first_failed { result ≡ Status.WriteFault first → Rose (S.write_faults store.old first_name.now) (S.write_faults store.new first_name.now) }
+    ensures second_failed { result ≡ Status.WriteFault second → Rose (S.write_faults store.old second_name.now) (S.write_faults store.new second_name.now) }
     ensures reads { NoneFalls (S.read_faults store.old) (S.read_faults store.new) }
     ensures writes { NoneFalls (S.write_faults store.old) (S.write_faults store.new) }
 {
-    if store.write_all(third, &texts.controller).is_err() {
-        return Status::WriteFault { file: 3 };
+    if store.write_all(first_name, &texts.controller).is_err() {
+        return Status::WriteFault { file: first };
     }
-    match store.write_all(fourth, &texts.report) {
+    match store.write_all(second_name, &texts.report) {
         Ok(()) => Status::Done,
-        Err(_) => Status::WriteFault { file: 4 },
+        Err(_) => Status::WriteFault { file: second },
     }
 }

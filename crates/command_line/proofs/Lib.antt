@@ -1,5 +1,6 @@
--- numbers in decimal, answers file by file, counts that rise, and errors that are handed on
+-- numbers in decimal, one command at most, answers file by file, counts that rise, and errors that are handed on
 pub mod Numerals
 pub mod Composing
+pub mod OneCommand
 pub mod Counts
 pub mod Results

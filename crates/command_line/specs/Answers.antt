@@ -2,26 +2,21 @@
 use Rattle.std.specs.Prelude.{◌≡◌, ◌≢◌, ◌⊎◌, ℕ, ◌<◌, ◌≤◌, List, length, Option, Some, IfSome}
 use Rattle.io_edge.specs.Faults.{Files, Rose}
 use Rattle.command_line.specs.Words.{word_of}
-use Rattle.command_line.specs.Limit.{file_limit}
 use Rattle.command_line.specs.declared.status.Status.{Status}
 use Rattle.command_line.specs.declared.status.Status.TheVariants.{Memory, ReadFault, WriteFault, Long}
 
 -- ---- the contents of files
--- what the files at the first three positions among the arguments hold, where they are there
-pub record Contents : Type 0 where
-  pub first : Option (List ℕ)
-  pub second : Option (List ℕ)
-  pub third : Option (List ℕ)
+-- what the file at each position among the arguments holds, where it is there
+abbrev pub Contents : Type 0
+Contents = ℕ → Option (List ℕ)
 
 -- a name holds this, as far as the store tells
 abbrev pub IsTold : Option Files → (name : List ℕ) → Option (List ℕ) → Type 0
 IsTold held name content = IfSome held (λ files. content ≡ files name)
 
--- the names at these positions hold these contents, as far as the store tells
-pub record AreTold (words : List (List ℕ)) (held : Option Files) (contents : Contents) : Type 0 where
-  pub first : IsTold held (word_of words 1) contents.first
-  pub second : IsTold held (word_of words 2) contents.second
-  pub third : IsTold held (word_of words 3) contents.third
+-- the names at all positions hold these contents, as far as the store tells
+abbrev pub AreTold : List (List ℕ) → Option Files → Contents → Type 0
+AreTold words held contents = (position : ℕ) → IsTold held (word_of words position) (contents position)
 
 -- the files hold contents of which this is true: those that the store tells, and where it tells nothing some contents
 pub record ForContents (words : List (List ℕ)) (held : Option Files) (P : Contents → Type 0) : Type 0 where
@@ -31,26 +26,26 @@ pub record ForContents (words : List (List ℕ)) (held : Option Files) (P : Cont
 
 -- ---- one file
 -- the file holds bytes within the limit, and this is true of them
-pub record FileHolds (Right : List ℕ → Type 0) (content : Option (List ℕ)) : Type 0 where
+pub record FileHolds (limit : ℕ) (Right : List ℕ → Type 0) (content : Option (List ℕ)) : Type 0 where
   pub bytes : List ℕ
   pub held : content ≡ Some bytes
-  pub short : length bytes ≤ file_limit
+  pub short : length bytes ≤ limit
   pub right : Right bytes
 
 -- the file at a position holds too many bytes, and the status says so
-pub record IsLong (file : ℕ) (content : Option (List ℕ)) (s : Status) : Type 0 where
+pub record IsLong (limit file : ℕ) (content : Option (List ℕ)) (s : Status) : Type 0 where
   pub bytes : List ℕ
   pub held : content ≡ Some bytes
-  pub longer : file_limit < length bytes
+  pub longer : limit < length bytes
   pub is : s ≡ Long file
 
 -- the file at a position holds too many bytes, or bytes for which this status is the answer
-abbrev pub IsFileRefused : ℕ → (Wrong : List ℕ → Status → Type 0) → Option (List ℕ) → Status → Type 0
-IsFileRefused file Wrong content s = IsLong file content s ⊎ FileHolds (λ bytes. Wrong bytes s) content
+abbrev pub IsFileRefused : (limit file : ℕ) → (Wrong : List ℕ → Status → Type 0) → Option (List ℕ) → Status → Type 0
+IsFileRefused limit file Wrong content s = IsLong limit file content s ⊎ FileHolds limit (λ bytes. Wrong bytes s) content
 
 -- The file at a position is refused with this status; or it holds bytes that are right for some x, and what comes after gives this status for x.
-abbrev pub ReadsThen : {X : Type 0} → ℕ → (Wrong : List ℕ → Status → Type 0) → (Right : X → List ℕ → Type 0) → Option (List ℕ) → (After : X → Status → Type 0) → Status → Type 0
-ReadsThen {X} file Wrong Right content After s = IsFileRefused file Wrong content s ⊎ ((x : X) × FileHolds (Right x) content × After x s)
+abbrev pub ReadsThen : {X : Type 0} → (limit file : ℕ) → (Wrong : List ℕ → Status → Type 0) → (Right : X → List ℕ → Type 0) → Option (List ℕ) → (After : X → Status → Type 0) → Status → Type 0
+ReadsThen {X} limit file Wrong Right content After s = IsFileRefused limit file Wrong content s ⊎ ((x : X) × FileHolds limit (Right x) content × After x s)
 
 -- ---- one answer
 -- this status is called for, and no other is
@@ -66,21 +61,21 @@ pub record IsCaused (s : Status) : Type 0 where
 
 -- ---- what reading one file gives, on the way
 -- the file is right for x; it is right for nothing that differs from x in what is seen, and refused with no status
-pub record IsRightFor {X V : Type 0} (file : ℕ) (Wrong : List ℕ → Status → Type 0) (Right : X → List ℕ → Type 0) (view : X → V) (held : Option Files) (name : List ℕ) (x : X) : Type 0 where
+pub record IsRightFor {X V : Type 0} (limit file : ℕ) (Wrong : List ℕ → Status → Type 0) (Right : X → List ℕ → Type 0) (view : X → V) (held : Option Files) (name : List ℕ) (x : X) : Type 0 where
   pub content : Option (List ℕ)
   pub told : IsTold held name content
-  pub right : FileHolds (Right x) content
-  pub one : (y : X) → FileHolds (Right y) content → view y ≡ view x
-  pub accepted : (s : Status) → ¬ IsFileRefused file Wrong content s
+  pub right : FileHolds limit (Right x) content
+  pub one : (y : X) → FileHolds limit (Right y) content → view y ≡ view x
+  pub accepted : (s : Status) → ¬ IsFileRefused limit file Wrong content s
 
 -- the file is refused with this status, and no other, and right for nothing
-pub record IsWrongBy {X : Type 0} (file : ℕ) (Wrong : List ℕ → Status → Type 0) (Right : X → List ℕ → Type 0) (held : Option Files) (name : List ℕ) (s : Status) : Type 0 where
+pub record IsWrongBy {X : Type 0} (limit file : ℕ) (Wrong : List ℕ → Status → Type 0) (Right : X → List ℕ → Type 0) (held : Option Files) (name : List ℕ) (s : Status) : Type 0 where
   pub content : Option (List ℕ)
   pub told : IsTold held name content
-  pub answer : IsAnswer (IsFileRefused file Wrong content) s
-  pub refused : (x : X) → ¬ FileHolds (Right x) content
+  pub answer : IsAnswer (IsFileRefused limit file Wrong content) s
+  pub refused : (x : X) → ¬ FileHolds limit (Right x) content
 
 -- reading the file ends with this status: out of memory, or its read failed, or it is refused
-abbrev pub EndsReading : {X : Type 0} → ℕ → (Wrong : List ℕ → Status → Type 0) → (Right : X → List ℕ → Type 0) → Option Files → (name : List ℕ) → (before now : ℕ) → Status → Type 0
-EndsReading {X} file Wrong Right held name before now s =
-    (s ≡ Memory) ⊎ (((s ≡ ReadFault file) × Rose before now) ⊎ IsWrongBy {X = X} file Wrong Right held name s)
+abbrev pub EndsReading : {X : Type 0} → (limit file : ℕ) → (Wrong : List ℕ → Status → Type 0) → (Right : X → List ℕ → Type 0) → Option Files → (name : List ℕ) → (before now : ℕ) → Status → Type 0
+EndsReading {X} limit file Wrong Right held name before now s =
+    (s ≡ Memory) ⊎ (((s ≡ ReadFault file) × Rose before now) ⊎ IsWrongBy {X = X} limit file Wrong Right held name s)

@@ -1,5 +1,5 @@
 -- Which command the arguments are those of.
-use Rattle.std.specs.Prelude.{ℕ, List}
+use Rattle.std.specs.Prelude.{◌≡◌, ℕ, List}
 use Rattle.command_line.specs.Words.{IsSolve, IsGenerate, IsLoop, IsDemo}
 use Rattle.command_line.specs.declared.words.Command.{Command}
 use Rattle.command_line.specs.declared.words.Command.TheVariants.{Generate, Solve, Loop, Demo}
@@ -13,8 +13,9 @@ AreOf (Demo number) words = IsDemo words number
 
 -- The arguments are those of no command: there is none, the first is no command's, there are too many or too few, a name that is written is another's, or a
 -- number is none or out of its range.
-pub record IsUsage (words : List (List ℕ)) : Type 0 where
-  pub generate : ¬ IsGenerate words
-  pub solve : ¬ IsSolve words
-  pub loop : (turns : ℕ) → ¬ IsLoop words turns
-  pub demo : (number : ℕ) → ¬ IsDemo words number
+abbrev pub IsUsage : List (List ℕ) → Type 0
+IsUsage words = (command : Command) → ¬ AreOf command words
+
+-- the arguments are those of one command at most, with one number
+abbrev pub OneCommandLaw : Type 0
+OneCommandLaw = (words : List (List ℕ)) (command other : Command) → AreOf command words → AreOf other words → command ≡ other

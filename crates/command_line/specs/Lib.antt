@@ -4,3 +4,4 @@ pub mod Limit
 pub mod Status
 pub mod StatusLine
 pub mod Answers
+pub mod Deeds

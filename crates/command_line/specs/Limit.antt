@@ -1,6 +1,6 @@
 -- How long a file may be.
 use Rattle.std.specs.Prelude.{ℕ}
 
--- the most bytes of a file
+-- the most bytes of a file that holds one text
 abbrev pub file_limit : ℕ
 file_limit = 4194304

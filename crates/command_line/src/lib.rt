@@ -7,4 +7,4 @@ mod words;
 
 pub use error_line::status_line;
 pub use status::{Field, Status, status_number};
-pub use words::{Command, command_of, is_json};
+pub use words::{Command, command_of, is_json, one_command_law};

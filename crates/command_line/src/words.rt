@@ -1,7 +1,7 @@
 // Which command the arguments are.
 ghost use Rattle.std.specs.Prelude.{ℕ, IsTrue, MatchOption, ◌↔◌, ◌≢◌};
 ghost use Rattle.command_line.specs.Words.{word_of, IsSolve, IsGenerate, IsLoop, IsDemo, IsJson, IsCount};
-ghost use Rattle.command_line.specs.Commands.{IsUsage, AreOf};
+ghost use Rattle.command_line.specs.Commands.{IsUsage, AreOf, OneCommandLaw};
 
 use io_edge::Words;
 use number_text::number_word;
@@ -39,6 +39,11 @@ pub fn command_of(words: &Words) -> Option<Command>
     }
     None
 }
+
+/// The arguments are those of one command at most, with one number.
+pub fn one_command_law()
+    ensures { OneCommandLaw }
+{}
 
 // Whether they are those that `solve` needs.
 fn is_solve(words: &Words) -> bool

@@ -1,5 +1,5 @@
 -- The loops of all records: their lines, and what is answered and printed where one ends early.
-use Rattle.std.proofs.Common.{◌≡◌, inl, inr, ℕ, suc, ◌+◌, ◌-◌, ◌<◌, ◌≤◌, ◌^◌, ◌↔◌, ℤ, List, [], ◌++◌, length, Option, Some, None, option_map, Result, Err, refl, sym, ap, ◌∙◌, subst, add-one, append_assoc, append-nil, arith}
+use Rattle.std.proofs.Common.{◌≡◌, ◌≢◌, inl, inr, ℕ, zero, suc, ◌+◌, ◌-◌, ◌<◌, ◌≤◌, ◌^◌, ◌↔◌, ℤ, List, [], ◌++◌, length, Option, Some, None, option_map, Result, Err, refl, sym, ap, ◌∙◌, subst, add-one, append_assoc, append-nil, arith}
 use Rattle.std.specs.Prelude.{IfSome, IsSomeAnd}
 use Rattle.std.proofs.lemmas.Bool.{cases_lt}
 use Rattle.io_edge.specs.Faults.{Rose}
@@ -10,10 +10,9 @@ use Rattle.qp_model.specs.machine.LoopSize.{turn_size}
 use Rattle.qp_model.specs.text.LoopLines.{loop_text}
 use Rattle.qp_model.specs.declared.quantity.Quantity.{Quantity}
 use Rattle.qp_model.specs.declared.quantity.Quantity.TheVariants.{Turn}
-use Rattle.closed_loop.specs.Answers.{LeavesAt, GrowsByTurns, GrowsByPrefix}
+use Rattle.closed_loop.specs.Answers.{StaysInside, LeavesAt, IsBegun, GrowsByTurns, GrowsByPrefix}
 use Rattle.closed_loop.specs.declared.fault.LoopFault.{LoopFault}
 use Rattle.closed_loop.specs.declared.fault.LoopFault.TheVariants as faults
-use Rattle.command_line.specs.Answers.{IsCaused}
 use Rattle.command_line.proofs.Counts.{rose_later}
 use Rattle.command_line.specs.declared.status.Status.{Status}
 use Rattle.command_line.specs.declared.status.Status.TheVariants.{Done, Memory, WriteFault, TooWide, OutsideBox}
@@ -26,7 +25,7 @@ Shows d c entry start turns old new faults.Memory = (turn_size d c ≤ 2 ^ 126) 
 Shows d c entry start turns old new (faults.TooWide quantity) = (quantity ≡ Turn) × (2 ^ 126 < turn_size d c) × (new ≡ old)
 Shows d c entry start turns old new (faults.OutsideBox turn coordinate) =
     (turn_size d c ≤ 2 ^ 126) × LeavesAt d c start turns turn coordinate × (new ≡ option_map (λ o. o ++ loop_text d c entry start (turn - 1)) old)
-Shows d c entry start turns old new faults.WriteFault = (turn_size d c ≤ 2 ^ 126) × IfSome old (λ o. IsSomeAnd new (GrowsByPrefix d c entry start turns o))
+Shows d c entry start turns old new faults.WriteFault = (turn_size d c ≤ 2 ^ 126) × IfSome old (λ o. IsSomeAnd new (GrowsByPrefix d c entry start turns o)) × IsBegun d c start turns
 
 -- `turn` is within its limit where a loop is not refused for it
 pub narrow : (size : ℕ) (r : Result (Unit {0}) LoopFault) → ((quantity : Quantity) → (r ≡ Err (faults.TooWide quantity)) ↔ ((quantity ≡ Turn) × (2 ^ 126 < size))) →
@@ -38,11 +37,11 @@ pub shows : (d : Design) (c : Numbers) (entry : ℕ) (start : List ℤ) (turns :
     ((turn coordinate : ℕ) → r ≡ Err (faults.OutsideBox turn coordinate) → LeavesAt d c start turns turn coordinate) →
     ((turn coordinate : ℕ) → r ≡ Err (faults.OutsideBox turn coordinate) → new ≡ option_map (λ o. o ++ loop_text d c entry start (turn - 1)) old) →
     (r ≡ Err faults.WriteFault → IfSome old (λ o. IsSomeAnd new (GrowsByPrefix d c entry start turns o))) → (r ≡ Err faults.Memory → IfSome old (λ o. IsSomeAnd new (GrowsByTurns d c entry start turns o))) →
-    Shows d c entry start turns old new fault
-shows d c entry start turns old new r faults.Memory is wide quiet out put cut memory = (narrow (turn_size d c) r wide (λ e. cc), memory is)
-shows d c entry start turns old new r (faults.TooWide quantity) is wide quiet out put cut memory = let w = (wide quantity).0 is in (w.0, w.1, quiet w.1)
-shows d c entry start turns old new r (faults.OutsideBox turn coordinate) is wide quiet out put cut memory = (narrow (turn_size d c) r wide (λ e. cc), out turn coordinate is, put turn coordinate is)
-shows d c entry start turns old new r faults.WriteFault is wide quiet out put cut memory = (narrow (turn_size d c) r wide (λ e. cc), cut is)
+    (r ≡ Err faults.WriteFault → IsBegun d c start turns) → Shows d c entry start turns old new fault
+shows d c entry start turns old new r faults.Memory is wide quiet out put cut memory begun = (narrow (turn_size d c) r wide (λ e. cc), memory is)
+shows d c entry start turns old new r (faults.TooWide quantity) is wide quiet out put cut memory begun = let w = (wide quantity).0 is in (w.0, w.1, quiet w.1)
+shows d c entry start turns old new r (faults.OutsideBox turn coordinate) is wide quiet out put cut memory begun = (narrow (turn_size d c) r wide (λ e. cc), out turn coordinate is, put turn coordinate is)
+shows d c entry start turns old new r faults.WriteFault is wide quiet out put cut memory begun = (narrow (turn_size d c) r wide (λ e. cc), cut is, begun is)
 
 -- the same for a controller and a start that are these
 pub shows_for : (d : Design) (k c : Numbers) (entry : ℕ) (row start : List ℤ) (turns : ℕ) (old new : Option (List ℕ)) (r : Result (Unit {0}) LoopFault) (fault : LoopFault) → k ≡ c → row ≡ start → r ≡ Err fault →
@@ -50,10 +49,10 @@ pub shows_for : (d : Design) (k c : Numbers) (entry : ℕ) (row start : List ℤ
     ((turn coordinate : ℕ) → r ≡ Err (faults.OutsideBox turn coordinate) → LeavesAt d k row turns turn coordinate) →
     ((turn coordinate : ℕ) → r ≡ Err (faults.OutsideBox turn coordinate) → new ≡ option_map (λ o. o ++ loop_text d k entry row (turn - 1)) old) →
     (r ≡ Err faults.WriteFault → IfSome old (λ o. IsSomeAnd new (GrowsByPrefix d k entry row turns o))) → (r ≡ Err faults.Memory → IfSome old (λ o. IsSomeAnd new (GrowsByTurns d k entry row turns o))) →
-    Shows d c entry start turns old new fault
-shows_for d k c entry row start turns old new r fault same there is wide quiet out put cut memory =
+    (r ≡ Err faults.WriteFault → IsBegun d k row turns) → Shows d c entry start turns old new fault
+shows_for d k c entry row start turns old new r fault same there is wide quiet out put cut memory begun =
     subst (λ (x : Numbers). Shows d x entry start turns old new fault) same
-    (subst (λ (x : List ℤ). Shows d k entry x turns old new fault) there (shows d k entry row turns old new r fault is wide quiet out put cut memory))
+    (subst (λ (x : List ℤ). Shows d k entry x turns old new fault) there (shows d k entry row turns old new r fault is wide quiet out put cut memory begun))
 
 -- a print that failed raised the count over all records
 pub failed : (entry : ℕ) (fault : LoopFault) (s : Status) (before mid now : ℕ) → s ≡ loop_status entry fault → before ≤ mid → mid ≤ now → (fault ≡ faults.WriteFault → Rose mid now) → s ≡ WriteFault 0 → Rose before now
@@ -108,6 +107,11 @@ module _ (d : Design) (c : Numbers) (m : Matrix) (turns : ℕ) where
       let whole = e ∙ ap (λ (i : ℕ). Some (old ++ record_lines d c m turns i)) is in
       subst (λ (o : Option (List ℕ)). IsSomeAnd o (LoopsPrint d c turns m Done old)) (sym whole) (all_lines old)
 
+  -- the first record's state lies in the box, where a line of some record may be put
+  first_inside : (i : ℕ) → AllStay d c m turns i → IsBegun d c (row_of m i) turns → StaysInside d c (row_of m 0) 1
+  first_inside zero stay begun = begun.inside
+  first_inside (suc i) stay begun = record { each = λ k l. (stay 0 (omega arith)).each k (omega (arith, l, begun.some)) }
+
   -- ---- the loop of a record ended early
   pub ends : (i : ℕ) (fault : LoopFault) (s : Status) (old new : Option (List ℕ)) → s ≡ loop_status (i + 1) fault → i < length m.rows → AllStay d c m turns i → Shows d c (i + 1) (row_of m i) turns old new fault →
       LoopsEnd d c turns m s
@@ -115,7 +119,8 @@ module _ (d : Design) (c : Numbers) (m : Matrix) (turns : ℕ) where
   ends i (faults.TooWide quantity) s old new is there stay w = inr (inr (inl (record { record_there = omega (arith, there); wide = w.1; is = is ∙ ap TooWide w.0 })))
   ends i (faults.OutsideBox turn coordinate) s old new is there stay w =
       inr (inr (inr (inl (inr w.0, record { index = i; turn = turn; coordinate = coordinate; there = there; before = stay; here = w.1; is = is }))))
-  ends i faults.WriteFault s old new is there stay w = inr (inl (is, inr w.0, omega (arith, there)))
+  ends i faults.WriteFault s old new is there stay w =
+      inr (inl (is, record { record_there = omega (arith, there); turn_there = w.2.some; narrow = w.0; inside = first_inside i stay w.2 }))
 
   to_memory : (i : ℕ) (s : Status) (old new : List ℕ) → s ≡ Memory → i < length m.rows → AllStay d c m turns i → turn_size d c ≤ 2 ^ 126 →
       GrowsByTurns d c (i + 1) (row_of m i) turns (old ++ record_lines d c m turns i) new → LoopsPrint d c turns m s old new
@@ -201,9 +206,9 @@ module _ (d : Design) (c : Numbers) (m : Matrix) (turns : ℕ) where
       from_some i fault s old new is there stay narrow (subst (λ (o : Option (List ℕ)). Shows d c (i + 1) (row_of m i) turns o new fault) e w)
 
   pub quiet : {O : Type 0} (i : ℕ) (fault : LoopFault) (s : Status) (old new : Option (List ℕ)) (first mid last : O) → s ≡ loop_status (i + 1) fault → (0 < i → turn_size d c ≤ 2 ^ 126) → (i ≡ 0 → mid ≡ first) →
-      (2 ^ 126 < turn_size d c → last ≡ mid) → Shows d c (i + 1) (row_of m i) turns old new fault → IsCaused s → ¬ TellsLeaving s → last ≡ first
-  quiet i faults.Memory s old new first mid last is narrow start wide w caused leaving = absurd (caused.memory is)
-  quiet i (faults.TooWide quantity) s old new first mid last is narrow start wide w caused leaving =
+      (2 ^ 126 < turn_size d c → last ≡ mid) → Shows d c (i + 1) (row_of m i) turns old new fault → s ≢ Memory → s ≢ WriteFault 0 → ¬ TellsLeaving s → last ≡ first
+  quiet i faults.Memory s old new first mid last is narrow start wide w memory cut leaving = absurd (memory is)
+  quiet i (faults.TooWide quantity) s old new first mid last is narrow start wide w memory cut leaving =
       wide w.1 ∙ start (elim (cases_lt 0 i) [ inl lt ↦ absurd (omega (arith, narrow lt, w.1)) | inr le ↦ omega (arith, le) ])
-  quiet i (faults.OutsideBox turn coordinate) s old new first mid last is narrow start wide w caused leaving = absurd (leaving (i + 1, turn, coordinate, is))
-  quiet i faults.WriteFault s old new first mid last is narrow start wide w caused leaving = absurd (caused.write 0 is)
+  quiet i (faults.OutsideBox turn coordinate) s old new first mid last is narrow start wide w memory cut leaving = absurd (leaving (i + 1, turn, coordinate, is))
+  quiet i faults.WriteFault s old new first mid last is narrow start wide w memory cut leaving = absurd (cut is)

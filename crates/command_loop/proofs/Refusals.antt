@@ -6,6 +6,7 @@ use Rattle.controller_file.specs.declared.bad_controller.BadController.{BadContr
 use Rattle.qp_model.specs.problem.Design.{Design}
 use Rattle.qp_model.specs.machine.Controller.{Numbers}
 use Rattle.number_text.specs.declared.text_fault.TextFault.{TextFault}
+use Rattle.command_line.specs.Limit.{file_limit}
 use Rattle.command_line.specs.Answers.{IsFileRefused}
 use Rattle.command_line.specs.declared.status.Field.{Field}
 use Rattle.command_line.specs.declared.status.Status.{Status}
@@ -34,15 +35,15 @@ field_refusal : (field : Field) (x y : ℤ) (s : Status) → s ≡ Mismatch fiel
 field_refusal field x y s is = record { done = λ e. cc; memory = λ e. cc; read = λ f e. cc; write = λ f e. cc; leaving = λ told. let e = told.3 in cc }
 
 -- ---- what a file is refused with
-pub design_refusal : (file : ℕ) (content : Option (List ℕ)) (s : Status) → IsFileRefused file (DesignWrong file) content s → IsRefusal s
+pub design_refusal : (file : ℕ) (content : Option (List ℕ)) (s : Status) → IsFileRefused file_limit file (DesignWrong file) content s → IsRefusal s
 design_refusal file content s (inl long) = long_refusal file s long.is
 design_refusal file content s (inr wrong) = text_refusal file wrong.right.0 s wrong.right.2.1
 
-pub controller_refusal : (file : ℕ) (content : Option (List ℕ)) (s : Status) → IsFileRefused file (ControllerWrong file) content s → IsRefusal s
+pub controller_refusal : (file : ℕ) (content : Option (List ℕ)) (s : Status) → IsFileRefused file_limit file (ControllerWrong file) content s → IsRefusal s
 controller_refusal file content s (inl long) = long_refusal file s long.is
 controller_refusal file content s (inr wrong) = bad_refusal file wrong.right.0 s wrong.right.2
 
-pub states_refusal : (n file : ℕ) (content : Option (List ℕ)) (s : Status) → IsFileRefused file (StatesWrong n file) content s → IsRefusal s
+pub states_refusal : (n file : ℕ) (content : Option (List ℕ)) (s : Status) → IsFileRefused file_limit file (StatesWrong n file) content s → IsRefusal s
 states_refusal n file content s (inl long) = long_refusal file s long.is
 states_refusal n file content s (inr wrong) = text_refusal file wrong.right.0 s wrong.right.2.1
 

@@ -8,6 +8,7 @@ use Rattle.qp_model.specs.problem.Parts.{design_of}
 use Rattle.qp_model.specs.machine.Successor.{IsFor}
 use Rattle.qp_model.specs.declared.design_parts.DesignParts.{DesignParts}
 use Rattle.command_line.specs.Words.{word_of}
+use Rattle.command_line.specs.Limit.{file_limit}
 use Rattle.command_line.specs.Answers.{ForContents, IsAnswer, IsWrongBy}
 use Rattle.command_files.specs.Texts.{ControllerRight, ControllerWrong}
 use Rattle.command_files.specs.Reading.{IsDesignRead, IsControllerRead, AreStatesRead}
@@ -24,7 +25,7 @@ pub record IsForAnother (d : Design) (held : Option Files) (name : List ℕ) (s 
 -- reading a controller for a design ends with this status
 abbrev pub EndsMatching : Design → Option Files → (name : List ℕ) → (before now : ℕ) → Status → Type 0
 EndsMatching d held name before now s =
-    (s ≡ Memory) ⊎ (((s ≡ ReadFault 2) × Rose before now) ⊎ (IsWrongBy {X = Numbers} 2 (ControllerWrong 2) ControllerRight held name s ⊎ IsForAnother d held name s))
+    (s ≡ Memory) ⊎ (((s ≡ ReadFault 2) × Rose before now) ⊎ (IsWrongBy {X = Numbers} file_limit 2 (ControllerWrong 2) ControllerRight held name s ⊎ IsForAnother d held name s))
 
 -- three names hold a design, a controller for it and states
 pub record AreLoopsRead (words : List (List ℕ)) (held : Option Files) (p : DesignParts) (c : Numbers) (m : Matrix) : Type 0 where
@@ -37,12 +38,12 @@ pub record AreLoopsRead (words : List (List ℕ)) (held : Option Files) (p : Des
 pub record IsLoopFault (words : List (List ℕ)) (held : Option Files) (before now : List ℕ → ℕ) (s : Status) : Type 0 where
   pub file : ℕ
   pub is : s ≡ ReadFault file
-  pub reached : ForContents words held (λ k. LoopReaches k.first k.second file)
+  pub reached : ForContents words held (λ k. LoopReaches (k 1) (k 2) file)
   pub rose : Rose (before (word_of words file)) (now (word_of words file))
 
 -- the files call for this status, whatever the number of turns; it tells of no state that a loop met
 pub record IsLoopRefused (words : List (List ℕ)) (held : Option Files) (s : Status) : Type 0 where
-  pub called : ForContents words held (λ k. (turns : ℕ) → IsAnswer (LoopCalls k.first k.second k.third turns) s)
+  pub called : ForContents words held (λ k. (turns : ℕ) → IsAnswer (LoopCalls (k 1) (k 2) (k 3) turns) s)
   pub done : s ≢ Done
   pub memory : s ≢ Memory
   pub read : (file : ℕ) → s ≢ ReadFault file

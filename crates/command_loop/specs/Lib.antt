@@ -1,3 +1,4 @@
 pub mod Loop
 pub mod Files
 pub mod Printing
+pub mod Deeds

@@ -10,6 +10,7 @@ use Rattle.qp_model.specs.text.LoopLines.{loop_text}
 use Rattle.qp_model.specs.declared.design_parts.DesignParts.{DesignParts}
 use Rattle.qp_model.specs.declared.quantity.Quantity.TheVariants.{Turn}
 use Rattle.closed_loop.specs.Answers.{StaysInside, LeavesAt}
+use Rattle.command_line.specs.Limit.{file_limit}
 use Rattle.command_line.specs.Answers.{Contents, FileHolds}
 use Rattle.command_files.specs.Texts.{DesignRight, ControllerRight, StatesRight}
 use Rattle.command_files.specs.Reading.{ReadsDesign, ReadsController, ReadsStates}
@@ -63,26 +64,32 @@ LoopCalls design controller states turns s =
 
 -- three files hold a design, a controller for it and states
 pub record HoldsLoops (design controller states : Option (List ℕ)) (p : DesignParts) (c : Numbers) (m : Matrix) : Type 0 where
-  pub design_right : FileHolds (DesignRight p) design
-  pub controller_right : FileHolds (ControllerRight c) controller
+  pub design_right : FileHolds file_limit (DesignRight p) design
+  pub controller_right : FileHolds file_limit (ControllerRight c) controller
   pub matched : IsFor c (design_of p)
-  pub states_right : FileHolds (StatesRight c.states m) states
+  pub states_right : FileHolds file_limit (StatesRight c.states m) states
 
 -- ---- faults
 -- the file at this position is read: the first, the second where the first holds a design, and the third where the second holds a controller for it
 abbrev pub LoopReaches : (design controller : Option (List ℕ)) → ℕ → Type 0
 LoopReaches design controller file =
-    (file ≡ 1) ⊎ (((file ≡ 2) × (p : DesignParts) × FileHolds (DesignRight p) design)
-    ⊎ ((file ≡ 3) × (p : DesignParts) × (c : Numbers) × FileHolds (DesignRight p) design × FileHolds (ControllerRight c) controller × IsFor c (design_of p)))
+    (file ≡ 1) ⊎ (((file ≡ 2) × (p : DesignParts) × FileHolds file_limit (DesignRight p) design)
+    ⊎ ((file ≡ 3) × (p : DesignParts) × (c : Numbers) × FileHolds file_limit (DesignRight p) design × FileHolds file_limit (ControllerRight c) controller × IsFor c (design_of p)))
 
--- the files are in order, and there is a record whose turns may be printed
-pub record LoopStarts (contents : Contents) : Type 0 where
+-- a line may be printed: there is a record and a turn, the quantity `turn` is within its limit, and the first record's state lies in the box
+pub record MayPrintLine (d : Design) (c : Numbers) (turns : ℕ) (m : Matrix) : Type 0 where
+  pub record_there : 0 < length m.rows
+  pub turn_there : 0 < turns
+  pub narrow : turn_size d c ≤ 2 ^ 126
+  pub inside : StaysInside d c (row_of m 0) 1
+
+-- the files are in order, and a line may be printed
+pub record LoopStarts (contents : Contents) (turns : ℕ) : Type 0 where
   pub p : DesignParts
   pub c : Numbers
   pub m : Matrix
-  pub holds : HoldsLoops contents.first contents.second contents.third p c m
-  pub fits : FitsTurn (design_of p) c m
-  pub record_there : 0 < length m.rows
+  pub holds : HoldsLoops (contents 1) (contents 2) (contents 3) p c m
+  pub starts : MayPrintLine (design_of p) c turns m
 
 -- ---- what is printed
 -- the lines of all turns of the first records
@@ -99,7 +106,7 @@ pub record PrintsLoops (contents : Contents) (turns : ℕ) (old new : List ℕ) 
   pub p : DesignParts
   pub c : Numbers
   pub m : Matrix
-  pub holds : HoldsLoops contents.first contents.second contents.third p c m
+  pub holds : HoldsLoops (contents 1) (contents 2) (contents 3) p c m
   pub stays : AllStay (design_of p) c m turns (length m.rows)
   pub printed : new ≡ old ++ record_lines (design_of p) c m turns (length m.rows)
 
@@ -108,7 +115,7 @@ pub record PrintsToLeaving (contents : Contents) (turns : ℕ) (s : Status) (old
   pub p : DesignParts
   pub c : Numbers
   pub m : Matrix
-  pub holds : HoldsLoops contents.first contents.second contents.third p c m
+  pub holds : HoldsLoops (contents 1) (contents 2) (contents 3) p c m
   pub leaving : IsFirstLeaving (design_of p) c m turns s
   pub printed : new ≡ old ++ lines_to (design_of p) c m turns leaving.index (leaving.turn - 1)
 
@@ -117,7 +124,7 @@ pub record PrintsTurns (contents : Contents) (turns : ℕ) (old new : List ℕ) 
   pub p : DesignParts
   pub c : Numbers
   pub m : Matrix
-  pub holds : HoldsLoops contents.first contents.second contents.third p c m
+  pub holds : HoldsLoops (contents 1) (contents 2) (contents 3) p c m
   pub fits : FitsTurn (design_of p) c m
   pub index : ℕ
   pub there : index < length m.rows
@@ -132,7 +139,7 @@ pub record PrintsPrefix (contents : Contents) (turns : ℕ) (old new : List ℕ)
   pub p : DesignParts
   pub c : Numbers
   pub m : Matrix
-  pub holds : HoldsLoops contents.first contents.second contents.third p c m
+  pub holds : HoldsLoops (contents 1) (contents 2) (contents 3) p c m
   pub fits : FitsTurn (design_of p) c m
   pub index : ℕ
   pub there : index < length m.rows

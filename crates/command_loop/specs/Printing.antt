@@ -6,7 +6,7 @@ use Rattle.qp_model.specs.machine.Controller.{Numbers}
 use Rattle.closed_loop.specs.Answers.{StaysInside}
 use Rattle.closed_loop.specs.declared.fault.LoopFault.{LoopFault}
 use Rattle.closed_loop.specs.declared.fault.LoopFault.TheVariants as faults
-use Rattle.command_loop.specs.Loop.{AllStay, IsFirstLeaving, FitsTurn, LoopsCall, TellsLeaving, record_lines, lines_to}
+use Rattle.command_loop.specs.Loop.{AllStay, IsFirstLeaving, FitsTurn, MayPrintLine, LoopsCall, TellsLeaving, record_lines, lines_to}
 use Rattle.command_line.specs.declared.status.Status.{Status}
 use Rattle.command_line.specs.declared.status.Status.TheVariants.{Done, Memory, WriteFault, TooWide, OutsideBox}
 
@@ -17,9 +17,9 @@ loop_status entry (faults.TooWide quantity) = TooWide quantity
 loop_status entry (faults.OutsideBox turn coordinate) = OutsideBox entry turn coordinate
 loop_status entry faults.WriteFault = WriteFault 0
 
--- out of memory, or a print failed, or what is called for
+-- out of memory, or a print of a line failed, or what is called for
 abbrev pub LoopsEnd : Design → Numbers → (turns : ℕ) → Matrix → Status → Type 0
-LoopsEnd d c turns m s = (s ≡ Memory) ⊎ (((s ≡ WriteFault 0) × FitsTurn d c m × (0 < length m.rows)) ⊎ LoopsCall d c turns m s)
+LoopsEnd d c turns m s = (s ≡ Memory) ⊎ (((s ≡ WriteFault 0) × MayPrintLine d c turns m) ⊎ LoopsCall d c turns m s)
 
 -- the lines of the records before the one that leaves the box, and of its turns before that
 pub record AreToLeaving (d : Design) (c : Numbers) (turns : ℕ) (m : Matrix) (s : Status) (old new : List ℕ) : Type 0 where

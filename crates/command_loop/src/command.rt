@@ -22,14 +22,14 @@ pub fn run_loops<S: Store, O: Sink>(
 ) -> Status
     requires { IsLoop words.now turns }
     // Why: by what the three files hold this answer is called for, and no other.
-    ensures called { IsCaused result → ForContents words.now (S.held store.old) (λ contents. IsAnswer (LoopCalls contents.first contents.second contents.third turns) result) }
+    ensures called { IsCaused result → ForContents words.now (S.held store.old) (λ contents. IsAnswer (LoopCalls (contents 1) (contents 2) (contents 3) turns) result) }
     // What the output got.
     ensures prints { IfSome (O.got out.old) (λ old. IsSomeAnd (O.got out.new) (λ new. ForContents words.now (S.held store.old) (λ contents. LoopPrints contents turns result old new))) }
-    ensures quiet { IsCaused result → result ≢ Status.Done → ¬ TellsLeaving result → out.new ≡ out.old }
-    // Faults. Where a print failed, the files were in order, and `turn` within its limit.
-    ensures read_fault { (file : ℕ) → result ≡ Status.ReadFault file → ForContents words.now (S.held store.old) (λ contents. LoopReaches contents.first contents.second file)
+    ensures quiet { result ≢ Status.Done → result ≢ Status.Memory → result ≢ Status.WriteFault 0 → ¬ TellsLeaving result → out.new ≡ out.old }
+    // Faults. Where a print failed, a line was to be printed.
+    ensures read_fault { (file : ℕ) → result ≡ Status.ReadFault file → ForContents words.now (S.held store.old) (λ contents. LoopReaches (contents 1) (contents 2) file)
         × Rose (S.read_faults store.old (word_of words.now file)) (S.read_faults store.new (word_of words.now file)) }
-    ensures write_fault { (file : ℕ) → result ≡ Status.WriteFault file → (file ≡ 0) × ForContents words.now (S.held store.old) (λ contents. LoopStarts contents)
+    ensures write_fault { (file : ℕ) → result ≡ Status.WriteFault file → (file ≡ 0) × ForContents words.now (S.held store.old) (λ contents. LoopStarts contents turns)
         × Rose (O.faults out.old) (O.faults out.new) }
     // What stays the same.
     ensures held { S.held store.new ≡ S.held store.old }

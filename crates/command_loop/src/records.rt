@@ -3,7 +3,6 @@ ghost use Rattle.std.specs.Prelude.{◌≡◌, ◌≢◌, ◌≤◌, ◌<◌, �
 ghost use Rattle.io_edge.specs.Faults.{Rose};
 ghost use Rattle.qp_model.specs.problem.Parts.{design_of};
 ghost use Rattle.qp_model.specs.machine.Successor.{IsFor};
-ghost use Rattle.command_line.specs.Answers.{IsCaused};
 ghost use Rattle.command_loop.specs.Loop.{TellsLeaving};
 ghost use Rattle.command_loop.specs.Printing.{LoopsEnd, LoopsPrint, loop_status};
 
@@ -46,7 +45,7 @@ fn print_records<O: Sink>(
     requires count { length states.now.rows < 2 ^ 32 }
     ensures ends { LoopsEnd (design_of design.now) kernel.old.controller turns states.now result }
     ensures printed { IfSome (O.got out.old) (λ old. IsSomeAnd (O.got out.new) (LoopsPrint (design_of design.now) kernel.old.controller turns states.now result old)) }
-    ensures quiet { IsCaused result → result ≢ Status.Done → ¬ TellsLeaving result → out.new ≡ out.old }
+    ensures quiet { result ≢ Status.Done → result ≢ Status.Memory → result ≢ Status.WriteFault 0 → ¬ TellsLeaving result → out.new ≡ out.old }
     ensures failed { result ≡ Status.WriteFault 0 → Rose (O.faults out.old) (O.faults out.new) }
     ensures no_fewer { O.faults out.old ≤ O.faults out.new }
 {
@@ -66,7 +65,7 @@ pub fn print_loops<O: Sink>(alloc: Global, loops: &Loops, turns: u32, out: &mut 
     requires count { length loops.now.states.rows < 2 ^ 32 }
     ensures ends { LoopsEnd (design_of loops.now.design) loops.now.controller turns loops.now.states result }
     ensures printed { IfSome (O.got out.old) (λ old. IsSomeAnd (O.got out.new) (LoopsPrint (design_of loops.now.design) loops.now.controller turns loops.now.states result old)) }
-    ensures quiet { IsCaused result → result ≢ Status.Done → ¬ TellsLeaving result → out.new ≡ out.old }
+    ensures quiet { result ≢ Status.Done → result ≢ Status.Memory → result ≢ Status.WriteFault 0 → ¬ TellsLeaving result → out.new ≡ out.old }
     ensures failed { result ≡ Status.WriteFault 0 → Rose (O.faults out.old) (O.faults out.new) }
     ensures no_fewer { O.faults out.old ≤ O.faults out.new }
 {

@@ -1,5 +1,5 @@
 -- Which statuses a command answers.
-use Rattle.std.proofs.Common.{◌≡◌, ◌⊎◌, inl, inr, ℕ, List, Option, sym, ◌∙◌}
+use Rattle.std.proofs.Common.{◌≡◌, ◌⊎◌, inl, inr, ℕ, List, Option}
 use Rattle.io_edge.specs.Faults.{Files}
 use Rattle.mat_int.specs.Matrix.{Matrix}
 use Rattle.qp_model.specs.problem.Design.{Design}
@@ -14,7 +14,7 @@ use Rattle.controller_file.specs.declared.bad_controller.BadController.{BadContr
 use Rattle.controller_file.specs.declared.bad_controller.BadController.TheVariants.{Line, Unsafe, Memory as no_space}
 use Rattle.design_engine.specs.declared.refusal.Refusal.{Refusal}
 use Rattle.design_engine.specs.declared.refusal.Refusal.TheVariants as refusals
-use Rattle.command_line.specs.Commands.{IsUsage}
+use Rattle.command_line.specs.Limit.{file_limit}
 use Rattle.command_line.specs.Answers.{Contents, FileHolds, IsFileRefused, ReadsThen, IsAnswer, ForContents, IsCaused}
 use Rattle.command_files.specs.Texts.{TellsFault, IsControllerFault, DesignRight, DesignWrong, PolicyRight, PolicyWrong, StatesRight, StatesWrong, ControllerRight, ControllerWrong}
 use Rattle.command_files.specs.Reading.{ReadsStates}
@@ -26,7 +26,9 @@ use Rattle.command_loop.specs.Loop.{LoopCalls, LoopsCall, IsMismatch}
 use Rattle.command_demo.specs.Demo.{DemoCalls}
 use Rattle.command_line.specs.declared.status.Status.{Status}
 use Rattle.command_line.specs.declared.status.Status.TheVariants.{Done, Usage, Text, Controller, Long}
-use Rattle.command_run.specs.Calls.{Calls}
+use Rattle.command_line.specs.declared.words.Command.{Command}
+use Rattle.command_line.specs.declared.words.Command.TheVariants.{Generate, Solve, Loop, Demo}
+use Rattle.command_run.specs.Table.{deeds_of}
 
 -- an answer that a command with files gives: it isn't `Usage`, and no fault in it is that memory ran out
 pub record IsTelling (s : Status) : Type 0 where
@@ -63,11 +65,11 @@ bad_telling : (file : ℕ) (bytes : List ℕ) (s : Status) → ControllerWrong f
 bad_telling file bytes s wrong = controller_telling file bytes wrong.0 s wrong.1 wrong.2
 
 -- a file's refusal tells, where that of its bytes does; and so does what comes after
-then_telling : {X : Type 0} (file : ℕ) (Wrong : List ℕ → Status → Type 0) (Right : X → List ℕ → Type 0) (content : Option (List ℕ)) (After : X → Status → Type 0) →
-    ((bytes : List ℕ) (s : Status) → Wrong bytes s → IsTelling s) → ((x : X) (s : Status) → After x s → IsTelling s) → (s : Status) → ReadsThen {X = X} file Wrong Right content After s → IsTelling s
-then_telling file Wrong Right content After wrong after s (inl (inl long)) = long_telling file s long.is
-then_telling file Wrong Right content After wrong after s (inl (inr refused)) = wrong refused.bytes s refused.right
-then_telling file Wrong Right content After wrong after s (inr right) = after right.0 s right.2
+then_telling : {X : Type 0} (limit file : ℕ) (Wrong : List ℕ → Status → Type 0) (Right : X → List ℕ → Type 0) (content : Option (List ℕ)) (After : X → Status → Type 0) →
+    ((bytes : List ℕ) (s : Status) → Wrong bytes s → IsTelling s) → ((x : X) (s : Status) → After x s → IsTelling s) → (s : Status) → ReadsThen {X = X} limit file Wrong Right content After s → IsTelling s
+then_telling limit file Wrong Right content After wrong after s (inl (inl long)) = long_telling file s long.is
+then_telling limit file Wrong Right content After wrong after s (inl (inr refused)) = wrong refused.bytes s refused.right
+then_telling limit file Wrong Right content After wrong after s (inr right) = after right.0 s right.2
 
 -- ---- what comes after the files
 refusal_telling : (s : Status) (r : Refusal) → s ≡ status_of r → IsTelling s
@@ -102,48 +104,44 @@ loops_telling d c turns m s (inr (inr done)) = done_telling s done.0
 -- ---- the commands
 generate_telling : (design policy : Option (List ℕ)) (s : Status) → GenerateCalls design policy s → IsTelling s
 generate_telling design policy =
-    then_telling 1 (DesignWrong 1) DesignRight design _ (design_telling 1)
-    (λ p. then_telling 2 (PolicyWrong (design_of p) 2) (PolicyRight (design_of p)) policy (MakingCalls p) (policy_telling (design_of p) 2) (making_telling p))
+    then_telling file_limit 1 (DesignWrong 1) DesignRight design _ (design_telling 1)
+    (λ p. then_telling file_limit 2 (PolicyWrong (design_of p) 2) (PolicyRight (design_of p)) policy (MakingCalls p) (policy_telling (design_of p) 2) (making_telling p))
 
 solve_telling : (controller states : Option (List ℕ)) (s : Status) → SolveCalls controller states s → IsTelling s
 solve_telling controller states =
-    then_telling 1 (ControllerWrong 1) ControllerRight controller _ (bad_telling 1)
-    (λ c. then_telling 2 (StatesWrong c.states 2) (StatesRight c.states) states (RunsCall c) (states_telling c.states 2) (runs_telling c))
+    then_telling file_limit 1 (ControllerWrong 1) ControllerRight controller _ (bad_telling 1)
+    (λ c. then_telling file_limit 2 (StatesWrong c.states 2) (StatesRight c.states) states (RunsCall c) (states_telling c.states 2) (runs_telling c))
 
 after_controller : (p : DesignParts) (turns : ℕ) (states : Option (List ℕ)) (c : Numbers) (s : Status) → IsMismatch (design_of p) c s ⊎ (IsFor c (design_of p) × ReadsStates c.states 3 states (LoopsCall (design_of p) c turns) s) →
     IsTelling s
 after_controller p turns states c s (inl other) = mismatch_telling (design_of p) c s other
 after_controller p turns states c s (inr rest) =
-    then_telling 3 (StatesWrong c.states 3) (StatesRight c.states) states (LoopsCall (design_of p) c turns) (states_telling c.states 3) (loops_telling (design_of p) c turns) s rest.1
+    then_telling file_limit 3 (StatesWrong c.states 3) (StatesRight c.states) states (LoopsCall (design_of p) c turns) (states_telling c.states 3) (loops_telling (design_of p) c turns) s rest.1
 
 loop_telling : (design controller states : Option (List ℕ)) (turns : ℕ) (s : Status) → LoopCalls design controller states turns s → IsTelling s
 loop_telling design controller states turns =
-    then_telling 1 (DesignWrong 1) DesignRight design _ (design_telling 1)
-    (λ p. then_telling 2 (ControllerWrong 2) ControllerRight controller _ (bad_telling 2) (after_controller p turns states))
+    then_telling file_limit 1 (DesignWrong 1) DesignRight design _ (design_telling 1)
+    (λ p. then_telling file_limit 2 (ControllerWrong 2) ControllerRight controller _ (bad_telling 2) (after_controller p turns states))
 
 demo_telling : (number : ℕ) (s : Status) → DemoCalls number s → IsTelling s
 demo_telling number s calls = making_telling calls.0 calls.1 s calls.3
 
--- ---- the program
-usage_or_telling : (words : List (List ℕ)) (contents : Contents) (s : Status) → Calls words contents s → (IsUsage words × (s ≡ Usage)) ⊎ IsTelling s
-usage_or_telling words contents s (inl a) = inl a
-usage_or_telling words contents s (inr (inl a)) = inr (generate_telling contents.first contents.second s a.1)
-usage_or_telling words contents s (inr (inr (inl a))) = inr (solve_telling contents.first contents.second s a.1)
-usage_or_telling words contents s (inr (inr (inr (inl a)))) = inr (loop_telling contents.first contents.second contents.third a.0 s a.2)
-usage_or_telling words contents s (inr (inr (inr (inr a)))) = inr (demo_telling a.0 s a.2)
+-- ---- the table
+telling : (c : Command) (contents : Contents) (s : Status) → (deeds_of c).calls contents s → IsTelling s
+telling Generate contents = generate_telling (contents 1) (contents 2)
+telling Solve contents = solve_telling (contents 1) (contents 2)
+telling (Loop turns) contents = loop_telling (contents 1) (contents 2) (contents 3) turns
+telling (Demo number) contents = demo_telling number
 
-module _ (words : List (List ℕ)) (held : Option Files) (result : Status) (called : IsCaused result → ForContents words held (λ contents. IsAnswer (Calls words contents) result)) where
-  pub is_usage : result ≡ Usage → IsUsage words
-  is_usage is =
-      let answer = called (record { memory = λ e. cc; read = λ file e. cc; write = λ file e. cc }) in
-      elim (usage_or_telling words answer.contents result answer.true_of.called) [ inl usage ↦ usage.0 | inr tells ↦ absurd (tells.usage is) ]
+module _ (c : Command) (words : List (List ℕ)) (held : Option Files) (result : Status) (called : IsCaused result → ForContents words held (λ contents. IsAnswer ((deeds_of c).calls contents) result)) where
+  tells : IsCaused result → IsTelling result
+  tells caused = let answer = called caused in telling c answer.contents result answer.true_of.called
+
+  pub no_usage : result ≡ Usage → ⊥
+  no_usage is = (tells (record { memory = λ e. cc; read = λ file e. cc; write = λ file e. cc })).usage is
 
   pub no_text_memory : (file : ℕ) → result ≡ Text file no_room → ⊥
-  no_text_memory file is =
-      let answer = called (record { memory = λ e. cc; read = λ at e. cc; write = λ at e. cc }) in
-      elim (usage_or_telling words answer.contents result answer.true_of.called) [ inl usage ↦ (let as_usage = usage.1 in cc) | inr tells ↦ tells.text file is ]
+  no_text_memory file is = (tells (record { memory = λ e. cc; read = λ at e. cc; write = λ at e. cc })).text file is
 
   pub no_controller_memory : (file : ℕ) → result ≡ Controller file no_space → ⊥
-  no_controller_memory file is =
-      let answer = called (record { memory = λ e. cc; read = λ at e. cc; write = λ at e. cc }) in
-      elim (usage_or_telling words answer.contents result answer.true_of.called) [ inl usage ↦ (let as_usage = usage.1 in cc) | inr tells ↦ tells.controller file is ]
+  no_controller_memory file is = (tells (record { memory = λ e. cc; read = λ at e. cc; write = λ at e. cc })).controller file is

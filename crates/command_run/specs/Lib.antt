@@ -1,3 +1,1 @@
-pub mod Calls
-pub mod Prints
-pub mod Faults
+pub mod Table

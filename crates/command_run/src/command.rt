@@ -3,14 +3,12 @@ ghost use Rattle.std.specs.Prelude.{◌≡◌, ◌≢◌, ◌⊎◌, ◌↔◌, 
 ghost use Rattle.io_edge.specs.Faults.{Rose, NoneFalls};
 ghost use Rattle.number_text.specs.declared.text_fault.TextFault.TheVariants.{Memory as no_room};
 ghost use Rattle.controller_file.specs.declared.bad_controller.BadController.TheVariants.{Memory as no_space};
-ghost use Rattle.command_line.specs.Words.{word_of, IsGenerate, IsDemo};
-ghost use Rattle.command_line.specs.Commands.{IsUsage};
+ghost use Rattle.command_line.specs.Words.{word_of, IsGenerate};
+ghost use Rattle.command_line.specs.Commands.{AreOf, IsUsage};
 ghost use Rattle.command_line.specs.Answers.{ForContents, IsAnswer, IsCaused};
-ghost use Rattle.command_generate.specs.Generate.{IsGenerated, IsControllerCut, IsReportCut};
-ghost use Rattle.command_loop.specs.Loop.{TellsLeaving};
-ghost use Rattle.command_run.specs.Calls.{Calls, IsCalledFor};
-ghost use Rattle.command_run.specs.Prints.{Prints};
-ghost use Rattle.command_run.specs.Faults.{MayWrite, MayPrint, ReachesFile, PassesTests, WriteFailed, NoneRises};
+ghost use Rattle.command_line.specs.Deeds.{IsCalledFor, UsesNoFile, IsUnwritten, IsUnprinted, WriteFailed, NoneRises};
+ghost use Rattle.command_generate.specs.Generate.{IsGenerated};
+ghost use Rattle.command_run.specs.Table.{deeds_of};
 
 use command_demo::demo;
 use command_generate::generate;
@@ -34,32 +32,39 @@ pub fn run<S: Store, O: Sink>(alloc: Global, words: &Words, store: &mut S, out: 
     // The printed violation and gap are at most the design's targets.
     ensures generated { IsGenerate words.now → result ≡ Status.Done → IfSome (S.held store.old) (λ files. IsSomeAnd (S.held store.new) (IsGenerated words.now files)) }
 
-    // Why: this answer is called for by the arguments and by what the files hold, and no other. Out of memory and a fault have no cause in them.
-    ensures called { IsCaused result → ForContents words.now (S.held store.old) (λ contents. IsAnswer (Calls words.now contents) result) }
+    // `Usage` is the answer exactly where the arguments are those of no command, and then nothing is used.
+    ensures usage { (result ≡ Status.Usage) ↔ IsUsage words.now }
+    ensures unused { IsUsage words.now → (store.new ≡ store.old) × (out.new ≡ out.old) }
+
+    // The arguments are those of one command at most (`one_command_law`), and what follows is said of it, by its row in the table of commands.
+    // Why: this answer is called for by what the files hold, and no other. Out of memory and a fault have no cause in them.
+    ensures called { (c : Command) → AreOf c words.now → IsCaused result
+        → ForContents words.now (S.held store.old) (λ contents. IsAnswer ((deeds_of c).calls contents) result) }
+    ensures no_inner_memory { (file : ℕ) → (result ≢ Status.Text file no_room) × (result ≢ Status.Controller file no_space) }
 
     // It doesn't give up: where whatever the files may hold calls for an answer, and no count rises that the command can raise, the answer is that one,
     // or out of memory.
-    ensures complete { (s : Status) → IsCalledFor words.now (S.held store.old) s
-        → NoneRises words.now (S.read_faults store.old) (S.read_faults store.new) (S.write_faults store.old) (S.write_faults store.new) (O.faults out.old) (O.faults out.new)
+    ensures complete { (c : Command) → AreOf c words.now → (s : Status) → IsCalledFor (deeds_of c) words.now (S.held store.old) s
+        → NoneRises (deeds_of c) words.now (S.read_faults store.old) (S.read_faults store.new) (S.write_faults store.old) (S.write_faults store.new)
+        (O.faults out.old) (O.faults out.new)
         → (result ≡ s) ⊎ (result ≡ Status.Memory) }
-    ensures usage { (result ≡ Status.Usage) ↔ IsUsage words.now }
-    ensures no_inner_memory { (file : ℕ) → (result ≢ Status.Text file no_room) × (result ≢ Status.Controller file no_space) }
 
-    // What it leaves in the output, by the command and the answer.
-    ensures prints { IfSome (O.got out.old) (λ old. IsSomeAnd (O.got out.new) (λ new. ForContents words.now (S.held store.old) (λ contents. Prints words.now contents result old new))) }
-    ensures quiet { (IsCaused result × (result ≢ Status.Done) × ¬ TellsLeaving result) ⊎ ¬ MayPrint words.now → out.new ≡ out.old }
-
-    // What it leaves in the store: what `generate` wrote, also where a write failed, and else what was there.
-    ensures controller_cut { result ≡ Status.WriteFault 3 → IfSome (S.held store.old) (λ files. IsSomeAnd (S.held store.new) (IsControllerCut words.now files)) }
-    ensures report_cut { result ≡ Status.WriteFault 4 → IfSome (S.held store.old) (λ files. IsSomeAnd (S.held store.new) (IsReportCut words.now files)) }
-    ensures held { ¬ IsGenerate words.now ⊎ ((result ≢ Status.Done) × ((file : ℕ) → result ≢ Status.WriteFault file)) → S.held store.new ≡ S.held store.old }
-    ensures unused { IsUsage words.now ⊎ ((number : ℕ) × IsDemo words.now number) → store.new ≡ store.old }
+    // What it leaves in the output, and in the store, also where a write failed.
+    ensures prints { (c : Command) → AreOf c words.now
+        → IfSome (O.got out.old) (λ old. IsSomeAnd (O.got out.new)
+        (λ new. ForContents words.now (S.held store.old) (λ contents. (deeds_of c).shows contents result old new))) }
+    ensures quiet { (c : Command) → AreOf c words.now → IsUnprinted (deeds_of c) result → out.new ≡ out.old }
+    ensures leaves { (c : Command) → AreOf c words.now → (deeds_of c).leaves words.now result (S.held store.old) (S.held store.new) }
+    ensures held { (c : Command) → AreOf c words.now → IsUnwritten (deeds_of c) result → S.held store.new ≡ S.held store.old }
+    ensures no_file { (c : Command) → AreOf c words.now → UsesNoFile (deeds_of c) → store.new ≡ store.old }
 
     // A fault comes only where the count of that very file, or of the output, rose, and where all that comes before it is in order.
-    ensures read_fault { (file : ℕ) → result ≡ Status.ReadFault file → ForContents words.now (S.held store.old) (λ contents. ReachesFile words.now contents file)
+    ensures read_fault { (c : Command) → AreOf c words.now → (file : ℕ) → result ≡ Status.ReadFault file
+        → ForContents words.now (S.held store.old) (λ contents. (deeds_of c).reaches contents file)
         × Rose (S.read_faults store.old (word_of words.now file)) (S.read_faults store.new (word_of words.now file)) }
-    ensures write_fault { (file : ℕ) → result ≡ Status.WriteFault file → ForContents words.now (S.held store.old) (λ contents. PassesTests words.now contents)
-        × WriteFailed words.now file (S.write_faults store.old) (S.write_faults store.new) (O.faults out.old) (O.faults out.new) }
+    ensures write_fault { (c : Command) → AreOf c words.now → (file : ℕ) → result ≡ Status.WriteFault file
+        → ForContents words.now (S.held store.old) (deeds_of c).starts
+        × WriteFailed (deeds_of c) words.now file (S.write_faults store.old) (S.write_faults store.new) (O.faults out.old) (O.faults out.new) }
 
     // No count falls.
     ensures reads { NoneFalls (S.read_faults store.old) (S.read_faults store.new) }

@@ -1,5 +1,4 @@
 -- what a controller and its states are answered, and what is printed of them
-pub mod PlanLines
 pub mod Outside
 pub mod Stopping
 pub mod Solving

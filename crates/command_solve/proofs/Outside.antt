@@ -5,7 +5,8 @@ use Rattle.mat_int.specs.Matrix.{Matrix, row_of}
 use Rattle.qp_model.specs.machine.Controller.{Numbers}
 use Rattle.qp_model.specs.machine.Machine.{IsAdmissible}
 use Rattle.fixed_kernel.specs.Outside.{IsFirstOutside}
-use Rattle.command_solve.specs.Inside.{AreInside, IsOutside, RunsCall}
+use Rattle.plan_lines.specs.Inside.{AreInside}
+use Rattle.command_solve.specs.Inside.{IsOutside, RunsCall}
 use Rattle.command_line.specs.declared.status.Status.{Status}
 use Rattle.command_line.specs.declared.status.Status.TheVariants.{OutsideBox}
 

@@ -3,6 +3,7 @@ use Rattle.std.proofs.Common.{◌≡◌, ◌≢◌, inl, inr, ℕ, List, Option}
 use Rattle.io_edge.specs.Faults.{Files, Rose}
 use Rattle.controller_file.specs.declared.bad_controller.BadController.{BadController}
 use Rattle.number_text.specs.declared.text_fault.TextFault.{TextFault}
+use Rattle.command_line.specs.Limit.{file_limit}
 use Rattle.command_line.specs.Answers.{IsFileRefused, IsCaused, IsWrongBy, EndsReading}
 use Rattle.command_line.specs.declared.status.Status.{Status}
 use Rattle.command_line.specs.declared.status.Status.TheVariants.{Done, Memory, ReadFault, WriteFault, Text, Controller, Long}
@@ -25,33 +26,33 @@ controller_refusal : (file : ℕ) (fault : BadController) (s : Status) → s ≡
 controller_refusal file fault s is = record { done = λ e. cc; memory = λ e. cc; read = λ f e. cc; write = λ f e. cc }
 
 -- what a file is refused with
-pub controller_refused : (file : ℕ) (content : Option (List ℕ)) (s : Status) → IsFileRefused file (ControllerWrong file) content s → IsRefusal s
+pub controller_refused : (file : ℕ) (content : Option (List ℕ)) (s : Status) → IsFileRefused file_limit file (ControllerWrong file) content s → IsRefusal s
 controller_refused file content s (inl long) = long_refusal file s long.is
 controller_refused file content s (inr wrong) = controller_refusal file wrong.right.0 s wrong.right.2
 
-pub states_refused : (n file : ℕ) (content : Option (List ℕ)) (s : Status) → IsFileRefused file (StatesWrong n file) content s → IsRefusal s
+pub states_refused : (n file : ℕ) (content : Option (List ℕ)) (s : Status) → IsFileRefused file_limit file (StatesWrong n file) content s → IsRefusal s
 states_refused n file content s (inl long) = long_refusal file s long.is
 states_refused n file content s (inr wrong) = text_refusal file wrong.right.0 s wrong.right.2.1
 
 -- what a file that ends a command makes of its status
-module _ {X : Type 0} (file : ℕ) (Wrong : List ℕ → Status → Type 0) (Right : X → List ℕ → Type 0) (held : Option Files) (name : List ℕ) (before now : ℕ) (s : Status) where
-  pub why_refused : EndsReading {X = X} file Wrong Right held name before now s → IsCaused s → IsWrongBy {X = X} file Wrong Right held name s
+module _ {X : Type 0} (limit file : ℕ) (Wrong : List ℕ → Status → Type 0) (Right : X → List ℕ → Type 0) (held : Option Files) (name : List ℕ) (before now : ℕ) (s : Status) where
+  pub why_refused : EndsReading {X = X} limit file Wrong Right held name before now s → IsCaused s → IsWrongBy {X = X} limit file Wrong Right held name s
   why_refused (inl memory) caused = absurd (caused.memory memory)
   why_refused (inr (inl fault)) caused = absurd (caused.read file fault.0)
   why_refused (inr (inr wrong)) caused = wrong
 
-  module _ (refusal : (content : Option (List ℕ)) (t : Status) → IsFileRefused file Wrong content t → IsRefusal t) where
-    pub not_done : EndsReading {X = X} file Wrong Right held name before now s → s ≢ Done
+  module _ (refusal : (content : Option (List ℕ)) (t : Status) → IsFileRefused limit file Wrong content t → IsRefusal t) where
+    pub not_done : EndsReading {X = X} limit file Wrong Right held name before now s → s ≢ Done
     not_done (inl memory) is = cc
     not_done (inr (inl fault)) is = let failed = fault.0 in cc
     not_done (inr (inr wrong)) is = (refusal wrong.content s wrong.answer.called).done is
 
-    pub no_write : EndsReading {X = X} file Wrong Right held name before now s → (at : ℕ) → s ≢ WriteFault at
+    pub no_write : EndsReading {X = X} limit file Wrong Right held name before now s → (at : ℕ) → s ≢ WriteFault at
     no_write (inl memory) at is = cc
     no_write (inr (inl fault)) at is = let failed = fault.0 in cc
     no_write (inr (inr wrong)) at is = (refusal wrong.content s wrong.answer.called).write at is
 
-    pub its_fault : EndsReading {X = X} file Wrong Right held name before now s → (at : ℕ) → s ≡ ReadFault at → (at ≡ file) × Rose before now
+    pub its_fault : EndsReading {X = X} limit file Wrong Right held name before now s → (at : ℕ) → s ≡ ReadFault at → (at ≡ file) × Rose before now
     its_fault (inl memory) at is = absurd (let never : ⊥ = cc in never)
     its_fault (inr (inl fault)) at is = let failed = fault.0 in (let same : at ≡ file = cc in same, fault.1)
     its_fault (inr (inr wrong)) at is = absurd ((refusal wrong.content s wrong.answer.called).read at is)

@@ -1,15 +1,11 @@
--- Which states lie in a controller's box, and what a controller and states call for.
+-- Which state is the first outside a controller's box, and what a controller and states call for.
 use Rattle.std.specs.Prelude.{◌≡◌, ◌⊎◌, ℕ, ◌+◌, ◌<◌, length}
 use Rattle.mat_int.specs.Matrix.{Matrix, row_of}
 use Rattle.qp_model.specs.machine.Controller.{Numbers}
-use Rattle.qp_model.specs.machine.Machine.{IsAdmissible}
 use Rattle.fixed_kernel.specs.Outside.{IsFirstOutside}
+use Rattle.plan_lines.specs.Inside.{AreInside}
 use Rattle.command_line.specs.declared.status.Status.{Status}
 use Rattle.command_line.specs.declared.status.Status.TheVariants.{Done, OutsideBox}
-
--- each of the first k states lies in the controller's box
-abbrev pub AreInside : Numbers → Matrix → ℕ → Type 0
-AreInside c states k = (e : ℕ) → e < k → IsAdmissible c (row_of states e)
 
 -- the state of a record is the first that lies outside the box, and the status tells which, and its first coordinate outside
 pub record IsOutside (c : Numbers) (states : Matrix) (s : Status) : Type 0 where

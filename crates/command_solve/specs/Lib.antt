@@ -1,4 +1,4 @@
 pub mod Solve
 pub mod Inside
-pub mod Lines
 pub mod Printing
+pub mod Deeds

@@ -4,7 +4,7 @@ ghost use Rattle.io_edge.specs.Faults.{Rose, NoneFalls};
 ghost use Rattle.command_line.specs.Words.{word_of, IsSolve};
 ghost use Rattle.command_line.specs.Answers.{ForContents, IsAnswer, IsCaused};
 ghost use Rattle.command_files.specs.Reading.{IsControllerRead};
-ghost use Rattle.command_solve.specs.Solve.{SolveCalls, SolveReaches, SolvePrints};
+ghost use Rattle.command_solve.specs.Solve.{SolveCalls, SolveReaches, SolveStarts, SolvePrints};
 ghost use Rattle.command_solve.specs.Printing.{RunsEnd, RunsPrint};
 
 use crate::runs::print_runs;
@@ -27,14 +27,14 @@ fn solve_with<S: Store, O: Sink>(
     requires words { IsSolve words.now }
     requires right { IsControllerRead 1 (S.held store.now) (word_of words.now 1) controller.now }
     // Why: by what the two files hold this answer is called for, and no other.
-    ensures called { IsCaused result → ForContents words.now (S.held store.old) (λ contents. IsAnswer (SolveCalls contents.first contents.second) result) }
+    ensures called { IsCaused result → ForContents words.now (S.held store.old) (λ contents. IsAnswer (SolveCalls (contents 1) (contents 2)) result) }
     // What the output got.
     ensures prints { IfSome (O.got out.old) (λ old. IsSomeAnd (O.got out.new) (λ new. ForContents words.now (S.held store.old) (λ contents. SolvePrints contents result old new))) }
-    ensures quiet { IsCaused result → result ≢ Status.Done → out.new ≡ out.old }
+    ensures quiet { result ≢ Status.Done → result ≢ Status.Memory → result ≢ Status.WriteFault 0 → out.new ≡ out.old }
     // Faults.
-    ensures read_fault { (file : ℕ) → result ≡ Status.ReadFault file → ForContents words.now (S.held store.old) (λ contents. SolveReaches contents.first file)
+    ensures read_fault { (file : ℕ) → result ≡ Status.ReadFault file → ForContents words.now (S.held store.old) (λ contents. SolveReaches (contents 1) file)
         × Rose (S.read_faults store.old (word_of words.now file)) (S.read_faults store.new (word_of words.now file)) }
-    ensures write_fault { (file : ℕ) → result ≡ Status.WriteFault file → (file ≡ 0) × ForContents words.now (S.held store.old) (λ contents. SolveCalls contents.first contents.second Status.Done)
+    ensures write_fault { (file : ℕ) → result ≡ Status.WriteFault file → (file ≡ 0) × ForContents words.now (S.held store.old) (λ contents. SolveStarts (contents 1) (contents 2))
         × Rose (O.faults out.old) (O.faults out.new) }
     // What stays the same.
     ensures held { S.held store.new ≡ S.held store.old }
@@ -53,14 +53,14 @@ fn solve_with<S: Store, O: Sink>(
 pub fn solve<S: Store, O: Sink>(alloc: Global, words: &Words, store: &mut S, out: &mut O) -> Status
     requires { IsSolve words.now }
     // Why: by what the two files hold this answer is called for, and no other.
-    ensures called { IsCaused result → ForContents words.now (S.held store.old) (λ contents. IsAnswer (SolveCalls contents.first contents.second) result) }
+    ensures called { IsCaused result → ForContents words.now (S.held store.old) (λ contents. IsAnswer (SolveCalls (contents 1) (contents 2)) result) }
     // What the output got.
     ensures prints { IfSome (O.got out.old) (λ old. IsSomeAnd (O.got out.new) (λ new. ForContents words.now (S.held store.old) (λ contents. SolvePrints contents result old new))) }
-    ensures quiet { IsCaused result → result ≢ Status.Done → out.new ≡ out.old }
+    ensures quiet { result ≢ Status.Done → result ≢ Status.Memory → result ≢ Status.WriteFault 0 → out.new ≡ out.old }
     // Faults.
-    ensures read_fault { (file : ℕ) → result ≡ Status.ReadFault file → ForContents words.now (S.held store.old) (λ contents. SolveReaches contents.first file)
+    ensures read_fault { (file : ℕ) → result ≡ Status.ReadFault file → ForContents words.now (S.held store.old) (λ contents. SolveReaches (contents 1) file)
         × Rose (S.read_faults store.old (word_of words.now file)) (S.read_faults store.new (word_of words.now file)) }
-    ensures write_fault { (file : ℕ) → result ≡ Status.WriteFault file → (file ≡ 0) × ForContents words.now (S.held store.old) (λ contents. SolveCalls contents.first contents.second Status.Done)
+    ensures write_fault { (file : ℕ) → result ≡ Status.WriteFault file → (file ≡ 0) × ForContents words.now (S.held store.old) (λ contents. SolveStarts (contents 1) (contents 2))
         × Rose (O.faults out.old) (O.faults out.new) }
     // What stays the same.
     ensures held { S.held store.new ≡ S.held store.old }

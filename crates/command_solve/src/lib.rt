@@ -2,8 +2,7 @@
 #![tactic(auto)]
 
 mod command;
-mod lines;
+mod inside;
 mod runs;
 
 pub use command::solve;
-pub use lines::print_lines;

@@ -8,7 +8,7 @@ use Rattle.command_line.specs.declared.status.Status.TheVariants.{Done}
 use Rattle.command_controller.proofs.Making.{refused_no_read, refused_no_write}
 use Rattle.command_demo.specs.Demo.{DemoCalls}
 use Rattle.command_demo.proofs.Inside.{inside, shown}
-use Rattle.command_demo.proofs.Answering.{answer_is, refused_is, printed_done, printed_no_read, printed_fault}
+use Rattle.command_demo.proofs.Answering.{answer_is, refused_is, printed_done, printed_one, printed_no_read, printed_fault}
 use Rattle.command_demo.proofs.PrintedText.{prints_told, quiet_told}
 use Rattle.command_demo.proofs.command.demo_of.Goals as goal
 
@@ -30,7 +30,7 @@ returns-in-Ok g c =
       prints = λ number made.
           prints_told controller bounds inputs.states number s (g.O.Sink.got c.args.out.now) (g.O.Sink.got c.print_text.new.out)
           (shown number inputs.design plans controller bounds inputs.states made.made c.in-Ok.ensures.made c.requires.states c.requires.inside) only c.print_text.ensures.printed;
-      quiet = λ caused other. absurd (other (printed_done s only caused));
+      quiet = λ done memory fault. printed_one _ s only done memory fault;
       no_read = λ file is. printed_no_read s only file is;
       write_fault = λ number made file is.
           let rose = printed_fault _ s only c.print_text.ensures.failed file is in
@@ -48,7 +48,7 @@ returns-in-Err g c =
     record {
       called = λ number made caused. refused_is number inputs.design plans s made.made made.one refused caused;
       prints = λ number made. quiet_told number s (g.O.Sink.got c.args.out.now) c.in-Err.ensures.not_done (λ is. refused_no_write inputs.design plans s refused 0 is);
-      quiet = λ caused other. refl;
+      quiet = λ done memory fault. refl;
       no_read = λ file is. refused_no_read inputs.design plans s refused file is;
       write_fault = λ number made file is. absurd (refused_no_write inputs.design plans s refused file is);
       no_fewer = le_refl (g.O.Sink.faults c.args.out.now);

@@ -26,7 +26,7 @@ returns-in-Ok-clause-controller_cut g c =
     let text = c.in-Ok.texts.controller.items in
     let report = c.in-Ok.texts.report.items in
     let from = c.in-Ok.ensures.texts in
-    let cut = rw c.at.ensures at c.write_texts.ensures.controller_cut in
+    let cut = rw c.at.ensures at c.write_texts.ensures.first_cut in
     λ is.
     carried words (g.S.Store.held c.args.store.now) (g.S.Store.held c.texts_for.new.store) (g.S.Store.held c.write_texts.new.store) text report
     (λ files new. IsCutShort files new (word_of words 3) text) (λ files new. IsControllerCut words files new) c.in-Ok.ensures.held from
@@ -38,7 +38,7 @@ returns-in-Ok-clause-report_cut g c =
     let text = c.in-Ok.texts.controller.items in
     let report = c.in-Ok.texts.report.items in
     let from = c.in-Ok.ensures.texts in
-    let cut = rw (c.at.ensures, c.at-in-Ok.ensures) at c.write_texts.ensures.report_cut in
+    let cut = rw (c.at.ensures, c.at-in-Ok.ensures) at c.write_texts.ensures.second_cut in
     λ is.
     carried words (g.S.Store.held c.args.store.now) (g.S.Store.held c.texts_for.new.store) (g.S.Store.held c.write_texts.new.store) text report
     (λ files new. IsSecondCut files new (word_of words 3) (word_of words 4) text report) (λ files new. IsReportCut words files new) c.in-Ok.ensures.held from
@@ -54,8 +54,8 @@ returns-in-Ok-clause-read_fault g c = λ file is. absurd (written_no_read c.writ
 
 pub returns-in-Ok-clause-write_fault : goal.returns-in-Ok-clause-write_fault
 returns-in-Ok-clause-write_fault g c =
-    let third = rw c.at.ensures at c.write_texts.ensures.third_failed in
-    let fourth = rw c.at-in-Ok.ensures at c.write_texts.ensures.fourth_failed in
+    let third = rw c.at.ensures at c.write_texts.ensures.first_failed in
+    let fourth = rw c.at-in-Ok.ensures at c.write_texts.ensures.second_failed in
     λ file is.
     write_fault c.args.words.now (g.S.Store.held c.args.store.now) (g.S.Store.write_faults c.args.store.now) (g.S.Store.write_faults c.texts_for.new.store) (g.S.Store.write_faults c.write_texts.new.store)
     c.write_texts.result c.in-Ok.ensures.called c.in-Ok.ensures.writes c.write_texts.ensures.writes c.write_texts.ensures.only third fourth file is

@@ -23,11 +23,8 @@ done_no_fault A file is = absurd (let never : ⊥ = cc in never)
 fault_not_done : (A : Type 0) (file : ℕ) → WriteFault file ≡ Done → A
 fault_not_done A file is = absurd (let never : ⊥ = cc in never)
 
-third_not_fourth : (A : Type 0) → WriteFault 3 ≡ WriteFault 4 → A
-third_not_fourth A is = absurd (let never : ⊥ = cc in never)
-
-fourth_not_third : (A : Type 0) → WriteFault 4 ≡ WriteFault 3 → A
-fourth_not_third A is = third_not_fourth A (sym is)
+faults_apart : (A : Type 0) (one two : ℕ) → (one ≡ two → ⊥) → WriteFault one ≡ WriteFault two → A
+faults_apart A one two apart is = absurd (apart (let same : one ≡ two = cc in same))
 
 -- two writes, one after the other
 both : (one two three : Option Files) (P Q R : Files → Files → Type 0) → ((old mid new : Files) → P old mid → Q mid new → R old new) → IfSome one (λ old. IsSomeAnd two (P old)) →
@@ -41,21 +38,23 @@ pub returns-then-is_err : goal.returns-then-is_err
 returns-then-is_err g c =
     let is = sym c.is_err.ensures.value ∙ c.if-is_err.true in
     let cut = rw c.deref.ensures.value at c.write_all.ensures.err in
+    let first = c.args.first in
+    let second = c.args.second in
     record {
       only = inr (inl refl);
-      done = λ e. fault_not_done _ 3 e;
-      controller_cut = λ e. failed c.write_all.result _ is cut;
-      report_cut = λ e. third_not_fourth _ e;
-      third_failed = λ e. failed c.write_all.result _ is c.write_all.ensures.failed;
-      fourth_failed = λ e. third_not_fourth _ e;
+      done = λ e. fault_not_done _ first e;
+      first_cut = λ e. failed c.write_all.result _ is cut;
+      second_cut = λ e. faults_apart _ first second c.requires e;
+      first_failed = λ e. failed c.write_all.result _ is c.write_all.ensures.failed;
+      second_failed = λ e. faults_apart _ first second c.requires e;
       reads = c.write_all.ensures.reads;
       writes = c.write_all.ensures.writes;
     }
 
 pub returns-in-Ok : goal.returns-in-Ok
 returns-in-Ok g c =
-    let third = c.args.third.now in
-    let fourth = c.args.fourth.now in
+    let third = c.args.first_name.now in
+    let fourth = c.args.second_name.now in
     let text = c.args.texts.now.controller.items in
     let report = c.args.texts.now.report.items in
     let is = sym c.is_err.ensures.value ∙ c.if-is_err.false in
@@ -65,18 +64,18 @@ returns-in-Ok g c =
       only = inl refl;
       done = λ e. both _ (g.S.Store.held c.write_all.new.self) _ (λ old mid. IsWritten old mid third text) (λ mid new. IsWritten mid new fourth report)
           (λ old new. AreWritten old new third fourth text report) (λ old mid new p q. record { mid = mid; first = p; second = q }) first second;
-      controller_cut = λ e. done_no_fault _ 3 e;
-      report_cut = λ e. done_no_fault _ 4 e;
-      third_failed = λ e. done_no_fault _ 3 e;
-      fourth_failed = λ e. done_no_fault _ 4 e;
+      first_cut = λ e. done_no_fault _ c.args.first e;
+      second_cut = λ e. done_no_fault _ c.args.second e;
+      first_failed = λ e. done_no_fault _ c.args.first e;
+      second_failed = λ e. done_no_fault _ c.args.second e;
       reads = none_falls_twice _ (g.S.Store.read_faults c.write_all.new.self) _ c.write_all.ensures.reads c.write_all-2.ensures.reads;
       writes = none_falls_twice _ (g.S.Store.write_faults c.write_all.new.self) _ c.write_all.ensures.writes c.write_all-2.ensures.writes;
     }
 
 pub returns-in-Err : goal.returns-in-Err
 returns-in-Err g c =
-    let third = c.args.third.now in
-    let fourth = c.args.fourth.now in
+    let third = c.args.first_name.now in
+    let fourth = c.args.second_name.now in
     let text = c.args.texts.now.controller.items in
     let report = c.args.texts.now.report.items in
     let is = sym c.is_err.ensures.value ∙ c.if-is_err.false in
@@ -84,12 +83,12 @@ returns-in-Err g c =
     let second = rw c.deref-2.ensures.value at c.in-Err.ensures.err in
     record {
       only = inr (inr refl);
-      done = λ e. fault_not_done _ 4 e;
-      controller_cut = λ e. fourth_not_third _ e;
-      report_cut = λ e. both _ (g.S.Store.held c.write_all.new.self) _ (λ old mid. IsWritten old mid third text) (λ mid new. IsCutShort mid new fourth report)
+      done = λ e. fault_not_done _ c.args.second e;
+      first_cut = λ e. faults_apart _ c.args.first c.args.second c.requires (sym e);
+      second_cut = λ e. both _ (g.S.Store.held c.write_all.new.self) _ (λ old mid. IsWritten old mid third text) (λ mid new. IsCutShort mid new fourth report)
           (λ old new. IsSecondCut old new third fourth text report) (λ old mid new p q. record { mid = mid; first = p; second = q }) first second;
-      third_failed = λ e. fourth_not_third _ e;
-      fourth_failed = λ e. rose_later _ (g.S.Store.write_faults c.write_all.new.self fourth) _ (c.write_all.ensures.writes.each fourth) (c.write_all-2.ensures.writes.each fourth) c.in-Err.ensures.failed;
+      first_failed = λ e. faults_apart _ c.args.first c.args.second c.requires (sym e);
+      second_failed = λ e. rose_later _ (g.S.Store.write_faults c.write_all.new.self fourth) _ (c.write_all.ensures.writes.each fourth) (c.write_all-2.ensures.writes.each fourth) c.in-Err.ensures.failed;
       reads = none_falls_twice _ (g.S.Store.read_faults c.write_all.new.self) _ c.write_all.ensures.reads c.write_all-2.ensures.reads;
       writes = none_falls_twice _ (g.S.Store.write_faults c.write_all.new.self) _ c.write_all.ensures.writes c.write_all-2.ensures.writes;
     }

@@ -39,7 +39,7 @@ returns-in-Err g c =
     record {
       called = stop_called words held before now s ends c.args.turns;
       prints = stop_prints words held before now s ends c.args.turns (g.O.Sink.got c.args.out.now);
-      quiet = λ caused done leaving. refl;
+      quiet = λ done memory fault leaving. refl;
       read_fault = stop_fault words held before now s ends;
       write_fault = λ file is. absurd (no_write words held before now s ends file is);
       held = c.read_loops.ensures.held;

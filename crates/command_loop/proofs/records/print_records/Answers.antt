@@ -24,7 +24,7 @@ returns-in-Err-clause-ends g c =
     ends d n c.args.states.now c.args.turns c.loop-i.i c.in-Err.fault c.loop_status.result (got c.loop-i.out) (got c.run_loop.new.out) c.loop_status.ensures (omega arith) c.loop-i.invariant.stays
     (shows_for d c.loop-i.kernel.controller n (c.loop-i.i + 1) c.row.result.now (row_of c.args.states.now c.loop-i.i) c.args.turns (got c.loop-i.out) (got c.run_loop.new.out) (Err c.in-Err.fault) c.in-Err.fault
     c.loop-i.invariant.controller c.row.ensures.value refl c.in-Err.ensures.wide (λ w. ap got (c.in-Err.ensures.wide_put w)) c.in-Err.ensures.outside c.in-Err.ensures.outside_put c.in-Err.ensures.cut
-    c.in-Err.ensures.memory)
+    c.in-Err.ensures.memory c.in-Err.ensures.begun)
 
 pub returns-in-Err-clause-printed : goal.returns-in-Err-clause-printed
 returns-in-Err-clause-printed g c =
@@ -35,10 +35,10 @@ returns-in-Err-clause-printed g c =
     c.loop-i.invariant.stays c.loop-i.invariant.narrow c.loop-i.invariant.got
     (shows_for d c.loop-i.kernel.controller n (c.loop-i.i + 1) c.row.result.now (row_of c.args.states.now c.loop-i.i) c.args.turns (got c.loop-i.out) (got c.run_loop.new.out) (Err c.in-Err.fault) c.in-Err.fault
     c.loop-i.invariant.controller c.row.ensures.value refl c.in-Err.ensures.wide (λ w. ap got (c.in-Err.ensures.wide_put w)) c.in-Err.ensures.outside c.in-Err.ensures.outside_put c.in-Err.ensures.cut
-    c.in-Err.ensures.memory)
+    c.in-Err.ensures.memory c.in-Err.ensures.begun)
 
 pub returns-in-Err-clause-quiet : goal.returns-in-Err-clause-quiet
-returns-in-Err-clause-quiet g c = λ caused not_done leaving.
+returns-in-Err-clause-quiet g c = λ done memory fault leaving.
     let d = design_of c.args.design.now in
     let n = c.args.kernel.now.controller in
     let got = g.O.Sink.got in
@@ -46,7 +46,7 @@ returns-in-Err-clause-quiet g c = λ caused not_done leaving.
     c.loop-i.invariant.narrow c.loop-i.invariant.first (rw c.loop-i.invariant.controller at c.in-Err.ensures.wide_put)
     (shows_for d c.loop-i.kernel.controller n (c.loop-i.i + 1) c.row.result.now (row_of c.args.states.now c.loop-i.i) c.args.turns (got c.loop-i.out) (got c.run_loop.new.out) (Err c.in-Err.fault) c.in-Err.fault
     c.loop-i.invariant.controller c.row.ensures.value refl c.in-Err.ensures.wide (λ w. ap got (c.in-Err.ensures.wide_put w)) c.in-Err.ensures.outside c.in-Err.ensures.outside_put c.in-Err.ensures.cut
-    c.in-Err.ensures.memory) caused leaving
+    c.in-Err.ensures.memory c.in-Err.ensures.begun) memory fault leaving
 
 pub loop-i-preserved : goal.loop-i-preserved
 loop-i-preserved g c =

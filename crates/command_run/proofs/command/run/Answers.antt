@@ -1,11 +1,15 @@
-use Rattle.std.proofs.Common.{inl, inr, refl, le_refl, rules}
-use Rattle.io_edge.specs.Faults.{Rose}
-use Rattle.command_line.specs.Words.{word_of, IsGenerate, IsSolve, IsLoop, IsDemo}
+use Rattle.std.proofs.Common.{◌≡◌, inl, refl, le_refl}
+use Rattle.command_line.specs.Words.{IsGenerate, IsSolve, IsLoop, IsDemo}
 use Rattle.command_line.specs.Commands.{IsUsage}
-use Rattle.command_run.proofs.Arguments.{generate_solve, generate_loop, generate_demo}
-use Rattle.command_run.proofs.Commands.{usage_called, generate_called, solve_called, loop_called, demo_called, generate_read, solve_read, loop_read, generate_written, solve_written, loop_written, demo_written, usage_printed, generate_printed, solve_printed, loop_printed, demo_printed, generate_kept, generate_used, solve_used, loop_used, printing_quiet, no_third, no_fourth, usage_not_done, usage_no_read, usage_no_write, same_counts}
-use Rattle.command_run.proofs.Statuses.{is_usage, no_text_memory, no_controller_memory}
-use Rattle.command_run.proofs.Completeness.{complete}
+use Rattle.command_line.proofs.OneCommand.{one_command}
+use Rattle.command_line.specs.declared.words.Command.TheVariants.{Generate, Solve, Loop, Demo}
+use Rattle.command_generate.specs.Deeds.{generate_deeds}
+use Rattle.command_solve.specs.Deeds.{solve_deeds}
+use Rattle.command_loop.specs.Deeds.{loop_deeds}
+use Rattle.command_demo.specs.Demo.{DemoPrints}
+use Rattle.command_demo.specs.Deeds.{demo_deeds}
+use Rattle.command_run.proofs.Commands.{each_called, each_shown, each_quiet, each_leaves, each_held, each_unused, each_read, each_failed, each_completes, shown_anyhow, shown_nothing, printing_quiet, writing_held, print_failed, write_failed, demo_called, demo_read, demo_failed, usage_not_done, same_counts}
+use Rattle.command_run.proofs.Statuses.{no_usage, no_text_memory, no_controller_memory}
 use Rattle.command_run.proofs.command.run.Goals as goal
 
 -- ---- `generate`
@@ -18,25 +22,26 @@ returns-in-Some-Generate g c =
     let writes = g.S.Store.write_faults c.args.store.now in
     let writes_now = g.S.Store.write_faults c.generate.new.store in
     let printed = g.O.Sink.faults c.args.out.now in
-    let printed_now = g.O.Sink.faults c.args.out.now in
+    let s = c.generate.result in
     let is : IsGenerate words = rw c.in-Some-Generate.field-0-is at c.in-Some-Generate.ensures in
-    let called = generate_called words held c.generate.result is c.generate.ensures.called in
-    let read = generate_read words held c.generate.result (λ file. Rose (reads (word_of words file)) (reads_now (word_of words file))) is c.generate.ensures.read_fault in
-    let written = generate_written words held c.generate.result writes writes_now printed printed_now is c.generate.ensures.write_fault in
+    let called = c.generate.ensures.called in
+    let read = c.generate.ensures.read_fault in
+    let failed = write_failed generate_deeds words held s writes writes_now printed printed c.generate.ensures.write_fault in
     record {
       generated = λ a. c.generate.ensures.generated;
-      called = called;
-      complete = complete words held c.generate.result reads reads_now writes writes_now printed printed_now called read (λ file fault. (written file fault).1);
-      usage = (is_usage words held c.generate.result called, λ u. absurd (u.generate is));
-      no_inner_memory = λ file. (no_text_memory words held c.generate.result called file, no_controller_memory words held c.generate.result called file);
-      prints = generate_printed words held c.generate.result is (g.O.Sink.got c.args.out.now);
-      quiet = λ a. refl;
-      controller_cut = c.generate.ensures.controller_cut;
-      report_cut = c.generate.ensures.report_cut;
-      held = generate_kept words c.generate.result _ is c.generate.ensures.held;
-      unused = λ a. absurd (generate_used words is a);
-      read_fault = read;
-      write_fault = written;
+      usage = (λ e. absurd (no_usage Generate words held s called e), λ u. absurd (u Generate is));
+      unused = λ u. absurd (u Generate is);
+      called = each_called words Generate is held s called;
+      no_inner_memory = λ file. (no_text_memory Generate words held s called file, no_controller_memory Generate words held s called file);
+      complete = each_completes words Generate is held s reads reads_now writes writes_now printed printed called read failed;
+      prints = each_shown words Generate is held s (g.O.Sink.got c.args.out.now) (g.O.Sink.got c.args.out.now) (shown_nothing words held (g.O.Sink.got c.args.out.now));
+      quiet = λ d that unprinted. refl;
+      leaves = each_leaves words Generate is held s (g.S.Store.held c.generate.new.store)
+          (record { generated = c.generate.ensures.generated; controller_cut = c.generate.ensures.controller_cut; report_cut = c.generate.ensures.report_cut });
+      held = each_held words Generate is held s _ (writing_held generate_deeds s _ 3 (inl refl) c.generate.ensures.held);
+      no_file = each_unused words Generate is held s _ (λ uses. absurd (uses.reads 1 (inl refl)));
+      read_fault = each_read words Generate is held s reads reads_now read;
+      write_fault = each_failed words Generate is held s writes writes_now printed printed failed;
       reads = c.generate.ensures.reads;
       writes = c.generate.ensures.writes;
       no_fewer = le_refl printed;
@@ -53,24 +58,25 @@ returns-in-Some-Solve g c =
     let writes_now = g.S.Store.write_faults c.solve.new.store in
     let printed = g.O.Sink.faults c.args.out.now in
     let printed_now = g.O.Sink.faults c.solve.new.out in
+    let s = c.solve.result in
     let is : IsSolve words = rw c.in-Some-Solve.field-0-is at c.in-Some-Solve.ensures in
-    let called = solve_called words held c.solve.result is c.solve.ensures.called in
-    let read = solve_read words held c.solve.result (λ file. Rose (reads (word_of words file)) (reads_now (word_of words file))) is c.solve.ensures.read_fault in
-    let written = solve_written words held c.solve.result writes writes_now printed printed_now is c.solve.ensures.write_fault in
+    let called = c.solve.ensures.called in
+    let read = c.solve.ensures.read_fault in
+    let failed = print_failed solve_deeds words held s writes writes_now printed printed_now tt c.solve.ensures.write_fault in
     record {
-      generated = λ a done. absurd (generate_solve words a is);
-      called = called;
-      complete = complete words held c.solve.result reads reads_now writes writes_now printed printed_now called read (λ file fault. (written file fault).1);
-      usage = (is_usage words held c.solve.result called, λ u. absurd (u.solve is));
-      no_inner_memory = λ file. (no_text_memory words held c.solve.result called file, no_controller_memory words held c.solve.result called file);
-      prints = solve_printed words held c.solve.result is (g.O.Sink.got c.args.out.now) (g.O.Sink.got c.solve.new.out) c.solve.ensures.prints;
-      quiet = printing_quiet words c.solve.result _ (inl is) (λ caused done leaving. c.solve.ensures.quiet caused done);
-      controller_cut = λ e. no_third _ (c.solve.ensures.write_fault 3 e).0;
-      report_cut = λ e. no_fourth _ (c.solve.ensures.write_fault 4 e).0;
-      held = λ a. c.solve.ensures.held;
-      unused = λ a. absurd (solve_used words is a);
-      read_fault = read;
-      write_fault = written;
+      generated = λ a done. absurd (let never : Generate ≡ Solve = one_command words Generate Solve a is in cc);
+      usage = (λ e. absurd (no_usage Solve words held s called e), λ u. absurd (u Solve is));
+      unused = λ u. absurd (u Solve is);
+      called = each_called words Solve is held s called;
+      no_inner_memory = λ file. (no_text_memory Solve words held s called file, no_controller_memory Solve words held s called file);
+      complete = each_completes words Solve is held s reads reads_now writes writes_now printed printed_now called read failed;
+      prints = each_shown words Solve is held s (g.O.Sink.got c.args.out.now) (g.O.Sink.got c.solve.new.out) c.solve.ensures.prints;
+      quiet = each_quiet words Solve is held s _ (printing_quiet solve_deeds s _ tt (λ done memory fault silent. c.solve.ensures.quiet done memory fault));
+      leaves = each_leaves words Solve is held s (g.S.Store.held c.solve.new.store) c.solve.ensures.held;
+      held = λ d that unwritten. c.solve.ensures.held;
+      no_file = each_unused words Solve is held s _ (λ uses. absurd (uses.reads 1 (inl refl)));
+      read_fault = each_read words Solve is held s reads reads_now read;
+      write_fault = each_failed words Solve is held s writes writes_now printed printed_now failed;
       reads = c.solve.ensures.reads;
       writes = c.solve.ensures.writes;
       no_fewer = c.solve.ensures.no_fewer;
@@ -87,24 +93,26 @@ returns-in-Some-Loop g c =
     let writes_now = g.S.Store.write_faults c.run_loops.new.store in
     let printed = g.O.Sink.faults c.args.out.now in
     let printed_now = g.O.Sink.faults c.run_loops.new.out in
-    let is : IsLoop words c.in-Some-Loop.turns = rw c.in-Some-Loop.field-0-is at c.in-Some-Loop.ensures in
-    let called = loop_called words held c.run_loops.result c.in-Some-Loop.turns is c.run_loops.ensures.called in
-    let read = loop_read words held c.run_loops.result (λ file. Rose (reads (word_of words file)) (reads_now (word_of words file))) c.in-Some-Loop.turns is c.run_loops.ensures.read_fault in
-    let written = loop_written words held c.run_loops.result writes writes_now printed printed_now c.in-Some-Loop.turns is c.run_loops.ensures.write_fault in
+    let s = c.run_loops.result in
+    let turns = c.in-Some-Loop.turns in
+    let is : IsLoop words turns = rw c.in-Some-Loop.field-0-is at c.in-Some-Loop.ensures in
+    let called = c.run_loops.ensures.called in
+    let read = c.run_loops.ensures.read_fault in
+    let failed = print_failed (loop_deeds turns) words held s writes writes_now printed printed_now tt c.run_loops.ensures.write_fault in
     record {
-      generated = λ a done. absurd (generate_loop words c.in-Some-Loop.turns a is);
-      called = called;
-      complete = complete words held c.run_loops.result reads reads_now writes writes_now printed printed_now called read (λ file fault. (written file fault).1);
-      usage = (is_usage words held c.run_loops.result called, λ u. absurd (u.loop c.in-Some-Loop.turns is));
-      no_inner_memory = λ file. (no_text_memory words held c.run_loops.result called file, no_controller_memory words held c.run_loops.result called file);
-      prints = loop_printed words held c.run_loops.result c.in-Some-Loop.turns is (g.O.Sink.got c.args.out.now) (g.O.Sink.got c.run_loops.new.out) c.run_loops.ensures.prints;
-      quiet = printing_quiet words c.run_loops.result _ (inr (inl (c.in-Some-Loop.turns, is))) c.run_loops.ensures.quiet;
-      controller_cut = λ e. no_third _ (c.run_loops.ensures.write_fault 3 e).0;
-      report_cut = λ e. no_fourth _ (c.run_loops.ensures.write_fault 4 e).0;
-      held = λ a. c.run_loops.ensures.held;
-      unused = λ a. absurd (loop_used words c.in-Some-Loop.turns is a);
-      read_fault = read;
-      write_fault = written;
+      generated = λ a done. absurd (let never : Generate ≡ Loop turns = one_command words Generate (Loop turns) a is in cc);
+      usage = (λ e. absurd (no_usage (Loop turns) words held s called e), λ u. absurd (u (Loop turns) is));
+      unused = λ u. absurd (u (Loop turns) is);
+      called = each_called words (Loop turns) is held s called;
+      no_inner_memory = λ file. (no_text_memory (Loop turns) words held s called file, no_controller_memory (Loop turns) words held s called file);
+      complete = each_completes words (Loop turns) is held s reads reads_now writes writes_now printed printed_now called read failed;
+      prints = each_shown words (Loop turns) is held s (g.O.Sink.got c.args.out.now) (g.O.Sink.got c.run_loops.new.out) c.run_loops.ensures.prints;
+      quiet = each_quiet words (Loop turns) is held s _ (printing_quiet (loop_deeds turns) s _ tt c.run_loops.ensures.quiet);
+      leaves = each_leaves words (Loop turns) is held s (g.S.Store.held c.run_loops.new.store) c.run_loops.ensures.held;
+      held = λ d that unwritten. c.run_loops.ensures.held;
+      no_file = each_unused words (Loop turns) is held s _ (λ uses. absurd (uses.reads 1 (inl refl)));
+      read_fault = each_read words (Loop turns) is held s reads reads_now read;
+      write_fault = each_failed words (Loop turns) is held s writes writes_now printed printed_now failed;
       reads = c.run_loops.ensures.reads;
       writes = c.run_loops.ensures.writes;
       no_fewer = c.run_loops.ensures.no_fewer;
@@ -116,28 +124,31 @@ returns-in-Some-Demo g c =
     let words = c.args.words.now in
     let held = g.S.Store.held c.args.store.now in
     let reads = g.S.Store.read_faults c.args.store.now in
-    let reads_now = g.S.Store.read_faults c.args.store.now in
     let writes = g.S.Store.write_faults c.args.store.now in
-    let writes_now = g.S.Store.write_faults c.args.store.now in
     let printed = g.O.Sink.faults c.args.out.now in
     let printed_now = g.O.Sink.faults c.demo.new.out in
-    let is : IsDemo words c.in-Some-Demo.number = rw c.in-Some-Demo.field-0-is at c.in-Some-Demo.ensures in
-    let called = demo_called words held c.demo.result c.in-Some-Demo.number is c.demo.ensures.called in
-    let written = demo_written words held c.demo.result writes writes_now printed printed_now c.in-Some-Demo.number is c.demo.ensures.write_fault in
+    let got = g.O.Sink.got c.args.out.now in
+    let got_now = g.O.Sink.got c.demo.new.out in
+    let s = c.demo.result in
+    let number = c.in-Some-Demo.number in
+    let is : IsDemo words number = rw c.in-Some-Demo.field-0-is at c.in-Some-Demo.ensures in
+    let called = demo_called words held number s c.demo.ensures.called in
+    let read = demo_read words held number s reads reads c.demo.ensures.no_read in
+    let failed = print_failed (demo_deeds number) words held s writes writes printed printed_now tt (demo_failed words held number s _ c.demo.ensures.write_fault) in
     record {
-      generated = λ a done. absurd (generate_demo words c.in-Some-Demo.number a is);
-      called = called;
-      complete = complete words held c.demo.result reads reads_now writes writes_now printed printed_now called (λ file fault. absurd (c.demo.ensures.no_read file fault)) (λ file fault. (written file fault).1);
-      usage = (is_usage words held c.demo.result called, λ u. absurd (u.demo c.in-Some-Demo.number is));
-      no_inner_memory = λ file. (no_text_memory words held c.demo.result called file, no_controller_memory words held c.demo.result called file);
-      prints = demo_printed words held c.demo.result c.in-Some-Demo.number is (g.O.Sink.got c.args.out.now) (g.O.Sink.got c.demo.new.out) c.demo.ensures.prints;
-      quiet = printing_quiet words c.demo.result _ (inr (inr (c.in-Some-Demo.number, is))) (λ caused done leaving. c.demo.ensures.quiet caused done);
-      controller_cut = λ e. no_third _ (c.demo.ensures.write_fault 3 e).0;
-      report_cut = λ e. no_fourth _ (c.demo.ensures.write_fault 4 e).0;
-      held = λ a. refl;
-      unused = λ a. refl;
-      read_fault = λ file fault. absurd (c.demo.ensures.no_read file fault);
-      write_fault = written;
+      generated = λ a done. absurd (let never : Generate ≡ Demo number = one_command words Generate (Demo number) a is in cc);
+      usage = (λ e. absurd (no_usage (Demo number) words held s called e), λ u. absurd (u (Demo number) is));
+      unused = λ u. absurd (u (Demo number) is);
+      called = each_called words (Demo number) is held s called;
+      no_inner_memory = λ file. (no_text_memory (Demo number) words held s called file, no_controller_memory (Demo number) words held s called file);
+      complete = each_completes words (Demo number) is held s reads reads writes writes printed printed_now called read failed;
+      prints = each_shown words (Demo number) is held s got got_now (shown_anyhow words held got got_now (DemoPrints number s) c.demo.ensures.prints);
+      quiet = each_quiet words (Demo number) is held s _ (printing_quiet (demo_deeds number) s _ tt (λ done memory fault silent. c.demo.ensures.quiet done memory fault));
+      leaves = each_leaves words (Demo number) is held s held refl;
+      held = λ d that unwritten. refl;
+      no_file = λ d that uses. refl;
+      read_fault = each_read words (Demo number) is held s reads reads read;
+      write_fault = each_failed words (Demo number) is held s writes writes printed printed_now failed;
       reads = same_counts reads;
       writes = same_counts writes;
       no_fewer = c.demo.ensures.no_fewer;
@@ -147,27 +158,22 @@ returns-in-Some-Demo g c =
 pub returns-in-None : goal.returns-in-None
 returns-in-None g c =
     let words = c.args.words.now in
-    let held = g.S.Store.held c.args.store.now in
-    let reads = g.S.Store.read_faults c.args.store.now in
-    let writes = g.S.Store.write_faults c.args.store.now in
-    let printed = g.O.Sink.faults c.args.out.now in
-    let is : IsUsage words = search rules in
-    let called = usage_called words held _ is refl in
+    let is : IsUsage words = c.in-None.ensures in
     record {
       generated = λ a done. usage_not_done _ done;
-      called = called;
-      complete = complete words held _ reads reads writes writes printed printed called (λ file e. usage_no_read _ file e) (λ file e. usage_no_write _ file e);
       usage = (λ e. is, λ u. refl);
+      unused = λ u. (refl, refl);
+      called = λ d that. absurd (is d that);
       no_inner_memory = λ file. (λ e. cc, λ e. cc);
-      prints = usage_printed words held _ is (g.O.Sink.got c.args.out.now);
-      quiet = λ a. refl;
-      controller_cut = λ e. usage_no_write _ 3 e;
-      report_cut = λ e. usage_no_write _ 4 e;
-      held = λ a. refl;
-      unused = λ a. refl;
-      read_fault = λ file e. usage_no_read _ file e;
-      write_fault = λ file e. usage_no_write _ file e;
-      reads = same_counts reads;
-      writes = same_counts writes;
-      no_fewer = le_refl printed;
+      complete = λ d that. absurd (is d that);
+      prints = λ d that. absurd (is d that);
+      quiet = λ d that. absurd (is d that);
+      leaves = λ d that. absurd (is d that);
+      held = λ d that. absurd (is d that);
+      no_file = λ d that. absurd (is d that);
+      read_fault = λ d that. absurd (is d that);
+      write_fault = λ d that. absurd (is d that);
+      reads = same_counts (g.S.Store.read_faults c.args.store.now);
+      writes = same_counts (g.S.Store.write_faults c.args.store.now);
+      no_fewer = le_refl (g.O.Sink.faults c.args.out.now);
     }

@@ -16,7 +16,7 @@ returns-in-Err g c =
     record {
       called = first_called words held (before (word_of words 1)) (now (word_of words 1)) s ends;
       prints = first_prints words held (before (word_of words 1)) (now (word_of words 1)) s ends (g.O.Sink.got c.args.out.now);
-      quiet = λ caused done. refl;
+      quiet = λ done memory fault. refl;
       read_fault = first_fault words held before now s ends;
       write_fault = λ file is. absurd (first_no_write words held (before (word_of words 1)) (now (word_of words 1)) s ends file is);
       held = c.read_controller_file.ensures.held;

@@ -40,7 +40,7 @@ returns-in-Err g c =
     record {
       called = second_called words held n c.requires.right (before (word_of words 2)) (now (word_of words 2)) s ends;
       prints = second_prints words held n c.requires.right (before (word_of words 2)) (now (word_of words 2)) s ends (g.O.Sink.got c.args.out.now);
-      quiet = λ caused done. refl;
+      quiet = λ done memory fault. refl;
       read_fault = second_fault words held n c.requires.right before now s ends;
       write_fault = λ file is. absurd (second_no_write words held n c.requires.right (before (word_of words 2)) (now (word_of words 2)) s ends file is);
       held = c.read_states_file.ensures.held;

@@ -1,13 +1,14 @@
-use Rattle.std.proofs.Common.{◌≡◌, ◌≢◌, ◌⊎◌, inl, inr, List, ℕ, length, Option, Some, None, refl, le_refl, subst, ap, ◌∙◌}
+use Rattle.std.proofs.Common.{◌≡◌, ◌≢◌, ◌⊎◌, inl, inr, List, ℕ, ◌<◌, length, Option, Some, None, refl, le_refl, subst, ap, ◌∙◌}
 use Rattle.std.specs.Prelude.{IfSome, IsSomeAnd}
 use Rattle.mat_int.specs.Matrix.{Matrix}
 use Rattle.fixed_kernel.specs.Progress.{Progress}
 use Rattle.qp_model.specs.machine.Controller.{Numbers}
-use Rattle.command_line.specs.Answers.{IsCaused}
 use Rattle.command_line.specs.declared.status.Status.{Status}
 use Rattle.command_line.specs.declared.status.Status.TheVariants.{Done, Memory, WriteFault}
-use Rattle.command_solve.specs.Inside.{AreInside, IsOutside}
-use Rattle.command_solve.specs.Printing.{ArePrinted, RunsEnd, RunsPrint}
+use Rattle.plan_lines.specs.Inside.{AreInside}
+use Rattle.command_solve.specs.Inside.{IsOutside}
+use Rattle.plan_lines.specs.Printing.{ArePrinted}
+use Rattle.command_solve.specs.Printing.{RunsEnd, RunsPrint}
 use Rattle.command_solve.proofs.runs.print_runs.Goals as goal
 
 -- ---- nothing is printed
@@ -22,15 +23,13 @@ outside_no_fault : (n : Numbers) (m : Matrix) (s : Status) → IsOutside n m s �
 outside_no_fault n m s out is = let told = out.is in cc
 
 -- ---- the lines are printed
-module _ (n : Numbers) (m : Matrix) (s : Status) (inside : AreInside n m (length m.rows)) (only : (s ≡ Memory) ⊎ ((s ≡ Done) ⊎ (s ≡ WriteFault 0))) where
+module _ (n : Numbers) (m : Matrix) (s : Status) (inside : AreInside n m (length m.rows)) (only : (s ≡ Memory) ⊎ ((s ≡ Done) ⊎ (s ≡ WriteFault 0)))
+    (some : s ≡ WriteFault 0 → 0 < length m.rows) where
   lines_end : RunsEnd n m s
-  lines_end = elim only [ inl memory ↦ inl memory | inr rest ↦ elim rest [ inl done ↦ inr (inr (inr (done, inside))) | inr fault ↦ inr (inl (fault, inside)) ] ]
+  lines_end = elim only [ inl memory ↦ inl memory | inr rest ↦ elim rest [ inl done ↦ inr (inr (inr (done, inside))) | inr fault ↦ inr (inl (fault, inside, some fault)) ] ]
 
   one_of_them : (A : Type 0) → s ≢ Done → s ≢ WriteFault 0 → s ≢ Memory → A
   one_of_them A done fault memory = elim only [ inl is ↦ absurd (memory is) | inr rest ↦ elim rest [ inl is ↦ absurd (done is) | inr is ↦ absurd (fault is) ] ]
-
-  lines_quiet : (A : Type 0) → IsCaused s → s ≢ Done → A
-  lines_quiet A caused done = one_of_them A done (λ is. caused.write 0 is) caused.memory
 
   lines_print : (first last : Option (List ℕ)) → IfSome first (λ old. IsSomeAnd last (ArePrinted n m s old)) → IfSome first (λ old. IsSomeAnd last (λ new. RunsPrint n m s old new))
   lines_print (Some old) (Some new) p = record { done = p.done; fault = p.fault; memory = λ is. inr (inside, p.memory is); other = λ a b d. one_of_them _ a b d }
@@ -41,7 +40,7 @@ pub returns-in_default : goal.returns-in_default
 returns-in_default g c = record {
   ends = inl refl;
   printed = silent c.args.controller.now c.args.states.now Memory (g.O.Sink.got c.args.out.now) (λ is. cc) (λ is. cc);
-  quiet = λ caused done. refl;
+  quiet = λ done memory fault. refl;
   failed = λ is. absurd (let never : ⊥ = cc in never);
   no_fewer = le_refl (g.O.Sink.faults c.args.out.now);
 }
@@ -55,11 +54,12 @@ returns-in-Ok-all_inside g c =
     let same = c.all_inside.ensures.controller ∙ prepared in
     let inside = subst (λ (k : Numbers). AreInside k m (length m.rows)) prepared c.in-Ok-all_inside.ensures.inside in
     let only = c.print_lines.ensures.only in
+    let some = c.print_lines.ensures.some in
     record {
-      ends = lines_end n m s inside only;
-      printed = lines_print n m s inside only (g.O.Sink.got c.args.out.now) (g.O.Sink.got c.print_lines.new.out)
+      ends = lines_end n m s inside only some;
+      printed = lines_print n m s inside only some (g.O.Sink.got c.args.out.now) (g.O.Sink.got c.print_lines.new.out)
           (subst (λ (k : Numbers). IfSome (g.O.Sink.got c.args.out.now) (λ old. IsSomeAnd (g.O.Sink.got c.print_lines.new.out) (ArePrinted k m s old))) same c.print_lines.ensures.printed);
-      quiet = λ caused done. lines_quiet n m s inside only _ caused done;
+      quiet = λ done memory fault. one_of_them n m s inside only some _ done fault memory;
       failed = c.print_lines.ensures.failed;
       no_fewer = c.print_lines.ensures.no_fewer;
     }
@@ -74,7 +74,7 @@ returns g c =
     record {
       ends = inr (inr (inl outside));
       printed = silent n m s (g.O.Sink.got c.args.out.now) (outside_not_done n m s outside) (outside_no_fault n m s outside);
-      quiet = λ caused done. refl;
+      quiet = λ done memory fault. refl;
       failed = λ is. absurd (outside_no_fault n m s outside is);
       no_fewer = le_refl (g.O.Sink.faults c.args.out.now);
     }

@@ -1,6 +1,6 @@
 use Rattle.std.proofs.Common.{◌≡◌}
-use Rattle.command_solve.specs.Inside.{AreInside}
-use Rattle.command_solve.proofs.lines.all_inside.Given as goal
+use Rattle.plan_lines.specs.Inside.{AreInside}
+use Rattle.command_solve.proofs.inside.all_inside.Given as goal
 
 abbrev pub invariant-loop-i : goal.invariant-loop-i
 invariant-loop-i l = record {

@@ -1,6 +1,6 @@
 use Rattle.std.proofs.Common.{◌≡◌, ◌≤◌, ◌++◌, option_map}
-use Rattle.command_solve.specs.Lines.{plan_lines}
-use Rattle.command_solve.proofs.lines.print_lines.Given as goal
+use Rattle.plan_lines.specs.Lines.{plan_lines}
+use Rattle.plan_lines.proofs.lines.print_lines.Given as goal
 
 abbrev pub invariant-loop-i : goal.invariant-loop-i
 invariant-loop-i g l = record {

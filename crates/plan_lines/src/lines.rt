@@ -1,10 +1,10 @@
 // The lines of averaged plans.
-ghost use Rattle.std.specs.Prelude.{◌≡◌, ◌⊎◌, ◌≤◌, ◌<◌, ◌^◌, length, IfOk, IfErr, IfSome, IsSomeAnd, OnOk};
+ghost use Rattle.std.specs.Prelude.{◌≡◌, ◌⊎◌, ◌≤◌, ◌<◌, length, IfOk, IfSome, IsSomeAnd};
 ghost use Rattle.io_edge.specs.Faults.{Rose};
 ghost use Rattle.qp_model.specs.machine.Machine.{IsAdmissible};
 ghost use Rattle.qp_model.specs.text.ControllerText.{plan_line};
-ghost use Rattle.command_solve.specs.Inside.{AreInside, IsOutside};
-ghost use Rattle.command_solve.specs.Printing.{ArePrinted};
+ghost use Rattle.plan_lines.specs.Inside.{AreInside};
+ghost use Rattle.plan_lines.specs.Printing.{ArePrinted};
 
 use command_line::Status;
 use fixed_kernel::Kernel;
@@ -12,26 +12,6 @@ use io_edge::Sink;
 use mat_int::Mat;
 use primal_average::plan_line;
 use std::alloc::{AllocError, Global};
-
-// Nothing where each state lies in the box, and else the status that tells of the first that doesn't.
-pub fn all_inside(kernel: &mut Kernel, states: &Mat) -> Result<(), Status>
-    requires width { states.now.cols ≡ kernel.old.controller.states }
-    requires count { length states.now.rows < 2 ^ 32 }
-    ensures inside { OnOk result (AreInside kernel.old.controller states.now (length states.now.rows)) }
-    ensures outside { IfErr result (IsOutside kernel.old.controller states.now) }
-    ensures controller { kernel.new.controller ≡ kernel.old.controller }
-{
-    for i in 0..states.rows() {
-        if let Err(outside) = kernel.load(states.row(i)) {
-            return Err(Status::OutsideBox {
-                entry: i as u32 + 1,
-                turn: 0,
-                coordinate: outside.coordinate,
-            });
-        }
-    }
-    Ok(())
-}
 
 // The line of the averaged plan from a state of the box.
 fn line_from(alloc: Global, kernel: &mut Kernel, state: &[i128]) -> Result<Vec<u8>, AllocError>
@@ -50,6 +30,7 @@ pub fn print_lines<O: Sink>(alloc: Global, kernel: &mut Kernel, states: &Mat, ou
     requires { AreInside kernel.old.controller states.now (length states.now.rows) }
     ensures only { (result ≡ Status.Memory) ⊎ ((result ≡ Status.Done) ⊎ (result ≡ Status.WriteFault 0)) }
     ensures printed { IfSome (O.got out.old) (λ old. IsSomeAnd (O.got out.new) (ArePrinted kernel.old.controller states.now result old)) }
+    ensures some { result ≡ Status.WriteFault 0 → 0 < length states.now.rows }
     ensures failed { result ≡ Status.WriteFault 0 → Rose (O.faults out.old) (O.faults out.new) }
     ensures no_fewer { O.faults out.old ≤ O.faults out.new }
 {

@@ -12,8 +12,8 @@ use Rattle.qp_model.specs.machine.Controller.{Numbers}
 use Rattle.number_text.specs.Lines.{spaced}
 use Rattle.qp_model.specs.machine.Machine.{average_denominator, averaged_plan}
 use Rattle.qp_model.specs.text.ControllerText.{plan_line}
-use Rattle.command_solve.specs.Lines.{plan_lines}
-use Rattle.command_solve.specs.Printing.{ArePrinted}
+use Rattle.plan_lines.specs.Lines.{plan_lines}
+use Rattle.plan_lines.specs.Printing.{ArePrinted}
 use Rattle.command_line.specs.declared.status.Status.TheVariants.{WriteFault}
 
 -- all pieces are those before one, that one and those after it

@@ -1,7 +1,7 @@
 use Rattle.std.proofs.Common.{arith, sym, ◌∙◌}
 use Rattle.mat_int.specs.Matrix.{row_of}
-use Rattle.command_solve.proofs.PlanLines.{line_is, print_cut}
-use Rattle.command_solve.proofs.lines.print_lines.Goals as goal
+use Rattle.plan_lines.proofs.PlanLines.{line_is, print_cut}
+use Rattle.plan_lines.proofs.lines.print_lines.Goals as goal
 
 pub returns-then-is_err-clause-printed : goal.returns-then-is_err-clause-printed
 returns-then-is_err-clause-printed g c =

@@ -1,0 +1,88 @@
+-- The arguments are those of one command at most, with one number. The first two letters of a command's name tell it.
+use Rattle.std.proofs.Common.{◌≡◌, ℕ, ◌+◌, ◌*◌, ◌^◌, ◌<◌, pos, List, [], ◌∷◌, refl, ap, sym, ◌∙◌, subst, arith}
+use Rattle.std.specs.Prelude.{codes, nat_eq, if◌then◌else◌}
+use Rattle.std.proofs.lemmas.Fmt.{signed_decimal_injective}
+use Rattle.command_line.specs.Words.{word_of, IsCount}
+use Rattle.command_line.specs.Commands.{AreOf}
+use Rattle.command_line.specs.declared.words.Command.{Command}
+use Rattle.command_line.specs.declared.words.Command.TheVariants as commands
+
+-- ---- a command is one of a kind with its number
+data Kind : Type 0 where
+  making : Kind
+  solving : Kind
+  looping : Kind
+  showing : Kind
+
+abbrev kind : Command → Kind
+kind commands.Generate = making
+kind commands.Solve = solving
+kind (commands.Loop turns) = looping
+kind (commands.Demo number) = showing
+
+abbrev count_in : Command → ℕ
+count_in (commands.Loop turns) = turns
+count_in (commands.Demo number) = number
+count_in command = 0
+
+abbrev of_kind : Kind → ℕ → Command
+of_kind making n = commands.Generate
+of_kind solving n = commands.Solve
+of_kind looping n = commands.Loop n
+of_kind showing n = commands.Demo n
+
+rebuilt : (command : Command) → of_kind (kind command) (count_in command) ≡ command
+rebuilt commands.Generate = refl
+rebuilt commands.Solve = refl
+rebuilt (commands.Loop turns) = refl
+rebuilt (commands.Demo number) = refl
+
+-- ---- the name tells the kind
+abbrev mark : List ℕ → ℕ
+mark (one ∷ two ∷ rest) = 256 * one + two
+mark letters = 0
+
+abbrev kind_marked : ℕ → Kind
+kind_marked m =
+    if nat_eq m (mark (codes "generate")) then making else (if nat_eq m (mark (codes "solve")) then solving else (if nat_eq m (mark (codes "loop")) then looping else showing))
+
+named : (command : Command) (words : List (List ℕ)) → AreOf command words → kind_marked (mark (word_of words 0)) ≡ kind command
+named commands.Generate words is = ap (λ (name : List ℕ). kind_marked (mark name)) is.command
+named commands.Solve words is = ap (λ (name : List ℕ). kind_marked (mark name)) is.command
+named (commands.Loop turns) words is = ap (λ (name : List ℕ). kind_marked (mark name)) is.command
+named (commands.Demo number) words is = ap (λ (name : List ℕ). kind_marked (mark name)) is.command
+
+-- ---- a word tells the number
+abbrev IsNumber : Kind → List (List ℕ) → ℕ → Type 0
+IsNumber looping words n = IsCount 1000000 (word_of words 4) n
+IsNumber showing words n = IsCount 4294967295 (word_of words 1) n
+IsNumber other words n = n ≡ 0
+
+counted : (command : Command) (words : List (List ℕ)) → AreOf command words → IsNumber (kind command) words (count_in command)
+counted commands.Generate words is = refl
+counted commands.Solve words is = refl
+counted (commands.Loop turns) words is = is.last
+counted (commands.Demo number) words is = is.last
+
+one_count : (most : ℕ) (word : List ℕ) (a b : ℕ) → most < 2 ^ 63 → IsCount most word a → IsCount most word b → a ≡ b
+one_count most word a b small x y =
+    let same : pos a ≡ pos b = signed_decimal_injective (pos a) (pos b) (omega (arith, x.limit, small)) (omega (arith, y.limit, small)) (sym x.digits ∙ y.digits) in
+    cc
+
+one_number : (k : Kind) (words : List (List ℕ)) (a b : ℕ) → IsNumber k words a → IsNumber k words b → a ≡ b
+one_number making words a b x y = x ∙ sym y
+one_number solving words a b x y = x ∙ sym y
+one_number looping words a b x y = one_count 1000000 (word_of words 4) a b (omega arith) x y
+one_number showing words a b x y = one_count 4294967295 (word_of words 1) a b (omega arith) x y
+
+-- ---- so the arguments tell the command
+pub one_command : (words : List (List ℕ)) (command other : Command) → AreOf command words → AreOf other words → command ≡ other
+one_command words command other is that =
+    let same : kind command ≡ kind other = sym (named command words is) ∙ named other words that in
+    let counts : count_in command ≡ count_in other =
+    one_number (kind other) words (count_in command) (count_in other) (subst (λ (k : Kind). IsNumber k words (count_in command)) same (counted command words is)) (counted other words that) in
+    sym (rebuilt command) ∙ ap (λ (k : Kind). of_kind k (count_in command)) same ∙ ap (of_kind (kind other)) counts ∙ rebuilt other
+
+-- what holds of the command that the arguments are those of holds of each that they are those of
+pub for_each : (words : List (List ℕ)) (command : Command) → AreOf command words → (P : Command → Type 0) → P command → (other : Command) → AreOf other words → P other
+for_each words command is P h other that = subst P (one_command words command other is that) h

@@ -1,0 +1,2 @@
+-- what is printed of a controller and its states
+pub mod PlanLines
