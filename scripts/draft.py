@@ -428,7 +428,7 @@ def place_words(design: Design, place: Settled | None) -> str:
 
 
 def main() -> int:
-    parser = Parser(__doc__ + "\nA model is\n" + models.__doc__.split("\n", 1)[0].lower()[2:] + "\n" + models.__doc__.split("\n", 1)[1])
+    parser = Parser(__doc__ + "\nA model is " + models.__doc__.split("\n", 1)[0].lower() + "\n" + models.__doc__.split("\n", 1)[1])
     parser.add_argument("model", metavar="MODEL")
     parser.add_argument("design", metavar="DESIGN", nargs="?")
     parser.add_argument("--gap", type=positive, default=0.1)
