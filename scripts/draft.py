@@ -77,9 +77,7 @@ def sides_of(model: Model, a: numpy.ndarray, b: numpy.ndarray) -> list[Side]:
     out = []
     for number, limit in enumerate(model.text.get("limit", []), 1):
         tolerance, name = float(limit["tolerance"]), limit.get("name", f"limit {number}")
-        states = model.row(limit)
-        inputs = numpy.array(limit.get("input", [0.0] * model.p), float) + numpy.array(limit.get("change", [0.0] * model.p), float)
-        inputs, later = inputs * model.input_units, False
+        states, inputs, later = model.row(limit), model.planned(limit), False
         if not any(limit.get("input", [])) and not any(limit.get("change", [])):
             later = not numpy.any(abs(states @ b) > 1e-12 * (abs(states) @ abs(a)).max())
             states, inputs = (states @ a @ a, states @ a @ b) if later else (states @ a, states @ b)
@@ -115,7 +113,7 @@ def reach_of(design: Design, rows: list[numpy.ndarray]) -> numpy.ndarray:
 
 def names_of(model: Model, sides: list[Side]) -> dict:
     names = {("state", i + 1): named(words, size) for i, (words, size) in enumerate(zip(model.names, model.state_units))}
-    names |= {("input", i + 1): named(words, size) for i, (words, size) in enumerate(zip(model.input_names, model.input_units))}
+    names |= {("input", i + 1): named(words, size) for i, (words, size) in enumerate(zip(model.planned_names, model.input_units))}
     return names | {("stage row", i + 1): Name(side.name, side.tolerance, side.unit) for i, side in enumerate(sides)}
 
 
@@ -138,7 +136,7 @@ def in_floats(model: Model) -> Design:
 def cost_rows(model: Model, key: str) -> list[list[float]]:
     """The rows of the cost over the design's states, each with its target and weight."""
     rows = model.text["cost"].get(key, [])
-    return [[*model.row({"state": row["state"], "held": row.get("held", [0.0] * len(model.held))}), float(row.get("target", 0)), float(row["weight"])] for row in rows]
+    return [[*model.row(row), float(row.get("target", 0)), float(row["weight"])] for row in rows]
 
 
 def whole_costs(design: Design, exact: Design, part: float) -> tuple[list[float], list[list[int]], list[list[int]]]:
@@ -323,6 +321,16 @@ def draft(model: Model, part: float = 0.1, keep: bool = False) -> Design:
     return drafted(model, part, keep).design
 
 
+def told(model: Model, part: float, keep: bool) -> Drafted:
+    """The design of a model with all that is to be said of it. Refusal where its numbers are too far apart for floating point."""
+    try:
+        made = drafted(model, part, keep)
+        made.said += settle_words(model, made)
+    except (numpy.linalg.LinAlgError, ArithmeticError) as fault:
+        raise models.Refusal(f"units: units are expected in which the numbers of plant, cost and limits are nearer to each other, since floating point fails ({fault})") from None
+    return made
+
+
 def plant_words(model: Model, design: Design) -> list[str]:
     (a, b), den = model.scaled(), design.plant_den
     out = [f"plant over {den}: row sums up to {row_sum(a, b, den)}/{den}, step responses off by {plain(100 * response_error(a, b, den, model.stages))} %"]
@@ -420,7 +428,7 @@ def place_words(design: Design, place: Settled | None) -> str:
 
 
 def main() -> int:
-    parser = Parser(__doc__ + "\nA model is\n" + models.__doc__.split("\n", 1)[0].lower()[2:] + "\n" + models.__doc__.split("\n", 1)[1])
+    parser = Parser(__doc__ + "\nA model is " + models.__doc__.split("\n", 1)[0].lower() + "\n" + models.__doc__.split("\n", 1)[1])
     parser.add_argument("model", metavar="MODEL")
     parser.add_argument("design", metavar="DESIGN", nargs="?")
     parser.add_argument("--gap", type=positive, default=0.1)
@@ -428,8 +436,8 @@ def main() -> int:
     given = parser.parse_args()
     files.keep_apart({"MODEL": given.model}, {"DESIGN": given.design or files.STANDARD_OUTPUT})
     model = read_model(given.model)
-    made = drafted(model, given.gap, given.keep_weights)
-    for words in made.said + settle_words(model, made):
+    made = told(model, given.gap, given.keep_weights)
+    for words in made.said:
         say(words)
     text = text_of(made.design)
     if given.design:

@@ -42,9 +42,9 @@ class Policies(unittest.TestCase):
         return design, policy.bound_of(design, made), said.getvalue()
 
     def best(self, design):
-        """The least R of plans with a slack of 2^-1 to 2^14, four a doubling."""
+        """The least R of plans with a slack of 2^-1 to 2^14, two a doubling."""
         of = programs.Programs(design)
-        return min(policy.plans_with(of, 2 ** (k / 4))[1] for k in range(-4, 57))
+        return min(policy.plans_with(of, 2 ** (k / 2))[1] for k in range(-2, 29))
 
     def test_best_margin_of_each(self):
         for case in CASES:
