@@ -9,7 +9,7 @@ use Rattle.qp_model.specs.problem.Residual.{residual, residual_scale}
 use Rattle.qp_model.specs.problem.Box.{corner}
 use Rattle.qp_model.proofs.FineWorked.{third}
 
-abbrev two : ℤ → ℤ → List ℤ
+abbrev pub two : ℤ → ℤ → List ℤ
 two a b = a ∷ b ∷ []
 
 abbrev costing : List ℤ → ℤ → ℤ → CostRow
@@ -30,7 +30,7 @@ abbrev final_limits : ℕ → LimitRow
 final_limits zero = asking (two (pos 7) (pos 0)) [] (pos 2)
 final_limits (suc r) = asking (two (pos 1) (negsuc 0)) [] (negsuc 2)
 
-abbrev mixed : Design
+abbrev pub mixed : Design
 mixed = record third {
   states = 2;
   inputs = 2;
