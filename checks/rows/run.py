@@ -6,6 +6,7 @@
 With --valgrind each runs under valgrind's memory checker, which must have nothing to report: no invalid read or write, no branch on what was never written, no
 block that is lost. The rows of fine designs, whose exact numbers pass 2^126, and of fine corners have the numbers of the model in ../fuzz.
 """
+import contextlib
 import os
 import subprocess
 import sys
@@ -419,7 +420,16 @@ def corner_rows():
         yield f"fine corners: prediction {what} its limit", refused(GENERATE, {"d": grown, "p": plans(8, [0, 0], [0, 0])}, 10, f"too-wide {quantity}")
 
 
-def wrong(words, files, status, out, line, whole, lines):
+def full_rows():
+    """The name, the row, and the file that the output goes to, if any: what is written or printed to a full device fails after it was opened."""
+    made, read = {"d": BASE, "p": POLICY}, {"d": BASE, "c": FIRST, "s": "1\n"}
+    yield "a controller to a full device", (["generate", "d", "p", "/dev/full", "r"], made, 4, "", "error 4 write-fault 3\n", {}, {}), None
+    yield "a report to a full device", (["generate", "d", "p", "c", "/dev/full"], made, 4, "", "error 4 write-fault 4\n", {"c": FIRST}, {}), None
+    for words in (SOLVE, ["loop", "d", "c", "s", "1"], ["demo", "7"]):
+        yield f"the output of {words[0]} to a full device", (words, read, 4, None, "error 4 write-fault 0\n", {}, {}), "/dev/full"
+
+
+def wrong(words, files, status, out, line, whole, lines, output=None):
     """What isn't as it must be."""
     with tempfile.TemporaryDirectory() as folder:
         for name, text in files.items():
@@ -428,7 +438,9 @@ def wrong(words, files, status, out, line, whole, lines):
         under, log = [], folder + ".valgrind"
         if VALGRIND:
             under = ["valgrind", "-q", f"--log-file={log}", "--leak-check=full", "--errors-for-leak-kinds=definite", "--track-origins=yes"]
-        ran = subprocess.run([*under, PROGRAM, *words], cwd=folder, stdin=subprocess.DEVNULL, capture_output=True, text=True)
+        with open(output, "wb") if output else contextlib.nullcontext(subprocess.PIPE) as to:
+            ran = subprocess.run([*under, PROGRAM, *words], cwd=folder, stdin=subprocess.DEVNULL, stdout=to, stderr=subprocess.PIPE, text=True)
+        printed = ran.stdout or ""
         left = {}
         for name in os.listdir(folder):
             with open(os.path.join(folder, name), newline="") as file:
@@ -444,9 +456,9 @@ def wrong(words, files, status, out, line, whole, lines):
         found.append(f"status {ran.returncode}, not {status}")
     if ran.stderr != line:
         found.append(f"line {ran.stderr!r}, not {line!r}")
-    if out is not None and ran.stdout != out:
-        found.append(f"output {ran.stdout[:300]!r}, not {out!r}")
-    texts = {**left, "": ran.stdout}
+    if out is not None and printed != out:
+        found.append(f"output {printed[:300]!r}, not {out!r}")
+    texts = {**left, "": printed}
     missing = {name: [it for it in some if it not in texts.get(name, "").split("\n")] for name, some in lines.items()}
     found += [f"{name or 'output'} lacks {some}" for name, some in missing.items() if some]
     wanted = {**files, **whole}
@@ -457,9 +469,10 @@ def wrong(words, files, status, out, line, whole, lines):
 
 def main():
     failed = count = 0
-    for name, row in [*rows(), *fine_rows(), *corner_rows(), *version_rows(), *second_rows()]:
+    own = [(name, row, None) for name, row in [*rows(), *fine_rows(), *corner_rows(), *version_rows(), *second_rows()]]
+    for name, row, output in [*own, *full_rows()]:
         count += 1
-        found = wrong(*row)
+        found = wrong(*row, output=output)
         if found:
             failed += 1
             print(f"{name}: {'; '.join(found)}")

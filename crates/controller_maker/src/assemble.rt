@@ -21,7 +21,7 @@ use crate::widest::widest_gains;
 use approx_inverse::Inverse;
 use condensed_form::Condensed;
 use frac_scaled::shift_left;
-use overflow_check::{Controller, greatest_sum, width};
+use overflow_check::{Controller, greatest_sum};
 use qp_model::{ControllerParts, Design, DesignParts, Quantity};
 use std::alloc::{AllocError, Global};
 
@@ -178,12 +178,9 @@ fn with_width(parts: ControllerParts) -> Controller
     ensures parts { result ≡ record (numbers parts) { width = result.width } }
     ensures width { IsWidth (greatest_sum (numbers parts)) result.width }
 {
-    let Some(w) = width(&parts) else {
-        unreachable!();
-    };
-    match Controller::from_parts(ControllerParts { w, ..parts }) {
-        Ok(controller) => controller,
-        Err(_) => unreachable!(),
+    match Controller::with_least_width(parts) {
+        Some(controller) => controller,
+        None => unreachable!(),
     }
 }
 

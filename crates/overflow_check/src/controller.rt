@@ -1,10 +1,12 @@
 // Controllers whose values stay within their width.
-ghost use Rattle.std.specs.Prelude.{◌≡◌, ◌↔◌, Some, None, IsTrue, IsOk, IfOk, OnOk};
-ghost use Rattle.qp_model.specs.machine.Controller.{numbers, IsInForm};
-ghost use Rattle.qp_model.specs.machine.AbsoluteSums.{IsController};
+ghost use Rattle.std.specs.Prelude.{◌≡◌, ◌↔◌, ◌≤◌, ◌^◌, Some, None, IsTrue, IsOk, IfOk, OnOk, IsSome, IfSome};
+ghost use Rattle.qp_model.specs.machine.Controller.{numbers, IsInForm, IsSized};
+ghost use Rattle.qp_model.specs.machine.AbsoluteSums.{IsController, greatest_sum as greatest};
+ghost use Rattle.overflow_check.specs.Width.{IsWidth};
 
 use crate::absolute_sums::{greatest_sum, two_to};
 use crate::form::is_in_form;
+use crate::word_width::width;
 use qp_model::ControllerParts;
 use std::marker::Model;
 use thiserror::Error;
@@ -76,6 +78,22 @@ impl Controller {
         match fault_of(&parts) {
             Some(fault) => Err(fault),
             None => Ok(Controller { parts }),
+        }
+    }
+
+    /// The controller of these numbers with the least width, in place of theirs, that their absolute sums let pass: so nothing is left to be refused, and the
+    /// sums are made once. None where the greatest is above `2^126`.
+    pub fn with_least_width(parts: ControllerParts) -> Option<Controller>
+        requires { IsSized (numbers parts) }
+        ensures kept { IfSome result (λ c. c ≡ record (numbers parts) { width = c.width }) }
+        ensures width { IfSome result (λ c. IsWidth (greatest (numbers parts)) c.width) }
+        ensures found { IsSome result ↔ (greatest (numbers parts) ≤ 2 ^ 126) }
+    {
+        match width(&parts) {
+            Some(w) => Some(Controller {
+                parts: ControllerParts { w, ..parts },
+            }),
+            None => None,
         }
     }
 

@@ -132,6 +132,7 @@ abbrev least : Printed
 least = record {
   version = 1;
   margin = pos 8192;
+  lean = false;
   cost = pos 1;
   multiplier = pos 8;
   step = 1;

@@ -83,6 +83,18 @@ fn no_folder(rt: HostRuntime) -> Result<(), Fail> {
     Ok(())
 }
 
+// A full device, which is opened, and whose first write fails; no byte is no write.
+#[test]
+fn full_device(rt: HostRuntime) -> Result<(), Fail> {
+    let mut store = HostStore::new(&rt);
+    let written = [
+        store.write_all("/dev/full", b"1"),
+        store.write_all("/dev/full", b""),
+    ];
+    assert_eq!(rt; written, [Err(Failed), Ok(())]);
+    Ok(())
+}
+
 #[test]
 fn real_output(rt: HostRuntime) -> Result<(), Fail> {
     let put = StdSink::new(&rt).put(b"to the standard output\n");

@@ -1,0 +1,136 @@
+"""The documents name what the repository has: the modules of the theorem with their lines, and the crates with what they stand on."""
+import pathlib
+import re
+import unittest
+
+TOP = pathlib.Path(__file__).resolve().parents[2]
+WORDS = {"fifteen": 15, "sixteen": 16, "seventeen": 17, "eighteen": 18, "nineteen": 19}
+
+
+def text_of(name: str) -> str:
+    return (TOP / name).read_text(encoding="utf-8")
+
+
+def names_in(text: str) -> list[str]:
+    return re.findall(r"`(\w+)`", text)
+
+
+def rows_of(text: str, heading: str) -> list[list[str]]:
+    """The cells of the table's rows below a heading."""
+    part = re.split(r"\n## ", text.split(f"## {heading}\n", 1)[1], maxsplit=1)[0]
+    return [[cell.strip() for cell in line.strip("|").split(" | ")] for line in part.splitlines() if line.startswith("| `")]
+
+
+# ---- the definitions
+def module_path(module: str) -> pathlib.Path:
+    """The file of a module as `Rattle.qp_model.specs.problem.Design`."""
+    crate, *parts = module.split(".")[1:]
+    return TOP.joinpath("crates", crate, *parts).with_suffix(".antt")
+
+
+def cited_by(modules: list[str]) -> set[str]:
+    """These modules of definitions and all that they cite, also through others. Those that the compiler makes of the code have no file."""
+    cited: set[str] = set()
+    while modules:
+        module = modules.pop()
+        if module in cited or not module_path(module).exists():
+            continue
+        cited.add(module)
+        modules += re.findall(r"^use (Rattle\.\w+\.specs\.[\w.]*\w)", module_path(module).read_text(encoding="utf-8"), re.MULTILINE)
+    return cited
+
+
+def short(module: str) -> tuple[str, str]:
+    """The crate and the name of a module."""
+    parts = module.split(".")
+    return parts[1], parts[-1]
+
+
+def lines_in(module: str) -> int:
+    """The lines of a module that are neither an import, a comment nor empty."""
+    lines = [line.strip() for line in module_path(module).read_text(encoding="utf-8").splitlines()]
+    return sum(1 for line in lines if line and not line.startswith(("--", "use ")))
+
+
+class Theorem(unittest.TestCase):
+    page = text_of("docs/THEOREM.md")
+    promise = cited_by(["Rattle.qp_model.specs.bounds.Certified"])
+
+    def test_modules(self):
+        """The modules in reading order are those of the promise."""
+        heading = re.search(r"## (The (\w+) modules, in reading order)", self.page)
+        named = [(names_in(crate)[0], name) for crate, names in (row[0].split(": ") for row in rows_of(self.page, heading[1])) for name in names_in(names)]
+        self.assertEqual(sorted(named), sorted(map(short, self.promise)))
+        self.assertEqual(len(named), WORDS[heading[2]])
+
+    def test_lines(self):
+        count = sum(map(lines_in, self.promise))
+        self.assertEqual(re.findall(r"They are (\d+) lines together", self.page), [str(count)])
+        self.assertEqual(re.findall(r"the (\d+) lines that say what is promised", text_of("README.md")), [str(count)])
+
+    def test_what_else_is_cited(self):
+        """Each module that what is built cites is named, beside its crate."""
+        built = cited_by(["Rattle.design_engine.specs.Built", "Rattle.design_engine.specs.Targets"]) - self.promise
+        named = set()
+        for row in rows_of(self.page, "From the files to the promise"):
+            for module in built:
+                crate, name = short(module)
+                if f"`{crate}`" in " ".join(row) and f"`{name}`" in " ".join(row):
+                    named.add(module)
+        self.assertEqual(built - named, set())
+
+
+# ---- the crates
+def crates_of(text: str) -> dict[str, set[str]]:
+    """The crates of crates.txt, each with those of the repository that its line names."""
+    lines = [line.split("#")[0].split(":") for line in text.splitlines() if ":" in line.split("#")[0]]
+    crates = {name.split()[0]: set(used.split()) for name, used in lines}
+    return {name: used & crates.keys() for name, used in crates.items()}
+
+
+def below(crates: dict[str, set[str]], names: set[str]) -> set[str]:
+    """These crates and all that they stand on."""
+    reached: set[str] = set()
+    left = list(names)
+    while left:
+        name = left.pop()
+        if name not in reached:
+            reached.add(name)
+            left += crates[name]
+    return reached
+
+
+def named_in(rows: list[list[str]]) -> list[tuple[str, set[str]]]:
+    """The crates of the table in its order, each with what is named beside it. A row of several has the parts of each, and what all have behind `; and`."""
+    named = []
+    for cells in rows:
+        names = names_in(cells[0])
+        own, _, shared = cells[1].partition("; and ")
+        parts = own.split(";") if ";" in own else [own] * len(names)
+        named += [(name, set(names_in(part)) | set(names_in(shared))) for name, part in zip(names, parts, strict=True)]
+    return named
+
+
+class Architecture(unittest.TestCase):
+    crates = crates_of(text_of("crates.txt"))
+    named = named_in(rows_of(text_of("docs/ARCHITECTURE.md"), "The crates, from the bottom up"))
+
+    def test_each_crate_has_one_row(self):
+        self.assertEqual(sorted(name for name, _ in self.named), sorted(self.crates))
+
+    def test_what_it_stands_on_is_named(self):
+        for name, used in self.named:
+            with self.subTest(crate=name):
+                self.assertEqual(used - self.crates[name], set(), "named, and not used")
+                self.assertEqual(self.crates[name] - below(self.crates, used), set(), "used, and neither named nor below one that is")
+
+    def test_from_the_bottom_up(self):
+        seen: set[str] = set()
+        for name, _ in self.named:
+            with self.subTest(crate=name):
+                self.assertEqual(self.crates[name] - seen, set(), "stands below its row")
+            seen.add(name)
+
+
+if __name__ == "__main__":
+    unittest.main()
