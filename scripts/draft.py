@@ -77,9 +77,7 @@ def sides_of(model: Model, a: numpy.ndarray, b: numpy.ndarray) -> list[Side]:
     out = []
     for number, limit in enumerate(model.text.get("limit", []), 1):
         tolerance, name = float(limit["tolerance"]), limit.get("name", f"limit {number}")
-        states = model.row(limit)
-        inputs = numpy.array(limit.get("input", [0.0] * model.p), float) + numpy.array(limit.get("change", [0.0] * model.p), float)
-        inputs, later = inputs * model.input_units, False
+        states, inputs, later = model.row(limit), model.planned(limit), False
         if not any(limit.get("input", [])) and not any(limit.get("change", [])):
             later = not numpy.any(abs(states @ b) > 1e-12 * (abs(states) @ abs(a)).max())
             states, inputs = (states @ a @ a, states @ a @ b) if later else (states @ a, states @ b)
@@ -115,7 +113,7 @@ def reach_of(design: Design, rows: list[numpy.ndarray]) -> numpy.ndarray:
 
 def names_of(model: Model, sides: list[Side]) -> dict:
     names = {("state", i + 1): named(words, size) for i, (words, size) in enumerate(zip(model.names, model.state_units))}
-    names |= {("input", i + 1): named(words, size) for i, (words, size) in enumerate(zip(model.input_names, model.input_units))}
+    names |= {("input", i + 1): named(words, size) for i, (words, size) in enumerate(zip(model.planned_names, model.input_units))}
     return names | {("stage row", i + 1): Name(side.name, side.tolerance, side.unit) for i, side in enumerate(sides)}
 
 
@@ -138,7 +136,7 @@ def in_floats(model: Model) -> Design:
 def cost_rows(model: Model, key: str) -> list[list[float]]:
     """The rows of the cost over the design's states, each with its target and weight."""
     rows = model.text["cost"].get(key, [])
-    return [[*model.row({"state": row["state"], "held": row.get("held", [0.0] * len(model.held))}), float(row.get("target", 0)), float(row["weight"])] for row in rows]
+    return [[*model.row(row), float(row.get("target", 0)), float(row["weight"])] for row in rows]
 
 
 def whole_costs(design: Design, exact: Design, part: float) -> tuple[list[float], list[list[int]], list[list[int]]]:

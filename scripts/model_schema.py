@@ -71,7 +71,7 @@ def schema_of(version: int, n: int | None, p: int | None, held: int, plant_alone
     sizes = lambda count, of: list_of(POSITIVE, count, f"numbers above 0, one for each {of}")
     names = lambda count, of: list_of(WORD, count, f"names, one for each {of}")
     helds = list_of(NUMBER, held, "numbers, one for each held state")
-    cost_row = table_of({"state": states, "held": helds, "target": NUMBER, "weight": POSITIVE}, ("state", "weight"), "a table as { state = [..], weight = .. }")
+    cost_row = table_of({"state": states, "held": helds, "last": inputs, "target": NUMBER, "weight": POSITIVE}, ("weight",), "a table as { state = [..], weight = .. }")
     limit = {"name": WORD, "state": states, "held": helds, "input": inputs, "change": inputs, "bound": BOUND, "least": BOUND, "tolerance": POSITIVE}
     still = {"name": WORD, "into": states, "lo": NUMBER, "hi": NUMBER, "unit": POSITIVE}
     return table_of(
@@ -81,6 +81,7 @@ def schema_of(version: int, n: int | None, p: int | None, held: int, plant_alone
             "stages": whole_from(1, STAGES[version]),
             "sampled": FLAG,
             "delay": whole_from(0, 1),
+            "plan": {"enum": ["inputs", "changes"], "expected": "'inputs' or 'changes'"},
             "a": list_of(list_of(NUMBER, n, "numbers, one for each state"), n, "lists, one for each state"),
             "b": list_of(list_of(NUMBER, p, "numbers, one for each input"), n, "lists, one for each state"),
             "states": names(n, "state"),
@@ -171,9 +172,9 @@ def held_count(model: dict) -> int:
 
 
 def changed(model: dict) -> list[int]:
-    """The inputs whose last values are states: all with a delay, else those whose changes are limited."""
+    """The inputs whose last values are states: all with a delay or where changes are planned, else those whose changes are limited."""
     p = len(model["b"][0]) if tables(model.get("b")) else 0
-    if finite(None, model.get("delay", 0)) and model.get("delay", 0) == 1:
+    if model.get("plan") == "changes" or finite(None, model.get("delay", 0)) and model.get("delay", 0) == 1:
         return list(range(p))
     limits = [limit for limit in model["limit"] if isinstance(limit, dict)] if isinstance(model.get("limit"), list) else []
     factors = [limit["change"] for limit in limits if isinstance(limit.get("change"), list)]
@@ -220,11 +221,15 @@ def limit_faults(model: dict) -> list[str]:
                 out.append(f"limit[{number}].{key}: {BOUND['expected']} is expected, and {shown(limit[key])} stands there")
     for key in ("rows", "final"):
         for number, row in enumerate(model.get("cost", {}).get(key, []), 1):
-            if not any(row["state"] + row.get("held", [])):
-                out.append(f"cost.{key}[{number}]: a factor other than 0 is expected in state or held")
+            if not any(row.get("state", []) + row.get("held", []) + row.get("last", [])):
+                out.append(f"cost.{key}[{number}]: a factor other than 0 is expected, in state, held or last")
+            if any(factor and l not in changed(model) for l, factor in enumerate(row.get("last", []))):
+                out.append(f"cost.{key}[{number}].last: no such key here, since the last inputs are no states: plan = 'changes', delay = 1 or a limit on a change makes them so")
     rows = sum(math.isfinite(limit.get("bound", math.inf)) + math.isfinite(limit.get("least", -math.inf)) for limit in model.get("limit", []))
     if rows > ROWS:
         out.append(f"limit: at most {ROWS} sides are expected, above and below, and {rows} stand there")
+    if model.get("plan") == "changes" and model.get("delay", 0):
+        out.append("delay: 0 is expected where changes are planned")
     box = model.get("box", {"hi": []})
     for i, high in enumerate(box["hi"]):
         if "lo" in box and box["lo"][i] > high:

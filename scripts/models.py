@@ -9,6 +9,7 @@
     inputs = ["voltage V"]
     sampled = false                              # true where a and b are of a plant that is sampled already: x+ = a x + b u
     delay = 0                                    # 1 where an input acts one stage after it is planned: its last value is then a state
+    plan = "inputs"                              # or "changes": the design's inputs are how much the model's change from stage to stage, and the last inputs are states
 
     [coordinates]                                # optional: the design's states as sums of the model's
     rows = [[1.0, 0.01], [0.0, 1.0]]
@@ -36,8 +37,9 @@
     tolerance = 2.0                              # by how much it may be exceeded at most
 
     [cost]
-    input = [1.0]                                # weights of the squares of the inputs
-    rows = [{ state = [1.0, 0.0], weight = 500.0 }]   # of the square of what a row of states comes to, less its target: { .., held = [-1.0], target = 0.0 }
+    input = [1.0]                                # weights of the squares of the inputs, or of their changes where these are planned
+    rows = [{ state = [1.0, 0.0], weight = 500.0 }]   # of the square of what a row of states comes to, less its target: { .., held = [-1.0], target = 0.0 };
+                                                 # last = [1.0]: of last inputs, where these are states
     final = []                                   # such rows at the last stage alone
 
     [box]                                        # of the design's states, in physical units
@@ -79,12 +81,13 @@ class Model:
         self.own, self.p = len(t["a"]), len(t["b"][0])
         self.held, self.last = t.get("held", []), changed(t)
         self.n = self.own + len(self.held) + len(self.last)
-        self.delay = int(t.get("delay", 0))
+        self.delay, self.by_changes = int(t.get("delay", 0)), t.get("plan") == "changes"
         turn = t.get("coordinates", {})
         self.to = numpy.array(turn.get("rows", numpy.eye(self.own)), float)
         if not numpy.all(numpy.isfinite(self.to)) or numpy.linalg.cond(self.to) > 1e12:
             refuse(["coordinates.rows: rows of which none is a sum of the others are expected, and these give no state back"])
         self.input_names = [split_name(v, f"u{i + 1}") for i, v in enumerate(t.get("inputs", [""] * self.p))]
+        self.planned_names = [(f"change of {word}", unit) for word, unit in self.input_names] if self.by_changes else self.input_names
         self.names = self.state_names(turn.get("names", t.get("states", [""] * self.own)))
         self.lo, self.hi = self.box()
         with numpy.errstate(all="ignore"):
@@ -146,9 +149,11 @@ class Model:
         self.a[self.own : kept, self.own : kept] = numpy.eye(held)
         for place, l in enumerate(self.last):
             self.b[kept + place, l] = 1.0
-        if self.delay:
+        if self.delay or self.by_changes:
             self.a[: self.own, kept:] = own_b
-        else:
+        if self.by_changes:
+            self.a[kept:, kept:] = numpy.eye(last)
+        if not self.delay:
             self.b[: self.own] = own_b
         self.moving = numpy.vstack([own_b, numpy.zeros((held, self.p))])
         if not (numpy.all(numpy.isfinite(self.a)) and numpy.all(numpy.isfinite(self.b)) and max(abs(self.a).max(), abs(self.b).max()) < 1e9):
@@ -173,11 +178,17 @@ class Model:
         return into[:, None] * self.a * self.state_units[None, :], into[:, None] * self.b * self.input_units[None, :]
 
     def row(self, factors: dict) -> numpy.ndarray:
-        """Factors over the model's states, held states and changes, as factors over the design's states."""
+        """Factors over the model's states, held states, inputs and their changes, as factors over the design's states."""
         own = numpy.array(factors.get("state", [0.0] * self.own), float) @ numpy.linalg.inv(self.to)
         held = numpy.array(factors.get("held", [0.0] * len(self.held)), float)
-        change = factors.get("change", [0.0] * self.p)
-        return numpy.r_[own, held, [-float(change[l]) for l in self.last]] * self.state_units
+        # an input is its last value and its change, a change is the input less its last value
+        of = numpy.array(factors.get("input", [0.0] * self.p), float) if self.by_changes else -numpy.array(factors.get("change", [0.0] * self.p), float)
+        last = (of + numpy.array(factors.get("last", [0.0] * self.p), float))[self.last]
+        return numpy.r_[own, held, last] * self.state_units
+
+    def planned(self, factors: dict) -> numpy.ndarray:
+        """Factors over the inputs and their changes, as factors over the design's inputs."""
+        return (numpy.array(factors.get("input", [0.0] * self.p), float) + numpy.array(factors.get("change", [0.0] * self.p), float)) * self.input_units
 
 
 def refuse(faults: list[str]) -> None:

@@ -31,7 +31,7 @@ if not LACKING:
     from texts import loop_lines_of, records_of
 
 # the examples that were drafted from their models
-MADE = ("antenna", "motor", "pmsm", "rendezvous", "satellite", "wheel")
+MADE = ("antenna", "kiln", "motor", "pmsm", "rendezvous", "satellite", "wheel")
 DOUBLE = "period = 0.5\nstages = 5\na = [[0.0, 1.0], [0.0, 0.0]]\nb = [[0.0], [1.0]]\n"
 
 

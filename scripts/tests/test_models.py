@@ -210,6 +210,29 @@ class Added(unittest.TestCase):
             for made, exact in ((row[3], sign * model.input_units[0] / 0.1), (row[4], 5)):
                 self.assertAlmostEqual(made / design.limit_den / exact, 1, delta=0.001)
 
+    def test_changes_that_are_planned(self):
+        text = 'plan = "changes"\n' + PLANT + HELD + LIMIT + CHANGE + TARGET + BOX
+        model = models.Model(text)
+        self.assertTrue(numpy.allclose(model.a, [[1, 0.5, 0, 0.125], [0, 1, 0, 0.5], [0, 0, 1, 0], [0, 0, 0, 1]]))
+        self.assertTrue(numpy.allclose(model.b, [[0.125], [0.5], [0], [1]]))
+        self.assertEqual((model.names[3][0], model.planned_names[0][0]), ("last u1", "change of u1"))
+        made = draft.drafted(model)
+        above, _, change, _ = made.design.stage_rows
+        self.assertEqual((above[:3], above[3], change[:4]), ([0, 0, 0], above[4], [0, 0, 0, 0]))
+        self.assertAlmostEqual(above[4] / made.design.limit_den / (model.input_units[0] / 0.25), 1, delta=0.001)
+        self.assertAlmostEqual(change[4] / made.design.limit_den / (model.input_units[0] / 0.1), 1, delta=0.001)
+        with self.assertRaisesRegex(Refusal, "^delay: 0 is expected where changes are planned$"):
+            models.Model("delay = 1\n" + text)
+        with self.assertRaisesRegex(Refusal, "^plan: 'inputs' or 'changes' is expected, and 'change' stands there$"):
+            models.Model(text.replace("changes", "change", 1))
+
+    def test_costs_of_last_inputs(self):
+        cost = COST.replace("}]", "}, { last = [1.0], weight = 2.0 }]")
+        design = draft.draft(models.Model('plan = "changes"\n' + PLANT + LIMIT + cost + BOX))
+        self.assertEqual(design.stage_cost[1][:4], [0, 0, 1, 0])
+        with self.assertRaisesRegex(Refusal, r"^cost.rows\[2\].last: no such key here, since the last inputs are no states"):
+            models.Model(PLANT + LIMIT + cost + BOX)
+
     def test_last_inputs_without_limits_want_a_box(self):
         text = PLANT + CHANGE + COST + BOX
         with self.assertRaisesRegex(Refusal, "box.last: is missing"):
