@@ -14,18 +14,18 @@ import numpy
 
 from arguments import Parser, several
 from design_text import plain
-from models import read_model
+from models import Model, read_model
 
 # what responses may be off by where no denominator is named
 WITHIN = 0.001
 
 
-def rounded(a, b, den):
+def rounded(a: numpy.ndarray, b: numpy.ndarray, den: int) -> tuple[numpy.ndarray, numpy.ndarray]:
     """The numerators over den."""
     return numpy.rint(a * den).astype(int), numpy.rint(b * den).astype(int)
 
 
-def lost(a, b, den):
+def lost(a: numpy.ndarray, b: numpy.ndarray, den: int) -> list[str]:
     """The couplings that are rounded to 0, as words."""
     out = []
     for word, exact, whole in zip("ab", (a, b), rounded(a, b, den)):
@@ -35,7 +35,7 @@ def lost(a, b, den):
     return out
 
 
-def step_responses(a, b, stages):
+def step_responses(a: numpy.ndarray, b: numpy.ndarray, stages: int) -> numpy.ndarray:
     state, out = numpy.zeros(b.shape), []
     for _ in range(stages):
         state = a @ state + b
@@ -43,14 +43,14 @@ def step_responses(a, b, stages):
     return numpy.array(out)
 
 
-def response_error(a, b, den, stages):
+def response_error(a: numpy.ndarray, b: numpy.ndarray, den: int, stages: int) -> float:
     """By how much the step responses are off, as a part of each state's greatest."""
     whole_a, whole_b = rounded(a, b, den)
     exact, other = step_responses(a, b, stages), step_responses(whole_a / den, whole_b / den, stages)
     return float((abs(exact - other).max((0, 2)) / (abs(exact).max((0, 2)) + 1e-12)).max())
 
 
-def free_error(a, b, den, stages, reach):
+def free_error(a: numpy.ndarray, b: numpy.ndarray, den: int, stages: int, reach: list) -> float:
     """By how much the responses to states of the box are off, as a part of each state's greatest."""
     box = numpy.diag(numpy.array(reach, float))
     exact, other, most, off = box, box, abs(box).max(1), numpy.zeros(len(a))
@@ -61,36 +61,36 @@ def free_error(a, b, den, stages, reach):
     return float((off / (most + 1e-12)).max())
 
 
-def responses_error(a, b, den, stages, reach):
+def responses_error(a: numpy.ndarray, b: numpy.ndarray, den: int, stages: int, reach: list) -> float:
     """By how much the step responses or those to states of the box are off."""
     return max(response_error(a, b, den, stages), free_error(a, b, den, stages, reach))
 
 
-def least_den(a, b, stages, reach):
+def least_den(a: numpy.ndarray, b: numpy.ndarray, stages: int, reach: list) -> int:
     """The least power of two at which responses are within 0.1 % and no coupling is lost; the greatest denominator where there is none."""
     dens = [2**k for k in range(21)]
     return next((den for den in dens if not lost(a, b, den) and responses_error(a, b, den, stages, reach) <= WITHIN), dens[-1])
 
 
-def row_sum(a, b, den):
+def row_sum(a: numpy.ndarray, b: numpy.ndarray, den: int) -> int:
     """The greatest row sum of |a| + |b|, of numerators."""
     whole_a, whole_b = rounded(a, b, den)
     return int((abs(whole_a).sum(1) + abs(whole_b).sum(1)).max())
 
 
-def growth_bits(sum_, den, stages):
+def growth_bits(sum_: int, den: int, stages: int) -> tuple[float, float]:
     """`prediction` in bits: of exact numbers, and of enclosures over 2^40."""
     return stages * numpy.log2(sum_), 40 + numpy.log2(sum_) + stages * numpy.log2(sum_ / den)
 
 
-def poles(a):
+def poles(a: numpy.ndarray) -> str:
     return ", ".join(
         plain(v.real) if abs(v.imag) < 1e-9 else f"{plain(v.real)}{'+' if v.imag > 0 else '-'}{plain(abs(v.imag))}j"
         for v in sorted(numpy.linalg.eigvals(a), key=lambda v: (-abs(v), v.imag))
     )
 
 
-def tell(model, den):
+def tell(model: Model, den: int) -> None:
     a, b = model.scaled()
     sum_, stages = row_sum(a, b, den), model.stages
     exact, fine = growth_bits(max(sum_, den), den, stages)
@@ -103,7 +103,7 @@ def tell(model, den):
         print(f"  warning: {word} is rounded to 0: a finer denominator or other units are needed")
 
 
-def main():
+def main() -> int:
     parser = Parser(__doc__)
     parser.add_argument("model", metavar="MODEL")
     parser.add_argument("--den", type=several, nargs="+")

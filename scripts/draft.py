@@ -321,6 +321,16 @@ def draft(model: Model, part: float = 0.1, keep: bool = False) -> Design:
     return drafted(model, part, keep).design
 
 
+def told(model: Model, part: float, keep: bool) -> Drafted:
+    """The design of a model with all that is to be said of it. Refusal where its numbers are too far apart for floating point."""
+    try:
+        made = drafted(model, part, keep)
+        made.said += settle_words(model, made)
+    except (numpy.linalg.LinAlgError, ArithmeticError) as fault:
+        raise models.Refusal(f"units: units are expected in which the numbers of plant, cost and limits are nearer to each other, since floating point fails ({fault})") from None
+    return made
+
+
 def plant_words(model: Model, design: Design) -> list[str]:
     (a, b), den = model.scaled(), design.plant_den
     out = [f"plant over {den}: row sums up to {row_sum(a, b, den)}/{den}, step responses off by {plain(100 * response_error(a, b, den, model.stages))} %"]
@@ -426,8 +436,8 @@ def main() -> int:
     given = parser.parse_args()
     files.keep_apart({"MODEL": given.model}, {"DESIGN": given.design or files.STANDARD_OUTPUT})
     model = read_model(given.model)
-    made = drafted(model, given.gap, given.keep_weights)
-    for words in made.said + settle_words(model, made):
+    made = told(model, given.gap, given.keep_weights)
+    for words in made.said:
         say(words)
     text = text_of(made.design)
     if given.design:

@@ -16,6 +16,7 @@ simulates the policy in whole numbers.
 """
 import math
 import sys
+from collections.abc import Callable
 
 from libraries import need, run
 
@@ -24,7 +25,7 @@ import files
 from arguments import Parser, positive, several, turns
 from condensed import condense, curvature
 from corners import corners_of, margin_of, multiplier_of, steps_of
-from design_text import plain, read_design
+from design_text import Design, plain, read_design
 from explain import size_words
 from programs import Programs, reach_of
 
@@ -34,11 +35,11 @@ GOLDEN = (5**0.5 - 1) / 2
 SECTIONS = 16
 
 
-def say(*words):
+def say(*words: str) -> None:
     print(*words, file=sys.stderr)
 
 
-def plans_with(programs, slack):
+def plans_with(programs: Programs, slack: float) -> tuple[list | None, float]:
     """The corners' plans of least cost with this slack, and their R; None where a corner has none."""
     design = programs.design
     states = [[float(v) for v in design.corner(c)] for c in range(1, 2**design.states + 1)]
@@ -51,7 +52,7 @@ def plans_with(programs, slack):
     return plans, max(programs.cost(x, u) for x, u in zip(states, plans)) / slack
 
 
-def search(programs, most):
+def search(programs: Programs, most: float) -> float:
     """The slack below `most` with the least R. R falls and then rises with the slack, so that thirds of a bracket tell where it is least."""
     if math.isinf(most):
         return between(programs, *bracket(programs))
@@ -60,7 +61,7 @@ def search(programs, most):
     return slack if slack > 0.03 * most else between(programs, 1e-9 * most, 0.06 * most)
 
 
-def golden(of, low, high):
+def golden(of: Callable[[float], float], low: float, high: float) -> float:
     """Where a function that falls and then rises is least."""
     for _ in range(SECTIONS):
         first, second = high - GOLDEN * (high - low), low + GOLDEN * (high - low)
@@ -71,12 +72,12 @@ def golden(of, low, high):
     return (low + high) / 2
 
 
-def between(programs, low, high):
+def between(programs: Programs, low: float, high: float) -> float:
     """The slack with the least R between two that are far apart."""
     return math.exp(golden(lambda power: plans_with(programs, math.exp(power))[1], math.log(low), math.log(high)))
 
 
-def bracket(programs):
+def bracket(programs: Programs) -> tuple[float, float]:
     """Slacks below and above the best, where no limit stops the slack: R falls by doubling it, and then rises. Nothing is gained by an R below 1."""
     low = 2**-12
     bound = plans_with(programs, low)[1]
@@ -87,17 +88,17 @@ def bracket(programs):
         low, bound = 2 * low, after
 
 
-def rounded(plans, denominator):
+def rounded(plans: list, denominator: int) -> list[list[int]]:
     return [[denominator] + [int(round(float(u) * denominator)) for u in plan] for plan in plans]
 
 
-def bound_of(design, policy):
+def bound_of(design: Design, policy: list[list[int]]) -> float:
     """R of a rounded policy, before R itself is rounded; infinite where a limit isn't kept."""
     margin, cost = margin_of(corners_of(design, policy))
     return cost * 2**16 / margin if margin > 0 else float("inf")
 
 
-def shortest(design, plans):
+def shortest(design: Design, plans: list) -> list[list[int]]:
     """The policy with the shortest denominator that costs at most 4 % of R."""
     best = bound_of(design, rounded(plans, FINE))
     denominator = 1
@@ -106,7 +107,7 @@ def shortest(design, plans):
     return rounded(plans, denominator)
 
 
-def blame(design, programs):
+def blame(design: Design, programs: Programs) -> tuple[float, str]:
     """The least, over the corners, of the greatest slack; and words for the corner and the rows."""
     found = []
     for corner in range(1, 2**design.states + 1):
@@ -118,7 +119,7 @@ def blame(design, programs):
     return slack, f"{design.corner_words(corner)}: {', '.join(design.row_words(row) for row in rows[:4])}"
 
 
-def binding_words(design, programs):
+def binding_words(design: Design, programs: Programs) -> list[str]:
     """At how many corners a limit binds: where none does, none binds in the box, since what the best plan without limits leaves in a row is linear in the state."""
     states = [[float(v) for v in design.corner(c)] for c in range(1, 2**design.states + 1)]
     binding = sum((programs.room(x) - programs.rows @ programs.unlimited(x)).min() < 0 for x in states)
@@ -127,7 +128,7 @@ def binding_words(design, programs):
     return ["no limit binds anywhere in the box: the best plan is linear in the state there, and needs no steps; narrower limits or a larger box make use of a run"]
 
 
-def find(design, margin=None, denominator=None):
+def find(design: Design, margin: float | None = None, denominator: int | None = None) -> list[list[int]] | None:
     """The policy, or None with the reason said."""
     programs = Programs(design)
     most, where = blame(design, programs)
@@ -146,7 +147,7 @@ def find(design, margin=None, denominator=None):
     return rounded(plans, denominator) if denominator else shortest(design, plans)
 
 
-def tell(design, policy, turns):
+def tell(design: Design, policy: list[list[int]], turns: int) -> None:
     """What the policy makes of R and K, and whether the loops stay in the box."""
     corners = corners_of(design, policy)
     margin, cost = margin_of(corners)
@@ -169,7 +170,7 @@ def tell(design, policy, turns):
         )
 
 
-def main():
+def main() -> int:
     parser = Parser(__doc__)
     parser.add_argument("design", metavar="DESIGN")
     parser.add_argument("policy", metavar="POLICY", nargs="?")

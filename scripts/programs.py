@@ -10,6 +10,7 @@ import numpy
 import scipy.optimize
 
 from condensed import condense
+from design_text import Design
 from trajectories import cost_of
 
 cvxopt.solvers.options.update(show_progress=False, abstol=1e-10, reltol=1e-9, feastol=1e-9, maxiters=200)
@@ -18,7 +19,7 @@ cvxopt.solvers.options.update(show_progress=False, abstol=1e-10, reltol=1e-9, fe
 class Programs:
     """A design's condensed form as arrays of floats."""
 
-    def __init__(self, design):
+    def __init__(self, design: Design):
         form = condense(design)
         floats = lambda rows, den: numpy.array([[v / den for v in row] for row in rows])
         self.design = design
@@ -27,14 +28,14 @@ class Programs:
         self.rows, self.state_rows = floats(form.rows, form.row_den), floats(form.state_rows, form.row_den)
         self.bounds = numpy.array([v / form.row_den for v in form.bounds])
 
-    def pull(self, state):
+    def pull(self, state: list) -> numpy.ndarray:
         return self.lin @ numpy.array(state, float) + self.off
 
-    def room(self, state):
+    def room(self, state: list) -> numpy.ndarray:
         """What each row leaves for the plan."""
         return self.bounds - self.state_rows @ numpy.array(state, float)
 
-    def best(self, state, slack=0.0):
+    def best(self, state: list, slack: float = 0.0) -> numpy.ndarray | None:
         """The plan of least cost that keeps each limit with this slack, or None where there is none."""
         matrix = cvxopt.matrix
         try:
@@ -45,17 +46,17 @@ class Programs:
         kept = (self.room(state) - self.rows @ plan).min() > slack - 1e-6 * (1 + abs(self.bounds).max())
         return plan if kept else None
 
-    def unlimited(self, state):
+    def unlimited(self, state: list) -> numpy.ndarray:
         """The plan of least cost where there are no limits."""
         return -numpy.linalg.solve(self.hess, self.pull(state))
 
     @functools.cached_property
-    def endless(self):
+    def endless(self) -> bool:
         """Whether plans can keep every limit with any slack: some change of the plan gives room in all rows at once."""
         found = scipy.optimize.linprog(numpy.zeros(self.rows.shape[1]), A_ub=self.rows, b_ub=-numpy.ones(len(self.rows)), bounds=(None, None))
         return found.status == 0
 
-    def most_slack(self, state):
+    def most_slack(self, state: list) -> tuple[float, list[int]]:
         """The greatest slack that one plan keeps in every limit, and the rows that stop it there, from 1, the one that weighs most first; an infinity where none does."""
         if self.endless:
             return math.inf, []
@@ -68,11 +69,11 @@ class Programs:
         blamed = [int(i) + 1 for i in numpy.argsort(-weights, kind="stable") if weights[i] > 0.01 * weights.max()]
         return float(-found.fun), blamed
 
-    def cost(self, state, plan):
+    def cost(self, state: list, plan: list) -> float:
         return float(cost_of(self.design, [float(v) for v in state], [float(v) for v in plan]))
 
 
-def exact_loop(design, state, turns, programs=None):
+def exact_loop(design: Design, state: list, turns: int, programs: Programs | None = None) -> list[tuple[numpy.ndarray, numpy.ndarray]]:
     """The closed loop with the best plan of each turn from a grid state, each next state rounded to the grid as `loop` does: (state, input) a turn, as floats."""
     programs = programs or Programs(design)
     a, b = numpy.array(design.a) / design.plant_den, numpy.array(design.b) / design.plant_den
@@ -88,7 +89,7 @@ def exact_loop(design, state, turns, programs=None):
     return out
 
 
-def reach_of(design, turns=50, programs=None):
+def reach_of(design: Design, turns: int = 50, programs: Programs | None = None) -> numpy.ndarray:
     """How far the closed loops with the best plans go from each corner, in each coordinate, as a part of the box from its middle: above 1 a loop leaves it."""
     lo, hi = numpy.array(design.lo) / 2**design.grid, numpy.array(design.hi) / 2**design.grid
     middle, half = (lo + hi) / 2, numpy.maximum((hi - lo) / 2, 1e-12)

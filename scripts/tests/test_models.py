@@ -1,15 +1,14 @@
 """What a model may hold: each fault by key and place; where models are; and states that are added: held ones, last inputs."""
-import contextlib
-import io
 import json
 import os
 import subprocess
 import sys
 import unittest
+import warnings
 
 from libraries import PACKAGES, Refusal, missing
 from tests.changed_models import changed_models
-from tests.worked import EXAMPLES, TOP, folder_with
+from tests.worked import TOP, folder_with
 
 LACKING = missing(*PACKAGES)
 if not LACKING:
@@ -93,10 +92,12 @@ class Faults(unittest.TestCase):
         for changed in changed_models(500, 1):
             try:
                 model = models.Model(changed)
-                made = draft.drafted(model)
+                with warnings.catch_warnings():
+                    warnings.simplefilter("error")
+                    made = draft.told(model, 0.1, False)
                 self.assertEqual((made.design.states, made.design.inputs), (model.n, model.p))
                 self.assertTrue(1 <= made.design.gap <= 2147483647 and 1 <= made.design.plant_den <= 1048576)
-                self.assertTrue(draft.settle_words(model, made))
+                self.assertIn("from the middle of the box", "\n".join(made.said[-2:]))
             except Refusal as fault:
                 self.assertRegex(str(fault), r"^(no TOML document|[a-z]+[][.a-z0-9]*): ")
                 refused += 1
