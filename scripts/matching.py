@@ -6,7 +6,7 @@ from collections.abc import Iterable
 from fractions import Fraction
 
 import sizes
-from condensed import Condensed, condense, factor, solve
+from condensed import Condensed, factor, solve
 from corners import corners_of, margin_of, multiplier_of, steps_of
 from design_text import Design, plain
 from libraries import Refusal
