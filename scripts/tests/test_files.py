@@ -202,7 +202,7 @@ class Commands(unittest.TestCase):
             (2, "DESIGN .* is the same file as MODEL", "draft", d, d),
             (2, "argument --den: -8 is not at least 1", "discretise", d, "--den", "-8"),
             (1, "/dev/full is longer than 4194304 bytes", "policy", "/dev/full"),
-            (1, "/dev/zero is longer than 4194304 bytes", "draft", "/dev/zero"),
+            (1, "/dev/zero.* 4194304 bytes", "draft", "/dev/zero"),
             (2, "argument TURNS: -3 is not from 0 to 1000000", "exact_loop", d, p["s"], "-3"),
             (1, "record 1 is outside the design's box in x1", "exact_loop", d, p["far"], "3"),
             (2, "argument --states: -1 is not at least 0", "judge", d, p["c"], "--states", "-1"),
