@@ -4,7 +4,7 @@
     scripts/pages.py [--write] PAGE ..
 
 A block of lines of four spaces that begins with ./ has commands, run at the top of the repository; the next such block is what they print. Commands that need a
-library which isn't there (those of scripts/) are left out, and told. With --write a page is given what its commands print.
+library which isn't there (those of scripts/, and `./mpc design`) are left out, and told. With --write a page is given what its commands print.
 """
 import os
 import subprocess
@@ -37,7 +37,7 @@ def commands_of(text):
 
 
 def needs_libraries(command):
-    return "./scripts/" in command
+    return "./scripts/" in command or "./mpc design" in command
 
 
 def wrong_in(text, lacking, run):
