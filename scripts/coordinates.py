@@ -16,19 +16,19 @@ import sys
 from collections.abc import Iterator
 from dataclasses import dataclass, field
 
-from libraries import Refusal, need, run, say
+from common.libraries import Refusal, need, run, say
 
 need("numpy", "scipy", "cvxopt")
 import numpy
 
-import files
-from arguments import Parser, turns
-from design_text import Design, plain
+from common import files
+from common.arguments import Parser, turns
+from common.design_text import Design, plain
 from draft import draft
-from model_text import model_text
-from models import Model, read_model
-from programs import Programs, reach_of
-from progress import Progress
+from common.model_text import model_text
+from common.models import Model, read_model
+from common.programs import Programs, reach_of
+from common.progress import Progress
 
 # T in periods
 TIMES = (0.0, 0.5, 0.7, 1.0, 1.3, 1.6, 2.0, 2.5, 3.2, 4.0, 5.0, 6.3, 8.0, 10.0, 13.0, 16.0, 20.0, 25.0, 32.0, 40.0)

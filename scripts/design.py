@@ -28,14 +28,15 @@ import shlex
 import subprocess
 import sys
 import time
+from argparse import Namespace
 from dataclasses import dataclass
 
-from libraries import PACKAGES, Refusal, need, run
+from common.libraries import PACKAGES, Refusal, need, run
 
 need(*PACKAGES)
-import files
-from arguments import Parser, count, positive, turns
-from progress import Progress
+from common import files
+from common.arguments import Parser, count, positive, turns
+from common.progress import Progress
 
 TOP = os.path.dirname(os.path.dirname(os.path.realpath(__file__)))
 MADE = ["fitted.toml", "design.toml", "policy.csv", "controller.txt", "report.txt", "states.csv", "loop.txt", "exact.txt", "loop.svg", "judged.txt", "explained.txt"]
@@ -108,14 +109,14 @@ def fitted(steps: Steps, model: str, as_it_is: bool, count: int) -> str:
     return steps.path("fitted.toml") if step.status == 0 else model
 
 
-def make(steps: Steps, model: str, given) -> None:
+def make(steps: Steps, model: str, given: Namespace) -> None:
     """The design, its policy and its controller."""
     steps.must("scripts/draft.py", model, steps.path("design.toml"), "--gap", str(given.gap))
     steps.must("scripts/policy.py", steps.path("design.toml"), steps.path("policy.csv"), "--turns", "0")
     steps.must("mpc", "generate", *map(steps.path, ("design.toml", "policy.csv", "controller.txt", "report.txt")))
 
 
-def show(steps: Steps, given) -> None:
+def show(steps: Steps, given: Namespace) -> None:
     """Loops and their picture, and what was measured beside what is printed."""
     design, controller, states, loop, exact = map(steps.path, ("design.toml", "controller.txt", "states.csv", "loop.txt", "exact.txt"))
     steps.must("scripts/states.py", design, states, "--corners", str(given.corners), "--random", str(given.random), "--seed", str(given.seed))

@@ -5,8 +5,8 @@ import sys
 import tomllib
 import unittest
 
-from libraries import PACKAGES, missing
-from model_text import model_text
+from common.libraries import PACKAGES, missing
+from common.model_text import model_text
 from tests.worked import FIRST, SIX, TOP, folder_with
 
 LACKING = missing(*PACKAGES)
@@ -15,10 +15,10 @@ if not LACKING:
     import design
     import reach
     import states
-    from design_text import design_of
+    from common.design_text import design_of
     from draft import draft
-    from models import Model
-    from programs import Programs, reach_of
+    from common.models import Model
+    from common.programs import Programs, reach_of
 
 MASS = """period = 0.2
 stages = 6
