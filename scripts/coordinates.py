@@ -4,8 +4,9 @@
     scripts/coordinates.py MODEL [NEW_MODEL] [--turns N]
 
 A box of a position and its rate is left at once from the corner where both have one sign: what moves goes on moving. In place of the position it tries the position in some time,
-`position + T rate`, for each state that another one moves, with T from half a period to 40 of them, and takes the T at which the loops from the corners of the box go least far. Where
-they leave all the same, it makes the box smaller, a fifth in one coordinate at a time, that which helps most. Loops are those of exact model predictive control (cvxopt), N turns (50).
+`position + T rate`, for each state that another one moves, with T from half a period to 40 of them; and where the rate then leaves its box, a smaller box of the position, a fifth at a
+time. Where loops leave all the same, it makes the box smaller in one coordinate after the other, in that which helps most. Loops are those of exact model predictive control (cvxopt)
+from the corners, N turns (50).
 
 What was tried goes to standard error. The model with what was found goes to NEW_MODEL, or is printed; where loops stay in the model as it is, it is MODEL's own. It ends with status 12
 where nothing was found in which they stay. Nothing rests on it: `./mpc loop` shows the controller's own loops.
@@ -15,27 +16,26 @@ import sys
 from collections.abc import Iterator
 from dataclasses import dataclass, field
 
-from libraries import need, run, say
+from common.libraries import Refusal, need, run, say
 
 need("numpy", "scipy", "cvxopt")
 import numpy
 
-import files
-from arguments import Parser, turns
-from design_text import Design, plain
+from common import files
+from common.arguments import Parser, turns
+from common.design_text import Design, plain
 from draft import draft
-from model_text import model_text
-from models import Model, read_model
-from programs import Programs, reach_of
-from progress import Progress
+from common.model_text import model_text
+from common.models import Model, read_model
+from common.programs import Programs, reach_of
+from common.progress import Progress
 
-# T in periods, and after how many that help no more the search ends
-TIMES = (0.5, 0.7, 1.0, 1.3, 1.6, 2.0, 2.5, 3.2, 4.0, 5.0, 6.3, 8.0, 10.0, 13.0, 16.0, 20.0, 25.0, 32.0, 40.0)
-PATIENCE = 5
-# trials whose loops go no further than this are drafted, those that go least far first, at most so many
-NEAR, DRAFTED = 1.05, 6
-# by which a coordinate of the box is made smaller, and how often at most
-SMALLER, ROUNDS = 0.8, 12
+# T in periods
+TIMES = (0.0, 0.5, 0.7, 1.0, 1.3, 1.6, 2.0, 2.5, 3.2, 4.0, 5.0, 6.3, 8.0, 10.0, 13.0, 16.0, 20.0, 25.0, 32.0, 40.0)
+# by which a coordinate of the box is made smaller, and how often at most: of a pair, and of each
+SMALLER, CUTS, ROUNDS = 0.8, 8, 12
+# how far loops may go in a trial, as a part of the box, since drafting rounds: the first that is kept when it is drafted serves
+WANTED = (1.0, 0.97, 0.93, 0.88)
 # a coupling that moves less than this part of a coordinate's box in a period is none
 COUPLED = 0.02
 # the slack that a corner's plan must leave, in tolerances
@@ -65,11 +65,11 @@ class Search:
         lo, hi = numpy.array(design.lo) / 2**design.grid, numpy.array(design.hi) / 2**design.grid
         self.middle, self.half = (lo + hi) / 2, (hi - lo) / 2
 
-    def corners(self, choice: Choice) -> list[numpy.ndarray]:
-        """The corners of the choice's box, in its coordinates; of a problem that looks the same from both sides, one of each two."""
-        sides = [(-1.0, 1.0) if half else (0.0,) for half in self.half]
+    def corners(self, choice: Choice, moved: tuple[int, ...]) -> list[numpy.ndarray]:
+        """The corners of the choice's box in these of its coordinates, the others in the middle; of a problem that looks the same from both sides, one of each two."""
+        sides = [(-1.0, 1.0) if i in moved and half else (0.0,) for i, half in enumerate(self.half)]
         if self.is_even():
-            sides[0] = (-1.0,)
+            sides[moved[0]] = sides[moved[0]][:1]
         return [self.middle + numpy.array(signs) * self.half * choice.kept for signs in itertools.product(*sides)]
 
     def is_even(self) -> bool:
@@ -77,13 +77,14 @@ class Search:
         rows = lambda table: sorted(map(tuple, table))
         turned = lambda table: sorted((*(-v for v in row[:-1]), row[-1]) for row in table)
         targets = any(row[-2] for row in d.stage_cost + d.final_cost)
-        return not targets and not self.middle.any() and self.half[0] > 0 and all(rows(t) == turned(t) for t in (d.stage_rows, d.final_rows))
+        return not targets and not self.middle.any() and all(rows(t) == turned(t) for t in (d.stage_rows, d.final_rows))
 
-    def far(self, choice: Choice, enough: float = float("inf")) -> float:
-        """How far the loops go after their start, as a part of the box; infinite where a corner has no plan, and no more than that it is beyond `enough`."""
+    def far(self, choice: Choice, moved: tuple[int, ...], enough: float = float("inf")) -> float:
+        """How far the loops from these corners go in these coordinates after their start, as a part of the box; infinite where a corner has no plan, and no more than that it is beyond
+        `enough`."""
         rows = choice.rows(self.design.states)
         back, half, most = numpy.linalg.inv(rows), self.half * numpy.array(choice.kept), 0.0
-        for corner in self.corners(choice):
+        for corner in self.corners(choice, moved):
             state = back @ corner
             if self.programs.best(state, SLACK) is None:
                 return float("inf")
@@ -92,10 +93,10 @@ class Search:
                 plan = self.programs.unlimited(state) if plan is None else plan
                 before, state = state, self.a @ state + self.b @ plan[: self.design.inputs]
                 off = abs(rows @ state - self.middle)
-                most = max(most, *(float(v / h) for v, h in zip(off, half) if h > 0))
+                most = max(most, *(float(off[i] / half[i]) for i in moved if half[i] > 0))
                 if most > enough:
                     return most
-                if all(abs(state - before) < 1e-3 * numpy.maximum(self.half, 1e-9)) and all(off <= 0.5 * half + 1e-9):
+                if all(abs(state - before) < 1e-3 * numpy.maximum(self.half, 1e-9)) and all(off[i] <= 0.5 * half[i] for i in moved):
                     break
         return most
 
@@ -111,48 +112,61 @@ def neat(value: float) -> float:
     return float(f"{value:.2g}")
 
 
-def best_times(found: Search, units: numpy.ndarray, choice: Choice, far: float, progress: Progress) -> list[tuple[float, Choice]]:
-    """Choices with a T for each pair in turn, each with how far its loops go."""
-    trials, done = [], 0
-    for i, j in found.pairs():
-        # T in physical units has two digits, so that a text shows it
-        ratio, base, worse = units[i] / units[j], choice, 0
+def with_pair(found: Search, units: numpy.ndarray, choice: Choice, pair: tuple[int, int], wanted: float, progress: Progress) -> Choice:
+    """The choice with a T for this pair, and as much of its box as lets the loops go no further than wanted; else those at which they go least far."""
+    (i, j), best, least = pair, choice, float("inf")
+    ratio = units[i] / units[j]
+    for round_ in range(CUTS):
+        kept = [part * SMALLER**round_ if k == i else part for k, part in enumerate(choice.kept)]
         for time in TIMES:
-            trial = Choice({**base.times, (i, j): neat(time * found.a[i, j] * ratio) / ratio}, base.kept)
-            there = found.far(trial, max(far, NEAR))
-            trials.append((there, trial))
-            worse = 0 if there < far else worse + 1
-            if there < far:
-                choice, far = trial, there
-            done += 1
-            progress.reach(done)
-            if worse == PATIENCE and choice is not base:
-                break
-    return trials
+            # T in physical units has two digits, so that a text shows it
+            trial = Choice(choice.times | ({pair: neat(time * found.a[pair] * ratio) / ratio} if time else {}), kept)
+            there = found.far(trial, pair, least)
+            progress.reach(progress.done + 1)
+            if there < least:
+                best, least = trial, there
+        if least <= wanted:
+            break
+    return best
 
 
-def smaller_boxes(found: Search, choice: Choice, far: float, progress: Progress) -> Iterator[tuple[float, Choice]]:
-    """Choices with a box that is smaller in one coordinate after the other, that which helps most."""
-    for round_ in range(ROUNDS):
-        trials = [(found.far(smaller), place, smaller) for place, smaller in enumerate(cut(choice, i) for i in range(found.own))]
-        far, _, choice = min(trials)
-        progress.reach(round_)
-        yield far, choice
+def smaller_boxes(found: Search, choice: Choice, progress: Progress) -> Iterator[Choice]:
+    """Choices with a box that is smaller in one coordinate after the other, in that which helps most."""
+    everything = tuple(range(found.own))
+    for _ in range(ROUNDS):
+        trials = [(found.far(cut(choice, i), everything), i) for i in everything]
+        choice = cut(choice, min(trials)[1])
+        progress.reach(progress.done + found.own)
+        yield choice
 
 
 def cut(choice: Choice, i: int) -> Choice:
+    """The choice with a smaller box in one coordinate."""
     return Choice(choice.times, [part * SMALLER if k == i else part for k, part in enumerate(choice.kept)])
 
 
-def staying(model: Model, found: Search, trials: list[tuple[float, Choice]], count: int) -> Choice | None:
-    """The first of these, those that go least far first, whose drafted design keeps its loops in the box."""
-    near = sorted((trial for trial in trials if trial[0] <= NEAR), key=lambda trial: trial[0])
-    for far, choice in near[:DRAFTED]:
-        reached = float(max(reach_of(draft(Model(changed_text(model, choice))), count)))
-        say(f"{told(model, choice)}: the loops reach {plain(reached)} of the box")
-        if reached <= 1:
-            return choice
-    return None
+def choices(model: Model, found: Search, progress: Progress) -> Iterator[Choice]:
+    """What is to be drafted, one after the other."""
+    plain_choice = Choice({}, [1.0] * found.design.states)
+    pairs = found.pairs()
+    last = plain_choice
+    for wanted in WANTED if pairs else ():
+        choice = plain_choice
+        for pair in pairs:
+            if found.far(choice, pair, wanted) > wanted:
+                choice = with_pair(found, model.state_units, choice, pair, wanted, progress)
+        if choice != last:
+            yield choice
+        last = choice
+    yield from smaller_boxes(found, last, progress)
+
+
+def reach(model: Model, choice: Choice, count: int) -> float:
+    """How far the loops of the choice's drafted design go; infinite where it can't be drafted."""
+    try:
+        return float(max(reach_of(draft(Model(changed_text(model, choice))), count)))
+    except Refusal:
+        return float("inf")
 
 
 def told(model: Model, choice: Choice) -> str:
@@ -163,23 +177,20 @@ def told(model: Model, choice: Choice) -> str:
     return "with " + ", ".join(words) if words else "as it is"
 
 
-def search(model: Model, found: Search, count: int) -> Choice | None:
+def search(model: Model, design: Design, count: int) -> Choice | None:
     """The choice in which loops stay, or None."""
-    choice = Choice({}, [1.0] * found.design.states)
-    far = found.far(choice)
-    say(f"as it is: the loops reach {plain(max(1.0, far))} of the box")
-    if far <= 1 and max(reach_of(found.design, count)) <= 1:
-        return choice
-    with Progress("trials", len(TIMES) * len(found.pairs()) + ROUNDS) as progress:
-        trials = best_times(found, model.state_units, choice, far, progress)
-        kept = staying(model, found, trials, count)
-        if kept:
-            return kept
-        far, choice = min(trials + [(far, choice)], key=lambda trial: trial[0])
-        for far, choice in smaller_boxes(found, choice, far, progress):
-            kept = staying(model, found, [(far, choice)], count)
-            if kept:
-                return kept
+    as_it_is, far = Choice({}, [1.0] * design.states), float(max(reach_of(design, count)))
+    say(f"{told(model, as_it_is)}: the loops reach {plain(far)} of the box")
+    if far <= 1:
+        return as_it_is
+    found = Search(design, len(model.to), count)
+    with Progress("trials at most", len(found.pairs()) * len(TIMES) * CUTS + ROUNDS * found.own) as progress:
+        for choice in choices(model, found, progress):
+            far = reach(model, choice, count)
+            progress.clear()
+            say(f"{told(model, choice)}: the loops reach {plain(far)} of the box")
+            if far <= 1:
+                return choice
     return None
 
 
@@ -214,7 +225,7 @@ def neat_sum(value: float) -> float:
 
 def name_of(model: Model, i: int, j: int, time: float) -> str:
     """What a state with another one in it is called: where that is its rate, by the time."""
-    (word, unit), (other, other_unit) = model.names[i], model.names[j]
+    (word, unit), (other, _) = model.names[i], model.names[j]
     plant = numpy.array(model.text["a"], float)
     is_rate = not model.text.get("sampled") and plant[i][j] == 1.0 and numpy.allclose(model.to, numpy.eye(len(model.to)))
     told = f"{word} in {plain(time * 1000)} ms" if is_rate and time < 1 else f"{word} in {plain(time)} s" if is_rate else f"{word} and {plain(time)} {other}"
@@ -229,7 +240,7 @@ def main() -> int:
     given = parser.parse_args()
     files.keep_apart({"MODEL": given.model}, {"NEW_MODEL": given.new or files.STANDARD_OUTPUT})
     model = read_model(given.model)
-    choice = search(model, Search(draft(model), len(model.to), given.turns), given.turns)
+    choice = search(model, draft(model), given.turns)
     if choice is None:
         say("no coordinates and no box were found in which loops stay: weights that move states less, more stages, or limits on what overshoots (docs/DESIGNING.md)")
         return 12

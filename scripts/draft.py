@@ -16,25 +16,24 @@ import math
 import sys
 from dataclasses import dataclass, field, replace
 
-import models
-from libraries import need, run
+from common import models
+from common.libraries import need, run
 
 need("numpy", "scipy", "cvxopt", "jsonschema")
 import numpy
 
-import files
-import sizes
-from arguments import Parser, positive
-from condensed import curvature
-from corners import corners_of, margin_of, multiplier_of
-from design_text import Design, Name, plain, text_of
+from common import files, sizes
+from common.arguments import Parser, positive
+from common.condensed import curvature
+from common.corners import corners_of, margin_of, multiplier_of
+from common.design_text import Design, Name, plain, text_of
 from discretise import least_den, lost, responses_error, response_error, rounded, row_sum
 from explain import later_sizes
-from models import Model, named, read_model
+from common.models import Model, named, read_model
 from policy import plans_with, search
-from programs import Programs
-from rounding import limit_denominator, moves, whole_limits, whole_ratio, whole_row
-from settling import Settled, settled
+from common.programs import Programs
+from common.rounding import limit_denominator, moves, whole_limits, whole_ratio, whole_row
+from common.settling import Settled, settled
 
 # the step exponent, by version: in version 2 that of a row is up to 4 less
 STEP = {1: 0, 2: 4}

@@ -7,16 +7,16 @@ Each turn takes the first inputs of the best plan (cvxopt), and rounds the next 
 """
 from collections.abc import Iterator
 
-from libraries import Refusal, need, run
+from common.libraries import Refusal, need, run
 
 need("numpy", "cvxopt")
-import matching
-from arguments import Parser, turns
-from design_text import Design, read_design
-from files import STANDARD_OUTPUT, keep_apart
-from programs import Programs, exact_loop
-from progress import Progress
-from texts import read_text, records_of
+from common import matching
+from common.arguments import Parser, turns
+from common.design_text import Design, read_design
+from common.files import STANDARD_OUTPUT, keep_apart
+from common.programs import Programs, exact_loop
+from common.progress import Progress
+from common.texts import read_text, records_of
 
 SCALE = 2**40
 

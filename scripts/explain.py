@@ -13,34 +13,32 @@ The files come in any order; each is known by what it holds. FILE alone will do,
 
 It computes anew, in Python, what it says of a design and a policy, and changes nothing; the program's report is what counts.
 """
+from collections.abc import Callable, Iterable, Iterator, Sequence
 from fractions import Fraction
 
-import files
-import matching
-import sizes
-from arguments import Parser, positive
-from condensed import condense, curvature
-from corners import corners_of, half_target, margin_of, multiplier_of, steps_of
-from design_text import design_of, plain
-from libraries import Refusal, run
-from texts import controller_of, kind_of, read_text, records_of, report_of
-from trajectories import dot
-
+from common import files, matching, sizes
+from common.arguments import Parser, positive
+from common.condensed import Condensed, condense, curvature
+from common.corners import corners_of, half_target, margin_of, multiplier_of, steps_of
+from common.design_text import Design, design_of, plain
+from common.libraries import Refusal, run
+from common.texts import Controller, controller_of, kind_of, read_text, records_of, report_of
+from common.trajectories import dot
 
 WORD = 32
 KINDS = {"design": "a design", "controller": "a controller", "report": "a report", "policy": "a policy", "lines": "lines of solve or loop, or nothing that is known"}
 
 
-def bits_of(numbers):
+def bits_of(numbers: Iterable[int]) -> int:
     """The bits of a signed word that holds each of these."""
     return max((v if v >= 0 else -v - 1).bit_length() + 1 for v in numbers)
 
 
-def flat(rows):
+def flat(rows: list) -> list:
     return [v for row in rows for v in row]
 
 
-def report_words(report, design):
+def report_words(report: dict, design: Design | None) -> Iterator[str]:
     """A report's lines in decimals."""
     least = " or more" if min(report["violations"], default=report["violation"]) < report["violation"] else ""
     yield f"every run takes K = {report['steps']} steps, a step is 2^-{report['step']}{least}, plans and gains have f = {report['bits']} fraction bits"
@@ -61,7 +59,7 @@ def report_words(report, design):
     yield f"and some feasible plan costs at most {plain(report['undercut'])} more than it (R times the violation, loose)"
 
 
-def violation_words(report, design, kind, number):
+def violation_words(report: dict, design: Design, kind: str, number: int) -> str:
     """By how much a row is exceeded at most; where its rows of the plan differ, at which stages."""
     name = design.name(kind, number)
     word = f"{kind} {number} ({name.word})" if (kind, number) in design.names else f"{kind} {number}"
@@ -71,16 +69,16 @@ def violation_words(report, design, kind, number):
     return f"{word} is exceeded by at most {told}, at any state of the box"
 
 
-def parted(places, shown, at):
+def parted(places: Sequence[tuple], shown: Callable[..., str], at: str) -> str:
     """Bounds with the places that have them, the greatest first, as '2 V at stage 3, 1 V at stages 0 to 2 and 4'."""
     bounds = sorted({bound for _, bound in places}, reverse=True)
     found = [(bound, [place for place, other in places if other == bound]) for bound in bounds]
     return ", ".join(f"{shown(bound)} {at}{'s' * (len(some) > 1)} {ranges(some)}" for bound, some in found)
 
 
-def ranges(numbers):
+def ranges(numbers: Iterable[int]) -> str:
     """Rising numbers in words, as '0 to 2, 4 and 6'."""
-    runs = []
+    runs: list[list[int]] = []
     for number in numbers:
         if runs and runs[-1][-1] == number - 1:
             runs[-1].append(number)
@@ -90,7 +88,7 @@ def ranges(numbers):
     return " and ".join([", ".join(words[:-1]), words[-1]] if len(words) > 1 else words)
 
 
-def cost_words(controller, period, clock, cycles):
+def cost_words(controller: Controller, period: float | None, clock: float, cycles: float) -> Iterator[str]:
     """What a run costs."""
     c = controller
     plain_step = c.entries * (c.states + c.rows) + c.rows * (c.entries + c.states)
@@ -125,12 +123,12 @@ def cost_words(controller, period, clock, cycles):
         yield f"32-bit factors and 64-bit sums do not serve: a product of {told}, and {sums}"
 
 
-def words_of(bits):
+def words_of(bits: int) -> int:
     """The 32-bit words of a signed number of so many bits."""
     return -(-bits // WORD)
 
 
-def exponent_words(c):
+def exponent_words(c: Controller) -> str:
     """How many rows have which step exponent."""
     counts = [(exponent, c.exps.count(exponent)) for exponent in sorted(set(c.exps), reverse=True)]
     if len(counts) == 1:
@@ -139,14 +137,14 @@ def exponent_words(c):
     return f"the step exponent of a row is {told}; its multiplier is shifted left by what that is below {c.step}, which is no product"
 
 
-def plan_bits(c):
+def plan_bits(c: Controller) -> int:
     """The bits of the greatest plan entry that the gains allow over the box."""
     reach = [max(abs(l), abs(h)) * 2 ** (c.bits - c.grid) for l, h in zip(c.lo, c.hi)]
     entry = lambda j: 2**c.step * (sum(abs(g) * x for g, x in zip(c.P[j], reach)) + abs(c.T[j]) * 2**c.bits) + sum(map(abs, c.W[j])) * c.clamp
     return bits_of([-((-entry(j)) >> (c.bits + c.step)) for j in range(c.entries)])
 
 
-def bound_words(design, policy, report):
+def bound_words(design: Design, policy: list, report: dict | None) -> Iterator[str]:
     """Where R, the step and K come from."""
     corners = corners_of(design, policy)
     margin, cost = margin_of(corners)
@@ -175,15 +173,15 @@ def bound_words(design, policy, report):
     yield f"K = 2^(s+2) R / target = {plain(2 ** (step + 2))} * {bound} / {plain(Fraction(design.violation, design.target_den))} = {steps_of(design, step, bound)}"
 
 
-def told_sizes(found):
+def told_sizes(found: dict) -> str:
     return ", ".join(f"{name} {sizes.bits(value):.1f}" for name, value in found.items())
 
 
-def wide(found):
+def wide(found: dict) -> dict:
     return {name: value for name, value in found.items() if value > sizes.LIMIT}
 
 
-def class_words(design, policy, form):
+def class_words(design: Design, policy: list, form: Condensed) -> Iterator[str]:
     """What is held in enclosures, and why."""
     if sizes.has_fine_corners(design, policy):
         found = told_sizes(wide(sizes.exact_corner_sizes(design, policy)))
@@ -196,7 +194,7 @@ def class_words(design, policy, form):
         yield f"with rows that count 16 times, sizes pass 126 bits ({told_sizes(lowered)}), so that no row has a smaller step exponent, and each the same violation"
 
 
-def size_words(design, policy, report):
+def size_words(design: Design, policy: list, report: dict | None) -> Iterator[str]:
     """Each quantity in bits of 126, of the corners and of the condensed form by their classes."""
     margin, cost = margin_of(corners_of(design, policy))
     bound, form = multiplier_of(margin, cost), sizes.form_of(design)
@@ -212,7 +210,7 @@ def size_words(design, policy, report):
             yield f"too wide{of}: {', '.join(wide(found))} (docs/DESIGNING.md, \"Sizes\")"
 
 
-def later_sizes(design, form, bound, report):
+def later_sizes(design: Design, form: Condensed, bound: int | None, report: dict | None) -> dict:
     """The sizes of a condensed form, and of what is made of it as far as there is a bound R and a form within the limit."""
     found = sizes.form_sizes(design, form)
     if bound is None:
@@ -228,7 +226,7 @@ def later_sizes(design, form, bound, report):
     return found
 
 
-def exceeded(design, state, inputs):
+def exceeded(design: Design, state: list | None, inputs: list) -> Iterator[str]:
     """The stage rows that a state and inputs exceed, and by how much, as words; where the state isn't known, the rows on inputs alone."""
     for number, row in enumerate(design.stage_rows, 1):
         if state is None and any(row[: design.states]):
@@ -239,7 +237,7 @@ def exceeded(design, state, inputs):
             yield f"; {name.word} is exceeded by {name.shown(excess)}"
 
 
-def line_words(line, design):
+def line_words(line: str, design: Design | None) -> Iterator[str]:
     """A line of `solve` or `loop` in decimals."""
     numbers = [int(word) for word in line.split()]
     if design is None:
@@ -247,7 +245,7 @@ def line_words(line, design):
         return
     n, p = design.states, design.inputs
 
-    def told(sums, den, state=None):
+    def told(sums: list, den: int, state: list | None = None) -> str:
         values = [Fraction(v, den) for v in sums]
         names = [design.name("input", l + 1) for l in range(p)]
         return ", ".join(f"{name.word} {name.shown(v)}" for name, v in zip(names, values)) + "".join(exceeded(design, state, values))
@@ -264,7 +262,7 @@ def line_words(line, design):
         yield f"{len(numbers)} numbers: no line of this design"
 
 
-def explain(texts, clock=100.0, cycles=1.0):
+def explain(texts: dict, clock: float = 100.0, cycles: float = 1.0) -> Iterator[str]:
     """The words for these texts, by kind; of lines there may be any number."""
     design = design_of(texts["design"]) if "design" in texts else None
     report = report_of(texts["report"]) if "report" in texts else None
@@ -285,7 +283,7 @@ def explain(texts, clock=100.0, cycles=1.0):
         yield f"{design.states} states, {design.inputs} inputs, {design.stages} stages, {design.rows} limit rows; name its policy or its report, too"
 
 
-def refuse_others(design, report, policy, controller):
+def refuse_others(design: Design | None, report: dict | None, policy: list | None, controller: Controller | None) -> None:
     """Ends where two of these are not of one design, by what differs."""
     if report and design:
         matching.refuse("the report", "design", matching.report_difference(report, design))
@@ -299,7 +297,7 @@ def refuse_others(design, report, policy, controller):
         matching.refuse("the report", "policy", matching.policy_difference(report, design, policy))
 
 
-def read_file(path):
+def read_file(path: str) -> tuple[str, str | Iterator[str]]:
     """The kind of a file, and its text; of lines, as many as come."""
     with open(path, "rb") as file:
         start = file.peek(files.LONGEST_LINE).decode("utf-8-sig", "replace")
@@ -307,9 +305,10 @@ def read_file(path):
     return kind, files.lines_of(path) if kind == "lines" else read_text(path)
 
 
-def read_files(paths):
+def read_files(paths: list[str]) -> dict:
     """The texts by kind, each of another kind."""
-    found, held = {}, {}
+    found: dict[str, str | Iterator[str]] = {}
+    held: dict[str, str] = {}
     for path in paths:
         kind, text = read_file(path)
         if kind in found:
@@ -318,7 +317,7 @@ def read_files(paths):
     return found
 
 
-def main():
+def main() -> int:
     parser = Parser(__doc__, prog="./mpc explain", usage="./mpc explain FILE [DESIGN] [POLICY] [CONTROLLER] [REPORT] [--clock MHZ] [--cycles N]")
     parser.add_argument("files", nargs="+")
     parser.add_argument("--clock", type=positive, default=100.0)

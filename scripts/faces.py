@@ -20,19 +20,18 @@ from dataclasses import dataclass
 from fractions import Fraction
 from math import ceil, lcm
 
-from libraries import need, run
+from common.libraries import need, run
 
 need("numpy", "scipy")
 import numpy
 from scipy.optimize import linprog
 
-import files
-import sizes
-from arguments import Parser
-from corners import corners_of, half_target, margin_of, multiplier_of
-from design_text import plain, read_design
-from texts import read_text, records_of
-from trajectories import dot
+from common import files, sizes
+from common.arguments import Parser
+from common.corners import corners_of, half_target, margin_of, multiplier_of
+from common.design_text import plain, read_design
+from common.texts import read_text, records_of
+from common.trajectories import dot
 
 SCALE = 2**40
 MOST = 2**31 - 1

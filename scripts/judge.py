@@ -12,18 +12,18 @@ import sys
 import tempfile
 from fractions import Fraction
 
-from libraries import Refusal, need, run
+from common.libraries import Refusal, need, run
 
 need("numpy", "cvxopt")
-import matching
-from arguments import Parser, count
-from design_text import Design, plain, read_design
-from files import STANDARD_OUTPUT, keep_apart
-from programs import Programs
-from progress import Progress
+from common import matching
+from common.arguments import Parser, count
+from common.design_text import Design, plain, read_design
+from common.files import STANDARD_OUTPUT, keep_apart
+from common.programs import Programs
+from common.progress import Progress
 from states import chosen
-from texts import controller_of, kind_of, read_text
-from trajectories import slacks_of
+from common.texts import controller_of, kind_of, read_text
+from common.trajectories import slacks_of
 
 LAUNCHER = os.path.join(os.path.dirname(os.path.dirname(os.path.realpath(__file__))), "mpc")
 

@@ -4,19 +4,20 @@
     scripts/pages.py [--write] PAGE ..
 
 A block of lines of four spaces that begins with ./ has commands, run at the top of the repository; the next such block is what they print. Commands that need a
-library which isn't there (those of scripts/) are left out, and told. With --write a page is given what its commands print.
+library which isn't there (those of scripts/, and `./mpc design`) are left out, and told. With --write a page is given what its commands print.
 """
 import os
 import subprocess
 import sys
+from collections.abc import Callable, Iterator
 
-import files
-from libraries import PACKAGES, missing, run
+from common import files
+from common.libraries import PACKAGES, missing, run
 
 TOP = os.path.dirname(os.path.dirname(os.path.realpath(__file__)))
 
 
-def blocks_of(text):
+def blocks_of(text: str) -> list[list[str]]:
     """The blocks of lines that begin with four spaces."""
     blocks, block = [], []
     for line in text.split("\n") + [""]:
@@ -28,7 +29,7 @@ def blocks_of(text):
     return blocks
 
 
-def commands_of(text):
+def commands_of(text: str) -> Iterator[tuple[str, list[str]]]:
     """Each block of commands with the lines that it prints: those of the next block, or none where the next has commands too."""
     blocks = blocks_of(text)
     for block, after in zip(blocks, blocks[1:] + [[]]):
@@ -36,11 +37,11 @@ def commands_of(text):
             yield "\n".join(block), [] if after and after[0].startswith("./") else after
 
 
-def needs_libraries(command):
-    return "./scripts/" in command
+def needs_libraries(command: str) -> bool:
+    return "./scripts/" in command or "./mpc design" in command
 
 
-def wrong_in(text, lacking, run):
+def wrong_in(text: str, lacking: list[str], run: Callable[[str], list[str]]) -> Iterator[str]:
     """What is wrong: a line for each block of commands that prints something else."""
     for command, printed in commands_of(text):
         if lacking and needs_libraries(command):
@@ -51,7 +52,7 @@ def wrong_in(text, lacking, run):
             yield f"{command} printed {got}, and the page says {printed}"
 
 
-def rewritten(text, run):
+def rewritten(text: str, run: Callable[[str], list[str]]) -> str:
     """The page with what its commands print. A block that another block of commands follows prints nothing."""
     indented = lambda lines: "\n".join("    " + line for line in lines)
     for command, printed in commands_of(text):
@@ -62,12 +63,12 @@ def rewritten(text, run):
     return text
 
 
-def run_at_top(command):
+def run_at_top(command: str) -> list[str]:
     text = subprocess.run(command, shell=True, capture_output=True, text=True, cwd=TOP).stdout.rstrip("\n")
     return text.split("\n") if text else []
 
 
-def write(pages):
+def write(pages: list[str]) -> int:
     for page in pages:
         with open(page, encoding="utf-8") as file:
             text = rewritten(file.read(), run_at_top)
@@ -75,7 +76,7 @@ def write(pages):
     return 0
 
 
-def main(pages):
+def main(pages: list[str]) -> int:
     if pages in ([], ["--help"]):
         print(__doc__.strip())
         return 0

@@ -17,7 +17,7 @@ import io
 import os
 from collections.abc import Iterator
 
-from libraries import Refusal, need, run
+from common.libraries import Refusal, need, run
 
 need("matplotlib")
 import matplotlib
@@ -26,11 +26,10 @@ matplotlib.use("Agg")
 import matplotlib.pyplot as pyplot
 from matplotlib.figure import Figure
 
-import files
-import matching
-from arguments import Parser, numbers, several
-from design_text import Design, read_design
-from texts import loop_lines_of
+from common import files, matching
+from common.arguments import Parser, numbers, several
+from common.design_text import Design, read_design
+from common.texts import loop_lines_of
 
 STYLES = ["-", "--", ":", "-."]
 ONE_COLUMN = 5

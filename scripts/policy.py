@@ -18,16 +18,16 @@ import math
 import sys
 from collections.abc import Callable
 
-from libraries import need, run
+from common.libraries import need, run
 
 need("numpy", "cvxopt")
-import files
-from arguments import Parser, positive, several, turns
-from condensed import condense, curvature
-from corners import corners_of, margin_of, multiplier_of, steps_of
-from design_text import Design, plain, read_design
+from common import files
+from common.arguments import Parser, positive, several, turns
+from common.condensed import condense, curvature
+from common.corners import corners_of, margin_of, multiplier_of, steps_of
+from common.design_text import Design, plain, read_design
 from explain import size_words
-from programs import Programs, reach_of
+from common.programs import Programs, reach_of
 
 FINE = 2**24
 MOST = 1024

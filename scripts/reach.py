@@ -9,16 +9,15 @@ coordinate it prints how far the loops go, as a part of the box from its middle:
 """
 from dataclasses import dataclass
 
-from libraries import Refusal, need, run
+from common.libraries import Refusal, need, run
 
 need("numpy", "cvxopt")
-import files
-import matching
-from arguments import Parser, turns
-from design_text import Design, plain, read_design
-from programs import Programs, exact_loop
-from progress import Progress
-from texts import loop_lines_of, read_text, records_of
+from common import files, matching
+from common.arguments import Parser, turns
+from common.design_text import Design, plain, read_design
+from common.programs import Programs, exact_loop
+from common.progress import Progress
+from common.texts import loop_lines_of, read_text, records_of
 
 
 @dataclass

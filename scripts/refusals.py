@@ -12,16 +12,17 @@ import os
 import re
 import sys
 import tomllib
+from collections.abc import Iterator
 from fractions import Fraction
 
-import sizes
-from arguments import MOST_TURNS
-from corners import corners_of, exact_corner, margin_of, multiplier_of
-from design_text import plain, read_design
-from files import read_bytes, same
-from libraries import run
-from texts import read_text, records_of
-from usage import commands, files_of
+from common import sizes
+from common.arguments import MOST_TURNS
+from common.corners import corners_of, exact_corner, margin_of, multiplier_of
+from common.design_text import Design, plain, read_design
+from common.files import read_bytes, same
+from common.libraries import run
+from common.texts import read_text, records_of
+from common.usage import commands, files_of
 
 # ---- the texts: one for each status, and one for each fault that a status carries
 
@@ -121,44 +122,44 @@ class Call:
         self.command = words[0] if words else ""
         self.kinds = files_of(self.command)
 
-    def kind(self, number):
+    def kind(self, number: int) -> str:
         return self.kinds[number - 1] if 0 < number <= len(self.kinds) else "output"
 
-    def path(self, kind):
+    def path(self, kind: str) -> str | None:
         at = 1 + self.kinds.index(kind) if kind in self.kinds else len(self.words)
         return self.words[at] if at < len(self.words) else None
 
-    def named(self, number):
+    def named(self, number: int) -> str:
         """A file as 'the design file NAME'."""
         kind = self.kind(number)
         return "standard output" if kind == "output" else f"the {kind} file {self.path(kind)}"
 
-    def design(self):
+    def design(self) -> Design | None:
         try:
             return read_design(self.path("design"))
         except (OSError, ValueError, KeyError, TypeError):
             return None
 
-    def records(self, kind):
+    def records(self, kind: str) -> list[str]:
         """The lines that are records of a policy or states file."""
         try:
             return [line for line in read_text(self.path(kind)).splitlines() if line]
         except (OSError, TypeError):
             return []
 
-    def policy(self):
+    def policy(self) -> list | None:
         try:
             return records_of(read_text(self.path("policy")))
         except (OSError, ValueError, TypeError):
             return None
 
 
-def number_of(word, most):
+def number_of(word: str, most: int) -> bool:
     """Whether a word is a number of an argument."""
     return word.isascii() and word.isdigit() and str(int(word)) == word and int(word) <= most
 
 
-def usage(call):
+def usage(call: Call) -> str:
     words, command, listed = call.words, call.command, commands()
     if not words:
         return "A command is needed."
@@ -176,7 +177,7 @@ def usage(call):
     return f"`{words[1]}` is no number from 0 to 4294967295 without sign or leading zero."
 
 
-def one_file_twice(call):
+def one_file_twice(call: Call) -> str:
     """Which of the four files of `generate` are one."""
     for output in ("report", "controller"):
         for kind in call.kinds[: call.kinds.index(output)]:
@@ -185,7 +186,7 @@ def one_file_twice(call):
     return "The controller's or the report's name is that of another file of the four: each needs a file of its own."
 
 
-def without_arguments(call):
+def without_arguments(call: Call) -> str:
     """Status 99: the system gave the program no arguments, as where one is no text."""
     for word in call.words:
         try:
@@ -195,7 +196,7 @@ def without_arguments(call):
     return TEXTS["no-arguments"]
 
 
-def reading_fault(path):
+def reading_fault(path: str | None) -> str:
     if path is None or not os.path.exists(path):
         return "there is no such file"
     if os.path.isdir(path):
@@ -203,7 +204,7 @@ def reading_fault(path):
     return "it may not be read" if not os.access(path, os.R_OK) else "reading it failed"
 
 
-def writing_fault(path):
+def writing_fault(path: str | None) -> str:
     if path is None:
         return "it is closed, or its device is full"
     folder = os.path.dirname(path) or "."
@@ -214,7 +215,7 @@ def writing_fault(path):
     return "it may not be written" if not os.access(path if os.path.exists(path) else folder, os.W_OK) else "writing it failed, as on a full disk"
 
 
-def toml_fault(path):
+def toml_fault(path: str | None) -> str:
     """Where Python's reader stops, which reads nearly the same TOML."""
     try:
         tomllib.loads(read_bytes(path).decode("utf-8-sig"))
@@ -227,7 +228,7 @@ def toml_fault(path):
     return ": a number lies outside 64 bits, a float is too large, or it is nested too deep"
 
 
-def further_key(path):
+def further_key(path: str | None) -> str:
     known = {key for key, _, _ in PLACES} | set(TABLES)
     try:
         top = tomllib.loads(read_bytes(path).decode())
@@ -238,7 +239,7 @@ def further_key(path):
     return "the key `" + "`, `".join(extra) + "`" if extra else "a further key"
 
 
-def shape_words(words, path):
+def shape_words(words: str, path: str | None) -> str:
     """A shape with the design's numbers of states and inputs, where they can be read."""
     try:
         top = tomllib.loads(read_bytes(path).decode())
@@ -250,7 +251,7 @@ def shape_words(words, path):
         return words.format(n="`states`", p="`inputs`", n1="`states` + 1", n2="`states` + 2", np1="`states` + `inputs` + 1")
 
 
-def text_fault(call, file, fault, numbers):
+def text_fault(call: Call, file: int, fault: str, numbers: list[int]) -> str:
     """Status 5."""
     kind, name = call.kind(file), call.named(file)
     path = call.path(kind)
@@ -289,7 +290,7 @@ def text_fault(call, file, fault, numbers):
     return TEXTS["number"].format(field=numbers[1], entry=entry, file=name, fault=f", `{word.strip()[:40]}`," if word else "", wanted=wanted)
 
 
-def simulated_slack(call, corner, row):
+def simulated_slack(call: Call, corner: int, row: int) -> Fraction | None:
     """The slack without rounding, where it was shown by an enclosure; else None."""
     try:
         design, policy = call.design(), call.policy()
@@ -298,7 +299,7 @@ def simulated_slack(call, corner, row):
         return None
 
 
-def no_margin(call, corner, row, above, below):
+def no_margin(call: Call, corner: int, row: int, above: int, below: int) -> str:
     design, slack = call.design(), Fraction(above, below)
     shown = f"{above}/{below} = {float(slack):.7f}" if slack else "0"
     if design is None or row > design.rows:
@@ -321,19 +322,19 @@ def no_margin(call, corner, row, above, below):
     return TEXTS["no-margin"].format(corner=design.corner_words(corner), row=design.row_words(row), slack=shown, hint=hint)
 
 
-def too_many_steps(call, steps):
+def too_many_steps(call: Call, steps: int) -> str:
     design = call.design()
     hint = f" (at least {plain(Fraction(design.violation * steps, design.target_den * 2**22))})" if design else ""
     return TEXTS["too-many-steps"].format(steps=steps, hint=hint)
 
 
-def too_fine(call, epsilon):
+def too_fine(call: Call, epsilon: int) -> str:
     design = call.design()
     hint = f"and the target is {plain(Fraction(design.gap, design.target_den))}" if design else "and the target is less"
     return TEXTS["too-fine"].format(epsilon=plain(Fraction(epsilon, 2**40)), hint=hint)
 
 
-def sizes_of(design, policy):
+def sizes_of(design: Design, policy: list) -> dict:
     """The sizes that are tested, as far as there are numbers that they are made of: those of the corners, and where these are within the limit, those of the form."""
     found = sizes.corner_sizes(design, policy)
     if max(found.values()) > sizes.LIMIT:
@@ -343,7 +344,7 @@ def sizes_of(design, policy):
     return found | sizes.form_sizes(design, form) | {"multiplier": sizes.multiplier_size(cost, bound), "error": sizes.Errors(design, form, bound).size}
 
 
-def too_wide(call, name):
+def too_wide(call: Call, name: str) -> str:
     """Status 10, with the size in bits where the files give it."""
     what, helps = QUANTITIES.get(name, ("a number of the design", "a smaller design"))
     try:
@@ -353,7 +354,7 @@ def too_wide(call, name):
     return TEXTS["too-wide"].format(name=name, what=what, size=size, help=helps)
 
 
-def controller_lines(text):
+def controller_lines(text: str) -> list[str]:
     """What should stand in each line, as far as the first two lines tell the version and the sizes."""
     second = text.startswith("mpc-controller 2\n")
     head = [
@@ -383,7 +384,7 @@ def controller_lines(text):
     )
 
 
-def controller_fault(call, file, fault, numbers):
+def controller_fault(call: Call, file: int, fault: str, numbers: list[int]) -> str:
     name = call.named(file)
     if fault == "unsafe":
         return TEXTS["controller-unsafe"].format(file=name)
@@ -398,7 +399,7 @@ def controller_fault(call, file, fault, numbers):
     return TEXTS["controller-line"].format(file=name, line=numbers[0], fault=shown, wanted=wanted)
 
 
-def outside_box(call, entry, turn, coordinate):
+def outside_box(call: Call, entry: int, turn: int, coordinate: int) -> str:
     design = call.design()
     name = design.name("state", coordinate).word if design else f"x{coordinate}"
     if turn > 1:
@@ -414,7 +415,7 @@ def outside_box(call, entry, turn, coordinate):
     return TEXTS["outside-box"].format(entry=entry, file=call.named(3 if call.command == "loop" else 2), name=name, fault=fault, step=step)
 
 
-def explanation(status, line, words):
+def explanation(status: int, line: str, words: list[str]) -> str:
     """The sentences for a status, the program's line and its words; empty where there is nothing to say."""
     call, fields = Call(words), line.split()
     if status == 98:
@@ -475,7 +476,7 @@ STATUSES = [
 ]
 
 
-def table():
+def table() -> Iterator[str]:
     """The page of all refusals, made of the texts."""
     yield "# Refusals"
     yield ""
@@ -496,7 +497,7 @@ def table():
         yield f"| `{name}` | {what} | {helps} |"
 
 
-def main(arguments):
+def main(arguments: list[str]) -> int:
     if not arguments or arguments[0] == "--help":
         print(__doc__.strip())
         return 0

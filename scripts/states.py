@@ -9,10 +9,10 @@ states N, which is 4.
 import random
 import sys
 
-import files
-from arguments import Parser, count
-from design_text import Design, read_design
-from libraries import run
+from common import files
+from common.arguments import Parser, count
+from common.design_text import Design, read_design
+from common.libraries import run
 
 
 def corners(design: Design) -> list[list[int]]:

@@ -1,14 +1,16 @@
 #!/usr/bin/env python3
 """Proves everything from nothing in a fresh clone, and prints what it took, crate by crate.
 
-    bench/gate/run.py --anew [--lanes N] [--log FILE] [NAME ..]     the gate, `rt ci --anew`: every proof, every test, every must-fail edit
-    bench/gate/run.py --first                                       the first answer: ./mpc, which proves and builds the program
+    bench/gate/run.py --anew [--lanes N] [--log FILE] [--page FILE [--note TEXT]] [NAME ..]    the gate, `rt ci --anew`: every proof, every test, every must-fail edit
+    bench/gate/run.py --first [--page FILE]                                                    the first answer: ./mpc, which proves and builds the program
 
 What is measured is what is committed. The clone has no kept work, and with --anew the gate reads none. Without it the gate of a kit that keeps what passed takes what an earlier
 run on this machine passed of the same files, as it does in a checkout, and the table has what is left; the gate of a kit without that flag always begins from nothing. With names, these crates and those below them are proved, and the others are taken out of the
 clone. --lanes N proves N crates side by side with one process each, whatever memory there is;
 without it the gate chooses by processors and memory, and a proof may share several processors, which costs some more processor time. Stopped by Ctrl-C or a
 SIGTERM, it tells what it has measured. Below the table stand the dearest must-fail edits, each with its seconds.
+
+With --page docs/COSTS.md that page is written of what was measured, with the words of --note, or with --first its line of the first answer.
 
 Processor time is that of the prover's processes, as the system counts it, and memory the most that one process held. The longest chain is that of the proofs'
 times, each crate after those that it stands on: no number of processors gives the first answer sooner.
@@ -28,8 +30,12 @@ import tempfile
 import threading
 import time
 
-# the marks, in seconds of processor time
-PROOF, TESTS, WHOLE, FIRST = 120, 180, 150 * 60, 25 * 60
+sys.path.insert(0, os.path.dirname(os.path.abspath(__file__)))
+import page
+from page import PROOF, TESTS, WHOLE
+
+# the mark of the first answer, in seconds of processor time
+FIRST = 25 * 60
 FIRST_WALL = 8 * 60
 PARTS = ("proof", "tests", "edits")
 # how many edits are told by name
@@ -203,6 +209,17 @@ def table(crates, said, wall, total):
     beyond = [f"the proof of {crate}" for crate in order if spent[crate, "proof"] > PROOF] + [f"the tests of {crate}" for crate in order if spent[crate, "tests"] > TESTS]
     beyond += ["the whole"] * (total > WHOLE)
     print("beyond its mark: " + (", ".join(beyond) or "nothing"))
+    costs = {
+        crate: page.Cost(*(spent[crate, part] for part in PARTS[:2]), named[crate], spent[crate, "edits"], max(memory[crate, part] for part in PARTS) / 2**30) for crate in order
+    }
+    page.add_changes(costs, crates)
+    return costs, (length, chain)
+
+
+def write_page(options, wall, measured):
+    """docs/COSTS.md, of a whole run."""
+    kit = subprocess.run([tool_path(), "version"], capture_output=True, text=True).stdout.split(" ")[0]
+    page.write(options.page, page.text(kit, os.cpu_count(), wall, *measured, page.first_line(page.read(options.page)), options.note))
 
 
 def gate(options):
@@ -226,7 +243,9 @@ def gate(options):
             with open(log) as file:
                 said = file.read()
             print("\n".join(said.rstrip("\n").split("\n")[-40 if status else -1 :]))
-            table(crates, said, wall, after.ru_utime + after.ru_stime - before.ru_utime - before.ru_stime)
+            measured = table(crates, said, wall, after.ru_utime + after.ru_stime - before.ru_utime - before.ru_stime)
+            if options.page and not status:
+                write_page(options, wall, measured)
             sys.stdout.flush()
 
         def stop(*_):
@@ -262,7 +281,7 @@ def tell_what_is_kept():
         print(f"note: what earlier runs on this machine passed is taken over; with {store} moved aside the time is that of a new machine", file=sys.stderr)
 
 
-def first():
+def first(options):
     tell_what_is_kept()
     with tempfile.TemporaryDirectory(prefix="gate-") as room:
         print(clone(f"{room}/clone"), flush=True)
@@ -272,6 +291,12 @@ def first():
         _, status, usage = os.wait4(started.pid, 0)
         wall, spent = time.monotonic() - began, usage.ru_utime + usage.ru_stime
     well = os.waitstatus_to_exitcode(status) == 0
+    if well and options.page:
+        line = (
+            f"{page.FIRST_ANSWER} (`./mpc generate` in a fresh clone, with nothing kept on the machine) takes {spent / 60:.1f} processor minutes and {wall / 60:.1f} minutes on {os.cpu_count()} "
+            f"processors, where {FIRST // 60} and {FIRST_WALL // 60} are the marks (`bench/gate/run.py --first`)."
+        )
+        page.write(options.page, page.with_first(page.read(options.page), line))
     print(f"the first answer: {'given' if well else 'none'}, {spent / 60:.1f} processor minutes (mark {FIRST // 60}), {wall / 60:.1f} minutes (mark {FIRST_WALL // 60})")
     return 0 if well else 1
 
@@ -283,9 +308,11 @@ def main():
     parser.add_argument("--lanes", type=int)
     parser.add_argument("--log")
     parser.add_argument("--first", action="store_true")
+    parser.add_argument("--page")
+    parser.add_argument("--note", default="")
     options = parser.parse_args()
-    options.log = options.log and os.path.abspath(options.log)
-    sys.exit(first() if options.first else gate(options))
+    options.log, options.page = options.log and os.path.abspath(options.log), options.page and os.path.abspath(options.page)
+    sys.exit(first(options) if options.first else gate(options))
 
 
 main()

@@ -98,7 +98,8 @@ def read_design(data):
         need(all(abs(v) <= NUMERATOR for r in rows for v in r), "range", place)
 
     version = number(1, 1, 2)
-    n, p, stages = number(2, 1, STATES[version]), number(3, 1, 3), number(4, 1, STAGES[version])
+    n, p = number(2, 1, STATES[version]), number(3, 1, 3)
+    number(4, 1, STAGES[version])
     number(5, 1, 2**20)
     a, b = values[5], values[6]
     need(is_table(a, n, n, n), "shape", 6)

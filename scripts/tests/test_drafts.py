@@ -8,7 +8,7 @@ import sys
 import unittest
 import xml.dom.minidom
 
-from libraries import PACKAGES, missing
+from common.libraries import PACKAGES, missing
 from tests.worked import AXIS, AXIS_POLICY, EXAMPLES, FIRST, SIX, TOP, folder_with
 
 LACKING = missing(*PACKAGES)
@@ -19,16 +19,16 @@ if not LACKING:
     import draft
     import exact_loop
     import judge
-    import models
+    from common import models
     import plot
     import policy
-    import programs
-    import sizes
-    from condensed import condense
-    from corners import corners_of, margin_of
-    from design_text import design_of, read_design
-    from enclosures import condense_fine
-    from texts import loop_lines_of, records_of
+    from common import programs
+    from common import sizes
+    from common.condensed import condense
+    from common.corners import corners_of, margin_of
+    from common.design_text import design_of, read_design
+    from common.enclosures import condense_fine
+    from common.texts import loop_lines_of, records_of
 
 # the examples that were drafted from their models
 MADE = ("antenna", "kiln", "motor", "pmsm", "rendezvous", "satellite", "wheel")
@@ -199,7 +199,7 @@ class Libraries(unittest.TestCase):
     def test_missing_library_names_its_package(self):
         import subprocess
 
-        code = "import sys; sys.argv = ['policy.py']; import libraries; libraries.SYSTEM = '/nowhere'; libraries.PACKAGES['no_such'] = 'python3-no-such'; libraries.need('no_such')"
+        code = "import sys; sys.argv = ['policy.py']; from common import libraries; libraries.SYSTEM = '/nowhere'; libraries.PACKAGES['no_such'] = 'python3-no-such'; libraries.need('no_such')"
         got = subprocess.run([sys.executable, "-c", code], cwd=os.path.join(TOP, "scripts"), capture_output=True, text=True)
         self.assertEqual(got.returncode, 1)
         self.assertIn("has no no_such: apt-get install python3-no-such", got.stderr)

@@ -6,8 +6,8 @@ import unittest
 from tests.worked import FIRST, FIRST_POLICY, TOP
 
 sys.path.insert(0, os.path.join(TOP, "scripts"))
-from design_text import design_of
-from libraries import missing
+from common.design_text import design_of
+from common.libraries import missing
 
 LACKING = missing("numpy", "scipy")
 if not LACKING:

@@ -5,13 +5,11 @@ import subprocess
 import sys
 import unittest
 
-import arguments
-import files
-import matching
-from design_text import design_of
-from libraries import PACKAGES, Refusal, missing
+from common import arguments, files, matching
+from common.design_text import design_of
+from common.libraries import PACKAGES, Refusal, missing
 from tests.worked import AXIS, FIRST, FIRST_CONTROLLER, FIRST_POLICY, FIRST_REPORT, SECOND, SECOND_CONTROLLER, SECOND_REPORT, TOP, folder_with
-from texts import controller_of, loop_lines_of, records_of, report_of
+from common.texts import controller_of, loop_lines_of, records_of, report_of
 
 LACKING = missing(*PACKAGES)
 FIRST_LOOP = "1 1 1 4096 -2224\n1 2 0 4096 0\n"
@@ -78,7 +76,7 @@ class Files(unittest.TestCase):
     def test_disk_that_is_full(self):
         """A limit on a file's size fails the write after the open."""
         code = (
-            "import resource, signal, sys; sys.path.insert(0, sys.argv[1]); import files; signal.signal(signal.SIGXFSZ, signal.SIG_IGN);"
+            "import resource, signal, sys; sys.path.insert(0, sys.argv[1]); from common import files; signal.signal(signal.SIGXFSZ, signal.SIG_IGN);"
             "resource.setrlimit(resource.RLIMIT_FSIZE, (10, 10)); files.write('two', 'x' * 100)"
         )
         got = subprocess.run([sys.executable, "-c", code, os.path.join(TOP, "scripts")], capture_output=True, text=True)
@@ -180,8 +178,18 @@ class Commands(unittest.TestCase):
         self.assertIn(told, got.stderr)
         self.assertNotIn("Traceback", got.stderr)
 
+    def test_what_stands_at_the_top_is_a_command(self):
+        for name in os.listdir(os.path.join(TOP, "scripts")):
+            path = os.path.join(TOP, "scripts", name)
+            if os.path.isfile(path):
+                with open(path, encoding="utf-8") as file:
+                    text = file.read()
+                self.assertTrue(os.access(path, os.X_OK) and text.startswith("#!/usr/bin/env python3\n") and "\n    run(" in text, name)
+        for name in os.listdir(os.path.join(TOP, "scripts", "common")):
+            self.assertFalse(name.endswith(".py") and os.access(os.path.join(TOP, "scripts", "common", name), os.X_OK), name)
+
     def test_help_into_a_full_disk(self):
-        names = ["explain", "refusals", "pages"] + ([] if LACKING else ["draft", "discretise", "policy", "faces", "exact_loop", "plot", "judge"])
+        names = ["explain", "refusals", "pages"] + ([] if LACKING else ["coordinates", "design", "draft", "discretise", "policy", "faces", "exact_loop", "plot", "judge", "reach", "states"])
         with open("/dev/full", "w") as full:
             for name in names:
                 self.refused(1, "No space left on device", name, "--help", stdout=full, stderr=subprocess.PIPE)
@@ -202,7 +210,7 @@ class Commands(unittest.TestCase):
             (2, "DESIGN .* is the same file as MODEL", "draft", d, d),
             (2, "argument --den: -8 is not at least 1", "discretise", d, "--den", "-8"),
             (1, "/dev/full is longer than 4194304 bytes", "policy", "/dev/full"),
-            (1, "/dev/zero is longer than 4194304 bytes", "draft", "/dev/zero"),
+            (1, "/dev/zero.* 4194304 bytes", "draft", "/dev/zero"),
             (2, "argument TURNS: -3 is not from 0 to 1000000", "exact_loop", d, p["s"], "-3"),
             (1, "record 1 is outside the design's box in x1", "exact_loop", d, p["far"], "3"),
             (2, "argument --states: -1 is not at least 0", "judge", d, p["c"], "--states", "-1"),
@@ -231,7 +239,7 @@ class Commands(unittest.TestCase):
                 self.assertEqual(file.read(len(start)), start)
 
     def test_progress_on_a_terminal_alone(self):
-        code = "import sys, time; sys.path.insert(0, sys.argv[1]); import progress; progress.FIRST = 0\nwith progress.Progress('states', 9) as told:\n    time.sleep(0.6); told.reach(4)"
+        code = "import sys, time; sys.path.insert(0, sys.argv[1]); from common import progress; progress.FIRST = 0\nwith progress.Progress('states', 9) as told:\n    time.sleep(0.6); told.reach(4)"
         words = [sys.executable, "-c", code, os.path.join(TOP, "scripts")]
         self.assertEqual(subprocess.run(words, capture_output=True).stderr, b"")
         here, there = pty.openpty()

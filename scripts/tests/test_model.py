@@ -4,8 +4,8 @@ import os
 import sys
 import unittest
 
-from condensed import condense
-from design_text import design_of
+from common.condensed import condense
+from common.design_text import design_of
 from tests.worked import AXIS, FIRST, ROOMY_FINE_AXIS, SECOND_JSON, SECOND_REPORT, TOP
 
 sys.path.insert(0, os.path.join(TOP, "checks", "fuzz"))

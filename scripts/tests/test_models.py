@@ -6,7 +6,7 @@ import sys
 import unittest
 import warnings
 
-from libraries import PACKAGES, Refusal, missing
+from common.libraries import PACKAGES, Refusal, missing
 from tests.changed_models import changed_models
 from tests.worked import TOP, folder_with
 
@@ -16,7 +16,7 @@ if not LACKING:
     import scipy.io
 
     import draft
-    import models
+    from common import models
 
 PLANT = "period = 0.5\nstages = 5\na = [[0.0, 1.0], [0.0, 0.0]]\nb = [[0.0], [1.0]]\n"
 LIMIT = "[[limit]]\ninput = [1.0]\nbound = 1.0\nleast = -1.0\ntolerance = 0.25\n"

@@ -4,14 +4,14 @@ import os
 import unittest
 from fractions import Fraction
 
-import sizes
-from condensed import condense, curvature
-from corners import corners_of, exact_corner, fine_corner, margin_of, multiplier_of, steps_of
-from design_text import design_of, plain, read_design, text_of
-from enclosures import combined, condense_fine, product
+from common import sizes
+from common.condensed import condense, curvature
+from common.corners import corners_of, exact_corner, fine_corner, margin_of, multiplier_of, steps_of
+from common.design_text import design_of, plain, read_design, text_of
+from common.enclosures import combined, condense_fine, product
 from explain import explain, ranges
-from trajectories import slacks_of
-from texts import controller_of, kind_of, loop_lines_of, records_of, report_of
+from common.trajectories import slacks_of
+from common.texts import controller_of, kind_of, loop_lines_of, records_of, report_of
 from tests.worked import (
     AXIS,
     AXIS_OVER_1000,

@@ -4,14 +4,14 @@ import functools
 import io
 import unittest
 
-from libraries import PACKAGES, missing
+from common.libraries import PACKAGES, missing
 
 LACKING = missing(*PACKAGES)
 if not LACKING:
     import draft
-    import models
+    from common import models
     import policy
-    import programs
+    from common import programs
 
 PLANT = "period = 0.5\nstages = 5\na = [[0.0, 1.0], [0.0, 0.0]]\nb = [[0.0], [1.0]]\n"
 WIDE = PLANT.replace("b = [[0.0], [1.0]]", "b = [[0.0, 0.1], [1.0, 0.0]]")

@@ -8,8 +8,8 @@ import sys
 import unittest
 
 import refusals
-import usage
-from libraries import missing
+from common import usage
+from common.libraries import missing
 from tests.worked import (
     AXIS,
     AXIS_POLICY,

@@ -4,7 +4,7 @@ import re
 import unittest
 from fractions import Fraction
 
-from libraries import PACKAGES, missing
+from common.libraries import PACKAGES, missing
 from tests.worked import EXAMPLES
 
 LACKING = missing(*PACKAGES)
@@ -13,8 +13,8 @@ if not LACKING:
 
     import discretise
     import draft
-    import models
-    import rounding
+    from common import models
+    from common import rounding
 
 # Two zones of a house, 5 degrees outside, with heaters; the third state is 1. What the zones settle at follows from what heats them and from what they lose.
 HOUSE = """period = 900.0

@@ -2,7 +2,7 @@
 import os
 import re
 
-TOP = os.path.dirname(os.path.dirname(os.path.realpath(__file__)))
+TOP = os.path.dirname(os.path.dirname(os.path.dirname(os.path.realpath(__file__))))
 LISTED = re.compile(r"  mpc ([a-z]+)((?: [A-Z]+)*)(?:  |$)")
 # what isn't the name of a file
 NUMBERS = ("NUMBER", "TURNS")

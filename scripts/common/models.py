@@ -56,15 +56,15 @@ import os
 import tomllib
 from typing import Any
 
-from libraries import Refusal, need
+from common.libraries import Refusal, need
 
 need("numpy", "scipy", "jsonschema")
 import numpy
 import scipy.io
 import scipy.linalg
 
-from design_text import Name
-from model_schema import changed, faults_of, version_of
+from common.design_text import Name
+from common.model_schema import changed, faults_of, version_of
 
 LONGEST = 4194304
 NUMERATOR = 2147483647

@@ -5,12 +5,12 @@ A report says less than a controller, and of some designs that differ little the
 from collections.abc import Iterable
 from fractions import Fraction
 
-import sizes
-from condensed import Condensed, condense, factor, solve
-from corners import corners_of, margin_of, multiplier_of, steps_of
-from design_text import Design, plain
-from libraries import Refusal
-from texts import Controller
+from common import sizes
+from common.condensed import Condensed, factor, solve
+from common.corners import corners_of, margin_of, multiplier_of, steps_of
+from common.design_text import Design, plain
+from common.libraries import Refusal
+from common.texts import Controller
 
 # gains are rounded solutions: those of another cost are off by more than this part of the greatest of their column
 GAIN_PART, GAIN_UNITS = 0.02, 16.0

@@ -3,12 +3,12 @@ import difflib
 import math
 import re
 
-from libraries import need
+from common.libraries import need
 
 need("jsonschema")
 import jsonschema
 
-from design_text import STAGES, STATES
+from common.design_text import STAGES, STATES
 
 GREATEST = 1e15
 LEAST = 1e-15
