@@ -236,7 +236,7 @@ fn no_step(rt: HostRuntime) -> Result<(), Fail> {
     Ok(())
 }
 
-// The numbers of the enclosures are above the limit too, by `scripts/sizes.py`.
+// The numbers of the enclosures are above the limit too, by `scripts/common/sizes.py`.
 #[test]
 fn too_wide(rt: HostRuntime) -> Result<(), Fail> {
     let old = "den = 1, row_den = 1, input = [1], stage = [[1, 0, 1]]";
