@@ -6,7 +6,7 @@
 The files come in any order; each is known by what it holds. FILE alone will do, and each further one adds what follows from it:
 
     a report          every bound in decimals, and K = 2^(s+2) R over the violation target; in version 2 by how much each row may be exceeded
-    with a controller the products of a run and its time at a clock (100 MHz, one cycle a product), the bits of gains, multipliers and plan, and the exponents of rows
+    with a controller the products of a run, the bits of gains, multipliers and plan, the exponents of rows, and what its C takes of a Cortex-M4 at a clock (100 MHz)
     with a design     bounds in the units that its comments name, row by row, and the sizes in bits of 126
     with its policy   where R comes from: the corner and row of the least slack, the corner of the greatest cost, the step against the curvature
     lines             each number as a decimal; with a design, by name and unit
@@ -18,6 +18,7 @@ from fractions import Fraction
 
 from common import files, matching, sizes
 from common.arguments import Parser, positive
+from common.c_costs import c_words
 from common.condensed import Condensed, condense, curvature
 from common.corners import corners_of, half_target, margin_of, multiplier_of, steps_of
 from common.design_text import Design, design_of, plain
@@ -88,7 +89,7 @@ def ranges(numbers: Iterable[int]) -> str:
     return " and ".join([", ".join(words[:-1]), words[-1]] if len(words) > 1 else words)
 
 
-def cost_words(controller: Controller, period: float | None, clock: float, cycles: float) -> Iterator[str]:
+def cost_words(controller: Controller, period: float | None, clock: float, cycles: float | None) -> Iterator[str]:
     """What a run costs."""
     c = controller
     plain_step = c.entries * (c.states + c.rows) + c.rows * (c.entries + c.states)
@@ -101,26 +102,16 @@ def cost_words(controller: Controller, period: float | None, clock: float, cycle
     pairs = (bits_of(flat(c.W)), multiplier), (bits_of(flat(c.G)), plan)
     each = [words_of(left) * words_of(right) for left, right in pairs]
     run, short = used * c.steps, c.steps * sum(count * pieces for count, pieces in zip(counts, each))
-    time = short * cycles / (clock * 1e6)
-    share = f", {plain(100 * time / period)} % of a stage of {plain(period)} s" if period else ""
     pieces = f", which are {short} of 32-bit words" if short > run else ""
-    yield (
-        f"a run has {run} products ({gains * c.steps}; {plain_step * c.steps}){pieces}: {plain(time * 1e3)} ms at {plain(clock)} MHz and {plain(cycles)} "
-        f"{'cycle' if cycles == 1 else 'cycles'} a product{' of 32-bit words' if pieces else ''}{share}"
-    )
+    taken = f": {plain(short * cycles / clock / 1e3)} ms at {plain(clock)} MHz and {plain(cycles)} cycles a product of 32-bit words" if cycles else ""
+    yield f"a run has {run} products ({gains * c.steps}; {plain_step * c.steps}){pieces}{taken}"
     if c.version > 1:
         yield exponent_words(c)
     yield (
         f"signed words: gains W {bits_of(flat(c.W))} bits, P {bits_of(flat(c.P))}, rows G {bits_of(flat(c.G))}, E {bits_of(flat(c.E))}, multipliers {multiplier}, "
         f"plan {plan}"
     )
-    factors = max(bits_of(flat(c.W) + flat(c.G)), multiplier, plan)
-    if factors <= WORD and c.width <= 2 * WORD:
-        yield f"each product is of two 32-bit factors and each sum fits 64 bits (width {c.width}): one multiply-accumulate"
-    else:
-        told = ", ".join(f"{left} by {right} bits is {count} of 32-bit words" for (left, right), count in zip(pairs, each))
-        sums = f"each sum fits 64 bits (width {c.width})" if c.width <= 2 * WORD else f"the greatest sum has {c.width} bits, so that additions carry"
-        yield f"32-bit factors and 64-bit sums do not serve: a product of {told}, and {sums}"
+    yield from c_words(c, period, clock)
 
 
 def words_of(bits: int) -> int:
@@ -262,7 +253,7 @@ def line_words(line: str, design: Design | None) -> Iterator[str]:
         yield f"{len(numbers)} numbers: no line of this design"
 
 
-def explain(texts: dict, clock: float = 100.0, cycles: float = 1.0) -> Iterator[str]:
+def explain(texts: dict, clock: float = 100.0, cycles: float | None = None) -> Iterator[str]:
     """The words for these texts, by kind; of lines there may be any number."""
     design = design_of(texts["design"]) if "design" in texts else None
     report = report_of(texts["report"]) if "report" in texts else None
@@ -321,7 +312,7 @@ def main() -> int:
     parser = Parser(__doc__, prog="./mpc explain", usage="./mpc explain FILE [DESIGN] [POLICY] [CONTROLLER] [REPORT] [--clock MHZ] [--cycles N]")
     parser.add_argument("files", nargs="+")
     parser.add_argument("--clock", type=positive, default=100.0)
-    parser.add_argument("--cycles", type=positive, default=1.0)
+    parser.add_argument("--cycles", type=positive, help="of a product of 32-bit words that isn't by 0, on a processor of your own")
     given = parser.parse_args()
     files.keep_apart({f"FILE {place}": path for place, path in enumerate(given.files, 1)}, {"WORDS": files.STANDARD_OUTPUT})
     for words in explain(read_files(given.files), given.clock, given.cycles):

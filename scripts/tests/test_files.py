@@ -259,8 +259,8 @@ class Commands(unittest.TestCase):
         wide = FIRST_CONTROLLER.replace("W 256 -256 256", f"W {2**45} -256 256")
         _, paths = folder_with(self, c=wide)
         told = command("explain", paths["c"]).stdout
-        self.assertIn("a run has 24 products (24; 40), which are 48 of 32-bit words: 0.00048 ms at 100 MHz and 1 cycle a product of 32-bit words", told)
-        self.assertIn("a product of 47 by 17 bits is 2 of 32-bit words, 12 by 51 bits is 2 of 32-bit words, and each sum fits 64 bits (width 26)", told)
+        self.assertIn("a run has 24 products (24; 40), which are 48 of 32-bit words\n", told)
+        self.assertIn("signed words: gains W 47 bits, P 11, rows G 12, E 12, multipliers 17, plan 51\nas C (./mpc c): sums of entries and of rows 64 x 64 bits into 64;", told)
 
 
 if __name__ == "__main__":

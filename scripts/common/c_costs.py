@@ -1,0 +1,98 @@
+"""What a run of the C of a controller costs on a Cortex-M4, by its sizes and by the words that it takes: cycles, flash and RAM.
+
+RAM is exact, and so are the tables in flash. Cycles and the bytes of the code are sums of shares that were fitted to what `bench/target/costs.py` measured of controllers of many
+sizes (gcc 12 -O2, cycles by the processor's table without wait states). That script says how near they come: cycles within 16 %, mostly 8, where there are two words a third; flash within a quarter.
+"""
+from common.c_text import CHUNK, CText
+from common.c_words import LONG, NARROW, PARTS, WIDE, Form
+from common.design_text import plain
+from common.libraries import Refusal
+
+# cycles of a step for each product of the plan's entries, and for each entry
+ENTRIES = {NARROW: (3.9, 16), "two": (3.4, 30), "four": (2.9, 44), LONG: (14, 20), WIDE: (55, 190)}
+# for each product of a row where all rows count as many entries, and where they don't; for each row, and more where they don't; more for each pair
+ROWS = {NARROW: (4, 10, 16, 8, 34), "two": (3.4, 4.9, 52, 26, 46), "four": (2.9, 2.9, 61, 48, 62), LONG: (14, 18, 20, 8, 40), WIDE: (343, 343, 0, 0, 338)}
+# cycles of the start for each coefficient of the state in entries and in rows
+START = {NARROW: (11, 15), "two": (17, 18), "four": (11, 230), LONG: (11, 15), WIDE: (42, 222)}
+# bytes of code: of everything, more by the words of entries and of rows, for each product that is written out, and for loops
+CODE, ENTRY_CODE, ROW_CODE = 800, {NARROW: 0, "two": 190, "four": 80, LONG: 60, WIDE: 230}, {NARROW: 0, "two": 80, "four": 780, LONG: 100, WIDE: 1100}
+PRODUCT_CODE, SINGLES_CODE, COUNTS_CODE = 15, 92, 61
+
+
+def kind(sums):
+    """The tier, of parts by how many products each takes."""
+    return sums.tier if sums.tier != PARTS else "four" if sums.coefficient_parts + sums.variable_parts == 4 else "two"
+
+
+class Costs:
+    """Cycles of a run, bytes of flash and of RAM; Refusal where there is no C."""
+
+    def __init__(self, controller):
+        self.form = Form(controller)
+        self.text = CText("mpc", self.form)
+        self.text.source()
+        self.entries, self.rows = kind(self.form.entry_sums), kind(self.form.row_sums)
+
+    @property
+    def cycles(self):
+        return round(self.start_cycles() + self.form.controller.steps * self.step_cycles())
+
+    def start_cycles(self):
+        c, form = self.form.controller, self.form
+        return START[self.entries][0] * c.entries * c.states + START[self.rows][1] * (len(form.rows) + len(form.seconds)) * c.states
+
+    def step_cycles(self):
+        form = self.form
+        of_entries, of_rows = form.products()
+        a_product, an_entry = ENTRIES[self.entries]
+        straight, looped, a_row, a_looped_row, a_pair = ROWS[self.rows]
+        is_straight = self.text.row_length() is not None
+        rows = of_rows * (straight if is_straight else looped) + len(form.rows) * (a_row if is_straight else a_row + a_looped_row)
+        return of_entries * a_product + form.controller.entries * an_entry + rows + len(form.seconds) * a_pair
+
+    @property
+    def flash(self):
+        tables = sum(width // 8 * len(numbers) for _, width, numbers in self.text.tables)
+        count, form = len(self.form.rows), self.form
+        written_out = count if count <= 2 * CHUNK else CHUNK + count % CHUNK
+        written_out *= form.entry_sums.coefficient_parts * form.entry_sums.variable_parts if form.entry_sums.tier != WIDE else 0
+        loops = (len(form.seconds) > 0) + (len(form.rows) > len(form.seconds))
+        code = CODE + ENTRY_CODE[self.entries] + ROW_CODE[self.rows] + PRODUCT_CODE * written_out
+        return tables + code + SINGLES_CODE * (len(form.rows) > len(form.seconds)) + COUNTS_CODE * loops * (self.text.row_length() is None)
+
+    @property
+    def ram(self):
+        """Of the struct, each member at a multiple of its element's size, and of the sums."""
+        sizes = {"int32_t": (4, 4), "int64_t": (8, 8), "NAME_wide": (16, 8)}
+        at, widest = 0, 1
+        for _, word, count, _ in self.text.fields():
+            size, align = sizes[word]
+            at, widest = -(-at // align) * align + size * count, max(widest, align)
+        return -(-at // widest) * widest + self.form.controller.entries * (16 if self.form.is_wide else 8)
+
+
+def rounded(value):
+    """A number of two digits, with commas."""
+    unit = 10 ** max(0, len(str(int(value))) - 2)
+    return f"{round(value / unit) * unit:,}"
+
+
+def c_words(controller, period, clock):
+    """What the C of a controller takes and costs, in words."""
+    try:
+        costs = Costs(controller)
+    except Refusal as why:
+        yield f"no C can be written of it: {why}"
+        return
+    c, form = controller, costs.form
+    written = c.steps * (c.entries * (c.states + c.rows) + c.rows * (c.entries + c.states))
+    time = costs.cycles / (clock * 1e6)
+    share = f", {plain(float(f'{100 * time / period:.2g}'))} % of a stage of {plain(period)} s" if period else ""
+    entries, rows = form.entry_sums.words(), form.row_sums.words()
+    words = f"sums of entries and of rows {entries}" if entries == rows else f"sums of entries {entries}; of rows {rows}"
+    pairs = f", shared by {len(form.seconds)} pair{'s' * (len(form.seconds) > 1)} of rows" if form.seconds else ""
+    yield f"as C (./mpc c): {words}; {sum(form.products())} products a step{pairs}"
+    yield (
+        f"on a Cortex-M4 about {rounded(costs.cycles)} cycles a run, {costs.cycles / written:.1f} for each product as written: "
+        f"{plain(float(f'{time * 1e3:.2g}'))} ms at {plain(clock)} MHz{share}; about {rounded(costs.flash)} bytes of flash, {costs.ram} of RAM"
+    )
