@@ -323,7 +323,7 @@ def main() -> int:
     parser.add_argument("--clock", type=positive, default=100.0)
     parser.add_argument("--cycles", type=positive, default=1.0)
     given = parser.parse_args()
-    files.keep_apart({"FILE": path for path in given.files}, {"LINES": files.STANDARD_OUTPUT})
+    files.keep_apart({f"FILE {place}": path for place, path in enumerate(given.files, 1)}, {"WORDS": files.STANDARD_OUTPUT})
     for words in explain(read_files(given.files), given.clock, given.cycles):
         print(words)
     return 0

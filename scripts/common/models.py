@@ -64,9 +64,9 @@ import scipy.io
 import scipy.linalg
 
 from common.design_text import Name
+from common.files import read_bytes
 from common.model_schema import changed, faults_of, version_of
 
-LONGEST = 4194304
 NUMERATOR = 2147483647
 
 
@@ -248,11 +248,7 @@ def json_of(text: str) -> dict:
     return value
 
 
-def text_at(path: str) -> str:
-    """The text of a file that is no longer than the files of the program."""
-    with open(path, "rb") as file:
-        data = file.read(LONGEST + 1)
-    refuse([f"a file of at most {LONGEST} bytes is expected"] if len(data) > LONGEST else [])
+def text_in(data: bytes) -> str:
     try:
         return data.decode("utf-8-sig")
     except UnicodeDecodeError as fault:
@@ -299,7 +295,7 @@ def with_plant(model: dict[str, Any], folder: str) -> dict[str, Any]:
     refuse(["plant: the name of a .mat or .json is expected"] if not isinstance(path, str) or not path.endswith((".mat", ".json")) or "\0" in path else [])
     refuse([f"{key}: is given by plant, too" for key in ("a", "b") if key in model])
     path = os.path.join(folder, path)
-    plant = plant_of(matrices_of(path) if path.endswith(".mat") else json_of(text_at(path)), path)
+    plant = plant_of(matrices_of(path) if path.endswith(".mat") else json_of(text_in(read_bytes(path))), path)
     if "period" in plant and "period" in model and model["period"] != plant["period"]:
         refuse([f"period: {plant['period']} is expected, which the plant of {path} is sampled with, and {model['period']} stands there"])
     return {key: value for key, value in model.items() if key != "plant"} | plant
@@ -317,10 +313,11 @@ def of_control(model: dict[str, Any]) -> dict[str, Any]:
 
 def read_model(path: str, plant_alone: bool = False) -> Model:
     """The model of a file, or its plant where it has no cost and no box; Refusal, with the file's name in each line, where something is wrong with it."""
+    data = b"" if path.endswith(".mat") else read_bytes(path)
     try:
         if path.endswith(".mat"):
             raise Refusal(f'a .mat has a plant alone: a text with limits, cost and box is expected, that names it by plant = "{os.path.basename(path)}"')
-        text = text_at(path)
+        text = text_in(data)
         model = of_control(json_of(text)) if path.endswith(".json") else toml_of(text)
         return Model(with_plant(model, os.path.dirname(path)), plant_alone)
     except Refusal as fault:

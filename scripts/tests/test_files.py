@@ -194,6 +194,12 @@ class Commands(unittest.TestCase):
             for name in names:
                 self.refused(1, "No space left on device", name, "--help", stdout=full, stderr=subprocess.PIPE)
 
+    def test_explain_appends_to_no_input(self):
+        _, paths = folder_with(self, r=FIRST_REPORT, p=FIRST_POLICY)
+        for name in "rp":
+            with open(paths[name], "a") as out:
+                self.refused(2, "standard output is the same file as FILE", "explain", paths["r"], paths["p"], stdout=out, stderr=subprocess.PIPE)
+
     def test_explain_reads_no_more(self):
         self.refused(1, "a line of more than 65536 bytes", "explain", "/dev/zero")
         self.refused(1, "explain.py: /nowhere: No such file or directory", "explain", "/nowhere")

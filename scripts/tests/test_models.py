@@ -105,7 +105,7 @@ class Faults(unittest.TestCase):
 
     def test_faults_of_the_command(self):
         _, paths = folder_with(self, model=MODEL.replace("grid", "gird").replace("stages = 5", "stages = 0"), bytes=b"\xff\xfe", long=b"#" * 4194305)
-        for name, words in (("model", ": stages: a whole number from 1 to 20 is expected, and 0 stands there\n"), ("bytes", ": no UTF-8: "), ("long", ": a file of at most 4194304 bytes")):
+        for name, words in (("model", ": stages: a whole number from 1 to 20 is expected, and 0 stands there\n"), ("bytes", ": no UTF-8: "), ("long", " is longer than 4194304 bytes")):
             for script in ("draft", "discretise"):
                 got = subprocess.run([sys.executable, os.path.join(TOP, "scripts", script + ".py"), paths[name]], capture_output=True, text=True)
                 self.assertEqual((got.returncode, got.stdout, got.stderr.startswith(f"{script}.py: {paths[name]}{words}")), (1, "", True), got.stderr)

@@ -1,9 +1,16 @@
 """The runner of pages tells what differs."""
 import contextlib
 import io
+import os
+import re
+import sys
 import unittest
 
 import pages
+from tests.worked import TOP
+
+sys.path.insert(0, os.path.join(TOP, "bench", "gate"))
+import page
 
 PAGE = "Text\n\n    ./one a && ./two b\n\nprints\n\n    first\n      second\n\nText\n\n    ./three\n    ./four\n\n    ./scripts/five\n\n    version = 1\n"
 
@@ -38,6 +45,32 @@ class Pages(unittest.TestCase):
 
     def test_left_out_without_libraries(self):
         self.assertEqual(self.wrong({"./one a && ./two b": ["first", "  second"]}, ["numpy"]), [])
+
+
+class Costs(unittest.TestCase):
+    """The page of costs that bench/gate writes."""
+
+    def written(self, first=""):
+        costs = {"low": page.Cost(30, 0, 2, 61, 0.72), "mid": page.Cost(121, 0, 0, 0, 1.5), "trials_low": page.Cost(3, 181, 0, 0, 2)}
+        page.add_changes(costs, {"mid": ["low"], "trials_low": ["low"]})
+        return page.text("kit-1", 4, 600, costs, (151, ["low", "mid"]), first)
+
+    def test_rows(self):
+        self.assertEqual(
+            self.written().split("\n")[-4:],
+            ["| `low` | 30 |  | 2 | 61 | 0.7 | 6 |", "| `mid` | **121** |  |  |  | 1.5 | 2 |", "| `trials_low` | 3 | **181** |  |  | 2.0 | 3 |", ""],
+        )
+        self.assertIn("The longest chain of proofs is 2.5 minutes: `low`, `mid`.\nBeyond the mark of 2 minutes for a proof or 3 for tests, where the number is bold: the proof of `mid`, the tests of", self.written())
+
+    def test_first_answer(self):
+        told = page.with_first(self.written(), "The first answer takes 7 minutes.")
+        self.assertEqual(told, self.written("The first answer takes 7 minutes."))
+        self.assertEqual(page.first_line(page.with_first(told, "The first answer takes 6 minutes.")), "The first answer takes 6 minutes.")
+
+    def test_the_page_has_the_form(self):
+        text = page.read(os.path.join(TOP, "docs", "COSTS.md"))
+        self.assertTrue(text.startswith(page.HEAD) and page.first_line(text))
+        self.assertGreater(len(re.findall(r"^\| `[a-z_]+` \|(?: [*0-9]* \|){4} [0-9.]+ \| [0-9]+ \|$", text, re.M)), 60)
 
 
 if __name__ == "__main__":

@@ -18,6 +18,7 @@ use Rattle.text_lines.specs.Blocks.{row_lines}
 use Rattle.controller_file.specs.Lines.{line_blocks, keyed_lines}
 use Rattle.controller_file.specs.Table.{AreSmall}
 use Rattle.text_lines.proofs.Chained.{all_chained, all_blocks, map_chained}
+use Rattle.text_lines.proofs.Good.{natural_fits, half_words_fit, quarter_fits, word, good}
 use Rattle.controller_file.proofs.Blocks.{sizes_small}
 
 -- ---- the text
@@ -70,23 +71,6 @@ small_form c form =
 
 -- ---- the lines
 
-natural_fits : (n : ℕ) → n < 2 ^ 32 → FitsSigned w128 (pos n)
-natural_fits n lt = record { sfits = omega arith }
-
-numerator_fits : (z : ℤ) → IsNumerator z → FitsSigned w128 z
-numerator_fits (pos n) lt = record { sfits = omega arith }
-numerator_fits (negsuc n) lt = record { sfits = omega arith }
-
-clamp_fits : (z : ℤ) → pos 0 ≤ℤ z → z ≤ℤ pos (2 ^ 126) → FitsSigned w128 z
-clamp_fits (pos n) low high = record { sfits = omega (arith, ints) }
-clamp_fits (negsuc n) low high = absurd (omega (arith, ints))
-
--- a word of bytes above the space
-word : (key : List ℕ) → list_all (λ b. ltb 32 b) key ≡ true → All (λ b. 32 < b) key
-word key h k d lt =
-    let test : ltb 32 (get_or key k d) ≡ true = AllPass-from_list_all (λ b. ltb 32 b) key h k d lt in
-    grind (arith, nat_tests)
-
 rows_good : (key : List ℕ) (a : Matrix) → list_all (λ b. ltb 32 b) key ≡ true → All (All (FitsSigned w128)) a.rows → AllByRecursion IsKeyedLine (row_lines key a.rows)
 rows_good key a h fits = recursion_from_All IsKeyedLine (row_lines key a.rows) (All-map IsKeyedLine (keyed_line key) a.rows (λ k d lt. record { key = word key h; fits = fits k d lt }))
 
@@ -96,12 +80,6 @@ rows_fit key (row ∷ rows) h = (h.0, rows_fit key rows h.1)
 
 abbrev FitAll : List ℤ → Type 0
 FitAll zs = AllByRecursion (FitsSigned w128) zs
-
-good : (key : List ℕ) (zs : List ℤ) → list_all (λ b. ltb 32 b) key ≡ true → FitAll zs → IsKeyedLine (keyed_line key zs)
-good key zs h fits = record { key = word key h; fits = All-from_recursion (FitsSigned w128) zs fits }
-
-numerators_fit : (zs : List ℤ) → All IsNumerator zs → All (FitsSigned w128) zs
-numerators_fit zs h k d lt = numerator_fits (get_or zs k d) (h k d lt)
 
 exponents_good : (first : Bool) (exps : List ℕ) → All (λ e. e < 2 ^ 32) exps → AllByRecursion IsKeyedLine (if first then [] else keyed_line (codes "exps") (map pos exps) ∷ [])
 exponents_good true exps h = tt
@@ -118,11 +96,11 @@ blocks_good c form fits =
     let g1 = good (codes "size") (pos c.states ∷ pos c.inputs ∷ pos c.stages ∷ pos c.rows ∷ []) refl (natural_fits c.states (omega (arith, z.n)), (natural_fits c.inputs (omega (arith, z.p)), (natural_fits c.stages (omega (arith, z.stages)), one c.rows (omega (arith, z.m))))) in
     let g2 = good (codes "bits") (pos c.fraction_bits ∷ pos c.grid_bits ∷ pos c.step_exponent ∷ pos c.width ∷ []) refl (natural_fits c.fraction_bits (omega (arith, small.fraction_bits)), (natural_fits c.grid_bits (omega (arith, small.grid_bits)), (natural_fits c.step_exponent (omega (arith, small.step_exponent)), one c.width (omega (arith, small.width))))) in
     let g3 = good (codes "steps") (pos c.steps ∷ []) refl (one c.steps (omega (arith, small.steps))) in
-    let g4 = good (codes "clamp") (c.clamp ∷ []) refl (clamp_fits c.clamp form.sized.clamp_low form.sized.clamp_high, tt) in
+    let g4 = good (codes "clamp") (c.clamp ∷ []) refl (quarter_fits c.clamp form.sized.clamp_low form.sized.clamp_high, tt) in
     let g5 = good (codes "words") (pos c.words ∷ []) refl (one c.words small.words) in
     let g6 = exponents_good (c.version == 1) c.exponents small_exps in
-    let g7 : IsKeyedLine (keyed_line (codes "lo") c.low) = record { key = word (codes "lo") refl; fits = numerators_fit c.low form.sized.low } in
-    let g8 : IsKeyedLine (keyed_line (codes "hi") c.high) = record { key = word (codes "hi") refl; fits = numerators_fit c.high form.sized.high } in
+    let g7 : IsKeyedLine (keyed_line (codes "lo") c.low) = record { key = word (codes "lo") refl; fits = half_words_fit c.low form.sized.low } in
+    let g8 : IsKeyedLine (keyed_line (codes "hi") c.high) = record { key = word (codes "hi") refl; fits = half_words_fit c.high form.sized.high } in
     let g9 = rows_good (codes "P") c.state_gains refl fits.state_gains in
     let g10 : IsKeyedLine (keyed_line (codes "T") c.offsets) = record { key = word (codes "T") refl; fits = fits.offsets } in
     let g11 = rows_good (codes "W") c.dual_gains refl fits.dual_gains in

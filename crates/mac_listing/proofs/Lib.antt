@@ -7,3 +7,4 @@ pub mod Lengths
 pub mod Ranges
 -- ---- the text
 pub mod Lines
+pub mod Texts

@@ -3,13 +3,10 @@ use Rattle.std.proofs.Common.{◌≡◌, ℕ, ◌+◌, ◌<◌, List, [], ◌∷
 use Rattle.std.proofs.lemmas.List.{append-nil, take_more, map-append}
 use Rattle.std.specs.Prelude.{codes}
 use Rattle.number_text.specs.Lines.{line_of, text_of}
+use Rattle.text_lines.proofs.OneText.{text_append}
 use Rattle.mac_listing.specs.declared.instruction.Op.{Op}
 use Rattle.mac_listing.specs.Listing.{Instructions}
 use Rattle.mac_listing.specs.Text.{op_line, head_lines, listing_lines, listing_text}
-
-pub text_append : (xs ys : List (List ℕ)) → text_of (xs ++ ys) ≡ text_of xs ++ text_of ys
-text_append [] ys = refl
-text_append (x ∷ xs) ys = ap (λ (t : List ℕ). x ++ 10 ∷ [] ++ t) (text_append xs ys) ∙ sym (append_assoc (x ++ 10 ∷ []) (text_of xs) (text_of ys))
 
 -- lines after lines
 pub lines_after : (t u v : List ℕ) (xs ys : List (List ℕ)) → u ≡ t ++ text_of xs → v ≡ u ++ text_of ys → v ≡ t ++ text_of (xs ++ ys)

@@ -2,36 +2,47 @@
 use Rattle.std.specs.Prelude.{◌≡◌, ℕ, ◌*◌, pos, List, [], ◌∷◌, ◌++◌, length, map, codes, All, FitsSigned}
 use Rattle.std.specs.Int.{w128}
 use Rattle.number_text.specs.Lines.{line_of, text_of}
+use Rattle.text_lines.specs.Lines.{Keyed, keyed_line, spelled}
 use Rattle.mac_listing.specs.declared.instruction.Op.{Op}
 use Rattle.mac_listing.specs.declared.instruction.Op.TheVariants.{Clear, Load, Store, Mac, Con, AddM, Shl, Shr, Neg, Low, Cap}
 use Rattle.mac_listing.specs.Listing.{Instructions, IsListing}
 
 -- ---- lines
-abbrev pub op_line : Op → List ℕ
-op_line Clear = line_of (codes "clear") []
-op_line (Load a) = line_of (codes "load") (pos a ∷ [])
-op_line (Store a) = line_of (codes "store") (pos a ∷ [])
-op_line (Mac a c k) = line_of (codes "mac") (pos a ∷ c ∷ pos k ∷ [])
-op_line (Con c k) = line_of (codes "con") (c ∷ pos k ∷ [])
-op_line (AddM a) = line_of (codes "addm") (pos a ∷ [])
-op_line (Shl k) = line_of (codes "shl") (pos k ∷ [])
-op_line (Shr k) = line_of (codes "shr") (pos k ∷ [])
-op_line Neg = line_of (codes "neg") []
-op_line Low = line_of (codes "low") []
-op_line (Cap c) = line_of (codes "cap") (c ∷ [])
+abbrev pub op_keyed : Op → Keyed
+op_keyed Clear = keyed_line (codes "clear") []
+op_keyed (Load a) = keyed_line (codes "load") (pos a ∷ [])
+op_keyed (Store a) = keyed_line (codes "store") (pos a ∷ [])
+op_keyed (Mac a c k) = keyed_line (codes "mac") (pos a ∷ c ∷ pos k ∷ [])
+op_keyed (Con c k) = keyed_line (codes "con") (c ∷ pos k ∷ [])
+op_keyed (AddM a) = keyed_line (codes "addm") (pos a ∷ [])
+op_keyed (Shl k) = keyed_line (codes "shl") (pos k ∷ [])
+op_keyed (Shr k) = keyed_line (codes "shr") (pos k ∷ [])
+op_keyed Neg = keyed_line (codes "neg") []
+op_keyed Low = keyed_line (codes "low") []
+op_keyed (Cap c) = keyed_line (codes "cap") (c ∷ [])
 
 -- those before the body
+abbrev pub head_keyed : Instructions → List Keyed
+head_keyed l =
+    keyed_line (codes "mpc-listing") (pos 1 ∷ [])
+    ∷ keyed_line (codes "word") (pos l.width ∷ [])
+    ∷ keyed_line (codes "input") (pos l.states ∷ pos l.shift ∷ [])
+    ∷ keyed_line (codes "lo") l.low
+    ∷ keyed_line (codes "hi") l.high
+    ∷ keyed_line (codes "words") (pos l.words ∷ [])
+    ∷ keyed_line (codes "output") (pos l.first ∷ pos l.outputs ∷ l.denominator ∷ [])
+    ∷ keyed_line (codes "repeat") (pos l.repetitions ∷ pos (length l.body) ∷ [])
+    ∷ keyed_line (codes "count") (pos (l.repetitions * length l.body) ∷ []) ∷ []
+
+abbrev pub keyed_lines : Instructions → List Keyed
+keyed_lines l = head_keyed l ++ map op_keyed l.body ++ keyed_line (codes "end") [] ∷ []
+
+-- their bytes
+abbrev pub op_line : Op → List ℕ
+op_line op = spelled (op_keyed op)
+
 abbrev pub head_lines : Instructions → List (List ℕ)
-head_lines l =
-    line_of (codes "mpc-listing") (pos 1 ∷ [])
-    ∷ line_of (codes "word") (pos l.width ∷ [])
-    ∷ line_of (codes "input") (pos l.states ∷ pos l.shift ∷ [])
-    ∷ line_of (codes "lo") l.low
-    ∷ line_of (codes "hi") l.high
-    ∷ line_of (codes "words") (pos l.words ∷ [])
-    ∷ line_of (codes "output") (pos l.first ∷ pos l.outputs ∷ l.denominator ∷ [])
-    ∷ line_of (codes "repeat") (pos l.repetitions ∷ pos (length l.body) ∷ [])
-    ∷ line_of (codes "count") (pos (l.repetitions * length l.body) ∷ []) ∷ []
+head_lines l = map spelled (head_keyed l)
 
 abbrev pub listing_lines : Instructions → List (List ℕ)
 listing_lines l = head_lines l ++ map op_line l.body ++ line_of (codes "end") [] ∷ []

@@ -2,6 +2,7 @@
 
 -- ---- lines cut into words, and texts into lines
 pub mod Cuts
+pub mod Good
 pub mod OneText
 -- ---- lists of lines one after the other
 pub mod Chained

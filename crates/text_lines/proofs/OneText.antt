@@ -1,18 +1,18 @@
 -- A text has one list of lines, and no text goes on where another ends.
-use Rattle.std.proofs.Common.{◌≡◌, ℕ, suc, ◌^◌, ◌<◌, ℤ, pos, negsuc, List, [], ◌∷◌, ◌++◌, get_or, drop, map, eqb, FitsSigned, refl, sym, ap, ◌∙◌, append_assoc, arith}
+use Rattle.std.proofs.Common.{◌≡◌, ℕ, suc, ◌^◌, ◌<◌, ◌≤◌, ℤ, pos, negsuc, List, [], ◌∷◌, ◌++◌, length, get_or, take, drop, map, eqb, FitsSigned, refl, sym, ap, subst, ◌∙◌, append_assoc, arith}
 use Rattle.std.specs.Prelude.{All}
 use Rattle.std.specs.Int.{w128}
-use Rattle.std.specs.List.{slice_split}
+use Rattle.std.specs.List.{slice_split, join_with_byte}
 use Rattle.std.specs.Fmt.{decimal, signed_decimal}
 use Rattle.std.specs.Str.Parse.{digits_value}
 use Rattle.std.proofs.lemmas.Fmt.{decimal_is_IsNumeral_wide}
 use Rattle.std.proofs.lemmas.Str.Parse.{digit_at}
-use Rattle.std.proofs.lemmas.List.{same_from_push}
-use Rattle.std.proofs.lemmas.List.Splits.{slice_split_at}
+use Rattle.std.proofs.lemmas.List.{append-nil, take_at, take-map, take-append-le, take-append-drop, drop_at, length-append, length-map, length-take-le, get_or-take, same_from_push}
+use Rattle.std.proofs.lemmas.List.Splits.{slice_split_at, join_with_byte-slice_split}
 use Rattle.number_text.specs.Lines.{text_of}
 use Rattle.number_text.proofs.Pieces.{ArePieces, split_text}
 use Rattle.text_lines.specs.Lines.{Keyed, IsKeyedLine, spelled}
-use Rattle.text_lines.proofs.Cuts.{line_cut, line_pieces}
+use Rattle.text_lines.proofs.Cuts.{line_cut, cut_some, line_pieces}
 
 -- ---- numbers
 
@@ -82,3 +82,23 @@ pub one_text : (ks ls : List Keyed) → All IsKeyedLine ks → All IsKeyedLine l
 one_text ks ls f g e =
     let cut = sym (split_text (map spelled ks) (line_pieces ks f)) ∙ ap (slice_split (λ b. eqb b 10)) e ∙ split_text (map spelled ls) (line_pieces ls g) in
     one_lines ks ls f g (same_from_push (map spelled ks) (map spelled ls) [] [] cut).0
+
+-- a text doesn't go on where no lines go on where its lines end
+pub no_prefix_of : (ks ls : List Keyed) (more : List ℕ) → All IsKeyedLine ks → All IsKeyedLine ls → text_of (map spelled ks) ++ more ≡ text_of (map spelled ls) →
+    ((rest : List Keyed) → ls ≡ ks ++ rest → rest ≡ []) → more ≡ []
+no_prefix_of ks ls more f g e none =
+    let n = length ks in
+    let pieces = slice_split (λ b. eqb b 10) more in
+    let cut : map spelled ks ++ pieces ≡ map spelled ls ++ [] ∷ [] =
+    sym (split_more (map spelled ks) more (line_pieces ks f)) ∙ ap (slice_split (λ b. eqb b 10)) e ∙ split_text (map spelled ls) (line_pieces ls g) in
+    let within : n ≤ length ls =
+    omega (arith, ap length cut, length-append (map spelled ks) pieces, length-append (map spelled ls) ([] ∷ []), length-map ks spelled, length-map ls spelled, cut_some 10 more) in
+    let front : map spelled ks ≡ map spelled (take n ls) =
+    sym (take_at (map spelled ks) pieces n (length-map ks spelled)) ∙ ap (take n) cut ∙ take-append-le n (map spelled ls) ([] ∷ []) (omega (arith, within, length-map ls spelled)) ∙ take-map spelled n ls in
+    let first : All IsKeyedLine (take n ls) = λ k d lt. subst IsKeyedLine (sym (get_or-take n ls k d (omega (arith, lt, length-take-le n ls within)))) (g k d (omega (arith, lt, length-take-le n ls within, within))) in
+    let same : ks ≡ take n ls = one_lines ks (take n ls) f first front in
+    let rest : drop n ls ≡ [] = none (drop n ls) (sym (take-append-drop n ls) ∙ ap (λ (ms : List Keyed). ms ++ drop n ls) (sym same)) in
+    let whole : ls ≡ ks = sym (take-append-drop n ls) ∙ (λ i. sym same i ++ rest i) ∙ append-nil ks in
+    let last : pieces ≡ [] ∷ [] =
+    sym (drop_at (map spelled ks) pieces n (length-map ks spelled)) ∙ ap (drop n) (cut ∙ ap (λ (ms : List Keyed). map spelled ms ++ [] ∷ []) whole) ∙ drop_at (map spelled ks) ([] ∷ []) n (length-map ks spelled) in
+    sym (join_with_byte-slice_split 10 more) ∙ ap (join_with_byte 10) last
