@@ -15,7 +15,7 @@ use Rattle.controller_file.specs.declared.bad_controller.BadController.TheVarian
 use Rattle.design_engine.specs.declared.refusal.Refusal.{Refusal}
 use Rattle.design_engine.specs.declared.refusal.Refusal.TheVariants as refusals
 use Rattle.command_line.specs.Limit.{file_limit}
-use Rattle.command_line.specs.Answers.{Contents, FileHolds, IsFileRefused, ReadsThen, IsAnswer, ForContents, IsCaused}
+use Rattle.command_line.specs.Answers.{Contents, ReadsThen, IsAnswer, ForContents, IsCaused}
 use Rattle.command_files.specs.Texts.{TellsFault, IsControllerFault, DesignRight, DesignWrong, PolicyRight, PolicyWrong, StatesRight, StatesWrong, ControllerRight, ControllerWrong}
 use Rattle.command_files.specs.Reading.{ReadsStates}
 use Rattle.command_controller.specs.Made.{MakingCalls, status_of}
