@@ -2,13 +2,13 @@
 """Writes designs whose exact numbers pass the limit, of 21 to 60 plan entries, each with a policy: fine.py FOLDER, for run.sh.
 
 Four states in two chains, up to three inputs, 12 cost rows and 12 limit rows of each kind, and a plant over the greatest denominator that there is. The model in
-../fuzz says that the design and its corners are of the fine classes, and that it is accepted.
+checks/fuzz says that the design and its corners are of the fine classes, and that it is accepted.
 """
 import os
 import sys
 
 HERE = os.path.dirname(os.path.abspath(__file__))
-sys.path.insert(0, os.path.join(HERE, "..", "fuzz"))
+sys.path.insert(0, os.path.join(HERE, "..", "..", "checks", "fuzz"))
 import at_corners
 import cases
 import forms

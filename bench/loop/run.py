@@ -15,7 +15,7 @@ import sys
 import tempfile
 
 HERE = os.path.dirname(os.path.abspath(__file__))
-sys.path.insert(0, os.path.join(HERE, "..", "fuzz"))
+sys.path.insert(0, os.path.join(HERE, "..", "..", "checks", "fuzz"))
 import control
 import model
 
@@ -29,7 +29,7 @@ def compiled(folder):
     """The launcher and the counting allocator."""
     measure, counting = os.path.join(folder, "measure"), os.path.join(folder, "counting.so")
     subprocess.run(["cc", "-O2", "-o", measure, os.path.join(HERE, "measure.c")], check=True)
-    subprocess.run(["cc", "-O2", "-shared", "-fPIC", "-fno-builtin", "-o", counting, os.path.join(HERE, "..", "faults", "refuse.c")], check=True)
+    subprocess.run(["cc", "-O2", "-shared", "-fPIC", "-fno-builtin", "-o", counting, os.path.join(HERE, "..", "..", "checks", "faults", "refuse.c")], check=True)
     return measure, counting
 
 
