@@ -49,7 +49,7 @@ partial_sums_below top start (x ∷ xs) (y ∷ ys) h =
     cons_below top (start +ℤ x *ℤ y) (partial_sums (start +ℤ x *ℤ y) (products xs ys)) (omega (arith, sum, h))
     (partial_sums_below top (start +ℤ x *ℤ y) xs ys (omega (arith, sum, h)))
 
-fits_width : (w : ℕ) (z : ℤ) → unsigned_abs z ≤ 2 ^ (w - 1) - 1 → FitsWidth w z
+pub fits_width : (w : ℕ) (z : ℤ) → unsigned_abs z ≤ 2 ^ (w - 1) - 1 → FitsWidth w z
 fits_width w z h = record { low = omega (arith, ints, pow_pos (w - 1), h); high = omega (arith, ints, pow_pos (w - 1), h) }
 
 all_fit : (w : ℕ) (zs : List ℤ) → AreBelow (2 ^ (w - 1) - 1) zs → All (FitsWidth w) zs
