@@ -66,11 +66,13 @@ sum_within c xi l s g h =
 
 pub states_within : (d : Design) (c : Numbers) (xi : List ℤ) (i : ℕ) → IsFor c d → IsAdmissible c xi → amount d.states (λ j. unsigned_abs (d.plant_a i j) * unsigned_abs (at xi j)) ≤ state_absolute_sum d c i
 states_within d c xi i m g =
-    amount_mono d.states _ _ (λ j h. mul-le (unsigned_abs (d.plant_a i j)) (unsigned_abs (at xi j)) (unsigned_abs (d.plant_a i j)) (coordinate_magnitude c j) (le_refl (unsigned_abs (d.plant_a i j))) (coordinate_within c xi j g (omega (arith, m.states))))
+    amount_mono d.states _ _ (λ j h. mul-le (unsigned_abs (d.plant_a i j)) (unsigned_abs (at xi j)) (unsigned_abs (d.plant_a i j)) (coordinate_magnitude c j) (le_refl (unsigned_abs (d.plant_a i j)))
+    (coordinate_within c xi j g (omega (arith, m.states))))
 
 pub inputs_within : (d : Design) (c : Numbers) (xi : List ℤ) (i : ℕ) → IsFor c d → IsController c → IsAdmissible c xi → amount d.inputs (λ l. unsigned_abs (d.plant_b i l) * unsigned_abs (at (averaged_plan c xi) l)) ≤ input_absolute_sum d c i
 inputs_within d c xi i m s g =
-    amount_mono d.inputs _ _ (λ l h. mul-le (unsigned_abs (d.plant_b i l)) (unsigned_abs (at (averaged_plan c xi) l)) (unsigned_abs (d.plant_b i l)) (c.steps * get_or (plan_magnitudes c) l 0) (le_refl (unsigned_abs (d.plant_b i l))) (sum_within c xi l s g (omega (arith, m.inputs))))
+    amount_mono d.inputs _ _ (λ l h. mul-le (unsigned_abs (d.plant_b i l)) (unsigned_abs (at (averaged_plan c xi) l)) (unsigned_abs (d.plant_b i l)) (c.steps * get_or (plan_magnitudes c) l 0)
+    (le_refl (unsigned_abs (d.plant_b i l))) (sum_within c xi l s g (omega (arith, m.inputs))))
 
 -- the products of the inputs leave room
 pub inputs_room : (d : Design) (c : Numbers) (xi : List ℤ) (i : ℕ) → IsFor c d → IsController c → IsAdmissible c xi → turn_size d c ≤ 2 ^ 126 → i < d.states →

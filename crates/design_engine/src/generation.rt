@@ -35,7 +35,7 @@ use dual_bounds::{multiplier, steps, undercut, violation};
 use hessian_check::{curvature, exponents};
 use overflow_check::Controller;
 use plant_condense::condense;
-use qp_model::{Bounds, Design, DesignParts, Margin, Policy, VERSION};
+use qp_model::{Bounds, Design, DesignParts, FIRST_VERSION, Margin, Policy};
 use slater_margin::margins;
 use std::alloc::{AllocError, Global};
 use step_error::{ErrorSums, error_sums};
@@ -194,7 +194,7 @@ fn row_exponents(
     ensures list { IfOk result (λ es. AreExponentsOf (design_of design.now) s es.items) }
     ensures curved { IfOk result (λ es. AreExponents (design_of design.now) (exponent_in es.items) s) }
 {
-    if design.parts().version == VERSION {
+    if design.parts().version == FIRST_VERSION {
         vec![in alloc; s; condensed.g.rows()]
     } else {
         exponents(alloc, condensed, s)

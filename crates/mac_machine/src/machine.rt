@@ -1,7 +1,7 @@
 // The machine and its runs.
 ghost use Rattle.std.specs.Prelude.{◌≡◌, ◌<◌, ◌↔◌, length, IsOk, IfOk, IfErr, OnOk};
 ghost use Rattle.integer_algebra.specs.Sums.{at};
-ghost use Rattle.mac_machine.specs.Machine.{HasRoom};
+ghost use Rattle.mac_machine.specs.Machine.{NeverTraps};
 ghost use Rattle.mac_machine.specs.Box.{IsInBox};
 ghost use Rattle.mac_machine.specs.Traps.{Stops};
 
@@ -48,7 +48,7 @@ impl<'a> Machine<'a> {
     /// Runs the listing from a state. Refused exactly where a coordinate lies outside the box, and then nothing changes, or else where a value has no room.
     pub fn play(&mut self, state: &[i128]) -> Result<(), Stop>
         requires { length state.now ≡ self.old.listing.states }
-        ensures ok { IsOk result ↔ (IsInBox self.old.listing state.now × HasRoom self.old.listing state.now) }
+        ensures ok { IsOk result ↔ (IsInBox self.old.listing state.now × NeverTraps self.old.listing state.now) }
         ensures ended { OnOk result (self.new ≡ ended self.old.listing state.now) }
         ensures stops { IfErr result (Stops self.old.listing state.now) }
         ensures stopped { IfErr result (Stopped self.old self.new) }

@@ -32,7 +32,10 @@ returns-clause-value c =
     let n = c.args.k.now.controller in
     let xi = c.args.state.now in
     let d = design_of c.parts-parts.result.now in
-    let all : c.loop-i.next ≡ successor d n xi = fill_by_all (λ j. round_of (next_sum d n xi j) (next_over d n)) c.loop-i.next d.states (pos 0) (omega (arith, c.requires.matched.states, ap (λ (p : DesignParts). p.states) c.parts-parts.ensures.value)) (λ k h. c.loop-i.invariant.value k (omega (arith, c.requires.matched.states, ap (λ (p : DesignParts). p.states) c.parts-parts.ensures.value, h))) in
+    let all : c.loop-i.next ≡ successor d n xi =
+    fill_by_all (λ j. round_of (next_sum d n xi j) (next_over d n)) c.loop-i.next d.states (pos 0)
+    (omega (arith, c.requires.matched.states, ap (λ (p : DesignParts). p.states) c.parts-parts.ensures.value))
+    (λ k h. c.loop-i.invariant.value k (omega (arith, c.requires.matched.states, ap (λ (p : DesignParts). p.states) c.parts-parts.ensures.value, h))) in
     all ∙ ap (λ (p : DesignParts). successor (design_of p) n xi) c.parts-parts.ensures.value
 
 pub returns-clause-nearest : goal.returns-clause-nearest

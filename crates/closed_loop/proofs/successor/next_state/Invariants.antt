@@ -7,5 +7,6 @@ use Rattle.closed_loop.proofs.successor.next_state.Given as goal
 abbrev pub invariant-loop-i : goal.invariant-loop-i
 invariant-loop-i l = record {
   value : (j : ℕ) → j < l.i → get_or l.next j (pos 0) ≡ round_of (next_sum (design_of l.parts) l.k.controller l.state j) (next_over (design_of l.parts) l.k.controller);
-  nearest : (j : ℕ) → j < l.i → IsNearest (next_sum (design_of l.parts) l.k.controller l.state j) (next_over (design_of l.parts) l.k.controller) (round_of (next_sum (design_of l.parts) l.k.controller l.state j) (next_over (design_of l.parts) l.k.controller));
+  nearest : (j : ℕ) → j < l.i → IsNearest (next_sum (design_of l.parts) l.k.controller l.state j) (next_over (design_of l.parts) l.k.controller)
+      (round_of (next_sum (design_of l.parts) l.k.controller l.state j) (next_over (design_of l.parts) l.k.controller));
 }

@@ -103,7 +103,8 @@ loop-gone-preserved g c =
     let next : c.next_state.new.next ≡ state_after d n start (gone + 1) =
     c.next_state.ensures.value ∙ ap (λ (m : Numbers). successor d m c.deref-in-loop-gone.result.now) kept ∙ ap (successor d n) again ∙ sym (state_more d n start gone) in
     let count : length c.next_state.new.next ≡ d.states = ap (λ (xs : List ℤ). length xs) c.next_state.ensures.value ∙ length-map-range_with_len _ 0 d.states in
-    let items : c.swap.new.x.items ≡ c.next_state.new.next = ap (λ (v : Vec ℤ Global). v.items) c.swap.ensures.x_after ∙ with_items_is c.loop-gone.next c.next_state.new.next (count ∙ c.requires.matched.states ∙ sym c.loop-gone.invariant.next ∙ sym c.loop-gone.next.ok.0) in
+    let items : c.swap.new.x.items ≡ c.next_state.new.next =
+    ap (λ (v : Vec ℤ Global). v.items) c.swap.ensures.x_after ∙ with_items_is c.loop-gone.next c.next_state.new.next (count ∙ c.requires.matched.states ∙ sym c.loop-gone.invariant.next ∙ sym c.loop-gone.next.ok.0) in
     record {
       state = items ∙ next;
       next = ap (λ (v : Vec ℤ Global). length v.items) c.swap.ensures.y_after ∙ c.loop-gone.invariant.long;

@@ -70,12 +70,14 @@ overflow_cast-result c =
 
 pub returns-then-len-corner_count-clause-fault : goal.returns-then-len-corner_count-clause-fault
 returns-then-len-corner_count-clause-fault c =
-    count_fault c.args.bytes.now (design_of c.args.parts.now) c.in_ok-records.records.items _ c.loop-i.i c.loop-i.dens.items c.loop-i.plans c.in_ok-records.ensures (search rules) (omega arith) (λ q. absurd (omega (arith, q, c.if-len-corner_count.true)))
+    count_fault c.args.bytes.now (design_of c.args.parts.now) c.in_ok-records.records.items _ c.loop-i.i c.loop-i.dens.items c.loop-i.plans c.in_ok-records.ensures (search rules) (omega arith)
+    (λ q. absurd (omega (arith, q, c.if-len-corner_count.true)))
     c.loop-i.invariant.plans.each
 
 pub returns-clause-found : goal.returns-clause-found
 returns-clause-found c =
-    plans_found c.args.bytes.now (design_of c.args.parts.now) c.in_ok-records.records.items _ c.loop-i.i c.in_ok-records.ensures (omega arith) (omega (arith, c.corner_count.ensures, c.len.ensures)) c.loop-i.invariant.plans c.loop-i.invariant.dens (omega arith)
+    plans_found c.args.bytes.now (design_of c.args.parts.now) c.in_ok-records.records.items _ c.loop-i.i c.in_ok-records.ensures (omega arith)
+    (omega (arith, c.corner_count.ensures, c.len.ensures)) c.loop-i.invariant.plans c.loop-i.invariant.dens (omega arith)
 
 pub overflow_mul-entries : goal.overflow_mul-entries
 overflow_mul-entries c = omega (arith, plan_small c.args.parts.now c.requires.design)

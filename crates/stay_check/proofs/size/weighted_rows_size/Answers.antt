@@ -8,7 +8,7 @@ use Rattle.stay_check.specs.FirstRows.{first_row, first_row_count}
 use Rattle.stay_check.specs.FaceForms.{faces_of}
 use Rattle.stay_check.specs.Columns.{coefficient}
 use Rattle.stay_check.proofs.FaceFacts.{weight_small, added_size}
-use Rattle.stay_check.proofs.size.rows_size.Goals as goal
+use Rattle.stay_check.proofs.size.weighted_rows_size.Goals as goal
 
 pub overflow_mul-sum : goal.overflow_mul-sum
 overflow_mul-sum c =

@@ -4,7 +4,7 @@ use Rattle.qp_model.specs.problem.Parts.{design_of}
 use Rattle.stay_check.specs.FirstRows.{first_row_count, first_row}
 use Rattle.stay_check.specs.FaceForms.{faces_of, face_of}
 use Rattle.stay_check.specs.Columns.{coefficient}
-use Rattle.stay_check.proofs.size.rows_size.Given as goal
+use Rattle.stay_check.proofs.size.weighted_rows_size.Given as goal
 
 abbrev pub invariant-loop-r : goal.invariant-loop-r
 invariant-loop-r l = record {
