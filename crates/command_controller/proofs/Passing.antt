@@ -15,8 +15,8 @@ use Rattle.qp_model.specs.bounds.Printed.{Printed}
 use Rattle.qp_model.specs.declared.bounds.Margin.{Margin}
 use Rattle.qp_model.specs.declared.quantity.Quantity.TheVariants as quantity
 use Rattle.design_engine.specs.Targets.{Targets, targets_of}
-use Rattle.design_engine.specs.Aims.{aim_of, steps_of, width_of}
-use Rattle.design_engine.specs.Tests.{PassesForm, PassesBits}
+use Rattle.design_engine.specs.Aims.{aim_of, steps_of}
+use Rattle.design_engine.specs.Tests.{width_of, PassesForm, PassesBits}
 use Rattle.design_engine.specs.Bounds.{margin_of}
 use Rattle.design_engine.specs.Built.{IsBuilt}
 use Rattle.design_engine.specs.Refusals.{HasCause, PassesMargin, PassesSizes, PassesExponent, PassesAll}

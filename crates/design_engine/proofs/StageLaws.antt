@@ -17,8 +17,8 @@ use Rattle.qp_model.specs.declared.quantity.Quantity.TheVariants.{Prediction, Co
 use Rattle.exact_margin.specs.Corners.{HasCornerRoom, IsFirstShort, IsFirstWideCorner}
 use Rattle.hessian_check.specs.Steps.{IsExponentOf, HasNoStep}
 use Rattle.step_error.proofs.SumFacts.{floor_range}
-use Rattle.design_engine.specs.Aims.{steps_of, AreBitsOf, width_of}
-use Rattle.design_engine.specs.Tests.{PassesForm, IsFormWide, HasFormCause, PassesAim, IsAimWide, HasAimCause}
+use Rattle.design_engine.specs.Aims.{steps_of, AreBitsOf}
+use Rattle.design_engine.specs.Tests.{width_of, PassesForm, IsFormWide, HasFormCause, PassesAim, IsAimWide, HasAimCause}
 use Rattle.design_engine.specs.Bounds.{stated_cost}
 use Rattle.design_engine.specs.declared.aimed.Aim.{Aim}
 use Rattle.design_engine.specs.declared.refusal.Refusal.{Refusal}

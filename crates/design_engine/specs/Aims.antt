@@ -16,7 +16,6 @@ use Rattle.condensed_form.specs.Form.{IsFormOf}
 use Rattle.hessian_check.specs.Steps.{IsExponentOf, OfDesign}
 use Rattle.hessian_check.specs.RowExponents.{AreExponentsOf}
 use Rattle.bit_choice.specs.Choice.{IsChoice}
-use Rattle.controller_maker.specs.Widest.{width_size}
 use Rattle.qp_model.specs.declared.bounds.Margin.{Margin}
 use Rattle.qp_model.specs.bounds.Choices.{multiplier_of}
 use Rattle.design_engine.specs.Targets.{Targets, half_target, error_limit}
@@ -44,10 +43,6 @@ steps_of a s = step_count s (unsigned_abs a.r) (unsigned_abs a.step_target)
 -- f bits are the least with which the errors cost no more than the aim lets them
 abbrev pub AreBitsOf : Design → Aim → ℕ → Type 0
 AreBitsOf d a f = IsChoice (error_sums_of d (form_of d) (unsigned_abs a.r)) d.grid (unsigned_abs a.error_target) f
-
--- the quantity `width`, at f bits
-abbrev pub width_of : Design → Aim → (s f : ℕ) → ℕ
-width_of d a s f = width_size d (unsigned_abs a.r) s (steps_of a s) f
 
 -- a design's condensed form and its step exponent
 pub record IsScaledOf (p : DesignParts) (x : Scaled) : Type 0 where

@@ -7,7 +7,8 @@ use Rattle.qp_model.specs.bounds.Errors.{error_size}
 use Rattle.qp_model.specs.declared.quantity.Quantity.{Quantity}
 use Rattle.qp_model.specs.declared.quantity.Quantity.TheVariants.{Prediction, Hessian, Rows, Curvature as curvature_named, Error, Descent, Width}
 use Rattle.hessian_check.specs.Steps.{HasNoStep}
-use Rattle.design_engine.specs.Aims.{steps_of, AreBitsOf, width_of}
+use Rattle.controller_maker.specs.Widest.{width_size}
+use Rattle.design_engine.specs.Aims.{steps_of, AreBitsOf}
 use Rattle.design_engine.specs.Bounds.{stated_cost}
 use Rattle.design_engine.specs.declared.aimed.Aim.{Aim}
 use Rattle.design_engine.specs.declared.refusal.Refusal.{Refusal}
@@ -45,6 +46,10 @@ HasFormCause d (TooWide quantity) = IsFormWide d quantity
 HasFormCause d other = ⊥
 
 -- ---- an aim, with the step exponent s
+-- the quantity `width`, at f bits
+abbrev pub width_of : Design → Aim → (s f : ℕ) → ℕ
+width_of d a s f = width_size d (unsigned_abs a.r) s (steps_of a s) f
+
 -- the steps are few enough, and f bits are enough for the errors
 pub record PassesBits (d : Design) (a : Aim) (s f : ℕ) : Type 0 where
   pub steps : steps_of a s ≤ 2 ^ 22
