@@ -1,5 +1,7 @@
 -- The lemmas by topic.
 pub mod CornerFacts
+pub mod ExcessFacts
+pub mod FormFacts
 pub mod GradientFacts
 pub mod RoomFacts
 pub mod RoundFacts
@@ -7,3 +9,4 @@ pub mod RowFacts
 pub mod SameFacts
 pub mod SlopeFacts
 pub mod SumFacts
+pub mod WholeFacts

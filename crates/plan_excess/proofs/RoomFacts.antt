@@ -1,5 +1,6 @@
 -- Limits of whole numbers that aren't negative, as code tests them.
-use Rattle.std.proofs.Common.{◌≡◌, ◌↔◌, inl, inr, ℕ, ◌+◌, ◌*◌, ◌^◌, ◌<◌, ◌≤◌, max, ℤ, pos, ◌+ℤ◌, ◌*ℤ◌, ◌≤ℤ◌, unsigned_abs, List, length, IsSome, Option, None, arith, subst}
+use Rattle.std.proofs.Common.{◌≡◌, ◌↔◌, inl, inr, ℕ, ◌+◌, ◌*◌, ◌^◌, ◌<◌, ◌≤◌, max, ℤ, pos, ◌+ℤ◌, ◌*ℤ◌, ◌≤ℤ◌, unsigned_abs, List, length, IsSome, Option, None, Result, Ok, Err, IfErr, arith, subst, sym}
+use Rattle.std.specs.Result.{IsErrAnd}
 use Rattle.std.proofs.lemmas.Int.{ints}
 use Rattle.frac_scaled.specs.Enclosures.{Enclosure, magnitude}
 use Rattle.mat_int.specs.Enclosures.{combination_magnitude}
@@ -51,6 +52,11 @@ radius_of x e h = subst (λ (e : Enclosure). pos 0 ≤ℤ e.rad) h x.nonnegative
 pub fault_within : (m n : ℕ) (e : ExcessFault) → m ≤ n → IsFault m e → IsFault n e
 fault_within m n e h (inl f) = inl f
 fault_within m n e h (inr f) = inr (f.0, omega (arith, h, f.1))
+
+-- of a call that is handed on
+pub fault_passed : {T : Type 0} (r : Result T ExcessFault) (x : ExcessFault) (m n : ℕ) → IsErrAnd r (λ y. y ≡ x) → m ≤ n → IsFault m x → IfErr r (IsFault n)
+fault_passed (Ok v) x m n h l f = tt
+fault_passed (Err y) x m n h l f = fault_within m n y l (subst (IsFault m) (sym h) f)
 
 pub fault_same : (n : ℕ) (e f : ExcessFault) → e ≡ f → IsFault n e → IsFault n f
 fault_same n e f h k = subst (IsFault n) h k

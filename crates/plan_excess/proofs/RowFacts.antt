@@ -10,9 +10,10 @@ use Rattle.mat_int.specs.Enclosures.{combined, combination, combination_magnitud
 use Rattle.enclosure.specs.Values.{pair, pair_at}
 use Rattle.enclosure.proofs.RoomLaws.{ceil_small, inexact_small}
 use Rattle.enclosure.proofs.GramLaws.{product_nonneg}
+use Rattle.enclosure.proofs.SumLaws.{radius_nonneg}
 use Rattle.qp_model.specs.problem.Design.{Design, entries}
 use Rattle.qp_model.specs.form.Form.{Form}
-use Rattle.qp_model.specs.bounds.Excess.{brought, hessian_at, linear_at, of_plan, of_state, gradient_enclosure, gradient_size, step_enclosure, slope_enclosure, sum_reach}
+use Rattle.qp_model.specs.bounds.Excess.{hessian_at, linear_at, constant_at, of_plan, of_state, gradient_enclosure, gradient_size, step_enclosure, slope_enclosure, sum_reach}
 use Rattle.fine_run.proofs.ListFacts.{combined_same, magnitude_same}
 use Rattle.plan_excess.specs.declared.rows.Row.{Row}
 use Rattle.plan_excess.specs.Rows.{IsRow, gradient_by, gradient_size_by}
@@ -50,21 +51,25 @@ module _ (d : Design) (h : Form) (j : ℕ) (row : Row) (is : IsRow d h j row) (x
 divided_radius : (e : Enclosure) (d : ℕ) → 0 < d → pos 0 ≤ℤ e.rad → pos 0 ≤ℤ (divided e d).rad
 divided_radius e d p h = add_nonneg_z (ceil_small e.rad d h p).0 (inexact_small e.mid d).0
 
-brought_radius : (s : ℕ) (m : ℤ) (r : ℕ) → 0 < s → pos 0 ≤ℤ (brought s m r).rad
-brought_radius s m r p = divided_radius (record { mid = pos (2 ^ 40) *ℤ m; rad = pos (2 ^ 40 * r) }) s p (omega (arith, ints))
-
 combined_radius : (n : ℕ) (c : ℕ → ℤ) (x : ℕ → Enclosure) (d : ℕ) → 0 < d → ((i : ℕ) → i < n → pos 0 ≤ℤ (x i).rad) → pos 0 ≤ℤ (combined n c x d).rad
 combined_radius n c x d p h = divided_radius (combination n c x) d p (total_nonneg n _ (λ i l. mul_nonneg_z _ _ (absolute_nonneg (c i)) (h i l)))
 
-module _ (d : Design) (h : Form) (scale : 1 ≤ h.hessian_scale) (xi : ℕ → ℤ) where
-  gradient_radius : (q : ℕ) (u : ℕ → ℤ) (j : ℕ) → 1 ≤ q → pos 0 ≤ℤ (gradient_enclosure d h xi q u j).rad
-  gradient_radius q u j p = add_nonneg_z (add_nonneg_z
-      (combined_radius (entries d) u (hessian_at h j) q p (λ i l. brought_radius h.hessian_scale (h.numbers.hessian j i) (h.hessian_radius j i) scale))
-      (combined_radius d.states xi (linear_at h j) (2 ^ d.grid) (pow_pos d.grid) (λ i l. brought_radius h.hessian_scale (h.numbers.linear j i) (h.linear_radius j i) scale)))
-      (brought_radius h.hessian_scale (h.numbers.constant j) (h.constant_radius j) scale)
+module _ (d : Design) (h : Form) (j : ℕ) (row : Row) (is : IsRow d h j row) (xi : ℕ → ℤ) where
+  hessian_radius : (i : ℕ) → i < entries d → pos 0 ≤ℤ (hessian_at h j i).rad
+  hessian_radius i l = subst (λ (e : Enclosure). pos 0 ≤ℤ e.rad) (is.plan.is i l) (radius_nonneg row.plan.items i (rw is.plan.long l))
 
-  pub slope_radius : (q : ℕ) (u : ℕ → ℤ) (o : ℕ) (w : ℕ → ℤ) (j : ℕ) → 1 ≤ q → 1 ≤ o → pos 0 ≤ℤ (slope_enclosure d h xi q u o w j).rad
-  slope_radius q u o w j p r = divided_radius (whole_product (sum_of (gradient_enclosure d h xi q u j) (gradient_enclosure d h xi o w j)) (step_enclosure q u o w j)) (2 ^ 40) (pow_pos 40)
+  linear_radius : (i : ℕ) → i < d.states → pos 0 ≤ℤ (linear_at h j i).rad
+  linear_radius i l = subst (λ (e : Enclosure). pos 0 ≤ℤ e.rad) (is.state.is i l) (radius_nonneg row.state.items i (rw is.state.long l))
+
+  constant_radius : pos 0 ≤ℤ (constant_at h j).rad
+  constant_radius = subst (λ (e : Enclosure). pos 0 ≤ℤ e.rad) is.constant row.constant.nonnegative
+
+  gradient_radius : (q : ℕ) (u : ℕ → ℤ) → 1 ≤ q → pos 0 ≤ℤ (gradient_enclosure d h xi q u j).rad
+  gradient_radius q u p = add_nonneg_z (add_nonneg_z (combined_radius (entries d) u (hessian_at h j) q p hessian_radius)
+      (combined_radius d.states xi (linear_at h j) (2 ^ d.grid) (pow_pos d.grid) linear_radius)) constant_radius
+
+  pub slope_radius : (q : ℕ) (u : ℕ → ℤ) (o : ℕ) (w : ℕ → ℤ) → 1 ≤ q → 1 ≤ o → pos 0 ≤ℤ (slope_enclosure d h xi q u o w j).rad
+  slope_radius q u o w p r = divided_radius (whole_product (sum_of (gradient_enclosure d h xi q u j) (gradient_enclosure d h xi o w j)) (step_enclosure q u o w j)) (2 ^ 40) (pow_pos 40)
       (product_nonneg (sum_of (gradient_enclosure d h xi q u j) (gradient_enclosure d h xi o w j)) (step_enclosure q u o w j)
-      (add_nonneg_z (gradient_radius q u j p) (gradient_radius o w j r))
+      (add_nonneg_z (gradient_radius q u p) (gradient_radius o w r))
       (add_nonneg_z (inexact_small (pos (2 ^ 40) *ℤ u j) q).0 (inexact_small (pos (2 ^ 40) *ℤ neg_ℤ (w j)) o).0))

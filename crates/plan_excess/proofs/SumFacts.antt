@@ -1,15 +1,19 @@
 -- Sums over the entries of a corner, as naturals.
-use Rattle.std.proofs.Common.{◌≡◌, ℕ, ◌+◌, ◌*◌, ◌^◌, ◌<◌, ◌≤◌, max, ℤ, pos, negsuc, ◌≤ℤ◌, unsigned_abs, arith, refl, ap, subst, sym, ◌∙◌}
+use Rattle.std.proofs.Common.{◌≡◌, ℕ, ◌+◌, ◌*◌, ◌^◌, ◌<◌, ◌≤◌, max, ℤ, pos, negsuc, ◌≤ℤ◌, unsigned_abs, ◌+ℤ◌, arith, refl, ap, ap₂, subst, sym, ◌∙◌}
 use Rattle.integer_algebra.specs.Sums.{total, square}
 use Rattle.integer_algebra.specs.Sizes.{amount}
-use Rattle.integer_algebra.proofs.SumLaws.{total_same}
-use Rattle.integer_algebra.proofs.SizeLaws.{total_amount, amount_next}
+use Rattle.std.proofs.lemmas.Int.{ints}
+use Rattle.integer_algebra.proofs.SumLaws.{total_same, total_more}
+use Rattle.integer_algebra.proofs.SizeLaws.{total_amount, amount_next, amount_more}
 use Rattle.frac_scaled.specs.Enclosures.{Enclosure, magnitude}
 use Rattle.enclosure.proofs.RoomLaws.{reach_is}
 use Rattle.qp_model.specs.form.Quantities.{greatest}
 use Rattle.qp_model.specs.bounds.Excess.{reach}
 use Rattle.qp_model.proofs.SizeFacts.{greatest_term}
-use Rattle.plan_excess.specs.Slopes.{sums_size, far_by, squares_by}
+use Rattle.enclosure.specs.Values.{pair}
+use Rattle.plan_excess.specs.declared.slope.Slope.{Slope}
+use Rattle.plan_excess.specs.declared.sums.Sums.{Sums}
+use Rattle.plan_excess.specs.Slopes.{AreSums, sums_size, far_by, squares_by}
 
 -- a magnitude as a natural
 pub reach_by : (e : Enclosure) → pos 0 ≤ℤ e.rad → magnitude e ≡ pos (reach e)
@@ -18,6 +22,10 @@ reach_by e h = reach_is e.mid e.rad h ∙ ap (λ (z : ℤ). pos (unsigned_abs z)
 -- what an enclosure reaches, by its numbers
 pub reach_of : (e : Enclosure) → pos 0 ≤ℤ e.rad → reach e ≡ unsigned_abs e.mid + unsigned_abs e.rad
 reach_of e h = ap unsigned_abs (reach_is e.mid e.rad h)
+
+-- what an entry's slope reaches
+slope_reach : (n : ℕ) (slope : ℕ → Enclosure) (x : Slope) → pair x.value ≡ slope n → unsigned_abs x.value.mid + unsigned_abs x.value.rad ≡ far_by slope n
+slope_reach n slope x value = sym (reach_of (pair x.value) x.value.nonnegative) ∙ ap reach value
 
 -- a square as a natural
 square_by : (z : ℤ) → square z ≡ pos (unsigned_abs z * unsigned_abs z)
@@ -50,3 +58,27 @@ module _ (n : ℕ) (size : ℕ → ℕ) (slope : ℕ → Enclosure) (steep : ℕ
   -- and so are the sums up to it
   pub step_within : (far squared : ℕ) → far ≡ amount j (far_by slope) + far_by slope j → squared ≡ amount j (squares_by steep) + squares_by steep j → max far squared ≤ 2 ^ 126
   step_within far squared e f = omega (arith, e, f, known, amount_next j n (far_by slope) l, amount_next j n (squares_by steep) l)
+
+-- ---- the sums of a corner, entry by entry
+-- with one more
+pub one_added : (n : ℕ) (slope : ℕ → Enclosure) (steep : ℕ → ℤ) (s t : Sums) (x : Slope) → AreSums n slope steep s → pair x.value ≡ slope n → pos x.steepness ≡ steep n →
+    t.rise ≡ s.rise +ℤ x.value.mid +ℤ x.value.rad → t.reach ≡ s.reach + (unsigned_abs x.value.mid + unsigned_abs x.value.rad) → t.squares ≡ s.squares + x.steepness * x.steepness →
+    AreSums (n + 1) slope steep t
+one_added n slope steep s t x are value steepness rise far squared = record {
+  rise = rw (total_more n (λ j. (slope j).mid +ℤ (slope j).rad), ← value, ← are.rise, rise) (omega (arith, ints));
+  reach = rw (amount_more n (far_by slope), ← are.reach, far) (ap (λ (m : ℕ). s.reach + m) (slope_reach n slope x value));
+  squares = rw (amount_more n (squares_by steep), ← are.squares, squared, ← steepness) refl;
+}
+
+-- what an entry's calls test
+module _ (n : ℕ) (slope : ℕ → Enclosure) (steep : ℕ → ℤ) (s : Sums) (x : Slope) (are : AreSums n slope steep s) (value : pair x.value ≡ slope n) (steepness : pos x.steepness ≡ steep n) where
+  pub far_is : s.reach + (unsigned_abs x.value.mid + unsigned_abs x.value.rad) ≡ amount n (far_by slope) + far_by slope n
+  far_is = ap₂ (λ (a b : ℕ). a + b) are.reach (slope_reach n slope x value)
+
+  pub squared_is : s.squares + x.steepness * x.steepness ≡ amount n (squares_by steep) + squares_by steep n
+  squared_is = ap₂ (λ (a b : ℕ). a + b) are.squares (ap (λ (z : ℤ). unsigned_abs z * unsigned_abs z) steepness)
+
+-- and all of them
+pub sums_fit : (n : ℕ) (size : ℕ → ℕ) (slope : ℕ → Enclosure) (steep : ℕ → ℤ) (s : Sums) → ((j : ℕ) → j < n → pos 0 ≤ℤ (slope j).rad) → AreSums n slope steep s →
+    greatest n size ≤ 2 ^ 126 → sums_size n size slope steep ≤ 2 ^ 126
+sums_fit n size slope steep s h are near = subst (λ (m : ℕ). m ≤ 2 ^ 126) (sym (size_by n size slope steep h)) (omega (arith, near, are.reach, are.squares, s.limited, s.few))

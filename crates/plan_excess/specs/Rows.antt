@@ -2,13 +2,21 @@
 use Rattle.std.specs.Prelude.{◌≡◌, ℕ, ◌^◌, ◌<◌, ◌≤◌, max, List, length, get_or, ℤ, unsigned_abs}
 use Rattle.frac_scaled.specs.Enclosures.{Enclosure, sum_of}
 use Rattle.mat_int.specs.Enclosures.{combined, combination_magnitude}
+use Rattle.mat_int.specs.Matrix.{Matrix, entry_of}
 use Rattle.enclosure.specs.Values.{pair}
 use Rattle.qp_model.specs.problem.Design.{Design, entries}
 use Rattle.qp_model.specs.form.Form.{Form}
 use Rattle.qp_model.specs.form.Quantities.{greatest}
-use Rattle.qp_model.specs.bounds.Excess.{hessian_at, linear_at, constant_at, number_size, sum_reach}
+use Rattle.qp_model.specs.bounds.Excess.{brought, hessian_at, linear_at, constant_at, reach, number_size, sum_reach}
 use Rattle.fine_run.specs.Lists.{HoldsEnclosures}
 use Rattle.plan_excess.specs.declared.rows.Row.{Row}
+
+-- row j of a matrix within that of the radii, both over the scale, and what its numbers reach
+abbrev pub line_at : (scale : ℕ) → (mids rads : Matrix) → ℕ → ℕ → Enclosure
+line_at scale mids rads j i = brought scale (entry_of mids j i) (unsigned_abs (entry_of rads j i))
+
+abbrev pub line_size : (scale : ℕ) → (mids rads : Matrix) → ℕ → ℕ
+line_size scale mids rads j = greatest mids.cols (λ i. reach (line_at scale mids rads j i))
 
 -- row j: what the plan's entries, the state's coordinates and 1 are times in entry j of the gradient
 pub record IsRow (d : Design) (h : Form) (j : ℕ) (row : Row) : Type 0 where

@@ -1,7 +1,9 @@
 // The numbers of a condensed form's cost as enclosures, brought over `2^40` once for all corners.
-ghost use Rattle.std.specs.Prelude.{◌≡◌, ℕ, ◌<◌, ◌≤◌, ◌^◌, pos, ◌≤ℤ◌, length, unsigned_abs, IfOk, OnOk, IfErr, IsSome, IfSome, ◌↔◌};
+ghost use Rattle.std.specs.Prelude.{◌≡◌, ℕ, ◌<◌, ◌≤◌, ◌^◌, pos, ◌≤ℤ◌, length, unsigned_abs, IfOk, OnOk, IfErr, IsSome, IfSome, Some, None, ◌↔◌};
 ghost use Rattle.integer_algebra.specs.Sums.{at};
+ghost use Rattle.mat_int.specs.Matrix.{entry_of};
 ghost use Rattle.enclosure.specs.Values.{pair};
+ghost use Rattle.qp_model.specs.declared.quantity.Quantity.TheVariants.{Excess};
 ghost use Rattle.qp_model.specs.problem.Design.{entries};
 ghost use Rattle.qp_model.specs.problem.Parts.{design_of};
 ghost use Rattle.qp_model.specs.declared.design_parts.DesignParts.{DesignParts};
@@ -10,11 +12,13 @@ ghost use Rattle.qp_model.specs.bounds.Excess.{brought, reach, number_size};
 ghost use Rattle.condensed_form.specs.Form.{held, IsFormOf};
 ghost use Rattle.fine_run.specs.Lists.{HoldsEnclosures};
 ghost use Rattle.plan_excess.specs.Fault.{IsFault};
-ghost use Rattle.plan_excess.specs.Rows.{IsRow, AreRows, AreNear};
+ghost use Rattle.plan_excess.specs.Rows.{line_at, line_size, IsRow, AreRows, AreNear};
+ghost use Rattle.plan_excess.specs.declared.fault.ExcessFault.TheVariants.{TooWide as excess_wide};
 
 use crate::fault::{ExcessFault, too_wide};
 use condensed_form::Condensed;
 use enclosure::{Enc, enclose_within};
+use mat_int::Mat;
 use std::alloc::Global;
 
 /// What the plan's entries, the state's coordinates and 1 are times in one entry of the cost's gradient.
@@ -57,17 +61,26 @@ fn numbers(alloc: Global, mids: &[i128], rads: &[i128], den: i128) -> Result<Vec
     Ok(out)
 }
 
-// Row `j`.
-fn row_of(alloc: Global, c: &Condensed, j: usize) -> Result<Row, ExcessFault>
-    requires form { (p : DesignParts) × IsFormOf p c.now }
-    requires row { j < length c.now.hess.rows }
-    ensures value { (p : DesignParts) → IsFormOf p c.now → IfOk result (IsRow (design_of p) (held c.now) j) }
-    ensures room { (p : DesignParts) → IsFormOf p c.now → OnOk result (number_size (design_of p) (held c.now) j ≤ 2 ^ 126) }
-    ensures refused { (p : DesignParts) → IsFormOf p c.now → IfErr result (IsFault (number_size (design_of p) (held c.now) j)) }
+// Row `j` of a matrix within that of the radii, all over `den`.
+fn line(alloc: Global, mids: &Mat, rads: &Mat, j: usize, den: i128) -> Result<Vec<Enc>, ExcessFault>
+    requires rows { length rads.now.rows ≡ length mids.now.rows }
+    requires cols { rads.now.cols ≡ mids.now.cols }
+    requires row { j < length mids.now.rows }
+    requires divisor { pos 1 ≤ℤ den }
+    requires radii { (i : ℕ) → i < mids.now.cols → pos 0 ≤ℤ entry_of rads.now j i }
+    ensures value { IfOk result (λ v. HoldsEnclosures v.items mids.now.cols (line_at (unsigned_abs den) mids.now rads.now j)) }
+    ensures room { OnOk result (line_size (unsigned_abs den) mids.now rads.now j ≤ 2 ^ 126) }
+    ensures refused { IfErr result (IsFault (line_size (unsigned_abs den) mids.now rads.now j)) }
 {
-    let plan = numbers(alloc, c.hess.row(j), c.hess_rad.row(j), c.hess_den)?;
-    let state = numbers(alloc, c.lin.row(j), c.lin_rad.row(j), c.hess_den)?;
-    match number(c.off[j], c.off_rad[j], c.hess_den) {
+    numbers(alloc, mids.row(j), rads.row(j), den)
+}
+
+// A row of these numbers, where the constant is none that is too long.
+fn joined(plan: Vec<Enc>, state: Vec<Enc>, constant: Option<Enc>) -> Result<Row, ExcessFault>
+    ensures value { IfOk result (λ row. (row.plan.items ≡ plan.items) × (row.state.items ≡ state.items) × (constant ≡ Some row.constant)) }
+    ensures refused { IfErr result (λ e. (e ≡ excess_wide Excess) × (constant ≡ None)) }
+{
+    match constant {
         Some(constant) => Ok(Row {
             plan,
             state,
@@ -79,6 +92,19 @@ fn row_of(alloc: Global, c: &Condensed, j: usize) -> Result<Row, ExcessFault>
             Err(too_wide())
         }
     }
+}
+
+// Row `j`.
+fn row_of(alloc: Global, c: &Condensed, j: usize) -> Result<Row, ExcessFault>
+    requires form { (p : DesignParts) × IsFormOf p c.now }
+    requires row { j < length c.now.hess.rows }
+    ensures value { (p : DesignParts) → IsFormOf p c.now → IfOk result (IsRow (design_of p) (held c.now) j) }
+    ensures room { (p : DesignParts) → IsFormOf p c.now → OnOk result (number_size (design_of p) (held c.now) j ≤ 2 ^ 126) }
+    ensures refused { (p : DesignParts) → IsFormOf p c.now → IfErr result (IsFault (number_size (design_of p) (held c.now) j)) }
+{
+    let plan = line(alloc, &c.hess, &c.hess_rad, j, c.hess_den)?;
+    let state = line(alloc, &c.lin, &c.lin_rad, j, c.hess_den)?;
+    joined(plan, state, number(c.off[j], c.off_rad[j], c.hess_den))
 }
 
 /// All rows.
