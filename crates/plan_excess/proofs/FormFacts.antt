@@ -1,9 +1,11 @@
 -- The rows of a form that is held.
-use Rattle.std.proofs.Common.{◌≡◌, ◌↔◌, ℕ, ◌^◌, ◌<◌, ◌≤◌, max, inr, unsigned_abs, List, length, Result, Ok, Err, Option, Some, None, IfOk, OnOk, IfErr, IfSome, IsSome, arith, refl, subst, sym, ap}
+use Rattle.std.proofs.Common.{◌≡◌, ◌↔◌, ℕ, ◌^◌, ◌<◌, ◌≤◌, max, inr, unsigned_abs, ◌+◌, ◌++◌, [], ◌∷◌, List, get_or, below_more, length, Result, Ok, Err, Option, Some, None, IfOk, OnOk, IfErr, IfSome, IsSome, arith, refl, subst, sym, ap, ◌∙◌}
 use Rattle.std.proofs.lemmas.Result.{IfOk-weaker}
+use Rattle.std.proofs.lemmas.List.{length_push, get_or_push, get_or_append_left}
 use Rattle.qp_model.specs.declared.design_parts.DesignParts.{DesignParts}
 use Rattle.qp_model.specs.declared.quantity.Quantity.TheVariants.{Excess}
-use Rattle.qp_model.specs.problem.Design.{entries}
+use Rattle.qp_model.specs.problem.Design.{Design, entries}
+use Rattle.qp_model.specs.form.Form.{Form}
 use Rattle.qp_model.specs.problem.Parts.{design_of}
 use Rattle.qp_model.specs.form.Quantities.{greatest}
 use Rattle.qp_model.specs.bounds.Excess.{hessian_at, linear_at, constant_at, reach, number_size}
@@ -16,7 +18,7 @@ use Rattle.plan_excess.specs.declared.rows.Row.{Row}
 use Rattle.plan_excess.specs.declared.fault.ExcessFault.{ExcessFault}
 use Rattle.plan_excess.specs.declared.fault.ExcessFault.TheVariants.{TooWide}
 use Rattle.plan_excess.specs.Fault.{IsFault}
-use Rattle.plan_excess.specs.Rows.{line_at, line_size, IsRow}
+use Rattle.plan_excess.specs.Rows.{line_at, line_size, IsRow, AreRows}
 
 -- a row of these numbers, where the constant is one
 abbrev pub HasParts : (plan state : List Enc) → Option Enc → Row → Type 0
@@ -72,3 +74,20 @@ module _ (p : DesignParts) (c : Condensed) (is : IsFormOf p c) (j : ℕ) where
 
       beyond : (reach (constant_at (held c) j) ≤ 2 ^ 126 → ⊥) → 2 ^ 126 < number_size (design_of p) (held c) j
       beyond h = past (reach (constant_at (held c) j)) h (omega (arith, sym size_is))
+
+-- ---- rows, one after another
+pub row_pushed : (d : Design) (h : Form) (n : ℕ) (rows new : List Row) (row : Row) → new ≡ rows ++ row ∷ [] → IsRow d h n row → AreRows d h n rows → AreRows d h (n + 1) new
+row_pushed d h n rows new row e is are = rw e (record {
+  long = length_push rows row ∙ ap (λ (m : ℕ). m + 1) are.long;
+  is = λ j other l. below_more (λ k. IsRow d h k (get_or (rows ++ row ∷ []) k other)) n (λ k m. rw (get_or_append_left rows (row ∷ []) other k (rw are.long m)) (are.is k other m))
+      (rw (get_or_push rows row other n are.long) is) j l;
+})
+
+pub all_rows : (d : Design) (h : Form) (i n : ℕ) (rows : List Row) → i ≤ n → n ≤ i → AreRows d h i rows → AreRows d h n rows
+all_rows d h i n rows l m are = subst (λ (k : ℕ). AreRows d h k rows) (same i n l m) are
+  where
+    same : (i n : ℕ) → i ≤ n → n ≤ i → i ≡ n
+    same i n l m = omega (arith, l, m)
+
+pub row_at : (d : Design) (h : Form) (rows : List Row) → AreRows d h (entries d) rows → (j : ℕ) (row : Row) → j < entries d → row ≡ get_or rows j row → IsRow d h j row
+row_at d h rows are j row l e = subst (λ (r : Row). IsRow d h j r) (sym e) (are.is j row l)

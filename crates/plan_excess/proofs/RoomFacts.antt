@@ -12,6 +12,7 @@ use Rattle.qp_model.specs.form.Quantities.{greatest}
 use Rattle.qp_model.proofs.SizeFacts.{greatest_more, greatest_term}
 use Rattle.plan_excess.specs.Fault.{IsFault}
 use Rattle.plan_excess.specs.declared.fault.ExcessFault.{ExcessFault}
+use Rattle.plan_excess.specs.declared.fault.ExcessFault.TheVariants.{Memory}
 
 -- none where the size is above the limit
 pub none_of : {T : Type 0} (o : Option T) (n : ℕ) → o ≡ None → (n ≤ 2 ^ 126 → ⊥) → IsSome o ↔ (n ≤ 2 ^ 126)
@@ -58,6 +59,10 @@ pub fault_passed : {T : Type 0} (r : Result T ExcessFault) (x : ExcessFault) (m 
 fault_passed (Ok v) x m n h l f = tt
 fault_passed (Err y) x m n h l f = fault_within m n y l (subst (IsFault m) (sym h) f)
 
+pub memory_passed : {T : Type 0} (r : Result T ExcessFault) (n : ℕ) → IsErrAnd r (λ y. y ≡ Memory) → IfErr r (IsFault n)
+memory_passed (Ok v) n h = tt
+memory_passed (Err y) n h = inl h
+
 pub fault_same : (n : ℕ) (e f : ExcessFault) → e ≡ f → IsFault n e → IsFault n f
 fault_same n e f h k = subst (IsFault n) h k
 
@@ -82,3 +87,10 @@ above_one i n f l h = last (f i) (greatest n f) (greatest_term i n f l) (past (f
 
     last : (m n : ℕ) → m ≤ n → 2 ^ 126 < m → 2 ^ 126 < n
     last m n h k = omega (arith, h, k)
+
+-- a size that is above the limit, by an equal one
+pub beyond : (m n : ℕ) → m ≡ n → (m ≤ 2 ^ 126 → ⊥) → 2 ^ 126 < n
+beyond m n e h = omega (arith, e, past m h)
+  where
+    past : (m : ℕ) → (m ≤ 2 ^ 126 → ⊥) → 2 ^ 126 < m
+    past m h = omega (arith, h)

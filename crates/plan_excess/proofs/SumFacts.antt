@@ -82,3 +82,9 @@ module _ (n : ℕ) (slope : ℕ → Enclosure) (steep : ℕ → ℤ) (s : Sums) 
 pub sums_fit : (n : ℕ) (size : ℕ → ℕ) (slope : ℕ → Enclosure) (steep : ℕ → ℤ) (s : Sums) → ((j : ℕ) → j < n → pos 0 ≤ℤ (slope j).rad) → AreSums n slope steep s →
     greatest n size ≤ 2 ^ 126 → sums_size n size slope steep ≤ 2 ^ 126
 sums_fit n size slope steep s h are near = subst (λ (m : ℕ). m ≤ 2 ^ 126) (sym (size_by n size slope steep h)) (omega (arith, near, are.reach, are.squares, s.limited, s.few))
+
+pub all_sums : (i n : ℕ) (slope : ℕ → Enclosure) (steep : ℕ → ℤ) (s : Sums) → i ≤ n → n ≤ i → AreSums i slope steep s → AreSums n slope steep s
+all_sums i n slope steep s h l are = subst (λ (m : ℕ). AreSums m slope steep s) (same i n h l) are
+  where
+    same : (i n : ℕ) → i ≤ n → n ≤ i → i ≡ n
+    same i n h l = omega (arith, h, l)
