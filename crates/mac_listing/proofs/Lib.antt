@@ -7,4 +7,9 @@ pub mod Lengths
 pub mod Ranges
 -- ---- the text
 pub mod Lines
+pub mod Blank
 pub mod Texts
+-- ---- which line can follow
+pub mod Follows
+-- ---- what is read
+pub mod Read
