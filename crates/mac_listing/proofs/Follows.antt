@@ -4,7 +4,7 @@ use Rattle.std.specs.Prelude.{◌↔◌, ◌⊎◌, All, FitsSigned, codes}
 use Rattle.std.specs.Int.{w128}
 use Rattle.std.specs.List.{AllByRecursion}
 use Rattle.std.proofs.lemmas.Int.{ints}
-use Rattle.std.proofs.lemmas.List.{append-nil, get_or_at, get_or_append_left, take_at, drop_at, length-append, length-map, length-replicate, length-take-le, take-append-drop, get_or-map}
+use Rattle.std.proofs.lemmas.List.{append-nil, get_or_at, get_or_append_left, get_or-append-add, take_at, drop_at, length-append, length-map, length-replicate, length-take-le, take-append-drop, get_or-map}
 use Rattle.std.proofs.lemmas.List.Elements.{All-from_recursion, recursion_from_All, All-replicate}
 use Rattle.integer_algebra.specs.Sums.{at}
 use Rattle.qp_model.specs.problem.Range.{LiesIn, IsNumerator}
@@ -89,8 +89,22 @@ input_on ls l b len h =
 -- other bounds of the states
 boxed : (c : Instructions) (low high : List ℤ) → IsListing c → length low ≡ c.states → length high ≡ c.states → All IsNumerator low → All IsNumerator high → ((i : ℕ) → i < c.states → at low i ≤ℤ at high i) → IsListing (record c { low = low; high = high })
 boxed c low high is a b p q box = record {
-  width = is.width; states = is.states; shift = is.shift; low_long = a; high_long = b; low = p; high = q; box = box; words = is.words; outputs = is.outputs; inside = is.inside;
-  denominator_low = is.denominator_low; denominator_high = is.denominator_high; repetitions = is.repetitions; instructions = is.instructions; ops = is.ops;
+  width = is.width;
+  states = is.states;
+  shift = is.shift;
+  low_long = a;
+  high_long = b;
+  low = p;
+  high = q;
+  box = box;
+  words = is.words;
+  outputs = is.outputs;
+  inside = is.inside;
+  denominator_low = is.denominator_low;
+  denominator_high = is.denominator_high;
+  repetitions = is.repetitions;
+  instructions = is.instructions;
+  ops = is.ops;
 }
 
 low_on : (ls : List Keyed) (l : Keyed) → IsBeginning IsWhole ls → length ls ≡ 3 → IsLow (small_in ls 2 0) l → IsBeginning IsWhole (ls ++ l ∷ [])
@@ -117,8 +131,22 @@ high_on ls l b len h =
 -- other words, one of them put out, and one instruction
 worded : (c : Instructions) (words : ℕ) → IsListing c → LiesIn c.states 1000 words → IsListing (record c { words = words; first = 0; outputs = 1; body = Clear ∷ [] })
 worded c words is h = record {
-  width = is.width; states = is.states; shift = is.shift; low_long = is.low_long; high_long = is.high_long; low = is.low; high = is.high; box = is.box; words = h; outputs = omega arith;
-  inside = omega (arith, h.0, is.states.0); denominator_low = is.denominator_low; denominator_high = is.denominator_high; repetitions = is.repetitions; instructions = (omega arith, omega arith); ops = one_clear words;
+  width = is.width;
+  states = is.states;
+  shift = is.shift;
+  low_long = is.low_long;
+  high_long = is.high_long;
+  low = is.low;
+  high = is.high;
+  box = is.box;
+  words = h;
+  outputs = omega arith;
+  inside = omega (arith, h.0, is.states.0);
+  denominator_low = is.denominator_low;
+  denominator_high = is.denominator_high;
+  repetitions = is.repetitions;
+  instructions = (omega arith, omega arith);
+  ops = one_clear words;
 }
 
 words_on : (ls : List Keyed) (l : Keyed) → IsBeginning IsWhole ls → length ls ≡ 5 → IsWords (small_in ls 2 0) l → IsBeginning IsWhole (ls ++ l ∷ [])
@@ -132,8 +160,22 @@ words_on ls l b len h =
 -- other words put out
 putting : (c : Instructions) (first outputs : ℕ) (over : ℤ) → IsListing c → AreOutputs c.words first outputs over → IsListing (record c { first = first; outputs = outputs; denominator = over })
 putting c first outputs over is h = record {
-  width = is.width; states = is.states; shift = is.shift; low_long = is.low_long; high_long = is.high_long; low = is.low; high = is.high; box = is.box; words = is.words; outputs = h.0;
-  inside = h.1; denominator_low = h.2; denominator_high = h.3; repetitions = is.repetitions; instructions = is.instructions; ops = is.ops;
+  width = is.width;
+  states = is.states;
+  shift = is.shift;
+  low_long = is.low_long;
+  high_long = is.high_long;
+  low = is.low;
+  high = is.high;
+  box = is.box;
+  words = is.words;
+  outputs = h.0;
+  inside = h.1;
+  denominator_low = h.2;
+  denominator_high = h.3;
+  repetitions = is.repetitions;
+  instructions = is.instructions;
+  ops = is.ops;
 }
 
 output_on : (ls : List Keyed) (l : Keyed) → IsBeginning IsWhole ls → length ls ≡ 6 → IsOutput (small_in ls 5 0) l → IsBeginning IsWhole (ls ++ l ∷ [])
@@ -149,8 +191,22 @@ output_on ls l b len h =
 -- another body, and how often it is run
 repeating : (c : Instructions) (repetitions : ℕ) (body : List Op) → IsListing c → LiesIn 1 4194304 repetitions → LiesIn 1 100000 (length body) → All (IsOp c.words) body → IsListing (record c { repetitions = repetitions; body = body })
 repeating c repetitions body is h k ops = record {
-  width = is.width; states = is.states; shift = is.shift; low_long = is.low_long; high_long = is.high_long; low = is.low; high = is.high; box = is.box; words = is.words; outputs = is.outputs;
-  inside = is.inside; denominator_low = is.denominator_low; denominator_high = is.denominator_high; repetitions = h; instructions = k; ops = ops;
+  width = is.width;
+  states = is.states;
+  shift = is.shift;
+  low_long = is.low_long;
+  high_long = is.high_long;
+  low = is.low;
+  high = is.high;
+  box = is.box;
+  words = is.words;
+  outputs = is.outputs;
+  inside = is.inside;
+  denominator_low = is.denominator_low;
+  denominator_high = is.denominator_high;
+  repetitions = h;
+  instructions = k;
+  ops = ops;
 }
 
 repeat_on : (ls : List Keyed) (l : Keyed) → IsBeginning IsWhole ls → length ls ≡ 7 → IsRepeat l → IsBeginning IsWhole (ls ++ l ∷ [])
@@ -242,7 +298,7 @@ head_follows ls l n lt len b = (λ h. head_on ls l n lt len b h, λ more. head_i
 -- ---- the body
 
 -- another instruction in the place of one
-put : ℕ → Op → List Op → List Op
+abbrev put : ℕ → Op → List Op → List Op
 put k op [] = []
 put zero op (x ∷ xs) = op ∷ xs
 put (suc k) op (x ∷ xs) = x ∷ put k op xs
@@ -339,10 +395,10 @@ body_on ls l n le len b fits h =
 
 -- a line of the body
 body_line : (c : Instructions) (k : ℕ) → k < length c.body → get_or (keyed_lines c) (9 + k) no_line ≡ op_keyed (get_or c.body k Clear)
-body_line c k lt = get_or_append_left (map op_keyed c.body) ending no_line k (omega (arith, lt, length-map c.body op_keyed)) ∙ get_or-map op_keyed c.body k Clear no_line lt
+body_line c k lt = get_or-append-add (head_keyed c) (map op_keyed c.body ++ ending) k no_line ∙ get_or_append_left (map op_keyed c.body) ending no_line k (omega (arith, lt, length-map c.body op_keyed)) ∙ get_or-map op_keyed c.body k Clear no_line lt
 
 last_line : (c : Instructions) (k : ℕ) → length c.body ≡ k → get_or (keyed_lines c) (9 + k) no_line ≡ keyed_line (codes "end") []
-last_line c k e = get_or_at (map op_keyed c.body) (keyed_line (codes "end") []) [] no_line k (length-map c.body op_keyed ∙ e)
+last_line c k e = get_or-append-add (head_keyed c) (map op_keyed c.body ++ ending) k no_line ∙ get_or_at (map op_keyed c.body) (keyed_line (codes "end") []) [] no_line k (length-map c.body op_keyed ∙ e)
 
 -- whether an index is one of so many, or the next
 sided : (k n : ℕ) → k ≤ n → (k < n) ⊎ (k ≡ n)
@@ -369,9 +425,9 @@ body_in ls l k len more =
     let here = last_is ls l more (9 + k) len in
     elim (sided k (length c.body) most) [
       | inl lt ↦
-        let op = get_or c.body k Clear in
-        let own : IsOpLine c.words l = subst (IsOpLine c.words) (sym (body_line c k lt) ∙ here) (op_of_body c op is (is.ops k Clear lt)) in
-        inl (omega (arith, lt, count), subst (λ (w : ℕ). IsOpLine w l) words own)
+          let op = get_or c.body k Clear in
+          let own : IsOpLine c.words l = subst (IsOpLine c.words) (sym (body_line c k lt) ∙ here) (op_of_body c op is (is.ops k Clear lt)) in
+          inl (omega (arith, lt, count), subst (λ (w : ℕ). IsOpLine w l) words own)
       | inr e ↦ inr (ap (λ (m : ℕ). 9 + m) (e ∙ count), sym here ∙ last_line c k (sym e))
     ]
 

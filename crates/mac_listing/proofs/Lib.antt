@@ -9,6 +9,7 @@ pub mod Ranges
 pub mod Lines
 pub mod Blank
 pub mod Texts
+pub mod Sizes
 -- ---- which line can follow
 pub mod Follows
 -- ---- what is read

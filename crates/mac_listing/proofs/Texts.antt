@@ -76,7 +76,7 @@ count_fits k n a b = record { sfits = omega (arith, mul-le k n 4194304 100000 a 
 denominator_fits : (z : ℤ) → pos 1 ≤ℤ z → z ≤ℤ pos (2 ^ 126) → FitsSigned w128 z
 denominator_fits z low high = quarter_fits z (omega (arith, ints, low)) high
 
-head_good : (l : Instructions) → IsListing l → All IsKeyedLine (head_keyed l)
+pub head_good : (l : Instructions) → IsListing l → All IsKeyedLine (head_keyed l)
 head_good l is =
     let nine = good (codes "count") (pos (l.repetitions * length l.body) ∷ []) refl (count_fits l.repetitions (length l.body) is.repetitions.1 is.instructions.1, tt) in
     let eight = good (codes "repeat") (pos l.repetitions ∷ pos (length l.body) ∷ []) refl (below l.repetitions 4194304 is.repetitions.1 (omega arith), (below (length l.body) 100000 is.instructions.1 (omega arith), tt)) in

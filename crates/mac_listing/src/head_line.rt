@@ -94,11 +94,8 @@ fn is_output(line: &Line, words: u32) -> bool
     let first = small_at(line, 0);
     let outputs = small_at(line, 1);
     let over = number_at(&line.numbers, 2);
-    is_line(
-        line,
-        "output",
-        &[first as i128, outputs as i128, over],
-    ) && are_outputs(words, first, outputs, over)
+    is_line(line, "output", &[first as i128, outputs as i128, over])
+        && are_outputs(words, first, outputs, over)
 }
 
 // Whether so many words from this one are some of these, and a number can be what they are over.
@@ -116,11 +113,8 @@ fn is_repeat(line: &Line) -> bool
 {
     let repetitions = small_at(line, 0);
     let count = small_at(line, 1);
-    is_line(
-        line,
-        "repeat",
-        &[repetitions as i128, count as i128],
-    ) && lies_in(1, 4194304, repetitions)
+    is_line(line, "repeat", &[repetitions as i128, count as i128])
+        && lies_in(1, 4194304, repetitions)
         && lies_in(1, 100000, count)
 }
 

@@ -11,4 +11,4 @@ same (x ∷ xs) [] = refl
 same (x ∷ xs) (y ∷ ys) = ap (λ (b : Bool). eqb x y && b) (same xs ys)
 
 pub returns : goal.returns
-returns c = c.eq.ensures ∙ same _ _ ∙ ap (same_bytes c.args.line.now.key.now) c.as_bytes.ensures.value
+returns c = c.eq.ensures ∙ same c.args.line.now.key.now c.as_bytes.result.now ∙ ap (same_bytes c.args.line.now.key.now) c.as_bytes.ensures.value
