@@ -2,3 +2,5 @@
 pub mod Designs
 pub mod Readers
 pub mod Controllers
+-- a command that a file ends
+pub mod Stopping

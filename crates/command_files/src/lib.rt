@@ -8,6 +8,7 @@ mod policy;
 mod states;
 mod text_status;
 
+pub use bytes::{FILE_LIMIT, read_bytes};
 pub use controller::read_controller_file;
 pub use design::read_design_file;
 pub use policy::read_policy_file;

@@ -21,6 +21,12 @@ pub record IsGenerate (words : List (List ℕ)) : Type 0 where
   pub report_policy : word_of words 4 ≢ word_of words 2
   pub report_controller : word_of words 4 ≢ word_of words 3
 
+-- the words are `list` and the names of a controller file and of a listing file; the second isn't the first
+pub record IsList (words : List (List ℕ)) : Type 0 where
+  pub count : length words ≡ 3
+  pub command : word_of words 0 ≡ codes "list"
+  pub listing_controller : word_of words 2 ≢ word_of words 1
+
 -- a name that asks for another form of the report
 abbrev pub IsJson : List ℕ → Type 0
 IsJson name = (stem : List ℕ) × (name ≡ stem ++ codes ".json")

@@ -1,6 +1,6 @@
 // Which command the arguments are.
 ghost use Rattle.std.specs.Prelude.{ℕ, IsTrue, MatchOption, ◌↔◌, ◌≢◌};
-ghost use Rattle.command_line.specs.Words.{word_of, IsSolve, IsGenerate, IsLoop, IsDemo, IsJson, IsCount};
+ghost use Rattle.command_line.specs.Words.{word_of, IsSolve, IsGenerate, IsLoop, IsDemo, IsList, IsJson, IsCount};
 ghost use Rattle.command_line.specs.Commands.{IsUsage, AreOf, OneCommandLaw};
 
 use io_edge::Words;
@@ -13,6 +13,7 @@ pub enum Command {
     Solve,
     Loop { turns: u32 },
     Demo { number: u32 },
+    List,
 }
 
 /// The most turns of a `loop`.
@@ -36,6 +37,9 @@ pub fn command_of(words: &Words) -> Option<Command>
     }
     if let Some(number) = number_of(words) {
         return Some(Command::Demo { number });
+    }
+    if is_list(words) {
+        return Some(Command::List);
     }
     None
 }
@@ -62,6 +66,13 @@ fn is_generate(words: &Words) -> bool
     let (design, policy) = (words.at(1), words.at(2));
     let (controller, report) = (words.at(3), words.at(4));
     is_other(controller, design, policy) && is_other(report, design, policy) && report != controller
+}
+
+// Whether they are those that `list` needs.
+fn is_list(words: &Words) -> bool
+    ensures { IsTrue result ↔ IsList words.now }
+{
+    words.count() == 3 && words.at(0) == "list" && words.at(2) != words.at(1)
 }
 
 // The turns of a `loop`; none where the arguments are those of no `loop`.

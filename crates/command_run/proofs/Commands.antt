@@ -4,7 +4,7 @@ use Rattle.std.specs.Prelude.{IfSome, IsSomeAnd}
 use Rattle.io_edge.specs.Faults.{Files, Rose, NoneFalls}
 use Rattle.command_line.specs.Words.{word_of}
 use Rattle.command_line.specs.Commands.{AreOf}
-use Rattle.command_line.specs.Answers.{ForContents, IsAnswer, IsCaused}
+use Rattle.command_line.specs.Answers.{Contents, ForContents, IsAnswer, IsCaused}
 use Rattle.command_line.specs.Deeds.{Deeds, IsCalledFor, UsesNoFile, IsUnwritten, IsUnprinted, WriteFailed, NoneRises}
 use Rattle.command_line.proofs.Composing.{some_contents}
 use Rattle.command_line.proofs.OneCommand.{for_each}
@@ -95,6 +95,11 @@ print_failed deeds words held s wb wn pb pn prints h file is = let found = h fil
 pub write_failed : (deeds : Deeds) (words : List (List ℕ)) (held : Option Files) (s : Status) (wb wn : List ℕ → ℕ) (pb pn : ℕ) →
     ((file : ℕ) → s ≡ WriteFault file → deeds.writes file × ForContents words held deeds.starts × Rose (wb (word_of words file)) (wn (word_of words file))) → Failed deeds words held s wb wn pb pn
 write_failed deeds words held s wb wn pb pn h file is = let found = h file is in (found.1, inr (found.0, found.2))
+
+-- a fault of the one file that is read, whatever the files hold
+pub one_read : (deeds : Deeds) (words : List (List ℕ)) (held : Option Files) (s : Status) (before now : List ℕ → ℕ) → ((contents : Contents) (file : ℕ) → file ≡ 1 → deeds.reaches contents file) →
+    ((file : ℕ) → s ≡ ReadFault file → (file ≡ 1) × Rose (before (word_of words file)) (now (word_of words file))) → ReadFailed deeds words held s before now
+one_read deeds words held s before now reached h file is = let found = h file is in (some_contents words held (λ contents. deeds.reaches contents file) (λ contents. reached contents file found.0), found.1)
 
 -- ---- `demo`, which rests on no file
 module _ (words : List (List ℕ)) (held : Option Files) (number : ℕ) (s : Status) where

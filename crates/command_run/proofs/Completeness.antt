@@ -7,7 +7,7 @@ use Rattle.command_line.specs.Deeds.{Deeds, IsCalledFor, WriteFailed, NoneRises}
 use Rattle.command_line.specs.declared.status.Status.{Status}
 use Rattle.command_line.specs.declared.status.Status.TheVariants.{Done, Memory, Usage, ReadFault, WriteFault, Text, NoMargin, Curvature, TooManySteps, TooFine, TooWide, Controller, OutsideBox, Long, Mismatch}
 use Rattle.command_line.specs.declared.words.Command.{Command}
-use Rattle.command_line.specs.declared.words.Command.TheVariants.{Generate, Solve, Loop, Demo}
+use Rattle.command_line.specs.declared.words.Command.TheVariants.{Generate, Solve, Loop, Demo, List as Listing}
 use Rattle.command_run.specs.Table.{deeds_of}
 
 -- ---- what an answer is
@@ -45,6 +45,7 @@ reached_read (Loop turns) contents file (inl first) = inl first
 reached_read (Loop turns) contents file (inr (inl second)) = inr (inl second.0)
 reached_read (Loop turns) contents file (inr (inr third)) = inr (inr third.0)
 reached_read (Demo number) contents file never = never
+reached_read Listing contents file first = first
 
 -- ---- it doesn't give up
 module _ (deeds : Deeds) (reads : (contents : Contents) (file : ℕ) → deeds.reaches contents file → deeds.reads file) (words : List (List ℕ)) (held : Option Files) (result : Status)

@@ -24,10 +24,11 @@ use Rattle.command_solve.specs.Inside.{RunsCall}
 use Rattle.command_solve.specs.Solve.{SolveCalls}
 use Rattle.command_loop.specs.Loop.{LoopCalls, LoopsCall, IsMismatch}
 use Rattle.command_demo.specs.Demo.{DemoCalls}
+use Rattle.command_list.specs.Listed.{ListCalls}
 use Rattle.command_line.specs.declared.status.Status.{Status}
 use Rattle.command_line.specs.declared.status.Status.TheVariants.{Done, Usage, Text, Controller, Long}
 use Rattle.command_line.specs.declared.words.Command.{Command}
-use Rattle.command_line.specs.declared.words.Command.TheVariants.{Generate, Solve, Loop, Demo}
+use Rattle.command_line.specs.declared.words.Command.TheVariants.{Generate, Solve, Loop, Demo, List as Listing}
 use Rattle.command_run.specs.Table.{deeds_of}
 
 -- an answer that a command with files gives: it isn't `Usage`, and no fault in it is that memory ran out
@@ -126,12 +127,16 @@ loop_telling design controller states turns =
 demo_telling : (number : ℕ) (s : Status) → DemoCalls number s → IsTelling s
 demo_telling number s calls = making_telling calls.0 calls.1 s calls.3
 
+list_telling : (controller : Option (List ℕ)) (s : Status) → ListCalls controller s → IsTelling s
+list_telling controller = then_telling file_limit 1 (ControllerWrong 1) ControllerRight controller (λ c t. t ≡ Done) (bad_telling 1) (λ c. done_telling)
+
 -- ---- the table
 telling : (c : Command) (contents : Contents) (s : Status) → (deeds_of c).calls contents s → IsTelling s
 telling Generate contents = generate_telling (contents 1) (contents 2)
 telling Solve contents = solve_telling (contents 1) (contents 2)
 telling (Loop turns) contents = loop_telling (contents 1) (contents 2) (contents 3) turns
 telling (Demo number) contents = demo_telling number
+telling Listing contents = list_telling (contents 1)
 
 module _ (c : Command) (words : List (List ℕ)) (held : Option Files) (result : Status) (called : IsCaused result → ForContents words held (λ contents. IsAnswer ((deeds_of c).calls contents) result)) where
   tells : IsCaused result → IsTelling result

@@ -13,6 +13,7 @@ ghost use Rattle.command_run.specs.Table.{deeds_of};
 use command_demo::demo;
 use command_generate::generate;
 use command_line::{Command, Status, command_of};
+use command_list::list;
 use command_loop::run_loops;
 use command_solve::solve;
 use io_edge::{Sink, Store, Words};
@@ -23,7 +24,8 @@ use std::alloc::Global;
 /// `generate`, a design file, a policy file, a controller file and a report file: makes a controller of the design, and writes its text and the
 /// report of its bounds, as JSON where the report's name ends in `.json`. `solve`, a controller file and a states file: prints a line for each state,
 /// the averaged plan of the controller from it. `loop`, a design file, a controller file, a states file and a number of turns: prints a line for each
-/// turn of the closed loop from each state. `demo` and a number: prints the report and four plans of a made design.
+/// turn of the closed loop from each state. `demo` and a number: prints the report and four plans of a made design. `list`, a controller file and a
+/// listing file: writes the listing of the controller's step.
 pub fn run<S: Store, O: Sink>(alloc: Global, words: &Words, store: &mut S, out: &mut O) -> Status
     // Where `generate` answers `Done`, the controller's file holds the text of one controller and the report's file the report of its bounds, both
     // built of the design and the policy in the files. Run from any grid state of the box, the controller keeps every product and partial sum
@@ -76,6 +78,7 @@ pub fn run<S: Store, O: Sink>(alloc: Global, words: &Words, store: &mut S, out: 
         Some(Command::Solve) => solve(alloc, words, store, out),
         Some(Command::Loop { turns }) => run_loops(alloc, words, turns, store, out),
         Some(Command::Demo { number }) => demo(alloc, number, out),
+        Some(Command::List) => list(alloc, words, store),
         None => Status::Usage,
     }
 }

@@ -1,4 +1,3 @@
 -- what a controller and its states are answered, and what is printed of them
 pub mod Outside
-pub mod Stopping
 pub mod Solving

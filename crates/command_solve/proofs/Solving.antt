@@ -18,7 +18,7 @@ use Rattle.command_solve.specs.Solve.{SolveCalls, SolveReaches, SolveStarts, Sol
 use Rattle.plan_lines.specs.Printing.{AreFirstLines}
 use Rattle.command_solve.specs.Printing.{RunsEnd, RunsPrint}
 use Rattle.command_solve.proofs.Outside.{one_call}
-use Rattle.command_solve.proofs.Stopping.{why_refused, not_done, no_write, its_fault, controller_refused, states_refused}
+use Rattle.command_files.proofs.Stopping.{why_refused, not_done, no_write, its_fault, controller_refused, states_refused}
 
 -- what comes after the controller
 abbrev pub After : Option (List ℕ) → Numbers → Status → Type 0

@@ -94,7 +94,7 @@ entry_there c s = omega (arith, s.shaped.offsets, mul-le 1 1 c.inputs c.stages s
 full_le : (n m p : ℕ) → n ≤ 6 → m ≤ 372 → p ≤ 90 → p * (n + 2 * m + 9) + m * (n + 7) ≤ 73146
 full_le n m p a b d = omega (arith, mul-le p (n + 2 * m + 9) 90 759 d (omega (arith, a, b)), mul-le m (n + 7) 372 13 b (omega (arith, a)))
 
-body_short : (c : Numbers) → IsController c → length (body_of c) ≤ 73146
+pub body_short : (c : Numbers) → IsController c → length (body_of c) ≤ 73146
 body_short c sound =
     let s = sound.form.sized in
     omega (arith, length_law c sound, full_le c.states c.rows (plan_length c) (states_le c s) (limits_le c s) (omega (arith, entries_le c s, s.shaped.offsets)))

@@ -2,14 +2,15 @@
 use Rattle.std.proofs.Common.{◌≡◌, ℕ, zero, suc, ◌+◌, ◌-◌, ◌*◌, ◌^◌, ◌<◌, ◌≤◌, Bool, true, false, ℤ, pos, negsuc, ◌≤ℤ◌, List, [], ◌∷◌, ◌++◌, length, get_or, take, drop, map, FitsSigned, refl, sym, ap, subst, ◌∙◌, append_assoc, arith}
 use Rattle.std.specs.Prelude.{All, codes, if◌then◌else◌, ◌==◌, ◌&&◌}
 use Rattle.std.specs.Int.{w128}
+use Rattle.std.proofs.lemmas.Bool.Decides.{nat_tests}
 use Rattle.std.proofs.lemmas.Int.{ints}
 use Rattle.std.proofs.lemmas.Nat.{mul-le}
 use Rattle.std.proofs.lemmas.List.{map-append, take_at, drop_at, length-append, length-map}
-use Rattle.std.proofs.lemmas.List.Elements.{All-nil, All-cons, All-append, All-from_recursion}
+use Rattle.std.proofs.lemmas.List.Elements.{All-nil, All-cons, All-append, All-from_recursion, All-replicate}
 use Rattle.integer_algebra.specs.Sums.{at}
 use Rattle.qp_model.specs.problem.Range.{IsNumerator}
 use Rattle.number_text.specs.Lines.{text_of}
-use Rattle.text_lines.specs.Lines.{Keyed, keyed_line, IsKeyedLine, spelled, line_in}
+use Rattle.text_lines.specs.Lines.{Keyed, keyed_line, IsKeyedLine, spelled, line_in, small}
 use Rattle.text_lines.specs.Grammar.{IsGrammar, IsTextOf}
 use Rattle.text_lines.proofs.Beginnings.{begins}
 use Rattle.text_lines.proofs.Good.{natural_fits, half_words_fit, quarter_fits, good, good_of}
@@ -19,7 +20,9 @@ use Rattle.mac_listing.specs.declared.instruction.Op.TheVariants.{Clear, Load, S
 use Rattle.mac_listing.specs.Listing.{Instructions, IsOp, IsListing}
 use Rattle.mac_listing.specs.Text.{op_keyed, op_line, head_keyed, keyed_lines, listing_lines, listing_text, OpFitsWord, IsListingText}
 use Rattle.mac_listing.specs.Whole.{IsWhole}
+use Rattle.mac_listing.specs.Reading.{small_in, op_in, body_in, listing_in}
 use Rattle.mac_listing.specs.Laws.{HasOneListing, HasNoPrefix, AreLines}
+use Rattle.mac_listing.proofs.Blank.{blank, blank_is}
 
 -- ---- the text
 
@@ -73,7 +76,7 @@ count_fits k n a b = record { sfits = omega (arith, mul-le k n 4194304 100000 a 
 denominator_fits : (z : ℤ) → pos 1 ≤ℤ z → z ≤ℤ pos (2 ^ 126) → FitsSigned w128 z
 denominator_fits z low high = quarter_fits z (omega (arith, ints, low)) high
 
-head_good : (l : Instructions) → IsListing l → All IsKeyedLine (head_keyed l)
+pub head_good : (l : Instructions) → IsListing l → All IsKeyedLine (head_keyed l)
 head_good l is =
     let nine = good (codes "count") (pos (l.repetitions * length l.body) ∷ []) refl (count_fits l.repetitions (length l.body) is.repetitions.1 is.instructions.1, tt) in
     let eight = good (codes "repeat") (pos l.repetitions ∷ pos (length l.body) ∷ []) refl (below l.repetitions 4194304 is.repetitions.1 (omega arith), (below (length l.body) 100000 is.instructions.1 (omega arith), tt)) in
@@ -95,89 +98,72 @@ good_lines l is fits =
 
 -- ---- an instruction from its line
 
-abbrev natural : ℤ → ℕ
-natural (pos n) = n
-natural (negsuc n) = 0
+pub small_is : (n : ℕ) → n < 2 ^ 32 → small (pos n) ≡ n
+small_is n lt = grind (arith, nat_tests)
 
-abbrev same_bytes : List ℕ → List ℕ → Bool
-same_bytes [] [] = true
-same_bytes [] (y ∷ ys) = false
-same_bytes (x ∷ xs) [] = false
-same_bytes (x ∷ xs) (y ∷ ys) = (x == y) && same_bytes xs ys
+address_is : (a words : ℕ) → words ≤ 1000 → a < words → small (pos a) ≡ a
+address_is a words le lt = small_is a (omega (arith, le, lt))
 
-abbrev address : Keyed → ℕ → ℕ
-address l k = natural (at l.numbers k)
+shift_is : (k : ℕ) → k ≤ 126 → small (pos k) ≡ k
+shift_is k le = small_is k (omega (arith, le))
 
-abbrev op_in : Keyed → Op
-op_in l =
-    if same_bytes l.key (codes "clear") then Clear else if same_bytes l.key (codes "load") then Load (address l 0) else if same_bytes l.key (codes "store") then Store (address l 0)
-    else if same_bytes l.key (codes "mac") then Mac (address l 0) (at l.numbers 1) (address l 2) else if same_bytes l.key (codes "con") then Con (at l.numbers 0) (address l 1)
-    else if same_bytes l.key (codes "addm") then AddM (address l 0) else if same_bytes l.key (codes "shl") then Shl (address l 0) else if same_bytes l.key (codes "shr") then Shr (address l 0)
-    else if same_bytes l.key (codes "neg") then Neg else if same_bytes l.key (codes "low") then Low else Cap (at l.numbers 0)
+pub op_again : (words : ℕ) (op : Op) → words ≤ 1000 → IsOp words op → op_in (op_keyed op) ≡ op
+op_again words Clear le is = refl
+op_again words (Load a) le is = ap (λ (n : ℕ). Load n) (address_is a words le is)
+op_again words (Store a) le is = ap (λ (n : ℕ). Store n) (address_is a words le is)
+op_again words (Mac a c k) le is =
+    let address = address_is a words le is.0 in
+    let shift = shift_is k is.1 in
+    (λ i. Mac (address i) c (shift i))
+op_again words (Con c k) le is = ap (λ (n : ℕ). Con c n) (shift_is k is)
+op_again words (AddM a) le is = ap (λ (n : ℕ). AddM n) (address_is a words le is)
+op_again words (Shl k) le is = ap (λ (n : ℕ). Shl n) (shift_is k is)
+op_again words (Shr k) le is = ap (λ (n : ℕ). Shr n) (shift_is k is)
+op_again words Neg le is = refl
+op_again words Low le is = refl
+op_again words (Cap c) le is = refl
 
-op_again : (op : Op) → op_in (op_keyed op) ≡ op
-op_again Clear = refl
-op_again (Load a) = refl
-op_again (Store a) = refl
-op_again (Mac a c k) = refl
-op_again (Con c k) = refl
-op_again (AddM a) = refl
-op_again (Shl k) = refl
-op_again (Shr k) = refl
-op_again Neg = refl
-op_again Low = refl
-op_again (Cap c) = refl
-
-body_again : (body : List Op) → map op_in (map op_keyed body) ≡ body
-body_again [] = refl
-body_again (op ∷ body) =
-    let first = op_again op in
-    let rest = body_again body in
+body_again : (words : ℕ) (body : List Op) → words ≤ 1000 → All (IsOp words) body → map op_in (map op_keyed body) ≡ body
+body_again words [] le are = refl
+body_again words (op ∷ body) le are =
+    let first = op_again words op le (are 0 op (omega arith)) in
+    let rest = body_again words body le (λ k d lt. are (suc k) d (omega (arith, lt))) in
     (λ i. first i ∷ rest i)
 
 -- ---- one listing
 
-abbrev length_in : List Keyed → ℕ
-length_in ls = natural (at (line_in ls 7) 1)
+pub line_count : (l : Instructions) → length (keyed_lines l) ≡ length l.body + 10
+line_count l = omega (arith, length-append (head_keyed l ++ map op_keyed l.body) (keyed_line (codes "end") [] ∷ []), length-append (head_keyed l) (map op_keyed l.body), length-map l.body op_keyed)
 
-abbrev listing_in : List Keyed → Instructions
-listing_in ls = record {
-  width = natural (at (line_in ls 1) 0);
-  states = natural (at (line_in ls 2) 0);
-  shift = natural (at (line_in ls 2) 1);
-  low = line_in ls 3;
-  high = line_in ls 4;
-  words = natural (at (line_in ls 5) 0);
-  first = natural (at (line_in ls 6) 0);
-  outputs = natural (at (line_in ls 6) 1);
-  denominator = at (line_in ls 6) 2;
-  repetitions = natural (at (line_in ls 7) 0);
-  body = map op_in (take (length_in ls) (drop 9 ls));
-}
+pub listing_again : (l : Instructions) → IsListing l → listing_in (keyed_lines l) ≡ l
+listing_again l is =
+    let width = small_is l.width (omega (arith, is.width.1)) in
+    let states = small_is l.states (omega (arith, is.states.1)) in
+    let shift = small_is l.shift (omega (arith, is.shift)) in
+    let words = small_is l.words (omega (arith, is.words.1)) in
+    let first = small_is l.first (omega (arith, is.inside, is.words.1)) in
+    let outputs = small_is l.outputs (omega (arith, is.inside, is.words.1)) in
+    let repetitions = small_is l.repetitions (omega (arith, is.repetitions.1)) in
+    let count : length (keyed_lines l) - 10 ≡ length l.body = omega (arith, line_count l) in
+    let body : body_in (keyed_lines l) ≡ l.body =
+    ap (λ (n : ℕ). map op_in (take n (map op_keyed l.body ++ keyed_line (codes "end") [] ∷ []))) count
+    ∙ ap (map op_in) (take_at (map op_keyed l.body) (keyed_line (codes "end") [] ∷ []) (length l.body) (length-map l.body op_keyed)) ∙ body_again l.words l.body is.words.1 is.ops in
+    (λ i. record l { width = width i; states = states i; shift = shift i; words = words i; first = first i; outputs = outputs i; repetitions = repetitions i; body = body i })
 
-listing_again : (l : Instructions) → listing_in (keyed_lines l) ≡ l
-listing_again l =
-    let body : map op_in (take (length l.body) (map op_keyed l.body ++ keyed_line (codes "end") [] ∷ [])) ≡ l.body =
-    ap (map op_in) (take_at (map op_keyed l.body) (keyed_line (codes "end") [] ∷ []) (length l.body) (length-map l.body op_keyed)) ∙ body_again l.body in
-    (λ i. record l { body = body i })
-
-one_lines_listing : (l m : Instructions) → keyed_lines l ≡ keyed_lines m → l ≡ m
-one_lines_listing l m e = sym (listing_again l) ∙ ap listing_in e ∙ listing_again m
+one_lines_listing : (l m : Instructions) → IsListing l → IsListing m → keyed_lines l ≡ keyed_lines m → l ≡ m
+one_lines_listing l m p q e = sym (listing_again l p) ∙ ap listing_in e ∙ listing_again m q
 
 pub one_listing : HasOneListing
 one_listing bytes l m p q =
-    one_lines_listing l m (one_text (keyed_lines l) (keyed_lines m) (good_lines l p.listing p.word) (good_lines m q.listing q.word) (keyed_text l ∙ sym p.text ∙ q.text ∙ sym (keyed_text m)))
+    one_lines_listing l m p.listing q.listing (one_text (keyed_lines l) (keyed_lines m) (good_lines l p.listing p.word) (good_lines m q.listing q.word) (keyed_text l ∙ sym p.text ∙ q.text ∙ sym (keyed_text m)))
 
 -- ---- no prefix
 
-line_count : (l : Instructions) → length (keyed_lines l) ≡ length l.body + 10
-line_count l = omega (arith, length-append (head_keyed l ++ map op_keyed l.body) (keyed_line (codes "end") [] ∷ []), length-append (head_keyed l) (map op_keyed l.body), length-map l.body op_keyed)
-
-no_more : (l m : Instructions) (rest : List Keyed) → keyed_lines m ≡ keyed_lines l ++ rest → rest ≡ []
-no_more l m rest e = empty rest (omega (arith, same, line_count l, line_count m, ap length e, length-append (keyed_lines l) rest))
+no_more : (l m : Instructions) (rest : List Keyed) → IsListing l → IsListing m → keyed_lines m ≡ keyed_lines l ++ rest → rest ≡ []
+no_more l m rest p q e = empty rest (omega (arith, same, line_count l, line_count m, ap length e, length-append (keyed_lines l) rest))
   where
     same : length m.body ≡ length l.body
-    same = ap (λ (ls : List Keyed). length_in ls) e
+    same = sym (small_is (length m.body) (omega (arith, q.instructions.1))) ∙ ap (λ (ls : List Keyed). small_in ls 7 1) e ∙ small_is (length l.body) (omega (arith, p.instructions.1))
 
     empty : (ls : List Keyed) → length ls ≡ 0 → ls ≡ []
     empty [] h = refl
@@ -185,46 +171,16 @@ no_more l m rest e = empty rest (omega (arith, same, line_count l, line_count m,
 
 pub no_prefix : HasNoPrefix
 no_prefix bytes more l m p q =
-    no_prefix_of (keyed_lines l) (keyed_lines m) more (good_lines l p.listing p.word) (good_lines m q.listing q.word) (ap (λ (t : List ℕ). t ++ more) (keyed_text l ∙ sym p.text) ∙ q.text ∙ sym (keyed_text m)) (λ rest e. no_more l m rest e)
+    no_prefix_of (keyed_lines l) (keyed_lines m) more (good_lines l p.listing p.word) (good_lines m q.listing q.word) (ap (λ (t : List ℕ). t ++ more) (keyed_text l ∙ sym p.text) ∙ q.text ∙ sym (keyed_text m)) (λ rest e. no_more l m rest p.listing q.listing e)
 
 -- ---- the grammar
 
--- a listing of one instruction
-abbrev blank : Instructions
-blank = record { width = 2; states = 1; shift = 0; low = pos 0 ∷ []; high = pos 0 ∷ []; words = 1; first = 0; outputs = 1; denominator = pos 1; repetitions = 1; body = Clear ∷ [] }
-
-one_of : {X : Type 0} (P : X → Type 0) (x : X) → P x → All P (x ∷ [])
-one_of P x h = All-cons P x [] h (All-nil P)
-
-blank_is : IsListing blank
-blank_is = record {
-  width = (omega arith, omega arith);
-  states = (omega arith, omega arith);
-  shift = omega arith;
-  low_long = refl;
-  high_long = refl;
-  low = one_of (λ z. IsNumerator z) (pos 0) (omega arith);
-  high = one_of (λ z. IsNumerator z) (pos 0) (omega arith);
-  box = λ i lt. same_le (at (pos 0 ∷ []) i);
-  words = (omega arith, omega arith);
-  outputs = omega arith;
-  inside = omega arith;
-  denominator_low = omega (arith, ints);
-  denominator_high = omega (arith, ints);
-  repetitions = (omega arith, omega arith);
-  instructions = (omega arith, omega arith);
-  ops = one_of (IsOp 1) Clear tt;
-}
-  where
-    same_le : (z : ℤ) → z ≤ℤ z
-    same_le z = omega (arith, ints)
-
-blank_whole : IsWhole (keyed_lines blank)
-blank_whole = record { numbers = blank; listing = blank_is; word = one_of OpFitsWord Clear tt; lines = refl }
+blank_whole : IsWhole (keyed_lines (blank 2 1 0))
+blank_whole = record { numbers = blank 2 1 0; listing = blank_is 2 1 0 (omega arith, omega arith) (omega arith, omega arith) (omega arith); word = All-replicate OpFitsWord 1 Clear tt; lines = refl }
 
 pub grammar : IsGrammar IsWhole
 grammar = record {
-  some = begins IsWhole 0 (keyed_lines blank) blank_whole;
+  some = begins IsWhole 0 (keyed_lines (blank 2 1 0)) blank_whole;
   each = λ ls w. subst (All IsKeyedLine) w.lines (good_lines w.numbers w.listing w.word);
   few = λ ls w. omega (arith, line_count w.numbers, ap length w.lines, w.listing.instructions.1);
 }

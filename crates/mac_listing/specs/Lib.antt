@@ -3,5 +3,7 @@ pub mod Listing
 pub mod Count
 pub mod Text
 pub mod Whole
+pub mod Reading
+pub mod Following
 pub mod FirstLine
 pub mod Laws

@@ -40,6 +40,14 @@ impl Listing {
     }
 }
 
+/// The listing of these numbers.
+pub fn listing_from(parts: ListingParts) -> Listing
+    requires { IsListing (instructions parts) }
+    ensures { result ≡ instructions parts }
+{
+    Listing { parts }
+}
+
 // What the sums of a run are over: the steps times `2^f`.
 fn denominator_of(c: &ControllerParts) -> i128
     requires { IsController (numbers c.now) }

@@ -1,11 +1,11 @@
 // The machine and its runs.
-ghost use Rattle.std.specs.Prelude.{◌≡◌, ◌<◌, ◌↔◌, length, IsOk, IfOk, IfErr, OnOk};
+ghost use Rattle.std.specs.Prelude.{◌≡◌, ◌<◌, ◌↔◌, length, IsOk, IsNone, IfOk, IfErr, IfSome, OnOk};
 ghost use Rattle.integer_algebra.specs.Sums.{at};
 ghost use Rattle.mac_machine.specs.Machine.{NeverTraps};
-ghost use Rattle.mac_machine.specs.Box.{IsInBox};
+ghost use Rattle.mac_machine.specs.Box.{IsInBox, IsFirstOutsideBox};
 ghost use Rattle.mac_machine.specs.Traps.{Stops};
 
-use crate::player::{count_after, play};
+use crate::player::{count_after, first_outside, play};
 use crate::stop::Stop;
 use mac_listing::Listing;
 use std::alloc::{AllocError, Global};
@@ -58,6 +58,30 @@ impl<'a> Machine<'a> {
         let answer = play(parts, state, &mut self.words);
         self.count = count_after(parts, &answer, self.count);
         answer
+    }
+
+    /// The first coordinate of a state that lies outside the box, from 1.
+    pub fn first_outside(&self, state: &[i128]) -> Option<u32>
+        requires { length state.now ≡ self.now.listing.states }
+        ensures inside { IsNone result ↔ IsInBox self.now.listing state.now }
+        ensures first { IfSome result (λ k. IsFirstOutsideBox self.now.listing state.now k) }
+    {
+        first_outside(self.listing.parts(), state)
+    }
+
+    /// The listing that it runs.
+    pub fn listing(&self) -> &Listing
+        ensures { result.now ≡ self.now.listing }
+    {
+        self.listing
+    }
+
+    /// All its words.
+    pub fn words(&self) -> &[i128]
+        ensures value { result.now ≡ self.now.words }
+        ensures long { length result.now ≡ self.now.listing.words }
+    {
+        &self.words
     }
 
     /// The word at an address.

@@ -86,8 +86,8 @@ fn number_at(numbers: &[i128], i: usize) -> i128
     if i < numbers.len() { numbers[i] } else { 0 }
 }
 
-// The first coordinate that lies outside the box, from 1.
-fn first_outside(l: &ListingParts, state: &[i128]) -> Option<u32>
+/// The first coordinate that lies outside the box, from 1.
+pub fn first_outside(l: &ListingParts, state: &[i128]) -> Option<u32>
     requires sound { IsListing (instructions l.now) }
     requires long { length state.now ≡ l.now.inputs }
     ensures inside { IsNone result ↔ IsInBox (instructions l.now) state.now }

@@ -5,3 +5,5 @@
 mod controllers;
 #[cfg(test)]
 mod plays;
+#[cfg(test)]
+mod reads;

@@ -1,14 +1,15 @@
 use Rattle.std.proofs.Common.{◌≡◌, inl, refl, le_refl}
-use Rattle.command_line.specs.Words.{IsGenerate, IsSolve, IsLoop, IsDemo}
+use Rattle.command_line.specs.Words.{IsGenerate, IsSolve, IsLoop, IsDemo, IsList}
 use Rattle.command_line.specs.Commands.{IsUsage}
 use Rattle.command_line.proofs.OneCommand.{one_command}
-use Rattle.command_line.specs.declared.words.Command.TheVariants.{Generate, Solve, Loop, Demo}
+use Rattle.command_line.specs.declared.words.Command.TheVariants.{Generate, Solve, Loop, Demo, List}
 use Rattle.command_generate.specs.Deeds.{generate_deeds}
 use Rattle.command_solve.specs.Deeds.{solve_deeds}
 use Rattle.command_loop.specs.Deeds.{loop_deeds}
 use Rattle.command_demo.specs.Demo.{DemoPrints}
 use Rattle.command_demo.specs.Deeds.{demo_deeds}
-use Rattle.command_run.proofs.Commands.{each_called, each_shown, each_quiet, each_leaves, each_held, each_unused, each_read, each_failed, each_completes, shown_anyhow, shown_nothing, printing_quiet, writing_held, print_failed, write_failed, demo_called, demo_read, demo_failed, usage_not_done, same_counts}
+use Rattle.command_list.specs.Deeds.{list_deeds}
+use Rattle.command_run.proofs.Commands.{each_called, each_shown, each_quiet, each_leaves, each_held, each_unused, each_read, each_failed, each_completes, shown_anyhow, shown_nothing, printing_quiet, writing_held, print_failed, write_failed, one_read, demo_called, demo_read, demo_failed, usage_not_done, same_counts}
 use Rattle.command_run.proofs.Statuses.{no_usage, no_text_memory, no_controller_memory}
 use Rattle.command_run.proofs.command.run.Goals as goal
 
@@ -152,6 +153,40 @@ returns-in-Some-Demo g c =
       reads = same_counts reads;
       writes = same_counts writes;
       no_fewer = c.demo.ensures.no_fewer;
+    }
+
+-- ---- `list`
+pub returns-in-Some-List : goal.returns-in-Some-List
+returns-in-Some-List g c =
+    let words = c.args.words.now in
+    let held = g.S.Store.held c.args.store.now in
+    let reads = g.S.Store.read_faults c.args.store.now in
+    let reads_now = g.S.Store.read_faults c.list.new.store in
+    let writes = g.S.Store.write_faults c.args.store.now in
+    let writes_now = g.S.Store.write_faults c.list.new.store in
+    let printed = g.O.Sink.faults c.args.out.now in
+    let s = c.list.result in
+    let is : IsList words = rw c.in-Some-List.field-0-is at c.in-Some-List.ensures in
+    let called = c.list.ensures.called in
+    let read = one_read list_deeds words held s reads reads_now (λ contents file first. first) c.list.ensures.read_fault in
+    let failed = write_failed list_deeds words held s writes writes_now printed printed c.list.ensures.write_fault in
+    record {
+      generated = λ a done. absurd (let never : Generate ≡ List = one_command words Generate List a is in cc);
+      usage = (λ e. absurd (no_usage List words held s called e), λ u. absurd (u List is));
+      unused = λ u. absurd (u List is);
+      called = each_called words List is held s called;
+      no_inner_memory = λ file. (no_text_memory List words held s called file, no_controller_memory List words held s called file);
+      complete = each_completes words List is held s reads reads_now writes writes_now printed printed called read failed;
+      prints = each_shown words List is held s (g.O.Sink.got c.args.out.now) (g.O.Sink.got c.args.out.now) (shown_nothing words held (g.O.Sink.got c.args.out.now));
+      quiet = λ d that unprinted. refl;
+      leaves = each_leaves words List is held s (g.S.Store.held c.list.new.store) (record { listed = c.list.ensures.listed; cut = c.list.ensures.cut });
+      held = each_held words List is held s _ (writing_held list_deeds s _ 2 refl c.list.ensures.held);
+      no_file = each_unused words List is held s _ (λ uses. absurd (uses.reads 1 refl));
+      read_fault = each_read words List is held s reads reads_now read;
+      write_fault = each_failed words List is held s writes writes_now printed printed failed;
+      reads = c.list.ensures.reads;
+      writes = c.list.ensures.writes;
+      no_fewer = le_refl printed;
     }
 
 -- ---- no command

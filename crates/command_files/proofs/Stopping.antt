@@ -16,7 +16,7 @@ pub record IsRefusal (s : Status) : Type 0 where
   pub read : (file : ℕ) → s ≢ ReadFault file
   pub write : (file : ℕ) → s ≢ WriteFault file
 
-long_refusal : (file : ℕ) (s : Status) → s ≡ Long file → IsRefusal s
+pub long_refusal : (file : ℕ) (s : Status) → s ≡ Long file → IsRefusal s
 long_refusal file s is = record { done = λ e. cc; memory = λ e. cc; read = λ f e. cc; write = λ f e. cc }
 
 text_refusal : (file : ℕ) (fault : TextFault) (s : Status) → s ≡ Text file fault → IsRefusal s
