@@ -16,8 +16,8 @@ use Rattle.bit_choice.specs.Choice.{IsChoice}
 use Rattle.design_engine.specs.Targets.{Targets, half_target, error_limit}
 use Rattle.controller_maker.specs.Widest.{width_size}
 use Rattle.design_engine.specs.Bounds.{stated_cost}
-use Rattle.design_engine.specs.declared.refusal.Refusal.{Refusal}
-use Rattle.design_engine.specs.declared.refusal.Refusal.TheVariants.{Memory, NoMargin, Curvature, TooManySteps, TooFine, TooWide}
+use Rattle.design_refusal.specs.declared.refusal.Refusal.{Refusal}
+use Rattle.design_refusal.specs.declared.refusal.Refusal.TheVariants.{Memory, NoMargin, Curvature, TooManySteps, TooFine, TooWide}
 
 -- K, of a margin, the step exponent s and the targets
 abbrev pub steps_at : Targets → Margin → ℕ → ℕ

@@ -24,13 +24,13 @@ ghost use Rattle.hessian_check.specs.RowExponents.{exponent_in, AreExponentsOf};
 ghost use Rattle.design_engine.specs.Built.{IsBuilt};
 ghost use Rattle.design_engine.specs.Refusals.{HasCause, IsRefused, PassesMargin, PassesSizes, PassesBits, PassesAll};
 
-use crate::refusal::Refusal;
 use crate::residuals::real_cost;
 use crate::violations::row_violations;
 use approx_inverse::solve_all;
 use bit_choice::{Choice, choose_bits};
 use condensed_form::Condensed;
 use controller_maker::{Settings, controller_of};
+use design_refusal::Refusal;
 use dual_bounds::{multiplier, steps, undercut, violation};
 use hessian_check::{curvature, exponents};
 use overflow_check::Controller;

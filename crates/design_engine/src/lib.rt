@@ -3,12 +3,10 @@
 
 mod generation;
 mod laws;
-mod refusal;
-mod refused;
 mod residuals;
 mod violations;
 
 pub use controller_maker::{Settings, WidthFault, controller_of};
+pub use design_refusal::Refusal;
 pub use generation::{Made, generate};
 pub use laws::{agreement_law, causes_law, certified_law, targets_law, threshold_law};
-pub use refusal::Refusal;
