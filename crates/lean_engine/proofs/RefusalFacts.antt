@@ -21,9 +21,9 @@ use Rattle.plan_excess.specs.declared.fault.ExcessFault.TheVariants.{Memory as e
 use Rattle.design_engine.specs.Targets.{Targets, floor_target}
 use Rattle.design_engine.specs.Tests.{IsWide, IsRefusedFor, IsFormWide, HasFormCause, IsAimWide, HasAimCause}
 use Rattle.design_engine.specs.Refusals.{PassesMargin}
-use Rattle.design_engine.specs.Faults.{of_margin}
-use Rattle.design_engine.specs.declared.refusal.Refusal.{Refusal}
-use Rattle.design_engine.specs.declared.refusal.Refusal.TheVariants.{Memory, NoMargin, Curvature, TooManySteps, TooFine, TooWide}
+use Rattle.exact_margin.specs.Refusing.{of_margin}
+use Rattle.design_refusal.specs.declared.refusal.Refusal.{Refusal}
+use Rattle.design_refusal.specs.declared.refusal.Refusal.TheVariants.{Memory, NoMargin, Curvature, TooManySteps, TooFine, TooWide}
 use Rattle.lean_engine.specs.Refusals.{excess_at, excess_size_at, aim_at, PassesScaling, PassesBound, PassesAll, HasCause, IsRefused, IsTooWide}
 use Rattle.lean_engine.specs.Priced.{HasBoundCause, IsPriced, HasPriceCause}
 use Rattle.lean_engine.specs.Lean.{lean_aim}

@@ -3,7 +3,7 @@ use Rattle.integer_algebra.specs.Sums.{at}
 use Rattle.policy_file.specs.Records.{HoldsNumbers, records_of, record_at}
 use Rattle.policy_file.specs.PolicyText.{policy_rule}
 use Rattle.policy_file.proofs.MatrixFacts.{Filled}
-use Rattle.policy_file.proofs.read.policy_of.Given as goal
+use Rattle.policy_file.proofs.read.plans_in.Given as goal
 
 abbrev pub invariant-loop-i : goal.invariant-loop-i
 invariant-loop-i l = record {

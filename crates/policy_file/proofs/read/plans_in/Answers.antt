@@ -14,8 +14,8 @@ use Rattle.number_text.specs.declared.text_fault.TextFault.TheVariants.{Memory}
 use Rattle.policy_file.specs.PolicyText.{policy_rule}
 use Rattle.policy_file.proofs.TextFacts.{record_is, records_count, entry_small, room_small, passed_on, first_fault}
 use Rattle.policy_file.proofs.RecordFacts.{records_few}
-use Rattle.policy_file.proofs.PolicyFacts.{numbered, rest_long, plan_small, states_small, plans_more, plans_found, count_fault, either_fault}
-use Rattle.policy_file.proofs.read.policy_of.Goals as goal
+use Rattle.policy_file.proofs.PolicyFacts.{numbered, rest_long, plan_small, plans_more, plans_found, count_fault, either_fault}
+use Rattle.policy_file.proofs.read.plans_in.Goals as goal
 
 pub overflow_cast-i : goal.overflow_cast-i
 overflow_cast-i c =
@@ -39,7 +39,7 @@ pub returns-in_err-numbers-clause-fault : goal.returns-in_err-numbers-clause-fau
 returns-in_err-numbers-clause-fault c =
     let lt : c.loop-i.i < length c.in_ok-records.records.items = omega arith in
     passed_on _ _ _ c.from_residual-in_err-numbers.ensures.1
-    (either_fault c.args.bytes.now (design_of c.args.parts.now) _
+    (either_fault c.args.bytes.now (design_of c.args.parts.now) c.args.number _
     (first_fault policy_rule (c.args.parts.now.stages * c.args.parts.now.inputs + 1) c.in_ok-records.records.items c.args.bytes.now c.record-item.result c.loop-i.i _
     (λ e. at c.loop-i.dens.items e ∷ row_of c.loop-i.plans e) c.in_ok-records.ensures lt (rw (← c.deref-record-items.ensures.value) c.record-item.is)
     c.loop-i.invariant.plans.each c.in_err-numbers.ensures.fault))
@@ -68,16 +68,15 @@ overflow_cast-result c =
     let few = records_few c.args.bytes.now in
     omega (arith, n, few)
 
-pub returns-then-len-corner_count-clause-fault : goal.returns-then-len-corner_count-clause-fault
-returns-then-len-corner_count-clause-fault c =
-    count_fault c.args.bytes.now (design_of c.args.parts.now) c.in_ok-records.records.items _ c.loop-i.i c.loop-i.dens.items c.loop-i.plans c.in_ok-records.ensures (search rules) (omega arith)
-    (λ q. absurd (omega (arith, q, c.if-len-corner_count.true)))
+pub returns-then-len-number-clause-fault : goal.returns-then-len-number-clause-fault
+returns-then-len-number-clause-fault c =
+    count_fault c.args.bytes.now (design_of c.args.parts.now) c.args.number c.in_ok-records.records.items _ c.loop-i.i c.loop-i.dens.items c.loop-i.plans c.in_ok-records.ensures (search rules)
+        (omega arith) (λ q. absurd (omega (arith, q, c.if-len-number.true)))
     c.loop-i.invariant.plans.each
 
 pub returns-clause-found : goal.returns-clause-found
 returns-clause-found c =
-    plans_found c.args.bytes.now (design_of c.args.parts.now) c.in_ok-records.records.items _ c.loop-i.i c.in_ok-records.ensures (omega arith)
-    (omega (arith, c.corner_count.ensures, c.len.ensures)) c.loop-i.invariant.plans c.loop-i.invariant.dens (omega arith)
+    plans_found c.args.bytes.now (design_of c.args.parts.now) c.args.number c.in_ok-records.records.items _ c.loop-i.i c.in_ok-records.ensures (omega arith) (omega (arith, c.len.ensures)) c.loop-i.invariant.plans c.loop-i.invariant.dens (omega arith)
 
 pub overflow_mul-entries : goal.overflow_mul-entries
 overflow_mul-entries c = omega (arith, plan_small c.args.parts.now c.requires.design)
@@ -146,11 +145,8 @@ returns-in_err-push_row-clause-fault c = passed_on _ _ Memory c.from_residual-in
 pub loop-i-smaller : goal.loop-i-smaller
 loop-i-smaller c = grind (arith, common_steps)
 
-pub corner_count-requires : goal.corner_count-requires
-corner_count-requires c = states_small c.args.parts.now c.requires.design
-
-pub returns-then-len-corner_count-clause-found : goal.returns-then-len-corner_count-clause-found
-returns-then-len-corner_count-clause-found c = tt
+pub returns-then-len-number-clause-found : goal.returns-then-len-number-clause-found
+returns-then-len-number-clause-found c = tt
 
 pub returns-clause-fault : goal.returns-clause-fault
 returns-clause-fault c = tt
