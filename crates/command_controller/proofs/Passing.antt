@@ -55,8 +55,10 @@ all d t plans m s f none before =
       width = within (2 ^ 126) (width_size d (multiplier_of m) s (step_count s (multiplier_of m) (half_target t)) f) (λ lt. none (TooWide quantity.Width) (m, s, f, (before, descent), lt));
     }
 
-pub built_passes : (p : DesignParts) (plans : Plans) (c : Numbers) (b : Printed) → NoCause (design_of p) (targets_of p) plans → IsBuilt p plans c b → Passes p plans
-built_passes p plans c b none built =
+-- it passes with its own margin, step exponent and bits
+pub own_passes : (p : DesignParts) (plans : Plans) (c : Numbers) (b : Printed) → NoCause (design_of p) (targets_of p) plans → IsBuilt p plans c b →
+    PassesAll (design_of p) (targets_of p) plans (margin_of b) c.step_exponent c.fraction_bits
+own_passes p plans c b none built =
     let d = design_of p in
     let t = targets_of p in
     let m = margin_of b in
@@ -65,4 +67,7 @@ built_passes p plans c b none built =
     let steps : PassesSteps d t plans m s = record { before = sizes d t plans m none (margin p plans c b none built); exponent = built.exponent; steps = few } in
     let error = within (2 ^ 126) (error_size d (form_of d) (multiplier_of m)) (λ lt. none (TooWide quantity.Error) (m, s, steps, lt)) in
     let bits : PassesBits d t plans m s c.fraction_bits = record { before = steps; error = error; choice = built.bits } in
-    record { margin = m; exponent = s; bits = c.fraction_bits; all = all d t plans m s c.fraction_bits none bits }
+    all d t plans m s c.fraction_bits none bits
+
+pub built_passes : (p : DesignParts) (plans : Plans) (c : Numbers) (b : Printed) → NoCause (design_of p) (targets_of p) plans → IsBuilt p plans c b → Passes p plans
+built_passes p plans c b none built = record { margin = margin_of b; exponent = c.step_exponent; bits = c.fraction_bits; all = own_passes p plans c b none built }
