@@ -14,6 +14,7 @@ data Kind : Type 0 where
   looping : Kind
   showing : Kind
   listing : Kind
+  playing : Kind
 
 abbrev kind : Command → Kind
 kind commands.Generate = making
@@ -21,6 +22,7 @@ kind commands.Solve = solving
 kind (commands.Loop turns) = looping
 kind (commands.Demo number) = showing
 kind commands.List = listing
+kind commands.Play = playing
 
 abbrev count_in : Command → ℕ
 count_in (commands.Loop turns) = turns
@@ -33,6 +35,7 @@ of_kind solving n = commands.Solve
 of_kind looping n = commands.Loop n
 of_kind showing n = commands.Demo n
 of_kind listing n = commands.List
+of_kind playing n = commands.Play
 
 rebuilt : (command : Command) → of_kind (kind command) (count_in command) ≡ command
 rebuilt commands.Generate = refl
@@ -40,6 +43,7 @@ rebuilt commands.Solve = refl
 rebuilt (commands.Loop turns) = refl
 rebuilt (commands.Demo number) = refl
 rebuilt commands.List = refl
+rebuilt commands.Play = refl
 
 -- ---- the name tells the kind
 abbrev mark : List ℕ → ℕ
@@ -48,7 +52,7 @@ mark letters = 0
 
 abbrev kind_marked : ℕ → Kind
 kind_marked m =
-    if nat_eq m (mark (codes "generate")) then making else (if nat_eq m (mark (codes "solve")) then solving else (if nat_eq m (mark (codes "loop")) then looping else (if nat_eq m (mark (codes "list")) then listing else showing)))
+    if nat_eq m (mark (codes "generate")) then making else (if nat_eq m (mark (codes "solve")) then solving else (if nat_eq m (mark (codes "loop")) then looping else (if nat_eq m (mark (codes "list")) then listing else (if nat_eq m (mark (codes "play")) then playing else showing))))
 
 named : (command : Command) (words : List (List ℕ)) → AreOf command words → kind_marked (mark (word_of words 0)) ≡ kind command
 named commands.Generate words is = ap (λ (name : List ℕ). kind_marked (mark name)) is.command
@@ -56,6 +60,7 @@ named commands.Solve words is = ap (λ (name : List ℕ). kind_marked (mark name
 named (commands.Loop turns) words is = ap (λ (name : List ℕ). kind_marked (mark name)) is.command
 named (commands.Demo number) words is = ap (λ (name : List ℕ). kind_marked (mark name)) is.command
 named commands.List words is = ap (λ (name : List ℕ). kind_marked (mark name)) is.command
+named commands.Play words is = ap (λ (name : List ℕ). kind_marked (mark name)) is.command
 
 -- ---- a word tells the number
 abbrev IsNumber : Kind → List (List ℕ) → ℕ → Type 0
@@ -69,6 +74,7 @@ counted commands.Solve words is = refl
 counted (commands.Loop turns) words is = is.last
 counted (commands.Demo number) words is = is.last
 counted commands.List words is = refl
+counted commands.Play words is = refl
 
 one_count : (most : ℕ) (word : List ℕ) (a b : ℕ) → most < 2 ^ 63 → IsCount most word a → IsCount most word b → a ≡ b
 one_count most word a b small x y =
@@ -81,6 +87,7 @@ one_number solving words a b x y = x ∙ sym y
 one_number looping words a b x y = one_count 1000000 (word_of words 4) a b (omega arith) x y
 one_number showing words a b x y = one_count 4294967295 (word_of words 1) a b (omega arith) x y
 one_number listing words a b x y = x ∙ sym y
+one_number playing words a b x y = x ∙ sym y
 
 -- ---- so the arguments tell the command
 pub one_command : (words : List (List ℕ)) (command other : Command) → AreOf command words → AreOf other words → command ≡ other

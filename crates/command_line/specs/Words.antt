@@ -27,6 +27,11 @@ pub record IsList (words : List (List ℕ)) : Type 0 where
   pub command : word_of words 0 ≡ codes "list"
   pub listing_controller : word_of words 2 ≢ word_of words 1
 
+-- the words are `play` and the names of a listing file and of a states file
+pub record IsPlay (words : List (List ℕ)) : Type 0 where
+  pub count : length words ≡ 3
+  pub command : word_of words 0 ≡ codes "play"
+
 -- a name that asks for another form of the report
 abbrev pub IsJson : List ℕ → Type 0
 IsJson name = (stem : List ℕ) × (name ≡ stem ++ codes ".json")

@@ -145,6 +145,8 @@ fn status_words(alloc: Global, status: &Status) -> Result<String, AllocError>
             design,
             controller,
         } => mismatch_words(alloc, field, *design, *controller),
+        Status::Listing { file, line } => format!(in alloc; "listing {file} {line}"),
+        Status::Trap { entry, step, place } => format!(in alloc; "trap {entry} {step} {place}"),
     }
 }
 

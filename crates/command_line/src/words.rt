@@ -1,6 +1,6 @@
 // Which command the arguments are.
 ghost use Rattle.std.specs.Prelude.{ℕ, IsTrue, MatchOption, ◌↔◌, ◌≢◌};
-ghost use Rattle.command_line.specs.Words.{word_of, IsSolve, IsGenerate, IsLoop, IsDemo, IsList, IsJson, IsCount};
+ghost use Rattle.command_line.specs.Words.{word_of, IsSolve, IsGenerate, IsLoop, IsDemo, IsList, IsPlay, IsJson, IsCount};
 ghost use Rattle.command_line.specs.Commands.{IsUsage, AreOf, OneCommandLaw};
 
 use io_edge::Words;
@@ -14,6 +14,7 @@ pub enum Command {
     Loop { turns: u32 },
     Demo { number: u32 },
     List,
+    Play,
 }
 
 /// The most turns of a `loop`.
@@ -40,6 +41,9 @@ pub fn command_of(words: &Words) -> Option<Command>
     }
     if is_list(words) {
         return Some(Command::List);
+    }
+    if is_play(words) {
+        return Some(Command::Play);
     }
     None
 }
@@ -73,6 +77,13 @@ fn is_list(words: &Words) -> bool
     ensures { IsTrue result ↔ IsList words.now }
 {
     words.count() == 3 && words.at(0) == "list" && words.at(2) != words.at(1)
+}
+
+// Whether they are those that `play` needs.
+fn is_play(words: &Words) -> bool
+    ensures { IsTrue result ↔ IsPlay words.now }
+{
+    words.count() == 3 && words.at(0) == "play"
 }
 
 // The turns of a `loop`; none where the arguments are those of no `loop`.
