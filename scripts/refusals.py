@@ -50,12 +50,16 @@ TEXTS = {
     "too-wide": '`{name}`, {what}, passes 2^126{size}: {help} (docs/DESIGNING.md, "Sizes").',
     "controller-line": "{file} is no controller text: line {line}{fault} should be {wanted}. `generate` writes such files; docs/FORMATS.md has the form.",
     "controller-unsafe": "{file} has the form of a controller text, but a sum of its numbers could leave the width that it says itself, so it is not run: a number was changed.",
-    "outside-box": "State {entry} of {file} is outside the controller's box in coordinate {name}{fault}. The promises hold inside the box alone: a larger box in the design, or "
+    "outside-box": "State {entry} of {file} is outside the {kind}'s box in coordinate {name}{fault}. The promises hold inside the box alone: a larger box in the design, or "
     "a state in steps of {step}.",
     "left-box": "The loop from state {entry} left the box before turn {turn}, in coordinate {name}. Nothing promises that a loop stays: limits at the next state, or coordinates in which "
     'the box is nearly invariant (docs/DESIGNING.md, "Boxes that loops stay in").',
     "long": "{file} is longer than 4194304 bytes, and no file of the tool is.",
     "mismatch": "The controller was not made for this design: its {field} are {controller}, and the design's are {design}. Run `generate` on this design.",
+    "listing": "{file} is no listing text: line {line}{fault} should be {wanted}. `list` writes such files; docs/FORMATS.md has the form.",
+    "trap": "The run of {file} from state {entry} stops in repetition {step} at instruction {place}{instruction}: a value needs more bits than its words have. A listing that `list` wrote "
+    "never does so from a state of its box: the listing was changed.",
+    "trap-input": "State {entry}, shifted up, needs more bits than the words of {file} have. A listing that `list` wrote never does so from a state of its box: the listing was changed.",
     "no-text": "The argument {word} is no UTF-8 text, and the program reads no other: give the file another name.",
     "no-arguments": "The system gave the program no arguments: the machine may have no memory left.",
     "unbuilt": "The launcher could not build the program: crates/mpc_cli/build.log has the reason.",
@@ -64,6 +68,7 @@ TEXTS = {
 LEFT = {
     "controller": "Nothing stands in it, or the first part of the text.",
     "report": "The controller file stands whole.",
+    "listing": "Nothing stands in it, or the first part of the text.",
     "output": "The lines before it were printed whole.",
 }
 
@@ -170,7 +175,9 @@ def usage(call: Call) -> str:
         return f"`{command}` takes {len(listed[command])} arguments, {' '.join(listed[command])}, and {len(words) - 1} were given."
     if command == "generate":
         return one_file_twice(call)
-    if command == "solve" or command == "loop" and number_of(words[4], MOST_TURNS):
+    if command == "list":
+        return f"The listing file {call.path('listing')} is the controller file {call.path('controller')}: it needs a file of its own."
+    if command in ("solve", "play") or command == "loop" and number_of(words[4], MOST_TURNS):
         return "Standard output is one of the files that are read: what is printed needs a file of its own."
     if command == "loop":
         return f"The turns `{words[4]}` are no number from 0 to 1000000 without sign or leading zero."
@@ -399,20 +406,59 @@ def controller_fault(call: Call, file: int, fault: str, numbers: list[int]) -> s
     return TEXTS["controller-line"].format(file=name, line=numbers[0], fault=shown, wanted=wanted)
 
 
+LISTING_HEAD = [
+    "`mpc-listing 1`",
+    "`word` and the bits of a word, 2 to 128",
+    "`input`, a number of states, 1 to 6, and the bits by which they are shifted up, 0 to 48",
+    "`lo` and a number for each state",
+    "`hi` and a number for each state, at least its `lo`",
+    "`words` and their number, from that of the states to 1000",
+    "`output`, the first word that is put out, how many, and what they are over",
+    "`repeat`, the repetitions, 1 to 4194304, and the number of instructions, 1 to 100000",
+    "`count` and the product of both",
+]
+
+
+def found_line(call: Call, file: int, line: int) -> tuple[str, list[str]]:
+    """What stands in a line of a file, as it is shown, and all lines of the file."""
+    try:
+        found = read_text(call.path(call.kind(file))).split("\n")
+    except (OSError, TypeError):
+        found = []
+    return (f" (`{found[line - 1][:40]}`)" if line <= len(found) and found[line - 1] else ""), found
+
+
+def listing_fault(call: Call, file: int, line: int) -> str:
+    shown, found = found_line(call, file, line)
+    try:
+        count = int(found[7].split(" ")[2])
+    except (IndexError, ValueError):
+        count = 0
+    after = "an instruction with its numbers in range" if line <= 9 + count else "`end`" if line == 10 + count else "absent: nothing follows `end`"
+    return TEXTS["listing"].format(file=call.named(file), line=line, fault=shown, wanted=LISTING_HEAD[line - 1] if line <= 9 else after)
+
+
+def trap(call: Call, entry: int, step: int, place: int) -> str:
+    if place == 0:
+        return TEXTS["trap-input"].format(entry=entry, file=call.named(1))
+    return TEXTS["trap"].format(entry=entry, file=call.named(1), step=step, place=place, instruction=found_line(call, 1, 9 + place)[0])
+
+
 def outside_box(call: Call, entry: int, turn: int, coordinate: int) -> str:
     design = call.design()
     name = design.name("state", coordinate).word if design else f"x{coordinate}"
     if turn > 1:
         return TEXTS["left-box"].format(entry=entry, turn=turn, name=name)
     records, fault, step = call.records("states"), "", "1/2^grid"
+    kind = "listing" if call.command == "play" else "controller"
     try:
         value = int(records[entry - 1].split(",")[coordinate - 1])
-        lines = {line.split(" ")[0]: line.split(" ")[1:] for line in read_text(call.path("controller")).splitlines()[:9]}
+        lines = {line.split(" ")[0]: line.split(" ")[1:] for line in read_text(call.path(kind)).splitlines()[:9]}
         fault = f" ({value}, and the box is {lines['lo'][coordinate - 1]} to {lines['hi'][coordinate - 1]})"
         step = f"1/{2 ** int(lines['bits'][1])}"
     except (IndexError, ValueError, KeyError, OSError, TypeError):
         pass
-    return TEXTS["outside-box"].format(entry=entry, file=call.named(3 if call.command == "loop" else 2), name=name, fault=fault, step=step)
+    return TEXTS["outside-box"].format(entry=entry, file=call.named(3 if call.command == "loop" else 2), kind=kind, name=name, fault=fault, step=step)
 
 
 def explanation(status: int, line: str, words: list[str]) -> str:
@@ -443,7 +489,7 @@ def explanation(status: int, line: str, words: list[str]) -> str:
         return TEXTS[name].format(file=call.named(numbers[0]))
     if name == "mismatch":
         return TEXTS[name].format(field=rest[0] if rest[0] != "grid" else "grid bits", design=rest[1], controller=rest[2])
-    fill = {"no-margin": no_margin, "too-many-steps": too_many_steps, "too-fine": too_fine, "outside-box": outside_box}
+    fill = {"listing": listing_fault, "trap": trap, "no-margin": no_margin, "too-many-steps": too_many_steps, "too-fine": too_fine, "outside-box": outside_box}
     if name in fill:
         return fill[name](call, *numbers)
     return too_wide(call, rest[0]) if name == "too-wide" else TEXTS.get(name, "")
@@ -471,6 +517,8 @@ STATUSES = [
     (12, "outside-box ENTRY TURN COORDINATE", ["outside-box", "left-box"]),
     (13, "long FILE", ["long"]),
     (14, "mismatch WORD DESIGN CONTROLLER", ["mismatch"]),
+    (20, "listing FILE LINE", ["listing"]),
+    (21, "trap ENTRY STEP PLACE", ["trap", "trap-input"]),
     (98, "", ["unbuilt"]),
     (99, "", ["no-text", "no-arguments"]),
 ]

@@ -13,12 +13,13 @@ from dataclasses import dataclass, field
 
 sys.path.insert(0, os.path.dirname(os.path.abspath(__file__)))
 import control
+import listing
 import model
 from model import LIMIT, Refused
 
 NAMES = {1: "memory", 2: "usage", 3: "read-fault", 4: "write-fault", 5: "text", 6: "no-margin", 7: "curvature", 8: "too-many-steps", 9: "too-fine", 10: "too-wide",
-         11: "controller", 12: "outside-box", 13: "long", 14: "mismatch"}
-COUNTS = {"generate": 4, "solve": 2, "loop": 4, "demo": 1}
+         11: "controller", 12: "outside-box", 13: "long", 14: "mismatch", 20: "listing", 21: "trap"}
+COUNTS = {"generate": 4, "solve": 2, "loop": 4, "demo": 1, "list": 2, "play": 2}
 OVER = 2**40
 
 
@@ -117,8 +118,8 @@ class Program:
     """The words are texts, the first of them the command; `read` gives a name's bytes, or None where it can't be read; `write` tells whether a name could be
     written. `run` gives a controller's sums from a state."""
 
-    def __init__(self, words, read, write, gains, run=control.run, put=None):
-        self.words, self.read, self.write, self.gains, self.run = words, read, write, gains, run
+    def __init__(self, words, read, write, gains, run=control.run, put=None, run_listing=listing.play_line):
+        self.words, self.read, self.write, self.gains, self.run, self.run_listing = words, read, write, gains, run, run_listing
         self.answer = Answer()
         self.put = put or self.answer.out.append
         # the controller that `generate` made
@@ -142,6 +143,8 @@ class Program:
             raise Refused(2)
         names = words[1:]
         if words[0] == "generate" and (names.count(names[2]) > 1 or names.count(names[3]) > 1):
+            raise Refused(2)
+        if words[0] == "list" and names[0] == names[1]:
             raise Refused(2)
         if words[0] == "loop" and decimal(names[3], 1000000) is None or words[0] == "demo" and decimal(names[0], 2**32 - 1) is None:
             raise Refused(2)
@@ -174,6 +177,24 @@ class Program:
                 raise Refused(12, entry, 0, control.outside(c, row))
         for row in rows:
             self.put(control.plan_line(c, row, self.run))
+
+    def list(self):
+        data = listing.text_of(listing.listing_of(self.text(1, control.read_controller)))
+        if not self.write(self.words[2]):
+            raise Refused(4, 2)
+        self.answer.written[self.words[2]] = data
+
+    def play(self):
+        l = self.text(1, listing.read_listing)
+        rows = self.text(2, lambda data: model.read_records(data, l.n))
+        for entry, row in enumerate(rows, 1):
+            if control.outside(l, row):
+                raise Refused(12, entry, 0, control.outside(l, row))
+        for entry, row in enumerate(rows, 1):
+            try:
+                self.put(self.run_listing(l, row))
+            except Refused as refused:
+                raise Refused(refused.args[0], entry, *refused.args[1:])
 
     def loop(self):
         d = self.text(1, model.read_design)

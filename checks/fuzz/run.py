@@ -8,7 +8,7 @@ determined: they are taken from the controller that the program wrote, once they
 product and partial sum traced, and all must fit its width; but a run of many steps of a controller that isn't of the kind `controller` only has its sums compared.
 
 A case is made of the seed and its number alone. --case runs one again and shows it; --kind makes all cases of that kind: generate, border, solve, controller, loop,
-demo, usage. Half of the designs are of version 2; how many of these were accepted, and how many of them have a row with a smaller exponent, the last line says. A border
+demo, list, play, usage. Half of the designs are of version 2; how many of these were accepted, and how many of them have a row with a smaller exponent, the last line says. A border
 design's exact numbers, its enclosures, the corners of its policy in either class, or what its rows come to where they count 16 times, pass the limit by little or stay
 below it by little. Of each, the model's exact numbers must be the simulated plant's, its enclosures must hold them, no corner may have less slack or a greater cost than
 its enclosures show, and both classes are counted beside the status, and whether a design of version 2 has room for smaller exponents.
@@ -30,10 +30,11 @@ import at_corners
 import cases
 import control
 import forms
+import listing
 import model
 import program
 
-KINDS = ["generate"] * 30 + ["border"] * 4 + ["solve"] * 26 + ["controller"] * 18 + ["loop"] * 18 + ["usage"] * 4
+KINDS = ["generate"] * 26 + ["border"] * 4 + ["solve"] * 22 + ["controller"] * 14 + ["loop"] * 16 + ["list"] * 4 + ["play"] * 10 + ["usage"] * 4
 DEMO_EVERY = 2500
 # the most products that the model makes in a case, and the most in a run whose every value it traces
 MOST_PRODUCTS, MOST_TRACED = 3_000_000, 60_000
@@ -62,7 +63,7 @@ class Maker:
         pick = random.Random(f"{self.seed} {number}")
         kind = self.kind or ("demo" if number % DEMO_EVERY == DEMO_EVERY - 1 else pick.choice(KINDS))
         made = getattr(self, kind)(pick)
-        if kind in ("generate", "solve", "loop") and pick.random() < 0.03:
+        if kind in ("generate", "solve", "loop", "list", "play") and pick.random() < 0.03:
             self.rename(pick, made)
         return made
 
@@ -121,13 +122,35 @@ class Maker:
             turns = pick.choice(["01", "-1", "", "+1", "1000001", "1000000", " 1", "1 ", "0x1", "١", "00", "1e1"])
         return Case("loop", ["loop", "d", "c", "s", turns], {"d": design, "c": text, "s": states})
 
+    def any_controller(self, pick):
+        return control.read_controller(pick.choice(self.controllers)[1]) if pick.random() < 0.5 else cases.random_controller(pick)[1]
+
+    def list(self, pick):
+        text = control.text_of(self.any_controller(pick))
+        return Case("list", ["list", "c", "l"], {"c": cases.changed(pick, text) if pick.random() < 0.4 else text, **({"l": b"x"} if pick.random() < 0.3 else {})})
+
+    def play(self, pick):
+        c = self.any_controller(pick)
+        made = listing.listing_of(c)
+        how = pick.random()
+        if how < 0.25:
+            made.word = pick.randrange(2, made.word + 1)
+        elif how < 0.45:
+            made.body = cases.other_body(pick, made)
+        text, states = listing.text_of(made), cases.states_text(pick, c)
+        if 0.45 <= how < 0.75:
+            text = cases.changed(pick, text)
+        elif how >= 0.75 and pick.random() < 0.5:
+            states = cases.changed(pick, states)
+        return Case("play", ["play", "l", "s"], {"l": text, "s": states})
+
     def demo(self, pick):
         return Case("demo", ["demo", str(pick.choice([pick.randrange(2**32), 0, 7, 2**32 - 1, 2**31]))], {})
 
     def usage(self, pick):
         design, policy = self.designs[0]
         text = self.controllers[0][1]
-        words = pick.choice([["generate", "d", "p", "c", "r"], ["solve", "c", "s"], ["loop", "d", "c", "s", "1"], ["demo", "1"], []])
+        words = pick.choice([["generate", "d", "p", "c", "r"], ["solve", "c", "s"], ["loop", "d", "c", "s", "1"], ["demo", "1"], ["list", "c", "l"], ["play", "c", "s"], []])
         words = list(words)
         how = pick.randrange(4)
         if how == 0 and words:
@@ -213,13 +236,19 @@ class Runner:
             notes.extend(notes_of_run(case, c, least, greatest))
             return sums
 
-        told = program.Program(case.words, read, write, gains, run)
+        def run_listing(l, state):
+            budget[0] -= l.repeat * len(l.body)
+            if budget[0] < 0:
+                raise TooLong
+            return listing.play_line(l, state)
+
+        told = program.Program(case.words, read, write, gains, run, run_listing=run_listing)
         try:
             said = told.go()
         except TooLong:
             lines = ran.stdout.splitlines()
             begins = b"".join(told.answer.out)
-            well = ran.returncode in (0, 12) and ran.stdout.startswith(begins) and len(lines) >= len(told.answer.out)
+            well = ran.returncode in (0, 12, 21) and ran.stdout.startswith(begins) and len(lines) >= len(told.answer.out)
             return None if well else f"status {ran.returncode}, which begins otherwise than the model", ran.returncode, ["too long for the model"]
         except ValueError as why:
             return str(why), ran.returncode, notes

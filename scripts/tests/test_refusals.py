@@ -18,6 +18,7 @@ from tests.worked import (
     FINE_AXIS_POLICY,
     FIRST,
     FIRST_CONTROLLER,
+    FIRST_LISTING,
     FIRST_POLICY,
     LONG,
     LONG_POLICY,
@@ -231,6 +232,27 @@ class Explained(unittest.TestCase):
         told = self.words("error 14 mismatch states 2 1", "loop", "d", "c", "s", "1", d=AXIS, c=FIRST_CONTROLLER, s="1")
         self.assertIn("its states are 1, and the design's are 2", told)
 
+    def play(self, line, listing, states="1\n"):
+        return self.words(line, "play", "l", "s", l=listing, s=states)
+
+    def test_listing_line(self):
+        self.assertIn("line 2 (`word 1`) should be `word` and the bits of a word", self.play("error 20 listing 1 2", FIRST_LISTING.replace("word 26", "word 1")))
+        self.assertIn("line 46 (`addm 6`) should be an instruction", self.play("error 20 listing 1 46", FIRST_LISTING.replace("addm 4", "addm 6")))
+        self.assertIn("line 48 should be `end`", self.play("error 20 listing 1 48", FIRST_LISTING.removesuffix("end\n")))
+        self.assertIn("nothing follows `end`", self.play("error 20 listing 1 49", FIRST_LISTING + "x"))
+
+    def test_trap(self):
+        narrow = FIRST_LISTING.replace("word 26", "word 20")
+        self.assertIn("in repetition 1 at instruction 2 (`mac 0 512 0`)", self.play("error 21 trap 1 1 2", narrow))
+        self.assertIn("State 1, shifted up", self.play("error 21 trap 1 0 0", narrow))
+
+    def test_state_outside_the_box_of_a_listing(self):
+        self.assertIn("outside the listing's box in coordinate x1 (2, and the box is 0 to 1)", self.play("error 12 outside-box 1 0 1", FIRST_LISTING, "2\n"))
+
+    def test_listing_over_the_controller(self):
+        self.assertIn("The listing file c is the controller file c", self.words("error 2 usage", "list", "c", "c"))
+        self.assertIn("Nothing stands in it", self.words("error 4 write-fault 2", "list", "c", "/nowhere/l"))
+
     def test_no_line(self):
         self.assertEqual(refusals.explanation(12, "", ["solve", "c", "s"]), "")
 
@@ -415,7 +437,8 @@ echo "== mpc_cli"; echo "logic=proved functions=1"; printf '#!/bin/bash\necho bu
         """What the words below a refusal count by is what help lists, and the README's commands are among it."""
         self.assertEqual(
             usage.commands(),
-            {"demo": ["NUMBER"], "generate": ["DESIGN", "POLICY", "CONTROLLER", "REPORT"], "solve": ["CONTROLLER", "STATES"], "loop": ["DESIGN", "CONTROLLER", "STATES", "TURNS"]},
+            {"demo": ["NUMBER"], "generate": ["DESIGN", "POLICY", "CONTROLLER", "REPORT"], "solve": ["CONTROLLER", "STATES"], "loop": ["DESIGN", "CONTROLLER", "STATES", "TURNS"],
+             "list": ["CONTROLLER", "LISTING"], "play": ["LISTING", "STATES"]},
         )
         self.assertEqual(usage.files_of("loop"), ["design", "controller", "states"])
 

@@ -55,6 +55,9 @@ E 1024
 b 1024 1024 256
 end
 """
+# its step as a listing, by checks/fuzz/program.py
+with open(os.path.join(EXAMPLES, "first", "listing.txt"), encoding="utf-8") as listing_file:
+    FIRST_LISTING = listing_file.read()
 FIRST_REPORT = """mpc-report 1
 margin 8192 65536
 cost 1

@@ -15,6 +15,7 @@ data Kind : Type 0 where
   showing : Kind
   listing : Kind
   staying : Kind
+  playing : Kind
 
 abbrev kind : Command → Kind
 kind commands.Generate = making
@@ -23,6 +24,7 @@ kind (commands.Loop turns) = looping
 kind (commands.Demo number) = showing
 kind commands.List = listing
 kind (commands.Stay disturbed) = staying
+kind commands.Play = playing
 
 abbrev count_in : Command → ℕ
 count_in (commands.Loop turns) = turns
@@ -37,6 +39,7 @@ of_kind looping n = commands.Loop n
 of_kind showing n = commands.Demo n
 of_kind listing n = commands.List
 of_kind staying n = commands.Stay (nat_eq n 7)
+of_kind playing n = commands.Play
 
 rebuilt : (command : Command) → of_kind (kind command) (count_in command) ≡ command
 rebuilt commands.Generate = refl
@@ -46,6 +49,7 @@ rebuilt (commands.Demo number) = refl
 rebuilt commands.List = refl
 rebuilt (commands.Stay true) = refl
 rebuilt (commands.Stay false) = refl
+rebuilt commands.Play = refl
 
 -- ---- the name tells the kind
 abbrev mark : List ℕ → ℕ
@@ -55,7 +59,7 @@ mark letters = 0
 abbrev kind_marked : ℕ → Kind
 kind_marked m =
     if nat_eq m (mark (codes "generate")) then making else (if nat_eq m (mark (codes "solve")) then solving else (if nat_eq m (mark (codes "loop")) then looping else
-    (if nat_eq m (mark (codes "list")) then listing else (if nat_eq m (mark (codes "stay")) then staying else showing))))
+    (if nat_eq m (mark (codes "list")) then listing else (if nat_eq m (mark (codes "stay")) then staying else (if nat_eq m (mark (codes "play")) then playing else showing)))))
 
 named : (command : Command) (words : List (List ℕ)) → AreOf command words → kind_marked (mark (word_of words 0)) ≡ kind command
 named commands.Generate words is = ap (λ (name : List ℕ). kind_marked (mark name)) is.command
@@ -64,6 +68,7 @@ named (commands.Loop turns) words is = ap (λ (name : List ℕ). kind_marked (ma
 named (commands.Demo number) words is = ap (λ (name : List ℕ). kind_marked (mark name)) is.command
 named commands.List words is = ap (λ (name : List ℕ). kind_marked (mark name)) is.command
 named (commands.Stay disturbed) words is = ap (λ (name : List ℕ). kind_marked (mark name)) is.command
+named commands.Play words is = ap (λ (name : List ℕ). kind_marked (mark name)) is.command
 
 -- ---- a word tells the number
 abbrev IsNumber : Kind → List (List ℕ) → ℕ → Type 0
@@ -79,6 +84,7 @@ counted (commands.Loop turns) words is = is.last
 counted (commands.Demo number) words is = is.last
 counted commands.List words is = refl
 counted (commands.Stay disturbed) words is = sym is.count
+counted commands.Play words is = refl
 
 one_count : (most : ℕ) (word : List ℕ) (a b : ℕ) → most < 2 ^ 63 → IsCount most word a → IsCount most word b → a ≡ b
 one_count most word a b small x y =
@@ -92,6 +98,7 @@ one_number looping words a b x y = one_count 1000000 (word_of words 4) a b (omeg
 one_number showing words a b x y = one_count 4294967295 (word_of words 1) a b (omega arith) x y
 one_number listing words a b x y = x ∙ sym y
 one_number staying words a b x y = x ∙ sym y
+one_number playing words a b x y = x ∙ sym y
 
 -- ---- so the arguments tell the command
 pub one_command : (words : List (List ℕ)) (command other : Command) → AreOf command words → AreOf other words → command ≡ other

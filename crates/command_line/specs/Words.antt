@@ -26,6 +26,7 @@ pub record IsList (words : List (List ℕ)) : Type 0 where
   pub count : length words ≡ 3
   pub command : word_of words 0 ≡ codes "list"
   pub listing_controller : word_of words 2 ≢ word_of words 1
+
 -- the name at a position stands at no other
 abbrev pub IsOwnName : List (List ℕ) → ℕ → Type 0
 IsOwnName words position = (i : ℕ) → 1 ≤ i → i < length words → i ≢ position → word_of words i ≢ word_of words position
@@ -37,6 +38,11 @@ pub record IsStay (words : List (List ℕ)) (disturbed : Bool) : Type 0 where
   pub command : word_of words 0 ≡ codes "stay"
   pub controller : IsOwnName words 3
   pub report : IsOwnName words 4
+
+-- the words are `play` and the names of a listing file and of a states file
+pub record IsPlay (words : List (List ℕ)) : Type 0 where
+  pub count : length words ≡ 3
+  pub command : word_of words 0 ≡ codes "play"
 
 -- a name that asks for another form of the report
 abbrev pub IsJson : List ℕ → Type 0

@@ -109,6 +109,8 @@ fn status_words(alloc: Global, status: &Status) -> Result<String, AllocError>
             right,
         } => format!(in alloc; "unequal {entry} {input} {left} {right}"),
         Status::NoStay { entry, bound } => format!(in alloc; "no-stay {entry} {bound}"),
+        Status::Listing { file, line } => format!(in alloc; "listing {file} {line}"),
+        Status::Trap { entry, step, place } => format!(in alloc; "trap {entry} {step} {place}"),
     }
 }
 

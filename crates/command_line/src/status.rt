@@ -77,6 +77,18 @@ pub enum Status {
         entry: u32,
         bound: i128,
     },
+    /// The bytes of the file at this position are no listing's text; the line with this number, from 1, is the first that no listing's text has there.
+    Listing {
+        file: u32,
+        line: u32,
+    },
+    /// In the run from the state of a record a value has no room in a word: the first, in this repetition and at this instruction of the body. Both are 0
+    /// at an input.
+    Trap {
+        entry: u32,
+        step: u32,
+        place: u32,
+    },
 }
 
 impl From<AllocError> for Status {
@@ -130,5 +142,7 @@ pub fn status_number(status: &Status) -> u8
         Status::Mismatch { .. } => 14,
         Status::Unequal { .. } => 16,
         Status::NoStay { .. } => 17,
+        Status::Listing { .. } => 20,
+        Status::Trap { .. } => 21,
     }
 }

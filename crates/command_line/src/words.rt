@@ -1,6 +1,6 @@
 // Which command the arguments are.
 ghost use Rattle.std.specs.Prelude.{ℕ, IsTrue, MatchOption, ◌↔◌, ◌≢◌, ◌<◌, Bool, length};
-ghost use Rattle.command_line.specs.Words.{word_of, IsSolve, IsGenerate, IsLoop, IsDemo, IsList, IsJson, IsCount, IsStay, IsOwnName};
+ghost use Rattle.command_line.specs.Words.{word_of, IsSolve, IsGenerate, IsLoop, IsDemo, IsList, IsJson, IsCount, IsStay, IsOwnName, IsPlay};
 ghost use Rattle.command_line.specs.Commands.{IsUsage, AreOf, OneCommandLaw};
 
 use io_edge::Words;
@@ -16,6 +16,7 @@ pub enum Command {
     List,
     /// With a file of disturbances, or without.
     Stay { disturbed: bool },
+    Play,
 }
 
 /// The most turns of a `loop`.
@@ -45,6 +46,9 @@ pub fn command_of(words: &Words) -> Option<Command>
     }
     if let Some(disturbed) = disturbed_of(words) {
         return Some(Command::Stay { disturbed });
+    }
+    if is_play(words) {
+        return Some(Command::Play);
     }
     None
 }
@@ -78,6 +82,13 @@ fn is_list(words: &Words) -> bool
     ensures { IsTrue result ↔ IsList words.now }
 {
     words.count() == 3 && words.at(0) == "list" && words.at(2) != words.at(1)
+}
+
+// Whether they are those that `play` needs.
+fn is_play(words: &Words) -> bool
+    ensures { IsTrue result ↔ IsPlay words.now }
+{
+    words.count() == 3 && words.at(0) == "play"
 }
 
 // The turns of a `loop`; none where the arguments are those of no `loop`.

@@ -26,10 +26,14 @@ use Rattle.command_solve.specs.Solve.{SolveCalls}
 use Rattle.command_loop.specs.Loop.{LoopCalls, LoopsCall, IsMismatch}
 use Rattle.command_demo.specs.Demo.{DemoCalls}
 use Rattle.command_list.specs.Listed.{ListCalls}
+use Rattle.mac_listing.specs.Listing.{Instructions}
+use Rattle.command_play.specs.Texts.{ListingRight, ListingWrong}
+use Rattle.command_play.specs.Plays.{PlaysCall}
+use Rattle.command_play.specs.Play.{PlayCalls}
 use Rattle.command_line.specs.declared.status.Status.{Status}
 use Rattle.command_line.specs.declared.status.Status.TheVariants.{Done, Usage, Text, Controller, Long}
 use Rattle.command_line.specs.declared.words.Command.{Command}
-use Rattle.command_line.specs.declared.words.Command.TheVariants.{Generate, Solve, Loop, Demo, List as Listing, Stay}
+use Rattle.command_line.specs.declared.words.Command.TheVariants.{Generate, Solve, Loop, Demo, List as Writing, Stay, Play}
 use Rattle.stay_check.specs.FaceForms.{FaceNumbers}
 use Rattle.stay_check.specs.declared.fault.StayFault.{StayFault}
 use Rattle.stay_check.specs.declared.fault.StayFault.TheVariants as faults
@@ -150,6 +154,7 @@ demo_telling number s calls = making_telling calls.0 calls.1 s calls.3
 
 list_telling : (controller : Option (List ℕ)) (s : Status) → ListCalls controller s → IsTelling s
 list_telling controller = then_telling file_limit 1 (ControllerWrong 1) ControllerRight controller (λ c t. t ≡ Done) (bad_telling 1) (λ c. done_telling)
+
 shifts_telling : (disturbed : Bool) (p : DesignParts) (shifts : Option (List ℕ)) (plans : Plans) (f : FaceNumbers) (s : Status) → ReadsShifts disturbed (design_of p).states shifts (StayingCalls p plans f) s → IsTelling s
 shifts_telling true p shifts plans f s calls =
     then_telling file_limit 6 (RangeWrong (design_of p).states 6) (RangeRight (design_of p).states) shifts (StayingCalls p plans f) (range_telling (design_of p).states 6) (staying_telling p plans f) s calls
@@ -161,14 +166,28 @@ stay_telling disturbed design policy faces shifts =
     (λ p. then_telling file_limit 2 (PolicyWrong (design_of p) 2) (PolicyRight (design_of p)) policy _ (policy_telling (design_of p) 2)
     (λ plans. then_telling file_limit 5 (FacesWrong (design_of p) 5) (FacesRight (design_of p)) faces _ (faces_telling (design_of p) 5) (shifts_telling disturbed p shifts plans)))
 
+no_listing_telling : (file : ℕ) (bytes : List ℕ) (s : Status) → ListingWrong file bytes s → IsTelling s
+no_listing_telling file bytes s wrong = let is = wrong.2 in record { usage = λ e. cc; text = λ at e. cc; controller = λ at e. cc }
+
+plays_telling : (l : Instructions) (states : Matrix) (s : Status) → PlaysCall l states s → IsTelling s
+plays_telling l states s (inl outside) = let is = outside.is in record { usage = λ e. cc; text = λ at e. cc; controller = λ at e. cc }
+plays_telling l states s (inr ends) =
+    elim ends.1 [ inl trapped ↦ (let is = trapped.is in record { usage = λ e. cc; text = λ at e. cc; controller = λ at e. cc }) | inr done ↦ done_telling s done.0 ]
+
+play_telling : (listing states : Option (List ℕ)) (s : Status) → PlayCalls listing states s → IsTelling s
+play_telling listing states =
+    then_telling file_limit 1 (ListingWrong 1) ListingRight listing _ (no_listing_telling 1)
+    (λ l. then_telling file_limit 2 (StatesWrong l.states 2) (StatesRight l.states) states (PlaysCall l) (states_telling l.states 2) (plays_telling l))
+
 -- ---- the table
 telling : (c : Command) (contents : Contents) (s : Status) → (deeds_of c).calls contents s → IsTelling s
 telling Generate contents = generate_telling (contents 1) (contents 2)
 telling Solve contents = solve_telling (contents 1) (contents 2)
 telling (Loop turns) contents = loop_telling (contents 1) (contents 2) (contents 3) turns
 telling (Demo number) contents = demo_telling number
-telling Listing contents = list_telling (contents 1)
 telling (Stay disturbed) contents = stay_telling disturbed (contents 1) (contents 2) (contents 5) (contents 6)
+telling Writing contents = list_telling (contents 1)
+telling Play contents = play_telling (contents 1) (contents 2)
 
 module _ (c : Command) (words : List (List ℕ)) (held : Option Files) (result : Status) (called : IsCaused result → ForContents words held (λ contents. IsAnswer ((deeds_of c).calls contents) result)) where
   tells : IsCaused result → IsTelling result

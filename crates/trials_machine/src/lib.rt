@@ -7,3 +7,5 @@ mod controllers;
 mod plays;
 #[cfg(test)]
 mod reads;
+#[cfg(test)]
+mod traps;

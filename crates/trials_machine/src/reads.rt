@@ -4,7 +4,7 @@ use mac_listing::{BadListing, make_listing, read_listing, write_listing};
 use std::alloc::Global;
 use std::test::Fail;
 
-fn text(alloc: Global) -> Result<Vec<u8>, Fail> {
+pub fn text(alloc: Global) -> Result<Vec<u8>, Fail> {
     let controller = controller(alloc, 2, 32768, 26, [1, 1, 0])?;
     let listing = make_listing(alloc, &controller)?;
     Ok(write_listing(alloc, &listing)?)

@@ -1,8 +1,8 @@
 use Rattle.std.proofs.Common.{◌≡◌, inl, refl, le_refl, ℕ, Bool, List, subst}
-use Rattle.command_line.specs.Words.{IsGenerate, IsSolve, IsLoop, IsDemo, IsList, IsStay}
+use Rattle.command_line.specs.Words.{IsGenerate, IsSolve, IsLoop, IsDemo, IsList, IsStay, IsPlay}
 use Rattle.command_line.specs.Commands.{IsUsage}
 use Rattle.command_line.proofs.OneCommand.{one_command}
-use Rattle.command_line.specs.declared.words.Command.TheVariants.{Generate, Solve, Loop, Demo, List, Stay}
+use Rattle.command_line.specs.declared.words.Command.TheVariants.{Generate, Solve, Loop, Demo, List, Stay, Play}
 use Rattle.std.specs.Prelude.{IfSome, IsSomeAnd}
 use Rattle.command_line.specs.declared.status.Status.TheVariants.{Done}
 use Rattle.command_generate.specs.Deeds.{generate_deeds}
@@ -11,6 +11,7 @@ use Rattle.command_loop.specs.Deeds.{loop_deeds}
 use Rattle.command_demo.specs.Demo.{DemoPrints}
 use Rattle.command_demo.specs.Deeds.{demo_deeds}
 use Rattle.command_list.specs.Deeds.{list_deeds}
+use Rattle.command_play.specs.Deeds.{play_deeds}
 use Rattle.command_run.proofs.Commands.{each_called, each_shown, each_quiet, each_leaves, each_held, each_unused, each_read, each_failed, each_completes, shown_anyhow, shown_nothing, printing_quiet, writing_held, print_failed, write_failed, one_read, demo_called, demo_read, demo_failed, usage_not_done, same_counts}
 use Rattle.command_stay.specs.Deeds.{stay_deeds}
 use Rattle.command_stay.specs.Stay.{IsStayed}
@@ -39,6 +40,7 @@ returns-in-Some-Generate g c =
     record {
       generated = λ a. c.generate.ensures.generated;
       stayed = λ x a done. absurd (let never : Stay x ≡ Generate = one_command words (Stay x) Generate a is in cc);
+      played = λ a. absurd (let never : Play ≡ Generate = one_command words Play Generate a is in cc);
       usage = (λ e. absurd (no_usage Generate words held s called e), λ u. absurd (u Generate is));
       unused = λ u. absurd (u Generate is);
       called = each_called words Generate is held s called;
@@ -76,6 +78,7 @@ returns-in-Some-Solve g c =
     record {
       generated = λ a done. absurd (let never : Generate ≡ Solve = one_command words Generate Solve a is in cc);
       stayed = λ x a done. absurd (let never : Stay x ≡ Solve = one_command words (Stay x) Solve a is in cc);
+      played = λ a. absurd (let never : Play ≡ Solve = one_command words Play Solve a is in cc);
       usage = (λ e. absurd (no_usage Solve words held s called e), λ u. absurd (u Solve is));
       unused = λ u. absurd (u Solve is);
       called = each_called words Solve is held s called;
@@ -113,6 +116,7 @@ returns-in-Some-Loop g c =
     record {
       generated = λ a done. absurd (let never : Generate ≡ Loop turns = one_command words Generate (Loop turns) a is in cc);
       stayed = λ x a done. absurd (let never : Stay x ≡ Loop turns = one_command words (Stay x) (Loop turns) a is in cc);
+      played = λ a. absurd (let never : Play ≡ Loop turns = one_command words Play (Loop turns) a is in cc);
       usage = (λ e. absurd (no_usage (Loop turns) words held s called e), λ u. absurd (u (Loop turns) is));
       unused = λ u. absurd (u (Loop turns) is);
       called = each_called words (Loop turns) is held s called;
@@ -150,6 +154,7 @@ returns-in-Some-Demo g c =
     record {
       generated = λ a done. absurd (let never : Generate ≡ Demo number = one_command words Generate (Demo number) a is in cc);
       stayed = λ x a done. absurd (let never : Stay x ≡ Demo number = one_command words (Stay x) (Demo number) a is in cc);
+      played = λ a. absurd (let never : Play ≡ Demo number = one_command words Play (Demo number) a is in cc);
       usage = (λ e. absurd (no_usage (Demo number) words held s called e), λ u. absurd (u (Demo number) is));
       unused = λ u. absurd (u (Demo number) is);
       called = each_called words (Demo number) is held s called;
@@ -185,6 +190,7 @@ returns-in-Some-List g c =
     record {
       generated = λ a done. absurd (let never : Generate ≡ List = one_command words Generate List a is in cc);
       stayed = λ x a done. absurd (let never : Stay x ≡ List = one_command words (Stay x) List a is in cc);
+      played = λ a. absurd (let never : Play ≡ List = one_command words Play List a is in cc);
       usage = (λ e. absurd (no_usage List words held s called e), λ u. absurd (u List is));
       unused = λ u. absurd (u List is);
       called = each_called words List is held s called;
@@ -220,6 +226,7 @@ returns-in-Some-Stay g c =
     let failed = write_failed (stay_deeds disturbed) words held s writes writes_now printed printed c.stay.ensures.write_fault in
     record {
       generated = λ a done. absurd (let never : Generate ≡ Stay disturbed = one_command words Generate (Stay disturbed) a is in cc);
+      played = λ a. absurd (let never : Play ≡ Stay disturbed = one_command words Play (Stay disturbed) a is in cc);
       stayed = λ x a. for_stay words disturbed is (λ d. s ≡ Done → IfSome held (λ files. IsSomeAnd (g.S.Store.held c.stay.new.store) (IsStayed d words files))) c.stay.ensures.stayed x a;
       usage = (λ e. absurd (no_usage (Stay disturbed) words held s called e), λ u. absurd (u (Stay disturbed) is));
       unused = λ u. absurd (u (Stay disturbed) is);
@@ -239,6 +246,43 @@ returns-in-Some-Stay g c =
       no_fewer = le_refl printed;
     }
 
+-- ---- `play`
+pub returns-in-Some-Play : goal.returns-in-Some-Play
+returns-in-Some-Play g c =
+    let words = c.args.words.now in
+    let held = g.S.Store.held c.args.store.now in
+    let reads = g.S.Store.read_faults c.args.store.now in
+    let reads_now = g.S.Store.read_faults c.play.new.store in
+    let writes = g.S.Store.write_faults c.args.store.now in
+    let writes_now = g.S.Store.write_faults c.play.new.store in
+    let printed = g.O.Sink.faults c.args.out.now in
+    let printed_now = g.O.Sink.faults c.play.new.out in
+    let s = c.play.result in
+    let is : IsPlay words = rw c.in-Some-Play.field-0-is at c.in-Some-Play.ensures in
+    let called = c.play.ensures.called in
+    let read = c.play.ensures.read_fault in
+    let failed = print_failed play_deeds words held s writes writes_now printed printed_now tt c.play.ensures.write_fault in
+    record {
+      generated = λ a done. absurd (let never : Generate ≡ Play = one_command words Generate Play a is in cc);
+      stayed = λ x a done. absurd (let never : Stay x ≡ Play = one_command words (Stay x) Play a is in cc);
+      played = λ a. c.play.ensures.as_solved;
+      usage = (λ e. absurd (no_usage Play words held s called e), λ u. absurd (u Play is));
+      unused = λ u. absurd (u Play is);
+      called = each_called words Play is held s called;
+      no_inner_memory = λ file. (no_text_memory Play words held s called file, no_controller_memory Play words held s called file);
+      complete = each_completes words Play is held s reads reads_now writes writes_now printed printed_now called read failed;
+      prints = each_shown words Play is held s (g.O.Sink.got c.args.out.now) (g.O.Sink.got c.play.new.out) c.play.ensures.prints;
+      quiet = each_quiet words Play is held s _ (printing_quiet play_deeds s _ tt c.play.ensures.quiet);
+      leaves = each_leaves words Play is held s (g.S.Store.held c.play.new.store) c.play.ensures.held;
+      held = λ d that unwritten. c.play.ensures.held;
+      no_file = each_unused words Play is held s _ (λ uses. absurd (uses.reads 1 (inl refl)));
+      read_fault = each_read words Play is held s reads reads_now read;
+      write_fault = each_failed words Play is held s writes writes_now printed printed_now failed;
+      reads = c.play.ensures.reads;
+      writes = c.play.ensures.writes;
+      no_fewer = c.play.ensures.no_fewer;
+    }
+
 -- ---- no command
 pub returns-in-None : goal.returns-in-None
 returns-in-None g c =
@@ -247,6 +291,7 @@ returns-in-None g c =
     record {
       generated = λ a done. usage_not_done _ done;
       stayed = λ x a done. usage_not_done _ done;
+      played = λ a. absurd (is Play a);
       usage = (λ e. is, λ u. refl);
       unused = λ u. (refl, refl);
       called = λ d that. absurd (is d that);

@@ -1,0 +1,78 @@
+use Rattle.std.proofs.Common.{◌≡◌, ◌⊎◌, ◌∙◌, ◌++◌, ◌<◌, inl, inr, length, List, ℕ, refl, sym, ap, subst, arith}
+use Rattle.mat_int.specs.Matrix.{row_of}
+use Rattle.mac_listing.specs.Listing.{Instructions}
+use Rattle.mac_machine.specs.Machine.{NeverTraps}
+use Rattle.command_line.specs.declared.status.Status.TheVariants.{Memory}
+use Rattle.command_play.specs.Plays.{HaveRoom, run_line, run_lines}
+use Rattle.command_play.specs.Printing.{TrapsIn, PlaysPrint}
+use Rattle.command_line.specs.declared.status.Status.TheVariants.{Done}
+use Rattle.command_play.proofs.RunLines.{room_more, print_cut, cut_prints, mapped, stop_ends, stop_prints, stop_some, all_print, told_ok, grown}
+use Rattle.command_play.proofs.lines.print_lines.Goals as goal
+
+pub returns-then-is_err-clause-printed : goal.returns-then-is_err-clause-printed
+returns-then-is_err-clause-printed g c =
+    let l = c.args.machine.now.listing in
+    let m = c.args.states.now in
+    let i = c.loop-i.i in
+    let first = g.O.Sink.got c.args.out.now in
+    let mid = g.O.Sink.got c.loop-i.out in
+    let last = g.O.Sink.got c.put.new.self in
+    let lt : i < length m.rows = omega arith in
+    let here = subst (λ (k : Instructions). NeverTraps k (row_of m i)) c.loop-i.invariant.listing c.in-Ok.ensures.room in
+    let line = c.deref.ensures.value ∙ c.in-Ok.ensures.line ∙ ap (λ (k : Instructions). run_line k (row_of m i)) c.loop-i.invariant.listing in
+    cut_prints l m first last
+    (print_cut c.put.result l m i c.deref.result.now first mid last (sym c.is_err.ensures.value ∙ c.if-is_err.true) c.put.ensures.err c.loop-i.invariant.got lt (room_more l m i c.loop-i.invariant.room here) line)
+
+pub returns-in-Err-clause-printed : goal.returns-in-Err-clause-printed
+returns-in-Err-clause-printed g c =
+    let l = c.args.machine.now.listing in
+    let m = c.args.states.now in
+    let i = c.loop-i.i in
+    let s = c.in-Err.status in
+    let lt : i < length m.rows = omega arith in
+    let why = subst (λ (k : Instructions). (s ≡ Memory) ⊎ TrapsIn k m i s) c.loop-i.invariant.listing c.in-Err.ensures.ends in
+    mapped (λ old new. PlaysPrint l m s old new) (λ old. old ++ run_lines l m i) (g.O.Sink.got c.args.out.now) (g.O.Sink.got c.loop-i.out) c.loop-i.invariant.got
+    (λ old. stop_prints l m i s old c.requires.inside lt c.loop-i.invariant.room why)
+
+pub returns-in-Err-clause-ends : goal.returns-in-Err-clause-ends
+returns-in-Err-clause-ends g c =
+    let m = c.args.states.now in
+    let i = c.loop-i.i in
+    let s = c.in-Err.status in
+    let lt : i < length m.rows = omega arith in
+    let why = subst (λ (k : Instructions). (s ≡ Memory) ⊎ TrapsIn k m i s) c.loop-i.invariant.listing c.in-Err.ensures.ends in
+    stop_ends c.args.machine.now.listing m i s c.requires.inside lt c.loop-i.invariant.room why
+
+pub returns-in-Err-clause-some : goal.returns-in-Err-clause-some
+returns-in-Err-clause-some g c = stop_some c.loop-i.machine.listing c.args.states.now c.loop-i.i c.in-Err.status c.in-Err.ensures.ends
+
+pub loop-i-preserved : goal.loop-i-preserved
+loop-i-preserved g c =
+    let l = c.args.machine.now.listing in
+    let m = c.args.states.now in
+    let i = c.loop-i.i in
+    let lt : i < length m.rows = omega arith in
+    let here = subst (λ (k : Instructions). NeverTraps k (row_of m i)) c.loop-i.invariant.listing c.in-Ok.ensures.room in
+    let line = c.deref.ensures.value ∙ c.in-Ok.ensures.line ∙ ap (λ (k : Instructions). run_line k (row_of m i)) c.loop-i.invariant.listing in
+    let put = told_ok c.put.result _ (sym c.is_err.ensures.value ∙ c.if-is_err.false) c.put.ensures.ok in
+    record {
+      listing = c.in-Ok.ensures.listing ∙ c.loop-i.invariant.listing;
+      got = grown l m i c.deref.result.now (g.O.Sink.got c.args.out.now) (g.O.Sink.got c.loop-i.out) (g.O.Sink.got c.put.new.self) lt line c.loop-i.invariant.got put;
+      room = room_more l m i c.loop-i.invariant.room here;
+      faults = omega (arith, c.loop-i.invariant.faults, c.put.ensures.no_fewer);
+    }
+
+pub returns-clause-ends : goal.returns-clause-ends
+returns-clause-ends g c =
+    let m = c.args.states.now in
+    let all : c.loop-i.i ≡ length m.rows = omega arith in
+    inr (inr (inr (c.requires.inside, inr (refl, subst (HaveRoom c.args.machine.now.listing m) all c.loop-i.invariant.room))))
+
+pub returns-clause-printed : goal.returns-clause-printed
+returns-clause-printed g c =
+    let l = c.args.machine.now.listing in
+    let m = c.args.states.now in
+    let i = c.loop-i.i in
+    let all : i ≡ length m.rows = omega arith in
+    mapped (λ old new. PlaysPrint l m Done old new) (λ old. old ++ run_lines l m i) (g.O.Sink.got c.args.out.now) (g.O.Sink.got c.loop-i.out) c.loop-i.invariant.got
+    (λ old. all_print l m i old all c.loop-i.invariant.room)

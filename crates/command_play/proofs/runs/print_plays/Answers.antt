@@ -1,0 +1,74 @@
+use Rattle.std.proofs.Common.{◌≡◌, ◌≢◌, ◌⊎◌, inl, inr, List, ℕ, length, Option, Some, None, refl, le_refl, subst, ap}
+use Rattle.std.specs.Prelude.{IfSome, IsSomeAnd}
+use Rattle.mat_int.specs.Matrix.{Matrix}
+use Rattle.mac_listing.specs.Listing.{Instructions}
+use Rattle.mac_machine.specs.Playing.{Playing}
+use Rattle.command_line.specs.declared.status.Status.{Status}
+use Rattle.command_line.specs.declared.status.Status.TheVariants.{Done, Memory, WriteFault}
+use Rattle.command_play.specs.Plays.{AreInBox, IsOutside}
+use Rattle.command_play.specs.Play.{TellsTrap}
+use Rattle.command_play.specs.Printing.{PlaysEnd, PlaysPrint}
+use Rattle.command_play.proofs.runs.print_plays.Goals as goal
+
+-- ---- nothing is printed
+silent : (l : Instructions) (m : Matrix) (s : Status) (got : Option (List ℕ)) → s ≢ Done → s ≢ WriteFault 0 → (TellsTrap s → ⊥) → IfSome got (λ old. IsSomeAnd got (PlaysPrint l m s old))
+silent l m s (Some old) done fault trap = record { done = λ is. absurd (done is); trap = λ told. absurd (trap told); fault = λ is. absurd (fault is); memory = λ is. inl refl; other = λ a b d e. refl }
+silent l m s None done fault trap = tt
+
+memory_no_trap : TellsTrap Memory → ⊥
+memory_no_trap told = let is = told.3 in cc
+
+module _ (l : Instructions) (m : Matrix) (s : Status) (out : IsOutside l m s) where
+  outside_not_done : s ≢ Done
+  outside_not_done is = let told = out.is in cc
+
+  outside_no_fault : s ≢ WriteFault 0
+  outside_no_fault is = let told = out.is in cc
+
+  outside_no_trap : TellsTrap s → ⊥
+  outside_no_trap trap = let told = out.is in let is = trap.3 in cc
+
+-- one of the four answers
+one_of_them : (s : Status) (A : Type 0) → (s ≡ Done) ⊎ ((s ≡ Memory) ⊎ ((s ≡ WriteFault 0) ⊎ TellsTrap s)) → s ≢ Done → s ≢ Memory → s ≢ WriteFault 0 → (TellsTrap s → ⊥) → A
+one_of_them s A (inl is) done memory fault trap = absurd (done is)
+one_of_them s A (inr (inl is)) done memory fault trap = absurd (memory is)
+one_of_them s A (inr (inr (inl is))) done memory fault trap = absurd (fault is)
+one_of_them s A (inr (inr (inr told))) done memory fault trap = absurd (trap told)
+
+pub returns-in_default : goal.returns-in_default
+returns-in_default g c = record {
+  ends = inl refl;
+  printed = silent c.args.listing.now c.args.states.now Memory (g.O.Sink.got c.args.out.now) (λ is. cc) (λ is. cc) memory_no_trap;
+  quiet = λ done memory fault trap. refl;
+  failed = λ is. absurd (let never : ⊥ = cc in never);
+  no_fewer = le_refl (g.O.Sink.faults c.args.out.now);
+}
+
+pub returns-in-Ok-all_inside : goal.returns-in-Ok-all_inside
+returns-in-Ok-all_inside g c =
+    let m = c.args.states.now in
+    let s = c.print_lines.result in
+    let own = ap (λ (p : Playing). p.listing) c.in-Ok.ensures in
+    let first = g.O.Sink.got c.args.out.now in
+    let last = g.O.Sink.got c.print_lines.new.out in
+    record {
+      ends = subst (λ (l : Instructions). PlaysEnd l m s) own c.print_lines.ensures.ends;
+      printed = subst (λ (l : Instructions). IfSome first (λ old. IsSomeAnd last (PlaysPrint l m s old))) own c.print_lines.ensures.printed;
+      quiet = λ done memory fault trap. one_of_them s _ c.print_lines.ensures.some done memory fault trap;
+      failed = c.print_lines.ensures.failed;
+      no_fewer = c.print_lines.ensures.no_fewer;
+    }
+
+pub returns : goal.returns
+returns g c =
+    let l = c.args.listing.now in
+    let m = c.args.states.now in
+    let s = c.in-Err.status in
+    let outside = subst (λ (k : Instructions). IsOutside k m s) (ap (λ (p : Playing). p.listing) c.in-Ok.ensures) c.in-Err.ensures.outside in
+    record {
+      ends = inr (inr (inl outside));
+      printed = silent l m s (g.O.Sink.got c.args.out.now) (outside_not_done l m s outside) (outside_no_fault l m s outside) (outside_no_trap l m s outside);
+      quiet = λ done memory fault trap. refl;
+      failed = λ is. absurd (outside_no_fault l m s outside is);
+      no_fewer = le_refl (g.O.Sink.faults c.args.out.now);
+    }

@@ -1,0 +1,57 @@
+-- What a listing with states is answered, and what the output gets, on the way.
+use Rattle.std.specs.Prelude.{◌≡◌, ◌≢◌, ◌⊎◌, ℕ, ◌+◌, ◌<◌, ◌≤◌, List, ◌++◌, length}
+use Rattle.io_edge.specs.Faults.{GrowsByPart}
+use Rattle.mat_int.specs.Matrix.{Matrix, row_of}
+use Rattle.mac_listing.specs.Listing.{Instructions}
+use Rattle.mac_machine.specs.Machine.{NeverTraps}
+use Rattle.mac_machine.specs.Traps.{Stops}
+use Rattle.mac_machine.specs.declared.stop.Stop.TheVariants as stops
+use Rattle.command_play.specs.Plays.{AreInBox, HaveRoom, IsTrapped, PlaysCall, run_lines}
+use Rattle.command_play.specs.Play.{TellsTrap}
+use Rattle.command_line.specs.declared.status.Status.{Status}
+use Rattle.command_line.specs.declared.status.Status.TheVariants.{Done, Memory, WriteFault, Trap}
+
+-- the run from the state of a record traps, and the status tells where
+pub record TrapsIn (l : Instructions) (states : Matrix) (index : ℕ) (s : Status) : Type 0 where
+  pub step : ℕ
+  pub place : ℕ
+  pub here : Stops l (row_of states index) (stops.Trap step place)
+  pub is : s ≡ Trap (index + 1) step place
+
+-- a line may be printed: there is a state, all lie in the box, and the first run has room
+pub record MayPrint (l : Instructions) (states : Matrix) : Type 0 where
+  pub inside : AreInBox l states (length states.rows)
+  pub some : 0 < length states.rows
+  pub room : NeverTraps l (row_of states 0)
+
+-- what a listing with states is answered: out of memory, or a line may be printed and a print failed, or what is called for
+abbrev pub PlaysEnd : Instructions → Matrix → Status → Type 0
+PlaysEnd l states s = (s ≡ Memory) ⊎ (((s ≡ WriteFault 0) × MayPrint l states) ⊎ PlaysCall l states s)
+
+-- ---- what the output gets
+-- the lines of the states before the one whose run traps
+pub record AreToTrap (l : Instructions) (states : Matrix) (s : Status) (old new : List ℕ) : Type 0 where
+  pub trapped : IsTrapped l states s
+  pub printed : new ≡ old ++ run_lines l states trapped.index
+
+-- a part of the lines of some first states that isn't all of it
+pub record ArePart (l : Instructions) (states : Matrix) (old new : List ℕ) : Type 0 where
+  pub count : ℕ
+  pub some : count ≤ length states.rows
+  pub room : HaveRoom l states count
+  pub printed : GrowsByPart old new (run_lines l states count)
+
+-- the lines of some first states
+pub record AreSome (l : Instructions) (states : Matrix) (old new : List ℕ) : Type 0 where
+  pub count : ℕ
+  pub some : count ≤ length states.rows
+  pub room : HaveRoom l states count
+  pub printed : new ≡ old ++ run_lines l states count
+
+-- by the answer
+pub record PlaysPrint (l : Instructions) (states : Matrix) (s : Status) (old new : List ℕ) : Type 0 where
+  pub done : s ≡ Done → HaveRoom l states (length states.rows) × (new ≡ old ++ run_lines l states (length states.rows))
+  pub trap : TellsTrap s → AreToTrap l states s old new
+  pub fault : s ≡ WriteFault 0 → ArePart l states old new
+  pub memory : s ≡ Memory → (new ≡ old) ⊎ (AreInBox l states (length states.rows) × AreSome l states old new)
+  pub other : s ≢ Done → (TellsTrap s → ⊥) → s ≢ WriteFault 0 → s ≢ Memory → new ≡ old

@@ -1,0 +1,155 @@
+// What `list` and `play` answer, leave and print of the first worked controller. The lines are those of the model of `checks/fuzz/program.py`.
+use crate::listing::LISTING;
+use std::alloc::{AllocError, Global};
+use std::test::Fail;
+use trials_harness::{Fails, NONE, ends_with, given, holds, solves, tells, told_by};
+use trials_memory_edge::MemStore;
+use trials_worked_designs::PLANS;
+
+// Further files: a name, and the listing with this part in that one's place.
+static FILES: [(&str, &str, &str); 6] = [
+    ("l", "mpc-listing 1", "mpc-listing 1"),
+    ("cut", "end\n", ""),
+    ("narrow", "word 26", "word 21"),
+    ("narrower", "word 26", "word 10"),
+    ("long", "addm 4", "addm 6"),
+    ("wide", "hi 1", "hi 3"),
+];
+
+// Arguments, and what they tell, with a comma for each line feed but the last.
+const ANSWERS: &str = "list c: error 2 usage
+list c c: error 2 usage
+play l: error 2 usage
+play l s s: error 2 usage
+list gone out: error 3 read-fault 1
+play gone s: error 3 read-fault 1
+play l gone: error 3 read-fault 2
+list c gone: error 4 write-fault 2
+play l d: error 5 text 2 number 1 1
+list l out: error 11 controller 1 line 1
+play l outside: error 12 outside-box 2 0 1
+play narrow outside: error 12 outside-box 2 0 1
+play c s: error 20 listing 1 1
+play cut s: error 20 listing 1 48
+play long s: error 20 listing 1 46
+play narrow s: error 21 trap 2 1 4,4096 0
+play narrower s: error 21 trap 1 1 13
+play wide outside: 4096 -2224,4096 -4582
+";
+
+// Holds the listing with a part in another's place.
+fn hold_changed(
+    alloc: Global,
+    store: &mut MemStore,
+    file: &(&str, &str, &str),
+) -> Result<(), AllocError> {
+    let changed = LISTING.replace(alloc, file.1, file.2)?;
+    store.hold(file.0, changed.as_bytes())
+}
+
+// The store that is given, with all these files besides.
+fn listed(alloc: Global) -> Result<MemStore, AllocError> {
+    let mut store = given(alloc)?;
+    for file in &FILES {
+        hold_changed(alloc, &mut store, file)?;
+    }
+    store.hold("outside", b"1\n2\n")?;
+    Ok(store)
+}
+
+// Whether `list` writes the listing, and `play` prints of it what `solve` prints of the controller.
+fn are_right(alloc: Global, store: &mut MemStore) -> Result<bool, AllocError> {
+    Ok(
+        tells(alloc, "list c out", store, "")?
+            && holds(alloc, store, "out", LISTING.as_bytes())?
+            && tells(alloc, "play out s", store, PLANS)?
+            && solves(alloc, store)?,
+    )
+}
+
+#[test]
+fn a_listing_is_written_and_played(rt: HostRuntime) -> Result<(), Fail> {
+    let mut store = listed(rt.alloc())?;
+    assert!(rt; are_right(rt.alloc(), &mut store)?);
+    Ok(())
+}
+
+// Whether a row's arguments tell what they are to.
+fn is_right(alloc: Global, store: &mut MemStore, row: &str) -> Result<bool, AllocError> {
+    let Some((arguments, answer)) = row.split_once(": ") else {
+        return Ok(false);
+    };
+    let told = told_by(alloc, answer)?;
+    tells(alloc, arguments, store, told.as_str())
+}
+
+// Whether this holds for each row, and after all of them the commands answer right over the same store.
+fn are_all_right(alloc: Global) -> Result<bool, AllocError> {
+    let mut store = listed(alloc)?;
+    for row in ANSWERS.lines() {
+        if !is_right(alloc, &mut store, row)? {
+            return Ok(false);
+        }
+    }
+    are_right(alloc, &mut store)
+}
+
+#[test]
+fn answers(rt: HostRuntime) -> Result<(), Fail> {
+    assert!(rt; are_all_right(rt.alloc())?);
+    Ok(())
+}
+
+// Whether a `list` whose write keeps so many bytes leaves this part of the listing, which `play` refuses at this line.
+fn is_cut(alloc: Global, keep: usize, line: &str) -> Result<bool, AllocError> {
+    let mut store = listed(alloc)?;
+    let fails = Fails {
+        write: 1,
+        keep,
+        ..NONE
+    };
+    Ok(
+        ends_with(
+            alloc,
+            "list c out",
+            &mut store,
+            &fails,
+            "error 4 write-fault 2\n",
+            "",
+        )? && holds(
+            alloc,
+            &mut store,
+            "out",
+            &LISTING.as_bytes()[..keep.min(LISTING.len())],
+        )? && tells(alloc, "play out s", &mut store, line)?,
+    )
+}
+
+#[test]
+fn a_failed_write_leaves_a_part(rt: HostRuntime) -> Result<(), Fail> {
+    assert!(rt; is_cut(rt.alloc(), 0, "error 20 listing 1 1\n")?);
+    assert!(rt; is_cut(rt.alloc(), 14, "error 20 listing 1 2\n")?);
+    assert!(rt; is_cut(rt.alloc(), 20, "error 20 listing 1 2\n")?);
+    Ok(())
+}
+
+// Whether a `play` whose print of that number fails has printed the lines before it.
+fn is_unprinted(alloc: Global, put: usize, printed: &str) -> Result<bool, AllocError> {
+    let mut store = listed(alloc)?;
+    let fails = Fails { put, ..NONE };
+    ends_with(
+        alloc,
+        "play l s",
+        &mut store,
+        &fails,
+        "error 4 write-fault 0\n",
+        printed,
+    )
+}
+
+#[test]
+fn a_failed_print_ends_the_lines(rt: HostRuntime) -> Result<(), Fail> {
+    assert!(rt; is_unprinted(rt.alloc(), 1, "")?);
+    assert!(rt; is_unprinted(rt.alloc(), 2, "4096 0\n")?);
+    Ok(())
+}
