@@ -4,26 +4,12 @@ ghost use Rattle.qp_model.specs.problem.Parts.{design_of};
 ghost use Rattle.qp_model.specs.problem.Policy.{plans_of, IsPolicyFor};
 ghost use Rattle.qp_model.specs.bounds.Printed.{printed};
 ghost use Rattle.command_line.specs.Answers.{IsAnswer};
-ghost use Rattle.command_controller.specs.Made.{MakingCalls, IsMadeOf, status_of};
+ghost use Rattle.command_controller.specs.Made.{MakingCalls, IsMadeOf};
 
 use command_line::Status;
-use design_engine::{Made, Refusal, generate};
+use design_engine::{Made, generate};
 use qp_model::{Design, Policy};
 use std::alloc::Global;
-
-// The status that tells of a refusal.
-fn refusal_status(refusal: Refusal) -> Status
-    ensures { result ≡ status_of refusal }
-{
-    match refusal {
-        Refusal::Memory => Status::Memory,
-        Refusal::NoMargin { corner, row, slack } => Status::NoMargin { corner, row, slack },
-        Refusal::Curvature => Status::Curvature,
-        Refusal::TooManySteps { k } => Status::TooManySteps { k },
-        Refusal::TooFine { eps } => Status::TooFine { eps },
-        Refusal::TooWide { quantity } => Status::TooWide { quantity },
-    }
-}
 
 /// The controller and the bounds of a design with a policy, or the status that tells why there are none.
 pub fn make_controller(alloc: Global, design: &Design, policy: &Policy) -> Result<Made, Status>
@@ -35,6 +21,6 @@ pub fn make_controller(alloc: Global, design: &Design, policy: &Policy) -> Resul
 {
     match generate(alloc, design, policy) {
         Ok(made) => Ok(made),
-        Err(refusal) => Err(refusal_status(refusal)),
+        Err(refusal) => Err(Status::from(refusal)),
     }
 }

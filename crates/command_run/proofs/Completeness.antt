@@ -5,7 +5,7 @@ use Rattle.command_line.specs.Words.{word_of}
 use Rattle.command_line.specs.Answers.{Contents, ForContents, IsAnswer, IsCaused}
 use Rattle.command_line.specs.Deeds.{Deeds, IsCalledFor, WriteFailed, NoneRises}
 use Rattle.command_line.specs.declared.status.Status.{Status}
-use Rattle.command_line.specs.declared.status.Status.TheVariants.{Done, Memory, Usage, ReadFault, WriteFault, Text, NoMargin, Curvature, TooManySteps, TooFine, TooWide, Controller, OutsideBox, Long, Mismatch}
+use Rattle.command_line.specs.declared.status.Status.TheVariants.{Done, Memory, Usage, ReadFault, WriteFault, Text, Refused, Controller, OutsideBox, Long, Mismatch}
 use Rattle.command_line.specs.declared.words.Command.{Command}
 use Rattle.command_line.specs.declared.words.Command.TheVariants.{Generate, Solve, Loop, Demo}
 use Rattle.command_run.specs.Table.{deeds_of}
@@ -24,11 +24,7 @@ kind (WriteFault file) = write file
 kind Done = caused Done (record { memory = λ e. cc; read = λ file e. cc; write = λ file e. cc })
 kind Usage = caused Usage (record { memory = λ e. cc; read = λ file e. cc; write = λ file e. cc })
 kind (Text file fault) = caused (Text file fault) (record { memory = λ e. cc; read = λ file e. cc; write = λ file e. cc })
-kind (NoMargin corner row slack) = caused (NoMargin corner row slack) (record { memory = λ e. cc; read = λ file e. cc; write = λ file e. cc })
-kind Curvature = caused Curvature (record { memory = λ e. cc; read = λ file e. cc; write = λ file e. cc })
-kind (TooManySteps k) = caused (TooManySteps k) (record { memory = λ e. cc; read = λ file e. cc; write = λ file e. cc })
-kind (TooFine eps) = caused (TooFine eps) (record { memory = λ e. cc; read = λ file e. cc; write = λ file e. cc })
-kind (TooWide quantity) = caused (TooWide quantity) (record { memory = λ e. cc; read = λ file e. cc; write = λ file e. cc })
+kind (Refused refusal) = caused (Refused refusal) (record { memory = λ e. cc; read = λ file e. cc; write = λ file e. cc })
 kind (Controller file fault) = caused (Controller file fault) (record { memory = λ e. cc; read = λ file e. cc; write = λ file e. cc })
 kind (OutsideBox entry turn coordinate) = caused (OutsideBox entry turn coordinate) (record { memory = λ e. cc; read = λ file e. cc; write = λ file e. cc })
 kind (Long file) = caused (Long file) (record { memory = λ e. cc; read = λ file e. cc; write = λ file e. cc })

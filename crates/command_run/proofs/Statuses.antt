@@ -12,13 +12,14 @@ use Rattle.number_text.specs.declared.text_fault.TextFault.{TextFault}
 use Rattle.number_text.specs.declared.text_fault.TextFault.TheVariants.{Memory as no_room}
 use Rattle.controller_file.specs.declared.bad_controller.BadController.{BadController}
 use Rattle.controller_file.specs.declared.bad_controller.BadController.TheVariants.{Line, Unsafe, Memory as no_space}
-use Rattle.design_engine.specs.declared.refusal.Refusal.{Refusal}
-use Rattle.design_engine.specs.declared.refusal.Refusal.TheVariants as refusals
+use Rattle.design_refusal.specs.declared.refusal.Refusal.{Refusal}
+use Rattle.design_refusal.specs.declared.refusal.Refusal.TheVariants as refusals
 use Rattle.command_line.specs.Limit.{file_limit}
+use Rattle.command_line.specs.Status.{status_of}
 use Rattle.command_line.specs.Answers.{Contents, ReadsThen, IsAnswer, ForContents, IsCaused}
 use Rattle.command_files.specs.Texts.{TellsFault, IsControllerFault, DesignRight, DesignWrong, PolicyRight, PolicyWrong, StatesRight, StatesWrong, ControllerRight, ControllerWrong}
 use Rattle.command_files.specs.Reading.{ReadsStates}
-use Rattle.command_controller.specs.Made.{MakingCalls, status_of}
+use Rattle.command_controller.specs.Made.{MakingCalls}
 use Rattle.command_generate.specs.Generate.{GenerateCalls}
 use Rattle.command_solve.specs.Inside.{RunsCall}
 use Rattle.command_solve.specs.Solve.{SolveCalls}

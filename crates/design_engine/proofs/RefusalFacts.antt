@@ -35,12 +35,16 @@ use Rattle.design_engine.specs.Aims.{steps_of, aim_of}
 use Rattle.design_engine.specs.Tests.{IsRefusedFor, PassesForm, IsFormWide, HasFormCause, PassesBits, IsAimWide, HasAimCause}
 use Rattle.controller_maker.specs.Widest.{width_size}
 use Rattle.controller_maker.specs.Fault.{IsWidthFault}
-use Rattle.design_engine.specs.Faults.{of_margin, of_condense, of_curvature, of_solve, of_width}
+use Rattle.exact_margin.specs.Refusing.{of_margin}
+use Rattle.condensed_form.specs.Refusing.{of_condense}
+use Rattle.hessian_check.specs.Refusing.{of_curvature}
+use Rattle.approx_inverse.specs.Refusing.{of_solve}
+use Rattle.controller_maker.specs.Refusing.{of_width}
 use Rattle.design_engine.specs.Refusals.{PassesMargin, PassesExponent, HasMultiplier, HasCause, IsRefused, IsTooWide}
 use Rattle.controller_maker.specs.declared.fault.WidthFault.{WidthFault}
 use Rattle.controller_maker.specs.declared.fault.WidthFault.TheVariants.{Memory as width_memory, TooWide as width_wide}
-use Rattle.design_engine.specs.declared.refusal.Refusal.{Refusal}
-use Rattle.design_engine.specs.declared.refusal.Refusal.TheVariants.{Memory, NoMargin, Curvature, TooManySteps, TooFine, TooWide}
+use Rattle.design_refusal.specs.declared.refusal.Refusal.{Refusal}
+use Rattle.design_refusal.specs.declared.refusal.Refusal.TheVariants.{Memory, NoMargin, Curvature, TooManySteps, TooFine, TooWide}
 use Rattle.design_engine.specs.declared.aimed.Aim.{Aim}
 
 -- the error that a fault becomes

@@ -9,7 +9,6 @@ pub mod Residuals
 pub mod Built
 pub mod Refusals
 pub mod Order
-pub mod Faults
 pub mod Agreement
 -- ---- what `controller_of` says, which is handed on
 pub use Rattle.controller_maker.specs.Widest

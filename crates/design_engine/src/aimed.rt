@@ -11,7 +11,7 @@ ghost use Rattle.design_engine.specs.Aims.{IsAim, IsScaledOf, IsAimedOf};
 ghost use Rattle.design_engine.specs.Tests.{PassesForm, HasFormCause, PassesAim, HasAimCause, IsRefusedFor};
 ghost use Rattle.design_engine.specs.Chosen.{IsChosenOf};
 
-use crate::refusal::Refusal;
+use design_refusal::Refusal;
 use crate::residuals::real_cost;
 use approx_inverse::solve_all;
 use bit_choice::{Choice, choose_bits};

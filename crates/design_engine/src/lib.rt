@@ -4,13 +4,11 @@
 mod aimed;
 mod generation;
 mod laws;
-mod refusal;
-mod refused;
 mod residuals;
 mod violations;
 
 pub use aimed::{Aim, Aimed, Scaled, controller_for, scaled_of};
 pub use controller_maker::{Settings, WidthFault, controller_of};
+pub use design_refusal::Refusal;
 pub use generation::{Made, gap_target, generate};
 pub use laws::{agreement_law, causes_law, certified_law, targets_law, threshold_law};
-pub use refusal::Refusal;

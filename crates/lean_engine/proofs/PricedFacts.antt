@@ -19,8 +19,8 @@ use Rattle.design_engine.specs.Aims.{IsMadeWith}
 use Rattle.design_engine.specs.Tests.{IsWide, IsRefusedFor, PassesAim, HasAimCause}
 use Rattle.design_engine.specs.Bounds.{stated_cost}
 use Rattle.design_engine.specs.Threshold.{AreThresholdBoundsOf}
-use Rattle.design_engine.specs.declared.refusal.Refusal.{Refusal}
-use Rattle.design_engine.specs.declared.refusal.Refusal.TheVariants.{TooWide}
+use Rattle.design_refusal.specs.declared.refusal.Refusal.{Refusal}
+use Rattle.design_refusal.specs.declared.refusal.Refusal.TheVariants.{TooWide}
 use Rattle.qp_model.specs.bounds.Printed.{printed}
 use Rattle.qp_model.specs.bounds.Choices.{lean_row_violation}
 use Rattle.qp_model.specs.problem.Runs.{Holds}
@@ -39,10 +39,6 @@ refused_map p q f e (inr h) = inr (f e h)
 
 -- ---- the excess and R
 module _ (d : Design) (t : Targets) (plans references : Plans) where
-  pub excess_caused : (units : ℕ) (e : Refusal) → IsRefusedFor (λ e. (e ≡ TooWide Excess) × IsWide (excess_size_at d plans references)) e →
-      IsRefusedFor (HasBoundCause d t plans references units) e
-  excess_caused units = refused_map _ _ (λ e h. inl h)
-
   pub multiplier_caused : (units : ℕ) (x : ℕ) (share : ℕ) (quantity : Quantity) → excess_size_at d plans references ≤ 2 ^ 126 → x ≡ excess_at d plans references →
       share ≡ floor_target t → (lean_multiplier_size units x share ≤ 2 ^ 126 → ⊥) → quantity ≡ Multiplier → (e : Refusal) → e ≡ TooWide quantity →
       IsRefusedFor (HasBoundCause d t plans references units) e

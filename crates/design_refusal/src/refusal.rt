@@ -1,9 +1,13 @@
+ghost use Rattle.std.specs.Prelude.{◌≡◌};
+ghost use Rattle.design_refusal.specs.declared.refusal.Refusal.TheVariants.{Memory as no_memory, TooWide as too_wide};
+
 use frac_scaled::Frac;
-use qp_model::Quantity;
+use qp_model::{Quantity, Wide};
+use std::alloc::AllocError;
 use thiserror::Error;
 
 /// Why a design with a policy has no controller.
-#[derive(Clone, Copy, Debug, Error)]
+#[derive(Clone, Copy, Debug, PartialEq, Eq, Error)]
 pub enum Refusal {
     #[error("memory")]
     Memory,
@@ -22,4 +26,20 @@ pub enum Refusal {
     /// The quantity is above `2^126`.
     #[error("too wide")]
     TooWide { quantity: Quantity },
+}
+
+impl From<AllocError> for Refusal {
+    ghost from_gives = { λ _ e. e ≡ no_memory };
+
+    fn from(_: AllocError) -> Self {
+        Refusal::Memory
+    }
+}
+
+impl From<Wide> for Refusal {
+    ghost from_gives = { λ fault e. e ≡ too_wide fault.0 };
+
+    fn from(fault: Wide) -> Self {
+        Refusal::TooWide { quantity: fault.0 }
+    }
 }
