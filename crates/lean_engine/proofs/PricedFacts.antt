@@ -39,10 +39,6 @@ refused_map p q f e (inr h) = inr (f e h)
 
 -- ---- the excess and R
 module _ (d : Design) (t : Targets) (plans references : Plans) where
-  pub excess_caused : (units : ℕ) (e : Refusal) → IsRefusedFor (λ e. (e ≡ TooWide Excess) × IsWide (excess_size_at d plans references)) e →
-      IsRefusedFor (HasBoundCause d t plans references units) e
-  excess_caused units = refused_map _ _ (λ e h. inl h)
-
   pub multiplier_caused : (units : ℕ) (x : ℕ) (share : ℕ) (quantity : Quantity) → excess_size_at d plans references ≤ 2 ^ 126 → x ≡ excess_at d plans references →
       share ≡ floor_target t → (lean_multiplier_size units x share ≤ 2 ^ 126 → ⊥) → quantity ≡ Multiplier → (e : Refusal) → e ≡ TooWide quantity →
       IsRefusedFor (HasBoundCause d t plans references units) e

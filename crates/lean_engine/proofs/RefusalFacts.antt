@@ -1,5 +1,5 @@
 -- A fault of a part has its cause as a refusal.
-use Rattle.std.proofs.Common.{◌≡◌, inl, inr, ◌⊎◌, ◌↔◌, ℕ, ◌^◌, ◌<◌, ◌≤◌, ℤ, pos, unsigned_abs, arith, ap, refl, subst, sym, ◌∙◌, Result, Ok, Err}
+use Rattle.std.proofs.Common.{◌≡◌, inl, inr, ◌⊎◌, ◌↔◌, ℕ, ◌^◌, ◌<◌, ◌≤◌, ℤ, pos, unsigned_abs, arith, ap, refl, subst, sym, ◌∙◌, rules, Result, Ok, Err}
 use Rattle.std.specs.Prelude.{IfErr, IfOk, OnOk, IsOk}
 use Rattle.frac_scaled.specs.declared.fraction.Frac.{Frac}
 use Rattle.qp_model.specs.form.Class.{form_of}
@@ -16,6 +16,7 @@ use Rattle.exact_margin.specs.Corners.{HasCornerRoom, IsFirstShort}
 use Rattle.exact_margin.specs.declared.fault.MarginFault.{MarginFault}
 use Rattle.exact_margin.specs.declared.fault.MarginFault.TheVariants.{Memory as margin_memory, TooWide as margin_wide, NoMargin as margin_none}
 use Rattle.plan_excess.specs.Fault.{IsFault}
+use Rattle.plan_excess.specs.Refusing.{of_excess}
 use Rattle.plan_excess.specs.declared.fault.ExcessFault.{ExcessFault}
 use Rattle.plan_excess.specs.declared.fault.ExcessFault.TheVariants.{Memory as excess_memory, TooWide as excess_wide}
 use Rattle.design_engine.specs.Targets.{Targets, floor_target}
@@ -79,12 +80,15 @@ module _ (d : Design) (t : Targets) (plans references : Plans) where
   form_caused m h (TooFine eps) (inr k) = absurd k
   form_caused m h (TooWide quantity) (inr k) = inr (wide_form m h quantity k)
 
-  -- ---- the excess and R
-  pub excess_refused : (fault : ExcessFault) → IsFault (excess_size_at d plans references) fault → (e : Refusal) →
-      ((fault ≡ excess_memory) → e ≡ Memory) → ((fault ≡ excess_wide Excess) → e ≡ TooWide Excess) →
-      IsRefusedFor (λ e. (e ≡ TooWide Excess) × IsWide (excess_size_at d plans references)) e
-  excess_refused fault (inl memory) e f g = inl (f memory)
-  excess_refused fault (inr wide) e f g = inr (g wide.0, wide.1)
+  -- ---- the excess
+  pub excess_refused : (units : ℕ) (fault : ExcessFault) → IsFault (excess_size_at d plans references) fault → (e : Refusal) → e ≡ of_excess fault →
+      IsRefusedFor (HasBoundCause d t plans references units) e
+  excess_refused units excess_memory h e f = inl f
+  excess_refused units (excess_wide quantity) (inl memory) e f = absurd (search rules)
+  excess_refused units (excess_wide quantity) (inr wide) e f = inr (inl (f ∙ named quantity wide.0, wide.1))
+    where
+      named : (quantity : Quantity) → excess_wide quantity ≡ excess_wide Excess → TooWide quantity ≡ TooWide Excess
+      named quantity e = ap of_excess e
 
   -- ---- the aim
   wide_aim : (m : Margin) (s : ℕ) → PassesBound d t plans references m s → (quantity : Quantity) → IsAimWide d (aim_at d t plans references m) s quantity →

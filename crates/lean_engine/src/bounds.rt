@@ -68,6 +68,7 @@ pub(crate) fn bounds_of(
     let r = bound.r;
     let parts = controller.parts();
     let rows = row_violations(alloc, &parts.exps, r, parts.steps, eps, threshold)?;
+    let violation = lean_row_violation(parts.s, r, parts.steps, eps, threshold);
     Ok(Bounds {
         version: parts.version,
         margin: bound.units,
@@ -79,7 +80,7 @@ pub(crate) fn bounds_of(
         bits: parts.f,
         width: parts.w,
         words: parts.words,
-        violation: lean_row_violation(parts.s, r, parts.steps, eps, threshold),
+        violation,
         rows,
         gap: eps,
         undercut: undercut(r, threshold),

@@ -1,28 +1,25 @@
 // From a design, a policy and reference plans to a lean controller and its bounds.
-ghost use Rattle.std.specs.Prelude.{◌≡◌, ◌⊎◌, ◌≤ℤ◌, ◌≤◌, ◌^◌, ℕ, pos, unsigned_abs, IfOk, IfErr, IsOk, OnOk, Err};
+ghost use Rattle.std.specs.Prelude.{◌≡◌, ◌⊎◌, ◌≤ℤ◌, ℕ, pos, unsigned_abs, IfOk, IfErr, IsOk, OnOk, Err};
 ghost use Rattle.qp_model.specs.problem.Parts.{IsDesign, design_of};
 ghost use Rattle.qp_model.specs.problem.Policy.{plans_of, IsPolicyFor};
 ghost use Rattle.qp_model.specs.bounds.Printed.{printed};
 ghost use Rattle.qp_model.specs.bounds.Certified.{IsCertified};
 ghost use Rattle.qp_model.specs.bounds.CornerClass.{IsMargin};
 ghost use Rattle.qp_model.specs.declared.bounds.Margin.{Margin};
-ghost use Rattle.qp_model.specs.declared.quantity.Quantity.TheVariants.{Excess};
-ghost use Rattle.condensed_form.specs.Form.{IsFormOf};
 ghost use Rattle.design_engine.specs.Targets.{targets_of, IsWithinTargets};
 ghost use Rattle.design_engine.specs.Aims.{IsScaledOf, IsAimedOf};
-ghost use Rattle.design_engine.specs.Tests.{IsWide, PassesAim, HasAimCause, IsRefusedFor};
+ghost use Rattle.design_engine.specs.Tests.{PassesAim, HasAimCause, IsRefusedFor};
 ghost use Rattle.design_engine.specs.Bounds.{stated_cost};
 ghost use Rattle.design_engine.specs.Refusals.{PassesMargin};
 ghost use Rattle.lean_engine.specs.Lean.{lean_aim, IsLean};
-ghost use Rattle.lean_engine.specs.Refusals.{HasCause, IsRefused, PassesAll, excess_at, excess_size_at};
+ghost use Rattle.lean_engine.specs.Refusals.{HasCause, IsRefused, PassesAll};
 ghost use Rattle.lean_engine.specs.Priced.{IsBoundOf, IsBound, HasBoundCause, IsLeanFor, IsPriced, HasPriceCause};
 
 use crate::bounds::{Bound, bounds_of};
 use crate::targets::{floor_target, rest_target, step_target, violation_target};
-use condensed_form::Condensed;
 use design_engine::{Aim, Aimed, Made, Refusal, Scaled, controller_for, gap_target, scaled_of};
 use dual_bounds::lean_multiplier;
-use plan_excess::{ExcessFault, excess};
+use plan_excess::excess;
 use qp_model::{Design, DesignParts, Margin, Policy};
 use slater_margin::margins;
 use std::alloc::Global;
@@ -39,29 +36,6 @@ fn margin_of(
     ensures refused { IfErr result (IsRefused (design_of design.now) (targets_of design.now) (plans_of policy.now) (plans_of reference.now)) }
 {
     Ok(margins(alloc, design, policy)?)
-}
-
-// X, which the reference plans show of the policy's.
-fn excess_by(
-    alloc: Global,
-    condensed: &Condensed,
-    design: &Design,
-    policy: &Policy,
-    reference: &Policy,
-) -> Result<i128, Refusal>
-    requires form { IsFormOf design.now condensed.now }
-    requires plans { IsPolicyFor (design_of design.now) (plans_of policy.now) }
-    requires references { IsPolicyFor (design_of design.now) (plans_of reference.now) }
-    ensures value { IfOk result (λ x. x ≡ pos (excess_at (design_of design.now) (plans_of policy.now) (plans_of reference.now))) }
-    ensures room { OnOk result (excess_size_at (design_of design.now) (plans_of policy.now) (plans_of reference.now) ≤ 2 ^ 126) }
-    ensures refused { IfErr result (IsRefusedFor (λ e.
-        (e ≡ Refusal.TooWide Excess) × IsWide (excess_size_at (design_of design.now) (plans_of policy.now) (plans_of reference.now)))) }
-{
-    match excess(alloc, condensed, design, policy, reference) {
-        Ok(x) => Ok(x),
-        Err(ExcessFault::Memory) => Err(Refusal::Memory),
-        Err(ExcessFault::TooWide { quantity }) => Err(Refusal::TooWide { quantity }),
-    }
 }
 
 // The tests of the excess and of R.
@@ -81,7 +55,7 @@ fn bound_by(
     ensures refused { IfErr result (IsRefusedFor
         (HasBoundCause (design_of design.now) (targets_of design.now) (plans_of policy.now) (plans_of reference.now) (unsigned_abs margin.units))) }
 {
-    let excess = excess_by(alloc, &scaled.condensed, design, policy, reference)?;
+    let excess = excess(alloc, &scaled.condensed, design, policy, reference)?;
     let r = lean_multiplier(margin.units, excess, floor_target(design.parts()))?;
     Ok(Bound {
         units: margin.units,

@@ -1,7 +1,9 @@
 ghost use Rattle.std.specs.Prelude.{◌≡◌};
 ghost use Rattle.plan_excess.specs.declared.fault.ExcessFault.TheVariants.{Memory as excess_memory, TooWide as excess_wide};
 ghost use Rattle.qp_model.specs.declared.quantity.Quantity.TheVariants.{Excess};
+ghost use Rattle.plan_excess.specs.Refusing.{of_excess};
 
+use design_refusal::Refusal;
 use qp_model::Quantity;
 use std::alloc::{AllocError, AllocFailed};
 use thiserror::Error;
@@ -29,6 +31,17 @@ impl<T: Drop> From<AllocFailed<T>> for ExcessFault {
 
     fn from(_: AllocFailed<T>) -> Self {
         ExcessFault::Memory
+    }
+}
+
+impl From<ExcessFault> for Refusal {
+    ghost from_gives = { λ fault e. e ≡ of_excess fault };
+
+    fn from(fault: ExcessFault) -> Self {
+        match fault {
+            ExcessFault::Memory => Refusal::Memory,
+            ExcessFault::TooWide { quantity } => Refusal::TooWide { quantity },
+        }
     }
 }
 

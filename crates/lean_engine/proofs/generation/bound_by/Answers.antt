@@ -7,14 +7,15 @@ use Rattle.qp_model.specs.problem.Parts.{design_of}
 use Rattle.qp_model.specs.problem.Policy.{plans_of}
 use Rattle.design_engine.specs.Targets.{targets_of, floor_target}
 use Rattle.design_engine.proofs.RefusalFacts.{refused_by}
-use Rattle.lean_engine.proofs.PricedFacts.{excess_caused, multiplier_caused, bound_with}
+use Rattle.lean_engine.proofs.PricedFacts.{multiplier_caused, bound_with}
+use Rattle.lean_engine.proofs.RefusalFacts.{excess_refused}
 use Rattle.lean_engine.proofs.generation.bound_by.Goals as goal
 
 pub returns-in_err-excess-clause-refused : goal.returns-in_err-excess-clause-refused
 returns-in_err-excess-clause-refused c =
     refused_by c.from_residual.result _ _ c.from_residual.ensures.1
-    (λ e f. rw f (excess_caused (design_of c.args.design.now) (targets_of c.args.design.now) (plans_of c.args.policy.now) (plans_of c.args.reference.now)
-    (unsigned_abs c.args.margin.units) _ c.in_err-excess.ensures.refused))
+    (excess_refused (design_of c.args.design.now) (targets_of c.args.design.now) (plans_of c.args.policy.now) (plans_of c.args.reference.now)
+    (unsigned_abs c.args.margin.units) _ c.in_err-excess.ensures.refused)
 
 pub returns-in_err-r-clause-refused : goal.returns-in_err-r-clause-refused
 returns-in_err-r-clause-refused c =
