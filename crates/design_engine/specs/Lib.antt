@@ -1,5 +1,8 @@
 pub mod Targets
 pub mod Bounds
+pub mod Aims
+pub mod Tests
+pub mod Chosen
 pub mod Promise
 pub mod Threshold
 pub mod Residuals

@@ -6,7 +6,7 @@ use Rattle.qp_model.specs.problem.Parts.{design_of}
 use Rattle.hessian_check.specs.RowExponents.{exponent_in}
 use Rattle.hessian_check.proofs.RowExponentLaws.{exponents_same}
 use Rattle.design_engine.proofs.AnswerLaws.{ok_map}
-use Rattle.design_engine.proofs.generation.row_exponents.Goals as goal
+use Rattle.design_engine.proofs.aimed.row_exponents.Goals as goal
 
 -- one exponent for all rows, told row by row
 repeated : (d : Design) (s n : ℕ) (es : List ℕ) → es ≡ replicate n s → n ≡ rows d → IsExponent d s → AreExponents d (exponent_in es) s
