@@ -1,7 +1,7 @@
 -- The exit status of each answer.
 use Rattle.std.specs.Prelude.{ℕ}
 use Rattle.command_line.specs.declared.status.Status.{Status}
-use Rattle.command_line.specs.declared.status.Status.TheVariants.{Done, Memory, Usage, ReadFault, WriteFault, Text, NoMargin, Curvature, TooManySteps, TooFine, TooWide, Controller, OutsideBox, Long, Mismatch}
+use Rattle.command_line.specs.declared.status.Status.TheVariants.{Done, Memory, Usage, ReadFault, WriteFault, Text, NoMargin, Curvature, TooManySteps, TooFine, TooWide, Controller, OutsideBox, Long, Mismatch, Unequal, NoStay}
 
 abbrev pub status_number : Status → ℕ
 status_number Done = 0
@@ -19,3 +19,5 @@ status_number (Controller file fault) = 11
 status_number (OutsideBox entry turn coordinate) = 12
 status_number (Long file) = 13
 status_number (Mismatch field design controller) = 14
+status_number (Unequal entry input left right) = 16
+status_number (NoStay entry bound) = 17

@@ -10,7 +10,7 @@ use Rattle.controller_file.specs.declared.bad_controller.BadController.{BadContr
 use Rattle.controller_file.specs.declared.bad_controller.BadController.TheVariants.{Line, Unsafe, Memory as NoSpace}
 use Rattle.command_line.specs.Status.{status_number}
 use Rattle.command_line.specs.declared.status.Status.{Status}
-use Rattle.command_line.specs.declared.status.Status.TheVariants.{Done, Memory, Usage, ReadFault, WriteFault, Text, NoMargin, Curvature, TooManySteps, TooFine, TooWide, Controller, OutsideBox, Long, Mismatch}
+use Rattle.command_line.specs.declared.status.Status.TheVariants.{Done, Memory, Usage, ReadFault, WriteFault, Text, NoMargin, Curvature, TooManySteps, TooFine, TooWide, Controller, OutsideBox, Long, Mismatch, Unequal, NoStay}
 use Rattle.command_line.specs.declared.status.Field.{Field}
 use Rattle.command_line.specs.declared.status.Field.TheVariants.{States, Inputs, Grid}
 
@@ -70,6 +70,8 @@ status_words (Controller file fault) = codes "controller" ∷ decimal file ∷ c
 status_words (OutsideBox entry turn coordinate) = codes "outside-box" ∷ decimal entry ∷ decimal turn ∷ decimal coordinate ∷ []
 status_words (Long file) = codes "long" ∷ decimal file ∷ []
 status_words (Mismatch field design controller) = codes "mismatch" ∷ field_name field ∷ signed_decimal design ∷ signed_decimal controller ∷ []
+status_words (Unequal entry input left right) = codes "unequal" ∷ decimal entry ∷ decimal input ∷ signed_decimal left ∷ signed_decimal right ∷ []
+status_words (NoStay entry bound) = codes "no-stay" ∷ decimal entry ∷ signed_decimal bound ∷ []
 
 -- `error`, the exit status, the name and the numbers, one space between two, and a line feed; nothing where all was done
 abbrev pub status_line : Status → List ℕ

@@ -1,5 +1,5 @@
 -- The words of a command line.
-use Rattle.std.specs.Prelude.{◌≡◌, ◌≢◌, ℕ, ◌≤◌, pos, List, [], ◌++◌, length, codes, slice_index_or}
+use Rattle.std.specs.Prelude.{◌≡◌, ◌≢◌, ℕ, ◌≤◌, ◌<◌, Bool, if◌then◌else◌, pos, List, [], ◌++◌, length, codes, slice_index_or}
 use Rattle.std.specs.Fmt.{signed_decimal}
 
 -- word i, counted from 0
@@ -20,6 +20,18 @@ pub record IsGenerate (words : List (List ℕ)) : Type 0 where
   pub report_design : word_of words 4 ≢ word_of words 1
   pub report_policy : word_of words 4 ≢ word_of words 2
   pub report_controller : word_of words 4 ≢ word_of words 3
+
+-- the name at a position stands at no other
+abbrev pub IsOwnName : List (List ℕ) → ℕ → Type 0
+IsOwnName words position = (i : ℕ) → 1 ≤ i → i < length words → i ≢ position → word_of words i ≢ word_of words position
+
+-- the words are `stay` and the names of a design file, a policy file, a controller file, a report file and a file of faces, and of one of disturbances where
+-- there are any; the third and the fourth are no other's
+pub record IsStay (words : List (List ℕ)) (disturbed : Bool) : Type 0 where
+  pub count : length words ≡ (if disturbed then 7 else 6)
+  pub command : word_of words 0 ≡ codes "stay"
+  pub controller : IsOwnName words 3
+  pub report : IsOwnName words 4
 
 -- a name that asks for another form of the report
 abbrev pub IsJson : List ℕ → Type 0

@@ -145,6 +145,13 @@ fn status_words(alloc: Global, status: &Status) -> Result<String, AllocError>
             design,
             controller,
         } => mismatch_words(alloc, field, *design, *controller),
+        Status::Unequal {
+            entry,
+            input,
+            left,
+            right,
+        } => format!(in alloc; "unequal {entry} {input} {left} {right}"),
+        Status::NoStay { entry, bound } => format!(in alloc; "no-stay {entry} {bound}"),
     }
 }
 

@@ -82,6 +82,18 @@ pub enum Status {
         design: i128,
         controller: i128,
     },
+    /// Of that input the first rows have by the weights of that record of the faces `left`, and its coordinate `right`; it is the first.
+    Unequal {
+        entry: u32,
+        input: u32,
+        left: i128,
+        right: i128,
+    },
+    /// That record of the faces lets its coordinate go as far as to `bound` over `2^grid`, which is beyond its face; it is the first.
+    NoStay {
+        entry: u32,
+        bound: i128,
+    },
 }
 
 impl From<AllocError> for Status {
@@ -112,5 +124,7 @@ pub fn status_number(status: &Status) -> u8
         Status::OutsideBox { .. } => 12,
         Status::Long { .. } => 13,
         Status::Mismatch { .. } => 14,
+        Status::Unequal { .. } => 16,
+        Status::NoStay { .. } => 17,
     }
 }

@@ -1,6 +1,6 @@
 // Which command the arguments are.
-ghost use Rattle.std.specs.Prelude.{ℕ, IsTrue, MatchOption, ◌↔◌, ◌≢◌};
-ghost use Rattle.command_line.specs.Words.{word_of, IsSolve, IsGenerate, IsLoop, IsDemo, IsJson, IsCount};
+ghost use Rattle.std.specs.Prelude.{ℕ, ◌<◌, Bool, IsTrue, MatchOption, length, ◌↔◌, ◌≢◌};
+ghost use Rattle.command_line.specs.Words.{word_of, IsSolve, IsGenerate, IsLoop, IsDemo, IsStay, IsOwnName, IsJson, IsCount};
 ghost use Rattle.command_line.specs.Commands.{IsUsage, AreOf, OneCommandLaw};
 
 use io_edge::Words;
@@ -13,6 +13,8 @@ pub enum Command {
     Solve,
     Loop { turns: u32 },
     Demo { number: u32 },
+    /// With a file of disturbances, or without.
+    Stay { disturbed: bool },
 }
 
 /// The most turns of a `loop`.
@@ -36,6 +38,9 @@ pub fn command_of(words: &Words) -> Option<Command>
     }
     if let Some(number) = number_of(words) {
         return Some(Command::Demo { number });
+    }
+    if let Some(disturbed) = disturbed_of(words) {
+        return Some(Command::Stay { disturbed });
     }
     None
 }
@@ -82,6 +87,34 @@ fn number_of(words: &Words) -> Option<u32>
         return None;
     }
     count_of(words.at(1), GREATEST_NUMBER)
+}
+
+// Whether a `stay` has a file of disturbances; none where the arguments are those of no `stay`.
+fn disturbed_of(words: &Words) -> Option<bool>
+    ensures { MatchOption result ((disturbed : Bool) → ¬ IsStay words.now disturbed) (λ disturbed. IsStay words.now disturbed) }
+{
+    let count = words.count();
+    if count < 6 || count > 7 || words.at(0) != "stay" {
+        return None;
+    }
+    if is_own_name(words, 3) && is_own_name(words, 4) {
+        Some(count == 7)
+    } else {
+        None
+    }
+}
+
+// Whether the name at a position stands at no other.
+fn is_own_name(words: &Words, position: usize) -> bool
+    requires { position < length words.now }
+    ensures { IsTrue result ↔ IsOwnName words.now position }
+{
+    for i in 1..words.count() {
+        if i != position && words.at(i) == words.at(position) {
+            return false;
+        }
+    }
+    true
 }
 
 // The number from 0 to `most` that a word is in decimal; none where it is no such number.

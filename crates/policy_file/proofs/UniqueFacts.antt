@@ -76,7 +76,7 @@ unfolding IsFunctional
 same_numbers rule count fields zs ws f h k = ext_get_or (pos 0) zs ws (h.numbers ∙ sym k.numbers)
     (λ i l. let m : i < count = omega (arith, h.numbers) in f i (field_of fields i) (at zs i) (at ws i) (h.each i m) (k.each i m))
 
-wrong_or_right : (rule : RecordRule) (count e : ℕ) (fields : List (List ℕ)) (zs : List ℤ) (fault : TextFault) → IsRecordFault rule count e fields fault → HoldsNumbers rule count fields zs → ⊥
+pub wrong_or_right : (rule : RecordRule) (count e : ℕ) (fields : List (List ℕ)) (zs : List ℤ) (fault : TextFault) → IsRecordFault rule count e fields fault → HoldsNumbers rule count fields zs → ⊥
 wrong_or_right rule count e fields zs (Fields entry) f h = f.1 h.width
 wrong_or_right rule count e fields zs (Number entry field) f h = f.2.here (at zs (field - 1)) (h.each (field - 1) (omega (arith, f.2.low, f.2.high)))
 wrong_or_right rule count e fields zs NotToml f h = f
@@ -92,7 +92,7 @@ first_below rule count f g fields h k = elim (cases_lt g f) [
   | inr l ↦ l
 ]
 
-same_record_fault : (rule : RecordRule) (count e : ℕ) (fields : List (List ℕ)) (f g : TextFault) → IsRecordFault rule count e fields f → IsRecordFault rule count e fields g → f ≡ g
+pub same_record_fault : (rule : RecordRule) (count e : ℕ) (fields : List (List ℕ)) (f g : TextFault) → IsRecordFault rule count e fields f → IsRecordFault rule count e fields g → f ≡ g
 same_record_fault rule count e fields (Fields a) (Fields b) h k = ap Fields (h.0 ∙ sym k.0)
 same_record_fault rule count e fields (Fields a) (Number b j) h k = absurd (h.1 k.1)
 same_record_fault rule count e fields (Fields a) _ h k = absurd k
