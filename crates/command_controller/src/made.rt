@@ -11,8 +11,8 @@ use design_engine::{Made, Refusal, generate};
 use qp_model::{Design, Policy};
 use std::alloc::Global;
 
-// The status that tells of a refusal.
-fn refusal_status(refusal: Refusal) -> Status
+/// The status that tells of a refusal.
+pub fn refusal_status(refusal: Refusal) -> Status
     ensures { result ≡ status_of refusal }
 {
     match refusal {
