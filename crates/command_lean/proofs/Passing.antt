@@ -1,5 +1,5 @@
 -- A design with a policy and reference plans that is refused for no reason passes every test.
-use Rattle.std.proofs.Common.{◌≡◌, inl, inr, ℕ, ◌^◌, ◌<◌, ◌≤◌, ap, subst, unsigned_abs}
+use Rattle.std.proofs.Common.{inl, inr, ℕ, ◌^◌, ◌<◌, ◌≤◌, ap, subst, unsigned_abs}
 use Rattle.std.proofs.lemmas.Bool.{cases_lt}
 use Rattle.qp_model.specs.form.Class.{form_of, prediction_quantity, hessian_quantity, rows_quantity, curvature_quantity}
 use Rattle.qp_model.specs.problem.Design.{Design}
