@@ -3,4 +3,4 @@
 
 mod made;
 
-pub use made::make_controller;
+pub use made::{make_controller, refusal_status};

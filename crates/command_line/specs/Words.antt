@@ -44,6 +44,14 @@ pub record IsPlay (words : List (List ℕ)) : Type 0 where
   pub count : length words ≡ 3
   pub command : word_of words 0 ≡ codes "play"
 
+-- the words are `lean` and the names of a design file, a policy file, a file of reference plans, a controller file and a report file; neither of the last two
+-- is another's
+pub record IsLean (words : List (List ℕ)) : Type 0 where
+  pub count : length words ≡ 6
+  pub command : word_of words 0 ≡ codes "lean"
+  pub controller : IsOwnName words 4
+  pub report : IsOwnName words 5
+
 -- a name that asks for another form of the report
 abbrev pub IsJson : List ℕ → Type 0
 IsJson name = (stem : List ℕ) × (name ≡ stem ++ codes ".json")

@@ -1,5 +1,5 @@
 -- The rows of a form that is held.
-use Rattle.std.proofs.Common.{◌≡◌, ◌↔◌, ℕ, ◌^◌, ◌<◌, ◌≤◌, max, inr, unsigned_abs, ◌+◌, ◌++◌, [], ◌∷◌, List, get_or, below_more, length, Result, Ok, Err, Option, Some, None, IfOk, OnOk, IfErr, IfSome, IsSome, arith, refl, subst, sym, ap, ◌∙◌}
+use Rattle.std.proofs.Common.{◌≡◌, ◌↔◌, ℕ, ◌^◌, ◌<◌, ◌≤◌, max, inr, unsigned_abs, ◌+◌, ◌++◌, [], ◌∷◌, List, get_or, below_more, Result, Ok, Err, Option, Some, None, IfOk, OnOk, IfErr, IfSome, IsSome, arith, refl, subst, sym, ap, ◌∙◌}
 use Rattle.std.proofs.lemmas.Result.{IfOk-weaker}
 use Rattle.std.proofs.lemmas.List.{length_push, get_or_push, get_or_append_left}
 use Rattle.qp_model.specs.declared.design_parts.DesignParts.{DesignParts}

@@ -1,6 +1,5 @@
 -- Rows of enclosures give the gradient of a form, and no radius is negative.
-use Rattle.std.proofs.Common.{◌≡◌, ℕ, ◌*◌, ◌^◌, ◌<◌, ◌≤◌, max, ℤ, pos, neg_ℤ, ◌*ℤ◌, ◌≤ℤ◌, unsigned_abs, length, arith, refl, subst, sym}
-use Rattle.std.proofs.lemmas.Int.{ints}
+use Rattle.std.proofs.Common.{◌≡◌, ℕ, ◌^◌, ◌<◌, ◌≤◌, max, ℤ, pos, neg_ℤ, ◌*ℤ◌, ◌≤ℤ◌, unsigned_abs, length, refl, subst, sym}
 use Rattle.std.proofs.lemmas.Nat.{pow_pos}
 use Rattle.integer_algebra.proofs.OrderLaws.{add_nonneg_z, mul_nonneg_z}
 use Rattle.integer_algebra.proofs.BoundLaws.{absolute_nonneg}

@@ -1,5 +1,5 @@
 -- The excess of a policy, corner by corner.
-use Rattle.std.proofs.Common.{◌≡◌, ℕ, suc, ◌+◌, ◌^◌, ◌<◌, ◌≤◌, max, ℤ, pos, negsuc, ◌≤ℤ◌, unsigned_abs, arith, refl, sym, ◌∙◌}
+use Rattle.std.proofs.Common.{◌≡◌, ℕ, suc, ◌+◌, ◌^◌, ◌<◌, ◌≤◌, max, ℤ, pos, negsuc, ◌≤ℤ◌, unsigned_abs, arith, sym, ◌∙◌}
 use Rattle.std.specs.Int.{int_max}
 use Rattle.std.proofs.lemmas.Int.{ints, clamps}
 use Rattle.integer_algebra.specs.Sums.{at}
@@ -7,11 +7,10 @@ use Rattle.qp_model.specs.declared.design_parts.DesignParts.{DesignParts}
 use Rattle.qp_model.specs.problem.Design.{Design, entries}
 use Rattle.qp_model.specs.problem.Box.{corner}
 use Rattle.qp_model.specs.problem.Parts.{design_of}
-use Rattle.qp_model.specs.problem.Policy.{Plans, corner_denominator, corner_plan}
+use Rattle.qp_model.specs.problem.Policy.{Plans}
 use Rattle.qp_model.specs.form.Form.{Form}
 use Rattle.qp_model.specs.form.Class.{form_of}
-use Rattle.qp_model.specs.form.FineSizes.{is_fine}
-use Rattle.qp_model.specs.form.Quantities.{greatest, input_floor}
+use Rattle.qp_model.specs.form.Quantities.{greatest}
 use Rattle.qp_model.specs.bounds.Excess.{corner_excess, excess_at, excess_size_at, at_least_none, excess_of, excess_size, number_size}
 use Rattle.qp_model.proofs.SizeFacts.{greatest_more, greatest_term}
 use Rattle.condensed_form.specs.declared.condensed.Condensed.{Condensed}

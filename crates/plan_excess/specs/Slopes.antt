@@ -1,9 +1,8 @@
 -- A corner with its plan and its reference plan, and what an entry of these adds.
-use Rattle.std.specs.Prelude.{◌≡◌, ℕ, suc, ◌*◌, ◌^◌, ◌<◌, ◌≤◌, max, List, length, ℤ, pos, ◌≤ℤ◌, ◌*ℤ◌, ◌+ℤ◌, neg_ℤ, unsigned_abs}
+use Rattle.std.specs.Prelude.{◌≡◌, ℕ, suc, ◌*◌, ◌^◌, ◌<◌, ◌≤◌, max, List, length, ℤ, pos, ◌≤ℤ◌, ◌+ℤ◌, unsigned_abs}
 use Rattle.integer_algebra.specs.Sums.{at, total, square}
 use Rattle.integer_algebra.specs.Sizes.{amount}
-use Rattle.integer_algebra.specs.Division.{ceil_of}
-use Rattle.frac_scaled.specs.Enclosures.{Enclosure, magnitude, enclosed, sum_of, product_of}
+use Rattle.frac_scaled.specs.Enclosures.{Enclosure, magnitude}
 use Rattle.qp_model.specs.problem.Design.{Design, entries}
 use Rattle.qp_model.specs.problem.Box.{corner}
 use Rattle.qp_model.specs.problem.Policy.{Plans, corner_denominator, corner_plan}

@@ -50,12 +50,14 @@ pub(crate) fn corner_of<'a>(
 {
     let state = state_of(alloc, parts, c)?;
     let grid = scaled(1, parts.grid);
+    let plan = policy.plans.row(c);
+    let goal = reference.plans.row(c);
     Ok(Corner {
         state,
         grid,
-        plan: policy.plans.row(c),
+        plan,
         over: policy.dens[c],
-        reference: reference.plans.row(c),
+        reference: goal,
         under: reference.dens[c],
     })
 }

@@ -73,7 +73,8 @@ fn excess_at(
     requires references { IsPolicyFor (design_of design.now) (plans_of reference.now) }
     requires rows { AreRows (design_of design.now) (held condensed.now) (entries (design_of design.now)) rows.now }
     requires corner { number < 2 ^ (design_of design.now).states }
-    ensures value { IfOk result (λ x. x ≡ corner_excess (design_of design.now) (held condensed.now) (plans_of policy.now) (plans_of reference.now) (suc number)) }
+    ensures value { IfOk result (λ x. x ≡
+        corner_excess (design_of design.now) (held condensed.now) (plans_of policy.now) (plans_of reference.now) (suc number)) }
     ensures room { OnOk result (corner_size (design_of design.now) (held condensed.now) (plans_of policy.now) (plans_of reference.now) number ≤ 2 ^ 126) }
     ensures refused { IfErr result (IsFault
         (corner_size (design_of design.now) (held condensed.now) (plans_of policy.now) (plans_of reference.now) number)) }

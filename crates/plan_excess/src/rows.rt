@@ -112,7 +112,8 @@ pub(crate) fn rows_of(alloc: Global, c: &Condensed) -> Result<Vec<Row>, ExcessFa
     requires { (p : DesignParts) × IsFormOf p c.now }
     ensures value { (p : DesignParts) → IsFormOf p c.now → IfOk result (λ v. AreRows (design_of p) (held c.now) (entries (design_of p)) v.items) }
     ensures room { (p : DesignParts) → IsFormOf p c.now → OnOk result (AreNear (design_of p) (held c.now) (entries (design_of p))) }
-    ensures refused { (p : DesignParts) → IsFormOf p c.now → IfErr result (IsFault (greatest (entries (design_of p)) (number_size (design_of p) (held c.now)))) }
+    ensures refused { (p : DesignParts) → IsFormOf p c.now →
+        IfErr result (IsFault (greatest (entries (design_of p)) (number_size (design_of p) (held c.now)))) }
 {
     let mut rows = Vec::new(alloc);
     for j in 0..c.hess.rows() {

@@ -61,10 +61,9 @@ fn step(corner: &Corner, j: usize) -> Option<Enc>
     ensures room { IsSome result ↔ (sum_reach (enclosed (at corner.now.plan.now j) (unsigned_abs corner.now.over))
         (enclosed (neg_ℤ (at corner.now.reference.now j)) (unsigned_abs corner.now.under)) ≤ 2 ^ 126) }
 {
-    add(
-        fraction(corner.plan[j], corner.over),
-        fraction(-corner.reference[j], corner.under),
-    )
+    let plan = fraction(corner.plan[j], corner.over);
+    let reference = fraction(-corner.reference[j], corner.under);
+    add(plan, reference)
 }
 
 // The absolute value of an enclosure at most, over `2^24` and rounded up.

@@ -62,6 +62,8 @@ impl Sums {
     {
         let pull = limited_product(weight_den.unsigned_abs(), self.squares)?;
         let over = scaled(input_floor, 34);
-        Some(ceil_div(self.rise, 1 << 25) + ceil_div(pull as i128, over))
+        let above_reference = ceil_div(self.rise, 1 << 25);
+        let above_best = ceil_div(pull as i128, over);
+        Some(above_reference + above_best)
     }
 }

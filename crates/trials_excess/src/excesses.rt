@@ -24,6 +24,42 @@ box = { grid = 0, lo = [0], hi = [1] }
 targets = { den = 1, violation = 16, gap = 16 }
 ";
 
+// The same, whose state neither grows nor shrinks.
+const FINE_STILL: &str = "version = 1
+states = 1
+inputs = 1
+stages = 2
+plant = { den = 1048576, a = [[1048576]], b = [[1048576]] }
+cost = { den = 1, row_den = 1, input = [1], stage = [[1, 0, 1]], final = [] }
+limits = { den = 131072, stage = [[0, 131072, 131072], [0, -131072, 131072]], final = [[131072, 32768]] }
+box = { grid = 0, lo = [0], hi = [1] }
+targets = { den = 1, violation = 16, gap = 16 }
+";
+
+// A state that stays 0, and an input that is to be far above what costs nothing.
+const FORCED: &str = "version = 1
+states = 1
+inputs = 1
+stages = 1
+plant = { den = 1, a = [[0]], b = [[0]] }
+cost = { den = 1, row_den = 1, input = [1], stage = [], final = [] }
+limits = { den = 10, stage = [[0, -10, -39]], final = [] }
+box = { grid = 0, lo = [0], hi = [0] }
+targets = { den = 1, violation = 16, gap = 1 }
+";
+
+// The motor of the examples.
+const MOTOR: &str = "version = 1
+states = 2
+inputs = 1
+stages = 4
+plant = { den = 64, a = [[64, 19], [0, 56]], b = [[26], [31]] }
+cost = { den = 4096, row_den = 1, input = [2054], stage = [[11, -7, 0, 50]], final = [] }
+limits = { den = 2, stage = [[0, 0, 1, 14], [0, 0, -1, 14]], final = [] }
+box = { grid = 6, lo = [-512, -1152], hi = [512, 1152] }
+targets = { den = 1, violation = 1, gap = 40 }
+";
+
 // The first worked design with an input before its own, which weighs 100 and moves nothing.
 const WEIGHED: &str = "version = 1
 states = 1
@@ -41,6 +77,18 @@ const PLANS: &[u8] = b"1,0\n8,-7\n";
 const FINE_PLANS: &[u8] = b"1,0,0\n8,-7,0\n";
 
 const WEIGHED_PLANS: &[u8] = b"1,0,0\n8,0,-7\n";
+
+const FORCED_PLANS: &[u8] = b"100,391\n100,391\n";
+
+const MOTOR_PLANS: &[u8] = b"1,6,6,6,3\n1,-4,2,3,1\n1,4,-2,-3,-1\n1,-6,-6,-6,-3\n";
+
+const MOTOR_REFERENCES: &[u8] = b"1,16,10,5,1\n1,-4,2,3,1\n1,4,-2,-3,-1\n1,-16,-10,-5,-1\n";
+
+// Plans near the best feasible ones, and what is best without limits in shorter fractions.
+const MOTOR_NEAR_BEST: &[u8] =
+    b"128,1791,1402,650,166\n128,-469,261,329,125\n128,469,-261,-329,-125\n128,-1791,-1402,-650,-166\n";
+
+const MOTOR_BEST: &[u8] = b"4,64,39,18,5\n1,-4,2,3,1\n1,4,-2,-3,-1\n4,-64,-39,-18,-5\n";
 
 // Whether this is the excess of a policy by reference plans, or why there is none; an error where memory ran out, so that it is taken for no answer.
 fn is_excess_of(
@@ -91,7 +139,7 @@ fn is_excess(
 }
 
 // A design, its plans, reference plans and the excess that they show.
-static EXCESSES: [(&str, &[u8], &[u8], i128); 7] = [
+static EXCESSES: [(&str, &[u8], &[u8], i128); 11] = [
     // The best plans, and worse ones.
     (DESIGN, PLANS, b"1,0\n2,-1\n", 18432),
     (DESIGN, PLANS, b"1,0\n1,-1\n", 51200),
@@ -100,7 +148,11 @@ static EXCESSES: [(&str, &[u8], &[u8], i128); 7] = [
     // The policy itself: its own gradient alone is counted.
     (DESIGN, PLANS, PLANS, 36864),
     (FINE, FINE_PLANS, b"1,0,0\n5,-3,-1\n", 12904),
+    (FINE_STILL, FINE_PLANS, b"1,0,0\n5,-3,-1\n", 12903),
     (WEIGHED, WEIGHED_PLANS, b"1,0,0\n1,0,-1\n", 51200),
+    (FORCED, FORCED_PLANS, b"1,0\n1,0\n", 1001921),
+    (MOTOR, MOTOR_PLANS, MOTOR_REFERENCES, 12303145),
+    (MOTOR, MOTOR_NEAR_BEST, MOTOR_BEST, 253167),
 ];
 
 #[test]
@@ -116,6 +168,14 @@ fn excesses(rt: HostRuntime) -> Result<(), Fail> {
 fn too_wide(rt: HostRuntime) -> Result<(), Fail> {
     let quantity = Quantity::Excess;
     let want = Err(ExcessFault::TooWide { quantity });
-    assert!(rt; is_excess(rt.alloc(), DESIGN, PLANS, b"1,0\n1,-999999999999999\n", &want)?);
+    assert!(rt;
+        is_excess(
+            rt.alloc(),
+            DESIGN,
+            PLANS,
+            b"1,0\n1,-999999999999999\n",
+            &want
+        )?
+    );
     Ok(())
 }

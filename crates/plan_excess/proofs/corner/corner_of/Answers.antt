@@ -13,11 +13,11 @@ use Rattle.plan_excess.proofs.corner.corner_of.Goals as goal
 pub scaled-grid-requires-clause-fits : goal.scaled-grid-requires-clause-fits
 scaled-grid-requires-clause-fits c = grid_fits c.args.parts.now.grid c.requires.design.grid
 
-pub row-requires : goal.row-requires
-row-requires c = rw c.requires.plans.rows c.requires.corner
+pub row-plan-requires : goal.row-plan-requires
+row-plan-requires c = rw c.requires.plans.rows c.requires.corner
 
-pub row-requires-2 : goal.row-requires-2
-row-requires-2 c = rw c.requires.references.rows c.requires.corner
+pub row-goal-requires : goal.row-goal-requires
+row-goal-requires c = rw c.requires.references.rows c.requires.corner
 
 pub returns : goal.returns
 returns c =
@@ -33,10 +33,10 @@ returns c =
     record {
       state = c.in_ok-state.ensures;
       grid = to_z-of_z w128 c.scaled-grid.result fg ∙ grid;
-      plan = plan_made d p c.requires.plans c.args.c c.requires.corner c.row.result.now _ c.row.ensures.value c.row.ensures.len (to_z-of_z w128 c.index.result.now fq ∙ over);
-      reference = plan_made d r c.requires.references c.args.c c.requires.corner c.row-2.result.now _ c.row-2.ensures.value c.row-2.ensures.len (to_z-of_z w128 c.index-2.result.now fo ∙ under);
-      plan_is = plan_at d p c.requires.plans c.args.c c.requires.corner c.row.result.now c.row.ensures.value;
+      plan = plan_made d p c.requires.plans c.args.c c.requires.corner c.row-plan.result.now _ c.row-plan.ensures.value c.row-plan.ensures.len (to_z-of_z w128 c.index.result.now fq ∙ over);
+      reference = plan_made d r c.requires.references c.args.c c.requires.corner c.row-goal.result.now _ c.row-goal.ensures.value c.row-goal.ensures.len (to_z-of_z w128 c.index-2.result.now fo ∙ under);
+      plan_is = plan_at d p c.requires.plans c.args.c c.requires.corner c.row-plan.result.now c.row-plan.ensures.value;
       over_is = over_at d p c.requires.plans c.args.c c.requires.corner _ (to_z-of_z w128 c.index.result.now fq ∙ over);
-      reference_is = plan_at d r c.requires.references c.args.c c.requires.corner c.row-2.result.now c.row-2.ensures.value;
+      reference_is = plan_at d r c.requires.references c.args.c c.requires.corner c.row-goal.result.now c.row-goal.ensures.value;
       under_is = over_at d r c.requires.references c.args.c c.requires.corner _ (to_z-of_z w128 c.index-2.result.now fo ∙ under);
     }

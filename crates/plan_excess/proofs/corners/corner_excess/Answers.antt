@@ -1,4 +1,4 @@
-use Rattle.std.proofs.Common.{◌^◌, ◌∙◌, ap, refl, FitsSigned, rules}
+use Rattle.std.proofs.Common.{◌^◌, refl}
 use Rattle.std.specs.Int.{w128}
 use Rattle.std.proofs.lemmas.Int.{to_z-of_z}
 use Rattle.plan_excess.specs.Slopes.{excess_by}

@@ -4,7 +4,7 @@ use Rattle.std.proofs.lemmas.Int.{to_z-of_z}
 use Rattle.qp_model.specs.problem.Parts.{design_of}
 use Rattle.qp_model.specs.problem.Policy.{plans_of}
 use Rattle.condensed_form.specs.Form.{held}
-use Rattle.plan_excess.specs.Slopes.{IsCornerOf, HasWeights}
+use Rattle.plan_excess.specs.Slopes.{IsCornerOf}
 use Rattle.plan_excess.proofs.CornerFacts.{plans_held, rows_fit}
 use Rattle.plan_excess.proofs.RoomFacts.{beyond}
 use Rattle.plan_excess.proofs.WholeFacts.{corner_is, corner_size_is, weights_held, weight_some, floor_some, floor_short}

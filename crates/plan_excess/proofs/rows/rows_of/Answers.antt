@@ -1,4 +1,4 @@
-use Rattle.std.proofs.Common.{◌<◌, arith, refl}
+use Rattle.std.proofs.Common.{◌<◌, arith}
 use Rattle.qp_model.specs.problem.Design.{entries}
 use Rattle.qp_model.specs.problem.Parts.{design_of}
 use Rattle.qp_model.specs.bounds.Excess.{number_size}

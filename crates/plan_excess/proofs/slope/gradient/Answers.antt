@@ -56,5 +56,6 @@ returns-clause-room c =
         half = sum_long of_plan of_state (pair c.in_ok-of_plan.of_plan) (pair c.in_ok-of_state.of_state) plan state c.in_ok-of_plan.of_plan.nonnegative c.in_ok-of_state.of_state.nonnegative (c.in_ok-add.ensures.room.0 refl);
         whole = sum_long (sum_of of_plan of_state) (pair row.constant) (pair c.in_ok-add.field-0) (pair row.constant) half refl c.in_ok-add.field-0.nonnegative row.constant.nonnegative (c.add-2.ensures.room.0 s);
       }),
-      λ h. c.add-2.ensures.room.1 (sum_short (sum_of of_plan of_state) (pair row.constant) (pair c.in_ok-add.field-0) (pair row.constant) half refl (gradient_room row c.args.state.now c.args.plan.now (unsigned_abs c.args.grid) (unsigned_abs c.args.over) h).whole),
+      λ h. c.add-2.ensures.room.1 (sum_short (sum_of of_plan of_state) (pair row.constant) (pair c.in_ok-add.field-0) (pair row.constant) half refl
+          (gradient_room row c.args.state.now c.args.plan.now (unsigned_abs c.args.grid) (unsigned_abs c.args.over) h).whole),
     )

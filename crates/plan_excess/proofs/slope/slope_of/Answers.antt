@@ -25,7 +25,8 @@ returns-in_err-there-clause-room c = λ d h is grid.
     let g : FitsSigned w128 c.args.corner.now.grid = search rules in
     let o : FitsSigned w128 c.args.corner.now.under = search rules in
     none_of c.from_residual-in_err-there.result _ c.from_residual-in_err-there.ensures
-    (λ s. let no = c.in_err-there.ensures.room.1 (entry_short d h k c.args.j row is grid k.reference.now k.under c.deref-2.result.now _ _ c.deref-2.ensures.value (to_z-of_z w128 _ g) (to_z-of_z w128 _ o) (slope_room d h k c.args.j s).reference) in cc)
+    (λ s. let no = c.in_err-there.ensures.room.1 (entry_short d h k c.args.j row is grid k.reference.now k.under c.deref-2.result.now _ _ c.deref-2.ensures.value
+    (to_z-of_z w128 _ g) (to_z-of_z w128 _ o) (slope_room d h k c.args.j s).reference) in cc)
 
 pub returns-in_err-both-clause-room : goal.returns-in_err-both-clause-room
 returns-in_err-both-clause-room c = λ d h is grid.

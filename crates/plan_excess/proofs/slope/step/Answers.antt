@@ -16,13 +16,13 @@ opposite z h = omega (arith, ints, h)
 pub bounds-corner-j-2 : goal.bounds-corner-j-2
 bounds-corner-j-2 c = rw c.requires.plans.reference.long c.requires.entry
 
-pub fraction-requires-clause-small : goal.fraction-requires-clause-small
-fraction-requires-clause-small c =
+pub fraction-plan-requires-clause-small : goal.fraction-plan-requires-clause-small
+fraction-plan-requires-clause-small c =
     let x : FitsSigned w128 (at c.args.corner.now.plan.now c.args.j) = search rules in
     rw (to_z-of_z w128 _ x) (c.requires.plans.plan.small c.args.j c.requires.entry)
 
-pub fraction-requires-clause-divisor : goal.fraction-requires-clause-divisor
-fraction-requires-clause-divisor c =
+pub fraction-plan-requires-clause-divisor : goal.fraction-plan-requires-clause-divisor
+fraction-plan-requires-clause-divisor c =
     let q : FitsSigned w128 c.args.corner.now.over = search rules in
     rw (to_z-of_z w128 _ q) c.requires.plans.plan.positive
 
@@ -31,15 +31,15 @@ overflow_sub-corner c =
     let x : FitsSigned w128 (at c.args.corner.now.reference.now c.args.j) = search rules in
     rw (to_z-of_z w128 _ x) (negative (at c.args.corner.now.reference.now c.args.j) (c.requires.plans.reference.small c.args.j c.requires.entry))
 
-pub fraction-requires-2-clause-small : goal.fraction-requires-2-clause-small
-fraction-requires-2-clause-small c =
+pub fraction-reference-requires-clause-small : goal.fraction-reference-requires-clause-small
+fraction-reference-requires-clause-small c =
     let w = at c.args.corner.now.reference.now c.args.j in
     let small = c.requires.plans.reference.small c.args.j c.requires.entry in
     let x : FitsSigned w128 (at c.args.corner.now.reference.now c.args.j) = search rules in
     rw (to_z-of_z w128 _ x, to_z-of_z w128 _ (negative w small)) (opposite w small)
 
-pub fraction-requires-2-clause-divisor : goal.fraction-requires-2-clause-divisor
-fraction-requires-2-clause-divisor c =
+pub fraction-reference-requires-clause-divisor : goal.fraction-reference-requires-clause-divisor
+fraction-reference-requires-clause-divisor c =
     let o : FitsSigned w128 c.args.corner.now.under = search rules in
     rw (to_z-of_z w128 _ o) c.requires.plans.reference.positive
 
@@ -52,8 +52,8 @@ returns-clause-value c =
     let x : FitsSigned w128 (at c.args.corner.now.reference.now c.args.j) = search rules in
     let q : FitsSigned w128 c.args.corner.now.over = search rules in
     let o : FitsSigned w128 c.args.corner.now.under = search rules in
-    let plan = rw (to_z-of_z w128 _ u, to_z-of_z w128 _ q) at c.fraction.ensures in
-    let reference = rw (to_z-of_z w128 _ x, to_z-of_z w128 _ (negative w small), to_z-of_z w128 _ o) at c.fraction-2.ensures in
+    let plan = rw (to_z-of_z w128 _ u, to_z-of_z w128 _ q) at c.fraction-plan.ensures in
+    let reference = rw (to_z-of_z w128 _ x, to_z-of_z w128 _ (negative w small), to_z-of_z w128 _ o) at c.fraction-reference.ensures in
     some_same c.add.result _ _ (ap₂ (λ (a b : Enclosure). sum_of a b) plan (reference ∙ ap (λ (z : ℤ). enclosed z (unsigned_abs k.under)) (negated w))) c.add.ensures.value
 
 pub returns-clause-room : goal.returns-clause-room
@@ -65,9 +65,9 @@ returns-clause-room c =
     let x : FitsSigned w128 (at c.args.corner.now.reference.now c.args.j) = search rules in
     let q : FitsSigned w128 c.args.corner.now.over = search rules in
     let o : FitsSigned w128 c.args.corner.now.under = search rules in
-    let plan = rw (to_z-of_z w128 _ u, to_z-of_z w128 _ q) at c.fraction.ensures in
-    let reference = rw (to_z-of_z w128 _ x, to_z-of_z w128 _ (negative w small), to_z-of_z w128 _ o) at c.fraction-2.ensures in
+    let plan = rw (to_z-of_z w128 _ u, to_z-of_z w128 _ q) at c.fraction-plan.ensures in
+    let reference = rw (to_z-of_z w128 _ x, to_z-of_z w128 _ (negative w small), to_z-of_z w128 _ o) at c.fraction-reference.ensures in
     let opposed = reference ∙ ap (λ (z : ℤ). enclosed z (unsigned_abs k.under)) (negated w) in (
-      λ s. sum_long _ _ _ _ plan opposed c.fraction.result.nonnegative c.fraction-2.result.nonnegative (c.add.ensures.room.0 s),
+      λ s. sum_long _ _ _ _ plan opposed c.fraction-plan.result.nonnegative c.fraction-reference.result.nonnegative (c.add.ensures.room.0 s),
       λ h. c.add.ensures.room.1 (sum_short _ _ _ _ plan opposed h),
     )
