@@ -57,8 +57,10 @@ all d t plans m s f none exponent before =
     let width = within (2 ^ 126) (width_of d (aim_of t m) s f) (λ lt. none (TooWide quantity.Width) (m, s, exponent, (f, before, (descent, lt)))) in
     record { before = exponent; aim = record { before = before; descent = descent; width = width } }
 
-pub built_passes : (p : DesignParts) (plans : Plans) (c : Numbers) (b : Printed) → NoCause (design_of p) (targets_of p) plans → IsBuilt p plans c b → Passes p plans
-built_passes p plans c b none built =
+-- it passes with its own margin, step exponent and bits
+pub own_passes : (p : DesignParts) (plans : Plans) (c : Numbers) (b : Printed) → NoCause (design_of p) (targets_of p) plans → IsBuilt p plans c b →
+    PassesAll (design_of p) (targets_of p) plans (margin_of b) c.step_exponent c.fraction_bits
+own_passes p plans c b none built =
     let d = design_of p in
     let t = targets_of p in
     let m = margin_of b in
@@ -67,4 +69,7 @@ built_passes p plans c b none built =
     let exponent : PassesExponent d t plans m s = record { before = sizes d t plans m none (margin p plans c b none built); exponent = built.made.exponent } in
     let error = within (2 ^ 126) (error_size d (form_of d) (multiplier_of m)) (λ lt. none (TooWide quantity.Error) (m, s, exponent, (few, lt))) in
     let bits : PassesBits d (aim_of t m) s c.fraction_bits = record { steps = few; error = error; choice = built.made.bits } in
-    record { margin = m; exponent = s; bits = c.fraction_bits; all = all d t plans m s c.fraction_bits none exponent bits }
+    all d t plans m s c.fraction_bits none exponent bits
+
+pub built_passes : (p : DesignParts) (plans : Plans) (c : Numbers) (b : Printed) → NoCause (design_of p) (targets_of p) plans → IsBuilt p plans c b → Passes p plans
+built_passes p plans c b none built = record { margin = margin_of b; exponent = c.step_exponent; bits = c.fraction_bits; all = own_passes p plans c b none built }

@@ -5,9 +5,9 @@ use Rattle.command_line.specs.Words.{word_of}
 use Rattle.command_line.specs.Answers.{Contents, ForContents, IsAnswer, IsCaused}
 use Rattle.command_line.specs.Deeds.{Deeds, IsCalledFor, WriteFailed, NoneRises}
 use Rattle.command_line.specs.declared.status.Status.{Status}
-use Rattle.command_line.specs.declared.status.Status.TheVariants.{Done, Memory, Usage, ReadFault, WriteFault, Text, NoMargin, Curvature, TooManySteps, TooFine, TooWide, Controller, OutsideBox, Long, Mismatch}
+use Rattle.command_line.specs.declared.status.Status.TheVariants.{Done, Memory, Usage, ReadFault, WriteFault, Text, NoMargin, Curvature, TooManySteps, TooFine, TooWide, Controller, OutsideBox, Long, Mismatch, Unequal, NoStay}
 use Rattle.command_line.specs.declared.words.Command.{Command}
-use Rattle.command_line.specs.declared.words.Command.TheVariants.{Generate, Solve, Loop, Demo}
+use Rattle.command_line.specs.declared.words.Command.TheVariants.{Generate, Solve, Loop, Demo, Stay}
 use Rattle.command_run.specs.Table.{deeds_of}
 
 -- ---- what an answer is
@@ -33,6 +33,8 @@ kind (Controller file fault) = caused (Controller file fault) (record { memory =
 kind (OutsideBox entry turn coordinate) = caused (OutsideBox entry turn coordinate) (record { memory = λ e. cc; read = λ file e. cc; write = λ file e. cc })
 kind (Long file) = caused (Long file) (record { memory = λ e. cc; read = λ file e. cc; write = λ file e. cc })
 kind (Mismatch field design controller) = caused (Mismatch field design controller) (record { memory = λ e. cc; read = λ file e. cc; write = λ file e. cc })
+kind (Unequal entry input left right) = caused (Unequal entry input left right) (record { memory = λ e. cc; read = λ file e. cc; write = λ file e. cc })
+kind (NoStay entry bound) = caused (NoStay entry bound) (record { memory = λ e. cc; read = λ file e. cc; write = λ file e. cc })
 
 -- ---- what is read
 -- a file that is read is one of those that the command reads
@@ -45,6 +47,10 @@ reached_read (Loop turns) contents file (inl first) = inl first
 reached_read (Loop turns) contents file (inr (inl second)) = inr (inl second.0)
 reached_read (Loop turns) contents file (inr (inr third)) = inr (inr third.0)
 reached_read (Demo number) contents file never = never
+reached_read (Stay disturbed) contents file (inl first) = inl first
+reached_read (Stay disturbed) contents file (inr (inl second)) = inr (inl second.0)
+reached_read (Stay disturbed) contents file (inr (inr (inl fifth))) = inr (inr (inl fifth.0))
+reached_read (Stay disturbed) contents file (inr (inr (inr sixth))) = inr (inr (inr (sixth.0, sixth.1)))
 
 -- ---- it doesn't give up
 module _ (deeds : Deeds) (reads : (contents : Contents) (file : ℕ) → deeds.reaches contents file → deeds.reads file) (words : List (List ℕ)) (held : Option Files) (result : Status)

@@ -1,13 +1,14 @@
 // The arguments, the files and the output.
-ghost use Rattle.std.specs.Prelude.{◌≡◌, ◌≢◌, ◌⊎◌, ◌↔◌, ℕ, ◌≤◌, IfSome, IsSomeAnd};
+ghost use Rattle.std.specs.Prelude.{◌≡◌, ◌≢◌, ◌⊎◌, ◌↔◌, ℕ, ◌≤◌, Bool, IfSome, IsSomeAnd};
 ghost use Rattle.io_edge.specs.Faults.{Rose, NoneFalls};
 ghost use Rattle.number_text.specs.declared.text_fault.TextFault.TheVariants.{Memory as no_room};
 ghost use Rattle.controller_file.specs.declared.bad_controller.BadController.TheVariants.{Memory as no_space};
-ghost use Rattle.command_line.specs.Words.{word_of, IsGenerate};
+ghost use Rattle.command_line.specs.Words.{word_of, IsGenerate, IsStay};
 ghost use Rattle.command_line.specs.Commands.{AreOf, IsUsage};
 ghost use Rattle.command_line.specs.Answers.{ForContents, IsAnswer, IsCaused};
 ghost use Rattle.command_line.specs.Deeds.{IsCalledFor, UsesNoFile, IsUnwritten, IsUnprinted, WriteFailed, NoneRises};
 ghost use Rattle.command_generate.specs.Generate.{IsGenerated};
+ghost use Rattle.command_stay.specs.Stay.{IsStayed};
 ghost use Rattle.command_run.specs.Table.{deeds_of};
 
 use command_demo::demo;
@@ -15,6 +16,7 @@ use command_generate::generate;
 use command_line::{Command, Status, command_of};
 use command_loop::run_loops;
 use command_solve::solve;
+use command_stay::stay;
 use io_edge::{Sink, Store, Words};
 use std::alloc::Global;
 
@@ -23,7 +25,9 @@ use std::alloc::Global;
 /// `generate`, a design file, a policy file, a controller file and a report file: makes a controller of the design, and writes its text and the
 /// report of its bounds, as JSON where the report's name ends in `.json`. `solve`, a controller file and a states file: prints a line for each state,
 /// the averaged plan of the controller from it. `loop`, a design file, a controller file, a states file and a number of turns: prints a line for each
-/// turn of the closed loop from each state. `demo` and a number: prints the report and four plans of a made design.
+/// turn of the closed loop from each state. `demo` and a number: prints the report and four plans of a made design. `stay`, the files of `generate`, a
+/// file of faces of the box, and one of a range of disturbances or none: does what `generate` does, where the faces show that the closed loop stays in
+/// the box.
 pub fn run<S: Store, O: Sink>(alloc: Global, words: &Words, store: &mut S, out: &mut O) -> Status
     // Where `generate` answers `Done`, the controller's file holds the text of one controller and the report's file the report of its bounds, both
     // built of the design and the policy in the files. Run from any grid state of the box, the controller keeps every product and partial sum
@@ -31,6 +35,10 @@ pub fn run<S: Store, O: Sink>(alloc: Global, words: &Words, store: &mut S, out: 
     // costs at most the printed gap more than any feasible plan, and some feasible plan costs at most the printed undercut more than it.
     // The printed violation and gap are at most the design's targets.
     ensures generated { IsGenerate words.now → result ≡ Status.Done → IfSome (S.held store.old) (λ files. IsSomeAnd (S.held store.new) (IsGenerated words.now files)) }
+    // So it does where `stay` answers `Done`, and the closed loop from any grid state of the box stays in the box for every number of turns, under every list
+    // of disturbances within the range in the sixth file, and without disturbances where there is no such file.
+    ensures stayed { (disturbed : Bool) → IsStay words.now disturbed → result ≡ Status.Done
+        → IfSome (S.held store.old) (λ files. IsSomeAnd (S.held store.new) (IsStayed disturbed words.now files)) }
 
     // `Usage` is the answer exactly where the arguments are those of no command, and then nothing is used.
     ensures usage { (result ≡ Status.Usage) ↔ IsUsage words.now }
@@ -76,6 +84,7 @@ pub fn run<S: Store, O: Sink>(alloc: Global, words: &Words, store: &mut S, out: 
         Some(Command::Solve) => solve(alloc, words, store, out),
         Some(Command::Loop { turns }) => run_loops(alloc, words, turns, store, out),
         Some(Command::Demo { number }) => demo(alloc, number, out),
+        Some(Command::Stay { disturbed }) => stay(alloc, words, disturbed, store),
         None => Status::Usage,
     }
 }

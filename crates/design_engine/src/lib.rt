@@ -14,3 +14,4 @@ pub use controller_maker::{Settings, WidthFault, controller_of};
 pub use generation::{Made, gap_target, generate};
 pub use laws::{agreement_law, causes_law, certified_law, targets_law, threshold_law};
 pub use refusal::Refusal;
+pub use violations::row_violations;

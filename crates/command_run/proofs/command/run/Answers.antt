@@ -1,16 +1,24 @@
-use Rattle.std.proofs.Common.{◌≡◌, inl, refl, le_refl}
-use Rattle.command_line.specs.Words.{IsGenerate, IsSolve, IsLoop, IsDemo}
+use Rattle.std.proofs.Common.{◌≡◌, inl, ℕ, Bool, List, refl, le_refl, subst}
+use Rattle.std.specs.Prelude.{IfSome, IsSomeAnd}
+use Rattle.command_line.specs.Words.{IsGenerate, IsSolve, IsLoop, IsDemo, IsStay}
 use Rattle.command_line.specs.Commands.{IsUsage}
 use Rattle.command_line.proofs.OneCommand.{one_command}
-use Rattle.command_line.specs.declared.words.Command.TheVariants.{Generate, Solve, Loop, Demo}
+use Rattle.command_line.specs.declared.status.Status.TheVariants.{Done}
+use Rattle.command_line.specs.declared.words.Command.TheVariants.{Generate, Solve, Loop, Demo, Stay}
 use Rattle.command_generate.specs.Deeds.{generate_deeds}
 use Rattle.command_solve.specs.Deeds.{solve_deeds}
 use Rattle.command_loop.specs.Deeds.{loop_deeds}
 use Rattle.command_demo.specs.Demo.{DemoPrints}
 use Rattle.command_demo.specs.Deeds.{demo_deeds}
+use Rattle.command_stay.specs.Deeds.{stay_deeds}
+use Rattle.command_stay.specs.Stay.{IsStayed}
 use Rattle.command_run.proofs.Commands.{each_called, each_shown, each_quiet, each_leaves, each_held, each_unused, each_read, each_failed, each_completes, shown_anyhow, shown_nothing, printing_quiet, writing_held, print_failed, write_failed, demo_called, demo_read, demo_failed, usage_not_done, same_counts}
 use Rattle.command_run.proofs.Statuses.{no_usage, no_text_memory, no_controller_memory}
 use Rattle.command_run.proofs.command.run.Goals as goal
+
+-- what holds of a `stay` that the arguments are those of holds of each
+for_stay : (words : List (List ℕ)) (one : Bool) → IsStay words one → (P : Bool → Type 0) → P one → (other : Bool) → IsStay words other → P other
+for_stay words one is P h other that = subst P (let same : Stay one ≡ Stay other = one_command words (Stay one) (Stay other) is that in cc) h
 
 -- ---- `generate`
 pub returns-in-Some-Generate : goal.returns-in-Some-Generate
@@ -29,6 +37,7 @@ returns-in-Some-Generate g c =
     let failed = write_failed generate_deeds words held s writes writes_now printed printed c.generate.ensures.write_fault in
     record {
       generated = λ a. c.generate.ensures.generated;
+      stayed = λ x a done. absurd (let never : Stay x ≡ Generate = one_command words (Stay x) Generate a is in cc);
       usage = (λ e. absurd (no_usage Generate words held s called e), λ u. absurd (u Generate is));
       unused = λ u. absurd (u Generate is);
       called = each_called words Generate is held s called;
@@ -65,6 +74,7 @@ returns-in-Some-Solve g c =
     let failed = print_failed solve_deeds words held s writes writes_now printed printed_now tt c.solve.ensures.write_fault in
     record {
       generated = λ a done. absurd (let never : Generate ≡ Solve = one_command words Generate Solve a is in cc);
+      stayed = λ x a done. absurd (let never : Stay x ≡ Solve = one_command words (Stay x) Solve a is in cc);
       usage = (λ e. absurd (no_usage Solve words held s called e), λ u. absurd (u Solve is));
       unused = λ u. absurd (u Solve is);
       called = each_called words Solve is held s called;
@@ -101,6 +111,7 @@ returns-in-Some-Loop g c =
     let failed = print_failed (loop_deeds turns) words held s writes writes_now printed printed_now tt c.run_loops.ensures.write_fault in
     record {
       generated = λ a done. absurd (let never : Generate ≡ Loop turns = one_command words Generate (Loop turns) a is in cc);
+      stayed = λ x a done. absurd (let never : Stay x ≡ Loop turns = one_command words (Stay x) (Loop turns) a is in cc);
       usage = (λ e. absurd (no_usage (Loop turns) words held s called e), λ u. absurd (u (Loop turns) is));
       unused = λ u. absurd (u (Loop turns) is);
       called = each_called words (Loop turns) is held s called;
@@ -137,6 +148,7 @@ returns-in-Some-Demo g c =
     let failed = print_failed (demo_deeds number) words held s writes writes printed printed_now tt (demo_failed words held number s _ c.demo.ensures.write_fault) in
     record {
       generated = λ a done. absurd (let never : Generate ≡ Demo number = one_command words Generate (Demo number) a is in cc);
+      stayed = λ x a done. absurd (let never : Stay x ≡ Demo number = one_command words (Stay x) (Demo number) a is in cc);
       usage = (λ e. absurd (no_usage (Demo number) words held s called e), λ u. absurd (u (Demo number) is));
       unused = λ u. absurd (u (Demo number) is);
       called = each_called words (Demo number) is held s called;
@@ -154,6 +166,43 @@ returns-in-Some-Demo g c =
       no_fewer = c.demo.ensures.no_fewer;
     }
 
+-- ---- `stay`
+pub returns-in-Some-Stay : goal.returns-in-Some-Stay
+returns-in-Some-Stay g c =
+    let words = c.args.words.now in
+    let held = g.S.Store.held c.args.store.now in
+    let reads = g.S.Store.read_faults c.args.store.now in
+    let reads_now = g.S.Store.read_faults c.stay.new.store in
+    let writes = g.S.Store.write_faults c.args.store.now in
+    let writes_now = g.S.Store.write_faults c.stay.new.store in
+    let printed = g.O.Sink.faults c.args.out.now in
+    let s = c.stay.result in
+    let disturbed = c.in-Some-Stay.disturbed in
+    let is : IsStay words disturbed = rw c.in-Some-Stay.field-0-is at c.in-Some-Stay.ensures in
+    let called = c.stay.ensures.called in
+    let read = c.stay.ensures.read_fault in
+    let failed = write_failed (stay_deeds disturbed) words held s writes writes_now printed printed c.stay.ensures.write_fault in
+    record {
+      generated = λ a done. absurd (let never : Generate ≡ Stay disturbed = one_command words Generate (Stay disturbed) a is in cc);
+      stayed = λ x a. for_stay words disturbed is (λ d. s ≡ Done → IfSome held (λ files. IsSomeAnd (g.S.Store.held c.stay.new.store) (IsStayed d words files))) c.stay.ensures.stayed x a;
+      usage = (λ e. absurd (no_usage (Stay disturbed) words held s called e), λ u. absurd (u (Stay disturbed) is));
+      unused = λ u. absurd (u (Stay disturbed) is);
+      called = each_called words (Stay disturbed) is held s called;
+      no_inner_memory = λ file. (no_text_memory (Stay disturbed) words held s called file, no_controller_memory (Stay disturbed) words held s called file);
+      complete = each_completes words (Stay disturbed) is held s reads reads_now writes writes_now printed printed called read failed;
+      prints = each_shown words (Stay disturbed) is held s (g.O.Sink.got c.args.out.now) (g.O.Sink.got c.args.out.now) (shown_nothing words held (g.O.Sink.got c.args.out.now));
+      quiet = λ d that unprinted. refl;
+      leaves = each_leaves words (Stay disturbed) is held s (g.S.Store.held c.stay.new.store)
+          (record { stayed = c.stay.ensures.stayed; controller_cut = c.stay.ensures.controller_cut; report_cut = c.stay.ensures.report_cut });
+      held = each_held words (Stay disturbed) is held s _ (writing_held (stay_deeds disturbed) s _ 3 (inl refl) c.stay.ensures.held);
+      no_file = each_unused words (Stay disturbed) is held s _ (λ uses. absurd (uses.reads 1 (inl refl)));
+      read_fault = each_read words (Stay disturbed) is held s reads reads_now read;
+      write_fault = each_failed words (Stay disturbed) is held s writes writes_now printed printed failed;
+      reads = c.stay.ensures.reads;
+      writes = c.stay.ensures.writes;
+      no_fewer = le_refl printed;
+    }
+
 -- ---- no command
 pub returns-in-None : goal.returns-in-None
 returns-in-None g c =
@@ -161,6 +210,7 @@ returns-in-None g c =
     let is : IsUsage words = c.in-None.ensures in
     record {
       generated = λ a done. usage_not_done _ done;
+      stayed = λ x a done. usage_not_done _ done;
       usage = (λ e. is, λ u. refl);
       unused = λ u. (refl, refl);
       called = λ d that. absurd (is d that);
