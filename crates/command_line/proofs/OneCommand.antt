@@ -14,6 +14,7 @@ data Kind : Type 0 where
   looping : Kind
   showing : Kind
   staying : Kind
+  leaning : Kind
 
 abbrev kind : Command → Kind
 kind commands.Generate = making
@@ -21,6 +22,7 @@ kind commands.Solve = solving
 kind (commands.Loop turns) = looping
 kind (commands.Demo number) = showing
 kind (commands.Stay disturbed) = staying
+kind commands.Lean = leaning
 
 abbrev count_in : Command → ℕ
 count_in (commands.Loop turns) = turns
@@ -34,6 +36,7 @@ of_kind solving n = commands.Solve
 of_kind looping n = commands.Loop n
 of_kind showing n = commands.Demo n
 of_kind staying n = commands.Stay (nat_eq n 7)
+of_kind leaning n = commands.Lean
 
 rebuilt : (command : Command) → of_kind (kind command) (count_in command) ≡ command
 rebuilt commands.Generate = refl
@@ -42,6 +45,7 @@ rebuilt (commands.Loop turns) = refl
 rebuilt (commands.Demo number) = refl
 rebuilt (commands.Stay true) = refl
 rebuilt (commands.Stay false) = refl
+rebuilt commands.Lean = refl
 
 -- ---- the name tells the kind
 abbrev mark : List ℕ → ℕ
@@ -51,7 +55,7 @@ mark letters = 0
 abbrev kind_marked : ℕ → Kind
 kind_marked m =
     if nat_eq m (mark (codes "generate")) then making else (if nat_eq m (mark (codes "solve")) then solving else (if nat_eq m (mark (codes "loop")) then looping else
-    (if nat_eq m (mark (codes "stay")) then staying else showing)))
+    (if nat_eq m (mark (codes "stay")) then staying else (if nat_eq m (mark (codes "lean")) then leaning else showing))))
 
 named : (command : Command) (words : List (List ℕ)) → AreOf command words → kind_marked (mark (word_of words 0)) ≡ kind command
 named commands.Generate words is = ap (λ (name : List ℕ). kind_marked (mark name)) is.command
@@ -59,6 +63,7 @@ named commands.Solve words is = ap (λ (name : List ℕ). kind_marked (mark name
 named (commands.Loop turns) words is = ap (λ (name : List ℕ). kind_marked (mark name)) is.command
 named (commands.Demo number) words is = ap (λ (name : List ℕ). kind_marked (mark name)) is.command
 named (commands.Stay disturbed) words is = ap (λ (name : List ℕ). kind_marked (mark name)) is.command
+named commands.Lean words is = ap (λ (name : List ℕ). kind_marked (mark name)) is.command
 
 -- ---- a word tells the number
 abbrev IsNumber : Kind → List (List ℕ) → ℕ → Type 0
@@ -73,6 +78,7 @@ counted commands.Solve words is = refl
 counted (commands.Loop turns) words is = is.last
 counted (commands.Demo number) words is = is.last
 counted (commands.Stay disturbed) words is = sym is.count
+counted commands.Lean words is = refl
 
 one_count : (most : ℕ) (word : List ℕ) (a b : ℕ) → most < 2 ^ 63 → IsCount most word a → IsCount most word b → a ≡ b
 one_count most word a b small x y =
@@ -85,6 +91,7 @@ one_number solving words a b x y = x ∙ sym y
 one_number looping words a b x y = one_count 1000000 (word_of words 4) a b (omega arith) x y
 one_number showing words a b x y = one_count 4294967295 (word_of words 1) a b (omega arith) x y
 one_number staying words a b x y = x ∙ sym y
+one_number leaning words a b x y = x ∙ sym y
 
 -- ---- so the arguments tell the command
 pub one_command : (words : List (List ℕ)) (command other : Command) → AreOf command words → AreOf other words → command ≡ other

@@ -1,8 +1,8 @@
 -- Which command the arguments are those of.
 use Rattle.std.specs.Prelude.{◌≡◌, ℕ, List}
-use Rattle.command_line.specs.Words.{IsSolve, IsGenerate, IsLoop, IsDemo, IsStay}
+use Rattle.command_line.specs.Words.{IsSolve, IsGenerate, IsLoop, IsDemo, IsStay, IsLean}
 use Rattle.command_line.specs.declared.words.Command.{Command}
-use Rattle.command_line.specs.declared.words.Command.TheVariants.{Generate, Solve, Loop, Demo, Stay}
+use Rattle.command_line.specs.declared.words.Command.TheVariants.{Generate, Solve, Loop, Demo, Stay, Lean}
 
 -- the arguments are those of this command
 abbrev pub AreOf : Command → List (List ℕ) → Type 0
@@ -11,6 +11,7 @@ AreOf Solve words = IsSolve words
 AreOf (Loop turns) words = IsLoop words turns
 AreOf (Demo number) words = IsDemo words number
 AreOf (Stay disturbed) words = IsStay words disturbed
+AreOf Lean words = IsLean words
 
 -- The arguments are those of no command: there is none, the first is no command's, there are too many or too few, a name that is written is another's, or a
 -- number is none or out of its range.

@@ -1,6 +1,6 @@
 // Which command the arguments are.
 ghost use Rattle.std.specs.Prelude.{ℕ, ◌<◌, Bool, IsTrue, MatchOption, length, ◌↔◌, ◌≢◌};
-ghost use Rattle.command_line.specs.Words.{word_of, IsSolve, IsGenerate, IsLoop, IsDemo, IsStay, IsOwnName, IsJson, IsCount};
+ghost use Rattle.command_line.specs.Words.{word_of, IsSolve, IsGenerate, IsLoop, IsDemo, IsStay, IsLean, IsOwnName, IsJson, IsCount};
 ghost use Rattle.command_line.specs.Commands.{IsUsage, AreOf, OneCommandLaw};
 
 use io_edge::Words;
@@ -15,6 +15,7 @@ pub enum Command {
     Demo { number: u32 },
     /// With a file of disturbances, or without.
     Stay { disturbed: bool },
+    Lean,
 }
 
 /// The most turns of a `loop`.
@@ -41,6 +42,9 @@ pub fn command_of(words: &Words) -> Option<Command>
     }
     if let Some(disturbed) = disturbed_of(words) {
         return Some(Command::Stay { disturbed });
+    }
+    if is_lean(words) {
+        return Some(Command::Lean);
     }
     None
 }
@@ -102,6 +106,16 @@ fn disturbed_of(words: &Words) -> Option<bool>
     } else {
         None
     }
+}
+
+// Whether they are those that `lean` needs.
+fn is_lean(words: &Words) -> bool
+    ensures { IsTrue result ↔ IsLean words.now }
+{
+    if words.count() != 6 || words.at(0) != "lean" {
+        return false;
+    }
+    is_own_name(words, 4) && is_own_name(words, 5)
 }
 
 // Whether the name at a position stands at no other.

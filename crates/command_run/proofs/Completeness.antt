@@ -7,7 +7,7 @@ use Rattle.command_line.specs.Deeds.{Deeds, IsCalledFor, WriteFailed, NoneRises}
 use Rattle.command_line.specs.declared.status.Status.{Status}
 use Rattle.command_line.specs.declared.status.Status.TheVariants.{Done, Memory, Usage, ReadFault, WriteFault, Text, NoMargin, Curvature, TooManySteps, TooFine, TooWide, Controller, OutsideBox, Long, Mismatch, Unequal, NoStay}
 use Rattle.command_line.specs.declared.words.Command.{Command}
-use Rattle.command_line.specs.declared.words.Command.TheVariants.{Generate, Solve, Loop, Demo, Stay}
+use Rattle.command_line.specs.declared.words.Command.TheVariants.{Generate, Solve, Loop, Demo, Stay, Lean}
 use Rattle.command_run.specs.Table.{deeds_of}
 
 -- ---- what an answer is
@@ -51,6 +51,9 @@ reached_read (Stay disturbed) contents file (inl first) = inl first
 reached_read (Stay disturbed) contents file (inr (inl second)) = inr (inl second.0)
 reached_read (Stay disturbed) contents file (inr (inr (inl fifth))) = inr (inr (inl fifth.0))
 reached_read (Stay disturbed) contents file (inr (inr (inr sixth))) = inr (inr (inr (sixth.0, sixth.1)))
+reached_read Lean contents file (inl first) = inl first
+reached_read Lean contents file (inr (inl second)) = inr (inl second.0)
+reached_read Lean contents file (inr (inr third)) = inr (inr third.0)
 
 -- ---- it doesn't give up
 module _ (deeds : Deeds) (reads : (contents : Contents) (file : ℕ) → deeds.reaches contents file → deeds.reads file) (words : List (List ℕ)) (held : Option Files) (result : Status)

@@ -3,16 +3,18 @@ ghost use Rattle.std.specs.Prelude.{◌≡◌, ◌≢◌, ◌⊎◌, ◌↔◌, 
 ghost use Rattle.io_edge.specs.Faults.{Rose, NoneFalls};
 ghost use Rattle.number_text.specs.declared.text_fault.TextFault.TheVariants.{Memory as no_room};
 ghost use Rattle.controller_file.specs.declared.bad_controller.BadController.TheVariants.{Memory as no_space};
-ghost use Rattle.command_line.specs.Words.{word_of, IsGenerate, IsStay};
+ghost use Rattle.command_line.specs.Words.{word_of, IsGenerate, IsStay, IsLean};
 ghost use Rattle.command_line.specs.Commands.{AreOf, IsUsage};
 ghost use Rattle.command_line.specs.Answers.{ForContents, IsAnswer, IsCaused};
 ghost use Rattle.command_line.specs.Deeds.{IsCalledFor, UsesNoFile, IsUnwritten, IsUnprinted, WriteFailed, NoneRises};
 ghost use Rattle.command_generate.specs.Generate.{IsGenerated};
 ghost use Rattle.command_stay.specs.Stay.{IsStayed};
+ghost use Rattle.command_lean.specs.Lean.{IsLeanWritten};
 ghost use Rattle.command_run.specs.Table.{deeds_of};
 
 use command_demo::demo;
 use command_generate::generate;
+use command_lean::lean;
 use command_line::{Command, Status, command_of};
 use command_loop::run_loops;
 use command_solve::solve;
@@ -27,7 +29,8 @@ use std::alloc::Global;
 /// the averaged plan of the controller from it. `loop`, a design file, a controller file, a states file and a number of turns: prints a line for each
 /// turn of the closed loop from each state. `demo` and a number: prints the report and four plans of a made design. `stay`, the files of `generate`, a
 /// file of faces of the box, and one of a range of disturbances or none: does what `generate` does, where the faces show that the closed loop stays in
-/// the box.
+/// the box. `lean`, a design file, a policy file, a file of reference plans, a controller file and a report file: does what `generate` does, with the fewer
+/// steps that the reference plans show to be enough.
 pub fn run<S: Store, O: Sink>(alloc: Global, words: &Words, store: &mut S, out: &mut O) -> Status
     // Where `generate` answers `Done`, the controller's file holds the text of one controller and the report's file the report of its bounds, both
     // built of the design and the policy in the files. Run from any grid state of the box, the controller keeps every product and partial sum
@@ -39,6 +42,9 @@ pub fn run<S: Store, O: Sink>(alloc: Global, words: &Words, store: &mut S, out: 
     // of disturbances within the range in the sixth file, and without disturbances where there is no such file.
     ensures stayed { (disturbed : Bool) → IsStay words.now disturbed → result ≡ Status.Done
         → IfSome (S.held store.old) (λ files. IsSomeAnd (S.held store.new) (IsStayed disturbed words.now files)) }
+    // And where `lean` answers `Done`, its two files hold the text of one controller and the report of its bounds, made leanly of the design, the policy and
+    // the reference plans in the files, whatever these plans are: with the same promise, and within the same targets.
+    ensures leaned { IsLean words.now → result ≡ Status.Done → IfSome (S.held store.old) (λ files. IsSomeAnd (S.held store.new) (IsLeanWritten words.now files)) }
 
     // `Usage` is the answer exactly where the arguments are those of no command, and then nothing is used.
     ensures usage { (result ≡ Status.Usage) ↔ IsUsage words.now }
@@ -85,6 +91,7 @@ pub fn run<S: Store, O: Sink>(alloc: Global, words: &Words, store: &mut S, out: 
         Some(Command::Loop { turns }) => run_loops(alloc, words, turns, store, out),
         Some(Command::Demo { number }) => demo(alloc, number, out),
         Some(Command::Stay { disturbed }) => stay(alloc, words, disturbed, store),
+        Some(Command::Lean) => lean(alloc, words, store),
         None => Status::Usage,
     }
 }
