@@ -16,6 +16,7 @@ data Kind : Type 0 where
   listing : Kind
   staying : Kind
   playing : Kind
+  leaning : Kind
 
 abbrev kind : Command → Kind
 kind commands.Generate = making
@@ -25,6 +26,7 @@ kind (commands.Demo number) = showing
 kind commands.List = listing
 kind (commands.Stay disturbed) = staying
 kind commands.Play = playing
+kind commands.Lean = leaning
 
 abbrev count_in : Command → ℕ
 count_in (commands.Loop turns) = turns
@@ -40,6 +42,7 @@ of_kind showing n = commands.Demo n
 of_kind listing n = commands.List
 of_kind staying n = commands.Stay (nat_eq n 7)
 of_kind playing n = commands.Play
+of_kind leaning n = commands.Lean
 
 rebuilt : (command : Command) → of_kind (kind command) (count_in command) ≡ command
 rebuilt commands.Generate = refl
@@ -50,6 +53,7 @@ rebuilt commands.List = refl
 rebuilt (commands.Stay true) = refl
 rebuilt (commands.Stay false) = refl
 rebuilt commands.Play = refl
+rebuilt commands.Lean = refl
 
 -- ---- the name tells the kind
 abbrev mark : List ℕ → ℕ
@@ -59,7 +63,8 @@ mark letters = 0
 abbrev kind_marked : ℕ → Kind
 kind_marked m =
     if nat_eq m (mark (codes "generate")) then making else (if nat_eq m (mark (codes "solve")) then solving else (if nat_eq m (mark (codes "loop")) then looping else
-    (if nat_eq m (mark (codes "list")) then listing else (if nat_eq m (mark (codes "stay")) then staying else (if nat_eq m (mark (codes "play")) then playing else showing)))))
+    (if nat_eq m (mark (codes "list")) then listing else (if nat_eq m (mark (codes "stay")) then staying else (if nat_eq m (mark (codes "play")) then playing else
+    (if nat_eq m (mark (codes "lean")) then leaning else showing))))))
 
 named : (command : Command) (words : List (List ℕ)) → AreOf command words → kind_marked (mark (word_of words 0)) ≡ kind command
 named commands.Generate words is = ap (λ (name : List ℕ). kind_marked (mark name)) is.command
@@ -69,6 +74,7 @@ named (commands.Demo number) words is = ap (λ (name : List ℕ). kind_marked (m
 named commands.List words is = ap (λ (name : List ℕ). kind_marked (mark name)) is.command
 named (commands.Stay disturbed) words is = ap (λ (name : List ℕ). kind_marked (mark name)) is.command
 named commands.Play words is = ap (λ (name : List ℕ). kind_marked (mark name)) is.command
+named commands.Lean words is = ap (λ (name : List ℕ). kind_marked (mark name)) is.command
 
 -- ---- a word tells the number
 abbrev IsNumber : Kind → List (List ℕ) → ℕ → Type 0
@@ -85,6 +91,7 @@ counted (commands.Demo number) words is = is.last
 counted commands.List words is = refl
 counted (commands.Stay disturbed) words is = sym is.count
 counted commands.Play words is = refl
+counted commands.Lean words is = refl
 
 one_count : (most : ℕ) (word : List ℕ) (a b : ℕ) → most < 2 ^ 63 → IsCount most word a → IsCount most word b → a ≡ b
 one_count most word a b small x y =
@@ -99,6 +106,7 @@ one_number showing words a b x y = one_count 4294967295 (word_of words 1) a b (o
 one_number listing words a b x y = x ∙ sym y
 one_number staying words a b x y = x ∙ sym y
 one_number playing words a b x y = x ∙ sym y
+one_number leaning words a b x y = x ∙ sym y
 
 -- ---- so the arguments tell the command
 pub one_command : (words : List (List ℕ)) (command other : Command) → AreOf command words → AreOf other words → command ≡ other

@@ -1,6 +1,6 @@
 // Which command the arguments are.
 ghost use Rattle.std.specs.Prelude.{ℕ, IsTrue, MatchOption, ◌↔◌, ◌≢◌, ◌<◌, Bool, length};
-ghost use Rattle.command_line.specs.Words.{word_of, IsSolve, IsGenerate, IsLoop, IsDemo, IsList, IsJson, IsCount, IsStay, IsOwnName, IsPlay};
+ghost use Rattle.command_line.specs.Words.{word_of, IsSolve, IsGenerate, IsLoop, IsDemo, IsList, IsJson, IsCount, IsStay, IsOwnName, IsPlay, IsLean};
 ghost use Rattle.command_line.specs.Commands.{IsUsage, AreOf, OneCommandLaw};
 
 use io_edge::Words;
@@ -17,6 +17,7 @@ pub enum Command {
     /// With a file of disturbances, or without.
     Stay { disturbed: bool },
     Play,
+    Lean,
 }
 
 /// The most turns of a `loop`.
@@ -49,6 +50,9 @@ pub fn command_of(words: &Words) -> Option<Command>
     }
     if is_play(words) {
         return Some(Command::Play);
+    }
+    if is_lean(words) {
+        return Some(Command::Lean);
     }
     None
 }
@@ -124,6 +128,16 @@ fn disturbed_of(words: &Words) -> Option<bool>
     } else {
         None
     }
+}
+
+// Whether they are those that `lean` needs.
+fn is_lean(words: &Words) -> bool
+    ensures { IsTrue result ↔ IsLean words.now }
+{
+    if words.count() != 6 || words.at(0) != "lean" {
+        return false;
+    }
+    is_own_name(words, 4) && is_own_name(words, 5)
 }
 
 // Whether the name at a position stands at no other.

@@ -7,7 +7,7 @@ use Rattle.command_line.specs.Deeds.{Deeds, IsCalledFor, WriteFailed, NoneRises}
 use Rattle.command_line.specs.declared.status.Status.{Status}
 use Rattle.command_line.specs.declared.status.Status.TheVariants.{Done, Memory, Usage, ReadFault, WriteFault, Text, Refused, Controller, OutsideBox, Long, Mismatch, Unequal, NoStay, Listing, Trap}
 use Rattle.command_line.specs.declared.words.Command.{Command}
-use Rattle.command_line.specs.declared.words.Command.TheVariants.{Generate, Solve, Loop, Demo, List as Writing, Stay, Play}
+use Rattle.command_line.specs.declared.words.Command.TheVariants.{Generate, Solve, Loop, Demo, List as Writing, Stay, Play, Lean}
 use Rattle.command_run.specs.Table.{deeds_of}
 
 -- ---- what an answer is
@@ -52,6 +52,9 @@ reached_read (Stay disturbed) contents file (inr (inr (inr sixth))) = inr (inr (
 reached_read Writing contents file first = first
 reached_read Play contents file (inl first) = inl first
 reached_read Play contents file (inr second) = inr second.0
+reached_read Lean contents file (inl first) = inl first
+reached_read Lean contents file (inr (inl second)) = inr (inl second.0)
+reached_read Lean contents file (inr (inr third)) = inr (inr third.0)
 
 -- ---- it doesn't give up
 module _ (deeds : Deeds) (reads : (contents : Contents) (file : ℕ) → deeds.reaches contents file → deeds.reads file) (words : List (List ℕ)) (held : Option Files) (result : Status)

@@ -38,6 +38,12 @@ use Rattle.stay_check.specs.FaceForms.{FaceNumbers}
 use Rattle.stay_check.specs.declared.fault.StayFault.{StayFault}
 use Rattle.stay_check.specs.declared.fault.StayFault.TheVariants as faults
 use Rattle.command_stay.specs.Stay.{stay_status, StayingCalls, ReadsShifts, StayCalls, no_shifts}
+use Rattle.command_lean.specs.Made.{MakingCalls as LeanMakingCalls}
+use Rattle.command_lean.specs.Lean.{LeanCalls}
+use Rattle.command_line.specs.declared.status.Status.{Status}
+use Rattle.command_line.specs.declared.status.Status.TheVariants.{Done, Usage, Text, Controller, Long}
+use Rattle.command_line.specs.declared.words.Command.{Command}
+use Rattle.command_line.specs.declared.words.Command.TheVariants.{Generate, Solve, Loop, Demo, Stay, Lean}
 use Rattle.command_run.specs.Table.{deeds_of}
 
 -- an answer that a command with files gives: it isn't `Usage`, and no fault in it is that memory ran out
@@ -127,6 +133,10 @@ staying_telling p plans f range s (inl refused) = refusal_telling s refused.refu
 staying_telling p plans f range s (inr (excess, stated, inl done)) = done_telling s done.0
 staying_telling p plans f range s (inr (excess, stated, inr fault)) = fault_telling s fault.0 fault.2
 
+lean_making_telling : (p : DesignParts) (plans references : Plans) (s : Status) → LeanMakingCalls p plans references s → IsTelling s
+lean_making_telling p plans references s (inl refused) = refusal_telling s refused.refusal refused.is
+lean_making_telling p plans references s (inr done) = done_telling s done.0
+
 -- ---- the commands
 generate_telling : (design policy : Option (List ℕ)) (s : Status) → GenerateCalls design policy s → IsTelling s
 generate_telling design policy =
@@ -179,6 +189,12 @@ play_telling listing states =
     then_telling file_limit 1 (ListingWrong 1) ListingRight listing _ (no_listing_telling 1)
     (λ l. then_telling file_limit 2 (StatesWrong l.states 2) (StatesRight l.states) states (PlaysCall l) (states_telling l.states 2) (plays_telling l))
 
+lean_telling : (design policy reference : Option (List ℕ)) (s : Status) → LeanCalls design policy reference s → IsTelling s
+lean_telling design policy reference =
+    then_telling file_limit 1 (DesignWrong 1) DesignRight design _ (design_telling 1)
+    (λ p. then_telling file_limit 2 (PolicyWrong (design_of p) 2) (PolicyRight (design_of p)) policy _ (policy_telling (design_of p) 2)
+    (λ plans. then_telling file_limit 3 (PolicyWrong (design_of p) 3) (PolicyRight (design_of p)) reference (LeanMakingCalls p plans) (policy_telling (design_of p) 3) (lean_making_telling p plans)))
+
 -- ---- the table
 telling : (c : Command) (contents : Contents) (s : Status) → (deeds_of c).calls contents s → IsTelling s
 telling Generate contents = generate_telling (contents 1) (contents 2)
@@ -188,6 +204,7 @@ telling (Demo number) contents = demo_telling number
 telling (Stay disturbed) contents = stay_telling disturbed (contents 1) (contents 2) (contents 5) (contents 6)
 telling Writing contents = list_telling (contents 1)
 telling Play contents = play_telling (contents 1) (contents 2)
+telling Lean contents = lean_telling (contents 1) (contents 2) (contents 3)
 
 module _ (c : Command) (words : List (List ℕ)) (held : Option Files) (result : Status) (called : IsCaused result → ForContents words held (λ contents. IsAnswer ((deeds_of c).calls contents) result)) where
   tells : IsCaused result → IsTelling result

@@ -1,7 +1,7 @@
 -- The table of commands: what each does.
 use Rattle.command_line.specs.Deeds.{Deeds}
 use Rattle.command_line.specs.declared.words.Command.{Command}
-use Rattle.command_line.specs.declared.words.Command.TheVariants.{Generate, Solve, Loop, Demo, List, Stay, Play}
+use Rattle.command_line.specs.declared.words.Command.TheVariants.{Generate, Solve, Loop, Demo, List, Stay, Play, Lean}
 use Rattle.command_generate.specs.Deeds.{generate_deeds}
 use Rattle.command_solve.specs.Deeds.{solve_deeds}
 use Rattle.command_loop.specs.Deeds.{loop_deeds}
@@ -9,6 +9,7 @@ use Rattle.command_demo.specs.Deeds.{demo_deeds}
 use Rattle.command_list.specs.Deeds.{list_deeds}
 use Rattle.command_stay.specs.Deeds.{stay_deeds}
 use Rattle.command_play.specs.Deeds.{play_deeds}
+use Rattle.command_lean.specs.Deeds.{lean_deeds}
 
 abbrev pub deeds_of : Command → Deeds
 deeds_of Generate = generate_deeds
@@ -18,3 +19,4 @@ deeds_of (Demo number) = demo_deeds number
 deeds_of List = list_deeds
 deeds_of (Stay disturbed) = stay_deeds disturbed
 deeds_of Play = play_deeds
+deeds_of Lean = lean_deeds

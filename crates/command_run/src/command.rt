@@ -3,17 +3,19 @@ ghost use Rattle.std.specs.Prelude.{◌≡◌, ◌≢◌, ◌⊎◌, ◌↔◌, 
 ghost use Rattle.io_edge.specs.Faults.{Rose, NoneFalls};
 ghost use Rattle.number_text.specs.declared.text_fault.TextFault.TheVariants.{Memory as no_room};
 ghost use Rattle.controller_file.specs.declared.bad_controller.BadController.TheVariants.{Memory as no_space};
-ghost use Rattle.command_line.specs.Words.{word_of, IsGenerate, IsStay, IsPlay};
+ghost use Rattle.command_line.specs.Words.{word_of, IsGenerate, IsStay, IsPlay, IsLean};
 ghost use Rattle.command_line.specs.Commands.{AreOf, IsUsage};
 ghost use Rattle.command_line.specs.Answers.{ForContents, IsAnswer, IsCaused};
 ghost use Rattle.command_line.specs.Deeds.{IsCalledFor, UsesNoFile, IsUnwritten, IsUnprinted, WriteFailed, NoneRises};
 ghost use Rattle.command_generate.specs.Generate.{IsGenerated};
 ghost use Rattle.command_stay.specs.Stay.{IsStayed};
 ghost use Rattle.command_play.specs.AsSolved.{PlaysAsSolved};
+ghost use Rattle.command_lean.specs.Lean.{IsLeanWritten};
 ghost use Rattle.command_run.specs.Table.{deeds_of};
 
 use command_demo::demo;
 use command_generate::generate;
+use command_lean::lean;
 use command_line::{Command, Status, command_of};
 use command_list::list;
 use command_loop::run_loops;
@@ -32,6 +34,8 @@ use std::alloc::Global;
 /// listing file: writes the listing of the controller's step. `play`, a listing file and a states file: prints a line for each state, what the
 /// listing's machine puts out from it. `stay`, the files of `generate`, a file of faces of the box, and one of a range of disturbances or none: does
 /// what `generate` does, where the faces show that the closed loop stays in the box.
+/// `lean`, a design file, a policy file, a file of reference plans, a controller file and a report file: does what `generate` does, with the fewest steps
+/// that the reference plans show to be enough.
 pub fn run<S: Store, O: Sink>(alloc: Global, words: &Words, store: &mut S, out: &mut O) -> Status
     // Where `generate` answers `Done`, the controller's file holds the text of one controller and the report's file the report of its bounds, both
     // built of the design and the policy in the files. Run from any grid state of the box, the controller keeps every product and partial sum
@@ -43,6 +47,9 @@ pub fn run<S: Store, O: Sink>(alloc: Global, words: &Words, store: &mut S, out: 
     // of disturbances within the range in the sixth file, and without disturbances where there is no such file.
     ensures stayed { (disturbed : Bool) → IsStay words.now disturbed → result ≡ Status.Done
         → IfSome (S.held store.old) (λ files. IsSomeAnd (S.held store.new) (IsStayed disturbed words.now files)) }
+    // And where `lean` answers `Done`, its two files hold the text of one controller and the report of its bounds, made leanly of the design, the policy and
+    // the reference plans in the files, whatever these plans are: with the same promise, and within the same targets.
+    ensures leaned { IsLean words.now → result ≡ Status.Done → IfSome (S.held store.old) (λ files. IsSomeAnd (S.held store.new) (IsLeanWritten words.now files)) }
 
     // Where the first file of `play` holds the text of the listing of a controller, as `list` writes it, and the second states of the controller's box, then no
     // value of the runs leaves the controller's width, and the output gets the bytes that `solve` prints of the controller and these states: the lines of
@@ -96,6 +103,7 @@ pub fn run<S: Store, O: Sink>(alloc: Global, words: &Words, store: &mut S, out: 
         Some(Command::List) => list(alloc, words, store),
         Some(Command::Stay { disturbed }) => stay(alloc, words, disturbed, store),
         Some(Command::Play) => play(alloc, words, store, out),
+        Some(Command::Lean) => lean(alloc, words, store),
         None => Status::Usage,
     }
 }
