@@ -1,7 +1,7 @@
 #!/usr/bin/env python3
 """Finds the faces of a design's box: the sums of limits that show that no closed loop ever leaves it.
 
-    scripts/faces.py DESIGN POLICY [FACES] [--disturbances FILE]
+    scripts/faces.py DESIGN POLICY [FACES] [--disturbances FILE] [--bears FILE]
 
 For each coordinate the upper face, then the lower: a factor and a weight for each first row, so that the rows have together of each input as much as the coordinate has, and
 the coordinate of the next state can go least far. It is a linear program, whose best vertex is taken in exact fractions, and so the equations hold exactly. First rows are the
@@ -11,6 +11,7 @@ DESIGN and POLICY alone: half the violation target, and what the errors of a ste
 The faces go to FACES, or are printed; how far each coordinate can go, and the greatest disturbance that the box bears in each, go to standard error.
 
     --disturbances FILE   two records, a number for each coordinate over `2^grid`: the least and the greatest that is added to a next state
+    --bears FILE          writes two such records: the greatest disturbances that the faces bear
 
 Where a face doesn't hold, it says which, by how much, and what a tolerance or a box would have to be, and ends with status 17, as `stay` will. Nothing rests on the solver: what is
 found is tested in whole numbers, as `stay` tests it.
@@ -293,6 +294,18 @@ def far_words(design, face, place):
     return f"{face.words(design)}: the next state goes to {place} at most, {name.shown(Fraction(place, 2**design.grid))}, {room} before its end at {face.end(design)}"
 
 
+def holding(design, excess, low, high):
+    """The faces where each holds under these disturbances, and else None; nothing is said."""
+    faces = []
+    for face in faces_of(design):
+        record = find_face(design, face, excess)
+        shift = (high if face.upper else low)[face.coordinate]
+        if record is None or not is_kept(design, face, farthest(design, face, record, excess, shift)):
+            return None
+        faces.append(record)
+    return faces
+
+
 def find(design, excess, low, high):
     """The faces, or None where one doesn't hold, each said."""
     faces, bad = [], False
@@ -332,15 +345,20 @@ def disturbances_of(design, path):
     return records
 
 
+def text_of(records):
+    return "".join(",".join(map(str, record)) + "\n" for record in records)
+
+
 def main():
     parser = Parser(__doc__)
     parser.add_argument("design", metavar="DESIGN")
     parser.add_argument("policy", metavar="POLICY")
     parser.add_argument("faces", metavar="FACES", nargs="?")
     parser.add_argument("--disturbances", metavar="FILE")
+    parser.add_argument("--bears", metavar="FILE")
     given = parser.parse_args()
     inputs = {"DESIGN": given.design, "POLICY": given.policy} | ({"--disturbances": given.disturbances} if given.disturbances else {})
-    files.keep_apart(inputs, {"FACES": given.faces or files.STANDARD_OUTPUT})
+    files.keep_apart(inputs, {"FACES": given.faces or files.STANDARD_OUTPUT} | ({"--bears": given.bears} if given.bears else {}))
     design = read_design(given.design)
     low, high = disturbances_of(design, given.disturbances) if given.disturbances else ([0] * design.states, [0] * design.states)
     excess = excesses(design, records_of(read_text(given.policy)))
@@ -357,11 +375,12 @@ def main():
     for i, (l, h) in enumerate(zip(least, most)):
         name = design.name("state", i + 1)
         say(f"{name.word}: bears disturbances from {l} to {h} a turn, {name.shown(Fraction(l, 2**design.grid))} to {name.shown(Fraction(h, 2**design.grid))}")
-    text = "".join(",".join(map(str, record)) + "\n" for record in faces)
+    if given.bears:
+        files.write(given.bears, text_of([least, most]))
     if given.faces:
-        files.write(given.faces, text)
+        files.write(given.faces, text_of(faces))
     else:
-        sys.stdout.write(text)
+        sys.stdout.write(text_of(faces))
     return 0
 
 
