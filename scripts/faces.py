@@ -31,6 +31,7 @@ from common import files, sizes
 from common.arguments import Parser
 from common.corners import corners_of, half_target, margin_of, multiplier_of
 from common.design_text import plain, read_design
+from common.disturbances import box_in
 from common.texts import read_text, records_of
 from common.trajectories import dot
 
@@ -335,16 +336,6 @@ def bearable(design, faces, excess):
     return rooms[1::2], rooms[0::2]
 
 
-def disturbances_of(design, path):
-    """The two lists of a text of disturbances."""
-    records = records_of(read_text(path))
-    if len(records) != 2 or any(len(record) != design.states for record in records):
-        raise ValueError(f"{path}: two records of {design.states} numbers are wanted")
-    if any(abs(v) > MOST for record in records for v in record) or any(l > h for l, h in zip(*records)):
-        raise ValueError(f"{path}: a number is beyond {MOST}, or the greatest below the least")
-    return records
-
-
 def text_of(records):
     return "".join(",".join(map(str, record)) + "\n" for record in records)
 
@@ -360,7 +351,7 @@ def main():
     inputs = {"DESIGN": given.design, "POLICY": given.policy} | ({"--disturbances": given.disturbances} if given.disturbances else {})
     files.keep_apart(inputs, {"FACES": given.faces or files.STANDARD_OUTPUT} | ({"--bears": given.bears} if given.bears else {}))
     design = read_design(given.design)
-    low, high = disturbances_of(design, given.disturbances) if given.disturbances else ([0] * design.states, [0] * design.states)
+    low, high = box_in(given.disturbances, design) if given.disturbances else ([0] * design.states, [0] * design.states)
     excess = excesses(design, records_of(read_text(given.policy)))
     if excess is None:
         say("the policy has no margin, or its gap target asks for more than 48 fraction bits: no controller can be made, so there is nothing that could stay")
