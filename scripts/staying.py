@@ -216,8 +216,14 @@ class Search:
 
     def smaller(self, choice: Staying) -> Staying:
         """The choice with a smaller box in the coordinate that helps most."""
-        trials = [replace(choice, kept=[part * SMALLER if k == i else part for k, part in enumerate(choice.kept)]) for i in range(self.own)]
-        return max(trials, key=self.room)
+        return max((self.cut(choice, i) for i in range(self.own)), key=self.room)
+
+    def cheaper(self, choice: Staying) -> Staying:
+        """The choice with a smaller box in the coordinate that takes off most steps."""
+        return min((self.cut(choice, i) for i in range(self.own)), key=self.steps)
+
+    def cut(self, choice: Staying, i: int) -> Staying:
+        return replace(choice, kept=[part * SMALLER if k == i else part for k, part in enumerate(choice.kept)])
 
     def cheapest(self, choice: Staying) -> tuple[Staying, float]:
         """The choice of the fewest steps with other T and other parts for `stay`."""
@@ -302,7 +308,7 @@ def search(model: Model, most: float = 20000.0) -> dict | None:
             say(f"{words_of(model, cheap)}: K about {steps:.0f}" if math.isfinite(steps) else f"{words_of(model, cheap)}: no faces")
             if steps <= most and found_faces(Model(with_limits(model, cheap))):
                 return with_limits(model, cheap)
-            choice = found.smaller(choice)
+            choice = found.cheaper(cheap)
     return None
 
 
