@@ -223,7 +223,9 @@ class Search:
         return min((self.cut(choice, i) for i in range(self.own)), key=self.steps)
 
     def cut(self, choice: Staying, i: int) -> Staying:
-        return replace(choice, kept=[part * SMALLER if k == i else part for k, part in enumerate(choice.kept)])
+        """The choice with a smaller box in a coordinate, and its limits as far inside."""
+        times = [SMALLER if k == i else 1.0 for k in range(len(choice.kept))]
+        return replace(choice, kept=[part * by for part, by in zip(choice.kept, times)], stay=[part / by for part, by in zip(choice.stay, times)])
 
     def cheapest(self, choice: Staying) -> tuple[Staying, float]:
         """The choice of the fewest steps with other T and other parts for `stay`."""
