@@ -1,7 +1,7 @@
 #!/usr/bin/env python3
 """From a model to a controller that is judged: each step shown as the command that it runs, so that you can go on by hand where you like.
 
-    ./mpc design MODEL FOLDER [--as-it-is] [--gap PART] [--turns N] [--corners N] [--random N] [--states N] [--seed N]
+    ./mpc design MODEL FOLDER [--as-it-is | --stay] [--gap PART] [--turns N] [--corners N] [--random N] [--states N] [--seed N]
 
 In FOLDER, which is made where it isn't there, stand then
 
@@ -15,7 +15,12 @@ In FOLDER, which is made where it isn't there, stand then
     judged.txt        what the controller's plans do beside exact ones (scripts/judge.py)
     explained.txt     what the report holds, in the model's units (./mpc explain)
 
+and where no loop is to leave the box, by --stay or by `stay` in the model's `[box]`, fitted.toml is by scripts/staying.py, and beside it stand
+
+    faces.csv         the sums of limits that show that none does, and disturbances.csv the greatest disturbances of a turn that they bear (scripts/faces.py)
+
     --as-it-is    takes the model's own coordinates and box, whatever its loops do
+    --stay        searches limits on the next state, coordinates and a box for which faces hold
     --gap PART    the gap target, as a part of the greatest cost (0.1)
     --turns N     so many turns a loop (50)
     --corners N   at most so many corners to begin loops from (8); --random N so many random states (4); --seed N which of them (1)
@@ -36,10 +41,12 @@ from common.libraries import PACKAGES, Refusal, need, run
 need(*PACKAGES)
 from common import files
 from common.arguments import Parser, count, positive, turns
+from common.models import read_model
 from common.progress import Progress
 
 TOP = os.path.dirname(os.path.dirname(os.path.realpath(__file__)))
 MADE = ["fitted.toml", "design.toml", "policy.csv", "controller.txt", "report.txt", "states.csv", "loop.txt", "exact.txt", "loop.svg", "judged.txt", "explained.txt"]
+STAYS = ["faces.csv", "disturbances.csv"]
 LEFT_THE_BOX = 12
 
 
@@ -99,20 +106,25 @@ def watched(began: subprocess.Popen) -> tuple[str, str]:
                 progress.tell(f"{time.monotonic() - start:.0f} s")
 
 
-def fitted(steps: Steps, model: str, as_it_is: bool, count: int) -> str:
-    """The model to draft: one whose loops stay, where there is one."""
-    if as_it_is:
+def fitted(steps: Steps, model: str, given: Namespace, stays: bool) -> str:
+    """The model to draft: one whose loops stay, where there is one; where they have to, no other."""
+    if given.as_it_is:
         return model
-    step = steps.run("scripts/coordinates.py", model, steps.path("fitted.toml"), "--turns", str(count))
+    if stays:
+        steps.must("scripts/staying.py", model, steps.path("fitted.toml"))
+        return steps.path("fitted.toml")
+    step = steps.run("scripts/coordinates.py", model, steps.path("fitted.toml"), "--turns", str(given.turns))
     if step.status not in (0, LEFT_THE_BOX):
         raise Refusal(f"scripts/coordinates.py ended with status {step.status}: what stands above says why", step.status)
     return steps.path("fitted.toml") if step.status == 0 else model
 
 
-def make(steps: Steps, model: str, given: Namespace) -> None:
-    """The design, its policy and its controller."""
+def make(steps: Steps, model: str, given: Namespace, stays: bool) -> None:
+    """The design, its policy, its faces and its controller."""
     steps.must("scripts/draft.py", model, steps.path("design.toml"), "--gap", str(given.gap))
     steps.must("scripts/policy.py", steps.path("design.toml"), steps.path("policy.csv"), "--turns", "0")
+    if stays:
+        steps.must("scripts/faces.py", *map(steps.path, ("design.toml", "policy.csv", "faces.csv")), "--bears", steps.path("disturbances.csv"))
     steps.must("mpc", "generate", *map(steps.path, ("design.toml", "policy.csv", "controller.txt", "report.txt")))
 
 
@@ -137,11 +149,21 @@ def show(steps: Steps, given: Namespace) -> None:
             print(f"    {line}")
 
 
+def asks_to_stay(path: str) -> bool:
+    """Whether a model's box has limits on the next state; what is wrong with it is said by the step that drafts it."""
+    try:
+        return any(read_model(path).stay)
+    except Refusal:
+        return False
+
+
 def main() -> int:
     parser = Parser(__doc__, prog="./mpc design")
     parser.add_argument("model", metavar="MODEL")
     parser.add_argument("folder", metavar="FOLDER")
-    parser.add_argument("--as-it-is", action="store_true")
+    either = parser.add_mutually_exclusive_group()
+    either.add_argument("--as-it-is", action="store_true")
+    either.add_argument("--stay", action="store_true")
     parser.add_argument("--gap", type=positive, default=0.1, metavar="PART")
     parser.add_argument("--turns", type=turns, default=50, metavar="N")
     for name, value in (("--corners", 8), ("--random", 4), ("--states", 96)):
@@ -149,11 +171,11 @@ def main() -> int:
     parser.add_argument("--seed", type=int, default=1, metavar="N")
     given = parser.parse_args()
     steps = Steps(given.folder)
-    files.keep_apart({"MODEL": given.model}, {name: steps.path(name) for name in MADE})
+    files.keep_apart({"MODEL": given.model}, {name: steps.path(name) for name in MADE + STAYS})
     files.read_bytes(given.model)
     os.makedirs(given.folder, exist_ok=True)
-    began = time.monotonic()
-    make(steps, fitted(steps, given.model, given.as_it_is, given.turns), given)
+    began, stays = time.monotonic(), given.stay or asks_to_stay(given.model)
+    make(steps, fitted(steps, given.model, given, stays), given, stays)
     show(steps, given)
     print(f"in {time.monotonic() - began:.0f} s: {steps.path('loop.svg')} has the loops, {steps.path('explained.txt')} every bound, and {steps.path('controller.txt')} the controller")
     return 0

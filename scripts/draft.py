@@ -87,6 +87,19 @@ def sides_of(model: Model, a: numpy.ndarray, b: numpy.ndarray) -> list[Side]:
             out.append(Side(name + " above" * both, numpy.r_[row, above] / tolerance, tolerance, unit, later))
         if math.isfinite(below):
             out.append(Side(name + " below" * both, numpy.r_[-row, -below] / tolerance, tolerance, unit, later))
+    return out + staying_sides(model, a, b)
+
+
+def staying_sides(model: Model, a: numpy.ndarray, b: numpy.ndarray) -> list[Side]:
+    """Limits on the next state, by which it stays in the box: inside its ends by what they may be exceeded, and by what moves it from outside."""
+    out, grid, (lo, hi) = [], int(model.text["box"].get("grid", 4)), model.ends()
+    for i, (tolerance, moved) in enumerate(zip(model.stay, model.disturbed)):
+        size, (word, unit) = model.state_units[i], model.names[i]
+        if tolerance and not any(abs(b[i]) > 1e-12 * abs(a[i]).max()):
+            models.refuse([f"box.stay[{i + 1}]: 0 is expected, since no input moves the next {word}: what drives it keeps it in the box, or nothing does"])
+        for sign, end, side in ((1, hi[i], "upper"), (-1, lo[i], "lower")) if tolerance else ():
+            bound = sign * end * size / 2**grid - tolerance - moved
+            out.append(Side(f"{side} end of {word}", numpy.r_[sign * a[i] * size, sign * b[i] * size, bound] / tolerance, tolerance, unit or "units"))
     return out
 
 
@@ -120,9 +133,7 @@ def in_floats(model: Model) -> Design:
     """The design of a model with no number of plant, cost and limits rounded: over 1, in floats. The box is whole already."""
     text, (a, b) = model.text, model.scaled()
     box, sides = text["box"], sides_of(model, a, b)
-    grid = int(box.get("grid", 4))
-    corner = lambda values: [int(round(v / u * 2**grid)) for v, u in zip(values, model.state_units)]
-    hi, lo = corner(model.hi), corner(model.lo)
+    grid, (lo, hi) = int(box.get("grid", 4)), model.ends()
     if max(map(abs, hi + lo)) > NUMERATOR:
         models.refuse([f"box: a box of at most {NUMERATOR} over 2^grid is expected, in units of {', '.join(map(plain, model.state_units))}"])
     weights = [float(w) * u**2 for w, u in zip(text["cost"]["input"], model.input_units)]

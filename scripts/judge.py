@@ -6,10 +6,6 @@
 `./mpc solve` runs the controller at every corner of the box and at N random grid states of it (96); the exact problem (cvxopt) stands beside each. The report's bounds
 hold at every state; what is measured is mostly far below.
 """
-import os
-import subprocess
-import sys
-import tempfile
 from fractions import Fraction
 
 from common.libraries import Refusal, need, run
@@ -19,24 +15,12 @@ from common import matching
 from common.arguments import Parser, count
 from common.design_text import Design, plain, read_design
 from common.files import STANDARD_OUTPUT, keep_apart
+from common.launcher import solved
 from common.programs import Programs
 from common.progress import Progress
 from states import chosen
 from common.texts import controller_of, kind_of, read_text
 from common.trajectories import slacks_of
-
-LAUNCHER = os.path.join(os.path.dirname(os.path.dirname(os.path.realpath(__file__))), "mpc")
-
-
-def solved(controller: str, states: list[list[int]], launcher: str = LAUNCHER) -> list[str]:
-    """The lines that the program prints for these states."""
-    with tempfile.NamedTemporaryFile("w", suffix=".csv") as file:
-        file.write("".join(",".join(map(str, state)) + "\n" for state in states))
-        file.flush()
-        got = subprocess.run([launcher, "solve", controller, file.name], stdout=subprocess.PIPE, text=True)
-    if got.returncode:
-        sys.exit(got.returncode)
-    return got.stdout.splitlines()
 
 
 def judge(design: Design, states: list[list[int]], lines: list[str]) -> list[tuple]:

@@ -106,14 +106,15 @@ def gain_difference(controller: Controller, form: Condensed) -> str | None:
     return None
 
 
-def loop_difference(loops: dict, design: Design) -> str | None:
-    """Of loops, record -> list of (state, inputs): each next state is the nearest on the grid to what the plant makes of the one before."""
+def loop_difference(loops: dict, design: Design, shifts: list | None = None) -> str | None:
+    """Of loops, record -> list of (state, inputs): each next state is the nearest on the grid to what the plant makes of the one before, and what is added in that turn."""
     scale = 2**design.grid
     for record, loop in loops.items():
         for turn, ((state, inputs), (after, _)) in enumerate(zip(loop, loop[1:]), 1):
             now = [*state, *inputs]
             for i, (a, b) in enumerate(zip(design.a, design.b)):
-                wanted = scale * sum(f * v for f, v in zip([*a, *b], now)) / design.plant_den
+                shift = shifts[turn - 1][i] if shifts and turn <= len(shifts) else 0
+                wanted = scale * sum(f * v for f, v in zip([*a, *b], now)) / design.plant_den + shift
                 if abs(wanted - scale * after[i]) > NEAREST:
                     name = design.name("state", i + 1).word
                     return f"after turn {turn} of start {record} its plant goes to {name} {plain(wanted / scale)}, and the next line says {plain(after[i])}"
