@@ -4,7 +4,8 @@
     checks/rows/run.py PROGRAM [--valgrind]
 
 With --valgrind each runs under valgrind's memory checker, which must have nothing to report: no invalid read or write, no branch on what was never written, no
-block that is lost. The rows of fine designs, whose exact numbers pass 2^126, and of fine corners have the numbers of the model in ../fuzz.
+block that is lost. The rows of fine designs, whose exact numbers pass 2^126, of fine corners, of other faces than the worked ones and of the examples' listings have the
+numbers of the model in ../fuzz.
 """
 import contextlib
 import os
@@ -12,6 +13,7 @@ import subprocess
 import sys
 import tempfile
 
+import listings
 import staying
 from texts import (AXIS, BASE, COAST, FIRST, GENERATE, JSON, LIMITS, POLICY, REPORT, SOLVE, costs, in_second, limits, plant_over, put, refused, steep, sub, targets,
                    violations, written)
@@ -288,10 +290,14 @@ def corner_rows():
 
 def full_rows():
     """The name, the row, and the file that the output goes to, if any: what is written or printed to a full device fails after it was opened."""
-    made, read = {"d": BASE, "p": POLICY}, {"d": BASE, "c": FIRST, "s": "1\n"}
+    made, read = {"d": BASE, "p": POLICY}, {"d": BASE, "c": FIRST, "s": "1\n", "v": "0\n", "l": listings.LISTING}
     yield "a controller to a full device", (["generate", "d", "p", "/dev/full", "r"], made, 4, "", "error 4 write-fault 3\n", {}, {}), None
     yield "a report to a full device", (["generate", "d", "p", "c", "/dev/full"], made, 4, "", "error 4 write-fault 4\n", {"c": FIRST}, {}), None
-    for words in (SOLVE, ["loop", "d", "c", "s", "1"], ["demo", "7"]):
+    held = {"d": staying.HELD, "p": POLICY, "f": staying.FACES}
+    for at, words in ((3, ["stay", "d", "p", "/dev/full", "r", "f"]), (4, ["stay", "d", "p", "c", "/dev/full", "f"])):
+        yield f"stay to a full device at {at}", (words, held, 4, "", f"error 4 write-fault {at}\n", {} if at == 3 else {"c": staying.CONTROLLER}, {}), None
+    yield "a listing to a full device", (["list", "c", "/dev/full"], read, 4, "", "error 4 write-fault 2\n", {}, {}), None
+    for words in (SOLVE, ["loop", "d", "c", "s", "1"], ["loop", "d", "c", "s", "1", "v"], ["demo", "7"], ["play", "l", "s"]):
         yield f"the output of {words[0]} to a full device", (words, read, 4, None, "error 4 write-fault 0\n", {}, {}), "/dev/full"
 
 
@@ -336,7 +342,7 @@ def wrong(words, files, status, out, line, whole, lines, output=None):
 
 def main():
     failed = count = 0
-    own = [(name, row, None) for name, row in [*rows(), *fine_rows(), *corner_rows(), *version_rows(), *second_rows(), *staying.rows()]]
+    own = [(name, row, None) for name, row in [*rows(), *fine_rows(), *corner_rows(), *version_rows(), *second_rows(), *staying.rows(), *listings.rows()]]
     for name, row, output in [*own, *full_rows()]:
         count += 1
         found = wrong(*row, output=output)

@@ -8,6 +8,28 @@ STAY, UNDER = ["stay", "d", "p", "c", "r", "f"], ["stay", "d", "p", "c", "r", "f
 # x+ = x + u from 0 to 1, and one stage, so that the final rows are those on the next state
 HELD = sub(BASE, targets(10, 1, 10), ("final = [[4, 1]]", "final = [[4, 1], [-4, 1]]"))
 FACES = "4,0,0,1,0\n4,0,0,0,1\n"
+CONTROLLER = """mpc-controller 1
+size 1 1 1 4
+bits 12 0 1 31
+steps 641
+clamp 131072
+words 7
+lo 0
+hi 1
+P 2048
+T 0
+W 1024 -1024 1024 -1024
+G 4096
+G -4096
+G 4096
+G -4096
+E 0
+E 0
+E 4096
+E -4096
+b 4096 4096 1024 1024
+end
+"""
 MOST = 2**31 - 1
 
 
@@ -26,12 +48,16 @@ def left(design, policy, faces, line, shifts=None):
 
 
 def face_rows():
-    report = ["steps 641", "bits 12", "width 31", "violation 77438459892 1099511627776", "gap 180389150720 1099511627776"]
-    yield "stay: a design that is held", stays(HELD, POLICY, FACES, r=report, c=["bits 12 0 1 31", "clamp 131072"])
+    report = ["steps 641", "bits 12", "width 31", "violation 77438459892 1099511627776", "gap 180389150720 1099511627776", "undercut 619507679136 1099511627776"]
+    yield "stay: a design that is held", (STAY, {"d": HELD, "p": POLICY, "f": FACES}, 0, "", "", {"c": CONTROLLER}, {"r": report})
+    yield "stay over old files", (STAY, {"d": HELD, "p": POLICY, "f": FACES, "c": "an old controller\n" * 99, "r": "an old report\n"}, 0, "", "", {"c": CONTROLLER}, {"r": report})
     yield "stay: JSON", (["stay", "d", "p", "c", "r.json", "f"], {"d": HELD, "p": POLICY, "f": FACES}, 0, "", "", {
-        "r.json": '{"bits":"12","cost":"1","gap":"180389150720","margin":"8192","multiplier":"8","step":"1","steps":"641","undercut":"619507679136","version":"1",'
+        "c": CONTROLLER, "r.json": '{"bits":"12","cost":"1","gap":"180389150720","margin":"8192","multiplier":"8","step":"1","steps":"641","undercut":"619507679136","version":"1",'
         '"violation":"77438459892","width":"31","words":"7"}\n'}, {})
     yield "stay: a lower face by the input alone", left(HELD, POLICY, "4,0,0,1,0\n4,0,1,0,0\n", "17 no-stay 2 -1")
+    old = {"d": HELD, "p": POLICY, "c": "an old controller\n", "r": "an old report\n"}
+    yield "stay: old files are left where a face is refused", refused(STAY, {**old, "f": "4,0,0,1,0\n4,0,1,0,0\n"}, 17, "no-stay 2 -1")
+    yield "stay: old files are left where the inputs are unequal", refused(STAY, {**old, "f": "3,0,0,1,0\n4,0,0,0,1\n"}, 16, "unequal 1 1 4 3")
     yield "stay: rows that have less of the input", left(HELD, POLICY, "3,0,0,1,0\n4,0,0,0,1\n", "16 unequal 1 1 4 3")
     yield "stay: a lower face with the upper one's row", left(HELD, POLICY, "4,0,0,1,0\n4,0,0,1,0\n", "16 unequal 2 1 4 -4")
     yield "stay: no-stay of a face before unequal of the next", left(HELD, POLICY, "4,1,0,0,0\n3,0,0,0,1\n", "17 no-stay 1 2")
