@@ -2,7 +2,7 @@
 
 The first are computed by hand; the numbers of the others are those of the model in ../fuzz.
 """
-from texts import BASE, FIRST, LIMITS, POLICY, SOLVE, costs, in_second, limits, plant_over, put, refused, sub, targets, violations
+from texts import BASE, FIRST, POLICY, costs, in_second, limits, plant_over, put, refused, sub, targets, violations
 
 STAY, UNDER = ["stay", "d", "p", "c", "r", "f"], ["stay", "d", "p", "c", "r", "f", "w"]
 # x+ = x + u from 0 to 1, and one stage, so that the final rows are those on the next state
