@@ -49,8 +49,9 @@ def left(design, policy, faces, line, shifts=None):
 
 def face_rows():
     report = ["steps 641", "bits 12", "width 31", "violation 77438459892 1099511627776", "gap 180389150720 1099511627776", "undercut 619507679136 1099511627776"]
-    yield "stay: a design that is held", (STAY, {"d": HELD, "p": POLICY, "f": FACES}, 0, "", "", {"c": CONTROLLER}, {"r": report})
-    yield "stay over old files", (STAY, {"d": HELD, "p": POLICY, "f": FACES, "c": "an old controller\n" * 99, "r": "an old report\n"}, 0, "", "", {"c": CONTROLLER}, {"r": report})
+    whole = "\n".join(["mpc-report 1\nmargin 8192 65536\ncost 1\nmultiplier 8\nstep 1", *report[:3], "words 7", *report[3:], "end\n"])
+    yield "stay: a design that is held", (STAY, {"d": HELD, "p": POLICY, "f": FACES}, 0, "", "", {"c": CONTROLLER, "r": whole}, {})
+    yield "stay over old files", (STAY, {"d": HELD, "p": POLICY, "f": FACES, "c": "an old controller\n" * 99, "r": "an old report\n"}, 0, "", "", {"c": CONTROLLER, "r": whole}, {})
     yield "stay: JSON", (["stay", "d", "p", "c", "r.json", "f"], {"d": HELD, "p": POLICY, "f": FACES}, 0, "", "", {
         "c": CONTROLLER, "r.json": '{"bits":"12","cost":"1","gap":"180389150720","margin":"8192","multiplier":"8","step":"1","steps":"641","undercut":"619507679136","version":"1",'
         '"violation":"77438459892","width":"31","words":"7"}\n'}, {})
