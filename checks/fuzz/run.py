@@ -8,7 +8,7 @@ determined: they are taken from the controller that the program wrote, once they
 product and partial sum traced, and all must fit its width; but a run of many steps of a controller that isn't of the kind `controller` only has its sums compared.
 
 A case is made of the seed and its number alone. --case runs one again and shows it; --kind makes all cases of that kind: generate, border, stay, solve, controller, loop,
-list, play, demo, usage. Half of the designs are of version 2; how many of these were accepted, and how many of them have a row with a smaller exponent, the last line says. A border
+list, play, demo, usage. Of the kind `stay` the first are the worked rows that are accepted. Half of the designs are of version 2; how many of these were accepted, and how many of them have a row with a smaller exponent, the last line says. A border
 design's exact numbers, its enclosures, the corners of its policy in either class, or what its rows come to where they count 16 times, pass the limit by little or stay
 below it by little. Of each, the model's exact numbers must be the simulated plant's, its enclosures must hold them, no corner may have less slack or a greater cost than
 its enclosures show, and both classes are counted beside the status, and whether a design of version 2 has room for smaller exponents.
@@ -70,10 +70,13 @@ class Maker:
         self.designs = list(cases.examples())
         self.controllers = list(cases.small_controllers(self.designs))
         self.texts = [text for _, text in self.controllers]
+        self.held = list(stay_cases.worked())
 
     def case(self, number):
         pick = random.Random(f"{self.seed} {number}")
         kind = self.kind or ("demo" if number % DEMO_EVERY == DEMO_EVERY - 1 else pick.choice(KINDS))
+        if self.kind == "stay" and number < len(self.held):
+            return self.stay_case("r", self.held[number])
         made = getattr(self, kind)(pick)
         if kind in ("generate", "stay", "solve", "loop", "list", "play") and pick.random() < 0.03:
             self.rename(pick, made)
@@ -93,9 +96,11 @@ class Maker:
         return Case("border", ["generate", "d", "p", "c", "r"], {"d": design, "p": policy})
 
     def stay(self, pick):
-        texts = stay_cases.stay_texts(pick)
+        return self.stay_case(pick.choice(["r", "r", "r.json"]), stay_cases.stay_texts(pick, self.held))
+
+    def stay_case(self, report, texts):
         files = {name: text for name, text in zip("dpfw", texts) if text is not None}
-        return Case("stay", ["stay", "d", "p", "c", pick.choice(["r", "r", "r.json"]), "f", *(["w"] if "w" in files else [])], files)
+        return Case("stay", ["stay", "d", "p", "c", report, "f", *(["w"] if "w" in files else [])], files)
 
     def solve(self, pick):
         text = pick.choice(self.controllers)[1]

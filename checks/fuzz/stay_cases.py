@@ -1,9 +1,13 @@
 """Designs with faces and disturbances for run.py: most of them are accepted, or would be but for a number; and designs whose faces are large."""
+import os
+import sys
 from itertools import product
 from math import gcd
 
+sys.path.append(os.path.join(os.path.dirname(os.path.abspath(__file__)), "..", "rows"))
 import cases
 import model
+import stay_rows
 import staying
 
 MOST = 2**31 - 1
@@ -138,11 +142,19 @@ def small_values(pick, texts):
     return tuple(cases.changed(pick, text) if i == at else text for i, text in enumerate(texts))
 
 
-def stay_texts(pick):
+def worked():
+    """The design, policy, faces and disturbances of each worked row that is accepted."""
+    for _, (words, files, status, *_) in stay_rows.rows():
+        if words[0] == "stay" and status == 0:
+            texts = [files.get(name) for name in "dpfw"]
+            yield tuple(text and text.encode() for text in texts)
+
+
+def stay_texts(pick, base):
     how = pick.random()
     if how < 0.15:
         return large_faces(pick)
-    texts = held(pick)
+    texts = pick.choice(base) if how < 0.2 or how > 0.95 else held(pick)
     return texts if how < 0.6 else small_values(pick, texts)
 
 
