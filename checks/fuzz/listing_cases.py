@@ -27,6 +27,22 @@ def random_listing(pick):
                            pick.choice([1, 4096, 2**126]), pick.choice([1, 1, 2, 3, 9, 100]), body)
 
 
+def body_changed(pick, l):
+    """The instructions with a few changed: one left out, one twice, two exchanged, or another in one's place."""
+    body = list(l.body)
+    for _ in range(pick.choice([1, 1, 2, 5])):
+        at, other, how = pick.randrange(len(body)), pick.randrange(len(body)), pick.randrange(4)
+        if how == 0 and len(body) > 1:
+            del body[at]
+        elif how == 1:
+            body.insert(other, body[at])
+        elif how == 2:
+            body[at], body[other] = body[other], body[at]
+        else:
+            body[at] = random_instruction(pick, l.words, max(1, l.word // 2))
+    return body
+
+
 def needed_word(l, states):
     """The least width in which these states are played, by a search."""
     least, most, kept = 2, 128, l.word
@@ -69,7 +85,10 @@ def listing_texts(pick, texts, most):
         is_short = l.repeat * len(l.body) <= most
         l.word = max(2, min(128, (needed_word(l, [c.hi]) if is_short else l.word) + pick.choice([-1, -1, 0, -2, -3, -9])))
         return listing.text_of(l), states, None
-    if how < 0.8:
+    if how < 0.85:
+        l.body = body_changed(pick, l)
+        return listing.text_of(l), states, None
+    if how < 0.9:
         l.word, l.repeat = max(2, l.word - pick.choice([0, 1, 2])), pick.choice([1, 2, l.repeat + 1])
         return listing.text_of(l), states, None
     return cases.changed(pick, listing.text_of(l)), states, None
