@@ -7,7 +7,6 @@ from math import ceil
 import at_corners
 import control
 import forms
-import listing
 import model
 import program
 
@@ -467,25 +466,3 @@ def design_beside(pick, c):
          "b": [some(p) for _ in range(n)], "cost_den": 1, "row_den": 1, "input": [1] * p, "cost": [], "final_cost": [], "limit_den": 1, "rows": [[0] * (n + p) + [1]],
          "final_rows": [], "grid": g, "lo": [0] * n, "hi": [0] * n, "target_den": 1, "violation": 1, "gap": 1}
     return design_text(v)
-
-
-# ---- listings
-
-
-def other_body(pick, l):
-    """The instructions of a listing, with a few changed: one left out, one twice, two exchanged, or one with another address, constant or number of bits."""
-    body = list(l.body)
-    for _ in range(pick.choice([1, 1, 2, 5])):
-        at, other = pick.randrange(len(body)), pick.randrange(len(body))
-        how = pick.randrange(4)
-        if how == 0 and len(body) > 1:
-            del body[at]
-        elif how == 1:
-            body.insert(other, body[at])
-        elif how == 2:
-            body[at], body[other] = body[other], body[at]
-        else:
-            name = pick.choice(sorted(listing.NUMBERS))
-            number = {"a": lambda: pick.randrange(l.words), "c": lambda: pick.choice([0, 1, -1, 2**127 - 1, -(2**127), pick.randrange(-(2**20), 2**20)]), "k": lambda: pick.choice([0, 1, 7, 126])}
-            body[at] = (name, *(number[kind]() for kind in listing.NUMBERS[name]))
-    return body

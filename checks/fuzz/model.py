@@ -143,15 +143,15 @@ def number_field(word):
     return value if found and abs(value) <= 2**63 - 1 else None
 
 
-def read_records(data, width, is_in_range=lambda field, value: True):
-    """Lists of numbers, or the status 5 with the first fault."""
+def read_records(data, width, is_in_range=lambda before, field, value: True):
+    """Lists of numbers, or the status 5 with the first fault. What is in range may rest on the records before."""
     rows = []
     for entry, record in enumerate(records(data), 1):
         if len(record) != width:
             raise Refused(5, "fields", entry)
         row = [number_field(word) for word in record]
         for field, value in enumerate(row, 1):
-            if value is None or not is_in_range(field, value):
+            if value is None or not is_in_range(rows, field, value):
                 raise Refused(5, "number", entry, field)
         rows.append(row)
     return rows
@@ -159,7 +159,7 @@ def read_records(data, width, is_in_range=lambda field, value: True):
 
 def read_policy(data, design):
     """The plans, each with its denominator, or the status 5 with the first fault."""
-    rows = read_records(data, design.entries + 1, lambda field, value: field > 1 or 1 <= value <= 2**40)
+    rows = read_records(data, design.entries + 1, lambda _, field, value: field > 1 or 1 <= value <= 2**40)
     if len(rows) != 2**design.states:
         raise Refused(5, "count", len(rows))
     return [(row[0], row[1:]) for row in rows]
@@ -399,13 +399,23 @@ class Choice:
     greatest: int
     errors: Errors
 
+    def violation(self, exponent, cost):
+        """By how much a row of this exponent is exceeded at most, where the errors of a step cost so much."""
+        r, k, s = (self.report[key] for key in ("multiplier", "steps", "step"))
+        return ceil_div((2**exponent + 2**s) * 2**40 * r, k) + ceil_div(cost, r)
+
+    @property
+    def stated_violations(self):
+        """Of each row, by the design and the policy alone."""
+        cost = self.errors.epsilon(self.report["bits"])
+        return [self.violation(exponent, cost) for exponent in self.exponents]
+
     def printed(self, solutions, magnitude):
         """The bounds that are printed, by the residuals that these gains leave: the violations are of each row. A plan entry of theirs is at most `magnitude` over
         2^bits."""
-        r, k, f, s = (self.report[key] for key in ("multiplier", "steps", "bits", "step"))
-        cost = self.errors.real(self, solutions, magnitude, f)
-        of = lambda exponent: ceil_div((2**exponent + 2**s) * 2**40 * r, k) + ceil_div(cost, r)
-        return {"violation": of(s), "violations": list(map(of, self.exponents)), "gap": cost, "undercut": r * of(s)}
+        cost = self.errors.real(self, solutions, magnitude, self.report["bits"])
+        greatest = self.violation(self.report["step"], cost)
+        return {"violation": greatest, "violations": [self.violation(exponent, cost) for exponent in self.exponents], "gap": cost, "undercut": self.report["multiplier"] * greatest}
 
 
 def choose(d, plans):

@@ -15,11 +15,14 @@ sys.path.insert(0, os.path.dirname(os.path.abspath(__file__)))
 import control
 import listing
 import model
+import staying
 from model import LIMIT, Refused
 
 NAMES = {1: "memory", 2: "usage", 3: "read-fault", 4: "write-fault", 5: "text", 6: "no-margin", 7: "curvature", 8: "too-many-steps", 9: "too-fine", 10: "too-wide",
-         11: "controller", 12: "outside-box", 13: "long", 14: "mismatch", 20: "listing", 21: "trap"}
-COUNTS = {"generate": 4, "solve": 2, "loop": 4, "demo": 1, "list": 2, "play": 2}
+         11: "controller", 12: "outside-box", 13: "long", 14: "mismatch", 16: "unequal", 17: "no-stay", 20: "listing", 21: "trap"}
+# how many words follow each command, and which of them are written
+COUNTS = {"generate": [4], "stay": [5, 6], "solve": [2], "loop": [4, 5], "demo": [1], "list": [2], "play": [2]}
+OUTPUTS = {"generate": [3, 4], "stay": [3, 4], "list": [2]}
 OVER = 2**40
 
 
@@ -105,7 +108,12 @@ gap = 4
 
 def generate(d, plans, gains):
     """The controller and its bounds, or Refused."""
-    choice = model.choose(d, plans)
+    return made_of(model.choose(d, plans), gains)
+
+
+def made_of(choice, gains):
+    """A choice's controller and its bounds."""
+    d = choice.design
     columns, n, r = gains(choice), d.states, choice.report
     side_by_side = lambda some: [list(row) for row in zip(*some)]
     c = control.Controller(n, d.inputs, d.stages, d.rows, r["bits"], d.grid, r["step"], 2, r["steps"], choice.clamp, list(d.lo), list(d.hi),
@@ -116,13 +124,13 @@ def generate(d, plans, gains):
 
 class Program:
     """The words are texts, the first of them the command; `read` gives a name's bytes, or None where it can't be read; `write` tells whether a name could be
-    written. `run` gives a controller's sums from a state."""
+    written. `run` gives a controller's sums from a state, `played` a listing's words."""
 
-    def __init__(self, words, read, write, gains, run=control.run, put=None, run_listing=listing.play_line):
-        self.words, self.read, self.write, self.gains, self.run, self.run_listing = words, read, write, gains, run, run_listing
+    def __init__(self, words, read, write, gains, run=control.run, played=listing.played, put=None):
+        self.words, self.read, self.write, self.gains, self.run, self.played = words, read, write, gains, run, played
         self.answer = Answer()
         self.put = put or self.answer.out.append
-        # the controller that `generate` made
+        # the controller that was made of a design
         self.made = None
 
     def text(self, file, reader):
@@ -139,12 +147,10 @@ class Program:
 
     def usage(self):
         words = self.words
-        if not words or COUNTS.get(words[0]) != len(words) - 1:
+        if not words or len(words) - 1 not in COUNTS.get(words[0], []):
             raise Refused(2)
         names = words[1:]
-        if words[0] == "generate" and (names.count(names[2]) > 1 or names.count(names[3]) > 1):
-            raise Refused(2)
-        if words[0] == "list" and names[0] == names[1]:
+        if any(names.count(words[at]) > 1 for at in OUTPUTS.get(words[0], [])):
             raise Refused(2)
         if words[0] == "loop" and decimal(names[3], 1000000) is None or words[0] == "demo" and decimal(names[0], 2**32 - 1) is None:
             raise Refused(2)
@@ -161,40 +167,54 @@ class Program:
     def generate(self):
         d = self.text(1, model.read_design)
         plans = self.text(2, lambda data: model.read_policy(data, d))
-        c, b = generate(d, plans, self.gains)
+        self.write_made(model.choose(d, plans))
+
+    def stay(self):
+        d = self.text(1, model.read_design)
+        plans = self.text(2, lambda data: model.read_policy(data, d))
+        faces = self.text(5, lambda data: staying.read_faces(data, d))
+        still = [[0] * d.states] * 2
+        shifts = still if len(self.words) == 6 else self.text(6, lambda data: staying.read_shift_box(data, d.states))
+        choice = model.choose(d, plans)
+        staying.check(d, faces, choice.stated_violations, *shifts)
+        self.write_made(choice)
+
+    def write_made(self, choice):
+        c, b = made_of(choice, self.gains)
         self.made = c
         told = report_json if self.words[4].endswith(".json") else report_text
-        for file, data in ((3, control.text_of(c)), (4, told(b))):
+        self.write_texts((3, control.text_of(c)), (4, told(b)))
+
+    def write_texts(self, *texts):
+        for file, data in texts:
             if not self.write(self.words[file]):
                 raise Refused(4, file)
             self.answer.written[self.words[file]] = data
 
+    def states(self, file, machine, count):
+        """The states of a file, all of which must lie in the box of a controller or a listing."""
+        rows = self.text(file, lambda data: model.read_records(data, count))
+        for entry, row in enumerate(rows, 1):
+            if control.outside(machine, row):
+                raise Refused(12, entry, 0, control.outside(machine, row))
+        return rows
+
     def solve(self):
         c = self.text(1, control.read_controller)
-        rows = self.text(2, lambda data: model.read_records(data, c.n))
-        for entry, row in enumerate(rows, 1):
-            if control.outside(c, row):
-                raise Refused(12, entry, 0, control.outside(c, row))
-        for row in rows:
+        for row in self.states(2, c, c.n):
             self.put(control.plan_line(c, row, self.run))
 
     def list(self):
-        data = listing.text_of(listing.listing_of(self.text(1, control.read_controller)))
-        if not self.write(self.words[2]):
-            raise Refused(4, 2)
-        self.answer.written[self.words[2]] = data
+        c = self.text(1, control.read_controller)
+        self.write_texts((2, listing.text_of(listing.listing_of(c))))
 
     def play(self):
         l = self.text(1, listing.read_listing)
-        rows = self.text(2, lambda data: model.read_records(data, l.n))
-        for entry, row in enumerate(rows, 1):
-            if control.outside(l, row):
-                raise Refused(12, entry, 0, control.outside(l, row))
-        for entry, row in enumerate(rows, 1):
+        for entry, row in enumerate(self.states(2, l, l.inputs), 1):
             try:
-                self.put(self.run_listing(l, row))
-            except Refused as refused:
-                raise Refused(refused.args[0], entry, *refused.args[1:])
+                self.put(listing.play_line(l, self.played(l, row)))
+            except listing.Trapped as trapped:
+                raise Refused(21, entry, *trapped.args)
 
     def loop(self):
         d = self.text(1, model.read_design)
@@ -203,11 +223,13 @@ class Program:
             if design != controller:
                 raise Refused(14, name, design, controller)
         rows = self.text(3, lambda data: model.read_records(data, c.n))
+        turns = int(self.words[4])
+        shifts = [[0] * c.n] * turns if len(self.words) == 5 else self.text(5, lambda data: staying.read_shifts(data, c.n, turns))
         if rows and control.turn_size(d, c) > LIMIT:
             raise Refused(10, "turn")
         seen = {}
         for entry, row in enumerate(rows, 1):
-            for line in control.loop_lines(d, c, entry, row, int(self.words[4]), seen, self.run):
+            for line in control.loop_lines(d, c, entry, row, shifts, seen, self.run):
                 self.put(line)
 
     def demo(self):
