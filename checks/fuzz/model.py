@@ -13,6 +13,7 @@ from fractions import Fraction
 from math import ceil, isqrt
 
 import at_corners
+import excess
 import forms
 from forms import LIMIT, ceil_div
 
@@ -404,28 +405,50 @@ class Choice:
         2^bits."""
         r, k, f, s = (self.report[key] for key in ("multiplier", "steps", "bits", "step"))
         cost = self.errors.real(self, solutions, magnitude, f)
-        of = lambda exponent: ceil_div((2**exponent + 2**s) * 2**40 * r, k) + ceil_div(cost, r)
-        return {"violation": of(s), "violations": list(map(of, self.exponents)), "gap": cost, "undercut": r * of(s)}
+        if self.is_lean:
+            target = target_of(self.design, 2**40)
+            of = lambda exponent: min(target, ceil_div(target, 2) + ceil_div(2 ** (exponent + 40) * r, k) + ceil_div(cost, 2 * r))
+        else:
+            of = lambda exponent: ceil_div((2**exponent + 2**s) * 2**40 * r, k) + ceil_div(cost, r)
+        return {"violation": of(s), "violations": list(map(of, self.exponents)), "gap": cost, "undercut": r * (target if self.is_lean else of(s))}
+
+    @property
+    def is_lean(self):
+        return "excess" in self.report
 
 
-def choose(d, plans):
-    """The choice, or Refused."""
+def target_of(d, units):
+    """The violation target in these units, rounded down."""
+    return units * d.violation // d.target_den
+
+
+def choose(d, plans, references=None):
+    """The choice, or Refused; a lean one where there are reference plans."""
     n, nu, m, g = d.states, d.entries, d.rows, d.grid
     margin, cost = margins(d, plans)
-    r = max(1, ceil_div(2**16 * cost, margin))
-    limited(max(2**16 * cost, 2**82 * r), "multiplier")
+    if references is None:
+        r = max(1, ceil_div(2**16 * cost, margin))
+        limited(max(2**16 * cost, 2**82 * r), "multiplier")
     form = form_of(d)
     for name, size in forms.sizes(d, form).items():
         limited(size, name)
     matrices = StepMatrices(d, form)
     s = step_exponent(d, form, matrices)
-    half, gap_target = 2**39 * d.violation // d.target_den, 2**40 * d.gap // d.target_den
-    k = ceil_div(2 ** (s + 41) * r, half)
+    # how much of the violation's target the steps may take, and how much rounding
+    for_steps = for_rounding = target_of(d, 2**39)
+    if references is not None:
+        above, size = excess.excess(d, form, plans, references)
+        limited(size, "excess")
+        r = max(1, ceil_div(above, margin + target_of(d, 2**16)))
+        limited(max(above, 2**82 * r), "multiplier")
+        for_steps, for_rounding = target_of(d, 15 * 2**36), target_of(d, 2**36)
+    gap_target = 2**40 * d.gap // d.target_den
+    k = ceil_div(2 ** (s + 41) * r, for_steps)
     if k > 2**22:
         raise Refused(8, k)
     errors = Errors(d, form, r)
     limited(errors.size, "error")
-    f = next((f for f in range(g, 49) if errors.epsilon(f) <= min(gap_target, r * half)), None)
+    f = next((f for f in range(g, 49) if errors.epsilon(f) <= min(gap_target, r * for_rounding)), None)
     if f is None:
         raise Refused(9, errors.epsilon(48))
     matrix = [[2 * d.limit_den * v.mid for v in row] for row in form.q]
@@ -442,7 +465,8 @@ def choose(d, plans):
     plan = ceil_div(entry, 2 ** (f + s))
     row_sums = [sum(map(abs, row)) * plan + forms.dot(map(abs, state), reaches) + 2**f * abs(limit) for row, state, limit in zip(rows, states, limits)]
     greatest = limited(max(reaches + [entry, k * plan] + row_sums + [clamp + ceil_div(v, 2**f) for v in row_sums]), "width")
-    report = {"margin": margin, "cost": cost, "multiplier": r, "step": s, "steps": k, "bits": f, "words": n + m + 2 * nu}
+    dearest = {"cost": cost} if references is None else {"excess": above}
+    report = {"margin": margin, **dearest, "multiplier": r, "step": s, "steps": k, "bits": f, "words": n + m + 2 * nu}
     exponents = row_exponents(d, form, matrices, s)
     return Choice(d, report, exponents, clamp, rows, states, limits, matrix, columns, bounds, greatest, errors)
 

@@ -18,7 +18,9 @@ from model import LIMIT, Refused
 
 NAMES = {1: "memory", 2: "usage", 3: "read-fault", 4: "write-fault", 5: "text", 6: "no-margin", 7: "curvature", 8: "too-many-steps", 9: "too-fine", 10: "too-wide",
          11: "controller", 12: "outside-box", 13: "long", 14: "mismatch"}
-COUNTS = {"generate": 4, "solve": 2, "loop": 4, "demo": 1}
+COUNTS = {"generate": 4, "lean": 5, "solve": 2, "loop": 4, "demo": 1}
+# the places of a controller's name and its report's among the words
+OUTPUTS = {"generate": (3, 4), "lean": (4, 5)}
 OVER = 2**40
 
 
@@ -49,7 +51,8 @@ def report_text(b):
     violations = [("violation", b["violation"], OVER)]
     if b["version"] > 1:
         violations = [("violation", row, value, OVER) for row, value in enumerate(b["violations"], 1)]
-    rows = [("mpc-report", b["version"]), ("margin", b["margin"], 65536), ("cost", b["cost"]), ("multiplier", b["multiplier"]), ("step", b["step"]), ("steps", b["steps"]),
+    dearest = ("excess", b["excess"], 65536) if "excess" in b else ("cost", b["cost"])
+    rows = [("mpc-report", b["version"]), ("margin", b["margin"], 65536), dearest, ("multiplier", b["multiplier"]), ("step", b["step"]), ("steps", b["steps"]),
             ("bits", b["bits"]), ("width", b["width"]), ("words", b["words"]), *violations, ("gap", b["gap"], OVER), ("undercut", b["undercut"], OVER), ("end",)]
     return "".join(" ".join(map(str, row)) + "\n" for row in rows).encode()
 
@@ -102,9 +105,9 @@ gap = 4
 # ---- the commands
 
 
-def generate(d, plans, gains):
-    """The controller and its bounds, or Refused."""
-    choice = model.choose(d, plans)
+def generate(d, plans, gains, references=None):
+    """The controller and its bounds, or Refused; lean ones where there are reference plans."""
+    choice = model.choose(d, plans, references)
     columns, n, r = gains(choice), d.states, choice.report
     side_by_side = lambda some: [list(row) for row in zip(*some)]
     c = control.Controller(n, d.inputs, d.stages, d.rows, r["bits"], d.grid, r["step"], 2, r["steps"], choice.clamp, list(d.lo), list(d.hi),
@@ -121,7 +124,7 @@ class Program:
         self.words, self.read, self.write, self.gains, self.run = words, read, write, gains, run
         self.answer = Answer()
         self.put = put or self.answer.out.append
-        # the controller that `generate` made
+        # the controller that was made
         self.made = None
 
     def text(self, file, reader):
@@ -141,7 +144,7 @@ class Program:
         if not words or COUNTS.get(words[0]) != len(words) - 1:
             raise Refused(2)
         names = words[1:]
-        if words[0] == "generate" and (names.count(names[2]) > 1 or names.count(names[3]) > 1):
+        if any(words[1:].count(words[place]) > 1 for place in OUTPUTS.get(words[0], ())):
             raise Refused(2)
         if words[0] == "loop" and decimal(names[3], 1000000) is None or words[0] == "demo" and decimal(names[0], 2**32 - 1) is None:
             raise Refused(2)
@@ -158,10 +161,19 @@ class Program:
     def generate(self):
         d = self.text(1, model.read_design)
         plans = self.text(2, lambda data: model.read_policy(data, d))
-        c, b = generate(d, plans, self.gains)
+        self.put_files(*generate(d, plans, self.gains))
+
+    def lean(self):
+        d = self.text(1, model.read_design)
+        plans, references = (self.text(file, lambda data: model.read_policy(data, d)) for file in (2, 3))
+        self.put_files(*generate(d, plans, self.gains, references))
+
+    def put_files(self, c, b):
+        """Writes a controller and its report."""
         self.made = c
-        told = report_json if self.words[4].endswith(".json") else report_text
-        for file, data in ((3, control.text_of(c)), (4, told(b))):
+        places = OUTPUTS[self.words[0]]
+        told = report_json if self.words[places[1]].endswith(".json") else report_text
+        for file, data in zip(places, (control.text_of(c), told(b))):
             if not self.write(self.words[file]):
                 raise Refused(4, file)
             self.answer.written[self.words[file]] = data

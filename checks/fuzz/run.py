@@ -7,8 +7,8 @@ For each of COUNT (1000) cases the exit status, the line on standard error, stan
 determined: they are taken from the controller that the program wrote, once they are known to solve their systems. Each run of a controller is made with every
 product and partial sum traced, and all must fit its width; but a run of many steps of a controller that isn't of the kind `controller` only has its sums compared.
 
-A case is made of the seed and its number alone. --case runs one again and shows it; --kind makes all cases of that kind: generate, border, solve, controller, loop,
-demo, usage. Half of the designs are of version 2; how many of these were accepted, and how many of them have a row with a smaller exponent, the last line says. A border
+A case is made of the seed and its number alone. --case runs one again and shows it; --kind makes all cases of that kind: generate, lean, border, solve, controller,
+loop, demo, usage. Half of the designs are of version 2; how many of these were accepted, and how many of them have a row with a smaller exponent, the last line says. A border
 design's exact numbers, its enclosures, the corners of its policy in either class, or what its rows come to where they count 16 times, pass the limit by little or stay
 below it by little. Of each, the model's exact numbers must be the simulated plant's, its enclosures must hold them, no corner may have less slack or a greater cost than
 its enclosures show, and both classes are counted beside the status, and whether a design of version 2 has room for smaller exponents.
@@ -33,7 +33,7 @@ import forms
 import model
 import program
 
-KINDS = ["generate"] * 30 + ["border"] * 4 + ["solve"] * 26 + ["controller"] * 18 + ["loop"] * 18 + ["usage"] * 4
+KINDS = ["generate"] * 20 + ["lean"] * 12 + ["border"] * 4 + ["solve"] * 26 + ["controller"] * 18 + ["loop"] * 16 + ["usage"] * 4
 DEMO_EVERY = 2500
 # the most products that the model makes in a case, and the most in a run whose every value it traces
 MOST_PRODUCTS, MOST_TRACED = 3_000_000, 60_000
@@ -62,7 +62,7 @@ class Maker:
         pick = random.Random(f"{self.seed} {number}")
         kind = self.kind or ("demo" if number % DEMO_EVERY == DEMO_EVERY - 1 else pick.choice(KINDS))
         made = getattr(self, kind)(pick)
-        if kind in ("generate", "solve", "loop") and pick.random() < 0.03:
+        if kind in ("generate", "lean", "solve", "loop") and pick.random() < 0.03:
             self.rename(pick, made)
         return made
 
@@ -74,6 +74,11 @@ class Maker:
     def generate(self, pick):
         design, policy = cases.design_and_policy(pick, self.designs)
         return Case("generate", ["generate", "d", "p", "c", pick.choice(["r", "r", "r.json", ".json", "r.JSON", "json"])], {"d": design, "p": policy})
+
+    def lean(self, pick):
+        design, policy = cases.border_design(pick) if pick.random() < 0.1 else cases.design_and_policy(pick, self.designs)
+        words = ["lean", "d", "p", "q", "c", pick.choice(["r", "r", "r.json"])]
+        return Case("lean", words, {"d": design, "p": policy, "q": cases.references(pick, design, policy)})
 
     def border(self, pick):
         design, policy = cases.border_design(pick)
@@ -127,7 +132,7 @@ class Maker:
     def usage(self, pick):
         design, policy = self.designs[0]
         text = self.controllers[0][1]
-        words = pick.choice([["generate", "d", "p", "c", "r"], ["solve", "c", "s"], ["loop", "d", "c", "s", "1"], ["demo", "1"], []])
+        words = pick.choice([["generate", "d", "p", "c", "r"], ["lean", "d", "p", "p2", "c", "r"], ["solve", "c", "s"], ["loop", "d", "c", "s", "1"], ["demo", "1"], []])
         words = list(words)
         how = pick.randrange(4)
         if how == 0 and words:
@@ -141,7 +146,7 @@ class Maker:
         # (a demo that is none of a wrong usage has the program's gains, as the kind `demo` has)
         if words[:1] == ["demo"] and words[1:] in (["1"], ["1000001"]):
             words = ["demo", "1", "1"]
-        return Case("usage", words, {"d": design, "p": policy, "c": text, "s": b"0\n"})
+        return Case("usage", words, {"d": design, "p": policy, "p2": policy, "c": text, "s": b"0\n"})
 
 
 def products(c):
@@ -186,7 +191,8 @@ class Runner:
         left = self.left()
         read = lambda name: case.files.get(os.path.normpath(name)) if name else None
         write = lambda name: name not in ("", ".", "./", "./.") and "no/" not in name
-        written = lambda: next((left[name] for name in map(os.path.normpath, case.words[3:4]) if name in left), None)
+        place = program.OUTPUTS.get(case.words[0] if case.words else "", (3,))[0]
+        written = lambda: next((left[name] for name in map(os.path.normpath, case.words[place : place + 1]) if name in left), None)
         wrong, status, notes = self.compare(case, ran, left, read, write, lambda choice: gains_of(choice, written()))
         if case.kind == "border":
             d = model.read_design(case.files["d"])
@@ -335,7 +341,7 @@ def main():
     parser.add_argument("--cases", type=int, default=1000)
     parser.add_argument("--seed", type=int, default=1)
     parser.add_argument("--jobs", type=int, default=os.cpu_count())
-    parser.add_argument("--kind", choices=["generate", "border", "solve", "controller", "loop", "demo", "usage"])
+    parser.add_argument("--kind", choices=["generate", "lean", "border", "solve", "controller", "loop", "demo", "usage"])
     parser.add_argument("--case", type=int)
     options = parser.parse_args()
     options.program = os.path.abspath(options.program)
