@@ -483,6 +483,42 @@ def why_no_gains(choice, solutions):
     return None
 
 
+def gains(choice):
+    """The model's own good solutions: in time with any number of entries."""
+    return exact_gains(choice) if len(choice.matrix) <= 12 else refined_gains(choice)
+
+
+def refined_gains(choice):
+    """Good solutions in floating point, each refined by what it really misses, in whole numbers, until it is good; elimination over fractions of many entries takes hours."""
+    f, matrix, size = choice.report["bits"], choice.matrix, len(choice.matrix)
+    greatest = max(map(max, matrix))
+    rows = [[v / greatest for v in row] + [float(i == j) for i in range(size)] for j, row in enumerate(matrix)]
+    for j in range(size):
+        rows[j] = [v / rows[j][j] for v in rows[j]]
+        for i in range(size):
+            if i != j and rows[i][j]:
+                rows[i] = [a - rows[i][j] * b for a, b in zip(rows[i], rows[j])]
+    inverse, solutions = [row[size:] for row in rows], []
+    for column in choice.columns:
+        x, moved = [0] * size, [1]
+        while any(moved):
+            missed = [(2**f * c - sum(h * v for h, v in zip(row, x))) / greatest for row, c in zip(matrix, column)]
+            moved = [round(forms.dot(row, missed)) for row in inverse]
+            x = [v + m for v, m in zip(x, moved)]
+        solutions.append(settled(x, matrix, column, f))
+    return solutions
+
+
+def settled(x, matrix, column, f):
+    """A solution that is near, with single entries moved until it is good."""
+    while True:
+        rest = [sum(h * v for h, v in zip(row, x)) - 2**f * c for row, c in zip(matrix, column)]
+        j = max(range(len(x)), key=lambda j: Fraction(abs(rest[j]), matrix[j][j]))
+        if 2 * abs(rest[j]) <= matrix[j][j]:
+            return x
+        x[j] -= (2 * rest[j] + matrix[j][j]) // (2 * matrix[j][j])
+
+
 def exact_gains(choice):
     """Good solutions by elimination over fractions, each rounded to the nearest; where the rounding isn't good enough, entries are moved until it is."""
     f, matrix, size = choice.report["bits"], choice.matrix, len(choice.matrix)
@@ -496,11 +532,5 @@ def exact_gains(choice):
     solutions = []
     for number, column in enumerate(choice.columns):
         x = [(2 * rows[j][size + number] + 1).__floor__() // 2 for j in range(size)]
-        while True:
-            rest = [sum(h * v for h, v in zip(row, x)) - 2**f * c for row, c in zip(matrix, column)]
-            j = max(range(size), key=lambda j: Fraction(abs(rest[j]), matrix[j][j]))
-            if 2 * abs(rest[j]) <= matrix[j][j]:
-                break
-            x[j] -= (2 * rest[j] + matrix[j][j]) // (2 * matrix[j][j])
-        solutions.append(x)
+        solutions.append(settled(x, matrix, column, f))
     return solutions

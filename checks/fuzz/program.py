@@ -225,7 +225,7 @@ def main():
     def write(name):
         return name != "" and os.path.isdir(os.path.dirname(name) or ".") and not os.path.isdir(name)
 
-    said = answer(sys.argv[1:], read, write, model.exact_gains)
+    said = answer(sys.argv[1:], read, write, model.gains)
     for name, data in said.written.items():
         with open(name, "wb") as file:
             file.write(data)

@@ -202,6 +202,17 @@ class Rows(unittest.TestCase):
             self.assertAlmostEqual(found[key] / value, 1, delta=1e-4)
 
 
+class Gains(unittest.TestCase):
+    def test_refined_ones_are_good(self):
+        for name in ("motor", "wheel"):
+            design, policy = example(name)
+            d = model.read_design(design.encode())
+            chosen = model.choose(d, model.read_policy(policy.encode(), d))
+            refined = model.refined_gains(chosen)
+            self.assertIsNone(model.why_no_gains(chosen, refined))
+            self.assertLessEqual(max(abs(v - w) for x, y in zip(refined, model.exact_gains(chosen)) for v, w in zip(x, y)), 2)
+
+
 class Excess(unittest.TestCase):
     def test_at_least_what_the_plans_cost_more(self):
         for design, policy, reference in ((BASE, POLICY, REFERENCE), (BASE, POLICY, "1,5\n1,-7\n"), (FINE, FINE_POLICY, FINE_REFERENCE), (PUSHED, "100,391\n" * 2, "1,0\n" * 2)):
