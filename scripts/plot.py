@@ -1,7 +1,7 @@
 #!/usr/bin/env python3
 """Draws the lines of `./mpc loop` over time: states and inputs with their limits, one curve for each start.
 
-    scripts/plot.py DESIGN LINES [LINES ..] --out FILE.svg [--labels NAME,NAME] [--starts N,N] [--turns N]
+    scripts/plot.py DESIGN LINES [LINES ..] --out FILE.svg [--labels NAME,NAME] [--starts N,N] [--turns N] [--report REPORT]
 
 The name of FILE says its format: .svg, .pdf or .png.
 
@@ -12,6 +12,7 @@ more in three, as positions, velocities and accelerations along three axes do.
     --labels   what the files are called in the legend
     --starts   the records to draw, from 1 (all)
     --turns    the turns to draw (all)
+    --report   a report of the design, whose violations are drawn too, dotted: how far a limit may be exceeded at most, which a lean controller does
 """
 import io
 import os
@@ -29,7 +30,7 @@ from matplotlib.figure import Figure
 from common import files, matching
 from common.arguments import Parser, numbers, several
 from common.design_text import Design, read_design
-from common.texts import loop_lines_of
+from common.texts import loop_lines_of, read_text, report_of
 
 STYLES = ["-", "--", ":", "-."]
 ONE_COLUMN = 5
@@ -40,13 +41,19 @@ FORMATS = {".svg": {"Date": None}, ".pdf": {"CreationDate": None}, ".png": {}}
 MOST_LINES = 1000000
 
 
-def limits_of(design: Design, coordinate: int) -> list[float]:
-    """The values at which a stage row on this one coordinate binds: states first, then inputs."""
+def limits_of(design: Design, coordinate: int, report: dict | None = None) -> list[float]:
+    """The values at which a stage row on this one coordinate binds, or at which it is exceeded by as much as a report says: states first, then inputs."""
     out = []
-    for row in design.stage_rows:
+    for number, row in enumerate(design.stage_rows, 1):
         if row[coordinate] and sum(map(bool, row[:-1])) == 1:
-            out.append(row[-1] / row[coordinate])
+            out.append((row[-1] + design.limit_den * float(most_of(report, design, number) if report else 0)) / row[coordinate])
     return out
+
+
+def most_of(report: dict, design: Design, number: int) -> float:
+    """By how much a stage row is exceeded at most, at any stage."""
+    violations = report["violations"] or [report["violation"]] * design.rows
+    return float(max(violations[row - 1] for row, _ in design.rows_of("stage row", number)))
 
 
 def draw_start(axes: list, design: Design, loop: list, style: str, color: str, label: str, step: float) -> None:
@@ -60,7 +67,7 @@ def draw_start(axes: list, design: Design, loop: list, style: str, color: str, l
         axes[design.states + l].step(times, [float(u[l]) * size for _, u in loop], style, where="post", color=color, linewidth=1.2)
 
 
-def draw_limits(axes: list, design: Design) -> None:
+def draw_limits(axes: list, design: Design, report: dict | None) -> None:
     for i in range(design.states + design.inputs):
         name = design.name("state", i + 1) if i < design.states else design.name("input", i - design.states + 1)
         axes[i].set_ylabel(f"{name.word}\n{name.unit}".strip(), fontsize=8)
@@ -70,9 +77,11 @@ def draw_limits(axes: list, design: Design) -> None:
                 axes[i].axhline(bound / 2**design.grid * name.size, color="0.75", linewidth=0.8)
         for bound in limits_of(design, i):
             axes[i].axhline(bound * name.size, color="tab:red", linewidth=0.8)
+        for bound in limits_of(design, i, report) if report else []:
+            axes[i].axhline(bound * name.size, color="tab:red", linewidth=0.8, linestyle=":")
 
 
-def draw(design: Design, files: list[dict], labels: list[str], starts: list[int] | None = None, turns: int | None = None) -> Figure:
+def draw(design: Design, files: list[dict], labels: list[str], starts: list[int] | None = None, turns: int | None = None, report: dict | None = None) -> Figure:
     """The figure of these loops, a dictionary of record -> loop for each file."""
     count = design.states + design.inputs
     columns = 1 if count <= ONE_COLUMN else 3
@@ -82,7 +91,7 @@ def draw(design: Design, files: list[dict], labels: list[str], starts: list[int]
     for none in spare:
         none.set_axis_off()
     step = design.period or 1
-    draw_limits(axes, design)
+    draw_limits(axes, design, report)
     for number, (loops, label) in enumerate(zip(files, labels)):
         chosen = [record for record in sorted(loops) if not starts or record in starts]
         for place, record in enumerate(chosen):
@@ -142,9 +151,13 @@ def main() -> int:
     parser.add_argument("--labels", metavar="NAME,NAME")
     parser.add_argument("--starts", type=numbers, metavar="N,N")
     parser.add_argument("--turns", type=several, metavar="N")
+    parser.add_argument("--report", metavar="REPORT")
     given = parser.parse_args()
-    files.keep_apart({"DESIGN": given.design} | {f"LINES {place}": path for place, path in enumerate(given.lines, 1)}, {"--out": given.out})
+    files.keep_apart({"DESIGN": given.design} | ({"REPORT": given.report} if given.report else {}) | {f"LINES {place}": path for place, path in enumerate(given.lines, 1)}, {"--out": given.out})
     end, design = format_of(given.out), read_design(given.design)
+    report = report_of(read_text(given.report)) if given.report else None
+    if report:
+        matching.refuse("the report", "design", matching.report_difference(report, design))
     loops = [read_loops(path, design, given.starts, given.turns) for path in given.lines]
     labels = given.labels.split(",") if given.labels else [shown(path) for path in given.lines]
     if len(labels) != len(loops):
@@ -152,7 +165,7 @@ def main() -> int:
     # the same lines give the same bytes
     matplotlib.rcParams["svg.hashsalt"], matplotlib.rcParams["svg.fonttype"] = SALT, "none"
     picture = io.BytesIO()
-    draw(design, loops, labels, given.starts, given.turns).savefig(picture, format=end[1:], metadata=FORMATS[end])
+    draw(design, loops, labels, given.starts, given.turns, report).savefig(picture, format=end[1:], metadata=FORMATS[end])
     files.write(given.out, picture.getvalue())
     return 0
 

@@ -213,7 +213,7 @@ class Commands(unittest.TestCase):
 
     @unittest.skipIf(LACKING, f"missing: {', '.join(LACKING)}")
     def test_what_has_libraries(self):
-        _, p = folder_with(self, d=FIRST, lines=FIRST_LOOP, none="", s="1\n", far="2\n", c=SECOND_CONTROLLER)
+        _, p = folder_with(self, d=FIRST, lines=FIRST_LOOP, none="", s="1\n", far="2\n", c=SECOND_CONTROLLER, own=FIRST_CONTROLLER, lean=FIRST_LEAN_REPORT, other=SECOND_REPORT)
         d = p["d"]
         for status, told, name, *words in (
             (2, "POLICY .* is the same file as DESIGN", "policy", d, d),
@@ -230,6 +230,9 @@ class Commands(unittest.TestCase):
             (2, "argument --states: -1 is not at least 0", "judge", d, p["c"], "--states", "-1"),
             (1, "is of another design: its version is 2", "judge", d, p["c"]),
             (1, "is no controller text", "judge", d, d),
+            (1, "the controller is of another report than .*: its number of bits is 10, and that of the report 6", "judge", d, p["own"], p["lean"]),
+            (1, "is no report", "judge", d, p["own"], d),
+            (1, "the report is of another design: its version is 2", "plot", d, p["lines"], "--report", p["other"], "--out", p["none"] + ".svg"),
             (1, "has no line: there is nothing to draw", "plot", d, p["none"], "--out", p["none"] + ".svg"),
             (1, "has no line of the chosen starts: there is nothing to draw", "plot", d, p["lines"], "--starts", "2", "--out", p["none"] + ".svg"),
             (2, "ends in none of .svg, .pdf, .png", "plot", d, p["lines"], "--out", p["none"] + ".jpeg"),
