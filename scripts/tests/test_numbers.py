@@ -12,7 +12,7 @@ from common.enclosures import combined, condense_fine, product
 from common.excess import excesses_of
 from explain import explain, ranges
 from common.trajectories import slacks_of
-from common.texts import controller_of, kind_of, loop_lines_of, records_of, report_of
+from common.texts import controller_of, kind_of, loop_lines_of, read_text, records_of, report_of
 from tests.worked import (
     AXIS,
     AXIS_OVER_1000,
@@ -131,6 +131,16 @@ class Lean(unittest.TestCase):
             errors = sizes.Errors(design, sizes.form_of(design), bound)
             self.assertEqual(next(f for f in range(49) if errors.cost(f) <= cost_limit(design, bound, True)), bits)
         self.assertIsNone(lean_multiplier_of(design_of(FIRST), 0, 1))
+
+    def test_examples(self):
+        """R and K of the examples' lean controllers."""
+        for name, step, bound, steps in (("first", 1, 1, 1), ("motor", 0, 4, 9), ("pmsm", 0, 9, 20), ("satellite", 0, 3, 7), ("wheel", 0, 1, 3), ("antenna", 0, 159, 340), ("rendezvous", 4, 2, 69),
+                                         ("kiln", 0, 120, 256)):
+            design = read_design(os.path.join(EXAMPLES, name, "design.toml"))
+            policy, reference = (records_of(read_text(os.path.join(EXAMPLES, name, file))) for file in ("lean.csv", "reference.csv"))
+            margin, _ = margin_of(corners_of(design, policy))
+            found = lean_multiplier_of(design, margin, max(excesses_of(design, sizes.form_of(design), policy, reference)[0]))
+            self.assertEqual((name, found, steps_of(design, step, found, True)), (name, bound, steps))
 
     def test_report(self):
         for text in (FIRST_LEAN_REPORT, FIRST_LEAN_JSON):
