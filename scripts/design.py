@@ -1,20 +1,21 @@
 #!/usr/bin/env python3
 """From a model to a controller that is judged: each step shown as the command that it runs, so that you can go on by hand where you like.
 
-    ./mpc design MODEL FOLDER [--as-it-is] [--gap PART] [--turns N] [--corners N] [--random N] [--states N] [--seed N]
+    ./mpc design MODEL FOLDER [--as-it-is] [--generate] [--gap PART] [--turns N] [--corners N] [--random N] [--states N] [--seed N]
 
 In FOLDER, which is made where it isn't there, stand then
 
     fitted.toml       the model in coordinates and a box in which its loops stay (scripts/coordinates.py; with --as-it-is, and where nothing was found, MODEL itself)
     design.toml       the design (scripts/draft.py)
-    policy.csv        a plan for each corner (scripts/policy.py)
-    controller.txt    the controller, and report.txt its bounds (./mpc generate)
+    policy.csv        a plan for each corner, and reference.csv the best ones without limits (scripts/policy.py --lean)
+    controller.txt    the controller, and report.txt its bounds (./mpc lean; with --generate ./mpc generate, which needs no reference plans)
     states.csv        corners and random states (scripts/states.py)
     loop.txt          the controller's loops from there (./mpc loop), and exact.txt those of exact model predictive control (scripts/exact_loop.py)
     loop.svg          both in one picture (scripts/plot.py)
     judged.txt        what the controller's plans do beside exact ones (scripts/judge.py)
     explained.txt     what the report holds, in the model's units (./mpc explain)
 
+    --generate    makes the controller that keeps far from its limits: of more steps, mostly far more, and with real violations far below the printed ones
     --as-it-is    takes the model's own coordinates and box, whatever its loops do
     --gap PART    the gap target, as a part of the greatest cost (0.1)
     --turns N     so many turns a loop (50)
@@ -39,7 +40,7 @@ from common.arguments import Parser, count, positive, turns
 from common.progress import Progress
 
 TOP = os.path.dirname(os.path.dirname(os.path.realpath(__file__)))
-MADE = ["fitted.toml", "design.toml", "policy.csv", "controller.txt", "report.txt", "states.csv", "loop.txt", "exact.txt", "loop.svg", "judged.txt", "explained.txt"]
+MADE = ["fitted.toml", "design.toml", "policy.csv", "reference.csv", "controller.txt", "report.txt", "states.csv", "loop.txt", "exact.txt", "loop.svg", "judged.txt", "explained.txt"]
 LEFT_THE_BOX = 12
 
 
@@ -111,9 +112,11 @@ def fitted(steps: Steps, model: str, as_it_is: bool, count: int) -> str:
 
 def make(steps: Steps, model: str, given: Namespace) -> None:
     """The design, its policy and its controller."""
-    steps.must("scripts/draft.py", model, steps.path("design.toml"), "--gap", str(given.gap))
-    steps.must("scripts/policy.py", steps.path("design.toml"), steps.path("policy.csv"), "--turns", "0")
-    steps.must("mpc", "generate", *map(steps.path, ("design.toml", "policy.csv", "controller.txt", "report.txt")))
+    design, policy, reference = map(steps.path, ("design.toml", "policy.csv", "reference.csv"))
+    steps.must("scripts/draft.py", model, design, "--gap", str(given.gap), *([] if given.generate else ["--lean"]))
+    steps.must("scripts/policy.py", design, policy, *([] if given.generate else ["--lean", reference]), "--turns", "0")
+    made = [steps.path("controller.txt"), steps.path("report.txt")]
+    steps.must("mpc", *(["generate", design, policy] if given.generate else ["lean", design, policy, reference]), *made)
 
 
 def show(steps: Steps, given: Namespace) -> None:
@@ -127,10 +130,10 @@ def show(steps: Steps, given: Namespace) -> None:
         raise Refusal(f"mpc loop ended with status {left.status}: what stands above says why", left.status)
     steps.must("scripts/exact_loop.py", design, states, str(given.turns), to=exact)
     if left.said:
-        steps.must("scripts/plot.py", design, loop, exact, "--labels", "controller,exact", "--out", steps.path("loop.svg"))
-    judged = steps.must("scripts/judge.py", design, controller, "--states", str(given.states), "--seed", str(given.seed), to=steps.path("judged.txt"))
+        steps.must("scripts/plot.py", design, loop, exact, "--labels", "controller,exact", "--report", steps.path("report.txt"), "--out", steps.path("loop.svg"))
+    judged = steps.must("scripts/judge.py", design, controller, steps.path("report.txt"), "--states", str(given.states), "--seed", str(given.seed), to=steps.path("judged.txt"))
     print("    " + judged.said.rstrip("\n").replace("\n", "\n    "))
-    names = [steps.path("report.txt"), design, steps.path("policy.csv"), controller]
+    names = [steps.path("report.txt"), design, steps.path("policy.csv"), *([] if given.generate else [steps.path("reference.csv")]), controller]
     explained = steps.must("mpc", "explain", *names, to=steps.path("explained.txt"))
     for line in explained.said.splitlines():
         if line.startswith(("every run", "stage row", "final row", "the plan costs", "a run has")):
@@ -142,6 +145,7 @@ def main() -> int:
     parser.add_argument("model", metavar="MODEL")
     parser.add_argument("folder", metavar="FOLDER")
     parser.add_argument("--as-it-is", action="store_true")
+    parser.add_argument("--generate", action="store_true")
     parser.add_argument("--gap", type=positive, default=0.1, metavar="PART")
     parser.add_argument("--turns", type=turns, default=50, metavar="N")
     for name, value in (("--corners", 8), ("--random", 4), ("--states", 96)):
