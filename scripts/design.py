@@ -1,14 +1,14 @@
 #!/usr/bin/env python3
 """From a model to a controller that is judged: each step shown as the command that it runs, so that you can go on by hand where you like.
 
-    ./mpc design MODEL FOLDER [--as-it-is | --stay] [--gap PART] [--turns N] [--corners N] [--random N] [--states N] [--seed N]
+    ./mpc design MODEL FOLDER [--as-it-is | --stay] [--generate] [--gap PART] [--turns N] [--corners N] [--random N] [--states N] [--seed N]
 
 In FOLDER, which is made where it isn't there, stand then
 
     fitted.toml       the model in coordinates and a box in which its loops stay (scripts/coordinates.py; with --as-it-is, and where nothing was found, MODEL itself)
     design.toml       the design (scripts/draft.py)
-    policy.csv        a plan for each corner (scripts/policy.py)
-    controller.txt    the controller, and report.txt its bounds (./mpc generate)
+    policy.csv        a plan for each corner, and reference.csv the best ones without limits (scripts/policy.py --lean)
+    controller.txt    the controller, and report.txt its bounds (./mpc lean; with --generate ./mpc generate, which needs no reference plans)
     states.csv        corners and random states (scripts/states.py)
     loop.txt          the controller's loops from there (./mpc loop), and exact.txt those of exact model predictive control (scripts/exact_loop.py)
     loop.svg          both in one picture (scripts/plot.py)
@@ -19,6 +19,7 @@ and where no loop is to leave the box, by --stay or by `stay` in the model's `[b
 
     faces.csv         the sums of limits that show that none does, and disturbances.csv the greatest disturbances of a turn that they bear (scripts/faces.py)
 
+    --generate    makes the controller that keeps far from its limits: of more steps, mostly far more, and with real violations far below the printed ones
     --as-it-is    takes the model's own coordinates and box, whatever its loops do
     --stay        searches limits on the next state, coordinates and a box for which faces hold
     --gap PART    the gap target, as a part of the greatest cost (0.1)
@@ -45,7 +46,7 @@ from common.models import read_model
 from common.progress import Progress
 
 TOP = os.path.dirname(os.path.dirname(os.path.realpath(__file__)))
-MADE = ["fitted.toml", "design.toml", "policy.csv", "controller.txt", "report.txt", "states.csv", "loop.txt", "exact.txt", "loop.svg", "judged.txt", "explained.txt"]
+MADE = ["fitted.toml", "design.toml", "policy.csv", "reference.csv", "controller.txt", "report.txt", "states.csv", "loop.txt", "exact.txt", "loop.svg", "judged.txt", "explained.txt"]
 STAYS = ["faces.csv", "disturbances.csv"]
 LEFT_THE_BOX = 12
 
@@ -120,12 +121,15 @@ def fitted(steps: Steps, model: str, given: Namespace, stays: bool) -> str:
 
 
 def make(steps: Steps, model: str, given: Namespace, stays: bool) -> None:
-    """The design, its policy, its faces and its controller."""
-    steps.must("scripts/draft.py", model, steps.path("design.toml"), "--gap", str(given.gap))
-    steps.must("scripts/policy.py", steps.path("design.toml"), steps.path("policy.csv"), "--turns", "0")
+    """The design, its policy, its faces and its controller: a lean one, but where no loop is to leave the box."""
+    design, policy, reference = map(steps.path, ("design.toml", "policy.csv", "reference.csv"))
+    lean = not (given.generate or stays)
+    steps.must("scripts/draft.py", model, design, "--gap", str(given.gap), *(["--lean"] if lean else []))
+    steps.must("scripts/policy.py", design, policy, *(["--lean", reference] if lean else []), "--turns", "0")
+    made = [steps.path("controller.txt"), steps.path("report.txt")]
     if stays:
-        steps.must("scripts/faces.py", *map(steps.path, ("design.toml", "policy.csv", "faces.csv")), "--bears", steps.path("disturbances.csv"))
-    steps.must("mpc", "generate", *map(steps.path, ("design.toml", "policy.csv", "controller.txt", "report.txt")))
+        steps.must("scripts/faces.py", design, policy, steps.path("faces.csv"), "--bears", steps.path("disturbances.csv"))
+    steps.must("mpc", *(["lean", design, policy, reference] if lean else ["generate", design, policy]), *made)
 
 
 def show(steps: Steps, given: Namespace) -> None:
@@ -139,10 +143,10 @@ def show(steps: Steps, given: Namespace) -> None:
         raise Refusal(f"mpc loop ended with status {left.status}: what stands above says why", left.status)
     steps.must("scripts/exact_loop.py", design, states, str(given.turns), to=exact)
     if left.said:
-        steps.must("scripts/plot.py", design, loop, exact, "--labels", "controller,exact", "--out", steps.path("loop.svg"))
-    judged = steps.must("scripts/judge.py", design, controller, "--states", str(given.states), "--seed", str(given.seed), to=steps.path("judged.txt"))
+        steps.must("scripts/plot.py", design, loop, exact, "--labels", "controller,exact", "--report", steps.path("report.txt"), "--out", steps.path("loop.svg"))
+    judged = steps.must("scripts/judge.py", design, controller, steps.path("report.txt"), "--states", str(given.states), "--seed", str(given.seed), to=steps.path("judged.txt"))
     print("    " + judged.said.rstrip("\n").replace("\n", "\n    "))
-    names = [steps.path("report.txt"), design, steps.path("policy.csv"), controller]
+    names = [steps.path("report.txt"), design, steps.path("policy.csv"), *([] if given.generate else [steps.path("reference.csv")]), controller]
     explained = steps.must("mpc", "explain", *names, to=steps.path("explained.txt"))
     for line in explained.said.splitlines():
         if line.startswith(("every run", "stage row", "final row", "the plan costs", "a run has")):
@@ -164,6 +168,7 @@ def main() -> int:
     either = parser.add_mutually_exclusive_group()
     either.add_argument("--as-it-is", action="store_true")
     either.add_argument("--stay", action="store_true")
+    parser.add_argument("--generate", action="store_true")
     parser.add_argument("--gap", type=positive, default=0.1, metavar="PART")
     parser.add_argument("--turns", type=turns, default=50, metavar="N")
     for name, value in (("--corners", 8), ("--random", 4), ("--states", 96)):

@@ -1,7 +1,7 @@
 #!/usr/bin/env python3
 """Draws the lines of `./mpc loop` over time: states and inputs with their limits, one curve for each start.
 
-    scripts/plot.py DESIGN LINES [LINES ..] --out FILE.svg [--labels NAME,NAME] [--starts N,N] [--turns N] [--disturbances FILE [--bears BOX]]
+    scripts/plot.py DESIGN LINES [LINES ..] --out FILE.svg [--labels NAME,NAME] [--starts N,N] [--turns N] [--report REPORT] [--disturbances FILE [--bears BOX]]
 
 The name of FILE says its format: .svg, .pdf or .png.
 
@@ -12,6 +12,7 @@ more in three, as positions, velocities and accelerations along three axes do.
     --labels   what the files are called in the legend
     --starts   the records to draw, from 1 (all)
     --turns    the turns to draw (all)
+    --report   a report of the design, whose violations are drawn too, dotted: how far a limit may be exceeded at most, which a lean controller does
     --disturbances   what was added to the next states of these loops, turn by turn (scripts/disturbed_loop.py); it is drawn below them, with the greatest that the box bears
                      (--bears, by scripts/faces.py) in grey
 """
@@ -30,7 +31,7 @@ from common import files, matching
 from common.arguments import Parser, numbers, several
 from common.design_text import Design, read_design
 from common.disturbances import box_in, numbers_in
-from common.texts import loop_lines_of
+from common.texts import loop_lines_of, read_text, report_of
 
 STYLES = ["-", "--", ":", "-."]
 ONE_COLUMN = 5
@@ -38,13 +39,19 @@ ONE_COLUMN = 5
 MOST_LINES = 1000000
 
 
-def limits_of(design: Design, coordinate: int) -> list[float]:
-    """The values at which a stage row on this one coordinate binds: states first, then inputs."""
+def limits_of(design: Design, coordinate: int, report: dict | None = None) -> list[float]:
+    """The values at which a stage row on this one coordinate binds, or at which it is exceeded by as much as a report says: states first, then inputs."""
     out = []
-    for row in design.stage_rows:
+    for number, row in enumerate(design.stage_rows, 1):
         if row[coordinate] and sum(map(bool, row[:-1])) == 1:
-            out.append(row[-1] / row[coordinate])
+            out.append((row[-1] + design.limit_den * float(most_of(report, design, number) if report else 0)) / row[coordinate])
     return out
+
+
+def most_of(report: dict, design: Design, number: int) -> float:
+    """By how much a stage row is exceeded at most, at any stage."""
+    violations = report["violations"] or [report["violation"]] * design.rows
+    return float(max(violations[row - 1] for row, _ in design.rows_of("stage row", number)))
 
 
 def draw_start(axes: list, design: Design, loop: list, style: str, color: str, label: str, step: float) -> None:
@@ -58,7 +65,7 @@ def draw_start(axes: list, design: Design, loop: list, style: str, color: str, l
         axes[design.states + l].step(times, [float(u[l]) * size for _, u in loop], style, where="post", color=color, linewidth=1.2)
 
 
-def draw_limits(axes: list, design: Design) -> None:
+def draw_limits(axes: list, design: Design, report: dict | None) -> None:
     for i in range(design.states + design.inputs):
         name = design.name("state", i + 1) if i < design.states else design.name("input", i - design.states + 1)
         axes[i].set_ylabel(f"{name.word}\n{name.unit}".strip(), fontsize=8)
@@ -68,6 +75,8 @@ def draw_limits(axes: list, design: Design) -> None:
                 axes[i].axhline(bound / 2**design.grid * name.size, color="0.75", linewidth=0.8)
         for bound in limits_of(design, i):
             axes[i].axhline(bound * name.size, color="tab:red", linewidth=0.8)
+        for bound in limits_of(design, i, report) if report else []:
+            axes[i].axhline(bound * name.size, color="tab:red", linewidth=0.8, linestyle=":")
 
 
 @dataclass
@@ -96,7 +105,8 @@ def draw_shifts(axes: list, design: Design, shifts: Shifts, turns: int | None, s
         axis.tick_params(labelsize=7)
 
 
-def draw(design: Design, files: list[dict], labels: list[str], starts: list[int] | None = None, turns: int | None = None, shifts: Shifts | None = None) -> Figure:
+def draw(design: Design, files: list[dict], labels: list[str], starts: list[int] | None = None, turns: int | None = None, shifts: Shifts | None = None,
+         report: dict | None = None) -> Figure:
     """The figure of these loops, a dictionary of record -> loop for each file."""
     own = design.states + design.inputs
     count = own + (len(shifts.drawn) if shifts else 0)
@@ -107,7 +117,7 @@ def draw(design: Design, files: list[dict], labels: list[str], starts: list[int]
     for none in spare:
         none.set_axis_off()
     step = design.period or 1
-    draw_limits(axes, design)
+    draw_limits(axes, design, report)
     if shifts:
         draw_shifts(axes[own:], design, shifts, turns, step)
     for number, (loops, label) in enumerate(zip(files, labels)):
@@ -171,21 +181,25 @@ def main() -> int:
     parser.add_argument("--labels", metavar="NAME,NAME")
     parser.add_argument("--starts", type=numbers, metavar="N,N")
     parser.add_argument("--turns", type=several, metavar="N")
+    parser.add_argument("--report", metavar="REPORT")
     parser.add_argument("--disturbances", metavar="FILE")
     parser.add_argument("--bears", metavar="BOX")
     given = parser.parse_args()
     inputs = {"DESIGN": given.design} | {f"LINES {place}": path for place, path in enumerate(given.lines, 1)}
-    inputs |= {word: path for word, path in (("--disturbances", given.disturbances), ("--bears", given.bears)) if path}
+    inputs |= {word: path for word, path in (("REPORT", given.report), ("--disturbances", given.disturbances), ("--bears", given.bears)) if path}
     files.keep_apart(inputs, {"--out": given.out})
     format_of(given.out)
     design = read_design(given.design)
+    report = report_of(read_text(given.report)) if given.report else None
+    if report:
+        matching.refuse("the report", "design", matching.report_difference(report, design))
     shifts = read_shifts(given.disturbances, given.bears, design)
     loops = [read_loops(path, design, given.starts, given.turns, shifts) for path in given.lines]
     labels = given.labels.split(",") if given.labels else [shown(path) for path in given.lines]
     if len(labels) != len(loops):
         raise Refusal(f"--labels has {len(labels)} names, and there are {len(loops)} files of lines", 2)
     prepare()
-    write(draw(design, loops, labels, given.starts, given.turns, shifts), given.out)
+    write(draw(design, loops, labels, given.starts, given.turns, shifts, report), given.out)
     return 0
 
 

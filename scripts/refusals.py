@@ -17,8 +17,9 @@ from fractions import Fraction
 
 from common import sizes
 from common.arguments import MOST_TURNS
-from common.corners import corners_of, exact_corner, margin_of, multiplier_of
+from common.corners import corners_of, exact_corner, lean_multiplier_of, margin_of, multiplier_of
 from common.design_text import Design, plain, read_design
+from common.excess import excesses_of
 from common.files import read_bytes, same
 from common.libraries import run
 from common.texts import read_text, records_of
@@ -43,8 +44,8 @@ TEXTS = {
     '{hint} scripts/policy.py finds a policy with room, or says which row and corner are to blame (docs/DESIGNING.md, "Margins").',
     "curvature": "The limits are too steep for the cost: no step 2^-s with s up to 40 is small enough. Divide the rows by their tolerances, or take larger weights "
     '(docs/DESIGNING.md, "Weights").',
-    "too-many-steps": "A run would take K = {steps} steps, and at most 4194304 are accepted. K = 2^(s+2) R / target: take a larger violation target{hint}, or a policy with "
-    'a larger margin or a smaller cost (docs/DESIGNING.md, "What K is made of").',
+    "too-many-steps": "A run would take K = {steps} steps, and at most 4194304 are accepted. {formula}: take a larger violation target{hint}, or a policy with "
+    '{better} (docs/DESIGNING.md, "What K is made of").',
     "too-fine": "The gap target asks for more than 48 fraction bits: rounding at 48 bits may cost {epsilon}, {hint}. A larger gap target, or a policy with a smaller R "
     '(docs/DESIGNING.md, "What K is made of").',
     "too-wide": '`{name}`, {what}, passes 2^126{size}: {help} (docs/DESIGNING.md, "Sizes").',
@@ -70,6 +71,15 @@ LEFT = {
     "report": "The controller file stands whole.",
     "listing": "Nothing stands in it, or the first part of the text.",
     "output": "The lines before it were printed whole.",
+}
+
+# the commands that write, with how many files they have; and the files that hold plans
+COUNTS = {"generate": "four", "lean": "five"}
+PLANS = ("policy", "reference")
+# what K is made of, and which policy makes it less
+STEPS = {
+    "generate": ("K = 2^(s+2) R / target", "a larger margin or a smaller cost"),
+    "lean": ("K = 2^(s+1) R over 15/16 of the target", "a smaller excess, as scripts/policy.py --lean finds it"),
 }
 
 DENOMINATOR, NUMERATOR = "a denominator, 1 to 1048576", "-2147483647 to 2147483647"
@@ -106,7 +116,11 @@ QUANTITIES = {
     "prediction": ("the plant's growth over the horizon with 40 fraction bits", NEARER + EXACT),
     "corner_slack": ("the enclosures of the corners' slacks", NEARER + ", a smaller box and smaller inputs of the policy" + EXACT),
     "corner_cost": ("the enclosures of the corners' costs", NEARER + ", a smaller box and smaller inputs of the policy, a smaller cost.row_den or cost.den" + EXACT),
-    "multiplier": ("the bound on the multipliers", "a policy with a larger margin or a smaller cost"),
+    "excess": (
+        "what the corners' plans cost more than is best without limits",
+        "reference plans that are nearer to the best ones without limits, as scripts/policy.py --lean finds them, a smaller box, smaller weights",
+    ),
+    "multiplier": ("the bound on the multipliers", "a policy with a larger margin or a smaller cost, or in `lean` one with a smaller excess"),
     "hessian": ("the enclosures of the condensed cost", NEARER + ", smaller weights, a smaller cost.row_den or cost.den" + EXACT),
     "rows": ("the enclosures of the condensed limits", NEARER + ", fewer limits, a smaller limits.den" + EXACT),
     "curvature": ("the comparison of limits and cost", FEWER + ", smaller weights or limits.den"),
@@ -152,9 +166,10 @@ class Call:
         except (OSError, TypeError):
             return []
 
-    def policy(self) -> list | None:
+    def policy(self, kind: str = "policy") -> list | None:
+        """The records of the policy, or of the reference plans."""
         try:
-            return records_of(read_text(self.path("policy")))
+            return records_of(read_text(self.path(kind)))
         except (OSError, ValueError, TypeError):
             return None
 
@@ -173,7 +188,7 @@ def usage(call: Call) -> str:
         return f"`{command}` is no command: {', '.join(others)} or {last} is needed."
     if len(words) - 1 != len(listed[command]):
         return f"`{command}` takes {len(listed[command])} arguments, {' '.join(listed[command])}, and {len(words) - 1} were given."
-    if command == "generate":
+    if command in COUNTS:
         return one_file_twice(call)
     if command == "list":
         return f"The listing file {call.path('listing')} is the controller file {call.path('controller')}: it needs a file of its own."
@@ -185,12 +200,13 @@ def usage(call: Call) -> str:
 
 
 def one_file_twice(call: Call) -> str:
-    """Which of the four files of `generate` are one."""
+    """Which of the files of `generate` or `lean` are one."""
+    count = COUNTS[call.command]
     for output in ("report", "controller"):
         for kind in call.kinds[: call.kinds.index(output)]:
             if same(call.path(output), call.path(kind)) or call.path(output) == call.path(kind):
-                return f"The {output} file {call.path(output)} is the {kind} file {call.path(kind)}: each of the four needs a file of its own."
-    return "The controller's or the report's name is that of another file of the four: each needs a file of its own."
+                return f"The {output} file {call.path(output)} is the {kind} file {call.path(kind)}: each of the {count} needs a file of its own."
+    return f"The controller's or the report's name is that of another file of the {count}: each needs a file of its own."
 
 
 def without_arguments(call: Call) -> str:
@@ -291,7 +307,7 @@ def text_fault(call: Call, file: int, fault: str, numbers: list[int]) -> str:
     word = line.split(",")[numbers[1] - 1] if line.count(",") >= numbers[1] - 1 else ""
     wanted = (
         "a denominator is 1 to 1099511627776"
-        if kind == "policy" and numbers[1] == 1
+        if kind in PLANS and numbers[1] == 1
         else "a whole number in decimal, of an absolute value of at most 9223372036854775807"
     )
     return TEXTS["number"].format(field=numbers[1], entry=entry, file=name, fault=f", `{word.strip()[:40]}`," if word else "", wanted=wanted)
@@ -332,7 +348,8 @@ def no_margin(call: Call, corner: int, row: int, above: int, below: int) -> str:
 def too_many_steps(call: Call, steps: int) -> str:
     design = call.design()
     hint = f" (at least {plain(Fraction(design.violation * steps, design.target_den * 2**22))})" if design else ""
-    return TEXTS["too-many-steps"].format(steps=steps, hint=hint)
+    formula, better = STEPS["lean" if call.command == "lean" else "generate"]
+    return TEXTS["too-many-steps"].format(steps=steps, formula=formula, hint=hint, better=better)
 
 
 def too_fine(call: Call, epsilon: int) -> str:
@@ -341,13 +358,21 @@ def too_fine(call: Call, epsilon: int) -> str:
     return TEXTS["too-fine"].format(epsilon=plain(Fraction(epsilon, 2**40)), hint=hint)
 
 
-def sizes_of(design: Design, policy: list) -> dict:
-    """The sizes that are tested, as far as there are numbers that they are made of: those of the corners, and where these are within the limit, those of the form."""
+def sizes_of(design: Design, policy: list, reference: list | None) -> dict:
+    """The sizes that are tested, as far as there are numbers that they are made of: those of the corners, and where these are within the limit, those of the form; of a lean
+    controller by its reference plans."""
     found = sizes.corner_sizes(design, policy)
     if max(found.values()) > sizes.LIMIT:
         return found
     margin, cost = margin_of(corners_of(design, policy))
     bound, form = multiplier_of(margin, cost), sizes.form_of(design)
+    if reference is not None:
+        found |= sizes.form_sizes(design, form)
+        if max(found.values()) > sizes.LIMIT:
+            return found
+        excesses, size = excesses_of(design, form, policy, reference)
+        bound = lean_multiplier_of(design, margin, max(0, *excesses))
+        return found | {"excess": size, "multiplier": max(*excesses, 2**82 * bound), "error": sizes.Errors(design, form, bound).size}
     return found | sizes.form_sizes(design, form) | {"multiplier": sizes.multiplier_size(cost, bound), "error": sizes.Errors(design, form, bound).size}
 
 
@@ -355,7 +380,8 @@ def too_wide(call: Call, name: str) -> str:
     """Status 10, with the size in bits where the files give it."""
     what, helps = QUANTITIES.get(name, ("a number of the design", "a smaller design"))
     try:
-        size = f" (it is 2^{sizes.bits(sizes_of(call.design(), call.policy())[name]):.1f})"
+        reference = call.policy("reference") if call.command == "lean" else None
+        size = f" (it is 2^{sizes.bits(sizes_of(call.design(), call.policy(), reference)[name]):.1f})"
     except (KeyError, TypeError, AttributeError, IndexError, ValueError):
         size = ""
     return TEXTS["too-wide"].format(name=name, what=what, size=size, help=helps)

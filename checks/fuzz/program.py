@@ -20,9 +20,9 @@ from model import LIMIT, Refused
 
 NAMES = {1: "memory", 2: "usage", 3: "read-fault", 4: "write-fault", 5: "text", 6: "no-margin", 7: "curvature", 8: "too-many-steps", 9: "too-fine", 10: "too-wide",
          11: "controller", 12: "outside-box", 13: "long", 14: "mismatch", 16: "unequal", 17: "no-stay", 20: "listing", 21: "trap"}
-# how many words follow each command, and which of them are written
-COUNTS = {"generate": [4], "stay": [5, 6], "solve": [2], "loop": [4, 5], "demo": [1], "list": [2], "play": [2]}
-OUTPUTS = {"generate": [3, 4], "stay": [3, 4], "list": [2]}
+# how many words follow each command, and the places among the words of those that are written
+COUNTS = {"generate": [4], "stay": [5, 6], "lean": [5], "solve": [2], "loop": [4, 5], "demo": [1], "list": [2], "play": [2]}
+OUTPUTS = {"generate": [3, 4], "stay": [3, 4], "lean": [4, 5], "list": [2]}
 OVER = 2**40
 
 
@@ -53,7 +53,8 @@ def report_text(b):
     violations = [("violation", b["violation"], OVER)]
     if b["version"] > 1:
         violations = [("violation", row, value, OVER) for row, value in enumerate(b["violations"], 1)]
-    rows = [("mpc-report", b["version"]), ("margin", b["margin"], 65536), ("cost", b["cost"]), ("multiplier", b["multiplier"]), ("step", b["step"]), ("steps", b["steps"]),
+    dearest = ("excess", b["excess"], 65536) if "excess" in b else ("cost", b["cost"])
+    rows = [("mpc-report", b["version"]), ("margin", b["margin"], 65536), dearest, ("multiplier", b["multiplier"]), ("step", b["step"]), ("steps", b["steps"]),
             ("bits", b["bits"]), ("width", b["width"]), ("words", b["words"]), *violations, ("gap", b["gap"], OVER), ("undercut", b["undercut"], OVER), ("end",)]
     return "".join(" ".join(map(str, row)) + "\n" for row in rows).encode()
 
@@ -106,9 +107,9 @@ gap = 4
 # ---- the commands
 
 
-def generate(d, plans, gains):
-    """The controller and its bounds, or Refused."""
-    return made_of(model.choose(d, plans), gains)
+def generate(d, plans, gains, references=None):
+    """The controller and its bounds, or Refused; lean ones where there are reference plans."""
+    return made_of(model.choose(d, plans, references), gains)
 
 
 def made_of(choice, gains):
@@ -130,7 +131,7 @@ class Program:
         self.words, self.read, self.write, self.gains, self.run, self.played = words, read, write, gains, run, played
         self.answer = Answer()
         self.put = put or self.answer.out.append
-        # the controller that was made of a design
+        # the controller that was made
         self.made = None
 
     def text(self, file, reader):
@@ -169,6 +170,11 @@ class Program:
         plans = self.text(2, lambda data: model.read_policy(data, d))
         self.write_made(model.choose(d, plans))
 
+    def lean(self):
+        d = self.text(1, model.read_design)
+        plans, references = (self.text(file, lambda data: model.read_policy(data, d)) for file in (2, 3))
+        self.write_made(model.choose(d, plans, references))
+
     def stay(self):
         d = self.text(1, model.read_design)
         plans = self.text(2, lambda data: model.read_policy(data, d))
@@ -180,10 +186,12 @@ class Program:
         self.write_made(choice)
 
     def write_made(self, choice):
+        """Writes a choice's controller and its report."""
         c, b = made_of(choice, self.gains)
         self.made = c
-        told = report_json if self.words[4].endswith(".json") else report_text
-        self.write_texts((3, control.text_of(c)), (4, told(b)))
+        places = OUTPUTS[self.words[0]]
+        told = report_json if self.words[places[1]].endswith(".json") else report_text
+        self.write_texts(*zip(places, (control.text_of(c), told(b))))
 
     def write_texts(self, *texts):
         for file, data in texts:
@@ -256,7 +264,7 @@ def main():
     def write(name):
         return name != "" and os.path.isdir(os.path.dirname(name) or ".") and not os.path.isdir(name)
 
-    said = answer(sys.argv[1:], read, write, model.exact_gains)
+    said = answer(sys.argv[1:], read, write, model.gains)
     for name, data in said.written.items():
         with open(name, "wb") as file:
             file.write(data)

@@ -7,7 +7,7 @@ For each of COUNT (1000) cases the exit status, the line on standard error, stan
 determined: they are taken from the controller that the program wrote, once they are known to solve their systems. Each run of a controller is made with every
 product and partial sum traced, and all must fit its width; but a run of many steps of a controller that isn't of the kind `controller` only has its sums compared.
 
-A case is made of the seed and its number alone. --case runs one again and shows it; --kind makes all cases of that kind: generate, border, stay, solve, controller, loop,
+A case is made of the seed and its number alone. --case runs one again and shows it; --kind makes all cases of that kind: generate, lean, border, stay, solve, controller, loop,
 list, play, demo, usage. Of the kind `stay` the first are the worked rows that are accepted. Half of the designs are of version 2; how many of these were accepted, and how many of them have a row with a smaller exponent, the last line says. A border
 design's exact numbers, its enclosures, the corners of its policy in either class, or what its rows come to where they count 16 times, pass the limit by little or stay
 below it by little. Of each, the model's exact numbers must be the simulated plant's, its enclosures must hold them, no corner may have less slack or a greater cost than
@@ -39,7 +39,8 @@ import program
 import stay_cases
 import staying
 
-KINDS = ["generate"] * 30 + ["border"] * 4 + ["stay"] * 14 + ["solve"] * 26 + ["controller"] * 18 + ["loop"] * 22 + ["list"] * 6 + ["play"] * 16 + ["usage"] * 4
+KINDS = (["generate"] * 24 + ["lean"] * 12 + ["border"] * 4 + ["stay"] * 14 + ["solve"] * 26 + ["controller"] * 18 + ["loop"] * 22 + ["list"] * 6 + ["play"] * 16
+         + ["usage"] * 4)
 DEMO_EVERY = 2500
 # the most products that the model makes in a case, and the most in a run whose every value it traces
 MOST_PRODUCTS, MOST_TRACED = 3_000_000, 60_000
@@ -78,7 +79,7 @@ class Maker:
         if self.kind == "stay" and number < len(self.held):
             return self.stay_case("r", self.held[number])
         made = getattr(self, kind)(pick)
-        if kind in ("generate", "stay", "solve", "loop", "list", "play") and pick.random() < 0.03:
+        if kind in ("generate", "lean", "stay", "solve", "loop", "list", "play") and pick.random() < 0.03:
             self.rename(pick, made)
         return made
 
@@ -90,6 +91,11 @@ class Maker:
     def generate(self, pick):
         design, policy = cases.design_and_policy(pick, self.designs)
         return Case("generate", ["generate", "d", "p", "c", pick.choice(["r", "r", "r.json", ".json", "r.JSON", "json"])], {"d": design, "p": policy})
+
+    def lean(self, pick):
+        design, policy = cases.border_design(pick) if pick.random() < 0.1 else cases.design_and_policy(pick, self.designs)
+        words = ["lean", "d", "p", "q", "c", pick.choice(["r", "r", "r.json"])]
+        return Case("lean", words, {"d": design, "p": policy, "q": cases.references(pick, design, policy)})
 
     def border(self, pick):
         design, policy = cases.border_design(pick)
@@ -167,8 +173,8 @@ class Maker:
     def usage(self, pick):
         design, policy = self.designs[0]
         text = self.controllers[0][1]
-        words = pick.choice([["generate", "d", "p", "c", "r"], ["solve", "c", "s"], ["loop", "d", "c", "s", "1"], ["demo", "1"], ["stay", "d", "p", "c", "r", "f"],
-                             ["stay", "d", "p", "c", "r", "f", "w"], ["loop", "d", "c", "s", "1", "w"], ["list", "c", "l"], ["play", "l", "s"], []])
+        words = pick.choice([["generate", "d", "p", "c", "r"], ["lean", "d", "p", "p2", "c", "r"], ["solve", "c", "s"], ["loop", "d", "c", "s", "1"], ["demo", "1"],
+                             ["stay", "d", "p", "c", "r", "f"], ["stay", "d", "p", "c", "r", "f", "w"], ["loop", "d", "c", "s", "1", "w"], ["list", "c", "l"], ["play", "l", "s"], []])
         words = list(words)
         how = pick.randrange(4)
         if how == 0 and words:
@@ -183,7 +189,7 @@ class Maker:
         if words[:1] == ["demo"] and words[1:] in (["1"], ["1000001"]):
             words = ["demo", "1", "1"]
         l = listing.text_of(listing.listing_of(control.read_controller(text)))
-        return Case("usage", words, {"d": design, "p": policy, "c": text, "s": b"0\n", "f": b"4,0,0,1\n4,0,0,0\n", "w": b"0\n", "l": l})
+        return Case("usage", words, {"d": design, "p": policy, "p2": policy, "c": text, "s": b"0\n", "f": b"4,0,0,1\n4,0,0,0\n", "w": b"0\n", "l": l})
 
 
 def products(c):
@@ -228,7 +234,8 @@ class Runner:
         left = self.left()
         read = lambda name: case.files.get(os.path.normpath(name)) if name else None
         write = lambda name: name not in ("", ".", "./", "./.") and "no/" not in name
-        written = lambda: next((left[name] for name in map(os.path.normpath, case.words[3:4]) if name in left), None)
+        place = program.OUTPUTS.get(case.words[0] if case.words else "", (3,))[0]
+        written = lambda: next((left[name] for name in map(os.path.normpath, case.words[place : place + 1]) if name in left), None)
         wrong, status, notes = self.compare(case, ran, left, read, write, lambda choice: gains_of(choice, written()))
         if case.same:
             other = self.started(case.same)

@@ -7,8 +7,9 @@ from fractions import Fraction
 
 from common import sizes
 from common.condensed import Condensed, factor, solve
-from common.corners import corners_of, margin_of, multiplier_of, steps_of
+from common.corners import corners_of, lean_multiplier_of, margin_of, multiplier_of, steps_of
 from common.design_text import Design, plain
+from common.excess import excesses_of
 from common.libraries import Refusal
 from common.texts import Controller
 
@@ -42,7 +43,8 @@ def report_difference(report: dict, design: Design) -> str | None:
     pairs = [("version", report["version"], design.version), ("number of words", report["words"], words_of(design))]
     if report["violations"]:
         pairs.append(("number of rows", len(report["violations"]), design.rows))
-    pairs.append((f"K, at R {report['multiplier']} and step 2^-{report['step']},", report["steps"], steps_of(design, report["step"], report["multiplier"])))
+    steps = steps_of(design, report["step"], report["multiplier"], report["lean"])
+    pairs.append((f"K, at R {report['multiplier']} and step 2^-{report['step']},", report["steps"], steps))
     found = first(pairs, "design")
     if found:
         return found
@@ -52,10 +54,15 @@ def report_difference(report: dict, design: Design) -> str | None:
     return None
 
 
-def policy_difference(report: dict, design: Design, policy: list) -> str | None:
-    """Of a report and a policy: what the plans show is exact."""
+def policy_difference(report: dict, design: Design, policy: list, reference: list | None = None) -> str | None:
+    """Of a report and a policy, and of the reference plans of a lean report where these are known: what the plans show is exact."""
     margin, cost = margin_of(corners_of(design, policy))
-    told = [("margin", plain(report["margin"]), plain(Fraction(margin, 2**16))), ("cost", report["cost"], cost), ("R", report["multiplier"], multiplier_of(margin, cost))]
+    told: list[tuple[str, object, object]] = [("margin", plain(report["margin"]), plain(Fraction(margin, 2**16)))]
+    if not report["lean"]:
+        told += [("cost", report["cost"], cost), ("R", report["multiplier"], multiplier_of(margin, cost))]
+    elif reference:
+        excess = max(0, *excesses_of(design, sizes.form_of(design), policy, reference)[0])
+        told += [("excess", int(report["excess"] * 2**16), excess), ("R", report["multiplier"], lean_multiplier_of(design, margin, excess))]
     return first(told, "policy")
 
 

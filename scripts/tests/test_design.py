@@ -117,13 +117,18 @@ class WholeWay(unittest.TestCase):
         self.assertEqual((got.returncode, got.stderr), (0, ""), got.stdout)
         self.assertEqual(sorted(os.listdir(made)), sorted(design.MADE))
         commands = [line for line in got.stdout.splitlines() if line.startswith("$ ")]
-        for step in ("coordinates.py", "draft.py", "policy.py", "mpc generate", "states.py", "mpc loop", "exact_loop.py", "plot.py", "judge.py", "mpc explain"):
+        for step in ("coordinates.py", "draft.py", "policy.py", "mpc lean", "states.py", "mpc loop", "exact_loop.py", "plot.py", "judge.py", "mpc explain"):
             self.assertTrue(any(step in command for command in commands), step)
         # each is a command that can be run by hand
         again = subprocess.run(commands[-1][2:], shell=True, capture_output=True, text=True)
         self.assertEqual((again.returncode, again.stderr), (0, ""))
         with open(os.path.join(made, "judged.txt"), encoding="utf-8") as file:
-            self.assertIn("at 8 states", file.read())
+            self.assertRegex(file.read(), "at 8 states(.|\n)*of what is printed that is [0-9.]+ % of the violation")
+        by_cost = os.path.join(folder, "by_cost")
+        got = subprocess.run([os.path.join(TOP, "mpc"), "design", paths["model"], by_cost, "--generate", *words], capture_output=True, text=True)
+        self.assertEqual((got.returncode, got.stderr), (0, ""), got.stdout)
+        self.assertEqual(sorted(os.listdir(by_cost)), sorted(set(design.MADE) - {"reference.csv"}))
+        self.assertIn("mpc generate", got.stdout)
 
     def test_asks_to_stay(self):
         _, paths = folder_with(self, plain=MASS, stays=MASS + "stay = [0.1, 0.0]\n", bad=MASS.replace("period = 0.2", "period = -1"))
