@@ -3,4 +3,4 @@
 
 mod made;
 
-pub use made::{make_controller, refusal_status};
+pub use made::make_controller;
