@@ -144,15 +144,15 @@ def number_field(word):
     return value if found and abs(value) <= 2**63 - 1 else None
 
 
-def read_records(data, width, is_in_range=lambda field, value: True):
-    """Lists of numbers, or the status 5 with the first fault."""
+def read_records(data, width, is_in_range=lambda before, field, value: True):
+    """Lists of numbers, or the status 5 with the first fault. What is in range may rest on the records before."""
     rows = []
     for entry, record in enumerate(records(data), 1):
         if len(record) != width:
             raise Refused(5, "fields", entry)
         row = [number_field(word) for word in record]
         for field, value in enumerate(row, 1):
-            if value is None or not is_in_range(field, value):
+            if value is None or not is_in_range(rows, field, value):
                 raise Refused(5, "number", entry, field)
         rows.append(row)
     return rows
@@ -160,7 +160,7 @@ def read_records(data, width, is_in_range=lambda field, value: True):
 
 def read_policy(data, design):
     """The plans, each with its denominator, or the status 5 with the first fault."""
-    rows = read_records(data, design.entries + 1, lambda field, value: field > 1 or 1 <= value <= 2**40)
+    rows = read_records(data, design.entries + 1, lambda _, field, value: field > 1 or 1 <= value <= 2**40)
     if len(rows) != 2**design.states:
         raise Refused(5, "count", len(rows))
     return [(row[0], row[1:]) for row in rows]
@@ -400,21 +400,31 @@ class Choice:
     greatest: int
     errors: Errors
 
-    def printed(self, solutions, magnitude):
-        """The bounds that are printed, by the residuals that these gains leave: the violations are of each row. A plan entry of theirs is at most `magnitude` over
-        2^bits."""
-        r, k, f, s = (self.report[key] for key in ("multiplier", "steps", "bits", "step"))
-        cost = self.errors.real(self, solutions, magnitude, f)
+    def violation(self, exponent, cost):
+        """By how much a row of this exponent is exceeded at most, where the errors of a step cost so much."""
+        r, k, s = (self.report[key] for key in ("multiplier", "steps", "step"))
         if self.is_lean:
             target = target_of(self.design, 2**40)
-            of = lambda exponent: min(target, ceil_div(target, 2) + ceil_div(2 ** (exponent + 40) * r, k) + ceil_div(cost, 2 * r))
-        else:
-            of = lambda exponent: ceil_div((2**exponent + 2**s) * 2**40 * r, k) + ceil_div(cost, r)
-        return {"violation": of(s), "violations": list(map(of, self.exponents)), "gap": cost, "undercut": r * (target if self.is_lean else of(s))}
+            return min(target, ceil_div(target, 2) + ceil_div(2 ** (exponent + 40) * r, k) + ceil_div(cost, 2 * r))
+        return ceil_div((2**exponent + 2**s) * 2**40 * r, k) + ceil_div(cost, r)
 
     @property
     def is_lean(self):
         return "excess" in self.report
+
+    @property
+    def stated_violations(self):
+        """Of each row, by the design and the policy alone."""
+        cost = self.errors.epsilon(self.report["bits"])
+        return [self.violation(exponent, cost) for exponent in self.exponents]
+
+    def printed(self, solutions, magnitude):
+        """The bounds that are printed, by the residuals that these gains leave: the violations are of each row. A plan entry of theirs is at most `magnitude` over
+        2^bits."""
+        cost = self.errors.real(self, solutions, magnitude, self.report["bits"])
+        greatest = self.violation(self.report["step"], cost)
+        undercut = self.report["multiplier"] * (target_of(self.design, 2**40) if self.is_lean else greatest)
+        return {"violation": greatest, "violations": [self.violation(exponent, cost) for exponent in self.exponents], "gap": cost, "undercut": undercut}
 
 
 def target_of(d, units):

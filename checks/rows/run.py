@@ -4,7 +4,8 @@
     checks/rows/run.py PROGRAM [--valgrind]
 
 With --valgrind each runs under valgrind's memory checker, which must have nothing to report: no invalid read or write, no branch on what was never written, no
-block that is lost. The rows of fine designs, whose exact numbers pass 2^126, and of fine corners have the numbers of the model in ../fuzz.
+block that is lost. The rows of fine designs, whose exact numbers pass 2^126, of fine corners, of other faces than the worked ones and of the examples' listings have the
+numbers of the model in ../fuzz.
 """
 import contextlib
 import os
@@ -12,139 +13,16 @@ import subprocess
 import sys
 import tempfile
 
+import lean_rows
+import listing_rows
+import stay_rows
+from texts import (AXIS, BASE, COAST, FIRST, GENERATE, JSON, LIMITS, POLICY, REPORT, SOLVE, costs, in_second, limits, plant_over, put, refused, steep, sub, targets,
+                   violations, written)
+
 PROGRAM = os.path.abspath(sys.argv[1])
 VALGRIND = "--valgrind" in sys.argv[2:]
-LIMITS = "den = 4\nstage = [[0, 4, 4], [0, -4, 4]]\nfinal = [[4, 1]]\n"
-TARGETS = "den = 1\nviolation = 16\ngap = 1\n"
-BASE = f"""version = 1
-states = 1
-inputs = 1
-stages = 1
-[plant]
-den = 1
-a = [[1]]
-b = [[1]]
-[cost]
-den = 1
-row_den = 1
-input = [1]
-stage = [[1, 0, 1]]
-final = []
-[limits]
-{LIMITS}[box]
-grid = 0
-lo = [0]
-hi = [1]
-[targets]
-{TARGETS}"""
-POLICY = "1,0\n8,-7\n"
-FIRST = """mpc-controller 1
-size 1 1 1 3
-bits 10 0 1 26
-steps 4
-clamp 32768
-words 6
-lo 0
-hi 1
-P 512
-T 0
-W 256 -256 256
-G 1024
-G -1024
-G 1024
-E 0
-E 0
-E 1024
-b 1024 1024 256
-end
-"""
-REPORT = """mpc-report 1
-margin 8192 65536
-cost 1
-multiplier 8
-step 1
-steps 4
-bits 10
-width 26
-words 6
-violation 8850854903808 1099511627776
-gap 438095052800 1099511627776
-undercut 70806839230464 1099511627776
-end
-"""
-JSON = '{"bits":"10","cost":"1","gap":"438095052800","margin":"8192","multiplier":"8","step":"1","steps":"4","undercut":"70806839230464","version":"1",' \
-    '"violation":"8850854903808","width":"26","words":"6"}\n'
-AXIS = """version = 1
-states = 2
-inputs = 1
-stages = 5
-[plant]
-den = 8
-a = [[8, 4], [0, 8]]
-b = [[1], [4]]
-[cost]
-den = 1
-row_den = 1
-input = [1]
-stage = [[1, 0, 0, 1], [0, 1, 0, 1]]
-final = []
-[limits]
-den = 1
-stage = [[0, 0, 1, 4], [0, 0, -1, 4], [1, 0, 0, 8], [-1, 0, 0, 8], [0, 1, 0, 2], [0, -1, 0, 2]]
-final = [[1, 0, 8], [-1, 0, 8], [0, 1, 2], [0, -1, 2]]
-[box]
-grid = 4
-lo = [-64, -16]
-hi = [64, 16]
-[targets]
-den = 16
-violation = 1
-gap = 16
-"""
-COAST = "1,0,0,0,0,0\n" * 4
-GENERATE = ["generate", "d", "p", "c", "r"]
-SOLVE = ["solve", "c", "s"]
-
-
-def sub(text, *pairs):
-    for old, new in pairs:
-        assert text.count(old) == 1, (old, text.count(old))
-        text = text.replace(old, new)
-    return text
-
-
-def targets(den, violation, gap):
-    return TARGETS, f"den = {den}\nviolation = {violation}\ngap = {gap}\n"
-
-
-def steep(n):
-    return sub(BASE, (LIMITS, f"den = 1\nstage = [[0, {n}, {n}]]\nfinal = []\n"), targets(1, 1048576, 1))
-
-
-def limits(den, stage, final=()):
-    return LIMITS, f"den = {den}\nstage = {stage}\nfinal = {[*final]}\n"
-
-
-def costs(den, row_den, weight, stage):
-    return "den = 1\nrow_den = 1\ninput = [1]\nstage = [[1, 0, 1]]\n", f"den = {den}\nrow_den = {row_den}\ninput = [{weight}]\nstage = {stage}\n"
-
-
-def plant_over(stages, den, a, b):
-    """More stages, and a plant of one state."""
-    return ("stages = 1\n", f"stages = {stages}\n"), ("den = 1\na = [[1]]\nb = [[1]]", f"den = {den}\na = [[{a}]]\nb = [[{b}]]")
-
-
-def refused(words, files, status, line):
-    return words, files, status, "", f"error {status} {line}\n", {}, {}
-
-
-def written(design, policy, **lines):
-    """A design that is accepted, with lines of the report and the controller."""
-    return GENERATE, {"d": design, "p": policy}, 0, "", "", {}, lines
-
-
-def put(words, files, out):
-    return words, files, 0, out, "", {}, {}
+# where the words name the files that a command writes
+OUTPUTS = {"generate": (3, 4), "lean": (4, 5), "stay": (3, 4), "list": (2,)}
 
 
 def rows():
@@ -244,15 +122,6 @@ def version_rows():
     six = "mpc-controller 2\nsize 6 1 1 1\nbits 0 0 1 16\nsteps 2\nclamp 9\nwords 9\nexps 0\nlo 0 0 0 0 0 0\nhi 1 2 3 4 5 6\nP 1 2 3 4 5 6\nT 0\nW -1\nG -1\nE 1 1 1 1 1 1\nb 1\nend\n"
     yield "version 2: six states", put(SOLVE, {"c": six, "s": "1,2,3,4,5,6\n0,0,0,0,0,1\n"}, "2 -178\n2 -8\n")
     yield "version 2: a loop", put(["loop", "d", "c", "s", "2"], {"d": BASE, "c": second("1 1 0"), "s": "1"}, "1 1 1 4096 -2372\n1 2 0 4096 0\n")
-
-
-def in_second(text):
-    """A design of version 2."""
-    return sub(text, ("version = 1", "version = 2"))
-
-
-def violations(*numbers):
-    return [f"violation {row} {number} 1099511627776" for row, number in enumerate(numbers, 1)]
 
 
 def second_rows():
@@ -420,109 +289,16 @@ def corner_rows():
         yield f"fine corners: prediction {what} its limit", refused(GENERATE, {"d": grown, "p": plans(8, [0, 0], [0, 0])}, 10, f"too-wide {quantity}")
 
 
-LEAN = ["lean", "d", "p", "q", "c", "r"]
-REFERENCE = "1,0\n2,-1\n"
-LEAN_CONTROLLER = """mpc-controller 1
-size 1 1 1 3
-bits 6 0 1 16
-steps 1
-clamp 256
-words 6
-lo 0
-hi 1
-P 32
-T 0
-W 16 -16 16
-G 64
-G -64
-G 64
-E 0
-E 0
-E 64
-b 64 64 16
-end
-"""
-LEAN_REPORT = """mpc-report 1
-margin 8192 65536
-excess 18432 65536
-multiplier 1
-step 1
-steps 1
-bits 6
-width 16
-words 6
-violation 11150808842240 1099511627776
-gap 311385128960 1099511627776
-undercut 17592186044416 1099511627776
-end
-"""
-LEAN_JSON = (
-    '{"bits":"6","excess":"18432","gap":"311385128960","margin":"8192","multiplier":"1","step":"1","steps":"1","undercut":"17592186044416","version":"1",'
-    '"violation":"11150808842240","width":"16","words":"6"}\n'
-)
-
-
-def lean_rows():
-    """Lean controllers: rows as before."""
-    tight = sub(BASE, targets(10, 1, 10))
-
-    def leanly(design, policy, reference, *numbers, c=()):
-        """A report's numbers: excess, R, K, f, width, violation, gap and undercut."""
-        excess, bound, steps, bits, width, *bounds = numbers
-        lines = [f"excess {excess} 65536", f"multiplier {bound}", f"steps {steps}", f"bits {bits}", f"width {width}"]
-        lines += [f"{name} {value} 1099511627776" for name, value in zip(("violation", "gap", "undercut"), bounds)]
-        return LEAN, {"d": design, "p": policy, "q": reference}, 0, "", "", {}, {"r": lines, "c": list(c)}
-
-    def no(status, line, design=BASE, policy=POLICY, reference=REFERENCE, words=LEAN):
-        return refused(words, {"d": design, "p": policy, "q": reference}, status, line)
-
-    base = {"d": BASE, "p": POLICY, "q": REFERENCE}
-    yield "lean", (LEAN, base, 0, "", "", {"c": LEAN_CONTROLLER, "r": LEAN_REPORT}, {})
-    yield "lean, JSON", (["lean", "d", "p", "q", "c", "r.json"], base, 0, "", "", {"c": LEAN_CONTROLLER, "r.json": LEAN_JSON}, {})
-    yield "lean: its plans", put(SOLVE, {"c": LEAN_CONTROLLER, "s": "1\n0\n"}, "64 -32\n64 0\n")
-    yield "lean: finer targets", leanly(tight, POLICY, REFERENCE, 18432, 2, 86, 13, 30, 107726302604, 6442582016, 219902325554, c=["clamp 65536"])
-    yield "lean: a reference on the other side", leanly(tight, POLICY, "1,0\n1,-1\n", 51200, 4, 171, 14, 33, 107522022222, 8858402816, 439804651108)
-    yield "lean: a rounded reference", leanly(tight, POLICY, "1,0\n4,-3\n", 26624, 2, 86, 13, 30, 107726302604, 6442582016, 219902325554)
-    yield "lean: a far reference", leanly(tight, POLICY, "1,5\n1,-7\n", 5556224, 377, 16086, 21, 54, 106961319180, 337992744962)
-    yield "lean: the policy as reference", leanly(BASE, POLICY, POLICY, 36864, 1, 1, 6, 16, 11150808842240, 311385128960, 17592186044416)
-    fine = sub(BASE, ("stages = 1\n", "stages = 2\n"), ("den = 1\na = [[1]]\nb = [[1]]", "den = 1048576\na = [[1048576]]\nb = [[1048576]]"),
-               limits(131072, [[0, 131072, 131072], [0, -131072, 131072]], [[131072, 32768]]))
-    plans, references = "1,0,0\n8,-7,0\n", "1,0,0\n5,-3,-1\n"
-    yield "lean: a fine design", leanly(fine, plans, references, 12903, 1, 1, 8, 20, 11111684374528, 233136193536, 17592186044416, c=["clamp 1024"])
-    rounded = sub(fine, ("a = [[1048576]]\nb = [[1048576]]", "a = [[1048577]]\nb = [[1048573]]"))
-    yield "lean: a fine design that is rounded", leanly(rounded, plans, references, 12904, 1, 1, 8, 20, 11108815470593, 227398385665)
-    second = sub(BASE, ("version = 1", "version = 2"), targets(1, 1, 1))
-    yield "lean: version 2", (LEAN, base | {"d": second}, 0, "", "", {}, {"c": ["exps 0 1 1", "clamp 2048"], "r": [
-        "mpc-report 2", "multiplier 1", "steps 5", "bits 9", "width 22", "violation 1 789002269492 1099511627776", "violation 2 1008904595047 1099511627776",
-        "violation 3 1008904595047 1099511627776", "gap 38688260096 1099511627776", "undercut 1099511627776 1099511627776"]})
-    pushed = sub(BASE, ("a = [[1]]\nb = [[1]]", "a = [[0]]\nb = [[0]]"), ("stage = [[1, 0, 1]]", "stage = []"), limits(10, [[0, -10, -39]]), ("hi = [1]", "hi = [0]"))
-    yield "lean: a plan that breaks a limit by less than its target", leanly(
-        pushed, "100,391\n100,391\n", "1,0\n1,0\n", 1001921, 1, 1, 3, 10, 10187662426112, 584115552256, 17592186044416, c=["P 0", "T 0", "clamp 16"])
-    yield "lean: references too few", no(5, "text 3 count 1", reference="1,0\n")
-    yield "lean: a reference over 0", no(5, "text 3 number 2 1", reference="1,0\n0,1\n")
-    yield "lean: no references", refused(LEAN, {"d": BASE, "p": POLICY}, 3, "read-fault 3")
-    yield "lean: the policy before the references", no(5, "text 2 count 1", policy="1,0\n", reference="1,0\n")
-    for reference in (REFERENCE, "1,0\n1,-999999999999999\n"):
-        yield f"lean: no margin, whatever the references {reference!r}", no(6, "no-margin 2 2 4 524288", policy="1,0\n131072,-131071\n", reference=reference)
-    steepest = sub(BASE, (LIMITS, "den = 1\nstage = [[0, 2147483647, 2147483647]]\nfinal = []\n"))
-    yield "lean: curvature before the excess", no(7, "curvature", design=steepest, policy="1,0\n1,0\n", reference="1,0\n1,-999999999999999\n")
-    yield "lean: excess", no(10, "too-wide excess", reference="1,0\n1,-999999999999999\n")
-    for line, far in (("too-many-steps 4221483", 106), ("too-many-steps 750599716593024", 1406784), ("too-wide multiplier", 1406785), ("too-wide multiplier", 4194304), ("too-wide excess", 4194305)):
-        yield f"lean: a reference of {-far}", no(8 if "steps" in line else 10, line, design=tight, reference=f"1,0\n1,{-far}\n")
-    yield "lean: nearly too many steps", leanly(tight, POLICY, "1,0\n1,-105\n", 1431357440, 97075, 4141867, 37, 94, 106516932199, 339258486601, 10673509126577275)
-    for words in (["lean", "d", "p", "q", "c", "c"], ["lean", "d", "p", "q", "q", "r"], ["lean", "d", "p", "q", "c", "d"], ["lean", "d", "p", "c", "r"], [*LEAN, "r"]):
-        yield f"lean: {' '.join(words)}", no(2, "usage", words=words)
-    yield "lean: one file for policy and references", (["lean", "d", "p", "p", "c", "r"], {"d": BASE, "p": POLICY}, 0, "", "", {}, {"r": ["excess 36864 65536"]})
-    yield "lean: a controller that can't be written", no(4, "write-fault 4", words=["lean", "d", "p", "q", "no/c", "r"])
-    yield "lean: a report that can't be written", (["lean", "d", "p", "q", "c", "no/r"], base, 4, "", "error 4 write-fault 5\n", {"c": LEAN_CONTROLLER}, {})
-
-
 def full_rows():
     """The name, the row, and the file that the output goes to, if any: what is written or printed to a full device fails after it was opened."""
-    made, read = {"d": BASE, "p": POLICY}, {"d": BASE, "c": FIRST, "s": "1\n"}
+    made, read = {"d": BASE, "p": POLICY}, {"d": BASE, "c": FIRST, "s": "1\n", "v": "0\n", "l": listing_rows.LISTING}
     yield "a controller to a full device", (["generate", "d", "p", "/dev/full", "r"], made, 4, "", "error 4 write-fault 3\n", {}, {}), None
     yield "a report to a full device", (["generate", "d", "p", "c", "/dev/full"], made, 4, "", "error 4 write-fault 4\n", {"c": FIRST}, {}), None
-    for words in (SOLVE, ["loop", "d", "c", "s", "1"], ["demo", "7"]):
+    held = {"d": stay_rows.HELD, "p": POLICY, "f": stay_rows.FACES}
+    for at, words in ((3, ["stay", "d", "p", "/dev/full", "r", "f"]), (4, ["stay", "d", "p", "c", "/dev/full", "f"])):
+        yield f"stay to a full device at {at}", (words, held, 4, "", f"error 4 write-fault {at}\n", {} if at == 3 else {"c": stay_rows.CONTROLLER}, {}), None
+    yield "a listing to a full device", (["list", "c", "/dev/full"], read, 4, "", "error 4 write-fault 2\n", {}, {}), None
+    for words in (SOLVE, ["loop", "d", "c", "s", "1"], ["loop", "d", "c", "s", "1", "v"], ["demo", "7"], ["play", "l", "s"]):
         yield f"the output of {words[0]} to a full device", (words, read, 4, None, "error 4 write-fault 0\n", {}, {}), "/dev/full"
 
 
@@ -559,14 +335,15 @@ def wrong(words, files, status, out, line, whole, lines, output=None):
     missing = {name: [it for it in some if it not in texts.get(name, "").split("\n")] for name, some in lines.items()}
     found += [f"{name or 'output'} lacks {some}" for name, some in missing.items() if some]
     wanted = {**files, **whole}
-    wanted |= {name: left.get(name) for name in ("c", "r") if words[:1] in (["generate"], ["lean"]) and status == 0 and name not in wanted}
+    outputs = OUTPUTS.get("".join(words[:1]), ()) if status == 0 else ()
+    wanted |= {words[at]: left.get(words[at]) for at in outputs if words[at] not in wanted}
     found += [f"file {name} {str(left.get(name))[:300]!r}" for name in {*wanted, *left} if wanted.get(name) != left.get(name)]
     return found
 
 
 def main():
     failed = count = 0
-    own = [(name, row, None) for name, row in [*rows(), *fine_rows(), *corner_rows(), *version_rows(), *second_rows(), *lean_rows()]]
+    own = [(name, row, None) for name, row in [*rows(), *fine_rows(), *corner_rows(), *version_rows(), *second_rows(), *lean_rows.rows(), *stay_rows.rows(), *listing_rows.rows()]]
     for name, row, output in [*own, *full_rows()]:
         count += 1
         found = wrong(*row, output=output)
