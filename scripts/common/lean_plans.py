@@ -11,7 +11,6 @@ need("numpy")
 import numpy
 
 from common.corners import corners_of, lean_multiplier_of, margin_of
-from common.design_text import Design
 from common.excess import excesses_of
 from common.programs import Programs
 from common.sizes import form_of
