@@ -409,6 +409,10 @@ class Choice:
         return ceil_div((2**exponent + 2**s) * 2**40 * r, k) + ceil_div(cost, r)
 
     @property
+    def is_lean(self):
+        return "excess" in self.report
+
+    @property
     def stated_violations(self):
         """Of each row, by the design and the policy alone."""
         cost = self.errors.epsilon(self.report["bits"])
@@ -421,10 +425,6 @@ class Choice:
         greatest = self.violation(self.report["step"], cost)
         undercut = self.report["multiplier"] * (target_of(self.design, 2**40) if self.is_lean else greatest)
         return {"violation": greatest, "violations": [self.violation(exponent, cost) for exponent in self.exponents], "gap": cost, "undercut": undercut}
-
-    @property
-    def is_lean(self):
-        return "excess" in self.report
 
 
 def target_of(d, units):

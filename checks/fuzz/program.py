@@ -20,9 +20,11 @@ from model import LIMIT, Refused
 
 NAMES = {1: "memory", 2: "usage", 3: "read-fault", 4: "write-fault", 5: "text", 6: "no-margin", 7: "curvature", 8: "too-many-steps", 9: "too-fine", 10: "too-wide",
          11: "controller", 12: "outside-box", 13: "long", 14: "mismatch", 16: "unequal", 17: "no-stay", 20: "listing", 21: "trap"}
-# how many words follow each command, and the places among the words of those that are written
-COUNTS = {"generate": [4], "stay": [5, 6], "lean": [5], "solve": [2], "loop": [4, 5], "demo": [1], "list": [2], "play": [2]}
-OUTPUTS = {"generate": [3, 4], "stay": [3, 4], "lean": [4, 5], "list": [2]}
+# how many words follow each command, and which of them are written
+COUNTS = {"generate": [4], "lean": [5], "stay": [5, 6], "solve": [2], "loop": [4, 5], "demo": [1], "list": [2], "play": [2]}
+# lean with faces, and with a box of disturbances, as stay has them: no command yet, and the model's alone
+LEAN_WITH_FACES = [6, 7]
+OUTPUTS = {"generate": [3, 4], "lean": [4, 5], "stay": [3, 4], "list": [2]}
 OVER = 2**40
 
 
@@ -131,7 +133,7 @@ class Program:
         self.words, self.read, self.write, self.gains, self.run, self.played = words, read, write, gains, run, played
         self.answer = Answer()
         self.put = put or self.answer.out.append
-        # the controller that was made
+        # the controller that was made of a design
         self.made = None
 
     def text(self, file, reader):
@@ -173,20 +175,32 @@ class Program:
     def lean(self):
         d = self.text(1, model.read_design)
         plans, references = (self.text(file, lambda data: model.read_policy(data, d)) for file in (2, 3))
-        self.write_made(model.choose(d, plans, references))
+        faces = self.faces(d, 6)
+        choice = model.choose(d, plans, references)
+        self.check_faces(choice, faces)
+        self.write_made(choice)
 
     def stay(self):
         d = self.text(1, model.read_design)
         plans = self.text(2, lambda data: model.read_policy(data, d))
-        faces = self.text(5, lambda data: staying.read_faces(data, d))
-        still = [[0] * d.states] * 2
-        shifts = still if len(self.words) == 6 else self.text(6, lambda data: staying.read_shift_box(data, d.states))
+        faces = self.faces(d, 5)
         choice = model.choose(d, plans)
-        staying.check(d, faces, choice.stated_violations, *shifts)
+        self.check_faces(choice, faces)
         self.write_made(choice)
 
+    def faces(self, d, file):
+        """The faces at this place among the words, and the box of disturbances after them; None where no faces are named."""
+        if len(self.words) <= file:
+            return None
+        found = self.text(file, lambda data: staying.read_faces(data, d))
+        still = [[0] * d.states] * 2
+        return found, still if len(self.words) == file + 1 else self.text(file + 1, lambda data: staying.read_shift_box(data, d.states))
+
+    def check_faces(self, choice, faces):
+        if faces:
+            staying.check(choice.design, faces[0], choice.stated_violations, *faces[1])
+
     def write_made(self, choice):
-        """Writes a choice's controller and its report."""
         c, b = made_of(choice, self.gains)
         self.made = c
         places = OUTPUTS[self.words[0]]

@@ -7,8 +7,9 @@ For each of COUNT (1000) cases the exit status, the line on standard error, stan
 determined: they are taken from the controller that the program wrote, once they are known to solve their systems. Each run of a controller is made with every
 product and partial sum traced, and all must fit its width; but a run of many steps of a controller that isn't of the kind `controller` only has its sums compared.
 
-A case is made of the seed and its number alone. --case runs one again and shows it; --kind makes all cases of that kind: generate, lean, border, stay, solve, controller, loop,
-list, play, demo, usage. Of the kind `stay` the first are the worked rows that are accepted. Half of the designs are of version 2; how many of these were accepted, and how many of them have a row with a smaller exponent, the last line says. A border
+A case is made of the seed and its number alone. --case runs one again and shows it; --kind makes all cases of that kind: generate, lean, border, stay, solve, controller,
+loop, list, play, demo, usage. Of the kind `stay` the first are the worked rows that are accepted. Half of the designs are of version 2; how many of these were accepted,
+and how many of them have a row with a smaller exponent, the last line says. A border
 design's exact numbers, its enclosures, the corners of its policy in either class, or what its rows come to where they count 16 times, pass the limit by little or stay
 below it by little. Of each, the model's exact numbers must be the simulated plant's, its enclosures must hold them, no corner may have less slack or a greater cost than
 its enclosures show, and both classes are counted beside the status, and whether a design of version 2 has room for smaller exponents.
@@ -39,8 +40,7 @@ import program
 import stay_cases
 import staying
 
-KINDS = (["generate"] * 24 + ["lean"] * 12 + ["border"] * 4 + ["stay"] * 14 + ["solve"] * 26 + ["controller"] * 18 + ["loop"] * 22 + ["list"] * 6 + ["play"] * 16
-         + ["usage"] * 4)
+KINDS = ["generate"] * 22 + ["lean"] * 12 + ["border"] * 4 + ["stay"] * 14 + ["solve"] * 26 + ["controller"] * 18 + ["loop"] * 22 + ["list"] * 6 + ["play"] * 16 + ["usage"] * 4
 DEMO_EVERY = 2500
 # the most products that the model makes in a case, and the most in a run whose every value it traces
 MOST_PRODUCTS, MOST_TRACED = 3_000_000, 60_000
@@ -173,8 +173,8 @@ class Maker:
     def usage(self, pick):
         design, policy = self.designs[0]
         text = self.controllers[0][1]
-        words = pick.choice([["generate", "d", "p", "c", "r"], ["lean", "d", "p", "p2", "c", "r"], ["solve", "c", "s"], ["loop", "d", "c", "s", "1"], ["demo", "1"],
-                             ["stay", "d", "p", "c", "r", "f"], ["stay", "d", "p", "c", "r", "f", "w"], ["loop", "d", "c", "s", "1", "w"], ["list", "c", "l"], ["play", "l", "s"], []])
+        words = pick.choice([["generate", "d", "p", "c", "r"], ["solve", "c", "s"], ["loop", "d", "c", "s", "1"], ["demo", "1"], ["lean", "d", "p", "p2", "c", "r"], ["stay", "d", "p", "c", "r", "f"],
+                             ["stay", "d", "p", "c", "r", "f", "w"], ["loop", "d", "c", "s", "1", "w"], ["list", "c", "l"], ["play", "l", "s"], []])
         words = list(words)
         how = pick.randrange(4)
         if how == 0 and words:

@@ -1,14 +1,15 @@
 """The model of `lean` against worked rows, whose numbers another program computed in exact whole numbers."""
 import os
-import sys
 import unittest
+from unittest import mock
 
-sys.path.insert(0, os.path.dirname(os.path.abspath(__file__)))
 import control
 import excess
 import forms
 import model
 import program
+from tests.test_staying import FACES, HELD
+from tests.worked import told
 
 BASE = """version = 1
 states = 1
@@ -103,7 +104,7 @@ def choice(design, policy, reference):
 def example(name):
     texts = []
     for place in ("design.toml", "policy.csv"):
-        with open(os.path.join(os.path.dirname(os.path.abspath(__file__)), "..", "..", "examples", name, place), encoding="utf-8") as file:
+        with open(os.path.join(os.path.dirname(os.path.abspath(__file__)), "..", "..", "..", "examples", name, place), encoding="utf-8") as file:
             texts.append(file.read())
     return texts
 
@@ -200,6 +201,40 @@ class Rows(unittest.TestCase):
         found = {row[0]: int(row[1]) for row in map(str.split, said.written["r"].decode().splitlines()[:-1])}
         for key, value in bounds.items():
             self.assertAlmostEqual(found[key] / value, 1, delta=1e-4)
+
+
+class Faces(unittest.TestCase):
+    """Lean controllers of boxes that no loop leaves, by what the lean bounds say of a row before its gains are known."""
+
+    def setUp(self):
+        with_faces = mock.patch.dict(program.COUNTS, lean=[5, *program.LEAN_WITH_FACES])
+        with_faces.start()
+        self.addCleanup(with_faces.stop)
+
+    def asked(self, words="lean d p q c r f", **files):
+        return told(words, **{"d": HELD, "p": POLICY.encode(), "q": REFERENCE.encode(), "f": FACES} | files)
+
+    def test_stated_violations(self):
+        d = model.read_design(HELD)
+        plans, references = (model.read_policy(text.encode(), d) for text in (POLICY, REFERENCE))
+        chosen = model.choose(d, plans, references)
+        target, k, f, s = 109951162777, *(chosen.report[key] for key in ("steps", "bits", "step"))
+        wanted = min(target, -(-target // 2) + -(-(2 ** (s + 41)) // k) + -(-chosen.errors.epsilon(f) // 4))
+        self.assertEqual((chosen.report["multiplier"], chosen.stated_violations), (2, [wanted] * 4))
+        self.assertLess(wanted, target)
+        self.assertLessEqual(chosen.printed(model.exact_gains(chosen), 2**f)["violation"], wanted)
+
+    def test_faces_that_hold(self):
+        self.assertEqual(self.asked()[0], 0)
+        self.assertEqual(self.asked()[3], self.asked("lean d p q c r")[3])
+        self.assertEqual(self.asked("lean d p q c r f w", w=b"0\n1\n")[0], 0)
+
+    def test_refused(self):
+        for faces, line in ((b"4,0,0,1,0\n4,0,1,0,0\n", "17 no-stay 2 -1"), (b"3,0,0,1,0\n4,0,0,0,1\n", "16 unequal 1 1 4 3"), (b"", "5 text 6 count 0")):
+            self.assertEqual(self.asked(f=faces), (int(line.split()[0]), f"error {line}\n", "", {}))
+        self.assertEqual(self.asked("lean d p q c r f w", w=b"-1\n0\n")[1], "error 17 no-stay 2 -1\n")
+        self.assertEqual(self.asked("lean d p q c r f w", w=b"0\n")[1], "error 5 text 7 count 1\n")
+        self.assertEqual(self.asked(q=b"1,0\n1,-999999999999999\n", f=b"3,0,0,1,0\n4,0,0,0,1\n")[1], "error 10 too-wide excess\n")
 
 
 class Gains(unittest.TestCase):
