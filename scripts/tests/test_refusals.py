@@ -415,9 +415,10 @@ echo "== mpc_cli"; echo "logic=proved functions=1"; printf '#!/bin/bash\necho bu
         """What the words below a refusal count by is what help lists, and the README's commands are among it."""
         self.assertEqual(
             usage.commands(),
-            {"demo": ["NUMBER"], "generate": ["DESIGN", "POLICY", "CONTROLLER", "REPORT"], "solve": ["CONTROLLER", "STATES"], "loop": ["DESIGN", "CONTROLLER", "STATES", "TURNS"]},
+            {"demo": ["NUMBER"], "generate": ["DESIGN", "POLICY", "CONTROLLER", "REPORT"], "solve": ["CONTROLLER", "STATES"], "loop": ["DESIGN", "CONTROLLER", "STATES", "TURNS"], "stay": ["DESIGN", "POLICY", "CONTROLLER", "REPORT", "FACES"]},
         )
         self.assertEqual(usage.files_of("loop"), ["design", "controller", "states"])
+        self.assertEqual(usage.files_of("stay"), ["design", "policy", "controller", "report", "faces", "disturbances"])
 
     def test_input_reaches_the_program(self):
         self.assertEqual(self.launched("cat; exit 0", "solve").stdout, "")

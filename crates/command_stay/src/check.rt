@@ -42,7 +42,14 @@ fn made_excess(alloc: Global, made: &Made) -> Result<Vec<i128>, AllocError>
     ensures { IfOk result (λ v. Holds v.items made.now.controller.rows (made_excess made.now.controller made.now.bounds.multiplier made.now.eps)) }
 {
     let c = made.controller.parts();
-    row_violations(alloc, &c.exps, c.s, made.bounds.multiplier, c.steps, made.eps)
+    row_violations(
+        alloc,
+        &c.exps,
+        c.s,
+        made.bounds.multiplier,
+        c.steps,
+        made.eps,
+    )
 }
 
 /// Whether the faces show that a loop of the controller stays in the box under shifts of this range, or the status that tells why not.
