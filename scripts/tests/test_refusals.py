@@ -468,10 +468,12 @@ echo "== mpc_cli"; echo "logic=proved functions=1"; printf '#!/bin/bash\necho bu
         """What the words below a refusal count by is what help lists, and the README's commands are among it."""
         self.assertEqual(
             usage.commands(),
-            {"demo": ["NUMBER"], "generate": ["DESIGN", "POLICY", "CONTROLLER", "REPORT"], "lean": ["DESIGN", "POLICY", "REFERENCE", "CONTROLLER", "REPORT"],
-             "solve": ["CONTROLLER", "STATES"], "loop": ["DESIGN", "CONTROLLER", "STATES", "TURNS"], "list": ["CONTROLLER", "LISTING"], "play": ["LISTING", "STATES"]},
+            {"demo": ["NUMBER"], "generate": ["DESIGN", "POLICY", "CONTROLLER", "REPORT"], "stay": ["DESIGN", "POLICY", "CONTROLLER", "REPORT", "FACES"],
+             "lean": ["DESIGN", "POLICY", "REFERENCE", "CONTROLLER", "REPORT"], "solve": ["CONTROLLER", "STATES"], "loop": ["DESIGN", "CONTROLLER", "STATES", "TURNS"],
+             "list": ["CONTROLLER", "LISTING"], "play": ["LISTING", "STATES"]},
         )
         self.assertEqual(usage.files_of("loop"), ["design", "controller", "states"])
+        self.assertEqual(usage.files_of("stay"), ["design", "policy", "controller", "report", "faces", "disturbances"])
 
     def test_input_reaches_the_program(self):
         self.assertEqual(self.launched("cat; exit 0", "solve").stdout, "")

@@ -46,9 +46,9 @@ read_more text n i range new zs is here h = record {
   long = rw is (length_push range.rows zs ∙ ap (λ (k : ℕ). k + 1) h.long);
   cols = rw is h.cols;
   each = λ e l. elim (cases_lt e i) [
-      | inl below ↦ moved e (row_of range e) (omega (arith, below, h.long)) (rw is (get_or_append_left range.rows (zs ∷ []) [] e (omega (arith, below, h.long)))) (h.each e below)
-      | inr above ↦ (let last : e ≡ i = omega (arith, l, above) in moved e zs (omega (arith, last, h.long)) (rw (is, last) (get_or_push range.rows zs [] i h.long)) (rw last here))
-    ];
+    | inl below ↦ moved e (row_of range e) (omega (arith, below, h.long)) (rw is (get_or_append_left range.rows (zs ∷ []) [] e (omega (arith, below, h.long)))) (h.each e below)
+    | inr above ↦ (let last : e ≡ i = omega (arith, l, above) in moved e zs (omega (arith, last, h.long)) (rw (is, last) (get_or_push range.rows zs [] i h.long)) (rw last here))
+  ];
 }
   where
     moved : (e : ℕ) (xs : List ℤ) → e ≤ length range.rows → row_of new e ≡ xs → HoldsNumbers (floor_rule (range_floors n (row_of range 0) e)) n (record_at (records_of text) e) xs →

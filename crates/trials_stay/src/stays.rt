@@ -54,24 +54,45 @@ fn is_run(
 ) -> Result<bool, Fail> {
     let design = two_sided(alloc)?;
     let mut store = store_of(alloc, &design, POLICY, faces, shifts)?;
-    Ok(ends_with(alloc, arguments, &mut store, fails, line, "")? && leaves(alloc, &mut store, report)?)
+    Ok(
+        ends_with(alloc, arguments, &mut store, fails, line, "")?
+            && leaves(alloc, &mut store, report)?,
+    )
 }
 
 // The arguments, the faces, the disturbances, the answer's line and lines of the report; nothing is written where there are none.
 static RUNS: [(&str, &str, &str, &str, &str); 16] = [
     // Faces that hold, and the printed violation.
+    (STAY, FACES, "", "", "violation 77438459892 1099511627776\n"),
+    // Faces that don't, and texts that are none.
     (
         STAY,
-        FACES,
+        "4,0,0,1,0\n4,0,1,0,0\n",
         "",
+        "error 17 no-stay 2 -1\n",
         "",
-        "violation 77438459892 1099511627776\n",
     ),
-    // Faces that don't, and texts that are none.
-    (STAY, "4,0,0,1,0\n4,0,1,0,0\n", "", "error 17 no-stay 2 -1\n", ""),
-    (STAY, "3,0,0,1,0\n4,0,0,0,1\n", "", "error 16 unequal 1 1 4 3\n", ""),
-    (STAY, "4,0,0,1,0\n3,0,0,0,1\n", "", "error 16 unequal 2 1 -4 -3\n", ""),
-    (STAY, "4,0,1,0,0\n3,0,0,0,1\n", "", "error 16 unequal 1 1 -4 4\n", ""),
+    (
+        STAY,
+        "3,0,0,1,0\n4,0,0,0,1\n",
+        "",
+        "error 16 unequal 1 1 4 3\n",
+        "",
+    ),
+    (
+        STAY,
+        "4,0,0,1,0\n3,0,0,0,1\n",
+        "",
+        "error 16 unequal 2 1 -4 -3\n",
+        "",
+    ),
+    (
+        STAY,
+        "4,0,1,0,0\n3,0,0,0,1\n",
+        "",
+        "error 16 unequal 1 1 -4 4\n",
+        "",
+    ),
     (STAY, "", "", "error 5 text 5 count 0\n", ""),
     (STAY, "0,0,0,1,0\n", "", "error 5 text 5 number 1 1\n", ""),
     (STAY, "4,0,0,1\n", "", "error 5 text 5 fields 1\n", ""),
@@ -85,10 +106,28 @@ static RUNS: [(&str, &str, &str, &str, &str); 16] = [
     ),
     (STAY_UNDER, FACES, "-1\n0\n", "error 17 no-stay 2 -1\n", ""),
     (STAY_UNDER, FACES, "0\n2\n", "error 17 no-stay 1 2\n", ""),
-    (STAY_UNDER, FACES, "0\n-1\n", "error 5 text 6 number 2 1\n", ""),
+    (
+        STAY_UNDER,
+        FACES,
+        "0\n-1\n",
+        "error 5 text 6 number 2 1\n",
+        "",
+    ),
     (STAY_UNDER, FACES, "0\n", "error 5 text 6 count 1\n", ""),
-    (STAY_UNDER, FACES, "0\n1\n2147483648\n", "error 5 text 6 number 3 1\n", ""),
-    (STAY_UNDER, FACES, "0,0\n1\n", "error 5 text 6 fields 1\n", ""),
+    (
+        STAY_UNDER,
+        FACES,
+        "0\n1\n2147483648\n",
+        "error 5 text 6 number 3 1\n",
+        "",
+    ),
+    (
+        STAY_UNDER,
+        FACES,
+        "0,0\n1\n",
+        "error 5 text 6 fields 1\n",
+        "",
+    ),
     // A name that is written is another's.
     ("stay d p out r out", FACES, "", "error 2 usage\n", ""),
 ];
