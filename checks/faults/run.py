@@ -4,7 +4,7 @@
     checks/faults/run.py PROGRAM [--jobs JOBS] [--only memory|files|output] [--commands NAME,..] [--short]
 
 Memory: under an allocator that refuses one request, the n-th, for every n that the run makes, and again one that refuses the n-th and all later ones. Each run
-must end with the status 1 and its line, or with the right answer, be that a refusal; what a command writes is left as it was, the others have put some first lines. Where the
+must end with the status 1 and its line, or with the right answer, be that a refusal, whose line may be missing; what a command writes is left as it was, the others have put some first lines. Where the
 request is the runtime's own, for the arguments, the program ends with 99 and no word. Where all later requests are refused, the line may be missing.
 Files: a limit on a file's size at every number of bytes, a full disk, /dev/full, folders that aren't there, names that can't be read or never end.
 Output: closed, full, limited at every number of bytes, a pipe that nobody reads.
@@ -192,6 +192,9 @@ def judged(command, ran, left, refuses_all):
     as_before = {name: OLD[name] for name in command.outputs}
     if (ran.returncode, ran.stderr, ran.stdout, left) == (command.status, command.line, command.out, command.made):
         return "the right answer all the same", None
+    # where there is no memory for the line of a refusal, its status is all that is told
+    if command.line and (ran.returncode, ran.stderr, ran.stdout, left) == (command.status, b"", command.out, command.made):
+        return "the right status, no line", None
     if ran.returncode == 99 and (ran.stderr, ran.stdout, left) == (b"", b"", as_before):
         return "no arguments (99)", None
     if ran.returncode != 1 or ran.stderr not in ([MEMORY, b""] if refuses_all else [MEMORY]):

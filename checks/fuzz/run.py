@@ -47,7 +47,7 @@ MOST_PRODUCTS, MOST_TRACED = 3_000_000, 60_000
 # and the most instructions
 MOST_PLAYED = 500_000
 # of the loops of a design whose box is stayed in
-TURNS, MOST_LOOP_PRODUCTS = 200, 20_000_000
+TURNS, MOST_LOOP_PRODUCTS = 200, 5_000_000
 SECOND = "a design of version 2, accepted"
 LOWERED = SECOND + ", with a row whose exponent is below the greatest"
 
