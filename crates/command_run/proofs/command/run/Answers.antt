@@ -3,7 +3,7 @@ use Rattle.command_line.specs.Words.{IsGenerate, IsSolve, IsLoop, IsDemo, IsList
 use Rattle.std.specs.Prelude.{IfSome, IsSomeAnd}
 use Rattle.command_line.specs.Commands.{IsUsage}
 use Rattle.command_line.proofs.OneCommand.{one_command}
-use Rattle.command_line.specs.declared.words.Command.TheVariants.{Generate, Solve, Loop, Demo, List, Stay, Play}
+use Rattle.command_line.specs.declared.words.Command.TheVariants.{Generate, Solve, Loop, Demo, List as Listing, Stay, Play}
 use Rattle.std.specs.Prelude.{IfSome, IsSomeAnd}
 use Rattle.command_line.specs.declared.status.Status.TheVariants.{Done}
 use Rattle.command_line.specs.declared.words.Command.TheVariants.{Generate, Solve, Loop, Demo, Stay, Lean}
@@ -196,22 +196,22 @@ returns-in-Some-List g c =
     let read = one_read list_deeds words held s reads reads_now (λ contents file first. first) c.list.ensures.read_fault in
     let failed = write_failed list_deeds words held s writes writes_now printed printed c.list.ensures.write_fault in
     record {
-      generated = λ a done. absurd (let never : Generate ≡ List = one_command words Generate List a is in cc);
-      stayed = λ x a done. absurd (let never : Stay x ≡ List = one_command words (Stay x) List a is in cc);
-      played = λ a. absurd (let never : Play ≡ List = one_command words Play List a is in cc);
-      leaned = λ a done. absurd (let never : Lean ≡ List = one_command words Lean List a is in cc);
-      usage = (λ e. absurd (no_usage List words held s called e), λ u. absurd (u List is));
-      unused = λ u. absurd (u List is);
-      called = each_called words List is held s called;
-      no_inner_memory = λ file. (no_text_memory List words held s called file, no_controller_memory List words held s called file);
-      complete = each_completes words List is held s reads reads_now writes writes_now printed printed called read failed;
-      prints = each_shown words List is held s (g.O.Sink.got c.args.out.now) (g.O.Sink.got c.args.out.now) (shown_nothing words held (g.O.Sink.got c.args.out.now));
+      generated = λ a done. absurd (let never : Generate ≡ Listing = one_command words Generate Listing a is in cc);
+      stayed = λ x a done. absurd (let never : Stay x ≡ Listing = one_command words (Stay x) Listing a is in cc);
+      played = λ a. absurd (let never : Play ≡ Listing = one_command words Play Listing a is in cc);
+      leaned = λ a done. absurd (let never : Lean ≡ Listing = one_command words Lean Listing a is in cc);
+      usage = (λ e. absurd (no_usage Listing words held s called e), λ u. absurd (u Listing is));
+      unused = λ u. absurd (u Listing is);
+      called = each_called words Listing is held s called;
+      no_inner_memory = λ file. (no_text_memory Listing words held s called file, no_controller_memory Listing words held s called file);
+      complete = each_completes words Listing is held s reads reads_now writes writes_now printed printed called read failed;
+      prints = each_shown words Listing is held s (g.O.Sink.got c.args.out.now) (g.O.Sink.got c.args.out.now) (shown_nothing words held (g.O.Sink.got c.args.out.now));
       quiet = λ d that unprinted. refl;
-      leaves = each_leaves words List is held s (g.S.Store.held c.list.new.store) (record { listed = c.list.ensures.listed; cut = c.list.ensures.cut });
-      held = each_held words List is held s _ (writing_held list_deeds s _ 2 refl c.list.ensures.held);
-      no_file = each_unused words List is held s _ (λ uses. absurd (uses.reads 1 refl));
-      read_fault = each_read words List is held s reads reads_now read;
-      write_fault = each_failed words List is held s writes writes_now printed printed failed;
+      leaves = each_leaves words Listing is held s (g.S.Store.held c.list.new.store) (record { listed = c.list.ensures.listed; cut = c.list.ensures.cut });
+      held = each_held words Listing is held s _ (writing_held list_deeds s _ 2 refl c.list.ensures.held);
+      no_file = each_unused words Listing is held s _ (λ uses. absurd (uses.reads 1 refl));
+      read_fault = each_read words Listing is held s reads reads_now read;
+      write_fault = each_failed words Listing is held s writes writes_now printed printed failed;
       reads = c.list.ensures.reads;
       writes = c.list.ensures.writes;
       no_fewer = le_refl printed;
