@@ -11,12 +11,12 @@ ghost use Rattle.design_engine.specs.Aims.{IsAim, IsScaledOf, IsAimedOf};
 ghost use Rattle.design_engine.specs.Tests.{PassesForm, HasFormCause, PassesAim, HasAimCause, IsRefusedFor};
 ghost use Rattle.design_engine.specs.Chosen.{IsChosenOf};
 
-use design_refusal::Refusal;
 use crate::residuals::real_cost;
 use approx_inverse::solve_all;
 use bit_choice::{Choice, choose_bits};
 use condensed_form::Condensed;
 use controller_maker::{Settings, controller_of};
+use design_refusal::Refusal;
 use dual_bounds::steps;
 use hessian_check::{curvature, exponents};
 use overflow_check::Controller;

@@ -14,8 +14,8 @@ ghost use Rattle.design_engine.specs.Built.{IsBuilt, IsBounded};
 ghost use Rattle.design_engine.specs.Refusals.{HasCause, IsRefused, PassesMargin, PassesAll};
 
 use crate::aimed::{Aim, Aimed, Scaled, controller_for, scaled_of};
-use design_refusal::Refusal;
 use crate::violations::row_violations;
+use design_refusal::Refusal;
 use dual_bounds::{multiplier, undercut, violation};
 use overflow_check::Controller;
 use qp_model::{Bounds, Design, DesignParts, Margin, Policy};

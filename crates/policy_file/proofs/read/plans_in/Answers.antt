@@ -71,7 +71,7 @@ overflow_cast-result c =
 pub returns-then-len-number-clause-fault : goal.returns-then-len-number-clause-fault
 returns-then-len-number-clause-fault c =
     count_fault c.args.bytes.now (design_of c.args.parts.now) c.args.number c.in_ok-records.records.items _ c.loop-i.i c.loop-i.dens.items c.loop-i.plans c.in_ok-records.ensures (search rules)
-        (omega arith) (λ q. absurd (omega (arith, q, c.if-len-number.true)))
+    (omega arith) (λ q. absurd (omega (arith, q, c.if-len-number.true)))
     c.loop-i.invariant.plans.each
 
 pub returns-clause-found : goal.returns-clause-found
