@@ -364,7 +364,7 @@ def main():
     parser.add_argument("--cases", type=int, default=1000)
     parser.add_argument("--seed", type=int, default=1)
     parser.add_argument("--jobs", type=int, default=os.cpu_count())
-    parser.add_argument("--kind", choices=["generate", "border", "solve", "controller", "loop", "demo", "usage"])
+    parser.add_argument("--kind", choices=["generate", "border", "solve", "controller", "loop", "demo", "list", "play", "usage"])
     parser.add_argument("--case", type=int)
     options = parser.parse_args()
     options.program = os.path.abspath(options.program)
