@@ -1,21 +1,27 @@
 #!/usr/bin/env python3
 """From a model to a controller that is judged: each step shown as the command that it runs, so that you can go on by hand where you like.
 
-    ./mpc design MODEL FOLDER [--as-it-is] [--gap PART] [--turns N] [--corners N] [--random N] [--states N] [--seed N]
+    ./mpc design MODEL FOLDER [--as-it-is | --stay] [--generate] [--gap PART] [--turns N] [--corners N] [--random N] [--states N] [--seed N]
 
 In FOLDER, which is made where it isn't there, stand then
 
     fitted.toml       the model in coordinates and a box in which its loops stay (scripts/coordinates.py; with --as-it-is, and where nothing was found, MODEL itself)
     design.toml       the design (scripts/draft.py)
-    policy.csv        a plan for each corner (scripts/policy.py)
-    controller.txt    the controller, and report.txt its bounds (./mpc generate)
+    policy.csv        a plan for each corner, and reference.csv the best ones without limits (scripts/policy.py --lean)
+    controller.txt    the controller, and report.txt its bounds (./mpc lean; with --generate ./mpc generate, which needs no reference plans)
     states.csv        corners and random states (scripts/states.py)
     loop.txt          the controller's loops from there (./mpc loop), and exact.txt those of exact model predictive control (scripts/exact_loop.py)
     loop.svg          both in one picture (scripts/plot.py)
     judged.txt        what the controller's plans do beside exact ones (scripts/judge.py)
     explained.txt     what the report holds, in the model's units (./mpc explain)
 
+and where no loop is to leave the box, by --stay or by `stay` in the model's `[box]`, fitted.toml is by scripts/staying.py, and beside it stand
+
+    faces.csv         the sums of limits that show that none does, and disturbances.csv the greatest disturbances of a turn that they bear (scripts/faces.py)
+
+    --generate    makes the controller that keeps far from its limits: of more steps, mostly far more, and with real violations far below the printed ones
     --as-it-is    takes the model's own coordinates and box, whatever its loops do
+    --stay        searches limits on the next state, coordinates and a box for which faces hold
     --gap PART    the gap target, as a part of the greatest cost (0.1)
     --turns N     so many turns a loop (50)
     --corners N   at most so many corners to begin loops from (8); --random N so many random states (4); --seed N which of them (1)
@@ -36,10 +42,12 @@ from common.libraries import PACKAGES, Refusal, need, run
 need(*PACKAGES)
 from common import files
 from common.arguments import Parser, count, positive, turns
+from common.models import read_model
 from common.progress import Progress
 
 TOP = os.path.dirname(os.path.dirname(os.path.realpath(__file__)))
-MADE = ["fitted.toml", "design.toml", "policy.csv", "controller.txt", "report.txt", "states.csv", "loop.txt", "exact.txt", "loop.svg", "judged.txt", "explained.txt"]
+MADE = ["fitted.toml", "design.toml", "policy.csv", "reference.csv", "controller.txt", "report.txt", "states.csv", "loop.txt", "exact.txt", "loop.svg", "judged.txt", "explained.txt"]
+STAYS = ["faces.csv", "disturbances.csv"]
 LEFT_THE_BOX = 12
 
 
@@ -99,21 +107,29 @@ def watched(began: subprocess.Popen) -> tuple[str, str]:
                 progress.tell(f"{time.monotonic() - start:.0f} s")
 
 
-def fitted(steps: Steps, model: str, as_it_is: bool, count: int) -> str:
-    """The model to draft: one whose loops stay, where there is one."""
-    if as_it_is:
+def fitted(steps: Steps, model: str, given: Namespace, stays: bool) -> str:
+    """The model to draft: one whose loops stay, where there is one; where they have to, no other."""
+    if given.as_it_is:
         return model
-    step = steps.run("scripts/coordinates.py", model, steps.path("fitted.toml"), "--turns", str(count))
+    if stays:
+        steps.must("scripts/staying.py", model, steps.path("fitted.toml"))
+        return steps.path("fitted.toml")
+    step = steps.run("scripts/coordinates.py", model, steps.path("fitted.toml"), "--turns", str(given.turns))
     if step.status not in (0, LEFT_THE_BOX):
         raise Refusal(f"scripts/coordinates.py ended with status {step.status}: what stands above says why", step.status)
     return steps.path("fitted.toml") if step.status == 0 else model
 
 
-def make(steps: Steps, model: str, given: Namespace) -> None:
-    """The design, its policy and its controller."""
-    steps.must("scripts/draft.py", model, steps.path("design.toml"), "--gap", str(given.gap))
-    steps.must("scripts/policy.py", steps.path("design.toml"), steps.path("policy.csv"), "--turns", "0")
-    steps.must("mpc", "generate", *map(steps.path, ("design.toml", "policy.csv", "controller.txt", "report.txt")))
+def make(steps: Steps, model: str, given: Namespace, stays: bool) -> None:
+    """The design, its policy, its faces and its controller: a lean one, but where no loop is to leave the box."""
+    design, policy, reference = map(steps.path, ("design.toml", "policy.csv", "reference.csv"))
+    lean = not (given.generate or stays)
+    steps.must("scripts/draft.py", model, design, "--gap", str(given.gap), *(["--lean"] if lean else []))
+    steps.must("scripts/policy.py", design, policy, *(["--lean", reference] if lean else []), "--turns", "0")
+    made = [steps.path("controller.txt"), steps.path("report.txt")]
+    if stays:
+        steps.must("scripts/faces.py", design, policy, steps.path("faces.csv"), "--bears", steps.path("disturbances.csv"))
+    steps.must("mpc", *(["lean", design, policy, reference] if lean else ["generate", design, policy]), *made)
 
 
 def show(steps: Steps, given: Namespace) -> None:
@@ -127,21 +143,32 @@ def show(steps: Steps, given: Namespace) -> None:
         raise Refusal(f"mpc loop ended with status {left.status}: what stands above says why", left.status)
     steps.must("scripts/exact_loop.py", design, states, str(given.turns), to=exact)
     if left.said:
-        steps.must("scripts/plot.py", design, loop, exact, "--labels", "controller,exact", "--out", steps.path("loop.svg"))
-    judged = steps.must("scripts/judge.py", design, controller, "--states", str(given.states), "--seed", str(given.seed), to=steps.path("judged.txt"))
+        steps.must("scripts/plot.py", design, loop, exact, "--labels", "controller,exact", "--report", steps.path("report.txt"), "--out", steps.path("loop.svg"))
+    judged = steps.must("scripts/judge.py", design, controller, steps.path("report.txt"), "--states", str(given.states), "--seed", str(given.seed), to=steps.path("judged.txt"))
     print("    " + judged.said.rstrip("\n").replace("\n", "\n    "))
-    names = [steps.path("report.txt"), design, steps.path("policy.csv"), controller]
+    names = [steps.path("report.txt"), design, steps.path("policy.csv"), *([] if given.generate else [steps.path("reference.csv")]), controller]
     explained = steps.must("mpc", "explain", *names, to=steps.path("explained.txt"))
     for line in explained.said.splitlines():
         if line.startswith(("every run", "stage row", "final row", "the plan costs", "a run has")):
             print(f"    {line}")
 
 
+def asks_to_stay(path: str) -> bool:
+    """Whether a model's box has limits on the next state; what is wrong with it is said by the step that drafts it."""
+    try:
+        return any(read_model(path).stay)
+    except Refusal:
+        return False
+
+
 def main() -> int:
     parser = Parser(__doc__, prog="./mpc design")
     parser.add_argument("model", metavar="MODEL")
     parser.add_argument("folder", metavar="FOLDER")
-    parser.add_argument("--as-it-is", action="store_true")
+    either = parser.add_mutually_exclusive_group()
+    either.add_argument("--as-it-is", action="store_true")
+    either.add_argument("--stay", action="store_true")
+    parser.add_argument("--generate", action="store_true")
     parser.add_argument("--gap", type=positive, default=0.1, metavar="PART")
     parser.add_argument("--turns", type=turns, default=50, metavar="N")
     for name, value in (("--corners", 8), ("--random", 4), ("--states", 96)):
@@ -149,11 +176,11 @@ def main() -> int:
     parser.add_argument("--seed", type=int, default=1, metavar="N")
     given = parser.parse_args()
     steps = Steps(given.folder)
-    files.keep_apart({"MODEL": given.model}, {name: steps.path(name) for name in MADE})
+    files.keep_apart({"MODEL": given.model}, {name: steps.path(name) for name in MADE + STAYS})
     files.read_bytes(given.model)
     os.makedirs(given.folder, exist_ok=True)
-    began = time.monotonic()
-    make(steps, fitted(steps, given.model, given.as_it_is, given.turns), given)
+    began, stays = time.monotonic(), given.stay or asks_to_stay(given.model)
+    make(steps, fitted(steps, given.model, given, stays), given, stays)
     show(steps, given)
     print(f"in {time.monotonic() - began:.0f} s: {steps.path('loop.svg')} has the loops, {steps.path('explained.txt')} every bound, and {steps.path('controller.txt')} the controller")
     return 0

@@ -1,7 +1,7 @@
 #!/usr/bin/env python3
 """Drafts a design from a continuous model with limits, cost and box, all in physical units.
 
-    scripts/draft.py MODEL [DESIGN] [--gap PART] [--keep-weights]
+    scripts/draft.py MODEL [DESIGN] [--gap PART] [--keep-weights] [--lean]
 
 It samples and rounds the plant, divides each limit row by its tolerance (so that the violation target is 1 for all), holds limits on states at the next state,
 takes all weights by one factor so that the curvature is just below 1 (step 0), and asks for a gap of PART (0.1) of the greatest cost. In version 2 the curvature is just
@@ -9,6 +9,8 @@ below 16 (step 4): that leaves the steps as they are, and the exponents of flat 
 standard error: what each rounding moved, and where the loop of the design settles beside that of the model. The policy is the next step: scripts/policy.py DESIGN POLICY.
 
     --keep-weights    takes the weights as they are, with no common factor
+    --lean            for a lean controller, whose R is small and counts as a whole number: in version 2 the curvature is just below that power of two from 1 to 16, the
+                      greatest, by which R loses at most a tenth to that (step 0 to 4)
 
 Where a size of the design would pass what the program accepts, the plant is rounded to a smaller denominator, or weights and limits more coarsely, and that is said.
 """
@@ -29,6 +31,7 @@ from common.corners import corners_of, margin_of, multiplier_of
 from common.design_text import Design, Name, plain, text_of
 from discretise import least_den, lost, responses_error, response_error, rounded, row_sum
 from explain import later_sizes
+from common.lean_plans import LeanPlans, whole as whole_bound
 from common.models import Model, named, read_model
 from policy import plans_with, search
 from common.programs import Programs
@@ -37,6 +40,8 @@ from common.settling import Settled, settled
 
 # the step exponent, by version: in version 2 that of a row is up to 4 less
 STEP = {1: 0, 2: 4}
+# what R may lose to being whole
+WHOLE_LOSS = 1.1
 NUMERATOR = 2147483647
 DENOMINATOR = 1048576
 # the parts of themselves by which numbers may move, one after the other, where the sizes refuse the first
@@ -87,6 +92,19 @@ def sides_of(model: Model, a: numpy.ndarray, b: numpy.ndarray) -> list[Side]:
             out.append(Side(name + " above" * both, numpy.r_[row, above] / tolerance, tolerance, unit, later))
         if math.isfinite(below):
             out.append(Side(name + " below" * both, numpy.r_[-row, -below] / tolerance, tolerance, unit, later))
+    return out + staying_sides(model, a, b)
+
+
+def staying_sides(model: Model, a: numpy.ndarray, b: numpy.ndarray) -> list[Side]:
+    """Limits on the next state, by which it stays in the box: inside its ends by what they may be exceeded, and by what moves it from outside."""
+    out, grid, (lo, hi) = [], int(model.text["box"].get("grid", 4)), model.ends()
+    for i, (tolerance, moved) in enumerate(zip(model.stay, model.disturbed)):
+        size, (word, unit) = model.state_units[i], model.names[i]
+        if tolerance and not any(abs(b[i]) > 1e-12 * abs(a[i]).max()):
+            models.refuse([f"box.stay[{i + 1}]: 0 is expected, since no input moves the next {word}: what drives it keeps it in the box, or nothing does"])
+        for sign, end, side in ((1, hi[i], "upper"), (-1, lo[i], "lower")) if tolerance else ():
+            bound = sign * end * size / 2**grid - tolerance - moved
+            out.append(Side(f"{side} end of {word}", numpy.r_[sign * a[i] * size, sign * b[i] * size, bound] / tolerance, tolerance, unit or "units"))
     return out
 
 
@@ -120,9 +138,7 @@ def in_floats(model: Model) -> Design:
     """The design of a model with no number of plant, cost and limits rounded: over 1, in floats. The box is whole already."""
     text, (a, b) = model.text, model.scaled()
     box, sides = text["box"], sides_of(model, a, b)
-    grid = int(box.get("grid", 4))
-    corner = lambda values: [int(round(v / u * 2**grid)) for v, u in zip(values, model.state_units)]
-    hi, lo = corner(model.hi), corner(model.lo)
+    grid, (lo, hi) = int(box.get("grid", 4)), model.ends()
     if max(map(abs, hi + lo)) > NUMERATOR:
         models.refuse([f"box: a box of at most {NUMERATOR} over 2^grid is expected, in units of {', '.join(map(plain, model.state_units))}"])
     weights = [float(w) * u**2 for w, u in zip(text["cost"]["input"], model.input_units)]
@@ -161,10 +177,10 @@ def set_weights(design: Design, weights: list[int], den: int) -> None:
         models.refuse(["cost: weights are expected of which none is more than 2^31 times another one, in the design's units"])
 
 
-def fit_weights(design: Design, weights: list[float], part: float, den: int | None) -> None:
-    """All weights by one factor, so that the curvature is just below the power of the version's step: whole numbers that are to each other as the weights are, over the least
+def fit_weights(design: Design, weights: list[float], part: float, den: int | None, step: int) -> None:
+    """All weights by one factor, so that the curvature is just below the power of the step: whole numbers that are to each other as the weights are, over the least
     denominator by which less than half a percent of the step is lost; or rounded up, over the denominator that is asked for."""
-    power = 2 ** STEP[design.version]
+    power = 2**step
     ratio = whole_ratio(weights, part)
     set_weights(design, ratio, 1)
     steep = curvature(design)
@@ -197,8 +213,8 @@ def keep_weights(design: Design, weights: list[float], part: float) -> None:
     set_weights(design, [max(1, round(w * den)) for w in weights], den)
 
 
-def whole(model: Model, exact: Design, den: int, part: float, keep: bool) -> Design:
-    """The design of a model over these denominators, with a gap yet to be chosen."""
+def whole(model: Model, exact: Design, den: int, part: float, keep: bool, step: int) -> Design:
+    """The design of a model over these denominators and with this step exponent, with a gap yet to be chosen."""
     whole_a, whole_b = rounded(*model.scaled(), den)
     if max(abs(whole_a).max(), abs(whole_b).max()) > NUMERATOR:
         models.refuse([f"units: units are expected in which no number of the plant over {den} is above 2^31"])
@@ -216,7 +232,7 @@ def whole(model: Model, exact: Design, den: int, part: float, keep: bool) -> Des
     if keep:
         keep_weights(design, weights, part)
     else:
-        fit_weights(design, weights, part, model.weight_den)
+        fit_weights(design, weights, part, model.weight_den, step)
     return design
 
 
@@ -283,15 +299,35 @@ def set_gap(design: Design, part: float, plans: tuple) -> list[str]:
 # ---- what was done
 
 
-def drafted(model: Model, part: float = 0.1, keep: bool = False) -> Drafted:
+def lean_step(design: Design) -> int:
+    """The greatest step exponent by which R of a lean controller, a whole number, loses little; that of the design where no plan keeps its limits."""
+    top, programs = STEP[design.version], Programs(design)
+    most = min(programs.most_slack([float(v) for v in design.corner(c)])[0] for c in range(1, 2**design.states + 1))
+    if most <= 0:
+        return top
+    plans = LeanPlans(programs)
+    bound = plans.bound(plans.plans(plans.best_slack(most)))
+    lengths = {step: 2**step * whole_bound(bound * 2 ** (top - step)) for step in range(top + 1)}
+    return max(step for step, length in lengths.items() if length <= WHOLE_LOSS * min(lengths.values()))
+
+
+def drafted(model: Model, part: float = 0.1, keep: bool = False, lean: bool = False) -> Drafted:
     """The design of a model, as whole numbers, and what is to be said of it."""
+    step = STEP[model.version]
+    made = with_step(model, part, keep, step)
+    chosen = lean_step(made.design) if lean and step and not keep else step
+    return made if chosen == step else with_step(model, part, keep, chosen)
+
+
+def with_step(model: Model, part: float, keep: bool, step: int) -> Drafted:
+    """The design whose weights fit this step exponent."""
     exact, said = in_floats(model), []
     wanted, *others = choices(model)
-    design = whole(model, exact, *wanted, keep)
+    design = whole(model, exact, *wanted, keep, step)
     plans = corner_plans(design)
     refused, taken = too_wide(design, plans), wanted
     for other in others[:TRIES] if refused else []:
-        candidate = whole(model, exact, *other, keep)
+        candidate = whole(model, exact, *other, keep, step)
         candidate_plans = corner_plans(candidate)
         if not too_wide(candidate, candidate_plans):
             design, plans, taken = candidate, candidate_plans, other
@@ -320,10 +356,10 @@ def draft(model: Model, part: float = 0.1, keep: bool = False) -> Design:
     return drafted(model, part, keep).design
 
 
-def told(model: Model, part: float, keep: bool) -> Drafted:
+def told(model: Model, part: float, keep: bool, lean: bool = False) -> Drafted:
     """The design of a model with all that is to be said of it. Refusal where its numbers are too far apart for floating point."""
     try:
-        made = drafted(model, part, keep)
+        made = drafted(model, part, keep, lean)
         made.said += settle_words(model, made)
     except (numpy.linalg.LinAlgError, ArithmeticError) as fault:
         raise models.Refusal(f"units: units are expected in which the numbers of plant, cost and limits are nearer to each other, since floating point fails ({fault})") from None
@@ -432,10 +468,11 @@ def main() -> int:
     parser.add_argument("design", metavar="DESIGN", nargs="?")
     parser.add_argument("--gap", type=positive, default=0.1)
     parser.add_argument("--keep-weights", action="store_true")
+    parser.add_argument("--lean", action="store_true")
     given = parser.parse_args()
     files.keep_apart({"MODEL": given.model}, {"DESIGN": given.design or files.STANDARD_OUTPUT})
     model = read_model(given.model)
-    made = told(model, given.gap, given.keep_weights)
+    made = told(model, given.gap, given.keep_weights, given.lean)
     for words in made.said:
         say(words)
     text = text_of(made.design)

@@ -1,14 +1,16 @@
 #!/usr/bin/env python3
 """Says what a report, a controller, a design with its policy, or the lines of `solve` and `loop` hold, in decimals and in the design's units.
 
-    ./mpc explain FILE [DESIGN] [POLICY] [CONTROLLER] [REPORT] [--clock MHZ] [--cycles N]
+    ./mpc explain FILE [DESIGN] [POLICY [REFERENCE]] [CONTROLLER] [REPORT] [--clock MHZ] [--cycles N]
 
-The files come in any order; each is known by what it holds. FILE alone will do, and each further one adds what follows from it:
+The files come in any order, but for reference plans, which come after their policy; each is known by what it holds. FILE alone will do, and each further one adds what
+follows from it:
 
     a report          every bound in decimals, and K = 2^(s+2) R over the violation target; in version 2 by how much each row may be exceeded
     with a controller the products of a run, the bits of gains, multipliers and plan, the exponents of rows, and what its C takes of a Cortex-M4 at a clock (100 MHz)
     with a design     bounds in the units that its comments name, row by row, and the sizes in bits of 126
-    with its policy   where R comes from: the corner and row of the least slack, the corner of the greatest cost, the step against the curvature
+    with its policy   where R comes from: the corner and row of the least slack, the corner of the greatest cost, the step against the curvature; of a lean controller, with
+                      its reference plans, the corner of the greatest excess
     lines             each number as a decimal; with a design, by name and unit
 
 It computes anew, in Python, what it says of a design and a policy, and changes nothing; the program's report is what counts.
@@ -20,14 +22,15 @@ from common import files, matching, sizes
 from common.arguments import Parser, positive
 from common.c_costs import c_words
 from common.condensed import Condensed, condense, curvature
-from common.corners import corners_of, half_target, margin_of, multiplier_of, steps_of
+from common.corners import Corner, corners_of, cost_limit, lean_multiplier_of, margin_of, multiplier_of, steps_of
 from common.design_text import Design, design_of, plain
+from common.excess import excesses_of
 from common.libraries import Refusal, run
 from common.texts import Controller, controller_of, kind_of, read_text, records_of, report_of
 from common.trajectories import dot
 
 WORD = 32
-KINDS = {"design": "a design", "controller": "a controller", "report": "a report", "policy": "a policy", "lines": "lines of solve or loop, or nothing that is known"}
+KINDS = {"design": "a design", "controller": "a controller", "report": "a report", "policy": "a policy", "reference": "a policy or reference plans", "lines": "lines of solve or loop, or nothing that is known"}
 
 
 def bits_of(numbers: Iterable[int]) -> int:
@@ -44,7 +47,10 @@ def report_words(report: dict, design: Design | None) -> Iterator[str]:
     least = " or more" if min(report["violations"], default=report["violation"]) < report["violation"] else ""
     yield f"every run takes K = {report['steps']} steps, a step is 2^-{report['step']}{least}, plans and gains have f = {report['bits']} fraction bits"
     yield f"no product and no partial sum leaves a signed word of {report['width']} bits; {report['words']} words hold all that changes"
-    yield (f"R = {report['multiplier']}: the greatest cost {report['cost']} over the least slack {plain(report['margin'])}, rounded up")
+    if report["lean"]:
+        yield f"R = {report['multiplier']}: the excess {plain(report['excess'])} over the sum of the least slack {plain(report['margin'])} and the violation target, rounded up"
+    else:
+        yield f"R = {report['multiplier']}: the greatest cost {report['cost']} over the least slack {plain(report['margin'])}, rounded up"
     if design is None:
         by_row = list(enumerate(report["violations"], 1))
         yield f"a limit is exceeded by at most {plain(report['violation'])}, in the unit of its row" + (f": {parted(by_row, plain, 'in row')}" if by_row else "")
@@ -55,9 +61,10 @@ def report_words(report: dict, design: Design | None) -> Iterator[str]:
             yield violation_words(report, design, "stage row", number)
         for number in range(1, len(design.final_rows) + 1):
             yield violation_words(report, design, "final row", number)
-    part = f", {plain(100 * report['gap'] / report['cost'])} % of the corners' greatest cost" if report["cost"] else ""
+    part = f", {plain(100 * report['gap'] / report['cost'])} % of the corners' greatest cost" if report.get("cost") else ""
     yield f"the plan costs at most {plain(report['gap'])} more than any feasible plan{part}"
-    yield f"and some feasible plan costs at most {plain(report['undercut'])} more than it (R times the violation, loose)"
+    times = "the violation target" if report["lean"] else "the violation"
+    yield f"and some feasible plan costs at most {plain(report['undercut'])} more than it (R times {times}, loose)"
 
 
 def violation_words(report: dict, design: Design, kind: str, number: int) -> str:
@@ -135,33 +142,81 @@ def plan_bits(c: Controller) -> int:
     return bits_of([-((-entry(j)) >> (c.bits + c.step)) for j in range(c.entries)])
 
 
-def bound_words(design: Design, policy: list, report: dict | None) -> Iterator[str]:
+def bound_words(design: Design, policy: list, report: dict | None, reference: list | None = None) -> Iterator[str]:
     """Where R, the step and K come from."""
     corners = corners_of(design, policy)
     margin, cost = margin_of(corners)
+    least, lean = min(corners, key=lambda c: c.least[0]), is_lean(report, reference)
+    excesses = excesses_of(design, sizes.form_of(design), policy, reference)[0] if reference else None
     for corner in corners:
         slack, row = corner.least
-        yield f"{design.corner_words(corner.number)}: cost {plain(corner.cost)}, least slack {plain(slack)} in {design.row_words(row)}"
-    least, dearest = min(corners, key=lambda c: c.least[0]), max(corners, key=lambda c: c.cost)
-    bound = multiplier_of(margin, cost)
-    if bound is None:
+        costs = f"excess {plain(excesses[corner.number - 1] / 2**16)}" if excesses else f"cost {plain(corner.cost)}"
+        yield f"{design.corner_words(corner.number)}: {costs}, least slack {plain(slack)} in {design.row_words(row)}"
+    if margin <= 0:
         yield f"there is no margin: the plan of {design.corner_words(least.number)} breaks {design.row_words(least.least[1])}"
         return
-    yield (
-        f"R = {bound}: cost {cost} (from {design.corner_words(dearest.number)}) over margin {plain(Fraction(margin, 2**16))} "
-        f"(from {design.corner_words(least.number)}, {design.row_words(least.least[1])})"
+    bound = multiplier_from(design, policy, report, reference)
+    if excesses:
+        yield lean_bound_words(design, least, margin, excesses, bound)
+    elif lean:
+        yield f"R = {bound}, of the report: its reference plans, named after the policy, show where it comes from"
+    else:
+        dearest = max(corners, key=lambda c: c.cost)
+        yield (
+            f"R = {bound}: cost {cost} (from {design.corner_words(dearest.number)}) over margin {plain(Fraction(margin, 2**16))} "
+            f"(from {design.corner_words(least.number)}, {design.row_words(least.least[1])})"
+        )
+        if cost < 10:
+            yield "the greatest cost is below 10 and is rounded up to a whole number: all weights by one greater factor lose less"
+    yield from step_words(design, report, bound, lean)
+    if excesses:
+        yield from whole_words(design, report, margin, max(0, *excesses))
+
+
+def is_lean(report: dict | None, reference: list | None) -> bool:
+    return reference is not None or report is not None and report["lean"]
+
+
+def multiplier_from(design: Design, policy: list, report: dict | None, reference: list | None) -> int | None:
+    """R of a policy, and of its reference plans where there are such; a lean report without these says it itself."""
+    margin, cost = margin_of(corners_of(design, policy))
+    if reference is not None:
+        return lean_multiplier_of(design, margin, max(0, *excesses_of(design, sizes.form_of(design), policy, reference)[0]))
+    return report["multiplier"] if report and report["lean"] else multiplier_of(margin, cost)
+
+
+def lean_bound_words(design: Design, least: Corner, margin: int, excesses: list, bound: int) -> str:
+    excess, target = max(excesses), Fraction(design.violation, design.target_den)
+    return (
+        f"R = {bound}: excess {plain(Fraction(max(0, excess), 2**16))} (from {design.corner_words(excesses.index(excess) + 1)}) over the sum of margin {plain(Fraction(margin, 2**16))} "
+        f"(from {design.corner_words(least.number)}, {design.row_words(least.least[1])}) and target {plain(target)}"
     )
-    if cost < 10:
-        yield "the greatest cost is below 10 and is rounded up to a whole number: all weights by one greater factor lose less"
-    steep, step = curvature(design, condense(design)), report["step"] if report else None
-    if step is None:
-        step = 0
-        while 2**step < steep:
-            step += 1
+
+
+def step_of(report: dict | None, steep: float) -> int:
+    """The step exponent: the report's, or the least that reaches the curvature."""
+    return report["step"] if report else next(step for step in range(1000) if 2**step >= steep)
+
+
+def step_words(design: Design, report: dict | None, bound: int, lean: bool) -> Iterator[str]:
+    """The step against the curvature, and K."""
+    steep = curvature(design, condense(design))
+    step = step_of(report, steep)
     yield f"the curvature is {plain(steep)}, and the step needs 2^{step} = {2**step}: " + (
         "nothing is lost" if steep > 0.9 * 2**step else f"all weights by {plain(steep * 1.003 / 2**step)} would cost nothing and take K by that factor"
     )
-    yield f"K = 2^(s+2) R / target = {plain(2 ** (step + 2))} * {bound} / {plain(Fraction(design.violation, design.target_den))} = {steps_of(design, step, bound)}"
+    formula, power = ("K = 2^(s+1) R over 15/16 of the target", 2 ** (step + 1)) if lean else ("K = 2^(s+2) R / target", 2 ** (step + 2))
+    over = plain(Fraction(design.violation, design.target_den) * (Fraction(15, 16) if lean else 1))
+    yield f"{formula} = {plain(power)} * {bound} / {over} = {steps_of(design, step, bound, lean)}"
+
+
+def whole_words(design: Design, report: dict | None, margin: int, excess: int) -> Iterator[str]:
+    """What is lost where R is rounded up to a whole number and the step isn't 1."""
+    step = step_of(report, curvature(design, condense(design)))
+    now = steps_of(design, step, lean_multiplier_of(design, margin, excess), True)
+    best, power = min((steps_of(design, step - power, lean_multiplier_of(design, margin, excess * 2**power), True), power) for power in range(step + 1))
+    if best < 0.95 * now:
+        yield f"R is rounded up to a whole number: with all weights by {2**power} the step would be 2^-{step - power}, and K about {best}"
 
 
 def told_sizes(found: dict) -> str:
@@ -185,15 +240,19 @@ def class_words(design: Design, policy: list, form: Condensed) -> Iterator[str]:
         yield f"with rows that count 16 times, sizes pass 126 bits ({told_sizes(lowered)}), so that no row has a smaller step exponent, and each the same violation"
 
 
-def size_words(design: Design, policy: list, report: dict | None) -> Iterator[str]:
+def size_words(design: Design, policy: list, report: dict | None, reference: list | None = None) -> Iterator[str]:
     """Each quantity in bits of 126, of the corners and of the condensed form by their classes."""
-    margin, cost = margin_of(corners_of(design, policy))
-    bound, form = multiplier_of(margin, cost), sizes.form_of(design)
+    _, cost = margin_of(corners_of(design, policy))
+    bound, form = multiplier_from(design, policy, report, reference), sizes.form_of(design)
     yield from class_words(design, policy, form)
     parts = {" of the corners' enclosures": {}, "": {}, " of the enclosures": {}}
     parts[" of the corners' enclosures" if sizes.has_fine_corners(design, policy) else ""] |= sizes.corner_sizes(design, policy)
-    parts[""] |= {"multiplier": sizes.multiplier_size(cost, bound)} if bound else {}
-    parts[" of the enclosures" if form.fine else ""] |= later_sizes(design, form, bound, report)
+    if reference is not None:
+        found, size = excesses_of(design, form, policy, reference)
+        parts[""] |= {"excess": size} | ({"multiplier": max(*found, 2**82 * bound)} if bound else {})
+    elif bound:
+        parts[""] |= {"multiplier": 2**82 * bound if is_lean(report, None) else sizes.multiplier_size(cost, bound)}
+    parts[" of the enclosures" if form.fine else ""] |= later_sizes(design, form, bound, report, is_lean(report, reference))
     told = "; ".join((f"{of.strip()}: " if of else "") + told_sizes(found) for of, found in parts.items() if found)
     yield f"sizes in bits, at most 126 each: {told}"
     for of, found in parts.items():
@@ -201,19 +260,19 @@ def size_words(design: Design, policy: list, report: dict | None) -> Iterator[st
             yield f"too wide{of}: {', '.join(wide(found))} (docs/DESIGNING.md, \"Sizes\")"
 
 
-def later_sizes(design: Design, form: Condensed, bound: int | None, report: dict | None) -> dict:
+def later_sizes(design: Design, form: Condensed, bound: int | None, report: dict | None, lean: bool = False) -> dict:
     """The sizes of a condensed form, and of what is made of it as far as there is a bound R and a form within the limit."""
     found = sizes.form_sizes(design, form)
     if bound is None:
         return found
     errors = sizes.Errors(design, form, bound)
     found["error"] = errors.size
-    target = min(2**40 * design.gap // design.target_den, bound * half_target(design))
+    target = cost_limit(design, bound, lean)
     f = next((f for f in range(design.grid, 49) if errors.cost(f) <= target), None)
     if f is not None and found["hessian"] <= sizes.LIMIT:
         found["descent"], bounds = sizes.gain_bounds(design, form, f)
         step = report["step"] if report else 0
-        found["width"] = sizes.greatest_width(design, form, bound, step, steps_of(design, step, bound), f, bounds)
+        found["width"] = sizes.greatest_width(design, form, bound, step, steps_of(design, step, bound, lean), f, bounds)
     return found
 
 
@@ -258,15 +317,16 @@ def explain(texts: dict, clock: float = 100.0, cycles: float | None = None) -> I
     design = design_of(texts["design"]) if "design" in texts else None
     report = report_of(texts["report"]) if "report" in texts else None
     policy = records_of(texts["policy"]) if "policy" in texts else None
+    reference = records_of(texts["reference"]) if "reference" in texts else None
     controller = controller_of(texts["controller"]) if "controller" in texts else None
-    refuse_others(design, report, policy, controller)
+    refuse_others(design, report, policy, controller, reference)
     if report:
         yield from report_words(report, design)
     if controller:
         yield from cost_words(controller, design.period if design else None, clock, cycles)
     if design and policy:
-        yield from bound_words(design, policy, report)
-        yield from size_words(design, policy, report)
+        yield from bound_words(design, policy, report, reference)
+        yield from size_words(design, policy, report, reference)
     lines = texts.get("lines", [])
     for line in lines.splitlines() if isinstance(lines, str) else lines:
         yield from line_words(line, design)
@@ -274,7 +334,7 @@ def explain(texts: dict, clock: float = 100.0, cycles: float | None = None) -> I
         yield f"{design.states} states, {design.inputs} inputs, {design.stages} stages, {design.rows} limit rows; name its policy or its report, too"
 
 
-def refuse_others(design: Design | None, report: dict | None, policy: list | None, controller: Controller | None) -> None:
+def refuse_others(design: Design | None, report: dict | None, policy: list | None, controller: Controller | None, reference: list | None = None) -> None:
     """Ends where two of these are not of one design, by what differs."""
     if report and design:
         matching.refuse("the report", "design", matching.report_difference(report, design))
@@ -282,10 +342,13 @@ def refuse_others(design: Design | None, report: dict | None, policy: list | Non
         matching.refuse("the controller", "design", matching.controller_difference(controller, design))
     if controller and report:
         matching.refuse("the controller", "report", matching.made_difference(controller, report))
-    if design and policy:
-        matching.refuse("the policy", "design", matching.policy_fault(policy, design))
+    for what, records in (("the policy", policy), ("the file of reference plans", reference)):
+        if design and records:
+            matching.refuse(what, "design", matching.policy_fault(records, design))
+    if reference and report and not report["lean"]:
+        raise Refusal("the report is of a controller that `generate` made, which has no reference plans")
     if report and design and policy:
-        matching.refuse("the report", "policy", matching.policy_difference(report, design, policy))
+        matching.refuse("the report", "policy", matching.policy_difference(report, design, policy, reference))
 
 
 def read_file(path: str) -> tuple[str, str | Iterator[str]]:
@@ -302,6 +365,7 @@ def read_files(paths: list[str]) -> dict:
     held: dict[str, str] = {}
     for path in paths:
         kind, text = read_file(path)
+        kind = "reference" if kind == "policy" and kind in found else kind
         if kind in found:
             raise Refusal(f"{held[kind]} and {path} both hold {KINDS[kind]}: one of each kind is explained at a time")
         found[kind], held[kind] = text, path
@@ -309,7 +373,7 @@ def read_files(paths: list[str]) -> dict:
 
 
 def main() -> int:
-    parser = Parser(__doc__, prog="./mpc explain", usage="./mpc explain FILE [DESIGN] [POLICY] [CONTROLLER] [REPORT] [--clock MHZ] [--cycles N]")
+    parser = Parser(__doc__, prog="./mpc explain", usage="./mpc explain FILE [DESIGN] [POLICY [REFERENCE]] [CONTROLLER] [REPORT] [--clock MHZ] [--cycles N]")
     parser.add_argument("files", nargs="+")
     parser.add_argument("--clock", type=positive, default=100.0)
     parser.add_argument("--cycles", type=positive, help="of a product of 32-bit words that isn't by 0, on a processor of your own")

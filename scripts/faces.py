@@ -1,7 +1,7 @@
 #!/usr/bin/env python3
 """Finds the faces of a design's box: the sums of limits that show that no closed loop ever leaves it.
 
-    scripts/faces.py DESIGN POLICY [FACES] [--disturbances FILE]
+    scripts/faces.py DESIGN POLICY [FACES] [--disturbances FILE] [--bears FILE]
 
 For each coordinate the upper face, then the lower: a factor and a weight for each first row, so that the rows have together of each input as much as the coordinate has, and
 the coordinate of the next state can go least far. It is a linear program, whose best vertex is taken in exact fractions, and so the equations hold exactly. First rows are the
@@ -11,6 +11,7 @@ DESIGN and POLICY alone: half the violation target, and what the errors of a ste
 The faces go to FACES, or are printed; how far each coordinate can go, and the greatest disturbance that the box bears in each, go to standard error.
 
     --disturbances FILE   two records, a number for each coordinate over `2^grid`: the least and the greatest that is added to a next state
+    --bears FILE          writes two such records: the greatest disturbances that the faces bear
 
 Where a face doesn't hold, it says which, by how much, and what a tolerance or a box would have to be, and ends with status 17, as `stay` will. Nothing rests on the solver: what is
 found is tested in whole numbers, as `stay` tests it.
@@ -30,6 +31,7 @@ from common import files, sizes
 from common.arguments import Parser
 from common.corners import corners_of, half_target, margin_of, multiplier_of
 from common.design_text import plain, read_design
+from common.disturbances import box_in
 from common.texts import read_text, records_of
 from common.trajectories import dot
 
@@ -130,8 +132,22 @@ def is_kept(design, face, place):
     return place <= face.end(design) if face.upper else place >= face.end(design)
 
 
+def size(design, face, record, excess):
+    """What the numbers of a face come to at most: the quantity `stay` is the greatest of all faces."""
+    factor, *weights = record
+    rows, i = first_rows(design), face.coordinate
+    box = max(map(abs, design.lo + design.hi))
+    states = sum(factor * abs(design.a[i][j]) + sum(w * abs(row.of_state[j]) for w, row in zip(weights, rows)) for j in range(design.states))
+    inputs = sum(factor * abs(design.b[i][l]) + sum(w * abs(row.of_input[l]) for w, row in zip(weights, rows)) for l in range(design.inputs))
+    bounds = sum(w * (SCALE * abs(row.bound) + design.limit_den * e) for w, row, e in zip(weights, rows, excess))
+    return 2 * (SCALE * box * states + 2**design.grid * design.plant_den * bounds) + inputs + 2 * factor * design.plant_den * SCALE
+
+
 def first_fault(design, faces, excess, low=None, high=None):
-    """What `stay` answers to faces: None where each holds, ("unequal", record, input, left, right) or ("no-stay", record, place)."""
+    """What `stay` answers to faces: None where each holds, ("too-wide", size), ("unequal", record, input, left, right) or ("no-stay", record, place)."""
+    widest = max(size(design, face, record, excess) for face, record in zip(faces_of(design), faces))
+    if widest > sizes.LIMIT:
+        return "too-wide", widest
     for number, (face, record) in enumerate(zip(faces_of(design), faces), 1):
         for l, (left, right) in enumerate(zip(*sums(design, face, record)), 1):
             if left != right:
@@ -217,7 +233,7 @@ def in_whole_numbers(exact):
     return record if max(record) <= MOST else None
 
 
-def rounded(design, face, weights):
+def rounded(design, face, weights, excess=None):
     """A record near these weights whose equations hold: a row for each input makes up for what rounding the others leaves. None where the numbers are too long."""
     rows = first_rows(design)
     order = sorted(range(len(rows)), key=lambda r: -weights[r])
@@ -238,7 +254,7 @@ def rounded(design, face, weights):
         if made is not None and min(made) >= 0 and all(w.denominator == 1 for w in made):
             for r, w in zip(basis, made):
                 record[r] = int(w)
-            if max(record) <= MOST:
+            if max(record) <= MOST and (excess is None or size(design, face, [unit * times] + record, excess) <= sizes.LIMIT):
                 return [unit * times] + record
         times //= 2
     return None
@@ -251,7 +267,7 @@ def find_face(design, face, excess):
         return None
     exact = vertex(design, face, weights)
     record = in_whole_numbers(exact) if exact else None
-    return record or rounded(design, face, weights)
+    return record if record and size(design, face, record, excess) <= sizes.LIMIT else rounded(design, face, weights, excess)
 
 
 # ---- what is said
@@ -293,6 +309,18 @@ def far_words(design, face, place):
     return f"{face.words(design)}: the next state goes to {place} at most, {name.shown(Fraction(place, 2**design.grid))}, {room} before its end at {face.end(design)}"
 
 
+def holding(design, excess, low, high):
+    """The faces where each holds under these disturbances, and else None; nothing is said."""
+    faces = []
+    for face in faces_of(design):
+        record = find_face(design, face, excess)
+        shift = (high if face.upper else low)[face.coordinate]
+        if record is None or not is_kept(design, face, farthest(design, face, record, excess, shift)):
+            return None
+        faces.append(record)
+    return faces
+
+
 def find(design, excess, low, high):
     """The faces, or None where one doesn't hold, each said."""
     faces, bad = [], False
@@ -322,14 +350,8 @@ def bearable(design, faces, excess):
     return rooms[1::2], rooms[0::2]
 
 
-def disturbances_of(design, path):
-    """The two lists of a text of disturbances."""
-    records = records_of(read_text(path))
-    if len(records) != 2 or any(len(record) != design.states for record in records):
-        raise ValueError(f"{path}: two records of {design.states} numbers are wanted")
-    if any(abs(v) > MOST for record in records for v in record) or any(l > h for l, h in zip(*records)):
-        raise ValueError(f"{path}: a number is beyond {MOST}, or the greatest below the least")
-    return records
+def text_of(records):
+    return "".join(",".join(map(str, record)) + "\n" for record in records)
 
 
 def main():
@@ -338,11 +360,12 @@ def main():
     parser.add_argument("policy", metavar="POLICY")
     parser.add_argument("faces", metavar="FACES", nargs="?")
     parser.add_argument("--disturbances", metavar="FILE")
+    parser.add_argument("--bears", metavar="FILE")
     given = parser.parse_args()
     inputs = {"DESIGN": given.design, "POLICY": given.policy} | ({"--disturbances": given.disturbances} if given.disturbances else {})
-    files.keep_apart(inputs, {"FACES": given.faces or files.STANDARD_OUTPUT})
+    files.keep_apart(inputs, {"FACES": given.faces or files.STANDARD_OUTPUT} | ({"--bears": given.bears} if given.bears else {}))
     design = read_design(given.design)
-    low, high = disturbances_of(design, given.disturbances) if given.disturbances else ([0] * design.states, [0] * design.states)
+    low, high = box_in(given.disturbances, design) if given.disturbances else ([0] * design.states, [0] * design.states)
     excess = excesses(design, records_of(read_text(given.policy)))
     if excess is None:
         say("the policy has no margin, or its gap target asks for more than 48 fraction bits: no controller can be made, so there is nothing that could stay")
@@ -357,11 +380,12 @@ def main():
     for i, (l, h) in enumerate(zip(least, most)):
         name = design.name("state", i + 1)
         say(f"{name.word}: bears disturbances from {l} to {h} a turn, {name.shown(Fraction(l, 2**design.grid))} to {name.shown(Fraction(h, 2**design.grid))}")
-    text = "".join(",".join(map(str, record)) + "\n" for record in faces)
+    if given.bears:
+        files.write(given.bears, text_of([least, most]))
     if given.faces:
-        files.write(given.faces, text)
+        files.write(given.faces, text_of(faces))
     else:
-        sys.stdout.write(text)
+        sys.stdout.write(text_of(faces))
     return 0
 
 

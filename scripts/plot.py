@@ -1,7 +1,7 @@
 #!/usr/bin/env python3
 """Draws the lines of `./mpc loop` over time: states and inputs with their limits, one curve for each start.
 
-    scripts/plot.py DESIGN LINES [LINES ..] --out FILE.svg [--labels NAME,NAME] [--starts N,N] [--turns N]
+    scripts/plot.py DESIGN LINES [LINES ..] --out FILE.svg [--labels NAME,NAME] [--starts N,N] [--turns N] [--report REPORT] [--disturbances FILE [--bears BOX]]
 
 The name of FILE says its format: .svg, .pdf or .png.
 
@@ -12,41 +12,46 @@ more in three, as positions, velocities and accelerations along three axes do.
     --labels   what the files are called in the legend
     --starts   the records to draw, from 1 (all)
     --turns    the turns to draw (all)
+    --report   a report of the design, whose violations are drawn too, dotted: how far a limit may be exceeded at most, which a lean controller does
+    --disturbances   what was added to the next states of these loops, turn by turn (scripts/disturbed_loop.py); it is drawn below them, with the greatest that the box bears
+                     (--bears, by scripts/faces.py) in grey
 """
-import io
 import os
 from collections.abc import Iterator
+from dataclasses import dataclass
 
 from common.libraries import Refusal, need, run
 
 need("matplotlib")
-import matplotlib
-
-matplotlib.use("Agg")
+from common.pictures import format_of, prepare, write
 import matplotlib.pyplot as pyplot
 from matplotlib.figure import Figure
 
 from common import files, matching
 from common.arguments import Parser, numbers, several
 from common.design_text import Design, read_design
-from common.texts import loop_lines_of
+from common.disturbances import box_in, numbers_in
+from common.texts import loop_lines_of, read_text, report_of
 
 STYLES = ["-", "--", ":", "-."]
 ONE_COLUMN = 5
-SALT = "loop"
-# by the end of a name, with what keeps the same lines the same bytes
-FORMATS = {".svg": {"Date": None}, ".pdf": {"CreationDate": None}, ".png": {}}
 # no picture shows more
 MOST_LINES = 1000000
 
 
-def limits_of(design: Design, coordinate: int) -> list[float]:
-    """The values at which a stage row on this one coordinate binds: states first, then inputs."""
+def limits_of(design: Design, coordinate: int, report: dict | None = None) -> list[float]:
+    """The values at which a stage row on this one coordinate binds, or at which it is exceeded by as much as a report says: states first, then inputs."""
     out = []
-    for row in design.stage_rows:
+    for number, row in enumerate(design.stage_rows, 1):
         if row[coordinate] and sum(map(bool, row[:-1])) == 1:
-            out.append(row[-1] / row[coordinate])
+            out.append((row[-1] + design.limit_den * float(most_of(report, design, number) if report else 0)) / row[coordinate])
     return out
+
+
+def most_of(report: dict, design: Design, number: int) -> float:
+    """By how much a stage row is exceeded at most, at any stage."""
+    violations = report["violations"] or [report["violation"]] * design.rows
+    return float(max(violations[row - 1] for row, _ in design.rows_of("stage row", number)))
 
 
 def draw_start(axes: list, design: Design, loop: list, style: str, color: str, label: str, step: float) -> None:
@@ -60,7 +65,7 @@ def draw_start(axes: list, design: Design, loop: list, style: str, color: str, l
         axes[design.states + l].step(times, [float(u[l]) * size for _, u in loop], style, where="post", color=color, linewidth=1.2)
 
 
-def draw_limits(axes: list, design: Design) -> None:
+def draw_limits(axes: list, design: Design, report: dict | None) -> None:
     for i in range(design.states + design.inputs):
         name = design.name("state", i + 1) if i < design.states else design.name("input", i - design.states + 1)
         axes[i].set_ylabel(f"{name.word}\n{name.unit}".strip(), fontsize=8)
@@ -70,11 +75,41 @@ def draw_limits(axes: list, design: Design) -> None:
                 axes[i].axhline(bound / 2**design.grid * name.size, color="0.75", linewidth=0.8)
         for bound in limits_of(design, i):
             axes[i].axhline(bound * name.size, color="tab:red", linewidth=0.8)
+        for bound in limits_of(design, i, report) if report else []:
+            axes[i].axhline(bound * name.size, color="tab:red", linewidth=0.8, linestyle=":")
 
 
-def draw(design: Design, files: list[dict], labels: list[str], starts: list[int] | None = None, turns: int | None = None) -> Figure:
+@dataclass
+class Shifts:
+    """What is added to next states turn by turn, and the least and the greatest that the box bears, over `2^grid`."""
+
+    turns: list[list[int]]
+    bears: tuple[list[int], list[int]] | None = None
+
+    @property
+    def drawn(self) -> list[int]:
+        """The coordinates, from 0, to which anything is added."""
+        return [i for i, values in enumerate(zip(*self.turns)) if any(values)]
+
+
+def draw_shifts(axes: list, design: Design, shifts: Shifts, turns: int | None, step: float) -> None:
+    """What is added to each coordinate that is disturbed."""
+    for axis, i in zip(axes, shifts.drawn):
+        name = design.name("state", i + 1)
+        size = name.size / 2**design.grid
+        values = [record[i] * size for record in shifts.turns[:turns]]
+        axis.step([k * step for k in range(len(values))], values, where="post", color="0.3", linewidth=1.0)
+        for end in shifts.bears or ():
+            axis.axhline(end[i] * size, color="0.75", linewidth=0.8)
+        axis.set_ylabel(f"added to\n{name.word}\n{name.unit}".strip(), fontsize=8)
+        axis.tick_params(labelsize=7)
+
+
+def draw(design: Design, files: list[dict], labels: list[str], starts: list[int] | None = None, turns: int | None = None, shifts: Shifts | None = None,
+         report: dict | None = None) -> Figure:
     """The figure of these loops, a dictionary of record -> loop for each file."""
-    count = design.states + design.inputs
+    own = design.states + design.inputs
+    count = own + (len(shifts.drawn) if shifts else 0)
     columns = 1 if count <= ONE_COLUMN else 3
     lines = -(-count // columns)
     figure, grid = pyplot.subplots(lines, columns, sharex=True, squeeze=False, figsize=(7 if columns == 1 else 10, 1.6 * lines))
@@ -82,7 +117,9 @@ def draw(design: Design, files: list[dict], labels: list[str], starts: list[int]
     for none in spare:
         none.set_axis_off()
     step = design.period or 1
-    draw_limits(axes, design)
+    draw_limits(axes, design, report)
+    if shifts:
+        draw_shifts(axes[own:], design, shifts, turns, step)
     for number, (loops, label) in enumerate(zip(files, labels)):
         chosen = [record for record in sorted(loops) if not starts or record in starts]
         for place, record in enumerate(chosen):
@@ -92,14 +129,6 @@ def draw(design: Design, files: list[dict], labels: list[str], starts: list[int]
         last.set_xlabel("s" if design.period else "turn", fontsize=8)
     figure.tight_layout()
     return figure
-
-
-def format_of(path: str) -> str:
-    """The end of a picture's name."""
-    end = os.path.splitext(path)[1].lower()
-    if end not in FORMATS:
-        raise Refusal(f"{path} ends in none of {', '.join(FORMATS)}: the name says the picture's format", 2)
-    return end
 
 
 def chosen_lines(path: str, starts: list[int] | None, turns: int | None) -> Iterator[str]:
@@ -116,7 +145,7 @@ def chosen_lines(path: str, starts: list[int] | None, turns: int | None) -> Iter
             raise Refusal(f"{path} has more than {MOST_LINES} lines to draw: --starts or --turns chooses fewer")
 
 
-def read_loops(path: str, design: Design, starts: list[int] | None, turns: int | None) -> dict:
+def read_loops(path: str, design: Design, starts: list[int] | None, turns: int | None, shifts: Shifts | None) -> dict:
     """The loops of a file, where they are this design's and there are any."""
     try:
         loops = loop_lines_of("\n".join(chosen_lines(path, starts, turns)), design.states, design.inputs, design.grid)
@@ -125,8 +154,18 @@ def read_loops(path: str, design: Design, starts: list[int] | None, turns: int |
     if not loops:
         chosen = " of the chosen starts" if starts else ""
         raise Refusal(f"{path} has no line{chosen}: there is nothing to draw")
-    matching.refuse(f"{path}", "design", matching.loop_difference(loops, design))
+    other = "design, or of other disturbances" if shifts else "design"
+    matching.refuse(f"{path}", other, matching.loop_difference(loops, design, shifts.turns if shifts else None))
     return loops
+
+
+def read_shifts(path: str | None, bears: str | None, design: Design) -> Shifts | None:
+    """What is added to next states, where it is asked for."""
+    if path is None:
+        if bears is not None:
+            raise Refusal("--bears is drawn with --disturbances", 2)
+        return None
+    return Shifts(numbers_in(path, design.states), box_in(bears, design) if bears else None)
 
 
 def shown(path: str) -> str:
@@ -142,18 +181,25 @@ def main() -> int:
     parser.add_argument("--labels", metavar="NAME,NAME")
     parser.add_argument("--starts", type=numbers, metavar="N,N")
     parser.add_argument("--turns", type=several, metavar="N")
+    parser.add_argument("--report", metavar="REPORT")
+    parser.add_argument("--disturbances", metavar="FILE")
+    parser.add_argument("--bears", metavar="BOX")
     given = parser.parse_args()
-    files.keep_apart({"DESIGN": given.design} | {f"LINES {place}": path for place, path in enumerate(given.lines, 1)}, {"--out": given.out})
-    end, design = format_of(given.out), read_design(given.design)
-    loops = [read_loops(path, design, given.starts, given.turns) for path in given.lines]
+    inputs = {"DESIGN": given.design} | {f"LINES {place}": path for place, path in enumerate(given.lines, 1)}
+    inputs |= {word: path for word, path in (("REPORT", given.report), ("--disturbances", given.disturbances), ("--bears", given.bears)) if path}
+    files.keep_apart(inputs, {"--out": given.out})
+    format_of(given.out)
+    design = read_design(given.design)
+    report = report_of(read_text(given.report)) if given.report else None
+    if report:
+        matching.refuse("the report", "design", matching.report_difference(report, design))
+    shifts = read_shifts(given.disturbances, given.bears, design)
+    loops = [read_loops(path, design, given.starts, given.turns, shifts) for path in given.lines]
     labels = given.labels.split(",") if given.labels else [shown(path) for path in given.lines]
     if len(labels) != len(loops):
         raise Refusal(f"--labels has {len(labels)} names, and there are {len(loops)} files of lines", 2)
-    # the same lines give the same bytes
-    matplotlib.rcParams["svg.hashsalt"], matplotlib.rcParams["svg.fonttype"] = SALT, "none"
-    picture = io.BytesIO()
-    draw(design, loops, labels, given.starts, given.turns).savefig(picture, format=end[1:], metadata=FORMATS[end])
-    files.write(given.out, picture.getvalue())
+    prepare()
+    write(draw(design, loops, labels, given.starts, given.turns, shifts, report), given.out)
     return 0
 
 

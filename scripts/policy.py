@@ -1,12 +1,14 @@
 #!/usr/bin/env python3
 """Finds a policy for a design: a plan for each corner of the box, with the least multiplier bound R.
 
-    scripts/policy.py DESIGN [POLICY] [--denominator Q] [--margin T] [--turns N]
+    scripts/policy.py DESIGN [POLICY] [--lean REFERENCE] [--denominator Q] [--margin T] [--turns N]
 
 R is the greatest cost over the least slack, and the steps K grow with it. For each corner one convex problem gives the plan of least cost that keeps every limit
 with a slack T, and a search over T finds the least R. The plans are rounded to the shortest denominator that costs at most 4 % of R. The policy goes to POLICY,
 or is printed; what was found goes to standard error.
 
+    --lean REFERENCE  for a lean controller: R is what a plan costs more than is best without limits, over the sum of the slack and the violation target. The plans that
+                      are best without limits go to REFERENCE, each over the shortest denominator that leaves R as it is
     --denominator Q   this denominator and no other
     --margin T        this slack, in the units of the rows, with no search
     --turns N         how many turns the loops with the best plans are followed to see whether they stay in the box (50; 0 for none)
@@ -24,10 +26,13 @@ need("numpy", "cvxopt")
 from common import files
 from common.arguments import Parser, positive, several, turns
 from common.condensed import condense, curvature
-from common.corners import corners_of, margin_of, multiplier_of, steps_of
+from common.corners import corners_of, lean_multiplier_of, margin_of, multiplier_of, steps_of
 from common.design_text import Design, plain, read_design
+from common.excess import excesses_of
 from explain import size_words
+from common.lean_plans import LeanPlans
 from common.programs import Programs, reach_of
+from common.sizes import form_of
 
 FINE = 2**24
 MOST = 1024
@@ -132,35 +137,59 @@ def find(design: Design, margin: float | None = None, denominator: int | None = 
     """The policy, or None with the reason said."""
     programs = Programs(design)
     most, where = blame(design, programs)
-    if most <= 2**-16:
-        say(f"no plan keeps every limit with a slack of 2^-16: at most {plain(most)} is possible at {where}")
-        say("a smaller box, wider limits or more stages before the limit holds; a state row at stage 0 limits the box itself (docs/DESIGNING.md)")
+    if not is_possible(most, where):
         return None
     slack = margin if margin else search(programs, most)
     plans, _ = plans_with(programs, slack)
-    if plans is None:
-        say(f"no plan keeps every limit with a slack of {plain(slack)}: at most {plain(most)} is possible at {where}")
+    if not are_told(design, programs, plans is not None, slack, most, where):
         return None
-    stopped = f"of at most {plain(most)}, which is stopped at {where}" if math.isfinite(most) else "of any: plans can keep every limit with as much slack as they like"
-    say(f"margin {plain(slack)} {stopped}")
-    say(*binding_words(design, programs))
     return rounded(plans, denominator) if denominator else shortest(design, plans)
 
 
-def tell(design: Design, policy: list[list[int]], turns: int) -> None:
+def find_lean(design: Design, margin: float | None = None, denominator: int | None = None) -> tuple[list[list[int]], list[list[int]]] | None:
+    """The policy of a lean controller and its reference plans, or None with the reason said."""
+    programs = Programs(design)
+    most, where = blame(design, programs)
+    if not is_possible(most, where):
+        return None
+    lean = LeanPlans(programs)
+    slack = margin if margin else lean.best_slack(most)
+    if not are_told(design, programs, lean.plans(slack) is not None, slack, most, where):
+        return None
+    policy = lean.policy(slack, denominator, alone=margin is not None)
+    return policy, lean.references(policy)
+
+
+def is_possible(most: float, where: str) -> bool:
+    """Whether plans keep every limit with some slack; else that is said."""
+    if most <= 2**-16:
+        say(f"no plan keeps every limit with a slack of 2^-16: at most {plain(most)} is possible at {where}")
+        say("a smaller box, wider limits or more stages before the limit holds; a state row at stage 0 limits the box itself (docs/DESIGNING.md)")
+    return most > 2**-16
+
+
+def are_told(design: Design, programs: Programs, found: bool, slack: float, most: float, where: str) -> bool:
+    """Whether there are plans with this slack; what stops it is said."""
+    if not found:
+        say(f"no plan keeps every limit with a slack of {plain(slack)}: at most {plain(most)} is possible at {where}")
+        return False
+    stopped = f"of at most {plain(most)}, which is stopped at {where}" if math.isfinite(most) else "of any: plans can keep every limit with as much slack as they like"
+    say(f"margin {plain(slack)} {stopped}")
+    say(*binding_words(design, programs))
+    return True
+
+
+def tell(design: Design, policy: list[list[int]], turns: int, reference: list[list[int]] | None = None) -> None:
     """What the policy makes of R and K, and whether the loops stay in the box."""
     corners = corners_of(design, policy)
-    margin, cost = margin_of(corners)
-    bound, steep = multiplier_of(margin, cost), curvature(design, condense(design))
-    step = 0
+    steep, step = curvature(design, condense(design)), 0
     while 2**step < steep:
         step += 1
-    least, dearest = min(corners, key=lambda c: c.least[0]), max(corners, key=lambda c: c.cost)
+    least = min(corners, key=lambda c: c.least[0])
     say(f"plans over {policy[0][0]}: least slack {plain(least.least[0])} at {design.corner_words(least.number)} in {design.row_words(least.least[1])}")
-    say(
-        f"greatest cost {plain(dearest.cost)} at {design.corner_words(dearest.number)}; R {bound}, curvature {plain(steep)}, so step {step} and K about {steps_of(design, step, bound)}"
-    )
-    for words in size_words(design, policy, None):
+    dearest, bound = dearest_words(design, policy, reference)
+    say(f"{dearest}; R {bound}, curvature {plain(steep)}, so step {step} and K about {steps_of(design, step, bound, reference is not None)}")
+    for words in size_words(design, policy, None, reference):
         say(words)
     if turns:
         far = reach_of(design, turns)
@@ -170,25 +199,48 @@ def tell(design: Design, policy: list[list[int]], turns: int) -> None:
         )
 
 
+def dearest_words(design: Design, policy: list[list[int]], reference: list[list[int]] | None) -> tuple[str, int]:
+    """The corner of the greatest cost, or of the greatest excess; and R."""
+    corners = corners_of(design, policy)
+    margin, cost = margin_of(corners)
+    if reference is None:
+        dearest = max(corners, key=lambda c: c.cost)
+        return f"greatest cost {plain(dearest.cost)} at {design.corner_words(dearest.number)}", multiplier_of(margin, cost)
+    found, _ = excesses_of(design, form_of(design), policy, reference)
+    excess = max(0, *found)
+    words = f"greatest excess {plain(excess / 2**16)} at {design.corner_words(found.index(max(found)) + 1)}, with references over at most {max(r[0] for r in reference)}"
+    return words, lean_multiplier_of(design, margin, excess)
+
+
+def text_of(records: list[list[int]]) -> str:
+    return "".join(",".join(map(str, record)) + "\n" for record in records)
+
+
 def main() -> int:
     parser = Parser(__doc__)
     parser.add_argument("design", metavar="DESIGN")
     parser.add_argument("policy", metavar="POLICY", nargs="?")
+    parser.add_argument("--lean", metavar="REFERENCE")
     parser.add_argument("--denominator", type=several)
     parser.add_argument("--margin", type=positive)
     parser.add_argument("--turns", type=turns, default=50)
     given = parser.parse_args()
-    files.keep_apart({"DESIGN": given.design}, {"POLICY": given.policy or files.STANDARD_OUTPUT})
+    outputs = {"POLICY": given.policy or files.STANDARD_OUTPUT} | ({"REFERENCE": given.lean} if given.lean else {})
+    files.keep_apart({"DESIGN": given.design}, outputs)
     design = read_design(given.design)
-    policy = find(design, given.margin, given.denominator)
+    if given.lean:
+        policy, reference = find_lean(design, given.margin, given.denominator) or (None, None)
+    else:
+        policy, reference = find(design, given.margin, given.denominator), None
     if policy is None:
         return 6
-    tell(design, policy, given.turns)
-    text = "".join(",".join(map(str, record)) + "\n" for record in policy)
+    tell(design, policy, given.turns, reference)
+    if reference:
+        files.write(given.lean, text_of(reference))
     if given.policy:
-        files.write(given.policy, text)
+        files.write(given.policy, text_of(policy))
     else:
-        sys.stdout.write(text)
+        sys.stdout.write(text_of(policy))
     return 0
 
 

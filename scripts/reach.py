@@ -18,6 +18,7 @@ from common.design_text import Design, plain, read_design
 from common.programs import Programs, exact_loop
 from common.progress import Progress
 from common.texts import loop_lines_of, read_text, records_of
+from common.trajectories import next_state
 
 
 @dataclass
@@ -49,13 +50,6 @@ def way_of(design: Design, record: int, states: list) -> Way:
             if part > 1 and left is None:
                 left = (turn, i)
     return Way(record, parts, values, left)
-
-
-def next_state(design: Design, state: list, inputs: list) -> list[int]:
-    """The nearest grid state to what the plant makes of these, over `2^grid`, ties upward."""
-    now, scale = [*state, *inputs], 2**design.grid
-    exact = [scale * sum(f * v for f, v in zip([*a, *b], now)) / design.plant_den for a, b in zip(design.a, design.b)]
-    return [int((2 * v + 1) // 2) for v in exact]
 
 
 def followed(design: Design, start: list[int], count: int, programs: Programs, lines: list) -> list:

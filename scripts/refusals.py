@@ -17,12 +17,13 @@ from fractions import Fraction
 
 from common import sizes
 from common.arguments import MOST_TURNS
-from common.corners import corners_of, exact_corner, margin_of, multiplier_of
+from common.corners import corners_of, exact_corner, lean_multiplier_of, margin_of, multiplier_of
 from common.design_text import Design, plain, read_design
+from common.excess import excesses_of
 from common.files import read_bytes, same
 from common.libraries import run
 from common.texts import read_text, records_of
-from common.usage import commands, files_of
+from common.usage import commands, files_of, optional
 
 # ---- the texts: one for each status, and one for each fault that a status carries
 
@@ -39,12 +40,14 @@ TEXTS = {
     "fields": "Record {entry} of {file} has {fault}: a record holds {wanted}. docs/FORMATS.md has the form.",
     "number": "Field {field} of record {entry} in {file}{fault} is no number that may stand there: {wanted}.",
     "count": "{file} has {entries} records, and the design has {wanted} corners: one plan for each, in the order low low, high low, low high, high high.",
+    "count-faces": "{file} has {entries} records, and the box has {wanted} faces: for each coordinate the upper one, then the lower.",
+    "count-disturbances": "{file} has {entries} records, and two are needed: the least disturbances, then the greatest.",
     "no-margin": "At {corner} the policy's plan leaves too little room in {row}: slack {slack}, at least 0.0000153 (2^-16) is needed. "
     '{hint} scripts/policy.py finds a policy with room, or says which row and corner are to blame (docs/DESIGNING.md, "Margins").',
     "curvature": "The limits are too steep for the cost: no step 2^-s with s up to 40 is small enough. Divide the rows by their tolerances, or take larger weights "
     '(docs/DESIGNING.md, "Weights").',
-    "too-many-steps": "A run would take K = {steps} steps, and at most 4194304 are accepted. K = 2^(s+2) R / target: take a larger violation target{hint}, or a policy with "
-    'a larger margin or a smaller cost (docs/DESIGNING.md, "What K is made of").',
+    "too-many-steps": "A run would take K = {steps} steps, and at most 4194304 are accepted. {formula}: take a larger violation target{hint}, or a policy with "
+    '{better} (docs/DESIGNING.md, "What K is made of").',
     "too-fine": "The gap target asks for more than 48 fraction bits: rounding at 48 bits may cost {epsilon}, {hint}. A larger gap target, or a policy with a smaller R "
     '(docs/DESIGNING.md, "What K is made of").',
     "too-wide": '`{name}`, {what}, passes 2^126{size}: {help} (docs/DESIGNING.md, "Sizes").',
@@ -52,10 +55,14 @@ TEXTS = {
     "controller-unsafe": "{file} has the form of a controller text, but a sum of its numbers could leave the width that it says itself, so it is not run: a number was changed.",
     "outside-box": "State {entry} of {file} is outside the {kind}'s box in coordinate {name}{fault}. The promises hold inside the box alone: a larger box in the design, or "
     "a state in steps of {step}.",
-    "left-box": "The loop from state {entry} left the box before turn {turn}, in coordinate {name}. Nothing promises that a loop stays: limits at the next state, or coordinates in which "
+    "left-box": "The loop from state {entry} left the box before turn {turn}, in coordinate {name}. Nothing promises that a loop of `generate` stays, and `stay` makes those that do: limits at the next state, or coordinates in which "
     'the box is nearly invariant (docs/DESIGNING.md, "Boxes that loops stay in").',
     "long": "{file} is longer than 4194304 bytes, and no file of the tool is.",
     "mismatch": "The controller was not made for this design: its {field} are {controller}, and the design's are {design}. Run `generate` on this design.",
+    "unequal": "Record {entry} of {file} is no proof of {face}: its limits have together {left} of input {input}, and its coordinate has {right}; the weights must make both the same. "
+    'scripts/faces.py finds such weights (docs/METHOD.md, "Faces").',
+    "no-stay": "Record {entry} of {file} lets a loop pass {face}: the coordinate may go as far as {bound} over 2^grid{end}. Other weights, a limit at the next state, a smaller violation "
+    'target or smaller disturbances (docs/METHOD.md, "Faces").',
     "listing": "{file} is no listing text: line {line}{fault} should be {wanted}. `list` writes such files; docs/FORMATS.md has the form.",
     "trap": "The run of {file} from state {entry} stops in repetition {step} at instruction {place}{instruction}: a value needs more bits than its words have. A listing that `list` wrote "
     "never does so from a state of its box: the listing was changed.",
@@ -70,6 +77,15 @@ LEFT = {
     "report": "The controller file stands whole.",
     "listing": "Nothing stands in it, or the first part of the text.",
     "output": "The lines before it were printed whole.",
+}
+
+# the commands that write, with how many files they have; and the files that hold plans
+COUNTS = {"generate": "four", "stay": "files", "lean": "five"}
+PLANS = ("policy", "reference")
+# what K is made of, and which policy makes it less
+STEPS = {
+    "generate": ("K = 2^(s+2) R / target", "a larger margin or a smaller cost"),
+    "lean": ("K = 2^(s+1) R over 15/16 of the target", "a smaller excess, as scripts/policy.py --lean finds it"),
 }
 
 DENOMINATOR, NUMERATOR = "a denominator, 1 to 1048576", "-2147483647 to 2147483647"
@@ -106,7 +122,11 @@ QUANTITIES = {
     "prediction": ("the plant's growth over the horizon with 40 fraction bits", NEARER + EXACT),
     "corner_slack": ("the enclosures of the corners' slacks", NEARER + ", a smaller box and smaller inputs of the policy" + EXACT),
     "corner_cost": ("the enclosures of the corners' costs", NEARER + ", a smaller box and smaller inputs of the policy, a smaller cost.row_den or cost.den" + EXACT),
-    "multiplier": ("the bound on the multipliers", "a policy with a larger margin or a smaller cost"),
+    "excess": (
+        "what the corners' plans cost more than is best without limits",
+        "reference plans that are nearer to the best ones without limits, as scripts/policy.py --lean finds them, a smaller box, smaller weights",
+    ),
+    "multiplier": ("the bound on the multipliers", "a policy with a larger margin or a smaller cost, or in `lean` one with a smaller excess"),
     "hessian": ("the enclosures of the condensed cost", NEARER + ", smaller weights, a smaller cost.row_den or cost.den" + EXACT),
     "rows": ("the enclosures of the condensed limits", NEARER + ", fewer limits, a smaller limits.den" + EXACT),
     "curvature": ("the comparison of limits and cost", FEWER + ", smaller weights or limits.den"),
@@ -114,6 +134,7 @@ QUANTITIES = {
     "descent": ("the numbers of the gains", FEWER + ", a larger gap target, the same limits over a larger limits.den"),
     "width": ("the greatest sum of a run", "a policy with a larger margin, a larger gap target, a smaller box"),
     "turn": ("the next state of a loop", "a smaller plant.den, or a controller with fewer steps or bits"),
+    "stay": ("the greatest sum that a face is tested with", "smaller factors and weights in the same ratio, a smaller plant.den or limits.den, or a smaller box"),
 }
 
 # ---- what the texts are filled with
@@ -152,9 +173,10 @@ class Call:
         except (OSError, TypeError):
             return []
 
-    def policy(self) -> list | None:
+    def policy(self, kind: str = "policy") -> list | None:
+        """The records of the policy, or of the reference plans."""
         try:
-            return records_of(read_text(self.path("policy")))
+            return records_of(read_text(self.path(kind)))
         except (OSError, ValueError, TypeError):
             return None
 
@@ -171,9 +193,12 @@ def usage(call: Call) -> str:
     if command not in listed:
         *others, last = listed
         return f"`{command}` is no command: {', '.join(others)} or {last} is needed."
-    if len(words) - 1 != len(listed[command]):
-        return f"`{command}` takes {len(listed[command])} arguments, {' '.join(listed[command])}, and {len(words) - 1} were given."
-    if command == "generate":
+    needed, besides = listed[command], optional(command)
+    if not len(needed) <= len(words) - 1 <= len(needed) + len(besides):
+        counts = f"{len(needed)} or {len(needed) + len(besides)}" if besides else str(len(needed))
+        named = " ".join(needed + [f"[{word}]" for word in besides])
+        return f"`{command}` takes {counts} arguments, {named}, and {len(words) - 1} were given."
+    if command in COUNTS:
         return one_file_twice(call)
     if command == "list":
         return f"The listing file {call.path('listing')} is the controller file {call.path('controller')}: it needs a file of its own."
@@ -185,12 +210,13 @@ def usage(call: Call) -> str:
 
 
 def one_file_twice(call: Call) -> str:
-    """Which of the four files of `generate` are one."""
+    """Which of the files of `generate`, `stay` or `lean` are one."""
+    count = COUNTS[call.command]
     for output in ("report", "controller"):
-        for kind in call.kinds[: call.kinds.index(output)]:
+        for kind in [kind for kind in call.kinds if kind != output and call.path(kind) is not None]:
             if same(call.path(output), call.path(kind)) or call.path(output) == call.path(kind):
-                return f"The {output} file {call.path(output)} is the {kind} file {call.path(kind)}: each of the four needs a file of its own."
-    return "The controller's or the report's name is that of another file of the four: each needs a file of its own."
+                return f"The {output} file {call.path(output)} is the {kind} file {call.path(kind)}: each of the {count} needs a file of its own."
+    return f"The controller's or the report's name is that of another file of the {count}: each needs a file of its own."
 
 
 def without_arguments(call: Call) -> str:
@@ -273,14 +299,20 @@ def text_fault(call: Call, file: int, fault: str, numbers: list[int]) -> str:
     design, records = call.design(), call.records(kind)
     entry = numbers[0]
     line = records[entry - 1] if 0 < entry <= len(records) else ""
+    if fault == "count" and kind == "disturbances":
+        return TEXTS["count-disturbances"].format(file=name, entries=entry)
+    if fault == "count" and kind == "faces":
+        return TEXTS["count-faces"].format(file=name, entries=entry, wanted=2 * design.states if design else "2n")
     if fault == "count":
         return TEXTS[fault].format(file=name, entries=entry, wanted=2**design.states if design else "2^states")
     if fault == "fields":
         wanted = (
             f"{design.states} numbers, one a state"
-            if kind == "states" and design
+            if kind in ("states", "disturbances") and design
             else "one number a state"
-            if kind == "states"
+            if kind in ("states", "disturbances")
+            else "a factor, and a weight for each first limit"
+            if kind == "faces"
             else (
                 f"{1 + design.entries} numbers, a denominator and {design.stages} times {design.inputs} inputs"
                 if design
@@ -291,7 +323,13 @@ def text_fault(call: Call, file: int, fault: str, numbers: list[int]) -> str:
     word = line.split(",")[numbers[1] - 1] if line.count(",") >= numbers[1] - 1 else ""
     wanted = (
         "a denominator is 1 to 1099511627776"
-        if kind == "policy" and numbers[1] == 1
+        if kind in PLANS and numbers[1] == 1
+        else "a factor is 1 to 2147483647"
+        if kind == "faces" and numbers[1] == 1
+        else "a weight is 0 to 2147483647"
+        if kind == "faces"
+        else "-2147483647 to 2147483647, and in the second record at least the number of the first"
+        if kind == "disturbances"
         else "a whole number in decimal, of an absolute value of at most 9223372036854775807"
     )
     return TEXTS["number"].format(field=numbers[1], entry=entry, file=name, fault=f", `{word.strip()[:40]}`," if word else "", wanted=wanted)
@@ -332,7 +370,8 @@ def no_margin(call: Call, corner: int, row: int, above: int, below: int) -> str:
 def too_many_steps(call: Call, steps: int) -> str:
     design = call.design()
     hint = f" (at least {plain(Fraction(design.violation * steps, design.target_den * 2**22))})" if design else ""
-    return TEXTS["too-many-steps"].format(steps=steps, hint=hint)
+    formula, better = STEPS["lean" if call.command == "lean" else "generate"]
+    return TEXTS["too-many-steps"].format(steps=steps, formula=formula, hint=hint, better=better)
 
 
 def too_fine(call: Call, epsilon: int) -> str:
@@ -341,13 +380,21 @@ def too_fine(call: Call, epsilon: int) -> str:
     return TEXTS["too-fine"].format(epsilon=plain(Fraction(epsilon, 2**40)), hint=hint)
 
 
-def sizes_of(design: Design, policy: list) -> dict:
-    """The sizes that are tested, as far as there are numbers that they are made of: those of the corners, and where these are within the limit, those of the form."""
+def sizes_of(design: Design, policy: list, reference: list | None) -> dict:
+    """The sizes that are tested, as far as there are numbers that they are made of: those of the corners, and where these are within the limit, those of the form; of a lean
+    controller by its reference plans."""
     found = sizes.corner_sizes(design, policy)
     if max(found.values()) > sizes.LIMIT:
         return found
     margin, cost = margin_of(corners_of(design, policy))
     bound, form = multiplier_of(margin, cost), sizes.form_of(design)
+    if reference is not None:
+        found |= sizes.form_sizes(design, form)
+        if max(found.values()) > sizes.LIMIT:
+            return found
+        excesses, size = excesses_of(design, form, policy, reference)
+        bound = lean_multiplier_of(design, margin, max(0, *excesses))
+        return found | {"excess": size, "multiplier": max(*excesses, 2**82 * bound), "error": sizes.Errors(design, form, bound).size}
     return found | sizes.form_sizes(design, form) | {"multiplier": sizes.multiplier_size(cost, bound), "error": sizes.Errors(design, form, bound).size}
 
 
@@ -355,7 +402,8 @@ def too_wide(call: Call, name: str) -> str:
     """Status 10, with the size in bits where the files give it."""
     what, helps = QUANTITIES.get(name, ("a number of the design", "a smaller design"))
     try:
-        size = f" (it is 2^{sizes.bits(sizes_of(call.design(), call.policy())[name]):.1f})"
+        reference = call.policy("reference") if call.command == "lean" else None
+        size = f" (it is 2^{sizes.bits(sizes_of(call.design(), call.policy(), reference)[name]):.1f})"
     except (KeyError, TypeError, AttributeError, IndexError, ValueError):
         size = ""
     return TEXTS["too-wide"].format(name=name, what=what, size=size, help=helps)
@@ -461,6 +509,23 @@ def outside_box(call: Call, entry: int, turn: int, coordinate: int) -> str:
     return TEXTS["outside-box"].format(entry=entry, file=call.named(3 if call.command == "loop" else 2), kind=kind, name=name, fault=fault, step=step)
 
 
+def face_words(call: Call, entry: int) -> tuple[str, str]:
+    """The face of a record, and where the box ends there."""
+    design, coordinate, upper = call.design(), (entry + 1) // 2, entry % 2 == 1
+    name = design.name("state", coordinate).word if design else f"x{coordinate}"
+    end = (design.hi if upper else design.lo)[coordinate - 1] if design else None
+    return f"the {'upper' if upper else 'lower'} end of {name}", "" if end is None else f", and the box ends at {end}"
+
+
+def unequal(call: Call, entry: int, input: int, left: int, right: int) -> str:
+    return TEXTS["unequal"].format(entry=entry, file=call.named(5), face=face_words(call, entry)[0], input=input, left=left, right=right)
+
+
+def no_stay(call: Call, entry: int, bound: int) -> str:
+    face, end = face_words(call, entry)
+    return TEXTS["no-stay"].format(entry=entry, file=call.named(5), face=face, bound=bound, end=end)
+
+
 def explanation(status: int, line: str, words: list[str]) -> str:
     """The sentences for a status, the program's line and its words; empty where there is nothing to say."""
     call, fields = Call(words), line.split()
@@ -490,6 +555,7 @@ def explanation(status: int, line: str, words: list[str]) -> str:
     if name == "mismatch":
         return TEXTS[name].format(field=rest[0] if rest[0] != "grid" else "grid bits", design=rest[1], controller=rest[2])
     fill = {"listing": listing_fault, "trap": trap, "no-margin": no_margin, "too-many-steps": too_many_steps, "too-fine": too_fine, "outside-box": outside_box}
+    fill |= {"unequal": unequal, "no-stay": no_stay}
     if name in fill:
         return fill[name](call, *numbers)
     return too_wide(call, rest[0]) if name == "too-wide" else TEXTS.get(name, "")
@@ -506,7 +572,7 @@ STATUSES = [
     (5, "text FILE range PLACE", ["range"]),
     (5, "text FILE fields ENTRY", ["fields"]),
     (5, "text FILE number ENTRY FIELD", ["number"]),
-    (5, "text FILE count ENTRIES", ["count"]),
+    (5, "text FILE count ENTRIES", ["count", "count-faces", "count-disturbances"]),
     (6, "no-margin CORNER ROW NUMERATOR DENOMINATOR", ["no-margin"]),
     (7, "curvature", ["curvature"]),
     (8, "too-many-steps K", ["too-many-steps"]),
@@ -517,6 +583,8 @@ STATUSES = [
     (12, "outside-box ENTRY TURN COORDINATE", ["outside-box", "left-box"]),
     (13, "long FILE", ["long"]),
     (14, "mismatch WORD DESIGN CONTROLLER", ["mismatch"]),
+    (16, "unequal ENTRY INPUT LEFT RIGHT", ["unequal"]),
+    (17, "no-stay ENTRY BOUND", ["no-stay"]),
     (20, "listing FILE LINE", ["listing"]),
     (21, "trap ENTRY STEP PLACE", ["trap", "trap-input"]),
     (98, "", ["unbuilt"]),

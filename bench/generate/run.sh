@@ -1,5 +1,5 @@
 #!/usr/bin/env bash
-# run.sh PROGRAM [RUNS]: times `PROGRAM generate` on each example, and on the designs of fine.py, whose exact numbers pass the limit. It prints the least user and
+# run.sh PROGRAM [RUNS]: times `PROGRAM generate` on each example, and beside it `PROGRAM lean`, and the former on the designs of fine.py, whose exact numbers pass the limit. It prints the least user and
 # system time of several runs, in milliseconds; the marks are 10 for the satellite, and 500 for each fine design. With valgrind at hand it prints the functions that
 # take the most instructions for the satellite, and for each fine design the shares of its parts: a run that is refused for its steps ends before the rounding errors
 # are added up. The mark of condensing is 50 ms at 60 plan entries and 252 rows.
@@ -14,10 +14,11 @@ TIMEFORMAT='%U %S'
 mkdir "$work/fine"
 python3 "$here/fine.py" "$work/fine"
 
-# The least processor time on the design in a folder, in milliseconds.
+# The least processor time of a command on the design in a folder, in milliseconds; the command with the names of its plans.
 least() {
+    local names=("${@:3}")
     for _ in $(seq "$runs"); do
-        { time "$program" generate "$1/design.toml" "$1/policy.csv" "$work/controller" "$work/report" >"$work/out" 2>"$work/err"; } 2>&1
+        { time "$program" "$2" "$1/design.toml" "${names[@]/#/$1/}" "$work/controller" "$work/report" >"$work/out" 2>"$work/err"; } 2>&1
     done | awk '{ t = ($1 + $2) * 1000; if (NR == 1 || t < least) least = t } END { print least }'
 }
 
@@ -33,10 +34,10 @@ condensing() {
 }
 
 for example in "$examples"/*/; do
-    echo "$(basename "$example"): $(least "$example") ms"
+    echo "$(basename "$example"): $(least "$example" generate policy.csv) ms, lean $(least "$example" lean lean.csv reference.csv) ms"
 done
 for fine in "$work"/fine/*/; do
-    took=$(least "$fine")
+    took=$(least "$fine" generate policy.csv)
     echo "$(basename "$fine"): $took ms"
     if command -v valgrind >/dev/null; then
         sed '/^\[targets\]/,$ { s/^den = .*/den = 1048576/; s/^violation = .*/violation = 1/ }' "$fine/design.toml" >"$fine/many_steps.toml"

@@ -1,15 +1,15 @@
 #!/usr/bin/env python3
 """Runs the built program while memory, files and its output fail, and checks what stands afterwards.
 
-    checks/faults/run.py PROGRAM [--jobs JOBS] [--only memory|files|output] [--short]
+    checks/faults/run.py PROGRAM [--jobs JOBS] [--only memory|files|output] [--commands NAME,..] [--short]
 
 Memory: under an allocator that refuses one request, the n-th, for every n that the run makes, and again one that refuses the n-th and all later ones. Each run
-must end with the status 1 and its line, or with the right answer; `generate` leaves both files as they were, the others have put some first lines. Where the
+must end with the status 1 and its line, or with the right answer, be that a refusal, whose line may be missing; what a command writes is left as it was, the others have put some first lines. Where the
 request is the runtime's own, for the arguments, the program ends with 99 and no word. Where all later requests are refused, the line may be missing.
 Files: a limit on a file's size at every number of bytes, a full disk, /dev/full, folders that aren't there, names that can't be read or never end.
 Output: closed, full, limited at every number of bytes, a pipe that nobody reads.
-With --short, as ./test runs it: files and output alone, at a few numbers of bytes.
-Each `generate`, `solve`, `loop` and `demo` is compared with the model in ../fuzz.
+With --short, as ./test runs it: files and output alone, at a few numbers of bytes. With --commands these alone, as stay,list.
+Each command is compared with the model in ../fuzz where nothing fails.
 """
 import argparse
 import collections
@@ -26,6 +26,7 @@ HERE = os.path.dirname(os.path.abspath(__file__))
 sys.path.insert(0, os.path.join(HERE, "..", "fuzz"))
 import cases
 import control
+import listing
 import model
 import program as model_program
 
@@ -35,7 +36,9 @@ MEMORY = b"error 1 memory\n"
 SHOWN = 20
 # with --short, each so many bytes
 SHORT_STEP = 211
-OLD = {"c": b"an old controller\n", "r": b"an old report\n", "r.json": b"an old report\n"}
+OLD = {"c": b"an old controller\n", "r": b"an old report\n", "r.json": b"an old report\n", "l": b"an old listing\n"}
+# where the words name what is read
+READS = {"generate": (1, 2), "stay": (1, 2, 5, 6), "solve": (1, 2), "loop": (1, 2, 3, 5), "demo": (), "list": (1,), "play": (1, 2)}
 
 
 def example(name, file):
@@ -59,6 +62,9 @@ SECOND = {"d": cases.design_text({
     "limit_den": 4, "rows": [[0, 64, 64], [0, -16, 64], [0, 4, 64], [0, 1, 64]], "final_rows": [[1, 9]], "grid": 0, "lo": [0], "hi": [1], "target_den": 1, "violation": 1024,
     "gap": 1}), "p": b"1,0\n1,0\n"}
 # the first controller with an exponent for each row
+# one that is held in its box by its faces, under disturbances of 0 and 1
+HELD = {"d": FIRST["d"].replace(b"final = [[4, 1]]", b"final = [[4, 1], [-4, 1]]").replace(b"den = 1\nviolation = 16\ngap = 1\n", b"den = 10\nviolation = 1\ngap = 10\n"),
+        "p": FIRST["p"], "f": b"4,0,0,1,0\n4,0,0,0,1\n", "w": b"0\n1\n"}
 SECOND_CONTROLLER = FIRST["k"].replace(b"mpc-controller 1\n", b"mpc-controller 2\n").replace(b"\nlo ", b"\nexps 0 1 1\nlo ")
 
 
@@ -67,7 +73,9 @@ class Command:
 
     def __init__(self, executable, name, words, files):
         self.executable, self.name, self.words, self.files = executable, name, words, files
-        self.outputs = [word for word in words[3:5]] if words[0] == "generate" else []
+        # where its words name what it writes
+        self.places = model_program.OUTPUTS.get(words[0], ())
+        self.outputs = [words[at] for at in self.places]
 
     def lay(self, folder):
         for name, data in {**self.files, **{it: OLD[it] for it in self.outputs}}.items():
@@ -92,7 +100,7 @@ class Command:
         with tempfile.TemporaryDirectory() as folder:
             self.lay(folder)
             ran = self.run(folder)
-            self.out, self.made = ran.stdout, self.left(folder)
+            self.status, self.line, self.out, self.made = ran.returncode, ran.stderr, ran.stdout, self.left(folder)
             problem = self.differs(folder, ran)
         if problem:
             sys.exit(f"{self.name}: where nothing fails, {problem}")
@@ -116,12 +124,17 @@ class Command:
             return solutions
 
         said = model_program.answer(self.words, self.files.get, lambda name: True, gains)
-        if (ran.returncode, ran.stderr, ran.stdout, self.made) != (said.status, said.line, b"".join(said.out), said.written):
+        if (ran.returncode, ran.stderr, ran.stdout, self.made) != (said.status, said.line, b"".join(said.out), {**{name: OLD[name] for name in self.outputs}, **said.written}):
             return f"status {ran.returncode} {ran.stderr} {ran.stdout[:200]} is not the model's {said.status} {said.line} {b''.join(said.out)[:200]}"
         return None
 
 
-def commands(executable):
+def commands(options):
+    """Each command that is asked for."""
+    return (command for command in all_commands(options.program) if not options.commands or command.words[0] in options.commands.split(","))
+
+
+def all_commands(executable):
     motor = example("motor", "design.toml"), example("motor", "policy.csv")
     yield Command(executable, "generate", ["generate", "d", "p", "c", "r"], FIRST)
     yield Command(executable, "generate, JSON", ["generate", "d", "p", "c", "r.json"], FIRST)
@@ -135,6 +148,20 @@ def commands(executable):
     yield Command(executable, "solve, version 2", ["solve", "k", "s"], {**FIRST, "k": SECOND_CONTROLLER})
     yield Command(executable, "loop", ["loop", "d", "k", "s", "4"], FIRST)
     yield Command(executable, "demo", ["demo", "7"], {})
+    stay, under = ["stay", "d", "p", "c", "r", "f"], ["stay", "d", "p", "c", "r", "f", "w"]
+    yield Command(executable, "stay", stay, HELD)
+    yield Command(executable, "stay, JSON", [*stay[:4], "r.json", "f"], HELD)
+    yield Command(executable, "stay, under disturbances", under, HELD)
+    yield Command(executable, "stay, a face that isn't kept", under, {**HELD, "w": b"-1\n1\n"})
+    yield Command(executable, "stay, unequal inputs", stay, {**HELD, "f": b"4,0,0,1,0\n3,0,0,0,1\n"})
+    shifted = ["loop", "d", "k", "s", "4", "v"]
+    yield Command(executable, "loop, under disturbances", shifted, {**FIRST, "v": b"1\n0\n1\n0\n"})
+    yield Command(executable, "loop, out of the box", shifted, {**FIRST, "v": b"1\n0\n2\n0\n"})
+    made = listing.text_of(listing.listing_of(control.read_controller(FIRST["k"])))
+    yield Command(executable, "list", ["list", "k", "l"], FIRST)
+    yield Command(executable, "list, version 2", ["list", "k", "l"], {**FIRST, "k": SECOND_CONTROLLER})
+    yield Command(executable, "play", ["play", "m", "s"], {**FIRST, "m": made})
+    yield Command(executable, "play, a trap", ["play", "m", "s"], {"m": made.replace(b"word 26", b"word 21"), "s": b"0\n0\n1\n"})
 
 
 # ---- memory
@@ -163,8 +190,11 @@ def refused_run(command, library, at, refuses_all):
 def judged(command, ran, left, refuses_all):
     """What the run is counted as, or what is wrong with it."""
     as_before = {name: OLD[name] for name in command.outputs}
-    if ran.returncode == 0 and (ran.stderr, ran.stdout, left) == (b"", command.out, command.made):
+    if (ran.returncode, ran.stderr, ran.stdout, left) == (command.status, command.line, command.out, command.made):
         return "the right answer all the same", None
+    # where there is no memory for the line of a refusal, its status is all that is told
+    if command.line and (ran.returncode, ran.stderr, ran.stdout, left) == (command.status, b"", command.out, command.made):
+        return "the right status, no line", None
     if ran.returncode == 99 and (ran.stderr, ran.stdout, left) == (b"", b"", as_before):
         return "no arguments (99)", None
     if ran.returncode != 1 or ran.stderr not in ([MEMORY, b""] if refuses_all else [MEMORY]):
@@ -180,7 +210,7 @@ def judged(command, ran, left, refuses_all):
 
 def memory(options, library):
     wrong = 0
-    for command in commands(options.program):
+    for command in commands(options):
         command.learn()
         _, _, asked, refused, peak = refused_run(command, library, 0, False)
         print(f"{command.name}: {asked} requests, at most {peak} bytes at a time")
@@ -247,38 +277,37 @@ class Checks:
 
 
 def after_limit(checks, what, command, ran, left, size):
-    """generate, where no file may grow beyond so many bytes."""
-    c, r = command.outputs
-    whole_c, whole_r = command.made[c], command.made[r]
-    if size < len(whole_c):
-        checks.ended(what, ran, 4, b"error 4 write-fault 3\n")
-        checks.expect(what, left.get(c) == OLD[c] or is_proper_prefix(left.get(c, b"?"), whole_c), f"the controller file holds {left.get(c)}")
-        checks.expect(what, left.get(r) == OLD[r], f"the report file holds {left.get(r)}")
-    elif size < len(whole_r):
-        checks.ended(what, ran, 4, b"error 4 write-fault 4\n")
-        checks.expect(what, left.get(c) == whole_c, "the controller isn't whole")
-        checks.expect(what, left.get(r) == OLD[r] or is_proper_prefix(left.get(r, b"?"), whole_r), f"the report file holds {left.get(r)}")
-    else:
+    """A command that writes, where no file may grow beyond so many bytes: the files before the first that would are whole, those after it are as they were."""
+    failed = next((i for i, name in enumerate(command.outputs) if size < len(command.made[name])), None)
+    if failed is None:
         checks.ended(what, ran, 0, b"")
         checks.expect(what, left == command.made, "the files aren't whole")
+        return
+    checks.ended(what, ran, 4, f"error 4 write-fault {command.places[failed]}\n".encode())
+    for i, name in enumerate(command.outputs):
+        held, whole = left.get(name, b"?"), command.made[name]
+        well = held == whole if i < failed else held == OLD[name] or i == failed and is_proper_prefix(held, whole)
+        checks.expect(what, well, f"{name} holds {held}")
 
 
-def solve_what_is_left(checks, what, command, folder):
-    """A part of a controller is refused at the line where it ends."""
-    with open(os.path.join(folder, command.outputs[0]), "rb") as file:
+def read_what_is_left(checks, what, command, folder):
+    """A part of a controller or of a listing is refused at the line where it ends."""
+    name = command.outputs[0]
+    with open(os.path.join(folder, name), "rb") as file:
         held = file.read()
     with open(os.path.join(folder, "s"), "wb") as file:
         file.write(b"1\n")
-    ran = Command(command.executable, "", ["solve", command.outputs[0], "s"], {}).run(folder)
-    said = model_program.answer(["solve", "c", "s"], {"c": held, "s": b"1\n"}.get, None, None)
+    words = ["play" if command.words[0] == "list" else "solve", name, "s"]
+    ran = Command(command.executable, "", words, {}).run(folder)
+    said = model_program.answer(words, {name: held, "s": b"1\n"}.get, None, None)
     checks.ended(what, ran, said.status, said.line)
 
 
 def files(options, _):
     checks = Checks()
-    given = list(commands(options.program))
-    text, json, *_ = given
-    for command in (text, json):
+    given = list(commands(options))
+    writing = [command for command in given if command.name in ("generate", "generate, JSON", "stay", "stay, JSON", "list", "list, version 2")]
+    for command in writing:
         command.learn()
         # about the end of each file, too
         for size in sorted({size for made in command.made.values() for size in sizes_of(len(made), SHORT_STEP if options.short else 1)}):
@@ -287,28 +316,28 @@ def files(options, _):
                 ran = command.run(folder, preexec_fn=limited(size))
                 what = f"{command.name}, files of at most {size} bytes"
                 after_limit(checks, what, command, ran, command.left(folder), size)
-                if ran.returncode == 4 and command is text:
-                    solve_what_is_left(checks, f"{what}, then solve", command, folder)
+                if ran.returncode == 4 and "JSON" not in command.name:
+                    read_what_is_left(checks, f"{what}, then read again", command, folder)
     print(f"a limit on a file's size: {checks.count} checks, {checks.wrong} wrong", flush=True)
-    large = Command(options.program, "generate, six stages", text.words, dict(zip("dp", model_program.make(7, 6))))
-    large.learn()
-    full_disk(checks, large)
-    where = {"/dev/full": (4, 3), "no/c": (4, 3), ".": (4, 3), "": (4, 3)}
-    for name, (status, file) in where.items():
-        for at in (3, 4):
-            words = list(text.words)
-            words[at] = name
-            with tempfile.TemporaryDirectory() as folder:
-                text.lay(folder)
-                ran = Command(options.program, "", words, {}).run(folder)
-                left = text.left(folder)
-            what = f"{words}"
-            checks.ended(what, ran, status, f"error {status} write-fault {at}\n".encode())
-            wanted = {"c": text.made["c"] if at == 4 else OLD["c"], "r": OLD["r"]}
-            checks.expect(what, left == wanted, f"the files hold {left}")
+    if any(command.words[0] == "generate" for command in given):
+        large = Command(options.program, "generate, six stages", ["generate", "d", "p", "c", "r"], dict(zip("dp", model_program.make(7, 6))))
+        large.learn()
+        full_disk(checks, large)
+    for command in writing:
+        for name in ("/dev/full", "no/c", ".", ""):
+            for i, at in enumerate(command.places):
+                words = list(command.words)
+                words[at] = name
+                with tempfile.TemporaryDirectory() as folder:
+                    command.lay(folder)
+                    ran = Command(options.program, "", words, {}).run(folder)
+                    left = command.left(folder)
+                checks.ended(f"{words}", ran, 4, f"error 4 write-fault {at}\n".encode())
+                wanted = {it: command.made[it] if k < i else OLD[it] for k, it in enumerate(command.outputs)}
+                checks.expect(f"{words}", left == wanted, f"the files hold {left}")
     for name, status, line in (("missing", 3, "read-fault"), (".", 3, "read-fault"), ("", 3, "read-fault"), ("/proc/self/mem", 3, "read-fault"), ("/dev/zero", 13, "long")):
         for command in given:
-            for at in {"generate": (1, 2), "solve": (1, 2), "loop": (1, 2, 3)}.get(command.words[0], ()):
+            for at in (at for at in READS[command.words[0]] if at < len(command.words)):
                 words = list(command.words)
                 words[at] = name
                 with tempfile.TemporaryDirectory() as folder:
@@ -357,13 +386,23 @@ echo $status >status"""
     print(f"a full disk, from 0 free pages on: statuses {told}", flush=True)
 
 
+def quiet(checks, command):
+    """A command that prints nothing doesn't need its output."""
+    with tempfile.TemporaryDirectory() as folder:
+        command.lay(folder)
+        ran = command.run(folder, stdout=None, preexec_fn=lambda: os.close(1))
+        well = (ran.returncode, ran.stderr, command.left(folder)) == (command.status, command.line, command.made)
+        checks.expect(f"{command.name}, output closed", well, f"status {ran.returncode} {ran.stderr}")
+
+
 def output(options, _):
     checks = Checks()
     fault = b"error 4 write-fault 0\n"
-    for command in commands(options.program):
-        if command.words[0] == "generate":
-            continue
+    for command in commands(options):
         command.learn()
+        if not command.out:
+            quiet(checks, command)
+            continue
         with tempfile.TemporaryDirectory() as folder:
             command.lay(folder)
             # (an output that is closed is none to subprocess, so the child closes it itself)
@@ -387,14 +426,8 @@ def output(options, _):
                     checks.ended(what, ran, 4, fault)
                     checks.expect(what, is_proper_prefix(held, command.out), f"it holds {held[:200]}")
                 else:
-                    checks.ended(what, ran, 0, b"")
+                    checks.ended(what, ran, command.status, command.line)
                     checks.expect(what, held == command.out, f"it holds {held[:200]}")
-    generate = next(commands(options.program))
-    generate.learn()
-    with tempfile.TemporaryDirectory() as folder:
-        generate.lay(folder)
-        ran = generate.run(folder, stdout=None, preexec_fn=lambda: os.close(1))
-        checks.expect("generate, output closed", ran.returncode == 0 and generate.left(folder) == generate.made, f"status {ran.returncode} {ran.stderr}")
     print(f"output: {checks.count} checks, {checks.wrong} wrong", flush=True)
     return checks.wrong
 
@@ -404,6 +437,7 @@ def main():
     parser.add_argument("program")
     parser.add_argument("--jobs", type=int, default=os.cpu_count())
     parser.add_argument("--only", choices=["memory", "files", "output"])
+    parser.add_argument("--commands")
     parser.add_argument("--short", action="store_true")
     options = parser.parse_args()
     options.program = os.path.abspath(options.program)

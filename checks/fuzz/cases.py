@@ -7,7 +7,6 @@ from math import ceil
 import at_corners
 import control
 import forms
-import listing
 import model
 import program
 
@@ -352,6 +351,50 @@ def design_and_policy(pick, base):
     return design, policy
 
 
+# ---- references
+
+
+def best_plan(form, state):
+    """The plan of least cost without limits from a state, as floats."""
+    size = len(form.q)
+    rows = [[2 * v.mid / form.hess_den for v in row] + [-(forms.dot([v.mid for v in of_state], state) + h.mid) / form.hess_den]
+            for row, of_state, h in zip(form.q, form.f, form.h0)]
+    for j in range(size):
+        rows[j] = [v / rows[j][j] for v in rows[j]]
+        for i in range(size):
+            if i != j:
+                rows[i] = [a - rows[i][j] * b for a, b in zip(rows[i], rows[j])]
+    return [row[-1] for row in rows]
+
+
+def best_references(pick, data, policy):
+    """The best plans without limits of a design's corners, over any denominators; where none can be found, the policy's own."""
+    try:
+        d = model.read_design(data)
+        form = model.form_of(d)
+        plans = [best_plan(form, [Fraction(v, 2**d.grid) for v in state]) for state in at_corners.states(d)]
+    except (model.Refused, ArithmeticError):
+        return policy
+    den = lambda: pick.choice([1, 2, 3, 4, 16, 64, 1000, 65536, 2**40])
+    most = 2**63 - 1
+    whole = lambda q, plan: [q, *(min(most, max(-most, round(q * v))) for v in plan)]
+    return "".join(",".join(map(str, whole(den(), plan))) + "\n" for plan in plans).encode()
+
+
+def references(pick, design, policy):
+    """Reference plans beside a policy: mostly good ones, else the policy itself, far ones, or changed ones."""
+    how = pick.random()
+    if how < 0.1:
+        return policy
+    good = best_references(pick, design, policy)
+    if how < 0.55:
+        return good
+    if how < 0.7:
+        far = pick.choice([3, 1000, 10**6, 10**12, 10**15])
+        return re.sub(rb"(?<=,)-?[0-9]{1,15}", lambda it: b"%d" % (int(it[0]) + pick.randrange(-far, far + 1)), good)
+    return changed(pick, pick.choice([good, policy]))
+
+
 # ---- controllers
 
 
@@ -467,25 +510,3 @@ def design_beside(pick, c):
          "b": [some(p) for _ in range(n)], "cost_den": 1, "row_den": 1, "input": [1] * p, "cost": [], "final_cost": [], "limit_den": 1, "rows": [[0] * (n + p) + [1]],
          "final_rows": [], "grid": g, "lo": [0] * n, "hi": [0] * n, "target_den": 1, "violation": 1, "gap": 1}
     return design_text(v)
-
-
-# ---- listings
-
-
-def other_body(pick, l):
-    """The instructions of a listing, with a few changed: one left out, one twice, two exchanged, or one with another address, constant or number of bits."""
-    body = list(l.body)
-    for _ in range(pick.choice([1, 1, 2, 5])):
-        at, other = pick.randrange(len(body)), pick.randrange(len(body))
-        how = pick.randrange(4)
-        if how == 0 and len(body) > 1:
-            del body[at]
-        elif how == 1:
-            body.insert(other, body[at])
-        elif how == 2:
-            body[at], body[other] = body[other], body[at]
-        else:
-            name = pick.choice(sorted(listing.NUMBERS))
-            number = {"a": lambda: pick.randrange(l.words), "c": lambda: pick.choice([0, 1, -1, 2**127 - 1, -(2**127), pick.randrange(-(2**20), 2**20)]), "k": lambda: pick.choice([0, 1, 7, 126])}
-            body[at] = (name, *(number[kind]() for kind in listing.NUMBERS[name]))
-    return body

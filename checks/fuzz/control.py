@@ -86,13 +86,20 @@ class Reader:
     def refuse(self):
         raise Refused(11, "line", self.at)
 
-    def take(self, name, count, holds=lambda numbers: True):
+    def next(self):
+        """The next line's name and its numbers, which lie in 128 bits."""
         self.at += 1
         if self.at > len(self.lines):
             self.refuse()
-        words = self.lines[self.at - 1].split(b" ")
-        numbers = [int(word) if re.fullmatch(rb"0|-?[1-9][0-9]*", word) else None for word in words[1:]]
-        if words[0] != name or len(numbers) != count or not all(v is not None and -(2**127) <= v < 2**127 for v in numbers) or not holds(numbers):
+        name, *words = self.lines[self.at - 1].split(b" ")
+        numbers = [int(word) if re.fullmatch(rb"0|-?[1-9][0-9]*", word) else None for word in words]
+        if not all(v is not None and -(2**127) <= v < 2**127 for v in numbers):
+            self.refuse()
+        return name, numbers
+
+    def take(self, name, count, holds=lambda numbers: True):
+        found, numbers = self.next()
+        if found != name or len(numbers) != count or not holds(numbers):
             self.refuse()
         return numbers
 
@@ -257,11 +264,11 @@ def next_state(design, c, state, sums):
     return [(2 * v + den) // (2 * den) for v in exact]
 
 
-def loop_lines(design, c, entry, start, turns, seen, run=run):
-    """The lines of a start state's turns, or after some of them Refused with the turn whose state is outside. A run from a state that `seen` holds isn't made
-    again."""
+def loop_lines(design, c, entry, start, shifts, seen, run=run):
+    """The lines of a start state's turns, or after some of them Refused with the turn whose state is outside. After each turn its shift is added to the state. A run
+    from a state that `seen` holds isn't made again."""
     state = start
-    for turn in range(1, turns + 1):
+    for turn, shift in enumerate(shifts, 1):
         coordinate = outside(c, state)
         if coordinate:
             raise Refused(12, entry, turn, coordinate)
@@ -269,4 +276,4 @@ def loop_lines(design, c, entry, start, turns, seen, run=run):
             seen[tuple(state)] = run(c, state)
         sums = seen[tuple(state)]
         yield line([entry, turn, *state, c.steps << c.f, *sums[: c.p]])
-        state = next_state(design, c, state, sums)
+        state = [v + by for v, by in zip(next_state(design, c, state, sums), shift)]

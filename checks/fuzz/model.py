@@ -13,6 +13,7 @@ from fractions import Fraction
 from math import ceil, isqrt
 
 import at_corners
+import excess
 import forms
 from forms import LIMIT, ceil_div
 
@@ -143,15 +144,15 @@ def number_field(word):
     return value if found and abs(value) <= 2**63 - 1 else None
 
 
-def read_records(data, width, is_in_range=lambda field, value: True):
-    """Lists of numbers, or the status 5 with the first fault."""
+def read_records(data, width, is_in_range=lambda before, field, value: True):
+    """Lists of numbers, or the status 5 with the first fault. What is in range may rest on the records before."""
     rows = []
     for entry, record in enumerate(records(data), 1):
         if len(record) != width:
             raise Refused(5, "fields", entry)
         row = [number_field(word) for word in record]
         for field, value in enumerate(row, 1):
-            if value is None or not is_in_range(field, value):
+            if value is None or not is_in_range(rows, field, value):
                 raise Refused(5, "number", entry, field)
         rows.append(row)
     return rows
@@ -159,7 +160,7 @@ def read_records(data, width, is_in_range=lambda field, value: True):
 
 def read_policy(data, design):
     """The plans, each with its denominator, or the status 5 with the first fault."""
-    rows = read_records(data, design.entries + 1, lambda field, value: field > 1 or 1 <= value <= 2**40)
+    rows = read_records(data, design.entries + 1, lambda _, field, value: field > 1 or 1 <= value <= 2**40)
     if len(rows) != 2**design.states:
         raise Refused(5, "count", len(rows))
     return [(row[0], row[1:]) for row in rows]
@@ -399,33 +400,65 @@ class Choice:
     greatest: int
     errors: Errors
 
+    def violation(self, exponent, cost):
+        """By how much a row of this exponent is exceeded at most, where the errors of a step cost so much."""
+        r, k, s = (self.report[key] for key in ("multiplier", "steps", "step"))
+        if self.is_lean:
+            target = target_of(self.design, 2**40)
+            return min(target, ceil_div(target, 2) + ceil_div(2 ** (exponent + 40) * r, k) + ceil_div(cost, 2 * r))
+        return ceil_div((2**exponent + 2**s) * 2**40 * r, k) + ceil_div(cost, r)
+
+    @property
+    def is_lean(self):
+        return "excess" in self.report
+
+    @property
+    def stated_violations(self):
+        """Of each row, by the design and the policy alone."""
+        cost = self.errors.epsilon(self.report["bits"])
+        return [self.violation(exponent, cost) for exponent in self.exponents]
+
     def printed(self, solutions, magnitude):
         """The bounds that are printed, by the residuals that these gains leave: the violations are of each row. A plan entry of theirs is at most `magnitude` over
         2^bits."""
-        r, k, f, s = (self.report[key] for key in ("multiplier", "steps", "bits", "step"))
-        cost = self.errors.real(self, solutions, magnitude, f)
-        of = lambda exponent: ceil_div((2**exponent + 2**s) * 2**40 * r, k) + ceil_div(cost, r)
-        return {"violation": of(s), "violations": list(map(of, self.exponents)), "gap": cost, "undercut": r * of(s)}
+        cost = self.errors.real(self, solutions, magnitude, self.report["bits"])
+        greatest = self.violation(self.report["step"], cost)
+        undercut = self.report["multiplier"] * (target_of(self.design, 2**40) if self.is_lean else greatest)
+        return {"violation": greatest, "violations": [self.violation(exponent, cost) for exponent in self.exponents], "gap": cost, "undercut": undercut}
 
 
-def choose(d, plans):
-    """The choice, or Refused."""
+def target_of(d, units):
+    """The violation target in these units, rounded down."""
+    return units * d.violation // d.target_den
+
+
+def choose(d, plans, references=None):
+    """The choice, or Refused; a lean one where there are reference plans."""
     n, nu, m, g = d.states, d.entries, d.rows, d.grid
     margin, cost = margins(d, plans)
-    r = max(1, ceil_div(2**16 * cost, margin))
-    limited(max(2**16 * cost, 2**82 * r), "multiplier")
+    if references is None:
+        r = max(1, ceil_div(2**16 * cost, margin))
+        limited(max(2**16 * cost, 2**82 * r), "multiplier")
     form = form_of(d)
     for name, size in forms.sizes(d, form).items():
         limited(size, name)
     matrices = StepMatrices(d, form)
     s = step_exponent(d, form, matrices)
-    half, gap_target = 2**39 * d.violation // d.target_den, 2**40 * d.gap // d.target_den
-    k = ceil_div(2 ** (s + 41) * r, half)
+    # how much of the violation's target the steps may take, and how much rounding
+    for_steps = for_rounding = target_of(d, 2**39)
+    if references is not None:
+        above, size = excess.excess(d, form, plans, references)
+        limited(size, "excess")
+        r = max(1, ceil_div(above, margin + target_of(d, 2**16)))
+        limited(max(above, 2**82 * r), "multiplier")
+        for_steps, for_rounding = target_of(d, 15 * 2**36), target_of(d, 2**36)
+    gap_target = 2**40 * d.gap // d.target_den
+    k = ceil_div(2 ** (s + 41) * r, for_steps)
     if k > 2**22:
         raise Refused(8, k)
     errors = Errors(d, form, r)
     limited(errors.size, "error")
-    f = next((f for f in range(g, 49) if errors.epsilon(f) <= min(gap_target, r * half)), None)
+    f = next((f for f in range(g, 49) if errors.epsilon(f) <= min(gap_target, r * for_rounding)), None)
     if f is None:
         raise Refused(9, errors.epsilon(48))
     matrix = [[2 * d.limit_den * v.mid for v in row] for row in form.q]
@@ -442,7 +475,8 @@ def choose(d, plans):
     plan = ceil_div(entry, 2 ** (f + s))
     row_sums = [sum(map(abs, row)) * plan + forms.dot(map(abs, state), reaches) + 2**f * abs(limit) for row, state, limit in zip(rows, states, limits)]
     greatest = limited(max(reaches + [entry, k * plan] + row_sums + [clamp + ceil_div(v, 2**f) for v in row_sums]), "width")
-    report = {"margin": margin, "cost": cost, "multiplier": r, "step": s, "steps": k, "bits": f, "words": n + m + 2 * nu}
+    dearest = {"cost": cost} if references is None else {"excess": above}
+    report = {"margin": margin, **dearest, "multiplier": r, "step": s, "steps": k, "bits": f, "words": n + m + 2 * nu}
     exponents = row_exponents(d, form, matrices, s)
     return Choice(d, report, exponents, clamp, rows, states, limits, matrix, columns, bounds, greatest, errors)
 
@@ -459,6 +493,42 @@ def why_no_gains(choice, solutions):
     return None
 
 
+def gains(choice):
+    """The model's own good solutions: in time with any number of entries."""
+    return exact_gains(choice) if len(choice.matrix) <= 12 else refined_gains(choice)
+
+
+def refined_gains(choice):
+    """Good solutions in floating point, each refined by what it really misses, in whole numbers, until it is good; elimination over fractions of many entries takes hours."""
+    f, matrix, size = choice.report["bits"], choice.matrix, len(choice.matrix)
+    greatest = max(map(max, matrix))
+    rows = [[v / greatest for v in row] + [float(i == j) for i in range(size)] for j, row in enumerate(matrix)]
+    for j in range(size):
+        rows[j] = [v / rows[j][j] for v in rows[j]]
+        for i in range(size):
+            if i != j and rows[i][j]:
+                rows[i] = [a - rows[i][j] * b for a, b in zip(rows[i], rows[j])]
+    inverse, solutions = [row[size:] for row in rows], []
+    for column in choice.columns:
+        x, moved = [0] * size, [1]
+        while any(moved):
+            missed = [(2**f * c - sum(h * v for h, v in zip(row, x))) / greatest for row, c in zip(matrix, column)]
+            moved = [round(forms.dot(row, missed)) for row in inverse]
+            x = [v + m for v, m in zip(x, moved)]
+        solutions.append(settled(x, matrix, column, f))
+    return solutions
+
+
+def settled(x, matrix, column, f):
+    """A solution that is near, with single entries moved until it is good."""
+    while True:
+        rest = [sum(h * v for h, v in zip(row, x)) - 2**f * c for row, c in zip(matrix, column)]
+        j = max(range(len(x)), key=lambda j: Fraction(abs(rest[j]), matrix[j][j]))
+        if 2 * abs(rest[j]) <= matrix[j][j]:
+            return x
+        x[j] -= (2 * rest[j] + matrix[j][j]) // (2 * matrix[j][j])
+
+
 def exact_gains(choice):
     """Good solutions by elimination over fractions, each rounded to the nearest; where the rounding isn't good enough, entries are moved until it is."""
     f, matrix, size = choice.report["bits"], choice.matrix, len(choice.matrix)
@@ -472,11 +542,5 @@ def exact_gains(choice):
     solutions = []
     for number, column in enumerate(choice.columns):
         x = [(2 * rows[j][size + number] + 1).__floor__() // 2 for j in range(size)]
-        while True:
-            rest = [sum(h * v for h, v in zip(row, x)) - 2**f * c for row, c in zip(matrix, column)]
-            j = max(range(size), key=lambda j: Fraction(abs(rest[j]), matrix[j][j]))
-            if 2 * abs(rest[j]) <= matrix[j][j]:
-                break
-            x[j] -= (2 * rest[j] + matrix[j][j]) // (2 * matrix[j][j])
-        solutions.append(x)
+        solutions.append(settled(x, matrix, column, f))
     return solutions

@@ -15,11 +15,16 @@ sys.path.insert(0, os.path.dirname(os.path.abspath(__file__)))
 import control
 import listing
 import model
+import staying
 from model import LIMIT, Refused
 
 NAMES = {1: "memory", 2: "usage", 3: "read-fault", 4: "write-fault", 5: "text", 6: "no-margin", 7: "curvature", 8: "too-many-steps", 9: "too-fine", 10: "too-wide",
-         11: "controller", 12: "outside-box", 13: "long", 14: "mismatch", 20: "listing", 21: "trap"}
-COUNTS = {"generate": 4, "solve": 2, "loop": 4, "demo": 1, "list": 2, "play": 2}
+         11: "controller", 12: "outside-box", 13: "long", 14: "mismatch", 16: "unequal", 17: "no-stay", 20: "listing", 21: "trap"}
+# how many words follow each command, and which of them are written
+COUNTS = {"generate": [4], "lean": [5], "stay": [5, 6], "solve": [2], "loop": [4, 5], "demo": [1], "list": [2], "play": [2]}
+# lean with faces, and with a box of disturbances, as stay has them: no command yet, and the model's alone
+LEAN_WITH_FACES = [6, 7]
+OUTPUTS = {"generate": [3, 4], "lean": [4, 5], "stay": [3, 4], "list": [2]}
 OVER = 2**40
 
 
@@ -50,7 +55,8 @@ def report_text(b):
     violations = [("violation", b["violation"], OVER)]
     if b["version"] > 1:
         violations = [("violation", row, value, OVER) for row, value in enumerate(b["violations"], 1)]
-    rows = [("mpc-report", b["version"]), ("margin", b["margin"], 65536), ("cost", b["cost"]), ("multiplier", b["multiplier"]), ("step", b["step"]), ("steps", b["steps"]),
+    dearest = ("excess", b["excess"], 65536) if "excess" in b else ("cost", b["cost"])
+    rows = [("mpc-report", b["version"]), ("margin", b["margin"], 65536), dearest, ("multiplier", b["multiplier"]), ("step", b["step"]), ("steps", b["steps"]),
             ("bits", b["bits"]), ("width", b["width"]), ("words", b["words"]), *violations, ("gap", b["gap"], OVER), ("undercut", b["undercut"], OVER), ("end",)]
     return "".join(" ".join(map(str, row)) + "\n" for row in rows).encode()
 
@@ -103,9 +109,14 @@ gap = 4
 # ---- the commands
 
 
-def generate(d, plans, gains):
-    """The controller and its bounds, or Refused."""
-    choice = model.choose(d, plans)
+def generate(d, plans, gains, references=None):
+    """The controller and its bounds, or Refused; lean ones where there are reference plans."""
+    return made_of(model.choose(d, plans, references), gains)
+
+
+def made_of(choice, gains):
+    """A choice's controller and its bounds."""
+    d = choice.design
     columns, n, r = gains(choice), d.states, choice.report
     side_by_side = lambda some: [list(row) for row in zip(*some)]
     c = control.Controller(n, d.inputs, d.stages, d.rows, r["bits"], d.grid, r["step"], 2, r["steps"], choice.clamp, list(d.lo), list(d.hi),
@@ -116,13 +127,13 @@ def generate(d, plans, gains):
 
 class Program:
     """The words are texts, the first of them the command; `read` gives a name's bytes, or None where it can't be read; `write` tells whether a name could be
-    written. `run` gives a controller's sums from a state."""
+    written. `run` gives a controller's sums from a state, `played` a listing's words."""
 
-    def __init__(self, words, read, write, gains, run=control.run, put=None, run_listing=listing.play_line):
-        self.words, self.read, self.write, self.gains, self.run, self.run_listing = words, read, write, gains, run, run_listing
+    def __init__(self, words, read, write, gains, run=control.run, played=listing.played, put=None):
+        self.words, self.read, self.write, self.gains, self.run, self.played = words, read, write, gains, run, played
         self.answer = Answer()
         self.put = put or self.answer.out.append
-        # the controller that `generate` made
+        # the controller that was made of a design
         self.made = None
 
     def text(self, file, reader):
@@ -139,12 +150,10 @@ class Program:
 
     def usage(self):
         words = self.words
-        if not words or COUNTS.get(words[0]) != len(words) - 1:
+        if not words or len(words) - 1 not in COUNTS.get(words[0], []):
             raise Refused(2)
         names = words[1:]
-        if words[0] == "generate" and (names.count(names[2]) > 1 or names.count(names[3]) > 1):
-            raise Refused(2)
-        if words[0] == "list" and names[0] == names[1]:
+        if any(names.count(words[at]) > 1 for at in OUTPUTS.get(words[0], [])):
             raise Refused(2)
         if words[0] == "loop" and decimal(names[3], 1000000) is None or words[0] == "demo" and decimal(names[0], 2**32 - 1) is None:
             raise Refused(2)
@@ -161,40 +170,73 @@ class Program:
     def generate(self):
         d = self.text(1, model.read_design)
         plans = self.text(2, lambda data: model.read_policy(data, d))
-        c, b = generate(d, plans, self.gains)
+        self.write_made(model.choose(d, plans))
+
+    def lean(self):
+        d = self.text(1, model.read_design)
+        plans, references = (self.text(file, lambda data: model.read_policy(data, d)) for file in (2, 3))
+        faces = self.faces(d, 6)
+        choice = model.choose(d, plans, references)
+        self.check_faces(choice, faces)
+        self.write_made(choice)
+
+    def stay(self):
+        d = self.text(1, model.read_design)
+        plans = self.text(2, lambda data: model.read_policy(data, d))
+        faces = self.faces(d, 5)
+        choice = model.choose(d, plans)
+        self.check_faces(choice, faces)
+        self.write_made(choice)
+
+    def faces(self, d, file):
+        """The faces at this place among the words, and the box of disturbances after them; None where no faces are named."""
+        if len(self.words) <= file:
+            return None
+        found = self.text(file, lambda data: staying.read_faces(data, d))
+        still = [[0] * d.states] * 2
+        return found, still if len(self.words) == file + 1 else self.text(file + 1, lambda data: staying.read_shift_box(data, d.states))
+
+    def check_faces(self, choice, faces):
+        if faces:
+            staying.check(choice.design, faces[0], choice.stated_violations, *faces[1])
+
+    def write_made(self, choice):
+        c, b = made_of(choice, self.gains)
         self.made = c
-        told = report_json if self.words[4].endswith(".json") else report_text
-        for file, data in ((3, control.text_of(c)), (4, told(b))):
+        places = OUTPUTS[self.words[0]]
+        told = report_json if self.words[places[1]].endswith(".json") else report_text
+        self.write_texts(*zip(places, (control.text_of(c), told(b))))
+
+    def write_texts(self, *texts):
+        for file, data in texts:
             if not self.write(self.words[file]):
                 raise Refused(4, file)
             self.answer.written[self.words[file]] = data
 
+    def states(self, file, machine, count):
+        """The states of a file, all of which must lie in the box of a controller or a listing."""
+        rows = self.text(file, lambda data: model.read_records(data, count))
+        for entry, row in enumerate(rows, 1):
+            if control.outside(machine, row):
+                raise Refused(12, entry, 0, control.outside(machine, row))
+        return rows
+
     def solve(self):
         c = self.text(1, control.read_controller)
-        rows = self.text(2, lambda data: model.read_records(data, c.n))
-        for entry, row in enumerate(rows, 1):
-            if control.outside(c, row):
-                raise Refused(12, entry, 0, control.outside(c, row))
-        for row in rows:
+        for row in self.states(2, c, c.n):
             self.put(control.plan_line(c, row, self.run))
 
     def list(self):
-        data = listing.text_of(listing.listing_of(self.text(1, control.read_controller)))
-        if not self.write(self.words[2]):
-            raise Refused(4, 2)
-        self.answer.written[self.words[2]] = data
+        c = self.text(1, control.read_controller)
+        self.write_texts((2, listing.text_of(listing.listing_of(c))))
 
     def play(self):
         l = self.text(1, listing.read_listing)
-        rows = self.text(2, lambda data: model.read_records(data, l.n))
-        for entry, row in enumerate(rows, 1):
-            if control.outside(l, row):
-                raise Refused(12, entry, 0, control.outside(l, row))
-        for entry, row in enumerate(rows, 1):
+        for entry, row in enumerate(self.states(2, l, l.inputs), 1):
             try:
-                self.put(self.run_listing(l, row))
-            except Refused as refused:
-                raise Refused(refused.args[0], entry, *refused.args[1:])
+                self.put(listing.play_line(l, self.played(l, row)))
+            except listing.Trapped as trapped:
+                raise Refused(21, entry, *trapped.args)
 
     def loop(self):
         d = self.text(1, model.read_design)
@@ -203,11 +245,13 @@ class Program:
             if design != controller:
                 raise Refused(14, name, design, controller)
         rows = self.text(3, lambda data: model.read_records(data, c.n))
+        turns = int(self.words[4])
+        shifts = [[0] * c.n] * turns if len(self.words) == 5 else self.text(5, lambda data: staying.read_shifts(data, c.n, turns))
         if rows and control.turn_size(d, c) > LIMIT:
             raise Refused(10, "turn")
         seen = {}
         for entry, row in enumerate(rows, 1):
-            for line in control.loop_lines(d, c, entry, row, int(self.words[4]), seen, self.run):
+            for line in control.loop_lines(d, c, entry, row, shifts, seen, self.run):
                 self.put(line)
 
     def demo(self):
@@ -234,7 +278,7 @@ def main():
     def write(name):
         return name != "" and os.path.isdir(os.path.dirname(name) or ".") and not os.path.isdir(name)
 
-    said = answer(sys.argv[1:], read, write, model.exact_gains)
+    said = answer(sys.argv[1:], read, write, model.gains)
     for name, data in said.written.items():
         with open(name, "wb") as file:
             file.write(data)

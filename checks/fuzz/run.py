@@ -7,11 +7,14 @@ For each of COUNT (1000) cases the exit status, the line on standard error, stan
 determined: they are taken from the controller that the program wrote, once they are known to solve their systems. Each run of a controller is made with every
 product and partial sum traced, and all must fit its width; but a run of many steps of a controller that isn't of the kind `controller` only has its sums compared.
 
-A case is made of the seed and its number alone. --case runs one again and shows it; --kind makes all cases of that kind: generate, border, solve, controller, loop,
-demo, list, play, usage. Half of the designs are of version 2; how many of these were accepted, and how many of them have a row with a smaller exponent, the last line says. A border
+A case is made of the seed and its number alone. --case runs one again and shows it; --kind makes all cases of that kind: generate, lean, border, stay, solve, controller,
+loop, list, play, demo, usage. Of the kind `stay` the first are the worked rows that are accepted. Half of the designs are of version 2; how many of these were accepted,
+and how many of them have a row with a smaller exponent, the last line says. A border
 design's exact numbers, its enclosures, the corners of its policy in either class, or what its rows come to where they count 16 times, pass the limit by little or stay
 below it by little. Of each, the model's exact numbers must be the simulated plant's, its enclosures must hold them, no corner may have less slack or a greater cost than
 its enclosures show, and both classes are counted beside the status, and whether a design of version 2 has room for smaller exponents.
+Where `stay` is accepted, `generate` must write the same files, and no loop of 200 turns from corners of the box and random states, under disturbances in theirs, may leave it.
+A controller's own listing must put what `solve` puts.
 Two sorts of case are counted apart. A design that TOML 1.1 reads and Python's reader (1.0) doesn't must still end with a status of generate. Where a run would be
 too long for the model, its status, its line and the number of lines are compared, and not the sums.
 """
@@ -31,13 +34,20 @@ import cases
 import control
 import forms
 import listing
+import listing_cases
 import model
 import program
+import stay_cases
+import staying
 
-KINDS = ["generate"] * 26 + ["border"] * 4 + ["solve"] * 22 + ["controller"] * 14 + ["loop"] * 16 + ["list"] * 4 + ["play"] * 10 + ["usage"] * 4
+KINDS = ["generate"] * 22 + ["lean"] * 12 + ["border"] * 4 + ["stay"] * 14 + ["solve"] * 26 + ["controller"] * 18 + ["loop"] * 22 + ["list"] * 6 + ["play"] * 16 + ["usage"] * 4
 DEMO_EVERY = 2500
 # the most products that the model makes in a case, and the most in a run whose every value it traces
 MOST_PRODUCTS, MOST_TRACED = 3_000_000, 60_000
+# and the most instructions
+MOST_PLAYED = 500_000
+# of the loops of a design whose box is stayed in
+TURNS, MOST_LOOP_PRODUCTS = 200, 5_000_000
 SECOND = "a design of version 2, accepted"
 LOWERED = SECOND + ", with a row whose exponent is below the greatest"
 
@@ -47,8 +57,10 @@ class TooLong(Exception):
 
 
 class Case:
-    def __init__(self, kind, words, files):
-        self.kind, self.words, self.files = kind, words, files
+    """A command, and where there is one, another that must answer as it does."""
+
+    def __init__(self, kind, words, files, same=None):
+        self.kind, self.words, self.files, self.same = kind, words, files, same
 
 
 class Maker:
@@ -58,27 +70,43 @@ class Maker:
         self.seed, self.kind = seed, kind
         self.designs = list(cases.examples())
         self.controllers = list(cases.small_controllers(self.designs))
+        self.texts = [text for _, text in self.controllers]
+        self.held = list(stay_cases.worked())
 
     def case(self, number):
         pick = random.Random(f"{self.seed} {number}")
         kind = self.kind or ("demo" if number % DEMO_EVERY == DEMO_EVERY - 1 else pick.choice(KINDS))
+        if self.kind == "stay" and number < len(self.held):
+            return self.stay_case("r", self.held[number])
         made = getattr(self, kind)(pick)
-        if kind in ("generate", "solve", "loop", "list", "play") and pick.random() < 0.03:
+        if kind in ("generate", "lean", "stay", "solve", "loop", "list", "play") and pick.random() < 0.03:
             self.rename(pick, made)
         return made
 
     def rename(self, pick, made):
         """Gives a command another name for one of its files: a missing one, a folder, none, one in a folder that isn't there, or that of another file."""
-        at = pick.randrange(1, len(made.words))
+        at, made.same = pick.randrange(1, len(made.words)), None
         made.words[at] = pick.choice(["missing", ".", "", "no/file", pick.choice(made.words), "./" + pick.choice(made.words[1:3])])
 
     def generate(self, pick):
         design, policy = cases.design_and_policy(pick, self.designs)
         return Case("generate", ["generate", "d", "p", "c", pick.choice(["r", "r", "r.json", ".json", "r.JSON", "json"])], {"d": design, "p": policy})
 
+    def lean(self, pick):
+        design, policy = cases.border_design(pick) if pick.random() < 0.1 else cases.design_and_policy(pick, self.designs)
+        words = ["lean", "d", "p", "q", "c", pick.choice(["r", "r", "r.json"])]
+        return Case("lean", words, {"d": design, "p": policy, "q": cases.references(pick, design, policy)})
+
     def border(self, pick):
         design, policy = cases.border_design(pick)
         return Case("border", ["generate", "d", "p", "c", "r"], {"d": design, "p": policy})
+
+    def stay(self, pick):
+        return self.stay_case(pick.choice(["r", "r", "r.json"]), stay_cases.stay_texts(pick, self.held))
+
+    def stay_case(self, report, texts):
+        files = {name: text for name, text in zip("dpfw", texts) if text is not None}
+        return Case("stay", ["stay", "d", "p", "c", report, "f", *(["w"] if "w" in files else [])], files)
 
     def solve(self, pick):
         text = pick.choice(self.controllers)[1]
@@ -120,29 +148,24 @@ class Maker:
             states = cases.changed(pick, states)
         elif how < 0.75:
             turns = pick.choice(["01", "-1", "", "+1", "1000001", "1000000", " 1", "1 ", "0x1", "١", "00", "1e1"])
-        return Case("loop", ["loop", "d", "c", "s", turns], {"d": design, "c": text, "s": states})
-
-    def any_controller(self, pick):
-        return control.read_controller(pick.choice(self.controllers)[1]) if pick.random() < 0.5 else cases.random_controller(pick)[1]
+        files = {"d": design, "c": text, "s": states}
+        if pick.random() < 0.4:
+            files["v"] = stay_cases.shifts_text(pick, c.n, int(turns) if turns.isdecimal() else 1)
+            if pick.random() < 0.15:
+                files["v"] = cases.changed(pick, files["v"])
+        return Case("loop", ["loop", "d", "c", "s", turns, *(["v"] if "v" in files else [])], files)
 
     def list(self, pick):
-        text = control.text_of(self.any_controller(pick))
-        return Case("list", ["list", "c", "l"], {"c": cases.changed(pick, text) if pick.random() < 0.4 else text, **({"l": b"x"} if pick.random() < 0.3 else {})})
+        text = listing_cases.controller(pick, self.texts)[1]
+        files = {"c": cases.changed(pick, text) if pick.random() < 0.4 else text}
+        if pick.random() < 0.3:
+            files["l"] = b"an old listing\n" * pick.choice([1, 1000])
+        return Case("list", ["list", "c", "l"], files)
 
     def play(self, pick):
-        c = self.any_controller(pick)
-        made = listing.listing_of(c)
-        how = pick.random()
-        if how < 0.25:
-            made.word = pick.randrange(2, made.word + 1)
-        elif how < 0.45:
-            made.body = cases.other_body(pick, made)
-        text, states = listing.text_of(made), cases.states_text(pick, c)
-        if 0.45 <= how < 0.75:
-            text = cases.changed(pick, text)
-        elif how >= 0.75 and pick.random() < 0.5:
-            states = cases.changed(pick, states)
-        return Case("play", ["play", "l", "s"], {"l": text, "s": states})
+        text, states, of = listing_cases.listing_texts(pick, self.texts, MOST_PLAYED)
+        files = {"l": text, "s": states, **({"c": of} if of else {})}
+        return Case("play", ["play", "l", "s"], files, ["solve", "c", "s"] if of else None)
 
     def demo(self, pick):
         return Case("demo", ["demo", str(pick.choice([pick.randrange(2**32), 0, 7, 2**32 - 1, 2**31]))], {})
@@ -150,7 +173,8 @@ class Maker:
     def usage(self, pick):
         design, policy = self.designs[0]
         text = self.controllers[0][1]
-        words = pick.choice([["generate", "d", "p", "c", "r"], ["solve", "c", "s"], ["loop", "d", "c", "s", "1"], ["demo", "1"], ["list", "c", "l"], ["play", "c", "s"], []])
+        words = pick.choice([["generate", "d", "p", "c", "r"], ["solve", "c", "s"], ["loop", "d", "c", "s", "1"], ["demo", "1"], ["lean", "d", "p", "p2", "c", "r"], ["stay", "d", "p", "c", "r", "f"],
+                             ["stay", "d", "p", "c", "r", "f", "w"], ["loop", "d", "c", "s", "1", "w"], ["list", "c", "l"], ["play", "l", "s"], []])
         words = list(words)
         how = pick.randrange(4)
         if how == 0 and words:
@@ -158,13 +182,14 @@ class Maker:
         elif how == 1:
             words.insert(pick.randrange(len(words) + 1), pick.choice(["c", "1", "", "solve", "demo"]))
         elif how == 2 and words:
-            words[pick.randrange(len(words))] = pick.choice(["", "Solve", "generate", "stay", "c", "d", "01", "4294967296", "-1", "1000001", "99999999999999999999999"])
+            words[pick.randrange(len(words))] = pick.choice(["", "Solve", "generate", "stay", "list", "play", "c", "d", "01", "4294967296", "-1", "1000001", "99999999999999999999999"])
         elif words:
             words[-1] = pick.choice(["01", "-0", "4294967296", "4294967295 ", "x", "", "1000001", "d", "p", "c"])
         # (a demo that is none of a wrong usage has the program's gains, as the kind `demo` has)
         if words[:1] == ["demo"] and words[1:] in (["1"], ["1000001"]):
             words = ["demo", "1", "1"]
-        return Case("usage", words, {"d": design, "p": policy, "c": text, "s": b"0\n"})
+        l = listing.text_of(listing.listing_of(control.read_controller(text)))
+        return Case("usage", words, {"d": design, "p": policy, "p2": policy, "c": text, "s": b"0\n", "f": b"4,0,0,1\n4,0,0,0\n", "w": b"0\n", "l": l})
 
 
 def products(c):
@@ -209,8 +234,17 @@ class Runner:
         left = self.left()
         read = lambda name: case.files.get(os.path.normpath(name)) if name else None
         write = lambda name: name not in ("", ".", "./", "./.") and "no/" not in name
-        written = lambda: next((left[name] for name in map(os.path.normpath, case.words[3:4]) if name in left), None)
+        place = program.OUTPUTS.get(case.words[0] if case.words else "", (3,))[0]
+        written = lambda: next((left[name] for name in map(os.path.normpath, case.words[place : place + 1]) if name in left), None)
         wrong, status, notes = self.compare(case, ran, left, read, write, lambda choice: gains_of(choice, written()))
+        if case.same:
+            other = self.started(case.same)
+            if (other.returncode, other.stderr, other.stdout) != (ran.returncode, ran.stderr, ran.stdout):
+                wrong = f"{wrong or ''} {case.same} answers {other.returncode} {other.stderr[:200]!r} {other.stdout[:300]!r}"
+            notes = [*notes, "a listing as its controller has it"]
+        if case.kind == "stay" and status == 0 and ran.returncode == 0 and not wrong:
+            wrong, more = self.check_stayed(case, left)
+            notes = [*notes, *more]
         if case.kind == "border":
             d = model.read_design(case.files["d"])
             plans = model.read_policy(case.files["p"], d)
@@ -221,8 +255,35 @@ class Runner:
             notes = [*notes, f"a border design, {classes}, {ending(ran.stderr)}{room}"]
         return wrong, status, notes
 
+    def check_stayed(self, case, left):
+        """Of a design whose box is stayed in: `generate` writes the same, and loops stay."""
+        pick, made = random.Random(repr(case.files)), {name: left[name] for name in case.words[3:5]}
+        self.lay(case.files)
+        ran = self.started(["generate", *case.words[1:5]])
+        found = self.left()
+        if ran.returncode or {name: found.get(name) for name in made} != made:
+            return "generate writes otherwise", []
+        d, c = model.read_design(case.files["d"]), control.read_controller(made[case.words[3]])
+        files = {**case.files, "c": made[case.words[3]], "s": stay_cases.records_text(stay_cases.starts(pick, d))}
+        words = ["loop", "d", "c", "s", str(TURNS)]
+        if "w" in case.files:
+            files["v"] = stay_cases.records_text(stay_cases.shifts_within(pick, *staying.read_shift_box(files["w"], d.states), TURNS))
+            words.append("v")
+        loop = Case("stayed", words, files)
+        self.lay(files)
+        ran = self.started(words)
+        wrong, status, notes = self.compare(loop, ran, self.left(), files.get, None, None)
+        lines = TURNS * len(files["s"].splitlines())
+        if (ran.returncode, ran.stdout.count(b"\n")) != (0, lines):
+            wrong = f"{wrong or ''} of {lines} lines there are {ran.stdout.count(10)}, and the status is {ran.returncode} {ran.stderr[:200]!r}"
+        told = f"a design whose box is stayed in{', under disturbances' if 'v' in files else ''}"
+        kinds = [told] + [f"{told}, {what}" for what, holds in (("of version 2", d.version == 2), ("with several exponents", len(set(c.exps)) > 1), ("of a fine form", model.form_of(d).is_fine),
+                                                               ("of several stages", d.stages > 1)) if holds]
+        return wrong and f"loop: {wrong}", kinds + [f"its loops: {note}" for note in notes if note == "too long for the model"]
+
     def compare(self, case, ran, left, read, write, gains):
-        budget, notes = [MOST_PRODUCTS], []
+        budget, notes = [MOST_LOOP_PRODUCTS if case.kind == "stayed" else MOST_PRODUCTS], []
+        instructions = [MOST_PLAYED]
 
         def run(c, state):
             budget[0] -= products(c)
@@ -236,13 +297,13 @@ class Runner:
             notes.extend(notes_of_run(case, c, least, greatest))
             return sums
 
-        def run_listing(l, state):
-            budget[0] -= l.repeat * len(l.body)
-            if budget[0] < 0:
+        def played(l, state):
+            instructions[0] -= l.repeat * len(l.body)
+            if instructions[0] < 0:
                 raise TooLong
-            return listing.play_line(l, state)
+            return listing.played(l, state)
 
-        told = program.Program(case.words, read, write, gains, run, run_listing=run_listing)
+        told = program.Program(case.words, read, write, gains, run, played)
         try:
             said = told.go()
         except TooLong:
@@ -257,7 +318,7 @@ class Runner:
         if told.made and told.made.version == 2:
             notes += [SECOND, LOWERED] if min(told.made.exps) < told.made.s else [SECOND]
         if said.line.endswith(b"not-toml\n") and not ran.stderr.endswith(b"not-toml\n"):
-            well = ran.returncode in (0, 3, 5, 6, 7, 8, 9, 10, 11, 12, 13, 14)
+            well = ran.returncode in (0, 3, 5, 6, 7, 8, 9, 10, 11, 12, 13, 14, 16, 17)
             return None if well else f"status {ran.returncode}", ran.returncode, ["read by TOML 1.1 alone"]
         wrong = []
         if ran.returncode != said.status:
@@ -364,7 +425,7 @@ def main():
     parser.add_argument("--cases", type=int, default=1000)
     parser.add_argument("--seed", type=int, default=1)
     parser.add_argument("--jobs", type=int, default=os.cpu_count())
-    parser.add_argument("--kind", choices=["generate", "border", "solve", "controller", "loop", "demo", "list", "play", "usage"])
+    parser.add_argument("--kind", choices=sorted({*KINDS, "demo"}))
     parser.add_argument("--case", type=int)
     options = parser.parse_args()
     options.program = os.path.abspath(options.program)

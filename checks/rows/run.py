@@ -4,7 +4,8 @@
     checks/rows/run.py PROGRAM [--valgrind]
 
 With --valgrind each runs under valgrind's memory checker, which must have nothing to report: no invalid read or write, no branch on what was never written, no
-block that is lost. The rows of fine designs, whose exact numbers pass 2^126, and of fine corners have the numbers of the model in ../fuzz.
+block that is lost. The rows of fine designs, whose exact numbers pass 2^126, of fine corners, of other faces than the worked ones and of the examples' listings have the
+numbers of the model in ../fuzz.
 """
 import contextlib
 import os
@@ -12,139 +13,16 @@ import subprocess
 import sys
 import tempfile
 
+import lean_rows
+import listing_rows
+import stay_rows
+from texts import (AXIS, BASE, COAST, FIRST, GENERATE, JSON, LIMITS, POLICY, REPORT, SOLVE, costs, in_second, limits, plant_over, put, refused, steep, sub, targets,
+                   violations, written)
+
 PROGRAM = os.path.abspath(sys.argv[1])
 VALGRIND = "--valgrind" in sys.argv[2:]
-LIMITS = "den = 4\nstage = [[0, 4, 4], [0, -4, 4]]\nfinal = [[4, 1]]\n"
-TARGETS = "den = 1\nviolation = 16\ngap = 1\n"
-BASE = f"""version = 1
-states = 1
-inputs = 1
-stages = 1
-[plant]
-den = 1
-a = [[1]]
-b = [[1]]
-[cost]
-den = 1
-row_den = 1
-input = [1]
-stage = [[1, 0, 1]]
-final = []
-[limits]
-{LIMITS}[box]
-grid = 0
-lo = [0]
-hi = [1]
-[targets]
-{TARGETS}"""
-POLICY = "1,0\n8,-7\n"
-FIRST = """mpc-controller 1
-size 1 1 1 3
-bits 10 0 1 26
-steps 4
-clamp 32768
-words 6
-lo 0
-hi 1
-P 512
-T 0
-W 256 -256 256
-G 1024
-G -1024
-G 1024
-E 0
-E 0
-E 1024
-b 1024 1024 256
-end
-"""
-REPORT = """mpc-report 1
-margin 8192 65536
-cost 1
-multiplier 8
-step 1
-steps 4
-bits 10
-width 26
-words 6
-violation 8850854903808 1099511627776
-gap 438095052800 1099511627776
-undercut 70806839230464 1099511627776
-end
-"""
-JSON = '{"bits":"10","cost":"1","gap":"438095052800","margin":"8192","multiplier":"8","step":"1","steps":"4","undercut":"70806839230464","version":"1",' \
-    '"violation":"8850854903808","width":"26","words":"6"}\n'
-AXIS = """version = 1
-states = 2
-inputs = 1
-stages = 5
-[plant]
-den = 8
-a = [[8, 4], [0, 8]]
-b = [[1], [4]]
-[cost]
-den = 1
-row_den = 1
-input = [1]
-stage = [[1, 0, 0, 1], [0, 1, 0, 1]]
-final = []
-[limits]
-den = 1
-stage = [[0, 0, 1, 4], [0, 0, -1, 4], [1, 0, 0, 8], [-1, 0, 0, 8], [0, 1, 0, 2], [0, -1, 0, 2]]
-final = [[1, 0, 8], [-1, 0, 8], [0, 1, 2], [0, -1, 2]]
-[box]
-grid = 4
-lo = [-64, -16]
-hi = [64, 16]
-[targets]
-den = 16
-violation = 1
-gap = 16
-"""
-COAST = "1,0,0,0,0,0\n" * 4
-GENERATE = ["generate", "d", "p", "c", "r"]
-SOLVE = ["solve", "c", "s"]
-
-
-def sub(text, *pairs):
-    for old, new in pairs:
-        assert text.count(old) == 1, (old, text.count(old))
-        text = text.replace(old, new)
-    return text
-
-
-def targets(den, violation, gap):
-    return TARGETS, f"den = {den}\nviolation = {violation}\ngap = {gap}\n"
-
-
-def steep(n):
-    return sub(BASE, (LIMITS, f"den = 1\nstage = [[0, {n}, {n}]]\nfinal = []\n"), targets(1, 1048576, 1))
-
-
-def limits(den, stage, final=()):
-    return LIMITS, f"den = {den}\nstage = {stage}\nfinal = {[*final]}\n"
-
-
-def costs(den, row_den, weight, stage):
-    return "den = 1\nrow_den = 1\ninput = [1]\nstage = [[1, 0, 1]]\n", f"den = {den}\nrow_den = {row_den}\ninput = [{weight}]\nstage = {stage}\n"
-
-
-def plant_over(stages, den, a, b):
-    """More stages, and a plant of one state."""
-    return ("stages = 1\n", f"stages = {stages}\n"), ("den = 1\na = [[1]]\nb = [[1]]", f"den = {den}\na = [[{a}]]\nb = [[{b}]]")
-
-
-def refused(words, files, status, line):
-    return words, files, status, "", f"error {status} {line}\n", {}, {}
-
-
-def written(design, policy, **lines):
-    """A design that is accepted, with lines of the report and the controller."""
-    return GENERATE, {"d": design, "p": policy}, 0, "", "", {}, lines
-
-
-def put(words, files, out):
-    return words, files, 0, out, "", {}, {}
+# where the words name the files that a command writes
+OUTPUTS = {"generate": (3, 4), "lean": (4, 5), "stay": (3, 4), "list": (2,)}
 
 
 def rows():
@@ -244,15 +122,6 @@ def version_rows():
     six = "mpc-controller 2\nsize 6 1 1 1\nbits 0 0 1 16\nsteps 2\nclamp 9\nwords 9\nexps 0\nlo 0 0 0 0 0 0\nhi 1 2 3 4 5 6\nP 1 2 3 4 5 6\nT 0\nW -1\nG -1\nE 1 1 1 1 1 1\nb 1\nend\n"
     yield "version 2: six states", put(SOLVE, {"c": six, "s": "1,2,3,4,5,6\n0,0,0,0,0,1\n"}, "2 -178\n2 -8\n")
     yield "version 2: a loop", put(["loop", "d", "c", "s", "2"], {"d": BASE, "c": second("1 1 0"), "s": "1"}, "1 1 1 4096 -2372\n1 2 0 4096 0\n")
-
-
-def in_second(text):
-    """A design of version 2."""
-    return sub(text, ("version = 1", "version = 2"))
-
-
-def violations(*numbers):
-    return [f"violation {row} {number} 1099511627776" for row, number in enumerate(numbers, 1)]
 
 
 def second_rows():
@@ -422,10 +291,14 @@ def corner_rows():
 
 def full_rows():
     """The name, the row, and the file that the output goes to, if any: what is written or printed to a full device fails after it was opened."""
-    made, read = {"d": BASE, "p": POLICY}, {"d": BASE, "c": FIRST, "s": "1\n"}
+    made, read = {"d": BASE, "p": POLICY}, {"d": BASE, "c": FIRST, "s": "1\n", "v": "0\n", "l": listing_rows.LISTING}
     yield "a controller to a full device", (["generate", "d", "p", "/dev/full", "r"], made, 4, "", "error 4 write-fault 3\n", {}, {}), None
     yield "a report to a full device", (["generate", "d", "p", "c", "/dev/full"], made, 4, "", "error 4 write-fault 4\n", {"c": FIRST}, {}), None
-    for words in (SOLVE, ["loop", "d", "c", "s", "1"], ["demo", "7"]):
+    held = {"d": stay_rows.HELD, "p": POLICY, "f": stay_rows.FACES}
+    for at, words in ((3, ["stay", "d", "p", "/dev/full", "r", "f"]), (4, ["stay", "d", "p", "c", "/dev/full", "f"])):
+        yield f"stay to a full device at {at}", (words, held, 4, "", f"error 4 write-fault {at}\n", {} if at == 3 else {"c": stay_rows.CONTROLLER}, {}), None
+    yield "a listing to a full device", (["list", "c", "/dev/full"], read, 4, "", "error 4 write-fault 2\n", {}, {}), None
+    for words in (SOLVE, ["loop", "d", "c", "s", "1"], ["loop", "d", "c", "s", "1", "v"], ["demo", "7"], ["play", "l", "s"]):
         yield f"the output of {words[0]} to a full device", (words, read, 4, None, "error 4 write-fault 0\n", {}, {}), "/dev/full"
 
 
@@ -462,14 +335,15 @@ def wrong(words, files, status, out, line, whole, lines, output=None):
     missing = {name: [it for it in some if it not in texts.get(name, "").split("\n")] for name, some in lines.items()}
     found += [f"{name or 'output'} lacks {some}" for name, some in missing.items() if some]
     wanted = {**files, **whole}
-    wanted |= {name: left.get(name) for name in ("c", "r") if words[:1] == ["generate"] and status == 0 and name not in wanted}
+    outputs = OUTPUTS.get("".join(words[:1]), ()) if status == 0 else ()
+    wanted |= {words[at]: left.get(words[at]) for at in outputs if words[at] not in wanted}
     found += [f"file {name} {str(left.get(name))[:300]!r}" for name in {*wanted, *left} if wanted.get(name) != left.get(name)]
     return found
 
 
 def main():
     failed = count = 0
-    own = [(name, row, None) for name, row in [*rows(), *fine_rows(), *corner_rows(), *version_rows(), *second_rows()]]
+    own = [(name, row, None) for name, row in [*rows(), *fine_rows(), *corner_rows(), *version_rows(), *second_rows(), *lean_rows.rows(), *stay_rows.rows(), *listing_rows.rows()]]
     for name, row, output in [*own, *full_rows()]:
         count += 1
         found = wrong(*row, output=output)

@@ -57,11 +57,31 @@ def multiplier_of(margin, cost):
     return max(1, ceil(Fraction(2**16 * cost, margin))) if margin > 0 else None
 
 
+def lean_multiplier_of(design, margin, excess):
+    """R of a lean controller: the excess over the sum of the margin and the violation target, rounded up, and at least 1; None without a margin."""
+    return max(1, ceil(Fraction(excess, margin + 2**16 * design.violation // design.target_den))) if margin > 0 else None
+
+
 def half_target(design):
     """Half the violation target over 2^40."""
     return 2**39 * design.violation // design.target_den
 
 
-def steps_of(design, step, multiplier):
-    """K = ceil(2^(s+41) R / Tv), Tv half the violation target over 2^40."""
-    return ceil(Fraction(2 ** (step + 41) * multiplier, half_target(design)))
+def step_share(design, lean=False):
+    """How much of the violation target steps may take, over 2^40: half; and 15 sixteenths with a lean controller."""
+    return 15 * 2**36 * design.violation // design.target_den if lean else half_target(design)
+
+
+def rounding_share(design, lean=False):
+    """And how much rounding may."""
+    return 2**36 * design.violation // design.target_den if lean else half_target(design)
+
+
+def steps_of(design, step, multiplier, lean=False):
+    """K = ceil(2^(s+41) R / Tv), Tv the steps' share of the violation target over 2^40."""
+    return ceil(Fraction(2 ** (step + 41) * multiplier, step_share(design, lean)))
+
+
+def cost_limit(design, multiplier, lean=False):
+    """What the errors of a step may cost at most, over 2^40."""
+    return min(2**40 * design.gap // design.target_den, multiplier * rounding_share(design, lean))

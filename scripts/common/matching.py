@@ -7,8 +7,9 @@ from fractions import Fraction
 
 from common import sizes
 from common.condensed import Condensed, factor, solve
-from common.corners import corners_of, margin_of, multiplier_of, steps_of
+from common.corners import corners_of, lean_multiplier_of, margin_of, multiplier_of, steps_of
 from common.design_text import Design, plain
+from common.excess import excesses_of
 from common.libraries import Refusal
 from common.texts import Controller
 
@@ -42,7 +43,8 @@ def report_difference(report: dict, design: Design) -> str | None:
     pairs = [("version", report["version"], design.version), ("number of words", report["words"], words_of(design))]
     if report["violations"]:
         pairs.append(("number of rows", len(report["violations"]), design.rows))
-    pairs.append((f"K, at R {report['multiplier']} and step 2^-{report['step']},", report["steps"], steps_of(design, report["step"], report["multiplier"])))
+    steps = steps_of(design, report["step"], report["multiplier"], report["lean"])
+    pairs.append((f"K, at R {report['multiplier']} and step 2^-{report['step']},", report["steps"], steps))
     found = first(pairs, "design")
     if found:
         return found
@@ -52,10 +54,15 @@ def report_difference(report: dict, design: Design) -> str | None:
     return None
 
 
-def policy_difference(report: dict, design: Design, policy: list) -> str | None:
-    """Of a report and a policy: what the plans show is exact."""
+def policy_difference(report: dict, design: Design, policy: list, reference: list | None = None) -> str | None:
+    """Of a report and a policy, and of the reference plans of a lean report where these are known: what the plans show is exact."""
     margin, cost = margin_of(corners_of(design, policy))
-    told = [("margin", plain(report["margin"]), plain(Fraction(margin, 2**16))), ("cost", report["cost"], cost), ("R", report["multiplier"], multiplier_of(margin, cost))]
+    told: list[tuple[str, object, object]] = [("margin", plain(report["margin"]), plain(Fraction(margin, 2**16)))]
+    if not report["lean"]:
+        told += [("cost", report["cost"], cost), ("R", report["multiplier"], multiplier_of(margin, cost))]
+    elif reference:
+        excess = max(0, *excesses_of(design, sizes.form_of(design), policy, reference)[0])
+        told += [("excess", int(report["excess"] * 2**16), excess), ("R", report["multiplier"], lean_multiplier_of(design, margin, excess))]
     return first(told, "policy")
 
 
@@ -106,14 +113,15 @@ def gain_difference(controller: Controller, form: Condensed) -> str | None:
     return None
 
 
-def loop_difference(loops: dict, design: Design) -> str | None:
-    """Of loops, record -> list of (state, inputs): each next state is the nearest on the grid to what the plant makes of the one before."""
+def loop_difference(loops: dict, design: Design, shifts: list | None = None) -> str | None:
+    """Of loops, record -> list of (state, inputs): each next state is the nearest on the grid to what the plant makes of the one before, and what is added in that turn."""
     scale = 2**design.grid
     for record, loop in loops.items():
         for turn, ((state, inputs), (after, _)) in enumerate(zip(loop, loop[1:]), 1):
             now = [*state, *inputs]
             for i, (a, b) in enumerate(zip(design.a, design.b)):
-                wanted = scale * sum(f * v for f, v in zip([*a, *b], now)) / design.plant_den
+                shift = shifts[turn - 1][i] if shifts and turn <= len(shifts) else 0
+                wanted = scale * sum(f * v for f, v in zip([*a, *b], now)) / design.plant_den + shift
                 if abs(wanted - scale * after[i]) > NEAREST:
                     name = design.name("state", i + 1).word
                     return f"after turn {turn} of start {record} its plant goes to {name} {plain(wanted / scale)}, and the next line says {plain(after[i])}"

@@ -39,6 +39,7 @@ Validator = jsonschema.validators.extend(
 
 NUMBER = {"type": "number", "minimum": -GREATEST, "maximum": GREATEST, "expected": f"a number of at most {GREATEST:g}"}
 POSITIVE = {"type": "number", "minimum": LEAST, "maximum": GREATEST, "expected": f"a number above 0, from {LEAST:g} to {GREATEST:g}"}
+PART = {"type": "number", "minimum": 0, "maximum": GREATEST, "expected": f"a number from 0 to {GREATEST:g}"}
 BOUND = {"type": "bound", "expected": f"a number of at most {GREATEST:g}, or inf for no limit"}
 WORD = {"type": "string", "pattern": WORDS, "expected": "a name of at most 60 characters, without a comma"}
 FLAG = {"type": "boolean", "expected": "true or false"}
@@ -69,6 +70,7 @@ def schema_of(version: int, n: int | None, p: int | None, held: int, plant_alone
     and no box are needed."""
     states, inputs = list_of(NUMBER, n, "numbers, one for each state"), list_of(NUMBER, p, "numbers, one for each input")
     sizes = lambda count, of: list_of(POSITIVE, count, f"numbers above 0, one for each {of}")
+    parts = list_of(PART, n, "numbers of at least 0, one for each state")
     names = lambda count, of: list_of(WORD, count, f"names, one for each {of}")
     helds = list_of(NUMBER, held, "numbers, one for each held state")
     cost_row = table_of({"state": states, "held": helds, "last": inputs, "target": NUMBER, "weight": POSITIVE}, ("weight",), "a table as { state = [..], weight = .. }")
@@ -100,7 +102,7 @@ def schema_of(version: int, n: int | None, p: int | None, held: int, plant_alone
             "held": tables_of(table_of(still, ("hi",), "a table with hi"), STATES[version], "held states"),
             "limit": tables_of(table_of(limit, ("tolerance",), "a table with bound or least, and tolerance"), ROWS, "limits"),
             "cost": table_of({"input": sizes(p, "input"), "rows": tables_of(cost_row, ROWS, "rows"), "final": tables_of(cost_row, ROWS, "rows")}, ("input",)),
-            "box": table_of({"hi": states, "lo": states, "last": sizes(p, "input"), "grid": whole_from(0, 24)}, ("hi",)),
+            "box": table_of({"hi": states, "lo": states, "last": sizes(p, "input"), "grid": whole_from(0, 24), "stay": parts, "disturbed": parts}, ("hi",)),
         },
         ("period", "a", "b") + (() if plant_alone else ("cost", "box")),
     )
@@ -226,8 +228,9 @@ def limit_faults(model: dict) -> list[str]:
             if any(factor and l not in changed(model) for l, factor in enumerate(row.get("last", []))):
                 out.append(f"cost.{key}[{number}].last: no such key here, since the last inputs are no states: plan = 'changes', delay = 1 or a limit on a change makes them so")
     rows = sum(math.isfinite(limit.get("bound", math.inf)) + math.isfinite(limit.get("least", -math.inf)) for limit in model.get("limit", []))
-    if rows > ROWS:
-        out.append(f"limit: at most {ROWS} sides are expected, above and below, and {rows} stand there")
+    ends = 2 * sum(map(bool, model.get("box", {}).get("stay", [])))
+    if rows + ends > ROWS:
+        out.append(f"limit: at most {ROWS} sides are expected, above and below, and {rows} stand there" + f", beside {ends} ends of the box" * bool(ends))
     if model.get("plan") == "changes" and model.get("delay", 0):
         out.append("delay: 0 is expected where changes are planned")
     box = model.get("box", {"hi": []})
@@ -236,6 +239,10 @@ def limit_faults(model: dict) -> list[str]:
             out.append(f"box.lo[{i + 1}]: at most hi is expected, {shown(high)}, and {shown(box['lo'][i])} stands there")
         if "lo" not in box and high < 0:
             out.append(f"box.hi[{i + 1}]: at least 0 is expected where lo is left out, and {shown(high)} stands there")
+        inside = box.get("stay", box["hi"])[i] and box.get("stay", [0.0] * len(box["hi"]))[i] + box.get("disturbed", [0.0] * len(box["hi"]))[i]
+        half = (high - box["lo"][i]) / 2 if "lo" in box else high
+        if inside >= half and inside > 0:
+            out.append(f"box.stay[{i + 1}]: less than half of the box is expected, {shown(half)}, with what is disturbed, and {shown(inside)} stands there")
     for number, still in enumerate(model.get("held", []), 1):
         if still.get("lo", -still["hi"]) > still["hi"]:
             out.append(f"held[{number}].lo: at most hi is expected, {shown(still['hi'])}, and {shown(still.get('lo', -still['hi']))} stands there")

@@ -46,6 +46,8 @@
     hi = [1.0, 125.0]                            # lo is -hi where it is left out
     last = [16.0]                                # of last inputs, where these are states; left out: their limits and tolerances
     grid = 2
+    stay = [0.125, 0.0]                          # no loop is to leave the box: each next state is limited, so much inside its ends, and may exceed that by as much at most. 0: no such limit
+    disturbed = [0.0, 0.0]                       # by how much a next state is moved from outside at most: these limits are so much further inside
 
 The same keys may stand in a .json. In place of a and b there may be `plant = "FILE"`, beside the model: a .mat with variables A and B, or a struct of them, or a .json, each
 with Ts or dt where it is sampled.
@@ -90,6 +92,7 @@ class Model:
         self.planned_names = [(f"change of {word}", unit) for word, unit in self.input_names] if self.by_changes else self.input_names
         self.names = self.state_names(turn.get("names", t.get("states", [""] * self.own)))
         self.lo, self.hi = self.box()
+        self.stay, self.disturbed = (list(map(float, t.get("box", {}).get(key, [0.0] * self.own))) for key in ("stay", "disturbed"))
         with numpy.errstate(all="ignore"):
             self.sample(numpy.array(t["a"], float), numpy.array(t["b"], float))
         units = t.get("units", {})
@@ -171,6 +174,11 @@ class Model:
         a, b = self.scaled()
         if not max(abs(a).max(), abs(b).max()) <= NUMERATOR:
             refuse(["units: units are expected in which no number of the plant is above 2^31"])
+
+    def ends(self) -> tuple[list[int], list[int]]:
+        """The box over 2^grid in the design's units: its least and its greatest values."""
+        grid = int(self.text.get("box", {}).get("grid", 4))
+        return tuple([int(round(v / u * 2**grid)) for v, u in zip(values, self.state_units)] for values in (self.lo, self.hi))
 
     def scaled(self) -> tuple[numpy.ndarray, numpy.ndarray]:
         """A and B in the design's units."""

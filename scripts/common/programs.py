@@ -73,19 +73,19 @@ class Programs:
         return float(cost_of(self.design, [float(v) for v in state], [float(v) for v in plan]))
 
 
-def exact_loop(design: Design, state: list, turns: int, programs: Programs | None = None) -> list[tuple[numpy.ndarray, numpy.ndarray]]:
-    """The closed loop with the best plan of each turn from a grid state, each next state rounded to the grid as `loop` does: (state, input) a turn, as floats."""
+def exact_loop(design: Design, state: list, turns: int, programs: Programs | None = None, shifts: list | None = None) -> list[tuple[numpy.ndarray, numpy.ndarray]]:
+    """The closed loop with the best plan of each turn from a grid state, each next state rounded to the grid as `loop` does, and then shifted: (state, input) a turn, as floats."""
     programs = programs or Programs(design)
     a, b = numpy.array(design.a) / design.plant_den, numpy.array(design.b) / design.plant_den
     scale, out = 2**design.grid, []
-    for _ in range(turns):
+    for turn in range(turns):
         now = numpy.array(state) / scale
         plan = programs.best(now)
         if plan is None:
             plan = programs.unlimited(now)
         inputs = plan[: design.inputs]
         out.append((now, inputs))
-        state = numpy.floor((a @ now + b @ inputs) * scale + 0.5)
+        state = numpy.floor((a @ now + b @ inputs) * scale + 0.5) + (shifts[turn] if shifts else 0)
     return out
 
 

@@ -84,7 +84,7 @@ def controller_of(text):
 
 def report_of(text):
     """The numbers of a report, text or JSON, by its words: margin over 2^16, the bounds over 2^40, as fractions. `violations` has the one of each row in version 2,
-    and nothing in version 1, where all are `violation`."""
+    and nothing in version 1, where all are `violation`. A lean controller has an excess, over 2^16, and no cost; `lean` says which."""
     if text.lstrip().startswith("{"):
         told = json.loads(text)
         numbers, rows = {key: int(value) for key, value in told.items() if isinstance(value, str)}, told.get("violations", [])
@@ -93,7 +93,10 @@ def report_of(text):
         numbers = {word: int(number) for word, number, *_ in lines} | {"version": int(lines[0][1])}
         rows = [row[2] for row in lines if row[0] == "violation"] if numbers["version"] > 1 else []
     violations = [Fraction(int(number), SCALE) for number in rows]
-    out = {key: numbers[key] for key in ["version", *REPORT_LINES]} | {"violations": violations, "margin": Fraction(numbers["margin"], 2**16)}
+    lean = "excess" in numbers
+    out = {key: numbers[key] for key in ["version", *REPORT_LINES] if key != "cost" or not lean}
+    out |= {"lean": lean, "violations": violations, "margin": Fraction(numbers["margin"], 2**16)}
+    out |= {"excess": Fraction(numbers["excess"], 2**16)} if lean else {}
     out |= {key: Fraction(numbers[key], SCALE) for key in ("violation", "gap", "undercut")}
     return out | {"violation": max(violations)} if violations else out
 

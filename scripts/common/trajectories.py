@@ -27,3 +27,10 @@ def slacks_of(design, state, plan):
     """The slack in each limit row, in the plan's order; a negative one is a limit that is exceeded."""
     states, p = trajectory(design, state, plan), design.inputs
     return [(row[-1] - dot(row[:-1], states[k] + list(plan[k * p : (k + 1) * p]))) / Fraction(design.limit_den) for row, k in design.limits]
+
+
+def next_state(design, state, inputs):
+    """The nearest grid state to what the plant makes of these, over `2^grid`, ties upward."""
+    now, scale = [*state, *inputs], 2**design.grid
+    exact = [scale * sum(f * v for f, v in zip([*a, *b], now)) / design.plant_den for a, b in zip(design.a, design.b)]
+    return [int((2 * v + 1) // 2) for v in exact]

@@ -3,20 +3,30 @@ import os
 import re
 
 TOP = os.path.dirname(os.path.dirname(os.path.dirname(os.path.realpath(__file__))))
-LISTED = re.compile(r"  mpc ([a-z]+)((?: [A-Z]+)*)(?:  |$)")
+LISTED = re.compile(r"  mpc ([a-z]+)((?: [A-Z]+)*)((?: \[[A-Z]+\])*)(?:  |$)")
 # what isn't the name of a file
 NUMBERS = ("NUMBER", "TURNS")
 # the commands of the launcher, in Python
 OWN = ("explain", "design")
 
 
-def commands() -> dict[str, list[str]]:
-    """The program's commands, each with its arguments."""
+def listed() -> list[re.Match]:
+    """The lines of the program's commands."""
     with open(os.path.join(TOP, "docs", "help.txt"), encoding="utf-8") as file:
         found = [LISTED.match(line.rstrip("\n")) for line in file]
-    return {line[1]: line[2].split() for line in found if line and line[1] not in OWN}
+    return [line for line in found if line and line[1] not in OWN]
+
+
+def commands() -> dict[str, list[str]]:
+    """The program's commands, each with the arguments that it needs."""
+    return {line[1]: line[2].split() for line in listed()}
+
+
+def optional(command: str) -> list[str]:
+    """The arguments that a command may have besides."""
+    return next((re.findall("[A-Z]+", line[3]) for line in listed() if line[1] == command), [])
 
 
 def files_of(command: str) -> list[str]:
     """What the files of a command are called, in the order of its arguments."""
-    return [word.lower() for word in commands().get(command, []) if word not in NUMBERS]
+    return [word.lower() for word in commands().get(command, []) + optional(command) if word not in NUMBERS]

@@ -7,7 +7,7 @@ import unittest
 
 from common.libraries import PACKAGES, missing
 from common.model_text import model_text
-from tests.worked import FIRST, SIX, TOP, folder_with
+from tests.worked import EXAMPLES, FIRST, SIX, TOP, folder_with
 
 LACKING = missing(*PACKAGES)
 if not LACKING:
@@ -84,6 +84,15 @@ class Loops(unittest.TestCase):
         self.assertRegex(changed.names[0][0], "^position in [0-9]+ ms$")
         self.assertGreater(changed.to[0][1], 0)
 
+    def test_names_of_new_coordinates(self):
+        name = lambda text, time: coordinates.name_of(Model(text), 0, 1, time)
+        self.assertEqual((name(MASS, 0.5), name(MASS, 2.5)), ("position in 500 ms m", "position in 2.5 s m"))
+        ahead = MASS + "[coordinates]\nrows = [[1.0, 0.25], [0.0, 1.0]]\nnames = ['soon m', 'speed m/s']\n"
+        self.assertEqual((name(ahead, 0.5), name(ahead, -0.5)), ("position in 750 ms m", "soon and -0.5 speed m"))
+        other = MASS.replace("a = [[0.0, 1.0]", "a = [[0.0, 2.0]")
+        self.assertEqual((name(other, 0.5), name("sampled = true\n" + MASS, 0.5)), ("position and 0.5 speed m", "position and 0.5 speed m"))
+        self.assertEqual(name(MASS.replace('states = ["position m", "speed m/s"]\n', ""), 0.5), "x1 in 500 ms units")
+
     def test_a_box_that_is_kept(self):
         model = Model(MASS.replace("a = [[0.0, 1.0], [0.0, 0.0]]", "a = [[-2.0, 0.1], [0.0, -2.0]]"))
         choice = coordinates.search(model, draft(model), 30)
@@ -117,13 +126,36 @@ class WholeWay(unittest.TestCase):
         self.assertEqual((got.returncode, got.stderr), (0, ""), got.stdout)
         self.assertEqual(sorted(os.listdir(made)), sorted(design.MADE))
         commands = [line for line in got.stdout.splitlines() if line.startswith("$ ")]
-        for step in ("coordinates.py", "draft.py", "policy.py", "mpc generate", "states.py", "mpc loop", "exact_loop.py", "plot.py", "judge.py", "mpc explain"):
+        for step in ("coordinates.py", "draft.py", "policy.py", "mpc lean", "states.py", "mpc loop", "exact_loop.py", "plot.py", "judge.py", "mpc explain"):
             self.assertTrue(any(step in command for command in commands), step)
         # each is a command that can be run by hand
         again = subprocess.run(commands[-1][2:], shell=True, capture_output=True, text=True)
         self.assertEqual((again.returncode, again.stderr), (0, ""))
         with open(os.path.join(made, "judged.txt"), encoding="utf-8") as file:
-            self.assertIn("at 8 states", file.read())
+            self.assertRegex(file.read(), "at 8 states(.|\n)*of what is printed that is [0-9.]+ % of the violation")
+        by_cost = os.path.join(folder, "by_cost")
+        got = subprocess.run([os.path.join(TOP, "mpc"), "design", paths["model"], by_cost, "--generate", *words], capture_output=True, text=True)
+        self.assertEqual((got.returncode, got.stderr), (0, ""), got.stdout)
+        self.assertEqual(sorted(os.listdir(by_cost)), sorted(set(design.MADE) - {"reference.csv"}))
+        self.assertIn("mpc generate", got.stdout)
+
+    def test_asks_to_stay(self):
+        _, paths = folder_with(self, plain=MASS, stays=MASS + "stay = [0.1, 0.0]\n", bad=MASS.replace("period = 0.2", "period = -1"))
+        self.assertEqual([design.asks_to_stay(paths[name]) for name in ("plain", "stays", "bad")], [False, True, False])
+
+    @unittest.skipUnless(os.path.exists(os.path.join(TOP, "crates/mpc_cli/out/mpc_cli")), "the program isn't built")
+    def test_a_box_that_no_loop_leaves(self):
+        folder, _ = folder_with(self)
+        made, model = os.path.join(folder, "made"), os.path.join(EXAMPLES, "motor", "stay", "model.toml")
+        got = subprocess.run([os.path.join(TOP, "mpc"), "design", model, made, "--turns", "5", "--states", "0", "--random", "0"], capture_output=True, text=True)
+        self.assertEqual((got.returncode, got.stderr), (0, ""), got.stdout)
+        self.assertEqual(sorted(os.listdir(made)), sorted(design.MADE + design.STAYS))
+        self.assertIn("as it is: the faces hold", got.stdout)
+        for name in design.STAYS + ["fitted.toml"]:
+            with open(os.path.join(made, name), encoding="utf-8") as one, open(os.path.join(os.path.dirname(model), name.replace("fitted", "model")), encoding="utf-8") as other:
+                self.assertEqual(one.read(), other.read(), name)
+        both = subprocess.run([sys.executable, os.path.join(TOP, "scripts", "design.py"), model, made, "--stay", "--as-it-is"], capture_output=True, text=True)
+        self.assertEqual(both.returncode, 2)
 
 
 if __name__ == "__main__":

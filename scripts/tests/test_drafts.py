@@ -97,6 +97,18 @@ class Drafts(unittest.TestCase):
         second.version, second.cost_den, second.input_weights, second.stage_cost, second.gap = first.version, first.cost_den, first.input_weights, first.stage_cost, first.gap
         self.assertEqual(second, first)
 
+    def test_lean_step_in_version_2(self):
+        sides = "".join(f"[[limit]]\ninput = [{side}]\nbound = 0.5\ntolerance = 0.25\n" for side in (1.0, -1.0))
+        model = models.Model("version = 2\n" + DOUBLE + sides + "[cost]\ninput = [1.0]\nrows = [{ state = [1.0, 0.0], weight = 1.0 }]\n[box]\nhi = [2.0, 0.5]\n")
+        made = draft.drafted(model, lean=True).design
+        step = draft.lean_step(draft.draft(model))
+        self.assertTrue(0.98 < draft.curvature(made) / 2**step <= 1)
+        # where R is a whole number already above ten, it loses little with the greatest step
+        heavy = draft.draft(model)
+        heavy.stage_cost[0][-1] *= 10**4
+        heavy.input_weights[0] *= 10**4
+        self.assertEqual(draft.lean_step(heavy), 4)
+
     def test_sizes_by_version(self):
         six = f"period = 1.0\nstages = 3\na = {[[0.0] * 6] * 6}\nb = {[[1.0]] * 6}\n"
         with self.assertRaisesRegex(ValueError, "version 1 has at most 4 states and 20 stages: version = 2 has more"):
@@ -215,7 +227,7 @@ class Libraries(unittest.TestCase):
     def test_every_script_with_libraries_has_help(self):
         import subprocess
 
-        for name in ("discretise", "draft", "policy", "exact_loop", "plot", "judge", "explain"):
+        for name in ("discretise", "draft", "policy", "exact_loop", "plot", "judge", "explain", "faces", "staying", "disturbances", "disturbed_loop", "cells"):
             got = subprocess.run([sys.executable, os.path.join(TOP, "scripts", name + ".py"), "--help"], capture_output=True, text=True)
             self.assertEqual((got.returncode, len(got.stdout) > 200), (0, True), name)
 

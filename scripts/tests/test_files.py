@@ -8,7 +8,7 @@ import unittest
 from common import arguments, files, matching
 from common.design_text import design_of
 from common.libraries import PACKAGES, Refusal, missing
-from tests.worked import AXIS, FIRST, FIRST_CONTROLLER, FIRST_POLICY, FIRST_REPORT, SECOND, SECOND_CONTROLLER, SECOND_REPORT, TOP, folder_with
+from tests.worked import AXIS, FIRST, FIRST_CONTROLLER, FIRST_LEAN_CONTROLLER, FIRST_LEAN_REPORT, FIRST_POLICY, FIRST_REFERENCE, FIRST_REPORT, SECOND, SECOND_CONTROLLER, SECOND_REPORT, TOP, folder_with
 from common.texts import controller_of, loop_lines_of, records_of, report_of
 
 LACKING = missing(*PACKAGES)
@@ -106,7 +106,7 @@ class Others(unittest.TestCase):
     """What is of another design, by what differs."""
 
     def test_its_own(self):
-        for design, report, controller in ((FIRST, FIRST_REPORT, FIRST_CONTROLLER), (SECOND, SECOND_REPORT, SECOND_CONTROLLER)):
+        for design, report, controller in ((FIRST, FIRST_REPORT, FIRST_CONTROLLER), (SECOND, SECOND_REPORT, SECOND_CONTROLLER), (FIRST, FIRST_LEAN_REPORT, FIRST_LEAN_CONTROLLER)):
             design, report, controller = design_of(design), report_of(report), controller_of(controller)
             self.assertIsNone(matching.report_difference(report, design))
             self.assertIsNone(matching.policy_difference(report, design, records_of(FIRST_POLICY)))
@@ -200,6 +200,12 @@ class Commands(unittest.TestCase):
             with open(paths[name], "a") as out:
                 self.refused(2, "standard output is the same file as FILE", "explain", paths["r"], paths["p"], stdout=out, stderr=subprocess.PIPE)
 
+    def test_explain_takes_references_after_their_policy(self):
+        _, p = folder_with(self, d=FIRST, r=FIRST_LEAN_REPORT, p=FIRST_POLICY, q=FIRST_REFERENCE)
+        self.assertIn("R = 1: excess 0.2812 (from corner 2 (x1 high))", command("explain", p["p"], p["r"], p["q"], p["d"]).stdout)
+        self.refused(1, "its margin is 0.125, and that of the policy -0.25", "explain", p["q"], p["r"], p["p"], p["d"])
+        self.refused(1, "both hold a policy or reference plans", "explain", p["p"], p["q"], p["q"])
+
     def test_explain_reads_no_more(self):
         self.refused(1, "a line of more than 65536 bytes", "explain", "/dev/zero")
         self.refused(1, "explain.py: /nowhere: No such file or directory", "explain", "/nowhere")
@@ -207,10 +213,12 @@ class Commands(unittest.TestCase):
 
     @unittest.skipIf(LACKING, f"missing: {', '.join(LACKING)}")
     def test_what_has_libraries(self):
-        _, p = folder_with(self, d=FIRST, lines=FIRST_LOOP, none="", s="1\n", far="2\n", c=SECOND_CONTROLLER)
+        _, p = folder_with(self, d=FIRST, lines=FIRST_LOOP, none="", s="1\n", far="2\n", c=SECOND_CONTROLLER, own=FIRST_CONTROLLER, lean=FIRST_LEAN_REPORT, other=SECOND_REPORT)
         d = p["d"]
         for status, told, name, *words in (
             (2, "POLICY .* is the same file as DESIGN", "policy", d, d),
+            (2, "REFERENCE .* is the same file as DESIGN", "policy", d, "--lean", d),
+            (2, "REFERENCE .* is the same file as POLICY", "policy", d, p["none"], "--lean", p["none"]),
             (2, "FACES .* is the same file as DESIGN", "faces", d, p["s"], d),
             (2, "argument --denominator: 0 is not at least 1", "policy", d, "--denominator", "0"),
             (2, "DESIGN .* is the same file as MODEL", "draft", d, d),
@@ -222,6 +230,9 @@ class Commands(unittest.TestCase):
             (2, "argument --states: -1 is not at least 0", "judge", d, p["c"], "--states", "-1"),
             (1, "is of another design: its version is 2", "judge", d, p["c"]),
             (1, "is no controller text", "judge", d, d),
+            (1, "the controller is of another report than .*: its number of bits is 10, and that of the report 6", "judge", d, p["own"], p["lean"]),
+            (1, "is no report", "judge", d, p["own"], d),
+            (1, "the report is of another design: its version is 2", "plot", d, p["lines"], "--report", p["other"], "--out", p["none"] + ".svg"),
             (1, "has no line: there is nothing to draw", "plot", d, p["none"], "--out", p["none"] + ".svg"),
             (1, "has no line of the chosen starts: there is nothing to draw", "plot", d, p["lines"], "--starts", "2", "--out", p["none"] + ".svg"),
             (2, "ends in none of .svg, .pdf, .png", "plot", d, p["lines"], "--out", p["none"] + ".jpeg"),

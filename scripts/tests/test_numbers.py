@@ -6,12 +6,13 @@ from fractions import Fraction
 
 from common import sizes
 from common.condensed import condense, curvature
-from common.corners import corners_of, exact_corner, fine_corner, margin_of, multiplier_of, steps_of
+from common.corners import corners_of, cost_limit, exact_corner, fine_corner, lean_multiplier_of, margin_of, multiplier_of, steps_of
 from common.design_text import design_of, plain, read_design, text_of
 from common.enclosures import combined, condense_fine, product
+from common.excess import excesses_of
 from explain import explain, ranges
 from common.trajectories import slacks_of
-from common.texts import controller_of, kind_of, loop_lines_of, records_of, report_of
+from common.texts import controller_of, kind_of, loop_lines_of, read_text, records_of, report_of
 from tests.worked import (
     AXIS,
     AXIS_OVER_1000,
@@ -26,10 +27,16 @@ from tests.worked import (
     FINE_AXIS_POLICY,
     FIRST,
     FIRST_CONTROLLER,
+    FIRST_LEAN_CONTROLLER,
+    FIRST_LEAN_JSON,
+    FIRST_LEAN_REPORT,
     FIRST_POLICY,
+    FIRST_REFERENCE,
     FIRST_REPORT,
+    FIRST_TIGHT,
     LONG,
     LONG_POLICY,
+    LONG_REFERENCE,
     ROOMY,
     ROOMY_FINE_AXIS,
     ROOMY_POLICY,
@@ -96,6 +103,51 @@ class Corners(unittest.TestCase):
 
     def test_curvature_is_covered_by_the_step(self):
         self.assertTrue(1 < curvature(design_of(AXIS)) <= 2)
+
+
+class Lean(unittest.TestCase):
+    """R, K and the bits of lean controllers."""
+
+    def excesses(self, text, policy, reference):
+        design = design_of(text)
+        return excesses_of(design, sizes.form_of(design), records_of(policy), records_of(reference))
+
+    def test_excess(self):
+        self.assertEqual(self.excesses(FIRST, FIRST_POLICY, FIRST_REFERENCE), ([0, 18432], 680020773533228910772224))
+        for reference, excess in (("1,0\n1,-1\n", 51200), ("1,0\n4,-3\n", 26624), ("1,5\n1,-7\n", 5556224)):
+            self.assertEqual(max(self.excesses(FIRST, FIRST_POLICY, reference)[0]), excess)
+        self.assertGreater(self.excesses(FIRST, FIRST_POLICY, "1,0\n1,-999999999999999\n")[1], 2**126)
+
+    def test_excess_of_enclosures(self):
+        self.assertEqual(max(self.excesses(LONG, LONG_POLICY, LONG_REFERENCE)[0]), 12903)
+        rounded = LONG.replace("a = [[1048576]]\nb = [[1048576]]", "a = [[1048577]]\nb = [[1048573]]")
+        self.assertEqual(max(self.excesses(rounded, LONG_POLICY, LONG_REFERENCE)[0]), 12904)
+
+    def test_bound_steps_and_bits(self):
+        for text, excess, bound, steps, bits in ((FIRST, 18432, 1, 1, 6), (FIRST_TIGHT, 18432, 2, 86, 13), (FIRST_TIGHT, 51200, 4, 171, 14), (FIRST_TIGHT, 5556224, 377, 16086, 21)):
+            design = design_of(text)
+            self.assertEqual(lean_multiplier_of(design, 8192, excess), bound)
+            self.assertEqual(steps_of(design, 1, bound, True), steps)
+            errors = sizes.Errors(design, sizes.form_of(design), bound)
+            self.assertEqual(next(f for f in range(49) if errors.cost(f) <= cost_limit(design, bound, True)), bits)
+        self.assertIsNone(lean_multiplier_of(design_of(FIRST), 0, 1))
+
+    def test_examples(self):
+        """R and K of the examples' lean controllers."""
+        for name, step, bound, steps in (("first", 1, 1, 1), ("motor", 0, 4, 9), ("pmsm", 0, 9, 20), ("satellite", 0, 3, 7), ("wheel", 0, 1, 3), ("antenna", 0, 159, 340), ("rendezvous", 4, 2, 69),
+                                         ("kiln", 0, 120, 256)):
+            design = read_design(os.path.join(EXAMPLES, name, "design.toml"))
+            policy, reference = (records_of(read_text(os.path.join(EXAMPLES, name, file))) for file in ("lean.csv", "reference.csv"))
+            margin, _ = margin_of(corners_of(design, policy))
+            found = lean_multiplier_of(design, margin, max(excesses_of(design, sizes.form_of(design), policy, reference)[0]))
+            self.assertEqual((name, found, steps_of(design, step, found, True)), (name, bound, steps))
+
+    def test_report(self):
+        for text in (FIRST_LEAN_REPORT, FIRST_LEAN_JSON):
+            report = report_of(text)
+            self.assertEqual((report["lean"], report["excess"], report["undercut"], report["violations"]), (True, Fraction(18, 64), 16, []))
+            self.assertNotIn("cost", report)
+        self.assertFalse(report_of(FIRST_REPORT)["lean"])
 
 
 class Sizes(unittest.TestCase):
@@ -342,6 +394,38 @@ class Explain(unittest.TestCase):
 
     def test_no_margin(self):
         self.assertIn("there is no margin", self.told(design=FIRST, policy="1,0\n1,0\n"))
+
+    def test_lean_report(self):
+        told = self.told(report=FIRST_LEAN_REPORT, design=FIRST, policy=FIRST_POLICY, reference=FIRST_REFERENCE, controller=FIRST_LEAN_CONTROLLER)
+        for words in (
+            "every run takes K = 1 steps, a step is 2^-1, plans and gains have f = 6 fraction bits",
+            "R = 1: the excess 0.2812 over the sum of the least slack 0.125 and the violation target, rounded up",
+            "stage row 1 is exceeded by at most 10.14, at any state of the box",
+            "the plan costs at most 0.2832 more than any feasible plan\nand some feasible plan costs at most 16 more than it (R times the violation target, loose)",
+            "corner 2 (x1 high): excess 0.2812, least slack 0.125 in stage row 2 at stage 0",
+            "R = 1: excess 0.2812 (from corner 2 (x1 high)) over the sum of margin 0.125 (from corner 2 (x1 high), stage row 2 at stage 0) and target 16",
+            "K = 2^(s+1) R over 15/16 of the target = 4 * 1 / 15 = 1",
+            "corner_cost 9.6, excess 79.2, multiplier 82.0, hessian",
+        ):
+            self.assertIn(words, told)
+
+    def test_lean_report_without_references(self):
+        told = self.told(report=FIRST_LEAN_REPORT, design=FIRST, policy=FIRST_POLICY)
+        self.assertIn("R = 1, of the report: its reference plans, named after the policy, show where it comes from", told)
+        self.assertIn("some feasible plan costs at most 16 more than it (R times the violation target, loose)", self.told(report=FIRST_LEAN_REPORT))
+
+    def test_lean_bound_that_is_rounded_up(self):
+        # an excess of 9/32 over 1/8 and 1/10 is 1.25, and counts as 2
+        told = self.told(design=FIRST_TIGHT, policy=FIRST_POLICY, reference=FIRST_REFERENCE)
+        self.assertIn("R is rounded up to a whole number: with all weights by 2 the step would be 2^-0, and K about 64", told)
+
+    def test_reports_of_others(self):
+        with self.assertRaisesRegex(ValueError, "the report is of a controller that `generate` made, which has no reference plans"):
+            self.told(report=FIRST_REPORT, design=FIRST, policy=FIRST_POLICY, reference=FIRST_REFERENCE)
+        with self.assertRaisesRegex(ValueError, "the report is of another policy: its excess is 18432, and that of the policy 51200"):
+            self.told(report=FIRST_LEAN_REPORT, design=FIRST, policy=FIRST_POLICY, reference="1,0\n1,-1\n")
+        with self.assertRaisesRegex(ValueError, "the file of reference plans is of another design: it has 1 plans, and the design 2 corners"):
+            self.told(design=FIRST, policy=FIRST_POLICY, reference="1,0\n")
 
     def test_sizes_of_an_exact_design(self):
         told = self.told(design=FIRST, policy=FIRST_POLICY)

@@ -2,14 +2,17 @@
 import contextlib
 import functools
 import io
+import os
 import unittest
 
+from common import design_text
 from common.libraries import PACKAGES, missing
+from tests.worked import EXAMPLES
 
 LACKING = missing(*PACKAGES)
 if not LACKING:
     import draft
-    from common import models
+    from common import corners, excess, models, sizes
     import policy
     from common import programs
 
@@ -84,6 +87,69 @@ class Policies(unittest.TestCase):
         with contextlib.redirect_stderr(io.StringIO()) as said:
             self.assertIsNone(policy.find(design))
         self.assertRegex(said.getvalue(), r"corner 2 \(x1 high, x2 low\): stage row 1 \(limit 1\) at stage 0")
+
+
+@unittest.skipIf(LACKING, f"missing: {', '.join(LACKING)}")
+class Lean(unittest.TestCase):
+    """Policies of lean controllers with their references."""
+
+    @staticmethod
+    @functools.cache
+    def found(case):
+        """The design of a case, its policy and reference plans, and what was said."""
+        design = draft.draft(models.Model(CASES[case]))
+        with contextlib.redirect_stderr(io.StringIO()) as said:
+            policies = policy.find_lean(design)
+            policy.tell(design, policies[0], 0, policies[1])
+        return design, *policies, said.getvalue()
+
+    def bound(self, design, plans, references):
+        margin, _ = corners.margin_of(corners.corners_of(design, plans))
+        found, _ = excess.excesses_of(design, sizes.form_of(design), plans, references)
+        return corners.lean_multiplier_of(design, margin, max(0, *found))
+
+    def test_bound_of_each(self):
+        for case in CASES:
+            design, plans, references, said = self.found(case)
+            bound = self.bound(design, plans, references)
+            best = min(float(v) for v in self.ratios(design))
+            self.assertLessEqual(bound, max(1, -(-best * 1.05 // 1)), case)
+            self.assertRegex(said, f"greatest excess .* with references over at most {max(r[0] for r in references)}; R {bound}, curvature")
+            for words in ("inf,", "nan"):
+                self.assertNotIn(words, said, case)
+
+    def ratios(self, design):
+        """What the plans with a slack of 2^-13 to 2^4, two a doubling, cost above the best without limits, over the slack and the target."""
+        of, target = programs.Programs(design), design.violation / design.target_den
+        states = [[float(v) for v in design.corner(c)] for c in range(1, 2**design.states + 1)]
+        for k in range(-26, 9):
+            plans, _ = policy.plans_with(of, 2 ** (k / 2))
+            if plans:
+                yield max(of.cost(x, u) - of.cost(x, of.unlimited(x)) for x, u in zip(states, plans)) / (2 ** (k / 2) + target)
+
+    def test_where_nothing_binds_the_policy_is_its_reference(self):
+        design, plans, references, said = self.found("that never bind")
+        self.assertIn("; R 1, curvature", said)
+        self.assertIn("so step 0 and K about 3", said)
+        self.assertEqual(self.bound(design, plans, references), 1)
+
+    def test_motor(self):
+        design = design_text.read_design(os.path.join(EXAMPLES, "motor", "design.toml"))
+        with contextlib.redirect_stderr(io.StringIO()):
+            plans, references = policy.find_lean(design)
+            other, _ = policy.find_lean(design, denominator=100)
+            given, _ = policy.find_lean(design, margin=0.5)
+        self.assertEqual(self.bound(design, plans, references), 4)
+        self.assertLessEqual(max(record[0] for record in plans + references), 64)
+        self.assertEqual({record[0] for record in other}, {100})
+        self.assertLess(abs(corners.margin_of(corners.corners_of(design, given))[0] / 65536 - 0.5), 0.1)
+
+    def test_no_plan(self):
+        design = draft.draft(models.Model(CASES["one side"]))
+        design.stage_rows = [[4, 0, 0, 1]]
+        with contextlib.redirect_stderr(io.StringIO()) as said:
+            self.assertIsNone(policy.find_lean(design))
+        self.assertIn("no plan keeps every limit", said.getvalue())
 
 
 if __name__ == "__main__":

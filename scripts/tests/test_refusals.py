@@ -20,6 +20,7 @@ from tests.worked import (
     FIRST_CONTROLLER,
     FIRST_LISTING,
     FIRST_POLICY,
+    FIRST_REFERENCE,
     LONG,
     LONG_POLICY,
     ROOMY_FINE_AXIS,
@@ -48,6 +49,9 @@ class Explained(unittest.TestCase):
     def generate(self, line, design=FIRST, policy=FIRST_POLICY):
         return self.words(line, "generate", "d", "p", "c", "r", d=design, p=policy)
 
+    def lean(self, line, design=FIRST, policy=FIRST_POLICY, reference=FIRST_REFERENCE):
+        return self.words(line, "lean", "d", "p", "q", "c", "r", d=design, p=policy, q=reference)
+
     def solve(self, line, controller=FIRST_CONTROLLER, states="1\n"):
         return self.words(line, "solve", "c", "s", c=controller, s=states)
 
@@ -65,6 +69,8 @@ class Explained(unittest.TestCase):
 
     def test_same_name_twice(self):
         self.assertIn("The report file c is the controller file c: each of the four needs a file of its own", self.words("error 2 usage", "generate", "d", "p", "c", "c"))
+        self.assertIn("The controller file q is the reference file q: each of the five needs a file of its own", self.words("error 2 usage", "lean", "d", "p", "q", "q", "r"))
+        self.assertIn("`lean` takes 5 arguments, DESIGN POLICY REFERENCE CONTROLLER REPORT, and 4 were given", self.words("error 2 usage", "lean", "d", "p", "c", "r"))
 
     def test_turns_with_a_leading_zero(self):
         self.assertIn("`01` are no number from 0 to 1000000", self.words("error 2 usage", "loop", "d", "c", "s", "01"))
@@ -178,11 +184,31 @@ class Explained(unittest.TestCase):
         self.assertIn("K = 8388608", told)
         self.assertIn("at least 32", told)
 
+    def test_reference_plans(self):
+        self.assertIn("has 1 records, and the design has 2 corners", self.lean("error 5 text 3 count 1", reference="1,0\n"))
+        told = self.lean("error 5 text 3 number 2 1", reference="1,0\n0,1\n")
+        self.assertIn("Field 1 of record 2 in the reference file", told)
+        self.assertIn("`0`, is no number that may stand there: a denominator is 1 to 1099511627776", told)
+        self.assertIn("a record holds 2 numbers, a denominator and 1 times 1 inputs", self.lean("error 5 text 3 fields 1", reference="1\n1,0\n"))
+        self.assertIn("the report file", self.lean("error 4 write-fault 5"))
+        self.assertIn("At corner 2 (x1 high) the policy's plan", self.lean("error 6 no-margin 2 2 4 524288"))
+
+    def test_steps_of_a_lean_controller(self):
+        told = self.lean("error 8 too-many-steps 8388608")
+        self.assertIn("K = 2^(s+1) R over 15/16 of the target", told)
+        self.assertIn("or a policy with a smaller excess, as scripts/policy.py --lean finds it", told)
+
+    def test_sizes_of_a_lean_controller(self):
+        self.assertIn("passes 2^126 (it is 2^181.7)", self.lean("error 10 too-wide excess", reference="1,0\n1,-999999999999999\n"))
+        self.assertIn("(it is 2^79.2)", self.lean("error 10 too-wide excess"))
+        self.assertIn("(it is 2^82.0)", self.lean("error 10 too-wide multiplier"))
+        self.assertIn("(it is 2^127.0)", self.lean("error 10 too-wide prediction", STEEP, STEEP_POLICY, STEEP_POLICY))
+
     def test_too_fine(self):
         self.assertIn("more than 48 fraction bits", self.generate("error 9 too-fine 151000321"))
 
     def test_every_quantity_has_words(self):
-        for name in ("prediction", "corner_slack", "corner_cost", "multiplier", "hessian", "rows", "curvature", "error", "descent", "width", "turn"):
+        for name in ("prediction", "corner_slack", "corner_cost", "excess", "multiplier", "hessian", "rows", "curvature", "error", "descent", "width", "turn"):
             self.assertIn(f"`{name}`, {refusals.QUANTITIES[name][0]}, passes 2^126", self.generate(f"error 10 too-wide {name}"))
 
     def test_size_of_the_corners(self):
@@ -374,6 +400,10 @@ echo "== mpc_cli"; echo "logic=proved functions=1"; printf '#!/bin/bash\necho bu
             ("generate d p here/d r", "The controller file here/d is the design file d"),
             ("generate d p new ./new", "The report file ./new is the controller file new"),
             ("generate d p hanging new", "The report file new is the controller file hanging"),
+            ("lean d p s c ./s", "The report file ./s is the reference file s"),
+            ("lean d p s symbolic r", "The controller file symbolic is the policy file p"),
+            ("lean d p s here/s r", "The controller file here/s is the reference file s"),
+            ("lean d p s new ./new", "The report file ./new is the controller file new"),
             ("solve c s >> s", "Standard output is one of the files that are read"),
             ("loop d c s 3 >> ./here/s", "Standard output is one of the files that are read"),
         ):
@@ -392,10 +422,11 @@ echo "== mpc_cli"; echo "logic=proved functions=1"; printf '#!/bin/bash\necho bu
             page = file.read()
         for words in ("--help", "-h", "help"):
             self.assertEqual(self.run_in(folder, f"./mpc {words}").stdout, page)
-        for words in ("generate --help", "generate -h", "help generate"):
-            told = self.run_in(folder, f"./mpc {words}")
-            self.assertEqual((told.returncode, told.stdout.split("\n")[0]), (0, "  mpc generate DESIGN POLICY CONTROLLER REPORT"))
-            self.assertNotIn("mpc solve", told.stdout)
+        for name, line in (("generate", "  mpc generate DESIGN POLICY CONTROLLER REPORT"), ("lean", "  mpc lean DESIGN POLICY REFERENCE CONTROLLER REPORT")):
+            for words in (f"{name} --help", f"{name} -h", f"help {name}"):
+                told = self.run_in(folder, f"./mpc {words}")
+                self.assertEqual((told.returncode, told.stdout.split("\n")[0]), (0, line))
+                self.assertNotIn("mpc solve", told.stdout)
         os.makedirs(os.path.join(folder, "bin"))
         with open(os.path.join(folder, "bin", "rt"), "w") as file:
             file.write("#!/bin/sh\necho the kit\n")
@@ -416,7 +447,7 @@ echo "== mpc_cli"; echo "logic=proved functions=1"; printf '#!/bin/bash\necho bu
         folder = self.folder('echo "$1"')
         self.run_in(folder, "mkdir far; ln -s ../mpc far/mine; ln -s ../scripts/judge.py far/judge")
         self.assertEqual(self.run_in(folder, "far/mine solve c s").stdout, "solve\n")
-        code = "import sys, runpy; sys.path.insert(0, 'scripts'); print(runpy.run_path('far/judge')['LAUNCHER'])"
+        code = "import sys, runpy; sys.path.insert(0, 'scripts'); print(runpy.run_path('far/judge')['solved'].__defaults__[0])"
         if not missing("numpy", "cvxopt"):
             self.assertEqual(self.run_in(folder, f'{sys.executable} -c "{code}"').stdout, os.path.realpath(os.path.join(folder, "mpc")) + "\n")
 
@@ -437,10 +468,12 @@ echo "== mpc_cli"; echo "logic=proved functions=1"; printf '#!/bin/bash\necho bu
         """What the words below a refusal count by is what help lists, and the README's commands are among it."""
         self.assertEqual(
             usage.commands(),
-            {"demo": ["NUMBER"], "generate": ["DESIGN", "POLICY", "CONTROLLER", "REPORT"], "solve": ["CONTROLLER", "STATES"], "loop": ["DESIGN", "CONTROLLER", "STATES", "TURNS"],
+            {"demo": ["NUMBER"], "generate": ["DESIGN", "POLICY", "CONTROLLER", "REPORT"], "stay": ["DESIGN", "POLICY", "CONTROLLER", "REPORT", "FACES"],
+             "lean": ["DESIGN", "POLICY", "REFERENCE", "CONTROLLER", "REPORT"], "solve": ["CONTROLLER", "STATES"], "loop": ["DESIGN", "CONTROLLER", "STATES", "TURNS"],
              "list": ["CONTROLLER", "LISTING"], "play": ["LISTING", "STATES"]},
         )
         self.assertEqual(usage.files_of("loop"), ["design", "controller", "states"])
+        self.assertEqual(usage.files_of("stay"), ["design", "policy", "controller", "report", "faces", "disturbances"])
 
     def test_input_reaches_the_program(self):
         self.assertEqual(self.launched("cat; exit 0", "solve").stdout, "")

@@ -72,6 +72,48 @@ gap 438095052800 1099511627776
 undercut 70806839230464 1099511627776
 end
 """
+# and as a lean controller, with the best plans without limits as references: excess 18/64, R 1, K 1
+FIRST_REFERENCE = "1,0\n2,-1\n"
+FIRST_LEAN_CONTROLLER = """mpc-controller 1
+size 1 1 1 3
+bits 6 0 1 16
+steps 1
+clamp 256
+words 6
+lo 0
+hi 1
+P 32
+T 0
+W 16 -16 16
+G 64
+G -64
+G 64
+E 0
+E 0
+E 64
+b 64 64 16
+end
+"""
+FIRST_LEAN_REPORT = """mpc-report 1
+margin 8192 65536
+excess 18432 65536
+multiplier 1
+step 1
+steps 1
+bits 6
+width 16
+words 6
+violation 11150808842240 1099511627776
+gap 311385128960 1099511627776
+undercut 17592186044416 1099511627776
+end
+"""
+FIRST_LEAN_JSON = (
+    '{"bits":"6","excess":"18432","gap":"311385128960","margin":"8192","multiplier":"1","step":"1","steps":"1","undercut":"17592186044416","version":"1",'
+    '"violation":"11150808842240","width":"16","words":"6"}\n'
+)
+# the first design with a violation target of 1/10: lean R 2, K 86
+FIRST_TIGHT = FIRST.replace("den = 1\nviolation = 16\ngap = 1\n", "den = 10\nviolation = 1\ngap = 10\n")
 # the first design as one of version 2: the exponent of its first row is lowered from 1 to 0
 SECOND = FIRST.replace("version = 1", "version = 2")
 SECOND_CONTROLLER = FIRST_CONTROLLER.replace("mpc-controller 1", "mpc-controller 2").replace("words 6\n", "words 6\nexps 0 1 1\n")
@@ -151,6 +193,7 @@ LONG = (
     )
 )
 LONG_POLICY = "1,0,0\n8,-7,0\n"
+LONG_REFERENCE = "1,0,0\n5,-3,-1\n"
 # the first design over two stages with a growth of 2^29 in each: the corners are within the limit, the exact `rows` are not, and `prediction` of enclosures is not
 STEEP = FIRST.replace("stages = 1", "stages = 2").replace("a = [[1]]", "a = [[536870912]]").replace("hi = [1]", "hi = [0]")
 STEEP_POLICY = "1,0,0\n" * 2

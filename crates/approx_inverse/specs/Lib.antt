@@ -8,3 +8,4 @@ pub mod Fault
 pub mod Inverse
 pub mod Workspace
 pub mod Laws
+pub mod Refusing

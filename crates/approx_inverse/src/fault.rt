@@ -1,6 +1,8 @@
 ghost use Rattle.std.specs.Prelude.{◌≡◌};
 ghost use Rattle.approx_inverse.specs.declared.fault.SolveFault.TheVariants.{Memory as solve_memory};
+ghost use Rattle.approx_inverse.specs.Refusing.{of_solve};
 
+use design_refusal::Refusal;
 use qp_model::Quantity;
 use std::alloc::{AllocError, AllocFailed};
 use thiserror::Error;
@@ -20,5 +22,16 @@ impl From<AllocError> for SolveFault {
 
     fn from(_: AllocError) -> Self {
         SolveFault::Memory
+    }
+}
+
+impl From<SolveFault> for Refusal {
+    ghost from_gives = { λ fault e. e ≡ of_solve fault };
+
+    fn from(fault: SolveFault) -> Self {
+        match fault {
+            SolveFault::Memory => Refusal::Memory,
+            SolveFault::TooWide { quantity } => Refusal::TooWide { quantity },
+        }
     }
 }

@@ -3,7 +3,9 @@ ghost use Rattle.std.specs.Prelude.{◌≡◌, ℕ, pos, ◌^◌, ◌<◌, ◌�
 ghost use Rattle.qp_model.specs.bounds.Errors.{epsilon};
 ghost use Rattle.step_error.specs.ErrorSums.{AreSums, sums_of};
 ghost use Rattle.bit_choice.specs.Choice.{IsChoice};
+ghost use Rattle.design_refusal.specs.declared.refusal.Refusal.TheVariants.{TooFine as too_fine};
 
+use design_refusal::Refusal;
 use step_error::{ErrorSums, epsilon};
 use thiserror::Error;
 
@@ -21,6 +23,14 @@ pub struct Choice {
 #[error("too fine")]
 pub struct TooFine {
     pub eps: i128,
+}
+
+impl From<TooFine> for Refusal {
+    ghost from_gives = { λ fault e. e ≡ too_fine fault.eps };
+
+    fn from(fault: TooFine) -> Self {
+        Refusal::TooFine { eps: fault.eps }
+    }
 }
 
 /// The fewest fraction bits, from `g` to 48, with which the errors of a step cost at most `limit` over `2^40`, and what they cost then.

@@ -10,8 +10,8 @@ use Rattle.number_text.specs.declared.text_fault.TextFault.TheVariants.{Memory, 
 use Rattle.qp_model.specs.problem.Design.{Design}
 use Rattle.policy_file.specs.Records.{records_of, record_at}
 use Rattle.cell_split.specs.Cells.{cuts_of, cell_count, AreCutsFor}
-use Rattle.cell_split.specs.CutsText.{HoldsCuts, IsCutsFault, HoldsCoordinate, IsRecordFault, IsCountFault, HoldLists, IsCutsText, IsCutsTextFault}
-use Rattle.cell_split.specs.ReadLists.{AreRead}
+use Rattle.cell_split.specs.CutsText.{HoldsCuts, IsCutsFault, HoldsCoordinate, IsCutRecordFault, IsCutCountFault, HoldLists, IsCutsText, IsCutsTextFault}
+use Rattle.cell_split.specs.ReadLists.{AreCutsRead}
 
 -- ---- list by list
 pub record ReadUpTo (d : Design) (rows : List (List (List ℕ))) (read : List (List ℤ)) (i : ℕ) : Type 0 where
@@ -36,7 +36,7 @@ one_more d records read new v row lo hi i e l r a b h f = rw (e, map-append (λ 
 })
 
 -- the records came to their end, or to the last coordinate
-pub ended : (d : Design) (records : List Row) (read : List (List ℤ)) (i : ℕ) → i ≤ d.states → i ≡ length records → ReadUpTo d (map fields_of records) read i → AreRead d (map fields_of records) read
+pub ended : (d : Design) (records : List Row) (read : List (List ℤ)) (i : ℕ) → i ≤ d.states → i ≡ length records → ReadUpTo d (map fields_of records) read i → AreCutsRead d (map fields_of records) read
 ended d records read i l e f = record {
   asked = omega (arith, f.long, l);
   inside = omega (arith, f.long, f.inside);
@@ -44,7 +44,7 @@ ended d records read i l e f = record {
   each = λ j m. f.each j (omega (arith, f.long, m));
 }
 
-pub all_asked : (d : Design) (records : List Row) (read : List (List ℤ)) (i : ℕ) → i ≤ d.states → d.states ≤ i → ReadUpTo d (map fields_of records) read i → AreRead d (map fields_of records) read
+pub all_asked : (d : Design) (records : List Row) (read : List (List ℤ)) (i : ℕ) → i ≤ d.states → d.states ≤ i → ReadUpTo d (map fields_of records) read i → AreCutsRead d (map fields_of records) read
 all_asked d records read i l m f = record {
   asked = omega (arith, f.long, l);
   inside = omega (arith, f.long, f.inside);
@@ -54,7 +54,7 @@ all_asked d records read i l m f = record {
 
 -- the first record that is wrong
 pub first_fault : (d : Design) (records : List Row) (read : List (List ℤ)) (row : Row) (lo hi : ℤ) (i : ℕ) (fault : TextFault) → i < d.states → i < length records → row ≡ get_or records i row →
-    lo ≡ d.low i → hi ≡ d.high i → (fault ≡ Memory) ⊎ IsCutsFault lo hi (i + 1) (fields_of row) fault → ReadUpTo d (map fields_of records) read i → (fault ≡ Memory) ⊎ IsRecordFault d (map fields_of records) fault
+    lo ≡ d.low i → hi ≡ d.high i → (fault ≡ Memory) ⊎ IsCutsFault lo hi (i + 1) (fields_of row) fault → ReadUpTo d (map fields_of records) read i → (fault ≡ Memory) ⊎ IsCutRecordFault d (map fields_of records) fault
 first_fault d records read row lo hi i fault m l r a b (inl e) f = inl e
 first_fault d records read row lo hi i fault m l r a b (inr h) f = inr (record {
   index = i;
@@ -66,7 +66,7 @@ first_fault d records read row lo hi i fault m l r a b (inr h) f = inr (record {
 
 -- ---- all of them
 -- another count of records than that of the coordinates
-pub count_fault : (d : Design) (rows : List (List (List ℕ))) (read : List (List ℤ)) (n : ℕ) → n ≡ length rows → n ≢ d.states → AreRead d rows read → IsCountFault d rows (Count n)
+pub count_fault : (d : Design) (rows : List (List (List ℕ))) (read : List (List ℤ)) (n : ℕ) → n ≡ length rows → n ≢ d.states → AreCutsRead d rows read → IsCutCountFault d rows (Count n)
 count_fault d rows read n e h r = record {
   each = λ i l m. (cuts_of read i, r.each i (inside i l m));
   here = λ q. h (e ∙ q);
@@ -79,7 +79,7 @@ count_fault d rows read n e h r = record {
       | inr o ↦ omega (arith, o, l)
     ]
 
-pub held : (d : Design) (rows : List (List (List ℕ))) (read : List (List ℤ)) → length rows ≡ d.states → AreRead d rows read → HoldLists d rows read
+pub held : (d : Design) (rows : List (List (List ℕ))) (read : List (List ℤ)) → length rows ≡ d.states → AreCutsRead d rows read → HoldLists d rows read
 held d rows read e r = record { records = e; count = long; each = λ i l. r.each i (omega (arith, long, l)) }
   where
     long : length read ≡ d.states
@@ -89,7 +89,7 @@ held d rows read e r = record { records = e; count = long; each = λ i l. r.each
     ]
 
 -- each list is short
-pub short : (d : Design) (rows : List (List (List ℕ))) (read : List (Vec ℤ Global)) → AreRead d rows (lists read) → All (λ v. length v.items ≤ 63) read
+pub short : (d : Design) (rows : List (List (List ℕ))) (read : List (Vec ℤ Global)) → AreCutsRead d rows (lists read) → All (λ v. length v.items ≤ 63) read
 short d rows read r = λ k v l. (
     let m : k < length (lists read) = omega (arith, l, length-map read (λ (w : Vec ℤ Global). w.items)) in
     rw (← get_or-map (λ (w : Vec ℤ Global). w.items) read k v [] l) (r.each k m).count.few
@@ -104,19 +104,19 @@ all_are_cuts bytes d (Ok cuts) h = are_cuts d (records_of bytes) cuts h.hold
 all_are_cuts bytes d (Err e) h = tt
 
 -- ---- what was told of cells
-pub told_ok : (bytes : List ℕ) (d : Design) (rows : List (List (List ℕ))) (read : List (List ℤ)) (r : Result (List (List ℤ)) TextFault) → rows ≡ records_of bytes → length rows ≡ d.states → AreRead d rows read →
+pub told_ok : (bytes : List ℕ) (d : Design) (rows : List (List (List ℕ))) (read : List (List ℤ)) (r : Result (List (List ℤ)) TextFault) → rows ≡ records_of bytes → length rows ≡ d.states → AreCutsRead d rows read →
     IfOk r (λ c. c ≡ read) → IfOk r (λ c. cell_count c ≤ 64) → IfOk r (IsCutsText bytes d)
 told_ok bytes d rows read (Ok c) e n a m f = record { hold = rw (m, ← e) (held d rows read n a); few = f }
 told_ok bytes d rows read (Err x) e n a m f = tt
 
-pub told_err : (bytes : List ℕ) (d : Design) (rows : List (List (List ℕ))) (read : List (List ℤ)) (r : Result (List (List ℤ)) TextFault) → rows ≡ records_of bytes → length rows ≡ d.states → AreRead d rows read →
+pub told_err : (bytes : List ℕ) (d : Design) (rows : List (List (List ℕ))) (read : List (List ℤ)) (r : Result (List (List ℤ)) TextFault) → rows ≡ records_of bytes → length rows ≡ d.states → AreCutsRead d rows read →
     IfErr r (λ x. (x ≡ Range 0) × (64 < cell_count read)) → IfErr r (λ x. (x ≡ Memory) ⊎ IsCutsTextFault bytes d x)
 told_err bytes d rows read (Ok c) e n a m = tt
 told_err bytes d rows read (Err x) e n a m = inr (inr (inr (record { lists = read; hold = rw (← e) (held d rows read n a); many = m.1; told = m.0 })))
 
-pub count_told : (bytes : List ℕ) (d : Design) (rows : List (List (List ℕ))) (read : List (List ℤ)) (n : ℕ) → rows ≡ records_of bytes → n ≡ length rows → n ≢ d.states → AreRead d rows read → (Count n ≡ Memory) ⊎ IsCutsTextFault bytes d (Count n)
+pub count_told : (bytes : List ℕ) (d : Design) (rows : List (List (List ℕ))) (read : List (List ℤ)) (n : ℕ) → rows ≡ records_of bytes → n ≡ length rows → n ≢ d.states → AreCutsRead d rows read → (Count n ≡ Memory) ⊎ IsCutsTextFault bytes d (Count n)
 count_told bytes d rows read n e s h a = inr (inr (inl (rw (← e) (count_fault d rows read n s h a))))
 
-pub record_told : (bytes : List ℕ) (d : Design) (rows : List (List (List ℕ))) (fault : TextFault) → rows ≡ records_of bytes → (fault ≡ Memory) ⊎ IsRecordFault d rows fault → (fault ≡ Memory) ⊎ IsCutsTextFault bytes d fault
+pub record_told : (bytes : List ℕ) (d : Design) (rows : List (List (List ℕ))) (fault : TextFault) → rows ≡ records_of bytes → (fault ≡ Memory) ⊎ IsCutRecordFault d rows fault → (fault ≡ Memory) ⊎ IsCutsTextFault bytes d fault
 record_told bytes d rows fault e (inl m) = inl m
 record_told bytes d rows fault e (inr f) = inr (inl (rw (← e) f))

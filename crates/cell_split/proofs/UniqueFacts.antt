@@ -11,7 +11,7 @@ use Rattle.policy_file.specs.Records.{records_of, record_at, field_of}
 use Rattle.policy_file.proofs.UniqueFacts.{same_number, both_ways}
 use Rattle.cell_split.specs.Cuts.{part_low}
 use Rattle.cell_split.specs.Cells.{cuts_of, cell_count}
-use Rattle.cell_split.specs.CutsText.{IsCutCount, HoldsCut, HoldsCuts, IsMisfit, IsDisorder, IsCutsFault, HoldsCoordinate, IsRecordFault, HoldLists, IsCutsText, IsCutsTextFault}
+use Rattle.cell_split.specs.CutsText.{IsCutCount, HoldsCut, HoldsCuts, IsMisfit, IsDisorder, IsCutsFault, HoldsCoordinate, IsCutRecordFault, HoldLists, IsCutsText, IsCutsTextFault}
 
 -- ---- records
 same_count : (fields : List (List ℕ)) (m n : ℕ) → IsCutCount fields m → IsCutCount fields n → m ≡ n
@@ -75,17 +75,17 @@ same_fault lo hi e fields a b (inr (inr f)) (inr (inl g)) = absurd (misfit_or_di
 same_fault lo hi e fields a b (inr (inr f)) (inr (inr g)) = same_disorder lo hi e fields a b f g
 
 -- ---- texts
-held_or_wrong : (d : Design) (rows : List (List (List ℕ))) (fault : TextFault) → ((i : ℕ) → i < d.states → i < length rows → (cuts : List ℤ) × HoldsCoordinate d rows i cuts) → IsRecordFault d rows fault → ⊥
+held_or_wrong : (d : Design) (rows : List (List (List ℕ))) (fault : TextFault) → ((i : ℕ) → i < d.states → i < length rows → (cuts : List ℤ) × HoldsCoordinate d rows i cuts) → IsCutRecordFault d rows fault → ⊥
 held_or_wrong d rows fault h f =
     let z = h f.index f.asked f.inside in
     right_or_wrong (d.low f.index) (d.high f.index) (f.index + 1) (record_at rows f.index) z.0 fault z.1 f.here
 
-earlier : (d : Design) (rows : List (List (List ℕ))) (a b : TextFault) (f : IsRecordFault d rows a) (g : IsRecordFault d rows b) → f.index < g.index → ⊥
+earlier : (d : Design) (rows : List (List (List ℕ))) (a b : TextFault) (f : IsCutRecordFault d rows a) (g : IsCutRecordFault d rows b) → f.index < g.index → ⊥
 earlier d rows a b f g l =
     let z = g.before f.index l in
     right_or_wrong (d.low f.index) (d.high f.index) (f.index + 1) (record_at rows f.index) z.0 a z.1 f.here
 
-same_record_fault : (d : Design) (rows : List (List (List ℕ))) (a b : TextFault) → IsRecordFault d rows a → IsRecordFault d rows b → a ≡ b
+same_record_fault : (d : Design) (rows : List (List (List ℕ))) (a b : TextFault) → IsCutRecordFault d rows a → IsCutRecordFault d rows b → a ≡ b
 same_record_fault d rows a b f g = same_fault (d.low f.index) (d.high f.index) (f.index + 1) (record_at rows f.index) a b f.here (rw same g.here)
   where
     same : f.index ≡ g.index

@@ -57,7 +57,7 @@ abbrev pub HoldsCoordinate : Design → List (List (List ℕ)) → ℕ → List 
 HoldsCoordinate d rows i cuts = HoldsCuts (d.low i) (d.high i) (record_at rows i) cuts
 
 -- the fault of the first that has one
-pub record IsRecordFault (d : Design) (rows : List (List (List ℕ))) (fault : TextFault) : Type 0 where
+pub record IsCutRecordFault (d : Design) (rows : List (List (List ℕ))) (fault : TextFault) : Type 0 where
   pub index : ℕ
   pub asked : index < d.states
   pub inside : index < length rows
@@ -65,7 +65,7 @@ pub record IsRecordFault (d : Design) (rows : List (List (List ℕ))) (fault : T
   pub here : IsCutsFault (d.low index) (d.high index) (index + 1) (record_at rows index) fault
 
 -- each that a coordinate asks for is right, and there are so many in all, which isn't one for each coordinate
-pub record IsCountFault (d : Design) (rows : List (List (List ℕ))) (fault : TextFault) : Type 0 where
+pub record IsCutCountFault (d : Design) (rows : List (List (List ℕ))) (fault : TextFault) : Type 0 where
   pub each : (i : ℕ) → i < d.states → i < length rows → (cuts : List ℤ) × HoldsCoordinate d rows i cuts
   pub here : length rows ≢ d.states
   pub told : fault ≡ Count (length rows)
@@ -90,4 +90,4 @@ pub record IsCutsText (bytes : List ℕ) (d : Design) (lists : List (List ℤ)) 
 
 -- they are no such text, and this is their first fault
 abbrev pub IsCutsTextFault : List ℕ → Design → TextFault → Type 0
-IsCutsTextFault bytes d fault = IsRecordFault d (records_of bytes) fault ⊎ (IsCountFault d (records_of bytes) fault ⊎ IsCellsFault d (records_of bytes) fault)
+IsCutsTextFault bytes d fault = IsCutRecordFault d (records_of bytes) fault ⊎ (IsCutCountFault d (records_of bytes) fault ⊎ IsCellsFault d (records_of bytes) fault)

@@ -5,7 +5,7 @@ use Rattle.cell_split.specs.Cells.{cuts_of}
 use Rattle.cell_split.specs.CutsText.{HoldsCoordinate}
 
 -- the records that the coordinates ask for hold these lists, and there are no more of them
-pub record AreRead (d : Design) (rows : List (List (List ℕ))) (lists : List (List ℤ)) : Type 0 where
+pub record AreCutsRead (d : Design) (rows : List (List (List ℕ))) (lists : List (List ℤ)) : Type 0 where
   pub asked : length lists ≤ d.states
   pub inside : length lists ≤ length rows
   pub whole : length lists < d.states → length lists ≡ length rows

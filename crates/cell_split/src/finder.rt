@@ -1,6 +1,6 @@
 // The box that serves a state.
 ghost use Rattle.std.specs.Prelude.{◌↔◌, length, All, IsTrue, IsNone, IfSome};
-ghost use Rattle.cell_split.specs.StateBoxes.{IsSized, Holds, HoldsAt, NoneHolds};
+ghost use Rattle.cell_split.specs.StateBoxes.{IsBoxOf, HoldsState, HoldsAt, NoneHolds};
 
 use qp_model::range::is_ordered;
 
@@ -13,15 +13,15 @@ pub struct StateBox {
 
 // Whether a box holds a state.
 fn holds(held: &StateBox, state: &[i128]) -> bool
-    requires { IsSized (length state.now) held.now }
-    ensures { IsTrue result ↔ Holds held.now state.now }
+    requires { IsBoxOf (length state.now) held.now }
+    ensures { IsTrue result ↔ HoldsState held.now state.now }
 {
     is_ordered(&held.lo, state) && is_ordered(state, &held.hi)
 }
 
 /// The first box that holds a state, from 0. None exactly where none does.
 pub fn find(boxes: &[StateBox], state: &[i128]) -> Option<usize>
-    requires { All (IsSized (length state.now)) boxes.now }
+    requires { All (IsBoxOf (length state.now)) boxes.now }
     ensures here { IfSome result (HoldsAt boxes.now state.now) }
     ensures first { IfSome result (NoneHolds boxes.now state.now) }
     ensures none { IsNone result ↔ NoneHolds boxes.now state.now (length boxes.now) }

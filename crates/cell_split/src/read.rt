@@ -7,8 +7,8 @@ ghost use Rattle.number_text.specs.declared.text_fault.TextFault.{TextFault};
 ghost use Rattle.number_text.specs.declared.text_fault.TextFault.TheVariants.{Memory};
 ghost use Rattle.policy_file.specs.Records.{records_of};
 ghost use Rattle.cell_split.specs.Cells.{AreCutsFor};
-ghost use Rattle.cell_split.specs.CutsText.{IsRecordFault, IsCutsText, IsCutsTextFault};
-ghost use Rattle.cell_split.specs.ReadLists.{AreRead};
+ghost use Rattle.cell_split.specs.CutsText.{IsCutRecordFault, IsCutsText, IsCutsTextFault};
+ghost use Rattle.cell_split.specs.ReadLists.{AreCutsRead};
 
 use crate::cuts::Cuts;
 use crate::record::cuts_in;
@@ -25,8 +25,8 @@ fn lists_in(
     parts: &DesignParts,
 ) -> Result<Vec<Vec<i128>>, TextFault>
     requires { IsDesign parts.now }
-    ensures found { IfOk result (λ v. AreRead (design_of parts.now) (map fields_of records.now) (lists v.items)) }
-    ensures fault { IfErr result (λ e. (e ≡ Memory) ⊎ IsRecordFault (design_of parts.now) (map fields_of records.now) e) }
+    ensures found { IfOk result (λ v. AreCutsRead (design_of parts.now) (map fields_of records.now) (lists v.items)) }
+    ensures fault { IfErr result (λ e. (e ≡ Memory) ⊎ IsCutRecordFault (design_of parts.now) (map fields_of records.now) e) }
 {
     let mut read = Vec::new(alloc);
     for i in 0..parts.states {

@@ -66,11 +66,13 @@ sum_within c xi l s g h =
 
 pub states_within : (d : Design) (c : Numbers) (xi : List ℤ) (i : ℕ) → IsFor c d → IsAdmissible c xi → amount d.states (λ j. unsigned_abs (d.plant_a i j) * unsigned_abs (at xi j)) ≤ state_absolute_sum d c i
 states_within d c xi i m g =
-    amount_mono d.states _ _ (λ j h. mul-le (unsigned_abs (d.plant_a i j)) (unsigned_abs (at xi j)) (unsigned_abs (d.plant_a i j)) (coordinate_magnitude c j) (le_refl (unsigned_abs (d.plant_a i j))) (coordinate_within c xi j g (omega (arith, m.states))))
+    amount_mono d.states _ _ (λ j h. mul-le (unsigned_abs (d.plant_a i j)) (unsigned_abs (at xi j)) (unsigned_abs (d.plant_a i j)) (coordinate_magnitude c j) (le_refl (unsigned_abs (d.plant_a i j)))
+    (coordinate_within c xi j g (omega (arith, m.states))))
 
 pub inputs_within : (d : Design) (c : Numbers) (xi : List ℤ) (i : ℕ) → IsFor c d → IsController c → IsAdmissible c xi → amount d.inputs (λ l. unsigned_abs (d.plant_b i l) * unsigned_abs (at (averaged_plan c xi) l)) ≤ input_absolute_sum d c i
 inputs_within d c xi i m s g =
-    amount_mono d.inputs _ _ (λ l h. mul-le (unsigned_abs (d.plant_b i l)) (unsigned_abs (at (averaged_plan c xi) l)) (unsigned_abs (d.plant_b i l)) (c.steps * get_or (plan_magnitudes c) l 0) (le_refl (unsigned_abs (d.plant_b i l))) (sum_within c xi l s g (omega (arith, m.inputs))))
+    amount_mono d.inputs _ _ (λ l h. mul-le (unsigned_abs (d.plant_b i l)) (unsigned_abs (at (averaged_plan c xi) l)) (unsigned_abs (d.plant_b i l)) (c.steps * get_or (plan_magnitudes c) l 0)
+    (le_refl (unsigned_abs (d.plant_b i l))) (sum_within c xi l s g (omega (arith, m.inputs))))
 
 -- the products of the inputs leave room
 pub inputs_room : (d : Design) (c : Numbers) (xi : List ℤ) (i : ℕ) → IsFor c d → IsController c → IsAdmissible c xi → turn_size d c ≤ 2 ^ 126 → i < d.states →
@@ -98,8 +100,11 @@ own_le d c xi i m s g n h =
     (omega (arith, mul-le (unsigned_abs (image d.states d.plant_a (at xi) i)) (grid_scale c) sum (grid_scale c) (dot_bound d.states (d.plant_a i) (at xi)) (le_refl (grid_scale c)), states_room d c xi i m s g n h))
 
 -- the whole
-pub next_fits : (d : Design) (c : Numbers) (xi : List ℤ) (i : ℕ) → IsFor c d → IsController c → IsAdmissible c xi → turn_size d c ≤ 2 ^ 126 → i < d.states → FitsSigned w128 (next_sum d c xi i)
-next_fits d c xi i m s g n h =
+pub next_small : (d : Design) (c : Numbers) (xi : List ℤ) (i : ℕ) → IsFor c d → IsController c → IsAdmissible c xi → turn_size d c ≤ 2 ^ 126 → i < d.states → unsigned_abs (next_sum d c xi i) ≤ 2 ^ 126
+next_small d c xi i m s g n h =
     let own = image d.states d.plant_a (at xi) i *ℤ pos (grid_scale c) in
     let input = image d.inputs d.plant_b (at (averaged_plan c xi)) i in
-    fits_signed_from_abs w128 _ (omega (arith, abs-add_le own input, own_le d c xi i m s g n h, dot_bound d.inputs (d.plant_b i) (at (averaged_plan c xi)), inputs_within d c xi i m s g, reach_under d c i h n))
+    omega (arith, abs-add_le own input, own_le d c xi i m s g n h, dot_bound d.inputs (d.plant_b i) (at (averaged_plan c xi)), inputs_within d c xi i m s g, reach_under d c i h n)
+
+pub next_fits : (d : Design) (c : Numbers) (xi : List ℤ) (i : ℕ) → IsFor c d → IsController c → IsAdmissible c xi → turn_size d c ≤ 2 ^ 126 → i < d.states → FitsSigned w128 (next_sum d c xi i)
+next_fits d c xi i m s g n h = fits_signed_from_abs w128 _ (omega (arith, next_small d c xi i m s g n h))

@@ -1,9 +1,14 @@
 -- What the turns of a loop put and show.
-use Rattle.std.proofs.Common.{◌≡◌, ◌⊎◌, inl, inr, ℕ, ◌+◌, ◌-◌, ◌<◌, ◌≤◌, ℤ, List, [], ◌++◌, Bool, true, false, Option, Some, None, option_map, Result, Ok, Err, IfErr, IsErrAnd, IsOk, OnOk, IfSome, IsSomeAnd, arith, ap, sym, subst, refl, ◌∙◌, add-one, append_assoc}
+use Rattle.std.proofs.Common.{zero, suc, length, map, get_or, pos, ◌+ℤ◌, ◌≡◌, ◌⊎◌, inl, inr, ℕ, ◌+◌, ◌-◌, ◌<◌, ◌≤◌, ℤ, List, [], ◌++◌, Bool, true, false, Option, Some, None, option_map, Result, Ok}
+use Rattle.std.proofs.Common.{Err, IfErr, IsErrAnd, IsOk, OnOk, IfSome, IsSomeAnd, arith, ap, sym, subst, refl, ◌∙◌, add-one, append_assoc}
 use Rattle.std.specs.Prelude.{◌↔◌, is_some, not}
 use Rattle.std.specs.Option.{SomeIff}
 use Rattle.std.proofs.lemmas.Bool.{cases_lt}
-use Rattle.std.proofs.lemmas.List.{append-nil}
+use Rattle.std.proofs.lemmas.List.{append-nil, ext_get_or, get_or_past}
+use Rattle.std.specs.List.{range_with_len}
+use Rattle.std.proofs.lemmas.List.FromFn.{length-map-range_with_len, get_or-map-range_with_len}
+use Rattle.std.proofs.lemmas.Int.{ints}
+use Rattle.integer_algebra.specs.Sums.{at, none}
 use Rattle.io_edge.specs.Faults.{Rose, GrowsByPart}
 use Rattle.qp_model.specs.problem.Design.{Design}
 use Rattle.qp_model.specs.machine.Controller.{Numbers}
@@ -13,52 +18,114 @@ use Rattle.qp_model.specs.declared.quantity.Quantity.{Quantity}
 use Rattle.qp_model.specs.declared.quantity.Quantity.TheVariants.{Turn}
 use Rattle.qp_model.specs.text.LoopLines.{loop_line, loop_text}
 use Rattle.fixed_kernel.specs.Outside.{IsFirstOutside}
-use Rattle.closed_loop.specs.Answers.{StaysInside, LeavesAt, IsBegun, GrowsByTurns, GrowsByPrefix}
+use Rattle.stay_check.specs.LoopStay.{shifted_successor, state_under}
+use Rattle.stay_check.proofs.LoopLaws.{unshifted}
+use Rattle.mat_int.specs.Matrix.{Matrix, entry_of, zero_matrix}
+use Rattle.closed_loop.specs.Under.{states_under, lines_under}
+use Rattle.closed_loop.specs.Answers.{AreInside, LeavesAmong, MayBegin, GrowsByLines, GrowsByFront, lines_of}
 use Rattle.closed_loop.specs.Shows.{TurnShows, LoopShows}
 use Rattle.closed_loop.specs.declared.fault.LoopFault.{LoopFault}
 use Rattle.closed_loop.specs.declared.fault.LoopFault.TheVariants.{Memory, TooWide, OutsideBox, WriteFault}
 
+-- ---- a row that is added to a state
+-- number by number
+pub added : (old new : List ℤ) (f : ℕ → ℤ) → length new ≡ length old → ((j : ℕ) → j < length old → at new j ≡ at old j +ℤ f j) →
+    new ≡ map (λ i. at old i +ℤ f i) (range_with_len 0 (length old))
+added old new f long each =
+    ext_get_or (pos 0) new (map (λ i. at old i +ℤ f i) (range_with_len 0 (length old))) (long ∙ sym (length-map-range_with_len (λ i. at old i +ℤ f i) 0 (length old)))
+    (λ j l. (let m : j < length old = omega (arith, l, long) in each j m ∙ sym (get_or-map-range_with_len (λ i. at old i +ℤ f i) 0 (length old) j j (pos 0) m (omega arith))))
+
+-- behind the last row there is nothing
+pub past_entry : (m : Matrix) (k i : ℕ) → length m.rows ≤ k → entry_of m k i ≡ pos 0
+past_entry m k i l = ap (λ (xs : List ℤ). get_or xs i (pos 0)) (get_or_past m.rows k [] l) ∙ get_or_past [] i (pos 0) (omega arith)
+
+pub zero_entry : (n k i : ℕ) → entry_of (zero_matrix 0 n) k i ≡ pos 0
+zero_entry n k i = past_entry (zero_matrix 0 n) k i (omega arith)
+
+pub unadded : (z s : ℤ) → s ≡ pos 0 → z ≡ z +ℤ s
+unadded z s is = rw is (omega (arith, ints))
+
 -- ---- states and lines, one turn more
-pub state_zero : (d : Design) (c : Numbers) (start : List ℤ) → state_after d c start 0 ≡ start
-unfolding state_after
-state_zero d c start = refl
+pub state_zero : (d : Design) (c : Numbers) (start : List ℤ) (shifts : ℕ → ℕ → ℤ) → state_under d c start shifts 0 ≡ start
+unfolding state_under
+state_zero d c start shifts = refl
 
-pub state_more : (d : Design) (c : Numbers) (start : List ℤ) (k : ℕ) → state_after d c start (k + 1) ≡ successor d c (state_after d c start k)
-unfolding state_after
-state_more d c start k = rw add-one refl
+pub state_more : (d : Design) (c : Numbers) (start : List ℤ) (shifts : ℕ → ℕ → ℤ) (k : ℕ) →
+    state_under d c start shifts (k + 1) ≡ shifted_successor d c (state_under d c start shifts k) (shifts k)
+unfolding state_under
+state_more d c start shifts k = rw add-one refl
 
-pub text_zero : (d : Design) (c : Numbers) (entry : ℕ) (start : List ℤ) → loop_text d c entry start 0 ≡ []
-unfolding loop_text
-text_zero d c entry start = refl
+-- in the words of what adds a row to a state
+pub shifted_more : (d : Design) (c : Numbers) (start : List ℤ) (shifts : Matrix) (k : ℕ) (next new : List ℤ) → next ≡ successor d c (state_under d c start (entry_of shifts) k) →
+    new ≡ map (λ i. at next i +ℤ entry_of shifts k i) (range_with_len 0 (length next)) → new ≡ state_under d c start (entry_of shifts) (k + 1)
+shifted_more d c start shifts k next new came is =
+    is ∙ ap (λ (xs : List ℤ). map (λ i. at xs i +ℤ entry_of shifts k i) (range_with_len 0 (length xs))) came ∙
+    ap (λ (n : ℕ). map (λ i. at (successor d c (state_under d c start (entry_of shifts) k)) i +ℤ entry_of shifts k i) (range_with_len 0 n)) (length-map-range_with_len _ 0 d.states) ∙
+    sym (state_more d c start (entry_of shifts) k)
 
-pub text_more : (d : Design) (c : Numbers) (entry : ℕ) (start : List ℤ) (k : ℕ) →
-    loop_text d c entry start (k + 1) ≡ loop_text d c entry start k ++ loop_line c entry (k + 1) (state_after d c start k)
-unfolding loop_text
-text_more d c entry start k = rw add-one refl
+pub shifted_long : (d : Design) (c : Numbers) (start : List ℤ) (shifts : Matrix) (k : ℕ) → length (state_under d c start (entry_of shifts) (k + 1)) ≡ d.states
+shifted_long d c start shifts k = ap (λ (xs : List ℤ). length xs) (state_more d c start (entry_of shifts) k) ∙ length-map-range_with_len _ 0 d.states
+
+text_zero : (c : Numbers) (entry : ℕ) (states : ℕ → List ℤ) → lines_of c entry states 0 ≡ []
+unfolding lines_of
+text_zero c entry states = refl
+
+text_more : (c : Numbers) (entry : ℕ) (states : ℕ → List ℤ) (k : ℕ) → lines_of c entry states (k + 1) ≡ lines_of c entry states k ++ loop_line c entry (k + 1) (states k)
+unfolding lines_of
+text_more c entry states k = rw add-one refl
+
+-- the lines of a loop without shifts
+pub plain_lines : (d : Design) (c : Numbers) (entry : ℕ) (start : List ℤ) (k : ℕ) → lines_of c entry (state_after d c start) k ≡ loop_text d c entry start k
+unfolding lines_of loop_text
+plain_lines d c entry start zero = refl
+plain_lines d c entry start (suc k) = ap (λ (t : List ℕ). t ++ loop_line c entry (k + 1) (state_after d c start k)) (plain_lines d c entry start k)
+
+-- what holds of the states and the lines of a loop whose shifts are all 0 holds of those of the loop without
+pub unshifted_loop : (d : Design) (c : Numbers) (entry : ℕ) (start : List ℤ) (P : (ℕ → List ℤ) → (ℕ → List ℕ) → Type 0) →
+    P (state_under d c start (λ k. none)) (lines_of c entry (state_under d c start (λ k. none))) → P (state_after d c start) (loop_text d c entry start)
+unshifted_loop d c entry start P h =
+    subst (P (state_after d c start)) lines (subst (λ (states : ℕ → List ℤ). P states (lines_of c entry states)) states h)
+  where
+    states : state_under d c start (λ k. none) ≡ state_after d c start
+    states = λ t k. unshifted d c start k t
+
+    lines : lines_of c entry (state_after d c start) ≡ loop_text d c entry start
+    lines = λ t k. plain_lines d c entry start k t
+
+-- so where there is no row
+pub unshifted_matrix : (d : Design) (c : Numbers) (entry : ℕ) (start : List ℤ) (m : Matrix) (n : ℕ) → m ≡ zero_matrix 0 n → (P : (ℕ → List ℤ) → (ℕ → List ℕ) → Type 0) →
+    P (states_under d c start m) (lines_under d c entry start m) → P (state_after d c start) (loop_text d c entry start)
+unshifted_matrix d c entry start m n is P h =
+    unshifted_loop d c entry start P
+    (subst (λ (f : ℕ → ℕ → ℤ). P (state_under d c start f) (lines_of c entry (state_under d c start f))) zeros
+    (subst (λ (m : Matrix). P (states_under d c start m) (lines_under d c entry start m)) is h))
+  where
+    zeros : entry_of (zero_matrix 0 n) ≡ (λ k. none)
+    zeros = λ t k i. zero_entry n k i t
 
 -- ---- the states so far
-pub inside_none : (d : Design) (c : Numbers) (start : List ℤ) → StaysInside d c start 0
-inside_none d c start = record { each = λ k h. absurd (omega (arith, h)) }
+pub inside_none : (c : Numbers) (states : ℕ → List ℤ) → AreInside c states 0
+inside_none c states = record { each = λ k h. absurd (omega (arith, h)) }
 
-pub inside_more : (d : Design) (c : Numbers) (start : List ℤ) (k : ℕ) → StaysInside d c start k → IsAdmissible c (state_after d c start k) → StaysInside d c start (k + 1)
-inside_more d c start k s g = record {
+pub inside_more : (c : Numbers) (states : ℕ → List ℤ) (k : ℕ) → AreInside c states k → IsAdmissible c (states k) → AreInside c states (k + 1)
+inside_more c states k s g = record {
   each = λ j h. elim (cases_lt j k) [
     | inl lt ↦ s.each j lt
-    | inr le ↦ (let e : k ≡ j = omega (arith, h) in subst (λ (i : ℕ). IsAdmissible c (state_after d c start i)) e g)
+    | inr le ↦ (let e : k ≡ j = omega (arith, h) in subst (λ (i : ℕ). IsAdmissible c (states i)) e g)
   ];
 }
 
 -- ---- what was put so far
-pub put_none : (d : Design) (c : Numbers) (entry : ℕ) (start : List ℤ) (first : Option (List ℕ)) → first ≡ option_map (λ o. o ++ loop_text d c entry start 0) first
-put_none d c entry start None = refl
-put_none d c entry start (Some o) = rw (text_zero, append-nil) refl
+pub put_none : (c : Numbers) (entry : ℕ) (states : ℕ → List ℤ) (first : Option (List ℕ)) → first ≡ option_map (λ o. o ++ lines_of c entry states 0) first
+put_none c entry states None = refl
+put_none c entry states (Some o) = rw (text_zero, append-nil) refl
 
-pub put_more : (d : Design) (c : Numbers) (entry : ℕ) (start : List ℤ) (k : ℕ) (first mid new : Option (List ℕ)) → mid ≡ option_map (λ o. o ++ loop_text d c entry start k) first →
-    new ≡ option_map (λ o. o ++ loop_line c entry (k + 1) (state_after d c start k)) mid → new ≡ option_map (λ o. o ++ loop_text d c entry start (k + 1)) first
-put_more d c entry start k None mid new e h = h ∙ ap (option_map (λ o. o ++ loop_line c entry (k + 1) (state_after d c start k))) e
-put_more d c entry start k (Some o) mid new e h =
-    h ∙ ap (option_map (λ o. o ++ loop_line c entry (k + 1) (state_after d c start k))) e
-    ∙ ap Some (append_assoc o (loop_text d c entry start k) (loop_line c entry (k + 1) (state_after d c start k)) ∙ ap (λ (t : List ℕ). o ++ t) (sym (text_more d c entry start k)))
+pub put_more : (c : Numbers) (entry : ℕ) (states : ℕ → List ℤ) (k : ℕ) (first mid new : Option (List ℕ)) → mid ≡ option_map (λ o. o ++ lines_of c entry states k) first →
+    new ≡ option_map (λ o. o ++ loop_line c entry (k + 1) (states k)) mid → new ≡ option_map (λ o. o ++ lines_of c entry states (k + 1)) first
+put_more c entry states k None mid new e h = h ∙ ap (option_map (λ o. o ++ loop_line c entry (k + 1) (states k))) e
+put_more c entry states k (Some o) mid new e h =
+    h ∙ ap (option_map (λ o. o ++ loop_line c entry (k + 1) (states k))) e
+    ∙ ap Some (append_assoc o (lines_of c entry states k) (loop_line c entry (k + 1) (states k)) ∙ ap (λ (t : List ℕ). o ++ t) (sym (text_more c entry states k)))
 
 -- ---- refusals
 pub given : (r : Result (Unit {0}) LoopFault) (p : LoopFault → Type 0) (fault : LoopFault) → IsErrAnd r (λ e. e ≡ fault) → p fault → IfErr r p
@@ -83,50 +150,50 @@ rose_from first mid new h l r = elim r.rise [
   ]
 ]
 
-pub grows_by_turns : (d : Design) (c : Numbers) (entry : ℕ) (start : List ℤ) (turns k : ℕ) (first new : Option (List ℕ)) → k ≤ turns → StaysInside d c start k →
-    new ≡ option_map (λ o. o ++ loop_text d c entry start k) first → IfSome first (λ o. IsSomeAnd new (GrowsByTurns d c entry start turns o))
-grows_by_turns d c entry start turns k None new h s e = tt
-grows_by_turns d c entry start turns k (Some o) new h s e =
-    subst (λ (n : Option (List ℕ)). IsSomeAnd n (GrowsByTurns d c entry start turns o)) (sym e) (record { done = k; within = h; inside = s; grown = refl })
+pub grows_by_turns : (c : Numbers) (entry : ℕ) (states : ℕ → List ℤ) (turns k : ℕ) (first new : Option (List ℕ)) → k ≤ turns → AreInside c states k →
+    new ≡ option_map (λ o. o ++ lines_of c entry states k) first → IfSome first (λ o. IsSomeAnd new (GrowsByLines c states (lines_of c entry states) turns o))
+grows_by_turns c entry states turns k None new h s e = tt
+grows_by_turns c entry states turns k (Some o) new h s e =
+    subst (λ (n : Option (List ℕ)). IsSomeAnd n (GrowsByLines c states (lines_of c entry states) turns o)) (sym e) (record { done = k; within = h; inside = s; grown = refl })
 
-front_of : (d : Design) (c : Numbers) (entry : ℕ) (start : List ℤ) (turns k : ℕ) (o : List ℕ) (new : Option (List ℕ)) → k < turns → StaysInside d c start (k + 1) →
-    IsSomeAnd new (λ n. GrowsByPart (o ++ loop_text d c entry start k) n (loop_line c entry (k + 1) (state_after d c start k))) → IsSomeAnd new (GrowsByPrefix d c entry start turns o)
-front_of d c entry start turns k o None h s g = absurd g
-front_of d c entry start turns k o (Some n) h s g = record {
+front_of : (c : Numbers) (entry : ℕ) (states : ℕ → List ℤ) (turns k : ℕ) (o : List ℕ) (new : Option (List ℕ)) → k < turns → AreInside c states (k + 1) →
+    IsSomeAnd new (λ n. GrowsByPart (o ++ lines_of c entry states k) n (loop_line c entry (k + 1) (states k))) → IsSomeAnd new (GrowsByFront c states (lines_of c entry states) turns o)
+front_of c entry states turns k o None h s g = absurd g
+front_of c entry states turns k o (Some n) h s g = record {
   done = k + 1;
   within = omega (arith, h);
   inside = s;
-  part = loop_text d c entry start k ++ g.part;
+  part = lines_of c entry states k ++ g.part;
   rest = g.rest;
-  is = text_more d c entry start k ∙ ap (λ (t : List ℕ). loop_text d c entry start k ++ t) g.is ∙ sym (append_assoc (loop_text d c entry start k) g.part g.rest);
-  grown = g.grown ∙ append_assoc o (loop_text d c entry start k) g.part;
+  is = text_more c entry states k ∙ ap (λ (t : List ℕ). lines_of c entry states k ++ t) g.is ∙ sym (append_assoc (lines_of c entry states k) g.part g.rest);
+  grown = g.grown ∙ append_assoc o (lines_of c entry states k) g.part;
 }
 
-grows_by_front : (d : Design) (c : Numbers) (entry : ℕ) (start : List ℤ) (turns k : ℕ) (first mid new : Option (List ℕ)) → k < turns → StaysInside d c start (k + 1) →
-    mid ≡ option_map (λ o. o ++ loop_text d c entry start k) first → IfSome mid (λ o. IsSomeAnd new (λ n. GrowsByPart o n (loop_line c entry (k + 1) (state_after d c start k)))) →
-    IfSome first (λ o. IsSomeAnd new (GrowsByPrefix d c entry start turns o))
-grows_by_front d c entry start turns k None mid new h s e g = tt
-grows_by_front d c entry start turns k (Some o) mid new h s e g =
-    front_of d c entry start turns k o new h s (subst (λ (m : Option (List ℕ)). IfSome m (λ o. IsSomeAnd new (λ n. GrowsByPart o n (loop_line c entry (k + 1) (state_after d c start k))))) e g)
+grows_by_front : (c : Numbers) (entry : ℕ) (states : ℕ → List ℤ) (turns k : ℕ) (first mid new : Option (List ℕ)) → k < turns → AreInside c states (k + 1) →
+    mid ≡ option_map (λ o. o ++ lines_of c entry states k) first → IfSome mid (λ o. IsSomeAnd new (λ n. GrowsByPart o n (loop_line c entry (k + 1) (states k)))) →
+    IfSome first (λ o. IsSomeAnd new (GrowsByFront c states (lines_of c entry states) turns o))
+grows_by_front c entry states turns k None mid new h s e g = tt
+grows_by_front c entry states turns k (Some o) mid new h s e g =
+    front_of c entry states turns k o new h s (subst (λ (m : Option (List ℕ)). IfSome m (λ o. IsSomeAnd new (λ n. GrowsByPart o n (loop_line c entry (k + 1) (states k))))) e g)
 
 -- a turn that was made is one, and the first was made too
-begun_by : (d : Design) (c : Numbers) (start : List ℤ) (turns k : ℕ) → k < turns → StaysInside d c start (k + 1) → IsBegun d c start turns
-begun_by d c start turns k h s = record { some = omega (arith, h); inside = record { each = λ j l. s.each j (omega (arith, l)) } }
+begun_by : (c : Numbers) (states : ℕ → List ℤ) (turns k : ℕ) → k < turns → AreInside c states (k + 1) → MayBegin c states turns
+begun_by c states turns k h s = record { some = omega (arith, h); inside = record { each = λ j l. s.each j (omega (arith, l)) } }
 
 -- what a turn shows, a loop shows that came to it
-pub turn_shows : (d : Design) (c : Numbers) (entry : ℕ) (start : List ℤ) (turns k : ℕ) (first mid new : Option (List ℕ)) (before between now : ℕ) (fault : LoopFault) → k < turns →
-    StaysInside d c start k → mid ≡ option_map (λ o. o ++ loop_text d c entry start k) first → before ≤ between → between ≤ now →
-    TurnShows c entry (k + 1) (state_after d c start k) mid new between now fault → LoopShows d c entry start turns first new before now fault
-turn_shows d c entry start turns k first mid new before between now Memory h s e l m t = grows_by_turns d c entry start turns k first new (omega (arith, h)) s (t.1 ∙ e)
-turn_shows d c entry start turns k first mid new before between now (TooWide quantity) h s e l m t = absurd t
-turn_shows d c entry start turns k first mid new before between now (OutsideBox turn coordinate) h s e l m t =
+pub turn_shows : (c : Numbers) (entry : ℕ) (states : ℕ → List ℤ) (turns k : ℕ) (first mid new : Option (List ℕ)) (before between now : ℕ) (fault : LoopFault) → k < turns →
+    AreInside c states k → mid ≡ option_map (λ o. o ++ lines_of c entry states k) first → before ≤ between → between ≤ now →
+    TurnShows c entry (k + 1) (states k) mid new between now fault → LoopShows c states (lines_of c entry states) turns first new before now fault
+turn_shows c entry states turns k first mid new before between now Memory h s e l m t = grows_by_turns c entry states turns k first new (omega (arith, h)) s (t.1 ∙ e)
+turn_shows c entry states turns k first mid new before between now (TooWide quantity) h s e l m t = absurd t
+turn_shows c entry states turns k first mid new before between now (OutsideBox turn coordinate) h s e l m t =
     let gone : k ≡ turn - 1 = omega (arith, t.0) in (
       record { gone = k; is = t.0; within = omega (arith, t.0, h); before = s; outside = t.1 },
-      t.2 ∙ e ∙ ap (λ (j : ℕ). option_map (λ o. o ++ loop_text d c entry start j) first) gone,
+      t.2 ∙ e ∙ ap (λ (j : ℕ). option_map (λ o. o ++ lines_of c entry states j) first) gone,
     )
-turn_shows d c entry start turns k first mid new before between now WriteFault h s e l m t =
-    let inside = inside_more d c start k s t.0 in
-    (grows_by_front d c entry start turns k first mid new h inside e t.1, rose_from before between now l m t.2, begun_by d c start turns k h inside)
+turn_shows c entry states turns k first mid new before between now WriteFault h s e l m t =
+    let inside = inside_more c states k s t.0 in
+    (grows_by_front c entry states turns k first mid new h inside e t.1, rose_from before between now l m t.2, begun_by c states turns k h inside)
 
 -- ---- the first state outside the box is one
 not_inside : (c : Numbers) (xi : List ℤ) (k : ℕ) → IsFirstOutside c xi k → IsAdmissible c xi → ⊥
@@ -144,21 +211,21 @@ coordinate_one c xi j k o p = elim (cases_lt j k) [
   ]
 ]
 
-gone_one : (d : Design) (c : Numbers) (start : List ℤ) (turns t i u j : ℕ) (a : LeavesAt d c start turns t i) (b : LeavesAt d c start turns u j) → a.gone ≡ b.gone
-gone_one d c start turns t i u j a b = elim (cases_lt a.gone b.gone) [
-  | inl lt ↦ absurd (not_inside c (state_after d c start a.gone) i a.outside (b.before.each a.gone lt))
+gone_one : (c : Numbers) (states : ℕ → List ℤ) (turns t i u j : ℕ) (a : LeavesAmong c states turns t i) (b : LeavesAmong c states turns u j) → a.gone ≡ b.gone
+gone_one c states turns t i u j a b = elim (cases_lt a.gone b.gone) [
+  | inl lt ↦ absurd (not_inside c (states a.gone) i a.outside (b.before.each a.gone lt))
   | inr le ↦ elim (cases_lt b.gone a.gone) [
-    | inl lt ↦ absurd (not_inside c (state_after d c start b.gone) j b.outside (a.before.each b.gone lt))
+    | inl lt ↦ absurd (not_inside c (states b.gone) j b.outside (a.before.each b.gone lt))
     | inr ge ↦ omega (arith, le, ge)
   ]
 ]
 
-turn_one : (d : Design) (c : Numbers) (start : List ℤ) (turns t i u j : ℕ) → LeavesAt d c start turns t i → LeavesAt d c start turns u j → t ≡ u
-turn_one d c start turns t i u j a b = omega (arith, a.is, b.is, gone_one d c start turns t i u j a b)
+turn_one : (c : Numbers) (states : ℕ → List ℤ) (turns t i u j : ℕ) → LeavesAmong c states turns t i → LeavesAmong c states turns u j → t ≡ u
+turn_one c states turns t i u j a b = omega (arith, a.is, b.is, gone_one c states turns t i u j a b)
 
-first_one : (d : Design) (c : Numbers) (start : List ℤ) (turns t i u j : ℕ) → LeavesAt d c start turns t i → LeavesAt d c start turns u j → i ≡ j
-first_one d c start turns t i u j a b =
-    coordinate_one c (state_after d c start b.gone) i j (subst (λ (k : ℕ). IsFirstOutside c (state_after d c start k) i) (gone_one d c start turns t i u j a b) a.outside) b.outside
+first_one : (c : Numbers) (states : ℕ → List ℤ) (turns t i u j : ℕ) → LeavesAmong c states turns t i → LeavesAmong c states turns u j → i ≡ j
+first_one c states turns t i u j a b =
+    coordinate_one c (states b.gone) i j (subst (λ (k : ℕ). IsFirstOutside c (states k) i) (gone_one c states turns t i u j a b) a.outside) b.outside
 
 -- ---- the quantity `turn`
 pub none_wide : (o : Option ℕ) (none : Bool) (m n : ℕ) → is_some o ≡ not none → none ≡ true → SomeIff o (n ≤ m) n → m < n
@@ -190,23 +257,23 @@ pub not_wide : (r : Result (Unit {0}) LoopFault) (p : LoopFault → Type 0) (W :
 not_wide r p W h never narrow q = (λ e. absurd (never q (told r p (TooWide q) h e)), λ w. absurd (narrow w.1))
 
 -- what a loop that came to its limit or went on answers where some state leaves the box
-pub leaves : (d : Design) (c : Numbers) (entry : ℕ) (start : List ℤ) (turns : ℕ) (first new : Option (List ℕ)) (before now : ℕ) (r : Result (Unit {0}) LoopFault) →
-    OnOk r (StaysInside d c start turns) → IfErr r (LoopShows d c entry start turns first new before now) → (turn coordinate : ℕ) → LeavesAt d c start turns turn coordinate →
+pub leaves : (c : Numbers) (lines : ℕ → List ℕ) (states : ℕ → List ℤ) (turns : ℕ) (first new : Option (List ℕ)) (before now : ℕ) (r : Result (Unit {0}) LoopFault) →
+    OnOk r (AreInside c states turns) → IfErr r (LoopShows c states lines turns first new before now) → (turn coordinate : ℕ) → LeavesAmong c states turns turn coordinate →
     (r ≡ Err (OutsideBox turn coordinate)) ⊎ ((r ≡ Err Memory) ⊎ (r ≡ Err WriteFault))
-leaves d c entry start turns first new before now (Ok done) s e turn coordinate l =
-    absurd (not_inside c (state_after d c start l.gone) coordinate l.outside (s.each l.gone (omega (arith, l.is, l.within))))
-leaves d c entry start turns first new before now (Err Memory) s e turn coordinate l = inr (inl refl)
-leaves d c entry start turns first new before now (Err (TooWide quantity)) s e turn coordinate l = absurd e
-leaves d c entry start turns first new before now (Err (OutsideBox t i)) s e turn coordinate l =
-    inl (rw (turn_one d c start turns t i turn coordinate e.0 l, first_one d c start turns t i turn coordinate e.0 l) refl)
-leaves d c entry start turns first new before now (Err WriteFault) s e turn coordinate l = inr (inr refl)
+leaves c lines states turns first new before now (Ok done) s e turn coordinate l =
+    absurd (not_inside c (states l.gone) coordinate l.outside (s.each l.gone (omega (arith, l.is, l.within))))
+leaves c lines states turns first new before now (Err Memory) s e turn coordinate l = inr (inl refl)
+leaves c lines states turns first new before now (Err (TooWide quantity)) s e turn coordinate l = absurd e
+leaves c lines states turns first new before now (Err (OutsideBox t i)) s e turn coordinate l =
+    inl (rw (turn_one c states turns t i turn coordinate e.0 l, first_one c states turns t i turn coordinate e.0 l) refl)
+leaves c lines states turns first new before now (Err WriteFault) s e turn coordinate l = inr (inr refl)
 
 -- and where none does and the sink's count didn't rise
-pub stays : (d : Design) (c : Numbers) (entry : ℕ) (start : List ℤ) (turns : ℕ) (first new : Option (List ℕ)) (before now : ℕ) (r : Result (Unit {0}) LoopFault) →
-    IfErr r (LoopShows d c entry start turns first new before now) → StaysInside d c start turns → (Rose before now → ⊥) → IsOk r ⊎ (r ≡ Err Memory)
-stays d c entry start turns first new before now (Ok done) e s none = inl refl
-stays d c entry start turns first new before now (Err Memory) e s none = inr refl
-stays d c entry start turns first new before now (Err (TooWide quantity)) e s none = absurd e
-stays d c entry start turns first new before now (Err (OutsideBox t i)) e s none =
-    absurd (not_inside c (state_after d c start e.0.gone) i e.0.outside (s.each e.0.gone (omega (arith, e.0.is, e.0.within))))
-stays d c entry start turns first new before now (Err WriteFault) e s none = absurd (none e.1)
+pub stays : (c : Numbers) (lines : ℕ → List ℕ) (states : ℕ → List ℤ) (turns : ℕ) (first new : Option (List ℕ)) (before now : ℕ) (r : Result (Unit {0}) LoopFault) →
+    IfErr r (LoopShows c states lines turns first new before now) → AreInside c states turns → (Rose before now → ⊥) → IsOk r ⊎ (r ≡ Err Memory)
+stays c lines states turns first new before now (Ok done) e s none = inl refl
+stays c lines states turns first new before now (Err Memory) e s none = inr refl
+stays c lines states turns first new before now (Err (TooWide quantity)) e s none = absurd e
+stays c lines states turns first new before now (Err (OutsideBox t i)) e s none =
+    absurd (not_inside c (states e.0.gone) i e.0.outside (s.each e.0.gone (omega (arith, e.0.is, e.0.within))))
+stays c lines states turns first new before now (Err WriteFault) e s none = absurd (none e.1)

@@ -1,42 +1,64 @@
--- What a closed loop meets and puts.
-use Rattle.std.specs.Prelude.{◌≡◌, ℕ, ◌+◌, ◌≤◌, ◌<◌, ℤ, List, ◌++◌}
+-- What a closed loop meets and puts, by its states turn by turn and the lines of its first turns.
+use Rattle.std.specs.Prelude.{◌≡◌, ℕ, zero, suc, ◌+◌, ◌≤◌, ◌<◌, ℤ, List, [], ◌++◌}
 use Rattle.qp_model.specs.problem.Design.{Design}
 use Rattle.qp_model.specs.machine.Controller.{Numbers}
 use Rattle.qp_model.specs.machine.Machine.{IsAdmissible}
 use Rattle.fixed_kernel.specs.Outside.{IsFirstOutside}
 use Rattle.qp_model.specs.machine.Successor.{state_after}
-use Rattle.qp_model.specs.text.LoopLines.{loop_text}
+use Rattle.qp_model.specs.text.LoopLines.{loop_line, loop_text}
 
--- the states of the first turns lie in the box
-pub record StaysInside (d : Design) (c : Numbers) (start : List ℤ) (turns : ℕ) : Type 0 where
-  pub each : (k : ℕ) → k < turns → IsAdmissible c (state_after d c start k)
+-- ---- of any states
+-- those of the first turns lie in the box
+pub record AreInside (c : Numbers) (states : ℕ → List ℤ) (turns : ℕ) : Type 0 where
+  pub each : (k : ℕ) → k < turns → IsAdmissible c (states k)
 
 -- among so many turns, the state of this one, counted from 1, is the first outside the box, and this coordinate its first
-pub record LeavesAt (d : Design) (c : Numbers) (start : List ℤ) (turns turn coordinate : ℕ) : Type 0 where
+pub record LeavesAmong (c : Numbers) (states : ℕ → List ℤ) (turns turn coordinate : ℕ) : Type 0 where
   pub gone : ℕ
   pub is : turn ≡ gone + 1
   pub within : turn ≤ turns
-  pub before : StaysInside d c start gone
-  pub outside : IsFirstOutside c (state_after d c start gone) coordinate
+  pub before : AreInside c states gone
+  pub outside : IsFirstOutside c (states gone) coordinate
 
 -- a line may be put: there is a turn, and the state of the first lies in the box
-pub record IsBegun (d : Design) (c : Numbers) (start : List ℤ) (turns : ℕ) : Type 0 where
+pub record MayBegin (c : Numbers) (states : ℕ → List ℤ) (turns : ℕ) : Type 0 where
   pub some : 0 < turns
-  pub inside : StaysInside d c start 1
+  pub inside : AreInside c states 1
 
 -- what a sink got grew by the lines of some first turns, whose states lie in the box
-pub record GrowsByTurns (d : Design) (c : Numbers) (entry : ℕ) (start : List ℤ) (turns : ℕ) (old new : List ℕ) : Type 0 where
+pub record GrowsByLines (c : Numbers) (states : ℕ → List ℤ) (lines : ℕ → List ℕ) (turns : ℕ) (old new : List ℕ) : Type 0 where
   pub done : ℕ
   pub within : done ≤ turns
-  pub inside : StaysInside d c start done
-  pub grown : new ≡ old ++ loop_text d c entry start done
+  pub inside : AreInside c states done
+  pub grown : new ≡ old ++ lines done
 
 -- the same, where the last line may be cut off
-pub record GrowsByPrefix (d : Design) (c : Numbers) (entry : ℕ) (start : List ℤ) (turns : ℕ) (old new : List ℕ) : Type 0 where
+pub record GrowsByFront (c : Numbers) (states : ℕ → List ℤ) (lines : ℕ → List ℕ) (turns : ℕ) (old new : List ℕ) : Type 0 where
   pub done : ℕ
   pub within : done ≤ turns
-  pub inside : StaysInside d c start done
+  pub inside : AreInside c states done
   pub part : List ℕ
   pub rest : List ℕ
-  pub is : loop_text d c entry start done ≡ part ++ rest
+  pub is : lines done ≡ part ++ rest
   pub grown : new ≡ old ++ part
+
+-- the lines of the first turns
+unfoldable pub lines_of : Numbers → (entry : ℕ) → (states : ℕ → List ℤ) → ℕ → List ℕ
+lines_of c entry states zero = []
+lines_of c entry states (suc k) = lines_of c entry states k ++ loop_line c entry (k + 1) (states k)
+
+-- ---- of the loop from a start
+abbrev pub StaysInside : Design → Numbers → (start : List ℤ) → (turns : ℕ) → Type 0
+StaysInside d c start turns = AreInside c (state_after d c start) turns
+
+abbrev pub LeavesAt : Design → Numbers → (start : List ℤ) → (turns turn coordinate : ℕ) → Type 0
+LeavesAt d c start turns turn coordinate = LeavesAmong c (state_after d c start) turns turn coordinate
+
+abbrev pub IsBegun : Design → Numbers → (start : List ℤ) → (turns : ℕ) → Type 0
+IsBegun d c start turns = MayBegin c (state_after d c start) turns
+
+abbrev pub GrowsByTurns : Design → Numbers → (entry : ℕ) → (start : List ℤ) → (turns : ℕ) → (old new : List ℕ) → Type 0
+GrowsByTurns d c entry start turns old new = GrowsByLines c (state_after d c start) (loop_text d c entry start) turns old new
+
+abbrev pub GrowsByPrefix : Design → Numbers → (entry : ℕ) → (start : List ℤ) → (turns : ℕ) → (old new : List ℕ) → Type 0
+GrowsByPrefix d c entry start turns old new = GrowsByFront c (state_after d c start) (loop_text d c entry start) turns old new

@@ -1,12 +1,11 @@
 -- What a refusal of a turn, and of a loop, shows.
 use Rattle.std.specs.Prelude.{◌≡◌, ℕ, ◌-◌, ℤ, List, ◌++◌, Option, option_map, IfSome, IsSomeAnd}
 use Rattle.io_edge.specs.Faults.{Rose, GrowsByPart}
-use Rattle.qp_model.specs.problem.Design.{Design}
 use Rattle.qp_model.specs.machine.Controller.{Numbers}
 use Rattle.qp_model.specs.machine.Machine.{IsAdmissible}
-use Rattle.qp_model.specs.text.LoopLines.{loop_line, loop_text}
+use Rattle.qp_model.specs.text.LoopLines.{loop_line}
 use Rattle.fixed_kernel.specs.Outside.{IsFirstOutside}
-use Rattle.closed_loop.specs.Answers.{LeavesAt, IsBegun, GrowsByTurns, GrowsByPrefix}
+use Rattle.closed_loop.specs.Answers.{LeavesAmong, MayBegin, GrowsByLines, GrowsByFront}
 use Rattle.closed_loop.specs.declared.fault.LoopFault.{LoopFault}
 use Rattle.closed_loop.specs.declared.fault.LoopFault.TheVariants.{Memory, TooWide, OutsideBox, WriteFault}
 
@@ -18,12 +17,12 @@ TurnShows c entry turn xi old new before now (OutsideBox at coordinate) = (at �
 TurnShows c entry turn xi old new before now WriteFault =
     IsAdmissible c xi × IfSome old (λ o. IsSomeAnd new (λ n. GrowsByPart o n (loop_line c entry turn xi))) × Rose before now
 
--- of a loop: after out of memory the lines of some first turns were printed, at a state outside the box those of all turns before it, and
--- after a fault of the sink a prefix of the lines, of which there may be one
-abbrev pub LoopShows : Design → Numbers → ℕ → List ℤ → ℕ → (old new : Option (List ℕ)) → (before now : ℕ) → LoopFault → Type 0
-LoopShows d c entry start turns old new before now Memory = IfSome old (λ o. IsSomeAnd new (GrowsByTurns d c entry start turns o))
-LoopShows d c entry start turns old new before now (TooWide quantity) = ⊥
-LoopShows d c entry start turns old new before now (OutsideBox turn coordinate) =
-    LeavesAt d c start turns turn coordinate × (new ≡ option_map (λ o. o ++ loop_text d c entry start (turn - 1)) old)
-LoopShows d c entry start turns old new before now WriteFault =
-    IfSome old (λ o. IsSomeAnd new (GrowsByPrefix d c entry start turns o)) × Rose before now × IsBegun d c start turns
+-- of a loop with these states and lines: after out of memory the lines of some first turns were printed, at a state outside the box those of all turns
+-- before it, and after a fault of the sink a prefix of the lines, of which there may be one
+abbrev pub LoopShows : Numbers → (states : ℕ → List ℤ) → (lines : ℕ → List ℕ) → (turns : ℕ) → (old new : Option (List ℕ)) → (before now : ℕ) → LoopFault → Type 0
+LoopShows c states lines turns old new before now Memory = IfSome old (λ o. IsSomeAnd new (GrowsByLines c states lines turns o))
+LoopShows c states lines turns old new before now (TooWide quantity) = ⊥
+LoopShows c states lines turns old new before now (OutsideBox turn coordinate) =
+    LeavesAmong c states turns turn coordinate × (new ≡ option_map (λ o. o ++ lines (turn - 1)) old)
+LoopShows c states lines turns old new before now WriteFault =
+    IfSome old (λ o. IsSomeAnd new (GrowsByFront c states lines turns o)) × Rose before now × MayBegin c states turns

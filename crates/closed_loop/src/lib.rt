@@ -10,4 +10,4 @@ mod turns;
 pub use fault::LoopFault;
 pub use size::turn_size;
 pub use successor::next_state;
-pub use turns::run_loop;
+pub use turns::{run_loop, run_loop_under};

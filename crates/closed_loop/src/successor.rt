@@ -1,5 +1,7 @@
 // The plant's next state.
-ghost use Rattle.std.specs.Prelude.{◌≡◌, ℕ, ◌≤◌, ◌<◌, ◌^◌, length};
+ghost use Rattle.std.specs.Prelude.{◌≡◌, ℕ, ◌≤◌, ◌<◌, ◌^◌, ◌+ℤ◌, length, map, unsigned_abs};
+ghost use Rattle.std.specs.List.{range_with_len};
+ghost use Rattle.mat_int.specs.Matrix.{entry_of};
 ghost use Rattle.integer_algebra.specs.Sums.{at, image};
 ghost use Rattle.integer_algebra.specs.Division.{round_of, IsNearest};
 ghost use Rattle.qp_model.specs.machine.AbsoluteSums.{IsController};
@@ -7,11 +9,12 @@ ghost use Rattle.qp_model.specs.machine.Machine.{IsAdmissible, averaged_plan};
 ghost use Rattle.qp_model.specs.problem.Parts.{IsDesign, design_of};
 ghost use Rattle.qp_model.specs.machine.Successor.{IsFor, next_sum, next_over, successor};
 ghost use Rattle.qp_model.specs.machine.LoopSize.{turn_size};
+ghost use Rattle.closed_loop.specs.Under.{AreSmallShifts};
 
 use crate::size::{grid_scale, next_over};
 use fixed_kernel::Kernel;
 use frac_scaled::round_div;
-use mat_int::dot;
+use mat_int::{Mat, dot};
 use primal_average::first_input;
 use qp_model::{Design, DesignParts};
 
@@ -58,6 +61,7 @@ fn next_coordinate(design: &DesignParts, k: &Kernel, state: &[i128], i: usize) -
     requires in_range { i < design.now.states }
     ensures value { result ≡ round_of (next_sum (design_of design.now) k.now.controller state.now i) (next_over (design_of design.now) k.now.controller) }
     ensures nearest { IsNearest (next_sum (design_of design.now) k.now.controller state.now i) (next_over (design_of design.now) k.now.controller) result }
+    ensures small { unsigned_abs result ≤ 2 ^ 126 }
 {
     let over = next_over(design, k.controller().parts());
     round_div(next_sum(design, k, state, i), over)
@@ -74,9 +78,34 @@ pub fn next_state(design: &Design, k: &Kernel, state: &[i128], next: &mut [i128]
     ensures value { next.new ≡ successor (design_of design.now) k.now.controller state.now }
     ensures nearest { (i : ℕ) → i < k.now.controller.states →
         IsNearest (next_sum (design_of design.now) k.now.controller state.now i) (next_over (design_of design.now) k.now.controller) (at next.new i) }
+    ensures small { (i : ℕ) → i < k.now.controller.states → unsigned_abs (at next.new i) ≤ 2 ^ 126 }
 {
     let parts = design.parts();
     for i in 0..next.len() {
         next[i] = next_coordinate(parts, k, state, i);
+    }
+}
+
+/// Adds the row of a turn, counted from 0, to a state over `2^g`, where there is that row.
+pub fn shift_state(shifts: &Mat, turn: usize, state: &mut [i128])
+    requires width { shifts.now.cols ≡ length state.old }
+    requires shifts { AreSmallShifts shifts.now }
+    requires room { (i : ℕ) → i < length state.old → unsigned_abs (at state.old i) ≤ 2 ^ 126 }
+    ensures { state.new ≡ map (λ i. at state.old i +ℤ entry_of shifts.now turn i) (range_with_len 0 (length state.old)) }
+{
+    if turn < shifts.rows() {
+        add_row(shifts.row(turn), state);
+    }
+}
+
+// Adds a row to a state.
+fn add_row(row: &[i128], state: &mut [i128])
+    requires width { length row.now ≡ length state.old }
+    requires small { (i : ℕ) → unsigned_abs (at row.now i) < 2 ^ 31 }
+    requires room { (i : ℕ) → i < length state.old → unsigned_abs (at state.old i) ≤ 2 ^ 126 }
+    ensures { state.new ≡ map (λ i. at state.old i +ℤ at row.now i) (range_with_len 0 (length state.old)) }
+{
+    for i in 0..state.len() {
+        state[i] += row[i];
     }
 }

@@ -3,18 +3,20 @@ ghost use Rattle.std.specs.Prelude.{◌≡◌, ℕ, ◌≤◌, ◌<◌, ◌-◌,
 ghost use Rattle.io_edge.specs.Faults.{Rose};
 ghost use Rattle.qp_model.specs.machine.Machine.{IsAdmissible};
 ghost use Rattle.qp_model.specs.problem.Parts.{design_of};
-ghost use Rattle.qp_model.specs.machine.Successor.{IsFor};
+ghost use Rattle.qp_model.specs.machine.Successor.{IsFor, state_after};
 ghost use Rattle.qp_model.specs.machine.LoopSize.{turn_size};
 ghost use Rattle.qp_model.specs.text.LoopLines.{loop_line, loop_text};
-ghost use Rattle.closed_loop.specs.Answers.{StaysInside, LeavesAt, IsBegun, GrowsByTurns, GrowsByPrefix};
+ghost use Rattle.closed_loop.specs.Answers.{AreInside, LeavesAmong, MayBegin, GrowsByLines, GrowsByFront, StaysInside, LeavesAt, IsBegun, GrowsByTurns, GrowsByPrefix};
+ghost use Rattle.closed_loop.specs.Under.{AreSmallShifts, states_under, lines_under};
 ghost use Rattle.closed_loop.specs.Shows.{TurnShows, LoopShows};
 
 use crate::fault::LoopFault;
 use crate::line::loop_line;
 use crate::size::turn_size;
-use crate::successor::next_state;
+use crate::successor::{next_state, shift_state};
 use fixed_kernel::Kernel;
 use io_edge::Sink;
+use mat_int::Mat;
 use qp_model::{Design, Quantity};
 use std::alloc::Global;
 use std::mem::swap;
@@ -49,8 +51,44 @@ fn make_turn<O: Sink>(
     }
 }
 
-// The turns from a start, where the quantity `turn` is within its limit.
+// The turns from a start, each of which is shifted by its row where there is one, where the quantity `turn` is within its limit.
 fn run_turns<O: Sink>(
+    alloc: Global,
+    design: &Design,
+    k: &mut Kernel,
+    entry: u32,
+    start: &[i128],
+    turns: u32,
+    shifts: &Mat,
+    out: &mut O,
+) -> Result<(), LoopFault>
+    requires matched { IsFor k.old.controller (design_of design.now) }
+    requires narrow { turn_size (design_of design.now) k.old.controller ≤ 2 ^ 126 }
+    requires start { length start.now ≡ k.old.controller.states }
+    requires width { shifts.now.cols ≡ k.old.controller.states }
+    requires shifts { AreSmallShifts shifts.now }
+    ensures inside { OnOk result (AreInside k.old.controller (states_under (design_of design.now) k.old.controller start.now shifts.now) turns) }
+    ensures put { OnOk result (O.got out.new ≡
+        option_map (λ old. old ++ lines_under (design_of design.now) k.old.controller entry start.now shifts.now turns) (O.got out.old)) }
+    ensures refused { IfErr result (LoopShows k.old.controller (states_under (design_of design.now) k.old.controller start.now shifts.now)
+        (lines_under (design_of design.now) k.old.controller entry start.now shifts.now) turns
+        (O.got out.old) (O.got out.new) (O.faults out.old) (O.faults out.new)) }
+    ensures no_fewer { O.faults out.old ≤ O.faults out.new }
+    ensures controller { k.new.controller ≡ k.old.controller }
+{
+    let mut state = Vec::from_slice(alloc, start)?;
+    let mut next = Vec::from_slice(alloc, start)?;
+    for gone in 0..turns {
+        make_turn(alloc, k, entry, gone + 1, &state, out)?;
+        next_state(design, k, &state, &mut next);
+        shift_state(shifts, gone as usize, &mut next);
+        swap(&mut state, &mut next);
+    }
+    Ok(())
+}
+
+// The same without shifts.
+fn run_unshifted<O: Sink>(
     alloc: Global,
     design: &Design,
     k: &mut Kernel,
@@ -65,19 +103,14 @@ fn run_turns<O: Sink>(
     ensures inside { OnOk result (StaysInside (design_of design.now) k.old.controller start.now turns) }
     ensures put { OnOk result (O.got out.new ≡
         option_map (λ old. old ++ loop_text (design_of design.now) k.old.controller entry start.now turns) (O.got out.old)) }
-    ensures refused { IfErr result (LoopShows (design_of design.now) k.old.controller entry start.now turns
+    ensures refused { IfErr result (LoopShows k.old.controller (state_after (design_of design.now) k.old.controller start.now)
+        (loop_text (design_of design.now) k.old.controller entry start.now) turns
         (O.got out.old) (O.got out.new) (O.faults out.old) (O.faults out.new)) }
     ensures no_fewer { O.faults out.old ≤ O.faults out.new }
     ensures controller { k.new.controller ≡ k.old.controller }
 {
-    let mut state = Vec::from_slice(alloc, start)?;
-    let mut next = Vec::from_slice(alloc, start)?;
-    for gone in 0..turns {
-        make_turn(alloc, k, entry, gone + 1, &state, out)?;
-        next_state(design, k, &state, &mut next);
-        swap(&mut state, &mut next);
-    }
-    Ok(())
+    let none = Mat::zero(alloc, 0, start.len())?;
+    run_turns(alloc, design, k, entry, start, turns, &none, out)
 }
 
 /// The lines of a record's closed loop from a start, over `2^g`, turn by turn, to a sink: the controller is run on the state,
@@ -128,5 +161,74 @@ pub fn run_loop<O: Sink>(
             quantity: Quantity::Turn,
         });
     }
-    run_turns(alloc, design, k, entry, start, turns, out)
+    run_unshifted(alloc, design, k, entry, start, turns, out)
+}
+
+/// The same where the state is shifted after each turn by a row of `shifts`, of whole numbers over `2^g` that are at most 2147483647 in absolute value; the
+/// turns are these rows, of which there are fewer than `2^32`.
+pub fn run_loop_under<O: Sink>(
+    alloc: Global,
+    design: &Design,
+    k: &mut Kernel,
+    entry: u32,
+    start: &[i128],
+    shifts: &Mat,
+    out: &mut O,
+) -> Result<(), LoopFault>
+    requires matched { IsFor k.old.controller (design_of design.now) }
+    requires start { length start.now ≡ k.old.controller.states }
+    requires width { shifts.now.cols ≡ k.old.controller.states }
+    requires shifts { AreSmallShifts shifts.now }
+    requires few { length shifts.now.rows < 2 ^ 32 }
+    // All turns were made.
+    ensures inside { OnOk result (AreInside k.old.controller (states_under (design_of design.now) k.old.controller start.now shifts.now) (length shifts.now.rows)) }
+    ensures put { OnOk result (O.got out.new ≡ option_map
+        (λ old. old ++ lines_under (design_of design.now) k.old.controller entry start.now shifts.now (length shifts.now.rows)) (O.got out.old)) }
+    // The quantity `turn`, before any line.
+    ensures wide { (quantity : Quantity) → (result ≡ Err (LoopFault.TooWide quantity)) ↔
+        ((quantity ≡ Quantity.Turn) × (2 ^ 126 < turn_size (design_of design.now) k.old.controller)) }
+    ensures wide_put { 2 ^ 126 < turn_size (design_of design.now) k.old.controller → out.new ≡ out.old }
+    // A state outside the box.
+    ensures outside { (turn coordinate : ℕ) → result ≡ Err (LoopFault.OutsideBox turn coordinate) → LeavesAmong k.old.controller
+        (states_under (design_of design.now) k.old.controller start.now shifts.now) (length shifts.now.rows) turn coordinate }
+    ensures outside_put { (turn coordinate : ℕ) → result ≡ Err (LoopFault.OutsideBox turn coordinate) → O.got out.new ≡ option_map
+        (λ old. old ++ lines_under (design_of design.now) k.old.controller entry start.now shifts.now (turn - 1)) (O.got out.old) }
+    ensures leaves { (turn coordinate : ℕ) → LeavesAmong k.old.controller
+        (states_under (design_of design.now) k.old.controller start.now shifts.now) (length shifts.now.rows) turn coordinate →
+        turn_size (design_of design.now) k.old.controller ≤ 2 ^ 126
+        → (result ≡ Err (LoopFault.OutsideBox turn coordinate)) ⊎ (result ≡ Err LoopFault.Memory) ⊎ (result ≡ Err LoopFault.WriteFault) }
+    // It doesn't give up.
+    ensures stays { AreInside k.old.controller (states_under (design_of design.now) k.old.controller start.now shifts.now) (length shifts.now.rows)
+        → turn_size (design_of design.now) k.old.controller ≤ 2 ^ 126 → ¬ Rose (O.faults out.old) (O.faults out.new)
+        → IsOk result ⊎ (result ≡ Err LoopFault.Memory) }
+    // A fault of the sink.
+    ensures failed { result ≡ Err LoopFault.WriteFault → Rose (O.faults out.old) (O.faults out.new) }
+    ensures begun { result ≡ Err LoopFault.WriteFault
+        → MayBegin k.old.controller (states_under (design_of design.now) k.old.controller start.now shifts.now) (length shifts.now.rows) }
+    ensures cut { result ≡ Err LoopFault.WriteFault → IfSome (O.got out.old) (λ old. IsSomeAnd (O.got out.new)
+        (GrowsByFront k.old.controller (states_under (design_of design.now) k.old.controller start.now shifts.now)
+        (lines_under (design_of design.now) k.old.controller entry start.now shifts.now) (length shifts.now.rows) old)) }
+    ensures no_fewer { O.faults out.old ≤ O.faults out.new }
+    // Out of memory.
+    ensures memory { result ≡ Err LoopFault.Memory → IfSome (O.got out.old) (λ old. IsSomeAnd (O.got out.new)
+        (GrowsByLines k.old.controller (states_under (design_of design.now) k.old.controller start.now shifts.now)
+        (lines_under (design_of design.now) k.old.controller entry start.now shifts.now) (length shifts.now.rows) old)) }
+    ensures controller { k.new.controller ≡ k.old.controller }
+{
+    let size = turn_size(design, k.controller());
+    if size.is_none() {
+        return Err(LoopFault::TooWide {
+            quantity: Quantity::Turn,
+        });
+    }
+    run_turns(
+        alloc,
+        design,
+        k,
+        entry,
+        start,
+        shifts.rows() as u32,
+        shifts,
+        out,
+    )
 }

@@ -11,20 +11,11 @@ use Rattle.bound_report.specs.Report.{report_text, report_json}
 use Rattle.design_engine.specs.Targets.{targets_of, IsWithinTargets}
 use Rattle.design_engine.specs.Built.{IsBuilt}
 use Rattle.design_engine.specs.Refusals.{HasCause, PassesAll}
-use Rattle.design_engine.specs.declared.refusal.Refusal.{Refusal}
-use Rattle.design_engine.specs.declared.refusal.Refusal.TheVariants as refusals
+use Rattle.design_refusal.specs.declared.refusal.Refusal.{Refusal}
+use Rattle.command_line.specs.Status.{status_of}
 use Rattle.command_line.specs.Words.{IsJson}
 use Rattle.command_line.specs.declared.status.Status.{Status}
-use Rattle.command_line.specs.declared.status.Status.TheVariants.{Done, Memory, NoMargin, Curvature, TooManySteps, TooFine, TooWide}
-
--- the status that tells of a refusal
-abbrev pub status_of : Refusal → Status
-status_of refusals.Memory = Memory
-status_of (refusals.NoMargin corner row slack) = NoMargin corner row slack
-status_of refusals.Curvature = Curvature
-status_of (refusals.TooManySteps k) = TooManySteps k
-status_of (refusals.TooFine eps) = TooFine eps
-status_of (refusals.TooWide quantity) = TooWide quantity
+use Rattle.command_line.specs.declared.status.Status.TheVariants.{Done}
 
 -- the design with the policy is refused, by the first test that fails
 pub record IsRefusedBy (p : DesignParts) (plans : Plans) (s : Status) : Type 0 where

@@ -39,6 +39,6 @@ shown number p plans c b states texts made text box = record {
   plans = plans;
   texts = texts;
   made = made;
-  third_text = subst (λ (n : ℕ). IsStatesText states_text n states) (sym made.built.made.sizes.states) text;
-  inside = inside (design_of p) c states made.built.made.sizes text box;
+  third_text = subst (λ (n : ℕ). IsStatesText states_text n states) (sym made.built.made.made.sizes.states) text;
+  inside = inside (design_of p) c states made.built.made.made.sizes text box;
 }

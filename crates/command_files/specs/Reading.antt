@@ -7,10 +7,11 @@ use Rattle.qp_model.specs.problem.Policy.{Plans}
 use Rattle.qp_model.specs.problem.Parts.{design_numbers}
 use Rattle.qp_model.specs.machine.Controller.{Numbers}
 use Rattle.qp_model.specs.declared.design_parts.DesignParts.{DesignParts}
+use Rattle.stay_check.specs.FaceForms.{FaceNumbers}
 use Rattle.command_line.specs.Limit.{file_limit}
 use Rattle.command_line.specs.Answers.{ReadsThen, IsRightFor, EndsReading}
 use Rattle.command_line.specs.declared.status.Status.{Status}
-use Rattle.command_files.specs.Texts.{DesignRight, DesignWrong, PolicyRight, PolicyWrong, StatesRight, StatesWrong, ControllerRight, ControllerWrong}
+use Rattle.command_files.specs.Texts.{DesignRight, DesignWrong, PolicyRight, PolicyWrong, StatesRight, StatesWrong, FacesRight, FacesWrong, RangeRight, RangeWrong, ControllerRight, ControllerWrong}
 
 -- ---- what comes after a file, in what a command is called to answer
 abbrev pub ReadsDesign : ℕ → Option (List ℕ) → (DesignParts → Status → Type 0) → Status → Type 0
@@ -24,6 +25,12 @@ ReadsController file content After = ReadsThen file_limit file (ControllerWrong 
 
 abbrev pub ReadsStates : ℕ → ℕ → Option (List ℕ) → (Matrix → Status → Type 0) → Status → Type 0
 ReadsStates n file content After = ReadsThen file_limit file (StatesWrong n file) (StatesRight n) content After
+
+abbrev pub ReadsFaces : Design → ℕ → Option (List ℕ) → (FaceNumbers → Status → Type 0) → Status → Type 0
+ReadsFaces d file content After = ReadsThen file_limit file (FacesWrong d file) (FacesRight d) content After
+
+abbrev pub ReadsRange : ℕ → ℕ → Option (List ℕ) → (Matrix → Status → Type 0) → Status → Type 0
+ReadsRange n file content After = ReadsThen file_limit file (RangeWrong n file) (RangeRight n) content After
 
 -- ---- what a reader answers; a design is known by its numbers
 abbrev pub IsDesignRead : ℕ → Option Files → (name : List ℕ) → DesignParts → Type 0
@@ -49,3 +56,15 @@ AreStatesRead n file held name states = IsRightFor file_limit file (StatesWrong 
 
 abbrev pub EndsStates : ℕ → ℕ → Option Files → (name : List ℕ) → (before now : ℕ) → Status → Type 0
 EndsStates n file held name before now s = EndsReading file_limit file (StatesWrong n file) (StatesRight n) held name before now s
+
+abbrev pub AreFacesRead : Design → ℕ → Option Files → (name : List ℕ) → FaceNumbers → Type 0
+AreFacesRead d file held name faces = IsRightFor file_limit file (FacesWrong d file) (FacesRight d) (λ x. x) held name faces
+
+abbrev pub EndsFaces : Design → ℕ → Option Files → (name : List ℕ) → (before now : ℕ) → Status → Type 0
+EndsFaces d file held name before now s = EndsReading file_limit file (FacesWrong d file) (FacesRight d) held name before now s
+
+abbrev pub IsRangeRead : ℕ → ℕ → Option Files → (name : List ℕ) → Matrix → Type 0
+IsRangeRead n file held name range = IsRightFor file_limit file (RangeWrong n file) (RangeRight n) (λ x. x) held name range
+
+abbrev pub EndsRange : ℕ → ℕ → Option Files → (name : List ℕ) → (before now : ℕ) → Status → Type 0
+EndsRange n file held name before now s = EndsReading file_limit file (RangeWrong n file) (RangeRight n) held name before now s

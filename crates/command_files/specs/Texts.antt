@@ -14,6 +14,9 @@ use Rattle.controller_file.specs.declared.bad_controller.BadController.TheVarian
 use Rattle.design_files.specs.DesignText.{IsDesignText, IsDesignFault}
 use Rattle.policy_file.specs.PolicyText.{IsPolicyText, IsPolicyFault}
 use Rattle.policy_file.specs.StatesText.{IsStatesText, IsStatesFault}
+use Rattle.stay_check.specs.FaceForms.{FaceNumbers}
+use Rattle.stay_check.specs.FacesText.{IsFacesText, IsFacesTextFault}
+use Rattle.shift_file.specs.RangeText.{IsRangeText, IsRangeFault}
 use Rattle.command_line.specs.declared.status.Status.{Status}
 use Rattle.command_line.specs.declared.status.Status.TheVariants.{Text, Controller}
 
@@ -41,6 +44,20 @@ StatesRight n states bytes = IsStatesText bytes n states
 
 abbrev pub StatesWrong : ℕ → ℕ → List ℕ → Status → Type 0
 StatesWrong n file bytes s = (fault : TextFault) × IsStatesFault bytes n fault × TellsFault file fault s
+
+-- ---- faces for a design
+abbrev pub FacesRight : Design → FaceNumbers → List ℕ → Type 0
+FacesRight d faces bytes = IsFacesText bytes d faces
+
+abbrev pub FacesWrong : Design → ℕ → List ℕ → Status → Type 0
+FacesWrong d file bytes s = (fault : TextFault) × IsFacesTextFault bytes d fault × TellsFault file fault s
+
+-- ---- a range of the shifts of n coordinates
+abbrev pub RangeRight : ℕ → Matrix → List ℕ → Type 0
+RangeRight n range bytes = IsRangeText bytes n range
+
+abbrev pub RangeWrong : ℕ → ℕ → List ℕ → Status → Type 0
+RangeWrong n file bytes s = (fault : TextFault) × IsRangeFault bytes n fault × TellsFault file fault s
 
 -- ---- controllers
 abbrev pub ControllerRight : Numbers → List ℕ → Type 0

@@ -7,15 +7,14 @@ use Rattle.qp_model.specs.problem.Parts.{design_of}
 use Rattle.qp_model.specs.machine.Controller.{Numbers}
 use Rattle.qp_model.specs.declared.design_parts.DesignParts.{DesignParts}
 use Rattle.qp_model.specs.bounds.Printed.{Printed}
-use Rattle.command_line.specs.Words.{word_of, IsGenerate}
+use Rattle.command_line.specs.Words.{word_of}
 use Rattle.command_line.specs.Limit.{file_limit}
-use Rattle.command_line.specs.Answers.{ForContents, FileHolds, IsCaused}
+use Rattle.command_line.specs.Answers.{Contents, ForContents, FileHolds, IsCaused}
 use Rattle.command_line.proofs.Counts.{rose_later}
 use Rattle.command_files.specs.Texts.{DesignRight, PolicyRight}
 use Rattle.command_controller.specs.Made.{IsMadeOf}
-use Rattle.command_generate.specs.Writing.{AreTextsFor, AreRead, AreTextsFrom, AreWritten, IsSecondCut, IsAnswered}
-use Rattle.command_generate.specs.Generate.{GenerateCalls, HoldsInputs, IsMadeFrom, IsGenerated, IsControllerCut, IsReportCut}
-use Rattle.command_generate.proofs.Inputs.{is_called}
+use Rattle.command_generate.specs.Writing.{AreTextsFor, AreRead, AreTextsFrom, AreWritten, IsSecondCut}
+use Rattle.command_generate.specs.Generate.{HoldsInputs, IsMadeFrom, IsGenerated, IsControllerCut, IsReportCut}
 use Rattle.command_line.specs.declared.status.Status.{Status}
 use Rattle.command_line.specs.declared.status.Status.TheVariants.{Done, ReadFault, WriteFault}
 
@@ -36,16 +35,16 @@ carried words held held1 held2 text report Q R same from each q = go held held2 
     go (Some files) None read q = q
     go None two read q = tt
 
-made_from : (design policy : Option (List ℕ)) (p : DesignParts) (plans : Plans) (c : Numbers) (b : Printed) → HoldsInputs design policy p plans → IsMadeOf p plans c b → IsMadeFrom design policy c b
+abbrev made_from : (design policy : Option (List ℕ)) (p : DesignParts) (plans : Plans) (c : Numbers) (b : Printed) → HoldsInputs design policy p plans → IsMadeOf p plans c b → IsMadeFrom design policy c b
 made_from design policy p plans c b inputs made = record { p = p; plans = plans; inputs = inputs; built = made.built; certified = made.certified; targets = made.targets }
 
 module _ (words : List (List ℕ)) (p : DesignParts) (plans : Plans) (text report : List ℕ) (texts : AreTextsFor p plans (word_of words 4) text report) (files new : Files)
     (inputs : HoldsInputs (files (word_of words 1)) (files (word_of words 2)) p plans) where
-  made : IsMadeFrom (files (word_of words 1)) (files (word_of words 2)) texts.controller texts.bounds
+  abbrev made : IsMadeFrom (files (word_of words 1)) (files (word_of words 2)) texts.controller texts.bounds
   made = made_from (files (word_of words 1)) (files (word_of words 2)) p plans texts.controller texts.bounds inputs texts.made
 
-  pub generated : IsGenerate words → AreWritten files new (word_of words 3) (word_of words 4) text report → IsGenerated words files new
-  generated generate written = record {
+  abbrev pub generated : word_of words 4 ≢ word_of words 3 → AreWritten files new (word_of words 3) (word_of words 4) text report → IsGenerated words files new
+  generated apart written = record {
     controller = texts.controller;
     bounds = texts.bounds;
     made = made;
@@ -53,7 +52,7 @@ module _ (words : List (List ℕ)) (p : DesignParts) (plans : Plans) (text repor
     is_text = texts.is_text;
     report = report;
     is_report = texts.is_report;
-    controller_file = written.second.others (word_of words 3) (λ e. generate.report_controller (sym e)) ∙ written.first.here;
+    controller_file = written.second.others (word_of words 3) (λ e. apart (sym e)) ∙ written.first.here;
     report_file = written.second.here;
     others = λ q third fourth. written.second.others q fourth ∙ written.first.others q third;
   }
@@ -61,8 +60,8 @@ module _ (words : List (List ℕ)) (p : DesignParts) (plans : Plans) (text repor
   pub controller_cut : IsCutShort files new (word_of words 3) text → IsControllerCut words files new
   controller_cut cut = record { controller = texts.controller; bounds = texts.bounds; made = made; text = text; is_text = texts.is_text; cut = cut }
 
-  pub report_cut : IsGenerate words → IsSecondCut files new (word_of words 3) (word_of words 4) text report → IsReportCut words files new
-  report_cut generate written = record {
+  pub report_cut : word_of words 4 ≢ word_of words 3 → IsSecondCut files new (word_of words 3) (word_of words 4) text report → IsReportCut words files new
+  report_cut apart written = record {
     controller = texts.controller;
     bounds = texts.bounds;
     made = made;
@@ -70,14 +69,14 @@ module _ (words : List (List ℕ)) (p : DesignParts) (plans : Plans) (text repor
     is_text = texts.is_text;
     report = report;
     is_report = texts.is_report;
-    controller_file = written.second.others (word_of words 3) (λ e. generate.report_controller (sym e)) ∙ written.first.here;
+    controller_file = written.second.others (word_of words 3) (λ e. apart (sym e)) ∙ written.first.here;
     report_file = kept written.second.here;
     others = λ q third fourth. written.second.others q fourth ∙ written.first.others q third;
   }
     where
       kept : (new (word_of words 4) ≡ written.mid (word_of words 4)) ⊎ IsSomeAnd (new (word_of words 4)) (IsProperPrefix report) →
           (new (word_of words 4) ≡ files (word_of words 4)) ⊎ IsSomeAnd (new (word_of words 4)) (IsProperPrefix report)
-      kept (inl same) = inl (same ∙ written.first.others (word_of words 4) generate.report_controller)
+      kept (inl same) = inl (same ∙ written.first.others (word_of words 4) apart)
       kept (inr front) = inr front
 
 -- ---- the statuses of writing
@@ -99,15 +98,14 @@ written_none s (inl is) done write = done is
 written_none s (inr (inl cut)) done write = write 3 cut
 written_none s (inr (inr cut)) done write = write 4 cut
 
--- a fault of writing, where the status is called for and the count rose
-abbrev pub WriteFaultAt : List (List ℕ) → Option Files → (before now : List ℕ → ℕ) → ℕ → Type 0
-WriteFaultAt words held before now file =
-    ((file ≡ 3) ⊎ (file ≡ 4)) × ForContents words held (λ contents. GenerateCalls (contents 1) (contents 2) Done) × Rose (before (word_of words file)) (now (word_of words file))
+-- a fault of writing, where this is true of the files and the count rose
+abbrev pub WriteFaultAt : List (List ℕ) → Option Files → (Contents → Type 0) → (before now : List ℕ → ℕ) → ℕ → Type 0
+WriteFaultAt words held P before now file = ((file ≡ 3) ⊎ (file ≡ 4)) × ForContents words held P × Rose (before (word_of words file)) (now (word_of words file))
 
-pub write_fault : (words : List (List ℕ)) (held : Option Files) (before mid now : List ℕ → ℕ) (s : Status) → IsAnswered words held Done → NoneFalls before mid → NoneFalls mid now →
+pub write_fault : (words : List (List ℕ)) (held : Option Files) (P : Contents → Type 0) (before mid now : List ℕ → ℕ) (s : Status) → ForContents words held P → NoneFalls before mid → NoneFalls mid now →
     WritingEnds s → (s ≡ WriteFault 3 → Rose (mid (word_of words 3)) (now (word_of words 3))) → (s ≡ WriteFault 4 → Rose (mid (word_of words 4)) (now (word_of words 4))) →
-    (file : ℕ) → s ≡ WriteFault file → WriteFaultAt words held before now file
-write_fault words held before mid now s answers one two ends third fourth file is = go ends
+    (file : ℕ) → s ≡ WriteFault file → WriteFaultAt words held P before now file
+write_fault words held P before mid now s holds one two ends third fourth file is = go ends
   where
     rose : (at : ℕ) → Rose (mid (word_of words at)) (now (word_of words at)) → Rose (before (word_of words at)) (now (word_of words at))
     rose at h = let name = word_of words at in rose_later (before name) (mid name) (now name) (one.each name) (two.each name) h
@@ -115,7 +113,7 @@ write_fault words held before mid now s answers one two ends third fourth file i
     moved : (at : ℕ) → file ≡ at → Rose (before (word_of words at)) (now (word_of words at)) → Rose (before (word_of words file)) (now (word_of words file))
     moved at same h = subst (λ (k : ℕ). Rose (before (word_of words k)) (now (word_of words k))) (sym same) h
 
-    go : WritingEnds s → WriteFaultAt words held before now file
+    go : WritingEnds s → WriteFaultAt words held P before now file
     go (inl done) = absurd (let never : ⊥ = cc in never)
-    go (inr (inl cut)) = let same : file ≡ 3 = cc in (inl same, is_called words held Done answers, moved 3 same (rose 3 (third cut)))
-    go (inr (inr cut)) = let same : file ≡ 4 = cc in (inr same, is_called words held Done answers, moved 4 same (rose 4 (fourth cut)))
+    go (inr (inl cut)) = let same : file ≡ 3 = cc in (inl same, holds, moved 3 same (rose 3 (third cut)))
+    go (inr (inr cut)) = let same : file ≡ 4 = cc in (inr same, holds, moved 4 same (rose 4 (fourth cut)))

@@ -5,4 +5,4 @@ mod command;
 mod texts;
 
 pub use command::generate;
-pub use texts::{Texts, write_texts};
+pub use texts::{Texts, texts_made, write_texts};

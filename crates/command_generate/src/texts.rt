@@ -56,8 +56,8 @@ fn texts_of(
     texts_made(alloc, &made, report_name)
 }
 
-// Both texts of a controller and its bounds. They are borrowed here, so that they end on one path alone.
-fn texts_made(alloc: Global, made: &Made, report_name: &str) -> Result<Texts, Status>
+/// Both texts of a controller and its bounds, the report in the form that its name asks for. They are borrowed here, so that they end on one path alone.
+pub fn texts_made(alloc: Global, made: &Made, report_name: &str) -> Result<Texts, Status>
     ensures texts { IfOk result (λ t. IsControllerText t.controller.items made.now.controller × IsReport report_name.now (printed made.now.bounds) t.report.items) }
     ensures memory { IfErr result (λ e. e ≡ Status.Memory) }
 {

@@ -1,7 +1,23 @@
 -- The exit status of each answer.
 use Rattle.std.specs.Prelude.{ℕ}
 use Rattle.command_line.specs.declared.status.Status.{Status}
-use Rattle.command_line.specs.declared.status.Status.TheVariants.{Done, Memory, Usage, ReadFault, WriteFault, Text, NoMargin, Curvature, TooManySteps, TooFine, TooWide, Controller, OutsideBox, Long, Mismatch, Listing, Trap}
+use Rattle.command_line.specs.declared.status.Status.TheVariants.{Done, Memory, Usage, ReadFault, WriteFault, Text, Refused, Controller, OutsideBox, Long, Mismatch, Unequal, NoStay, Listing, Trap}
+use Rattle.design_refusal.specs.declared.refusal.Refusal.{Refusal}
+use Rattle.design_refusal.specs.declared.refusal.Refusal.TheVariants as refusals
+
+-- the status that tells of a refusal
+abbrev pub status_of : Refusal → Status
+status_of refusals.Memory = Memory
+status_of refusal = Refused refusal
+
+-- the exit status, where a design is refused
+abbrev pub refusal_number : Refusal → ℕ
+refusal_number refusals.Memory = 1
+refusal_number (refusals.NoMargin corner row slack) = 6
+refusal_number refusals.Curvature = 7
+refusal_number (refusals.TooManySteps k) = 8
+refusal_number (refusals.TooFine eps) = 9
+refusal_number (refusals.TooWide quantity) = 10
 
 abbrev pub status_number : Status → ℕ
 status_number Done = 0
@@ -10,14 +26,12 @@ status_number Usage = 2
 status_number (ReadFault file) = 3
 status_number (WriteFault file) = 4
 status_number (Text file fault) = 5
-status_number (NoMargin corner row slack) = 6
-status_number Curvature = 7
-status_number (TooManySteps k) = 8
-status_number (TooFine eps) = 9
-status_number (TooWide quantity) = 10
+status_number (Refused refusal) = refusal_number refusal
 status_number (Controller file fault) = 11
 status_number (OutsideBox entry turn coordinate) = 12
 status_number (Long file) = 13
 status_number (Mismatch field design controller) = 14
+status_number (Unequal entry input left right) = 16
+status_number (NoStay entry bound) = 17
 status_number (Listing file line) = 20
 status_number (Trap entry step place) = 21

@@ -1,5 +1,5 @@
 -- The words of a command line.
-use Rattle.std.specs.Prelude.{◌≡◌, ◌≢◌, ℕ, ◌≤◌, pos, List, [], ◌++◌, length, codes, slice_index_or}
+use Rattle.std.specs.Prelude.{◌≡◌, ◌≢◌, ℕ, ◌≤◌, ◌<◌, Bool, if◌then◌else◌, pos, List, [], ◌++◌, length, codes, slice_index_or}
 use Rattle.std.specs.Fmt.{signed_decimal}
 
 -- word i, counted from 0
@@ -27,10 +27,30 @@ pub record IsList (words : List (List ℕ)) : Type 0 where
   pub command : word_of words 0 ≡ codes "list"
   pub listing_controller : word_of words 2 ≢ word_of words 1
 
+-- the name at a position stands at no other
+abbrev pub IsOwnName : List (List ℕ) → ℕ → Type 0
+IsOwnName words position = (i : ℕ) → 1 ≤ i → i < length words → i ≢ position → word_of words i ≢ word_of words position
+
+-- the words are `stay` and the names of a design file, a policy file, a controller file, a report file and a file of faces, and of one of disturbances where
+-- there are any; the third and the fourth are no other's
+pub record IsStay (words : List (List ℕ)) (disturbed : Bool) : Type 0 where
+  pub count : length words ≡ (if disturbed then 7 else 6)
+  pub command : word_of words 0 ≡ codes "stay"
+  pub controller : IsOwnName words 3
+  pub report : IsOwnName words 4
+
 -- the words are `play` and the names of a listing file and of a states file
 pub record IsPlay (words : List (List ℕ)) : Type 0 where
   pub count : length words ≡ 3
   pub command : word_of words 0 ≡ codes "play"
+
+-- the words are `lean` and the names of a design file, a policy file, a file of reference plans, a controller file and a report file; neither of the last two
+-- is another's
+pub record IsLean (words : List (List ℕ)) : Type 0 where
+  pub count : length words ≡ 6
+  pub command : word_of words 0 ≡ codes "lean"
+  pub controller : IsOwnName words 4
+  pub report : IsOwnName words 5
 
 -- a name that asks for another form of the report
 abbrev pub IsJson : List ℕ → Type 0

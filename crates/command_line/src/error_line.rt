@@ -2,35 +2,13 @@
 ghost use Rattle.std.specs.Prelude.{◌≡◌, IfOk, string_bytes, codes, [], ◌∷◌};
 ghost use Rattle.std.specs.List.{join_with_byte};
 ghost use Rattle.std.specs.Fmt.{decimal, signed_decimal};
-ghost use Rattle.command_line.specs.StatusLine.{quantity_name, field_name, fault_words, controller_words, status_words, status_line};
+ghost use Rattle.command_line.specs.StatusLine.{field_name, fault_words, controller_words, status_words, status_line};
 
 use crate::status::{Field, Status, status_number};
 use controller_file::BadController;
-use frac_scaled::Frac;
+use design_refusal::refusal_words;
 use number_text::TextFault;
-use qp_model::Quantity;
 use std::alloc::{AllocError, Global};
-
-// The name of a quantity.
-fn quantity_name(quantity: &Quantity) -> &'static str
-    ensures { result.now ≡ quantity_name quantity.now }
-{
-    match quantity {
-        Quantity::Prediction => "prediction",
-        Quantity::CornerSlack => "corner_slack",
-        Quantity::CornerCost => "corner_cost",
-        Quantity::Multiplier => "multiplier",
-        Quantity::Hessian => "hessian",
-        Quantity::Rows => "rows",
-        Quantity::Curvature => "curvature",
-        Quantity::Error => "error",
-        Quantity::Descent => "descent",
-        Quantity::Width => "width",
-        Quantity::Turn => "turn",
-        Quantity::Excess => "excess",
-        Quantity::Stay => "stay",
-    }
-}
 
 // The name of what a design and a controller differ in.
 fn field_name(field: &Field) -> &'static str
@@ -79,28 +57,11 @@ fn text_words(alloc: Global, file: u32, fault: &TextFault) -> Result<String, All
 }
 
 // A file's fault, where it is a controller.
-fn refusal_words(alloc: Global, file: u32, fault: &BadController) -> Result<String, AllocError>
+fn file_words(alloc: Global, file: u32, fault: &BadController) -> Result<String, AllocError>
     ensures { IfOk result (λ text. string_bytes text ≡ join_with_byte 32 (codes "controller" ∷ decimal file ∷ controller_words fault.now)) }
 {
     let fault = controller_words(alloc, fault)?;
     format!(in alloc; "controller {file} {fault}")
-}
-
-// A slack that is less than the margin, and where it is.
-fn margin_words(alloc: Global, corner: u32, row: u32, slack: &Frac) -> Result<String, AllocError>
-    ensures { IfOk result (λ text. string_bytes text
-        ≡ join_with_byte 32 (codes "no-margin" ∷ decimal corner ∷ decimal row ∷ signed_decimal slack.now.num ∷ signed_decimal slack.now.den ∷ [])) }
-{
-    let (num, den) = (slack.num, slack.den);
-    format!(in alloc; "no-margin {corner} {row} {num} {den}")
-}
-
-// The quantity that is too large.
-fn wide_words(alloc: Global, quantity: &Quantity) -> Result<String, AllocError>
-    ensures { IfOk result (λ text. string_bytes text ≡ join_with_byte 32 (codes "too-wide" ∷ quantity_name quantity.now ∷ [])) }
-{
-    let name = quantity_name(quantity);
-    format!(in alloc; "too-wide {name}")
 }
 
 // What a design and a controller differ in, and both numbers.
@@ -128,12 +89,8 @@ fn status_words(alloc: Global, status: &Status) -> Result<String, AllocError>
         Status::ReadFault { file } => format!(in alloc; "read-fault {file}"),
         Status::WriteFault { file } => format!(in alloc; "write-fault {file}"),
         Status::Text { file, fault } => text_words(alloc, *file, fault),
-        Status::NoMargin { corner, row, slack } => margin_words(alloc, *corner, *row, slack),
-        Status::Curvature => format!(in alloc; "curvature"),
-        Status::TooManySteps { k } => format!(in alloc; "too-many-steps {k}"),
-        Status::TooFine { eps } => format!(in alloc; "too-fine {eps}"),
-        Status::TooWide { quantity } => wide_words(alloc, quantity),
-        Status::Controller { file, fault } => refusal_words(alloc, *file, fault),
+        Status::Refused { refusal } => refusal_words(alloc, refusal),
+        Status::Controller { file, fault } => file_words(alloc, *file, fault),
         Status::OutsideBox {
             entry,
             turn,
@@ -145,6 +102,13 @@ fn status_words(alloc: Global, status: &Status) -> Result<String, AllocError>
             design,
             controller,
         } => mismatch_words(alloc, field, *design, *controller),
+        Status::Unequal {
+            entry,
+            input,
+            left,
+            right,
+        } => format!(in alloc; "unequal {entry} {input} {left} {right}"),
+        Status::NoStay { entry, bound } => format!(in alloc; "no-stay {entry} {bound}"),
         Status::Listing { file, line } => format!(in alloc; "listing {file} {line}"),
         Status::Trap { entry, step, place } => format!(in alloc; "trap {entry} {step} {place}"),
     }

@@ -1,12 +1,11 @@
 // What a run answers, and its exit status.
 ghost use Rattle.std.specs.Prelude.{◌≡◌};
-ghost use Rattle.command_line.specs.Status.{status_number};
+ghost use Rattle.command_line.specs.Status.{refusal_number, status_number, status_of};
 ghost use Rattle.command_line.specs.declared.status.Status.TheVariants.{Memory as no_memory};
 
 use controller_file::BadController;
-use frac_scaled::Frac;
+use design_refusal::Refusal;
 use number_text::TextFault;
-use qp_model::Quantity;
 use std::alloc::AllocError;
 
 /// What a design and a controller may differ in.
@@ -40,25 +39,9 @@ pub enum Status {
         file: u32,
         fault: TextFault,
     },
-    /// The plan of that corner has in that row, both counted from 1, less slack than `2^-16`; it is the first.
-    NoMargin {
-        corner: u32,
-        row: u32,
-        slack: Frac,
-    },
-    /// No exponent of the step is at most 40.
-    Curvature,
-    /// A run would need `k` steps, more than 4194304.
-    TooManySteps {
-        k: i128,
-    },
-    /// With the most bits the errors of a step cost `eps` over `2^40`, more than the targets leave.
-    TooFine {
-        eps: i128,
-    },
-    /// The quantity is above `2^126`.
-    TooWide {
-        quantity: Quantity,
+    /// The design is refused. Out of memory is no such answer, but `Memory`.
+    Refused {
+        refusal: Refusal,
     },
     /// The bytes of the file at this position are no controller's text.
     Controller {
@@ -82,6 +65,18 @@ pub enum Status {
         design: i128,
         controller: i128,
     },
+    /// Of that input the first rows have by the weights of that record of the faces `left`, and its coordinate `right`; it is the first.
+    Unequal {
+        entry: u32,
+        input: u32,
+        left: i128,
+        right: i128,
+    },
+    /// That record of the faces lets its coordinate go as far as to `bound` over `2^grid`, which is beyond its face; it is the first.
+    NoStay {
+        entry: u32,
+        bound: i128,
+    },
     /// The bytes of the file at this position are no listing's text; the line with this number, from 1, is the first that no listing's text has there.
     Listing {
         file: u32,
@@ -104,6 +99,31 @@ impl From<AllocError> for Status {
     }
 }
 
+impl From<Refusal> for Status {
+    ghost from_gives = { λ refusal e. e ≡ status_of refusal };
+
+    fn from(refusal: Refusal) -> Self {
+        match refusal {
+            Refusal::Memory => Status::Memory,
+            _ => Status::Refused { refusal },
+        }
+    }
+}
+
+// The exit status of the program, where a design is refused.
+fn refusal_number(refusal: &Refusal) -> u8
+    ensures { result ≡ refusal_number refusal.now }
+{
+    match refusal {
+        Refusal::Memory => 1,
+        Refusal::NoMargin { .. } => 6,
+        Refusal::Curvature => 7,
+        Refusal::TooManySteps { .. } => 8,
+        Refusal::TooFine { .. } => 9,
+        Refusal::TooWide { .. } => 10,
+    }
+}
+
 /// The exit status of the program.
 pub fn status_number(status: &Status) -> u8
     ensures { result ≡ status_number status.now }
@@ -115,15 +135,13 @@ pub fn status_number(status: &Status) -> u8
         Status::ReadFault { .. } => 3,
         Status::WriteFault { .. } => 4,
         Status::Text { .. } => 5,
-        Status::NoMargin { .. } => 6,
-        Status::Curvature => 7,
-        Status::TooManySteps { .. } => 8,
-        Status::TooFine { .. } => 9,
-        Status::TooWide { .. } => 10,
+        Status::Refused { refusal } => refusal_number(refusal),
         Status::Controller { .. } => 11,
         Status::OutsideBox { .. } => 12,
         Status::Long { .. } => 13,
         Status::Mismatch { .. } => 14,
+        Status::Unequal { .. } => 16,
+        Status::NoStay { .. } => 17,
         Status::Listing { .. } => 20,
         Status::Trap { .. } => 21,
     }

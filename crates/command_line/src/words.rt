@@ -1,6 +1,6 @@
 // Which command the arguments are.
-ghost use Rattle.std.specs.Prelude.{ℕ, IsTrue, MatchOption, ◌↔◌, ◌≢◌};
-ghost use Rattle.command_line.specs.Words.{word_of, IsSolve, IsGenerate, IsLoop, IsDemo, IsList, IsPlay, IsJson, IsCount};
+ghost use Rattle.std.specs.Prelude.{ℕ, IsTrue, MatchOption, ◌↔◌, ◌≢◌, ◌<◌, Bool, length};
+ghost use Rattle.command_line.specs.Words.{word_of, IsSolve, IsGenerate, IsLoop, IsDemo, IsList, IsJson, IsCount, IsStay, IsOwnName, IsPlay, IsLean};
 ghost use Rattle.command_line.specs.Commands.{IsUsage, AreOf, OneCommandLaw};
 
 use io_edge::Words;
@@ -14,7 +14,10 @@ pub enum Command {
     Loop { turns: u32 },
     Demo { number: u32 },
     List,
+    /// With a file of disturbances, or without.
+    Stay { disturbed: bool },
     Play,
+    Lean,
 }
 
 /// The most turns of a `loop`.
@@ -42,8 +45,14 @@ pub fn command_of(words: &Words) -> Option<Command>
     if is_list(words) {
         return Some(Command::List);
     }
+    if let Some(disturbed) = disturbed_of(words) {
+        return Some(Command::Stay { disturbed });
+    }
     if is_play(words) {
         return Some(Command::Play);
+    }
+    if is_lean(words) {
+        return Some(Command::Lean);
     }
     None
 }
@@ -104,6 +113,44 @@ fn number_of(words: &Words) -> Option<u32>
         return None;
     }
     count_of(words.at(1), GREATEST_NUMBER)
+}
+
+// Whether a `stay` has a file of disturbances; none where the arguments are those of no `stay`.
+fn disturbed_of(words: &Words) -> Option<bool>
+    ensures { MatchOption result ((disturbed : Bool) → ¬ IsStay words.now disturbed) (λ disturbed. IsStay words.now disturbed) }
+{
+    let count = words.count();
+    if count < 6 || count > 7 || words.at(0) != "stay" {
+        return None;
+    }
+    if is_own_name(words, 3) && is_own_name(words, 4) {
+        Some(count == 7)
+    } else {
+        None
+    }
+}
+
+// Whether they are those that `lean` needs.
+fn is_lean(words: &Words) -> bool
+    ensures { IsTrue result ↔ IsLean words.now }
+{
+    if words.count() != 6 || words.at(0) != "lean" {
+        return false;
+    }
+    is_own_name(words, 4) && is_own_name(words, 5)
+}
+
+// Whether the name at a position stands at no other.
+fn is_own_name(words: &Words, position: usize) -> bool
+    requires { position < length words.now }
+    ensures { IsTrue result ↔ IsOwnName words.now position }
+{
+    for i in 1..words.count() {
+        if i != position && words.at(i) == words.at(position) {
+            return false;
+        }
+    }
+    true
 }
 
 // The number from 0 to `most` that a word is in decimal; none where it is no such number.

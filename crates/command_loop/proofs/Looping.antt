@@ -15,7 +15,8 @@ use Rattle.closed_loop.specs.declared.fault.LoopFault.{LoopFault}
 use Rattle.closed_loop.specs.declared.fault.LoopFault.TheVariants as faults
 use Rattle.command_line.proofs.Counts.{rose_later}
 use Rattle.command_line.specs.declared.status.Status.{Status}
-use Rattle.command_line.specs.declared.status.Status.TheVariants.{Done, Memory, WriteFault, TooWide, OutsideBox}
+use Rattle.command_line.specs.declared.status.Status.TheVariants.{Done, Memory, WriteFault, Refused, OutsideBox}
+use Rattle.design_refusal.specs.declared.refusal.Refusal.TheVariants.{TooWide}
 use Rattle.command_loop.specs.Loop.{AllStay, FitsTurn, TellsLeaving, record_lines}
 use Rattle.command_loop.specs.Printing.{loop_status, LoopsEnd, LoopsPrint}
 
@@ -116,7 +117,7 @@ module _ (d : Design) (c : Numbers) (m : Matrix) (turns : ℕ) where
   pub ends : (i : ℕ) (fault : LoopFault) (s : Status) (old new : Option (List ℕ)) → s ≡ loop_status (i + 1) fault → i < length m.rows → AllStay d c m turns i → Shows d c (i + 1) (row_of m i) turns old new fault →
       LoopsEnd d c turns m s
   ends i faults.Memory s old new is there stay w = inl is
-  ends i (faults.TooWide quantity) s old new is there stay w = inr (inr (inl (record { record_there = omega (arith, there); wide = w.1; is = is ∙ ap TooWide w.0 })))
+  ends i (faults.TooWide quantity) s old new is there stay w = inr (inr (inl (record { record_there = omega (arith, there); wide = w.1; is = is ∙ ap (λ (q : Quantity). Refused (TooWide q)) w.0 })))
   ends i (faults.OutsideBox turn coordinate) s old new is there stay w =
       inr (inr (inr (inl (inr w.0, record { index = i; turn = turn; coordinate = coordinate; there = there; before = stay; here = w.1; is = is }))))
   ends i faults.WriteFault s old new is there stay w =
@@ -141,7 +142,7 @@ module _ (d : Design) (c : Numbers) (m : Matrix) (turns : ℕ) where
     other = λ a b e f. absurd (f is);
   }
 
-  to_wide : (i : ℕ) (quantity : Quantity) (s : Status) (old : List ℕ) → s ≡ TooWide quantity → (0 < i → turn_size d c ≤ 2 ^ 126) → 2 ^ 126 < turn_size d c → LoopsPrint d c turns m s old (old ++ record_lines d c m turns i)
+  to_wide : (i : ℕ) (quantity : Quantity) (s : Status) (old : List ℕ) → s ≡ Refused (TooWide quantity) → (0 < i → turn_size d c ≤ 2 ^ 126) → 2 ^ 126 < turn_size d c → LoopsPrint d c turns m s old (old ++ record_lines d c m turns i)
   to_wide i quantity s old is narrow wide = record {
     done = λ e. absurd (let never : ⊥ = cc in never);
     outside = λ told. let e = told.3 in absurd (let never : ⊥ = cc in never);

@@ -1,7 +1,5 @@
 -- A status that tells of a file.
-use Rattle.std.proofs.Common.{◌≡◌, ◌≢◌, inl, inr, ℕ, ℤ, List, Option, Result, Ok, Err}
-use Rattle.std.specs.Prelude.{IsErrAnd, IfOk, IfErr}
-use Rattle.std.proofs.Common.{subst, sym}
+use Rattle.std.proofs.Common.{◌≡◌, ◌≢◌, inl, inr, ℕ, ℤ, List, Option}
 use Rattle.controller_file.specs.declared.bad_controller.BadController.{BadController}
 use Rattle.qp_model.specs.problem.Design.{Design}
 use Rattle.qp_model.specs.machine.Controller.{Numbers}
@@ -51,13 +49,3 @@ pub mismatch_refusal : (d : Design) (c : Numbers) (s : Status) → IsMismatch d 
 mismatch_refusal d c s (inl states) = field_refusal _ _ _ s states.1
 mismatch_refusal d c s (inr (inl inputs)) = field_refusal _ _ _ s inputs.2
 mismatch_refusal d c s (inr (inr grid)) = field_refusal _ _ _ s grid.3
-
--- what a refusal doesn't meet, it needn't
-pub unmet : {T : Type 0} (r : Result T Status) (p : Status → Type 0) (P : T → Type 0) → IsErrAnd r p → IfOk r P
-unmet (Ok x) p P is = absurd is
-unmet (Err e) p P is = tt
-
--- what a `?` hands on
-pub handed : {Y : Type 0} (r : Result Y Status) (P : Status → Type 0) (s : Status) → IsErrAnd r (λ e. e ≡ s) → P s → IfErr r P
-handed (Ok y) P s is h = absurd is
-handed (Err e) P s is h = subst P (sym is) h

@@ -1,10 +1,10 @@
 -- What is called for is one.
-use Rattle.std.proofs.Common.{◌≡◌, ◌⊎◌, inl, inr, ℕ, ◌+◌, ◌<◌, List, ℤ, length, None, Result, Ok, Err, refl, sym, ap, ◌∙◌, subst, arith}
+use Rattle.std.proofs.Common.{◌≡◌, ◌⊎◌, inl, inr, ℕ, ◌+◌, ◌<◌, List, [], ℤ, length, None, Result, Ok, Err, refl, sym, ap, ◌∙◌, subst, arith}
 use Rattle.std.proofs.lemmas.Bool.{cases_lt}
 use Rattle.mat_int.specs.Matrix.{Matrix, row_of}
 use Rattle.qp_model.specs.problem.Design.{Design}
 use Rattle.qp_model.specs.machine.Controller.{Numbers}
-use Rattle.qp_model.specs.machine.Successor.{IsFor}
+use Rattle.qp_model.specs.machine.Successor.{IsFor, state_after}
 use Rattle.closed_loop.specs.Answers.{StaysInside, LeavesAt}
 use Rattle.closed_loop.specs.declared.fault.LoopFault.{LoopFault}
 use Rattle.closed_loop.specs.declared.fault.LoopFault.TheVariants as faults
@@ -38,7 +38,7 @@ module _ (d : Design) (c : Numbers) (start : List ℤ) (turns : ℕ) where
   never r turn coordinate is (inr (inr e)) = cc
 
   never_leaves : (turn coordinate : ℕ) → StaysInside d c start turns → LeavesAt d c start turns turn coordinate → ⊥
-  never_leaves turn coordinate stays l = never (Ok tt) turn coordinate refl (leaves d c 0 start turns None None 0 0 (Ok tt) stays tt turn coordinate l)
+  never_leaves turn coordinate stays l = never (Ok tt) turn coordinate refl (leaves c (λ k. []) (state_after d c start) turns None None 0 0 (Ok tt) stays tt turn coordinate l)
 
   same : (r : Result (Unit {0}) LoopFault) (t i u j : ℕ) → r ≡ Err (faults.OutsideBox t i) → (r ≡ Err (faults.OutsideBox u j)) ⊎ ((r ≡ Err faults.Memory) ⊎ (r ≡ Err faults.WriteFault)) → (t ≡ u) × (i ≡ j)
   same r t i u j is (inl e) = (let turn : t ≡ u = cc in turn, let coordinate : i ≡ j = cc in coordinate)
@@ -46,7 +46,7 @@ module _ (d : Design) (c : Numbers) (start : List ℤ) (turns : ℕ) where
   same r t i u j is (inr (inr e)) = absurd (let never : ⊥ = cc in never)
 
   one_leaving : (t i u j : ℕ) → LeavesAt d c start turns t i → LeavesAt d c start turns u j → (t ≡ u) × (i ≡ j)
-  one_leaving t i u j a b = same (Err (faults.OutsideBox t i)) t i u j refl (leaves d c 0 start turns None None 0 0 (Err (faults.OutsideBox t i)) tt (a, refl) u j b)
+  one_leaving t i u j a b = same (Err (faults.OutsideBox t i)) t i u j refl (leaves c (λ k. []) (state_after d c start) turns None None 0 0 (Err (faults.OutsideBox t i)) tt (a, refl) u j b)
 
 -- ---- which record's loop does first
 one : (i j : ℕ) → (i < j → ⊥) → (j < i → ⊥) → i ≡ j

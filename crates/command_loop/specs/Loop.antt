@@ -16,7 +16,8 @@ use Rattle.command_files.specs.Texts.{DesignRight, ControllerRight, StatesRight}
 use Rattle.command_files.specs.Reading.{ReadsDesign, ReadsController, ReadsStates}
 use Rattle.command_line.specs.declared.status.Field.TheVariants.{States, Inputs, Grid}
 use Rattle.command_line.specs.declared.status.Status.{Status}
-use Rattle.command_line.specs.declared.status.Status.TheVariants.{Done, Memory, WriteFault, TooWide, OutsideBox, Mismatch}
+use Rattle.command_line.specs.declared.status.Status.TheVariants.{Done, Memory, WriteFault, Refused, OutsideBox, Mismatch}
+use Rattle.design_refusal.specs.declared.refusal.Refusal.TheVariants.{TooWide}
 
 -- ---- what design and controller differ in
 -- the first of states, inputs and grid in which they differ, with both numbers
@@ -45,7 +46,7 @@ pub record IsFirstLeaving (d : Design) (c : Numbers) (m : Matrix) (turns : ℕ) 
 pub record IsTurnWide (d : Design) (c : Numbers) (m : Matrix) (s : Status) : Type 0 where
   pub record_there : 0 < length m.rows
   pub wide : 2 ^ 126 < turn_size d c
-  pub is : s ≡ TooWide Turn
+  pub is : s ≡ Refused (TooWide Turn)
 
 -- there is no record, or the quantity `turn` is within its limit
 abbrev pub FitsTurn : Design → Numbers → Matrix → Type 0

@@ -8,12 +8,13 @@ use Rattle.closed_loop.specs.declared.fault.LoopFault.{LoopFault}
 use Rattle.closed_loop.specs.declared.fault.LoopFault.TheVariants as faults
 use Rattle.command_loop.specs.Loop.{AllStay, IsFirstLeaving, FitsTurn, MayPrintLine, LoopsCall, TellsLeaving, record_lines, lines_to}
 use Rattle.command_line.specs.declared.status.Status.{Status}
-use Rattle.command_line.specs.declared.status.Status.TheVariants.{Done, Memory, WriteFault, TooWide, OutsideBox}
+use Rattle.command_line.specs.declared.status.Status.TheVariants.{Done, Memory, WriteFault, Refused, OutsideBox}
+use Rattle.design_refusal.specs.declared.refusal.Refusal.TheVariants.{TooWide}
 
 -- the status that tells why the loop of a record ended
 abbrev pub loop_status : ℕ → LoopFault → Status
 loop_status entry faults.Memory = Memory
-loop_status entry (faults.TooWide quantity) = TooWide quantity
+loop_status entry (faults.TooWide quantity) = Refused (TooWide quantity)
 loop_status entry (faults.OutsideBox turn coordinate) = OutsideBox entry turn coordinate
 loop_status entry faults.WriteFault = WriteFault 0
 

@@ -9,6 +9,7 @@ ghost use Rattle.command_loop.specs.Printing.{LoopsEnd, LoopsPrint, loop_status}
 use crate::files::Loops;
 use closed_loop::{LoopFault, run_loop};
 use command_line::Status;
+use design_refusal::Refusal;
 use fixed_kernel::Kernel;
 use io_edge::Sink;
 use mat_int::Mat;
@@ -21,7 +22,9 @@ fn loop_status(entry: u32, fault: LoopFault) -> Status
 {
     match fault {
         LoopFault::Memory => Status::Memory,
-        LoopFault::TooWide { quantity } => Status::TooWide { quantity },
+        LoopFault::TooWide { quantity } => Status::Refused {
+            refusal: Refusal::TooWide { quantity },
+        },
         LoopFault::OutsideBox { turn, coordinate } => Status::OutsideBox {
             entry,
             turn,

@@ -2,8 +2,8 @@
 use Rattle.std.proofs.Common.{◌≡◌, ◌⊎◌, ◌∙◌, inl, inr, ℕ, ◌+◌, ◌<◌, length, sym, ap, subst}
 use Rattle.mat_int.specs.Matrix.{Matrix, row_of}
 use Rattle.mac_listing.specs.Listing.{Instructions}
-use Rattle.mac_machine.specs.Machine.{HasRoom}
-use Rattle.mac_machine.specs.Box.{IsInBox, IsFirstOutside}
+use Rattle.mac_machine.specs.Machine.{NeverTraps}
+use Rattle.mac_machine.specs.Box.{IsInBox, IsFirstOutsideBox}
 use Rattle.mac_machine.specs.Traps.{Stops}
 use Rattle.mac_machine.specs.declared.stop.Stop.{Stop}
 use Rattle.mac_machine.specs.declared.stop.Stop.TheVariants as stops
@@ -20,7 +20,7 @@ outside_index l m s t a b =
 one_outside : (l : Instructions) (m : Matrix) (s t : Status) → IsOutside l m s → IsOutside l m t → t ≡ s
 one_outside l m s t a b =
     let same = outside_index l m s t a b in
-    let moved = subst (λ (e : ℕ). IsFirstOutside l (row_of m e) a.coordinate) same a.here in
+    let moved = subst (λ (e : ℕ). IsFirstOutsideBox l (row_of m e) a.coordinate) same a.here in
     let coordinate = one_coordinate l (row_of m b.index) a.coordinate b.coordinate moved b.here in
     b.is ∙ ap (λ (e : ℕ). OutsideBox (e + 1) 0 b.coordinate) (sym same) ∙ ap (OutsideBox (a.index + 1) 0) (sym coordinate) ∙ sym a.is
 
@@ -32,13 +32,13 @@ trap_status : ℕ → Stop → Status
 trap_status entry (stops.Trap step place) = Trap entry step place
 trap_status entry (stops.OutsideBox k) = Done
 
-trapped_none : (l : Instructions) (m : Matrix) (s : Status) (a : IsTrapped l m s) → HasRoom l (row_of m a.index) → ⊥
+trapped_none : (l : Instructions) (m : Matrix) (s : Status) (a : IsTrapped l m s) → NeverTraps l (row_of m a.index) → ⊥
 trapped_none l m s a room = no_trap l (row_of m a.index) a.step a.place room a.here.1
 
 one_trapped : (l : Instructions) (m : Matrix) (s t : Status) → IsTrapped l m s → IsTrapped l m t → t ≡ s
 unfolding trap_status
 one_trapped l m s t a b =
-    let same = first_one (λ e. HasRoom l (row_of m e)) a.index b.index a.before (trapped_none l m s a) b.before (trapped_none l m t b) in
+    let same = first_one (λ e. NeverTraps l (row_of m e)) a.index b.index a.before (trapped_none l m s a) b.before (trapped_none l m t b) in
     let moved = subst (λ (e : ℕ). Stops l (row_of m e) (stops.Trap a.step a.place)) same a.here in
     let stop = one_trap l (row_of m b.index) a.step a.place b.step b.place moved b.here in
     b.is ∙ ap (λ (e : ℕ). Trap (e + 1) b.step b.place) (sym same) ∙ ap (trap_status (a.index + 1)) (sym stop) ∙ sym a.is

@@ -9,7 +9,7 @@ use Rattle.io_edge.specs.Faults.{GrowsByPart}
 use Rattle.mat_int.specs.Matrix.{Matrix, row_of}
 use Rattle.number_text.specs.Lines.{spaced}
 use Rattle.mac_listing.specs.Listing.{Instructions}
-use Rattle.mac_machine.specs.Machine.{HasRoom, outputs_of, after_repetitions}
+use Rattle.mac_machine.specs.Machine.{NeverTraps, outputs_of, after_repetitions}
 use Rattle.command_play.specs.Plays.{AreInBox, HaveRoom, IsTrapped, run_line, run_lines}
 use Rattle.command_play.specs.Play.{TellsTrap}
 use Rattle.command_play.specs.Printing.{TrapsIn, PlaysEnd, PlaysPrint, ArePart}
@@ -29,8 +29,8 @@ line_some : (l : Instructions) (xi : List ℤ) → 0 < length (run_line l xi)
 line_some l xi = ended (spaced (l.denominator ∷ outputs_of l (after_repetitions l xi l.repetitions).words))
 
 -- the room of one more state
-pub room_more : (l : Instructions) (m : Matrix) (i : ℕ) → HaveRoom l m i → HasRoom l (row_of m i) → HaveRoom l m (i + 1)
-room_more l m i room here = below_more (λ e. HasRoom l (row_of m e)) i room here
+pub room_more : (l : Instructions) (m : Matrix) (i : ℕ) → HaveRoom l m i → NeverTraps l (row_of m i) → HaveRoom l m (i + 1)
+room_more l m i room here = below_more (λ e. NeverTraps l (row_of m e)) i room here
 
 -- a part of one line, after those before it
 cut : (l : Instructions) (m : Matrix) (i : ℕ) (old new : List ℕ) → i < length m.rows → HaveRoom l m (i + 1) → GrowsByPart (old ++ run_lines l m i) new (run_line l (row_of m i)) → ArePart l m old new

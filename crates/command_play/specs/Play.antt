@@ -3,7 +3,7 @@ use Rattle.std.specs.Prelude.{◌≡◌, ◌≢◌, ◌⊎◌, ℕ, ◌<◌, ◌
 use Rattle.io_edge.specs.Faults.{GrowsByPart}
 use Rattle.mat_int.specs.Matrix.{Matrix, row_of}
 use Rattle.mac_listing.specs.Listing.{Instructions}
-use Rattle.mac_machine.specs.Machine.{HasRoom}
+use Rattle.mac_machine.specs.Machine.{NeverTraps}
 use Rattle.command_line.specs.Limit.{file_limit}
 use Rattle.command_line.specs.Answers.{Contents, FileHolds}
 use Rattle.command_files.specs.Texts.{StatesRight}
@@ -34,7 +34,7 @@ pub record PlayStarts (listing states : Option (List ℕ)) : Type 0 where
   pub m : Matrix
   pub plays : HoldsPlays listing states l m
   pub some : 0 < length m.rows
-  pub room : HasRoom l (row_of m 0)
+  pub room : NeverTraps l (row_of m 0)
 
 -- ---- what is printed
 -- the lines of all states

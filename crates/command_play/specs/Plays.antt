@@ -3,8 +3,8 @@ use Rattle.std.specs.Prelude.{◌≡◌, ◌⊎◌, ℕ, ◌+◌, ◌<◌, ℤ, 
 use Rattle.std.specs.List.{flat_map}
 use Rattle.mat_int.specs.Matrix.{Matrix, row_of}
 use Rattle.mac_listing.specs.Listing.{Instructions}
-use Rattle.mac_machine.specs.Machine.{HasRoom, after_repetitions, play_line}
-use Rattle.mac_machine.specs.Box.{IsInBox, IsFirstOutside}
+use Rattle.mac_machine.specs.Machine.{NeverTraps, after_repetitions, play_line}
+use Rattle.mac_machine.specs.Box.{IsInBox, IsFirstOutsideBox}
 use Rattle.mac_machine.specs.Traps.{Stops}
 use Rattle.mac_machine.specs.declared.stop.Stop.TheVariants as stops
 use Rattle.command_line.specs.declared.status.Status.{Status}
@@ -17,7 +17,7 @@ AreInBox l states k = (e : ℕ) → e < k → IsInBox l (row_of states e)
 
 -- from each of the first k states all values of the run have room
 abbrev pub HaveRoom : Instructions → Matrix → ℕ → Type 0
-HaveRoom l states k = (e : ℕ) → e < k → HasRoom l (row_of states e)
+HaveRoom l states k = (e : ℕ) → e < k → NeverTraps l (row_of states e)
 
 -- the state of a record is the first that lies outside the box, and the status tells which, and its first coordinate outside
 pub record IsOutside (l : Instructions) (states : Matrix) (s : Status) : Type 0 where
@@ -25,7 +25,7 @@ pub record IsOutside (l : Instructions) (states : Matrix) (s : Status) : Type 0 
   pub coordinate : ℕ
   pub there : index < length states.rows
   pub before : AreInBox l states index
-  pub here : IsFirstOutside l (row_of states index) coordinate
+  pub here : IsFirstOutsideBox l (row_of states index) coordinate
   pub is : s ≡ OutsideBox (index + 1) 0 coordinate
 
 -- the run from the state of a record is the first in which a value has no room, and the status tells which, and where

@@ -3,7 +3,7 @@ use Rattle.std.specs.Prelude.{◌≡◌, ◌≢◌, ◌⊎◌, ℕ, ◌+◌, ◌
 use Rattle.io_edge.specs.Faults.{GrowsByPart}
 use Rattle.mat_int.specs.Matrix.{Matrix, row_of}
 use Rattle.mac_listing.specs.Listing.{Instructions}
-use Rattle.mac_machine.specs.Machine.{HasRoom}
+use Rattle.mac_machine.specs.Machine.{NeverTraps}
 use Rattle.mac_machine.specs.Traps.{Stops}
 use Rattle.mac_machine.specs.declared.stop.Stop.TheVariants as stops
 use Rattle.command_play.specs.Plays.{AreInBox, HaveRoom, IsTrapped, PlaysCall, run_lines}
@@ -22,7 +22,7 @@ pub record TrapsIn (l : Instructions) (states : Matrix) (index : ℕ) (s : Statu
 pub record MayPrint (l : Instructions) (states : Matrix) : Type 0 where
   pub inside : AreInBox l states (length states.rows)
   pub some : 0 < length states.rows
-  pub room : HasRoom l (row_of states 0)
+  pub room : NeverTraps l (row_of states 0)
 
 -- what a listing with states is answered: out of memory, or a line may be printed and a print failed, or what is called for
 abbrev pub PlaysEnd : Instructions → Matrix → Status → Type 0

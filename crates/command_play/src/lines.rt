@@ -2,7 +2,7 @@
 ghost use Rattle.std.specs.Prelude.{◌≡◌, ◌≢◌, ◌⊎◌, ℕ, ◌+◌, ◌<◌, ◌≤◌, ◌^◌, ◌∷◌, length, IfOk, IfErr, OnOk, IfSome, IsSomeAnd};
 ghost use Rattle.io_edge.specs.Faults.{Rose};
 ghost use Rattle.mat_int.specs.Matrix.{row_of};
-ghost use Rattle.mac_machine.specs.Machine.{HasRoom, outputs_of, play_line};
+ghost use Rattle.mac_machine.specs.Machine.{NeverTraps, outputs_of, play_line};
 ghost use Rattle.command_play.specs.Plays.{AreInBox, run_line};
 ghost use Rattle.command_play.specs.Play.{TellsTrap};
 ghost use Rattle.command_play.specs.Printing.{TrapsIn, PlaysEnd, PlaysPrint};
@@ -48,7 +48,7 @@ fn line_from(
     requires there { i < length states.now.rows }
     requires inside { AreInBox machine.old.listing states.now (length states.now.rows) }
     ensures line { IfOk result (λ line. line.items ≡ run_line machine.old.listing (row_of states.now i)) }
-    ensures room { OnOk result (HasRoom machine.old.listing (row_of states.now i)) }
+    ensures room { OnOk result (NeverTraps machine.old.listing (row_of states.now i)) }
     ensures ends { IfErr result (λ s. (s ≡ Status.Memory) ⊎ TrapsIn machine.old.listing states.now i s) }
     ensures listing { machine.new.listing ≡ machine.old.listing }
 {

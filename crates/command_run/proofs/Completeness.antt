@@ -5,9 +5,9 @@ use Rattle.command_line.specs.Words.{word_of}
 use Rattle.command_line.specs.Answers.{Contents, ForContents, IsAnswer, IsCaused}
 use Rattle.command_line.specs.Deeds.{Deeds, IsCalledFor, WriteFailed, NoneRises}
 use Rattle.command_line.specs.declared.status.Status.{Status}
-use Rattle.command_line.specs.declared.status.Status.TheVariants.{Done, Memory, Usage, ReadFault, WriteFault, Text, NoMargin, Curvature, TooManySteps, TooFine, TooWide, Controller, OutsideBox, Long, Mismatch, Listing, Trap}
+use Rattle.command_line.specs.declared.status.Status.TheVariants.{Done, Memory, Usage, ReadFault, WriteFault, Text, Refused, Controller, OutsideBox, Long, Mismatch, Unequal, NoStay, Listing, Trap}
 use Rattle.command_line.specs.declared.words.Command.{Command}
-use Rattle.command_line.specs.declared.words.Command.TheVariants.{Generate, Solve, Loop, Demo, List as Writing, Play}
+use Rattle.command_line.specs.declared.words.Command.TheVariants.{Generate, Solve, Loop, Demo, List as Writing, Stay, Play, Lean}
 use Rattle.command_run.specs.Table.{deeds_of}
 
 -- ---- what an answer is
@@ -24,15 +24,13 @@ kind (WriteFault file) = write file
 kind Done = caused Done (record { memory = λ e. cc; read = λ file e. cc; write = λ file e. cc })
 kind Usage = caused Usage (record { memory = λ e. cc; read = λ file e. cc; write = λ file e. cc })
 kind (Text file fault) = caused (Text file fault) (record { memory = λ e. cc; read = λ file e. cc; write = λ file e. cc })
-kind (NoMargin corner row slack) = caused (NoMargin corner row slack) (record { memory = λ e. cc; read = λ file e. cc; write = λ file e. cc })
-kind Curvature = caused Curvature (record { memory = λ e. cc; read = λ file e. cc; write = λ file e. cc })
-kind (TooManySteps k) = caused (TooManySteps k) (record { memory = λ e. cc; read = λ file e. cc; write = λ file e. cc })
-kind (TooFine eps) = caused (TooFine eps) (record { memory = λ e. cc; read = λ file e. cc; write = λ file e. cc })
-kind (TooWide quantity) = caused (TooWide quantity) (record { memory = λ e. cc; read = λ file e. cc; write = λ file e. cc })
+kind (Refused refusal) = caused (Refused refusal) (record { memory = λ e. cc; read = λ file e. cc; write = λ file e. cc })
 kind (Controller file fault) = caused (Controller file fault) (record { memory = λ e. cc; read = λ file e. cc; write = λ file e. cc })
 kind (OutsideBox entry turn coordinate) = caused (OutsideBox entry turn coordinate) (record { memory = λ e. cc; read = λ file e. cc; write = λ file e. cc })
 kind (Long file) = caused (Long file) (record { memory = λ e. cc; read = λ file e. cc; write = λ file e. cc })
 kind (Mismatch field design controller) = caused (Mismatch field design controller) (record { memory = λ e. cc; read = λ file e. cc; write = λ file e. cc })
+kind (Unequal entry input left right) = caused (Unequal entry input left right) (record { memory = λ e. cc; read = λ file e. cc; write = λ file e. cc })
+kind (NoStay entry bound) = caused (NoStay entry bound) (record { memory = λ e. cc; read = λ file e. cc; write = λ file e. cc })
 kind (Listing file line) = caused (Listing file line) (record { memory = λ e. cc; read = λ at e. cc; write = λ at e. cc })
 kind (Trap entry step place) = caused (Trap entry step place) (record { memory = λ e. cc; read = λ file e. cc; write = λ file e. cc })
 
@@ -47,9 +45,16 @@ reached_read (Loop turns) contents file (inl first) = inl first
 reached_read (Loop turns) contents file (inr (inl second)) = inr (inl second.0)
 reached_read (Loop turns) contents file (inr (inr third)) = inr (inr third.0)
 reached_read (Demo number) contents file never = never
+reached_read (Stay disturbed) contents file (inl first) = inl first
+reached_read (Stay disturbed) contents file (inr (inl second)) = inr (inl second.0)
+reached_read (Stay disturbed) contents file (inr (inr (inl fifth))) = inr (inr (inl fifth.0))
+reached_read (Stay disturbed) contents file (inr (inr (inr sixth))) = inr (inr (inr (sixth.0, sixth.1)))
 reached_read Writing contents file first = first
 reached_read Play contents file (inl first) = inl first
 reached_read Play contents file (inr second) = inr second.0
+reached_read Lean contents file (inl first) = inl first
+reached_read Lean contents file (inr (inl second)) = inr (inl second.0)
+reached_read Lean contents file (inr (inr third)) = inr (inr third.0)
 
 -- ---- it doesn't give up
 module _ (deeds : Deeds) (reads : (contents : Contents) (file : ℕ) → deeds.reaches contents file → deeds.reads file) (words : List (List ℕ)) (held : Option Files) (result : Status)

@@ -1,5 +1,5 @@
 -- Which statuses a command answers.
-use Rattle.std.proofs.Common.{◌≡◌, ◌⊎◌, inl, inr, ℕ, List, Option}
+use Rattle.std.proofs.Common.{◌≡◌, ◌⊎◌, inl, inr, ℕ, Bool, true, false, List, Option}
 use Rattle.io_edge.specs.Faults.{Files}
 use Rattle.mat_int.specs.Matrix.{Matrix}
 use Rattle.qp_model.specs.problem.Design.{Design}
@@ -12,13 +12,14 @@ use Rattle.number_text.specs.declared.text_fault.TextFault.{TextFault}
 use Rattle.number_text.specs.declared.text_fault.TextFault.TheVariants.{Memory as no_room}
 use Rattle.controller_file.specs.declared.bad_controller.BadController.{BadController}
 use Rattle.controller_file.specs.declared.bad_controller.BadController.TheVariants.{Line, Unsafe, Memory as no_space}
-use Rattle.design_engine.specs.declared.refusal.Refusal.{Refusal}
-use Rattle.design_engine.specs.declared.refusal.Refusal.TheVariants as refusals
+use Rattle.design_refusal.specs.declared.refusal.Refusal.{Refusal}
+use Rattle.design_refusal.specs.declared.refusal.Refusal.TheVariants as refusals
 use Rattle.command_line.specs.Limit.{file_limit}
+use Rattle.command_line.specs.Status.{status_of}
 use Rattle.command_line.specs.Answers.{Contents, ReadsThen, IsAnswer, ForContents, IsCaused}
-use Rattle.command_files.specs.Texts.{TellsFault, IsControllerFault, DesignRight, DesignWrong, PolicyRight, PolicyWrong, StatesRight, StatesWrong, ControllerRight, ControllerWrong}
+use Rattle.command_files.specs.Texts.{TellsFault, IsControllerFault, DesignRight, DesignWrong, PolicyRight, PolicyWrong, StatesRight, StatesWrong, FacesRight, FacesWrong, RangeRight, RangeWrong, ControllerRight, ControllerWrong}
 use Rattle.command_files.specs.Reading.{ReadsStates}
-use Rattle.command_controller.specs.Made.{MakingCalls, status_of}
+use Rattle.command_controller.specs.Made.{MakingCalls}
 use Rattle.command_generate.specs.Generate.{GenerateCalls}
 use Rattle.command_solve.specs.Inside.{RunsCall}
 use Rattle.command_solve.specs.Solve.{SolveCalls}
@@ -32,7 +33,17 @@ use Rattle.command_play.specs.Play.{PlayCalls}
 use Rattle.command_line.specs.declared.status.Status.{Status}
 use Rattle.command_line.specs.declared.status.Status.TheVariants.{Done, Usage, Text, Controller, Long}
 use Rattle.command_line.specs.declared.words.Command.{Command}
-use Rattle.command_line.specs.declared.words.Command.TheVariants.{Generate, Solve, Loop, Demo, List as Writing, Play}
+use Rattle.command_line.specs.declared.words.Command.TheVariants.{Generate, Solve, Loop, Demo, List as Writing, Stay, Play}
+use Rattle.stay_check.specs.FaceForms.{FaceNumbers}
+use Rattle.stay_check.specs.declared.fault.StayFault.{StayFault}
+use Rattle.stay_check.specs.declared.fault.StayFault.TheVariants as faults
+use Rattle.command_stay.specs.Stay.{stay_status, StayingCalls, ReadsShifts, StayCalls, no_shifts}
+use Rattle.command_lean.specs.Made.{MakingCalls as LeanMakingCalls}
+use Rattle.command_lean.specs.Lean.{LeanCalls}
+use Rattle.command_line.specs.declared.status.Status.{Status}
+use Rattle.command_line.specs.declared.status.Status.TheVariants.{Done, Usage, Text, Controller, Long}
+use Rattle.command_line.specs.declared.words.Command.{Command}
+use Rattle.command_line.specs.declared.words.Command.TheVariants.{Generate, Solve, Loop, Demo, Stay, Lean}
 use Rattle.command_run.specs.Table.{deeds_of}
 
 -- an answer that a command with files gives: it isn't `Usage`, and no fault in it is that memory ran out
@@ -65,6 +76,12 @@ policy_telling d file bytes s wrong = text_telling file wrong.0 s wrong.2
 
 states_telling : (n file : ℕ) (bytes : List ℕ) (s : Status) → StatesWrong n file bytes s → IsTelling s
 states_telling n file bytes s wrong = text_telling file wrong.0 s wrong.2
+
+faces_telling : (d : Design) (file : ℕ) (bytes : List ℕ) (s : Status) → FacesWrong d file bytes s → IsTelling s
+faces_telling d file bytes s wrong = text_telling file wrong.0 s wrong.2
+
+range_telling : (n file : ℕ) (bytes : List ℕ) (s : Status) → RangeWrong n file bytes s → IsTelling s
+range_telling n file bytes s wrong = text_telling file wrong.0 s wrong.2
 
 bad_telling : (file : ℕ) (bytes : List ℕ) (s : Status) → ControllerWrong file bytes s → IsTelling s
 bad_telling file bytes s wrong = controller_telling file bytes wrong.0 s wrong.1 wrong.2
@@ -106,6 +123,20 @@ loops_telling d c turns m s (inl wide) = let is = wide.is in record { usage = λ
 loops_telling d c turns m s (inr (inl leaving)) = let is = leaving.1.is in record { usage = λ e. cc; text = λ at e. cc; controller = λ at e. cc }
 loops_telling d c turns m s (inr (inr done)) = done_telling s done.0
 
+fault_telling : (s : Status) (fault : StayFault) → s ≡ stay_status fault → IsTelling s
+fault_telling s (faults.TooWide quantity) is = record { usage = λ e. cc; text = λ at e. cc; controller = λ at e. cc }
+fault_telling s (faults.Unequal entry input left right) is = record { usage = λ e. cc; text = λ at e. cc; controller = λ at e. cc }
+fault_telling s (faults.NoStay entry bound) is = record { usage = λ e. cc; text = λ at e. cc; controller = λ at e. cc }
+
+staying_telling : (p : DesignParts) (plans : Plans) (f : FaceNumbers) (range : Matrix) (s : Status) → StayingCalls p plans f range s → IsTelling s
+staying_telling p plans f range s (inl refused) = refusal_telling s refused.refusal refused.is
+staying_telling p plans f range s (inr (excess, stated, inl done)) = done_telling s done.0
+staying_telling p plans f range s (inr (excess, stated, inr fault)) = fault_telling s fault.0 fault.2
+
+lean_making_telling : (p : DesignParts) (plans references : Plans) (s : Status) → LeanMakingCalls p plans references s → IsTelling s
+lean_making_telling p plans references s (inl refused) = refusal_telling s refused.refusal refused.is
+lean_making_telling p plans references s (inr done) = done_telling s done.0
+
 -- ---- the commands
 generate_telling : (design policy : Option (List ℕ)) (s : Status) → GenerateCalls design policy s → IsTelling s
 generate_telling design policy =
@@ -134,6 +165,17 @@ demo_telling number s calls = making_telling calls.0 calls.1 s calls.3
 list_telling : (controller : Option (List ℕ)) (s : Status) → ListCalls controller s → IsTelling s
 list_telling controller = then_telling file_limit 1 (ControllerWrong 1) ControllerRight controller (λ c t. t ≡ Done) (bad_telling 1) (λ c. done_telling)
 
+shifts_telling : (disturbed : Bool) (p : DesignParts) (shifts : Option (List ℕ)) (plans : Plans) (f : FaceNumbers) (s : Status) → ReadsShifts disturbed (design_of p).states shifts (StayingCalls p plans f) s → IsTelling s
+shifts_telling true p shifts plans f s calls =
+    then_telling file_limit 6 (RangeWrong (design_of p).states 6) (RangeRight (design_of p).states) shifts (StayingCalls p plans f) (range_telling (design_of p).states 6) (staying_telling p plans f) s calls
+shifts_telling false p shifts plans f s calls = staying_telling p plans f (no_shifts (design_of p).states) s calls
+
+stay_telling : (disturbed : Bool) (design policy faces shifts : Option (List ℕ)) (s : Status) → StayCalls disturbed design policy faces shifts s → IsTelling s
+stay_telling disturbed design policy faces shifts =
+    then_telling file_limit 1 (DesignWrong 1) DesignRight design _ (design_telling 1)
+    (λ p. then_telling file_limit 2 (PolicyWrong (design_of p) 2) (PolicyRight (design_of p)) policy _ (policy_telling (design_of p) 2)
+    (λ plans. then_telling file_limit 5 (FacesWrong (design_of p) 5) (FacesRight (design_of p)) faces _ (faces_telling (design_of p) 5) (shifts_telling disturbed p shifts plans)))
+
 no_listing_telling : (file : ℕ) (bytes : List ℕ) (s : Status) → ListingWrong file bytes s → IsTelling s
 no_listing_telling file bytes s wrong = let is = wrong.2 in record { usage = λ e. cc; text = λ at e. cc; controller = λ at e. cc }
 
@@ -147,14 +189,22 @@ play_telling listing states =
     then_telling file_limit 1 (ListingWrong 1) ListingRight listing _ (no_listing_telling 1)
     (λ l. then_telling file_limit 2 (StatesWrong l.states 2) (StatesRight l.states) states (PlaysCall l) (states_telling l.states 2) (plays_telling l))
 
+lean_telling : (design policy reference : Option (List ℕ)) (s : Status) → LeanCalls design policy reference s → IsTelling s
+lean_telling design policy reference =
+    then_telling file_limit 1 (DesignWrong 1) DesignRight design _ (design_telling 1)
+    (λ p. then_telling file_limit 2 (PolicyWrong (design_of p) 2) (PolicyRight (design_of p)) policy _ (policy_telling (design_of p) 2)
+    (λ plans. then_telling file_limit 3 (PolicyWrong (design_of p) 3) (PolicyRight (design_of p)) reference (LeanMakingCalls p plans) (policy_telling (design_of p) 3) (lean_making_telling p plans)))
+
 -- ---- the table
 telling : (c : Command) (contents : Contents) (s : Status) → (deeds_of c).calls contents s → IsTelling s
 telling Generate contents = generate_telling (contents 1) (contents 2)
 telling Solve contents = solve_telling (contents 1) (contents 2)
 telling (Loop turns) contents = loop_telling (contents 1) (contents 2) (contents 3) turns
 telling (Demo number) contents = demo_telling number
+telling (Stay disturbed) contents = stay_telling disturbed (contents 1) (contents 2) (contents 5) (contents 6)
 telling Writing contents = list_telling (contents 1)
 telling Play contents = play_telling (contents 1) (contents 2)
+telling Lean contents = lean_telling (contents 1) (contents 2) (contents 3)
 
 module _ (c : Command) (words : List (List ℕ)) (held : Option Files) (result : Status) (called : IsCaused result → ForContents words held (λ contents. IsAnswer ((deeds_of c).calls contents) result)) where
   tells : IsCaused result → IsTelling result

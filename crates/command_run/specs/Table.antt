@@ -1,13 +1,15 @@
 -- The table of commands: what each does.
 use Rattle.command_line.specs.Deeds.{Deeds}
 use Rattle.command_line.specs.declared.words.Command.{Command}
-use Rattle.command_line.specs.declared.words.Command.TheVariants.{Generate, Solve, Loop, Demo, List, Play}
+use Rattle.command_line.specs.declared.words.Command.TheVariants.{Generate, Solve, Loop, Demo, List, Stay, Play, Lean}
 use Rattle.command_generate.specs.Deeds.{generate_deeds}
 use Rattle.command_solve.specs.Deeds.{solve_deeds}
 use Rattle.command_loop.specs.Deeds.{loop_deeds}
 use Rattle.command_demo.specs.Deeds.{demo_deeds}
 use Rattle.command_list.specs.Deeds.{list_deeds}
+use Rattle.command_stay.specs.Deeds.{stay_deeds}
 use Rattle.command_play.specs.Deeds.{play_deeds}
+use Rattle.command_lean.specs.Deeds.{lean_deeds}
 
 abbrev pub deeds_of : Command → Deeds
 deeds_of Generate = generate_deeds
@@ -15,4 +17,6 @@ deeds_of Solve = solve_deeds
 deeds_of (Loop turns) = loop_deeds turns
 deeds_of (Demo number) = demo_deeds number
 deeds_of List = list_deeds
+deeds_of (Stay disturbed) = stay_deeds disturbed
 deeds_of Play = play_deeds
+deeds_of Lean = lean_deeds

@@ -1,23 +1,27 @@
 // The arguments, the files and the output.
-ghost use Rattle.std.specs.Prelude.{◌≡◌, ◌≢◌, ◌⊎◌, ◌↔◌, ℕ, ◌≤◌, IfSome, IsSomeAnd};
+ghost use Rattle.std.specs.Prelude.{◌≡◌, ◌≢◌, ◌⊎◌, ◌↔◌, ℕ, ◌≤◌, Bool, IfSome, IsSomeAnd};
 ghost use Rattle.io_edge.specs.Faults.{Rose, NoneFalls};
 ghost use Rattle.number_text.specs.declared.text_fault.TextFault.TheVariants.{Memory as no_room};
 ghost use Rattle.controller_file.specs.declared.bad_controller.BadController.TheVariants.{Memory as no_space};
-ghost use Rattle.command_line.specs.Words.{word_of, IsGenerate, IsPlay};
+ghost use Rattle.command_line.specs.Words.{word_of, IsGenerate, IsStay, IsPlay, IsLean};
 ghost use Rattle.command_line.specs.Commands.{AreOf, IsUsage};
 ghost use Rattle.command_line.specs.Answers.{ForContents, IsAnswer, IsCaused};
 ghost use Rattle.command_line.specs.Deeds.{IsCalledFor, UsesNoFile, IsUnwritten, IsUnprinted, WriteFailed, NoneRises};
 ghost use Rattle.command_generate.specs.Generate.{IsGenerated};
+ghost use Rattle.command_stay.specs.Stay.{IsStayed};
 ghost use Rattle.command_play.specs.AsSolved.{PlaysAsSolved};
+ghost use Rattle.command_lean.specs.Lean.{IsLeanWritten};
 ghost use Rattle.command_run.specs.Table.{deeds_of};
 
 use command_demo::demo;
 use command_generate::generate;
+use command_lean::lean;
 use command_line::{Command, Status, command_of};
 use command_list::list;
 use command_loop::run_loops;
 use command_play::play;
 use command_solve::solve;
+use command_stay::stay;
 use io_edge::{Sink, Store, Words};
 use std::alloc::Global;
 
@@ -27,8 +31,11 @@ use std::alloc::Global;
 /// report of its bounds, as JSON where the report's name ends in `.json`. `solve`, a controller file and a states file: prints a line for each state,
 /// the averaged plan of the controller from it. `loop`, a design file, a controller file, a states file and a number of turns: prints a line for each
 /// turn of the closed loop from each state. `demo` and a number: prints the report and four plans of a made design. `list`, a controller file and a
-/// listing file: writes the listing of the controller's step. `play`, a listing file and a states file: prints a line for each state, what the listing's
-/// machine puts out from it.
+/// listing file: writes the listing of the controller's step. `play`, a listing file and a states file: prints a line for each state, what the
+/// listing's machine puts out from it. `stay`, the files of `generate`, a file of faces of the box, and one of a range of disturbances or none: does
+/// what `generate` does, where the faces show that the closed loop stays in the box.
+/// `lean`, a design file, a policy file, a file of reference plans, a controller file and a report file: does what `generate` does, with the fewest steps
+/// that the reference plans show to be enough.
 pub fn run<S: Store, O: Sink>(alloc: Global, words: &Words, store: &mut S, out: &mut O) -> Status
     // Where `generate` answers `Done`, the controller's file holds the text of one controller and the report's file the report of its bounds, both
     // built of the design and the policy in the files. Run from any grid state of the box, the controller keeps every product and partial sum
@@ -36,6 +43,13 @@ pub fn run<S: Store, O: Sink>(alloc: Global, words: &Words, store: &mut S, out: 
     // costs at most the printed gap more than any feasible plan, and some feasible plan costs at most the printed undercut more than it.
     // The printed violation and gap are at most the design's targets.
     ensures generated { IsGenerate words.now → result ≡ Status.Done → IfSome (S.held store.old) (λ files. IsSomeAnd (S.held store.new) (IsGenerated words.now files)) }
+    // So it does where `stay` answers `Done`, and the closed loop from any grid state of the box stays in the box for every number of turns, under every list
+    // of disturbances within the range in the sixth file, and without disturbances where there is no such file.
+    ensures stayed { (disturbed : Bool) → IsStay words.now disturbed → result ≡ Status.Done
+        → IfSome (S.held store.old) (λ files. IsSomeAnd (S.held store.new) (IsStayed disturbed words.now files)) }
+    // And where `lean` answers `Done`, its two files hold the text of one controller and the report of its bounds, made leanly of the design, the policy and
+    // the reference plans in the files, whatever these plans are: with the same promise, and within the same targets.
+    ensures leaned { IsLean words.now → result ≡ Status.Done → IfSome (S.held store.old) (λ files. IsSomeAnd (S.held store.new) (IsLeanWritten words.now files)) }
 
     // Where the first file of `play` holds the text of the listing of a controller, as `list` writes it, and the second states of the controller's box, then no
     // value of the runs leaves the controller's width, and the output gets the bytes that `solve` prints of the controller and these states: the lines of
@@ -87,7 +101,9 @@ pub fn run<S: Store, O: Sink>(alloc: Global, words: &Words, store: &mut S, out: 
         Some(Command::Loop { turns }) => run_loops(alloc, words, turns, store, out),
         Some(Command::Demo { number }) => demo(alloc, number, out),
         Some(Command::List) => list(alloc, words, store),
+        Some(Command::Stay { disturbed }) => stay(alloc, words, disturbed, store),
         Some(Command::Play) => play(alloc, words, store, out),
+        Some(Command::Lean) => lean(alloc, words, store),
         None => Status::Usage,
     }
 }

@@ -8,19 +8,18 @@ use fixed_kernel::Kernel;
 use mat_int::Mat;
 
 // Nothing where each state lies in the box, and else the status that tells of the first that doesn't.
-pub fn all_inside(kernel: &mut Kernel, states: &Mat) -> Result<(), Status>
-    requires width { states.now.cols ≡ kernel.old.controller.states }
+pub fn all_inside(kernel: &Kernel, states: &Mat) -> Result<(), Status>
+    requires width { states.now.cols ≡ kernel.now.controller.states }
     requires count { length states.now.rows < 2 ^ 32 }
-    ensures inside { OnOk result (AreInside kernel.old.controller states.now (length states.now.rows)) }
-    ensures outside { IfErr result (IsOutside kernel.old.controller states.now) }
-    ensures controller { kernel.new.controller ≡ kernel.old.controller }
+    ensures inside { OnOk result (AreInside kernel.now.controller states.now (length states.now.rows)) }
+    ensures outside { IfErr result (IsOutside kernel.now.controller states.now) }
 {
     for i in 0..states.rows() {
-        if let Err(outside) = kernel.load(states.row(i)) {
+        if let Some(coordinate) = kernel.first_outside(states.row(i)) {
             return Err(Status::OutsideBox {
                 entry: i as u32 + 1,
                 turn: 0,
-                coordinate: outside.coordinate,
+                coordinate,
             });
         }
     }

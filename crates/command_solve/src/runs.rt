@@ -30,7 +30,7 @@ pub fn print_runs<O: Sink>(
     let Ok(mut kernel) = Kernel::prepare(alloc, controller) else {
         return Status::Memory;
     };
-    match all_inside(&mut kernel, states) {
+    match all_inside(&kernel, states) {
         Ok(()) => print_lines(alloc, &mut kernel, states, out),
         Err(status) => status,
     }

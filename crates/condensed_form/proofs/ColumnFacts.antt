@@ -11,7 +11,7 @@ use Rattle.qp_model.specs.declared.design_parts.DesignParts.{DesignParts}
 use Rattle.qp_model.specs.problem.Design.{Design}
 use Rattle.qp_model.specs.problem.Parts.{design_of, IsDesign}
 use Rattle.qp_model.specs.form.Quantities.{growth, cost_width, limit_width, response_size, limit_entry_size}
-use Rattle.qp_model.proofs.QuantityLaws.{tame, slim, narrow, unit_small}
+use Rattle.qp_model.proofs.QuantityLaws.{growth_bound, narrow_costs, narrow, unit_small}
 use Rattle.qp_model.proofs.SizeFacts.{some_cost, some_limit}
 use Rattle.qp_model.specs.problem.Runs.{unit, Holds}
 use Rattle.condensed_form.specs.Lists.{HoldsMatrix, with_column, RowsFit, CostsFit, UnitsFit}
@@ -44,7 +44,7 @@ plan_fits d f j = record {
   width = f.width;
   some = f.some;
   narrow = f.narrow;
-  fits = record { alpha = f.alpha; z = 1; tame = f.tame; state = λ i l. (omega arith); plan = λ i l. unit_small j i; fits = omega (arith, f.fits) };
+  fits = record { alpha = f.alpha; z = 1; growth_bound = f.growth_bound; state = λ i l. (omega arith); plan = λ i l. unit_small j i; fits = omega (arith, f.fits) };
 }
 
 pub state_fits : (d : Design) → UnitsFit d → (j : ℕ) → RowsFit d (unit j) none
@@ -52,28 +52,28 @@ state_fits d f j = record {
   width = f.width;
   some = f.some;
   narrow = f.narrow;
-  fits = record { alpha = f.alpha; z = 1; tame = f.tame; state = λ i l. unit_small j i; plan = λ i l. (omega arith); fits = omega (arith, f.fits) };
+  fits = record { alpha = f.alpha; z = 1; growth_bound = f.growth_bound; state = λ i l. unit_small j i; plan = λ i l. (omega arith); fits = omega (arith, f.fits) };
 }
 
 -- what units' rows need, where the limits' numbers are within the limit
 pub units_fit : (p : DesignParts) → IsDesign p → limit_entry_size (design_of p) ≤ 2 ^ 126 → UnitsFit (design_of p)
-units_fit p h k = record { width = limit_width (design_of p); alpha = growth (design_of p); some = some_limit p h; narrow = narrow (design_of p); tame = tame (design_of p); fits = k }
+units_fit p h k = record { width = limit_width (design_of p); alpha = growth (design_of p); some = some_limit p h; narrow = narrow (design_of p); growth_bound = growth_bound (design_of p); fits = k }
 
 -- what units' cost rows need
 pub plan_costs_fit : (p : DesignParts) → IsDesign p → response_size (design_of p) ≤ 2 ^ 126 → (j : ℕ) → CostsFit (design_of p) none (unit j)
 plan_costs_fit p h k j = record {
   width = cost_width (design_of p);
   some = some_cost p h;
-  slim = slim (design_of p);
-  fits = record { alpha = growth (design_of p); z = 1; tame = tame (design_of p); state = λ i l. (omega arith); plan = λ i l. unit_small j i; fits = once _ _ _ k };
+  narrow_costs = narrow_costs (design_of p);
+  fits = record { alpha = growth (design_of p); z = 1; growth_bound = growth_bound (design_of p); state = λ i l. (omega arith); plan = λ i l. unit_small j i; fits = once _ _ _ k };
 }
 
 pub state_costs_fit : (p : DesignParts) → IsDesign p → response_size (design_of p) ≤ 2 ^ 126 → (i : ℕ) → CostsFit (design_of p) (unit i) none
 state_costs_fit p h k i = record {
   width = cost_width (design_of p);
   some = some_cost p h;
-  slim = slim (design_of p);
-  fits = record { alpha = growth (design_of p); z = 1; tame = tame (design_of p); state = λ j l. unit_small i j; plan = λ j l. (omega arith); fits = once _ _ _ k };
+  narrow_costs = narrow_costs (design_of p);
+  fits = record { alpha = growth (design_of p); z = 1; growth_bound = growth_bound (design_of p); state = λ j l. unit_small i j; plan = λ j l. (omega arith); fits = once _ _ _ k };
 }
 
 -- ---- columns

@@ -232,9 +232,9 @@ scale_is : (a r g n : ℕ) → a * (r * g * n) ^ 2 ≡ a * (g * g * (r * n) ^ 2)
 scale_is a r g n = rw (pow-two (r * g * n), pow-two (r * n)) (omega arith)
 
 -- d'H d is at least twice the response scale's square times rho times the squares of d
-pub bent : (d : Design) (k : form.Condensed) (rho : ℕ) → IsSound d rho → IsCondensed d k → (v : ℕ → ℤ) →
+pub curved_at_least : (d : Design) (k : form.Condensed) (rho : ℕ) → IsSound d rho → IsCondensed d k → (v : ℕ → ℤ) →
     (pos 2 *ℤ (pos rho *ℤ pos (response_scale d ^ 2)) *ℤ total (entries d) (λ j. square (v j))) ≤ℤ dot (entries d) v (image (entries d) k.hessian v)
-bent d k rho sound c v = closed (pos d.cost_denominator) (pos (4 ^ d.grid)) (pos rho) (pos (response_scale d ^ 2)) (total (entries d) (λ j. square (v j)))
+curved_at_least d k rho sound c v = closed (pos d.cost_denominator) (pos (4 ^ d.grid)) (pos rho) (pos (response_scale d ^ 2)) (total (entries d) (λ j. square (v j)))
     (curvature d v) (dot (entries d) v (image (entries d) k.hessian v)) (pos (cost.cost_scale d))
     (pos_positive d.cost_denominator sound.cost_denominator) (pos_positive (4 ^ d.grid) (pow_positive 4 d.grid (omega arith)))
     (ap pos (scale_is d.cost_denominator d.row_denominator (2 ^ d.grid) (d.plant_denominator ^ d.stages) ∙ turn d.cost_denominator (2 ^ d.grid * 2 ^ d.grid) (4 ^ d.grid) (response_scale d ^ 2) (four-pow d.grid)))
@@ -271,7 +271,7 @@ convex p c h e k = record {
       (dot (entries d) v (image (entries d) (entry_of c.hess) v)) c.limit_den _
       (total_nonneg (entries d) _ (λ j l. square_nonneg_z (v j))) (rw e.limit_den (natural_nonneg (unsigned_abs p.limit_den)))
       (rw (e.floor, e.limit_den) (floor_le (unsigned_abs p.limit_den) (response_scale d ^ 2) (unsigned_abs c.input_floor) (2 ^ 126)))
-      (bent d (form_numbers c) (unsigned_abs c.input_floor) sound k v) (quadratic_scale (entries d) c.limit_den (entry_of c.hess) v);
+      (curved_at_least d (form_numbers c) (unsigned_abs c.input_floor) sound k v) (quadratic_scale (entries d) c.limit_den (entry_of c.hess) v);
 }
   where
     d : Design

@@ -31,7 +31,7 @@ stages_room p h r l = last p.stages r (few (p.version == 1) p.stages h.stages.1)
 -- a run fits where a row's values do
 pub run_fits : (d : Design) (x v : ℕ → ℤ) (width : ℕ) → 1 ≤ width → TrajectoryFits d x v width → TrajectoryFits d x v 1
 run_fits d x v width some f =
-    record { alpha = f.alpha; z = f.z; tame = f.tame; state = f.state; plan = f.plan; fits = last width (f.z * f.alpha ^ d.stages) some f.fits }
+    record { alpha = f.alpha; z = f.z; growth_bound = f.growth_bound; state = f.state; plan = f.plan; fits = last width (f.z * f.alpha ^ d.stages) some f.fits }
   where
     last : (w t : ℕ) → 1 ≤ w → w * t ≤ 2 ^ 126 → 1 * t ≤ 2 ^ 126
     last w t h k = omega (arith, mul-le-mul_left t h, k)
@@ -40,7 +40,7 @@ pub stage_fits : (d : Design) (x v : ℕ → ℤ) → RowsFit d x v → 1 ≤ d.
     d.plant_denominator ^ (d.stages - k) * (product_size d.states (d.stage_limit r).of_state (run d x v k) +
     d.plant_denominator ^ k * product_size d.inputs (d.stage_limit r).of_input (λ l. v (k * d.inputs + l))) ≤ 2 ^ 126
 stage_fits d x v f one k r l o =
-    last _ _ (row_room d f.fits.alpha f.fits.z f.width x v (d.stage_limit r).of_state (d.stage_limit r).of_input one f.fits.tame (f.narrow.stage r o)
+    last _ _ (row_room d f.fits.alpha f.fits.z f.width x v (d.stage_limit r).of_state (d.stage_limit r).of_input one f.fits.growth_bound (f.narrow.stage r o)
     f.fits.state f.fits.plan k l) f.fits.fits
   where
     last : (a b : ℕ) → a ≤ b → b ≤ 2 ^ 126 → a ≤ 2 ^ 126
@@ -51,7 +51,7 @@ pub final_fits : (d : Design) (x v : ℕ → ℤ) → RowsFit d x v → (r : ℕ
 final_fits d x v f r o =
     last _ _ f.width (f.fits.z * f.fits.alpha ^ d.stages)
     (product_within d.states (d.final_limit r).of_state (run d x v d.stages) (f.fits.z * f.fits.alpha ^ d.stages)
-    (λ i l. run_within d f.fits.alpha f.fits.z x v f.fits.tame f.fits.state f.fits.plan d.stages i (omega arith) l))
+    (λ i l. run_within d f.fits.alpha f.fits.z x v f.fits.growth_bound f.fits.state f.fits.plan d.stages i (omega arith) l))
     (f.narrow.final r o) f.fits.fits
   where
     last : (a s w t : ℕ) → a ≤ s * t → s ≤ w → w * t ≤ 2 ^ 126 → a ≤ 2 ^ 126
@@ -84,7 +84,7 @@ final_room p x v i limits row now e h l m n f =
 -- ---- cost rows
 pub cost_fits : (d : Design) (x v a : ℕ → ℤ) (f : CostsFit d x v) → size d.states a ≤ f.width → (k : ℕ) → k ≤ d.stages →
     d.plant_denominator ^ (d.stages - k) * product_size d.states a (run d x v k) ≤ 2 ^ 126
-cost_fits d x v a f s k l = last _ _ (cost_room d f.fits.alpha f.fits.z f.width x v a f.fits.tame s f.fits.state f.fits.plan k l) f.fits.fits
+cost_fits d x v a f s k l = last _ _ (cost_room d f.fits.alpha f.fits.z f.width x v a f.fits.growth_bound s f.fits.state f.fits.plan k l) f.fits.fits
   where
     last : (a b : ℕ) → a ≤ b → b ≤ 2 ^ 126 → a ≤ 2 ^ 126
     last a b h k = omega arith
@@ -93,14 +93,14 @@ pub stage_cost_fits : (p : DesignParts) (x v : ℕ → ℤ) (c rows : ℕ) (row 
     c < p.stages * rows → CostsFit (design_of p) x v → CostRowFits p row x v (c / rows + 1)
 stage_cost_fits p x v c rows row e h l f =
     let below : c < p.stages * length p.stage_cost.rows = rw (← e) l in
-    rw (h, e) (cost_fits (design_of p) x v _ f (f.slim.stage (c % length p.stage_cost.rows) (remainder_inside c p.stages (length p.stage_cost.rows) below))
+    rw (h, e) (cost_fits (design_of p) x v _ f (f.narrow_costs.stage (c % length p.stage_cost.rows) (remainder_inside c p.stages (length p.stage_cost.rows) below))
     (c / length p.stage_cost.rows + 1) (omega (arith, stage_inside c p.stages (length p.stage_cost.rows) below)))
 
 pub final_cost_fits : (p : DesignParts) (x v : ℕ → ℤ) (c rows : ℕ) (row : List ℤ) → rows ≡ length p.stage_cost.rows → row ≡ row_of p.final_cost (c - p.stages * rows) →
     p.stages * rows ≤ c → c < counts (design_of p) → CostsFit (design_of p) x v → CostRowFits p row x v p.stages
 final_cost_fits p x v c rows row e h l m f =
     let above : p.stages * length p.stage_cost.rows ≤ c = rw (← e) l in
-    rw (h, e) (cost_fits (design_of p) x v _ f (f.slim.final (c - p.stages * length p.stage_cost.rows) (omega arith)) p.stages (omega arith))
+    rw (h, e) (cost_fits (design_of p) x v _ f (f.narrow_costs.final (c - p.stages * length p.stage_cost.rows) (omega arith)) p.stages (omega arith))
 
 pub stage_cost_value : (p : DesignParts) (x v : ℕ → ℤ) (c rows : ℕ) (row : List ℤ) (z : ℤ) → rows ≡ length p.stage_cost.rows → row ≡ row_of p.stage_cost (c % rows) →
     c < p.stages * rows → z ≡ lift (design_of p) (c / rows + 1) *ℤ dot p.states (at row) (run (design_of p) x v (c / rows + 1)) →

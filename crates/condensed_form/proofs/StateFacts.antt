@@ -31,10 +31,10 @@ next_fits d x v now input k one f l h e i m =
     rw (size_same d.states _ _ (λ j o. ap (λ (z : ℤ). d.plant_a i j *ℤ z) (h.is j o)), size_same d.inputs _ _ (λ j o. ap (λ (z : ℤ). d.plant_b i j *ℤ z) (e j o)))
     (last f.z (f.alpha ^ k) f.alpha _
     (row_within d.states d.inputs (d.plant_a i) (d.plant_b i) (run d x v k) (λ n. v (k * d.inputs + n)) (d.plant_denominator ^ k) f.z (f.z * f.alpha ^ k) f.alpha
-    (f.tame.plant i m) (λ j o. run_within d f.alpha f.z x v f.tame f.state f.plan k j (omega arith) o)
+    (f.growth_bound.plant i m) (λ j o. run_within d f.alpha f.z x v f.growth_bound f.state f.plan k j (omega arith) o)
     (λ n o. f.plan (k * d.inputs + n) (plan_inside k d.stages d.inputs n l o))
-    (scaled f.z (pow-le-pow_left f.tame.denominator k)))
-    (rw (← (pow-suc f.alpha k)) (power_le f.z f.alpha (suc k) d.stages _ (omega (arith, f.tame.denominator)) l (omega (arith, f.fits)))))
+    (scaled f.z (pow-le-pow_left f.growth_bound.denominator k)))
+    (rw (← (pow-suc f.alpha k)) (power_le f.z f.alpha (suc k) d.stages _ (omega (arith, f.growth_bound.denominator)) l (omega (arith, f.fits)))))
   where
     scaled : (z : ℕ) {a b : ℕ} → a ≤ b → a * z ≤ z * b
     scaled z {a} {b} h = omega (arith, mul-le-mul_left z h)

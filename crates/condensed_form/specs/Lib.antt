@@ -4,3 +4,4 @@ pub mod Lists
 pub mod Costs
 pub mod Fault
 pub mod Numbers
+pub mod Refusing

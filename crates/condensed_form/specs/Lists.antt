@@ -6,7 +6,7 @@ use Rattle.integer_algebra.specs.Sizes.{product_size}
 use Rattle.qp_model.specs.problem.Design.{Design, LimitRow}
 use Rattle.qp_model.specs.declared.design_parts.DesignParts.{DesignParts}
 use Rattle.qp_model.specs.problem.Parts.{design_of, IsDesign}
-use Rattle.qp_model.specs.problem.Runs.{run, Holds, TrajectoryFits, HasNarrowLimits, HasNarrowCosts, IsTame}
+use Rattle.qp_model.specs.problem.Runs.{run, Holds, TrajectoryFits, HasNarrowLimits, HasNarrowCosts, BoundsGrowth}
 
 -- m rows of n numbers
 pub record HoldsRows (rows : List (List ℤ)) (m n : ℕ) (f : ℕ → ℕ → ℤ) : Type 0 where
@@ -39,7 +39,7 @@ pub record RowsFit (d : Design) (x v : ℕ → ℤ) : Type 0 where
 pub record CostsFit (d : Design) (x v : ℕ → ℤ) : Type 0 where
   pub width : ℕ
   pub some : 1 ≤ width
-  pub slim : HasNarrowCosts d width
+  pub narrow_costs : HasNarrowCosts d width
   pub fits : TrajectoryFits d x v width
 
 -- a run that was made
@@ -66,7 +66,7 @@ pub record UnitsFit (d : Design) : Type 0 where
   pub alpha : ℕ
   pub some : 1 ≤ width
   pub narrow : HasNarrowLimits d width
-  pub tame : IsTame d alpha
+  pub growth_bound : BoundsGrowth d alpha
   pub fits : width * alpha ^ d.stages ≤ 2 ^ 126
 
 -- a matrix whose first `known` columns hold the values of f

@@ -1,6 +1,8 @@
 ghost use Rattle.std.specs.Prelude.{◌≡◌};
 ghost use Rattle.condensed_form.specs.declared.fault.CondenseFault.TheVariants.{Memory as condense_memory};
+ghost use Rattle.condensed_form.specs.Refusing.{of_condense};
 
+use design_refusal::Refusal;
 use qp_model::Quantity;
 use std::alloc::{AllocError, AllocFailed};
 use thiserror::Error;
@@ -20,5 +22,16 @@ impl From<AllocError> for CondenseFault {
 
     fn from(_: AllocError) -> Self {
         CondenseFault::Memory
+    }
+}
+
+impl From<CondenseFault> for Refusal {
+    ghost from_gives = { λ fault e. e ≡ of_condense fault };
+
+    fn from(fault: CondenseFault) -> Self {
+        match fault {
+            CondenseFault::Memory => Refusal::Memory,
+            CondenseFault::TooWide { quantity } => Refusal::TooWide { quantity },
+        }
     }
 }

@@ -11,7 +11,7 @@ use Rattle.qp_model.proofs.VersionLaws.{states_le, stages_le, limits_le}
 use Rattle.controller_file.specs.declared.table.Sizes.{Sizes}
 use Rattle.text_lines.specs.declared.line.Line.{Line}
 use Rattle.text_lines.specs.Lines.{Keyed, keyed_line, view, views, line_in, Place, place, place_of}
-use Rattle.text_lines.specs.Blocks.{row_lines, chained, seen, Row}
+use Rattle.text_lines.specs.Blocks.{row_lines, chained, blocks_of, Row}
 use Rattle.controller_file.specs.Lines.{line_blocks, keyed_lines}
 use Rattle.text_lines.specs.Blocks.{Block, block_places, total_rows}
 use Rattle.controller_file.specs.Table.{text_table, places, sizes_of, AreSmall, Says, block_at}
@@ -95,7 +95,7 @@ said_sizes ls z c e says =
 
 -- ---- as the code has them
 
-pub row_at : (rs : List Row) (z : Sizes) (k : ℕ) → seen rs ≡ text_table z → k < 16 → ((get_or rs k no_row).0.now ≡ (block_at z k).0) × ((get_or rs k no_row).1 ≡ (block_at z k).1) × ((get_or rs k no_row).2 ≡ (block_at z k).2)
+pub row_at : (rs : List Row) (z : Sizes) (k : ℕ) → blocks_of rs ≡ text_table z → k < 16 → ((get_or rs k no_row).0.now ≡ (block_at z k).0) × ((get_or rs k no_row).1 ≡ (block_at z k).1) × ((get_or rs k no_row).2 ≡ (block_at z k).2)
 row_at rs z k e lt =
     let long : length rs ≡ 16 = sym (length-map rs (λ (b : Row). (b.0.now, b.1, b.2))) ∙ ap length e in
     let raw : Block = ((get_or rs k no_row).0.now, (get_or rs k no_row).1, (get_or rs k no_row).2) in

@@ -17,7 +17,8 @@ use Rattle.controller_file.specs.declared.block.Block.TheVariants.{Version, Size
 use Rattle.controller_file.proofs.Blocks.{sizes_small}
 use Rattle.controller_file.proofs.Again.{small_is}
 use Rattle.controller_file.proofs.Beginnings.{fewer, line_is, last_is, parted, next_is}
-use Rattle.controller_file.proofs.HeadLines.{from_natural, exponent_line, first_lines, list_lines, tail_lines, first_count, up_to, split_at, count_to, version_follows, size_follows, bits_follow, steps_follow, clamp_follows, words_follow, exponents_follow, low_follows, high_follows}
+use Rattle.controller_file.proofs.HeadLines.{from_natural, exponent_line, first_lines, list_lines, tail_lines, first_count, up_to, split_at, count_to, version_follows, size_follows, bits_follow}
+use Rattle.controller_file.proofs.HeadLines.{steps_follow, clamp_follows, words_follow, exponents_follow, low_follows, high_follows}
 use Rattle.controller_file.proofs.ListLines.{version_is, sizes_are, places_are, list_follows, at_line}
 
 -- the version is the first or the second
@@ -61,23 +62,28 @@ lower_is ls b len =
 
 -- ---- what is in its place and in range can follow
 
-low_on : (ls : List Keyed) (l : Keyed) (z : Sizes) (b : IsBeginning IsWhole ls) → sizes_of b.whole.numbers ≡ z → length ls ≡ 5 + b.whole.numbers.version → place_of l ≡ place (codes "lo") z.n → InRange (Some Low) ls z l.numbers → IsBeginning IsWhole (ls ++ l ∷ [])
+low_on : (ls : List Keyed) (l : Keyed) (z : Sizes) (b : IsBeginning IsWhole ls) → sizes_of b.whole.numbers ≡ z → length ls ≡ 5 + b.whole.numbers.version → place_of l ≡ place (codes "lo") z.n →
+    InRange (Some Low) ls z l.numbers → IsBeginning IsWhole (ls ++ l ∷ [])
 low_on ls l z b e len p h = low_follows ls l b len (p ∙ ap (λ (y : Sizes). place (codes "lo") y.n) (sym e)) h
 
-high_on : (ls : List Keyed) (l : Keyed) (z : Sizes) (b : IsBeginning IsWhole ls) → sizes_of b.whole.numbers ≡ z → length ls ≡ 6 + b.whole.numbers.version → place_of l ≡ place (codes "hi") z.n → InRange (Some High) ls z l.numbers → IsBeginning IsWhole (ls ++ l ∷ [])
+high_on : (ls : List Keyed) (l : Keyed) (z : Sizes) (b : IsBeginning IsWhole ls) → sizes_of b.whole.numbers ≡ z → length ls ≡ 6 + b.whole.numbers.version → place_of l ≡ place (codes "hi") z.n →
+    InRange (Some High) ls z l.numbers → IsBeginning IsWhole (ls ++ l ∷ [])
 high_on ls l z b e len p h = high_follows ls l b len (p ∙ ap (λ (y : Sizes). place (codes "hi") y.n) (sym e)) (subst (λ (low : List ℤ). AreUpper l.numbers low) (lower_is ls b len) h)
 
-exponents_on : (ls : List Keyed) (l : Keyed) (z : Sizes) (b : IsBeginning IsWhole ls) → sizes_of b.whole.numbers ≡ z → b.whole.numbers.version ≡ 2 → length ls ≡ 6 → place_of l ≡ place (codes "exps") z.m → InRange (Some Exponents) ls z l.numbers → IsBeginning IsWhole (ls ++ l ∷ [])
+exponents_on : (ls : List Keyed) (l : Keyed) (z : Sizes) (b : IsBeginning IsWhole ls) → sizes_of b.whole.numbers ≡ z → b.whole.numbers.version ≡ 2 → length ls ≡ 6 → place_of l ≡
+    place (codes "exps") z.m → InRange (Some Exponents) ls z l.numbers → IsBeginning IsWhole (ls ++ l ∷ [])
 exponents_on ls l z b e second len p h =
     let greatest : at (line_in ls 2) 2 ≡ pos b.whole.numbers.step_exponent = ap (λ (k : Keyed). at k.numbers 2) (sym (line_is ls b 2 (omega (arith, len)))) in
     exponents_follow ls l b second len (p ∙ ap (λ (y : Sizes). place (codes "exps") y.m) (sym e)) (subst (λ (s : ℤ). All (IsFrom (pos 0) s) l.numbers) greatest h)
 
-first_on : (ls : List Keyed) (l : Keyed) (z : Sizes) (b : IsBeginning IsWhole ls) (n : ℕ) → length ls ≡ suc (suc (suc (suc (suc (suc n))))) → sizes_of b.whole.numbers ≡ z → z.version ≡ 1 → Says ls z → Fits l → HasPlace z ls l (suc (suc (suc (suc (suc (suc n)))))) → HasPlace (versioned z 1) ls l (suc (suc (suc (suc (suc (suc n)))))) → IsBeginning IsWhole (ls ++ l ∷ [])
+first_on : (ls : List Keyed) (l : Keyed) (z : Sizes) (b : IsBeginning IsWhole ls) (n : ℕ) → length ls ≡ suc (suc (suc (suc (suc (suc n))))) → sizes_of b.whole.numbers ≡ z → z.version ≡ 1 → Says ls z →
+    Fits l → HasPlace z ls l (suc (suc (suc (suc (suc (suc n)))))) → HasPlace (versioned z 1) ls l (suc (suc (suc (suc (suc (suc n)))))) → IsBeginning IsWhole (ls ++ l ∷ [])
 first_on ls l z b zero len e one says fits h k = low_on ls l (versioned z 1) b (e ∙ versioned_is z 1 one) (omega (arith, len, one, ap (λ (y : Sizes). y.version) e)) (place_is k.place) k.range
 first_on ls l z b (suc zero) len e one says fits h k = high_on ls l (versioned z 1) b (e ∙ versioned_is z 1 one) (omega (arith, len, one, ap (λ (y : Sizes). y.version) e)) (place_is k.place) k.range
 first_on ls l z b (suc (suc n)) len e one says fits h k = list_follows ls l z b (omega (arith, len, one, ap (λ (y : Sizes). y.version) e)) says fits (ap (slice_get (places z)) len ∙ h.place)
 
-second_on : (ls : List Keyed) (l : Keyed) (z : Sizes) (b : IsBeginning IsWhole ls) (n : ℕ) → length ls ≡ suc (suc (suc (suc (suc (suc n))))) → sizes_of b.whole.numbers ≡ z → z.version ≡ 2 → Says ls z → Fits l → HasPlace z ls l (suc (suc (suc (suc (suc (suc n)))))) → HasPlace (versioned z 2) ls l (suc (suc (suc (suc (suc (suc n)))))) → IsBeginning IsWhole (ls ++ l ∷ [])
+second_on : (ls : List Keyed) (l : Keyed) (z : Sizes) (b : IsBeginning IsWhole ls) (n : ℕ) → length ls ≡ suc (suc (suc (suc (suc (suc n))))) → sizes_of b.whole.numbers ≡ z → z.version ≡ 2 →
+    Says ls z → Fits l → HasPlace z ls l (suc (suc (suc (suc (suc (suc n)))))) → HasPlace (versioned z 2) ls l (suc (suc (suc (suc (suc (suc n)))))) → IsBeginning IsWhole (ls ++ l ∷ [])
 second_on ls l z b zero len e two says fits h k = exponents_on ls l (versioned z 2) b (e ∙ versioned_is z 2 two) (omega (arith, two, ap (λ (y : Sizes). y.version) e)) len (place_is k.place) k.range
 second_on ls l z b (suc zero) len e two says fits h k = low_on ls l (versioned z 2) b (e ∙ versioned_is z 2 two) (omega (arith, len, two, ap (λ (y : Sizes). y.version) e)) (place_is k.place) k.range
 second_on ls l z b (suc (suc zero)) len e two says fits h k = high_on ls l (versioned z 2) b (e ∙ versioned_is z 2 two) (omega (arith, len, two, ap (λ (y : Sizes). y.version) e)) (place_is k.place) k.range
@@ -104,7 +110,8 @@ follows_on ls l z b (suc (suc (suc (suc (suc (suc n)))))) len says fits h =
 low_in : (ls : List Keyed) (l : Keyed) (z : Sizes) (more : IsBeginning IsWhole (ls ++ l ∷ [])) → length ls ≡ 5 + more.whole.numbers.version → InRange (Some Low) ls z l.numbers
 low_in ls l z more len =
     let c = more.whole.numbers in
-    subst (λ (k : Keyed). InRange (Some Low) ls z k.numbers) (next_is ls l more (first_lines c) (keyed_line (codes "lo") c.low) (keyed_line (codes "hi") c.high ∷ tail_lines c) refl (len ∙ sym (first_count c more.whole.form))) more.whole.form.sized.low
+    subst (λ (k : Keyed). InRange (Some Low) ls z k.numbers)
+    (next_is ls l more (first_lines c) (keyed_line (codes "lo") c.low) (keyed_line (codes "hi") c.high ∷ tail_lines c) refl (len ∙ sym (first_count c more.whole.form))) more.whole.form.sized.low
 
 high_in : (ls : List Keyed) (l : Keyed) (z : Sizes) (more : IsBeginning IsWhole (ls ++ l ∷ [])) → length ls ≡ 6 + more.whole.numbers.version → InRange (Some High) ls z l.numbers
 high_in ls l z more len =
@@ -124,7 +131,8 @@ exponents_in ls l z more two len =
     let last : keyed_line (codes "exps") (map pos c.exponents) ≡ l = ap (λ (ms : List Keyed). get_or (ms ++ list_lines c) 0 no_line) (sym (exponent_line c two)) ∙ last_is ls l more 6 len in
     subst (λ (s : ℤ). All (IsFrom (pos 0) s) l.numbers) (sym greatest) (subst (λ (k : Keyed). All (IsFrom (pos 0) (pos c.step_exponent)) k.numbers) last exps)
 
-first_in : (ls : List Keyed) (l : Keyed) (z : Sizes) (more : IsBeginning IsWhole (ls ++ l ∷ [])) (n : ℕ) → length ls ≡ suc (suc (suc (suc (suc (suc n))))) → more.whole.numbers.version ≡ 1 → InRange (head_block (versioned z 1) (suc (suc (suc (suc (suc (suc n))))))) ls (versioned z 1) l.numbers
+first_in : (ls : List Keyed) (l : Keyed) (z : Sizes) (more : IsBeginning IsWhole (ls ++ l ∷ [])) (n : ℕ) → length ls ≡ suc (suc (suc (suc (suc (suc n))))) → more.whole.numbers.version ≡ 1 →
+    InRange (head_block (versioned z 1) (suc (suc (suc (suc (suc (suc n))))))) ls (versioned z 1) l.numbers
 first_in ls l z more zero len one = low_in ls l (versioned z 1) more (omega (arith, len, one))
 first_in ls l z more (suc zero) len one = high_in ls l (versioned z 1) more (omega (arith, len, one))
 first_in ls l z more (suc (suc n)) len one =
@@ -133,7 +141,8 @@ first_in ls l z more (suc (suc n)) len one =
     let block : head_block (versioned z 1) k ≡ slice_get head_blocks (suc k) = first_block z k (omega arith) ∙ ap (slice_get head_blocks) more_one in
     subst (λ (b : Option Block). InRange b ls (versioned z 1) l.numbers) (sym block) tt
 
-second_in : (ls : List Keyed) (l : Keyed) (z : Sizes) (more : IsBeginning IsWhole (ls ++ l ∷ [])) (n : ℕ) → length ls ≡ suc (suc (suc (suc (suc (suc n))))) → more.whole.numbers.version ≡ 2 → InRange (head_block (versioned z 2) (suc (suc (suc (suc (suc (suc n))))))) ls (versioned z 2) l.numbers
+second_in : (ls : List Keyed) (l : Keyed) (z : Sizes) (more : IsBeginning IsWhole (ls ++ l ∷ [])) (n : ℕ) → length ls ≡ suc (suc (suc (suc (suc (suc n))))) → more.whole.numbers.version ≡ 2 →
+    InRange (head_block (versioned z 2) (suc (suc (suc (suc (suc (suc n))))))) ls (versioned z 2) l.numbers
 second_in ls l z more zero len two = exponents_in ls l (versioned z 2) more two len
 second_in ls l z more (suc zero) len two = low_in ls l (versioned z 2) more (omega (arith, len, two))
 second_in ls l z more (suc (suc zero)) len two = high_in ls l (versioned z 2) more (omega (arith, len, two))
@@ -146,12 +155,17 @@ range_in ls l z more (suc zero) len says =
     let sized = more.whole.form.sized in
     let size : AreSizes c.version (pos c.states) (pos c.inputs) (pos c.stages) (pos c.rows) =
     (from_natural 1 (most_states c.version) c.states sized.states, from_natural 1 3 c.inputs sized.inputs, from_natural 1 (most_stages c.version) c.stages sized.stages, from_natural 1 (most_rows c.version) c.rows sized.rows) in
-    subst (λ (k : Keyed). InRange (Some Size) ls z k.numbers) (last_is ls l more 1 len) (subst (λ (v : ℕ). AreSizes v (pos c.states) (pos c.inputs) (pos c.stages) (pos c.rows)) (version_is ls (fewer ls (l ∷ []) more) z (omega (arith, len)) says) size)
+    subst (λ (k : Keyed). InRange (Some Size) ls z k.numbers) (last_is ls l more 1 len)
+    (subst (λ (v : ℕ). AreSizes v (pos c.states) (pos c.inputs) (pos c.stages) (pos c.rows)) (version_is ls (fewer ls (l ∷ []) more) z (omega (arith, len)) says) size)
 range_in ls l z more (suc (suc zero)) len says =
     let c = more.whole.numbers in
     let sized = more.whole.form.sized in
-    subst (λ (k : Keyed). InRange (Some Bits) ls z k.numbers) (last_is ls l more 2 len)
-    (from_natural 0 24 c.grid_bits (omega arith, sized.grid_bits), from_natural c.grid_bits 48 c.fraction_bits sized.fraction_bits, from_natural 0 40 c.step_exponent (omega arith, sized.step_exponent), from_natural 2 128 c.width more.whole.form.width)
+    subst (λ (k : Keyed). InRange (Some Bits) ls z k.numbers) (last_is ls l more 2 len) (
+      from_natural 0 24 c.grid_bits (omega arith, sized.grid_bits),
+      from_natural c.grid_bits 48 c.fraction_bits sized.fraction_bits,
+      from_natural 0 40 c.step_exponent (omega arith, sized.step_exponent),
+      from_natural 2 128 c.width more.whole.form.width,
+    )
 range_in ls l z more (suc (suc (suc zero))) len says = subst (λ (k : Keyed). InRange (Some Steps) ls z k.numbers) (last_is ls l more 3 len) (from_natural 1 4194304 more.whole.numbers.steps more.whole.form.sized.steps)
 range_in ls l z more (suc (suc (suc (suc zero)))) len says = subst (λ (k : Keyed). InRange (Some Clamp) ls z k.numbers) (last_is ls l more 4 len) (record { least = more.whole.form.sized.clamp_low; greatest = more.whole.form.sized.clamp_high })
 range_in ls l z more (suc (suc (suc (suc (suc zero))))) len says =

@@ -56,7 +56,8 @@ four_is l key a b c d e ha hb hc hd = key_is l key 4 e ∙ ap (keyed_line key) (
 
 -- the lines after the box
 abbrev pub tail_lines : Numbers → List Keyed
-tail_lines c = chained (row_lines (codes "P") c.state_gains.rows ∷ (keyed_line (codes "T") c.offsets ∷ []) ∷ row_lines (codes "W") c.dual_gains.rows ∷ row_lines (codes "G") c.plan_rows.rows ∷ row_lines (codes "E") c.state_rows.rows ∷ (keyed_line (codes "b") c.bounds ∷ []) ∷ (keyed_line (codes "end") [] ∷ []) ∷ [])
+tail_lines c = chained (row_lines (codes "P") c.state_gains.rows ∷ (keyed_line (codes "T") c.offsets ∷ []) ∷ row_lines (codes "W") c.dual_gains.rows ∷ row_lines (codes "G") c.plan_rows.rows ∷
+    row_lines (codes "E") c.state_rows.rows ∷ (keyed_line (codes "b") c.bounds ∷ []) ∷ (keyed_line (codes "end") [] ∷ []) ∷ [])
 
 -- those before the bounds of the states, which are 5 and as many as the version
 abbrev pub first_lines : Numbers → List Keyed
@@ -170,7 +171,8 @@ version_follows ls l b len p h =
     let last = sym (one_is l (codes "mpc-controller") (pos v.0) p v.1) in
     grown ls l d (drop 1 (keyed_lines d)) form (blank_fits v.0 1 1 1 1) (λ i. front i ++ (last i ∷ drop 1 (keyed_lines d)))
 
-pub size_follows : (ls : List Keyed) (l : Keyed) (z : Sizes) → (b : IsBeginning IsWhole ls) → b.whole.numbers.version ≡ z.version → length ls ≡ 1 → place_of l ≡ place (codes "size") 4 → AreSizes z.version (at l.numbers 0) (at l.numbers 1) (at l.numbers 2) (at l.numbers 3) → IsBeginning IsWhole (ls ++ l ∷ [])
+pub size_follows : (ls : List Keyed) (l : Keyed) (z : Sizes) → (b : IsBeginning IsWhole ls) → b.whole.numbers.version ≡ z.version → length ls ≡ 1 → place_of l ≡ place (codes "size") 4 →
+    AreSizes z.version (at l.numbers 0) (at l.numbers 1) (at l.numbers 2) (at l.numbers 3) → IsBeginning IsWhole (ls ++ l ∷ [])
 size_follows ls l z b same len p h =
     let v = b.whole.numbers.version in
     let sizes = subst (λ (n : ℕ). AreSizes n (at l.numbers 0) (at l.numbers 1) (at l.numbers 2) (at l.numbers 3)) (sym same) h in
@@ -238,7 +240,8 @@ naturals_from s (z ∷ zs) h =
 pub exponent_line : (c : Numbers) → c.version ≡ 2 → keyed_exponents c ≡ keyed_line (codes "exps") (map pos c.exponents) ∷ []
 exponent_line c second = ap (λ (v : ℕ). if v == 1 then [] else keyed_line (codes "exps") (map pos c.exponents) ∷ []) second
 
-pub exponents_follow : (ls : List Keyed) (l : Keyed) (b : IsBeginning IsWhole ls) → b.whole.numbers.version ≡ 2 → length ls ≡ 6 → place_of l ≡ place (codes "exps") b.whole.numbers.rows → All (IsFrom (pos 0) (pos b.whole.numbers.step_exponent)) l.numbers → IsBeginning IsWhole (ls ++ l ∷ [])
+pub exponents_follow : (ls : List Keyed) (l : Keyed) (b : IsBeginning IsWhole ls) → b.whole.numbers.version ≡ 2 → length ls ≡ 6 → place_of l ≡ place (codes "exps") b.whole.numbers.rows →
+    All (IsFrom (pos 0) (pos b.whole.numbers.step_exponent)) l.numbers → IsBeginning IsWhole (ls ++ l ∷ [])
 exponents_follow ls l b second len p h =
     let c = b.whole.numbers in
     let es = naturals_from c.step_exponent l.numbers (recursion_from_All (IsFrom (pos 0) (pos c.step_exponent)) l.numbers h) in
@@ -260,7 +263,8 @@ low_follows ls l b len p h =
     let last = sym (key_is l (codes "lo") c.states p) in
     changed ls l b d (drop 1 (list_lines d)) (own_head c b.whole.form) (own_exponents c b.whole.form) (count, count, h, h, λ i lt. same_le (at l.numbers i)) (λ i. front i ++ (last i ∷ drop 1 (list_lines d)))
 
-pub high_follows : (ls : List Keyed) (l : Keyed) (b : IsBeginning IsWhole ls) → length ls ≡ 6 + b.whole.numbers.version → place_of l ≡ place (codes "hi") b.whole.numbers.states → AreUpper l.numbers b.whole.numbers.low → IsBeginning IsWhole (ls ++ l ∷ [])
+pub high_follows : (ls : List Keyed) (l : Keyed) (b : IsBeginning IsWhole ls) → length ls ≡ 6 + b.whole.numbers.version → place_of l ≡ place (codes "hi") b.whole.numbers.states →
+    AreUpper l.numbers b.whole.numbers.low → IsBeginning IsWhole (ls ++ l ∷ [])
 high_follows ls l b len p h =
     let c = b.whole.numbers in
     let sized = b.whole.form.sized in

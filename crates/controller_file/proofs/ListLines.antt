@@ -28,7 +28,9 @@ abbrev tail_places : Sizes → List Place
 tail_places z = spread (drop 9 (text_table z))
 
 tail_placed : (c : Numbers) → IsInForm c → map place_of (tail_lines c) ≡ tail_places (sizes_of c)
-tail_placed c form = map_chained place_of (row_lines (codes "P") c.state_gains.rows ∷ (keyed_line (codes "T") c.offsets ∷ []) ∷ row_lines (codes "W") c.dual_gains.rows ∷ row_lines (codes "G") c.plan_rows.rows ∷ row_lines (codes "E") c.state_rows.rows ∷ (keyed_line (codes "b") c.bounds ∷ []) ∷ (keyed_line (codes "end") [] ∷ []) ∷ [])
+tail_placed c form = map_chained place_of
+    (row_lines (codes "P") c.state_gains.rows ∷ (keyed_line (codes "T") c.offsets ∷ []) ∷ row_lines (codes "W") c.dual_gains.rows ∷ row_lines (codes "G") c.plan_rows.rows ∷
+    row_lines (codes "E") c.state_rows.rows ∷ (keyed_line (codes "b") c.bounds ∷ []) ∷ (keyed_line (codes "end") [] ∷ []) ∷ [])
     ∙ ap (λ (ps : List (List Place)). chained (drop 9 ps)) (blocks_placed c form)
 
 -- ---- lines in such places are lists

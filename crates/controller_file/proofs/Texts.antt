@@ -93,8 +93,10 @@ blocks_good c form fits =
     let small_exps : All (λ e. e < 2 ^ 32) c.exponents = λ k d lt. omega (arith, form.sized.exponents k d lt, small.step_exponent) in
     let one : (n : ℕ) → n < 2 ^ 32 → FitAll (pos n ∷ []) = λ n lt. (natural_fits n lt, tt) in
     let g0 = good (codes "mpc-controller") (pos c.version ∷ []) refl (one c.version (omega (arith, z.version))) in
-    let g1 = good (codes "size") (pos c.states ∷ pos c.inputs ∷ pos c.stages ∷ pos c.rows ∷ []) refl (natural_fits c.states (omega (arith, z.n)), (natural_fits c.inputs (omega (arith, z.p)), (natural_fits c.stages (omega (arith, z.stages)), one c.rows (omega (arith, z.m))))) in
-    let g2 = good (codes "bits") (pos c.fraction_bits ∷ pos c.grid_bits ∷ pos c.step_exponent ∷ pos c.width ∷ []) refl (natural_fits c.fraction_bits (omega (arith, small.fraction_bits)), (natural_fits c.grid_bits (omega (arith, small.grid_bits)), (natural_fits c.step_exponent (omega (arith, small.step_exponent)), one c.width (omega (arith, small.width))))) in
+    let g1 = good (codes "size") (pos c.states ∷ pos c.inputs ∷ pos c.stages ∷ pos c.rows ∷ []) refl
+    (natural_fits c.states (omega (arith, z.n)), (natural_fits c.inputs (omega (arith, z.p)), (natural_fits c.stages (omega (arith, z.stages)), one c.rows (omega (arith, z.m))))) in
+    let g2 = good (codes "bits") (pos c.fraction_bits ∷ pos c.grid_bits ∷ pos c.step_exponent ∷ pos c.width ∷ []) refl
+    (natural_fits c.fraction_bits (omega (arith, small.fraction_bits)), (natural_fits c.grid_bits (omega (arith, small.grid_bits)), (natural_fits c.step_exponent (omega (arith, small.step_exponent)), one c.width (omega (arith, small.width))))) in
     let g3 = good (codes "steps") (pos c.steps ∷ []) refl (one c.steps (omega (arith, small.steps))) in
     let g4 = good (codes "clamp") (c.clamp ∷ []) refl (quarter_fits c.clamp form.sized.clamp_low form.sized.clamp_high, tt) in
     let g5 = good (codes "words") (pos c.words ∷ []) refl (one c.words small.words) in

@@ -69,13 +69,16 @@ no_prefix bytes more c d p q =
     let kc = keyed_lines c in
     let kd = keyed_lines d in
     let texts : text_of (map spelled kc) ++ more ≡ text_of (map spelled kd) = ap (λ (t : List ℕ). t ++ more) (keyed_text c ∙ sym p.text) ∙ q.text ∙ sym (keyed_text d) in
-    let cut : map spelled kc ++ slice_split (λ b. eqb b 10) more ≡ map spelled kd ++ [] ∷ [] = sym (split_more (map spelled kc) more (pieces_of c form p.word)) ∙ ap (slice_split (λ b. eqb b 10)) texts ∙ split_text (map spelled kd) (pieces_of d other q.word) in
+    let cut : map spelled kc ++ slice_split (λ b. eqb b 10) more ≡ map spelled kd ++ [] ∷ [] =
+    sym (split_more (map spelled kc) more (pieces_of c form p.word)) ∙ ap (slice_split (λ b. eqb b 10)) texts ∙ split_text (map spelled kd) (pieces_of d other q.word) in
     let first : spelled (version_line c) ≡ spelled (version_line d) = ap (λ (l : List (List ℕ)). get_or l 0 []) cut in
     let second : spelled (size_line c) ≡ spelled (size_line d) = ap (λ (l : List (List ℕ)). get_or l 1 []) cut in
     let good = good_lines c form p.word in
     let others = good_lines d other q.word in
-    let sizes = sizes_same c d (one_line (version_line c) (version_line d) (good 0 (version_line c) (omega arith)) (others 0 (version_line d) (omega arith)) first) (one_line (size_line c) (size_line d) (good 1 (size_line c) (omega arith)) (others 1 (size_line d) (omega arith)) second) in
+    let sizes = sizes_same c d (one_line (version_line c) (version_line d) (good 0 (version_line c) (omega arith)) (others 0 (version_line d) (omega arith)) first)
+    (one_line (size_line c) (size_line d) (good 1 (size_line c) (omega arith)) (others 1 (size_line d) (omega arith)) second) in
     let placed : length (map place_of kc) ≡ length (map place_of kd) = ap length (lines_placed c form ∙ ap places sizes ∙ sym (lines_placed d other)) in
     let count : length (map spelled kc) ≡ length (map spelled kd) = omega (arith, length-map kc spelled, length-map kd spelled, length-map kc place_of, length-map kd place_of, placed) in
-    let rest : slice_split (λ b. eqb b 10) more ≡ [] ∷ [] = sym (drop_at (map spelled kc) (slice_split (λ b. eqb b 10) more) (length (map spelled kd)) count) ∙ ap (drop (length (map spelled kd))) cut ∙ drop_at (map spelled kd) ([] ∷ []) (length (map spelled kd)) refl in
+    let rest : slice_split (λ b. eqb b 10) more ≡ [] ∷ [] =
+    sym (drop_at (map spelled kc) (slice_split (λ b. eqb b 10) more) (length (map spelled kd)) count) ∙ ap (drop (length (map spelled kd))) cut ∙ drop_at (map spelled kd) ([] ∷ []) (length (map spelled kd)) refl in
     sym (join_with_byte-slice_split 10 more) ∙ ap (join_with_byte 10) rest

@@ -8,7 +8,7 @@ ghost use Rattle.controller_file.specs.Following.{IsFrom, AreSizes, AreBits, Are
 use crate::block::{BLOCKS, Block};
 use crate::table::{Sizes, place_at, sizes_in};
 use qp_model::range::{are_highs, are_numerators};
-use qp_model::{LAST_VERSION, MOST_INPUTS, VERSION, most_rows, most_stages, most_states};
+use qp_model::{FIRST_VERSION, LAST_VERSION, MOST_INPUTS, most_rows, most_stages, most_states};
 use text_lines::{Line, has_place, number_at, number_in, numbers_in};
 
 /// Whether a text in form has this line after these, which are the first lines of one.
@@ -34,7 +34,7 @@ fn is_in_range(before: &[Line], sizes: Sizes, numbers: &[i128]) -> bool
 {
     match head_block(sizes, before.len()) {
         Some(Block::Version) => is_from(
-            VERSION as i128,
+            FIRST_VERSION as i128,
             LAST_VERSION as i128,
             number_at(numbers, 0),
         ),
@@ -66,7 +66,7 @@ fn head_block(sizes: Sizes, index: usize) -> Option<Block>
     requires { index < 2 ^ 40 }
     ensures { result ≡ head_block sizes index }
 {
-    head_at(if index > 5 && sizes.version == VERSION {
+    head_at(if index > 5 && sizes.version == FIRST_VERSION {
         index + 1
     } else {
         index

@@ -12,7 +12,7 @@ ghost use Rattle.controller_file.specs.BlockPlace.{place_in_table};
 use crate::block::{Block, place_of};
 use crate::table::{sizes_in, table};
 use mat_int::Mat;
-use qp_model::{ControllerParts, VERSION};
+use qp_model::{ControllerParts, FIRST_VERSION};
 use std::alloc::{AllocError, Global};
 use text_lines::{Line, number_in, numbers_in, rows_before, small};
 
@@ -76,7 +76,7 @@ fn exponents_of(alloc: Global, lines: &[Line]) -> Result<Vec<u32>, AllocError>
     ensures { IfOk result (λ v. (c : Numbers) → IsInForm c → keyed_lines c ≡ views lines.now → v.items ≡ c.exponents) }
 {
     let sizes = sizes_in(lines);
-    if sizes.version == VERSION {
+    if sizes.version == FIRST_VERSION {
         vec![in alloc; small(number_in(lines, 2, 2)); sizes.m]
     } else {
         smalls(alloc, numbers_in(block_in(lines, Block::Exponents), 0))

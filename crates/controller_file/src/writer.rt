@@ -14,7 +14,7 @@ use crate::table::{Sizes, table};
 use mat_int::Mat;
 use number_text::push_line;
 use overflow_check::Controller;
-use qp_model::{ControllerParts, VERSION};
+use qp_model::{ControllerParts, FIRST_VERSION};
 use std::alloc::{AllocError, Global};
 
 /// The one text of a controller: lines of a word and numbers, `mpc-controller` and the version first and `end` last.
@@ -113,7 +113,7 @@ fn push_exponents(
     ensures text { OnOk result (string_bytes text.new ≡ string_bytes text.old ++ text_of (map spelled (slice_index_or (line_blocks (numbers parts.now)) 6 []))) }
     ensures word { OnOk result (All Fits (slice_index_or (line_blocks (numbers parts.now)) 6 [])) }
 {
-    if parts.version == VERSION {
+    if parts.version == FIRST_VERSION {
         return Ok(());
     }
     let numbers = widened(alloc, &parts.exps)?;

@@ -1,3 +1,4 @@
 pub mod Widest
 pub mod Fault
 pub mod Assembled
+pub mod Refusing

@@ -60,81 +60,81 @@ module _ (p : DesignParts) (plans : Plans) (c other : Numbers) (b printed : Prin
   t = targets_of p
 
   margin : margin_of b ≡ margin_of printed
-  margin = one_margin p plans h.design h.policy (margin_of b) (margin_of printed) h.margin k.margin
+  margin = one_margin p plans h.made.design h.policy (margin_of b) (margin_of printed) h.margin k.margin
 
   r : printed_multiplier b ≡ printed_multiplier printed
   r = ap multiplier_of margin
 
   version : c.version ≡ other.version
-  version = h.version ∙ sym k.version
+  version = h.made.version ∙ sym k.made.version
 
   states : c.states ≡ other.states
-  states = h.made.sizes.states ∙ sym k.made.sizes.states
+  states = h.made.made.sizes.states ∙ sym k.made.made.sizes.states
 
   inputs : c.inputs ≡ other.inputs
-  inputs = h.made.sizes.inputs ∙ sym k.made.sizes.inputs
+  inputs = h.made.made.sizes.inputs ∙ sym k.made.made.sizes.inputs
 
   stages : c.stages ≡ other.stages
-  stages = h.made.sizes.stages ∙ sym k.made.sizes.stages
+  stages = h.made.made.sizes.stages ∙ sym k.made.made.sizes.stages
 
   limits : c.rows ≡ other.rows
-  limits = h.made.sizes.rows ∙ sym k.made.sizes.rows
+  limits = h.made.made.sizes.rows ∙ sym k.made.made.sizes.rows
 
   grid : c.grid_bits ≡ other.grid_bits
-  grid = h.made.sizes.grid ∙ sym k.made.sizes.grid
+  grid = h.made.made.sizes.grid ∙ sym k.made.made.sizes.grid
 
   length_same : plan_length c ≡ plan_length other
   length_same = λ i. inputs i * stages i
 
   exponent : c.step_exponent ≡ other.step_exponent
-  exponent = one_exponent d c.step_exponent other.step_exponent h.exponent k.exponent
+  exponent = one_exponent d c.step_exponent other.step_exponent h.made.exponent k.made.exponent
 
   exponents : c.exponents ≡ other.exponents
-  exponents = one_list_law d other.step_exponent c.exponents other.exponents (rw exponent at h.exponents) k.exponents
+  exponents = one_list_law d other.step_exponent c.exponents other.exponents (rw exponent at h.made.exponents) k.made.exponents
 
   steps : c.steps ≡ other.steps
-  steps = h.steps ∙ (λ i. step_count (exponent i) (r i) (half_target t)) ∙ sym k.steps
+  steps = h.made.steps ∙ (λ i. step_count (exponent i) (r i) (half_target t)) ∙ sym k.made.steps
 
   bits : c.fraction_bits ≡ other.fraction_bits
-  bits = choice_same d t (printed_multiplier b) (printed_multiplier printed) c.fraction_bits other.fraction_bits r h.bits k.bits
+  bits = choice_same d t (printed_multiplier b) (printed_multiplier printed) c.fraction_bits other.fraction_bits r h.made.bits k.made.bits
 
   clamp : c.clamp ≡ other.clamp
-  clamp = h.made.clamp ∙ (λ i. pos (2 * r i * 2 ^ (bits i + exponent i))) ∙ sym k.made.clamp
+  clamp = h.made.made.clamp ∙ (λ i. pos (2 * r i * 2 ^ (bits i + exponent i))) ∙ sym k.made.made.clamp
 
   words : c.words ≡ other.words
-  words = h.controller.form.sized.words ∙ (λ i. states i + limits i + 2 * length_same i) ∙ sym k.controller.form.sized.words
+  words = h.made.controller.form.sized.words ∙ (λ i. states i + limits i + 2 * length_same i) ∙ sym k.made.controller.form.sized.words
 
   rounded_same : (z : ℤ) → round_of (pos (2 ^ c.fraction_bits) *ℤ z) (form_of d).rows_scale ≡ round_of (pos (2 ^ other.fraction_bits) *ℤ z) (form_of d).rows_scale
   rounded_same z = λ i. round_of (pos (2 ^ bits i) *ℤ z) (form_of d).rows_scale
 
   low : c.low ≡ other.low
   low = same_numbers c.low other.low d.states
-      (h.controller.form.sized.shaped.low ∙ h.made.sizes.states) (k.controller.form.sized.shaped.low ∙ k.made.sizes.states)
-      (λ j l. h.made.sizes.low j l ∙ sym (k.made.sizes.low j l))
+      (h.made.controller.form.sized.shaped.low ∙ h.made.made.sizes.states) (k.made.controller.form.sized.shaped.low ∙ k.made.made.sizes.states)
+      (λ j l. h.made.made.sizes.low j l ∙ sym (k.made.made.sizes.low j l))
 
   high : c.high ≡ other.high
   high = same_numbers c.high other.high d.states
-      (h.controller.form.sized.shaped.high ∙ h.made.sizes.states) (k.controller.form.sized.shaped.high ∙ k.made.sizes.states)
-      (λ j l. h.made.sizes.high j l ∙ sym (k.made.sizes.high j l))
+      (h.made.controller.form.sized.shaped.high ∙ h.made.made.sizes.states) (k.made.controller.form.sized.shaped.high ∙ k.made.made.sizes.states)
+      (λ j l. h.made.made.sizes.high j l ∙ sym (k.made.made.sizes.high j l))
 
   bounds : c.bounds ≡ other.bounds
   bounds = same_numbers c.bounds other.bounds (rows d)
-      (h.controller.form.sized.shaped.bounds ∙ h.made.sizes.rows) (k.controller.form.sized.shaped.bounds ∙ k.made.sizes.rows)
-      (λ j l. h.made.rows.bounds j (rw (rows_are d) l) ∙ rounded_same ((form_of d).numbers.bound j) ∙ sym (k.made.rows.bounds j (rw (rows_are d) l)))
+      (h.made.controller.form.sized.shaped.bounds ∙ h.made.made.sizes.rows) (k.made.controller.form.sized.shaped.bounds ∙ k.made.made.sizes.rows)
+      (λ j l. h.made.made.rows.bounds j (rw (rows_are d) l) ∙ rounded_same ((form_of d).numbers.bound j) ∙ sym (k.made.made.rows.bounds j (rw (rows_are d) l)))
 
   plan_rows : c.plan_rows ≡ other.plan_rows
   plan_rows = same_matrix c.plan_rows other.plan_rows (rows d) (entries d)
-      (shape_as _ _ _ _ _ h.made.sizes.rows (plan_long d c h.made.sizes.inputs h.made.sizes.stages) h.controller.form.sized.shaped.plan_rows)
-      (shape_as _ _ _ _ _ k.made.sizes.rows (plan_long d other k.made.sizes.inputs k.made.sizes.stages) k.controller.form.sized.shaped.plan_rows)
-      (λ i j l m. h.made.rows.plan_rows i j (rw (rows_are d) l) (rw (entries_are d) m) ∙ rounded_same ((form_of d).numbers.by_plan i j) ∙
-      sym (k.made.rows.plan_rows i j (rw (rows_are d) l) (rw (entries_are d) m)))
+      (shape_as _ _ _ _ _ h.made.made.sizes.rows (plan_long d c h.made.made.sizes.inputs h.made.made.sizes.stages) h.made.controller.form.sized.shaped.plan_rows)
+      (shape_as _ _ _ _ _ k.made.made.sizes.rows (plan_long d other k.made.made.sizes.inputs k.made.made.sizes.stages) k.made.controller.form.sized.shaped.plan_rows)
+      (λ i j l m. h.made.made.rows.plan_rows i j (rw (rows_are d) l) (rw (entries_are d) m) ∙ rounded_same ((form_of d).numbers.by_plan i j) ∙
+      sym (k.made.made.rows.plan_rows i j (rw (rows_are d) l) (rw (entries_are d) m)))
 
   state_rows : c.state_rows ≡ other.state_rows
   state_rows = same_matrix c.state_rows other.state_rows (rows d) d.states
-      (shape_as _ _ _ _ _ h.made.sizes.rows h.made.sizes.states h.controller.form.sized.shaped.state_rows)
-      (shape_as _ _ _ _ _ k.made.sizes.rows k.made.sizes.states k.controller.form.sized.shaped.state_rows)
-      (λ i j l m. h.made.rows.state_rows i j (rw (rows_are d) l) (rw (states_are d) m) ∙ rounded_same ((form_of d).numbers.by_state i j) ∙
-      sym (k.made.rows.state_rows i j (rw (rows_are d) l) (rw (states_are d) m)))
+      (shape_as _ _ _ _ _ h.made.made.sizes.rows h.made.made.sizes.states h.made.controller.form.sized.shaped.state_rows)
+      (shape_as _ _ _ _ _ k.made.made.sizes.rows k.made.made.sizes.states k.made.controller.form.sized.shaped.state_rows)
+      (λ i j l m. h.made.made.rows.state_rows i j (rw (rows_are d) l) (rw (states_are d) m) ∙ rounded_same ((form_of d).numbers.by_state i j) ∙
+      sym (k.made.made.rows.state_rows i j (rw (rows_are d) l) (rw (states_are d) m)))
 
   -- with these gains and widths
   numbers_with : (x y u v : Matrix) (s z : List ℤ) (w n : ℕ) → x ≡ y → s ≡ z → u ≡ v → w ≡ n →
@@ -200,7 +200,7 @@ module _ (p : DesignParts) (plans : Plans) (c other : Numbers) (b printed : Prin
       sums = ap greatest_sum (numbers_by c.width c.width refl)
 
       width : c.width ≡ other.width
-      width = one_width (greatest_sum other) c.width other.width (rw sums at h.width) k.width
+      width = one_width (greatest_sum other) c.width other.width (rw sums at h.made.width) k.made.width
 
       whole : c ≡ other
       whole = numbers_by c.width other.width width

@@ -1,12 +1,15 @@
 -- What passes every test is built.
-use Rattle.std.proofs.Common.{◌≡◌, inl, inr, ℕ, false, ◌≤◌, List, arith, refl, ap, sym, subst, ◌∙◌}
+use Rattle.std.proofs.Common.{◌≡◌, inl, inr, ℕ, false, ◌≤◌, ◌^◌, pos, ◌≤ℤ◌, unsigned_abs, List, arith, refl, ap, sym, subst, ◌∙◌}
 use Rattle.std.proofs.lemmas.Bool.{cases_eq}
 use Rattle.std.proofs.lemmas.List.Elements.{All-from_get_or}
 use Rattle.qp_model.specs.problem.Parts.{IsDesign, design_of}
 use Rattle.qp_model.specs.problem.Policy.{Plans, IsPolicyFor}
 use Rattle.qp_model.specs.form.Curvature.{AreExponents}
-use Rattle.qp_model.specs.bounds.Choices.{step_count, multiplier_of}
-use Rattle.qp_model.specs.form.Class.{form_of}
+use Rattle.qp_model.specs.bounds.Choices.{multiplier_of}
+use Rattle.qp_model.specs.bounds.CornerClass.{IsMargin}
+use Rattle.qp_model.specs.form.Class.{form_of, hessian_quantity}
+use Rattle.plant_condense.proofs.FormLaws.{form_law}
+use Rattle.real_error.proofs.RealCosts as costs
 use Rattle.qp_model.specs.problem.Design.{Design, rows}
 use Rattle.qp_model.specs.bounds.Built.{IsDerivedFrom}
 use Rattle.qp_model.specs.bounds.RealErrors.{real_cost}
@@ -18,12 +21,14 @@ use Rattle.qp_model.specs.bounds.Printed.{Printed}
 use Rattle.qp_model.specs.declared.bounds.Margin.{Margin}
 use Rattle.hessian_check.specs.Steps.{IsExponentOf}
 use Rattle.hessian_check.specs.RowExponents.{exponent_in, AreExponentsOf}
-use Rattle.design_engine.specs.Targets.{targets_of, half_target}
+use Rattle.design_engine.specs.Targets.{targets_of}
+use Rattle.design_engine.specs.Aims.{aim_of, steps_of, AreBitsOf, IsMadeWith}
+use Rattle.design_engine.specs.declared.aimed.Aim.{Aim}
 use Rattle.design_engine.specs.Bounds.{margin_of, AreBoundsOf}
 use Rattle.controller_maker.specs.Assembled.{HasExponents, IsAssembled}
 use Rattle.controller_maker.proofs.RowExponents.{repeated_exponents}
 use Rattle.design_engine.specs.Built.{IsBuilt}
-use Rattle.design_engine.specs.Refusals.{PassesMargin, PassesBits}
+use Rattle.design_engine.specs.Refusals.{PassesMargin}
 
 -- the step exponent is at most 40
 pub exponent_small : (d : Design) (s : ℕ) → IsExponentOf d s → s ≤ 40
@@ -62,32 +67,37 @@ pub assembled_with : (d : Design) (r q s : ℕ) (es : List ℕ) (k f : ℕ) (c :
 assembled_with d r q s es k f c is a =
     subst (λ (xs : List ℕ). IsAssembled d q s xs k f c) (sym a.exponents) (subst (λ (n : ℕ). IsAssembled d n s es k f c) is a)
 
-pub built_from : (p : DesignParts) (plans : Plans) (c : Numbers) (b : Printed) (m : Margin) (r s : ℕ) (es : List ℕ) (k f : ℕ) → IsDesign p → IsPolicyFor (design_of p) plans →
-    PassesBits (design_of p) (targets_of p) plans m s f → AreExponentsOf (design_of p) s es → AreExponents (design_of p) (exponent_in es) s → r ≡ multiplier_of m → k ≡ step_count s (multiplier_of m) (half_target (targets_of p)) →
-    margin_of b ≡ m → b.lean ≡ false → IsController c → IsAssembled (design_of p) r s es k f c → AreBoundsOf c b (real_cost (design_of p) (form_of (design_of p)) (multiplier_of m) c) → IsBuilt p plans c b
-built_from p plans c b m r s es k f design policy passes exponents curved is count same plain sound a bounds = record {
+-- so it is made with an aim
+pub made_from : (p : DesignParts) (a : Aim) (c : Numbers) (s : ℕ) (es : List ℕ) (k f : ℕ) → IsDesign p → hessian_quantity (design_of p) ≤ 2 ^ 126 →
+    IsExponentOf (design_of p) s → AreExponentsOf (design_of p) s es → AreExponents (design_of p) (exponent_in es) s → k ≡ steps_of a s →
+    AreBitsOf (design_of p) a f → IsController c → IsAssembled (design_of p) (unsigned_abs a.r) s es k f c → IsMadeWith p a c
+made_from p a c s es k f design narrow exponent exponents curved count bits sound is = record {
   design = design;
-  policy = policy;
-  margin = rw (units, cost) margin.margin;
-  slack = rw units margin.slack;
-  narrow = passes.before.before.hessian;
+  narrow = narrow;
   controller = sound;
-  version = a.version;
-  made = rw (units, cost) (derived_from (design_of p) c r (multiplier_of m) s es k f curved is a);
-  exponent = rw a.step_exponent passes.before.exponent;
-  exponents = rw (a.step_exponent, a.exponents) exponents;
-  steps = a.steps ∙ count ∙ rw (a.step_exponent, units, cost) refl;
-  bits = rw (a.fraction_bits, units, cost) passes.choice;
-  width = a.width;
-  lean = plain;
-  bounds = subst (λ (r : ℕ). AreBoundsOf c b (real_cost (design_of p) (form_of (design_of p)) r c)) (ap (λ (x : Margin). multiplier_of x) (sym same)) bounds;
+  version = is.version;
+  made = derived_from (design_of p) c (unsigned_abs a.r) (unsigned_abs a.r) s es k f curved refl is;
+  exponent = rw is.step_exponent exponent;
+  exponents = rw (is.step_exponent, is.exponents) exponents;
+  steps = is.steps ∙ count ∙ rw is.step_exponent refl;
+  bits = rw is.fraction_bits bits;
+  width = is.width;
 }
-  where
-    margin : PassesMargin (design_of p) (targets_of p) plans m
-    margin = passes.before.before.before
 
-    units : b.margin ≡ m.units
-    units = ap (λ (x : Margin). x.units) same
+-- what the errors of its steps cost is no more than the aim lets them
+pub cost_limited : (p : DesignParts) (a : Aim) (c : Numbers) → IsMadeWith p a c →
+    real_cost (design_of p) (form_of (design_of p)) (unsigned_abs a.r) c ≤ unsigned_abs a.error_target
+cost_limited p a c h = omega (arith, costs.cost p (form_of (design_of p)) (unsigned_abs a.r) c h.design (form_law p h.design h.narrow) h.made, h.bits.within)
 
-    cost : b.cost ≡ m.cost
-    cost = ap (λ (x : Margin). x.cost) same
+-- with a margin, and with its bounds
+pub built_from : (p : DesignParts) (plans : Plans) (c : Numbers) (b : Printed) (m : Margin) → IsPolicyFor (design_of p) plans →
+    PassesMargin (design_of p) (targets_of p) plans m → margin_of b ≡ m → b.lean ≡ false → IsMadeWith p (aim_of (targets_of p) m) c →
+    AreBoundsOf c b (real_cost (design_of p) (form_of (design_of p)) (multiplier_of m) c) → IsBuilt p plans c b
+built_from p plans c b m policy passes same plain made bounds = record {
+  policy = policy;
+  margin = subst (λ (x : Margin). IsMargin (design_of p) plans x) (sym same) passes.margin;
+  slack = subst (λ (x : Margin). pos 1 ≤ℤ x.units) (sym same) passes.slack;
+  made = subst (λ (x : Margin). IsMadeWith p (aim_of (targets_of p) x) c) (sym same) made;
+  lean = plain;
+  bounds = subst (λ (x : Margin). AreBoundsOf c b (real_cost (design_of p) (form_of (design_of p)) (multiplier_of x) c)) (sym same) bounds;
+}

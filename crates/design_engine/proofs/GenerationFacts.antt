@@ -1,19 +1,22 @@
 -- What the tests' numbers are within.
-use Rattle.std.proofs.Common.{◌≡◌, ℕ, zero, suc, ◌+◌, ◌*◌, ◌/◌, ◌^◌, ◌≤◌, min, max, ℤ, pos, negsuc, ◌*ℤ◌, ◌≤ℤ◌, unsigned_abs, arith, ap, ◌∙◌, to_z, of_z}
+use Rattle.std.proofs.Common.{◌≡◌, ℕ, zero, suc, ◌+◌, ◌*◌, ◌/◌, ◌^◌, ◌≤◌, min, max, ℤ, pos, negsuc, ◌*ℤ◌, ◌≤ℤ◌, unsigned_abs, arith, ap, subst, ◌∙◌, to_z, of_z}
 use Rattle.std.proofs.lemmas.Int.{ints, to_z-of_z}
-use Rattle.std.proofs.lemmas.Nat.{pow_pos, mul-le}
+use Rattle.std.proofs.lemmas.Nat.{mul-le}
 use Rattle.std.proofs.Math.Nat.{div-le_self}
 use Rattle.std.specs.Int.{w128, int_min}
 use mir.Val.{SFits}
-use Rattle.integer_algebra.specs.Division.{ceil_div}
-use Rattle.integer_algebra.proofs.DivisionLaws.{le-mul-ceil_div}
+use Rattle.qp_model.specs.problem.Design.{Design}
 use Rattle.qp_model.specs.problem.Parts.{IsDesign}
 use Rattle.qp_model.specs.problem.Range.{IsDenominator, IsPositive}
-use Rattle.qp_model.specs.bounds.Choices.{multiplier_size, step_count, violation_bound, undercut_bound, multiplier_of}
+use Rattle.qp_model.specs.bounds.Choices.{multiplier_size, multiplier_size_of, step_count, violation_bound, undercut_bound, multiplier_of}
 use Rattle.qp_model.specs.declared.design_parts.DesignParts.{DesignParts}
 use Rattle.qp_model.specs.declared.bounds.Margin.{Margin}
-use Rattle.design_engine.specs.Targets.{targets_of, half_target, gap_target, error_limit}
-use Rattle.design_engine.proofs.TargetLaws.{quotient_some, some_of, size_of, halves}
+use Rattle.design_engine.specs.Targets.{Targets, targets_of, half_target, gap_target, error_limit}
+use Rattle.design_engine.specs.Aims.{aim_of, IsAim}
+use Rattle.design_engine.specs.Tests.{HasAimCause, IsRefusedFor}
+use Rattle.design_engine.specs.declared.aimed.Aim.{Aim}
+use Rattle.design_refusal.specs.declared.refusal.Refusal.{Refusal}
+use Rattle.design_engine.proofs.TargetLaws.{quotient_some, some_of, size_of, halves, steps_some}
 
 -- ---- the targets
 pub half_small : (p : DesignParts) → IsDesign p → half_target (targets_of p) ≤ 2 ^ 70
@@ -64,17 +67,6 @@ bound_narrow m h = close _ (multiplier_of m) h
     close : (x r : ℕ) → max x (2 ^ 82 * r) ≤ 2 ^ 126 → r ≤ 2 ^ 44
     close x r h = omega (arith, h)
 
--- ---- the steps
-pub steps_some : (s r k : ℕ) → 1 ≤ r → 1 ≤ k → 1 ≤ step_count s r k
-steps_some s r k o h = close (2 ^ (s + 41) * r) k (ceil_div (2 ^ (s + 41) * r) k) (one-le (2 ^ (s + 41)) r (pow_pos (s + 41)) o) (le-mul-ceil_div (2 ^ (s + 41) * r) k h)
-  where
-    one-le : (a b : ℕ) → 1 ≤ a → 1 ≤ b → 1 ≤ a * b
-    one-le a b h k = omega (arith, mul-le 1 1 a b h k)
-
-    close : (a k q : ℕ) → 1 ≤ a → a ≤ k * q → 1 ≤ q
-    close a k zero h l = absurd (omega (arith, h, l))
-    close a k (suc q) h l = omega arith
-
 -- ---- the printed bounds
 pub undercut_small : (s r h e : ℕ) → 1 ≤ r → r ≤ 2 ^ 44 → 1 ≤ h → h ≤ 2 ^ 70 → e ≤ r * h → undercut_bound r (violation_bound s r (step_count s r h) e) ≤ 2 ^ 126
 undercut_small s r h e o n l k i = close r (violation_bound s r (step_count s r h) e) h n k (halves s r h e o l i)
@@ -94,6 +86,13 @@ whole_narrow z n f e h = rw (to_z-of_z w128 z f, e) (omega (arith, ints, h))
 
 pub whole_least : (z : ℤ) (n : ℕ) → SFits w128 z → z ≡ pos n → pos 0 ≤ℤ to_z w128 (of_z w128 z)
 whole_least z n f e = rw (to_z-of_z w128 z f, e) (omega (arith, ints))
+
+-- the size of a number, and that it is not 0
+pub size_kept : (z : ℤ) → SFits w128 z → unsigned_abs (to_z w128 (of_z w128 z)) ≡ unsigned_abs z
+size_kept z f = ap unsigned_abs (to_z-of_z w128 z f)
+
+pub kept_least : (z : ℤ) → pos 1 ≤ℤ z → 1 ≤ unsigned_abs z
+kept_least z h = some_of z h
 
 -- R times half the target
 pub product_fits : (r z : ℤ) (h : ℕ) → SFits w128 r → SFits w128 z → pos 1 ≤ℤ r → r ≤ℤ pos (2 ^ 44) → z ≡ pos h → h ≤ 2 ^ 70 →
@@ -123,3 +122,29 @@ product_is r z h f g some narrow e l =
 -- a cost that is within a limit
 pub at_most : (z : ℤ) (n : ℕ) {k : ℕ} → z ≡ pos n → n ≤ k → k ≤ 2 ^ 71 → z ≤ℤ pos (2 ^ 114)
 at_most z n {k} e h l = rw e (omega (arith, ints, h, l))
+
+-- ---- an aim
+-- by its numbers
+pub aim_same : (t : Targets) (m : Margin) (r steps errors : ℤ) → r ≡ pos (multiplier_of m) → steps ≡ pos (half_target t) → errors ≡ pos (error_limit t (multiplier_of m)) →
+    ◌≡◌ {A = Aim} (record { r = r; step_target = steps; error_target = errors }) (aim_of t m)
+aim_same t m r steps errors e f g = λ i. record { r = e i; step_target = f i; error_target = g i }
+
+-- that of a margin lies in the ranges
+pub aim_ranges : (p : DesignParts) (m : Margin) → IsDesign p → multiplier_size_of m ≤ 2 ^ 126 → IsAim (aim_of (targets_of p) m)
+aim_ranges p m h room = record {
+  some = least _ (bound_some m);
+  narrow = most _ (2 ^ 44) (bound_narrow m room);
+  steps = least _ (half_some p h);
+  errors = least _ (limit_some p _ h (bound_some m));
+  small = most _ (2 ^ 71) (limit_small p _ h);
+}
+  where
+    least : (n : ℕ) → 1 ≤ n → pos 1 ≤ℤ pos n
+    least n l = omega (arith, ints, l)
+
+    most : (n k : ℕ) → n ≤ k → pos n ≤ℤ pos k
+    most n k l = omega (arith, ints, l)
+
+-- a refusal, by another name of the aim
+pub aim_refused : (d : Design) (a b : Aim) (s : ℕ) → a ≡ b → (e : Refusal) → IsRefusedFor (HasAimCause d a s) e → IsRefusedFor (HasAimCause d b s) e
+aim_refused d a b s is e h = subst (λ (x : Aim). IsRefusedFor (HasAimCause d x s) e) is h

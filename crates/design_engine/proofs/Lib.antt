@@ -8,6 +8,7 @@ pub mod PromiseLaws
 -- ---- one refusal, one controller but for its gains
 pub mod TestLaws
 pub mod OneOfEach
+pub mod StageLaws
 pub mod CauseLaws
 pub mod AgreementLaws
 -- ---- what `generate` answers

@@ -7,7 +7,7 @@ use Rattle.frac_scaled.specs.declared.fraction.Frac.{Frac}
 use Rattle.qp_model.specs.form.Class.{form_of, prediction_quantity, hessian_quantity, rows_quantity}
 use Rattle.qp_model.specs.problem.Design.{Design}
 use Rattle.qp_model.specs.problem.Policy.{Plans}
-use Rattle.qp_model.specs.bounds.Choices.{multiplier_size, step_count, multiplier_of}
+use Rattle.qp_model.specs.bounds.Choices.{multiplier_size, multiplier_size_of}
 use Rattle.qp_model.specs.form.Columns.{descent_size}
 use Rattle.qp_model.specs.bounds.Errors as errors
 use Rattle.qp_model.specs.bounds.Errors.{error_size, error_sums_of, epsilon}
@@ -30,16 +30,22 @@ use Rattle.bit_choice.specs.Choice.{IsChoice}
 use Rattle.approx_inverse.specs.Fault.{IsFault}
 use Rattle.approx_inverse.specs.declared.fault.SolveFault.{SolveFault}
 use Rattle.approx_inverse.specs.declared.fault.SolveFault.TheVariants.{Memory as solve_memory, TooWide as solve_wide}
-use Rattle.hessian_check.specs.Steps.{IsExponentOf}
-use Rattle.design_engine.specs.Targets.{Targets, half_target, error_limit}
+use Rattle.design_engine.specs.Targets.{Targets}
+use Rattle.design_engine.specs.Aims.{steps_of, aim_of}
+use Rattle.design_engine.specs.Tests.{IsRefusedFor, PassesForm, IsFormWide, HasFormCause, PassesBits, IsAimWide, HasAimCause}
 use Rattle.controller_maker.specs.Widest.{width_size}
 use Rattle.controller_maker.specs.Fault.{IsWidthFault}
-use Rattle.design_engine.specs.Faults.{of_margin, of_condense, of_curvature, of_solve, of_width}
-use Rattle.design_engine.specs.Refusals.{PassesMargin, PassesSizes, PassesSteps, PassesBits, HasCause, IsRefused, IsTooWide}
+use Rattle.exact_margin.specs.Refusing.{of_margin}
+use Rattle.condensed_form.specs.Refusing.{of_condense}
+use Rattle.hessian_check.specs.Refusing.{of_curvature}
+use Rattle.approx_inverse.specs.Refusing.{of_solve}
+use Rattle.controller_maker.specs.Refusing.{of_width}
+use Rattle.design_engine.specs.Refusals.{PassesMargin, PassesExponent, HasMultiplier, HasCause, IsRefused, IsTooWide}
 use Rattle.controller_maker.specs.declared.fault.WidthFault.{WidthFault}
 use Rattle.controller_maker.specs.declared.fault.WidthFault.TheVariants.{Memory as width_memory, TooWide as width_wide}
-use Rattle.design_engine.specs.declared.refusal.Refusal.{Refusal}
-use Rattle.design_engine.specs.declared.refusal.Refusal.TheVariants.{TooManySteps, TooFine, TooWide}
+use Rattle.design_refusal.specs.declared.refusal.Refusal.{Refusal}
+use Rattle.design_refusal.specs.declared.refusal.Refusal.TheVariants.{Memory, NoMargin, Curvature, TooManySteps, TooFine, TooWide}
+use Rattle.design_engine.specs.declared.aimed.Aim.{Aim}
 
 -- the error that a fault becomes
 pub refused_by : {T : Type 0} (r : Result T Refusal) (from p : Refusal → Type 0) → IsErrAnd r from → ((e : Refusal) → from e → p e) → IfErr r p
@@ -64,8 +70,67 @@ condensed_within x quantity n h = elim (cases_lt (2 ^ 126) n) [ inl l ↦ absurd
     neither (inl g) = search rules
     neither (inr g) = search rules
 
+-- ---- the form
+module _ (d : Design) where
+  form_wide : (quantity : Quantity) → condensing.IsFirstWideForm d quantity → IsFormWide d quantity
+  form_wide Prediction k = k
+  form_wide CornerSlack k = absurd k
+  form_wide CornerCost k = absurd k
+  form_wide Multiplier k = absurd k
+  form_wide Hessian k = k
+  form_wide Rows k = k
+  form_wide curvature_named k = absurd k
+  form_wide Error k = absurd k
+  form_wide Descent k = absurd k
+  form_wide Width k = absurd k
+  form_wide Turn k = absurd k
+  form_wide Excess k = absurd k
+  form_wide Stay k = absurd k
+
+  pub condense_refused : (r : Result Condensed CondenseFault) (fault : CondenseFault) → r ≡ Err fault →
+      ((quantity : Quantity) → r ≡ Err (condense_wide quantity) → condensing.IsFirstWideForm d quantity) →
+      (e : Refusal) → e ≡ of_condense fault → IsRefusedFor (HasFormCause d) e
+  condense_refused r condense_memory is wide e f = inl f
+  condense_refused r (condense_wide quantity) is wide e f = rw f (inr (form_wide quantity (wide quantity is)))
+
+  pub curvature_refused : prediction_quantity d ≤ 2 ^ 126 → hessian_quantity d ≤ 2 ^ 126 → rows_quantity d ≤ 2 ^ 126 →
+      (fault : CurvatureFault) → exponents.IsExponentRefused d fault → (e : Refusal) → e ≡ of_curvature fault → IsRefusedFor (HasFormCause d) e
+  curvature_refused i k l curvature_memory why e f = inl f
+  curvature_refused i k l (curvature_wide quantity) (inl memory) e f = absurd (search rules)
+  curvature_refused i k l (curvature_wide quantity) (inr why) e f = rw (f, why.0) (inr (i, (k, (l, why.1))))
+  curvature_refused i k l NoStep (inl memory) e f = absurd (search rules)
+  curvature_refused i k l NoStep (inr why) e f = rw f (inr (record { prediction = i; hessian = k; rows = l; curvature = why.0 }, why.1))
+
+-- ---- an aim, with the step exponent s
+above : (limit n : ℕ) → (n ≤ limit → ⊥) → limit < n
+above limit n refuted = omega (arith, refuted)
+
+module _ (d : Design) (a : Aim) (s : ℕ) where
+  pub steps_refused : (k : ℤ) → (steps_of a s ≤ 2 ^ 22 → ⊥) → k ≡ pos (steps_of a s) → (e : Refusal) → e ≡ TooManySteps k → HasAimCause d a s e
+  steps_refused k refuted is e j = rw j (above (2 ^ 22) (steps_of a s) refuted, is)
+
+  pub sums_refused : (quantity : Quantity) → steps_of a s ≤ 2 ^ 22 → (error_size d (form_of d) (unsigned_abs a.r) ≤ 2 ^ 126 → ⊥) → quantity ≡ Error →
+      (e : Refusal) → e ≡ TooWide quantity → HasAimCause d a s e
+  sums_refused quantity few refuted g e j = rw (j, g) (few, above (2 ^ 126) (error_size d (form_of d) (unsigned_abs a.r)) refuted)
+
+  pub choice_refused : (sums : errors.ErrorSums) (eps : ℤ) → steps_of a s ≤ 2 ^ 22 → error_size d (form_of d) (unsigned_abs a.r) ≤ 2 ^ 126 →
+      sums ≡ error_sums_of d (form_of d) (unsigned_abs a.r) → unsigned_abs a.error_target < epsilon sums 48 → eps ≡ pos (epsilon sums 48) →
+      (e : Refusal) → e ≡ TooFine eps → HasAimCause d a s e
+  choice_refused sums eps few size k fine is e j = rw j (few, (size, (rw k at fine, rw k at is)))
+
+  pub solve_refused : (f : ℕ) → PassesBits d a s f → (fault : SolveFault) → IsFault fault (2 ^ 126 < descent_size (form_of d) f) →
+      (e : Refusal) → e ≡ of_solve fault → IsRefusedFor (HasAimCause d a s) e
+  solve_refused f passes solve_memory h e j = inl j
+  solve_refused f passes (solve_wide quantity) h e j = rw (j, h.0) (inr (f, passes, h.1))
+
+  pub width_refused : (f k : ℕ) → PassesBits d a s f → descent_size (form_of d) f ≤ 2 ^ 126 → k ≡ steps_of a s →
+      (fault : WidthFault) → IsWidthFault fault (2 ^ 126 < width_size d (unsigned_abs a.r) s k f) →
+      (e : Refusal) → e ≡ of_width fault → IsRefusedFor (HasAimCause d a s) e
+  width_refused f k passes size i width_memory h e j = inl j
+  width_refused f k passes size i (width_wide quantity) h e j = rw (j, h.0) (inr (f, passes, (size, rw i at h.1)))
+
+-- ---- a design with a policy
 module _ (d : Design) (t : Targets) (plans : Plans) where
-  -- ---- the margin
   corner_wide : (quantity : Quantity) → corners.IsFirstWideCorner d plans quantity → IsTooWide d t plans quantity
   corner_wide Prediction h = inl h
   corner_wide CornerSlack h = h
@@ -89,79 +154,60 @@ module _ (d : Design) (t : Targets) (plans : Plans) where
   margin_refused r (margin_wide quantity) is wide short e f = rw f (inr (corner_wide quantity ((wide quantity).0 is)))
   margin_refused r (margin_none corner row slack) is wide short e f = rw f (inr (short corner row slack is))
 
-  -- ---- R
   pub multiplier_refused : (m : Margin) (quantity : Quantity) → PassesMargin d t plans m →
       (multiplier_size (unsigned_abs m.units) (unsigned_abs m.cost) ≤ 2 ^ 126 → ⊥) → quantity ≡ Multiplier →
       (e : Refusal) → e ≡ TooWide quantity → IsRefused d t plans e
   multiplier_refused m quantity h refuted g e f = rw (f, g) (inr (m, h, omega (arith, refuted)))
 
-  -- ---- the condensed form
-  form_wide : (m : Margin) → PassesMargin d t plans m → multiplier_size (unsigned_abs m.units) (unsigned_abs m.cost) ≤ 2 ^ 126 → (quantity : Quantity) →
-      condensing.IsFirstWideForm d quantity → IsTooWide d t plans quantity
-  form_wide m h r Prediction k = inr (m, (h, r), k)
-  form_wide m h r CornerSlack k = absurd k
-  form_wide m h r CornerCost k = absurd k
-  form_wide m h r Multiplier k = absurd k
-  form_wide m h r Hessian k = (m, ((h, r), k.0), k.1)
-  form_wide m h r Rows k = (m, (((h, r), k.0), k.1.0), k.1.1)
-  form_wide m h r curvature_named k = absurd k
-  form_wide m h r Error k = absurd k
-  form_wide m h r Descent k = absurd k
-  form_wide m h r Width k = absurd k
-  form_wide m h r Turn k = absurd k
-  form_wide m h r Excess k = absurd k
-  form_wide m h r Stay k = absurd k
+  -- a cause in the form
+  wide_form : (m : Margin) → HasMultiplier d t plans m → (quantity : Quantity) → IsFormWide d quantity → IsTooWide d t plans quantity
+  wide_form m h Prediction k = inr (m, h, k)
+  wide_form m h CornerSlack k = absurd k
+  wide_form m h CornerCost k = absurd k
+  wide_form m h Multiplier k = absurd k
+  wide_form m h Hessian k = (m, h, k)
+  wide_form m h Rows k = (m, h, k)
+  wide_form m h curvature_named k = (m, h, k)
+  wide_form m h Error k = absurd k
+  wide_form m h Descent k = absurd k
+  wide_form m h Width k = absurd k
+  wide_form m h Turn k = absurd k
+  wide_form m h Excess k = absurd k
+  wide_form m h Stay k = absurd k
 
-  pub condense_refused : (m : Margin) → PassesMargin d t plans m → multiplier_size (unsigned_abs m.units) (unsigned_abs m.cost) ≤ 2 ^ 126 →
-      (r : Result Condensed CondenseFault) (fault : CondenseFault) → r ≡ Err fault →
-      ((quantity : Quantity) → r ≡ Err (condense_wide quantity) → condensing.IsFirstWideForm d quantity) →
-      (e : Refusal) → e ≡ of_condense fault → IsRefused d t plans e
-  condense_refused m h n r condense_memory is wide e f = inl f
-  condense_refused m h n r (condense_wide quantity) is wide e f = rw f (inr (form_wide m h n quantity (wide quantity is)))
+  pub form_caused : (m : Margin) → PassesMargin d t plans m → multiplier_size_of m ≤ 2 ^ 126 → (e : Refusal) → IsRefusedFor (HasFormCause d) e → IsRefused d t plans e
+  form_caused m h n e (inl memory) = inl memory
+  form_caused m h n Memory (inr k) = absurd k
+  form_caused m h n (NoMargin corner row slack) (inr k) = absurd k
+  form_caused m h n Curvature (inr k) = inr (m, record { before = h; multiplier = n; form = k.0 }, k.1)
+  form_caused m h n (TooManySteps steps) (inr k) = absurd k
+  form_caused m h n (TooFine eps) (inr k) = absurd k
+  form_caused m h n (TooWide quantity) (inr k) = inr (wide_form m (h, n) quantity k)
 
-  -- ---- the step exponent
-  pub curvature_refused : (m : Margin) → PassesMargin d t plans m → multiplier_size (unsigned_abs m.units) (unsigned_abs m.cost) ≤ 2 ^ 126 →
-      prediction_quantity d ≤ 2 ^ 126 → hessian_quantity d ≤ 2 ^ 126 → rows_quantity d ≤ 2 ^ 126 →
-      (fault : CurvatureFault) → exponents.IsExponentRefused d fault → (e : Refusal) → e ≡ of_curvature fault → IsRefused d t plans e
-  curvature_refused m h n i k l curvature_memory why e f = inl f
-  curvature_refused m h n i k l (curvature_wide quantity) (inl memory) e f = absurd (search rules)
-  curvature_refused m h n i k l (curvature_wide quantity) (inr why) e f = rw (f, why.0) (inr (m, ((((h, n), i), k), l), why.1))
-  curvature_refused m h n i k l NoStep (inl memory) e f = absurd (search rules)
-  curvature_refused m h n i k l NoStep (inr why) e f = rw f (inr (m, record { before = h; multiplier = n; prediction = i; hessian = k; rows = l; curvature = why.0 }, why.1))
+  -- and one after it
+  wide_aim : (m : Margin) (s : ℕ) → PassesExponent d t plans m s → (quantity : Quantity) → IsAimWide d (aim_of t m) s quantity → IsTooWide d t plans quantity
+  wide_aim m s h Prediction k = absurd k
+  wide_aim m s h CornerSlack k = absurd k
+  wide_aim m s h CornerCost k = absurd k
+  wide_aim m s h Multiplier k = absurd k
+  wide_aim m s h Hessian k = absurd k
+  wide_aim m s h Rows k = absurd k
+  wide_aim m s h curvature_named k = absurd k
+  wide_aim m s h Error k = (m, s, h, k)
+  wide_aim m s h Descent k = (m, s, h, k)
+  wide_aim m s h Width k = (m, s, h, k)
+  wide_aim m s h Turn k = absurd k
+  wide_aim m s h Excess k = absurd k
+  wide_aim m s h Stay k = absurd k
 
-  -- ---- the steps
-  pub steps_refused : (m : Margin) (s r h : ℕ) (k : ℤ) → PassesSizes d t plans m → IsExponentOf d s → r ≡ multiplier_of m → h ≡ half_target t →
-      (step_count s r h ≤ 2 ^ 22 → ⊥) → k ≡ pos (step_count s r h) →
-      (e : Refusal) → e ≡ TooManySteps k → HasCause d t plans e
-  steps_refused m s r h k passes exponent f g refuted is e j = rw j (m, s, passes, exponent, (rw (f, g) at (above (step_count s r h) refuted), rw (f, g) at is))
-    where
-      above : (n : ℕ) → (n ≤ 2 ^ 22 → ⊥) → 2 ^ 22 < n
-      above n refuted = omega (arith, refuted)
-
-  -- ---- the errors
-  pub sums_refused : (m : Margin) (s r : ℕ) (quantity : Quantity) → PassesSteps d t plans m s → r ≡ multiplier_of m → (error_size d (form_of d) r ≤ 2 ^ 126 → ⊥) → quantity ≡ Error →
-      (e : Refusal) → e ≡ TooWide quantity → HasCause d t plans e
-  sums_refused m s r quantity passes f refuted g e j = rw (j, g) (m, s, passes, rw f at (above (error_size d (form_of d) r) refuted))
-    where
-      above : (n : ℕ) → (n ≤ 2 ^ 126 → ⊥) → 2 ^ 126 < n
-      above n refuted = omega (arith, refuted)
-
-  pub choice_refused : (m : Margin) (s r limit : ℕ) (sums : errors.ErrorSums) (eps : ℤ) → PassesSteps d t plans m s → r ≡ multiplier_of m → limit ≡ error_limit t (multiplier_of m) →
-      error_size d (form_of d) r ≤ 2 ^ 126 → sums ≡ error_sums_of d (form_of d) r → limit < epsilon sums 48 → eps ≡ pos (epsilon sums 48) →
-      (e : Refusal) → e ≡ TooFine eps → HasCause d t plans e
-  choice_refused m s r limit sums eps passes f g size k fine is e j = rw j (m, s, passes, rw f at size, (rw (k, f, g) at fine, rw (k, f) at is))
-
-  -- ---- the gains and the width
-  pub solve_refused : (m : Margin) (s f : ℕ) → PassesBits d t plans m s f → (fault : SolveFault) → IsFault fault (2 ^ 126 < descent_size (form_of d) f) →
-      (e : Refusal) → e ≡ of_solve fault → IsRefused d t plans e
-  solve_refused m s f passes solve_memory h e j = inl j
-  solve_refused m s f passes (solve_wide quantity) h e j = rw (j, h.0) (inr (m, s, f, passes, h.1))
-
-  pub width_refused : (m : Margin) (s f : ℕ) (r k : ℕ) → PassesBits d t plans m s f → descent_size (form_of d) f ≤ 2 ^ 126 → r ≡ multiplier_of m →
-      k ≡ step_count s (multiplier_of m) (half_target t) → (fault : WidthFault) → IsWidthFault fault (2 ^ 126 < width_size d r s k f) →
-      (e : Refusal) → e ≡ of_width fault → IsRefused d t plans e
-  width_refused m s f r k passes size g i width_memory h e j = inl j
-  width_refused m s f r k passes size g i (width_wide quantity) h e j = rw (j, h.0) (inr (m, s, f, (passes, size), rw (g, i) at h.1))
+  pub aim_caused : (m : Margin) (s : ℕ) → PassesExponent d t plans m s → (e : Refusal) → IsRefusedFor (HasAimCause d (aim_of t m) s) e → IsRefused d t plans e
+  aim_caused m s h e (inl memory) = inl memory
+  aim_caused m s h Memory (inr k) = absurd k
+  aim_caused m s h (NoMargin corner row slack) (inr k) = absurd k
+  aim_caused m s h Curvature (inr k) = absurd k
+  aim_caused m s h (TooManySteps steps) (inr k) = inr (m, s, h, k)
+  aim_caused m s h (TooFine eps) (inr k) = inr (m, s, h, k)
+  aim_caused m s h (TooWide quantity) (inr k) = inr (wide_aim m s h quantity k)
 
 -- a choice, by other names of its numbers
 pub choice_same : (sums other : errors.ErrorSums) (low from limit most f : ℕ) → sums ≡ other → low ≡ from → limit ≡ most → IsChoice sums low limit f → IsChoice other from most f

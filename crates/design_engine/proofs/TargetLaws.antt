@@ -1,11 +1,14 @@
 -- The bounds are within the design's targets.
-use Rattle.std.proofs.Common.{◌≡◌, ℕ, zero, suc, ◌+◌, ◌*◌, ◌/◌, ◌^◌, ◌<◌, ◌≤◌, ℤ, pos, ◌*ℤ◌, ◌≤ℤ◌, unsigned_abs, arith, refl}
+use Rattle.std.proofs.Common.{◌≡◌, ℕ, zero, suc, ◌+◌, ◌*◌, ◌/◌, ◌^◌, ◌<◌, ◌≤◌, ℤ, pos, ◌*ℤ◌, ◌≤ℤ◌, unsigned_abs, arith, refl, sym, subst}
 use Rattle.std.proofs.lemmas.Int.{ints}
-use Rattle.std.proofs.lemmas.Nat.{pow_pos}
+use Rattle.std.proofs.lemmas.Nat.{pow_pos, mul-le}
 use Rattle.std.proofs.Math.Nat.{mul-le-mul_left, mul-le-mul_right, div-mul-le_self, le-div_iff_mul-le}
+use Rattle.integer_algebra.specs.Sums.{at}
 use Rattle.integer_algebra.specs.Division.{ceil_div}
 use Rattle.integer_algebra.proofs.DivisionLaws.{le-mul-ceil_div, ceil_div-le}
 use Rattle.qp_model.specs.bounds.Choices.{step_count, violation_bound, multiplier_of}
+use Rattle.qp_model.specs.machine.Machine.{exponent_of}
+use Rattle.dual_bounds.proofs.RowBounds.{row_below}
 use Rattle.design_engine.specs.Targets.{targets_of, half_target, violation_target, step_target, rest_target}
 use Rattle.design_engine.specs.Bounds.{margin_of}
 use Rattle.design_engine.specs.Promise.{TargetsLaw}
@@ -33,6 +36,17 @@ steps_enough a h o l =
     positive : (a h k : ℕ) → 1 ≤ a → a ≤ h * k → 0 < k
     positive a h zero o e = absurd (omega (arith, e))
     positive a h (suc k) o e = omega arith
+
+-- there is one
+pub steps_some : (s r k : ℕ) → 1 ≤ r → 1 ≤ k → 1 ≤ step_count s r k
+steps_some s r k o h = close (2 ^ (s + 41) * r) k (ceil_div (2 ^ (s + 41) * r) k) (one-le (2 ^ (s + 41)) r (pow_pos (s + 41)) o) (le-mul-ceil_div (2 ^ (s + 41) * r) k h)
+  where
+    one-le : (a b : ℕ) → 1 ≤ a → 1 ≤ b → 1 ≤ a * b
+    one-le a b h k = omega (arith, mul-le 1 1 a b h k)
+
+    close : (a k q : ℕ) → 1 ≤ a → a ≤ k * q → 1 ≤ q
+    close a k zero h l = absurd (omega (arith, h, l))
+    close a k (suc q) h l = omega arith
 
 -- both parts
 pub halves : (s r h e : ℕ) → 1 ≤ r → 1 ≤ h → e ≤ r * h → violation_bound s r (step_count s r h) e ≤ 2 * h
@@ -66,6 +80,10 @@ pub targets_law : TargetsLaw
 targets_law p cost c b h = record {
   violation = as_targets b.violation _ (unsigned_abs p.target_den) (unsigned_abs p.violation) h.bounds.violation
       (twice_half _ (half_target (targets_of p)) (unsigned_abs p.violation) (unsigned_abs p.target_den) (rw h.steps parts) refl);
+  rows = λ i l. (let inside = subst (λ (n : ℕ). i < n) h.bounds.row_count l in
+      as_targets (at b.row_violations i) _ (unsigned_abs p.target_den) (unsigned_abs p.violation) (h.bounds.row_violations i inside)
+      (twice_half _ (half_target (targets_of p)) (unsigned_abs p.violation) (unsigned_abs p.target_den)
+      (through _ _ _ (row_below (exponent_of c i) c.step_exponent r c.steps cost (h.exponents i inside) some) (rw h.steps parts)) refl));
   gap = as_targets b.gap _ (unsigned_abs p.target_den) (unsigned_abs p.gap) h.bounds.gap
       (whole_target _ (unsigned_abs p.gap) (unsigned_abs p.target_den) (omega (arith, h.errors)));
 }
@@ -73,12 +91,18 @@ targets_law p cost c b h = record {
     r : ℕ
     r = multiplier_of (margin_of b)
 
+    through : (a b c : ℕ) → a ≤ b → b ≤ c → a ≤ c
+    through a b c h k = omega (arith, h, k)
+
     den : 1 ≤ unsigned_abs p.target_den
     den = some_of p.target_den h.design.target_den.low
 
     half_some : 1 ≤ half_target (targets_of p)
     half_some = quotient_some (2 ^ 39 * unsigned_abs p.violation) (unsigned_abs p.target_den) den
         (omega (arith, size_of p.target_den (2 ^ 20) h.design.target_den.low h.design.target_den.high, some_of p.violation h.design.violation.low))
+
+    some : 1 ≤ c.steps
+    some = subst (λ (n : ℕ). 1 ≤ n) (sym h.steps) (steps_some c.step_exponent r (half_target (targets_of p)) (omega arith) half_some)
 
     parts : violation_bound c.step_exponent r (step_count c.step_exponent r (half_target (targets_of p))) cost ≤ 2 * half_target (targets_of p)
     parts = halves c.step_exponent r (half_target (targets_of p)) cost (omega arith) half_some (omega (arith, h.errors))
@@ -110,6 +134,8 @@ threshold_targets_law p cost c b r h = record {
   within = record {
     violation = as_targets b.violation _ (unsigned_abs p.target_den) (unsigned_abs p.violation) h.bounds.violation
         (whole_target _ (unsigned_abs p.violation) (unsigned_abs p.target_den) (omega arith));
+    rows = λ i l. as_targets (at b.row_violations i) _ (unsigned_abs p.target_den) (unsigned_abs p.violation)
+        (h.bounds.row_violations i (subst (λ (n : ℕ). i < n) h.bounds.row_count l)) (whole_target _ (unsigned_abs p.violation) (unsigned_abs p.target_den) (omega arith));
     gap = as_targets b.gap _ (unsigned_abs p.target_den) (unsigned_abs p.gap) h.bounds.gap
         (whole_target _ (unsigned_abs p.gap) (unsigned_abs p.target_den) (omega (arith, h.errors)));
   };

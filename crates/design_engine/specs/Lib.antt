@@ -1,12 +1,14 @@
 pub mod Targets
 pub mod Bounds
+pub mod Aims
+pub mod Tests
+pub mod Chosen
 pub mod Promise
 pub mod Threshold
 pub mod Residuals
 pub mod Built
 pub mod Refusals
 pub mod Order
-pub mod Faults
 pub mod Agreement
 -- ---- what `controller_of` says, which is handed on
 pub use Rattle.controller_maker.specs.Widest

@@ -10,6 +10,7 @@ use Rattle.qp_model.specs.problem.Box.{IsGridState}
 use Rattle.qp_model.specs.bounds.Errors.{StepErrors, cost_of_errors}
 use Rattle.qp_model.specs.bounds.Built.{IsDerivedFrom}
 use Rattle.qp_model.specs.machine.Controller.{Numbers}
+use Rattle.qp_model.specs.machine.Machine.{exponent_of}
 use Rattle.qp_model.specs.machine.AbsoluteSums.{IsController}
 use Rattle.qp_model.specs.bounds.Certified.{IsCertified}
 use Rattle.qp_model.specs.declared.design_parts.DesignParts.{DesignParts}
@@ -41,6 +42,8 @@ pub record IsAimed (p : DesignParts) (cost : ℕ) (c : Numbers) (b : Printed) : 
   pub design : IsDesign p
   pub steps : c.steps ≡ step_count c.step_exponent (printed_multiplier b) (half_target (targets_of p))
   pub errors : cost ≤ error_limit (targets_of p) (printed_multiplier b)
+  -- no row has a greater exponent than the step
+  pub exponents : (i : ℕ) → i < c.rows → exponent_of c i ≤ c.step_exponent
   pub bounds : AreBoundsOf c b cost
 
 abbrev pub TargetsLaw : Type 0

@@ -1,5 +1,6 @@
 -- What a design's targets leave for the bounds.
-use Rattle.std.specs.Prelude.{ℕ, ◌*◌, ◌/◌, ◌^◌, min, unsigned_abs, pos, ◌*ℤ◌, ◌≤ℤ◌}
+use Rattle.std.specs.Prelude.{ℕ, ◌*◌, ◌/◌, ◌^◌, ◌<◌, min, unsigned_abs, length, pos, ◌*ℤ◌, ◌≤ℤ◌}
+use Rattle.integer_algebra.specs.Sums.{at}
 use Rattle.qp_model.specs.bounds.Printed.{Printed}
 use Rattle.qp_model.specs.declared.design_parts.DesignParts.{DesignParts}
 
@@ -37,7 +38,8 @@ gap_target t = 2 ^ 40 * t.gap / t.denominator
 abbrev pub error_limit : Targets → ℕ → ℕ
 error_limit t r = min (gap_target t) (r * half_target t)
 
--- the printed violation and gap, over 2^40, are at most the targets
+-- the printed violation, that of all rows and that of each, and the gap, over 2^40, are at most the targets
 pub record IsWithinTargets (t : Targets) (b : Printed) : Type 0 where
   pub violation : (b.violation *ℤ pos t.denominator) ≤ℤ (pos (2 ^ 40) *ℤ pos t.violation)
+  pub rows : (i : ℕ) → i < length b.row_violations → (at b.row_violations i *ℤ pos t.denominator) ≤ℤ (pos (2 ^ 40) *ℤ pos t.violation)
   pub gap : (b.gap *ℤ pos t.denominator) ≤ℤ (pos (2 ^ 40) *ℤ pos t.gap)

@@ -1,44 +1,26 @@
 // From a design and a policy to a controller and its bounds.
-ghost use Rattle.std.specs.Prelude.{◌≡◌, ◌⊎◌, ◌≤◌, ◌≤ℤ◌, ◌^◌, ℕ, pos, unsigned_abs, false, IfOk, IfErr, IsOk, OnOk, Err};
-ghost use Rattle.qp_model.specs.machine.AbsoluteSums.{IsController};
-ghost use Rattle.qp_model.specs.form.Class.{form_of};
-ghost use Rattle.qp_model.specs.form.Columns.{descent_size};
-ghost use Rattle.qp_model.specs.problem.Range.{LiesIn};
-ghost use Rattle.controller_maker.specs.Assembled.{IsAssembled};
-ghost use Rattle.controller_maker.specs.Widest.{width_size};
+ghost use Rattle.std.specs.Prelude.{◌≡◌, ◌⊎◌, ◌≤ℤ◌, ◌≤◌, ◌^◌, ℕ, pos, unsigned_abs, false, IfOk, IfErr, IsOk, OnOk, Err};
 ghost use Rattle.qp_model.specs.problem.Parts.{IsDesign, design_of};
 ghost use Rattle.qp_model.specs.problem.Policy.{Plans, plans_of, IsPolicyFor};
-ghost use Rattle.qp_model.specs.form.Curvature.{AreExponents, IsExponent};
-ghost use Rattle.qp_model.specs.bounds.Choices.{step_count, violation_bound, undercut_bound, multiplier_of, multiplier_size_of};
-ghost use Rattle.qp_model.specs.bounds.Errors.{error_sums_of};
+ghost use Rattle.qp_model.specs.bounds.Choices.{violation_bound, undercut_bound, multiplier_of, multiplier_size_of};
 ghost use Rattle.qp_model.specs.bounds.Printed.{printed};
 ghost use Rattle.qp_model.specs.bounds.Certified.{IsCertified};
 ghost use Rattle.qp_model.specs.declared.bounds.Margin.{Margin};
-ghost use Rattle.condensed_form.specs.Form.{IsFormOf};
-ghost use Rattle.real_error.specs.Made.{AreSumsOf};
-ghost use Rattle.bit_choice.specs.Choice.{IsChoice};
 ghost use Rattle.design_engine.specs.Targets.{targets_of, half_target, gap_target, error_limit, IsWithinTargets};
+ghost use Rattle.design_engine.specs.Aims.{aim_of, IsScaledOf, IsAimedOf};
+ghost use Rattle.design_engine.specs.Tests.{PassesAim, HasAimCause, IsRefusedFor};
 ghost use Rattle.design_engine.specs.Bounds.{margin_of, printed_multiplier, stated_cost, AreBoundsOf};
-ghost use Rattle.hessian_check.specs.Steps.{IsExponentOf, OfDesign};
-ghost use Rattle.hessian_check.specs.RowExponents.{exponent_in, AreExponentsOf};
-ghost use Rattle.design_engine.specs.Built.{IsBuilt};
-ghost use Rattle.design_engine.specs.Refusals.{HasCause, IsRefused, PassesMargin, PassesSizes, PassesBits, PassesAll};
+ghost use Rattle.design_engine.specs.Built.{IsBuilt, IsBounded};
+ghost use Rattle.design_engine.specs.Refusals.{HasCause, IsRefused, PassesMargin, PassesAll};
 
-use crate::refusal::Refusal;
-use crate::residuals::real_cost;
+use crate::aimed::{Aim, Aimed, Scaled, controller_for, scaled_of};
+use design_refusal::Refusal;
 use crate::violations::row_violations;
-use approx_inverse::solve_all;
-use bit_choice::{Choice, choose_bits};
-use condensed_form::Condensed;
-use controller_maker::{Settings, controller_of};
-use dual_bounds::{multiplier, steps, undercut, violation};
-use hessian_check::{curvature, exponents};
+use dual_bounds::{multiplier, undercut, violation};
 use overflow_check::Controller;
-use plant_condense::condense;
-use qp_model::{Bounds, Design, DesignParts, Margin, Policy, VERSION};
+use qp_model::{Bounds, Design, DesignParts, Margin, Policy};
 use slater_margin::margins;
 use std::alloc::{AllocError, Global};
-use step_error::{ErrorSums, error_sums};
 
 /// A controller and its bounds.
 #[derive(Drop)]
@@ -50,28 +32,11 @@ pub struct Made {
     pub eps: i128,
 }
 
-// A design's margin, R, its condensed form and its step exponent.
-#[derive(Drop)]
-struct Scaled {
-    margin: Margin,
-    r: i128,
-    condensed: Condensed,
-    s: u32,
-}
-
 // A design's margin, and R.
 #[derive(Clone, Copy)]
-struct Bounded {
-    margin: Margin,
-    r: i128,
-}
-
-// The number of steps, the sums of the rounding errors, and the fraction bits with what the errors of a step cost by these.
-#[derive(Clone, Copy)]
-struct Chosen {
-    steps: u32,
-    sums: ErrorSums,
-    choice: Choice,
+pub(crate) struct Bounded {
+    pub(crate) margin: Margin,
+    pub(crate) r: i128,
 }
 
 // Half the target of the violation, over `2^40`, rounded down.
@@ -82,8 +47,8 @@ fn half_target(parts: &DesignParts) -> i128
     (parts.violation << 39) / parts.target_den
 }
 
-// The target of the gap, over `2^40`, rounded down.
-fn gap_target(parts: &DesignParts) -> i128
+/// The target of the gap, over `2^40`, rounded down.
+pub fn gap_target(parts: &DesignParts) -> i128
     requires { IsDesign parts.now }
     ensures { result ≡ pos (gap_target (targets_of parts.now)) }
 {
@@ -100,12 +65,24 @@ fn error_limit(parts: &DesignParts, r: i128) -> i128
     gap_target(parts).min(r * half_target(parts))
 }
 
+// What the targets ask for with a margin.
+fn aim_of(parts: &DesignParts, bounded: Bounded) -> Aim
+    requires design { IsDesign parts.now }
+    requires bounded { IsBounded bounded }
+    ensures { result ≡ aim_of (targets_of parts.now) bounded.margin }
+{
+    Aim {
+        r: bounded.r,
+        step_target: half_target(parts),
+        error_target: error_limit(parts, bounded.r),
+    }
+}
+
 // The tests of the corners, and R.
 fn bounded_by(alloc: Global, design: &Design, policy: &Policy) -> Result<Bounded, Refusal>
     requires { IsPolicyFor (design_of design.now) (plans_of policy.now) }
     ensures passes { IfOk result (λ x. PassesMargin (design_of design.now) (targets_of design.now) (plans_of policy.now) x.margin) }
-    ensures room { IfOk result (λ x. multiplier_size_of x.margin ≤ 2 ^ 126) }
-    ensures multiplier { IfOk result (λ x. x.r ≡ pos (multiplier_of x.margin)) }
+    ensures bounded { IfOk result IsBounded }
     ensures refused { IfErr result (IsRefused (design_of design.now) (targets_of design.now) (plans_of policy.now)) }
 {
     let margin = margins(alloc, design, policy)?;
@@ -113,236 +90,85 @@ fn bounded_by(alloc: Global, design: &Design, policy: &Policy) -> Result<Bounded
     Ok(Bounded { margin, r })
 }
 
-// The tests of the condensed form and of the step exponent.
-fn scaled_by(alloc: Global, design: &Design, bounded: Bounded) -> Result<Scaled, Refusal>
-    requires multiplier { bounded.r ≡ pos (multiplier_of bounded.margin) }
-    ensures passes { (plans : Plans) → PassesMargin (design_of design.now) (targets_of design.now) plans bounded.margin →
-        multiplier_size_of bounded.margin ≤ 2 ^ 126 →
-        IfOk result (λ x. PassesSizes (design_of design.now) (targets_of design.now) plans x.margin) }
-    ensures multiplier { IfOk result (λ x. x.r ≡ pos (multiplier_of x.margin)) }
-    ensures form { IfOk result (λ x. IsFormOf design.now x.condensed) }
-    ensures exponent { IfOk result (λ x. OfDesign x.condensed (λ d. IsExponentOf d x.s)) }
-    ensures curved { IfOk result (λ x. IsExponent (design_of design.now) x.s) }
-    ensures refused { (plans : Plans) → PassesMargin (design_of design.now) (targets_of design.now) plans bounded.margin →
-        multiplier_size_of bounded.margin ≤ 2 ^ 126 →
-        IfErr result (IsRefused (design_of design.now) (targets_of design.now) plans) }
-{
-    let condensed = condense(alloc, design)?;
-    match curvature(alloc, &condensed) {
-        Ok(exponents) => Ok(Scaled {
-            margin: bounded.margin,
-            r: bounded.r,
-            condensed,
-            s: exponents.s,
-        }),
-        Err(fault) => {
-            drop(condensed);
-            Err(Refusal::from(fault))
-        }
-    }
-}
-
-// The first tests, up to the step exponent.
-fn scaled_of(alloc: Global, design: &Design, policy: &Policy) -> Result<Scaled, Refusal>
-    requires { IsPolicyFor (design_of design.now) (plans_of policy.now) }
-    ensures passes { IfOk result (λ x. PassesSizes (design_of design.now) (targets_of design.now) (plans_of policy.now) x.margin) }
-    ensures multiplier { IfOk result (λ x. x.r ≡ pos (multiplier_of x.margin)) }
-    ensures form { IfOk result (λ x. IsFormOf design.now x.condensed) }
-    ensures exponent { IfOk result (λ x. OfDesign x.condensed (λ d. IsExponentOf d x.s)) }
-    ensures curved { IfOk result (λ x. IsExponent (design_of design.now) x.s) }
-    ensures refused { IfErr result (IsRefused (design_of design.now) (targets_of design.now) (plans_of policy.now)) }
-{
-    let bounded = bounded_by(alloc, design, policy)?;
-    scaled_by(alloc, design, bounded)
-}
-
-// The number of steps and the fraction bits. It takes no memory.
-fn plan_of(design: &Design, scaled: &Scaled) -> Result<Chosen, Refusal>
-    requires multiplier { scaled.now.r ≡ pos (multiplier_of scaled.now.margin) }
-    requires narrow { multiplier_of scaled.now.margin ≤ 2 ^ 44 }
-    requires form { IsFormOf design.now scaled.now.condensed }
-    requires exponent { IsExponentOf (design_of design.now) scaled.now.s }
-    ensures passes { (plans : Plans) → PassesSizes (design_of design.now) (targets_of design.now) plans scaled.now.margin →
-        IfOk result (λ x. PassesBits (design_of design.now) (targets_of design.now) plans scaled.now.margin scaled.now.s x.choice.f) }
-    ensures steps { IfOk result (λ x. x.steps ≡ step_count scaled.now.s (multiplier_of scaled.now.margin) (half_target (targets_of design.now))) }
-    ensures sums { IfOk result (λ x. AreSumsOf design.now (multiplier_of scaled.now.margin) scaled.now.condensed x.sums) }
-    ensures cost { IfOk result (λ x. x.choice.eps ≡ pos (stated_cost (design_of design.now) (multiplier_of scaled.now.margin) x.choice.f)) }
-    ensures refused { (plans : Plans) → PassesSizes (design_of design.now) (targets_of design.now) plans scaled.now.margin →
-        IfErr result (HasCause (design_of design.now) (targets_of design.now) plans) }
-{
-    let parts = design.parts();
-    let steps = steps(scaled.s, scaled.r, half_target(parts))?;
-    let sums = error_sums(&scaled.condensed, design, scaled.r)?;
-    let choice = choose_bits(&sums, parts.grid, error_limit(parts, scaled.r))?;
-    Ok(Chosen {
-        steps,
-        sums,
-        choice,
-    })
-}
-
-// The step exponents of the rows of a design with the step exponent `s`, by its version: in the first all of them are `s`.
-fn row_exponents(
-    alloc: Global,
-    design: &Design,
-    condensed: &Condensed,
-    s: u32,
-) -> Result<Vec<u32>, AllocError>
-    requires form { IsFormOf design.now condensed.now }
-    requires chosen { OfDesign condensed.now (λ d. IsExponentOf d s) }
-    requires curved { IsExponent (design_of design.now) s }
-    ensures list { IfOk result (λ es. AreExponentsOf (design_of design.now) s es.items) }
-    ensures curved { IfOk result (λ es. AreExponents (design_of design.now) (exponent_in es.items) s) }
-{
-    if design.parts().version == VERSION {
-        vec![in alloc; s; condensed.g.rows()]
-    } else {
-        exponents(alloc, condensed, s)
-    }
-}
-
 // The bounds of a controller, the errors of whose steps cost so much over `2^40`.
 fn bounds_of(
     alloc: Global,
-    scaled: &Scaled,
-    plan: &Chosen,
+    bounded: Bounded,
     controller: &Controller,
     eps: i128,
 ) -> Result<Bounds, AllocError>
-    requires multiplier { scaled.now.r ≡ pos (multiplier_of scaled.now.margin) }
-    requires narrow { multiplier_of scaled.now.margin ≤ 2 ^ 44 }
-    requires exponent { scaled.now.s ≤ 40 }
-    requires steps { 1 ≤ plan.now.steps }
+    requires bounded { IsBounded bounded }
     requires errors { pos 0 ≤ℤ eps }
     requires small { eps ≤ℤ pos (2 ^ 114) }
-    requires fits { let r = multiplier_of scaled.now.margin in
-        undercut_bound r (violation_bound scaled.now.s r plan.now.steps (unsigned_abs eps)) ≤ 2 ^ 126 }
-    requires same { controller.now.step_exponent ≡ scaled.now.s }
-    ensures margin { IfOk result (λ bounds. margin_of (printed bounds) ≡ scaled.now.margin) }
+    requires fits { let r = multiplier_of bounded.margin in
+        undercut_bound r (violation_bound controller.now.step_exponent r controller.now.steps (unsigned_abs eps)) ≤ 2 ^ 126 }
+    ensures margin { IfOk result (λ bounds. margin_of (printed bounds) ≡ bounded.margin) }
     ensures lean { IfOk result (λ bounds. (printed bounds).lean ≡ false) }
-    ensures bounds { IfOk result (λ bounds. (cost : ℕ) → eps ≡ pos cost →
-        controller.now.steps ≡ plan.now.steps → controller.now.fraction_bits ≡ plan.now.choice.f →
-        AreBoundsOf controller.now (printed bounds) cost) }
+    ensures bounds { IfOk result (λ bounds. (cost : ℕ) → eps ≡ pos cost → AreBoundsOf controller.now (printed bounds) cost) }
 {
-    let (s, r) = (scaled.s, scaled.r);
-    let violation = violation(s, r, plan.steps, eps);
+    let r = bounded.r;
     let parts = controller.parts();
+    let violation = violation(parts.s, r, parts.steps, eps);
     Ok(Bounds {
         version: parts.version,
-        margin: scaled.margin.units,
+        margin: bounded.margin.units,
         lean: false,
-        cost: scaled.margin.cost,
+        cost: bounded.margin.cost,
         multiplier: r,
-        step: s,
-        steps: plan.steps,
-        bits: plan.choice.f,
+        step: parts.s,
+        steps: parts.steps,
+        bits: parts.f,
         width: parts.w,
         words: parts.words,
         violation,
-        rows: row_violations(alloc, &parts.exps, s, r, plan.steps, eps)?,
+        rows: row_violations(alloc, &parts.exps, parts.s, r, parts.steps, eps)?,
         gap: eps,
         undercut: undercut(r, violation),
     })
 }
 
-// The last tests, and the controller.
-fn controller_by(
+// A controller with its bounds.
+fn finished(alloc: Global, design: &Design, bounded: Bounded, aimed: Aimed) -> Result<Made, Refusal>
+    requires bounded { IsBounded bounded }
+    requires aimed { IsAimedOf design.now (aim_of (targets_of design.now) bounded.margin) aimed }
+    ensures built { (plans : Plans) → PassesMargin (design_of design.now) (targets_of design.now) plans bounded.margin →
+        IsPolicyFor (design_of design.now) plans → IfOk result (λ made. IsBuilt design.now plans made.controller (printed made.bounds)) }
+    ensures errors { IfOk result (λ made.
+        made.eps ≡ pos (stated_cost (design_of design.now) (printed_multiplier (printed made.bounds)) made.controller.fraction_bits)) }
+    ensures memory { IfErr result (λ e. e ≡ Refusal.Memory) }
+{
+    match bounds_of(alloc, bounded, &aimed.controller, aimed.cost) {
+        Ok(bounds) => Ok(Made {
+            controller: aimed.controller,
+            bounds,
+            eps: aimed.eps,
+        }),
+        Err(_) => {
+            drop(aimed);
+            Err(Refusal::Memory)
+        }
+    }
+}
+
+// The tests of the form and after it, and the controller with its bounds.
+fn planned(
     alloc: Global,
     design: &Design,
+    bounded: Bounded,
     scaled: &Scaled,
-    plan: &Chosen,
-) -> Result<Controller, Refusal>
-    requires multiplier { scaled.now.r ≡ pos (multiplier_of scaled.now.margin) }
-    requires narrow { multiplier_of scaled.now.margin ≤ 2 ^ 44 }
-    requires form { IsFormOf design.now scaled.now.condensed }
-    requires exponent { OfDesign scaled.now.condensed (λ d. IsExponentOf d scaled.now.s) }
-    requires curved { IsExponent (design_of design.now) scaled.now.s }
-    requires steps { plan.now.steps ≡ step_count scaled.now.s (multiplier_of scaled.now.margin) (half_target (targets_of design.now)) }
-    requires few { plan.now.steps ≤ 2 ^ 22 }
-    requires bits { LiesIn design.now.grid 48 plan.now.choice.f }
-    ensures sound { IfOk result IsController }
-    ensures made { IfOk result (λ c.
-        IsAssembled (design_of design.now) (multiplier_of scaled.now.margin) scaled.now.s c.exponents plan.now.steps plan.now.choice.f c) }
-    ensures exponents { IfOk result (λ c. AreExponentsOf (design_of design.now) scaled.now.s c.exponents) }
-    ensures curved { IfOk result (λ c. AreExponents (design_of design.now) (exponent_in c.exponents) scaled.now.s) }
-    ensures descent { OnOk result (descent_size (form_of (design_of design.now)) plan.now.choice.f ≤ 2 ^ 126) }
-    ensures width { OnOk result
-        (width_size (design_of design.now) (multiplier_of scaled.now.margin) scaled.now.s plan.now.steps plan.now.choice.f ≤ 2 ^ 126) }
-    ensures refused { (plans : Plans) →
-        PassesBits (design_of design.now) (targets_of design.now) plans scaled.now.margin scaled.now.s plan.now.choice.f →
-        IfErr result (IsRefused (design_of design.now) (targets_of design.now) plans) }
-{
-    let gains = solve_all(alloc, &scaled.condensed, plan.choice.f)?;
-    let Ok(exps) = row_exponents(alloc, design, &scaled.condensed, scaled.s) else {
-        drop(gains);
-        return Err(Refusal::Memory);
-    };
-    let settings = Settings {
-        s: scaled.s,
-        f: plan.choice.f,
-        steps: plan.steps,
-        r: scaled.r,
-    };
-    Ok(controller_of(alloc, design, &scaled.condensed, settings, exps, gains)?)
-}
-
-// The last tests, and the controller with its bounds.
-fn finished(alloc: Global, design: &Design, scaled: &Scaled, plan: &Chosen) -> Result<Made, Refusal>
-    requires multiplier { scaled.now.r ≡ pos (multiplier_of scaled.now.margin) }
-    requires narrow { multiplier_of scaled.now.margin ≤ 2 ^ 44 }
-    requires form { IsFormOf design.now scaled.now.condensed }
-    requires exponent { OfDesign scaled.now.condensed (λ d. IsExponentOf d scaled.now.s) }
-    requires curved { IsExponent (design_of design.now) scaled.now.s }
-    requires steps { plan.now.steps ≡ step_count scaled.now.s (multiplier_of scaled.now.margin) (half_target (targets_of design.now)) }
-    requires few { plan.now.steps ≤ 2 ^ 22 }
-    requires choice { IsChoice (error_sums_of (design_of design.now) (form_of (design_of design.now)) (multiplier_of scaled.now.margin)) (design_of design.now).grid
-        (error_limit (targets_of design.now) (multiplier_of scaled.now.margin)) plan.now.choice.f }
-    requires sums { AreSumsOf design.now (multiplier_of scaled.now.margin) scaled.now.condensed plan.now.sums }
-    requires cost { plan.now.choice.eps ≡ pos (stated_cost (design_of design.now) (multiplier_of scaled.now.margin) plan.now.choice.f) }
-    ensures built { (plans : Plans) → IsPolicyFor (design_of design.now) plans →
-        PassesBits (design_of design.now) (targets_of design.now) plans scaled.now.margin scaled.now.s plan.now.choice.f →
-        IfOk result (λ made. IsBuilt design.now plans made.controller (printed made.bounds)) }
+) -> Result<Made, Refusal>
+    requires bounded { IsBounded bounded }
+    requires scaled { IsScaledOf design.now scaled.now }
+    ensures built { (plans : Plans) → PassesMargin (design_of design.now) (targets_of design.now) plans bounded.margin →
+        IsPolicyFor (design_of design.now) plans → IfOk result (λ made. IsBuilt design.now plans made.controller (printed made.bounds)) }
     ensures errors { IfOk result (λ made.
         made.eps ≡ pos (stated_cost (design_of design.now) (printed_multiplier (printed made.bounds)) made.controller.fraction_bits)) }
-    ensures passes { (plans : Plans) →
-        PassesBits (design_of design.now) (targets_of design.now) plans scaled.now.margin scaled.now.s plan.now.choice.f →
-        OnOk result (PassesAll (design_of design.now) (targets_of design.now) plans scaled.now.margin scaled.now.s plan.now.choice.f) }
-    ensures refused { (plans : Plans) →
-        PassesBits (design_of design.now) (targets_of design.now) plans scaled.now.margin scaled.now.s plan.now.choice.f →
-        IfErr result (IsRefused (design_of design.now) (targets_of design.now) plans) }
+    ensures passes { OnOk result ((f : ℕ) × PassesAim (design_of design.now) (aim_of (targets_of design.now) bounded.margin) scaled.now.s f) }
+    ensures refused { IfErr result (IsRefusedFor (HasAimCause (design_of design.now) (aim_of (targets_of design.now) bounded.margin) scaled.now.s)) }
 {
-    let controller = controller_by(alloc, design, scaled, plan)?;
-    let eps = real_cost(&scaled.condensed, &plan.sums, &controller);
-    let Ok(bounds) = bounds_of(alloc, scaled, plan, &controller, eps) else {
-        drop(controller);
-        return Err(Refusal::Memory);
-    };
-    Ok(Made {
-        controller,
-        bounds,
-        eps: plan.choice.eps,
-    })
-}
-
-// The tests after the step exponent, and the controller with its bounds.
-fn planned(alloc: Global, design: &Design, scaled: &Scaled) -> Result<Made, Refusal>
-    requires multiplier { scaled.now.r ≡ pos (multiplier_of scaled.now.margin) }
-    requires form { IsFormOf design.now scaled.now.condensed }
-    requires exponent { OfDesign scaled.now.condensed (λ d. IsExponentOf d scaled.now.s) }
-    requires curved { IsExponent (design_of design.now) scaled.now.s }
-    requires sizes { (plans : Plans) × PassesSizes (design_of design.now) (targets_of design.now) plans scaled.now.margin }
-    ensures built { (plans : Plans) → IsPolicyFor (design_of design.now) plans →
-        PassesSizes (design_of design.now) (targets_of design.now) plans scaled.now.margin →
-        IfOk result (λ made. IsBuilt design.now plans made.controller (printed made.bounds)) }
-    ensures errors { IfOk result (λ made.
-        made.eps ≡ pos (stated_cost (design_of design.now) (printed_multiplier (printed made.bounds)) made.controller.fraction_bits)) }
-    ensures passes { (plans : Plans) → PassesSizes (design_of design.now) (targets_of design.now) plans scaled.now.margin →
-        OnOk result ((f : ℕ) × PassesAll (design_of design.now) (targets_of design.now) plans scaled.now.margin scaled.now.s f) }
-    ensures refused { (plans : Plans) → PassesSizes (design_of design.now) (targets_of design.now) plans scaled.now.margin →
-        IfErr result (IsRefused (design_of design.now) (targets_of design.now) plans) }
-{
-    let plan = plan_of(design, scaled)?;
-    finished(alloc, design, scaled, &plan)
+    let aim = aim_of(design.parts(), bounded);
+    let aimed = controller_for(alloc, design, scaled, aim)?;
+    finished(alloc, design, bounded, aimed)
 }
 
 /// The controller of a design with a policy, which has one plan for each corner of the box, and its bounds.
@@ -370,8 +196,9 @@ pub fn generate(alloc: Global, design: &Design, policy: &Policy) -> Result<Made,
 {
     // A design keeps its rules; with its numbers read, that is known on every way out.
     let _parts = design.parts();
-    let scaled = scaled_of(alloc, design, policy)?;
-    let made = planned(alloc, design, &scaled);
+    let bounded = bounded_by(alloc, design, policy)?;
+    let scaled = scaled_of(alloc, design)?;
+    let made = planned(alloc, design, bounded, &scaled);
     // By a call: at the end of the function each of its matrices would be dropped beside what is made.
     drop(scaled);
     made

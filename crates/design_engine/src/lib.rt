@@ -1,14 +1,15 @@
 //! The generator: from a design and a policy to a controller and its bounds, and why the controller keeps them.
 #![tactic(auto)]
 
+mod aimed;
 mod generation;
 mod laws;
-mod refusal;
-mod refused;
 mod residuals;
 mod violations;
 
+pub use aimed::{Aim, Aimed, Scaled, controller_for, scaled_of};
 pub use controller_maker::{Settings, WidthFault, controller_of};
-pub use generation::{Made, generate};
+pub use design_refusal::Refusal;
+pub use generation::{Made, gap_target, generate};
 pub use laws::{agreement_law, causes_law, certified_law, targets_law, threshold_law};
-pub use refusal::Refusal;
+pub use violations::row_violations;

@@ -1,5 +1,6 @@
 -- Integers of items, and the rows of a matrix written one after the other.
-use Rattle.std.proofs.Common.{◌≡◌, ℕ, zero, suc, ◌+◌, ◌<◌, ◌≤◌, append_assoc, ℤ, pos, List, [], ◌∷◌, ◌++◌, length, get_or, take, drop, set, Option, get_or-set_same, set-set, add-one, Vec, Result, inl, inr, All, Some, None, option_map, refl, sym, ap, ◌∙◌, arith}
+use Rattle.std.proofs.Common.{◌≡◌, ℕ, zero, suc, ◌+◌, ◌<◌, ◌≤◌, append_assoc, ℤ, pos, List, [], ◌∷◌, ◌++◌, length, get_or, take, drop, set, Option, get_or-set_same, set-set, add-one, Vec, Result, inl}
+use Rattle.std.proofs.Common.{inr, All, Some, None, option_map, refl, sym, ap, ◌∙◌, arith}
 use Rattle.std.specs.Prelude.{IsSome, IsSomeAnd}
 use Rattle.std.specs.declared.alloc.Global.{Global}
 use Rattle.std.proofs.lemmas.List.{append-nil, drop_all, take_all, take_more_set}

@@ -19,7 +19,8 @@ use Rattle.qp_model.proofs.RuleLaws.{all_hold, held_after, none_broken, one_faul
 use Rattle.design_files.specs.Document.{document_of}
 use Rattle.design_files.specs.Numbers.{number_in, list_in, IsMatrix, IsLists}
 use Rattle.design_files.specs.Values.{Values, values_of, top_keys, plant_keys, cost_keys, limit_keys, box_keys, target_keys, further_keys}
-use Rattle.design_files.specs.Places.{count_rules, denominator_rules, positive_rules, table_rules, cost_row_rules, input_rules, final_row_rules, low_rules, high_rules, size_places, plant_places, cost_places, limit_places, box_places, target_places, place_rules, key_rules}
+use Rattle.design_files.specs.Places.{count_rules, denominator_rules, positive_rules, table_rules, cost_row_rules, input_rules, final_row_rules, low_rules, high_rules, size_places, plant_places}
+use Rattle.design_files.specs.Places.{cost_places, limit_places, box_places, target_places, place_rules, key_rules}
 use Rattle.design_files.specs.DesignText.{HasNumbers, IsDesignDocument, IsDesignText, rules_of, IsDesignFault}
 use Rattle.design_files.specs.Sections.{HasSizeNumbers}
 use Rattle.design_files.specs.declared.places.Sizes.{Sizes}
@@ -72,8 +73,55 @@ high_holds n below value low zs there is line box = rw (is, there) (line.long, (
 keys_hold : (document : Members) (p : DesignParts) → HasNumbers (values_of document) p → AllHold (further_keys document) → AllHold (key_rules document)
 unfolding key_rules
 keys_hold document p h further =
-    let v = values_of document in
-    (number_there v.version (pos p.version) h.version, (number_there v.states (pos p.states) h.states, (number_there v.inputs (pos p.inputs) h.inputs, (number_there v.stages (pos p.stages) h.stages, (number_there v.plant_den p.plant_den h.plant_den, (matrix_there v.a p.a h.a, (matrix_there v.b p.b h.b, (number_there v.cost_den p.cost_den h.cost_den, (number_there v.row_den p.row_den h.row_den, (list_there v.input p.input_weights.items h.input, (matrix_there v.stage_cost p.stage_cost h.stage_cost, (matrix_there v.final_cost p.final_cost h.final_cost, (number_there v.limit_den p.limit_den h.limit_den, (matrix_there v.stage_rows p.stage_rows h.stage_rows, (matrix_there v.final_rows p.final_rows h.final_rows, (number_there v.grid (pos p.grid) h.grid, (list_there v.lo p.lo.items h.lo, (list_there v.hi p.hi.items h.hi, (number_there v.target_den p.target_den h.target_den, (number_there v.violation p.violation h.violation, (number_there v.gap p.gap h.gap, further)))))))))))))))))))))
+    let v = values_of document in (
+      number_there v.version (pos p.version) h.version,
+      (
+        number_there v.states (pos p.states) h.states,
+        (
+          number_there v.inputs (pos p.inputs) h.inputs,
+          (
+            number_there v.stages (pos p.stages) h.stages,
+            (
+              number_there v.plant_den p.plant_den h.plant_den,
+              (
+                matrix_there v.a p.a h.a,
+                (
+                  matrix_there v.b p.b h.b,
+                  (
+                    number_there v.cost_den p.cost_den h.cost_den,
+                    (
+                      number_there v.row_den p.row_den h.row_den,
+                      (
+                        list_there v.input p.input_weights.items h.input,
+                        (
+                          matrix_there v.stage_cost p.stage_cost h.stage_cost,
+                          (
+                            matrix_there v.final_cost p.final_cost h.final_cost,
+                            (
+                              number_there v.limit_den p.limit_den h.limit_den,
+                              (
+                                matrix_there v.stage_rows p.stage_rows h.stage_rows,
+                                (
+                                  matrix_there v.final_rows p.final_rows h.final_rows,
+                                  (
+                                    number_there v.grid (pos p.grid) h.grid,
+                                    (list_there v.lo p.lo.items h.lo, (list_there v.hi p.hi.items h.hi, (number_there v.target_den p.target_den h.target_den, (number_there v.violation p.violation h.violation, (number_there v.gap p.gap h.gap, further))))),
+                                  ),
+                                ),
+                              ),
+                            ),
+                          ),
+                        ),
+                      ),
+                    ),
+                  ),
+                ),
+              ),
+            ),
+          ),
+        ),
+      ),
+    )
 
 sizes_hold : (v : Values) (p : DesignParts) → HasNumbers v p → IsDesign p → AllHold (size_places v)
 sizes_hold v p h d =
@@ -90,28 +138,40 @@ plant_hold : (v : Values) (p : DesignParts) → HasNumbers v p → IsDesign p �
 plant_hold v p h d =
     let n = p.states in
     let m = p.inputs in
-    all_hold (denominator_rules 5 v.plant_den) (table_rules 6 n n n v.a ++ (table_rules 7 n n m v.b)) (denominator_holds 5 v.plant_den p.plant_den h.plant_den d.plant_den) (all_hold (table_rules 6 n n n v.a) (table_rules 7 n n m v.b) (table_holds 6 n n n v.a p.a h.a d.a) (table_holds 7 n n m v.b p.b h.b d.b))
+    all_hold (denominator_rules 5 v.plant_den) (table_rules 6 n n n v.a ++ (table_rules 7 n n m v.b)) (denominator_holds 5 v.plant_den p.plant_den h.plant_den d.plant_den)
+    (all_hold (table_rules 6 n n n v.a) (table_rules 7 n n m v.b) (table_holds 6 n n n v.a p.a h.a d.a) (table_holds 7 n n m v.b p.b h.b d.b))
 
 cost_hold : (v : Values) (p : DesignParts) → HasNumbers v p → IsDesign p → AllHold (cost_places p.states p.inputs v)
 cost_hold v p h d =
     let n = p.states in
     let m = p.inputs in
-    all_hold (denominator_rules 8 v.cost_den) (denominator_rules 9 v.row_den ++ (input_rules m v.input ++ (cost_row_rules 11 n v.stage_cost ++ (cost_row_rules 12 n v.final_cost)))) (denominator_holds 8 v.cost_den p.cost_den h.cost_den d.cost_den) (all_hold (denominator_rules 9 v.row_den) (input_rules m v.input ++ (cost_row_rules 11 n v.stage_cost ++ (cost_row_rules 12 n v.final_cost))) (denominator_holds 9 v.row_den p.row_den h.row_den d.row_den) (all_hold (input_rules m v.input) (cost_row_rules 11 n v.stage_cost ++ (cost_row_rules 12 n v.final_cost)) (inputs_hold m v.input p.input_weights.items h.input d.input_count d.input_weights) (all_hold (cost_row_rules 11 n v.stage_cost) (cost_row_rules 12 n v.final_cost) (costs_hold 11 n v.stage_cost p.stage_cost h.stage_cost d.stage_cost d.stage_weights) (costs_hold 12 n v.final_cost p.final_cost h.final_cost d.final_cost d.final_weights))))
+    all_hold (denominator_rules 8 v.cost_den) (denominator_rules 9 v.row_den ++ (input_rules m v.input ++ (cost_row_rules 11 n v.stage_cost ++ (cost_row_rules 12 n v.final_cost))))
+    (denominator_holds 8 v.cost_den p.cost_den h.cost_den d.cost_den)
+    (all_hold (denominator_rules 9 v.row_den) (input_rules m v.input ++ (cost_row_rules 11 n v.stage_cost ++ (cost_row_rules 12 n v.final_cost)))
+    (denominator_holds 9 v.row_den p.row_den h.row_den d.row_den)
+    (all_hold (input_rules m v.input) (cost_row_rules 11 n v.stage_cost ++ (cost_row_rules 12 n v.final_cost)) (inputs_hold m v.input p.input_weights.items h.input d.input_count d.input_weights)
+    (all_hold (cost_row_rules 11 n v.stage_cost) (cost_row_rules 12 n v.final_cost) (costs_hold 11 n v.stage_cost p.stage_cost h.stage_cost d.stage_cost d.stage_weights)
+    (costs_hold 12 n v.final_cost p.final_cost h.final_cost d.final_cost d.final_weights))))
 
 limits_hold : (v : Values) (p : DesignParts) → HasNumbers v p → IsDesign p → AllHold (limit_places p.states p.inputs v)
 limits_hold v p h d =
     let n = p.states in
     let m = p.inputs in
-    all_hold (denominator_rules 13 v.limit_den) (table_rules 14 0 12 (n + m + 1) v.stage_rows ++ (final_row_rules n v.stage_rows v.final_rows)) (denominator_holds 13 v.limit_den p.limit_den h.limit_den d.limit_den) (all_hold (table_rules 14 0 12 (n + m + 1) v.stage_rows) (final_row_rules n v.stage_rows v.final_rows) (table_holds 14 0 12 (n + m + 1) v.stage_rows p.stage_rows h.stage_rows d.stage_rows) (finals_hold n v.stage_rows v.final_rows p.stage_rows p.final_rows h.stage_rows h.final_rows d.final_rows d.some_row))
+    all_hold (denominator_rules 13 v.limit_den) (table_rules 14 0 12 (n + m + 1) v.stage_rows ++ (final_row_rules n v.stage_rows v.final_rows))
+    (denominator_holds 13 v.limit_den p.limit_den h.limit_den d.limit_den)
+    (all_hold (table_rules 14 0 12 (n + m + 1) v.stage_rows) (final_row_rules n v.stage_rows v.final_rows) (table_holds 14 0 12 (n + m + 1) v.stage_rows p.stage_rows h.stage_rows d.stage_rows)
+    (finals_hold n v.stage_rows v.final_rows p.stage_rows p.final_rows h.stage_rows h.final_rows d.final_rows d.some_row))
 
 box_hold : (v : Values) (p : DesignParts) → HasNumbers v p → IsDesign p → AllHold (box_places p.states v)
 box_hold v p h d =
     let n = p.states in
-    all_hold (count_rules 16 0 24 v.grid) (low_rules n v.lo ++ (high_rules n v.lo v.hi)) (count_holds 16 0 24 v.grid p.grid h.grid (zero-le, d.grid)) (all_hold (low_rules n v.lo) (high_rules n v.lo v.hi) (low_holds n v.lo p.lo.items h.lo d.lo) (high_holds n v.lo v.hi p.lo.items p.hi.items h.lo h.hi d.hi d.box))
+    all_hold (count_rules 16 0 24 v.grid) (low_rules n v.lo ++ (high_rules n v.lo v.hi)) (count_holds 16 0 24 v.grid p.grid h.grid (zero-le, d.grid))
+    (all_hold (low_rules n v.lo) (high_rules n v.lo v.hi) (low_holds n v.lo p.lo.items h.lo d.lo) (high_holds n v.lo v.hi p.lo.items p.hi.items h.lo h.hi d.hi d.box))
 
 targets_hold : (v : Values) (p : DesignParts) → HasNumbers v p → IsDesign p → AllHold (target_places v)
 targets_hold v p h d =
-    all_hold (denominator_rules 19 v.target_den) (positive_rules 20 v.violation ++ (positive_rules 21 v.gap)) (denominator_holds 19 v.target_den p.target_den h.target_den d.target_den) (all_hold (positive_rules 20 v.violation) (positive_rules 21 v.gap) (positive_holds 20 v.violation p.violation h.violation d.violation) (positive_holds 21 v.gap p.gap h.gap d.gap))
+    all_hold (denominator_rules 19 v.target_den) (positive_rules 20 v.violation ++ (positive_rules 21 v.gap)) (denominator_holds 19 v.target_den p.target_den h.target_den d.target_den)
+    (all_hold (positive_rules 20 v.violation) (positive_rules 21 v.gap) (positive_holds 20 v.violation p.violation h.violation d.violation) (positive_holds 21 v.gap p.gap h.gap d.gap))
 
 places_hold : (v : Values) (p : DesignParts) → HasNumbers v p → IsDesign p → AllHold (place_rules v)
 places_hold v p h d =

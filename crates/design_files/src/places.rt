@@ -28,7 +28,9 @@ use qp_model::range::{
     is_positive,
 };
 use qp_model::rules::in_range;
-use qp_model::{Design, DesignParts, LAST_VERSION, MOST_INPUTS, VERSION, most_stages, most_states};
+use qp_model::{
+    Design, DesignParts, FIRST_VERSION, LAST_VERSION, MOST_INPUTS, most_stages, most_states,
+};
 use std::alloc::Global;
 use toml::Value;
 
@@ -289,7 +291,12 @@ fn read_sizes(keys: &Keys) -> Result<Sizes, TextFault>
     ensures { let v = seen keys.now in Reads result (HasSizeNumbers v) (size_places v) }
 {
     let keys = &keys.top;
-    let version = read_count(1, keys.version, VERSION as usize, LAST_VERSION as usize)? as u32;
+    let version = read_count(
+        1,
+        keys.version,
+        FIRST_VERSION as usize,
+        LAST_VERSION as usize,
+    )? as u32;
     Ok(Sizes {
         version,
         states: read_count(2, keys.states, 1, most_states(version))?,

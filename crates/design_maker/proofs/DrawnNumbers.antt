@@ -46,5 +46,8 @@ pub are_small : (d : Drawn) → InRange d → AreSmall d
 are_small d r = record {
   plant = ((small d.a11 (pos 1) r.a11 (omega arith), (small d.a12 (neg_ℤ (pos 1)) r.a12 (omega arith), tt)), ((small d.a21 (neg_ℤ (pos 1)) r.a21 (omega arith), (small d.a22 (pos 1) r.a22 (omega arith), tt)), tt));
   input = (small d.first_input (pos 1) r.first_input (omega arith), (small d.second_input (pos 1) r.second_input (omega arith), tt));
-  cost = ((omega arith, (omega arith, (small d.first_target (pos 0) r.first_target (omega arith), (small d.first_weight (pos 1) r.first_weight (omega arith), tt)))), ((omega arith, (omega arith, (small d.second_target (pos 0) r.second_target (omega arith), (small d.second_weight (pos 1) r.second_weight (omega arith), tt)))), tt));
+  cost = (
+    (omega arith, (omega arith, (small d.first_target (pos 0) r.first_target (omega arith), (small d.first_weight (pos 1) r.first_weight (omega arith), tt)))),
+    ((omega arith, (omega arith, (small d.second_target (pos 0) r.second_target (omega arith), (small d.second_weight (pos 1) r.second_weight (omega arith), tt)))), tt),
+  );
 }

@@ -66,7 +66,8 @@ expressions d stages =
 abbrev pub made_document : Drawn → ℕ → Members
 made_document d stages =
     member (codes "box") (table (member (codes "grid") (integer (pos 4)) (member (codes "hi") (numbers high) (member (codes "lo") (numbers low) no_members))))
-    (member (codes "cost") (table (member (codes "den") (integer (pos 1)) (member (codes "final") (rows []) (member (codes "input") (numbers (input_weights d)) (member (codes "row_den") (integer (pos 1)) (member (codes "stage") (rows (cost_rows d)) no_members))))))
+    (member (codes "cost") (table (member (codes "den") (integer (pos 1))
+    (member (codes "final") (rows []) (member (codes "input") (numbers (input_weights d)) (member (codes "row_den") (integer (pos 1)) (member (codes "stage") (rows (cost_rows d)) no_members))))))
     (member (codes "inputs") (integer (pos 2))
     (member (codes "limits") (table (member (codes "den") (integer (pos 4)) (member (codes "final") (rows final_rows) (member (codes "stage") (rows limit_rows) no_members))))
     (member (codes "plant") (table (member (codes "a") (rows (plant_rows d)) (member (codes "b") (rows input_rows) (member (codes "den") (integer (pos 4)) no_members))))

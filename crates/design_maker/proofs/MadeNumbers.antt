@@ -84,10 +84,17 @@ has_numbers d stages p e =
 more : (names : List (List ℕ)) (i : ℕ) (key : List ℕ) (keys : List (List ℕ)) → i < length names → get_or names i key ≡ key → All (Contains names) keys → All (Contains names) (key ∷ keys)
 more names i key keys l here rest = all_more (Contains names) key keys (i, l, here) rest
 
-top_keys : let names : List (List ℕ) = codes "version" ∷ codes "states" ∷ codes "inputs" ∷ codes "stages" ∷ codes "plant" ∷ codes "cost" ∷ codes "limits" ∷ codes "box" ∷ codes "targets" ∷ [] in All (Contains names) (codes "box" ∷ codes "cost" ∷ codes "inputs" ∷ codes "limits" ∷ codes "plant" ∷ codes "stages" ∷ codes "states" ∷ codes "targets" ∷ codes "version" ∷ [])
+top_keys : let names : List (List ℕ) = codes "version" ∷ codes "states" ∷ codes "inputs" ∷ codes "stages" ∷ codes "plant" ∷ codes "cost" ∷ codes "limits" ∷ codes "box" ∷ codes "targets" ∷ [] in
+    All (Contains names) (codes "box" ∷ codes "cost" ∷ codes "inputs" ∷ codes "limits" ∷ codes "plant" ∷ codes "stages" ∷ codes "states" ∷ codes "targets" ∷ codes "version" ∷ [])
 top_keys =
     let names : List (List ℕ) = codes "version" ∷ codes "states" ∷ codes "inputs" ∷ codes "stages" ∷ codes "plant" ∷ codes "cost" ∷ codes "limits" ∷ codes "box" ∷ codes "targets" ∷ [] in
-    more names 7 (codes "box") (codes "cost" ∷ codes "inputs" ∷ codes "limits" ∷ codes "plant" ∷ codes "stages" ∷ codes "states" ∷ codes "targets" ∷ codes "version" ∷ []) (lit< tt) refl (more names 5 (codes "cost") (codes "inputs" ∷ codes "limits" ∷ codes "plant" ∷ codes "stages" ∷ codes "states" ∷ codes "targets" ∷ codes "version" ∷ []) (lit< tt) refl (more names 2 (codes "inputs") (codes "limits" ∷ codes "plant" ∷ codes "stages" ∷ codes "states" ∷ codes "targets" ∷ codes "version" ∷ []) (lit< tt) refl (more names 6 (codes "limits") (codes "plant" ∷ codes "stages" ∷ codes "states" ∷ codes "targets" ∷ codes "version" ∷ []) (lit< tt) refl (more names 4 (codes "plant") (codes "stages" ∷ codes "states" ∷ codes "targets" ∷ codes "version" ∷ []) (lit< tt) refl (more names 3 (codes "stages") (codes "states" ∷ codes "targets" ∷ codes "version" ∷ []) (lit< tt) refl (more names 1 (codes "states") (codes "targets" ∷ codes "version" ∷ []) (lit< tt) refl (more names 8 (codes "targets") (codes "version" ∷ []) (lit< tt) refl (more names 0 (codes "version") [] (lit< tt) refl (all_none (Contains names))))))))))
+    more names 7 (codes "box") (codes "cost" ∷ codes "inputs" ∷ codes "limits" ∷ codes "plant" ∷ codes "stages" ∷ codes "states" ∷ codes "targets" ∷ codes "version" ∷ []) (lit< tt) refl
+    (more names 5 (codes "cost") (codes "inputs" ∷ codes "limits" ∷ codes "plant" ∷ codes "stages" ∷ codes "states" ∷ codes "targets" ∷ codes "version" ∷ []) (lit< tt) refl
+    (more names 2 (codes "inputs") (codes "limits" ∷ codes "plant" ∷ codes "stages" ∷ codes "states" ∷ codes "targets" ∷ codes "version" ∷ []) (lit< tt) refl
+    (more names 6 (codes "limits") (codes "plant" ∷ codes "stages" ∷ codes "states" ∷ codes "targets" ∷ codes "version" ∷ []) (lit< tt) refl
+    (more names 4 (codes "plant") (codes "stages" ∷ codes "states" ∷ codes "targets" ∷ codes "version" ∷ []) (lit< tt) refl
+    (more names 3 (codes "stages") (codes "states" ∷ codes "targets" ∷ codes "version" ∷ []) (lit< tt) refl
+    (more names 1 (codes "states") (codes "targets" ∷ codes "version" ∷ []) (lit< tt) refl (more names 8 (codes "targets") (codes "version" ∷ []) (lit< tt) refl (more names 0 (codes "version") [] (lit< tt) refl (all_none (Contains names))))))))))
 
 plant_keys : let names : List (List ℕ) = codes "den" ∷ codes "a" ∷ codes "b" ∷ [] in All (Contains names) (codes "a" ∷ codes "b" ∷ codes "den" ∷ [])
 plant_keys =
@@ -97,7 +104,9 @@ plant_keys =
 cost_keys : let names : List (List ℕ) = codes "den" ∷ codes "row_den" ∷ codes "input" ∷ codes "stage" ∷ codes "final" ∷ [] in All (Contains names) (codes "den" ∷ codes "final" ∷ codes "input" ∷ codes "row_den" ∷ codes "stage" ∷ [])
 cost_keys =
     let names : List (List ℕ) = codes "den" ∷ codes "row_den" ∷ codes "input" ∷ codes "stage" ∷ codes "final" ∷ [] in
-    more names 0 (codes "den") (codes "final" ∷ codes "input" ∷ codes "row_den" ∷ codes "stage" ∷ []) (lit< tt) refl (more names 4 (codes "final") (codes "input" ∷ codes "row_den" ∷ codes "stage" ∷ []) (lit< tt) refl (more names 2 (codes "input") (codes "row_den" ∷ codes "stage" ∷ []) (lit< tt) refl (more names 1 (codes "row_den") (codes "stage" ∷ []) (lit< tt) refl (more names 3 (codes "stage") [] (lit< tt) refl (all_none (Contains names))))))
+    more names 0 (codes "den") (codes "final" ∷ codes "input" ∷ codes "row_den" ∷ codes "stage" ∷ []) (lit< tt) refl
+    (more names 4 (codes "final") (codes "input" ∷ codes "row_den" ∷ codes "stage" ∷ []) (lit< tt) refl
+    (more names 2 (codes "input") (codes "row_den" ∷ codes "stage" ∷ []) (lit< tt) refl (more names 1 (codes "row_den") (codes "stage" ∷ []) (lit< tt) refl (more names 3 (codes "stage") [] (lit< tt) refl (all_none (Contains names))))))
 
 limits_keys : let names : List (List ℕ) = codes "den" ∷ codes "stage" ∷ codes "final" ∷ [] in All (Contains names) (codes "den" ∷ codes "final" ∷ codes "stage" ∷ [])
 limits_keys =
@@ -169,7 +178,8 @@ is_design d stages p r s e =
       cost_den = rw cost_den (denominator (pos 1) (omega arith) (omega arith));
       row_den = rw row_den (denominator (pos 1) (omega arith) (omega arith));
       input_count = rw (input, inputs) refl;
-      input_weights = rw input (all_more IsPositive d.first_input (d.second_input ∷ []) (positive d.first_input r.first_input.0 r.first_input.1) (all_more IsPositive d.second_input [] (positive d.second_input r.second_input.0 r.second_input.1) (all_none IsPositive)));
+      input_weights = rw input (all_more IsPositive d.first_input (d.second_input ∷ []) (positive d.first_input r.first_input.0 r.first_input.1)
+          (all_more IsPositive d.second_input [] (positive d.second_input r.second_input.0 r.second_input.1) (all_none IsPositive)));
       stage_cost = rw (stage_cost, states) (record { rows = (lit≤ tt, lit≤ tt); cols = refl; numbers = rows_numerators (cost_rows d) small.cost });
       stage_weights = rw (stage_cost, states) (weights d r);
       final_cost = rw (final_cost, states) (record { rows = (lit≤ tt, lit≤ tt); cols = refl; numbers = all_none (All IsNumerator) });

@@ -57,7 +57,14 @@ zeros_length zero = refl
 zeros_length (suc n) = omega (arith, zeros_length n)
 
 four_length : (n : ℕ) → length (four n) ≡ 8 * n + 8
-four_length n = omega (arith, zeros_length n, length-append (zeros n) (10 ∷ (49 ∷ (zeros n ++ (10 ∷ (49 ∷ (zeros n ++ (10 ∷ (49 ∷ (zeros n ++ (10 ∷ [])))))))))), length-append (zeros n) (10 ∷ (49 ∷ (zeros n ++ (10 ∷ (49 ∷ (zeros n ++ (10 ∷ []))))))), length-append (zeros n) (10 ∷ (49 ∷ (zeros n ++ (10 ∷ [])))), length-append (zeros n) (10 ∷ []))
+four_length n = omega (
+  arith,
+  zeros_length n,
+  length-append (zeros n) (10 ∷ (49 ∷ (zeros n ++ (10 ∷ (49 ∷ (zeros n ++ (10 ∷ (49 ∷ (zeros n ++ (10 ∷ [])))))))))),
+  length-append (zeros n) (10 ∷ (49 ∷ (zeros n ++ (10 ∷ (49 ∷ (zeros n ++ (10 ∷ []))))))),
+  length-append (zeros n) (10 ∷ (49 ∷ (zeros n ++ (10 ∷ [])))),
+  length-append (zeros n) (10 ∷ []),
+)
 
 pub policy_short : (stages : ℕ) → stages ≤ 20 → length (policy_text stages) < 2 ^ 32
 policy_short stages h = rw (text_is stages, four_length (2 * stages)) (omega (arith, h))

@@ -4,7 +4,9 @@ ghost use Rattle.std.specs.Result.{OkIff};
 ghost use Rattle.qp_model.specs.bounds.Choices.{multiplier_of, multiplier_size_of, step_count, row_violation_bound, violation_bound, undercut_bound};
 ghost use Rattle.qp_model.specs.bounds.Choices.{lean_multiplier, lean_multiplier_size, lean_row_violation};
 ghost use Rattle.qp_model.specs.declared.quantity.Quantity.TheVariants.{Multiplier};
+ghost use Rattle.design_refusal.specs.declared.refusal.Refusal.TheVariants.{TooManySteps as too_many};
 
+use design_refusal::Refusal;
 use frac_scaled::scaled;
 use qp_model::{Margin, Quantity, Wide};
 use thiserror::Error;
@@ -14,6 +16,14 @@ use thiserror::Error;
 #[error("too many steps")]
 pub struct TooManySteps {
     pub k: i128,
+}
+
+impl From<TooManySteps> for Refusal {
+    ghost from_gives = { λ fault e. e ≡ too_many fault.k };
+
+    fn from(fault: TooManySteps) -> Self {
+        Refusal::TooManySteps { k: fault.k }
+    }
 }
 
 /// R, which bounds the multipliers: the greatest cost over the least slack, rounded up, and at least 1.

@@ -34,7 +34,7 @@ use Rattle.condensed_form.proofs.DenominatorFacts.{natural}
 use Rattle.qp_model.proofs.GramLaws.{counted_total}
 use Rattle.qp_model.proofs.CountLaws as Count
 use Rattle.qp_model.proofs.CountLaws.{counted_all}
-use Rattle.qp_model.proofs.QuantityLaws.{tame, slim, target_width, weights_size}
+use Rattle.qp_model.proofs.QuantityLaws.{growth_bound, narrow_costs, target_width, weights_size}
 use Rattle.condensed_form.specs.Costs.{weight_of, target_of}
 use Rattle.std.specs.Int.{w128}
 use Rattle.condensed_form.proofs.Rooms as Rooms
@@ -93,7 +93,7 @@ gap_size : (d : Design) (z width : ℕ) (x v : ℕ → ℤ) (unit : ℤ) → ((i
     (k : ℕ) (r : CostRow) → k ≤ d.stages → cost_row_width d r ≤ width → unsigned_abs (gap d x v unit k r) ≤ width * (z * prediction_size d)
 gap_size d z width x v unit hx hv hu k r l w =
     last (d.plant_denominator ^ (d.stages - k)) (dot d.states r.coefficient (run d x v k)) _ unit r.target _ _ _ (total_size d.states (λ i. r.coefficient i *ℤ run d x v k i))
-    (Count.cost_room d (growth d) z (size d.states r.coefficient) x v r.coefficient (tame d) (omega arith) hx hv k l) hu w
+    (Count.cost_room d (growth d) z (size d.states r.coefficient) x v r.coefficient (growth_bound d) (omega arith) hx hv k l) hu w
   where
     last : (m : ℕ) (y : ℤ) (e : ℕ) (u b : ℤ) (s t w : ℕ) → unsigned_abs y ≤ e → m * e ≤ s * t → unsigned_abs u ≤ t → s + unsigned_abs b ≤ w →
         unsigned_abs (pos m *ℤ y +ℤ neg_ℤ (u *ℤ b)) ≤ w * t
@@ -186,7 +186,7 @@ module _ (p : DesignParts) (s : Plans) (powers : List ℤ) (c : ℕ) (start plan
   pub gap_fits : (i : ℕ) → i < counts (design_of p) →
       unsigned_abs (counted (design_of p) (cost_run (design_of p) (at start) (at plan)) i) + unsigned_abs (unit *ℤ target_of (design_of p) i) ≤ 2 ^ 126
   gap_fits i l = rw (unsigned_abs-mul unit (target_of (design_of p) i)) (last _ _ _
-      (Count.cost_bound_law (design_of p) (growth (design_of p)) (policy_magnitude (design_of p) s) (cost_width (design_of p)) (at start) (at plan) (tame (design_of p)) (slim (design_of p))
+      (Count.cost_bound_law (design_of p) (growth (design_of p)) (policy_magnitude (design_of p) s) (cost_width (design_of p)) (at start) (at plan) (growth_bound (design_of p)) (narrow_costs (design_of p))
       (start_held p s powers c start plan unit k) (plan_held p s powers c start plan unit k) i l)
       (target_size i l) (two_sides (cost_side (design_of p) s) (square_room p s k.setting.design k.setting.room)))
     where

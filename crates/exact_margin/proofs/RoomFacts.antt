@@ -16,7 +16,7 @@ use Rattle.qp_model.specs.form.Quantities.{greatest, growth, limit_width, cost_w
 use Rattle.qp_model.specs.bounds.CornerSizes.{box_magnitude, corner_magnitude, policy_magnitude}
 use Rattle.qp_model.specs.problem.Runs.{TrajectoryFits, row_at, bound_at}
 use Rattle.qp_model.proofs.SizeFacts.{greatest_term, side_under, some_limit, some_cost, some_weight}
-use Rattle.qp_model.proofs.QuantityLaws.{tame, narrow, slim, bound_width}
+use Rattle.qp_model.proofs.QuantityLaws.{growth_bound, narrow, narrow_costs, bound_width}
 use Rattle.qp_model.proofs.RowLaws.{row_bound_law}
 use Rattle.qp_model.proofs.CornerFacts.{product_small, denominator_size}
 use Rattle.condensed_form.specs.Lists.{IsReady, RowsFit, CostsFit}
@@ -173,7 +173,7 @@ module _ (p : DesignParts) (s : Plans) (powers : List ℤ) (c : ℕ) (start plan
 
   -- a run whose rows are at most `width`
   run_fits : (width : ℕ) → width * (policy_magnitude (design_of p) s * prediction_size (design_of p)) ≤ 2 ^ 126 → TrajectoryFits (design_of p) (at start) (at plan) width
-  run_fits width h = record { alpha = growth (design_of p); z = policy_magnitude (design_of p) s; tame = tame (design_of p); state = start_held; plan = plan_held; fits = h }
+  run_fits width h = record { alpha = growth (design_of p); z = policy_magnitude (design_of p) s; growth_bound = growth_bound (design_of p); state = start_held; plan = plan_held; fits = h }
 
   pub rows_fit : RowsFit (design_of p) (at start) (at plan)
   rows_fit = record { width = limit_width (design_of p); some = some_limit p k.setting.design; narrow = narrow (design_of p); fits = run_fits (limit_width (design_of p)) (part _ (slack_room (design_of p) s k.setting.room)) }
@@ -182,7 +182,7 @@ module _ (p : DesignParts) (s : Plans) (powers : List ℤ) (c : ℕ) (start plan
       part a h = omega arith
 
   pub costs_fit : CostsFit (design_of p) (at start) (at plan)
-  costs_fit = record { width = cost_width (design_of p); some = some_cost p k.setting.design; slim = slim (design_of p); fits = run_fits (cost_width (design_of p)) (side_room p s k.setting.design k.setting.room) }
+  costs_fit = record { width = cost_width (design_of p); some = some_cost p k.setting.design; narrow_costs = narrow_costs (design_of p); fits = run_fits (cost_width (design_of p)) (side_room p s k.setting.design k.setting.room) }
 
   -- what bounds and targets are times
   pub unit_size : unsigned_abs unit ≤ policy_magnitude (design_of p) s * prediction_size (design_of p)
@@ -211,7 +211,7 @@ module _ (p : DesignParts) (s : Plans) (powers : List ℤ) (c : ℕ) (start plan
       2 ^ 16 * (unsigned_abs (unit *ℤ bound_at (design_of p) i) + unsigned_abs (row_at (design_of p) (at start) (at plan) i)) ≤ 2 ^ 126
   slack_size i o = rw (unsigned_abs-mul unit (bound_at (design_of p) i)) (last _ _ _ (bound_size i o)
       (row_bound_law (design_of p) (growth (design_of p)) (policy_magnitude (design_of p) s) (limit_width (design_of p)) (at start) (at plan)
-      (denominator_positive p.plant_den k.setting.design.plant_den.low) (tame (design_of p)) (narrow (design_of p)) start_held plan_held i o)
+      (denominator_positive p.plant_den k.setting.design.plant_den.low) (growth_bound (design_of p)) (narrow (design_of p)) start_held plan_held i o)
       (slack_room (design_of p) s k.setting.room))
     where
       last : (a b t : ℕ) → a ≤ t → b ≤ t → 2 ^ 17 * t ≤ 2 ^ 126 → 2 ^ 16 * (a + b) ≤ 2 ^ 126

@@ -1,6 +1,8 @@
 ghost use Rattle.std.specs.Prelude.{◌≡◌};
 ghost use Rattle.exact_margin.specs.declared.fault.MarginFault.TheVariants.{Memory as margin_memory};
+ghost use Rattle.exact_margin.specs.Refusing.{of_margin};
 
+use design_refusal::Refusal;
 use frac_scaled::Frac;
 use qp_model::Quantity;
 use std::alloc::AllocError;
@@ -24,5 +26,19 @@ impl From<AllocError> for MarginFault {
 
     fn from(_: AllocError) -> Self {
         MarginFault::Memory
+    }
+}
+
+impl From<MarginFault> for Refusal {
+    ghost from_gives = { λ fault e. e ≡ of_margin fault };
+
+    fn from(fault: MarginFault) -> Self {
+        match fault {
+            MarginFault::Memory => Refusal::Memory,
+            MarginFault::TooWide { quantity } => Refusal::TooWide { quantity },
+            MarginFault::NoMargin { corner, row, slack } => {
+                Refusal::NoMargin { corner, row, slack }
+            }
+        }
     }
 }

@@ -106,7 +106,7 @@ impl<'a> Run<'a> {
     fn cost_row(&self, row: &[i128], k: usize) -> i128
         requires stage { k ≤ self.now.parts.now.stages }
         requires row { length row.now ≡ self.now.parts.now.states + 2 }
-        requires slim { CostRowFits self.now.parts.now row.now (at self.now.start.now) (at self.now.plan.now) k }
+        requires narrow_costs { CostRowFits self.now.parts.now row.now (at self.now.start.now) (at self.now.plan.now) k }
         ensures { result ≡ lift (design_of self.now.parts.now) k *ℤ
             dot self.now.parts.now.states (at row.now) (run (design_of self.now.parts.now) (at self.now.start.now) (at self.now.plan.now) k) }
     {

@@ -19,7 +19,7 @@ use Rattle.qp_model.specs.form.Quantities.{input_floor}
 use Rattle.qp_model.proofs.CostLaws.{condensing}
 use Rattle.qp_model.proofs.SizeFacts.{greatest_term}
 use Rattle.condensed_form.specs.Form.{response_scale}
-use Rattle.condensed_form.proofs.FormLaws.{bent}
+use Rattle.condensed_form.proofs.FormLaws.{curved_at_least}
 use Rattle.fine_condense.proofs.Laws.{fine_law}
 use Rattle.fine_condense.proofs.RadiusLaws.{radius_law}
 
@@ -72,7 +72,7 @@ module _ (d : Design) (sound : IsSound d (input_floor d)) where
       sound.cost_denominator (pow_positive (response_scale d) 2 (one-le-mul sound.row_denominator (pow_positive d.plant_denominator d.stages sound.plant_denominator)))
       (form_difference (entries d) (pos exact_scale) (pos fine_scale) mid (condensed_of d).hessian u)
       (radius_law (entries d) (exact_scale * hessian_radius d) error error_turned error_small u)
-      (bent d (condensed_of d) (input_floor d) sound (condensing d sound.inputs) u)
+      (curved_at_least d (condensed_of d) (input_floor d) sound (condensing d sound.inputs) u)
     where
       -- all in integers
       plain : (w s r m rho t q f x : ℤ) → pos 0 <ℤ (w *ℤ s) → pos 0 ≤ℤ (w *ℤ r *ℤ m) → pos 0 ≤ℤ (w *ℤ s *ℤ f -ℤ w *ℤ r *ℤ m *ℤ x +ℤ w *ℤ s *ℤ t *ℤ q) →

@@ -204,20 +204,23 @@ module _ (p : DesignParts) (h : IsDesign p) where
       last x r k = omega (arith, k)
 
   pub linear_small : (j i : ℕ) → farthest (fine_linear d j i).mid (unsigned_abs (fine_linear d j i).rad) ≤ fine_cost_entry_size d
-  linear_small j i = chained (twice_far (pos 2) (fine_products d j (entries d + i)).mid (fine_products d j (entries d + i)).rad (part + 3) refl (products_reach d one j (entries d + i)).radius (products_reach d one j (entries d + i)).within) (doubled_small j i)
+  linear_small j i = chained (twice_far (pos 2) (fine_products d j (entries d + i)).mid (fine_products d j (entries d + i)).rad (part + 3) refl (products_reach d one j (entries d + i)).radius
+      (products_reach d one j (entries d + i)).within) (doubled_small j i)
     where
       chained : {a b c : ℕ} → a ≤ b → b ≤ c → a ≤ c
       chained k l = omega (arith, k, l)
 
   pub constant_small : (j : ℕ) → farthest (fine_constant d j).mid (unsigned_abs (fine_constant d j).rad) ≤ fine_cost_entry_size d
-  constant_small j = chained (twice_far (negsuc 1) (fine_products d j (entries d + d.states)).mid (fine_products d j (entries d + d.states)).rad (part + 3) refl (products_reach d one j (entries d + d.states)).radius (products_reach d one j (entries d + d.states)).within) (doubled_small j j)
+  constant_small j = chained (twice_far (negsuc 1) (fine_products d j (entries d + d.states)).mid (fine_products d j (entries d + d.states)).rad (part + 3) refl
+      (products_reach d one j (entries d + d.states)).radius (products_reach d one j (entries d + d.states)).within) (doubled_small j j)
     where
       chained : {a b c : ℕ} → a ≤ b → b ≤ c → a ≤ c
       chained k l = omega (arith, k, l)
 
   -- a row of the hessian
   pub hessian_row_small : (i : ℕ) → amount (entries d) (λ j. farthest (fine_hessian d i j).mid (unsigned_abs (fine_hessian d i j).rad)) ≤ 2 * fine_cost_row_size d
-  hessian_row_small i = chained (entries d * (2 * (part + 3))) (amount_mono (entries d) _ _ (λ j l. hessian_far i j)) (split (entries d) (2 * (part + 3)) (own_far i)) (amount_once (entries d) i (own_far i) (own_far i i) (own_beside i) (same (own_far i i)))
+  hessian_row_small i = chained (entries d * (2 * (part + 3))) (amount_mono (entries d) _ _ (λ j l. hessian_far i j)) (split (entries d) (2 * (part + 3)) (own_far i))
+      (amount_once (entries d) i (own_far i) (own_far i i) (own_beside i) (same (own_far i i)))
       (row_room (entries d) d.states weighed part (own_far i i) (fine_hessian_size d) (ceil_div (fine_hessian_size d) (2 ^ 40)) (some_entry p h) part_small (own_at i)
       (under (entries d * (entries d + d.states + 1)) (weight_sum d) (fine_response_size d ^ 2) _) (le-mul-ceil_div (fine_hessian_size d) (2 ^ 40) (lit< tt)))
     where

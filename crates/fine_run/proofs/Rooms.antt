@@ -20,7 +20,7 @@ use Rattle.qp_model.specs.form.Quantities.{growth}
 use Rattle.qp_model.specs.form.FineForm.{followed, fine_run}
 use Rattle.qp_model.specs.form.FineSizes.{reach_from}
 use Rattle.qp_model.proofs.SizeFacts.{size_append}
-use Rattle.qp_model.proofs.QuantityLaws.{tame}
+use Rattle.qp_model.proofs.QuantityLaws.{growth_bound}
 use Rattle.fine_run.specs.Lists.{Reaches}
 
 same : (n : ℕ) → n ≤ n
@@ -189,7 +189,7 @@ grown m a r h k = last (le-mul-ceil_div (m * r) a h)
 
 module _ (d : Design) (one : 1 ≤ d.plant_denominator) (first : ℕ) where
   reach_more : (k : ℕ) → reach_from d first k ≤ reach_from d first (suc k)
-  reach_more k = over _ _ (grown (growth d) d.plant_denominator (reach_from d first k) one (tame d).denominator)
+  reach_more k = over _ _ (grown (growth d) d.plant_denominator (reach_from d first k) one (growth_bound d).denominator)
     where
       over : (a b : ℕ) → a ≤ b → a ≤ b + 3
       over a b h = omega arith
@@ -232,7 +232,7 @@ module _ (d : Design) (one : 1 ≤ d.plant_denominator) (first : ℕ) where
     run_reaches (suc k) i h l =
         reaches_more (divided_reaches _ d.plant_denominator _ one (reaches_more
         (combination_reaches (d.states + d.inputs) (followed d.states (d.plant_a i) (d.plant_b i)) _ (reach_from d first k) (numbers_reach k h (λ j o. run_reaches k j (before h) o)))
-        (rw (followed_size d.states d.inputs (d.plant_a i) (d.plant_b i)) (scaled _ _ _ _ ((tame d).plant i l) (same (reach_from d first k))))))
+        (rw (followed_size d.states d.inputs (d.plant_a i) (d.plant_b i)) (scaled _ _ _ _ ((growth_bound d).plant i l) (same (reach_from d first k))))))
         (same (ceil_div (growth d * reach_from d first k) d.plant_denominator + 3))
 
     -- before a state is divided
@@ -241,7 +241,7 @@ module _ (d : Design) (one : 1 ≤ d.plant_denominator) (first : ℕ) where
         pos (growth d * reach_from d first d.stages)
     run_room k i l m = under
         (combination_room (d.states + d.inputs) (followed d.states (d.plant_a i) (d.plant_b i)) _ (reach_from d first k) (numbers_reach k l (λ j o. run_reaches k j (before l) o)))
-        (rw (followed_size d.states d.inputs (d.plant_a i) (d.plant_b i)) (scaled _ _ _ _ ((tame d).plant i m) (reach_last k d.stages (before l))))
+        (rw (followed_size d.states d.inputs (d.plant_a i) (d.plant_b i)) (scaled _ _ _ _ ((growth_bound d).plant i m) (reach_last k d.stages (before l))))
 
     -- a row of at most `width` with the state at a stage
     pub row_reaches : (c : ℕ → ℤ) (width k : ℕ) → size d.states c ≤ width → k ≤ d.stages → Reaches (combined d.states c (fine_run d x v k) 1) (width * reach_from d first d.stages)

@@ -12,7 +12,7 @@ use Rattle.qp_model.specs.problem.Runs.{counts}
 use Rattle.qp_model.specs.form.FineForm.{fine_run, counted_stage, counted_row, fine_cost, fine_final_limit, fine_stage_limit, fine_limit}
 use Rattle.qp_model.specs.form.FineSizes.{reach_from}
 use Rattle.qp_model.proofs.RowLaws.{stage_inside, remainder_inside}
-use Rattle.qp_model.proofs.QuantityLaws.{slim, narrow}
+use Rattle.qp_model.proofs.QuantityLaws.{narrow_costs, narrow}
 use Rattle.fine_run.specs.Lists.{Reaches}
 use Rattle.fine_run.proofs.Rooms.{reaches_more, sum_reaches, row_reaches, row_room, input_row_reaches}
 
@@ -29,8 +29,8 @@ counted_stage_in d c = elim (cases_lt c (d.stages * d.stage_costs)) [
 
 pub counted_slim : (d : Design) (c : ℕ) → c < counts d → size d.states (counted_row d c).coefficient ≤ cost_width d
 counted_slim d c l = elim (cases_lt c (d.stages * d.stage_costs)) [
-  | inl m ↦ rw (lt-ltb c (d.stages * d.stage_costs) m) ((slim d).stage (c % d.stage_costs) (remainder_inside c d.stages d.stage_costs m))
-  | inr m ↦ rw (le-ltb c (d.stages * d.stage_costs) m) ((slim d).final (c - d.stages * d.stage_costs) (omega arith))
+  | inl m ↦ rw (lt-ltb c (d.stages * d.stage_costs) m) ((narrow_costs d).stage (c % d.stage_costs) (remainder_inside c d.stages d.stage_costs m))
+  | inr m ↦ rw (le-ltb c (d.stages * d.stage_costs) m) ((narrow_costs d).final (c - d.stages * d.stage_costs) (omega arith))
 ]
 
 module _ (d : Design) (one : 1 ≤ d.plant_denominator) (first : ℕ) (x v : ℕ → Enclosure) (hx : (i : ℕ) → i < d.states → Reaches (x i) first)

@@ -10,3 +10,4 @@ pub mod WordSums
 pub mod WordRooms
 pub mod WordSpans
 pub mod HalfFactors
+pub mod OneOutside

@@ -1,5 +1,6 @@
 -- A state of the box, loaded and unloaded.
-use Rattle.std.proofs.Common.{◌≡◌, ℕ, zero, suc, ◌-◌, ◌*◌, ◌^◌, ◌<◌, ℤ, pos, negsuc, ◌*ℤ◌, ◌≤ℤ◌, neg_ℤ, List, [], ◌∷◌, map, unsigned_abs, FitsSigned, arith, refl, ap}
+use Rattle.std.proofs.Common.{◌≡◌, ℕ, zero, suc, ◌+◌, ◌-◌, ◌*◌, ◌^◌, ◌<◌, ℤ, pos, negsuc, ◌*ℤ◌, ◌≤ℤ◌, neg_ℤ, List, [], ◌∷◌, map, unsigned_abs, FitsSigned, Option, Some, None, arith, refl, ap, subst}
+use Rattle.std.specs.Prelude.{IsNone, IfSome, MatchOption, ◌↔◌}
 use Rattle.std.specs.Int.{w128}
 use Rattle.std.proofs.lemmas.Int.{ints, fits_signed_from_abs}
 use Rattle.std.proofs.lemmas.Nat.{pow_pos, pow_below, mul-lt}
@@ -9,6 +10,7 @@ use Rattle.integer_algebra.specs.Sums.{at}
 use Rattle.qp_model.specs.machine.Controller.{Numbers, IsSized}
 use Rattle.qp_model.specs.machine.Machine.{IsAdmissible, loaded}
 use Rattle.qp_model.proofs.AbsoluteLaws.{abs-shifted}
+use Rattle.fixed_kernel.specs.Outside.{IsFirstOutside}
 use Rattle.fixed_kernel.specs.Progress.{unloaded}
 
 -- ---- loaded and unloaded
@@ -28,6 +30,15 @@ pub unloaded-loaded : (c : Numbers) (xi : List ℤ) → unloaded c (loaded c xi)
 unloaded-loaded c xi = floors-scaled (2 ^ (c.fraction_bits - c.grid_bits)) (pow_pos (c.fraction_bits - c.grid_bits)) xi
 
 -- ---- coordinates
+pub not_inside : (c : Numbers) (xi : List ℤ) (k : ℕ) → IsFirstOutside c xi k → IsAdmissible c xi → ⊥
+not_inside c xi k out inside = out.outside (k - 1) (omega (arith, out.low)) (inside.each (k - 1) (omega (arith, out.low, out.high)))
+
+-- the first coordinate outside a box, of a controller by another name
+pub told_outside : (c d : Numbers) (xi : List ℤ) → c ≡ d → (found : Option ℕ) → IsNone found ↔ IsAdmissible c xi → IfSome found (IsFirstOutside c xi) →
+    MatchOption found (IsAdmissible d xi) (IsFirstOutside d xi)
+told_outside c d xi same None inside first = subst (λ (n : Numbers). IsAdmissible n xi) same (inside.0 refl)
+told_outside c d xi same (Some k) inside first = subst (λ (n : Numbers). IsFirstOutside n xi k) same first
+
 below_between : (low x high : ℤ) → low ≤ℤ x → x ≤ℤ high → unsigned_abs low < 2 ^ 31 → unsigned_abs high < 2 ^ 31 → unsigned_abs x < 2 ^ 31
 below_between low x high h l p q = omega (arith, ints, h, l, p, q)
 

@@ -1,3 +1,4 @@
+pub mod OneOutside
 pub mod Outside
 pub mod Spans
 pub mod Raised

@@ -1,5 +1,5 @@
 // The machine's state, its steps and its runs.
-ghost use Rattle.std.specs.Prelude.{◌≡◌, ◌<◌, ◌≤◌, ◌+◌, ◌^◌, ◌↔◌, pos, ◌*ℤ◌, length, IsTrue, IsFalse, IsOk, IfOk, IfErr, OnOk, OnErr};
+ghost use Rattle.std.specs.Prelude.{◌≡◌, ◌<◌, ◌≤◌, ◌+◌, ◌^◌, ◌↔◌, pos, ◌*ℤ◌, length, IsTrue, IsFalse, IsOk, IfOk, IfErr, OnOk, OnErr, MatchOption};
 ghost use Rattle.integer_algebra.specs.Sums.{at};
 ghost use Rattle.qp_model.specs.machine.Controller.{plan_length};
 ghost use Rattle.qp_model.specs.machine.Machine.{IsAdmissible, lowering_of, loaded, step_of, run_of};
@@ -69,6 +69,24 @@ impl<'a> Kernel<'a> {
         })
     }
 
+    /// The first coordinate of a state, over `2^g`, that lies outside the controller's box, from 1. None exactly where the state lies inside.
+    pub fn first_outside(&self, state: &[i128]) -> Option<u32>
+        requires { length state.now ≡ self.now.controller.states }
+        ensures { MatchOption result (IsAdmissible self.now.controller state.now) (λ k. IsFirstOutside self.now.controller state.now k) }
+    {
+        first_outside(self.controller.parts(), state)
+    }
+
+    // Loads a state of the box, with no step made.
+    fn load_inside(&mut self, state: &[i128])
+        requires { IsAdmissible self.old.controller state.now }
+        ensures { self.new ≡ record self.old { state = state.now; made = 0 } }
+    {
+        let c = self.controller.parts();
+        put_start(c, state, self.region.cells_mut(&all_of(c)));
+        self.made = 0;
+    }
+
     /// Loads a state, over `2^g`, with no step made. Refused exactly where a coordinate lies outside the box, and then
     /// nothing changes.
     pub fn load(&mut self, state: &[i128]) -> Result<(), OutsideBox>
@@ -79,12 +97,10 @@ impl<'a> Kernel<'a> {
         ensures err { OnErr result (self.new ≡ self.old) }
         ensures controller { self.new.controller ≡ self.old.controller }
     {
-        let c = self.controller.parts();
-        if let Some(coordinate) = first_outside(c, state) {
+        if let Some(coordinate) = self.first_outside(state) {
             return Err(OutsideBox { coordinate });
         }
-        put_start(c, state, self.region.cells_mut(&all_of(c)));
-        self.made = 0;
+        self.load_inside(state);
         Ok(())
     }
 
@@ -131,6 +147,16 @@ impl<'a> Kernel<'a> {
         }
     }
 
+    /// Loads a state of the box, over `2^g`, and makes all steps.
+    pub fn run_inside(&mut self, state: &[i128])
+        requires { IsAdmissible self.old.controller state.now }
+        ensures made { self.new ≡ record self.old { state = state.now; made = self.old.controller.steps } }
+        ensures values { iterate_of self.new ≡ run_of self.old.controller state.now }
+    {
+        self.load_inside(state);
+        self.finish();
+    }
+
     /// Loads a state, over `2^g`, and makes all steps. Refused exactly where a coordinate lies outside the box, and then
     /// nothing changes.
     pub fn run(&mut self, state: &[i128]) -> Result<(), OutsideBox>
@@ -142,8 +168,10 @@ impl<'a> Kernel<'a> {
         ensures err { OnErr result (self.new ≡ self.old) }
         ensures controller { self.new.controller ≡ self.old.controller }
     {
-        self.load(state)?;
-        self.finish();
+        if let Some(coordinate) = self.first_outside(state) {
+            return Err(OutsideBox { coordinate });
+        }
+        self.run_inside(state);
         Ok(())
     }
 

@@ -4,6 +4,7 @@
 mod entry;
 mod half;
 mod kernel;
+mod laws;
 mod narrow;
 mod spans;
 mod state;
@@ -16,4 +17,5 @@ mod word_step;
 mod wordwise;
 
 pub use kernel::Kernel;
+pub use laws::one_outside_law;
 pub use state::OutsideBox;

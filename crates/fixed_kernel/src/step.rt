@@ -18,7 +18,7 @@ ghost use Rattle.fixed_kernel.specs.Ready.{IsReadyToStep};
 
 use crate::entry::{entry_from, multiplier_from, short_shift};
 use crate::narrow::{scaled_by, shifted_by, sum_of_products};
-use qp_model::{ControllerParts, VERSION};
+use qp_model::{ControllerParts, FIRST_VERSION};
 
 // The step exponents, cut to the number of rows, which they have: so the compiler knows that a row's index is in range.
 pub fn exponents_of(c: &ControllerParts, rows: usize) -> &[u32]
@@ -256,7 +256,7 @@ fn make_step(
 {
     make_plan(c, narrow, state, multipliers, plan);
     // In version 1 all exponents are the greatest, and raising changes nothing.
-    let first = c.version == VERSION;
+    let first = c.version == FIRST_VERSION;
     if first {
         move_multipliers(c, narrow, state, plan, multipliers);
     } else {

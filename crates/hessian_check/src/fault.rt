@@ -1,7 +1,9 @@
 // What the choice of exponents answers.
 ghost use Rattle.std.specs.Prelude.{◌≡◌};
 ghost use Rattle.hessian_check.specs.declared.fault.CurvatureFault.TheVariants.{Memory};
+ghost use Rattle.hessian_check.specs.Refusing.{of_curvature};
 
+use design_refusal::Refusal;
 use qp_model::Quantity;
 use std::alloc::AllocError;
 use thiserror::Error;
@@ -31,5 +33,17 @@ impl From<AllocError> for CurvatureFault {
 
     fn from(_error: AllocError) -> CurvatureFault {
         CurvatureFault::Memory
+    }
+}
+
+impl From<CurvatureFault> for Refusal {
+    ghost from_gives = { λ fault e. e ≡ of_curvature fault };
+
+    fn from(fault: CurvatureFault) -> Self {
+        match fault {
+            CurvatureFault::Memory => Refusal::Memory,
+            CurvatureFault::TooWide { quantity } => Refusal::TooWide { quantity },
+            CurvatureFault::NoStep => Refusal::Curvature,
+        }
     }
 }

@@ -4,7 +4,7 @@ ghost use Rattle.std.specs.Option.{SomeIff};
 ghost use Rattle.qp_model.specs.problem.Range.{LiesIn};
 ghost use Rattle.mac_listing.specs.Listing.{IsOp};
 ghost use Rattle.mac_listing.specs.declared.instruction.Op.TheVariants.{Mac, Con};
-ghost use Rattle.mac_machine.specs.Machine.{held, result_of, words_after, OpFits};
+ghost use Rattle.mac_machine.specs.Machine.{holding, result_of, words_after, OpFits};
 
 use crate::width::{negated, product, raised, roomy, sum};
 use frac_scaled::floor_shift;
@@ -15,7 +15,7 @@ fn mac(w: u32, acc: i128, words: &[i128], a: usize, c: i128, k: u32) -> Option<i
     requires width { LiesIn 2 128 w }
     requires address { a < length words.now }
     requires bits { k ≤ 126 }
-    ensures { SomeIff result (OpFits w (Mac a c k) (held acc words.now)) (result_of (Mac a c k) (held acc words.now)) }
+    ensures { SomeIff result (OpFits w (Mac a c k) (holding acc words.now)) (result_of (Mac a c k) (holding acc words.now)) }
 {
     let word = raised(w, words[a], k)?;
     let product = product(w, c, word)?;
@@ -26,7 +26,7 @@ fn mac(w: u32, acc: i128, words: &[i128], a: usize, c: i128, k: u32) -> Option<i
 fn con(w: u32, acc: i128, words: &[i128], c: i128, k: u32) -> Option<i128>
     requires width { LiesIn 2 128 w }
     requires bits { k ≤ 126 }
-    ensures { SomeIff result (OpFits w (Con c k) (held acc words.now)) (result_of (Con c k) (held acc words.now)) }
+    ensures { SomeIff result (OpFits w (Con c k) (holding acc words.now)) (result_of (Con c k) (holding acc words.now)) }
 {
     let constant = raised(w, c, k)?;
     sum(w, acc, constant)
@@ -36,7 +36,7 @@ fn con(w: u32, acc: i128, words: &[i128], c: i128, k: u32) -> Option<i128>
 fn result_of(op: Op, w: u32, acc: i128, words: &[i128]) -> Option<i128>
     requires width { LiesIn 2 128 w }
     requires op { IsOp (length words.now) op }
-    ensures { SomeIff result (OpFits w op (held acc words.now)) (result_of op (held acc words.now)) }
+    ensures { SomeIff result (OpFits w op (holding acc words.now)) (result_of op (holding acc words.now)) }
 {
     match op {
         Op::Clear => Some(0),
@@ -57,8 +57,8 @@ fn result_of(op: Op, w: u32, acc: i128, words: &[i128]) -> Option<i128>
 pub fn carry_out(op: Op, w: u32, acc: i128, words: &mut [i128]) -> Option<i128>
     requires width { LiesIn 2 128 w }
     requires op { IsOp (length words.old) op }
-    ensures result { SomeIff result (OpFits w op (held acc words.old)) (result_of op (held acc words.old)) }
-    ensures words { IfSome result (λ r. words.new ≡ words_after op (held acc words.old)) }
+    ensures result { SomeIff result (OpFits w op (holding acc words.old)) (result_of op (holding acc words.old)) }
+    ensures words { IfSome result (λ r. words.new ≡ words_after op (holding acc words.old)) }
 {
     let next = result_of(op, w, acc, words)?;
     if let Op::Store { a } = op {

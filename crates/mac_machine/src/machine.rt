@@ -1,8 +1,8 @@
 // The machine and its runs.
 ghost use Rattle.std.specs.Prelude.{◌≡◌, ◌<◌, ◌↔◌, length, IsOk, IsNone, IfOk, IfErr, IfSome, OnOk};
 ghost use Rattle.integer_algebra.specs.Sums.{at};
-ghost use Rattle.mac_machine.specs.Machine.{HasRoom};
-ghost use Rattle.mac_machine.specs.Box.{IsInBox, IsFirstOutside};
+ghost use Rattle.mac_machine.specs.Machine.{NeverTraps};
+ghost use Rattle.mac_machine.specs.Box.{IsInBox, IsFirstOutsideBox};
 ghost use Rattle.mac_machine.specs.Traps.{Stops};
 
 use crate::player::{count_after, first_outside, play};
@@ -48,7 +48,7 @@ impl<'a> Machine<'a> {
     /// Runs the listing from a state. Refused exactly where a coordinate lies outside the box, and then nothing changes, or else where a value has no room.
     pub fn play(&mut self, state: &[i128]) -> Result<(), Stop>
         requires { length state.now ≡ self.old.listing.states }
-        ensures ok { IsOk result ↔ (IsInBox self.old.listing state.now × HasRoom self.old.listing state.now) }
+        ensures ok { IsOk result ↔ (IsInBox self.old.listing state.now × NeverTraps self.old.listing state.now) }
         ensures ended { OnOk result (self.new ≡ ended self.old.listing state.now) }
         ensures stops { IfErr result (Stops self.old.listing state.now) }
         ensures stopped { IfErr result (Stopped self.old self.new) }
@@ -64,7 +64,7 @@ impl<'a> Machine<'a> {
     pub fn first_outside(&self, state: &[i128]) -> Option<u32>
         requires { length state.now ≡ self.now.listing.states }
         ensures inside { IsNone result ↔ IsInBox self.now.listing state.now }
-        ensures first { IfSome result (λ k. IsFirstOutside self.now.listing state.now k) }
+        ensures first { IfSome result (λ k. IsFirstOutsideBox self.now.listing state.now k) }
     {
         first_outside(self.listing.parts(), state)
     }

@@ -4,8 +4,8 @@ ghost use Rattle.integer_algebra.specs.Sums.{at};
 ghost use Rattle.qp_model.specs.problem.Range.{LiesIn};
 ghost use Rattle.qp_model.specs.machine.ValuesMet.{FitsWidth};
 ghost use Rattle.mac_listing.specs.Listing.{instructions, IsOp, IsListing};
-ghost use Rattle.mac_machine.specs.Machine.{held, played, OpsFit, repeated, inputs_of, begun, after_repetitions, HasRoom};
-ghost use Rattle.mac_machine.specs.Box.{IsInBox, IsFirstOutside};
+ghost use Rattle.mac_machine.specs.Machine.{holding, played, OpsFit, repeated, inputs_of, begun, after_repetitions, NeverTraps};
+ghost use Rattle.mac_machine.specs.Box.{IsInBox, IsFirstOutsideBox};
 ghost use Rattle.mac_machine.specs.Traps.{TrapsAt, StopsIn, Stops, IsNumbered, begun_till, begun_by, KeepsOutside};
 
 use crate::accumulator::carry_out;
@@ -18,10 +18,10 @@ pub fn play_body(body: &[Op], w: u32, acc: i128, words: &mut [i128]) -> Result<i
     requires width { LiesIn 2 128 w }
     requires ops { All (IsOp (length words.old)) body.now }
     requires short { length body.now ≤ 100000 }
-    ensures room { OnOk result (OpsFit w body.now (held acc words.old)) }
-    ensures ends { IfOk result (λ sum. played body.now (held acc words.old) ≡ held sum words.new) }
+    ensures room { OnOk result (OpsFit w body.now (holding acc words.old)) }
+    ensures ends { IfOk result (λ sum. played body.now (holding acc words.old) ≡ holding sum words.new) }
     ensures counted { IfErr result (λ place. LiesIn 1 (length body.now) place) }
-    ensures traps { IfErr result (λ place. TrapsAt w body.now (held acc words.old) (place - 1)) }
+    ensures traps { IfErr result (λ place. TrapsAt w body.now (holding acc words.old) (place - 1)) }
     ensures long { length words.new ≡ length words.old }
 {
     let mut sum = acc;
@@ -40,9 +40,9 @@ pub fn play_body(body: &[Op], w: u32, acc: i128, words: &mut [i128]) -> Result<i
 fn play_steps(l: &ListingParts, words: &mut [i128]) -> Result<(), Stop>
     requires sound { IsListing (instructions l.now) }
     requires long { length words.old ≡ l.now.words }
-    ensures room { OnOk result ((k : ℕ) → k < l.now.repeat → OpsFit l.now.word l.now.body.items (repeated l.now.body.items k (held (pos 0) words.old))) }
-    ensures ends { OnOk result (words.new ≡ (repeated l.now.body.items l.now.repeat (held (pos 0) words.old)).words) }
-    ensures traps { IfErr result (StopsIn (instructions l.now) (held (pos 0) words.old)) }
+    ensures room { OnOk result ((k : ℕ) → k < l.now.repeat → OpsFit l.now.word l.now.body.items (repeated l.now.body.items k (holding (pos 0) words.old))) }
+    ensures ends { OnOk result (words.new ≡ (repeated l.now.body.items l.now.repeat (holding (pos 0) words.old)).words) }
+    ensures traps { IfErr result (StopsIn (instructions l.now) (holding (pos 0) words.old)) }
     ensures numbered { IfErr result (IsNumbered (instructions l.now)) }
     ensures long { length words.new ≡ length words.old }
 {
@@ -91,7 +91,7 @@ pub fn first_outside(l: &ListingParts, state: &[i128]) -> Option<u32>
     requires sound { IsListing (instructions l.now) }
     requires long { length state.now ≡ l.now.inputs }
     ensures inside { IsNone result ↔ IsInBox (instructions l.now) state.now }
-    ensures first { IfSome result (λ k. IsFirstOutside (instructions l.now) state.now k) }
+    ensures first { IfSome result (λ k. IsFirstOutsideBox (instructions l.now) state.now k) }
 {
     let mut coordinate = 1;
     for (i, x) in state.iter().enumerate() {
@@ -109,7 +109,7 @@ pub fn play(l: &ListingParts, state: &[i128], words: &mut [i128]) -> Result<(), 
     requires state { length state.now ≡ l.now.inputs }
     requires long { length words.old ≡ l.now.words }
     ensures inside { OnOk result (IsInBox (instructions l.now) state.now) }
-    ensures room { OnOk result (HasRoom (instructions l.now) state.now) }
+    ensures room { OnOk result (NeverTraps (instructions l.now) state.now) }
     ensures words { OnOk result (words.new ≡ (after_repetitions (instructions l.now) state.now l.now.repeat).words) }
     ensures stops { IfErr result (Stops (instructions l.now) state.now) }
     ensures numbered { IfErr result (IsNumbered (instructions l.now)) }

@@ -1,5 +1,6 @@
 -- Each number of 128 bits has one spelling.
-use Rattle.std.proofs.Common.{◌≡◌, ◌≢◌, ℕ, zero, suc, ◌+◌, ◌*◌, ◌/◌, ◌%◌, ◌^◌, ◌≤◌, ◌<◌, inl, inr, true, ℤ, pos, negsuc, neg_ℤ, List, [], ◌∷◌, ◌++◌, length, get_or, take, Result, Ok, Err, map, refl, sym, ap, subst, ◌∙◌, arith, append_assoc, FitsSigned, length-append}
+use Rattle.std.proofs.Common.{◌≡◌, ◌≢◌, ℕ, zero, suc, ◌+◌, ◌*◌, ◌/◌, ◌%◌, ◌^◌, ◌≤◌, ◌<◌, inl, inr, true, ℤ, pos, negsuc, neg_ℤ, List, [], ◌∷◌, ◌++◌, length, get_or, take, Result, Ok, Err, map, refl}
+use Rattle.std.proofs.Common.{sym, ap, subst, ◌∙◌, arith, append_assoc, FitsSigned, length-append}
 use Rattle.std.specs.List.{join_with_byte}
 use Rattle.std.specs.Int.{w128}
 use Rattle.std.specs.Char.{digit_value}
@@ -100,8 +101,8 @@ pub record IsLed (n : ℕ) (ds : List ℕ) : Type 0 where
   pub lead : 0 < n → 48 < get_or ds 0 0
   pub lone : n < 10 → length ds ≡ 1
 
-led : (n : ℕ) → n < 10 ^ 64 → IsLed n (decimal n)
-led n small =
+is_led : (n : ℕ) → n < 10 ^ 64 → IsLed n (decimal n)
+is_led n small =
     decimal_by_steps_wide IsLed
     (λ m l. record { some = omega arith; low = omega arith; high = omega arith; lead = λ h. omega arith; lone = λ h. refl })
     (λ m ds l h.
@@ -126,8 +127,8 @@ plain_minus n (d ∷ rest) some h =
     grind (arith, nat_tests)
 
 pub plain_signed : (z : ℤ) → FitsSigned w128 z → is_plain (signed_decimal z) ≡ true
-plain_signed (pos n) fits = plain_led n (decimal n) (led n (omega (arith, fits.sfits)))
-plain_signed (negsuc n) fits = plain_minus (suc n) (decimal (suc n)) (omega arith) (led (suc n) (omega (arith, fits.sfits)))
+plain_signed (pos n) fits = plain_led n (decimal n) (is_led n (omega (arith, fits.sfits)))
+plain_signed (negsuc n) fits = plain_minus (suc n) (decimal (suc n)) (omega arith) (is_led (suc n) (omega (arith, fits.sfits)))
 
 pub utf8_signed : (z : ℤ) → FitsSigned w128 z → IsUtf8 (signed_decimal z)
 utf8_signed (pos n) fits = IsUtf8-from_ascii (decimal n) (IsAscii-decimal_wide n (omega (arith, fits.sfits)))

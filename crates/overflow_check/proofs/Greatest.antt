@@ -14,7 +14,8 @@ weighted_abs_sum-take_suc (x ∷ xs) (y ∷ ys) zero p q = omega arith
 weighted_abs_sum-take_suc (x ∷ xs) (y ∷ ys) (suc i) p q =
     let again = weighted_abs_sum-take_suc xs ys i (omega arith) (omega arith) in omega (arith, again)
 
-pub weighted_abs_sum-take_more : (xs : List ℤ) (ys : List ℕ) (i : ℕ) → i < length xs → i < length ys → weighted_abs_sum (take (i + 1) xs) (take (i + 1) ys) ≡ weighted_abs_sum (take i xs) (take i ys) + unsigned_abs (get_or xs i (pos 0)) * get_or ys i 0
+pub weighted_abs_sum-take_more : (xs : List ℤ) (ys : List ℕ) (i : ℕ) → i < length xs → i < length ys → weighted_abs_sum (take (i + 1) xs) (take (i + 1) ys) ≡ weighted_abs_sum (take i xs) (take i ys) +
+    unsigned_abs (get_or xs i (pos 0)) * get_or ys i 0
 weighted_abs_sum-take_more xs ys i p q = rw add-one (weighted_abs_sum-take_suc xs ys i p q)
 
 weighted_abs_sum-take_le : (xs : List ℤ) (ys : List ℕ) (i : ℕ) → weighted_abs_sum (take i xs) (take i ys) ≤ weighted_abs_sum xs ys

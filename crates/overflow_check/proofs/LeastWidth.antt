@@ -1,5 +1,5 @@
 -- Numbers in form with the least width that their absolute sums let pass are those of a controller.
-use Rattle.std.proofs.Common.{◌≡◌, ℕ, ◌≤◌, ◌^◌, refl, arith}
+use Rattle.std.proofs.Common.{ℕ, ◌≤◌, ◌^◌, arith}
 use Rattle.qp_model.specs.machine.Controller.{Numbers, IsSized, IsShaped}
 use Rattle.qp_model.specs.machine.AbsoluteSums.{greatest_sum, IsController}
 use Rattle.overflow_check.specs.Width.{IsWidth}

@@ -10,3 +10,4 @@ pub mod LeastWidth
 -- ---- runs within them
 pub mod Runs
 pub mod ValuesMet
+pub mod SubSums

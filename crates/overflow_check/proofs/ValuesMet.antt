@@ -49,7 +49,7 @@ partial_sums_below top start (x ∷ xs) (y ∷ ys) h =
     cons_below top (start +ℤ x *ℤ y) (partial_sums (start +ℤ x *ℤ y) (products xs ys)) (omega (arith, sum, h))
     (partial_sums_below top (start +ℤ x *ℤ y) xs ys (omega (arith, sum, h)))
 
-fits_width : (w : ℕ) (z : ℤ) → unsigned_abs z ≤ 2 ^ (w - 1) - 1 → FitsWidth w z
+pub fits_width : (w : ℕ) (z : ℤ) → unsigned_abs z ≤ 2 ^ (w - 1) - 1 → FitsWidth w z
 fits_width w z h = record { low = omega (arith, ints, pow_pos (w - 1), h); high = omega (arith, ints, pow_pos (w - 1), h) }
 
 all_fit : (w : ℕ) (zs : List ℤ) → AreBelow (2 ^ (w - 1) - 1) zs → All (FitsWidth w) zs
@@ -100,7 +100,8 @@ row_below c top state plan old i le next nonneg clamped w v =
     let plans : abs_dot planned plan ≤ top = omega (arith, planned_le c plan i v, le) in
     let sums : unsigned_abs (list_dot planned plan) + abs_dot own state ≤ top = omega (arith, parts, le) in
     let row = row_le c state plan i w v in
-    let whole : unsigned_abs z ≤ unsigned_abs (list_dot planned plan) + unsigned_abs (list_dot own state) + unsigned_abs (at c.bounds i) * 2 ^ c.fraction_bits = abs-row_le (list_dot planned plan) (list_dot own state) (at c.bounds i) c.fraction_bits in
+    let whole : unsigned_abs z ≤ unsigned_abs (list_dot planned plan) + unsigned_abs (list_dot own state) + unsigned_abs (at c.bounds i) * 2 ^ c.fraction_bits =
+    abs-row_le (list_dot planned plan) (list_dot own state) (at c.bounds i) c.fraction_bits in
     let ceiling : unsigned_abs moved ≤ ceil_div (unsigned_abs (list_dot planned plan) + unsigned_abs (list_dot own state) + unsigned_abs (at c.bounds i) * 2 ^ c.fraction_bits) d =
     omega (arith, abs-floor_le_ceil z d (pow_pos c.fraction_bits), ceil_div_mono (unsigned_abs z) _ d (pow_pos c.fraction_bits) whole) in
     let new : unsigned_abs (old +ℤ moved) ≤ top = omega (arith, abs-add_le old moved, ceiling, next_le c state plan old i clamped w v, next) in

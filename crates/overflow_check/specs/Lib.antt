@@ -1,3 +1,4 @@
 pub mod Greatest
 pub mod Width
 pub mod Laws
+pub mod SubSums

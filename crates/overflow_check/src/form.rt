@@ -8,7 +8,7 @@ ghost use Rattle.qp_model.specs.problem.Limits.{text_version, last_version, most
 use mat_int::Mat;
 use qp_model::range::{are_numerators, is_ordered, lies_in};
 use qp_model::{
-    ControllerParts, LAST_VERSION, MOST_INPUTS, VERSION, most_rows, most_stages, most_states,
+    ControllerParts, FIRST_VERSION, LAST_VERSION, MOST_INPUTS, most_rows, most_stages, most_states,
 };
 
 // Whether the version and the sizes lie in their ranges.
@@ -16,7 +16,7 @@ fn are_sizes_in_range(c: &ControllerParts) -> bool
     ensures { let version = c.now.version in IsTrue result ↔ (LiesIn text_version last_version version × LiesIn 1 (most_states version) c.now.n
         × LiesIn 1 (most_inputs version) c.now.p × LiesIn 1 (most_stages version) c.now.stages × LiesIn 1 (most_rows version) c.now.m) }
 {
-    (VERSION..=LAST_VERSION).contains(&c.version)
+    (FIRST_VERSION..=LAST_VERSION).contains(&c.version)
         && lies_in(1, most_states(c.version), c.n)
         && lies_in(1, MOST_INPUTS, c.p)
         && lies_in(1, most_stages(c.version), c.stages)
@@ -45,7 +45,7 @@ fn have_exponents(c: &ControllerParts) -> bool
     if !are_exponents(&c.exps, c.s) {
         return false;
     }
-    c.version != VERSION || are_greatest(&c.exps, c.s)
+    c.version != FIRST_VERSION || are_greatest(&c.exps, c.s)
 }
 
 // Whether the numbers of bits lie in their ranges.

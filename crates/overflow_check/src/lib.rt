@@ -9,5 +9,5 @@ mod word_width;
 
 pub use absolute_sums::{greatest_sum, plan_entry_magnitude, plan_sum};
 pub use controller::{BadParts, Controller};
-pub use laws::values_law;
+pub use laws::{sub_sums_law, values_law};
 pub use word_width::width;

@@ -19,10 +19,8 @@ fn line_from(alloc: Global, kernel: &mut Kernel, state: &[i128]) -> Result<Vec<u
     ensures line { IfOk result (λ line. line.items ≡ plan_line kernel.old.controller state.now) }
     ensures controller { kernel.new.controller ≡ kernel.old.controller }
 {
-    match kernel.run(state) {
-        Ok(()) => plan_line(alloc, kernel),
-        Err(_) => unreachable!(),
-    }
+    kernel.run_inside(state);
+    plan_line(alloc, kernel)
 }
 
 /// Prints the lines of states of the box, each as soon as it is made: `Done`, `Memory` after the lines of some first states, or `WriteFault` for file 0.

@@ -13,7 +13,7 @@ use Rattle.qp_model.specs.declared.design_parts.DesignParts.{DesignParts}
 use Rattle.qp_model.specs.problem.Design.{Design, entries}
 use Rattle.qp_model.specs.problem.Policy.{Plans}
 use Rattle.policy_file.specs.Records.{HoldsNumbers, IsRecordsFault, records_of, record_at}
-use Rattle.policy_file.specs.PolicyText.{policy_rule, record_length, IsPolicyText, IsPolicyFault}
+use Rattle.policy_file.specs.PolicyText.{policy_rule, record_length, ArePlans, IsPlansFault}
 use Rattle.policy_file.proofs.MatrixFacts.{Filled, row_pushed}
 use Rattle.policy_file.proofs.TextFacts.{records_count}
 
@@ -39,9 +39,9 @@ plans_more text count i dens more q plans new zs n f l here e h =
     })
 
 -- all of them
-pub plans_found : (text : List ℕ) (d : Design) (rows : List Row) (p : Plans) (i : ℕ) → map fields_of rows ≡ records_of text → length rows ≤ i → length rows ≡ 2 ^ d.states →
-    Filled (IsPlan text (entries d) p.denominators) p.numerators (entries d) i → length p.denominators ≡ i → i ≤ length rows → IsPolicyText text d p
-plans_found text d rows p i e l n f k m = record {
+pub plans_found : (text : List ℕ) (d : Design) (number : ℕ) (rows : List Row) (p : Plans) (i : ℕ) → map fields_of rows ≡ records_of text → length rows ≤ i → length rows ≡ number →
+    Filled (IsPlan text (entries d) p.denominators) p.numerators (entries d) i → length p.denominators ≡ i → i ≤ length rows → ArePlans text d number p
+plans_found text d number rows p i e l n f k m = record {
   records = omega (arith, records_count rows text e);
   count = omega arith;
   rows = omega (arith, f.long);
@@ -50,19 +50,19 @@ plans_found text d rows p i e l n f k m = record {
 }
 
 -- too many, or too few
-pub count_fault : (text : List ℕ) (d : Design) (rows : List Row) (n i : ℕ) (dens : List ℤ) (plans : Matrix) → map fields_of rows ≡ records_of text → n ≡ length rows → length rows ≤ i → length rows ≢ 2 ^ d.states →
+pub count_fault : (text : List ℕ) (d : Design) (number : ℕ) (rows : List Row) (n i : ℕ) (dens : List ℤ) (plans : Matrix) → map fields_of rows ≡ records_of text → n ≡ length rows → length rows ≤ i → length rows ≢ number →
     ((e : ℕ) → e < i → HoldsNumbers policy_rule (record_length d) (record_at (records_of text) e) (at dens e ∷ row_of plans e)) →
-    (Count n ≡ Memory) ⊎ IsPolicyFault text d (Count n)
-count_fault text d rows n i dens plans e s l k h = inr (inr (record {
+    (Count n ≡ Memory) ⊎ IsPlansFault text d number (Count n)
+count_fault text d number rows n i dens plans e s l k h = inr (inr (record {
   each = λ j o. (at dens j ∷ row_of plans j, h j (omega (arith, records_count rows text e)));
   here = λ q. k (records_count rows text e ∙ q);
   told = ap Count (s ∙ records_count rows text e);
 }))
 
 -- that of a record is one of the policy
-pub either_fault : (text : List ℕ) (d : Design) (fault : TextFault) → (fault ≡ Memory) ⊎ IsRecordsFault policy_rule (record_length d) (records_of text) fault → (fault ≡ Memory) ⊎ IsPolicyFault text d fault
-either_fault text d fault (inl m) = inl m
-either_fault text d fault (inr f) = inr (inl f)
+pub either_fault : (text : List ℕ) (d : Design) (number : ℕ) (fault : TextFault) → (fault ≡ Memory) ⊎ IsRecordsFault policy_rule (record_length d) (records_of text) fault → (fault ≡ Memory) ⊎ IsPlansFault text d number fault
+either_fault text d number fault (inl m) = inl m
+either_fault text d number fault (inr f) = inr (inl f)
 
 -- ---- a denominator and what stands after it
 pub numbered : (zs : List ℤ) (n : ℕ) → length zs ≡ n + 1 → 1 ≤ length zs

@@ -74,26 +74,26 @@ room_after act.EndField fields field c = omega (arith, sum_by-append (λ (f : Li
 room_after act.EndRecord fields field c = omega (arith, sum_by-append (λ (f : List ℕ). length f + 1) fields (field ∷ []))
 
 -- a record that was read: what it took, what is left, and where the reader stands
-record Took (fields : List (List ℕ)) (field xs : List ℕ) (p : Read) : Type 0 where
+record RecordTaken (fields : List (List ℕ)) (field xs : List ℕ) (p : Read) : Type 0 where
   room : field_room p.0 ≤ field_room fields + length field + length xs + 1
   left : length p.2 ≤ length xs - 1
   start : ends_at_end p.1 ≡ false
 
-took : (cfg : Config) (s : State) (fields : List (List ℕ)) (field xs : List ℕ) (p : Read) → next_record cfg s fields field xs ≡ Some p → Took fields field xs p
+record_taken : (cfg : Config) (s : State) (fields : List (List ℕ)) (field xs : List ℕ) (p : Read) → next_record cfg s fields field xs ≡ Some p → RecordTaken fields field xs p
 unfolding next_record EndsRight
-took cfg s fields field [] p e = at_end (ends_at_end s) e
+record_taken cfg s fields field [] p e = at_end (ends_at_end s) e
   where
-    at_end : (b : Bool) → (if b then Some (fields ++ (field ∷ []), st.StartRecord, []) else None) ≡ Some p → Took fields field [] p
+    at_end : (b : Bool) → (if b then Some (fields ++ (field ∷ []), st.StartRecord, []) else None) ≡ Some p → RecordTaken fields field [] p
     at_end true e = let q : (fields ++ (field ∷ []), st.StartRecord, []) ≡ p = (cc) in rw (← q) (record { room = omega (arith, sum_by-append (λ (f : List ℕ). length f + 1) fields (field ∷ [])); left = omega arith; start = refl })
     at_end false e = absurd cc
-took cfg s fields field (c ∷ rest) p e =
-    by (took cfg (step cfg s c).0 (fields_after (step cfg s c).1 fields field) (field_after (step cfg s c).1 c field) rest p) (is_end (step cfg s c).1) refl e
+record_taken cfg s fields field (c ∷ rest) p e =
+    by (record_taken cfg (step cfg s c).0 (fields_after (step cfg s c).1 fields field) (field_after (step cfg s c).1 c field) rest p) (is_end (step cfg s c).1) refl e
   where
     by : (next_record cfg (step cfg s c).0 (fields_after (step cfg s c).1 fields field) (field_after (step cfg s c).1 c field) rest ≡ Some p →
-        Took (fields_after (step cfg s c).1 fields field) (field_after (step cfg s c).1 c field) rest p) → (b : Bool) → is_end (step cfg s c).1 ≡ b →
+        RecordTaken (fields_after (step cfg s c).1 fields field) (field_after (step cfg s c).1 c field) rest p) → (b : Bool) → is_end (step cfg s c).1 ≡ b →
         (if b then Some (fields_after (step cfg s c).1 fields field, (step cfg s c).0, rest)
         else next_record cfg (step cfg s c).0 (fields_after (step cfg s c).1 fields field) (field_after (step cfg s c).1 c field) rest) ≡ Some p →
-        Took fields field (c ∷ rest) p
+        RecordTaken fields field (c ∷ rest) p
     by more true end e =
         let q : (fields_after (step cfg s c).1 fields field, (step cfg s c).0, rest) ≡ p = (cc) in
         rw (← q) (record { room = omega (arith, room_after (step cfg s c).1 fields field c); left = omega arith; start = step_right cfg s c end })
@@ -102,17 +102,17 @@ took cfg s fields field (c ∷ rest) p e =
         record { room = omega (arith, t.room, room_after (step cfg s c).1 fields field c); left = omega (arith, t.left); start = t.start }
 
 -- from the start of a record
-took_some : (cfg : Config) (s : State) (xs : List ℕ) (p : Read) → ends_at_end s ≡ false → next_record cfg s [] [] xs ≡ Some p → length p.2 < length xs
+record_taken_some : (cfg : Config) (s : State) (xs : List ℕ) (p : Read) → ends_at_end s ≡ false → next_record cfg s [] [] xs ≡ Some p → length p.2 < length xs
 unfolding next_record
-took_some cfg s [] p start e = let none : None ≡ Some p = rw start at e in absurd cc
-took_some cfg s (c ∷ rest) p start e = omega (arith, (took cfg s [] [] (c ∷ rest) p e).left)
+record_taken_some cfg s [] p start e = let none : None ≡ Some p = rw start at e in absurd cc
+record_taken_some cfg s (c ∷ rest) p start e = omega (arith, (record_taken cfg s [] [] (c ∷ rest) p e).left)
 
 -- ---- all records
 reached_few : (cfg : Config) (s s2 : State) (xs ys : List ℕ) (rows : List (List (List ℕ))) → ends_at_end s ≡ false → Reached cfg s xs rows s2 ys → length rows ≤ length xs
 unfolding Reached
 reached_few cfg s s2 xs ys [] start r = omega arith
 reached_few cfg s s2 xs ys (row ∷ rows) start r =
-    omega (arith, took_some cfg s xs r.0 start r.1, reached_few cfg r.0.1 s2 r.0.2 ys rows (took cfg s [] [] xs r.0 r.1).start r.3)
+    omega (arith, record_taken_some cfg s xs r.0 start r.1, reached_few cfg r.0.1 s2 r.0.2 ys rows (record_taken cfg s [] [] xs r.0 r.1).start r.3)
 
 pub all_read_text : (text : List ℕ) (rows : List (List (List ℕ))) → AreRecords default_config st.StartRecord (strip_bom text) rows → records_of text ≡ rows
 all_read_text text rows r =
@@ -132,8 +132,8 @@ in_text cfg (suc n) s xs start = by (in_text cfg n) (next_record cfg s [] [] xs)
     by : ((s : State) (xs : List ℕ) → ends_at_end s ≡ false → InText xs (records_from cfg n s xs)) → (o : Option Read) → next_record cfg s [] [] xs ≡ o → InText xs (records_next (records_from cfg n) o)
     by all None e = record { few = omega arith; room = λ e l. absurd (omega arith) }
     by all (Some p) e =
-        let t = took cfg s [] [] xs p e in
-        let some = took_some cfg s xs p start e in
+        let t = record_taken cfg s [] [] xs p e in
+        let some = record_taken_some cfg s xs p start e in
         let more = all p.1 p.2 t.start in
         record { few = omega (arith, some, more.few); room = rooms p (records_from cfg n p.1 p.2) (omega (arith, t.room)) some more.room }
       where

@@ -16,7 +16,7 @@ use Rattle.qp_model.specs.declared.policy.Policy.{Policy}
 use Rattle.policy_file.specs.NumberField.{IsDigitsField, IsNumberField}
 use Rattle.policy_file.specs.Records.{RecordRule, HoldsNumbers, IsFirstWrong, IsRecordFault, HoldUpTo, IsRecordsFault, records_of, record_at, field_of}
 use Rattle.policy_file.specs.StatesText.{state_rule, IsStatesText, IsStatesFault}
-use Rattle.policy_file.specs.PolicyText.{policy_rule, record_length, IsPolicyText, IsCountFault, IsPolicyFault}
+use Rattle.policy_file.specs.PolicyText.{policy_rule, record_length, IsPolicyText, IsCountFault, ArePlans, IsPlansFault}
 use Rattle.policy_file.proofs.FieldFacts.{digits_end, each_digit, first_digit, no_space, number_part, signed_text}
 use Rattle.policy_file.proofs.MatrixFacts.{same_matrix}
 
@@ -76,7 +76,7 @@ unfolding IsFunctional
 same_numbers rule count fields zs ws f h k = ext_get_or (pos 0) zs ws (h.numbers ∙ sym k.numbers)
     (λ i l. let m : i < count = omega (arith, h.numbers) in f i (field_of fields i) (at zs i) (at ws i) (h.each i m) (k.each i m))
 
-wrong_or_right : (rule : RecordRule) (count e : ℕ) (fields : List (List ℕ)) (zs : List ℤ) (fault : TextFault) → IsRecordFault rule count e fields fault → HoldsNumbers rule count fields zs → ⊥
+pub wrong_or_right : (rule : RecordRule) (count e : ℕ) (fields : List (List ℕ)) (zs : List ℤ) (fault : TextFault) → IsRecordFault rule count e fields fault → HoldsNumbers rule count fields zs → ⊥
 wrong_or_right rule count e fields zs (Fields entry) f h = f.1 h.width
 wrong_or_right rule count e fields zs (Number entry field) f h = f.2.here (at zs (field - 1)) (h.each (field - 1) (omega (arith, f.2.low, f.2.high)))
 wrong_or_right rule count e fields zs NotToml f h = f
@@ -92,7 +92,7 @@ first_below rule count f g fields h k = elim (cases_lt g f) [
   | inr l ↦ l
 ]
 
-same_record_fault : (rule : RecordRule) (count e : ℕ) (fields : List (List ℕ)) (f g : TextFault) → IsRecordFault rule count e fields f → IsRecordFault rule count e fields g → f ≡ g
+pub same_record_fault : (rule : RecordRule) (count e : ℕ) (fields : List (List ℕ)) (f g : TextFault) → IsRecordFault rule count e fields f → IsRecordFault rule count e fields g → f ≡ g
 same_record_fault rule count e fields (Fields a) (Fields b) h k = ap Fields (h.0 ∙ sym k.0)
 same_record_fault rule count e fields (Fields a) (Number b j) h k = absurd (h.1 k.1)
 same_record_fault rule count e fields (Fields a) _ h k = absurd k
@@ -163,32 +163,32 @@ policy_functional : IsFunctional policy_rule
 unfolding IsFunctional
 policy_functional i field z w h k = same_number field z w h.0 k.0
 
-policy_not : (bytes : List ℕ) (d : Design) (p : Plans) (e : TextFault) → IsPolicyText bytes d p → IsPolicyFault bytes d e → ⊥
-policy_not bytes d p e h (inl f) = held_or_wrong policy_rule (record_length d) (2 ^ d.states) (records_of bytes) e (omega (arith, h.records)) (λ i l. (at p.denominators i ∷ row_of p.numerators i, h.each i l)) f
-policy_not bytes d p e h (inr f) = f.here h.records
+plans_not : (bytes : List ℕ) (d : Design) (number : ℕ) (p : Plans) (e : TextFault) → ArePlans bytes d number p → IsPlansFault bytes d number e → ⊥
+plans_not bytes d number p e h (inl f) = held_or_wrong policy_rule (record_length d) (number) (records_of bytes) e (omega (arith, h.records)) (λ i l. (at p.denominators i ∷ row_of p.numerators i, h.each i l)) f
+plans_not bytes d number p e h (inr f) = f.here h.records
 
 same_plans : (a b : Plans) → a.denominators ≡ b.denominators → a.numerators ≡ b.numerators → a ≡ b
 same_plans a b d n = (λ i. record { denominators = d i; numerators = n i })
 
-policy_same : (bytes : List ℕ) (d : Design) (a b : Plans) → IsPolicyText bytes d a → IsPolicyText bytes d b → a ≡ b
-policy_same bytes d a b h k = same_plans a b
+plans_same : (bytes : List ℕ) (d : Design) (number : ℕ) (a b : Plans) → ArePlans bytes d number a → ArePlans bytes d number b → a ≡ b
+plans_same bytes d number a b h k = same_plans a b
     (ext_get_or (pos 0) a.denominators b.denominators (h.count ∙ sym k.count) (λ e l. ap (λ (zs : List ℤ). at zs 0) (both e (rw (← h.count) l))))
     (same_matrix a.numerators b.numerators (h.cols ∙ sym k.cols) (h.rows ∙ sym k.rows) (λ e l. ap (drop 1) (both e (rw (← h.rows) l))))
   where
-    both : (e : ℕ) → e < 2 ^ d.states → at a.denominators e ∷ row_of a.numerators e ≡ at b.denominators e ∷ row_of b.numerators e
+    both : (e : ℕ) → e < number → at a.denominators e ∷ row_of a.numerators e ≡ at b.denominators e ∷ row_of b.numerators e
     both e m = same_numbers policy_rule (record_length d) (record_at (records_of bytes) e) _ _ policy_functional (h.each e m) (k.each e m)
 
-policy_one : (bytes : List ℕ) (d : Design) (e f : TextFault) → IsPolicyFault bytes d e → IsPolicyFault bytes d f → e ≡ f
-policy_one bytes d e f (inl h) (inl k) = same_first_fault policy_rule (record_length d) (records_of bytes) e f h k
-policy_one bytes d e f (inl h) (inr k) = absurd (held_or_wrong policy_rule (record_length d) (length (records_of bytes)) (records_of bytes) e (omega arith) k.each h)
-policy_one bytes d e f (inr h) (inl k) = absurd (held_or_wrong policy_rule (record_length d) (length (records_of bytes)) (records_of bytes) f (omega arith) h.each k)
-policy_one bytes d e f (inr h) (inr k) = h.told ∙ sym k.told
+plans_one : (bytes : List ℕ) (d : Design) (number : ℕ) (e f : TextFault) → IsPlansFault bytes d number e → IsPlansFault bytes d number f → e ≡ f
+plans_one bytes d number e f (inl h) (inl k) = same_first_fault policy_rule (record_length d) (records_of bytes) e f h k
+plans_one bytes d number e f (inl h) (inr k) = absurd (held_or_wrong policy_rule (record_length d) (length (records_of bytes)) (records_of bytes) e (omega arith) k.each h)
+plans_one bytes d number e f (inr h) (inl k) = absurd (held_or_wrong policy_rule (record_length d) (length (records_of bytes)) (records_of bytes) f (omega arith) h.each k)
+plans_one bytes d number e f (inr h) (inr k) = h.told ∙ sym k.told
 
-pub policy_told : (bytes : List ℕ) (d : Design) (r : Result Policy TextFault) → IfOk r (λ p. IsPolicyText bytes d (plans_of p)) → IfErr r (λ e. (e ≡ Memory) ⊎ IsPolicyFault bytes d e) →
-    ((a : Plans) → IsPolicyText bytes d a → MatchResult r (λ p. plans_of p ≡ a) (λ e. e ≡ Memory)) ×
-    ((e : TextFault) → IsPolicyFault bytes d e → MatchResult r (λ _. ⊥) (λ f. (f ≡ e) ⊎ (f ≡ Memory)))
-policy_told bytes d r found fault =
-    both_ways plans_of r (IsPolicyText bytes d) (IsPolicyFault bytes d) found fault (policy_not bytes d) (policy_same bytes d) (policy_one bytes d)
+pub plans_told : (bytes : List ℕ) (d : Design) (number : ℕ) (r : Result Policy TextFault) → IfOk r (λ p. ArePlans bytes d number (plans_of p)) → IfErr r (λ e. (e ≡ Memory) ⊎ IsPlansFault bytes d number e) →
+    ((a : Plans) → ArePlans bytes d number a → MatchResult r (λ p. plans_of p ≡ a) (λ e. e ≡ Memory)) ×
+    ((e : TextFault) → IsPlansFault bytes d number e → MatchResult r (λ _. ⊥) (λ f. (f ≡ e) ⊎ (f ≡ Memory)))
+plans_told bytes d number r found fault =
+    both_ways plans_of r (ArePlans bytes d number) (IsPlansFault bytes d number) found fault (plans_not bytes d number) (plans_same bytes d number) (plans_one bytes d number)
 
 -- the text of a policy has its sizes and ranges
 field_range : (field : List ℕ) (z : ℤ) → IsNumberField field z → IsPlanNumerator z

@@ -17,21 +17,28 @@ policy_rule i field z = IsNumberField field z × (i ≡ 0 → IsPlanDenominator 
 abbrev pub record_length : Design → ℕ
 record_length d = entries d + 1
 
--- the bytes are the text of these plans for the design
-pub record IsPolicyText (bytes : List ℕ) (d : Design) (plans : Plans) : Type 0 where
-  pub records : length (records_of bytes) ≡ 2 ^ d.states
-  pub count : length plans.denominators ≡ 2 ^ d.states
-  pub rows : length plans.numerators.rows ≡ 2 ^ d.states
+-- the bytes are the text of so many plans for the design, which are these
+pub record ArePlans (bytes : List ℕ) (d : Design) (number : ℕ) (plans : Plans) : Type 0 where
+  pub records : length (records_of bytes) ≡ number
+  pub count : length plans.denominators ≡ number
+  pub rows : length plans.numerators.rows ≡ number
   pub cols : plans.numerators.cols ≡ entries d
-  pub each : (e : ℕ) → e < 2 ^ d.states →
+  pub each : (e : ℕ) → e < number →
       HoldsNumbers policy_rule (record_length d) (record_at (records_of bytes) e) (at plans.denominators e ∷ row_of plans.numerators e)
 
--- each record is right, and there are so many of them, which isn't one for each corner
-pub record IsCountFault (rows : List (List (List ℕ))) (d : Design) (fault : TextFault) : Type 0 where
+-- each record is right, and there are so many of them, which isn't their number
+pub record IsCountFault (rows : List (List (List ℕ))) (d : Design) (number : ℕ) (fault : TextFault) : Type 0 where
   pub each : HoldUpTo policy_rule (record_length d) rows (length rows)
-  pub here : length rows ≢ 2 ^ d.states
+  pub here : length rows ≢ number
   pub told : fault ≡ Count (length rows)
 
--- the bytes are no such text, and this is their first fault: that of the first record that has one, and else the count of records
+-- the bytes are no text of so many plans, and this is their first fault: that of the first record that has one, and else the count of records
+abbrev pub IsPlansFault : List ℕ → Design → (number : ℕ) → TextFault → Type 0
+IsPlansFault bytes d number fault = IsRecordsFault policy_rule (record_length d) (records_of bytes) fault ⊎ IsCountFault (records_of bytes) d number fault
+
+-- ---- a plan for each corner of the box
+abbrev pub IsPolicyText : List ℕ → Design → Plans → Type 0
+IsPolicyText bytes d plans = ArePlans bytes d (2 ^ d.states) plans
+
 abbrev pub IsPolicyFault : List ℕ → Design → TextFault → Type 0
-IsPolicyFault bytes d fault = IsRecordsFault policy_rule (record_length d) (records_of bytes) fault ⊎ IsCountFault (records_of bytes) d fault
+IsPolicyFault bytes d fault = IsPlansFault bytes d (2 ^ d.states) fault

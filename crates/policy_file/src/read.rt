@@ -7,7 +7,7 @@ ghost use Rattle.qp_model.specs.problem.Policy.{Plans, plans_of, IsPolicyFor};
 ghost use Rattle.number_text.specs.declared.text_fault.TextFault.{TextFault};
 ghost use Rattle.number_text.specs.declared.text_fault.TextFault.TheVariants.{Memory};
 ghost use Rattle.policy_file.specs.StatesText.{IsStatesText, IsStatesFault};
-ghost use Rattle.policy_file.specs.PolicyText.{IsPolicyText, IsPolicyFault};
+ghost use Rattle.policy_file.specs.PolicyText.{IsPolicyText, IsPolicyFault, ArePlans, IsPlansFault};
 
 use crate::record::{Layout, numbers_of};
 use crate::text::all_records;
@@ -65,15 +65,42 @@ pub fn read_policy(alloc: Global, bytes: &[u8], design: &Design) -> Result<Polic
     ensures right { (plans : Plans) → IsPolicyText bytes.now (design_of design.now) plans → MatchResult result (λ p. plans_of p ≡ plans) (λ e. e ≡ Memory) }
     ensures first { (told : TextFault) → IsPolicyFault bytes.now (design_of design.now) told → MatchResult result (λ _. ⊥) (λ e. (e ≡ told) ⊎ (e ≡ Memory)) }
 {
-    policy_of(alloc, bytes, design.parts())
+    read_plans(alloc, bytes, design, corner_count(design.parts().states))
+}
+
+/// The plans of a text of `number` records, of a denominator `1 .. 2^40` and the numerators of a plan for the design, stage by stage. The text has fewer
+/// than `2^32` bytes.
+///
+/// # Errors
+/// The first fault, as of a policy. After all records `Count` where there aren't so many.
+pub fn read_plans(
+    alloc: Global,
+    bytes: &[u8],
+    design: &Design,
+    number: usize,
+) -> Result<Policy, TextFault>
+    requires { length bytes.now < 2 ^ 32 }
+    ensures found { IfOk result (λ p. ArePlans bytes.now (design_of design.now) number (plans_of p)) }
+    ensures fault { IfErr result (λ e. (e ≡ Memory) ⊎ IsPlansFault bytes.now (design_of design.now) number e) }
+
+    // The other way round, with nothing but out of memory in between.
+    ensures right { (plans : Plans) → ArePlans bytes.now (design_of design.now) number plans → MatchResult result (λ p. plans_of p ≡ plans) (λ e. e ≡ Memory) }
+    ensures first { (told : TextFault) → IsPlansFault bytes.now (design_of design.now) number told → MatchResult result (λ _. ⊥) (λ e. (e ≡ told) ⊎ (e ≡ Memory)) }
+{
+    plans_in(alloc, bytes, design.parts(), number)
 }
 
 // The same, said one way.
-fn policy_of(alloc: Global, bytes: &[u8], parts: &DesignParts) -> Result<Policy, TextFault>
+fn plans_in(
+    alloc: Global,
+    bytes: &[u8],
+    parts: &DesignParts,
+    number: usize,
+) -> Result<Policy, TextFault>
     requires small { length bytes.now < 2 ^ 32 }
     requires design { IsDesign parts.now }
-    ensures found { IfOk result (λ p. IsPolicyText bytes.now (design_of parts.now) (plans_of p)) }
-    ensures fault { IfErr result (λ e. (e ≡ Memory) ⊎ IsPolicyFault bytes.now (design_of parts.now) e) }
+    ensures found { IfOk result (λ p. ArePlans bytes.now (design_of parts.now) number (plans_of p)) }
+    ensures fault { IfErr result (λ e. (e ≡ Memory) ⊎ IsPlansFault bytes.now (design_of parts.now) number e) }
 {
     let entries = parts.stages * parts.inputs;
     let records = all_records(alloc, bytes)?;
@@ -86,7 +113,7 @@ fn policy_of(alloc: Global, bytes: &[u8], parts: &DesignParts) -> Result<Policy,
         }
         plans.push_row(alloc, &numbers[1..])?;
     }
-    if records.len() != corner_count(parts.states) {
+    if records.len() != number {
         return Err(TextFault::Count {
             entries: records.len() as u32,
         });

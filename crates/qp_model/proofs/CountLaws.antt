@@ -8,7 +8,7 @@ use Rattle.integer_algebra.specs.Sizes.{size, product_size}
 use Rattle.integer_algebra.proofs.SizeLaws.{total_size, size_same}
 use Rattle.qp_model.specs.problem.Design.{Design, CostRow, entries}
 use Rattle.qp_model.specs.problem.Trajectory.{lift}
-use Rattle.qp_model.specs.problem.Runs.{run, counted, counts, cost_run, IsTame, HasNarrowCosts, CostBoundLaw}
+use Rattle.qp_model.specs.problem.Runs.{run, counted, counts, cost_run, BoundsGrowth, HasNarrowCosts, CostBoundLaw}
 use Rattle.qp_model.proofs.RunLaws.{run_within, product_within, plan_inside}
 use Rattle.qp_model.proofs.RowLaws.{lift_power, stage_inside, remainder_inside}
 use Rattle.qp_model.proofs.SizeFacts.{size_append}
@@ -33,7 +33,7 @@ counted_all d f P hs hf c l = elim (cases_lt c (d.stages * d.stage_costs)) [
 
 -- ---- bounds
 -- a row's sum at a stage, times what lifts it
-pub cost_room : (d : Design) (alpha z width : ℕ) (x v a : ℕ → ℤ) → IsTame d alpha → size d.states a ≤ width →
+pub cost_room : (d : Design) (alpha z width : ℕ) (x v a : ℕ → ℤ) → BoundsGrowth d alpha → size d.states a ≤ width →
     ((i : ℕ) → i < d.states → unsigned_abs (x i) ≤ z) → ((j : ℕ) → j < entries d → unsigned_abs (v j) ≤ z) →
     (k : ℕ) → k ≤ d.stages → d.plant_denominator ^ (d.stages - k) * product_size d.states a (run d x v k) ≤ width * (z * alpha ^ d.stages)
 cost_room d alpha z width x v a t s hx hv k l =

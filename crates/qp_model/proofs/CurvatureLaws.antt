@@ -141,7 +141,8 @@ curvature_law d rho sound v = closed (pos (cost_scale d)) (pos rho) (pos d.cost_
     (total d.stages (λ k. total d.stage_costs (λ r. cost_term d (pos 1) none v (suc k) (untargeted (d.stage_cost r)))))
     (total d.final_costs (λ r. cost_term d (pos 1) none v d.stages (untargeted (d.final_cost r)))) _
     (scale_is d) (omega (arith, ints))
-    (total_nonneg d.stages _ (λ k l. total_nonneg d.stage_costs _ (λ r m. mul_nonneg_z (d.stage_cost r).weight (square (place (suc k) (untargeted (d.stage_cost r)))) (sound.stage_weight r m) (square_nonneg_z (place (suc k) (untargeted (d.stage_cost r)))))))
+    (total_nonneg d.stages _ (λ k l. total_nonneg d.stage_costs _
+    (λ r m. mul_nonneg_z (d.stage_cost r).weight (square (place (suc k) (untargeted (d.stage_cost r)))) (sound.stage_weight r m) (square_nonneg_z (place (suc k) (untargeted (d.stage_cost r)))))))
     (total_nonneg d.final_costs _ (λ r m. mul_nonneg_z (d.final_cost r).weight (square (place d.stages (untargeted (d.final_cost r)))) (sound.final_weight r m) (square_nonneg_z (place d.stages (untargeted (d.final_cost r))))))
     (own_part d rho sound v)
   where

@@ -25,7 +25,8 @@ use Rattle.qp_model.specs.form.Condensing.{condensed_of}
 use Rattle.qp_model.specs.form.Form.{Form, hessian_scale, EnclosesDesign, IsFormFor}
 use Rattle.qp_model.specs.problem.Policy.{Plans, IsPolicyFor, corner_denominator, corner_plan}
 use Rattle.qp_model.specs.form.Quantities.{input_floor}
-use Rattle.qp_model.specs.bounds.Excess.{IsNearBest, brought, hessian_at, linear_at, constant_at, of_plan, of_state, gradient_enclosure, step_enclosure, slope_enclosure, rise, steepness, pull, excess_at, corner_excess, at_least_none, excess_of, ExcessLaw}
+use Rattle.qp_model.specs.bounds.Excess.{IsNearBest, brought, hessian_at, linear_at, constant_at, of_plan, of_state, gradient_enclosure, step_enclosure, slope_enclosure, rise, steepness, pull}
+use Rattle.qp_model.specs.bounds.Excess.{excess_at, corner_excess, at_least_none, excess_of, ExcessLaw}
 use Rattle.qp_model.proofs.CostLaws.{condensing}
 use Rattle.qp_model.proofs.FormLaws.{exact_form_sound}
 use Rattle.qp_model.proofs.SizeFacts.{greatest_term}

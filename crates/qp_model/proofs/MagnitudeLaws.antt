@@ -31,21 +31,38 @@ abs_dot-magnitudes (x ∷ a) (y ∷ ys) (r ∷ rs) w =
 pub entry_parts_le : (c : Numbers) (state multipliers : List ℤ) (j : ℕ) → AreWithin state (state_magnitudes c) → AreWithin multipliers (clamp_magnitudes c) →
     (unsigned_abs (list_dot (row_of c.state_gains j) state) + unsigned_abs (at c.offsets j) * 2 ^ c.fraction_bits) * 2 ^ c.step_exponent + abs_dot (row_of c.dual_gains j) multipliers ≤ entry_absolute_sum c j
 entry_parts_le c state multipliers j w v =
-    let own : unsigned_abs (list_dot (row_of c.state_gains j) state) ≤ weighted_abs_sum (row_of c.state_gains j) (state_magnitudes c) = omega (arith, abs-dot_le (row_of c.state_gains j) state, abs_dot-magnitudes (row_of c.state_gains j) state (state_magnitudes c) w) in
+    let own : unsigned_abs (list_dot (row_of c.state_gains j) state) ≤ weighted_abs_sum (row_of c.state_gains j) (state_magnitudes c) =
+    omega (arith, abs-dot_le (row_of c.state_gains j) state, abs_dot-magnitudes (row_of c.state_gains j) state (state_magnitudes c) w) in
     let t = unsigned_abs (at c.offsets j) * 2 ^ c.fraction_bits in
-    omega (arith, abs_dot-magnitudes (row_of c.dual_gains j) multipliers (clamp_magnitudes c) v, mul-le (unsigned_abs (list_dot (row_of c.state_gains j) state) + t) (2 ^ c.step_exponent) (weighted_abs_sum (row_of c.state_gains j) (state_magnitudes c) + t) (2 ^ c.step_exponent) (omega (arith, own)) (le_refl (2 ^ c.step_exponent)))
+    omega (
+      arith,
+      abs_dot-magnitudes (row_of c.dual_gains j) multipliers (clamp_magnitudes c) v,
+      mul-le (unsigned_abs (list_dot (row_of c.state_gains j) state) + t) (2 ^ c.step_exponent) (weighted_abs_sum (row_of c.state_gains j) (state_magnitudes c) + t) (2 ^ c.step_exponent) (omega (arith, own)) (le_refl (2 ^ c.step_exponent)),
+    )
 
 -- the sum of a plan entry
 pub entry_sum_le : (c : Numbers) (state multipliers : List ℤ) (j : ℕ) → AreWithin state (state_magnitudes c) → AreWithin multipliers (clamp_magnitudes c) → unsigned_abs (entry_sum c state multipliers j) ≤ entry_absolute_sum c j
 entry_sum_le c state multipliers j w v =
     let scaled = (list_dot (row_of c.state_gains j) state +ℤ at c.offsets j *ℤ pos (2 ^ c.fraction_bits)) *ℤ pos (2 ^ c.step_exponent) in
-    omega (arith, abs-add_le scaled (list_dot (row_of c.dual_gains j) multipliers), abs-scaled_le (list_dot (row_of c.state_gains j) state) (at c.offsets j) c.fraction_bits c.step_exponent, abs-dot_le (row_of c.dual_gains j) multipliers, entry_parts_le c state multipliers j w v)
+    omega (
+      arith,
+      abs-add_le scaled (list_dot (row_of c.dual_gains j) multipliers),
+      abs-scaled_le (list_dot (row_of c.state_gains j) state) (at c.offsets j) c.fraction_bits c.step_exponent,
+      abs-dot_le (row_of c.dual_gains j) multipliers,
+      entry_parts_le c state multipliers j w v,
+    )
 
-plan_entry_le : (c : Numbers) (state multipliers : List ℤ) (j : ℕ) → AreWithin state (state_magnitudes c) → AreWithin multipliers (clamp_magnitudes c) → unsigned_abs (plan_entry c state multipliers j) ≤ ceil_div (entry_absolute_sum c j) (2 ^ (c.fraction_bits + c.step_exponent))
+plan_entry_le : (c : Numbers) (state multipliers : List ℤ) (j : ℕ) → AreWithin state (state_magnitudes c) → AreWithin multipliers (clamp_magnitudes c) →
+    unsigned_abs (plan_entry c state multipliers j) ≤ ceil_div (entry_absolute_sum c j) (2 ^ (c.fraction_bits + c.step_exponent))
 plan_entry_le c state multipliers j w v =
     let d = 2 ^ (c.fraction_bits + c.step_exponent) in
     let z = entry_sum c state multipliers j in
-    omega (arith, abs-neg (floor_of z d), abs-floor_le_ceil z d (pow_pos (c.fraction_bits + c.step_exponent)), ceil_div_mono (unsigned_abs z) (entry_absolute_sum c j) d (pow_pos (c.fraction_bits + c.step_exponent)) (entry_sum_le c state multipliers j w v))
+    omega (
+      arith,
+      abs-neg (floor_of z d),
+      abs-floor_le_ceil z d (pow_pos (c.fraction_bits + c.step_exponent)),
+      ceil_div_mono (unsigned_abs z) (entry_absolute_sum c j) d (pow_pos (c.fraction_bits + c.step_exponent)) (entry_sum_le c state multipliers j w v),
+    )
 
 -- two lists made by index, one within the other
 made_within : (f : ℕ → ℤ) (g : ℕ → ℕ) (n : ℕ) → ((j : ℕ) → j < n → unsigned_abs (f j) ≤ g j) → AreWithin (map f (range_with_len 0 n)) (map g (range_with_len 0 n))

@@ -7,17 +7,17 @@ use Rattle.integer_algebra.specs.Sizes.{size}
 use Rattle.integer_algebra.proofs.PowerLaws.{pow_positive}
 use Rattle.qp_model.specs.problem.Design.{Design, entries, rows}
 use Rattle.qp_model.specs.form.Quantities.{greatest, plant_width, cost_row_width, limit_row_width, growth, cost_width, limit_width, weight_sum, prediction_size, response_size, limit_entry_size}
-use Rattle.qp_model.specs.problem.Runs.{unit, bound_at, row_at, counted, counts, cost_run, IsTame, HasNarrowLimits, HasNarrowCosts}
+use Rattle.qp_model.specs.problem.Runs.{unit, bound_at, row_at, counted, counts, cost_run, BoundsGrowth, HasNarrowLimits, HasNarrowCosts}
 use Rattle.qp_model.proofs.RowLaws.{remainder_inside, row_bound_law}
 use Rattle.qp_model.proofs.CountLaws.{counted_all, counted_size, cost_bound_law}
 use Rattle.qp_model.proofs.SizeFacts.{greatest_term}
 
 -- ---- the widths
-pub tame : (d : Design) → IsTame d (growth d)
-tame d = record { denominator = omega arith; plant = λ i l. omega (arith, greatest_term i d.states (plant_width d) l) }
+pub growth_bound : (d : Design) → BoundsGrowth d (growth d)
+growth_bound d = record { denominator = omega arith; plant = λ i l. omega (arith, greatest_term i d.states (plant_width d) l) }
 
-pub slim : (d : Design) → HasNarrowCosts d (cost_width d)
-slim d = record {
+pub narrow_costs : (d : Design) → HasNarrowCosts d (cost_width d)
+narrow_costs d = record {
   stage = λ r l. omega (arith, greatest_term r d.stage_costs (λ r. cost_row_width d (d.stage_cost r)) l);
   final = λ r l. omega (arith, greatest_term r d.final_costs (λ r. cost_row_width d (d.final_cost r)) l);
 }
@@ -63,25 +63,25 @@ one : (w z : ℕ) → w * (1 * z) ≤ w * z
 one w z = omega arith
 
 pub plan_cost_size : (d : Design) (j c : ℕ) → c < counts d → unsigned_abs (counted d (cost_run d none (unit j)) c) ≤ response_size d
-plan_cost_size d j c l = last (cost_bound_law d (growth d) 1 (cost_width d) none (unit j) (tame d) (slim d) (λ i o. none_small i) (λ i o. unit_small j i) c l) (one (cost_width d) (prediction_size d))
+plan_cost_size d j c l = last (cost_bound_law d (growth d) 1 (cost_width d) none (unit j) (growth_bound d) (narrow_costs d) (λ i o. none_small i) (λ i o. unit_small j i) c l) (one (cost_width d) (prediction_size d))
   where
     last : {a b e : ℕ} → a ≤ b → b ≤ e → a ≤ e
     last {a} {b} {e} h k = omega arith
 
 pub state_cost_size : (d : Design) (j c : ℕ) → c < counts d → unsigned_abs (counted d (cost_run d (unit j) none) c) ≤ response_size d
-state_cost_size d j c l = last (cost_bound_law d (growth d) 1 (cost_width d) (unit j) none (tame d) (slim d) (λ i o. unit_small j i) (λ i o. none_small i) c l) (one (cost_width d) (prediction_size d))
+state_cost_size d j c l = last (cost_bound_law d (growth d) 1 (cost_width d) (unit j) none (growth_bound d) (narrow_costs d) (λ i o. unit_small j i) (λ i o. none_small i) c l) (one (cost_width d) (prediction_size d))
   where
     last : {a b e : ℕ} → a ≤ b → b ≤ e → a ≤ e
     last {a} {b} {e} h k = omega arith
 
 pub plan_row_size : (d : Design) (j i : ℕ) → 1 ≤ d.plant_denominator → i < rows d → unsigned_abs (row_at d none (unit j) i) ≤ limit_entry_size d
-plan_row_size d j i h l = last (row_bound_law d (growth d) 1 (limit_width d) none (unit j) h (tame d) (narrow d) (λ i o. none_small i) (λ i o. unit_small j i) i l) (one (limit_width d) (prediction_size d))
+plan_row_size d j i h l = last (row_bound_law d (growth d) 1 (limit_width d) none (unit j) h (growth_bound d) (narrow d) (λ i o. none_small i) (λ i o. unit_small j i) i l) (one (limit_width d) (prediction_size d))
   where
     last : {a b e : ℕ} → a ≤ b → b ≤ e → a ≤ e
     last {a} {b} {e} h k = omega arith
 
 pub state_row_size : (d : Design) (j i : ℕ) → 1 ≤ d.plant_denominator → i < rows d → unsigned_abs (row_at d (unit j) none i) ≤ limit_entry_size d
-state_row_size d j i h l = last (row_bound_law d (growth d) 1 (limit_width d) (unit j) none h (tame d) (narrow d) (λ i o. unit_small j i) (λ i o. none_small i) i l) (one (limit_width d) (prediction_size d))
+state_row_size d j i h l = last (row_bound_law d (growth d) 1 (limit_width d) (unit j) none h (growth_bound d) (narrow d) (λ i o. unit_small j i) (λ i o. none_small i) i l) (one (limit_width d) (prediction_size d))
   where
     last : {a b e : ℕ} → a ≤ b → b ≤ e → a ≤ e
     last {a} {b} {e} h k = omega arith

@@ -16,7 +16,7 @@ use Rattle.qp_model.specs.problem.Trajectory.{lift}
 use Rattle.qp_model.specs.problem.Residual.{stage_residual, final_residual}
 use Rattle.qp_model.specs.form.Condensing.{condensed_of}
 use Rattle.qp_model.proofs.CostLaws.{condensing}
-use Rattle.qp_model.specs.problem.Runs.{run, unit, limit_at, row_at, bound_at, IsTame, ResponseLaw, ResidualLaw, RowBoundLaw}
+use Rattle.qp_model.specs.problem.Runs.{run, unit, limit_at, row_at, bound_at, BoundsGrowth, ResponseLaw, ResidualLaw, RowBoundLaw}
 use Rattle.qp_model.proofs.RunLaws.{trajectory_run, power_run, response_run, unit_row, run_within, row_within, product_within, plan_inside, abs-mixed_le}
 
 -- ---- the last power of the denominator
@@ -116,7 +116,7 @@ response_law d g e bound h a q xi u i l =
 
 -- ---- bounds
 -- a row's sums at a stage, times what lifts them, are within the last stage's bound
-pub row_room : (d : Design) (alpha z width : ℕ) (x v : ℕ → ℤ) (a b : ℕ → ℤ) → 1 ≤ d.plant_denominator → IsTame d alpha →
+pub row_room : (d : Design) (alpha z width : ℕ) (x v : ℕ → ℤ) (a b : ℕ → ℤ) → 1 ≤ d.plant_denominator → BoundsGrowth d alpha →
     size d.states a + size d.inputs b ≤ width →
     ((i : ℕ) → i < d.states → unsigned_abs (x i) ≤ z) → ((j : ℕ) → j < entries d → unsigned_abs (v j) ≤ z) →
     (k : ℕ) → k < d.stages →

@@ -15,7 +15,7 @@ use Rattle.integer_algebra.proofs.BlockLaws.{total_single, choose_total}
 use Rattle.qp_model.specs.problem.Design.{Design, entries}
 use Rattle.qp_model.specs.problem.Trajectory.{trajectory}
 use Rattle.qp_model.specs.form.Condensing.{power, response}
-use Rattle.qp_model.specs.problem.Runs.{run, unit, IsTame, PlantRunLaw}
+use Rattle.qp_model.specs.problem.Runs.{run, unit, BoundsGrowth, PlantRunLaw}
 
 -- ---- trajectories
 pub trajectory_run : (d : Design) (q : ℤ) (xi u : ℕ → ℤ) (k i : ℕ) →
@@ -112,7 +112,7 @@ row_within n p a b x v scale z top bound h hx hv s =
 pub plan_inside : (k stages p l : ℕ) → k < stages → l < p → k * p + l < stages * p
 plan_inside k stages p l h o = omega (arith, mul-le-mul_left p h)
 
-pub run_within : (d : Design) (alpha z : ℕ) (x v : ℕ → ℤ) → IsTame d alpha →
+pub run_within : (d : Design) (alpha z : ℕ) (x v : ℕ → ℤ) → BoundsGrowth d alpha →
     ((i : ℕ) → i < d.states → unsigned_abs (x i) ≤ z) → ((j : ℕ) → j < entries d → unsigned_abs (v j) ≤ z) →
     (k i : ℕ) → k ≤ d.stages → i < d.states → unsigned_abs (run d x v k i) ≤ z * alpha ^ k
 run_within d alpha z x v t hx hv zero i l m = rw (pow-zero alpha) (omega (arith, hx i m))

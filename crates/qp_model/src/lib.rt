@@ -27,7 +27,7 @@ pub use laws::{
     trajectory_law,
 };
 pub use limits::{
-    LAST_VERSION, MOST_INPUTS, MOST_ROWS, MOST_STAGES, MOST_STATES, VERSION, most_rows,
+    FIRST_VERSION, LAST_VERSION, MOST_INPUTS, MOST_ROWS, MOST_STAGES, MOST_STATES, most_rows,
     most_stages, most_states,
 };
 pub use policy::Policy;

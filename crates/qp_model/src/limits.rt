@@ -3,7 +3,7 @@ ghost use Rattle.std.specs.Prelude.{◌≡◌};
 ghost use Rattle.qp_model.specs.problem.Limits as limits;
 
 /// The first version of the texts of a design and of a controller.
-pub const VERSION: u32 = 1;
+pub const FIRST_VERSION: u32 = 1;
 
 /// Their last version.
 pub const LAST_VERSION: u32 = 2;
@@ -24,14 +24,22 @@ pub const MOST_ROWS: usize = MOST_STAGES * 12 + 12;
 pub fn most_states(version: u32) -> usize
     ensures { result ≡ limits.most_states version }
 {
-    if version == VERSION { 4 } else { MOST_STATES }
+    if version == FIRST_VERSION {
+        4
+    } else {
+        MOST_STATES
+    }
 }
 
 /// The most stages of a version.
 pub fn most_stages(version: u32) -> usize
     ensures { result ≡ limits.most_stages version }
 {
-    if version == VERSION { 20 } else { MOST_STAGES }
+    if version == FIRST_VERSION {
+        20
+    } else {
+        MOST_STAGES
+    }
 }
 
 /// The most limit rows of a version, those of all stages and the final ones: 12 of each kind.

@@ -5,7 +5,7 @@ ghost use Rattle.qp_model.specs.problem.Rules.{AllHold, Tests, shape, range};
 ghost use Rattle.qp_model.specs.problem.PartRules.{HasSize, AreCosts, size_rules, plant_rules, cost_rules, limit_rules, box_rules, target_rules, part_rules};
 
 use crate::design_parts::DesignParts;
-use crate::limits::{LAST_VERSION, MOST_INPUTS, VERSION, most_stages, most_states};
+use crate::limits::{FIRST_VERSION, LAST_VERSION, MOST_INPUTS, most_stages, most_states};
 use crate::range::{
     are_costs, are_highs, are_limits, are_numerators, are_positive, has_numerators, is_denominator,
     is_positive, lies_in,
@@ -53,10 +53,13 @@ fn test_sizes(p: &DesignParts) -> Result<(), TextFault>
     ensures { Tests result (size_rules p.now) }
 {
     let version = p.version as usize;
-    in_range(1, lies_in(VERSION as usize, LAST_VERSION as usize, version))
-        .and(in_range(2, lies_in(1, most_states(p.version), p.states)))
-        .and(in_range(3, lies_in(1, MOST_INPUTS, p.inputs)))
-        .and(in_range(4, lies_in(1, most_stages(p.version), p.stages)))
+    in_range(
+        1,
+        lies_in(FIRST_VERSION as usize, LAST_VERSION as usize, version),
+    )
+    .and(in_range(2, lies_in(1, most_states(p.version), p.states)))
+    .and(in_range(3, lies_in(1, MOST_INPUTS, p.inputs)))
+    .and(in_range(4, lies_in(1, most_stages(p.version), p.stages)))
 }
 
 fn test_plant(p: &DesignParts) -> Result<(), TextFault>

@@ -1,9 +1,10 @@
 -- A loop stays in the box, by induction over its turns.
-use Rattle.std.proofs.Common.{◌≡◌, ℕ, zero, suc, ◌+◌, ◌-◌, ◌*◌, ◌<◌, ◌≤◌, ◌^◌, [], ◌∷◌, List, length, map, get_or, ℤ, pos, ◌+ℤ◌, ◌*ℤ◌, ◌≤ℤ◌, ◌<ℤ◌, unsigned_abs, arith, ap, sym, ◌∙◌, refl}
+use Rattle.std.proofs.Common.{◌≡◌, ℕ, zero, suc, ◌+◌, ◌-◌, ◌*◌, ◌<◌, ◌≤◌, ◌^◌, [], ◌∷◌, List, length, map, get_or, ℤ, pos, ◌+ℤ◌, ◌*ℤ◌, ◌≤ℤ◌, ◌<ℤ◌, unsigned_abs, arith, ap, sym, subst, ◌∙◌, refl}
 use Rattle.std.specs.List.{range_with_len}
 use Rattle.std.specs.Int.Signed.{≤ℤ_refl}
 use Rattle.std.proofs.lemmas.Int.{ints}
 use Rattle.std.proofs.lemmas.Nat.{pow-add}
+use Rattle.std.proofs.lemmas.List.{ext_get_or}
 use Rattle.std.proofs.lemmas.List.FromFn.{length-map-range_with_len, get_or-map-range_with_len}
 use Rattle.std.proofs.Math.Nat.{one-le-mul, mul_assoc, mul_comm}
 use Rattle.integer_algebra.specs.Sums.{at, image, none}
@@ -25,8 +26,8 @@ use Rattle.qp_model.specs.bounds.Printed.{Printed}
 use Rattle.qp_model.specs.bounds.Certified.{IsCertified, IsCertifiedAt, ExceedsAtMost}
 use Rattle.qp_model.specs.machine.Successor.{grid_scale, next_sum, next_over, successor, state_after}
 use Rattle.stay_check.specs.FirstRows.{first_row_count, first_row}
-use Rattle.stay_check.specs.Staying.{next_grid_state, ExceedsNoFirstRowBy, KeepsInBox}
-use Rattle.stay_check.specs.LoopStay.{CoversPrinted, StaysCertified, LoopStayLaw}
+use Rattle.stay_check.specs.Staying.{next_grid_state, AreShifts, ExceedsNoFirstRowBy, KeepsInBox}
+use Rattle.stay_check.specs.LoopStay.{CoversPrinted, shifted_successor, state_under, AreShiftsUpTo, IsKeptAt, LoopUnderLaw, LoopStayLaw, UnshiftedLaw}
 use Rattle.stay_check.proofs.RoundLaws.{round_mono}
 use Rattle.stay_check.proofs.FirstRowLaws.{next_state}
 use Rattle.stay_check.proofs.FaceFacts.{row_inside, denominator_small}
@@ -85,8 +86,8 @@ nearest d c xi i a s g =
 looser : (d : Design) (xi u : ℕ → ℤ) (q : ℕ) (i : ℕ) (v w : ℤ) → v ≤ℤ w → ExceedsAtMost d xi (pos q) u i v → ExceedsAtMost d xi (pos q) u i w
 looser d xi u q i v w h e = le_trans_z e (mul-le-mul_right_z (pos q) (omega (arith, ints)) (mul-le-mul_right_z (pos (residual_scale d)) (omega (arith, ints)) h))
 
-module _ (p : DesignParts) (c : Numbers) (b : Printed) (excess : ℕ → ℤ) (design : IsDesign p) (sound : IsController c) (sizes : HasSizesOf (design_of p) c)
-    (certified : IsCertified (design_of p) c b) (covers : CoversPrinted (design_of p) b excess) (keeps : KeepsInBox (design_of p) excess none none) where
+module _ (p : DesignParts) (c : Numbers) (b : Printed) (excess low high : ℕ → ℤ) (design : IsDesign p) (sound : IsController c) (sizes : HasSizesOf (design_of p) c)
+    (certified : IsCertified (design_of p) c b) (covers : CoversPrinted (design_of p) b excess) (keeps : KeepsInBox (design_of p) excess low high) where
   grid_state : (xi : List ℤ) → IsAdmissible c xi → IsGridState (design_of p) (at xi)
   grid_state xi h i l =
       let in_c : i < c.states = omega (arith, l, sizes.states) in
@@ -96,41 +97,67 @@ module _ (p : DesignParts) (c : Numbers) (b : Printed) (excess : ℕ → ℤ) (d
   pub certified_at : (xi : List ℤ) → IsAdmissible c xi → IsCertifiedAt (design_of p) c b xi
   certified_at xi h = certified xi (h.long ∙ sizes.states) (grid_state xi h)
 
-  turn : (xi : List ℤ) → IsAdmissible c xi → IsGridState (design_of p) (λ i. round_of (next_sum (design_of p) c xi i) (next_over (design_of p) c))
-  turn xi h i l =
+  turn : (xi : List ℤ) (shift : ℕ → ℤ) → IsAdmissible c xi → AreShifts (design_of p) low high shift →
+      IsGridState (design_of p) (λ i. round_of (next_sum (design_of p) c xi i) (next_over (design_of p) c) +ℤ shift i)
+  turn xi shift h within i l =
       let q = average_denominator c in
       let form = sound.form.sized in
       let some : 1 ≤ q = one-le-mul form.steps.0 (pow_positive 2 c.fraction_bits (omega arith)) in
       let rows_kept = (certified_at xi h).plan.rows in
       let near = nearest (design_of p) c xi i (denominator_small p.plant_den design.plant_den).0 form sizes.grid in
-      let kept = keeps (pos q) (at xi) (at (averaged_plan c xi)) none (omega (arith, ints, some)) (grid_state xi h)
+      let kept = keeps (pos q) (at xi) (at (averaged_plan c xi)) shift (omega (arith, ints, some)) (grid_state xi h)
       (λ r m. (let row = row_inside p r design m in looser (design_of p) (at xi) (at (averaged_plan c xi)) q (first_row (design_of p) r).row _ _ (covers _ row) (rows_kept _ row)))
-      (λ j m. (≤ℤ_refl (pos 0), ≤ℤ_refl (pos 0))) i l in
-      (unshifted_low _ _ _ near kept.0, unshifted_high _ _ _ near kept.1)
+      within i l in
+      (shifted_low _ _ (shift i) _ near kept.0, shifted_high _ _ (shift i) _ near kept.1)
     where
-      unshifted_low : (x y z : ℤ) → x ≡ y → z ≤ℤ (x +ℤ pos 0) → z ≤ℤ y
-      unshifted_low x y z e h = omega (arith, ints, e, h)
+      shifted_low : (x y s z : ℤ) → x ≡ y → z ≤ℤ (x +ℤ s) → z ≤ℤ (y +ℤ s)
+      shifted_low x y s z e h = omega (arith, ints, e, h)
 
-      unshifted_high : (x y z : ℤ) → x ≡ y → (x +ℤ pos 0) ≤ℤ z → y ≤ℤ z
-      unshifted_high x y z e h = omega (arith, ints, e, h)
+      shifted_high : (x y s z : ℤ) → x ≡ y → (x +ℤ s) ≤ℤ z → (y +ℤ s) ≤ℤ z
+      shifted_high x y s z e h = omega (arith, ints, e, h)
 
-  next_inside : (xi : List ℤ) → IsAdmissible c xi → IsAdmissible c (successor (design_of p) c xi)
-  next_inside xi h = record {
-    long = length-map-range_with_len (λ i. round_of (next_sum (design_of p) c xi i) (next_over (design_of p) c)) 0 p.states ∙ sym sizes.states;
+  next_inside : (xi : List ℤ) (shift : ℕ → ℤ) → IsAdmissible c xi → AreShifts (design_of p) low high shift → IsAdmissible c (shifted_successor (design_of p) c xi shift)
+  next_inside xi shift h within = record {
+    long = length-map-range_with_len (λ i. at (successor (design_of p) c xi) i +ℤ shift i) 0 p.states ∙ sym sizes.states;
     each = λ i l. (
         let in_d : i < p.states = omega (arith, l, sizes.states) in
+        let outer = get_or-map-range_with_len (λ i. at (successor (design_of p) c xi) i +ℤ shift i) 0 p.states i i (pos 0) in_d (omega arith) in
         let value = get_or-map-range_with_len (λ i. round_of (next_sum (design_of p) c xi i) (next_over (design_of p) c)) 0 p.states i i (pos 0) in_d (omega arith) in
-        let t = turn xi h i in_d in
-        record { low = rw (value, sizes.low i in_d) t.0; high = rw (value, sizes.high i in_d) t.1 }
+        let t = turn xi shift h within i in_d in
+        record { low = rw (outer, value, sizes.low i in_d) t.0; high = rw (outer, value, sizes.high i in_d) t.1 }
         );
   }
 
-  inside : (start : List ℤ) → IsAdmissible c start → (turns : ℕ) → IsAdmissible c (state_after (design_of p) c start turns)
-  unfolding state_after
-  inside start h zero = h
-  inside start h (suc k) = next_inside (state_after (design_of p) c start k) (inside start h k)
+  inside : (start : List ℤ) → IsAdmissible c start → (shifts : ℕ → ℕ → ℤ) → (turns : ℕ) → AreShiftsUpTo (design_of p) low high shifts turns →
+      IsAdmissible c (state_under (design_of p) c start shifts turns)
+  unfolding state_under
+  inside start h shifts zero within = h
+  inside start h shifts (suc k) within =
+      next_inside (state_under (design_of p) c start shifts k) (shifts k) (inside start h shifts k (λ j l. within j (omega (arith, l)))) (within k (omega arith))
+
+pub loop_under_law : LoopUnderLaw
+loop_under_law p c b excess low high design sound sizes certified covers keeps start h shifts turns within =
+    let here = inside p c b excess low high design sound sizes certified covers keeps start h shifts turns within in
+    record { inside = here; certified = certified_at p c b excess low high design sound sizes certified covers keeps (state_under (design_of p) c start shifts turns) here }
+
+-- ---- without shifts
+plain : (z : ℤ) → z +ℤ pos 0 ≡ z
+plain z = omega (arith, ints)
+
+unshifted_successor : (d : Design) (c : Numbers) (xi : List ℤ) → shifted_successor d c xi none ≡ successor d c xi
+unshifted_successor d c xi =
+    let f : ℕ → ℤ = λ i. round_of (next_sum d c xi i) (next_over d c) in
+    let g : ℕ → ℤ = λ i. at (successor d c xi) i +ℤ pos 0 in
+    ext_get_or (pos 0) (shifted_successor d c xi none) (successor d c xi)
+    (length-map-range_with_len g 0 d.states ∙ sym (length-map-range_with_len f 0 d.states))
+    (λ i l. (let m : i < d.states = omega (arith, l, length-map-range_with_len g 0 d.states) in get_or-map-range_with_len g 0 d.states i i (pos 0) m (omega arith) ∙ plain (at (successor d c xi) i)))
+
+pub unshifted : UnshiftedLaw
+unfolding state_under state_after
+unshifted d c start zero = refl
+unshifted d c start (suc k) = unshifted_successor d c (state_under d c start (λ k. none) k) ∙ ap (successor d c) (unshifted d c start k)
 
 pub loop_stay_law : LoopStayLaw
 loop_stay_law p c b excess design sound sizes certified covers keeps start h turns =
-    let here = inside p c b excess design sound sizes certified covers keeps start h turns in
-    record { inside = here; certified = certified_at p c b excess design sound sizes certified covers keeps (state_after (design_of p) c start turns) here }
+    subst (IsKeptAt (design_of p) c b) (unshifted (design_of p) c start turns)
+    (loop_under_law p c b excess none none design sound sizes certified covers keeps start h (λ k. none) turns (λ k l i m. (≤ℤ_refl (pos 0), ≤ℤ_refl (pos 0))))

@@ -11,11 +11,11 @@ use Rattle.stay_check.specs.declared.rows.Column.{Column}
 use Rattle.stay_check.specs.declared.rows.Column.TheVariants.{State, Input}
 
 -- what the coordinate of a face and the first rows, each times its weight, have of a column
-abbrev pub rows_size : Design → Face → Column → ℕ
-rows_size d f x = amount (first_row_count d) (λ r. unsigned_abs (f.weight r) * unsigned_abs (coefficient (first_row d r) x))
+abbrev pub weighted_rows_size : Design → Face → Column → ℕ
+weighted_rows_size d f x = amount (first_row_count d) (λ r. unsigned_abs (f.weight r) * unsigned_abs (coefficient (first_row d r) x))
 
 abbrev pub coefficient_size : Design → Face → Column → ℕ
-coefficient_size d f x = f.factor * unsigned_abs (plant_at d f.coordinate x) + rows_size d f x
+coefficient_size d f x = f.factor * unsigned_abs (plant_at d f.coordinate x) + weighted_rows_size d f x
 
 -- what the rows leave
 abbrev pub left_term : Design → (excess : ℕ → ℤ) → Face → ℕ → ℕ

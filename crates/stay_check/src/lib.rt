@@ -13,5 +13,5 @@ mod sums;
 pub use check::{check_faces, check_faces_under};
 pub use faces::Faces;
 pub use fault::StayFault;
-pub use laws::{loop_stay_law, stay_law};
+pub use laws::{loop_stay_law, loop_under_law, stay_law};
 pub use read::read_faces;

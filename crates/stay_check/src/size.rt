@@ -9,7 +9,7 @@ ghost use Rattle.stay_check.specs.FirstRows.{first_row_count};
 ghost use Rattle.stay_check.specs.FaceForms.{AreFacesFor, faces_of, face_of, reach_over};
 ghost use Rattle.stay_check.specs.Columns.{IsColumn};
 ghost use Rattle.stay_check.specs.declared.rows.Column.TheVariants.{State, Input};
-ghost use Rattle.stay_check.specs.StaySize.{rows_size, coefficient_size, left_term, left_size, reach_size, face_size, stay_size};
+ghost use Rattle.stay_check.specs.StaySize.{weighted_rows_size, coefficient_size, left_term, left_size, reach_size, face_size, stay_size};
 
 use crate::faces::Faces;
 use crate::rows::{Column, coefficient, first_bound, first_excess, first_row_count, plant_at};
@@ -20,12 +20,12 @@ use qp_model::{DesignParts, box_magnitude};
 const ONE: u128 = 1 << 40;
 
 // What the rows of face `e` have of a column at most.
-fn rows_size(parts: &DesignParts, faces: &Faces, e: usize, column: Column) -> u128
+fn weighted_rows_size(parts: &DesignParts, faces: &Faces, e: usize, column: Column) -> u128
     requires design { IsDesign parts.now }
     requires faces { AreFacesFor (design_of parts.now) (faces_of faces.now) }
     requires face { e < 2 * parts.now.states }
     requires column { IsColumn (design_of parts.now) column }
-    ensures value { result ≡ rows_size (design_of parts.now) (face_of (faces_of faces.now) e) column }
+    ensures value { result ≡ weighted_rows_size (design_of parts.now) (face_of (faces_of faces.now) e) column }
     ensures small { result ≤ 2 ^ 102 }
 {
     let mut sum = 0;
@@ -46,7 +46,7 @@ fn coefficient_size(parts: &DesignParts, faces: &Faces, e: usize, column: Column
     ensures small { result ≤ 2 ^ 103 }
 {
     let own = plant_at(parts, e / 2, column).unsigned_abs();
-    faces.kappa[e].unsigned_abs() * own + rows_size(parts, faces, e, column)
+    faces.kappa[e].unsigned_abs() * own + weighted_rows_size(parts, faces, e, column)
 }
 
 // Of all states.

@@ -15,7 +15,7 @@ use Rattle.qp_model.specs.problem.Parts.{IsDesign, design_of}
 use Rattle.qp_model.specs.form.Quantities.{greatest, input_floor}
 use Rattle.qp_model.specs.form.Form.{Form, spread_of}
 use Rattle.qp_model.specs.bounds.Errors as errors
-use Rattle.qp_model.specs.bounds.Errors.{pull, combined_bound, trace_sum, gradient_squares, gradient_error, error_sums_of, error_size, state_bound, linear_sum, constant_sum, plan_row_sum}
+use Rattle.qp_model.specs.bounds.Errors.{plan_pull, combined_bound, trace_sum, gradient_squares, gradient_error, error_sums_of, error_size, state_bound, linear_sum, constant_sum, plan_row_sum}
 use Rattle.qp_model.proofs.SizeFacts.{some_entry, some_row, positive}
 use Rattle.condensed_form.specs.Form.{IsFormIn, held}
 use Rattle.condensed_form.specs.declared.condensed.Condensed.{Condensed}
@@ -159,12 +159,12 @@ pub record AreWithin (d : Design) (h : Form) (r : ℕ) : Type 0 where
   pub squares : gradient_squares d (gradient_error d h r) ≤ 2 ^ 126
   pub weighed : d.cost_denominator * gradient_squares d (gradient_error d h r) ≤ 2 ^ 126
   pub pulling : state_bound d * linear_sum h + constant_sum h + 2 * r * plan_row_sum h ≤ 2 ^ 126
-  pub pulled : pull d h r ≤ 2 ^ 126
+  pub pulled : plan_pull d h r ≤ 2 ^ 126
   pub tail : d.cost_denominator * combined_bound d r * trace_sum h ≤ 2 ^ 126
 
 pub within : (d : Design) (h : Form) (r : ℕ) → 1 ≤ d.cost_denominator → 1 ≤ h.spread → error_size d h r ≤ 2 ^ 126 → AreWithin d h r
 within d h r some spread room =
-    let parts = apart (pull d h r) (d.cost_denominator * combined_bound d r * trace_sum h) (d.cost_denominator * gradient_squares d (gradient_error d h r)) _
+    let parts = apart (plan_pull d h r) (d.cost_denominator * combined_bound d r * trace_sum h) (d.cost_denominator * gradient_squares d (gradient_error d h r)) _
     (factor (pow_positive h.spread 2 spread) (first_of _ _ _ _ _ _ _ room)) in
     record {
       squares = factor some parts.2;
@@ -199,18 +199,18 @@ top_small r k h o = let b = mul-le-mul (mul-le-mul_left 2 h) o in omega (arith, 
 -- the numbers that the code gathers are those of a form
 pub record AreOf (w : Whole) (d : Design) (h : Form) (r : ℕ) : Type 0 where
   pub squares : w.squares ≡ d.cost_denominator * gradient_squares d (gradient_error d h r)
-  pub pull : w.pull ≡ pull d h r
+  pub plan_pull : w.plan_pull ≡ plan_pull d h r
   pub sums : sums_by w ≡ error_sums_of d h r
 
-pub sums_are : (w : Whole) (d : Design) (h : Form) (r : ℕ) → w.squares ≡ d.cost_denominator * gradient_squares d (gradient_error d h r) → w.pull ≡ pull d h r →
+pub sums_are : (w : Whole) (d : Design) (h : Form) (r : ℕ) → w.squares ≡ d.cost_denominator * gradient_squares d (gradient_error d h r) → w.plan_pull ≡ plan_pull d h r →
     w.tail ≡ d.cost_denominator * combined_bound d r * trace_sum h → w.y_rows ≡ 2 * r * rows d → w.nu ≡ entries d → w.n_box ≡ d.states * state_bound d →
     w.rho ≡ input_floor d → w.x_box ≡ state_bound d → w.y_top ≡ 2 * r → w.weight_den ≡ d.cost_denominator → AreRadii d h w.radii → AreOf w d h r
-sums_are w d h r squares pull tail top entries box rho state most weight radii = record {
+sums_are w d h r squares plan_pull tail top entries box rho state most weight radii = record {
   squares = squares;
-  pull = pull;
+  plan_pull = plan_pull;
   sums = λ i. record {
     first = ceil_div (squares i) (2 * rho i);
-    lead = ceil_div (pull i) (2 * rho i);
+    lead = ceil_div (plan_pull i) (2 * rho i);
     tail = tail i;
     top_rows = top i;
     plan_entries = entries i;
@@ -232,16 +232,16 @@ sums_are w d h r squares pull tail top entries box rho state most weight radii =
 }
 
 -- they fit
-pub room_of : (w : Whole) (p : DesignParts) (h : Form) (r : ℕ) → IsDesign p → 1 ≤ r → r ≤ 2 ^ 44 → w.x_box ≤ 2 ^ 31 → w.squares ≤ 2 ^ 126 → w.pull ≤ 2 ^ 126 → w.tail ≤ 2 ^ 126 →
+pub room_of : (w : Whole) (p : DesignParts) (h : Form) (r : ℕ) → IsDesign p → 1 ≤ r → r ≤ 2 ^ 44 → w.x_box ≤ 2 ^ 31 → w.squares ≤ 2 ^ 126 → w.plan_pull ≤ 2 ^ 126 → w.tail ≤ 2 ^ 126 →
     HaveRoom w.radii → AreOf w (design_of p) h r → HasErrorRoom w
-room_of w p h r design some narrow near squares pull tail radii is =
+room_of w p h r design some narrow near squares plan_pull tail radii is =
     let small = few p design in
     let floor = floor_range p design in
     let e = is.sums in
     let state = ap (λ (s : errors.ErrorSums). s.state) e in
     record {
       squares = squares;
-      pull = pull;
+      plan_pull = plan_pull;
       tail = tail;
       rows_some = rw (ap (λ (s : errors.ErrorSums). s.top_rows) e) (one-le-mul (doubled r some) (some_row p design));
       rows = rw (ap (λ (s : errors.ErrorSums). s.top_rows) e) (top_small r _ narrow small.rows);
@@ -262,8 +262,8 @@ room_of w p h r design some narrow near squares pull tail radii is =
     twice {r} h = omega (arith, h)
 
 -- the quantity by them
-pub size_of : (w : Whole) (d : Design) (h : Form) (r : ℕ) → AreOf w d h r → size_by w.squares w.pull (sums_by w) ≡ error_size d h r
-size_of w d h r is = (λ i. size_by (is.squares i) (is.pull i) (is.sums i)) ∙ turned _ _ _ _ _ _ _
+pub size_of : (w : Whole) (d : Design) (h : Form) (r : ℕ) → AreOf w d h r → size_by w.squares w.plan_pull (sums_by w) ≡ error_size d h r
+size_of w d h r is = (λ i. size_by (is.squares i) (is.plan_pull i) (is.sums i)) ∙ turned _ _ _ _ _ _ _
   where
     turned : (x a b c e f g : ℕ) → x + (a + b + c + e + f + g) ≡ x + a + b + c + e + f + g
     turned x a b c e f g = omega arith

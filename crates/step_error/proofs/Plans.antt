@@ -24,7 +24,7 @@ use Rattle.qp_model.specs.machine.Machine.{plan_entry}
 use Rattle.qp_model.specs.form.Columns.{solve_matrix, solve_column, columns}
 use Rattle.qp_model.specs.form.Form.{Form, IsFormFor, farthest}
 use Rattle.qp_model.specs.form.Quantities.{input_floor}
-use Rattle.qp_model.specs.bounds.Errors.{state_bound, combined_bound, linear_sum, constant_sum, plan_row_sum, trace_sum, pull, error_sums_of, plan_bound}
+use Rattle.qp_model.specs.bounds.Errors.{state_bound, combined_bound, linear_sum, constant_sum, plan_row_sum, trace_sum, plan_pull, error_sums_of, plan_bound}
 use Rattle.qp_model.specs.bounds.Built.{gain_column, HasSizesOf, IsDerivedFrom}
 use Rattle.step_error.specs.Machine.{pulls}
 use Rattle.step_error.proofs.Gains.{over_columns, own_pull, row_pull, plan_entry_is}
@@ -234,7 +234,7 @@ plan_small d h r c x l form made shaped reached sound condensed j inside =
     (let o = pow_positive 2 c.fraction_bits (omega arith) in omega (arith, ints, o))
     (total_nonneg (entries d) (λ j. solve_matrix h j j) diagonal) (omega (arith, ints)) (omega (arith, ints)) (omega (arith, ints)) main
     (weight_le d h r c x l made.sizes reached form) (trace_le d h form.matrix_factor form.hessian_some) reach_le rounding_le
-    (rounded_up (pull d (counted d h) r) (2 * input_floor d) (let o = sound.rho_positive in omega (arith, o))) extra_le)
+    (rounded_up (plan_pull d (counted d h) r) (2 * input_floor d) (let o = sound.rho_positive in omega (arith, o))) extra_le)
   where
     column_in : (i : ℕ) → i < c.states + 1 + c.rows → i < columns (counted d h)
     column_in i h = omega (arith, h, made.sizes.states, made.sizes.rows)

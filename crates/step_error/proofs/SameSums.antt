@@ -7,7 +7,8 @@ use Rattle.qp_model.specs.problem.Design.{Design, entries}
 use Rattle.qp_model.specs.form.Form.{Form, HaveSameNumbers, farthest, hessian_radii, linear_radii, plan_radii, state_radii, column_radii}
 use Rattle.qp_model.specs.form.Quantities.{greatest, input_floor}
 use Rattle.qp_model.specs.bounds.Errors as errors
-use Rattle.qp_model.specs.bounds.Errors.{linear_sum, constant_sum, plan_row_sum, trace_sum, combined_bound, gradient_error, gradient_squares, first_cost, pull, error_sums_of, error_size, state_bound, plan_bound, residual_error, radius_error, row_radii}
+use Rattle.qp_model.specs.bounds.Errors.{linear_sum, constant_sum, plan_row_sum, trace_sum, combined_bound, gradient_error, gradient_squares, first_cost, plan_pull, error_sums_of, error_size, state_bound}
+use Rattle.qp_model.specs.bounds.Errors.{plan_bound, residual_error, radius_error, row_radii}
 use Rattle.qp_model.proofs.SizeFacts.{greatest_same}
 
 pub amount_over : (m n : ℕ) (f g : ℕ → ℕ) → m ≡ n → ((i : ℕ) → i < n → f i ≡ g i) → amount m f ≡ amount n g
@@ -53,7 +54,7 @@ module _ (d : Design) (h k : Form) (same : HaveSameNumbers h k) (count : k.entri
   squares : (r : ℕ) → gradient_squares d (gradient_error d h r) ≡ gradient_squares d (gradient_error d k r)
   squares r = amount_same (entries d) _ _ (λ j l. ap (λ (n : ℕ). n ^ 2) (error r j (rw count l)))
 
-  pulled : (r : ℕ) → pull d h r ≡ pull d k r
+  pulled : (r : ℕ) → plan_pull d h r ≡ plan_pull d k r
   pulled r = λ t. d.cost_denominator * (state_bound d * linear t + constant t + 2 * r * plan_rows t)
 
   pub sums_same : (r : ℕ) → error_sums_of d h r ≡ error_sums_of d k r

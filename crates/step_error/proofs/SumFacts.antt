@@ -17,7 +17,7 @@ use Rattle.qp_model.specs.problem.Parts.{IsDesign, design_of}
 use Rattle.qp_model.specs.form.Form.{Form, IsFormFor, spread_of}
 use Rattle.qp_model.specs.form.Quantities.{input_floor}
 use Rattle.qp_model.specs.bounds.Errors as errors
-use Rattle.qp_model.specs.bounds.Errors.{plan_bound, residual_error, radius_error, row_radii, errors_cost, error_sums_of, error_size, pull, gradient_error, gradient_squares}
+use Rattle.qp_model.specs.bounds.Errors.{plan_bound, residual_error, radius_error, row_radii, errors_cost, error_sums_of, error_size, plan_pull, gradient_error, gradient_squares}
 use Rattle.qp_model.proofs.SizeFacts.{some_row, some_entry, positive}
 use Rattle.qp_model.proofs.SoundLaws.{least-met, weight_at}
 use Rattle.qp_model.proofs.VersionLaws.{design_states_le, design_stages_le}
@@ -119,7 +119,7 @@ design_bounded p h r design form some room =
       row_scale = positive p.limit_den design.limit_den.low;
       spread_some = spread.0;
       spread_few = spread.1;
-      room = close _ _ s.top_rows (residual_error s plan) _ _ _ _ _ _ (less_spread s.spread (pull d h r + s.tail + d.cost_denominator * gradient_squares d (gradient_error d h r)) s.first (s.top_rows * residual_error s plan) spread.0 spread.1) room;
+      room = close _ _ s.top_rows (residual_error s plan) _ _ _ _ _ _ (less_spread s.spread (plan_pull d h r + s.tail + d.cost_denominator * gradient_squares d (gradient_error d h r)) s.first (s.top_rows * residual_error s plan) spread.0 spread.1) room;
     }
   where
     close : (x t m n a b c e f g : ℕ) → x + 2 ^ 40 * (m * n) ≤ t → t + a + b + c + e + f + g ≤ 2 ^ 126 →
@@ -313,12 +313,12 @@ four_is f = let e : 2 * f ≡ f + f = omega arith in rw e (pow-add 2 f f ∙ sym
 pub kept : (o : Option ℕ) {a b : ℕ} → a ≡ b → SomeIff o (a ≤ 2 ^ 126) a → SomeIff o (b ≤ 2 ^ 126) b
 kept o e h = subst (λ n. SomeIff o (n ≤ 2 ^ 126) n) e h
 
-pub plan_is : (w : Whole) (k lead push : ℕ) → 1 ≤ w.rho → k ≡ spread_of w.radii.fine → lead ≡ div_ceil w.pull (2 * w.rho) → push ≡ div_ceil w.tail (4 * w.rho) →
+pub plan_is : (w : Whole) (k lead push : ℕ) → 1 ≤ w.rho → k ≡ spread_of w.radii.fine → lead ≡ div_ceil w.plan_pull (2 * w.rho) → push ≡ div_ceil w.tail (4 * w.rho) →
     k * (lead + push) + 1 ≡ plan_bound (sums_by w) 0
 plan_is w k lead push some e g h =
     let two : 0 < 2 * w.rho = omega (arith, some) in
     let four : 0 < 4 * w.rho = omega (arith, some) in
-    let a : lead ≡ ceil_div w.pull (2 * w.rho) = quotient_is _ _ _ w.pull (2 * w.rho) two g refl refl in
+    let a : lead ≡ ceil_div w.plan_pull (2 * w.rho) = quotient_is _ _ _ w.plan_pull (2 * w.rho) two g refl refl in
     let b : push ≡ ceil_div w.tail (4 * w.rho) = quotient_is _ _ _ w.tail (4 * w.rho) four h refl refl in
     (λ i. e i * (a i + b i) + 1)
 

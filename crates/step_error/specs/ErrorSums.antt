@@ -112,7 +112,7 @@ pub record AreRadii (d : Design) (h : Form) (r : Radii) : Type 0 where
 abbrev pub sums_by : Whole → errors.ErrorSums
 sums_by w = record {
   first = ceil_div w.squares (2 * w.rho);
-  lead = ceil_div w.pull (2 * w.rho);
+  lead = ceil_div w.plan_pull (2 * w.rho);
   tail = w.tail;
   top_rows = w.y_rows;
   plan_entries = w.nu;
@@ -147,7 +147,7 @@ pub record HaveRoom (r : Radii) : Type 0 where
 
 pub record HasErrorRoom (w : Whole) : Type 0 where
   pub squares : w.squares ≤ 2 ^ 126
-  pub pull : w.pull ≤ 2 ^ 126
+  pub plan_pull : w.plan_pull ≤ 2 ^ 126
   pub tail : w.tail ≤ 2 ^ 126
   pub rows_some : 1 ≤ w.y_rows
   pub rows : w.y_rows ≤ 2 ^ 60
@@ -164,12 +164,12 @@ pub record HasErrorRoom (w : Whole) : Type 0 where
   pub radii : HaveRoom w.radii
 
 -- the two parts of the quantity `error` by the same numbers, for a bound on the plan's entries
-abbrev pub rounding_size : (squares pull : ℕ) → errors.ErrorSums → (plan : ℕ) → ℕ
-rounding_size squares pull s plan = s.spread ^ 2 * (pull + s.tail + squares + 2 ^ 40 * (s.first + s.top_rows * residual_error s plan))
+abbrev pub rounding_size : (squares plan_pull : ℕ) → errors.ErrorSums → (plan : ℕ) → ℕ
+rounding_size squares plan_pull s plan = s.spread ^ 2 * (plan_pull + s.tail + squares + 2 ^ 40 * (s.first + s.top_rows * residual_error s plan))
 
 abbrev pub radius_size : errors.ErrorSums → (plan : ℕ) → ℕ
 radius_size s plan = s.weight_scale * s.plan_entries * radius_error s plan ^ 2
     + plan * s.hessian_radius + s.state * s.linear_radius + s.constant_radius + s.top * s.column_radius + s.top * row_radii s plan
 
-abbrev pub size_by : (squares pull : ℕ) → errors.ErrorSums → ℕ
-size_by squares pull s = rounding_size squares pull s (plan_bound s 0) + radius_size s (plan_bound s 0)
+abbrev pub size_by : (squares plan_pull : ℕ) → errors.ErrorSums → ℕ
+size_by squares plan_pull s = rounding_size squares plan_pull s (plan_bound s 0) + radius_size s (plan_bound s 0)

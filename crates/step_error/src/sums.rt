@@ -106,7 +106,7 @@ fn sums_of(c: &Condensed, parts: &DesignParts, r: u128) -> Option<ErrorSums>
     let squares = gradient_squares(&c.hess, &c.hess_rad, hess_den, combined)?;
     let whole = Whole {
         squares: limited_product(weight_den, squares)?,
-        pull: limited_product(weight_den, pull_of(&sizes, r)?)?,
+        plan_pull: limited_product(weight_den, pull_of(&sizes, r)?)?,
         tail: limited_product(weight_den * combined, sizes.trace)?,
         y_rows,
         nu: c.hess.rows() as u128,
@@ -170,7 +170,7 @@ fn products(a: u128, b: u128, c: u128, d: u128) -> Option<u128>
 // What the states, the constant and the multipliers pull a plan by, over the least input weight. None where it is above `2^126`.
 fn pull_of(sizes: &Sizes, r: u128) -> Option<u128>
     requires { r ≤ 2 ^ 44 }
-    ensures { let pull = sizes.now.state * sizes.now.linear + sizes.now.constant + 2 * r * sizes.now.rows in SomeIff result (pull ≤ 2 ^ 126) pull }
+    ensures { let plan_pull = sizes.now.state * sizes.now.linear + sizes.now.constant + 2 * r * sizes.now.rows in SomeIff result (plan_pull ≤ 2 ^ 126) plan_pull }
 {
     limited_sum(
         products(sizes.state, sizes.linear, 2 * r, sizes.rows)?,
@@ -216,7 +216,7 @@ fn gradient_squares(hess: &Mat, radii: &Mat, scale: u128, combined: u128) -> Opt
 #[derive(Clone, Copy)]
 struct Whole {
     squares: u128,
-    pull: u128,
+    plan_pull: u128,
     tail: u128,
     y_rows: u128,
     nu: u128,
@@ -237,9 +237,9 @@ impl Whole {
     // The quantity `error`. None where it is above `2^126`.
     fn size(&self) -> Option<u128>
         requires { HasErrorRoom self.now }
-        ensures { let size = size_by self.now.squares self.now.pull (sums_by self.now) in SomeIff result (size ≤ 2 ^ 126) size }
+        ensures { let size = size_by self.now.squares self.now.plan_pull (sums_by self.now) in SomeIff result (size ≤ 2 ^ 126) size }
     {
-        let lead = self.pull.div_ceil(2 * self.rho);
+        let lead = self.plan_pull.div_ceil(2 * self.rho);
         let plan = spread(self.radii.fine) * (lead + self.tail.div_ceil(4 * self.rho)) + 1;
         limited_sum(self.rounding_size(plan)?, self.radius_size(plan)?)
     }
@@ -247,12 +247,12 @@ impl Whole {
     // Its part by rounding, where the plan's entries are within `plan`. None where it is above `2^126`.
     fn rounding_size(&self, plan: u128) -> Option<u128>
         requires { HasErrorRoom self.now }
-        ensures { let size = rounding_size self.now.squares self.now.pull (sums_by self.now) plan in SomeIff result (size ≤ 2 ^ 126) size }
+        ensures { let size = rounding_size self.now.squares self.now.plan_pull (sums_by self.now) plan in SomeIff result (size ≤ 2 ^ 126) size }
     {
         let first = self.squares.div_ceil(2 * self.rho);
         let residual = limited_product(self.nu, plan)? + self.n_box + 3;
         let errors = first + limited_product(self.y_rows, residual)?;
-        let parts = self.pull + self.tail + self.squares;
+        let parts = self.plan_pull + self.tail + self.squares;
         let spread = spread(self.radii.fine);
         limited_product(
             spread * spread,
@@ -294,7 +294,7 @@ impl Whole {
         let radii = &self.radii;
         ErrorSums {
             first: self.squares.div_ceil(2 * self.rho) as i128,
-            lead: self.pull.div_ceil(2 * self.rho) as i128,
+            lead: self.plan_pull.div_ceil(2 * self.rho) as i128,
             tail: self.tail as i128,
             y_rows: self.y_rows as i128,
             nu: self.nu as i128,

@@ -4,7 +4,7 @@ use Rattle.std.specs.Prelude.{slice_get}
 use Rattle.std.specs.List.{AllByRecursion}
 use Rattle.std.proofs.lemmas.List.{length-map, length-append, length-replicate, take_at, drop_at, drop-drop, drop_more, get_or-map}
 use Rattle.text_lines.specs.Lines.{Keyed, keyed_line, Place, place, place_of}
-use Rattle.text_lines.specs.Blocks.{Block, block_places, chained, row_lines, spread, total_rows, Row, seen}
+use Rattle.text_lines.specs.Blocks.{Block, block_places, chained, row_lines, spread, total_rows, Row, blocks_of}
 
 -- ---- a line in its place
 
@@ -57,7 +57,8 @@ block_is [] (t ∷ ts) k d e lt = absurd (cc e)
 block_is (b ∷ bs) (t ∷ ts) zero d e lt = take_at b (chained bs) t.1 (ap (λ (ns : List ℕ). get_or ns 0 0) e)
 block_is (b ∷ bs) (t ∷ ts) (suc k) d e lt =
     let len : length b ≡ t.1 = ap (λ (ns : List ℕ). get_or ns 0 0) e in
-    let rest : drop (t.1 + total_rows (take k ts)) (b ++ chained bs) ≡ drop (total_rows (take k ts)) (chained bs) = sym (drop-drop (total_rows (take k ts)) t.1 (b ++ chained bs)) ∙ ap (drop (total_rows (take k ts))) (drop_at b (chained bs) t.1 len) in
+    let rest : drop (t.1 + total_rows (take k ts)) (b ++ chained bs) ≡ drop (total_rows (take k ts)) (chained bs) =
+    sym (drop-drop (total_rows (take k ts)) t.1 (b ++ chained bs)) ∙ ap (drop (total_rows (take k ts))) (drop_at b (chained bs) t.1 len) in
     ap (take (get_or ts k d).1) rest ∙ block_is bs ts k d (ap (drop 1) e) (omega (arith, lt))
 
 -- ---- as the code has them
@@ -65,10 +66,10 @@ block_is (b ∷ bs) (t ∷ ts) (suc k) d e lt =
 abbrev pub no_row : Row
 no_row = (record { ref_ptr = (0, 0); now = [] }, 0, 0)
 
-pub block_seen : (rs : List Row) (k : ℕ) → k < length rs → get_or (seen rs) k ([], 0, 0) ≡ ((get_or rs k no_row).0.now, (get_or rs k no_row).1, (get_or rs k no_row).2)
+pub block_seen : (rs : List Row) (k : ℕ) → k < length rs → get_or (blocks_of rs) k ([], 0, 0) ≡ ((get_or rs k no_row).0.now, (get_or rs k no_row).1, (get_or rs k no_row).2)
 block_seen rs k lt = get_or-map (λ (b : Row). (b.0.now, b.1, b.2)) rs k no_row ([], 0, 0) lt
 
-pub row_seen : (rs : List Row) (k : ℕ) → k < length rs → (get_or rs k no_row).1 ≡ (get_or (seen rs) k ([], 0, 0)).1
+pub row_seen : (rs : List Row) (k : ℕ) → k < length rs → (get_or rs k no_row).1 ≡ (get_or (blocks_of rs) k ([], 0, 0)).1
 row_seen rs k lt = ap (λ (t : Block). t.1) (sym (block_seen rs k lt))
 
 -- ---- the place of a line
@@ -84,17 +85,17 @@ past_block (suc rows) x others zero j e = absurd (omega arith)
 past_block (suc rows) x others (suc i) j e = past_block rows x others i j (omega arith)
 
 -- the place at an index, which is in the first of the blocks that are left
-pub found_here : (bs : List Row) (k : ℕ) (d : Row) (left : ℕ) (whole : Option Place) → k < length bs → left < (get_or bs k d).1 → slice_get (spread (seen (drop k bs))) left ≡ whole
+pub found_here : (bs : List Row) (k : ℕ) (d : Row) (left : ℕ) (whole : Option Place) → k < length bs → left < (get_or bs k d).1 → slice_get (spread (blocks_of (drop k bs))) left ≡ whole
     → whole ≡ Some (place (get_or bs k d).0.now (get_or bs k d).2)
 found_here bs k d left whole lt within so_far =
     let b = get_or bs k d in
-    let parts : slice_get (spread (seen (drop k bs))) left ≡ slice_get (spread (seen (b ∷ drop (k + 1) bs))) left = ap (λ (r : List Row). slice_get (spread (seen r)) left) (drop_more bs k d lt) in
-    sym so_far ∙ parts ∙ in_block b.1 (place b.0.now b.2) (spread (seen (drop (k + 1) bs))) left within
+    let parts : slice_get (spread (blocks_of (drop k bs))) left ≡ slice_get (spread (blocks_of (b ∷ drop (k + 1) bs))) left = ap (λ (r : List Row). slice_get (spread (blocks_of r)) left) (drop_more bs k d lt) in
+    sym so_far ∙ parts ∙ in_block b.1 (place b.0.now b.2) (spread (blocks_of (drop (k + 1) bs))) left within
 
 -- or after it
-pub found_later : (bs : List Row) (k : ℕ) (d : Row) (left : ℕ) (whole : Option Place) → k < length bs → (get_or bs k d).1 ≤ left → slice_get (spread (seen (drop k bs))) left ≡ whole
-    → slice_get (spread (seen (drop (k + 1) bs))) (left - (get_or bs k d).1) ≡ whole
+pub found_later : (bs : List Row) (k : ℕ) (d : Row) (left : ℕ) (whole : Option Place) → k < length bs → (get_or bs k d).1 ≤ left → slice_get (spread (blocks_of (drop k bs))) left ≡ whole
+    → slice_get (spread (blocks_of (drop (k + 1) bs))) (left - (get_or bs k d).1) ≡ whole
 found_later bs k d left whole lt past so_far =
     let b = get_or bs k d in
-    let parts : slice_get (spread (seen (drop k bs))) left ≡ slice_get (spread (seen (b ∷ drop (k + 1) bs))) left = ap (λ (r : List Row). slice_get (spread (seen r)) left) (drop_more bs k d lt) in
-    sym (past_block b.1 (place b.0.now b.2) (spread (seen (drop (k + 1) bs))) left (left - b.1) (omega (arith, past))) ∙ sym parts ∙ so_far
+    let parts : slice_get (spread (blocks_of (drop k bs))) left ≡ slice_get (spread (blocks_of (b ∷ drop (k + 1) bs))) left = ap (λ (r : List Row). slice_get (spread (blocks_of r)) left) (drop_more bs k d lt) in
+    sym (past_block b.1 (place b.0.now b.2) (spread (blocks_of (drop (k + 1) bs))) left (left - b.1) (omega (arith, past))) ∙ sym parts ∙ so_far

@@ -35,7 +35,8 @@ pub first_words : (o : Option (Bor (Bor (List ℕ)) × Bor (List (Bor (List ℕ)
     → map (λ x. x.now) words ≡ ts → MatchOption o (length words ≡ 0) (Found words) → o ≡ Some p → ts ≡ p.0.now.now ∷ map (λ (x : Bor (List ℕ)). x.now) p.1.now
 first_words o p words ts same cases e = sym same ∙ ap (map (λ (x : Bor (List ℕ)). x.now)) (MatchOption-at_some (length words ≡ 0) (Found words) p e cases).0
 
-pub no_words : (o : Option (Bor (Bor (List ℕ)) × Bor (List (Bor (List ℕ))))) (words : List (Bor (List ℕ))) (c : ℕ) (piece : List ℕ) → map (λ x. x.now) words ≡ slice_split (λ b. eqb b c) piece → MatchOption o (length words ≡ 0) (Found words) → o ≡ None → ⊥
+pub no_words : (o : Option (Bor (Bor (List ℕ)) × Bor (List (Bor (List ℕ))))) (words : List (Bor (List ℕ))) (c : ℕ) (piece : List ℕ) → map (λ x. x.now) words ≡ slice_split (λ b. eqb b c) piece →
+    MatchOption o (length words ≡ 0) (Found words) → o ≡ None → ⊥
 no_words o words c piece same cases e = omega (arith, MatchOption-at_none (length words ≡ 0) (Found words) e cases, length-map words (λ (x : Bor (List ℕ)). x.now), ap length same, cut_some c piece)
 
 pub some_at : {X : Type 0} (o : Option X) (x : X) (P : X → Type 0) → IsSomeAnd o P → o ≡ Some x → P x

@@ -113,7 +113,8 @@ most_first W g bytes whole last k cut m = record {
 -- ---- pieces that are read one by one
 
 -- where no line follows, none does
-pub stuck : (W : List Keyed → Type 0) → IsGrammar W → (ps : List (List ℕ)) (ls : List Keyed) (i : ℕ) → IsBeginning W ls → i < length ps → map spelled ls ≡ take i ps → ((l : Keyed) → IsBeginning W (ls ++ l ∷ []) → get_or ps i [] ≢ spelled l) → ¬ BeginsWith W ps (suc i)
+pub stuck : (W : List Keyed → Type 0) → IsGrammar W → (ps : List (List ℕ)) (ls : List Keyed) (i : ℕ) → IsBeginning W ls → i < length ps → map spelled ls ≡ take i ps →
+    ((l : Keyed) → IsBeginning W (ls ++ l ∷ []) → get_or ps i [] ≢ spelled l) → ¬ BeginsWith W ps (suc i)
 stuck W g ps ls i b lt so_far none_follows w =
     let ms = w.lines in
     let count : length ms ≡ suc i = sym (length-map ms spelled) ∙ ap length w.spelling ∙ length-take-le (suc i) ps w.within in
@@ -155,7 +156,8 @@ some_piece bytes ps same = omega (arith, cut_some 10 bytes, ap length same, leng
 -- ---- bytes that are no text
 
 -- where fewer pieces are right, or bytes are left, or the right lines are not all lines of a text
-pub bad_line : (W : List Keyed → Type 0) → IsGrammar W → (bytes : List ℕ) (whole : List (List ℕ)) (last : List ℕ) (ls : List Keyed) → pieces bytes ≡ whole ++ last ∷ [] → IsBeginning W ls → map spelled ls ≡ take (length ls) whole → IsMost W whole (length ls)
+pub bad_line : (W : List Keyed → Type 0) → IsGrammar W → (bytes : List ℕ) (whole : List (List ℕ)) (last : List ℕ) (ls : List Keyed) → pieces bytes ≡ whole ++ last ∷ [] → IsBeginning W ls →
+    map spelled ls ≡ take (length ls) whole → IsMost W whole (length ls)
     → ¬ ((length ls ≡ length whole) × (last ≡ []) × W ls) → IsBadLineOf (IsTextOf W) bytes (length ls + 1)
 bad_line W g bytes whole last ls cut b spelling most other = record {
   none = λ t.

@@ -16,7 +16,8 @@ block_pushed bs i t u lt before grown =
     grown ∙ ap (λ (s : List ℕ). s ++ text_of (map spelled last)) before ∙ sym (text_append (map spelled front) (map spelled last)) ∙ ap text_of (sym more)
 
 -- one row more
-pub row_pushed : (key : List ℕ) (rows : List (List ℤ)) (i : ℕ) (t u v : List ℕ) → i < length rows → u ≡ t ++ text_of (map (line_of key) (take i rows)) → v ≡ u ++ text_of (line_of key (get_or rows i []) ∷ []) → v ≡ t ++ text_of (map (line_of key) (take (i + 1) rows))
+pub row_pushed : (key : List ℕ) (rows : List (List ℤ)) (i : ℕ) (t u v : List ℕ) → i < length rows → u ≡ t ++ text_of (map (line_of key) (take i rows)) → v ≡ u ++
+    text_of (line_of key (get_or rows i []) ∷ []) → v ≡ t ++ text_of (map (line_of key) (take (i + 1) rows))
 row_pushed key rows i t u v lt before grown =
     let front = map (line_of key) (take i rows) in
     let last = line_of key (get_or rows i []) ∷ [] in

@@ -33,5 +33,5 @@ spread bs = chained (map block_places bs)
 abbrev pub Row : Type 0
 Row = Bor (List ℕ) × ℕ × ℕ
 
-abbrev pub seen : List Row → List Block
-seen bs = map (λ b. (b.0.now, b.1, b.2)) bs
+abbrev pub blocks_of : List Row → List Block
+blocks_of bs = map (λ b. (b.0.now, b.1, b.2)) bs

@@ -1,6 +1,7 @@
 // The lines that tell of answers, and the commands.
 use command_line::{Command, Field, Status, command_of, is_json, status_line};
 use controller_file::BadController;
+use design_refusal::Refusal;
 use frac_scaled::Frac;
 use io_edge::Words;
 use number_text::TextFault;
@@ -51,7 +52,7 @@ fn short_lines(rt: HostRuntime) -> Result<(), Fail> {
         (Status::Usage, "error 2 usage\n"),
         (Status::ReadFault { file: 2 }, "error 3 read-fault 2\n"),
         (Status::WriteFault { file: 0 }, "error 4 write-fault 0\n"),
-        (Status::Curvature, "error 7 curvature\n"),
+        (Status::from(Refusal::Curvature), "error 7 curvature\n"),
         (Status::Long { file: 1 }, "error 13 long 1\n"),
     ];
     assert_eq!(rt; first_other_line(rt.alloc(), &cases)?, None);
@@ -67,19 +68,19 @@ fn long_lines(rt: HostRuntime) -> Result<(), Fail> {
     };
     let cases = [
         (
-            Status::NoMargin {
+            Status::from(Refusal::NoMargin {
                 corner: 2,
                 row: 2,
                 slack,
-            },
+            }),
             "error 6 no-margin 2 2 4 524288\n",
         ),
         (
-            Status::TooManySteps { k: 8388608 },
+            Status::from(Refusal::TooManySteps { k: 8388608 }),
             "error 8 too-many-steps 8388608\n",
         ),
         (
-            Status::TooFine { eps: 151000321 },
+            Status::from(Refusal::TooFine { eps: 151000321 }),
             "error 9 too-fine 151000321\n",
         ),
         (
@@ -146,7 +147,13 @@ static WIDTHS: [(Quantity, &str); 2] = [
 #[test]
 fn lines_of_widths(rt: HostRuntime) -> Result<(), Fail> {
     for &(quantity, line) in &WIDTHS {
-        assert!(rt; is_line(rt.alloc(), &Status::TooWide { quantity }, line)?);
+        assert!(rt;
+            is_line(
+                rt.alloc(),
+                &Status::from(Refusal::TooWide { quantity }),
+                line
+            )?
+        );
     }
     Ok(())
 }

@@ -3,7 +3,7 @@ ghost use Rattle.std.specs.Prelude.{◌≡◌, ◌<◌, ℕ, length, IsTrue};
 ghost use Rattle.mat_int.specs.Matrix.{entry_of};
 ghost use Rattle.hessian_check.specs.Dominance.{IsSymmetric};
 
-use hessian_check::{CurvatureFault, Scaled, StepExponents, check, curvature, root_of};
+use hessian_check::{CurvatureFault, ScaledRoot, StepExponents, check, curvature, root_of};
 use mat_int::Mat;
 use plant_condense::condense;
 use qp_model::{Design, Quantity};
@@ -143,7 +143,7 @@ fn checks(rt: HostRuntime) -> Result<(), Fail> {
 }
 
 // Whether a root is that one, or there is none where none is wanted.
-fn is_root(found: &Option<Scaled>, want: &Option<(u32, Rows)>) -> bool {
+fn is_root(found: &Option<ScaledRoot>, want: &Option<(u32, Rows)>) -> bool {
     match (found, want) {
         (Some(scaled), Some((shift, rows))) => {
             scaled.shift == *shift && has_rows(&scaled.root, rows)

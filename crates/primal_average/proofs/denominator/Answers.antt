@@ -10,7 +10,8 @@ pub scaled-requires-clause-fits : goal.scaled-requires-clause-fits
 scaled-requires-clause-fits c =
     let sized = c.parts-c.ensures.sound.form.sized in
     let fits : FitsSigned w128 c.from.result = search rules in
-    let small : c.parts-c.result.now.steps * 2 ^ c.parts-c.result.now.f < 2 ^ 23 * 2 ^ 49 = mul-lt c.parts-c.result.now.steps (2 ^ c.parts-c.result.now.f) (2 ^ 23) (2 ^ 49) (omega (arith, sized.steps)) (pow_below c.parts-c.result.now.f 49 (omega (arith, sized.fraction_bits))) in
+    let small : c.parts-c.result.now.steps * 2 ^ c.parts-c.result.now.f < 2 ^ 23 * 2 ^ 49 =
+    mul-lt c.parts-c.result.now.steps (2 ^ c.parts-c.result.now.f) (2 ^ 23) (2 ^ 49) (omega (arith, sized.steps)) (pow_below c.parts-c.result.now.f 49 (omega (arith, sized.fraction_bits))) in
     rw (to_z-of_z w128 _ fits, c.from.ensures) (fits_signed_from_abs w128 _ (omega (arith, small)))
 
 pub returns : goal.returns

@@ -45,8 +45,8 @@ abbrev pub first_cost : Design → (error : ℕ → ℕ) → ℕ
 first_cost d error = ceil_div (d.cost_denominator * gradient_squares d error) (2 * input_floor d)
 
 -- what the states, the constant and the multipliers pull a plan by
-abbrev pub pull : Design → Form → ℕ → ℕ
-pull d h r = d.cost_denominator * (state_bound d * linear_sum h + constant_sum h + 2 * r * plan_row_sum h)
+abbrev pub plan_pull : Design → Form → ℕ → ℕ
+plan_pull d h r = d.cost_denominator * (state_bound d * linear_sum h + constant_sum h + 2 * r * plan_row_sum h)
 
 -- the whole numbers that the bounds at each f are made of
 pub record ErrorSums : Type 0 where
@@ -77,7 +77,7 @@ pub record ErrorSums : Type 0 where
 abbrev pub error_sums_of : Design → Form → ℕ → ErrorSums
 error_sums_of d h r = record {
   first = first_cost d (gradient_error d h r);
-  lead = ceil_div (pull d h r) (2 * input_floor d);
+  lead = ceil_div (plan_pull d h r) (2 * input_floor d);
   tail = d.cost_denominator * combined_bound d r * trace_sum h;
   top_rows = 2 * r * rows d;
   plan_entries = entries d;
@@ -146,7 +146,7 @@ abbrev pub error_size : Design → Form → ℕ → ℕ
 error_size d h r =
     let s = error_sums_of d h r in
     let plan = plan_bound s 0 in
-    s.spread ^ 2 * (pull d h r + s.tail + d.cost_denominator * gradient_squares d (gradient_error d h r) + 2 ^ 40 * (s.first + s.top_rows * residual_error s plan))
+    s.spread ^ 2 * (plan_pull d h r + s.tail + d.cost_denominator * gradient_squares d (gradient_error d h r) + 2 ^ 40 * (s.first + s.top_rows * residual_error s plan))
     + s.weight_scale * s.plan_entries * radius_error s plan ^ 2
     + plan * s.hessian_radius + s.state * s.linear_radius + s.constant_radius + s.top * s.column_radius
     + s.top * row_radii s plan

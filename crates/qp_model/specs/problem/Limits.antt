@@ -1,7 +1,7 @@
 -- The versions of the texts of a design and of a controller, and their greatest sizes by them.
 use Rattle.std.specs.Prelude.{ℕ, ◌+◌, ◌*◌, ◌==◌, if◌then◌else◌}
 
--- `VERSION` of the code: the first
+-- `FIRST_VERSION` of the code: the first
 abbrev pub text_version : ℕ
 text_version = 1
 

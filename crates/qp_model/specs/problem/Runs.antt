@@ -40,7 +40,7 @@ bound_at d i =
 
 -- ---- bounds
 -- alpha bounds the growth of a run in one stage
-pub record IsTame (d : Design) (alpha : ℕ) : Type 0 where
+pub record BoundsGrowth (d : Design) (alpha : ℕ) : Type 0 where
   pub denominator : d.plant_denominator ≤ alpha
   pub plant : (i : ℕ) → i < d.states → size d.states (d.plant_a i) + size d.inputs (d.plant_b i) ≤ alpha
 
@@ -48,7 +48,7 @@ pub record IsTame (d : Design) (alpha : ℕ) : Type 0 where
 pub record TrajectoryFits (d : Design) (x v : ℕ → ℤ) (factor : ℕ) : Type 0 where
   pub alpha : ℕ
   pub z : ℕ
-  pub tame : IsTame d alpha
+  pub growth_bound : BoundsGrowth d alpha
   pub state : (i : ℕ) → i < d.states → unsigned_abs (x i) ≤ z
   pub plan : (j : ℕ) → j < entries d → unsigned_abs (v j) ≤ z
   pub fits : factor * (z * alpha ^ d.stages) ≤ 2 ^ 126
@@ -69,7 +69,7 @@ pub record IsPlantRun (d : Design) : Type 0 where
       trajectory d q xi u k i ≡ run d (λ j. q *ℤ xi j) (λ j. pos (2 ^ d.grid) *ℤ u j) k i
   pub power : (k i j : ℕ) → power d k i j ≡ run d (unit j) none k i
   pub response : (k i j : ℕ) → 1 ≤ d.inputs → response d k i j ≡ run d none (unit j) k i
-  pub within : (alpha z : ℕ) (x v : ℕ → ℤ) → IsTame d alpha →
+  pub within : (alpha z : ℕ) (x v : ℕ → ℤ) → BoundsGrowth d alpha →
       ((i : ℕ) → i < d.states → unsigned_abs (x i) ≤ z) → ((j : ℕ) → j < entries d → unsigned_abs (v j) ≤ z) →
       (k i : ℕ) → k ≤ d.stages → i < d.states → unsigned_abs (run d x v k i) ≤ z * alpha ^ k
 
@@ -97,7 +97,7 @@ ResidualLaw = (d : Design) (q : ℤ) (xi u : ℕ → ℤ) (i : ℕ) →
 
 -- rows of runs stay within bounds
 abbrev pub RowBoundLaw : Type 0
-RowBoundLaw = (d : Design) (alpha z width : ℕ) (x v : ℕ → ℤ) → 1 ≤ d.plant_denominator → IsTame d alpha → HasNarrowLimits d width →
+RowBoundLaw = (d : Design) (alpha z width : ℕ) (x v : ℕ → ℤ) → 1 ≤ d.plant_denominator → BoundsGrowth d alpha → HasNarrowLimits d width →
     ((i : ℕ) → i < d.states → unsigned_abs (x i) ≤ z) → ((j : ℕ) → j < entries d → unsigned_abs (v j) ≤ z) →
     (i : ℕ) → i < rows d → unsigned_abs (row_at d x v i) ≤ width * (z * alpha ^ d.stages)
 
@@ -122,7 +122,7 @@ pub record HasNarrowCosts (d : Design) (width : ℕ) : Type 0 where
 
 -- cost rows of runs stay within bounds
 abbrev pub CostBoundLaw : Type 0
-CostBoundLaw = (d : Design) (alpha z width : ℕ) (x v : ℕ → ℤ) → IsTame d alpha → HasNarrowCosts d width →
+CostBoundLaw = (d : Design) (alpha z width : ℕ) (x v : ℕ → ℤ) → BoundsGrowth d alpha → HasNarrowCosts d width →
     ((i : ℕ) → i < d.states → unsigned_abs (x i) ≤ z) → ((j : ℕ) → j < entries d → unsigned_abs (v j) ≤ z) →
     (c : ℕ) → c < counts d → unsigned_abs (counted d (cost_run d x v) c) ≤ width * (z * alpha ^ d.stages)
 

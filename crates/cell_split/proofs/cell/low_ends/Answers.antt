@@ -17,5 +17,6 @@ loop-i-preserved c =
     let list = c.deref.ensures.value ∙ list_is c.args.cuts.now c.index-cuts-i.result c.loop-i.i lt c.index-cuts-i.is in
     let end : SFits w128 (at c.args.lo.now c.loop-i.i) = search rules in
     pushed _ _ _ c.loop-i.i (λ i. part_low (at c.args.lo.now i) (cuts_of (lists c.args.cuts.now) i) (slice_index_or c.args.parts.now i 0))
-    c.in_ok-push.ensures.items (to_z-of_z w128 c.low_end.result r ∙ c.low_end.ensures ∙ ap (λ (z : ℤ). part_low z c.deref.result.now (slice_index_or c.args.parts.now c.loop-i.i 0)) (to_z-of_z w128 (at c.args.lo.now c.loop-i.i) end) ∙ ap (λ (cs : List ℤ). part_low (at c.args.lo.now c.loop-i.i) cs (slice_index_or c.args.parts.now c.loop-i.i 0)) list)
+    c.in_ok-push.ensures.items (to_z-of_z w128 c.low_end.result r ∙ c.low_end.ensures ∙ ap (λ (z : ℤ). part_low z c.deref.result.now (slice_index_or c.args.parts.now c.loop-i.i 0))
+    (to_z-of_z w128 (at c.args.lo.now c.loop-i.i) end) ∙ ap (λ (cs : List ℤ). part_low (at c.args.lo.now c.loop-i.i) cs (slice_index_or c.args.parts.now c.loop-i.i 0)) list)
     c.loop-i.invariant

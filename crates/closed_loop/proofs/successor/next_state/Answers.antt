@@ -1,4 +1,4 @@
-use Rattle.std.proofs.Common.{◌≡◌, ◌<◌, ◌∙◌, ap, subst, ℕ, pos, length, inl, inr, arith, rules, FitsSigned}
+use Rattle.std.proofs.Common.{◌≡◌, ◌<◌, ◌≤◌, ◌^◌, ◌∙◌, ap, subst, ℕ, pos, length, inl, inr, arith, rules, unsigned_abs, FitsSigned}
 use Rattle.std.specs.Int.{w128}
 use Rattle.std.proofs.lemmas.Bool.{cases_lt}
 use Rattle.std.proofs.lemmas.Int.{to_z-of_z}
@@ -25,6 +25,11 @@ loop-i-preserved c =
         | inr le ↦ (let e : c.loop-i.i ≡ j = omega arith in
             subst (λ (k : ℕ). IsNearest (next_sum d n xi k) (next_over d n) (round_of (next_sum d n xi k) (next_over d n))) e (rw c.next_coordinate.ensures.value at c.next_coordinate.ensures.nearest))
       ];
+      small = λ j h. elim (cases_lt j c.loop-i.i) [
+        | inl lt ↦ c.loop-i.invariant.small j lt
+        | inr le ↦ (let e : c.loop-i.i ≡ j = omega arith in
+            subst (λ (k : ℕ). unsigned_abs (round_of (next_sum d n xi k) (next_over d n)) ≤ 2 ^ 126) e (rw c.next_coordinate.ensures.value at c.next_coordinate.ensures.small))
+      ];
     }
 
 pub returns-clause-value : goal.returns-clause-value
@@ -32,7 +37,10 @@ returns-clause-value c =
     let n = c.args.k.now.controller in
     let xi = c.args.state.now in
     let d = design_of c.parts-parts.result.now in
-    let all : c.loop-i.next ≡ successor d n xi = fill_by_all (λ j. round_of (next_sum d n xi j) (next_over d n)) c.loop-i.next d.states (pos 0) (omega (arith, c.requires.matched.states, ap (λ (p : DesignParts). p.states) c.parts-parts.ensures.value)) (λ k h. c.loop-i.invariant.value k (omega (arith, c.requires.matched.states, ap (λ (p : DesignParts). p.states) c.parts-parts.ensures.value, h))) in
+    let all : c.loop-i.next ≡ successor d n xi =
+    fill_by_all (λ j. round_of (next_sum d n xi j) (next_over d n)) c.loop-i.next d.states (pos 0)
+    (omega (arith, c.requires.matched.states, ap (λ (p : DesignParts). p.states) c.parts-parts.ensures.value))
+    (λ k h. c.loop-i.invariant.value k (omega (arith, c.requires.matched.states, ap (λ (p : DesignParts). p.states) c.parts-parts.ensures.value, h))) in
     all ∙ ap (λ (p : DesignParts). successor (design_of p) n xi) c.parts-parts.ensures.value
 
 pub returns-clause-nearest : goal.returns-clause-nearest
@@ -42,3 +50,8 @@ returns-clause-nearest c = λ i h.
     let met : i < c.loop-i.i = omega arith in
     subst (λ (p : DesignParts). IsNearest (next_sum (design_of p) n xi i) (next_over (design_of p) n) (at c.loop-i.next i)) c.parts-parts.ensures.value
     (rw (c.loop-i.invariant.value i met) (c.loop-i.invariant.nearest i met))
+
+pub returns-clause-small : goal.returns-clause-small
+returns-clause-small c = λ i h.
+    let met : i < c.loop-i.i = omega arith in
+    rw (c.loop-i.invariant.value i met) (c.loop-i.invariant.small i met)

@@ -1,7 +1,9 @@
 use Rattle.std.proofs.Common.{◌^◌, ◌≤◌, refl, le_refl, subst}
 use Rattle.std.specs.Option.{SomeIff}
 use Rattle.qp_model.specs.machine.Controller.{Numbers}
+use Rattle.qp_model.specs.machine.Successor.{state_after}
 use Rattle.qp_model.specs.machine.LoopSize.{turn_size}
+use Rattle.qp_model.specs.text.LoopLines.{loop_text}
 use Rattle.qp_model.specs.problem.Parts.{design_of}
 use Rattle.closed_loop.specs.Shows.{LoopShows}
 use Rattle.closed_loop.specs.declared.fault.LoopFault.TheVariants.{Memory, OutsideBox, WriteFault}
@@ -39,27 +41,27 @@ returns g c =
     let start = c.args.start.now in
     let turns = c.args.turns in
     let old = g.O.Sink.got c.args.out.now in
-    let new = g.O.Sink.got c.run_turns.new.out in
+    let new = g.O.Sink.got c.run_unshifted.new.out in
     let before = g.O.Sink.faults c.args.out.now in
-    let now = g.O.Sink.faults c.run_turns.new.out in
-    let r = c.run_turns.result in
-    let shows = LoopShows d n entry start turns old new before now in
+    let now = g.O.Sink.faults c.run_unshifted.new.out in
+    let r = c.run_unshifted.result in
+    let shows = LoopShows n (state_after d n start) (loop_text d n entry start) turns old new before now in
     let size = subst (λ (m : Numbers). SomeIff c.turn_size.result (turn_size d m ≤ 2 ^ 126) (turn_size d m)) c.controller.ensures.value c.turn_size.ensures in
     let narrow = some_narrow c.turn_size.result c.is_none.result (2 ^ 126) (turn_size d n) c.is_none.ensures c.if-is_none.false size in
-    let refused = c.run_turns.ensures.refused in
+    let refused = c.run_unshifted.ensures.refused in
     record {
-      inside = c.run_turns.ensures.inside;
-      put = c.run_turns.ensures.put;
+      inside = c.run_unshifted.ensures.inside;
+      put = c.run_unshifted.ensures.put;
       wide = not_wide r shows _ refused (λ q h. h) (λ w. wide_or_narrow _ (2 ^ 126) (turn_size d n) w narrow);
       wide_put = λ w. wide_or_narrow _ (2 ^ 126) (turn_size d n) w narrow;
       outside = λ turn coordinate e. (told r shows (OutsideBox turn coordinate) refused e).0;
       outside_put = λ turn coordinate e. (told r shows (OutsideBox turn coordinate) refused e).1;
-      leaves = λ turn coordinate l h. leaves d n entry start turns old new before now r c.run_turns.ensures.inside refused turn coordinate l;
-      stays = λ inside h none. stays d n entry start turns old new before now r refused inside none;
+      leaves = λ turn coordinate l h. leaves n (loop_text d n entry start) (state_after d n start) turns old new before now r c.run_unshifted.ensures.inside refused turn coordinate l;
+      stays = λ inside h none. stays n (loop_text d n entry start) (state_after d n start) turns old new before now r refused inside none;
       failed = λ e. (told r shows WriteFault refused e).1;
       begun = λ e. (told r shows WriteFault refused e).2;
       cut = λ e. (told r shows WriteFault refused e).0;
-      no_fewer = c.run_turns.ensures.no_fewer;
+      no_fewer = c.run_unshifted.ensures.no_fewer;
       memory = λ e. told r shows Memory refused e;
-      controller = c.run_turns.ensures.controller;
+      controller = c.run_unshifted.ensures.controller;
     }

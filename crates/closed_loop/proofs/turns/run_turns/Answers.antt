@@ -1,15 +1,18 @@
-use Rattle.std.proofs.Common.{◌≡◌, ◌+◌, ◌++◌, ◌∙◌, ap, sym, subst, refl, le_refl, le_trans, zero-le, ℕ, ℤ, List, Vec, Global, length, option_map, arith}
+use Rattle.std.proofs.Common.{◌≡◌, ◌+◌, ◌++◌, ◌∙◌, ap, sym, subst, refl, le_refl, le_trans, zero-le, ℕ, ℤ, List, Vec, Global, length, option_map, arith, rules}
+use Rattle.std.specs.Vec.{with_items}
 use Rattle.std.proofs.lemmas.List.{with_items_is}
 use Rattle.std.proofs.lemmas.List.FromFn.{length-map-range_with_len}
 use Rattle.qp_model.specs.machine.Controller.{Numbers}
 use Rattle.qp_model.specs.machine.Machine.{IsAdmissible}
-use Rattle.qp_model.specs.machine.Successor.{successor, state_after}
-use Rattle.qp_model.specs.text.LoopLines.{loop_line, loop_text}
+use Rattle.qp_model.specs.machine.Successor.{successor}
+use Rattle.qp_model.specs.text.LoopLines.{loop_line}
 use Rattle.qp_model.specs.problem.Parts.{design_of}
-use Rattle.closed_loop.specs.Answers.{StaysInside}
+use Rattle.mat_int.specs.Matrix.{entry_of}
+use Rattle.closed_loop.specs.Answers.{AreInside, lines_of}
+use Rattle.closed_loop.specs.Under.{states_under}
 use Rattle.closed_loop.specs.Shows.{TurnShows, LoopShows}
 use Rattle.closed_loop.specs.declared.fault.LoopFault.TheVariants.{Memory}
-use Rattle.closed_loop.proofs.Showing.{state_zero, state_more, inside_none, inside_more, put_none, put_more, grows_by_turns, given, unmet, turn_shows}
+use Rattle.closed_loop.proofs.Showing.{state_zero, shifted_more, shifted_long, inside_none, inside_more, put_none, put_more, grows_by_turns, given, unmet, turn_shows}
 use Rattle.closed_loop.proofs.turns.run_turns.Goals as goal
 
 pub returns-in_err-state : goal.returns-in_err-state
@@ -17,6 +20,7 @@ returns-in_err-state g c =
     let d = design_of c.args.design.now in
     let n = c.args.k.now.controller in
     let start = c.args.start.now in
+    let states = states_under d n start c.args.shifts.now in
     let got = g.O.Sink.got c.args.out.now in
     let faults = g.O.Sink.faults c.args.out.now in
     let r = c.from_residual.result in
@@ -24,8 +28,8 @@ returns-in_err-state g c =
     record {
       inside = unmet r _ _ is;
       put = unmet r _ _ is;
-      refused = given r (LoopShows d n c.args.entry start c.args.turns got got faults faults) Memory is
-          (grows_by_turns d n c.args.entry start c.args.turns 0 got got zero-le (inside_none d n start) (put_none d n c.args.entry start got));
+      refused = given r (LoopShows n states (lines_of n c.args.entry states) c.args.turns got got faults faults) Memory is
+          (grows_by_turns n c.args.entry states c.args.turns 0 got got zero-le (inside_none n states) (put_none n c.args.entry states got));
       no_fewer = le_refl faults;
       controller = refl;
     }
@@ -35,6 +39,7 @@ returns-in_err-next g c =
     let d = design_of c.args.design.now in
     let n = c.args.k.now.controller in
     let start = c.args.start.now in
+    let states = states_under d n start c.args.shifts.now in
     let got = g.O.Sink.got c.args.out.now in
     let faults = g.O.Sink.faults c.args.out.now in
     let r = c.from_residual-in_err-next.result in
@@ -42,8 +47,8 @@ returns-in_err-next g c =
     record {
       inside = unmet r _ _ is;
       put = unmet r _ _ is;
-      refused = given r (LoopShows d n c.args.entry start c.args.turns got got faults faults) Memory is
-          (grows_by_turns d n c.args.entry start c.args.turns 0 got got zero-le (inside_none d n start) (put_none d n c.args.entry start got));
+      refused = given r (LoopShows n states (lines_of n c.args.entry states) c.args.turns got got faults faults) Memory is
+          (grows_by_turns n c.args.entry states c.args.turns 0 got got zero-le (inside_none n states) (put_none n c.args.entry states got));
       no_fewer = le_refl faults;
       controller = refl;
     }
@@ -53,12 +58,13 @@ loop-gone-init g c =
     let d = design_of c.args.design.now in
     let n = c.args.k.now.controller in
     let start = c.args.start.now in
+    let states = states_under d n start c.args.shifts.now in
     record {
-      state = c.in_ok-state.ensures.items ∙ sym (state_zero d n start);
+      state = c.in_ok-state.ensures.items ∙ sym (state_zero d n start (entry_of c.args.shifts.now));
       next = ap (λ (xs : List ℤ). length xs) c.in_ok-next.ensures.items ∙ c.requires.start;
       long = ap (λ (xs : List ℤ). length xs) c.in_ok-state.ensures.items ∙ c.requires.start;
-      inside = inside_none d n start;
-      put = put_none d n c.args.entry start (g.O.Sink.got c.args.out.now);
+      inside = inside_none n states;
+      put = put_none n c.args.entry states (g.O.Sink.got c.args.out.now);
       no_fewer = le_refl (g.O.Sink.faults c.args.out.now);
       controller = refl;
     }
@@ -68,21 +74,22 @@ returns-in_err-make_turn g c =
     let d = design_of c.args.design.now in
     let n = c.args.k.now.controller in
     let start = c.args.start.now in
+    let states = states_under d n start c.args.shifts.now in
     let gone = c.loop-gone.gone in
     let got = g.O.Sink.got in
     let faults = g.O.Sink.faults in
     let fault = c.in_err-make_turn.field-0.0 in
-    let same : c.deref.result.now ≡ state_after d n start gone = c.deref.ensures.value ∙ c.loop-gone.invariant.state in
-    let shows : TurnShows n c.args.entry (gone + 1) (state_after d n start gone) (got c.loop-gone.out) (got c.make_turn.new.out) (faults c.loop-gone.out) (faults c.make_turn.new.out) fault =
-    subst (λ (m : Numbers). TurnShows m c.args.entry (gone + 1) (state_after d n start gone) (got c.loop-gone.out) (got c.make_turn.new.out) (faults c.loop-gone.out) (faults c.make_turn.new.out) fault) c.loop-gone.invariant.controller
+    let same : c.deref.result.now ≡ states gone = c.deref.ensures.value ∙ c.loop-gone.invariant.state in
+    let shows : TurnShows n c.args.entry (gone + 1) (states gone) (got c.loop-gone.out) (got c.make_turn.new.out) (faults c.loop-gone.out) (faults c.make_turn.new.out) fault =
+    subst (λ (m : Numbers). TurnShows m c.args.entry (gone + 1) (states gone) (got c.loop-gone.out) (got c.make_turn.new.out) (faults c.loop-gone.out) (faults c.make_turn.new.out) fault) c.loop-gone.invariant.controller
     (subst (λ (s : List ℤ). TurnShows c.loop-gone.k.controller c.args.entry (gone + 1) s (got c.loop-gone.out) (got c.make_turn.new.out) (faults c.loop-gone.out) (faults c.make_turn.new.out) fault) same c.in_err-make_turn.ensures.refused) in
     let r = c.from_residual-in_err-make_turn.result in
     let is = c.from_residual-in_err-make_turn.ensures.1 in
     record {
       inside = unmet r _ _ is;
       put = unmet r _ _ is;
-      refused = given r (LoopShows d n c.args.entry start c.args.turns (got c.args.out.now) (got c.make_turn.new.out) (faults c.args.out.now) (faults c.make_turn.new.out)) fault is
-          (turn_shows d n c.args.entry start c.args.turns gone (got c.args.out.now) (got c.loop-gone.out) (got c.make_turn.new.out) (faults c.args.out.now) (faults c.loop-gone.out) (faults c.make_turn.new.out) fault
+      refused = given r (LoopShows n states (lines_of n c.args.entry states) c.args.turns (got c.args.out.now) (got c.make_turn.new.out) (faults c.args.out.now) (faults c.make_turn.new.out)) fault is
+          (turn_shows n c.args.entry states c.args.turns gone (got c.args.out.now) (got c.loop-gone.out) (got c.make_turn.new.out) (faults c.args.out.now) (faults c.loop-gone.out) (faults c.make_turn.new.out) fault
           (omega arith) c.loop-gone.invariant.inside c.loop-gone.invariant.put c.loop-gone.invariant.no_fewer c.make_turn.ensures.no_fewer shows);
       no_fewer = le_trans c.loop-gone.invariant.no_fewer c.make_turn.ensures.no_fewer;
       controller = c.make_turn.ensures.controller ∙ c.loop-gone.invariant.controller;
@@ -93,23 +100,29 @@ loop-gone-preserved g c =
     let d = design_of c.args.design.now in
     let n = c.args.k.now.controller in
     let start = c.args.start.now in
+    let states = states_under d n start c.args.shifts.now in
     let gone = c.loop-gone.gone in
-    let same : c.deref.result.now ≡ state_after d n start gone = c.deref.ensures.value ∙ c.loop-gone.invariant.state in
+    let same : c.deref.result.now ≡ states gone = c.deref.ensures.value ∙ c.loop-gone.invariant.state in
     let kept : c.make_turn.new.k.controller ≡ n = c.make_turn.ensures.controller ∙ c.loop-gone.invariant.controller in
-    let inside : IsAdmissible n (state_after d n start gone) = subst (IsAdmissible n) same (subst (λ (m : Numbers). IsAdmissible m c.deref.result.now) c.loop-gone.invariant.controller c.in_ok-make_turn.ensures.inside) in
-    let put = subst (λ (m : Numbers). g.O.Sink.got c.make_turn.new.out ≡ option_map (λ o. o ++ loop_line m c.args.entry (gone + 1) (state_after d n start gone)) (g.O.Sink.got c.loop-gone.out)) c.loop-gone.invariant.controller
+    let inside : IsAdmissible n (states gone) = subst (IsAdmissible n) same (subst (λ (m : Numbers). IsAdmissible m c.deref.result.now) c.loop-gone.invariant.controller c.in_ok-make_turn.ensures.inside) in
+    let put = subst (λ (m : Numbers). g.O.Sink.got c.make_turn.new.out ≡ option_map (λ o. o ++ loop_line m c.args.entry (gone + 1) (states gone)) (g.O.Sink.got c.loop-gone.out)) c.loop-gone.invariant.controller
     (subst (λ (s : List ℤ). g.O.Sink.got c.make_turn.new.out ≡ option_map (λ o. o ++ loop_line c.loop-gone.k.controller c.args.entry (gone + 1) s) (g.O.Sink.got c.loop-gone.out)) same c.in_ok-make_turn.ensures.put) in
-    let again : c.deref-in-loop-gone.result.now ≡ state_after d n start gone = c.deref-in-loop-gone.ensures.value ∙ c.loop-gone.invariant.state in
-    let next : c.next_state.new.next ≡ state_after d n start (gone + 1) =
-    c.next_state.ensures.value ∙ ap (λ (m : Numbers). successor d m c.deref-in-loop-gone.result.now) kept ∙ ap (successor d n) again ∙ sym (state_more d n start gone) in
-    let count : length c.next_state.new.next ≡ d.states = ap (λ (xs : List ℤ). length xs) c.next_state.ensures.value ∙ length-map-range_with_len _ 0 d.states in
-    let items : c.swap.new.x.items ≡ c.next_state.new.next = ap (λ (v : Vec ℤ Global). v.items) c.swap.ensures.x_after ∙ with_items_is c.loop-gone.next c.next_state.new.next (count ∙ c.requires.matched.states ∙ sym c.loop-gone.invariant.next ∙ sym c.loop-gone.next.ok.0) in
+    let again : c.deref-in-loop-gone.result.now ≡ states gone = c.deref-in-loop-gone.ensures.value ∙ c.loop-gone.invariant.state in
+    let came : c.next_state.new.next ≡ successor d n (states gone) =
+    c.next_state.ensures.value ∙ ap (λ (m : Numbers). successor d m c.deref-in-loop-gone.result.now) kept ∙ ap (successor d n) again in
+    let count : length c.next_state.new.next ≡ d.states = ap (λ (xs : List ℤ). length xs) came ∙ length-map-range_with_len _ 0 d.states in
+    let room = c.requires.matched.states ∙ sym c.loop-gone.invariant.next ∙ sym c.loop-gone.next.ok.0 in
+    let mid : c.deref_mut-in-loop-gone.result.now ≡ c.next_state.new.next = c.deref_mut-in-loop-gone.ensures.value ∙ with_items_is c.loop-gone.next c.next_state.new.next (count ∙ room) in
+    let next : c.shift_state.new.state ≡ states (gone + 1) =
+    shifted_more d n start c.args.shifts.now gone c.deref_mut-in-loop-gone.result.now c.shift_state.new.state (mid ∙ came) c.shift_state.ensures in
+    let long : length c.shift_state.new.state ≡ d.states = ap (λ (xs : List ℤ). length xs) next ∙ shifted_long d n start c.args.shifts.now gone in
+    let items : c.swap.new.x.items ≡ c.shift_state.new.state = ap (λ (v : Vec ℤ Global). v.items) c.swap.ensures.x_after ∙ with_items_is (with_items c.loop-gone.next c.next_state.new.next) c.shift_state.new.state (long ∙ room) in
     record {
       state = items ∙ next;
       next = ap (λ (v : Vec ℤ Global). length v.items) c.swap.ensures.y_after ∙ c.loop-gone.invariant.long;
-      long = ap (λ (xs : List ℤ). length xs) items ∙ count ∙ c.requires.matched.states;
-      inside = inside_more d n start gone c.loop-gone.invariant.inside inside;
-      put = put_more d n c.args.entry start gone (g.O.Sink.got c.args.out.now) (g.O.Sink.got c.loop-gone.out) (g.O.Sink.got c.make_turn.new.out) c.loop-gone.invariant.put put;
+      long = ap (λ (xs : List ℤ). length xs) items ∙ long ∙ c.requires.matched.states;
+      inside = inside_more n states gone c.loop-gone.invariant.inside inside;
+      put = put_more n c.args.entry states gone (g.O.Sink.got c.args.out.now) (g.O.Sink.got c.loop-gone.out) (g.O.Sink.got c.make_turn.new.out) c.loop-gone.invariant.put put;
       no_fewer = omega (arith, c.loop-gone.invariant.no_fewer, c.make_turn.ensures.no_fewer);
       controller = kept;
     }
@@ -119,10 +132,11 @@ returns g c =
     let d = design_of c.args.design.now in
     let n = c.args.k.now.controller in
     let start = c.args.start.now in
+    let states = states_under d n start c.args.shifts.now in
     let all : c.loop-gone.gone ≡ c.args.turns = omega arith in
     record {
-      inside = subst (λ (k : ℕ). StaysInside d n start k) all c.loop-gone.invariant.inside;
-      put = subst (λ (k : ℕ). g.O.Sink.got c.loop-gone.out ≡ option_map (λ old. old ++ loop_text d n c.args.entry start k) (g.O.Sink.got c.args.out.now)) all c.loop-gone.invariant.put;
+      inside = subst (λ (k : ℕ). AreInside n states k) all c.loop-gone.invariant.inside;
+      put = subst (λ (k : ℕ). g.O.Sink.got c.loop-gone.out ≡ option_map (λ old. old ++ lines_of n c.args.entry states k) (g.O.Sink.got c.args.out.now)) all c.loop-gone.invariant.put;
       refused = tt;
       no_fewer = c.loop-gone.invariant.no_fewer;
       controller = c.loop-gone.invariant.controller;

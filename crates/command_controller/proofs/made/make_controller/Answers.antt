@@ -10,7 +10,7 @@ returns-in-Ok-clause-called c =
 
 pub returns-in-Err-clause-refused : goal.returns-in-Err-clause-refused
 returns-in-Err-clause-refused c =
-    refused_called c.args.design.now (plans_of c.args.policy.now) _ c.in-Err.refusal c.refusal_status.result refl c.refusal_status.ensures c.in-Err.ensures.refused c.in-Err.ensures.every_refusal c.in-Err.ensures.accepted
+    refused_called c.args.design.now (plans_of c.args.policy.now) _ c.in-Err.refusal c.from.result refl c.from.ensures c.in-Err.ensures.refused c.in-Err.ensures.every_refusal c.in-Err.ensures.accepted
 
 pub returns-in-Err-clause-not_done : goal.returns-in-Err-clause-not_done
-returns-in-Err-clause-not_done c = λ is. refusal_not_done c.in-Err.refusal (sym c.refusal_status.ensures ∙ is)
+returns-in-Err-clause-not_done c = λ is. refusal_not_done c.in-Err.refusal (sym c.from.ensures ∙ is)

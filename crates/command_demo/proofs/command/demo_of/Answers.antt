@@ -15,7 +15,7 @@ use Rattle.command_demo.proofs.command.demo_of.Goals as goal
 pub print_text-requires-clause-inside : goal.print_text-requires-clause-inside
 print_text-requires-clause-inside g c =
     let inputs = c.args.inputs.now in
-    inside (design_of inputs.design) c.in-Ok.made.controller inputs.states c.in-Ok.ensures.made.built.made.sizes c.requires.states c.requires.inside
+    inside (design_of inputs.design) c.in-Ok.made.controller inputs.states c.in-Ok.ensures.made.built.made.made.sizes c.requires.states c.requires.inside
 
 pub returns-in-Ok : goal.returns-in-Ok
 returns-in-Ok g c =

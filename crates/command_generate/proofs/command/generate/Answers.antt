@@ -4,7 +4,9 @@ use Rattle.command_line.specs.Words.{word_of}
 use Rattle.command_line.specs.declared.status.Status.{Status}
 use Rattle.command_line.proofs.Counts.{none_falls_twice}
 use Rattle.command_generate.specs.Writing.{AreWritten, IsSecondCut, IsAnswered}
-use Rattle.command_generate.specs.Generate.{IsGenerated, IsControllerCut, IsReportCut}
+use Rattle.command_generate.specs.Generate.{GenerateCalls, IsGenerated, IsControllerCut, IsReportCut}
+use Rattle.command_line.specs.declared.status.Status.TheVariants.{Done}
+use Rattle.command_generate.proofs.Inputs.{is_called}
 use Rattle.command_generate.proofs.Written.{carried, generated, controller_cut, report_cut, written_done, written_no_read, written_none, write_fault}
 use Rattle.command_generate.proofs.command.generate.Goals as goal
 
@@ -18,7 +20,7 @@ returns-in-Ok-clause-generated g c =
     λ done.
     carried words (g.S.Store.held c.args.store.now) (g.S.Store.held c.texts_for.new.store) (g.S.Store.held c.write_texts.new.store) text report
     (λ files new. AreWritten files new (word_of words 3) (word_of words 4) text report) (λ files new. IsGenerated words files new) c.in-Ok.ensures.held from
-    (λ files new inputs are. generated words from.p from.plans text report from.texts files new inputs c.requires are) (written done)
+    (λ files new inputs are. generated words from.p from.plans text report from.texts files new inputs c.requires.report_controller are) (written done)
 
 pub returns-in-Ok-clause-controller_cut : goal.returns-in-Ok-clause-controller_cut
 returns-in-Ok-clause-controller_cut g c =
@@ -42,7 +44,7 @@ returns-in-Ok-clause-report_cut g c =
     λ is.
     carried words (g.S.Store.held c.args.store.now) (g.S.Store.held c.texts_for.new.store) (g.S.Store.held c.write_texts.new.store) text report
     (λ files new. IsSecondCut files new (word_of words 3) (word_of words 4) text report) (λ files new. IsReportCut words files new) c.in-Ok.ensures.held from
-    (λ files new inputs short. report_cut words from.p from.plans text report from.texts files new inputs c.requires short) (cut is)
+    (λ files new inputs short. report_cut words from.p from.plans text report from.texts files new inputs c.requires.report_controller short) (cut is)
 
 pub returns-in-Ok-clause-called : goal.returns-in-Ok-clause-called
 returns-in-Ok-clause-called g c = λ caused.
@@ -57,8 +59,9 @@ returns-in-Ok-clause-write_fault g c =
     let third = rw c.at.ensures at c.write_texts.ensures.first_failed in
     let fourth = rw c.at-in-Ok.ensures at c.write_texts.ensures.second_failed in
     λ file is.
-    write_fault c.args.words.now (g.S.Store.held c.args.store.now) (g.S.Store.write_faults c.args.store.now) (g.S.Store.write_faults c.texts_for.new.store) (g.S.Store.write_faults c.write_texts.new.store)
-    c.write_texts.result c.in-Ok.ensures.called c.in-Ok.ensures.writes c.write_texts.ensures.writes c.write_texts.ensures.only third fourth file is
+    write_fault c.args.words.now (g.S.Store.held c.args.store.now) (λ k. GenerateCalls (k 1) (k 2) Done)
+    (g.S.Store.write_faults c.args.store.now) (g.S.Store.write_faults c.texts_for.new.store) (g.S.Store.write_faults c.write_texts.new.store)
+    c.write_texts.result (is_called c.args.words.now (g.S.Store.held c.args.store.now) Done c.in-Ok.ensures.called) c.in-Ok.ensures.writes c.write_texts.ensures.writes c.write_texts.ensures.only third fourth file is
 
 pub returns-in-Ok-clause-held : goal.returns-in-Ok-clause-held
 returns-in-Ok-clause-held g c = λ done write. absurd (written_none c.write_texts.result c.write_texts.ensures.only done write)

@@ -5,7 +5,7 @@ use Rattle.qp_model.specs.problem.Parts.{design_of}
 use Rattle.command_line.specs.declared.status.Status.{Status}
 use Rattle.command_files.specs.Reading.{EndsController}
 use Rattle.command_loop.specs.Files.{EndsMatching}
-use Rattle.command_loop.proofs.Refusals.{handed, unmet}
+use Rattle.command_line.proofs.Results.{handed, unmet}
 use Rattle.command_loop.proofs.files.read_controller_for.Goals as goal
 
 matching : (d : Design) (held : Option Files) (name : List ℕ) (before now : ℕ) (s : Status) → EndsController 2 held name before now s → EndsMatching d held name before now s

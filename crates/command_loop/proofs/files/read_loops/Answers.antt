@@ -1,6 +1,6 @@
 use Rattle.std.proofs.lemmas.Result.{IfErr-weaker}
 use Rattle.command_loop.specs.Files.{EndsLoops}
-use Rattle.command_loop.proofs.Refusals.{handed, unmet}
+use Rattle.command_line.proofs.Results.{handed, unmet}
 use Rattle.command_loop.proofs.Opening.{ends_later, first_ends}
 use Rattle.command_loop.proofs.files.read_loops.Goals as goal
 

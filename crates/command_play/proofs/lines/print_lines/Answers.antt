@@ -1,7 +1,7 @@
 use Rattle.std.proofs.Common.{◌≡◌, ◌⊎◌, ◌∙◌, ◌++◌, ◌<◌, inl, inr, length, List, ℕ, refl, sym, ap, subst, arith}
 use Rattle.mat_int.specs.Matrix.{row_of}
 use Rattle.mac_listing.specs.Listing.{Instructions}
-use Rattle.mac_machine.specs.Machine.{HasRoom}
+use Rattle.mac_machine.specs.Machine.{NeverTraps}
 use Rattle.command_line.specs.declared.status.Status.TheVariants.{Memory}
 use Rattle.command_play.specs.Plays.{HaveRoom, run_line, run_lines}
 use Rattle.command_play.specs.Printing.{TrapsIn, PlaysPrint}
@@ -18,7 +18,7 @@ returns-then-is_err-clause-printed g c =
     let mid = g.O.Sink.got c.loop-i.out in
     let last = g.O.Sink.got c.put.new.self in
     let lt : i < length m.rows = omega arith in
-    let here = subst (λ (k : Instructions). HasRoom k (row_of m i)) c.loop-i.invariant.listing c.in-Ok.ensures.room in
+    let here = subst (λ (k : Instructions). NeverTraps k (row_of m i)) c.loop-i.invariant.listing c.in-Ok.ensures.room in
     let line = c.deref.ensures.value ∙ c.in-Ok.ensures.line ∙ ap (λ (k : Instructions). run_line k (row_of m i)) c.loop-i.invariant.listing in
     cut_prints l m first last
     (print_cut c.put.result l m i c.deref.result.now first mid last (sym c.is_err.ensures.value ∙ c.if-is_err.true) c.put.ensures.err c.loop-i.invariant.got lt (room_more l m i c.loop-i.invariant.room here) line)
@@ -52,7 +52,7 @@ loop-i-preserved g c =
     let m = c.args.states.now in
     let i = c.loop-i.i in
     let lt : i < length m.rows = omega arith in
-    let here = subst (λ (k : Instructions). HasRoom k (row_of m i)) c.loop-i.invariant.listing c.in-Ok.ensures.room in
+    let here = subst (λ (k : Instructions). NeverTraps k (row_of m i)) c.loop-i.invariant.listing c.in-Ok.ensures.room in
     let line = c.deref.ensures.value ∙ c.in-Ok.ensures.line ∙ ap (λ (k : Instructions). run_line k (row_of m i)) c.loop-i.invariant.listing in
     let put = told_ok c.put.result _ (sym c.is_err.ensures.value ∙ c.if-is_err.false) c.put.ensures.ok in
     record {

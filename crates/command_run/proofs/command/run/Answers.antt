@@ -1,8 +1,12 @@
-use Rattle.std.proofs.Common.{◌≡◌, inl, refl, le_refl}
-use Rattle.command_line.specs.Words.{IsGenerate, IsSolve, IsLoop, IsDemo, IsList, IsPlay}
+use Rattle.std.proofs.Common.{◌≡◌, inl, refl, le_refl, ℕ, Bool, List, subst}
+use Rattle.command_line.specs.Words.{IsGenerate, IsSolve, IsLoop, IsDemo, IsList, IsStay, IsPlay, IsLean}
+use Rattle.std.specs.Prelude.{IfSome, IsSomeAnd}
 use Rattle.command_line.specs.Commands.{IsUsage}
 use Rattle.command_line.proofs.OneCommand.{one_command}
-use Rattle.command_line.specs.declared.words.Command.TheVariants.{Generate, Solve, Loop, Demo, List, Play}
+use Rattle.command_line.specs.declared.words.Command.TheVariants.{Generate, Solve, Loop, Demo, List as Listing, Stay, Play}
+use Rattle.std.specs.Prelude.{IfSome, IsSomeAnd}
+use Rattle.command_line.specs.declared.status.Status.TheVariants.{Done}
+use Rattle.command_line.specs.declared.words.Command.TheVariants.{Generate, Solve, Loop, Demo, Stay, Lean}
 use Rattle.command_generate.specs.Deeds.{generate_deeds}
 use Rattle.command_solve.specs.Deeds.{solve_deeds}
 use Rattle.command_loop.specs.Deeds.{loop_deeds}
@@ -11,8 +15,16 @@ use Rattle.command_demo.specs.Deeds.{demo_deeds}
 use Rattle.command_list.specs.Deeds.{list_deeds}
 use Rattle.command_play.specs.Deeds.{play_deeds}
 use Rattle.command_run.proofs.Commands.{each_called, each_shown, each_quiet, each_leaves, each_held, each_unused, each_read, each_failed, each_completes, shown_anyhow, shown_nothing, printing_quiet, writing_held, print_failed, write_failed, one_read, demo_called, demo_read, demo_failed, usage_not_done, same_counts}
+use Rattle.command_stay.specs.Deeds.{stay_deeds}
+use Rattle.command_stay.specs.Stay.{IsStayed}
+use Rattle.command_lean.specs.Deeds.{lean_deeds}
+use Rattle.command_run.proofs.Commands.{each_called, each_shown, each_quiet, each_leaves, each_held, each_unused, each_read, each_failed, each_completes, shown_anyhow, shown_nothing, printing_quiet, writing_held, print_failed, write_failed, demo_called, demo_read, demo_failed, usage_not_done, same_counts}
 use Rattle.command_run.proofs.Statuses.{no_usage, no_text_memory, no_controller_memory}
 use Rattle.command_run.proofs.command.run.Goals as goal
+
+-- what holds of a `stay` that the arguments are those of holds of each
+for_stay : (words : List (List ℕ)) (one : Bool) → IsStay words one → (P : Bool → Type 0) → P one → (other : Bool) → IsStay words other → P other
+for_stay words one is P h other that = subst P (let same : Stay one ≡ Stay other = one_command words (Stay one) (Stay other) is that in cc) h
 
 -- ---- `generate`
 pub returns-in-Some-Generate : goal.returns-in-Some-Generate
@@ -31,7 +43,9 @@ returns-in-Some-Generate g c =
     let failed = write_failed generate_deeds words held s writes writes_now printed printed c.generate.ensures.write_fault in
     record {
       generated = λ a. c.generate.ensures.generated;
+      stayed = λ x a done. absurd (let never : Stay x ≡ Generate = one_command words (Stay x) Generate a is in cc);
       played = λ a. absurd (let never : Play ≡ Generate = one_command words Play Generate a is in cc);
+      leaned = λ a done. absurd (let never : Lean ≡ Generate = one_command words Lean Generate a is in cc);
       usage = (λ e. absurd (no_usage Generate words held s called e), λ u. absurd (u Generate is));
       unused = λ u. absurd (u Generate is);
       called = each_called words Generate is held s called;
@@ -68,7 +82,9 @@ returns-in-Some-Solve g c =
     let failed = print_failed solve_deeds words held s writes writes_now printed printed_now tt c.solve.ensures.write_fault in
     record {
       generated = λ a done. absurd (let never : Generate ≡ Solve = one_command words Generate Solve a is in cc);
+      stayed = λ x a done. absurd (let never : Stay x ≡ Solve = one_command words (Stay x) Solve a is in cc);
       played = λ a. absurd (let never : Play ≡ Solve = one_command words Play Solve a is in cc);
+      leaned = λ a done. absurd (let never : Lean ≡ Solve = one_command words Lean Solve a is in cc);
       usage = (λ e. absurd (no_usage Solve words held s called e), λ u. absurd (u Solve is));
       unused = λ u. absurd (u Solve is);
       called = each_called words Solve is held s called;
@@ -105,7 +121,9 @@ returns-in-Some-Loop g c =
     let failed = print_failed (loop_deeds turns) words held s writes writes_now printed printed_now tt c.run_loops.ensures.write_fault in
     record {
       generated = λ a done. absurd (let never : Generate ≡ Loop turns = one_command words Generate (Loop turns) a is in cc);
+      stayed = λ x a done. absurd (let never : Stay x ≡ Loop turns = one_command words (Stay x) (Loop turns) a is in cc);
       played = λ a. absurd (let never : Play ≡ Loop turns = one_command words Play (Loop turns) a is in cc);
+      leaned = λ a done. absurd (let never : Lean ≡ Loop turns = one_command words Lean (Loop turns) a is in cc);
       usage = (λ e. absurd (no_usage (Loop turns) words held s called e), λ u. absurd (u (Loop turns) is));
       unused = λ u. absurd (u (Loop turns) is);
       called = each_called words (Loop turns) is held s called;
@@ -142,7 +160,9 @@ returns-in-Some-Demo g c =
     let failed = print_failed (demo_deeds number) words held s writes writes printed printed_now tt (demo_failed words held number s _ c.demo.ensures.write_fault) in
     record {
       generated = λ a done. absurd (let never : Generate ≡ Demo number = one_command words Generate (Demo number) a is in cc);
+      stayed = λ x a done. absurd (let never : Stay x ≡ Demo number = one_command words (Stay x) (Demo number) a is in cc);
       played = λ a. absurd (let never : Play ≡ Demo number = one_command words Play (Demo number) a is in cc);
+      leaned = λ a done. absurd (let never : Lean ≡ Demo number = one_command words Lean (Demo number) a is in cc);
       usage = (λ e. absurd (no_usage (Demo number) words held s called e), λ u. absurd (u (Demo number) is));
       unused = λ u. absurd (u (Demo number) is);
       called = each_called words (Demo number) is held s called;
@@ -176,22 +196,63 @@ returns-in-Some-List g c =
     let read = one_read list_deeds words held s reads reads_now (λ contents file first. first) c.list.ensures.read_fault in
     let failed = write_failed list_deeds words held s writes writes_now printed printed c.list.ensures.write_fault in
     record {
-      generated = λ a done. absurd (let never : Generate ≡ List = one_command words Generate List a is in cc);
-      played = λ a. absurd (let never : Play ≡ List = one_command words Play List a is in cc);
-      usage = (λ e. absurd (no_usage List words held s called e), λ u. absurd (u List is));
-      unused = λ u. absurd (u List is);
-      called = each_called words List is held s called;
-      no_inner_memory = λ file. (no_text_memory List words held s called file, no_controller_memory List words held s called file);
-      complete = each_completes words List is held s reads reads_now writes writes_now printed printed called read failed;
-      prints = each_shown words List is held s (g.O.Sink.got c.args.out.now) (g.O.Sink.got c.args.out.now) (shown_nothing words held (g.O.Sink.got c.args.out.now));
+      generated = λ a done. absurd (let never : Generate ≡ Listing = one_command words Generate Listing a is in cc);
+      stayed = λ x a done. absurd (let never : Stay x ≡ Listing = one_command words (Stay x) Listing a is in cc);
+      played = λ a. absurd (let never : Play ≡ Listing = one_command words Play Listing a is in cc);
+      leaned = λ a done. absurd (let never : Lean ≡ Listing = one_command words Lean Listing a is in cc);
+      usage = (λ e. absurd (no_usage Listing words held s called e), λ u. absurd (u Listing is));
+      unused = λ u. absurd (u Listing is);
+      called = each_called words Listing is held s called;
+      no_inner_memory = λ file. (no_text_memory Listing words held s called file, no_controller_memory Listing words held s called file);
+      complete = each_completes words Listing is held s reads reads_now writes writes_now printed printed called read failed;
+      prints = each_shown words Listing is held s (g.O.Sink.got c.args.out.now) (g.O.Sink.got c.args.out.now) (shown_nothing words held (g.O.Sink.got c.args.out.now));
       quiet = λ d that unprinted. refl;
-      leaves = each_leaves words List is held s (g.S.Store.held c.list.new.store) (record { listed = c.list.ensures.listed; cut = c.list.ensures.cut });
-      held = each_held words List is held s _ (writing_held list_deeds s _ 2 refl c.list.ensures.held);
-      no_file = each_unused words List is held s _ (λ uses. absurd (uses.reads 1 refl));
-      read_fault = each_read words List is held s reads reads_now read;
-      write_fault = each_failed words List is held s writes writes_now printed printed failed;
+      leaves = each_leaves words Listing is held s (g.S.Store.held c.list.new.store) (record { listed = c.list.ensures.listed; cut = c.list.ensures.cut });
+      held = each_held words Listing is held s _ (writing_held list_deeds s _ 2 refl c.list.ensures.held);
+      no_file = each_unused words Listing is held s _ (λ uses. absurd (uses.reads 1 refl));
+      read_fault = each_read words Listing is held s reads reads_now read;
+      write_fault = each_failed words Listing is held s writes writes_now printed printed failed;
       reads = c.list.ensures.reads;
       writes = c.list.ensures.writes;
+      no_fewer = le_refl printed;
+    }
+
+-- ---- `stay`
+pub returns-in-Some-Stay : goal.returns-in-Some-Stay
+returns-in-Some-Stay g c =
+    let words = c.args.words.now in
+    let held = g.S.Store.held c.args.store.now in
+    let reads = g.S.Store.read_faults c.args.store.now in
+    let reads_now = g.S.Store.read_faults c.stay.new.store in
+    let writes = g.S.Store.write_faults c.args.store.now in
+    let writes_now = g.S.Store.write_faults c.stay.new.store in
+    let printed = g.O.Sink.faults c.args.out.now in
+    let s = c.stay.result in
+    let disturbed = c.in-Some-Stay.disturbed in
+    let is : IsStay words disturbed = rw c.in-Some-Stay.field-0-is at c.in-Some-Stay.ensures in
+    let called = c.stay.ensures.called in
+    let read = c.stay.ensures.read_fault in
+    let failed = write_failed (stay_deeds disturbed) words held s writes writes_now printed printed c.stay.ensures.write_fault in
+    record {
+      generated = λ a done. absurd (let never : Generate ≡ Stay disturbed = one_command words Generate (Stay disturbed) a is in cc);
+      played = λ a. absurd (let never : Play ≡ Stay disturbed = one_command words Play (Stay disturbed) a is in cc);
+      stayed = λ x a. for_stay words disturbed is (λ d. s ≡ Done → IfSome held (λ files. IsSomeAnd (g.S.Store.held c.stay.new.store) (IsStayed d words files))) c.stay.ensures.stayed x a;
+      leaned = λ a done. absurd (let never : Lean ≡ Stay disturbed = one_command words Lean (Stay disturbed) a is in cc);
+      usage = (λ e. absurd (no_usage (Stay disturbed) words held s called e), λ u. absurd (u (Stay disturbed) is));
+      unused = λ u. absurd (u (Stay disturbed) is);
+      called = each_called words (Stay disturbed) is held s called;
+      no_inner_memory = λ file. (no_text_memory (Stay disturbed) words held s called file, no_controller_memory (Stay disturbed) words held s called file);
+      complete = each_completes words (Stay disturbed) is held s reads reads_now writes writes_now printed printed called read failed;
+      prints = each_shown words (Stay disturbed) is held s (g.O.Sink.got c.args.out.now) (g.O.Sink.got c.args.out.now) (shown_nothing words held (g.O.Sink.got c.args.out.now));
+      quiet = λ d that unprinted. refl;
+      leaves = each_leaves words (Stay disturbed) is held s (g.S.Store.held c.stay.new.store)
+          (record { stayed = c.stay.ensures.stayed; controller_cut = c.stay.ensures.controller_cut; report_cut = c.stay.ensures.report_cut });
+      held = each_held words (Stay disturbed) is held s _ (writing_held (stay_deeds disturbed) s _ 3 (inl refl) c.stay.ensures.held);
+      no_file = each_unused words (Stay disturbed) is held s _ (λ uses. absurd (uses.reads 1 (inl refl)));
+      read_fault = each_read words (Stay disturbed) is held s reads reads_now read;
+      write_fault = each_failed words (Stay disturbed) is held s writes writes_now printed printed failed;
+      reads = c.stay.ensures.reads;
+      writes = c.stay.ensures.writes;
       no_fewer = le_refl printed;
     }
 
@@ -213,7 +274,9 @@ returns-in-Some-Play g c =
     let failed = print_failed play_deeds words held s writes writes_now printed printed_now tt c.play.ensures.write_fault in
     record {
       generated = λ a done. absurd (let never : Generate ≡ Play = one_command words Generate Play a is in cc);
+      stayed = λ x a done. absurd (let never : Stay x ≡ Play = one_command words (Stay x) Play a is in cc);
       played = λ a. c.play.ensures.as_solved;
+      leaned = λ a done. absurd (let never : Lean ≡ Play = one_command words Lean Play a is in cc);
       usage = (λ e. absurd (no_usage Play words held s called e), λ u. absurd (u Play is));
       unused = λ u. absurd (u Play is);
       called = each_called words Play is held s called;
@@ -231,6 +294,44 @@ returns-in-Some-Play g c =
       no_fewer = c.play.ensures.no_fewer;
     }
 
+-- ---- `lean`
+pub returns-in-Some-Lean : goal.returns-in-Some-Lean
+returns-in-Some-Lean g c =
+    let words = c.args.words.now in
+    let held = g.S.Store.held c.args.store.now in
+    let reads = g.S.Store.read_faults c.args.store.now in
+    let reads_now = g.S.Store.read_faults c.lean.new.store in
+    let writes = g.S.Store.write_faults c.args.store.now in
+    let writes_now = g.S.Store.write_faults c.lean.new.store in
+    let printed = g.O.Sink.faults c.args.out.now in
+    let s = c.lean.result in
+    let is : IsLean words = rw c.in-Some-Lean.field-0-is at c.in-Some-Lean.ensures in
+    let called = c.lean.ensures.called in
+    let read = c.lean.ensures.read_fault in
+    let failed = write_failed lean_deeds words held s writes writes_now printed printed c.lean.ensures.write_fault in
+    record {
+      generated = λ a done. absurd (let never : Generate ≡ Lean = one_command words Generate Lean a is in cc);
+      stayed = λ x a done. absurd (let never : Stay x ≡ Lean = one_command words (Stay x) Lean a is in cc);
+      leaned = λ a. c.lean.ensures.written;
+      played = λ a. absurd (let never : Play ≡ Lean = one_command words Play Lean a is in cc);
+      usage = (λ e. absurd (no_usage Lean words held s called e), λ u. absurd (u Lean is));
+      unused = λ u. absurd (u Lean is);
+      called = each_called words Lean is held s called;
+      no_inner_memory = λ file. (no_text_memory Lean words held s called file, no_controller_memory Lean words held s called file);
+      complete = each_completes words Lean is held s reads reads_now writes writes_now printed printed called read failed;
+      prints = each_shown words Lean is held s (g.O.Sink.got c.args.out.now) (g.O.Sink.got c.args.out.now) (shown_nothing words held (g.O.Sink.got c.args.out.now));
+      quiet = λ d that unprinted. refl;
+      leaves = each_leaves words Lean is held s (g.S.Store.held c.lean.new.store)
+          (record { written = c.lean.ensures.written; controller_cut = c.lean.ensures.controller_cut; report_cut = c.lean.ensures.report_cut });
+      held = each_held words Lean is held s _ (writing_held lean_deeds s _ 4 (inl refl) c.lean.ensures.held);
+      no_file = each_unused words Lean is held s _ (λ uses. absurd (uses.reads 1 (inl refl)));
+      read_fault = each_read words Lean is held s reads reads_now read;
+      write_fault = each_failed words Lean is held s writes writes_now printed printed failed;
+      reads = c.lean.ensures.reads;
+      writes = c.lean.ensures.writes;
+      no_fewer = le_refl printed;
+    }
+
 -- ---- no command
 pub returns-in-None : goal.returns-in-None
 returns-in-None g c =
@@ -238,7 +339,9 @@ returns-in-None g c =
     let is : IsUsage words = c.in-None.ensures in
     record {
       generated = λ a done. usage_not_done _ done;
+      stayed = λ x a done. usage_not_done _ done;
       played = λ a. absurd (is Play a);
+      leaned = λ a done. usage_not_done _ done;
       usage = (λ e. is, λ u. refl);
       unused = λ u. (refl, refl);
       called = λ d that. absurd (is d that);

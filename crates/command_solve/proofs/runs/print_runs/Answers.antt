@@ -51,14 +51,13 @@ returns-in-Ok-all_inside g c =
     let m = c.args.states.now in
     let s = c.print_lines.result in
     let prepared = ap (λ (k : Progress). k.controller) c.in-Ok.ensures in
-    let same = c.all_inside.ensures.controller ∙ prepared in
     let inside = subst (λ (k : Numbers). AreInside k m (length m.rows)) prepared c.in-Ok-all_inside.ensures.inside in
     let only = c.print_lines.ensures.only in
     let some = c.print_lines.ensures.some in
     record {
       ends = lines_end n m s inside only some;
       printed = lines_print n m s inside only some (g.O.Sink.got c.args.out.now) (g.O.Sink.got c.print_lines.new.out)
-          (subst (λ (k : Numbers). IfSome (g.O.Sink.got c.args.out.now) (λ old. IsSomeAnd (g.O.Sink.got c.print_lines.new.out) (ArePrinted k m s old))) same c.print_lines.ensures.printed);
+          (subst (λ (k : Numbers). IfSome (g.O.Sink.got c.args.out.now) (λ old. IsSomeAnd (g.O.Sink.got c.print_lines.new.out) (ArePrinted k m s old))) prepared c.print_lines.ensures.printed);
       quiet = λ done memory fault. one_of_them n m s inside only some _ done fault memory;
       failed = c.print_lines.ensures.failed;
       no_fewer = c.print_lines.ensures.no_fewer;

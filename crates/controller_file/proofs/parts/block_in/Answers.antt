@@ -2,7 +2,7 @@ use Rattle.std.proofs.Common.{◌≡◌, ◌∙◌, ◌+◌, ◌<◌, ◌≤◌,
 use Rattle.controller_file.specs.declared.table.Sizes.{Sizes}
 use Rattle.text_lines.specs.declared.line.Line.{Line}
 use Rattle.text_lines.specs.Lines.{views}
-use Rattle.text_lines.specs.Blocks.{Block, Row, seen, total_rows}
+use Rattle.text_lines.specs.Blocks.{Block, Row, blocks_of, total_rows}
 use Rattle.text_lines.proofs.Blocks.{no_row}
 use Rattle.controller_file.specs.Lines.{line_blocks}
 use Rattle.controller_file.specs.Table.{text_table, AreSmall, Says}
@@ -12,16 +12,16 @@ use Rattle.text_lines.proofs.Beginnings.{begun}
 use Rattle.controller_file.proofs.parts.block_in.Goals as goal
 
 -- the lines before a block, by the table as the code has it
-before : (rs : List Row) (z : Sizes) (k start : ℕ) → seen rs ≡ text_table z → start ≡ total_rows (take k (seen rs)) → start ≡ total_rows (take k (text_table z))
+before : (rs : List Row) (z : Sizes) (k start : ℕ) → blocks_of rs ≡ text_table z → start ≡ total_rows (take k (blocks_of rs)) → start ≡ total_rows (take k (text_table z))
 before rs z k start same e = e ∙ ap (λ (ts : List Block). total_rows (take k ts)) same
 
 -- the lines of a block are there
-room : (lines : List Line) (rs : List Row) (z : Sizes) (k start : ℕ) → IsWhole (views lines) → Says (views lines) z → seen rs ≡ text_table z → k < 16 → start ≡ total_rows (take k (seen rs))
+room : (lines : List Line) (rs : List Row) (z : Sizes) (k start : ℕ) → IsWhole (views lines) → Says (views lines) z → blocks_of rs ≡ text_table z → k < 16 → start ≡ total_rows (take k (blocks_of rs))
     → start + (get_or rs k no_row).1 ≤ length lines
 room lines rs z k start w says same lt e =
     omega (arith, (row_at rs z k same lt).1, part_within lines w.numbers z k w.form w.lines (said_sizes (views lines) z w.numbers w.lines says) lt, before rs z k start same e)
 
-few : (rs : List Row) (z : Sizes) → seen rs ≡ text_table z → AreSmall z → total_rows (seen rs) < 2 ^ 64
+few : (rs : List Row) (z : Sizes) → blocks_of rs ≡ text_table z → AreSmall z → total_rows (blocks_of rs) < 2 ^ 64
 few rs z same small = omega (arith, few_rows z small, ap total_rows same)
 
 pub rows_before-start-requires-clause-few : goal.rows_before-start-requires-clause-few

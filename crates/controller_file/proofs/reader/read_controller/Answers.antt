@@ -17,7 +17,8 @@ use Rattle.controller_file.proofs.Uniqueness.{one_form, in_form}
 use Rattle.controller_file.proofs.reader.read_controller.Goals as goal
 
 -- what was read are the numbers of bytes in form
-read : (bytes : List ℕ) (told : Result (Vec Line) ℕ) (v : Vec Line) (lines : List Line) (parts : ControllerParts) → MatchResult told (λ v. IsWhole (views v.items) × (bytes ≡ text_of (map spelled (views v.items)))) (IsBadLine bytes) → told ≡ Ok v → lines ≡ v.items
+read : (bytes : List ℕ) (told : Result (Vec Line) ℕ) (v : Vec Line) (lines : List Line) (parts : ControllerParts) →
+    MatchResult told (λ v. IsWhole (views v.items) × (bytes ≡ text_of (map spelled (views v.items)))) (IsBadLine bytes) → told ≡ Ok v → lines ≡ v.items
     → ((c : Numbers) → IsInForm c → keyed_lines c ≡ views lines → numbers parts ≡ c) → IsTextInForm bytes (numbers parts)
 read bytes told v lines parts h is same made =
     let both : IsWhole (views v.items) × (bytes ≡ text_of (map spelled (views v.items))) = subst (λ (r : Result (Vec Line) ℕ). MatchResult r (λ v. IsWhole (views v.items) × (bytes ≡ text_of (map spelled (views v.items)))) (IsBadLine bytes)) is h in

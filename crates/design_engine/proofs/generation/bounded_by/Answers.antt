@@ -1,3 +1,7 @@
+use Rattle.std.proofs.Common.{rules, ◌∙◌}
+use Rattle.std.specs.Int.{w128}
+use Rattle.std.proofs.lemmas.Int.{to_z-of_z}
+use mir.Val.{SFits}
 use Rattle.design_engine.proofs.RefusalFacts.{refused_by, margin_refused}
 use Rattle.design_engine.proofs.AnswerLaws.{absent_of_error}
 use Rattle.design_engine.proofs.generation.bounded_by.Goals as goal
@@ -10,23 +14,19 @@ returns-in_err-margin-clause-refused c =
 pub returns-clause-passes : goal.returns-clause-passes
 returns-clause-passes c = record { room = c.in_ok-margin.ensures.room; margin = c.in_ok-margin.ensures.margin; slack = c.in_ok-margin.ensures.slack }
 
-pub returns-clause-room : goal.returns-clause-room
-returns-clause-room c = c.in_ok-r.ensures.value.0
+pub returns-clause-bounded : goal.returns-clause-bounded
+returns-clause-bounded c =
+    let r : SFits w128 c.in_ok-r.r = search rules in
+    record { multiplier = to_z-of_z w128 _ r ∙ c.in_ok-r.ensures.value.1; room = c.in_ok-r.ensures.value.0 }
 
 pub returns-in_err-margin-clause-passes : goal.returns-in_err-margin-clause-passes
 returns-in_err-margin-clause-passes c = absent_of_error c.from_residual.result _ c.from_residual.ensures.0
 
-pub returns-in_err-margin-clause-room : goal.returns-in_err-margin-clause-room
-returns-in_err-margin-clause-room c = absent_of_error c.from_residual.result _ c.from_residual.ensures.0
-
-pub returns-in_err-margin-clause-multiplier : goal.returns-in_err-margin-clause-multiplier
-returns-in_err-margin-clause-multiplier c = absent_of_error c.from_residual.result _ c.from_residual.ensures.0
+pub returns-in_err-margin-clause-bounded : goal.returns-in_err-margin-clause-bounded
+returns-in_err-margin-clause-bounded c = absent_of_error c.from_residual.result _ c.from_residual.ensures.0
 
 pub returns-in_err-r-clause-passes : goal.returns-in_err-r-clause-passes
 returns-in_err-r-clause-passes c = absent_of_error c.from_residual-in_err-r.result _ c.from_residual-in_err-r.ensures.0
 
-pub returns-in_err-r-clause-room : goal.returns-in_err-r-clause-room
-returns-in_err-r-clause-room c = absent_of_error c.from_residual-in_err-r.result _ c.from_residual-in_err-r.ensures.0
-
-pub returns-in_err-r-clause-multiplier : goal.returns-in_err-r-clause-multiplier
-returns-in_err-r-clause-multiplier c = absent_of_error c.from_residual-in_err-r.result _ c.from_residual-in_err-r.ensures.0
+pub returns-in_err-r-clause-bounded : goal.returns-in_err-r-clause-bounded
+returns-in_err-r-clause-bounded c = absent_of_error c.from_residual-in_err-r.result _ c.from_residual-in_err-r.ensures.0

@@ -1,15 +1,14 @@
-use Rattle.std.proofs.Common.{◌≡◌, ℕ, ◌<◌, ℤ, List, length, pos, rules, false, refl, ap, subst, sym, ◌∙◌}
+use Rattle.std.proofs.Common.{◌≡◌, ℕ, ◌<◌, ◌≤◌, ◌^◌, ℤ, unsigned_abs, List, length, pos, rules, false, refl, ap, subst, sym, ◌∙◌}
 use Rattle.std.specs.Int.{w128}
 use Rattle.std.proofs.lemmas.Int.{to_z-of_z}
 use mir.Val.{SFits}
-use Rattle.qp_model.specs.bounds.Choices.{row_violation_bound}
+use Rattle.qp_model.specs.bounds.Choices.{row_violation_bound, violation_bound, undercut_bound, multiplier_of}
 use Rattle.qp_model.specs.machine.Controller.{Numbers}
 use Rattle.qp_model.specs.machine.AbsoluteSums.{IsController}
 use Rattle.qp_model.specs.problem.Runs.{Holds}
 use Rattle.hessian_check.specs.RowExponents.{exponent_in}
-use Rattle.design_engine.proofs.GenerationFacts.{bound_some, whole_is, whole_some, whole_narrow, whole_least}
+use Rattle.design_engine.proofs.GenerationFacts.{bound_some, bound_narrow, whole_is, whole_some, whole_narrow, whole_least}
 use Rattle.design_engine.proofs.PrintedFacts.{bounds_from}
-use Rattle.std.proofs.Common.{◌≤◌}
 use Rattle.design_engine.proofs.AnswerLaws.{absent_of_error}
 use Rattle.design_engine.proofs.generation.bounds_of.Goals as goal
 
@@ -28,27 +27,27 @@ below : (c : Numbers) (es : List ℕ) (s : ℕ) → IsController c → es ≡ c.
 below c es s sound e k i l = subst (λ (s : ℕ). exponent_in es i ≤ s) k (subst (λ (xs : List ℕ). (i < length xs) → exponent_in xs i ≤ c.step_exponent) (sym e) (λ l. sound.form.sized.exponents i 0 l) l)
 
 pub returns-clause-bounds : goal.returns-clause-bounds
-returns-clause-bounds c = λ cost at steps bits.
+returns-clause-bounds c = λ cost at.
     let n = c.args.controller.now in
     let sound : IsController n = search rules in
-    let r : SFits w128 c.args.scaled.now.r = search rules in
+    let r : SFits w128 c.args.bounded.r = search rules in
     let v : SFits w128 c.violation-violation.result = search rules in
     let u : SFits w128 c.undercut.result = search rules in
     let e : SFits w128 c.args.eps = c.ranges.eps in
-    let m : SFits w128 c.args.scaled.now.margin.units = search rules in
-    let k : SFits w128 c.args.scaled.now.margin.cost = search rules in
+    let m : SFits w128 c.args.bounded.margin.units = search rules in
+    let k : SFits w128 c.args.bounded.margin.cost = search rules in
     let parts = c.parts-parts.ensures.value in
     let rows = rw (to_z-of_z w128 _ r, to_z-of_z w128 _ e) at c.in_ok-row_violations.ensures in
     rw (to_z-of_z w128 _ r, to_z-of_z w128 _ v, to_z-of_z w128 _ u, to_z-of_z w128 _ e, to_z-of_z w128 _ m, to_z-of_z w128 _ k)
-    (bounds_from cost n c.args.scaled.now.margin (record {
+    (bounds_from cost n c.args.bounded.margin (record {
       version = c.parts-parts.result.now.version;
-      margin = c.args.scaled.now.margin.units;
+      margin = c.args.bounded.margin.units;
       lean = false;
-      cost = c.args.scaled.now.margin.cost;
-      multiplier = c.args.scaled.now.r;
-      step = c.args.scaled.now.s;
-      steps = c.args.plan.now.steps;
-      bits = c.args.plan.now.choice.f;
+      cost = c.args.bounded.margin.cost;
+      multiplier = c.args.bounded.r;
+      step = c.parts-parts.result.now.s;
+      steps = c.parts-parts.result.now.steps;
+      bits = c.parts-parts.result.now.f;
       width = c.parts-parts.result.now.w;
       words = c.parts-parts.result.now.words;
       violation = c.violation-violation.result;
@@ -59,10 +58,10 @@ returns-clause-bounds c = λ cost at steps bits.
       version = ap (λ (x : Numbers). x.version) parts;
       margin = refl;
       corners = refl;
-      multiplier = c.requires.multiplier;
-      step = c.requires.same;
-      steps = steps;
-      bits = bits;
+      multiplier = c.requires.bounded.multiplier;
+      step = ap (λ (x : Numbers). x.step_exponent) (sym parts);
+      steps = ap (λ (x : Numbers). x.steps) (sym parts);
+      bits = ap (λ (x : Numbers). x.fraction_bits) (sym parts);
       width = ap (λ (x : Numbers). x.width) parts;
       words = ap (λ (x : Numbers). x.words) parts;
       gap = at;
@@ -74,13 +73,13 @@ returns-clause-bounds c = λ cost at steps bits.
 -- ---- what each call asks
 pub violation-violation-requires-clause-some : goal.violation-violation-requires-clause-some
 violation-violation-requires-clause-some c =
-    let r : SFits w128 c.args.scaled.now.r = search rules in
-    whole_some c.args.scaled.now.r _ r c.requires.multiplier (bound_some c.args.scaled.now.margin)
+    let r : SFits w128 c.args.bounded.r = search rules in
+    whole_some c.args.bounded.r _ r c.requires.bounded.multiplier (bound_some c.args.bounded.margin)
 
 pub violation-violation-requires-clause-narrow : goal.violation-violation-requires-clause-narrow
 violation-violation-requires-clause-narrow c =
-    let r : SFits w128 c.args.scaled.now.r = search rules in
-    whole_narrow c.args.scaled.now.r _ r c.requires.multiplier c.requires.narrow
+    let r : SFits w128 c.args.bounded.r = search rules in
+    whole_narrow c.args.bounded.r _ r c.requires.bounded.multiplier (bound_narrow c.args.bounded.margin c.requires.bounded.room)
 
 pub violation-violation-requires-clause-errors : goal.violation-violation-requires-clause-errors
 violation-violation-requires-clause-errors c =
@@ -93,17 +92,17 @@ violation-violation-requires-clause-small c =
     rw (to_z-of_z w128 _ e) c.requires.small
 
 pub violation-violation-requires-clause-steps : goal.violation-violation-requires-clause-steps
-violation-violation-requires-clause-steps c = c.requires.steps
+violation-violation-requires-clause-steps c = c.parts-parts.ensures.sound.form.sized.steps.0
 
 pub row_violations-requires-clause-some : goal.row_violations-requires-clause-some
 row_violations-requires-clause-some c =
-    let r : SFits w128 c.args.scaled.now.r = search rules in
-    whole_some c.args.scaled.now.r _ r c.requires.multiplier (bound_some c.args.scaled.now.margin)
+    let r : SFits w128 c.args.bounded.r = search rules in
+    whole_some c.args.bounded.r _ r c.requires.bounded.multiplier (bound_some c.args.bounded.margin)
 
 pub row_violations-requires-clause-narrow : goal.row_violations-requires-clause-narrow
 row_violations-requires-clause-narrow c =
-    let r : SFits w128 c.args.scaled.now.r = search rules in
-    whole_narrow c.args.scaled.now.r _ r c.requires.multiplier c.requires.narrow
+    let r : SFits w128 c.args.bounded.r = search rules in
+    whole_narrow c.args.bounded.r _ r c.requires.bounded.multiplier (bound_narrow c.args.bounded.margin c.requires.bounded.room)
 
 pub row_violations-requires-clause-errors : goal.row_violations-requires-clause-errors
 row_violations-requires-clause-errors c =
@@ -116,15 +115,15 @@ row_violations-requires-clause-small c =
     rw (to_z-of_z w128 _ e) c.requires.small
 
 pub row_violations-requires-clause-steps : goal.row_violations-requires-clause-steps
-row_violations-requires-clause-steps c = c.requires.steps
+row_violations-requires-clause-steps c = c.parts-parts.ensures.sound.form.sized.steps.0
 
 pub row_violations-requires-clause-exponent : goal.row_violations-requires-clause-exponent
-row_violations-requires-clause-exponent c = c.requires.exponent
+row_violations-requires-clause-exponent c = c.parts-parts.ensures.sound.form.sized.step_exponent
 
 pub undercut-requires-clause-some : goal.undercut-requires-clause-some
 undercut-requires-clause-some c =
-    let r : SFits w128 c.args.scaled.now.r = search rules in
-    whole_some c.args.scaled.now.r _ r c.requires.multiplier (bound_some c.args.scaled.now.margin)
+    let r : SFits w128 c.args.bounded.r = search rules in
+    whole_some c.args.bounded.r _ r c.requires.bounded.multiplier (bound_some c.args.bounded.margin)
 
 pub undercut-requires-clause-rows : goal.undercut-requires-clause-rows
 undercut-requires-clause-rows c =
@@ -133,20 +132,22 @@ undercut-requires-clause-rows c =
 
 pub undercut-requires-clause-fits : goal.undercut-requires-clause-fits
 undercut-requires-clause-fits c =
-    let r : SFits w128 c.args.scaled.now.r = search rules in
+    let r : SFits w128 c.args.bounded.r = search rules in
     let v : SFits w128 c.violation-violation.result = search rules in
     let e : SFits w128 c.args.eps = c.ranges.eps in
-    let bound = whole_is c.args.scaled.now.r _ r c.requires.multiplier in
-    rw (bound, whole_is c.violation-violation.result _ v (rw (bound, to_z-of_z w128 _ e) at c.violation-violation.ensures)) c.requires.fits
+    let bound = whole_is c.args.bounded.r _ r c.requires.bounded.multiplier in
+    let room = subst (λ (x : Numbers). undercut_bound (multiplier_of c.args.bounded.margin)
+    (violation_bound x.step_exponent (multiplier_of c.args.bounded.margin) x.steps (unsigned_abs c.args.eps)) ≤ 2 ^ 126) (sym c.parts-parts.ensures.value) c.requires.fits in
+    rw (bound, whole_is c.violation-violation.result _ v (rw (bound, to_z-of_z w128 _ e) at c.violation-violation.ensures)) room
 
 pub violation-violation-requires-clause-exponent : goal.violation-violation-requires-clause-exponent
-violation-violation-requires-clause-exponent c = c.requires.exponent
+violation-violation-requires-clause-exponent c = c.parts-parts.ensures.sound.form.sized.step_exponent
 
 pub row_violations-requires-clause-rows : goal.row_violations-requires-clause-rows
 row_violations-requires-clause-rows c =
     let n = c.args.controller.now in
     let sound : IsController n = search rules in
-    below n _ _ sound (c.deref.ensures.value ∙ ap (λ (x : Numbers). x.exponents) c.parts-parts.ensures.value) c.requires.same
+    below n _ _ sound (c.deref.ensures.value ∙ ap (λ (x : Numbers). x.exponents) c.parts-parts.ensures.value) (sym (ap (λ (x : Numbers). x.step_exponent) c.parts-parts.ensures.value))
 
 pub returns-in_err-row_violations-clause-margin : goal.returns-in_err-row_violations-clause-margin
 returns-in_err-row_violations-clause-margin c = absent_of_error c.from_residual.result _ c.from_residual.ensures.0
@@ -156,6 +157,6 @@ returns-in_err-row_violations-clause-bounds c = absent_of_error c.from_residual.
 
 pub returns-clause-margin : goal.returns-clause-margin
 returns-clause-margin c =
-    let m : SFits w128 c.args.scaled.now.margin.units = search rules in
-    let k : SFits w128 c.args.scaled.now.margin.cost = search rules in
+    let m : SFits w128 c.args.bounded.margin.units = search rules in
+    let k : SFits w128 c.args.bounded.margin.cost = search rules in
     rw (to_z-of_z w128 _ m, to_z-of_z w128 _ k) refl

@@ -36,13 +36,24 @@ returns-in_err-find_value-3 c =
     let here = c.in_ok-table.ensures.ok in
     let e = err_from_is_err_and c.from_residual-in_err-find_value-3.result c.from_residual-in_err-find_value-3.ensures.1 in
     let failed = c.in_err-find_value-3.ensures.err in
-    rw (e.1, e.2) (inr (inr ((stands c.args.name.now c.args.first.now m t here _ c.in_ok-find_value.ensures.ok), inr ((stands c.args.name.now c.args.second.now m t here _ c.in_ok-find_value-2.ensures.ok), inl (missing c.args.name.now c.args.third.now m t here failed.1, failed.0)))))
+    rw (e.1, e.2) (inr (inr (
+      (stands c.args.name.now c.args.first.now m t here _ c.in_ok-find_value.ensures.ok),
+      inr ((stands c.args.name.now c.args.second.now m t here _ c.in_ok-find_value-2.ensures.ok), inl (missing c.args.name.now c.args.third.now m t here failed.1, failed.0)),
+    )))
 
 pub returns : goal.returns
 returns c =
     let m = table_view c.args.document.now in
     let t = table_view c.in_ok-table.table.now in
     let here = c.in_ok-table.ensures.ok in (
-      ((stands c.args.name.now c.args.first.now m t here _ c.in_ok-find_value.ensures.ok), ((stands c.args.name.now c.args.second.now m t here _ c.in_ok-find_value-2.ensures.ok), ((stands c.args.name.now c.args.third.now m t here _ c.in_ok-find_value-3.ensures.ok), tt))),
-      (here, found c.args.name.now c.args.first.now m t here _ c.in_ok-find_value.ensures.ok, found c.args.name.now c.args.second.now m t here _ c.in_ok-find_value-2.ensures.ok, found c.args.name.now c.args.third.now m t here _ c.in_ok-find_value-3.ensures.ok),
+      (
+        (stands c.args.name.now c.args.first.now m t here _ c.in_ok-find_value.ensures.ok),
+        ((stands c.args.name.now c.args.second.now m t here _ c.in_ok-find_value-2.ensures.ok), ((stands c.args.name.now c.args.third.now m t here _ c.in_ok-find_value-3.ensures.ok), tt)),
+      ),
+      (
+        here,
+        found c.args.name.now c.args.first.now m t here _ c.in_ok-find_value.ensures.ok,
+        found c.args.name.now c.args.second.now m t here _ c.in_ok-find_value-2.ensures.ok,
+        found c.args.name.now c.args.third.now m t here _ c.in_ok-find_value-3.ensures.ok,
+      ),
     )

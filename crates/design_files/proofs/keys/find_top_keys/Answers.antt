@@ -28,5 +28,7 @@ returns-in_err-find_value-4 c =
     rw (e.1, e.2) (inr (inr (present _ _ c.in_ok-find_value.ensures.ok, inr (present _ _ c.in_ok-find_value-2.ensures.ok, inr (present _ _ c.in_ok-find_value-3.ensures.ok, inl (absent _ failed.1, failed.0))))))
 
 pub returns : goal.returns
-returns c =
-    ((present _ _ c.in_ok-find_value.ensures.ok, (present _ _ c.in_ok-find_value-2.ensures.ok, (present _ _ c.in_ok-find_value-3.ensures.ok, (present _ _ c.in_ok-find_value-4.ensures.ok, tt)))), record { version = c.in_ok-find_value.ensures.ok; states = c.in_ok-find_value-2.ensures.ok; inputs = c.in_ok-find_value-3.ensures.ok; stages = c.in_ok-find_value-4.ensures.ok })
+returns c = (
+  (present _ _ c.in_ok-find_value.ensures.ok, (present _ _ c.in_ok-find_value-2.ensures.ok, (present _ _ c.in_ok-find_value-3.ensures.ok, (present _ _ c.in_ok-find_value-4.ensures.ok, tt)))),
+  record { version = c.in_ok-find_value.ensures.ok; states = c.in_ok-find_value-2.ensures.ok; inputs = c.in_ok-find_value-3.ensures.ok; stages = c.in_ok-find_value-4.ensures.ok },
+)

@@ -23,11 +23,15 @@ returns-in_err-hi c =
     let v = seen c.args.keys.now in
     let n = c.args.n in
     let e = err_from_is_err_and c.from_residual-in_err-hi.result c.from_residual-in_err-hi.ensures.1 in
-    rw (e.1, e.2) (fails_third (count_rules 16 0 24 v.grid) (low_rules n v.lo) (high_rules n v.lo v.hi) _ c.in_ok-grid.ensures.0 c.in_ok-lo.ensures.0 (high_fails n v.lo v.hi c.in_ok-lo.lo.items c.in_ok-lo.ensures.1.numbers c.in_ok-lo.ensures.1.fits.long _ (rw c.deref.ensures.value at c.in_err-hi.ensures)))
+    rw (e.1, e.2) (fails_third (count_rules 16 0 24 v.grid) (low_rules n v.lo) (high_rules n v.lo v.hi) _ c.in_ok-grid.ensures.0 c.in_ok-lo.ensures.0
+    (high_fails n v.lo v.hi c.in_ok-lo.lo.items c.in_ok-lo.ensures.1.numbers c.in_ok-lo.ensures.1.fits.long _ (rw c.deref.ensures.value at c.in_err-hi.ensures)))
 
 pub returns : goal.returns
 returns c =
     let v = seen c.args.keys.now in
     let n = c.args.n in
-    let found = (rw c.deref.ensures.value at c.in_ok-hi.ensures) in
-    (three_hold (count_rules 16 0 24 v.grid) (low_rules n v.lo) (high_rules n v.lo v.hi) c.in_ok-grid.ensures.0 c.in_ok-lo.ensures.0 (high_holds n v.lo v.hi c.in_ok-lo.lo.items c.in_ok-lo.ensures.1.numbers c.in_ok-lo.ensures.1.fits.long found.0), record { grid = c.in_ok-grid.ensures.1; lo = c.in_ok-lo.ensures.1; hi = rw c.in_ok-lo.ensures.1.fits.long at found.1.0; box = rw c.in_ok-lo.ensures.1.fits.long at found.1.1 })
+    let found = (rw c.deref.ensures.value at c.in_ok-hi.ensures) in (
+      three_hold (count_rules 16 0 24 v.grid) (low_rules n v.lo) (high_rules n v.lo v.hi) c.in_ok-grid.ensures.0 c.in_ok-lo.ensures.0
+          (high_holds n v.lo v.hi c.in_ok-lo.lo.items c.in_ok-lo.ensures.1.numbers c.in_ok-lo.ensures.1.fits.long found.0),
+      record { grid = c.in_ok-grid.ensures.1; lo = c.in_ok-lo.ensures.1; hi = rw c.in_ok-lo.ensures.1.fits.long at found.1.0; box = rw c.in_ok-lo.ensures.1.fits.long at found.1.1 },
+    )

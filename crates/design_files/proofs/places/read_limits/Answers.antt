@@ -30,12 +30,16 @@ returns-in_err-final_ c =
     let n = c.args.n in
     let p = c.args.p in
     let e = err_from_is_err_and c.from_residual-in_err-final_.result c.from_residual-in_err-final_.ensures.1 in
-    rw (e.1, e.2) (fails_third (denominator_rules 13 v.limit_den) (table_rules 14 0 12 (n + p + 1) v.stage_rows) (final_row_rules n v.stage_rows v.final_rows) _ c.in_ok-den.ensures.0 c.in_ok-stage.ensures.0 (final_fails n v.stage_rows v.final_rows c.in_ok-stage.stage c.in_ok-stage.ensures.1.numbers.rows _ c.in_err-final_.ensures))
+    rw (e.1, e.2) (fails_third (denominator_rules 13 v.limit_den) (table_rules 14 0 12 (n + p + 1) v.stage_rows)
+    (final_row_rules n v.stage_rows v.final_rows) _ c.in_ok-den.ensures.0 c.in_ok-stage.ensures.0 (final_fails n v.stage_rows v.final_rows c.in_ok-stage.stage c.in_ok-stage.ensures.1.numbers.rows _ c.in_err-final_.ensures))
 
 pub returns : goal.returns
 returns c =
     let v = seen c.args.keys.now in
     let n = c.args.n in
     let p = c.args.p in
-    let f0 : SFits w128 c.in_ok-den.den = search rules in
-    (three_hold (denominator_rules 13 v.limit_den) (table_rules 14 0 12 (n + p + 1) v.stage_rows) (final_row_rules n v.stage_rows v.final_rows) c.in_ok-den.ensures.0 c.in_ok-stage.ensures.0 (final_holds n v.stage_rows v.final_rows c.in_ok-stage.stage c.in_ok-stage.ensures.1.numbers.rows c.in_ok-final_.ensures.0), record { den = rw (to_z-of_z w128 _ f0) c.in_ok-den.ensures.1; stage = c.in_ok-stage.ensures.1; final_ = c.in_ok-final_.ensures.1.0; some_row = c.in_ok-final_.ensures.1.1 })
+    let f0 : SFits w128 c.in_ok-den.den = search rules in (
+      three_hold (denominator_rules 13 v.limit_den) (table_rules 14 0 12 (n + p + 1) v.stage_rows) (final_row_rules n v.stage_rows v.final_rows) c.in_ok-den.ensures.0 c.in_ok-stage.ensures.0
+          (final_holds n v.stage_rows v.final_rows c.in_ok-stage.stage c.in_ok-stage.ensures.1.numbers.rows c.in_ok-final_.ensures.0),
+      record { den = rw (to_z-of_z w128 _ f0) c.in_ok-den.ensures.1; stage = c.in_ok-stage.ensures.1; final_ = c.in_ok-final_.ensures.1.0; some_row = c.in_ok-final_.ensures.1.1 },
+    )

@@ -37,5 +37,7 @@ returns c =
     let v = seen c.args.keys.now in
     let n = c.args.n in
     let p = c.args.p in
-    let f0 : SFits w128 c.in_ok-read_denominator.field-0 = search rules in
-    (three_hold (denominator_rules 5 v.plant_den) (table_rules 6 n n n v.a) (table_rules 7 n n p v.b) c.in_ok-read_denominator.ensures.0 c.in_ok-read_table.ensures.0 c.in_ok-read_table-2.ensures.0, record { den = rw (to_z-of_z w128 _ f0) c.in_ok-read_denominator.ensures.1; a = c.in_ok-read_table.ensures.1; b = c.in_ok-read_table-2.ensures.1 })
+    let f0 : SFits w128 c.in_ok-read_denominator.field-0 = search rules in (
+      three_hold (denominator_rules 5 v.plant_den) (table_rules 6 n n n v.a) (table_rules 7 n n p v.b) c.in_ok-read_denominator.ensures.0 c.in_ok-read_table.ensures.0 c.in_ok-read_table-2.ensures.0,
+      record { den = rw (to_z-of_z w128 _ f0) c.in_ok-read_denominator.ensures.1; a = c.in_ok-read_table.ensures.1; b = c.in_ok-read_table-2.ensures.1 },
+    )

@@ -31,5 +31,8 @@ returns c =
     let v = seen c.args.keys.now in
     let f0 : SFits w128 c.in_ok-read_denominator.field-0 = search rules in
     let f1 : SFits w128 c.in_ok-read_positive.field-0 = search rules in
-    let f2 : SFits w128 c.in_ok-read_positive-2.field-0 = search rules in
-    (three_hold (denominator_rules 19 v.target_den) (positive_rules 20 v.violation) (positive_rules 21 v.gap) c.in_ok-read_denominator.ensures.0 c.in_ok-read_positive.ensures.0 c.in_ok-read_positive-2.ensures.0, record { den = rw (to_z-of_z w128 _ f0) c.in_ok-read_denominator.ensures.1; violation = rw (to_z-of_z w128 _ f1) c.in_ok-read_positive.ensures.1; gap = rw (to_z-of_z w128 _ f2) c.in_ok-read_positive-2.ensures.1 })
+    let f2 : SFits w128 c.in_ok-read_positive-2.field-0 = search rules in (
+      three_hold (denominator_rules 19 v.target_den) (positive_rules 20 v.violation)
+          (positive_rules 21 v.gap) c.in_ok-read_denominator.ensures.0 c.in_ok-read_positive.ensures.0 c.in_ok-read_positive-2.ensures.0,
+      record { den = rw (to_z-of_z w128 _ f0) c.in_ok-read_denominator.ensures.1; violation = rw (to_z-of_z w128 _ f1) c.in_ok-read_positive.ensures.1; gap = rw (to_z-of_z w128 _ f2) c.in_ok-read_positive-2.ensures.1 },
+    )

@@ -15,4 +15,36 @@ returns c =
     let first_weight : FitsSigned w128 c.draw-8.result = search rules in
     let second_target : FitsSigned w128 c.draw-9.result = search rules in
     let second_weight : FitsSigned w128 c.draw-10.result = search rules in
-    rw (to_z-of_z w128 _ a11, to_z-of_z w128 _ a12, to_z-of_z w128 _ a21, to_z-of_z w128 _ a22, to_z-of_z w128 _ first_input, to_z-of_z w128 _ second_input, to_z-of_z w128 _ first_target, to_z-of_z w128 _ first_weight, to_z-of_z w128 _ second_target, to_z-of_z w128 _ second_weight, c.draw.ensures.value, c.draw-2.ensures.value, c.draw-3.ensures.value, c.draw-4.ensures.value, c.draw-5.ensures.value, c.draw-6.ensures.value, c.draw-7.ensures.value, c.draw-8.ensures.value, c.draw-9.ensures.value, c.draw-10.ensures.value, c.draw-10.ensures.number, c.draw-9.ensures.number, c.draw-8.ensures.number, c.draw-7.ensures.number, c.draw-6.ensures.number, c.draw-5.ensures.number, c.draw-4.ensures.number, c.draw-3.ensures.number, c.draw-2.ensures.number, c.draw.ensures.number, c.from.ensures) refl
+    rw (
+      to_z-of_z w128 _ a11,
+      to_z-of_z w128 _ a12,
+      to_z-of_z w128 _ a21,
+      to_z-of_z w128 _ a22,
+      to_z-of_z w128 _ first_input,
+      to_z-of_z w128 _ second_input,
+      to_z-of_z w128 _ first_target,
+      to_z-of_z w128 _ first_weight,
+      to_z-of_z w128 _ second_target,
+      to_z-of_z w128 _ second_weight,
+      c.draw.ensures.value,
+      c.draw-2.ensures.value,
+      c.draw-3.ensures.value,
+      c.draw-4.ensures.value,
+      c.draw-5.ensures.value,
+      c.draw-6.ensures.value,
+      c.draw-7.ensures.value,
+      c.draw-8.ensures.value,
+      c.draw-9.ensures.value,
+      c.draw-10.ensures.value,
+      c.draw-10.ensures.number,
+      c.draw-9.ensures.number,
+      c.draw-8.ensures.number,
+      c.draw-7.ensures.number,
+      c.draw-6.ensures.number,
+      c.draw-5.ensures.number,
+      c.draw-4.ensures.number,
+      c.draw-3.ensures.number,
+      c.draw-2.ensures.number,
+      c.draw.ensures.number,
+      c.from.ensures,
+    ) refl

@@ -16,4 +16,12 @@ returns c =
     let first_weight : FitsSigned w128 d.first_weight = search rules in
     let second_target : FitsSigned w128 d.second_target = search rules in
     let second_weight : FitsSigned w128 d.second_weight = search rules in
-    IfOk-weaker c.format.result _ (λ text. string_bytes text ≡ text_of (cost_lines d)) (λ text e. e ∙ rw (to_z-of_z w128 d.first_input first_input, to_z-of_z w128 d.second_input second_input, to_z-of_z w128 d.first_target first_target, to_z-of_z w128 d.first_weight first_weight, to_z-of_z w128 d.second_target second_target, to_z-of_z w128 d.second_weight second_weight) (cost_formatted d ∙ sym (cost_written d))) c.format.ensures.ok
+    IfOk-weaker c.format.result _ (λ text. string_bytes text ≡ text_of (cost_lines d))
+    (λ text e. e ∙ rw (
+      to_z-of_z w128 d.first_input first_input,
+      to_z-of_z w128 d.second_input second_input,
+      to_z-of_z w128 d.first_target first_target,
+      to_z-of_z w128 d.first_weight first_weight,
+      to_z-of_z w128 d.second_target second_target,
+      to_z-of_z w128 d.second_weight second_weight,
+    ) (cost_formatted d ∙ sym (cost_written d))) c.format.ensures.ok

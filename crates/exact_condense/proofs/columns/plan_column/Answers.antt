@@ -24,9 +24,13 @@ column_of-requires-clause-ready c = record {
 
 pub column_of-requires-clause-fits : goal.column_of-requires-clause-fits
 column_of-requires-clause-fits c =
-    at_both (RowsFit (design_of c.args.parts.now)) none _ (unit c.args.j) _ (sym (zeros_none _ _ c.args.parts.now.states (c.in_ok-start.ensures.items_if_clones_equal (λ y q. q)) c.deref.ensures.value)) (sym (one_unit _ _ (c.args.parts.now.stages * c.args.parts.now.inputs) (c.in_ok-plan.ensures.items_if_clones_equal (λ y q. q)) c.args.j c.deref-2.ensures.value c.requires.entry)) (plan_fits (design_of c.args.parts.now) c.requires.fits c.args.j)
+    at_both (RowsFit (design_of c.args.parts.now)) none _ (unit c.args.j) _
+    (sym (zeros_none _ _ c.args.parts.now.states (c.in_ok-start.ensures.items_if_clones_equal (λ y q. q)) c.deref.ensures.value))
+    (sym (one_unit _ _ (c.args.parts.now.stages * c.args.parts.now.inputs) (c.in_ok-plan.ensures.items_if_clones_equal (λ y q. q)) c.args.j c.deref-2.ensures.value c.requires.entry))
+    (plan_fits (design_of c.args.parts.now) c.requires.fits c.args.j)
 
 pub returns : goal.returns
 returns c =
     at_both (λ (x v : ℕ → ℤ). IfOk c.column_of.result (λ r. Holds r.items (rows (design_of c.args.parts.now)) (row_at (design_of c.args.parts.now) x v))) _ none _ (unit c.args.j)
-    (zeros_none _ _ c.args.parts.now.states (c.in_ok-start.ensures.items_if_clones_equal (λ y q. q)) c.deref.ensures.value) (one_unit _ _ (c.args.parts.now.stages * c.args.parts.now.inputs) (c.in_ok-plan.ensures.items_if_clones_equal (λ y q. q)) c.args.j c.deref-2.ensures.value c.requires.entry) c.column_of.ensures
+    (zeros_none _ _ c.args.parts.now.states (c.in_ok-start.ensures.items_if_clones_equal (λ y q. q)) c.deref.ensures.value)
+    (one_unit _ _ (c.args.parts.now.stages * c.args.parts.now.inputs) (c.in_ok-plan.ensures.items_if_clones_equal (λ y q. q)) c.args.j c.deref-2.ensures.value c.requires.entry) c.column_of.ensures

@@ -23,9 +23,13 @@ costs_of-requires-clause-ready c = record {
 
 pub costs_of-requires-clause-fits : goal.costs_of-requires-clause-fits
 costs_of-requires-clause-fits c =
-    at_both (CostsFit (design_of c.args.parts.now)) none _ (unit c.args.j) _ (sym (zeros_none _ _ c.args.parts.now.states (c.in_ok-start.ensures.items_if_clones_equal (λ y q. q)) c.deref.ensures.value)) (sym (one_unit _ _ (c.args.parts.now.stages * c.args.parts.now.inputs) (c.in_ok-plan.ensures.items_if_clones_equal (λ y q. q)) c.args.j c.deref-2.ensures.value c.requires.entry)) (plan_costs_fit c.args.parts.now c.requires.design c.requires.fits c.args.j)
+    at_both (CostsFit (design_of c.args.parts.now)) none _ (unit c.args.j) _
+    (sym (zeros_none _ _ c.args.parts.now.states (c.in_ok-start.ensures.items_if_clones_equal (λ y q. q)) c.deref.ensures.value))
+    (sym (one_unit _ _ (c.args.parts.now.stages * c.args.parts.now.inputs) (c.in_ok-plan.ensures.items_if_clones_equal (λ y q. q)) c.args.j c.deref-2.ensures.value c.requires.entry))
+    (plan_costs_fit c.args.parts.now c.requires.design c.requires.fits c.args.j)
 
 pub returns : goal.returns
 returns c =
     at_both (λ (x v : ℕ → ℤ). IfOk c.costs_of.result (λ r. Holds r.items (counts (design_of c.args.parts.now)) (counted (design_of c.args.parts.now) (cost_run (design_of c.args.parts.now) x v)))) _ none _ (unit c.args.j)
-    (zeros_none _ _ c.args.parts.now.states (c.in_ok-start.ensures.items_if_clones_equal (λ y q. q)) c.deref.ensures.value) (one_unit _ _ (c.args.parts.now.stages * c.args.parts.now.inputs) (c.in_ok-plan.ensures.items_if_clones_equal (λ y q. q)) c.args.j c.deref-2.ensures.value c.requires.entry) c.costs_of.ensures
+    (zeros_none _ _ c.args.parts.now.states (c.in_ok-start.ensures.items_if_clones_equal (λ y q. q)) c.deref.ensures.value)
+    (one_unit _ _ (c.args.parts.now.stages * c.args.parts.now.inputs) (c.in_ok-plan.ensures.items_if_clones_equal (λ y q. q)) c.args.j c.deref-2.ensures.value c.requires.entry) c.costs_of.ensures

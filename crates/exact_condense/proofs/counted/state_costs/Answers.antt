@@ -23,9 +23,12 @@ costs_of-requires-clause-ready c = record {
 
 pub costs_of-requires-clause-fits : goal.costs_of-requires-clause-fits
 costs_of-requires-clause-fits c =
-    at_both (CostsFit (design_of c.args.parts.now)) (unit c.args.i) _ none _ (sym (one_unit _ _ c.args.parts.now.states (c.in_ok-start.ensures.items_if_clones_equal (λ y q. q)) c.args.i c.deref.ensures.value c.requires.state)) (sym (zeros_none _ _ (c.args.parts.now.stages * c.args.parts.now.inputs) (c.in_ok-plan.ensures.items_if_clones_equal (λ y q. q)) c.deref-2.ensures.value)) (state_costs_fit c.args.parts.now c.requires.design c.requires.fits c.args.i)
+    at_both (CostsFit (design_of c.args.parts.now)) (unit c.args.i) _ none _
+    (sym (one_unit _ _ c.args.parts.now.states (c.in_ok-start.ensures.items_if_clones_equal (λ y q. q)) c.args.i c.deref.ensures.value c.requires.state))
+    (sym (zeros_none _ _ (c.args.parts.now.stages * c.args.parts.now.inputs) (c.in_ok-plan.ensures.items_if_clones_equal (λ y q. q)) c.deref-2.ensures.value)) (state_costs_fit c.args.parts.now c.requires.design c.requires.fits c.args.i)
 
 pub returns : goal.returns
 returns c =
     at_both (λ (x v : ℕ → ℤ). IfOk c.costs_of.result (λ r. Holds r.items (counts (design_of c.args.parts.now)) (counted (design_of c.args.parts.now) (cost_run (design_of c.args.parts.now) x v)))) _ (unit c.args.i) _ none
-    (one_unit _ _ c.args.parts.now.states (c.in_ok-start.ensures.items_if_clones_equal (λ y q. q)) c.args.i c.deref.ensures.value c.requires.state) (zeros_none _ _ (c.args.parts.now.stages * c.args.parts.now.inputs) (c.in_ok-plan.ensures.items_if_clones_equal (λ y q. q)) c.deref-2.ensures.value) c.costs_of.ensures
+    (one_unit _ _ c.args.parts.now.states (c.in_ok-start.ensures.items_if_clones_equal (λ y q. q)) c.args.i c.deref.ensures.value c.requires.state)
+    (zeros_none _ _ (c.args.parts.now.stages * c.args.parts.now.inputs) (c.in_ok-plan.ensures.items_if_clones_equal (λ y q. q)) c.deref-2.ensures.value) c.costs_of.ensures

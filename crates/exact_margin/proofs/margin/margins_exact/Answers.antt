@@ -65,7 +65,8 @@ returns-in_err-next-clause-short c = λ corner row slack e.
     rw (← c.parts-parts.ensures.value) (
       c.in_ok-test_room.ensures.room,
       first_short false (design_of p) s (c.loop-c.c + 1) row corner slack short.0 (omega arith) (omega (arith, below))
-          (λ b a o. all_slack (simulated (design_of p) s) (2 ^ p.states) (rows (design_of p)) c.loop-c.c c.loop-c.margin (exact_scales p s c.parts-parts.ensures.sound f) (omega (arith, below)) known c.loop-c.invariant.1.1.0 b a (omega (arith, o))) short.1,
+          (λ b a o. all_slack (simulated (design_of p) s) (2 ^ p.states) (rows (design_of p)) c.loop-c.c c.loop-c.margin (exact_scales p s c.parts-parts.ensures.sound f)
+          (omega (arith, below)) known c.loop-c.invariant.1.1.0 b a (omega (arith, o))) short.1,
     )
 
 pub loop-c-preserved : goal.loop-c-preserved
@@ -116,7 +117,8 @@ returns-clause-no_give_up c = λ corner row slack w.
     let all : c.loop-c.c ≡ 2 ^ c.parts-parts.result.now.states = omega (arith, c.loop-c-test.false, c.loop-c.auto.c-end (omega (arith, c.rows-c-end.ensures.count, f.rows, some)), c.rows-c-end.ensures.count, f.rows) in
     let known : IsMarginOf (simulated (design_of p) s) (rows (design_of p)) c.loop-c.c c.loop-c.margin = rw c.parts-parts.ensures.value c.loop-c.invariant.1.0 in
     let short : IsFirstShortIn false (design_of p) s corner row slack = rw c.parts-parts.ensures.value w in
-    absurd (not_short false (design_of p) s c.loop-c.margin corner row slack (exact_scales p s c.parts-parts.ensures.sound f) (subst (λ (n : ℕ). IsMarginOf (simulated (design_of p) s) (rows (design_of p)) n c.loop-c.margin) all known) c.loop-c.invariant.1.1.0 short)
+    absurd (not_short false (design_of p) s c.loop-c.margin corner row slack (exact_scales p s c.parts-parts.ensures.sound f)
+    (subst (λ (n : ℕ). IsMarginOf (simulated (design_of p) s) (rows (design_of p)) n c.loop-c.margin) all known) c.loop-c.invariant.1.1.0 short)
 
 pub parts-parts-requires : goal.parts-parts-requires
 parts-parts-requires c = tt

@@ -44,4 +44,5 @@ returns c =
     let all : c.loop-i.i ≡ c.args.parts.now.states = omega (arith, c.loop-i-test.false) in
     holds_to _ _ _ (λ i. image c.args.parts.now.states (entry_of c.args.parts.now.a) (at c.args.state.now) i +ℤ read c.args.scale *ℤ image c.args.parts.now.inputs (entry_of c.args.parts.now.b) (at c.args.input.now) i)
     (λ i. image c.args.parts.now.states (entry_of c.args.parts.now.a) (at c.args.state.now) i +ℤ c.args.scale *ℤ image c.args.parts.now.inputs (entry_of c.args.parts.now.b) (at c.args.input.now) i)
-    c.loop-i.invariant all (λ i l. ap (λ (z : ℤ). image c.args.parts.now.states (entry_of c.args.parts.now.a) (at c.args.state.now) i +ℤ z *ℤ image c.args.parts.now.inputs (entry_of c.args.parts.now.b) (at c.args.input.now) i) (to_z-of_z w128 _ c.ranges.scale))
+    c.loop-i.invariant all (λ i l. ap
+    (λ (z : ℤ). image c.args.parts.now.states (entry_of c.args.parts.now.a) (at c.args.state.now) i +ℤ z *ℤ image c.args.parts.now.inputs (entry_of c.args.parts.now.b) (at c.args.input.now) i) (to_z-of_z w128 _ c.ranges.scale))

@@ -20,12 +20,14 @@ loop-j-preserved c =
 pub loop-j-init : goal.loop-j-init
 loop-j-init c =
     let p = c.args.parts.now in
-    enclosures_zero c.in_ok-mat.mat.mid c.in_ok-mat.mat.rad _ (rows (design_of p)) (p.stages * p.inputs) (fine_by_plan (design_of p)) (all_rows_are p.stages c.rows.result _ c.rows-2.result _ c.rows.ensures.count c.rows-2.ensures.count) c.in_ok-mat.ensures.mid c.in_ok-mat.ensures.rad
+    enclosures_zero c.in_ok-mat.mat.mid c.in_ok-mat.mat.rad _ (rows (design_of p)) (p.stages * p.inputs) (fine_by_plan (design_of p))
+    (all_rows_are p.stages c.rows.result _ c.rows-2.result _ c.rows.ensures.count c.rows-2.ensures.count) c.in_ok-mat.ensures.mid c.in_ok-mat.ensures.rad
 
 pub put_column-requires-clause-rows : goal.put_column-requires-clause-rows
 put_column-requires-clause-rows c =
     let p = c.args.parts.now in
-    column_rows c.limits_of.result (λ v. v.items) c.loop-j.mat.mid c.loop-j.mat.rad (rows (design_of p)) (p.stages * p.inputs) c.loop-j.j (fine_by_plan (design_of p)) _ (c.limits_of.ensures p none (unit c.loop-j.j) c.run_of_plan.ensures) c.loop-j.invariant
+    column_rows c.limits_of.result (λ v. v.items) c.loop-j.mat.mid c.loop-j.mat.rad (rows (design_of p)) (p.stages * p.inputs) c.loop-j.j (fine_by_plan (design_of p)) _
+    (c.limits_of.ensures p none (unit c.loop-j.j) c.run_of_plan.ensures) c.loop-j.invariant
 
 pub put_column-requires-clause-column : goal.put_column-requires-clause-column
 put_column-requires-clause-column c =

@@ -19,7 +19,8 @@ loop-j-preserved c =
 pub loop-j-init : goal.loop-j-init
 loop-j-init c =
     let p = c.args.parts.now in
-    enclosures_zero c.in_ok-mat.mat.mid c.in_ok-mat.mat.rad _ (rows (design_of p)) p.states (fine_by_state (design_of p)) (all_rows_are p.stages c.rows.result _ c.rows-2.result _ c.rows.ensures.count c.rows-2.ensures.count) c.in_ok-mat.ensures.mid c.in_ok-mat.ensures.rad
+    enclosures_zero c.in_ok-mat.mat.mid c.in_ok-mat.mat.rad _ (rows (design_of p)) p.states (fine_by_state (design_of p))
+    (all_rows_are p.stages c.rows.result _ c.rows-2.result _ c.rows.ensures.count c.rows-2.ensures.count) c.in_ok-mat.ensures.mid c.in_ok-mat.ensures.rad
 
 pub put_column-requires-clause-rows : goal.put_column-requires-clause-rows
 put_column-requires-clause-rows c =

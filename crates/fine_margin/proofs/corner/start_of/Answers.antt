@@ -33,6 +33,7 @@ pub enclosed-requires-clause-small : goal.enclosed-requires-clause-small
 enclosed-requires-clause-small c =
     let p = c.args.parts.now in
     let f : SFits w128 c.coordinate.result = search rules in
-    let small = either (c.args.c / 2 ^ c.loop-i.i % 2 == 1) (at p.hi.items c.loop-i.i) (at p.lo.items c.loop-i.i) (numerator_at p.hi.items p.states c.loop-i.i c.requires.hi c.loop-i-test.true) (numerator_at p.lo.items p.states c.loop-i.i c.requires.lo c.loop-i-test.true) in
+    let small = either (c.args.c / 2 ^ c.loop-i.i % 2 == 1) (at p.hi.items c.loop-i.i) (at p.lo.items c.loop-i.i) (numerator_at p.hi.items p.states c.loop-i.i c.requires.hi c.loop-i-test.true)
+    (numerator_at p.lo.items p.states c.loop-i.i c.requires.lo c.loop-i-test.true) in
     let less : c.args.c + 1 - 1 ≡ c.args.c = omega arith in
     rw (to_z-of_z w128 _ f, c.coordinate.ensures, less) (omega (arith, small))

@@ -43,19 +43,22 @@ index-requires c = below_len c.args.policy.now.dens c.loop-c.c _ (below_both c.l
 pub plan_reach-plan-requires-clause-some : goal.plan_reach-plan-requires-clause-some
 plan_reach-plan-requires-clause-some c =
     let fits : SFits w128 c.index.result.now = search rules in
-    let over = over_is c.args.policy.now.dens.items c.loop-c.c (2 ^ c.args.parts.now.states) c.index.result.now c.unsigned_abs.result c.index.ensures (below_both c.loop-c.c _ _ _ c.loop-c-test.true c.rows-c-end.ensures.count c.requires.plans.rows) (sym c.requires.plans.count)
+    let over = over_is c.args.policy.now.dens.items c.loop-c.c (2 ^ c.args.parts.now.states) c.index.result.now c.unsigned_abs.result c.index.ensures
+    (below_both c.loop-c.c _ _ _ c.loop-c-test.true c.rows-c-end.ensures.count c.requires.plans.rows) (sym c.requires.plans.count)
     (rw (to_z-of_z w128 _ fits) at c.unsigned_abs.ensures.value) in
     (denominator_within (design_of c.args.parts.now) (plans_of c.args.policy.now) c.loop-c.c c.unsigned_abs.result c.requires.plans (below_both c.loop-c.c _ _ _ c.loop-c-test.true c.rows-c-end.ensures.count c.requires.plans.rows) over).0
 
 pub plan_reach-plan-requires-clause-over : goal.plan_reach-plan-requires-clause-over
 plan_reach-plan-requires-clause-over c =
     let fits : SFits w128 c.index.result.now = search rules in
-    let over = over_is c.args.policy.now.dens.items c.loop-c.c (2 ^ c.args.parts.now.states) c.index.result.now c.unsigned_abs.result c.index.ensures (below_both c.loop-c.c _ _ _ c.loop-c-test.true c.rows-c-end.ensures.count c.requires.plans.rows) (sym c.requires.plans.count)
+    let over = over_is c.args.policy.now.dens.items c.loop-c.c (2 ^ c.args.parts.now.states) c.index.result.now c.unsigned_abs.result c.index.ensures
+    (below_both c.loop-c.c _ _ _ c.loop-c-test.true c.rows-c-end.ensures.count c.requires.plans.rows) (sym c.requires.plans.count)
     (rw (to_z-of_z w128 _ fits) at c.unsigned_abs.ensures.value) in
     (denominator_within (design_of c.args.parts.now) (plans_of c.args.policy.now) c.loop-c.c c.unsigned_abs.result c.requires.plans (below_both c.loop-c.c _ _ _ c.loop-c-test.true c.rows-c-end.ensures.count c.requires.plans.rows) over).1
 
 pub plan_reach-plan-requires-clause-numerators : goal.plan_reach-plan-requires-clause-numerators
-plan_reach-plan-requires-clause-numerators c = numerators_small (design_of c.args.parts.now) (plans_of c.args.policy.now) c.loop-c.c c.row.result.now c.requires.plans (below_both c.loop-c.c _ _ _ c.loop-c-test.true c.rows-c-end.ensures.count c.requires.plans.rows) c.row.ensures.value
+plan_reach-plan-requires-clause-numerators c =
+    numerators_small (design_of c.args.parts.now) (plans_of c.args.policy.now) c.loop-c.c c.row.result.now c.requires.plans (below_both c.loop-c.c _ _ _ c.loop-c-test.true c.rows-c-end.ensures.count c.requires.plans.rows) c.row.ensures.value
 
 pub returns : goal.returns
 returns c =

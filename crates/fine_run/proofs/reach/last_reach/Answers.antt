@@ -17,10 +17,12 @@ pub nonzero_div-reach : goal.nonzero_div-reach
 nonzero_div-reach c = den_positive c.args.parts.now.plant_den 0 0 _ (denominator_is c.args.parts.now.plant_den _ c.requires.plant_den.low c.requires.plant_den.high c.unsigned_abs-den.ensures.value) c.requires.plant_den.low c.requires.plant_den.high
 
 pub overflow_add-reach : goal.overflow_add-reach
-overflow_add-reach c = brought_fits c.args.parts.now.plant_den c.in_ok-reach.field-0 _ _ (denominator_is c.args.parts.now.plant_den _ c.requires.plant_den.low c.requires.plant_den.high c.unsigned_abs-den.ensures.value) c.requires.plant_den.low c.requires.plant_den.high c.in_ok-reach.ensures.1 c.in_ok-reach.ensures.0
+overflow_add-reach c = brought_fits c.args.parts.now.plant_den c.in_ok-reach.field-0 _ _
+    (denominator_is c.args.parts.now.plant_den _ c.requires.plant_den.low c.requires.plant_den.high c.unsigned_abs-den.ensures.value) c.requires.plant_den.low c.requires.plant_den.high c.in_ok-reach.ensures.1 c.in_ok-reach.ensures.0
 
 pub overflow_add-reach-in-loop : goal.overflow_add-reach-in-loop
-overflow_add-reach-in-loop c = reach_fits c.args.parts.now.plant_den c.in_ok-reach.field-0 _ _ (denominator_is c.args.parts.now.plant_den _ c.requires.plant_den.low c.requires.plant_den.high c.unsigned_abs-den.ensures.value) c.requires.plant_den.low c.requires.plant_den.high c.in_ok-reach.ensures.1 c.in_ok-reach.ensures.0
+overflow_add-reach-in-loop c = reach_fits c.args.parts.now.plant_den c.in_ok-reach.field-0 _ _
+    (denominator_is c.args.parts.now.plant_den _ c.requires.plant_den.low c.requires.plant_den.high c.unsigned_abs-den.ensures.value) c.requires.plant_den.low c.requires.plant_den.high c.in_ok-reach.ensures.1 c.in_ok-reach.ensures.0
 
 pub loop-preserved : goal.loop-preserved
 loop-preserved c =

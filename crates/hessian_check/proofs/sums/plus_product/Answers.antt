@@ -23,7 +23,8 @@ invariant_of-result c =
 pub returns : goal.returns
 returns c =
     let words : AreWords c.args.sum c.args.a c.args.b = record { sum_mid = search rules; sum_rad = search rules; a_mid = search rules; b_mid = search rules } in
-    same_pair (mid_is c.args.sum c.args.a c.args.b words c.requires _ _ _ c.unsigned_abs.ensures.value c.magnitude.ensures c.magnitude-2.ensures) (rad_is c.args.sum c.args.a c.args.b words c.requires _ _ _ c.unsigned_abs.ensures.value c.magnitude.ensures c.magnitude-2.ensures)
+    same_pair (mid_is c.args.sum c.args.a c.args.b words c.requires _ _ _ c.unsigned_abs.ensures.value c.magnitude.ensures c.magnitude-2.ensures)
+    (rad_is c.args.sum c.args.a c.args.b words c.requires _ _ _ c.unsigned_abs.ensures.value c.magnitude.ensures c.magnitude-2.ensures)
 
 pub overflow_mul-rad : goal.overflow_mul-rad
 overflow_mul-rad c = reach_fits (unsigned_abs c.args.sum.mid + unsigned_abs c.args.sum.rad) c.magnitude.ensures c.magnitude-2.ensures c.requires

@@ -4,7 +4,7 @@ use Rattle.std.proofs.lemmas.Int.{ints}
 use Rattle.std.proofs.lemmas.List.{get_or_read}
 use Rattle.integer_algebra.specs.Sums.{at}
 use Rattle.mac_listing.specs.Listing.{instructions}
-use Rattle.mac_machine.specs.Box.{IsInside}
+use Rattle.mac_machine.specs.Box.{IsInsideBox}
 use Rattle.mac_machine.proofs.player.first_outside.Goals as goal
 use Rattle.mac_machine.proofs.player.first_outside.Goals.{then-x-index-via-then-x-index, then-x-index-via-else-x-index+then-index-x}
 
@@ -19,12 +19,12 @@ loop-i-preserved c =
     let high_read : c.index-else-x-index.result.now ≡ at c.args.l.now.hi.items i = get_or_read c.args.l.now.hi.items i c.index-else-x-index.result.now (omega (arith, sound.high_long, c.requires.long)) c.index-else-x-index.ensures (pos 0) in
     record {
       place = omega (arith, c.loop-i.invariant.place);
-      inside = below_more (IsInside (instructions c.args.l.now) c.args.state.now) i c.loop-i.invariant.inside
+      inside = below_more (IsInsideBox (instructions c.args.l.now) c.args.state.now) i c.loop-i.invariant.inside
           (record { low = omega (arith, ints, low_read, c.if-x-index.false); high = omega (arith, ints, high_read, c.if-index-x.false) });
     }
 
 -- where the loop leaves, its coordinate lies outside
-outside : (c : goal.Joined-then-x-index) → IsInside (instructions c.args.l.now) c.args.state.now c.loop-i.i → ⊥
+outside : (c : goal.Joined-then-x-index) → IsInsideBox (instructions c.args.l.now) c.args.state.now c.loop-i.i → ⊥
 outside c h =
     let i = c.loop-i.i in
     let sound = c.requires.sound in

@@ -15,12 +15,14 @@ returns-in_err-sums c = rw c.from_residual-in_err-sums.ensures (λ h. c.in_err-s
 
 pub returns-in_err-limited : goal.returns-in_err-limited
 returns-in_err-limited c =
-    let whole : c.max-greatest.result ≡ greatest_sum (numbers c.args.c.now) = omega (arith, greatest-parts (numbers c.args.c.now), c.in_ok-rows.ensures.1, c.in_ok-sums.ensures.1, c.in_ok-plan.ensures.greatest, c.greatest_of.ensures, ap greatest_of c.requires.states) in
+    let whole : c.max-greatest.result ≡ greatest_sum (numbers c.args.c.now) =
+    omega (arith, greatest-parts (numbers c.args.c.now), c.in_ok-rows.ensures.1, c.in_ok-sums.ensures.1, c.in_ok-plan.ensures.greatest, c.greatest_of.ensures, ap greatest_of c.requires.states) in
     rw c.from_residual-in_err-limited.ensures (λ h. c.in_err-limited.ensures (omega (arith, whole, h)))
 
 pub returns : goal.returns
 returns c =
-    let whole : c.max-greatest.result ≡ greatest_sum (numbers c.args.c.now) = omega (arith, greatest-parts (numbers c.args.c.now), c.in_ok-rows.ensures.1, c.in_ok-sums.ensures.1, c.in_ok-plan.ensures.greatest, c.greatest_of.ensures, ap greatest_of c.requires.states) in
+    let whole : c.max-greatest.result ≡ greatest_sum (numbers c.args.c.now) =
+    omega (arith, greatest-parts (numbers c.args.c.now), c.in_ok-rows.ensures.1, c.in_ok-sums.ensures.1, c.in_ok-plan.ensures.greatest, c.greatest_of.ensures, ap greatest_of c.requires.states) in
     let same : c.in_ok-limited.field-0 ≡ greatest_sum (numbers c.args.c.now) = c.in_ok-limited.ensures.1 ∙ whole in
     let long : c.len.result ≡ length c.args.c.now.t.items = search rules in
     let plan = c.greatest_of-2.ensures ∙ ap (λ n. greatest_of (take n c.in_ok-plan.plan.magnitudes)) long ∙ ap greatest_of c.in_ok-plan.ensures.magnitudes in

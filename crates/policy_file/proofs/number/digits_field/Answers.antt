@@ -10,7 +10,8 @@ returns-then-count-gt19-clause-only c = λ n r.
     let e = digits_end c.args.text.now n c.digits_before-count.result r c.digits_before-count.ensures.within c.digits_before-count.ensures.digits c.digits_before-count.ensures.end in
     elim c.then-count-gt19.branch [
       | then-count-gt19-via-then-count-gt19 w ↦ absurd (omega (arith, e, r.few))
-      | then-count-gt19-via-else-count-gt19+then-spaces_before-rest w ↦ absurd (omega (arith, spaces_end c.args.text.now _ n c.digits_before-count.result w.spaces_before.result r e (take_rest c.args.text.now c.digits_before-count.result) w.spaces_before.ensures.end))
+      | then-count-gt19-via-else-count-gt19+then-spaces_before-rest w ↦
+          absurd (omega (arith, spaces_end c.args.text.now _ n c.digits_before-count.result w.spaces_before.result r e (take_rest c.args.text.now c.digits_before-count.result) w.spaces_before.ensures.end))
     ]
 
 pub value_of-requires : goal.value_of-requires

@@ -41,7 +41,19 @@ absolute_sum-requires-in-loop-i-clause-numerators c =
 
 pub overflow_add-absolute_sum : goal.overflow_add-absolute_sum
 overflow_add-absolute_sum c =
-    record { fits = omega (arith, c.absolute_sum.ensures.small, c.absolute_sum-in-loop-i.ensures.small, c.row.ensures.len, c.row-in-loop-i.ensures.len, c.requires.a.cols, c.requires.b.cols, c.requires.inputs.1, design_states_le c.args.parts.now c.requires) }
+    record {
+      fits = omega (
+        arith,
+        c.absolute_sum.ensures.small,
+        c.absolute_sum-in-loop-i.ensures.small,
+        c.row.ensures.len,
+        c.row-in-loop-i.ensures.len,
+        c.requires.a.cols,
+        c.requires.b.cols,
+        c.requires.inputs.1,
+        design_states_le c.args.parts.now c.requires,
+      );
+    }
 
 pub returns : goal.returns
 returns c =

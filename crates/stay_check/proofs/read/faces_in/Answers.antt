@@ -140,5 +140,6 @@ returns-then-len-parts-clause-fault c =
 
 pub returns-clause-found : goal.returns-clause-found
 returns-clause-found c =
-    faces_found c.args.bytes.now (design_of c.args.parts.now) c.in_ok-records.records.items (record { factors = c.loop-i.kappa.items; weights = c.loop-i.weights }) c.first_row_count-weights_of.result c.loop-i.i c.first_row_count-weights_of.ensures.value c.in_ok-records.ensures
+    faces_found c.args.bytes.now (design_of c.args.parts.now) c.in_ok-records.records.items
+    (record { factors = c.loop-i.kappa.items; weights = c.loop-i.weights }) c.first_row_count-weights_of.result c.loop-i.i c.first_row_count-weights_of.ensures.value c.in_ok-records.ensures
     (omega arith) (omega (arith, c.len.ensures, c.if-len-parts.false)) c.loop-i.invariant.weights c.loop-i.invariant.kappa (omega arith)

@@ -14,7 +14,7 @@ overflow_add-result c =
     let k : FitsSigned w128 c.index.result.now = search rules in
     let factor : c.unsigned_abs.result < 2 ^ 31 = rw (c.unsigned_abs.ensures.value, to_z-of_z w128 _ k)
     (factor_size (design_of c.args.parts.now) (faces_of c.args.faces.now) c.args.e c.index.result.now c.requires.faces c.requires.face c.index.ensures).1 in
-    record { fits = omega (arith, mul-lt c.unsigned_abs.result c.unsigned_abs-own.result (2 ^ 31) (2 ^ 31) factor own, c.rows_size.ensures.small) }
+    record { fits = omega (arith, mul-lt c.unsigned_abs.result c.unsigned_abs-own.result (2 ^ 31) (2 ^ 31) factor own, c.weighted_rows_size.ensures.small) }
 
 pub returns-clause-small : goal.returns-clause-small
 returns-clause-small c =
@@ -23,4 +23,4 @@ returns-clause-small c =
     let k : FitsSigned w128 c.index.result.now = search rules in
     let factor : c.unsigned_abs.result < 2 ^ 31 = rw (c.unsigned_abs.ensures.value, to_z-of_z w128 _ k)
     (factor_size (design_of c.args.parts.now) (faces_of c.args.faces.now) c.args.e c.index.result.now c.requires.faces c.requires.face c.index.ensures).1 in
-    omega (arith, mul-lt c.unsigned_abs.result c.unsigned_abs-own.result (2 ^ 31) (2 ^ 31) factor own, c.rows_size.ensures.small)
+    omega (arith, mul-lt c.unsigned_abs.result c.unsigned_abs-own.result (2 ^ 31) (2 ^ 31) factor own, c.weighted_rows_size.ensures.small)

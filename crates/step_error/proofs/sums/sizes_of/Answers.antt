@@ -66,7 +66,8 @@ pub returns-clause-linear : goal.returns-clause-linear
 returns-clause-linear c =
     let f : SFits w128 c.args.c.now.hess_den = search rules in
     let scale = read_size _ _ f c.unsigned_abs-hess_den.ensures.value in
-    quotient_is _ _ _ _ _ (scale_one (is_fine (design_of c.args.parts.now)) c.args.parts.now c.args.c.now c.requires) c.div_ceil.ensures (c.farthest_sum.ensures ∙ linear_is (is_fine (design_of c.args.parts.now)) c.args.parts.now c.args.c.now c.requires) scale
+    quotient_is _ _ _ _ _ (scale_one (is_fine (design_of c.args.parts.now)) c.args.parts.now c.args.c.now c.requires) c.div_ceil.ensures
+    (c.farthest_sum.ensures ∙ linear_is (is_fine (design_of c.args.parts.now)) c.args.parts.now c.args.c.now c.requires) scale
 
 pub returns-clause-constant : goal.returns-clause-constant
 returns-clause-constant c =
@@ -79,7 +80,8 @@ pub returns-clause-rows : goal.returns-clause-rows
 returns-clause-rows c =
     let f : SFits w128 c.args.c.now.row_den = search rules in
     let scale = read_size _ _ f c.unsigned_abs.ensures.value in
-    quotient_is _ _ _ _ _ (rows_scale_one (is_fine (design_of c.args.parts.now)) c.args.parts.now c.args.c.now c.requires) c.div_ceil-3.ensures (c.farthest_sum-2.ensures ∙ rows_is (is_fine (design_of c.args.parts.now)) c.args.parts.now c.args.c.now c.requires) scale
+    quotient_is _ _ _ _ _ (rows_scale_one (is_fine (design_of c.args.parts.now)) c.args.parts.now c.args.c.now c.requires) c.div_ceil-3.ensures
+    (c.farthest_sum-2.ensures ∙ rows_is (is_fine (design_of c.args.parts.now)) c.args.parts.now c.args.c.now c.requires) scale
 
 pub returns-clause-trace : goal.returns-clause-trace
 returns-clause-trace c =

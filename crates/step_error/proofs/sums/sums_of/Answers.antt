@@ -137,7 +137,7 @@ returns-in_err-limited_product-3 c =
 abbrev gathered : After-radii_of → Whole
 gathered c = record {
   squares = c.in_ok-limited_product.field-0;
-  pull = c.in_ok-limited_product-2.field-0;
+  plan_pull = c.in_ok-limited_product-2.field-0;
   tail = c.in_ok-limited_product-3.field-0;
   y_rows = 2 * c.args.r * c.rows.result;
   nu = c.rows-2.result;

@@ -74,5 +74,6 @@ returns g c =
     let counted : length (views items) ≡ c.len-else-is_text.result = omega (arith, length-map items view, c.len-else-is_text.ensures, c.in_ok-lines.lines.ok.0) in
     let most = subst (λ (n : ℕ). IsMost g.G.Grammar.whole whole n) (sym (length-map items view)) c.in_ok-lines.ensures.most in
     let bad = bad_line g.G.Grammar.whole c.requires bytes whole (get_or ps (k - 1) none_read).now (views items) split c.in_ok-lines.ensures.beginning (spelled_so items whole c.in_ok-lines.ensures.spelling) most
-    (λ h. false≢true (sym c.if-is_text.false ∙ c.is_text.ensures.1 (ap length same ∙ sym (length-map items view) ∙ h.0 ∙ length-map front (λ (x : Bor (List ℕ)). x.now), ap (λ (x : Bor (List ℕ)). x.now) last ∙ h.1, subst (λ (ls : List Line). g.G.Grammar.whole (views ls)) (sym same) h.2))) in
+    (λ h. false≢true (sym c.if-is_text.false ∙ c.is_text.ensures.1
+    (ap length same ∙ sym (length-map items view) ∙ h.0 ∙ length-map front (λ (x : Bor (List ℕ)). x.now), ap (λ (x : Bor (List ℕ)). x.now) last ∙ h.1, subst (λ (ls : List Line). g.G.Grammar.whole (views ls)) (sym same) h.2))) in
     subst (λ (n : ℕ). IsBadLineOf (IsTextOf g.G.Grammar.whole) bytes (n + 1)) counted bad

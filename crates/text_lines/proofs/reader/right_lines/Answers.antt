@@ -29,8 +29,10 @@ returns-in_default-clause-most g c =
     let count : length ls ≡ length items = length-map items view in
     let here : get_or ps i [] ≡ (get_or c.args.pieces.now i none_read).now = get_or-map (λ (x : Bor (List ℕ)). x.now) c.args.pieces.now i none_read [] c.loop-piece-test.true in
     let none = MatchOption-at_none _ _ c.in_default.is c.in_ok-line.ensures.none in
-    let follows : (l : Keyed) → IsBeginning g.G.Grammar.whole (ls ++ l ∷ []) → get_or ps i [] ≢ spelled l = λ l b e. none l (subst (λ (xs : List Line). IsBeginning g.G.Grammar.whole (views xs ++ l ∷ [])) (sym c.deref.ensures.value) b) (sym here ∙ e) in
-    most_from g.G.Grammar.whole ps ls i (length items) c.loop-piece.invariant.beginning (omega (arith, lt)) c.loop-piece.invariant.spelling count (stuck g.G.Grammar.whole c.requires ps ls i c.loop-piece.invariant.beginning lt c.loop-piece.invariant.spelling follows)
+    let follows : (l : Keyed) → IsBeginning g.G.Grammar.whole (ls ++ l ∷ []) → get_or ps i [] ≢ spelled l =
+    λ l b e. none l (subst (λ (xs : List Line). IsBeginning g.G.Grammar.whole (views xs ++ l ∷ [])) (sym c.deref.ensures.value) b) (sym here ∙ e) in
+    most_from g.G.Grammar.whole ps ls i (length items) c.loop-piece.invariant.beginning (omega (arith, lt)) c.loop-piece.invariant.spelling count
+    (stuck g.G.Grammar.whole c.requires ps ls i c.loop-piece.invariant.beginning lt c.loop-piece.invariant.spelling follows)
 
 pub loop-piece-preserved : goal.loop-piece-preserved
 loop-piece-preserved g c =

@@ -9,12 +9,12 @@ use Rattle.qp_model.specs.problem.Runs.{counts}
 use Rattle.qp_model.proofs.RowLaws.{stage_inside, remainder_inside}
 use Rattle.exact_run.proofs.run.Run.cost.Goals as goal
 
-pub cost_row-requires-clause-slim : goal.cost_row-requires-clause-slim
-cost_row-requires-clause-slim c = stage_cost_fits c.args.self.now.parts.now (at c.args.self.now.start.now) (at c.args.self.now.plan.now) c.args.c c.rows-rows.result c.row.result.now
+pub cost_row-requires-clause-narrow_costs : goal.cost_row-requires-clause-narrow_costs
+cost_row-requires-clause-narrow_costs c = stage_cost_fits c.args.self.now.parts.now (at c.args.self.now.start.now) (at c.args.self.now.plan.now) c.args.c c.rows-rows.result c.row.result.now
     c.rows-rows.ensures.count c.row.ensures.value c.if-c-stage_rows.true c.requires.fits
 
-pub cost_row-requires-else-c-stage_rows-clause-slim : goal.cost_row-requires-else-c-stage_rows-clause-slim
-cost_row-requires-else-c-stage_rows-clause-slim c = final_cost_fits c.args.self.now.parts.now (at c.args.self.now.start.now) (at c.args.self.now.plan.now) c.args.c c.rows-rows.result
+pub cost_row-requires-else-c-stage_rows-clause-narrow_costs : goal.cost_row-requires-else-c-stage_rows-clause-narrow_costs
+cost_row-requires-else-c-stage_rows-clause-narrow_costs c = final_cost_fits c.args.self.now.parts.now (at c.args.self.now.start.now) (at c.args.self.now.plan.now) c.args.c c.rows-rows.result
     c.row-else-c-stage_rows.result.now c.rows-rows.ensures.count c.row-else-c-stage_rows.ensures.value c.if-c-stage_rows.false c.requires.row c.requires.fits
 
 pub returns-then-c-stage_rows : goal.returns-then-c-stage_rows

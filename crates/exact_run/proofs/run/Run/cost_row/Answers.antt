@@ -31,7 +31,7 @@ product-requires-clause-fits c =
     row_held c.args.self.now.states.items c.index.result.now c.deref.result.now c.args.k (parts.stages + 1) parts.states
     (run (design_of parts) (at c.args.self.now.start.now) (at c.args.self.now.plan.now)) made.states (omega (arith, c.requires.stage)) c.index.ensures c.deref.ensures.value in
     rw (held_size parts.states c.args.row.now c.deref.result.now x held)
-    (unlifted (unsigned_abs parts.plant_den) (parts.stages - c.args.k) _ (denominator_positive parts.plant_den made.ready.design.plant_den.low) c.requires.slim)
+    (unlifted (unsigned_abs parts.plant_den) (parts.stages - c.args.k) _ (denominator_positive parts.plant_den made.ready.design.plant_den.low) c.requires.narrow_costs)
 
 pub overflow_mul-result : goal.overflow_mul-result
 overflow_mul-result c =
@@ -47,7 +47,7 @@ overflow_mul-result c =
     let small : unsigned_abs c.product.result ≤ product_size parts.states (at c.args.row.now) x = rw value (total_size parts.states (λ j. at c.args.row.now j *ℤ x j)) in
     let power : get_or c.args.self.now.powers.now (parts.stages - c.args.k) (pos 0) ≡ pos (unsigned_abs parts.plant_den ^ (parts.stages - c.args.k)) =
     made.ready.powers.is (parts.stages - c.args.k) (omega arith) in
-    lifted_fits _ _ _ g s small (rw power c.requires.slim)
+    lifted_fits _ _ _ g s small (rw power c.requires.narrow_costs)
 
 pub returns : goal.returns
 returns c =
@@ -63,7 +63,7 @@ returns c =
     let small : unsigned_abs c.product.result ≤ product_size parts.states (at c.args.row.now) x = rw value (total_size parts.states (λ j. at c.args.row.now j *ℤ x j)) in
     let power : get_or c.args.self.now.powers.now (parts.stages - c.args.k) (pos 0) ≡ pos (unsigned_abs parts.plant_den ^ (parts.stages - c.args.k)) =
     made.ready.powers.is (parts.stages - c.args.k) (omega arith) in
-    lifted _ _ _ g s small (rw power c.requires.slim) ∙ rw (power, value) refl
+    lifted _ _ _ g s small (rw power c.requires.narrow_costs) ∙ rw (power, value) refl
 
 pub overflow_sub-result : goal.overflow_sub-result
 overflow_sub-result c = omega (arith, c.requires.stage)

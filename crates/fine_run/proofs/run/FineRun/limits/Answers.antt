@@ -19,7 +19,8 @@ overflow_mul-count c =
 pub overflow_add-count : goal.overflow_add-count
 overflow_add-count c =
     let p = c.args.self.now.parts.now in
-    all_rows_fit p.stages c.rows.result _ (design_stages_le p c.args.self.now.made.ready.design) c.rows.ensures.count c.args.self.now.made.ready.design.stage_rows.rows.1 c.rows-2.result _ c.rows-2.ensures.count c.args.self.now.made.ready.design.final_rows.rows.1
+    all_rows_fit p.stages c.rows.result _
+    (design_stages_le p c.args.self.now.made.ready.design) c.rows.ensures.count c.args.self.now.made.ready.design.stage_rows.rows.1 c.rows-2.result _ c.rows-2.ensures.count c.args.self.now.made.ready.design.final_rows.rows.1
 
 pub limit-requires-clause-row : goal.limit-requires-clause-row
 limit-requires-clause-row c = below_all c.loop-i.i c.args.self.now.parts.now.stages c.rows.result _ c.rows-2.result _ c.loop-i-test.true c.rows.ensures.count c.rows-2.ensures.count

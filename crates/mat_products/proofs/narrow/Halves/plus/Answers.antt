@@ -45,5 +45,17 @@ returns c =
     let hf : FitsSigned w64 c.args.self.high = search rules in
     let qf : FitsSigned w64 c.args.other.high = search rules in
     let f = fit c.args.self.high c.args.other.high c.args.self.low c.args.other.low hf qf (omega arith) (omega arith) c.requires in
-    rw (c.from-carry.ensures, c.from-2.ensures, c.from.ensures, to_z-of_z w64 _ hf, to_z-of_z w64 _ qf, to_z-of_z w128 _ f.left, to_z-of_z w128 _ f.right, to_z-of_z w128 _ f.both, to_z-of_z w128 _ f.one, to_z-of_z w128 _ f.all, to_z-of_z w64 _ f.high)
+    rw (
+      c.from-carry.ensures,
+      c.from-2.ensures,
+      c.from.ensures,
+      to_z-of_z w64 _ hf,
+      to_z-of_z w64 _ qf,
+      to_z-of_z w128 _ f.left,
+      to_z-of_z w128 _ f.right,
+      to_z-of_z w128 _ f.both,
+      to_z-of_z w128 _ f.one,
+      to_z-of_z w128 _ f.all,
+      to_z-of_z w64 _ f.high,
+    )
     (added_whole c.args.self.high c.args.other.high c.args.self.low c.args.other.low (omega arith) (omega arith))

@@ -23,9 +23,9 @@ inner c =
     let w = c.args.self.now in
     let two : 2 ≤ 2 * w.rho = omega (arith, c.requires.rho_some) in
     let four : 4 ≤ 4 * w.rho = omega (arith, c.requires.rho_some) in
-    let lead = quotient_is _ _ _ w.pull (2 * w.rho) (omega (arith, two)) c.div_ceil-lead.ensures refl refl in
+    let lead = quotient_is _ _ _ w.plan_pull (2 * w.rho) (omega (arith, two)) c.div_ceil-lead.ensures refl refl in
     let push = quotient_is _ _ _ w.tail (4 * w.rho) (omega (arith, four)) c.div_ceil.ensures refl refl in
-    omega (arith, lead, push, ceil_anti w.pull 2 (2 * w.rho) (omega arith) two, ceil_anti w.tail 4 (4 * w.rho) (omega arith) four, half w.pull c.requires.pull, quarter w.tail c.requires.tail)
+    omega (arith, lead, push, ceil_anti w.plan_pull 2 (2 * w.rho) (omega arith) two, ceil_anti w.tail 4 (4 * w.rho) (omega arith) four, half w.plan_pull c.requires.plan_pull, quarter w.tail c.requires.tail)
   where
     half : (n : ℕ) → n ≤ 2 ^ 126 → ceil_div n 2 ≤ 2 ^ 125
     half n h = omega (arith, h)
@@ -48,7 +48,7 @@ pub returns-in_err-rounding_size : goal.returns-in_err-rounding_size
 returns-in_err-rounding_size c =
     let w = c.args.self.now in
     let plan = plan_is w _ _ _ c.requires.rho_some c.spread.ensures c.div_ceil-lead.ensures c.div_ceil.ensures in
-    rw c.from_residual.ensures (λ h. c.in_err-rounding_size.ensures (within_of (λ i. rounding_size w.squares w.pull (sums_by w) (plan i)) (first_of _ _ h)))
+    rw c.from_residual.ensures (λ h. c.in_err-rounding_size.ensures (within_of (λ i. rounding_size w.squares w.plan_pull (sums_by w) (plan i)) (first_of _ _ h)))
   where
     first_of : (a b : ℕ) → a + b ≤ 2 ^ 126 → a ≤ 2 ^ 126
     first_of a b h = omega (arith, h)
@@ -66,6 +66,6 @@ pub returns : goal.returns
 returns c =
     let w = c.args.self.now in
     let plan = plan_is w _ _ _ c.requires.rho_some c.spread.ensures c.div_ceil-lead.ensures c.div_ceil.ensures in
-    let rounding = c.in_ok-rounding_size.ensures.1 ∙ (λ i. rounding_size w.squares w.pull (sums_by w) (plan i)) in
+    let rounding = c.in_ok-rounding_size.ensures.1 ∙ (λ i. rounding_size w.squares w.plan_pull (sums_by w) (plan i)) in
     let radii = c.in_ok-radius_size.ensures.1 ∙ (λ i. radius_size (sums_by w) (plan i)) in
     kept c.limited_sum.result (λ i. rounding i + radii i) c.limited_sum.ensures

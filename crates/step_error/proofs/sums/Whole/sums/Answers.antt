@@ -26,9 +26,9 @@ returns c =
     let w = c.args.self.now in
     let two : 0 < 2 * w.rho = omega (arith, c.requires.rho_some) in
     let squares = quotient_is _ _ _ w.squares (2 * w.rho) two c.div_ceil.ensures refl refl in
-    let pull = quotient_is _ _ _ w.pull (2 * w.rho) two c.div_ceil-2.ensures refl refl in
+    let plan_pull = quotient_is _ _ _ w.plan_pull (2 * w.rho) two c.div_ceil-2.ensures refl refl in
     let first = read _ (omega (arith, squares, ceil_small w.squares (2 * w.rho) two, c.requires.squares)) ∙ ap (λ (n : ℕ). pos n) squares in
-    let lead = read _ (omega (arith, pull, ceil_small w.pull (2 * w.rho) two, c.requires.pull)) ∙ ap (λ (n : ℕ). pos n) pull in
+    let lead = read _ (omega (arith, plan_pull, ceil_small w.plan_pull (2 * w.rho) two, c.requires.plan_pull)) ∙ ap (λ (n : ℕ). pos n) plan_pull in
     let rho = to_z_pos w128 w.rho (omega (arith, c.requires.rho)) in
     (λ i. record {
       first = first i;

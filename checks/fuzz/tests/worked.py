@@ -1,0 +1,28 @@
+"""The worked design and controller, and how a command is asked of the model."""
+import os
+
+import model
+import program
+
+FIRST = os.path.join(os.path.dirname(os.path.abspath(__file__)), "..", "..", "..", "examples", "first")
+
+
+def example(name):
+    with open(os.path.join(FIRST, name), "rb") as file:
+        return file.read()
+
+
+DESIGN, POLICY, CONTROLLER = map(example, ("design.toml", "policy.csv", "controller.txt"))
+
+
+def sub(text, *pairs):
+    for old, new in pairs:
+        assert text.count(old) == 1, (old, text.count(old))
+        text = text.replace(old, new)
+    return text
+
+
+def told(words, **files):
+    """The status, the line, the output and what was written."""
+    said = program.answer(words.split(), lambda name: files.get(name), lambda name: True, model.exact_gains)
+    return said.status, said.line.decode(), b"".join(said.out).decode(), {name: data.decode() for name, data in said.written.items()}

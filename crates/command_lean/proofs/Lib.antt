@@ -1,0 +1,5 @@
+-- what is called for, how the files end it, and what is written
+pub mod Passing
+pub mod Calling
+pub mod Opening
+pub mod Written

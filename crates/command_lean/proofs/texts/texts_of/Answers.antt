@@ -1,0 +1,27 @@
+use Rattle.std.proofs.Common.{inl}
+use Rattle.std.proofs.lemmas.Result.{IfErr-weaker, IfOk-weaker}
+use Rattle.qp_model.specs.problem.Policy.{plans_of}
+use Rattle.qp_model.specs.bounds.Printed.{printed}
+use Rattle.command_line.proofs.Results.{handed, unmet}
+use Rattle.command_lean.specs.Reading.{IsRefusedWith}
+use Rattle.command_lean.proofs.texts.texts_of.Goals as goal
+
+pub returns-in_err-made : goal.returns-in_err-made
+returns-in_err-made c =
+    let r = c.from_residual.result in
+    let is = c.from_residual.ensures.1 in
+    let e = c.in_err-made.field-0.0 in
+    record {
+      texts = unmet r _ _ is;
+      refused = handed r (IsRefusedWith c.args.design.now (plans_of c.args.policy.now) (plans_of c.args.reference.now)) e is c.in_err-made.ensures.refused;
+    }
+
+pub returns-clause-texts : goal.returns-clause-texts
+returns-clause-texts c =
+    let made = c.in_ok-made.made in
+    IfOk-weaker c.texts_made.result _ _
+    (λ t are. record { controller = made.controller; bounds = printed made.bounds; made = c.in_ok-made.ensures.made; is_text = are.0; is_report = are.1; answer = c.in_ok-made.ensures.called })
+    c.texts_made.ensures.texts
+
+pub returns-clause-refused : goal.returns-clause-refused
+returns-clause-refused c = IfErr-weaker c.texts_made.result _ _ (λ e is. inl is) c.texts_made.ensures.memory

@@ -1,0 +1,4 @@
+pub mod Made
+pub mod Lean
+pub mod Reading
+pub mod Deeds

@@ -1,0 +1,33 @@
+// A lean controller and its bounds.
+ghost use Rattle.std.specs.Prelude.{◌≡◌, ◌⊎◌, IfOk, IfErr};
+ghost use Rattle.qp_model.specs.problem.Parts.{design_of};
+ghost use Rattle.qp_model.specs.problem.Policy.{plans_of, IsPolicyFor};
+ghost use Rattle.qp_model.specs.bounds.Printed.{printed};
+ghost use Rattle.command_line.specs.Answers.{IsAnswer};
+ghost use Rattle.command_lean.specs.Made.{MakingCalls, IsMadeOf};
+ghost use Rattle.command_lean.specs.Reading.{IsRefusedWith};
+
+use command_line::Status;
+use design_engine::Made;
+use lean_engine::generate_lean;
+use qp_model::{Design, Policy};
+use std::alloc::Global;
+
+/// The lean controller and the bounds of a design with a policy and reference plans, or the status that tells why there are none.
+pub fn make_lean(
+    alloc: Global,
+    design: &Design,
+    policy: &Policy,
+    reference: &Policy,
+) -> Result<Made, Status>
+    requires plans { IsPolicyFor (design_of design.now) (plans_of policy.now) }
+    requires references { IsPolicyFor (design_of design.now) (plans_of reference.now) }
+    ensures made { IfOk result (λ made. IsMadeOf design.now (plans_of policy.now) (plans_of reference.now) made.controller (printed made.bounds)) }
+    ensures called { IfOk result (λ _. IsAnswer (MakingCalls design.now (plans_of policy.now) (plans_of reference.now)) Status.Done) }
+    ensures refused { IfErr result (IsRefusedWith design.now (plans_of policy.now) (plans_of reference.now)) }
+{
+    match generate_lean(alloc, design, policy, reference) {
+        Ok(made) => Ok(made),
+        Err(refusal) => Err(Status::from(refusal)),
+    }
+}

@@ -1,0 +1,218 @@
+-- What the files make of the answer where one of them ends it, and where all are right.
+use Rattle.std.proofs.Common.{◌≡◌, ◌≢◌, ◌⊎◌, inl, inr, ℕ, Bool, true, false, List, Option, refl, sym, subst}
+use Rattle.io_edge.specs.Faults.{Files, NoneFalls}
+use Rattle.integer_algebra.specs.Sums.{at}
+use Rattle.mat_int.specs.Matrix.{Matrix}
+use Rattle.number_text.specs.declared.text_fault.TextFault.{TextFault}
+use Rattle.qp_model.specs.problem.Design.{Design}
+use Rattle.qp_model.specs.problem.Policy.{Plans}
+use Rattle.qp_model.specs.problem.Parts.{design_numbers, design_of}
+use Rattle.qp_model.specs.declared.design_parts.DesignParts.{DesignParts}
+use Rattle.stay_check.specs.FaceForms.{FaceNumbers}
+use Rattle.design_engine.specs.Refusals.{HasCause}
+use Rattle.command_line.specs.Words.{word_of}
+use Rattle.command_line.specs.Limit.{file_limit}
+use Rattle.command_line.specs.Answers.{Contents, IsTold, ForContents, FileHolds, IsFileRefused, IsAnswer}
+use Rattle.command_line.proofs.Composing.{told_at, told, told_contents, all_told, replace, replaced_told, some_contents, stop, go_on, go_on_whole}
+use Rattle.command_line.proofs.Counts.{rose_later}
+use Rattle.command_line.specs.declared.status.Status.{Status}
+use Rattle.command_line.specs.declared.status.Status.TheVariants.{Done, Memory, ReadFault, WriteFault, Text, Long}
+use Rattle.command_files.specs.Texts.{DesignRight, DesignWrong, PolicyRight, PolicyWrong, FacesRight, FacesWrong, RangeRight, RangeWrong}
+use Rattle.command_files.specs.Reading.{ReadsPolicy, ReadsFaces, IsDesignRead, EndsDesign, IsPolicyRead, EndsPolicy, AreFacesRead, EndsFaces}
+use Rattle.command_files.proofs.Designs.{same_design}
+use Rattle.command_controller.proofs.SameDesign.{along}
+use Rattle.command_generate.specs.Generate.{HoldsInputs}
+use Rattle.command_stay.specs.Excess.{AreStatedExcesses}
+use Rattle.command_stay.specs.Stay.{FacesCall, StayingCalls, ReadsShifts, StayCalls, StayReaches, no_shifts}
+use Rattle.command_stay.specs.Reading.{IsRangeTaken, EndsTaking, IsRefusal, IsRefusedWith, AreStayFilesRead, IsStayRefused, EndsStaying}
+
+-- ---- what a file is refused with
+long_refusal : (file : ℕ) (s : Status) → s ≡ Long file → IsRefusal s
+long_refusal file s is = record { done = λ e. cc; memory = λ e. cc; read = λ f e. cc; write = λ f e. cc }
+
+text_refusal : (file : ℕ) (fault : TextFault) (s : Status) → s ≡ Text file fault → IsRefusal s
+text_refusal file fault s is = record { done = λ e. cc; memory = λ e. cc; read = λ f e. cc; write = λ f e. cc }
+
+refusal_of : (file : ℕ) (Wrong : List ℕ → Status → Type 0) (content : Option (List ℕ)) (s : Status) → ((bytes : List ℕ) → Wrong bytes s → (fault : TextFault) × (s ≡ Text file fault)) →
+    IsFileRefused file_limit file Wrong content s → IsRefusal s
+refusal_of file Wrong content s tells (inl long) = long_refusal file s long.is
+refusal_of file Wrong content s tells (inr wrong) = let told = tells wrong.bytes wrong.right in text_refusal file told.0 s told.1
+
+-- ---- the contents of the four files that are read
+abbrev pub four_contents : List (List ℕ) → Option Files → (one two five six : Option (List ℕ)) → Contents
+four_contents words held one two five six = replace 1 one (replace 2 two (replace 5 five (replace 6 six (told_contents words held))))
+
+for_four : (words : List (List ℕ)) (held : Option Files) (P : Contents → Type 0) (one two five six : Option (List ℕ)) → IsTold held (word_of words 1) one → IsTold held (word_of words 2) two →
+    IsTold held (word_of words 5) five → IsTold held (word_of words 6) six → P (four_contents words held one two five six) → ForContents words held P
+for_four words held P one two five six first second fifth sixth h = record {
+  contents = four_contents words held one two five six;
+  told = replaced_told words held 1 one _ first (replaced_told words held 2 two _ second (replaced_told words held 5 five _ fifth (replaced_told words held 6 six _ sixth (all_told words held))));
+  true_of = h;
+}
+
+-- ---- what comes after the faces, the policy and the design
+abbrev pub AfterFaces : (disturbed : Bool) (shifts : Option (List ℕ)) → DesignParts → Plans → FaceNumbers → Status → Type 0
+AfterFaces disturbed shifts p plans f s = ReadsShifts disturbed (design_of p).states shifts (StayingCalls p plans f) s
+
+abbrev pub AfterPolicy : (disturbed : Bool) (faces shifts : Option (List ℕ)) → DesignParts → Plans → Status → Type 0
+AfterPolicy disturbed faces shifts p plans s = ReadsFaces (design_of p) 5 faces (AfterFaces disturbed shifts p plans) s
+
+abbrev pub AfterDesign : (disturbed : Bool) (policy faces shifts : Option (List ℕ)) → DesignParts → Status → Type 0
+AfterDesign disturbed policy faces shifts p s = ReadsPolicy (design_of p) 2 policy (AfterPolicy disturbed faces shifts p) s
+
+-- of the design its numbers are seen
+module _ (p q : DesignParts) (e : design_numbers p ≡ design_numbers q) where
+  staying_same : (plans : Plans) (f : FaceNumbers) (range : Matrix) (s : Status) → StayingCalls p plans f range s → StayingCalls q plans f range s
+  staying_same plans f range s (inl why) = inl (record { refusal = why.refusal; cause = along (λ d t. HasCause d t plans why.refusal) p q e why.cause; is = why.is })
+  staying_same plans f range s (inr call) =
+      let both = along (λ d t. AreStatedExcesses d t plans call.0 × FacesCall d (at call.0) f range s) p q e (call.1, call.2) in
+      inr (call.0, both.0, both.1)
+
+  shifts_same : (disturbed : Bool) (shifts : Option (List ℕ)) (plans : Plans) (f : FaceNumbers) (s : Status) → AfterFaces disturbed shifts p plans f s → AfterFaces disturbed shifts q plans f s
+  shifts_same true shifts plans f s (inl refused) = inl (subst (λ (d : Design). IsFileRefused file_limit 6 (RangeWrong d.states 6) shifts s) (same_design p q e) refused)
+  shifts_same true shifts plans f s (inr right) =
+      inr (right.0, subst (λ (d : Design). FileHolds file_limit (RangeRight d.states right.0) shifts) (same_design p q e) right.1, staying_same plans f right.0 s right.2)
+  shifts_same false shifts plans f s call =
+      subst (λ (d : Design). StayingCalls q plans f (no_shifts d.states) s) (same_design p q e) (staying_same plans f (no_shifts (design_of p).states) s call)
+
+  faces_same : (disturbed : Bool) (faces shifts : Option (List ℕ)) (plans : Plans) (s : Status) → AfterPolicy disturbed faces shifts p plans s → AfterPolicy disturbed faces shifts q plans s
+  faces_same disturbed faces shifts plans s (inl refused) = inl (subst (λ (d : Design). IsFileRefused file_limit 5 (FacesWrong d 5) faces s) (same_design p q e) refused)
+  faces_same disturbed faces shifts plans s (inr right) =
+      inr (right.0, subst (λ (d : Design). FileHolds file_limit (FacesRight d right.0) faces) (same_design p q e) right.1, shifts_same disturbed shifts plans right.0 s right.2)
+
+  policy_same : (disturbed : Bool) (policy faces shifts : Option (List ℕ)) (s : Status) → AfterDesign disturbed policy faces shifts p s → AfterDesign disturbed policy faces shifts q s
+  policy_same disturbed policy faces shifts s (inl refused) = inl (subst (λ (d : Design). IsFileRefused file_limit 2 (PolicyWrong d 2) policy s) (same_design p q e) refused)
+  policy_same disturbed policy faces shifts s (inr right) =
+      inr (right.0, subst (λ (d : Design). FileHolds file_limit (PolicyRight d right.0) policy) (same_design p q e) right.1, faces_same disturbed faces shifts right.0 s right.2)
+
+module _ (disturbed : Bool) (words : List (List ℕ)) (held : Option Files) where
+  abbrev Called : Status → Contents → Type 0
+  Called s k = IsAnswer (StayCalls disturbed (k 1) (k 2) (k 5) (k 6)) s
+
+  abbrev Reached : ℕ → Contents → Type 0
+  Reached file k = StayReaches disturbed (k 1) (k 2) (k 5) file
+
+  abbrev second : Option (List ℕ)
+  second = told_at held (word_of words 2)
+
+  abbrev fifth : Option (List ℕ)
+  fifth = told_at held (word_of words 5)
+
+  abbrev sixth : Option (List ℕ)
+  sixth = told_at held (word_of words 6)
+
+  -- ---- what ends the later files ends them all
+  pub ends_later : (before mid now : List ℕ → ℕ) (s : Status) → NoneFalls before mid → NoneFalls mid now → EndsStaying disturbed words held mid now s → EndsStaying disturbed words held before now s
+  ends_later before mid now s low high (inl memory) = inl memory
+  ends_later before mid now s low high (inr (inl fault)) = inr (inl (record {
+    file = fault.file;
+    is = fault.is;
+    reached = fault.reached;
+    rose = rose_later _ _ _ (low.each (word_of words fault.file)) (high.each (word_of words fault.file)) fault.rose;
+  }))
+  ends_later before mid now s low high (inr (inr called)) = inr (inr called)
+
+  -- ---- the design's file ends it
+  pub design_ends : (before now : List ℕ → ℕ) (s : Status) → EndsDesign 1 held (word_of words 1) (before (word_of words 1)) (now (word_of words 1)) s → EndsStaying disturbed words held before now s
+  design_ends before now s (inl memory) = inl memory
+  design_ends before now s (inr (inl fault)) = inr (inl (record { file = 1; is = fault.0; reached = some_contents words held (Reached 1) (λ k. inl refl); rose = fault.1 }))
+  design_ends before now s (inr (inr wrong)) = inr (inr (record {
+    called = for_four words held (Called s) wrong.content second fifth sixth wrong.told (told held (word_of words 2)) (told held (word_of words 5)) (told held (word_of words 6))
+        (stop file_limit 1 (DesignWrong 1) DesignRight held (word_of words 1) s wrong (AfterDesign disturbed second fifth sixth));
+    refusal = refusal_of 1 (DesignWrong 1) wrong.content s (λ bytes why. (why.0, why.2.1)) wrong.answer.called;
+  }))
+
+  -- ---- the design is right
+  module _ (p : DesignParts) (design : IsDesignRead 1 held (word_of words 1) p) where
+    with_design : (policy faces shifts : Option (List ℕ)) (s : Status) → IsAnswer (AfterDesign disturbed policy faces shifts p) s → IsAnswer (StayCalls disturbed design.content policy faces shifts) s
+    with_design policy faces shifts s answer =
+        go_on file_limit 1 (DesignWrong 1) DesignRight design_numbers held (word_of words 1) p s design (AfterDesign disturbed policy faces shifts)
+        (λ y same t after. policy_same y p same disturbed policy faces shifts t after) answer
+
+    pub policy_ends : (before now : List ℕ → ℕ) (s : Status) → EndsPolicy (design_of p) 2 held (word_of words 2) (before (word_of words 2)) (now (word_of words 2)) s → EndsStaying disturbed words held before now s
+    policy_ends before now s (inl memory) = inl memory
+    policy_ends before now s (inr (inl fault)) = inr (inl (record {
+      file = 2;
+      is = fault.0;
+      reached = for_four words held (Reached 2) design.content second fifth sixth design.told (told held (word_of words 2)) (told held (word_of words 5)) (told held (word_of words 6)) (inr (inl (refl, p, design.right)));
+      rose = fault.1;
+    }))
+    policy_ends before now s (inr (inr wrong)) = inr (inr (record {
+      called = for_four words held (Called s) design.content wrong.content fifth sixth design.told wrong.told (told held (word_of words 5)) (told held (word_of words 6))
+          (with_design wrong.content fifth sixth s
+          (stop file_limit 2 (PolicyWrong (design_of p) 2) (PolicyRight (design_of p)) held (word_of words 2) s wrong (AfterPolicy disturbed fifth sixth p)));
+      refusal = refusal_of 2 (PolicyWrong (design_of p) 2) wrong.content s (λ bytes why. (why.0, why.2.1)) wrong.answer.called;
+    }))
+
+    -- ---- the policy is right
+    module _ (plans : Plans) (policy : IsPolicyRead (design_of p) 2 held (word_of words 2) plans) where
+      inputs : HoldsInputs design.content policy.content p plans
+      inputs = record { design_right = design.right; policy_right = policy.right }
+
+      with_policy : (faces shifts : Option (List ℕ)) (s : Status) → IsAnswer (AfterPolicy disturbed faces shifts p plans) s → IsAnswer (StayCalls disturbed design.content policy.content faces shifts) s
+      with_policy faces shifts s answer =
+          with_design policy.content faces shifts s
+          (go_on_whole file_limit 2 (PolicyWrong (design_of p) 2) (PolicyRight (design_of p)) held (word_of words 2) plans s policy (AfterPolicy disturbed faces shifts p) answer)
+
+      pub faces_ends : (before now : List ℕ → ℕ) (s : Status) → EndsFaces (design_of p) 5 held (word_of words 5) (before (word_of words 5)) (now (word_of words 5)) s → EndsStaying disturbed words held before now s
+      faces_ends before now s (inl memory) = inl memory
+      faces_ends before now s (inr (inl fault)) = inr (inl (record {
+        file = 5;
+        is = fault.0;
+        reached = for_four words held (Reached 5) design.content policy.content fifth sixth design.told policy.told (told held (word_of words 5)) (told held (word_of words 6))
+            (inr (inr (inl (refl, p, plans, inputs))));
+        rose = fault.1;
+      }))
+      faces_ends before now s (inr (inr wrong)) = inr (inr (record {
+        called = for_four words held (Called s) design.content policy.content wrong.content sixth design.told policy.told wrong.told (told held (word_of words 6))
+            (with_policy wrong.content sixth s
+            (stop file_limit 5 (FacesWrong (design_of p) 5) (FacesRight (design_of p)) held (word_of words 5) s wrong (AfterFaces disturbed sixth p plans)));
+        refusal = refusal_of 5 (FacesWrong (design_of p) 5) wrong.content s (λ bytes why. (why.0, why.2.1)) wrong.answer.called;
+      }))
+
+      -- ---- the faces are right
+      module _ (f : FaceNumbers) (faces : AreFacesRead (design_of p) 5 held (word_of words 5) f) where
+        with_faces : (shifts : Option (List ℕ)) (s : Status) → IsAnswer (AfterFaces disturbed shifts p plans f) s → IsAnswer (StayCalls disturbed design.content policy.content faces.content shifts) s
+        with_faces shifts s answer =
+            with_policy faces.content shifts s
+            (go_on_whole file_limit 5 (FacesWrong (design_of p) 5) (FacesRight (design_of p)) held (word_of words 5) f s faces (AfterFaces disturbed shifts p plans) answer)
+
+        three_right : (shifts : Option (List ℕ)) (s : Status) → IsTold held (word_of words 6) shifts → IsAnswer (AfterFaces disturbed shifts p plans f) s → ForContents words held (Called s)
+        three_right shifts s is answer =
+            for_four words held (Called s) design.content policy.content faces.content shifts design.told policy.told faces.told is (with_faces shifts s answer)
+
+-- ---- the range ends it
+pub range_ends : (disturbed : Bool) (words : List (List ℕ)) (held : Option Files) (p : DesignParts) (design : IsDesignRead 1 held (word_of words 1) p) (plans : Plans)
+    (policy : IsPolicyRead (design_of p) 2 held (word_of words 2) plans) (f : FaceNumbers) (faces : AreFacesRead (design_of p) 5 held (word_of words 5) f) (before now : List ℕ → ℕ) (s : Status) →
+    EndsTaking disturbed (design_of p).states held (word_of words 6) (before (word_of words 6)) (now (word_of words 6)) s → EndsStaying disturbed words held before now s
+range_ends false words held p design plans policy f faces before now s memory = inl memory
+range_ends true words held p design plans policy f faces before now s (inl memory) = inl memory
+range_ends true words held p design plans policy f faces before now s (inr (inl fault)) = inr (inl (record {
+  file = 6;
+  is = fault.0;
+  reached = for_four words held (λ k. StayReaches true (k 1) (k 2) (k 5) 6) design.content policy.content faces.content (told_at held (word_of words 6)) design.told policy.told faces.told (told held (word_of words 6))
+      (inr (inr (inr (refl, refl, record { p = p; plans = plans; inputs = record { design_right = design.right; policy_right = policy.right }; numbers = f; faces_right = faces.right }))));
+  rose = fault.1;
+}))
+range_ends true words held p design plans policy f faces before now s (inr (inr wrong)) = inr (inr (record {
+  called = three_right true words held p design plans policy f faces wrong.content s wrong.told
+      (stop file_limit 6 (RangeWrong (design_of p).states 6) (RangeRight (design_of p).states) held (word_of words 6) s wrong (StayingCalls p plans f));
+  refusal = refusal_of 6 (RangeWrong (design_of p).states 6) wrong.content s (λ bytes why. (why.0, why.2.1)) wrong.answer.called;
+}))
+
+-- ---- all are right
+pub all_right : (disturbed : Bool) (words : List (List ℕ)) (held : Option Files) (p : DesignParts) (plans : Plans) (f : FaceNumbers) (range : Matrix) →
+    AreStayFilesRead disturbed words held p plans f range → (s : Status) → IsAnswer (StayingCalls p plans f range) s →
+    ForContents words held (λ k. IsAnswer (StayCalls disturbed (k 1) (k 2) (k 5) (k 6)) s)
+all_right true words held p plans f range read s answer =
+    three_right true words held p read.design plans read.policy f read.faces_read read.range_taken.content s read.range_taken.told
+    (go_on_whole file_limit 6 (RangeWrong (design_of p).states 6) (RangeRight (design_of p).states) held (word_of words 6) range s read.range_taken (StayingCalls p plans f) answer)
+all_right false words held p plans f range read s answer =
+    three_right false words held p read.design plans read.policy f read.faces_read (told_at held (word_of words 6)) s (told held (word_of words 6))
+    (subst (λ (m : Matrix). IsAnswer (StayingCalls p plans f m) s) read.range_taken answer)
+
+pub refused_ends : (disturbed : Bool) (words : List (List ℕ)) (held : Option Files) (p : DesignParts) (plans : Plans) (f : FaceNumbers) (range : Matrix) →
+    AreStayFilesRead disturbed words held p plans f range → (before now : List ℕ → ℕ) (s : Status) → IsRefusedWith p plans f range s → EndsStaying disturbed words held before now s
+refused_ends disturbed words held p plans f range read before now s (inl memory) = inl memory
+refused_ends disturbed words held p plans f range read before now s (inr answer) =
+    inr (inr (record { called = all_right disturbed words held p plans f range read s answer.0; refusal = answer.1 }))

@@ -1,0 +1,41 @@
+-- How what was made is checked, on the way.
+use Rattle.std.specs.Prelude.{◌≡◌, ℕ, ◌^◌, ℤ, pos, ◌≤ℤ◌, List, unsigned_abs}
+use Rattle.integer_algebra.specs.Sums.{at}
+use Rattle.mat_int.specs.Matrix.{Matrix, row_of}
+use Rattle.qp_model.specs.problem.Design.{Design}
+use Rattle.qp_model.specs.problem.Runs.{Holds}
+use Rattle.qp_model.specs.bounds.Choices.{row_violation_bound}
+use Rattle.qp_model.specs.machine.Controller.{Numbers}
+use Rattle.qp_model.specs.machine.Machine.{exponent_of}
+use Rattle.stay_check.specs.FaceForms.{FaceNumbers}
+use Rattle.stay_check.specs.Answers.{IsStayFault, Stays}
+use Rattle.stay_check.specs.Staying.{KeepsInBox}
+use Rattle.stay_check.specs.declared.fault.StayFault.{StayFault}
+use Rattle.command_line.specs.declared.status.Status.{Status}
+use Rattle.command_stay.specs.Stay.{stay_status}
+
+-- R and the errors of a step of what was made
+pub record AreSmall (r errors : ℤ) : Type 0 where
+  pub some : pos 1 ≤ℤ r
+  pub narrow : r ≤ℤ pos (2 ^ 44)
+  pub errors_low : pos 0 ≤ℤ errors
+  pub errors_high : errors ≤ℤ pos (2 ^ 114)
+
+-- by how much a plan of a controller exceeds row i at most, over 2^40
+abbrev pub made_excess : Numbers → (r errors : ℤ) → ℕ → ℤ
+made_excess c r errors i = pos (row_violation_bound (exponent_of c i) c.step_exponent (unsigned_abs r) c.steps (unsigned_abs errors))
+
+-- the faces hold with these numbers, so that a turn stays in the box
+pub record IsKept (d : Design) (c : Numbers) (r errors : ℤ) (faces : FaceNumbers) (range : Matrix) : Type 0 where
+  pub excess : List ℤ
+  pub holds : Holds excess c.rows (made_excess c r errors)
+  pub stays : Stays d (at excess) (at (row_of range 0)) (at (row_of range 1)) faces
+  pub keeps : KeepsInBox d (at excess) (at (row_of range 0)) (at (row_of range 1))
+
+-- or they have a fault with them, which the status tells
+pub record IsCaught (d : Design) (c : Numbers) (r errors : ℤ) (faces : FaceNumbers) (range : Matrix) (s : Status) : Type 0 where
+  pub excess : List ℤ
+  pub holds : Holds excess c.rows (made_excess c r errors)
+  pub fault : StayFault
+  pub found : IsStayFault d (at excess) (at (row_of range 0)) (at (row_of range 1)) faces fault
+  pub is : s ≡ stay_status fault

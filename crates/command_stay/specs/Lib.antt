@@ -1,0 +1,5 @@
+pub mod Excess
+pub mod Stay
+pub mod Checking
+pub mod Reading
+pub mod Deeds

@@ -1,0 +1,101 @@
+-- What `stay` is called to answer by what its files hold, and what it leaves in the store.
+use Rattle.std.specs.Prelude.{◌≡◌, ◌⊎◌, ℕ, Bool, true, false, ℤ, List, Option}
+use Rattle.io_edge.specs.Faults.{Files}
+use Rattle.integer_algebra.specs.Sums.{at}
+use Rattle.mat_int.specs.Matrix.{Matrix, row_of, zero_matrix}
+use Rattle.qp_model.specs.problem.Design.{Design}
+use Rattle.qp_model.specs.problem.Policy.{Plans}
+use Rattle.qp_model.specs.problem.Parts.{design_of}
+use Rattle.qp_model.specs.machine.Controller.{Numbers}
+use Rattle.qp_model.specs.machine.Machine.{IsAdmissible}
+use Rattle.qp_model.specs.machine.Successor.{state_after}
+use Rattle.qp_model.specs.bounds.Printed.{Printed}
+use Rattle.qp_model.specs.declared.design_parts.DesignParts.{DesignParts}
+use Rattle.stay_check.specs.FaceForms.{FaceNumbers}
+use Rattle.stay_check.specs.Answers.{IsStayFault, Stays}
+use Rattle.stay_check.specs.LoopStay.{state_under, AreShiftsUpTo, IsKeptAt}
+use Rattle.stay_check.specs.declared.fault.StayFault.{StayFault}
+use Rattle.stay_check.specs.declared.fault.StayFault.TheVariants as faults
+use Rattle.design_engine.specs.Targets.{targets_of}
+use Rattle.command_line.specs.Words.{word_of}
+use Rattle.command_line.specs.Limit.{file_limit}
+use Rattle.command_line.specs.Answers.{FileHolds}
+use Rattle.command_line.specs.declared.status.Status.{Status}
+use Rattle.command_line.specs.declared.status.Status.TheVariants.{Done, Refused, Unequal, NoStay}
+use Rattle.design_refusal.specs.declared.refusal.Refusal.TheVariants.{TooWide}
+use Rattle.command_files.specs.Texts.{DesignRight, FacesRight, RangeRight}
+use Rattle.command_files.specs.Reading.{ReadsDesign, ReadsPolicy, ReadsFaces, ReadsRange}
+use Rattle.command_controller.specs.Made.{IsRefusedBy}
+use Rattle.command_generate.specs.Generate.{HoldsInputs, IsGenerated}
+use Rattle.command_stay.specs.Excess.{AreStatedExcesses}
+
+-- ---- the answer
+-- the status that tells of a fault of the faces
+abbrev pub stay_status : StayFault → Status
+stay_status (faults.TooWide quantity) = Refused (TooWide quantity)
+stay_status (faults.Unequal entry input left right) = Unequal entry input left right
+stay_status (faults.NoStay entry bound) = NoStay entry bound
+
+-- what faces call for, where each row is exceeded by at most its number over 2^40 and the state is shifted within a range: its least and its greatest
+abbrev pub FacesCall : Design → (excess : ℕ → ℤ) → FaceNumbers → (range : Matrix) → Status → Type 0
+FacesCall d excess faces range s =
+    ((s ≡ Done) × Stays d excess (at (row_of range 0)) (at (row_of range 1)) faces) ⊎
+    ((fault : StayFault) × IsStayFault d excess (at (row_of range 0)) (at (row_of range 1)) faces fault × (s ≡ stay_status fault))
+
+-- what a design with a policy calls for: it is refused as in `generate`, or passes every test and is answered by the faces
+abbrev pub StayingCalls : DesignParts → Plans → FaceNumbers → (range : Matrix) → Status → Type 0
+StayingCalls p plans faces range s =
+    IsRefusedBy p plans s ⊎ ((excess : List ℤ) × AreStatedExcesses (design_of p) (targets_of p) plans excess × FacesCall (design_of p) (at excess) faces range s)
+
+-- the range of no shifts of n coordinates
+abbrev pub no_shifts : ℕ → Matrix
+no_shifts n = zero_matrix 2 n
+
+-- the sixth file holds the range where there are disturbances
+abbrev pub ReadsShifts : (disturbed : Bool) → (n : ℕ) → Option (List ℕ) → (Matrix → Status → Type 0) → Status → Type 0
+ReadsShifts true n content After s = ReadsRange n 6 content After s
+ReadsShifts false n content After s = After (no_shifts n) s
+
+-- what the contents of the files call for
+abbrev pub StayCalls : (disturbed : Bool) → (design policy faces shifts : Option (List ℕ)) → Status → Type 0
+StayCalls disturbed design policy faces shifts s =
+    ReadsDesign 1 design (λ p. ReadsPolicy (design_of p) 2 policy (λ plans. ReadsFaces (design_of p) 5 faces
+    (λ f. ReadsShifts disturbed (design_of p).states shifts (StayingCalls p plans f)))) s
+
+-- the first two files hold a design and a policy for it, and the fifth faces of its box
+pub record HoldsFaces (design policy faces : Option (List ℕ)) : Type 0 where
+  pub p : DesignParts
+  pub plans : Plans
+  pub inputs : HoldsInputs design policy p plans
+  pub numbers : FaceNumbers
+  pub faces_right : FileHolds file_limit (FacesRight (design_of p) numbers) faces
+
+-- the file at this position is read: those before it are right
+abbrev pub StayReaches : (disturbed : Bool) → (design policy faces : Option (List ℕ)) → ℕ → Type 0
+StayReaches disturbed design policy faces file =
+    (file ≡ 1) ⊎ (((file ≡ 2) × (p : DesignParts) × FileHolds file_limit (DesignRight p) design)
+    ⊎ (((file ≡ 5) × (p : DesignParts) × (plans : Plans) × HoldsInputs design policy p plans)
+    ⊎ ((file ≡ 6) × (disturbed ≡ true) × HoldsFaces design policy faces)))
+
+-- ---- what is written
+-- the range of the shifts: that which the sixth name holds where there are disturbances, and else no shifts
+abbrev pub IsRangeIn : (disturbed : Bool) → (words : List (List ℕ)) → Files → (n : ℕ) → (range : Matrix) → Type 0
+IsRangeIn true words files n range = FileHolds file_limit (RangeRight n range) (files (word_of words 6))
+IsRangeIn false words files n range = range ≡ no_shifts n
+
+-- the closed loop from every state of the box, for every number of turns, under every list of shifts within the range: its states lie in the box, and at
+-- each the controller is certified
+abbrev pub KeepsLoops : DesignParts → Numbers → Printed → (range : Matrix) → Type 0
+KeepsLoops p c b range =
+    (start : List ℤ) → IsAdmissible c start → (shifts : ℕ → ℕ → ℤ) → (turns : ℕ) → AreShiftsUpTo (design_of p) (at (row_of range 0)) (at (row_of range 1)) shifts turns →
+    IsKeptAt (design_of p) c b (state_under (design_of p) c start shifts turns)
+
+-- The third name holds the text of a controller and the fourth the report of its bounds, as `generate` leaves them: made of the design and the policy in
+-- the first two, and certified. And its closed loop stays in the box, under all shifts of the range; without disturbances, as `loop` runs it.
+pub record IsStayed (disturbed : Bool) (words : List (List ℕ)) (files new : Files) : Type 0 where
+  pub generated : IsGenerated words files new
+  pub range : Matrix
+  pub is_range : IsRangeIn disturbed words files (design_of generated.made.p).states range
+  pub stays : KeepsLoops generated.made.p generated.controller generated.bounds range
+  pub undisturbed : disturbed ≡ false → (start : List ℤ) → IsAdmissible generated.controller start → (turns : ℕ) →
+      IsKeptAt (design_of generated.made.p) generated.controller generated.bounds (state_after (design_of generated.made.p) generated.controller start turns)

@@ -1,0 +1,79 @@
+// Whether the loop of what was made stays in the box.
+ghost use Rattle.std.specs.Prelude.{◌≡◌, ◌⊎◌, IfOk, IfErr};
+ghost use Rattle.qp_model.specs.problem.Design.{rows};
+ghost use Rattle.qp_model.specs.problem.Parts.{design_of};
+ghost use Rattle.qp_model.specs.problem.Runs.{Holds};
+ghost use Rattle.stay_check.specs.FaceForms.{faces_of, AreFacesFor};
+ghost use Rattle.shift_file.specs.RangeText.{IsShiftRange};
+ghost use Rattle.command_stay.specs.Stay.{stay_status};
+ghost use Rattle.command_stay.specs.Checking.{AreSmall, made_excess, IsKept, IsCaught};
+
+use command_line::Status;
+use design_engine::{Made, row_violations};
+use design_refusal::Refusal;
+use mat_int::Mat;
+use qp_model::Design;
+use stay_check::{Faces, StayFault, check_faces_under};
+use std::alloc::{AllocError, Global};
+
+// The status that tells of a fault of the faces.
+fn stay_status(fault: StayFault) -> Status
+    ensures { result ≡ stay_status fault }
+{
+    match fault {
+        StayFault::TooWide { quantity } => Status::Refused {
+            refusal: Refusal::TooWide { quantity },
+        },
+        StayFault::Unequal {
+            entry,
+            input,
+            left,
+            right,
+        } => Status::Unequal {
+            entry,
+            input,
+            left,
+            right,
+        },
+        StayFault::NoStay { entry, bound } => Status::NoStay { entry, bound },
+    }
+}
+
+// By how much each row is exceeded at most, over `2^40`, whichever good solutions the controller's gains are.
+fn made_excess(alloc: Global, made: &Made) -> Result<Vec<i128>, AllocError>
+    requires { AreSmall made.now.bounds.multiplier made.now.eps }
+    ensures { IfOk result (λ v. Holds v.items made.now.controller.rows (made_excess made.now.controller made.now.bounds.multiplier made.now.eps)) }
+{
+    let c = made.controller.parts();
+    row_violations(
+        alloc,
+        &c.exps,
+        c.s,
+        made.bounds.multiplier,
+        c.steps,
+        made.eps,
+    )
+}
+
+/// Whether the faces show that a loop of the controller stays in the box under shifts of this range, or the status that tells why not.
+pub fn check_made(
+    alloc: Global,
+    design: &Design,
+    made: &Made,
+    faces: &Faces,
+    range: &Mat,
+) -> Result<(), Status>
+    requires faces { AreFacesFor (design_of design.now) (faces_of faces.now) }
+    requires range { IsShiftRange design.now.states range.now }
+    requires rows { made.now.controller.rows ≡ rows (design_of design.now) }
+    requires small { AreSmall made.now.bounds.multiplier made.now.eps }
+    ensures kept { IfOk result (λ _. IsKept (design_of design.now) made.now.controller made.now.bounds.multiplier made.now.eps (faces_of faces.now) range.now) }
+    ensures caught { IfErr result (λ e. (e ≡ Status.Memory)
+        ⊎ IsCaught (design_of design.now) made.now.controller made.now.bounds.multiplier made.now.eps (faces_of faces.now) range.now e) }
+{
+    let excess = made_excess(alloc, made)?;
+    match check_faces_under(design, faces, &excess, range.row(0), range.row(1)) {
+        Ok(()) => Ok(()),
+        Err(fault) => Err(stay_status(fault)),
+    }
+}

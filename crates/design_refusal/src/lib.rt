@@ -1,0 +1,8 @@
+//! Why a design with a policy has no controller, and the words that say so.
+#![tactic(auto)]
+
+mod refusal;
+mod words;
+
+pub use refusal::Refusal;
+pub use words::refusal_words;

@@ -1,0 +1,8 @@
+use Rattle.std.proofs.Common.{ap, subst, ◌∙◌}
+use Rattle.qp_model.specs.machine.Controller.{Numbers}
+use Rattle.fixed_kernel.specs.Progress.{Progress}
+use Rattle.fixed_kernel.proofs.States.{told_outside}
+use Rattle.fixed_kernel.proofs.kernel.Kernel.first_outside.Goals as goal
+
+pub returns : goal.returns
+returns c = told_outside _ _ c.args.state.now (c.parts.ensures.value ∙ ap (λ (p : Progress). p.controller) c.self.view_is) c.first_outside.result c.first_outside.ensures.inside c.first_outside.ensures.first

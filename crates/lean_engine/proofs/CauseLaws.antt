@@ -1,0 +1,89 @@
+-- Each cause is that of one test in a list of tests, and so there is one at most.
+use Rattle.std.proofs.Common.{◌≡◌, inl, inr, ℕ, ◌≤◌, ◌^◌, refl}
+use Rattle.qp_model.specs.problem.Design.{Design}
+use Rattle.qp_model.specs.problem.Parts.{IsDesign, design_of}
+use Rattle.qp_model.specs.problem.Policy.{Plans, IsPolicyFor}
+use Rattle.qp_model.specs.declared.design_parts.DesignParts.{DesignParts}
+use Rattle.qp_model.specs.declared.bounds.Margin.{Margin}
+use Rattle.qp_model.specs.declared.quantity.Quantity.{Quantity}
+use Rattle.qp_model.specs.declared.quantity.Quantity.TheVariants.{Prediction, CornerSlack, CornerCost, Multiplier, Hessian, Rows, Curvature as curvature_named, Error, Descent, Width, Turn, Excess, Stay}
+use Rattle.design_engine.specs.Targets.{Targets}
+use Rattle.design_engine.specs.Refusals.{PassesMargin}
+use Rattle.design_refusal.specs.declared.refusal.Refusal.{Refusal}
+use Rattle.design_refusal.specs.declared.refusal.Refusal.TheVariants.{Memory, NoMargin, Curvature, TooManySteps, TooFine, TooWide}
+use Rattle.design_engine.proofs.TestLaws.{IsOne, IsNone, Sized, sized_one, sized_none}
+use Rattle.design_engine.proofs.StageLaws.{OfAim, aim_told, aim_one, aim_none, OfForm, form_told, form_passed, form_one, form_none, OfCorners, short_told, corner_told, corner_passed, corners_one, corners_none}
+use Rattle.lean_engine.specs.Refusals.{excess_size_at, multiplier_size_at, aim_at, PassesScaling, PassesBound, PassesAll, HasCause, IsTooWide, HasWideForm, HasWideAim, HasMissedAim}
+use Rattle.lean_engine.specs.Order.{CausesLaw, PassingLaw}
+
+-- ---- the tests
+module _ (d : Design) (t : Targets) (plans references : Plans) where
+  abbrev AfterExponent : Margin → ℕ → Refusal → Type 0
+  AfterExponent m s = Sized Excess (excess_size_at d plans references) (Sized Multiplier (multiplier_size_at d t plans references m)
+      (OfAim d (aim_at d t plans references m) s))
+
+  abbrev AfterMargin : Margin → Refusal → Type 0
+  AfterMargin m = OfForm d (AfterExponent m)
+
+  abbrev Whole : Refusal → Type 0
+  Whole = OfCorners d plans AfterMargin
+
+  -- ---- a cause is that of one of the tests
+  from_margin : (e : Refusal) (m : Margin) → PassesMargin d t plans m → AfterMargin m e → Whole e
+  from_margin e m h a = corner_passed d plans AfterMargin e m h.room h.margin h.slack a
+
+  from_scaling : (e : Refusal) (m : Margin) (s : ℕ) → PassesScaling d t plans m s → AfterExponent m s e → Whole e
+  from_scaling e m s h a = from_margin e m h.margin (form_passed d (AfterExponent m) e s h.form h.exponent a)
+
+  from_bound : (e : Refusal) (m : Margin) (s : ℕ) → PassesBound d t plans references m s → OfAim d (aim_at d t plans references m) s e → Whole e
+  from_bound e m s h a = from_scaling e m s h.before (inr (h.excess, inr (h.multiplier, a)))
+
+  of_form : (quantity : Quantity) → HasWideForm d t plans quantity → Whole (TooWide quantity)
+  of_form quantity h = from_margin _ h.0 h.1 (form_told d (AfterExponent h.0) (TooWide quantity) h.2)
+
+  of_aim : (quantity : Quantity) → HasWideAim d t plans references quantity → Whole (TooWide quantity)
+  of_aim quantity h = from_bound _ h.0 h.1 h.2 (aim_told d (aim_at d t plans references h.0) h.1 (TooWide quantity) h.3)
+
+  missed : (e : Refusal) → HasMissedAim d t plans references e → Whole e
+  missed e h = from_bound e h.0 h.1 h.2 (aim_told d (aim_at d t plans references h.0) h.1 e h.3)
+
+  wide_told : (quantity : Quantity) → IsTooWide d t plans references quantity → Whole (TooWide quantity)
+  wide_told Prediction (inl h) = corner_told d plans AfterMargin Prediction h
+  wide_told Prediction (inr h) = of_form Prediction h
+  wide_told CornerSlack h = corner_told d plans AfterMargin CornerSlack h
+  wide_told CornerCost h = corner_told d plans AfterMargin CornerCost h
+  wide_told Multiplier h = from_scaling _ h.0 h.1 h.2 (inr (h.3.0, inl (refl, h.3.1)))
+  wide_told Hessian h = of_form Hessian h
+  wide_told Rows h = of_form Rows h
+  wide_told curvature_named h = of_form curvature_named h
+  wide_told Error h = of_aim Error h
+  wide_told Descent h = of_aim Descent h
+  wide_told Width h = of_aim Width h
+  wide_told Turn h = absurd h
+  wide_told Excess h = from_scaling _ h.0 h.1 h.2 (inl (refl, h.3))
+  wide_told Stay h = absurd h
+
+  told : (e : Refusal) → HasCause d t plans references e → Whole e
+  told Memory h = absurd h
+  told (NoMargin corner row slack) h = short_told d plans AfterMargin corner row slack h.0 h.1
+  told Curvature h = from_margin _ h.0 h.1 (form_told d (AfterExponent h.0) Curvature h.2)
+  told (TooManySteps k) h = missed (TooManySteps k) h
+  told (TooFine eps) h = missed (TooFine eps) h
+  told (TooWide quantity) h = wide_told quantity h
+
+-- ---- there is one at most, and none where all tests are passed
+pub one_cause : CausesLaw
+one_cause p plans references t e other design policy h k =
+    let d = design_of p in
+    corners_one p plans (AfterMargin d t plans references) design policy
+    (λ m. form_one d (AfterExponent d t plans references m) (λ s h. sized_one Excess _ _ (sized_one Multiplier _ _ (aim_one p (aim_at d t plans references m) design s))))
+    e other (told d t plans references e h) (told d t plans references other k)
+
+pub no_cause : PassingLaw
+no_cause p plans references t m s f e design policy h k =
+    let d = design_of p in
+    let before = h.before.before in
+    corners_none p plans (AfterMargin d t plans references) design policy m before.margin.room before.margin.margin before.margin.slack
+    (form_none d (AfterExponent d t plans references m) s before.form before.exponent
+    (sized_none Excess _ _ h.before.excess (sized_none Multiplier _ _ h.before.multiplier (aim_none p (aim_at d t plans references m) design s f h.aim))))
+    e (told d t plans references e k)

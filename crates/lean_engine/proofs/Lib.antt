@@ -1,0 +1,5 @@
+pub mod LeanFacts
+pub mod LeanLaws
+pub mod CauseLaws
+pub mod PricedFacts
+pub mod RefusalFacts

@@ -1,0 +1,67 @@
+use Rattle.std.specs.Int.{w128}
+use Rattle.std.proofs.lemmas.Int.{to_z-of_z}
+use mir.Val.{SFits}
+use Rattle.design_engine.proofs.AnswerLaws.{absent_of_error}
+use Rattle.std.proofs.Common.{arith, pos, get_or-set_same, get_or-set_other, below_more, rules, ◌∙◌}
+use Rattle.lean_engine.proofs.bounds.row_violations.Goals as goal
+
+pub lean_row_violation-requires-clause-some : goal.lean_row_violation-requires-clause-some
+lean_row_violation-requires-clause-some c =
+    let r : SFits w128 c.args.r = c.ranges.r in
+    rw (to_z-of_z w128 _ r) c.requires.some
+
+pub lean_row_violation-requires-clause-narrow : goal.lean_row_violation-requires-clause-narrow
+lean_row_violation-requires-clause-narrow c =
+    let r : SFits w128 c.args.r = c.ranges.r in
+    rw (to_z-of_z w128 _ r) c.requires.narrow
+
+pub lean_row_violation-requires-clause-errors : goal.lean_row_violation-requires-clause-errors
+lean_row_violation-requires-clause-errors c =
+    let e : SFits w128 c.args.eps = c.ranges.eps in
+    rw (to_z-of_z w128 _ e) c.requires.errors
+
+pub lean_row_violation-requires-clause-small : goal.lean_row_violation-requires-clause-small
+lean_row_violation-requires-clause-small c =
+    let e : SFits w128 c.args.eps = c.ranges.eps in
+    rw (to_z-of_z w128 _ e) c.requires.small
+
+pub lean_row_violation-requires-clause-exponent : goal.lean_row_violation-requires-clause-exponent
+lean_row_violation-requires-clause-exponent c = c.requires.rows c.loop-i.i (omega arith)
+
+pub lean_row_violation-requires-clause-steps : goal.lean_row_violation-requires-clause-steps
+lean_row_violation-requires-clause-steps c = c.requires.steps
+
+pub lean_row_violation-requires-clause-target : goal.lean_row_violation-requires-clause-target
+lean_row_violation-requires-clause-target c =
+    let t : SFits w128 c.args.threshold = c.ranges.threshold in
+    rw (to_z-of_z w128 _ t) c.requires.target
+
+pub returns-in_err-out : goal.returns-in_err-out
+returns-in_err-out c = absent_of_error c.from_residual.result _ c.from_residual.ensures.0
+
+pub loop-i-init : goal.loop-i-init
+loop-i-init c = record { long = c.in_ok-out.ensures.len; each = λ k below. absurd (omega arith) }
+
+pub bounds-exps-i : goal.bounds-exps-i
+bounds-exps-i c = omega arith
+
+pub index_mut-requires : goal.index_mut-requires
+index_mut-requires c = omega (arith, c.loop-i.invariant.long)
+
+pub loop-i-preserved : goal.loop-i-preserved
+loop-i-preserved c =
+    let i = c.loop-i.i in
+    let v : SFits w128 c.lean_row_violation.result = search rules in
+    record {
+      long = c.loop-i.invariant.long;
+      each = below_more _ _
+          (λ k l. get_or-set_other c.loop-i.out.items i k _ (pos 0) (omega arith) ∙ c.loop-i.invariant.each k l)
+          (get_or-set_same c.loop-i.out.items i _ (pos 0) (omega (arith, c.loop-i.invariant.long, c.loop-i.out.ok.0)) ∙ to_z-of_z w128 _ v ∙ c.lean_row_violation.ensures);
+    }
+
+pub returns : goal.returns
+returns c =
+    record {
+      long = omega (arith, c.loop-i.invariant.long, c.loop-i.out.ok.0);
+      is = λ i l. (rw (to_z-of_z w128 _ c.ranges.r, to_z-of_z w128 _ c.ranges.eps, to_z-of_z w128 _ c.ranges.threshold) at (c.loop-i.invariant.each i (omega arith)));
+    }

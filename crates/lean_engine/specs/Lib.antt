@@ -1,0 +1,4 @@
+pub mod Lean
+pub mod Refusals
+pub mod Priced
+pub mod Order

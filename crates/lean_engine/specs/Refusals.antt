@@ -1,0 +1,98 @@
+-- Why a design with a policy and reference plans has no lean controller: the first of these tests, in their order, that it fails. The excess is made of the
+-- condensed form's numbers, and so it and R come after the step exponent.
+use Rattle.std.specs.Prelude.{◌≡◌, ◌⊎◌, ℕ, ◌^◌, ◌≤◌, pos, ◌≤ℤ◌, unsigned_abs}
+use Rattle.qp_model.specs.form.Class.{form_of}
+use Rattle.qp_model.specs.problem.Design.{Design}
+use Rattle.qp_model.specs.problem.Policy.{Plans}
+use Rattle.qp_model.specs.bounds.Choices.{lean_multiplier_size}
+use Rattle.qp_model.specs.bounds.Excess.{excess_of, excess_size}
+use Rattle.qp_model.specs.declared.bounds.Margin.{Margin}
+use Rattle.qp_model.specs.declared.quantity.Quantity.{Quantity}
+use Rattle.qp_model.specs.declared.quantity.Quantity.TheVariants.{Prediction, CornerSlack, CornerCost, Multiplier, Hessian, Rows, Curvature as curvature_named, Error, Descent, Width, Turn, Excess, Stay}
+use Rattle.exact_margin.specs.Corners.{HasCornerRoom, IsFirstWideCorner, IsFirstShort}
+use Rattle.hessian_check.specs.Steps.{IsExponentOf, HasNoStep}
+use Rattle.design_engine.specs.Targets.{Targets, floor_target}
+use Rattle.design_engine.specs.Tests.{IsWide, PassesForm, IsFormWide, PassesAim, IsAimWide, HasAimCause}
+use Rattle.design_engine.specs.Refusals.{PassesMargin}
+use Rattle.design_engine.specs.declared.aimed.Aim.{Aim}
+use Rattle.design_refusal.specs.declared.refusal.Refusal.{Refusal}
+use Rattle.design_refusal.specs.declared.refusal.Refusal.TheVariants.{Memory, NoMargin, Curvature, TooManySteps, TooFine, TooWide}
+use Rattle.lean_engine.specs.Lean.{lean_aim}
+
+-- X, and the quantity `excess`
+abbrev pub excess_at : Design → (plans references : Plans) → ℕ
+excess_at d plans references = excess_of d (form_of d) plans references
+
+abbrev pub excess_size_at : Design → (plans references : Plans) → ℕ
+excess_size_at d plans references = excess_size d (form_of d) plans references
+
+-- the quantity `multiplier`, of the margin m
+abbrev pub multiplier_size_at : Design → Targets → (plans references : Plans) → Margin → ℕ
+multiplier_size_at d t plans references m = lean_multiplier_size (unsigned_abs m.units) (excess_at d plans references) (floor_target t)
+
+-- what the targets ask for with the margin m
+abbrev pub aim_at : Design → Targets → (plans references : Plans) → Margin → Aim
+aim_at d t plans references m = lean_aim t (unsigned_abs m.units) (excess_at d plans references)
+
+-- ---- how far a design with a policy and reference plans gets
+-- the corners have the margin m, and the form has the step exponent s
+pub record PassesScaling (d : Design) (t : Targets) (plans : Plans) (m : Margin) (s : ℕ) : Type 0 where
+  pub margin : PassesMargin d t plans m
+  pub form : PassesForm d
+  pub exponent : IsExponentOf d s
+
+-- the excess and R are within their limits
+pub record PassesBound (d : Design) (t : Targets) (plans references : Plans) (m : Margin) (s : ℕ) : Type 0 where
+  pub before : PassesScaling d t plans m s
+  pub excess : excess_size_at d plans references ≤ 2 ^ 126
+  pub multiplier : multiplier_size_at d t plans references m ≤ 2 ^ 126
+
+-- the steps are few enough, f bits are enough for the errors, and the systems and the controller's sums are within their limits
+pub record PassesAll (d : Design) (t : Targets) (plans references : Plans) (m : Margin) (s f : ℕ) : Type 0 where
+  pub before : PassesBound d t plans references m s
+  pub aim : PassesAim d (aim_at d t plans references m) s f
+
+-- ---- the causes
+-- the quantity is the first of the form, or of the steps and the bits, that is above its limit
+abbrev pub HasWideForm : Design → Targets → Plans → Quantity → Type 0
+HasWideForm d t plans quantity = (m : Margin) × PassesMargin d t plans m × IsFormWide d quantity
+
+abbrev pub HasWideAim : Design → Targets → (plans references : Plans) → Quantity → Type 0
+HasWideAim d t plans references quantity =
+    (m : Margin) × (s : ℕ) × PassesBound d t plans references m s × IsAimWide d (aim_at d t plans references m) s quantity
+
+-- The quantity is the first that is above its limit. `prediction` is that of the corners, or of the condensed form.
+abbrev pub IsTooWide : Design → Targets → (plans references : Plans) → Quantity → Type 0
+IsTooWide d t plans references Prediction = IsFirstWideCorner d plans Prediction ⊎ HasWideForm d t plans Prediction
+IsTooWide d t plans references CornerSlack = IsFirstWideCorner d plans CornerSlack
+IsTooWide d t plans references CornerCost = IsFirstWideCorner d plans CornerCost
+IsTooWide d t plans references Hessian = HasWideForm d t plans Hessian
+IsTooWide d t plans references Rows = HasWideForm d t plans Rows
+IsTooWide d t plans references curvature_named = HasWideForm d t plans curvature_named
+IsTooWide d t plans references Excess =
+    (m : Margin) × (s : ℕ) × PassesScaling d t plans m s × IsWide (excess_size_at d plans references)
+IsTooWide d t plans references Multiplier =
+    (m : Margin) × (s : ℕ) × PassesScaling d t plans m s × ((excess_size_at d plans references ≤ 2 ^ 126) × IsWide (multiplier_size_at d t plans references m))
+IsTooWide d t plans references Error = HasWideAim d t plans references Error
+IsTooWide d t plans references Descent = HasWideAim d t plans references Descent
+IsTooWide d t plans references Width = HasWideAim d t plans references Width
+IsTooWide d t plans references Turn = ⊥
+IsTooWide d t plans references Stay = ⊥
+
+-- the steps and the bits miss what the targets leave
+abbrev pub HasMissedAim : Design → Targets → (plans references : Plans) → Refusal → Type 0
+HasMissedAim d t plans references e =
+    (m : Margin) × (s : ℕ) × PassesBound d t plans references m s × HasAimCause d (aim_at d t plans references m) s e
+
+-- Why this refusal is the answer. Out of memory has no cause in the design, the policy and the reference plans.
+abbrev pub HasCause : Design → Targets → (plans references : Plans) → Refusal → Type 0
+HasCause d t plans references Memory = ⊥
+HasCause d t plans references (NoMargin corner row slack) = HasCornerRoom d plans × IsFirstShort d plans corner row slack
+HasCause d t plans references Curvature = (m : Margin) × PassesMargin d t plans m × (PassesForm d × HasNoStep d)
+HasCause d t plans references (TooManySteps k) = HasMissedAim d t plans references (TooManySteps k)
+HasCause d t plans references (TooFine eps) = HasMissedAim d t plans references (TooFine eps)
+HasCause d t plans references (TooWide quantity) = IsTooWide d t plans references quantity
+
+-- out of memory, or with its cause
+abbrev pub IsRefused : Design → Targets → (plans references : Plans) → Refusal → Type 0
+IsRefused d t plans references e = (e ≡ Memory) ⊎ HasCause d t plans references e

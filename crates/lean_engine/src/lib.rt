@@ -1,0 +1,11 @@
+//! The lean generator: from a design, a policy and reference plans, which show how little the policy's plans cost more than the best, to a controller and
+//! its bounds, and why the controller keeps them.
+#![tactic(auto)]
+
+mod bounds;
+mod generation;
+mod laws;
+mod targets;
+
+pub use generation::generate_lean;
+pub use laws::{causes_law, lean_law};

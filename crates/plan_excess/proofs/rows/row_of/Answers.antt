@@ -1,0 +1,77 @@
+use Rattle.std.proofs.Common.{◌≡◌, ◌<◌, length, arith, refl, FitsSigned, rules}
+use Rattle.std.specs.Int.{w128}
+use Rattle.std.proofs.lemmas.Int.{to_z-of_z}
+use Rattle.integer_algebra.specs.Sums.{at}
+use Rattle.exact_margin.proofs.RoomFacts.{over_is}
+use Rattle.plan_excess.proofs.FormFacts.{plan_within, state_within, row_given, row_room, row_refused}
+use Rattle.plan_excess.proofs.RoomFacts.{fault_passed}
+use Rattle.plan_excess.proofs.rows.row_of.Goals as goal
+
+pub line-requires-clause-radii : goal.line-requires-clause-radii
+line-requires-clause-radii c = λ i l.
+    let s = c.requires.form.1.shapes in
+    c.requires.form.1.radii.hess c.args.j i (omega (arith, s.hess.rows, c.requires.row)) (omega (arith, s.hess.cols, l))
+
+pub line-requires-2-clause-radii : goal.line-requires-2-clause-radii
+line-requires-2-clause-radii c = λ i l.
+    let s = c.requires.form.1.shapes in
+    c.requires.form.1.radii.lin c.args.j i (omega (arith, s.hess.rows, c.requires.row)) (omega (arith, s.lin.cols, l))
+
+pub returns-in_err-plan-clause-refused : goal.returns-in_err-plan-clause-refused
+returns-in_err-plan-clause-refused c = λ p is.
+    let d : FitsSigned w128 c.args.c.now.hess_den = search rules in
+    fault_passed c.from_residual.result _ _ _ c.from_residual.ensures.1 (plan_within p c.args.c.now is c.args.j) (rw (to_z-of_z w128 _ d) at c.in_err-plan.ensures.refused)
+
+pub returns-in_err-state-clause-refused : goal.returns-in_err-state-clause-refused
+returns-in_err-state-clause-refused c = λ p is.
+    let d : FitsSigned w128 c.args.c.now.hess_den = search rules in
+    fault_passed c.from_residual-in_err-state.result _ _ _ c.from_residual-in_err-state.ensures.1 (state_within p c.args.c.now is c.args.j) (rw (to_z-of_z w128 _ d) at c.in_err-state.ensures.refused)
+
+pub number-requires-clause-radius : goal.number-requires-clause-radius
+number-requires-clause-radius c =
+    let s = c.requires.form.1.shapes in
+    let l : c.args.j < length c.args.c.now.off_rad.items = omega (arith, s.hess.rows, s.off_rad, c.requires.row) in
+    let r : c.index-2.result.now ≡ at c.args.c.now.off_rad.items c.args.j = over_is _ _ _ c.index-2.ensures l refl in
+    let f : FitsSigned w128 c.index-2.result.now = search rules in
+    rw (to_z-of_z w128 _ f, r) (c.requires.form.1.radii.off c.args.j (omega (arith, s.hess.rows, c.requires.row)))
+
+pub returns-clause-value : goal.returns-clause-value
+returns-clause-value c = λ p is.
+    let s = c.requires.form.1.shapes in
+    let d : FitsSigned w128 c.args.c.now.hess_den = search rules in
+    let f : FitsSigned w128 c.index.result.now = search rules in
+    let g : FitsSigned w128 c.index-2.result.now = search rules in
+    let l : c.args.j < length c.args.c.now.off.items = omega (arith, s.hess.rows, s.off, c.requires.row) in
+    let k : c.args.j < length c.args.c.now.off_rad.items = omega (arith, s.hess.rows, s.off_rad, c.requires.row) in
+    let m : c.index.result.now ≡ at c.args.c.now.off.items c.args.j = over_is _ _ _ c.index.ensures l refl in
+    let r : c.index-2.result.now ≡ at c.args.c.now.off_rad.items c.args.j = over_is _ _ _ c.index-2.ensures k refl in
+    row_given p c.args.c.now is c.args.j c.joined.result c.in_ok-plan.plan.items c.in_ok-state.state.items c.number.result
+    (rw (to_z-of_z w128 _ d) at c.in_ok-plan.ensures.value) (rw (to_z-of_z w128 _ d) at c.in_ok-state.ensures.value)
+    (rw (to_z-of_z w128 _ d, to_z-of_z w128 _ f, to_z-of_z w128 _ g, m, r) at c.number.ensures.value) c.joined.ensures.value
+
+pub returns-clause-room : goal.returns-clause-room
+returns-clause-room c = λ p is.
+    let s = c.requires.form.1.shapes in
+    let d : FitsSigned w128 c.args.c.now.hess_den = search rules in
+    let f : FitsSigned w128 c.index.result.now = search rules in
+    let g : FitsSigned w128 c.index-2.result.now = search rules in
+    let l : c.args.j < length c.args.c.now.off.items = omega (arith, s.hess.rows, s.off, c.requires.row) in
+    let k : c.args.j < length c.args.c.now.off_rad.items = omega (arith, s.hess.rows, s.off_rad, c.requires.row) in
+    let m : c.index.result.now ≡ at c.args.c.now.off.items c.args.j = over_is _ _ _ c.index.ensures l refl in
+    let r : c.index-2.result.now ≡ at c.args.c.now.off_rad.items c.args.j = over_is _ _ _ c.index-2.ensures k refl in
+    row_room p c.args.c.now is c.args.j c.joined.result c.in_ok-plan.plan.items c.in_ok-state.state.items c.number.result
+    (rw (to_z-of_z w128 _ d) at c.in_ok-plan.ensures.room) (rw (to_z-of_z w128 _ d) at c.in_ok-state.ensures.room)
+    (rw (to_z-of_z w128 _ d, to_z-of_z w128 _ f, to_z-of_z w128 _ g, m, r) at c.number.ensures.room) c.joined.ensures.value
+
+pub returns-clause-refused : goal.returns-clause-refused
+returns-clause-refused c = λ p is.
+    let s = c.requires.form.1.shapes in
+    let d : FitsSigned w128 c.args.c.now.hess_den = search rules in
+    let f : FitsSigned w128 c.index.result.now = search rules in
+    let g : FitsSigned w128 c.index-2.result.now = search rules in
+    let l : c.args.j < length c.args.c.now.off.items = omega (arith, s.hess.rows, s.off, c.requires.row) in
+    let k : c.args.j < length c.args.c.now.off_rad.items = omega (arith, s.hess.rows, s.off_rad, c.requires.row) in
+    let m : c.index.result.now ≡ at c.args.c.now.off.items c.args.j = over_is _ _ _ c.index.ensures l refl in
+    let r : c.index-2.result.now ≡ at c.args.c.now.off_rad.items c.args.j = over_is _ _ _ c.index-2.ensures k refl in
+    row_refused p c.args.c.now is c.args.j c.joined.result c.number.result
+    (rw (to_z-of_z w128 _ d, to_z-of_z w128 _ f, to_z-of_z w128 _ g, m, r) at c.number.ensures.room) c.joined.ensures.refused

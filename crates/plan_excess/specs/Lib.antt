@@ -1,0 +1,4 @@
+pub mod Fault
+pub mod Refusing
+pub mod Rows
+pub mod Slopes

@@ -1,0 +1,2 @@
+-- a range of shifts record by record, and that its text is right in one way
+pub mod RangeFacts

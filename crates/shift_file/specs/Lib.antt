@@ -1,0 +1,2 @@
+pub mod ShiftRule
+pub mod RangeText

@@ -1,0 +1,5 @@
+//! Trials of the lean generator.
+#![tactic(auto)]
+
+#[cfg(test)]
+mod rows;

@@ -1,0 +1,165 @@
+// `stay` on a design of one state whose next state has a limit from both sides. The expected numbers are those of a model in exact fractions.
+use std::alloc::{AllocError, Global};
+use std::test::Fail;
+use trials_harness::{Fails, NONE, changed, ends_with, held, store_of};
+use trials_memory_edge::MemStore;
+use trials_worked_designs::{DESIGN, POLICY};
+
+// The store has the faces in the place of a controller's text and the disturbances in that of the states.
+const STAY: &str = "stay d p out r c";
+
+const STAY_UNDER: &str = "stay d p out r c s";
+
+// Faces that hold: the next state is at most 1/4 above the box's upper face less its error, and at least 1/4 below its lower one.
+const FACES: &str = "4,0,0,1,0\n4,0,0,0,1\n";
+
+// The worked design with a limit on both sides of the next state, and closer targets.
+fn two_sided(alloc: Global) -> Result<String, Fail> {
+    let limited = changed(
+        alloc,
+        DESIGN,
+        "final = [[4, 1]]",
+        "final = [[4, 1], [-4, 1]]",
+    )?;
+    changed(
+        alloc,
+        &limited,
+        "den = 1\nviolation = 16\ngap = 1",
+        "den = 10\nviolation = 1\ngap = 10",
+    )
+}
+
+// Whether both names hold nothing, or the report has these lines.
+fn leaves(alloc: Global, store: &mut MemStore, report: &str) -> Result<bool, Fail> {
+    let bytes = held(alloc, store, "r")?;
+    match str::from_utf8(&bytes) {
+        Ok(text) => Ok(if report.is_empty() {
+            text.is_empty()
+        } else {
+            text.contains(report)
+        }),
+        Err(_) => Ok(false),
+    }
+}
+
+// Whether a run over these files ends with this line, and leaves this in the report.
+fn is_run(
+    alloc: Global,
+    arguments: &str,
+    faces: &str,
+    shifts: &str,
+    fails: &Fails,
+    line: &str,
+    report: &str,
+) -> Result<bool, Fail> {
+    let design = two_sided(alloc)?;
+    let mut store = store_of(alloc, &design, POLICY, faces, shifts)?;
+    Ok(
+        ends_with(alloc, arguments, &mut store, fails, line, "")?
+            && leaves(alloc, &mut store, report)?,
+    )
+}
+
+// The arguments, the faces, the disturbances, the answer's line and lines of the report; nothing is written where there are none.
+static RUNS: [(&str, &str, &str, &str, &str); 16] = [
+    // Faces that hold, and the printed violation.
+    (STAY, FACES, "", "", "violation 77438459892 1099511627776\n"),
+    // Faces that don't, and texts that are none.
+    (
+        STAY,
+        "4,0,0,1,0\n4,0,1,0,0\n",
+        "",
+        "error 17 no-stay 2 -1\n",
+        "",
+    ),
+    (
+        STAY,
+        "3,0,0,1,0\n4,0,0,0,1\n",
+        "",
+        "error 16 unequal 1 1 4 3\n",
+        "",
+    ),
+    (
+        STAY,
+        "4,0,0,1,0\n3,0,0,0,1\n",
+        "",
+        "error 16 unequal 2 1 -4 -3\n",
+        "",
+    ),
+    (
+        STAY,
+        "4,0,1,0,0\n3,0,0,0,1\n",
+        "",
+        "error 16 unequal 1 1 -4 4\n",
+        "",
+    ),
+    (STAY, "", "", "error 5 text 5 count 0\n", ""),
+    (STAY, "0,0,0,1,0\n", "", "error 5 text 5 number 1 1\n", ""),
+    (STAY, "4,0,0,1\n", "", "error 5 text 5 fields 1\n", ""),
+    // Disturbances that the faces leave room for, and others.
+    (
+        STAY_UNDER,
+        FACES,
+        "0\n1\n",
+        "",
+        "violation 77438459892 1099511627776\n",
+    ),
+    (STAY_UNDER, FACES, "-1\n0\n", "error 17 no-stay 2 -1\n", ""),
+    (STAY_UNDER, FACES, "0\n2\n", "error 17 no-stay 1 2\n", ""),
+    (
+        STAY_UNDER,
+        FACES,
+        "0\n-1\n",
+        "error 5 text 6 number 2 1\n",
+        "",
+    ),
+    (STAY_UNDER, FACES, "0\n", "error 5 text 6 count 1\n", ""),
+    (
+        STAY_UNDER,
+        FACES,
+        "0\n1\n2147483648\n",
+        "error 5 text 6 number 3 1\n",
+        "",
+    ),
+    (
+        STAY_UNDER,
+        FACES,
+        "0,0\n1\n",
+        "error 5 text 6 fields 1\n",
+        "",
+    ),
+    // A name that is written is another's.
+    ("stay d p out r out", FACES, "", "error 2 usage\n", ""),
+];
+
+#[test]
+fn runs(rt: HostRuntime) -> Result<(), Fail> {
+    for &(arguments, faces, shifts, line, report) in &RUNS {
+        assert!(rt; is_run(rt.alloc(), arguments, faces, shifts, &NONE, line, report)?);
+    }
+    Ok(())
+}
+
+// Reads and writes that fail, each in turn: the read and the write that fails, and the answer's line.
+static FAULTS: [(usize, usize, &str); 6] = [
+    (1, 9, "error 3 read-fault 1\n"),
+    (2, 9, "error 3 read-fault 2\n"),
+    (3, 9, "error 3 read-fault 5\n"),
+    (4, 9, "error 3 read-fault 6\n"),
+    (9, 1, "error 4 write-fault 3\n"),
+    (9, 2, "error 4 write-fault 4\n"),
+];
+
+#[test]
+fn faults(rt: HostRuntime) -> Result<(), Fail> {
+    for &(read, write, line) in &FAULTS {
+        let fails = Fails {
+            read,
+            write,
+            keep: 0,
+            put: 9,
+        };
+        assert!(rt; is_run(rt.alloc(), STAY_UNDER, FACES, "0\n1\n", &fails, line, "")?);
+    }
+    Ok(())
+}

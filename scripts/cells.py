@@ -1,0 +1,308 @@
+#!/usr/bin/env python3
+"""Proposes cells of a design's box, each with a controller of its own: a smaller box has a smaller cost, and so fewer steps K.
+
+    scripts/cells.py DESIGN CUTS POLICIES [--cells N] [--cuts FILE] [--picture FILE] [--generate FOLDER] [--lines FILE]
+
+It cuts the box in the coordinate that lowers the greatest K of a cell most, and where no cut does, the mean K over all grid states, once or twice in one of its parts, until there are N cells (9, at
+most 64), or nothing is gained. Cells are all combinations of the coordinates' parts, the first coordinate fastest. CUTS gets a record for each coordinate: how many cuts it has, and the last
+grid number of each part but the last. POLICIES gets the plans of the first cell's corners, then those of the next.
+
+    --cuts FILE      takes the cuts of FILE, and searches none: CUTS is a copy of them
+    --picture FILE   draws the cells and their K over two coordinates, in .svg, .pdf or .png
+    --generate FOLDER   has `./mpc generate` make each cell's controller, and says its K: design-1.toml, policy-1.csv, controller-1.txt, report-1.txt and so on stand then in FOLDER
+    --lines FILE     lines of `./mpc loop`: says the mean K over their turns, where each state is served by its cell
+
+What each cell's K is by its policy goes to standard error, and the mean over all grid states beside the K of the whole box. It ends with status 6 where a cell has no policy, and with the status of
+`generate` where that refuses one. Nothing rests on it.
+"""
+import contextlib
+import io
+import itertools
+import math
+import os
+import subprocess
+from dataclasses import dataclass, replace
+
+from common.libraries import Refusal, need, run, say
+
+need("numpy", "cvxopt")
+from common import files, matching
+from common.arguments import Parser, whole
+from common.condensed import condense, curvature
+from common.corners import corners_of, margin_of, multiplier_of, steps_of
+from common.design_text import Design, plain, read_design
+from common.design_text import text_of as design_text
+from common.launcher import LAUNCHER
+from common.programs import Programs
+from common.progress import Progress
+from common.texts import loop_lines_of, read_text, report_of
+from policy import find
+
+MOST_CELLS, MOST_CUTS = 64, 63
+# parts of a part at which it is cut, once or twice
+PLACES = ((0.5,), (0.25,), (0.75,), (0.25, 0.75), (0.125, 0.875), (0.375, 0.625))
+# slacks at which plans are tried, by the greatest that all corners of the box have
+TIMES = tuple(2 ** (k / 2) for k in range(-6, 5))
+# what is no gain
+NOTHING = 0.99
+
+
+def step_of(design: Design) -> int:
+    """The step exponent, which no cell changes."""
+    steep, step = curvature(design, condense(design)), 0
+    while 2**step < steep:
+        step += 1
+    return step
+
+
+# ---- cuts
+
+
+def parts_of(design: Design, cuts: list[list[int]]) -> list[list[tuple[int, int]]]:
+    """The parts of each coordinate: their least and greatest grid numbers."""
+    out = []
+    for low, high, own in zip(design.lo, design.hi, cuts):
+        starts, ends = [low, *(cut + 1 for cut in own)], [*own, high]
+        out.append(list(zip(starts, ends)))
+    return out
+
+
+def cells_of(design: Design, cuts: list[list[int]]) -> list[Design]:
+    """The cells' designs, the first coordinate fastest."""
+    parts = parts_of(design, cuts)
+    boxes = [box[::-1] for box in itertools.product(*parts[::-1])]
+    return [replace(design, lo=[low for low, _ in box], hi=[high for _, high in box]) for box in boxes]
+
+
+def states_in(design: Design) -> int:
+    """How many grid states a box has."""
+    count = 1
+    for low, high in zip(design.lo, design.hi):
+        count *= high - low + 1
+    return count
+
+
+def count_of(cuts: list[list[int]]) -> int:
+    count = 1
+    for own in cuts:
+        count *= len(own) + 1
+    return count
+
+
+def text_of(records: list[list[int]]) -> str:
+    return "".join(",".join(map(str, record)) + "\n" for record in records)
+
+
+def cuts_text(cuts: list[list[int]]) -> str:
+    return text_of([[len(own), *own] for own in cuts])
+
+
+def fault_of(design: Design, records: list[list[int]]) -> str | None:
+    """What is wrong with the records of cuts, in the program's order: the first record, then their number, then the cells."""
+    for number, record in enumerate(records[: design.states], 1):
+        low, high = design.lo[number - 1], design.hi[number - 1]
+        if not record or not 0 <= record[0] <= MOST_CUTS:
+            return f"record {number} begins with no number of cuts from 0 to {MOST_CUTS}"
+        if len(record) != record[0] + 1:
+            return f"record {number} has {len(record)} numbers, and with {record[0]} cuts it should have {record[0] + 1}"
+        for place, (before, cut) in enumerate(zip([low - 1, *record[1:]], record[1:]), 2):
+            if not max(low, before + 1) <= cut < high:
+                return f"record {number}, number {place}: a cut above {before if place > 2 else low - 1} and below {high} is expected, and {cut} stands there"
+    if len(records) != design.states:
+        return f"it has {len(records)} records, and the design {design.states} states"
+    cells = count_of([record[1:] for record in records])
+    return f"its cuts make {cells} cells, and at most {MOST_CELLS} are served" if cells > MOST_CELLS else None
+
+
+def cuts_in(path: str, design: Design) -> list[list[int]]:
+    """The cuts of a text."""
+    try:
+        records = [[int(word.strip().strip('"')) for word in line.split(",")] for line in read_text(path).splitlines() if line]
+    except ValueError:
+        raise Refusal(f"{path}: records of whole numbers are expected, a line each") from None
+    fault = fault_of(design, records)
+    if fault:
+        raise Refusal(f"{path}: {fault}")
+    return [record[1:] for record in records]
+
+
+# ---- what a cell costs
+
+
+@dataclass
+class Cell:
+    """A cell's design with its policy, R and K."""
+
+    design: Design
+    policy: list
+    bound: int
+    steps: int
+
+
+class Guesses:
+    """About what K a box takes, by the costs of its corners' plans with one slack of a few; each corner is looked at once."""
+
+    def __init__(self, design: Design, progress: Progress) -> None:
+        self.programs, self.progress, self.factor = Programs(design), progress, float(steps_of(design, step_of(design), 1))
+        most = min(self.programs.most_slack(as_floats(design.corner(number)))[0] for number in range(1, 2**design.states + 1))
+        self.slacks = [(most if math.isfinite(most) and most > 0 else 1.0) * times for times in TIMES]
+        self.known: dict[tuple, list[float]] = {}
+
+    def costs(self, corner: tuple) -> list[float]:
+        """The cost of the best plan from a corner with each of the slacks; infinite where none has it."""
+        if corner not in self.known:
+            state, out = as_floats(corner), []
+            for slack in self.slacks:
+                plan = self.programs.best(state, slack) if not out or math.isfinite(out[-1]) else None
+                out.append(math.inf if plan is None else self.programs.cost(state, plan))
+            self.known[corner] = out
+            self.progress.reach(len(self.known))
+        return self.known[corner]
+
+    def steps(self, design: Design) -> float:
+        costs = [self.costs(tuple(design.corner(number))) for number in range(1, 2**design.states + 1)]
+        return self.factor * max(1.0, min(max(column) / slack for slack, column in zip(self.slacks, zip(*costs))))
+
+    def worth(self, design: Design, cuts: list[list[int]]) -> tuple[float, float]:
+        """The greatest K of a cell, and the mean over all grid states."""
+        cells = [(self.steps(cell), states_in(cell)) for cell in cells_of(design, cuts)]
+        return max(steps for steps, _ in cells), sum(steps * count for steps, count in cells) / states_in(design)
+
+
+def as_floats(state: list) -> list[float]:
+    return [float(v) for v in state]
+
+
+def made(design: Design, step: int) -> Cell | None:
+    """What a cell's controller takes; None where it has no policy."""
+    with contextlib.redirect_stderr(io.StringIO()):
+        policy = find(design)
+    bound = multiplier_of(*margin_of(corners_of(design, policy))) if policy else None
+    return Cell(design, policy, bound, steps_of(design, step, bound)) if bound else None
+
+
+# ---- the search
+
+
+def with_more(design: Design, cuts: list[list[int]], most: int) -> list[list[list[int]]]:
+    """The cuts with one or two more in a part of a coordinate, as long as there are no more cells than this."""
+    out = []
+    for i, parts in enumerate(parts_of(design, cuts)):
+        for low, high in parts:
+            for places in PLACES:
+                new = {low + int((high - low) * place) for place in places}
+                if high - low >= len(places) and max(new) < high:
+                    out.append([sorted({*own, *new}) if k == i else own for k, own in enumerate(cuts)])
+    return [trial for trial in out if count_of(trial) <= most and all(len(own) <= MOST_CUTS for own in trial)]
+
+
+def search(design: Design, most: int, progress: Progress) -> list[list[int]]:
+    """Cuts that lower the greatest K most, and where none does the mean, one coordinate after the other."""
+    guesses, cuts = Guesses(design, progress), [[] for _ in design.lo]
+    best = guesses.worth(design, cuts)
+    while True:
+        trials = []
+        for number, trial in enumerate(with_more(design, cuts, most)):
+            greatest, middle = guesses.worth(design, trial)
+            trials.append((greatest if greatest < NOTHING * best[0] else best[0], middle, number, trial))
+        if not trials:
+            return cuts
+        greatest, middle, _, trial = min(trials, key=lambda one: one[:3])
+        if greatest == best[0] and middle > NOTHING * best[1]:
+            return cuts
+        best, cuts = (greatest, middle), trial
+
+
+def mean(cells: list[Cell]) -> float:
+    """The mean K over all grid states."""
+    return sum(cell.steps * states_in(cell.design) for cell in cells) / sum(states_in(cell.design) for cell in cells)
+
+
+# ---- what is said and drawn
+
+
+def words_of(design: Design, cells: list[Cell], whole_box: Cell | None) -> list[str]:
+    """The cells in words, and the mean beside the whole box."""
+    names = [design.name("state", i + 1) for i in range(design.states)]
+    out = []
+    for number, cell in enumerate(cells, 1):
+        box = ", ".join(f"{name.word} {name.shown(low / 2**cell.design.grid)} to {name.shown(high / 2**cell.design.grid)}" for name, low, high in zip(names, cell.design.lo, cell.design.hi))
+        out.append(f"cell {number}: {box}: R {cell.bound}, K about {cell.steps}")
+    told = f", {plain(100 * mean(cells) / whole_box.steps)} % of {whole_box.steps} in one box" if whole_box else ", and there is no policy for one box"
+    return [*out, f"{len(cells)} cells: the greatest K {max(cell.steps for cell in cells)}, the mean over all grid states {plain(mean(cells))}{told}"]
+
+
+def generate(cells: list[Cell], folder: str, title: str) -> None:
+    """Has the program make each cell's controller, and says what K its report has."""
+    os.makedirs(folder, exist_ok=True)
+    for number, cell in enumerate(cells, 1):
+        design, policy, controller, report = (os.path.join(folder, name) for name in (f"design-{number}.toml", f"policy-{number}.csv", f"controller-{number}.txt", f"report-{number}.txt"))
+        files.write(design, design_text(cell.design, f"cell {number} of {title}"))
+        files.write(policy, text_of(cell.policy))
+        made = subprocess.run([LAUNCHER, "generate", design, policy, controller, report])
+        if made.returncode:
+            raise Refusal(f"cell {number} is refused: {design}", made.returncode)
+        say(f"cell {number}: its controller takes {report_of(read_text(report))['steps']} steps")
+
+
+def mean_of_lines(design: Design, cells: list[Cell], path: str) -> str:
+    """The mean K over the turns of loops, in words."""
+    try:
+        loops = loop_lines_of("\n".join(files.lines_of(path)), design.states, design.inputs, design.grid)
+    except ValueError as fault:
+        raise Refusal(f"{path}: {fault}") from None
+    matching.refuse(path, "design", matching.loop_difference(loops, design))
+    steps = [serving(cells, [int(v * 2**design.grid) for v in state]).steps for loop in loops.values() for state, _ in loop]
+    if not steps:
+        raise Refusal(f"{path} has no line")
+    return f"the mean over the {len(steps)} turns of {len(loops)} loops is {plain(sum(steps) / len(steps))}"
+
+
+def serving(cells: list[Cell], state: list[int]) -> Cell:
+    """The first cell whose box holds a grid state."""
+    return next(cell for cell in cells if all(low <= v <= high for v, low, high in zip(state, cell.design.lo, cell.design.hi)))
+
+
+def draw(design: Design, cells: list[Cell], path: str) -> None:
+    """The picture of the cells."""
+    need("matplotlib")
+    from common import cell_pictures, pictures
+
+    pictures.prepare()
+    pictures.write(cell_pictures.draw(design, cells), path)
+
+
+def main() -> int:
+    parser = Parser(__doc__)
+    for word in ("design", "cuts_file", "policies"):
+        parser.add_argument(word, metavar={"cuts_file": "CUTS"}.get(word, word.upper()))
+    parser.add_argument("--cells", type=whole(1, MOST_CELLS), default=9, metavar="N")
+    parser.add_argument("--cuts", metavar="FILE")
+    parser.add_argument("--picture", metavar="FILE")
+    parser.add_argument("--generate", metavar="FOLDER")
+    parser.add_argument("--lines", metavar="FILE")
+    given = parser.parse_args()
+    inputs = {"DESIGN": given.design} | {word: path for word, path in (("--cuts", given.cuts), ("--lines", given.lines)) if path}
+    files.keep_apart(inputs, {"CUTS": given.cuts_file, "POLICIES": given.policies} | ({"--picture": given.picture} if given.picture else {}))
+    design = read_design(given.design)
+    with Progress("boxes", 0) as progress:
+        cuts, step = cuts_in(given.cuts, design) if given.cuts else search(design, given.cells, progress), step_of(design)
+        cells = [made(cell, step) for cell in cells_of(design, cuts)]
+    if None in cells:
+        say(f"cell {cells.index(None) + 1} has no policy: scripts/policy.py says where, of the design with its box")
+        return 6
+    for words in words_of(design, cells, made(design, step)):
+        say(words)
+    if given.lines:
+        say(mean_of_lines(design, cells, given.lines))
+    if given.picture:
+        draw(design, cells, given.picture)
+    if given.generate:
+        generate(cells, given.generate, given.design)
+    files.write(given.cuts_file, cuts_text(cuts))
+    files.write(given.policies, text_of([record for cell in cells for record in cell.policy]))
+    return 0
+
+
+if __name__ == "__main__":
+    run(main)

@@ -1,0 +1,18 @@
+"""The program, by its launcher, as the scripts run it."""
+import os
+import subprocess
+import sys
+import tempfile
+
+LAUNCHER = os.path.join(os.path.dirname(os.path.dirname(os.path.dirname(os.path.realpath(__file__)))), "mpc")
+
+
+def solved(controller: str, states: list[list[int]], launcher: str = LAUNCHER) -> list[str]:
+    """The lines that the program prints for these states; where it refuses, this ends with its status."""
+    with tempfile.NamedTemporaryFile("w", suffix=".csv") as file:
+        file.write("".join(",".join(map(str, state)) + "\n" for state in states))
+        file.flush()
+        got = subprocess.run([launcher, "solve", controller, file.name], stdout=subprocess.PIPE, text=True)
+    if got.returncode:
+        sys.exit(got.returncode)
+    return got.stdout.splitlines()

@@ -1,0 +1,211 @@
+"""Limits by which no loop leaves its box: how they are drafted, that they are found, and that the faces of the examples hold, by the definition and by chance."""
+import contextlib
+import functools
+import io
+import os
+import random
+import tomllib
+import unittest
+from dataclasses import replace
+from fractions import Fraction
+
+from common.libraries import PACKAGES, Refusal, missing
+from common.trajectories import dot, next_state
+from tests.changed_models import changed_text, changed_value
+from tests.test_design import MASS
+from tests.worked import EXAMPLES
+
+LACKING = missing(*PACKAGES)
+if not LACKING:
+    import faces
+    import staying
+    from common.disturbances import box_in
+    from common.design_text import read_design
+    from common.models import Model, read_model
+    from common.texts import read_text, records_of
+    from draft import draft
+
+# the folders of the examples whose loops never leave the box
+STAY = ("antenna/stay", "kiln", "motor/stay", "satellite/stay")
+SLOW = MASS.replace("stages = 6", "stages = 2").replace("[1.0, 0.5]", "[1.0, 0.2]") + "disturbed = [0.02, 0.004]\n"
+WHOLE = "period = 2.0\nstages = 3\nsampled = true\na = [[1.0, 1.0], [0.0, 1.0]]\nb = [[5.0], [1.0]]\nstates = ['place m', 'rate m']\n"
+REST = "[units]\nstates = [1.0, 1.0]\ninputs = [1.0]\nden = 1\n[[limit]]\nname = 'drive'\ninput = [1.0]\nbound = 1.0\nleast = -1.0\ntolerance = 0.25\n"
+REST += "[cost]\ninput = [1.0]\nrows = [{ state = [1.0, 0.0], weight = 1.0 }]\n[box]\nhi = [8.0, 2.0]\ngrid = 4\n"
+
+
+@unittest.skipIf(LACKING, f"missing: {', '.join(LACKING)}")
+class Limits(unittest.TestCase):
+    """How a model asks for limits on the next state."""
+
+    def test_rows(self):
+        # 1 m and 1/4 m inside the ends, and further by what is disturbed, in tolerances
+        design = draft(Model(WHOLE + REST + "stay = [1.0, 0.25]\ndisturbed = [0.5, 0.0]\n"))
+        rows = [[Fraction(v, design.limit_den) for v in row] for row in design.stage_rows]
+        wanted = [[1, 1, 5, Fraction(13, 2)], [-1, -1, -5, Fraction(13, 2)], [0, 4, 4, 7], [0, -4, -4, 7]]
+        self.assertEqual(rows[2:], wanted)
+        names = [design.name("stage row", number) for number in range(3, 7)]
+        self.assertEqual([name.word for name in names], ["upper end of place", "lower end of place", "upper end of rate", "lower end of rate"])
+        self.assertEqual([(name.size, name.unit) for name in names], [(1.0, "m"), (1.0, "m"), (0.25, "m"), (0.25, "m")])
+
+    def test_of_a_box_that_is_to_one_side(self):
+        text = WHOLE + REST.replace("hi = [8.0, 2.0]", "hi = [8.0, 2.0]\nlo = [-4.0, -2.0]") + "stay = [1.0, 0.0]\n"
+        design = draft(Model(text))
+        self.assertEqual([[Fraction(v, design.limit_den) for v in row] for row in design.stage_rows[2:]], [[1, 1, 5, 7], [-1, -1, -5, 3]])
+
+    def test_without_the_word_nothing_changes(self):
+        self.assertEqual(draft(Model(WHOLE + REST)), draft(Model(WHOLE + REST + "stay = [0.0, 0.0]\ndisturbed = [0.5, 0.5]\n")))
+
+    def test_faults(self):
+        for words, fault in (
+            ("stay = [1.0]", "box.stay: a list of 2 numbers of at least 0, one for each state is expected, and a list of 1 stands there"),
+            ("stay = [-1.0, 0.0]", "box.stay[1]: a number from 0 to 1e+15 is expected, and -1 stands there"),
+            ("disturbed = [0.0, inf]", "box.disturbed[2]: a number from 0 to 1e+15 is expected, and inf stands there"),
+            ("stay = [8.0, 0.0]", "box.stay[1]: less than half of the box is expected, 8, with what is disturbed, and 8 stands there"),
+            ("stay = [4.0, 0.0]\ndisturbed = [4.0, 0.0]", "box.stay[1]: less than half of the box is expected, 8, with what is disturbed, and 8 stands there"),
+        ):
+            with self.assertRaises(Refusal) as told:
+                Model(WHOLE + REST + words + "\n")
+            self.assertEqual(str(told.exception), fault)
+
+    def test_a_state_that_no_input_moves(self):
+        with self.assertRaisesRegex(Refusal, r"box.stay\[2\]: 0 is expected, since no input moves the next rate"):
+            draft(Model(WHOLE.replace("[1.0]]\nstates", "[0.0]]\nstates") + REST + "stay = [0.0, 0.5]\n"))
+
+    def test_too_many_sides(self):
+        sides = "".join(f"[[limit]]\ninput = [1.0]\nbound = {k}.0\nleast = -{k}.0\ntolerance = 0.25\n" for k in range(2, 6))
+        with self.assertRaisesRegex(Refusal, "limit: at most 12 sides are expected, above and below, and 10 stand there, beside 4 ends of the box"):
+            Model(WHOLE + REST + "stay = [1.0, 0.25]\n" + sides)
+
+
+@unittest.skipIf(LACKING, f"missing: {', '.join(LACKING)}")
+class Changed(unittest.TestCase):
+    def test_changed_models_are_drafted_or_refused(self):
+        draw, made = random.Random(1), 0
+        texts = [read_text(os.path.join(EXAMPLES, name, "model.toml")) for name in STAY]
+        for number in range(40):
+            text = draw.choice(texts)
+            model = changed_text(draw, text) if number % 3 == 0 else changed_value(draw, tomllib.loads(text))
+            with contextlib.suppress(Refusal):
+                self.assertTrue(draft(Model(model)).stage_rows)
+                made += 1
+        self.assertGreater(made, 4)
+
+
+@unittest.skipIf(LACKING, f"missing: {', '.join(LACKING)}")
+class Search(unittest.TestCase):
+    def found(self, text, **given):
+        with contextlib.redirect_stderr(io.StringIO()) as said:
+            model = staying.search(Model(text), **given)
+        return model, said.getvalue()
+
+    @staticmethod
+    @functools.cache
+    def mass():
+        """What is found for a mass on a line, which bears what disturbs it, and what was said."""
+        with contextlib.redirect_stderr(io.StringIO()) as said:
+            model = staying.search(Model(SLOW))
+        return model, said.getvalue()
+
+    def test_finds_coordinates_and_limits(self):
+        found, said = self.mass()
+        self.assertRegex(said.splitlines()[-1], "^with position in [0-9]+ ms m in place of position.* and the next position 0.[0-9]+ of the box inside it, the next speed 0.[0-9]+ of the box inside it: K about")
+        self.assertTrue(all(found["box"]["stay"]))
+
+    def test_bears_what_is_disturbed(self):
+        model = Model(self.mass()[0])
+        low, high = staying.grid_disturbances(model, staying.in_floats(model))
+        self.assertEqual(([-v for v in low], min(high) > 0), (high, True))
+        design, records = staying.found_faces(model)
+        self.assertIsNone(faces.first_fault(design, records, excess_of(design), low, high))
+
+    def test_what_was_found_is_kept(self):
+        found, _ = self.mass()
+        again, said = self.found(staying.model_text(found, "found"))
+        self.assertEqual((again["box"], said), (found["box"], "as it is: the faces hold\n"))
+
+    def test_a_smaller_box_for_fewer_steps(self):
+        search = staying.Search(Model(SLOW), staying.Progress("trials", 0))
+        choice = replace(search.plain([0.01, 0.05]), times={(0, 1): search.time((0, 1), 1.7)}, kept=[0.32, 1.0])
+        cheaper = search.cheaper(choice)
+        self.assertEqual(sum(one != other for one, other in zip(cheaper.kept, choice.kept)), 1)
+        self.assertLess(search.steps(cheaper), search.steps(choice))
+
+    def test_nothing_is_needed(self):
+        lag = WHOLE.replace("[[1.0, 1.0], [0.0, 1.0]]", "[[0.5, 0.0], [0.0, 0.5]]").replace("[[5.0], [1.0]]", "[[1.0], [0.5]]")
+        found, said = self.found(lag + REST)
+        self.assertEqual((found.get("box", {}).get("stay"), said), (None, "the model's own limits keep it in the box\n"))
+
+    def test_none_is_found(self):
+        # what doubles from turn to turn, and the drive moves by 1/8 of the box
+        found, _ = self.found(WHOLE.replace("[[1.0, 1.0], [0.0, 1.0]]", "[[4.0, 0.0], [0.0, 4.0]]").replace("[[5.0], [1.0]]", "[[0.0001], [0.0001]]") + REST)
+        self.assertIsNone(found)
+
+
+def excess_of(design):
+    """What each first row may be exceeded by, by the policy that is found."""
+    policy = staying.quietly(staying.find_policy, design)
+    return faces.excesses(design, policy)
+
+
+@unittest.skipIf(LACKING, f"missing: {', '.join(LACKING)}")
+class Examples(unittest.TestCase):
+    """The files of the examples that stay."""
+
+    def files(self, name):
+        path = lambda file: os.path.join(EXAMPLES, name, file)
+        design = read_design(path("design.toml"))
+        policy, records = (records_of(read_text(path(file))) for file in ("policy.csv", "faces.csv"))
+        return design, faces.excesses(design, policy), records, box_in(path("disturbances.csv"), design)
+
+    def test_designs_are_what_their_models_give(self):
+        for name in STAY:
+            self.assertEqual(draft(read_model(os.path.join(EXAMPLES, name, "model.toml"))), read_design(os.path.join(EXAMPLES, name, "design.toml")), name)
+
+    def test_faces_hold(self):
+        for name in STAY:
+            design, excess, records, (low, high) = self.files(name)
+            self.assertIsNone(faces.first_fault(design, records, excess, low, high), name)
+            self.assertEqual(faces.bearable(design, records, excess), (low, high), name)
+            # one more is more than they bear
+            for i in range(design.states):
+                more = [v + (k == i) for k, v in enumerate(high)]
+                self.assertEqual(faces.first_fault(design, records, excess, low, more), ("no-stay", 2 * i + 1, design.hi[i] + 1), name)
+
+    def test_they_bear_what_their_models_ask_for(self):
+        for name in STAY:
+            design, _, _, (low, high) = self.files(name)
+            asked = staying.grid_disturbances(read_model(os.path.join(EXAMPLES, name, "model.toml")), design)
+            self.assertTrue(all(l <= a for l, a in zip(low, asked[0])) and all(a <= h for a, h in zip(asked[1], high)), name)
+
+    def test_no_inputs_within_the_limits_lead_out(self):
+        """From random states, mostly at the ends, with inputs at which a limit is just exceeded by as much as it may be: the next state lies in the box under the greatest disturbances."""
+        draw = random.Random(1)
+        for name in STAY:
+            design, excess, _, (low, high) = self.files(name)
+            rows, met = faces.first_rows(design), 0
+            for _ in range(400):
+                state = [draw.choice((l, h, draw.randint(l, h))) for l, h in zip(design.lo, design.hi)]
+                place = [Fraction(v, 2**design.grid) for v in state]
+                inputs = farthest_inputs(design, rows, excess, place)
+                for chosen in inputs:
+                    after = next_state(design, place, chosen)
+                    met += 1
+                    self.assertTrue(all(l <= v + d and v + e <= h for v, l, h, d, e in zip(after, design.lo, design.hi, low, high)), (name, state, chosen))
+            self.assertGreater(met, 100, name)
+
+
+def farthest_inputs(design, rows, excess, place):
+    """The least and the greatest input of a design of one input that exceed no first row by more than they may; none where there is none."""
+    low, high = None, None
+    for row, most in zip(rows, excess):
+        left = row.bound + Fraction(design.limit_den * most, faces.SCALE) - dot(row.of_state, place) / design.plant_den
+        factor = Fraction(row.of_input[0], design.plant_den)
+        if factor > 0:
+            high = left / factor if high is None else min(high, left / factor)
+        elif factor < 0:
+            low = left / factor if low is None else max(low, left / factor)
+    return [[low], [high]] if low <= high else []
+
+
+if __name__ == "__main__":
+    unittest.main()
