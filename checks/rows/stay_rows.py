@@ -2,8 +2,12 @@
 
 The first are computed by hand; the numbers of the others are those of the model in ../fuzz.
 """
+import glob
+import os
+
 from texts import BASE, FIRST, POLICY, costs, in_second, limits, plant_over, put, refused, sub, targets, violations
 
+EXAMPLES = os.path.join(os.path.dirname(os.path.abspath(__file__)), "..", "..", "examples")
 STAY, UNDER = ["stay", "d", "p", "c", "r", "f"], ["stay", "d", "p", "c", "r", "f", "w"]
 # x+ = x + u from 0 to 1, and one stage, so that the final rows are those on the next state
 HELD = sub(BASE, targets(10, 1, 10), ("final = [[4, 1]]", "final = [[4, 1], [-4, 1]]"))
@@ -205,6 +209,16 @@ def loop_rows():
         yield f"usage: {words}", refused(words.split(), files, 2, "usage")
 
 
+def example_rows():
+    """The examples whose folder has faces, under its disturbances."""
+    for folder in sorted(map(os.path.dirname, glob.glob(os.path.join(EXAMPLES, "**", "faces.csv"), recursive=True))):
+        texts = []
+        for name in ("design.toml", "policy.csv", "faces.csv", "disturbances.csv"):
+            with open(os.path.join(folder, name), newline="") as file:
+                texts.append(file.read())
+        yield f"stay: {os.path.relpath(folder, EXAMPLES)}", stays(*texts, r=["end"])
+
+
 def rows():
-    for some in (face_rows, exponent_rows, size_rows, shift_rows, loop_rows):
+    for some in (face_rows, exponent_rows, size_rows, shift_rows, loop_rows, example_rows):
         yield from some()
