@@ -38,7 +38,7 @@ SHOWN = 20
 SHORT_STEP = 211
 OLD = {"c": b"an old controller\n", "r": b"an old report\n", "r.json": b"an old report\n", "l": b"an old listing\n"}
 # where the words name what is read
-READS = {"generate": (1, 2), "stay": (1, 2, 5, 6), "solve": (1, 2), "loop": (1, 2, 3, 5), "demo": (), "list": (1,), "play": (1, 2)}
+READS = {"generate": (1, 2), "lean": (1, 2, 3), "stay": (1, 2, 5, 6), "solve": (1, 2), "loop": (1, 2, 3, 5), "demo": (), "list": (1,), "play": (1, 2)}
 
 
 def example(name, file):
@@ -144,6 +144,13 @@ def all_commands(executable):
     yield Command(executable, "generate, fine corners", ["generate", "d", "p", "c", "r"], FINE_CORNERS)
     yield Command(executable, "generate, version 2", ["generate", "d", "p", "c", "r"], SECOND)
     yield Command(executable, "generate, version 2, JSON", ["generate", "d", "p", "c", "r.json"], SECOND)
+    lean, reference = ["lean", "d", "p", "q", "c", "r"], example("first", "reference.csv")
+    yield Command(executable, "lean", lean, {**FIRST, "q": reference})
+    yield Command(executable, "lean, JSON", [*lean[:5], "r.json"], {**FIRST, "q": reference})
+    yield Command(executable, "lean, a motor", lean, dict(zip("dpq", (motor[0], example("motor", "lean.csv"), example("motor", "reference.csv")))))
+    yield Command(executable, "lean, a fine plant", lean, {**FINE, "q": b"1,0,0\n5,-3,-1\n"})
+    yield Command(executable, "lean, version 2", lean, {**SECOND, "q": SECOND["p"]})
+    yield Command(executable, "lean, a far reference", lean, {**FIRST, "q": b"1,0\n1,-999999999999999\n"})
     yield Command(executable, "solve", ["solve", "k", "s"], FIRST)
     yield Command(executable, "solve, version 2", ["solve", "k", "s"], {**FIRST, "k": SECOND_CONTROLLER})
     yield Command(executable, "loop", ["loop", "d", "k", "s", "4"], FIRST)
@@ -306,7 +313,7 @@ def read_what_is_left(checks, what, command, folder):
 def files(options, _):
     checks = Checks()
     given = list(commands(options))
-    writing = [command for command in given if command.name in ("generate", "generate, JSON", "stay", "stay, JSON", "list", "list, version 2")]
+    writing = [command for command in given if command.name in ("generate", "generate, JSON", "lean", "lean, JSON", "stay", "stay, JSON", "list", "list, version 2")]
     for command in writing:
         command.learn()
         # about the end of each file, too

@@ -144,6 +144,13 @@ class Drafts(unittest.TestCase):
             with open(os.path.join(EXAMPLES, name, "policy.csv"), encoding="ascii") as file:
                 self.assertEqual(found, records_of(file.read()))
 
+    def test_lean_policies_of_the_examples(self):
+        for name in MADE:
+            found, _ = self.quiet(policy.find_lean, self.design(name))
+            for records, file in zip(found, ("lean.csv", "reference.csv")):
+                with open(os.path.join(EXAMPLES, name, file), encoding="ascii") as text:
+                    self.assertEqual(records, records_of(text.read()), (name, file))
+
     def test_policy_is_better_than_coasting(self):
         design = design_of(AXIS)
         found, _ = self.quiet(policy.find, design)
