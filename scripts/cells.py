@@ -1,7 +1,7 @@
 #!/usr/bin/env python3
 """Proposes cells of a design's box, each with a controller of its own: a smaller box has a smaller cost, and so fewer steps K.
 
-    scripts/cells.py DESIGN CUTS POLICIES [--cells N] [--cuts FILE] [--picture FILE]
+    scripts/cells.py DESIGN CUTS POLICIES [--cells N] [--cuts FILE] [--picture FILE] [--generate FOLDER] [--lines FILE]
 
 It cuts the box in the coordinate that lowers the greatest K of a cell most, and where no cut does, the mean K over all grid states, once or twice in one of its parts, until there are N cells (9, at
 most 64), or nothing is gained. Cells are all combinations of the coordinates' parts, the first coordinate fastest. CUTS gets a record for each coordinate: how many cuts it has, and the last
@@ -9,27 +9,33 @@ grid number of each part but the last. POLICIES gets the plans of the first cell
 
     --cuts FILE      takes the cuts of FILE, and searches none: CUTS is a copy of them
     --picture FILE   draws the cells and their K over two coordinates, in .svg, .pdf or .png
+    --generate FOLDER   has `./mpc generate` make each cell's controller, and says its K: design-1.toml, policy-1.csv, controller-1.txt, report-1.txt and so on stand then in FOLDER
+    --lines FILE     lines of `./mpc loop`: says the mean K over their turns, where each state is served by its cell
 
-What each cell's K is goes to standard error, by its policy (`generate` of its design says the same), and the mean over all grid states beside the K of the whole box. It ends with status 6 where a cell
-has no policy. Nothing rests on it.
+What each cell's K is by its policy goes to standard error, and the mean over all grid states beside the K of the whole box. It ends with status 6 where a cell has no policy, and with the status of
+`generate` where that refuses one. Nothing rests on it.
 """
 import contextlib
 import io
 import itertools
 import math
+import os
+import subprocess
 from dataclasses import dataclass, replace
 
 from common.libraries import Refusal, need, run, say
 
 need("numpy", "cvxopt")
-from common import files
+from common import files, matching
 from common.arguments import Parser, whole
 from common.condensed import condense, curvature
 from common.corners import corners_of, margin_of, multiplier_of, steps_of
 from common.design_text import Design, plain, read_design
+from common.design_text import text_of as design_text
+from common.launcher import LAUNCHER
 from common.programs import Programs
 from common.progress import Progress
-from common.texts import read_text
+from common.texts import loop_lines_of, read_text, report_of
 from policy import find
 
 MOST_CELLS, MOST_CUTS = 64, 63
@@ -226,6 +232,37 @@ def words_of(design: Design, cells: list[Cell], whole_box: Cell | None) -> list[
     return [*out, f"{len(cells)} cells: the greatest K {max(cell.steps for cell in cells)}, the mean over all grid states {plain(mean(cells))}{told}"]
 
 
+def generate(cells: list[Cell], folder: str, title: str) -> None:
+    """Has the program make each cell's controller, and says what K its report has."""
+    os.makedirs(folder, exist_ok=True)
+    for number, cell in enumerate(cells, 1):
+        design, policy, controller, report = (os.path.join(folder, name) for name in (f"design-{number}.toml", f"policy-{number}.csv", f"controller-{number}.txt", f"report-{number}.txt"))
+        files.write(design, design_text(cell.design, f"cell {number} of {title}"))
+        files.write(policy, text_of(cell.policy))
+        made = subprocess.run([LAUNCHER, "generate", design, policy, controller, report])
+        if made.returncode:
+            raise Refusal(f"cell {number} is refused: {design}", made.returncode)
+        say(f"cell {number}: its controller takes {report_of(read_text(report))['steps']} steps")
+
+
+def mean_of_lines(design: Design, cells: list[Cell], path: str) -> str:
+    """The mean K over the turns of loops, in words."""
+    try:
+        loops = loop_lines_of("\n".join(files.lines_of(path)), design.states, design.inputs, design.grid)
+    except ValueError as fault:
+        raise Refusal(f"{path}: {fault}") from None
+    matching.refuse(path, "design", matching.loop_difference(loops, design))
+    steps = [serving(cells, [int(v * 2**design.grid) for v in state]).steps for loop in loops.values() for state, _ in loop]
+    if not steps:
+        raise Refusal(f"{path} has no line")
+    return f"the mean over the {len(steps)} turns of {len(loops)} loops is {plain(sum(steps) / len(steps))}"
+
+
+def serving(cells: list[Cell], state: list[int]) -> Cell:
+    """The first cell whose box holds a grid state."""
+    return next(cell for cell in cells if all(low <= v <= high for v, low, high in zip(state, cell.design.lo, cell.design.hi)))
+
+
 def draw(design: Design, cells: list[Cell], path: str) -> None:
     """The picture of the cells."""
     need("matplotlib")
@@ -242,8 +279,10 @@ def main() -> int:
     parser.add_argument("--cells", type=whole(1, MOST_CELLS), default=9, metavar="N")
     parser.add_argument("--cuts", metavar="FILE")
     parser.add_argument("--picture", metavar="FILE")
+    parser.add_argument("--generate", metavar="FOLDER")
+    parser.add_argument("--lines", metavar="FILE")
     given = parser.parse_args()
-    inputs = {"DESIGN": given.design} | ({"--cuts": given.cuts} if given.cuts else {})
+    inputs = {"DESIGN": given.design} | {word: path for word, path in (("--cuts", given.cuts), ("--lines", given.lines)) if path}
     files.keep_apart(inputs, {"CUTS": given.cuts_file, "POLICIES": given.policies} | ({"--picture": given.picture} if given.picture else {}))
     design = read_design(given.design)
     with Progress("boxes", 0) as progress:
@@ -254,8 +293,12 @@ def main() -> int:
         return 6
     for words in words_of(design, cells, made(design, step)):
         say(words)
+    if given.lines:
+        say(mean_of_lines(design, cells, given.lines))
     if given.picture:
         draw(design, cells, given.picture)
+    if given.generate:
+        generate(cells, given.generate, given.design)
     files.write(given.cuts_file, cuts_text(cuts))
     files.write(given.policies, text_of([record for cell in cells for record in cell.policy]))
     return 0

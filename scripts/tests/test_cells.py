@@ -7,7 +7,7 @@ import sys
 import unittest
 
 from common.libraries import PACKAGES, Refusal, missing
-from tests.worked import EXAMPLES, FIRST, folder_with
+from tests.worked import EXAMPLES, FIRST, TOP, folder_with
 
 LACKING = missing(*PACKAGES)
 if not LACKING:
@@ -109,6 +109,32 @@ class Costs(unittest.TestCase):
         found = [cells.made(cell, 0) for cell in cells.cells_of(design, cuts)]
         self.assertLess(cells.mean(found), 0.85 * 452)
         self.assertLessEqual(max(cell.steps for cell in found), 452)
+
+    def test_mean_over_the_turns_of_loops(self):
+        design = design_of(BOXES)
+        parts = [cells.Cell(cell, [], 1, steps) for cell, steps in zip(cells.cells_of(design, [[0], []]), (10, 40))]
+        self.assertEqual([cells.serving(parts, [x, 3]).steps for x in (-1, 0, 1, 2)], [10, 10, 40, 40])
+        # x+ = x / 2 + u / 2 for both coordinates, ties upward
+        _, paths = folder_with(self, lines="1 1 2 3 8 0\n1 2 1 2 8 0\n1 3 1 1 8 -8\n1 4 0 0 8 0\n", other="1 1 2 3 8 0\n1 2 0 2 8 0\n", none="")
+        self.assertEqual(cells.mean_of_lines(design, parts, paths["lines"]), "the mean over the 4 turns of 1 loops is 32.5")
+        with self.assertRaisesRegex(Refusal, "after turn 1 of start 1"):
+            cells.mean_of_lines(design, parts, paths["other"])
+        with self.assertRaisesRegex(Refusal, "has no line"):
+            cells.mean_of_lines(design, parts, paths["none"])
+
+    @unittest.skipUnless(os.path.exists(os.path.join(TOP, "crates/mpc_cli/out/mpc_cli")), "the program isn't built")
+    def test_the_program_makes_each_cell(self):
+        """By their worked policies the cells of 0 and of 1 take 1 step and 4."""
+        policies = [[[1, 0], [1, 0]], [[8, -7], [8, -7]]]
+        parts = [cells.Cell(cell, policy, 0, 0) for cell, policy in zip(cells.cells_of(design_of(FIRST), [[0]]), policies)]
+        folder, _ = folder_with(self)
+        with contextlib.redirect_stderr(io.StringIO()) as said:
+            cells.generate(parts, os.path.join(folder, "made"), "the first design")
+        self.assertEqual(said.getvalue(), "cell 1: its controller takes 1 steps\ncell 2: its controller takes 4 steps\n")
+        parts[1].policy = [[1, 0], [1, 0]]
+        with self.assertRaisesRegex(Refusal, "cell 2 is refused") as told, contextlib.redirect_stderr(io.StringIO()):
+            cells.generate(parts, os.path.join(folder, "made"), "the first design")
+        self.assertEqual(told.exception.status, 6)
 
     def test_picture(self):
         design = design_of(BOXES)
