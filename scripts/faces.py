@@ -132,8 +132,22 @@ def is_kept(design, face, place):
     return place <= face.end(design) if face.upper else place >= face.end(design)
 
 
+def size(design, face, record, excess):
+    """What the numbers of a face come to at most: the quantity `stay` is the greatest of all faces."""
+    factor, *weights = record
+    rows, i = first_rows(design), face.coordinate
+    box = max(map(abs, design.lo + design.hi))
+    states = sum(factor * abs(design.a[i][j]) + sum(w * abs(row.of_state[j]) for w, row in zip(weights, rows)) for j in range(design.states))
+    inputs = sum(factor * abs(design.b[i][l]) + sum(w * abs(row.of_input[l]) for w, row in zip(weights, rows)) for l in range(design.inputs))
+    bounds = sum(w * (SCALE * abs(row.bound) + design.limit_den * e) for w, row, e in zip(weights, rows, excess))
+    return 2 * (SCALE * box * states + 2**design.grid * design.plant_den * bounds) + inputs + 2 * factor * design.plant_den * SCALE
+
+
 def first_fault(design, faces, excess, low=None, high=None):
-    """What `stay` answers to faces: None where each holds, ("unequal", record, input, left, right) or ("no-stay", record, place)."""
+    """What `stay` answers to faces: None where each holds, ("too-wide", size), ("unequal", record, input, left, right) or ("no-stay", record, place)."""
+    widest = max(size(design, face, record, excess) for face, record in zip(faces_of(design), faces))
+    if widest > sizes.LIMIT:
+        return "too-wide", widest
     for number, (face, record) in enumerate(zip(faces_of(design), faces), 1):
         for l, (left, right) in enumerate(zip(*sums(design, face, record)), 1):
             if left != right:
@@ -219,7 +233,7 @@ def in_whole_numbers(exact):
     return record if max(record) <= MOST else None
 
 
-def rounded(design, face, weights):
+def rounded(design, face, weights, excess=None):
     """A record near these weights whose equations hold: a row for each input makes up for what rounding the others leaves. None where the numbers are too long."""
     rows = first_rows(design)
     order = sorted(range(len(rows)), key=lambda r: -weights[r])
@@ -240,7 +254,7 @@ def rounded(design, face, weights):
         if made is not None and min(made) >= 0 and all(w.denominator == 1 for w in made):
             for r, w in zip(basis, made):
                 record[r] = int(w)
-            if max(record) <= MOST:
+            if max(record) <= MOST and (excess is None or size(design, face, [unit * times] + record, excess) <= sizes.LIMIT):
                 return [unit * times] + record
         times //= 2
     return None
@@ -253,7 +267,7 @@ def find_face(design, face, excess):
         return None
     exact = vertex(design, face, weights)
     record = in_whole_numbers(exact) if exact else None
-    return record or rounded(design, face, weights)
+    return record if record and size(design, face, record, excess) <= sizes.LIMIT else rounded(design, face, weights, excess)
 
 
 # ---- what is said

@@ -44,6 +44,12 @@ class WorkedFaces(unittest.TestCase):
         self.assertEqual(faces.first_fault(self.design, [[3, 0, 0, 1, 0], RIGHT[1]], self.excess), ("unequal", 1, 1, 4, 3))
         self.assertEqual(faces.first_fault(self.design, RIGHT, self.excess, [-1], [0]), ("no-stay", 2, -1))
 
+    def test_size(self):
+        # what the worked faces come to, and a factor by which they come to more than 2^126
+        self.assertEqual(max(faces.size(self.design, face, record, self.excess) for face, record in zip(faces.faces_of(self.design), RIGHT)), 29362034376616)
+        wide = design_of(WORKED.replace("den = 1\na = [[1]]\nb = [[1]]", "den = 1048576\na = [[2147483647]]\nb = [[1]]").replace("hi = [1]", "hi = [2147483647]"))
+        self.assertEqual(faces.first_fault(wide, [[2147483647, 0, 0, 0, 0]] * 2, self.excess)[0], "too-wide")
+
     def test_found(self):
         found = faces.find(self.design, self.excess, [0], [0])
         self.assertIsNone(faces.first_fault(self.design, found, self.excess))
