@@ -123,6 +123,29 @@ class Loops(unittest.TestCase):
         self.assertEqual(len(still.axes), 2)
 
 
+@unittest.skipIf(LACKING, f"missing: {', '.join(LACKING)}")
+class Commands(unittest.TestCase):
+    """Made, a loop of exact plans under them, and its picture."""
+
+    def test_from_disturbances_to_a_picture(self):
+        folder, paths = folder_with(self, d=UNITS, states="0\n", box="-1\n1\n")
+        made, lines, picture = (os.path.join(folder, name) for name in ("made", "lines", "loop.svg"))
+        run = lambda script, *words: subprocess.run([sys.executable, os.path.join(TOP, "scripts", script), *words], capture_output=True, text=True)
+        self.assertEqual(run("disturbances.py", paths["d"], "4", made, "--constant", "1").stderr, "")
+        got = run("exact_loop.py", paths["d"], paths["states"], "4", made)
+        self.assertEqual((got.returncode, [line.split()[2] for line in got.stdout.splitlines()][:2]), (0, ["0", "1"]))
+        with open(lines, "w", encoding="utf-8") as file:
+            file.write(got.stdout)
+        draw = ("plot.py", paths["d"], lines, "--out", picture)
+        self.assertIn("is of another design: after turn 1", run(*draw).stderr)
+        self.assertEqual(run(*draw, "--disturbances", made, "--bears", paths["box"]).stderr, "")
+        with open(picture, encoding="utf-8") as file:
+            self.assertIn("added to", file.read())
+        self.assertEqual((run(*draw, "--bears", paths["box"]).returncode, run(*draw, "--disturbances", lines).returncode), (2, 1))
+        got = run("exact_loop.py", paths["d"], paths["states"], "3", made)
+        self.assertEqual((got.returncode, got.stderr), (1, f"exact_loop.py: {made}: a record for each of 3 turns is expected, and it has 4\n"))
+
+
 @unittest.skipUnless(os.path.exists(PROGRAM), "the program isn't built")
 class WithTheProgram(unittest.TestCase):
     def setUp(self):

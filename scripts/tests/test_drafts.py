@@ -215,7 +215,7 @@ class Libraries(unittest.TestCase):
     def test_every_script_with_libraries_has_help(self):
         import subprocess
 
-        for name in ("discretise", "draft", "policy", "exact_loop", "plot", "judge", "explain"):
+        for name in ("discretise", "draft", "policy", "exact_loop", "plot", "judge", "explain", "faces", "staying", "disturbances", "disturbed_loop", "cells"):
             got = subprocess.run([sys.executable, os.path.join(TOP, "scripts", name + ".py"), "--help"], capture_output=True, text=True)
             self.assertEqual((got.returncode, len(got.stdout) > 200), (0, True), name)
 

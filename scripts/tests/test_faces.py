@@ -1,9 +1,10 @@
 """Faces of a box: what holds of worked ones, and that those that are found hold."""
 import os
+import subprocess
 import sys
 import unittest
 
-from tests.worked import FIRST, FIRST_POLICY, TOP
+from tests.worked import FIRST, FIRST_POLICY, TOP, folder_with
 
 sys.path.insert(0, os.path.join(TOP, "scripts"))
 from common.design_text import design_of
@@ -61,6 +62,34 @@ class WorkedFaces(unittest.TestCase):
 
     def test_none(self):
         self.assertIsNone(faces.find(design_of(WORKED.replace("final = [[4, 1], [-4, 1]]", "final = []")), [EXCESS] * 2, [0], [0]))
+
+
+@unittest.skipIf(LACKING, f"no {', '.join(LACKING)}")
+class Command(unittest.TestCase):
+    """What it writes, and with which status it ends."""
+
+    def run_faces(self, *words, **texts):
+        folder, paths = folder_with(self, d=WORKED, p=FIRST_POLICY, **texts)
+        out = {name: os.path.join(folder, name) for name in ("faces", "bears")}
+        words = [paths.get(word, out.get(word, word)) for word in words]
+        got = subprocess.run([sys.executable, os.path.join(TOP, "scripts", "faces.py"), paths["d"], paths["p"], *words], capture_output=True, text=True)
+        return got, {name: open_text(path) for name, path in out.items() if os.path.exists(path)}
+
+    def test_faces_and_what_they_bear(self):
+        got, made = self.run_faces("faces", "--bears", "bears")
+        self.assertEqual((got.returncode, got.stdout, made), (0, "", {"faces": "4,0,0,1,0\n4,0,0,0,1\n", "bears": "0\n1\n"}))
+
+    def test_under_disturbances(self):
+        got, _ = self.run_faces("--disturbances", "box", box="0\n1\n")
+        self.assertEqual((got.returncode, got.stdout), (0, "4,0,0,1,0\n4,0,0,0,1\n"))
+        got, made = self.run_faces("faces", "--disturbances", "box", box="-1\n0\n")
+        self.assertEqual((got.returncode, made), (17, {}))
+        self.assertIn("the lower face of x1 doesn't hold: the next state may go to -1, 1 beyond its end at 0", got.stderr)
+
+
+def open_text(path):
+    with open(path, encoding="utf-8") as file:
+        return file.read()
 
 
 @unittest.skipIf(LACKING, f"no {', '.join(LACKING)}")
