@@ -394,7 +394,7 @@ echo "== mpc_cli"; echo "logic=proved functions=1"; printf '#!/bin/bash\necho bu
         folder = self.folder('echo "$1"')
         self.run_in(folder, "mkdir far; ln -s ../mpc far/mine; ln -s ../scripts/judge.py far/judge")
         self.assertEqual(self.run_in(folder, "far/mine solve c s").stdout, "solve\n")
-        code = "import sys, runpy; sys.path.insert(0, 'scripts'); print(runpy.run_path('far/judge')['LAUNCHER'])"
+        code = "import sys, runpy; sys.path.insert(0, 'scripts'); print(runpy.run_path('far/judge')['solved'].__defaults__[0])"
         if not missing("numpy", "cvxopt"):
             self.assertEqual(self.run_in(folder, f'{sys.executable} -c "{code}"').stdout, os.path.realpath(os.path.join(folder, "mpc")) + "\n")
 
