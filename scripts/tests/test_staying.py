@@ -4,12 +4,14 @@ import functools
 import io
 import os
 import random
+import tomllib
 import unittest
 from dataclasses import replace
 from fractions import Fraction
 
 from common.libraries import PACKAGES, Refusal, missing
 from common.trajectories import dot, next_state
+from tests.changed_models import changed_text, changed_value
 from tests.test_design import MASS
 from tests.worked import EXAMPLES
 
@@ -73,6 +75,20 @@ class Limits(unittest.TestCase):
         sides = "".join(f"[[limit]]\ninput = [1.0]\nbound = {k}.0\nleast = -{k}.0\ntolerance = 0.25\n" for k in range(2, 6))
         with self.assertRaisesRegex(Refusal, "limit: at most 12 sides are expected, above and below, and 10 stand there, beside 4 ends of the box"):
             Model(WHOLE + REST + "stay = [1.0, 0.25]\n" + sides)
+
+
+@unittest.skipIf(LACKING, f"missing: {', '.join(LACKING)}")
+class Changed(unittest.TestCase):
+    def test_changed_models_are_drafted_or_refused(self):
+        draw, made = random.Random(1), 0
+        texts = [read_text(os.path.join(EXAMPLES, name, "model.toml")) for name in STAY]
+        for number in range(40):
+            text = draw.choice(texts)
+            model = changed_text(draw, text) if number % 3 == 0 else changed_value(draw, tomllib.loads(text))
+            with contextlib.suppress(Refusal):
+                self.assertTrue(draft(Model(model)).stage_rows)
+                made += 1
+        self.assertGreater(made, 4)
 
 
 @unittest.skipIf(LACKING, f"missing: {', '.join(LACKING)}")
