@@ -26,7 +26,7 @@ from common.arguments import Parser, turns
 from common.design_text import Design, plain
 from draft import draft
 from common.model_text import model_text
-from common.models import Model, read_model
+from common.models import Model, read_model, split_name
 from common.programs import Programs, reach_of
 from common.progress import Progress
 
@@ -224,12 +224,16 @@ def neat_sum(value: float) -> float:
 
 
 def name_of(model: Model, i: int, j: int, time: float) -> str:
-    """What a state with another one in it is called: where that is its rate, by the time."""
+    """What a state with another one in it is called: where it is a state of the plant with its rate in it, by the time."""
     (word, unit), (other, _) = model.names[i], model.names[j]
-    plant = numpy.array(model.text["a"], float)
-    is_rate = not model.text.get("sampled") and plant[i][j] == 1.0 and numpy.allclose(model.to, numpy.eye(len(model.to)))
-    told = f"{word} in {plain(time * 1000)} ms" if is_rate and time < 1 else f"{word} in {plain(time)} s" if is_rate else f"{word} and {plain(time)} {other}"
-    return f"{told} {unit or 'units'}"
+    row, plant = model.to[i] + time * model.to[j], numpy.array(model.text["a"], float)
+    for k, rate in itertools.permutations(range(len(row)), 2):
+        alone = row[k] == 1.0 and row[rate] > 0 and numpy.count_nonzero(row) == 2
+        if alone and plant[k][rate] == 1.0 and not model.text.get("sampled"):
+            own, unit = split_name(model.text["states"][k], f"x{k + 1}") if "states" in model.text else (f"x{k + 1}", "")
+            ahead = f"{plain(row[rate] * 1000)} ms" if row[rate] < 1 else f"{plain(row[rate])} s"
+            return f"{own} in {ahead} {unit or 'units'}"
+    return f"{word} and {plain(time)} {other} {unit or 'units'}"
 
 
 def main() -> int:

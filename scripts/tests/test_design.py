@@ -84,6 +84,15 @@ class Loops(unittest.TestCase):
         self.assertRegex(changed.names[0][0], "^position in [0-9]+ ms$")
         self.assertGreater(changed.to[0][1], 0)
 
+    def test_names_of_new_coordinates(self):
+        name = lambda text, time: coordinates.name_of(Model(text), 0, 1, time)
+        self.assertEqual((name(MASS, 0.5), name(MASS, 2.5)), ("position in 500 ms m", "position in 2.5 s m"))
+        ahead = MASS + "[coordinates]\nrows = [[1.0, 0.25], [0.0, 1.0]]\nnames = ['soon m', 'speed m/s']\n"
+        self.assertEqual((name(ahead, 0.5), name(ahead, -0.5)), ("position in 750 ms m", "soon and -0.5 speed m"))
+        other = MASS.replace("a = [[0.0, 1.0]", "a = [[0.0, 2.0]")
+        self.assertEqual((name(other, 0.5), name("sampled = true\n" + MASS, 0.5)), ("position and 0.5 speed m", "position and 0.5 speed m"))
+        self.assertEqual(name(MASS.replace('states = ["position m", "speed m/s"]\n', ""), 0.5), "x1 in 500 ms units")
+
     def test_a_box_that_is_kept(self):
         model = Model(MASS.replace("a = [[0.0, 1.0], [0.0, 0.0]]", "a = [[-2.0, 0.1], [0.0, -2.0]]"))
         choice = coordinates.search(model, draft(model), 30)
