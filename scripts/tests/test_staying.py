@@ -130,6 +130,20 @@ class Search(unittest.TestCase):
         self.assertEqual(sum(one != other for one, other in zip(cheaper.kept, choice.kept)), 1)
         self.assertLess(search.steps(cheaper), search.steps(choice))
 
+    def test_two_inputs(self):
+        # the rows at the ends are rounded, and limits of the hexagon make up for it in both voltages
+        model = read_model(os.path.join(EXAMPLES, "pmsm", "model.toml"))
+        text = model.text | {"box": model.text["box"] | {"stay": [0.32, 0.32]}}
+        design, records = staying.found_faces(Model(text))
+        self.assertEqual((design.inputs, len(records)), (2, 4))
+        self.assertIsNone(faces.first_fault(design, records, excess_of(design)))
+
+    def test_other_versions_and_stages(self):
+        model = read_model(os.path.join(EXAMPLES, "motor", "stay", "model.toml"))
+        for keys in ({"version": 2}, {"stages": 1}):
+            design, records = staying.found_faces(Model(model.text | keys))
+            self.assertIsNone(faces.first_fault(design, records, excess_of(design)), keys)
+
     def test_nothing_is_needed(self):
         lag = WHOLE.replace("[[1.0, 1.0], [0.0, 1.0]]", "[[0.5, 0.0], [0.0, 0.5]]").replace("[[5.0], [1.0]]", "[[1.0], [0.5]]")
         found, said = self.found(lag + REST)
