@@ -19,6 +19,7 @@ LACKING = missing(*PACKAGES)
 if not LACKING:
     import faces
     import staying
+    from common.corners import corners_of, margin_of, multiplier_of
     from common.disturbances import box_in
     from common.design_text import read_design
     from common.models import Model, read_model
@@ -129,6 +130,22 @@ class Search(unittest.TestCase):
         cheaper = search.cheaper(choice)
         self.assertEqual(sum(one != other for one, other in zip(cheaper.kept, choice.kept)), 1)
         self.assertLess(search.steps(cheaper), search.steps(choice))
+
+    def test_two_inputs(self):
+        # the rows at the ends are rounded, and limits of the hexagon make up for it in both voltages
+        model = read_model(os.path.join(EXAMPLES, "pmsm", "model.toml"))
+        text = model.text | {"box": model.text["box"] | {"stay": [0.32, 0.32]}}
+        design, records = staying.found_faces(Model(text))
+        self.assertEqual((design.inputs, len(records)), (2, 4))
+        self.assertIsNone(faces.first_fault(design, records, excess_of(design)))
+
+    def test_other_versions_and_stages(self):
+        model = read_model(os.path.join(EXAMPLES, "motor", "stay", "model.toml"))
+        for keys, bound in (({"version": 2}, 28), ({"stages": 1}, 280)):
+            design, records = staying.found_faces(Model(model.text | keys))
+            self.assertIsNone(faces.first_fault(design, records, excess_of(design)), keys)
+            policy = staying.quietly(staying.find_policy, design)
+            self.assertEqual(multiplier_of(*margin_of(corners_of(design, policy))), bound, keys)
 
     def test_nothing_is_needed(self):
         lag = WHOLE.replace("[[1.0, 1.0], [0.0, 1.0]]", "[[0.5, 0.0], [0.0, 0.5]]").replace("[[5.0], [1.0]]", "[[1.0], [0.5]]")
