@@ -161,9 +161,6 @@ def all_commands(executable):
     yield Command(executable, "stay, under disturbances", under, HELD)
     yield Command(executable, "stay, a face that isn't kept", under, {**HELD, "w": b"-1\n1\n"})
     yield Command(executable, "stay, unequal inputs", stay, {**HELD, "f": b"4,0,0,1,0\n3,0,0,0,1\n"})
-    shifted = ["loop", "d", "k", "s", "4", "v"]
-    yield Command(executable, "loop, under disturbances", shifted, {**FIRST, "v": b"1\n0\n1\n0\n"})
-    yield Command(executable, "loop, out of the box", shifted, {**FIRST, "v": b"1\n0\n2\n0\n"})
     made = listing.text_of(listing.listing_of(control.read_controller(FIRST["k"])))
     yield Command(executable, "list", ["list", "k", "l"], FIRST)
     yield Command(executable, "list, version 2", ["list", "k", "l"], {**FIRST, "k": SECOND_CONTROLLER})

@@ -21,9 +21,10 @@ from model import LIMIT, Refused
 NAMES = {1: "memory", 2: "usage", 3: "read-fault", 4: "write-fault", 5: "text", 6: "no-margin", 7: "curvature", 8: "too-many-steps", 9: "too-fine", 10: "too-wide",
          11: "controller", 12: "outside-box", 13: "long", 14: "mismatch", 16: "unequal", 17: "no-stay", 20: "listing", 21: "trap"}
 # how many words follow each command, and which of them are written
-COUNTS = {"generate": [4], "lean": [5], "stay": [5, 6], "solve": [2], "loop": [4, 5], "demo": [1], "list": [2], "play": [2]}
-# lean with faces, and with a box of disturbances, as stay has them: no command yet, and the model's alone
+COUNTS = {"generate": [4], "lean": [5], "stay": [5, 6], "solve": [2], "loop": [4], "demo": [1], "list": [2], "play": [2]}
+# no commands yet, and the model's alone: lean with faces, and with a box of disturbances, as stay has them; a loop under disturbances
 LEAN_WITH_FACES = [6, 7]
+LOOP_UNDER_DISTURBANCES = [5]
 OUTPUTS = {"generate": [3, 4], "lean": [4, 5], "stay": [3, 4], "list": [2]}
 OVER = 2**40
 
