@@ -15,7 +15,7 @@ sys.path.insert(0, os.path.dirname(os.path.abspath(__file__)))
 import control
 import listing
 import model
-import staying
+import held_boxes
 from model import LIMIT, Refused
 
 NAMES = {1: "memory", 2: "usage", 3: "read-fault", 4: "write-fault", 5: "text", 6: "no-margin", 7: "curvature", 8: "too-many-steps", 9: "too-fine", 10: "too-wide",
@@ -193,13 +193,13 @@ class Program:
         """The faces at this place among the words, and the box of disturbances after them; None where no faces are named."""
         if len(self.words) <= file:
             return None
-        found = self.text(file, lambda data: staying.read_faces(data, d))
+        found = self.text(file, lambda data: held_boxes.read_faces(data, d))
         still = [[0] * d.states] * 2
-        return found, still if len(self.words) == file + 1 else self.text(file + 1, lambda data: staying.read_shift_box(data, d.states))
+        return found, still if len(self.words) == file + 1 else self.text(file + 1, lambda data: held_boxes.read_shift_box(data, d.states))
 
     def check_faces(self, choice, faces):
         if faces:
-            staying.check(choice.design, faces[0], choice.stated_violations, *faces[1])
+            held_boxes.check(choice.design, faces[0], choice.stated_violations, *faces[1])
 
     def write_made(self, choice):
         c, b = made_of(choice, self.gains)
@@ -247,7 +247,7 @@ class Program:
                 raise Refused(14, name, design, controller)
         rows = self.text(3, lambda data: model.read_records(data, c.n))
         turns = int(self.words[4])
-        shifts = [[0] * c.n] * turns if len(self.words) == 5 else self.text(5, lambda data: staying.read_shifts(data, c.n, turns))
+        shifts = [[0] * c.n] * turns if len(self.words) == 5 else self.text(5, lambda data: held_boxes.read_shifts(data, c.n, turns))
         if rows and control.turn_size(d, c) > LIMIT:
             raise Refused(10, "turn")
         seen = {}

@@ -38,7 +38,7 @@ import listing_cases
 import model
 import program
 import stay_cases
-import staying
+import held_boxes
 
 KINDS = ["generate"] * 22 + ["lean"] * 12 + ["border"] * 4 + ["stay"] * 14 + ["solve"] * 26 + ["controller"] * 18 + ["loop"] * 22 + ["list"] * 6 + ["play"] * 16 + ["usage"] * 4
 DEMO_EVERY = 2500
@@ -261,7 +261,7 @@ class Runner:
             return "generate writes otherwise", []
         d, c = model.read_design(case.files["d"]), control.read_controller(made[case.words[3]])
         files = {**case.files, "c": made[case.words[3]], "s": stay_cases.records_text(stay_cases.starts(pick, d))}
-        least, greatest = staying.read_shift_box(files["w"], d.states) if "w" in files else ([0], [0])
+        least, greatest = held_boxes.read_shift_box(files["w"], d.states) if "w" in files else ([0], [0])
         if max(least) > 0 or min(greatest) < 0:
             return None, ["a design whose box is stayed in under what is never 0"]
         words = ["loop", "d", "c", "s", str(TURNS)]

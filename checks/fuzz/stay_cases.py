@@ -8,7 +8,7 @@ sys.path.append(os.path.join(os.path.dirname(os.path.abspath(__file__)), "..", "
 import cases
 import model
 import stay_rows
-import staying
+import held_boxes
 
 MOST = 2**31 - 1
 
@@ -82,7 +82,7 @@ def face_of(pick, d, rows, coordinate, sign):
     excess = [int(2**40 * d.violation / d.target_den)] * d.rows
 
     def far(it):
-        numerator, den = staying.reach(d, rows, excess, staying.Face(coordinate, sign > 0, *it))
+        numerator, den = held_boxes.reach(d, rows, excess, held_boxes.Face(coordinate, sign > 0, *it))
         return numerator / den
 
     factor, weights = min(found, key=far) if pick.random() < 0.85 else pick.choice(found)
@@ -107,7 +107,7 @@ def shift_box(pick, d, rows, faces):
     excess = [int(2**40 * d.violation / d.target_den)] * d.rows
     low, high = [0] * d.states, [0] * d.states
     for i in range(d.states):
-        ends = [staying.farthest(d, rows, excess, staying.Face(i, is_upper, row[0], row[1:]), low, high) for is_upper, row in zip((True, False), faces[2 * i : 2 * i + 2])]
+        ends = [held_boxes.farthest(d, rows, excess, held_boxes.Face(i, is_upper, row[0], row[1:]), low, high) for is_upper, row in zip((True, False), faces[2 * i : 2 * i + 2])]
         up, down = max(-MOST, min(MOST, d.hi[i] - ends[0])), max(-MOST, min(MOST, d.lo[i] - ends[1]))
         high[i], low[i] = pick.choice([up, up, up, up + 1, up // 2]), pick.choice([down, down, down, down - 1, down // 2])
         if low[i] > high[i]:
@@ -119,7 +119,7 @@ def held(pick):
     """A design, a policy, faces, and disturbances or None, as texts."""
     design, policy = held_design(pick)
     d = model.read_design(design)
-    rows = staying.first_rows(d)
+    rows = held_boxes.first_rows(d)
     faces = [face_of(pick, d, rows, i, sign) for i in range(d.states) for sign in (1, -1)]
     return design, policy, records_text(faces), records_text(shift_box(pick, d, rows, faces)) if pick.random() < 0.5 else None
 

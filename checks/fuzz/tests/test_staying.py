@@ -7,7 +7,7 @@ from unittest import mock
 import control
 import model
 import program
-import staying
+import held_boxes
 from tests.worked import CONTROLLER, DESIGN, POLICY, sub, told
 
 # x+ = x + u from 0 to 1, whose next state is to lie in it, too
@@ -35,7 +35,7 @@ class Faces(unittest.TestCase):
         self.choice = model.choose(self.design, model.read_policy(POLICY, self.design))
 
     def test_rows(self):
-        found = lambda d: [(row.of_state, row.of_input, row.bound, row.number) for row in staying.first_rows(d)]
+        found = lambda d: [(row.of_state, row.of_input, row.bound, row.number) for row in held_boxes.first_rows(d)]
         self.assertEqual(found(self.design), [([0], [4], 4, 0), ([0], [-4], 4, 1), ([4], [4], 1, 2), ([-4], [-4], 1, 3)])
         # over more stages the final rows are none, and of the stage rows at the next state those that have no input
         longer = design_of((b"stages = 1\n", b"stages = 3\n"), (b"den = 1\na = [[1]]\nb = [[1]]", b"den = 5\na = [[2]]\nb = [[3]]"), (b"[0, -4, 4]]", b"[0, -4, 4], [7, 0, 9]]"))
@@ -43,8 +43,8 @@ class Faces(unittest.TestCase):
 
     def test_worked(self):
         self.assertEqual(self.choice.stated_violations, [EXCESS] * 4)
-        faces, rows = staying.read_faces(FACES, self.design), staying.first_rows(self.design)
-        self.assertEqual(max(staying.size(self.design, rows, [EXCESS] * 4, face) for face in faces), 29362034376616)
+        faces, rows = held_boxes.read_faces(FACES, self.design), held_boxes.first_rows(self.design)
+        self.assertEqual(max(held_boxes.size(self.design, rows, [EXCESS] * 4, face) for face in faces), 29362034376616)
         status, line, out, written = told("stay d p c r f", d=HELD, p=POLICY, f=FACES)
         self.assertEqual((status, line, out), (0, "", ""))
         self.assertEqual(written, told("generate d p c r", d=HELD, p=POLICY)[3])
@@ -72,7 +72,7 @@ class Faces(unittest.TestCase):
         self.assertEqual(told("stay d p c c f", d=HELD, p=POLICY, f=FACES)[1], "error 2 usage\n")
 
     def test_read(self):
-        of = lambda data: refusal(staying.read_faces, data, self.design)
+        of = lambda data: refusal(held_boxes.read_faces, data, self.design)
         self.assertIsNone(of(b"2147483647,0,2147483647,0,0\n1,0,0,0,0\n"))
         for data, fault in ((b"0,0,0,1,0\n", ("number", 1, 1)), (b"2147483648,0,0,1,0\n", ("number", 1, 1)), (b"4,0,0,1,0\n4,0,0,0,-1\n", ("number", 2, 5)),
                             (b"4,0,0,1,0\n4,0,2147483648,0,1\n", ("number", 2, 3)), (b"4,0,0,1\n", ("fields", 1)), (3 * b"4,0,0,1,0\n", ("count", 3))):
@@ -84,15 +84,15 @@ class Faces(unittest.TestCase):
         for _ in range(100):
             d = design_of((b"den = 1\na = [[1]]\nb = [[1]]", b"den = %d\na = [[%d]]\nb = [[%d]]" % (pick.choice([1, 2, 4]), pick.randrange(-3, 4), pick.choice([-2, -1, 1, 2]))),
                           (b"final = [[4, 1], [-4, 1]]", b"final = [[%d, 1], [%d, 3]]" % (pick.randrange(1, 5), -pick.randrange(1, 5))), (b"grid = 0\nlo = [0]\nhi = [1]", b"grid = 2\nlo = [-3]\nhi = [4]"))
-            rows, excess = staying.first_rows(d), [pick.randrange(2**40) for _ in range(d.rows)]
-            face = staying.Face(0, pick.random() < 0.5, pick.choice([1, 4, 8]), [0] * 4)
+            rows, excess = held_boxes.first_rows(d), [pick.randrange(2**40) for _ in range(d.rows)]
+            face = held_boxes.Face(0, pick.random() < 0.5, pick.choice([1, 4, 8]), [0] * 4)
             # the input's part by one row that has its sign, and a share of a row and its opposite
             wanted = face.sign * face.factor * d.b[0][0]
             row = pick.choice([i for i, row in enumerate(rows) if row.of_input[0] * wanted > 0])
             face.factor, face.weights[row] = face.factor * abs(rows[row].of_input[0]), abs(wanted)
-            left, right = staying.of_inputs(d, rows, face)
+            left, right = held_boxes.of_inputs(d, rows, face)
             self.assertEqual(left, right)
-            ends = {face.sign: staying.farthest(d, rows, excess, face, [0], [0])}
+            ends = {face.sign: held_boxes.farthest(d, rows, excess, face, [0], [0])}
             for xi in range(-3, 5):
                 allowed = [Fraction(u, 16) for u in range(-160, 161) if all(
                     Fraction(r.of_state[0] * xi, 4 * d.plant_den) + Fraction(r.of_input[0] * u, 16 * d.plant_den) - r.bound <= Fraction(d.limit_den * e, 2**40) for r, e in zip(rows, excess))]
