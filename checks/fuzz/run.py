@@ -47,7 +47,7 @@ MOST_PRODUCTS, MOST_TRACED = 3_000_000, 60_000
 # and the most instructions
 MOST_PLAYED = 500_000
 # of the loops of a design whose box is stayed in
-TURNS, MOST_LOOP_PRODUCTS = 200, 5_000_000
+TURNS, MOST_LOOP_PRODUCTS, MOST_OF_PROGRAM = 200, 5_000_000, 1_000_000_000
 SECOND = "a design of version 2, accepted"
 LOWERED = SECOND + ", with a row whose exponent is below the greatest"
 
@@ -238,7 +238,8 @@ class Runner:
             if (other.returncode, other.stderr, other.stdout) != (ran.returncode, ran.stderr, ran.stdout):
                 wrong = f"{wrong or ''} {case.same} answers {other.returncode} {other.stderr[:200]!r} {other.stdout[:300]!r}"
             notes = [*notes, "a listing as its controller has it"]
-        if case.kind == "stay" and status == 0 and ran.returncode == 0 and not wrong:
+        # (a name that was changed may be one of a file that is read)
+        if case.kind == "stay" and status == 0 and ran.returncode == 0 and not wrong and {*case.words[1:5]} <= {"d", "p", "c", "r", "r.json"}:
             wrong, more = self.check_stayed(case, left)
             notes = [*notes, *more]
         if case.kind == "border":
@@ -260,7 +261,8 @@ class Runner:
         if ran.returncode or {name: found.get(name) for name in made} != made:
             return "generate writes otherwise", []
         d, c = model.read_design(case.files["d"]), control.read_controller(made[case.words[3]])
-        files = {**case.files, "c": made[case.words[3]], "s": stay_cases.records_text(stay_cases.starts(pick, d))}
+        starts = stay_cases.starts(pick, d)[: MOST_OF_PROGRAM // (TURNS * products(c))]
+        files = {**case.files, "c": made[case.words[3]], "s": stay_cases.records_text(starts)}
         least, greatest = held_boxes.read_shift_box(files["w"], d.states) if "w" in files else ([0], [0])
         if max(least) > 0 or min(greatest) < 0:
             return None, ["a design whose box is stayed in under what is never 0"]
@@ -269,12 +271,13 @@ class Runner:
         self.lay(files)
         ran = self.started(words)
         wrong, status, notes = self.compare(loop, ran, self.left(), files.get, None, None)
-        lines = TURNS * len(files["s"].splitlines())
+        lines = TURNS * len(starts)
         if (ran.returncode, ran.stdout.count(b"\n")) != (0, lines):
             wrong = f"{wrong or ''} of {lines} lines there are {ran.stdout.count(10)}, and the status is {ran.returncode} {ran.stderr[:200]!r}"
         told = f"a design whose box is stayed in{', under disturbances' if 'w' in files else ''}"
         kinds = [told] + [f"{told}, {what}" for what, holds in (("of version 2", d.version == 2), ("with several exponents", len(set(c.exps)) > 1), ("of a fine form", model.form_of(d).is_fine),
                                                                ("of several stages", d.stages > 1)) if holds]
+        kinds += [] if starts else [f"{told}, whose loops are too long for the program"]
         return wrong and f"loop: {wrong}", kinds + [f"its loops: {note}" for note in notes if note == "too long for the model"]
 
     def compare(self, case, ran, left, read, write, gains):

@@ -164,4 +164,6 @@ def stay_texts(pick, base):
 def starts(pick, d, most=8):
     """Corners of a design's box, and states in it."""
     corners = list(product(*zip(d.lo, d.hi)))
-    return pick.sample(corners, min(most, len(corners))) + [tuple(pick.randrange(low, high + 1) for low, high in zip(d.lo, d.hi)) for _ in range(2)]
+    inside = [tuple(pick.randrange(low, high + 1) for low, high in zip(d.lo, d.hi)) for _ in range(2)]
+    some = pick.sample(corners, min(most, len(corners)))
+    return some[:1] + inside[:1] + some[1:] + inside[1:]

@@ -104,6 +104,7 @@ def list_rows():
         "clear mac_7_-1_0 mac_0_1_0 mac_1_1_0 mac_2_1_0 mac_3_1_0 mac_4_1_0 mac_5_1_0 con_-1_0 shr_0 addm_6 low cap_4 store_6 load_8 addm_7 store_8"
     lines = "mpc-listing 1\nword 16\ninput 6 0\nlo 0 0 0 0 0 0\nhi 1 2 3 4 5 6\nwords 9\noutput 8 1 2\nrepeat 2 30\ncount 60\n" + body.replace(" ", "\n").replace("_", " ") + "\nend\n"
     yield "list, version 2: six states", listed(six, lines)
+    yield "listing: fewer words than inputs", refused(PLAY, {"l": sub(lines, ("words 9", "words 5")), "s": "1"}, 20, "listing 1 6")
     yield "play: six states", put(PLAY, {"l": lines, "s": "1,2,3,4,5,6\n0,0,0,0,0,1\n"}, "2 -178\n2 -8\n")
     yield "list: no controller", refused(LIST, {}, 3, "read-fault 1")
     yield "list: a long controller", refused(LIST, {"c": FIRST + "\n" * 4194305}, 13, "long 1")
@@ -166,6 +167,11 @@ def play_rows():
     yield "play: words that aren't cleared", put(PLAY, {"l": foreign("clear", "addm 2", "addm 0", "store 2", "store 1", repeat=3), "s": "1\n2\n"}, "7 3\n7 6\n")
     yield "play: two million repetitions", trapped(foreign("addm 0", word=22, repeat=4194304), "0\n1\n", "7 0\n", 2, 2097152, 1)
     yield "play: all words put out", put(PLAY, {"l": foreign("load 0", "store 2", output="0 3 85070591730234615865843651857942052864"), "s": "-9\n"}, "85070591730234615865843651857942052864 -9 0 -9\n")
+    shifted = lambda bits, word: sub(foreign("load 0", "store 1", word=word), ("input 1 0", f"input 1 {bits}"))
+    yield "play: an input of the most bits", put(PLAY, {"l": shifted(48, 64), "s": "3\n-9\n"}, f"7 {3 * 2**48}\n7 {-9 * 2**48}\n")
+    yield "play: an input at the end of the word", put(PLAY, {"l": shifted(7, 8), "s": "-1\n"}, "7 -128\n")
+    yield "play: an input beyond the end of the word", trapped(shifted(7, 8), "-1\n1\n", "7 -128\n", 2, 0, 0)
+    yield "play: an input below the word", trapped(shifted(7, 8), "-2\n", "", 1, 0, 0)
     yield "play: a thousand words", put(PLAY, {"l": foreign("load 0", "store 999", words=1000, output="999 1 1"), "s": "4\n"}, "1 4\n")
     yield "play: an address beyond a thousand words", refused(PLAY, {"l": foreign("load 0", "store 1000", words=1000), "s": "4\n"}, 20, "listing 1 11")
     for body, value in (
@@ -178,7 +184,7 @@ def play_rows():
         (1, ["con 1 7"]), (1, ["con -129 0"]), (1, [f"con {GREATEST} 126"]), (2, ["con -1 7", "neg"]), (2, ["con -1 7", "con -1 0"]), (2, ["load 0", "shl 7"]), (2, ["con -1 7", "shl 1"]),
         (2, ["load 0", "shl 126"]), (1, ["mac 0 1 7"]), (1, ["mac 0 0 7"]), (1, ["mac 0 -1 7"]), (1, ["mac 0 128 0"]), (1, [f"mac 0 {LEAST} 126"]), (2, ["con 100 0", "mac 0 1 5"]),
         # a product that would come back into the word
-        (2, ["con -1 6", "mac 0 1 7"]), (2, ["con 5 0", "cap -129"]), (2, ["con 5 0", f"cap {LEAST}"]), (3, ["load 0", "con 63 1", "addm 0"]), (3, ["con 1 6", "addm 0", "con 1 6"]),
+        (2, ["con -1 6", "mac 0 1 7"]), (2, ["con -1 6", "con 1 7"]), (2, ["con 5 0", "cap -129"]), (2, ["con 5 0", f"cap {LEAST}"]), (3, ["load 0", "con 63 1", "addm 0"]), (3, ["con 1 6", "addm 0", "con 1 6"]),
     ):
         yield f"play: a trap at {', '.join(body)}", trapped(foreign(*body, "store 1"), "1", "", 1, 1, place)
     # in words of 128 bits
