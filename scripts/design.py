@@ -17,7 +17,8 @@ In FOLDER, which is made where it isn't there, stand then
 
 and where no loop is to leave the box, by --stay or by `stay` in the model's `[box]`, fitted.toml is by scripts/staying.py, and beside it stand
 
-    faces.csv         the sums of limits that show that none does, and disturbances.csv the greatest disturbances of a turn that they bear (scripts/faces.py)
+    faces.csv         the sums of limits that show that none does, and disturbances.csv the greatest disturbances of a turn that they bear (scripts/faces.py); the controller
+                      is by ./mpc stay, which tests them, and has no reference.csv
 
     --generate    makes the controller that keeps far from its limits: of more steps, mostly far more, and with real violations far below the printed ones
     --as-it-is    takes the model's own coordinates and box, whatever its loops do
@@ -123,13 +124,15 @@ def fitted(steps: Steps, model: str, given: Namespace, stays: bool) -> str:
 def make(steps: Steps, model: str, given: Namespace, stays: bool) -> None:
     """The design, its policy, its faces and its controller: a lean one, but where no loop is to leave the box."""
     design, policy, reference = map(steps.path, ("design.toml", "policy.csv", "reference.csv"))
-    lean = not (given.generate or stays)
-    steps.must("scripts/draft.py", model, design, "--gap", str(given.gap), *(["--lean"] if lean else []))
-    steps.must("scripts/policy.py", design, policy, *(["--lean", reference] if lean else []), "--turns", "0")
     made = [steps.path("controller.txt"), steps.path("report.txt")]
+    steps.must("scripts/draft.py", model, design, "--gap", str(given.gap), *([] if given.generate else ["--lean"]))
+    steps.must("scripts/policy.py", design, policy, *([] if given.generate else ["--lean", reference]), "--turns", "0")
     if stays:
-        steps.must("scripts/faces.py", design, policy, steps.path("faces.csv"), "--bears", steps.path("disturbances.csv"))
-    steps.must("mpc", *(["lean", design, policy, reference] if lean else ["generate", design, policy]), *made)
+        faces = list(map(steps.path, STAYS))
+        steps.must("scripts/faces.py", design, policy, faces[0], "--bears", faces[1])
+        steps.must("mpc", "stay", design, policy, *made, *faces)
+    else:
+        steps.must("mpc", *(["generate", design, policy] if given.generate else ["lean", design, policy, reference]), *made)
 
 
 def show(steps: Steps, given: Namespace) -> None:
@@ -180,6 +183,7 @@ def main() -> int:
     files.read_bytes(given.model)
     os.makedirs(given.folder, exist_ok=True)
     began, stays = time.monotonic(), given.stay or asks_to_stay(given.model)
+    given.generate = given.generate or stays
     make(steps, fitted(steps, given.model, given, stays), given, stays)
     show(steps, given)
     print(f"in {time.monotonic() - began:.0f} s: {steps.path('loop.svg')} has the loops, {steps.path('explained.txt')} every bound, and {steps.path('controller.txt')} the controller")

@@ -13,8 +13,8 @@ The faces go to FACES, or are printed; how far each coordinate can go, and the g
     --disturbances FILE   two records, a number for each coordinate over `2^grid`: the least and the greatest that is added to a next state
     --bears FILE          writes two such records: the greatest disturbances that the faces bear
 
-Where a face doesn't hold, it says which, by how much, and what a tolerance or a box would have to be, and ends with status 17, as `stay` will. Nothing rests on the solver: what is
-found is tested in whole numbers, as `stay` tests it.
+Where a face doesn't hold, it says which, by how much, and what a tolerance or a box would have to be, and ends with status 17, as `./mpc stay` does. Nothing rests on the solver: what is
+found is tested in whole numbers, and `stay` tests it again.
 """
 import sys
 from dataclasses import dataclass

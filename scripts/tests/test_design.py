@@ -149,7 +149,8 @@ class WholeWay(unittest.TestCase):
         made, model = os.path.join(folder, "made"), os.path.join(EXAMPLES, "motor", "stay", "model.toml")
         got = subprocess.run([os.path.join(TOP, "mpc"), "design", model, made, "--turns", "5", "--states", "0", "--random", "0"], capture_output=True, text=True)
         self.assertEqual((got.returncode, got.stderr), (0, ""), got.stdout)
-        self.assertEqual(sorted(os.listdir(made)), sorted(design.MADE + design.STAYS))
+        self.assertEqual(sorted(os.listdir(made)), sorted({*design.MADE, *design.STAYS} - {"reference.csv"}))
+        self.assertIn("mpc stay", got.stdout)
         self.assertIn("as it is: the faces hold", got.stdout)
         for name in design.STAYS + ["fitted.toml"]:
             with open(os.path.join(made, name), encoding="utf-8") as one, open(os.path.join(os.path.dirname(model), name.replace("fitted", "model")), encoding="utf-8") as other:
@@ -167,7 +168,8 @@ class WholeWay(unittest.TestCase):
         made, model = os.path.join(folder, "made"), os.path.join(EXAMPLES, "motor", "stay", "model.toml")
         got = subprocess.run([os.path.join(TOP, "mpc"), "design", model, made, "--turns", "5", "--states", "0", "--random", "0"], capture_output=True, text=True)
         self.assertEqual((got.returncode, got.stderr), (0, ""), got.stdout)
-        self.assertEqual(sorted(os.listdir(made)), sorted(design.MADE + design.STAYS))
+        self.assertEqual(sorted(os.listdir(made)), sorted({*design.MADE, *design.STAYS} - {"reference.csv"}))
+        self.assertIn("mpc stay", got.stdout)
         self.assertIn("as it is: the faces hold", got.stdout)
         for name in design.STAYS + ["fitted.toml"]:
             with open(os.path.join(made, name), encoding="utf-8") as one, open(os.path.join(os.path.dirname(model), name.replace("fitted", "model")), encoding="utf-8") as other:
