@@ -158,25 +158,6 @@ class WholeWay(unittest.TestCase):
         both = subprocess.run([sys.executable, os.path.join(TOP, "scripts", "design.py"), model, made, "--stay", "--as-it-is"], capture_output=True, text=True)
         self.assertEqual(both.returncode, 2)
 
-    def test_asks_to_stay(self):
-        _, paths = folder_with(self, plain=MASS, stays=MASS + "stay = [0.1, 0.0]\n", bad=MASS.replace("period = 0.2", "period = -1"))
-        self.assertEqual([design.asks_to_stay(paths[name]) for name in ("plain", "stays", "bad")], [False, True, False])
-
-    @unittest.skipUnless(os.path.exists(os.path.join(TOP, "crates/mpc_cli/out/mpc_cli")), "the program isn't built")
-    def test_a_box_that_no_loop_leaves(self):
-        folder, _ = folder_with(self)
-        made, model = os.path.join(folder, "made"), os.path.join(EXAMPLES, "motor", "stay", "model.toml")
-        got = subprocess.run([os.path.join(TOP, "mpc"), "design", model, made, "--turns", "5", "--states", "0", "--random", "0"], capture_output=True, text=True)
-        self.assertEqual((got.returncode, got.stderr), (0, ""), got.stdout)
-        self.assertEqual(sorted(os.listdir(made)), sorted({*design.MADE, *design.STAYS} - {"reference.csv"}))
-        self.assertIn("mpc stay", got.stdout)
-        self.assertIn("as it is: the faces hold", got.stdout)
-        for name in design.STAYS + ["fitted.toml"]:
-            with open(os.path.join(made, name), encoding="utf-8") as one, open(os.path.join(os.path.dirname(model), name.replace("fitted", "model")), encoding="utf-8") as other:
-                self.assertEqual(one.read(), other.read(), name)
-        both = subprocess.run([sys.executable, os.path.join(TOP, "scripts", "design.py"), model, made, "--stay", "--as-it-is"], capture_output=True, text=True)
-        self.assertEqual(both.returncode, 2)
-
 
 if __name__ == "__main__":
     unittest.main()
