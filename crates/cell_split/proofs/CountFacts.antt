@@ -27,10 +27,12 @@ rest_of cuts v i l e =
     ap cell_count (drop_more (lists cuts) i [] (omega (arith, l, length-map cuts (λ (w : Vec ℤ Global). w.items))))
     ∙ ap (λ (list : List ℤ). (length list + 1) * cell_count (drop (i + 1) (lists cuts))) (get_or-map (λ (w : Vec ℤ Global). w.items) cuts i v [] l ∙ ap (λ (w : Vec ℤ Global). w.items) (sym e))
 
-more_product : (cuts : List (Vec ℤ Global)) (v : Vec ℤ Global) (cells i : ℕ) → i < length cuts → v ≡ get_or cuts i v → Counted cuts cells i → (cells * (length v.items + 1)) * cell_count (drop (i + 1) (lists cuts)) ≡ cell_count (lists cuts)
+more_product : (cuts : List (Vec ℤ Global)) (v : Vec ℤ Global) (cells i : ℕ) → i < length cuts → v ≡ get_or cuts i v →
+    Counted cuts cells i → (cells * (length v.items + 1)) * cell_count (drop (i + 1) (lists cuts)) ≡ cell_count (lists cuts)
 more_product cuts v cells i l e c = mul_assoc cells (length v.items + 1) (cell_count (drop (i + 1) (lists cuts))) ∙ ap (λ (m : ℕ). cells * m) (sym (rest_of cuts v i l e)) ∙ c.product
 
-pub more_counted : (cuts : List (Vec ℤ Global)) (v : Vec ℤ Global) (cells i n : ℕ) → i < length cuts → v ≡ get_or cuts i v → n ≡ length v.items → cells * (n + 1) ≤ 64 → Counted cuts cells i → Counted cuts (cells * (n + 1)) (i + 1)
+pub more_counted : (cuts : List (Vec ℤ Global)) (v : Vec ℤ Global) (cells i n : ℕ) → i < length cuts → v ≡ get_or cuts i v →
+    n ≡ length v.items → cells * (n + 1) ≤ 64 → Counted cuts cells i → Counted cuts (cells * (n + 1)) (i + 1)
 more_counted cuts v cells i n l e s few c = record { product = rw s (more_product cuts v cells i l e c); few = few }
 
 pub too_many : (cuts : List (Vec ℤ Global)) (v : Vec ℤ Global) (cells i n : ℕ) → i < length cuts → v ≡ get_or cuts i v → n ≡ length v.items → 64 < cells * (n + 1) → Counted cuts cells i → 64 < cell_count (lists cuts)

@@ -8,7 +8,7 @@ use Rattle.qp_model.specs.problem.Runs.{Holds}
 use Rattle.qp_model.specs.declared.design_parts.DesignParts.{DesignParts}
 use Rattle.cell_split.specs.Cells.{cell_low, cell_high, AreCutsFor, IsCell}
 use Rattle.cell_split.specs.NewBox.{IsNewBox}
-use Rattle.cell_split.specs.declared.finder.StateBox.{StateBox}
+use Rattle.cell_split.specs.declared.state_box.StateBox.{StateBox}
 use Rattle.cell_split.proofs.CellLaws.{split_law}
 
 pub new_box : (p : DesignParts) (ls : List (List ℤ)) (k : ℕ) (b : StateBox) → IsDesign p → AreCutsFor (design_of p) ls → IsCell ls k →

@@ -8,7 +8,10 @@ pub mod CountFacts
 pub mod RecordFacts
 pub mod TextFacts
 pub mod UniqueFacts
--- ---- the box of a cell
+-- ---- the box of a cell, and its design
+pub mod Designs
 pub mod CellFacts
 pub mod BoxFacts
 pub mod DesignFacts
+-- ---- the policies of all cells
+pub mod PolicyFacts

@@ -88,7 +88,8 @@ disorder lo hi least entry i fields field cuts counted some l f wrong r = record
     place = omega (arith, r.long)
 
 -- all of them
-pub all_cuts : (lo hi least : ℤ) (i : ℕ) (fields : List (List ℕ)) (cuts : List ℤ) → IsCutCount fields (length fields - 1) → 1 ≤ length fields → length fields ≤ i → i ≤ length fields → ReadCuts lo hi fields cuts least i → HoldsCuts lo hi fields cuts
+pub all_cuts : (lo hi least : ℤ) (i : ℕ) (fields : List (List ℕ)) (cuts : List ℤ) → IsCutCount fields (length fields - 1) → 1 ≤ length fields →
+    length fields ≤ i → i ≤ length fields → ReadCuts lo hi fields cuts least i → HoldsCuts lo hi fields cuts
 all_cuts lo hi least i fields cuts counted some l m r =
     let long : length fields - 1 ≡ length cuts = omega (arith, r.long, l, m) in
     record {

@@ -114,7 +114,8 @@ pub told_err : (bytes : List ℕ) (d : Design) (rows : List (List (List ℕ))) (
 told_err bytes d rows read (Ok c) e n a m = tt
 told_err bytes d rows read (Err x) e n a m = inr (inr (inr (record { lists = read; hold = rw (← e) (held d rows read n a); many = m.1; told = m.0 })))
 
-pub count_told : (bytes : List ℕ) (d : Design) (rows : List (List (List ℕ))) (read : List (List ℤ)) (n : ℕ) → rows ≡ records_of bytes → n ≡ length rows → n ≢ d.states → AreCutsRead d rows read → (Count n ≡ Memory) ⊎ IsCutsTextFault bytes d (Count n)
+pub count_told : (bytes : List ℕ) (d : Design) (rows : List (List (List ℕ))) (read : List (List ℤ)) (n : ℕ) → rows ≡ records_of bytes →
+    n ≡ length rows → n ≢ d.states → AreCutsRead d rows read → (Count n ≡ Memory) ⊎ IsCutsTextFault bytes d (Count n)
 count_told bytes d rows read n e s h a = inr (inr (inl (rw (← e) (count_fault d rows read n s h a))))
 
 pub record_told : (bytes : List ℕ) (d : Design) (rows : List (List (List ℕ))) (fault : TextFault) → rows ≡ records_of bytes → (fault ≡ Memory) ⊎ IsCutRecordFault d rows fault → (fault ≡ Memory) ⊎ IsCutsTextFault bytes d fault

@@ -2,6 +2,7 @@ pub mod Cuts
 pub mod Cells
 pub mod CutsText
 pub mod ReadLists
-pub mod StateBoxes
 pub mod Parts
 pub mod NewBox
+pub mod PlanRuns
+pub mod PoliciesText

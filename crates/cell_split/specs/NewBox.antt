@@ -3,7 +3,7 @@ use Rattle.std.specs.Prelude.{ℕ, ◌<◌, ◌≤ℤ◌}
 use Rattle.integer_algebra.specs.Sums.{at}
 use Rattle.qp_model.specs.problem.Parts.{IsNumeratorList}
 use Rattle.qp_model.specs.declared.design_parts.DesignParts.{DesignParts}
-use Rattle.cell_split.specs.declared.finder.StateBox.{StateBox}
+use Rattle.cell_split.specs.declared.state_box.StateBox.{StateBox}
 
 pub record IsNewBox (p : DesignParts) (b : StateBox) : Type 0 where
   pub lo : IsNumeratorList b.lo.items p.states

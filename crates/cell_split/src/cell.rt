@@ -9,7 +9,7 @@ ghost use Rattle.cell_split.specs.Cells.{cuts_of, cell_low, cell_high, AreCutsFo
 ghost use Rattle.cell_split.specs.Parts.{AreParts, AreSized, AreBelow};
 
 use crate::cuts::Cuts;
-use crate::finder::StateBox;
+use crate::state_box::StateBox;
 use qp_model::{Design, DesignParts};
 use std::alloc::{AllocError, Global};
 

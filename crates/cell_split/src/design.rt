@@ -9,7 +9,7 @@ ghost use Rattle.cell_split.specs.NewBox.{IsNewBox};
 use crate::cell::cell_box;
 use crate::copies::copied_pair;
 use crate::cuts::Cuts;
-use crate::finder::StateBox;
+use crate::state_box::StateBox;
 use qp_model::{Design, DesignParts};
 use std::alloc::{AllocError, Global};
 

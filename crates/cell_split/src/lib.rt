@@ -5,14 +5,16 @@ mod cell;
 mod copies;
 mod cuts;
 mod design;
-mod finder;
 mod laws;
+mod policies;
 mod read;
 mod record;
+mod state_box;
 
 pub use cell::cell_box;
 pub use cuts::Cuts;
 pub use design::cell_design;
-pub use finder::{StateBox, find};
 pub use laws::split_law;
+pub use policies::read_cell_policies;
 pub use read::read_cuts;
+pub use state_box::StateBox;

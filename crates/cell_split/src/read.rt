@@ -70,8 +70,10 @@ pub fn read_cuts(alloc: Global, bytes: &[u8], design: &Design) -> Result<Cuts, T
     ensures fault { IfErr result (λ e. (e ≡ Memory) ⊎ IsCutsTextFault bytes.now (design_of design.now) e) }
 
     // The other way round, with nothing but out of memory in between.
-    ensures right { (cuts : List (List ℤ)) → IsCutsText bytes.now (design_of design.now) cuts → MatchResult result (λ c. c ≡ cuts) (λ e. e ≡ Memory) }
-    ensures first { (told : TextFault) → IsCutsTextFault bytes.now (design_of design.now) told → MatchResult result (λ _. ⊥) (λ e. (e ≡ told) ⊎ (e ≡ Memory)) }
+    ensures right { (cuts : List (List ℤ)) → IsCutsText bytes.now (design_of design.now) cuts →
+        MatchResult result (λ c. c ≡ cuts) (λ e. e ≡ Memory) }
+    ensures first { (told : TextFault) → IsCutsTextFault bytes.now (design_of design.now) told →
+        MatchResult result (λ _. ⊥) (λ e. (e ≡ told) ⊎ (e ≡ Memory)) }
 {
     cuts_of_text(alloc, bytes, design.parts())
 }

@@ -14,7 +14,7 @@ use Rattle.text_lines.specs.Lines.{Keyed, keyed_line, view, views, line_in, Plac
 use Rattle.text_lines.specs.Blocks.{row_lines, chained, blocks_of, Row}
 use Rattle.controller_file.specs.Lines.{line_blocks, keyed_lines}
 use Rattle.text_lines.specs.Blocks.{Block, block_places, total_rows}
-use Rattle.controller_file.specs.Table.{text_table, places, sizes_of, AreSmall, Says, block_at}
+use Rattle.controller_file.specs.Table.{text_table, places, sizes_of, AreSizesSmall, Says, block_at}
 use Rattle.text_lines.proofs.Chained.{map_chained}
 use Rattle.text_lines.proofs.Blocks.{block_is, rows_more, rows_placed, rows_up_to, lengths_from, spread_length, no_row}
 
@@ -46,13 +46,13 @@ lines_placed c form = map_chained place_of (line_blocks c) ∙ ap chained (block
 pub block_lengths : (c : Numbers) → IsInForm c → map length (line_blocks c) ≡ map (λ t. t.1) (text_table (sizes_of c))
 block_lengths c form = lengths_from (line_blocks c) (text_table (sizes_of c)) (blocks_placed c form)
 
-pub sizes_small : (c : Numbers) → IsInForm c → AreSmall (sizes_of c)
+pub sizes_small : (c : Numbers) → IsInForm c → AreSizesSmall (sizes_of c)
 sizes_small c form = record { version = form.sized.version.1; n = states_le c form.sized; p = form.sized.inputs.1; stages = stages_le c form.sized; m = limits_le c form.sized }
 
 pub line_count : (c : Numbers) → IsInForm c → length (keyed_lines c) ≡ total_rows (text_table (sizes_of c))
 line_count c form = sym (length-map (keyed_lines c) place_of) ∙ ap length (lines_placed c form) ∙ spread_length (text_table (sizes_of c))
 
-pub few_rows : (z : Sizes) → AreSmall z → total_rows (text_table z) ≤ 936
+pub few_rows : (z : Sizes) → AreSizesSmall z → total_rows (text_table z) ≤ 936
 few_rows z small = omega (arith, mul-le-mul small.p small.stages, small.m, small.version)
 
 pub few_lines : (c : Numbers) → IsInForm c → length (keyed_lines c) ≤ 936

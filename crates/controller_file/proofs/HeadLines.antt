@@ -185,7 +185,8 @@ size_follows ls l z b same len p h =
     let last = sym (four_is l (codes "size") (pos n.0) (pos inputs.0) (pos stages.0) (pos m.0) p n.1 inputs.1 stages.1 m.1) in
     grown ls l d (drop 2 (keyed_lines d)) (blank_form v n.0 inputs.0 stages.0 m.0 b.whole.form.sized.version n.2 inputs.2 stages.2 m.2) (blank_fits v n.0 inputs.0 stages.0 m.0) (λ i. front i ++ (last i ∷ drop 2 (keyed_lines d)))
 
-pub bits_follow : (ls : List Keyed) (l : Keyed) → IsBeginning IsWhole ls → length ls ≡ 2 → place_of l ≡ place (codes "bits") 4 → AreBits (at l.numbers 0) (at l.numbers 1) (at l.numbers 2) (at l.numbers 3) → IsBeginning IsWhole (ls ++ l ∷ [])
+pub bits_follow : (ls : List Keyed) (l : Keyed) → IsBeginning IsWhole ls → length ls ≡ 2 → place_of l ≡ place (codes "bits") 4 →
+    AreBits (at l.numbers 0) (at l.numbers 1) (at l.numbers 2) (at l.numbers 3) → IsBeginning IsWhole (ls ++ l ∷ [])
 bits_follow ls l b len p h =
     let c = b.whole.numbers in
     let sized = b.whole.form.sized in
@@ -254,7 +255,8 @@ exponents_follow ls l b second len p h =
 
 -- ---- the box
 
-pub low_follows : (ls : List Keyed) (l : Keyed) (b : IsBeginning IsWhole ls) → length ls ≡ 5 + b.whole.numbers.version → place_of l ≡ place (codes "lo") b.whole.numbers.states → All IsNumerator l.numbers → IsBeginning IsWhole (ls ++ l ∷ [])
+pub low_follows : (ls : List Keyed) (l : Keyed) (b : IsBeginning IsWhole ls) → length ls ≡ 5 + b.whole.numbers.version →
+    place_of l ≡ place (codes "lo") b.whole.numbers.states → All IsNumerator l.numbers → IsBeginning IsWhole (ls ++ l ∷ [])
 low_follows ls l b len p h =
     let c = b.whole.numbers in
     let d = record c { low = l.numbers; high = l.numbers } in

@@ -199,7 +199,8 @@ swapped ls b l a others le fits split place =
     let all = All-from_recursion Fits (ls ++ (l ∷ others)) (fits_swapped ls a l others c b.whole.form b.whole.word (b.whole.lines ∙ ap (λ (ms : List Keyed). ls ++ ms) split) fits) in
     grown ls l d.numbers others d.form (fits_word d.numbers (subst (λ (ms : List Keyed). All Fits ms) (sym lines) all)) lines
 
-pub list_follows : (ls : List Keyed) (l : Keyed) (z : Sizes) (b : IsBeginning IsWhole ls) → 7 + b.whole.numbers.version ≤ length ls → Says ls z → Fits l → slice_get (places z) (length ls) ≡ Some (place_of l) → IsBeginning IsWhole (ls ++ l ∷ [])
+pub list_follows : (ls : List Keyed) (l : Keyed) (z : Sizes) (b : IsBeginning IsWhole ls) → 7 + b.whole.numbers.version ≤ length ls →
+    Says ls z → Fits l → slice_get (places z) (length ls) ≡ Some (place_of l) → IsBeginning IsWhole (ls ++ l ∷ [])
 list_follows ls l z b le says fits h =
     let at = line_at ls b.more (length ls) (place_of l) refl (ap (λ (ps : List Place). slice_get ps (length ls)) (places_are ls b z (omega (arith, le)) says) ∙ h) in
     swapped ls b l at.first at.others le fits at.split at.place

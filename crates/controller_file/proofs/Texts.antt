@@ -16,7 +16,7 @@ use Rattle.qp_model.specs.text.ControllerText.{controller_lines, controller_text
 use Rattle.text_lines.specs.Lines.{Keyed, keyed_line, spelled, Fits, IsKeyedLine}
 use Rattle.text_lines.specs.Blocks.{row_lines}
 use Rattle.controller_file.specs.Lines.{line_blocks, keyed_lines}
-use Rattle.controller_file.specs.Table.{AreSmall}
+use Rattle.controller_file.specs.Table.{AreSizesSmall}
 use Rattle.text_lines.proofs.Chained.{all_chained, all_blocks, map_chained}
 use Rattle.text_lines.proofs.Good.{natural_fits, half_words_fit, quarter_fits, word, good}
 use Rattle.controller_file.proofs.Blocks.{sizes_small}
@@ -47,7 +47,7 @@ keyed_text c = ap text_of (lines_spelled c)
 
 -- each is one of 32 bits
 pub record IsSmall (c : Numbers) : Type 0 where
-  pub sizes : AreSmall (record { version = c.version; n = c.states; p = c.inputs; stages = c.stages; m = c.rows })
+  pub sizes : AreSizesSmall (record { version = c.version; n = c.states; p = c.inputs; stages = c.stages; m = c.rows })
   pub fraction_bits : c.fraction_bits ≤ 48
   pub grid_bits : c.grid_bits ≤ 24
   pub step_exponent : c.step_exponent ≤ 40

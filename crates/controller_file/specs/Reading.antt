@@ -12,8 +12,8 @@ use Rattle.text_lines.specs.Lines.{Keyed, line_in, small}
 abbrev pub list_of_block : List (List Keyed) → ℕ → List ℤ
 list_of_block bs k = line_in (slice_index_or bs k []) 0
 
-abbrev pub small_in : List (List Keyed) → ℕ → ℕ → ℕ
-small_in bs k j = small (at (list_of_block bs k) j)
+abbrev pub small_of_block : List (List Keyed) → ℕ → ℕ → ℕ
+small_of_block bs k j = small (at (list_of_block bs k) j)
 
 -- the numbers of all its lines as rows
 abbrev pub matrix_in : List (List Keyed) → ℕ → ℕ → Matrix
@@ -21,31 +21,31 @@ matrix_in bs k cols = record { cols = cols; rows = map (λ l. l.numbers) (slice_
 
 -- each row's exponent, which a text of the first version doesn't say
 abbrev pub exponents_in : List (List Keyed) → List ℕ
-exponents_in bs = if small_in bs 0 0 == text_version then replicate (small_in bs 1 3) (small_in bs 2 2) else map small (list_of_block bs 6)
+exponents_in bs = if small_of_block bs 0 0 == text_version then replicate (small_of_block bs 1 3) (small_of_block bs 2 2) else map small (list_of_block bs 6)
 
 -- the controller with these blocks of lines
 abbrev pub numbers_in : List (List Keyed) → Numbers
 numbers_in bs = record {
-  version = small_in bs 0 0;
-  states = small_in bs 1 0;
-  inputs = small_in bs 1 1;
-  stages = small_in bs 1 2;
-  rows = small_in bs 1 3;
-  fraction_bits = small_in bs 2 0;
-  grid_bits = small_in bs 2 1;
-  step_exponent = small_in bs 2 2;
-  width = small_in bs 2 3;
-  steps = small_in bs 3 0;
+  version = small_of_block bs 0 0;
+  states = small_of_block bs 1 0;
+  inputs = small_of_block bs 1 1;
+  stages = small_of_block bs 1 2;
+  rows = small_of_block bs 1 3;
+  fraction_bits = small_of_block bs 2 0;
+  grid_bits = small_of_block bs 2 1;
+  step_exponent = small_of_block bs 2 2;
+  width = small_of_block bs 2 3;
+  steps = small_of_block bs 3 0;
   clamp = at (list_of_block bs 4) 0;
-  words = small_in bs 5 0;
+  words = small_of_block bs 5 0;
   exponents = exponents_in bs;
   low = list_of_block bs 7;
   high = list_of_block bs 8;
-  state_gains = matrix_in bs 9 (small_in bs 1 0);
+  state_gains = matrix_in bs 9 (small_of_block bs 1 0);
   offsets = list_of_block bs 10;
-  dual_gains = matrix_in bs 11 (small_in bs 1 3);
-  plan_rows = matrix_in bs 12 (small_in bs 1 1 * small_in bs 1 2);
-  state_rows = matrix_in bs 13 (small_in bs 1 0);
+  dual_gains = matrix_in bs 11 (small_of_block bs 1 3);
+  plan_rows = matrix_in bs 12 (small_of_block bs 1 1 * small_of_block bs 1 2);
+  state_rows = matrix_in bs 13 (small_of_block bs 1 0);
   bounds = list_of_block bs 14;
 }
 

@@ -34,7 +34,7 @@ abbrev pub sizes_of : Numbers → Sizes
 sizes_of c = record { version = c.version; n = c.states; p = c.inputs; stages = c.stages; m = c.rows }
 
 -- none is above the greatest of any version
-pub record AreSmall (z : Sizes) : Type 0 where
+pub record AreSizesSmall (z : Sizes) : Type 0 where
   pub version : z.version ≤ 2
   pub n : z.n ≤ 6
   pub p : z.p ≤ 3
@@ -43,6 +43,6 @@ pub record AreSmall (z : Sizes) : Type 0 where
 
 -- the first of these lines say these sizes, as far as they are there
 pub record Says (ls : List Keyed) (z : Sizes) : Type 0 where
-  pub small : AreSmall z
+  pub small : AreSizesSmall z
   pub version : 0 < length ls → line_in ls 0 ≡ pos z.version ∷ []
   pub sizes : 1 < length ls → line_in ls 1 ≡ pos z.n ∷ pos z.p ∷ pos z.stages ∷ pos z.m ∷ []

@@ -1,7 +1,7 @@
 // Which lines can stand after others in a text in form.
 ghost use Rattle.std.specs.Prelude.{◌≡◌, ◌<◌, ◌^◌, ◌↔◌, [], ◌∷◌, ◌++◌, length, All, IsTrue, slice_get};
 ghost use Rattle.text_lines.specs.Lines.{view, views, Fits};
-ghost use Rattle.controller_file.specs.Table.{AreSmall};
+ghost use Rattle.controller_file.specs.Table.{AreSizesSmall};
 ghost use Rattle.text_lines.specs.Grammar.{IsBeginning};
 ghost use Rattle.controller_file.specs.Following.{IsFrom, AreSizes, AreBits, AreUpper, word_count, InRange, head_block, head_blocks, IsWhole};
 
@@ -28,7 +28,7 @@ pub fn can_follow(before: &[Line], line: &Line) -> bool
 
 // Whether the numbers of a line after these are in range, where they are as many as its place has. The lists after the bounds of the states have any.
 fn is_in_range(before: &[Line], sizes: Sizes, numbers: &[i128]) -> bool
-    requires small { AreSmall sizes }
+    requires small { AreSizesSmall sizes }
     requires few { length before.now < 2 ^ 40 }
     ensures { IsTrue result ↔ InRange (head_block sizes (length before.now)) (views before.now) sizes numbers.now }
 {
@@ -82,7 +82,7 @@ fn head_at(place: usize) -> Option<Block>
 
 // The words of memory of a run.
 fn words(sizes: Sizes) -> usize
-    requires { AreSmall sizes }
+    requires { AreSizesSmall sizes }
     ensures { result ≡ word_count sizes }
 {
     sizes.n + sizes.m + 2 * (sizes.p * sizes.stages)

@@ -3,7 +3,7 @@ ghost use Rattle.std.specs.Prelude.{◌≡◌, ◌<◌, [], IfOk, All, length, m
 ghost use Rattle.qp_model.specs.machine.Controller.{Numbers, numbers, IsInForm};
 ghost use Rattle.text_lines.specs.Lines.{views, small};
 ghost use Rattle.controller_file.specs.Lines.{line_blocks, keyed_lines};
-ghost use Rattle.controller_file.specs.Table.{text_table, block_at, sizes_of, AreSmall};
+ghost use Rattle.controller_file.specs.Table.{text_table, block_at, sizes_of, AreSizesSmall};
 ghost use Rattle.text_lines.specs.Blocks.{total_rows};
 ghost use Rattle.controller_file.specs.Following.{IsWhole};
 ghost use Rattle.controller_file.specs.Reading.{list_of_block, matrix_in, IsFront, IsBack};
@@ -93,7 +93,8 @@ fn smalls(alloc: Global, numbers: &[i128]) -> Result<Vec<u32>, AllocError>
 // The numbers of the one line of a block.
 fn list_of(alloc: Global, lines: &[Line], block: Block) -> Result<Vec<i128>, AllocError>
     requires { IsWhole (views lines.now) }
-    ensures { IfOk result (λ v. (c : Numbers) → IsInForm c → keyed_lines c ≡ views lines.now → v.items ≡ list_of_block (line_blocks c) (place_in_table block)) }
+    ensures { IfOk result (λ v.
+        (c : Numbers) → IsInForm c → keyed_lines c ≡ views lines.now → v.items ≡ list_of_block (line_blocks c) (place_in_table block)) }
 {
     numbers_in(block_in(lines, block), 0).to_vec(alloc)
 }
@@ -101,7 +102,8 @@ fn list_of(alloc: Global, lines: &[Line], block: Block) -> Result<Vec<i128>, All
 // The numbers of the lines of a block as rows.
 fn matrix_of(alloc: Global, lines: &[Line], block: Block) -> Result<Mat, AllocError>
     requires { IsWhole (views lines.now) }
-    ensures { IfOk result (λ m. (c : Numbers) → IsInForm c → keyed_lines c ≡ views lines.now → m ≡ matrix_in (line_blocks c) (place_in_table block) (block_at (sizes_of c) (place_in_table block)).2) }
+    ensures { IfOk result (λ m. (c : Numbers) → IsInForm c → keyed_lines c ≡ views lines.now →
+        m ≡ matrix_in (line_blocks c) (place_in_table block) (block_at (sizes_of c) (place_in_table block)).2) }
 {
     rows_of(
         alloc,
@@ -125,7 +127,8 @@ fn rows_of(alloc: Global, cols: usize, lines: &[Line]) -> Result<Mat, AllocError
 // The lines of a block of the table.
 fn block_in<'a, 't>(lines: &'a [Line<'t>], block: Block) -> &'a [Line<'t>]
     requires { IsWhole (views lines.now) }
-    ensures { (c : Numbers) → IsInForm c → keyed_lines c ≡ views lines.now → views result.now ≡ slice_index_or (line_blocks c) (place_in_table block) [] }
+    ensures { (c : Numbers) → IsInForm c → keyed_lines c ≡ views lines.now →
+        views result.now ≡ slice_index_or (line_blocks c) (place_in_table block) [] }
 {
     let blocks = table(sizes_in(lines));
     let place = place_of(block);

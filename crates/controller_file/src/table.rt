@@ -1,11 +1,12 @@
 // The lines of a text, by its version and its sizes: their words, how many there are of each, and how many numbers each has.
 ghost use Rattle.std.specs.Prelude.{◌≡◌, ◌↔◌, IsTrue, None, Some, MatchOption, map, slice_get};
 ghost use Rattle.text_lines.specs.Lines.{views, place};
-ghost use Rattle.controller_file.specs.Table.{text_table, places, AreSmall, Says};
+ghost use Rattle.controller_file.specs.Table.{text_table, places, AreSizesSmall, Says};
+ghost use Rattle.text_lines.specs.Blocks.{total_rows};
 ghost use Rattle.text_lines.specs.Grammar.{IsBeginning};
 ghost use Rattle.controller_file.specs.Following.{IsWhole};
 
-use text_lines::{Line, number_in, place_in, small};
+use text_lines::{Line, number_in, place_in, rows_before, small};
 
 /// The version of a text, and its numbers of states, of inputs a stage, of stages and of rows.
 #[derive(Clone, Copy)]
@@ -19,7 +20,7 @@ pub struct Sizes {
 
 /// Blocks of lines in their order, each a word, how many lines have it, and how many numbers each of them has.
 pub fn table(sizes: Sizes) -> [(&'static str, usize, usize); 16]
-    requires { AreSmall sizes }
+    requires { AreSizesSmall sizes }
     ensures { map (λ block. (block.0.now, block.1, block.2)) result ≡ text_table sizes }
 {
     let Sizes {
@@ -66,7 +67,7 @@ pub fn sizes_in(lines: &[Line]) -> Sizes
 
 /// The word of the line with this index, and how many numbers it has. None past the last line.
 pub fn place_at(sizes: Sizes, index: usize) -> Option<(&'static str, usize)>
-    requires { AreSmall sizes }
+    requires { AreSizesSmall sizes }
     ensures { MatchOption result (slice_get (places sizes) index ≡ None) (λ p. slice_get (places sizes) index ≡ Some (place p.0.now p.1)) }
 {
     place_in(&table(sizes), index)
@@ -78,4 +79,13 @@ pub fn is_whole(lines: &[Line]) -> bool
     ensures { IsTrue result ↔ IsWhole (views lines.now) }
 {
     place_at(sizes_in(lines), lines.len()).is_none()
+}
+
+/// How many lines a text of such sizes has.
+pub fn line_count(sizes: Sizes) -> usize
+    requires { AreSizesSmall sizes }
+    ensures { result ≡ total_rows (text_table sizes) }
+{
+    let blocks = table(sizes);
+    rows_before(&blocks, blocks.len())
 }

@@ -59,7 +59,8 @@ fn push_block(
     key: &str,
 ) -> Result<(), AllocError>
     requires { key.now ≡ (slice_index_or (text_table (sizes_of (numbers parts.now))) (place_in_table block) ([], 0, 0)).0 }
-    ensures text { OnOk result (string_bytes text.new ≡ string_bytes text.old ++ text_of (map spelled (slice_index_or (line_blocks (numbers parts.now)) (place_in_table block) []))) }
+    ensures text { OnOk result (string_bytes text.new ≡ string_bytes text.old
+        ++ text_of (map spelled (slice_index_or (line_blocks (numbers parts.now)) (place_in_table block) []))) }
     ensures word { OnOk result (All Fits (slice_index_or (line_blocks (numbers parts.now)) (place_in_table block) [])) }
 {
     match block {
@@ -110,7 +111,8 @@ fn push_exponents(
     parts: &ControllerParts,
 ) -> Result<(), AllocError>
     requires { key.now ≡ codes "exps" }
-    ensures text { OnOk result (string_bytes text.new ≡ string_bytes text.old ++ text_of (map spelled (slice_index_or (line_blocks (numbers parts.now)) 6 []))) }
+    ensures text { OnOk result (string_bytes text.new ≡ string_bytes text.old
+        ++ text_of (map spelled (slice_index_or (line_blocks (numbers parts.now)) 6 []))) }
     ensures word { OnOk result (All Fits (slice_index_or (line_blocks (numbers parts.now)) 6 [])) }
 {
     if parts.version == FIRST_VERSION {

@@ -1,12 +1,11 @@
 -- The fields of a record, one by one.
-use Rattle.std.proofs.Common.{◌≡◌, ◌≢◌, ℕ, zero, suc, ◌+◌, ◌-◌, ◌*◌, ◌<◌, ◌≤◌, ◌^◌, Bool, true, false, ℤ, pos, List, [], ◌∷◌, ◌++◌, length, get_or, Some, None, if◌then◌else◌, refl, sym, ap, subst, ◌∙◌, arith, below_more, length-append}
-use Rattle.std.specs.Prelude.{sum_by}
+use Rattle.std.proofs.Common.{◌≡◌, ℕ, zero, suc, ◌+◌, ◌*◌, ◌<◌, ◌≤◌, ◌^◌, Bool, true, false, ℤ, pos, List, [], ◌∷◌, ◌++◌, length, Some, if◌then◌else◌, refl, ap, subst, ◌∙◌, arith, below_more, length-append}
 use Rattle.std.proofs.lemmas.List.Sums.{sum_by-cons}
 use Rattle.std.proofs.lemmas.List.{length_push, get_or_append_left, get_or_push}
 use Rattle.integer_algebra.specs.Sums.{at}
 use Rattle.csv.specs.Records.{field_at}
 use Rattle.policy_file.specs.NumberField.{IsNumberField}
-use Rattle.policy_file.specs.Records.{RecordRule, HoldsNumbers, IsFirstWrong, record_at, field_of, field_room}
+use Rattle.policy_file.specs.Records.{RecordRule, IsFirstWrong, field_of, field_room}
 use Rattle.policy_file.specs.Layout.{rule_of}
 use Rattle.policy_file.specs.declared.record.Layout.{Layout}
 use Rattle.policy_file.proofs.RuleFacts.{rule_number}

@@ -1,5 +1,5 @@
 -- The rules of the fields.
-use Rattle.std.proofs.Common.{◌≡◌, ℕ, ℤ, List, true}
+use Rattle.std.proofs.Common.{ℕ, ℤ, List}
 use Rattle.policy_file.specs.NumberField.{IsNumberField}
 use Rattle.policy_file.specs.Layout.{rule_of, IsInRange}
 use Rattle.policy_file.specs.declared.record.Layout.{Layout}

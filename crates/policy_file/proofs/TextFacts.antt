@@ -1,13 +1,12 @@
 -- A text record by record.
-use Rattle.std.proofs.Common.{◌≡◌, ◌≢◌, ◌⊎◌, ℕ, zero, suc, ◌+◌, ◌-◌, ◌*◌, ◌<◌, ◌≤◌, ◌^◌, ℤ, pos, List, [], ◌∷◌, ◌++◌, length, map, get_or, Result, Ok, Err, refl, sym, ap, subst, ◌∙◌, arith, inl, inr}
+use Rattle.std.proofs.Common.{◌≡◌, ◌⊎◌, ℕ, ◌+◌, ◌<◌, ◌≤◌, ◌^◌, ℤ, List, [], length, map, get_or, Result, Ok, Err, sym, ap, ◌∙◌, arith, inl, inr}
 use Rattle.std.specs.Prelude.{IfErr}
 use Rattle.std.specs.Result.{IsErrAnd}
 use Rattle.std.proofs.lemmas.List.{get_or-map, length-map}
 use Rattle.csv.specs.Records.{Row, fields_of}
-use Rattle.mat_int.specs.Matrix.{Matrix, row_of}
 use Rattle.number_text.specs.declared.text_fault.TextFault.{TextFault}
-use Rattle.number_text.specs.declared.text_fault.TextFault.TheVariants.{NotToml, Key, Shape, Range, Fields, Number, Count, Memory}
-use Rattle.policy_file.specs.Records.{RecordRule, HoldsNumbers, IsFirstWrong, IsRecordFault, HoldUpTo, IsRecordsFault, records_of, record_at, field_of, field_room}
+use Rattle.number_text.specs.declared.text_fault.TextFault.TheVariants.{Memory}
+use Rattle.policy_file.specs.Records.{RecordRule, HoldsNumbers, IsRecordFault, IsRecordsFault, records_of, record_at, field_room}
 use Rattle.policy_file.proofs.RecordFacts.{records_few, records_room}
 
 -- a record that was lent
@@ -33,7 +32,8 @@ passed_on (Ok a) P e h p = tt
 passed_on (Err x) P e h p = rw h p
 
 -- the first record that is wrong
-pub first_fault : (rule : RecordRule) (count : ℕ) (rows : List Row) (text : List ℕ) (row : Row) (i : ℕ) (fault : TextFault) (nums : ℕ → List ℤ) → map fields_of rows ≡ records_of text → i < length rows → row ≡ get_or rows i row →
+pub first_fault : (rule : RecordRule) (count : ℕ) (rows : List Row) (text : List ℕ) (row : Row) (i : ℕ) (fault : TextFault) (nums : ℕ → List ℤ) →
+    map fields_of rows ≡ records_of text → i < length rows → row ≡ get_or rows i row →
     ((e : ℕ) → e < i → HoldsNumbers rule count (record_at (records_of text) e) (nums e)) →
     (fault ≡ Memory) ⊎ IsRecordFault rule count (i + 1) (fields_of row) fault → (fault ≡ Memory) ⊎ IsRecordsFault rule count (records_of text) fault
 first_fault rule count rows text row i fault nums e l h before (inl m) = inl m

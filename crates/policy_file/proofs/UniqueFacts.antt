@@ -1,9 +1,9 @@
 -- A text is right in one way, or has one first fault.
-use Rattle.std.proofs.Common.{◌≡◌, ◌≢◌, ◌⊎◌, ℕ, zero, suc, ◌+◌, ◌-◌, ◌<◌, ◌≤◌, ℤ, pos, List, [], ◌∷◌, ◌++◌, length, get_or, take, drop, Result, Ok, Err, refl, sym, ap, subst, ◌∙◌, arith, inl, inr, false, true, Bool, neg_ℤ, ◌*◌, ◌^◌, if◌then◌else◌}
+use Rattle.std.proofs.Common.{◌≡◌, ◌≢◌, ◌⊎◌, ℕ, suc, ◌+◌, ◌-◌, ◌<◌, ◌≤◌, ℤ, pos, List, [], ◌∷◌, ◌++◌, length, get_or, take, drop, Result, Ok, Err, refl, sym, ap, ◌∙◌, arith, inl, inr, false, true, Bool, neg_ℤ, ◌^◌, if◌then◌else◌}
 use Rattle.std.specs.Prelude.{IfOk, IfErr, MatchResult}
 use Rattle.std.specs.Str.Parse.{digits_value}
 use Rattle.std.specs.Int.{IsInRange}
-use Rattle.std.proofs.lemmas.Bool.{cases_lt, cases_eq}
+use Rattle.std.proofs.lemmas.Bool.{cases_lt}
 use Rattle.std.proofs.lemmas.List.{ext_get_or, take_at, drop_at, get_or-append-add, get_or_append_left, get_or_default, length-append}
 use Rattle.std.proofs.lemmas.Int.{ints}
 use Rattle.integer_algebra.specs.Sums.{at}
@@ -11,12 +11,12 @@ use Rattle.mat_int.specs.Matrix.{Matrix, row_of}
 use Rattle.number_text.specs.declared.text_fault.TextFault.{TextFault}
 use Rattle.number_text.specs.declared.text_fault.TextFault.TheVariants.{NotToml, Key, Shape, Range, Fields, Number, Count, Memory}
 use Rattle.qp_model.specs.problem.Design.{Design, entries}
-use Rattle.qp_model.specs.problem.Policy.{Plans, plans_of, IsPlanDenominator, IsPlanNumerator, IsPolicyFor}
+use Rattle.qp_model.specs.problem.Policy.{Plans, plans_of, IsPlanNumerator, IsPolicyFor}
 use Rattle.qp_model.specs.declared.policy.Policy.{Policy}
 use Rattle.policy_file.specs.NumberField.{IsDigitsField, IsNumberField}
 use Rattle.policy_file.specs.Records.{RecordRule, HoldsNumbers, IsFirstWrong, IsRecordFault, HoldUpTo, IsRecordsFault, records_of, record_at, field_of}
 use Rattle.policy_file.specs.StatesText.{state_rule, IsStatesText, IsStatesFault}
-use Rattle.policy_file.specs.PolicyText.{policy_rule, record_length, IsPolicyText, IsCountFault, ArePlans, IsPlansFault}
+use Rattle.policy_file.specs.PolicyText.{policy_rule, record_length, IsPolicyText, ArePlans, IsPlansFault}
 use Rattle.policy_file.proofs.FieldFacts.{digits_end, each_digit, first_digit, no_space, number_part, signed_text}
 use Rattle.policy_file.proofs.MatrixFacts.{same_matrix}
 
@@ -170,15 +170,22 @@ plans_not bytes d number p e h (inr f) = f.here h.records
 same_plans : (a b : Plans) → a.denominators ≡ b.denominators → a.numerators ≡ b.numerators → a ≡ b
 same_plans a b d n = (λ i. record { denominators = d i; numerators = n i })
 
-plans_same : (bytes : List ℕ) (d : Design) (number : ℕ) (a b : Plans) → ArePlans bytes d number a → ArePlans bytes d number b → a ≡ b
-plans_same bytes d number a b h k = same_plans a b
-    (ext_get_or (pos 0) a.denominators b.denominators (h.count ∙ sym k.count) (λ e l. ap (λ (zs : List ℤ). at zs 0) (both e (rw (← h.count) l))))
-    (same_matrix a.numerators b.numerators (h.cols ∙ sym k.cols) (h.rows ∙ sym k.rows) (λ e l. ap (drop 1) (both e (rw (← h.rows) l))))
+-- so many plans, each in the fields of a record
+pub plans_by : (d : Design) (number : ℕ) (fields : ℕ → List (List ℕ)) (a b : Plans) → length a.denominators ≡ number → length b.denominators ≡ number →
+    length a.numerators.rows ≡ number → length b.numerators.rows ≡ number → a.numerators.cols ≡ b.numerators.cols →
+    ((e : ℕ) → e < number → HoldsNumbers policy_rule (record_length d) (fields e) (at a.denominators e ∷ row_of a.numerators e)) →
+    ((e : ℕ) → e < number → HoldsNumbers policy_rule (record_length d) (fields e) (at b.denominators e ∷ row_of b.numerators e)) → a ≡ b
+plans_by d number fields a b long other rows others cols h k = same_plans a b
+    (ext_get_or (pos 0) a.denominators b.denominators (long ∙ sym other) (λ e l. ap (λ (zs : List ℤ). at zs 0) (both e (rw (← long) l))))
+    (same_matrix a.numerators b.numerators cols (rows ∙ sym others) (λ e l. ap (drop 1) (both e (rw (← rows) l))))
   where
     both : (e : ℕ) → e < number → at a.denominators e ∷ row_of a.numerators e ≡ at b.denominators e ∷ row_of b.numerators e
-    both e m = same_numbers policy_rule (record_length d) (record_at (records_of bytes) e) _ _ policy_functional (h.each e m) (k.each e m)
+    both e m = same_numbers policy_rule (record_length d) (fields e) _ _ policy_functional (h e m) (k e m)
 
-plans_one : (bytes : List ℕ) (d : Design) (number : ℕ) (e f : TextFault) → IsPlansFault bytes d number e → IsPlansFault bytes d number f → e ≡ f
+plans_same : (bytes : List ℕ) (d : Design) (number : ℕ) (a b : Plans) → ArePlans bytes d number a → ArePlans bytes d number b → a ≡ b
+plans_same bytes d number a b h k = plans_by d number (record_at (records_of bytes)) a b h.count k.count h.rows k.rows (h.cols ∙ sym k.cols) h.each k.each
+
+pub plans_one : (bytes : List ℕ) (d : Design) (number : ℕ) (e f : TextFault) → IsPlansFault bytes d number e → IsPlansFault bytes d number f → e ≡ f
 plans_one bytes d number e f (inl h) (inl k) = same_first_fault policy_rule (record_length d) (records_of bytes) e f h k
 plans_one bytes d number e f (inl h) (inr k) = absurd (held_or_wrong policy_rule (record_length d) (length (records_of bytes)) (records_of bytes) e (omega arith) k.each h)
 plans_one bytes d number e f (inr h) (inl k) = absurd (held_or_wrong policy_rule (record_length d) (length (records_of bytes)) (records_of bytes) f (omega arith) h.each k)
@@ -198,21 +205,26 @@ field_range field z r = rw r.value (sized r.minus r.size (omega (arith, r.digits
     sized true n l = omega (arith, ints)
     sized false n l = l
 
-pub policy_sized : (bytes : List ℕ) (d : Design) (p : Plans) → IsPolicyText bytes d p → IsPolicyFor d p
-policy_sized bytes d p h = record {
-  count = h.count;
-  denominators = λ e z l. (let m : e < 2 ^ d.states = omega (arith, h.count) in rw (get_or_default p.denominators e z (pos 0) l) (((h.each e m).each 0 (omega arith)).1 refl));
-  rows = h.rows;
-  cols = h.cols;
-  regular = λ e row l. (let m : e < 2 ^ d.states = omega (arith, h.rows) in rw (get_or_default p.numerators.rows e row [] l) (omega (arith, (h.each e m).numbers)));
+-- a plan for each corner, each in the fields of a record
+pub sized_by : (d : Design) (p : Plans) (fields : ℕ → List (List ℕ)) → length p.denominators ≡ 2 ^ d.states → length p.numerators.rows ≡ 2 ^ d.states → p.numerators.cols ≡ entries d →
+    ((e : ℕ) → e < 2 ^ d.states → HoldsNumbers policy_rule (record_length d) (fields e) (at p.denominators e ∷ row_of p.numerators e)) → IsPolicyFor d p
+sized_by d p fields count rows cols each = record {
+  count = count;
+  denominators = λ e z l. (let m : e < 2 ^ d.states = omega (arith, count) in rw (get_or_default p.denominators e z (pos 0) l) (((each e m).each 0 (omega arith)).1 refl));
+  rows = rows;
+  cols = cols;
+  regular = λ e row l. (let m : e < 2 ^ d.states = omega (arith, rows) in rw (get_or_default p.numerators.rows e row [] l) (omega (arith, (each e m).numbers)));
   numerators = λ e row l i z k. (
-      let m : e < 2 ^ d.states = omega (arith, h.rows) in
+      let m : e < 2 ^ d.states = omega (arith, rows) in
       let r : get_or p.numerators.rows e row ≡ row_of p.numerators e = get_or_default p.numerators.rows e row [] l in
       let o : i < length (row_of p.numerators e) = rw (← r) k in
       rw (r, get_or_default (row_of p.numerators e) i z (pos 0) o)
-      (field_range _ _ ((h.each e m).each (suc i) (omega (arith, o, (h.each e m).numbers))).0)
+      (field_range _ _ ((each e m).each (suc i) (omega (arith, o, (each e m).numbers))).0)
       );
 }
+
+policy_sized : (bytes : List ℕ) (d : Design) (p : Plans) → IsPolicyText bytes d p → IsPolicyFor d p
+policy_sized bytes d p h = sized_by d p (record_at (records_of bytes)) h.count h.rows h.cols h.each
 
 pub policy_all_sized : (bytes : List ℕ) (d : Design) (r : Result Policy TextFault) → IfOk r (λ p. IsPolicyText bytes d (plans_of p)) → IfOk r (λ p. IsPolicyFor d (plans_of p))
 policy_all_sized bytes d (Ok p) h = policy_sized bytes d (plans_of p) h

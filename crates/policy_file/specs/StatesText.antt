@@ -1,5 +1,5 @@
 -- A states text: records of as many numbers as there are states.
-use Rattle.std.specs.Prelude.{◌≡◌, ℕ, ◌<◌, ℤ, List, length}
+use Rattle.std.specs.Prelude.{◌≡◌, ℕ, ◌<◌, List, length}
 use Rattle.mat_int.specs.Matrix.{Matrix, row_of}
 use Rattle.number_text.specs.declared.text_fault.TextFault.{TextFault}
 use Rattle.policy_file.specs.NumberField.{IsNumberField}

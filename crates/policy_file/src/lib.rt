@@ -7,6 +7,6 @@ mod record;
 mod text;
 
 pub use number::number_field;
-pub use read::{read_plans, read_policy, read_states};
+pub use read::{corner_count, read_plans, read_policy, read_states};
 pub use record::{Layout, numbers_of};
 pub use text::all_records;

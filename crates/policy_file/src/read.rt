@@ -62,8 +62,10 @@ pub fn read_policy(alloc: Global, bytes: &[u8], design: &Design) -> Result<Polic
     ensures fault { IfErr result (λ e. (e ≡ Memory) ⊎ IsPolicyFault bytes.now (design_of design.now) e) }
 
     // The other way round, with nothing but out of memory in between.
-    ensures right { (plans : Plans) → IsPolicyText bytes.now (design_of design.now) plans → MatchResult result (λ p. plans_of p ≡ plans) (λ e. e ≡ Memory) }
-    ensures first { (told : TextFault) → IsPolicyFault bytes.now (design_of design.now) told → MatchResult result (λ _. ⊥) (λ e. (e ≡ told) ⊎ (e ≡ Memory)) }
+    ensures right { (plans : Plans) → IsPolicyText bytes.now (design_of design.now) plans →
+        MatchResult result (λ p. plans_of p ≡ plans) (λ e. e ≡ Memory) }
+    ensures first { (told : TextFault) → IsPolicyFault bytes.now (design_of design.now) told →
+        MatchResult result (λ _. ⊥) (λ e. (e ≡ told) ⊎ (e ≡ Memory)) }
 {
     read_plans(alloc, bytes, design, corner_count(design.parts().states))
 }
@@ -84,8 +86,10 @@ pub fn read_plans(
     ensures fault { IfErr result (λ e. (e ≡ Memory) ⊎ IsPlansFault bytes.now (design_of design.now) number e) }
 
     // The other way round, with nothing but out of memory in between.
-    ensures right { (plans : Plans) → ArePlans bytes.now (design_of design.now) number plans → MatchResult result (λ p. plans_of p ≡ plans) (λ e. e ≡ Memory) }
-    ensures first { (told : TextFault) → IsPlansFault bytes.now (design_of design.now) number told → MatchResult result (λ _. ⊥) (λ e. (e ≡ told) ⊎ (e ≡ Memory)) }
+    ensures right { (plans : Plans) → ArePlans bytes.now (design_of design.now) number plans →
+        MatchResult result (λ p. plans_of p ≡ plans) (λ e. e ≡ Memory) }
+    ensures first { (told : TextFault) → IsPlansFault bytes.now (design_of design.now) number told →
+        MatchResult result (λ _. ⊥) (λ e. (e ≡ told) ⊎ (e ≡ Memory)) }
 {
     plans_in(alloc, bytes, design.parts(), number)
 }
@@ -121,8 +125,8 @@ fn plans_in(
     Ok(Policy { dens, plans })
 }
 
-// How many corners a box of so many states has.
-fn corner_count(states: usize) -> usize
+/// How many corners a box of so many states has.
+pub fn corner_count(states: usize) -> usize
     requires { states ≤ most_states last_version }
     ensures { result ≡ 2 ^ states }
 {

@@ -5,7 +5,7 @@ use Rattle.text_lines.specs.Lines.{views}
 use Rattle.text_lines.specs.Blocks.{Block, Row, blocks_of, total_rows}
 use Rattle.text_lines.proofs.Blocks.{no_row}
 use Rattle.controller_file.specs.Lines.{line_blocks}
-use Rattle.controller_file.specs.Table.{text_table, AreSmall, Says}
+use Rattle.controller_file.specs.Table.{text_table, AreSizesSmall, Says}
 use Rattle.controller_file.specs.Following.{IsWhole}
 use Rattle.controller_file.proofs.Blocks.{said_sizes, row_at, part_is, part_within, few_rows}
 use Rattle.text_lines.proofs.Beginnings.{begun}
@@ -21,7 +21,7 @@ room : (lines : List Line) (rs : List Row) (z : Sizes) (k start : ℕ) → IsWho
 room lines rs z k start w says same lt e =
     omega (arith, (row_at rs z k same lt).1, part_within lines w.numbers z k w.form w.lines (said_sizes (views lines) z w.numbers w.lines says) lt, before rs z k start same e)
 
-few : (rs : List Row) (z : Sizes) → blocks_of rs ≡ text_table z → AreSmall z → total_rows (blocks_of rs) < 2 ^ 64
+few : (rs : List Row) (z : Sizes) → blocks_of rs ≡ text_table z → AreSizesSmall z → total_rows (blocks_of rs) < 2 ^ 64
 few rs z same small = omega (arith, few_rows z small, ap total_rows same)
 
 pub rows_before-start-requires-clause-few : goal.rows_before-start-requires-clause-few

@@ -25,7 +25,8 @@ loop-line-preserved c =
     let f = λ (k : Keyed). k.numbers in
     let here = here_is c.args.lines.now i l c.loop-line-test.true c.line-item.is in
     let lt : i < length vs = omega (arith, length-map c.args.lines.now view, c.loop-line-test.true) in
-    let more : map f (take (i + 1) vs) ≡ map f (take i vs) ++ l.numbers.items ∷ [] = ap (map f) (take_more vs i (view l) lt) ∙ map-append f (take i vs) (get_or vs i (view l) ∷ []) ∙ ap (λ (k : Keyed). map f (take i vs) ++ k.numbers ∷ []) here in
+    let more : map f (take (i + 1) vs) ≡ map f (take i vs) ++ l.numbers.items ∷ [] = ap (map f) (take_more vs i (view l) lt)
+    ∙ map-append f (take i vs) (get_or vs i (view l) ∷ []) ∙ ap (λ (k : Keyed). map f (take i vs) ++ k.numbers ∷ []) here in
     let before = c.loop-line.invariant in
     let value = c.deref.ensures.value in
     c.in_ok-push_row.ensures.ok ∙ (λ j. record { cols = (before j).cols; rows = (before j).rows ++ value j ∷ [] }) ∙ ap (λ (rows : List (List ℤ)). record { cols = c.args.cols; rows = rows }) (sym more)

@@ -21,7 +21,8 @@ read : (bytes : List ℕ) (told : Result (Vec Line) ℕ) (v : Vec Line) (lines :
     MatchResult told (λ v. IsWhole (views v.items) × (bytes ≡ text_of (map spelled (views v.items)))) (IsBadLine bytes) → told ≡ Ok v → lines ≡ v.items
     → ((c : Numbers) → IsInForm c → keyed_lines c ≡ views lines → numbers parts ≡ c) → IsTextInForm bytes (numbers parts)
 read bytes told v lines parts h is same made =
-    let both : IsWhole (views v.items) × (bytes ≡ text_of (map spelled (views v.items))) = subst (λ (r : Result (Vec Line) ℕ). MatchResult r (λ v. IsWhole (views v.items) × (bytes ≡ text_of (map spelled (views v.items)))) (IsBadLine bytes)) is h in
+    let both : IsWhole (views v.items) × (bytes ≡ text_of (map spelled (views v.items))) =
+    subst (λ (r : Result (Vec Line) ℕ). MatchResult r (λ v. IsWhole (views v.items) × (bytes ≡ text_of (map spelled (views v.items)))) (IsBadLine bytes)) is h in
     let w = both.0 in
     let formed : IsTextInForm bytes w.numbers = record { form = w.form; word = w.word; text = both.1 ∙ ap (λ (ls : List Keyed). text_of (map spelled ls)) (sym w.lines) ∙ keyed_text w.numbers } in
     subst (λ (c : Numbers). IsTextInForm bytes c) (sym (made w.numbers w.form (w.lines ∙ ap views (sym same)))) formed

@@ -51,7 +51,8 @@ loop-block-preserved c =
     let before = string_bytes c.loop-block.text in
     record {
       text = block_pushed bs i before (string_bytes c.push_block.new.text) lt c.loop-block.invariant.text (c.in_ok-push_block.ensures.text ∙ ap (λ (j : ℕ). before ++ text_of (map spelled (get_or bs j []))) same);
-      word = subst (λ (ls : List Keyed). All Fits ls) (sym (chain_more bs i lt)) (All-append Fits (chained (take i bs)) (get_or bs i []) c.loop-block.invariant.word (subst (λ (j : ℕ). All Fits (get_or bs j [])) same c.in_ok-push_block.ensures.word));
+      word = subst (λ (ls : List Keyed). All Fits ls) (sym (chain_more bs i lt))
+          (All-append Fits (chained (take i bs)) (get_or bs i []) c.loop-block.invariant.word (subst (λ (j : ℕ). All Fits (get_or bs j [])) same c.in_ok-push_block.ensures.word));
     }
 
 pub returns-clause-text : goal.returns-clause-text

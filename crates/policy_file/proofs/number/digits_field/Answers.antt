@@ -1,7 +1,6 @@
-use Rattle.std.proofs.Common.{◌≡◌, ◌<◌, ◌≤◌, ℕ, List, length, drop, take, subst, sym, ap, ◌∙◌, rules, arith, Some, None}
+use Rattle.std.proofs.Common.{arith}
 use Rattle.std.proofs.lemmas.List.{take_rest}
-use Rattle.policy_file.specs.NumberField.{IsDigitsField}
-use Rattle.policy_file.proofs.FieldFacts.{digits_end, digits_cut, spaces_end, digits_found, cut_digits, found_some, only_some}
+use Rattle.policy_file.proofs.FieldFacts.{digits_end, spaces_end, cut_digits, found_some, only_some}
 use Rattle.policy_file.proofs.number.digits_field.Goals as goal
 use Rattle.policy_file.proofs.number.digits_field.Goals.{then-count-gt19-via-then-count-gt19, then-count-gt19-via-else-count-gt19+then-spaces_before-rest}
 

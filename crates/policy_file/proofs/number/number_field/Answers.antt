@@ -1,9 +1,8 @@
-use Rattle.std.proofs.Common.{◌≡◌, ◌<◌, ◌≤◌, ℕ, ℤ, List, drop, subst, sym, ap, ◌∙◌, rules, arith, Some, None}
+use Rattle.std.proofs.Common.{◌≡◌, sym, ap, ◌∙◌, rules, Some}
 use Rattle.std.specs.Int.{w128}
 use mir.Val.{SFits}
 use Rattle.std.proofs.lemmas.Int.{to_z-of_z}
 use Rattle.std.proofs.lemmas.List.{take_rest}
-use Rattle.policy_file.specs.NumberField.{IsDigitsField}
 use Rattle.policy_file.proofs.FieldFacts.{number_found, number_part}
 use Rattle.policy_file.proofs.number.number_field.Goals as goal
 

@@ -29,8 +29,12 @@ returns-clause-fault c =
 
 pub returns-clause-right : goal.returns-clause-right
 returns-clause-right c =
-    subst (λ (n : ℕ). (plans : Plans) → ArePlans c.args.bytes.now (design_of c.args.design.now) n plans → MatchResult c.read_plans.result (λ p. plans_of p ≡ plans) (λ e. e ≡ Memory)) (corners _ _ _ c.corner_count.ensures c.parts.ensures.value) c.read_plans.ensures.right
+    subst (λ (n : ℕ). (plans : Plans) → ArePlans c.args.bytes.now (design_of c.args.design.now) n plans →
+    MatchResult c.read_plans.result (λ p. plans_of p ≡ plans) (λ e. e ≡ Memory))
+    (corners _ _ _ c.corner_count.ensures c.parts.ensures.value) c.read_plans.ensures.right
 
 pub returns-clause-first : goal.returns-clause-first
 returns-clause-first c =
-    subst (λ (n : ℕ). (told : TextFault) → IsPlansFault c.args.bytes.now (design_of c.args.design.now) n told → MatchResult c.read_plans.result (λ _. ⊥) (λ e. (e ≡ told) ⊎ (e ≡ Memory))) (corners _ _ _ c.corner_count.ensures c.parts.ensures.value) c.read_plans.ensures.first
+    subst (λ (n : ℕ). (told : TextFault) → IsPlansFault c.args.bytes.now (design_of c.args.design.now) n told →
+    MatchResult c.read_plans.result (λ _. ⊥) (λ e. (e ≡ told) ⊎ (e ≡ Memory)))
+    (corners _ _ _ c.corner_count.ensures c.parts.ensures.value) c.read_plans.ensures.first

@@ -1,8 +1,7 @@
-use Rattle.std.proofs.Common.{◌≡◌, ℤ, sym, ap, ◌∙◌, rules, Some, None}
+use Rattle.std.proofs.Common.{◌≡◌, ap, ◌∙◌, rules, Some}
 use Rattle.std.specs.Int.{w128}
 use mir.Val.{SFits}
 use Rattle.std.proofs.lemmas.Int.{to_z-of_z}
-use Rattle.policy_file.specs.NumberField.{IsNumberField}
 use Rattle.policy_file.proofs.RuleFacts.{rule_number, rule_range}
 use Rattle.policy_file.proofs.record.number_at.Goals as goal
 

@@ -1,5 +1,4 @@
-use Rattle.std.proofs.Common.{◌≡◌, ◌<◌, ◌+◌, ◌^◌, ℕ, ℤ, List, ◌∷◌, ◌++◌, [], length, sym, ap, ◌∙◌, rules, arith, Some, None, refl, inr}
-use Rattle.std.specs.Result.{is_ok}
+use Rattle.std.proofs.Common.{◌≡◌, ◌<◌, ◌+◌, ◌^◌, ◌∷◌, ◌++◌, [], length, ◌∙◌, rules, arith, refl, inr}
 use Rattle.csv.specs.Records.{fields_of}
 use Rattle.policy_file.specs.Layout.{rule_of}
 use Rattle.policy_file.proofs.PlaceFacts.{field_is, place_small, first_wrong, known_more}

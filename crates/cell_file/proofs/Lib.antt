@@ -1,0 +1,8 @@
+-- The lemmas by topic.
+pub mod Chains
+pub mod Alikes
+pub mod Places
+pub mod Follows
+pub mod Grammars
+pub mod Texts
+pub mod Reading

@@ -1,0 +1,125 @@
+-- The lines of cells are their text, and a text has one list of cells.
+use Rattle.std.proofs.Common.{◌≡◌, inl, inr, ◌⊎◌, ℕ, suc, pos, List, [], ◌∷◌, ◌++◌, length, get_or, take, drop, map, Vec, Result, Ok, Err, refl, sym, ap, subst, ◌∙◌, append_assoc, arith}
+use Rattle.std.specs.Prelude.{All, IfOk, IfErr, MatchResult, codes}
+use Rattle.std.specs.List.{flat_map}
+use Rattle.std.specs.declared.alloc.Global.{Global}
+use Rattle.std.proofs.lemmas.List.{take_at, drop_at, map-append}
+use Rattle.number_text.specs.Lines.{text_of}
+use Rattle.qp_model.specs.machine.Controller.{Numbers, IsInForm}
+use Rattle.qp_model.specs.machine.AbsoluteSums.{IsController}
+use Rattle.qp_model.specs.text.ControllerText.{controller_text}
+use Rattle.text_lines.specs.Lines.{Keyed, no_line, spelled}
+use Rattle.text_lines.specs.Blocks.{chained, total_rows}
+use Rattle.text_lines.specs.Grammar.{IsTextOf}
+use Rattle.text_lines.proofs.OneText.{text_append, one_text}
+use Rattle.controller_file.specs.Lines.{keyed_lines}
+use Rattle.controller_file.specs.Table.{text_table, sizes_of}
+use Rattle.controller_file.specs.declared.table.Sizes.{Sizes}
+use Rattle.controller_file.specs.declared.bad_controller.BadController.{BadController}
+use Rattle.controller_file.specs.declared.bad_controller.BadController.TheVariants.{Memory, Unsafe, Line}
+use Rattle.controller_file.proofs.Blocks.{same_sizes, line_count}
+use Rattle.controller_file.proofs.Texts.{keyed_text}
+use Rattle.controller_file.proofs.Uniqueness.{one_choice}
+use Rattle.cell_file.specs.Cells.{AreCells}
+use Rattle.cell_file.specs.Lines.{head_line, end_line, rest_lines, cells_lines, IsCellsWhole}
+use Rattle.cell_file.specs.Reading.{AreCellsOf, AreNoneOf}
+use Rattle.cell_file.specs.Text.{cells_text, IsTextOfCells, IsCellsForm, IsBadCellsLine, IsCellsText, AreUnsafe}
+use Rattle.cell_file.proofs.Alikes.{version_line, size_line}
+use Rattle.cell_file.proofs.Grammars.{cells_good}
+
+-- ---- the text
+chained_text : (cells : List Numbers) → text_of (map spelled (chained (map keyed_lines cells))) ≡ flat_map controller_text cells
+chained_text [] = refl
+chained_text (c ∷ cells) =
+    ap text_of (map-append spelled (keyed_lines c) (chained (map keyed_lines cells))) ∙ text_append (map spelled (keyed_lines c)) (map spelled (chained (map keyed_lines cells)))
+    ∙ (λ i. keyed_text c i ++ chained_text cells i)
+
+pub lines_text : (cells : List Numbers) → text_of (map spelled (cells_lines cells)) ≡ cells_text cells
+lines_text cells =
+    let all = chained (map keyed_lines cells) in
+    let rest : text_of (map spelled (rest_lines cells)) ≡ flat_map controller_text cells ++ text_of (codes "end" ∷ []) =
+    ap text_of (map-append spelled all (end_line ∷ [])) ∙ text_append (map spelled all) (spelled end_line ∷ []) ∙ ap (λ (t : List ℕ). t ++ text_of (codes "end" ∷ [])) (chained_text cells) in
+    text_append (spelled (head_line (length cells)) ∷ []) (map spelled (rest_lines cells)) ∙ ap (λ (t : List ℕ). text_of (spelled (head_line (length cells)) ∷ []) ++ t) rest
+
+pub form_from : (bytes : List ℕ) → IsTextOf IsCellsWhole bytes → IsCellsForm bytes
+form_from bytes t = record {
+  cells = t.whole.cells;
+  form = record { are = t.whole.are; text = t.text ∙ ap (λ (ls : List Keyed). text_of (map spelled ls)) (sym t.whole.lines) ∙ lines_text t.whole.cells };
+}
+
+pub form_to : (bytes : List ℕ) → IsCellsForm bytes → IsTextOf IsCellsWhole bytes
+form_to bytes t = record {
+  lines = cells_lines t.cells;
+  whole = record { cells = t.cells; are = t.form.are; lines = refl };
+  text = t.form.text ∙ sym (lines_text t.cells);
+}
+
+-- ---- one list of cells
+one_cell : (c d : Numbers) → IsInForm c → IsInForm d → (more rest : List Keyed) → keyed_lines c ++ more ≡ keyed_lines d ++ rest → (c ≡ d) × (more ≡ rest)
+one_cell c d form other more rest e =
+    let first : version_line c ≡ version_line d = ap (λ (ks : List Keyed). get_or ks 0 no_line) e in
+    let second : size_line c ≡ size_line d = ap (λ (ks : List Keyed). get_or ks 1 no_line) e in
+    let one : pos c.version ∷ [] ≡ pos d.version ∷ [] = ap (λ (k : Keyed). k.numbers) first in
+    let sizes = same_sizes c (sizes_of d) (cc one) (ap (λ (k : Keyed). k.numbers) second) in
+    let long : length (keyed_lines c) ≡ length (keyed_lines d) = line_count c form ∙ ap (λ (z : Sizes). total_rows (text_table z)) sizes ∙ sym (line_count d other) in
+    let lines : keyed_lines c ≡ keyed_lines d = sym (take_at (keyed_lines c) more (length (keyed_lines d)) long) ∙ ap (take (length (keyed_lines d))) e ∙ take_at (keyed_lines d) rest (length (keyed_lines d)) refl in
+    let left : more ≡ rest = sym (drop_at (keyed_lines c) more (length (keyed_lines d)) long) ∙ ap (drop (length (keyed_lines d))) e ∙ drop_at (keyed_lines d) rest (length (keyed_lines d)) refl in
+    (one_choice c d form other lines, left)
+
+same_rest : (xs ys : List Numbers) → All IsInForm xs → All IsInForm ys → length xs ≡ length ys → rest_lines xs ≡ rest_lines ys → xs ≡ ys
+same_rest [] [] f g long e = refl
+same_rest [] (b ∷ ys) f g long e = absurd (omega (arith, long))
+same_rest (a ∷ xs) [] f g long e = absurd (omega (arith, long))
+same_rest (a ∷ xs) (b ∷ ys) f g long e =
+    let regrouped : keyed_lines a ++ rest_lines xs ≡ keyed_lines b ++ rest_lines ys =
+    sym (append_assoc (keyed_lines a) (chained (map keyed_lines xs)) (end_line ∷ [])) ∙ e ∙ append_assoc (keyed_lines b) (chained (map keyed_lines ys)) (end_line ∷ []) in
+    let here = one_cell a b (f 0 a (omega arith)) (g 0 b (omega arith)) (rest_lines xs) (rest_lines ys) regrouped in
+    let others = same_rest xs ys (λ i d lt. f (suc i) d (omega (arith, lt))) (λ i d lt. g (suc i) d (omega (arith, lt))) (omega (arith, long)) here.1 in
+    (λ i. here.0 i ∷ others i)
+
+head_count : (n m : ℕ) → head_line n ≡ head_line m → n ≡ m
+head_count n m e = let same : pos n ∷ [] ≡ pos m ∷ [] = ap (λ (k : Keyed). k.numbers) e in cc same
+
+pub one_list : (xs ys : List Numbers) → AreCells xs → AreCells ys → cells_lines xs ≡ cells_lines ys → xs ≡ ys
+one_list xs ys f g e =
+    let long = head_count (length xs) (length ys) (ap (λ (ks : List Keyed). get_or ks 0 no_line) e) in
+    same_rest xs ys f.form g.form long (ap (drop 1) e)
+
+pub one_cells : (bytes : List ℕ) (xs ys : List Numbers) → IsTextOfCells bytes xs → IsTextOfCells bytes ys → xs ≡ ys
+one_cells bytes xs ys f g =
+    let texts : text_of (map spelled (cells_lines xs)) ≡ text_of (map spelled (cells_lines ys)) = lines_text xs ∙ sym f.text ∙ g.text ∙ sym (lines_text ys) in
+    one_list xs ys f.are g.are (one_text (cells_lines xs) (cells_lines ys) (cells_good xs f.are) (cells_good ys g.are) texts)
+
+-- ---- what reading answers
+-- of lines that are all of a text
+module _ (bytes : List ℕ) (ls : List Keyed) (w : IsCellsWhole ls) (text : bytes ≡ text_of (map spelled ls)) where
+  pub formed : IsTextOfCells bytes w.cells
+  formed = record { are = w.are; text = text ∙ ap (λ (ks : List Keyed). text_of (map spelled ks)) (sym w.lines) ∙ lines_text w.cells }
+
+  pub whole_found : (r : Result (Vec Numbers Global) BadController) → IfOk r (λ v. AreCellsOf ls v.items) → IfOk r (λ v. IsCellsText bytes v.items)
+  whole_found (Ok v) h = subst (IsCellsText bytes) (sym (h.one w.cells w.are w.lines)) (record { form = formed; safe = subst (All IsController) (h.one w.cells w.are w.lines) h.safe })
+  whole_found (Err e) h = tt
+
+  pub whole_no_line : (r : Result (Vec Numbers Global) BadController) → IfErr r (AreNoneOf ls) → (l : ℕ) → r ≡ Err (Line l) → IsBadCellsLine bytes l
+  whole_no_line (Ok v) h l is = cc
+  whole_no_line (Err e) (inl memory) l is = absurd (let never : ⊥ = cc in never)
+  whole_no_line (Err e) (inr wide) l is = let told = wide.0 in absurd (let never : ⊥ = cc in never)
+
+  pub whole_wide : (r : Result (Vec Numbers Global) BadController) → IfErr r (AreNoneOf ls) → r ≡ Err Unsafe → AreUnsafe bytes
+  whole_wide (Ok v) h is = cc
+  whole_wide (Err e) (inl memory) is = absurd (let never : ⊥ = cc in never)
+  whole_wide (Err e) (inr wide) is = record { cells = w.cells; form = formed; wide = wide.1 w.cells w.are w.lines }
+
+  pub whole_right : (r : Result (Vec Numbers Global) BadController) → IfOk r (λ v. AreCellsOf ls v.items) → IfErr r (AreNoneOf ls) → (cells : List Numbers) → IsCellsText bytes cells →
+      MatchResult r (λ v. v.items ≡ cells) (λ e. e ≡ Memory)
+  whole_right (Ok v) found fault cells t = found.one w.cells w.are w.lines ∙ one_cells bytes w.cells cells formed t.form
+  whole_right (Err e) found (inl memory) cells t = memory
+  whole_right (Err e) found (inr wide) cells t = absurd (wide.1 w.cells w.are w.lines (subst (All IsController) (one_cells bytes cells w.cells t.form formed) t.safe))
+
+  pub whole_first : (r : Result (Vec Numbers Global) BadController) (l : ℕ) → IsBadCellsLine bytes l → (r ≡ Err (Line l)) ⊎ (r ≡ Err Memory)
+  whole_first r l bad = absurd (bad.none (record { cells = w.cells; form = formed }))
+
+  pub whole_sums : (r : Result (Vec Numbers Global) BadController) → IfOk r (λ v. AreCellsOf ls v.items) → IfErr r (AreNoneOf ls) → AreUnsafe bytes → (r ≡ Err Unsafe) ⊎ (r ≡ Err Memory)
+  whole_sums (Ok v) found fault u = absurd (u.wide (subst (All IsController) (found.one w.cells w.are w.lines ∙ one_cells bytes w.cells u.cells formed u.form) found.safe))
+  whole_sums (Err e) found (inl memory) u = inr (ap Err memory)
+  whole_sums (Err e) found (inr wide) u = inl (ap Err wide.0)

@@ -1,0 +1,4 @@
+-- ---- the design of a cell, and its refusals
+pub mod CellDesigns
+-- ---- cell by cell
+pub mod Cells

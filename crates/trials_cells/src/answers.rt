@@ -1,0 +1,178 @@
+// What `serve` answers and prints. The lines of `c s` and `c beyond` are worked rows, and all are those of the model of `checks/fuzz/program.py`.
+use crate::texts::{HIGH, LEFT, LOW, RIGHT, SECOND, UNSAFE};
+use command_line::{Command, Status, command_of, status_line};
+use command_serve::serve;
+use io_edge::Words;
+use std::alloc::{AllocError, Global};
+use std::test::Fail;
+use trials_memory_edge::{MemSink, MemStore};
+use trials_worked_designs::CONTROLLER;
+
+// The bytes that are printed in one run at most.
+const ROOM: usize = 65536;
+
+// Texts of cells: a name, the first line, and the controllers. All cells of `over`, `turned` and `three` but the first hold a state that another holds.
+static CELLS: [(&str, &str, [&str; 3]); 10] = [
+    ("c", "mpc-cells 2\n", [LOW, HIGH, ""]),
+    ("over", "mpc-cells 2\n", [LOW, CONTROLLER, ""]),
+    ("turned", "mpc-cells 2\n", [CONTROLLER, LOW, ""]),
+    ("mixed", "mpc-cells 2\n", [LOW, SECOND, ""]),
+    ("three", "mpc-cells 3\n", [LOW, HIGH, CONTROLLER]),
+    ("unsafe", "mpc-cells 3\n", [LOW, HIGH, UNSAFE]),
+    ("unlike", "mpc-cells 2\n", [LOW, LEFT, ""]),
+    ("cut", "mpc-cells 3\n", [LOW, HIGH, ""]),
+    ("more", "mpc-cells 1\n", [LOW, HIGH, ""]),
+    ("pairs", "mpc-cells 2\n", [LEFT, RIGHT, ""]),
+];
+
+// Files of states.
+static STATES: [(&str, &str); 8] = [
+    ("s", "0\n1\n"),
+    ("beyond", "2\n"),
+    ("last", "1\n0\n2\n"),
+    ("none", ""),
+    ("p", "1,-2\n-3,4\n0,0\n"),
+    ("second", "0,0\n-5,7\n"),
+    ("first", "5,7\n"),
+    ("single", "1,-2\n3\n"),
+];
+
+// Arguments, and what they tell, with a comma for each line feed but the last.
+const ANSWERS: &str = "serve c s: 32 0,4096 -2224
+serve c beyond: error 12 outside-box 1 0 1
+serve c last: error 12 outside-box 3 0 1
+serve over s: 32 0,4096 -2224
+serve turned s: 4096 0,4096 -2224
+serve mixed s: 32 0,4096 -2372
+serve three last: error 12 outside-box 3 0 1
+serve unsafe s: error 11 controller 1 unsafe
+serve unlike s: error 11 controller 1 line 22
+serve cut s: error 11 controller 1 line 40
+serve more s: error 11 controller 1 line 21
+serve pairs p: 1792 0 329,1792 -42 -462,1792 -8 63
+serve pairs second: error 12 outside-box 2 0 2
+serve pairs first: error 12 outside-box 1 0 1
+serve pairs single: error 5 text 2 fields 2
+serve large s: error 11 controller 1 line 1
+serve c large: error 13 long 2
+serve gone s: error 3 read-fault 1
+serve c gone: error 3 read-fault 2
+serve s s: error 11 controller 1 line 1
+serve c p: error 5 text 2 fields 1
+";
+
+// Holds a text of cells.
+fn hold_cells(
+    alloc: Global,
+    store: &mut MemStore,
+    file: &(&str, &str, [&str; 3]),
+) -> Result<(), AllocError> {
+    let (name, head, [one, two, three]) = *file;
+    let text = format!(in alloc; "{head}{one}{two}{three}end\n")?;
+    store.hold(name, text.as_bytes())
+}
+
+// Holds a file of one byte more than one of states may have. One of cells may have more.
+fn hold_large(alloc: Global, store: &mut MemStore) -> Result<(), AllocError> {
+    let large = vec![in alloc; b'#'; 4194305]?;
+    store.hold("large", &large)
+}
+
+// A store with all these files.
+fn given(alloc: Global) -> Result<MemStore, AllocError> {
+    let mut store = MemStore::empty(alloc);
+    for file in &CELLS {
+        hold_cells(alloc, &mut store, file)?;
+    }
+    for file in &STATES {
+        store.hold(file.0, file.1.as_bytes())?;
+    }
+    hold_large(alloc, &mut store)?;
+    Ok(store)
+}
+
+// Arguments, with one space between two.
+fn words_of(alloc: Global, arguments: &str) -> Result<Words, AllocError> {
+    let mut words = Words::empty(alloc);
+    for word in arguments.split(' ') {
+        words.push(word)?;
+    }
+    Ok(words)
+}
+
+// What `serve` answers to arguments; an error where it is out of memory, so that no trial takes that for a wrong answer.
+fn answer_of(
+    alloc: Global,
+    arguments: &str,
+    store: &mut MemStore,
+    out: &mut MemSink,
+) -> Result<Status, AllocError> {
+    let words = words_of(alloc, arguments)?;
+    let Some(Command::Serve) = command_of(&words) else {
+        return Ok(Status::Usage);
+    };
+    match serve(alloc, &words, store, out) {
+        Status::Memory => Err(AllocError),
+        status => Ok(status),
+    }
+}
+
+// Whether a run tells this: the line of its answer, where it is refused, and then what it prints.
+fn tells(
+    alloc: Global,
+    arguments: &str,
+    store: &mut MemStore,
+    out: &mut MemSink,
+    text: &str,
+) -> Result<bool, AllocError> {
+    let status = answer_of(alloc, arguments, store, out)?;
+    let told = status_line(alloc, &status)?;
+    Ok(text.as_bytes().strip_prefix(told.as_slice()) == Some(out.seen()))
+}
+
+// Whether a row's arguments tell what they are to.
+fn is_right(alloc: Global, store: &mut MemStore, row: &str) -> Result<bool, AllocError> {
+    let Some((arguments, answer)) = row.split_once(": ") else {
+        return Ok(false);
+    };
+    let mut told = answer.replace(alloc, ",", "\n")?;
+    told.push('\n')?;
+    let mut out = MemSink::with(alloc, ROOM, &[])?;
+    tells(alloc, arguments, store, &mut out, told.as_str())
+}
+
+// Whether this holds for each row.
+fn are_all_right(alloc: Global) -> Result<bool, AllocError> {
+    let mut store = given(alloc)?;
+    for row in ANSWERS.lines() {
+        if !is_right(alloc, &mut store, row)? {
+            return Ok(false);
+        }
+    }
+    Ok(true)
+}
+
+#[test]
+fn answers(rt: HostRuntime) -> Result<(), Fail> {
+    assert!(rt; are_all_right(rt.alloc())?);
+    Ok(())
+}
+
+// Whether `serve`, whose print of that number fails, tells this.
+fn is_cut(alloc: Global, arguments: &str, put: usize, text: &str) -> Result<bool, AllocError> {
+    let mut store = given(alloc)?;
+    let mut out = MemSink::with(alloc, ROOM, &[put])?;
+    tells(alloc, arguments, &mut store, &mut out, text)
+}
+
+#[test]
+fn without_states(rt: HostRuntime) -> Result<(), Fail> {
+    assert!(rt; is_cut(rt.alloc(), "serve c none", 1, "")?);
+    Ok(())
+}
+
+#[test]
+fn second_line_not_printed(rt: HostRuntime) -> Result<(), Fail> {
+    assert!(rt; is_cut(rt.alloc(), "serve c s", 2, "error 4 write-fault 0\n32 0\n")?);
+    Ok(())
+}
