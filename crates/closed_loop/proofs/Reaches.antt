@@ -1,17 +1,12 @@
 -- The numbers of a turn stay within the quantity `turn`.
-use Rattle.std.proofs.Common.{inl, inr, ℕ, zero, suc, ◌-◌, ◌*◌, ◌^◌, ◌<◌, ◌≤◌, max, ℤ, pos, ◌*ℤ◌, ◌≤ℤ◌, List, [], length, get_or, unsigned_abs, FitsSigned, arith, le_refl}
-use Rattle.std.specs.Prelude.{All}
+use Rattle.std.proofs.Common.{ℕ, zero, suc, ◌-◌, ◌*◌, ◌^◌, ◌<◌, ◌≤◌, max, ℤ, pos, ◌*ℤ◌, ◌≤ℤ◌, List, length, get_or, unsigned_abs, FitsSigned, arith, le_refl}
 use Rattle.std.specs.Int.{w128}
-use Rattle.std.proofs.lemmas.Bool.{cases_lt}
 use Rattle.std.proofs.lemmas.Int.{ints, unsigned_abs-mul, fits_signed_from_abs}
 use Rattle.std.proofs.lemmas.Nat.{mul-le, mul-lt, pow_below, pow_pos}
-use Rattle.std.proofs.lemmas.List.{get_or_past}
 use Rattle.integer_algebra.specs.Sums.{at, image}
 use Rattle.integer_algebra.specs.Sizes.{amount}
 use Rattle.integer_algebra.proofs.SizeLaws.{dot_bound}
-use Rattle.mat_int.specs.Matrix.{Matrix, row_of, entry_of}
 use Rattle.mat_int.proofs.Dots.{abs-add_le}
-use Rattle.qp_model.specs.problem.Range.{IsNumerator}
 use Rattle.qp_model.specs.problem.Design.{Design}
 use Rattle.qp_model.specs.machine.Controller.{Numbers, IsSized}
 use Rattle.qp_model.specs.machine.Machine.{IsAdmissible, loaded, averaged_plan}
@@ -69,7 +64,8 @@ states_within d c xi i m g =
     amount_mono d.states _ _ (λ j h. mul-le (unsigned_abs (d.plant_a i j)) (unsigned_abs (at xi j)) (unsigned_abs (d.plant_a i j)) (coordinate_magnitude c j) (le_refl (unsigned_abs (d.plant_a i j)))
     (coordinate_within c xi j g (omega (arith, m.states))))
 
-pub inputs_within : (d : Design) (c : Numbers) (xi : List ℤ) (i : ℕ) → IsFor c d → IsController c → IsAdmissible c xi → amount d.inputs (λ l. unsigned_abs (d.plant_b i l) * unsigned_abs (at (averaged_plan c xi) l)) ≤ input_absolute_sum d c i
+pub inputs_within : (d : Design) (c : Numbers) (xi : List ℤ) (i : ℕ) → IsFor c d → IsController c → IsAdmissible c xi →
+    amount d.inputs (λ l. unsigned_abs (d.plant_b i l) * unsigned_abs (at (averaged_plan c xi) l)) ≤ input_absolute_sum d c i
 inputs_within d c xi i m s g =
     amount_mono d.inputs _ _ (λ l h. mul-le (unsigned_abs (d.plant_b i l)) (unsigned_abs (at (averaged_plan c xi) l)) (unsigned_abs (d.plant_b i l)) (c.steps * get_or (plan_magnitudes c) l 0)
     (le_refl (unsigned_abs (d.plant_b i l))) (sum_within c xi l s g (omega (arith, m.inputs))))

@@ -22,7 +22,7 @@ use Rattle.stay_check.specs.LoopStay.{shifted_successor, state_under}
 use Rattle.stay_check.proofs.LoopLaws.{unshifted}
 use Rattle.mat_int.specs.Matrix.{Matrix, entry_of, zero_matrix}
 use Rattle.closed_loop.specs.Under.{states_under, lines_under}
-use Rattle.closed_loop.specs.Answers.{AreInside, LeavesAmong, MayBegin, GrowsByLines, GrowsByFront, lines_of}
+use Rattle.closed_loop.specs.Answers.{LieInside, LeavesAmong, MayBegin, GrowsByLines, GrowsByFront, lines_of}
 use Rattle.closed_loop.specs.Shows.{TurnShows, LoopShows}
 use Rattle.closed_loop.specs.declared.fault.LoopFault.{LoopFault}
 use Rattle.closed_loop.specs.declared.fault.LoopFault.TheVariants.{Memory, TooWide, OutsideBox, WriteFault}
@@ -104,10 +104,10 @@ unshifted_matrix d c entry start m n is P h =
     zeros = λ t k i. zero_entry n k i t
 
 -- ---- the states so far
-pub inside_none : (c : Numbers) (states : ℕ → List ℤ) → AreInside c states 0
+pub inside_none : (c : Numbers) (states : ℕ → List ℤ) → LieInside c states 0
 inside_none c states = record { each = λ k h. absurd (omega (arith, h)) }
 
-pub inside_more : (c : Numbers) (states : ℕ → List ℤ) (k : ℕ) → AreInside c states k → IsAdmissible c (states k) → AreInside c states (k + 1)
+pub inside_more : (c : Numbers) (states : ℕ → List ℤ) (k : ℕ) → LieInside c states k → IsAdmissible c (states k) → LieInside c states (k + 1)
 inside_more c states k s g = record {
   each = λ j h. elim (cases_lt j k) [
     | inl lt ↦ s.each j lt
@@ -141,6 +141,14 @@ unmet (Err x) p P e = tt
 pub told : (r : Result (Unit {0}) LoopFault) (p : LoopFault → Type 0) (fault : LoopFault) → IfErr r p → r ≡ Err fault → p fault
 told r p fault h is = subst (λ (x : Result (Unit {0}) LoopFault). IfErr x p) is h
 
+-- an error that is known is no other
+pub known : (r : Result (Unit {0}) LoopFault) (fault that : LoopFault) → IsErrAnd r (λ e. e ≡ fault) → r ≡ Err that → fault ≡ that
+known (Ok done) fault that e is = absurd e
+known (Err x) fault that e is = sym e ∙ (let same : x ≡ that = cc in same)
+
+pub other : (r : Result (Unit {0}) LoopFault) (fault : LoopFault) (turn coordinate : ℕ) → IsErrAnd r (λ e. e ≡ fault) → (fault ≡ OutsideBox turn coordinate → ⊥) → r ≡ Err (OutsideBox turn coordinate) → ⊥
+other r fault turn coordinate e differs is = differs (known r fault (OutsideBox turn coordinate) e is)
+
 rose_from : (first mid new : ℕ) → first ≤ mid → mid ≤ new → Rose mid new → Rose first new
 rose_from first mid new h l r = elim r.rise [
   | inl lt ↦ record { rise = inl (omega (arith, h, lt)) }
@@ -150,13 +158,13 @@ rose_from first mid new h l r = elim r.rise [
   ]
 ]
 
-pub grows_by_turns : (c : Numbers) (entry : ℕ) (states : ℕ → List ℤ) (turns k : ℕ) (first new : Option (List ℕ)) → k ≤ turns → AreInside c states k →
+pub grows_by_turns : (c : Numbers) (entry : ℕ) (states : ℕ → List ℤ) (turns k : ℕ) (first new : Option (List ℕ)) → k ≤ turns → LieInside c states k →
     new ≡ option_map (λ o. o ++ lines_of c entry states k) first → IfSome first (λ o. IsSomeAnd new (GrowsByLines c states (lines_of c entry states) turns o))
 grows_by_turns c entry states turns k None new h s e = tt
 grows_by_turns c entry states turns k (Some o) new h s e =
     subst (λ (n : Option (List ℕ)). IsSomeAnd n (GrowsByLines c states (lines_of c entry states) turns o)) (sym e) (record { done = k; within = h; inside = s; grown = refl })
 
-front_of : (c : Numbers) (entry : ℕ) (states : ℕ → List ℤ) (turns k : ℕ) (o : List ℕ) (new : Option (List ℕ)) → k < turns → AreInside c states (k + 1) →
+front_of : (c : Numbers) (entry : ℕ) (states : ℕ → List ℤ) (turns k : ℕ) (o : List ℕ) (new : Option (List ℕ)) → k < turns → LieInside c states (k + 1) →
     IsSomeAnd new (λ n. GrowsByPart (o ++ lines_of c entry states k) n (loop_line c entry (k + 1) (states k))) → IsSomeAnd new (GrowsByFront c states (lines_of c entry states) turns o)
 front_of c entry states turns k o None h s g = absurd g
 front_of c entry states turns k o (Some n) h s g = record {
@@ -169,7 +177,7 @@ front_of c entry states turns k o (Some n) h s g = record {
   grown = g.grown ∙ append_assoc o (lines_of c entry states k) g.part;
 }
 
-grows_by_front : (c : Numbers) (entry : ℕ) (states : ℕ → List ℤ) (turns k : ℕ) (first mid new : Option (List ℕ)) → k < turns → AreInside c states (k + 1) →
+grows_by_front : (c : Numbers) (entry : ℕ) (states : ℕ → List ℤ) (turns k : ℕ) (first mid new : Option (List ℕ)) → k < turns → LieInside c states (k + 1) →
     mid ≡ option_map (λ o. o ++ lines_of c entry states k) first → IfSome mid (λ o. IsSomeAnd new (λ n. GrowsByPart o n (loop_line c entry (k + 1) (states k)))) →
     IfSome first (λ o. IsSomeAnd new (GrowsByFront c states (lines_of c entry states) turns o))
 grows_by_front c entry states turns k None mid new h s e g = tt
@@ -177,12 +185,12 @@ grows_by_front c entry states turns k (Some o) mid new h s e g =
     front_of c entry states turns k o new h s (subst (λ (m : Option (List ℕ)). IfSome m (λ o. IsSomeAnd new (λ n. GrowsByPart o n (loop_line c entry (k + 1) (states k))))) e g)
 
 -- a turn that was made is one, and the first was made too
-begun_by : (c : Numbers) (states : ℕ → List ℤ) (turns k : ℕ) → k < turns → AreInside c states (k + 1) → MayBegin c states turns
+begun_by : (c : Numbers) (states : ℕ → List ℤ) (turns k : ℕ) → k < turns → LieInside c states (k + 1) → MayBegin c states turns
 begun_by c states turns k h s = record { some = omega (arith, h); inside = record { each = λ j l. s.each j (omega (arith, l)) } }
 
 -- what a turn shows, a loop shows that came to it
 pub turn_shows : (c : Numbers) (entry : ℕ) (states : ℕ → List ℤ) (turns k : ℕ) (first mid new : Option (List ℕ)) (before between now : ℕ) (fault : LoopFault) → k < turns →
-    AreInside c states k → mid ≡ option_map (λ o. o ++ lines_of c entry states k) first → before ≤ between → between ≤ now →
+    LieInside c states k → mid ≡ option_map (λ o. o ++ lines_of c entry states k) first → before ≤ between → between ≤ now →
     TurnShows c entry (k + 1) (states k) mid new between now fault → LoopShows c states (lines_of c entry states) turns first new before now fault
 turn_shows c entry states turns k first mid new before between now Memory h s e l m t = grows_by_turns c entry states turns k first new (omega (arith, h)) s (t.1 ∙ e)
 turn_shows c entry states turns k first mid new before between now (TooWide quantity) h s e l m t = absurd t
@@ -258,7 +266,7 @@ not_wide r p W h never narrow q = (λ e. absurd (never q (told r p (TooWide q) h
 
 -- what a loop that came to its limit or went on answers where some state leaves the box
 pub leaves : (c : Numbers) (lines : ℕ → List ℕ) (states : ℕ → List ℤ) (turns : ℕ) (first new : Option (List ℕ)) (before now : ℕ) (r : Result (Unit {0}) LoopFault) →
-    OnOk r (AreInside c states turns) → IfErr r (LoopShows c states lines turns first new before now) → (turn coordinate : ℕ) → LeavesAmong c states turns turn coordinate →
+    OnOk r (LieInside c states turns) → IfErr r (LoopShows c states lines turns first new before now) → (turn coordinate : ℕ) → LeavesAmong c states turns turn coordinate →
     (r ≡ Err (OutsideBox turn coordinate)) ⊎ ((r ≡ Err Memory) ⊎ (r ≡ Err WriteFault))
 leaves c lines states turns first new before now (Ok done) s e turn coordinate l =
     absurd (not_inside c (states l.gone) coordinate l.outside (s.each l.gone (omega (arith, l.is, l.within))))
@@ -270,7 +278,7 @@ leaves c lines states turns first new before now (Err WriteFault) s e turn coord
 
 -- and where none does and the sink's count didn't rise
 pub stays : (c : Numbers) (lines : ℕ → List ℕ) (states : ℕ → List ℤ) (turns : ℕ) (first new : Option (List ℕ)) (before now : ℕ) (r : Result (Unit {0}) LoopFault) →
-    IfErr r (LoopShows c states lines turns first new before now) → AreInside c states turns → (Rose before now → ⊥) → IsOk r ⊎ (r ≡ Err Memory)
+    IfErr r (LoopShows c states lines turns first new before now) → LieInside c states turns → (Rose before now → ⊥) → IsOk r ⊎ (r ≡ Err Memory)
 stays c lines states turns first new before now (Ok done) e s none = inl refl
 stays c lines states turns first new before now (Err Memory) e s none = inr refl
 stays c lines states turns first new before now (Err (TooWide quantity)) e s none = absurd e

@@ -9,7 +9,7 @@ use Rattle.qp_model.specs.text.LoopLines.{loop_line, loop_text}
 
 -- ---- of any states
 -- those of the first turns lie in the box
-pub record AreInside (c : Numbers) (states : ℕ → List ℤ) (turns : ℕ) : Type 0 where
+pub record LieInside (c : Numbers) (states : ℕ → List ℤ) (turns : ℕ) : Type 0 where
   pub each : (k : ℕ) → k < turns → IsAdmissible c (states k)
 
 -- among so many turns, the state of this one, counted from 1, is the first outside the box, and this coordinate its first
@@ -17,26 +17,26 @@ pub record LeavesAmong (c : Numbers) (states : ℕ → List ℤ) (turns turn coo
   pub gone : ℕ
   pub is : turn ≡ gone + 1
   pub within : turn ≤ turns
-  pub before : AreInside c states gone
+  pub before : LieInside c states gone
   pub outside : IsFirstOutside c (states gone) coordinate
 
 -- a line may be put: there is a turn, and the state of the first lies in the box
 pub record MayBegin (c : Numbers) (states : ℕ → List ℤ) (turns : ℕ) : Type 0 where
   pub some : 0 < turns
-  pub inside : AreInside c states 1
+  pub inside : LieInside c states 1
 
 -- what a sink got grew by the lines of some first turns, whose states lie in the box
 pub record GrowsByLines (c : Numbers) (states : ℕ → List ℤ) (lines : ℕ → List ℕ) (turns : ℕ) (old new : List ℕ) : Type 0 where
   pub done : ℕ
   pub within : done ≤ turns
-  pub inside : AreInside c states done
+  pub inside : LieInside c states done
   pub grown : new ≡ old ++ lines done
 
 -- the same, where the last line may be cut off
 pub record GrowsByFront (c : Numbers) (states : ℕ → List ℤ) (lines : ℕ → List ℕ) (turns : ℕ) (old new : List ℕ) : Type 0 where
   pub done : ℕ
   pub within : done ≤ turns
-  pub inside : AreInside c states done
+  pub inside : LieInside c states done
   pub part : List ℕ
   pub rest : List ℕ
   pub is : lines done ≡ part ++ rest
@@ -49,7 +49,7 @@ lines_of c entry states (suc k) = lines_of c entry states k ++ loop_line c entry
 
 -- ---- of the loop from a start
 abbrev pub StaysInside : Design → Numbers → (start : List ℤ) → (turns : ℕ) → Type 0
-StaysInside d c start turns = AreInside c (state_after d c start) turns
+StaysInside d c start turns = LieInside c (state_after d c start) turns
 
 abbrev pub LeavesAt : Design → Numbers → (start : List ℤ) → (turns turn coordinate : ℕ) → Type 0
 LeavesAt d c start turns turn coordinate = LeavesAmong c (state_after d c start) turns turn coordinate

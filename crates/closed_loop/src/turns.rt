@@ -6,7 +6,7 @@ ghost use Rattle.qp_model.specs.problem.Parts.{design_of};
 ghost use Rattle.qp_model.specs.machine.Successor.{IsFor, state_after};
 ghost use Rattle.qp_model.specs.machine.LoopSize.{turn_size};
 ghost use Rattle.qp_model.specs.text.LoopLines.{loop_line, loop_text};
-ghost use Rattle.closed_loop.specs.Answers.{AreInside, LeavesAmong, MayBegin, GrowsByLines, GrowsByFront, StaysInside, LeavesAt, IsBegun, GrowsByTurns, GrowsByPrefix};
+ghost use Rattle.closed_loop.specs.Answers.{LieInside, LeavesAmong, MayBegin, GrowsByLines, GrowsByFront, StaysInside, LeavesAt, IsBegun, GrowsByTurns, GrowsByPrefix};
 ghost use Rattle.closed_loop.specs.Under.{AreSmallShifts, states_under, lines_under};
 ghost use Rattle.closed_loop.specs.Shows.{TurnShows, LoopShows};
 
@@ -35,6 +35,7 @@ fn make_turn<O: Sink>(
     ensures made { OnOk result (k.new ≡ record { controller = k.old.controller; state = state.now; made = k.old.controller.steps }) }
     ensures put { OnOk result (O.got out.new ≡ option_map (λ old. old ++ loop_line k.old.controller entry turn state.now) (O.got out.old)) }
     ensures refused { IfErr result (TurnShows k.old.controller entry turn state.now (O.got out.old) (O.got out.new) (O.faults out.old) (O.faults out.new)) }
+    ensures quiet { (number coordinate : ℕ) → result ≡ Err (LoopFault.OutsideBox number coordinate) → (number ≡ turn) × (out.new ≡ out.old) }
     ensures no_fewer { O.faults out.old ≤ O.faults out.new }
     ensures controller { k.new.controller ≡ k.old.controller }
 {
@@ -67,12 +68,13 @@ fn run_turns<O: Sink>(
     requires start { length start.now ≡ k.old.controller.states }
     requires width { shifts.now.cols ≡ k.old.controller.states }
     requires shifts { AreSmallShifts shifts.now }
-    ensures inside { OnOk result (AreInside k.old.controller (states_under (design_of design.now) k.old.controller start.now shifts.now) turns) }
+    ensures inside { OnOk result (LieInside k.old.controller (states_under (design_of design.now) k.old.controller start.now shifts.now) turns) }
     ensures put { OnOk result (O.got out.new ≡
         option_map (λ old. old ++ lines_under (design_of design.now) k.old.controller entry start.now shifts.now turns) (O.got out.old)) }
     ensures refused { IfErr result (LoopShows k.old.controller (states_under (design_of design.now) k.old.controller start.now shifts.now)
         (lines_under (design_of design.now) k.old.controller entry start.now shifts.now) turns
         (O.got out.old) (O.got out.new) (O.faults out.old) (O.faults out.new)) }
+    ensures quiet { (coordinate : ℕ) → result ≡ Err (LoopFault.OutsideBox 1 coordinate) → out.new ≡ out.old }
     ensures no_fewer { O.faults out.old ≤ O.faults out.new }
     ensures controller { k.new.controller ≡ k.old.controller }
 {
@@ -106,6 +108,7 @@ fn run_unshifted<O: Sink>(
     ensures refused { IfErr result (LoopShows k.old.controller (state_after (design_of design.now) k.old.controller start.now)
         (loop_text (design_of design.now) k.old.controller entry start.now) turns
         (O.got out.old) (O.got out.new) (O.faults out.old) (O.faults out.new)) }
+    ensures quiet { (coordinate : ℕ) → result ≡ Err (LoopFault.OutsideBox 1 coordinate) → out.new ≡ out.old }
     ensures no_fewer { O.faults out.old ≤ O.faults out.new }
     ensures controller { k.new.controller ≡ k.old.controller }
 {
@@ -140,8 +143,11 @@ pub fn run_loop<O: Sink>(
         LeavesAt (design_of design.now) k.old.controller start.now turns turn coordinate }
     ensures outside_put { (turn coordinate : ℕ) → result ≡ Err (LoopFault.OutsideBox turn coordinate) →
         O.got out.new ≡ option_map (λ old. old ++ loop_text (design_of design.now) k.old.controller entry start.now (turn - 1)) (O.got out.old) }
+    // Where that is the first state, nothing was put.
+    ensures quiet { (coordinate : ℕ) → result ≡ Err (LoopFault.OutsideBox 1 coordinate) → out.new ≡ out.old }
     ensures leaves { (turn coordinate : ℕ) → LeavesAt (design_of design.now) k.old.controller start.now turns turn coordinate →
-        turn_size (design_of design.now) k.old.controller ≤ 2 ^ 126 → (result ≡ Err (LoopFault.OutsideBox turn coordinate)) ⊎ (result ≡ Err LoopFault.Memory) ⊎ (result ≡ Err LoopFault.WriteFault) }
+        turn_size (design_of design.now) k.old.controller ≤ 2 ^ 126 →
+        (result ≡ Err (LoopFault.OutsideBox turn coordinate)) ⊎ (result ≡ Err LoopFault.Memory) ⊎ (result ≡ Err LoopFault.WriteFault) }
     // It doesn't give up.
     ensures stays { StaysInside (design_of design.now) k.old.controller start.now turns → turn_size (design_of design.now) k.old.controller ≤ 2 ^ 126
         → ¬ Rose (O.faults out.old) (O.faults out.new) → IsOk result ⊎ (result ≡ Err LoopFault.Memory) }
@@ -181,7 +187,8 @@ pub fn run_loop_under<O: Sink>(
     requires shifts { AreSmallShifts shifts.now }
     requires few { length shifts.now.rows < 2 ^ 32 }
     // All turns were made.
-    ensures inside { OnOk result (AreInside k.old.controller (states_under (design_of design.now) k.old.controller start.now shifts.now) (length shifts.now.rows)) }
+    ensures inside { OnOk result
+        (LieInside k.old.controller (states_under (design_of design.now) k.old.controller start.now shifts.now) (length shifts.now.rows)) }
     ensures put { OnOk result (O.got out.new ≡ option_map
         (λ old. old ++ lines_under (design_of design.now) k.old.controller entry start.now shifts.now (length shifts.now.rows)) (O.got out.old)) }
     // The quantity `turn`, before any line.
@@ -193,12 +200,14 @@ pub fn run_loop_under<O: Sink>(
         (states_under (design_of design.now) k.old.controller start.now shifts.now) (length shifts.now.rows) turn coordinate }
     ensures outside_put { (turn coordinate : ℕ) → result ≡ Err (LoopFault.OutsideBox turn coordinate) → O.got out.new ≡ option_map
         (λ old. old ++ lines_under (design_of design.now) k.old.controller entry start.now shifts.now (turn - 1)) (O.got out.old) }
+    // Where that is the first state, nothing was put.
+    ensures quiet { (coordinate : ℕ) → result ≡ Err (LoopFault.OutsideBox 1 coordinate) → out.new ≡ out.old }
     ensures leaves { (turn coordinate : ℕ) → LeavesAmong k.old.controller
         (states_under (design_of design.now) k.old.controller start.now shifts.now) (length shifts.now.rows) turn coordinate →
         turn_size (design_of design.now) k.old.controller ≤ 2 ^ 126
         → (result ≡ Err (LoopFault.OutsideBox turn coordinate)) ⊎ (result ≡ Err LoopFault.Memory) ⊎ (result ≡ Err LoopFault.WriteFault) }
     // It doesn't give up.
-    ensures stays { AreInside k.old.controller (states_under (design_of design.now) k.old.controller start.now shifts.now) (length shifts.now.rows)
+    ensures stays { LieInside k.old.controller (states_under (design_of design.now) k.old.controller start.now shifts.now) (length shifts.now.rows)
         → turn_size (design_of design.now) k.old.controller ≤ 2 ^ 126 → ¬ Rose (O.faults out.old) (O.faults out.new)
         → IsOk result ⊎ (result ≡ Err LoopFault.Memory) }
     // A fault of the sink.

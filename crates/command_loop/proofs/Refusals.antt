@@ -9,7 +9,7 @@ use Rattle.command_line.specs.Answers.{IsFileRefused}
 use Rattle.command_line.specs.declared.status.Field.{Field}
 use Rattle.command_line.specs.declared.status.Status.{Status}
 use Rattle.command_line.specs.declared.status.Status.TheVariants.{Done, Memory, ReadFault, WriteFault, Text, Controller, Long, Mismatch}
-use Rattle.command_files.specs.Texts.{DesignWrong, ControllerWrong, StatesWrong}
+use Rattle.command_files.specs.Texts.{DesignWrong, ControllerWrong, StatesWrong, ShiftsWrong}
 use Rattle.command_loop.specs.Loop.{IsMismatch, TellsLeaving}
 
 -- neither done, nor out of memory, nor a fault, nor of a state that a loop met
@@ -44,6 +44,10 @@ controller_refusal file content s (inr wrong) = bad_refusal file wrong.right.0 s
 pub states_refusal : (n file : ℕ) (content : Option (List ℕ)) (s : Status) → IsFileRefused file_limit file (StatesWrong n file) content s → IsRefusal s
 states_refusal n file content s (inl long) = long_refusal file s long.is
 states_refusal n file content s (inr wrong) = text_refusal file wrong.right.0 s wrong.right.2.1
+
+pub shifts_refusal : (n turns file : ℕ) (content : Option (List ℕ)) (s : Status) → IsFileRefused file_limit file (ShiftsWrong n turns file) content s → IsRefusal s
+shifts_refusal n turns file content s (inl long) = long_refusal file s long.is
+shifts_refusal n turns file content s (inr wrong) = text_refusal file wrong.right.0 s wrong.right.2.1
 
 pub mismatch_refusal : (d : Design) (c : Numbers) (s : Status) → IsMismatch d c s → IsRefusal s
 mismatch_refusal d c s (inl states) = field_refusal _ _ _ s states.1

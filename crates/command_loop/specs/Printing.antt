@@ -1,12 +1,15 @@
 -- What the records of a design, a controller for it and states are answered, and what the output gets, on the way.
-use Rattle.std.specs.Prelude.{◌≡◌, ◌≢◌, ◌⊎◌, ℕ, ◌-◌, ◌<◌, ◌≤◌, List, ◌++◌, length}
-use Rattle.mat_int.specs.Matrix.{Matrix, row_of}
+use Rattle.std.specs.Prelude.{◌≡◌, ◌≢◌, ◌⊎◌, ⊤, ℕ, ◌-◌, ◌^◌, ◌<◌, ◌≤◌, ℤ, List, ◌++◌, length, Option, Some, None, option_map, IfSome, IsSomeAnd}
+use Rattle.mat_int.specs.Matrix.{Matrix}
 use Rattle.qp_model.specs.problem.Design.{Design}
 use Rattle.qp_model.specs.machine.Controller.{Numbers}
-use Rattle.closed_loop.specs.Answers.{StaysInside}
+use Rattle.qp_model.specs.machine.LoopSize.{turn_size}
+use Rattle.qp_model.specs.declared.quantity.Quantity.TheVariants.{Turn}
+use Rattle.closed_loop.specs.Answers.{LeavesAmong, MayBegin, GrowsByLines, GrowsByFront}
+use Rattle.closed_loop.specs.Under.{AreSmallShifts}
 use Rattle.closed_loop.specs.declared.fault.LoopFault.{LoopFault}
 use Rattle.closed_loop.specs.declared.fault.LoopFault.TheVariants as faults
-use Rattle.command_loop.specs.Loop.{AllStay, IsFirstLeaving, FitsTurn, MayPrintLine, LoopsCall, TellsLeaving, record_lines, lines_to}
+use Rattle.command_loop.specs.Loop.{Course, MayPrintLine, LoopsCall, TellsLeaving, AreToLeaving, AreTurns, ArePrefix, record_lines}
 use Rattle.command_line.specs.declared.status.Status.{Status}
 use Rattle.command_line.specs.declared.status.Status.TheVariants.{Done, Memory, WriteFault, Refused, OutsideBox}
 use Rattle.design_refusal.specs.declared.refusal.Refusal.TheVariants.{TooWide}
@@ -18,44 +21,41 @@ loop_status entry (faults.TooWide quantity) = Refused (TooWide quantity)
 loop_status entry (faults.OutsideBox turn coordinate) = OutsideBox entry turn coordinate
 loop_status entry faults.WriteFault = WriteFault 0
 
+-- shifts of n coordinates after each of so many turns, or none
+pub record AreRowsFor (n turns : ℕ) (shifts : Matrix) : Type 0 where
+  pub cols : shifts.cols ≡ n
+  pub rows : length shifts.rows ≡ turns
+  pub small : AreSmallShifts shifts
+
+abbrev pub AreShiftsFor : (n turns : ℕ) → Option Matrix → Type 0
+AreShiftsFor n turns None = ⊤
+AreShiftsFor n turns (Some shifts) = AreRowsFor n turns shifts
+
+-- what the loop of a record shows that ended early: what the output had and has
+abbrev pub RecordShows : Design → Numbers → Course → (entry : ℕ) → (start : List ℤ) → (turns : ℕ) → (old new : Option (List ℕ)) → LoopFault → Type 0
+RecordShows d c l entry start turns old new faults.Memory =
+    (turn_size d c ≤ 2 ^ 126) × IfSome old (λ o. IsSomeAnd new (GrowsByLines c (l.states start) (l.lines entry start) turns o))
+RecordShows d c l entry start turns old new (faults.TooWide quantity) = (quantity ≡ Turn) × (2 ^ 126 < turn_size d c) × (new ≡ old)
+RecordShows d c l entry start turns old new (faults.OutsideBox turn coordinate) =
+    (turn_size d c ≤ 2 ^ 126) × LeavesAmong c (l.states start) turns turn coordinate × (new ≡ option_map (λ o. o ++ l.lines entry start (turn - 1)) old)
+RecordShows d c l entry start turns old new faults.WriteFault =
+    (turn_size d c ≤ 2 ^ 126) × IfSome old (λ o. IsSomeAnd new (GrowsByFront c (l.states start) (l.lines entry start) turns o)) × MayBegin c (l.states start) turns
+
+-- it ended before any of its lines
+abbrev pub IsBeforeLines : LoopFault → Type 0
+IsBeforeLines faults.Memory = ⊥
+IsBeforeLines (faults.TooWide quantity) = ⊤
+IsBeforeLines (faults.OutsideBox turn coordinate) = turn ≡ 1
+IsBeforeLines faults.WriteFault = ⊥
+
 -- out of memory, or a print of a line failed, or what is called for
-abbrev pub LoopsEnd : Design → Numbers → (turns : ℕ) → Matrix → Status → Type 0
-LoopsEnd d c turns m s = (s ≡ Memory) ⊎ (((s ≡ WriteFault 0) × MayPrintLine d c turns m) ⊎ LoopsCall d c turns m s)
-
--- the lines of the records before the one that leaves the box, and of its turns before that
-pub record AreToLeaving (d : Design) (c : Numbers) (turns : ℕ) (m : Matrix) (s : Status) (old new : List ℕ) : Type 0 where
-  pub leaving : IsFirstLeaving d c m turns s
-  pub printed : new ≡ old ++ lines_to d c m turns leaving.index (leaving.turn - 1)
-
--- the lines of the first records, and of some first turns of the next one, all of whose states lie in the box
-pub record AreTurns (d : Design) (c : Numbers) (turns : ℕ) (m : Matrix) (old new : List ℕ) : Type 0 where
-  pub fits : FitsTurn d c m
-  pub index : ℕ
-  pub there : index < length m.rows
-  pub before : AllStay d c m turns index
-  pub some : ℕ
-  pub within : some ≤ turns
-  pub inside : StaysInside d c (row_of m index) some
-  pub printed : new ≡ old ++ lines_to d c m turns index some
-
--- the same, where the last line may be cut off
-pub record ArePrefix (d : Design) (c : Numbers) (turns : ℕ) (m : Matrix) (old new : List ℕ) : Type 0 where
-  pub fits : FitsTurn d c m
-  pub index : ℕ
-  pub there : index < length m.rows
-  pub before : AllStay d c m turns index
-  pub some : ℕ
-  pub within : some ≤ turns
-  pub inside : StaysInside d c (row_of m index) some
-  pub part : List ℕ
-  pub rest : List ℕ
-  pub is : lines_to d c m turns index some ≡ part ++ rest
-  pub printed : new ≡ old ++ part
+abbrev pub LoopsEnd : Design → Numbers → Course → (turns : ℕ) → Matrix → Status → Type 0
+LoopsEnd d c l turns m s = (s ≡ Memory) ⊎ (((s ≡ WriteFault 0) × MayPrintLine d c l turns m) ⊎ LoopsCall d c l turns m s)
 
 -- what the output got, by the answer
-pub record LoopsPrint (d : Design) (c : Numbers) (turns : ℕ) (m : Matrix) (s : Status) (old new : List ℕ) : Type 0 where
-  pub done : s ≡ Done → new ≡ old ++ record_lines d c m turns (length m.rows)
-  pub outside : TellsLeaving s → AreToLeaving d c turns m s old new
-  pub fault : s ≡ WriteFault 0 → ArePrefix d c turns m old new
-  pub memory : s ≡ Memory → (new ≡ old) ⊎ AreTurns d c turns m old new
+pub record LoopsPrint (d : Design) (c : Numbers) (l : Course) (turns : ℕ) (m : Matrix) (s : Status) (old new : List ℕ) : Type 0 where
+  pub done : s ≡ Done → new ≡ old ++ record_lines l m turns (length m.rows)
+  pub outside : TellsLeaving s → AreToLeaving d c l turns m s old new
+  pub fault : s ≡ WriteFault 0 → ArePrefix d c l turns m old new
+  pub memory : s ≡ Memory → (new ≡ old) ⊎ AreTurns d c l turns m old new
   pub other : s ≢ Done → (TellsLeaving s → ⊥) → s ≢ WriteFault 0 → s ≢ Memory → new ≡ old

@@ -1,13 +1,15 @@
-// The three files of a loop.
+// The files of a loop.
 ghost use Rattle.std.specs.Prelude.{◌≡◌, ◌<◌, ◌^◌, length, Ok, Err, IfOk, IfErr};
 ghost use Rattle.io_edge.specs.Faults.{NoneFalls};
 ghost use Rattle.qp_model.specs.problem.Parts.{design_of};
 ghost use Rattle.qp_model.specs.machine.Successor.{IsFor};
-ghost use Rattle.command_line.specs.Words.{word_of};
-ghost use Rattle.command_files.specs.Reading.{IsDesignRead, IsControllerRead};
-ghost use Rattle.command_loop.specs.Files.{EndsMatching, AreLoopsRead, EndsLoops};
+ghost use Rattle.command_line.specs.Words.{word_of, IsLoop};
+ghost use Rattle.command_files.specs.Reading.{IsDesignRead, IsControllerRead, AreStatesRead};
+ghost use Rattle.command_loop.specs.Files.{EndsMatching, AreShiftsTaken, EndsStarts, AreRunsRead, EndsLoops};
+ghost use Rattle.command_loop.specs.Printing.{AreShiftsFor};
 
 use crate::mismatch::mismatch_of;
+use crate::shifts::take_shifts;
 use command_files::{read_controller_file, read_design_file, read_states_file};
 use command_line::Status;
 use io_edge::{Store, Words};
@@ -16,12 +18,19 @@ use overflow_check::Controller;
 use qp_model::Design;
 use std::alloc::Global;
 
-/// A design, a controller for it, and the states that its loops are to start from, a row each.
+/// The states that loops start from, a row each, and the shifts after each turn where there are disturbances, a row each.
+#[derive(Drop)]
+pub struct Starts {
+    pub states: Mat,
+    pub shifts: Option<Mat>,
+}
+
+/// A design, a controller for it, and what its loops start from.
 #[derive(Drop)]
 pub struct Loops {
     pub design: Design,
     pub controller: Controller,
-    pub states: Mat,
+    pub starts: Starts,
 }
 
 // The controller for a design under the second name, or the status that ends the run.
@@ -33,7 +42,8 @@ fn read_controller_for<S: Store>(
 ) -> Result<Controller, Status>
     ensures right { IfOk result (λ c. IsControllerRead 2 (S.held store.old) name.now c) }
     ensures matched { IfOk result (λ c. IsFor c (design_of design.now)) }
-    ensures ends { IfErr result (λ e. EndsMatching (design_of design.now) (S.held store.old) name.now (S.read_faults store.old name.now) (S.read_faults store.new name.now) e) }
+    ensures ends { IfErr result (λ e. EndsMatching (design_of design.now) (S.held store.old) name.now
+        (S.read_faults store.old name.now) (S.read_faults store.new name.now) e) }
     ensures held { S.held store.new ≡ S.held store.old }
     ensures reads { NoneFalls (S.read_faults store.old) (S.read_faults store.new) }
     ensures writes { NoneFalls (S.write_faults store.old) (S.write_faults store.new) }
@@ -45,83 +55,122 @@ fn read_controller_for<S: Store>(
     }
 }
 
-// A design, a controller and the states that were read, or the status that ended their read.
+// The states of `n` numbers each in the third file, and then the shifts.
+fn read_starts<S: Store>(
+    alloc: Global,
+    words: &Words,
+    turns: u32,
+    disturbed: bool,
+    n: usize,
+    store: &mut S,
+) -> Result<Starts, Status>
+    requires { IsLoop words.now turns disturbed }
+    ensures states { IfOk result (λ r. AreStatesRead n 3 (S.held store.old) (word_of words.now 3) r.states) }
+    ensures width { IfOk result (λ r. r.states.cols ≡ n) }
+    ensures count { IfOk result (λ r. length r.states.rows < 2 ^ 32) }
+    ensures shifts { IfOk result (λ r. AreShiftsTaken disturbed n turns (S.held store.old) (word_of words.now 5) r.shifts) }
+    ensures ends { IfErr result (EndsStarts disturbed n turns words.now (S.held store.old) (S.read_faults store.old) (S.read_faults store.new)) }
+    ensures held { S.held store.new ≡ S.held store.old }
+    ensures reads { NoneFalls (S.read_faults store.old) (S.read_faults store.new) }
+    ensures writes { NoneFalls (S.write_faults store.old) (S.write_faults store.new) }
+{
+    let states = read_states_file(alloc, 3, words.at(3), n, store)?;
+    match take_shifts(alloc, words, turns, disturbed, n, store) {
+        Ok(shifts) => Ok(Starts { states, shifts }),
+        Err(status) => Err(status),
+    }
+}
+
+// A design, a controller and what was read after them, or the status that ended that read.
 fn loops_of(
     design: Design,
     controller: Controller,
-    states: Result<Mat, Status>,
+    starts: Result<Starts, Status>,
 ) -> Result<Loops, Status>
     ensures design { IfOk result (λ l. l.design ≡ design) }
     ensures controller { IfOk result (λ l. l.controller ≡ controller) }
-    ensures states { IfOk result (λ l. states ≡ Ok l.states) }
-    ensures ends { IfErr result (λ e. states ≡ Err e) }
+    ensures starts { IfOk result (λ l. starts ≡ Ok l.starts) }
+    ensures ends { IfErr result (λ e. starts ≡ Err e) }
 {
-    match states {
-        Ok(states) => Ok(Loops {
+    match starts {
+        Ok(starts) => Ok(Loops {
             design,
             controller,
-            states,
+            starts,
         }),
         Err(status) => Err(status),
     }
 }
 
-// The states' file, after a design and a controller for it were read from the first two.
+// What stands after the controller, after a design and a controller for it were read from the first two files.
 fn read_after_controller<S: Store>(
     alloc: Global,
     words: &Words,
+    turns: u32,
+    disturbed: bool,
     design: Design,
     controller: Controller,
     store: &mut S,
 ) -> Result<Loops, Status>
-    requires names { length words.now ≡ 5 }
+    requires words { IsLoop words.now turns disturbed }
     requires design { IsDesignRead 1 (S.held store.now) (word_of words.now 1) design }
     requires controller { IsControllerRead 2 (S.held store.now) (word_of words.now 2) controller }
     requires matched { IsFor controller (design_of design) }
-    ensures right { IfOk result (λ l. AreLoopsRead words.now (S.held store.old) l.design l.controller l.states) }
-    ensures width { IfOk result (λ l. l.states.cols ≡ l.controller.states) }
-    ensures count { IfOk result (λ l. length l.states.rows < 2 ^ 32) }
-    ensures ends { IfErr result (λ e. EndsLoops words.now (S.held store.old) (S.read_faults store.old) (S.read_faults store.new) e) }
+    ensures right { IfOk result (λ l. AreRunsRead disturbed turns words.now (S.held store.old) l.design l.controller l.starts.states l.starts.shifts) }
+    ensures width { IfOk result (λ l. l.starts.states.cols ≡ l.controller.states) }
+    ensures count { IfOk result (λ l. length l.starts.states.rows < 2 ^ 32) }
+    ensures shifts { IfOk result (λ l. AreShiftsFor l.controller.states turns l.starts.shifts) }
+    ensures ends { IfErr result (EndsLoops disturbed turns words.now (S.held store.old) (S.read_faults store.old) (S.read_faults store.new)) }
     ensures held { S.held store.new ≡ S.held store.old }
     ensures reads { NoneFalls (S.read_faults store.old) (S.read_faults store.new) }
     ensures writes { NoneFalls (S.write_faults store.old) (S.write_faults store.new) }
 {
-    let states = read_states_file(alloc, 3, words.at(3), controller.parts().n, store);
-    loops_of(design, controller, states)
+    let starts = read_starts(alloc, words, turns, disturbed, controller.parts().n, store);
+    loops_of(design, controller, starts)
 }
 
-// The controller's file and the states' file, after a design was read from the first.
+// The controller's file and what stands after it, after a design was read from the first.
 fn read_after_design<S: Store>(
     alloc: Global,
     words: &Words,
+    turns: u32,
+    disturbed: bool,
     design: Design,
     store: &mut S,
 ) -> Result<Loops, Status>
-    requires names { length words.now ≡ 5 }
+    requires words { IsLoop words.now turns disturbed }
     requires design { IsDesignRead 1 (S.held store.now) (word_of words.now 1) design }
-    ensures right { IfOk result (λ l. AreLoopsRead words.now (S.held store.old) l.design l.controller l.states) }
-    ensures width { IfOk result (λ l. l.states.cols ≡ l.controller.states) }
-    ensures count { IfOk result (λ l. length l.states.rows < 2 ^ 32) }
-    ensures ends { IfErr result (λ e. EndsLoops words.now (S.held store.old) (S.read_faults store.old) (S.read_faults store.new) e) }
+    ensures right { IfOk result (λ l. AreRunsRead disturbed turns words.now (S.held store.old) l.design l.controller l.starts.states l.starts.shifts) }
+    ensures width { IfOk result (λ l. l.starts.states.cols ≡ l.controller.states) }
+    ensures count { IfOk result (λ l. length l.starts.states.rows < 2 ^ 32) }
+    ensures shifts { IfOk result (λ l. AreShiftsFor l.controller.states turns l.starts.shifts) }
+    ensures ends { IfErr result (EndsLoops disturbed turns words.now (S.held store.old) (S.read_faults store.old) (S.read_faults store.new)) }
     ensures held { S.held store.new ≡ S.held store.old }
     ensures reads { NoneFalls (S.read_faults store.old) (S.read_faults store.new) }
     ensures writes { NoneFalls (S.write_faults store.old) (S.write_faults store.new) }
 {
     let controller = read_controller_for(alloc, words.at(2), &design, store)?;
-    read_after_controller(alloc, words, design, controller, store)
+    read_after_controller(alloc, words, turns, disturbed, design, controller, store)
 }
 
-// The three files, or the status that ends the run.
-pub fn read_loops<S: Store>(alloc: Global, words: &Words, store: &mut S) -> Result<Loops, Status>
-    requires { length words.now ≡ 5 }
-    ensures right { IfOk result (λ l. AreLoopsRead words.now (S.held store.old) l.design l.controller l.states) }
-    ensures width { IfOk result (λ l. l.states.cols ≡ l.controller.states) }
-    ensures count { IfOk result (λ l. length l.states.rows < 2 ^ 32) }
-    ensures ends { IfErr result (λ e. EndsLoops words.now (S.held store.old) (S.read_faults store.old) (S.read_faults store.new) e) }
+// All files, or the status that ends the run.
+pub fn read_loops<S: Store>(
+    alloc: Global,
+    words: &Words,
+    turns: u32,
+    disturbed: bool,
+    store: &mut S,
+) -> Result<Loops, Status>
+    requires { IsLoop words.now turns disturbed }
+    ensures right { IfOk result (λ l. AreRunsRead disturbed turns words.now (S.held store.old) l.design l.controller l.starts.states l.starts.shifts) }
+    ensures width { IfOk result (λ l. l.starts.states.cols ≡ l.controller.states) }
+    ensures count { IfOk result (λ l. length l.starts.states.rows < 2 ^ 32) }
+    ensures shifts { IfOk result (λ l. AreShiftsFor l.controller.states turns l.starts.shifts) }
+    ensures ends { IfErr result (EndsLoops disturbed turns words.now (S.held store.old) (S.read_faults store.old) (S.read_faults store.new)) }
     ensures held { S.held store.new ≡ S.held store.old }
     ensures reads { NoneFalls (S.read_faults store.old) (S.read_faults store.new) }
     ensures writes { NoneFalls (S.write_faults store.old) (S.write_faults store.new) }
 {
     let design = read_design_file(alloc, 1, words.at(1), store)?;
-    read_after_design(alloc, words, design, store)
+    read_after_design(alloc, words, turns, disturbed, design, store)
 }

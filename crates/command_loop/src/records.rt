@@ -1,13 +1,15 @@
 // The loops of all records, one after the other.
-ghost use Rattle.std.specs.Prelude.{◌≡◌, ◌≢◌, ◌≤◌, ◌<◌, ◌^◌, length, IfSome, IsSomeAnd};
+ghost use Rattle.std.specs.Prelude.{◌≡◌, ◌≢◌, ◌≤◌, ◌<◌, ◌^◌, ◌++◌, length, Err, option_map, OnOk, IfErr, IfSome, IsSomeAnd};
 ghost use Rattle.io_edge.specs.Faults.{Rose};
 ghost use Rattle.qp_model.specs.problem.Parts.{design_of};
 ghost use Rattle.qp_model.specs.machine.Successor.{IsFor};
-ghost use Rattle.command_loop.specs.Loop.{TellsLeaving};
-ghost use Rattle.command_loop.specs.Printing.{LoopsEnd, LoopsPrint, loop_status};
+ghost use Rattle.qp_model.specs.machine.LoopSize.{turn_size};
+ghost use Rattle.closed_loop.specs.Answers.{LieInside};
+ghost use Rattle.command_loop.specs.Loop.{TellsLeavingLater, course_of};
+ghost use Rattle.command_loop.specs.Printing.{AreShiftsFor, RecordShows, IsBeforeLines, LoopsEnd, LoopsPrint, loop_status};
 
-use crate::files::Loops;
-use closed_loop::{LoopFault, run_loop};
+use crate::files::{Loops, Starts};
+use closed_loop::{LoopFault, run_loop, run_loop_under};
 use command_line::Status;
 use design_refusal::Refusal;
 use fixed_kernel::Kernel;
@@ -34,27 +36,71 @@ fn loop_status(entry: u32, fault: LoopFault) -> Status
     }
 }
 
+// Puts the lines of a record's loop: with the shifts after each turn where there are any.
+fn run_record<O: Sink>(
+    alloc: Global,
+    design: &Design,
+    kernel: &mut Kernel,
+    entry: u32,
+    start: &[i128],
+    shifts: &Option<Mat>,
+    turns: u32,
+    out: &mut O,
+) -> Result<(), LoopFault>
+    requires matched { IsFor kernel.old.controller (design_of design.now) }
+    requires start { length start.now ≡ kernel.old.controller.states }
+    requires shifts { AreShiftsFor kernel.old.controller.states turns shifts.now }
+    ensures narrow { OnOk result (turn_size (design_of design.now) kernel.old.controller ≤ 2 ^ 126) }
+    ensures inside { OnOk result (LieInside kernel.old.controller
+        ((course_of (design_of design.now) kernel.old.controller shifts.now).states start.now) turns) }
+    ensures put { OnOk result (O.got out.new ≡ option_map
+        (λ old. old ++ (course_of (design_of design.now) kernel.old.controller shifts.now).lines entry start.now turns) (O.got out.old)) }
+    ensures shows { IfErr result (RecordShows (design_of design.now) kernel.old.controller
+        (course_of (design_of design.now) kernel.old.controller shifts.now) entry start.now turns (O.got out.old) (O.got out.new)) }
+    ensures quiet { IfErr result (λ fault. IsBeforeLines fault → out.new ≡ out.old) }
+    ensures failed { result ≡ Err LoopFault.WriteFault → Rose (O.faults out.old) (O.faults out.new) }
+    ensures no_fewer { O.faults out.old ≤ O.faults out.new }
+    ensures controller { kernel.new.controller ≡ kernel.old.controller }
+{
+    match shifts {
+        Some(shifts) => run_loop_under(alloc, design, kernel, entry, start, shifts, out),
+        None => run_loop(alloc, design, kernel, entry, start, turns, out),
+    }
+}
+
 // Prints the lines of each record's loop, until one ends early.
 fn print_records<O: Sink>(
     alloc: Global,
     design: &Design,
     kernel: &mut Kernel,
-    states: &Mat,
+    starts: &Starts,
     turns: u32,
     out: &mut O,
 ) -> Status
     requires matched { IsFor kernel.old.controller (design_of design.now) }
-    requires width { states.now.cols ≡ kernel.old.controller.states }
-    requires count { length states.now.rows < 2 ^ 32 }
-    ensures ends { LoopsEnd (design_of design.now) kernel.old.controller turns states.now result }
-    ensures printed { IfSome (O.got out.old) (λ old. IsSomeAnd (O.got out.new) (LoopsPrint (design_of design.now) kernel.old.controller turns states.now result old)) }
-    ensures quiet { result ≢ Status.Done → result ≢ Status.Memory → result ≢ Status.WriteFault 0 → ¬ TellsLeaving result → out.new ≡ out.old }
+    requires width { starts.now.states.cols ≡ kernel.old.controller.states }
+    requires count { length starts.now.states.rows < 2 ^ 32 }
+    requires shifts { AreShiftsFor kernel.old.controller.states turns starts.now.shifts }
+    ensures ends { LoopsEnd (design_of design.now) kernel.old.controller
+        (course_of (design_of design.now) kernel.old.controller starts.now.shifts) turns starts.now.states result }
+    ensures printed { IfSome (O.got out.old) (λ old. IsSomeAnd (O.got out.new) (LoopsPrint (design_of design.now) kernel.old.controller
+        (course_of (design_of design.now) kernel.old.controller starts.now.shifts) turns starts.now.states result old)) }
+    ensures quiet { result ≢ Status.Done → result ≢ Status.Memory → result ≢ Status.WriteFault 0 → ¬ TellsLeavingLater result → out.new ≡ out.old }
     ensures failed { result ≡ Status.WriteFault 0 → Rose (O.faults out.old) (O.faults out.new) }
     ensures no_fewer { O.faults out.old ≤ O.faults out.new }
 {
-    for i in 0..states.rows() {
+    for i in 0..starts.states.rows() {
         let entry = i as u32 + 1;
-        if let Err(fault) = run_loop(alloc, design, kernel, entry, states.row(i), turns, out) {
+        if let Err(fault) = run_record(
+            alloc,
+            design,
+            kernel,
+            entry,
+            starts.states.row(i),
+            &starts.shifts,
+            turns,
+            out,
+        ) {
             return loop_status(entry, fault);
         }
     }
@@ -64,16 +110,19 @@ fn print_records<O: Sink>(
 // Prints the lines of all loops, by one kernel.
 pub fn print_loops<O: Sink>(alloc: Global, loops: &Loops, turns: u32, out: &mut O) -> Status
     requires matched { IsFor loops.now.controller (design_of loops.now.design) }
-    requires width { loops.now.states.cols ≡ loops.now.controller.states }
-    requires count { length loops.now.states.rows < 2 ^ 32 }
-    ensures ends { LoopsEnd (design_of loops.now.design) loops.now.controller turns loops.now.states result }
-    ensures printed { IfSome (O.got out.old) (λ old. IsSomeAnd (O.got out.new) (LoopsPrint (design_of loops.now.design) loops.now.controller turns loops.now.states result old)) }
-    ensures quiet { result ≢ Status.Done → result ≢ Status.Memory → result ≢ Status.WriteFault 0 → ¬ TellsLeaving result → out.new ≡ out.old }
+    requires width { loops.now.starts.states.cols ≡ loops.now.controller.states }
+    requires count { length loops.now.starts.states.rows < 2 ^ 32 }
+    requires shifts { AreShiftsFor loops.now.controller.states turns loops.now.starts.shifts }
+    ensures ends { LoopsEnd (design_of loops.now.design) loops.now.controller
+        (course_of (design_of loops.now.design) loops.now.controller loops.now.starts.shifts) turns loops.now.starts.states result }
+    ensures printed { IfSome (O.got out.old) (λ old. IsSomeAnd (O.got out.new) (LoopsPrint (design_of loops.now.design) loops.now.controller
+        (course_of (design_of loops.now.design) loops.now.controller loops.now.starts.shifts) turns loops.now.starts.states result old)) }
+    ensures quiet { result ≢ Status.Done → result ≢ Status.Memory → result ≢ Status.WriteFault 0 → ¬ TellsLeavingLater result → out.new ≡ out.old }
     ensures failed { result ≡ Status.WriteFault 0 → Rose (O.faults out.old) (O.faults out.new) }
     ensures no_fewer { O.faults out.old ≤ O.faults out.new }
 {
     let Ok(mut kernel) = Kernel::prepare(alloc, &loops.controller) else {
         return Status::Memory;
     };
-    print_records(alloc, &loops.design, &mut kernel, &loops.states, turns, out)
+    print_records(alloc, &loops.design, &mut kernel, &loops.starts, turns, out)
 }

@@ -1,2 +1,3 @@
--- a range of shifts record by record, and that its text is right in one way
+-- a range of shifts and shifts turn by turn, record by record, and that their text is right in one way
 pub mod RangeFacts
+pub mod TurnFacts

@@ -1,2 +1,3 @@
 pub mod ShiftRule
 pub mod RangeText
+pub mod TurnText

@@ -3,5 +3,7 @@
 
 mod range;
 mod record;
+mod turns;
 
 pub use range::read_shift_range;
+pub use turns::read_shifts;

@@ -8,15 +8,12 @@ ghost use Rattle.policy_file.specs.Records.{HoldsNumbers, IsRecordFault, field_r
 ghost use Rattle.shift_file.specs.ShiftRule.{floor_rule, least_shifts};
 ghost use Rattle.shift_file.specs.RangeText.{range_floors, IsRangeText, IsRangeFault, IsShiftRange};
 
-use crate::record::shifts_of;
+use crate::record::{LEAST, shifts_of};
 use csv::ByteRecord;
 use mat_int::Mat;
 use number_text::TextFault;
 use policy_file::all_records;
 use std::alloc::Global;
-
-/// The least shift.
-const LEAST: i128 = -2147483647;
 
 /// The range of shifts of a text of two records of `n` numbers each: the least, then the greatest, none of which is below the least of its field. Each is
 /// at most 2147483647 in absolute value. The text has fewer than `2^32` bytes.

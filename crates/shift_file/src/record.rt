@@ -11,6 +11,9 @@ use number_text::TextFault;
 use policy_file::number_field;
 use std::alloc::Global;
 
+/// The least shift.
+pub const LEAST: i128 = -2147483647;
+
 /// The greatest shift.
 const GREATEST: i128 = 2147483647;
 

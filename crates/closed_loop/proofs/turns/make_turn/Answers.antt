@@ -4,7 +4,7 @@ use Rattle.qp_model.specs.machine.Controller.{Numbers}
 use Rattle.qp_model.specs.text.LoopLines.{loop_line}
 use Rattle.closed_loop.specs.Shows.{TurnShows}
 use Rattle.closed_loop.specs.declared.fault.LoopFault.TheVariants.{Memory}
-use Rattle.closed_loop.proofs.Showing.{given, unmet}
+use Rattle.closed_loop.proofs.Showing.{given, unmet, other}
 use Rattle.closed_loop.proofs.turns.make_turn.Goals as goal
 
 pub returns-in-Err : goal.returns-in-Err
@@ -13,6 +13,7 @@ returns-in-Err g c = record {
   made = tt;
   put = tt;
   refused = (refl, c.in-Err.ensures.first, refl);
+  quiet = λ number coordinate e. (let same : number ≡ c.args.turn = cc in same, refl);
   no_fewer = le_refl (g.O.Sink.faults c.args.out.now);
   controller = c.run.ensures.controller;
 }
@@ -28,6 +29,7 @@ returns-in_err-line g c =
       made = unmet r _ _ is;
       put = unmet r _ _ is;
       refused = given r (TurnShows c.args.k.now.controller c.args.entry c.args.turn c.args.state.now got got faults faults) Memory is (c.in_default.ensures.inside.0 refl, refl);
+      quiet = λ number coordinate e. absurd (other r Memory number coordinate is (λ same. cc) e);
       no_fewer = le_refl faults;
       controller = c.run.ensures.controller;
     }
@@ -42,6 +44,7 @@ returns-in-Ok g c =
       made = c.in_default.ensures.ok;
       put = c.in-Ok.ensures.ok ∙ ap (λ (t : List ℕ). option_map (λ old. old ++ t) (g.O.Sink.got c.args.out.now)) line;
       refused = tt;
+      quiet = λ number coordinate e. absurd (let never : ⊥ = cc in never);
       no_fewer = c.put.ensures.no_fewer;
       controller = c.run.ensures.controller;
     }
@@ -57,6 +60,7 @@ returns g c =
       made = tt;
       put = tt;
       refused = (c.in_default.ensures.inside.0 refl, cut, c.in-Err-put.ensures.failed);
+      quiet = λ number coordinate e. absurd (let never : ⊥ = cc in never);
       no_fewer = c.put.ensures.no_fewer;
       controller = c.run.ensures.controller;
     }

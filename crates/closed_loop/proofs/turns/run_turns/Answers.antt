@@ -1,4 +1,4 @@
-use Rattle.std.proofs.Common.{◌≡◌, ◌+◌, ◌++◌, ◌∙◌, ap, sym, subst, refl, le_refl, le_trans, zero-le, ℕ, ℤ, List, Vec, Global, length, option_map, arith, rules}
+use Rattle.std.proofs.Common.{◌≡◌, ◌+◌, ◌++◌, ◌∙◌, ap, sym, subst, refl, le_refl, le_trans, zero-le, ℕ, ℤ, List, Vec, Global, Err, length, option_map, arith}
 use Rattle.std.specs.Vec.{with_items}
 use Rattle.std.proofs.lemmas.List.{with_items_is}
 use Rattle.std.proofs.lemmas.List.FromFn.{length-map-range_with_len}
@@ -8,11 +8,11 @@ use Rattle.qp_model.specs.machine.Successor.{successor}
 use Rattle.qp_model.specs.text.LoopLines.{loop_line}
 use Rattle.qp_model.specs.problem.Parts.{design_of}
 use Rattle.mat_int.specs.Matrix.{entry_of}
-use Rattle.closed_loop.specs.Answers.{AreInside, lines_of}
+use Rattle.closed_loop.specs.Answers.{LieInside, lines_of}
 use Rattle.closed_loop.specs.Under.{states_under}
 use Rattle.closed_loop.specs.Shows.{TurnShows, LoopShows}
-use Rattle.closed_loop.specs.declared.fault.LoopFault.TheVariants.{Memory}
-use Rattle.closed_loop.proofs.Showing.{state_zero, shifted_more, shifted_long, inside_none, inside_more, put_none, put_more, grows_by_turns, given, unmet, turn_shows}
+use Rattle.closed_loop.specs.declared.fault.LoopFault.TheVariants.{Memory, OutsideBox}
+use Rattle.closed_loop.proofs.Showing.{state_zero, shifted_more, shifted_long, inside_none, inside_more, put_none, put_more, grows_by_turns, given, unmet, other, known, turn_shows}
 use Rattle.closed_loop.proofs.turns.run_turns.Goals as goal
 
 pub returns-in_err-state : goal.returns-in_err-state
@@ -30,6 +30,7 @@ returns-in_err-state g c =
       put = unmet r _ _ is;
       refused = given r (LoopShows n states (lines_of n c.args.entry states) c.args.turns got got faults faults) Memory is
           (grows_by_turns n c.args.entry states c.args.turns 0 got got zero-le (inside_none n states) (put_none n c.args.entry states got));
+      quiet = λ coordinate e. absurd (other r Memory 1 coordinate is (λ same. cc) e);
       no_fewer = le_refl faults;
       controller = refl;
     }
@@ -49,6 +50,7 @@ returns-in_err-next g c =
       put = unmet r _ _ is;
       refused = given r (LoopShows n states (lines_of n c.args.entry states) c.args.turns got got faults faults) Memory is
           (grows_by_turns n c.args.entry states c.args.turns 0 got got zero-le (inside_none n states) (put_none n c.args.entry states got));
+      quiet = λ coordinate e. absurd (other r Memory 1 coordinate is (λ same. cc) e);
       no_fewer = le_refl faults;
       controller = refl;
     }
@@ -65,6 +67,7 @@ loop-gone-init g c =
       long = ap (λ (xs : List ℤ). length xs) c.in_ok-state.ensures.items ∙ c.requires.start;
       inside = inside_none n states;
       put = put_none n c.args.entry states (g.O.Sink.got c.args.out.now);
+      first = λ e. refl;
       no_fewer = le_refl (g.O.Sink.faults c.args.out.now);
       controller = refl;
     }
@@ -91,6 +94,10 @@ returns-in_err-make_turn g c =
       refused = given r (LoopShows n states (lines_of n c.args.entry states) c.args.turns (got c.args.out.now) (got c.make_turn.new.out) (faults c.args.out.now) (faults c.make_turn.new.out)) fault is
           (turn_shows n c.args.entry states c.args.turns gone (got c.args.out.now) (got c.loop-gone.out) (got c.make_turn.new.out) (faults c.args.out.now) (faults c.loop-gone.out) (faults c.make_turn.new.out) fault
           (omega arith) c.loop-gone.invariant.inside c.loop-gone.invariant.put c.loop-gone.invariant.no_fewer c.make_turn.ensures.no_fewer shows);
+      quiet = λ coordinate e. (
+          let put = c.in_err-make_turn.ensures.quiet 1 coordinate (ap Err (known r fault (OutsideBox 1 coordinate) is e)) in
+          put.1 ∙ c.loop-gone.invariant.first (omega (arith, put.0))
+          );
       no_fewer = le_trans c.loop-gone.invariant.no_fewer c.make_turn.ensures.no_fewer;
       controller = c.make_turn.ensures.controller ∙ c.loop-gone.invariant.controller;
     }
@@ -123,6 +130,7 @@ loop-gone-preserved g c =
       long = ap (λ (xs : List ℤ). length xs) items ∙ long ∙ c.requires.matched.states;
       inside = inside_more n states gone c.loop-gone.invariant.inside inside;
       put = put_more n c.args.entry states gone (g.O.Sink.got c.args.out.now) (g.O.Sink.got c.loop-gone.out) (g.O.Sink.got c.make_turn.new.out) c.loop-gone.invariant.put put;
+      first = λ e. absurd (omega (arith, e));
       no_fewer = omega (arith, c.loop-gone.invariant.no_fewer, c.make_turn.ensures.no_fewer);
       controller = kept;
     }
@@ -135,9 +143,10 @@ returns g c =
     let states = states_under d n start c.args.shifts.now in
     let all : c.loop-gone.gone ≡ c.args.turns = omega arith in
     record {
-      inside = subst (λ (k : ℕ). AreInside n states k) all c.loop-gone.invariant.inside;
+      inside = subst (λ (k : ℕ). LieInside n states k) all c.loop-gone.invariant.inside;
       put = subst (λ (k : ℕ). g.O.Sink.got c.loop-gone.out ≡ option_map (λ old. old ++ lines_of n c.args.entry states k) (g.O.Sink.got c.args.out.now)) all c.loop-gone.invariant.put;
       refused = tt;
+      quiet = λ coordinate e. absurd (let never : ⊥ = cc in never);
       no_fewer = c.loop-gone.invariant.no_fewer;
       controller = c.loop-gone.invariant.controller;
     }

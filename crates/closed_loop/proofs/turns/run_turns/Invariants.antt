@@ -1,6 +1,6 @@
 use Rattle.std.proofs.Common.{◌≡◌, ◌≤◌, ◌++◌, length, option_map}
 use Rattle.qp_model.specs.problem.Parts.{design_of}
-use Rattle.closed_loop.specs.Answers.{AreInside}
+use Rattle.closed_loop.specs.Answers.{LieInside}
 use Rattle.closed_loop.specs.Under.{states_under, lines_under}
 use Rattle.closed_loop.proofs.turns.run_turns.Given as goal
 
@@ -9,8 +9,9 @@ invariant-loop-gone g l = record {
   state : l.state.items ≡ states_under (design_of l.design) l.fn.k.controller l.start l.shifts l.gone;
   next : length l.next.items ≡ l.fn.k.controller.states;
   long : length l.state.items ≡ l.fn.k.controller.states;
-  inside : AreInside l.fn.k.controller (states_under (design_of l.design) l.fn.k.controller l.start l.shifts) l.gone;
+  inside : LieInside l.fn.k.controller (states_under (design_of l.design) l.fn.k.controller l.start l.shifts) l.gone;
   put : g.O.Sink.got l.out ≡ option_map (λ old. old ++ lines_under (design_of l.design) l.fn.k.controller l.entry l.start l.shifts l.gone) (g.O.Sink.got l.fn.out);
+  first : l.gone ≡ 0 → l.out ≡ l.fn.out;
   no_fewer : g.O.Sink.faults l.fn.out ≤ g.O.Sink.faults l.out;
   controller : l.k.controller ≡ l.fn.k.controller;
 }

@@ -3,24 +3,26 @@ use Rattle.io_edge.specs.Faults.{Rose}
 use Rattle.command_loop.proofs.Answering.{stop_called, stop_prints, stop_fault, no_write, loops_called, loops_print, loops_fault, loops_no_read}
 use Rattle.command_loop.proofs.command.run_loops.Goals as goal
 
--- all three files are right
+-- all files are right
 pub returns-in-Ok : goal.returns-in-Ok
 returns-in-Ok g c =
     let words = c.args.words.now in
     let held = g.S.Store.held c.args.store.now in
     let p = c.in-Ok.loops.design in
     let n = c.in-Ok.loops.controller in
-    let m = c.in-Ok.loops.states in
+    let m = c.in-Ok.loops.starts.states in
+    let v = c.in-Ok.loops.starts.shifts in
+    let disturbed = c.args.disturbed in
     let turns = c.args.turns in
     let s = c.print_loops.result in
     let right = c.in-Ok.ensures.right in
     let ends = c.print_loops.ensures.ends in
     record {
-      called = loops_called words held p n m right turns s ends;
-      prints = loops_print words held p n m right turns s (g.O.Sink.got c.args.out.now) (g.O.Sink.got c.print_loops.new.out) ends c.print_loops.ensures.printed;
+      called = loops_called disturbed turns words held p n m v right s ends;
+      prints = loops_print disturbed turns words held p n m v right s (g.O.Sink.got c.args.out.now) (g.O.Sink.got c.print_loops.new.out) ends c.print_loops.ensures.printed;
       quiet = c.print_loops.ensures.quiet;
-      read_fault = λ file is. absurd (loops_no_read words held p n m right turns s ends file is);
-      write_fault = loops_fault words held p n m right turns s (Rose (g.O.Sink.faults c.args.out.now) (g.O.Sink.faults c.print_loops.new.out)) ends c.print_loops.ensures.failed;
+      read_fault = λ file is. absurd (loops_no_read disturbed turns words held p n m v right s ends file is);
+      write_fault = loops_fault disturbed turns words held p n m v right s (Rose (g.O.Sink.faults c.args.out.now) (g.O.Sink.faults c.print_loops.new.out)) ends c.print_loops.ensures.failed;
       held = c.read_loops.ensures.held;
       reads = c.read_loops.ensures.reads;
       writes = c.read_loops.ensures.writes;
@@ -36,12 +38,14 @@ returns-in-Err g c =
     let now = g.S.Store.read_faults c.read_loops.new.store in
     let s = c.in-Err.status in
     let ends = c.in-Err.ensures.ends in
+    let disturbed = c.args.disturbed in
+    let turns = c.args.turns in
     record {
-      called = stop_called words held before now s ends c.args.turns;
-      prints = stop_prints words held before now s ends c.args.turns (g.O.Sink.got c.args.out.now);
+      called = stop_called disturbed turns words held before now s ends;
+      prints = stop_prints disturbed turns words held before now s ends (g.O.Sink.got c.args.out.now);
       quiet = λ done memory fault leaving. refl;
-      read_fault = stop_fault words held before now s ends;
-      write_fault = λ file is. absurd (no_write words held before now s ends file is);
+      read_fault = stop_fault disturbed turns words held before now s ends;
+      write_fault = λ file is. absurd (no_write disturbed turns words held before now s ends file is);
       held = c.read_loops.ensures.held;
       reads = c.read_loops.ensures.reads;
       writes = c.read_loops.ensures.writes;

@@ -16,7 +16,9 @@ returns-in_err-controller g c =
       right = unmet r _ _ is;
       width = unmet r _ _ is;
       count = unmet r _ _ is;
-      ends = handed r (EndsLoops c.args.words.now held before now) e is (second_ends c.args.words.now held c.args.design c.requires.design before now e (rw c.at.ensures at c.in_err-controller.ensures.ends));
+      shifts = unmet r _ _ is;
+      ends = handed r (EndsLoops c.args.disturbed c.args.turns c.args.words.now held before now) e is
+          (second_ends c.args.disturbed c.args.turns c.args.words.now held c.args.design c.requires.design before now e (rw c.at.ensures at c.in_err-controller.ensures.ends));
       held = c.read_controller_for.ensures.held;
       reads = c.read_controller_for.ensures.reads;
       writes = c.read_controller_for.ensures.writes;
@@ -27,7 +29,7 @@ returns-clause-ends g c =
     let before = g.S.Store.read_faults c.args.store.now in
     let mid = g.S.Store.read_faults c.read_controller_for.new.store in
     let now = g.S.Store.read_faults c.read_after_controller.new.store in
-    IfErr-weaker c.read_after_controller.result _ _ (λ e ends. ends_later c.args.words.now (g.S.Store.held c.args.store.now) before mid now e c.in_ok-controller.ensures.reads c.read_after_controller.ensures.reads ends)
+    IfErr-weaker c.read_after_controller.result _ _ (λ e ends. ends_later c.args.disturbed c.args.turns c.args.words.now (g.S.Store.held c.args.store.now) before mid now e c.in_ok-controller.ensures.reads c.read_after_controller.ensures.reads ends)
     (rw c.in_ok-controller.ensures.held at c.read_after_controller.ensures.ends)
 
 pub returns-clause-right : goal.returns-clause-right
@@ -38,3 +40,6 @@ returns-clause-width g c = c.read_after_controller.ensures.width
 
 pub returns-clause-count : goal.returns-clause-count
 returns-clause-count g c = c.read_after_controller.ensures.count
+
+pub returns-clause-shifts : goal.returns-clause-shifts
+returns-clause-shifts g c = c.read_after_controller.ensures.shifts

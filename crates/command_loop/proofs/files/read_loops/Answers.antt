@@ -16,7 +16,8 @@ returns-in_err-design g c =
       right = unmet r _ _ is;
       width = unmet r _ _ is;
       count = unmet r _ _ is;
-      ends = handed r (EndsLoops c.args.words.now held before now) e is (first_ends c.args.words.now held before now e (rw c.at.ensures at c.in_err-design.ensures.ends));
+      shifts = unmet r _ _ is;
+      ends = handed r (EndsLoops c.args.disturbed c.args.turns c.args.words.now held before now) e is (first_ends c.args.disturbed c.args.turns c.args.words.now held before now e (rw c.at.ensures at c.in_err-design.ensures.ends));
       held = c.read_design_file.ensures.held;
       reads = c.read_design_file.ensures.reads;
       writes = c.read_design_file.ensures.writes;
@@ -27,7 +28,7 @@ returns-clause-ends g c =
     let before = g.S.Store.read_faults c.args.store.now in
     let mid = g.S.Store.read_faults c.read_design_file.new.store in
     let now = g.S.Store.read_faults c.read_after_design.new.store in
-    IfErr-weaker c.read_after_design.result _ _ (λ e ends. ends_later c.args.words.now (g.S.Store.held c.args.store.now) before mid now e c.in_ok-design.ensures.reads c.read_after_design.ensures.reads ends)
+    IfErr-weaker c.read_after_design.result _ _ (λ e ends. ends_later c.args.disturbed c.args.turns c.args.words.now (g.S.Store.held c.args.store.now) before mid now e c.in_ok-design.ensures.reads c.read_after_design.ensures.reads ends)
     (rw c.in_ok-design.ensures.held at c.read_after_design.ensures.ends)
 
 pub returns-clause-right : goal.returns-clause-right
@@ -38,3 +39,6 @@ returns-clause-width g c = c.read_after_design.ensures.width
 
 pub returns-clause-count : goal.returns-clause-count
 returns-clause-count g c = c.read_after_design.ensures.count
+
+pub returns-clause-shifts : goal.returns-clause-shifts
+returns-clause-shifts g c = c.read_after_design.ensures.shifts

@@ -1,15 +1,15 @@
 use Rattle.std.proofs.Common.{◌≡◌, ◌<◌, ◌≤◌, ◌^◌, ◌++◌, option_map}
 use Rattle.qp_model.specs.problem.Parts.{design_of}
 use Rattle.qp_model.specs.machine.LoopSize.{turn_size}
-use Rattle.command_loop.specs.Loop.{AllStay, record_lines}
+use Rattle.command_loop.specs.Loop.{AllStay, course_of, record_lines}
 use Rattle.command_loop.proofs.records.print_records.Given as goal
 
 abbrev pub invariant-loop-i : goal.invariant-loop-i
 invariant-loop-i g l = record {
   controller : l.kernel.controller ≡ l.fn.kernel.controller;
   narrow : 0 < l.i → turn_size (design_of l.design) l.fn.kernel.controller ≤ 2 ^ 126;
-  stays : AllStay (design_of l.design) l.fn.kernel.controller l.states l.turns l.i;
-  got : g.O.Sink.got l.out ≡ option_map (λ old. old ++ record_lines (design_of l.design) l.fn.kernel.controller l.states l.turns l.i) (g.O.Sink.got l.fn.out);
+  stays : AllStay l.fn.kernel.controller (course_of (design_of l.design) l.fn.kernel.controller l.starts.shifts) l.starts.states l.turns l.i;
+  got : g.O.Sink.got l.out ≡ option_map (λ old. old ++ record_lines (course_of (design_of l.design) l.fn.kernel.controller l.starts.shifts) l.starts.states l.turns l.i) (g.O.Sink.got l.fn.out);
   first : l.i ≡ 0 → l.out ≡ l.fn.out;
   faults : g.O.Sink.faults l.fn.out ≤ g.O.Sink.faults l.out;
 }

@@ -1,0 +1,65 @@
+use Rattle.std.proofs.Common.{◌≡◌, ◌++◌, subst, sym, ap, rules, ℕ, Option, Some, None, option_map}
+use Rattle.std.specs.Prelude.{OnOk, IfErr}
+use Rattle.mat_int.specs.Matrix.{Matrix}
+use Rattle.qp_model.specs.problem.Parts.{design_of}
+use Rattle.qp_model.specs.machine.LoopSize.{turn_size}
+use Rattle.closed_loop.specs.Answers.{LieInside}
+use Rattle.command_loop.specs.Loop.{course_of}
+use Rattle.command_loop.specs.Printing.{AreRowsFor, AreShiftsFor, RecordShows}
+use Rattle.command_loop.proofs.Looping.{said, ok_narrow, said_quietly}
+use Rattle.command_loop.proofs.records.run_record.Goals as goal
+
+pub returns-in-None : goal.returns-in-None
+returns-in-None g c =
+    let d = design_of c.args.design.now in
+    let n = c.args.kernel.now.controller in
+    let entry = c.args.entry in
+    let start = c.args.start.now in
+    let turns = c.args.turns in
+    let got = g.O.Sink.got in
+    let old = got c.args.out.now in
+    let new = got c.run_loop.new.out in
+    let r = c.run_loop.result in
+    let e = c.run_loop.ensures in
+    let is : c.args.shifts.now ≡ None = search rules in
+    record {
+      narrow = ok_narrow (turn_size d n) r e.wide;
+      inside = subst (λ (v : Option Matrix). OnOk r (LieInside n ((course_of d n v).states start) turns)) (sym is) e.inside;
+      put = subst (λ (v : Option Matrix). OnOk r (new ≡ option_map (λ o. o ++ (course_of d n v).lines entry start turns) old)) (sym is) e.put;
+      shows = subst (λ (v : Option Matrix). IfErr r (RecordShows d n (course_of d n v) entry start turns old new)) (sym is)
+          (said d n (course_of d n None) entry start old new turns r e.wide (λ w. ap got (e.wide_put w)) e.outside e.outside_put e.cut e.memory e.begun);
+      quiet = said_quietly (turn_size d n) r e.wide c.args.out.now c.run_loop.new.out e.wide_put e.quiet;
+      failed = e.failed;
+      no_fewer = e.no_fewer;
+      controller = e.controller;
+    }
+
+pub returns-in-Some : goal.returns-in-Some
+returns-in-Some g c =
+    let d = design_of c.args.design.now in
+    let n = c.args.kernel.now.controller in
+    let entry = c.args.entry in
+    let start = c.args.start.now in
+    let m = c.in-Some.shifts in
+    let l = course_of d n (Some m) in
+    let got = g.O.Sink.got in
+    let old = got c.args.out.now in
+    let new = got c.run_loop_under.new.out in
+    let r = c.run_loop_under.result in
+    let e = c.run_loop_under.ensures in
+    let is : c.args.shifts.now ≡ Some m = search rules in
+    let sized : AreRowsFor n.states c.args.turns m = subst (λ (v : Option Matrix). AreShiftsFor n.states c.args.turns v) is c.requires.shifts in
+    record {
+      narrow = ok_narrow (turn_size d n) r e.wide;
+      inside = subst (λ (v : Option Matrix). OnOk r (LieInside n ((course_of d n v).states start) c.args.turns)) (sym is)
+          (subst (λ (k : ℕ). OnOk r (LieInside n (l.states start) k)) sized.rows e.inside);
+      put = subst (λ (v : Option Matrix). OnOk r (new ≡ option_map (λ o. o ++ (course_of d n v).lines entry start c.args.turns) old)) (sym is)
+          (subst (λ (k : ℕ). OnOk r (new ≡ option_map (λ o. o ++ l.lines entry start k) old)) sized.rows e.put);
+      shows = subst (λ (v : Option Matrix). IfErr r (RecordShows d n (course_of d n v) entry start c.args.turns old new)) (sym is)
+          (subst (λ (k : ℕ). IfErr r (RecordShows d n l entry start k old new)) sized.rows
+          (said d n l entry start old new _ r e.wide (λ w. ap got (e.wide_put w)) e.outside e.outside_put e.cut e.memory e.begun));
+      quiet = said_quietly (turn_size d n) r e.wide c.args.out.now c.run_loop_under.new.out e.wide_put e.quiet;
+      failed = e.failed;
+      no_fewer = e.no_fewer;
+      controller = e.controller;
+    }
