@@ -3,7 +3,7 @@ use Rattle.std.proofs.Common.{◌≡◌, ◌⊎◌, ◌∙◌, inl, inr, ℕ, �
 use Rattle.io_edge.specs.Faults.{Files}
 use Rattle.mac_listing.specs.Listing.{Instructions}
 use Rattle.mac_listing.specs.Text.{IsListingText}
-use Rattle.mac_listing.specs.FirstLine.{IsBadLine}
+use Rattle.mac_listing.specs.FirstLine.{IsBadListingLine}
 use Rattle.mac_listing.specs.declared.bad_listing.BadListing.{BadListing}
 use Rattle.mac_listing.specs.declared.bad_listing.BadListing.TheVariants.{Line, Memory as no_listing}
 use Rattle.command_line.specs.Answers.{EndsReading}
@@ -15,7 +15,7 @@ use Rattle.command_play.specs.Texts.{ListingRight, ListingWrong}
 module _ {D : Type 0} (limit file : ℕ) (held : Option Files) (name bytes : List ℕ) (known : HeldBytes held name bytes) (short : length bytes ≤ limit) where
   -- a reader that answers a fault
   pub ends_line : (before now : ℕ) (fault : BadListing) (s : Status) → (fault ≡ no_listing → s ≡ Memory) → ((l : ℕ) → fault ≡ Line l → s ≡ Listing file l) →
-      ((l : ℕ) → AreSame D BadListing fault (Line l) → IsBadLine bytes l) → ((l : ℕ) → IsBadLine bytes l → AreSame D BadListing fault (Line l) ⊎ AreSame D BadListing fault no_listing) →
+      ((l : ℕ) → AreSame D BadListing fault (Line l) → IsBadListingLine bytes l) → ((l : ℕ) → IsBadListingLine bytes l → AreSame D BadListing fault (Line l) ⊎ AreSame D BadListing fault no_listing) →
       ((l : Instructions) → IsListingText bytes l → fault ≡ no_listing) → EndsReading {X = Instructions} limit file (ListingWrong file) ListingRight held name before now s
   ends_line before now no_listing s memory line bad first refused = inl (memory refl)
   ends_line before now (Line k) s memory line bad first refused =

@@ -14,8 +14,8 @@ use Rattle.command_files.specs.Texts.{StatesRight, StatesWrong}
 use Rattle.command_files.specs.Reading.{ReadsStates, AreStatesRead, EndsStates}
 use Rattle.command_files.proofs.Stopping.{IsRefusal, long_refusal, why_refused, not_done, no_write, its_fault, states_refused}
 use Rattle.command_play.specs.Texts.{ListingRight, ListingWrong, IsListingRead, EndsListing}
-use Rattle.command_play.specs.Plays.{AreInBox, HaveRoom, IsOutside, IsTrapped, PlaysCall}
-use Rattle.command_play.specs.Play.{PlayCalls, PlayReaches, PlayStarts, PlayPrints, HoldsPlays, PrintsSome, TellsTrap}
+use Rattle.command_play.specs.Plays.{AreInBox, HaveRunRoom, IsOutsideBox, IsTrapped, PlaysCall}
+use Rattle.command_play.specs.Play.{PlayCalls, PlayReaches, PlayStarts, PlayPrints, HoldsPlays, PrintsSomeRuns, TellsTrap}
 use Rattle.command_play.specs.Printing.{MayPrint, PlaysEnd, PlaysPrint, AreSome}
 use Rattle.command_play.proofs.OneCall.{one_call}
 
@@ -28,7 +28,8 @@ listing_refused : (file : ℕ) (content : Option (List ℕ)) (s : Status) → Is
 listing_refused file content s (inl long) = long_refusal file s long.is
 listing_refused file content s (inr wrong) = let is = wrong.right.2 in record { done = λ e. cc; memory = λ e. cc; read = λ f e. cc; write = λ f e. cc }
 
-refused_no_trap : (limit file : ℕ) (Wrong : List ℕ → Status → Type 0) (content : Option (List ℕ)) (s : Status) → ((bytes : List ℕ) → Wrong bytes s → TellsTrap s → ⊥) → IsFileRefused limit file Wrong content s → TellsTrap s → ⊥
+refused_no_trap : (limit file : ℕ) (Wrong : List ℕ → Status → Type 0) (content : Option (List ℕ)) (s : Status) →
+    ((bytes : List ℕ) → Wrong bytes s → TellsTrap s → ⊥) → IsFileRefused limit file Wrong content s → TellsTrap s → ⊥
 refused_no_trap limit file Wrong content s never (inl long) trap = let is = long.is in let told = trap.3 in cc
 refused_no_trap limit file Wrong content s never (inr wrong) trap = never wrong.bytes wrong.right trap
 
@@ -139,7 +140,7 @@ module _ (words : List (List ℕ)) (held : Option Files) (l : Instructions) (fir
     call_no_write s (inl out) file is = let told = out.is in cc
     call_no_write s (inr (both)) file is = go both.1
       where
-        go : IsTrapped l m s ⊎ ((s ≡ Done) × HaveRoom l m (length m.rows)) → ⊥
+        go : IsTrapped l m s ⊎ ((s ≡ Done) × HaveRunRoom l m (length m.rows)) → ⊥
         go (inl trapped) = let told = trapped.is in cc
         go (inr all) = let done = all.0 in cc
 
@@ -147,7 +148,7 @@ module _ (words : List (List ℕ)) (held : Option Files) (l : Instructions) (fir
     call_no_read s (inl out) file is = let told = out.is in cc
     call_no_read s (inr (both)) file is = go both.1
       where
-        go : IsTrapped l m s ⊎ ((s ≡ Done) × HaveRoom l m (length m.rows)) → ⊥
+        go : IsTrapped l m s ⊎ ((s ≡ Done) × HaveRunRoom l m (length m.rows)) → ⊥
         go (inl trapped) = let told = trapped.is in cc
         go (inr all) = let done = all.0 in cc
 
@@ -189,7 +190,7 @@ module _ (words : List (List ℕ)) (held : Option Files) (l : Instructions) (fir
       other = p.other;
     }
       where
-        some : (new ≡ old) ⊎ (AreInBox l m (length m.rows) × AreSome l m old new) → (new ≡ old) ⊎ PrintsSome first.content second.content old new
+        some : (new ≡ old) ⊎ (AreInBox l m (length m.rows) × AreSome l m old new) → (new ≡ old) ⊎ PrintsSomeRuns first.content second.content old new
         some (inl same) = inl same
         some (inr lines) = inr (record { l = l; m = m; plays = holds lines.0; count = lines.1.count; some = lines.1.some; room = lines.1.room; printed = lines.1.printed })
 

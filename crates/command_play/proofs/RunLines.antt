@@ -10,9 +10,9 @@ use Rattle.mat_int.specs.Matrix.{Matrix, row_of}
 use Rattle.number_text.specs.Lines.{spaced}
 use Rattle.mac_listing.specs.Listing.{Instructions}
 use Rattle.mac_machine.specs.Machine.{NeverTraps, outputs_of, after_repetitions}
-use Rattle.command_play.specs.Plays.{AreInBox, HaveRoom, IsTrapped, run_line, run_lines}
+use Rattle.command_play.specs.Plays.{AreInBox, HaveRunRoom, IsTrapped, run_line, run_lines}
 use Rattle.command_play.specs.Play.{TellsTrap}
-use Rattle.command_play.specs.Printing.{TrapsIn, PlaysEnd, PlaysPrint, ArePart}
+use Rattle.command_play.specs.Printing.{TrapsFrom, PlaysEnd, PlaysPrint, ArePart}
 use Rattle.command_line.specs.declared.status.Status.{Status}
 use Rattle.command_line.specs.declared.status.Status.TheVariants.{Done, Memory, WriteFault}
 
@@ -29,11 +29,11 @@ line_some : (l : Instructions) (xi : List ℤ) → 0 < length (run_line l xi)
 line_some l xi = ended (spaced (l.denominator ∷ outputs_of l (after_repetitions l xi l.repetitions).words))
 
 -- the room of one more state
-pub room_more : (l : Instructions) (m : Matrix) (i : ℕ) → HaveRoom l m i → NeverTraps l (row_of m i) → HaveRoom l m (i + 1)
+pub room_more : (l : Instructions) (m : Matrix) (i : ℕ) → HaveRunRoom l m i → NeverTraps l (row_of m i) → HaveRunRoom l m (i + 1)
 room_more l m i room here = below_more (λ e. NeverTraps l (row_of m e)) i room here
 
 -- a part of one line, after those before it
-cut : (l : Instructions) (m : Matrix) (i : ℕ) (old new : List ℕ) → i < length m.rows → HaveRoom l m (i + 1) → GrowsByPart (old ++ run_lines l m i) new (run_line l (row_of m i)) → ArePart l m old new
+cut : (l : Instructions) (m : Matrix) (i : ℕ) (old new : List ℕ) → i < length m.rows → HaveRunRoom l m (i + 1) → GrowsByPart (old ++ run_lines l m i) new (run_line l (row_of m i)) → ArePart l m old new
 cut l m i old new lt room p = record {
   count = i + 1;
   some = omega (arith, lt);
@@ -57,7 +57,7 @@ told_err (Err e) is h = h
 
 -- a print that failed
 pub print_cut : {T E : Type 0} (r : Result T E) (l : Instructions) (m : Matrix) (i : ℕ) (line : List ℕ) (first mid last : Option (List ℕ)) → is_err r ≡ true →
-    OnErr r (IfSome mid (λ old. IsSomeAnd last (λ new. GrowsByPart old new line))) → mid ≡ option_map (λ old. old ++ run_lines l m i) first → i < length m.rows → HaveRoom l m (i + 1) →
+    OnErr r (IfSome mid (λ old. IsSomeAnd last (λ new. GrowsByPart old new line))) → mid ≡ option_map (λ old. old ++ run_lines l m i) first → i < length m.rows → HaveRunRoom l m (i + 1) →
     line ≡ run_line l (row_of m i) → IfSome first (λ old. IsSomeAnd last (ArePart l m old))
 print_cut r l m i line first mid last failed err before lt room is =
     go first last (subst (λ (o : Option (List ℕ)). IfSome o (λ old. IsSomeAnd last (λ new. GrowsByPart old new line))) before (told_err r failed err))
@@ -75,14 +75,14 @@ mapped P f (Some old) last e h = subst (λ (o : Option (List ℕ)). IsSomeAnd o 
 mapped P f None last e h = tt
 
 -- the run from a record is the first that traps
-abbrev trapped_at : (l : Instructions) (m : Matrix) (i : ℕ) (s : Status) → i < length m.rows → HaveRoom l m i → TrapsIn l m i s → IsTrapped l m s
+abbrev trapped_at : (l : Instructions) (m : Matrix) (i : ℕ) (s : Status) → i < length m.rows → HaveRunRoom l m i → TrapsFrom l m i s → IsTrapped l m s
 trapped_at l m i s lt room traps = record { index = i; step = traps.step; place = traps.place; there = lt; before = room; here = traps.here; is = traps.is }
 
-pub stop_ends : (l : Instructions) (m : Matrix) (i : ℕ) (s : Status) → AreInBox l m (length m.rows) → i < length m.rows → HaveRoom l m i → (s ≡ Memory) ⊎ TrapsIn l m i s → PlaysEnd l m s
+pub stop_ends : (l : Instructions) (m : Matrix) (i : ℕ) (s : Status) → AreInBox l m (length m.rows) → i < length m.rows → HaveRunRoom l m i → (s ≡ Memory) ⊎ TrapsFrom l m i s → PlaysEnd l m s
 stop_ends l m i s inside lt room (inl memory) = inl memory
 stop_ends l m i s inside lt room (inr traps) = inr (inr (inr (inside, inl (trapped_at l m i s lt room traps))))
 
-pub stop_prints : (l : Instructions) (m : Matrix) (i : ℕ) (s : Status) (old : List ℕ) → AreInBox l m (length m.rows) → i < length m.rows → HaveRoom l m i → (s ≡ Memory) ⊎ TrapsIn l m i s →
+pub stop_prints : (l : Instructions) (m : Matrix) (i : ℕ) (s : Status) (old : List ℕ) → AreInBox l m (length m.rows) → i < length m.rows → HaveRunRoom l m i → (s ≡ Memory) ⊎ TrapsFrom l m i s →
     PlaysPrint l m s old (old ++ run_lines l m i)
 stop_prints l m i s old inside lt room (inl memory) = record {
   done = λ is. absurd (let never : ⊥ = cc in never);
@@ -99,7 +99,7 @@ stop_prints l m i s old inside lt room (inr traps) = record {
   other = λ done trap fault memory. absurd (trap (i + 1, traps.step, traps.place, traps.is));
 }
 
-pub stop_some : (l : Instructions) (m : Matrix) (i : ℕ) (s : Status) → (s ≡ Memory) ⊎ TrapsIn l m i s → (s ≡ Done) ⊎ ((s ≡ Memory) ⊎ ((s ≡ WriteFault 0) ⊎ TellsTrap s))
+pub stop_some : (l : Instructions) (m : Matrix) (i : ℕ) (s : Status) → (s ≡ Memory) ⊎ TrapsFrom l m i s → (s ≡ Done) ⊎ ((s ≡ Memory) ⊎ ((s ≡ WriteFault 0) ⊎ TellsTrap s))
 stop_some l m i s (inl memory) = inr (inl memory)
 stop_some l m i s (inr traps) = inr (inr (inr (i + 1, traps.step, traps.place, traps.is)))
 
@@ -117,9 +117,9 @@ cut_prints l m (Some old) (Some new) p = part_prints l m old new p
 cut_prints l m (Some old) None p = p
 cut_prints l m None last p = tt
 
-pub all_print : (l : Instructions) (m : Matrix) (k : ℕ) (old : List ℕ) → k ≡ length m.rows → HaveRoom l m k → PlaysPrint l m Done old (old ++ run_lines l m k)
+pub all_print : (l : Instructions) (m : Matrix) (k : ℕ) (old : List ℕ) → k ≡ length m.rows → HaveRunRoom l m k → PlaysPrint l m Done old (old ++ run_lines l m k)
 all_print l m k old e room = record {
-  done = λ is. (subst (HaveRoom l m) e room, ap (λ (n : ℕ). old ++ run_lines l m n) e);
+  done = λ is. (subst (HaveRunRoom l m) e room, ap (λ (n : ℕ). old ++ run_lines l m n) e);
   trap = λ told. absurd (let is = told.3 in let never : ⊥ = cc in never);
   fault = λ is. absurd (let never : ⊥ = cc in never);
   memory = λ is. absurd (let never : ⊥ = cc in never);

@@ -25,7 +25,7 @@ use Rattle.command_files.specs.Texts.{StatesRight, StatesWrong}
 use Rattle.command_files.specs.Reading.{AreStatesRead, EndsStates}
 use Rattle.command_files.proofs.Stopping.{why_refused}
 use Rattle.command_play.specs.Texts.{ListingRight, ListingWrong, IsListingRead, EndsListing}
-use Rattle.command_play.specs.Plays.{AreInBox, HaveRoom, PlaysCall, run_line, run_lines}
+use Rattle.command_play.specs.Plays.{AreInBox, HaveRunRoom, PlaysCall, run_line, run_lines}
 use Rattle.command_play.specs.Printing.{PlaysEnd, PlaysPrint, ArePart, AreSome}
 use Rattle.command_play.specs.AsSolved.{HoldsListed, IsSolved, PlaysAsSolved}
 use Rattle.command_play.proofs.OneCall.{not_all_inside, not_all_room}
@@ -60,7 +60,7 @@ module _ (c : Numbers) (m : Matrix) (sound : IsController c) (inside : AreInside
   in_box : AreInBox (listing_of c) m (length m.rows)
   in_box e lt = (plays e lt).box
 
-  room : HaveRoom (listing_of c) m (length m.rows)
+  room : HaveRunRoom (listing_of c) m (length m.rows)
   room e lt = (plays e lt).room
 
   same_lines : (k : ℕ) → k ≤ length m.rows → run_lines (listing_of c) m k ≡ plan_lines c m k

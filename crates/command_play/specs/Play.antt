@@ -9,7 +9,7 @@ use Rattle.command_line.specs.Answers.{Contents, FileHolds}
 use Rattle.command_files.specs.Texts.{StatesRight}
 use Rattle.command_files.specs.Reading.{ReadsStates}
 use Rattle.command_play.specs.Texts.{ListingRight, ReadsListing}
-use Rattle.command_play.specs.Plays.{AreInBox, HaveRoom, IsTrapped, PlaysCall, run_lines}
+use Rattle.command_play.specs.Plays.{AreInBox, HaveRunRoom, IsTrapped, PlaysCall, run_lines}
 use Rattle.command_line.specs.declared.status.Status.{Status}
 use Rattle.command_line.specs.declared.status.Status.TheVariants.{Done, Memory, WriteFault, Trap}
 
@@ -38,11 +38,11 @@ pub record PlayStarts (listing states : Option (List ℕ)) : Type 0 where
 
 -- ---- what is printed
 -- the lines of all states
-pub record PrintsAll (listing states : Option (List ℕ)) (old new : List ℕ) : Type 0 where
+pub record PrintsAllRuns (listing states : Option (List ℕ)) (old new : List ℕ) : Type 0 where
   pub l : Instructions
   pub m : Matrix
   pub plays : HoldsPlays listing states l m
-  pub room : HaveRoom l m (length m.rows)
+  pub room : HaveRunRoom l m (length m.rows)
   pub printed : new ≡ old ++ run_lines l m (length m.rows)
 
 -- the lines of the states before the one whose run traps
@@ -54,23 +54,23 @@ pub record PrintsToTrap (listing states : Option (List ℕ)) (s : Status) (old n
   pub printed : new ≡ old ++ run_lines l m trapped.index
 
 -- a part of the lines of some first states that isn't all of it, where a print failed
-pub record PrintsPart (listing states : Option (List ℕ)) (old new : List ℕ) : Type 0 where
+pub record PrintsPartOfRuns (listing states : Option (List ℕ)) (old new : List ℕ) : Type 0 where
   pub l : Instructions
   pub m : Matrix
   pub plays : HoldsPlays listing states l m
   pub count : ℕ
   pub some : count ≤ length m.rows
-  pub room : HaveRoom l m count
+  pub room : HaveRunRoom l m count
   pub printed : GrowsByPart old new (run_lines l m count)
 
 -- the lines of some first states
-pub record PrintsSome (listing states : Option (List ℕ)) (old new : List ℕ) : Type 0 where
+pub record PrintsSomeRuns (listing states : Option (List ℕ)) (old new : List ℕ) : Type 0 where
   pub l : Instructions
   pub m : Matrix
   pub plays : HoldsPlays listing states l m
   pub count : ℕ
   pub some : count ≤ length m.rows
-  pub room : HaveRoom l m count
+  pub room : HaveRunRoom l m count
   pub printed : new ≡ old ++ run_lines l m count
 
 -- the status tells of a trap
@@ -79,8 +79,8 @@ TellsTrap s = (entry : ℕ) × (step : ℕ) × (place : ℕ) × (s ≡ Trap entr
 
 -- what the output got, by the answer
 pub record PlayPrints (contents : Contents) (s : Status) (old new : List ℕ) : Type 0 where
-  pub done : s ≡ Done → PrintsAll (contents 1) (contents 2) old new
+  pub done : s ≡ Done → PrintsAllRuns (contents 1) (contents 2) old new
   pub trap : TellsTrap s → PrintsToTrap (contents 1) (contents 2) s old new
-  pub fault : s ≡ WriteFault 0 → PrintsPart (contents 1) (contents 2) old new
-  pub memory : s ≡ Memory → (new ≡ old) ⊎ PrintsSome (contents 1) (contents 2) old new
+  pub fault : s ≡ WriteFault 0 → PrintsPartOfRuns (contents 1) (contents 2) old new
+  pub memory : s ≡ Memory → (new ≡ old) ⊎ PrintsSomeRuns (contents 1) (contents 2) old new
   pub other : s ≢ Done → (TellsTrap s → ⊥) → s ≢ WriteFault 0 → s ≢ Memory → new ≡ old

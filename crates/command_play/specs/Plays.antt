@@ -16,11 +16,11 @@ abbrev pub AreInBox : Instructions → Matrix → ℕ → Type 0
 AreInBox l states k = (e : ℕ) → e < k → IsInBox l (row_of states e)
 
 -- from each of the first k states all values of the run have room
-abbrev pub HaveRoom : Instructions → Matrix → ℕ → Type 0
-HaveRoom l states k = (e : ℕ) → e < k → NeverTraps l (row_of states e)
+abbrev pub HaveRunRoom : Instructions → Matrix → ℕ → Type 0
+HaveRunRoom l states k = (e : ℕ) → e < k → NeverTraps l (row_of states e)
 
 -- the state of a record is the first that lies outside the box, and the status tells which, and its first coordinate outside
-pub record IsOutside (l : Instructions) (states : Matrix) (s : Status) : Type 0 where
+pub record IsOutsideBox (l : Instructions) (states : Matrix) (s : Status) : Type 0 where
   pub index : ℕ
   pub coordinate : ℕ
   pub there : index < length states.rows
@@ -34,14 +34,14 @@ pub record IsTrapped (l : Instructions) (states : Matrix) (s : Status) : Type 0 
   pub step : ℕ
   pub place : ℕ
   pub there : index < length states.rows
-  pub before : HaveRoom l states index
+  pub before : HaveRunRoom l states index
   pub here : Stops l (row_of states index) (stops.Trap step place)
   pub is : s ≡ Trap (index + 1) step place
 
 -- what a listing and states call for: the first state outside the box is told, or the first trap, or all lines are printed
 abbrev pub PlaysCall : Instructions → Matrix → Status → Type 0
 PlaysCall l states s =
-    IsOutside l states s ⊎ (AreInBox l states (length states.rows) × (IsTrapped l states s ⊎ ((s ≡ Done) × HaveRoom l states (length states.rows))))
+    IsOutsideBox l states s ⊎ (AreInBox l states (length states.rows) × (IsTrapped l states s ⊎ ((s ≡ Done) × HaveRunRoom l states (length states.rows))))
 
 -- ---- lines
 -- what the run from a state puts out, on a line

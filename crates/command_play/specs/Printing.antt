@@ -6,13 +6,13 @@ use Rattle.mac_listing.specs.Listing.{Instructions}
 use Rattle.mac_machine.specs.Machine.{NeverTraps}
 use Rattle.mac_machine.specs.Traps.{Stops}
 use Rattle.mac_machine.specs.declared.stop.Stop.TheVariants as stops
-use Rattle.command_play.specs.Plays.{AreInBox, HaveRoom, IsTrapped, PlaysCall, run_lines}
+use Rattle.command_play.specs.Plays.{AreInBox, HaveRunRoom, IsTrapped, PlaysCall, run_lines}
 use Rattle.command_play.specs.Play.{TellsTrap}
 use Rattle.command_line.specs.declared.status.Status.{Status}
 use Rattle.command_line.specs.declared.status.Status.TheVariants.{Done, Memory, WriteFault, Trap}
 
 -- the run from the state of a record traps, and the status tells where
-pub record TrapsIn (l : Instructions) (states : Matrix) (index : ℕ) (s : Status) : Type 0 where
+pub record TrapsFrom (l : Instructions) (states : Matrix) (index : ℕ) (s : Status) : Type 0 where
   pub step : ℕ
   pub place : ℕ
   pub here : Stops l (row_of states index) (stops.Trap step place)
@@ -38,19 +38,19 @@ pub record AreToTrap (l : Instructions) (states : Matrix) (s : Status) (old new 
 pub record ArePart (l : Instructions) (states : Matrix) (old new : List ℕ) : Type 0 where
   pub count : ℕ
   pub some : count ≤ length states.rows
-  pub room : HaveRoom l states count
+  pub room : HaveRunRoom l states count
   pub printed : GrowsByPart old new (run_lines l states count)
 
 -- the lines of some first states
 pub record AreSome (l : Instructions) (states : Matrix) (old new : List ℕ) : Type 0 where
   pub count : ℕ
   pub some : count ≤ length states.rows
-  pub room : HaveRoom l states count
+  pub room : HaveRunRoom l states count
   pub printed : new ≡ old ++ run_lines l states count
 
 -- by the answer
 pub record PlaysPrint (l : Instructions) (states : Matrix) (s : Status) (old new : List ℕ) : Type 0 where
-  pub done : s ≡ Done → HaveRoom l states (length states.rows) × (new ≡ old ++ run_lines l states (length states.rows))
+  pub done : s ≡ Done → HaveRunRoom l states (length states.rows) × (new ≡ old ++ run_lines l states (length states.rows))
   pub trap : TellsTrap s → AreToTrap l states s old new
   pub fault : s ≡ WriteFault 0 → ArePart l states old new
   pub memory : s ≡ Memory → (new ≡ old) ⊎ (AreInBox l states (length states.rows) × AreSome l states old new)

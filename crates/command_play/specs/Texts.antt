@@ -3,7 +3,7 @@ use Rattle.std.specs.Prelude.{◌≡◌, ℕ, List, Option}
 use Rattle.io_edge.specs.Faults.{Files}
 use Rattle.mac_listing.specs.Listing.{Instructions}
 use Rattle.mac_listing.specs.Text.{IsListingText}
-use Rattle.mac_listing.specs.FirstLine.{IsBadLine}
+use Rattle.mac_listing.specs.FirstLine.{IsBadListingLine}
 use Rattle.command_line.specs.Limit.{file_limit}
 use Rattle.command_line.specs.Answers.{ReadsThen, IsRightFor, EndsReading}
 use Rattle.command_line.specs.declared.status.Status.{Status}
@@ -14,7 +14,7 @@ ListingRight l bytes = IsListingText bytes l
 
 -- the status tells the first line at which the bytes of the file at a position are no listing's text
 abbrev pub ListingWrong : ℕ → List ℕ → Status → Type 0
-ListingWrong file bytes s = (line : ℕ) × IsBadLine bytes line × (s ≡ Listing file line)
+ListingWrong file bytes s = (line : ℕ) × IsBadListingLine bytes line × (s ≡ Listing file line)
 
 -- what comes after the file, in what a command is called to answer
 abbrev pub ReadsListing : ℕ → Option (List ℕ) → (Instructions → Status → Type 0) → Status → Type 0

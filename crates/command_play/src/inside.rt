@@ -1,6 +1,6 @@
 // Which state is the first outside the box.
 ghost use Rattle.std.specs.Prelude.{◌≡◌, ◌<◌, ◌^◌, length, IfErr, OnOk};
-ghost use Rattle.command_play.specs.Plays.{AreInBox, IsOutside};
+ghost use Rattle.command_play.specs.Plays.{AreInBox, IsOutsideBox};
 
 use command_line::Status;
 use mac_machine::Machine;
@@ -11,7 +11,7 @@ pub fn all_inside(machine: &Machine, states: &Mat) -> Result<(), Status>
     requires width { states.now.cols ≡ machine.now.listing.states }
     requires count { length states.now.rows < 2 ^ 32 }
     ensures inside { OnOk result (AreInBox machine.now.listing states.now (length states.now.rows)) }
-    ensures outside { IfErr result (IsOutside machine.now.listing states.now) }
+    ensures outside { IfErr result (IsOutsideBox machine.now.listing states.now) }
 {
     for i in 0..states.rows() {
         if let Some(coordinate) = machine.first_outside(states.row(i)) {

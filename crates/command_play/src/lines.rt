@@ -5,7 +5,7 @@ ghost use Rattle.mat_int.specs.Matrix.{row_of};
 ghost use Rattle.mac_machine.specs.Machine.{NeverTraps, outputs_of, play_line};
 ghost use Rattle.command_play.specs.Plays.{AreInBox, run_line};
 ghost use Rattle.command_play.specs.Play.{TellsTrap};
-ghost use Rattle.command_play.specs.Printing.{TrapsIn, PlaysEnd, PlaysPrint};
+ghost use Rattle.command_play.specs.Printing.{TrapsFrom, PlaysEnd, PlaysPrint};
 
 use command_line::Status;
 use io_edge::Sink;
@@ -49,7 +49,7 @@ fn line_from(
     requires inside { AreInBox machine.old.listing states.now (length states.now.rows) }
     ensures line { IfOk result (λ line. line.items ≡ run_line machine.old.listing (row_of states.now i)) }
     ensures room { OnOk result (NeverTraps machine.old.listing (row_of states.now i)) }
-    ensures ends { IfErr result (λ s. (s ≡ Status.Memory) ⊎ TrapsIn machine.old.listing states.now i s) }
+    ensures ends { IfErr result (λ s. (s ≡ Status.Memory) ⊎ TrapsFrom machine.old.listing states.now i s) }
     ensures listing { machine.new.listing ≡ machine.old.listing }
 {
     match machine.play(states.row(i)) {

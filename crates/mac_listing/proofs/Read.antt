@@ -9,23 +9,23 @@ use Rattle.text_lines.specs.Lines.{Keyed, view, views, spelled}
 use Rattle.mac_listing.specs.declared.instruction.Op.{Op}
 use Rattle.mac_listing.specs.Listing.{Instructions, IsListing}
 use Rattle.mac_listing.specs.Text.{IsListingText}
-use Rattle.mac_listing.specs.FirstLine.{IsBadLine}
-use Rattle.mac_listing.specs.Whole.{IsWhole}
+use Rattle.mac_listing.specs.FirstLine.{IsBadListingLine}
+use Rattle.mac_listing.specs.Whole.{IsWholeListing}
 use Rattle.mac_listing.specs.Reading.{op_in, body_in, listing_in}
 use Rattle.mac_listing.proofs.Texts.{listing_again, one_listing, are_lines}
 use Rattle.mac_listing.proofs.Follows.{whole_long}
 
 -- the listing whose lines they are
-whole_is : (ls : List Keyed) (w : IsWhole ls) → listing_in ls ≡ w.numbers
+whole_is : (ls : List Keyed) (w : IsWholeListing ls) → listing_in ls ≡ w.numbers
 whole_is ls w = ap listing_in (sym w.lines) ∙ listing_again w.numbers w.listing
 
-pub whole_listing : (ls : List Keyed) → IsWhole ls → IsListing (listing_in ls)
+pub whole_listing : (ls : List Keyed) → IsWholeListing ls → IsListing (listing_in ls)
 whole_listing ls w = subst IsListing (sym (whole_is ls w)) w.listing
 
-pub whole_text : (bytes : List ℕ) (ls : List Keyed) → IsWhole ls → bytes ≡ text_of (map spelled ls) → IsListingText bytes (listing_in ls)
+pub whole_text : (bytes : List ℕ) (ls : List Keyed) → IsWholeListing ls → bytes ≡ text_of (map spelled ls) → IsListingText bytes (listing_in ls)
 whole_text bytes ls w e = subst (λ (l : Instructions). IsListingText bytes l) (sym (whole_is ls w)) (are_lines.to bytes (record { lines = ls; whole = w; text = e }))
 
-pub lines_long : (lines : List Line) → IsWhole (views lines) → 10 ≤ length lines
+pub lines_long : (lines : List Line) → IsWholeListing (views lines) → 10 ≤ length lines
 lines_long lines w = omega (arith, whole_long (views lines) w, length-map lines view)
 
 -- ---- the instructions of the lines after the head
@@ -42,9 +42,10 @@ body_seen lines =
 
 -- what was read is the listing of the bytes
 pub read_text : (bytes : List ℕ) (told : Result (Vec Line) ℕ) (v : Vec Line) (lines : List Line) (l : Instructions)
-    → MatchResult told (λ v. IsWhole (views v.items) × (bytes ≡ text_of (map spelled (views v.items)))) (IsBadLine bytes) → told ≡ Ok v → lines ≡ v.items → l ≡ listing_in (views lines) → IsListingText bytes l
+    → MatchResult told (λ v. IsWholeListing (views v.items) × (bytes ≡ text_of (map spelled (views v.items)))) (IsBadListingLine bytes) → told ≡ Ok v → lines ≡ v.items → l ≡ listing_in (views lines) → IsListingText bytes l
 read_text bytes told v lines l h is same made =
-    let both : IsWhole (views v.items) × (bytes ≡ text_of (map spelled (views v.items))) = subst (λ (r : Result (Vec Line) ℕ). MatchResult r (λ v. IsWhole (views v.items) × (bytes ≡ text_of (map spelled (views v.items)))) (IsBadLine bytes)) is h in
+    let both : IsWholeListing (views v.items) × (bytes ≡ text_of (map spelled (views v.items))) =
+    subst (λ (r : Result (Vec Line) ℕ). MatchResult r (λ v. IsWholeListing (views v.items) × (bytes ≡ text_of (map spelled (views v.items)))) (IsBadListingLine bytes)) is h in
     subst (λ (m : Instructions). IsListingText bytes m) (sym (made ∙ ap (λ (ls : List Line). listing_in (views ls)) same)) (whole_text bytes (views v.items) both.0 both.1)
 
 -- and that of any listing whose text they are

@@ -18,10 +18,10 @@ use Rattle.text_lines.proofs.OneText.{one_text, no_prefix_of}
 use Rattle.mac_listing.specs.declared.instruction.Op.{Op}
 use Rattle.mac_listing.specs.declared.instruction.Op.TheVariants.{Clear, Load, Store, Mac, Con, AddM, Shl, Shr, Neg, Low, Cap}
 use Rattle.mac_listing.specs.Listing.{Instructions, IsOp, IsListing}
-use Rattle.mac_listing.specs.Text.{op_keyed, op_line, head_keyed, keyed_lines, listing_lines, listing_text, OpFitsWord, IsListingText}
-use Rattle.mac_listing.specs.Whole.{IsWhole}
+use Rattle.mac_listing.specs.Text.{op_keyed, op_line, head_keyed, keyed_listing, listing_lines, listing_text, OpFitsWord, IsListingText}
+use Rattle.mac_listing.specs.Whole.{IsWholeListing}
 use Rattle.mac_listing.specs.Reading.{small_in, op_in, body_in, listing_in}
-use Rattle.mac_listing.specs.Laws.{HasOneListing, HasNoPrefix, AreLines}
+use Rattle.mac_listing.specs.Laws.{HasOneListing, ListingHasNoPrefix, AreLines}
 use Rattle.mac_listing.proofs.Blank.{blank, blank_is}
 
 -- ---- the text
@@ -30,13 +30,14 @@ ops_spelled : (body : List Op) → map spelled (map op_keyed body) ≡ map op_li
 ops_spelled [] = refl
 ops_spelled (op ∷ body) = ap (λ (ls : List (List ℕ)). op_line op ∷ ls) (ops_spelled body)
 
-lines_spelled : (l : Instructions) → map spelled (keyed_lines l) ≡ listing_lines l
+lines_spelled : (l : Instructions) → map spelled (keyed_listing l) ≡ listing_lines l
 lines_spelled l =
     let end = keyed_line (codes "end") [] ∷ [] in
     let body : map spelled (map op_keyed l.body ++ end) ≡ map op_line l.body ++ map spelled end = map-append spelled (map op_keyed l.body) end ∙ ap (λ (ls : List (List ℕ)). ls ++ map spelled end) (ops_spelled l.body) in
-    map-append spelled (head_keyed l ++ map op_keyed l.body) end ∙ ap (λ (ls : List (List ℕ)). ls ++ map spelled end) (map-append spelled (head_keyed l) (map op_keyed l.body) ∙ ap (λ (ls : List (List ℕ)). map spelled (head_keyed l) ++ ls) (ops_spelled l.body))
+    map-append spelled (head_keyed l ++ map op_keyed l.body) end
+    ∙ ap (λ (ls : List (List ℕ)). ls ++ map spelled end) (map-append spelled (head_keyed l) (map op_keyed l.body) ∙ ap (λ (ls : List (List ℕ)). map spelled (head_keyed l) ++ ls) (ops_spelled l.body))
 
-pub keyed_text : (l : Instructions) → text_of (map spelled (keyed_lines l)) ≡ listing_text l
+pub keyed_text : (l : Instructions) → text_of (map spelled (keyed_listing l)) ≡ listing_text l
 keyed_text l = ap text_of (lines_spelled l)
 
 -- ---- lines that can be read
@@ -90,7 +91,7 @@ head_good l is =
     let one = good (codes "mpc-listing") (pos 1 ∷ []) refl (natural_fits 1 (omega arith), tt) in
     All-from_recursion IsKeyedLine (head_keyed l) (one, (two, (three, (four, (five, (six, (seven, (eight, (nine, tt)))))))))
 
-pub good_lines : (l : Instructions) → IsListing l → All OpFitsWord l.body → All IsKeyedLine (keyed_lines l)
+pub good_lines : (l : Instructions) → IsListing l → All OpFitsWord l.body → All IsKeyedLine (keyed_listing l)
 good_lines l is fits =
     let end = good (codes "end") [] refl tt in
     All-append IsKeyedLine (head_keyed l ++ map op_keyed l.body) (keyed_line (codes "end") [] ∷ [])
@@ -132,10 +133,10 @@ body_again words (op ∷ body) le are =
 
 -- ---- one listing
 
-pub line_count : (l : Instructions) → length (keyed_lines l) ≡ length l.body + 10
+pub line_count : (l : Instructions) → length (keyed_listing l) ≡ length l.body + 10
 line_count l = omega (arith, length-append (head_keyed l ++ map op_keyed l.body) (keyed_line (codes "end") [] ∷ []), length-append (head_keyed l) (map op_keyed l.body), length-map l.body op_keyed)
 
-pub listing_again : (l : Instructions) → IsListing l → listing_in (keyed_lines l) ≡ l
+pub listing_again : (l : Instructions) → IsListing l → listing_in (keyed_listing l) ≡ l
 listing_again l is =
     let width = small_is l.width (omega (arith, is.width.1)) in
     let states = small_is l.states (omega (arith, is.states.1)) in
@@ -144,23 +145,23 @@ listing_again l is =
     let first = small_is l.first (omega (arith, is.inside, is.words.1)) in
     let outputs = small_is l.outputs (omega (arith, is.inside, is.words.1)) in
     let repetitions = small_is l.repetitions (omega (arith, is.repetitions.1)) in
-    let count : length (keyed_lines l) - 10 ≡ length l.body = omega (arith, line_count l) in
-    let body : body_in (keyed_lines l) ≡ l.body =
+    let count : length (keyed_listing l) - 10 ≡ length l.body = omega (arith, line_count l) in
+    let body : body_in (keyed_listing l) ≡ l.body =
     ap (λ (n : ℕ). map op_in (take n (map op_keyed l.body ++ keyed_line (codes "end") [] ∷ []))) count
     ∙ ap (map op_in) (take_at (map op_keyed l.body) (keyed_line (codes "end") [] ∷ []) (length l.body) (length-map l.body op_keyed)) ∙ body_again l.words l.body is.words.1 is.ops in
     (λ i. record l { width = width i; states = states i; shift = shift i; words = words i; first = first i; outputs = outputs i; repetitions = repetitions i; body = body i })
 
-one_lines_listing : (l m : Instructions) → IsListing l → IsListing m → keyed_lines l ≡ keyed_lines m → l ≡ m
+one_lines_listing : (l m : Instructions) → IsListing l → IsListing m → keyed_listing l ≡ keyed_listing m → l ≡ m
 one_lines_listing l m p q e = sym (listing_again l p) ∙ ap listing_in e ∙ listing_again m q
 
 pub one_listing : HasOneListing
 one_listing bytes l m p q =
-    one_lines_listing l m p.listing q.listing (one_text (keyed_lines l) (keyed_lines m) (good_lines l p.listing p.word) (good_lines m q.listing q.word) (keyed_text l ∙ sym p.text ∙ q.text ∙ sym (keyed_text m)))
+    one_lines_listing l m p.listing q.listing (one_text (keyed_listing l) (keyed_listing m) (good_lines l p.listing p.word) (good_lines m q.listing q.word) (keyed_text l ∙ sym p.text ∙ q.text ∙ sym (keyed_text m)))
 
 -- ---- no prefix
 
-no_more : (l m : Instructions) (rest : List Keyed) → IsListing l → IsListing m → keyed_lines m ≡ keyed_lines l ++ rest → rest ≡ []
-no_more l m rest p q e = empty rest (omega (arith, same, line_count l, line_count m, ap length e, length-append (keyed_lines l) rest))
+no_more : (l m : Instructions) (rest : List Keyed) → IsListing l → IsListing m → keyed_listing m ≡ keyed_listing l ++ rest → rest ≡ []
+no_more l m rest p q e = empty rest (omega (arith, same, line_count l, line_count m, ap length e, length-append (keyed_listing l) rest))
   where
     same : length m.body ≡ length l.body
     same = sym (small_is (length m.body) (omega (arith, q.instructions.1))) ∙ ap (λ (ls : List Keyed). small_in ls 7 1) e ∙ small_is (length l.body) (omega (arith, p.instructions.1))
@@ -169,18 +170,19 @@ no_more l m rest p q e = empty rest (omega (arith, same, line_count l, line_coun
     empty [] h = refl
     empty (x ∷ ls) h = absurd (omega (arith, h))
 
-pub no_prefix : HasNoPrefix
+pub no_prefix : ListingHasNoPrefix
 no_prefix bytes more l m p q =
-    no_prefix_of (keyed_lines l) (keyed_lines m) more (good_lines l p.listing p.word) (good_lines m q.listing q.word) (ap (λ (t : List ℕ). t ++ more) (keyed_text l ∙ sym p.text) ∙ q.text ∙ sym (keyed_text m)) (λ rest e. no_more l m rest p.listing q.listing e)
+    no_prefix_of (keyed_listing l) (keyed_listing m) more (good_lines l p.listing p.word) (good_lines m q.listing q.word)
+    (ap (λ (t : List ℕ). t ++ more) (keyed_text l ∙ sym p.text) ∙ q.text ∙ sym (keyed_text m)) (λ rest e. no_more l m rest p.listing q.listing e)
 
 -- ---- the grammar
 
-blank_whole : IsWhole (keyed_lines (blank 2 1 0))
+blank_whole : IsWholeListing (keyed_listing (blank 2 1 0))
 blank_whole = record { numbers = blank 2 1 0; listing = blank_is 2 1 0 (omega arith, omega arith) (omega arith, omega arith) (omega arith); word = All-replicate OpFitsWord 1 Clear tt; lines = refl }
 
-pub grammar : IsGrammar IsWhole
+pub grammar : IsGrammar IsWholeListing
 grammar = record {
-  some = begins IsWhole 0 (keyed_lines (blank 2 1 0)) blank_whole;
+  some = begins IsWholeListing 0 (keyed_listing (blank 2 1 0)) blank_whole;
   each = λ ls w. subst (All IsKeyedLine) w.lines (good_lines w.numbers w.listing w.word);
   few = λ ls w. omega (arith, line_count w.numbers, ap length w.lines, w.listing.instructions.1);
 }
@@ -188,6 +190,6 @@ grammar = record {
 pub are_lines : AreLines
 are_lines = record {
   grammar = grammar;
-  from = λ bytes l t. record { lines = keyed_lines l; whole = record { numbers = l; listing = t.listing; word = t.word; lines = refl }; text = t.text ∙ sym (keyed_text l) };
+  from = λ bytes l t. record { lines = keyed_listing l; whole = record { numbers = l; listing = t.listing; word = t.word; lines = refl }; text = t.text ∙ sym (keyed_text l) };
   to = λ bytes t. record { listing = t.whole.listing; word = t.whole.word; text = t.text ∙ ap (λ (ls : List Keyed). text_of (map spelled ls)) (sym t.whole.lines) ∙ keyed_text t.whole.numbers };
 }

@@ -5,10 +5,10 @@ use Rattle.mac_listing.specs.Listing.{Instructions}
 use Rattle.mac_listing.specs.Text.{IsListingText}
 
 -- the bytes are the text of a listing
-pub record IsFormText (bytes : List ℕ) : Type 0 where
+pub record IsSomeListing (bytes : List ℕ) : Type 0 where
   pub numbers : Instructions
   pub text : IsListingText bytes numbers
 
 -- the bytes are no listing's text, and this is the first line at which they aren't
-abbrev pub IsBadLine : List ℕ → ℕ → Type 0
-IsBadLine bytes l = IsBadLineOf IsFormText bytes l
+abbrev pub IsBadListingLine : List ℕ → ℕ → Type 0
+IsBadListingLine bytes l = IsBadLineOf IsSomeListing bytes l

@@ -12,8 +12,8 @@ use Rattle.mac_listing.specs.Reading.{small_at, small_in, op_in}
 abbrev pub IsVersion : Keyed → Type 0
 IsVersion l = l ≡ keyed_line (codes "mpc-listing") (pos 1 ∷ [])
 
-abbrev pub IsWidth : Keyed → Type 0
-IsWidth l = (l ≡ keyed_line (codes "word") (pos (small_at l 0) ∷ [])) × LiesIn 2 128 (small_at l 0)
+abbrev pub IsWordWidth : Keyed → Type 0
+IsWordWidth l = (l ≡ keyed_line (codes "word") (pos (small_at l 0) ∷ [])) × LiesIn 2 128 (small_at l 0)
 
 abbrev pub IsInput : Keyed → Type 0
 IsInput l = (l ≡ keyed_line (codes "input") (pos (small_at l 0) ∷ pos (small_at l 1) ∷ [])) × LiesIn 1 6 (small_at l 0) × (small_at l 1 ≤ 48)
@@ -40,20 +40,20 @@ IsRepeat l =
     (l ≡ keyed_line (codes "repeat") (pos (small_at l 0) ∷ pos (small_at l 1) ∷ []))
     × LiesIn 1 4194304 (small_at l 0) × LiesIn 1 100000 (small_at l 1)
 
-abbrev pub IsCount : (repetitions count : ℕ) → Keyed → Type 0
-IsCount repetitions count l = l ≡ keyed_line (codes "count") (pos (repetitions * count) ∷ [])
+abbrev pub IsBodyCount : (repetitions count : ℕ) → Keyed → Type 0
+IsBodyCount repetitions count l = l ≡ keyed_line (codes "count") (pos (repetitions * count) ∷ [])
 
 -- the line after so many others
 abbrev pub IsHeadLine : ℕ → List Keyed → Keyed → Type 0
 IsHeadLine zero ls l = IsVersion l
-IsHeadLine (suc zero) ls l = IsWidth l
+IsHeadLine (suc zero) ls l = IsWordWidth l
 IsHeadLine (suc (suc zero)) ls l = IsInput l
 IsHeadLine (suc (suc (suc zero))) ls l = IsLow (small_in ls 2 0) l
 IsHeadLine (suc (suc (suc (suc zero)))) ls l = IsHigh (line_in ls 3) l
 IsHeadLine (suc (suc (suc (suc (suc zero))))) ls l = IsWords (small_in ls 2 0) l
 IsHeadLine (suc (suc (suc (suc (suc (suc zero)))))) ls l = IsOutput (small_in ls 5 0) l
 IsHeadLine (suc (suc (suc (suc (suc (suc (suc zero))))))) ls l = IsRepeat l
-IsHeadLine (suc (suc (suc (suc (suc (suc (suc (suc n)))))))) ls l = IsCount (small_in ls 7 0) (small_in ls 7 1) l
+IsHeadLine (suc (suc (suc (suc (suc (suc (suc (suc n)))))))) ls l = IsBodyCount (small_in ls 7 0) (small_in ls 7 1) l
 
 -- ---- the lines after it
 abbrev pub IsOpLine : (words : ℕ) → Keyed → Type 0

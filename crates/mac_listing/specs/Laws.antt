@@ -3,18 +3,18 @@ use Rattle.std.specs.Prelude.{◌≡◌, ℕ, List, [], ◌++◌}
 use Rattle.text_lines.specs.Grammar.{IsGrammar, IsTextOf}
 use Rattle.mac_listing.specs.Listing.{Instructions}
 use Rattle.mac_listing.specs.Text.{IsListingText}
-use Rattle.mac_listing.specs.Whole.{IsWhole}
+use Rattle.mac_listing.specs.Whole.{IsWholeListing}
 
 -- a text is the text of one listing
 abbrev pub HasOneListing : Type 0
 HasOneListing = (bytes : List ℕ) (l m : Instructions) → IsListingText bytes l → IsListingText bytes m → l ≡ m
 
 -- no text goes on where another ends
-abbrev pub HasNoPrefix : Type 0
-HasNoPrefix = (bytes more : List ℕ) (l m : Instructions) → IsListingText bytes l → IsListingText (bytes ++ more) m → more ≡ []
+abbrev pub ListingHasNoPrefix : Type 0
+ListingHasNoPrefix = (bytes more : List ℕ) (l m : Instructions) → IsListingText bytes l → IsListingText (bytes ++ more) m → more ≡ []
 
 -- the lines of listings are a grammar, and its texts are those of listings
 pub record AreLines : Type 0 where
-  pub grammar : IsGrammar IsWhole
-  pub from : (bytes : List ℕ) (l : Instructions) → IsListingText bytes l → IsTextOf IsWhole bytes
-  pub to : (bytes : List ℕ) (t : IsTextOf IsWhole bytes) → IsListingText bytes t.whole.numbers
+  pub grammar : IsGrammar IsWholeListing
+  pub from : (bytes : List ℕ) (l : Instructions) → IsListingText bytes l → IsTextOf IsWholeListing bytes
+  pub to : (bytes : List ℕ) (t : IsTextOf IsWholeListing bytes) → IsListingText bytes t.whole.numbers

@@ -34,8 +34,8 @@ head_keyed l =
     ∷ keyed_line (codes "repeat") (pos l.repetitions ∷ pos (length l.body) ∷ [])
     ∷ keyed_line (codes "count") (pos (l.repetitions * length l.body) ∷ []) ∷ []
 
-abbrev pub keyed_lines : Instructions → List Keyed
-keyed_lines l = head_keyed l ++ map op_keyed l.body ++ keyed_line (codes "end") [] ∷ []
+abbrev pub keyed_listing : Instructions → List Keyed
+keyed_listing l = head_keyed l ++ map op_keyed l.body ++ keyed_line (codes "end") [] ∷ []
 
 -- their bytes
 abbrev pub op_line : Op → List ℕ

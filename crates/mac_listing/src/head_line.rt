@@ -3,7 +3,7 @@ ghost use Rattle.std.specs.Prelude.{◌≡◌, ◌↔◌, ◌<◌, ◌^◌, [], 
 ghost use Rattle.text_lines.specs.Lines.{view, views, keyed_line};
 ghost use Rattle.qp_model.specs.problem.Range.{LiesIn};
 ghost use Rattle.mac_listing.specs.Reading.{small_at, small_in};
-ghost use Rattle.mac_listing.specs.Following.{IsWidth, IsInput, IsLow, IsHigh, IsWords, AreOutputs, IsOutput, IsRepeat, IsCount, IsHeadLine};
+ghost use Rattle.mac_listing.specs.Following.{IsWordWidth, IsInput, IsLow, IsHigh, IsWords, AreOutputs, IsOutput, IsRepeat, IsBodyCount, IsHeadLine};
 
 use qp_model::range::{are_highs, are_numerators};
 use text_lines::{Line, has_place, number_at, number_in, numbers_in, small};
@@ -55,7 +55,7 @@ fn lies_in(low: u32, high: u32, number: u32) -> bool
 }
 
 fn is_width(line: &Line) -> bool
-    ensures { IsTrue result ↔ IsWidth (view line.now) }
+    ensures { IsTrue result ↔ IsWordWidth (view line.now) }
 {
     let width = small_at(line, 0);
     is_line(line, "word", &[width as i128]) && lies_in(2, 128, width)
@@ -119,7 +119,7 @@ fn is_repeat(line: &Line) -> bool
 }
 
 fn is_count(line: &Line, repetitions: u32, count: u32) -> bool
-    ensures { IsTrue result ↔ IsCount repetitions count (view line.now) }
+    ensures { IsTrue result ↔ IsBodyCount repetitions count (view line.now) }
 {
     is_line(
         line,

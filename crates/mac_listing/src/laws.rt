@@ -1,6 +1,6 @@
 // How long a listing is.
 ghost use Rattle.mac_listing.specs.Count.{LengthLaw};
-ghost use Rattle.mac_listing.specs.Laws.{HasOneListing, HasNoPrefix, AreLines};
+ghost use Rattle.mac_listing.specs.Laws.{HasOneListing, ListingHasNoPrefix, AreLines};
 
 /// With `nu` plan entries, `n` states and `m` rows a step has `nu * (n + 2m + 9) + m * (n + 7)` instructions, less the products whose constant is 0,
 /// which are left out.
@@ -15,7 +15,7 @@ pub fn one_listing_law()
 
 /// No listing text is a proper prefix of another.
 pub fn listing_prefix_law()
-    ensures { HasNoPrefix }
+    ensures { ListingHasNoPrefix }
 {}
 
 /// The texts of listings are those of a grammar of lines.

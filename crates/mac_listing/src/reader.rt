@@ -3,10 +3,10 @@ ghost use Rattle.std.specs.Prelude.{◌≡◌, ◌≤◌, ◌⊎◌, ℕ, Err, I
 ghost use Rattle.number_text.specs.Lines.{text_of};
 ghost use Rattle.text_lines.specs.Lines.{view, views, spelled};
 ghost use Rattle.mac_listing.specs.Listing.{Instructions, instructions, IsListing};
-ghost use Rattle.mac_listing.specs.Text.{keyed_lines, IsListingText};
-ghost use Rattle.mac_listing.specs.Whole.{IsWhole};
+ghost use Rattle.mac_listing.specs.Text.{keyed_listing, IsListingText};
+ghost use Rattle.mac_listing.specs.Whole.{IsWholeListing};
 ghost use Rattle.mac_listing.specs.Reading.{op_in, body_in, listing_in};
-ghost use Rattle.mac_listing.specs.FirstLine.{IsBadLine};
+ghost use Rattle.mac_listing.specs.FirstLine.{IsBadListingLine};
 
 use crate::bad_listing::BadListing;
 use crate::body_line::op_of;
@@ -25,11 +25,11 @@ use text_lines::{Line, lines_in, number_in, numbers_in};
 /// line is absent, or bytes are left. It names the first line with which, after those before it, no listing's text begins.
 pub fn read_listing(alloc: Global, bytes: &[u8]) -> Result<Listing, BadListing>
     ensures found { IfOk result (IsListingText bytes.now) }
-    ensures bad_line { (l : ℕ) → result ≡ Err (BadListing.Line l) → IsBadLine bytes.now l }
+    ensures bad_line { (l : ℕ) → result ≡ Err (BadListing.Line l) → IsBadListingLine bytes.now l }
 
     // The other way round, with nothing but out of memory in between.
     ensures right { (l : Instructions) → IsListingText bytes.now l → MatchResult result (λ o. o ≡ l) (λ e. e ≡ BadListing.Memory) }
-    ensures bad_first { (l : ℕ) → IsBadLine bytes.now l → (result ≡ Err (BadListing.Line l)) ⊎ (result ≡ Err BadListing.Memory) }
+    ensures bad_first { (l : ℕ) → IsBadListingLine bytes.now l → (result ≡ Err (BadListing.Line l)) ⊎ (result ≡ Err BadListing.Memory) }
 {
     match listing_lines(alloc, bytes)? {
         Ok(lines) => Ok(listing_of_lines(alloc, &lines)?),
@@ -39,14 +39,15 @@ pub fn read_listing(alloc: Global, bytes: &[u8]) -> Result<Listing, BadListing>
 
 // The lines of a listing's text, or the number of the first line at which the bytes are none.
 fn listing_lines(alloc: Global, bytes: &[u8]) -> Result<Result<Vec<Line<'_>>, u32>, AllocError>
-    ensures { IfOk result (λ r. MatchResult r (λ v. IsWhole (views v.items) × (bytes.now ≡ text_of (map spelled (views v.items)))) (IsBadLine bytes.now)) }
+    ensures { IfOk result (λ r.
+        MatchResult r (λ v. IsWholeListing (views v.items) × (bytes.now ≡ text_of (map spelled (views v.items)))) (IsBadListingLine bytes.now)) }
 {
     lines_in::<ListingGrammar>(alloc, bytes)
 }
 
 // The listing whose lines these are.
 fn listing_of_lines(alloc: Global, lines: &[Line]) -> Result<Listing, AllocError>
-    requires { IsWhole (views lines.now) }
+    requires { IsWholeListing (views lines.now) }
     ensures { IfOk result (λ l. l ≡ listing_in (views lines.now)) }
 {
     Ok(listing_from(parts_of(alloc, lines)?))

@@ -9,7 +9,10 @@ pub mod Values
 pub mod Blocks
 -- ---- words of the code
 pub mod Rooms
+pub mod Narrowed
+pub mod SpanLaws
 pub mod Repeats
+pub mod SafeLaws
 pub mod Inputs
 pub mod Stopping
 -- ---- runs

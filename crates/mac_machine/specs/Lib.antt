@@ -1,5 +1,7 @@
 pub mod Machine
 pub mod Box
 pub mod Traps
+pub mod Narrow
+pub mod NarrowForm
 pub mod Playing
 pub mod Laws

@@ -2,9 +2,15 @@
 #![tactic(auto)]
 
 mod accumulator;
+mod bounds;
 mod laws;
 mod machine;
+mod narrow_machine;
+mod narrow_op;
+mod narrow_run;
+mod narrow_steps;
 mod player;
+mod spans;
 mod stop;
 mod width;
 

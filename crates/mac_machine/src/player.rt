@@ -5,10 +5,12 @@ ghost use Rattle.qp_model.specs.problem.Range.{LiesIn};
 ghost use Rattle.qp_model.specs.machine.ValuesMet.{FitsWidth};
 ghost use Rattle.mac_listing.specs.Listing.{instructions, IsOp, IsListing};
 ghost use Rattle.mac_machine.specs.Machine.{holding, played, OpsFit, repeated, inputs_of, begun, after_repetitions, NeverTraps};
+ghost use Rattle.mac_machine.specs.NarrowForm.{IsNarrowForm};
 ghost use Rattle.mac_machine.specs.Box.{IsInBox, IsFirstOutsideBox};
 ghost use Rattle.mac_machine.specs.Traps.{TrapsAt, StopsIn, Stops, IsNumbered, begun_till, begun_by, KeepsOutside};
 
 use crate::accumulator::carry_out;
+use crate::narrow_machine::{NarrowForm, play_narrow};
 use crate::stop::Stop;
 use crate::width::raised;
 use mac_listing::{ListingParts, Op};
@@ -61,6 +63,30 @@ fn play_steps(l: &ListingParts, words: &mut [i128]) -> Result<(), Stop>
     Ok(())
 }
 
+// The same, in words of 64 bits where that comes to the end.
+fn play_repetitions(
+    l: &ListingParts,
+    narrow: &mut Option<NarrowForm>,
+    words: &mut [i128],
+) -> Result<(), Stop>
+    requires sound { IsListing (instructions l.now) }
+    requires narrow { IfSome narrow.old (IsNarrowForm (instructions l.now)) }
+    requires long { length words.old ≡ l.now.words }
+    ensures room { OnOk result ((k : ℕ) → k < l.now.repeat → OpsFit l.now.word l.now.body.items (repeated l.now.body.items k (holding (pos 0) words.old))) }
+    ensures ends { OnOk result (words.new ≡ (repeated l.now.body.items l.now.repeat (holding (pos 0) words.old)).words) }
+    ensures traps { IfErr result (StopsIn (instructions l.now) (holding (pos 0) words.old)) }
+    ensures numbered { IfErr result (IsNumbered (instructions l.now)) }
+    ensures narrow { IfSome narrow.new (IsNarrowForm (instructions l.now)) }
+    ensures long { length words.new ≡ length words.old }
+{
+    if let Some(form) = narrow {
+        if play_narrow(l, form, words) {
+            return Ok(());
+        }
+    }
+    play_steps(l, words)
+}
+
 // The state, shifted up, in the first words, and 0 in all others. Whether each has room.
 fn put_inputs(l: &ListingParts, state: &[i128], words: &mut [i128]) -> bool
     requires sound { IsListing (instructions l.now) }
@@ -104,8 +130,14 @@ pub fn first_outside(l: &ListingParts, state: &[i128]) -> Option<u32>
 }
 
 /// The whole run from a state.
-pub fn play(l: &ListingParts, state: &[i128], words: &mut [i128]) -> Result<(), Stop>
+pub fn play(
+    l: &ListingParts,
+    state: &[i128],
+    narrow: &mut Option<NarrowForm>,
+    words: &mut [i128],
+) -> Result<(), Stop>
     requires sound { IsListing (instructions l.now) }
+    requires narrow { IfSome narrow.old (IsNarrowForm (instructions l.now)) }
     requires state { length state.now ≡ l.now.inputs }
     requires long { length words.old ≡ l.now.words }
     ensures inside { OnOk result (IsInBox (instructions l.now) state.now) }
@@ -115,6 +147,7 @@ pub fn play(l: &ListingParts, state: &[i128], words: &mut [i128]) -> Result<(), 
     ensures numbered { IfErr result (IsNumbered (instructions l.now)) }
     ensures outside { IfErr result (λ stop. KeepsOutside stop words.old words.new) }
     ensures kept { length words.new ≡ length words.old }
+    ensures narrow { IfSome narrow.new (IsNarrowForm (instructions l.now)) }
 {
     if let Some(coordinate) = first_outside(l, state) {
         return Err(Stop::OutsideBox { coordinate });
@@ -122,7 +155,7 @@ pub fn play(l: &ListingParts, state: &[i128], words: &mut [i128]) -> Result<(), 
     if !put_inputs(l, state, words) {
         return Err(Stop::Trap { step: 0, place: 0 });
     }
-    play_steps(l, words)
+    play_repetitions(l, narrow, words)
 }
 
 // How many instructions a run that stopped began.

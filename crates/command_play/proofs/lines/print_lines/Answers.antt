@@ -3,8 +3,8 @@ use Rattle.mat_int.specs.Matrix.{row_of}
 use Rattle.mac_listing.specs.Listing.{Instructions}
 use Rattle.mac_machine.specs.Machine.{NeverTraps}
 use Rattle.command_line.specs.declared.status.Status.TheVariants.{Memory}
-use Rattle.command_play.specs.Plays.{HaveRoom, run_line, run_lines}
-use Rattle.command_play.specs.Printing.{TrapsIn, PlaysPrint}
+use Rattle.command_play.specs.Plays.{HaveRunRoom, run_line, run_lines}
+use Rattle.command_play.specs.Printing.{TrapsFrom, PlaysPrint}
 use Rattle.command_line.specs.declared.status.Status.TheVariants.{Done}
 use Rattle.command_play.proofs.RunLines.{room_more, print_cut, cut_prints, mapped, stop_ends, stop_prints, stop_some, all_print, told_ok, grown}
 use Rattle.command_play.proofs.lines.print_lines.Goals as goal
@@ -30,7 +30,7 @@ returns-in-Err-clause-printed g c =
     let i = c.loop-i.i in
     let s = c.in-Err.status in
     let lt : i < length m.rows = omega arith in
-    let why = subst (λ (k : Instructions). (s ≡ Memory) ⊎ TrapsIn k m i s) c.loop-i.invariant.listing c.in-Err.ensures.ends in
+    let why = subst (λ (k : Instructions). (s ≡ Memory) ⊎ TrapsFrom k m i s) c.loop-i.invariant.listing c.in-Err.ensures.ends in
     mapped (λ old new. PlaysPrint l m s old new) (λ old. old ++ run_lines l m i) (g.O.Sink.got c.args.out.now) (g.O.Sink.got c.loop-i.out) c.loop-i.invariant.got
     (λ old. stop_prints l m i s old c.requires.inside lt c.loop-i.invariant.room why)
 
@@ -40,7 +40,7 @@ returns-in-Err-clause-ends g c =
     let i = c.loop-i.i in
     let s = c.in-Err.status in
     let lt : i < length m.rows = omega arith in
-    let why = subst (λ (k : Instructions). (s ≡ Memory) ⊎ TrapsIn k m i s) c.loop-i.invariant.listing c.in-Err.ensures.ends in
+    let why = subst (λ (k : Instructions). (s ≡ Memory) ⊎ TrapsFrom k m i s) c.loop-i.invariant.listing c.in-Err.ensures.ends in
     stop_ends c.args.machine.now.listing m i s c.requires.inside lt c.loop-i.invariant.room why
 
 pub returns-in-Err-clause-some : goal.returns-in-Err-clause-some
@@ -66,7 +66,7 @@ pub returns-clause-ends : goal.returns-clause-ends
 returns-clause-ends g c =
     let m = c.args.states.now in
     let all : c.loop-i.i ≡ length m.rows = omega arith in
-    inr (inr (inr (c.requires.inside, inr (refl, subst (HaveRoom c.args.machine.now.listing m) all c.loop-i.invariant.room))))
+    inr (inr (inr (c.requires.inside, inr (refl, subst (HaveRunRoom c.args.machine.now.listing m) all c.loop-i.invariant.room))))
 
 pub returns-clause-printed : goal.returns-clause-printed
 returns-clause-printed g c =

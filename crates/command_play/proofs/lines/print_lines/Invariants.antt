@@ -1,11 +1,11 @@
 use Rattle.std.proofs.Common.{◌≡◌, ◌≤◌, ◌++◌, option_map}
-use Rattle.command_play.specs.Plays.{HaveRoom, run_lines}
+use Rattle.command_play.specs.Plays.{HaveRunRoom, run_lines}
 use Rattle.command_play.proofs.lines.print_lines.Given as goal
 
 abbrev pub invariant-loop-i : goal.invariant-loop-i
 invariant-loop-i g l = record {
   listing : l.machine.listing ≡ l.fn.machine.listing;
   got : g.O.Sink.got l.out ≡ option_map (λ old. old ++ run_lines l.fn.machine.listing l.states l.i) (g.O.Sink.got l.fn.out);
-  room : HaveRoom l.fn.machine.listing l.states l.i;
+  room : HaveRunRoom l.fn.machine.listing l.states l.i;
   faults : g.O.Sink.faults l.fn.out ≤ g.O.Sink.faults l.out;
 }

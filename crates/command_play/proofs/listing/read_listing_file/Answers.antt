@@ -11,7 +11,8 @@ pub returns-in_err-bytes-clause-ends : goal.returns-in_err-bytes-clause-ends
 returns-in_err-bytes-clause-ends g c =
     let e = c.in_err-bytes.field-0.0 in
     rw (err_same c.from_residual.result _ c.from_residual.ensures.1)
-    (ends_unread file_limit c.args.file (ListingWrong c.args.file) ListingRight (g.S.Store.held c.args.store.now) c.args.name.now (g.S.Store.read_faults c.args.store.now c.args.name.now) (g.S.Store.read_faults c.read_bytes.new.store c.args.name.now) e
+    (ends_unread file_limit c.args.file (ListingWrong c.args.file) ListingRight (g.S.Store.held c.args.store.now) c.args.name.now
+    (g.S.Store.read_faults c.args.store.now c.args.name.now) (g.S.Store.read_faults c.read_bytes.new.store c.args.name.now) e
     c.in_err-bytes.ensures.only (λ is. c.in_err-bytes.ensures.failed (ap Err is)) (λ is. c.in_err-bytes.ensures.long (ap Err is)))
 
 pub returns-in-Ok-clause-right : goal.returns-in-Ok-clause-right

@@ -5,7 +5,7 @@ use Rattle.mac_listing.specs.Listing.{Instructions}
 use Rattle.mac_machine.specs.Playing.{Playing}
 use Rattle.command_line.specs.declared.status.Status.{Status}
 use Rattle.command_line.specs.declared.status.Status.TheVariants.{Done, Memory, WriteFault}
-use Rattle.command_play.specs.Plays.{AreInBox, IsOutside}
+use Rattle.command_play.specs.Plays.{AreInBox, IsOutsideBox}
 use Rattle.command_play.specs.Play.{TellsTrap}
 use Rattle.command_play.specs.Printing.{PlaysEnd, PlaysPrint}
 use Rattle.command_play.proofs.runs.print_plays.Goals as goal
@@ -18,7 +18,7 @@ silent l m s None done fault trap = tt
 memory_no_trap : TellsTrap Memory → ⊥
 memory_no_trap told = let is = told.3 in cc
 
-module _ (l : Instructions) (m : Matrix) (s : Status) (out : IsOutside l m s) where
+module _ (l : Instructions) (m : Matrix) (s : Status) (out : IsOutsideBox l m s) where
   outside_not_done : s ≢ Done
   outside_not_done is = let told = out.is in cc
 
@@ -64,7 +64,7 @@ returns g c =
     let l = c.args.listing.now in
     let m = c.args.states.now in
     let s = c.in-Err.status in
-    let outside = subst (λ (k : Instructions). IsOutside k m s) (ap (λ (p : Playing). p.listing) c.in-Ok.ensures) c.in-Err.ensures.outside in
+    let outside = subst (λ (k : Instructions). IsOutsideBox k m s) (ap (λ (p : Playing). p.listing) c.in-Ok.ensures) c.in-Err.ensures.outside in
     record {
       ends = inr (inr (inl outside));
       printed = silent l m s (g.O.Sink.got c.args.out.now) (outside_not_done l m s outside) (outside_no_fault l m s outside) (outside_no_trap l m s outside);
