@@ -1,16 +1,15 @@
 -- What a design with a policy, faces and a range call for is one status.
-use Rattle.std.proofs.Common.{◌≡◌, ◌≢◌, ◌⊎◌, inl, inr, ℕ, List, ℤ, pos, refl, sym, ap, subst, ◌∙◌}
+use Rattle.std.proofs.Common.{◌≡◌, ◌≢◌, ◌⊎◌, inl, inr, List, ℤ, pos, refl, sym, ap, subst, ◌∙◌}
 use Rattle.integer_algebra.specs.Sums.{at}
 use Rattle.mat_int.specs.Matrix.{Matrix, row_of}
 use Rattle.qp_model.specs.problem.Design.{Design}
-use Rattle.qp_model.specs.problem.Parts.{IsDesign, design_of}
-use Rattle.qp_model.specs.problem.Policy.{Plans, IsPolicyFor}
+use Rattle.qp_model.specs.problem.Parts.{design_of}
+use Rattle.qp_model.specs.problem.Policy.{Plans}
 use Rattle.qp_model.specs.problem.Runs.{Holds}
 use Rattle.qp_model.specs.machine.Controller.{Numbers}
 use Rattle.qp_model.specs.bounds.Printed.{Printed}
 use Rattle.qp_model.specs.declared.design_parts.DesignParts.{DesignParts}
 use Rattle.stay_check.specs.FaceForms.{FaceNumbers}
-use Rattle.stay_check.specs.Answers.{IsStayFault, Stays}
 use Rattle.stay_check.specs.declared.fault.StayFault.{StayFault}
 use Rattle.stay_check.specs.declared.fault.StayFault.TheVariants as faults
 use Rattle.stay_check.proofs.CheckFacts.{same_fault, stays_or_not}
@@ -21,14 +20,14 @@ use Rattle.design_refusal.specs.declared.refusal.Refusal.{Refusal}
 use Rattle.design_refusal.specs.declared.refusal.Refusal.TheVariants as refusals
 use Rattle.command_line.specs.Answers.{IsAnswer}
 use Rattle.command_line.specs.declared.status.Status.{Status}
-use Rattle.command_line.specs.declared.status.Status.TheVariants.{Done, Memory, ReadFault, WriteFault}
-use Rattle.command_controller.specs.Made.{MakingCalls, IsRefusedBy, IsMadeOf}
+use Rattle.command_line.specs.declared.status.Status.TheVariants.{Done, Memory}
+use Rattle.command_controller.specs.Made.{MakingCalls, IsRefusedBy, IsMadeOf, Passes}
 use Rattle.command_line.specs.Status.{status_of}
 use Rattle.command_controller.proofs.Making.{refusal_not_done, making_no_read, making_no_write}
 use Rattle.command_stay.specs.Excess.{AreStatedExcesses}
-use Rattle.command_stay.specs.Stay.{stay_status, FacesCall, StayingCalls}
+use Rattle.command_stay.specs.Stay.{stay_status, FacesCall, FacedCalls, StayingCalls}
 use Rattle.command_stay.specs.Reading.{IsRefusal, IsRefusedWith}
-use Rattle.command_stay.specs.Checking.{made_excess, IsKept, IsCaught}
+use Rattle.command_stay.specs.Checking.{made_excess, IsKeptWith, IsCaughtWith, IsKept, IsCaught}
 use Rattle.command_stay.proofs.Excesses.{one_excess, own_passes, built_excess}
 
 -- ---- the status of a fault
@@ -50,77 +49,90 @@ making_no_memory : (p : DesignParts) (plans : Plans) (s : Status) → MakingCall
 making_no_memory p plans s (inl why) is = caused_not_memory (design_of p) (targets_of p) plans why.refusal why.cause (sym why.is ∙ is)
 making_no_memory p plans s (inr done) is = let e = done.0 in cc
 
-module _ (p : DesignParts) (plans : Plans) (faces : FaceNumbers) (range : Matrix) where
-  -- ---- refused as in `generate`
-  refused_answer : (s : Status) → s ≢ Done → IsAnswer (MakingCalls p plans) s → IsAnswer (StayingCalls p plans faces range) s
-  refused_answer s not_done answer = record { called = go answer.called; only = only }
+-- ---- answered by the faces, with the numbers of all rows: there is one list of these, and no refusal
+module _ (Refuses : Status → Type 0) (AreStated : List ℤ → Type 0) (d : Design) (faces : FaceNumbers) (range : Matrix) where
+  abbrev Calls : Status → Type 0
+  Calls = FacedCalls Refuses AreStated d faces range
+
+  -- refused as where there are no faces: what is stated comes with no refusal
+  pub refused_calls : (Tested : Type 0) → ((xs : List ℤ) → AreStated xs → Tested) → (s : Status) → s ≢ Done → IsAnswer (λ t. Refuses t ⊎ ((t ≡ Done) × Tested)) s → IsAnswer Calls s
+  refused_calls Tested passes s not_done answer = record { called = go answer.called; only = only }
     where
-      go : MakingCalls p plans s → StayingCalls p plans faces range s
+      go : Refuses s ⊎ ((s ≡ Done) × Tested) → Calls s
       go (inl why) = inl why
       go (inr done) = absurd (not_done done.0)
 
-      only : (t : Status) → StayingCalls p plans faces range t → t ≡ s
+      only : (t : Status) → Calls t → t ≡ s
       only t (inl why) = answer.only t (inl why)
-      only t (inr call) = absurd (not_done (sym (answer.only Done (inr (refl, record { margin = call.1.margin; exponent = call.1.exponent; bits = call.1.bits; all = call.1.passes })))))
+      only t (inr call) = absurd (not_done (sym (answer.only Done (inr (refl, passes call.0 call.1)))))
 
-  pub refused_with : (s : Status) → s ≢ Done → (s ≡ Memory) ⊎ IsAnswer (MakingCalls p plans) s → IsRefusedWith p plans faces range s
-  refused_with s not_done (inl memory) = inl memory
-  refused_with s not_done (inr answer) = inr (
-    refused_answer s not_done answer,
-    record {
-      done = not_done;
-      memory = λ is. making_no_memory p plans s answer.called is;
-      read = λ file is. making_no_read p plans s file answer.called is;
-      write = λ file is. making_no_write p plans s file answer.called is;
-    },
-  )
+  module _ (excess : List ℤ) (stated : AreStated excess) (one : (other : List ℤ) → AreStated other → other ≡ excess) (not_refused : (t : Status) → Refuses t → ⊥) where
+    by_excess : (t : Status) (other : List ℤ) → AreStated other → FacesCall d (at other) faces range t → FacesCall d (at excess) faces range t
+    by_excess t other own call = subst (λ (xs : List ℤ). FacesCall d (at xs) faces range t) (one other own) call
 
-  -- ---- made, and answered by the faces
-  module _ (design : IsDesign p) (policy : IsPolicyFor (design_of p) plans) (making : IsAnswer (MakingCalls p plans) Done) (excess : List ℤ)
-      (stated : AreStatedExcesses (design_of p) (targets_of p) plans excess) where
-    abbrev Fault : StayFault → Type 0
-    Fault fault = IsStayFault (design_of p) (at excess) (at (row_of range 0)) (at (row_of range 1)) faces fault
-
-    -- no refusal comes with it
-    not_refused : (t : Status) → IsRefusedBy p plans t → ⊥
-    not_refused t why = refusal_not_done why.refusal (sym why.is ∙ making.only t (inl why))
-
-    by_excess : (t : Status) (other : List ℤ) → AreStatedExcesses (design_of p) (targets_of p) plans other → FacesCall (design_of p) (at other) faces range t → FacesCall (design_of p) (at excess) faces range t
-    by_excess t other own call = subst (λ (xs : List ℤ). FacesCall (design_of p) (at xs) faces range t) (one_excess p plans design policy other excess own stated) call
-
-    pub kept_answer : Stays (design_of p) (at excess) (at (row_of range 0)) (at (row_of range 1)) faces → IsAnswer (StayingCalls p plans faces range) Done
-    kept_answer stays = record { called = inr (excess, stated, inl (refl, stays)); only = only }
+    pub kept_calls : IsKeptWith d (at excess) faces range → IsAnswer Calls Done
+    kept_calls kept = record { called = inr (excess, stated, inl (refl, kept.stays)); only = only }
       where
-        by : (t : Status) → FacesCall (design_of p) (at excess) faces range t → t ≡ Done
+        by : (t : Status) → FacesCall d (at excess) faces range t → t ≡ Done
         by t (inl done) = done.0
-        by t (inr fault) = absurd (stays_or_not (design_of p) (at excess) (at (row_of range 0)) (at (row_of range 1)) faces fault.0 stays fault.1)
+        by t (inr fault) = absurd (stays_or_not d (at excess) (at (row_of range 0)) (at (row_of range 1)) faces fault.0 kept.stays fault.1)
 
-        only : (t : Status) → StayingCalls p plans faces range t → t ≡ Done
+        only : (t : Status) → Calls t → t ≡ Done
         only t (inl why) = absurd (not_refused t why)
         only t (inr call) = by t (by_excess t call.0 call.1 call.2)
 
-    pub caught_answer : (fault : StayFault) (s : Status) → Fault fault → s ≡ stay_status fault → IsAnswer (StayingCalls p plans faces range) s × IsRefusal s
-    caught_answer fault s found is = (record { called = inr (excess, stated, inr (fault, found, is)); only = only }, fault_refusal fault s is)
+    pub caught_calls : (s : Status) → IsCaughtWith d (at excess) faces range s → IsAnswer Calls s × IsRefusal s
+    caught_calls s caught = (record { called = inr (excess, stated, inr (caught.fault, caught.found, caught.is)); only = only }, fault_refusal caught.fault s caught.is)
       where
-        by : (t : Status) → FacesCall (design_of p) (at excess) faces range t → t ≡ s
-        by t (inl done) = absurd (stays_or_not (design_of p) (at excess) (at (row_of range 0)) (at (row_of range 1)) faces fault done.1 found)
+        by : (t : Status) → FacesCall d (at excess) faces range t → t ≡ s
+        by t (inl done) = absurd (stays_or_not d (at excess) (at (row_of range 0)) (at (row_of range 1)) faces caught.fault done.1 caught.found)
         by t (inr other) =
-            other.2 ∙ ap stay_status (same_fault (design_of p) (at excess) (at (row_of range 0)) (at (row_of range 1)) faces other.0 fault other.1 found) ∙ sym is
+            other.2 ∙ ap stay_status (same_fault d (at excess) (at (row_of range 0)) (at (row_of range 1)) faces other.0 caught.fault other.1 caught.found) ∙ sym caught.is
 
-        only : (t : Status) → StayingCalls p plans faces range t → t ≡ s
+        only : (t : Status) → Calls t → t ≡ s
         only t (inl why) = absurd (not_refused t why)
         only t (inr call) = by t (by_excess t call.0 call.1 call.2)
+
+-- ---- refused as in `generate`
+pub refused_with : (p : DesignParts) (plans : Plans) (faces : FaceNumbers) (range : Matrix) (s : Status) → s ≢ Done → (s ≡ Memory) ⊎ IsAnswer (MakingCalls p plans) s →
+    IsRefusedWith p plans faces range s
+refused_with p plans faces range s not_done (inl memory) = inl memory
+refused_with p plans faces range s not_done (inr answer) = inr (
+  refused_calls (IsRefusedBy p plans) (AreStatedExcesses (design_of p) (targets_of p) plans) (design_of p) faces range (Passes p plans) passes s not_done answer,
+  record {
+    done = not_done;
+    memory = λ is. making_no_memory p plans s answer.called is;
+    read = λ file is. making_no_read p plans s file answer.called is;
+    write = λ file is. making_no_write p plans s file answer.called is;
+  },
+)
+  where
+    passes : (xs : List ℤ) → AreStatedExcesses (design_of p) (targets_of p) plans xs → Passes p plans
+    passes xs stated = record { margin = stated.margin; exponent = stated.exponent; bits = stated.bits; all = stated.passes }
 
 -- ---- by what the check of a controller that was made says
 module _ (p : DesignParts) (plans : Plans) (faces : FaceNumbers) (range : Matrix) (c : Numbers) (b : Printed) (errors : ℤ) (made : IsMadeOf p plans c b)
     (cost : errors ≡ pos (stated_cost (design_of p) (printed_multiplier b) c.fraction_bits)) (making : IsAnswer (MakingCalls p plans) Done) where
-  stated : (xs : List ℤ) → Holds xs c.rows (made_excess c b.multiplier errors) → AreStatedExcesses (design_of p) (targets_of p) plans xs
+  abbrev Stated : List ℤ → Type 0
+  Stated = AreStatedExcesses (design_of p) (targets_of p) plans
+
+  stated : (xs : List ℤ) → Holds xs c.rows (made_excess c b.multiplier errors) → Stated xs
   stated xs holds = built_excess p plans c b made.built errors cost xs holds (own_passes p plans c b making made.built)
 
-  pub texts_answer : IsKept (design_of p) c b.multiplier errors faces range → IsAnswer (StayingCalls p plans faces range) Done
-  texts_answer kept = kept_answer p plans faces range made.built.made.design made.built.policy making kept.excess (stated kept.excess kept.holds) kept.stays
+  one : (xs : List ℤ) → Stated xs → (other : List ℤ) → Stated other → other ≡ xs
+  one xs own other stated = one_excess p plans made.built.made.design made.built.policy other xs stated own
 
-  pub caught_with : (s : Status) → (s ≡ Memory) ⊎ IsCaught (design_of p) c b.multiplier errors faces range s → IsRefusedWith p plans faces range s
+  -- no refusal comes with it
+  not_refused : (t : Status) → IsRefusedBy p plans t → ⊥
+  not_refused t why = refusal_not_done why.refusal (sym why.is ∙ making.only t (inl why))
+
+  pub texts_answer : IsKept (design_of p) c.rows (made_excess c b.multiplier errors) faces range → IsAnswer (StayingCalls p plans faces range) Done
+  texts_answer kept =
+      let own = stated kept.excess kept.holds in
+      kept_calls (IsRefusedBy p plans) Stated (design_of p) faces range kept.excess own (one kept.excess own) not_refused kept.with
+
+  pub caught_with : (s : Status) → (s ≡ Memory) ⊎ IsCaught (design_of p) c.rows (made_excess c b.multiplier errors) faces range s → IsRefusedWith p plans faces range s
   caught_with s (inl memory) = inl memory
   caught_with s (inr caught) =
-      inr (caught_answer p plans faces range made.built.made.design made.built.policy making caught.excess (stated caught.excess caught.holds) caught.fault s caught.found caught.is)
+      let own = stated caught.excess caught.holds in
+      inr (caught_calls (IsRefusedBy p plans) Stated (design_of p) faces range caught.excess own (one caught.excess own) not_refused s caught.with)

@@ -1,5 +1,5 @@
 -- By how much a controller's plans exceed each row at most: one list of numbers, which a controller that is built has; what it prints is not above them.
-use Rattle.std.proofs.Common.{◌≡◌, inl, inr, ℕ, ◌+◌, ◌*◌, ◌^◌, ◌<◌, ◌≤◌, List, ℤ, pos, ◌≤ℤ◌, unsigned_abs, arith, refl, sym, ap, subst, ◌∙◌}
+use Rattle.std.proofs.Common.{◌≡◌, inl, ℕ, ◌^◌, ◌<◌, ◌≤◌, List, ℤ, pos, ◌≤ℤ◌, unsigned_abs, arith, refl, sym, ap, subst, ◌∙◌}
 use Rattle.std.proofs.lemmas.Int.{ints}
 use Rattle.std.proofs.lemmas.List.{ext_get_or}
 use Rattle.integer_algebra.specs.Sums.{at}
@@ -70,7 +70,7 @@ own_passes p plans c b answer built = passing.own_passes p plans c b never built
     never : (r : Refusal) → HasCause (design_of p) (targets_of p) plans r → ⊥
     never r cause = refusal_not_done r (answer.only (status_of r) (inl (record { refusal = r; cause = cause; is = refl })))
 
-ceil_mono : (a b k : ℕ) → 1 ≤ k → a ≤ b → ceil_div a k ≤ ceil_div b k
+pub ceil_mono : (a b k : ℕ) → 1 ≤ k → a ≤ b → ceil_div a k ≤ ceil_div b k
 ceil_mono a b k some h = let e = le-mul-ceil_div b k some in ceil_div-le a k (ceil_div b k) some (omega (arith, e, h))
 
 errors_mono : (e s r k a b : ℕ) → 1 ≤ r → a ≤ b → row_violation_bound e s r k a ≤ row_violation_bound e s r k b

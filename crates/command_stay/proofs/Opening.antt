@@ -1,5 +1,5 @@
 -- What the files make of the answer where one of them ends it, and where all are right.
-use Rattle.std.proofs.Common.{◌≡◌, ◌≢◌, ◌⊎◌, inl, inr, ℕ, Bool, true, false, List, Option, refl, sym, subst}
+use Rattle.std.proofs.Common.{◌≡◌, inl, inr, ℕ, Bool, true, false, List, Option, refl, subst}
 use Rattle.io_edge.specs.Faults.{Files, NoneFalls}
 use Rattle.integer_algebra.specs.Sums.{at}
 use Rattle.mat_int.specs.Matrix.{Matrix}
@@ -16,7 +16,7 @@ use Rattle.command_line.specs.Answers.{Contents, IsTold, ForContents, FileHolds,
 use Rattle.command_line.proofs.Composing.{told_at, told, told_contents, all_told, replace, replaced_told, some_contents, stop, go_on, go_on_whole}
 use Rattle.command_line.proofs.Counts.{rose_later}
 use Rattle.command_line.specs.declared.status.Status.{Status}
-use Rattle.command_line.specs.declared.status.Status.TheVariants.{Done, Memory, ReadFault, WriteFault, Text, Long}
+use Rattle.command_line.specs.declared.status.Status.TheVariants.{Text, Long}
 use Rattle.command_files.specs.Texts.{DesignRight, DesignWrong, PolicyRight, PolicyWrong, FacesRight, FacesWrong, RangeRight, RangeWrong}
 use Rattle.command_files.specs.Reading.{ReadsPolicy, ReadsFaces, IsDesignRead, EndsDesign, IsPolicyRead, EndsPolicy, AreFacesRead, EndsFaces}
 use Rattle.command_files.proofs.Designs.{same_design}
@@ -24,7 +24,7 @@ use Rattle.command_controller.proofs.SameDesign.{along}
 use Rattle.command_generate.specs.Generate.{HoldsInputs}
 use Rattle.command_stay.specs.Excess.{AreStatedExcesses}
 use Rattle.command_stay.specs.Stay.{FacesCall, StayingCalls, ReadsShifts, StayCalls, StayReaches, no_shifts}
-use Rattle.command_stay.specs.Reading.{IsRangeTaken, EndsTaking, IsRefusal, IsRefusedWith, AreStayFilesRead, IsStayRefused, EndsStaying}
+use Rattle.command_stay.specs.Reading.{IsRangeTaken, EndsTaking, IsRefusal, IsRefusedWith, AreStayFilesRead, EndsStaying}
 
 -- ---- what a file is refused with
 long_refusal : (file : ℕ) (s : Status) → s ≡ Long file → IsRefusal s
@@ -33,7 +33,7 @@ long_refusal file s is = record { done = λ e. cc; memory = λ e. cc; read = λ 
 text_refusal : (file : ℕ) (fault : TextFault) (s : Status) → s ≡ Text file fault → IsRefusal s
 text_refusal file fault s is = record { done = λ e. cc; memory = λ e. cc; read = λ f e. cc; write = λ f e. cc }
 
-refusal_of : (file : ℕ) (Wrong : List ℕ → Status → Type 0) (content : Option (List ℕ)) (s : Status) → ((bytes : List ℕ) → Wrong bytes s → (fault : TextFault) × (s ≡ Text file fault)) →
+pub refusal_of : (file : ℕ) (Wrong : List ℕ → Status → Type 0) (content : Option (List ℕ)) (s : Status) → ((bytes : List ℕ) → Wrong bytes s → (fault : TextFault) × (s ≡ Text file fault)) →
     IsFileRefused file_limit file Wrong content s → IsRefusal s
 refusal_of file Wrong content s tells (inl long) = long_refusal file s long.is
 refusal_of file Wrong content s tells (inr wrong) = let told = tells wrong.bytes wrong.right in text_refusal file told.0 s told.1
@@ -52,7 +52,7 @@ for_four words held P one two five six first second fifth sixth h = record {
 
 -- ---- what comes after the faces, the policy and the design
 abbrev pub AfterFaces : (disturbed : Bool) (shifts : Option (List ℕ)) → DesignParts → Plans → FaceNumbers → Status → Type 0
-AfterFaces disturbed shifts p plans f s = ReadsShifts disturbed (design_of p).states shifts (StayingCalls p plans f) s
+AfterFaces disturbed shifts p plans f s = ReadsShifts disturbed (design_of p).states 6 shifts (StayingCalls p plans f) s
 
 abbrev pub AfterPolicy : (disturbed : Bool) (faces shifts : Option (List ℕ)) → DesignParts → Plans → Status → Type 0
 AfterPolicy disturbed faces shifts p plans s = ReadsFaces (design_of p) 5 faces (AfterFaces disturbed shifts p plans) s
@@ -68,22 +68,30 @@ module _ (p q : DesignParts) (e : design_numbers p ≡ design_numbers q) where
       let both = along (λ d t. AreStatedExcesses d t plans call.0 × FacesCall d (at call.0) f range s) p q e (call.1, call.2) in
       inr (call.0, both.0, both.1)
 
-  shifts_same : (disturbed : Bool) (shifts : Option (List ℕ)) (plans : Plans) (f : FaceNumbers) (s : Status) → AfterFaces disturbed shifts p plans f s → AfterFaces disturbed shifts q plans f s
-  shifts_same true shifts plans f s (inl refused) = inl (subst (λ (d : Design). IsFileRefused file_limit 6 (RangeWrong d.states 6) shifts s) (same_design p q e) refused)
-  shifts_same true shifts plans f s (inr right) =
-      inr (right.0, subst (λ (d : Design). FileHolds file_limit (RangeRight d.states right.0) shifts) (same_design p q e) right.1, staying_same plans f right.0 s right.2)
-  shifts_same false shifts plans f s call =
-      subst (λ (d : Design). StayingCalls q plans f (no_shifts d.states) s) (same_design p q e) (staying_same plans f (no_shifts (design_of p).states) s call)
+  -- whatever is called for with the faces and the range
+  pub shifts_same : (Before After : Matrix → Status → Type 0) → ((range : Matrix) (s : Status) → Before range s → After range s) → (disturbed : Bool) (file : ℕ) (shifts : Option (List ℕ)) (s : Status) →
+      ReadsShifts disturbed (design_of p).states file shifts Before s → ReadsShifts disturbed (design_of q).states file shifts After s
+  shifts_same Before After same true file shifts s (inl refused) = inl (subst (λ (d : Design). IsFileRefused file_limit file (RangeWrong d.states file) shifts s) (same_design p q e) refused)
+  shifts_same Before After same true file shifts s (inr right) =
+      inr (right.0, subst (λ (d : Design). FileHolds file_limit (RangeRight d.states right.0) shifts) (same_design p q e) right.1, same right.0 s right.2)
+  shifts_same Before After same false file shifts s call = subst (λ (d : Design). After (no_shifts d.states) s) (same_design p q e) (same (no_shifts (design_of p).states) s call)
 
-  faces_same : (disturbed : Bool) (faces shifts : Option (List ℕ)) (plans : Plans) (s : Status) → AfterPolicy disturbed faces shifts p plans s → AfterPolicy disturbed faces shifts q plans s
-  faces_same disturbed faces shifts plans s (inl refused) = inl (subst (λ (d : Design). IsFileRefused file_limit 5 (FacesWrong d 5) faces s) (same_design p q e) refused)
-  faces_same disturbed faces shifts plans s (inr right) =
-      inr (right.0, subst (λ (d : Design). FileHolds file_limit (FacesRight d right.0) faces) (same_design p q e) right.1, shifts_same disturbed shifts plans right.0 s right.2)
+  pub faces_same : (Before After : FaceNumbers → Matrix → Status → Type 0) → ((f : FaceNumbers) (range : Matrix) (s : Status) → Before f range s → After f range s) →
+      (disturbed : Bool) (file second : ℕ) (faces shifts : Option (List ℕ)) (s : Status) →
+      ReadsFaces (design_of p) file faces (λ f. ReadsShifts disturbed (design_of p).states second shifts (Before f)) s →
+      ReadsFaces (design_of q) file faces (λ f. ReadsShifts disturbed (design_of q).states second shifts (After f)) s
+  faces_same Before After same disturbed file second faces shifts s (inl refused) = inl (subst (λ (d : Design). IsFileRefused file_limit file (FacesWrong d file) faces s) (same_design p q e) refused)
+  faces_same Before After same disturbed file second faces shifts s (inr right) =
+      inr (
+        right.0,
+        subst (λ (d : Design). FileHolds file_limit (FacesRight d right.0) faces) (same_design p q e) right.1,
+        shifts_same (Before right.0) (After right.0) (same right.0) disturbed second shifts s right.2,
+      )
 
   policy_same : (disturbed : Bool) (policy faces shifts : Option (List ℕ)) (s : Status) → AfterDesign disturbed policy faces shifts p s → AfterDesign disturbed policy faces shifts q s
   policy_same disturbed policy faces shifts s (inl refused) = inl (subst (λ (d : Design). IsFileRefused file_limit 2 (PolicyWrong d 2) policy s) (same_design p q e) refused)
   policy_same disturbed policy faces shifts s (inr right) =
-      inr (right.0, subst (λ (d : Design). FileHolds file_limit (PolicyRight d right.0) policy) (same_design p q e) right.1, faces_same disturbed faces shifts right.0 s right.2)
+      inr (right.0, subst (λ (d : Design). FileHolds file_limit (PolicyRight d right.0) policy) (same_design p q e) right.1, faces_same (StayingCalls p right.0) (StayingCalls q right.0) (staying_same right.0) disturbed 5 6 faces shifts s right.2)
 
 module _ (disturbed : Bool) (words : List (List ℕ)) (held : Option Files) where
   abbrev Called : Status → Contents → Type 0
@@ -181,10 +189,18 @@ module _ (disturbed : Bool) (words : List (List ℕ)) (held : Option Files) wher
         three_right shifts s is answer =
             for_four words held (Called s) design.content policy.content faces.content shifts design.told policy.told faces.told is (with_faces shifts s answer)
 
+-- ---- the range is right, or there is none
+pub with_range : (disturbed : Bool) (n file : ℕ) (held : Option Files) (name : List ℕ) (range : Matrix) (s : Status) (Calls : Matrix → Status → Type 0) →
+    IsRangeTaken disturbed n file held name range → IsAnswer (Calls range) s →
+    (content : Option (List ℕ)) × IsTold held name content × IsAnswer (ReadsShifts disturbed n file content Calls) s
+with_range true n file held name range s Calls taken answer =
+    (taken.content, taken.told, go_on_whole file_limit file (RangeWrong n file) (RangeRight n) held name range s taken Calls answer)
+with_range false n file held name range s Calls taken answer = (told_at held name, told held name, subst (λ (m : Matrix). IsAnswer (Calls m) s) taken answer)
+
 -- ---- the range ends it
 pub range_ends : (disturbed : Bool) (words : List (List ℕ)) (held : Option Files) (p : DesignParts) (design : IsDesignRead 1 held (word_of words 1) p) (plans : Plans)
     (policy : IsPolicyRead (design_of p) 2 held (word_of words 2) plans) (f : FaceNumbers) (faces : AreFacesRead (design_of p) 5 held (word_of words 5) f) (before now : List ℕ → ℕ) (s : Status) →
-    EndsTaking disturbed (design_of p).states held (word_of words 6) (before (word_of words 6)) (now (word_of words 6)) s → EndsStaying disturbed words held before now s
+    EndsTaking disturbed (design_of p).states 6 held (word_of words 6) (before (word_of words 6)) (now (word_of words 6)) s → EndsStaying disturbed words held before now s
 range_ends false words held p design plans policy f faces before now s memory = inl memory
 range_ends true words held p design plans policy f faces before now s (inl memory) = inl memory
 range_ends true words held p design plans policy f faces before now s (inr (inl fault)) = inr (inl (record {
@@ -204,12 +220,9 @@ range_ends true words held p design plans policy f faces before now s (inr (inr 
 pub all_right : (disturbed : Bool) (words : List (List ℕ)) (held : Option Files) (p : DesignParts) (plans : Plans) (f : FaceNumbers) (range : Matrix) →
     AreStayFilesRead disturbed words held p plans f range → (s : Status) → IsAnswer (StayingCalls p plans f range) s →
     ForContents words held (λ k. IsAnswer (StayCalls disturbed (k 1) (k 2) (k 5) (k 6)) s)
-all_right true words held p plans f range read s answer =
-    three_right true words held p read.design plans read.policy f read.faces_read read.range_taken.content s read.range_taken.told
-    (go_on_whole file_limit 6 (RangeWrong (design_of p).states 6) (RangeRight (design_of p).states) held (word_of words 6) range s read.range_taken (StayingCalls p plans f) answer)
-all_right false words held p plans f range read s answer =
-    three_right false words held p read.design plans read.policy f read.faces_read (told_at held (word_of words 6)) s (told held (word_of words 6))
-    (subst (λ (m : Matrix). IsAnswer (StayingCalls p plans f m) s) read.range_taken answer)
+all_right disturbed words held p plans f range read s answer =
+    let taken = with_range disturbed (design_of p).states 6 held (word_of words 6) range s (StayingCalls p plans f) read.range_taken answer in
+    three_right disturbed words held p read.design plans read.policy f read.faces_read taken.0 s taken.1 taken.2
 
 pub refused_ends : (disturbed : Bool) (words : List (List ℕ)) (held : Option Files) (p : DesignParts) (plans : Plans) (f : FaceNumbers) (range : Matrix) →
     AreStayFilesRead disturbed words held p plans f range → (before now : List ℕ → ℕ) (s : Status) → IsRefusedWith p plans f range s → EndsStaying disturbed words held before now s

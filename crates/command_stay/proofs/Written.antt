@@ -1,6 +1,6 @@
 -- What is written, and the clauses of the whole.
-use Rattle.std.proofs.Common.{◌≡◌, ◌≢◌, ◌⊎◌, inl, inr, ℕ, ◌<◌, Bool, true, false, if◌then◌else◌, List, ℤ, pos, Option, Some, None, refl, sym, subst, arith}
-use Rattle.std.specs.Prelude.{IfSome, IsSomeAnd, ◌≤ℤ◌}
+use Rattle.std.proofs.Common.{◌≡◌, ◌≢◌, inl, inr, ℕ, ◌<◌, Bool, true, false, if◌then◌else◌, List, ℤ, pos, Option, Some, None, Result, Ok, Err, sym, subst, arith}
+use Rattle.std.specs.Prelude.{IfOk, IfSome, IsSomeAnd, ◌≤ℤ◌}
 use Rattle.std.specs.Int.Signed.{≤ℤ_refl}
 use Rattle.io_edge.specs.Faults.{Files, Rose, IsCutShort}
 use Rattle.integer_algebra.specs.Sums.{at, none}
@@ -21,26 +21,31 @@ use Rattle.command_line.specs.Words.{word_of}
 use Rattle.command_line.specs.Limit.{file_limit}
 use Rattle.command_line.specs.Answers.{ForContents, FileHolds, IsAnswer, IsCaused}
 use Rattle.command_line.specs.declared.status.Status.{Status}
-use Rattle.command_line.specs.declared.status.Status.TheVariants.{Done, Memory, ReadFault, WriteFault}
+use Rattle.command_line.specs.declared.status.Status.TheVariants.{Done, ReadFault, WriteFault}
 use Rattle.command_files.specs.Texts.{DesignRight, PolicyRight, RangeRight}
 use Rattle.command_controller.specs.Made.{IsMadeOf}
 use Rattle.command_generate.specs.Generate.{HoldsInputs, IsControllerCut, IsReportCut}
-use Rattle.command_generate.specs.Writing.{AreTextsFor, AreWritten, IsSecondCut}
+use Rattle.command_generate.specs.Writing.{AreWritten, IsSecondCut}
 use Rattle.command_generate.proofs.Written.{generated, controller_cut, report_cut}
-use Rattle.command_stay.specs.Checking.{IsKept}
+use Rattle.command_stay.specs.Checking.{made_excess, IsKept}
 use Rattle.command_stay.specs.Stay.{StayCalls, StayReaches, no_shifts, IsRangeIn, KeepsLoops, IsStayed}
 use Rattle.command_stay.specs.Reading.{IsRangeTaken, AreStayFilesRead, AreTextsUnder, EndsStaying}
 use Rattle.command_stay.proofs.Excesses.{covers}
 
+-- two facts of a value
+pub both : {T E : Type 0} (r : Result T E) {A B C : T → Type 0} → IfOk r A → IfOk r B → ((x : T) → A x → B x → C x) → IfOk r C
+both (Ok x) a b f = f x a b
+both (Err e) a b f = tt
+
 -- ---- the loops of what was made
 pub keeps_loops : (p : DesignParts) (plans : Plans) (c : Numbers) (b : Printed) (errors : ℤ) (faces : FaceNumbers) (range : Matrix) → IsMadeOf p plans c b →
-    errors ≡ pos (stated_cost (design_of p) (printed_multiplier b) c.fraction_bits) → IsKept (design_of p) c b.multiplier errors faces range → KeepsLoops p c b range
+    errors ≡ pos (stated_cost (design_of p) (printed_multiplier b) c.fraction_bits) → IsKept (design_of p) c.rows (made_excess c b.multiplier errors) faces range → KeepsLoops p c b range
 keeps_loops p plans c b errors faces range made stated kept start inside shifts turns within =
     loop_under_law p c b (at kept.excess) (at (row_of range 0)) (at (row_of range 1)) made.built.made.design made.built.made.controller made.built.made.made.sizes made.certified
-    (covers p plans c b made.built errors stated kept.excess kept.holds) kept.keeps start inside shifts turns within
+    (covers p plans c b made.built errors stated kept.excess kept.holds) kept.with.keeps start inside shifts turns within
 
 -- without shifts
-undisturbed : (p : DesignParts) (c : Numbers) (b : Printed) (range : Matrix) → range ≡ no_shifts (design_of p).states → KeepsLoops p c b range →
+pub undisturbed : (p : DesignParts) (c : Numbers) (b : Printed) (range : Matrix) → range ≡ no_shifts (design_of p).states → KeepsLoops p c b range →
     (start : List ℤ) → IsAdmissible c start → (turns : ℕ) → IsKeptAt (design_of p) c b (state_after (design_of p) c start turns)
 undisturbed p c b range is keeps start inside turns =
     subst (IsKeptAt (design_of p) c b) (unshifted (design_of p) c start turns)
@@ -60,13 +65,14 @@ inputs_of disturbed words files p plans f range read = record {
   policy_right = subst (λ (o : Option (List ℕ)). FileHolds file_limit (PolicyRight (design_of p) plans) o) read.policy.told read.policy.right;
 }
 
-range_in : (disturbed : Bool) (words : List (List ℕ)) (files : Files) (n : ℕ) (range : Matrix) → IsRangeTaken disturbed n (Some files) (word_of words 6) range → IsRangeIn disturbed words files n range
-range_in true words files n range taken = subst (λ (o : Option (List ℕ)). FileHolds file_limit (RangeRight n range) o) taken.told taken.right
-range_in false words files n range taken = taken
+pub range_in : (disturbed : Bool) (file : ℕ) (words : List (List ℕ)) (files : Files) (n : ℕ) (range : Matrix) → IsRangeTaken disturbed n file (Some files) (word_of words file) range →
+    IsRangeIn disturbed file words files n range
+range_in true file words files n range taken = subst (λ (o : Option (List ℕ)). FileHolds file_limit (RangeRight n range) o) taken.told taken.right
+range_in false file words files n range taken = taken
 
-no_range : (disturbed : Bool) (words : List (List ℕ)) (files : Files) (n : ℕ) (range : Matrix) → disturbed ≡ false → IsRangeIn disturbed words files n range → range ≡ no_shifts n
-no_range true words files n range is taken = absurd (let never : ⊥ = cc in never)
-no_range false words files n range is taken = taken
+pub no_range : (disturbed : Bool) (file : ℕ) (words : List (List ℕ)) (files : Files) (n : ℕ) (range : Matrix) → disturbed ≡ false → IsRangeIn disturbed file words files n range → range ≡ no_shifts n
+no_range true file words files n range is taken = absurd (let never : ⊥ = cc in never)
+no_range false file words files n range is taken = taken
 
 module _ (disturbed : Bool) (words : List (List ℕ)) (text report : List ℕ) where
   -- what holds of all files holds of those that are told
@@ -87,13 +93,13 @@ module _ (disturbed : Bool) (words : List (List ℕ)) (text report : List ℕ) w
 
     pub stayed : word_of words 4 ≢ word_of words 3 → AreWritten files new (word_of words 3) (word_of words 4) text report → IsStayed disturbed words files new
     stayed apart written =
-        let here = range_in disturbed words files (design_of from.p).states from.range read.range_taken in
+        let here = range_in disturbed 6 words files (design_of from.p).states from.range read.range_taken in
         record {
           generated = generated words from.p from.plans text report from.texts.texts files new inputs apart written;
           range = from.range;
           is_range = here;
           stays = from.texts.keeps;
-          undisturbed = λ is. undisturbed from.p from.texts.texts.controller from.texts.texts.bounds from.range (no_range disturbed words files (design_of from.p).states from.range is here) from.texts.keeps;
+          undisturbed = λ is. undisturbed from.p from.texts.texts.controller from.texts.texts.bounds from.range (no_range disturbed 6 words files (design_of from.p).states from.range is here) from.texts.keeps;
         }
 
     pub first_cut : IsCutShort files new (word_of words 3) text → IsControllerCut words files new
@@ -106,6 +112,10 @@ module _ (disturbed : Bool) (words : List (List ℕ)) (text report : List ℕ) w
 pub six_names : (disturbed : Bool) (n : ℕ) → n ≡ (if disturbed then 7 else 6) → 5 < n
 six_names true n is = omega (arith, is)
 six_names false n is = omega (arith, is)
+
+pub seventh_name : (disturbed : Bool) (n : ℕ) → n ≡ (if disturbed then 7 else 6) → disturbed ≡ true → 6 < n
+seventh_name true n is disturbed = omega (arith, is)
+seventh_name false n is disturbed = absurd (let never : ⊥ = cc in never)
 
 -- ---- a file ended it, or the design with the policy, or the faces
 module _ (disturbed : Bool) (words : List (List ℕ)) (held : Option Files) (before now : List ℕ → ℕ) (s : Status) where

@@ -25,17 +25,25 @@ pub record AreSmall (r errors : ℤ) : Type 0 where
 abbrev pub made_excess : Numbers → (r errors : ℤ) → ℕ → ℤ
 made_excess c r errors i = pos (row_violation_bound (exponent_of c i) c.step_exponent (unsigned_abs r) c.steps (unsigned_abs errors))
 
--- the faces hold with these numbers, so that a turn stays in the box
-pub record IsKept (d : Design) (c : Numbers) (r errors : ℤ) (faces : FaceNumbers) (range : Matrix) : Type 0 where
-  pub excess : List ℤ
-  pub holds : Holds excess c.rows (made_excess c r errors)
-  pub stays : Stays d (at excess) (at (row_of range 0)) (at (row_of range 1)) faces
-  pub keeps : KeepsInBox d (at excess) (at (row_of range 0)) (at (row_of range 1))
+-- ---- faces, where each row is exceeded by at most its number over 2^40 and the state is shifted within a range
+-- they hold, so that a turn stays in the box
+pub record IsKeptWith (d : Design) (excess : ℕ → ℤ) (faces : FaceNumbers) (range : Matrix) : Type 0 where
+  pub stays : Stays d excess (at (row_of range 0)) (at (row_of range 1)) faces
+  pub keeps : KeepsInBox d excess (at (row_of range 0)) (at (row_of range 1))
 
--- or they have a fault with them, which the status tells
-pub record IsCaught (d : Design) (c : Numbers) (r errors : ℤ) (faces : FaceNumbers) (range : Matrix) (s : Status) : Type 0 where
-  pub excess : List ℤ
-  pub holds : Holds excess c.rows (made_excess c r errors)
+-- or they have a fault, which the status tells
+pub record IsCaughtWith (d : Design) (excess : ℕ → ℤ) (faces : FaceNumbers) (range : Matrix) (s : Status) : Type 0 where
   pub fault : StayFault
-  pub found : IsStayFault d (at excess) (at (row_of range 0)) (at (row_of range 1)) faces fault
+  pub found : IsStayFault d excess (at (row_of range 0)) (at (row_of range 1)) faces fault
   pub is : s ≡ stay_status fault
+
+-- the same with a list of these numbers, one for each of so many rows
+pub record IsKept (d : Design) (count : ℕ) (most : ℕ → ℤ) (faces : FaceNumbers) (range : Matrix) : Type 0 where
+  pub excess : List ℤ
+  pub holds : Holds excess count most
+  pub with : IsKeptWith d (at excess) faces range
+
+pub record IsCaught (d : Design) (count : ℕ) (most : ℕ → ℤ) (faces : FaceNumbers) (range : Matrix) (s : Status) : Type 0 where
+  pub excess : List ℤ
+  pub holds : Holds excess count most
+  pub with : IsCaughtWith d (at excess) faces range s

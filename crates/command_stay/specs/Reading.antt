@@ -15,15 +15,15 @@ use Rattle.command_generate.specs.Writing.{AreTextsFor}
 use Rattle.command_stay.specs.Stay.{StayCalls, StayReaches, StayingCalls, KeepsLoops, no_shifts}
 
 -- ---- the range of the shifts
--- it was read from the sixth file, or it is that of no shifts
-abbrev pub IsRangeTaken : (disturbed : Bool) → (n : ℕ) → Option Files → (name : List ℕ) → Matrix → Type 0
-IsRangeTaken true n held name range = IsRangeRead n 6 held name range
-IsRangeTaken false n held name range = range ≡ no_shifts n
+-- it was read from the file at this position, or it is that of no shifts
+abbrev pub IsRangeTaken : (disturbed : Bool) → (n file : ℕ) → Option Files → (name : List ℕ) → Matrix → Type 0
+IsRangeTaken true n file held name range = IsRangeRead n file held name range
+IsRangeTaken false n file held name range = range ≡ no_shifts n
 
 -- taking it ends with this status
-abbrev pub EndsTaking : (disturbed : Bool) → (n : ℕ) → Option Files → (name : List ℕ) → (before now : ℕ) → Status → Type 0
-EndsTaking true n held name before now s = EndsRange n 6 held name before now s
-EndsTaking false n held name before now s = s ≡ Memory
+abbrev pub EndsTaking : (disturbed : Bool) → (n file : ℕ) → Option Files → (name : List ℕ) → (before now : ℕ) → Status → Type 0
+EndsTaking true n file held name before now s = EndsRange n file held name before now s
+EndsTaking false n file held name before now s = s ≡ Memory
 
 -- ---- the texts of a design with a policy, faces and a range
 -- both texts, of a controller whose loops stay in the box; no other status is called for
@@ -49,7 +49,7 @@ pub record AreStayFilesRead (disturbed : Bool) (words : List (List ℕ)) (held :
   pub design : IsDesignRead 1 held (word_of words 1) p
   pub policy : IsPolicyRead (design_of p) 2 held (word_of words 2) plans
   pub faces_read : AreFacesRead (design_of p) 5 held (word_of words 5) faces
-  pub range_taken : IsRangeTaken disturbed (design_of p).states held (word_of words 6) range
+  pub range_taken : IsRangeTaken disturbed (design_of p).states 6 held (word_of words 6) range
 
 -- the texts of what they hold, and by that nothing else is called for
 pub record AreTextsUnder (disturbed : Bool) (words : List (List ℕ)) (held : Option Files) (text report : List ℕ) : Type 0 where

@@ -42,25 +42,28 @@ FacesCall d excess faces range s =
     ((s ≡ Done) × Stays d excess (at (row_of range 0)) (at (row_of range 1)) faces) ⊎
     ((fault : StayFault) × IsStayFault d excess (at (row_of range 0)) (at (row_of range 1)) faces fault × (s ≡ stay_status fault))
 
+-- what is called for where a controller is refused, or has these numbers of all rows and is answered by the faces
+abbrev pub FacedCalls : (Refuses : Status → Type 0) → (AreStated : List ℤ → Type 0) → Design → FaceNumbers → (range : Matrix) → Status → Type 0
+FacedCalls Refuses AreStated d faces range s = Refuses s ⊎ ((excess : List ℤ) × AreStated excess × FacesCall d (at excess) faces range s)
+
 -- what a design with a policy calls for: it is refused as in `generate`, or passes every test and is answered by the faces
 abbrev pub StayingCalls : DesignParts → Plans → FaceNumbers → (range : Matrix) → Status → Type 0
-StayingCalls p plans faces range s =
-    IsRefusedBy p plans s ⊎ ((excess : List ℤ) × AreStatedExcesses (design_of p) (targets_of p) plans excess × FacesCall (design_of p) (at excess) faces range s)
+StayingCalls p plans faces range s = FacedCalls (IsRefusedBy p plans) (AreStatedExcesses (design_of p) (targets_of p) plans) (design_of p) faces range s
 
 -- the range of no shifts of n coordinates
 abbrev pub no_shifts : ℕ → Matrix
 no_shifts n = zero_matrix 2 n
 
--- the sixth file holds the range where there are disturbances
-abbrev pub ReadsShifts : (disturbed : Bool) → (n : ℕ) → Option (List ℕ) → (Matrix → Status → Type 0) → Status → Type 0
-ReadsShifts true n content After s = ReadsRange n 6 content After s
-ReadsShifts false n content After s = After (no_shifts n) s
+-- the file at this position holds the range where there are disturbances
+abbrev pub ReadsShifts : (disturbed : Bool) → (n file : ℕ) → Option (List ℕ) → (Matrix → Status → Type 0) → Status → Type 0
+ReadsShifts true n file content After s = ReadsRange n file content After s
+ReadsShifts false n file content After s = After (no_shifts n) s
 
 -- what the contents of the files call for
 abbrev pub StayCalls : (disturbed : Bool) → (design policy faces shifts : Option (List ℕ)) → Status → Type 0
 StayCalls disturbed design policy faces shifts s =
     ReadsDesign 1 design (λ p. ReadsPolicy (design_of p) 2 policy (λ plans. ReadsFaces (design_of p) 5 faces
-    (λ f. ReadsShifts disturbed (design_of p).states shifts (StayingCalls p plans f)))) s
+    (λ f. ReadsShifts disturbed (design_of p).states 6 shifts (StayingCalls p plans f)))) s
 
 -- the first two files hold a design and a policy for it, and the fifth faces of its box
 pub record HoldsFaces (design policy faces : Option (List ℕ)) : Type 0 where
@@ -78,10 +81,10 @@ StayReaches disturbed design policy faces file =
     ⊎ ((file ≡ 6) × (disturbed ≡ true) × HoldsFaces design policy faces)))
 
 -- ---- what is written
--- the range of the shifts: that which the sixth name holds where there are disturbances, and else no shifts
-abbrev pub IsRangeIn : (disturbed : Bool) → (words : List (List ℕ)) → Files → (n : ℕ) → (range : Matrix) → Type 0
-IsRangeIn true words files n range = FileHolds file_limit (RangeRight n range) (files (word_of words 6))
-IsRangeIn false words files n range = range ≡ no_shifts n
+-- the range of the shifts: that which the name at this position holds where there are disturbances, and else no shifts
+abbrev pub IsRangeIn : (disturbed : Bool) → (file : ℕ) → (words : List (List ℕ)) → Files → (n : ℕ) → (range : Matrix) → Type 0
+IsRangeIn true file words files n range = FileHolds file_limit (RangeRight n range) (files (word_of words file))
+IsRangeIn false file words files n range = range ≡ no_shifts n
 
 -- the closed loop from every state of the box, for every number of turns, under every list of shifts within the range: its states lie in the box, and at
 -- each the controller is certified
@@ -95,7 +98,7 @@ KeepsLoops p c b range =
 pub record IsStayed (disturbed : Bool) (words : List (List ℕ)) (files new : Files) : Type 0 where
   pub generated : IsGenerated words files new
   pub range : Matrix
-  pub is_range : IsRangeIn disturbed words files (design_of generated.made.p).states range
+  pub is_range : IsRangeIn disturbed 6 words files (design_of generated.made.p).states range
   pub stays : KeepsLoops generated.made.p generated.controller generated.bounds range
   pub undisturbed : disturbed ≡ false → (start : List ℤ) → IsAdmissible generated.controller start → (turns : ℕ) →
       IsKeptAt (design_of generated.made.p) generated.controller generated.bounds (state_after (design_of generated.made.p) generated.controller start turns)

@@ -1,12 +1,13 @@
 // Whether the loop of what was made stays in the box.
-ghost use Rattle.std.specs.Prelude.{◌≡◌, ◌⊎◌, IfOk, IfErr};
+ghost use Rattle.std.specs.Prelude.{◌≡◌, ◌⊎◌, length, IfOk, IfErr};
+ghost use Rattle.integer_algebra.specs.Sums.{at};
 ghost use Rattle.qp_model.specs.problem.Design.{rows};
 ghost use Rattle.qp_model.specs.problem.Parts.{design_of};
 ghost use Rattle.qp_model.specs.problem.Runs.{Holds};
 ghost use Rattle.stay_check.specs.FaceForms.{faces_of, AreFacesFor};
 ghost use Rattle.shift_file.specs.RangeText.{IsShiftRange};
 ghost use Rattle.command_stay.specs.Stay.{stay_status};
-ghost use Rattle.command_stay.specs.Checking.{AreSmall, made_excess, IsKept, IsCaught};
+ghost use Rattle.command_stay.specs.Checking.{AreSmall, made_excess, IsKeptWith, IsCaughtWith, IsKept, IsCaught};
 
 use command_line::Status;
 use design_engine::{Made, row_violations};
@@ -55,7 +56,27 @@ fn made_excess(alloc: Global, made: &Made) -> Result<Vec<i128>, AllocError>
     )
 }
 
-/// Whether the faces show that a loop of the controller stays in the box under shifts of this range, or the status that tells why not.
+/// Whether the faces show that a turn of a closed loop stays in the box under shifts of this range, where each row is exceeded by at most its number of
+/// `excess` over `2^40`; or the status that tells why not. It takes no memory.
+pub fn check_under(
+    design: &Design,
+    faces: &Faces,
+    excess: &[i128],
+    range: &Mat,
+) -> Result<(), Status>
+    requires faces { AreFacesFor (design_of design.now) (faces_of faces.now) }
+    requires range { IsShiftRange design.now.states range.now }
+    requires excess { length excess.now ≡ rows (design_of design.now) }
+    ensures kept { IfOk result (λ _. IsKeptWith (design_of design.now) (at excess.now) (faces_of faces.now) range.now) }
+    ensures caught { IfErr result (IsCaughtWith (design_of design.now) (at excess.now) (faces_of faces.now) range.now) }
+{
+    match check_faces_under(design, faces, excess, range.row(0), range.row(1)) {
+        Ok(()) => Ok(()),
+        Err(fault) => Err(stay_status(fault)),
+    }
+}
+
+/// The same with the excess of a controller that was made.
 pub fn check_made(
     alloc: Global,
     design: &Design,
@@ -67,13 +88,12 @@ pub fn check_made(
     requires range { IsShiftRange design.now.states range.now }
     requires rows { made.now.controller.rows ≡ rows (design_of design.now) }
     requires small { AreSmall made.now.bounds.multiplier made.now.eps }
-    ensures kept { IfOk result (λ _. IsKept (design_of design.now) made.now.controller made.now.bounds.multiplier made.now.eps (faces_of faces.now) range.now) }
+    ensures kept { IfOk result (λ _. IsKept (design_of design.now) made.now.controller.rows
+        (made_excess made.now.controller made.now.bounds.multiplier made.now.eps) (faces_of faces.now) range.now) }
     ensures caught { IfErr result (λ e. (e ≡ Status.Memory)
-        ⊎ IsCaught (design_of design.now) made.now.controller made.now.bounds.multiplier made.now.eps (faces_of faces.now) range.now e) }
+        ⊎ IsCaught (design_of design.now) made.now.controller.rows
+        (made_excess made.now.controller made.now.bounds.multiplier made.now.eps) (faces_of faces.now) range.now e) }
 {
     let excess = made_excess(alloc, made)?;
-    match check_faces_under(design, faces, &excess, range.row(0), range.row(1)) {
-        Ok(()) => Ok(()),
-        Err(fault) => Err(stay_status(fault)),
-    }
+    check_under(design, faces, &excess, range)
 }

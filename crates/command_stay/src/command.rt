@@ -19,7 +19,8 @@ pub fn stay<S: Store>(alloc: Global, words: &Words, disturbed: bool, store: &mut
     requires { IsStay words.now disturbed }
     // What is written, and that its loop stays in the box.
     ensures stayed { result ≡ Status.Done → IfSome (S.held store.old) (λ files. IsSomeAnd (S.held store.new) (IsStayed disturbed words.now files)) }
-    ensures controller_cut { result ≡ Status.WriteFault 3 → IfSome (S.held store.old) (λ files. IsSomeAnd (S.held store.new) (IsControllerCut words.now files)) }
+    ensures controller_cut { result ≡ Status.WriteFault 3
+        → IfSome (S.held store.old) (λ files. IsSomeAnd (S.held store.new) (IsControllerCut words.now files)) }
     ensures report_cut { result ≡ Status.WriteFault 4 → IfSome (S.held store.old) (λ files. IsSomeAnd (S.held store.new) (IsReportCut words.now files)) }
     // Why: by what the files hold this answer is called for, and no other.
     ensures called { IsCaused result

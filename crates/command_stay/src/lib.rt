@@ -6,4 +6,6 @@ mod command;
 mod shifts;
 mod texts;
 
+pub use check::check_under;
 pub use command::stay;
+pub use shifts::take_range;

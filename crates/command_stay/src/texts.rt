@@ -11,7 +11,7 @@ ghost use Rattle.shift_file.specs.RangeText.{IsShiftRange};
 ghost use Rattle.command_line.specs.Words.{word_of, IsStay};
 ghost use Rattle.command_files.specs.Reading.{IsDesignRead, IsPolicyRead, AreFacesRead};
 ghost use Rattle.command_controller.specs.Made.{IsReport};
-ghost use Rattle.command_stay.specs.Checking.{AreSmall, IsKept, IsCaught};
+ghost use Rattle.command_stay.specs.Checking.{AreSmall, made_excess, IsKept, IsCaught};
 ghost use Rattle.command_stay.specs.Reading.{AreStayingTexts, AreTextsUnder, IsRefusedWith, EndsStaying};
 
 use crate::check::check_made;
@@ -40,10 +40,13 @@ fn texts_checked(
     requires range { IsShiftRange design.now.states range.now }
     requires rows { made.now.controller.rows ≡ rows (design_of design.now) }
     requires small { AreSmall made.now.bounds.multiplier made.now.eps }
-    ensures texts { IfOk result (λ t. IsControllerText t.controller.items made.now.controller × IsReport report_name.now (printed made.now.bounds) t.report.items) }
-    ensures kept { IfOk result (λ _. IsKept (design_of design.now) made.now.controller made.now.bounds.multiplier made.now.eps (faces_of faces.now) range.now) }
+    ensures texts { IfOk result (λ t. IsControllerText t.controller.items made.now.controller
+        × IsReport report_name.now (printed made.now.bounds) t.report.items) }
+    ensures kept { IfOk result (λ _. IsKept (design_of design.now) made.now.controller.rows
+        (made_excess made.now.controller made.now.bounds.multiplier made.now.eps) (faces_of faces.now) range.now) }
     ensures caught { IfErr result (λ e. (e ≡ Status.Memory)
-        ⊎ IsCaught (design_of design.now) made.now.controller made.now.bounds.multiplier made.now.eps (faces_of faces.now) range.now e) }
+        ⊎ IsCaught (design_of design.now) made.now.controller.rows
+        (made_excess made.now.controller made.now.bounds.multiplier made.now.eps) (faces_of faces.now) range.now e) }
 {
     check_made(alloc, design, made, faces, range)?;
     texts_made(alloc, made, report_name)
@@ -61,7 +64,8 @@ fn texts_of(
     requires policy { IsPolicyFor (design_of design.now) (plans_of policy.now) }
     requires faces { AreFacesFor (design_of design.now) (faces_of faces.now) }
     requires range { IsShiftRange design.now.states range.now }
-    ensures texts { IfOk result (λ t. AreStayingTexts design.now (plans_of policy.now) (faces_of faces.now) range.now report_name.now t.controller.items t.report.items) }
+    ensures texts { IfOk result (λ t. AreStayingTexts design.now (plans_of policy.now) (faces_of faces.now) range.now
+        report_name.now t.controller.items t.report.items) }
     ensures refused { IfErr result (IsRefusedWith design.now (plans_of policy.now) (faces_of faces.now) range.now) }
 {
     let made = make_controller(alloc, design, policy)?;
@@ -90,7 +94,7 @@ fn texts_after_faces<S: Store>(
     ensures reads { NoneFalls (S.read_faults store.old) (S.read_faults store.new) }
     ensures writes { NoneFalls (S.write_faults store.old) (S.write_faults store.new) }
 {
-    let range = take_range(alloc, words, disturbed, design.parts().states, store)?;
+    let range = take_range(alloc, words, 6, disturbed, design.parts().states, store)?;
     texts_of(alloc, design, policy, faces, &range, words.at(4))
 }
 

@@ -52,7 +52,8 @@ faces_found text d rows f w i q e l n h k m = by (subst (λ x. Filled (IsFace te
     }
 
 -- too many, or too few
-pub count_fault : (text : List ℕ) (d : Design) (rows : List Row) (n w i : ℕ) (kappa : List ℤ) (weights : Matrix) → w ≡ first_row_count d → map fields_of rows ≡ records_of text → n ≡ length rows → length rows ≤ i → length rows ≢ 2 * d.states →
+pub count_fault : (text : List ℕ) (d : Design) (rows : List Row) (n w i : ℕ) (kappa : List ℤ) (weights : Matrix) → w ≡ first_row_count d →
+    map fields_of rows ≡ records_of text → n ≡ length rows → length rows ≤ i → length rows ≢ 2 * d.states →
     ((e : ℕ) → e < i → HoldsNumbers face_rule (w + 1) (record_at (records_of text) e) (at kappa e ∷ row_of weights e)) →
     (Count n ≡ Memory) ⊎ IsFacesTextFault text d (Count n)
 count_fault text d rows n w i kappa weights q e s l k h = inr (inr (record {

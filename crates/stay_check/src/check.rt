@@ -119,7 +119,8 @@ pub fn check_faces_under(
     ensures right { Stays (design_of design.now) (at excess.now) (at low.now) (at high.now) (faces_of faces.now) → result ≡ Ok tt }
     ensures found { IfOk result (λ _. Stays (design_of design.now) (at excess.now) (at low.now) (at high.now) (faces_of faces.now)) }
     ensures fault { IfErr result (IsStayFault (design_of design.now) (at excess.now) (at low.now) (at high.now) (faces_of faces.now)) }
-    ensures first { (told : StayFault) → IsStayFault (design_of design.now) (at excess.now) (at low.now) (at high.now) (faces_of faces.now) told → result ≡ Err told }
+    ensures first { (told : StayFault) →
+        IsStayFault (design_of design.now) (at excess.now) (at low.now) (at high.now) (faces_of faces.now) told → result ≡ Err told }
 {
     test_faces(design.parts(), faces, excess, low, high)
 }

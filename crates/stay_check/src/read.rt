@@ -27,8 +27,10 @@ pub fn read_faces(alloc: Global, bytes: &[u8], design: &Design) -> Result<Faces,
     ensures fault { IfErr result (λ e. (e ≡ Memory) ⊎ IsFacesTextFault bytes.now (design_of design.now) e) }
 
     // The other way round, with nothing but out of memory in between.
-    ensures right { (faces : FaceNumbers) → IsFacesText bytes.now (design_of design.now) faces → MatchResult result (λ f. faces_of f ≡ faces) (λ e. e ≡ Memory) }
-    ensures first { (told : TextFault) → IsFacesTextFault bytes.now (design_of design.now) told → MatchResult result (λ _. ⊥) (λ e. (e ≡ told) ⊎ (e ≡ Memory)) }
+    ensures right { (faces : FaceNumbers) → IsFacesText bytes.now (design_of design.now) faces →
+        MatchResult result (λ f. faces_of f ≡ faces) (λ e. e ≡ Memory) }
+    ensures first { (told : TextFault) → IsFacesTextFault bytes.now (design_of design.now) told →
+        MatchResult result (λ _. ⊥) (λ e. (e ≡ told) ⊎ (e ≡ Memory)) }
 {
     faces_in(alloc, bytes, design.parts())
 }

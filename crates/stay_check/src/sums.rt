@@ -28,7 +28,8 @@ pub(crate) fn of_coordinate(parts: &DesignParts, faces: &Faces, e: usize, column
     requires faces { AreFacesFor (design_of parts.now) (faces_of faces.now) }
     requires face { e < 2 * parts.now.states }
     requires column { IsColumn (design_of parts.now) column }
-    ensures value { let face = face_of (faces_of faces.now) e in result ≡ towards face (pos face.factor *ℤ plant_at (design_of parts.now) face.coordinate column) }
+    ensures value { let face = face_of (faces_of faces.now) e in
+        result ≡ towards face (pos face.factor *ℤ plant_at (design_of parts.now) face.coordinate column) }
     ensures small { unsigned_abs result ≤ 2 ^ 62 }
 {
     towards(e, faces.kappa[e] * plant_at(parts, e / 2, column))

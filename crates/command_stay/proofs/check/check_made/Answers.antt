@@ -1,19 +1,13 @@
 use Rattle.std.proofs.Common.{inr}
+use Rattle.std.proofs.lemmas.Result.{IfErr-weaker, IfOk-weaker}
 use Rattle.command_stay.proofs.check.check_made.Goals as goal
 
-pub returns-in-Ok-clause-kept : goal.returns-in-Ok-clause-kept
-returns-in-Ok-clause-kept c = record {
-  excess = c.in_ok-excess.excess.items;
-  holds = c.in_ok-excess.ensures;
-  stays = rw (c.deref.ensures.value, c.row.ensures.value, c.row-2.ensures.value) at c.in-Ok.ensures.found;
-  keeps = rw (c.deref.ensures.value, c.row.ensures.value, c.row-2.ensures.value) at c.in-Ok.ensures.stays;
-}
+pub returns-clause-kept : goal.returns-clause-kept
+returns-clause-kept c =
+    IfOk-weaker c.check_under.result _ _ (λ x kept. record { excess = c.in_ok-excess.excess.items; holds = c.in_ok-excess.ensures; with = rw c.deref.ensures.value at kept })
+    c.check_under.ensures.kept
 
 pub returns-clause-caught : goal.returns-clause-caught
-returns-clause-caught c = inr (record {
-  excess = c.in_ok-excess.excess.items;
-  holds = c.in_ok-excess.ensures;
-  fault = c.in-Err.fault;
-  found = rw (c.deref.ensures.value, c.row.ensures.value, c.row-2.ensures.value) at c.in-Err.ensures.fault;
-  is = c.stay_status.ensures;
-})
+returns-clause-caught c =
+    IfErr-weaker c.check_under.result _ _ (λ s caught. inr (record { excess = c.in_ok-excess.excess.items; holds = c.in_ok-excess.ensures; with = rw c.deref.ensures.value at caught }))
+    c.check_under.ensures.caught

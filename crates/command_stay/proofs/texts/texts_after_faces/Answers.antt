@@ -7,6 +7,7 @@ use Rattle.command_line.specs.declared.status.Status.TheVariants.{Done}
 use Rattle.command_line.proofs.Results.{handed, unmet}
 use Rattle.command_stay.specs.Reading.{AreStayFilesRead, EndsStaying}
 use Rattle.command_stay.proofs.Opening.{range_ends, all_right, refused_ends}
+use Rattle.command_stay.proofs.Written.{seventh_name}
 use Rattle.command_stay.proofs.texts.texts_after_faces.Goals as goal
 
 pub returns-in_err-range : goal.returns-in_err-range
@@ -28,6 +29,9 @@ returns-in_err-range g c =
       reads = c.take_range.ensures.reads;
       writes = c.take_range.ensures.writes;
     }
+
+pub take_range-requires : goal.take_range-requires
+take_range-requires g c = seventh_name c.args.disturbed _ c.requires.words.count
 
 pub texts_of-requires-clause-policy : goal.texts_of-requires-clause-policy
 texts_of-requires-clause-policy g c = c.requires.plans

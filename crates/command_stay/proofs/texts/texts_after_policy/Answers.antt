@@ -17,7 +17,9 @@ returns-in_err-faces g c =
     let e = c.in_err-faces.field-0.0 in
     record {
       texts = unmet r _ _ is;
-      ends = handed r (EndsStaying disturbed words held before now) e is (faces_ends disturbed words held c.args.design.now c.requires.design (plans_of c.args.policy.now) c.requires.policy before now e (rw c.at.ensures at c.in_err-faces.ensures.ends));
+      ends = handed r (EndsStaying disturbed words held before now) e is
+          (faces_ends disturbed words held c.args.design.now c.requires.design (plans_of c.args.policy.now) c.requires.policy before now e
+          (rw c.at.ensures at c.in_err-faces.ensures.ends));
       held = c.read_faces_file.ensures.held;
       reads = c.read_faces_file.ensures.reads;
       writes = c.read_faces_file.ensures.writes;

@@ -1,5 +1,3 @@
-use Rattle.std.proofs.Common.{Result, Ok, Err}
-use Rattle.std.specs.Prelude.{IfOk}
 use Rattle.std.proofs.lemmas.Result.{IfErr-weaker}
 use Rattle.qp_model.specs.problem.Policy.{plans_of}
 use Rattle.qp_model.specs.bounds.Printed.{printed}
@@ -8,13 +6,8 @@ use Rattle.command_line.proofs.Results.{handed, unmet}
 use Rattle.command_stay.specs.Reading.{IsRefusedWith}
 use Rattle.command_stay.proofs.Excesses.{own_passes, small}
 use Rattle.command_stay.proofs.Calling.{refused_with, texts_answer, caught_with}
-use Rattle.command_stay.proofs.Written.{keeps_loops}
+use Rattle.command_stay.proofs.Written.{both, keeps_loops}
 use Rattle.command_stay.proofs.texts.texts_of.Goals as goal
-
--- two facts of a value
-both : {T E : Type 0} (r : Result T E) {A B C : T → Type 0} → IfOk r A → IfOk r B → ((x : T) → A x → B x → C x) → IfOk r C
-both (Ok x) a b f = f x a b
-both (Err e) a b f = tt
 
 pub returns-in_err-made : goal.returns-in_err-made
 returns-in_err-made c =

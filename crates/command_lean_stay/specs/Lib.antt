@@ -1,0 +1,4 @@
+pub mod Excess
+pub mod LeanStay
+pub mod Reading
+pub mod Deeds

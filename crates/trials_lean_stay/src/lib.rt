@@ -1,0 +1,5 @@
+//! Trials of `lean` with faces: faces that hold and faces that don't, with disturbances and without, and calls that fail.
+#![tactic(auto)]
+
+#[cfg(test)]
+mod stays;
