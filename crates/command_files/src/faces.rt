@@ -23,7 +23,8 @@ pub fn read_faces_file<S: Store>(
 ) -> Result<Faces, Status>
     ensures right { IfOk result (λ f. AreFacesRead (design_of design.now) file (S.held store.old) name.now (faces_of f)) }
     ensures sized { IfOk result (λ f. AreFacesFor (design_of design.now) (faces_of f)) }
-    ensures ends { IfErr result (λ e. EndsFaces (design_of design.now) file (S.held store.old) name.now (S.read_faults store.old name.now) (S.read_faults store.new name.now) e) }
+    ensures ends { IfErr result (λ e. EndsFaces (design_of design.now) file (S.held store.old) name.now (S.read_faults store.old name.now)
+        (S.read_faults store.new name.now) e) }
     ensures held { S.held store.new ≡ S.held store.old }
     ensures reads { NoneFalls (S.read_faults store.old) (S.read_faults store.new) }
     ensures writes { NoneFalls (S.write_faults store.old) (S.write_faults store.new) }

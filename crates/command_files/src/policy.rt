@@ -23,7 +23,8 @@ pub fn read_policy_file<S: Store>(
 ) -> Result<Policy, Status>
     ensures right { IfOk result (λ p. IsPolicyRead (design_of design.now) file (S.held store.old) name.now (plans_of p)) }
     ensures sized { IfOk result (λ p. IsPolicyFor (design_of design.now) (plans_of p)) }
-    ensures ends { IfErr result (λ e. EndsPolicy (design_of design.now) file (S.held store.old) name.now (S.read_faults store.old name.now) (S.read_faults store.new name.now) e) }
+    ensures ends { IfErr result (λ e. EndsPolicy (design_of design.now) file (S.held store.old) name.now (S.read_faults store.old name.now)
+        (S.read_faults store.new name.now) e) }
     ensures held { S.held store.new ≡ S.held store.old }
     ensures reads { NoneFalls (S.read_faults store.old) (S.read_faults store.new) }
     ensures writes { NoneFalls (S.write_faults store.old) (S.write_faults store.new) }

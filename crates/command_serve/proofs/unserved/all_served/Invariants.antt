@@ -1,0 +1,5 @@
+use Rattle.command_serve.specs.Served.{AreServed}
+use Rattle.command_serve.proofs.unserved.all_served.Given as goal
+
+abbrev pub invariant-loop-i : goal.invariant-loop-i
+invariant-loop-i l = AreServed l.cells l.states l.i

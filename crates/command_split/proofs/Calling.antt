@@ -1,0 +1,83 @@
+-- What the cells of a design with their policies call for.
+use Rattle.std.proofs.Common.{◌≡◌, ◌≢◌, ◌⊎◌, inl, inr, ℕ, ℤ, List, refl, sym, ap, ◌∙◌}
+use Rattle.qp_model.specs.problem.Policy.{Plans}
+use Rattle.qp_model.specs.problem.Parts.{design_numbers, design_of}
+use Rattle.qp_model.specs.machine.Controller.{Numbers}
+use Rattle.qp_model.specs.bounds.Printed.{Printed}
+use Rattle.qp_model.specs.declared.design_parts.DesignParts.{DesignParts}
+use Rattle.design_engine.specs.Targets.{targets_of}
+use Rattle.design_engine.specs.Refusals.{HasCause}
+use Rattle.design_refusal.specs.declared.refusal.Refusal.{Refusal}
+use Rattle.design_refusal.specs.declared.refusal.Refusal.TheVariants as refusals
+use Rattle.cell_split.specs.Cells.{IsCell}
+use Rattle.cell_maker.specs.declared.make.CellRefusal.{CellRefusal}
+use Rattle.cell_maker.specs.Made.{cell_plans, IsCellRefused, IsCellMade, PassesCell, AreCellsMade, IsFirstRefused, IsOnlyRefused}
+use Rattle.cell_maker.proofs.CellDesigns.{cell_same}
+use Rattle.cell_maker.proofs.Cells.{made_at}
+use Rattle.command_controller.proofs.Passing.{built_passes}
+use Rattle.command_line.specs.Answers.{IsAnswer}
+use Rattle.command_line.specs.declared.status.Status.{Status}
+use Rattle.command_line.specs.declared.status.Status.TheVariants.{Done, Memory, Cell}
+use Rattle.command_split.specs.Cells.{CellsCall}
+use Rattle.command_split.specs.Reading.{IsFaultless, CellsRefuse}
+
+-- a cell that was made passes every test
+passes_made : (p : DesignParts) (cuts : List (List ℤ)) (k : ℕ) (plans : Plans) (c : Numbers) (b : Printed) → IsCellMade p cuts k plans c b → PassesCell p cuts k plans
+passes_made p cuts k plans c b made =
+    let passes = built_passes made.design plans c b never made.built in
+    record { design = made.design; cell = made.cell; margin = passes.margin; exponent = passes.exponent; bits = passes.bits; all = passes.all }
+  where
+    never : (r : Refusal) → HasCause (design_of made.design) (targets_of made.design) plans r → ⊥
+    never r cause = made.accepted r (record { design = made.design; cell = made.cell; cause = cause })
+
+-- the status that tells of a refusal
+abbrev pub TellsCell : CellRefusal → Status → Type 0
+TellsCell e s = ((s ≡ Memory) × (e.refusal ≡ refusals.Memory)) ⊎ ((s ≡ Cell e.cell e.refusal) × (e.refusal ≢ refusals.Memory))
+
+cell_faultless : (cell : ℕ) (refusal : Refusal) (s : Status) → s ≡ Cell cell refusal → IsFaultless s
+cell_faultless cell refusal s is = record { done = λ e. cc; memory = λ e. cc; read = λ f e. cc; write = λ f e. cc }
+
+module _ (p : DesignParts) (cuts : List (List ℤ)) (policies : List Plans) where
+  pub done_called : (cells : List Numbers) (bounds : List Printed) → AreCellsMade p cuts policies cells bounds → IsAnswer (CellsCall p cuts policies) Done
+  done_called cells bounds made = record { called = inr (refl, λ k cell. passes k cell); only = only }
+    where
+      passes : (k : ℕ) → IsCell cuts k → PassesCell p cuts k (cell_plans policies k)
+      passes k cell = let at = made_at p cuts policies _ cells bounds made k cell.low cell.high in passes_made p cuts k (cell_plans policies k) at.controller at.bounds at.made
+
+      none : (e : CellRefusal) → IsFirstRefused p cuts policies e → ⊥
+      none e first = (made_at p cuts policies _ cells bounds made e.cell first.cell.low first.cell.high).made.accepted e.refusal first.here
+
+      only : (t : Status) → CellsCall p cuts policies t → t ≡ Done
+      only t (inl refused) = absurd (none refused.refusal refused.first)
+      only t (inr done) = done.0
+
+  pub refused_called : (e : CellRefusal) (s : Status) → TellsCell e s → (e.refusal ≡ refusals.Memory) ⊎ IsOnlyRefused p cuts policies e → CellsRefuse p cuts policies s
+  refused_called e s (inl memory) why = inl memory.0
+  refused_called e s (inr told) (inl memory) = absurd (told.1 memory)
+  refused_called e s (inr told) (inr why) = inr (record { called = inl (record { refusal = e; first = why.first; is = told.0 }); only = only }, cell_faultless e.cell e.refusal s told.0)
+    where
+      only : (t : Status) → CellsCall p cuts policies t → t ≡ s
+      only t (inl other) = other.is ∙ ap (λ (f : CellRefusal). Cell f.cell f.refusal) (why.only other.refusal other.first) ∙ sym told.0
+      only t (inr done) = absurd (why.fails (done.1 e.cell why.first.cell))
+
+-- of a design its numbers are seen
+module _ (p q : DesignParts) (e : design_numbers p ≡ design_numbers q) (cuts : List (List ℤ)) where
+  refused_same : (k : ℕ) (plans : Plans) (r : Refusal) → IsCellRefused p cuts k plans r → IsCellRefused q cuts k plans r
+  refused_same k plans r h = record { design = h.design; cell = cell_same p q cuts k h.design e h.cell; cause = h.cause }
+
+  refused_back : (k : ℕ) (plans : Plans) (r : Refusal) → IsCellRefused q cuts k plans r → IsCellRefused p cuts k plans r
+  refused_back k plans r h = record { design = h.design; cell = cell_same q p cuts k h.design (sym e) h.cell; cause = h.cause }
+
+  pub calls_same : (policies : List Plans) (s : Status) → CellsCall p cuts policies s → CellsCall q cuts policies s
+  calls_same policies s (inl refused) = inl (record { refusal = refused.refusal; first = first; is = refused.is })
+    where
+      first : IsFirstRefused q cuts policies refused.refusal
+      first = record {
+        cell = refused.first.cell;
+        before = λ k some lt r h. refused.first.before k some lt r (refused_back k (cell_plans policies k) r h);
+        here = refused_same refused.refusal.cell (cell_plans policies refused.refusal.cell) refused.refusal.refusal refused.first.here;
+      }
+  calls_same policies s (inr done) = inr (done.0, λ k cell. same k (done.1 k cell))
+    where
+      same : (k : ℕ) → PassesCell p cuts k (cell_plans policies k) → PassesCell q cuts k (cell_plans policies k)
+      same k h = record { design = h.design; cell = cell_same p q cuts k h.design e h.cell; margin = h.margin; exponent = h.exponent; bits = h.bits; all = h.all }

@@ -1,0 +1,13 @@
+use Rattle.std.proofs.Common.{map}
+use Rattle.qp_model.specs.problem.Policy.{plans_of}
+use Rattle.qp_model.specs.bounds.Printed.{printed}
+use Rattle.command_split.proofs.Calling.{done_called, refused_called}
+use Rattle.command_split.proofs.cells.cells_made.Goals as goal
+
+pub returns-in-Ok-clause-called : goal.returns-in-Ok-clause-called
+returns-in-Ok-clause-called c =
+    done_called c.args.design.now c.args.cuts.now (map plans_of c.args.policies.now) c.in-Ok.made.controllers.items (map printed c.in-Ok.made.bounds.items) c.in-Ok.ensures.made
+
+pub returns-in-Err-clause-refused : goal.returns-in-Err-clause-refused
+returns-in-Err-clause-refused c =
+    refused_called c.args.design.now c.args.cuts.now (map plans_of c.args.policies.now) c.in-Err.refused c.cell_status.result c.cell_status.ensures c.in-Err.ensures.refused

@@ -1,0 +1,4 @@
+pub mod Cells
+pub mod Split
+pub mod Reading
+pub mod Deeds

@@ -1,0 +1,77 @@
+-- How the files are read and the texts made, on the way.
+use Rattle.std.specs.Prelude.{◌≡◌, ◌≢◌, ◌⊎◌, ℕ, ℤ, List, Option}
+use Rattle.io_edge.specs.Faults.{Files, Rose}
+use Rattle.qp_model.specs.problem.Policy.{Plans}
+use Rattle.qp_model.specs.problem.Parts.{IsDesign, design_of}
+use Rattle.qp_model.specs.machine.Controller.{Numbers}
+use Rattle.qp_model.specs.declared.design_parts.DesignParts.{DesignParts}
+use Rattle.qp_model.specs.bounds.Printed.{Printed}
+use Rattle.cell_split.specs.Cells.{cell_count, AreCutsFor}
+use Rattle.cell_maker.specs.Made.{AreCellsMade}
+use Rattle.cell_file.specs.Text.{IsCellsText}
+use Rattle.command_line.specs.Words.{word_of}
+use Rattle.command_line.specs.Answers.{ForContents, IsAnswer}
+use Rattle.command_line.specs.declared.status.Status.{Status}
+use Rattle.command_line.specs.declared.status.Status.TheVariants.{Done, Memory, ReadFault, WriteFault}
+use Rattle.command_files.specs.Reading.{IsDesignRead, AreCutListsRead, AreCellPoliciesRead}
+use Rattle.command_split.specs.Cells.{CellsCall}
+use Rattle.command_split.specs.Split.{SplitCalls, SplitReaches, report_texts}
+
+-- ---- the cells
+-- the text of the controllers of all cells and the reports of their bounds; no other status is called for
+pub record AreCellTexts (p : DesignParts) (cuts : List (List ℤ)) (policies : List Plans) (text report : List ℕ) : Type 0 where
+  pub design : IsDesign p
+  pub cut : AreCutsFor (design_of p) cuts
+  pub cells : List Numbers
+  pub bounds : List Printed
+  pub made : AreCellsMade p cuts policies cells bounds
+  pub is_text : IsCellsText text cells
+  pub is_report : report ≡ report_texts bounds
+  pub answer : IsAnswer (CellsCall p cuts policies) Done
+
+-- no fault, and neither done nor out of memory
+pub record IsFaultless (s : Status) : Type 0 where
+  pub done : s ≢ Done
+  pub memory : s ≢ Memory
+  pub read : (file : ℕ) → s ≢ ReadFault file
+  pub write : (file : ℕ) → s ≢ WriteFault file
+
+-- out of memory, or this status is called for, and no other
+abbrev pub CellsRefuse : DesignParts → List (List ℤ) → List Plans → Status → Type 0
+CellsRefuse p cuts policies s = (s ≡ Memory) ⊎ (IsAnswer (CellsCall p cuts policies) s × IsFaultless s)
+
+-- ---- all files
+-- they hold these
+pub record AreSplitRead (words : List (List ℕ)) (held : Option Files) (p : DesignParts) (lists : List (List ℤ)) (plans : List Plans) : Type 0 where
+  pub design : IsDesignRead 1 held (word_of words 1) p
+  pub cuts : AreCutListsRead (design_of p) 2 held (word_of words 2) lists
+  pub policies : AreCellPoliciesRead (design_of p) (cell_count lists) 3 held (word_of words 3) plans
+
+-- by what they hold this status is called for, and no other
+abbrev pub IsSplitAnswer : List (List ℕ) → Option Files → Status → Type 0
+IsSplitAnswer words held s = ForContents words held (λ k. IsAnswer (SplitCalls (k 1) (k 2) (k 3)) s)
+
+-- the texts of what they hold, and by that nothing else is called for
+pub record AreSplitTexts (words : List (List ℕ)) (held : Option Files) (text report : List ℕ) : Type 0 where
+  pub p : DesignParts
+  pub lists : List (List ℤ)
+  pub plans : List Plans
+  pub read : AreSplitRead words held p lists plans
+  pub texts : AreCellTexts p lists plans text report
+  pub answer : IsSplitAnswer words held Done
+
+-- the read of a file failed, to which the files before it led
+pub record IsSplitReadFault (words : List (List ℕ)) (held : Option Files) (before now : List ℕ → ℕ) (s : Status) : Type 0 where
+  pub file : ℕ
+  pub is : s ≡ ReadFault file
+  pub reached : ForContents words held (λ k. SplitReaches (k 1) (k 2) file)
+  pub rose : Rose (before (word_of words file)) (now (word_of words file))
+
+-- the files call for this status, and for no other
+pub record IsSplitRefused (words : List (List ℕ)) (held : Option Files) (s : Status) : Type 0 where
+  pub called : IsSplitAnswer words held s
+  pub refusal : IsFaultless s
+
+-- the run ends with this status before anything is written
+abbrev pub EndsSplit : (words : List (List ℕ)) → Option Files → (before now : List ℕ → ℕ) → Status → Type 0
+EndsSplit words held before now s = (s ≡ Memory) ⊎ (IsSplitReadFault words held before now s ⊎ IsSplitRefused words held s)

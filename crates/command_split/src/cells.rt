@@ -1,0 +1,106 @@
+// The controllers of all cells and their texts.
+ghost use Rattle.std.specs.Prelude.{◌≡◌, ◌≢◌, ◌⊎◌, ◌≤◌, ◌<◌, ◌++◌, ℕ, List, All, length, get_or, map, take, IfOk, IfErr};
+ghost use Rattle.std.specs.List.{flat_map};
+ghost use Rattle.qp_model.specs.problem.Parts.{IsDesign, design_of};
+ghost use Rattle.qp_model.specs.problem.Policy.{plans_of, IsPolicyFor};
+ghost use Rattle.qp_model.specs.machine.Controller.{Numbers};
+ghost use Rattle.qp_model.specs.bounds.Printed.{printed};
+ghost use Rattle.bound_report.specs.Report.{report_text};
+ghost use Rattle.cell_split.specs.Cells.{cell_count, AreCutsFor};
+ghost use Rattle.cell_maker.specs.Made.{AreCellsMade};
+ghost use Rattle.cell_file.specs.Cells.{AreAlike};
+ghost use Rattle.cell_file.specs.Text.{IsCellsText};
+ghost use Rattle.command_line.specs.Answers.{IsAnswer};
+ghost use Rattle.command_split.specs.Cells.{CellsCall};
+ghost use Rattle.command_split.specs.Reading.{AreCellTexts, CellsRefuse};
+
+use bound_report::report_text;
+use cell_file::write_cells;
+use cell_maker::{CellRefusal, MadeCells, make_cells};
+use cell_split::Cuts;
+use command_generate::Texts;
+use command_line::Status;
+use design_refusal::Refusal;
+use qp_model::{Bounds, Design, Policy};
+use std::alloc::{AllocError, Global};
+
+// The status that tells of the refusal of a cell.
+fn cell_status(refused: CellRefusal) -> Status
+    ensures { ((result ≡ Status.Memory) × (refused.refusal ≡ Refusal.Memory))
+        ⊎ ((result ≡ Status.Cell refused.cell refused.refusal) × (refused.refusal ≢ Refusal.Memory)) }
+{
+    match refused.refusal {
+        Refusal::Memory => Status::Memory,
+        refusal => Status::Cell {
+            cell: refused.cell,
+            refusal,
+        },
+    }
+}
+
+// The controllers and the bounds of all cells, or the status that tells why there are none.
+fn cells_made(
+    alloc: Global,
+    design: &Design,
+    cuts: &Cuts,
+    policies: &[Policy],
+) -> Result<MadeCells, Status>
+    requires cuts { AreCutsFor (design_of design.now) cuts.now }
+    requires count { length policies.now ≡ cell_count cuts.now }
+    requires sized { All (λ p. IsPolicyFor (design_of design.now) (plans_of p)) policies.now }
+    ensures made { IfOk result (λ m. AreCellsMade design.now cuts.now (map plans_of policies.now) m.controllers.items (map printed m.bounds.items)) }
+    ensures called { IfOk result (λ _. IsAnswer (CellsCall design.now cuts.now (map plans_of policies.now)) Status.Done) }
+    ensures refused { IfErr result (CellsRefuse design.now cuts.now (map plans_of policies.now)) }
+{
+    match make_cells(alloc, design, cuts, policies) {
+        Ok(made) => Ok(made),
+        Err(refused) => Err(cell_status(refused)),
+    }
+}
+
+// The texts of the reports of bounds, one after the other.
+fn reports_of(alloc: Global, bounds: &[Bounds]) -> Result<Vec<u8>, AllocError>
+    ensures { IfOk result (λ v. v.items ≡ flat_map (λ b. report_text (printed b)) bounds.now) }
+{
+    let mut reports = Vec::new(alloc);
+    for own in bounds {
+        let text = report_text(alloc, own)?;
+        reports.extend_from_slice(&text)?;
+    }
+    Ok(reports)
+}
+
+// The text of controllers, and the reports of their bounds.
+fn texts_made(alloc: Global, made: &MadeCells) -> Result<Texts, Status>
+    requires some { 1 ≤ length made.now.controllers.items }
+    requires few { length made.now.controllers.items ≤ 64 }
+    requires alike { (i : ℕ) (c : Numbers) → i < length made.now.controllers.items →
+        AreAlike (get_or made.now.controllers.items 0 c) (get_or made.now.controllers.items i c) }
+    ensures cells { IfOk result (λ t. IsCellsText t.controller.items made.now.controllers.items) }
+    ensures reports { IfOk result (λ t. t.report.items ≡ flat_map (λ b. report_text (printed b)) made.now.bounds.items) }
+    ensures memory { IfErr result (λ e. e ≡ Status.Memory) }
+{
+    let controller = write_cells(alloc, &made.controllers)?;
+    let report = reports_of(alloc, &made.bounds)?;
+    Ok(Texts { controller, report })
+}
+
+/// Both texts of the cells of a design's box with their policies; or the status that tells why there are none.
+pub(crate) fn texts_of(
+    alloc: Global,
+    design: &Design,
+    cuts: &Cuts,
+    policies: &[Policy],
+) -> Result<Texts, Status>
+    requires cuts { AreCutsFor (design_of design.now) cuts.now }
+    requires count { length policies.now ≡ cell_count cuts.now }
+    requires sized { All (λ p. IsPolicyFor (design_of design.now) (plans_of p)) policies.now }
+    ensures texts { IfOk result (λ t. AreCellTexts design.now cuts.now (map plans_of policies.now) t.controller.items t.report.items) }
+    ensures refused { IfErr result (CellsRefuse design.now cuts.now (map plans_of policies.now)) }
+{
+    // A design keeps its rules, and the cuts make 1 to 64 cells; with these read, that is known on every way out.
+    let _parts = design.parts();
+    let _cells = cuts.cells();
+    let made = cells_made(alloc, design, cuts, policies)?;
+    texts_made(alloc, &made)
+}

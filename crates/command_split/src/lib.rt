@@ -1,0 +1,8 @@
+//! `split`: a controller for each cell of a design's box, all in one text, and their reports, from a design, cuts and the cells' policies.
+#![tactic(auto)]
+
+mod cells;
+mod command;
+mod texts;
+
+pub use command::split;
