@@ -1,5 +1,5 @@
--- The arguments are those of one command at most, with one number. The first two letters of a command's name tell it.
-use Rattle.std.proofs.Common.{◌≡◌, ℕ, ◌+◌, ◌*◌, ◌^◌, ◌<◌, pos, List, ◌∷◌, length, true, false, refl, ap, sym, ◌∙◌, subst, arith}
+-- The arguments are those of one command at most, with one number. The first two letters of a command's name and the number of the arguments tell it.
+use Rattle.std.proofs.Common.{◌≡◌, ℕ, Bool, ◌+◌, ◌*◌, ◌^◌, ◌<◌, pos, List, ◌∷◌, length, true, false, refl, ap, sym, ◌∙◌, subst, arith}
 use Rattle.std.specs.Prelude.{codes, nat_eq, if◌then◌else◌}
 use Rattle.std.proofs.lemmas.Fmt.{signed_decimal_injective}
 use Rattle.command_line.specs.Words.{word_of, IsCount}
@@ -11,87 +11,116 @@ use Rattle.command_line.specs.declared.words.Command.TheVariants as commands
 data Kind : Type 0 where
   making : Kind
   solving : Kind
-  looping : Kind
+  looping : Bool → Kind
   showing : Kind
   listing : Kind
-  staying : Kind
+  staying : Bool → Kind
   playing : Kind
   leaning : Kind
+  keeping : Bool → Kind
+  splitting : Kind
+  serving : Kind
 
 abbrev kind : Command → Kind
 kind commands.Generate = making
 kind commands.Solve = solving
-kind (commands.Loop turns) = looping
+kind (commands.Loop turns disturbed) = looping disturbed
 kind (commands.Demo number) = showing
 kind commands.List = listing
-kind (commands.Stay disturbed) = staying
+kind (commands.Stay disturbed) = staying disturbed
 kind commands.Play = playing
 kind commands.Lean = leaning
+kind (commands.LeanStay disturbed) = keeping disturbed
+kind commands.Split = splitting
+kind commands.Serve = serving
 
 abbrev count_in : Command → ℕ
-count_in (commands.Loop turns) = turns
+count_in (commands.Loop turns disturbed) = turns
 count_in (commands.Demo number) = number
-count_in (commands.Stay disturbed) = if disturbed then 7 else 6
 count_in command = 0
 
 abbrev of_kind : Kind → ℕ → Command
 of_kind making n = commands.Generate
 of_kind solving n = commands.Solve
-of_kind looping n = commands.Loop n
+of_kind (looping disturbed) n = commands.Loop n disturbed
 of_kind showing n = commands.Demo n
 of_kind listing n = commands.List
-of_kind staying n = commands.Stay (nat_eq n 7)
+of_kind (staying disturbed) n = commands.Stay disturbed
 of_kind playing n = commands.Play
 of_kind leaning n = commands.Lean
+of_kind (keeping disturbed) n = commands.LeanStay disturbed
+of_kind splitting n = commands.Split
+of_kind serving n = commands.Serve
 
 rebuilt : (command : Command) → of_kind (kind command) (count_in command) ≡ command
 rebuilt commands.Generate = refl
 rebuilt commands.Solve = refl
-rebuilt (commands.Loop turns) = refl
+rebuilt (commands.Loop turns disturbed) = refl
 rebuilt (commands.Demo number) = refl
 rebuilt commands.List = refl
-rebuilt (commands.Stay true) = refl
-rebuilt (commands.Stay false) = refl
+rebuilt (commands.Stay disturbed) = refl
 rebuilt commands.Play = refl
 rebuilt commands.Lean = refl
+rebuilt (commands.LeanStay disturbed) = refl
+rebuilt commands.Split = refl
+rebuilt commands.Serve = refl
 
--- ---- the name tells the kind
+-- ---- the name and the number of arguments tell the kind
 abbrev mark : List ℕ → ℕ
 mark (one ∷ two ∷ rest) = 256 * one + two
 mark letters = 0
 
-abbrev kind_marked : ℕ → Kind
-kind_marked m =
-    if nat_eq m (mark (codes "generate")) then making else (if nat_eq m (mark (codes "solve")) then solving else (if nat_eq m (mark (codes "loop")) then looping else
-    (if nat_eq m (mark (codes "list")) then listing else (if nat_eq m (mark (codes "stay")) then staying else (if nat_eq m (mark (codes "play")) then playing else
-    (if nat_eq m (mark (codes "lean")) then leaning else showing))))))
+-- a `lean`, by how many arguments there are
+abbrev lean_kind : ℕ → Kind
+lean_kind count = if nat_eq count 6 then leaning else keeping (nat_eq count 8)
 
-named : (command : Command) (words : List (List ℕ)) → AreOf command words → kind_marked (mark (word_of words 0)) ≡ kind command
-named commands.Generate words is = ap (λ (name : List ℕ). kind_marked (mark name)) is.command
-named commands.Solve words is = ap (λ (name : List ℕ). kind_marked (mark name)) is.command
-named (commands.Loop turns) words is = ap (λ (name : List ℕ). kind_marked (mark name)) is.command
-named (commands.Demo number) words is = ap (λ (name : List ℕ). kind_marked (mark name)) is.command
-named commands.List words is = ap (λ (name : List ℕ). kind_marked (mark name)) is.command
-named (commands.Stay disturbed) words is = ap (λ (name : List ℕ). kind_marked (mark name)) is.command
-named commands.Play words is = ap (λ (name : List ℕ). kind_marked (mark name)) is.command
-named commands.Lean words is = ap (λ (name : List ℕ). kind_marked (mark name)) is.command
+abbrev kind_marked : ℕ → ℕ → Kind
+kind_marked m count =
+    if nat_eq m (mark (codes "generate")) then making else (if nat_eq m (mark (codes "solve")) then solving else
+    (if nat_eq m (mark (codes "loop")) then looping (nat_eq count 6) else (if nat_eq m (mark (codes "list")) then listing else
+    (if nat_eq m (mark (codes "stay")) then staying (nat_eq count 7) else (if nat_eq m (mark (codes "play")) then playing else
+    (if nat_eq m (mark (codes "lean")) then lean_kind count else (if nat_eq m (mark (codes "split")) then splitting else
+    (if nat_eq m (mark (codes "serve")) then serving else showing))))))))
+
+-- arguments with this name, so many, are of this kind
+of_name : (words : List (List ℕ)) (name : List ℕ) (count : ℕ) → word_of words 0 ≡ name → length words ≡ count →
+    kind_marked (mark (word_of words 0)) (length words) ≡ kind_marked (mark name) count
+of_name words name count named counted = ap (λ (w : List ℕ). kind_marked (mark w) (length words)) named ∙ ap (kind_marked (mark name)) counted
+
+named : (command : Command) (words : List (List ℕ)) → AreOf command words → kind_marked (mark (word_of words 0)) (length words) ≡ kind command
+named commands.Generate words is = of_name words (codes "generate") 5 is.command is.count
+named commands.Solve words is = of_name words (codes "solve") 3 is.command is.count
+named (commands.Loop turns true) words is = of_name words (codes "loop") 6 is.command is.count
+named (commands.Loop turns false) words is = of_name words (codes "loop") 5 is.command is.count
+named (commands.Demo number) words is = of_name words (codes "demo") 2 is.command is.count
+named commands.List words is = of_name words (codes "list") 3 is.command is.count
+named (commands.Stay true) words is = of_name words (codes "stay") 7 is.command is.count
+named (commands.Stay false) words is = of_name words (codes "stay") 6 is.command is.count
+named commands.Play words is = of_name words (codes "play") 3 is.command is.count
+named commands.Lean words is = of_name words (codes "lean") 6 is.command is.count
+named (commands.LeanStay true) words is = of_name words (codes "lean") 8 is.command is.count
+named (commands.LeanStay false) words is = of_name words (codes "lean") 7 is.command is.count
+named commands.Split words is = of_name words (codes "split") 6 is.command is.count
+named commands.Serve words is = of_name words (codes "serve") 3 is.command is.count
 
 -- ---- a word tells the number
 abbrev IsNumber : Kind → List (List ℕ) → ℕ → Type 0
-IsNumber looping words n = IsCount 1000000 (word_of words 4) n
+IsNumber (looping disturbed) words n = IsCount 1000000 (word_of words 4) n
 IsNumber showing words n = IsCount 4294967295 (word_of words 1) n
-IsNumber staying words n = n ≡ length words
 IsNumber other words n = n ≡ 0
 
 counted : (command : Command) (words : List (List ℕ)) → AreOf command words → IsNumber (kind command) words (count_in command)
 counted commands.Generate words is = refl
 counted commands.Solve words is = refl
-counted (commands.Loop turns) words is = is.last
+counted (commands.Loop turns disturbed) words is = is.last
 counted (commands.Demo number) words is = is.last
 counted commands.List words is = refl
-counted (commands.Stay disturbed) words is = sym is.count
+counted (commands.Stay disturbed) words is = refl
 counted commands.Play words is = refl
 counted commands.Lean words is = refl
+counted (commands.LeanStay disturbed) words is = refl
+counted commands.Split words is = refl
+counted commands.Serve words is = refl
 
 one_count : (most : ℕ) (word : List ℕ) (a b : ℕ) → most < 2 ^ 63 → IsCount most word a → IsCount most word b → a ≡ b
 one_count most word a b small x y =
@@ -101,12 +130,15 @@ one_count most word a b small x y =
 one_number : (k : Kind) (words : List (List ℕ)) (a b : ℕ) → IsNumber k words a → IsNumber k words b → a ≡ b
 one_number making words a b x y = x ∙ sym y
 one_number solving words a b x y = x ∙ sym y
-one_number looping words a b x y = one_count 1000000 (word_of words 4) a b (omega arith) x y
+one_number (looping disturbed) words a b x y = one_count 1000000 (word_of words 4) a b (omega arith) x y
 one_number showing words a b x y = one_count 4294967295 (word_of words 1) a b (omega arith) x y
 one_number listing words a b x y = x ∙ sym y
-one_number staying words a b x y = x ∙ sym y
+one_number (staying disturbed) words a b x y = x ∙ sym y
 one_number playing words a b x y = x ∙ sym y
 one_number leaning words a b x y = x ∙ sym y
+one_number (keeping disturbed) words a b x y = x ∙ sym y
+one_number splitting words a b x y = x ∙ sym y
+one_number serving words a b x y = x ∙ sym y
 
 -- ---- so the arguments tell the command
 pub one_command : (words : List (List ℕ)) (command other : Command) → AreOf command words → AreOf other words → command ≡ other

@@ -1,7 +1,7 @@
 -- The exit status of each answer.
 use Rattle.std.specs.Prelude.{ℕ}
 use Rattle.command_line.specs.declared.status.Status.{Status}
-use Rattle.command_line.specs.declared.status.Status.TheVariants.{Done, Memory, Usage, ReadFault, WriteFault, Text, Refused, Controller, OutsideBox, Long, Mismatch, Unequal, NoStay, Listing, Trap}
+use Rattle.command_line.specs.declared.status.Status.TheVariants.{Done, Memory, Usage, ReadFault, WriteFault, Text, Refused, Controller, OutsideBox, Long, Mismatch, Unequal, NoStay, Cell, Listing, Trap}
 use Rattle.design_refusal.specs.declared.refusal.Refusal.{Refusal}
 use Rattle.design_refusal.specs.declared.refusal.Refusal.TheVariants as refusals
 
@@ -33,5 +33,6 @@ status_number (Long file) = 13
 status_number (Mismatch field design controller) = 14
 status_number (Unequal entry input left right) = 16
 status_number (NoStay entry bound) = 17
+status_number (Cell cell refusal) = 18
 status_number (Listing file line) = 20
 status_number (Trap entry step place) = 21

@@ -9,7 +9,7 @@ use Rattle.controller_file.specs.declared.bad_controller.BadController.{BadContr
 use Rattle.controller_file.specs.declared.bad_controller.BadController.TheVariants.{Line, Unsafe, Memory as NoSpace}
 use Rattle.command_line.specs.Status.{status_number}
 use Rattle.command_line.specs.declared.status.Status.{Status}
-use Rattle.command_line.specs.declared.status.Status.TheVariants.{Done, Memory, Usage, ReadFault, WriteFault, Text, Refused, Controller, OutsideBox, Long, Mismatch, Unequal, NoStay, Listing, Trap}
+use Rattle.command_line.specs.declared.status.Status.TheVariants.{Done, Memory, Usage, ReadFault, WriteFault, Text, Refused, Controller, OutsideBox, Long, Mismatch, Unequal, NoStay, Cell, Listing, Trap}
 use Rattle.command_line.specs.declared.status.Field.{Field}
 use Rattle.command_line.specs.declared.status.Field.TheVariants.{States, Inputs, Grid}
 
@@ -51,6 +51,7 @@ status_words (Long file) = codes "long" ∷ decimal file ∷ []
 status_words (Mismatch field design controller) = codes "mismatch" ∷ field_name field ∷ signed_decimal design ∷ signed_decimal controller ∷ []
 status_words (Unequal entry input left right) = codes "unequal" ∷ decimal entry ∷ decimal input ∷ signed_decimal left ∷ signed_decimal right ∷ []
 status_words (NoStay entry bound) = codes "no-stay" ∷ decimal entry ∷ signed_decimal bound ∷ []
+status_words (Cell cell refusal) = codes "cell" ∷ decimal cell ∷ refusal_words refusal
 status_words (Listing file line) = codes "listing" ∷ decimal file ∷ decimal line ∷ []
 status_words (Trap entry step place) = codes "trap" ∷ decimal entry ∷ decimal step ∷ decimal place ∷ []
 

@@ -52,6 +52,27 @@ pub record IsLean (words : List (List ℕ)) : Type 0 where
   pub controller : IsOwnName words 4
   pub report : IsOwnName words 5
 
+-- the words are `lean`, the names of those five files and that of a file of faces, and of one of disturbances where there are any; the fourth and the fifth
+-- are no other's
+pub record IsLeanStay (words : List (List ℕ)) (disturbed : Bool) : Type 0 where
+  pub count : length words ≡ (if disturbed then 8 else 7)
+  pub command : word_of words 0 ≡ codes "lean"
+  pub controller : IsOwnName words 4
+  pub report : IsOwnName words 5
+
+-- the words are `split` and the names of a design file, a file of cuts, a file of policies, a file of cells and a report file; neither of the last two is
+-- another's
+pub record IsSplit (words : List (List ℕ)) : Type 0 where
+  pub count : length words ≡ 6
+  pub command : word_of words 0 ≡ codes "split"
+  pub cells : IsOwnName words 4
+  pub report : IsOwnName words 5
+
+-- the words are `serve` and the names of a file of cells and of a states file
+pub record IsServe (words : List (List ℕ)) : Type 0 where
+  pub count : length words ≡ 3
+  pub command : word_of words 0 ≡ codes "serve"
+
 -- a name that asks for another form of the report
 abbrev pub IsJson : List ℕ → Type 0
 IsJson name = (stem : List ℕ) × (name ≡ stem ++ codes ".json")
@@ -61,9 +82,10 @@ pub record IsCount (most : ℕ) (word : List ℕ) (n : ℕ) : Type 0 where
   pub limit : n ≤ most
   pub digits : word ≡ signed_decimal (pos n)
 
--- the words are `loop`, the names of a design file, a controller file and a states file, and this number of turns
-pub record IsLoop (words : List (List ℕ)) (turns : ℕ) : Type 0 where
-  pub count : length words ≡ 5
+-- the words are `loop`, the names of a design file, a controller file and a states file, this number of turns, and the name of a file of disturbances where
+-- there are any
+pub record IsLoop (words : List (List ℕ)) (turns : ℕ) (disturbed : Bool) : Type 0 where
+  pub count : length words ≡ (if disturbed then 6 else 5)
   pub command : word_of words 0 ≡ codes "loop"
   pub last : IsCount 1000000 (word_of words 4) turns
 

@@ -2,11 +2,12 @@
 ghost use Rattle.std.specs.Prelude.{◌≡◌, IfOk, string_bytes, codes, [], ◌∷◌};
 ghost use Rattle.std.specs.List.{join_with_byte};
 ghost use Rattle.std.specs.Fmt.{decimal, signed_decimal};
+ghost use Rattle.design_refusal.specs.Words.{refusal_words};
 ghost use Rattle.command_line.specs.StatusLine.{field_name, fault_words, controller_words, status_words, status_line};
 
 use crate::status::{Field, Status, status_number};
 use controller_file::BadController;
-use design_refusal::refusal_words;
+use design_refusal::{Refusal, refusal_words};
 use number_text::TextFault;
 use std::alloc::{AllocError, Global};
 
@@ -78,6 +79,14 @@ fn mismatch_words(
     format!(in alloc; "mismatch {name} {design} {controller}")
 }
 
+// The cell whose design is refused, and why.
+fn cell_words(alloc: Global, cell: u32, refusal: &Refusal) -> Result<String, AllocError>
+    ensures { IfOk result (λ text. string_bytes text ≡ join_with_byte 32 (codes "cell" ∷ decimal cell ∷ refusal_words refusal.now)) }
+{
+    let refusal = refusal_words(alloc, refusal)?;
+    format!(in alloc; "cell {cell} {refusal}")
+}
+
 // The name of an answer, and its numbers.
 fn status_words(alloc: Global, status: &Status) -> Result<String, AllocError>
     ensures { IfOk result (λ text. string_bytes text ≡ join_with_byte 32 (status_words status.now)) }
@@ -109,6 +118,7 @@ fn status_words(alloc: Global, status: &Status) -> Result<String, AllocError>
             right,
         } => format!(in alloc; "unequal {entry} {input} {left} {right}"),
         Status::NoStay { entry, bound } => format!(in alloc; "no-stay {entry} {bound}"),
+        Status::Cell { cell, refusal } => cell_words(alloc, *cell, refusal),
         Status::Listing { file, line } => format!(in alloc; "listing {file} {line}"),
         Status::Trap { entry, step, place } => format!(in alloc; "trap {entry} {step} {place}"),
     }

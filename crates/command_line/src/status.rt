@@ -43,19 +43,20 @@ pub enum Status {
     Refused {
         refusal: Refusal,
     },
-    /// The bytes of the file at this position are no controller's text.
+    /// The bytes of the file at this position are no controller's text, or no text of cells.
     Controller {
         file: u32,
         fault: BadController,
     },
-    /// That coordinate of the state of a record lies outside the controller's box; it is the first. `turn` is 0 where a record's state itself was tested, and
+    /// That coordinate of the state of a record lies outside the controller's box, or that of the first cell where no cell's box holds it; it is the
+    /// first. `turn` is 0 where a record's state itself was tested, and
     /// else the turn of a closed loop whose state it is.
     OutsideBox {
         entry: u32,
         turn: u32,
         coordinate: u32,
     },
-    /// The file at this position holds more than 4194304 bytes.
+    /// The file at this position holds more bytes than its kind may: 268435456 where it is to hold the text of cells, and else 4194304.
     Long {
         file: u32,
     },
@@ -76,6 +77,11 @@ pub enum Status {
     NoStay {
         entry: u32,
         bound: i128,
+    },
+    /// The design of that cell, from 1, is refused; it is the first. Out of memory is no such answer, but `Memory`.
+    Cell {
+        cell: u32,
+        refusal: Refusal,
     },
     /// The bytes of the file at this position are no listing's text; the line with this number, from 1, is the first that no listing's text has there.
     Listing {
@@ -142,6 +148,7 @@ pub fn status_number(status: &Status) -> u8
         Status::Mismatch { .. } => 14,
         Status::Unequal { .. } => 16,
         Status::NoStay { .. } => 17,
+        Status::Cell { .. } => 18,
         Status::Listing { .. } => 20,
         Status::Trap { .. } => 21,
     }

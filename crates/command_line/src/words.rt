@@ -1,6 +1,6 @@
 // Which command the arguments are.
 ghost use Rattle.std.specs.Prelude.{ℕ, IsTrue, MatchOption, ◌↔◌, ◌≢◌, ◌<◌, Bool, length};
-ghost use Rattle.command_line.specs.Words.{word_of, IsSolve, IsGenerate, IsLoop, IsDemo, IsList, IsJson, IsCount, IsStay, IsOwnName, IsPlay, IsLean};
+ghost use Rattle.command_line.specs.Words.{word_of, IsSolve, IsGenerate, IsLoop, IsDemo, IsList, IsJson, IsCount, IsStay, IsOwnName, IsPlay, IsLean, IsLeanStay, IsSplit, IsServe};
 ghost use Rattle.command_line.specs.Commands.{IsUsage, AreOf, OneCommandLaw};
 
 use io_edge::Words;
@@ -11,13 +11,18 @@ use number_text::number_word;
 pub enum Command {
     Generate,
     Solve,
-    Loop { turns: u32 },
+    /// With a file of disturbances, or without.
+    Loop { turns: u32, disturbed: bool },
     Demo { number: u32 },
     List,
     /// With a file of disturbances, or without.
     Stay { disturbed: bool },
     Play,
     Lean,
+    /// `lean` with a file of faces: with one of disturbances, or without.
+    LeanStay { disturbed: bool },
+    Split,
+    Serve,
 }
 
 /// The most turns of a `loop`.
@@ -36,8 +41,17 @@ pub fn command_of(words: &Words) -> Option<Command>
     if is_solve(words) {
         return Some(Command::Solve);
     }
-    if let Some(turns) = turns_of(words) {
-        return Some(Command::Loop { turns });
+    if let Some(turns) = turns_of(words, false) {
+        return Some(Command::Loop {
+            turns,
+            disturbed: false,
+        });
+    }
+    if let Some(turns) = turns_of(words, true) {
+        return Some(Command::Loop {
+            turns,
+            disturbed: true,
+        });
     }
     if let Some(number) = number_of(words) {
         return Some(Command::Demo { number });
@@ -53,6 +67,15 @@ pub fn command_of(words: &Words) -> Option<Command>
     }
     if is_lean(words) {
         return Some(Command::Lean);
+    }
+    if let Some(disturbed) = lean_disturbed_of(words) {
+        return Some(Command::LeanStay { disturbed });
+    }
+    if is_split(words) {
+        return Some(Command::Split);
+    }
+    if is_serve(words) {
+        return Some(Command::Serve);
     }
     None
 }
@@ -95,11 +118,19 @@ fn is_play(words: &Words) -> bool
     words.count() == 3 && words.at(0) == "play"
 }
 
-// The turns of a `loop`; none where the arguments are those of no `loop`.
-fn turns_of(words: &Words) -> Option<u32>
-    ensures { MatchOption result ((turns : ℕ) → ¬ IsLoop words.now turns) (λ turns. IsLoop words.now turns) }
+// Whether they are those that `serve` needs.
+fn is_serve(words: &Words) -> bool
+    ensures { IsTrue result ↔ IsServe words.now }
 {
-    if words.count() != 5 || words.at(0) != "loop" {
+    words.count() == 3 && words.at(0) == "serve"
+}
+
+// The turns of a `loop`, with a file of disturbances or without; none where the arguments are those of no such `loop`.
+fn turns_of(words: &Words, disturbed: bool) -> Option<u32>
+    ensures { MatchOption result ((turns : ℕ) → ¬ IsLoop words.now turns disturbed) (λ turns. IsLoop words.now turns disturbed) }
+{
+    let count = if disturbed { 6 } else { 5 };
+    if words.count() != count || words.at(0) != "loop" {
         return None;
     }
     count_of(words.at(4), MOST_TURNS)
@@ -135,6 +166,31 @@ fn is_lean(words: &Words) -> bool
     ensures { IsTrue result ↔ IsLean words.now }
 {
     if words.count() != 6 || words.at(0) != "lean" {
+        return false;
+    }
+    is_own_name(words, 4) && is_own_name(words, 5)
+}
+
+// Whether a `lean` with faces has a file of disturbances; none where the arguments are those of no `lean` with faces.
+fn lean_disturbed_of(words: &Words) -> Option<bool>
+    ensures { MatchOption result ((disturbed : Bool) → ¬ IsLeanStay words.now disturbed) (λ disturbed. IsLeanStay words.now disturbed) }
+{
+    let count = words.count();
+    if count < 7 || count > 8 || words.at(0) != "lean" {
+        return None;
+    }
+    if is_own_name(words, 4) && is_own_name(words, 5) {
+        Some(count == 8)
+    } else {
+        None
+    }
+}
+
+// Whether they are those that `split` needs.
+fn is_split(words: &Words) -> bool
+    ensures { IsTrue result ↔ IsSplit words.now }
+{
+    if words.count() != 6 || words.at(0) != "split" {
         return false;
     }
     is_own_name(words, 4) && is_own_name(words, 5)

@@ -1,6 +1,6 @@
 -- What each command's clauses say of the command that the arguments are those of.
 use Rattle.std.proofs.Common.{◌≡◌, ◌≢◌, ◌⊎◌, inl, inr, ℕ, List, Option, Some, None, refl, le_refl}
-use Rattle.std.specs.Prelude.{IfSome, IsSomeAnd}
+use Rattle.std.specs.Prelude.{IfSome, IsSomeAnd, ⊤}
 use Rattle.io_edge.specs.Faults.{Files, Rose, NoneFalls}
 use Rattle.command_line.specs.Words.{word_of}
 use Rattle.command_line.specs.Commands.{AreOf}
@@ -11,6 +11,14 @@ use Rattle.command_line.proofs.OneCommand.{for_each}
 use Rattle.command_line.specs.declared.status.Status.{Status}
 use Rattle.command_line.specs.declared.status.Status.TheVariants.{Done, Memory, Usage, ReadFault, WriteFault}
 use Rattle.command_line.specs.declared.words.Command.{Command}
+use Rattle.command_line.specs.declared.words.Command.TheVariants.{Generate, Stay, Lean, LeanStay, Split, Serve, Play}
+use Rattle.command_generate.specs.Generate.{IsGenerated}
+use Rattle.command_stay.specs.Stay.{IsStayed}
+use Rattle.command_lean.specs.Lean.{IsLeanWritten}
+use Rattle.command_lean_stay.specs.LeanStay.{IsLeanStayed}
+use Rattle.command_split.specs.Split.{IsSplitWritten}
+use Rattle.command_serve.specs.Held.{ServesHeld}
+use Rattle.command_play.specs.AsSolved.{PlaysAsSolved}
 use Rattle.command_demo.specs.Demo.{DemoCalls}
 use Rattle.command_demo.specs.Deeds.{demo_deeds}
 use Rattle.command_run.specs.Table.{deeds_of}
@@ -33,10 +41,29 @@ module _ (deeds : Deeds) (words : List (List ℕ)) (held : Option Files) (s : St
   abbrev pub Completes : (rb rn wb wn : List ℕ → ℕ) → (pb pn : ℕ) → Type 0
   Completes rb rn wb wn pb pn = (t : Status) → IsCalledFor deeds words held t → NoneRises deeds words rb rn wb wn pb pn → (s ≡ t) ⊎ (s ≡ Memory)
 
+-- ---- what a command promises beyond its row of the table
+module _ (words : List (List ℕ)) (s : Status) (held held_now : Option Files) (got got_now : Option (List ℕ)) where
+  -- of what it leaves in the store where it answers `Done`
+  abbrev Leaves : (Files → Files → Type 0) → Type 0
+  Leaves Left = s ≡ Done → IfSome held (λ files. IsSomeAnd held_now (Left files))
+
+  abbrev pub Promised : Command → Type 0
+  Promised Generate = Leaves (IsGenerated words)
+  Promised (Stay disturbed) = Leaves (IsStayed disturbed words)
+  Promised Lean = Leaves (IsLeanWritten words)
+  Promised (LeanStay disturbed) = Leaves (IsLeanStayed disturbed words)
+  Promised Split = Leaves (IsSplitWritten words)
+  Promised Serve = ServesHeld words held s got got_now
+  Promised Play = PlaysAsSolved words held s got got_now
+  Promised other = ⊤
+
 -- ---- it is said of each command that the arguments are those of
 module _ (words : List (List ℕ)) (c : Command) (is : AreOf c words) (held : Option Files) (s : Status) where
   pub each_called : Called (deeds_of c) words held s → (d : Command) → AreOf d words → Called (deeds_of d) words held s
   each_called = for_each words c is (λ d. Called (deeds_of d) words held s)
+
+  pub each_promised : (now : Option Files) (got got_now : Option (List ℕ)) → Promised words s held now got got_now c → (d : Command) → AreOf d words → Promised words s held now got got_now d
+  each_promised now got got_now = for_each words c is (Promised words s held now got got_now)
 
   pub each_shown : (before now : Option (List ℕ)) → Shown (deeds_of c) words held s before now → (d : Command) → AreOf d words → Shown (deeds_of d) words held s before now
   each_shown before now = for_each words c is (λ d. Shown (deeds_of d) words held s before now)

@@ -5,9 +5,9 @@ use Rattle.command_line.specs.Words.{word_of}
 use Rattle.command_line.specs.Answers.{Contents, ForContents, IsAnswer, IsCaused}
 use Rattle.command_line.specs.Deeds.{Deeds, IsCalledFor, WriteFailed, NoneRises}
 use Rattle.command_line.specs.declared.status.Status.{Status}
-use Rattle.command_line.specs.declared.status.Status.TheVariants.{Done, Memory, Usage, ReadFault, WriteFault, Text, Refused, Controller, OutsideBox, Long, Mismatch, Unequal, NoStay, Listing, Trap}
+use Rattle.command_line.specs.declared.status.Status.TheVariants.{Done, Memory, Usage, ReadFault, WriteFault, Text, Refused, Controller, OutsideBox, Long, Mismatch, Unequal, NoStay, Cell, Listing, Trap}
 use Rattle.command_line.specs.declared.words.Command.{Command}
-use Rattle.command_line.specs.declared.words.Command.TheVariants.{Generate, Solve, Loop, Demo, List as Writing, Stay, Play, Lean}
+use Rattle.command_line.specs.declared.words.Command.TheVariants.{Generate, Solve, Loop, Demo, List as Writing, Stay, Play, Lean, LeanStay, Split, Serve}
 use Rattle.command_run.specs.Table.{deeds_of}
 
 -- ---- what an answer is
@@ -31,6 +31,7 @@ kind (Long file) = caused (Long file) (record { memory = λ e. cc; read = λ fil
 kind (Mismatch field design controller) = caused (Mismatch field design controller) (record { memory = λ e. cc; read = λ file e. cc; write = λ file e. cc })
 kind (Unequal entry input left right) = caused (Unequal entry input left right) (record { memory = λ e. cc; read = λ file e. cc; write = λ file e. cc })
 kind (NoStay entry bound) = caused (NoStay entry bound) (record { memory = λ e. cc; read = λ file e. cc; write = λ file e. cc })
+kind (Cell cell refusal) = caused (Cell cell refusal) (record { memory = λ e. cc; read = λ file e. cc; write = λ file e. cc })
 kind (Listing file line) = caused (Listing file line) (record { memory = λ e. cc; read = λ at e. cc; write = λ at e. cc })
 kind (Trap entry step place) = caused (Trap entry step place) (record { memory = λ e. cc; read = λ file e. cc; write = λ file e. cc })
 
@@ -41,9 +42,10 @@ reached_read Generate contents file (inl first) = inl first
 reached_read Generate contents file (inr second) = inr second.0
 reached_read Solve contents file (inl first) = inl first
 reached_read Solve contents file (inr second) = inr second.0
-reached_read (Loop turns) contents file (inl first) = inl first
-reached_read (Loop turns) contents file (inr (inl second)) = inr (inl second.0)
-reached_read (Loop turns) contents file (inr (inr third)) = inr (inr third.0)
+reached_read (Loop turns disturbed) contents file (inl first) = inl first
+reached_read (Loop turns disturbed) contents file (inr (inl second)) = inr (inl second.0)
+reached_read (Loop turns disturbed) contents file (inr (inr (inl third))) = inr (inr (inl third.0))
+reached_read (Loop turns disturbed) contents file (inr (inr (inr fifth))) = inr (inr (inr (fifth.0, fifth.1)))
 reached_read (Demo number) contents file never = never
 reached_read (Stay disturbed) contents file (inl first) = inl first
 reached_read (Stay disturbed) contents file (inr (inl second)) = inr (inl second.0)
@@ -55,6 +57,16 @@ reached_read Play contents file (inr second) = inr second.0
 reached_read Lean contents file (inl first) = inl first
 reached_read Lean contents file (inr (inl second)) = inr (inl second.0)
 reached_read Lean contents file (inr (inr third)) = inr (inr third.0)
+reached_read (LeanStay disturbed) contents file (inl first) = inl first
+reached_read (LeanStay disturbed) contents file (inr (inl second)) = inr (inl second.0)
+reached_read (LeanStay disturbed) contents file (inr (inr (inl third))) = inr (inr (inl third.0))
+reached_read (LeanStay disturbed) contents file (inr (inr (inr (inl sixth)))) = inr (inr (inr (inl sixth.0)))
+reached_read (LeanStay disturbed) contents file (inr (inr (inr (inr seventh)))) = inr (inr (inr (inr (seventh.0, seventh.1))))
+reached_read Split contents file (inl first) = inl first
+reached_read Split contents file (inr (inl second)) = inr (inl second.0)
+reached_read Split contents file (inr (inr third)) = inr (inr third.0)
+reached_read Serve contents file (inl first) = inl first
+reached_read Serve contents file (inr second) = inr second.0
 
 -- ---- it doesn't give up
 module _ (deeds : Deeds) (reads : (contents : Contents) (file : ℕ) → deeds.reaches contents file → deeds.reads file) (words : List (List ℕ)) (held : Option Files) (result : Status)

@@ -1,5 +1,5 @@
 -- Which statuses a command answers.
-use Rattle.std.proofs.Common.{◌≡◌, ◌⊎◌, inl, inr, ℕ, Bool, true, false, List, Option}
+use Rattle.std.proofs.Common.{◌≡◌, ◌⊎◌, inl, inr, ℕ, Bool, true, false, List, Option, ℤ, Some, None}
 use Rattle.io_edge.specs.Faults.{Files}
 use Rattle.mat_int.specs.Matrix.{Matrix}
 use Rattle.qp_model.specs.problem.Design.{Design}
@@ -14,16 +14,16 @@ use Rattle.controller_file.specs.declared.bad_controller.BadController.{BadContr
 use Rattle.controller_file.specs.declared.bad_controller.BadController.TheVariants.{Line, Unsafe, Memory as no_space}
 use Rattle.design_refusal.specs.declared.refusal.Refusal.{Refusal}
 use Rattle.design_refusal.specs.declared.refusal.Refusal.TheVariants as refusals
-use Rattle.command_line.specs.Limit.{file_limit}
+use Rattle.command_line.specs.Limit.{file_limit, cells_limit}
 use Rattle.command_line.specs.Status.{status_of}
 use Rattle.command_line.specs.Answers.{Contents, ReadsThen, IsAnswer, ForContents, IsCaused}
-use Rattle.command_files.specs.Texts.{TellsFault, IsControllerFault, DesignRight, DesignWrong, PolicyRight, PolicyWrong, StatesRight, StatesWrong, FacesRight, FacesWrong, RangeRight, RangeWrong, ControllerRight, ControllerWrong}
+use Rattle.command_files.specs.Texts.{TellsFault, DesignRight, DesignWrong, PolicyRight, PolicyWrong, StatesRight, StatesWrong, FacesRight, FacesWrong, RangeRight, RangeWrong, ControllerRight, ControllerWrong, IsFaultBy, CutsRight, CutsWrong, CellPoliciesRight, CellPoliciesWrong, CellsRight, CellsWrong, ShiftsRight, ShiftsWrong}
 use Rattle.command_files.specs.Reading.{ReadsStates}
 use Rattle.command_controller.specs.Made.{MakingCalls}
 use Rattle.command_generate.specs.Generate.{GenerateCalls}
 use Rattle.command_solve.specs.Inside.{RunsCall}
 use Rattle.command_solve.specs.Solve.{SolveCalls}
-use Rattle.command_loop.specs.Loop.{LoopCalls, LoopsCall, IsMismatch}
+use Rattle.command_loop.specs.Loop.{LoopCalls, LoopsCall, IsMismatch, Course, course_of, ReadsLoopShifts}
 use Rattle.command_demo.specs.Demo.{DemoCalls}
 use Rattle.command_list.specs.Listed.{ListCalls}
 use Rattle.mac_listing.specs.Listing.{Instructions}
@@ -33,17 +33,22 @@ use Rattle.command_play.specs.Play.{PlayCalls}
 use Rattle.command_line.specs.declared.status.Status.{Status}
 use Rattle.command_line.specs.declared.status.Status.TheVariants.{Done, Usage, Text, Controller, Long}
 use Rattle.command_line.specs.declared.words.Command.{Command}
-use Rattle.command_line.specs.declared.words.Command.TheVariants.{Generate, Solve, Loop, Demo, List as Writing, Stay, Play}
+use Rattle.command_line.specs.declared.words.Command.TheVariants.{Generate, Solve, Loop, Demo, List as Writing, Stay, Play, Lean, LeanStay, Split, Serve}
 use Rattle.stay_check.specs.FaceForms.{FaceNumbers}
 use Rattle.stay_check.specs.declared.fault.StayFault.{StayFault}
 use Rattle.stay_check.specs.declared.fault.StayFault.TheVariants as faults
 use Rattle.command_stay.specs.Stay.{stay_status, StayingCalls, ReadsShifts, StayCalls, no_shifts}
-use Rattle.command_lean.specs.Made.{MakingCalls as LeanMakingCalls}
+use Rattle.command_lean.specs.Made.{LeanMakingCalls}
 use Rattle.command_lean.specs.Lean.{LeanCalls}
-use Rattle.command_line.specs.declared.status.Status.{Status}
-use Rattle.command_line.specs.declared.status.Status.TheVariants.{Done, Usage, Text, Controller, Long}
-use Rattle.command_line.specs.declared.words.Command.{Command}
-use Rattle.command_line.specs.declared.words.Command.TheVariants.{Generate, Solve, Loop, Demo, Stay, Lean}
+use Rattle.controller_file.specs.FirstLine.{IsBadLine, IsUnsafe}
+use Rattle.cell_file.specs.Text.{IsBadCellsLine, AreUnsafe}
+use Rattle.cell_split.specs.Cells.{cell_count}
+use Rattle.command_lean_stay.specs.LeanStay.{LeanStayingCalls, LeanStayCalls}
+use Rattle.command_split.specs.Cells.{CellsCall}
+use Rattle.command_split.specs.Split.{SplitCalls}
+use Rattle.command_serve.specs.Served.{cell_states}
+use Rattle.command_serve.specs.Unserved.{ServedCall}
+use Rattle.command_serve.specs.Serve.{ServeCalls}
 use Rattle.command_run.specs.Table.{deeds_of}
 
 -- an answer that a command with files gives: it isn't `Usage`, and no fault in it is that memory ran out
@@ -63,10 +68,10 @@ text_telling file fault s tells = record {
   controller = λ at e. let is = tells.1 in cc;
 }
 
-controller_telling : (file : ℕ) (bytes : List ℕ) (fault : BadController) (s : Status) → IsControllerFault bytes fault → s ≡ Controller file fault → IsTelling s
-controller_telling file bytes (Line l) s why is = record { usage = λ e. cc; text = λ at e. cc; controller = λ at e. cc }
-controller_telling file bytes Unsafe s why is = record { usage = λ e. cc; text = λ at e. cc; controller = λ at e. cc }
-controller_telling file bytes no_space s why is = absurd why
+bad_told : (file : ℕ) (IsBad : ℕ → Type 0) (IsWide : Type 0) (fault : BadController) (s : Status) → IsFaultBy IsBad IsWide fault → s ≡ Controller file fault → IsTelling s
+bad_told file IsBad IsWide (Line l) s why is = record { usage = λ e. cc; text = λ at e. cc; controller = λ at e. cc }
+bad_told file IsBad IsWide Unsafe s why is = record { usage = λ e. cc; text = λ at e. cc; controller = λ at e. cc }
+bad_told file IsBad IsWide no_space s why is = absurd why
 
 design_telling : (file : ℕ) (bytes : List ℕ) (s : Status) → DesignWrong file bytes s → IsTelling s
 design_telling file bytes s wrong = text_telling file wrong.0 s wrong.2
@@ -84,7 +89,19 @@ range_telling : (n file : ℕ) (bytes : List ℕ) (s : Status) → RangeWrong n 
 range_telling n file bytes s wrong = text_telling file wrong.0 s wrong.2
 
 bad_telling : (file : ℕ) (bytes : List ℕ) (s : Status) → ControllerWrong file bytes s → IsTelling s
-bad_telling file bytes s wrong = controller_telling file bytes wrong.0 s wrong.1 wrong.2
+bad_telling file bytes s wrong = bad_told file (IsBadLine bytes) (IsUnsafe bytes) wrong.0 s wrong.1 wrong.2
+
+bad_cells_telling : (file : ℕ) (bytes : List ℕ) (s : Status) → CellsWrong file bytes s → IsTelling s
+bad_cells_telling file bytes s wrong = bad_told file (IsBadCellsLine bytes) (AreUnsafe bytes) wrong.0 s wrong.1 wrong.2
+
+cuts_telling : (d : Design) (file : ℕ) (bytes : List ℕ) (s : Status) → CutsWrong d file bytes s → IsTelling s
+cuts_telling d file bytes s wrong = text_telling file wrong.0 s wrong.2
+
+policies_telling : (d : Design) (cells file : ℕ) (bytes : List ℕ) (s : Status) → CellPoliciesWrong d cells file bytes s → IsTelling s
+policies_telling d cells file bytes s wrong = text_telling file wrong.0 s wrong.2
+
+turn_shifts_telling : (n turns file : ℕ) (bytes : List ℕ) (s : Status) → ShiftsWrong n turns file bytes s → IsTelling s
+turn_shifts_telling n turns file bytes s wrong = text_telling file wrong.0 s wrong.2
 
 -- a file's refusal tells, where that of its bytes does; and so does what comes after
 then_telling : {X : Type 0} (limit file : ℕ) (Wrong : List ℕ → Status → Type 0) (Right : X → List ℕ → Type 0) (content : Option (List ℕ)) (After : X → Status → Type 0) →
@@ -118,10 +135,10 @@ mismatch_telling d c s (inl a) = let is = a.1 in record { usage = λ e. cc; text
 mismatch_telling d c s (inr (inl a)) = let is = a.2 in record { usage = λ e. cc; text = λ at e. cc; controller = λ at e. cc }
 mismatch_telling d c s (inr (inr a)) = let is = a.3 in record { usage = λ e. cc; text = λ at e. cc; controller = λ at e. cc }
 
-loops_telling : (d : Design) (c : Numbers) (turns : ℕ) (m : Matrix) (s : Status) → LoopsCall d c turns m s → IsTelling s
-loops_telling d c turns m s (inl wide) = let is = wide.is in record { usage = λ e. cc; text = λ at e. cc; controller = λ at e. cc }
-loops_telling d c turns m s (inr (inl leaving)) = let is = leaving.1.is in record { usage = λ e. cc; text = λ at e. cc; controller = λ at e. cc }
-loops_telling d c turns m s (inr (inr done)) = done_telling s done.0
+loops_telling : (d : Design) (c : Numbers) (l : Course) (turns : ℕ) (m : Matrix) (s : Status) → LoopsCall d c l turns m s → IsTelling s
+loops_telling d c l turns m s (inl wide) = let is = wide.is in record { usage = λ e. cc; text = λ at e. cc; controller = λ at e. cc }
+loops_telling d c l turns m s (inr (inl leaving)) = let is = leaving.1.is in record { usage = λ e. cc; text = λ at e. cc; controller = λ at e. cc }
+loops_telling d c l turns m s (inr (inr done)) = done_telling s done.0
 
 fault_telling : (s : Status) (fault : StayFault) → s ≡ stay_status fault → IsTelling s
 fault_telling s (faults.TooWide quantity) is = record { usage = λ e. cc; text = λ at e. cc; controller = λ at e. cc }
@@ -137,6 +154,19 @@ lean_making_telling : (p : DesignParts) (plans references : Plans) (s : Status) 
 lean_making_telling p plans references s (inl refused) = refusal_telling s refused.refusal refused.is
 lean_making_telling p plans references s (inr done) = done_telling s done.0
 
+lean_staying_telling : (p : DesignParts) (plans references : Plans) (f : FaceNumbers) (range : Matrix) (s : Status) → LeanStayingCalls p plans references f range s → IsTelling s
+lean_staying_telling p plans references f range s (inl refused) = refusal_telling s refused.refusal refused.is
+lean_staying_telling p plans references f range s (inr (excess, stated, inl done)) = done_telling s done.0
+lean_staying_telling p plans references f range s (inr (excess, stated, inr fault)) = fault_telling s fault.0 fault.2
+
+cells_call_telling : (p : DesignParts) (lists : List (List ℤ)) (policies : List Plans) (s : Status) → CellsCall p lists policies s → IsTelling s
+cells_call_telling p lists policies s (inl refused) = let is = refused.is in record { usage = λ e. cc; text = λ at e. cc; controller = λ at e. cc }
+cells_call_telling p lists policies s (inr done) = done_telling s done.0
+
+served_telling : (cells : List Numbers) (states : Matrix) (s : Status) → ServedCall cells states s → IsTelling s
+served_telling cells states s (inl outside) = let is = outside.is in record { usage = λ e. cc; text = λ at e. cc; controller = λ at e. cc }
+served_telling cells states s (inr done) = done_telling s done.0
+
 -- ---- the commands
 generate_telling : (design policy : Option (List ℕ)) (s : Status) → GenerateCalls design policy s → IsTelling s
 generate_telling design policy =
@@ -148,16 +178,27 @@ solve_telling controller states =
     then_telling file_limit 1 (ControllerWrong 1) ControllerRight controller _ (bad_telling 1)
     (λ c. then_telling file_limit 2 (StatesWrong c.states 2) (StatesRight c.states) states (RunsCall c) (states_telling c.states 2) (runs_telling c))
 
-after_controller : (p : DesignParts) (turns : ℕ) (states : Option (List ℕ)) (c : Numbers) (s : Status) → IsMismatch (design_of p) c s ⊎ (IsFor c (design_of p) × ReadsStates c.states 3 states (LoopsCall (design_of p) c turns) s) →
-    IsTelling s
-after_controller p turns states c s (inl other) = mismatch_telling (design_of p) c s other
-after_controller p turns states c s (inr rest) =
-    then_telling file_limit 3 (StatesWrong c.states 3) (StatesRight c.states) states (LoopsCall (design_of p) c turns) (states_telling c.states 3) (loops_telling (design_of p) c turns) s rest.1
+module _ (p : DesignParts) (turns : ℕ) (disturbed : Bool) (shifts : Option (List ℕ)) (c : Numbers) where
+  abbrev Looped : (v : Option Matrix) → (m : Matrix) → Status → Type 0
+  Looped v m = LoopsCall (design_of p) c (course_of (design_of p) c v) turns m
 
-loop_telling : (design controller states : Option (List ℕ)) (turns : ℕ) (s : Status) → LoopCalls design controller states turns s → IsTelling s
-loop_telling design controller states turns =
+  loop_shifts_telling : (with : Bool) (m : Matrix) (s : Status) → ReadsLoopShifts with c.states turns shifts (λ v. Looped v m) s → IsTelling s
+  loop_shifts_telling true m =
+      then_telling file_limit 5 (ShiftsWrong c.states turns 5) (ShiftsRight c.states turns) shifts (λ v. Looped (Some v) m) (turn_shifts_telling c.states turns 5)
+      (λ v. loops_telling (design_of p) c (course_of (design_of p) c (Some v)) turns m)
+  loop_shifts_telling false m = loops_telling (design_of p) c (course_of (design_of p) c None) turns m
+
+  after_controller : (states : Option (List ℕ)) (s : Status) →
+      IsMismatch (design_of p) c s ⊎ (IsFor c (design_of p) × ReadsStates c.states 3 states (λ m. ReadsLoopShifts disturbed c.states turns shifts (λ v. Looped v m)) s) → IsTelling s
+  after_controller states s (inl other) = mismatch_telling (design_of p) c s other
+  after_controller states s (inr rest) =
+      then_telling file_limit 3 (StatesWrong c.states 3) (StatesRight c.states) states (λ m. ReadsLoopShifts disturbed c.states turns shifts (λ v. Looped v m)) (states_telling c.states 3)
+      (loop_shifts_telling disturbed) s rest.1
+
+loop_telling : (disturbed : Bool) (design controller states shifts : Option (List ℕ)) (turns : ℕ) (s : Status) → LoopCalls disturbed design controller states shifts turns s → IsTelling s
+loop_telling disturbed design controller states shifts turns =
     then_telling file_limit 1 (DesignWrong 1) DesignRight design _ (design_telling 1)
-    (λ p. then_telling file_limit 2 (ControllerWrong 2) ControllerRight controller _ (bad_telling 2) (after_controller p turns states))
+    (λ p. then_telling file_limit 2 (ControllerWrong 2) ControllerRight controller _ (bad_telling 2) (λ c. after_controller p turns disturbed shifts c states))
 
 demo_telling : (number : ℕ) (s : Status) → DemoCalls number s → IsTelling s
 demo_telling number s calls = making_telling calls.0 calls.1 s calls.3
@@ -165,16 +206,17 @@ demo_telling number s calls = making_telling calls.0 calls.1 s calls.3
 list_telling : (controller : Option (List ℕ)) (s : Status) → ListCalls controller s → IsTelling s
 list_telling controller = then_telling file_limit 1 (ControllerWrong 1) ControllerRight controller (λ c t. t ≡ Done) (bad_telling 1) (λ c. done_telling)
 
-shifts_telling : (disturbed : Bool) (p : DesignParts) (shifts : Option (List ℕ)) (plans : Plans) (f : FaceNumbers) (s : Status) → ReadsShifts disturbed (design_of p).states shifts (StayingCalls p plans f) s → IsTelling s
-shifts_telling true p shifts plans f s calls =
-    then_telling file_limit 6 (RangeWrong (design_of p).states 6) (RangeRight (design_of p).states) shifts (StayingCalls p plans f) (range_telling (design_of p).states 6) (staying_telling p plans f) s calls
-shifts_telling false p shifts plans f s calls = staying_telling p plans f (no_shifts (design_of p).states) s calls
+shifts_telling : (disturbed : Bool) (file n : ℕ) (shifts : Option (List ℕ)) (After : Matrix → Status → Type 0) → ((range : Matrix) (s : Status) → After range s → IsTelling s) →
+    (s : Status) → ReadsShifts disturbed n file shifts After s → IsTelling s
+shifts_telling true file n shifts After after s calls = then_telling file_limit file (RangeWrong n file) (RangeRight n) shifts After (range_telling n file) after s calls
+shifts_telling false file n shifts After after s calls = after (no_shifts n) s calls
 
 stay_telling : (disturbed : Bool) (design policy faces shifts : Option (List ℕ)) (s : Status) → StayCalls disturbed design policy faces shifts s → IsTelling s
 stay_telling disturbed design policy faces shifts =
     then_telling file_limit 1 (DesignWrong 1) DesignRight design _ (design_telling 1)
     (λ p. then_telling file_limit 2 (PolicyWrong (design_of p) 2) (PolicyRight (design_of p)) policy _ (policy_telling (design_of p) 2)
-    (λ plans. then_telling file_limit 5 (FacesWrong (design_of p) 5) (FacesRight (design_of p)) faces _ (faces_telling (design_of p) 5) (shifts_telling disturbed p shifts plans)))
+    (λ plans. then_telling file_limit 5 (FacesWrong (design_of p) 5) (FacesRight (design_of p)) faces _ (faces_telling (design_of p) 5)
+    (λ f. shifts_telling disturbed 6 (design_of p).states shifts (StayingCalls p plans f) (staying_telling p plans f))))
 
 no_listing_telling : (file : ℕ) (bytes : List ℕ) (s : Status) → ListingWrong file bytes s → IsTelling s
 no_listing_telling file bytes s wrong = let is = wrong.2 in record { usage = λ e. cc; text = λ at e. cc; controller = λ at e. cc }
@@ -195,16 +237,39 @@ lean_telling design policy reference =
     (λ p. then_telling file_limit 2 (PolicyWrong (design_of p) 2) (PolicyRight (design_of p)) policy _ (policy_telling (design_of p) 2)
     (λ plans. then_telling file_limit 3 (PolicyWrong (design_of p) 3) (PolicyRight (design_of p)) reference (LeanMakingCalls p plans) (policy_telling (design_of p) 3) (lean_making_telling p plans)))
 
+lean_stay_telling : (disturbed : Bool) (design policy reference faces shifts : Option (List ℕ)) (s : Status) → LeanStayCalls disturbed design policy reference faces shifts s → IsTelling s
+lean_stay_telling disturbed design policy reference faces shifts =
+    then_telling file_limit 1 (DesignWrong 1) DesignRight design _ (design_telling 1)
+    (λ p. then_telling file_limit 2 (PolicyWrong (design_of p) 2) (PolicyRight (design_of p)) policy _ (policy_telling (design_of p) 2)
+    (λ plans. then_telling file_limit 3 (PolicyWrong (design_of p) 3) (PolicyRight (design_of p)) reference _ (policy_telling (design_of p) 3)
+    (λ references. then_telling file_limit 6 (FacesWrong (design_of p) 6) (FacesRight (design_of p)) faces _ (faces_telling (design_of p) 6)
+    (λ f. shifts_telling disturbed 7 (design_of p).states shifts (LeanStayingCalls p plans references f) (lean_staying_telling p plans references f)))))
+
+split_telling : (design cuts policies : Option (List ℕ)) (s : Status) → SplitCalls design cuts policies s → IsTelling s
+split_telling design cuts policies =
+    then_telling file_limit 1 (DesignWrong 1) DesignRight design _ (design_telling 1)
+    (λ p. then_telling file_limit 2 (CutsWrong (design_of p) 2) (CutsRight (design_of p)) cuts _ (cuts_telling (design_of p) 2)
+    (λ lists. then_telling file_limit 3 (CellPoliciesWrong (design_of p) (cell_count lists) 3) (CellPoliciesRight (design_of p) (cell_count lists)) policies (CellsCall p lists)
+    (policies_telling (design_of p) (cell_count lists) 3) (cells_call_telling p lists)))
+
+serve_telling : (cells states : Option (List ℕ)) (s : Status) → ServeCalls cells states s → IsTelling s
+serve_telling cells states =
+    then_telling cells_limit 1 (CellsWrong 1) CellsRight cells _ (bad_cells_telling 1)
+    (λ cs. then_telling file_limit 2 (StatesWrong (cell_states cs) 2) (StatesRight (cell_states cs)) states (ServedCall cs) (states_telling (cell_states cs) 2) (served_telling cs))
+
 -- ---- the table
 telling : (c : Command) (contents : Contents) (s : Status) → (deeds_of c).calls contents s → IsTelling s
 telling Generate contents = generate_telling (contents 1) (contents 2)
 telling Solve contents = solve_telling (contents 1) (contents 2)
-telling (Loop turns) contents = loop_telling (contents 1) (contents 2) (contents 3) turns
+telling (Loop turns disturbed) contents = loop_telling disturbed (contents 1) (contents 2) (contents 3) (contents 5) turns
 telling (Demo number) contents = demo_telling number
 telling (Stay disturbed) contents = stay_telling disturbed (contents 1) (contents 2) (contents 5) (contents 6)
 telling Writing contents = list_telling (contents 1)
 telling Play contents = play_telling (contents 1) (contents 2)
 telling Lean contents = lean_telling (contents 1) (contents 2) (contents 3)
+telling (LeanStay disturbed) contents = lean_stay_telling disturbed (contents 1) (contents 2) (contents 3) (contents 6) (contents 7)
+telling Split contents = split_telling (contents 1) (contents 2) (contents 3)
+telling Serve contents = serve_telling (contents 1) (contents 2)
 
 module _ (c : Command) (words : List (List ℕ)) (held : Option Files) (result : Status) (called : IsCaused result → ForContents words held (λ contents. IsAnswer ((deeds_of c).calls contents) result)) where
   tells : IsCaused result → IsTelling result

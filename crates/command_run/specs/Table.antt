@@ -1,7 +1,7 @@
 -- The table of commands: what each does.
 use Rattle.command_line.specs.Deeds.{Deeds}
 use Rattle.command_line.specs.declared.words.Command.{Command}
-use Rattle.command_line.specs.declared.words.Command.TheVariants.{Generate, Solve, Loop, Demo, List, Stay, Play, Lean}
+use Rattle.command_line.specs.declared.words.Command.TheVariants.{Generate, Solve, Loop, Demo, List, Stay, Play, Lean, LeanStay, Split, Serve}
 use Rattle.command_generate.specs.Deeds.{generate_deeds}
 use Rattle.command_solve.specs.Deeds.{solve_deeds}
 use Rattle.command_loop.specs.Deeds.{loop_deeds}
@@ -10,13 +10,19 @@ use Rattle.command_list.specs.Deeds.{list_deeds}
 use Rattle.command_stay.specs.Deeds.{stay_deeds}
 use Rattle.command_play.specs.Deeds.{play_deeds}
 use Rattle.command_lean.specs.Deeds.{lean_deeds}
+use Rattle.command_lean_stay.specs.Deeds.{lean_stay_deeds}
+use Rattle.command_split.specs.Deeds.{split_deeds}
+use Rattle.command_serve.specs.Deeds.{serve_deeds}
 
 abbrev pub deeds_of : Command → Deeds
 deeds_of Generate = generate_deeds
 deeds_of Solve = solve_deeds
-deeds_of (Loop turns) = loop_deeds turns
+deeds_of (Loop turns disturbed) = loop_deeds turns disturbed
 deeds_of (Demo number) = demo_deeds number
 deeds_of List = list_deeds
 deeds_of (Stay disturbed) = stay_deeds disturbed
 deeds_of Play = play_deeds
 deeds_of Lean = lean_deeds
+deeds_of (LeanStay disturbed) = lean_stay_deeds disturbed
+deeds_of Split = split_deeds
+deeds_of Serve = serve_deeds

@@ -3,7 +3,7 @@ ghost use Rattle.std.specs.Prelude.{◌≡◌, ◌≢◌, ◌⊎◌, ◌↔◌, 
 ghost use Rattle.io_edge.specs.Faults.{Rose, NoneFalls};
 ghost use Rattle.number_text.specs.declared.text_fault.TextFault.TheVariants.{Memory as no_room};
 ghost use Rattle.controller_file.specs.declared.bad_controller.BadController.TheVariants.{Memory as no_space};
-ghost use Rattle.command_line.specs.Words.{word_of, IsGenerate, IsStay, IsPlay, IsLean};
+ghost use Rattle.command_line.specs.Words.{word_of, IsGenerate, IsStay, IsPlay, IsLean, IsLeanStay, IsSplit, IsServe};
 ghost use Rattle.command_line.specs.Commands.{AreOf, IsUsage};
 ghost use Rattle.command_line.specs.Answers.{ForContents, IsAnswer, IsCaused};
 ghost use Rattle.command_line.specs.Deeds.{IsCalledFor, UsesNoFile, IsUnwritten, IsUnprinted, WriteFailed, NoneRises};
@@ -11,16 +11,22 @@ ghost use Rattle.command_generate.specs.Generate.{IsGenerated};
 ghost use Rattle.command_stay.specs.Stay.{IsStayed};
 ghost use Rattle.command_play.specs.AsSolved.{PlaysAsSolved};
 ghost use Rattle.command_lean.specs.Lean.{IsLeanWritten};
+ghost use Rattle.command_lean_stay.specs.LeanStay.{IsLeanStayed};
+ghost use Rattle.command_split.specs.Split.{IsSplitWritten};
+ghost use Rattle.command_serve.specs.Held.{ServesHeld};
 ghost use Rattle.command_run.specs.Table.{deeds_of};
 
 use command_demo::demo;
 use command_generate::generate;
 use command_lean::lean;
+use command_lean_stay::lean_stay;
 use command_line::{Command, Status, command_of};
 use command_list::list;
 use command_loop::run_loops;
 use command_play::play;
+use command_serve::serve;
 use command_solve::solve;
+use command_split::split;
 use command_stay::stay;
 use io_edge::{Sink, Store, Words};
 use std::alloc::Global;
@@ -30,12 +36,15 @@ use std::alloc::Global;
 /// `generate`, a design file, a policy file, a controller file and a report file: makes a controller of the design, and writes its text and the
 /// report of its bounds, as JSON where the report's name ends in `.json`. `solve`, a controller file and a states file: prints a line for each state,
 /// the averaged plan of the controller from it. `loop`, a design file, a controller file, a states file and a number of turns: prints a line for each
-/// turn of the closed loop from each state. `demo` and a number: prints the report and four plans of a made design. `list`, a controller file and a
-/// listing file: writes the listing of the controller's step. `play`, a listing file and a states file: prints a line for each state, what the
-/// listing's machine puts out from it. `stay`, the files of `generate`, a file of faces of the box, and one of a range of disturbances or none: does
-/// what `generate` does, where the faces show that the closed loop stays in the box.
-/// `lean`, a design file, a policy file, a file of reference plans, a controller file and a report file: does what `generate` does, with the fewest steps
-/// that the reference plans show to be enough.
+/// turn of the closed loop from each state; with a file of disturbances the state after each turn is shifted by the turn's record. `demo` and a number:
+/// prints the report and four plans of a made design. `list`, a controller file and a listing file: writes the listing of the controller's step.
+/// `play`, a listing file and a states file: prints a line for each state, what the listing's machine puts out from it. `stay`, the files of `generate`,
+/// a file of faces of the box, and one of a range of disturbances or none: does what `generate` does, where the faces show that the closed loop stays
+/// in the box. `lean`, a design file, a policy file, a file of reference plans, a controller file and a report file: does what `generate` does, with the
+/// fewest steps that the reference plans show to be enough; with a file of faces, and one of a range of disturbances or none, where these show that the
+/// closed loop stays in the box. `split`, a design file, a file of cuts, a file of policies, a file of cells and a report file: does what `generate` does
+/// for each cell of the design's box that the cuts make. `serve`, a file of cells and a states file: prints a line for each state, the averaged plan of
+/// the first cell's controller whose box holds it.
 pub fn run<S: Store, O: Sink>(alloc: Global, words: &Words, store: &mut S, out: &mut O) -> Status
     // Where `generate` answers `Done`, the controller's file holds the text of one controller and the report's file the report of its bounds, both
     // built of the design and the policy in the files. Run from any grid state of the box, the controller keeps every product and partial sum
@@ -49,7 +58,23 @@ pub fn run<S: Store, O: Sink>(alloc: Global, words: &Words, store: &mut S, out: 
         → IfSome (S.held store.old) (λ files. IsSomeAnd (S.held store.new) (IsStayed disturbed words.now files)) }
     // And where `lean` answers `Done`, its two files hold the text of one controller and the report of its bounds, made leanly of the design, the policy and
     // the reference plans in the files, whatever these plans are: with the same promise, and within the same targets.
-    ensures leaned { IsLean words.now → result ≡ Status.Done → IfSome (S.held store.old) (λ files. IsSomeAnd (S.held store.new) (IsLeanWritten words.now files)) }
+    ensures leaned { IsLean words.now → result ≡ Status.Done
+        → IfSome (S.held store.old) (λ files. IsSomeAnd (S.held store.new) (IsLeanWritten words.now files)) }
+
+    // So it does where `lean` with faces answers `Done`, and the closed loop stays in the box, as that of `stay`: under every list of disturbances within
+    // the range in the seventh file, and without disturbances where there is no such file.
+    ensures kept { (disturbed : Bool) → IsLeanStay words.now disturbed → result ≡ Status.Done
+        → IfSome (S.held store.old) (λ files. IsSomeAnd (S.held store.new) (IsLeanStayed disturbed words.now files)) }
+
+    // Where `split` answers `Done`, its two files hold the text of a controller for each cell of the design's box and the reports of their bounds. The boxes
+    // of the cells split the design's box: no two have a state in common, and each grid state of the box lies in that of one controller alone, which is
+    // certified there with its bounds.
+    ensures split { IsSplit words.now → result ≡ Status.Done
+        → IfSome (S.held store.old) (λ files. IsSomeAnd (S.held store.new) (IsSplitWritten words.now files)) }
+    // Where the first file of `serve` holds such a text, and the second states each of which lies in some cell's box, all is done but for want of memory and
+    // faults, and the output gets for each state the line of the averaged plan of the first controller whose box holds it; of a text that `split` wrote it
+    // is the only one.
+    ensures served { IsServe words.now → ServesHeld words.now (S.held store.old) result (O.got out.old) (O.got out.new) }
 
     // Where the first file of `play` holds the text of the listing of a controller, as `list` writes it, and the second states of the controller's box, then no
     // value of the runs leaves the controller's width, and the output gets the bytes that `solve` prints of the controller and these states: the lines of
@@ -98,12 +123,17 @@ pub fn run<S: Store, O: Sink>(alloc: Global, words: &Words, store: &mut S, out: 
     match command_of(words) {
         Some(Command::Generate) => generate(alloc, words, store),
         Some(Command::Solve) => solve(alloc, words, store, out),
-        Some(Command::Loop { turns }) => run_loops(alloc, words, turns, store, out),
+        Some(Command::Loop { turns, disturbed }) => {
+            run_loops(alloc, words, turns, disturbed, store, out)
+        }
         Some(Command::Demo { number }) => demo(alloc, number, out),
         Some(Command::List) => list(alloc, words, store),
         Some(Command::Stay { disturbed }) => stay(alloc, words, disturbed, store),
         Some(Command::Play) => play(alloc, words, store, out),
         Some(Command::Lean) => lean(alloc, words, store),
+        Some(Command::LeanStay { disturbed }) => lean_stay(alloc, words, disturbed, store),
+        Some(Command::Split) => split(alloc, words, store),
+        Some(Command::Serve) => serve(alloc, words, store, out),
         None => Status::Usage,
     }
 }
