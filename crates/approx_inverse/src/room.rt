@@ -23,7 +23,8 @@ fn abs_sum(xs: &[i128]) -> Option<u128>
 
 // The greatest absolute sum of a row.
 fn greatest_row(h: &Mat) -> Option<u128>
-    ensures { SomeIff result (greatest_row (length h.now.rows) h.now.cols (entry_of h.now) ≤ 2 ^ 126) (greatest_row (length h.now.rows) h.now.cols (entry_of h.now)) }
+    ensures { SomeIff result (greatest_row (length h.now.rows) h.now.cols (entry_of h.now) ≤ 2 ^ 126)
+        (greatest_row (length h.now.rows) h.now.cols (entry_of h.now)) }
 {
     let mut greatest = 0u128;
     for i in 0..h.rows() {
@@ -37,7 +38,8 @@ fn descent_sum(row: u128, sum: u128, floor: u128, power: u128) -> Option<u128>
     requires row_small { row ≤ 2 ^ 126 }
     requires floor_one { 1 ≤ floor }
     requires floor_small { floor ≤ 2 ^ 127 }
-    ensures { SomeIff result (2 * row * (ceil_div (power * sum) floor + 1) + power * sum ≤ 2 ^ 126) (2 * row * (ceil_div (power * sum) floor + 1) + power * sum) }
+    ensures { SomeIff result (2 * row * (ceil_div (power * sum) floor + 1) + power * sum ≤ 2 ^ 126)
+        (2 * row * (ceil_div (power * sum) floor + 1) + power * sum) }
 {
     let aimed = limited_product(power, sum)?;
     let bound = (aimed + (floor - 1)) / floor + 1;
@@ -50,7 +52,8 @@ fn descent_of(h: &Mat, c: &[i128], floor: i128, f: u32) -> Option<u128>
     requires cols { h.now.cols ≡ length c.now }
     requires floor_one { pos 1 ≤ℤ floor }
     requires bits { f ≤ 48 }
-    ensures { SomeIff result (descent_of_column (length c.now) (entry_of h.now) (at c.now) floor f ≤ 2 ^ 126) (descent_of_column (length c.now) (entry_of h.now) (at c.now) floor f) }
+    ensures { SomeIff result (descent_of_column (length c.now) (entry_of h.now) (at c.now) floor f ≤ 2 ^ 126)
+        (descent_of_column (length c.now) (entry_of h.now) (at c.now) floor f) }
 {
     let row = greatest_row(h)?;
     let sum = abs_sum(c)?;

@@ -159,7 +159,8 @@ pub fn begin(
     requires cols { h.now.cols ≡ length c.now }
     requires bits { f ≤ 48 }
     requires placed { ArePlaced region.old x.now r.now (length c.now) }
-    ensures descent { IsTrue result → IsDescent (length c.now) (entry_of h.now) (aim f c.now) (cells region.new.words x.now.start) (cells region.new.words r.now.start) }
+    ensures descent { IsTrue result →
+        IsDescent (length c.now) (entry_of h.now) (aim f c.now) (cells region.new.words x.now.start) (cells region.new.words r.now.start) }
     ensures kept { AreKept region.old region.new x.now r.now }
 {
     if guess.len() != c.len() {

@@ -29,7 +29,8 @@ pub fn demo<O: Sink>(alloc: Global, number: u32, out: &mut O) -> Status
     ensures quiet { result ≢ Status.Done → result ≢ Status.Memory → result ≢ Status.WriteFault 0 → out.new ≡ out.old }
     // Faults.
     ensures no_read { (file : ℕ) → result ≢ Status.ReadFault file }
-    ensures write_fault { (file : ℕ) → result ≡ Status.WriteFault file → (file ≡ 0) × DemoCalls number Status.Done × Rose (O.faults out.old) (O.faults out.new) }
+    ensures write_fault { (file : ℕ) → result ≡ Status.WriteFault file →
+        (file ≡ 0) × DemoCalls number Status.Done × Rose (O.faults out.old) (O.faults out.new) }
     ensures no_fewer { O.faults out.old ≤ O.faults out.new }
 {
     let Ok(inputs) = inputs_of(alloc, number) else {
@@ -44,7 +45,8 @@ fn demo_of<O: Sink>(alloc: Global, inputs: &Inputs, out: &mut O) -> Status
     requires states { IsStatesText states_text (design_of inputs.now.design).states inputs.now.states }
     requires some { 0 < length inputs.now.states.rows }
     requires inside { (e : ℕ) → e < length inputs.now.states.rows → IsGridState (design_of inputs.now.design) (at (row_of inputs.now.states e)) }
-    ensures called { (number : ℕ) → AreOnlyMade number inputs.now.design (plans_of inputs.now.policy) → IsCaused result → IsAnswer (DemoCalls number) result }
+    ensures called { (number : ℕ) → AreOnlyMade number inputs.now.design (plans_of inputs.now.policy) →
+        IsCaused result → IsAnswer (DemoCalls number) result }
     ensures prints { (number : ℕ) → AreOnlyMade number inputs.now.design (plans_of inputs.now.policy)
         → IfSome (O.got out.old) (λ old. IsSomeAnd (O.got out.new) (DemoPrints number result old)) }
     ensures quiet { result ≢ Status.Done → result ≢ Status.Memory → result ≢ Status.WriteFault 0 → out.new ≡ out.old }

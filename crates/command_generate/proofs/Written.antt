@@ -79,33 +79,35 @@ module _ (words : List (List ℕ)) (p : DesignParts) (plans : Plans) (text repor
       kept (inl same) = inl (same ∙ written.first.others (word_of words 4) apart)
       kept (inr front) = inr front
 
--- ---- the statuses of writing
-abbrev pub WritingEnds : Status → Type 0
-WritingEnds s = (s ≡ Done) ⊎ ((s ≡ WriteFault 3) ⊎ (s ≡ WriteFault 4))
+-- ---- the statuses of writing two texts
+abbrev pub WritingEnds : (first second : ℕ) → Status → Type 0
+WritingEnds first second s = (s ≡ Done) ⊎ ((s ≡ WriteFault first) ⊎ (s ≡ WriteFault second))
 
-pub written_done : (s : Status) → WritingEnds s → IsCaused s → s ≡ Done
+pub written_done : {first second : ℕ} (s : Status) → WritingEnds first second s → IsCaused s → s ≡ Done
 written_done s (inl done) caused = done
-written_done s (inr (inl cut)) caused = absurd (caused.write 3 cut)
-written_done s (inr (inr cut)) caused = absurd (caused.write 4 cut)
+written_done {first} {second} s (inr (inl cut)) caused = absurd (caused.write first cut)
+written_done {first} {second} s (inr (inr cut)) caused = absurd (caused.write second cut)
 
-pub written_no_read : (s : Status) → WritingEnds s → (file : ℕ) → s ≡ ReadFault file → ⊥
+pub written_no_read : {first second : ℕ} (s : Status) → WritingEnds first second s → (file : ℕ) → s ≡ ReadFault file → ⊥
 written_no_read s (inl done) file is = cc
 written_no_read s (inr (inl cut)) file is = cc
 written_no_read s (inr (inr cut)) file is = cc
 
-pub written_none : (s : Status) → WritingEnds s → s ≢ Done → ((file : ℕ) → s ≢ WriteFault file) → ⊥
+pub written_none : {first second : ℕ} (s : Status) → WritingEnds first second s → s ≢ Done → ((file : ℕ) → s ≢ WriteFault file) → ⊥
 written_none s (inl is) done write = done is
-written_none s (inr (inl cut)) done write = write 3 cut
-written_none s (inr (inr cut)) done write = write 4 cut
+written_none {first} {second} s (inr (inl cut)) done write = write first cut
+written_none {first} {second} s (inr (inr cut)) done write = write second cut
 
 -- a fault of writing, where this is true of the files and the count rose
-abbrev pub WriteFaultAt : List (List ℕ) → Option Files → (Contents → Type 0) → (before now : List ℕ → ℕ) → ℕ → Type 0
-WriteFaultAt words held P before now file = ((file ≡ 3) ⊎ (file ≡ 4)) × ForContents words held P × Rose (before (word_of words file)) (now (word_of words file))
+abbrev pub WriteFaultAt : (first second : ℕ) → List (List ℕ) → Option Files → (Contents → Type 0) → (before now : List ℕ → ℕ) → ℕ → Type 0
+WriteFaultAt first second words held P before now file = ((file ≡ first) ⊎ (file ≡ second)) × ForContents words held P × Rose (before (word_of words file)) (now (word_of words file))
 
-pub write_fault : (words : List (List ℕ)) (held : Option Files) (P : Contents → Type 0) (before mid now : List ℕ → ℕ) (s : Status) → ForContents words held P → NoneFalls before mid → NoneFalls mid now →
-    WritingEnds s → (s ≡ WriteFault 3 → Rose (mid (word_of words 3)) (now (word_of words 3))) → (s ≡ WriteFault 4 → Rose (mid (word_of words 4)) (now (word_of words 4))) →
-    (file : ℕ) → s ≡ WriteFault file → WriteFaultAt words held P before now file
-write_fault words held P before mid now s holds one two ends third fourth file is = go ends
+pub write_fault : {first second : ℕ} (words : List (List ℕ)) (held : Option Files) (P : Contents → Type 0) (before mid now : List ℕ → ℕ) (s : Status) →
+    ForContents words held P → NoneFalls before mid → NoneFalls mid now → WritingEnds first second s →
+    (s ≡ WriteFault first → Rose (mid (word_of words first)) (now (word_of words first))) →
+    (s ≡ WriteFault second → Rose (mid (word_of words second)) (now (word_of words second))) →
+    (file : ℕ) → s ≡ WriteFault file → WriteFaultAt first second words held P before now file
+write_fault {first} {second} words held P before mid now s holds one two ends first_rose second_rose file is = go ends
   where
     rose : (at : ℕ) → Rose (mid (word_of words at)) (now (word_of words at)) → Rose (before (word_of words at)) (now (word_of words at))
     rose at h = let name = word_of words at in rose_later (before name) (mid name) (now name) (one.each name) (two.each name) h
@@ -113,7 +115,7 @@ write_fault words held P before mid now s holds one two ends third fourth file i
     moved : (at : ℕ) → file ≡ at → Rose (before (word_of words at)) (now (word_of words at)) → Rose (before (word_of words file)) (now (word_of words file))
     moved at same h = subst (λ (k : ℕ). Rose (before (word_of words k)) (now (word_of words k))) (sym same) h
 
-    go : WritingEnds s → WriteFaultAt words held P before now file
+    go : WritingEnds first second s → WriteFaultAt first second words held P before now file
     go (inl done) = absurd (let never : ⊥ = cc in never)
-    go (inr (inl cut)) = let same : file ≡ 3 = cc in (inl same, holds, moved 3 same (rose 3 (third cut)))
-    go (inr (inr cut)) = let same : file ≡ 4 = cc in (inr same, holds, moved 4 same (rose 4 (fourth cut)))
+    go (inr (inl cut)) = let same : file ≡ first = cc in (inl same, holds, moved first same (rose first (first_rose cut)))
+    go (inr (inr cut)) = let same : file ≡ second = cc in (inr same, holds, moved second same (rose second (second_rose cut)))

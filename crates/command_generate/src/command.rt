@@ -16,12 +16,14 @@ pub fn generate<S: Store>(alloc: Global, words: &Words, store: &mut S) -> Status
     requires { IsGenerate words.now }
     // What is written.
     ensures generated { result ≡ Status.Done → IfSome (S.held store.old) (λ files. IsSomeAnd (S.held store.new) (IsGenerated words.now files)) }
-    ensures controller_cut { result ≡ Status.WriteFault 3 → IfSome (S.held store.old) (λ files. IsSomeAnd (S.held store.new) (IsControllerCut words.now files)) }
+    ensures controller_cut { result ≡ Status.WriteFault 3 →
+        IfSome (S.held store.old) (λ files. IsSomeAnd (S.held store.new) (IsControllerCut words.now files)) }
     ensures report_cut { result ≡ Status.WriteFault 4 → IfSome (S.held store.old) (λ files. IsSomeAnd (S.held store.new) (IsReportCut words.now files)) }
     // Why: by what the two files hold this answer is called for, and no other.
     ensures called { IsCaused result → ForContents words.now (S.held store.old) (λ contents. IsAnswer (GenerateCalls (contents 1) (contents 2)) result) }
     // Faults.
-    ensures read_fault { (file : ℕ) → result ≡ Status.ReadFault file → ForContents words.now (S.held store.old) (λ contents. GenerateReaches (contents 1) file)
+    ensures read_fault { (file : ℕ) → result ≡ Status.ReadFault file →
+        ForContents words.now (S.held store.old) (λ contents. GenerateReaches (contents 1) file)
         × Rose (S.read_faults store.old (word_of words.now file)) (S.read_faults store.new (word_of words.now file)) }
     ensures write_fault { (file : ℕ) → result ≡ Status.WriteFault file → ((file ≡ 3) ⊎ (file ≡ 4))
         × ForContents words.now (S.held store.old) (λ contents. GenerateCalls (contents 1) (contents 2) Status.Done)

@@ -58,7 +58,8 @@ fn texts_of(
 
 /// Both texts of a controller and its bounds, the report in the form that its name asks for. They are borrowed here, so that they end on one path alone.
 pub fn texts_made(alloc: Global, made: &Made, report_name: &str) -> Result<Texts, Status>
-    ensures texts { IfOk result (λ t. IsControllerText t.controller.items made.now.controller × IsReport report_name.now (printed made.now.bounds) t.report.items) }
+    ensures texts { IfOk result (λ t.
+        IsControllerText t.controller.items made.now.controller × IsReport report_name.now (printed made.now.bounds) t.report.items) }
     ensures memory { IfErr result (λ e. e ≡ Status.Memory) }
 {
     let controller = write_controller(alloc, &made.controller)?;
@@ -74,7 +75,8 @@ pub fn texts_for<S: Store>(alloc: Global, words: &Words, store: &mut S) -> Resul
     ensures refused { IfErr result (λ e. IsCaused e → IsAnswered words.now (S.held store.old) e) }
     ensures not_done { IfErr result (λ e. e ≢ Status.Done) }
     ensures no_write { IfErr result (λ e. (file : ℕ) → e ≢ Status.WriteFault file) }
-    ensures read_fault { IfErr result (λ e. (file : ℕ) → e ≡ Status.ReadFault file → IsReadFault words.now (S.held store.old) (S.read_faults store.old) (S.read_faults store.new) file) }
+    ensures read_fault { IfErr result (λ e.
+        (file : ℕ) → e ≡ Status.ReadFault file → IsReadFault words.now (S.held store.old) (S.read_faults store.old) (S.read_faults store.new) file) }
     ensures held { S.held store.new ≡ S.held store.old }
     ensures reads { NoneFalls (S.read_faults store.old) (S.read_faults store.new) }
     ensures writes { NoneFalls (S.write_faults store.old) (S.write_faults store.new) }
@@ -97,7 +99,8 @@ fn texts_with<S: Store>(
     ensures refused { IfErr result (λ e. IsCaused e → IsAnswered words.now (S.held store.old) e) }
     ensures not_done { IfErr result (λ e. e ≢ Status.Done) }
     ensures no_write { IfErr result (λ e. (file : ℕ) → e ≢ Status.WriteFault file) }
-    ensures read_fault { IfErr result (λ e. (file : ℕ) → e ≡ Status.ReadFault file → IsReadFault words.now (S.held store.old) (S.read_faults store.old) (S.read_faults store.new) file) }
+    ensures read_fault { IfErr result (λ e.
+        (file : ℕ) → e ≡ Status.ReadFault file → IsReadFault words.now (S.held store.old) (S.read_faults store.old) (S.read_faults store.new) file) }
     ensures held { S.held store.new ≡ S.held store.old }
     ensures reads { NoneFalls (S.read_faults store.old) (S.read_faults store.new) }
     ensures writes { NoneFalls (S.write_faults store.old) (S.write_faults store.new) }

@@ -10,16 +10,16 @@ use Rattle.qp_model.specs.declared.bounds.Margin.{Margin}
 use Rattle.design_engine.specs.Targets.{targets_of}
 use Rattle.design_refusal.specs.declared.refusal.Refusal.{Refusal}
 use Rattle.design_refusal.specs.declared.refusal.Refusal.TheVariants as refusals
-use Rattle.lean_engine.specs.Lean.{IsLean}
-use Rattle.lean_engine.specs.Refusals.{HasCause, PassesAll}
+use Rattle.lean_engine.specs.Lean.{IsLeanBuilt}
+use Rattle.lean_engine.specs.Refusals.{HasLeanCause, PassesLean}
 use Rattle.command_line.specs.Answers.{IsAnswer}
 use Rattle.command_line.specs.declared.status.Status.{Status}
 use Rattle.command_line.specs.declared.status.Status.TheVariants.{Done, Memory}
 use Rattle.command_line.specs.Status.{status_of}
 use Rattle.command_controller.proofs.Making.{refusal_not_done, refusal_no_read, refusal_no_write}
 use Rattle.command_controller.proofs.SameDesign.{along}
-use Rattle.command_lean.specs.Made.{MakingCalls}
-use Rattle.command_lean.specs.Reading.{IsRefusal, IsRefusedWith}
+use Rattle.command_lean.specs.Made.{LeanMakingCalls}
+use Rattle.command_lean.specs.Reading.{IsLeanRefusal, IsLeanRefusedWith}
 use Rattle.command_lean.proofs.Passing.{built_passes}
 
 ok_not_told : {M : Type 0} (a : Result M Refusal) (x : M) (r : Refusal) → a ≡ Ok x → (a ≡ Err r) ⊎ (a ≡ Err refusals.Memory) → ⊥
@@ -43,24 +43,24 @@ memory_alone (refusals.TooFine eps) e = absurd (let never : ⊥ = cc in never)
 memory_alone (refusals.TooWide quantity) e = absurd (let never : ⊥ = cc in never)
 
 module _ {M : Type 0} (p : DesignParts) (plans references : Plans) (a : Result M Refusal)
-    (tells : (r : Refusal) → HasCause (design_of p) (targets_of p) plans references r → (a ≡ Err r) ⊎ (a ≡ Err refusals.Memory)) where
-  pub done_called : (x : M) (c : Numbers) (b : Printed) → a ≡ Ok x → IsLean p plans references c b → IsAnswer (MakingCalls p plans references) Done
+    (tells : (r : Refusal) → HasLeanCause (design_of p) (targets_of p) plans references r → (a ≡ Err r) ⊎ (a ≡ Err refusals.Memory)) where
+  pub done_called : (x : M) (c : Numbers) (b : Printed) → a ≡ Ok x → IsLeanBuilt p plans references c b → IsAnswer (LeanMakingCalls p plans references) Done
   done_called x c b is built = record { called = inr (refl, built_passes p plans references c b never built); only = only }
     where
-      never : (r : Refusal) → HasCause (design_of p) (targets_of p) plans references r → ⊥
+      never : (r : Refusal) → HasLeanCause (design_of p) (targets_of p) plans references r → ⊥
       never r cause = ok_not_told a x r is (tells r cause)
 
-      only : (t : Status) → MakingCalls p plans references t → t ≡ Done
+      only : (t : Status) → LeanMakingCalls p plans references t → t ≡ Done
       only t (inl why) = absurd (never why.refusal why.cause)
       only t (inr done) = done.0
 
-  pub refused_with : ((m : Margin) (s f : ℕ) → PassesAll (design_of p) (targets_of p) plans references m s f → IsOk a ⊎ (a ≡ Err refusals.Memory)) → (r : Refusal) (s : Status) → a ≡ Err r →
-      s ≡ status_of r → (r ≡ refusals.Memory) ⊎ HasCause (design_of p) (targets_of p) plans references r → IsRefusedWith p plans references s
+  pub refused_with : ((m : Margin) (s f : ℕ) → PassesLean (design_of p) (targets_of p) plans references m s f → IsOk a ⊎ (a ≡ Err refusals.Memory)) → (r : Refusal) (s : Status) → a ≡ Err r →
+      s ≡ status_of r → (r ≡ refusals.Memory) ⊎ HasLeanCause (design_of p) (targets_of p) plans references r → IsLeanRefusedWith p plans references s
   refused_with accepts r s is told (inl memory) = inl (told ∙ ap status_of memory)
   refused_with accepts r s is told (inr cause) = inr (record { called = inl (record { refusal = r; cause = cause; is = told }); only = only }, refusal)
     where
       not_memory : r ≡ refusals.Memory → ⊥
-      not_memory memory = subst (λ (other : Refusal). HasCause (design_of p) (targets_of p) plans references other) memory cause
+      not_memory memory = subst (λ (other : Refusal). HasLeanCause (design_of p) (targets_of p) plans references other) memory cause
 
       no_memory : a ≡ Err refusals.Memory → ⊥
       no_memory memory = not_memory (sym (err_is a r refusals.Memory is memory))
@@ -73,11 +73,11 @@ module _ {M : Type 0} (p : DesignParts) (plans references : Plans) (a : Result M
       passes_not (inl ok) = err_not_ok a r is ok
       passes_not (inr memory) = no_memory memory
 
-      only : (t : Status) → MakingCalls p plans references t → t ≡ s
+      only : (t : Status) → LeanMakingCalls p plans references t → t ≡ s
       only t (inl why) = same t why.refusal why.is (tells why.refusal why.cause)
       only t (inr done) = absurd (passes_not (accepts done.1.margin done.1.exponent done.1.bits done.1.all))
 
-      refusal : IsRefusal s
+      refusal : IsLeanRefusal s
       refusal = record {
         done = λ e. refusal_not_done r (sym told ∙ e);
         memory = λ e. not_memory (memory_alone r (sym told ∙ e));
@@ -86,9 +86,9 @@ module _ {M : Type 0} (p : DesignParts) (plans references : Plans) (a : Result M
       }
 
 -- of a design its numbers are seen
-pub making_same : (p q : DesignParts) → design_numbers p ≡ design_numbers q → (plans references : Plans) (s : Status) → MakingCalls p plans references s → MakingCalls q plans references s
+pub making_same : (p q : DesignParts) → design_numbers p ≡ design_numbers q → (plans references : Plans) (s : Status) → LeanMakingCalls p plans references s → LeanMakingCalls q plans references s
 making_same p q e plans references s (inl why) =
-    inl (record { refusal = why.refusal; cause = along (λ d t. HasCause d t plans references why.refusal) p q e why.cause; is = why.is })
+    inl (record { refusal = why.refusal; cause = along (λ d t. HasLeanCause d t plans references why.refusal) p q e why.cause; is = why.is })
 making_same p q e plans references s (inr done) =
     let passes = done.1 in
     inr (
@@ -97,6 +97,6 @@ making_same p q e plans references s (inr done) =
         margin = passes.margin;
         exponent = passes.exponent;
         bits = passes.bits;
-        all = along (λ d t. PassesAll d t plans references passes.margin passes.exponent passes.bits) p q e passes.all;
+        all = along (λ d t. PassesLean d t plans references passes.margin passes.exponent passes.bits) p q e passes.all;
       },
     )

@@ -17,26 +17,26 @@ use Rattle.command_files.specs.Texts.{DesignRight, DesignWrong, PolicyRight, Pol
 use Rattle.command_files.specs.Reading.{ReadsPolicy, IsDesignRead, EndsDesign, IsPolicyRead, EndsPolicy}
 use Rattle.command_files.proofs.Designs.{same_design}
 use Rattle.command_generate.specs.Generate.{HoldsInputs}
-use Rattle.command_lean.specs.Made.{MakingCalls}
+use Rattle.command_lean.specs.Made.{LeanMakingCalls}
 use Rattle.command_lean.specs.Lean.{LeanCalls, LeanReaches}
-use Rattle.command_lean.specs.Reading.{IsRefusal, IsRefusedWith, AreRead, IsAnswered, Ends}
+use Rattle.command_lean.specs.Reading.{IsLeanRefusal, IsLeanRefusedWith, AreLeanInputsRead, IsLeanAnswered, Ends}
 use Rattle.command_lean.proofs.Calling.{making_same}
 
 -- ---- what a file is refused with
-long_refusal : (file : ℕ) (s : Status) → s ≡ Long file → IsRefusal s
+long_refusal : (file : ℕ) (s : Status) → s ≡ Long file → IsLeanRefusal s
 long_refusal file s is = record { done = λ e. cc; memory = λ e. cc; read = λ f e. cc; write = λ f e. cc }
 
-text_refusal : (file : ℕ) (fault : TextFault) (s : Status) → s ≡ Text file fault → IsRefusal s
+text_refusal : (file : ℕ) (fault : TextFault) (s : Status) → s ≡ Text file fault → IsLeanRefusal s
 text_refusal file fault s is = record { done = λ e. cc; memory = λ e. cc; read = λ f e. cc; write = λ f e. cc }
 
 refusal_of : (file : ℕ) (Wrong : List ℕ → Status → Type 0) (content : Option (List ℕ)) (s : Status) → ((bytes : List ℕ) → Wrong bytes s → (fault : TextFault) × (s ≡ Text file fault)) →
-    IsFileRefused file_limit file Wrong content s → IsRefusal s
+    IsFileRefused file_limit file Wrong content s → IsLeanRefusal s
 refusal_of file Wrong content s tells (inl long) = long_refusal file s long.is
 refusal_of file Wrong content s tells (inr wrong) = let told = tells wrong.bytes wrong.right in text_refusal file told.0 s told.1
 
 -- ---- what comes after the policy and the design
 abbrev pub AfterPolicy : (reference : Option (List ℕ)) → DesignParts → Plans → Status → Type 0
-AfterPolicy reference p plans s = ReadsPolicy (design_of p) 3 reference (MakingCalls p plans) s
+AfterPolicy reference p plans s = ReadsPolicy (design_of p) 3 reference (LeanMakingCalls p plans) s
 
 abbrev pub AfterDesign : (policy reference : Option (List ℕ)) → DesignParts → Status → Type 0
 AfterDesign policy reference p s = ReadsPolicy (design_of p) 2 policy (AfterPolicy reference p) s
@@ -127,19 +127,19 @@ module _ (words : List (List ℕ)) (held : Option Files) where
       }))
       reference_ends before now s (inr (inr wrong)) = inr (inr (record {
         called = for_contents words held (Called s) design.content policy.content wrong.content design.told policy.told wrong.told
-            (with_policy wrong.content s (stop file_limit 3 (PolicyWrong (design_of p) 3) (PolicyRight (design_of p)) held (word_of words 3) s wrong (MakingCalls p plans)));
+            (with_policy wrong.content s (stop file_limit 3 (PolicyWrong (design_of p) 3) (PolicyRight (design_of p)) held (word_of words 3) s wrong (LeanMakingCalls p plans)));
         refusal = refusal_of 3 (PolicyWrong (design_of p) 3) wrong.content s (λ bytes why. (why.0, why.2.1)) wrong.answer.called;
       }))
 
       -- ---- all are right
-      pub all_right : (references : Plans) (reference : IsPolicyRead (design_of p) 3 held (word_of words 3) references) (s : Status) → IsAnswer (MakingCalls p plans references) s → IsAnswered words held s
+      pub all_right : (references : Plans) (reference : IsPolicyRead (design_of p) 3 held (word_of words 3) references) (s : Status) → IsAnswer (LeanMakingCalls p plans references) s → IsLeanAnswered words held s
       all_right references reference s answer =
           for_contents words held (Called s) design.content policy.content reference.content design.told policy.told reference.told
           (with_policy reference.content s
-          (go_on_whole file_limit 3 (PolicyWrong (design_of p) 3) (PolicyRight (design_of p)) held (word_of words 3) references s reference (MakingCalls p plans) answer))
+          (go_on_whole file_limit 3 (PolicyWrong (design_of p) 3) (PolicyRight (design_of p)) held (word_of words 3) references s reference (LeanMakingCalls p plans) answer))
 
   -- ---- they are refused
-  pub refused_ends : (p : DesignParts) (plans references : Plans) → AreRead words held p plans references → (before now : List ℕ → ℕ) (s : Status) → IsRefusedWith p plans references s → Ends words held before now s
+  pub refused_ends : (p : DesignParts) (plans references : Plans) → AreLeanInputsRead words held p plans references → (before now : List ℕ → ℕ) (s : Status) → IsLeanRefusedWith p plans references s → Ends words held before now s
   refused_ends p plans references read before now s (inl memory) = inl memory
   refused_ends p plans references read before now s (inr answer) =
       inr (inr (record { called = all_right p read.design plans read.policy references read.reference s answer.0; refusal = answer.1 }))

@@ -19,12 +19,12 @@ use Rattle.design_engine.specs.Tests.{width_of, PassesForm, PassesBits}
 use Rattle.design_engine.specs.Refusals.{PassesMargin}
 use Rattle.design_refusal.specs.declared.refusal.Refusal.{Refusal}
 use Rattle.design_refusal.specs.declared.refusal.Refusal.TheVariants.{TooWide}
-use Rattle.lean_engine.specs.Lean.{lean_aim, IsLean}
-use Rattle.lean_engine.specs.Refusals.{HasCause, PassesScaling, PassesBound, PassesAll, aim_at, excess_size_at, multiplier_size_at}
-use Rattle.command_lean.specs.Made.{Passes}
+use Rattle.lean_engine.specs.Lean.{lean_aim, IsLeanBuilt}
+use Rattle.lean_engine.specs.Refusals.{HasLeanCause, PassesScaling, PassesBound, PassesLean, aim_at, policy_excess_size, multiplier_size_at}
+use Rattle.command_lean.specs.Made.{PassesForLean}
 
 abbrev pub NoCause : Design → Targets → (plans references : Plans) → Type 0
-NoCause d t plans references = (r : Refusal) → HasCause d t plans references r → ⊥
+NoCause d t plans references = (r : Refusal) → HasLeanCause d t plans references r → ⊥
 
 within : (limit size : ℕ) → (limit < size → ⊥) → size ≤ limit
 within limit size never = elim (cases_lt limit size) [ inl lt ↦ absurd (never lt) | inr le ↦ le ]
@@ -40,18 +40,18 @@ module _ (d : Design) (t : Targets) (plans references : Plans) (none : NoCause d
 
   bound : (s : ℕ) → PassesScaling d t plans m s → PassesBound d t plans references m s
   bound s before =
-      let excess = within (2 ^ 126) (excess_size_at d plans references) (λ lt. none (TooWide quantity.Excess) (m, s, before, lt)) in
+      let excess = within (2 ^ 126) (policy_excess_size d plans references) (λ lt. none (TooWide quantity.Excess) (m, s, before, lt)) in
       let multiplier = within (2 ^ 126) (multiplier_size_at d t plans references m) (λ lt. none (TooWide quantity.Multiplier) (m, s, before, (excess, lt))) in
       record { before = before; excess = excess; multiplier = multiplier }
 
-  all : (s f : ℕ) → PassesBound d t plans references m s → PassesBits d (aim_at d t plans references m) s f → PassesAll d t plans references m s f
+  all : (s f : ℕ) → PassesBound d t plans references m s → PassesBits d (aim_at d t plans references m) s f → PassesLean d t plans references m s f
   all s f before bits =
       let descent = within (2 ^ 126) (descent_size (form_of d) f) (λ lt. none (TooWide quantity.Descent) (m, s, before, (f, bits, lt))) in
       let width = within (2 ^ 126) (width_of d (aim_at d t plans references m) s f) (λ lt. none (TooWide quantity.Width) (m, s, before, (f, bits, (descent, lt)))) in
       record { before = before; aim = record { before = bits; descent = descent; width = width } }
 
-module _ (p : DesignParts) (plans references : Plans) (c : Numbers) (b : Printed) (none : NoCause (design_of p) (targets_of p) plans references) (built : IsLean p plans references c b) where
-  abbrev shown : Margin
+module _ (p : DesignParts) (plans references : Plans) (c : Numbers) (b : Printed) (none : NoCause (design_of p) (targets_of p) plans references) (built : IsLeanBuilt p plans references c b) where
+  abbrev pub shown : Margin
   shown = record { units = b.margin; cost = built.greatest_cost }
 
   margin : PassesMargin (design_of p) (targets_of p) plans shown
@@ -65,8 +65,9 @@ module _ (p : DesignParts) (plans references : Plans) (c : Numbers) (b : Printed
   made : IsMadeWith p (aim_at (design_of p) (targets_of p) plans references shown) c
   made = subst (λ (n : ℕ). IsMadeWith p (lean_aim (targets_of p) (unsigned_abs b.margin) n) c) (ap unsigned_abs built.excess) built.made
 
-  pub built_passes : Passes p plans references
-  built_passes =
+  -- they pass with these, and the controller's step exponent and fraction bits
+  pub own_passes : PassesLean (design_of p) (targets_of p) plans references shown c.step_exponent c.fraction_bits
+  own_passes =
       let d = design_of p in
       let t = targets_of p in
       let s = c.step_exponent in
@@ -76,4 +77,7 @@ module _ (p : DesignParts) (plans references : Plans) (c : Numbers) (b : Printed
       let before = bound d t plans references none shown s scaling in
       let error = within (2 ^ 126) (error_size d (form_of d) (unsigned_abs aim.r)) (λ lt. none (TooWide quantity.Error) (shown, s, before, (few, lt))) in
       let bits : PassesBits d aim s c.fraction_bits = record { steps = few; error = error; choice = made.bits } in
-      record { margin = shown; exponent = s; bits = c.fraction_bits; all = all d t plans references none shown s c.fraction_bits before bits }
+      all d t plans references none shown s c.fraction_bits before bits
+
+  pub built_passes : PassesForLean p plans references
+  built_passes = record { margin = shown; exponent = c.step_exponent; bits = c.fraction_bits; all = own_passes }

@@ -2,15 +2,15 @@
 use Rattle.std.specs.Prelude.{◌≡◌, ◌⊎◌, ℕ, List, Option, IfSome, IsSomeAnd}
 use Rattle.io_edge.specs.Faults.{Files}
 use Rattle.command_line.specs.Deeds.{Deeds}
-use Rattle.command_lean.specs.Lean.{LeanCalls, LeanReaches, IsLeanWritten, IsControllerCut, IsReportCut}
+use Rattle.command_lean.specs.Lean.{LeanCalls, LeanReaches, IsLeanWritten, IsLeanControllerCut, IsLeanReportCut}
 use Rattle.command_line.specs.declared.status.Status.{Status}
 use Rattle.command_line.specs.declared.status.Status.TheVariants.{Done, WriteFault}
 
 -- by the answer: both texts stand, or the write of one of them was cut short
 pub record LeanLeaves (words : List (List ℕ)) (s : Status) (old new : Option Files) : Type 0 where
   pub written : s ≡ Done → IfSome old (λ files. IsSomeAnd new (IsLeanWritten words files))
-  pub controller_cut : s ≡ WriteFault 4 → IfSome old (λ files. IsSomeAnd new (IsControllerCut words files))
-  pub report_cut : s ≡ WriteFault 5 → IfSome old (λ files. IsSomeAnd new (IsReportCut words files))
+  pub controller_cut : s ≡ WriteFault 4 → IfSome old (λ files. IsSomeAnd new (IsLeanControllerCut words files))
+  pub report_cut : s ≡ WriteFault 5 → IfSome old (λ files. IsSomeAnd new (IsLeanReportCut words files))
 
 abbrev pub lean_deeds : Deeds
 lean_deeds = record {

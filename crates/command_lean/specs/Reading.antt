@@ -13,7 +13,7 @@ use Rattle.command_line.specs.declared.status.Status.{Status}
 use Rattle.command_line.specs.declared.status.Status.TheVariants.{Done, Memory, ReadFault, WriteFault}
 use Rattle.command_files.specs.Reading.{IsDesignRead, IsPolicyRead}
 use Rattle.command_controller.specs.Made.{IsReport}
-use Rattle.command_lean.specs.Made.{MakingCalls, IsMadeOf}
+use Rattle.command_lean.specs.Made.{LeanMakingCalls, IsLeanMadeOf}
 use Rattle.command_lean.specs.Lean.{LeanCalls, LeanReaches}
 
 -- ---- a design with a policy and reference plans
@@ -21,54 +21,54 @@ use Rattle.command_lean.specs.Lean.{LeanCalls, LeanReaches}
 pub record AreTextsOf (p : DesignParts) (plans references : Plans) (report_name text report : List ℕ) : Type 0 where
   pub controller : Numbers
   pub bounds : Printed
-  pub made : IsMadeOf p plans references controller bounds
+  pub made : IsLeanMadeOf p plans references controller bounds
   pub is_text : IsControllerText text controller
   pub is_report : IsReport report_name bounds report
-  pub answer : IsAnswer (MakingCalls p plans references) Done
+  pub answer : IsAnswer (LeanMakingCalls p plans references) Done
 
 -- no fault, and neither done nor out of memory
-pub record IsRefusal (s : Status) : Type 0 where
+pub record IsLeanRefusal (s : Status) : Type 0 where
   pub done : s ≢ Done
   pub memory : s ≢ Memory
   pub read : (file : ℕ) → s ≢ ReadFault file
   pub write : (file : ℕ) → s ≢ WriteFault file
 
 -- out of memory, or this status is called for, and no other
-abbrev pub IsRefusedWith : DesignParts → (plans references : Plans) → Status → Type 0
-IsRefusedWith p plans references s = (s ≡ Memory) ⊎ (IsAnswer (MakingCalls p plans references) s × IsRefusal s)
+abbrev pub IsLeanRefusedWith : DesignParts → (plans references : Plans) → Status → Type 0
+IsLeanRefusedWith p plans references s = (s ≡ Memory) ⊎ (IsAnswer (LeanMakingCalls p plans references) s × IsLeanRefusal s)
 
 -- ---- all files
 -- they hold these
-pub record AreRead (words : List (List ℕ)) (held : Option Files) (p : DesignParts) (plans references : Plans) : Type 0 where
+pub record AreLeanInputsRead (words : List (List ℕ)) (held : Option Files) (p : DesignParts) (plans references : Plans) : Type 0 where
   pub design : IsDesignRead 1 held (word_of words 1) p
   pub policy : IsPolicyRead (design_of p) 2 held (word_of words 2) plans
   pub reference : IsPolicyRead (design_of p) 3 held (word_of words 3) references
 
 -- by what they hold this status is called for, and no other
-abbrev pub IsAnswered : List (List ℕ) → Option Files → Status → Type 0
-IsAnswered words held s = ForContents words held (λ k. IsAnswer (LeanCalls (k 1) (k 2) (k 3)) s)
+abbrev pub IsLeanAnswered : List (List ℕ) → Option Files → Status → Type 0
+IsLeanAnswered words held s = ForContents words held (λ k. IsAnswer (LeanCalls (k 1) (k 2) (k 3)) s)
 
 -- the texts of what they hold, and by that nothing else is called for
-pub record AreTextsFrom (words : List (List ℕ)) (held : Option Files) (text report : List ℕ) : Type 0 where
+pub record AreLeanTextsFrom (words : List (List ℕ)) (held : Option Files) (text report : List ℕ) : Type 0 where
   pub p : DesignParts
   pub plans : Plans
   pub references : Plans
-  pub read : AreRead words held p plans references
+  pub read : AreLeanInputsRead words held p plans references
   pub texts : AreTextsOf p plans references (word_of words 5) text report
-  pub answer : IsAnswered words held Done
+  pub answer : IsLeanAnswered words held Done
 
 -- the read of a file failed, to which the files before it led
-pub record IsReadFault (words : List (List ℕ)) (held : Option Files) (before now : List ℕ → ℕ) (s : Status) : Type 0 where
+pub record IsLeanReadFault (words : List (List ℕ)) (held : Option Files) (before now : List ℕ → ℕ) (s : Status) : Type 0 where
   pub file : ℕ
   pub is : s ≡ ReadFault file
   pub reached : ForContents words held (λ k. LeanReaches (k 1) (k 2) file)
   pub rose : Rose (before (word_of words file)) (now (word_of words file))
 
 -- the files call for this status, and for no other
-pub record IsRefused (words : List (List ℕ)) (held : Option Files) (s : Status) : Type 0 where
-  pub called : IsAnswered words held s
-  pub refusal : IsRefusal s
+pub record IsLeanRefused (words : List (List ℕ)) (held : Option Files) (s : Status) : Type 0 where
+  pub called : IsLeanAnswered words held s
+  pub refusal : IsLeanRefusal s
 
 -- the run ends with this status before anything is written
 abbrev pub Ends : (words : List (List ℕ)) → Option Files → (before now : List ℕ → ℕ) → Status → Type 0
-Ends words held before now s = (s ≡ Memory) ⊎ (IsReadFault words held before now s ⊎ IsRefused words held s)
+Ends words held before now s = (s ≡ Memory) ⊎ (IsLeanReadFault words held before now s ⊎ IsLeanRefused words held s)

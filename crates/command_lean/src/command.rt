@@ -3,7 +3,7 @@ ghost use Rattle.std.specs.Prelude.{◌≡◌, ◌≢◌, ◌⊎◌, ℕ, IfSome
 ghost use Rattle.io_edge.specs.Faults.{Rose, NoneFalls};
 ghost use Rattle.command_line.specs.Words.{word_of, IsLean};
 ghost use Rattle.command_line.specs.Answers.{ForContents, IsAnswer, IsCaused};
-ghost use Rattle.command_lean.specs.Lean.{LeanCalls, LeanReaches, IsLeanWritten, IsControllerCut, IsReportCut};
+ghost use Rattle.command_lean.specs.Lean.{LeanCalls, LeanReaches, IsLeanWritten, IsLeanControllerCut, IsLeanReportCut};
 
 use crate::texts::texts_for;
 use command_generate::write_texts;
@@ -17,10 +17,13 @@ pub fn lean<S: Store>(alloc: Global, words: &Words, store: &mut S) -> Status
     requires { IsLean words.now }
     // What is written.
     ensures written { result ≡ Status.Done → IfSome (S.held store.old) (λ files. IsSomeAnd (S.held store.new) (IsLeanWritten words.now files)) }
-    ensures controller_cut { result ≡ Status.WriteFault 4 → IfSome (S.held store.old) (λ files. IsSomeAnd (S.held store.new) (IsControllerCut words.now files)) }
-    ensures report_cut { result ≡ Status.WriteFault 5 → IfSome (S.held store.old) (λ files. IsSomeAnd (S.held store.new) (IsReportCut words.now files)) }
+    ensures controller_cut { result ≡ Status.WriteFault 4 →
+        IfSome (S.held store.old) (λ files. IsSomeAnd (S.held store.new) (IsLeanControllerCut words.now files)) }
+    ensures report_cut { result ≡ Status.WriteFault 5 → IfSome (S.held store.old) (λ files.
+        IsSomeAnd (S.held store.new) (IsLeanReportCut words.now files)) }
     // Why: by what the three files hold this answer is called for, and no other.
-    ensures called { IsCaused result → ForContents words.now (S.held store.old) (λ contents. IsAnswer (LeanCalls (contents 1) (contents 2) (contents 3)) result) }
+    ensures called { IsCaused result → ForContents words.now (S.held store.old) (λ contents.
+        IsAnswer (LeanCalls (contents 1) (contents 2) (contents 3)) result) }
     // Faults.
     ensures read_fault { (file : ℕ) → result ≡ Status.ReadFault file
         → ForContents words.now (S.held store.old) (λ contents. LeanReaches (contents 1) (contents 2) file)

@@ -5,7 +5,7 @@ ghost use Rattle.qp_model.specs.problem.Parts.{design_of};
 ghost use Rattle.qp_model.specs.problem.Policy.{plans_of, IsPolicyFor};
 ghost use Rattle.command_line.specs.Words.{word_of, IsLean};
 ghost use Rattle.command_files.specs.Reading.{IsDesignRead, IsPolicyRead};
-ghost use Rattle.command_lean.specs.Reading.{AreTextsOf, AreTextsFrom, IsRefusedWith, Ends};
+ghost use Rattle.command_lean.specs.Reading.{AreTextsOf, AreLeanTextsFrom, IsLeanRefusedWith, Ends};
 
 use crate::made::make_lean;
 use command_files::{read_design_file, read_policy_file};
@@ -26,7 +26,7 @@ fn texts_of(
     requires plans { IsPolicyFor (design_of design.now) (plans_of policy.now) }
     requires references { IsPolicyFor (design_of design.now) (plans_of reference.now) }
     ensures texts { IfOk result (λ t. AreTextsOf design.now (plans_of policy.now) (plans_of reference.now) report_name.now t.controller.items t.report.items) }
-    ensures refused { IfErr result (IsRefusedWith design.now (plans_of policy.now) (plans_of reference.now)) }
+    ensures refused { IfErr result (IsLeanRefusedWith design.now (plans_of policy.now) (plans_of reference.now)) }
 {
     let made = make_lean(alloc, design, policy, reference)?;
     texts_made(alloc, &made, report_name)
@@ -44,7 +44,7 @@ fn texts_after_policy<S: Store>(
     requires design { IsDesignRead 1 (S.held store.old) (word_of words.now 1) design.now }
     requires policy { IsPolicyRead (design_of design.now) 2 (S.held store.old) (word_of words.now 2) (plans_of policy.now) }
     requires plans { IsPolicyFor (design_of design.now) (plans_of policy.now) }
-    ensures texts { IfOk result (λ t. AreTextsFrom words.now (S.held store.old) t.controller.items t.report.items) }
+    ensures texts { IfOk result (λ t. AreLeanTextsFrom words.now (S.held store.old) t.controller.items t.report.items) }
     ensures ends { IfErr result (Ends words.now (S.held store.old) (S.read_faults store.old) (S.read_faults store.new)) }
     ensures held { S.held store.new ≡ S.held store.old }
     ensures reads { NoneFalls (S.read_faults store.old) (S.read_faults store.new) }
@@ -63,7 +63,7 @@ fn texts_after_design<S: Store>(
 ) -> Result<Texts, Status>
     requires words { IsLean words.now }
     requires design { IsDesignRead 1 (S.held store.old) (word_of words.now 1) design.now }
-    ensures texts { IfOk result (λ t. AreTextsFrom words.now (S.held store.old) t.controller.items t.report.items) }
+    ensures texts { IfOk result (λ t. AreLeanTextsFrom words.now (S.held store.old) t.controller.items t.report.items) }
     ensures ends { IfErr result (Ends words.now (S.held store.old) (S.read_faults store.old) (S.read_faults store.new)) }
     ensures held { S.held store.new ≡ S.held store.old }
     ensures reads { NoneFalls (S.read_faults store.old) (S.read_faults store.new) }
@@ -80,7 +80,7 @@ pub(crate) fn texts_for<S: Store>(
     store: &mut S,
 ) -> Result<Texts, Status>
     requires { IsLean words.now }
-    ensures texts { IfOk result (λ t. AreTextsFrom words.now (S.held store.old) t.controller.items t.report.items) }
+    ensures texts { IfOk result (λ t. AreLeanTextsFrom words.now (S.held store.old) t.controller.items t.report.items) }
     ensures ends { IfErr result (Ends words.now (S.held store.old) (S.read_faults store.old) (S.read_faults store.new)) }
     ensures held { S.held store.new ≡ S.held store.old }
     ensures reads { NoneFalls (S.read_faults store.old) (S.read_faults store.new) }

@@ -22,7 +22,8 @@ pub fn listing_text(alloc: Global, controller: &Controller) -> Result<Vec<u8>, A
 pub fn write_text<S: Store>(name: &str, text: &[u8], store: &mut S) -> Status
     ensures only { (result ≡ Status.Done) ⊎ (result ≡ Status.WriteFault 2) }
     ensures done { result ≡ Status.Done → IfSome (S.held store.old) (λ old. IsSomeAnd (S.held store.new) (λ new. IsWritten old new name.now text.now)) }
-    ensures cut { result ≡ Status.WriteFault 2 → IfSome (S.held store.old) (λ old. IsSomeAnd (S.held store.new) (λ new. IsCutShort old new name.now text.now)) }
+    ensures cut { result ≡ Status.WriteFault 2 → IfSome (S.held store.old) (λ old.
+        IsSomeAnd (S.held store.new) (λ new. IsCutShort old new name.now text.now)) }
     ensures failed { result ≡ Status.WriteFault 2 → Rose (S.write_faults store.old name.now) (S.write_faults store.new name.now) }
     ensures reads { NoneFalls (S.read_faults store.old) (S.read_faults store.new) }
     ensures writes { NoneFalls (S.write_faults store.old) (S.write_faults store.new) }

@@ -29,12 +29,15 @@ fn solve_with<S: Store, O: Sink>(
     // Why: by what the two files hold this answer is called for, and no other.
     ensures called { IsCaused result → ForContents words.now (S.held store.old) (λ contents. IsAnswer (SolveCalls (contents 1) (contents 2)) result) }
     // What the output got.
-    ensures prints { IfSome (O.got out.old) (λ old. IsSomeAnd (O.got out.new) (λ new. ForContents words.now (S.held store.old) (λ contents. SolvePrints contents result old new))) }
+    ensures prints { IfSome (O.got out.old) (λ old.
+        IsSomeAnd (O.got out.new) (λ new. ForContents words.now (S.held store.old) (λ contents. SolvePrints contents result old new))) }
     ensures quiet { result ≢ Status.Done → result ≢ Status.Memory → result ≢ Status.WriteFault 0 → out.new ≡ out.old }
     // Faults.
-    ensures read_fault { (file : ℕ) → result ≡ Status.ReadFault file → ForContents words.now (S.held store.old) (λ contents. SolveReaches (contents 1) file)
+    ensures read_fault { (file : ℕ) → result ≡ Status.ReadFault file →
+        ForContents words.now (S.held store.old) (λ contents. SolveReaches (contents 1) file)
         × Rose (S.read_faults store.old (word_of words.now file)) (S.read_faults store.new (word_of words.now file)) }
-    ensures write_fault { (file : ℕ) → result ≡ Status.WriteFault file → (file ≡ 0) × ForContents words.now (S.held store.old) (λ contents. SolveStarts (contents 1) (contents 2))
+    ensures write_fault { (file : ℕ) → result ≡ Status.WriteFault file →
+        (file ≡ 0) × ForContents words.now (S.held store.old) (λ contents. SolveStarts (contents 1) (contents 2))
         × Rose (O.faults out.old) (O.faults out.new) }
     // What stays the same.
     ensures held { S.held store.new ≡ S.held store.old }
@@ -55,12 +58,15 @@ pub fn solve<S: Store, O: Sink>(alloc: Global, words: &Words, store: &mut S, out
     // Why: by what the two files hold this answer is called for, and no other.
     ensures called { IsCaused result → ForContents words.now (S.held store.old) (λ contents. IsAnswer (SolveCalls (contents 1) (contents 2)) result) }
     // What the output got.
-    ensures prints { IfSome (O.got out.old) (λ old. IsSomeAnd (O.got out.new) (λ new. ForContents words.now (S.held store.old) (λ contents. SolvePrints contents result old new))) }
+    ensures prints { IfSome (O.got out.old) (λ old.
+        IsSomeAnd (O.got out.new) (λ new. ForContents words.now (S.held store.old) (λ contents. SolvePrints contents result old new))) }
     ensures quiet { result ≢ Status.Done → result ≢ Status.Memory → result ≢ Status.WriteFault 0 → out.new ≡ out.old }
     // Faults.
-    ensures read_fault { (file : ℕ) → result ≡ Status.ReadFault file → ForContents words.now (S.held store.old) (λ contents. SolveReaches (contents 1) file)
+    ensures read_fault { (file : ℕ) → result ≡ Status.ReadFault file →
+        ForContents words.now (S.held store.old) (λ contents. SolveReaches (contents 1) file)
         × Rose (S.read_faults store.old (word_of words.now file)) (S.read_faults store.new (word_of words.now file)) }
-    ensures write_fault { (file : ℕ) → result ≡ Status.WriteFault file → (file ≡ 0) × ForContents words.now (S.held store.old) (λ contents. SolveStarts (contents 1) (contents 2))
+    ensures write_fault { (file : ℕ) → result ≡ Status.WriteFault file →
+        (file ≡ 0) × ForContents words.now (S.held store.old) (λ contents. SolveStarts (contents 1) (contents 2))
         × Rose (O.faults out.old) (O.faults out.new) }
     // What stays the same.
     ensures held { S.held store.new ≡ S.held store.old }

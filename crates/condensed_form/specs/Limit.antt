@@ -21,6 +21,6 @@ pub record IsScales (fine : Bool) (d : Design) (s : Scales) : Type 0 where
   pub cost_row : s.cost_row ≡ cost_row_in fine d
 
 -- midpoints and radii of one shape
-pub record AreAlike (mid rad : Matrix) : Type 0 where
+pub record AreOfOneShape (mid rad : Matrix) : Type 0 where
   pub rows : length rad.rows ≡ length mid.rows
   pub cols : rad.cols ≡ mid.cols

@@ -10,7 +10,7 @@ ghost use Rattle.qp_model.specs.form.Form.{farthest};
 ghost use Rattle.qp_model.specs.bounds.Least.{IsLeastBelow};
 ghost use Rattle.qp_model.specs.problem.Parts.{design_of};
 ghost use Rattle.condensed_form.specs.Form.{IsFormIn, IsSomeForm};
-ghost use Rattle.condensed_form.specs.Limit.{curvature_in, AreAlike, IsScales};
+ghost use Rattle.condensed_form.specs.Limit.{curvature_in, AreOfOneShape, IsScales};
 
 use crate::condensed::Condensed;
 use crate::squares::least_exponent;
@@ -105,7 +105,7 @@ fn row_quantity(fine: bool, size: u128, entries: usize) -> u128
 
 // The squares of all entries, each at its farthest.
 fn sum_of_squares(mid: &Mat, rad: &Mat) -> u128
-    requires shape { AreAlike mid.now rad.now }
+    requires shape { AreOfOneShape mid.now rad.now }
     requires room { amount (length mid.now.rows) (λ i. amount mid.now.cols (λ j.
         farthest (entry_of mid.now i j) (unsigned_abs (entry_of rad.now i j)) ^ 2)) ≤ 2 ^ 126 }
     ensures { result ≡ amount (length mid.now.rows) (λ i. amount mid.now.cols (λ j.

@@ -21,7 +21,8 @@ pub fn mixed(a: &[i128], b: &[i128], state: &[i128], input: &[i128], scale: i128
     requires state { length state.now ≤ length a.now }
     requires input { length input.now ≤ length b.now }
     requires scale { pos 1 ≤ℤ scale }
-    requires fits { product_size (length state.now) (at a.now) (at state.now) + unsigned_abs scale * product_size (length input.now) (at b.now) (at input.now) ≤ 2 ^ 126 }
+    requires fits { product_size (length state.now) (at a.now) (at state.now)
+        + unsigned_abs scale * product_size (length input.now) (at b.now) (at input.now) ≤ 2 ^ 126 }
     ensures { result ≡ dot (length state.now) (at a.now) (at state.now) +ℤ scale *ℤ dot (length input.now) (at b.now) (at input.now) }
 {
     product(a, state) + scale * product(b, input)

@@ -161,7 +161,8 @@ fn widest_parts(
 // The parts with these gains in place of others.
 fn with_gains(parts: ControllerParts, gains: Inverse) -> ControllerParts
     ensures gains { AreGains gains (numbers result) }
-    ensures frame { (d : model.Design) (r s : ℕ) (es : List ℕ) (k f : ℕ) → IsFrame d r s es k f (numbers parts) → IsFrame d r s es k f (numbers result) }
+    ensures frame { (d : model.Design) (r s : ℕ) (es : List ℕ) (k f : ℕ) →
+        IsFrame d r s es k f (numbers parts) → IsFrame d r s es k f (numbers result) }
 {
     ControllerParts {
         p_mat: gains.p_mat,

@@ -22,7 +22,7 @@ use Rattle.design_engine.specs.Targets.{Targets, half_target, error_limit}
 use Rattle.design_engine.specs.Bounds.{stated_cost}
 use Rattle.design_engine.specs.declared.aimed.Aim.{Aim}
 use Rattle.design_engine.specs.declared.aimed.Aimed.{Aimed}
-use Rattle.design_engine.specs.declared.aimed.Scaled.{Scaled}
+use Rattle.design_engine.specs.declared.aimed.SteppedForm.{SteppedForm}
 
 -- what the targets ask for with a margin: half of the violation's is for the steps, and half for the errors
 abbrev pub aim_of : Targets → Margin → Aim
@@ -45,7 +45,7 @@ abbrev pub AreBitsOf : Design → Aim → ℕ → Type 0
 AreBitsOf d a f = IsChoice (error_sums_of d (form_of d) (unsigned_abs a.r)) d.grid (unsigned_abs a.error_target) f
 
 -- a design's condensed form and its step exponent
-pub record IsScaledOf (p : DesignParts) (x : Scaled) : Type 0 where
+pub record IsSteppedFormOf (p : DesignParts) (x : SteppedForm) : Type 0 where
   pub form : IsFormOf p x.condensed
   pub exponent : OfDesign x.condensed (λ d. IsExponentOf d x.s)
   pub curved : IsExponent (design_of p) x.s

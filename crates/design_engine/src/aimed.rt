@@ -7,7 +7,7 @@ ghost use Rattle.qp_model.specs.form.Curvature.{AreExponents, IsExponent};
 ghost use Rattle.condensed_form.specs.Form.{IsFormOf};
 ghost use Rattle.hessian_check.specs.Steps.{IsExponentOf, OfDesign};
 ghost use Rattle.hessian_check.specs.RowExponents.{exponent_in, AreExponentsOf};
-ghost use Rattle.design_engine.specs.Aims.{IsAim, IsScaledOf, IsAimedOf};
+ghost use Rattle.design_engine.specs.Aims.{IsAim, IsSteppedFormOf, IsAimedOf};
 ghost use Rattle.design_engine.specs.Tests.{PassesForm, HasFormCause, PassesAim, HasAimCause, IsRefusedFor};
 ghost use Rattle.design_engine.specs.Chosen.{IsChosenOf};
 
@@ -36,7 +36,7 @@ pub struct Aim {
 
 /// A design's condensed form and its step exponent.
 #[derive(Drop)]
-pub struct Scaled {
+pub struct SteppedForm {
     pub condensed: Condensed,
     pub s: u32,
 }
@@ -64,14 +64,14 @@ pub struct Aimed {
 /// # Errors
 /// The first test that they fail: `TooWide` with `prediction`, `hessian`, `rows` or `curvature` of the condensed form; `Curvature`. `Memory` where memory
 /// runs out before.
-pub fn scaled_of(alloc: Global, design: &Design) -> Result<Scaled, Refusal>
-    ensures scaled { IfOk result (IsScaledOf design.now) }
+pub fn stepped_form(alloc: Global, design: &Design) -> Result<SteppedForm, Refusal>
+    ensures stepped { IfOk result (IsSteppedFormOf design.now) }
     ensures passes { OnOk result (PassesForm (design_of design.now)) }
     ensures refused { IfErr result (IsRefusedFor (HasFormCause (design_of design.now))) }
 {
     let condensed = condense(alloc, design)?;
     match curvature(alloc, &condensed) {
-        Ok(exponents) => Ok(Scaled {
+        Ok(exponents) => Ok(SteppedForm {
             condensed,
             s: exponents.s,
         }),
@@ -83,14 +83,14 @@ pub fn scaled_of(alloc: Global, design: &Design) -> Result<Scaled, Refusal>
 }
 
 // The number of steps and the fraction bits. It takes no memory.
-fn plan_of(design: &Design, scaled: &Scaled, aim: Aim) -> Result<Chosen, Refusal>
-    requires scaled { IsScaledOf design.now scaled.now }
+fn plan_of(design: &Design, stepped: &SteppedForm, aim: Aim) -> Result<Chosen, Refusal>
+    requires stepped { IsSteppedFormOf design.now stepped.now }
     requires aim { IsAim aim }
-    ensures chosen { IfOk result (IsChosenOf design.now aim scaled.now) }
-    ensures refused { IfErr result (HasAimCause (design_of design.now) aim scaled.now.s) }
+    ensures chosen { IfOk result (IsChosenOf design.now aim stepped.now) }
+    ensures refused { IfErr result (HasAimCause (design_of design.now) aim stepped.now.s) }
 {
-    let steps = steps(scaled.s, aim.r, aim.step_target)?;
-    let sums = error_sums(&scaled.condensed, design, aim.r)?;
+    let steps = steps(stepped.s, aim.r, aim.step_target)?;
+    let sums = error_sums(&stepped.condensed, design, aim.r)?;
     let choice = choose_bits(&sums, design.parts().grid, aim.error_target)?;
     Ok(Chosen {
         steps,
@@ -123,33 +123,33 @@ fn row_exponents(
 fn controller_by(
     alloc: Global,
     design: &Design,
-    scaled: &Scaled,
+    stepped: &SteppedForm,
     plan: &Chosen,
     aim: Aim,
 ) -> Result<Controller, Refusal>
-    requires scaled { IsScaledOf design.now scaled.now }
+    requires stepped { IsSteppedFormOf design.now stepped.now }
     requires aim { IsAim aim }
-    requires chosen { IsChosenOf design.now aim scaled.now plan.now }
+    requires chosen { IsChosenOf design.now aim stepped.now plan.now }
     ensures sound { IfOk result IsController }
     ensures made { IfOk result (λ c.
-        IsAssembled (design_of design.now) (unsigned_abs aim.r) scaled.now.s c.exponents plan.now.steps plan.now.choice.f c) }
-    ensures exponents { IfOk result (λ c. AreExponentsOf (design_of design.now) scaled.now.s c.exponents) }
-    ensures curved { IfOk result (λ c. AreExponents (design_of design.now) (exponent_in c.exponents) scaled.now.s) }
-    ensures passes { OnOk result (PassesAim (design_of design.now) aim scaled.now.s plan.now.choice.f) }
-    ensures refused { IfErr result (IsRefusedFor (HasAimCause (design_of design.now) aim scaled.now.s)) }
+        IsAssembled (design_of design.now) (unsigned_abs aim.r) stepped.now.s c.exponents plan.now.steps plan.now.choice.f c) }
+    ensures exponents { IfOk result (λ c. AreExponentsOf (design_of design.now) stepped.now.s c.exponents) }
+    ensures curved { IfOk result (λ c. AreExponents (design_of design.now) (exponent_in c.exponents) stepped.now.s) }
+    ensures passes { OnOk result (PassesAim (design_of design.now) aim stepped.now.s plan.now.choice.f) }
+    ensures refused { IfErr result (IsRefusedFor (HasAimCause (design_of design.now) aim stepped.now.s)) }
 {
-    let gains = solve_all(alloc, &scaled.condensed, plan.choice.f)?;
-    let Ok(exps) = row_exponents(alloc, design, &scaled.condensed, scaled.s) else {
+    let gains = solve_all(alloc, &stepped.condensed, plan.choice.f)?;
+    let Ok(exps) = row_exponents(alloc, design, &stepped.condensed, stepped.s) else {
         drop(gains);
         return Err(Refusal::Memory);
     };
     let settings = Settings {
-        s: scaled.s,
+        s: stepped.s,
         f: plan.choice.f,
         steps: plan.steps,
         r: aim.r,
     };
-    Ok(controller_of(alloc, design, &scaled.condensed, settings, exps, gains)?)
+    Ok(controller_of(alloc, design, &stepped.condensed, settings, exps, gains)?)
 }
 
 /// The controller of a design that is made with an aim, and what the errors of its steps cost.
@@ -160,18 +160,18 @@ fn controller_by(
 pub fn controller_for(
     alloc: Global,
     design: &Design,
-    scaled: &Scaled,
+    stepped: &SteppedForm,
     aim: Aim,
 ) -> Result<Aimed, Refusal>
-    requires scaled { IsScaledOf design.now scaled.now }
+    requires stepped { IsSteppedFormOf design.now stepped.now }
     requires aim { IsAim aim }
     ensures made { IfOk result (IsAimedOf design.now aim) }
-    ensures passes { OnOk result ((f : ℕ) × PassesAim (design_of design.now) aim scaled.now.s f) }
-    ensures refused { IfErr result (IsRefusedFor (HasAimCause (design_of design.now) aim scaled.now.s)) }
+    ensures passes { OnOk result ((f : ℕ) × PassesAim (design_of design.now) aim stepped.now.s f) }
+    ensures refused { IfErr result (IsRefusedFor (HasAimCause (design_of design.now) aim stepped.now.s)) }
 {
-    let plan = plan_of(design, scaled, aim)?;
-    let controller = controller_by(alloc, design, scaled, &plan, aim)?;
-    let cost = real_cost(&scaled.condensed, &plan.sums, &controller);
+    let plan = plan_of(design, stepped, aim)?;
+    let controller = controller_by(alloc, design, stepped, &plan, aim)?;
+    let cost = real_cost(&stepped.condensed, &plan.sums, &controller);
     Ok(Aimed {
         controller,
         cost,

@@ -7,13 +7,13 @@ ghost use Rattle.qp_model.specs.bounds.Printed.{printed};
 ghost use Rattle.qp_model.specs.bounds.Certified.{IsCertified};
 ghost use Rattle.qp_model.specs.declared.bounds.Margin.{Margin};
 ghost use Rattle.design_engine.specs.Targets.{targets_of, half_target, gap_target, error_limit, IsWithinTargets};
-ghost use Rattle.design_engine.specs.Aims.{aim_of, IsScaledOf, IsAimedOf};
+ghost use Rattle.design_engine.specs.Aims.{aim_of, IsSteppedFormOf, IsAimedOf};
 ghost use Rattle.design_engine.specs.Tests.{PassesAim, HasAimCause, IsRefusedFor};
 ghost use Rattle.design_engine.specs.Bounds.{margin_of, printed_multiplier, stated_cost, AreBoundsOf};
 ghost use Rattle.design_engine.specs.Built.{IsBuilt, IsBounded};
 ghost use Rattle.design_engine.specs.Refusals.{HasCause, IsRefused, PassesMargin, PassesAll};
 
-use crate::aimed::{Aim, Aimed, Scaled, controller_for, scaled_of};
+use crate::aimed::{Aim, Aimed, SteppedForm, controller_for, stepped_form};
 use crate::violations::row_violations;
 use design_refusal::Refusal;
 use dual_bounds::{multiplier, undercut, violation};
@@ -128,7 +128,12 @@ fn bounds_of(
 }
 
 // A controller with its bounds.
-fn finished(alloc: Global, design: &Design, bounded: Bounded, aimed: Aimed) -> Result<Made, Refusal>
+fn with_bounds(
+    alloc: Global,
+    design: &Design,
+    bounded: Bounded,
+    aimed: Aimed,
+) -> Result<Made, Refusal>
     requires bounded { IsBounded bounded }
     requires aimed { IsAimedOf design.now (aim_of (targets_of design.now) bounded.margin) aimed }
     ensures built { (plans : Plans) → PassesMargin (design_of design.now) (targets_of design.now) plans bounded.margin →
@@ -151,24 +156,24 @@ fn finished(alloc: Global, design: &Design, bounded: Bounded, aimed: Aimed) -> R
 }
 
 // The tests of the form and after it, and the controller with its bounds.
-fn planned(
+fn controller_and_bounds(
     alloc: Global,
     design: &Design,
     bounded: Bounded,
-    scaled: &Scaled,
+    stepped: &SteppedForm,
 ) -> Result<Made, Refusal>
     requires bounded { IsBounded bounded }
-    requires scaled { IsScaledOf design.now scaled.now }
+    requires stepped { IsSteppedFormOf design.now stepped.now }
     ensures built { (plans : Plans) → PassesMargin (design_of design.now) (targets_of design.now) plans bounded.margin →
         IsPolicyFor (design_of design.now) plans → IfOk result (λ made. IsBuilt design.now plans made.controller (printed made.bounds)) }
     ensures errors { IfOk result (λ made.
         made.eps ≡ pos (stated_cost (design_of design.now) (printed_multiplier (printed made.bounds)) made.controller.fraction_bits)) }
-    ensures passes { OnOk result ((f : ℕ) × PassesAim (design_of design.now) (aim_of (targets_of design.now) bounded.margin) scaled.now.s f) }
-    ensures refused { IfErr result (IsRefusedFor (HasAimCause (design_of design.now) (aim_of (targets_of design.now) bounded.margin) scaled.now.s)) }
+    ensures passes { OnOk result ((f : ℕ) × PassesAim (design_of design.now) (aim_of (targets_of design.now) bounded.margin) stepped.now.s f) }
+    ensures refused { IfErr result (IsRefusedFor (HasAimCause (design_of design.now) (aim_of (targets_of design.now) bounded.margin) stepped.now.s)) }
 {
     let aim = aim_of(design.parts(), bounded);
-    let aimed = controller_for(alloc, design, scaled, aim)?;
-    finished(alloc, design, bounded, aimed)
+    let aimed = controller_for(alloc, design, stepped, aim)?;
+    with_bounds(alloc, design, bounded, aimed)
 }
 
 /// The controller of a design with a policy, which has one plan for each corner of the box, and its bounds.
@@ -197,9 +202,9 @@ pub fn generate(alloc: Global, design: &Design, policy: &Policy) -> Result<Made,
     // A design keeps its rules; with its numbers read, that is known on every way out.
     let _parts = design.parts();
     let bounded = bounded_by(alloc, design, policy)?;
-    let scaled = scaled_of(alloc, design)?;
-    let made = planned(alloc, design, bounded, &scaled);
+    let stepped = stepped_form(alloc, design)?;
+    let made = controller_and_bounds(alloc, design, bounded, &stepped);
     // By a call: at the end of the function each of its matrices would be dropped beside what is made.
-    drop(scaled);
+    drop(stepped);
     made
 }

@@ -7,7 +7,7 @@ mod laws;
 mod residuals;
 mod violations;
 
-pub use aimed::{Aim, Aimed, Scaled, controller_for, scaled_of};
+pub use aimed::{Aim, Aimed, SteppedForm, controller_for, stepped_form};
 pub use controller_maker::{Settings, WidthFault, controller_of};
 pub use design_refusal::Refusal;
 pub use generation::{Made, gap_target, generate};

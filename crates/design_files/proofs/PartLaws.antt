@@ -7,7 +7,7 @@ use Rattle.qp_model.specs.problem.Rules.{Rule, AllHold, shape, range}
 use Rattle.number_text.specs.declared.text_fault.TextFault.{TextFault}
 use Rattle.qp_model.proofs.RuleLaws.{all_hold}
 use Rattle.design_files.specs.DesignText.{FailsRule}
-use Rattle.design_files.specs.Numbers.{list_in, lists_in, list_of, lists_of, IsList, IsLists}
+use Rattle.design_files.specs.Numbers.{list_in, lists_in, list_of, lists_of, IsIntegerList, IsLists}
 use Rattle.design_files.specs.Places.{final_row_rules, high_rules}
 use Rattle.design_files.proofs.ReadLaws.{fails_before, fails_after}
 
@@ -31,10 +31,10 @@ fails_range of_shape of_range fault held failed = inr (inr (held, inl (failed.1,
 
 -- ---- parts whose range asks for what was read before
 module _ (n : ℕ) (low value : Option Data) (xs : List ℤ) (known : list_in low ≡ Some xs) (long : length xs ≡ n) where
-  pub high_fails : (fault : TextFault) → FailsRule fault (shape 18 (IsList (length xs) value) ∷ range 18 (AreHighs (list_of value) xs (length xs)) ∷ []) → FailsRule fault (high_rules n low value)
+  pub high_fails : (fault : TextFault) → FailsRule fault (shape 18 (IsIntegerList (length xs) value) ∷ range 18 (AreHighs (list_of value) xs (length xs)) ∷ []) → FailsRule fault (high_rules n low value)
   high_fails fault failed = rw (known, ← long) failed
 
-  pub high_holds : AllHold (shape 18 (IsList (length xs) value) ∷ range 18 (AreHighs (list_of value) xs (length xs)) ∷ []) → AllHold (high_rules n low value)
+  pub high_holds : AllHold (shape 18 (IsIntegerList (length xs) value) ∷ range 18 (AreHighs (list_of value) xs (length xs)) ∷ []) → AllHold (high_rules n low value)
   high_holds held = rw (known, ← long) held
 
 module _ (n : ℕ) (others value : Option Data) (m : Matrix) (known : lists_in others ≡ Some m.rows) where

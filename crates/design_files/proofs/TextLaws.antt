@@ -105,7 +105,16 @@ keys_hold document p h further =
                                   matrix_there v.final_rows p.final_rows h.final_rows,
                                   (
                                     number_there v.grid (pos p.grid) h.grid,
-                                    (list_there v.lo p.lo.items h.lo, (list_there v.hi p.hi.items h.hi, (number_there v.target_den p.target_den h.target_den, (number_there v.violation p.violation h.violation, (number_there v.gap p.gap h.gap, further))))),
+                                    (
+                                      list_there v.lo p.lo.items h.lo,
+                                      (
+                                        list_there v.hi p.hi.items h.hi,
+                                        (
+                                          number_there v.target_den p.target_den h.target_den,
+                                          (number_there v.violation p.violation h.violation, (number_there v.gap p.gap h.gap, further)),
+                                        ),
+                                      ),
+                                    ),
                                   ),
                                 ),
                               ),
@@ -207,7 +216,8 @@ no_fault bytes p fault is first = apart (document_of bytes) p fault is first
 pub same_fault : (bytes : List ℕ) (a b : TextFault) → IsDesignFault bytes a → IsDesignFault bytes b → a ≡ b
 same_fault bytes a b first second = same (document_of bytes) a b first second
   where
-    same : (document : Option Members) (a b : TextFault) → MatchOption document (a ≡ NotToml) (λ document. IsFirstBroken (rules_of document) a) → MatchOption document (b ≡ NotToml) (λ document. IsFirstBroken (rules_of document) b) → a ≡ b
+    same : (document : Option Members) (a b : TextFault) → MatchOption document (a ≡ NotToml) (λ document. IsFirstBroken (rules_of document) a) →
+        MatchOption document (b ≡ NotToml) (λ document. IsFirstBroken (rules_of document) b) → a ≡ b
     same None a b first second = first ∙ sym second
     same (Some document) a b first second = one_fault (rules_of document) a b first second
 

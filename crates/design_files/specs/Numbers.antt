@@ -37,8 +37,8 @@ abbrev pub IsNumber : Option Data → Type 0
 IsNumber value = IsSome (number_in value)
 
 -- so many integers
-abbrev pub IsList : ℕ → Option Data → Type 0
-IsList count value = IsSomeAnd (list_in value) (λ zs. length zs ≡ count)
+abbrev pub IsIntegerList : ℕ → Option Data → Type 0
+IsIntegerList count value = IsSomeAnd (list_in value) (λ zs. length zs ≡ count)
 
 -- low to high lists of so many integers each
 abbrev pub IsLists : ℕ → ℕ → ℕ → Option Data → Type 0

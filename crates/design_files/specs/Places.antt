@@ -5,7 +5,7 @@ use Rattle.qp_model.specs.problem.Limits.{text_version, last_version, most_state
 use Rattle.qp_model.specs.problem.Range.{IsDenominator, IsNumerator, IsPositive}
 use Rattle.qp_model.specs.problem.Rules.{Rule, shape, range}
 use Rattle.qp_model.specs.problem.PartRules.{AreCosts, AreLimits, AreHighs}
-use Rattle.design_files.specs.Numbers.{IsNumber, IsList, IsLists, number_of, count_of, list_of, lists_of}
+use Rattle.design_files.specs.Numbers.{IsNumber, IsIntegerList, IsLists, number_of, count_of, list_of, lists_of}
 use Rattle.design_files.specs.Values.{Values, values_of, top_keys, plant_keys, cost_keys, limit_keys, box_keys, target_keys, further_keys}
 
 -- an integer from low to high
@@ -36,7 +36,7 @@ cost_row_rules place n value =
     ∷ []
 
 abbrev pub input_rules : ℕ → Option Data → List Rule
-input_rules p value = shape 10 (IsList p value) ∷ range 10 (All IsPositive (list_of value)) ∷ []
+input_rules p value = shape 10 (IsIntegerList p value) ∷ range 10 (All IsPositive (list_of value)) ∷ []
 
 -- rows of n coefficients and a bound, where there is one here or among the others
 abbrev pub final_row_rules : ℕ → Option Data → Option Data → List Rule
@@ -46,10 +46,10 @@ final_row_rules n others value =
     ∷ []
 
 abbrev pub low_rules : ℕ → Option Data → List Rule
-low_rules n value = shape 17 (IsList n value) ∷ range 17 (All IsNumerator (list_of value)) ∷ []
+low_rules n value = shape 17 (IsIntegerList n value) ∷ range 17 (All IsNumerator (list_of value)) ∷ []
 
 abbrev pub high_rules : ℕ → Option Data → Option Data → List Rule
-high_rules n low value = shape 18 (IsList n value) ∷ range 18 (AreHighs (list_of value) (list_of low) n) ∷ []
+high_rules n low value = shape 18 (IsIntegerList n value) ∷ range 18 (AreHighs (list_of value) (list_of low) n) ∷ []
 
 -- ---- the places, by tables, for n states and p inputs
 -- the version, and the sizes up to its greatest

@@ -3,7 +3,7 @@ ghost use Rattle.std.specs.Prelude.{All, IsSome, IsSomeAnd, ◌≡◌, ◌<◌, 
 ghost use Rattle.mat_int.specs.Matrix.{row_of};
 ghost use Rattle.toml.specs.View.{view, items_view};
 ghost use Rattle.qp_model.specs.problem.Rules.{shape};
-ghost use Rattle.design_files.specs.Numbers.{number_in, integers_of, list_in, rows_of, IsMatrix, IsNumber, IsList, IsLists};
+ghost use Rattle.design_files.specs.Numbers.{number_in, integers_of, list_in, rows_of, IsMatrix, IsNumber, IsIntegerList, IsLists};
 ghost use Rattle.design_files.specs.DesignText.{Reads};
 
 use mat_int::Mat;
@@ -39,7 +39,7 @@ fn integers(alloc: Global, place: u32, items: &[Value]) -> Result<Vec<i128>, Tex
 /// The list of so many integers at a place.
 pub fn list(alloc: Global, place: u32, value: &Value, count: usize) -> Result<Vec<i128>, TextFault>
     ensures { let seen = Some (view value.now) in
-        Reads result (λ zs. list_in seen ≡ Some zs.items) (shape place (IsList count seen) ∷ []) }
+        Reads result (λ zs. list_in seen ≡ Some zs.items) (shape place (IsIntegerList count seen) ∷ []) }
 {
     let Some(items) = value.as_array() else {
         return Err(TextFault::Shape { place });
@@ -63,7 +63,8 @@ fn set_row(matrix: &mut Mat, i: usize, numbers: &[i128])
 // The matrix whose rows are a place's items, lists of so many integers each.
 fn rows(alloc: Global, place: u32, items: &[Value], width: usize) -> Result<Mat, TextFault>
     ensures { let seen = rows_of (items_view items.now) in
-        Reads result (λ m. (m.cols ≡ width) × (seen ≡ Some m.rows) × All (λ row. length row ≡ m.cols) m.rows) (shape place (IsSomeAnd seen (All (λ row. length row ≡ width))) ∷ []) }
+        Reads result (λ m. (m.cols ≡ width) × (seen ≡ Some m.rows) × All (λ row. length row ≡ m.cols) m.rows)
+        (shape place (IsSomeAnd seen (All (λ row. length row ≡ width))) ∷ []) }
 {
     let mut matrix = Mat::zero(alloc, items.len(), width)?;
     for (i, item) in items.iter().enumerate() {

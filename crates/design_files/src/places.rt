@@ -9,7 +9,7 @@ ghost use Rattle.qp_model.specs.problem.Parts.{IsDesign, design_numbers};
 ghost use Rattle.qp_model.specs.problem.PartRules.{AreHighs, AreLimits};
 ghost use Rattle.qp_model.specs.problem.Rules.{shape, range};
 ghost use Rattle.design_files.specs.Document.{document_of};
-ghost use Rattle.design_files.specs.Numbers.{IsList, IsLists, count_of, list_of, lists_of};
+ghost use Rattle.design_files.specs.Numbers.{IsIntegerList, IsLists, count_of, list_of, lists_of};
 ghost use Rattle.design_files.specs.Keys.{seen};
 ghost use Rattle.design_files.specs.Values.{Values};
 ghost use Rattle.design_files.specs.Places.{count_rules, denominator_rules, positive_rules, table_rules, cost_row_rules, input_rules, final_row_rules, low_rules, high_rules, size_places, plant_places, cost_places, limit_places, box_places, target_places, place_rules};
@@ -268,7 +268,7 @@ fn read_low(alloc: Global, value: &Value, n: usize) -> Result<Vec<i128>, TextFau
 fn read_high(alloc: Global, value: &Value, low: &[i128]) -> Result<Vec<i128>, TextFault>
     ensures { let seen = Some (view value.now) in let n = length low.now in
         Reads result (λ zs. HasLine seen n zs.items × ((i : ℕ) → i < n → at low.now i ≤ℤ at zs.items i))
-        (shape 18 (IsList n seen) ∷ range 18 (AreHighs (list_of seen) low.now n) ∷ []) }
+        (shape 18 (IsIntegerList n seen) ∷ range 18 (AreHighs (list_of seen) low.now n) ∷ []) }
 {
     let high = list(alloc, 18, value, low.len())?;
     in_range(18, are_highs(&high, low))?;

@@ -94,14 +94,16 @@ top_keys =
     (more names 6 (codes "limits") (codes "plant" ∷ codes "stages" ∷ codes "states" ∷ codes "targets" ∷ codes "version" ∷ []) (lit< tt) refl
     (more names 4 (codes "plant") (codes "stages" ∷ codes "states" ∷ codes "targets" ∷ codes "version" ∷ []) (lit< tt) refl
     (more names 3 (codes "stages") (codes "states" ∷ codes "targets" ∷ codes "version" ∷ []) (lit< tt) refl
-    (more names 1 (codes "states") (codes "targets" ∷ codes "version" ∷ []) (lit< tt) refl (more names 8 (codes "targets") (codes "version" ∷ []) (lit< tt) refl (more names 0 (codes "version") [] (lit< tt) refl (all_none (Contains names))))))))))
+    (more names 1 (codes "states") (codes "targets" ∷ codes "version" ∷ []) (lit< tt) refl
+    (more names 8 (codes "targets") (codes "version" ∷ []) (lit< tt) refl (more names 0 (codes "version") [] (lit< tt) refl (all_none (Contains names))))))))))
 
 plant_keys : let names : List (List ℕ) = codes "den" ∷ codes "a" ∷ codes "b" ∷ [] in All (Contains names) (codes "a" ∷ codes "b" ∷ codes "den" ∷ [])
 plant_keys =
     let names : List (List ℕ) = codes "den" ∷ codes "a" ∷ codes "b" ∷ [] in
     more names 1 (codes "a") (codes "b" ∷ codes "den" ∷ []) (lit< tt) refl (more names 2 (codes "b") (codes "den" ∷ []) (lit< tt) refl (more names 0 (codes "den") [] (lit< tt) refl (all_none (Contains names))))
 
-cost_keys : let names : List (List ℕ) = codes "den" ∷ codes "row_den" ∷ codes "input" ∷ codes "stage" ∷ codes "final" ∷ [] in All (Contains names) (codes "den" ∷ codes "final" ∷ codes "input" ∷ codes "row_den" ∷ codes "stage" ∷ [])
+cost_keys : let names : List (List ℕ) = codes "den" ∷ codes "row_den" ∷ codes "input" ∷ codes "stage" ∷ codes "final" ∷ [] in
+    All (Contains names) (codes "den" ∷ codes "final" ∷ codes "input" ∷ codes "row_den" ∷ codes "stage" ∷ [])
 cost_keys =
     let names : List (List ℕ) = codes "den" ∷ codes "row_den" ∷ codes "input" ∷ codes "stage" ∷ codes "final" ∷ [] in
     more names 0 (codes "den") (codes "final" ∷ codes "input" ∷ codes "row_den" ∷ codes "stage" ∷ []) (lit< tt) refl

@@ -82,7 +82,8 @@ pub fn steps(s: u32, r: i128, half_target: i128) -> Result<u32, TooManySteps>
     requires some { pos 1 ≤ℤ r }
     requires narrow { r ≤ℤ pos (2 ^ 44) }
     requires target { pos 1 ≤ℤ half_target }
-    ensures value { OkIff result (step_count s (unsigned_abs r) (unsigned_abs half_target) ≤ 2 ^ 22) (step_count s (unsigned_abs r) (unsigned_abs half_target)) }
+    ensures value { OkIff result (step_count s (unsigned_abs r) (unsigned_abs half_target) ≤ 2 ^ 22)
+        (step_count s (unsigned_abs r) (unsigned_abs half_target)) }
     ensures told { IfErr result (λ e. e.k ≡ pos (step_count s (unsigned_abs r) (unsigned_abs half_target))) }
 {
     let target = half_target.unsigned_abs();

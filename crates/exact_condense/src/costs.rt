@@ -51,7 +51,8 @@ impl<'a> Costs<'a> {
     // For each entry of the plan, twice the weighted sum of what the rows have of it times `values`.
     fn weighed(&self, alloc: Global, values: &[i128]) -> Result<Vec<i128>, AllocError>
         requires count { length values.now ≡ counts (design_of self.now.parts.now) }
-        requires small { (c : ℕ) → c < counts (design_of self.now.parts.now) → unsigned_abs (at values.now c) ≤ response_size (design_of self.now.parts.now) }
+        requires small { (c : ℕ) → c < counts (design_of self.now.parts.now) →
+            unsigned_abs (at values.now c) ≤ response_size (design_of self.now.parts.now) }
         ensures { IfOk result (λ v. Holds v.items (entries (design_of self.now.parts.now)) (λ j. weighed (design_of self.now.parts.now) j (at values.now))) }
     {
         let weighted = products_of(alloc, &self.weights, values)?;
@@ -86,7 +87,8 @@ impl<'a> Costs<'a> {
     /// The hessian, nu by nu, over `cost_den * square`, where `square` is the square of what the responses are over.
     pub fn hessian(&self, alloc: Global, square: i128) -> Result<Mat, AllocError>
         requires { square ≡ pos (response_scale (design_of self.now.parts.now) ^ 2) }
-        ensures { IfOk result (λ m. HoldsMatrix m (entries (design_of self.now.parts.now)) (entries (design_of self.now.parts.now)) (entries (design_of self.now.parts.now))
+        ensures { IfOk result (λ m.
+            HoldsMatrix m (entries (design_of self.now.parts.now)) (entries (design_of self.now.parts.now)) (entries (design_of self.now.parts.now))
             (λ i j. weighed (design_of self.now.parts.now) i (plan_cost (design_of self.now.parts.now) j) +ℤ own_cost (design_of self.now.parts.now) i j)) }
     {
         let count = self.plan.len();

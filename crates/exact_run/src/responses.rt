@@ -36,7 +36,8 @@ pub fn costs_of(
 ) -> Result<Vec<i128>, AllocError>
     requires ready { IsReady parts.now powers.now start.now plan.now }
     requires fits { CostsFit (design_of parts.now) (at start.now) (at plan.now) }
-    ensures { IfOk result (λ v. Holds v.items (counts (design_of parts.now)) (counted (design_of parts.now) (cost_run (design_of parts.now) (at start.now) (at plan.now)))) }
+    ensures { IfOk result (λ v.
+        Holds v.items (counts (design_of parts.now)) (counted (design_of parts.now) (cost_run (design_of parts.now) (at start.now) (at plan.now)))) }
 {
     let run = Run::new(alloc, parts, powers, start, plan)?;
     run.costs(alloc)

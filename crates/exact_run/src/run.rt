@@ -56,7 +56,8 @@ impl<'a> Run<'a> {
         requires stage { k < self.now.parts.now.stages }
         requires row { length row.now ≡ self.now.parts.now.states + self.now.parts.now.inputs + 1 }
         requires narrow { RowFits self.now.parts.now row.now (at self.now.start.now) (at self.now.plan.now) k }
-        ensures { result ≡ limit_at (design_of self.now.parts.now) (at self.now.start.now) (at self.now.plan.now) k (row_of_numbers self.now.parts.now row.now) }
+        ensures { result
+            ≡ limit_at (design_of self.now.parts.now) (at self.now.start.now) (at self.now.plan.now) k (row_of_numbers self.now.parts.now row.now) }
     {
         let n = self.parts.states;
         let p = self.parts.inputs;
@@ -92,7 +93,8 @@ impl<'a> Run<'a> {
     /// What each limit row has of the run, over `limit_den * plant_den^N`.
     pub fn rows(&self, alloc: Global) -> Result<Vec<i128>, AllocError>
         requires { RowsFit (design_of self.now.parts.now) (at self.now.start.now) (at self.now.plan.now) }
-        ensures { IfOk result (λ v. Holds v.items (rows (design_of self.now.parts.now)) (row_at (design_of self.now.parts.now) (at self.now.start.now) (at self.now.plan.now))) }
+        ensures { IfOk result (λ v.
+            Holds v.items (rows (design_of self.now.parts.now)) (row_at (design_of self.now.parts.now) (at self.now.start.now) (at self.now.plan.now))) }
     {
         let count = self.parts.stages * self.parts.stage_rows.rows() + self.parts.final_rows.rows();
         let mut out = Vec::new(alloc);

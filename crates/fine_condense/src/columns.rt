@@ -39,7 +39,8 @@ pub fn put_column(
 ) -> Result<(), AllocError>
     requires rows { IfOk column (λ v. length v.items ≡ length mat.old.mid.rows) }
     requires column { j < mat.old.mid.cols }
-    ensures { OnOk result ((height width : ℕ) → (f : ℕ → ℕ → Enclosure) → j < width → IfOk column (λ v. HoldsEnclosures v.items height (λ i. f i j)) →
+    ensures { OnOk result ((height width : ℕ) → (f : ℕ → ℕ → Enclosure) →
+        j < width → IfOk column (λ v. HoldsEnclosures v.items height (λ i. f i j)) →
         HoldsEncMatrix mat.old.mid mat.old.rad height width j f → HoldsEncMatrix mat.new.mid mat.new.rad height width (j + 1) f) }
 {
     let column = column?;

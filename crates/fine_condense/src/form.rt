@@ -40,8 +40,10 @@ struct FineNumbers {
 // Both, or the first of the quantities `prediction`, `hessian` and `rows` that is above `2^126`.
 fn fine_numbers(alloc: Global, parts: &DesignParts) -> Result<FineNumbers, CondenseFault>
     requires { IsDesign parts.now }
-    ensures costs { IfOk result (λ f. AreFineCosts parts.now f.costs.hess.mid f.costs.hess.rad f.costs.lin.mid f.costs.lin.rad f.costs.off.items f.costs.radius f.costs.size) }
-    ensures limits { IfOk result (λ f. AreFineLimits parts.now f.limits.g.mid f.limits.g.rad f.limits.e.mid f.limits.e.rad f.limits.bound.items f.limits.size) }
+    ensures costs { IfOk result (λ f.
+        AreFineCosts parts.now f.costs.hess.mid f.costs.hess.rad f.costs.lin.mid f.costs.lin.rad f.costs.off.items f.costs.radius f.costs.size) }
+    ensures limits { IfOk result (λ f.
+        AreFineLimits parts.now f.limits.g.mid f.limits.g.rad f.limits.e.mid f.limits.e.rad f.limits.bound.items f.limits.size) }
     ensures prediction { OnOk result (fine_prediction_size (design_of parts.now) ≤ 2 ^ 126) }
     ensures wide { (quantity : Quantity) → result ≡ Err (CondenseFault.TooWide quantity) → IsFirstWideIn true (design_of parts.now) quantity }
 {

@@ -51,7 +51,8 @@ module _ (p : DesignParts) (s : Plans) (first c : ℕ) (start plan : List Enc) (
   value_fits i l = both_room (pos (2 ^ 40) *ℤ bound_at (design_of p) i) (corner_limit (design_of p) s (c + 1) i) _ (brought_bound i l) (limit_within p s k.setting.design k.setting.policy c k.inside i l) (slack_room (design_of p) s k.setting.room)
 
   pub slack_within : (i : ℕ) → i < rows (design_of p) → 2 ^ 16 * unsigned_abs (least_slack (design_of p) s (c + 1) i) ≤ 2 ^ 126
-  slack_within i l = slack_size (pos (2 ^ 40) *ℤ bound_at (design_of p) i) (corner_limit (design_of p) s (c + 1) i) _ (brought_bound i l) (limit_within p s k.setting.design k.setting.policy c k.inside i l) (slack_room (design_of p) s k.setting.room)
+  slack_within i l = slack_size (pos (2 ^ 40) *ℤ bound_at (design_of p) i) (corner_limit (design_of p) s (c + 1) i) _ (brought_bound i l)
+      (limit_within p s k.setting.design k.setting.policy c k.inside i l) (slack_room (design_of p) s k.setting.room)
 
 -- ---- what slacks are over
 module _ (z : ℤ) (h : IsDenominator z) where

@@ -124,7 +124,8 @@ impl<'a> Corner<'a> {
     pub fn units(&self, alloc: Global) -> Result<i128, MarginFault>
         ensures units { let d = design_of self.now.run.parts.now in
             IfOk result (HasUnits (enclosed_corners d (plans_of self.now.policy.now)) (rows d) (self.now.number + 1)) }
-        ensures short { let d = design_of self.now.run.parts.now in (corner row : ℕ) (slack : Frac) → result ≡ Err (MarginFault.NoMargin corner row slack) →
+        ensures short { let d = design_of self.now.run.parts.now in (corner row : ℕ) (slack : Frac) →
+            result ≡ Err (MarginFault.NoMargin corner row slack) →
             (corner ≡ self.now.number + 1) × IsShortRow (enclosed_corners d (plans_of self.now.policy.now)) (rows d) (self.now.number + 1) row slack }
         ensures room { (quantity : Quantity) → result ≢ Err (MarginFault.TooWide quantity) }
     {

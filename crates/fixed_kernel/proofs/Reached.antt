@@ -189,7 +189,8 @@ stepped_stands k r lt n start lent ws e same taken h =
     }
 
 -- all words are lent
-pub lent_held : (k : Inside) → IsReached k → (s : Span) (lent : List ℤ) (n : Numbers) → n ≡ k.controller.now → s ≡ record { start = 0; len = n.words } → lent ≡ slice_range k.region.words s.start (s.start + s.len) → lent ≡ k.region.words
+pub lent_held : (k : Inside) → IsReached k → (s : Span) (lent : List ℤ) (n : Numbers) → n ≡ k.controller.now →
+    s ≡ record { start = 0; len = n.words } → lent ≡ slice_range k.region.words s.start (s.start + s.len) → lent ≡ k.region.words
 lent_held k r s lent n same e h =
     h ∙ ap (λ (t : Span). slice_range k.region.words t.start (t.start + t.len)) e ∙ lent_whole k.region.words n.words (held_long k r ∙ ap (λ (m : Numbers). m.words) (sym same))
 

@@ -61,7 +61,8 @@ pub row_word_room : (c : Numbers) (state plan : List ℤ) (i : ℕ) → IsContro
     unsigned_abs (row_base c state i) + abs_dot (row_of c.plan_rows i) plan < 2 ^ 63
 row_word_room c state plan i s narrow h w v = omega (arith, row_base_le c state plan i w v, (word_fit c s narrow).rows i h)
 
-pub next_word_room : (c : Numbers) (state plan : List ℤ) (old : ℤ) (i : ℕ) → IsController c → c.width ≤ 64 → i < length c.bounds → unsigned_abs old ≤ unsigned_abs c.clamp → AreWithin state (state_magnitudes c) → AreWithin plan (plan_magnitudes c) →
+pub next_word_room : (c : Numbers) (state plan : List ℤ) (old : ℤ) (i : ℕ) → IsController c → c.width ≤ 64 → i < length c.bounds →
+    unsigned_abs old ≤ unsigned_abs c.clamp → AreWithin state (state_magnitudes c) → AreWithin plan (plan_magnitudes c) →
     unsigned_abs old + ceil_div (unsigned_abs (row_base c state i) + abs_dot (row_of c.plan_rows i) plan) (2 ^ c.fraction_bits) < 2 ^ 63
 next_word_room c state plan old i s narrow h le w v =
     let mono = ceil_div_mono (unsigned_abs (row_base c state i) + abs_dot (row_of c.plan_rows i) plan) (row_absolute_sum c i) (2 ^ c.fraction_bits) (pow_pos c.fraction_bits) (row_base_le c state plan i w v) in
@@ -77,7 +78,8 @@ entry_sum_narrow c state multipliers j s narrow h w v =
 pub row_sum_is : (c : Numbers) (state plan : List ℤ) (i : ℕ) → row_base c state i +ℤ list_dot (row_of c.plan_rows i) plan ≡ row_sum c state plan i
 row_sum_is c state plan i = omega (arith, ints)
 
-pub next_sum_room : (c : Numbers) (state plan : List ℤ) (old : ℤ) (i : ℕ) → IsController c → c.width ≤ 64 → i < length c.bounds → unsigned_abs old ≤ unsigned_abs c.clamp → AreWithin state (state_magnitudes c) → AreWithin plan (plan_magnitudes c) →
+pub next_sum_room : (c : Numbers) (state plan : List ℤ) (old : ℤ) (i : ℕ) → IsController c → c.width ≤ 64 → i < length c.bounds →
+    unsigned_abs old ≤ unsigned_abs c.clamp → AreWithin state (state_magnitudes c) → AreWithin plan (plan_magnitudes c) →
     unsigned_abs old + ceil_div (unsigned_abs (row_sum c state plan i)) (2 ^ c.fraction_bits) < 2 ^ 63
 next_sum_room c state plan old i s narrow h le w v =
     let parts = unsigned_abs (row_base c state i) + abs_dot (row_of c.plan_rows i) plan in
@@ -160,7 +162,8 @@ row_base_fits c state i s narrow h w =
 
 -- ---- a run
 -- one more step may be made
-pub ready_in_words : (c : Numbers) (state entry_starts row_starts : List ℤ) (k : ℕ) → IsController c → IsWordSized c → AreWithin state (state_magnitudes c) → entry_starts ≡ entry_bases c state → row_starts ≡ row_bases c state → k < c.steps →
+pub ready_in_words : (c : Numbers) (state entry_starts row_starts : List ℤ) (k : ℕ) → IsController c → IsWordSized c →
+    AreWithin state (state_magnitudes c) → entry_starts ≡ entry_bases c state → row_starts ≡ row_bases c state → k < c.steps →
     IsReadyInWords c state entry_starts row_starts (with_raised c (after c state k))
 ready_in_words c state entry_starts row_starts k s words w e r lt = record {
   state_within = w;

@@ -13,5 +13,5 @@ pub record IsSpanned (r : Inside) : Type 0 where
   pub behind : (k : ℕ) → r.to ≤ k → at r.numbers.items k ≡ pos 0
 
 -- a row has one number for each column
-abbrev pub IsLong : ℕ → List ℤ → Type 0
-IsLong cols row = length row ≡ cols
+abbrev pub HasColumns : ℕ → List ℤ → Type 0
+HasColumns cols row = length row ≡ cols

@@ -7,7 +7,7 @@ use Rattle.fixed_kernel.specs.declared.word_machine.WordRoom.{WordRoom}
 use Rattle.fixed_kernel.specs.declared.word_machine.WordMachine.{WordMachine}
 
 -- its matrices and its clamp, and its factors fit half a word where it says so
-pub record IsFormOf (c : Numbers) (w : WordForm) : Type 0 where
+pub record IsWordFormOf (c : Numbers) (w : WordForm) : Type 0 where
   pub gains : w.gains ≡ c.dual_gains
   pub rows : w.rows ≡ c.plan_rows
   pub top : w.top ≡ c.clamp
@@ -24,5 +24,5 @@ pub record IsRoomFor (c : Numbers) (r : WordRoom) : Type 0 where
 -- both, of a controller whose steps are made in such words
 pub record IsMachineOf (c : Numbers) (m : WordMachine) : Type 0 where
   pub sized : IsWordSized c
-  pub form : IsFormOf c m.form
+  pub form : IsWordFormOf c m.form
   pub room : IsRoomFor c m.room

@@ -196,7 +196,8 @@ impl<'a> Kernel<'a> {
     pub fn multiplier(&self, i: usize) -> i128
         requires { i < self.now.controller.rows }
         ensures value { result ≡ at (iterate_of self.now).multipliers i }
-        ensures word { at (region_of self.now).words ((multipliers_span self.now.controller).start + i) ≡ result *ℤ pos (2 ^ lowering_of self.now.controller i) }
+        ensures word { at (region_of self.now).words ((multipliers_span self.now.controller).start + i)
+            ≡ result *ℤ pos (2 ^ lowering_of self.now.controller i) }
     {
         let raised = self.region.word(&self.spans.multipliers, i);
         lowered(self.controller.parts(), raised, i)

@@ -168,7 +168,8 @@ fn raised_multiplier_at(
     requires raised { unsigned_abs raised ≤ unsigned_abs c.now.clamp }
     requires exps { exps.now ≡ c.now.exps.items }
     requires in_range { i < length c.now.bound.items }
-    ensures { let lowering = lowering_of (numbers c.now) i in result ≡ next_multiplier (numbers c.now) state.now plan.now (floor_of raised (2 ^ lowering)) i *ℤ pos (2 ^ lowering) }
+    ensures { let lowering = lowering_of (numbers c.now) i in
+        result ≡ next_multiplier (numbers c.now) state.now plan.now (floor_of raised (2 ^ lowering)) i *ℤ pos (2 ^ lowering) }
 {
     // The products come first: they need the registers that the lowered ones would stay in.
     let row = row_products(c, narrow, state, plan, i);
@@ -272,7 +273,8 @@ pub fn advance(c: &ControllerParts, narrow: bool, words: &mut [i128])
     requires narrow { IsTrue narrow → HasNarrowFactors (numbers c.now) }
     requires long { length words.old ≡ c.now.words }
     requires ready { IsReadyToStep (numbers c.now) (state_in (numbers c.now) words.old) (made_in (numbers c.now) words.old) }
-    ensures { let state = state_in (numbers c.now) words.old in words.new ≡ words_of state (raised_step (numbers c.now) state (made_in (numbers c.now) words.old)) }
+    ensures { let state = state_in (numbers c.now) words.old in
+        words.new ≡ words_of state (raised_step (numbers c.now) state (made_in (numbers c.now) words.old)) }
 {
     let (state, rest) = words.split_at_mut(c.n);
     let (multipliers, rest) = rest.split_at_mut(c.m);

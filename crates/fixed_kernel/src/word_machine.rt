@@ -4,7 +4,7 @@ ghost use Rattle.qp_model.specs.machine.Controller.{numbers, IsSized};
 ghost use Rattle.qp_model.specs.machine.AbsoluteSums.{IsController};
 ghost use Rattle.fixed_kernel.specs.Factors.{HasNarrowFactors};
 ghost use Rattle.fixed_kernel.specs.WordForm.{IsWordSized};
-ghost use Rattle.fixed_kernel.specs.WordMachine.{IsFormOf, IsRoomFor, IsMachineOf};
+ghost use Rattle.fixed_kernel.specs.WordMachine.{IsWordFormOf, IsRoomFor, IsMachineOf};
 
 use crate::half::has_half_factors;
 use crate::word_mat::{WordMat, narrowed};
@@ -28,7 +28,7 @@ impl WordForm {
     fn of(alloc: Global, c: &ControllerParts) -> Result<WordForm, AllocError>
         requires sized { IsSized (numbers c.now) }
         requires narrow { HasNarrowFactors (numbers c.now) }
-        ensures { IfOk result (IsFormOf (numbers c.now)) }
+        ensures { IfOk result (IsWordFormOf (numbers c.now)) }
     {
         let gains = WordMat::of(alloc, &c.w_mat)?;
         let rows = WordMat::of(alloc, &c.g_mat)?;

@@ -76,13 +76,13 @@ pub struct WordMat {
 impl Model for WordMat {
     ghost use Rattle.std.specs.Prelude.{All};
     ghost use Rattle.mat_int.specs.Matrix.{Matrix};
-    ghost use Rattle.fixed_kernel.specs.WordLines.{IsLong};
+    ghost use Rattle.fixed_kernel.specs.WordLines.{HasColumns};
 
     ghost Value = { Matrix };
 
     ghost view = { λ m. record { cols = m.cols; rows = m.rows.items } };
 
-    ghost invariant = { λ m. All (IsLong m.cols) m.rows.items };
+    ghost invariant = { λ m. All (HasColumns m.cols) m.rows.items };
 }
 
 impl WordMat {

@@ -8,7 +8,7 @@ ghost use Rattle.mat_products.specs.Narrow.{IsNarrow};
 ghost use Rattle.fixed_kernel.specs.Raised.{with_raised};
 ghost use Rattle.fixed_kernel.specs.Spans.{words_of, made_of, state_in, made_in};
 ghost use Rattle.fixed_kernel.specs.WordForm.{IsWordSized};
-ghost use Rattle.fixed_kernel.specs.WordMachine.{IsFormOf, IsMachineOf};
+ghost use Rattle.fixed_kernel.specs.WordMachine.{IsWordFormOf, IsMachineOf};
 
 use crate::word_bases::{put_entry_bases, put_row_bases};
 use crate::word_machine::{WordForm, WordMachine};
@@ -55,7 +55,7 @@ fn finish_in_words(
 )
     requires sound { IsController (numbers c.now) }
     requires words { IsWordSized (numbers c.now) }
-    requires form { IsFormOf (numbers c.now) form.now }
+    requires form { IsWordFormOf (numbers c.now) form.now }
     requires state { AreWithin state.now (state_magnitudes (numbers c.now)) }
     requires entry_room { length entry_room.old ≡ length c.now.t.items }
     requires row_room { length row_room.old ≡ length c.now.bound.items }
@@ -97,7 +97,8 @@ impl WordMachine {
         requires state { AreWithin (state_in (numbers c.now) words.old) (state_magnitudes (numbers c.now)) }
         requires start { made_in (numbers c.now) words.old ≡ with_raised (numbers c.now) (after (numbers c.now) (state_in (numbers c.now) words.old) made) }
         ensures machine { IsMachineOf (numbers c.now) self.new }
-        ensures words { let state = state_in (numbers c.now) words.old in words.new ≡ words_of state (with_raised (numbers c.now) (after (numbers c.now) state c.now.steps)) }
+        ensures words { let state = state_in (numbers c.now) words.old in
+            words.new ≡ words_of state (with_raised (numbers c.now) (after (numbers c.now) state c.now.steps)) }
     {
         let (state, rest) = words.split_at_mut(c.n);
         let (multipliers, rest) = rest.split_at_mut(c.m);

@@ -9,7 +9,7 @@ ghost use Rattle.qp_model.specs.machine.Within.{AreWithin};
 ghost use Rattle.fixed_kernel.specs.Raised.{unraised, with_raised, raised_step};
 ghost use Rattle.fixed_kernel.specs.Spans.{made_of};
 ghost use Rattle.fixed_kernel.specs.WordForm.{entry_bases, row_bases, IsWordSized, HasHalfFactors, IsReadyInWords};
-ghost use Rattle.fixed_kernel.specs.WordMachine.{IsFormOf};
+ghost use Rattle.fixed_kernel.specs.WordMachine.{IsWordFormOf};
 
 use crate::step::{exponents_of, lowering_at};
 use crate::word_machine::WordForm;
@@ -29,7 +29,7 @@ fn word_entry_at(
 ) -> i64
     requires sound { IsController (numbers c.now) }
     requires words { IsWordSized (numbers c.now) }
-    requires form { IsFormOf (numbers c.now) form.now }
+    requires form { IsWordFormOf (numbers c.now) form.now }
     requires half { IsTrue half → HasHalfFactors (numbers c.now) }
     requires state { AreWithin state.now (state_magnitudes (numbers c.now)) }
     requires bases { bases.now ≡ entry_bases (numbers c.now) state.now }
@@ -54,7 +54,7 @@ fn word_entries(
 )
     requires sound { IsController (numbers c.now) }
     requires words { IsWordSized (numbers c.now) }
-    requires form { IsFormOf (numbers c.now) form.now }
+    requires form { IsWordFormOf (numbers c.now) form.now }
     requires half { IsTrue half → HasHalfFactors (numbers c.now) }
     requires state { AreWithin state.now (state_magnitudes (numbers c.now)) }
     requires bases { bases.now ≡ entry_bases (numbers c.now) state.now }
@@ -79,7 +79,7 @@ fn word_plan(
 )
     requires sound { IsController (numbers c.now) }
     requires words { IsWordSized (numbers c.now) }
-    requires form { IsFormOf (numbers c.now) form.now }
+    requires form { IsWordFormOf (numbers c.now) form.now }
     requires state { AreWithin state.now (state_magnitudes (numbers c.now)) }
     requires bases { bases.now ≡ entry_bases (numbers c.now) state.now }
     requires multipliers { AreWithin multipliers.now (clamp_magnitudes (numbers c.now)) }
@@ -106,7 +106,7 @@ fn word_row_sum(
 ) -> i64
     requires sound { IsController (numbers c.now) }
     requires words { IsWordSized (numbers c.now) }
-    requires form { IsFormOf (numbers c.now) form.now }
+    requires form { IsWordFormOf (numbers c.now) form.now }
     requires half { IsTrue half → HasHalfFactors (numbers c.now) }
     requires state { AreWithin state.now (state_magnitudes (numbers c.now)) }
     requires bases { bases.now ≡ row_bases (numbers c.now) state.now }
@@ -133,7 +133,7 @@ fn word_multiplier_at(
 ) -> i64
     requires sound { IsController (numbers c.now) }
     requires words { IsWordSized (numbers c.now) }
-    requires form { IsFormOf (numbers c.now) form.now }
+    requires form { IsWordFormOf (numbers c.now) form.now }
     requires half { IsTrue half → HasHalfFactors (numbers c.now) }
     requires state { AreWithin state.now (state_magnitudes (numbers c.now)) }
     requires bases { bases.now ≡ row_bases (numbers c.now) state.now }
@@ -141,7 +141,8 @@ fn word_multiplier_at(
     requires raised { unsigned_abs raised ≤ unsigned_abs c.now.clamp }
     requires exps { exps.now ≡ c.now.exps.items }
     requires in_range { i < length c.now.bound.items }
-    ensures { let lowering = lowering_of (numbers c.now) i in result ≡ next_multiplier (numbers c.now) state.now plan.now (floor_of raised (2 ^ lowering)) i *ℤ pos (2 ^ lowering) }
+    ensures { let lowering = lowering_of (numbers c.now) i in
+        result ≡ next_multiplier (numbers c.now) state.now plan.now (floor_of raised (2 ^ lowering)) i *ℤ pos (2 ^ lowering) }
 {
     let sum = word_row_sum(c, form, half, state, bases, plan, i);
     let lowering = lowering_at(c, exps, i);
@@ -167,7 +168,7 @@ fn word_rows(
 )
     requires sound { IsController (numbers c.now) }
     requires words { IsWordSized (numbers c.now) }
-    requires form { IsFormOf (numbers c.now) form.now }
+    requires form { IsWordFormOf (numbers c.now) form.now }
     requires half { IsTrue half → HasHalfFactors (numbers c.now) }
     requires state { AreWithin state.now (state_magnitudes (numbers c.now)) }
     requires bases { bases.now ≡ row_bases (numbers c.now) state.now }
@@ -193,7 +194,7 @@ fn word_multipliers(
 )
     requires sound { IsController (numbers c.now) }
     requires words { IsWordSized (numbers c.now) }
-    requires form { IsFormOf (numbers c.now) form.now }
+    requires form { IsWordFormOf (numbers c.now) form.now }
     requires state { AreWithin state.now (state_magnitudes (numbers c.now)) }
     requires bases { bases.now ≡ row_bases (numbers c.now) state.now }
     requires plan { AreWithin plan.now (plan_magnitudes (numbers c.now)) }
@@ -231,7 +232,7 @@ pub fn word_step(
 )
     requires sound { IsController (numbers c.now) }
     requires words { IsWordSized (numbers c.now) }
-    requires form { IsFormOf (numbers c.now) form.now }
+    requires form { IsWordFormOf (numbers c.now) form.now }
     requires ready { IsReadyInWords (numbers c.now) state.now entry_starts.now row_starts.now (made_of plan.old multipliers.old sums.old) }
     ensures { made_of plan.new multipliers.new sums.new ≡ raised_step (numbers c.now) state.now (made_of plan.old multipliers.old sums.old) }
 {
@@ -254,7 +255,7 @@ pub fn word_steps(
 )
     requires sound { IsController (numbers c.now) }
     requires words { IsWordSized (numbers c.now) }
-    requires form { IsFormOf (numbers c.now) form.now }
+    requires form { IsWordFormOf (numbers c.now) form.now }
     requires state { AreWithin state.now (state_magnitudes (numbers c.now)) }
     requires entry_starts { entry_starts.now ≡ entry_bases (numbers c.now) state.now }
     requires row_starts { row_starts.now ≡ row_bases (numbers c.now) state.now }

@@ -36,7 +36,8 @@ pub fn curvature(alloc: Global, c: &Condensed) -> Result<StepExponents, Curvatur
 
     // The cause of a refusal; and the other way round, with nothing but out of memory in between.
     ensures refused { OfDesign c.now (λ d. IfErr result (IsExponentRefused d)) }
-    ensures every_refusal { OfDesign c.now (λ d. (e : CurvatureFault) → HasExponentCause d e → (result ≡ Err e) ⊎ (result ≡ Err CurvatureFault.Memory)) }
+    ensures every_refusal { OfDesign c.now (λ d.
+        (e : CurvatureFault) → HasExponentCause d e → (result ≡ Err e) ⊎ (result ≡ Err CurvatureFault.Memory)) }
     ensures accepted { OfDesign c.now (λ d. (s1 : ℕ) → curvature_quantity d ≤ 2 ^ 126 → IsPlainExponent d s1 → s1 ≤ 40
         → IsOk result ⊎ (result ≡ Err CurvatureFault.Memory)) }
 

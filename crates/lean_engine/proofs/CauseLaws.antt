@@ -13,13 +13,13 @@ use Rattle.design_refusal.specs.declared.refusal.Refusal.{Refusal}
 use Rattle.design_refusal.specs.declared.refusal.Refusal.TheVariants.{Memory, NoMargin, Curvature, TooManySteps, TooFine, TooWide}
 use Rattle.design_engine.proofs.TestLaws.{IsOne, IsNone, Sized, sized_one, sized_none}
 use Rattle.design_engine.proofs.StageLaws.{OfAim, aim_told, aim_one, aim_none, OfForm, form_told, form_passed, form_one, form_none, OfCorners, short_told, corner_told, corner_passed, corners_one, corners_none}
-use Rattle.lean_engine.specs.Refusals.{excess_size_at, multiplier_size_at, aim_at, PassesScaling, PassesBound, PassesAll, HasCause, IsTooWide, HasWideForm, HasWideAim, HasMissedAim}
-use Rattle.lean_engine.specs.Order.{CausesLaw, PassingLaw}
+use Rattle.lean_engine.specs.Refusals.{policy_excess_size, multiplier_size_at, aim_at, PassesScaling, PassesBound, PassesLean, HasLeanCause, IsTooWideLean, HasWideLeanForm, HasWideLeanAim, HasMissedLeanAim}
+use Rattle.lean_engine.specs.Order.{LeanCausesLaw, LeanPassingLaw}
 
 -- ---- the tests
 module _ (d : Design) (t : Targets) (plans references : Plans) where
   abbrev AfterExponent : Margin → ℕ → Refusal → Type 0
-  AfterExponent m s = Sized Excess (excess_size_at d plans references) (Sized Multiplier (multiplier_size_at d t plans references m)
+  AfterExponent m s = Sized Excess (policy_excess_size d plans references) (Sized Multiplier (multiplier_size_at d t plans references m)
       (OfAim d (aim_at d t plans references m) s))
 
   abbrev AfterMargin : Margin → Refusal → Type 0
@@ -38,16 +38,16 @@ module _ (d : Design) (t : Targets) (plans references : Plans) where
   from_bound : (e : Refusal) (m : Margin) (s : ℕ) → PassesBound d t plans references m s → OfAim d (aim_at d t plans references m) s e → Whole e
   from_bound e m s h a = from_scaling e m s h.before (inr (h.excess, inr (h.multiplier, a)))
 
-  of_form : (quantity : Quantity) → HasWideForm d t plans quantity → Whole (TooWide quantity)
+  of_form : (quantity : Quantity) → HasWideLeanForm d t plans quantity → Whole (TooWide quantity)
   of_form quantity h = from_margin _ h.0 h.1 (form_told d (AfterExponent h.0) (TooWide quantity) h.2)
 
-  of_aim : (quantity : Quantity) → HasWideAim d t plans references quantity → Whole (TooWide quantity)
+  of_aim : (quantity : Quantity) → HasWideLeanAim d t plans references quantity → Whole (TooWide quantity)
   of_aim quantity h = from_bound _ h.0 h.1 h.2 (aim_told d (aim_at d t plans references h.0) h.1 (TooWide quantity) h.3)
 
-  missed : (e : Refusal) → HasMissedAim d t plans references e → Whole e
+  missed : (e : Refusal) → HasMissedLeanAim d t plans references e → Whole e
   missed e h = from_bound e h.0 h.1 h.2 (aim_told d (aim_at d t plans references h.0) h.1 e h.3)
 
-  wide_told : (quantity : Quantity) → IsTooWide d t plans references quantity → Whole (TooWide quantity)
+  wide_told : (quantity : Quantity) → IsTooWideLean d t plans references quantity → Whole (TooWide quantity)
   wide_told Prediction (inl h) = corner_told d plans AfterMargin Prediction h
   wide_told Prediction (inr h) = of_form Prediction h
   wide_told CornerSlack h = corner_told d plans AfterMargin CornerSlack h
@@ -63,7 +63,7 @@ module _ (d : Design) (t : Targets) (plans references : Plans) where
   wide_told Excess h = from_scaling _ h.0 h.1 h.2 (inl (refl, h.3))
   wide_told Stay h = absurd h
 
-  told : (e : Refusal) → HasCause d t plans references e → Whole e
+  told : (e : Refusal) → HasLeanCause d t plans references e → Whole e
   told Memory h = absurd h
   told (NoMargin corner row slack) h = short_told d plans AfterMargin corner row slack h.0 h.1
   told Curvature h = from_margin _ h.0 h.1 (form_told d (AfterExponent h.0) Curvature h.2)
@@ -72,14 +72,14 @@ module _ (d : Design) (t : Targets) (plans references : Plans) where
   told (TooWide quantity) h = wide_told quantity h
 
 -- ---- there is one at most, and none where all tests are passed
-pub one_cause : CausesLaw
+pub one_cause : LeanCausesLaw
 one_cause p plans references t e other design policy h k =
     let d = design_of p in
     corners_one p plans (AfterMargin d t plans references) design policy
     (λ m. form_one d (AfterExponent d t plans references m) (λ s h. sized_one Excess _ _ (sized_one Multiplier _ _ (aim_one p (aim_at d t plans references m) design s))))
     e other (told d t plans references e h) (told d t plans references other k)
 
-pub no_cause : PassingLaw
+pub no_cause : LeanPassingLaw
 no_cause p plans references t m s f e design policy h k =
     let d = design_of p in
     let before = h.before.before in

@@ -24,10 +24,10 @@ use Rattle.design_engine.specs.declared.aimed.Aim.{Aim}
 use Rattle.design_engine.proofs.AnswerLaws.{carried_with}
 use Rattle.design_engine.proofs.BuiltFacts.{cost_limited}
 use Rattle.design_engine.proofs.PromiseLaws.{made_above_from}
-use Rattle.lean_engine.specs.Lean.{bound_of, lean_aim, IsLean, LeanLaw}
+use Rattle.lean_engine.specs.Lean.{bound_of, lean_aim, IsLeanBuilt, LeanLaw}
 use Rattle.lean_engine.proofs.LeanFacts.{bound_some}
 
-module _ (p : DesignParts) (plans references : Plans) (c : Numbers) (b : Printed) (h : IsLean p plans references c b) where
+module _ (p : DesignParts) (plans references : Plans) (c : Numbers) (b : Printed) (h : IsLeanBuilt p plans references c b) where
   abbrev d : Design
   d = design_of p
 

@@ -28,8 +28,8 @@ use Rattle.qp_model.specs.machine.Machine.{exponent_of}
 use Rattle.qp_model.specs.machine.AbsoluteSums.{IsController}
 use Rattle.qp_model.specs.declared.bounds.Bounds.{Bounds}
 use Rattle.hessian_check.specs.RowExponents.{exponent_in}
-use Rattle.lean_engine.specs.Lean.{bound_of, lean_aim, IsLean}
-use Rattle.lean_engine.specs.Refusals.{excess_at, excess_size_at}
+use Rattle.lean_engine.specs.Lean.{bound_of, lean_aim, IsLeanBuilt}
+use Rattle.lean_engine.specs.Refusals.{policy_excess, policy_excess_size}
 use Rattle.lean_engine.specs.Priced.{IsBoundOf, IsBound, HasBoundCause, IsLeanFor, IsPriced, HasPriceCause}
 use Rattle.lean_engine.specs.declared.bounds.Bound.{Bound}
 
@@ -39,7 +39,7 @@ refused_map p q f e (inr h) = inr (f e h)
 
 -- ---- the excess and R
 module _ (d : Design) (t : Targets) (plans references : Plans) where
-  pub multiplier_caused : (units : ℕ) (x : ℕ) (share : ℕ) (quantity : Quantity) → excess_size_at d plans references ≤ 2 ^ 126 → x ≡ excess_at d plans references →
+  pub multiplier_caused : (units : ℕ) (x : ℕ) (share : ℕ) (quantity : Quantity) → policy_excess_size d plans references ≤ 2 ^ 126 → x ≡ policy_excess d plans references →
       share ≡ floor_target t → (lean_multiplier_size units x share ≤ 2 ^ 126 → ⊥) → quantity ≡ Multiplier → (e : Refusal) → e ≡ TooWide quantity →
       IsRefusedFor (HasBoundCause d t plans references units) e
   multiplier_caused units x share quantity room f g refuted named e is = inr (inr (is ∙ ap TooWide named, (room, rw (f, g) at (above (lean_multiplier_size units x share) refuted))))
@@ -47,7 +47,7 @@ module _ (d : Design) (t : Targets) (plans references : Plans) where
       above : (n : ℕ) → (n ≤ 2 ^ 126 → ⊥) → 2 ^ 126 < n
       above n refuted = omega (arith, refuted)
 
-  pub bound_with : (units : ℤ) (x : Bound) (share : ℕ) → x.units ≡ units → x.excess ≡ pos (excess_at d plans references) → excess_size_at d plans references ≤ 2 ^ 126 →
+  pub bound_with : (units : ℤ) (x : Bound) (share : ℕ) → x.units ≡ units → x.excess ≡ pos (policy_excess d plans references) → policy_excess_size d plans references ≤ 2 ^ 126 →
       share ≡ floor_target t → x.r ≡ pos (lean_multiplier (unsigned_abs units) (unsigned_abs x.excess) share) →
       lean_multiplier_size (unsigned_abs units) (unsigned_abs x.excess) share ≤ 2 ^ 126 → IsBound d t plans references units x
   bound_with units x share e f room g is size = record {
@@ -67,11 +67,11 @@ module _ (d : Design) (t : Targets) (plans references : Plans) where
 
   -- ---- the aim
   aim_is : (units : ℤ) (x : Bound) → IsBound d t plans references units x →
-      lean_aim t (unsigned_abs x.units) (unsigned_abs x.excess) ≡ lean_aim t (unsigned_abs units) (excess_at d plans references)
+      lean_aim t (unsigned_abs x.units) (unsigned_abs x.excess) ≡ lean_aim t (unsigned_abs units) (policy_excess d plans references)
   aim_is units x h = (λ i. lean_aim t (unsigned_abs (h.units_are i)) (unsigned_abs (h.excess_is i)))
 
   room_is : (units : ℤ) (x : Bound) → IsBound d t plans references units x →
-      lean_multiplier_size (unsigned_abs units) (excess_at d plans references) (floor_target t) ≤ 2 ^ 126
+      lean_multiplier_size (unsigned_abs units) (policy_excess d plans references) (floor_target t) ≤ 2 ^ 126
   room_is units x h = subst (λ (n : ℕ). n ≤ 2 ^ 126) (λ i. lean_multiplier_size (unsigned_abs (h.units_are i)) (unsigned_abs (h.excess_is i)) (floor_target t)) h.bound.room
 
   pub aim_passed : (units : ℤ) (x : Bound) (s : ℕ) → IsBound d t plans references units x →
@@ -107,7 +107,7 @@ lean_from p x c b n t eps e f g made h k l bounds = record {
 
 pub built_from : (p : DesignParts) (plans references : Plans) (m : Margin) (x : Bound) (c : Numbers) (b : Printed) → IsPolicyFor (design_of p) plans →
     IsPolicyFor (design_of p) references → IsMargin (design_of p) plans m → pos 1 ≤ℤ m.units → IsBound (design_of p) (targets_of p) plans references m.units x →
-    IsLeanFor p x c b → IsLean p plans references c b
+    IsLeanFor p x c b → IsLeanBuilt p plans references c b
 built_from p plans references m x c b policy reference margin slack h k = record {
   policy = policy;
   reference = reference;

@@ -15,7 +15,7 @@ use Rattle.exact_margin.specs.Corners as corners
 use Rattle.exact_margin.specs.Corners.{HasCornerRoom, IsFirstShort}
 use Rattle.exact_margin.specs.declared.fault.MarginFault.{MarginFault}
 use Rattle.exact_margin.specs.declared.fault.MarginFault.TheVariants.{Memory as margin_memory, TooWide as margin_wide, NoMargin as margin_none}
-use Rattle.plan_excess.specs.Fault.{IsFault}
+use Rattle.plan_excess.specs.Fault.{IsExcessFault}
 use Rattle.plan_excess.specs.Refusing.{of_excess}
 use Rattle.plan_excess.specs.declared.fault.ExcessFault.{ExcessFault}
 use Rattle.plan_excess.specs.declared.fault.ExcessFault.TheVariants.{Memory as excess_memory, TooWide as excess_wide}
@@ -25,14 +25,14 @@ use Rattle.design_engine.specs.Refusals.{PassesMargin}
 use Rattle.exact_margin.specs.Refusing.{of_margin}
 use Rattle.design_refusal.specs.declared.refusal.Refusal.{Refusal}
 use Rattle.design_refusal.specs.declared.refusal.Refusal.TheVariants.{Memory, NoMargin, Curvature, TooManySteps, TooFine, TooWide}
-use Rattle.lean_engine.specs.Refusals.{excess_at, excess_size_at, aim_at, PassesScaling, PassesBound, PassesAll, HasCause, IsRefused, IsTooWide}
+use Rattle.lean_engine.specs.Refusals.{policy_excess, policy_excess_size, aim_at, PassesScaling, PassesBound, PassesLean, HasLeanCause, IsRefusedLean, IsTooWideLean}
 use Rattle.lean_engine.specs.Priced.{HasBoundCause, IsPriced, HasPriceCause}
 use Rattle.lean_engine.specs.Lean.{lean_aim}
 use Rattle.lean_engine.proofs.CauseLaws.{one_cause, no_cause}
 
 module _ (d : Design) (t : Targets) (plans references : Plans) where
   -- ---- the corners
-  corner_wide : (quantity : Quantity) → corners.IsFirstWideCorner d plans quantity → IsTooWide d t plans references quantity
+  corner_wide : (quantity : Quantity) → corners.IsFirstWideCorner d plans quantity → IsTooWideLean d t plans references quantity
   corner_wide Prediction h = inl h
   corner_wide CornerSlack h = h
   corner_wide CornerCost h = h
@@ -50,13 +50,13 @@ module _ (d : Design) (t : Targets) (plans references : Plans) where
   pub margin_refused : (r : Result Margin MarginFault) (fault : MarginFault) → r ≡ Err fault →
       ((quantity : Quantity) → (r ≡ Err (margin_wide quantity)) ↔ corners.IsFirstWideCorner d plans quantity) →
       ((corner row : ℕ) (slack : Frac) → r ≡ Err (margin_none corner row slack) → HasCornerRoom d plans × IsFirstShort d plans corner row slack) →
-      (e : Refusal) → e ≡ of_margin fault → IsRefused d t plans references e
+      (e : Refusal) → e ≡ of_margin fault → IsRefusedLean d t plans references e
   margin_refused r margin_memory is wide short e f = inl f
   margin_refused r (margin_wide quantity) is wide short e f = rw f (inr (corner_wide quantity ((wide quantity).0 is)))
   margin_refused r (margin_none corner row slack) is wide short e f = rw f (inr (short corner row slack is))
 
   -- ---- the form
-  wide_form : (m : Margin) → PassesMargin d t plans m → (quantity : Quantity) → IsFormWide d quantity → IsTooWide d t plans references quantity
+  wide_form : (m : Margin) → PassesMargin d t plans m → (quantity : Quantity) → IsFormWide d quantity → IsTooWideLean d t plans references quantity
   wide_form m h Prediction k = inr (m, h, k)
   wide_form m h CornerSlack k = absurd k
   wide_form m h CornerCost k = absurd k
@@ -71,7 +71,7 @@ module _ (d : Design) (t : Targets) (plans references : Plans) where
   wide_form m h Excess k = absurd k
   wide_form m h Stay k = absurd k
 
-  pub form_caused : (m : Margin) → PassesMargin d t plans m → (e : Refusal) → IsRefusedFor (HasFormCause d) e → IsRefused d t plans references e
+  pub form_caused : (m : Margin) → PassesMargin d t plans m → (e : Refusal) → IsRefusedFor (HasFormCause d) e → IsRefusedLean d t plans references e
   form_caused m h e (inl memory) = inl memory
   form_caused m h Memory (inr k) = absurd k
   form_caused m h (NoMargin corner row slack) (inr k) = absurd k
@@ -81,7 +81,7 @@ module _ (d : Design) (t : Targets) (plans references : Plans) where
   form_caused m h (TooWide quantity) (inr k) = inr (wide_form m h quantity k)
 
   -- ---- the excess
-  pub excess_refused : (units : ℕ) (fault : ExcessFault) → IsFault (excess_size_at d plans references) fault → (e : Refusal) → e ≡ of_excess fault →
+  pub excess_refused : (units : ℕ) (fault : ExcessFault) → IsExcessFault (policy_excess_size d plans references) fault → (e : Refusal) → e ≡ of_excess fault →
       IsRefusedFor (HasBoundCause d t plans references units) e
   excess_refused units excess_memory h e f = inl f
   excess_refused units (excess_wide quantity) (inl memory) e f = absurd (search rules)
@@ -92,7 +92,7 @@ module _ (d : Design) (t : Targets) (plans references : Plans) where
 
   -- ---- the aim
   wide_aim : (m : Margin) (s : ℕ) → PassesBound d t plans references m s → (quantity : Quantity) → IsAimWide d (aim_at d t plans references m) s quantity →
-      IsTooWide d t plans references quantity
+      IsTooWideLean d t plans references quantity
   wide_aim m s h Prediction k = absurd k
   wide_aim m s h CornerSlack k = absurd k
   wide_aim m s h CornerCost k = absurd k
@@ -108,7 +108,7 @@ module _ (d : Design) (t : Targets) (plans references : Plans) where
   wide_aim m s h Stay k = absurd k
 
   aim_caused : (m : Margin) (s : ℕ) → PassesBound d t plans references m s → (e : Refusal) → HasAimCause d (aim_at d t plans references m) s e →
-      HasCause d t plans references e
+      HasLeanCause d t plans references e
   aim_caused m s h Memory k = absurd k
   aim_caused m s h (NoMargin corner row slack) k = absurd k
   aim_caused m s h Curvature k = absurd k
@@ -118,14 +118,14 @@ module _ (d : Design) (t : Targets) (plans references : Plans) where
 
   -- all of these tests
   pub price_caused : (m : Margin) (s : ℕ) → PassesScaling d t plans m s → (e : Refusal) →
-      IsRefusedFor (HasPriceCause d t plans references (unsigned_abs m.units) s) e → IsRefused d t plans references e
+      IsRefusedFor (HasPriceCause d t plans references (unsigned_abs m.units) s) e → IsRefusedLean d t plans references e
   price_caused m s h e (inl memory) = inl memory
   price_caused m s h e (inr (inl (inl wide))) = rw wide.0 (inr (m, s, h, wide.1))
   price_caused m s h e (inr (inl (inr wide))) = rw wide.0 (inr (m, s, h, wide.1))
   price_caused m s h e (inr (inr k)) = inr (aim_caused m s (record { before = h; excess = k.0; multiplier = k.1.0 }) e k.1.1)
 
   pub price_passed : (m : Margin) (s : ℕ) → PassesScaling d t plans m s → (k : IsPriced d t plans references (unsigned_abs m.units) s) →
-      PassesAll d t plans references m s k.bits
+      PassesLean d t plans references m s k.bits
   price_passed m s h k = record { before = record { before = h; excess = k.excess; multiplier = k.multiplier }; aim = k.aim }
 
 -- ---- each cause is answered, and so is what passes every test
@@ -134,17 +134,17 @@ pub record IsPassed (d : Design) (t : Targets) (plans references : Plans) : Type
   pub margin : Margin
   pub exponent : ℕ
   pub bits : ℕ
-  pub passes : PassesAll d t plans references margin exponent bits
+  pub passes : PassesLean d t plans references margin exponent bits
 
 module _ (p : DesignParts) (t : Targets) (plans references : Plans) (design : IsDesign p) (policy : IsPolicyFor (design_of p) plans) where
-  pub every_from : {T : Type 0} (r : Result T Refusal) → IfErr r (IsRefused (design_of p) t plans references) → OnOk r (IsPassed (design_of p) t plans references) →
-      (e : Refusal) → HasCause (design_of p) t plans references e → (r ≡ Err e) ⊎ (r ≡ Err Memory)
+  pub every_from : {T : Type 0} (r : Result T Refusal) → IfErr r (IsRefusedLean (design_of p) t plans references) → OnOk r (IsPassed (design_of p) t plans references) →
+      (e : Refusal) → HasLeanCause (design_of p) t plans references e → (r ≡ Err e) ⊎ (r ≡ Err Memory)
   every_from (Ok x) refused h e cause = absurd (no_cause p plans references t h.margin h.exponent h.bits e design policy h.passes cause)
   every_from (Err o) (inl memory) h e cause = inr (ap Err memory)
   every_from (Err o) (inr other) h e cause = inl (ap Err (one_cause p plans references t o e design policy other cause))
 
-  pub accepted_from : {T : Type 0} (r : Result T Refusal) → IfErr r (IsRefused (design_of p) t plans references) →
-      (m : Margin) (s f : ℕ) → PassesAll (design_of p) t plans references m s f → IsOk r ⊎ (r ≡ Err Memory)
+  pub accepted_from : {T : Type 0} (r : Result T Refusal) → IfErr r (IsRefusedLean (design_of p) t plans references) →
+      (m : Margin) (s f : ℕ) → PassesLean (design_of p) t plans references m s f → IsOk r ⊎ (r ≡ Err Memory)
   accepted_from (Ok x) refused m s f passes = inl refl
   accepted_from (Err o) (inl memory) m s f passes = inr (ap Err memory)
   accepted_from (Err o) (inr other) m s f passes = absurd (no_cause p plans references t m s f o design policy passes other)

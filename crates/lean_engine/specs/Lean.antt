@@ -30,7 +30,7 @@ lean_aim t units excess = record {
 
 -- the controller and the bounds are those of a design, a policy and reference plans: the bounds print the least slack of the policy's plans, and the excess that
 -- the reference plans show of them
-pub record IsLean (p : DesignParts) (plans references : Plans) (c : Numbers) (b : Printed) : Type 0 where
+pub record IsLeanBuilt (p : DesignParts) (plans references : Plans) (c : Numbers) (b : Printed) : Type 0 where
   pub policy : IsPolicyFor (design_of p) plans
   pub reference : IsPolicyFor (design_of p) references
   -- the greatest cost of the corners is in no bound
@@ -45,4 +45,4 @@ pub record IsLean (p : DesignParts) (plans references : Plans) (c : Numbers) (b 
 
 -- The controller keeps the whole promise of the bounds, at every state of the box, whatever the reference plans are; and the bounds meet the targets.
 abbrev pub LeanLaw : Type 0
-LeanLaw = (p : DesignParts) (plans references : Plans) (c : Numbers) (b : Printed) → IsLean p plans references c b → KeepsPromise p c b
+LeanLaw = (p : DesignParts) (plans references : Plans) (c : Numbers) (b : Printed) → IsLeanBuilt p plans references c b → KeepsPromise p c b

@@ -5,13 +5,13 @@ use Rattle.qp_model.specs.problem.Policy.{Plans, IsPolicyFor}
 use Rattle.qp_model.specs.declared.design_parts.DesignParts.{DesignParts}
 use Rattle.qp_model.specs.declared.bounds.Margin.{Margin}
 use Rattle.design_engine.specs.Targets.{Targets}
-use Rattle.lean_engine.specs.Refusals.{HasCause, PassesAll}
+use Rattle.lean_engine.specs.Refusals.{HasLeanCause, PassesLean}
 use Rattle.design_refusal.specs.declared.refusal.Refusal.{Refusal}
 
-abbrev pub CausesLaw : Type 0
-CausesLaw = (p : DesignParts) (plans references : Plans) (t : Targets) (e other : Refusal) → IsDesign p → IsPolicyFor (design_of p) plans →
-    HasCause (design_of p) t plans references e → HasCause (design_of p) t plans references other → e ≡ other
+abbrev pub LeanCausesLaw : Type 0
+LeanCausesLaw = (p : DesignParts) (plans references : Plans) (t : Targets) (e other : Refusal) → IsDesign p → IsPolicyFor (design_of p) plans →
+    HasLeanCause (design_of p) t plans references e → HasLeanCause (design_of p) t plans references other → e ≡ other
 
-abbrev pub PassingLaw : Type 0
-PassingLaw = (p : DesignParts) (plans references : Plans) (t : Targets) (m : Margin) (s f : ℕ) (e : Refusal) → IsDesign p → IsPolicyFor (design_of p) plans →
-    PassesAll (design_of p) t plans references m s f → ¬ HasCause (design_of p) t plans references e
+abbrev pub LeanPassingLaw : Type 0
+LeanPassingLaw = (p : DesignParts) (plans references : Plans) (t : Targets) (m : Margin) (s f : ℕ) (e : Refusal) → IsDesign p → IsPolicyFor (design_of p) plans →
+    PassesLean (design_of p) t plans references m s f → ¬ HasLeanCause (design_of p) t plans references e

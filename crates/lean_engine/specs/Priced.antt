@@ -17,7 +17,7 @@ use Rattle.design_engine.specs.Threshold.{AreThresholdBoundsOf}
 use Rattle.design_refusal.specs.declared.refusal.Refusal.{Refusal}
 use Rattle.design_refusal.specs.declared.refusal.Refusal.TheVariants.{TooWide}
 use Rattle.lean_engine.specs.Lean.{bound_of, lean_aim}
-use Rattle.lean_engine.specs.Refusals.{excess_at, excess_size_at}
+use Rattle.lean_engine.specs.Refusals.{policy_excess, policy_excess_size}
 use Rattle.lean_engine.specs.declared.bounds.Bound.{Bound}
 
 -- R is that of the slack and the excess, and within its limit
@@ -28,15 +28,15 @@ pub record IsBoundOf (t : Targets) (x : Bound) : Type 0 where
 -- they are these, with the excess of a policy that reference plans show
 pub record IsBound (d : Design) (t : Targets) (plans references : Plans) (units : ℤ) (x : Bound) : Type 0 where
   pub units_are : x.units ≡ units
-  pub excess_is : x.excess ≡ pos (excess_at d plans references)
-  pub excess_room : excess_size_at d plans references ≤ 2 ^ 126
+  pub excess_is : x.excess ≡ pos (policy_excess d plans references)
+  pub excess_room : policy_excess_size d plans references ≤ 2 ^ 126
   pub bound : IsBoundOf t x
 
 -- why there is none
 abbrev pub HasBoundCause : Design → Targets → (plans references : Plans) → (units : ℕ) → Refusal → Type 0
 HasBoundCause d t plans references units e =
-    ((e ≡ TooWide Excess) × IsWide (excess_size_at d plans references)) ⊎
-    ((e ≡ TooWide Multiplier) × ((excess_size_at d plans references ≤ 2 ^ 126) × IsWide (lean_multiplier_size units (excess_at d plans references) (floor_target t))))
+    ((e ≡ TooWide Excess) × IsWide (policy_excess_size d plans references)) ⊎
+    ((e ≡ TooWide Multiplier) × ((policy_excess_size d plans references ≤ 2 ^ 126) × IsWide (lean_multiplier_size units (policy_excess d plans references) (floor_target t))))
 
 -- a controller and its bounds with these
 pub record IsLeanFor (p : DesignParts) (x : Bound) (c : Numbers) (b : Printed) : Type 0 where
@@ -50,13 +50,13 @@ pub record IsLeanFor (p : DesignParts) (x : Bound) (c : Numbers) (b : Printed) :
 -- ---- the excess, R and then the aim, with the slack `units` and the step exponent s
 -- some number of bits passes all of their tests
 pub record IsPriced (d : Design) (t : Targets) (plans references : Plans) (units s : ℕ) : Type 0 where
-  pub excess : excess_size_at d plans references ≤ 2 ^ 126
-  pub multiplier : lean_multiplier_size units (excess_at d plans references) (floor_target t) ≤ 2 ^ 126
+  pub excess : policy_excess_size d plans references ≤ 2 ^ 126
+  pub multiplier : lean_multiplier_size units (policy_excess d plans references) (floor_target t) ≤ 2 ^ 126
   pub bits : ℕ
-  pub aim : PassesAim d (lean_aim t units (excess_at d plans references)) s bits
+  pub aim : PassesAim d (lean_aim t units (policy_excess d plans references)) s bits
 
 -- why the first that fails refuses
 abbrev pub HasPriceCause : Design → Targets → (plans references : Plans) → (units s : ℕ) → Refusal → Type 0
 HasPriceCause d t plans references units s e = HasBoundCause d t plans references units e ⊎
-    ((excess_size_at d plans references ≤ 2 ^ 126) × ((lean_multiplier_size units (excess_at d plans references) (floor_target t) ≤ 2 ^ 126) ×
-    HasAimCause d (lean_aim t units (excess_at d plans references)) s e))
+    ((policy_excess_size d plans references ≤ 2 ^ 126) × ((lean_multiplier_size units (policy_excess d plans references) (floor_target t) ≤ 2 ^ 126) ×
+    HasAimCause d (lean_aim t units (policy_excess d plans references)) s e))

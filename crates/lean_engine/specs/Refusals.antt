@@ -20,19 +20,19 @@ use Rattle.design_refusal.specs.declared.refusal.Refusal.TheVariants.{Memory, No
 use Rattle.lean_engine.specs.Lean.{lean_aim}
 
 -- X, and the quantity `excess`
-abbrev pub excess_at : Design → (plans references : Plans) → ℕ
-excess_at d plans references = excess_of d (form_of d) plans references
+abbrev pub policy_excess : Design → (plans references : Plans) → ℕ
+policy_excess d plans references = excess_of d (form_of d) plans references
 
-abbrev pub excess_size_at : Design → (plans references : Plans) → ℕ
-excess_size_at d plans references = excess_size d (form_of d) plans references
+abbrev pub policy_excess_size : Design → (plans references : Plans) → ℕ
+policy_excess_size d plans references = excess_size d (form_of d) plans references
 
 -- the quantity `multiplier`, of the margin m
 abbrev pub multiplier_size_at : Design → Targets → (plans references : Plans) → Margin → ℕ
-multiplier_size_at d t plans references m = lean_multiplier_size (unsigned_abs m.units) (excess_at d plans references) (floor_target t)
+multiplier_size_at d t plans references m = lean_multiplier_size (unsigned_abs m.units) (policy_excess d plans references) (floor_target t)
 
 -- what the targets ask for with the margin m
 abbrev pub aim_at : Design → Targets → (plans references : Plans) → Margin → Aim
-aim_at d t plans references m = lean_aim t (unsigned_abs m.units) (excess_at d plans references)
+aim_at d t plans references m = lean_aim t (unsigned_abs m.units) (policy_excess d plans references)
 
 -- ---- how far a design with a policy and reference plans gets
 -- the corners have the margin m, and the form has the step exponent s
@@ -44,55 +44,55 @@ pub record PassesScaling (d : Design) (t : Targets) (plans : Plans) (m : Margin)
 -- the excess and R are within their limits
 pub record PassesBound (d : Design) (t : Targets) (plans references : Plans) (m : Margin) (s : ℕ) : Type 0 where
   pub before : PassesScaling d t plans m s
-  pub excess : excess_size_at d plans references ≤ 2 ^ 126
+  pub excess : policy_excess_size d plans references ≤ 2 ^ 126
   pub multiplier : multiplier_size_at d t plans references m ≤ 2 ^ 126
 
 -- the steps are few enough, f bits are enough for the errors, and the systems and the controller's sums are within their limits
-pub record PassesAll (d : Design) (t : Targets) (plans references : Plans) (m : Margin) (s f : ℕ) : Type 0 where
+pub record PassesLean (d : Design) (t : Targets) (plans references : Plans) (m : Margin) (s f : ℕ) : Type 0 where
   pub before : PassesBound d t plans references m s
   pub aim : PassesAim d (aim_at d t plans references m) s f
 
 -- ---- the causes
 -- the quantity is the first of the form, or of the steps and the bits, that is above its limit
-abbrev pub HasWideForm : Design → Targets → Plans → Quantity → Type 0
-HasWideForm d t plans quantity = (m : Margin) × PassesMargin d t plans m × IsFormWide d quantity
+abbrev pub HasWideLeanForm : Design → Targets → Plans → Quantity → Type 0
+HasWideLeanForm d t plans quantity = (m : Margin) × PassesMargin d t plans m × IsFormWide d quantity
 
-abbrev pub HasWideAim : Design → Targets → (plans references : Plans) → Quantity → Type 0
-HasWideAim d t plans references quantity =
+abbrev pub HasWideLeanAim : Design → Targets → (plans references : Plans) → Quantity → Type 0
+HasWideLeanAim d t plans references quantity =
     (m : Margin) × (s : ℕ) × PassesBound d t plans references m s × IsAimWide d (aim_at d t plans references m) s quantity
 
 -- The quantity is the first that is above its limit. `prediction` is that of the corners, or of the condensed form.
-abbrev pub IsTooWide : Design → Targets → (plans references : Plans) → Quantity → Type 0
-IsTooWide d t plans references Prediction = IsFirstWideCorner d plans Prediction ⊎ HasWideForm d t plans Prediction
-IsTooWide d t plans references CornerSlack = IsFirstWideCorner d plans CornerSlack
-IsTooWide d t plans references CornerCost = IsFirstWideCorner d plans CornerCost
-IsTooWide d t plans references Hessian = HasWideForm d t plans Hessian
-IsTooWide d t plans references Rows = HasWideForm d t plans Rows
-IsTooWide d t plans references curvature_named = HasWideForm d t plans curvature_named
-IsTooWide d t plans references Excess =
-    (m : Margin) × (s : ℕ) × PassesScaling d t plans m s × IsWide (excess_size_at d plans references)
-IsTooWide d t plans references Multiplier =
-    (m : Margin) × (s : ℕ) × PassesScaling d t plans m s × ((excess_size_at d plans references ≤ 2 ^ 126) × IsWide (multiplier_size_at d t plans references m))
-IsTooWide d t plans references Error = HasWideAim d t plans references Error
-IsTooWide d t plans references Descent = HasWideAim d t plans references Descent
-IsTooWide d t plans references Width = HasWideAim d t plans references Width
-IsTooWide d t plans references Turn = ⊥
-IsTooWide d t plans references Stay = ⊥
+abbrev pub IsTooWideLean : Design → Targets → (plans references : Plans) → Quantity → Type 0
+IsTooWideLean d t plans references Prediction = IsFirstWideCorner d plans Prediction ⊎ HasWideLeanForm d t plans Prediction
+IsTooWideLean d t plans references CornerSlack = IsFirstWideCorner d plans CornerSlack
+IsTooWideLean d t plans references CornerCost = IsFirstWideCorner d plans CornerCost
+IsTooWideLean d t plans references Hessian = HasWideLeanForm d t plans Hessian
+IsTooWideLean d t plans references Rows = HasWideLeanForm d t plans Rows
+IsTooWideLean d t plans references curvature_named = HasWideLeanForm d t plans curvature_named
+IsTooWideLean d t plans references Excess =
+    (m : Margin) × (s : ℕ) × PassesScaling d t plans m s × IsWide (policy_excess_size d plans references)
+IsTooWideLean d t plans references Multiplier =
+    (m : Margin) × (s : ℕ) × PassesScaling d t plans m s × ((policy_excess_size d plans references ≤ 2 ^ 126) × IsWide (multiplier_size_at d t plans references m))
+IsTooWideLean d t plans references Error = HasWideLeanAim d t plans references Error
+IsTooWideLean d t plans references Descent = HasWideLeanAim d t plans references Descent
+IsTooWideLean d t plans references Width = HasWideLeanAim d t plans references Width
+IsTooWideLean d t plans references Turn = ⊥
+IsTooWideLean d t plans references Stay = ⊥
 
 -- the steps and the bits miss what the targets leave
-abbrev pub HasMissedAim : Design → Targets → (plans references : Plans) → Refusal → Type 0
-HasMissedAim d t plans references e =
+abbrev pub HasMissedLeanAim : Design → Targets → (plans references : Plans) → Refusal → Type 0
+HasMissedLeanAim d t plans references e =
     (m : Margin) × (s : ℕ) × PassesBound d t plans references m s × HasAimCause d (aim_at d t plans references m) s e
 
 -- Why this refusal is the answer. Out of memory has no cause in the design, the policy and the reference plans.
-abbrev pub HasCause : Design → Targets → (plans references : Plans) → Refusal → Type 0
-HasCause d t plans references Memory = ⊥
-HasCause d t plans references (NoMargin corner row slack) = HasCornerRoom d plans × IsFirstShort d plans corner row slack
-HasCause d t plans references Curvature = (m : Margin) × PassesMargin d t plans m × (PassesForm d × HasNoStep d)
-HasCause d t plans references (TooManySteps k) = HasMissedAim d t plans references (TooManySteps k)
-HasCause d t plans references (TooFine eps) = HasMissedAim d t plans references (TooFine eps)
-HasCause d t plans references (TooWide quantity) = IsTooWide d t plans references quantity
+abbrev pub HasLeanCause : Design → Targets → (plans references : Plans) → Refusal → Type 0
+HasLeanCause d t plans references Memory = ⊥
+HasLeanCause d t plans references (NoMargin corner row slack) = HasCornerRoom d plans × IsFirstShort d plans corner row slack
+HasLeanCause d t plans references Curvature = (m : Margin) × PassesMargin d t plans m × (PassesForm d × HasNoStep d)
+HasLeanCause d t plans references (TooManySteps k) = HasMissedLeanAim d t plans references (TooManySteps k)
+HasLeanCause d t plans references (TooFine eps) = HasMissedLeanAim d t plans references (TooFine eps)
+HasLeanCause d t plans references (TooWide quantity) = IsTooWideLean d t plans references quantity
 
 -- out of memory, or with its cause
-abbrev pub IsRefused : Design → Targets → (plans references : Plans) → Refusal → Type 0
-IsRefused d t plans references e = (e ≡ Memory) ⊎ HasCause d t plans references e
+abbrev pub IsRefusedLean : Design → Targets → (plans references : Plans) → Refusal → Type 0
+IsRefusedLean d t plans references e = (e ≡ Memory) ⊎ HasLeanCause d t plans references e

@@ -7,5 +7,7 @@ mod generation;
 mod laws;
 mod targets;
 
+pub use bounds::row_violations;
 pub use generation::generate_lean;
 pub use laws::{causes_law, lean_law};
+pub use targets::violation_target;

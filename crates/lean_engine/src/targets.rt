@@ -5,8 +5,8 @@ ghost use Rattle.design_engine.specs.Targets.{targets_of, violation_target, step
 
 use qp_model::DesignParts;
 
-/// Over `2^40`, rounded down.
-pub(crate) fn violation_target(parts: &DesignParts) -> i128
+/// What a design lets the violation be, over `2^40`, rounded down.
+pub fn violation_target(parts: &DesignParts) -> i128
     requires { IsDesign parts.now }
     ensures { result ≡ pos (violation_target (targets_of parts.now)) }
 {

@@ -49,7 +49,8 @@ pub fn numbers_of(alloc: Global, words: &[&[u8]]) -> Result<Option<Vec<i128>>, A
     ensures found { IfOk result (λ o. IfSome o (λ v. map signed_decimal v.items ≡ map (λ x. x.now) words.now)) }
     ensures word { IfOk result (λ o. IfSome o (λ v. All (FitsSigned w128) v.items)) }
     // What is spelled so is read.
-    ensures only { (zs : List ℤ) → All (FitsSigned w128) zs → map (λ x. x.now) words.now ≡ map signed_decimal zs → IfOk result (λ o. IsSomeAnd o (λ v. v.items ≡ zs)) }
+    ensures only { (zs : List ℤ) → All (FitsSigned w128) zs → map (λ x. x.now) words.now ≡ map signed_decimal zs →
+        IfOk result (λ o. IsSomeAnd o (λ v. v.items ≡ zs)) }
 {
     let mut numbers = Vec::new(alloc);
     for word in words {

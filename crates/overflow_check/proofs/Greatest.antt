@@ -7,7 +7,8 @@ use Rattle.qp_model.specs.machine.AbsoluteSums.{weighted_abs_sum, state_magnitud
 use Rattle.qp_model.proofs.AbsoluteLaws.{le_times_pow}
 
 -- ---- sums up to an index
-pub weighted_abs_sum-take_suc : (xs : List ℤ) (ys : List ℕ) (i : ℕ) → i < length xs → i < length ys → weighted_abs_sum (take (suc i) xs) (take (suc i) ys) ≡ weighted_abs_sum (take i xs) (take i ys) + unsigned_abs (get_or xs i (pos 0)) * get_or ys i 0
+pub weighted_abs_sum-take_suc : (xs : List ℤ) (ys : List ℕ) (i : ℕ) → i < length xs → i < length ys →
+    weighted_abs_sum (take (suc i) xs) (take (suc i) ys) ≡ weighted_abs_sum (take i xs) (take i ys) + unsigned_abs (get_or xs i (pos 0)) * get_or ys i 0
 weighted_abs_sum-take_suc [] ys i p q = absurd (omega arith)
 weighted_abs_sum-take_suc (x ∷ xs) [] i p q = absurd (omega arith)
 weighted_abs_sum-take_suc (x ∷ xs) (y ∷ ys) zero p q = omega arith

@@ -9,8 +9,8 @@ use Rattle.qp_model.specs.problem.Policy.{Plans, IsPolicyFor, corner_denominator
 use Rattle.qp_model.specs.form.Form.{Form}
 use Rattle.plan_excess.specs.declared.rows.Row.{Row}
 use Rattle.plan_excess.specs.declared.corner.Corner.{Corner}
-use Rattle.plan_excess.specs.Rows.{AreRows}
-use Rattle.plan_excess.specs.Slopes.{IsPlan, ArePlans, IsFitting, IsCornerOf, slope_at}
+use Rattle.plan_excess.specs.Rows.{AreGradientRows}
+use Rattle.plan_excess.specs.Slopes.{IsPlan, AreCornerPlans, IsFitting, IsCornerOf, corner_slope}
 use Rattle.plan_excess.proofs.RowFacts.{slope_radius}
 
 previous : (c : ℕ) → suc c - 1 ≡ c
@@ -35,7 +35,7 @@ module _ (d : Design) (p : Plans) (is : IsPolicyFor d p) (c : ℕ) (l : c < 2 ^ 
 
 -- ---- a corner that was made
 module _ (d : Design) (p r : Plans) (c : ℕ) (k : Corner) (is : IsCornerOf d p r c k) where
-  pub plans_held : ArePlans k
+  pub plans_held : AreCornerPlans k
   plans_held = record {
     plan = subst (λ (n : ℕ). IsPlan n k.plan.now k.over) (sym is.plan.long) is.plan;
     reference = subst (λ (n : ℕ). IsPlan n k.reference.now k.under) (sym is.plan.long) is.reference;
@@ -45,7 +45,7 @@ module _ (d : Design) (p r : Plans) (c : ℕ) (k : Corner) (is : IsCornerOf d p 
       power : (n : ℕ) → 0 < n → pos 1 ≤ℤ pos n
       power n h = omega (arith, ints, h)
 
-  pub rows_fit : (h : Form) (rows : List Row) → AreRows d h (entries d) rows → (j : ℕ) (row : Row) → j < length rows → IsFitting k (get_or rows j row)
+  pub rows_fit : (h : Form) (rows : List Row) → AreGradientRows d h (entries d) rows → (j : ℕ) (row : Row) → j < length rows → IsFitting k (get_or rows j row)
   rows_fit h rows are j row l = let row_is = are.is j row (rw (← are.long) l) in record {
     plan = is.plan.long ∙ sym row_is.plan.long;
     state = is.state.long ∙ sym row_is.state.long;
@@ -57,7 +57,7 @@ first : (rows : List Row) (j : ℕ) → j < length rows → Row
 first [] j l = absurd (omega (arith, l))
 first (row ∷ rows) j l = row
 
-pub radii : (d : Design) (h : Form) (rows : List Row) (k : Corner) → AreRows d h (entries d) rows → ArePlans k → (j : ℕ) → j < entries d → pos 0 ≤ℤ (slope_at d h k j).rad
+pub radii : (d : Design) (h : Form) (rows : List Row) (k : Corner) → AreGradientRows d h (entries d) rows → AreCornerPlans k → (j : ℕ) → j < entries d → pos 0 ≤ℤ (corner_slope d h k j).rad
 radii d h rows k are plans j l =
     let row = first rows j (rw are.long l) in
     slope_radius d h j (get_or rows j row) (are.is j row l) (at k.state.items) (unsigned_abs k.over) (at k.plan.now) (unsigned_abs k.under) (at k.reference.now)

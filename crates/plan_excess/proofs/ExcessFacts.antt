@@ -12,7 +12,7 @@ use Rattle.qp_model.specs.form.Quantities.{greatest}
 use Rattle.qp_model.specs.bounds.Excess.{pull}
 use Rattle.plan_excess.specs.declared.corner.Corner.{Corner}
 use Rattle.plan_excess.specs.declared.sums.Sums.{Sums}
-use Rattle.plan_excess.specs.Slopes.{AreSums, HasWeights, slope_at, steepness_at, slope_size_at, squares_by, sums_size, excess_by, excess_size_by}
+use Rattle.plan_excess.specs.Slopes.{AreSlopeSums, HasWeights, corner_slope, steepness_at, slope_size_at, squares_by, sums_size, excess_by, excess_size_by}
 use Rattle.plan_excess.proofs.SumFacts.{squares}
 
 -- a number that is there
@@ -59,16 +59,16 @@ module _ (d : Design) (h : Form) (k : Corner) (w f : ℤ) (weights : HasWeights 
       times a n h = omega (arith, mul-le-mul_right a h)
 
   -- the sums' calls test no more than the excess' quantity
-  pub sums_within : excess_size_by d h k ≤ 2 ^ 126 → sums_size (entries d) (slope_size_at d h k) (slope_at d h k) (steepness_at d h k) ≤ 2 ^ 126
+  pub sums_within : excess_size_by d h k ≤ 2 ^ 126 → sums_size (entries d) (slope_size_at d h k) (corner_slope d h k) (steepness_at d h k) ≤ 2 ^ 126
   sums_within s =
-      let p = first_of (greatest (entries d) (slope_size_at d h k)) (unsigned_abs (total (entries d) (λ j. magnitude (slope_at d h k j)))) (unsigned_abs pulled) (unsigned_abs (excess_by d h k)) (2 ^ 126) s in
-      three_of (greatest (entries d) (slope_size_at d h k)) (unsigned_abs (total (entries d) (λ j. magnitude (slope_at d h k j))))
+      let p = first_of (greatest (entries d) (slope_size_at d h k)) (unsigned_abs (total (entries d) (λ j. magnitude (corner_slope d h k j)))) (unsigned_abs pulled) (unsigned_abs (excess_by d h k)) (2 ^ 126) s in
+      three_of (greatest (entries d) (slope_size_at d h k)) (unsigned_abs (total (entries d) (λ j. magnitude (corner_slope d h k j))))
       (unsigned_abs (total (entries d) (λ j. square (steepness_at d h k j)))) (2 ^ 126) p.0 p.1 (below _ _ squares_below p.2)
     where
       below : (a b : ℕ) → a ≤ b → b ≤ 2 ^ 126 → a ≤ 2 ^ 126
       below a b h k = omega (arith, h, k)
 
-  module _ (s : Sums) (are : AreSums (entries d) (slope_at d h k) (steepness_at d h k) s) where
+  module _ (s : Sums) (are : AreSlopeSums (entries d) (corner_slope d h k) (steepness_at d h k) s) where
     squares_are : total (entries d) (λ j. square (steepness_at d h k j)) ≡ pos s.squares
     squares_are = squares (entries d) (steepness_at d h k) ∙ ap (λ (n : ℕ). pos n) (sym are.squares)
 
@@ -80,15 +80,15 @@ module _ (d : Design) (h : Form) (k : Corner) (w f : ℤ) (weights : HasWeights 
     pull_size = pull_natural ∙ ap₂ (λ (a b : ℕ). a * b) (ap (λ (z : ℤ). unsigned_abs z) (sym weights.weights)) (sym are.squares)
 
     pub pull_within : excess_size_by d h k ≤ 2 ^ 126 → unsigned_abs w * s.squares ≤ 2 ^ 126
-    pull_within z = subst (λ (n : ℕ). n ≤ 2 ^ 126) pull_size (first_of (greatest (entries d) (slope_size_at d h k)) (unsigned_abs (total (entries d) (λ j. magnitude (slope_at d h k j))))
+    pull_within z = subst (λ (n : ℕ). n ≤ 2 ^ 126) pull_size (first_of (greatest (entries d) (slope_size_at d h k)) (unsigned_abs (total (entries d) (λ j. magnitude (corner_slope d h k j))))
         (unsigned_abs pulled) (unsigned_abs (excess_by d h k)) (2 ^ 126) z).2
 
-    pub size_within : sums_size (entries d) (slope_size_at d h k) (slope_at d h k) (steepness_at d h k) ≤ 2 ^ 126 → unsigned_abs w * s.squares ≤ 2 ^ 126 →
+    pub size_within : sums_size (entries d) (slope_size_at d h k) (corner_slope d h k) (steepness_at d h k) ≤ 2 ^ 126 → unsigned_abs w * s.squares ≤ 2 ^ 126 →
         unsigned_abs (excess_by d h k) ≤ 2 ^ 126 → excess_size_by d h k ≤ 2 ^ 126
     size_within z pulls small =
-        let p = two_of (greatest (entries d) (slope_size_at d h k)) (unsigned_abs (total (entries d) (λ j. magnitude (slope_at d h k j))))
+        let p = two_of (greatest (entries d) (slope_size_at d h k)) (unsigned_abs (total (entries d) (λ j. magnitude (corner_slope d h k j))))
         (unsigned_abs (total (entries d) (λ j. square (steepness_at d h k j)))) (2 ^ 126) z in
-        all_of (greatest (entries d) (slope_size_at d h k)) (unsigned_abs (total (entries d) (λ j. magnitude (slope_at d h k j)))) (unsigned_abs pulled) (unsigned_abs (excess_by d h k)) (2 ^ 126)
+        all_of (greatest (entries d) (slope_size_at d h k)) (unsigned_abs (total (entries d) (λ j. magnitude (corner_slope d h k j)))) (unsigned_abs pulled) (unsigned_abs (excess_by d h k)) (2 ^ 126)
         p.0 p.1 (subst (λ (n : ℕ). n ≤ 2 ^ 126) (sym pull_size) pulls) small
       where
         two_of : (a b c t : ℕ) → max a (max b c) ≤ t → (a ≤ t) × (b ≤ t)

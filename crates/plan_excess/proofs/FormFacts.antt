@@ -17,8 +17,8 @@ use Rattle.fine_run.specs.Lists.{HoldsEnclosures}
 use Rattle.plan_excess.specs.declared.rows.Row.{Row}
 use Rattle.plan_excess.specs.declared.fault.ExcessFault.{ExcessFault}
 use Rattle.plan_excess.specs.declared.fault.ExcessFault.TheVariants.{TooWide}
-use Rattle.plan_excess.specs.Fault.{IsFault}
-use Rattle.plan_excess.specs.Rows.{line_at, line_size, IsRow, AreRows}
+use Rattle.plan_excess.specs.Fault.{IsExcessFault}
+use Rattle.plan_excess.specs.Rows.{line_at, line_size, IsGradientRow, AreGradientRows}
 
 -- a row of these numbers, where the constant is one
 abbrev pub HasParts : (plan state : List Enc) → Option Enc → Row → Type 0
@@ -28,7 +28,7 @@ module _ (p : DesignParts) (c : Condensed) (is : IsFormOf p c) (j : ℕ) where
   -- ---- the numbers of a row
   row_is : (plan state : List Enc) (constant : Option Enc) → HoldsEnclosures plan c.hess.cols (line_at (unsigned_abs c.hess_den) c.hess c.hess_rad j) →
       HoldsEnclosures state c.lin.cols (line_at (unsigned_abs c.hess_den) c.lin c.lin_rad j) → IfSome constant (λ e. pair e ≡ constant_at (held c) j) →
-      (row : Row) → HasParts plan state constant row → IsRow (design_of p) (held c) j row
+      (row : Row) → HasParts plan state constant row → IsGradientRow (design_of p) (held c) j row
   row_is plan state constant h k l row m = record {
     plan = subst (λ (xs : List Enc). HoldsEnclosures xs (entries (design_of p)) (hessian_at (held c) j)) (sym m.0)
         (subst (λ (n : ℕ). HoldsEnclosures plan n (hessian_at (held c) j)) is.shapes.hess.cols h);
@@ -52,7 +52,7 @@ module _ (p : DesignParts) (c : Condensed) (is : IsFormOf p c) (j : ℕ) where
   pub row_given : (r : Result Row ExcessFault) (plan state : List Enc) (constant : Option Enc) →
       HoldsEnclosures plan c.hess.cols (line_at (unsigned_abs c.hess_den) c.hess c.hess_rad j) →
       HoldsEnclosures state c.lin.cols (line_at (unsigned_abs c.hess_den) c.lin c.lin_rad j) → IfSome constant (λ e. pair e ≡ constant_at (held c) j) →
-      IfOk r (HasParts plan state constant) → IfOk r (IsRow (design_of p) (held c) j)
+      IfOk r (HasParts plan state constant) → IfOk r (IsGradientRow (design_of p) (held c) j)
   row_given r plan state constant h k l m = IfOk-weaker r _ _ (λ row o. row_is plan state constant h k l row o) m
 
   pub row_room : (r : Result Row ExcessFault) (plan state : List Enc) (constant : Option Enc) →
@@ -62,7 +62,7 @@ module _ (p : DesignParts) (c : Condensed) (is : IsFormOf p c) (j : ℕ) where
   row_room (Ok row) plan state constant h k l m = let last = l.0 (subst (λ (o : Option Enc). IsSome o) (sym m.2) refl) in omega (arith, sym size_is, h, k, last)
 
   pub row_refused : (r : Result Row ExcessFault) (constant : Option Enc) → IsSome constant ↔ (reach (constant_at (held c) j) ≤ 2 ^ 126) →
-      IfErr r (λ e. (e ≡ TooWide Excess) × (constant ≡ None)) → IfErr r (IsFault (number_size (design_of p) (held c) j))
+      IfErr r (λ e. (e ≡ TooWide Excess) × (constant ≡ None)) → IfErr r (IsExcessFault (number_size (design_of p) (held c) j))
   row_refused (Ok row) constant l m = tt
   row_refused (Err e) constant l m = inr (m.0, beyond (λ k. missing (subst (λ (o : Option Enc). IsSome o) m.1 (l.1 k))))
     where
@@ -76,18 +76,18 @@ module _ (p : DesignParts) (c : Condensed) (is : IsFormOf p c) (j : ℕ) where
       beyond h = past (reach (constant_at (held c) j)) h (omega (arith, sym size_is))
 
 -- ---- rows, one after another
-pub row_pushed : (d : Design) (h : Form) (n : ℕ) (rows new : List Row) (row : Row) → new ≡ rows ++ row ∷ [] → IsRow d h n row → AreRows d h n rows → AreRows d h (n + 1) new
+pub row_pushed : (d : Design) (h : Form) (n : ℕ) (rows new : List Row) (row : Row) → new ≡ rows ++ row ∷ [] → IsGradientRow d h n row → AreGradientRows d h n rows → AreGradientRows d h (n + 1) new
 row_pushed d h n rows new row e is are = rw e (record {
   long = length_push rows row ∙ ap (λ (m : ℕ). m + 1) are.long;
-  is = λ j other l. below_more (λ k. IsRow d h k (get_or (rows ++ row ∷ []) k other)) n (λ k m. rw (get_or_append_left rows (row ∷ []) other k (rw are.long m)) (are.is k other m))
+  is = λ j other l. below_more (λ k. IsGradientRow d h k (get_or (rows ++ row ∷ []) k other)) n (λ k m. rw (get_or_append_left rows (row ∷ []) other k (rw are.long m)) (are.is k other m))
       (rw (get_or_push rows row other n are.long) is) j l;
 })
 
-pub all_rows : (d : Design) (h : Form) (i n : ℕ) (rows : List Row) → i ≤ n → n ≤ i → AreRows d h i rows → AreRows d h n rows
-all_rows d h i n rows l m are = subst (λ (k : ℕ). AreRows d h k rows) (same i n l m) are
+pub all_rows : (d : Design) (h : Form) (i n : ℕ) (rows : List Row) → i ≤ n → n ≤ i → AreGradientRows d h i rows → AreGradientRows d h n rows
+all_rows d h i n rows l m are = subst (λ (k : ℕ). AreGradientRows d h k rows) (same i n l m) are
   where
     same : (i n : ℕ) → i ≤ n → n ≤ i → i ≡ n
     same i n l m = omega (arith, l, m)
 
-pub row_at : (d : Design) (h : Form) (rows : List Row) → AreRows d h (entries d) rows → (j : ℕ) (row : Row) → j < entries d → row ≡ get_or rows j row → IsRow d h j row
-row_at d h rows are j row l e = subst (λ (r : Row). IsRow d h j r) (sym e) (are.is j row l)
+pub row_at : (d : Design) (h : Form) (rows : List Row) → AreGradientRows d h (entries d) rows → (j : ℕ) (row : Row) → j < entries d → row ≡ get_or rows j row → IsGradientRow d h j row
+row_at d h rows are j row l e = subst (λ (r : Row). IsGradientRow d h j r) (sym e) (are.is j row l)

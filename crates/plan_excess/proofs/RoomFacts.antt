@@ -10,7 +10,7 @@ use Rattle.enclosure.proofs.RoomLaws.{reach_is}
 use Rattle.enclosure.proofs.SumLaws.{combination_reach_is, combination_size, radius_nonneg}
 use Rattle.qp_model.specs.form.Quantities.{greatest}
 use Rattle.qp_model.proofs.SizeFacts.{greatest_more, greatest_term}
-use Rattle.plan_excess.specs.Fault.{IsFault}
+use Rattle.plan_excess.specs.Fault.{IsExcessFault}
 use Rattle.plan_excess.specs.declared.fault.ExcessFault.{ExcessFault}
 use Rattle.plan_excess.specs.declared.fault.ExcessFault.TheVariants.{Memory}
 
@@ -50,21 +50,21 @@ radius_of x e h = subst (λ (e : Enclosure). pos 0 ≤ℤ e.rad) h x.nonnegative
 
 -- ---- faults
 -- of a part of a size
-pub fault_within : (m n : ℕ) (e : ExcessFault) → m ≤ n → IsFault m e → IsFault n e
+pub fault_within : (m n : ℕ) (e : ExcessFault) → m ≤ n → IsExcessFault m e → IsExcessFault n e
 fault_within m n e h (inl f) = inl f
 fault_within m n e h (inr f) = inr (f.0, omega (arith, h, f.1))
 
 -- of a call that is handed on
-pub fault_passed : {T : Type 0} (r : Result T ExcessFault) (x : ExcessFault) (m n : ℕ) → IsErrAnd r (λ y. y ≡ x) → m ≤ n → IsFault m x → IfErr r (IsFault n)
+pub fault_passed : {T : Type 0} (r : Result T ExcessFault) (x : ExcessFault) (m n : ℕ) → IsErrAnd r (λ y. y ≡ x) → m ≤ n → IsExcessFault m x → IfErr r (IsExcessFault n)
 fault_passed (Ok v) x m n h l f = tt
-fault_passed (Err y) x m n h l f = fault_within m n y l (subst (IsFault m) (sym h) f)
+fault_passed (Err y) x m n h l f = fault_within m n y l (subst (IsExcessFault m) (sym h) f)
 
-pub memory_passed : {T : Type 0} (r : Result T ExcessFault) (n : ℕ) → IsErrAnd r (λ y. y ≡ Memory) → IfErr r (IsFault n)
+pub memory_passed : {T : Type 0} (r : Result T ExcessFault) (n : ℕ) → IsErrAnd r (λ y. y ≡ Memory) → IfErr r (IsExcessFault n)
 memory_passed (Ok v) n h = tt
 memory_passed (Err y) n h = inl h
 
-pub fault_same : (n : ℕ) (e f : ExcessFault) → e ≡ f → IsFault n e → IsFault n f
-fault_same n e f h k = subst (IsFault n) h k
+pub fault_same : (n : ℕ) (e f : ExcessFault) → e ≡ f → IsExcessFault n e → IsExcessFault n f
+fault_same n e f h k = subst (IsExcessFault n) h k
 
 -- ---- greatest numbers
 pub near_more : (i : ℕ) (f : ℕ → ℕ) → greatest i f ≤ 2 ^ 126 → f i ≤ 2 ^ 126 → greatest (i + 1) f ≤ 2 ^ 126

@@ -15,10 +15,10 @@ use Rattle.qp_model.specs.form.Form.{Form}
 use Rattle.qp_model.specs.bounds.Excess.{hessian_at, linear_at, constant_at, of_plan, of_state, gradient_enclosure, gradient_size, step_enclosure, slope_enclosure, sum_reach}
 use Rattle.fine_run.proofs.ListFacts.{combined_same, magnitude_same}
 use Rattle.plan_excess.specs.declared.rows.Row.{Row}
-use Rattle.plan_excess.specs.Rows.{IsRow, gradient_by, gradient_size_by}
+use Rattle.plan_excess.specs.Rows.{IsGradientRow, gradient_by, gradient_size_by}
 
 -- ---- what a row gives
-module _ (d : Design) (h : Form) (j : ℕ) (row : Row) (is : IsRow d h j row) (xi : ℕ → ℤ) (g : ℕ) (grid : g ≡ 2 ^ d.grid) (u : ℕ → ℤ) where
+module _ (d : Design) (h : Form) (j : ℕ) (row : Row) (is : IsGradientRow d h j row) (xi : ℕ → ℤ) (g : ℕ) (grid : g ≡ 2 ^ d.grid) (u : ℕ → ℤ) where
   plan_is : (q : ℕ) → combined (length row.plan.items) u (pair_at row.plan.items) q ≡ of_plan d h q u j
   plan_is q = subst (λ (n : ℕ). combined n u (pair_at row.plan.items) q ≡ of_plan d h q u j) (sym is.plan.long)
       (combined_same (entries d) u u (pair_at row.plan.items) (hessian_at h j) q (λ i l. refl) is.plan.is)
@@ -53,7 +53,7 @@ divided_radius e d p h = add_nonneg_z (ceil_small e.rad d h p).0 (inexact_small 
 combined_radius : (n : ℕ) (c : ℕ → ℤ) (x : ℕ → Enclosure) (d : ℕ) → 0 < d → ((i : ℕ) → i < n → pos 0 ≤ℤ (x i).rad) → pos 0 ≤ℤ (combined n c x d).rad
 combined_radius n c x d p h = divided_radius (combination n c x) d p (total_nonneg n _ (λ i l. mul_nonneg_z _ _ (absolute_nonneg (c i)) (h i l)))
 
-module _ (d : Design) (h : Form) (j : ℕ) (row : Row) (is : IsRow d h j row) (xi : ℕ → ℤ) where
+module _ (d : Design) (h : Form) (j : ℕ) (row : Row) (is : IsGradientRow d h j row) (xi : ℕ → ℤ) where
   hessian_radius : (i : ℕ) → i < entries d → pos 0 ≤ℤ (hessian_at h j i).rad
   hessian_radius i l = subst (λ (e : Enclosure). pos 0 ≤ℤ e.rad) (is.plan.is i l) (radius_nonneg row.plan.items i (rw is.plan.long l))
 

@@ -9,7 +9,7 @@ use Rattle.qp_model.specs.form.Form.{Form}
 use Rattle.qp_model.specs.bounds.Excess.{gradient_enclosure, gradient_size, step_enclosure, sum_reach, product_reach}
 use Rattle.plan_excess.specs.declared.rows.Row.{Row}
 use Rattle.plan_excess.specs.declared.corner.Corner.{Corner}
-use Rattle.plan_excess.specs.Rows.{IsRow, gradient_by, gradient_size_by}
+use Rattle.plan_excess.specs.Rows.{IsGradientRow, gradient_by, gradient_size_by}
 use Rattle.plan_excess.specs.Slopes.{slope_size_at}
 use Rattle.plan_excess.proofs.RowFacts.{gradient_is, gradient_size_is}
 
@@ -58,7 +58,7 @@ module _ (d : Design) (h : Form) (k : Corner) (j : ℕ) where
       (product_reach (sum_of (here d h k j) (there d h k j)) (step_of d h k j)) (2 ^ 126) r.plan r.reference r.both r.step r.value
 
 -- ---- by a row, with the corner's state over its grid and a plan us over q, as they are handed to a call
-module _ (d : Design) (h : Form) (k : Corner) (j : ℕ) (row : Row) (is : IsRow d h j row) (grid : k.grid ≡ pos (2 ^ d.grid)) (us : List ℤ) (q : ℤ)
+module _ (d : Design) (h : Form) (k : Corner) (j : ℕ) (row : Row) (is : IsGradientRow d h j row) (grid : k.grid ≡ pos (2 ^ d.grid)) (us : List ℤ) (q : ℤ)
     (xs : List ℤ) (g o : ℤ) (lent : xs ≡ k.state.items) (over_grid : g ≡ k.grid) (over_plan : o ≡ q) where
   lent_is : gradient_by (length row.plan.items) (pair_at row.plan.items) (length row.state.items) (pair_at row.state.items) (pair row.constant) (at xs) (unsigned_abs g) (at us) (unsigned_abs o) ≡
       gradient_by (length row.plan.items) (pair_at row.plan.items) (length row.state.items) (pair_at row.state.items) (pair row.constant) (at k.state.items) (unsigned_abs k.grid) (at us) (unsigned_abs q)

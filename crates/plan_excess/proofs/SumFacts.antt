@@ -13,7 +13,7 @@ use Rattle.qp_model.proofs.SizeFacts.{greatest_term}
 use Rattle.enclosure.specs.Values.{pair}
 use Rattle.plan_excess.specs.declared.slope.Slope.{Slope}
 use Rattle.plan_excess.specs.declared.sums.Sums.{Sums}
-use Rattle.plan_excess.specs.Slopes.{AreSums, sums_size, far_by, squares_by}
+use Rattle.plan_excess.specs.Slopes.{AreSlopeSums, sums_size, far_by, squares_by}
 
 -- a magnitude as a natural
 pub reach_by : (e : Enclosure) → pos 0 ≤ℤ e.rad → magnitude e ≡ pos (reach e)
@@ -61,9 +61,9 @@ module _ (n : ℕ) (size : ℕ → ℕ) (slope : ℕ → Enclosure) (steep : ℕ
 
 -- ---- the sums of a corner, entry by entry
 -- with one more
-pub one_added : (n : ℕ) (slope : ℕ → Enclosure) (steep : ℕ → ℤ) (s t : Sums) (x : Slope) → AreSums n slope steep s → pair x.value ≡ slope n → pos x.steepness ≡ steep n →
+pub one_added : (n : ℕ) (slope : ℕ → Enclosure) (steep : ℕ → ℤ) (s t : Sums) (x : Slope) → AreSlopeSums n slope steep s → pair x.value ≡ slope n → pos x.steepness ≡ steep n →
     t.rise ≡ s.rise +ℤ x.value.mid +ℤ x.value.rad → t.reach ≡ s.reach + (unsigned_abs x.value.mid + unsigned_abs x.value.rad) → t.squares ≡ s.squares + x.steepness * x.steepness →
-    AreSums (n + 1) slope steep t
+    AreSlopeSums (n + 1) slope steep t
 one_added n slope steep s t x are value steepness rise far squared = record {
   rise = rw (total_more n (λ j. (slope j).mid +ℤ (slope j).rad), ← value, ← are.rise, rise) (omega (arith, ints));
   reach = rw (amount_more n (far_by slope), ← are.reach, far) (ap (λ (m : ℕ). s.reach + m) (slope_reach n slope x value));
@@ -71,7 +71,7 @@ one_added n slope steep s t x are value steepness rise far squared = record {
 }
 
 -- what an entry's calls test
-module _ (n : ℕ) (slope : ℕ → Enclosure) (steep : ℕ → ℤ) (s : Sums) (x : Slope) (are : AreSums n slope steep s) (value : pair x.value ≡ slope n) (steepness : pos x.steepness ≡ steep n) where
+module _ (n : ℕ) (slope : ℕ → Enclosure) (steep : ℕ → ℤ) (s : Sums) (x : Slope) (are : AreSlopeSums n slope steep s) (value : pair x.value ≡ slope n) (steepness : pos x.steepness ≡ steep n) where
   pub far_is : s.reach + (unsigned_abs x.value.mid + unsigned_abs x.value.rad) ≡ amount n (far_by slope) + far_by slope n
   far_is = ap₂ (λ (a b : ℕ). a + b) are.reach (slope_reach n slope x value)
 
@@ -79,12 +79,12 @@ module _ (n : ℕ) (slope : ℕ → Enclosure) (steep : ℕ → ℤ) (s : Sums) 
   squared_is = ap₂ (λ (a b : ℕ). a + b) are.squares (ap (λ (z : ℤ). unsigned_abs z * unsigned_abs z) steepness)
 
 -- and all of them
-pub sums_fit : (n : ℕ) (size : ℕ → ℕ) (slope : ℕ → Enclosure) (steep : ℕ → ℤ) (s : Sums) → ((j : ℕ) → j < n → pos 0 ≤ℤ (slope j).rad) → AreSums n slope steep s →
+pub sums_fit : (n : ℕ) (size : ℕ → ℕ) (slope : ℕ → Enclosure) (steep : ℕ → ℤ) (s : Sums) → ((j : ℕ) → j < n → pos 0 ≤ℤ (slope j).rad) → AreSlopeSums n slope steep s →
     greatest n size ≤ 2 ^ 126 → sums_size n size slope steep ≤ 2 ^ 126
 sums_fit n size slope steep s h are near = subst (λ (m : ℕ). m ≤ 2 ^ 126) (sym (size_by n size slope steep h)) (omega (arith, near, are.reach, are.squares, s.limited, s.few))
 
-pub all_sums : (i n : ℕ) (slope : ℕ → Enclosure) (steep : ℕ → ℤ) (s : Sums) → i ≤ n → n ≤ i → AreSums i slope steep s → AreSums n slope steep s
-all_sums i n slope steep s h l are = subst (λ (m : ℕ). AreSums m slope steep s) (same i n h l) are
+pub all_sums : (i n : ℕ) (slope : ℕ → Enclosure) (steep : ℕ → ℤ) (s : Sums) → i ≤ n → n ≤ i → AreSlopeSums i slope steep s → AreSlopeSums n slope steep s
+all_sums i n slope steep s h l are = subst (λ (m : ℕ). AreSlopeSums m slope steep s) (same i n h l) are
   where
     same : (i n : ℕ) → i ≤ n → n ≤ i → i ≡ n
     same i n h l = omega (arith, h, l)

@@ -18,7 +18,7 @@ use Rattle.condensed_form.specs.Form.{held, IsFormOf}
 use Rattle.condensed_form.proofs.HeldLaws.{least_equal}
 use Rattle.condensed_form.proofs.DenominatorFacts.{least_is}
 use Rattle.plan_excess.specs.declared.corner.Corner.{Corner}
-use Rattle.plan_excess.specs.Rows.{AreNear}
+use Rattle.plan_excess.specs.Rows.{AreRowsNear}
 use Rattle.plan_excess.specs.Slopes.{IsCornerOf, HasWeights, excess_by, excess_size_by, corner_size}
 use Rattle.plan_excess.proofs.SameFacts.{excess_same, size_same, all_same, sizes_same, itself}
 
@@ -71,7 +71,7 @@ module _ (parts : DesignParts) (c : Condensed) (is : IsFormOf parts c) where
       right a b m n h k = omega (arith, h, k)
 
   -- and it is within the limit where they are
-  pub whole_room : (p r : Plans) → AreNear (design_of parts) (held c) (entries (design_of parts)) →
+  pub whole_room : (p r : Plans) → AreRowsNear (design_of parts) (held c) (entries (design_of parts)) →
       greatest (2 ^ (design_of parts).states) (corner_size (design_of parts) (held c) p r) ≤ 2 ^ 126 → excess_size (design_of parts) (form_of (design_of parts)) p r ≤ 2 ^ 126
   whole_room p r h k = both _ _ _ (whole_size_is p r) h k
     where

@@ -5,5 +5,5 @@ use Rattle.plan_excess.specs.declared.fault.ExcessFault.{ExcessFault}
 use Rattle.plan_excess.specs.declared.fault.ExcessFault.TheVariants.{Memory, TooWide}
 
 -- out of memory, or the quantity of this size is above its limit
-abbrev pub IsFault : (size : ℕ) → ExcessFault → Type 0
-IsFault size e = (e ≡ Memory) ⊎ ((e ≡ TooWide Excess) × (2 ^ 126 < size))
+abbrev pub IsExcessFault : (size : ℕ) → ExcessFault → Type 0
+IsExcessFault size e = (e ≡ Memory) ⊎ ((e ≡ TooWide Excess) × (2 ^ 126 < size))

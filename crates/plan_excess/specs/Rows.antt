@@ -19,19 +19,19 @@ abbrev pub line_size : (scale : ℕ) → (mids rads : Matrix) → ℕ → ℕ
 line_size scale mids rads j = greatest mids.cols (λ i. reach (line_at scale mids rads j i))
 
 -- row j: what the plan's entries, the state's coordinates and 1 are times in entry j of the gradient
-pub record IsRow (d : Design) (h : Form) (j : ℕ) (row : Row) : Type 0 where
+pub record IsGradientRow (d : Design) (h : Form) (j : ℕ) (row : Row) : Type 0 where
   pub plan : HoldsEnclosures row.plan.items (entries d) (hessian_at h j)
   pub state : HoldsEnclosures row.state.items d.states (linear_at h j)
   pub constant : pair row.constant ≡ constant_at h j
 
 -- the first n rows
-pub record AreRows (d : Design) (h : Form) (n : ℕ) (rows : List Row) : Type 0 where
+pub record AreGradientRows (d : Design) (h : Form) (n : ℕ) (rows : List Row) : Type 0 where
   pub long : length rows ≡ n
-  pub is : (j : ℕ) (row : Row) → j < n → IsRow d h j (get_or rows j row)
+  pub is : (j : ℕ) (row : Row) → j < n → IsGradientRow d h j (get_or rows j row)
 
 -- the numbers of the first n rows are within the limit
-abbrev pub AreNear : Design → Form → ℕ → Type 0
-AreNear d h n = greatest n (number_size d h) ≤ 2 ^ 126
+abbrev pub AreRowsNear : Design → Form → ℕ → Type 0
+AreRowsNear d h n = greatest n (number_size d h) ≤ 2 ^ 126
 
 -- ---- by functions: what n entries of a plan u over q and m coordinates of a state xi over g have of these numbers, and a constant beside
 abbrev pub gradient_by : (n : ℕ) → (x : ℕ → Enclosure) → (m : ℕ) → (y : ℕ → Enclosure) → (z : Enclosure) →

@@ -23,7 +23,7 @@ pub record IsPlan (n : ℕ) (numerators : List ℤ) (over : ℤ) : Type 0 where
   pub positive : pos 1 ≤ℤ over
 
 -- both plans of a corner, for as many entries, and a positive number that its state is over
-pub record ArePlans (k : Corner) : Type 0 where
+pub record AreCornerPlans (k : Corner) : Type 0 where
   pub plan : IsPlan (length k.plan.now) k.plan.now k.over
   pub reference : IsPlan (length k.plan.now) k.reference.now k.under
   pub grid : pos 1 ≤ℤ k.grid
@@ -45,8 +45,8 @@ pub record IsCornerOf (d : Design) (p r : Plans) (c : ℕ) (k : Corner) : Type 0
   pub under_is : k.under ≡ corner_denominator r (suc c)
 
 -- the enclosures of a corner, by its own numbers
-abbrev pub slope_at : Design → Form → Corner → ℕ → Enclosure
-slope_at d h k = slope_enclosure d h (at k.state.items) (unsigned_abs k.over) (at k.plan.now) (unsigned_abs k.under) (at k.reference.now)
+abbrev pub corner_slope : Design → Form → Corner → ℕ → Enclosure
+corner_slope d h k = slope_enclosure d h (at k.state.items) (unsigned_abs k.over) (at k.plan.now) (unsigned_abs k.under) (at k.reference.now)
 
 abbrev pub steepness_at : Design → Form → Corner → ℕ → ℤ
 steepness_at d h k = steepness d h (at k.state.items) (unsigned_abs k.under) (at k.reference.now)
@@ -56,7 +56,7 @@ slope_size_at d h k = slope_size d h (at k.state.items) (unsigned_abs k.over) (a
 
 -- what entry j adds
 pub record IsSlope (d : Design) (h : Form) (k : Corner) (j : ℕ) (s : Slope) : Type 0 where
-  pub value : pair s.value ≡ slope_at d h k j
+  pub value : pair s.value ≡ corner_slope d h k j
   pub steepness : pos s.steepness ≡ steepness_at d h k j
 
 -- magnitudes and squares as naturals
@@ -67,7 +67,7 @@ abbrev pub squares_by : (ℕ → ℤ) → ℕ → ℕ
 squares_by steep j = unsigned_abs (steep j) * unsigned_abs (steep j)
 
 -- what the first n of them add: the rises, the magnitudes and the squares
-pub record AreSums (n : ℕ) (slope : ℕ → Enclosure) (steep : ℕ → ℤ) (s : Sums) : Type 0 where
+pub record AreSlopeSums (n : ℕ) (slope : ℕ → Enclosure) (steep : ℕ → ℤ) (s : Sums) : Type 0 where
   pub rise : s.rise ≡ total n (λ j. (slope j).mid +ℤ (slope j).rad)
   pub reach : s.reach ≡ amount n (far_by slope)
   pub squares : s.squares ≡ amount n (squares_by steep)

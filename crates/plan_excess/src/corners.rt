@@ -10,10 +10,10 @@ ghost use Rattle.qp_model.specs.form.Class.{form_of};
 ghost use Rattle.qp_model.specs.form.Quantities.{input_floor};
 ghost use Rattle.qp_model.specs.bounds.Excess.{corner_excess, excess_of, excess_size};
 ghost use Rattle.condensed_form.specs.Form.{held, IsFormOf};
-ghost use Rattle.plan_excess.specs.Fault.{IsFault};
-ghost use Rattle.plan_excess.specs.Rows.{AreRows};
+ghost use Rattle.plan_excess.specs.Fault.{IsExcessFault};
+ghost use Rattle.plan_excess.specs.Rows.{AreGradientRows};
 ghost use Rattle.plan_excess.specs.declared.rows.Row.{Row as RowNumbers};
-ghost use Rattle.plan_excess.specs.Slopes.{ArePlans, IsFitting, AreSums, HasWeights, slope_at, steepness_at, slope_size_at, sums_size};
+ghost use Rattle.plan_excess.specs.Slopes.{AreCornerPlans, IsFitting, AreSlopeSums, HasWeights, corner_slope, steepness_at, slope_size_at, sums_size};
 ghost use Rattle.plan_excess.specs.Slopes.{excess_by, excess_size_by, corner_size};
 
 use crate::corner::{Corner, corner_of};
@@ -27,13 +27,13 @@ use std::alloc::Global;
 
 // What the entries of a corner's plans add, by their rows.
 fn sums_of(rows: &[Row], corner: &Corner) -> Option<Sums>
-    requires plans { ArePlans corner.now }
+    requires plans { AreCornerPlans corner.now }
     requires entries { length rows.now ≡ length corner.now.plan.now }
     requires fits { (j : ℕ) (row : RowNumbers) → j < length rows.now → IsFitting corner.now (get_or rows.now j row) }
-    ensures value { (d : model.Design) (h : Form) → AreRows d h (entries d) rows.now → corner.now.grid ≡ pos (2 ^ d.grid) →
-        IfSome result (AreSums (entries d) (slope_at d h corner.now) (steepness_at d h corner.now)) }
-    ensures room { (d : model.Design) (h : Form) → AreRows d h (entries d) rows.now → corner.now.grid ≡ pos (2 ^ d.grid) →
-        IsSome result ↔ (sums_size (entries d) (slope_size_at d h corner.now) (slope_at d h corner.now) (steepness_at d h corner.now) ≤ 2 ^ 126) }
+    ensures value { (d : model.Design) (h : Form) → AreGradientRows d h (entries d) rows.now → corner.now.grid ≡ pos (2 ^ d.grid) →
+        IfSome result (AreSlopeSums (entries d) (corner_slope d h corner.now) (steepness_at d h corner.now)) }
+    ensures room { (d : model.Design) (h : Form) → AreGradientRows d h (entries d) rows.now → corner.now.grid ≡ pos (2 ^ d.grid) →
+        IsSome result ↔ (sums_size (entries d) (slope_size_at d h corner.now) (corner_slope d h corner.now) (steepness_at d h corner.now) ≤ 2 ^ 126) }
 {
     let mut sums = Sums::zero();
     for j in 0..rows.len() {
@@ -44,15 +44,15 @@ fn sums_of(rows: &[Row], corner: &Corner) -> Option<Sums>
 
 // By how much more than any plan a corner's plan costs at most, over `2^16`.
 fn corner_excess(rows: &[Row], corner: &Corner, weight_den: i128, input_floor: i128) -> Option<i128>
-    requires plans { ArePlans corner.now }
+    requires plans { AreCornerPlans corner.now }
     requires entries { length rows.now ≡ length corner.now.plan.now }
     requires fits { (j : ℕ) (row : RowNumbers) → j < length rows.now → IsFitting corner.now (get_or rows.now j row) }
     requires weight { pos 1 ≤ℤ weight_den }
     requires some { pos 1 ≤ℤ input_floor }
     requires floor { input_floor ≤ℤ pos (2 ^ 31) }
-    ensures value { (d : model.Design) (h : Form) → AreRows d h (entries d) rows.now → HasWeights d corner.now weight_den input_floor →
+    ensures value { (d : model.Design) (h : Form) → AreGradientRows d h (entries d) rows.now → HasWeights d corner.now weight_den input_floor →
         IfSome result (λ x. x ≡ excess_by d h corner.now) }
-    ensures room { (d : model.Design) (h : Form) → AreRows d h (entries d) rows.now → HasWeights d corner.now weight_den input_floor →
+    ensures room { (d : model.Design) (h : Form) → AreGradientRows d h (entries d) rows.now → HasWeights d corner.now weight_den input_floor →
         IsSome result ↔ (excess_size_by d h corner.now ≤ 2 ^ 126) }
 {
     sums_of(rows, corner)?.excess(weight_den, input_floor)
@@ -71,12 +71,12 @@ fn excess_at(
     requires form { IsFormOf design.now condensed.now }
     requires plans { IsPolicyFor (design_of design.now) (plans_of policy.now) }
     requires references { IsPolicyFor (design_of design.now) (plans_of reference.now) }
-    requires rows { AreRows (design_of design.now) (held condensed.now) (entries (design_of design.now)) rows.now }
+    requires rows { AreGradientRows (design_of design.now) (held condensed.now) (entries (design_of design.now)) rows.now }
     requires corner { number < 2 ^ (design_of design.now).states }
     ensures value { IfOk result (λ x. x ≡
         corner_excess (design_of design.now) (held condensed.now) (plans_of policy.now) (plans_of reference.now) (suc number)) }
     ensures room { OnOk result (corner_size (design_of design.now) (held condensed.now) (plans_of policy.now) (plans_of reference.now) number ≤ 2 ^ 126) }
-    ensures refused { IfErr result (IsFault
+    ensures refused { IfErr result (IsExcessFault
         (corner_size (design_of design.now) (held condensed.now) (plans_of policy.now) (plans_of reference.now) number)) }
 {
     let corner = corner_of(alloc, design.parts(), policy, reference, number)?;
@@ -109,7 +109,7 @@ pub fn excess(
     ensures room { let d = design_of design.now in
         OnOk result (excess_size d (form_of d) (plans_of policy.now) (plans_of reference.now) ≤ 2 ^ 126) }
     ensures refused { let d = design_of design.now in
-        IfErr result (IsFault (excess_size d (form_of d) (plans_of policy.now) (plans_of reference.now))) }
+        IfErr result (IsExcessFault (excess_size d (form_of d) (plans_of policy.now) (plans_of reference.now))) }
 {
     let rows = rows_of(alloc, condensed)?;
     let mut most = 0i128;

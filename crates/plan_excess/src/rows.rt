@@ -11,8 +11,8 @@ ghost use Rattle.qp_model.specs.form.Quantities.{greatest};
 ghost use Rattle.qp_model.specs.bounds.Excess.{brought, reach, number_size};
 ghost use Rattle.condensed_form.specs.Form.{held, IsFormOf};
 ghost use Rattle.fine_run.specs.Lists.{HoldsEnclosures};
-ghost use Rattle.plan_excess.specs.Fault.{IsFault};
-ghost use Rattle.plan_excess.specs.Rows.{line_at, line_size, IsRow, AreRows, AreNear};
+ghost use Rattle.plan_excess.specs.Fault.{IsExcessFault};
+ghost use Rattle.plan_excess.specs.Rows.{line_at, line_size, IsGradientRow, AreGradientRows, AreRowsNear};
 ghost use Rattle.plan_excess.specs.declared.fault.ExcessFault.TheVariants.{TooWide as excess_wide};
 
 use crate::fault::{ExcessFault, too_wide};
@@ -48,7 +48,7 @@ fn numbers(alloc: Global, mids: &[i128], rads: &[i128], den: i128) -> Result<Vec
         (λ i. brought (unsigned_abs den) (at mids.now i) (unsigned_abs (at rads.now i)))) }
     ensures room { OnOk result
         (greatest (length mids.now) (λ i. reach (brought (unsigned_abs den) (at mids.now i) (unsigned_abs (at rads.now i)))) ≤ 2 ^ 126) }
-    ensures refused { IfErr result (IsFault
+    ensures refused { IfErr result (IsExcessFault
         (greatest (length mids.now) (λ i. reach (brought (unsigned_abs den) (at mids.now i) (unsigned_abs (at rads.now i)))))) }
 {
     let mut out = Vec::new(alloc);
@@ -70,7 +70,7 @@ fn line(alloc: Global, mids: &Mat, rads: &Mat, j: usize, den: i128) -> Result<Ve
     requires radii { (i : ℕ) → i < mids.now.cols → pos 0 ≤ℤ entry_of rads.now j i }
     ensures value { IfOk result (λ v. HoldsEnclosures v.items mids.now.cols (line_at (unsigned_abs den) mids.now rads.now j)) }
     ensures room { OnOk result (line_size (unsigned_abs den) mids.now rads.now j ≤ 2 ^ 126) }
-    ensures refused { IfErr result (IsFault (line_size (unsigned_abs den) mids.now rads.now j)) }
+    ensures refused { IfErr result (IsExcessFault (line_size (unsigned_abs den) mids.now rads.now j)) }
 {
     numbers(alloc, mids.row(j), rads.row(j), den)
 }
@@ -98,9 +98,9 @@ fn joined(plan: Vec<Enc>, state: Vec<Enc>, constant: Option<Enc>) -> Result<Row,
 fn row_of(alloc: Global, c: &Condensed, j: usize) -> Result<Row, ExcessFault>
     requires form { (p : DesignParts) × IsFormOf p c.now }
     requires row { j < length c.now.hess.rows }
-    ensures value { (p : DesignParts) → IsFormOf p c.now → IfOk result (IsRow (design_of p) (held c.now) j) }
+    ensures value { (p : DesignParts) → IsFormOf p c.now → IfOk result (IsGradientRow (design_of p) (held c.now) j) }
     ensures room { (p : DesignParts) → IsFormOf p c.now → OnOk result (number_size (design_of p) (held c.now) j ≤ 2 ^ 126) }
-    ensures refused { (p : DesignParts) → IsFormOf p c.now → IfErr result (IsFault (number_size (design_of p) (held c.now) j)) }
+    ensures refused { (p : DesignParts) → IsFormOf p c.now → IfErr result (IsExcessFault (number_size (design_of p) (held c.now) j)) }
 {
     let plan = line(alloc, &c.hess, &c.hess_rad, j, c.hess_den)?;
     let state = line(alloc, &c.lin, &c.lin_rad, j, c.hess_den)?;
@@ -110,10 +110,10 @@ fn row_of(alloc: Global, c: &Condensed, j: usize) -> Result<Row, ExcessFault>
 /// All rows.
 pub(crate) fn rows_of(alloc: Global, c: &Condensed) -> Result<Vec<Row>, ExcessFault>
     requires { (p : DesignParts) × IsFormOf p c.now }
-    ensures value { (p : DesignParts) → IsFormOf p c.now → IfOk result (λ v. AreRows (design_of p) (held c.now) (entries (design_of p)) v.items) }
-    ensures room { (p : DesignParts) → IsFormOf p c.now → OnOk result (AreNear (design_of p) (held c.now) (entries (design_of p))) }
+    ensures value { (p : DesignParts) → IsFormOf p c.now → IfOk result (λ v. AreGradientRows (design_of p) (held c.now) (entries (design_of p)) v.items) }
+    ensures room { (p : DesignParts) → IsFormOf p c.now → OnOk result (AreRowsNear (design_of p) (held c.now) (entries (design_of p))) }
     ensures refused { (p : DesignParts) → IsFormOf p c.now →
-        IfErr result (IsFault (greatest (entries (design_of p)) (number_size (design_of p) (held c.now)))) }
+        IfErr result (IsExcessFault (greatest (entries (design_of p)) (number_size (design_of p) (held c.now)))) }
 {
     let mut rows = Vec::new(alloc);
     for j in 0..c.hess.rows() {

@@ -8,8 +8,8 @@ ghost use Rattle.qp_model.specs.problem.Design.{Design};
 ghost use Rattle.qp_model.specs.form.Form.{Form};
 ghost use Rattle.qp_model.specs.bounds.Excess.{step_enclosure, sum_reach};
 ghost use Rattle.frac_scaled.specs.Enclosures.{enclosed};
-ghost use Rattle.plan_excess.specs.Rows.{IsRow, gradient_by, gradient_size_by};
-ghost use Rattle.plan_excess.specs.Slopes.{ArePlans, IsFitting, IsSlope, slope_size_at};
+ghost use Rattle.plan_excess.specs.Rows.{IsGradientRow, gradient_by, gradient_size_by};
+ghost use Rattle.plan_excess.specs.Slopes.{AreCornerPlans, IsFitting, IsSlope, slope_size_at};
 
 use crate::corner::Corner;
 use crate::rows::Row;
@@ -54,7 +54,7 @@ fn fraction(num: i128, den: i128) -> Enc
 
 // Entry `j` of the step from the reference plan to the plan.
 fn step(corner: &Corner, j: usize) -> Option<Enc>
-    requires plans { ArePlans corner.now }
+    requires plans { AreCornerPlans corner.now }
     requires entry { j < length corner.now.plan.now }
     ensures value { IfSome result (λ e. pair e ≡ step_enclosure (unsigned_abs corner.now.over) (at corner.now.plan.now)
         (unsigned_abs corner.now.under) (at corner.now.reference.now) j) }
@@ -76,10 +76,11 @@ fn steepness(gradient: Enc) -> u128
 /// Entry `j`, by its row.
 pub(crate) fn slope_of(row: &Row, corner: &Corner, j: usize) -> Option<Slope>
     requires fits { IsFitting corner.now row.now }
-    requires plans { ArePlans corner.now }
+    requires plans { AreCornerPlans corner.now }
     requires entry { j < length corner.now.plan.now }
-    ensures value { (d : Design) (h : Form) → IsRow d h j row.now → corner.now.grid ≡ pos (2 ^ d.grid) → IfSome result (IsSlope d h corner.now j) }
-    ensures room { (d : Design) (h : Form) → IsRow d h j row.now → corner.now.grid ≡ pos (2 ^ d.grid) →
+    ensures value { (d : Design) (h : Form) → IsGradientRow d h j row.now →
+        corner.now.grid ≡ pos (2 ^ d.grid) → IfSome result (IsSlope d h corner.now j) }
+    ensures room { (d : Design) (h : Form) → IsGradientRow d h j row.now → corner.now.grid ≡ pos (2 ^ d.grid) →
         IsSome result ↔ (slope_size_at d h corner.now j ≤ 2 ^ 126) }
 {
     let (state, grid) = (&corner.state, corner.grid);

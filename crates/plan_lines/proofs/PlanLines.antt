@@ -23,14 +23,14 @@ pieces {X} f xs i d l =
     ap (flat_map f) (take-length xs) ∙ ap (flat_map f) (sym (take-append-drop i xs)) ∙ flat_map-append f (take i xs) (drop i xs)
     ∙ ap (λ (ys : List X). flat_map f (take i xs) ++ flat_map f ys) (drop-cons xs i d l)
 
-regroup : (a b d e : List ℕ) → a ++ ((b ++ d) ++ e) ≡ (a ++ b) ++ (d ++ e)
+pub regroup : (a b d e : List ℕ) → a ++ ((b ++ d) ++ e) ≡ (a ++ b) ++ (d ++ e)
 regroup a b d e = simp append_assoc
 
 -- a line has its line feed at least
 ended : (xs : List ℕ) → 0 < length (xs ++ 10 ∷ [])
 ended xs = omega (arith, length-append xs (10 ∷ []))
 
-line_some : (c : Numbers) (xi : List ℤ) → 0 < length (plan_line c xi)
+pub line_some : (c : Numbers) (xi : List ℤ) → 0 < length (plan_line c xi)
 line_some c xi = ended (spaced (pos (average_denominator c) ∷ averaged_plan c xi))
 
 -- a part of one line, after those before it, is a part of all
@@ -59,7 +59,7 @@ print_part c states old new p = record {
   memory = λ is. absurd (let never : ⊥ = cc in never);
 }
 
-told_err : {T E P : Type 0} (r : Result T E) → is_err r ≡ true → OnErr r P → P
+pub told_err : {T E P : Type 0} (r : Result T E) → is_err r ≡ true → OnErr r P → P
 told_err (Ok x) is h = absurd (let never : ⊥ = cc in never)
 told_err (Err e) is h = h
 

@@ -3,4 +3,4 @@
 
 mod lines;
 
-pub use lines::print_lines;
+pub use lines::{line_from, print_lines};

@@ -13,8 +13,8 @@ use mat_int::Mat;
 use primal_average::plan_line;
 use std::alloc::{AllocError, Global};
 
-// The line of the averaged plan from a state of the box.
-fn line_from(alloc: Global, kernel: &mut Kernel, state: &[i128]) -> Result<Vec<u8>, AllocError>
+/// The line of the averaged plan from a state of the box.
+pub fn line_from(alloc: Global, kernel: &mut Kernel, state: &[i128]) -> Result<Vec<u8>, AllocError>
     requires { IsAdmissible kernel.old.controller state.now }
     ensures line { IfOk result (λ line. line.items ≡ plan_line kernel.old.controller state.now) }
     ensures controller { kernel.new.controller ≡ kernel.old.controller }

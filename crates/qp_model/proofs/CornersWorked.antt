@@ -60,7 +60,11 @@ cost_size = refl
 abbrev ninths : Plans
 ninths = record {
   denominators = pos 3 ∷ pos 7 ∷ pos 9 ∷ pos 11 ∷ [];
-  numerators = record { rows = (pos 1 ∷ negsuc 1 ∷ pos 4 ∷ pos 0 ∷ []) ∷ (pos 5 ∷ pos 0 ∷ negsuc 0 ∷ pos 2 ∷ []) ∷ (pos 1 ∷ pos 1 ∷ pos 1 ∷ pos 1 ∷ []) ∷ (pos 3 ∷ negsuc 2 ∷ pos 2 ∷ negsuc 1 ∷ []) ∷ []; cols = 4 };
+  numerators = record {
+    rows = (pos 1 ∷ negsuc 1 ∷ pos 4 ∷ pos 0 ∷ []) ∷ (pos 5 ∷ pos 0 ∷ negsuc 0 ∷ pos 2 ∷ []) ∷ (pos 1 ∷ pos 1 ∷ pos 1 ∷ pos 1 ∷ [])
+        ∷ (pos 3 ∷ negsuc 2 ∷ pos 2 ∷ negsuc 1 ∷ []) ∷ [];
+    cols = 4;
+  };
 }
 
 gap_across : corner_gap crossed ninths 3 1 ≡ around (negsuc 10560741313700) (pos 25)

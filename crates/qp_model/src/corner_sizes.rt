@@ -66,7 +66,8 @@ pub fn policy_magnitude(parts: &DesignParts, policy: &Policy) -> u128
 pub fn corner_slack_size(parts: &DesignParts, policy: &Policy) -> Option<u128>
     requires design { IsDesign parts.now }
     requires plans { IsPolicyFor (design_of parts.now) (plans_of policy.now) }
-    ensures { SomeIff result (corner_slack_size (design_of parts.now) (plans_of policy.now) ≤ 2 ^ 126) (corner_slack_size (design_of parts.now) (plans_of policy.now)) }
+    ensures { SomeIff result (corner_slack_size (design_of parts.now) (plans_of policy.now) ≤ 2 ^ 126)
+        (corner_slack_size (design_of parts.now) (plans_of policy.now)) }
 {
     let width = limited_product(1 << 17, limit_width(parts))?;
     let row = limited_product(width, prediction_size(parts)?)?;
@@ -77,7 +78,8 @@ pub fn corner_slack_size(parts: &DesignParts, policy: &Policy) -> Option<u128>
 pub fn corner_cost_size(parts: &DesignParts, policy: &Policy) -> Option<u128>
     requires design { IsDesign parts.now }
     requires plans { IsPolicyFor (design_of parts.now) (plans_of policy.now) }
-    ensures { SomeIff result (corner_cost_size (design_of parts.now) (plans_of policy.now) ≤ 2 ^ 126) (corner_cost_size (design_of parts.now) (plans_of policy.now)) }
+    ensures { SomeIff result (corner_cost_size (design_of parts.now) (plans_of policy.now) ≤ 2 ^ 126)
+        (corner_cost_size (design_of parts.now) (plans_of policy.now)) }
 {
     let response = limited_product(cost_width(parts), prediction_size(parts)?)?;
     let row = limited_product(response, policy_magnitude(parts, policy))?;

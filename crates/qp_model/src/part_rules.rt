@@ -95,7 +95,8 @@ fn test_limits(p: &DesignParts) -> Result<(), TextFault>
 
 // The rules of the box before those of its upper ends.
 fn test_lows(p: &DesignParts) -> Result<(), TextFault>
-    ensures { Tests result (range 16 (p.now.grid ≤ 24) ∷ shape 17 (length p.now.lo.items ≡ p.now.states) ∷ range 17 (All IsNumerator p.now.lo.items) ∷ []) }
+    ensures { Tests result
+        (range 16 (p.now.grid ≤ 24) ∷ shape 17 (length p.now.lo.items ≡ p.now.states) ∷ range 17 (All IsNumerator p.now.lo.items) ∷ []) }
 {
     in_range(16, p.grid <= 24)
         .and(in_shape(17, p.lo.len() == p.states))

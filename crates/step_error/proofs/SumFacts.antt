@@ -119,7 +119,8 @@ design_bounded p h r design form some room =
       row_scale = positive p.limit_den design.limit_den.low;
       spread_some = spread.0;
       spread_few = spread.1;
-      room = close _ _ s.top_rows (residual_error s plan) _ _ _ _ _ _ (less_spread s.spread (plan_pull d h r + s.tail + d.cost_denominator * gradient_squares d (gradient_error d h r)) s.first (s.top_rows * residual_error s plan) spread.0 spread.1) room;
+      room = close _ _ s.top_rows (residual_error s plan) _ _ _ _ _ _
+          (less_spread s.spread (plan_pull d h r + s.tail + d.cost_denominator * gradient_squares d (gradient_error d h r)) s.first (s.top_rows * residual_error s plan) spread.0 spread.1) room;
     }
   where
     close : (x t m n a b c e f g : ℕ) → x + 2 ^ 40 * (m * n) ≤ t → t + a + b + c + e + f + g ≤ 2 ^ 126 →

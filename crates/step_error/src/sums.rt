@@ -170,7 +170,8 @@ fn products(a: u128, b: u128, c: u128, d: u128) -> Option<u128>
 // What the states, the constant and the multipliers pull a plan by, over the least input weight. None where it is above `2^126`.
 fn pull_of(sizes: &Sizes, r: u128) -> Option<u128>
     requires { r ≤ 2 ^ 44 }
-    ensures { let plan_pull = sizes.now.state * sizes.now.linear + sizes.now.constant + 2 * r * sizes.now.rows in SomeIff result (plan_pull ≤ 2 ^ 126) plan_pull }
+    ensures { let plan_pull = sizes.now.state * sizes.now.linear + sizes.now.constant + 2 * r * sizes.now.rows in
+        SomeIff result (plan_pull ≤ 2 ^ 126) plan_pull }
 {
     limited_sum(
         products(sizes.state, sizes.linear, 2 * r, sizes.rows)?,

@@ -55,5 +55,6 @@ line_pieces [] good = tt
 line_pieces (l ∷ ls) good = (line_piece l (good 0 l (omega arith)), line_pieces ls (λ k e lt. good (suc k) e (omega arith)))
 
 -- its pieces
-pub text_cut : (text : List ℕ) (ls : List Keyed) (pieces : List (List ℕ)) (last : List ℕ) → All IsKeyedLine ls → text ≡ text_of (map spelled ls) → slice_split (λ b. eqb b 10) text ≡ pieces ++ last ∷ [] → (pieces ≡ map spelled ls) × (last ≡ [])
+pub text_cut : (text : List ℕ) (ls : List Keyed) (pieces : List (List ℕ)) (last : List ℕ) → All IsKeyedLine ls → text ≡ text_of (map spelled ls) →
+    slice_split (λ b. eqb b 10) text ≡ pieces ++ last ∷ [] → (pieces ≡ map spelled ls) × (last ≡ [])
 text_cut text ls pieces last good e cut = same_from_push pieces (map spelled ls) last [] (sym cut ∙ ap (slice_split (λ b. eqb b 10)) e ∙ split_text (map spelled ls) (line_pieces ls good))

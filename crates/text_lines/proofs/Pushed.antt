@@ -8,7 +8,8 @@ use Rattle.text_lines.proofs.Chained.{chain_more}
 use Rattle.text_lines.proofs.OneText.{text_append}
 
 -- one block more
-pub block_pushed : (bs : List (List Keyed)) (i : ℕ) (t u : List ℕ) → i < length bs → t ≡ text_of (map spelled (chained (take i bs))) → u ≡ t ++ text_of (map spelled (get_or bs i [])) → u ≡ text_of (map spelled (chained (take (i + 1) bs)))
+pub block_pushed : (bs : List (List Keyed)) (i : ℕ) (t u : List ℕ) → i < length bs → t ≡ text_of (map spelled (chained (take i bs))) →
+    u ≡ t ++ text_of (map spelled (get_or bs i [])) → u ≡ text_of (map spelled (chained (take (i + 1) bs)))
 block_pushed bs i t u lt before grown =
     let front = chained (take i bs) in
     let last = get_or bs i [] in

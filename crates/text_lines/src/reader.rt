@@ -17,7 +17,8 @@ pub fn lines_in<'a, G: Grammar>(
     bytes: &'a [u8],
 ) -> Result<Result<Vec<Line<'a>>, u32>, AllocError>
     requires { IsGrammar G.whole }
-    ensures { IfOk result (λ r. MatchResult r (λ v. G.whole (views v.items) × (bytes.now ≡ text_of (map spelled (views v.items)))) (IsBadLineOf (IsTextOf G.whole) bytes.now)) }
+    ensures { IfOk result (λ r.
+        MatchResult r (λ v. G.whole (views v.items) × (bytes.now ≡ text_of (map spelled (views v.items)))) (IsBadLineOf (IsTextOf G.whole) bytes.now)) }
 {
     let pieces = pieces_of(alloc, bytes, b'\n')?;
     // What is after the last line feed is no line.

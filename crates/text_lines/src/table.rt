@@ -8,7 +8,8 @@ pub fn place_in(
     blocks: &[(&'static str, usize, usize)],
     index: usize,
 ) -> Option<(&'static str, usize)>
-    ensures { MatchOption result (slice_get (spread (blocks_of blocks.now)) index ≡ None) (λ p. slice_get (spread (blocks_of blocks.now)) index ≡ Some (place p.0.now p.1)) }
+    ensures { MatchOption result (slice_get (spread (blocks_of blocks.now)) index ≡ None) (λ p.
+        slice_get (spread (blocks_of blocks.now)) index ≡ Some (place p.0.now p.1)) }
 {
     let mut left = index;
     for (key, rows, count) in blocks {

@@ -6,4 +6,6 @@ mod averages;
 #[cfg(test)]
 mod controllers;
 #[cfg(test)]
+mod requests;
+#[cfg(test)]
 mod steps;

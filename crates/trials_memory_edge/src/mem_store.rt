@@ -95,7 +95,8 @@ impl MemStore {
 
     // Puts an entry under a name.
     fn put(&mut self, name: &str, entry: Entry) -> Result<(), AllocError>
-        ensures slots { OnOk result ((slot_at self.new name.now ≡ Some entry) × ((q : List ℕ) → q ≢ name.now → slot_at self.new q ≡ slot_at self.old q)) }
+        ensures slots { OnOk result ((slot_at self.new name.now ≡ Some entry)
+            × ((q : List ℕ) → q ≢ name.now → slot_at self.new q ≡ slot_at self.old q)) }
         ensures same { self.new ≡ record self.old { slots = self.new.slots } }
         ensures err { OnErr result (self.new ≡ self.old) }
     {
@@ -160,7 +161,8 @@ impl MemStore {
 
     /// Writes the bytes under a name, which wants room for them. A write that is listed fails and keeps some of them, if there is room.
     pub fn write(&mut self, name: &str, bytes: &[u8]) -> Result<(), Failed>
-        ensures here { files_of self.new name.now ≡ after_write (files_of self.old name.now) (rooms_of self.old name.now) bytes.now (keep_of self.old.failing_writes self.new.writes) }
+        ensures here { files_of self.new name.now
+            ≡ after_write (files_of self.old name.now) (rooms_of self.old name.now) bytes.now (keep_of self.old.failing_writes self.new.writes) }
         ensures others { (q : List ℕ) → q ≢ name.now → files_of self.new q ≡ files_of self.old q }
         ensures rooms { (q : List ℕ) → rooms_of self.new q ≡ rooms_of self.old q }
         ensures ok { IsOk result ↔ (HasRoom (rooms_of self.old name.now) (length bytes.now) × (keep_of self.old.failing_writes self.new.writes ≡ None)) }

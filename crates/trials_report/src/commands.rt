@@ -175,14 +175,50 @@ fn lines_of_controllers(rt: HostRuntime) -> Result<(), Fail> {
     Ok(())
 }
 
+#[test]
+fn line_of_a_cell(rt: HostRuntime) -> Result<(), Fail> {
+    let refusal = Refusal::Curvature;
+    assert!(rt;
+        is_line(
+            rt.alloc(),
+            &Status::Cell { cell: 2, refusal },
+            "error 18 cell 2 curvature\n"
+        )?
+    );
+    Ok(())
+}
+
 // Each command, and next to it the arguments of none.
-static COMMANDS: [(&str, Option<Command>); 34] = [
+static COMMANDS: [(&str, Option<Command>); 46] = [
     ("generate d p c r", Some(Command::Generate)),
     ("generate d d c r.json", Some(Command::Generate)),
     ("solve c s", Some(Command::Solve)),
     ("solve s s", Some(Command::Solve)),
-    ("loop d c s 0", Some(Command::Loop { turns: 0 })),
-    ("loop d c s 1000000", Some(Command::Loop { turns: 1000000 })),
+    (
+        "loop d c s 0",
+        Some(Command::Loop {
+            turns: 0,
+            disturbed: false,
+        }),
+    ),
+    (
+        "loop d c s 1000000 v",
+        Some(Command::Loop {
+            turns: 1000000,
+            disturbed: true,
+        }),
+    ),
+    ("split d l p c r", Some(Command::Split)),
+    ("serve c s", Some(Command::Serve)),
+    ("lean d p q c r", Some(Command::Lean)),
+    (
+        "lean d p q c r f",
+        Some(Command::LeanStay { disturbed: false }),
+    ),
+    (
+        "lean d p q c r f w",
+        Some(Command::LeanStay { disturbed: true }),
+    ),
     ("demo 0", Some(Command::Demo { number: 0 })),
     (
         "demo 4294967295",
@@ -208,7 +244,14 @@ static COMMANDS: [(&str, Option<Command>); 34] = [
     ("loop d c s +1", None),
     ("loop d c s x", None),
     ("loop d c s ", None),
-    ("loop d c s 1 2", None),
+    ("loop d c s 1 v w", None),
+    ("loop d c s v 1", None),
+    ("split d l p c c", None),
+    ("split d l p l r", None),
+    ("split d l p c", None),
+    ("serve c", None),
+    ("lean d p q c r c", None),
+    ("lean d p q c r f w x", None),
     ("demo", None),
     ("demo 4294967296", None),
     ("demo 00", None),

@@ -5,9 +5,10 @@ use Rattle.command_line.specs.declared.status.Status.{Status}
 use Rattle.command_line.specs.declared.status.Status.TheVariants.{Done}
 use Rattle.command_line.proofs.Counts.{none_falls_twice}
 use Rattle.command_generate.specs.Writing.{AreWritten, IsSecondCut}
-use Rattle.command_lean.specs.Lean.{LeanCalls, IsLeanWritten, IsControllerCut, IsReportCut}
-use Rattle.command_lean.specs.Reading.{IsAnswered}
-use Rattle.command_lean.proofs.Written.{carried, both_written, first_cut, second_cut, written_done, written_no_read, written_none, write_fault, stop_called, stop_not_done, stop_no_write, stop_fault}
+use Rattle.command_lean.specs.Lean.{LeanCalls, IsLeanWritten, IsLeanControllerCut, IsLeanReportCut}
+use Rattle.command_lean.specs.Reading.{IsLeanAnswered}
+use Rattle.command_generate.proofs.Written.{written_done, written_no_read, written_none, write_fault}
+use Rattle.command_lean.proofs.Written.{carried, both_written, first_cut, second_cut, stop_called, stop_not_done, stop_no_write, stop_fault}
 use Rattle.command_lean.proofs.command.lean.Goals as goal
 
 pub returns-in-Ok : goal.returns-in-Ok
@@ -28,12 +29,12 @@ returns-in-Ok g c =
           (λ files new. AreWritten files new (word_of words 4) (word_of words 5) text report) (λ files new. IsLeanWritten words files new) c.in-Ok.ensures.held from
           (λ files new read are. both_written words text report held from files new read (λ e. apart (sym e)) are) ((rw (c.at.ensures, c.at-in-Ok.ensures) at c.write_texts.ensures.done) done);
       controller_cut = λ is. carried words text report held mid new
-          (λ files new. IsCutShort files new (word_of words 4) text) (λ files new. IsControllerCut words files new) c.in-Ok.ensures.held from
+          (λ files new. IsCutShort files new (word_of words 4) text) (λ files new. IsLeanControllerCut words files new) c.in-Ok.ensures.held from
           (λ files new read cut. first_cut words text report held from files new read cut) ((rw c.at.ensures at c.write_texts.ensures.first_cut) is);
       report_cut = λ is. carried words text report held mid new
-          (λ files new. IsSecondCut files new (word_of words 4) (word_of words 5) text report) (λ files new. IsReportCut words files new) c.in-Ok.ensures.held from
+          (λ files new. IsSecondCut files new (word_of words 4) (word_of words 5) text report) (λ files new. IsLeanReportCut words files new) c.in-Ok.ensures.held from
           (λ files new read cut. second_cut words text report held from files new read (λ e. apart (sym e)) cut) ((rw (c.at.ensures, c.at-in-Ok.ensures) at c.write_texts.ensures.second_cut) is);
-      called = λ caused. subst (λ (s : Status). IsAnswered words held s) (sym (written_done s c.write_texts.ensures.only caused)) from.answer;
+      called = λ caused. subst (λ (s : Status). IsLeanAnswered words held s) (sym (written_done s c.write_texts.ensures.only caused)) from.answer;
       read_fault = λ file is. absurd (written_no_read s c.write_texts.ensures.only file is);
       write_fault =
           write_fault words held (λ k. LeanCalls (k 1) (k 2) (k 3) Done) (writes c.args.store.now) (writes c.texts_for.new.store) (writes c.write_texts.new.store) s

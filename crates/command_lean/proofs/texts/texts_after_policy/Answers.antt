@@ -2,7 +2,7 @@ use Rattle.std.proofs.lemmas.Result.{IfErr-weaker, IfOk-weaker}
 use Rattle.qp_model.specs.problem.Policy.{plans_of}
 use Rattle.command_line.specs.declared.status.Status.TheVariants.{Done}
 use Rattle.command_line.proofs.Results.{handed, unmet}
-use Rattle.command_lean.specs.Reading.{AreRead, Ends}
+use Rattle.command_lean.specs.Reading.{AreLeanInputsRead, Ends}
 use Rattle.command_lean.proofs.Opening.{reference_ends, all_right, refused_ends}
 use Rattle.command_lean.proofs.texts.texts_after_policy.Goals as goal
 
@@ -40,7 +40,7 @@ returns g c =
     let plans = plans_of c.args.policy.now in
     let references = plans_of c.in_ok-reference.reference in
     let reference = rw c.at.ensures at c.in_ok-reference.ensures.right in
-    let read : AreRead words held p plans references = record { design = c.requires.design; policy = c.requires.policy; reference = reference } in
+    let read : AreLeanInputsRead words held p plans references = record { design = c.requires.design; policy = c.requires.policy; reference = reference } in
     record {
       texts = IfOk-weaker c.texts_of.result _ _
           (λ t are. record { p = p; plans = plans; references = references; read = read; texts = are; answer = all_right words held p c.requires.design plans c.requires.policy references reference Done are.answer })

@@ -3,7 +3,7 @@ use Rattle.std.proofs.lemmas.Result.{IfErr-weaker, IfOk-weaker}
 use Rattle.qp_model.specs.problem.Policy.{plans_of}
 use Rattle.qp_model.specs.bounds.Printed.{printed}
 use Rattle.command_line.proofs.Results.{handed, unmet}
-use Rattle.command_lean.specs.Reading.{IsRefusedWith}
+use Rattle.command_lean.specs.Reading.{IsLeanRefusedWith}
 use Rattle.command_lean.proofs.texts.texts_of.Goals as goal
 
 pub returns-in_err-made : goal.returns-in_err-made
@@ -13,7 +13,7 @@ returns-in_err-made c =
     let e = c.in_err-made.field-0.0 in
     record {
       texts = unmet r _ _ is;
-      refused = handed r (IsRefusedWith c.args.design.now (plans_of c.args.policy.now) (plans_of c.args.reference.now)) e is c.in_err-made.ensures.refused;
+      refused = handed r (IsLeanRefusedWith c.args.design.now (plans_of c.args.policy.now) (plans_of c.args.reference.now)) e is c.in_err-made.ensures.refused;
     }
 
 pub returns-clause-texts : goal.returns-clause-texts

@@ -26,8 +26,11 @@ returns-in-Ok g c =
       called = λ caused. subst (λ (t : Status). ForContents words held (λ k. IsAnswer (ListCalls (k 1)) t)) (sym (written_done s only caused)) (done_called words held n read);
       no_read_fault = written_no_read s only;
       write_fault = λ file is.
-          let second = written_second s only file is in
-          (second, done_calls words held n read, (let at = word_of words in subst (λ (k : ℕ). Rose (g.S.Store.write_faults c.args.store.now (at k)) (g.S.Store.write_faults c.write_text.new.store (at k))) (sym second) (failed (written_cut s only file is))));
+          let second = written_second s only file is in (
+            second,
+            done_calls words held n read,
+            (let at = word_of words in subst (λ (k : ℕ). Rose (g.S.Store.write_faults c.args.store.now (at k)) (g.S.Store.write_faults c.write_text.new.store (at k))) (sym second) (failed (written_cut s only file is))),
+          );
       held = λ not_done no_write. absurd (written_none s only not_done no_write);
       reads = c.write_text.ensures.reads;
       writes = c.write_text.ensures.writes;

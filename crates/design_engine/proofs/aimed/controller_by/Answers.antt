@@ -14,31 +14,31 @@ use Rattle.design_engine.proofs.aimed.controller_by.Goals as goal
 
 -- ---- the gains, and the exponents of the rows
 pub solve_all-requires-clause-form : goal.solve_all-requires-clause-form
-solve_all-requires-clause-form c = record { parts = c.args.design.now; form = c.requires.scaled.form }
+solve_all-requires-clause-form c = record { parts = c.args.design.now; form = c.requires.stepped.form }
 
 pub solve_all-requires-clause-bits : goal.solve_all-requires-clause-bits
 solve_all-requires-clause-bits c = c.requires.chosen.passes.choice.to
 
 pub row_exponents-requires-clause-form : goal.row_exponents-requires-clause-form
-row_exponents-requires-clause-form c = c.requires.scaled.form
+row_exponents-requires-clause-form c = c.requires.stepped.form
 
 pub row_exponents-requires-clause-chosen : goal.row_exponents-requires-clause-chosen
-row_exponents-requires-clause-chosen c = c.requires.scaled.exponent
+row_exponents-requires-clause-chosen c = c.requires.stepped.exponent
 
 pub row_exponents-requires-clause-curved : goal.row_exponents-requires-clause-curved
-row_exponents-requires-clause-curved c = c.requires.scaled.curved
+row_exponents-requires-clause-curved c = c.requires.stepped.curved
 
 pub returns-in_err-gains-clause-refused : goal.returns-in_err-gains-clause-refused
 returns-in_err-gains-clause-refused c =
     refused_by c.from_residual.result _ _ c.from_residual.ensures.1
-    (solve_refused (design_of c.args.design.now) c.args.aim c.args.scaled.now.s c.args.plan.now.choice.f c.requires.chosen.passes _ (c.in_err-gains.ensures.wide _ c.requires.scaled.form))
+    (solve_refused (design_of c.args.design.now) c.args.aim c.args.stepped.now.s c.args.plan.now.choice.f c.requires.chosen.passes _ (c.in_err-gains.ensures.wide _ c.requires.stepped.form))
 
 pub returns-in_default-clause-refused : goal.returns-in_default-clause-refused
 returns-in_default-clause-refused c = inl refl
 
 -- ---- the controller
 pub controller_of-requires-clause-form : goal.controller_of-requires-clause-form
-controller_of-requires-clause-form c = c.requires.scaled.form
+controller_of-requires-clause-form c = c.requires.stepped.form
 
 pub controller_of-requires-clause-bits : goal.controller_of-requires-clause-bits
 controller_of-requires-clause-bits c = (c.requires.chosen.passes.choice.from, c.requires.chosen.passes.choice.to)
@@ -54,20 +54,20 @@ controller_of-requires-clause-high c =
     rw (to_z-of_z w128 _ r) c.requires.aim.narrow
 
 pub controller_of-requires-clause-exponent : goal.controller_of-requires-clause-exponent
-controller_of-requires-clause-exponent c = exponent_small (design_of c.args.design.now) _ (c.requires.scaled.exponent c.args.design.now c.requires.scaled.form)
+controller_of-requires-clause-exponent c = exponent_small (design_of c.args.design.now) _ (c.requires.stepped.exponent c.args.design.now c.requires.stepped.form)
 
 pub controller_of-requires-clause-exponents : goal.controller_of-requires-clause-exponents
 controller_of-requires-clause-exponents c = exponents_listed (design_of c.args.design.now) _ _ c.in-Ok.ensures.list
 
 pub controller_of-requires-clause-gains : goal.controller_of-requires-clause-gains
-controller_of-requires-clause-gains c = c.in_ok-gains.ensures.solved _ c.requires.scaled.form
+controller_of-requires-clause-gains c = c.in_ok-gains.ensures.solved _ c.requires.stepped.form
 
 pub controller_of-requires-clause-room : goal.controller_of-requires-clause-room
-controller_of-requires-clause-room c = c.in_ok-gains.ensures.fits _ c.requires.scaled.form
+controller_of-requires-clause-room c = c.in_ok-gains.ensures.fits _ c.requires.stepped.form
 
 pub controller_of-requires-clause-steps : goal.controller_of-requires-clause-steps
 controller_of-requires-clause-steps c =
-    let some = steps_some c.args.scaled.now.s _ _ (kept_least c.args.aim.r c.requires.aim.some) (kept_least c.args.aim.step_target c.requires.aim.steps) in
+    let some = steps_some c.args.stepped.now.s _ _ (kept_least c.args.aim.r c.requires.aim.some) (kept_least c.args.aim.step_target c.requires.aim.steps) in
     (rw c.requires.chosen.steps some, rw c.requires.chosen.steps c.requires.chosen.passes.steps)
 
 pub returns-in_err-controller_of-clause-refused : goal.returns-in_err-controller_of-clause-refused
@@ -75,7 +75,7 @@ returns-in_err-controller_of-clause-refused c =
     let r : SFits w128 c.args.aim.r = search rules in
     let kept = rw (to_z-of_z w128 _ r) at c.in_err-controller_of.ensures.wide in
     refused_by c.from_residual-in_err-controller_of.result _ _ c.from_residual-in_err-controller_of.ensures.1
-    (width_refused (design_of c.args.design.now) c.args.aim c.args.scaled.now.s c.args.plan.now.choice.f _ c.requires.chosen.passes (c.in_ok-gains.ensures.fits _ c.requires.scaled.form)
+    (width_refused (design_of c.args.design.now) c.args.aim c.args.stepped.now.s c.args.plan.now.choice.f _ c.requires.chosen.passes (c.in_ok-gains.ensures.fits _ c.requires.stepped.form)
     c.requires.chosen.steps _ kept)
 
 pub returns-clause-made : goal.returns-clause-made
@@ -85,17 +85,17 @@ returns-clause-made c =
 
 pub returns-clause-exponents : goal.returns-clause-exponents
 returns-clause-exponents c =
-    subst (λ (es : List ℕ). AreExponentsOf (design_of c.args.design.now) c.args.scaled.now.s es) (sym c.in_ok-controller_of.ensures.made.exponents) c.in-Ok.ensures.list
+    subst (λ (es : List ℕ). AreExponentsOf (design_of c.args.design.now) c.args.stepped.now.s es) (sym c.in_ok-controller_of.ensures.made.exponents) c.in-Ok.ensures.list
 
 pub returns-clause-curved : goal.returns-clause-curved
 returns-clause-curved c =
-    subst (λ (es : List ℕ). AreExponents (design_of c.args.design.now) (exponent_in es) c.args.scaled.now.s) (sym c.in_ok-controller_of.ensures.made.exponents) c.in-Ok.ensures.curved
+    subst (λ (es : List ℕ). AreExponents (design_of c.args.design.now) (exponent_in es) c.args.stepped.now.s) (sym c.in_ok-controller_of.ensures.made.exponents) c.in-Ok.ensures.curved
 
 pub returns-clause-passes : goal.returns-clause-passes
 returns-clause-passes c =
     let r : SFits w128 c.args.aim.r = search rules in
     let kept = rw (to_z-of_z w128 _ r) at c.in_ok-controller_of.ensures.fits in
-    record { before = c.requires.chosen.passes; descent = c.in_ok-gains.ensures.fits _ c.requires.scaled.form; width = rw c.requires.chosen.steps at kept }
+    record { before = c.requires.chosen.passes; descent = c.in_ok-gains.ensures.fits _ c.requires.stepped.form; width = rw c.requires.chosen.steps at kept }
 
 -- ---- nothing is made on a refusal
 pub returns-in_err-gains-clause-sound : goal.returns-in_err-gains-clause-sound

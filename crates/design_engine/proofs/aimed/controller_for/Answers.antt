@@ -19,8 +19,8 @@ pub returns-in_err-controller-clause-refused : goal.returns-in_err-controller-cl
 returns-in_err-controller-clause-refused c =
     refused_by c.from_residual-in_err-controller.result _ _ c.from_residual-in_err-controller.ensures.1 (λ e f. rw f c.in_err-controller.ensures.refused)
 
-pub controller_by-requires-clause-scaled : goal.controller_by-requires-clause-scaled
-controller_by-requires-clause-scaled c = c.requires.scaled
+pub controller_by-requires-clause-stepped : goal.controller_by-requires-clause-stepped
+controller_by-requires-clause-stepped c = c.requires.stepped
 
 pub controller_by-requires-clause-aim : goal.controller_by-requires-clause-aim
 controller_by-requires-clause-aim c = c.requires.aim
@@ -36,7 +36,7 @@ real_cost-cost-requires c =
     record {
       parts = p;
       r = _;
-      made = given_from p _ _ c.args.scaled.now.s _ _ _ c.args.scaled.now.condensed c.in_ok-controller.controller c.requires.scaled.form refl made
+      made = given_from p _ _ c.args.stepped.now.s _ _ _ c.args.stepped.now.condensed c.in_ok-controller.controller c.requires.stepped.form refl made
           c.in_ok-plan.plan.sums c.in_ok-plan.ensures.chosen.sums c.in_ok-controller.ensures.sound c.in_ok-controller.ensures.passes.descent;
     }
 
@@ -48,11 +48,11 @@ returns-clause-made c =
     let cost : SFits w128 c.real_cost-cost.result = search rules in
     let eps : SFits w128 c.in_ok-plan.plan.choice.eps = search rules in
     record {
-      made = made_from p c.args.aim c.in_ok-controller.controller c.args.scaled.now.s _ _ _ c.requires.scaled.form.design c.requires.scaled.form.sizes.cost_room
-          (c.requires.scaled.exponent p c.requires.scaled.form) c.in_ok-controller.ensures.exponents c.in_ok-controller.ensures.curved chosen.steps chosen.passes.choice
+      made = made_from p c.args.aim c.in_ok-controller.controller c.args.stepped.now.s _ _ _ c.requires.stepped.form.design c.requires.stepped.form.sizes.cost_room
+          (c.requires.stepped.exponent p c.requires.stepped.form) c.in_ok-controller.ensures.exponents c.in_ok-controller.ensures.curved chosen.steps chosen.passes.choice
           c.in_ok-controller.ensures.sound made;
       cost = to_z-of_z w128 _ cost ∙ c.real_cost-cost.ensures p _
-          (given_from p _ _ c.args.scaled.now.s _ _ _ c.args.scaled.now.condensed c.in_ok-controller.controller c.requires.scaled.form refl made
+          (given_from p _ _ c.args.stepped.now.s _ _ _ c.args.stepped.now.condensed c.in_ok-controller.controller c.requires.stepped.form refl made
           c.in_ok-plan.plan.sums chosen.sums c.in_ok-controller.ensures.sound c.in_ok-controller.ensures.passes.descent);
       errors = to_z-of_z w128 _ eps ∙ chosen.cost ∙ ap (λ (f : ℕ). pos (stated_cost (design_of p) (unsigned_abs c.args.aim.r) f)) (sym made.fraction_bits);
     }

@@ -20,7 +20,7 @@ returns-in_err-steps-clause-refused c =
     let t : SFits w128 c.args.aim.step_target = search rules in
     let kept = rw (to_z-of_z w128 _ r, to_z-of_z w128 _ t) at c.in_err-steps.ensures in
     refused_by c.from_residual.result _ _ c.from_residual.ensures.1
-    (steps_refused (design_of c.args.design.now) c.args.aim c.args.scaled.now.s _ kept.value kept.told)
+    (steps_refused (design_of c.args.design.now) c.args.aim c.args.stepped.now.s _ kept.value kept.told)
 
 pub returns-in_err-sums-clause-refused : goal.returns-in_err-sums-clause-refused
 returns-in_err-sums-clause-refused c =
@@ -29,7 +29,7 @@ returns-in_err-sums-clause-refused c =
     let count = rw (to_z-of_z w128 _ r, to_z-of_z w128 _ t) at c.in_ok-steps.ensures.value in
     let kept = rw (to_z-of_z w128 _ r) at c.in_err-sums.ensures in
     refused_by c.from_residual-in_err-sums.result _ _ c.from_residual-in_err-sums.ensures.1
-    (sums_refused (design_of c.args.design.now) c.args.aim c.args.scaled.now.s _ count.0 kept.value kept.named)
+    (sums_refused (design_of c.args.design.now) c.args.aim c.args.stepped.now.s _ count.0 kept.value kept.named)
 
 pub returns-in_err-choice-clause-refused : goal.returns-in_err-choice-clause-refused
 returns-in_err-choice-clause-refused c =
@@ -40,7 +40,7 @@ returns-in_err-choice-clause-refused c =
     let sums = rw (to_z-of_z w128 _ r) at c.in_ok-sums.ensures.value in
     let kept = rw (to_z-of_z w128 _ l) at c.in_err-choice.ensures in
     refused_by c.from_residual-in_err-choice.result _ _ c.from_residual-in_err-choice.ensures.1
-    (choice_refused (design_of c.args.design.now) c.args.aim c.args.scaled.now.s (sums_of c.in_ok-sums.sums) _ count.0 sums.0
+    (choice_refused (design_of c.args.design.now) c.args.aim c.args.stepped.now.s (sums_of c.in_ok-sums.sums) _ count.0 sums.0
     (sums_back (design_of c.args.design.now) c.in_ok-sums.sums _ sums.1) (kept.fine.0 refl) kept.told)
 
 -- ---- what is chosen
@@ -60,7 +60,7 @@ returns-clause-chosen c =
             (size_kept c.args.aim.error_target l) c.in_ok-choice.ensures.choice;
       };
       steps = count.1;
-      sums = record { form = c.requires.scaled.form; bound = kept_least c.args.aim.r c.requires.aim.some; sums = sums.1; room = sums.0 };
+      sums = record { form = c.requires.stepped.form; bound = kept_least c.args.aim.r c.requires.aim.some; sums = sums.1; room = sums.0 };
       cost = c.in_ok-choice.ensures.cost ∙ ap (λ (sums : ErrorSums). pos (epsilon sums c.in_ok-choice.choice.f)) back;
     }
 
@@ -81,7 +81,7 @@ steps-requires-clause-target c =
     rw (to_z-of_z w128 _ t) c.requires.aim.steps
 
 pub steps-requires-clause-exponent : goal.steps-requires-clause-exponent
-steps-requires-clause-exponent c = exponent_small (design_of c.args.design.now) _ (c.requires.scaled.exponent c.args.design.now c.requires.scaled.form)
+steps-requires-clause-exponent c = exponent_small (design_of c.args.design.now) _ (c.requires.stepped.exponent c.args.design.now c.requires.stepped.form)
 
 pub error_sums-requires-clause-some : goal.error_sums-requires-clause-some
 error_sums-requires-clause-some c =
@@ -94,7 +94,7 @@ error_sums-requires-clause-narrow c =
     rw (to_z-of_z w128 _ r) c.requires.aim.narrow
 
 pub error_sums-requires-clause-form : goal.error_sums-requires-clause-form
-error_sums-requires-clause-form c = c.requires.scaled.form
+error_sums-requires-clause-form c = c.requires.stepped.form
 
 pub choose_bits-requires-clause-some : goal.choose_bits-requires-clause-some
 choose_bits-requires-clause-some c =

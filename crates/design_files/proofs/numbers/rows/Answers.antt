@@ -4,7 +4,7 @@ use Rattle.std.proofs.lemmas.List.{length-set}
 use Rattle.std.proofs.lemmas.List.Elements.{All-set}
 use Rattle.std.specs.Prelude.{IsSomeAnd}
 use Rattle.toml.specs.View.{view, items_view}
-use Rattle.design_files.specs.Numbers.{rows_of, IsList}
+use Rattle.design_files.specs.Numbers.{rows_of, IsIntegerList}
 use Rattle.design_files.proofs.NumberLaws.{rows_item, some_and, rows_more, rows_done}
 use Rattle.design_files.proofs.numbers.rows.Goals as goal
 
@@ -12,7 +12,7 @@ pub returns-in_err-list : goal.returns-in_err-list
 returns-in_err-list c =
     let vs = c.args.items.now in
     let e = err_from_is_err_and c.from_residual-in_err-list.result c.from_residual-in_err-list.ensures.1 in
-    let item : (IsSomeAnd (rows_of (items_view vs)) (All (λ row. length row ≡ c.args.width)) → IsList c.args.width (Some (view c.index-items-i.result))) = λ is.
+    let item : (IsSomeAnd (rows_of (items_view vs)) (All (λ row. length row ≡ c.args.width)) → IsIntegerList c.args.width (Some (view c.index-items-i.result))) = λ is.
     let (rows, (found, all)) = some_and (rows_of (items_view vs)) (All (λ row. length row ≡ c.args.width)) is in
     rw c.index-items-i.is (rows_item vs rows c.loop-i.i c.index-items-i.result c.args.width c.loop-i-test.true found all) in
     rw (e.1, e.2) (elim c.in_err-list.ensures [

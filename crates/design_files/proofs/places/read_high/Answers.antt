@@ -3,7 +3,7 @@ use Rattle.std.proofs.lemmas.Result.{err_from_is_err_and}
 use Rattle.toml.specs.View.{view}
 use Rattle.qp_model.specs.problem.PartRules.{AreHighs}
 use Rattle.qp_model.specs.problem.Rules.{shape, range}
-use Rattle.design_files.specs.Numbers.{IsList, list_of}
+use Rattle.design_files.specs.Numbers.{IsIntegerList, list_of}
 use Rattle.design_files.proofs.ReadLaws.{fails_before}
 use Rattle.design_files.proofs.PartLaws.{fails_range}
 use Rattle.design_files.proofs.places.read_high.Goals as goal
@@ -13,7 +13,7 @@ returns-in_err-high c =
     let seen = Some (view c.args.value.now) in
     let low = c.args.low.now in
     let e = err_from_is_err_and c.from_residual.result c.from_residual.ensures.1 in
-    rw (e.1, e.2) (fails_before (shape 18 (IsList (length low) seen) ∷ []) (range 18 (AreHighs (list_of seen) low (length low)) ∷ []) _ c.in_err-high.ensures)
+    rw (e.1, e.2) (fails_before (shape 18 (IsIntegerList (length low) seen) ∷ []) (range 18 (AreHighs (list_of seen) low (length low)) ∷ []) _ c.in_err-high.ensures)
 
 pub returns-in_err-in_range : goal.returns-in_err-in_range
 returns-in_err-in_range c =
@@ -22,7 +22,7 @@ returns-in_err-in_range c =
     let e = err_from_is_err_and c.from_residual-in_err-in_range.result c.from_residual-in_err-in_range.ensures.1 in
     let known = c.in_ok-high.ensures in
     let failed = c.in_err-in_range.ensures.err in
-    rw (e.1, e.2) (fails_range (shape 18 (IsList (length low) seen)) (range 18 (AreHighs (list_of seen) low (length low))) _ known.0.0
+    rw (e.1, e.2) (fails_range (shape 18 (IsIntegerList (length low) seen)) (range 18 (AreHighs (list_of seen) low (length low))) _ known.0.0
     (failed.0, λ all. failed.1 (c.are_highs.ensures.1 (rw c.deref.ensures.value (rw known.1 at all)))))
 
 pub returns : goal.returns

@@ -19,7 +19,8 @@ returns-in_err-weighted_product-clause-room c =
     let j = c.args.j in
     let l = c.args.l in
     let sound = c.args.x.now.sound in
-    let radii : (i : ℕ) → i < n → (pos 0 ≤ℤ (x i j).rad) × (pos 0 ≤ℤ (x i l).rad) = λ i p. (sound.nonnegative i j (omega (arith, c.requires.shape)) c.requires.row, sound.nonnegative i l (omega (arith, c.requires.shape)) c.requires.col) in
+    let radii : (i : ℕ) → i < n → (pos 0 ≤ℤ (x i j).rad) × (pos 0 ≤ℤ (x i l).rad) =
+    λ i p. (sound.nonnegative i j (omega (arith, c.requires.shape)) c.requires.row, sound.nonnegative i l (omega (arith, c.requires.shape)) c.requires.col) in
     let whole = gram_reach_is n (at weights) x j l (λ i p. c.requires.signs i (pos 0) p) radii in
     let i = c.loop-i.i in
     let inside : i < n = c.loop-i-test.true in
@@ -44,7 +45,8 @@ returns-in_err-sum-clause-room c =
     let j = c.args.j in
     let l = c.args.l in
     let sound = c.args.x.now.sound in
-    let radii : (i : ℕ) → i < n → (pos 0 ≤ℤ (x i j).rad) × (pos 0 ≤ℤ (x i l).rad) = λ i p. (sound.nonnegative i j (omega (arith, c.requires.shape)) c.requires.row, sound.nonnegative i l (omega (arith, c.requires.shape)) c.requires.col) in
+    let radii : (i : ℕ) → i < n → (pos 0 ≤ℤ (x i j).rad) × (pos 0 ≤ℤ (x i l).rad) =
+    λ i p. (sound.nonnegative i j (omega (arith, c.requires.shape)) c.requires.row, sound.nonnegative i l (omega (arith, c.requires.shape)) c.requires.col) in
     let whole = gram_reach_is n (at weights) x j l (λ i p. c.requires.signs i (pos 0) p) radii in
     let i = c.loop-i.i in
     let inside : i < n = c.loop-i-test.true in
@@ -65,7 +67,8 @@ loop-i-preserved c =
     let j = c.args.j in
     let l = c.args.l in
     let sound = c.args.x.now.sound in
-    let radii : (i : ℕ) → i < n → (pos 0 ≤ℤ (x i j).rad) × (pos 0 ≤ℤ (x i l).rad) = λ i p. (sound.nonnegative i j (omega (arith, c.requires.shape)) c.requires.row, sound.nonnegative i l (omega (arith, c.requires.shape)) c.requires.col) in
+    let radii : (i : ℕ) → i < n → (pos 0 ≤ℤ (x i j).rad) × (pos 0 ≤ℤ (x i l).rad) =
+    λ i p. (sound.nonnegative i j (omega (arith, c.requires.shape)) c.requires.row, sound.nonnegative i l (omega (arith, c.requires.shape)) c.requires.col) in
     let whole = gram_reach_is n (at weights) x j l (λ i p. c.requires.signs i (pos 0) p) radii in
     let i = c.loop-i.i in
     let inside : i < n = c.loop-i-test.true in
@@ -89,7 +92,8 @@ returns-clause-room c =
     let j = c.args.j in
     let l = c.args.l in
     let sound = c.args.x.now.sound in
-    let radii : (i : ℕ) → i < n → (pos 0 ≤ℤ (x i j).rad) × (pos 0 ≤ℤ (x i l).rad) = λ i p. (sound.nonnegative i j (omega (arith, c.requires.shape)) c.requires.row, sound.nonnegative i l (omega (arith, c.requires.shape)) c.requires.col) in
+    let radii : (i : ℕ) → i < n → (pos 0 ≤ℤ (x i j).rad) × (pos 0 ≤ℤ (x i l).rad) =
+    λ i p. (sound.nonnegative i j (omega (arith, c.requires.shape)) c.requires.row, sound.nonnegative i l (omega (arith, c.requires.shape)) c.requires.col) in
     let whole = gram_reach_is n (at weights) x j l (λ i p. c.requires.signs i (pos 0) p) radii in
     let end : c.loop-i.i ≡ n = omega (arith, c.loop-i-test.false, c.loop-i.auto.i-end) in
     let most = rw (c.loop-i.invariant.magnitude, end) at c.loop-i.sum.limited in

@@ -25,4 +25,18 @@ returns c =
     let floor = floor_fits _ (2 ^ c.args.f) c.ranges.row in
     let moved = moved_fits c.args.row c.args.bound c.args.f c.requires.row in
     let next = next_fits c.args.row c.args.bound c.args.old c.args.f c.requires.next in
-    rw (row_floor, to_z-of_z w128 _ min, c.min.ensures.value, to_z-of_z w128 _ max, to_z-of_z w128 _ c.ranges.top, c.max.ensures.value, c.short_shift.ensures, to_z-of_z w128 _ c.ranges.row, to_z-of_z w128 _ c.ranges.bound, to_z-of_z w128 _ c.ranges.old, to_z-of_z w128 _ floor, to_z-of_z w128 _ moved, to_z-of_z w128 _ next) refl
+    rw (
+      row_floor,
+      to_z-of_z w128 _ min,
+      c.min.ensures.value,
+      to_z-of_z w128 _ max,
+      to_z-of_z w128 _ c.ranges.top,
+      c.max.ensures.value,
+      c.short_shift.ensures,
+      to_z-of_z w128 _ c.ranges.row,
+      to_z-of_z w128 _ c.ranges.bound,
+      to_z-of_z w128 _ c.ranges.old,
+      to_z-of_z w128 _ floor,
+      to_z-of_z w128 _ moved,
+      to_z-of_z w128 _ next,
+    ) refl

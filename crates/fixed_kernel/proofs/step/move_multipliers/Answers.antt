@@ -33,7 +33,9 @@ loop-i-preserved c =
 
 pub returns : goal.returns
 returns c =
-    fill_by_all (λ k. next_multiplier (numbers c.args.c.now) c.args.state.now c.args.plan.now (get_or c.args.multipliers.now k (pos 0)) k) c.loop-i.multipliers (length c.args.c.now.bound.items) (pos 0) (omega (arith, c.requires.multipliers.long, length-clamp_reach (numbers c.args.c.now))) (λ k h. c.loop-i.invariant.moved k (omega (arith, c.requires.multipliers.long, length-clamp_reach (numbers c.args.c.now))))
+    fill_by_all (λ k. next_multiplier (numbers c.args.c.now) c.args.state.now c.args.plan.now (get_or c.args.multipliers.now k (pos 0)) k) c.loop-i.multipliers
+    (length c.args.c.now.bound.items) (pos 0) (omega (arith, c.requires.multipliers.long, length-clamp_reach (numbers c.args.c.now)))
+    (λ k h. c.loop-i.invariant.moved k (omega (arith, c.requires.multipliers.long, length-clamp_reach (numbers c.args.c.now))))
 
 pub multiplier_at-requires-clause-old : goal.multiplier_at-requires-clause-old
 multiplier_at-requires-clause-old c =

@@ -31,7 +31,8 @@ loop-i-preserved c =
     let same = c.loop-i.invariant.others i (omega arith) in
     record {
       moved = rw (to_z-of_z w128 _ made, c.raised_multiplier_at.ensures, to_z-of_z w128 _ old, same)
-          (fill_by_more (λ k. next_multiplier n c.args.state.now c.args.plan.now (floor_of (get_or c.args.multipliers.now k (pos 0)) (2 ^ lowering_of n k)) k *ℤ pos (2 ^ lowering_of n k)) c.loop-i.multipliers i (pos 0) lt c.loop-i.invariant.moved);
+          (fill_by_more (λ k. next_multiplier n c.args.state.now c.args.plan.now (floor_of (get_or c.args.multipliers.now k (pos 0)) (2 ^ lowering_of n k)) k *ℤ pos (2 ^ lowering_of n k))
+          c.loop-i.multipliers i (pos 0) lt c.loop-i.invariant.moved);
       others = λ k h. let ne : k ≢ i = omega arith in rw get_or-set_other (c.loop-i.invariant.others k (omega arith));
     }
 

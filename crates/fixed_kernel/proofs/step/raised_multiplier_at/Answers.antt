@@ -67,7 +67,19 @@ is_next c =
     let old : FitsSigned w128 c.shifted_by-old.result = search rules in
     let top : FitsSigned w128 c.shifted_by-top.result = search rules in
     let read : c.index-else-lowering-eq0.result.now ≡ get_or n.bounds c.args.i (pos 0) = get_or_read _ _ _ c.requires.in_range c.index-else-lowering-eq0.ensures (pos 0) in
-    rw (to_z-of_z w128 _ top, c.shifted_by-top.ensures, to_z-of_z w128 _ clamp, to_z-of_z w128 _ old, c.shifted_by-old.ensures, c.lowering_at-lowering.ensures.value, to_z-of_z w128 _ c.ranges.raised, to_z-of_z w128 _ sum, to_z-of_z w128 _ bound, read, c.row_products-row.ensures) at c.multiplier_from-next.ensures
+    rw (
+      to_z-of_z w128 _ top,
+      c.shifted_by-top.ensures,
+      to_z-of_z w128 _ clamp,
+      to_z-of_z w128 _ old,
+      c.shifted_by-old.ensures,
+      c.lowering_at-lowering.ensures.value,
+      to_z-of_z w128 _ c.ranges.raised,
+      to_z-of_z w128 _ sum,
+      to_z-of_z w128 _ bound,
+      read,
+      c.row_products-row.ensures,
+    ) at c.multiplier_from-next.ensures
 
 pub scaled_by-requires-clause-narrow : goal.scaled_by-requires-clause-narrow
 scaled_by-requires-clause-narrow c = λ t.
@@ -97,7 +109,23 @@ returns-else-lowering-eq0 c =
     let next : FitsSigned w128 c.multiplier_from-next.result = search rules in
     let raised : FitsSigned w128 c.scaled_by.result = search rules in
     let read : c.index-else-lowering-eq0.result.now ≡ get_or n.bounds c.args.i (pos 0) = get_or_read _ _ _ c.requires.in_range c.index-else-lowering-eq0.ensures (pos 0) in
-    rw (to_z-of_z w128 _ raised, c.scaled_by.ensures, to_z-of_z w128 _ next, c.multiplier_from-next.ensures, to_z-of_z w128 _ top, c.shifted_by-top.ensures, to_z-of_z w128 _ clamp, to_z-of_z w128 _ old, c.shifted_by-old.ensures, c.lowering_at-lowering.ensures.value, to_z-of_z w128 _ c.ranges.raised, to_z-of_z w128 _ sum, to_z-of_z w128 _ bound, read, c.row_products-row.ensures) refl
+    rw (
+      to_z-of_z w128 _ raised,
+      c.scaled_by.ensures,
+      to_z-of_z w128 _ next,
+      c.multiplier_from-next.ensures,
+      to_z-of_z w128 _ top,
+      c.shifted_by-top.ensures,
+      to_z-of_z w128 _ clamp,
+      to_z-of_z w128 _ old,
+      c.shifted_by-old.ensures,
+      c.lowering_at-lowering.ensures.value,
+      to_z-of_z w128 _ c.ranges.raised,
+      to_z-of_z w128 _ sum,
+      to_z-of_z w128 _ bound,
+      read,
+      c.row_products-row.ensures,
+    ) refl
 
 pub shifted_by-old-requires-clause-bits : goal.shifted_by-old-requires-clause-bits
 shifted_by-old-requires-clause-bits c = omega (arith, c.lowering_at-lowering.ensures.bits)

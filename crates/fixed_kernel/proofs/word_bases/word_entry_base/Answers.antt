@@ -64,4 +64,16 @@ returns c =
     let own : FitsSigned w128 c.dot-own.result = search rules in
     let shifted : FitsSigned w128 c.short_scaled.result = search rules in
     let whole : FitsSigned w128 c.short_scaled-2.result = search rules in
-    rw (to_z-of_z w128 _ whole, c.short_scaled-2.ensures, to_z-of_z w128 _ own, to_z-of_z w128 _ shifted, c.dot-own.ensures, c.row.ensures.value, c.short_scaled.ensures, to_z-of_z w128 _ offset, read, to_z-of_z w128 _ fits.sum, to_z-of_z w64 _ fits.word) refl
+    rw (
+      to_z-of_z w128 _ whole,
+      c.short_scaled-2.ensures,
+      to_z-of_z w128 _ own,
+      to_z-of_z w128 _ shifted,
+      c.dot-own.ensures,
+      c.row.ensures.value,
+      c.short_scaled.ensures,
+      to_z-of_z w128 _ offset,
+      read,
+      to_z-of_z w128 _ fits.sum,
+      to_z-of_z w64 _ fits.word,
+    ) refl

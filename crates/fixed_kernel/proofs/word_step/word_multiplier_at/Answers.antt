@@ -54,7 +54,18 @@ is_next c =
     let clamp : FitsSigned w64 c.args.form.now.top = search rules in
     let old : FitsSigned w64 c.word_shift-old.result = search rules in
     let top : FitsSigned w64 c.word_shift-top.result = search rules in
-    rw (to_z-of_z w64 _ top, c.word_shift-top.ensures, to_z-of_z w64 _ clamp, c.requires.form.top, to_z-of_z w64 _ old, c.word_shift-old.ensures, c.lowering_at-lowering.ensures.value, to_z-of_z w64 _ c.ranges.raised, to_z-of_z w64 _ sum, c.word_row_sum-sum.ensures) at c.word_multiplier-else-lowering-eq0.ensures
+    rw (
+      to_z-of_z w64 _ top,
+      c.word_shift-top.ensures,
+      to_z-of_z w64 _ clamp,
+      c.requires.form.top,
+      to_z-of_z w64 _ old,
+      c.word_shift-old.ensures,
+      c.lowering_at-lowering.ensures.value,
+      to_z-of_z w64 _ c.ranges.raised,
+      to_z-of_z w64 _ sum,
+      c.word_row_sum-sum.ensures,
+    ) at c.word_multiplier-else-lowering-eq0.ensures
 
 pub word_raised-requires-clause-bits : goal.word_raised-requires-clause-bits
 word_raised-requires-clause-bits c = omega (arith, c.lowering_at-lowering.ensures.bits)
@@ -75,4 +86,19 @@ returns-else-lowering-eq0 c =
     let top : FitsSigned w64 c.word_shift-top.result = search rules in
     let next : FitsSigned w64 c.word_multiplier-else-lowering-eq0.result = search rules in
     let made : FitsSigned w64 c.word_raised.result = search rules in
-    rw (to_z-of_z w64 _ made, c.word_raised.ensures, to_z-of_z w64 _ next, c.word_multiplier-else-lowering-eq0.ensures, to_z-of_z w64 _ top, c.word_shift-top.ensures, to_z-of_z w64 _ clamp, c.requires.form.top, to_z-of_z w64 _ old, c.word_shift-old.ensures, c.lowering_at-lowering.ensures.value, to_z-of_z w64 _ c.ranges.raised, to_z-of_z w64 _ sum, c.word_row_sum-sum.ensures) refl
+    rw (
+      to_z-of_z w64 _ made,
+      c.word_raised.ensures,
+      to_z-of_z w64 _ next,
+      c.word_multiplier-else-lowering-eq0.ensures,
+      to_z-of_z w64 _ top,
+      c.word_shift-top.ensures,
+      to_z-of_z w64 _ clamp,
+      c.requires.form.top,
+      to_z-of_z w64 _ old,
+      c.word_shift-old.ensures,
+      c.lowering_at-lowering.ensures.value,
+      to_z-of_z w64 _ c.ranges.raised,
+      to_z-of_z w64 _ sum,
+      c.word_row_sum-sum.ensures,
+    ) refl

@@ -16,4 +16,15 @@ returns c =
     let max : FitsSigned w64 c.max.result = search rules in
     let min : FitsSigned w64 c.min.result = search rules in
     let next = word_next_fits c.args.sum c.args.old c.args.f c.requires.next in
-    rw (to_z-of_z w64 _ min, c.min.ensures.value, to_z-of_z w64 _ max, to_z-of_z w64 _ c.ranges.top, c.max.ensures.value, to_z-of_z w64 _ floor, c.word_shift-moved.ensures, to_z-of_z w64 _ c.ranges.sum, to_z-of_z w64 _ c.ranges.old, to_z-of_z w64 _ next) refl
+    rw (
+      to_z-of_z w64 _ min,
+      c.min.ensures.value,
+      to_z-of_z w64 _ max,
+      to_z-of_z w64 _ c.ranges.top,
+      c.max.ensures.value,
+      to_z-of_z w64 _ floor,
+      c.word_shift-moved.ensures,
+      to_z-of_z w64 _ c.ranges.sum,
+      to_z-of_z w64 _ c.ranges.old,
+      to_z-of_z w64 _ next,
+    ) refl

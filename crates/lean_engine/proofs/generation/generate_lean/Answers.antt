@@ -43,37 +43,37 @@ pub returns-in_err-margin-clause-errors : goal.returns-in_err-margin-clause-erro
 returns-in_err-margin-clause-errors c = absent_of_error c.from_residual.result _ c.from_residual.ensures.0
 
 -- ---- by the form
-pub returns-in_err-scaled-clause-refused : goal.returns-in_err-scaled-clause-refused
-returns-in_err-scaled-clause-refused c =
-    refused_by c.from_residual-in_err-scaled.result _ _ c.from_residual-in_err-scaled.ensures.1
-    (λ e f. rw f (form_caused _ _ (plans_of c.args.policy.now) (plans_of c.args.reference.now) c.in_ok-margin.margin c.in_ok-margin.ensures.passes _ c.in_err-scaled.ensures.refused))
+pub returns-in_err-stepped-clause-refused : goal.returns-in_err-stepped-clause-refused
+returns-in_err-stepped-clause-refused c =
+    refused_by c.from_residual-in_err-stepped.result _ _ c.from_residual-in_err-stepped.ensures.1
+    (λ e f. rw f (form_caused _ _ (plans_of c.args.policy.now) (plans_of c.args.reference.now) c.in_ok-margin.margin c.in_ok-margin.ensures.passes _ c.in_err-stepped.ensures.refused))
 
-pub returns-in_err-scaled-clause-every_refusal : goal.returns-in_err-scaled-clause-every_refusal
-returns-in_err-scaled-clause-every_refusal c =
+pub returns-in_err-stepped-clause-every_refusal : goal.returns-in_err-stepped-clause-every_refusal
+returns-in_err-stepped-clause-every_refusal c =
     every_from c.args.design.now (targets_of c.args.design.now) (plans_of c.args.policy.now) (plans_of c.args.reference.now) (search rules) c.requires.plans
-    c.from_residual-in_err-scaled.result
-    (refused_by c.from_residual-in_err-scaled.result _ _ c.from_residual-in_err-scaled.ensures.1
-    (λ e f. rw f (form_caused _ _ (plans_of c.args.policy.now) (plans_of c.args.reference.now) c.in_ok-margin.margin c.in_ok-margin.ensures.passes _ c.in_err-scaled.ensures.refused)))
-    (ok_of_error c.from_residual-in_err-scaled.result _ c.from_residual-in_err-scaled.ensures.0)
+    c.from_residual-in_err-stepped.result
+    (refused_by c.from_residual-in_err-stepped.result _ _ c.from_residual-in_err-stepped.ensures.1
+    (λ e f. rw f (form_caused _ _ (plans_of c.args.policy.now) (plans_of c.args.reference.now) c.in_ok-margin.margin c.in_ok-margin.ensures.passes _ c.in_err-stepped.ensures.refused)))
+    (ok_of_error c.from_residual-in_err-stepped.result _ c.from_residual-in_err-stepped.ensures.0)
 
-pub returns-in_err-scaled-clause-accepted : goal.returns-in_err-scaled-clause-accepted
-returns-in_err-scaled-clause-accepted c =
+pub returns-in_err-stepped-clause-accepted : goal.returns-in_err-stepped-clause-accepted
+returns-in_err-stepped-clause-accepted c =
     accepted_from c.args.design.now (targets_of c.args.design.now) (plans_of c.args.policy.now) (plans_of c.args.reference.now) (search rules) c.requires.plans
-    c.from_residual-in_err-scaled.result
-    (refused_by c.from_residual-in_err-scaled.result _ _ c.from_residual-in_err-scaled.ensures.1
-    (λ e f. rw f (form_caused _ _ (plans_of c.args.policy.now) (plans_of c.args.reference.now) c.in_ok-margin.margin c.in_ok-margin.ensures.passes _ c.in_err-scaled.ensures.refused)))
+    c.from_residual-in_err-stepped.result
+    (refused_by c.from_residual-in_err-stepped.result _ _ c.from_residual-in_err-stepped.ensures.1
+    (λ e f. rw f (form_caused _ _ (plans_of c.args.policy.now) (plans_of c.args.reference.now) c.in_ok-margin.margin c.in_ok-margin.ensures.passes _ c.in_err-stepped.ensures.refused)))
 
-pub returns-in_err-scaled-clause-built : goal.returns-in_err-scaled-clause-built
-returns-in_err-scaled-clause-built c = absent_of_error c.from_residual-in_err-scaled.result _ c.from_residual-in_err-scaled.ensures.0
+pub returns-in_err-stepped-clause-built : goal.returns-in_err-stepped-clause-built
+returns-in_err-stepped-clause-built c = absent_of_error c.from_residual-in_err-stepped.result _ c.from_residual-in_err-stepped.ensures.0
 
-pub returns-in_err-scaled-clause-certified : goal.returns-in_err-scaled-clause-certified
-returns-in_err-scaled-clause-certified c = absent_of_error c.from_residual-in_err-scaled.result _ c.from_residual-in_err-scaled.ensures.0
+pub returns-in_err-stepped-clause-certified : goal.returns-in_err-stepped-clause-certified
+returns-in_err-stepped-clause-certified c = absent_of_error c.from_residual-in_err-stepped.result _ c.from_residual-in_err-stepped.ensures.0
 
-pub returns-in_err-scaled-clause-targets : goal.returns-in_err-scaled-clause-targets
-returns-in_err-scaled-clause-targets c = absent_of_error c.from_residual-in_err-scaled.result _ c.from_residual-in_err-scaled.ensures.0
+pub returns-in_err-stepped-clause-targets : goal.returns-in_err-stepped-clause-targets
+returns-in_err-stepped-clause-targets c = absent_of_error c.from_residual-in_err-stepped.result _ c.from_residual-in_err-stepped.ensures.0
 
-pub returns-in_err-scaled-clause-errors : goal.returns-in_err-scaled-clause-errors
-returns-in_err-scaled-clause-errors c = absent_of_error c.from_residual-in_err-scaled.result _ c.from_residual-in_err-scaled.ensures.0
+pub returns-in_err-stepped-clause-errors : goal.returns-in_err-stepped-clause-errors
+returns-in_err-stepped-clause-errors c = absent_of_error c.from_residual-in_err-stepped.result _ c.from_residual-in_err-stepped.ensures.0
 
 -- ---- by the later tests, and what is made
 pub priced-made-requires-clause-plans : goal.priced-made-requires-clause-plans
@@ -82,8 +82,8 @@ priced-made-requires-clause-plans c = c.requires.plans
 pub priced-made-requires-clause-references : goal.priced-made-requires-clause-references
 priced-made-requires-clause-references c = c.requires.references
 
-pub priced-made-requires-clause-scaled : goal.priced-made-requires-clause-scaled
-priced-made-requires-clause-scaled c = c.in_ok-scaled.ensures.scaled
+pub priced-made-requires-clause-stepped : goal.priced-made-requires-clause-stepped
+priced-made-requires-clause-stepped c = c.in_ok-stepped.ensures.stepped
 
 pub priced-made-requires-clause-margin : goal.priced-made-requires-clause-margin
 priced-made-requires-clause-margin c = c.in_ok-margin.ensures.passes.margin
@@ -110,40 +110,40 @@ returns-clause-errors c = c.priced-made.ensures.errors
 pub returns-clause-refused : goal.returns-clause-refused
 returns-clause-refused c =
     err_map c.priced-made.result _ _ c.priced-made.ensures.refused
-    (price_caused (design_of c.args.design.now) (targets_of c.args.design.now) (plans_of c.args.policy.now) (plans_of c.args.reference.now) c.in_ok-margin.margin c.in_ok-scaled.scaled.s
+    (price_caused (design_of c.args.design.now) (targets_of c.args.design.now) (plans_of c.args.policy.now) (plans_of c.args.reference.now) c.in_ok-margin.margin c.in_ok-stepped.stepped.s
     (record {
       margin = c.in_ok-margin.ensures.passes;
-      form = c.in_ok-scaled.ensures.passes;
-      exponent = c.in_ok-scaled.ensures.scaled.exponent c.args.design.now c.in_ok-scaled.ensures.scaled.form;
+      form = c.in_ok-stepped.ensures.passes;
+      exponent = c.in_ok-stepped.ensures.stepped.exponent c.args.design.now c.in_ok-stepped.ensures.stepped.form;
     }))
 
 pub returns-clause-every_refusal : goal.returns-clause-every_refusal
 returns-clause-every_refusal c =
-    let before : PassesScaling (design_of c.args.design.now) (targets_of c.args.design.now) (plans_of c.args.policy.now) c.in_ok-margin.margin c.in_ok-scaled.scaled.s = record {
+    let before : PassesScaling (design_of c.args.design.now) (targets_of c.args.design.now) (plans_of c.args.policy.now) c.in_ok-margin.margin c.in_ok-stepped.stepped.s = record {
       margin = c.in_ok-margin.ensures.passes;
-      form = c.in_ok-scaled.ensures.passes;
-      exponent = c.in_ok-scaled.ensures.scaled.exponent c.args.design.now c.in_ok-scaled.ensures.scaled.form;
+      form = c.in_ok-stepped.ensures.passes;
+      exponent = c.in_ok-stepped.ensures.stepped.exponent c.args.design.now c.in_ok-stepped.ensures.stepped.form;
     } in
     every_from c.args.design.now (targets_of c.args.design.now) (plans_of c.args.policy.now) (plans_of c.args.reference.now) (search rules) c.requires.plans c.priced-made.result
     (err_map c.priced-made.result _ _ c.priced-made.ensures.refused
-    (price_caused (design_of c.args.design.now) (targets_of c.args.design.now) (plans_of c.args.policy.now) (plans_of c.args.reference.now) c.in_ok-margin.margin c.in_ok-scaled.scaled.s before))
+    (price_caused (design_of c.args.design.now) (targets_of c.args.design.now) (plans_of c.args.policy.now) (plans_of c.args.reference.now) c.in_ok-margin.margin c.in_ok-stepped.stepped.s before))
     (ok_map c.priced-made.result _ (λ made. IsPassed (design_of c.args.design.now) (targets_of c.args.design.now) (plans_of c.args.policy.now) (plans_of c.args.reference.now))
     c.priced-made.ensures.passes
     (λ made h. record {
       margin = c.in_ok-margin.margin;
-      exponent = c.in_ok-scaled.scaled.s;
+      exponent = c.in_ok-stepped.stepped.s;
       bits = h.bits;
       passes = price_passed (design_of c.args.design.now) (targets_of c.args.design.now) (plans_of c.args.policy.now) (plans_of c.args.reference.now) c.in_ok-margin.margin
-          c.in_ok-scaled.scaled.s before h;
+          c.in_ok-stepped.stepped.s before h;
     }))
 
 pub returns-clause-accepted : goal.returns-clause-accepted
 returns-clause-accepted c =
     accepted_from c.args.design.now (targets_of c.args.design.now) (plans_of c.args.policy.now) (plans_of c.args.reference.now) (search rules) c.requires.plans c.priced-made.result
     (err_map c.priced-made.result _ _ c.priced-made.ensures.refused
-    (price_caused (design_of c.args.design.now) (targets_of c.args.design.now) (plans_of c.args.policy.now) (plans_of c.args.reference.now) c.in_ok-margin.margin c.in_ok-scaled.scaled.s
+    (price_caused (design_of c.args.design.now) (targets_of c.args.design.now) (plans_of c.args.policy.now) (plans_of c.args.reference.now) c.in_ok-margin.margin c.in_ok-stepped.stepped.s
     (record {
       margin = c.in_ok-margin.ensures.passes;
-      form = c.in_ok-scaled.ensures.passes;
-      exponent = c.in_ok-scaled.ensures.scaled.exponent c.args.design.now c.in_ok-scaled.ensures.scaled.form;
+      form = c.in_ok-stepped.ensures.passes;
+      exponent = c.in_ok-stepped.ensures.stepped.exponent c.args.design.now c.in_ok-stepped.ensures.stepped.form;
     })))

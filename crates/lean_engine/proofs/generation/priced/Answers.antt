@@ -14,7 +14,7 @@ pub returns-in_err-bound-clause-refused : goal.returns-in_err-bound-clause-refus
 returns-in_err-bound-clause-refused c =
     refused_by c.from_residual.result _ _ c.from_residual.ensures.1
     (λ e f. rw f (bound_missed (design_of c.args.design.now) (targets_of c.args.design.now) (plans_of c.args.policy.now) (plans_of c.args.reference.now)
-    (unsigned_abs c.args.margin.units) c.args.scaled.now.s _ c.in_err-bound.ensures.refused))
+    (unsigned_abs c.args.margin.units) c.args.stepped.now.s _ c.in_err-bound.ensures.refused))
 
 pub returns-in_err-bound-clause-built : goal.returns-in_err-bound-clause-built
 returns-in_err-bound-clause-built c = absent_of_error c.from_residual.result _ c.from_residual.ensures.0
@@ -26,29 +26,29 @@ pub returns-in_err-bound-clause-passes : goal.returns-in_err-bound-clause-passes
 returns-in_err-bound-clause-passes c = ok_of_error c.from_residual.result _ c.from_residual.ensures.0
 
 -- ---- what is made
-pub planned-requires-clause-bound : goal.planned-requires-clause-bound
-planned-requires-clause-bound c = c.in_ok-bound.ensures.bound.bound
+pub controller_and_bounds-requires-clause-bound : goal.controller_and_bounds-requires-clause-bound
+controller_and_bounds-requires-clause-bound c = c.in_ok-bound.ensures.bound.bound
 
-pub planned-requires-clause-scaled : goal.planned-requires-clause-scaled
-planned-requires-clause-scaled c = c.requires.scaled
+pub controller_and_bounds-requires-clause-stepped : goal.controller_and_bounds-requires-clause-stepped
+controller_and_bounds-requires-clause-stepped c = c.requires.stepped
 
 pub returns-clause-built : goal.returns-clause-built
 returns-clause-built c =
-    ok_map c.planned.result _ _ c.planned.ensures.lean
+    ok_map c.controller_and_bounds.result _ _ c.controller_and_bounds.ensures.lean
     (λ (made : Made). built_from c.args.design.now (plans_of c.args.policy.now) (plans_of c.args.reference.now) c.args.margin c.in_ok-bound.bound made.controller (printed made.bounds)
     c.requires.plans c.requires.references c.requires.margin c.requires.slack c.in_ok-bound.ensures.bound)
 
 pub returns-clause-errors : goal.returns-clause-errors
-returns-clause-errors c = c.planned.ensures.errors
+returns-clause-errors c = c.controller_and_bounds.ensures.errors
 
 pub returns-clause-passes : goal.returns-clause-passes
 returns-clause-passes c =
-    ok_map c.planned.result _ _ c.planned.ensures.passes
+    ok_map c.controller_and_bounds.result _ _ c.controller_and_bounds.ensures.passes
     (λ made h. aim_passed (design_of c.args.design.now) (targets_of c.args.design.now) (plans_of c.args.policy.now) (plans_of c.args.reference.now) c.args.margin.units c.in_ok-bound.bound
-    c.args.scaled.now.s c.in_ok-bound.ensures.bound h)
+    c.args.stepped.now.s c.in_ok-bound.ensures.bound h)
 
 pub returns-clause-refused : goal.returns-clause-refused
 returns-clause-refused c =
-    err_map c.planned.result _ _ c.planned.ensures.refused
+    err_map c.controller_and_bounds.result _ _ c.controller_and_bounds.ensures.refused
     (aim_missed (design_of c.args.design.now) (targets_of c.args.design.now) (plans_of c.args.policy.now) (plans_of c.args.reference.now) c.args.margin.units c.in_ok-bound.bound
-    c.args.scaled.now.s c.in_ok-bound.ensures.bound)
+    c.args.stepped.now.s c.in_ok-bound.ensures.bound)

@@ -45,7 +45,8 @@ loop-piece-preserved g c =
     let more : views c.push.new.self.items ≡ views old ++ view l ∷ [] = ap views items ∙ map-append view old (l ∷ []) in
     let here : get_or ps i [] ≡ (get_or c.args.pieces.now i none_read).now = get_or-map (λ (x : Bor (List ℕ)). x.now) c.args.pieces.now i none_read [] c.loop-piece-test.true in
     let found : (get_or c.args.pieces.now i none_read).now ≡ spelled (view l) = MatchOption-at_some _ (λ (k : Line). (get_or c.args.pieces.now i none_read).now ≡ spelled (view k)) l c.in-Some.is c.in_ok-line.ensures.found in
-    let follows : IsBeginning g.G.Grammar.whole (views c.deref.result.now ++ view l ∷ []) = MatchOption-at_some _ (λ (k : Line). IsBeginning g.G.Grammar.whole (views c.deref.result.now ++ view k ∷ [])) l c.in-Some.is c.in_ok-line.ensures.follows in
+    let follows : IsBeginning g.G.Grammar.whole (views c.deref.result.now ++ view l ∷ []) =
+    MatchOption-at_some _ (λ (k : Line). IsBeginning g.G.Grammar.whole (views c.deref.result.now ++ view k ∷ [])) l c.in-Some.is c.in_ok-line.ensures.follows in
     record {
       beginning = subst (λ (ls : List Keyed). IsBeginning g.G.Grammar.whole ls) (ap (λ (xs : List Line). views xs ++ view l ∷ []) c.deref.ensures.value ∙ sym more) follows;
       spelling = ap (map spelled) more ∙ one_more ps (views old) i (view l) lt c.loop-piece.invariant.spelling (here ∙ found);

@@ -28,7 +28,8 @@ overflow_mul-count c =
 
 pub overflow_add-count : goal.overflow_add-count
 overflow_add-count c =
-    let room : c.args.self.now.parts.now.stages * c.rows.result ≤ 360 = stages_room c.args.self.now.parts.now c.args.self.now.made.ready.design c.rows.result (omega (arith, c.rows.ensures.count, c.args.self.now.made.ready.design.stage_rows.rows)) in
+    let room : c.args.self.now.parts.now.stages * c.rows.result ≤ 360 =
+    stages_room c.args.self.now.parts.now c.args.self.now.made.ready.design c.rows.result (omega (arith, c.rows.ensures.count, c.args.self.now.made.ready.design.stage_rows.rows)) in
     omega (arith, room, c.rows-2.ensures.count, c.args.self.now.made.ready.design.final_rows.rows)
 
 pub loop-i-init : goal.loop-i-init

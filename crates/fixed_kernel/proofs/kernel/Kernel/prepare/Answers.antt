@@ -45,7 +45,8 @@ fresh c kept own =
       controller = refl;
       made = refl;
       goes = g;
-      region = written_region c.take_spans-spans.new.region c.all_of.result.start c.put_start.new.words (first c) (ap (λ (s : Span). s.start) c.all_of.ensures) (c.take_spans-spans.ensures.size ∙ ap (λ (w : RegionWords). length w.words) c.in_ok-region.ensures ∙ length-replicate c.parts-c.result.now.words (pos 0) ∙ words) g (c.take_spans-spans.ensures.used ∙ words) made;
+      region = written_region c.take_spans-spans.new.region c.all_of.result.start c.put_start.new.words (first c) (ap (λ (s : Span). s.start) c.all_of.ensures)
+          (c.take_spans-spans.ensures.size ∙ ap (λ (w : RegionWords). length w.words) c.in_ok-region.ensures ∙ length-replicate c.parts-c.result.now.words (pos 0) ∙ words) g (c.take_spans-spans.ensures.used ∙ words) made;
       spans = c.take_spans-spans.ensures.spans ∙ ap spans_of e;
       narrow = λ t. subst HasNarrowFactors e (c.has_narrow_factors-narrow.ensures.0 t);
       words = subst (λ (m : Numbers). IfSome kept (IsMachineOf m)) e own;

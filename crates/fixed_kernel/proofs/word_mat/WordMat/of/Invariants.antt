@@ -1,10 +1,10 @@
 use Rattle.std.proofs.Common.{◌≡◌, take}
 use Rattle.std.specs.Prelude.{All}
-use Rattle.fixed_kernel.specs.WordLines.{IsLong}
+use Rattle.fixed_kernel.specs.WordLines.{HasColumns}
 use Rattle.fixed_kernel.proofs.word_mat.WordMat.of.Given as goal
 
 abbrev pub invariant-loop-i : goal.invariant-loop-i
 invariant-loop-i l = record {
-  long : All (IsLong l.cols) l.rows.items;
+  long : All (HasColumns l.cols) l.rows.items;
   same : l.rows.items ≡ take l.i l.a.rows;
 }

@@ -10,7 +10,7 @@ use Rattle.qp_model.specs.bounds.Printed.{printed}
 use Rattle.design_engine.proofs.GenerationFacts.{half_some, half_small, limit_small, bound_some, bound_narrow, undercut_small, whole_least, at_most}
 use Rattle.design_engine.proofs.BuiltFacts.{built_from, cost_limited}
 use Rattle.design_engine.proofs.ResidualFacts.{stated_by}
-use Rattle.design_engine.proofs.generation.finished.Goals as goal
+use Rattle.design_engine.proofs.generation.with_bounds.Goals as goal
 
 pub bounds_of-requires-clause-bounded : goal.bounds_of-requires-clause-bounded
 bounds_of-requires-clause-bounded c = c.requires.bounded

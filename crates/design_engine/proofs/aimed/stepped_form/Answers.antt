@@ -1,7 +1,7 @@
 use Rattle.qp_model.specs.declared.quantity.Quantity.TheVariants.{Prediction}
 use Rattle.design_engine.proofs.AnswerLaws.{absent_of_error, ok_of_error}
 use Rattle.design_engine.proofs.RefusalFacts.{refused_by, condense_refused, curvature_refused, within_limit, condensed_within}
-use Rattle.design_engine.proofs.aimed.scaled_of.Goals as goal
+use Rattle.design_engine.proofs.aimed.stepped_form.Goals as goal
 
 pub returns-in_err-condensed-clause-refused : goal.returns-in_err-condensed-clause-refused
 returns-in_err-condensed-clause-refused c =
@@ -24,8 +24,8 @@ returns-in-Ok-clause-passes c =
       curvature = within_limit _ _ _ (c.in-Ok.ensures.wide _ form);
     }
 
-pub returns-in-Ok-clause-scaled : goal.returns-in-Ok-clause-scaled
-returns-in-Ok-clause-scaled c = record {
+pub returns-in-Ok-clause-stepped : goal.returns-in-Ok-clause-stepped
+returns-in-Ok-clause-stepped c = record {
   form = c.in_ok-condensed.ensures.form;
   exponent = λ p form. record {
     plain = c.in-Ok.exponents.s1;
@@ -39,5 +39,5 @@ returns-in-Ok-clause-scaled c = record {
 pub returns-in_err-condensed-clause-passes : goal.returns-in_err-condensed-clause-passes
 returns-in_err-condensed-clause-passes c = ok_of_error c.from_residual.result _ c.from_residual.ensures.0
 
-pub returns-in_err-condensed-clause-scaled : goal.returns-in_err-condensed-clause-scaled
-returns-in_err-condensed-clause-scaled c = absent_of_error c.from_residual.result _ c.from_residual.ensures.0
+pub returns-in_err-condensed-clause-stepped : goal.returns-in_err-condensed-clause-stepped
+returns-in_err-condensed-clause-stepped c = absent_of_error c.from_residual.result _ c.from_residual.ensures.0

@@ -11,7 +11,7 @@ use Rattle.design_engine.proofs.GenerationFacts.{whole_least, at_most}
 use Rattle.lean_engine.specs.Lean.{lean_aim}
 use Rattle.lean_engine.proofs.LeanFacts.{bound_least, bound_most, violation_small, limit_small}
 use Rattle.lean_engine.proofs.PricedFacts.{lean_from, stated_by}
-use Rattle.lean_engine.proofs.generation.finished.Goals as goal
+use Rattle.lean_engine.proofs.generation.with_bounds.Goals as goal
 
 pub violation_target-threshold-requires : goal.violation_target-threshold-requires
 violation_target-threshold-requires c = c.parts.ensures.sound
