@@ -55,6 +55,13 @@ def built(name, again):
     return program
 
 
+def compiled(folder: str) -> str:
+    """The allocator, to be preloaded."""
+    library = os.path.join(folder, "refuse.so")
+    subprocess.run(["cc", "-O2", "-shared", "-fPIC", "-fno-builtin", "-o", library, os.path.join(HERE, "refuse.c")], check=True)
+    return library
+
+
 class Refused:
     """A run, with how many requests it made and how many were refused."""
 
@@ -120,8 +127,7 @@ def main():
     options = parser.parse_args()
     all_counts = collections.Counter()
     with tempfile.TemporaryDirectory() as folder:
-        library = os.path.join(folder, "refuse.so")
-        subprocess.run(["cc", "-O2", "-shared", "-fPIC", "-fno-builtin", "-o", library, os.path.join(HERE, "refuse.c")], check=True)
+        library = compiled(folder)
         for name in options.names or crates():
             program = built(name, options.build)
             listed = subprocess.run([program, "--list"], stdout=subprocess.PIPE, text=True, check=True).stdout

@@ -27,8 +27,8 @@ sys.path.insert(0, os.path.join(HERE, "..", "fuzz"))
 import cases
 import control
 import listing
-import model
 import program as model_program
+import split_boxes
 
 EXAMPLES = os.path.join(HERE, "..", "..", "examples")
 MEMORY = b"error 1 memory\n"
@@ -38,7 +38,8 @@ SHOWN = 20
 SHORT_STEP = 211
 OLD = {"c": b"an old controller\n", "r": b"an old report\n", "r.json": b"an old report\n", "l": b"an old listing\n"}
 # where the words name what is read
-READS = {"generate": (1, 2), "lean": (1, 2, 3), "stay": (1, 2, 5, 6), "solve": (1, 2), "loop": (1, 2, 3, 5), "demo": (), "list": (1,), "play": (1, 2)}
+READS = {"generate": (1, 2), "lean": (1, 2, 3, 6, 7), "stay": (1, 2, 5, 6), "solve": (1, 2), "loop": (1, 2, 3, 5), "demo": (), "list": (1,), "play": (1, 2),
+         "split": (1, 2, 3), "serve": (1, 2)}
 
 
 def example(name, file):
@@ -61,18 +62,23 @@ SECOND = {"d": cases.design_text({
     "version": 2, "n": 1, "p": 1, "stages": 1, "den": 1, "a": [[1]], "b": [[1]], "cost_den": 1, "row_den": 1, "input": [1], "cost": [[1, 0, 1]], "final_cost": [],
     "limit_den": 4, "rows": [[0, 64, 64], [0, -16, 64], [0, 4, 64], [0, 1, 64]], "final_rows": [[1, 9]], "grid": 0, "lo": [0], "hi": [1], "target_den": 1, "violation": 1024,
     "gap": 1}), "p": b"1,0\n1,0\n"}
-# the first controller with an exponent for each row
 # one that is held in its box by its faces, under disturbances of 0 and 1
 HELD = {"d": FIRST["d"].replace(b"final = [[4, 1]]", b"final = [[4, 1], [-4, 1]]").replace(b"den = 1\nviolation = 16\ngap = 1\n", b"den = 10\nviolation = 1\ngap = 10\n"),
         "p": FIRST["p"], "f": b"4,0,0,1,0\n4,0,0,0,1\n", "w": b"0\n1\n"}
+# the first design in two cells, and one of two states and version 2 in four, of which the first coordinate's cut is at its least state
+CUT = {"d": FIRST["d"], "l": b"1,0\n", "p": b"1,0\n1,0\n8,-7\n8,-7\n"}
+CUT_TWICE = {"d": cases.in_version(2, MADE["d"]), "l": b"1,-16\n1,3\n", "p": 4 * MADE["p"]}
+# the first controller with an exponent for each row
 SECOND_CONTROLLER = FIRST["k"].replace(b"mpc-controller 1\n", b"mpc-controller 2\n").replace(b"\nlo ", b"\nexps 0 1 1\nlo ")
 
 
 class Command:
     """A command with its files, and what the program answers where nothing fails."""
 
-    def __init__(self, executable, name, words, files):
+    def __init__(self, executable, name, words, files, refused=None):
         self.executable, self.name, self.words, self.files = executable, name, words, files
+        # the position of the file that is refused, if one is: those after it are not read
+        self.refused = refused
         # where its words name what it writes
         self.places = model_program.OUTPUTS.get(words[0], ())
         self.outputs = [words[at] for at in self.places]
@@ -115,14 +121,7 @@ class Command:
             inner.run(folder)
             written = inner.left(folder)["c"]
 
-        def gains(choice):
-            c = control.read_controller(written)
-            solutions = [*map(list, zip(*c.p_mat)), c.t, *map(list, zip(*c.w_mat))]
-            why = model.why_no_gains(choice, solutions)
-            if why:
-                raise ValueError(why)
-            return solutions
-
+        gains = model_program.Gains(lambda: written)
         said = model_program.answer(self.words, self.files.get, lambda name: True, gains)
         if (ran.returncode, ran.stderr, ran.stdout, self.made) != (said.status, said.line, b"".join(said.out), {**{name: OLD[name] for name in self.outputs}, **said.written}):
             return f"status {ran.returncode} {ran.stderr} {ran.stdout[:200]} is not the model's {said.status} {said.line} {b''.join(said.out)[:200]}"
@@ -161,9 +160,25 @@ def all_commands(executable):
     yield Command(executable, "stay, under disturbances", under, HELD)
     yield Command(executable, "stay, a face that isn't kept", under, {**HELD, "w": b"-1\n1\n"})
     yield Command(executable, "stay, unequal inputs", stay, {**HELD, "f": b"4,0,0,1,0\n3,0,0,0,1\n"})
+    held = {**HELD, "q": reference}
+    yield Command(executable, "lean with faces", [*lean, "f"], held)
+    yield Command(executable, "lean with faces, JSON", [*lean[:5], "r.json", "f"], held)
+    yield Command(executable, "lean with faces, under disturbances", [*lean, "f", "w"], held)
+    yield Command(executable, "lean with faces, a face that isn't kept", [*lean, "f", "w"], {**held, "w": b"-1\n1\n"})
+    shifted = ["loop", "d", "k", "s", "4", "v"]
+    yield Command(executable, "loop, under disturbances", shifted, {**FIRST, "v": b"1\n0\n1\n0\n"})
+    yield Command(executable, "loop, out of the box", shifted, {**FIRST, "v": b"1\n0\n2\n0\n"})
     made = listing.text_of(listing.listing_of(control.read_controller(FIRST["k"])))
     yield Command(executable, "list", ["list", "k", "l"], FIRST)
     yield Command(executable, "list, version 2", ["list", "k", "l"], {**FIRST, "k": SECOND_CONTROLLER})
+    split, first = ["split", "d", "l", "p", "c", "r"], control.read_controller(FIRST["k"])
+    yield Command(executable, "split", split, CUT)
+    yield Command(executable, "split, version 2", split, CUT_TWICE)
+    yield Command(executable, "split, a cell that is refused", split, {**CUT, "p": 4 * b"1,0\n"})
+    yield Command(executable, "split, a cut at the end", split, {**CUT, "l": b"1,1\n"}, 2)
+    cells = split_boxes.text_of([first, control.read_controller(SECOND_CONTROLLER), first])
+    yield Command(executable, "serve", ["serve", "e", "s"], {**FIRST, "e": cells})
+    yield Command(executable, "serve, a state in no cell", ["serve", "e", "s"], {"e": cells, "s": b"0\n2\n"})
     yield Command(executable, "play", ["play", "m", "s"], {**FIRST, "m": made})
     yield Command(executable, "play, a trap", ["play", "m", "s"], {"m": made.replace(b"word 26", b"word 21"), "s": b"0\n0\n1\n"})
 
@@ -301,7 +316,7 @@ def read_what_is_left(checks, what, command, folder):
         held = file.read()
     with open(os.path.join(folder, "s"), "wb") as file:
         file.write(b"1\n")
-    words = ["play" if command.words[0] == "list" else "solve", name, "s"]
+    words = [{"list": "play", "split": "serve"}.get(command.words[0], "solve"), name, "s"]
     ran = Command(command.executable, "", words, {}).run(folder)
     said = model_program.answer(words, {name: held, "s": b"1\n"}.get, None, None)
     checks.ended(what, ran, said.status, said.line)
@@ -310,7 +325,7 @@ def read_what_is_left(checks, what, command, folder):
 def files(options, _):
     checks = Checks()
     given = list(commands(options))
-    writing = [command for command in given if command.name in ("generate", "generate, JSON", "lean", "lean, JSON", "stay", "stay, JSON", "list", "list, version 2")]
+    writing = [command for command in given if command.name in ("generate", "generate, JSON", "lean", "lean, JSON", "lean with faces", "stay", "stay, JSON", "list", "list, version 2", "split")]
     for command in writing:
         command.learn()
         # about the end of each file, too
@@ -341,7 +356,7 @@ def files(options, _):
                 checks.expect(f"{words}", left == wanted, f"the files hold {left}")
     for name, status, line in (("missing", 3, "read-fault"), (".", 3, "read-fault"), ("", 3, "read-fault"), ("/proc/self/mem", 3, "read-fault"), ("/dev/zero", 13, "long")):
         for command in given:
-            for at in (at for at in READS[command.words[0]] if at < len(command.words)):
+            for at in (at for at in READS[command.words[0]] if at < len(command.words) and at <= (command.refused or at)):
                 words = list(command.words)
                 words[at] = name
                 with tempfile.TemporaryDirectory() as folder:

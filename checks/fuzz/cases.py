@@ -294,11 +294,16 @@ def border_design(pick):
     return design_text(over(real, dens)), "".join(",".join(map(str, [q, *u])) + "\n" for q, u in plans_over(real, dens)).encode()
 
 
+def bytes_of(path):
+    with open(path, "rb") as file:
+        return file.read()
+
+
 def examples():
     for name in sorted(os.listdir(EXAMPLES)):
         texts = [os.path.join(EXAMPLES, name, file) for file in ("design.toml", "policy.csv")]
         if all(map(os.path.isfile, texts)):
-            yield tuple(open(text, "rb").read() for text in texts)
+            yield tuple(map(bytes_of, texts))
 
 
 def size_changed(pick, data):
@@ -418,11 +423,14 @@ def small_controllers(base):
                 break
 
 
-def random_controller(pick):
-    """A controller in form whose width is near the least one. Some have sums near 2^126, some entries of any size that are only ever multiplied by 0."""
-    version = pick.choice([1, 2])
+def random_controller(pick, like=None):
+    """A controller in form whose width is near the least one. Some have sums near 2^126, some entries of any size that are only ever multiplied by 0. With another one
+    that it must be like, its sizes but for the rows, and its grid, are those."""
+    version = pick.choice([1, 2]) if like is None or like.n <= 4 else 2
     n, p, stages, m = pick.choice([1, 1, 2, 3, 4 if version == 1 else 6]), pick.choice([1, 1, 2, 3]), pick.choice([1, 1, 2, 3]), pick.choice([1, 1, 2, 3, 5, 8])
     g = pick.choice([0, 0, 2, 4, 24])
+    if like is not None:
+        n, p, stages, g = like.n, like.p, like.stages, like.g
     f, s, nu = pick.choice([g, pick.randrange(g, 49), min(48, g + 6), 48]), pick.choice([0, 0, 1, 2, 7, 40]), p * stages
     room = pick.choice([3, 8, 16, 31, 40, 60, 80])
     number = lambda: pick.randrange(-(1 << pick.randrange(1, room + 1)), (1 << pick.randrange(1, room + 1)) + 1)
@@ -481,17 +489,23 @@ def bring_near(pick, c):
             c.t[j] = pick.choice([-1, 1]) * ((near - rest) // unit + pick.choice([-1, 0, 0, 1]))
 
 
+def state_near(pick, c):
+    """A state, most times in the box."""
+    how = pick.random()
+    if how < 0.4:
+        return [pick.choice([low, high]) for low, high in zip(c.lo, c.hi)]
+    if how < 0.9:
+        return [pick.randrange(low, high + 1) for low, high in zip(c.lo, c.hi)]
+    return [pick.choice([low - 1, low, high, high + 1]) for low, high in zip(c.lo, c.hi)]
+
+
 def states_text(pick, c, most=4):
     """Records of states, most of them in the box."""
-    rows = []
-    for _ in range(pick.choice([0, 1, 1, 2, 3, most])):
-        how = pick.random()
-        if how < 0.4:
-            rows.append([pick.choice([low, high]) for low, high in zip(c.lo, c.hi)])
-        elif how < 0.9:
-            rows.append([pick.randrange(low, high + 1) for low, high in zip(c.lo, c.hi)])
-        else:
-            rows.append([pick.choice([low - 1, low, high, high + 1]) for low, high in zip(c.lo, c.hi)])
+    return states_of(pick, [state_near(pick, c) for _ in range(pick.choice([0, 1, 1, 2, 3, most]))])
+
+
+def states_of(pick, rows):
+    """These states as a text, with any ends of lines."""
     end = pick.choice([b"\n", b"\n", b"\n", b"\r\n", b"\n\n"])
     return end.join(",".join(map(str, row)).encode() for row in rows) + pick.choice([end, b""] if rows else [b""])
 

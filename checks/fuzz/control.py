@@ -106,21 +106,28 @@ class Reader:
     def rows(self, name, count, width):
         return [self.take(name, width) for _ in range(count)]
 
-    def end(self):
-        self.take(b"end", 0)
+    def finish(self):
+        """Behind the last line there is nothing more."""
         self.at += 1
         if self.at <= len(self.lines) or self.rest:
             self.refuse()
 
+    def end(self):
+        self.take(b"end", 0)
+        self.finish()
 
-def read_controller(data):
-    """The controller, or the status 11 with the first line that no controller text has there, or unsafe."""
-    text = Reader(data)
+
+def controller_in(text, like=None):
+    """The controller whose lines are the next of a text, the first at which no text goes on is refused. Where there is one that it must be like, the sizes but for the
+    rows, and the grid, are those."""
     within = lambda *ranges: lambda numbers: all(low <= v <= high for v, (low, high) in zip(numbers, ranges))
-    (version,) = text.take(b"mpc-controller", 1, within((1, 2)))
-    most_states, most_stages, most_rows = (4, 20, 252) if version == 1 else (6, 30, 372)
-    n, p, stages, m = text.take(b"size", 4, within((1, most_states), (1, 3), (1, most_stages), (1, most_rows)))
-    f, g, s, w = text.take(b"bits", 4, lambda v: within((v[1], 48), (0, 24), (0, 40), (2, 128))(v))
+    limits = {1: (4, 20, 252), 2: (6, 30, 372)}
+    one_of = [it for it, most in limits.items() if like is None or like.n <= most[0] and like.stages <= most[1]]
+    (version,) = text.take(b"mpc-controller", 1, lambda v: v[0] in one_of)
+    most_states, most_stages, most_rows = limits[version]
+    is_like = lambda v: like is None or v[:3] == [like.n, like.p, like.stages]
+    n, p, stages, m = text.take(b"size", 4, lambda v: within((1, most_states), (1, 3), (1, most_stages), (1, most_rows))(v) and is_like(v))
+    f, g, s, w = text.take(b"bits", 4, lambda v: within((v[1], 48), (0, 24), (0, 40), (2, 128))(v) and (like is None or v[1] == like.g))
     (steps,) = text.take(b"steps", 1, within((1, 2**22)))
     (clamp,) = text.take(b"clamp", 1, within((0, LIMIT)))
     nu = p * stages
@@ -131,10 +138,22 @@ def read_controller(data):
     hi = text.take(b"hi", n, within(*[(low, 2**31 - 1) for low in lo]))
     c = Controller(n, p, stages, m, f, g, s, w, steps, clamp, lo, hi, text.rows(b"P", nu, n), text.take(b"T", nu), text.rows(b"W", nu, m),
                    text.rows(b"G", m, nu), text.rows(b"E", m, n), text.take(b"b", m), version, exps)
-    text.end()
+    text.take(b"end", 0)
+    return c
+
+
+def refuse_unsafe(c):
     greatest = greatest_sum(c)
-    if greatest > LIMIT or greatest > 2 ** (w - 1) - 1:
+    if greatest > LIMIT or greatest > 2 ** (c.w - 1) - 1:
         raise Refused(11, "unsafe")
+
+
+def read_controller(data):
+    """The controller, or the status 11 with the first line that no controller text has there, or unsafe."""
+    text = Reader(data)
+    c = controller_in(text)
+    text.finish()
+    refuse_unsafe(c)
     return c
 
 

@@ -158,10 +158,10 @@ def read_records(data, width, is_in_range=lambda before, field, value: True):
     return rows
 
 
-def read_policy(data, design):
-    """The plans, each with its denominator, or the status 5 with the first fault."""
+def read_policy(data, design, boxes=1):
+    """The plans of a box's corners, or of the corners of so many boxes, each with its denominator, or the status 5 with the first fault."""
     rows = read_records(data, design.entries + 1, lambda _, field, value: field > 1 or 1 <= value <= 2**40)
-    if len(rows) != 2**design.states:
+    if len(rows) != boxes * 2**design.states:
         raise Refused(5, "count", len(rows))
     return [(row[0], row[1:]) for row in rows]
 

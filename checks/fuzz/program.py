@@ -16,16 +16,14 @@ import control
 import listing
 import model
 import held_boxes
+import split_boxes
 from model import LIMIT, Refused
 
 NAMES = {1: "memory", 2: "usage", 3: "read-fault", 4: "write-fault", 5: "text", 6: "no-margin", 7: "curvature", 8: "too-many-steps", 9: "too-fine", 10: "too-wide",
-         11: "controller", 12: "outside-box", 13: "long", 14: "mismatch", 16: "unequal", 17: "no-stay", 20: "listing", 21: "trap"}
+         11: "controller", 12: "outside-box", 13: "long", 14: "mismatch", 16: "unequal", 17: "no-stay", 18: "cell", 20: "listing", 21: "trap"}
 # how many words follow each command, and which of them are written
-COUNTS = {"generate": [4], "lean": [5], "stay": [5, 6], "solve": [2], "loop": [4], "demo": [1], "list": [2], "play": [2]}
-# no commands yet, and the model's alone: lean with faces, and with a box of disturbances, as stay has them; a loop under disturbances
-LEAN_WITH_FACES = [6, 7]
-LOOP_UNDER_DISTURBANCES = [5]
-OUTPUTS = {"generate": [3, 4], "lean": [4, 5], "stay": [3, 4], "list": [2]}
+COUNTS = {"generate": [4], "lean": [5, 6, 7], "stay": [5, 6], "solve": [2], "loop": [4, 5], "demo": [1], "list": [2], "play": [2], "split": [5], "serve": [2]}
+OUTPUTS = {"generate": [3, 4], "lean": [4, 5], "stay": [3, 4], "list": [2], "split": [4, 5]}
 OVER = 2**40
 
 
@@ -126,6 +124,40 @@ def made_of(choice, gains):
     return c, {"version": d.version, **r, **choice.printed(columns, control.greatest_entry(c)), "width": c.w}
 
 
+class Gains:
+    """Of controllers that were written, for a choice each: those of one text, or of the cells of one, in their order. `text` gives the bytes, or None where none were
+    written; then the model's own are as good. ValueError where they aren't good ones."""
+
+    def __init__(self, text):
+        self.text, self.found, self.count = text, None, 0
+
+    def read(self):
+        text = self.text()
+        if text is not None and self.found is None:
+            try:
+                self.found = split_boxes.read_cells(text) if text.startswith(b"mpc-cells ") else [control.read_controller(text)]
+            except Refused as refused:
+                raise ValueError(f"the controller that was written is none: {refused}")
+        return self.found
+
+    def __call__(self, choice):
+        found = self.read()
+        if found is None:
+            return model.exact_gains(choice)
+        if self.count >= len(found):
+            raise ValueError(f"{len(found)} controllers were written, and there are more cells")
+        c = found[self.count]
+        self.count += 1
+        sizes, wanted = (c.n, c.m, c.nu), (choice.design.states, choice.design.rows, choice.design.entries)
+        if sizes != wanted:
+            raise ValueError(f"the controller that was written has the sizes {sizes}, not {wanted}")
+        solutions = [*map(list, zip(*c.p_mat)), c.t, *map(list, zip(*c.w_mat))]
+        why = model.why_no_gains(choice, solutions)
+        if why:
+            raise ValueError(why)
+        return solutions
+
+
 class Program:
     """The words are texts, the first of them the command; `read` gives a name's bytes, or None where it can't be read; `write` tells whether a name could be
     written. `run` gives a controller's sums from a state, `played` a listing's words."""
@@ -134,15 +166,15 @@ class Program:
         self.words, self.read, self.write, self.gains, self.run, self.played = words, read, write, gains, run, played
         self.answer = Answer()
         self.put = put or self.answer.out.append
-        # the controller that was made of a design
-        self.made = None
+        # the controller that was made of a design, or those of cells
+        self.made, self.cells = None, ()
 
-    def text(self, file, reader):
-        """What the reader makes of the file at this place among the words."""
+    def text(self, file, reader, most=control.EVERY_FILE):
+        """What the reader makes of the file at this place among the words, which has no more bytes than this."""
         data = self.read(self.words[file])
         if data is None:
             raise Refused(3, file)
-        if len(data) > control.EVERY_FILE:
+        if len(data) > most:
             raise Refused(13, file)
         try:
             return reader(data)
@@ -226,6 +258,30 @@ class Program:
         c = self.text(1, control.read_controller)
         for row in self.states(2, c, c.n):
             self.put(control.plan_line(c, row, self.run))
+
+    def split(self):
+        d = self.text(1, model.read_design)
+        boxes = split_boxes.cells_of(d, self.text(2, lambda data: split_boxes.read_cuts(data, d)))
+        plans = self.text(3, lambda data: model.read_policy(data, d, len(boxes)))
+        corners, choices = 2**d.states, []
+        for number, box in enumerate(boxes, 1):
+            try:
+                choices.append(model.choose(box, plans[corners * (number - 1) : corners * number]))
+            except Refused as refused:
+                status, *words = refused.args
+                raise Refused(18, number, NAMES[status], *words)
+        self.cells, bounds = zip(*(made_of(choice, self.gains) for choice in choices))
+        self.write_texts((4, split_boxes.text_of(self.cells)), (5, b"".join(map(report_text, bounds))))
+
+    def serve(self):
+        self.cells = cells = self.text(1, split_boxes.read_cells, split_boxes.EVERY_CELLS)
+        rows = self.text(2, lambda data: model.read_records(data, cells[0].n))
+        serving = [split_boxes.find(cells, row) for row in rows]
+        if None in serving:
+            entry = serving.index(None)
+            raise Refused(12, entry + 1, 0, control.outside(cells[0], rows[entry]))
+        for cell, row in zip(serving, rows):
+            self.put(control.plan_line(cell, row, self.run))
 
     def list(self):
         c = self.text(1, control.read_controller)

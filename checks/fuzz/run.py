@@ -2,19 +2,23 @@
 """Runs the program's commands on changed and random texts, and compares each answer with the independent model beside this file, to the byte.
 
     checks/fuzz/run.py PROGRAM [--cases COUNT] [--seed SEED] [--jobs JOBS] [--kind KIND] [--case NUMBER]
+    checks/fuzz/run.py PROGRAM --table NAME [--jobs JOBS] [--case NUMBER]
 
 For each of COUNT (1000) cases the exit status, the line on standard error, standard output and every file that is left must be the model's. A design's gains aren't
 determined: they are taken from the controller that the program wrote, once they are known to solve their systems. Each run of a controller is made with every
 product and partial sum traced, and all must fit its width; but a run of many steps of a controller that isn't of the kind `controller` only has its sums compared.
 
-A case is made of the seed and its number alone. --case runs one again and shows it; --kind makes all cases of that kind: generate, lean, border, stay, solve, controller,
-loop, list, play, demo, usage. Of the kind `stay` the first are the worked rows that are accepted. Half of the designs are of version 2; how many of these were accepted,
-and how many of them have a row with a smaller exponent, the last line says. A border
+A case is made of the seed and its number alone. --case runs one again and shows it; --kind makes all cases of that kind: generate, lean, border, stay, lean_stay, solve,
+controller, loop, list, play, split, serve, demo, usage. Of the kinds `stay` and `lean_stay` the first are the worked rows of `stay` that are accepted. Half of the designs are of
+version 2; how many of these were accepted, and how many of them have a row with a smaller exponent, the last line says. With --table, faces, disturbances, cuts, policies (those of
+cells), cells or listings, the cases are worked texts of that kind, each cut after every one of its bytes, and with every byte replaced by a space, `-`, `0` and `9`. A border
 design's exact numbers, its enclosures, the corners of its policy in either class, or what its rows come to where they count 16 times, pass the limit by little or stay
 below it by little. Of each, the model's exact numbers must be the simulated plant's, its enclosures must hold them, no corner may have less slack or a greater cost than
 its enclosures show, and both classes are counted beside the status, and whether a design of version 2 has room for smaller exponents.
-Where `stay` is accepted, `generate` must write the same files, and no loop of 200 turns from corners of the box and random states may leave it.
+Where `stay` is accepted, `generate` must write the same files, and no loop of 200 turns from corners of the box and random states, under disturbances in theirs, may leave
+it; so it is of `lean` with faces, a case of the kind `lean_stay`, and `lean` without.
 A controller's own listing must put what `solve` puts.
+Where `split` is accepted, `generate` must write the same of a cell's design, and `serve` must serve states of the box by the controllers of their cells.
 Two sorts of case are counted apart. A design that TOML 1.1 reads and Python's reader (1.0) doesn't must still end with a status of generate. Where a run would be
 too long for the model, its status, its line and the number of lines are compared, and not the sums.
 """
@@ -38,9 +42,13 @@ import listing_cases
 import model
 import program
 import stay_cases
+import tables
 import held_boxes
+import split_boxes
+import split_cases
 
-KINDS = ["generate"] * 22 + ["lean"] * 12 + ["border"] * 4 + ["stay"] * 14 + ["solve"] * 26 + ["controller"] * 18 + ["loop"] * 22 + ["list"] * 6 + ["play"] * 16 + ["usage"] * 4
+KINDS = ["generate"] * 22 + ["lean"] * 12 + ["border"] * 4 + ["stay"] * 14 + ["lean_stay"] * 6 + ["solve"] * 26 + ["controller"] * 18 + ["loop"] * 22 + ["list"] * 6 + ["play"] * 16
+KINDS += ["split"] * 12 + ["serve"] * 16 + ["usage"] * 4
 DEMO_EVERY = 2500
 # the most products that the model makes in a case, and the most in a run whose every value it traces
 MOST_PRODUCTS, MOST_TRACED = 3_000_000, 60_000
@@ -66,20 +74,26 @@ class Case:
 class Maker:
     """Makes cases by their numbers."""
 
-    def __init__(self, seed, kind):
-        self.seed, self.kind = seed, kind
+    def __init__(self, seed, kind, table=None):
+        self.seed, self.kind, self.table = seed, kind, table and tables.Table(table)
+        if table:
+            return
         self.designs = list(cases.examples())
         self.controllers = list(cases.small_controllers(self.designs))
         self.texts = [text for _, text in self.controllers]
         self.held = list(stay_cases.worked())
 
     def case(self, number):
+        if self.table:
+            return Case("table", *self.table.case(number))
         pick = random.Random(f"{self.seed} {number}")
         kind = self.kind or ("demo" if number % DEMO_EVERY == DEMO_EVERY - 1 else pick.choice(KINDS))
         if self.kind == "stay" and number < len(self.held):
             return self.stay_case("r", self.held[number])
+        if self.kind == "lean_stay" and number < len(self.held):
+            return self.lean_stay_case(pick, "r", self.held[number])
         made = getattr(self, kind)(pick)
-        if kind in ("generate", "lean", "stay", "solve", "loop", "list", "play") and pick.random() < 0.03:
+        if kind in ("generate", "lean", "stay", "lean_stay", "solve", "loop", "list", "play", "split", "serve") and pick.random() < 0.03:
             self.rename(pick, made)
         return made
 
@@ -107,6 +121,14 @@ class Maker:
     def stay_case(self, report, texts):
         files = {name: text for name, text in zip("dpfw", texts) if text is not None}
         return Case("stay", ["stay", "d", "p", "c", report, "f", *(["w"] if "w" in files else [])], files)
+
+    def lean_stay(self, pick):
+        return self.lean_stay_case(pick, pick.choice(["r", "r", "r.json"]), stay_cases.stay_texts(pick, self.held))
+
+    def lean_stay_case(self, pick, report, texts):
+        made = self.stay_case(report, texts)
+        files = {**made.files, "q": cases.references(pick, *texts[:2])}
+        return Case("lean_stay", ["lean", "d", "p", "q", *made.words[3:]], files)
 
     def solve(self, pick):
         text = pick.choice(self.controllers)[1]
@@ -149,7 +171,11 @@ class Maker:
         elif how < 0.75:
             turns = pick.choice(["01", "-1", "", "+1", "1000001", "1000000", " 1", "1 ", "0x1", "١", "00", "1e1"])
         files = {"d": design, "c": text, "s": states}
-        return Case("loop", ["loop", "d", "c", "s", turns], files)
+        if pick.random() < 0.4:
+            files["v"] = stay_cases.shifts_text(pick, c.n, int(turns) if turns.isdecimal() else 1)
+            if pick.random() < 0.15:
+                files["v"] = cases.changed(pick, files["v"])
+        return Case("loop", ["loop", "d", "c", "s", turns, *(["v"] if "v" in files else [])], files)
 
     def list(self, pick):
         text = listing_cases.controller(pick, self.texts)[1]
@@ -163,14 +189,23 @@ class Maker:
         files = {"l": text, "s": states, **({"c": of} if of else {})}
         return Case("play", ["play", "l", "s"], files, ["solve", "c", "s"] if of else None)
 
+    def split(self, pick):
+        design, cuts, policies = split_cases.split_texts(pick, self.designs)
+        return Case("split", ["split", "d", "l", "p", "c", pick.choice(["r", "r", "r.json"])], {"d": design, "l": cuts, "p": policies})
+
+    def serve(self, pick):
+        text, states = split_cases.cells_texts(pick, self.texts)
+        return Case("serve", ["serve", "c", "s"], {"c": text, "s": states})
+
     def demo(self, pick):
         return Case("demo", ["demo", str(pick.choice([pick.randrange(2**32), 0, 7, 2**32 - 1, 2**31]))], {})
 
     def usage(self, pick):
         design, policy = self.designs[0]
         text = self.controllers[0][1]
-        words = pick.choice([["generate", "d", "p", "c", "r"], ["solve", "c", "s"], ["loop", "d", "c", "s", "1"], ["demo", "1"], ["lean", "d", "p", "p2", "c", "r"], ["stay", "d", "p", "c", "r", "f"],
-                             ["stay", "d", "p", "c", "r", "f", "w"], ["loop", "d", "c", "s", "1", "w"], ["list", "c", "l"], ["play", "l", "s"], []])
+        words = pick.choice([["generate", "d", "p", "c", "r"], ["solve", "c", "s"], ["loop", "d", "c", "s", "1"], ["demo", "1"], ["lean", "d", "p", "p2", "c", "r"], ["lean", "d", "p", "p2", "c", "r", "f", "w"], ["stay", "d", "p", "c", "r", "f"],
+                             ["stay", "d", "p", "c", "r", "f", "w"], ["loop", "d", "c", "s", "1", "w"], ["list", "c", "l"], ["play", "l", "s"], ["split", "d", "t", "b", "c", "r"],
+                             ["serve", "e", "s"], []])
         words = list(words)
         how = pick.randrange(4)
         if how == 0 and words:
@@ -178,14 +213,15 @@ class Maker:
         elif how == 1:
             words.insert(pick.randrange(len(words) + 1), pick.choice(["c", "1", "", "solve", "demo"]))
         elif how == 2 and words:
-            words[pick.randrange(len(words))] = pick.choice(["", "Solve", "generate", "stay", "list", "play", "c", "d", "01", "4294967296", "-1", "1000001", "99999999999999999999999"])
+            words[pick.randrange(len(words))] = pick.choice(["", "Solve", "generate", "stay", "list", "play", "split", "serve", "c", "d", "01", "4294967296", "-1", "1000001", "99999999999999999999999"])
         elif words:
             words[-1] = pick.choice(["01", "-0", "4294967296", "4294967295 ", "x", "", "1000001", "d", "p", "c"])
         # (a demo that is none of a wrong usage has the program's gains, as the kind `demo` has)
         if words[:1] == ["demo"] and words[1:] in (["1"], ["1000001"]):
             words = ["demo", "1", "1"]
-        l = listing.text_of(listing.listing_of(control.read_controller(text)))
-        return Case("usage", words, {"d": design, "p": policy, "p2": policy, "c": text, "s": b"0\n", "f": b"4,0,0,1\n4,0,0,0\n", "w": b"0\n", "l": l})
+        c = control.read_controller(text)
+        l, e = listing.text_of(listing.listing_of(c)), split_boxes.text_of([c, c])
+        return Case("usage", words, {"d": design, "p": policy, "p2": policy, "c": text, "s": b"0\n", "f": b"4,0,0,1\n4,0,0,0\n", "w": b"0\n", "l": l, "t": b"1,0\n", "b": 2 * policy, "e": e})
 
 
 def products(c):
@@ -232,15 +268,18 @@ class Runner:
         write = lambda name: name not in ("", ".", "./", "./.") and "no/" not in name
         place = program.OUTPUTS.get(case.words[0] if case.words else "", (3,))[0]
         written = lambda: next((left[name] for name in map(os.path.normpath, case.words[place : place + 1]) if name in left), None)
-        wrong, status, notes = self.compare(case, ran, left, read, write, lambda choice: gains_of(choice, written()))
+        wrong, status, notes = self.compare(case, ran, left, read, write, program.Gains(written))
         if case.same:
             other = self.started(case.same)
             if (other.returncode, other.stderr, other.stdout) != (ran.returncode, ran.stderr, ran.stdout):
                 wrong = f"{wrong or ''} {case.same} answers {other.returncode} {other.stderr[:200]!r} {other.stdout[:300]!r}"
             notes = [*notes, "a listing as its controller has it"]
         # (a name that was changed may be one of a file that is read)
-        if case.kind == "stay" and status == 0 and ran.returncode == 0 and not wrong and {*case.words[1:5]} <= {"d", "p", "c", "r", "r.json"}:
+        if case.kind in ("stay", "lean_stay") and status == 0 and ran.returncode == 0 and not wrong and {*self.plain(case)[1:]} <= {"d", "p", "q", "c", "r", "r.json"}:
             wrong, more = self.check_stayed(case, left)
+            notes = [*notes, *more]
+        if case.kind == "split" and status == 0 and ran.returncode == 0 and not wrong and case.words[1:5] == ["d", "l", "p", "c"] and case.words[5] in ("r", "r.json"):
+            wrong, more = self.check_split(case, left)
             notes = [*notes, *more]
         if case.kind == "border":
             d = model.read_design(case.files["d"])
@@ -252,21 +291,28 @@ class Runner:
             notes = [*notes, f"a border design, {classes}, {ending(ran.stderr)}{room}"]
         return wrong, status, notes
 
+    @staticmethod
+    def plain(case):
+        """The command that does what a case does, without its faces."""
+        return ["generate", *case.words[1:5]] if case.kind == "stay" else case.words[:6]
+
     def check_stayed(self, case, left):
-        """Of a design whose box is stayed in: `generate` writes the same, and loops stay, unless something is always added to a state."""
-        pick, made = random.Random(repr(case.files)), {name: left[name] for name in case.words[3:5]}
+        """Of a design whose box is stayed in: the command without faces writes the same, and loops stay."""
+        plain = self.plain(case)
+        controller = plain[-2]
+        pick, made = random.Random(repr(case.files)), {name: left[name] for name in plain[-2:]}
         self.lay(case.files)
-        ran = self.started(["generate", *case.words[1:5]])
+        ran = self.started(plain)
         found = self.left()
         if ran.returncode or {name: found.get(name) for name in made} != made:
-            return "generate writes otherwise", []
-        d, c = model.read_design(case.files["d"]), control.read_controller(made[case.words[3]])
+            return f"{plain[0]} writes otherwise", []
+        d, c = model.read_design(case.files["d"]), control.read_controller(made[controller])
         starts = stay_cases.starts(pick, d)[: MOST_OF_PROGRAM // (TURNS * products(c))]
-        files = {**case.files, "c": made[case.words[3]], "s": stay_cases.records_text(starts)}
-        least, greatest = held_boxes.read_shift_box(files["w"], d.states) if "w" in files else ([0], [0])
-        if max(least) > 0 or min(greatest) < 0:
-            return None, ["a design whose box is stayed in under what is never 0"]
+        files = {**case.files, "c": made[controller], "s": stay_cases.records_text(starts)}
         words = ["loop", "d", "c", "s", str(TURNS)]
+        if "w" in case.files:
+            files["v"] = stay_cases.records_text(stay_cases.shifts_within(pick, *held_boxes.read_shift_box(files["w"], d.states), TURNS))
+            words.append("v")
         loop = Case("stayed", words, files)
         self.lay(files)
         ran = self.started(words)
@@ -274,14 +320,39 @@ class Runner:
         lines = TURNS * len(starts)
         if (ran.returncode, ran.stdout.count(b"\n")) != (0, lines):
             wrong = f"{wrong or ''} of {lines} lines there are {ran.stdout.count(10)}, and the status is {ran.returncode} {ran.stderr[:200]!r}"
-        told = f"a design whose box is stayed in{', under disturbances' if 'w' in files else ''}"
+        told = f"a design whose box is stayed in{', with a lean controller' if plain[0] == 'lean' else ''}{', under disturbances' if 'w' in files else ''}"
         kinds = [told] + [f"{told}, {what}" for what, holds in (("of version 2", d.version == 2), ("with several exponents", len(set(c.exps)) > 1), ("of a fine form", model.form_of(d).is_fine),
                                                                ("of several stages", d.stages > 1)) if holds]
         kinds += [] if starts else [f"{told}, whose loops are too long for the program"]
         return wrong and f"loop: {wrong}", kinds + [f"its loops: {note}" for note in notes if note == "too long for the model"]
 
+    def check_split(self, case, left):
+        """Of a box in cells: `generate` writes the same of one of the cells' designs, and `serve` puts the lines of the states' cells."""
+        pick, (made, report) = random.Random(repr(case.files)), (left[name] for name in case.words[4:6])
+        cells, d = split_boxes.read_cells(made), model.read_design(case.files["d"])
+        boxes = split_boxes.cells_of(d, split_boxes.read_cuts(case.files["l"], d))
+        k, corners, reports = pick.randrange(len(boxes)), 2**d.states, report.split(b"end\n")
+        records = stay_cases.records_text([den, *plan] for den, plan in model.read_policy(case.files["p"], d, len(boxes))[corners * k : corners * (k + 1)])
+        self.lay({"d": split_cases.text_of_design(boxes[k]), "p": records})
+        ran = self.started(["generate", "d", "p", "c", "r"])
+        found = self.left()
+        if ran.returncode or (found["c"], found["r"]) != (control.text_of(cells[k]), reports[k] + b"end\n") or len(reports) != len(cells) + 1:
+            return f"generate writes otherwise of cell {k + 1}", []
+        states = [list(state) for box in pick.sample(boxes, min(4, len(boxes))) for state in stay_cases.starts(pick, box, 2)]
+        states += [[pick.randrange(low, high + 1) for low, high in zip(d.lo, d.hi)] for _ in range(2)]
+        held = [sum(not control.outside(cell, state) for cell in cells) for state in states]
+        if held != [1] * len(states):
+            return f"{held} cells hold the states {states}", []
+        files = {"c": made, "s": stay_cases.records_text(states)}
+        self.lay(files)
+        words = ["serve", "c", "s"]
+        wrong, status, notes = self.compare(Case("served", words, files), self.started(words), self.left(), files.get, None, None)
+        told = f"a box in {'1 cell' if len(cells) == 1 else '2 to 9 cells' if len(cells) < 10 else '10 to 63 cells' if len(cells) < 64 else '64 cells'}"
+        kinds = [told, *(["a box in cells, of version 2"] if d.version == 2 else []), *(["a box in cells, with other multipliers"] if len({cell.clamp for cell in cells}) > 1 else [])]
+        return wrong and f"serve: {wrong}", kinds + [f"its states: {note}" for note in notes if note == "too long for the model"]
+
     def compare(self, case, ran, left, read, write, gains):
-        budget, notes = [MOST_LOOP_PRODUCTS if case.kind == "stayed" else MOST_PRODUCTS], []
+        budget, notes = [MOST_LOOP_PRODUCTS if case.kind in ("stayed", "served") else MOST_PRODUCTS], []
         instructions = [MOST_PLAYED]
 
         def run(c, state):
@@ -316,8 +387,10 @@ class Runner:
             notes.append("a random controller that is accepted")
         if told.made and told.made.version == 2:
             notes += [SECOND, LOWERED] if min(told.made.exps) < told.made.s else [SECOND]
+        if case.kind == "serve" and said.status in (0, 12):
+            notes.append("cells of both versions" if len({cell.version for cell in told.cells}) > 1 else "cells of one version")
         if said.line.endswith(b"not-toml\n") and not ran.stderr.endswith(b"not-toml\n"):
-            well = ran.returncode in (0, 3, 5, 6, 7, 8, 9, 10, 11, 12, 13, 14, 16, 17)
+            well = ran.returncode in (0, 3, 5, 6, 7, 8, 9, 10, 11, 12, 13, 14, 16, 17, 18)
             return None if well else f"status {ran.returncode}", ran.returncode, ["read by TOML 1.1 alone"]
         wrong = []
         if ran.returncode != said.status:
@@ -344,8 +417,7 @@ class Runner:
         written = self.left()["c"]
         self.clear()
         ran = self.started(case.words)
-        gains = lambda choice: gains_of(choice, written)
-        said = program.answer(case.words, None, None, gains)
+        said = program.answer(case.words, None, None, program.Gains(lambda: written))
         well = (ran.returncode, ran.stderr, ran.stdout, self.left()) == (said.status, said.line, b"".join(said.out), {})
         return None if well else f"status {ran.returncode} {ran.stderr[:200]!r} {ran.stdout[:400]!r}, not {said.status} {b''.join(said.out)[:400]!r}", said.status, []
 
@@ -368,27 +440,8 @@ def notes_of_run(case, c, least, greatest):
         yield f"{which}, run with every value traced, with an entry beyond 2^126, which is only multiplied by 0"
 
 
-def gains_of(choice, text):
-    """The gains that a written controller has, if they are good ones; where none was written, the model's own."""
-    if text is None:
-        return model.exact_gains(choice)
-    try:
-        c = control.read_controller(text)
-    except model.Refused as refused:
-        raise ValueError(f"the controller that was written is none: {refused}")
-    sizes = (c.n, c.m, c.nu)
-    wanted = (choice.design.states, choice.design.rows, choice.design.entries)
-    if sizes != wanted:
-        raise ValueError(f"the controller that was written has the sizes {sizes}, not {wanted}")
-    solutions = [*map(list, zip(*c.p_mat)), c.t, *map(list, zip(*c.w_mat))]
-    why = model.why_no_gains(choice, solutions)
-    if why:
-        raise ValueError(why)
-    return solutions
-
-
 def work(options, numbers, results):
-    maker = Maker(options.seed, options.kind)
+    maker = Maker(options.seed, options.kind, options.table)
     folder = tempfile.mkdtemp(prefix="fuzz-", dir=options.room)
     runner = Runner(options.program, folder)
     while True:
@@ -408,7 +461,7 @@ def work(options, numbers, results):
 
 def show(options):
     """Runs one case again, and shows it."""
-    case = Maker(options.seed, options.kind).case(options.case)
+    case = Maker(options.seed, options.kind, options.table).case(options.case)
     with tempfile.TemporaryDirectory() as folder:
         fault, status, notes = Runner(options.program, folder).check(case)
     print(f"case {options.case} of seed {options.seed}: {case.kind} {case.words}")
@@ -425,9 +478,12 @@ def main():
     parser.add_argument("--seed", type=int, default=1)
     parser.add_argument("--jobs", type=int, default=os.cpu_count())
     parser.add_argument("--kind", choices=sorted({*KINDS, "demo"}))
+    parser.add_argument("--table", choices=sorted(tables.TABLES))
     parser.add_argument("--case", type=int)
     options = parser.parse_args()
     options.program = os.path.abspath(options.program)
+    if options.table:
+        options.cases = tables.Table(options.table).count
     if options.case is not None:
         show(options)
     with tempfile.TemporaryDirectory(prefix="fuzz-") as options.room:

@@ -167,3 +167,15 @@ def starts(pick, d, most=8):
     inside = [tuple(pick.randrange(low, high + 1) for low, high in zip(d.lo, d.hi)) for _ in range(2)]
     some = pick.sample(corners, min(most, len(corners)))
     return some[:1] + inside[:1] + some[1:] + inside[1:]
+
+
+def shifts_within(pick, low, high, turns):
+    """A disturbance for each turn: any of the box, or an end of it."""
+    ends = pick.choice([0, 0.5, 1])
+    return [[pick.choice([a, b]) if pick.random() < ends else pick.randrange(a, b + 1) for a, b in zip(low, high)] for _ in range(turns)]
+
+
+def shifts_text(pick, n, turns):
+    """Disturbances of loops of any design, most of them small."""
+    reach = pick.choice([0, 1, 1, 2, 5, MOST])
+    return records_text([[pick.choice([0, 0, pick.randrange(-reach, reach + 1)]) for _ in range(n)] for _ in range(min(turns, 1000) + pick.choice([0] * 12 + [1, -1]))])

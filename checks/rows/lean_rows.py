@@ -1,5 +1,9 @@
-"""Rows of lean controllers: another program computed the accepted ones, and the model in ../fuzz where steps, multiplier and excess pass their limits."""
-from texts import BASE, LIMITS, POLICY, SOLVE, limits, put, refused, sub, targets
+"""Rows of lean controllers, and of those of a box that no loop leaves.
+
+Another program computed the accepted ones; the model in ../fuzz those with faces, and where steps, multiplier and excess pass their limits.
+"""
+from stay_rows import FACES, HELD
+from texts import BASE, LIMITS, POLICY, SOLVE, in_second, limits, put, refused, sub, targets, violations
 
 LEAN = ["lean", "d", "p", "q", "c", "r"]
 REFERENCE = "1,0\n2,-1\n"
@@ -96,3 +100,54 @@ def rows():
     yield "lean: one file for policy and references", (["lean", "d", "p", "p", "c", "r"], {"d": BASE, "p": POLICY}, 0, "", "", {}, {"r": ["excess 36864 65536"]})
     yield "lean: a controller that can't be written", no(4, "write-fault 4", words=["lean", "d", "p", "q", "no/c", "r"])
     yield "lean: a report that can't be written", (["lean", "d", "p", "q", "c", "no/r"], base, 4, "", "error 4 write-fault 5\n", {"c": LEAN_CONTROLLER}, {})
+    yield from face_rows()
+
+
+def face_rows():
+    """With faces, and with a box of disturbances."""
+    held = {"d": HELD, "p": POLICY, "q": REFERENCE, "f": FACES}
+    report = ["excess 18432 65536", "multiplier 2", "steps 86", "bits 14", "undercut 219902325554 1099511627776"]
+
+    def stays(lines, shifts=None, words=LEAN, **files):
+        more = files if shifts is None else files | {"w": shifts}
+        return [*words, "f", *([] if shifts is None else ["w"])], held | more, 0, "", "", {}, lines
+
+    def left(line, shifts=None, **files):
+        words, given, *_ = stays({}, shifts, **files)
+        return refused(words, given, int(line.split()[0]), " ".join(line.split()[1:]))
+
+    yield "lean, faces: a design that is held", stays({"r": report, "c": ["bits 14 0 1 33", "steps 86"]})
+    yield "lean, faces: under disturbances", stays({"r": report}, "0\n1\n")
+    yield "lean, faces: JSON", ([*LEAN[:5], "r.json", "f"], held, 0, "", "", {}, {"c": ["steps 86"]})
+    yield "lean, faces: a lower face by the input alone", left("17 no-stay 2 -1", f="4,0,0,1,0\n4,0,1,0,0\n")
+    yield "lean, faces: rows that have less of the input", left("16 unequal 1 1 4 3", f="3,0,0,1,0\n4,0,0,0,1\n")
+    yield "lean, faces: no-stay of a face before unequal of the next", left("17 no-stay 1 2", f="4,1,0,0,0\n3,0,0,0,1\n")
+    yield "lean, faces: none", left("5 text 6 count 0", f="")
+    yield "lean, faces: too few weights", left("5 text 6 fields 1", f="4,0,0,1\n")
+    for low, high, line in (("-1", "0", "17 no-stay 2 -1"), ("0", "2", "17 no-stay 1 2"), ("0", "-1", "5 text 7 number 2 1")):
+        yield f"lean, faces: disturbances from {low} to {high}", left(line, f"{low}\n{high}\n")
+    yield "lean, faces: one record of disturbances", left("5 text 7 count 1", "0\n")
+    yield "lean, faces: the references before the faces", left("5 text 3 count 1", q="1,0\n", f="")
+    yield "lean, faces: the faces before the excess", left("5 text 6 count 0", q="1,0\n1,-999999999999999\n", f="")
+    yield "lean, faces: the disturbances before the excess", left("5 text 7 count 1", "0\n", q="1,0\n1,-999999999999999\n")
+    yield "lean, faces: the excess before what the faces hold", left("10 too-wide excess", q="1,0\n1,-999999999999999\n", f="3,0,0,1,0\n4,0,0,0,1\n")
+    # a lean controller may exceed a row by all of its target, and one of `generate` by what its steps and errors leave
+    wide = lambda violation: sub(BASE, targets(100, violation, 100), ("final = [[4, 1]]", "final = [[4, 1], [-4, 1]]"))
+    yield "lean, faces: a violation of 24/100", stays({"r": ["multiplier 1"]}, d=wide(24))
+    yield "lean, faces: a violation of 26/100, whose bound is above a quarter", left("17 no-stay 2 -1", d=wide(26))
+    yield "stay: a violation of 26/100", (["stay", "d", "p", "c", "r", "f"], held | {"d": wide(26)}, 0, "", "", {}, {})
+    # each row has a bound of its own: exponents 1 2 4 3 3
+    slopes = lambda bound: sub(BASE, targets(10, 1, 10), limits(100, [[0, 100, 100], [0, -100, 100], [0, 400, 3600]], [[100, 100 + bound], [-100, bound]]))
+    sloped = "100,0,0,0,1,0\n100,0,0,0,0,1\n"
+    yield "lean, faces, version 1: a less steep row", left("17 no-stay 1 2", d=slopes(42), f=sloped)
+    yield "lean, faces, version 2: a less steep row", stays(
+        {"c": ["exps 1 2 4 3 3"], "r": ["steps 683", "bits 15", *violations(62505409229, 68944715980, 107580556488, 81823329483, 81823329483)]}, d=in_second(slopes(42)), f=sloped)
+    yield "lean, faces, version 2: a bound nearer to the end", left("17 no-stay 1 2", d=in_second(slopes(43)), f=sloped)
+    for words in ([*LEAN, "c"], [*LEAN, "r"], [*LEAN, "f", "r"], [*LEAN, "f", "w", "w"]):
+        yield f"lean, faces: {' '.join(words)}", refused(words, held | {"w": "0\n1\n"}, 2, "usage")
+    yield "lean, faces: one file for references, faces and disturbances", refused(["lean", "d", "p", "q", "c", "r", "q", "q"], held, 5, "text 6 fields 1")
+    yield "lean, faces: no faces", refused([*LEAN, "no"], held, 3, "read-fault 6")
+    yield "lean, faces: no disturbances", refused([*LEAN, "f", "no"], held, 3, "read-fault 7")
+    yield "lean, faces: a controller that can't be written", refused(["lean", "d", "p", "q", "no/c", "r", "f"], held, 4, "write-fault 4")
+    old = {"c": "an old controller\n", "r": "an old report\n"}
+    yield "lean, faces: old files are left where a face is refused", left("17 no-stay 2 -1", f="4,0,0,1,0\n4,0,1,0,0\n", **old)

@@ -15,6 +15,7 @@ import tempfile
 
 import lean_rows
 import listing_rows
+import split_rows
 import stay_rows
 from texts import (AXIS, BASE, COAST, FIRST, GENERATE, JSON, LIMITS, POLICY, REPORT, SOLVE, costs, in_second, limits, plant_over, put, refused, steep, sub, targets,
                    violations, written)
@@ -22,7 +23,7 @@ from texts import (AXIS, BASE, COAST, FIRST, GENERATE, JSON, LIMITS, POLICY, REP
 PROGRAM = os.path.abspath(sys.argv[1])
 VALGRIND = "--valgrind" in sys.argv[2:]
 # where the words name the files that a command writes
-OUTPUTS = {"generate": (3, 4), "lean": (4, 5), "stay": (3, 4), "list": (2,)}
+OUTPUTS = {"generate": (3, 4), "lean": (4, 5), "stay": (3, 4), "list": (2,), "split": (4, 5)}
 
 
 def rows():
@@ -291,14 +292,14 @@ def corner_rows():
 
 def full_rows():
     """The name, the row, and the file that the output goes to, if any: what is written or printed to a full device fails after it was opened."""
-    made, read = {"d": BASE, "p": POLICY}, {"d": BASE, "c": FIRST, "s": "1\n", "l": listing_rows.LISTING}
+    made, read = {"d": BASE, "p": POLICY}, {"d": BASE, "c": FIRST, "s": "1\n", "v": "0\n", "l": listing_rows.LISTING}
     yield "a controller to a full device", (["generate", "d", "p", "/dev/full", "r"], made, 4, "", "error 4 write-fault 3\n", {}, {}), None
     yield "a report to a full device", (["generate", "d", "p", "c", "/dev/full"], made, 4, "", "error 4 write-fault 4\n", {"c": FIRST}, {}), None
     held = {"d": stay_rows.HELD, "p": POLICY, "f": stay_rows.FACES}
     for at, words in ((3, ["stay", "d", "p", "/dev/full", "r", "f"]), (4, ["stay", "d", "p", "c", "/dev/full", "f"])):
         yield f"stay to a full device at {at}", (words, held, 4, "", f"error 4 write-fault {at}\n", {} if at == 3 else {"c": stay_rows.CONTROLLER}, {}), None
     yield "a listing to a full device", (["list", "c", "/dev/full"], read, 4, "", "error 4 write-fault 2\n", {}, {}), None
-    for words in (SOLVE, ["loop", "d", "c", "s", "1"], ["demo", "7"], ["play", "l", "s"]):
+    for words in (SOLVE, ["loop", "d", "c", "s", "1"], ["loop", "d", "c", "s", "1", "v"], ["demo", "7"], ["play", "l", "s"]):
         yield f"the output of {words[0]} to a full device", (words, read, 4, None, "error 4 write-fault 0\n", {}, {}), "/dev/full"
 
 
@@ -343,8 +344,8 @@ def wrong(words, files, status, out, line, whole, lines, output=None):
 
 def main():
     failed = count = 0
-    own = [(name, row, None) for name, row in [*rows(), *fine_rows(), *corner_rows(), *version_rows(), *second_rows(), *lean_rows.rows(), *stay_rows.rows(), *listing_rows.rows()]]
-    for name, row, output in [*own, *full_rows()]:
+    own = [(name, row, None) for name, row in [*rows(), *fine_rows(), *corner_rows(), *version_rows(), *second_rows(), *lean_rows.rows(), *stay_rows.rows(), *listing_rows.rows(), *split_rows.rows()]]
+    for name, row, output in [*own, *full_rows(), *split_rows.full_rows()]:
         count += 1
         found = wrong(*row, output=output)
         if found:

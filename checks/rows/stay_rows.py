@@ -1,11 +1,11 @@
-"""Rows of designs whose box no closed loop leaves, by faces.
+"""Rows of designs whose box no closed loop leaves, by faces, and of loops under disturbances.
 
 The first are computed by hand; the numbers of the others are those of the model in ../fuzz.
 """
 import glob
 import os
 
-from texts import BASE, POLICY, costs, in_second, limits, plant_over, refused, sub, targets, violations
+from texts import BASE, FIRST, POLICY, costs, in_second, limits, plant_over, put, refused, sub, targets, violations
 
 EXAMPLES = os.path.join(os.path.dirname(os.path.abspath(__file__)), "..", "..", "examples")
 STAY, UNDER = ["stay", "d", "p", "c", "r", "f"], ["stay", "d", "p", "c", "r", "f", "w"]
@@ -174,6 +174,41 @@ def shift_rows():
     yield "stay: one text for both faces and disturbances", refused(["stay", "d", "p", "c", "r", "f", "f"], both, 5, "text 6 fields 1")
 
 
+def loop_rows():
+    loop = lambda turns, shifts, **files: (["loop", "d", "c", "s", turns, "v"], {"d": BASE, "c": FIRST, "s": "0", "v": shifts, **files})
+    yield "a loop under disturbances", put(*loop("2", "1\n0\n"), "1 1 0 4096 0\n1 2 1 4096 -2224\n")
+    yield "a loop whose disturbance leaves the box", (*loop("2", "2\n0\n"), 12, "1 1 0 4096 0\n", "error 12 outside-box 1 2 1\n", {}, {})
+    yield "a loop whose disturbance leaves the box below", (*loop("3", "0\n-1\n0\n"), 12, "1 1 0 4096 0\n1 2 0 4096 0\n", "error 12 outside-box 1 3 1\n", {}, {})
+    # after the last turn no state is tested
+    for shift in (MOST, -MOST):
+        yield f"a loop whose last disturbance is {shift}", put(*loop("1", f"{shift}\n"), "1 1 0 4096 0\n")
+        yield f"a loop whose first disturbance is {shift}", (*loop("2", f"{shift}\n0\n"), 12, "1 1 0 4096 0\n", "error 12 outside-box 1 2 1\n", {}, {})
+    for turns, shifts, fault in (("2", "0\n", "count 1"), ("2", "0\n0\n0\n", "count 3"), ("0", "0\n", "count 1"), ("1", "", "count 0"), ("1", f"{MOST + 1}\n", "number 1 1"), ("1", f"{-MOST - 1}\n", "number 1 1"),
+                                 ("2", "0\n0,0\n", "fields 2"), ("1", "0\nx\n", "number 2 1"), ("1", "0\n0,0\n", "fields 2")):
+        yield f"a loop of {turns} turns under {shifts!r}", refused(*loop(turns, shifts), 5, f"text 5 {fault}")
+    for shifts in ("", "\n"):
+        yield f"a loop of no turn under {shifts!r}", put(*loop("0", shifts), "")
+        yield f"a loop of no turn from outside under {shifts!r}", put(*loop("0", shifts, s="7"), "")
+    # each record of the states begins with the first disturbance
+    yield "a loop of two records under disturbances", put(*loop("2", "1\n0\n", s="0\n1\n0\n"), "1 1 0 4096 0\n1 2 1 4096 -2224\n2 1 1 4096 -2224\n2 2 1 4096 -2224\n3 1 0 4096 0\n3 2 1 4096 -2224\n")
+    yield "a loop whose second record leaves the box", (*loop("2", "1\n0\n", s="0\n1\n", d=sub(BASE, ("b = [[1]]", "b = [[0]]"))), 12, "1 1 0 4096 0\n1 2 1 4096 -2224\n2 1 1 4096 -2224\n",
+                                                        "error 12 outside-box 2 2 1\n", {}, {})
+    # the shift comes after the rounding: of 1/2 it is 1 and not 0
+    yield "a loop whose state is a tie, under disturbances", put(*loop("2", "-1\n0\n", s="1", d=sub(BASE, ("den = 1\na = [[1]]\nb = [[1]]", "den = 2\na = [[1]]\nb = [[0]]"))), "1 1 1 4096 -2224\n1 2 0 4096 0\n")
+    files = loop("1", "0\n")[1]
+    for at, name in ((1, "d"), (2, "c"), (3, "s"), (5, "v")):
+        yield f"a loop without {name}", refused(loop("1", "")[0], {key: text for key, text in files.items() if key != name}, 3, f"read-fault {at}")
+    yield "a loop under long disturbances", refused(*loop("1", "\n" * 4194305), 13, "long 5")
+    yield "a loop whose states' text comes before that of the disturbances", refused(*loop("1", "x", s="y"), 5, "text 3 number 1 1")
+    far = "mpc-controller 1\nsize 1 1 1 1\nbits 0 0 0 128\nsteps 1\nclamp 0\nwords 4\nlo 0\nhi 1\nP 0\nT 42535295865117307932921825928971026431\nW 0\nG 0\nE 0\nb 0\nend\n"
+    wide = sub(BASE, ("den = 1\na = [[1]]\nb = [[1]]", "den = 3\na = [[0]]\nb = [[1]]"))
+    yield "turn above its limit, under disturbances", refused(*loop("0", "", d=wide, c=far), 10, "too-wide turn")
+    yield "the disturbances' text before turn", refused(*loop("0", "0\n", d=wide, c=far), 5, "text 5 count 1")
+    yield "turn above its limit, no record, under disturbances", put(*loop("1", "0\n", d=wide, c=far, s=""), "")
+    for words in ("loop d c s 1 v v", "loop d c s 01 v", "loop d c s 1000001 v"):
+        yield f"usage: {words}", refused(words.split(), files, 2, "usage")
+
+
 def example_rows():
     """The examples whose folder has faces, under its disturbances."""
     for folder in sorted(map(os.path.dirname, glob.glob(os.path.join(EXAMPLES, "**", "faces.csv"), recursive=True))):
@@ -185,5 +220,5 @@ def example_rows():
 
 
 def rows():
-    for some in (face_rows, exponent_rows, size_rows, shift_rows, example_rows):
+    for some in (face_rows, exponent_rows, size_rows, shift_rows, loop_rows, example_rows):
         yield from some()

@@ -1,7 +1,7 @@
 """The model of `lean` against worked rows, whose numbers another program computed in exact whole numbers."""
 import os
+import sys
 import unittest
-from unittest import mock
 
 import control
 import excess
@@ -11,34 +11,10 @@ import program
 from tests.test_staying import FACES, HELD
 from tests.worked import told
 
-BASE = """version = 1
-states = 1
-inputs = 1
-stages = 1
-[plant]
-den = 1
-a = [[1]]
-b = [[1]]
-[cost]
-den = 1
-row_den = 1
-input = [1]
-stage = [[1, 0, 1]]
-final = []
-[limits]
-den = 4
-stage = [[0, 4, 4], [0, -4, 4]]
-final = [[4, 1]]
-[box]
-grid = 0
-lo = [0]
-hi = [1]
-[targets]
-den = 1
-violation = 16
-gap = 1
-"""
-POLICY, REFERENCE = "1,0\n8,-7\n", "1,0\n2,-1\n"
+sys.path.append(os.path.join(os.path.dirname(os.path.abspath(__file__)), "..", "..", "rows"))
+from lean_rows import LEAN as WORDS, LEAN_CONTROLLER, LEAN_JSON, LEAN_REPORT, REFERENCE
+from texts import BASE, POLICY
+
 TIGHT = BASE.replace("den = 1\nviolation = 16\ngap = 1\n", "den = 10\nviolation = 1\ngap = 10\n")
 SECOND = BASE.replace("version = 1", "version = 2").replace("violation = 16", "violation = 1")
 # over two stages, with denominators that make its numbers enclosures
@@ -53,41 +29,6 @@ PUSHED = (
     BASE.replace("a = [[1]]\nb = [[1]]", "a = [[0]]\nb = [[0]]").replace("stage = [[1, 0, 1]]", "stage = []").replace("hi = [1]", "hi = [0]")
     .replace("den = 4\nstage = [[0, 4, 4], [0, -4, 4]]\nfinal = [[4, 1]]", "den = 10\nstage = [[0, -10, -39]]\nfinal = []")
 )
-CONTROLLER = """mpc-controller 1
-size 1 1 1 3
-bits 6 0 1 16
-steps 1
-clamp 256
-words 6
-lo 0
-hi 1
-P 32
-T 0
-W 16 -16 16
-G 64
-G -64
-G 64
-E 0
-E 0
-E 64
-b 64 64 16
-end
-"""
-REPORT = """mpc-report 1
-margin 8192 65536
-excess 18432 65536
-multiplier 1
-step 1
-steps 1
-bits 6
-width 16
-words 6
-violation 11150808842240 1099511627776
-gap 311385128960 1099511627776
-undercut 17592186044416 1099511627776
-end
-"""
-WORDS = ["lean", "d", "p", "q", "c", "r"]
 
 
 def answer(design, policy, reference, words=WORDS):
@@ -129,7 +70,7 @@ class Rows(unittest.TestCase):
 
     def test_base(self):
         said = self.told(BASE, POLICY, REFERENCE)
-        self.assertEqual((said.written["c"].decode(), said.written["r"].decode()), (CONTROLLER, REPORT))
+        self.assertEqual((said.written["c"].decode(), said.written["r"].decode()), (LEAN_CONTROLLER, LEAN_REPORT))
         self.assertEqual(self.plans(said, [[1], [0]]), ["64 -32", "64 0"])
         d, chosen, references = choice(BASE, POLICY, REFERENCE)
         self.assertEqual([model.target_of(d, units) for units in (2**40, 15 * 2**36, 2**36, 2**16)], [17592186044416, 16492674416640, 1099511627776, 1048576])
@@ -138,9 +79,7 @@ class Rows(unittest.TestCase):
 
     def test_json(self):
         said = answer(BASE, POLICY, REFERENCE, [*WORDS[:-1], "r.json"])
-        self.assertEqual(said.written["r.json"].decode(), (
-            '{"bits":"6","excess":"18432","gap":"311385128960","margin":"8192","multiplier":"1","step":"1","steps":"1","undercut":"17592186044416","version":"1",'
-            '"violation":"11150808842240","width":"16","words":"6"}\n'))
+        self.assertEqual(said.written["r.json"].decode(), LEAN_JSON)
 
     def test_tight(self):
         said = self.told(TIGHT, POLICY, REFERENCE, excess=18432, multiplier=2, steps=86, bits=13, width=30, violation=107726302604, gap=6442582016, undercut=219902325554)
@@ -205,11 +144,6 @@ class Rows(unittest.TestCase):
 
 class Faces(unittest.TestCase):
     """Lean controllers of boxes that no loop leaves, by what the lean bounds say of a row before its gains are known."""
-
-    def setUp(self):
-        with_faces = mock.patch.dict(program.COUNTS, lean=[5, *program.LEAN_WITH_FACES])
-        with_faces.start()
-        self.addCleanup(with_faces.stop)
 
     def asked(self, words="lean d p q c r f", **files):
         return told(words, **{"d": HELD, "p": POLICY.encode(), "q": REFERENCE.encode(), "f": FACES} | files)

@@ -2,7 +2,6 @@
 import random
 import unittest
 from fractions import Fraction
-from unittest import mock
 
 import control
 import model
@@ -104,11 +103,6 @@ class Faces(unittest.TestCase):
 
 
 class Loops(unittest.TestCase):
-    def setUp(self):
-        under = mock.patch.dict(program.COUNTS, loop=[4, *program.LOOP_UNDER_DISTURBANCES])
-        under.start()
-        self.addCleanup(under.stop)
-
     def test_shifts(self):
         loop = lambda turns, v: told(f"loop d c s {turns} v", d=DESIGN, c=CONTROLLER, s=b"0\n", v=v)[:3]
         self.assertEqual(loop(2, b"1\n0\n"), (0, "", "1 1 0 4096 0\n1 2 1 4096 -2224\n"))
