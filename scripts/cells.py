@@ -12,22 +12,22 @@ grid number of each part but the last. POLICIES gets the plans of the first cell
     --generate FOLDER   has `./mpc generate` make each cell's controller, and says its K: design-1.toml, policy-1.csv, controller-1.txt, report-1.txt and so on stand then in FOLDER
     --lines FILE     lines of `./mpc loop`: says the mean K over their turns, where each state is served by its cell
 
-What each cell's K is by its policy goes to standard error, and the mean over all grid states beside the K of the whole box. It ends with status 6 where a cell has no policy, and with the status of
+`./mpc split DESIGN CUTS POLICIES CELLS REPORT` makes the controllers of all cells, and `./mpc serve CELLS STATES` runs them. What each cell's K is by its policy goes to standard error, and the mean over all grid states beside the K of the whole box. It ends with status 6 where a cell has no policy, and with the status of
 `generate` where that refuses one. Nothing rests on it.
 """
 import contextlib
 import io
-import itertools
 import math
 import os
 import subprocess
-from dataclasses import dataclass, replace
+from dataclasses import dataclass
 
 from common.libraries import Refusal, need, run, say
 
 need("numpy", "cvxopt")
 from common import files, matching
 from common.arguments import Parser, whole
+from common.cell_boxes import cells_of, count_of, parts_of
 from common.condensed import condense, curvature
 from common.corners import corners_of, margin_of, multiplier_of, steps_of
 from common.design_text import Design, plain, read_design
@@ -58,34 +58,11 @@ def step_of(design: Design) -> int:
 # ---- cuts
 
 
-def parts_of(design: Design, cuts: list[list[int]]) -> list[list[tuple[int, int]]]:
-    """The parts of each coordinate: their least and greatest grid numbers."""
-    out = []
-    for low, high, own in zip(design.lo, design.hi, cuts):
-        starts, ends = [low, *(cut + 1 for cut in own)], [*own, high]
-        out.append(list(zip(starts, ends)))
-    return out
-
-
-def cells_of(design: Design, cuts: list[list[int]]) -> list[Design]:
-    """The cells' designs, the first coordinate fastest."""
-    parts = parts_of(design, cuts)
-    boxes = [box[::-1] for box in itertools.product(*parts[::-1])]
-    return [replace(design, lo=[low for low, _ in box], hi=[high for _, high in box]) for box in boxes]
-
-
 def states_in(design: Design) -> int:
     """How many grid states a box has."""
     count = 1
     for low, high in zip(design.lo, design.hi):
         count *= high - low + 1
-    return count
-
-
-def count_of(cuts: list[list[int]]) -> int:
-    count = 1
-    for own in cuts:
-        count *= len(own) + 1
     return count
 
 

@@ -11,11 +11,13 @@ follows from it:
     with a design     bounds in the units that its comments name, row by row, and the sizes in bits of 126
     with its policy   where R comes from: the corner and row of the least slack, the corner of the greatest cost, the step against the curvature; of a lean controller, with
                       its reference plans, the corner of the greatest excess
+    cells             what `split` wrote, the controllers or the reports or both: the box of each cell, and what its report says
     lines             each number as a decimal; with a design, by name and unit
 
 It computes anew, in Python, what it says of a design and a policy, and changes nothing; the program's report is what counts.
 """
 from collections.abc import Callable, Iterable, Iterator, Sequence
+from dataclasses import replace
 from fractions import Fraction
 
 from common import files, matching, sizes
@@ -26,11 +28,11 @@ from common.corners import Corner, corners_of, cost_limit, lean_multiplier_of, m
 from common.design_text import Design, design_of, plain
 from common.excess import excesses_of
 from common.libraries import Refusal, run
-from common.texts import Controller, controller_of, kind_of, read_text, records_of, report_of
+from common.texts import Controller, cells_of, controller_of, kind_of, read_text, records_of, report_of, reports_of
 from common.trajectories import dot
 
 WORD = 32
-KINDS = {"design": "a design", "controller": "a controller", "report": "a report", "policy": "a policy", "reference": "a policy or reference plans", "lines": "lines of solve or loop, or nothing that is known"}
+KINDS = {"design": "a design", "controller": "a controller", "cells": "cells", "report": "a report", "policy": "a policy", "reference": "a policy or reference plans", "lines": "lines of solve or loop, or nothing that is known"}
 
 
 def bits_of(numbers: Iterable[int]) -> int:
@@ -315,6 +317,10 @@ def line_words(line: str, design: Design | None) -> Iterator[str]:
 def explain(texts: dict, clock: float = 100.0, cycles: float | None = None) -> Iterator[str]:
     """The words for these texts, by kind; of lines there may be any number."""
     design = design_of(texts["design"]) if "design" in texts else None
+    reports = reports_of(texts["report"]) if "report" in texts else []
+    if "cells" in texts or len(reports) > 1:
+        yield from cells_words(texts, design, reports)
+        return
     report = report_of(texts["report"]) if "report" in texts else None
     policy = records_of(texts["policy"]) if "policy" in texts else None
     reference = records_of(texts["reference"]) if "reference" in texts else None
@@ -332,6 +338,34 @@ def explain(texts: dict, clock: float = 100.0, cycles: float | None = None) -> I
         yield from line_words(line, design)
     if design and len(texts) == 1:
         yield f"{design.states} states, {design.inputs} inputs, {design.stages} stages, {design.rows} limit rows; name its policy or its report, too"
+
+
+def cells_words(texts: dict, design: Design | None, reports: list[str]) -> Iterator[str]:
+    """Of each cell its box, as far as the controllers are there, and its report, as far as that is."""
+    others = [KINDS[kind] for kind in texts if kind not in ("cells", "report", "design")]
+    if others:
+        raise Refusal(f"cells are explained with their reports and their design, and not with {others[0]}")
+    cells = cells_of(texts["cells"]) if "cells" in texts else []
+    if cells and reports and len(cells) != len(reports):
+        raise Refusal(f"there are {len(cells)} cells, and {len(reports)} reports")
+    for number in range(1, 1 + max(len(cells), len(reports))):
+        controller, report = (cells[number - 1] if cells else None), report_of(reports[number - 1]) if reports else None
+        its = replace(design, lo=controller.lo, hi=controller.hi) if design and controller else design
+        refuse_others(its, report, None, controller)
+        yield f"cell {number}" + (f": {box_words(controller, design)}" if controller else "")
+        if report:
+            yield from report_words(report, its)
+        else:
+            yield f"every run takes K = {controller.steps} steps, with f = {controller.bits} fraction bits in a signed word of {controller.width} bits"
+
+
+def box_words(controller: Controller, design: Design | None) -> str:
+    """A controller's box, in units where there is a design."""
+    ends = [[Fraction(v, 2**controller.grid) for v in pair] for pair in zip(controller.lo, controller.hi)]
+    names = [design.name("state", i + 1) for i in range(design.states)] if design else []
+    if names:
+        return ", ".join(f"{name.word} {name.shown(low)} to {name.shown(high)}" for name, (low, high) in zip(names, ends))
+    return ", ".join(f"x{i} {plain(low)} to {plain(high)}" for i, (low, high) in enumerate(ends, 1))
 
 
 def refuse_others(design: Design | None, report: dict | None, policy: list | None, controller: Controller | None, reference: list | None = None) -> None:

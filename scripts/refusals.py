@@ -15,7 +15,7 @@ import tomllib
 from collections.abc import Iterator
 from fractions import Fraction
 
-from common import sizes
+from common import cell_boxes, sizes
 from common.arguments import MOST_TURNS
 from common.corners import corners_of, exact_corner, lean_multiplier_of, margin_of, multiplier_of
 from common.design_text import Design, plain, read_design
@@ -23,7 +23,7 @@ from common.excess import excesses_of
 from common.files import read_bytes, same
 from common.libraries import run
 from common.texts import read_text, records_of
-from common.usage import commands, files_of, optional
+from common.usage import commands, optional, places_of
 
 # ---- the texts: one for each status, and one for each fault that a status carries
 
@@ -41,7 +41,11 @@ TEXTS = {
     "number": "Field {field} of record {entry} in {file}{fault} is no number that may stand there: {wanted}.",
     "count": "{file} has {entries} records, and the design has {wanted} corners: one plan for each, in the order low low, high low, low high, high high.",
     "count-faces": "{file} has {entries} records, and the box has {wanted} faces: for each coordinate the upper one, then the lower.",
+    "count-cuts": "{file} has {entries} records, and the design has {wanted} states: one record for each, how many cuts it has and the cuts.",
+    "count-policies": "{file} has {entries} records, and {wanted} are needed: a plan for each corner of each cell, the policy of a cell after that of the one before.",
+    "cells": "The cuts of {file} make {cells} cells, and at most 64 are served.",
     "count-disturbances": "{file} has {entries} records, and two are needed: the least disturbances, then the greatest.",
+    "count-turns": "{file} has {entries} records, and {wanted} are needed: one for each turn.",
     "no-margin": "At {corner} the policy's plan leaves too little room in {row}: slack {slack}, at least 0.0000153 (2^-16) is needed. "
     '{hint} scripts/policy.py finds a policy with room, or says which row and corner are to blame (docs/DESIGNING.md, "Margins").',
     "curvature": "The limits are too steep for the cost: no step 2^-s with s up to 40 is small enough. Divide the rows by their tolerances, or take larger weights "
@@ -52,17 +56,23 @@ TEXTS = {
     '(docs/DESIGNING.md, "What K is made of").',
     "too-wide": '`{name}`, {what}, passes 2^126{size}: {help} (docs/DESIGNING.md, "Sizes").',
     "controller-line": "{file} is no controller text: line {line}{fault} should be {wanted}. `generate` writes such files; docs/FORMATS.md has the form.",
+    "cells-line": "{file} is no text of cells: line {line}{fault} should be {wanted}. `split` writes such files; docs/FORMATS.md has the form.",
+    "cells-unsafe": "{file} has the form of a text of cells, but a sum of a controller's numbers could leave the width that it says itself, so none is run: a number was changed.",
     "controller-unsafe": "{file} has the form of a controller text, but a sum of its numbers could leave the width that it says itself, so it is not run: a number was changed.",
     "outside-box": "State {entry} of {file} is outside the {kind}'s box in coordinate {name}{fault}. The promises hold inside the box alone: a larger box in the design, or "
     "a state in steps of {step}.",
     "left-box": "The loop from state {entry} left the box before turn {turn}, in coordinate {name}. Nothing promises that a loop of `generate` stays, and `stay` makes those that do: limits at the next state, or coordinates in which "
     'the box is nearly invariant (docs/DESIGNING.md, "Boxes that loops stay in").',
-    "long": "{file} is longer than 4194304 bytes, and no file of the tool is.",
+    "outside-cells": "State {entry} of {file} is in no cell of {cells}, and outside the first one's box in coordinate {name}{fault}. The promises hold inside the cells alone: a larger box in the "
+    "design that is split.",
+    "long": "{file} is longer than 4194304 bytes, and no file of the tool but a text of cells is.",
+    "long-cells": "{file} is longer than 268435456 bytes, and no text of cells is.",
     "mismatch": "The controller was not made for this design: its {field} are {controller}, and the design's are {design}. Run `generate` on this design.",
     "unequal": "Record {entry} of {file} is no proof of {face}: its limits have together {left} of input {input}, and its coordinate has {right}; the weights must make both the same. "
     'scripts/faces.py finds such weights (docs/METHOD.md, "Faces").',
     "no-stay": "Record {entry} of {file} lets a loop pass {face}: the coordinate may go as far as {bound} over 2^grid{end}. Other weights, a limit at the next state, a smaller violation "
     'target or smaller disturbances (docs/METHOD.md, "Faces").',
+    "cell": "Cell {cell}{box} has no controller, with its policy: {refusal}",
     "listing": "{file} is no listing text: line {line}{fault} should be {wanted}. `list` writes such files; docs/FORMATS.md has the form.",
     "trap": "The run of {file} from state {entry} stops in repetition {step} at instruction {place}{instruction}: a value needs more bits than its words have. A listing that `list` wrote "
     "never does so from a state of its box: the listing was changed.",
@@ -76,12 +86,14 @@ LEFT = {
     "controller": "Nothing stands in it, or the first part of the text.",
     "report": "The controller file stands whole.",
     "listing": "Nothing stands in it, or the first part of the text.",
+    "cells": "Nothing stands in it, or the first part of the text.",
+    "reports": "The cells file stands whole.",
     "output": "The lines before it were printed whole.",
 }
 
 # the commands that write, with how many files they have; and the files that hold plans
-COUNTS = {"generate": "four", "stay": "files", "lean": "five"}
-PLANS = ("policy", "reference")
+COUNTS = {"generate": "four", "stay": "files", "lean": "five", "split": "five"}
+PLANS = ("policy", "reference", "policies")
 # what K is made of, and which policy makes it less
 STEPS = {
     "generate": ("K = 2^(s+2) R / target", "a larger margin or a smaller cost"),
@@ -146,7 +158,7 @@ class Call:
     def __init__(self, words: list[str]) -> None:
         self.words = words
         self.command = words[0] if words else ""
-        self.kinds = files_of(self.command)
+        self.kinds = places_of(self.command)
 
     def kind(self, number: int) -> str:
         return self.kinds[number - 1] if 0 < number <= len(self.kinds) else "output"
@@ -181,6 +193,26 @@ class Call:
             return None
 
 
+class CellCall(Call):
+    """The same for one cell of a design's box."""
+
+    def __init__(self, words: list[str], cell: int) -> None:
+        super().__init__(words)
+        self.cell = cell
+
+    def design(self) -> Design | None:
+        whole = super().design()
+        try:
+            return cell_boxes.cells_of(whole, [record[1:] for record in records_of(read_text(self.path("cuts")))])[self.cell - 1]
+        except (OSError, ValueError, TypeError, AttributeError, IndexError):
+            return None
+
+    def policy(self, kind: str = "policies") -> list | None:
+        records, design = super().policy(kind), self.design()
+        count = 2**design.states if design else 0
+        return records[count * (self.cell - 1) : count * self.cell] if records and count else None
+
+
 def number_of(word: str, most: int) -> bool:
     """Whether a word is a number of an argument."""
     return word.isascii() and word.isdigit() and str(int(word)) == word and int(word) <= most
@@ -195,14 +227,15 @@ def usage(call: Call) -> str:
         return f"`{command}` is no command: {', '.join(others)} or {last} is needed."
     needed, besides = listed[command], optional(command)
     if not len(needed) <= len(words) - 1 <= len(needed) + len(besides):
-        counts = f"{len(needed)} or {len(needed) + len(besides)}" if besides else str(len(needed))
+        *fewer, most = map(str, range(len(needed), len(needed) + len(besides) + 1))
+        counts = f"{', '.join(fewer)} or {most}" if fewer else most
         named = " ".join(needed + [f"[{word}]" for word in besides])
         return f"`{command}` takes {counts} arguments, {named}, and {len(words) - 1} were given."
     if command in COUNTS:
         return one_file_twice(call)
     if command == "list":
         return f"The listing file {call.path('listing')} is the controller file {call.path('controller')}: it needs a file of its own."
-    if command in ("solve", "play") or command == "loop" and number_of(words[4], MOST_TURNS):
+    if command in ("solve", "play", "serve") or command == "loop" and number_of(words[4], MOST_TURNS):
         return "Standard output is one of the files that are read: what is printed needs a file of its own."
     if command == "loop":
         return f"The turns `{words[4]}` are no number from 0 to 1000000 without sign or leading zero."
@@ -210,13 +243,14 @@ def usage(call: Call) -> str:
 
 
 def one_file_twice(call: Call) -> str:
-    """Which of the files of `generate`, `stay` or `lean` are one."""
-    count = COUNTS[call.command]
-    for output in ("report", "controller"):
+    """Which of the files of `generate`, `stay`, `lean` or `split` are one."""
+    count = COUNTS[call.command] if len(call.words) <= 6 else "files"
+    for output in ("report", "cells" if call.command == "split" else "controller"):
         for kind in [kind for kind in call.kinds if kind != output and call.path(kind) is not None]:
             if same(call.path(output), call.path(kind)) or call.path(output) == call.path(kind):
                 return f"The {output} file {call.path(output)} is the {kind} file {call.path(kind)}: each of the {count} needs a file of its own."
-    return f"The controller's or the report's name is that of another file of the {count}: each needs a file of its own."
+    first = "cells'" if call.command == "split" else "controller's"
+    return f"The {first} or the report's name is that of another file of the {count}: each needs a file of its own."
 
 
 def without_arguments(call: Call) -> str:
@@ -292,6 +326,8 @@ def text_fault(call: Call, file: int, fault: str, numbers: list[int]) -> str:
         return TEXTS[fault].format(file=name, fault=toml_fault(path))
     if fault == "key" and numbers[0] == 0:
         return TEXTS["further-key"].format(file=name, fault=further_key(path))
+    if fault == "range" and kind == "cuts":
+        return TEXTS["cells"].format(file=name, cells=cell_count(call))
     if fault in ("key", "shape", "range"):
         key, shape, ranged = PLACES[numbers[0] - 1]
         lacking = f" (or the whole table [{key.split('.')[0]}])" if "." in key else ""
@@ -299,10 +335,17 @@ def text_fault(call: Call, file: int, fault: str, numbers: list[int]) -> str:
     design, records = call.design(), call.records(kind)
     entry = numbers[0]
     line = records[entry - 1] if 0 < entry <= len(records) else ""
+    if fault == "count" and kind == "disturbances" and call.command == "loop":
+        return TEXTS["count-turns"].format(file=name, entries=entry, wanted=call.path("turns"))
     if fault == "count" and kind == "disturbances":
         return TEXTS["count-disturbances"].format(file=name, entries=entry)
     if fault == "count" and kind == "faces":
         return TEXTS["count-faces"].format(file=name, entries=entry, wanted=2 * design.states if design else "2n")
+    if fault == "count" and kind == "cuts":
+        return TEXTS["count-cuts"].format(file=name, entries=entry, wanted=design.states if design else "n")
+    if fault == "count" and kind == "policies":
+        cells = cell_count(call)
+        return TEXTS["count-policies"].format(file=name, entries=entry, wanted=cells * 2**design.states if design and isinstance(cells, int) else "2^states for each cell")
     if fault == "count":
         return TEXTS[fault].format(file=name, entries=entry, wanted=2**design.states if design else "2^states")
     if fault == "fields":
@@ -313,6 +356,8 @@ def text_fault(call: Call, file: int, fault: str, numbers: list[int]) -> str:
             if kind in ("states", "disturbances")
             else "a factor, and a weight for each first limit"
             if kind == "faces"
+            else "how many cuts its coordinate has, and then so many cuts"
+            if kind == "cuts"
             else (
                 f"{1 + design.entries} numbers, a denominator and {design.stages} times {design.inputs} inputs"
                 if design
@@ -328,11 +373,35 @@ def text_fault(call: Call, file: int, fault: str, numbers: list[int]) -> str:
         if kind == "faces" and numbers[1] == 1
         else "a weight is 0 to 2147483647"
         if kind == "faces"
-        else "-2147483647 to 2147483647, and in the second record at least the number of the first"
+        else NUMERATOR
+        if kind == "disturbances" and call.command == "loop"
+        else NUMERATOR + ", and in the second record at least the number of the first"
         if kind == "disturbances"
+        else "the number of cuts is 0 to 63"
+        if kind == "cuts" and numbers[1] == 1
+        else cut_range(design, line, entry, numbers[1])
+        if kind == "cuts"
         else "a whole number in decimal, of an absolute value of at most 9223372036854775807"
     )
     return TEXTS["number"].format(field=numbers[1], entry=entry, file=name, fault=f", `{word.strip()[:40]}`," if word else "", wanted=wanted)
+
+
+def cell_count(call: Call) -> int | str:
+    """How many cells a text of cuts makes, as far as it can be read."""
+    try:
+        return cell_boxes.count_of([record[1:] for record in records_of(read_text(call.path("cuts")))])
+    except (OSError, ValueError, TypeError):
+        return "too many"
+
+
+def cut_range(design: Design | None, line: str, entry: int, field: int) -> str:
+    """What a cut has to be, behind those before it."""
+    try:
+        low, high = design.lo[entry - 1], design.hi[entry - 1]
+        least = int(line.split(",")[field - 2].strip().strip('"')) + 1 if field > 2 else low
+    except (AttributeError, IndexError, ValueError):
+        return "cuts rise, and each is at least the box's lo and below its hi"
+    return f"a cut from {least} to {high - 1}, since cuts rise and the box ends at {high}" if least < high else f"there is no room for a cut, since cuts rise and the box ends at {high}"
 
 
 def simulated_slack(call: Call, corner: int, row: int) -> Fraction | None:
@@ -439,19 +508,39 @@ def controller_lines(text: str) -> list[str]:
     )
 
 
+def cells_lines(text: str) -> list[str]:
+    """The same of a text of cells."""
+    first, _, rest = text.partition("\n")
+    try:
+        count = min(64, max(0, int(first.removeprefix("mpc-cells "))))
+    except ValueError:
+        count = 0
+    out = ["`mpc-cells` and the number of cells, 1 to 64"]
+    for cell in range(count):
+        its = controller_lines(rest)
+        if cell:
+            its[:3] = ["`mpc-controller` and a version that has room for the first cell's sizes", "`size`, n, p and N of the first cell, and m", "`bits` and f, g of the first cell, s, w"]
+        if len(its) < 10:
+            return out + its
+        out += its[:-1]
+        rest = "\n".join(rest.split("\n")[len(its) - 1 :])
+    return [*out, "`end`", "absent: nothing follows the last `end`"]
+
+
 def controller_fault(call: Call, file: int, fault: str, numbers: list[int]) -> str:
-    name = call.named(file)
+    name, is_cells = call.named(file), call.kind(file) == "cells"
+    kind = "cells" if is_cells else "controller"
     if fault == "unsafe":
-        return TEXTS["controller-unsafe"].format(file=name)
+        return TEXTS[f"{kind}-unsafe"].format(file=name)
     try:
         text = read_text(call.path(call.kind(file)))
     except (OSError, TypeError):
         text = ""
-    lines, found, wanted = controller_lines(text), text.split("\n"), "another"
+    lines, found, wanted = (cells_lines if is_cells else controller_lines)(text), text.split("\n"), "another"
     if numbers[0] <= len(lines):
         wanted = lines[numbers[0] - 1]
     shown = f" (`{found[numbers[0] - 1][:40]}`)" if numbers[0] <= len(found) and found[numbers[0] - 1] else ""
-    return TEXTS["controller-line"].format(file=name, line=numbers[0], fault=shown, wanted=wanted)
+    return TEXTS[f"{kind}-line"].format(file=name, line=numbers[0], fault=shown, wanted=wanted)
 
 
 LISTING_HEAD = [
@@ -509,6 +598,26 @@ def outside_box(call: Call, entry: int, turn: int, coordinate: int) -> str:
     return TEXTS["outside-box"].format(entry=entry, file=call.named(3 if call.command == "loop" else 2), kind=kind, name=name, fault=fault, step=step)
 
 
+def outside_cells(call: Call, entry: int, coordinate: int) -> str:
+    """Of `serve`: the first cell's box is that which the line speaks of."""
+    fault = ""
+    try:
+        value = int(call.records("states")[entry - 1].split(",")[coordinate - 1])
+        lines = {line.split(" ")[0]: line.split(" ")[1:] for line in read_text(call.path("cells")).splitlines()[1:10]}
+        fault = f" ({value}, and it is {lines['lo'][coordinate - 1]} to {lines['hi'][coordinate - 1]})"
+    except (IndexError, ValueError, KeyError, OSError, TypeError):
+        pass
+    return TEXTS["outside-cells"].format(entry=entry, file=call.named(2), cells=call.named(1), name=f"x{coordinate}", fault=fault)
+
+
+def cell_refused(call: Call, cell: int, name: str, rest: list[str]) -> str:
+    """Status 18: why the design with the cell's box is refused."""
+    of_cell = CellCall(call.words, cell)
+    design = of_cell.design()
+    ends = "" if design is None else ", ".join(f"{design.name('state', i + 1).word} {low} to {high}" for i, (low, high) in enumerate(zip(design.lo, design.hi)))
+    return TEXTS["cell"].format(cell=cell, box=f" ({ends}, over 2^grid)" if ends else "", refusal=refused(of_cell, name, rest))
+
+
 def face_words(call: Call, entry: int) -> tuple[str, str]:
     """The face of a record, and where the box ends there."""
     design, coordinate, upper = call.design(), (entry + 1) // 2, entry % 2 == 1
@@ -545,19 +654,29 @@ def explanation(status: int, line: str, words: list[str]) -> str:
         return TEXTS[name].format(file=call.named(numbers[0]), fault=reading_fault(call.path(call.kind(numbers[0]))))
     if name == "write-fault":
         kind = call.kind(numbers[0]) if numbers[0] else "output"
-        return TEXTS[name].format(file=call.named(numbers[0]), fault=writing_fault(call.path(kind)), left=LEFT[kind])
+        left = LEFT["reports" if (call.command, kind) == ("split", "report") else kind]
+        return TEXTS[name].format(file=call.named(numbers[0]), fault=writing_fault(call.path(kind)), left=left)
     if name == "text":
         return text_fault(call, numbers[0], rest[1], numbers[1:])
     if name == "controller":
         return controller_fault(call, numbers[0], rest[1], numbers[1:])
     if name == "long":
-        return TEXTS[name].format(file=call.named(numbers[0]))
+        return TEXTS["long-cells" if call.kind(numbers[0]) == "cells" else name].format(file=call.named(numbers[0]))
     if name == "mismatch":
         return TEXTS[name].format(field=rest[0] if rest[0] != "grid" else "grid bits", design=rest[1], controller=rest[2])
-    fill = {"listing": listing_fault, "trap": trap, "no-margin": no_margin, "too-many-steps": too_many_steps, "too-fine": too_fine, "outside-box": outside_box}
-    fill |= {"unequal": unequal, "no-stay": no_stay}
+    if name == "outside-box" and call.command == "serve":
+        return outside_cells(call, numbers[0], numbers[2])
+    if name == "cell":
+        return cell_refused(call, numbers[0], rest[1], rest[2:])
+    fill = {"listing": listing_fault, "trap": trap, "outside-box": outside_box, "unequal": unequal, "no-stay": no_stay}
+    return fill[name](call, *numbers) if name in fill else refused(call, name, rest)
+
+
+def refused(call: Call, name: str, rest: list[str]) -> str:
+    """Why a design with its policy is refused, by the name of the refusal and what follows it."""
+    fill = {"no-margin": no_margin, "too-many-steps": too_many_steps, "too-fine": too_fine}
     if name in fill:
-        return fill[name](call, *numbers)
+        return fill[name](call, *map(int, rest))
     return too_wide(call, rest[0]) if name == "too-wide" else TEXTS.get(name, "")
 
 
@@ -572,19 +691,21 @@ STATUSES = [
     (5, "text FILE range PLACE", ["range"]),
     (5, "text FILE fields ENTRY", ["fields"]),
     (5, "text FILE number ENTRY FIELD", ["number"]),
-    (5, "text FILE count ENTRIES", ["count", "count-faces", "count-disturbances"]),
+    (5, "text FILE range 0", ["cells"]),
+    (5, "text FILE count ENTRIES", ["count", "count-faces", "count-disturbances", "count-turns", "count-cuts", "count-policies"]),
     (6, "no-margin CORNER ROW NUMERATOR DENOMINATOR", ["no-margin"]),
     (7, "curvature", ["curvature"]),
     (8, "too-many-steps K", ["too-many-steps"]),
     (9, "too-fine E", ["too-fine"]),
     (10, "too-wide NAME", ["too-wide"]),
-    (11, "controller FILE line LINE", ["controller-line"]),
-    (11, "controller FILE unsafe", ["controller-unsafe"]),
-    (12, "outside-box ENTRY TURN COORDINATE", ["outside-box", "left-box"]),
-    (13, "long FILE", ["long"]),
+    (11, "controller FILE line LINE", ["controller-line", "cells-line"]),
+    (11, "controller FILE unsafe", ["controller-unsafe", "cells-unsafe"]),
+    (12, "outside-box ENTRY TURN COORDINATE", ["outside-box", "left-box", "outside-cells"]),
+    (13, "long FILE", ["long", "long-cells"]),
     (14, "mismatch WORD DESIGN CONTROLLER", ["mismatch"]),
     (16, "unequal ENTRY INPUT LEFT RIGHT", ["unequal"]),
     (17, "no-stay ENTRY BOUND", ["no-stay"]),
+    (18, "cell CELL NAME ..", ["cell"]),
     (20, "listing FILE LINE", ["listing"]),
     (21, "trap ENTRY STEP PLACE", ["trap", "trap-input"]),
     (98, "", ["unbuilt"]),

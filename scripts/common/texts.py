@@ -82,6 +82,18 @@ def controller_of(text):
     )
 
 
+def cells_of(text):
+    """The controllers of a text that `split` wrote."""
+    _, *parts = text.removesuffix("end\n").split("mpc-controller ")
+    return [controller_of("mpc-controller " + part) for part in parts]
+
+
+def reports_of(text):
+    """The reports that stand in a text: those of the cells, where `split` wrote it."""
+    start = text.lstrip()
+    return [start] if start.startswith("{") else ["mpc-report" + part for part in start.split("mpc-report")[1:]]
+
+
 def report_of(text):
     """The numbers of a report, text or JSON, by its words: margin over 2^16, the bounds over 2^40, as fractions. `violations` has the one of each row in version 2,
     and nothing in version 1, where all are `violation`. A lean controller has an excess, over 2^16, and no cost; `lean` says which."""
@@ -89,6 +101,8 @@ def report_of(text):
         told = json.loads(text)
         numbers, rows = {key: int(value) for key, value in told.items() if isinstance(value, str)}, told.get("violations", [])
     else:
+        if len(reports_of(text)) != 1:
+            raise ValueError(f"{len(reports_of(text))} reports stand in one text, as of cells, and one is expected")
         lines = [line.split() for line in text.splitlines()[:-1]]
         numbers = {word: int(number) for word, number, *_ in lines} | {"version": int(lines[0][1])}
         rows = [row[2] for row in lines if row[0] == "violation"] if numbers["version"] > 1 else []
@@ -114,10 +128,12 @@ def loop_lines_of(text, states, inputs, grid):
 
 
 def kind_of(text):
-    """'design', 'controller', 'report', 'policy' or 'lines', by what the text begins with."""
+    """'design', 'controller', 'cells', 'report', 'policy' or 'lines', by what the text begins with."""
     first = text.lstrip().split("\n", 1)[0]
     if first.startswith("mpc-controller"):
         return "controller"
+    if first.startswith("mpc-cells"):
+        return "cells"
     if first.startswith("mpc-report") or first.startswith("{"):
         return "report"
     if "=" in text or first.startswith(("[", "#")):

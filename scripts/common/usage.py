@@ -27,6 +27,11 @@ def optional(command: str) -> list[str]:
     return next((re.findall("[A-Z]+", line[3]) for line in listed() if line[1] == command), [])
 
 
+def places_of(command: str) -> list[str]:
+    """What the arguments of a command are called, in their order: a file's fault names its place among them."""
+    return [word.lower() for word in commands().get(command, []) + optional(command)]
+
+
 def files_of(command: str) -> list[str]:
     """What the files of a command are called, in the order of its arguments."""
-    return [word.lower() for word in commands().get(command, []) + optional(command) if word not in NUMBERS]
+    return [word for word in places_of(command) if word.upper() not in NUMBERS]

@@ -10,6 +10,7 @@ from common.corners import corners_of, cost_limit, exact_corner, fine_corner, le
 from common.design_text import design_of, plain, read_design, text_of
 from common.enclosures import combined, condense_fine, product
 from common.excess import excesses_of
+from common.libraries import Refusal
 from explain import explain, ranges
 from common.trajectories import slacks_of
 from common.texts import controller_of, kind_of, loop_lines_of, read_text, records_of, report_of
@@ -333,6 +334,20 @@ class Explain(unittest.TestCase):
         told = self.told(report=FIRST_REPORT)
         self.assertIn("R = 8: the greatest cost 1 over the least slack 0.125", told)
         self.assertIn("exceeded by at most 8.05", told)
+
+    def test_cells(self):
+        cells = f"mpc-cells 2\n{FIRST_CONTROLLER.replace('hi 1', 'hi 0')}{FIRST_CONTROLLER.replace('lo 0', 'lo 1')}end\n"
+        told = self.told(cells=cells, report=2 * FIRST_REPORT, design=FIRST)
+        self.assertIn("cell 1: x1 0 to 0\nevery run takes K = 4 steps, a step is 2^-1", told)
+        self.assertIn("\ncell 2: x1 1 to 1\nevery run takes K = 4 steps", told)
+        self.assertIn("cell 2: x1 1 to 1\nevery run takes K = 4 steps, with f = 10 fraction bits in a signed word of 26 bits", self.told(cells=cells))
+        self.assertEqual(self.told(report=2 * FIRST_REPORT).count(self.told(report=FIRST_REPORT)), 2)
+        for files, fault in (({"cells": cells, "report": FIRST_REPORT}, "there are 2 cells, and 1 reports"), ({"cells": cells, "policy": "1,0\n8,-7\n"}, "and not with a policy"),
+                             ({"report": 2 * FIRST_REPORT, "design": AXIS}, "is of another design")):
+            with self.assertRaisesRegex(Refusal, fault):
+                self.told(**files)
+        with self.assertRaisesRegex(ValueError, "2 reports stand in one text"):
+            report_of(2 * FIRST_REPORT)
 
     def test_report_of_version_2(self):
         told = self.told(report=SECOND_REPORT)

@@ -70,7 +70,9 @@ class Explained(unittest.TestCase):
     def test_same_name_twice(self):
         self.assertIn("The report file c is the controller file c: each of the four needs a file of its own", self.words("error 2 usage", "generate", "d", "p", "c", "c"))
         self.assertIn("The controller file q is the reference file q: each of the five needs a file of its own", self.words("error 2 usage", "lean", "d", "p", "q", "q", "r"))
-        self.assertIn("`lean` takes 5 arguments, DESIGN POLICY REFERENCE CONTROLLER REPORT, and 4 were given", self.words("error 2 usage", "lean", "d", "p", "c", "r"))
+        self.assertIn(
+            "`lean` takes 5, 6 or 7 arguments, DESIGN POLICY REFERENCE CONTROLLER REPORT [FACES] [DISTURBANCES], and 4 were given", self.words("error 2 usage", "lean", "d", "p", "c", "r"))
+        self.assertIn("The report file r is the disturbances file r: each of the files needs a file of its own", self.words("error 2 usage", "lean", "d", "p", "q", "c", "r", "f", "r"))
 
     def test_turns_with_a_leading_zero(self):
         self.assertIn("`01` are no number from 0 to 1000000", self.words("error 2 usage", "loop", "d", "c", "s", "01"))
@@ -251,6 +253,15 @@ class Explained(unittest.TestCase):
         told = self.words("error 12 outside-box 2 5 1", "loop", "d", "c", "s", "9", d=NAMED + AXIS, c=FIRST_CONTROLLER, s="1\n")
         self.assertIn("left the box before turn 5, in coordinate angle", told)
 
+    def test_disturbances_of_a_loop(self):
+        loop = lambda line, v: self.words(line, "loop", "d", "c", "s", "2", "v", d=FIRST, c=FIRST_CONTROLLER, s="1\n", v=v)
+        self.assertRegex(loop("error 5 text 5 count 1", "0\n"), "^the disturbances file .*v has 1 records, and 2 are needed: one for each turn")
+        told = loop("error 5 text 5 number 2 1", "0\n2147483648\n")
+        self.assertIn("`2147483648`", told)
+        self.assertNotIn("second record", told)
+        self.assertIn("has 2 fields: a record holds 1 numbers", loop("error 5 text 5 fields 1", "0,0\n0\n"))
+        self.assertRegex(loop("error 3 read-fault 5", "0\n"), "^the disturbances file .*v could not be read")
+
     def test_long(self):
         self.assertIn("longer than 4194304 bytes", self.generate("error 13 long 1"))
 
@@ -278,6 +289,58 @@ class Explained(unittest.TestCase):
     def test_listing_over_the_controller(self):
         self.assertIn("The listing file c is the controller file c", self.words("error 2 usage", "list", "c", "c"))
         self.assertIn("Nothing stands in it", self.words("error 4 write-fault 2", "list", "c", "/nowhere/l"))
+
+    def split(self, line, cuts="1,0\n", policies=2 * "1,0\n" + 2 * "8,-7\n", design=FIRST):
+        return self.words(line, "split", "d", "l", "p", "c", "r", d=design, l=cuts, p=policies)
+
+    def test_cuts(self):
+        self.assertIn("Field 2 of record 1 in the cuts file", self.split("error 5 text 2 number 1 2", "1,1\n"))
+        self.assertIn("`1`, is no number that may stand there: a cut from 0 to 0, since cuts rise and the box ends at 1", self.split("error 5 text 2 number 1 2", "1,1\n"))
+        self.assertIn("there is no room for a cut", self.split("error 5 text 2 number 1 3", "2,0,0\n"))
+        self.assertIn("`64`, is no number that may stand there: the number of cuts is 0 to 63", self.split("error 5 text 2 number 1 1", "64\n"))
+        self.assertIn("has 3 fields: a record holds how many cuts its coordinate has, and then so many cuts", self.split("error 5 text 2 fields 1", "1,0,0\n"))
+        self.assertIn("has 2 records, and the design has 1 states: one record for each", self.split("error 5 text 2 count 2", "0\n0\n"))
+        self.assertIn("make 72 cells, and at most 64 are served", self.split("error 5 text 2 range 0", "8,0,1,2,3,4,5,6,7\n7,0,1,2,3,4,5,6\n", design=AXIS))
+
+    def test_policies_of_cells(self):
+        self.assertIn("has 2 records, and 4 are needed: a plan for each corner of each cell", self.split("error 5 text 3 count 2", policies=FIRST_POLICY))
+        self.assertIn("a record holds 2 numbers, a denominator", self.split("error 5 text 3 fields 1", policies="1\n"))
+        self.assertIn("a denominator is 1 to 1099511627776", self.split("error 5 text 3 number 1 1", policies="0,0\n"))
+
+    def test_cell_that_is_refused(self):
+        told = self.split("error 18 cell 2 no-margin 1 3 -3 4", policies=4 * "1,0\n")
+        self.assertIn("Cell 2 (x1 1 to 1, over 2^grid) has no controller, with its policy: At corner 1 (x1 low) the policy's plan leaves too little room in final row 1 at stage 1: slack -3/4", told)
+        self.assertIn("K = 8388608", self.split("error 18 cell 2 too-many-steps 8388608"))
+        self.assertIn("too steep", self.split("error 18 cell 1 curvature"))
+        self.assertIn("Cell 1 (x1 0 to 0, over 2^grid) has no controller, with its policy: `error`, the sum of the rounding errors, passes 2^126 (it is 2^", self.split("error 18 cell 1 too-wide error"))
+        # where the files can't be read
+        self.assertIn("Cell 7 has no controller, with its policy: At corner 1 the policy's plan", self.split("error 18 cell 7 no-margin 1 1 0 1"))
+
+    def test_files_of_split(self):
+        self.assertIn("The cells file l is the cuts file l: each of the five needs a file of its own", self.words("error 2 usage", "split", "d", "l", "p", "l", "r"))
+        self.assertIn("The report file c is the cells file c", self.words("error 2 usage", "split", "d", "l", "p", "c", "c"))
+        self.assertIn("`split` takes 5 arguments, DESIGN CUTS POLICIES CELLS REPORT, and 2 were given", self.words("error 2 usage", "split", "d", "l"))
+        told = self.words("error 4 write-fault 5", "split", "d", "l", "p", "c", "/nowhere/r", d=FIRST)
+        self.assertIn("there is no folder /nowhere. The cells file stands whole.", told)
+
+    def serve(self, line, text, states="1\n"):
+        return self.words(line, "serve", "c", "s", c=text, s=states)
+
+    def test_cells(self):
+        two = f"mpc-cells 2\n{FIRST_CONTROLLER}{FIRST_CONTROLLER}end\n"
+        self.assertIn("is no text of cells: line 1 (`mpc-cells 65`) should be `mpc-cells` and the number of cells", self.serve("error 11 controller 1 line 1", two.replace("cells 2", "cells 65")))
+        self.assertIn("line 11 (`T -0`) should be `T` and 1 number", self.serve("error 11 controller 1 line 11", two.replace("T 0", "T -0", 1)))
+        second = two.replace("T 0", "T 1", 1).replace("T 0", "T -0").replace("T 1", "T 0")
+        self.assertIn("line 30 (`T -0`) should be `T` and 1 number", self.serve("error 11 controller 1 line 30", second))
+        self.assertIn("line 20 should be `end`", self.serve("error 11 controller 1 line 20", f"mpc-cells 1\n{FIRST_CONTROLLER[:-4]}"))
+        self.assertIn("line 21 (`mpc-controller 1`) should be `end`", self.serve("error 11 controller 1 line 21", two.replace("cells 2", "cells 1")))
+        self.assertIn("line 22 (`size 2 1 1 3`) should be `size`, n, p and N of the first cell, and m", self.serve("error 11 controller 1 line 22", "size 2 1 1 3".join(two.rsplit("size 1 1 1 3", 1))))
+        self.assertIn("nothing follows the last `end`", self.serve("error 11 controller 1 line 41", two + "x"))
+        self.assertIn("so none is run", self.serve("error 11 controller 1 unsafe", two))
+        self.assertIn("longer than 268435456 bytes", self.serve("error 13 long 1", two))
+        told = self.serve("error 12 outside-box 1 0 1", two, "7\n")
+        self.assertIn("is in no cell of", told)
+        self.assertIn("outside the first one's box in coordinate x1 (7, and it is 0 to 1)", told)
 
     def test_no_line(self):
         self.assertEqual(refusals.explanation(12, "", ["solve", "c", "s"]), "")
@@ -404,6 +467,10 @@ echo "== mpc_cli"; echo "logic=proved functions=1"; printf '#!/bin/bash\necho bu
             ("lean d p s symbolic r", "The controller file symbolic is the policy file p"),
             ("lean d p s here/s r", "The controller file here/s is the reference file s"),
             ("lean d p s new ./new", "The report file ./new is the controller file new"),
+            ("split d p s c ./p", "The report file ./p is the cuts file p"),
+            ("split d p s here/s r", "The cells file here/s is the policies file s"),
+            ("split d p s new ./new", "The report file ./new is the cells file new"),
+            ("serve c s >> s", "Standard output is one of the files that are read"),
             ("solve c s >> s", "Standard output is one of the files that are read"),
             ("loop d c s 3 >> ./here/s", "Standard output is one of the files that are read"),
         ):
@@ -422,7 +489,7 @@ echo "== mpc_cli"; echo "logic=proved functions=1"; printf '#!/bin/bash\necho bu
             page = file.read()
         for words in ("--help", "-h", "help"):
             self.assertEqual(self.run_in(folder, f"./mpc {words}").stdout, page)
-        for name, line in (("generate", "  mpc generate DESIGN POLICY CONTROLLER REPORT"), ("lean", "  mpc lean DESIGN POLICY REFERENCE CONTROLLER REPORT")):
+        for name, line in (("generate", "  mpc generate DESIGN POLICY CONTROLLER REPORT"), ("lean", "  mpc lean DESIGN POLICY REFERENCE CONTROLLER REPORT [FACES] [DISTURBANCES]")):
             for words in (f"{name} --help", f"{name} -h", f"help {name}"):
                 told = self.run_in(folder, f"./mpc {words}")
                 self.assertEqual((told.returncode, told.stdout.split("\n")[0]), (0, line))
@@ -470,9 +537,11 @@ echo "== mpc_cli"; echo "logic=proved functions=1"; printf '#!/bin/bash\necho bu
             usage.commands(),
             {"demo": ["NUMBER"], "generate": ["DESIGN", "POLICY", "CONTROLLER", "REPORT"], "stay": ["DESIGN", "POLICY", "CONTROLLER", "REPORT", "FACES"],
              "lean": ["DESIGN", "POLICY", "REFERENCE", "CONTROLLER", "REPORT"], "solve": ["CONTROLLER", "STATES"], "loop": ["DESIGN", "CONTROLLER", "STATES", "TURNS"],
-             "list": ["CONTROLLER", "LISTING"], "play": ["LISTING", "STATES"]},
+             "list": ["CONTROLLER", "LISTING"], "play": ["LISTING", "STATES"], "split": ["DESIGN", "CUTS", "POLICIES", "CELLS", "REPORT"], "serve": ["CELLS", "STATES"]},
         )
-        self.assertEqual(usage.files_of("loop"), ["design", "controller", "states"])
+        self.assertEqual(usage.files_of("loop"), ["design", "controller", "states", "disturbances"])
+        self.assertEqual(usage.places_of("loop"), ["design", "controller", "states", "turns", "disturbances"])
+        self.assertEqual(usage.files_of("lean"), ["design", "policy", "reference", "controller", "report", "faces", "disturbances"])
         self.assertEqual(usage.files_of("stay"), ["design", "policy", "controller", "report", "faces", "disturbances"])
 
     def test_input_reaches_the_program(self):
