@@ -1,12 +1,12 @@
 // The averaged plan of each state of the box.
 ghost use Rattle.std.specs.Prelude.{◌≡◌};
 
-use crate::controllers::controller;
 use fixed_kernel::Kernel;
 use overflow_check::Controller;
 use primal_average::{denominator, first_input, plan_line};
 use std::alloc::{AllocError, Global};
 use std::test::Fail;
+use trials_worked_controllers::controller;
 
 // Whether a run from this state ends, and its averaged plan has this first input and this line.
 fn tells(

@@ -4,8 +4,6 @@
 #[cfg(test)]
 mod averages;
 #[cfg(test)]
-mod controllers;
-#[cfg(test)]
 mod requests;
 #[cfg(test)]
 mod steps;

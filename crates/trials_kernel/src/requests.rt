@@ -1,11 +1,11 @@
 // How often a kernel asks for memory. Nothing here counts: `checks/faults/kernel_requests.py` runs each test alone, and compares how many requests each made.
 ghost use Rattle.std.specs.Prelude.{◌≡◌};
 
-use crate::controllers::controller;
 use fixed_kernel::Kernel;
 use overflow_check::Controller;
 use std::alloc::Global;
 use std::test::Fail;
+use trials_worked_controllers::controller;
 
 // Clamp and width. The factors of the first machine pass 64 bits; a run of the second is made in words of 64.
 static WIDE: (i128, u32) = (1 << 63, 80);

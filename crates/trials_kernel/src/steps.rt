@@ -1,11 +1,11 @@
 // Steps and runs of kernels, and their words: the state, three multipliers, the plan and the sum.
 ghost use Rattle.std.specs.Prelude.{◌≡◌};
 
-use crate::controllers::controller;
 use fixed_kernel::{Kernel, OutsideBox};
 use overflow_check::Controller;
 use std::alloc::Global;
 use std::test::Fail;
+use trials_worked_controllers::controller;
 use word_region::Span;
 
 type Words = [i128; 6];

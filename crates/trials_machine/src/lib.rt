@@ -2,8 +2,6 @@
 #![tactic(auto)]
 
 #[cfg(test)]
-mod controllers;
-#[cfg(test)]
 mod plays;
 #[cfg(test)]
 mod reads;

@@ -2,11 +2,11 @@
 // Python program that makes the listing and runs it.
 ghost use Rattle.std.specs.Prelude.{◌≡◌};
 
-use crate::controllers::controller;
 use mac_listing::{Listing, Op, make_listing};
 use mac_machine::{Machine, Stop};
 use std::alloc::Global;
 use std::test::Fail;
+use trials_worked_controllers::controller;
 
 type Words = [i128; 6];
 

@@ -1,8 +1,8 @@
 // The text of a worked listing, read back and refused at its first bad line: it has nine lines, 38 instructions and `end`.
-use crate::controllers::controller;
 use mac_listing::{BadListing, make_listing, read_listing, write_listing};
 use std::alloc::Global;
 use std::test::Fail;
+use trials_worked_controllers::controller;
 
 pub fn text(alloc: Global) -> Result<Vec<u8>, Fail> {
     let controller = controller(alloc, 2, 32768, 26, [1, 1, 0])?;
