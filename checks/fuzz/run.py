@@ -1,7 +1,7 @@
 #!/usr/bin/env python3
 """Runs the program's commands on changed and random texts, and compares each answer with the independent model beside this file, to the byte.
 
-    checks/fuzz/run.py PROGRAM [--cases COUNT] [--seed SEED] [--jobs JOBS] [--kind KIND] [--case NUMBER]
+    checks/fuzz/run.py PROGRAM [--cases COUNT] [--seed SEED] [--jobs JOBS] [--kind KIND] [--loop-products COUNT] [--case NUMBER]
     checks/fuzz/run.py PROGRAM --table NAME [--jobs JOBS] [--case NUMBER]
 
 For each of COUNT (1000) cases the exit status, the line on standard error, standard output and every file that is left must be the model's. A design's gains aren't
@@ -16,7 +16,8 @@ design's exact numbers, its enclosures, the corners of its policy in either clas
 below it by little. Of each, the model's exact numbers must be the simulated plant's, its enclosures must hold them, no corner may have less slack or a greater cost than
 its enclosures show, and both classes are counted beside the status, and whether a design of version 2 has room for smaller exponents.
 Where `stay` is accepted, `generate` must write the same files, and no loop of 200 turns from corners of the box and random states, under disturbances in theirs, may leave
-it; so it is of `lean` with faces, a case of the kind `lean_stay`, and `lean` without.
+it; so it is of `lean` with faces, a case of the kind `lean_stay`, and `lean` without. The sums of such loops are compared as long as the model makes no more products than
+--loop-products (5000000); after that the program's lines are counted, all the same.
 A controller's own listing must put what `solve` puts.
 Where `split` is accepted, `generate` must write the same of a cell's design, and `serve` must serve states of the box by the controllers of their cells.
 Two sorts of case are counted apart. A design that TOML 1.1 reads and Python's reader (1.0) doesn't must still end with a status of generate. Where a run would be
@@ -231,8 +232,8 @@ def products(c):
 class Runner:
     """Runs cases in a folder of its own."""
 
-    def __init__(self, executable, folder):
-        self.executable, self.folder = executable, folder
+    def __init__(self, executable, folder, loop_products=MOST_LOOP_PRODUCTS):
+        self.executable, self.folder, self.loop_products = executable, folder, loop_products
 
     def path(self, name):
         return os.path.join(self.folder, name)
@@ -352,7 +353,7 @@ class Runner:
         return wrong and f"serve: {wrong}", kinds + [f"its states: {note}" for note in notes if note == "too long for the model"]
 
     def compare(self, case, ran, left, read, write, gains):
-        budget, notes = [MOST_LOOP_PRODUCTS if case.kind in ("stayed", "served") else MOST_PRODUCTS], []
+        budget, notes = [self.loop_products if case.kind in ("stayed", "served") else MOST_PRODUCTS], []
         instructions = [MOST_PLAYED]
 
         def run(c, state):
@@ -443,7 +444,7 @@ def notes_of_run(case, c, least, greatest):
 def work(options, numbers, results):
     maker = Maker(options.seed, options.kind, options.table)
     folder = tempfile.mkdtemp(prefix="fuzz-", dir=options.room)
-    runner = Runner(options.program, folder)
+    runner = Runner(options.program, folder, options.loop_products)
     while True:
         first = numbers.get()
         if first is None:
@@ -463,7 +464,7 @@ def show(options):
     """Runs one case again, and shows it."""
     case = Maker(options.seed, options.kind, options.table).case(options.case)
     with tempfile.TemporaryDirectory() as folder:
-        fault, status, notes = Runner(options.program, folder).check(case)
+        fault, status, notes = Runner(options.program, folder, options.loop_products).check(case)
     print(f"case {options.case} of seed {options.seed}: {case.kind} {case.words}")
     for name, data in case.files.items():
         print(f"--- {name}, {len(data)} bytes\n{data[:4000].decode('latin-1')}")
@@ -479,6 +480,7 @@ def main():
     parser.add_argument("--jobs", type=int, default=os.cpu_count())
     parser.add_argument("--kind", choices=sorted({*KINDS, "demo"}))
     parser.add_argument("--table", choices=sorted(tables.TABLES))
+    parser.add_argument("--loop-products", type=int, default=MOST_LOOP_PRODUCTS)
     parser.add_argument("--case", type=int)
     options = parser.parse_args()
     options.program = os.path.abspath(options.program)
