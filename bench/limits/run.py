@@ -3,7 +3,7 @@
 
     bench/limits/run.py PROGRAM [NAME ..]
 
-listing   a controller of 90 plan entries and 372 rows: `list`, whose mark is 50 ms, and `play` of its listing beside `solve`
+listing   a controller of 90 plan entries and 372 rows, in version 2: `list`, whose mark is 50 ms, and `play` of its listing beside `solve`
 cells     a design of 60 plan entries and 252 rows in 64 cells: `split`, whose mark is 70 times `generate` of one of its cells, and `serve` of its text beside `solve`
 states    a million states through `solve`, `serve` and `play`
 turns     a million turns under disturbances
@@ -71,11 +71,11 @@ def figures(seconds: float, memory: int) -> str:
 
 
 def listing(work: Work) -> None:
-    subprocess.run([sys.executable, os.path.join(HERE, "..", "kernel", "make.py"), work.folder, "6", "6", "15", "372", "10", "4", "20"], check=True)
-    took = work.run("list", "controller", "listing")
+    subprocess.run([sys.executable, os.path.join(HERE, "..", "kernel", "make.py"), work.folder, "6", "3", "30", "372", "10", "4", "20"], check=True)
+    took = work.run("list", "second", "listing")
     count = sum(1 for _ in work.read("listing").splitlines()) - 10
     work.tell(took[0] <= MOST_LIST, f"list of 90 entries and 372 rows, {count} instructions in {work.size('listing')} bytes: {figures(*took)}, mark {MOST_LIST} s")
-    solve, play = work.run("solve", "controller", "states", out="solved"), work.run("play", "listing", "states", out="played")
+    solve, play = work.run("solve", "second", "states", out="solved"), work.run("play", "listing", "states", out="played")
     work.tell(work.read("solved") == work.read("played"), f"20 states: solve {figures(*solve)}, play {figures(*play)}, {play[0] / solve[0]:.2f} times")
 
 
@@ -127,9 +127,9 @@ def turns(work: Work) -> None:
     with open(design, "rb") as file:
         d = model.read_design(file.read())
     with open(box) as file:
-        low, high = ([int(v) for v in line.split(",")] for line in file)
-    pushes = [[max(a, -9), min(b, 9)][k] for k in range(2) for a, b in zip(low, high)]
-    lines = [",".join(map(str, pushes[:d.states])) + "\n", ",".join(map(str, pushes[d.states :])) + "\n"]
+        high = [int(v) for v in file.read().split()[1].split(",")]
+    # (of one digit, so that the file has room for a million)
+    lines = [",".join(str(min(most, least)) for least in high) + "\n" for most in (9, 0)]
     work.write("shifts", "".join(lines).encode() * (MILLION // 2))
     work.write("start", (",".join(map(str, d.hi)) + "\n").encode())
     took = work.run("loop", design, "controller", "start", str(MILLION), "shifts")
