@@ -12,6 +12,8 @@ pub mod Rooms
 pub mod Narrowed
 pub mod SpanLaws
 pub mod Repeats
+pub mod Standing
+pub mod FusedLaws
 pub mod SafeLaws
 pub mod Inputs
 pub mod Stopping

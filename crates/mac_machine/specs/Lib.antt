@@ -2,6 +2,7 @@ pub mod Machine
 pub mod Box
 pub mod Traps
 pub mod Narrow
+pub mod Fused
 pub mod NarrowForm
 pub mod Playing
 pub mod Laws

@@ -2,7 +2,10 @@
 #![tactic(auto)]
 
 mod accumulator;
+mod block;
+mod block_run;
 mod bounds;
+mod fusing;
 mod laws;
 mod machine;
 mod narrow_machine;
