@@ -1,16 +1,20 @@
 #!/usr/bin/env python3
 """Changes each definition that the promise cites by one step, and tells what refuses the change.
 
-    checks/definitions/run.py [NAME ..] [--keep FOLDER] [--all] [--own]
+    checks/definitions/run.py [NAME ..] [--keep FOLDER] [--lines | --own | --all]
 
-The files *.edit beside it hold the changes, one file a module of docs/THEOREM.md: a line `file:` with the module's path from the top, and for each change a line `name:` and then pairs of a line `old:`, a text that
-stands in the module exactly once, and a line `new:`, what stands there in its place. Other lines are read by people alone. NAME is a module, as `Cost`, or a change, as `Cost.term.without_the_lift`.
+The files *.edit beside it hold the changes, one file a module of docs/THEOREM.md: a line `file:` with the module's path from the top, and for each change a line `name:` and then pairs of a line `old:`, a
+text that stands in the module exactly once, and a line `new:`, what stands there in its place; `\\n` is the end of a line in them. Other lines are read by people alone. NAME is a module, as `Cost`, or a
+change, as `Cost.term.without_the_lift`.
 
-Each change is applied to a copy of its crate, which is then proved over what is proved of it as it stands. Where that passes, the crates above it that read the definition are proved over the changed one, until
-one is refused: `trials_definitions` first, which asks little, and then the others in the order of crates.txt; with --all these before it, which takes an hour for some changes. With --own only the crate itself
-is asked. What refuses a change is told with the first error's file and line. The last line counts the changes; the status is 1 where nothing refused one, or it couldn't be tried.
+Each change is tried in a copy. First the lines alone, the worked ones of its own crate and those of `trials_definitions`, many changes in one check: each has modules of its own, the changed one, those that cite
+it and the lines that cite these. What no line of its own crate refuses is then made in the crate, which is proved with it, over what is proved of it as it stands, and where that passes in the crates above that
+read the definition, until one is refused: `trials_definitions` first, and then the others in the order of crates.txt; with --all these before it, which takes an hour for some changes.
+With --lines only the lines are asked, with --own the crate itself too.
 
-Needs `rt` on the path. With --keep what is proved as it stands stays in FOLDER for the next call, which takes what hasn't changed; else it is proved anew, in a minute or two. Nothing is written into the repository.
+What refuses a change is told with the file and line of the first error. The last line counts the changes; the status is 1 where nothing refused one, or it couldn't be read or tried.
+
+Needs `rt` on the path, and takes the libraries that `rt ci` keeps on the machine. With --keep what is proved as it stands stays in FOLDER for the next call. Nothing is written into the repository.
 """
 import argparse
 import collections
@@ -29,6 +33,8 @@ import time
 HERE = pathlib.Path(__file__).resolve().parent
 TOP = HERE.parents[1]
 TRIALS = "trials_definitions"
+# so many changes share a check of their lines
+BATCH = 24
 
 
 def tool():
@@ -99,21 +105,25 @@ class Work:
         self.kept = rt.Kept(list(self.crates.values()))
         self.libraries: dict[str, pathlib.Path] = {}
         self.proved: set[str] = set()
+        self.asked: set[pathlib.Path] = set()
 
-    def build(self, name: str, texts: dict[str, str], kept: pathlib.Path, libraries: dict[str, pathlib.Path], to: pathlib.Path) -> subprocess.CompletedProcess:
-        """Proves a crate with these texts in place of its own, over these libraries and the kept work, and makes its library."""
+    def build(self, name: str, texts: dict[str, str], kept: pathlib.Path, libraries: dict[str, pathlib.Path], to: pathlib.Path | None) -> subprocess.CompletedProcess:
+        """Proves a crate with these texts in place of its own, over these libraries and the kept work, and makes its library, or where none is asked for its lines alone."""
         crate = self.crates[name]
         at = {below.rlib: str(libraries.get(below.name, self.libraries[below.name])) for below in crate.below()}
         places = {os.path.dirname(rlib): os.path.dirname(other) for rlib, other in at.items()}
         names = {f"{below.name}={below.rlib}": f"{below.name}={at[below.rlib]}" for below in crate.below()}
         names |= {f"dependency={place}": f"dependency={other}" for place, other in places.items()}
         words = [names.get(it, it) for it in crate.words(["--jobs", "1"], keeps=False)]
-        command = ["build", *words, "-o", str(to)] if crate.makes_rlib() else ["check", *words]
+        command = ["build", *words, "-o", str(to)] if crate.makes_rlib() and to else ["check", *words]
         with tempfile.TemporaryDirectory(prefix="definitions-") as room:
             for part in self.rt.rtlib.PARTS:
                 if os.path.isdir(f"{crate.folder}/{part}"):
                     shutil.copytree(f"{crate.folder}/{part}", f"{room}/{part}")
+            if not to:
+                leave_lines(pathlib.Path(room), name, self.trials(name), texts)
             for path, text in texts.items():
+                pathlib.Path(room, path).parent.mkdir(parents=True, exist_ok=True)
                 pathlib.Path(room, path).write_text(text, encoding="utf-8")
             how = {"cwd": room, "stdin": subprocess.DEVNULL, "stdout": subprocess.PIPE, "stderr": subprocess.STDOUT, "errors": "replace"}
             return subprocess.run([*self.rt.rtlib.guarded(), self.rt.rtlib.RATTLE, *command, "--incremental", str(kept)], **how)
@@ -140,6 +150,26 @@ class Work:
                 sys.exit(f"{it} isn't proved as it stands:\n{ran.stdout[-3000:]}")
             self.libraries.setdefault(it, library)
 
+    def trials(self, name: str) -> list[pathlib.Path]:
+        """The files of the trials that stand on no other crate than this one and those below it."""
+        known = {name, "std", TRIALS, *(below.name for below in self.crates[name].below())}
+        files = sorted(pathlib.Path(self.crates[TRIALS].folder, "proofs").glob("*Worked.antt")) if TRIALS in self.crates else []
+        return [it for it in files if set(re.findall(r"^use Rattle\.(\w+)", it.read_text(encoding="utf-8"), re.MULTILINE)) <= known]
+
+    def lines_kept(self, name: str) -> pathlib.Path:
+        """What is kept of a check of the lines alone, as the crate stands."""
+        kept = self.folder / name / "lines"
+        if kept not in self.asked:
+            self.asked.add(kept)
+            kept.mkdir(parents=True, exist_ok=True)
+            for below in self.crates[name].below():
+                if below.name not in self.libraries and not self.is_given(below.name):
+                    self.prepare(below.name)
+            ran = self.build(name, {}, kept, {}, None)
+            if ran.returncode:
+                sys.exit(f"the lines of {name} and of the trials don't hold as they stand:\n{ran.stdout[-6000:]}")
+        return kept
+
     def reading(self, change: Change) -> list[str]:
         """The crates above that read the changed module, also through modules that cite it, in the order of crates.txt."""
         cited = {name: {str(it.relative_to(crate.folder)): cited_in(it) for it in texts_of(crate)} for name, crate in self.crates.items()}
@@ -151,6 +181,30 @@ class Work:
             changed |= more
         above = [it for it in self.order if change.crate in (below.name for below in self.crates[it].below())]
         return [it for it in above if any(found & changed for found in cited[it].values())]
+
+
+def leave_lines(folder: pathlib.Path, name: str, trials: list[pathlib.Path], more: dict[str, str]) -> None:
+    """Leaves of a crate's text its definitions, the types that these name, and its worked lines, and puts those of the trials beside them, and the modules of variants."""
+    own = sorted((folder / "proofs").glob("*Worked*.antt"))
+    for it in (folder / "proofs").iterdir():
+        if it.is_dir():
+            shutil.rmtree(it)
+        elif it not in own:
+            it.unlink()
+    for it in trials:
+        text = it.read_text(encoding="utf-8").replace(f"Rattle.{TRIALS}.proofs.", f"Rattle.{name}.proofs.")
+        (folder / "proofs" / it.name).write_text(text, encoding="utf-8")
+    named = [it.read_text(encoding="utf-8") for part in ("specs", "proofs") for it in (folder / part).rglob("*.antt")]
+    types = sorted({it for text in named for it in re.findall(rf"Rattle\.{name}\.specs\.declared\.(\w+)\.", text)})
+    for it in (folder / "src").iterdir():
+        if it.stem not in types:
+            it.unlink()
+    lines = [f"mod {it.stem}\n" for it in [*own, *trials]] + [f"mod {path[7:-5]}\n" for path in more if re.fullmatch(r"proofs/v\d+\.antt", path)]
+    (folder / "proofs" / "Lib.antt").write_text("".join(lines), encoding="utf-8")
+    if more:
+        with open(folder / "specs" / "Lib.antt", "a", encoding="utf-8") as file:
+            file.write("\npub mod variants\n")
+    (folder / "src" / "lib.rt").write_text("#![tactic(auto)]\n" + "".join(f"pub mod {it};\n" for it in types), encoding="utf-8")
 
 
 def texts_of(crate) -> list[pathlib.Path]:
@@ -165,8 +219,79 @@ def cited_in(file: pathlib.Path) -> set[str]:
     return set(re.findall(r"\buse (Rattle\.\w+\.specs\.[\w.]*\w)", file.read_text(encoding="utf-8")))
 
 
+# ---- many changes in one check
+class Variants:
+    """Changes of one crate side by side: for each, in modules of its own, the changed module, those that cite it, and the lines that cite these."""
+
+    def __init__(self, work: Work, name: str):
+        self.work, self.name = work, name
+        folder = pathlib.Path(work.crates[name].folder)
+        self.specs = {f"Rattle.{name}.specs.{'.'.join(it.relative_to(folder / 'specs').with_suffix('').parts)}": it for it in sorted((folder / "specs").rglob("*.antt"))}
+        self.lines = {f"Rattle.{name}.proofs.{it.stem}": it for it in [*sorted((folder / "proofs").glob("*Worked*.antt")), *work.trials(name)]}
+        texts = {**self.specs, **self.lines}
+        self.texts = {it: file.read_text(encoding="utf-8").replace(f"Rattle.{TRIALS}.proofs.", f"Rattle.{name}.proofs.") for it, file in texts.items()}
+        self.cited = {it: {other for other in texts if re.search(rf"^use {re.escape(other)}(?!\w)", text, re.MULTILINE)} for it, text in self.texts.items()}
+
+    def concerned(self, module: str) -> list[str]:
+        """The lines that cite the module, also through others, and what of these others they need."""
+        changed = {module}
+        while more := {it for it in self.texts if self.cited[it] & changed} - changed:
+            changed |= more
+        needed = changed & set(self.lines)
+        while more := {other for it in needed for other in self.cited[it]} & changed - needed:
+            needed |= more
+        return sorted(needed | {module})
+
+    def place(self, number: int, module: str) -> str:
+        if module in self.lines:
+            return f"Rattle.{self.name}.proofs.v{number}.{module.rpartition('.')[2]}"
+        return f"Rattle.{self.name}.specs.variants.v{number}.{module.partition('.specs.')[2].replace('.', '')}"
+
+    def modules(self, changes: list[Change]) -> dict[str, str]:
+        """The texts of all variants by their paths in the crate."""
+        made: dict[str, str] = {}
+        for number, change in enumerate(changes):
+            module = module_of(change.crate, change.path)
+            concerned = self.concerned(module)
+            names: dict[str, list[str]] = {"specs/variants": [], "proofs": []}
+            for it in concerned:
+                text = change.text(self.texts[it]) if it == module else self.texts[it]
+                for other in concerned:
+                    text = re.sub(rf"{re.escape(other)}(?!\w)", self.place(number, other), text)
+                folder, stem = ("proofs" if it in self.lines else "specs/variants"), self.place(number, it).rpartition(".")[2]
+                names[folder].append(stem)
+                made[f"{folder}/v{number}/{stem}.antt"] = text
+            for folder, found in names.items():
+                made[f"{folder}/v{number}.antt"] = "".join(f"{'pub ' * (folder != 'proofs')}mod {it}\n" for it in found)
+        made["specs/variants.antt"] = "".join(f"pub mod v{it}\n" for it in range(len(changes)))
+        return made
+
+    def refusals(self, changes: list[Change]) -> list[list[str]]:
+        """The errors of each change, with the paths of the modules that they are in as these stand in the crate or in the trials."""
+        room = self.work.folder / "tried"
+        shutil.rmtree(room, ignore_errors=True)
+        self.work.rt.linked(str(self.work.lines_kept(self.name)), str(room / "lines"))
+        ran = self.work.build(self.name, self.modules(changes), room / "lines", {}, None)
+        found: list[list[str]] = [[] for _ in changes]
+        for line in ran.stdout.split("\n"):
+            at = re.match(r"(?:\./)?(specs/variants|proofs)/v(\d+)/(\w+)\.antt(:\d+):\d+: error: (.*)", line)
+            if at:
+                number = int(at[2])
+                module = next(it for it in self.concerned(module_of(changes[number].crate, changes[number].path)) if self.place(number, it).endswith(f".{at[3]}"))
+                file = (self.specs | self.lines)[module].relative_to(self.work.copy / "crates")
+                # the changed module itself must be read, or nothing was tried
+                words = f"{file}{at[4]}: {at[5]}"
+                found[number].append(f"NOT READ: {words}" if module == module_of(changes[number].crate, changes[number].path) else words)
+            elif re.search(r": error|^error", line):
+                found.append([line])
+        if len(found) > len(changes) or ran.returncode not in (0, 1):
+            sys.exit(f"the lines of {self.name} can't be tried:\n" + "\n".join([*(it for more in found[len(changes):] for it in more), ran.stdout[-2000:]]))
+        return found
+
+
 # ---- the trial
-REFUSED, PASSED, UNREAD = "refused", "passed", "unread"
+REFUSED, PASSED, UNREAD = "refused", "passed", "not read"
+NOTHING = "nothing"
 
 
 def verdict(rt, ran: subprocess.CompletedProcess, changed: str = "") -> tuple[str, str]:
@@ -198,7 +323,8 @@ def tried(work: Work, change: Change, every: bool, own: bool) -> tuple[str, str,
         return verdict(rt, ran, change.path if texts else "")
 
     was = pathlib.Path(work.crates[change.crate].folder, change.path).read_text(encoding="utf-8")
-    kind, said = asked(change.crate, {change.path: change.text(was)})
+    texts = {change.path: change.text(was)}
+    kind, said = asked(change.crate, texts)
     if kind != PASSED or own:
         return kind, change.crate, said
     reading = work.reading(change)
@@ -220,33 +346,45 @@ def main() -> int:
     parser = argparse.ArgumentParser(description=__doc__, formatter_class=argparse.RawDescriptionHelpFormatter)
     parser.add_argument("names", nargs="*", metavar="NAME")
     parser.add_argument("--keep", metavar="FOLDER")
-    parser.add_argument("--all", action="store_true")
-    parser.add_argument("--own", action="store_true")
+    how = parser.add_mutually_exclusive_group()
+    how.add_argument("--all", action="store_true")
+    how.add_argument("--own", action="store_true")
+    how.add_argument("--lines", action="store_true")
+    parser.add_argument("--batch", type=int, default=BATCH)
     options = parser.parse_args()
     changes = [it for file in sorted(HERE.glob("*.edit")) for it in changes_in(file) if is_named(it, options.names)]
     counts: collections.Counter[str] = collections.Counter()
+
+    def told(change: Change, by: str, where: str) -> None:
+        """by: the crate that refuses it, or else nothing or a word for a change that couldn't be tried."""
+        counts["itself" if by == change.crate else by] += 1
+        print(f"{change.name}: {'refused: ' + where[:200] if by not in (NOTHING, UNREAD) else f'REFUSED BY {NOTHING}' if by == NOTHING else where[:600]}", flush=True)
+
     with tempfile.TemporaryDirectory(prefix="definitions-") as own:
         folder = pathlib.Path(options.keep or own).resolve()
         folder.mkdir(parents=True, exist_ok=True)
         work = Work(tool(), folder)
         for change in changes:
             change.text(pathlib.Path(work.crates[change.crate].folder, change.path).read_text(encoding="utf-8"))
-        for change in changes:
-            began = time.monotonic()
-            kind, crate, said = tried(work, change, options.all, options.own)
-            seconds = time.monotonic() - began
-            where = {REFUSED: f"refused by {crate}, {said[:170]}", UNREAD: f"NOT TRIED: {crate}: {said[:600]}", PASSED: "REFUSED BY NOTHING"}[kind]
-            print(f"{change.name}: {where} ({seconds:.0f} s)", flush=True)
-            counts["itself" if crate == change.crate else crate] += kind == REFUSED
-            counts[kind] += 1
+        for crate in dict.fromkeys(it.crate for it in changes):
+            variants, mine = Variants(work, crate), [it for it in changes if it.crate == crate]
+            for part in (mine[it : it + options.batch] for it in range(0, len(mine), options.batch)):
+                began = time.monotonic()
+                for change, errors in zip(part, variants.refusals(part)):
+                    unread = next((it for it in errors if it.startswith("NOT READ")), "")
+                    first = next((it for it in errors if it.startswith(f"{crate}/")), "")
+                    if unread or first or options.lines:
+                        told(change, UNREAD if unread else crate if first else TRIALS if errors else NOTHING, unread or first or "".join(errors[:1]))
+                        continue
+                    kind, by, said = tried(work, change, options.all, options.own)
+                    told(change, by if kind == REFUSED else UNREAD if kind == UNREAD else NOTHING, f"{by}/{said.removeprefix('./')}")
+                print(f"({len(part)} changes in {time.monotonic() - began:.0f} s)", flush=True)
         shutil.rmtree(work.copy, ignore_errors=True)
         shutil.rmtree(folder / "tried", ignore_errors=True)
-    elsewhere = ", ".join(f"{number} by {it}" for it, number in counts.items() if it not in (*VERDICTS, "itself", "") and number)
-    print(f"{len(changes)} changes: {counts['itself']} refused by the crate itself{', ' + elsewhere if elsewhere else ''}, {counts[PASSED]} by nothing, {counts[UNREAD]} not tried")
-    return 1 if counts[PASSED] or counts[UNREAD] else 0
+    elsewhere = "".join(f", {number} by {it}" for it, number in counts.items() if it not in ("itself", NOTHING, UNREAD))
+    print(f"{len(changes)} changes: {counts['itself']} refused by the crate itself{elsewhere}, {counts[NOTHING]} by {NOTHING}; {counts[UNREAD]} couldn't be tried")
+    return 1 if counts[NOTHING] or counts[UNREAD] else 0
 
-
-VERDICTS = (REFUSED, PASSED, UNREAD)
 
 if __name__ == "__main__":
     sys.exit(main())
