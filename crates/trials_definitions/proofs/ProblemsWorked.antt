@@ -1,0 +1,169 @@
+-- Two designs of two states, one input and two stages, with two rows of each stage and one final row: what is counted, feasible and in its box, and, where no number
+-- is 1 by chance and no two counts are the same that could be taken for one another, the states, the cost and the residuals of a plan. These were computed by another program, in fractions.
+use Rattle.std.proofs.Common.{◌≡◌, ℕ, zero, suc, ◌+◌, ℤ, pos, negsuc, List, [], ◌∷◌, map, refl, arith}
+use Rattle.integer_algebra.specs.Sums.{at, none, flat}
+use Rattle.qp_model.specs.problem.Design.{Design, CostRow, LimitRow, entries, rows}
+use Rattle.qp_model.specs.problem.Trajectory.{trajectory, lift}
+use Rattle.qp_model.specs.problem.Cost.{cost, cost_scale}
+use Rattle.qp_model.specs.problem.Residual.{residual, residual_scale, slack, IsFeasible}
+use Rattle.qp_model.specs.problem.Box.{IsGridState, corner}
+
+abbrev no_cost : CostRow
+no_cost = record { coefficient = none; target = pos 0; weight = pos 0 }
+
+-- asks that the input is at most 3, 4, .. by the row's number
+abbrev stage_row : ℕ → LimitRow
+stage_row r = record { of_state = none; of_input = λ l. pos 1; bound = pos (3 + r) }
+
+-- asks that the second coordinate is at most 7
+abbrev final_row : LimitRow
+final_row = record { of_state = at (pos 0 ∷ pos 1 ∷ []); of_input = none; bound = pos 7 }
+
+-- x1+ = x1, x2+ = x2 + u, and the cost u^2
+abbrev pub plain : Design
+plain = record {
+  version = 1;
+  states = 2;
+  inputs = 1;
+  stages = 2;
+  plant_denominator = 1;
+  plant_a = flat 2 (pos 1 ∷ pos 0 ∷ pos 0 ∷ pos 1 ∷ []);
+  plant_b = flat 1 (pos 0 ∷ pos 1 ∷ []);
+  cost_denominator = 1;
+  row_denominator = 1;
+  input_weight = λ l. pos 1;
+  stage_costs = 0;
+  stage_cost = λ r. no_cost;
+  final_costs = 0;
+  final_cost = λ r. no_cost;
+  limit_denominator = 1;
+  stage_limits = 2;
+  stage_limit = stage_row;
+  final_limits = 1;
+  final_limit = λ r. final_row;
+  grid = 0;
+  low = at (pos 1 ∷ pos 2 ∷ []);
+  high = at (pos 5 ∷ pos 6 ∷ []);
+}
+
+abbrev pub lowest : ℕ → ℤ
+lowest = at (pos 1 ∷ pos 2 ∷ [])
+
+counts : entries plain ∷ rows plain ∷ [] ≡ 2 ∷ 5 ∷ []
+counts = refl
+
+lifts : map (lift (record plain { plant_denominator = 3 })) (0 ∷ 1 ∷ 2 ∷ []) ≡ pos 9 ∷ pos 3 ∷ pos 1 ∷ []
+lifts = refl
+
+-- ---- the plan 3, 2 meets two rows exactly, and 3, 3 breaks the last by 1
+residuals : map (residual plain (pos 1) lowest (at (pos 3 ∷ pos 2 ∷ []))) (0 ∷ 1 ∷ 2 ∷ 3 ∷ 4 ∷ []) ≡ pos 0 ∷ negsuc 0 ∷ negsuc 0 ∷ negsuc 1 ∷ pos 0 ∷ []
+residuals = refl
+
+slacks : map (slack plain (pos 1) lowest (at (pos 3 ∷ pos 3 ∷ []))) (0 ∷ 1 ∷ 2 ∷ 3 ∷ 4 ∷ []) ≡ pos 0 ∷ pos 1 ∷ pos 0 ∷ pos 1 ∷ negsuc 0 ∷ []
+slacks = refl
+
+feasible : IsFeasible plain (pos 1) lowest (at (pos 3 ∷ pos 2 ∷ []))
+feasible zero l = record { le = tt }
+feasible (suc zero) l = record { le = tt }
+feasible (suc (suc zero)) l = record { le = tt }
+feasible (suc (suc (suc zero))) l = record { le = tt }
+feasible (suc (suc (suc (suc zero)))) l = record { le = tt }
+feasible (suc (suc (suc (suc (suc i))))) l = absurd (omega (arith, l))
+
+feasible_not : IsFeasible plain (pos 1) lowest (at (pos 3 ∷ pos 3 ∷ [])) → ⊥
+feasible_not h = (h 4 (omega arith)).le
+
+costs : map (λ k. cost plain (pos 1) lowest (at (pos 3 ∷ k ∷ []))) (pos 2 ∷ negsuc 4 ∷ []) ≡ pos 13 ∷ pos 34 ∷ []
+costs = refl
+
+-- ---- the box: two ends lie in it, and no state with a coordinate beyond
+pub box_low : IsGridState plain lowest
+box_low zero l = (record { le = tt }, record { le = tt })
+box_low (suc zero) l = (record { le = tt }, record { le = tt })
+box_low (suc (suc i)) l = absurd (omega (arith, l))
+
+box_high : IsGridState plain (at (pos 5 ∷ pos 6 ∷ []))
+box_high zero l = (record { le = tt }, record { le = tt })
+box_high (suc zero) l = (record { le = tt }, record { le = tt })
+box_high (suc (suc i)) l = absurd (omega (arith, l))
+
+first_below : IsGridState plain (at (pos 0 ∷ pos 2 ∷ [])) → ⊥
+first_below h = (h 0 (omega arith)).0.le
+
+first_above : IsGridState plain (at (pos 6 ∷ pos 2 ∷ [])) → ⊥
+first_above h = (h 0 (omega arith)).1.le
+
+second_below : IsGridState plain (at (pos 1 ∷ pos 1 ∷ [])) → ⊥
+second_below h = (h 1 (omega arith)).0.le
+
+second_above : IsGridState plain (at (pos 1 ∷ pos 7 ∷ [])) → ⊥
+second_above h = (h 1 (omega arith)).1.le
+
+corners : map (λ c. corner plain c 0) (1 ∷ 2 ∷ 3 ∷ 4 ∷ []) ≡ pos 1 ∷ pos 5 ∷ pos 1 ∷ pos 5 ∷ []
+corners = refl
+
+second_corners : map (λ c. corner plain c 1) (1 ∷ 2 ∷ 3 ∷ 4 ∷ []) ≡ pos 2 ∷ pos 2 ∷ pos 6 ∷ pos 6 ∷ []
+second_corners = refl
+
+-- ---- one row of costs of each stage and two final ones, a plant over 3, states over 2, costs over 2 and 5, limits over 4
+abbrev costing : List ℤ → ℤ → ℤ → CostRow
+costing x target weight = record { coefficient = at x; target = target; weight = weight }
+
+abbrev stage_costs : ℕ → CostRow
+stage_costs zero = costing (pos 4 ∷ negsuc 0 ∷ []) (pos 7) (pos 6)
+stage_costs (suc r) = costing (pos 1 ∷ pos 1 ∷ []) (pos 2) (pos 5)
+
+abbrev final_costs : ℕ → CostRow
+final_costs zero = costing (pos 0 ∷ pos 5 ∷ []) (negsuc 1) (pos 1)
+final_costs (suc r) = costing (pos 2 ∷ pos 1 ∷ []) (pos 3) (pos 4)
+
+abbrev asking : List ℤ → List ℤ → ℤ → LimitRow
+asking x u b = record { of_state = at x; of_input = at u; bound = b }
+
+abbrev stage_limits : ℕ → LimitRow
+stage_limits zero = asking (pos 1 ∷ pos 2 ∷ []) (negsuc 0 ∷ pos 8 ∷ []) (pos 5)
+stage_limits (suc r) = asking (pos 0 ∷ negsuc 2 ∷ []) (pos 2 ∷ pos 6 ∷ []) (pos 2)
+
+abbrev final_limits : ℕ → LimitRow
+final_limits zero = asking (pos 7 ∷ pos 1 ∷ []) (pos 5 ∷ pos 5 ∷ []) (pos 3)
+final_limits (suc r) = asking (pos 1 ∷ negsuc 0 ∷ []) [] (negsuc 2)
+
+abbrev uneven : Design
+uneven = record plain {
+  plant_denominator = 3;
+  plant_a = flat 2 (pos 2 ∷ pos 1 ∷ negsuc 0 ∷ pos 4 ∷ []);
+  plant_b = flat 1 (pos 1 ∷ negsuc 1 ∷ []);
+  cost_denominator = 2;
+  row_denominator = 5;
+  input_weight = at (pos 3 ∷ pos 11 ∷ []);
+  stage_costs = 1;
+  stage_cost = stage_costs;
+  final_costs = 2;
+  final_cost = final_costs;
+  limit_denominator = 4;
+  stage_limit = stage_limits;
+  final_limit = final_limits;
+  grid = 1;
+}
+
+-- the state 3/2, -5/2, and the plan 1/6, -2/6
+abbrev state : ℕ → ℤ
+state = at (pos 3 ∷ negsuc 4 ∷ [])
+
+abbrev plan : ℕ → ℤ
+plan = at (pos 1 ∷ negsuc 1 ∷ [])
+
+first_coordinates : map (λ k. trajectory uneven (pos 6) state plan k 0) (0 ∷ 1 ∷ 2 ∷ []) ≡ pos 18 ∷ pos 8 ∷ negsuc 137 ∷ []
+first_coordinates = refl
+
+second_coordinates : map (λ k. trajectory uneven (pos 6) state plan k 1) (0 ∷ 1 ∷ 2 ∷ []) ≡ negsuc 29 ∷ negsuc 141 ∷ negsuc 551 ∷ []
+second_coordinates = refl
+
+scales : cost_scale uneven ∷ residual_scale uneven ∷ [] ≡ 16200 ∷ 72 ∷ []
+scales = refl
+
+uneven_cost : cost uneven (pos 6) state plan ≡ pos 15659604
+uneven_cost = refl
+
+uneven_residuals : map (residual uneven (pos 6) state plan) (0 ∷ 1 ∷ 2 ∷ 3 ∷ 4 ∷ []) ≡ negsuc 935 ∷ pos 630 ∷ negsuc 1331 ∷ pos 990 ∷ negsuc 1841 ∷ []
+uneven_residuals = refl
