@@ -182,7 +182,17 @@ lowered = record {
   clamp_low = some_sized.clamp_low;
   clamp_high = some_sized.clamp_high;
   words = some_sized.words;
-  shaped = record { exponents = refl; low = some_sized.shaped.low; high = some_sized.shaped.high; state_gains = some_sized.shaped.state_gains; offsets = some_sized.shaped.offsets; dual_gains = some_sized.shaped.dual_gains; plan_rows = some_sized.shaped.plan_rows; state_rows = some_sized.shaped.state_rows; bounds = some_sized.shaped.bounds };
+  shaped = record {
+    exponents = refl;
+    low = some_sized.shaped.low;
+    high = some_sized.shaped.high;
+    state_gains = some_sized.shaped.state_gains;
+    offsets = some_sized.shaped.offsets;
+    dual_gains = some_sized.shaped.dual_gains;
+    plan_rows = some_sized.shaped.plan_rows;
+    state_rows = some_sized.shaped.state_rows;
+    bounds = some_sized.shaped.bounds;
+  };
   low = some_sized.low;
   high = some_sized.high;
   box = some_sized.box;
@@ -213,7 +223,17 @@ clamp_of_0 = record {
   clamp_low = record { le = tt };
   clamp_high = record { le = tt };
   words = some_sized.words;
-  shaped = record { exponents = some_sized.shaped.exponents; low = some_sized.shaped.low; high = some_sized.shaped.high; state_gains = some_sized.shaped.state_gains; offsets = some_sized.shaped.offsets; dual_gains = some_sized.shaped.dual_gains; plan_rows = some_sized.shaped.plan_rows; state_rows = some_sized.shaped.state_rows; bounds = some_sized.shaped.bounds };
+  shaped = record {
+    exponents = some_sized.shaped.exponents;
+    low = some_sized.shaped.low;
+    high = some_sized.shaped.high;
+    state_gains = some_sized.shaped.state_gains;
+    offsets = some_sized.shaped.offsets;
+    dual_gains = some_sized.shaped.dual_gains;
+    plan_rows = some_sized.shaped.plan_rows;
+    state_rows = some_sized.shaped.state_rows;
+    bounds = some_sized.shaped.bounds;
+  };
   low = some_sized.low;
   high = some_sized.high;
   box = some_sized.box;
@@ -261,7 +281,17 @@ width_of_2 = record {
     clamp_low = some_sized.clamp_low;
     clamp_high = some_sized.clamp_high;
     words = some_sized.words;
-    shaped = record { exponents = some_sized.shaped.exponents; low = some_sized.shaped.low; high = some_sized.shaped.high; state_gains = some_sized.shaped.state_gains; offsets = some_sized.shaped.offsets; dual_gains = some_sized.shaped.dual_gains; plan_rows = some_sized.shaped.plan_rows; state_rows = some_sized.shaped.state_rows; bounds = some_sized.shaped.bounds };
+    shaped = record {
+      exponents = some_sized.shaped.exponents;
+      low = some_sized.shaped.low;
+      high = some_sized.shaped.high;
+      state_gains = some_sized.shaped.state_gains;
+      offsets = some_sized.shaped.offsets;
+      dual_gains = some_sized.shaped.dual_gains;
+      plan_rows = some_sized.shaped.plan_rows;
+      state_rows = some_sized.shaped.state_rows;
+      bounds = some_sized.shaped.bounds;
+    };
     low = some_sized.low;
     high = some_sized.high;
     box = some_sized.box;
