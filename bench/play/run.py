@@ -17,7 +17,7 @@ EXAMPLES = os.path.join(HERE, "..", "..", "examples")
 STATES = os.path.join(HERE, "..", "kernel", "make.py")
 MARK = 3.0
 # an example, and how many states
-CASES = [("motor", 1500), ("satellite", 300), ("wheel", 300), ("antenna", 10), ("rendezvous", 3)]
+CASES = [("motor", 9000), ("satellite", 1800), ("wheel", 1800), ("antenna", 10), ("rendezvous", 3)]
 
 
 def timed(program: str, words: list[str], folder: str) -> tuple[float, bytes]:
