@@ -1,0 +1,5 @@
+pub mod Packing
+pub mod Unpacking
+pub mod Packed
+pub mod Walk
+pub mod Standing
