@@ -6,6 +6,7 @@ pub mod RecordFacts
 -- ---- rules, record by record
 pub mod RuleFacts
 pub mod PlaceFacts
+pub mod LeftFacts
 pub mod TextFacts
 pub mod UniqueFacts
 -- ---- the policy

@@ -74,12 +74,12 @@ room_after act.EndField fields field c = omega (arith, sum_by-append (λ (f : Li
 room_after act.EndRecord fields field c = omega (arith, sum_by-append (λ (f : List ℕ). length f + 1) fields (field ∷ []))
 
 -- a record that was read: what it took, what is left, and where the reader stands
-record RecordTaken (fields : List (List ℕ)) (field xs : List ℕ) (p : Read) : Type 0 where
-  room : field_room p.0 ≤ field_room fields + length field + length xs + 1
-  left : length p.2 ≤ length xs - 1
-  start : ends_at_end p.1 ≡ false
+pub record RecordTaken (fields : List (List ℕ)) (field xs : List ℕ) (p : Read) : Type 0 where
+  pub room : field_room p.0 ≤ field_room fields + length field + length xs + 1
+  pub left : length p.2 ≤ length xs - 1
+  pub start : ends_at_end p.1 ≡ false
 
-record_taken : (cfg : Config) (s : State) (fields : List (List ℕ)) (field xs : List ℕ) (p : Read) → next_record cfg s fields field xs ≡ Some p → RecordTaken fields field xs p
+pub record_taken : (cfg : Config) (s : State) (fields : List (List ℕ)) (field xs : List ℕ) (p : Read) → next_record cfg s fields field xs ≡ Some p → RecordTaken fields field xs p
 unfolding next_record EndsRight
 record_taken cfg s fields field [] p e = at_end (ends_at_end s) e
   where
@@ -102,7 +102,7 @@ record_taken cfg s fields field (c ∷ rest) p e =
         record { room = omega (arith, t.room, room_after (step cfg s c).1 fields field c); left = omega (arith, t.left); start = t.start }
 
 -- from the start of a record
-record_taken_some : (cfg : Config) (s : State) (xs : List ℕ) (p : Read) → ends_at_end s ≡ false → next_record cfg s [] [] xs ≡ Some p → length p.2 < length xs
+pub record_taken_some : (cfg : Config) (s : State) (xs : List ℕ) (p : Read) → ends_at_end s ≡ false → next_record cfg s [] [] xs ≡ Some p → length p.2 < length xs
 unfolding next_record
 record_taken_some cfg s [] p start e = let none : None ≡ Some p = rw start at e in absurd cc
 record_taken_some cfg s (c ∷ rest) p start e = omega (arith, (record_taken cfg s [] [] (c ∷ rest) p e).left)

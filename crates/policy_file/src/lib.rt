@@ -9,4 +9,4 @@ mod text;
 pub use number::number_field;
 pub use read::{corner_count, read_plans, read_policy, read_states};
 pub use record::{Layout, numbers_of};
-pub use text::all_records;
+pub use text::{all_records, text_records};

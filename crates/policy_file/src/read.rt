@@ -10,9 +10,10 @@ ghost use Rattle.policy_file.specs.StatesText.{IsStatesText, IsStatesFault};
 ghost use Rattle.policy_file.specs.PolicyText.{IsPolicyText, IsPolicyFault, ArePlans, IsPlansFault};
 
 use crate::record::{Layout, numbers_of};
-use crate::text::all_records;
+use crate::text::{all_records, text_records};
 use mat_int::Mat;
 use number_text::TextFault;
+use packed_rows::PackedRows;
 use qp_model::{Design, DesignParts, Policy};
 use std::alloc::Global;
 
@@ -21,7 +22,7 @@ use std::alloc::Global;
 /// # Errors
 /// The first fault: for the records in turn `Fields` where one has another number of fields, then `Number` for its first field that
 /// holds no number.
-pub fn read_states(alloc: Global, bytes: &[u8], n: usize) -> Result<Mat, TextFault>
+pub fn read_states(alloc: Global, bytes: &[u8], n: usize) -> Result<PackedRows, TextFault>
     requires { length bytes.now < 2 ^ 32 }
     ensures found { IfOk result (IsStatesText bytes.now n) }
     ensures count { IfOk result (λ m. length m.rows < 2 ^ 32) }
@@ -35,16 +36,19 @@ pub fn read_states(alloc: Global, bytes: &[u8], n: usize) -> Result<Mat, TextFau
 }
 
 // The same, said one way.
-fn states_of(alloc: Global, bytes: &[u8], n: usize) -> Result<Mat, TextFault>
+fn states_of(alloc: Global, bytes: &[u8], n: usize) -> Result<PackedRows, TextFault>
     requires { length bytes.now < 2 ^ 32 }
     ensures found { IfOk result (IsStatesText bytes.now n) }
     ensures fault { IfErr result (λ e. (e ≡ Memory) ⊎ IsStatesFault bytes.now n e) }
 {
-    let records = all_records(alloc, bytes)?;
-    let mut states = Mat::zero(alloc, 0, n)?;
-    for (i, record) in records.iter().enumerate() {
-        let numbers = numbers_of(alloc, record, Layout::States, n, i as u32 + 1)?;
-        states.push_row(alloc, &numbers)?;
+    let mut states = PackedRows::new(alloc, n);
+    for record in text_records(alloc, bytes) {
+        let Ok(record) = record else {
+            return Err(TextFault::Memory);
+        };
+        let entry = states.rows() as u32 + 1;
+        let numbers = numbers_of(alloc, &record, Layout::States, n, entry)?;
+        states.push_row(&numbers)?;
     }
     Ok(states)
 }

@@ -5,32 +5,26 @@ use Rattle.std.proofs.lemmas.Bool.{cases_lt}
 use Rattle.std.proofs.lemmas.Int.{ints}
 use Rattle.std.proofs.lemmas.List.{get_or_past, get_or-replicate, length-replicate}
 use Rattle.integer_algebra.specs.Sums.{at}
-use Rattle.csv.specs.Records.{Row, fields_of}
 use Rattle.mat_int.specs.Matrix.{Matrix, row_of, entry_of}
 use Rattle.number_text.specs.declared.text_fault.TextFault.{TextFault}
 use Rattle.number_text.specs.declared.text_fault.TextFault.TheVariants.{Count, Memory}
 use Rattle.policy_file.specs.Records.{HoldsNumbers, IsRecordFault, IsRecordsFault, records_of, record_at}
-use Rattle.policy_file.proofs.MatrixFacts.{Filled, same_matrix}
-use Rattle.policy_file.proofs.TextFacts.{records_count}
+use Rattle.policy_file.proofs.MatrixFacts.{same_matrix}
+use Rattle.policy_file.proofs.LeftFacts.{Rows, ReadSoFar}
 use Rattle.policy_file.proofs.UniqueFacts.{IsFunctional, same_number, same_numbers, held_or_wrong, same_first_fault, both_ways}
 use Rattle.shift_file.specs.ShiftRule.{IsShiftFrom, floor_rule, least_shifts}
 use Rattle.shift_file.specs.TurnText.{turn_rule, IsShiftsText, IsTurnCountFault, IsShiftsFault}
 
 -- ---- what the text is
--- what each record so far holds
-abbrev pub HoldsTurn : (text : List ℕ) → (n : ℕ) → ℕ → List ℤ → Type 0
-HoldsTurn text n e xs = HoldsNumbers (turn_rule n) n (record_at (records_of text) e) xs
-
 -- in the words of what reads a record, whose floors are these
 module _ (n : ℕ) (floors : List ℤ) (is : floors ≡ least_shifts n) where
   as_many : length floors ≡ n
   as_many = ap (λ (xs : List ℤ). length xs) is ∙ length-replicate n (negsuc 2147483646)
 
-  pub holds_turn : (text : List ℕ) (e : ℕ) (fields : List (List ℕ)) (zs : List ℤ) → fields ≡ record_at (records_of text) e → HoldsNumbers (floor_rule floors) (length floors) fields zs → HoldsTurn text n e zs
-  holds_turn text e fields zs row h =
+  pub rule_turn : (fields : List (List ℕ)) (zs : List ℤ) → HoldsNumbers (floor_rule floors) (length floors) fields zs → HoldsNumbers (turn_rule n) n fields zs
+  rule_turn fields zs h =
       let these = subst (λ (k : ℕ). HoldsNumbers (floor_rule floors) k fields zs) as_many h in
-      let ruled = subst (λ (xs : List ℤ). HoldsNumbers (floor_rule xs) n fields zs) is these in
-      subst (λ (f : List (List ℕ)). HoldsNumbers (turn_rule n) n f zs) row ruled
+      subst (λ (xs : List ℤ). HoldsNumbers (floor_rule xs) n fields zs) is these
 
   pub turn_fault : (entry : ℕ) (fields : List (List ℕ)) (fault : TextFault) → (fault ≡ Memory) ⊎ IsRecordFault (floor_rule floors) (length floors) entry fields fault →
       (fault ≡ Memory) ⊎ IsRecordFault (turn_rule n) n entry fields fault
@@ -38,22 +32,20 @@ module _ (n : ℕ) (floors : List ℤ) (is : floors ≡ least_shifts n) where
       let these = subst (λ (k : ℕ). (fault ≡ Memory) ⊎ IsRecordFault (floor_rule floors) k entry fields fault) as_many h in
       subst (λ (xs : List ℤ). (fault ≡ Memory) ⊎ IsRecordFault (floor_rule xs) n entry fields fault) is these
 
-pub turns_found : (text : List ℕ) (n turns i : ℕ) (rows : List Row) (m : Matrix) → map fields_of rows ≡ records_of text → length rows ≤ i → i ≤ length rows → length rows ≡ turns →
-    Filled (HoldsTurn text n) m n i → IsShiftsText text n turns m
-turns_found text n turns i rows m e l k so f = record {
-  records = omega (arith, records_count rows text e, so);
-  rows = omega (arith, f.long, l, k, so);
-  cols = f.cols;
-  each = λ j o. f.each j (omega (arith, l, so, o));
-}
+-- all records are read
+module _ (text : List ℕ) (n turns : ℕ) (rows : Rows) (m : Matrix) (all : length (records_of text) ≤ length m.rows) (r : ReadSoFar (turn_rule n) n text rows m) where
+  as_records : length m.rows ≡ length (records_of text)
+  as_records = omega (arith, all, r.few)
 
-pub turn_count : (text : List ℕ) (n turns i k : ℕ) (rows : List Row) (m : Matrix) → map fields_of rows ≡ records_of text → k ≡ length rows → length rows ≤ i → length rows ≢ turns →
-    Filled (HoldsTurn text n) m n i → (Count k ≡ Memory) ⊎ IsShiftsFault text n turns (Count k)
-turn_count text n turns i k rows m e s l other f = inr (inr (record {
-  each = λ j o. (row_of m j, f.each j (omega (arith, records_count rows text e, l, o)));
-  here = λ q. other (records_count rows text e ∙ q);
-  told = ap Count (s ∙ records_count rows text e);
-}))
+  pub turns_found : length m.rows ≡ turns → IsShiftsText text n turns m
+  turns_found so = record { records = sym as_records ∙ so; rows = so; cols = r.cols; each = λ e l. r.each e (omega arith) }
+
+  pub turn_count : (k : ℕ) → k ≡ length m.rows → length m.rows ≢ turns → (Count k ≡ Memory) ⊎ IsShiftsFault text n turns (Count k)
+  turn_count k s other = inr (inr (record {
+    each = λ e l. (row_of m e, r.each e (omega (arith, all)));
+    here = λ q. other (as_records ∙ q);
+    told = ap Count (s ∙ as_records);
+  }))
 
 -- that of a record is one of the text
 pub either_fault : (text : List ℕ) (n turns : ℕ) (fault : TextFault) → (fault ≡ Memory) ⊎ IsRecordsFault (turn_rule n) n (records_of text) fault → (fault ≡ Memory) ⊎ IsShiftsFault text n turns fault

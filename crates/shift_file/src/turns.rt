@@ -6,9 +6,9 @@ ghost use Rattle.number_text.specs.declared.text_fault.TextFault.TheVariants.{Me
 ghost use Rattle.shift_file.specs.TurnText.{IsShiftsText, IsShiftsFault};
 
 use crate::record::{LEAST, shifts_of};
-use mat_int::Mat;
 use number_text::TextFault;
-use policy_file::all_records;
+use packed_rows::PackedRows;
+use policy_file::text_records;
 use std::alloc::Global;
 
 /// The shifts of a text of a record of `n` numbers for each of `turns` turns, a row each. Each is at most 2147483647 in absolute value. The text has fewer
@@ -17,7 +17,12 @@ use std::alloc::Global;
 /// # Errors
 /// The first fault: for the records in turn `Fields` where one has another number of fields, then `Number` for its first field that holds no such
 /// number. After all records `Count` where there aren't so many as turns.
-pub fn read_shifts(alloc: Global, bytes: &[u8], n: usize, turns: usize) -> Result<Mat, TextFault>
+pub fn read_shifts(
+    alloc: Global,
+    bytes: &[u8],
+    n: usize,
+    turns: usize,
+) -> Result<PackedRows, TextFault>
     requires { length bytes.now < 2 ^ 32 }
     ensures found { IfOk result (IsShiftsText bytes.now n turns) }
     ensures small { IfOk result (λ m. (k i : ℕ) → unsigned_abs (entry_of m k i) < 2 ^ 31) }
@@ -31,21 +36,25 @@ pub fn read_shifts(alloc: Global, bytes: &[u8], n: usize, turns: usize) -> Resul
 }
 
 // The same, said one way.
-fn shifts_in(alloc: Global, bytes: &[u8], n: usize, turns: usize) -> Result<Mat, TextFault>
+fn shifts_in(alloc: Global, bytes: &[u8], n: usize, turns: usize) -> Result<PackedRows, TextFault>
     requires { length bytes.now < 2 ^ 32 }
     ensures found { IfOk result (IsShiftsText bytes.now n turns) }
     ensures fault { IfErr result (λ e. (e ≡ Memory) ⊎ IsShiftsFault bytes.now n turns e) }
 {
-    let records = all_records(alloc, bytes)?;
     let least = vec![in alloc; LEAST; n]?;
-    let mut shifts = Mat::zero(alloc, 0, n)?;
-    for i in 0..records.len() {
-        let numbers = shifts_of(alloc, &records[i], &least, i as u32 + 1)?;
-        shifts.push_row(alloc, &numbers)?;
+    let mut shifts = PackedRows::new(alloc, n);
+    for record in text_records(alloc, bytes) {
+        let Ok(record) = record else {
+            return Err(TextFault::Memory);
+        };
+        let entry = shifts.rows() as u32 + 1;
+        let numbers = shifts_of(alloc, &record, &least, entry)?;
+        shifts.push_row(&numbers)?;
     }
-    if records.len() != turns {
+    let entries = shifts.rows();
+    if entries != turns {
         return Err(TextFault::Count {
-            entries: records.len() as u32,
+            entries: entries as u32,
         });
     }
     Ok(shifts)
