@@ -1,5 +1,5 @@
 // The plant's next state.
-ghost use Rattle.std.specs.Prelude.{◌≡◌, ℕ, ◌≤◌, ◌<◌, ◌^◌, ◌+ℤ◌, length, map, unsigned_abs};
+ghost use Rattle.std.specs.Prelude.{◌≡◌, ℕ, ◌≤◌, ◌<◌, ◌+◌, ◌^◌, ◌+ℤ◌, length, map, unsigned_abs};
 ghost use Rattle.std.specs.List.{range_with_len};
 ghost use Rattle.mat_int.specs.Matrix.{entry_of};
 ghost use Rattle.integer_algebra.specs.Sums.{at, image};
@@ -14,7 +14,8 @@ ghost use Rattle.closed_loop.specs.Under.{AreSmallShifts};
 use crate::size::{grid_scale, next_over};
 use fixed_kernel::Kernel;
 use frac_scaled::round_div;
-use mat_int::{Mat, dot};
+use mat_int::dot;
+use packed_rows::RowWalk;
 use primal_average::first_input;
 use qp_model::{Design, DesignParts};
 
@@ -86,15 +87,19 @@ pub fn next_state(design: &Design, k: &Kernel, state: &[i128], next: &mut [i128]
     }
 }
 
-/// Adds the row of a turn, counted from 0, to a state over `2^g`, where there is that row.
-pub fn shift_state(shifts: &Mat, turn: usize, state: &mut [i128])
-    requires width { shifts.now.cols ≡ length state.old }
-    requires shifts { AreSmallShifts shifts.now }
+/// Adds the row of a turn, counted from 0, to a state over `2^g`, where there is that row; it is the next of the walk.
+pub fn shift_state(shifts: &mut RowWalk, turn: usize, state: &mut [i128])
+    requires width { 0 < length shifts.old.rows.rows → shifts.old.rows.cols ≡ length state.old }
+    requires shifts { AreSmallShifts shifts.old.rows }
+    requires next { turn < length shifts.old.rows.rows → shifts.old.next ≡ turn }
     requires room { (i : ℕ) → i < length state.old → unsigned_abs (at state.old i) ≤ 2 ^ 126 }
-    ensures { state.new ≡ map (λ i. at state.old i +ℤ entry_of shifts.now turn i) (range_with_len 0 (length state.old)) }
+    ensures shifted { state.new ≡ map (λ i. at state.old i +ℤ entry_of shifts.old.rows turn i) (range_with_len 0 (length state.old)) }
+    ensures next { turn < length shifts.old.rows.rows → shifts.new.next ≡ turn + 1 }
+    ensures rows { shifts.new.rows ≡ shifts.old.rows }
 {
     if turn < shifts.rows() {
-        add_row(shifts.row(turn), state);
+        shifts.step();
+        add_row(shifts.row(), state);
     }
 }
 

@@ -16,7 +16,7 @@ use crate::size::turn_size;
 use crate::successor::{next_state, shift_state};
 use fixed_kernel::Kernel;
 use io_edge::Sink;
-use mat_int::Mat;
+use packed_rows::{PackedRows, RowWalk};
 use qp_model::{Design, Quantity};
 use std::alloc::Global;
 use std::mem::swap;
@@ -52,7 +52,7 @@ fn make_turn<O: Sink>(
     }
 }
 
-// The turns from a start, each of which is shifted by its row where there is one, where the quantity `turn` is within its limit.
+// The turns from a start, each of which is shifted by its row where there is one, from a walk before the first, where the quantity `turn` is within its limit.
 fn run_turns<O: Sink>(
     alloc: Global,
     design: &Design,
@@ -60,23 +60,25 @@ fn run_turns<O: Sink>(
     entry: u32,
     start: &[i128],
     turns: u32,
-    shifts: &Mat,
+    shifts: &mut RowWalk,
     out: &mut O,
 ) -> Result<(), LoopFault>
     requires matched { IsFor k.old.controller (design_of design.now) }
     requires narrow { turn_size (design_of design.now) k.old.controller ≤ 2 ^ 126 }
     requires start { length start.now ≡ k.old.controller.states }
-    requires width { shifts.now.cols ≡ k.old.controller.states }
-    requires shifts { AreSmallShifts shifts.now }
-    ensures inside { OnOk result (LieInside k.old.controller (states_under (design_of design.now) k.old.controller start.now shifts.now) turns) }
+    requires width { 0 < length shifts.old.rows.rows → shifts.old.rows.cols ≡ k.old.controller.states }
+    requires next { shifts.old.next ≡ 0 }
+    requires shifts { AreSmallShifts shifts.old.rows }
+    ensures inside { OnOk result (LieInside k.old.controller (states_under (design_of design.now) k.old.controller start.now shifts.old.rows) turns) }
     ensures put { OnOk result (O.got out.new ≡
-        option_map (λ old. old ++ lines_under (design_of design.now) k.old.controller entry start.now shifts.now turns) (O.got out.old)) }
-    ensures refused { IfErr result (LoopShows k.old.controller (states_under (design_of design.now) k.old.controller start.now shifts.now)
-        (lines_under (design_of design.now) k.old.controller entry start.now shifts.now) turns
+        option_map (λ old. old ++ lines_under (design_of design.now) k.old.controller entry start.now shifts.old.rows turns) (O.got out.old)) }
+    ensures refused { IfErr result (LoopShows k.old.controller (states_under (design_of design.now) k.old.controller start.now shifts.old.rows)
+        (lines_under (design_of design.now) k.old.controller entry start.now shifts.old.rows) turns
         (O.got out.old) (O.got out.new) (O.faults out.old) (O.faults out.new)) }
     ensures quiet { (coordinate : ℕ) → result ≡ Err (LoopFault.OutsideBox 1 coordinate) → out.new ≡ out.old }
     ensures no_fewer { O.faults out.old ≤ O.faults out.new }
     ensures controller { k.new.controller ≡ k.old.controller }
+    ensures rows { shifts.new.rows ≡ shifts.old.rows }
 {
     let mut state = Vec::from_slice(alloc, start)?;
     let mut next = Vec::from_slice(alloc, start)?;
@@ -112,8 +114,9 @@ fn run_unshifted<O: Sink>(
     ensures no_fewer { O.faults out.old ≤ O.faults out.new }
     ensures controller { k.new.controller ≡ k.old.controller }
 {
-    let none = Mat::zero(alloc, 0, start.len())?;
-    run_turns(alloc, design, k, entry, start, turns, &none, out)
+    let none = PackedRows::new(alloc, 0);
+    let mut shifts = none.walk(alloc)?;
+    run_turns(alloc, design, k, entry, start, turns, &mut shifts, out)
 }
 
 /// The lines of a record's closed loop from a start, over `2^g`, turn by turn, to a sink: the controller is run on the state,
@@ -178,51 +181,52 @@ pub fn run_loop_under<O: Sink>(
     k: &mut Kernel,
     entry: u32,
     start: &[i128],
-    shifts: &Mat,
+    shifts: &mut RowWalk,
     out: &mut O,
 ) -> Result<(), LoopFault>
     requires matched { IsFor k.old.controller (design_of design.now) }
     requires start { length start.now ≡ k.old.controller.states }
-    requires width { shifts.now.cols ≡ k.old.controller.states }
-    requires shifts { AreSmallShifts shifts.now }
-    requires few { length shifts.now.rows < 2 ^ 32 }
+    requires width { shifts.old.rows.cols ≡ k.old.controller.states }
+    requires shifts { AreSmallShifts shifts.old.rows }
+    requires few { length shifts.old.rows.rows < 2 ^ 32 }
     // All turns were made.
     ensures inside { OnOk result
-        (LieInside k.old.controller (states_under (design_of design.now) k.old.controller start.now shifts.now) (length shifts.now.rows)) }
+        (LieInside k.old.controller (states_under (design_of design.now) k.old.controller start.now shifts.old.rows) (length shifts.old.rows.rows)) }
     ensures put { OnOk result (O.got out.new ≡ option_map
-        (λ old. old ++ lines_under (design_of design.now) k.old.controller entry start.now shifts.now (length shifts.now.rows)) (O.got out.old)) }
+        (λ old. old ++ lines_under (design_of design.now) k.old.controller entry start.now shifts.old.rows (length shifts.old.rows.rows)) (O.got out.old)) }
     // The quantity `turn`, before any line.
     ensures wide { (quantity : Quantity) → (result ≡ Err (LoopFault.TooWide quantity)) ↔
         ((quantity ≡ Quantity.Turn) × (2 ^ 126 < turn_size (design_of design.now) k.old.controller)) }
     ensures wide_put { 2 ^ 126 < turn_size (design_of design.now) k.old.controller → out.new ≡ out.old }
     // A state outside the box.
     ensures outside { (turn coordinate : ℕ) → result ≡ Err (LoopFault.OutsideBox turn coordinate) → LeavesAmong k.old.controller
-        (states_under (design_of design.now) k.old.controller start.now shifts.now) (length shifts.now.rows) turn coordinate }
+        (states_under (design_of design.now) k.old.controller start.now shifts.old.rows) (length shifts.old.rows.rows) turn coordinate }
     ensures outside_put { (turn coordinate : ℕ) → result ≡ Err (LoopFault.OutsideBox turn coordinate) → O.got out.new ≡ option_map
-        (λ old. old ++ lines_under (design_of design.now) k.old.controller entry start.now shifts.now (turn - 1)) (O.got out.old) }
+        (λ old. old ++ lines_under (design_of design.now) k.old.controller entry start.now shifts.old.rows (turn - 1)) (O.got out.old) }
     // Where that is the first state, nothing was put.
     ensures quiet { (coordinate : ℕ) → result ≡ Err (LoopFault.OutsideBox 1 coordinate) → out.new ≡ out.old }
     ensures leaves { (turn coordinate : ℕ) → LeavesAmong k.old.controller
-        (states_under (design_of design.now) k.old.controller start.now shifts.now) (length shifts.now.rows) turn coordinate →
+        (states_under (design_of design.now) k.old.controller start.now shifts.old.rows) (length shifts.old.rows.rows) turn coordinate →
         turn_size (design_of design.now) k.old.controller ≤ 2 ^ 126
         → (result ≡ Err (LoopFault.OutsideBox turn coordinate)) ⊎ (result ≡ Err LoopFault.Memory) ⊎ (result ≡ Err LoopFault.WriteFault) }
     // It doesn't give up.
-    ensures stays { LieInside k.old.controller (states_under (design_of design.now) k.old.controller start.now shifts.now) (length shifts.now.rows)
+    ensures stays { LieInside k.old.controller (states_under (design_of design.now) k.old.controller start.now shifts.old.rows) (length shifts.old.rows.rows)
         → turn_size (design_of design.now) k.old.controller ≤ 2 ^ 126 → ¬ Rose (O.faults out.old) (O.faults out.new)
         → IsOk result ⊎ (result ≡ Err LoopFault.Memory) }
     // A fault of the sink.
     ensures failed { result ≡ Err LoopFault.WriteFault → Rose (O.faults out.old) (O.faults out.new) }
     ensures begun { result ≡ Err LoopFault.WriteFault
-        → MayBegin k.old.controller (states_under (design_of design.now) k.old.controller start.now shifts.now) (length shifts.now.rows) }
+        → MayBegin k.old.controller (states_under (design_of design.now) k.old.controller start.now shifts.old.rows) (length shifts.old.rows.rows) }
     ensures cut { result ≡ Err LoopFault.WriteFault → IfSome (O.got out.old) (λ old. IsSomeAnd (O.got out.new)
-        (GrowsByFront k.old.controller (states_under (design_of design.now) k.old.controller start.now shifts.now)
-        (lines_under (design_of design.now) k.old.controller entry start.now shifts.now) (length shifts.now.rows) old)) }
+        (GrowsByFront k.old.controller (states_under (design_of design.now) k.old.controller start.now shifts.old.rows)
+        (lines_under (design_of design.now) k.old.controller entry start.now shifts.old.rows) (length shifts.old.rows.rows) old)) }
     ensures no_fewer { O.faults out.old ≤ O.faults out.new }
     // Out of memory.
     ensures memory { result ≡ Err LoopFault.Memory → IfSome (O.got out.old) (λ old. IsSomeAnd (O.got out.new)
-        (GrowsByLines k.old.controller (states_under (design_of design.now) k.old.controller start.now shifts.now)
-        (lines_under (design_of design.now) k.old.controller entry start.now shifts.now) (length shifts.now.rows) old)) }
+        (GrowsByLines k.old.controller (states_under (design_of design.now) k.old.controller start.now shifts.old.rows)
+        (lines_under (design_of design.now) k.old.controller entry start.now shifts.old.rows) (length shifts.old.rows.rows) old)) }
     ensures controller { k.new.controller ≡ k.old.controller }
+    ensures rows { shifts.new.rows ≡ shifts.old.rows }
 {
     let size = turn_size(design, k.controller());
     if size.is_none() {
@@ -230,14 +234,7 @@ pub fn run_loop_under<O: Sink>(
             quantity: Quantity::Turn,
         });
     }
-    run_turns(
-        alloc,
-        design,
-        k,
-        entry,
-        start,
-        shifts.rows() as u32,
-        shifts,
-        out,
-    )
+    shifts.rewind();
+    let turns = shifts.rows() as u32;
+    run_turns(alloc, design, k, entry, start, turns, shifts, out)
 }

@@ -1,10 +1,10 @@
 -- Lines that are printed one after the other.
-use Rattle.std.proofs.Common.{◌≡◌, ◌⊎◌, inl, inr, ℕ, suc, ◌<◌, ℤ, pos, List, [], ◌∷◌, ◌++◌, length, take, drop, get_or, Option, Some, None, option_map, Result, Ok, Err, sym, ap, subst, ◌∙◌, arith, append_assoc, length-append, drop-cons, true}
+use Rattle.std.proofs.Common.{◌≡◌, ◌⊎◌, inl, inr, ℕ, suc, ◌+◌, ◌<◌, ℤ, pos, List, [], ◌∷◌, ◌++◌, length, take, drop, get_or, Option, Some, None, option_map, Result, Ok, Err, refl, sym, ap, subst, ◌∙◌, arith, append_assoc, append-nil, zero-le, length-append, drop-cons, true, false}
 use Rattle.std.specs.Prelude.{IfSome, IsSomeAnd}
-use Rattle.std.specs.Result.{is_err, OnErr}
+use Rattle.std.specs.Result.{is_err, OnErr, OnOk}
 use Rattle.std.specs.List.{flat_map}
 use Rattle.std.proofs.lemmas.Grind.{flat_map-append}
-use Rattle.std.proofs.lemmas.List.{take-append-drop}
+use Rattle.std.proofs.lemmas.List.{take-append-drop, take_more}
 use Rattle.std.proofs.Math.Seq.{take-length}
 use Rattle.io_edge.specs.Faults.{GrowsByPart}
 use Rattle.mat_int.specs.Matrix.{Matrix, row_of}
@@ -14,7 +14,13 @@ use Rattle.qp_model.specs.machine.Machine.{average_denominator, averaged_plan}
 use Rattle.qp_model.specs.text.ControllerText.{plan_line}
 use Rattle.plan_lines.specs.Lines.{plan_lines}
 use Rattle.plan_lines.specs.Printing.{ArePrinted}
-use Rattle.command_line.specs.declared.status.Status.TheVariants.{WriteFault}
+use Rattle.command_line.specs.declared.status.Status.TheVariants.{Memory, WriteFault}
+
+-- the lines of one more state
+lines_more : (c : Numbers) (states : Matrix) (i : ℕ) → i < length states.rows → plan_lines c states (i + 1) ≡ plan_lines c states i ++ plan_line c (row_of states i)
+lines_more c states i lt =
+    ap (flat_map (plan_line c)) (take_more states.rows i [] lt) ∙ flat_map-append (plan_line c) (take i states.rows) (get_or states.rows i [] ∷ [])
+    ∙ ap (λ (line : List ℕ). plan_lines c states i ++ line) (append-nil (plan_line c (row_of states i)))
 
 -- all pieces are those before one, that one and those after it
 pieces : {X : Type 0} (f : X → List ℕ) (xs : List X) (i : ℕ) (d : X) → i < length xs →
@@ -59,6 +65,15 @@ print_part c states old new p = record {
   memory = λ is. absurd (let never : ⊥ = cc in never);
 }
 
+-- before the first line
+pub none_printed : (c : Numbers) (states : Matrix) (got : Option (List ℕ)) → IfSome got (λ old. IsSomeAnd got (ArePrinted c states Memory old))
+none_printed c states (Some old) = record {
+  done = λ is. absurd (let never : ⊥ = cc in never);
+  fault = λ is. absurd (let never : ⊥ = cc in never);
+  memory = λ is. record { count = 0; some = zero-le; printed = sym (append-nil old) };
+}
+none_printed c states None = tt
+
 pub told_err : {T E P : Type 0} (r : Result T E) → is_err r ≡ true → OnErr r P → P
 told_err (Ok x) is h = absurd (let never : ⊥ = cc in never)
 told_err (Err e) is h = h
@@ -78,3 +93,16 @@ print_cut r c states i line first mid last failed err before l is =
     go (Some old) (Some new) p = print_part c states old new (cut c states i line old new l is p)
     go (Some old) None p = p
     go None last p = tt
+
+-- a print that didn't
+pub told_ok : {T E P : Type 0} (r : Result T E) → is_err r ≡ false → OnOk r P → P
+told_ok (Ok x) is h = h
+told_ok (Err e) is h = absurd (let never : ⊥ = cc in never)
+
+pub grown : (c : Numbers) (states : Matrix) (i : ℕ) (line : List ℕ) (first mid last : Option (List ℕ)) → i < length states.rows → line ≡ plan_line c (row_of states i) →
+    mid ≡ option_map (λ old. old ++ plan_lines c states i) first → last ≡ option_map (λ old. old ++ line) mid → last ≡ option_map (λ old. old ++ plan_lines c states (i + 1)) first
+grown c states i line first mid last lt is before put = put ∙ ap (option_map (λ (old : List ℕ). old ++ line)) before ∙ both first
+  where
+    both : (o : Option (List ℕ)) → option_map (λ (old : List ℕ). old ++ line) (option_map (λ (old : List ℕ). old ++ plan_lines c states i) o) ≡ option_map (λ (old : List ℕ). old ++ plan_lines c states (i + 1)) o
+    both (Some old) = ap Some (append_assoc old (plan_lines c states i) line ∙ ap (λ (x : List ℕ). old ++ x) (ap (λ (x : List ℕ). plan_lines c states i ++ x) is ∙ sym (lines_more c states i lt)))
+    both None = refl

@@ -9,7 +9,7 @@ ghost use Rattle.plan_lines.specs.Printing.{ArePrinted};
 use command_line::Status;
 use fixed_kernel::Kernel;
 use io_edge::Sink;
-use mat_int::Mat;
+use packed_rows::PackedRows;
 use primal_average::plan_line;
 use std::alloc::{AllocError, Global};
 
@@ -24,7 +24,12 @@ pub fn line_from(alloc: Global, kernel: &mut Kernel, state: &[i128]) -> Result<V
 }
 
 /// Prints the lines of states of the box, each as soon as it is made: `Done`, `Memory` after the lines of some first states, or `WriteFault` for file 0.
-pub fn print_lines<O: Sink>(alloc: Global, kernel: &mut Kernel, states: &Mat, out: &mut O) -> Status
+pub fn print_lines<O: Sink>(
+    alloc: Global,
+    kernel: &mut Kernel,
+    states: &PackedRows,
+    out: &mut O,
+) -> Status
     requires { AreInside kernel.old.controller states.now (length states.now.rows) }
     ensures only { (result ≡ Status.Memory) ⊎ ((result ≡ Status.Done) ⊎ (result ≡ Status.WriteFault 0)) }
     ensures printed { IfSome (O.got out.old) (λ old. IsSomeAnd (O.got out.new) (ArePrinted kernel.old.controller states.now result old)) }
@@ -32,8 +37,12 @@ pub fn print_lines<O: Sink>(alloc: Global, kernel: &mut Kernel, states: &Mat, ou
     ensures failed { result ≡ Status.WriteFault 0 → Rose (O.faults out.old) (O.faults out.new) }
     ensures no_fewer { O.faults out.old ≤ O.faults out.new }
 {
-    for i in 0..states.rows() {
-        let Ok(line) = line_from(alloc, kernel, states.row(i)) else {
+    let Ok(mut walk) = states.walk(alloc) else {
+        return Status::Memory;
+    };
+    for _ in 0..states.rows() {
+        walk.step();
+        let Ok(line) = line_from(alloc, kernel, walk.row()) else {
             return Status::Memory;
         };
         if out.put(&line).is_err() {

@@ -1,4 +1,4 @@
-use Rattle.std.proofs.Common.{◌^◌, ◌≤◌, length, refl, le_refl, subst}
+use Rattle.std.proofs.Common.{◌^◌, ◌≤◌, length, refl, le_refl, subst, ◌∙◌}
 use Rattle.std.specs.Option.{SomeIff}
 use Rattle.qp_model.specs.machine.Controller.{Numbers}
 use Rattle.qp_model.specs.machine.LoopSize.{turn_size}
@@ -31,6 +31,7 @@ returns-then-is_none g c =
       no_fewer = le_refl (g.O.Sink.faults c.args.out.now);
       memory = λ e. wide_not_memory _ refl _ e;
       controller = refl;
+      rows = refl;
     }
 
 pub returns : goal.returns
@@ -39,10 +40,11 @@ returns g c =
     let n = c.args.k.now.controller in
     let entry = c.args.entry in
     let start = c.args.start.now in
-    let turns = length c.args.shifts.now.rows in
-    let count = c.rows.ensures.count in
-    let states = states_under d n start c.args.shifts.now in
-    let lines = lines_under d n entry start c.args.shifts.now in
+    let turns = length c.args.shifts.now.rows.rows in
+    let kept = c.rewind.ensures.rows in
+    let count = rw kept at c.rows-turns.ensures in
+    let states = states_under d n start c.args.shifts.now.rows in
+    let lines = lines_under d n entry start c.args.shifts.now.rows in
     let old = g.O.Sink.got c.args.out.now in
     let new = g.O.Sink.got c.run_turns.new.out in
     let before = g.O.Sink.faults c.args.out.now in
@@ -51,11 +53,11 @@ returns g c =
     let shows = LoopShows n states lines turns old new before now in
     let size = subst (λ (m : Numbers). SomeIff c.turn_size-size.result (turn_size d m ≤ 2 ^ 126) (turn_size d m)) c.controller.ensures.value c.turn_size-size.ensures in
     let narrow = some_narrow c.turn_size-size.result c.is_none.result (2 ^ 126) (turn_size d n) c.is_none.ensures c.if-is_none.false size in
-    let refused = rw count at c.run_turns.ensures.refused in
-    let inside = rw count at c.run_turns.ensures.inside in
+    let refused = rw (kept, count) at c.run_turns.ensures.refused in
+    let inside = rw (kept, count) at c.run_turns.ensures.inside in
     record {
       inside = inside;
-      put = rw count at c.run_turns.ensures.put;
+      put = rw (kept, count) at c.run_turns.ensures.put;
       wide = not_wide r shows _ refused (λ q h. h) (λ w. wide_or_narrow _ (2 ^ 126) (turn_size d n) w narrow);
       wide_put = λ w. wide_or_narrow _ (2 ^ 126) (turn_size d n) w narrow;
       outside = λ turn coordinate e. (told r shows (OutsideBox turn coordinate) refused e).0;
@@ -69,4 +71,5 @@ returns g c =
       no_fewer = c.run_turns.ensures.no_fewer;
       memory = λ e. told r shows Memory refused e;
       controller = c.run_turns.ensures.controller;
+      rows = c.run_turns.ensures.rows ∙ kept;
     }

@@ -7,7 +7,7 @@ use Rattle.qp_model.specs.machine.Machine.{IsAdmissible}
 use Rattle.qp_model.specs.machine.Successor.{successor}
 use Rattle.qp_model.specs.text.LoopLines.{loop_line}
 use Rattle.qp_model.specs.problem.Parts.{design_of}
-use Rattle.mat_int.specs.Matrix.{entry_of}
+use Rattle.mat_int.specs.Matrix.{Matrix, entry_of}
 use Rattle.closed_loop.specs.Answers.{LieInside, lines_of}
 use Rattle.closed_loop.specs.Under.{states_under}
 use Rattle.closed_loop.specs.Shows.{TurnShows, LoopShows}
@@ -20,7 +20,7 @@ returns-in_err-state g c =
     let d = design_of c.args.design.now in
     let n = c.args.k.now.controller in
     let start = c.args.start.now in
-    let states = states_under d n start c.args.shifts.now in
+    let states = states_under d n start c.args.shifts.now.rows in
     let got = g.O.Sink.got c.args.out.now in
     let faults = g.O.Sink.faults c.args.out.now in
     let r = c.from_residual.result in
@@ -33,6 +33,7 @@ returns-in_err-state g c =
       quiet = λ coordinate e. absurd (other r Memory 1 coordinate is (λ same. cc) e);
       no_fewer = le_refl faults;
       controller = refl;
+      rows = refl;
     }
 
 pub returns-in_err-next : goal.returns-in_err-next
@@ -40,7 +41,7 @@ returns-in_err-next g c =
     let d = design_of c.args.design.now in
     let n = c.args.k.now.controller in
     let start = c.args.start.now in
-    let states = states_under d n start c.args.shifts.now in
+    let states = states_under d n start c.args.shifts.now.rows in
     let got = g.O.Sink.got c.args.out.now in
     let faults = g.O.Sink.faults c.args.out.now in
     let r = c.from_residual-in_err-next.result in
@@ -53,6 +54,7 @@ returns-in_err-next g c =
       quiet = λ coordinate e. absurd (other r Memory 1 coordinate is (λ same. cc) e);
       no_fewer = le_refl faults;
       controller = refl;
+      rows = refl;
     }
 
 pub loop-gone-init : goal.loop-gone-init
@@ -60,15 +62,17 @@ loop-gone-init g c =
     let d = design_of c.args.design.now in
     let n = c.args.k.now.controller in
     let start = c.args.start.now in
-    let states = states_under d n start c.args.shifts.now in
+    let states = states_under d n start c.args.shifts.now.rows in
     record {
-      state = c.in_ok-state.ensures.items ∙ sym (state_zero d n start (entry_of c.args.shifts.now));
+      state = c.in_ok-state.ensures.items ∙ sym (state_zero d n start (entry_of c.args.shifts.now.rows));
       next = ap (λ (xs : List ℤ). length xs) c.in_ok-next.ensures.items ∙ c.requires.start;
       long = ap (λ (xs : List ℤ). length xs) c.in_ok-state.ensures.items ∙ c.requires.start;
       inside = inside_none n states;
       put = put_none n c.args.entry states (g.O.Sink.got c.args.out.now);
       first = λ e. refl;
       no_fewer = le_refl (g.O.Sink.faults c.args.out.now);
+      shifts = refl;
+      place = λ l. c.requires.next;
       controller = refl;
     }
 
@@ -77,7 +81,7 @@ returns-in_err-make_turn g c =
     let d = design_of c.args.design.now in
     let n = c.args.k.now.controller in
     let start = c.args.start.now in
-    let states = states_under d n start c.args.shifts.now in
+    let states = states_under d n start c.args.shifts.now.rows in
     let gone = c.loop-gone.gone in
     let got = g.O.Sink.got in
     let faults = g.O.Sink.faults in
@@ -100,6 +104,7 @@ returns-in_err-make_turn g c =
           );
       no_fewer = le_trans c.loop-gone.invariant.no_fewer c.make_turn.ensures.no_fewer;
       controller = c.make_turn.ensures.controller ∙ c.loop-gone.invariant.controller;
+      rows = c.loop-gone.invariant.shifts;
     }
 
 pub loop-gone-preserved : goal.loop-gone-preserved
@@ -107,7 +112,7 @@ loop-gone-preserved g c =
     let d = design_of c.args.design.now in
     let n = c.args.k.now.controller in
     let start = c.args.start.now in
-    let states = states_under d n start c.args.shifts.now in
+    let states = states_under d n start c.args.shifts.now.rows in
     let gone = c.loop-gone.gone in
     let same : c.deref.result.now ≡ states gone = c.deref.ensures.value ∙ c.loop-gone.invariant.state in
     let kept : c.make_turn.new.k.controller ≡ n = c.make_turn.ensures.controller ∙ c.loop-gone.invariant.controller in
@@ -121,8 +126,8 @@ loop-gone-preserved g c =
     let room = c.requires.matched.states ∙ sym c.loop-gone.invariant.next ∙ sym c.loop-gone.next.ok.0 in
     let mid : c.deref_mut-in-loop-gone.result.now ≡ c.next_state.new.next = c.deref_mut-in-loop-gone.ensures.value ∙ with_items_is c.loop-gone.next c.next_state.new.next (count ∙ room) in
     let next : c.shift_state.new.state ≡ states (gone + 1) =
-    shifted_more d n start c.args.shifts.now gone c.deref_mut-in-loop-gone.result.now c.shift_state.new.state (mid ∙ came) c.shift_state.ensures in
-    let long : length c.shift_state.new.state ≡ d.states = ap (λ (xs : List ℤ). length xs) next ∙ shifted_long d n start c.args.shifts.now gone in
+    shifted_more d n start c.args.shifts.now.rows gone c.deref_mut-in-loop-gone.result.now c.shift_state.new.state (mid ∙ came) (rw c.loop-gone.invariant.shifts at c.shift_state.ensures.shifted) in
+    let long : length c.shift_state.new.state ≡ d.states = ap (λ (xs : List ℤ). length xs) next ∙ shifted_long d n start c.args.shifts.now.rows gone in
     let items : c.swap.new.x.items ≡ c.shift_state.new.state = ap (λ (v : Vec ℤ Global). v.items) c.swap.ensures.x_after ∙ with_items_is (with_items c.loop-gone.next c.next_state.new.next) c.shift_state.new.state (long ∙ room) in
     record {
       state = items ∙ next;
@@ -132,6 +137,8 @@ loop-gone-preserved g c =
       put = put_more n c.args.entry states gone (g.O.Sink.got c.args.out.now) (g.O.Sink.got c.loop-gone.out) (g.O.Sink.got c.make_turn.new.out) c.loop-gone.invariant.put put;
       first = λ e. absurd (omega (arith, e));
       no_fewer = omega (arith, c.loop-gone.invariant.no_fewer, c.make_turn.ensures.no_fewer);
+      shifts = c.shift_state.ensures.rows ∙ c.loop-gone.invariant.shifts;
+      place = λ l. c.shift_state.ensures.next (omega (arith, l, ap (λ (m : Matrix). length m.rows) c.loop-gone.invariant.shifts));
       controller = kept;
     }
 
@@ -140,7 +147,7 @@ returns g c =
     let d = design_of c.args.design.now in
     let n = c.args.k.now.controller in
     let start = c.args.start.now in
-    let states = states_under d n start c.args.shifts.now in
+    let states = states_under d n start c.args.shifts.now.rows in
     let all : c.loop-gone.gone ≡ c.args.turns = omega arith in
     record {
       inside = subst (λ (k : ℕ). LieInside n states k) all c.loop-gone.invariant.inside;
@@ -149,4 +156,5 @@ returns g c =
       quiet = λ coordinate e. absurd (let never : ⊥ = cc in never);
       no_fewer = c.loop-gone.invariant.no_fewer;
       controller = c.loop-gone.invariant.controller;
+      rows = c.loop-gone.invariant.shifts;
     }

@@ -1,4 +1,4 @@
-use Rattle.std.proofs.Common.{◌≡◌, ◌≤◌, ◌++◌, length, option_map}
+use Rattle.std.proofs.Common.{◌≡◌, ◌<◌, ◌≤◌, ◌++◌, length, option_map}
 use Rattle.qp_model.specs.problem.Parts.{design_of}
 use Rattle.closed_loop.specs.Answers.{LieInside}
 use Rattle.closed_loop.specs.Under.{states_under, lines_under}
@@ -6,12 +6,14 @@ use Rattle.closed_loop.proofs.turns.run_turns.Given as goal
 
 abbrev pub invariant-loop-gone : goal.invariant-loop-gone
 invariant-loop-gone g l = record {
-  state : l.state.items ≡ states_under (design_of l.design) l.fn.k.controller l.start l.shifts l.gone;
+  state : l.state.items ≡ states_under (design_of l.design) l.fn.k.controller l.start l.fn.shifts.rows l.gone;
   next : length l.next.items ≡ l.fn.k.controller.states;
   long : length l.state.items ≡ l.fn.k.controller.states;
-  inside : LieInside l.fn.k.controller (states_under (design_of l.design) l.fn.k.controller l.start l.shifts) l.gone;
-  put : g.O.Sink.got l.out ≡ option_map (λ old. old ++ lines_under (design_of l.design) l.fn.k.controller l.entry l.start l.shifts l.gone) (g.O.Sink.got l.fn.out);
+  inside : LieInside l.fn.k.controller (states_under (design_of l.design) l.fn.k.controller l.start l.fn.shifts.rows) l.gone;
+  put : g.O.Sink.got l.out ≡ option_map (λ old. old ++ lines_under (design_of l.design) l.fn.k.controller l.entry l.start l.fn.shifts.rows l.gone) (g.O.Sink.got l.fn.out);
   first : l.gone ≡ 0 → l.out ≡ l.fn.out;
   no_fewer : g.O.Sink.faults l.fn.out ≤ g.O.Sink.faults l.out;
+  shifts : l.shifts.rows ≡ l.fn.shifts.rows;
+  place : l.gone < length l.fn.shifts.rows.rows → l.shifts.next ≡ l.gone;
   controller : l.k.controller ≡ l.fn.k.controller;
 }

@@ -1,6 +1,7 @@
-use Rattle.std.proofs.Common.{◌≡◌, ◌++◌, le_refl, zero-le, refl, arith, option_map}
+use Rattle.std.proofs.Common.{◌≡◌, ◌∙◌, ◌++◌, length, ap, le_refl, zero-le, refl, arith, option_map}
 use Rattle.std.specs.Prelude.{OnOk, IfErr, IfSome, IsSomeAnd}
 use Rattle.integer_algebra.specs.Sums.{none}
+use Rattle.mat_int.specs.Matrix.{Matrix}
 use Rattle.qp_model.specs.problem.Parts.{design_of}
 use Rattle.qp_model.specs.machine.Successor.{state_after}
 use Rattle.qp_model.specs.text.LoopLines.{loop_text}
@@ -11,8 +12,8 @@ use Rattle.closed_loop.specs.declared.fault.LoopFault.TheVariants.{Memory}
 use Rattle.closed_loop.proofs.Showing.{inside_none, put_none, grows_by_turns, given, unmet, other, unshifted_loop, unshifted_matrix}
 use Rattle.closed_loop.proofs.turns.run_unshifted.Goals as goal
 
-pub returns-in_err-none : goal.returns-in_err-none
-returns-in_err-none g c =
+pub returns-in_err-shifts : goal.returns-in_err-shifts
+returns-in_err-shifts g c =
     let d = design_of c.args.design.now in
     let n = c.args.k.now.controller in
     let start = c.args.start.now in
@@ -33,10 +34,10 @@ returns-in_err-none g c =
     }
 
 pub run_turns-requires-clause-width : goal.run_turns-requires-clause-width
-run_turns-requires-clause-width g c = rw c.in_ok-none.ensures c.requires.start
+run_turns-requires-clause-width g c = λ l. absurd (omega (arith, l, ap (λ (m : Matrix). length m.rows) (c.in_ok-shifts.ensures.rows ∙ c.new-none.ensures)))
 
 pub run_turns-requires-clause-shifts : goal.run_turns-requires-clause-shifts
-run_turns-requires-clause-shifts g c = λ k i. rw c.in_ok-none.ensures (omega arith)
+run_turns-requires-clause-shifts g c = λ k i. rw (c.in_ok-shifts.ensures.rows, c.new-none.ensures) (omega arith)
 
 pub returns : goal.returns
 returns g c =
@@ -50,7 +51,7 @@ returns g c =
     let before = g.O.Sink.faults c.args.out.now in
     let now = g.O.Sink.faults c.run_turns.new.out in
     let r = c.run_turns.result in
-    let is = c.in_ok-none.ensures in
+    let is = c.in_ok-shifts.ensures.rows ∙ c.new-none.ensures in
     record {
       inside = unshifted_matrix d n entry start _ _ is (λ states lines. OnOk r (LieInside n states turns)) c.run_turns.ensures.inside;
       put = unshifted_matrix d n entry start _ _ is (λ states lines. OnOk r (new ≡ option_map (λ o. o ++ lines turns) old)) c.run_turns.ensures.put;
