@@ -3,6 +3,6 @@ pub mod Box
 pub mod Traps
 pub mod Narrow
 pub mod Fused
-pub mod NarrowForm
+pub mod BlockForm
 pub mod Playing
 pub mod Laws

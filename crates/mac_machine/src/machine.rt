@@ -5,7 +5,7 @@ ghost use Rattle.mac_machine.specs.Machine.{NeverTraps};
 ghost use Rattle.mac_machine.specs.Box.{IsInBox, IsFirstOutsideBox};
 ghost use Rattle.mac_machine.specs.Traps.{Stops};
 
-use crate::narrow_machine::{NarrowForm, narrow_form};
+use crate::block_form::{BlockForm, block_form, narrow_words};
 use crate::player::{count_after, first_outside, play};
 use crate::stop::Stop;
 use mac_listing::Listing;
@@ -19,7 +19,10 @@ pub struct Machine<'a> {
     listing: &'a Listing,
     words: Vec<i128>,
     count: u64,
-    narrow: Option<NarrowForm>,
+    // Words of 64 bits, where the width is at most that, and else none.
+    narrow: Vec<i64>,
+    // Only where the body can be run by blocks.
+    form: Option<BlockForm>,
 }
 
 impl<'a> Model for Machine<'a> {
@@ -39,13 +42,15 @@ impl<'a> Machine<'a> {
     pub fn prepare(alloc: Global, listing: &'a Listing) -> Result<Machine<'a>, AllocError>
         ensures { IfOk result (λ m. m ≡ prepared listing.now) }
     {
-        let narrow = narrow_form(alloc, listing.parts())?;
+        let form = block_form(alloc, listing.parts())?;
+        let narrow = narrow_words(alloc, listing.parts())?;
         let words = vec![in alloc; 0; listing.parts().words]?;
         Ok(Machine {
             listing,
             words,
             count: 0,
             narrow,
+            form,
         })
     }
 
@@ -59,7 +64,7 @@ impl<'a> Machine<'a> {
         ensures listing { self.new.listing ≡ self.old.listing }
     {
         let parts = self.listing.parts();
-        let answer = play(parts, state, &mut self.narrow, &mut self.words);
+        let answer = play(parts, state, &self.form, &mut self.narrow, &mut self.words);
         self.count = count_after(parts, &answer, self.count);
         answer
     }

@@ -2,8 +2,13 @@ use Rattle.std.proofs.Common.{FitsSigned, rules}
 use Rattle.std.specs.Int.{w128}
 use Rattle.std.proofs.lemmas.Int.{to_z-of_z}
 use Rattle.integer_algebra.specs.Sums.{at}
-use Rattle.mac_machine.proofs.Rooms.{mac_some, mac_none}
+use Rattle.mac_machine.proofs.Rooms.{mac_some, mac_none, word_none}
 use Rattle.mac_machine.proofs.accumulator.mac.Goals as goal
+
+pub returns-in_err-word : goal.returns-in_err-word
+returns-in_err-word c =
+    let read : FitsSigned w128 (at c.args.words.now c.args.a) = search rules in
+    word_none c.args.w c.args.acc c.args.c _ c.from_residual.result c.from_residual.ensures (rw (to_z-of_z w128 _ read) at c.in_err-word.ensures)
 
 pub returns-in_err-product : goal.returns-in_err-product
 returns-in_err-product c =

@@ -1,6 +1,6 @@
-use Rattle.std.proofs.Common.{◌≡◌, ℤ, pos, ◌*ℤ◌, ◌+ℤ◌, ◌^◌, FitsSigned, sym, subst, rules}
+use Rattle.std.proofs.Common.{◌≡◌, ℤ, pos, neg_ℤ, ◌*ℤ◌, ◌+ℤ◌, ◌^◌, FitsSigned, to_z, of_z, sym, subst, ◌∙◌, rules}
 use Rattle.std.specs.Option.{SomeIff}
-use Rattle.std.specs.Int.{w128}
+use Rattle.std.specs.Int.{w128, int_max, int_min}
 use Rattle.std.proofs.lemmas.Int.{to_z-of_z}
 use Rattle.integer_algebra.specs.Division.{floor_of}
 use Rattle.integer_algebra.specs.Sums.{at}
@@ -48,3 +48,41 @@ returns-in-Shr c =
     subst (λ (x : ℤ). SomeIff c.roomy-in-Shr.result (FitsWidth c.args.w x) x) floor
     (subst (λ (x : ℤ). SomeIff c.roomy-in-Shr.result (FitsWidth c.args.w x) x) (to_z-of_z w128 _ made) c.roomy-in-Shr.ensures) in
     subst (λ (op : Op). SomeIff c.roomy-in-Shr.result (OpFits c.args.w op h) (result_of op h)) (sym c.in-Shr.is) (one_some c.args.w z c.roomy-in-Shr.result answer)
+
+pub returns-in-Load : goal.returns-in-Load
+returns-in-Load c =
+    let h = holding c.args.acc c.args.words.now in
+    let word : FitsSigned w128 (at c.args.words.now c.in-Load.a) = search rules in
+    subst (λ (op : Op). SomeIff c.roomy.result (OpFits c.args.w op h) (result_of op h)) (sym c.in-Load.is)
+    (one_some c.args.w (at c.args.words.now c.in-Load.a) c.roomy.result (rw (to_z-of_z w128 _ word) at c.roomy.ensures))
+
+pub returns-in-Store : goal.returns-in-Store
+returns-in-Store c =
+    let h = holding c.args.acc c.args.words.now in
+    subst (λ (op : Op). SomeIff c.roomy-in-Store.result (OpFits c.args.w op h) (result_of op h)) (sym c.in-Store.is)
+    (one_some c.args.w c.args.acc c.roomy-in-Store.result (rw (to_z-of_z w128 c.args.acc c.ranges.acc) at c.roomy-in-Store.ensures))
+
+pub returns-in-Neg : goal.returns-in-Neg
+returns-in-Neg c =
+    let h = holding c.args.acc c.args.words.now in
+    subst (λ (op : Op). SomeIff c.negated.result (OpFits c.args.w op h) (result_of op h)) (sym c.in-Neg.is)
+    (one_some c.args.w (neg_ℤ c.args.acc) c.negated.result (rw (to_z-of_z w128 c.args.acc c.ranges.acc) at c.negated.ensures))
+
+pub returns-in-Low : goal.returns-in-Low
+returns-in-Low c =
+    let h = holding c.args.acc c.args.words.now in
+    let made : FitsSigned w128 c.max.result = search rules in
+    let z = int_max c.args.acc (pos 0) in
+    let same : to_z w128 (of_z w128 c.max.result) ≡ z = to_z-of_z w128 _ made ∙ (rw (to_z-of_z w128 c.args.acc c.ranges.acc) at c.max.ensures.value) in
+    subst (λ (op : Op). SomeIff c.roomy-in-Low.result (OpFits c.args.w op h) (result_of op h)) (sym c.in-Low.is)
+    (one_some c.args.w z c.roomy-in-Low.result (subst (λ (x : ℤ). SomeIff c.roomy-in-Low.result (FitsWidth c.args.w x) x) same c.roomy-in-Low.ensures))
+
+pub returns-in-Cap : goal.returns-in-Cap
+returns-in-Cap c =
+    let h = holding c.args.acc c.args.words.now in
+    let constant : FitsSigned w128 c.in-Cap.c = search rules in
+    let made : FitsSigned w128 c.min.result = search rules in
+    let z = int_min c.in-Cap.c c.args.acc in
+    let same : to_z w128 (of_z w128 c.min.result) ≡ z = to_z-of_z w128 _ made ∙ (rw (to_z-of_z w128 c.args.acc c.ranges.acc, to_z-of_z w128 _ constant) at c.min.ensures.value) in
+    subst (λ (op : Op). SomeIff c.roomy-in-Cap.result (OpFits c.args.w op h) (result_of op h)) (sym c.in-Cap.is)
+    (one_some c.args.w z c.roomy-in-Cap.result (subst (λ (x : ℤ). SomeIff c.roomy-in-Cap.result (FitsWidth c.args.w x) x) same c.roomy-in-Cap.ensures))
