@@ -2,6 +2,7 @@ pub mod Floors
 pub mod Fits
 pub mod Rooms
 pub mod Raised
+pub mod RowMoves
 pub mod States
 pub mod NarrowFactors
 pub mod Words

@@ -223,8 +223,8 @@ impl<'a> Kernel<'a> {
     /// All that a kernel knows of its run: the words of the state over `2^f`, of the multipliers, of the last plan and of the sums, one
     /// behind the other. Each multiplier is raised there to over `2^(f+s)`, as the plan is made of it; in version 1 that is the multiplier itself.
     ///
-    /// Where the width and `f + s` allow words of 64 bits, and each factor of the machine's products fits one, `prepare` takes more memory beside the region, and
-    /// only a run that is made whole uses it: the matrices `W` and `G` in such words, and room for what the state adds to the sum of each plan entry and of
+    /// Where the width and `f + s` allow words of 64 bits, and each factor of the machine's products fits one, `prepare` takes more memory beside the region,
+    /// and only a run that is made whole uses it: the matrices `W` and `G` in such words, and room for what the state adds to the sum of each plan entry and of
     /// each row, for the multipliers, for the plan and for the sums. Nothing is read from that room that the same run hasn't written.
     pub fn region(&self) -> &Region
         ensures words { result.now ≡ region_of self.now }
