@@ -16,7 +16,6 @@ use Rattle.qp_model.specs.problem.Policy.{Plans}
 use Rattle.qp_model.specs.declared.design_parts.DesignParts.{DesignParts}
 use Rattle.qp_model.specs.bounds.Printed.{Printed}
 use Rattle.overflow_check.specs.Width.{IsWidth}
-use Rattle.hessian_check.proofs.RowExponentLaws.{one_list_law}
 use Rattle.bit_choice.specs.Choice.{IsChoice}
 use Rattle.controller_maker.proofs.Classes.{entries_are, states_are, rows_are}
 use Rattle.controller_maker.proofs.Tables.{row_long, shape_as, plan_long}
@@ -24,7 +23,7 @@ use Rattle.design_engine.specs.Targets.{Targets, targets_of, half_target, error_
 use Rattle.design_engine.specs.Bounds.{margin_of, printed_multiplier}
 use Rattle.design_engine.specs.Built.{IsBuilt}
 use Rattle.design_engine.specs.Agreement.{HaveSameGains, AreIdentical, AgreementLaw}
-use Rattle.design_engine.proofs.OneOfEach.{one_margin, one_exponent, one_choice}
+use Rattle.design_engine.proofs.OneOfEach.{one_margin, one_exponent, one_exponents, one_choice}
 
 -- ---- lists and matrices of one shape with the same entries
 same_numbers : (xs ys : List ℤ) (n : ℕ) → length xs ≡ n → length ys ≡ n → ((k : ℕ) → k < n → at xs k ≡ at ys k) → xs ≡ ys
@@ -90,7 +89,7 @@ module _ (p : DesignParts) (plans : Plans) (c other : Numbers) (b printed : Prin
   exponent = one_exponent d c.step_exponent other.step_exponent h.made.exponent k.made.exponent
 
   exponents : c.exponents ≡ other.exponents
-  exponents = one_list_law d other.step_exponent c.exponents other.exponents (rw exponent at h.made.exponents) k.made.exponents
+  exponents = one_exponents d other.step_exponent c.exponents other.exponents (rw exponent at h.made.exponents) k.made.exponents
 
   steps : c.steps ≡ other.steps
   steps = h.made.steps ∙ (λ i. step_count (exponent i) (r i) (half_target t)) ∙ sym k.made.steps

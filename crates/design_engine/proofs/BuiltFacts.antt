@@ -24,7 +24,7 @@ use Rattle.hessian_check.specs.RowExponents.{exponent_in, AreExponentsOf}
 use Rattle.design_engine.specs.Targets.{targets_of}
 use Rattle.design_engine.specs.Aims.{aim_of, steps_of, AreBitsOf, IsMadeWith}
 use Rattle.design_engine.specs.declared.aimed.Aim.{Aim}
-use Rattle.design_engine.specs.Bounds.{margin_of, AreBoundsOf}
+use Rattle.design_engine.specs.Bounds.{margin_of, stated_cost, AreBoundsOf}
 use Rattle.controller_maker.specs.Assembled.{HasExponents, IsAssembled}
 use Rattle.controller_maker.proofs.RowExponents.{repeated_exponents}
 use Rattle.design_engine.specs.Built.{IsBuilt}
@@ -84,10 +84,15 @@ made_from p a c s es k f design narrow exponent exponents curved count bits soun
   width = is.width;
 }
 
--- what the errors of its steps cost is no more than the aim lets them
+-- what the errors of its steps cost is no more than what is stated of them
+pub made_within : (p : DesignParts) (a : Aim) (c : Numbers) → IsMadeWith p a c →
+    real_cost (design_of p) (form_of (design_of p)) (unsigned_abs a.r) c ≤ stated_cost (design_of p) (unsigned_abs a.r) c.fraction_bits
+made_within p a c h = costs.cost p (form_of (design_of p)) (unsigned_abs a.r) c h.design (form_law p h.design h.narrow) h.made
+
+-- nor than the aim lets them
 pub cost_limited : (p : DesignParts) (a : Aim) (c : Numbers) → IsMadeWith p a c →
     real_cost (design_of p) (form_of (design_of p)) (unsigned_abs a.r) c ≤ unsigned_abs a.error_target
-cost_limited p a c h = omega (arith, costs.cost p (form_of (design_of p)) (unsigned_abs a.r) c h.design (form_law p h.design h.narrow) h.made, h.bits.within)
+cost_limited p a c h = omega (arith, made_within p a c h, h.bits.within)
 
 -- with a margin, and with its bounds
 pub built_from : (p : DesignParts) (plans : Plans) (c : Numbers) (b : Printed) (m : Margin) → IsPolicyFor (design_of p) plans →

@@ -14,6 +14,7 @@ pub mod AgreementLaws
 -- ---- what `generate` answers
 pub mod Classes
 pub mod GenerationFacts
+pub mod CauseCases
 pub mod RefusalFacts
 pub mod PrintedFacts
 pub mod BuiltFacts

@@ -1,5 +1,5 @@
--- What the tests look for is there once: the margin, the first short corner and row, the step exponent, the number of fraction bits.
-use Rattle.std.proofs.Common.{◌≡◌, inl, inr, ℕ, ◌-◌, ◌^◌, ◌<◌, ◌≤◌, ℤ, pos, ◌+ℤ◌, ◌-ℤ◌, ◌*ℤ◌, ◌≤ℤ◌, ◌<ℤ◌, arith, refl, sym, subst, ◌∙◌}
+-- What the tests look for is there once: the margin, the first short corner and row, the step exponent, the exponents of the rows, the number of fraction bits.
+use Rattle.std.proofs.Common.{◌≡◌, inl, inr, ℕ, List, ◌-◌, ◌^◌, ◌<◌, ◌≤◌, ℤ, pos, ◌+ℤ◌, ◌-ℤ◌, ◌*ℤ◌, ◌≤ℤ◌, ◌<ℤ◌, arith, refl, sym, subst, ◌∙◌}
 use Rattle.std.proofs.lemmas.Int.{ints, by_lt_z}
 use Rattle.std.proofs.Props.{props}
 use Rattle.std.proofs.lemmas.Bool.{cases_lt}
@@ -18,6 +18,8 @@ use Rattle.exact_margin.proofs.MarginFacts.{scales}
 use Rattle.qp_model.specs.bounds.Least.{IsLeast}
 use Rattle.hessian_check.specs.Curvature.{IsFirst, IsChosen, IsDominantAt, HasPassingRootBelow}
 use Rattle.hessian_check.specs.Steps.{IsExponentOf, HasNoStep}
+use Rattle.hessian_check.specs.RowExponents.{AreExponentsOf}
+use Rattle.hessian_check.proofs.RowExponentLaws.{one_list_law}
 use Rattle.bit_choice.specs.Choice.{IsChoice}
 use Rattle.step_error.proofs.FallingLaws.{epsilon_falls}
 
@@ -150,6 +152,10 @@ one_exponent d a b h k =
 
 pub no_exponent : (d : Design) (a : ℕ) → HasNoStep d → IsExponentOf d a → ⊥
 no_exponent d a h k = omega (arith, one_first _ _ _ h.s1 k.plain h.plain k.is_plain, h.above, k.limit)
+
+-- ---- the exponents of the rows
+pub one_exponents : (d : Design) (s : ℕ) (xs ys : List ℕ) → AreExponentsOf d s xs → AreExponentsOf d s ys → xs ≡ ys
+one_exponents d s xs ys h k = one_list_law d s xs ys h k
 
 -- ---- the fraction bits
 pub one_choice : (sums : ErrorSums) (low limit a b : ℕ) → IsChoice sums low limit a → IsChoice sums low limit b → a ≡ b

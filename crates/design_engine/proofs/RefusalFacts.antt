@@ -17,7 +17,7 @@ use Rattle.qp_model.specs.declared.quantity.Quantity.TheVariants.{Prediction, Co
 use Rattle.exact_margin.specs.Corners as corners
 use Rattle.exact_margin.specs.Corners.{HasCornerRoom, IsFirstShort}
 use Rattle.exact_margin.specs.declared.fault.MarginFault.{MarginFault}
-use Rattle.exact_margin.specs.declared.fault.MarginFault.TheVariants.{Memory as margin_memory, TooWide as margin_wide, NoMargin as margin_none}
+use Rattle.exact_margin.specs.declared.fault.MarginFault.TheVariants.{TooWide as margin_wide, NoMargin as margin_none}
 use Rattle.condensed_form.specs.Fault as condensing
 use Rattle.condensed_form.specs.declared.condensed.Condensed.{Condensed}
 use Rattle.condensed_form.specs.declared.fault.CondenseFault.{CondenseFault}
@@ -32,7 +32,7 @@ use Rattle.approx_inverse.specs.declared.fault.SolveFault.{SolveFault}
 use Rattle.approx_inverse.specs.declared.fault.SolveFault.TheVariants.{Memory as solve_memory, TooWide as solve_wide}
 use Rattle.design_engine.specs.Targets.{Targets}
 use Rattle.design_engine.specs.Aims.{steps_of, aim_of}
-use Rattle.design_engine.specs.Tests.{IsRefusedFor, PassesForm, IsFormWide, HasFormCause, PassesBits, IsAimWide, HasAimCause}
+use Rattle.design_engine.specs.Tests.{IsRefusedFor, PassesForm, IsFormWide, HasFormCause, PassesBits, HasAimCause}
 use Rattle.controller_maker.specs.Widest.{width_size}
 use Rattle.controller_maker.specs.Fault.{IsWidthFault}
 use Rattle.exact_margin.specs.Refusing.{of_margin}
@@ -40,12 +40,13 @@ use Rattle.condensed_form.specs.Refusing.{of_condense}
 use Rattle.hessian_check.specs.Refusing.{of_curvature}
 use Rattle.approx_inverse.specs.Refusing.{of_solve}
 use Rattle.controller_maker.specs.Refusing.{of_width}
-use Rattle.design_engine.specs.Refusals.{PassesMargin, PassesExponent, HasMultiplier, HasCause, IsRefused, IsTooWide}
+use Rattle.design_engine.specs.Refusals.{PassesMargin, PassesExponent, HasCause, IsRefused, IsTooWide}
 use Rattle.controller_maker.specs.declared.fault.WidthFault.{WidthFault}
 use Rattle.controller_maker.specs.declared.fault.WidthFault.TheVariants.{Memory as width_memory, TooWide as width_wide}
 use Rattle.design_refusal.specs.declared.refusal.Refusal.{Refusal}
 use Rattle.design_refusal.specs.declared.refusal.Refusal.TheVariants.{Memory, NoMargin, Curvature, TooManySteps, TooFine, TooWide}
 use Rattle.design_engine.specs.declared.aimed.Aim.{Aim}
+use Rattle.design_engine.proofs.CauseCases.{wide_corner, wide_form, wide_aim, margin_cases, form_cases}
 
 -- the error that a fault becomes
 pub refused_by : {T : Type 0} (r : Result T Refusal) (from p : Refusal → Type 0) → IsErrAnd r from → ((e : Refusal) → from e → p e) → IfErr r p
@@ -132,27 +133,13 @@ module _ (d : Design) (a : Aim) (s : ℕ) where
 -- ---- a design with a policy
 module _ (d : Design) (t : Targets) (plans : Plans) where
   corner_wide : (quantity : Quantity) → corners.IsFirstWideCorner d plans quantity → IsTooWide d t plans quantity
-  corner_wide Prediction h = inl h
-  corner_wide CornerSlack h = h
-  corner_wide CornerCost h = h
-  corner_wide Multiplier h = absurd h
-  corner_wide Hessian h = absurd h
-  corner_wide Rows h = absurd h
-  corner_wide curvature_named h = absurd h
-  corner_wide Error h = absurd h
-  corner_wide Descent h = absurd h
-  corner_wide Width h = absurd h
-  corner_wide Turn h = absurd h
-  corner_wide Excess h = absurd h
-  corner_wide Stay h = absurd h
+  corner_wide = wide_corner d (IsTooWide d t plans) plans (λ h. inl h) (λ h. h) (λ h. h)
 
   pub margin_refused : (r : Result Margin MarginFault) (fault : MarginFault) → r ≡ Err fault →
       ((quantity : Quantity) → (r ≡ Err (margin_wide quantity)) ↔ corners.IsFirstWideCorner d plans quantity) →
       ((corner row : ℕ) (slack : Frac) → r ≡ Err (margin_none corner row slack) → HasCornerRoom d plans × IsFirstShort d plans corner row slack) →
       (e : Refusal) → e ≡ of_margin fault → IsRefused d t plans e
-  margin_refused r margin_memory is wide short e f = inl f
-  margin_refused r (margin_wide quantity) is wide short e f = rw f (inr (corner_wide quantity ((wide quantity).0 is)))
-  margin_refused r (margin_none corner row slack) is wide short e f = rw f (inr (short corner row slack is))
+  margin_refused = margin_cases d (HasCause d t plans) plans corner_wide (λ corner row slack h. h)
 
   pub multiplier_refused : (m : Margin) (quantity : Quantity) → PassesMargin d t plans m →
       (multiplier_size (unsigned_abs m.units) (unsigned_abs m.cost) ≤ 2 ^ 126 → ⊥) → quantity ≡ Multiplier →
@@ -160,46 +147,12 @@ module _ (d : Design) (t : Targets) (plans : Plans) where
   multiplier_refused m quantity h refuted g e f = rw (f, g) (inr (m, h, omega (arith, refuted)))
 
   -- a cause in the form
-  wide_form : (m : Margin) → HasMultiplier d t plans m → (quantity : Quantity) → IsFormWide d quantity → IsTooWide d t plans quantity
-  wide_form m h Prediction k = inr (m, h, k)
-  wide_form m h CornerSlack k = absurd k
-  wide_form m h CornerCost k = absurd k
-  wide_form m h Multiplier k = absurd k
-  wide_form m h Hessian k = (m, h, k)
-  wide_form m h Rows k = (m, h, k)
-  wide_form m h curvature_named k = (m, h, k)
-  wide_form m h Error k = absurd k
-  wide_form m h Descent k = absurd k
-  wide_form m h Width k = absurd k
-  wide_form m h Turn k = absurd k
-  wide_form m h Excess k = absurd k
-  wide_form m h Stay k = absurd k
-
   pub form_caused : (m : Margin) → PassesMargin d t plans m → multiplier_size_of m ≤ 2 ^ 126 → (e : Refusal) → IsRefusedFor (HasFormCause d) e → IsRefused d t plans e
-  form_caused m h n e (inl memory) = inl memory
-  form_caused m h n Memory (inr k) = absurd k
-  form_caused m h n (NoMargin corner row slack) (inr k) = absurd k
-  form_caused m h n Curvature (inr k) = inr (m, record { before = h; multiplier = n; form = k.0 }, k.1)
-  form_caused m h n (TooManySteps steps) (inr k) = absurd k
-  form_caused m h n (TooFine eps) (inr k) = absurd k
-  form_caused m h n (TooWide quantity) (inr k) = inr (wide_form m (h, n) quantity k)
+  form_caused m h n =
+      form_cases d (HasCause d t plans) (λ k. (m, record { before = h; multiplier = n; form = k.0 }, k.1))
+      (wide_form d (IsTooWide d t plans) (λ k. inr (m, (h, n), k)) (λ k. (m, (h, n), k)) (λ k. (m, (h, n), k)) (λ k. (m, (h, n), k)))
 
   -- and one after it
-  wide_aim : (m : Margin) (s : ℕ) → PassesExponent d t plans m s → (quantity : Quantity) → IsAimWide d (aim_of t m) s quantity → IsTooWide d t plans quantity
-  wide_aim m s h Prediction k = absurd k
-  wide_aim m s h CornerSlack k = absurd k
-  wide_aim m s h CornerCost k = absurd k
-  wide_aim m s h Multiplier k = absurd k
-  wide_aim m s h Hessian k = absurd k
-  wide_aim m s h Rows k = absurd k
-  wide_aim m s h curvature_named k = absurd k
-  wide_aim m s h Error k = (m, s, h, k)
-  wide_aim m s h Descent k = (m, s, h, k)
-  wide_aim m s h Width k = (m, s, h, k)
-  wide_aim m s h Turn k = absurd k
-  wide_aim m s h Excess k = absurd k
-  wide_aim m s h Stay k = absurd k
-
   pub aim_caused : (m : Margin) (s : ℕ) → PassesExponent d t plans m s → (e : Refusal) → IsRefusedFor (HasAimCause d (aim_of t m) s) e → IsRefused d t plans e
   aim_caused m s h e (inl memory) = inl memory
   aim_caused m s h Memory (inr k) = absurd k
@@ -207,7 +160,7 @@ module _ (d : Design) (t : Targets) (plans : Plans) where
   aim_caused m s h Curvature (inr k) = absurd k
   aim_caused m s h (TooManySteps steps) (inr k) = inr (m, s, h, k)
   aim_caused m s h (TooFine eps) (inr k) = inr (m, s, h, k)
-  aim_caused m s h (TooWide quantity) (inr k) = inr (wide_aim m s h quantity k)
+  aim_caused m s h (TooWide quantity) (inr k) = inr (wide_aim d (IsTooWide d t plans) (aim_of t m) s (λ w. (m, s, h, w)) (λ w. (m, s, h, w)) (λ w. (m, s, h, w)) quantity k)
 
 -- a choice, by other names of its numbers
 pub choice_same : (sums other : errors.ErrorSums) (low from limit most f : ℕ) → sums ≡ other → low ≡ from → limit ≡ most → IsChoice sums low limit f → IsChoice other from most f

@@ -9,7 +9,7 @@ ghost use Rattle.hessian_check.specs.Steps.{IsExponentOf, OfDesign};
 ghost use Rattle.hessian_check.specs.RowExponents.{exponent_in, AreExponentsOf};
 ghost use Rattle.design_engine.specs.Aims.{IsAim, IsSteppedFormOf, IsAimedOf};
 ghost use Rattle.design_engine.specs.Tests.{PassesForm, HasFormCause, PassesAim, HasAimCause, IsRefusedFor};
-ghost use Rattle.design_engine.specs.Chosen.{IsChosenOf};
+ghost use Rattle.design_engine.specs.StepsAndBits.{AreStepsAndBitsOf};
 
 use crate::residuals::real_cost;
 use approx_inverse::solve_all;
@@ -43,7 +43,7 @@ pub struct SteppedForm {
 
 // The number of steps, the sums of the rounding errors, and the fraction bits with what the errors of a step cost by these.
 #[derive(Clone, Copy)]
-pub(crate) struct Chosen {
+pub(crate) struct StepsAndBits {
     pub(crate) steps: u32,
     pub(crate) sums: ErrorSums,
     pub(crate) choice: Choice,
@@ -83,16 +83,16 @@ pub fn stepped_form(alloc: Global, design: &Design) -> Result<SteppedForm, Refus
 }
 
 // The number of steps and the fraction bits. It takes no memory.
-fn plan_of(design: &Design, stepped: &SteppedForm, aim: Aim) -> Result<Chosen, Refusal>
+fn steps_and_bits(design: &Design, stepped: &SteppedForm, aim: Aim) -> Result<StepsAndBits, Refusal>
     requires stepped { IsSteppedFormOf design.now stepped.now }
     requires aim { IsAim aim }
-    ensures chosen { IfOk result (IsChosenOf design.now aim stepped.now) }
+    ensures chosen { IfOk result (AreStepsAndBitsOf design.now aim stepped.now) }
     ensures refused { IfErr result (HasAimCause (design_of design.now) aim stepped.now.s) }
 {
     let steps = steps(stepped.s, aim.r, aim.step_target)?;
     let sums = error_sums(&stepped.condensed, design, aim.r)?;
     let choice = choose_bits(&sums, design.parts().grid, aim.error_target)?;
-    Ok(Chosen {
+    Ok(StepsAndBits {
         steps,
         sums,
         choice,
@@ -124,29 +124,29 @@ fn controller_by(
     alloc: Global,
     design: &Design,
     stepped: &SteppedForm,
-    plan: &Chosen,
+    chosen: &StepsAndBits,
     aim: Aim,
 ) -> Result<Controller, Refusal>
     requires stepped { IsSteppedFormOf design.now stepped.now }
     requires aim { IsAim aim }
-    requires chosen { IsChosenOf design.now aim stepped.now plan.now }
+    requires chosen { AreStepsAndBitsOf design.now aim stepped.now chosen.now }
     ensures sound { IfOk result IsController }
     ensures made { IfOk result (λ c.
-        IsAssembled (design_of design.now) (unsigned_abs aim.r) stepped.now.s c.exponents plan.now.steps plan.now.choice.f c) }
+        IsAssembled (design_of design.now) (unsigned_abs aim.r) stepped.now.s c.exponents chosen.now.steps chosen.now.choice.f c) }
     ensures exponents { IfOk result (λ c. AreExponentsOf (design_of design.now) stepped.now.s c.exponents) }
     ensures curved { IfOk result (λ c. AreExponents (design_of design.now) (exponent_in c.exponents) stepped.now.s) }
-    ensures passes { OnOk result (PassesAim (design_of design.now) aim stepped.now.s plan.now.choice.f) }
+    ensures passes { OnOk result (PassesAim (design_of design.now) aim stepped.now.s chosen.now.choice.f) }
     ensures refused { IfErr result (IsRefusedFor (HasAimCause (design_of design.now) aim stepped.now.s)) }
 {
-    let gains = solve_all(alloc, &stepped.condensed, plan.choice.f)?;
+    let gains = solve_all(alloc, &stepped.condensed, chosen.choice.f)?;
     let Ok(exps) = row_exponents(alloc, design, &stepped.condensed, stepped.s) else {
         drop(gains);
         return Err(Refusal::Memory);
     };
     let settings = Settings {
         s: stepped.s,
-        f: plan.choice.f,
-        steps: plan.steps,
+        f: chosen.choice.f,
+        steps: chosen.steps,
         r: aim.r,
     };
     Ok(controller_of(alloc, design, &stepped.condensed, settings, exps, gains)?)
@@ -169,12 +169,12 @@ pub fn controller_for(
     ensures passes { OnOk result ((f : ℕ) × PassesAim (design_of design.now) aim stepped.now.s f) }
     ensures refused { IfErr result (IsRefusedFor (HasAimCause (design_of design.now) aim stepped.now.s)) }
 {
-    let plan = plan_of(design, stepped, aim)?;
-    let controller = controller_by(alloc, design, stepped, &plan, aim)?;
-    let cost = real_cost(&stepped.condensed, &plan.sums, &controller);
+    let chosen = steps_and_bits(design, stepped, aim)?;
+    let controller = controller_by(alloc, design, stepped, &chosen, aim)?;
+    let cost = real_cost(&stepped.condensed, &chosen.sums, &controller);
     Ok(Aimed {
         controller,
         cost,
-        eps: plan.choice.eps,
+        eps: chosen.choice.eps,
     })
 }

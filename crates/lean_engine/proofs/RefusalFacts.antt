@@ -10,22 +10,23 @@ use Rattle.qp_model.specs.bounds.Choices.{lean_multiplier_size}
 use Rattle.qp_model.specs.declared.design_parts.DesignParts.{DesignParts}
 use Rattle.qp_model.specs.declared.bounds.Margin.{Margin}
 use Rattle.qp_model.specs.declared.quantity.Quantity.{Quantity}
-use Rattle.qp_model.specs.declared.quantity.Quantity.TheVariants.{Prediction, CornerSlack, CornerCost, Multiplier, Hessian, Rows, Curvature as curvature_named, Error, Descent, Width, Turn, Excess, Stay}
+use Rattle.qp_model.specs.declared.quantity.Quantity.TheVariants.{Excess}
 use Rattle.exact_margin.specs.Corners as corners
 use Rattle.exact_margin.specs.Corners.{HasCornerRoom, IsFirstShort}
 use Rattle.exact_margin.specs.declared.fault.MarginFault.{MarginFault}
-use Rattle.exact_margin.specs.declared.fault.MarginFault.TheVariants.{Memory as margin_memory, TooWide as margin_wide, NoMargin as margin_none}
+use Rattle.exact_margin.specs.declared.fault.MarginFault.TheVariants.{TooWide as margin_wide, NoMargin as margin_none}
 use Rattle.plan_excess.specs.Fault.{IsExcessFault}
 use Rattle.plan_excess.specs.Refusing.{of_excess}
 use Rattle.plan_excess.specs.declared.fault.ExcessFault.{ExcessFault}
 use Rattle.plan_excess.specs.declared.fault.ExcessFault.TheVariants.{Memory as excess_memory, TooWide as excess_wide}
 use Rattle.design_engine.specs.Targets.{Targets, floor_target}
-use Rattle.design_engine.specs.Tests.{IsWide, IsRefusedFor, IsFormWide, HasFormCause, IsAimWide, HasAimCause}
+use Rattle.design_engine.specs.Tests.{IsWide, IsRefusedFor, HasFormCause, HasAimCause}
 use Rattle.design_engine.specs.Refusals.{PassesMargin}
+use Rattle.design_engine.proofs.CauseCases.{wide_corner, wide_form, wide_aim, margin_cases, form_cases}
 use Rattle.exact_margin.specs.Refusing.{of_margin}
 use Rattle.design_refusal.specs.declared.refusal.Refusal.{Refusal}
 use Rattle.design_refusal.specs.declared.refusal.Refusal.TheVariants.{Memory, NoMargin, Curvature, TooManySteps, TooFine, TooWide}
-use Rattle.lean_engine.specs.Refusals.{policy_excess, policy_excess_size, aim_at, PassesScaling, PassesBound, PassesLean, HasLeanCause, IsRefusedLean, IsTooWideLean}
+use Rattle.lean_engine.specs.Refusals.{policy_excess_size, aim_at, PassesScaling, PassesBound, PassesLean, HasLeanCause, IsRefusedLean, IsTooWideLean}
 use Rattle.lean_engine.specs.Priced.{HasBoundCause, IsPriced, HasPriceCause}
 use Rattle.lean_engine.specs.Lean.{lean_aim}
 use Rattle.lean_engine.proofs.CauseLaws.{one_cause, no_cause}
@@ -33,52 +34,19 @@ use Rattle.lean_engine.proofs.CauseLaws.{one_cause, no_cause}
 module _ (d : Design) (t : Targets) (plans references : Plans) where
   -- ---- the corners
   corner_wide : (quantity : Quantity) → corners.IsFirstWideCorner d plans quantity → IsTooWideLean d t plans references quantity
-  corner_wide Prediction h = inl h
-  corner_wide CornerSlack h = h
-  corner_wide CornerCost h = h
-  corner_wide Multiplier h = absurd h
-  corner_wide Hessian h = absurd h
-  corner_wide Rows h = absurd h
-  corner_wide curvature_named h = absurd h
-  corner_wide Error h = absurd h
-  corner_wide Descent h = absurd h
-  corner_wide Width h = absurd h
-  corner_wide Turn h = absurd h
-  corner_wide Excess h = absurd h
-  corner_wide Stay h = absurd h
+  corner_wide = wide_corner d (IsTooWideLean d t plans references) plans (λ h. inl h) (λ h. h) (λ h. h)
 
   pub margin_refused : (r : Result Margin MarginFault) (fault : MarginFault) → r ≡ Err fault →
       ((quantity : Quantity) → (r ≡ Err (margin_wide quantity)) ↔ corners.IsFirstWideCorner d plans quantity) →
       ((corner row : ℕ) (slack : Frac) → r ≡ Err (margin_none corner row slack) → HasCornerRoom d plans × IsFirstShort d plans corner row slack) →
       (e : Refusal) → e ≡ of_margin fault → IsRefusedLean d t plans references e
-  margin_refused r margin_memory is wide short e f = inl f
-  margin_refused r (margin_wide quantity) is wide short e f = rw f (inr (corner_wide quantity ((wide quantity).0 is)))
-  margin_refused r (margin_none corner row slack) is wide short e f = rw f (inr (short corner row slack is))
+  margin_refused = margin_cases d (HasLeanCause d t plans references) plans corner_wide (λ corner row slack h. h)
 
   -- ---- the form
-  wide_form : (m : Margin) → PassesMargin d t plans m → (quantity : Quantity) → IsFormWide d quantity → IsTooWideLean d t plans references quantity
-  wide_form m h Prediction k = inr (m, h, k)
-  wide_form m h CornerSlack k = absurd k
-  wide_form m h CornerCost k = absurd k
-  wide_form m h Multiplier k = absurd k
-  wide_form m h Hessian k = (m, h, k)
-  wide_form m h Rows k = (m, h, k)
-  wide_form m h curvature_named k = (m, h, k)
-  wide_form m h Error k = absurd k
-  wide_form m h Descent k = absurd k
-  wide_form m h Width k = absurd k
-  wide_form m h Turn k = absurd k
-  wide_form m h Excess k = absurd k
-  wide_form m h Stay k = absurd k
-
   pub form_caused : (m : Margin) → PassesMargin d t plans m → (e : Refusal) → IsRefusedFor (HasFormCause d) e → IsRefusedLean d t plans references e
-  form_caused m h e (inl memory) = inl memory
-  form_caused m h Memory (inr k) = absurd k
-  form_caused m h (NoMargin corner row slack) (inr k) = absurd k
-  form_caused m h Curvature (inr k) = inr (m, h, k)
-  form_caused m h (TooManySteps steps) (inr k) = absurd k
-  form_caused m h (TooFine eps) (inr k) = absurd k
-  form_caused m h (TooWide quantity) (inr k) = inr (wide_form m h quantity k)
+  form_caused m h =
+      form_cases d (HasLeanCause d t plans references) (λ k. (m, h, k))
+      (wide_form d (IsTooWideLean d t plans references) (λ k. inr (m, h, k)) (λ k. (m, h, k)) (λ k. (m, h, k)) (λ k. (m, h, k)))
 
   -- ---- the excess
   pub excess_refused : (units : ℕ) (fault : ExcessFault) → IsExcessFault (policy_excess_size d plans references) fault → (e : Refusal) → e ≡ of_excess fault →
@@ -91,22 +59,6 @@ module _ (d : Design) (t : Targets) (plans references : Plans) where
       named quantity e = ap of_excess e
 
   -- ---- the aim
-  wide_aim : (m : Margin) (s : ℕ) → PassesBound d t plans references m s → (quantity : Quantity) → IsAimWide d (aim_at d t plans references m) s quantity →
-      IsTooWideLean d t plans references quantity
-  wide_aim m s h Prediction k = absurd k
-  wide_aim m s h CornerSlack k = absurd k
-  wide_aim m s h CornerCost k = absurd k
-  wide_aim m s h Multiplier k = absurd k
-  wide_aim m s h Hessian k = absurd k
-  wide_aim m s h Rows k = absurd k
-  wide_aim m s h curvature_named k = absurd k
-  wide_aim m s h Error k = (m, s, h, k)
-  wide_aim m s h Descent k = (m, s, h, k)
-  wide_aim m s h Width k = (m, s, h, k)
-  wide_aim m s h Turn k = absurd k
-  wide_aim m s h Excess k = absurd k
-  wide_aim m s h Stay k = absurd k
-
   aim_caused : (m : Margin) (s : ℕ) → PassesBound d t plans references m s → (e : Refusal) → HasAimCause d (aim_at d t plans references m) s e →
       HasLeanCause d t plans references e
   aim_caused m s h Memory k = absurd k
@@ -114,7 +66,8 @@ module _ (d : Design) (t : Targets) (plans references : Plans) where
   aim_caused m s h Curvature k = absurd k
   aim_caused m s h (TooManySteps steps) k = (m, s, h, k)
   aim_caused m s h (TooFine eps) k = (m, s, h, k)
-  aim_caused m s h (TooWide quantity) k = wide_aim m s h quantity k
+  aim_caused m s h (TooWide quantity) k =
+      wide_aim d (IsTooWideLean d t plans references) (aim_at d t plans references m) s (λ w. (m, s, h, w)) (λ w. (m, s, h, w)) (λ w. (m, s, h, w)) quantity k
 
   -- all of these tests
   pub price_caused : (m : Margin) (s : ℕ) → PassesScaling d t plans m s → (e : Refusal) →

@@ -19,8 +19,8 @@ pub(crate) struct Bound {
     pub(crate) r: i128,
 }
 
-/// The violations of rows with these step exponents, over `2^40`: after `k` steps, with the multiplier bound `r` and the errors `eps` over `2^40`, where that of
-/// all rows may be `threshold` over `2^40`.
+/// The violations of rows with these step exponents, over `2^40`: after `k` steps, with the multiplier bound `r` and the errors `eps` over `2^40`, where that
+/// of all rows may be `threshold` over `2^40`.
 pub fn row_violations(
     alloc: Global,
     exps: &[u32],

@@ -31,7 +31,7 @@ row_exponents-requires-clause-curved c = c.requires.stepped.curved
 pub returns-in_err-gains-clause-refused : goal.returns-in_err-gains-clause-refused
 returns-in_err-gains-clause-refused c =
     refused_by c.from_residual.result _ _ c.from_residual.ensures.1
-    (solve_refused (design_of c.args.design.now) c.args.aim c.args.stepped.now.s c.args.plan.now.choice.f c.requires.chosen.passes _ (c.in_err-gains.ensures.wide _ c.requires.stepped.form))
+    (solve_refused (design_of c.args.design.now) c.args.aim c.args.stepped.now.s c.args.chosen.now.choice.f c.requires.chosen.passes _ (c.in_err-gains.ensures.wide _ c.requires.stepped.form))
 
 pub returns-in_default-clause-refused : goal.returns-in_default-clause-refused
 returns-in_default-clause-refused c = inl refl
@@ -75,7 +75,7 @@ returns-in_err-controller_of-clause-refused c =
     let r : SFits w128 c.args.aim.r = search rules in
     let kept = rw (to_z-of_z w128 _ r) at c.in_err-controller_of.ensures.wide in
     refused_by c.from_residual-in_err-controller_of.result _ _ c.from_residual-in_err-controller_of.ensures.1
-    (width_refused (design_of c.args.design.now) c.args.aim c.args.stepped.now.s c.args.plan.now.choice.f _ c.requires.chosen.passes (c.in_ok-gains.ensures.fits _ c.requires.stepped.form)
+    (width_refused (design_of c.args.design.now) c.args.aim c.args.stepped.now.s c.args.chosen.now.choice.f _ c.requires.chosen.passes (c.in_ok-gains.ensures.fits _ c.requires.stepped.form)
     c.requires.chosen.steps _ kept)
 
 pub returns-clause-made : goal.returns-clause-made

@@ -5,31 +5,16 @@ use Rattle.design_engine.proofs.AnswerLaws.{absent_of_error}
 use Rattle.std.proofs.Common.{arith, pos, get_or-set_same, get_or-set_other, below_more, rules, ◌∙◌}
 use Rattle.design_engine.proofs.violations.row_violations.Goals as goal
 
-pub row_violation-requires-clause-some : goal.row_violation-requires-clause-some
-row_violation-requires-clause-some c =
-    let r : SFits w128 c.args.r = c.ranges.r in
-    rw (to_z-of_z w128 _ r) c.requires.some
-
-pub row_violation-requires-clause-narrow : goal.row_violation-requires-clause-narrow
-row_violation-requires-clause-narrow c =
-    let r : SFits w128 c.args.r = c.ranges.r in
-    rw (to_z-of_z w128 _ r) c.requires.narrow
-
-pub row_violation-requires-clause-errors : goal.row_violation-requires-clause-errors
-row_violation-requires-clause-errors c =
-    let e : SFits w128 c.args.eps = c.ranges.eps in
-    rw (to_z-of_z w128 _ e) c.requires.errors
-
-pub row_violation-requires-clause-small : goal.row_violation-requires-clause-small
-row_violation-requires-clause-small c =
-    let e : SFits w128 c.args.eps = c.ranges.eps in
-    rw (to_z-of_z w128 _ e) c.requires.small
-
-pub row_violation-requires-clause-exponent : goal.row_violation-requires-clause-exponent
-row_violation-requires-clause-exponent c = c.requires.exponent
-
-pub row_violation-requires-clause-steps : goal.row_violation-requires-clause-steps
-row_violation-requires-clause-steps c = c.requires.steps
+pub row_violation-requires : goal.row_violation-requires
+row_violation-requires c = record {
+  row = c.requires.rows c.loop-i.i (omega arith);
+  exponent = c.requires.exponent;
+  some = rw (to_z-of_z w128 _ c.ranges.r) c.requires.some;
+  narrow = rw (to_z-of_z w128 _ c.ranges.r) c.requires.narrow;
+  steps = c.requires.steps;
+  errors = rw (to_z-of_z w128 _ c.ranges.eps) c.requires.errors;
+  small = rw (to_z-of_z w128 _ c.ranges.eps) c.requires.small;
+}
 
 pub returns-in_err-out : goal.returns-in_err-out
 returns-in_err-out c = absent_of_error c.from_residual.result _ c.from_residual.ensures.0
@@ -39,9 +24,6 @@ loop-i-init c = record { long = c.in_ok-out.ensures.len; each = λ k below. absu
 
 pub bounds-exps-i : goal.bounds-exps-i
 bounds-exps-i c = omega arith
-
-pub row_violation-requires-clause-row : goal.row_violation-requires-clause-row
-row_violation-requires-clause-row c = c.requires.rows c.loop-i.i (omega arith)
 
 pub index_mut-requires : goal.index_mut-requires
 index_mut-requires c = omega (arith, c.loop-i.invariant.long)

@@ -5,36 +5,16 @@ use Rattle.design_engine.proofs.AnswerLaws.{absent_of_error}
 use Rattle.std.proofs.Common.{arith, pos, get_or-set_same, get_or-set_other, below_more, rules, ◌∙◌}
 use Rattle.lean_engine.proofs.bounds.row_violations.Goals as goal
 
-pub lean_row_violation-requires-clause-some : goal.lean_row_violation-requires-clause-some
-lean_row_violation-requires-clause-some c =
-    let r : SFits w128 c.args.r = c.ranges.r in
-    rw (to_z-of_z w128 _ r) c.requires.some
-
-pub lean_row_violation-requires-clause-narrow : goal.lean_row_violation-requires-clause-narrow
-lean_row_violation-requires-clause-narrow c =
-    let r : SFits w128 c.args.r = c.ranges.r in
-    rw (to_z-of_z w128 _ r) c.requires.narrow
-
-pub lean_row_violation-requires-clause-errors : goal.lean_row_violation-requires-clause-errors
-lean_row_violation-requires-clause-errors c =
-    let e : SFits w128 c.args.eps = c.ranges.eps in
-    rw (to_z-of_z w128 _ e) c.requires.errors
-
-pub lean_row_violation-requires-clause-small : goal.lean_row_violation-requires-clause-small
-lean_row_violation-requires-clause-small c =
-    let e : SFits w128 c.args.eps = c.ranges.eps in
-    rw (to_z-of_z w128 _ e) c.requires.small
-
-pub lean_row_violation-requires-clause-exponent : goal.lean_row_violation-requires-clause-exponent
-lean_row_violation-requires-clause-exponent c = c.requires.rows c.loop-i.i (omega arith)
-
-pub lean_row_violation-requires-clause-steps : goal.lean_row_violation-requires-clause-steps
-lean_row_violation-requires-clause-steps c = c.requires.steps
-
-pub lean_row_violation-requires-clause-target : goal.lean_row_violation-requires-clause-target
-lean_row_violation-requires-clause-target c =
-    let t : SFits w128 c.args.threshold = c.ranges.threshold in
-    rw (to_z-of_z w128 _ t) c.requires.target
+pub lean_row_violation-requires : goal.lean_row_violation-requires
+lean_row_violation-requires c = record {
+  exponent = c.requires.rows c.loop-i.i (omega arith);
+  some = rw (to_z-of_z w128 _ c.ranges.r) c.requires.some;
+  narrow = rw (to_z-of_z w128 _ c.ranges.r) c.requires.narrow;
+  steps = c.requires.steps;
+  errors = rw (to_z-of_z w128 _ c.ranges.eps) c.requires.errors;
+  small = rw (to_z-of_z w128 _ c.ranges.eps) c.requires.small;
+  target = rw (to_z-of_z w128 _ c.ranges.threshold) c.requires.target;
+}
 
 pub returns-in_err-out : goal.returns-in_err-out
 returns-in_err-out c = absent_of_error c.from_residual.result _ c.from_residual.ensures.0

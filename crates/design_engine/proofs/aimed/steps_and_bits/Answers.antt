@@ -11,7 +11,7 @@ use Rattle.design_engine.proofs.Classes.{sums_back}
 use Rattle.design_engine.proofs.GenerationFacts.{size_kept, kept_least}
 use Rattle.design_engine.proofs.AnswerLaws.{absent_of_error}
 use Rattle.design_engine.proofs.BuiltFacts.{exponent_small}
-use Rattle.design_engine.proofs.aimed.plan_of.Goals as goal
+use Rattle.design_engine.proofs.aimed.steps_and_bits.Goals as goal
 
 -- ---- the refusals
 pub returns-in_err-steps-clause-refused : goal.returns-in_err-steps-clause-refused
