@@ -2,3 +2,5 @@
 pub mod Passing
 pub mod Making
 pub mod SameDesign
+-- the proofs of the commands above rest on the laws of what is made, too
+pub use Rattle.design_engine.proofs as Engine

@@ -3,4 +3,6 @@
 
 mod made;
 
+// The commands above hold what is made, and bound its rows; a crate that names fewer others is stamped on fewer paths.
+pub use design_engine::{Made, row_violations};
 pub use made::make_controller;

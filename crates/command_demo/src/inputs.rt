@@ -15,8 +15,8 @@ ghost use Rattle.command_demo.specs.Demo.{AreMadeFrom};
 
 use design_files::read_design;
 use design_maker::{Texts, made_law, make};
-use mat_int::Mat;
 use number_text::TextFault;
+use packed_rows::PackedRows;
 use policy_file::{read_policy, read_states};
 use qp_model::{Design, Policy};
 use std::alloc::{AllocError, Global};
@@ -29,7 +29,7 @@ const STAGES: usize = 6;
 pub struct Inputs {
     pub design: Design,
     pub policy: Policy,
-    pub states: Mat,
+    pub states: PackedRows,
 }
 
 /// The design, the policy and the states that the texts made from a number are of; the states lie in the design's box. An error is out of memory.
@@ -70,7 +70,7 @@ fn inputs_with(alloc: Global, texts: &Texts, design: Design) -> Result<Inputs, A
 fn inputs_from(
     design: Design,
     policy: Policy,
-    states: Result<Mat, AllocError>,
+    states: Result<PackedRows, AllocError>,
 ) -> Result<Inputs, AllocError>
     ensures design { IfOk result (λ i. i.design ≡ design) }
     ensures policy { IfOk result (λ i. i.policy ≡ policy) }
@@ -115,7 +115,7 @@ fn right_policy(alloc: Global, text: &[u8], design: &Design) -> Result<Policy, A
 }
 
 // The states of a text that is one of states of `n` numbers each.
-fn right_states(alloc: Global, text: &[u8], n: usize) -> Result<Mat, AllocError>
+fn right_states(alloc: Global, text: &[u8], n: usize) -> Result<PackedRows, AllocError>
     requires short { length text.now < 2 ^ 32 }
     requires right { (states : Matrix) × IsStatesText text.now n states }
     ensures text { IfOk result (IsStatesText text.now n) }

@@ -9,8 +9,8 @@ use bound_report::report_text;
 use command_line::Status;
 use fixed_kernel::Kernel;
 use io_edge::Sink;
-use mat_int::Mat;
 use overflow_check::Controller;
+use packed_rows::PackedRows;
 use plan_lines::print_lines;
 use qp_model::Bounds;
 use std::alloc::Global;
@@ -20,7 +20,7 @@ pub fn print_text<O: Sink>(
     alloc: Global,
     controller: &Controller,
     bounds: &Bounds,
-    states: &Mat,
+    states: &PackedRows,
     out: &mut O,
 ) -> Status
     requires inside { AreInside controller.now states.now (length states.now.rows) }

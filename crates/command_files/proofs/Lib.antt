@@ -4,3 +4,5 @@ pub mod Readers
 pub mod Controllers
 -- a command that a file ends
 pub mod Stopping
+-- a command of two files, of which the second has states
+pub mod TwoFiles

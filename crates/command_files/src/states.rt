@@ -7,7 +7,7 @@ use crate::bytes::{FILE_LIMIT, read_bytes};
 use crate::text_status::text_status;
 use command_line::Status;
 use io_edge::Store;
-use mat_int::Mat;
+use packed_rows::PackedRows;
 use policy_file::read_states;
 use std::alloc::Global;
 
@@ -18,7 +18,7 @@ pub fn read_states_file<S: Store>(
     name: &str,
     n: usize,
     store: &mut S,
-) -> Result<Mat, Status>
+) -> Result<PackedRows, Status>
     ensures right { IfOk result (λ m. AreStatesRead n file (S.held store.old) name.now m) }
     ensures width { IfOk result (λ m. m.cols ≡ n) }
     ensures count { IfOk result (λ m. length m.rows < 2 ^ 32) }

@@ -7,7 +7,7 @@ use crate::bytes::{FILE_LIMIT, read_bytes};
 use crate::text_status::text_status;
 use command_line::Status;
 use io_edge::Store;
-use mat_int::Mat;
+use packed_rows::PackedRows;
 use shift_file::read_shifts;
 use std::alloc::Global;
 
@@ -19,7 +19,7 @@ pub fn read_shifts_file<S: Store>(
     n: usize,
     turns: usize,
     store: &mut S,
-) -> Result<Mat, Status>
+) -> Result<PackedRows, Status>
     ensures right { IfOk result (λ m. AreTurnShiftsRead n turns file (S.held store.old) name.now m) }
     ensures ends { IfErr result (λ e. EndsTurnShifts n turns file (S.held store.old) name.now
         (S.read_faults store.old name.now) (S.read_faults store.new name.now) e) }

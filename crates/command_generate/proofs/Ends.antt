@@ -1,10 +1,11 @@
 -- What reading a design or a policy ends with tells of that file alone.
-use Rattle.std.proofs.Common.{◌≡◌, ◌⊎◌, inl, inr, ℕ, List, Option}
+use Rattle.std.proofs.Common.{◌≡◌, ◌⊎◌, inl, inr, ℕ, ◌≤◌, List, Option}
 use Rattle.io_edge.specs.Faults.{Files, Rose}
 use Rattle.qp_model.specs.problem.Design.{Design}
 use Rattle.number_text.specs.declared.text_fault.TextFault.{TextFault}
 use Rattle.command_line.specs.Limit.{file_limit}
 use Rattle.command_line.specs.Answers.{IsFileRefused, EndsReading}
+use Rattle.command_line.proofs.Counts.{rose_later}
 use Rattle.command_files.specs.Texts.{DesignRight, DesignWrong, PolicyRight, PolicyWrong}
 use Rattle.command_files.specs.Reading.{EndsDesign, EndsPolicy}
 use Rattle.command_line.specs.declared.status.Status.{Status}
@@ -33,6 +34,14 @@ design_tells file held name before now s ends = ends_tells file_limit file (Desi
 
 pub policy_tells : (d : Design) (file : ℕ) (held : Option Files) (name : List ℕ) (before now : ℕ) (s : Status) → EndsPolicy d file held name before now s → TellsOf file (Rose before now) s
 policy_tells d file held name before now s ends = ends_tells file_limit file (PolicyWrong d file) (PolicyRight d) held name before now s (λ bytes why. (why.0, why.2.1)) ends
+
+-- ---- what ends a later read
+-- the counts stood no higher before
+pub reading_later : {X : Type 0} (limit file : ℕ) (Wrong : List ℕ → Status → Type 0) (Right : X → List ℕ → Type 0) (held : Option Files) (name : List ℕ) (before mid now : ℕ) (s : Status) → before ≤ mid → mid ≤ now →
+    EndsReading limit file Wrong Right held name mid now s → EndsReading limit file Wrong Right held name before now s
+reading_later limit file Wrong Right held name before mid now s low high (inl memory) = inl memory
+reading_later limit file Wrong Right held name before mid now s low high (inr (inl failed)) = inr (inl (failed.0, rose_later before mid now low high failed.1))
+reading_later limit file Wrong Right held name before mid now s low high (inr (inr wrong)) = inr (inr wrong)
 
 -- ---- what isn't told
 pub tells_not_done : (file : ℕ) (failed : Type 0) (s : Status) → TellsOf file failed s → s ≡ Done → ⊥

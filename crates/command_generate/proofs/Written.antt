@@ -13,12 +13,13 @@ use Rattle.command_line.specs.Answers.{Contents, ForContents, FileHolds, IsCause
 use Rattle.command_line.proofs.Counts.{rose_later}
 use Rattle.command_files.specs.Texts.{DesignRight, PolicyRight}
 use Rattle.command_controller.specs.Made.{IsMadeOf}
-use Rattle.command_generate.specs.Writing.{AreTextsFor, AreRead, AreTextsFrom, AreWritten, IsSecondCut}
+use Rattle.command_generate.specs.Inputs.{AreInputsRead}
+use Rattle.command_generate.specs.Writing.{AreTextsFor, AreTextsFrom, AreWritten, IsSecondCut}
 use Rattle.command_generate.specs.Generate.{HoldsInputs, IsMadeFrom, IsGenerated, IsControllerCut, IsReportCut}
 use Rattle.command_line.specs.declared.status.Status.{Status}
 use Rattle.command_line.specs.declared.status.Status.TheVariants.{Done, ReadFault, WriteFault}
 
-inputs_of : (words : List (List ℕ)) (files : Files) (p : DesignParts) (plans : Plans) → AreRead words (Some files) p plans → HoldsInputs (files (word_of words 1)) (files (word_of words 2)) p plans
+inputs_of : (words : List (List ℕ)) (files : Files) (p : DesignParts) (plans : Plans) → AreInputsRead words (Some files) p plans → HoldsInputs (files (word_of words 1)) (files (word_of words 2)) p plans
 inputs_of words files p plans read = record {
   design_right = subst (λ (o : Option (List ℕ)). FileHolds file_limit (DesignRight p) o) read.design.told read.design.right;
   policy_right = subst (λ (o : Option (List ℕ)). FileHolds file_limit (PolicyRight (design_of p) plans) o) read.policy.told read.policy.right;
@@ -30,7 +31,7 @@ pub carried : (words : List (List ℕ)) (held held1 held2 : Option Files) (text 
     IfSome held1 (λ old. IsSomeAnd held2 (Q old)) → IfSome held (λ files. IsSomeAnd held2 (R files))
 carried words held held1 held2 text report Q R same from each q = go held held2 from.read (subst (λ (o : Option Files). IfSome o (λ old. IsSomeAnd held2 (Q old))) same q)
   where
-    go : (one two : Option Files) → AreRead words one from.p from.plans → IfSome one (λ old. IsSomeAnd two (Q old)) → IfSome one (λ files. IsSomeAnd two (R files))
+    go : (one two : Option Files) → AreInputsRead words one from.p from.plans → IfSome one (λ old. IsSomeAnd two (Q old)) → IfSome one (λ files. IsSomeAnd two (R files))
     go (Some files) (Some new) read q = each files new (inputs_of words files from.p from.plans read) q
     go (Some files) None read q = q
     go None two read q = tt

@@ -1,7 +1,6 @@
 -- The two texts and how they are written, on the way.
 use Rattle.std.specs.Prelude.{ℕ, List, Option}
 use Rattle.io_edge.specs.Faults.{Files, Rose, IsWritten, IsCutShort}
-use Rattle.qp_model.specs.problem.Parts.{design_of}
 use Rattle.qp_model.specs.problem.Policy.{Plans}
 use Rattle.qp_model.specs.machine.Controller.{Numbers}
 use Rattle.qp_model.specs.text.ControllerText.{IsControllerText}
@@ -9,9 +8,9 @@ use Rattle.qp_model.specs.declared.design_parts.DesignParts.{DesignParts}
 use Rattle.qp_model.specs.bounds.Printed.{Printed}
 use Rattle.command_line.specs.Words.{word_of}
 use Rattle.command_line.specs.Answers.{ForContents, IsAnswer}
-use Rattle.command_files.specs.Reading.{IsDesignRead, IsPolicyRead}
 use Rattle.command_controller.specs.Made.{IsMadeOf, IsReport}
 use Rattle.command_generate.specs.Generate.{GenerateCalls, GenerateReaches}
+use Rattle.command_generate.specs.Inputs.{AreInputsRead}
 use Rattle.command_line.specs.declared.status.Status.{Status}
 
 -- the text of a controller, and the report of its bounds, both made of a design with a policy
@@ -35,16 +34,11 @@ pub record IsSecondCut (old new : Files) (third fourth text report : List ℕ) :
   pub second : IsCutShort mid new fourth report
 
 -- ---- what the two files give
--- they are right for this design and this policy
-pub record AreRead (words : List (List ℕ)) (held : Option Files) (p : DesignParts) (plans : Plans) : Type 0 where
-  pub design : IsDesignRead 1 held (word_of words 1) p
-  pub policy : IsPolicyRead (design_of p) 2 held (word_of words 2) plans
-
--- these are the texts of those
+-- these are the texts of what they hold
 pub record AreTextsFrom (words : List (List ℕ)) (held : Option Files) (text report : List ℕ) : Type 0 where
   pub p : DesignParts
   pub plans : Plans
-  pub read : AreRead words held p plans
+  pub read : AreInputsRead words held p plans
   pub texts : AreTextsFor p plans (word_of words 4) text report
 
 -- by what they hold this status is called for, and no other

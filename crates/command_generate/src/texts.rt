@@ -5,18 +5,16 @@ ghost use Rattle.qp_model.specs.problem.Parts.{design_of};
 ghost use Rattle.qp_model.specs.problem.Policy.{plans_of, IsPolicyFor};
 ghost use Rattle.qp_model.specs.bounds.Printed.{printed};
 ghost use Rattle.qp_model.specs.text.ControllerText.{IsControllerText};
-ghost use Rattle.command_line.specs.Words.{word_of, IsGenerate};
+ghost use Rattle.command_line.specs.Words.{IsGenerate};
 ghost use Rattle.command_line.specs.Answers.{IsAnswer, IsCaused};
-ghost use Rattle.command_files.specs.Reading.{IsDesignRead};
 ghost use Rattle.command_controller.specs.Made.{MakingCalls, IsReport};
 ghost use Rattle.command_generate.specs.Writing.{AreTextsFor, AreTextsFrom, AreWritten, IsAnswered, IsReadFault, IsSecondCut};
 
+use crate::inputs::read_inputs;
 use bound_report::{report_json, report_text};
-use command_controller::make_controller;
-use command_files::{read_design_file, read_policy_file};
+use command_controller::{Made, make_controller};
 use command_line::{Status, is_json};
 use controller_file::write_controller;
-use design_engine::Made;
 use io_edge::{Store, Words};
 use qp_model::{Bounds, Design, Policy};
 use std::alloc::{AllocError, Global};
@@ -81,32 +79,8 @@ pub fn texts_for<S: Store>(alloc: Global, words: &Words, store: &mut S) -> Resul
     ensures reads { NoneFalls (S.read_faults store.old) (S.read_faults store.new) }
     ensures writes { NoneFalls (S.write_faults store.old) (S.write_faults store.new) }
 {
-    let design = read_design_file(alloc, 1, words.at(1), store)?;
-    texts_with(alloc, &design, words, store)
-}
-
-// Both texts of this design, which the first file holds, and the policy in the second.
-fn texts_with<S: Store>(
-    alloc: Global,
-    design: &Design,
-    words: &Words,
-    store: &mut S,
-) -> Result<Texts, Status>
-    requires words { IsGenerate words.now }
-    requires design { IsDesignRead 1 (S.held store.old) (word_of words.now 1) design.now }
-    ensures texts { IfOk result (λ t. AreTextsFrom words.now (S.held store.old) t.controller.items t.report.items) }
-    ensures called { IfOk result (λ _. IsAnswered words.now (S.held store.old) Status.Done) }
-    ensures refused { IfErr result (λ e. IsCaused e → IsAnswered words.now (S.held store.old) e) }
-    ensures not_done { IfErr result (λ e. e ≢ Status.Done) }
-    ensures no_write { IfErr result (λ e. (file : ℕ) → e ≢ Status.WriteFault file) }
-    ensures read_fault { IfErr result (λ e.
-        (file : ℕ) → e ≡ Status.ReadFault file → IsReadFault words.now (S.held store.old) (S.read_faults store.old) (S.read_faults store.new) file) }
-    ensures held { S.held store.new ≡ S.held store.old }
-    ensures reads { NoneFalls (S.read_faults store.old) (S.read_faults store.new) }
-    ensures writes { NoneFalls (S.write_faults store.old) (S.write_faults store.new) }
-{
-    let policy = read_policy_file(alloc, 2, words.at(2), design, store)?;
-    texts_of(alloc, design, &policy, words.at(4))
+    let inputs = read_inputs(alloc, words, store)?;
+    texts_of(alloc, &inputs.design, &inputs.policy, words.at(4))
 }
 
 /// Writes both texts, the controller's first, each under the name that stands at that position among the arguments. It takes no memory.

@@ -7,7 +7,7 @@ use Rattle.qp_model.specs.machine.Controller.{Numbers}
 use Rattle.qp_model.specs.declared.design_parts.DesignParts.{DesignParts}
 use Rattle.qp_model.specs.bounds.Printed.{Printed}
 use Rattle.qp_model.specs.declared.bounds.Margin.{Margin}
-use Rattle.design_engine.specs.Targets.{targets_of}
+use Rattle.command_generate.specs.Engine.Targets.{targets_of}
 use Rattle.design_refusal.specs.declared.refusal.Refusal.{Refusal}
 use Rattle.design_refusal.specs.declared.refusal.Refusal.TheVariants as refusals
 use Rattle.lean_engine.specs.Lean.{IsLeanBuilt}
@@ -16,10 +16,11 @@ use Rattle.command_line.specs.Answers.{IsAnswer}
 use Rattle.command_line.specs.declared.status.Status.{Status}
 use Rattle.command_line.specs.declared.status.Status.TheVariants.{Done, Memory}
 use Rattle.command_line.specs.Status.{status_of}
-use Rattle.command_controller.proofs.Making.{refusal_not_done, refusal_no_read, refusal_no_write}
-use Rattle.command_controller.proofs.SameDesign.{along}
+use Rattle.command_generate.proofs.Making.{refusal_not_done, refusal_no_read, refusal_no_write}
+use Rattle.command_generate.proofs.SameDesign.{along}
 use Rattle.command_lean.specs.Made.{LeanMakingCalls}
-use Rattle.command_lean.specs.Reading.{IsLeanRefusal, IsLeanRefusedWith}
+use Rattle.command_generate.specs.Ending.{IsFaultless}
+use Rattle.command_lean.specs.Reading.{IsLeanRefusedWith}
 use Rattle.command_lean.proofs.Passing.{built_passes}
 
 ok_not_told : {M : Type 0} (a : Result M Refusal) (x : M) (r : Refusal) → a ≡ Ok x → (a ≡ Err r) ⊎ (a ≡ Err refusals.Memory) → ⊥
@@ -77,7 +78,7 @@ module _ {M : Type 0} (p : DesignParts) (plans references : Plans) (a : Result M
       only t (inl why) = same t why.refusal why.is (tells why.refusal why.cause)
       only t (inr done) = absurd (passes_not (accepts done.1.margin done.1.exponent done.1.bits done.1.all))
 
-      refusal : IsLeanRefusal s
+      refusal : IsFaultless s
       refusal = record {
         done = λ e. refusal_not_done r (sym told ∙ e);
         memory = λ e. not_memory (memory_alone r (sym told ∙ e));

@@ -3,3 +3,5 @@ pub mod Passing
 pub mod Calling
 pub mod Opening
 pub mod Written
+-- the same of the proofs
+pub use Rattle.lean_engine.proofs as LeanEngine

@@ -1,7 +1,6 @@
 -- What the files make of the answer where one of them ends it, and where all are right.
 use Rattle.std.proofs.Common.{◌≡◌, inl, inr, ℕ, List, Option, refl, subst}
-use Rattle.io_edge.specs.Faults.{Files, NoneFalls}
-use Rattle.number_text.specs.declared.text_fault.TextFault.{TextFault}
+use Rattle.io_edge.specs.Faults.{Files}
 use Rattle.qp_model.specs.problem.Design.{Design}
 use Rattle.qp_model.specs.problem.Policy.{Plans}
 use Rattle.qp_model.specs.problem.Parts.{design_numbers, design_of}
@@ -10,29 +9,16 @@ use Rattle.command_line.specs.Words.{word_of}
 use Rattle.command_line.specs.Limit.{file_limit}
 use Rattle.command_line.specs.Answers.{Contents, FileHolds, IsFileRefused, IsAnswer}
 use Rattle.command_line.proofs.Composing.{told_at, told, for_contents, some_contents, stop, go_on, go_on_whole}
-use Rattle.command_line.proofs.Counts.{rose_later}
 use Rattle.command_line.specs.declared.status.Status.{Status}
-use Rattle.command_line.specs.declared.status.Status.TheVariants.{Text, Long}
 use Rattle.command_files.specs.Texts.{DesignRight, DesignWrong, PolicyRight, PolicyWrong}
 use Rattle.command_files.specs.Reading.{ReadsPolicy, IsDesignRead, EndsDesign, IsPolicyRead, EndsPolicy}
 use Rattle.command_files.proofs.Designs.{same_design}
 use Rattle.command_generate.specs.Generate.{HoldsInputs}
 use Rattle.command_lean.specs.Made.{LeanMakingCalls}
 use Rattle.command_lean.specs.Lean.{LeanCalls, LeanReaches}
-use Rattle.command_lean.specs.Reading.{IsLeanRefusal, IsLeanRefusedWith, AreLeanInputsRead, IsLeanAnswered, Ends}
+use Rattle.command_lean.specs.Reading.{lean_calls, lean_reaches, IsLeanRefusedWith, AreLeanInputsRead, EndsLeanInputs, IsLeanAnswered, Ends}
+use Rattle.command_generate.proofs.Ending.{file_ends}
 use Rattle.command_lean.proofs.Calling.{making_same}
-
--- ---- what a file is refused with
-long_refusal : (file : ℕ) (s : Status) → s ≡ Long file → IsLeanRefusal s
-long_refusal file s is = record { done = λ e. cc; memory = λ e. cc; read = λ f e. cc; write = λ f e. cc }
-
-text_refusal : (file : ℕ) (fault : TextFault) (s : Status) → s ≡ Text file fault → IsLeanRefusal s
-text_refusal file fault s is = record { done = λ e. cc; memory = λ e. cc; read = λ f e. cc; write = λ f e. cc }
-
-refusal_of : (file : ℕ) (Wrong : List ℕ → Status → Type 0) (content : Option (List ℕ)) (s : Status) → ((bytes : List ℕ) → Wrong bytes s → (fault : TextFault) × (s ≡ Text file fault)) →
-    IsFileRefused file_limit file Wrong content s → IsLeanRefusal s
-refusal_of file Wrong content s tells (inl long) = long_refusal file s long.is
-refusal_of file Wrong content s tells (inr wrong) = let told = tells wrong.bytes wrong.right in text_refusal file told.0 s told.1
 
 -- ---- what comes after the policy and the design
 abbrev pub AfterPolicy : (reference : Option (List ℕ)) → DesignParts → Plans → Status → Type 0
@@ -66,26 +52,12 @@ module _ (words : List (List ℕ)) (held : Option Files) where
   abbrev third : Option (List ℕ)
   third = told_at held (word_of words 3)
 
-  -- ---- what ends the later files ends them all
-  pub ends_later : (before mid now : List ℕ → ℕ) (s : Status) → NoneFalls before mid → NoneFalls mid now → Ends words held mid now s → Ends words held before now s
-  ends_later before mid now s low high (inl memory) = inl memory
-  ends_later before mid now s low high (inr (inl fault)) = inr (inl (record {
-    file = fault.file;
-    is = fault.is;
-    reached = fault.reached;
-    rose = rose_later _ _ _ (low.each (word_of words fault.file)) (high.each (word_of words fault.file)) fault.rose;
-  }))
-  ends_later before mid now s low high (inr (inr called)) = inr (inr called)
-
   -- ---- the design's file ends it
-  pub design_ends : (before now : List ℕ → ℕ) (s : Status) → EndsDesign 1 held (word_of words 1) (before (word_of words 1)) (now (word_of words 1)) s → Ends words held before now s
-  design_ends before now s (inl memory) = inl memory
-  design_ends before now s (inr (inl fault)) = inr (inl (record { file = 1; is = fault.0; reached = some_contents words held (Reached 1) (λ k. inl refl); rose = fault.1 }))
-  design_ends before now s (inr (inr wrong)) = inr (inr (record {
-    called = for_contents words held (Called s) wrong.content second third wrong.told (told held (word_of words 2)) (told held (word_of words 3))
-        (stop file_limit 1 (DesignWrong 1) DesignRight held (word_of words 1) s wrong (AfterDesign second third));
-    refusal = refusal_of 1 (DesignWrong 1) wrong.content s (λ bytes why. (why.0, why.2.1)) wrong.answer.called;
-  }))
+  design_ends : (before now : List ℕ → ℕ) (s : Status) → EndsDesign 1 held (word_of words 1) (before (word_of words 1)) (now (word_of words 1)) s → Ends words held before now s
+  design_ends before now s =
+      file_ends lean_calls lean_reaches words held 1 (DesignWrong 1) DesignRight before now s (λ bytes why. (why.0, why.2.1)) (some_contents words held (Reached 1) (λ k. inl refl))
+      (λ wrong. for_contents words held (Called s) wrong.content second third wrong.told (told held (word_of words 2)) (told held (word_of words 3))
+      (stop file_limit 1 (DesignWrong 1) DesignRight held (word_of words 1) s wrong (AfterDesign second third)))
 
   -- ---- the design is right
   module _ (p : DesignParts) (design : IsDesignRead 1 held (word_of words 1) p) where
@@ -93,19 +65,12 @@ module _ (words : List (List ℕ)) (held : Option Files) where
     with_design policy reference s answer =
         go_on file_limit 1 (DesignWrong 1) DesignRight design_numbers held (word_of words 1) p s design (AfterDesign policy reference) (λ y same t after. policy_same y p same policy reference t after) answer
 
-    pub policy_ends : (before now : List ℕ → ℕ) (s : Status) → EndsPolicy (design_of p) 2 held (word_of words 2) (before (word_of words 2)) (now (word_of words 2)) s → Ends words held before now s
-    policy_ends before now s (inl memory) = inl memory
-    policy_ends before now s (inr (inl fault)) = inr (inl (record {
-      file = 2;
-      is = fault.0;
-      reached = for_contents words held (Reached 2) design.content second third design.told (told held (word_of words 2)) (told held (word_of words 3)) (inr (inl (refl, p, design.right)));
-      rose = fault.1;
-    }))
-    policy_ends before now s (inr (inr wrong)) = inr (inr (record {
-      called = for_contents words held (Called s) design.content wrong.content third design.told wrong.told (told held (word_of words 3))
-          (with_design wrong.content third s (stop file_limit 2 (PolicyWrong (design_of p) 2) (PolicyRight (design_of p)) held (word_of words 2) s wrong (AfterPolicy third p)));
-      refusal = refusal_of 2 (PolicyWrong (design_of p) 2) wrong.content s (λ bytes why. (why.0, why.2.1)) wrong.answer.called;
-    }))
+    policy_ends : (before now : List ℕ → ℕ) (s : Status) → EndsPolicy (design_of p) 2 held (word_of words 2) (before (word_of words 2)) (now (word_of words 2)) s → Ends words held before now s
+    policy_ends before now s =
+        file_ends lean_calls lean_reaches words held 2 (PolicyWrong (design_of p) 2) (PolicyRight (design_of p)) before now s (λ bytes why. (why.0, why.2.1))
+        (for_contents words held (Reached 2) design.content second third design.told (told held (word_of words 2)) (told held (word_of words 3)) (inr (inl (refl, p, design.right))))
+        (λ wrong. for_contents words held (Called s) design.content wrong.content third design.told wrong.told (told held (word_of words 3))
+        (with_design wrong.content third s (stop file_limit 2 (PolicyWrong (design_of p) 2) (PolicyRight (design_of p)) held (word_of words 2) s wrong (AfterPolicy third p))))
 
     -- ---- the policy is right
     module _ (plans : Plans) (policy : IsPolicyRead (design_of p) 2 held (word_of words 2) plans) where
@@ -117,19 +82,12 @@ module _ (words : List (List ℕ)) (held : Option Files) where
           with_design policy.content reference s
           (go_on_whole file_limit 2 (PolicyWrong (design_of p) 2) (PolicyRight (design_of p)) held (word_of words 2) plans s policy (AfterPolicy reference p) answer)
 
-      pub reference_ends : (before now : List ℕ → ℕ) (s : Status) → EndsPolicy (design_of p) 3 held (word_of words 3) (before (word_of words 3)) (now (word_of words 3)) s → Ends words held before now s
-      reference_ends before now s (inl memory) = inl memory
-      reference_ends before now s (inr (inl fault)) = inr (inl (record {
-        file = 3;
-        is = fault.0;
-        reached = for_contents words held (Reached 3) design.content policy.content third design.told policy.told (told held (word_of words 3)) (inr (inr (refl, p, plans, inputs)));
-        rose = fault.1;
-      }))
-      reference_ends before now s (inr (inr wrong)) = inr (inr (record {
-        called = for_contents words held (Called s) design.content policy.content wrong.content design.told policy.told wrong.told
-            (with_policy wrong.content s (stop file_limit 3 (PolicyWrong (design_of p) 3) (PolicyRight (design_of p)) held (word_of words 3) s wrong (LeanMakingCalls p plans)));
-        refusal = refusal_of 3 (PolicyWrong (design_of p) 3) wrong.content s (λ bytes why. (why.0, why.2.1)) wrong.answer.called;
-      }))
+      reference_ends : (before now : List ℕ → ℕ) (s : Status) → EndsPolicy (design_of p) 3 held (word_of words 3) (before (word_of words 3)) (now (word_of words 3)) s → Ends words held before now s
+      reference_ends before now s =
+          file_ends lean_calls lean_reaches words held 3 (PolicyWrong (design_of p) 3) (PolicyRight (design_of p)) before now s (λ bytes why. (why.0, why.2.1))
+          (for_contents words held (Reached 3) design.content policy.content third design.told policy.told (told held (word_of words 3)) (inr (inr (refl, p, plans, inputs))))
+          (λ wrong. for_contents words held (Called s) design.content policy.content wrong.content design.told policy.told wrong.told
+          (with_policy wrong.content s (stop file_limit 3 (PolicyWrong (design_of p) 3) (PolicyRight (design_of p)) held (word_of words 3) s wrong (LeanMakingCalls p plans))))
 
       -- ---- all are right
       pub all_right : (references : Plans) (reference : IsPolicyRead (design_of p) 3 held (word_of words 3) references) (s : Status) → IsAnswer (LeanMakingCalls p plans references) s → IsLeanAnswered words held s
@@ -137,6 +95,12 @@ module _ (words : List (List ℕ)) (held : Option Files) where
           for_contents words held (Called s) design.content policy.content reference.content design.told policy.told reference.told
           (with_policy reference.content s
           (go_on_whole file_limit 3 (PolicyWrong (design_of p) 3) (PolicyRight (design_of p)) held (word_of words 3) references s reference (LeanMakingCalls p plans) answer))
+
+  -- ---- one of them ends it
+  pub inputs_end : (before now : List ℕ → ℕ) (s : Status) → EndsLeanInputs words held before now s → Ends words held before now s
+  inputs_end before now s (inl (inl design)) = design_ends before now s design
+  inputs_end before now s (inl (inr policy)) = policy_ends policy.0 policy.1 before now s policy.2
+  inputs_end before now s (inr reference) = reference_ends reference.0 reference.2.design reference.1 reference.2.policy before now s reference.3
 
   -- ---- they are refused
   pub refused_ends : (p : DesignParts) (plans references : Plans) → AreLeanInputsRead words held p plans references → (before now : List ℕ → ℕ) (s : Status) → IsLeanRefusedWith p plans references s → Ends words held before now s

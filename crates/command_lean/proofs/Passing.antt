@@ -13,10 +13,10 @@ use Rattle.qp_model.specs.declared.design_parts.DesignParts.{DesignParts}
 use Rattle.qp_model.specs.bounds.Printed.{Printed}
 use Rattle.qp_model.specs.declared.bounds.Margin.{Margin}
 use Rattle.qp_model.specs.declared.quantity.Quantity.TheVariants as quantity
-use Rattle.design_engine.specs.Targets.{Targets, targets_of}
-use Rattle.design_engine.specs.Aims.{steps_of, IsMadeWith}
-use Rattle.design_engine.specs.Tests.{width_of, PassesForm, PassesBits}
-use Rattle.design_engine.specs.Refusals.{PassesMargin}
+use Rattle.command_generate.specs.Engine.Targets.{Targets, targets_of}
+use Rattle.command_generate.specs.Engine.Aims.{steps_of, IsMadeWith}
+use Rattle.command_generate.specs.Engine.Tests.{width_of, PassesForm, PassesBits}
+use Rattle.command_generate.specs.Engine.Refusals.{PassesMargin}
 use Rattle.design_refusal.specs.declared.refusal.Refusal.{Refusal}
 use Rattle.design_refusal.specs.declared.refusal.Refusal.TheVariants.{TooWide}
 use Rattle.lean_engine.specs.Lean.{lean_aim, IsLeanBuilt}

@@ -1,17 +1,15 @@
 -- What is written, and the clauses of the whole.
 use Rattle.std.proofs.Common.{◌≡◌, ◌≢◌, ◌⊎◌, inl, inr, ℕ, List, Option, Some, None, sym, subst, ◌∙◌}
 use Rattle.std.specs.Prelude.{IfSome, IsSomeAnd}
-use Rattle.io_edge.specs.Faults.{Files, Rose, IsCutShort, IsProperPrefix}
+use Rattle.io_edge.specs.Faults.{Files, IsCutShort, IsProperPrefix}
 use Rattle.qp_model.specs.problem.Parts.{design_of}
 use Rattle.command_line.specs.Words.{word_of}
 use Rattle.command_line.specs.Limit.{file_limit}
-use Rattle.command_line.specs.Answers.{ForContents, FileHolds, IsCaused}
-use Rattle.command_line.specs.declared.status.Status.{Status}
-use Rattle.command_line.specs.declared.status.Status.TheVariants.{Done, ReadFault, WriteFault}
+use Rattle.command_line.specs.Answers.{FileHolds}
 use Rattle.command_files.specs.Texts.{DesignRight, PolicyRight}
 use Rattle.command_generate.specs.Writing.{AreWritten, IsSecondCut}
-use Rattle.command_lean.specs.Lean.{LeanReaches, IsMadeOfFiles, IsLeanWritten, IsLeanControllerCut, IsLeanReportCut}
-use Rattle.command_lean.specs.Reading.{AreLeanInputsRead, IsLeanAnswered, AreLeanTextsFrom, Ends}
+use Rattle.command_lean.specs.Lean.{IsMadeOfFiles, IsLeanWritten, IsLeanControllerCut, IsLeanReportCut}
+use Rattle.command_lean.specs.Reading.{AreLeanInputsRead, AreLeanTextsFrom}
 
 -- ---- the files that were told before, and after
 module _ (words : List (List ℕ)) (text report : List ℕ) where
@@ -75,29 +73,3 @@ module _ (words : List (List ℕ)) (text report : List ℕ) where
             (new (word_of words 5) ≡ files (word_of words 5)) ⊎ IsSomeAnd (new (word_of words 5)) (IsProperPrefix report)
         kept (inl same) = inl (same ∙ written.first.others (word_of words 5) apart)
         kept (inr front) = inr front
-
--- ---- a file ended it, or the design with the policy and the reference plans
-module _ (words : List (List ℕ)) (held : Option Files) (before now : List ℕ → ℕ) (s : Status) where
-  pub stop_called : Ends words held before now s → IsCaused s → IsLeanAnswered words held s
-  stop_called (inl memory) caused = absurd (caused.memory memory)
-  stop_called (inr (inl fault)) caused = absurd (caused.read fault.file fault.is)
-  stop_called (inr (inr refused)) caused = refused.called
-
-  pub stop_not_done : Ends words held before now s → s ≢ Done
-  stop_not_done (inl memory) is = cc
-  stop_not_done (inr (inl fault)) is = let e = fault.is in cc
-  stop_not_done (inr (inr refused)) is = refused.refusal.done is
-
-  pub stop_no_write : Ends words held before now s → (file : ℕ) → s ≢ WriteFault file
-  stop_no_write (inl memory) file is = cc
-  stop_no_write (inr (inl fault)) file is = let e = fault.is in cc
-  stop_no_write (inr (inr refused)) file is = refused.refusal.write file is
-
-  pub stop_fault : Ends words held before now s → (file : ℕ) → s ≡ ReadFault file →
-      ForContents words held (λ k. LeanReaches (k 1) (k 2) file) × Rose (before (word_of words file)) (now (word_of words file))
-  stop_fault (inl memory) file is = absurd (let never : ⊥ = cc in never)
-  stop_fault (inr (inl fault)) file is = let e = fault.is in let same : fault.file ≡ file = cc in (
-    subst (λ (i : ℕ). ForContents words held (λ k. LeanReaches (k 1) (k 2) i)) same fault.reached,
-    subst (λ (i : ℕ). Rose (before (word_of words i)) (now (word_of words i))) same fault.rose,
-  )
-  stop_fault (inr (inr refused)) file is = absurd (refused.refusal.read file is)

@@ -12,7 +12,7 @@ use Rattle.command_line.specs.Limit.{file_limit}
 use Rattle.command_line.specs.Answers.{FileHolds}
 use Rattle.command_files.specs.Texts.{DesignRight, PolicyRight}
 use Rattle.command_files.specs.Reading.{ReadsDesign, ReadsPolicy}
-use Rattle.command_controller.specs.Made.{IsReport}
+use Rattle.command_generate.specs.Made.{IsReport}
 use Rattle.command_generate.specs.Generate.{HoldsInputs}
 use Rattle.command_lean.specs.Made.{LeanMakingCalls, IsLeanMadeOf}
 use Rattle.command_line.specs.declared.status.Status.{Status}

@@ -3,13 +3,13 @@ ghost use Rattle.std.specs.Prelude.{◌≡◌, ◌⊎◌, pos, unsigned_abs, IfO
 ghost use Rattle.qp_model.specs.problem.Parts.{design_of};
 ghost use Rattle.qp_model.specs.problem.Policy.{plans_of, IsPolicyFor};
 ghost use Rattle.qp_model.specs.bounds.Printed.{printed};
-ghost use Rattle.design_engine.specs.Bounds.{stated_cost};
+ghost use Rattle.command_generate.specs.Engine.Bounds.{stated_cost};
 ghost use Rattle.command_line.specs.Answers.{IsAnswer};
 ghost use Rattle.command_lean.specs.Made.{LeanMakingCalls, IsLeanMadeOf};
 ghost use Rattle.command_lean.specs.Reading.{IsLeanRefusedWith};
 
+use command_generate::Made;
 use command_line::Status;
-use design_engine::Made;
 use lean_engine::generate_lean;
 use qp_model::{Design, Policy};
 use std::alloc::Global;

@@ -3,12 +3,11 @@ ghost use Rattle.std.specs.Prelude.{◌≡◌, IfOk, IfErr};
 ghost use Rattle.io_edge.specs.Faults.{NoneFalls};
 ghost use Rattle.qp_model.specs.problem.Parts.{design_of};
 ghost use Rattle.qp_model.specs.problem.Policy.{plans_of, IsPolicyFor};
-ghost use Rattle.command_line.specs.Words.{word_of, IsLean};
-ghost use Rattle.command_files.specs.Reading.{IsDesignRead, IsPolicyRead};
+ghost use Rattle.command_line.specs.Words.{IsLean};
 ghost use Rattle.command_lean.specs.Reading.{AreTextsOf, AreLeanTextsFrom, IsLeanRefusedWith, Ends};
 
+use crate::inputs::read_lean_inputs;
 use crate::made::make_lean;
-use command_files::{read_design_file, read_policy_file};
 use command_generate::{Texts, texts_made};
 use command_line::Status;
 use io_edge::{Store, Words};
@@ -32,47 +31,6 @@ fn texts_of(
     texts_made(alloc, &made, report_name)
 }
 
-// The texts, after two files were read.
-fn texts_after_policy<S: Store>(
-    alloc: Global,
-    words: &Words,
-    design: &Design,
-    policy: &Policy,
-    store: &mut S,
-) -> Result<Texts, Status>
-    requires words { IsLean words.now }
-    requires design { IsDesignRead 1 (S.held store.old) (word_of words.now 1) design.now }
-    requires policy { IsPolicyRead (design_of design.now) 2 (S.held store.old) (word_of words.now 2) (plans_of policy.now) }
-    requires plans { IsPolicyFor (design_of design.now) (plans_of policy.now) }
-    ensures texts { IfOk result (λ t. AreLeanTextsFrom words.now (S.held store.old) t.controller.items t.report.items) }
-    ensures ends { IfErr result (Ends words.now (S.held store.old) (S.read_faults store.old) (S.read_faults store.new)) }
-    ensures held { S.held store.new ≡ S.held store.old }
-    ensures reads { NoneFalls (S.read_faults store.old) (S.read_faults store.new) }
-    ensures writes { NoneFalls (S.write_faults store.old) (S.write_faults store.new) }
-{
-    let reference = read_policy_file(alloc, 3, words.at(3), design, store)?;
-    texts_of(alloc, design, policy, &reference, words.at(5))
-}
-
-// The texts, after the design was read.
-fn texts_after_design<S: Store>(
-    alloc: Global,
-    words: &Words,
-    design: &Design,
-    store: &mut S,
-) -> Result<Texts, Status>
-    requires words { IsLean words.now }
-    requires design { IsDesignRead 1 (S.held store.old) (word_of words.now 1) design.now }
-    ensures texts { IfOk result (λ t. AreLeanTextsFrom words.now (S.held store.old) t.controller.items t.report.items) }
-    ensures ends { IfErr result (Ends words.now (S.held store.old) (S.read_faults store.old) (S.read_faults store.new)) }
-    ensures held { S.held store.new ≡ S.held store.old }
-    ensures reads { NoneFalls (S.read_faults store.old) (S.read_faults store.new) }
-    ensures writes { NoneFalls (S.write_faults store.old) (S.write_faults store.new) }
-{
-    let policy = read_policy_file(alloc, 2, words.at(2), design, store)?;
-    texts_after_policy(alloc, words, design, &policy, store)
-}
-
 /// Both texts of the design, the policy and the reference plans in the first three files; or the status that ends the run.
 pub(crate) fn texts_for<S: Store>(
     alloc: Global,
@@ -86,6 +44,12 @@ pub(crate) fn texts_for<S: Store>(
     ensures reads { NoneFalls (S.read_faults store.old) (S.read_faults store.new) }
     ensures writes { NoneFalls (S.write_faults store.old) (S.write_faults store.new) }
 {
-    let design = read_design_file(alloc, 1, words.at(1), store)?;
-    texts_after_design(alloc, words, &design, store)
+    let read = read_lean_inputs(alloc, words, store)?;
+    texts_of(
+        alloc,
+        &read.inputs.design,
+        &read.inputs.policy,
+        &read.reference,
+        words.at(5),
+    )
 }

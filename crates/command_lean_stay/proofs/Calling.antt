@@ -8,15 +8,15 @@ use Rattle.qp_model.specs.machine.Controller.{Numbers}
 use Rattle.qp_model.specs.bounds.Printed.{Printed}
 use Rattle.qp_model.specs.declared.design_parts.DesignParts.{DesignParts}
 use Rattle.stay_check.specs.FaceForms.{FaceNumbers}
-use Rattle.design_engine.specs.Targets.{targets_of, violation_target}
-use Rattle.design_engine.specs.Bounds.{stated_cost}
+use Rattle.command_stay.specs.Generating.Engine.Targets.{targets_of, violation_target}
+use Rattle.command_stay.specs.Generating.Engine.Bounds.{stated_cost}
 use Rattle.design_refusal.specs.declared.refusal.Refusal.{Refusal}
-use Rattle.lean_engine.specs.Refusals.{HasLeanCause, PassesLean}
+use Rattle.command_lean.specs.LeanEngine.Refusals.{HasLeanCause, PassesLean}
 use Rattle.command_line.specs.Answers.{IsAnswer}
 use Rattle.command_line.specs.Status.{status_of}
 use Rattle.command_line.specs.declared.status.Status.{Status}
 use Rattle.command_line.specs.declared.status.Status.TheVariants.{Done, Memory}
-use Rattle.command_controller.proofs.Making.{refusal_not_done}
+use Rattle.command_stay.proofs.Generating.Making.{refusal_not_done}
 use Rattle.command_stay.specs.Checking.{AreSmall, IsKept, IsCaught}
 use Rattle.command_stay.proofs.Calling.{refused_calls, kept_calls, caught_calls}
 use Rattle.command_lean.specs.Made.{LeanMakingCalls, IsLeanRefusedBy, IsLeanMadeOf, PassesForLean}

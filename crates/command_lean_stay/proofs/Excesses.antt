@@ -17,18 +17,16 @@ use Rattle.qp_model.specs.machine.Machine.{exponent_of}
 use Rattle.qp_model.specs.bounds.Printed.{Printed}
 use Rattle.qp_model.specs.declared.design_parts.DesignParts.{DesignParts}
 use Rattle.qp_model.specs.declared.bounds.Margin.{Margin}
-use Rattle.plant_condense.proofs.FormLaws.{form_law}
-use Rattle.real_error.proofs.RealCosts as costs
-use Rattle.hessian_check.proofs.RowExponentLaws.{one_list_law}
 use Rattle.stay_check.specs.LoopStay.{CoversPrinted}
-use Rattle.design_engine.specs.Targets.{targets_of, violation_target}
-use Rattle.design_engine.specs.Aims.{steps_of, AreBitsOf}
-use Rattle.design_engine.specs.Bounds.{stated_cost}
-use Rattle.design_engine.proofs.OneOfEach.{one_margin, one_exponent, one_choice}
-use Rattle.design_engine.proofs.GenerationFacts.{at_most}
-use Rattle.lean_engine.specs.Lean.{bound_of, lean_aim, IsLeanBuilt}
-use Rattle.lean_engine.specs.Refusals.{policy_excess, aim_at, PassesLean}
-use Rattle.lean_engine.proofs.LeanFacts.{bound_some, bound_narrow, limit_small}
+use Rattle.command_stay.specs.Generating.Engine.Targets.{targets_of, violation_target}
+use Rattle.command_stay.specs.Generating.Engine.Aims.{steps_of, AreBitsOf}
+use Rattle.command_stay.specs.Generating.Engine.Bounds.{stated_cost}
+use Rattle.command_stay.proofs.Generating.Engine.OneOfEach.{one_margin, one_exponent, one_exponents, one_choice}
+use Rattle.command_stay.proofs.Generating.Engine.BuiltFacts.{made_within}
+use Rattle.command_stay.proofs.Generating.Engine.GenerationFacts.{at_most}
+use Rattle.command_lean.specs.LeanEngine.Lean.{bound_of, lean_aim, IsLeanBuilt}
+use Rattle.command_lean.specs.LeanEngine.Refusals.{policy_excess, aim_at, PassesLean}
+use Rattle.command_lean.proofs.LeanEngine.LeanFacts.{bound_some, bound_narrow, limit_small}
 use Rattle.command_stay.specs.Checking.{AreSmall}
 use Rattle.command_stay.proofs.Excesses.{ceil_mono}
 use Rattle.command_lean_stay.specs.Excess.{lean_bound_at, stated_lean_excess, AreStatedLeanExcesses, made_lean_excess}
@@ -54,7 +52,7 @@ module _ (p : DesignParts) (plans references : Plans) (design : IsDesign p) (pol
       (subst (λ (m : Margin). AreBitsOf (design_of p) (aim_at (design_of p) (targets_of p) plans references m) h.bits) margin h.passes.aim.before.choice) k.passes.aim.before.choice
 
   exponents : h.exponents ≡ k.exponents
-  exponents = one_list_law (design_of p) k.exponent h.exponents k.exponents (rw exponent at h.own) k.own
+  exponents = one_exponents (design_of p) k.exponent h.exponents k.exponents (rw exponent at h.own) k.own
 
   pub one_excess : xs ≡ ys
   one_excess = ext_get_or (pos 0) xs ys (h.holds.long ∙ sym k.holds.long) (λ i l.
@@ -150,7 +148,7 @@ module _ (p : DesignParts) (plans references : Plans) (c : Numbers) (b : Printed
     }
 
     real_within : real_cost (design_of p) (form_of (design_of p)) r c ≤ stated_cost (design_of p) r c.fraction_bits
-    real_within = costs.cost p (form_of (design_of p)) r c built.made.design (form_law p built.made.design built.made.narrow) built.made.made
+    real_within = made_within p (lean_aim (targets_of p) units (unsigned_abs b.cost)) c built.made
 
     pub covers : CoversPrinted (design_of p) b (at xs)
     covers i l =

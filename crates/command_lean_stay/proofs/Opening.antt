@@ -1,6 +1,6 @@
 -- What the files make of the answer where one of them ends it, and where all are right.
 use Rattle.std.proofs.Common.{◌≡◌, inl, inr, ℕ, Bool, true, false, List, Option, refl, subst}
-use Rattle.io_edge.specs.Faults.{Files, NoneFalls}
+use Rattle.io_edge.specs.Faults.{Files}
 use Rattle.integer_algebra.specs.Sums.{at}
 use Rattle.mat_int.specs.Matrix.{Matrix}
 use Rattle.qp_model.specs.problem.Design.{Design}
@@ -8,22 +8,22 @@ use Rattle.qp_model.specs.problem.Policy.{Plans}
 use Rattle.qp_model.specs.problem.Parts.{design_numbers, design_of}
 use Rattle.qp_model.specs.declared.design_parts.DesignParts.{DesignParts}
 use Rattle.stay_check.specs.FaceForms.{FaceNumbers}
-use Rattle.lean_engine.specs.Refusals.{HasLeanCause}
+use Rattle.command_lean.specs.LeanEngine.Refusals.{HasLeanCause}
 use Rattle.command_line.specs.Words.{word_of}
 use Rattle.command_line.specs.Limit.{file_limit}
 use Rattle.command_line.specs.Answers.{Contents, IsTold, ForContents, FileHolds, IsFileRefused, IsAnswer}
 use Rattle.command_line.proofs.Composing.{told_at, told, told_contents, all_told, replace, replaced_told, some_contents, stop, go_on, go_on_whole}
-use Rattle.command_line.proofs.Counts.{rose_later}
 use Rattle.command_line.specs.declared.status.Status.{Status}
-use Rattle.command_files.specs.Texts.{DesignRight, DesignWrong, PolicyRight, PolicyWrong, FacesRight, FacesWrong, RangeRight, RangeWrong}
-use Rattle.command_files.specs.Reading.{ReadsPolicy, ReadsFaces, IsDesignRead, EndsDesign, IsPolicyRead, EndsPolicy, AreFacesRead, EndsFaces}
-use Rattle.command_files.proofs.Designs.{same_design}
-use Rattle.command_controller.proofs.SameDesign.{along}
-use Rattle.command_generate.specs.Generate.{HoldsInputs}
+use Rattle.command_stay.specs.Files.Texts.{DesignRight, DesignWrong, PolicyRight, PolicyWrong, FacesRight, FacesWrong, RangeRight, RangeWrong}
+use Rattle.command_stay.specs.Files.Reading.{ReadsPolicy, ReadsFaces, IsDesignRead, EndsDesign, IsPolicyRead, EndsPolicy, AreFacesRead, EndsFaces}
+use Rattle.command_stay.proofs.Files.Designs.{same_design}
+use Rattle.command_stay.proofs.Generating.SameDesign.{along}
+use Rattle.command_stay.specs.Generating.Generate.{HoldsInputs}
 use Rattle.command_stay.specs.Stay.{FacesCall, ReadsShifts}
-use Rattle.command_stay.specs.Reading.{EndsTaking}
-use Rattle.command_stay.proofs.Opening.{refusal_of, faces_same, with_range}
-use Rattle.command_lean.specs.Reading.{AreLeanInputsRead}
+use Rattle.command_stay.specs.Reading.{EndsTaking, EndsFacesUnder}
+use Rattle.command_stay.proofs.Generating.Ending.{file_ends}
+use Rattle.command_stay.proofs.Opening.{faces_same, with_range}
+use Rattle.command_lean.specs.Reading.{AreLeanInputsRead, EndsLeanInputs}
 use Rattle.command_lean_stay.specs.Excess.{AreStatedLeanExcesses}
 use Rattle.command_lean_stay.specs.LeanStay.{LeanStayingCalls, LeanStayCalls, LeanStayCallsFor, LeanStayReachesFor, HoldsReference}
 use Rattle.command_lean_stay.specs.Reading.{IsLeanStayRefusedWith, AreLeanStayFilesRead, IsLeanStayAnswered, EndsLeanStaying}
@@ -109,28 +109,13 @@ module _ (disturbed : Bool) (words : List (List ℕ)) (held : Option Files) wher
   later : (file : ℕ) → IsTold held (word_of words file) (told_at held (word_of words file))
   later file = told held (word_of words file)
 
-  -- ---- what ends the later files ends them all
-  pub ends_later : (before mid now : List ℕ → ℕ) (s : Status) → NoneFalls before mid → NoneFalls mid now → EndsLeanStaying disturbed words held mid now s →
-      EndsLeanStaying disturbed words held before now s
-  ends_later before mid now s low high (inl memory) = inl memory
-  ends_later before mid now s low high (inr (inl fault)) = inr (inl (record {
-    file = fault.file;
-    is = fault.is;
-    reached = fault.reached;
-    rose = rose_later _ _ _ (low.each (word_of words fault.file)) (high.each (word_of words fault.file)) fault.rose;
-  }))
-  ends_later before mid now s low high (inr (inr called)) = inr (inr called)
-
   -- ---- the design's file ends it
-  pub design_ends : (before now : List ℕ → ℕ) (s : Status) → EndsDesign 1 held (word_of words 1) (before (word_of words 1)) (now (word_of words 1)) s →
+  design_ends : (before now : List ℕ → ℕ) (s : Status) → EndsDesign 1 held (word_of words 1) (before (word_of words 1)) (now (word_of words 1)) s →
       EndsLeanStaying disturbed words held before now s
-  design_ends before now s (inl memory) = inl memory
-  design_ends before now s (inr (inl fault)) = inr (inl (record { file = 1; is = fault.0; reached = some_contents words held (Reached 1) (λ k. inl refl); rose = fault.1 }))
-  design_ends before now s (inr (inr wrong)) = inr (inr (record {
-    called = for_five words held (Called s) wrong.content second third sixth seventh wrong.told (later 2) (later 3) (later 6) (later 7)
-        (stop file_limit 1 (DesignWrong 1) DesignRight held (word_of words 1) s wrong (AfterDesign disturbed second third sixth seventh));
-    refusal = refusal_of 1 (DesignWrong 1) wrong.content s (λ bytes why. (why.0, why.2.1)) wrong.answer.called;
-  }))
+  design_ends before now s =
+      file_ends (LeanStayCallsFor disturbed) (LeanStayReachesFor disturbed) words held 1 (DesignWrong 1) DesignRight before now s (λ bytes why. (why.0, why.2.1)) (some_contents words held (Reached 1) (λ k. inl refl))
+      (λ wrong. for_five words held (Called s) wrong.content second third sixth seventh wrong.told (later 2) (later 3) (later 6) (later 7)
+      (stop file_limit 1 (DesignWrong 1) DesignRight held (word_of words 1) s wrong (AfterDesign disturbed second third sixth seventh)))
 
   -- ---- the design is right
   module _ (p : DesignParts) (design : IsDesignRead 1 held (word_of words 1) p) where
@@ -140,21 +125,14 @@ module _ (disturbed : Bool) (words : List (List ℕ)) (held : Option Files) wher
         go_on file_limit 1 (DesignWrong 1) DesignRight design_numbers held (word_of words 1) p s design (AfterDesign disturbed policy reference faces shifts)
         (λ y same t after. policy_same y p same disturbed policy reference faces shifts t after) answer
 
-    pub policy_ends : (before now : List ℕ → ℕ) (s : Status) → EndsPolicy (design_of p) 2 held (word_of words 2) (before (word_of words 2)) (now (word_of words 2)) s →
+    policy_ends : (before now : List ℕ → ℕ) (s : Status) → EndsPolicy (design_of p) 2 held (word_of words 2) (before (word_of words 2)) (now (word_of words 2)) s →
         EndsLeanStaying disturbed words held before now s
-    policy_ends before now s (inl memory) = inl memory
-    policy_ends before now s (inr (inl fault)) = inr (inl (record {
-      file = 2;
-      is = fault.0;
-      reached = for_five words held (Reached 2) design.content second third sixth seventh design.told (later 2) (later 3) (later 6) (later 7) (inr (inl (refl, p, design.right)));
-      rose = fault.1;
-    }))
-    policy_ends before now s (inr (inr wrong)) = inr (inr (record {
-      called = for_five words held (Called s) design.content wrong.content third sixth seventh design.told wrong.told (later 3) (later 6) (later 7)
-          (with_design wrong.content third sixth seventh s
-          (stop file_limit 2 (PolicyWrong (design_of p) 2) (PolicyRight (design_of p)) held (word_of words 2) s wrong (AfterPolicy disturbed third sixth seventh p)));
-      refusal = refusal_of 2 (PolicyWrong (design_of p) 2) wrong.content s (λ bytes why. (why.0, why.2.1)) wrong.answer.called;
-    }))
+    policy_ends before now s =
+        file_ends (LeanStayCallsFor disturbed) (LeanStayReachesFor disturbed) words held 2 (PolicyWrong (design_of p) 2) (PolicyRight (design_of p)) before now s (λ bytes why. (why.0, why.2.1))
+        (for_five words held (Reached 2) design.content second third sixth seventh design.told (later 2) (later 3) (later 6) (later 7) (inr (inl (refl, p, design.right))))
+        (λ wrong. for_five words held (Called s) design.content wrong.content third sixth seventh design.told wrong.told (later 3) (later 6) (later 7)
+        (with_design wrong.content third sixth seventh s
+        (stop file_limit 2 (PolicyWrong (design_of p) 2) (PolicyRight (design_of p)) held (word_of words 2) s wrong (AfterPolicy disturbed third sixth seventh p))))
 
     -- ---- the policy is right
     module _ (plans : Plans) (policy : IsPolicyRead (design_of p) 2 held (word_of words 2) plans) where
@@ -167,22 +145,14 @@ module _ (disturbed : Bool) (words : List (List ℕ)) (held : Option Files) wher
           with_design policy.content reference faces shifts s
           (go_on_whole file_limit 2 (PolicyWrong (design_of p) 2) (PolicyRight (design_of p)) held (word_of words 2) plans s policy (AfterPolicy disturbed reference faces shifts p) answer)
 
-      pub reference_ends : (before now : List ℕ → ℕ) (s : Status) → EndsPolicy (design_of p) 3 held (word_of words 3) (before (word_of words 3)) (now (word_of words 3)) s →
+      reference_ends : (before now : List ℕ → ℕ) (s : Status) → EndsPolicy (design_of p) 3 held (word_of words 3) (before (word_of words 3)) (now (word_of words 3)) s →
           EndsLeanStaying disturbed words held before now s
-      reference_ends before now s (inl memory) = inl memory
-      reference_ends before now s (inr (inl fault)) = inr (inl (record {
-        file = 3;
-        is = fault.0;
-        reached = for_five words held (Reached 3) design.content policy.content third sixth seventh design.told policy.told (later 3) (later 6) (later 7)
-            (inr (inr (inl (refl, p, plans, inputs))));
-        rose = fault.1;
-      }))
-      reference_ends before now s (inr (inr wrong)) = inr (inr (record {
-        called = for_five words held (Called s) design.content policy.content wrong.content sixth seventh design.told policy.told wrong.told (later 6) (later 7)
-            (with_policy wrong.content sixth seventh s
-            (stop file_limit 3 (PolicyWrong (design_of p) 3) (PolicyRight (design_of p)) held (word_of words 3) s wrong (AfterReference disturbed sixth seventh p plans)));
-        refusal = refusal_of 3 (PolicyWrong (design_of p) 3) wrong.content s (λ bytes why. (why.0, why.2.1)) wrong.answer.called;
-      }))
+      reference_ends before now s =
+          file_ends (LeanStayCallsFor disturbed) (LeanStayReachesFor disturbed) words held 3 (PolicyWrong (design_of p) 3) (PolicyRight (design_of p)) before now s (λ bytes why. (why.0, why.2.1))
+          (for_five words held (Reached 3) design.content policy.content third sixth seventh design.told policy.told (later 3) (later 6) (later 7) (inr (inr (inl (refl, p, plans, inputs)))))
+          (λ wrong. for_five words held (Called s) design.content policy.content wrong.content sixth seventh design.told policy.told wrong.told (later 6) (later 7)
+          (with_policy wrong.content sixth seventh s
+          (stop file_limit 3 (PolicyWrong (design_of p) 3) (PolicyRight (design_of p)) held (word_of words 3) s wrong (AfterReference disturbed sixth seventh p plans))))
 
 -- ---- the reference plans are right
 module _ (disturbed : Bool) (words : List (List ℕ)) (held : Option Files) (p : DesignParts) (plans references : Plans) (read : AreLeanInputsRead words held p plans references) where
@@ -201,23 +171,15 @@ module _ (disturbed : Bool) (words : List (List ℕ)) (held : Option Files) (p :
       (go_on_whole file_limit 3 (PolicyWrong (design_of p) 3) (PolicyRight (design_of p)) held (word_of words 3) references s read.reference (AfterReference disturbed faces shifts p plans)
       answer)
 
-  pub faces_ends : (before now : List ℕ → ℕ) (s : Status) → EndsFaces (design_of p) 6 held (word_of words 6) (before (word_of words 6)) (now (word_of words 6)) s →
+  faces_ends : (before now : List ℕ → ℕ) (s : Status) → EndsFaces (design_of p) 6 held (word_of words 6) (before (word_of words 6)) (now (word_of words 6)) s →
       EndsLeanStaying disturbed words held before now s
-  faces_ends before now s (inl memory) = inl memory
-  faces_ends before now s (inr (inl fault)) = inr (inl (record {
-    file = 6;
-    is = fault.0;
-    reached = for_later (λ k. LeanStayReachesFor disturbed k 6) (told_at held (word_of words 6)) (told_at held (word_of words 7)) (told held (word_of words 6)) (told held (word_of words 7))
-        (inr (inr (inr (inl (refl, p, plans, references, inputs_held)))));
-    rose = fault.1;
-  }))
-  faces_ends before now s (inr (inr wrong)) = inr (inr (record {
-    called = for_later (λ k. IsAnswer (LeanStayCallsFor disturbed k) s) wrong.content (told_at held (word_of words 7)) wrong.told (told held (word_of words 7))
-        (with_reference wrong.content (told_at held (word_of words 7)) s
-        (stop file_limit 6 (FacesWrong (design_of p) 6) (FacesRight (design_of p)) held (word_of words 6) s wrong
-        (AfterFaces disturbed (told_at held (word_of words 7)) p plans references)));
-    refusal = refusal_of 6 (FacesWrong (design_of p) 6) wrong.content s (λ bytes why. (why.0, why.2.1)) wrong.answer.called;
-  }))
+  faces_ends before now s =
+      file_ends (LeanStayCallsFor disturbed) (LeanStayReachesFor disturbed) words held 6 (FacesWrong (design_of p) 6) (FacesRight (design_of p)) before now s (λ bytes why. (why.0, why.2.1))
+      (for_later (λ k. LeanStayReachesFor disturbed k 6) (told_at held (word_of words 6)) (told_at held (word_of words 7)) (told held (word_of words 6)) (told held (word_of words 7)) (inr (inr (inr (inl (refl, p, plans, references, inputs_held))))))
+      (λ wrong. for_later (λ k. IsAnswer (LeanStayCallsFor disturbed k) s) wrong.content (told_at held (word_of words 7)) wrong.told (told held (word_of words 7))
+      (with_reference wrong.content (told_at held (word_of words 7)) s
+      (stop file_limit 6 (FacesWrong (design_of p) 6) (FacesRight (design_of p)) held (word_of words 6) s wrong
+      (AfterFaces disturbed (told_at held (word_of words 7)) p plans references))))
 
   -- ---- the faces are right
   module _ (f : FaceNumbers) (faces : AreFacesRead (design_of p) 6 held (word_of words 6) f) where
@@ -229,27 +191,30 @@ module _ (disturbed : Bool) (words : List (List ℕ)) (held : Option Files) (p :
         (go_on_whole file_limit 6 (FacesWrong (design_of p) 6) (FacesRight (design_of p)) held (word_of words 6) f s faces (AfterFaces disturbed shifts p plans references) answer))
 
 -- ---- the range ends it
-pub range_ends : (disturbed : Bool) (words : List (List ℕ)) (held : Option Files) (p : DesignParts) (plans references : Plans) (read : AreLeanInputsRead words held p plans references)
+range_ends : (disturbed : Bool) (words : List (List ℕ)) (held : Option Files) (p : DesignParts) (plans references : Plans) (read : AreLeanInputsRead words held p plans references)
     (f : FaceNumbers) (faces : AreFacesRead (design_of p) 6 held (word_of words 6) f) (before now : List ℕ → ℕ) (s : Status) →
     EndsTaking disturbed (design_of p).states 7 held (word_of words 7) (before (word_of words 7)) (now (word_of words 7)) s → EndsLeanStaying disturbed words held before now s
 range_ends false words held p plans references read f faces before now s memory = inl memory
-range_ends true words held p plans references read f faces before now s (inl memory) = inl memory
-range_ends true words held p plans references read f faces before now s (inr (inl fault)) = inr (inl (record {
-  file = 7;
-  is = fault.0;
-  reached = for_later true words held p plans references read (λ k. LeanStayReachesFor true k 7) faces.content (told_at held (word_of words 7)) faces.told (told held (word_of words 7))
-      (inr (inr (inr (inr (
-        refl,
-        refl,
-        record { p = p; plans = plans; references = references; inputs = inputs_held true words held p plans references read; numbers = f; faces_right = faces.right },
-      )))));
-  rose = fault.1;
-}))
-range_ends true words held p plans references read f faces before now s (inr (inr wrong)) = inr (inr (record {
-  called = four_right true words held p plans references read f faces wrong.content s wrong.told
-      (stop file_limit 7 (RangeWrong (design_of p).states 7) (RangeRight (design_of p).states) held (word_of words 7) s wrong (LeanStayingCalls p plans references f));
-  refusal = refusal_of 7 (RangeWrong (design_of p).states 7) wrong.content s (λ bytes why. (why.0, why.2.1)) wrong.answer.called;
-}))
+range_ends true words held p plans references read f faces before now s ends =
+    file_ends (LeanStayCallsFor true) (LeanStayReachesFor true) words held 7 (RangeWrong (design_of p).states 7) (RangeRight (design_of p).states) before now s (λ bytes why. (why.0, why.2.1))
+    (for_later true words held p plans references read (λ k. LeanStayReachesFor true k 7) faces.content (told_at held (word_of words 7)) faces.told (told held (word_of words 7))
+    (inr (inr (inr (inr (refl, refl, record { p = p; plans = plans; references = references; inputs = inputs_held true words held p plans references read; numbers = f; faces_right = faces.right }))))))
+    (λ wrong. four_right true words held p plans references read f faces wrong.content s wrong.told
+    (stop file_limit 7 (RangeWrong (design_of p).states 7) (RangeRight (design_of p).states) held (word_of words 7) s wrong (LeanStayingCalls p plans references f))) ends
+
+-- ---- one of the first three ends it, or of the others
+pub inputs_end : (disturbed : Bool) (words : List (List ℕ)) (held : Option Files) (before now : List ℕ → ℕ) (s : Status) → EndsLeanInputs words held before now s →
+    EndsLeanStaying disturbed words held before now s
+inputs_end disturbed words held before now s (inl (inl design)) = design_ends disturbed words held before now s design
+inputs_end disturbed words held before now s (inl (inr policy)) = policy_ends disturbed words held policy.0 policy.1 before now s policy.2
+inputs_end disturbed words held before now s (inr reference) =
+    reference_ends disturbed words held reference.0 reference.2.design reference.1 reference.2.policy before now s reference.3
+
+pub under_ends : (disturbed : Bool) (words : List (List ℕ)) (held : Option Files) (p : DesignParts) (plans references : Plans) → AreLeanInputsRead words held p plans references →
+    (before now : List ℕ → ℕ) (s : Status) → EndsFacesUnder disturbed (design_of p) 6 7 words held before now s → EndsLeanStaying disturbed words held before now s
+under_ends disturbed words held p plans references read before now s (inl faces) = faces_ends disturbed words held p plans references read before now s faces
+under_ends disturbed words held p plans references read before now s (inr range) =
+    range_ends disturbed words held p plans references read range.0 range.1 before now s range.2
 
 -- ---- all are right
 pub all_right : (disturbed : Bool) (words : List (List ℕ)) (held : Option Files) (p : DesignParts) (plans references : Plans) (f : FaceNumbers) (range : Matrix) →

@@ -1,7 +1,7 @@
 -- What is written, and the clauses of the whole.
-use Rattle.std.proofs.Common.{◌≡◌, ◌≢◌, inl, inr, ℕ, ◌<◌, Bool, true, false, if◌then◌else◌, List, ℤ, pos, Option, Some, None, unsigned_abs, subst, arith}
+use Rattle.std.proofs.Common.{◌≡◌, ◌≢◌, ℕ, ◌<◌, Bool, true, false, if◌then◌else◌, List, ℤ, pos, Option, Some, None, unsigned_abs, subst, arith}
 use Rattle.std.specs.Prelude.{IfSome, IsSomeAnd}
-use Rattle.io_edge.specs.Faults.{Files, Rose}
+use Rattle.io_edge.specs.Faults.{Files}
 use Rattle.integer_algebra.specs.Sums.{at}
 use Rattle.mat_int.specs.Matrix.{Matrix, row_of}
 use Rattle.qp_model.specs.problem.Policy.{Plans}
@@ -11,13 +11,11 @@ use Rattle.qp_model.specs.bounds.Printed.{Printed}
 use Rattle.qp_model.specs.declared.design_parts.DesignParts.{DesignParts}
 use Rattle.stay_check.specs.FaceForms.{FaceNumbers}
 use Rattle.stay_check.proofs.LoopLaws.{loop_under_law}
-use Rattle.design_engine.specs.Targets.{targets_of, violation_target}
-use Rattle.design_engine.specs.Bounds.{stated_cost}
+use Rattle.command_stay.specs.Generating.Engine.Targets.{targets_of, violation_target}
+use Rattle.command_stay.specs.Generating.Engine.Bounds.{stated_cost}
 use Rattle.command_line.specs.Words.{word_of}
-use Rattle.command_line.specs.Answers.{ForContents, IsCaused}
-use Rattle.command_line.specs.declared.status.Status.{Status}
-use Rattle.command_line.specs.declared.status.Status.TheVariants.{Done, ReadFault, WriteFault}
-use Rattle.command_generate.specs.Writing.{AreWritten}
+use Rattle.command_line.specs.declared.status.Status.TheVariants.{Done}
+use Rattle.command_stay.specs.Generating.Writing.{AreWritten}
 use Rattle.command_stay.specs.Checking.{IsKept}
 use Rattle.command_stay.specs.Stay.{KeepsLoops}
 use Rattle.command_stay.proofs.Written.{range_in, no_range, undisturbed}
@@ -26,8 +24,8 @@ use Rattle.command_lean.specs.Reading.{AreLeanTextsFrom}
 use Rattle.command_lean.proofs.Opening as lean
 use Rattle.command_lean.proofs.Written.{both_written}
 use Rattle.command_lean_stay.specs.Excess.{made_lean_excess}
-use Rattle.command_lean_stay.specs.LeanStay.{LeanStayReachesFor, IsLeanStayed}
-use Rattle.command_lean_stay.specs.Reading.{AreLeanStayFilesRead, AreLeanTextsUnder, IsLeanStayAnswered, EndsLeanStaying}
+use Rattle.command_lean_stay.specs.LeanStay.{IsLeanStayed}
+use Rattle.command_lean_stay.specs.Reading.{AreLeanStayFilesRead, AreLeanTextsUnder}
 use Rattle.command_lean_stay.proofs.Excesses.{covers}
 
 -- ---- the loops of what was made
@@ -84,29 +82,3 @@ seven_names false n is = omega (arith, is)
 pub eighth_name : (disturbed : Bool) (n : ℕ) → n ≡ (if disturbed then 8 else 7) → disturbed ≡ true → 7 < n
 eighth_name true n is disturbed = omega (arith, is)
 eighth_name false n is disturbed = absurd (let never : ⊥ = cc in never)
-
--- ---- a file ended it, or the design with the policy and the reference plans, or the faces
-module _ (disturbed : Bool) (words : List (List ℕ)) (held : Option Files) (before now : List ℕ → ℕ) (s : Status) where
-  pub stop_called : EndsLeanStaying disturbed words held before now s → IsCaused s → IsLeanStayAnswered disturbed words held s
-  stop_called (inl memory) caused = absurd (caused.memory memory)
-  stop_called (inr (inl fault)) caused = absurd (caused.read fault.file fault.is)
-  stop_called (inr (inr refused)) caused = refused.called
-
-  pub stop_not_done : EndsLeanStaying disturbed words held before now s → s ≢ Done
-  stop_not_done (inl memory) is = cc
-  stop_not_done (inr (inl fault)) is = let e = fault.is in cc
-  stop_not_done (inr (inr refused)) is = refused.refusal.done is
-
-  pub stop_no_write : EndsLeanStaying disturbed words held before now s → (file : ℕ) → s ≢ WriteFault file
-  stop_no_write (inl memory) file is = cc
-  stop_no_write (inr (inl fault)) file is = let e = fault.is in cc
-  stop_no_write (inr (inr refused)) file is = refused.refusal.write file is
-
-  pub stop_fault : EndsLeanStaying disturbed words held before now s → (file : ℕ) → s ≡ ReadFault file →
-      ForContents words held (λ k. LeanStayReachesFor disturbed k file) × Rose (before (word_of words file)) (now (word_of words file))
-  stop_fault (inl memory) file is = absurd (let never : ⊥ = cc in never)
-  stop_fault (inr (inl fault)) file is = let e = fault.is in let same : fault.file ≡ file = cc in (
-    subst (λ (i : ℕ). ForContents words held (λ k. LeanStayReachesFor disturbed k i)) same fault.reached,
-    subst (λ (i : ℕ). Rose (before (word_of words i)) (now (word_of words i))) same fault.rose,
-  )
-  stop_fault (inr (inr refused)) file is = absurd (refused.refusal.read file is)

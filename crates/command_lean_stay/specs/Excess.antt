@@ -8,12 +8,12 @@ use Rattle.qp_model.specs.bounds.Choices.{lean_row_violation}
 use Rattle.qp_model.specs.machine.Controller.{Numbers}
 use Rattle.qp_model.specs.machine.Machine.{exponent_of}
 use Rattle.qp_model.specs.declared.bounds.Margin.{Margin}
-use Rattle.hessian_check.specs.RowExponents.{exponent_in, AreExponentsOf}
-use Rattle.design_engine.specs.Targets.{Targets, violation_target}
-use Rattle.design_engine.specs.Bounds.{stated_cost}
-use Rattle.design_engine.specs.Aims.{steps_of}
-use Rattle.lean_engine.specs.Lean.{bound_of}
-use Rattle.lean_engine.specs.Refusals.{policy_excess, aim_at, PassesLean}
+use Rattle.command_stay.specs.Generating.Engine.RowExponents.{exponent_in, AreExponentsOf}
+use Rattle.command_stay.specs.Generating.Engine.Targets.{Targets, violation_target}
+use Rattle.command_stay.specs.Generating.Engine.Bounds.{stated_cost}
+use Rattle.command_stay.specs.Generating.Engine.Aims.{steps_of}
+use Rattle.command_lean.specs.LeanEngine.Lean.{bound_of}
+use Rattle.command_lean.specs.LeanEngine.Refusals.{policy_excess, aim_at, PassesLean}
 
 -- R, of the margin
 abbrev pub lean_bound_at : Design → Targets → (plans references : Plans) → Margin → ℕ

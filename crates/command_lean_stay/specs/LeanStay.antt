@@ -9,13 +9,13 @@ use Rattle.qp_model.specs.machine.Successor.{state_after}
 use Rattle.qp_model.specs.declared.design_parts.DesignParts.{DesignParts}
 use Rattle.stay_check.specs.FaceForms.{FaceNumbers}
 use Rattle.stay_check.specs.LoopStay.{IsKeptAt}
-use Rattle.design_engine.specs.Targets.{targets_of}
+use Rattle.command_stay.specs.Generating.Engine.Targets.{targets_of}
 use Rattle.command_line.specs.Limit.{file_limit}
 use Rattle.command_line.specs.Answers.{Contents, FileHolds}
 use Rattle.command_line.specs.declared.status.Status.{Status}
-use Rattle.command_files.specs.Texts.{DesignRight, PolicyRight, FacesRight}
-use Rattle.command_files.specs.Reading.{ReadsDesign, ReadsPolicy, ReadsFaces}
-use Rattle.command_generate.specs.Generate.{HoldsInputs}
+use Rattle.command_stay.specs.Files.Texts.{DesignRight, PolicyRight, FacesRight}
+use Rattle.command_stay.specs.Files.Reading.{ReadsDesign, ReadsPolicy, ReadsFaces}
+use Rattle.command_stay.specs.Generating.Generate.{HoldsInputs}
 use Rattle.command_stay.specs.Stay.{FacedCalls, ReadsShifts, IsRangeIn, KeepsLoops}
 use Rattle.command_lean.specs.Made.{IsLeanRefusedBy}
 use Rattle.command_lean.specs.Lean.{IsLeanWritten}

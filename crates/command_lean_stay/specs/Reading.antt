@@ -1,6 +1,6 @@
 -- How the files are read and the texts made, on the way.
 use Rattle.std.specs.Prelude.{◌≡◌, ◌⊎◌, ℕ, Bool, List, Option}
-use Rattle.io_edge.specs.Faults.{Files, Rose}
+use Rattle.io_edge.specs.Faults.{Files}
 use Rattle.mat_int.specs.Matrix.{Matrix}
 use Rattle.qp_model.specs.problem.Policy.{Plans}
 use Rattle.qp_model.specs.problem.Parts.{design_of}
@@ -9,10 +9,11 @@ use Rattle.stay_check.specs.FaceForms.{FaceNumbers}
 use Rattle.command_line.specs.Words.{word_of}
 use Rattle.command_line.specs.Answers.{ForContents, IsAnswer}
 use Rattle.command_line.specs.declared.status.Status.{Status}
-use Rattle.command_line.specs.declared.status.Status.TheVariants.{Done, Memory, ReadFault}
-use Rattle.command_files.specs.Reading.{AreFacesRead}
+use Rattle.command_line.specs.declared.status.Status.TheVariants.{Done, Memory}
+use Rattle.command_stay.specs.Files.Reading.{AreFacesRead}
 use Rattle.command_stay.specs.Stay.{KeepsLoops}
-use Rattle.command_stay.specs.Reading.{IsRangeTaken, IsRefusal}
+use Rattle.command_stay.specs.Generating.Ending.{IsFaultless, EndsUnwritten}
+use Rattle.command_stay.specs.Reading.{IsRangeTaken}
 use Rattle.command_lean.specs.Reading.{AreTextsOf, AreLeanInputsRead}
 use Rattle.command_lean_stay.specs.LeanStay.{LeanStayingCalls, LeanStayCallsFor, LeanStayReachesFor}
 
@@ -25,7 +26,7 @@ pub record AreLeanStayingTexts (p : DesignParts) (plans references : Plans) (fac
 
 -- out of memory, or this status is called for, and no other
 abbrev pub IsLeanStayRefusedWith : DesignParts → (plans references : Plans) → FaceNumbers → (range : Matrix) → Status → Type 0
-IsLeanStayRefusedWith p plans references faces range s = (s ≡ Memory) ⊎ (IsAnswer (LeanStayingCalls p plans references faces range) s × IsRefusal s)
+IsLeanStayRefusedWith p plans references faces range s = (s ≡ Memory) ⊎ (IsAnswer (LeanStayingCalls p plans references faces range) s × IsFaultless s)
 
 -- ---- all files
 -- they hold these
@@ -49,19 +50,6 @@ pub record AreLeanTextsUnder (disturbed : Bool) (words : List (List ℕ)) (held 
   pub texts : AreLeanStayingTexts p plans references faces range (word_of words 5) text report
   pub answer : IsLeanStayAnswered disturbed words held Done
 
--- the read of a file failed, to which the files before it led
-pub record IsLeanStayReadFault (disturbed : Bool) (words : List (List ℕ)) (held : Option Files) (before now : List ℕ → ℕ) (s : Status) : Type 0 where
-  pub file : ℕ
-  pub is : s ≡ ReadFault file
-  pub reached : ForContents words held (λ k. LeanStayReachesFor disturbed k file)
-  pub rose : Rose (before (word_of words file)) (now (word_of words file))
-
--- the files call for this status, and for no other
-pub record IsLeanStayRefused (disturbed : Bool) (words : List (List ℕ)) (held : Option Files) (s : Status) : Type 0 where
-  pub called : IsLeanStayAnswered disturbed words held s
-  pub refusal : IsRefusal s
-
 -- the run ends with this status before anything is written
 abbrev pub EndsLeanStaying : (disturbed : Bool) → (words : List (List ℕ)) → Option Files → (before now : List ℕ → ℕ) → Status → Type 0
-EndsLeanStaying disturbed words held before now s =
-    (s ≡ Memory) ⊎ (IsLeanStayReadFault disturbed words held before now s ⊎ IsLeanStayRefused disturbed words held s)
+EndsLeanStaying disturbed words held before now s = EndsUnwritten (LeanStayCallsFor disturbed) (LeanStayReachesFor disturbed) words held before now s

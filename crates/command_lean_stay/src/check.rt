@@ -5,14 +5,13 @@ ghost use Rattle.qp_model.specs.problem.Parts.{design_of};
 ghost use Rattle.qp_model.specs.problem.Runs.{Holds};
 ghost use Rattle.stay_check.specs.FaceForms.{faces_of, AreFacesFor};
 ghost use Rattle.shift_file.specs.RangeText.{IsShiftRange};
-ghost use Rattle.design_engine.specs.Targets.{targets_of, violation_target};
+ghost use Rattle.command_stay.specs.Generating.Engine.Targets.{targets_of, violation_target};
 ghost use Rattle.command_stay.specs.Checking.{AreSmall, IsKept, IsCaught};
 ghost use Rattle.command_lean_stay.specs.Excess.{made_lean_excess};
 
+use command_lean::{row_violations, violation_target};
 use command_line::Status;
-use command_stay::check_under;
-use design_engine::Made;
-use lean_engine::{row_violations, violation_target};
+use command_stay::{Made, check_under};
 use mat_int::Mat;
 use qp_model::Design;
 use stay_check::Faces;

@@ -7,8 +7,8 @@ ghost use Rattle.command_lean.specs.Lean.{IsLeanControllerCut, IsLeanReportCut};
 ghost use Rattle.command_lean_stay.specs.LeanStay.{LeanStayCallsFor, LeanStayReachesFor, IsLeanStayed};
 
 use crate::texts::texts_for;
-use command_generate::write_texts;
 use command_line::Status;
+use command_stay::write_texts;
 use io_edge::{Store, Words};
 use std::alloc::Global;
 

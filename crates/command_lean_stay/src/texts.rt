@@ -8,22 +8,18 @@ ghost use Rattle.qp_model.specs.bounds.Printed.{printed};
 ghost use Rattle.qp_model.specs.text.ControllerText.{IsControllerText};
 ghost use Rattle.stay_check.specs.FaceForms.{faces_of, AreFacesFor};
 ghost use Rattle.shift_file.specs.RangeText.{IsShiftRange};
-ghost use Rattle.design_engine.specs.Targets.{targets_of, violation_target};
-ghost use Rattle.command_line.specs.Words.{word_of, IsLeanStay};
-ghost use Rattle.command_files.specs.Reading.{IsDesignRead, IsPolicyRead, AreFacesRead};
-ghost use Rattle.command_controller.specs.Made.{IsReport};
+ghost use Rattle.command_stay.specs.Generating.Engine.Targets.{targets_of, violation_target};
+ghost use Rattle.command_line.specs.Words.{IsLeanStay};
+ghost use Rattle.command_stay.specs.Generating.Made.{IsReport};
 ghost use Rattle.command_stay.specs.Checking.{AreSmall, IsKept, IsCaught};
 ghost use Rattle.command_lean.specs.Reading.{AreLeanInputsRead};
 ghost use Rattle.command_lean_stay.specs.Excess.{made_lean_excess};
 ghost use Rattle.command_lean_stay.specs.Reading.{AreLeanStayingTexts, AreLeanTextsUnder, IsLeanStayRefusedWith, EndsLeanStaying};
 
 use crate::check::check_lean;
-use command_files::{read_design_file, read_faces_file, read_policy_file};
-use command_generate::{Texts, texts_made};
-use command_lean::make_lean;
+use command_lean::{LeanInputs, make_lean, read_lean_inputs};
 use command_line::Status;
-use command_stay::take_range;
-use design_engine::Made;
+use command_stay::{Made, Texts, read_faces_under, texts_made};
 use io_edge::{Store, Words};
 use mat_int::Mat;
 use qp_model::{Design, Policy};
@@ -79,100 +75,34 @@ fn texts_of(
     texts_checked(alloc, design, &made, faces, range, report_name)
 }
 
-// The texts, after four files were read.
-fn texts_after_faces<S: Store>(
-    alloc: Global,
-    words: &Words,
-    disturbed: bool,
-    design: &Design,
-    policy: &Policy,
-    reference: &Policy,
-    faces: &Faces,
-    store: &mut S,
-) -> Result<Texts, Status>
-    requires words { IsLeanStay words.now disturbed }
-    requires read { AreLeanInputsRead words.now (S.held store.old) design.now (plans_of policy.now) (plans_of reference.now) }
-    requires plans { IsPolicyFor (design_of design.now) (plans_of policy.now) }
-    requires references { IsPolicyFor (design_of design.now) (plans_of reference.now) }
-    requires faces { AreFacesRead (design_of design.now) 6 (S.held store.old) (word_of words.now 6) (faces_of faces.now) }
-    requires sized { AreFacesFor (design_of design.now) (faces_of faces.now) }
-    ensures texts { IfOk result (λ t. AreLeanTextsUnder disturbed words.now (S.held store.old) t.controller.items t.report.items) }
-    ensures ends { IfErr result (EndsLeanStaying disturbed words.now (S.held store.old) (S.read_faults store.old) (S.read_faults store.new)) }
-    ensures held { S.held store.new ≡ S.held store.old }
-    ensures reads { NoneFalls (S.read_faults store.old) (S.read_faults store.new) }
-    ensures writes { NoneFalls (S.write_faults store.old) (S.write_faults store.new) }
-{
-    let range = take_range(alloc, words, 7, disturbed, design.parts().states, store)?;
-    texts_of(alloc, design, policy, reference, faces, &range, words.at(5))
-}
-
 // The texts, after three files were read.
-fn texts_after_reference<S: Store>(
+fn texts_after_inputs<S: Store>(
     alloc: Global,
     words: &Words,
     disturbed: bool,
-    design: &Design,
-    policy: &Policy,
-    reference: &Policy,
+    read: &LeanInputs,
     store: &mut S,
 ) -> Result<Texts, Status>
     requires words { IsLeanStay words.now disturbed }
-    requires read { AreLeanInputsRead words.now (S.held store.old) design.now (plans_of policy.now) (plans_of reference.now) }
-    requires plans { IsPolicyFor (design_of design.now) (plans_of policy.now) }
-    requires references { IsPolicyFor (design_of design.now) (plans_of reference.now) }
+    requires read { AreLeanInputsRead words.now (S.held store.old) read.now.inputs.design (plans_of read.now.inputs.policy) (plans_of read.now.reference) }
+    requires plans { IsPolicyFor (design_of read.now.inputs.design) (plans_of read.now.inputs.policy) }
+    requires references { IsPolicyFor (design_of read.now.inputs.design) (plans_of read.now.reference) }
     ensures texts { IfOk result (λ t. AreLeanTextsUnder disturbed words.now (S.held store.old) t.controller.items t.report.items) }
     ensures ends { IfErr result (EndsLeanStaying disturbed words.now (S.held store.old) (S.read_faults store.old) (S.read_faults store.new)) }
     ensures held { S.held store.new ≡ S.held store.old }
     ensures reads { NoneFalls (S.read_faults store.old) (S.read_faults store.new) }
     ensures writes { NoneFalls (S.write_faults store.old) (S.write_faults store.new) }
 {
-    let faces = read_faces_file(alloc, 6, words.at(6), design, store)?;
-    texts_after_faces(
-        alloc, words, disturbed, design, policy, reference, &faces, store,
+    let under = read_faces_under(alloc, words, 6, 7, disturbed, &read.inputs.design, store)?;
+    texts_of(
+        alloc,
+        &read.inputs.design,
+        &read.inputs.policy,
+        &read.reference,
+        &under.faces,
+        &under.range,
+        words.at(5),
     )
-}
-
-// The texts, after two files were read.
-fn texts_after_policy<S: Store>(
-    alloc: Global,
-    words: &Words,
-    disturbed: bool,
-    design: &Design,
-    policy: &Policy,
-    store: &mut S,
-) -> Result<Texts, Status>
-    requires words { IsLeanStay words.now disturbed }
-    requires design { IsDesignRead 1 (S.held store.old) (word_of words.now 1) design.now }
-    requires policy { IsPolicyRead (design_of design.now) 2 (S.held store.old) (word_of words.now 2) (plans_of policy.now) }
-    requires plans { IsPolicyFor (design_of design.now) (plans_of policy.now) }
-    ensures texts { IfOk result (λ t. AreLeanTextsUnder disturbed words.now (S.held store.old) t.controller.items t.report.items) }
-    ensures ends { IfErr result (EndsLeanStaying disturbed words.now (S.held store.old) (S.read_faults store.old) (S.read_faults store.new)) }
-    ensures held { S.held store.new ≡ S.held store.old }
-    ensures reads { NoneFalls (S.read_faults store.old) (S.read_faults store.new) }
-    ensures writes { NoneFalls (S.write_faults store.old) (S.write_faults store.new) }
-{
-    let reference = read_policy_file(alloc, 3, words.at(3), design, store)?;
-    texts_after_reference(alloc, words, disturbed, design, policy, &reference, store)
-}
-
-// The texts, after the design was read.
-fn texts_after_design<S: Store>(
-    alloc: Global,
-    words: &Words,
-    disturbed: bool,
-    design: &Design,
-    store: &mut S,
-) -> Result<Texts, Status>
-    requires words { IsLeanStay words.now disturbed }
-    requires design { IsDesignRead 1 (S.held store.old) (word_of words.now 1) design.now }
-    ensures texts { IfOk result (λ t. AreLeanTextsUnder disturbed words.now (S.held store.old) t.controller.items t.report.items) }
-    ensures ends { IfErr result (EndsLeanStaying disturbed words.now (S.held store.old) (S.read_faults store.old) (S.read_faults store.new)) }
-    ensures held { S.held store.new ≡ S.held store.old }
-    ensures reads { NoneFalls (S.read_faults store.old) (S.read_faults store.new) }
-    ensures writes { NoneFalls (S.write_faults store.old) (S.write_faults store.new) }
-{
-    let policy = read_policy_file(alloc, 2, words.at(2), design, store)?;
-    texts_after_policy(alloc, words, disturbed, design, &policy, store)
 }
 
 /// Both texts of the design, the policy and the reference plans in the first three files, where the faces in the sixth show that the loop stays in the box;
@@ -190,6 +120,6 @@ pub fn texts_for<S: Store>(
     ensures reads { NoneFalls (S.read_faults store.old) (S.read_faults store.new) }
     ensures writes { NoneFalls (S.write_faults store.old) (S.write_faults store.new) }
 {
-    let design = read_design_file(alloc, 1, words.at(1), store)?;
-    texts_after_design(alloc, words, disturbed, &design, store)
+    let read = read_lean_inputs(alloc, words, store)?;
+    texts_after_inputs(alloc, words, disturbed, &read, store)
 }

@@ -66,9 +66,10 @@ module _ (size : ℕ) (r : Result (Unit {0}) LoopFault) (wide : (quantity : Quan
       go (Err (faults.OutsideBox turn coordinate)) is = λ one. first coordinate (is ∙ ap (λ (k : ℕ). Err (faults.OutsideBox k coordinate)) one)
       go (Err faults.WriteFault) is = λ never. absurd never
 
--- what is said of a controller and a start that are these
-pub said_of : (P : Numbers → List ℤ → Type 0) (k c : Numbers) (row start : List ℤ) → k ≡ c → row ≡ start → P k row → P c start
-said_of P k c row start same there h = subst (λ (x : List ℤ). P c x) there (subst (λ (x : Numbers). P x row) same h)
+-- what is said of a controller, a start and shifts that are these
+pub said_along : (P : Numbers → List ℤ → Option Matrix → Type 0) (k c : Numbers) (row start : List ℤ) (w v : Option Matrix) → k ≡ c → row ≡ start → w ≡ v → P k row w → P c start v
+said_along P k c row start w v same there along h =
+    subst (λ (u : Option Matrix). P c start u) along (subst (λ (x : List ℤ). P c x w) there (subst (λ (x : Numbers). P x row w) same h))
 
 -- a print that failed raised the count over all records
 pub failed : (entry : ℕ) (fault : LoopFault) (s : Status) (before mid now : ℕ) → s ≡ loop_status entry fault → before ≤ mid → mid ≤ now → (fault ≡ faults.WriteFault → Rose mid now) → s ≡ WriteFault 0 → Rose before now

@@ -1,6 +1,7 @@
 -- What the records of a design, a controller for it and states are answered, and what the output gets, on the way.
 use Rattle.std.specs.Prelude.{◌≡◌, ◌≢◌, ◌⊎◌, ⊤, ℕ, ◌-◌, ◌^◌, ◌<◌, ◌≤◌, ℤ, List, ◌++◌, length, Option, Some, None, option_map, IfSome, IsSomeAnd}
 use Rattle.mat_int.specs.Matrix.{Matrix}
+use Rattle.packed_rows.specs.Walk.{Walk}
 use Rattle.qp_model.specs.problem.Design.{Design}
 use Rattle.qp_model.specs.machine.Controller.{Numbers}
 use Rattle.qp_model.specs.machine.LoopSize.{turn_size}
@@ -20,6 +21,11 @@ loop_status entry faults.Memory = Memory
 loop_status entry (faults.TooWide quantity) = Refused (TooWide quantity)
 loop_status entry (faults.OutsideBox turn coordinate) = OutsideBox entry turn coordinate
 loop_status entry faults.WriteFault = WriteFault 0
+
+-- the rows that a walk goes along, where there is one
+abbrev pub rows_along : Option Walk → Option Matrix
+rows_along None = None
+rows_along (Some walk) = Some walk.rows
 
 -- shifts of n coordinates after each of so many turns, or none
 pub record AreRowsFor (n turns : ℕ) (shifts : Matrix) : Type 0 where

@@ -13,16 +13,16 @@ use crate::shifts::take_shifts;
 use command_files::{read_controller_file, read_design_file, read_states_file};
 use command_line::Status;
 use io_edge::{Store, Words};
-use mat_int::Mat;
 use overflow_check::Controller;
+use packed_rows::PackedRows;
 use qp_model::Design;
 use std::alloc::Global;
 
 /// The states that loops start from, a row each, and the shifts after each turn where there are disturbances, a row each.
 #[derive(Drop)]
 pub struct Starts {
-    pub states: Mat,
-    pub shifts: Option<Mat>,
+    pub states: PackedRows,
+    pub shifts: Option<PackedRows>,
 }
 
 /// A design, a controller for it, and what its loops start from.

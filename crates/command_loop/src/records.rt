@@ -1,22 +1,22 @@
 // The loops of all records, one after the other.
-ghost use Rattle.std.specs.Prelude.{◌≡◌, ◌≢◌, ◌≤◌, ◌<◌, ◌^◌, ◌++◌, length, Err, option_map, OnOk, IfErr, IfSome, IsSomeAnd};
+ghost use Rattle.std.specs.Prelude.{◌≡◌, ◌≢◌, ◌≤◌, ◌<◌, ◌^◌, ◌++◌, length, Err, option_map, OnOk, IfErr, IfOk, IfSome, IsSomeAnd};
 ghost use Rattle.io_edge.specs.Faults.{Rose};
 ghost use Rattle.qp_model.specs.problem.Parts.{design_of};
 ghost use Rattle.qp_model.specs.machine.Successor.{IsFor};
 ghost use Rattle.qp_model.specs.machine.LoopSize.{turn_size};
 ghost use Rattle.closed_loop.specs.Answers.{LieInside};
 ghost use Rattle.command_loop.specs.Loop.{TellsLeavingLater, course_of};
-ghost use Rattle.command_loop.specs.Printing.{AreShiftsFor, RecordShows, IsBeforeLines, LoopsEnd, LoopsPrint, loop_status};
+ghost use Rattle.command_loop.specs.Printing.{AreShiftsFor, RecordShows, IsBeforeLines, LoopsEnd, LoopsPrint, loop_status, rows_along};
 
-use crate::files::{Loops, Starts};
+use crate::files::Loops;
 use closed_loop::{LoopFault, run_loop, run_loop_under};
 use command_line::Status;
 use design_refusal::Refusal;
 use fixed_kernel::Kernel;
 use io_edge::Sink;
-use mat_int::Mat;
+use packed_rows::{PackedRows, RowWalk};
 use qp_model::Design;
-use std::alloc::Global;
+use std::alloc::{AllocError, Global};
 
 // The status that tells why the loop of a record ended.
 fn loop_status(entry: u32, fault: LoopFault) -> Status
@@ -43,24 +43,25 @@ fn run_record<O: Sink>(
     kernel: &mut Kernel,
     entry: u32,
     start: &[i128],
-    shifts: &Option<Mat>,
+    shifts: &mut Option<RowWalk>,
     turns: u32,
     out: &mut O,
 ) -> Result<(), LoopFault>
     requires matched { IsFor kernel.old.controller (design_of design.now) }
     requires start { length start.now ≡ kernel.old.controller.states }
-    requires shifts { AreShiftsFor kernel.old.controller.states turns shifts.now }
+    requires shifts { AreShiftsFor kernel.old.controller.states turns (rows_along shifts.old) }
     ensures narrow { OnOk result (turn_size (design_of design.now) kernel.old.controller ≤ 2 ^ 126) }
     ensures inside { OnOk result (LieInside kernel.old.controller
-        ((course_of (design_of design.now) kernel.old.controller shifts.now).states start.now) turns) }
+        ((course_of (design_of design.now) kernel.old.controller (rows_along shifts.old)).states start.now) turns) }
     ensures put { OnOk result (O.got out.new ≡ option_map
-        (λ old. old ++ (course_of (design_of design.now) kernel.old.controller shifts.now).lines entry start.now turns) (O.got out.old)) }
+        (λ old. old ++ (course_of (design_of design.now) kernel.old.controller (rows_along shifts.old)).lines entry start.now turns) (O.got out.old)) }
     ensures shows { IfErr result (RecordShows (design_of design.now) kernel.old.controller
-        (course_of (design_of design.now) kernel.old.controller shifts.now) entry start.now turns (O.got out.old) (O.got out.new)) }
+        (course_of (design_of design.now) kernel.old.controller (rows_along shifts.old)) entry start.now turns (O.got out.old) (O.got out.new)) }
     ensures quiet { IfErr result (λ fault. IsBeforeLines fault → out.new ≡ out.old) }
     ensures failed { result ≡ Err LoopFault.WriteFault → Rose (O.faults out.old) (O.faults out.new) }
     ensures no_fewer { O.faults out.old ≤ O.faults out.new }
     ensures controller { kernel.new.controller ≡ kernel.old.controller }
+    ensures shifts { rows_along shifts.new ≡ rows_along shifts.old }
 {
     match shifts {
         Some(shifts) => run_loop_under(alloc, design, kernel, entry, start, shifts, out),
@@ -73,31 +74,36 @@ fn print_records<O: Sink>(
     alloc: Global,
     design: &Design,
     kernel: &mut Kernel,
-    starts: &Starts,
+    states: &PackedRows,
+    shifts: &mut Option<RowWalk>,
     turns: u32,
     out: &mut O,
 ) -> Status
     requires matched { IsFor kernel.old.controller (design_of design.now) }
-    requires width { starts.now.states.cols ≡ kernel.old.controller.states }
-    requires count { length starts.now.states.rows < 2 ^ 32 }
-    requires shifts { AreShiftsFor kernel.old.controller.states turns starts.now.shifts }
+    requires width { states.now.cols ≡ kernel.old.controller.states }
+    requires count { length states.now.rows < 2 ^ 32 }
+    requires shifts { AreShiftsFor kernel.old.controller.states turns (rows_along shifts.old) }
     ensures ends { LoopsEnd (design_of design.now) kernel.old.controller
-        (course_of (design_of design.now) kernel.old.controller starts.now.shifts) turns starts.now.states result }
+        (course_of (design_of design.now) kernel.old.controller (rows_along shifts.old)) turns states.now result }
     ensures printed { IfSome (O.got out.old) (λ old. IsSomeAnd (O.got out.new) (LoopsPrint (design_of design.now) kernel.old.controller
-        (course_of (design_of design.now) kernel.old.controller starts.now.shifts) turns starts.now.states result old)) }
+        (course_of (design_of design.now) kernel.old.controller (rows_along shifts.old)) turns states.now result old)) }
     ensures quiet { result ≢ Status.Done → result ≢ Status.Memory → result ≢ Status.WriteFault 0 → ¬ TellsLeavingLater result → out.new ≡ out.old }
     ensures failed { result ≡ Status.WriteFault 0 → Rose (O.faults out.old) (O.faults out.new) }
     ensures no_fewer { O.faults out.old ≤ O.faults out.new }
 {
-    for i in 0..starts.states.rows() {
+    let Ok(mut walk) = states.walk(alloc) else {
+        return Status::Memory;
+    };
+    for i in 0..states.rows() {
         let entry = i as u32 + 1;
+        walk.step();
         if let Err(fault) = run_record(
             alloc,
             design,
             kernel,
             entry,
-            starts.states.row(i),
-            &starts.shifts,
+            walk.row(),
+            shifts,
             turns,
             out,
         ) {
@@ -105,6 +111,16 @@ fn print_records<O: Sink>(
         }
     }
     Status::Done
+}
+
+// A walk along the shifts, where there are any.
+fn walk_of(alloc: Global, shifts: &Option<PackedRows>) -> Result<Option<RowWalk<'_>>, AllocError>
+    ensures { IfOk result (λ walk. rows_along walk ≡ shifts.now) }
+{
+    match shifts {
+        Some(shifts) => Ok(Some(shifts.walk(alloc)?)),
+        None => Ok(None),
+    }
 }
 
 // Prints the lines of all loops, by one kernel.
@@ -124,5 +140,16 @@ pub fn print_loops<O: Sink>(alloc: Global, loops: &Loops, turns: u32, out: &mut 
     let Ok(mut kernel) = Kernel::prepare(alloc, &loops.controller) else {
         return Status::Memory;
     };
-    print_records(alloc, &loops.design, &mut kernel, &loops.starts, turns, out)
+    let Ok(mut shifts) = walk_of(alloc, &loops.starts.shifts) else {
+        return Status::Memory;
+    };
+    print_records(
+        alloc,
+        &loops.design,
+        &mut kernel,
+        &loops.starts.states,
+        &mut shifts,
+        turns,
+        out,
+    )
 }

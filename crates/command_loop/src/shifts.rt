@@ -7,7 +7,7 @@ ghost use Rattle.command_loop.specs.Files.{AreShiftsTaken, EndsTakingShifts};
 use command_files::read_shifts_file;
 use command_line::Status;
 use io_edge::{Store, Words};
-use mat_int::Mat;
+use packed_rows::PackedRows;
 use std::alloc::Global;
 
 /// The shifts of `n` coordinates after each turn, a row each: those of the fifth file where there are disturbances, and none where there are none.
@@ -18,7 +18,7 @@ pub fn take_shifts<S: Store>(
     disturbed: bool,
     n: usize,
     store: &mut S,
-) -> Result<Option<Mat>, Status>
+) -> Result<Option<PackedRows>, Status>
     requires { IsLoop words.now turns disturbed }
     ensures right { IfOk result (AreShiftsTaken disturbed n turns (S.held store.old) (word_of words.now 5)) }
     ensures ends { IfErr result (EndsTakingShifts disturbed n turns (S.held store.old) (word_of words.now 5)

@@ -1,5 +1,5 @@
 -- Lines that are printed one after the other.
-use Rattle.std.proofs.Common.{◌≡◌, ◌⊎◌, ◌∙◌, inl, inr, ℕ, suc, ◌+◌, ◌<◌, ◌≤◌, ℤ, List, [], ◌∷◌, ◌++◌, length, take, get_or, Option, Some, None, option_map, Result, Ok, Err, refl, sym, ap, subst, arith, append_assoc, below_more, true, false}
+use Rattle.std.proofs.Common.{◌≡◌, ◌⊎◌, ◌∙◌, inl, inr, ℕ, ◌+◌, ◌<◌, ℤ, List, [], ◌∷◌, ◌++◌, length, take, get_or, Option, Some, None, option_map, Result, Ok, Err, refl, sym, ap, subst, arith, append_assoc, below_more, true, false}
 use Rattle.std.specs.Prelude.{IfSome, IsSomeAnd}
 use Rattle.std.specs.Result.{is_err, OnOk, OnErr}
 use Rattle.std.specs.List.{flat_map}
@@ -68,6 +68,10 @@ print_cut r l m i line first mid last failed err before lt room is =
     go (Some old) None p = p
     go None last p = tt
 
+-- what is said of a listing and a state that are these
+pub said_of : (P : Instructions → List ℤ → Type 0) (k l : Instructions) (row xi : List ℤ) → k ≡ l → row ≡ xi → P k row → P l xi
+said_of P k l row xi same there h = subst (λ (x : List ℤ). P l x) there (subst (λ (x : Instructions). P x row) same h)
+
 -- ---- what is answered and printed where the lines end
 -- what is true of each old text and what it grows to
 pub mapped : (P : List ℕ → List ℕ → Type 0) (f : List ℕ → List ℕ) (first last : Option (List ℕ)) → last ≡ option_map f first → ((old : List ℕ) → P old (f old)) → IfSome first (λ old. IsSomeAnd last (P old))
@@ -75,14 +79,14 @@ mapped P f (Some old) last e h = subst (λ (o : Option (List ℕ)). IsSomeAnd o 
 mapped P f None last e h = tt
 
 -- the run from a record is the first that traps
-abbrev trapped_at : (l : Instructions) (m : Matrix) (i : ℕ) (s : Status) → i < length m.rows → HaveRunRoom l m i → TrapsFrom l m i s → IsTrapped l m s
+abbrev trapped_at : (l : Instructions) (m : Matrix) (i : ℕ) (s : Status) → i < length m.rows → HaveRunRoom l m i → TrapsFrom l (i + 1) (row_of m i) s → IsTrapped l m s
 trapped_at l m i s lt room traps = record { index = i; step = traps.step; place = traps.place; there = lt; before = room; here = traps.here; is = traps.is }
 
-pub stop_ends : (l : Instructions) (m : Matrix) (i : ℕ) (s : Status) → AreInBox l m (length m.rows) → i < length m.rows → HaveRunRoom l m i → (s ≡ Memory) ⊎ TrapsFrom l m i s → PlaysEnd l m s
+pub stop_ends : (l : Instructions) (m : Matrix) (i : ℕ) (s : Status) → AreInBox l m (length m.rows) → i < length m.rows → HaveRunRoom l m i → (s ≡ Memory) ⊎ TrapsFrom l (i + 1) (row_of m i) s → PlaysEnd l m s
 stop_ends l m i s inside lt room (inl memory) = inl memory
 stop_ends l m i s inside lt room (inr traps) = inr (inr (inr (inside, inl (trapped_at l m i s lt room traps))))
 
-pub stop_prints : (l : Instructions) (m : Matrix) (i : ℕ) (s : Status) (old : List ℕ) → AreInBox l m (length m.rows) → i < length m.rows → HaveRunRoom l m i → (s ≡ Memory) ⊎ TrapsFrom l m i s →
+pub stop_prints : (l : Instructions) (m : Matrix) (i : ℕ) (s : Status) (old : List ℕ) → AreInBox l m (length m.rows) → i < length m.rows → HaveRunRoom l m i → (s ≡ Memory) ⊎ TrapsFrom l (i + 1) (row_of m i) s →
     PlaysPrint l m s old (old ++ run_lines l m i)
 stop_prints l m i s old inside lt room (inl memory) = record {
   done = λ is. absurd (let never : ⊥ = cc in never);
@@ -99,9 +103,20 @@ stop_prints l m i s old inside lt room (inr traps) = record {
   other = λ done trap fault memory. absurd (trap (i + 1, traps.step, traps.place, traps.is));
 }
 
-pub stop_some : (l : Instructions) (m : Matrix) (i : ℕ) (s : Status) → (s ≡ Memory) ⊎ TrapsFrom l m i s → (s ≡ Done) ⊎ ((s ≡ Memory) ⊎ ((s ≡ WriteFault 0) ⊎ TellsTrap s))
-stop_some l m i s (inl memory) = inr (inl memory)
-stop_some l m i s (inr traps) = inr (inr (inr (i + 1, traps.step, traps.place, traps.is)))
+-- before the first line
+pub none_print : (l : Instructions) (m : Matrix) (got : Option (List ℕ)) → IfSome got (λ old. IsSomeAnd got (PlaysPrint l m Memory old))
+none_print l m (Some old) = record {
+  done = λ is. absurd (let never : ⊥ = cc in never);
+  trap = λ told. absurd (let is = told.3 in let never : ⊥ = cc in never);
+  fault = λ is. absurd (let never : ⊥ = cc in never);
+  memory = λ is. inl refl;
+  other = λ done trap fault memory. absurd (memory refl);
+}
+none_print l m None = tt
+
+pub stop_some : (l : Instructions) (xi : List ℤ) (entry : ℕ) (s : Status) → (s ≡ Memory) ⊎ TrapsFrom l entry xi s → (s ≡ Done) ⊎ ((s ≡ Memory) ⊎ ((s ≡ WriteFault 0) ⊎ TellsTrap s))
+stop_some l xi entry s (inl memory) = inr (inl memory)
+stop_some l xi entry s (inr traps) = inr (inr (inr (entry, traps.step, traps.place, traps.is)))
 
 pub part_prints : (l : Instructions) (m : Matrix) (old new : List ℕ) → ArePart l m old new → PlaysPrint l m (WriteFault 0) old new
 part_prints l m old new part = record {

@@ -20,12 +20,12 @@ use Rattle.command_line.specs.Words.{word_of}
 use Rattle.command_line.specs.Limit.{file_limit}
 use Rattle.command_line.specs.Answers.{FileHolds, IsCaused}
 use Rattle.command_line.specs.declared.status.Status.{Status}
-use Rattle.command_line.specs.declared.status.Status.TheVariants.{Done, Memory, WriteFault}
+use Rattle.command_line.specs.declared.status.Status.TheVariants.{Done, WriteFault}
 use Rattle.command_files.specs.Texts.{StatesRight, StatesWrong}
 use Rattle.command_files.specs.Reading.{AreStatesRead, EndsStates}
 use Rattle.command_files.proofs.Stopping.{why_refused}
 use Rattle.command_play.specs.Texts.{ListingRight, ListingWrong, IsListingRead, EndsListing}
-use Rattle.command_play.specs.Plays.{AreInBox, HaveRunRoom, PlaysCall, run_line, run_lines}
+use Rattle.command_play.specs.Plays.{AreInBox, HaveRunRoom, run_line, run_lines}
 use Rattle.command_play.specs.Printing.{PlaysEnd, PlaysPrint, ArePart, AreSome}
 use Rattle.command_play.specs.AsSolved.{HoldsListed, IsSolved, PlaysAsSolved}
 use Rattle.command_play.proofs.OneCall.{not_all_inside, not_all_room}

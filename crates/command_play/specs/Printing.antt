@@ -1,5 +1,5 @@
 -- What a listing with states is answered, and what the output gets, on the way.
-use Rattle.std.specs.Prelude.{◌≡◌, ◌≢◌, ◌⊎◌, ℕ, ◌+◌, ◌<◌, ◌≤◌, List, ◌++◌, length}
+use Rattle.std.specs.Prelude.{◌≡◌, ◌≢◌, ◌⊎◌, ℕ, ◌+◌, ◌<◌, ◌≤◌, ℤ, List, ◌++◌, length}
 use Rattle.io_edge.specs.Faults.{GrowsByPart}
 use Rattle.mat_int.specs.Matrix.{Matrix, row_of}
 use Rattle.mac_listing.specs.Listing.{Instructions}
@@ -12,11 +12,11 @@ use Rattle.command_line.specs.declared.status.Status.{Status}
 use Rattle.command_line.specs.declared.status.Status.TheVariants.{Done, Memory, WriteFault, Trap}
 
 -- the run from the state of a record traps, and the status tells where
-pub record TrapsFrom (l : Instructions) (states : Matrix) (index : ℕ) (s : Status) : Type 0 where
+pub record TrapsFrom (l : Instructions) (entry : ℕ) (xi : List ℤ) (s : Status) : Type 0 where
   pub step : ℕ
   pub place : ℕ
-  pub here : Stops l (row_of states index) (stops.Trap step place)
-  pub is : s ≡ Trap (index + 1) step place
+  pub here : Stops l xi (stops.Trap step place)
+  pub is : s ≡ Trap entry step place
 
 -- a line may be printed: there is a state, all lie in the box, and the first run has room
 pub record MayPrint (l : Instructions) (states : Matrix) : Type 0 where

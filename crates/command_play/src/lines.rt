@@ -1,7 +1,7 @@
 // The lines of runs.
 ghost use Rattle.std.specs.Prelude.{◌≡◌, ◌≢◌, ◌⊎◌, ℕ, ◌+◌, ◌<◌, ◌≤◌, ◌^◌, ◌∷◌, length, IfOk, IfErr, OnOk, IfSome, IsSomeAnd};
 ghost use Rattle.io_edge.specs.Faults.{Rose};
-ghost use Rattle.mat_int.specs.Matrix.{row_of};
+ghost use Rattle.mac_machine.specs.Box.{IsInBox};
 ghost use Rattle.mac_machine.specs.Machine.{NeverTraps, outputs_of, play_line};
 ghost use Rattle.command_play.specs.Plays.{AreInBox, run_line};
 ghost use Rattle.command_play.specs.Play.{TellsTrap};
@@ -10,8 +10,8 @@ ghost use Rattle.command_play.specs.Printing.{TrapsFrom, PlaysEnd, PlaysPrint};
 use command_line::Status;
 use io_edge::Sink;
 use mac_machine::{Machine, Stop};
-use mat_int::Mat;
 use number_text::spaced_text;
+use packed_rows::PackedRows;
 use std::alloc::{AllocError, Global};
 
 // What a machine's words put out: the denominator and each word.
@@ -36,29 +36,22 @@ fn output_line(alloc: Global, machine: &Machine) -> Result<Vec<u8>, AllocError>
     Ok(line.into_bytes())
 }
 
-// The line of the run from the state of a record of the box, or the status that tells of its trap.
+// The line of the run from the state of a record, which lies in the box, or the status that tells of its trap.
 fn line_from(
     alloc: Global,
     machine: &mut Machine,
-    states: &Mat,
-    i: usize,
+    entry: u32,
+    state: &[i128],
 ) -> Result<Vec<u8>, Status>
-    requires width { states.now.cols ≡ machine.old.listing.states }
-    requires count { length states.now.rows < 2 ^ 32 }
-    requires there { i < length states.now.rows }
-    requires inside { AreInBox machine.old.listing states.now (length states.now.rows) }
-    ensures line { IfOk result (λ line. line.items ≡ run_line machine.old.listing (row_of states.now i)) }
-    ensures room { OnOk result (NeverTraps machine.old.listing (row_of states.now i)) }
-    ensures ends { IfErr result (λ s. (s ≡ Status.Memory) ⊎ TrapsFrom machine.old.listing states.now i s) }
+    requires { IsInBox machine.old.listing state.now }
+    ensures line { IfOk result (λ line. line.items ≡ run_line machine.old.listing state.now) }
+    ensures room { OnOk result (NeverTraps machine.old.listing state.now) }
+    ensures ends { IfErr result (λ s. (s ≡ Status.Memory) ⊎ TrapsFrom machine.old.listing entry state.now s) }
     ensures listing { machine.new.listing ≡ machine.old.listing }
 {
-    match machine.play(states.row(i)) {
+    match machine.play(state) {
         Ok(()) => Ok(output_line(alloc, machine)?),
-        Err(Stop::Trap { step, place }) => Err(Status::Trap {
-            entry: i as u32 + 1,
-            step,
-            place,
-        }),
+        Err(Stop::Trap { step, place }) => Err(Status::Trap { entry, step, place }),
         Err(Stop::OutsideBox { .. }) => unreachable!(),
     }
 }
@@ -67,7 +60,7 @@ fn line_from(
 pub fn print_lines<O: Sink>(
     alloc: Global,
     machine: &mut Machine,
-    states: &Mat,
+    states: &PackedRows,
     out: &mut O,
 ) -> Status
     requires width { states.now.cols ≡ machine.old.listing.states }
@@ -79,8 +72,12 @@ pub fn print_lines<O: Sink>(
     ensures failed { result ≡ Status.WriteFault 0 → Rose (O.faults out.old) (O.faults out.new) }
     ensures no_fewer { O.faults out.old ≤ O.faults out.new }
 {
+    let Ok(mut walk) = states.walk(alloc) else {
+        return Status::Memory;
+    };
     for i in 0..states.rows() {
-        match line_from(alloc, machine, states, i) {
+        walk.step();
+        match line_from(alloc, machine, i as u32 + 1, walk.row()) {
             Ok(line) => {
                 if out.put(&line).is_err() {
                     return Status::WriteFault { file: 0 };

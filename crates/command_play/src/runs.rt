@@ -10,11 +10,16 @@ use command_line::Status;
 use io_edge::Sink;
 use mac_listing::Listing;
 use mac_machine::Machine;
-use mat_int::Mat;
+use packed_rows::PackedRows;
 use std::alloc::Global;
 
 // Prints the lines of a listing from states where all lie in its box, and else nothing.
-pub fn print_plays<O: Sink>(alloc: Global, listing: &Listing, states: &Mat, out: &mut O) -> Status
+pub fn print_plays<O: Sink>(
+    alloc: Global,
+    listing: &Listing,
+    states: &PackedRows,
+    out: &mut O,
+) -> Status
     requires width { states.now.cols ≡ listing.now.states }
     requires count { length states.now.rows < 2 ^ 32 }
     ensures ends { PlaysEnd listing.now states.now result }
@@ -26,7 +31,7 @@ pub fn print_plays<O: Sink>(alloc: Global, listing: &Listing, states: &Mat, out:
     let Ok(mut machine) = Machine::prepare(alloc, listing) else {
         return Status::Memory;
     };
-    match all_inside(&machine, states) {
+    match all_inside(alloc, &machine, states) {
         Ok(()) => print_lines(alloc, &mut machine, states, out),
         Err(status) => status,
     }

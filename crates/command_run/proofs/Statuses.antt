@@ -19,7 +19,7 @@ use Rattle.command_line.specs.Status.{status_of}
 use Rattle.command_line.specs.Answers.{Contents, ReadsThen, IsAnswer, ForContents, IsCaused}
 use Rattle.command_files.specs.Texts.{TellsFault, DesignRight, DesignWrong, PolicyRight, PolicyWrong, StatesRight, StatesWrong, FacesRight, FacesWrong, RangeRight, RangeWrong, ControllerRight, ControllerWrong, IsFaultBy, CutsRight, CutsWrong, CellPoliciesRight, CellPoliciesWrong, CellsRight, CellsWrong, ShiftsRight, ShiftsWrong}
 use Rattle.command_files.specs.Reading.{ReadsStates}
-use Rattle.command_controller.specs.Made.{MakingCalls}
+use Rattle.command_generate.specs.Made.{MakingCalls}
 use Rattle.command_generate.specs.Generate.{GenerateCalls}
 use Rattle.command_solve.specs.Inside.{RunsCall}
 use Rattle.command_solve.specs.Solve.{SolveCalls}

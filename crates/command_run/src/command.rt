@@ -51,7 +51,8 @@ pub fn run<S: Store, O: Sink>(alloc: Global, words: &Words, store: &mut S, out: 
     // within the printed width and makes exactly the printed steps; its averaged plan exceeds each constraint by at most the printed violation and
     // costs at most the printed gap more than any feasible plan, and some feasible plan costs at most the printed undercut more than it.
     // The printed violation and gap are at most the design's targets.
-    ensures generated { IsGenerate words.now → result ≡ Status.Done → IfSome (S.held store.old) (λ files. IsSomeAnd (S.held store.new) (IsGenerated words.now files)) }
+    ensures generated { IsGenerate words.now → result ≡ Status.Done
+        → IfSome (S.held store.old) (λ files. IsSomeAnd (S.held store.new) (IsGenerated words.now files)) }
     // So it does where `stay` answers `Done`, and the closed loop from any grid state of the box stays in the box for every number of turns, under every list
     // of disturbances within the range in the sixth file, and without disturbances where there is no such file.
     ensures stayed { (disturbed : Bool) → IsStay words.now disturbed → result ≡ Status.Done

@@ -85,8 +85,8 @@ pub first_states : (cells : List Numbers) (c : Numbers) → 1 ≤ length cells �
 first_states [] c some = absurd (omega (arith, some))
 first_states (d ∷ cells) c some = refl
 
-pub first_width : (cells : List Numbers) (d : Numbers) → AreCells cells → d ≡ get_or cells 0 d → d.states ≡ cell_states cells
-first_width cells d are is = ap (λ (c : Numbers). c.states) is ∙ sym (first_states cells d are.some)
+pub first_width : (cells : List Numbers) (d : Numbers) → 0 < length cells → d ≡ get_or cells 0 d → d.states ≡ cell_states cells
+first_width cells d some is = ap (λ (c : Numbers). c.states) is ∙ sym (first_states cells d (omega (arith, some)))
 
 pub have_width : (cells : List Numbers) (n : ℕ) → AreCells cells → n ≡ cell_states cells → HaveWidth cells n
 have_width cells n are is k c lt = is ∙ first_states cells c are.some ∙ (are.alike k c lt).states

@@ -9,8 +9,8 @@ use cell_file::find;
 use command_line::Status;
 use fixed_kernel::Kernel;
 use io_edge::Sink;
-use mat_int::Mat;
 use overflow_check::Controller;
+use packed_rows::PackedRows;
 use plan_lines::line_from;
 use std::alloc::{AllocError, Global};
 
@@ -51,7 +51,7 @@ pub fn print_served<O: Sink>(
     alloc: Global,
     cells: &[Controller],
     kernels: &mut [Kernel],
-    states: &Mat,
+    states: &PackedRows,
     out: &mut O,
 ) -> Status
     requires kernels { controllers_of kernels.old ≡ cells.now }
@@ -63,8 +63,12 @@ pub fn print_served<O: Sink>(
     ensures failed { result ≡ Status.WriteFault 0 → Rose (O.faults out.old) (O.faults out.new) }
     ensures no_fewer { O.faults out.old ≤ O.faults out.new }
 {
-    for i in 0..states.rows() {
-        let Ok(line) = served_line(alloc, cells, kernels, states.row(i)) else {
+    let Ok(mut walk) = states.walk(alloc) else {
+        return Status::Memory;
+    };
+    for _ in 0..states.rows() {
+        walk.step();
+        let Ok(line) = served_line(alloc, cells, kernels, walk.row()) else {
             return Status::Memory;
         };
         if out.put(&line).is_err() {

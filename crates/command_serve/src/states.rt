@@ -8,15 +8,15 @@ use crate::lines::{kernels_of, print_served};
 use crate::unserved::all_served;
 use command_line::Status;
 use io_edge::Sink;
-use mat_int::Mat;
 use overflow_check::Controller;
+use packed_rows::PackedRows;
 use std::alloc::Global;
 
 /// Prints the lines of states where some cell's box holds each, and else nothing.
 pub fn serve_states<O: Sink>(
     alloc: Global,
     cells: &[Controller],
-    states: &Mat,
+    states: &PackedRows,
     out: &mut O,
 ) -> Status
     requires some { 0 < length cells.now }
@@ -31,7 +31,7 @@ pub fn serve_states<O: Sink>(
     let Ok(mut kernels) = kernels_of(alloc, cells) else {
         return Status::Memory;
     };
-    match all_served(cells, &kernels[0], states) {
+    match all_served(alloc, cells, &kernels[0], states) {
         Ok(()) => print_served(alloc, cells, &mut kernels, states, out),
         Err(status) => status,
     }

@@ -1,5 +1,5 @@
 // Which state is the first that no cell's box holds.
-ghost use Rattle.std.specs.Prelude.{◌≡◌, ◌<◌, ◌^◌, length, get_or, IfErr, OnOk, MatchOption};
+ghost use Rattle.std.specs.Prelude.{◌≡◌, ◌⊎◌, ◌<◌, ◌^◌, length, get_or, IfErr, OnOk, MatchOption};
 ghost use Rattle.qp_model.specs.machine.Controller.{Numbers};
 ghost use Rattle.command_serve.specs.Served.{HaveWidth, AreServed, IsHeldBySome};
 ghost use Rattle.command_serve.specs.Unserved.{IsHeldByNone, IsUnserved};
@@ -7,20 +7,29 @@ ghost use Rattle.command_serve.specs.Unserved.{IsHeldByNone, IsUnserved};
 use cell_file::find;
 use command_line::Status;
 use fixed_kernel::Kernel;
-use mat_int::Mat;
 use overflow_check::Controller;
+use packed_rows::PackedRows;
+use std::alloc::Global;
 
-/// Nothing where some cell's box holds each state, and else the status that tells of the first that none holds. The kernel is that of the first cell.
-pub fn all_served(cells: &[Controller], first: &Kernel, states: &Mat) -> Result<(), Status>
+/// Nothing where some cell's box holds each state, and else the status that tells of the first that none holds; or `Memory`.
+/// The kernel is that of the first cell.
+pub fn all_served(
+    alloc: Global,
+    cells: &[Controller],
+    first: &Kernel,
+    states: &PackedRows,
+) -> Result<(), Status>
     requires some { 0 < length cells.now }
     requires width { HaveWidth cells.now states.now.cols }
     requires first { (c : Numbers) → get_or cells.now 0 c ≡ first.now.controller }
     requires count { length states.now.rows < 2 ^ 32 }
     ensures served { OnOk result (AreServed cells.now states.now (length states.now.rows)) }
-    ensures unserved { IfErr result (IsUnserved cells.now states.now) }
+    ensures unserved { IfErr result (λ s. (s ≡ Status.Memory) ⊎ IsUnserved cells.now states.now s) }
 {
+    let mut walk = states.walk(alloc)?;
     for i in 0..states.rows() {
-        if let Some(coordinate) = outside_all(cells, first, states.row(i)) {
+        walk.step();
+        if let Some(coordinate) = outside_all(cells, first, walk.row()) {
             return Err(Status::OutsideBox {
                 entry: i as u32 + 1,
                 turn: 0,

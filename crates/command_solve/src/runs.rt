@@ -7,8 +7,8 @@ use crate::inside::all_inside;
 use command_line::Status;
 use fixed_kernel::Kernel;
 use io_edge::Sink;
-use mat_int::Mat;
 use overflow_check::Controller;
+use packed_rows::PackedRows;
 use plan_lines::print_lines;
 use std::alloc::Global;
 
@@ -16,7 +16,7 @@ use std::alloc::Global;
 pub fn print_runs<O: Sink>(
     alloc: Global,
     controller: &Controller,
-    states: &Mat,
+    states: &PackedRows,
     out: &mut O,
 ) -> Status
     requires width { states.now.cols ≡ controller.now.states }
@@ -30,7 +30,7 @@ pub fn print_runs<O: Sink>(
     let Ok(mut kernel) = Kernel::prepare(alloc, controller) else {
         return Status::Memory;
     };
-    match all_inside(&kernel, states) {
+    match all_inside(alloc, &kernel, states) {
         Ok(()) => print_lines(alloc, &mut kernel, states, out),
         Err(status) => status,
     }

@@ -5,8 +5,8 @@ use Rattle.qp_model.specs.problem.Parts.{design_numbers, design_of}
 use Rattle.qp_model.specs.machine.Controller.{Numbers}
 use Rattle.qp_model.specs.bounds.Printed.{Printed}
 use Rattle.qp_model.specs.declared.design_parts.DesignParts.{DesignParts}
-use Rattle.design_engine.specs.Targets.{targets_of}
-use Rattle.design_engine.specs.Refusals.{HasCause}
+use Rattle.command_generate.specs.Engine.Targets.{targets_of}
+use Rattle.command_generate.specs.Engine.Refusals.{HasCause}
 use Rattle.design_refusal.specs.declared.refusal.Refusal.{Refusal}
 use Rattle.design_refusal.specs.declared.refusal.Refusal.TheVariants as refusals
 use Rattle.cell_split.specs.Cells.{IsCell}
@@ -14,12 +14,13 @@ use Rattle.cell_maker.specs.declared.make.CellRefusal.{CellRefusal}
 use Rattle.cell_maker.specs.Made.{cell_plans, IsCellRefused, IsCellMade, PassesCell, AreCellsMade, IsFirstRefused, IsOnlyRefused}
 use Rattle.cell_maker.proofs.CellDesigns.{cell_same}
 use Rattle.cell_maker.proofs.Cells.{made_at}
-use Rattle.command_controller.proofs.Passing.{built_passes}
+use Rattle.command_generate.proofs.Passing.{built_passes}
 use Rattle.command_line.specs.Answers.{IsAnswer}
 use Rattle.command_line.specs.declared.status.Status.{Status}
 use Rattle.command_line.specs.declared.status.Status.TheVariants.{Done, Memory, Cell}
 use Rattle.command_split.specs.Cells.{CellsCall}
-use Rattle.command_split.specs.Reading.{IsFaultless, CellsRefuse}
+use Rattle.command_generate.specs.Ending.{IsFaultless}
+use Rattle.command_split.specs.Reading.{CellsRefuse}
 
 -- a cell that was made passes every test
 passes_made : (p : DesignParts) (cuts : List (List ℤ)) (k : ℕ) (plans : Plans) (c : Numbers) (b : Printed) → IsCellMade p cuts k plans c b → PassesCell p cuts k plans

@@ -1,7 +1,6 @@
 -- What the files make of the answer where one of them ends it, and where all are right.
 use Rattle.std.proofs.Common.{◌≡◌, inl, inr, ℕ, ℤ, List, Option, refl, subst}
-use Rattle.io_edge.specs.Faults.{Files, NoneFalls}
-use Rattle.number_text.specs.declared.text_fault.TextFault.{TextFault}
+use Rattle.io_edge.specs.Faults.{Files}
 use Rattle.qp_model.specs.problem.Design.{Design}
 use Rattle.qp_model.specs.problem.Policy.{Plans}
 use Rattle.cell_split.specs.Cells.{cell_count}
@@ -11,28 +10,15 @@ use Rattle.command_line.specs.Words.{word_of}
 use Rattle.command_line.specs.Limit.{file_limit}
 use Rattle.command_line.specs.Answers.{Contents, FileHolds, IsFileRefused, IsAnswer}
 use Rattle.command_line.proofs.Composing.{told_at, told, for_contents, some_contents, stop, go_on, go_on_whole}
-use Rattle.command_line.proofs.Counts.{rose_later}
 use Rattle.command_line.specs.declared.status.Status.{Status}
-use Rattle.command_line.specs.declared.status.Status.TheVariants.{Text, Long}
 use Rattle.command_files.specs.Texts.{DesignRight, DesignWrong, CutsRight, CutsWrong, CellPoliciesRight, CellPoliciesWrong}
 use Rattle.command_files.specs.Reading.{ReadsCuts, ReadsCellPolicies, IsDesignRead, EndsDesign, AreCutListsRead, EndsCuts, AreCellPoliciesRead, EndsCellPolicies}
 use Rattle.command_files.proofs.Designs.{same_design}
 use Rattle.command_split.specs.Cells.{CellsCall}
 use Rattle.command_split.specs.Split.{SplitCalls, SplitReaches, HoldsCutDesign}
-use Rattle.command_split.specs.Reading.{IsFaultless, CellsRefuse, AreSplitRead, IsSplitAnswer, EndsSplit}
+use Rattle.command_split.specs.Reading.{split_calls, split_reaches, CellsRefuse, AreSplitRead, IsSplitAnswer, EndsSplit}
+use Rattle.command_generate.proofs.Ending.{file_ends}
 use Rattle.command_split.proofs.Calling.{calls_same}
-
--- ---- what a file is refused with
-long_refusal : (file : ℕ) (s : Status) → s ≡ Long file → IsFaultless s
-long_refusal file s is = record { done = λ e. cc; memory = λ e. cc; read = λ f e. cc; write = λ f e. cc }
-
-text_refusal : (file : ℕ) (fault : TextFault) (s : Status) → s ≡ Text file fault → IsFaultless s
-text_refusal file fault s is = record { done = λ e. cc; memory = λ e. cc; read = λ f e. cc; write = λ f e. cc }
-
-refusal_of : (file : ℕ) (Wrong : List ℕ → Status → Type 0) (content : Option (List ℕ)) (s : Status) → ((bytes : List ℕ) → Wrong bytes s → (fault : TextFault) × (s ≡ Text file fault)) →
-    IsFileRefused file_limit file Wrong content s → IsFaultless s
-refusal_of file Wrong content s tells (inl long) = long_refusal file s long.is
-refusal_of file Wrong content s tells (inr wrong) = let told = tells wrong.bytes wrong.right in text_refusal file told.0 s told.1
 
 -- ---- what comes after the cuts and the design
 abbrev pub AfterCuts : (policies : Option (List ℕ)) → DesignParts → List (List ℤ) → Status → Type 0
@@ -66,26 +52,12 @@ module _ (words : List (List ℕ)) (held : Option Files) where
   abbrev third : Option (List ℕ)
   third = told_at held (word_of words 3)
 
-  -- ---- what ends the later files ends them all
-  pub ends_later : (before mid now : List ℕ → ℕ) (s : Status) → NoneFalls before mid → NoneFalls mid now → EndsSplit words held mid now s → EndsSplit words held before now s
-  ends_later before mid now s low high (inl memory) = inl memory
-  ends_later before mid now s low high (inr (inl fault)) = inr (inl (record {
-    file = fault.file;
-    is = fault.is;
-    reached = fault.reached;
-    rose = rose_later _ _ _ (low.each (word_of words fault.file)) (high.each (word_of words fault.file)) fault.rose;
-  }))
-  ends_later before mid now s low high (inr (inr called)) = inr (inr called)
-
   -- ---- the design's file ends it
   pub design_ends : (before now : List ℕ → ℕ) (s : Status) → EndsDesign 1 held (word_of words 1) (before (word_of words 1)) (now (word_of words 1)) s → EndsSplit words held before now s
-  design_ends before now s (inl memory) = inl memory
-  design_ends before now s (inr (inl fault)) = inr (inl (record { file = 1; is = fault.0; reached = some_contents words held (Reached 1) (λ k. inl refl); rose = fault.1 }))
-  design_ends before now s (inr (inr wrong)) = inr (inr (record {
-    called = for_contents words held (Called s) wrong.content second third wrong.told (told held (word_of words 2)) (told held (word_of words 3))
-        (stop file_limit 1 (DesignWrong 1) DesignRight held (word_of words 1) s wrong (AfterDesign second third));
-    refusal = refusal_of 1 (DesignWrong 1) wrong.content s (λ bytes why. (why.0, why.2.1)) wrong.answer.called;
-  }))
+  design_ends before now s =
+      file_ends split_calls split_reaches words held 1 (DesignWrong 1) DesignRight before now s (λ bytes why. (why.0, why.2.1)) (some_contents words held (Reached 1) (λ k. inl refl))
+      (λ wrong. for_contents words held (Called s) wrong.content second third wrong.told (told held (word_of words 2)) (told held (word_of words 3))
+      (stop file_limit 1 (DesignWrong 1) DesignRight held (word_of words 1) s wrong (AfterDesign second third)))
 
   -- ---- the design is right
   module _ (p : DesignParts) (design : IsDesignRead 1 held (word_of words 1) p) where
@@ -94,18 +66,11 @@ module _ (words : List (List ℕ)) (held : Option Files) where
         go_on file_limit 1 (DesignWrong 1) DesignRight design_numbers held (word_of words 1) p s design (AfterDesign cuts policies) (λ y same t after. cuts_same y p same cuts policies t after) answer
 
     pub cuts_ends : (before now : List ℕ → ℕ) (s : Status) → EndsCuts (design_of p) 2 held (word_of words 2) (before (word_of words 2)) (now (word_of words 2)) s → EndsSplit words held before now s
-    cuts_ends before now s (inl memory) = inl memory
-    cuts_ends before now s (inr (inl fault)) = inr (inl (record {
-      file = 2;
-      is = fault.0;
-      reached = for_contents words held (Reached 2) design.content second third design.told (told held (word_of words 2)) (told held (word_of words 3)) (inr (inl (refl, p, design.right)));
-      rose = fault.1;
-    }))
-    cuts_ends before now s (inr (inr wrong)) = inr (inr (record {
-      called = for_contents words held (Called s) design.content wrong.content third design.told wrong.told (told held (word_of words 3))
-          (with_design wrong.content third s (stop file_limit 2 (CutsWrong (design_of p) 2) (CutsRight (design_of p)) held (word_of words 2) s wrong (AfterCuts third p)));
-      refusal = refusal_of 2 (CutsWrong (design_of p) 2) wrong.content s (λ bytes why. (why.0, why.2.1)) wrong.answer.called;
-    }))
+    cuts_ends before now s =
+        file_ends split_calls split_reaches words held 2 (CutsWrong (design_of p) 2) (CutsRight (design_of p)) before now s (λ bytes why. (why.0, why.2.1))
+        (for_contents words held (Reached 2) design.content second third design.told (told held (word_of words 2)) (told held (word_of words 3)) (inr (inl (refl, p, design.right))))
+        (λ wrong. for_contents words held (Called s) design.content wrong.content third design.told wrong.told (told held (word_of words 3))
+        (with_design wrong.content third s (stop file_limit 2 (CutsWrong (design_of p) 2) (CutsRight (design_of p)) held (word_of words 2) s wrong (AfterCuts third p))))
 
     -- ---- the cuts are right
     module _ (lists : List (List ℤ)) (cuts : AreCutListsRead (design_of p) 2 held (word_of words 2) lists) where
@@ -124,18 +89,11 @@ module _ (words : List (List ℕ)) (held : Option Files) where
 
       pub policies_ends : (before now : List ℕ → ℕ) (s : Status) → EndsCellPolicies (design_of p) (cell_count lists) 3 held (word_of words 3) (before (word_of words 3)) (now (word_of words 3)) s →
           EndsSplit words held before now s
-      policies_ends before now s (inl memory) = inl memory
-      policies_ends before now s (inr (inl fault)) = inr (inl (record {
-        file = 3;
-        is = fault.0;
-        reached = for_contents words held (Reached 3) design.content cuts.content third design.told cuts.told (told held (word_of words 3)) (inr (inr (refl, p, lists, inputs)));
-        rose = fault.1;
-      }))
-      policies_ends before now s (inr (inr wrong)) = inr (inr (record {
-        called = for_contents words held (Called s) design.content cuts.content wrong.content design.told cuts.told wrong.told
-            (with_cuts wrong.content s (stop file_limit 3 Wrong Right held (word_of words 3) s wrong (CellsCall p lists)));
-        refusal = refusal_of 3 Wrong wrong.content s (λ bytes why. (why.0, why.2.1)) wrong.answer.called;
-      }))
+      policies_ends before now s =
+          file_ends split_calls split_reaches words held 3 Wrong Right before now s (λ bytes why. (why.0, why.2.1))
+          (for_contents words held (Reached 3) design.content cuts.content third design.told cuts.told (told held (word_of words 3)) (inr (inr (refl, p, lists, inputs))))
+          (λ wrong. for_contents words held (Called s) design.content cuts.content wrong.content design.told cuts.told wrong.told
+          (with_cuts wrong.content s (stop file_limit 3 Wrong Right held (word_of words 3) s wrong (CellsCall p lists))))
 
       -- ---- all are right
       pub all_right : (plans : List Plans) (policies : AreCellPoliciesRead (design_of p) (cell_count lists) 3 held (word_of words 3) plans) (s : Status) → IsAnswer (CellsCall p lists plans) s →

@@ -1,6 +1,6 @@
 -- How the files are read and the texts made, on the way.
-use Rattle.std.specs.Prelude.{◌≡◌, ◌≢◌, ◌⊎◌, ℕ, ℤ, List, Option}
-use Rattle.io_edge.specs.Faults.{Files, Rose}
+use Rattle.std.specs.Prelude.{◌≡◌, ◌⊎◌, ℕ, ℤ, List, Option}
+use Rattle.io_edge.specs.Faults.{Files}
 use Rattle.qp_model.specs.problem.Policy.{Plans}
 use Rattle.qp_model.specs.problem.Parts.{IsDesign, design_of}
 use Rattle.qp_model.specs.machine.Controller.{Numbers}
@@ -10,10 +10,11 @@ use Rattle.cell_split.specs.Cells.{cell_count, AreCutsFor}
 use Rattle.cell_maker.specs.Made.{AreCellsMade}
 use Rattle.cell_file.specs.Text.{IsCellsText}
 use Rattle.command_line.specs.Words.{word_of}
-use Rattle.command_line.specs.Answers.{ForContents, IsAnswer}
+use Rattle.command_line.specs.Answers.{Contents, ForContents, IsAnswer}
 use Rattle.command_line.specs.declared.status.Status.{Status}
-use Rattle.command_line.specs.declared.status.Status.TheVariants.{Done, Memory, ReadFault, WriteFault}
+use Rattle.command_line.specs.declared.status.Status.TheVariants.{Done, Memory}
 use Rattle.command_files.specs.Reading.{IsDesignRead, AreCutListsRead, AreCellPoliciesRead}
+use Rattle.command_generate.specs.Ending.{IsFaultless, EndsUnwritten}
 use Rattle.command_split.specs.Cells.{CellsCall}
 use Rattle.command_split.specs.Split.{SplitCalls, SplitReaches, report_texts}
 
@@ -28,13 +29,6 @@ pub record AreCellTexts (p : DesignParts) (cuts : List (List ℤ)) (policies : L
   pub is_text : IsCellsText text cells
   pub is_report : report ≡ report_texts bounds
   pub answer : IsAnswer (CellsCall p cuts policies) Done
-
--- no fault, and neither done nor out of memory
-pub record IsFaultless (s : Status) : Type 0 where
-  pub done : s ≢ Done
-  pub memory : s ≢ Memory
-  pub read : (file : ℕ) → s ≢ ReadFault file
-  pub write : (file : ℕ) → s ≢ WriteFault file
 
 -- out of memory, or this status is called for, and no other
 abbrev pub CellsRefuse : DesignParts → List (List ℤ) → List Plans → Status → Type 0
@@ -60,18 +54,12 @@ pub record AreSplitTexts (words : List (List ℕ)) (held : Option Files) (text r
   pub texts : AreCellTexts p lists plans text report
   pub answer : IsSplitAnswer words held Done
 
--- the read of a file failed, to which the files before it led
-pub record IsSplitReadFault (words : List (List ℕ)) (held : Option Files) (before now : List ℕ → ℕ) (s : Status) : Type 0 where
-  pub file : ℕ
-  pub is : s ≡ ReadFault file
-  pub reached : ForContents words held (λ k. SplitReaches (k 1) (k 2) file)
-  pub rose : Rose (before (word_of words file)) (now (word_of words file))
-
--- the files call for this status, and for no other
-pub record IsSplitRefused (words : List (List ℕ)) (held : Option Files) (s : Status) : Type 0 where
-  pub called : IsSplitAnswer words held s
-  pub refusal : IsFaultless s
-
 -- the run ends with this status before anything is written
+abbrev pub split_calls : Contents → Status → Type 0
+split_calls k = SplitCalls (k 1) (k 2) (k 3)
+
+abbrev pub split_reaches : Contents → ℕ → Type 0
+split_reaches k = SplitReaches (k 1) (k 2)
+
 abbrev pub EndsSplit : (words : List (List ℕ)) → Option Files → (before now : List ℕ → ℕ) → Status → Type 0
-EndsSplit words held before now s = (s ≡ Memory) ⊎ (IsSplitReadFault words held before now s ⊎ IsSplitRefused words held s)
+EndsSplit words held before now s = EndsUnwritten split_calls split_reaches words held before now s

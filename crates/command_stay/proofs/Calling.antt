@@ -13,25 +13,26 @@ use Rattle.stay_check.specs.FaceForms.{FaceNumbers}
 use Rattle.stay_check.specs.declared.fault.StayFault.{StayFault}
 use Rattle.stay_check.specs.declared.fault.StayFault.TheVariants as faults
 use Rattle.stay_check.proofs.CheckFacts.{same_fault, stays_or_not}
-use Rattle.design_engine.specs.Targets.{Targets, targets_of}
-use Rattle.design_engine.specs.Bounds.{printed_multiplier, stated_cost}
-use Rattle.design_engine.specs.Refusals.{HasCause}
+use Rattle.command_generate.specs.Engine.Targets.{Targets, targets_of}
+use Rattle.command_generate.specs.Engine.Bounds.{printed_multiplier, stated_cost}
+use Rattle.command_generate.specs.Engine.Refusals.{HasCause}
 use Rattle.design_refusal.specs.declared.refusal.Refusal.{Refusal}
 use Rattle.design_refusal.specs.declared.refusal.Refusal.TheVariants as refusals
 use Rattle.command_line.specs.Answers.{IsAnswer}
 use Rattle.command_line.specs.declared.status.Status.{Status}
 use Rattle.command_line.specs.declared.status.Status.TheVariants.{Done, Memory}
-use Rattle.command_controller.specs.Made.{MakingCalls, IsRefusedBy, IsMadeOf, Passes}
+use Rattle.command_generate.specs.Made.{MakingCalls, IsRefusedBy, IsMadeOf, Passes}
 use Rattle.command_line.specs.Status.{status_of}
-use Rattle.command_controller.proofs.Making.{refusal_not_done, making_no_read, making_no_write}
+use Rattle.command_generate.proofs.Making.{refusal_not_done, making_no_read, making_no_write}
 use Rattle.command_stay.specs.Excess.{AreStatedExcesses}
 use Rattle.command_stay.specs.Stay.{stay_status, FacesCall, FacedCalls, StayingCalls}
-use Rattle.command_stay.specs.Reading.{IsRefusal, IsRefusedWith}
+use Rattle.command_generate.specs.Ending.{IsFaultless}
+use Rattle.command_stay.specs.Reading.{IsRefusedWith}
 use Rattle.command_stay.specs.Checking.{made_excess, IsKeptWith, IsCaughtWith, IsKept, IsCaught}
 use Rattle.command_stay.proofs.Excesses.{one_excess, own_passes, built_excess}
 
 -- ---- the status of a fault
-pub fault_refusal : (fault : StayFault) (s : Status) → s ≡ stay_status fault → IsRefusal s
+pub fault_refusal : (fault : StayFault) (s : Status) → s ≡ stay_status fault → IsFaultless s
 fault_refusal (faults.TooWide quantity) s is = record { done = λ e. cc; memory = λ e. cc; read = λ f e. cc; write = λ f e. cc }
 fault_refusal (faults.Unequal entry input left right) s is = record { done = λ e. cc; memory = λ e. cc; read = λ f e. cc; write = λ f e. cc }
 fault_refusal (faults.NoStay entry bound) s is = record { done = λ e. cc; memory = λ e. cc; read = λ f e. cc; write = λ f e. cc }
@@ -81,7 +82,7 @@ module _ (Refuses : Status → Type 0) (AreStated : List ℤ → Type 0) (d : De
         only t (inl why) = absurd (not_refused t why)
         only t (inr call) = by t (by_excess t call.0 call.1 call.2)
 
-    pub caught_calls : (s : Status) → IsCaughtWith d (at excess) faces range s → IsAnswer Calls s × IsRefusal s
+    pub caught_calls : (s : Status) → IsCaughtWith d (at excess) faces range s → IsAnswer Calls s × IsFaultless s
     caught_calls s caught = (record { called = inr (excess, stated, inr (caught.fault, caught.found, caught.is)); only = only }, fault_refusal caught.fault s caught.is)
       where
         by : (t : Status) → FacesCall d (at excess) faces range t → t ≡ s

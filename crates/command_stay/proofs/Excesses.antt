@@ -18,24 +18,22 @@ use Rattle.qp_model.specs.machine.Machine.{exponent_of}
 use Rattle.qp_model.specs.bounds.Printed.{Printed}
 use Rattle.qp_model.specs.declared.design_parts.DesignParts.{DesignParts}
 use Rattle.qp_model.specs.declared.bounds.Margin.{Margin}
-use Rattle.plant_condense.proofs.FormLaws.{form_law}
-use Rattle.real_error.proofs.RealCosts as costs
-use Rattle.hessian_check.proofs.RowExponentLaws.{one_list_law}
-use Rattle.bit_choice.specs.Choice.{IsChoice}
 use Rattle.stay_check.specs.LoopStay.{CoversPrinted}
-use Rattle.design_engine.specs.Targets.{targets_of, error_limit}
-use Rattle.design_engine.specs.Bounds.{margin_of, printed_multiplier, stated_cost}
-use Rattle.design_engine.specs.Built.{IsBuilt}
-use Rattle.design_engine.specs.Refusals.{HasCause, PassesAll}
+use Rattle.command_generate.specs.Engine.Targets.{targets_of, error_limit}
+use Rattle.command_generate.specs.Engine.Aims.{aim_of, AreBitsOf}
+use Rattle.command_generate.specs.Engine.Bounds.{margin_of, printed_multiplier, stated_cost}
+use Rattle.command_generate.specs.Engine.Built.{IsBuilt}
+use Rattle.command_generate.specs.Engine.Refusals.{HasCause, PassesAll}
 use Rattle.design_refusal.specs.declared.refusal.Refusal.{Refusal}
-use Rattle.design_engine.proofs.OneOfEach.{one_margin, one_exponent, one_choice}
-use Rattle.design_engine.proofs.GenerationFacts.{limit_small, bound_some, bound_narrow, at_most}
+use Rattle.command_generate.proofs.Engine.OneOfEach.{one_margin, one_exponent, one_exponents, one_choice}
+use Rattle.command_generate.proofs.Engine.BuiltFacts.{made_within}
+use Rattle.command_generate.proofs.Engine.GenerationFacts.{limit_small, bound_some, bound_narrow, at_most}
 use Rattle.command_line.specs.Answers.{IsAnswer}
 use Rattle.command_line.specs.declared.status.Status.TheVariants.{Done}
-use Rattle.command_controller.specs.Made.{MakingCalls}
+use Rattle.command_generate.specs.Made.{MakingCalls}
 use Rattle.command_line.specs.Status.{status_of}
-use Rattle.command_controller.proofs.Making.{refusal_not_done}
-use Rattle.command_controller.proofs.Passing as passing
+use Rattle.command_generate.proofs.Making.{refusal_not_done}
+use Rattle.command_generate.proofs.Passing as passing
 use Rattle.command_stay.specs.Excess.{stated_excess, AreStatedExcesses}
 use Rattle.command_stay.specs.Checking.{AreSmall, made_excess}
 
@@ -50,11 +48,10 @@ module _ (p : DesignParts) (plans : Plans) (design : IsDesign p) (policy : IsPol
 
   bits : h.bits ≡ k.bits
   bits = one_choice (error_sums_of (design_of p) (form_of (design_of p)) (multiplier_of k.margin)) (design_of p).grid (error_limit (targets_of p) (multiplier_of k.margin)) h.bits k.bits
-      (subst (λ (m : Margin). IsChoice (error_sums_of (design_of p) (form_of (design_of p)) (multiplier_of m)) (design_of p).grid (error_limit (targets_of p) (multiplier_of m)) h.bits)
-      margin h.passes.aim.before.choice) k.passes.aim.before.choice
+      (subst (λ (m : Margin). AreBitsOf (design_of p) (aim_of (targets_of p) m) h.bits) margin h.passes.aim.before.choice) k.passes.aim.before.choice
 
   exponents : h.exponents ≡ k.exponents
-  exponents = one_list_law (design_of p) k.exponent h.exponents k.exponents (rw exponent at h.own) k.own
+  exponents = one_exponents (design_of p) k.exponent h.exponents k.exponents (rw exponent at h.own) k.own
 
   pub one_excess : xs ≡ ys
   one_excess = ext_get_or (pos 0) xs ys (h.holds.long ∙ sym k.holds.long) (λ i l.
@@ -126,7 +123,7 @@ module _ (p : DesignParts) (plans : Plans) (c : Numbers) (b : Printed) (built : 
     }
 
     real_within : real_cost (design_of p) (form_of (design_of p)) (printed_multiplier b) c ≤ stated_cost (design_of p) (printed_multiplier b) c.fraction_bits
-    real_within = costs.cost p (form_of (design_of p)) (printed_multiplier b) c built.made.design (form_law p built.made.design built.made.narrow) built.made.made
+    real_within = made_within p (aim_of (targets_of p) (margin_of b)) c built.made
 
     pub covers : CoversPrinted (design_of p) b (at xs)
     covers i l =

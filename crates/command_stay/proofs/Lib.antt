@@ -3,3 +3,6 @@ pub mod Excesses
 pub mod Calling
 pub mod Opening
 pub mod Written
+-- the same of the proofs
+pub use Rattle.command_files.proofs as Files
+pub use Rattle.command_generate.proofs as Generating

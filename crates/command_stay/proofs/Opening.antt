@@ -1,42 +1,30 @@
 -- What the files make of the answer where one of them ends it, and where all are right.
-use Rattle.std.proofs.Common.{◌≡◌, inl, inr, ℕ, Bool, true, false, List, Option, refl, subst}
-use Rattle.io_edge.specs.Faults.{Files, NoneFalls}
+use Rattle.std.proofs.Common.{◌≡◌, inl, inr, ℕ, ◌≤◌, Bool, true, false, List, Option, refl, subst}
+use Rattle.io_edge.specs.Faults.{Files}
 use Rattle.integer_algebra.specs.Sums.{at}
 use Rattle.mat_int.specs.Matrix.{Matrix}
-use Rattle.number_text.specs.declared.text_fault.TextFault.{TextFault}
 use Rattle.qp_model.specs.problem.Design.{Design}
 use Rattle.qp_model.specs.problem.Policy.{Plans}
 use Rattle.qp_model.specs.problem.Parts.{design_numbers, design_of}
 use Rattle.qp_model.specs.declared.design_parts.DesignParts.{DesignParts}
 use Rattle.stay_check.specs.FaceForms.{FaceNumbers}
-use Rattle.design_engine.specs.Refusals.{HasCause}
+use Rattle.command_generate.specs.Engine.Refusals.{HasCause}
 use Rattle.command_line.specs.Words.{word_of}
 use Rattle.command_line.specs.Limit.{file_limit}
 use Rattle.command_line.specs.Answers.{Contents, IsTold, ForContents, FileHolds, IsFileRefused, IsAnswer}
 use Rattle.command_line.proofs.Composing.{told_at, told, told_contents, all_told, replace, replaced_told, some_contents, stop, go_on, go_on_whole}
-use Rattle.command_line.proofs.Counts.{rose_later}
 use Rattle.command_line.specs.declared.status.Status.{Status}
-use Rattle.command_line.specs.declared.status.Status.TheVariants.{Text, Long}
 use Rattle.command_files.specs.Texts.{DesignRight, DesignWrong, PolicyRight, PolicyWrong, FacesRight, FacesWrong, RangeRight, RangeWrong}
 use Rattle.command_files.specs.Reading.{ReadsPolicy, ReadsFaces, IsDesignRead, EndsDesign, IsPolicyRead, EndsPolicy, AreFacesRead, EndsFaces}
 use Rattle.command_files.proofs.Designs.{same_design}
-use Rattle.command_controller.proofs.SameDesign.{along}
+use Rattle.command_generate.proofs.SameDesign.{along}
 use Rattle.command_generate.specs.Generate.{HoldsInputs}
+use Rattle.command_generate.specs.Inputs.{AreInputsRead, EndsInputs}
+use Rattle.command_generate.proofs.Ends.{reading_later}
+use Rattle.command_generate.proofs.Ending.{file_ends}
 use Rattle.command_stay.specs.Excess.{AreStatedExcesses}
 use Rattle.command_stay.specs.Stay.{FacesCall, StayingCalls, ReadsShifts, StayCalls, StayReaches, no_shifts}
-use Rattle.command_stay.specs.Reading.{IsRangeTaken, EndsTaking, IsRefusal, IsRefusedWith, AreStayFilesRead, EndsStaying}
-
--- ---- what a file is refused with
-long_refusal : (file : ℕ) (s : Status) → s ≡ Long file → IsRefusal s
-long_refusal file s is = record { done = λ e. cc; memory = λ e. cc; read = λ f e. cc; write = λ f e. cc }
-
-text_refusal : (file : ℕ) (fault : TextFault) (s : Status) → s ≡ Text file fault → IsRefusal s
-text_refusal file fault s is = record { done = λ e. cc; memory = λ e. cc; read = λ f e. cc; write = λ f e. cc }
-
-pub refusal_of : (file : ℕ) (Wrong : List ℕ → Status → Type 0) (content : Option (List ℕ)) (s : Status) → ((bytes : List ℕ) → Wrong bytes s → (fault : TextFault) × (s ≡ Text file fault)) →
-    IsFileRefused file_limit file Wrong content s → IsRefusal s
-refusal_of file Wrong content s tells (inl long) = long_refusal file s long.is
-refusal_of file Wrong content s tells (inr wrong) = let told = tells wrong.bytes wrong.right in text_refusal file told.0 s told.1
+use Rattle.command_stay.specs.Reading.{IsRangeTaken, EndsTaking, EndsFacesUnder, stay_calls, stay_reaches, IsRefusedWith, AreStayFilesRead, EndsStaying}
 
 -- ---- the contents of the four files that are read
 abbrev pub four_contents : List (List ℕ) → Option Files → (one two five six : Option (List ℕ)) → Contents
@@ -109,26 +97,12 @@ module _ (disturbed : Bool) (words : List (List ℕ)) (held : Option Files) wher
   abbrev sixth : Option (List ℕ)
   sixth = told_at held (word_of words 6)
 
-  -- ---- what ends the later files ends them all
-  pub ends_later : (before mid now : List ℕ → ℕ) (s : Status) → NoneFalls before mid → NoneFalls mid now → EndsStaying disturbed words held mid now s → EndsStaying disturbed words held before now s
-  ends_later before mid now s low high (inl memory) = inl memory
-  ends_later before mid now s low high (inr (inl fault)) = inr (inl (record {
-    file = fault.file;
-    is = fault.is;
-    reached = fault.reached;
-    rose = rose_later _ _ _ (low.each (word_of words fault.file)) (high.each (word_of words fault.file)) fault.rose;
-  }))
-  ends_later before mid now s low high (inr (inr called)) = inr (inr called)
-
   -- ---- the design's file ends it
-  pub design_ends : (before now : List ℕ → ℕ) (s : Status) → EndsDesign 1 held (word_of words 1) (before (word_of words 1)) (now (word_of words 1)) s → EndsStaying disturbed words held before now s
-  design_ends before now s (inl memory) = inl memory
-  design_ends before now s (inr (inl fault)) = inr (inl (record { file = 1; is = fault.0; reached = some_contents words held (Reached 1) (λ k. inl refl); rose = fault.1 }))
-  design_ends before now s (inr (inr wrong)) = inr (inr (record {
-    called = for_four words held (Called s) wrong.content second fifth sixth wrong.told (told held (word_of words 2)) (told held (word_of words 5)) (told held (word_of words 6))
-        (stop file_limit 1 (DesignWrong 1) DesignRight held (word_of words 1) s wrong (AfterDesign disturbed second fifth sixth));
-    refusal = refusal_of 1 (DesignWrong 1) wrong.content s (λ bytes why. (why.0, why.2.1)) wrong.answer.called;
-  }))
+  design_ends : (before now : List ℕ → ℕ) (s : Status) → EndsDesign 1 held (word_of words 1) (before (word_of words 1)) (now (word_of words 1)) s → EndsStaying disturbed words held before now s
+  design_ends before now s =
+      file_ends (stay_calls disturbed) (stay_reaches disturbed) words held 1 (DesignWrong 1) DesignRight before now s (λ bytes why. (why.0, why.2.1)) (some_contents words held (Reached 1) (λ k. inl refl))
+      (λ wrong. for_four words held (Called s) wrong.content second fifth sixth wrong.told (told held (word_of words 2)) (told held (word_of words 5)) (told held (word_of words 6))
+      (stop file_limit 1 (DesignWrong 1) DesignRight held (word_of words 1) s wrong (AfterDesign disturbed second fifth sixth)))
 
   -- ---- the design is right
   module _ (p : DesignParts) (design : IsDesignRead 1 held (word_of words 1) p) where
@@ -137,20 +111,13 @@ module _ (disturbed : Bool) (words : List (List ℕ)) (held : Option Files) wher
         go_on file_limit 1 (DesignWrong 1) DesignRight design_numbers held (word_of words 1) p s design (AfterDesign disturbed policy faces shifts)
         (λ y same t after. policy_same y p same disturbed policy faces shifts t after) answer
 
-    pub policy_ends : (before now : List ℕ → ℕ) (s : Status) → EndsPolicy (design_of p) 2 held (word_of words 2) (before (word_of words 2)) (now (word_of words 2)) s → EndsStaying disturbed words held before now s
-    policy_ends before now s (inl memory) = inl memory
-    policy_ends before now s (inr (inl fault)) = inr (inl (record {
-      file = 2;
-      is = fault.0;
-      reached = for_four words held (Reached 2) design.content second fifth sixth design.told (told held (word_of words 2)) (told held (word_of words 5)) (told held (word_of words 6)) (inr (inl (refl, p, design.right)));
-      rose = fault.1;
-    }))
-    policy_ends before now s (inr (inr wrong)) = inr (inr (record {
-      called = for_four words held (Called s) design.content wrong.content fifth sixth design.told wrong.told (told held (word_of words 5)) (told held (word_of words 6))
-          (with_design wrong.content fifth sixth s
-          (stop file_limit 2 (PolicyWrong (design_of p) 2) (PolicyRight (design_of p)) held (word_of words 2) s wrong (AfterPolicy disturbed fifth sixth p)));
-      refusal = refusal_of 2 (PolicyWrong (design_of p) 2) wrong.content s (λ bytes why. (why.0, why.2.1)) wrong.answer.called;
-    }))
+    policy_ends : (before now : List ℕ → ℕ) (s : Status) → EndsPolicy (design_of p) 2 held (word_of words 2) (before (word_of words 2)) (now (word_of words 2)) s → EndsStaying disturbed words held before now s
+    policy_ends before now s =
+        file_ends (stay_calls disturbed) (stay_reaches disturbed) words held 2 (PolicyWrong (design_of p) 2) (PolicyRight (design_of p)) before now s (λ bytes why. (why.0, why.2.1))
+        (for_four words held (Reached 2) design.content second fifth sixth design.told (told held (word_of words 2)) (told held (word_of words 5)) (told held (word_of words 6)) (inr (inl (refl, p, design.right))))
+        (λ wrong. for_four words held (Called s) design.content wrong.content fifth sixth design.told wrong.told (told held (word_of words 5)) (told held (word_of words 6))
+        (with_design wrong.content fifth sixth s
+        (stop file_limit 2 (PolicyWrong (design_of p) 2) (PolicyRight (design_of p)) held (word_of words 2) s wrong (AfterPolicy disturbed fifth sixth p))))
 
     -- ---- the policy is right
     module _ (plans : Plans) (policy : IsPolicyRead (design_of p) 2 held (word_of words 2) plans) where
@@ -162,21 +129,13 @@ module _ (disturbed : Bool) (words : List (List ℕ)) (held : Option Files) wher
           with_design policy.content faces shifts s
           (go_on_whole file_limit 2 (PolicyWrong (design_of p) 2) (PolicyRight (design_of p)) held (word_of words 2) plans s policy (AfterPolicy disturbed faces shifts p) answer)
 
-      pub faces_ends : (before now : List ℕ → ℕ) (s : Status) → EndsFaces (design_of p) 5 held (word_of words 5) (before (word_of words 5)) (now (word_of words 5)) s → EndsStaying disturbed words held before now s
-      faces_ends before now s (inl memory) = inl memory
-      faces_ends before now s (inr (inl fault)) = inr (inl (record {
-        file = 5;
-        is = fault.0;
-        reached = for_four words held (Reached 5) design.content policy.content fifth sixth design.told policy.told (told held (word_of words 5)) (told held (word_of words 6))
-            (inr (inr (inl (refl, p, plans, inputs))));
-        rose = fault.1;
-      }))
-      faces_ends before now s (inr (inr wrong)) = inr (inr (record {
-        called = for_four words held (Called s) design.content policy.content wrong.content sixth design.told policy.told wrong.told (told held (word_of words 6))
-            (with_policy wrong.content sixth s
-            (stop file_limit 5 (FacesWrong (design_of p) 5) (FacesRight (design_of p)) held (word_of words 5) s wrong (AfterFaces disturbed sixth p plans)));
-        refusal = refusal_of 5 (FacesWrong (design_of p) 5) wrong.content s (λ bytes why. (why.0, why.2.1)) wrong.answer.called;
-      }))
+      faces_ends : (before now : List ℕ → ℕ) (s : Status) → EndsFaces (design_of p) 5 held (word_of words 5) (before (word_of words 5)) (now (word_of words 5)) s → EndsStaying disturbed words held before now s
+      faces_ends before now s =
+          file_ends (stay_calls disturbed) (stay_reaches disturbed) words held 5 (FacesWrong (design_of p) 5) (FacesRight (design_of p)) before now s (λ bytes why. (why.0, why.2.1))
+          (for_four words held (Reached 5) design.content policy.content fifth sixth design.told policy.told (told held (word_of words 5)) (told held (word_of words 6)) (inr (inr (inl (refl, p, plans, inputs)))))
+          (λ wrong. for_four words held (Called s) design.content policy.content wrong.content sixth design.told policy.told wrong.told (told held (word_of words 6))
+          (with_policy wrong.content sixth s
+          (stop file_limit 5 (FacesWrong (design_of p) 5) (FacesRight (design_of p)) held (word_of words 5) s wrong (AfterFaces disturbed sixth p plans))))
 
       -- ---- the faces are right
       module _ (f : FaceNumbers) (faces : AreFacesRead (design_of p) 5 held (word_of words 5) f) where
@@ -198,23 +157,33 @@ with_range true n file held name range s Calls taken answer =
 with_range false n file held name range s Calls taken answer = (told_at held name, told held name, subst (λ (m : Matrix). IsAnswer (Calls m) s) taken answer)
 
 -- ---- the range ends it
-pub range_ends : (disturbed : Bool) (words : List (List ℕ)) (held : Option Files) (p : DesignParts) (design : IsDesignRead 1 held (word_of words 1) p) (plans : Plans)
+range_ends : (disturbed : Bool) (words : List (List ℕ)) (held : Option Files) (p : DesignParts) (design : IsDesignRead 1 held (word_of words 1) p) (plans : Plans)
     (policy : IsPolicyRead (design_of p) 2 held (word_of words 2) plans) (f : FaceNumbers) (faces : AreFacesRead (design_of p) 5 held (word_of words 5) f) (before now : List ℕ → ℕ) (s : Status) →
     EndsTaking disturbed (design_of p).states 6 held (word_of words 6) (before (word_of words 6)) (now (word_of words 6)) s → EndsStaying disturbed words held before now s
 range_ends false words held p design plans policy f faces before now s memory = inl memory
-range_ends true words held p design plans policy f faces before now s (inl memory) = inl memory
-range_ends true words held p design plans policy f faces before now s (inr (inl fault)) = inr (inl (record {
-  file = 6;
-  is = fault.0;
-  reached = for_four words held (λ k. StayReaches true (k 1) (k 2) (k 5) 6) design.content policy.content faces.content (told_at held (word_of words 6)) design.told policy.told faces.told (told held (word_of words 6))
-      (inr (inr (inr (refl, refl, record { p = p; plans = plans; inputs = record { design_right = design.right; policy_right = policy.right }; numbers = f; faces_right = faces.right }))));
-  rose = fault.1;
-}))
-range_ends true words held p design plans policy f faces before now s (inr (inr wrong)) = inr (inr (record {
-  called = three_right true words held p design plans policy f faces wrong.content s wrong.told
-      (stop file_limit 6 (RangeWrong (design_of p).states 6) (RangeRight (design_of p).states) held (word_of words 6) s wrong (StayingCalls p plans f));
-  refusal = refusal_of 6 (RangeWrong (design_of p).states 6) wrong.content s (λ bytes why. (why.0, why.2.1)) wrong.answer.called;
-}))
+range_ends true words held p design plans policy f faces before now s ends =
+    file_ends (stay_calls true) (stay_reaches true) words held 6 (RangeWrong (design_of p).states 6) (RangeRight (design_of p).states) before now s (λ bytes why. (why.0, why.2.1))
+    (for_four words held (λ k. StayReaches true (k 1) (k 2) (k 5) 6) design.content policy.content faces.content (told_at held (word_of words 6)) design.told policy.told faces.told (told held (word_of words 6))
+    (inr (inr (inr (refl, refl, record { p = p; plans = plans; inputs = record { design_right = design.right; policy_right = policy.right }; numbers = f; faces_right = faces.right })))))
+    (λ wrong. three_right true words held p design plans policy f faces wrong.content s wrong.told
+    (stop file_limit 6 (RangeWrong (design_of p).states 6) (RangeRight (design_of p).states) held (word_of words 6) s wrong (StayingCalls p plans f))) ends
+
+-- ---- one of the first two ends it, or of the others
+pub inputs_end : (disturbed : Bool) (words : List (List ℕ)) (held : Option Files) (before now : List ℕ → ℕ) (s : Status) → EndsInputs words held before now s → EndsStaying disturbed words held before now s
+inputs_end disturbed words held before now s (inl design) = design_ends disturbed words held before now s design
+inputs_end disturbed words held before now s (inr policy) = policy_ends disturbed words held policy.0 policy.1 before now s policy.2
+
+pub under_ends : (disturbed : Bool) (words : List (List ℕ)) (held : Option Files) (p : DesignParts) (plans : Plans) → AreInputsRead words held p plans → (before now : List ℕ → ℕ) (s : Status) →
+    EndsFacesUnder disturbed (design_of p) 5 6 words held before now s → EndsStaying disturbed words held before now s
+under_ends disturbed words held p plans read before now s (inl faces) = faces_ends disturbed words held p read.design plans read.policy before now s faces
+under_ends disturbed words held p plans read before now s (inr range) =
+    range_ends disturbed words held p read.design plans read.policy range.0 range.1 before now s range.2
+
+-- taking the range, where the counts stood no higher before
+pub taking_later : (disturbed : Bool) (n file : ℕ) (held : Option Files) (name : List ℕ) (before mid now : ℕ) (s : Status) → before ≤ mid → mid ≤ now →
+    EndsTaking disturbed n file held name mid now s → EndsTaking disturbed n file held name before now s
+taking_later true n file held name before mid now s low high ends = reading_later file_limit file (RangeWrong n file) (RangeRight n) held name before mid now s low high ends
+taking_later false n file held name before mid now s low high memory = memory
 
 -- ---- all are right
 pub all_right : (disturbed : Bool) (words : List (List ℕ)) (held : Option Files) (p : DesignParts) (plans : Plans) (f : FaceNumbers) (range : Matrix) →
@@ -222,7 +191,7 @@ pub all_right : (disturbed : Bool) (words : List (List ℕ)) (held : Option File
     ForContents words held (λ k. IsAnswer (StayCalls disturbed (k 1) (k 2) (k 5) (k 6)) s)
 all_right disturbed words held p plans f range read s answer =
     let taken = with_range disturbed (design_of p).states 6 held (word_of words 6) range s (StayingCalls p plans f) read.range_taken answer in
-    three_right disturbed words held p read.design plans read.policy f read.faces_read taken.0 s taken.1 taken.2
+    three_right disturbed words held p read.inputs.design plans read.inputs.policy f read.faces_read taken.0 s taken.1 taken.2
 
 pub refused_ends : (disturbed : Bool) (words : List (List ℕ)) (held : Option Files) (p : DesignParts) (plans : Plans) (f : FaceNumbers) (range : Matrix) →
     AreStayFilesRead disturbed words held p plans f range → (before now : List ℕ → ℕ) (s : Status) → IsRefusedWith p plans f range s → EndsStaying disturbed words held before now s

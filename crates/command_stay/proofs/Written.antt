@@ -1,8 +1,8 @@
 -- What is written, and the clauses of the whole.
-use Rattle.std.proofs.Common.{◌≡◌, ◌≢◌, inl, inr, ℕ, ◌<◌, Bool, true, false, if◌then◌else◌, List, ℤ, pos, Option, Some, None, Result, Ok, Err, sym, subst, arith}
+use Rattle.std.proofs.Common.{◌≡◌, ◌≢◌, ℕ, ◌<◌, Bool, true, false, if◌then◌else◌, List, ℤ, pos, Option, Some, None, Result, Ok, Err, sym, subst, arith}
 use Rattle.std.specs.Prelude.{IfOk, IfSome, IsSomeAnd, ◌≤ℤ◌}
 use Rattle.std.specs.Int.Signed.{≤ℤ_refl}
-use Rattle.io_edge.specs.Faults.{Files, Rose, IsCutShort}
+use Rattle.io_edge.specs.Faults.{Files, IsCutShort}
 use Rattle.integer_algebra.specs.Sums.{at, none}
 use Rattle.mat_int.specs.Matrix.{Matrix, row_of}
 use Rattle.qp_model.specs.problem.Policy.{Plans}
@@ -16,20 +16,18 @@ use Rattle.stay_check.specs.FaceForms.{FaceNumbers}
 use Rattle.stay_check.specs.LoopStay.{IsKeptAt}
 use Rattle.stay_check.proofs.LoopLaws.{loop_under_law, unshifted}
 use Rattle.stay_check.proofs.CheckFacts.{zeros_are}
-use Rattle.design_engine.specs.Bounds.{printed_multiplier, stated_cost}
+use Rattle.command_generate.specs.Engine.Bounds.{printed_multiplier, stated_cost}
 use Rattle.command_line.specs.Words.{word_of}
 use Rattle.command_line.specs.Limit.{file_limit}
-use Rattle.command_line.specs.Answers.{ForContents, FileHolds, IsAnswer, IsCaused}
-use Rattle.command_line.specs.declared.status.Status.{Status}
-use Rattle.command_line.specs.declared.status.Status.TheVariants.{Done, ReadFault, WriteFault}
+use Rattle.command_line.specs.Answers.{FileHolds}
 use Rattle.command_files.specs.Texts.{DesignRight, PolicyRight, RangeRight}
-use Rattle.command_controller.specs.Made.{IsMadeOf}
+use Rattle.command_generate.specs.Made.{IsMadeOf}
 use Rattle.command_generate.specs.Generate.{HoldsInputs, IsControllerCut, IsReportCut}
 use Rattle.command_generate.specs.Writing.{AreWritten, IsSecondCut}
 use Rattle.command_generate.proofs.Written.{generated, controller_cut, report_cut}
 use Rattle.command_stay.specs.Checking.{made_excess, IsKept}
-use Rattle.command_stay.specs.Stay.{StayCalls, StayReaches, no_shifts, IsRangeIn, KeepsLoops, IsStayed}
-use Rattle.command_stay.specs.Reading.{IsRangeTaken, AreStayFilesRead, AreTextsUnder, EndsStaying}
+use Rattle.command_stay.specs.Stay.{no_shifts, IsRangeIn, KeepsLoops, IsStayed}
+use Rattle.command_stay.specs.Reading.{IsRangeTaken, AreStayFilesRead, AreTextsUnder}
 use Rattle.command_stay.proofs.Excesses.{covers}
 
 -- two facts of a value
@@ -61,8 +59,8 @@ undisturbed p c b range is keeps start inside turns =
 inputs_of : (disturbed : Bool) (words : List (List ℕ)) (files : Files) (p : DesignParts) (plans : Plans) (f : FaceNumbers) (range : Matrix) → AreStayFilesRead disturbed words (Some files) p plans f range →
     HoldsInputs (files (word_of words 1)) (files (word_of words 2)) p plans
 inputs_of disturbed words files p plans f range read = record {
-  design_right = subst (λ (o : Option (List ℕ)). FileHolds file_limit (DesignRight p) o) read.design.told read.design.right;
-  policy_right = subst (λ (o : Option (List ℕ)). FileHolds file_limit (PolicyRight (design_of p) plans) o) read.policy.told read.policy.right;
+  design_right = subst (λ (o : Option (List ℕ)). FileHolds file_limit (DesignRight p) o) read.inputs.design.told read.inputs.design.right;
+  policy_right = subst (λ (o : Option (List ℕ)). FileHolds file_limit (PolicyRight (design_of p) plans) o) read.inputs.policy.told read.inputs.policy.right;
 }
 
 pub range_in : (disturbed : Bool) (file : ℕ) (words : List (List ℕ)) (files : Files) (n : ℕ) (range : Matrix) → IsRangeTaken disturbed n file (Some files) (word_of words file) range →
@@ -116,29 +114,3 @@ six_names false n is = omega (arith, is)
 pub seventh_name : (disturbed : Bool) (n : ℕ) → n ≡ (if disturbed then 7 else 6) → disturbed ≡ true → 6 < n
 seventh_name true n is disturbed = omega (arith, is)
 seventh_name false n is disturbed = absurd (let never : ⊥ = cc in never)
-
--- ---- a file ended it, or the design with the policy, or the faces
-module _ (disturbed : Bool) (words : List (List ℕ)) (held : Option Files) (before now : List ℕ → ℕ) (s : Status) where
-  pub stop_called : EndsStaying disturbed words held before now s → IsCaused s → ForContents words held (λ k. IsAnswer (StayCalls disturbed (k 1) (k 2) (k 5) (k 6)) s)
-  stop_called (inl memory) caused = absurd (caused.memory memory)
-  stop_called (inr (inl fault)) caused = absurd (caused.read fault.file fault.is)
-  stop_called (inr (inr refused)) caused = refused.called
-
-  pub stop_not_done : EndsStaying disturbed words held before now s → s ≢ Done
-  stop_not_done (inl memory) is = cc
-  stop_not_done (inr (inl fault)) is = let e = fault.is in cc
-  stop_not_done (inr (inr refused)) is = refused.refusal.done is
-
-  pub stop_no_write : EndsStaying disturbed words held before now s → (file : ℕ) → s ≢ WriteFault file
-  stop_no_write (inl memory) file is = cc
-  stop_no_write (inr (inl fault)) file is = let e = fault.is in cc
-  stop_no_write (inr (inr refused)) file is = refused.refusal.write file is
-
-  pub stop_fault : EndsStaying disturbed words held before now s → (file : ℕ) → s ≡ ReadFault file →
-      ForContents words held (λ k. StayReaches disturbed (k 1) (k 2) (k 5) file) × Rose (before (word_of words file)) (now (word_of words file))
-  stop_fault (inl memory) file is = absurd (let never : ⊥ = cc in never)
-  stop_fault (inr (inl fault)) file is = let e = fault.is in let same : fault.file ≡ file = cc in (
-    subst (λ (i : ℕ). ForContents words held (λ k. StayReaches disturbed (k 1) (k 2) (k 5) i)) same fault.reached,
-    subst (λ (i : ℕ). Rose (before (word_of words i)) (now (word_of words i))) same fault.rose,
-  )
-  stop_fault (inr (inr refused)) file is = absurd (refused.refusal.read file is)

@@ -5,11 +5,11 @@ use Rattle.qp_model.specs.problem.Policy.{Plans}
 use Rattle.qp_model.specs.problem.Runs.{Holds}
 use Rattle.qp_model.specs.bounds.Choices.{multiplier_of, row_violation_bound}
 use Rattle.qp_model.specs.declared.bounds.Margin.{Margin}
-use Rattle.hessian_check.specs.RowExponents.{exponent_in, AreExponentsOf}
-use Rattle.design_engine.specs.Targets.{Targets}
-use Rattle.design_engine.specs.Bounds.{stated_cost}
-use Rattle.design_engine.specs.Refusals.{PassesAll}
-use Rattle.design_engine.specs.Aims.{aim_of, steps_of}
+use Rattle.command_generate.specs.Engine.RowExponents.{exponent_in, AreExponentsOf}
+use Rattle.command_generate.specs.Engine.Targets.{Targets}
+use Rattle.command_generate.specs.Engine.Bounds.{stated_cost}
+use Rattle.command_generate.specs.Engine.Refusals.{PassesAll}
+use Rattle.command_generate.specs.Engine.Aims.{aim_of, steps_of}
 
 -- of row i, over 2^40, by the margin, the step exponent s, the fraction bits f and the exponents of the rows
 abbrev pub stated_excess : Design → Targets → Margin → (s f : ℕ) → (exponents : List ℕ) → ℕ → ℤ

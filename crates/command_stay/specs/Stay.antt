@@ -16,7 +16,7 @@ use Rattle.stay_check.specs.Answers.{IsStayFault, Stays}
 use Rattle.stay_check.specs.LoopStay.{state_under, AreShiftsUpTo, IsKeptAt}
 use Rattle.stay_check.specs.declared.fault.StayFault.{StayFault}
 use Rattle.stay_check.specs.declared.fault.StayFault.TheVariants as faults
-use Rattle.design_engine.specs.Targets.{targets_of}
+use Rattle.command_generate.specs.Engine.Targets.{targets_of}
 use Rattle.command_line.specs.Words.{word_of}
 use Rattle.command_line.specs.Limit.{file_limit}
 use Rattle.command_line.specs.Answers.{FileHolds}
@@ -25,7 +25,7 @@ use Rattle.command_line.specs.declared.status.Status.TheVariants.{Done, Refused,
 use Rattle.design_refusal.specs.declared.refusal.Refusal.TheVariants.{TooWide}
 use Rattle.command_files.specs.Texts.{DesignRight, FacesRight, RangeRight}
 use Rattle.command_files.specs.Reading.{ReadsDesign, ReadsPolicy, ReadsFaces, ReadsRange}
-use Rattle.command_controller.specs.Made.{IsRefusedBy}
+use Rattle.command_generate.specs.Made.{IsRefusedBy}
 use Rattle.command_generate.specs.Generate.{HoldsInputs, IsGenerated}
 use Rattle.command_stay.specs.Excess.{AreStatedExcesses}
 

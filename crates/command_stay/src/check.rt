@@ -9,8 +9,8 @@ ghost use Rattle.shift_file.specs.RangeText.{IsShiftRange};
 ghost use Rattle.command_stay.specs.Stay.{stay_status};
 ghost use Rattle.command_stay.specs.Checking.{AreSmall, made_excess, IsKeptWith, IsCaughtWith, IsKept, IsCaught};
 
+use command_generate::{Made, row_violations};
 use command_line::Status;
-use design_engine::{Made, row_violations};
 use design_refusal::Refusal;
 use mat_int::Mat;
 use qp_model::Design;

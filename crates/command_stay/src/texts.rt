@@ -8,19 +8,16 @@ ghost use Rattle.qp_model.specs.bounds.Printed.{printed};
 ghost use Rattle.qp_model.specs.text.ControllerText.{IsControllerText};
 ghost use Rattle.stay_check.specs.FaceForms.{faces_of, AreFacesFor};
 ghost use Rattle.shift_file.specs.RangeText.{IsShiftRange};
-ghost use Rattle.command_line.specs.Words.{word_of, IsStay};
-ghost use Rattle.command_files.specs.Reading.{IsDesignRead, IsPolicyRead, AreFacesRead};
-ghost use Rattle.command_controller.specs.Made.{IsReport};
+ghost use Rattle.command_line.specs.Words.{IsStay};
+ghost use Rattle.command_generate.specs.Made.{IsReport};
+ghost use Rattle.command_generate.specs.Inputs.{AreInputsRead};
 ghost use Rattle.command_stay.specs.Checking.{AreSmall, made_excess, IsKept, IsCaught};
 ghost use Rattle.command_stay.specs.Reading.{AreStayingTexts, AreTextsUnder, IsRefusedWith, EndsStaying};
 
 use crate::check::check_made;
-use crate::shifts::take_range;
-use command_controller::make_controller;
-use command_files::{read_design_file, read_faces_file, read_policy_file};
-use command_generate::{Texts, texts_made};
+use crate::shifts::read_faces_under;
+use command_generate::{Made, Texts, make_controller, read_inputs, texts_made};
 use command_line::Status;
-use design_engine::Made;
 use io_edge::{Store, Words};
 use mat_int::Mat;
 use qp_model::{Design, Policy};
@@ -72,34 +69,8 @@ fn texts_of(
     texts_checked(alloc, design, &made, faces, range, report_name)
 }
 
-// The texts, after three files were read.
-fn texts_after_faces<S: Store>(
-    alloc: Global,
-    words: &Words,
-    disturbed: bool,
-    design: &Design,
-    policy: &Policy,
-    faces: &Faces,
-    store: &mut S,
-) -> Result<Texts, Status>
-    requires words { IsStay words.now disturbed }
-    requires design { IsDesignRead 1 (S.held store.old) (word_of words.now 1) design.now }
-    requires policy { IsPolicyRead (design_of design.now) 2 (S.held store.old) (word_of words.now 2) (plans_of policy.now) }
-    requires plans { IsPolicyFor (design_of design.now) (plans_of policy.now) }
-    requires faces { AreFacesRead (design_of design.now) 5 (S.held store.old) (word_of words.now 5) (faces_of faces.now) }
-    requires sized { AreFacesFor (design_of design.now) (faces_of faces.now) }
-    ensures texts { IfOk result (λ t. AreTextsUnder disturbed words.now (S.held store.old) t.controller.items t.report.items) }
-    ensures ends { IfErr result (EndsStaying disturbed words.now (S.held store.old) (S.read_faults store.old) (S.read_faults store.new)) }
-    ensures held { S.held store.new ≡ S.held store.old }
-    ensures reads { NoneFalls (S.read_faults store.old) (S.read_faults store.new) }
-    ensures writes { NoneFalls (S.write_faults store.old) (S.write_faults store.new) }
-{
-    let range = take_range(alloc, words, 6, disturbed, design.parts().states, store)?;
-    texts_of(alloc, design, policy, faces, &range, words.at(4))
-}
-
 // The texts, after two files were read.
-fn texts_after_policy<S: Store>(
+fn texts_after_inputs<S: Store>(
     alloc: Global,
     words: &Words,
     disturbed: bool,
@@ -108,8 +79,7 @@ fn texts_after_policy<S: Store>(
     store: &mut S,
 ) -> Result<Texts, Status>
     requires words { IsStay words.now disturbed }
-    requires design { IsDesignRead 1 (S.held store.old) (word_of words.now 1) design.now }
-    requires policy { IsPolicyRead (design_of design.now) 2 (S.held store.old) (word_of words.now 2) (plans_of policy.now) }
+    requires read { AreInputsRead words.now (S.held store.old) design.now (plans_of policy.now) }
     requires plans { IsPolicyFor (design_of design.now) (plans_of policy.now) }
     ensures texts { IfOk result (λ t. AreTextsUnder disturbed words.now (S.held store.old) t.controller.items t.report.items) }
     ensures ends { IfErr result (EndsStaying disturbed words.now (S.held store.old) (S.read_faults store.old) (S.read_faults store.new)) }
@@ -117,28 +87,15 @@ fn texts_after_policy<S: Store>(
     ensures reads { NoneFalls (S.read_faults store.old) (S.read_faults store.new) }
     ensures writes { NoneFalls (S.write_faults store.old) (S.write_faults store.new) }
 {
-    let faces = read_faces_file(alloc, 5, words.at(5), design, store)?;
-    texts_after_faces(alloc, words, disturbed, design, policy, &faces, store)
-}
-
-// The texts, after the design was read.
-fn texts_after_design<S: Store>(
-    alloc: Global,
-    words: &Words,
-    disturbed: bool,
-    design: &Design,
-    store: &mut S,
-) -> Result<Texts, Status>
-    requires words { IsStay words.now disturbed }
-    requires design { IsDesignRead 1 (S.held store.old) (word_of words.now 1) design.now }
-    ensures texts { IfOk result (λ t. AreTextsUnder disturbed words.now (S.held store.old) t.controller.items t.report.items) }
-    ensures ends { IfErr result (EndsStaying disturbed words.now (S.held store.old) (S.read_faults store.old) (S.read_faults store.new)) }
-    ensures held { S.held store.new ≡ S.held store.old }
-    ensures reads { NoneFalls (S.read_faults store.old) (S.read_faults store.new) }
-    ensures writes { NoneFalls (S.write_faults store.old) (S.write_faults store.new) }
-{
-    let policy = read_policy_file(alloc, 2, words.at(2), design, store)?;
-    texts_after_policy(alloc, words, disturbed, design, &policy, store)
+    let under = read_faces_under(alloc, words, 5, 6, disturbed, design, store)?;
+    texts_of(
+        alloc,
+        design,
+        policy,
+        &under.faces,
+        &under.range,
+        words.at(4),
+    )
 }
 
 /// Both texts of the design and the policy in the first two files, where the faces in the fifth show that the loop stays in the box; or the status that
@@ -156,6 +113,13 @@ pub fn texts_for<S: Store>(
     ensures reads { NoneFalls (S.read_faults store.old) (S.read_faults store.new) }
     ensures writes { NoneFalls (S.write_faults store.old) (S.write_faults store.new) }
 {
-    let design = read_design_file(alloc, 1, words.at(1), store)?;
-    texts_after_design(alloc, words, disturbed, &design, store)
+    let inputs = read_inputs(alloc, words, store)?;
+    texts_after_inputs(
+        alloc,
+        words,
+        disturbed,
+        &inputs.design,
+        &inputs.policy,
+        store,
+    )
 }

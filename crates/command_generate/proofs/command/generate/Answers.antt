@@ -6,7 +6,7 @@ use Rattle.command_line.proofs.Counts.{none_falls_twice}
 use Rattle.command_generate.specs.Writing.{AreWritten, IsSecondCut, IsAnswered}
 use Rattle.command_generate.specs.Generate.{GenerateCalls, IsGenerated, IsControllerCut, IsReportCut}
 use Rattle.command_line.specs.declared.status.Status.TheVariants.{Done}
-use Rattle.command_generate.proofs.Inputs.{is_called}
+use Rattle.command_generate.proofs.InputEnds.{is_called}
 use Rattle.command_generate.proofs.Written.{carried, generated, controller_cut, report_cut, written_done, written_no_read, written_none, write_fault}
 use Rattle.command_generate.proofs.command.generate.Goals as goal
 

@@ -6,9 +6,10 @@ use Rattle.command_line.specs.declared.status.Status.TheVariants.{Done}
 use Rattle.command_line.proofs.Counts.{none_falls_twice}
 use Rattle.command_generate.specs.Writing.{AreWritten, IsSecondCut}
 use Rattle.command_lean.specs.Lean.{LeanCalls, IsLeanWritten, IsLeanControllerCut, IsLeanReportCut}
-use Rattle.command_lean.specs.Reading.{IsLeanAnswered}
+use Rattle.command_lean.specs.Reading.{lean_calls, lean_reaches, IsLeanAnswered}
 use Rattle.command_generate.proofs.Written.{written_done, written_no_read, written_none, write_fault}
-use Rattle.command_lean.proofs.Written.{carried, both_written, first_cut, second_cut, stop_called, stop_not_done, stop_no_write, stop_fault}
+use Rattle.command_generate.proofs.Ending.{stop_called, stop_not_done, stop_no_write, stop_fault}
+use Rattle.command_lean.proofs.Written.{carried, both_written, first_cut, second_cut}
 use Rattle.command_lean.proofs.command.lean.Goals as goal
 
 pub returns-in-Ok : goal.returns-in-Ok
@@ -54,12 +55,12 @@ returns-in-Err g c =
     let s = c.in-Err.status in
     let ends = c.in-Err.ensures.ends in
     record {
-      written = λ is. absurd (stop_not_done words held before now s ends is);
-      controller_cut = λ is. absurd (stop_no_write words held before now s ends 4 is);
-      report_cut = λ is. absurd (stop_no_write words held before now s ends 5 is);
-      called = stop_called words held before now s ends;
-      read_fault = stop_fault words held before now s ends;
-      write_fault = λ file is. absurd (stop_no_write words held before now s ends file is);
+      written = λ is. absurd (stop_not_done lean_calls lean_reaches words held before now s ends is);
+      controller_cut = λ is. absurd (stop_no_write lean_calls lean_reaches words held before now s ends 4 is);
+      report_cut = λ is. absurd (stop_no_write lean_calls lean_reaches words held before now s ends 5 is);
+      called = stop_called lean_calls lean_reaches words held before now s ends;
+      read_fault = stop_fault lean_calls lean_reaches words held before now s ends;
+      write_fault = λ file is. absurd (stop_no_write lean_calls lean_reaches words held before now s ends file is);
       held = λ done write. c.in-Err.ensures.held;
       reads = c.in-Err.ensures.reads;
       writes = c.in-Err.ensures.writes;

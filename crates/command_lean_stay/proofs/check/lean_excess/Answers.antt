@@ -9,9 +9,9 @@ use Rattle.qp_model.specs.machine.Controller.{Numbers}
 use Rattle.qp_model.specs.machine.Machine.{exponent_of}
 use Rattle.qp_model.specs.machine.AbsoluteSums.{IsController}
 use Rattle.qp_model.specs.declared.design_parts.DesignParts.{DesignParts}
-use Rattle.design_engine.specs.Targets.{targets_of, violation_target}
-use Rattle.design_engine.proofs.GenerationFacts.{whole_least}
-use Rattle.lean_engine.proofs.PricedFacts.{below, listed}
+use Rattle.command_stay.specs.Generating.Engine.Targets.{targets_of, violation_target}
+use Rattle.command_stay.proofs.Generating.Engine.GenerationFacts.{whole_least}
+use Rattle.command_lean.proofs.LeanEngine.PricedFacts.{below, listed}
 use Rattle.command_lean_stay.proofs.check.lean_excess.Goals as goal
 
 pub violation_target-target-requires : goal.violation_target-target-requires

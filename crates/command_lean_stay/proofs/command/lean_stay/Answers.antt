@@ -4,13 +4,14 @@ use Rattle.command_line.specs.Words.{word_of}
 use Rattle.command_line.specs.declared.status.Status.{Status}
 use Rattle.command_line.specs.declared.status.Status.TheVariants.{Done}
 use Rattle.command_line.proofs.Counts.{none_falls_twice}
-use Rattle.command_generate.specs.Writing.{AreWritten, IsSecondCut}
+use Rattle.command_stay.specs.Generating.Writing.{AreWritten, IsSecondCut}
 use Rattle.command_lean.specs.Lean.{IsLeanControllerCut, IsLeanReportCut}
-use Rattle.command_generate.proofs.Written.{written_done, written_no_read, written_none, write_fault}
+use Rattle.command_stay.proofs.Generating.Written.{written_done, written_no_read, written_none, write_fault}
 use Rattle.command_lean.proofs.Written.{first_cut, second_cut}
-use Rattle.command_lean_stay.specs.LeanStay.{LeanStayCallsFor, IsLeanStayed}
+use Rattle.command_lean_stay.specs.LeanStay.{LeanStayCallsFor, LeanStayReachesFor, IsLeanStayed}
 use Rattle.command_lean_stay.specs.Reading.{IsLeanStayAnswered}
-use Rattle.command_lean_stay.proofs.Written.{seven_names, carried, lean_from, stayed, stop_called, stop_not_done, stop_no_write, stop_fault}
+use Rattle.command_stay.proofs.Generating.Ending.{stop_called, stop_not_done, stop_no_write, stop_fault}
+use Rattle.command_lean_stay.proofs.Written.{seven_names, carried, lean_from, stayed}
 use Rattle.command_lean_stay.proofs.command.lean_stay.Goals as goal
 
 pub at-requires : goal.at-requires
@@ -66,12 +67,12 @@ returns-in-Err g c =
     let s = c.in-Err.status in
     let ends = c.in-Err.ensures.ends in
     record {
-      stayed = λ is. absurd (stop_not_done disturbed words held before now s ends is);
-      controller_cut = λ is. absurd (stop_no_write disturbed words held before now s ends 4 is);
-      report_cut = λ is. absurd (stop_no_write disturbed words held before now s ends 5 is);
-      called = stop_called disturbed words held before now s ends;
-      read_fault = stop_fault disturbed words held before now s ends;
-      write_fault = λ file is. absurd (stop_no_write disturbed words held before now s ends file is);
+      stayed = λ is. absurd (stop_not_done (LeanStayCallsFor disturbed) (LeanStayReachesFor disturbed) words held before now s ends is);
+      controller_cut = λ is. absurd (stop_no_write (LeanStayCallsFor disturbed) (LeanStayReachesFor disturbed) words held before now s ends 4 is);
+      report_cut = λ is. absurd (stop_no_write (LeanStayCallsFor disturbed) (LeanStayReachesFor disturbed) words held before now s ends 5 is);
+      called = stop_called (LeanStayCallsFor disturbed) (LeanStayReachesFor disturbed) words held before now s ends;
+      read_fault = stop_fault (LeanStayCallsFor disturbed) (LeanStayReachesFor disturbed) words held before now s ends;
+      write_fault = λ file is. absurd (stop_no_write (LeanStayCallsFor disturbed) (LeanStayReachesFor disturbed) words held before now s ends file is);
       held = λ done write. c.in-Err.ensures.held;
       reads = c.in-Err.ensures.reads;
       writes = c.in-Err.ensures.writes;

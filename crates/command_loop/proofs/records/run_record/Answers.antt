@@ -1,11 +1,12 @@
-use Rattle.std.proofs.Common.{◌≡◌, ◌++◌, subst, sym, ap, rules, ℕ, Option, Some, None, option_map}
+use Rattle.std.proofs.Common.{◌≡◌, ◌++◌, ◌∙◌, refl, subst, sym, ap, rules, ℕ, Option, Some, None, option_map}
 use Rattle.std.specs.Prelude.{OnOk, IfErr}
 use Rattle.mat_int.specs.Matrix.{Matrix}
+use Rattle.packed_rows.specs.Walk.{Walk}
 use Rattle.qp_model.specs.problem.Parts.{design_of}
 use Rattle.qp_model.specs.machine.LoopSize.{turn_size}
 use Rattle.closed_loop.specs.Answers.{LieInside}
 use Rattle.command_loop.specs.Loop.{course_of}
-use Rattle.command_loop.specs.Printing.{AreRowsFor, AreShiftsFor, RecordShows}
+use Rattle.command_loop.specs.Printing.{AreRowsFor, AreShiftsFor, RecordShows, rows_along}
 use Rattle.command_loop.proofs.Looping.{said, ok_narrow, said_quietly}
 use Rattle.command_loop.proofs.records.run_record.Goals as goal
 
@@ -21,7 +22,7 @@ returns-in-None g c =
     let new = got c.run_loop.new.out in
     let r = c.run_loop.result in
     let e = c.run_loop.ensures in
-    let is : c.args.shifts.now ≡ None = search rules in
+    let is : rows_along c.args.shifts.now ≡ None = ap rows_along (let found : c.args.shifts.now ≡ None = search rules in found) in
     record {
       narrow = ok_narrow (turn_size d n) r e.wide;
       inside = subst (λ (v : Option Matrix). OnOk r (LieInside n ((course_of d n v).states start) turns)) (sym is) e.inside;
@@ -32,6 +33,7 @@ returns-in-None g c =
       failed = e.failed;
       no_fewer = e.no_fewer;
       controller = e.controller;
+      shifts = refl;
     }
 
 pub returns-in-Some : goal.returns-in-Some
@@ -40,14 +42,15 @@ returns-in-Some g c =
     let n = c.args.kernel.now.controller in
     let entry = c.args.entry in
     let start = c.args.start.now in
-    let m = c.in-Some.shifts in
+    let w : Walk = c.in-Some.shifts in
+    let m = w.rows in
     let l = course_of d n (Some m) in
     let got = g.O.Sink.got in
     let old = got c.args.out.now in
     let new = got c.run_loop_under.new.out in
     let r = c.run_loop_under.result in
     let e = c.run_loop_under.ensures in
-    let is : c.args.shifts.now ≡ Some m = search rules in
+    let is : rows_along c.args.shifts.now ≡ Some m = ap rows_along (let found : c.args.shifts.now ≡ Some w = search rules in found) in
     let sized : AreRowsFor n.states c.args.turns m = subst (λ (v : Option Matrix). AreShiftsFor n.states c.args.turns v) is c.requires.shifts in
     record {
       narrow = ok_narrow (turn_size d n) r e.wide;
@@ -62,4 +65,5 @@ returns-in-Some g c =
       failed = e.failed;
       no_fewer = e.no_fewer;
       controller = e.controller;
+      shifts = ap Some e.rows ∙ sym is;
     }

@@ -4,6 +4,8 @@ use Rattle.command_play.proofs.lines.print_lines.Given as goal
 
 abbrev pub invariant-loop-i : goal.invariant-loop-i
 invariant-loop-i g l = record {
+  rows : l.walk.rows ≡ l.states;
+  next : l.walk.next ≡ l.i;
   listing : l.machine.listing ≡ l.fn.machine.listing;
   got : g.O.Sink.got l.out ≡ option_map (λ old. old ++ run_lines l.fn.machine.listing l.states l.i) (g.O.Sink.got l.fn.out);
   room : HaveRunRoom l.fn.machine.listing l.states l.i;

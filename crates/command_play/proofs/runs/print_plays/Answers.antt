@@ -1,11 +1,11 @@
-use Rattle.std.proofs.Common.{◌≡◌, ◌≢◌, ◌⊎◌, inl, inr, List, ℕ, length, Option, Some, None, refl, le_refl, subst, ap}
+use Rattle.std.proofs.Common.{◌≡◌, ◌≢◌, ◌⊎◌, inl, inr, List, ℕ, Option, Some, None, refl, le_refl, subst, ap}
 use Rattle.std.specs.Prelude.{IfSome, IsSomeAnd}
 use Rattle.mat_int.specs.Matrix.{Matrix}
 use Rattle.mac_listing.specs.Listing.{Instructions}
 use Rattle.mac_machine.specs.Playing.{Playing}
 use Rattle.command_line.specs.declared.status.Status.{Status}
 use Rattle.command_line.specs.declared.status.Status.TheVariants.{Done, Memory, WriteFault}
-use Rattle.command_play.specs.Plays.{AreInBox, IsOutsideBox}
+use Rattle.command_play.specs.Plays.{IsOutsideBox}
 use Rattle.command_play.specs.Play.{TellsTrap}
 use Rattle.command_play.specs.Printing.{PlaysEnd, PlaysPrint}
 use Rattle.command_play.proofs.runs.print_plays.Goals as goal
@@ -18,15 +18,23 @@ silent l m s None done fault trap = tt
 memory_no_trap : TellsTrap Memory → ⊥
 memory_no_trap told = let is = told.3 in cc
 
-module _ (l : Instructions) (m : Matrix) (s : Status) (out : IsOutsideBox l m s) where
-  outside_not_done : s ≢ Done
-  outside_not_done is = let told = out.is in cc
+-- where the test of the states ends it
+module _ (l : Instructions) (m : Matrix) (s : Status) where
+  refused_end : (s ≡ Memory) ⊎ IsOutsideBox l m s → PlaysEnd l m s
+  refused_end (inl memory) = inl memory
+  refused_end (inr out) = inr (inr (inl out))
 
-  outside_no_fault : s ≢ WriteFault 0
-  outside_no_fault is = let told = out.is in cc
+  refused_not_done : (s ≡ Memory) ⊎ IsOutsideBox l m s → s ≢ Done
+  refused_not_done (inl memory) is = cc
+  refused_not_done (inr out) is = let told = out.is in cc
 
-  outside_no_trap : TellsTrap s → ⊥
-  outside_no_trap trap = let told = out.is in let is = trap.3 in cc
+  refused_no_fault : (s ≡ Memory) ⊎ IsOutsideBox l m s → s ≢ WriteFault 0
+  refused_no_fault (inl memory) is = cc
+  refused_no_fault (inr out) is = let told = out.is in cc
+
+  refused_no_trap : (s ≡ Memory) ⊎ IsOutsideBox l m s → TellsTrap s → ⊥
+  refused_no_trap (inl memory) trap = let is = trap.3 in cc
+  refused_no_trap (inr out) trap = let told = out.is in let is = trap.3 in cc
 
 -- one of the four answers
 one_of_them : (s : Status) (A : Type 0) → (s ≡ Done) ⊎ ((s ≡ Memory) ⊎ ((s ≡ WriteFault 0) ⊎ TellsTrap s)) → s ≢ Done → s ≢ Memory → s ≢ WriteFault 0 → (TellsTrap s → ⊥) → A
@@ -64,11 +72,11 @@ returns g c =
     let l = c.args.listing.now in
     let m = c.args.states.now in
     let s = c.in-Err.status in
-    let outside = subst (λ (k : Instructions). IsOutsideBox k m s) (ap (λ (p : Playing). p.listing) c.in-Ok.ensures) c.in-Err.ensures.outside in
+    let refused = subst (λ (k : Instructions). (s ≡ Memory) ⊎ IsOutsideBox k m s) (ap (λ (p : Playing). p.listing) c.in-Ok.ensures) c.in-Err.ensures.outside in
     record {
-      ends = inr (inr (inl outside));
-      printed = silent l m s (g.O.Sink.got c.args.out.now) (outside_not_done l m s outside) (outside_no_fault l m s outside) (outside_no_trap l m s outside);
+      ends = refused_end l m s refused;
+      printed = silent l m s (g.O.Sink.got c.args.out.now) (refused_not_done l m s refused) (refused_no_fault l m s refused) (refused_no_trap l m s refused);
       quiet = λ done memory fault trap. refl;
-      failed = λ is. absurd (outside_no_fault l m s outside is);
+      failed = λ is. absurd (refused_no_fault l m s refused is);
       no_fewer = le_refl (g.O.Sink.faults c.args.out.now);
     }

@@ -14,11 +14,18 @@ silent : (n : List Numbers) (m : Matrix) (s : Status) (got : Option (List ℕ)) 
 silent n m s (Some old) done fault = record { done = λ is. absurd (done is); fault = λ is. absurd (fault is); memory = λ is. inl refl; other = λ a b d. refl }
 silent n m s None done fault = tt
 
-unserved_not_done : (n : List Numbers) (m : Matrix) (s : Status) → IsUnserved n m s → s ≢ Done
-unserved_not_done n m s out is = let told = out.is in cc
+-- where the test of the states ends it
+refused_end : (n : List Numbers) (m : Matrix) (s : Status) → (s ≡ Memory) ⊎ IsUnserved n m s → ServedEnd n m s
+refused_end n m s (inl memory) = inl memory
+refused_end n m s (inr out) = inr (inr (inl out))
 
-unserved_no_fault : (n : List Numbers) (m : Matrix) (s : Status) → IsUnserved n m s → s ≢ WriteFault 0
-unserved_no_fault n m s out is = let told = out.is in cc
+refused_not_done : (n : List Numbers) (m : Matrix) (s : Status) → (s ≡ Memory) ⊎ IsUnserved n m s → s ≢ Done
+refused_not_done n m s (inl memory) is = cc
+refused_not_done n m s (inr out) is = let told = out.is in cc
+
+refused_no_fault : (n : List Numbers) (m : Matrix) (s : Status) → (s ≡ Memory) ⊎ IsUnserved n m s → s ≢ WriteFault 0
+refused_no_fault n m s (inl memory) is = cc
+refused_no_fault n m s (inr out) is = let told = out.is in cc
 
 -- ---- the lines are printed
 module _ (n : List Numbers) (m : Matrix) (s : Status) (inside : AreServed n m (length m.rows)) (only : (s ≡ Memory) ⊎ ((s ≡ Done) ⊎ (s ≡ WriteFault 0)))
@@ -64,11 +71,11 @@ returns g c =
     let n = c.args.cells.now in
     let m = c.args.states.now in
     let s = c.in-Err.status in
-    let unserved = c.in-Err.ensures.unserved in
+    let refused = c.in-Err.ensures.unserved in
     record {
-      ends = inr (inr (inl unserved));
-      printed = silent n m s (g.O.Sink.got c.args.out.now) (unserved_not_done n m s unserved) (unserved_no_fault n m s unserved);
+      ends = refused_end n m s refused;
+      printed = silent n m s (g.O.Sink.got c.args.out.now) (refused_not_done n m s refused) (refused_no_fault n m s refused);
       quiet = λ done memory fault. refl;
-      failed = λ is. absurd (unserved_no_fault n m s unserved is);
+      failed = λ is. absurd (refused_no_fault n m s refused is);
       no_fewer = le_refl (g.O.Sink.faults c.args.out.now);
     }

@@ -1,4 +1,4 @@
-use Rattle.std.proofs.Common.{◌≡◌, ◌≢◌, ◌⊎◌, inl, inr, List, ℕ, ◌<◌, length, Option, Some, None, refl, le_refl, subst, ap, ◌∙◌}
+use Rattle.std.proofs.Common.{◌≡◌, ◌≢◌, ◌⊎◌, inl, inr, List, ℕ, ◌<◌, length, Option, Some, None, refl, le_refl, subst, ap}
 use Rattle.std.specs.Prelude.{IfSome, IsSomeAnd}
 use Rattle.mat_int.specs.Matrix.{Matrix}
 use Rattle.fixed_kernel.specs.Progress.{Progress}
@@ -16,11 +16,18 @@ silent : (n : Numbers) (m : Matrix) (s : Status) (got : Option (List ℕ)) → s
 silent n m s (Some old) done fault = record { done = λ is. absurd (done is); fault = λ is. absurd (fault is); memory = λ is. inl refl; other = λ a b d. refl }
 silent n m s None done fault = tt
 
-outside_not_done : (n : Numbers) (m : Matrix) (s : Status) → IsOutside n m s → s ≢ Done
-outside_not_done n m s out is = let told = out.is in cc
+-- where the test of the states ends it
+refused_end : (n : Numbers) (m : Matrix) (s : Status) → (s ≡ Memory) ⊎ IsOutside n m s → RunsEnd n m s
+refused_end n m s (inl memory) = inl memory
+refused_end n m s (inr out) = inr (inr (inl out))
 
-outside_no_fault : (n : Numbers) (m : Matrix) (s : Status) → IsOutside n m s → s ≢ WriteFault 0
-outside_no_fault n m s out is = let told = out.is in cc
+refused_not_done : (n : Numbers) (m : Matrix) (s : Status) → (s ≡ Memory) ⊎ IsOutside n m s → s ≢ Done
+refused_not_done n m s (inl memory) is = cc
+refused_not_done n m s (inr out) is = let told = out.is in cc
+
+refused_no_fault : (n : Numbers) (m : Matrix) (s : Status) → (s ≡ Memory) ⊎ IsOutside n m s → s ≢ WriteFault 0
+refused_no_fault n m s (inl memory) is = cc
+refused_no_fault n m s (inr out) is = let told = out.is in cc
 
 -- ---- the lines are printed
 module _ (n : Numbers) (m : Matrix) (s : Status) (inside : AreInside n m (length m.rows)) (only : (s ≡ Memory) ⊎ ((s ≡ Done) ⊎ (s ≡ WriteFault 0)))
@@ -69,11 +76,11 @@ returns g c =
     let m = c.args.states.now in
     let s = c.in-Err.status in
     let prepared = ap (λ (k : Progress). k.controller) c.in-Ok.ensures in
-    let outside = subst (λ (k : Numbers). IsOutside k m s) prepared c.in-Err.ensures.outside in
+    let refused = subst (λ (k : Numbers). (s ≡ Memory) ⊎ IsOutside k m s) prepared c.in-Err.ensures.outside in
     record {
-      ends = inr (inr (inl outside));
-      printed = silent n m s (g.O.Sink.got c.args.out.now) (outside_not_done n m s outside) (outside_no_fault n m s outside);
+      ends = refused_end n m s refused;
+      printed = silent n m s (g.O.Sink.got c.args.out.now) (refused_not_done n m s refused) (refused_no_fault n m s refused);
       quiet = λ done memory fault. refl;
-      failed = λ is. absurd (outside_no_fault n m s outside is);
+      failed = λ is. absurd (refused_no_fault n m s refused is);
       no_fewer = le_refl (g.O.Sink.faults c.args.out.now);
     }

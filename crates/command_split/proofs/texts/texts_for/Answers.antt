@@ -1,7 +1,8 @@
 use Rattle.std.proofs.lemmas.Result.{IfErr-weaker}
 use Rattle.command_line.proofs.Results.{handed, unmet}
-use Rattle.command_split.specs.Reading.{EndsSplit}
-use Rattle.command_split.proofs.Opening.{ends_later, design_ends}
+use Rattle.command_generate.proofs.Ending.{ends_later}
+use Rattle.command_split.specs.Reading.{split_calls, split_reaches, EndsSplit}
+use Rattle.command_split.proofs.Opening.{design_ends}
 use Rattle.command_split.proofs.texts.texts_for.Goals as goal
 
 pub returns-in_err-design : goal.returns-in_err-design
@@ -26,7 +27,7 @@ returns-clause-ends g c =
     let before = g.S.Store.read_faults c.args.store.now in
     let mid = g.S.Store.read_faults c.read_design_file.new.store in
     let now = g.S.Store.read_faults c.texts_after_design.new.store in
-    IfErr-weaker c.texts_after_design.result _ _ (λ e ends. ends_later c.args.words.now (g.S.Store.held c.args.store.now) before mid now e c.in_ok-design.ensures.reads c.texts_after_design.ensures.reads ends)
+    IfErr-weaker c.texts_after_design.result _ _ (λ e ends. ends_later split_calls split_reaches c.args.words.now (g.S.Store.held c.args.store.now) before mid now e c.in_ok-design.ensures.reads c.texts_after_design.ensures.reads ends)
     (rw c.in_ok-design.ensures.held at c.texts_after_design.ensures.ends)
 
 pub returns-clause-texts : goal.returns-clause-texts

@@ -9,7 +9,9 @@ use Rattle.command_generate.specs.Writing.{AreWritten, IsSecondCut}
 use Rattle.command_generate.specs.Generate.{IsControllerCut, IsReportCut}
 use Rattle.command_generate.proofs.Written.{written_done, written_no_read, written_none, write_fault}
 use Rattle.command_stay.specs.Stay.{StayCalls, IsStayed}
-use Rattle.command_stay.proofs.Written.{six_names, carried, stayed, first_cut, second_cut, stop_called, stop_not_done, stop_no_write, stop_fault}
+use Rattle.command_generate.proofs.Ending.{stop_called, stop_not_done, stop_no_write, stop_fault}
+use Rattle.command_stay.specs.Reading.{stay_calls, stay_reaches}
+use Rattle.command_stay.proofs.Written.{six_names, carried, stayed, first_cut, second_cut}
 use Rattle.command_stay.proofs.command.stay.Goals as goal
 
 pub at-requires : goal.at-requires
@@ -63,12 +65,12 @@ returns-in-Err g c =
     let s = c.in-Err.status in
     let ends = c.in-Err.ensures.ends in
     record {
-      stayed = λ is. absurd (stop_not_done disturbed words held before now s ends is);
-      controller_cut = λ is. absurd (stop_no_write disturbed words held before now s ends 3 is);
-      report_cut = λ is. absurd (stop_no_write disturbed words held before now s ends 4 is);
-      called = stop_called disturbed words held before now s ends;
-      read_fault = stop_fault disturbed words held before now s ends;
-      write_fault = λ file is. absurd (stop_no_write disturbed words held before now s ends file is);
+      stayed = λ is. absurd (stop_not_done (stay_calls disturbed) (stay_reaches disturbed) words held before now s ends is);
+      controller_cut = λ is. absurd (stop_no_write (stay_calls disturbed) (stay_reaches disturbed) words held before now s ends 3 is);
+      report_cut = λ is. absurd (stop_no_write (stay_calls disturbed) (stay_reaches disturbed) words held before now s ends 4 is);
+      called = stop_called (stay_calls disturbed) (stay_reaches disturbed) words held before now s ends;
+      read_fault = stop_fault (stay_calls disturbed) (stay_reaches disturbed) words held before now s ends;
+      write_fault = λ file is. absurd (stop_no_write (stay_calls disturbed) (stay_reaches disturbed) words held before now s ends file is);
       held = λ done write. c.in-Err.ensures.held;
       reads = c.in-Err.ensures.reads;
       writes = c.in-Err.ensures.writes;

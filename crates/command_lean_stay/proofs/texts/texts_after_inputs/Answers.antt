@@ -1,0 +1,71 @@
+use Rattle.std.proofs.Common.{arith}
+use Rattle.std.proofs.lemmas.Result.{IfErr-weaker, IfOk-weaker}
+use Rattle.qp_model.specs.problem.Policy.{plans_of}
+use Rattle.stay_check.specs.FaceForms.{faces_of}
+use Rattle.command_line.specs.declared.status.Status.TheVariants.{Done}
+use Rattle.command_line.proofs.Results.{handed, unmet}
+use Rattle.command_lean_stay.specs.Reading.{AreLeanStayFilesRead, EndsLeanStaying}
+use Rattle.command_lean_stay.proofs.Opening.{under_ends, all_right, refused_ends}
+use Rattle.command_lean_stay.proofs.Written.{seven_names, eighth_name}
+use Rattle.command_lean_stay.proofs.texts.texts_after_inputs.Goals as goal
+
+pub read_faces_under-requires-clause-faces : goal.read_faces_under-requires-clause-faces
+read_faces_under-requires-clause-faces g c = omega (arith, seven_names c.args.disturbed _ c.requires.words.count)
+
+pub read_faces_under-requires-clause-range : goal.read_faces_under-requires-clause-range
+read_faces_under-requires-clause-range g c = eighth_name c.args.disturbed _ c.requires.words.count
+
+pub returns-in_err-under : goal.returns-in_err-under
+returns-in_err-under g c =
+    let words = c.args.words.now in
+    let held = g.S.Store.held c.args.store.now in
+    let before = g.S.Store.read_faults c.args.store.now in
+    let now = g.S.Store.read_faults c.read_faces_under.new.store in
+    let inputs = c.args.read.now.inputs in
+    let r = c.from_residual.result in
+    let is = c.from_residual.ensures.1 in
+    let e = c.in_err-under.field-0.0 in
+    record {
+      texts = unmet r _ _ is;
+      ends = handed r (EndsLeanStaying c.args.disturbed words held before now) e is
+          (under_ends c.args.disturbed words held inputs.design (plans_of inputs.policy) (plans_of c.args.read.now.reference) c.requires.read before now e c.in_err-under.ensures.ends);
+      held = c.read_faces_under.ensures.held;
+      reads = c.read_faces_under.ensures.reads;
+      writes = c.read_faces_under.ensures.writes;
+    }
+
+pub texts_of-requires-clause-plans : goal.texts_of-requires-clause-plans
+texts_of-requires-clause-plans g c = c.requires.plans
+
+pub texts_of-requires-clause-references : goal.texts_of-requires-clause-references
+texts_of-requires-clause-references g c = c.requires.references
+
+pub texts_of-requires-clause-faces : goal.texts_of-requires-clause-faces
+texts_of-requires-clause-faces g c = c.in_ok-under.ensures.faces_sized
+
+pub texts_of-requires-clause-range : goal.texts_of-requires-clause-range
+texts_of-requires-clause-range g c = c.in_ok-under.ensures.range_sized
+
+pub returns : goal.returns
+returns g c =
+    let words = c.args.words.now in
+    let disturbed = c.args.disturbed in
+    let held = g.S.Store.held c.args.store.now in
+    let before = g.S.Store.read_faults c.args.store.now in
+    let now = g.S.Store.read_faults c.read_faces_under.new.store in
+    let p = c.args.read.now.inputs.design in
+    let plans = plans_of c.args.read.now.inputs.policy in
+    let references = plans_of c.args.read.now.reference in
+    let under = c.in_ok-under.under in
+    let f = faces_of under.faces in
+    let read : AreLeanStayFilesRead disturbed words held p plans references f under.range =
+    record { inputs = c.requires.read; faces_read = c.in_ok-under.ensures.faces; range_taken = c.in_ok-under.ensures.range } in
+    record {
+      texts = IfOk-weaker c.texts_of.result _ _
+          (λ t are. record { p = p; plans = plans; references = references; faces = f; range = under.range; read = read; texts = are; answer = all_right disturbed words held p plans references f under.range read Done are.answer })
+          (rw c.at.ensures at c.texts_of.ensures.texts);
+      ends = IfErr-weaker c.texts_of.result _ _ (λ e why. refused_ends disturbed words held p plans references f under.range read before now e why) c.texts_of.ensures.refused;
+      held = c.in_ok-under.ensures.held;
+      reads = c.in_ok-under.ensures.reads;
+      writes = c.in_ok-under.ensures.writes;
+    }
