@@ -1,15 +1,25 @@
 // What `serve` answers and prints. The lines of `c s` and `c beyond` are worked rows, and all are those of the model of `checks/fuzz/program.py`.
-use crate::texts::{HIGH, LEFT, LOW, RIGHT, SECOND, UNSAFE};
-use command_line::{Command, Status, command_of, status_line};
+use crate::texts::{HIGH, LEFT, RIGHT, SECOND, UNSAFE};
+use command_line::{Command, Status, command_of};
 use command_serve::serve;
 use io_edge::Words;
 use std::alloc::{AllocError, Global};
 use std::test::Fail;
 use trials_memory_edge::{MemSink, MemStore};
-use trials_worked_designs::CONTROLLER;
+use trials_stores::{Fails, NONE, Program, ends_with, tells_rows};
+use trials_worked_designs::{CONTROLLER, LOW};
 
-// The bytes that are printed in one run at most.
-const ROOM: usize = 65536;
+// `serve` alone.
+struct Serving;
+
+impl Program for Serving {
+    fn answer(alloc: Global, words: &Words, store: &mut MemStore, out: &mut MemSink) -> Status {
+        match command_of(words) {
+            Some(Command::Serve) => serve(alloc, words, store, out),
+            _ => Status::Usage,
+        }
+    }
+}
 
 // Texts of cells: a name, the first line, and the controllers. All cells of `over`, `turned` and `three` but the first hold a state that another holds.
 static CELLS: [(&str, &str, [&str; 3]); 10] = [
@@ -91,65 +101,10 @@ fn given(alloc: Global) -> Result<MemStore, AllocError> {
     Ok(store)
 }
 
-// Arguments, with one space between two.
-fn words_of(alloc: Global, arguments: &str) -> Result<Words, AllocError> {
-    let mut words = Words::empty(alloc);
-    for word in arguments.split(' ') {
-        words.push(word)?;
-    }
-    Ok(words)
-}
-
-// What `serve` answers to arguments; an error where it is out of memory, so that no trial takes that for a wrong answer.
-fn answer_of(
-    alloc: Global,
-    arguments: &str,
-    store: &mut MemStore,
-    out: &mut MemSink,
-) -> Result<Status, AllocError> {
-    let words = words_of(alloc, arguments)?;
-    let Some(Command::Serve) = command_of(&words) else {
-        return Ok(Status::Usage);
-    };
-    match serve(alloc, &words, store, out) {
-        Status::Memory => Err(AllocError),
-        status => Ok(status),
-    }
-}
-
-// Whether a run tells this: the line of its answer, where it is refused, and then what it prints.
-fn tells(
-    alloc: Global,
-    arguments: &str,
-    store: &mut MemStore,
-    out: &mut MemSink,
-    text: &str,
-) -> Result<bool, AllocError> {
-    let status = answer_of(alloc, arguments, store, out)?;
-    let told = status_line(alloc, &status)?;
-    Ok(text.as_bytes().strip_prefix(told.as_slice()) == Some(out.seen()))
-}
-
-// Whether a row's arguments tell what they are to.
-fn is_right(alloc: Global, store: &mut MemStore, row: &str) -> Result<bool, AllocError> {
-    let Some((arguments, answer)) = row.split_once(": ") else {
-        return Ok(false);
-    };
-    let mut told = answer.replace(alloc, ",", "\n")?;
-    told.push('\n')?;
-    let mut out = MemSink::with(alloc, ROOM, &[])?;
-    tells(alloc, arguments, store, &mut out, told.as_str())
-}
-
-// Whether this holds for each row.
+// Whether each row's arguments tell what they are to.
 fn are_all_right(alloc: Global) -> Result<bool, AllocError> {
     let mut store = given(alloc)?;
-    for row in ANSWERS.lines() {
-        if !is_right(alloc, &mut store, row)? {
-            return Ok(false);
-        }
-    }
-    Ok(true)
+    tells_rows::<Serving>(alloc, &mut store, ANSWERS)
 }
 
 #[test]
@@ -158,21 +113,35 @@ fn answers(rt: HostRuntime) -> Result<(), Fail> {
     Ok(())
 }
 
-// Whether `serve`, whose print of that number fails, tells this.
-fn is_cut(alloc: Global, arguments: &str, put: usize, text: &str) -> Result<bool, AllocError> {
+// Whether `serve`, whose print of that number fails, ends with this line, and has then printed this.
+fn is_cut(
+    alloc: Global,
+    arguments: &str,
+    put: usize,
+    line: &str,
+    printed: &str,
+) -> Result<bool, AllocError> {
     let mut store = given(alloc)?;
-    let mut out = MemSink::with(alloc, ROOM, &[put])?;
-    tells(alloc, arguments, &mut store, &mut out, text)
+    let fails = Fails { put, ..NONE };
+    ends_with::<Serving>(alloc, arguments, &mut store, &fails, line, printed)
 }
 
 #[test]
 fn without_states(rt: HostRuntime) -> Result<(), Fail> {
-    assert!(rt; is_cut(rt.alloc(), "serve c none", 1, "")?);
+    assert!(rt; is_cut(rt.alloc(), "serve c none", 1, "", "")?);
     Ok(())
 }
 
 #[test]
 fn second_line_not_printed(rt: HostRuntime) -> Result<(), Fail> {
-    assert!(rt; is_cut(rt.alloc(), "serve c s", 2, "error 4 write-fault 0\n32 0\n")?);
+    assert!(rt;
+        is_cut(
+            rt.alloc(),
+            "serve c s",
+            2,
+            "error 4 write-fault 0\n",
+            "32 0\n"
+        )?
+    );
     Ok(())
 }

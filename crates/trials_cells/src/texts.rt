@@ -1,28 +1,6 @@
 // Controllers of cells.
 
-/// The controller of the first worked design with the box 0 .. 0, as the row of `split` among the worked rows has it.
-pub const LOW: &str = "mpc-controller 1
-size 1 1 1 3
-bits 5 0 1 13
-steps 1
-clamp 128
-words 6
-lo 0
-hi 0
-P 16
-T 0
-W 8 -8 8
-G 32
-G -32
-G 32
-E 0
-E 0
-E 32
-b 32 32 8
-end
-";
-
-/// And with the box 1 .. 1.
+/// The controller of the first worked design with the box 1 .. 1.
 pub const HIGH: &str = "mpc-controller 1
 size 1 1 1 3
 bits 10 0 1 26

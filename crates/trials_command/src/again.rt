@@ -1,8 +1,9 @@
 // Each answer but one of memory, and after it the right ones over the same store. The plans of two states are those of the model in exact fractions.
 use std::alloc::{AllocError, Global};
 use std::test::Fail;
-use trials_harness::{generates, given, solves, tells, told_by};
+use trials_harness::Whole;
 use trials_memory_edge::MemStore;
+use trials_stores::{generates, given, solves, tells, tells_row};
 use trials_worked_designs::{CONTROLLER, CONTROLLER_OF_TWO, DESIGN, POLICY, STATES};
 
 // Further files, most with a fault, or that no controller is made of: a name, and a text with this part in that one's place.
@@ -121,24 +122,20 @@ fn hold_all(alloc: Global, store: &mut MemStore) -> Result<(), AllocError> {
 // Whether the commands answer as over the store that is given alone.
 fn are_right(alloc: Global, store: &mut MemStore) -> Result<bool, AllocError> {
     Ok(
-        solves(alloc, store)?
-            && tells(
+        solves::<Whole>(alloc, store)?
+            && tells::<Whole>(
                 alloc,
                 "loop d c s 1",
                 store,
                 "1 1 0 4096 0\n2 1 1 4096 -2224\n",
             )?
-            && generates(alloc, store)?,
+            && generates::<Whole>(alloc, store)?,
     )
 }
 
 // Whether a row's arguments tell what they are to, and after them the commands answer right.
 fn is_right_again(alloc: Global, store: &mut MemStore, row: &str) -> Result<bool, AllocError> {
-    let Some((arguments, answer)) = row.split_once(": ") else {
-        return Ok(false);
-    };
-    let told = told_by(alloc, answer)?;
-    Ok(tells(alloc, arguments, store, told.as_str())? && are_right(alloc, store)?)
+    Ok(tells_row::<Whole>(alloc, store, row)? && are_right(alloc, store)?)
 }
 
 // Whether this holds for each row.

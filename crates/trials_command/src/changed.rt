@@ -1,12 +1,14 @@
 // A controller's text of which one byte is another.
 use std::alloc::{AllocError, Global};
 use std::test::Fail;
-use trials_harness::{SOLVE, given, solves, tells, told_by};
+use trials_harness::Whole;
 use trials_memory_edge::MemStore;
+use trials_stores::{SOLVE, given, solves, tells, told_by};
 use trials_worked_designs::{CONTROLLER, STATES};
 
-// What the model tells of each text that is not refused at the line of its byte: the byte's place, from 0, what stands there, and the lines of its corners' states,
-// or why it is refused, with a comma for each line feed but the last. All others are refused at the byte's own line. `checks/fuzz/changed_bytes.py` prints it.
+// What the model tells of each text that is not refused at the line of its byte: the byte's place, from 0, what stands there, and the lines of its corners'
+// states, or why it is refused, with a comma for each line feed but the last. All others are refused at the byte's own line.
+// `checks/fuzz/changed_bytes.py` prints it.
 const ANSWERS: &str = "
 3 45 4096 0,4096 -2224
 14 32 4096 0,4096 -2224
@@ -194,7 +196,7 @@ fn is_told(
     line: u32,
 ) -> Result<bool, AllocError> {
     let told = told(alloc, at, byte, line)?;
-    tells(alloc, SOLVE, store, told.as_str())
+    tells::<Whole>(alloc, SOLVE, store, told.as_str())
 }
 
 // Whether the text with this byte at that place tells what it is to, and after it the right one too, over the same store.
@@ -208,7 +210,7 @@ fn is_right(
     hold_changed(alloc, store, at, byte)?;
     let is_told = is_told(alloc, store, at, byte, line)?;
     hold_right(store)?;
-    Ok(is_told && solves(alloc, store)?)
+    Ok(is_told && solves::<Whole>(alloc, store)?)
 }
 
 // Whether this holds with each of the four bytes at that place.

@@ -1,8 +1,9 @@
 // A controller's text that is cut.
 use std::alloc::{AllocError, Global};
 use std::test::Fail;
-use trials_harness::{SOLVE, given, solves, tells};
+use trials_harness::Whole;
 use trials_memory_edge::MemStore;
+use trials_stores::{SOLVE, given, solves, tells};
 use trials_worked_designs::CONTROLLER;
 
 /// Whether `solve` refuses the bytes that a name holds at this line.
@@ -13,7 +14,7 @@ pub fn is_refused_at(
     line: u32,
 ) -> Result<bool, AllocError> {
     let told = format!(in alloc; "error 11 controller 1 line {line}\n")?;
-    tells(alloc, arguments, store, told.as_str())
+    tells::<Whole>(alloc, arguments, store, told.as_str())
 }
 
 // Whether this part of the text is refused at this line, and after it the whole text is run from the same store.
@@ -21,7 +22,7 @@ fn is_cut(alloc: Global, store: &mut MemStore, part: &[u8], line: u32) -> Result
     store.hold("c", part)?;
     let is_refused = is_refused_at(alloc, SOLVE, store, line)?;
     store.hold("c", CONTROLLER.as_bytes())?;
-    Ok(is_refused && solves(alloc, store)?)
+    Ok(is_refused && solves::<Whole>(alloc, store)?)
 }
 
 // Whether each part is refused at the line where it ends.

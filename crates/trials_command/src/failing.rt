@@ -4,8 +4,9 @@ use command_line::Status;
 use io_edge::ReadRefusal;
 use std::alloc::{AllocError, Global};
 use std::test::Fail;
-use trials_harness::{GENERATE, ROOM, SOLVE, answer_of, generates, given, holds, tells};
+use trials_harness::Whole;
 use trials_memory_edge::{MemSink, MemStore};
+use trials_stores::{GENERATE, ROOM, SOLVE, answer_of, generates, given, holds, tells};
 use trials_worked_designs::{CONTROLLER, DEMO_OF_SEVEN, PLANS, REPORT};
 
 // Whether the name holds nothing.
@@ -27,10 +28,10 @@ fn failing_write(alloc: Global, write: usize, keep: usize) -> Result<MemStore, A
 // Whether `generate`, which is refused so, writes nothing, and then makes both texts.
 fn writes_nothing(alloc: Global, store: &mut MemStore, line: &str) -> Result<bool, AllocError> {
     Ok(
-        tells(alloc, GENERATE, store, line)?
+        tells::<Whole>(alloc, GENERATE, store, line)?
             && is_absent(alloc, store, "out")?
             && is_absent(alloc, store, "r")?
-            && generates(alloc, store)?,
+            && generates::<Whole>(alloc, store)?,
     )
 }
 
@@ -50,11 +51,11 @@ fn is_controller_cut(
     line: u32,
 ) -> Result<bool, AllocError> {
     Ok(
-        tells(alloc, GENERATE, store, "error 4 write-fault 3\n")?
+        tells::<Whole>(alloc, GENERATE, store, "error 4 write-fault 3\n")?
             && holds(alloc, store, "out", part)?
             && is_absent(alloc, store, "r")?
             && is_refused_at(alloc, "solve out s", store, line)?
-            && generates(alloc, store)?,
+            && generates::<Whole>(alloc, store)?,
     )
 }
 
@@ -67,10 +68,10 @@ fn leaves_controller(alloc: Global, part: &[u8], line: u32) -> Result<bool, Allo
 // Whether a `generate` whose second write keeps this part leaves a whole controller and that of a report. After it both texts are made.
 fn is_report_cut(alloc: Global, store: &mut MemStore, part: &[u8]) -> Result<bool, AllocError> {
     Ok(
-        tells(alloc, GENERATE, store, "error 4 write-fault 4\n")?
+        tells::<Whole>(alloc, GENERATE, store, "error 4 write-fault 4\n")?
             && holds(alloc, store, "out", CONTROLLER.as_bytes())?
             && holds(alloc, store, "r", part)?
-            && generates(alloc, store)?,
+            && generates::<Whole>(alloc, store)?,
     )
 }
 
@@ -142,7 +143,7 @@ fn ends(
     from: usize,
     text: &[u8],
 ) -> Result<bool, AllocError> {
-    let answer = answer_of(alloc, arguments, store, out)?;
+    let answer = answer_of::<Whole>(alloc, arguments, store, out)?;
     match out.seen().get(from..) {
         Some(printed) => Ok(answer == status && printed == text),
         None => Ok(false),

@@ -1,8 +1,9 @@
 // Files at the limit of their size, lines that end otherwise, bytes that are no text, and loops of no turns.
 use std::alloc::{AllocError, Global};
 use std::test::Fail;
-use trials_harness::{GENERATE, SOLVE, generates, given, tells};
+use trials_harness::Whole;
 use trials_memory_edge::MemStore;
+use trials_stores::{GENERATE, SOLVE, generates, given, tells};
 use trials_worked_designs::{DESIGN, POLICY};
 
 // Whether a design and a policy make the first worked controller and its report.
@@ -10,7 +11,7 @@ fn makes(alloc: Global, design: &[u8], policy: &[u8]) -> Result<bool, AllocError
     let mut store = given(alloc)?;
     store.hold("d", design)?;
     store.hold("p", policy)?;
-    generates(alloc, &mut store)
+    generates::<Whole>(alloc, &mut store)
 }
 
 // Whether a design and a policy are refused so, and after them the right ones are not.
@@ -23,10 +24,10 @@ fn is_refused(
 ) -> Result<bool, AllocError> {
     store.hold("d", design)?;
     store.hold("p", policy)?;
-    let is_told = tells(alloc, GENERATE, store, line)?;
+    let is_told = tells::<Whole>(alloc, GENERATE, store, line)?;
     store.hold("d", DESIGN.as_bytes())?;
     store.hold("p", POLICY.as_bytes())?;
-    Ok(is_told && generates(alloc, store)?)
+    Ok(is_told && generates::<Whole>(alloc, store)?)
 }
 
 // The same, over a store of their own.
@@ -101,7 +102,7 @@ fn field_of_no_text(rt: HostRuntime) -> Result<(), Fail> {
 fn prints_nothing(alloc: Global, arguments: &str, states: &[u8]) -> Result<bool, AllocError> {
     let mut store = given(alloc)?;
     store.hold("s", states)?;
-    tells(alloc, arguments, &mut store, "")
+    tells::<Whole>(alloc, arguments, &mut store, "")
 }
 
 // The longest file is of line feeds alone, and has no states.

@@ -1,9 +1,26 @@
 // `generate`: what it refuses, what it writes, and calls that fail.
+use command_generate::generate;
+use command_line::{Command, Status, command_of};
+use io_edge::Words;
 use std::alloc::{AllocError, Global};
 use std::test::Fail;
-use trials_harness::{Fails, GENERATE, NONE, changed, ends_with, held, holds, store_of};
-use trials_memory_edge::MemStore;
+use trials_memory_edge::{MemSink, MemStore};
+use trials_stores::{
+    Fails, GENERATE, NONE, Program, changed, ends_with, has_lines, held, holds, store_of,
+};
 use trials_worked_designs::{CONTROLLER, DESIGN, POLICY, REPORT};
+
+// `generate` alone.
+struct Generating;
+
+impl Program for Generating {
+    fn answer(alloc: Global, words: &Words, store: &mut MemStore, _: &mut MemSink) -> Status {
+        match command_of(words) {
+            Some(Command::Generate) => generate(alloc, words, store),
+            _ => Status::Usage,
+        }
+    }
+}
 
 // A run that is refused: what is changed in the design, the policy and the answer's line.
 #[derive(Drop)]
@@ -38,7 +55,7 @@ fn leaves(
     report: &str,
 ) -> Result<bool, Fail> {
     Ok(
-        ends_with(alloc, GENERATE, store, fails, line, "")?
+        ends_with::<Generating>(alloc, GENERATE, store, fails, line, "")?
             && has_text(alloc, store, "out", controller)?
             && has_text(alloc, store, "r", report)?,
     )
@@ -63,15 +80,6 @@ fn is_refused(alloc: Global, case: &Refused) -> Result<bool, Fail> {
     generates(alloc, design.as_str(), case.policy, case.line, "", "")
 }
 
-// Whether the text under a name has these lines.
-fn has_lines(alloc: Global, store: &mut MemStore, name: &str, lines: &str) -> Result<bool, Fail> {
-    let bytes = held(alloc, store, name)?;
-    match str::from_utf8(&bytes) {
-        Ok(text) => Ok(text.contains(lines)),
-        Err(_) => Ok(false),
-    }
-}
-
 // Whether a run writes texts with these lines.
 fn leaves_lines(
     alloc: Global,
@@ -80,7 +88,7 @@ fn leaves_lines(
     report: &str,
 ) -> Result<bool, Fail> {
     Ok(
-        ends_with(alloc, GENERATE, store, &NONE, "", "")?
+        ends_with::<Generating>(alloc, GENERATE, store, &NONE, "", "")?
             && has_lines(alloc, store, "out", controller)?
             && has_lines(alloc, store, "r", report)?,
     )
@@ -331,7 +339,7 @@ fn worked_texts(rt: HostRuntime) -> Result<(), Fail> {
 // Whether a run writes this report as JSON.
 fn leaves_json(alloc: Global, store: &mut MemStore, report: &str) -> Result<bool, AllocError> {
     Ok(
-        ends_with(alloc, "generate d p out r.json", store, &NONE, "", "")?
+        ends_with::<Generating>(alloc, "generate d p out r.json", store, &NONE, "", "")?
             && holds(alloc, store, "r.json", report.as_bytes())?,
     )
 }

@@ -1,8 +1,6 @@
-//! The program over stores and outputs in memory, some of whose calls fail, for the trials of whole commands.
+//! The whole program over stores and outputs in memory, for the trials of several commands.
 #![tactic(auto)]
 
-mod runs;
-mod stores;
+mod whole;
 
-pub use runs::{Fails, GENERATE, NONE, SOLVE, answer_of, ends_with, generates, solves, tells};
-pub use stores::{ROOM, changed, given, held, holds, store_of, told_by};
+pub use whole::Whole;

@@ -9,7 +9,7 @@ use policy_file::read_policy;
 use qp_model::{Bounds, Design, Policy, Quantity};
 use std::alloc::{AllocError, Global};
 use std::test::Fail;
-use trials_worked_designs::{DESIGN, changed_design, design};
+use trials_worked_designs::{DESIGN, LEAN_CONTROLLER, changed_design, design};
 
 // The first worked design at two stages, over denominators so large that its numbers have radii.
 const FINE: &str = "version = 1
@@ -45,27 +45,6 @@ cost = { den = 1, row_den = 1, input = [1], stage = [[1, 0, 1]], final = [] }
 limits = { den = 4, stage = [[0, 4, 4], [0, -4, 4]], final = [[4, 1]] }
 box = { grid = 0, lo = [0], hi = [1] }
 targets = { den = 1, violation = 1, gap = 1 }
-";
-
-const CONTROLLER: &[u8] = b"mpc-controller 1
-size 1 1 1 3
-bits 6 0 1 16
-steps 1
-clamp 256
-words 6
-lo 0
-hi 1
-P 32
-T 0
-W 16 -16 16
-G 64
-G -64
-G 64
-E 0
-E 0
-E 64
-b 64 64 16
-end
 ";
 
 // What is expected of a controller and its bounds.
@@ -319,7 +298,7 @@ fn text(rt: HostRuntime) -> Result<(), Fail> {
         has_text(
             rt.alloc(),
             lean_of(rt.alloc(), &design, PLANS, BEST)?,
-            CONTROLLER
+            LEAN_CONTROLLER.as_bytes()
         )?
     );
     Ok(())

@@ -1,147 +1,58 @@
 // `lean` with faces, on a design of one state whose next state has a limit from both sides. The expected numbers are those of a model in exact fractions.
 use command_lean_stay::lean_stay;
-use command_line::{Command, Status, command_of, status_line};
-use io_edge::{ReadRefusal, Words};
-use std::alloc::{AllocError, Global};
+use command_line::{Command, Status, command_of};
+use io_edge::Words;
+use std::alloc::Global;
 use std::test::Fail;
-use trials_memory_edge::MemStore;
+use trials_memory_edge::{MemSink, MemStore};
+use trials_stores::{Fails, NONE, Program, ends_with, has_lines, store_of, two_sided};
 use trials_worked_designs::POLICY;
 
-const LEAN: &str = "lean d p q out r f";
+// `lean` with faces alone.
+struct LeanStaying;
 
-const LEAN_UNDER: &str = "lean d p q out r f w";
+impl Program for LeanStaying {
+    fn answer(alloc: Global, words: &Words, store: &mut MemStore, _: &mut MemSink) -> Status {
+        match command_of(words) {
+            Some(Command::LeanStay { disturbed }) => lean_stay(alloc, words, disturbed, store),
+            _ => Status::Usage,
+        }
+    }
+}
 
-// The worked design with a limit on both sides of the next state, and closer targets.
-const TWO_SIDED: &str = "version = 1
-states = 1
-inputs = 1
-stages = 1
-[plant]
-den = 1
-a = [[1]]
-b = [[1]]
-[cost]
-den = 1
-row_den = 1
-input = [1]
-stage = [[1, 0, 1]]
-final = []
-[limits]
-den = 4
-stage = [[0, 4, 4], [0, -4, 4]]
-final = [[4, 1], [-4, 1]]
-[box]
-grid = 0
-lo = [0]
-hi = [1]
-[targets]
-den = 10
-violation = 1
-gap = 10
-";
+// The store has the faces in the place of a controller's text and the disturbances in that of the states.
+const LEAN: &str = "lean d p q out r c";
+
+const LEAN_UNDER: &str = "lean d p q out r c s";
 
 const REFERENCE: &str = "1,0\n2,-1\n";
 
 // Faces that hold: the next state is at most 1/4 above the box's upper face less its error, and at least 1/4 below its lower one.
 const FACES: &str = "4,0,0,1,0\n4,0,0,0,1\n";
 
-// The bytes that are written under a name at most.
-const ROOM: usize = 65536;
-
 // What the numbers of its report are that rest on no gains.
 const MADE: &str = "excess 18432 65536\nmultiplier 2\nstep 1\nsteps 86\nbits 14\n";
 
-// Arguments, with one space between two.
-fn words_of(alloc: Global, arguments: &str) -> Result<Words, AllocError> {
-    let mut words = Words::empty(alloc);
-    for word in arguments.split(' ') {
-        words.push(word)?;
-    }
-    Ok(words)
-}
-
-// The calls that are to fail: a read, and a write; 9 for none.
-#[derive(Clone, Copy)]
-struct Fails {
-    read: usize,
-    write: usize,
-}
-
-const NONE: Fails = Fails { read: 9, write: 9 };
-
-// Puts the texts into a store, and the room for what is made.
-fn fill(
-    store: &mut MemStore,
-    reference: &str,
-    faces: &str,
-    shifts: &str,
-    fails: Fails,
-) -> Result<(), AllocError> {
-    store.hold("d", TWO_SIDED.as_bytes())?;
-    store.hold("p", POLICY.as_bytes())?;
-    store.hold("q", reference.as_bytes())?;
-    store.hold("f", faces.as_bytes())?;
-    store.hold("w", shifts.as_bytes())?;
-    store.reserve("out", ROOM)?;
-    store.reserve("r", ROOM)?;
-    store.fail_read(fails.read)?;
-    store.fail_write(fails.write, 0)
-}
-
-// What the command answers to arguments that are its own, and to others.
-fn answer_of(alloc: Global, arguments: &str, store: &mut MemStore) -> Result<Status, AllocError> {
-    let words = words_of(alloc, arguments)?;
-    match command_of(&words) {
-        Some(Command::LeanStay { disturbed }) => Ok(lean_stay(alloc, &words, disturbed, store)),
-        _ => Ok(Status::Usage),
-    }
-}
-
-// Whether the report has these lines, or nothing is written of it where there are none.
-fn leaves(alloc: Global, store: &mut MemStore, lines: &str) -> Result<bool, AllocError> {
-    match store.read(alloc, "r", ROOM) {
-        Ok(bytes) => match str::from_utf8(&bytes) {
-            Ok(text) => Ok(if lines.is_empty() {
-                text.is_empty()
-            } else {
-                text.contains(lines)
-            }),
-            Err(_) => Ok(false),
-        },
-        Err(ReadRefusal::Memory) => Err(AllocError),
-        Err(_) => Ok(lines.is_empty()),
-    }
-}
-
-// Whether the answer's line is this, and the report has these lines.
-fn ends_with(
-    alloc: Global,
-    arguments: &str,
-    store: &mut MemStore,
-    line: &str,
-    lines: &str,
-) -> Result<bool, AllocError> {
-    let status = answer_of(alloc, arguments, store)?;
-    let told = status_line(alloc, &status)?;
-    Ok(told.as_slice() == line.as_bytes() && leaves(alloc, store, lines)?)
-}
-
-// Whether a run over these files ends so.
+// Whether a run over these files ends with this line, and leaves these lines in the report.
 fn is_run(
     alloc: Global,
     arguments: &str,
     texts: (&str, &str, &str),
-    fails: Fails,
+    fails: &Fails,
     line: &str,
     lines: &str,
-) -> Result<bool, AllocError> {
-    let mut store = MemStore::empty(alloc);
-    fill(&mut store, texts.0, texts.1, texts.2, fails)?;
-    ends_with(alloc, arguments, &mut store, line, lines)
+) -> Result<bool, Fail> {
+    let design = two_sided(alloc)?;
+    let mut store = store_of(alloc, &design, POLICY, texts.1, texts.2)?;
+    store.hold("q", texts.0.as_bytes())?;
+    Ok(
+        ends_with::<LeanStaying>(alloc, arguments, &mut store, fails, line, "")?
+            && has_lines(alloc, &mut store, "r", lines)?,
+    )
 }
 
 // The arguments, the faces, the disturbances, the answer's line and lines of the report; nothing is written where there are none.
-static RUNS: [(&str, &str, &str, &str, &str); 13] = [
+static RUNS: [(&str, &str, &str, &str, &str); 11] = [
     // Faces that hold.
     (LEAN, FACES, "", "", MADE),
     // Faces that don't, and texts that are none.
@@ -173,9 +84,7 @@ static RUNS: [(&str, &str, &str, &str, &str); 13] = [
         "",
     ),
     (LEAN_UNDER, FACES, "0\n", "error 5 text 7 count 1\n", ""),
-    // A name that is written is another's, and a missing file.
-    ("lean d p q out r out", FACES, "", "error 2 usage\n", ""),
-    ("lean d p q out r f r", FACES, "", "error 2 usage\n", ""),
+    // A missing file.
     (
         "lean d p q out r no",
         FACES,
@@ -193,7 +102,7 @@ fn runs(rt: HostRuntime) -> Result<(), Fail> {
                 rt.alloc(),
                 arguments,
                 (REFERENCE, faces, shifts),
-                NONE,
+                &NONE,
                 line,
                 lines
             )?
@@ -216,7 +125,7 @@ static REFERENCES: [(&str, &str, &str); 3] = [
 #[test]
 fn references(rt: HostRuntime) -> Result<(), Fail> {
     for &(reference, faces, line) in &REFERENCES {
-        assert!(rt; is_run(rt.alloc(), LEAN, (reference, faces, ""), NONE, line, "")?);
+        assert!(rt; is_run(rt.alloc(), LEAN, (reference, faces, ""), &NONE, line, "")?);
     }
     Ok(())
 }
@@ -235,13 +144,17 @@ static FAULTS: [(usize, usize, &str); 7] = [
 #[test]
 fn faults(rt: HostRuntime) -> Result<(), Fail> {
     for &(read, write, line) in &FAULTS {
-        let fails = Fails { read, write };
+        let fails = Fails {
+            read,
+            write,
+            ..NONE
+        };
         assert!(rt;
             is_run(
                 rt.alloc(),
                 LEAN_UNDER,
                 (REFERENCE, FACES, "0\n1\n"),
-                fails,
+                &fails,
                 line,
                 ""
             )?

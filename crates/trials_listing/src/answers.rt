@@ -1,10 +1,28 @@
 // What `list` and `play` answer, leave and print of the first worked controller. The lines are those of the model of `checks/fuzz/program.py`.
-use crate::listing::LISTING;
+use command_line::{Command, Status, command_of};
+use command_list::list;
+use command_play::play;
+use command_solve::solve;
+use io_edge::Words;
 use std::alloc::{AllocError, Global};
 use std::test::Fail;
-use trials_harness::{Fails, NONE, ends_with, given, holds, solves, tells, told_by};
-use trials_memory_edge::MemStore;
-use trials_worked_designs::PLANS;
+use trials_memory_edge::{MemSink, MemStore};
+use trials_stores::{Fails, NONE, Program, ends_with, given, holds, solves, tells, tells_rows};
+use trials_worked_designs::{LISTING, PLANS};
+
+// `list` and `play`, and `solve`, whose lines `play` is to print.
+struct Listing;
+
+impl Program for Listing {
+    fn answer(alloc: Global, words: &Words, store: &mut MemStore, out: &mut MemSink) -> Status {
+        match command_of(words) {
+            Some(Command::List) => list(alloc, words, store),
+            Some(Command::Play) => play(alloc, words, store, out),
+            Some(Command::Solve) => solve(alloc, words, store, out),
+            _ => Status::Usage,
+        }
+    }
+}
 
 // Further files: a name, and the listing with this part in that one's place.
 static FILES: [(&str, &str, &str); 6] = [
@@ -17,11 +35,7 @@ static FILES: [(&str, &str, &str); 6] = [
 ];
 
 // Arguments, and what they tell, with a comma for each line feed but the last.
-const ANSWERS: &str = "list c: error 2 usage
-list c c: error 2 usage
-play l: error 2 usage
-play l s s: error 2 usage
-list gone out: error 3 read-fault 1
+const ANSWERS: &str = "list gone out: error 3 read-fault 1
 play gone s: error 3 read-fault 1
 play l gone: error 3 read-fault 2
 list c gone: error 4 write-fault 2
@@ -60,10 +74,10 @@ fn listed(alloc: Global) -> Result<MemStore, AllocError> {
 // Whether `list` writes the listing, and `play` prints of it what `solve` prints of the controller.
 fn are_right(alloc: Global, store: &mut MemStore) -> Result<bool, AllocError> {
     Ok(
-        tells(alloc, "list c out", store, "")?
+        tells::<Listing>(alloc, "list c out", store, "")?
             && holds(alloc, store, "out", LISTING.as_bytes())?
-            && tells(alloc, "play out s", store, PLANS)?
-            && solves(alloc, store)?,
+            && tells::<Listing>(alloc, "play out s", store, PLANS)?
+            && solves::<Listing>(alloc, store)?,
     )
 }
 
@@ -74,24 +88,10 @@ fn a_listing_is_written_and_played(rt: HostRuntime) -> Result<(), Fail> {
     Ok(())
 }
 
-// Whether a row's arguments tell what they are to.
-fn is_right(alloc: Global, store: &mut MemStore, row: &str) -> Result<bool, AllocError> {
-    let Some((arguments, answer)) = row.split_once(": ") else {
-        return Ok(false);
-    };
-    let told = told_by(alloc, answer)?;
-    tells(alloc, arguments, store, told.as_str())
-}
-
 // Whether this holds for each row, and after all of them the commands answer right over the same store.
 fn are_all_right(alloc: Global) -> Result<bool, AllocError> {
     let mut store = listed(alloc)?;
-    for row in ANSWERS.lines() {
-        if !is_right(alloc, &mut store, row)? {
-            return Ok(false);
-        }
-    }
-    are_right(alloc, &mut store)
+    Ok(tells_rows::<Listing>(alloc, &mut store, ANSWERS)? && are_right(alloc, &mut store)?)
 }
 
 #[test]
@@ -109,7 +109,7 @@ fn is_cut(alloc: Global, keep: usize, line: &str) -> Result<bool, AllocError> {
         ..NONE
     };
     Ok(
-        ends_with(
+        ends_with::<Listing>(
             alloc,
             "list c out",
             &mut store,
@@ -121,7 +121,7 @@ fn is_cut(alloc: Global, keep: usize, line: &str) -> Result<bool, AllocError> {
             &mut store,
             "out",
             &LISTING.as_bytes()[..keep.min(LISTING.len())],
-        )? && tells(alloc, "play out s", &mut store, line)?,
+        )? && tells::<Listing>(alloc, "play out s", &mut store, line)?,
     )
 }
 
@@ -137,7 +137,7 @@ fn a_failed_write_leaves_a_part(rt: HostRuntime) -> Result<(), Fail> {
 fn is_unprinted(alloc: Global, put: usize, printed: &str) -> Result<bool, AllocError> {
     let mut store = listed(alloc)?;
     let fails = Fails { put, ..NONE };
-    ends_with(
+    ends_with::<Listing>(
         alloc,
         "play l s",
         &mut store,

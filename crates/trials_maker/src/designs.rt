@@ -1,6 +1,7 @@
 // Made designs: their texts, what their numbers draw, and what is read of them.
 use design_files::read_design;
 use design_maker::{Texts, made_law, make};
+use packed_rows::PackedRows;
 use policy_file::{read_policy, read_states};
 use qp_model::{Design, DesignParts};
 use std::alloc::Global;
@@ -131,13 +132,24 @@ fn is_policy(alloc: Global, text: &[u8], design: &Design) -> Result<bool, Fail> 
     Ok([policy.plans.rows(), policy.plans.cols()] == [4, 40])
 }
 
+// Whether the second row of states is that of the number 7.
+fn is_second(alloc: Global, states: &PackedRows) -> Result<bool, Fail> {
+    if states.rows() < 2 {
+        return Ok(false);
+    }
+    let mut walk = states.walk(alloc)?;
+    walk.step();
+    walk.step();
+    Ok(walk.row() == [16, -16].as_slice())
+}
+
 // Whether a states text of it is.
 fn is_states(alloc: Global, text: &[u8]) -> Result<bool, Fail> {
     if text.len() > 10000 {
         return Ok(false);
     }
     let states = read_states(alloc, text, 2)?;
-    Ok(1 < states.rows() && states.row(1) == [16, -16].as_slice())
+    is_second(alloc, &states)
 }
 
 // Whether the texts beside a design are read back.

@@ -4,6 +4,8 @@
 #[cfg(test)]
 mod matrices;
 #[cfg(test)]
+mod packed;
+#[cfg(test)]
 mod products;
 #[cfg(test)]
 mod rows;

@@ -1,8 +1,8 @@
 // Fields of numbers, and texts of states.
 ghost use Rattle.std.specs.Prelude.{length, ◌<◌, ◌^◌};
 
-use mat_int::Mat;
 use number_text::TextFault;
+use packed_rows::PackedRows;
 use policy_file::{number_field, read_states};
 use std::alloc::{AllocError, Global};
 use std::test::Fail;
@@ -51,11 +51,13 @@ static STATES: [(&[u8], &[i128]); 7] = [
     (b"\xef\xbb\xbf1,-2\n", &[1, -2]),
 ];
 
-// Whether a matrix has two columns, and these numbers in its rows in turn.
-fn has_numbers(alloc: Global, states: &Mat, numbers: &[i128]) -> Result<bool, TextFault> {
+// Whether rows have two columns, and these numbers in turn.
+fn has_numbers(alloc: Global, states: &PackedRows, numbers: &[i128]) -> Result<bool, TextFault> {
     let mut all = Vec::new(alloc);
-    for i in 0..states.rows() {
-        all.extend_from_slice(states.row(i))?;
+    let mut walk = states.walk(alloc)?;
+    for _ in 0..states.rows() {
+        walk.step();
+        all.extend_from_slice(walk.row())?;
     }
     Ok(states.cols() == 2 && all.as_slice() == numbers)
 }

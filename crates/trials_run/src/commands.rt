@@ -1,8 +1,9 @@
 // `solve`, `loop` and `demo`, and arguments that are none.
 use std::alloc::{AllocError, Global};
 use std::test::Fail;
-use trials_harness::{Fails, NONE, changed, ends_with, store_of};
+use trials_harness::Whole;
 use trials_memory_edge::MemStore;
+use trials_stores::{Fails, NONE, changed, ends_with, store_of};
 use trials_worked_designs::{CONTROLLER, DEMO_OF_SEVEN, DESIGN, POLICY};
 
 // A run: the arguments, the states, the answer's line and what is printed.
@@ -23,7 +24,7 @@ fn passes(
     fails: &Fails,
 ) -> Result<bool, AllocError> {
     let mut store = store_of(alloc, design, POLICY, controller, case.states)?;
-    ends_with(
+    ends_with::<Whole>(
         alloc,
         case.arguments,
         &mut store,
@@ -245,7 +246,7 @@ fn changed_designs(rt: HostRuntime) -> Result<(), Fail> {
 }
 
 // Arguments that are those of no command.
-static NO_COMMANDS: [&str; 21] = [
+static NO_COMMANDS: [&str; 28] = [
     "",
     "solve",
     "solve c",
@@ -267,6 +268,13 @@ static NO_COMMANDS: [&str; 21] = [
     "generate d p c d",
     "generate d p c p",
     "generate d p c r r",
+    "list c",
+    "list c c",
+    "play l",
+    "play l s s",
+    "stay d p out r out",
+    "lean d p q out r out",
+    "lean d p q out r f r",
 ];
 
 #[test]
@@ -354,7 +362,7 @@ fn prints(alloc: Global, put: usize, count: usize, line: &str) -> Result<bool, A
     };
     let fails = Fails { put, ..NONE };
     let mut store = MemStore::empty(alloc);
-    ends_with(alloc, "demo 7", &mut store, &fails, line, printed)
+    ends_with::<Whole>(alloc, "demo 7", &mut store, &fails, line, printed)
 }
 
 // `demo 7`, and with each of its prints failing in turn: the print, the number of bytes before it, and the answer's line.

@@ -1,7 +1,8 @@
 // `loop` under disturbances, on the worked design. The expected lines are those of the model of checks/fuzz.
 use std::alloc::{AllocError, Global};
 use std::test::Fail;
-use trials_harness::{NONE, ends_with, store_of};
+use trials_harness::Whole;
+use trials_stores::{NONE, ends_with, store_of};
 use trials_worked_designs::{CONTROLLER, DESIGN};
 
 // Whether a run leaves what it is to leave. The store has the disturbances in the place of the policy's text.
@@ -14,7 +15,7 @@ fn is_disturbed(
     printed: &str,
 ) -> Result<bool, AllocError> {
     let mut store = store_of(alloc, DESIGN, shifts, CONTROLLER, states)?;
-    ends_with(alloc, arguments, &mut store, &NONE, line, printed)
+    ends_with::<Whole>(alloc, arguments, &mut store, &NONE, line, printed)
 }
 
 // The arguments, the states, the disturbances, the answer's line and what is printed.

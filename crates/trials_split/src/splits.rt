@@ -1,88 +1,30 @@
 // `split` of the first worked design: its two cells, what it refuses, and calls that fail. The texts are those of the model in exact fractions.
-use command_line::{Command, Status, command_of, status_line};
+use command_line::{Command, Status, command_of};
 use command_split::split;
-use io_edge::{ReadRefusal, Store, Words};
+use io_edge::Words;
 use std::alloc::{AllocError, Global};
 use std::test::Fail;
-use trials_memory_edge::MemStore;
-use trials_worked_designs::{DESIGN, SATELLITE};
+use trials_memory_edge::{MemSink, MemStore};
+use trials_stores::{Fails, NONE, Program, ROOM, ends_with, held, store_of};
+use trials_worked_designs::{CONTROLLER, DESIGN, LOW, LOW_REPORT, REPORT, SATELLITE};
 
-// The bytes that a run writes at most.
-const ROOM: usize = 65536;
+// `split` alone.
+struct Splitting;
+
+impl Program for Splitting {
+    fn answer(alloc: Global, words: &Words, store: &mut MemStore, _: &mut MemSink) -> Status {
+        match command_of(words) {
+            Some(Command::Split) => split(alloc, words, store),
+            _ => Status::Usage,
+        }
+    }
+}
+
+// The store has the cuts in the place of the states.
+const SPLIT: &str = "split d s p out r";
 
 // The policies of the two cells.
 const POLICIES: &str = "1,0\n1,0\n8,-7\n8,-7\n";
-
-// The controllers of the states 0 and 1.
-const CELLS: &str = "mpc-cells 2
-mpc-controller 1
-size 1 1 1 3
-bits 5 0 1 13
-steps 1
-clamp 128
-words 6
-lo 0
-hi 0
-P 16
-T 0
-W 8 -8 8
-G 32
-G -32
-G 32
-E 0
-E 0
-E 32
-b 32 32 8
-end
-mpc-controller 1
-size 1 1 1 3
-bits 10 0 1 26
-steps 4
-clamp 32768
-words 6
-lo 1
-hi 1
-P 512
-T 0
-W 256 -256 256
-G 1024
-G -1024
-G 1024
-E 0
-E 0
-E 1024
-b 1024 1024 256
-end
-end
-";
-
-const REPORTS: &str = "mpc-report 1
-margin 16384 65536
-cost 0
-multiplier 1
-step 1
-steps 1
-bits 5
-width 13
-words 6
-violation 4922032521216 1099511627776
-gap 523986010112 1099511627776
-undercut 4922032521216 1099511627776
-end
-mpc-report 1
-margin 8192 65536
-cost 1
-multiplier 8
-step 1
-steps 4
-bits 10
-width 26
-words 6
-violation 8850854903808 1099511627776
-gap 438095052800 1099511627776
-undercut 70806839230464 1099511627776
-end
-";
 
 // What is read, and the line of the answer.
 #[derive(Drop)]
@@ -92,59 +34,26 @@ struct Refused {
     line: &'static str,
 }
 
-// The status of `split d l p c r`; an error where memory ran out.
-fn status_of(alloc: Global, store: &mut MemStore) -> Result<Status, AllocError> {
-    let mut words = Words::empty(alloc);
-    for word in "split d l p c r".split(' ') {
-        words.push(word)?;
-    }
-    match command_of(&words) {
-        Some(Command::Split) => Ok(split(alloc, &words, store)),
-        _ => Ok(Status::Usage),
-    }
-}
-
-// Holds the three texts, and makes room for the two that are written.
-fn fill(store: &mut MemStore, design: &str, cuts: &str, policies: &str) -> Result<(), AllocError> {
-    store.hold("d", design.as_bytes())?;
-    store.hold("l", cuts.as_bytes())?;
-    store.hold("p", policies.as_bytes())?;
-    store.reserve("c", ROOM)?;
-    store.reserve("r", ROOM)
-}
-
-// What a name holds, and nothing where it holds nothing.
-fn held(alloc: Global, store: &mut MemStore, name: &str) -> Result<Vec<u8>, AllocError> {
-    match store.read_all(alloc, name, ROOM) {
-        Ok(bytes) => Ok(bytes),
-        Err(ReadRefusal::Memory) => Err(AllocError),
-        Err(_) => Ok(Vec::new(alloc)),
-    }
-}
-
-// Whether a run ends with this line.
-fn ends_with(alloc: Global, store: &mut MemStore, line: &str) -> Result<bool, AllocError> {
-    let status = status_of(alloc, store)?;
-    if status == Status::Memory {
-        return Err(AllocError);
-    }
-    let told = status_line(alloc, &status)?;
-    Ok(told.as_slice() == line.as_bytes())
-}
-
 // Whether a run ends with this line, and leaves these texts under its two names.
 fn leaves(
     alloc: Global,
     store: &mut MemStore,
+    fails: &Fails,
     line: &str,
     cells: &[u8],
     reports: &[u8],
-) -> Result<bool, AllocError> {
+) -> Result<bool, Fail> {
     Ok(
-        ends_with(alloc, store, line)?
-            && held(alloc, store, "c")?.as_slice() == cells
+        ends_with::<Splitting>(alloc, SPLIT, store, fails, line, "")?
+            && held(alloc, store, "out")?.as_slice() == cells
             && held(alloc, store, "r")?.as_slice() == reports,
     )
+}
+
+// The controllers of the states 0 and 1.
+fn cells(alloc: Global) -> Result<String, AllocError> {
+    let high = CONTROLLER.replacen(alloc, "lo 0\n", "lo 1\n", 1)?;
+    format!(in alloc; "mpc-cells 2\n{LOW}{high}end\n")
 }
 
 // The first bytes of a text.
@@ -152,54 +61,48 @@ fn part(text: &str, count: usize) -> &[u8] {
     &text.as_bytes()[..count.min(text.len())]
 }
 
-// Whether a run over the texts of the two cells does, whose write of this number fails and keeps so many bytes.
+// Whether a run over the texts of the two cells ends with this line, and leaves so many bytes of the cells and of the reports, whose write of this number
+// fails and keeps so many.
 fn splits(
     alloc: Global,
     write: usize,
     keep: usize,
     line: &str,
-    cells: &[u8],
-    reports: &[u8],
-) -> Result<bool, AllocError> {
-    let mut store = MemStore::empty(alloc);
-    fill(&mut store, DESIGN, "1,0\n", POLICIES)?;
-    store.fail_write(write, keep)?;
-    leaves(alloc, &mut store, line, cells, reports)
+    left: (usize, usize),
+) -> Result<bool, Fail> {
+    let cells = cells(alloc)?;
+    let reports = format!(in alloc; "{LOW_REPORT}{REPORT}")?;
+    let mut store = store_of(alloc, DESIGN, POLICIES, "", "1,0\n")?;
+    let fails = Fails {
+        write,
+        keep,
+        ..NONE
+    };
+    leaves(
+        alloc,
+        &mut store,
+        &fails,
+        line,
+        part(&cells, left.0),
+        part(&reports, left.1),
+    )
 }
 
 #[test]
 fn two_cells(rt: HostRuntime) -> Result<(), Fail> {
-    assert!(rt; splits(rt.alloc(), 9, 0, "", CELLS.as_bytes(), REPORTS.as_bytes())?);
+    assert!(rt; splits(rt.alloc(), 9, 0, "", (ROOM, ROOM))?);
     Ok(())
 }
 
 #[test]
 fn cut_in_the_reports(rt: HostRuntime) -> Result<(), Fail> {
-    assert!(rt;
-        splits(
-            rt.alloc(),
-            2,
-            250,
-            "error 4 write-fault 5\n",
-            CELLS.as_bytes(),
-            part(REPORTS, 250)
-        )?
-    );
+    assert!(rt; splits(rt.alloc(), 2, 250, "error 4 write-fault 5\n", (ROOM, 250))?);
     Ok(())
 }
 
 #[test]
 fn cut_in_the_cells(rt: HostRuntime) -> Result<(), Fail> {
-    assert!(rt;
-        splits(
-            rt.alloc(),
-            1,
-            100,
-            "error 4 write-fault 4\n",
-            part(CELLS, 100),
-            b""
-        )?
-    );
+    assert!(rt; splits(rt.alloc(), 1, 100, "error 4 write-fault 4\n", (100, 0))?);
     Ok(())
 }
 
@@ -243,10 +146,9 @@ static REFUSALS: [Refused; 7] = [
 ];
 
 // Whether a run is refused, and nothing is written.
-fn is_refused(alloc: Global, case: &Refused) -> Result<bool, AllocError> {
-    let mut store = MemStore::empty(alloc);
-    fill(&mut store, DESIGN, case.cuts, case.policies)?;
-    leaves(alloc, &mut store, case.line, b"", b"")
+fn is_refused(alloc: Global, case: &Refused) -> Result<bool, Fail> {
+    let mut store = store_of(alloc, DESIGN, case.policies, "", case.cuts)?;
+    leaves(alloc, &mut store, &NONE, case.line, b"", b"")
 }
 
 #[test]
@@ -258,15 +160,17 @@ fn refusals(rt: HostRuntime) -> Result<(), Fail> {
 }
 
 // A box of 5 times 13 cells is refused before the policies are read.
-fn is_too_many(alloc: Global) -> Result<bool, AllocError> {
-    let mut store = MemStore::empty(alloc);
-    fill(
+fn is_too_many(alloc: Global) -> Result<bool, Fail> {
+    let cuts = "4,-32,0,16,32\n12,-15,-14,-13,-12,-11,-10,-9,-8,-7,-6,-5,-4\n";
+    let mut store = store_of(alloc, SATELLITE, "", "", cuts)?;
+    leaves(
+        alloc,
         &mut store,
-        SATELLITE,
-        "4,-32,0,16,32\n12,-15,-14,-13,-12,-11,-10,-9,-8,-7,-6,-5,-4\n",
-        "",
-    )?;
-    leaves(alloc, &mut store, "error 5 text 2 range 0\n", b"", b"")
+        &NONE,
+        "error 5 text 2 range 0\n",
+        b"",
+        b"",
+    )
 }
 
 #[test]
@@ -295,23 +199,17 @@ fn all_cuts(alloc: Global) -> Result<String, AllocError> {
 }
 
 // Whether a cell of each state has a controller.
-fn are_made(alloc: Global, store: &mut MemStore) -> Result<bool, AllocError> {
-    let made = ends_with(alloc, store, "")?;
-    let cells = held(alloc, store, "c")?;
+fn are_made(alloc: Global, store: &mut MemStore) -> Result<bool, Fail> {
+    let made = ends_with::<Splitting>(alloc, SPLIT, store, &NONE, "", "")?;
+    let cells = held(alloc, store, "out")?;
     Ok(made && cells.starts_with(b"mpc-cells 64\nmpc-controller 1\n"))
 }
 
-fn makes_sixty_four(alloc: Global) -> Result<bool, AllocError> {
-    let mut store = MemStore::empty(alloc);
+fn makes_sixty_four(alloc: Global) -> Result<bool, Fail> {
     let design = fine_design(alloc)?;
     let cuts = all_cuts(alloc)?;
     let policies = "8,-7\n".repeat(alloc, 128)?;
-    fill(
-        &mut store,
-        design.as_str(),
-        cuts.as_str(),
-        policies.as_str(),
-    )?;
+    let mut store = store_of(alloc, &design, &policies, "", &cuts)?;
     are_made(alloc, &mut store)
 }
 

@@ -1,9 +1,24 @@
 // `stay` on a design of one state whose next state has a limit from both sides. The expected numbers are those of a model in exact fractions.
-use std::alloc::{AllocError, Global};
+use command_line::{Command, Status, command_of};
+use command_stay::stay;
+use io_edge::Words;
+use std::alloc::Global;
 use std::test::Fail;
-use trials_harness::{Fails, NONE, changed, ends_with, held, store_of};
-use trials_memory_edge::MemStore;
-use trials_worked_designs::{DESIGN, POLICY};
+use trials_memory_edge::{MemSink, MemStore};
+use trials_stores::{Fails, NONE, Program, ends_with, has_lines, store_of, two_sided};
+use trials_worked_designs::POLICY;
+
+// `stay` alone.
+struct Staying;
+
+impl Program for Staying {
+    fn answer(alloc: Global, words: &Words, store: &mut MemStore, _: &mut MemSink) -> Status {
+        match command_of(words) {
+            Some(Command::Stay { disturbed }) => stay(alloc, words, disturbed, store),
+            _ => Status::Usage,
+        }
+    }
+}
 
 // The store has the faces in the place of a controller's text and the disturbances in that of the states.
 const STAY: &str = "stay d p out r c";
@@ -12,35 +27,6 @@ const STAY_UNDER: &str = "stay d p out r c s";
 
 // Faces that hold: the next state is at most 1/4 above the box's upper face less its error, and at least 1/4 below its lower one.
 const FACES: &str = "4,0,0,1,0\n4,0,0,0,1\n";
-
-// The worked design with a limit on both sides of the next state, and closer targets.
-fn two_sided(alloc: Global) -> Result<String, Fail> {
-    let limited = changed(
-        alloc,
-        DESIGN,
-        "final = [[4, 1]]",
-        "final = [[4, 1], [-4, 1]]",
-    )?;
-    changed(
-        alloc,
-        &limited,
-        "den = 1\nviolation = 16\ngap = 1",
-        "den = 10\nviolation = 1\ngap = 10",
-    )
-}
-
-// Whether both names hold nothing, or the report has these lines.
-fn leaves(alloc: Global, store: &mut MemStore, report: &str) -> Result<bool, Fail> {
-    let bytes = held(alloc, store, "r")?;
-    match str::from_utf8(&bytes) {
-        Ok(text) => Ok(if report.is_empty() {
-            text.is_empty()
-        } else {
-            text.contains(report)
-        }),
-        Err(_) => Ok(false),
-    }
-}
 
 // Whether a run over these files ends with this line, and leaves this in the report.
 fn is_run(
@@ -55,13 +41,13 @@ fn is_run(
     let design = two_sided(alloc)?;
     let mut store = store_of(alloc, &design, POLICY, faces, shifts)?;
     Ok(
-        ends_with(alloc, arguments, &mut store, fails, line, "")?
-            && leaves(alloc, &mut store, report)?,
+        ends_with::<Staying>(alloc, arguments, &mut store, fails, line, "")?
+            && has_lines(alloc, &mut store, "r", report)?,
     )
 }
 
 // The arguments, the faces, the disturbances, the answer's line and lines of the report; nothing is written where there are none.
-static RUNS: [(&str, &str, &str, &str, &str); 16] = [
+static RUNS: [(&str, &str, &str, &str, &str); 15] = [
     // Faces that hold, and the printed violation.
     (STAY, FACES, "", "", "violation 77438459892 1099511627776\n"),
     // Faces that don't, and texts that are none.
@@ -128,8 +114,6 @@ static RUNS: [(&str, &str, &str, &str, &str); 16] = [
         "error 5 text 6 fields 1\n",
         "",
     ),
-    // A name that is written is another's.
-    ("stay d p out r out", FACES, "", "error 2 usage\n", ""),
 ];
 
 #[test]

@@ -8,7 +8,8 @@ mod texts;
 pub use designs::{changed_design, design};
 pub use matrices::has_rows;
 pub use texts::{
-    CONTROLLER, CONTROLLER_OF_TWO, DEMO_OF_SEVEN, DESIGN, PLANS, POLICY, REPORT, SATELLITE, STATES,
+    CONTROLLER, CONTROLLER_OF_TWO, DEMO_OF_SEVEN, DESIGN, LEAN_CONTROLLER, LISTING, LOW,
+    LOW_REPORT, PLANS, POLICY, REPORT, SATELLITE, STATES,
 };
 
 #[cfg(test)]

@@ -1,4 +1,5 @@
-// The first worked design, its policy, and the controller and the report that are made of it; another controller; the design of a satellite; and what `demo` prints.
+// The first worked design, its policy, and the controllers, reports and listing that are made of it; another controller; the design of a satellite; and
+// what `demo` prints. The worked rows and the tests of scripts read them here, too: `checks/rows/worked_texts.py`.
 
 /// One input at one stage of one state in 0 .. 1: x+ = x + u, the cost x^2 + u^2, -1 <= u <= 1 and at the end x <= 1/4.
 pub const DESIGN: &str = "version = 1
@@ -87,6 +88,116 @@ words 6
 violation 8850854903808 1099511627776
 gap 438095052800 1099511627776
 undercut 70806839230464 1099511627776
+end
+";
+
+/// The controller's listing, as the model of `checks/fuzz/program.py list` writes it.
+pub const LISTING: &str = "mpc-listing 1
+word 26
+input 1 10
+lo 0
+hi 1
+words 6
+output 5 1 4096
+repeat 4 38
+count 152
+clear
+mac 0 512 0
+con 0 10
+shl 1
+mac 1 256 0
+mac 2 -256 0
+mac 3 256 0
+shr 11
+neg
+store 4
+clear
+mac 4 1024 0
+con -1024 10
+shr 10
+addm 1
+low
+cap 32768
+store 1
+clear
+mac 4 -1024 0
+con -1024 10
+shr 10
+addm 2
+low
+cap 32768
+store 2
+clear
+mac 4 1024 0
+mac 0 1024 0
+con -256 10
+shr 10
+addm 3
+low
+cap 32768
+store 3
+load 5
+addm 4
+store 5
+end
+";
+
+/// The lean controller of the design with the references `1,0` and `2,-1`.
+pub const LEAN_CONTROLLER: &str = "mpc-controller 1
+size 1 1 1 3
+bits 6 0 1 16
+steps 1
+clamp 256
+words 6
+lo 0
+hi 1
+P 32
+T 0
+W 16 -16 16
+G 64
+G -64
+G 64
+E 0
+E 0
+E 64
+b 64 64 16
+end
+";
+
+/// The controller of the state 0 alone, as the row of `split` among the worked rows has it.
+pub const LOW: &str = "mpc-controller 1
+size 1 1 1 3
+bits 5 0 1 13
+steps 1
+clamp 128
+words 6
+lo 0
+hi 0
+P 16
+T 0
+W 8 -8 8
+G 32
+G -32
+G 32
+E 0
+E 0
+E 32
+b 32 32 8
+end
+";
+
+pub const LOW_REPORT: &str = "mpc-report 1
+margin 16384 65536
+cost 0
+multiplier 1
+step 1
+steps 1
+bits 5
+width 13
+words 6
+violation 4922032521216 1099511627776
+gap 523986010112 1099511627776
+undercut 4922032521216 1099511627776
 end
 ";
 

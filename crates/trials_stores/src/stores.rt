@@ -65,10 +65,44 @@ pub fn holds(
     }
 }
 
+/// Whether a name holds a text with these lines; where there are none, it holds no byte.
+pub fn has_lines(
+    alloc: Global,
+    store: &mut MemStore,
+    name: &str,
+    lines: &str,
+) -> Result<bool, ReadRefusal> {
+    let bytes = held(alloc, store, name)?;
+    match str::from_utf8(&bytes) {
+        Ok(text) => Ok(if lines.is_empty() {
+            text.is_empty()
+        } else {
+            text.contains(lines)
+        }),
+        Err(_) => Ok(false),
+    }
+}
+
 /// A text with one part in place of another.
 pub fn changed(alloc: Global, text: &str, old: &str, new: &str) -> Result<String, Fail> {
     let (before, after) = text.split_once(old).ok_or("absent")?;
     Ok(format!(in alloc; "{before}{new}{after}")?)
+}
+
+/// The first worked design with a limit on both sides of the next state, and closer targets.
+pub fn two_sided(alloc: Global) -> Result<String, Fail> {
+    let limited = changed(
+        alloc,
+        DESIGN,
+        "final = [[4, 1]]",
+        "final = [[4, 1], [-4, 1]]",
+    )?;
+    changed(
+        alloc,
+        &limited,
+        "den = 1\nviolation = 16\ngap = 1",
+        "den = 10\nviolation = 1\ngap = 10",
+    )
 }
 
 /// What a row of a table tells, which has a comma for each line feed but the last.

@@ -1,14 +1,21 @@
-// Whole runs over stores and outputs in memory.
-use crate::stores::{ROOM, holds};
+// Runs over stores and outputs in memory.
+use crate::stores::{ROOM, holds, told_by};
 use command_line::{Status, status_line};
-use command_run::run;
 use io_edge::Words;
 use std::alloc::{AllocError, Global};
 use trials_memory_edge::{MemSink, MemStore};
 use trials_worked_designs::{CONTROLLER, PLANS, REPORT};
 
+/// What answers to arguments: the whole program, or commands of it.
+pub trait Program {
+    /// What it answers to arguments.
+    fn answer(alloc: Global, words: &Words, store: &mut MemStore, out: &mut MemSink) -> Status;
+}
+
+/// `generate` over the store that is given.
 pub const GENERATE: &str = "generate d p out r";
 
+/// `solve` over the store that is given.
 pub const SOLVE: &str = "solve c s";
 
 /// The call that is to fail, counted from 1; 9 for none.
@@ -37,22 +44,22 @@ fn words_of(alloc: Global, arguments: &str) -> Result<Words, AllocError> {
     Ok(words)
 }
 
-/// What the program answers to arguments, with one space between two; an error where it is out of memory, so that no trial takes that for a wrong answer.
-pub fn answer_of(
+/// What a program answers to arguments, with one space between two; an error where it is out of memory, so that no trial takes that for a wrong answer.
+pub fn answer_of<P: Program>(
     alloc: Global,
     arguments: &str,
     store: &mut MemStore,
     out: &mut MemSink,
 ) -> Result<Status, AllocError> {
     let words = words_of(alloc, arguments)?;
-    match run(alloc, &words, store, out) {
+    match P::answer(alloc, &words, store, out) {
         Status::Memory => Err(AllocError),
         status => Ok(status),
     }
 }
 
 // Whether a run ends with this line of its answer, and has then printed this.
-fn leaves(
+fn leaves<P: Program>(
     alloc: Global,
     arguments: &str,
     store: &mut MemStore,
@@ -60,13 +67,13 @@ fn leaves(
     line: &str,
     printed: &str,
 ) -> Result<bool, AllocError> {
-    let status = answer_of(alloc, arguments, store, out)?;
+    let status = answer_of::<P>(alloc, arguments, store, out)?;
     let told = status_line(alloc, &status)?;
     Ok(told.as_slice() == line.as_bytes() && out.seen() == printed.as_bytes())
 }
 
 /// Whether a run over a store, in which a call fails, ends with this line of its answer, and has then printed this.
-pub fn ends_with(
+pub fn ends_with<P: Program>(
     alloc: Global,
     arguments: &str,
     store: &mut MemStore,
@@ -77,43 +84,70 @@ pub fn ends_with(
     store.fail_read(fails.read)?;
     store.fail_write(fails.write, fails.keep)?;
     let mut out = MemSink::with(alloc, ROOM, &[fails.put])?;
-    leaves(alloc, arguments, store, &mut out, line, printed)
+    leaves::<P>(alloc, arguments, store, &mut out, line, printed)
 }
 
 // Whether a run tells this.
-fn is_told(
+fn is_told<P: Program>(
     alloc: Global,
     arguments: &str,
     store: &mut MemStore,
     out: &mut MemSink,
     text: &str,
 ) -> Result<bool, AllocError> {
-    let status = answer_of(alloc, arguments, store, out)?;
+    let status = answer_of::<P>(alloc, arguments, store, out)?;
     let told = status_line(alloc, &status)?;
     Ok(text.as_bytes().strip_prefix(told.as_slice()) == Some(out.seen()))
 }
 
 /// Whether a run tells this: the line of its answer, where it is refused, and then what it prints.
-pub fn tells(
+pub fn tells<P: Program>(
     alloc: Global,
     arguments: &str,
     store: &mut MemStore,
     text: &str,
 ) -> Result<bool, AllocError> {
     let mut out = MemSink::with(alloc, ROOM, &[])?;
-    is_told(alloc, arguments, store, &mut out, text)
+    is_told::<P>(alloc, arguments, store, &mut out, text)
+}
+
+/// Whether a row's arguments tell what stands behind `: ` in it, with a comma for each line feed but the last.
+pub fn tells_row<P: Program>(
+    alloc: Global,
+    store: &mut MemStore,
+    row: &str,
+) -> Result<bool, AllocError> {
+    let Some((arguments, answer)) = row.split_once(": ") else {
+        return Ok(false);
+    };
+    let told = told_by(alloc, answer)?;
+    tells::<P>(alloc, arguments, store, told.as_str())
+}
+
+/// Whether each line of a text is such a row, whose arguments tell that, one after the other over the same store.
+pub fn tells_rows<P: Program>(
+    alloc: Global,
+    store: &mut MemStore,
+    rows: &str,
+) -> Result<bool, AllocError> {
+    for row in rows.lines() {
+        if !tells_row::<P>(alloc, store, row)? {
+            return Ok(false);
+        }
+    }
+    Ok(true)
 }
 
 /// Whether `generate` makes the two texts of the first worked design.
-pub fn generates(alloc: Global, store: &mut MemStore) -> Result<bool, AllocError> {
+pub fn generates<P: Program>(alloc: Global, store: &mut MemStore) -> Result<bool, AllocError> {
     Ok(
-        tells(alloc, GENERATE, store, "")?
+        tells::<P>(alloc, GENERATE, store, "")?
             && holds(alloc, store, "out", CONTROLLER.as_bytes())?
             && holds(alloc, store, "r", REPORT.as_bytes())?,
     )
 }
 
 /// Whether `solve` prints the plans of the corners.
-pub fn solves(alloc: Global, store: &mut MemStore) -> Result<bool, AllocError> {
-    tells(alloc, SOLVE, store, PLANS)
+pub fn solves<P: Program>(alloc: Global, store: &mut MemStore) -> Result<bool, AllocError> {
+    tells::<P>(alloc, SOLVE, store, PLANS)
 }
