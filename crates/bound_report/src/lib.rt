@@ -16,8 +16,8 @@ use serde_json::{Map, Value, put};
 use std::alloc::{AllocError, Global};
 
 /// The text of a report: lines of a word and its numbers, the header `mpc-report` with the version first and `end` last. A number that is over a
-/// power of two has that power beside it. A lean controller has the line `excess`, over `2^16`, in place of `cost`. Version 1 has one line `violation`; any other has one for each of the m rows, with the row's number
-/// from 1 on before it.
+/// power of two has that power beside it. A lean controller has the line `excess`, over `2^16`, in place of `cost`. Version 1 has one line `violation`;
+/// any other has one for each of the m rows, with the row's number from 1 on before it.
 pub fn report_text(alloc: Global, b: &Bounds) -> Result<Vec<u8>, AllocError>
     ensures { IfOk result (λ v. v.items ≡ report_text (printed b.now)) }
 {
@@ -28,8 +28,9 @@ pub fn report_text(alloc: Global, b: &Bounds) -> Result<Vec<u8>, AllocError>
 }
 
 /// The report as one JSON object with no space in it, and a line feed. Each value is a string, the number in decimal, since a reader of JSON may
-/// keep no more of a number than a float does. `margin` is over `2^16`, and so is `excess`, which a lean controller has in place of `cost`; `gap`, `undercut` and `violation`, the greatest of all rows, are over
-/// `2^40`. Any version but 1 has `violations` too: an array of m such strings, over `2^40`, from the first row on.
+/// keep no more of a number than a float does. `margin` is over `2^16`, and so is `excess`, which a lean controller has in place of `cost`; `gap`,
+/// `undercut` and `violation`, the greatest of all rows, are over `2^40`. Any version but 1 has `violations` too: an array of m such strings, over `2^40`,
+/// from the first row on.
 pub fn report_json(alloc: Global, b: &Bounds) -> Result<Vec<u8>, AllocError>
     ensures bytes { IfOk result (λ v. v.items ≡ report_json (printed b.now)) }
     ensures document { IfOk result (λ v. IsJsonLine v.items (object_of (json_members (printed b.now)))) }

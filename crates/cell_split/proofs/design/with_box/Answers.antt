@@ -1,43 +1,61 @@
-use Rattle.std.proofs.Common.{◌≡◌, refl, rules}
+use Rattle.std.proofs.Common.{◌≡◌, ℤ, List, refl, rules, to_z, of_z}
 use Rattle.std.specs.Int.{w128}
 use mir.Val.{SFits}
 use Rattle.std.proofs.lemmas.Int.{to_z-of_z}
 use Rattle.std.proofs.lemmas.List.Elements.{same_from_all_zip}
+use Rattle.qp_model.specs.declared.design_parts.DesignParts.{DesignParts}
+use Rattle.cell_split.specs.declared.copies.MatPair.{MatPair}
 use Rattle.cell_split.proofs.design.with_box.Goals as goal
+use Rattle.cell_split.proofs.design.with_box.Goals.{In_ok-input_weights}
+
+-- the numbers as they are read, and what was copied
+record AreCopies (p : DesignParts) (weights : List ℤ) (plant costs rows : MatPair) : Type 0 where
+  pub plant_den : to_z w128 (of_z w128 p.plant_den) ≡ p.plant_den
+  pub cost_den : to_z w128 (of_z w128 p.cost_den) ≡ p.cost_den
+  pub row_den : to_z w128 (of_z w128 p.row_den) ≡ p.row_den
+  pub limit_den : to_z w128 (of_z w128 p.limit_den) ≡ p.limit_den
+  pub target_den : to_z w128 (of_z w128 p.target_den) ≡ p.target_den
+  pub violation : to_z w128 (of_z w128 p.violation) ≡ p.violation
+  pub gap : to_z w128 (of_z w128 p.gap) ≡ p.gap
+  pub weights_are : weights ≡ p.input_weights.items
+  pub a : plant.first ≡ p.a
+  pub b : plant.second ≡ p.b
+  pub stage_cost : costs.first ≡ p.stage_cost
+  pub final_cost : costs.second ≡ p.final_cost
+  pub stage_rows : rows.first ≡ p.stage_rows
+  pub final_rows : rows.second ≡ p.final_rows
+
+copies : (c : In_ok-input_weights) → AreCopies c.args.parts.now c.in_ok-input_weights.input_weights.items c.in_ok-plant.plant c.in_ok-costs.costs c.in_ok-rows.rows
+copies c =
+    let plant_den : SFits w128 c.args.parts.now.plant_den = search rules in
+    let cost_den : SFits w128 c.args.parts.now.cost_den = search rules in
+    let row_den : SFits w128 c.args.parts.now.row_den = search rules in
+    let limit_den : SFits w128 c.args.parts.now.limit_den = search rules in
+    let target_den : SFits w128 c.args.parts.now.target_den = search rules in
+    let violation : SFits w128 c.args.parts.now.violation = search rules in
+    let gap : SFits w128 c.args.parts.now.gap = search rules in
+    record {
+      plant_den = to_z-of_z w128 c.args.parts.now.plant_den plant_den;
+      cost_den = to_z-of_z w128 c.args.parts.now.cost_den cost_den;
+      row_den = to_z-of_z w128 c.args.parts.now.row_den row_den;
+      limit_den = to_z-of_z w128 c.args.parts.now.limit_den limit_den;
+      target_den = to_z-of_z w128 c.args.parts.now.target_den target_den;
+      violation = to_z-of_z w128 c.args.parts.now.violation violation;
+      gap = to_z-of_z w128 c.args.parts.now.gap gap;
+      weights_are = same_from_all_zip _ _ _ c.in_ok-input_weights.ensures.cases.0 (λ x y h. h);
+      a = c.in_ok-plant.ensures.first;
+      b = c.in_ok-plant.ensures.second;
+      stage_cost = c.in_ok-costs.ensures.first;
+      final_cost = c.in_ok-costs.ensures.second;
+      stage_rows = c.in_ok-rows.ensures.first;
+      final_rows = c.in_ok-rows.ensures.second;
+    }
 
 pub new-requires : goal.new-requires
 new-requires c =
     let d = c.requires.design in
-    let plant_den_fits : SFits w128 c.args.parts.now.plant_den = search rules in
-    let plant_den = to_z-of_z w128 c.args.parts.now.plant_den plant_den_fits in
-    let cost_den_fits : SFits w128 c.args.parts.now.cost_den = search rules in
-    let cost_den = to_z-of_z w128 c.args.parts.now.cost_den cost_den_fits in
-    let row_den_fits : SFits w128 c.args.parts.now.row_den = search rules in
-    let row_den = to_z-of_z w128 c.args.parts.now.row_den row_den_fits in
-    let limit_den_fits : SFits w128 c.args.parts.now.limit_den = search rules in
-    let limit_den = to_z-of_z w128 c.args.parts.now.limit_den limit_den_fits in
-    let target_den_fits : SFits w128 c.args.parts.now.target_den = search rules in
-    let target_den = to_z-of_z w128 c.args.parts.now.target_den target_den_fits in
-    let violation_fits : SFits w128 c.args.parts.now.violation = search rules in
-    let violation = to_z-of_z w128 c.args.parts.now.violation violation_fits in
-    let gap_fits : SFits w128 c.args.parts.now.gap = search rules in
-    let gap = to_z-of_z w128 c.args.parts.now.gap gap_fits in
-    let weights : c.in_ok-input_weights.input_weights.items ≡ c.args.parts.now.input_weights.items = same_from_all_zip _ _ _ c.in_ok-input_weights.ensures.cases.0 (λ x y h. h) in
-    rw (
-      plant_den,
-      cost_den,
-      row_den,
-      limit_den,
-      target_den,
-      violation,
-      gap,
-      c.in_ok-plant.ensures.first,
-      c.in_ok-plant.ensures.second,
-      c.in_ok-costs.ensures.first,
-      c.in_ok-costs.ensures.second,
-      c.in_ok-rows.ensures.first,
-      c.in_ok-rows.ensures.second,
-    )
+    let is = copies (goal.at.new-requires c).In_ok-input_weights in
+    rw (is.plant_den, is.cost_den, is.row_den, is.limit_den, is.target_den, is.violation, is.gap, is.a, is.b, is.stage_cost, is.final_cost, is.stage_rows, is.final_rows)
     (record {
       version = d.version;
       states = d.states;
@@ -62,9 +80,9 @@ new-requires c =
       target_den = d.target_den;
       violation = d.violation;
       gap = d.gap;
-      input_count = rw weights d.input_count;
+      input_count = rw is.weights_are d.input_count;
       input_weights =
-          rw weights d.input_weights;
+          rw is.weights_are d.input_weights;
       lo = c.requires.right.lo;
       hi = c.requires.right.hi;
       box = c.requires.right.box;
@@ -72,35 +90,21 @@ new-requires c =
 
 pub returns : goal.returns
 returns c =
-    let plant_den_fits : SFits w128 c.args.parts.now.plant_den = search rules in
-    let plant_den = to_z-of_z w128 c.args.parts.now.plant_den plant_den_fits in
-    let cost_den_fits : SFits w128 c.args.parts.now.cost_den = search rules in
-    let cost_den = to_z-of_z w128 c.args.parts.now.cost_den cost_den_fits in
-    let row_den_fits : SFits w128 c.args.parts.now.row_den = search rules in
-    let row_den = to_z-of_z w128 c.args.parts.now.row_den row_den_fits in
-    let limit_den_fits : SFits w128 c.args.parts.now.limit_den = search rules in
-    let limit_den = to_z-of_z w128 c.args.parts.now.limit_den limit_den_fits in
-    let target_den_fits : SFits w128 c.args.parts.now.target_den = search rules in
-    let target_den = to_z-of_z w128 c.args.parts.now.target_den target_den_fits in
-    let violation_fits : SFits w128 c.args.parts.now.violation = search rules in
-    let violation = to_z-of_z w128 c.args.parts.now.violation violation_fits in
-    let gap_fits : SFits w128 c.args.parts.now.gap = search rules in
-    let gap = to_z-of_z w128 c.args.parts.now.gap gap_fits in
-    let weights : c.in_ok-input_weights.input_weights.items ≡ c.args.parts.now.input_weights.items = same_from_all_zip _ _ _ c.in_ok-input_weights.ensures.cases.0 (λ x y h. h) in
+    let is = copies (goal.at.returns c).In_ok-input_weights in
     rw (
       c.new.ensures,
-      weights,
-      plant_den,
-      cost_den,
-      row_den,
-      limit_den,
-      target_den,
-      violation,
-      gap,
-      c.in_ok-plant.ensures.first,
-      c.in_ok-plant.ensures.second,
-      c.in_ok-costs.ensures.first,
-      c.in_ok-costs.ensures.second,
-      c.in_ok-rows.ensures.first,
-      c.in_ok-rows.ensures.second,
+      is.weights_are,
+      is.plant_den,
+      is.cost_den,
+      is.row_den,
+      is.limit_den,
+      is.target_den,
+      is.violation,
+      is.gap,
+      is.a,
+      is.b,
+      is.stage_cost,
+      is.final_cost,
+      is.stage_rows,
+      is.final_rows,
     ) refl

@@ -7,8 +7,9 @@ use Rattle.csv.specs.Records.{fields_of}
 use Rattle.mat_int.specs.Lines.{lists}
 use Rattle.integer_algebra.specs.Sums.{at}
 use Rattle.qp_model.specs.problem.Parts.{design_of}
+use Rattle.qp_model.proofs.VersionLaws.{design_states_le}
 use Rattle.policy_file.proofs.TextFacts.{passed_on}
-use Rattle.cell_split.proofs.TextFacts.{one_more, ended, first_fault}
+use Rattle.cell_split.proofs.TextFacts.{one_more, ended, all_asked, first_fault}
 use Rattle.cell_split.proofs.read.lists_in.Goals as goal
 
 pub returns-then-i-records-clause-found : goal.returns-then-i-records-clause-found
@@ -39,3 +40,16 @@ loop-i-preserved c =
     let items : c.push.new.self.items ≡ c.loop-i.read.items ++ c.in_ok-cuts.cuts ∷ [] = search rules in
     one_more (design_of c.args.parts.now) c.args.records.now c.loop-i.read.items _ c.in_ok-cuts.cuts c.index-records-i.result _ _ i items
     (omega (arith, c.loop-i.invariant.inside, length-map c.args.records.now fields_of)) c.index-records-i.is low high c.in_ok-cuts.ensures.found c.loop-i.invariant
+
+pub returns-clause-found : goal.returns-clause-found
+returns-clause-found c = all_asked (design_of c.args.parts.now) c.args.records.now (lists c.loop-i.read.items) c.loop-i.i (omega arith) (omega arith) c.loop-i.invariant
+
+-- ---- the record of a coordinate
+pub bounds-records-i : goal.bounds-records-i
+bounds-records-i c = omega (arith, c.loop-i.invariant.inside, length-map c.args.records.now fields_of)
+
+pub overflow_cast-i : goal.overflow_cast-i
+overflow_cast-i c = omega (arith, design_states_le c.args.parts.now c.requires)
+
+pub overflow_add-i : goal.overflow_add-i
+overflow_add-i c = omega (arith, design_states_le c.args.parts.now c.requires)

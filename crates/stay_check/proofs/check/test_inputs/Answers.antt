@@ -22,3 +22,16 @@ pub loop-l-preserved : goal.loop-l-preserved
 loop-l-preserved c =
     let same : c.of_rows-left.result ≡ c.of_coordinate-right.result = search rules in
     record { end = c.loop-l.invariant.end; equal = below_more _ _ c.loop-l.invariant.equal (sym c.of_rows-left.ensures.value ∙ same ∙ c.of_coordinate-right.ensures.value) }
+
+-- ---- the numbers that a fault tells
+pub overflow_cast-result : goal.overflow_cast-result
+overflow_cast-result c = record { fits = omega (arith, design_states_le c.args.parts.now c.requires.design, c.requires.face) }
+
+pub overflow_add-result : goal.overflow_add-result
+overflow_add-result c = record { fits = omega (arith, design_states_le c.args.parts.now c.requires.design, c.requires.face) }
+
+pub overflow_cast-result-then-left-right : goal.overflow_cast-result-then-left-right
+overflow_cast-result-then-left-right c = record { fits = omega (arith, c.requires.design.inputs, c.loop-l-test.true, c.loop-l.invariant.end) }
+
+pub overflow_add-result-then-left-right : goal.overflow_add-result-then-left-right
+overflow_add-result-then-left-right c = record { fits = omega (arith, c.requires.design.inputs, c.loop-l-test.true, c.loop-l.invariant.end) }

@@ -33,37 +33,39 @@ product-requires-clause-fits c =
     rw (held_size parts.states c.args.row.now c.deref.result.now x held)
     (unlifted (unsigned_abs parts.plant_den) (parts.stages - c.args.k) _ (denominator_positive parts.plant_den made.ready.design.plant_den.low) c.requires.narrow_costs)
 
-pub overflow_mul-result : goal.overflow_mul-result
-overflow_mul-result c =
+-- the product of the row with the stage, its size, and the power that lifts it
+value : (c : goal.After-product) →
+    c.product.result ≡ dot c.args.self.now.parts.now.states (at c.args.row.now) (run (design_of c.args.self.now.parts.now) (at c.args.self.now.start.now) (at c.args.self.now.plan.now) c.args.k)
+value c =
     let made = c.args.self.now.made in
     let parts = c.args.self.now.parts.now in
     let x : ℕ → ℤ = run (design_of parts) (at c.args.self.now.start.now) (at c.args.self.now.plan.now) c.args.k in
     let held : Holds c.deref.result.now parts.states x =
     row_held c.args.self.now.states.items c.index.result.now c.deref.result.now c.args.k (parts.stages + 1) parts.states
     (run (design_of parts) (at c.args.self.now.start.now) (at c.args.self.now.plan.now)) made.states (omega (arith, c.requires.stage)) c.index.ensures c.deref.ensures.value in
-    let g : SFits w128 (get_or c.args.self.now.powers.now (parts.stages - c.args.k) (pos 0)) = search rules in
+    c.product.ensures ∙ held_dot parts.states c.args.row.now c.deref.result.now x held
+
+small : (c : goal.After-product) → unsigned_abs c.product.result ≤
+    product_size c.args.self.now.parts.now.states (at c.args.row.now) (run (design_of c.args.self.now.parts.now) (at c.args.self.now.start.now) (at c.args.self.now.plan.now) c.args.k)
+small c =
+    let parts = c.args.self.now.parts.now in
+    rw (value c) (total_size parts.states (λ j. at c.args.row.now j *ℤ run (design_of parts) (at c.args.self.now.start.now) (at c.args.self.now.plan.now) c.args.k j))
+
+power : (c : goal.After-product) → get_or c.args.self.now.powers.now (c.args.self.now.parts.now.stages - c.args.k) (pos 0) ≡
+    pos (unsigned_abs c.args.self.now.parts.now.plant_den ^ (c.args.self.now.parts.now.stages - c.args.k))
+power c = c.args.self.now.made.ready.powers.is (c.args.self.now.parts.now.stages - c.args.k) (omega arith)
+
+pub overflow_mul-result : goal.overflow_mul-result
+overflow_mul-result c =
+    let g : SFits w128 (get_or c.args.self.now.powers.now (c.args.self.now.parts.now.stages - c.args.k) (pos 0)) = search rules in
     let s : SFits w128 c.product.result = search rules in
-    let value : c.product.result ≡ dot parts.states (at c.args.row.now) x = c.product.ensures ∙ held_dot parts.states c.args.row.now c.deref.result.now x held in
-    let small : unsigned_abs c.product.result ≤ product_size parts.states (at c.args.row.now) x = rw value (total_size parts.states (λ j. at c.args.row.now j *ℤ x j)) in
-    let power : get_or c.args.self.now.powers.now (parts.stages - c.args.k) (pos 0) ≡ pos (unsigned_abs parts.plant_den ^ (parts.stages - c.args.k)) =
-    made.ready.powers.is (parts.stages - c.args.k) (omega arith) in
-    lifted_fits _ _ _ g s small (rw power c.requires.narrow_costs)
+    lifted_fits _ _ _ g s (small c) (rw (power c) c.requires.narrow_costs)
 
 pub returns : goal.returns
 returns c =
-    let made = c.args.self.now.made in
-    let parts = c.args.self.now.parts.now in
-    let x : ℕ → ℤ = run (design_of parts) (at c.args.self.now.start.now) (at c.args.self.now.plan.now) c.args.k in
-    let held : Holds c.deref.result.now parts.states x =
-    row_held c.args.self.now.states.items c.index.result.now c.deref.result.now c.args.k (parts.stages + 1) parts.states
-    (run (design_of parts) (at c.args.self.now.start.now) (at c.args.self.now.plan.now)) made.states (omega (arith, c.requires.stage)) c.index.ensures c.deref.ensures.value in
-    let g : SFits w128 (get_or c.args.self.now.powers.now (parts.stages - c.args.k) (pos 0)) = search rules in
+    let g : SFits w128 (get_or c.args.self.now.powers.now (c.args.self.now.parts.now.stages - c.args.k) (pos 0)) = search rules in
     let s : SFits w128 c.product.result = search rules in
-    let value : c.product.result ≡ dot parts.states (at c.args.row.now) x = c.product.ensures ∙ held_dot parts.states c.args.row.now c.deref.result.now x held in
-    let small : unsigned_abs c.product.result ≤ product_size parts.states (at c.args.row.now) x = rw value (total_size parts.states (λ j. at c.args.row.now j *ℤ x j)) in
-    let power : get_or c.args.self.now.powers.now (parts.stages - c.args.k) (pos 0) ≡ pos (unsigned_abs parts.plant_den ^ (parts.stages - c.args.k)) =
-    made.ready.powers.is (parts.stages - c.args.k) (omega arith) in
-    lifted _ _ _ g s small (rw power c.requires.narrow_costs) ∙ rw (power, value) refl
+    lifted _ _ _ g s (small c) (rw (power c) c.requires.narrow_costs) ∙ rw (power c, value c) refl
 
 pub overflow_sub-result : goal.overflow_sub-result
 overflow_sub-result c = omega (arith, c.requires.stage)

@@ -44,55 +44,49 @@ mixed-sum-requires-clause-fits c =
     )
     (unlifted (unsigned_abs parts.plant_den) (parts.stages - c.args.k) _ (denominator_positive parts.plant_den made.ready.design.plant_den.low) c.requires.narrow)
 
-pub overflow_mul-result : goal.overflow_mul-result
-overflow_mul-result c =
+-- the product of the row with the stage, and the power that lifts it
+value : (c : goal.After-result-1) →
+    c.mixed-sum.result ≡ dot c.args.self.now.parts.now.states (at c.args.row.now) (run (design_of c.args.self.now.parts.now) (at c.args.self.now.start.now) (at c.args.self.now.plan.now) c.args.k) +ℤ
+    pos (unsigned_abs c.args.self.now.parts.now.plant_den ^ c.args.k) *ℤ
+    dot c.args.self.now.parts.now.inputs (λ l. at c.args.row.now (c.args.self.now.parts.now.states + l)) (λ l. at c.args.self.now.plan.now (c.args.k * c.args.self.now.parts.now.inputs + l))
+value c =
     let made = c.args.self.now.made in
     let parts = c.args.self.now.parts.now in
     let f : SFits w128 (get_or c.args.self.now.powers.now c.args.k (pos 0)) = search rules in
-    let g : SFits w128 (get_or c.args.self.now.powers.now (parts.stages - c.args.k) (pos 0)) = search rules in
-    let s : SFits w128 c.mixed-sum.result = search rules in
     let x : ℕ → ℤ = run (design_of parts) (at c.args.self.now.start.now) (at c.args.self.now.plan.now) c.args.k in
     let held : Holds c.deref.result.now parts.states x =
     row_held c.args.self.now.states.items c.index.result.now c.deref.result.now c.args.k (parts.stages + 1) parts.states
     (run (design_of parts) (at c.args.self.now.start.now) (at c.args.self.now.plan.now)) made.states (omega (arith, c.requires.stage)) c.index.ensures c.deref.ensures.value in
-    let value : c.mixed-sum.result ≡ dot parts.states (at c.args.row.now) x +ℤ pos (unsigned_abs parts.plant_den ^ c.args.k) *ℤ
-    dot parts.inputs (λ l. at c.args.row.now (parts.states + l)) (λ l. at c.args.self.now.plan.now (c.args.k * parts.inputs + l)) =
     c.mixed-sum.ensures ∙ rw (
       to_z-of_z w128 _ f,
       made.ready.powers.is c.args.k (omega (arith, c.requires.stage)),
       state_dot parts.states parts.inputs parts.stages c.args.k c.args.row.now c.deref.result.now c.args.self.now.plan.now x c.requires.row held made.ready.plan c.requires.stage,
       input_dot parts.states parts.inputs parts.stages c.args.k c.args.row.now c.deref.result.now c.args.self.now.plan.now x c.requires.row held made.ready.plan c.requires.stage,
-    ) refl in
+    ) refl
+
+power : (c : goal.After-result-1) → get_or c.args.self.now.powers.now (c.args.self.now.parts.now.stages - c.args.k) (pos 0) ≡
+    pos (unsigned_abs c.args.self.now.parts.now.plant_den ^ (c.args.self.now.parts.now.stages - c.args.k))
+power c = c.args.self.now.made.ready.powers.is (c.args.self.now.parts.now.stages - c.args.k) (omega arith)
+
+pub overflow_mul-result : goal.overflow_mul-result
+overflow_mul-result c =
+    let parts = c.args.self.now.parts.now in
+    let x : ℕ → ℤ = run (design_of parts) (at c.args.self.now.start.now) (at c.args.self.now.plan.now) c.args.k in
+    let g : SFits w128 (get_or c.args.self.now.powers.now (parts.stages - c.args.k) (pos 0)) = search rules in
+    let s : SFits w128 c.mixed-sum.result = search rules in
     let small = sum_size parts.states parts.inputs (at c.args.row.now) x (λ l. at c.args.row.now (parts.states + l)) (λ l. at c.args.self.now.plan.now (c.args.k * parts.inputs + l))
-    (unsigned_abs parts.plant_den ^ c.args.k) c.mixed-sum.result value in
-    let power : get_or c.args.self.now.powers.now (parts.stages - c.args.k) (pos 0) ≡ pos (unsigned_abs parts.plant_den ^ (parts.stages - c.args.k)) =
-    made.ready.powers.is (parts.stages - c.args.k) (omega arith) in
-    lifted_fits _ _ _ g s small (rw power c.requires.narrow)
+    (unsigned_abs parts.plant_den ^ c.args.k) c.mixed-sum.result (value c) in
+    lifted_fits _ _ _ g s small (rw (power c) c.requires.narrow)
 
 pub returns : goal.returns
 returns c =
-    let made = c.args.self.now.made in
     let parts = c.args.self.now.parts.now in
-    let f : SFits w128 (get_or c.args.self.now.powers.now c.args.k (pos 0)) = search rules in
+    let x : ℕ → ℤ = run (design_of parts) (at c.args.self.now.start.now) (at c.args.self.now.plan.now) c.args.k in
     let g : SFits w128 (get_or c.args.self.now.powers.now (parts.stages - c.args.k) (pos 0)) = search rules in
     let s : SFits w128 c.mixed-sum.result = search rules in
-    let x : ℕ → ℤ = run (design_of parts) (at c.args.self.now.start.now) (at c.args.self.now.plan.now) c.args.k in
-    let held : Holds c.deref.result.now parts.states x =
-    row_held c.args.self.now.states.items c.index.result.now c.deref.result.now c.args.k (parts.stages + 1) parts.states
-    (run (design_of parts) (at c.args.self.now.start.now) (at c.args.self.now.plan.now)) made.states (omega (arith, c.requires.stage)) c.index.ensures c.deref.ensures.value in
-    let value : c.mixed-sum.result ≡ dot parts.states (at c.args.row.now) x +ℤ pos (unsigned_abs parts.plant_den ^ c.args.k) *ℤ
-    dot parts.inputs (λ l. at c.args.row.now (parts.states + l)) (λ l. at c.args.self.now.plan.now (c.args.k * parts.inputs + l)) =
-    c.mixed-sum.ensures ∙ rw (
-      to_z-of_z w128 _ f,
-      made.ready.powers.is c.args.k (omega (arith, c.requires.stage)),
-      state_dot parts.states parts.inputs parts.stages c.args.k c.args.row.now c.deref.result.now c.args.self.now.plan.now x c.requires.row held made.ready.plan c.requires.stage,
-      input_dot parts.states parts.inputs parts.stages c.args.k c.args.row.now c.deref.result.now c.args.self.now.plan.now x c.requires.row held made.ready.plan c.requires.stage,
-    ) refl in
     let small = sum_size parts.states parts.inputs (at c.args.row.now) x (λ l. at c.args.row.now (parts.states + l)) (λ l. at c.args.self.now.plan.now (c.args.k * parts.inputs + l))
-    (unsigned_abs parts.plant_den ^ c.args.k) c.mixed-sum.result value in
-    let power : get_or c.args.self.now.powers.now (parts.stages - c.args.k) (pos 0) ≡ pos (unsigned_abs parts.plant_den ^ (parts.stages - c.args.k)) =
-    made.ready.powers.is (parts.stages - c.args.k) (omega arith) in
-    lifted _ _ _ g s small (rw power c.requires.narrow) ∙ rw (power, value) refl
+    (unsigned_abs parts.plant_den ^ c.args.k) c.mixed-sum.result (value c) in
+    lifted _ _ _ g s small (rw (power c) c.requires.narrow) ∙ rw (power c, value c) refl
 
 pub slice_bounds-mixed-count : goal.slice_bounds-mixed-count
 slice_bounds-mixed-count c = omega (arith, c.requires.row)
