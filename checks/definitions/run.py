@@ -10,7 +10,8 @@ What is asked are lines alone: those of the changed module's own crate, in its p
 tried in one check, each in modules of its own: the changed one, those that cite it, and the lines that cite these. Of each the first refused line is told. The last line counts the changes; the status is 1 where no
 line refused one.
 
-Needs `rt` on the path, and the libraries that `rt ci trials_definitions` keeps on this machine. It takes a quarter of an hour of the processor, and writes nothing into the repository.
+Needs `rt` on the path. Where its gate keeps what passed, the libraries below are those that `rt ci trials_definitions` kept on this machine; else they are proved first, in the copy. It takes a quarter of an hour
+of the processor and the time of these proofs, and writes nothing into the repository.
 """
 import argparse
 import dataclasses
@@ -81,19 +82,23 @@ def is_named(change: Change, names: list[str]) -> bool:
 
 # ---- the crates
 class Work:
-    """The crates of the repository as it stands, in a copy, over the libraries that an earlier gate on this machine has kept of the same files."""
+    """The crates of the repository as it stands, in a copy, over the libraries that an earlier gate on this machine has kept of the same files, or that are proved in it."""
 
     def __init__(self, rt, folder: pathlib.Path):
         self.rt, self.folder, self.copy = rt, folder, folder / "copy"
-        rt.copy_crates(str(TOP), str(self.copy))
+        shutil.copytree(TOP / "crates", self.copy / "crates", ignore=shutil.ignore_patterns("out", "must-fail"))
+        for name in ("crates.txt", "HANDLES"):
+            shutil.copy(TOP / name, self.copy)
         (self.copy / ".git").mkdir()
         os.chdir(self.copy)
         # its first call sets a signal's handler
         rt.rtlib.guarded()
         rt.Crate.allowed = rt.handles_of(str(self.copy))
         # from the bottom up
-        self.crates = {it.name: it for it in rt.crates_of(str(self.copy))}
-        self.kept = rt.Kept(list(self.crates.values()))
+        keeps = hasattr(rt, "Kept")
+        found = rt.crates_of(str(self.copy)) if keeps else sorted(rt.rtlib.crates_below(str(self.copy)), key=lambda it: len(it.below()))
+        self.crates = {it.name: it for it in found}
+        self.kept = rt.Kept(found) if keeps else None
         self.given: set[str] = set()
 
     def give(self, name: str) -> None:
@@ -101,10 +106,19 @@ class Work:
         for it in (self.crates[below.name] for below in self.crates[name].below()):
             if it.name in self.given:
                 continue
-            if not self.kept.give(it, False, self.kept.key(it)):
+            if self.kept is None:
+                self.prove(it)
+            elif self.kept.give(it, False, self.kept.key(it)):
+                self.kept.is_built(it)
+            else:
                 sys.exit(f"the library {it.name} isn't kept on this machine: run 'rt ci {TRIALS}' first")
-            self.kept.is_built(it)
             self.given.add(it.name)
+
+    def prove(self, crate) -> None:
+        """Proves a crate whose libraries are there, and builds its library."""
+        ran = subprocess.run(["rt", "lib", "--jobs", "1"], cwd=crate.folder, stdin=subprocess.DEVNULL, stdout=subprocess.PIPE, stderr=subprocess.STDOUT, errors="replace")
+        if ran.returncode:
+            sys.exit(f"the library {crate.name} isn't proved:\n{ran.stdout[-6000:]}")
 
     def check(self, name: str, texts: dict[str, str], kept: pathlib.Path) -> subprocess.CompletedProcess:
         """Proves the lines of a crate and of the trials, with these modules beside them, over the kept work."""
@@ -218,7 +232,7 @@ class Variants:
         """The errors of each change, with the paths of the modules that they are in as these stand in the crate or in the trials."""
         room = self.work.folder / "tried"
         shutil.rmtree(room, ignore_errors=True)
-        self.work.rt.linked(str(self.work.lines_kept(self.name)), str(room))
+        shutil.copytree(self.work.lines_kept(self.name), room)
         ran = self.work.check(self.name, self.modules(changes), room)
         found: list[list[str]] = [[] for _ in changes]
         for line in ran.stdout.split("\n"):

@@ -5,7 +5,8 @@ The first are the worked ones, by hand. The examples' controllers and listings, 
 import os
 import sys
 
-from texts import FIRST, put, refused, sub
+from texts import put, refused, sub
+from worked_texts import CONTROLLER, LISTING
 
 HERE = os.path.dirname(os.path.abspath(__file__))
 sys.path.insert(0, os.path.join(HERE, "..", "fuzz"))
@@ -16,55 +17,6 @@ import program
 
 EXAMPLES = os.path.join(HERE, "..", "..", "examples")
 LIST, PLAY = ["list", "c", "l"], ["play", "l", "s"]
-LISTING = """mpc-listing 1
-word 26
-input 1 10
-lo 0
-hi 1
-words 6
-output 5 1 4096
-repeat 4 38
-count 152
-clear
-mac 0 512 0
-con 0 10
-shl 1
-mac 1 256 0
-mac 2 -256 0
-mac 3 256 0
-shr 11
-neg
-store 4
-clear
-mac 4 1024 0
-con -1024 10
-shr 10
-addm 1
-low
-cap 32768
-store 1
-clear
-mac 4 -1024 0
-con -1024 10
-shr 10
-addm 2
-low
-cap 32768
-store 2
-clear
-mac 4 1024 0
-mac 0 1024 0
-con -256 10
-shr 10
-addm 3
-low
-cap 32768
-store 3
-load 5
-addm 4
-store 5
-end
-"""
 LEAST, GREATEST = -(2**127), 2**127 - 1
 
 
@@ -83,20 +35,20 @@ def foreign(*body, word=8, words=3, repeat=1, box=(-9, 9), output="1 1 7"):
 
 
 def list_rows():
-    second = lambda exponents, *changes: sub(FIRST, ("mpc-controller 1", "mpc-controller 2"), ("words 6\n", f"words 6\nexps {exponents}\n"), *changes)
-    yield "list", listed(FIRST, LISTING)
-    yield "list over an old file", (LIST, {"c": FIRST, "l": "an old listing\n" * 99}, 0, "", "", {"l": LISTING}, {})
+    second = lambda exponents, *changes: sub(CONTROLLER, ("mpc-controller 1", "mpc-controller 2"), ("words 6\n", f"words 6\nexps {exponents}\n"), *changes)
+    yield "list", listed(CONTROLLER, LISTING)
+    yield "list over an old file", (LIST, {"c": CONTROLLER, "l": "an old listing\n" * 99}, 0, "", "", {"l": LISTING}, {})
     yield "list, version 2", listed(second("1 1 1"), LISTING)
     third = ("mac 3 256 0", "mac 3 256 1"), ("cap 32768\nstore 3", "cap 16384\nstore 3")
     yield "list, version 2: another exponent", listed(second("1 1 0"), sub(LISTING, *third))
     first = ("mac 1 256 0", "mac 1 256 1"), ("cap 32768\nstore 1", "cap 127\nstore 1"), ("cap 32768\nstore 2", "cap 255\nstore 2"), ("cap 32768\nstore 3", "cap 255\nstore 3")
     yield "list, version 2: a clamp that a row's power doesn't divide", listed(second("0 1 1", ("clamp 32768", "clamp 255")), sub(LISTING, *first))
     # constants that are 0 have no instruction, but T and b have theirs
-    bare = sub(FIRST, ("P 512", "P 0"), ("W 256 -256 256", "W 0 -256 0"), ("b 1024 1024 256", "b 0 -1024 256"))
+    bare = sub(CONTROLLER, ("P 512", "P 0"), ("W 256 -256 256", "W 0 -256 0"), ("b 1024 1024 256", "b 0 -1024 256"))
     yield "list: products with 0", listed(bare, sub(LISTING, ("repeat 4 38\ncount 152", "repeat 4 35\ncount 140"), ("mac 0 512 0\n", ""), ("mac 1 256 0\n", ""), ("mac 3 256 0\n", ""), (
         "con -1024 10\nshr 10\naddm 1", "con 0 10\nshr 10\naddm 1"), ("con -1024 10\nshr 10\naddm 2", "con 1024 10\nshr 10\naddm 2")))
     # what is only multiplied by 0 may be any number of 128 bits
-    still = sub(FIRST, ("hi 1", "hi 0"), ("P 512", f"P {LEAST}"), ("E 1024", f"E {GREATEST}"))
+    still = sub(CONTROLLER, ("hi 1", "hi 0"), ("P 512", f"P {LEAST}"), ("E 1024", f"E {GREATEST}"))
     yield "list: constants of 128 bits", listed(still, sub(LISTING, ("hi 1", "hi 0"), ("mac 0 512 0", f"mac 0 {LEAST} 0"), ("mac 0 1024 0", f"mac 0 {GREATEST} 0")))
     yield "play: constants of 128 bits", put(PLAY, {"l": sub(LISTING, ("hi 1", "hi 0"), ("mac 0 512 0", f"mac 0 {LEAST} 0"), ("mac 0 1024 0", f"mac 0 {GREATEST} 0")), "s": "0\n"}, "4096 0\n")
     six = "mpc-controller 2\nsize 6 1 1 1\nbits 0 0 1 16\nsteps 2\nclamp 9\nwords 9\nexps 0\nlo 0 0 0 0 0 0\nhi 1 2 3 4 5 6\nP 1 2 3 4 5 6\nT 0\nW -1\nG -1\nE 1 1 1 1 1 1\nb 1\nend\n"
@@ -107,14 +59,14 @@ def list_rows():
     yield "listing: fewer words than inputs", refused(PLAY, {"l": sub(lines, ("words 9", "words 5")), "s": "1"}, 20, "listing 1 6")
     yield "play: six states", put(PLAY, {"l": lines, "s": "1,2,3,4,5,6\n0,0,0,0,0,1\n"}, "2 -178\n2 -8\n")
     yield "list: no controller", refused(LIST, {}, 3, "read-fault 1")
-    yield "list: a long controller", refused(LIST, {"c": FIRST + "\n" * 4194305}, 13, "long 1")
-    yield "list: a controller with a zero before its steps", refused(LIST, {"c": sub(FIRST, ("steps 4", "steps 04")), "l": "old"}, 11, "controller 1 line 4")
-    yield "list: gains too large", refused(LIST, {"c": sub(FIRST, ("W 256 -256", "W 512 -256"))}, 11, "controller 1 unsafe")
+    yield "list: a long controller", refused(LIST, {"c": CONTROLLER + "\n" * 4194305}, 13, "long 1")
+    yield "list: a controller with a zero before its steps", refused(LIST, {"c": sub(CONTROLLER, ("steps 4", "steps 04")), "l": "old"}, 11, "controller 1 line 4")
+    yield "list: gains too large", refused(LIST, {"c": sub(CONTROLLER, ("W 256 -256", "W 512 -256"))}, 11, "controller 1 unsafe")
     yield "list: a listing for a controller", refused(LIST, {"c": LISTING}, 11, "controller 1 line 1")
     for name in ("no/l", ".", ""):
-        yield f"list to {name!r}", refused(["list", "c", name], {"c": FIRST}, 4, "write-fault 2")
+        yield f"list to {name!r}", refused(["list", "c", name], {"c": CONTROLLER}, 4, "write-fault 2")
     for words in ("list c", "list c l s", "list c c", "list"):
-        yield f"usage: {words}", refused(words.split(), {"c": FIRST}, 2, "usage")
+        yield f"usage: {words}", refused(words.split(), {"c": CONTROLLER}, 2, "usage")
 
 
 def text_rows():
@@ -123,7 +75,7 @@ def text_rows():
     yield "listing: no last line feed", at(48, ("end\n", "end"))
     yield "listing: more after its end", at(49, ("end\n", "end\n\n"))
     yield "listing: no byte", refused(PLAY, {"l": "", "s": "1"}, 20, "listing 1 1")
-    yield "listing: a controller", refused(PLAY, {"l": FIRST, "s": "1"}, 20, "listing 1 1")
+    yield "listing: a controller", refused(PLAY, {"l": CONTROLLER, "s": "1"}, 20, "listing 1 1")
     for line, old, new in (
         (1, "mpc-listing 1", "mpc-listing 2"), (1, "mpc-listing 1\n", "mpc-listing 1\r\n"), (2, "word 26", "word 1"), (2, "word 26", "word 129"), (2, "word 26", "word 026"), (3, "input 1 10", "input 0 10"),
         (3, "input 1 10", "input 7 10"), (3, "input 1 10", "input 1 49"), (3, "input 1 10", "input 1 -1"), (4, "lo 0", "lo -2147483648"), (4, "lo 0", "lo 0 0"), (5, "hi 1", "hi -1"),
@@ -140,7 +92,7 @@ def text_rows():
     yield "play: no states file", refused(PLAY, {"l": LISTING}, 3, "read-fault 2")
     yield "play: a long listing", refused(PLAY, {"l": LISTING + "\n" * 4194305, "s": "x"}, 13, "long 1")
     yield "play: long states", refused(PLAY, {"l": LISTING, "s": "\n" * 4194305}, 13, "long 2")
-    yield "play: the listing before the states", refused(PLAY, {"l": FIRST}, 20, "listing 1 1")
+    yield "play: the listing before the states", refused(PLAY, {"l": CONTROLLER}, 20, "listing 1 1")
     for fault, states in (("fields 1", "1,1"), ("number 2 1", "1\nx\n"), ("number 1 1", "\t1")):
         yield f"play: states, {fault}", refused(PLAY, {"l": LISTING, "s": states}, 5, f"text 2 {fault}")
     for words in ("play l", "play l s s", "play"):

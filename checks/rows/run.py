@@ -17,8 +17,8 @@ import lean_rows
 import listing_rows
 import split_rows
 import stay_rows
-from texts import (AXIS, BASE, COAST, FIRST, GENERATE, JSON, LIMITS, POLICY, REPORT, SOLVE, costs, in_second, limits, plant_over, put, refused, steep, sub, targets,
-                   violations, written)
+from texts import GENERATE, LIMITS, SOLVE, costs, in_second, limits, plant_over, put, refused, steep, sub, targets, violations, written
+from worked_texts import AXIS, AXIS_POLICY, CONTROLLER, DESIGN, JSON, LISTING, POLICY, REPORT
 
 PROGRAM = os.path.abspath(sys.argv[1])
 VALGRIND = "--valgrind" in sys.argv[2:]
@@ -28,67 +28,67 @@ OUTPUTS = {"generate": (3, 4), "lean": (4, 5), "stay": (3, 4), "list": (2,), "sp
 
 def rows():
     """The name, and then the words, the files, the status, both outputs, whole files that are left, and lines of such files."""
-    base = {"d": BASE, "p": POLICY}
-    yield "first design", (GENERATE, base, 0, "", "", {"c": FIRST, "r": REPORT}, {})
-    yield "first design, JSON", (["generate", "d", "p", "c", "r.json"], base, 0, "", "", {"c": FIRST, "r.json": JSON}, {})
-    yield "first controller at 1", put(SOLVE, {"c": FIRST, "s": "1"}, "4096 -2224\n")
-    yield "first controller at 0", put(SOLVE, {"c": FIRST, "s": "0\n"}, "4096 0\n")
-    yield "both states", put(SOLVE, {"c": FIRST, "s": "1\r\n0\r\n"}, "4096 -2224\n4096 0\n")
-    yield "no states", put(SOLVE, {"c": FIRST, "s": ""}, "")
-    yield "finer targets", written(sub(BASE, targets(10, 1, 10)), POLICY, c=["clamp 65536"], r=[
+    base = {"d": DESIGN, "p": POLICY}
+    yield "first design", (GENERATE, base, 0, "", "", {"c": CONTROLLER, "r": REPORT}, {})
+    yield "first design, JSON", (["generate", "d", "p", "c", "r.json"], base, 0, "", "", {"c": CONTROLLER, "r.json": JSON}, {})
+    yield "first controller at 1", put(SOLVE, {"c": CONTROLLER, "s": "1"}, "4096 -2224\n")
+    yield "first controller at 0", put(SOLVE, {"c": CONTROLLER, "s": "0\n"}, "4096 0\n")
+    yield "both states", put(SOLVE, {"c": CONTROLLER, "s": "1\r\n0\r\n"}, "4096 -2224\n4096 0\n")
+    yield "no states", put(SOLVE, {"c": CONTROLLER, "s": ""}, "")
+    yield "finer targets", written(sub(DESIGN, targets(10, 1, 10)), POLICY, c=["clamp 65536"], r=[
         "steps 641", "bits 11", "width 28", "violation 82270494708 1099511627776", "gap 219045429248 1099511627776"])
-    yield "least slack", written(BASE, "1,0\n65536,-65535\n", r=["margin 1 65536", "cost 1", "multiplier 65536", "steps 32768", "bits 36"])
-    yield "half that slack", refused(GENERATE, {"d": BASE, "p": "1,0\n131072,-131071\n"}, 6, "no-margin 2 2 4 524288")
-    yield "a box of one point", (GENERATE, {"d": sub(BASE, ("lo = [0]", "lo = [1]")), "p": "8,-7\n8,-7\n"}, 0, "", "",
-                                 {"c": sub(FIRST, ("lo 0\n", "lo 1\n")), "r": REPORT}, {})
-    yield "no cost", written(sub(BASE, ("hi = [1]", "hi = [0]")), "1,0\n1,0\n", c=["P 16", "T 0", "W 8 -8 8", "clamp 128"], r=[
+    yield "least slack", written(DESIGN, "1,0\n65536,-65535\n", r=["margin 1 65536", "cost 1", "multiplier 65536", "steps 32768", "bits 36"])
+    yield "half that slack", refused(GENERATE, {"d": DESIGN, "p": "1,0\n131072,-131071\n"}, 6, "no-margin 2 2 4 524288")
+    yield "a box of one point", (GENERATE, {"d": sub(DESIGN, ("lo = [0]", "lo = [1]")), "p": "8,-7\n8,-7\n"}, 0, "", "",
+                                 {"c": sub(CONTROLLER, ("lo 0\n", "lo 1\n")), "r": REPORT}, {})
+    yield "no cost", written(sub(DESIGN, ("hi = [1]", "hi = [0]")), "1,0\n1,0\n", c=["P 16", "T 0", "W 8 -8 8", "clamp 128"], r=[
         "margin 16384 65536", "multiplier 1", "steps 1", "bits 5", "width 13", "violation 4922032521216 1099511627776", "gap 523986010112 1099511627776"])
-    yield "a row that no input moves", written(sub(BASE, ("[0, -4, 4]]", "[0, -4, 4], [4, 0, 5]]")), POLICY, r=["margin 8192 65536", "steps 4", "bits 10"])
-    yield "a row that no corner keeps", refused(GENERATE, {"d": sub(BASE, ("[0, -4, 4]]", "[0, -4, 4], [4, 0, 4]]")), "p": POLICY}, 6, "no-margin 2 3 0 32")
-    yield "the most steps", written(sub(BASE, targets(65536, 1, 65536)), POLICY, r=["steps 4194304", "bits 24", "width 54"])
-    yield "too many steps", refused(GENERATE, {"d": sub(BASE, targets(131072, 1, 131072)), "p": POLICY}, 8, "too-many-steps 8388608")
+    yield "a row that no input moves", written(sub(DESIGN, ("[0, -4, 4]]", "[0, -4, 4], [4, 0, 5]]")), POLICY, r=["margin 8192 65536", "steps 4", "bits 10"])
+    yield "a row that no corner keeps", refused(GENERATE, {"d": sub(DESIGN, ("[0, -4, 4]]", "[0, -4, 4], [4, 0, 4]]")), "p": POLICY}, 6, "no-margin 2 3 0 32")
+    yield "the most steps", written(sub(DESIGN, targets(65536, 1, 65536)), POLICY, r=["steps 4194304", "bits 24", "width 54"])
+    yield "too many steps", refused(GENERATE, {"d": sub(DESIGN, targets(131072, 1, 131072)), "p": POLICY}, 8, "too-many-steps 8388608")
     yield "the steepest rows", written(steep(1400000), "1,0\n1,0\n", r=["step 40", "multiplier 1", "steps 4194304", "bits 21", "width 103"])
     yield "steeper rows", refused(GENERATE, {"d": steep(1500000), "p": "1,0\n1,0\n"}, 7, "curvature")
-    yield "a certificate", written(sub(BASE, ("stages = 1\n", "stages = 2\n"), ("a = [[1]]", "a = [[2]]"), ("stage = [[1, 0, 1]]", "stage = []"), ("final = []", "final = [[1, 0, 100]]"), (
+    yield "a certificate", written(sub(DESIGN, ("stages = 1\n", "stages = 2\n"), ("a = [[1]]", "a = [[2]]"), ("stage = [[1, 0, 1]]", "stage = []"), ("final = []", "final = [[1, 0, 100]]"), (
         LIMITS, "den = 1\nstage = [[0, 1, 1], [0, 1, 2], [0, -1, 1]]\nfinal = []\n"), targets(1, 16, 16)), "1,0,0\n1,0,0\n", r=[
         "margin 65536 65536", "cost 1600", "multiplier 1600", "step 2", "steps 1600", "bits 24", "gap 7268221007146 1099511627776"])
-    yield "one axis of a satellite", written(AXIS, COAST, r=[
+    yield "one axis of a satellite", written(AXIS, AXIS_POLICY, r=[
         "margin 65536 65536", "cost 159", "multiplier 159", "step 1", "steps 20352", "bits 28", "words 46", "violation 34845909021 1099511627776",
         "gap 77301133813 1099511627776", "undercut 5540499534339 1099511627776"])
-    yield "too fine", refused(GENERATE, {"d": sub(BASE, targets(1048576, 16777216, 1)), "p": "1,0\n65536,-65535\n"}, 9, "too-fine 151000321")
-    yield "a large plant", refused(GENERATE, {"d": sub(BASE, ("stages = 1\n", "stages = 20\n"), ("a = [[1]]", "a = [[2147483647]]")), "p": ("1" + ",0" * 20 + "\n") * 2},
+    yield "too fine", refused(GENERATE, {"d": sub(DESIGN, targets(1048576, 16777216, 1)), "p": "1,0\n65536,-65535\n"}, 9, "too-fine 151000321")
+    yield "a large plant", refused(GENERATE, {"d": sub(DESIGN, ("stages = 1\n", "stages = 20\n"), ("a = [[1]]", "a = [[2147483647]]")), "p": ("1" + ",0" * 20 + "\n") * 2},
                                    10, "too-wide prediction")
     for line, old, new in ((19, "end\n", ""), (2, "size 1 1", "size 1  1"), (10, "T 0", "T -0"), (4, "steps 4", "steps 04"), (20, "end\n", "end\nx"), (6, "words 6", "words 7"),
                            (1, "mpc-controller 1", "mpc-controller 1\r"), (5, "clamp 32768", "clamp 85070591730234615865843651857942052865")):
-        yield f"controller: {new or 'no end'}", refused(SOLVE, {"c": sub(FIRST, (old, new)), "s": "1"}, 11, f"controller 1 line {line}")
-    yield "gains too large", refused(SOLVE, {"c": sub(FIRST, ("W 256 -256", "W 512 -256")), "s": "1"}, 11, "controller 1 unsafe")
-    yield "an outside state", refused(SOLVE, {"c": FIRST, "s": "1\n2\n"}, 12, "outside-box 2 0 1")
+        yield f"controller: {new or 'no end'}", refused(SOLVE, {"c": sub(CONTROLLER, (old, new)), "s": "1"}, 11, f"controller 1 line {line}")
+    yield "gains too large", refused(SOLVE, {"c": sub(CONTROLLER, ("W 256 -256", "W 512 -256")), "s": "1"}, 11, "controller 1 unsafe")
+    yield "an outside state", refused(SOLVE, {"c": CONTROLLER, "s": "1\n2\n"}, 12, "outside-box 2 0 1")
     yield "no controller", refused(SOLVE, {"s": "1"}, 3, "read-fault 1")
-    yield "no states file", refused(SOLVE, {"c": FIRST}, 3, "read-fault 2")
+    yield "no states file", refused(SOLVE, {"c": CONTROLLER}, 3, "read-fault 2")
     yield "no design", refused(GENERATE, {"p": POLICY}, 3, "read-fault 1")
-    yield "no policy file", refused(GENERATE, {"d": BASE}, 3, "read-fault 2")
-    yield "a long design", refused(GENERATE, {"d": BASE + "#" * (4194305 - len(BASE)), "p": POLICY}, 13, "long 1")
-    yield "the longest design", (GENERATE, {"d": BASE + "#" * (4194304 - len(BASE)), "p": POLICY}, 0, "", "", {"c": FIRST, "r": REPORT}, {})
-    yield "long states", refused(SOLVE, {"c": FIRST, "s": "\n" * 4194305}, 13, "long 2")
-    for fault, design in (("not-toml", "x ="), ("key 13", sub(BASE, ("[limits]\nden = 4\n", "[limits]\n"))), ("key 0", "note = 1\n" + BASE), ("shape 6", sub(BASE, ("a = [[1]]", "a = [[1, 2]]"))),
-                          ("shape 21", sub(BASE, ("gap = 1", "gap = 1.0"))), ("range 10", sub(BASE, ("input = [1]", "input = [0]"))), ("range 18", sub(BASE, ("lo = [0]", "lo = [2]"))),
-                          ("range 2", sub(BASE, ("states = 1", "states = 5"))), ("not-toml", sub(BASE, ("states = 1", "states = 9223372036854775808")))):
+    yield "no policy file", refused(GENERATE, {"d": DESIGN}, 3, "read-fault 2")
+    yield "a long design", refused(GENERATE, {"d": DESIGN + "#" * (4194305 - len(DESIGN)), "p": POLICY}, 13, "long 1")
+    yield "the longest design", (GENERATE, {"d": DESIGN + "#" * (4194304 - len(DESIGN)), "p": POLICY}, 0, "", "", {"c": CONTROLLER, "r": REPORT}, {})
+    yield "long states", refused(SOLVE, {"c": CONTROLLER, "s": "\n" * 4194305}, 13, "long 2")
+    for fault, design in (("not-toml", "x ="), ("key 13", sub(DESIGN, ("[limits]\nden = 4\n", "[limits]\n"))), ("key 0", "note = 1\n" + DESIGN), ("shape 6", sub(DESIGN, ("a = [[1]]", "a = [[1, 2]]"))),
+                          ("shape 21", sub(DESIGN, ("gap = 1", "gap = 1.0"))), ("range 10", sub(DESIGN, ("input = [1]", "input = [0]"))), ("range 18", sub(DESIGN, ("lo = [0]", "lo = [2]"))),
+                          ("range 2", sub(DESIGN, ("states = 1", "states = 5"))), ("not-toml", sub(DESIGN, ("states = 1", "states = 9223372036854775808")))):
         yield f"design: {fault}", refused(GENERATE, {"d": design, "p": POLICY}, 5, f"text 1 {fault}")
     for fault, policy in (("fields 2", "1,0\n8\n"), ("number 2 2", "1,0\n8,x\n"), ("number 1 1", "0,0\n8,-7\n"), ("count 3", POLICY + "8,-7\n"), ("count 0", "")):
-        yield f"policy: {fault}", refused(GENERATE, {"d": BASE, "p": policy}, 5, f"text 2 {fault}")
+        yield f"policy: {fault}", refused(GENERATE, {"d": DESIGN, "p": policy}, 5, f"text 2 {fault}")
     for policy in ("1,0\n8,-07\n", "1,0\n8, -7\n", "\r\n\n1,0\r\n\r\n8,-7"):
-        yield f"policy {policy!r}", (GENERATE, {"d": BASE, "p": policy}, 0, "", "", {"c": FIRST, "r": REPORT}, {})
-    loop, files = ["loop", "d", "c", "s"], {"d": BASE, "c": FIRST, "s": "1"}
+        yield f"policy {policy!r}", (GENERATE, {"d": DESIGN, "p": policy}, 0, "", "", {"c": CONTROLLER, "r": REPORT}, {})
+    loop, files = ["loop", "d", "c", "s"], {"d": DESIGN, "c": CONTROLLER, "s": "1"}
     for turns, out in (("0", ""), ("1", "1 1 1 4096 -2224\n"), ("3", "1 1 1 4096 -2224\n1 2 0 4096 0\n1 3 0 4096 0\n")):
         yield f"loop of {turns} turns", put([*loop, turns], files, out)
-    yield "a loop that leaves the box", ([*loop, "5"], {**files, "d": sub(BASE, ("a = [[1]]", "a = [[3]]"))}, 12, "1 1 1 4096 -2224\n", "error 12 outside-box 1 2 1\n", {}, {})
-    plant = lambda den, a, b: sub(BASE, ("den = 1\na = [[1]]\nb = [[1]]", f"den = {den}\na = [[{a}]]\nb = [[{b}]]"))
+    yield "a loop that leaves the box", ([*loop, "5"], {**files, "d": sub(DESIGN, ("a = [[1]]", "a = [[3]]"))}, 12, "1 1 1 4096 -2224\n", "error 12 outside-box 1 2 1\n", {}, {})
+    plant = lambda den, a, b: sub(DESIGN, ("den = 1\na = [[1]]\nb = [[1]]", f"den = {den}\na = [[{a}]]\nb = [[{b}]]"))
     for what, design, out in (("a tie, upward", plant(2, 1, 0), "1 1 1 4096 -2224\n1 2 1 4096 -2224\n"), ("a tie below 0, upward", plant(2, -1, 0), "1 1 1 4096 -2224\n1 2 0 4096 0\n"),
                               ("a state rounded from below 0", plant(1, 1, 2), "1 1 1 4096 -2224\n1 2 0 4096 0\n")):
         yield f"the next state: {what}", put([*loop, "2"], {**files, "d": design}, out)
-    second = sub(BASE, ("states = 1", "states = 2"), ("a = [[1]]\nb = [[1]]", "a = [[1, 0], [0, 2]]\nb = [[1], [0]]"), ("stage = [[1, 0, 1]]", "stage = [[1, 0, 0, 1]]"), (
+    second = sub(DESIGN, ("states = 1", "states = 2"), ("a = [[1]]\nb = [[1]]", "a = [[1, 0], [0, 2]]\nb = [[1], [0]]"), ("stage = [[1, 0, 1]]", "stage = [[1, 0, 0, 1]]"), (
         LIMITS, "den = 4\nstage = [[0, 0, 4, 4], [0, 0, -4, 4]]\nfinal = [[4, 0, 1]]\n"), ("lo = [0]\nhi = [1]", "lo = [0, 0]\nhi = [1, 3]"))
-    looking_at_one = sub(FIRST, ("size 1 1 1 3", "size 2 1 1 3"), ("words 6", "words 7"), ("lo 0\nhi 1\nP 512\n", "lo 0 0\nhi 1 3\nP 512 0\n"), ("E 0\nE 0\nE 1024\n", "E 0 0\nE 0 0\nE 1024 0\n"))
+    looking_at_one = sub(CONTROLLER, ("size 1 1 1 3", "size 2 1 1 3"), ("words 6", "words 7"), ("lo 0\nhi 1\nP 512\n", "lo 0 0\nhi 1 3\nP 512 0\n"), ("E 0\nE 0\nE 1024\n", "E 0 0\nE 0 0\nE 1024 0\n"))
     for what, state, tail, out in (("from a state of the box", "1,1", "1 3 2", "1 1 1 1 4096 -2224\n1 2 0 2 4096 0\n"), ("at its start", "0,4", "1 1 2", ""), ("both at its start", "2,4", "1 1 1", "")):
         yield f"a coordinate leaves {what}", ([*loop, "9"], {"d": second, "c": looking_at_one, "s": state}, 12, out, f"error 12 outside-box {tail}\n", {}, {})
     far = "mpc-controller 1\nsize 1 1 1 1\nbits 0 0 0 128\nsteps 1\nclamp 0\nwords 4\nlo 0\nhi 1\nP 0\nT 42535295865117307932921825928971026431\nW 0\nG 0\nE 0\nb 0\nend\n"
@@ -105,29 +105,29 @@ def rows():
 
 def version_rows():
     """Controllers with an exponent for each row; the sums are an independent model's."""
-    second = lambda exponents, *changes: sub(FIRST, ("mpc-controller 1", "mpc-controller 2"), ("words 6\n", f"words 6\nexps {exponents}\n"), *changes)
+    second = lambda exponents, *changes: sub(CONTROLLER, ("mpc-controller 1", "mpc-controller 2"), ("words 6\n", f"words 6\nexps {exponents}\n"), *changes)
     for exponents, out in (("1 1 1", "4096 -2224\n"), ("0 1 1", "4096 -2224\n"), ("1 0 1", "4096 -2224\n"), ("1 1 0", "4096 -2372\n"), ("0 0 0", "4096 -2372\n")):
         yield f"version 2: exponents {exponents}", put(SOLVE, {"c": second(exponents), "s": "1"}, out)
     yield "version 2: a clamp that a row's power doesn't divide", put(SOLVE, {"c": second("1 1 0", ("clamp 32768", "clamp 255")), "s": "1"}, "4096 -2141\n")
     for exponents in ("0 1 2", "0 1", "0 1 1 1", "0 1 -1", "0 1 01", ""):
         yield f"version 2: exponents {exponents!r}", refused(SOLVE, {"c": second(exponents), "s": "1"}, 11, "controller 1 line 7")
-    yield "version 2: none", refused(SOLVE, {"c": sub(FIRST, ("mpc-controller 1", "mpc-controller 2")), "s": "1"}, 11, "controller 1 line 7")
-    yield "version 1: exponents", refused(SOLVE, {"c": sub(FIRST, ("words 6\n", "words 6\nexps 1 1 1\n")), "s": "1"}, 11, "controller 1 line 7")
-    yield "version 2: exponents after the box", refused(SOLVE, {"c": sub(FIRST, ("mpc-controller 1", "mpc-controller 2"), ("hi 1\n", "hi 1\nexps 1 1 1\n")), "s": "1"}, 11, "controller 1 line 7")
-    yield "version 3", refused(SOLVE, {"c": sub(FIRST, ("mpc-controller 1", "mpc-controller 3")), "s": "1"}, 11, "controller 1 line 1")
+    yield "version 2: none", refused(SOLVE, {"c": sub(CONTROLLER, ("mpc-controller 1", "mpc-controller 2")), "s": "1"}, 11, "controller 1 line 7")
+    yield "version 1: exponents", refused(SOLVE, {"c": sub(CONTROLLER, ("words 6\n", "words 6\nexps 1 1 1\n")), "s": "1"}, 11, "controller 1 line 7")
+    yield "version 2: exponents after the box", refused(SOLVE, {"c": sub(CONTROLLER, ("mpc-controller 1", "mpc-controller 2"), ("hi 1\n", "hi 1\nexps 1 1 1\n")), "s": "1"}, 11, "controller 1 line 7")
+    yield "version 3", refused(SOLVE, {"c": sub(CONTROLLER, ("mpc-controller 1", "mpc-controller 3")), "s": "1"}, 11, "controller 1 line 1")
     yield "version 2: a width that its sums pass", refused(SOLVE, {"c": second("1 1 0", ("bits 10 0 1 26", "bits 10 0 1 25")), "s": "1"}, 11, "controller 1 unsafe")
     for version, size, line in ((1, "5 1 1 3", 2), (1, "1 1 21 3", 2), (1, "1 1 1 253", 2), (2, "6 1 1 3", 6), (2, "1 1 30 3", 6), (2, "1 1 1 372", 6), (2, "7 1 1 3", 2), (2, "1 1 31 3", 2),
                                 (2, "1 1 1 373", 2)):
-        text = sub(FIRST, ("mpc-controller 1", f"mpc-controller {version}"), ("size 1 1 1 3", f"size {size}"))
+        text = sub(CONTROLLER, ("mpc-controller 1", f"mpc-controller {version}"), ("size 1 1 1 3", f"size {size}"))
         yield f"version {version}: size {size}", refused(SOLVE, {"c": text, "s": "1"}, 11, f"controller 1 line {line}")
     six = "mpc-controller 2\nsize 6 1 1 1\nbits 0 0 1 16\nsteps 2\nclamp 9\nwords 9\nexps 0\nlo 0 0 0 0 0 0\nhi 1 2 3 4 5 6\nP 1 2 3 4 5 6\nT 0\nW -1\nG -1\nE 1 1 1 1 1 1\nb 1\nend\n"
     yield "version 2: six states", put(SOLVE, {"c": six, "s": "1,2,3,4,5,6\n0,0,0,0,0,1\n"}, "2 -178\n2 -8\n")
-    yield "version 2: a loop", put(["loop", "d", "c", "s", "2"], {"d": BASE, "c": second("1 1 0"), "s": "1"}, "1 1 1 4096 -2372\n1 2 0 4096 0\n")
+    yield "version 2: a loop", put(["loop", "d", "c", "s", "2"], {"d": DESIGN, "c": second("1 1 0"), "s": "1"}, "1 1 1 4096 -2372\n1 2 0 4096 0\n")
 
 
 def second_rows():
     """Rows of designs of version 2, as those above: the exponents of the rows by hand where the plan has one entry or no stage moves another, the bounds by the model."""
-    base, rolled = in_second(BASE), sub(FIRST, ("mpc-controller 1", "mpc-controller 2"), ("words 6\n", "words 6\nexps 0 1 1\n"))
+    base, rolled = in_second(DESIGN), sub(CONTROLLER, ("mpc-controller 1", "mpc-controller 2"), ("words 6\n", "words 6\nexps 0 1 1\n"))
     bounds = violations(6651831648256, 8850854903808, 8850854903808)
     report = sub(REPORT, ("mpc-report 1", "mpc-report 2"), ("violation 8850854903808 1099511627776", "\n".join(bounds)))
     told = sub(JSON, ('"version":"1"', '"version":"2"'), ('"violation":"8850854903808"', '"violation":"8850854903808","violations":["6651831648256","8850854903808","8850854903808"]'))
@@ -152,7 +152,7 @@ def second_rows():
         LIMITS, "den = 1\nstage = [[0, 1, 1], [0, 1, 2], [0, -1, 1]]\nfinal = []\n"), targets(1, 16, 16)), "1,0,0\n1,0,0\n", c=["exps 0 1 2 2 2 2"], r=[
         "step 2", "steps 1600", "bits 24", *violations(5502100777010, 6601612404786, *[8800635660338] * 4), "gap 7268221007146 1099511627776"])
     # beside the report of version 1: (2^0 + 2^1) 2^40 R / K in place of 2^42 R / K
-    yield "version 2: one axis of a satellite", written(in_second(AXIS), COAST, c=["exps 1 1 0 0 0 0" + 28 * " 1"], r=[
+    yield "version 2: one axis of a satellite", written(in_second(AXIS), AXIS_POLICY, c=["exps 1 1 0 0 0 0" + 28 * " 1"], r=[
         "step 1", "steps 20352", "bits 28", *violations(*[34845909021] * 2, *[26255974429] * 4, *[34845909021] * 28), "gap 77301133813 1099511627776", "undercut 5540499534339 1099511627776"])
     unit = lambda *at: [int(i in at) for i in range(6)]
     six = sub(base, ("states = 1", "states = 6"), ("a = [[1]]\nb = [[1]]", f"a = {[unit(i) for i in range(6)]}\nb = [[1], [2], [0], [1], [0], [-1]]"), costs(1, 1, 1, [[*unit(0, 3), 0, 1]]), limits(
@@ -175,11 +175,11 @@ def second_rows():
         half = plant_over(2, 1048576, 524288, 524288)
         yield f"version 2, fine: room for lower exponents, a bound of {bound}", written(sub(base, *half, costs(1, 1024, 1, []), limits(1, [[0, 2, bound], [0, 1, 4]])), 2 * "1,0,0\n", c=[
             f"exps {exponents}"], r=["step 3", "steps 2", "bits 8", *violations(*2 * (8968025931776, flatter)), "gap 171932909568 1099511627776"])
-    for controller in (rolled, FIRST):
+    for controller in (rolled, CONTROLLER):
         yield f"a loop with a design of version 2 and {controller[:16]}", put(["loop", "d", "c", "s", "2"], {"d": base, "c": controller, "s": "1"}, "1 1 1 4096 -2224\n1 2 0 4096 0\n")
-    yield "a loop of six states and one", refused(["loop", "d", "c", "s", "1"], {"d": six, "c": FIRST, "s": "1"}, 14, "mismatch states 6 1")
-    lasts = lambda version, stages: sub(BASE, ("version = 1", f"version = {version}"), ("stages = 1\n", f"stages = {stages}\n"))
-    has = lambda version, states: sub(BASE, ("version = 1", f"version = {version}"), ("states = 1", f"states = {states}"))
+    yield "a loop of six states and one", refused(["loop", "d", "c", "s", "1"], {"d": six, "c": CONTROLLER, "s": "1"}, 14, "mismatch states 6 1")
+    lasts = lambda version, stages: sub(DESIGN, ("version = 1", f"version = {version}"), ("stages = 1\n", f"stages = {stages}\n"))
+    has = lambda version, states: sub(DESIGN, ("version = 1", f"version = {version}"), ("states = 1", f"states = {states}"))
     for what, design, fault in (
         ("version 0", has(0, 1), "1 range 1"), ("version 3", has(3, 9), "1 range 1"), ("version 2.0", has("2.0", 1), "1 shape 1"), ("version 2 as a word", has('"2"', 1), "1 shape 1"),
         ("5 states, version 1", has(1, 5), "1 range 2"), ("5 states, version 2", has(2, 5), "1 shape 6"), ("7 states, version 2", has(2, 7), "1 range 2"), ("no state, version 2", has(2, 0), "1 range 2"),
@@ -194,29 +194,29 @@ def fine_rows():
     """Rows of fine designs, as those above."""
     coast = lambda stages, corners=2: ("1" + ",0" * stages + "\n") * corners
     whole, half, at_zero = plant_over(2, 1048576, 1048576, 1048576), plant_over(2, 1048576, 524288, 524288), ("hi = [1]", "hi = [0]")
-    two_stages = lambda *changes: sub(BASE, *whole, limits(131072, [[0, 131072, 131072], [0, -131072, 131072]], [[131072, 32768]]), *changes)
+    two_stages = lambda *changes: sub(DESIGN, *whole, limits(131072, [[0, 131072, 131072], [0, -131072, 131072]], [[131072, 32768]]), *changes)
     yield "fine: two stages", written(two_stages(), "1,0,0\n8,-7,0\n", r=[
         "margin 8192 65536", "cost 1", "multiplier 8", "step 1", "steps 4", "bits 14", "words 10", "violation 8808861011968 1099511627776", "gap 102143918080 1099511627776"])
     yield "fine: too many steps", refused(GENERATE, {"d": two_stages(targets(131072, 1, 131072)), "p": "1,0,0\n8,-7,0\n"}, 8, "too-many-steps 8388608")
     yield "fine: too fine", refused(GENERATE, {"d": two_stages(targets(1048576, 16777216, 1)), "p": "1,0,0\n65536,-65535,0\n"}, 9, "too-fine 2013294081")
     # with the first bound the exact `curvature` is 2^126; the gap tells the class
     for what, bound, gap in (("at", 1048576, 275951648768), ("above", 1048577, 277025390592)):
-        design = sub(BASE, *half, costs(1, 1, 1, []), limits(1048576, [[0, 0, 1048576], [0, 0, bound]]))
+        design = sub(DESIGN, *half, costs(1, 1, 1, []), limits(1048576, [[0, 0, 1048576], [0, 0, bound]]))
         yield f"exact numbers {what} their limit", written(design, coast(2), c=["G 0 0", "b 64 64 64 64"], r=["steps 1", "bits 6", f"gap {gap} 1099511627776"])
     axis = sub(AXIS, ("den = 8\na = [[8, 4], [0, 8]]\nb = [[1], [4]]", "den = 1000\na = [[1000, 500], [0, 1000]]\nb = [[128], [333]]"), (AXIS[AXIS.index("[limits]") : AXIS.index(
         "[box]")], "[limits]\nden = 1000\nstage = [[0, 0, 1000, 4000], [0, 0, -1000, 4000], [1000, 0, 0, 8000], [-1000, 0, 0, 8000], [0, 1000, 0, 2000], [0, -1000, 0, 2000]]\n"
         "final = [[1000, 0, 8000], [-1000, 0, 8000], [0, 1000, 2000], [0, -1000, 2000]]\n"))
-    yield "fine: one axis of a satellite", written(axis, COAST, r=[
+    yield "fine: one axis of a satellite", written(axis, AXIS_POLICY, r=[
         "margin 65536 65536", "cost 159", "multiplier 159", "step 2", "steps 40704", "bits 29", "words 46", "violation 34594656008 1099511627776", "gap 37351904745 1099511627776",
         "undercut 5500550305272 1099511627776"])
     # the input weights' curvature, which is to cover the squares of the rows, is 2^128 at step 0
-    yield "fine: a wide comparison of squares", written(sub(BASE, *plant_over(3, 262144, 131072, 131072), costs(256, 1, 256, [[1, 0, 256]]), limits(1048576, [[0, 1, 1048576]])), coast(3), r=[
+    yield "fine: a wide comparison of squares", written(sub(DESIGN, *plant_over(3, 262144, 131072, 131072), costs(256, 1, 256, [[1, 0, 256]]), limits(1048576, [[0, 1, 1048576]])), coast(3), r=[
         "margin 65536 65536", "cost 1", "multiplier 1", "step 0", "steps 1", "bits 7", "width 16", "words 10", "violation 2383841067008 1099511627776", "gap 184817811456 1099511627776"])
-    yield "fine: the steepest rows", written(sub(BASE, *half, limits(1, [[0, 1048576, 1048576]]), targets(1, 1048576, 1)), coast(2), c=["clamp 73786976294838206464"], r=[
+    yield "fine: the steepest rows", written(sub(DESIGN, *half, limits(1, [[0, 1048576, 1048576]]), targets(1, 1048576, 1)), coast(2), c=["clamp 73786976294838206464"], r=[
         "margin 68719476736 65536", "multiplier 1", "step 40", "steps 4194304", "bits 25", "gap 121580945409 1099511627776"])
-    yield "fine: steeper rows", refused(GENERATE, {"d": sub(BASE, *half, limits(1, [[0, 1500000, 1]])), "p": coast(2)}, 7, "curvature")
+    yield "fine: steeper rows", refused(GENERATE, {"d": sub(DESIGN, *half, limits(1, [[0, 1500000, 1]])), "p": coast(2)}, 7, "curvature")
     # of any bits from 42 on the clamp would pass 2^126
-    clamped = sub(BASE, ("states = 1", "states = 2"), ("stages = 1\n", "stages = 2\n"), ("den = 1\na = [[1]]\nb = [[1]]", "den = 2048\na = [[2048, 0], [0, 1024]]\nb = [[0], [1024]]"), costs(
+    clamped = sub(DESIGN, ("states = 1", "states = 2"), ("stages = 1\n", "stages = 2\n"), ("den = 1\na = [[1]]\nb = [[1]]", "den = 2048\na = [[2048, 0], [0, 1024]]\nb = [[0], [1024]]"), costs(
         1, 32, 1, [[32, 0, 0, 134217728]]), limits(1, [[1, 0, 1048576, 1]]), ("grid = 0\nlo = [0]\nhi = [1]", "grid = 16\nlo = [65535, 0]\nhi = [65535, 0]"), targets(1, 2147483647, 1))
     yield "fine: a clamp above the limit", refused(GENERATE, {"d": clamped, "p": coast(2, 4)}, 8, "too-many-steps 36027697658330625")
     for quantity, stages, changes in (
@@ -231,7 +231,7 @@ def fine_rows():
         ("descent", 3, [*plant_over(3, 8192, 8192, 8192), costs(1, 1, 1, [[1, 0, 134217728]]), limits(512, [[0, 1, 512]])]),
         ("width", 3, [*plant_over(3, 1000, 500, 1000), costs(262144, 1, 1, []), limits(256, [[0, 256000, 256]]), targets(1, 1048576, 1)]),
     ):
-        yield f"fine: {quantity} over {stages} stages", refused(GENERATE, {"d": sub(BASE, *changes, at_zero), "p": coast(stages)}, 10, f"too-wide {quantity}")
+        yield f"fine: {quantity} over {stages} stages", refused(GENERATE, {"d": sub(DESIGN, *changes, at_zero), "p": coast(stages)}, 10, f"too-wide {quantity}")
 
 
 def corner_rows():
@@ -239,7 +239,7 @@ def corner_rows():
     grid = lambda bits, low, high: ("grid = 0\nlo = [0]\nhi = [1]", f"grid = {bits}\nlo = [{low * 2**bits}]\nhi = [{high * 2**bits}]")
     plant = lambda den, a, b: plant_over(1, den, a, b)[1]
     plans = lambda den, *numerators: "".join(f"{den},{','.join(map(str, it))}\n" for it in numerators)
-    finest, q = sub(BASE, grid(24, 0, 1)), 2**40
+    finest, q = sub(DESIGN, grid(24, 0, 1)), 2**40
     yield "fine corners: the finest grid", written(finest, plans(q, [0], [-7 * 2**37]), r=[
         "margin 8192 65536", "cost 1", "multiplier 8", "step 1", "steps 4", "bits 24", "words 6", "violation 8796096364545 1099511627776", "gap 26738689 1099511627776"])
     yield "fine corners: the least slack", written(finest, plans(q, [0], [-3 * 2**38 - 2**24]), r=["margin 1 65536", "cost 1", "multiplier 65536", "steps 32768"])
@@ -254,13 +254,13 @@ def corner_rows():
         "margin 65536 65536", "cost 487", "multiplier 487", "step 1", "steps 62336", "bits 36", "words 86", "violation 34384489473 1099511627776",
         "gap 12053787758 1099511627776", "undercut 16745246373351 1099511627776"])
     # 2/3 and 1/3, of which the first has the midpoint above and the second below, add up to 1 with a radius of 2
-    thirds = lambda bits, bound: sub(BASE, ("states = 1", "states = 2"), ("den = 1\na = [[1]]\nb = [[1]]", "den = 3\na = [[1, 1], [1, 0]]\nb = [[0], [0]]"), costs(1, 1, 1, [
+    thirds = lambda bits, bound: sub(DESIGN, ("states = 1", "states = 2"), ("den = 1\na = [[1]]\nb = [[1]]", "den = 3\na = [[1, 1], [1, 0]]\nb = [[0], [0]]"), costs(1, 1, 1, [
         [1, 1, 0, 1]]), limits(65536, [[0, 0, 65536, 262144]], [[65536, 65536, bound]]), ("grid = 0\nlo = [0]\nhi = [1]", f"grid = {bits}\nlo = [{2**bits}, {2**bits}]\nhi = [{2**bits}, {2**bits}]"))
     still = lambda den: plans(den, *[[0]] * 4)
     yield "exact corners: whole slack and cost", written(thirds(0, 131072), still(1), r=["margin 65536 65536", "cost 1", "multiplier 1"])
     yield "fine corners: whole slack and cost", written(thirds(24, 131072), still(q), r=["margin 65535 65536", "cost 2", "multiplier 3"])
     # 9 / 3^2 + 4 is 5
-    aimed = sub(BASE, plant(1, 1, 0), grid(24, 1, 1), costs(1, 2, 9, [[2, 4, 4]]), limits(1, [[0, 1, 1]]))
+    aimed = sub(DESIGN, plant(1, 1, 0), grid(24, 1, 1), costs(1, 2, 9, [[2, 4, 4]]), limits(1, [[0, 1, 1]]))
     yield "fine corners: a whole cost of a target and an input", written(aimed, plans(3 * 2**38, [2**38], [2**38]), r=["cost 6", "multiplier 10"])
     yield "exact corners: a slack of 2^-16", written(thirds(0, 65537), still(1), r=["margin 1 65536", "cost 1", "multiplier 65536"])
     yield "fine corners: a slack of 2^-16", refused(GENERATE, {"d": thirds(24, 65537), "p": still(q)}, 6, f"no-margin 1 2 {2**40 - 2**17} {2**56}")
@@ -272,32 +272,32 @@ def corner_rows():
         design, policy = sub(finest, costs(1, 1, 3, [])), plans(den, [0], [0])
         yield f"exact corners {what} their limit", refused(GENERATE, {"d": design, "p": policy}, 6, f"no-margin 2 3 {-3 * over // 4} {over}")
     # the quantity is 2^126 with the second number, and each constant of the reach counts
-    held = sub(BASE, plant(3, 4, 0), grid(1, 0, 0), costs(1, 1, 2, [[2**21, 0, 1]]), limits(1, [[0, 1, 4], [0, -1, 4]]))
+    held = sub(DESIGN, plant(3, 4, 0), grid(1, 0, 0), costs(1, 1, 2, [[2**21, 0, 1]]), limits(1, [[0, 1, 4], [0, -1, 4]]))
     yield "fine corners: corner_cost at its limit", written(held, plans(q, [3 * 2**39 - 5], [0]), r=["margin 163840 65536", "cost 5", "multiplier 2"])
     yield "fine corners: corner_cost above its limit", refused(GENERATE, {"d": held, "p": plans(q, [0], [-3 * 2**39 + 4])}, 10, "too-wide corner_cost")
-    wide = lambda side: sub(BASE, plant(3, 0, 0), grid(1, -side, side), costs(1, 1, 2, [[8, 0, 1]]), limits(1, [[0, 1, 4], [0, -1, 4]]))
+    wide = lambda side: sub(DESIGN, plant(3, 0, 0), grid(1, -side, side), costs(1, 1, 2, [[8, 0, 1]]), limits(1, [[0, 1, 4], [0, -1, 4]]))
     yield "fine corners: corner_cost of the box at its limit", written(wide(2**19 - 1), plans(q, [0], [0]), r=["margin 262144 65536", "cost 0", "multiplier 1"])
     yield "fine corners: corner_cost of the box above its limit", refused(GENERATE, {"d": wide(2**19), "p": plans(q, [0], [0])}, 10, "too-wide corner_cost")
     # where one of the other two is within its limit by little, `corner_cost` isn't
-    grown = sub(BASE, plant(1, 2**30 - 1, 1), grid(0, 0, 0), limits(2**20, [[0, 0, 1]]))
+    grown = sub(DESIGN, plant(1, 2**30 - 1, 1), grid(0, 0, 0), limits(2**20, [[0, 0, 1]]))
     for what, far, quantity in (("at", 2**59 - 3, "corner_cost"), ("above", 2**59 - 2, "corner_slack")):
         yield f"fine corners: corner_slack {what} its limit", refused(GENERATE, {"d": grown, "p": plans(q, [far], [0])}, 10, f"too-wide {quantity}")
-    grown = sub(BASE, plant(1, 2**31 - 1, 1), grid(24, 0, 0), limits(1, [[0, 0, 1]]))
+    grown = sub(DESIGN, plant(1, 2**31 - 1, 1), grid(24, 0, 0), limits(1, [[0, 0, 1]]))
     for what, far, quantity in (("at", 2**24 - 1, "corner_cost"), ("above", 2**24, "corner_slack")):
         yield f"fine corners: a state before it is divided, {what} the limit", refused(GENERATE, {"d": grown, "p": plans(1, [far], [0])}, 10, f"too-wide {quantity}")
     for what, a, quantity in (("at", 2**30 - 2, "corner_cost"), ("above", 2**30 - 1, "prediction")):
-        grown = sub(BASE, *plant_over(2, 4, a, 1), grid(0, 0, 0), limits(1, [[0, 0, 1]]))
+        grown = sub(DESIGN, *plant_over(2, 4, a, 1), grid(0, 0, 0), limits(1, [[0, 0, 1]]))
         yield f"fine corners: prediction {what} its limit", refused(GENERATE, {"d": grown, "p": plans(8, [0, 0], [0, 0])}, 10, f"too-wide {quantity}")
 
 
 def full_rows():
     """The name, the row, and the file that the output goes to, if any: what is written or printed to a full device fails after it was opened."""
-    made, read = {"d": BASE, "p": POLICY}, {"d": BASE, "c": FIRST, "s": "1\n", "v": "0\n", "l": listing_rows.LISTING}
+    made, read = {"d": DESIGN, "p": POLICY}, {"d": DESIGN, "c": CONTROLLER, "s": "1\n", "v": "0\n", "l": LISTING}
     yield "a controller to a full device", (["generate", "d", "p", "/dev/full", "r"], made, 4, "", "error 4 write-fault 3\n", {}, {}), None
-    yield "a report to a full device", (["generate", "d", "p", "c", "/dev/full"], made, 4, "", "error 4 write-fault 4\n", {"c": FIRST}, {}), None
+    yield "a report to a full device", (["generate", "d", "p", "c", "/dev/full"], made, 4, "", "error 4 write-fault 4\n", {"c": CONTROLLER}, {}), None
     held = {"d": stay_rows.HELD, "p": POLICY, "f": stay_rows.FACES}
     for at, words in ((3, ["stay", "d", "p", "/dev/full", "r", "f"]), (4, ["stay", "d", "p", "c", "/dev/full", "f"])):
-        yield f"stay to a full device at {at}", (words, held, 4, "", f"error 4 write-fault {at}\n", {} if at == 3 else {"c": stay_rows.CONTROLLER}, {}), None
+        yield f"stay to a full device at {at}", (words, held, 4, "", f"error 4 write-fault {at}\n", {} if at == 3 else {"c": stay_rows.HELD_CONTROLLER}, {}), None
     yield "a listing to a full device", (["list", "c", "/dev/full"], read, 4, "", "error 4 write-fault 2\n", {}, {}), None
     for words in (SOLVE, ["loop", "d", "c", "s", "1"], ["loop", "d", "c", "s", "1", "v"], ["demo", "7"], ["play", "l", "s"]):
         yield f"the output of {words[0]} to a full device", (words, read, 4, None, "error 4 write-fault 0\n", {}, {}), "/dev/full"

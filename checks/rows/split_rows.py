@@ -6,7 +6,8 @@ import os
 import sys
 from collections.abc import Iterator
 
-from texts import BASE, FIRST, LIMITS, POLICY, REPORT, costs, in_second, limits, put, refused, sub, targets
+from texts import LIMITS, costs, in_second, limits, put, refused, sub, targets
+from worked_texts import CONTROLLER, DESIGN, LOW, LOW_REPORT, POLICY, REPORT
 
 sys.path.insert(0, os.path.join(os.path.dirname(os.path.abspath(__file__)), "..", "fuzz"))
 import model
@@ -15,24 +16,8 @@ import program
 Row = tuple
 SPLIT, SERVE = ["split", "d", "l", "p", "c", "r"], ["serve", "c", "s"]
 CUTS, PLANS = "1,0\n", "1,0\n1,0\n8,-7\n8,-7\n"
-# the controllers of 0 and of 1, and the report of the first
-LOW = sub(FIRST, ("bits 10 0 1 26", "bits 5 0 1 13"), ("steps 4", "steps 1"), ("clamp 32768", "clamp 128"), ("hi 1", "hi 0"), ("P 512", "P 16"), ("W 256 -256 256", "W 8 -8 8"), (
-    "G 1024\nG -1024\nG 1024\nE 0\nE 0\nE 1024\nb 1024 1024 256", "G 32\nG -32\nG 32\nE 0\nE 0\nE 32\nb 32 32 8"))
-HIGH = sub(FIRST, ("lo 0\n", "lo 1\n"))
-LOW_REPORT = """mpc-report 1
-margin 16384 65536
-cost 0
-multiplier 1
-step 1
-steps 1
-bits 5
-width 13
-words 6
-violation 4922032521216 1099511627776
-gap 523986010112 1099511627776
-undercut 4922032521216 1099511627776
-end
-"""
+# the controller of 1
+HIGH = sub(CONTROLLER, ("lo 0\n", "lo 1\n"))
 # the last number of a text of cells that is read, and the last of any other
 MOST_CELLS_BYTES, MOST_BYTES = 268435456, 4194304
 
@@ -46,7 +31,7 @@ def second(controller: str, exponents: str = "0 1 1") -> str:
 
 
 # no input moves the state, and no state costs: each cell has the plan 0
-STILL = sub(BASE, ("a = [[1]]\nb = [[1]]", "a = [[1]]\nb = [[0]]"), costs(1, 1, 1, []), limits(4, [[0, 4, 4], [0, -4, 4]]))
+STILL = sub(DESIGN, ("a = [[1]]\nb = [[1]]", "a = [[1]]\nb = [[0]]"), costs(1, 1, 1, []), limits(4, [[0, 4, 4], [0, -4, 4]]))
 
 
 def box(design: str, low: int, high: int) -> str:
@@ -84,11 +69,11 @@ def counted(count: int, low: int = 0) -> str:
 
 
 def cut_rows() -> Iterator[tuple[str, Row]]:
-    files = {"d": BASE, "l": CUTS, "p": PLANS}
+    files = {"d": DESIGN, "l": CUTS, "p": PLANS}
     yield "split", (SPLIT, files, 0, "", "", {"c": cells(LOW, HIGH), "r": LOW_REPORT + REPORT}, {})
     yield "split over old files", (SPLIT, {**files, "c": "old cells\n" * 99, "r": "an old report\n" * 99}, 0, "", "", {"c": cells(LOW, HIGH), "r": LOW_REPORT + REPORT}, {})
     yield "split: reports are texts, whatever their name", ([*SPLIT[:5], "r.json"], files, 0, "", "", {"c": cells(LOW, HIGH), "r.json": LOW_REPORT + REPORT}, {})
-    yield "split: no cut", (SPLIT, {**files, "l": "0\n", "p": POLICY}, 0, "", "", {"c": cells(FIRST), "r": REPORT}, {})
+    yield "split: no cut", (SPLIT, {**files, "l": "0\n", "p": POLICY}, 0, "", "", {"c": cells(CONTROLLER), "r": REPORT}, {})
     for what, cuts in (("spaces and empty lines", "\n 1 , 0 \r\n\r\n"), ("quotes", '"1","0"'), ("leading zeros", "01,00\n"), ("a byte order mark", "\ufeff1,0\n")):
         yield f"split: {what}", (SPLIT, {**files, "l": cuts}, 0, "", "", {"c": cells(LOW, HIGH), "r": LOW_REPORT + REPORT}, {})
     for cuts, fault in (
@@ -105,11 +90,11 @@ def cut_rows() -> Iterator[tuple[str, Row]]:
     yield "split: old files are left where a cell is refused", refused(SPLIT, {**files, "p": "1,0\n" * 4, "c": "old", "r": "old"}, 18, "cell 2 no-margin 1 3 -3 4")
     yield "split: two cells that are refused", refused(SPLIT, {**files, "p": "1,1\n1,1\n1,0\n1,0\n"}, 18, "cell 1 no-margin 1 1 0 4")
     # the first cell's multiplier is 1, so that it takes 2^20 steps
-    yield "split: too many steps", refused(SPLIT, {**files, "d": sub(BASE, targets(131072, 1, 131072))}, 18, "cell 2 too-many-steps 8388608")
-    yield "split: too fine", refused(SPLIT, {**files, "d": sub(BASE, targets(1048576, 16777216, 1)), "p": "1,0\n1,0\n65536,-65535\n65536,-65535\n"}, 18, "cell 2 too-fine 151000321")
-    steep = sub(BASE, (LIMITS, "den = 1\nstage = [[0, 1500000, 1500000]]\nfinal = []\n"), targets(1, 1048576, 1))
+    yield "split: too many steps", refused(SPLIT, {**files, "d": sub(DESIGN, targets(131072, 1, 131072))}, 18, "cell 2 too-many-steps 8388608")
+    yield "split: too fine", refused(SPLIT, {**files, "d": sub(DESIGN, targets(1048576, 16777216, 1)), "p": "1,0\n1,0\n65536,-65535\n65536,-65535\n"}, 18, "cell 2 too-fine 151000321")
+    steep = sub(DESIGN, (LIMITS, "den = 1\nstage = [[0, 1500000, 1500000]]\nfinal = []\n"), targets(1, 1048576, 1))
     yield "split: steep rows", refused(SPLIT, {**files, "d": steep, "p": "1,0\n" * 4}, 18, "cell 1 curvature")
-    large = sub(BASE, ("stages = 1\n", "stages = 20\n"), ("a = [[1]]", "a = [[2147483647]]"))
+    large = sub(DESIGN, ("stages = 1\n", "stages = 20\n"), ("a = [[1]]", "a = [[2147483647]]"))
     yield "split: a large plant", refused(SPLIT, {**files, "d": large, "p": ("1" + ",0" * 20 + "\n") * 4}, 18, "cell 1 too-wide prediction")
     for fault, policies in (("count 0", ""), ("count 2", POLICY), ("count 5", PLANS + "1,0\n"), ("fields 4", PLANS[:-5] + "8\n"), ("number 3 1", "1,0\n1,0\n0,-7\n8,-7\n"), ("number 4 2", PLANS[:-3] + "x\n"),
                             ("number 5 1", PLANS + "x,0\n"), ("number 1 1", "1099511627777,0\n")):
@@ -130,7 +115,7 @@ def many_rows() -> Iterator[tuple[str, Row]]:
     for cuts, fault in (("1,-6\n", "number 1 2"), ("1,5\n", "number 1 2"), ("2,-5,5\n", "number 1 3"), ("2,4,-5\n", "number 1 3"), ("1,6\n", "number 1 2")):
         yield f"cuts from -5 to 5: {cuts!r}", refused(SPLIT, still(-5, 5, cuts, 2), 5, f"text 2 {fault}")
     yield "split: a box of one state has no cut", refused(SPLIT, still(3, 3, "1,3\n", 2), 5, "text 2 number 1 2")
-    plane = sub(BASE, ("states = 1", "states = 2"), ("a = [[1]]\nb = [[1]]", "a = [[1, 0], [0, 1]]\nb = [[0], [0]]"), costs(1, 1, 1, []), limits(4, [[0, 0, 4, 4], [0, 0, -4, 4]]), (
+    plane = sub(DESIGN, ("states = 1", "states = 2"), ("a = [[1]]\nb = [[1]]", "a = [[1, 0], [0, 1]]\nb = [[0], [0]]"), costs(1, 1, 1, []), limits(4, [[0, 0, 4, 4], [0, 0, -4, 4]]), (
         "lo = [0]\nhi = [1]", "lo = [0, 0]\nhi = [70, 70]"))
     both = lambda one, other, count: {"d": plane, "l": counted(one) + counted(other), "p": "1,0\n" * (4 * count)}
     for one, other in ((7, 7), (15, 3), (0, 63), (63, 0), (1, 31)):
@@ -145,14 +130,14 @@ def many_rows() -> Iterator[tuple[str, Row]]:
     # the first coordinate runs fastest
     found = [(f"{x} {y}", f"{u} {v}") for y, v in ((0, 4), (5, 70)) for x, u in ((0, 1), (2, 8), (9, 70))]
     yield "split: the order of cells", boxes(modelled({**both(1, 1, 6), "l": "2,1,8\n1,4\n"}), *found)
-    files = {"d": in_second(BASE), "l": CUTS, "p": PLANS}
+    files = {"d": in_second(DESIGN), "l": CUTS, "p": PLANS}
     row = modelled(files)
     assert row[5]["c"] == cells(second(LOW), second(HIGH))
     yield "split, version 2", row
 
 
 def order_rows() -> Iterator[tuple[str, Row]]:
-    files = {"d": BASE, "l": CUTS, "p": PLANS}
+    files = {"d": DESIGN, "l": CUTS, "p": PLANS}
     for words in ("split d l p c c", "split d l p l r", "split d l p c l", "split d l p d r", "split d l p c d", "split d l p p r", "split d l p c p", "split d l p c", "split d l p c r x", "split", "split c"):
         yield f"usage: {words}", refused(words.split(), files, 2, "usage")
     for at, name in ((1, "d"), (2, "l"), (3, "p")):
@@ -160,7 +145,7 @@ def order_rows() -> Iterator[tuple[str, Row]]:
         yield f"split: a long {name}", refused(SPLIT, {**files, name: "\n" * (MOST_BYTES + 1)}, 13, f"long {at}")
     yield "split: the design before the cuts", refused(SPLIT, {**files, "d": "x", "l": "x"}, 5, "text 1 not-toml")
     yield "split: the cuts before the policies", refused(SPLIT, {**files, "l": "x", "p": "x"}, 5, "text 2 number 1 1")
-    yield "split: the cuts before the policies are read", refused(SPLIT, {"d": BASE, "l": "x"}, 5, "text 2 number 1 1")
+    yield "split: the cuts before the policies are read", refused(SPLIT, {"d": DESIGN, "l": "x"}, 5, "text 2 number 1 1")
     yield "split: the policies before a cell", refused(SPLIT, {**files, "p": "1,0\n1,0\n1,0\nx\n"}, 5, "text 3 fields 4")
     # cuts and policies may be of one file, which is neither's text here
     yield "split: one file for cuts and policies", refused(["split", "d", "l", "l", "c", "r"], files, 5, "text 3 count 1")
@@ -181,7 +166,7 @@ def order_rows() -> Iterator[tuple[str, Row]]:
     largest = cells(*[largest_cell()] * 64)
     yield "serve: the longest text of cells", put(SERVE, {"c": largest, "s": "0,0,0,0,0,0\n"}, f"{2**48}{' 0' * 90}\n")
     yield "serve: the longest text of cells, without its end", refused(SERVE, {"c": largest[:-4], "s": "0,0,0,0,0,0\n"}, 11, f"controller 1 line {largest.count(chr(10))}")
-    yield "serve: the cells before the states", refused(SERVE, {"c": FIRST}, 11, "controller 1 line 1")
+    yield "serve: the cells before the states", refused(SERVE, {"c": CONTROLLER}, 11, "controller 1 line 1")
     yield "serve: the states' text before their boxes", refused(SERVE, {**read, "s": "7\nx\n"}, 5, "text 2 number 2 1")
     for fault, states in (("fields 1", "1,1"), ("number 2 1", "1\nx\n"), ("number 1 1", "\t1")):
         yield f"serve: states, {fault}", refused(SERVE, {**read, "s": states}, 5, f"text 2 {fault}")
@@ -191,7 +176,7 @@ def text_rows() -> Iterator[tuple[str, Row]]:
     at = lambda line, text: refused(SERVE, {"c": text, "s": "0\n"}, 11, f"controller 1 line {line}")
     both = cells(LOW, HIGH)
     for what, line, text in (
-        ("no byte", 1, ""), ("a controller", 1, FIRST), ("no cell", 1, cells()), ("65 cells", 1, cells(*[LOW] * 65)), ("a zero before their number", 1, both.replace("cells 2", "cells 02")),
+        ("no byte", 1, ""), ("a controller", 1, CONTROLLER), ("no cell", 1, cells()), ("65 cells", 1, cells(*[LOW] * 65)), ("a zero before their number", 1, both.replace("cells 2", "cells 02")),
         ("no number", 1, both.replace("cells 2", "cells")), ("two numbers", 1, both.replace("cells 2", "cells 2 2")), ("a negative number", 1, both.replace("cells 2", "cells -2")), ("a carriage return", 1, both.replace("\n", "\r\n")),
         ("no last end", 40, both[:-4]), ("no last line feed", 40, both[:-1]), ("an empty line behind", 41, both + "\n"), ("a byte behind", 41, both + "x"), ("another end", 41, both + "end\n"),
         ("one more than it says", 21, cells(LOW, HIGH, count=1)), ("one less than it says", 40, cells(LOW, HIGH, count=3)), ("cells in cells", 2, cells(cells(LOW))), ("no end of the first", 20, cells(LOW[:-4], HIGH)),
@@ -206,12 +191,12 @@ def text_rows() -> Iterator[tuple[str, Row]]:
     six = "mpc-controller 2\nsize 6 1 1 1\nbits 0 0 1 16\nsteps 2\nclamp 9\nwords 9\nexps 0\nlo 0 0 0 0 0 0\nhi 1 2 3 4 5 6\nP 1 2 3 4 5 6\nT 0\nW -1\nG -1\nE 1 1 1 1 1 1\nb 1\nend\n"
     yield "serve: cells of six states", put(SERVE, {"c": cells(six, six), "s": "1,2,3,4,5,6\n0,0,0,0,0,1\n"}, "2 -178\n2 -8\n")
     # where the first cell has more states or stages than version 1 has, no later one is of it
-    yield "cells: version 1 after six states", at(18, cells(six, FIRST))
-    yield "cells: six states after one", at(22, cells(FIRST, six))
+    yield "cells: version 1 after six states", at(18, cells(six, CONTROLLER))
+    yield "cells: six states after one", at(22, cells(CONTROLLER, six))
     rows = "".join(f"G {' '.join(['0'] * 21)}\nE 0\n" for _ in range(1))
     long = f"mpc-controller 2\nsize 1 1 21 1\nbits 0 0 0 16\nsteps 1\nclamp 0\nwords 44\nexps 0\nlo 0\nhi 1\n{'P 0' + chr(10)}" + "P 0\n" * 20 + f"T {' '.join(['0'] * 21)}\n" + "W 0\n" * 21 + rows + "b 0\nend\n"
     yield "serve: cells of 21 stages", put(SERVE, {"c": cells(long), "s": "1\n"}, "1" + " 0" * 21 + "\n")
-    yield "cells: version 1 after 21 stages", at(2 + long.count("\n"), cells(long, FIRST))
+    yield "cells: version 1 after 21 stages", at(2 + long.count("\n"), cells(long, CONTROLLER))
     wide = sub(HIGH, ("W 256 -256", "W 512 -256"))
     for what, text in (("the first of three", cells(wide, LOW, HIGH)), ("the second of three", cells(LOW, wide, HIGH)), ("the last of three", cells(LOW, HIGH, wide)), ("the last of three, of version 2", cells(LOW, HIGH, second(wide)))):
         yield f"cells: gains too large in {what}", refused(SERVE, {"c": text, "s": "x"}, 11, "controller 1 unsafe")
@@ -224,13 +209,13 @@ def serve_rows() -> Iterator[tuple[str, Row]]:
     yield "serve", served(both, "0\n1\n", "32 0\n4096 -2224\n")
     yield "serve: the second cell, and then the first", served(both, "1\r\n0", "4096 -2224\n32 0\n")
     yield "serve: no states", served(both, "", "")
-    yield "serve: one cell", served(cells(FIRST), "0\n1\n", "4096 0\n4096 -2224\n")
+    yield "serve: one cell", served(cells(CONTROLLER), "0\n1\n", "4096 0\n4096 -2224\n")
     yield "serve: 64 cells", served(cells(*(still_cell(v, v) for v in range(64))), "63\n0\n", "32 0\n32 0\n")
     yield "serve: cells in another order", served(cells(HIGH, LOW), "0\n1\n", "32 0\n4096 -2224\n")
     # the first that holds a state serves it
-    yield "serve: boxes that meet", served(cells(FIRST, LOW), "0\n1\n", "4096 0\n4096 -2224\n")
-    yield "serve: boxes that meet, the other first", served(cells(LOW, FIRST), "0\n1\n", "32 0\n4096 -2224\n")
-    yield "serve: the same box twice", served(cells(sub(FIRST, ("steps 4", "steps 2")), FIRST), "1\n", "2048 -1056\n")
+    yield "serve: boxes that meet", served(cells(CONTROLLER, LOW), "0\n1\n", "4096 0\n4096 -2224\n")
+    yield "serve: boxes that meet, the other first", served(cells(LOW, CONTROLLER), "0\n1\n", "32 0\n4096 -2224\n")
+    yield "serve: the same box twice", served(cells(sub(CONTROLLER, ("steps 4", "steps 2")), CONTROLLER), "1\n", "2048 -1056\n")
     yield "serve: cells of both versions", served(cells(LOW, second(HIGH, "1 1 0")), "0\n1\n", "32 0\n4096 -2372\n")
     yield "serve: cells of both versions, the second first", served(cells(second(HIGH), LOW), "1\n0\n", "4096 -2224\n32 0\n")
     yield "serve: other rows and bits", served(cells(LOW, still_cell(1, 7), HIGH), "0\n7\n1\n", "32 0\n32 0\n32 0\n")
@@ -249,7 +234,7 @@ def serve_rows() -> Iterator[tuple[str, Row]]:
 
 def full_rows() -> Iterator[tuple[str, Row, str | None]]:
     """As those of the table: what is written to a full device."""
-    files = {"d": BASE, "l": CUTS, "p": PLANS}
+    files = {"d": DESIGN, "l": CUTS, "p": PLANS}
     yield "cells to a full device", (["split", "d", "l", "p", "/dev/full", "r"], files, 4, "", "error 4 write-fault 4\n", {}, {}), None
     yield "reports of cells to a full device", (["split", "d", "l", "p", "c", "/dev/full"], files, 4, "", "error 4 write-fault 5\n", {"c": cells(LOW, HIGH)}, {}), None
     yield "the output of serve to a full device", (SERVE, {"c": cells(LOW, HIGH), "s": "0\n"}, 4, None, "error 4 write-fault 0\n", {}, {}), "/dev/full"

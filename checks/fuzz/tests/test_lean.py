@@ -12,21 +12,21 @@ from tests.test_staying import FACES, HELD
 from tests.worked import told
 
 sys.path.append(os.path.join(os.path.dirname(os.path.abspath(__file__)), "..", "..", "rows"))
-from lean_rows import LEAN as WORDS, LEAN_CONTROLLER, LEAN_JSON, LEAN_REPORT, REFERENCE
-from texts import BASE, POLICY
+from lean_rows import LEAN as WORDS
+from worked_texts import DESIGN, LEAN_CONTROLLER, LEAN_JSON, LEAN_REPORT, POLICY, REFERENCE
 
-TIGHT = BASE.replace("den = 1\nviolation = 16\ngap = 1\n", "den = 10\nviolation = 1\ngap = 10\n")
-SECOND = BASE.replace("version = 1", "version = 2").replace("violation = 16", "violation = 1")
+TIGHT = DESIGN.replace("den = 1\nviolation = 16\ngap = 1\n", "den = 10\nviolation = 1\ngap = 10\n")
+SECOND = DESIGN.replace("version = 1", "version = 2").replace("violation = 16", "violation = 1")
 # over two stages, with denominators that make its numbers enclosures
 FINE = (
-    BASE.replace("stages = 1", "stages = 2")
+    DESIGN.replace("stages = 1", "stages = 2")
     .replace("den = 1\na = [[1]]\nb = [[1]]", "den = 1048576\na = [[1048576]]\nb = [[1048576]]")
     .replace("den = 4\nstage = [[0, 4, 4], [0, -4, 4]]\nfinal = [[4, 1]]", "den = 131072\nstage = [[0, 131072, 131072], [0, -131072, 131072]]\nfinal = [[131072, 32768]]")
 )
 FINE_POLICY, FINE_REFERENCE = "1,0,0\n8,-7,0\n", "1,0,0\n5,-3,-1\n"
 # a state that stays 0, and an input of at least 3.9
 PUSHED = (
-    BASE.replace("a = [[1]]\nb = [[1]]", "a = [[0]]\nb = [[0]]").replace("stage = [[1, 0, 1]]", "stage = []").replace("hi = [1]", "hi = [0]")
+    DESIGN.replace("a = [[1]]\nb = [[1]]", "a = [[0]]\nb = [[0]]").replace("stage = [[1, 0, 1]]", "stage = []").replace("hi = [1]", "hi = [0]")
     .replace("den = 4\nstage = [[0, 4, 4], [0, -4, 4]]\nfinal = [[4, 1]]", "den = 10\nstage = [[0, -10, -39]]\nfinal = []")
 )
 
@@ -69,16 +69,16 @@ class Rows(unittest.TestCase):
         return [control.plan_line(c, state).decode().strip() for state in states]
 
     def test_base(self):
-        said = self.told(BASE, POLICY, REFERENCE)
+        said = self.told(DESIGN, POLICY, REFERENCE)
         self.assertEqual((said.written["c"].decode(), said.written["r"].decode()), (LEAN_CONTROLLER, LEAN_REPORT))
         self.assertEqual(self.plans(said, [[1], [0]]), ["64 -32", "64 0"])
-        d, chosen, references = choice(BASE, POLICY, REFERENCE)
+        d, chosen, references = choice(DESIGN, POLICY, REFERENCE)
         self.assertEqual([model.target_of(d, units) for units in (2**40, 15 * 2**36, 2**36, 2**16)], [17592186044416, 16492674416640, 1099511627776, 1048576])
         self.assertEqual(excess.excess(d, model.form_of(d), model.read_policy(POLICY.encode(), d), references), (18432, 680020773533228910772224))
         self.assertEqual((chosen.errors.epsilon(6), chosen.clamp), (569083166720, 256))
 
     def test_json(self):
-        said = answer(BASE, POLICY, REFERENCE, [*WORDS[:-1], "r.json"])
+        said = answer(DESIGN, POLICY, REFERENCE, [*WORDS[:-1], "r.json"])
         self.assertEqual(said.written["r.json"].decode(), LEAN_JSON)
 
     def test_tight(self):
@@ -94,13 +94,13 @@ class Rows(unittest.TestCase):
         self.told(TIGHT, POLICY, "1,5\n1,-7\n", excess=5556224, multiplier=377, steps=16086, bits=21, width=54, violation=106961319180, gap=337992744962)
 
     def test_refusals(self):
-        self.refused(BASE, POLICY, "1,0\n1,-999999999999999\n", 10, "too-wide excess")
-        self.refused(BASE, POLICY, "1,0\n", 5, "text 3 count 1")
-        self.refused(BASE, POLICY, "1,0\n0,1\n", 5, "text 3 number 2 1")
+        self.refused(DESIGN, POLICY, "1,0\n1,-999999999999999\n", 10, "too-wide excess")
+        self.refused(DESIGN, POLICY, "1,0\n", 5, "text 3 count 1")
+        self.refused(DESIGN, POLICY, "1,0\n0,1\n", 5, "text 3 number 2 1")
         for reference in (REFERENCE, "1,0\n1,-999999999999999\n"):
-            self.refused(BASE, "1,0\n131072,-131071\n", reference, 6, "no-margin 2 2 4 524288")
+            self.refused(DESIGN, "1,0\n131072,-131071\n", reference, 6, "no-margin 2 2 4 524288")
         for words in (["lean", "d", "p", "q", "c", "c"], ["lean", "d", "p", "q", "q", "r"], ["lean", "d", "p", "c", "r"]):
-            self.refused(BASE, POLICY, REFERENCE, 2, "usage", words)
+            self.refused(DESIGN, POLICY, REFERENCE, 2, "usage", words)
 
     def test_fine(self):
         self.told(FINE, FINE_POLICY, FINE_REFERENCE, margin=8192, excess=12903, multiplier=1, steps=1, bits=8, width=20, words=10, violation=11111684374528, gap=233136193536,
@@ -184,20 +184,20 @@ class Gains(unittest.TestCase):
 
 class Excess(unittest.TestCase):
     def test_at_least_what_the_plans_cost_more(self):
-        for design, policy, reference in ((BASE, POLICY, REFERENCE), (BASE, POLICY, "1,5\n1,-7\n"), (FINE, FINE_POLICY, FINE_REFERENCE), (PUSHED, "100,391\n" * 2, "1,0\n" * 2)):
+        for design, policy, reference in ((DESIGN, POLICY, REFERENCE), (DESIGN, POLICY, "1,5\n1,-7\n"), (FINE, FINE_POLICY, FINE_REFERENCE), (PUSHED, "100,391\n" * 2, "1,0\n" * 2)):
             d = model.read_design(design.encode())
             plans, references = (model.read_policy(text.encode(), d) for text in (policy, reference))
             self.assertIsNone(excess.fault(d, plans, references))
 
     def test_best_reference_shows_the_excess_itself(self):
-        d = model.read_design(BASE.encode())
+        d = model.read_design(DESIGN.encode())
         at = lambda reference: excess.excess(d, model.form_of(d), model.read_policy(POLICY.encode(), d), model.read_policy(reference.encode(), d))[0]
         self.assertEqual(at(REFERENCE), 65536 * 18 // 64)
         # a policy that is its own reference leaves what the gradient says
         self.assertEqual(at(POLICY), 36864)
 
     def test_both_classes_of_a_form_show_nearly_the_same(self):
-        d = model.read_design(BASE.encode())
+        d = model.read_design(DESIGN.encode())
         plans, references = (model.read_policy(text.encode(), d) for text in (POLICY, "1,0\n7,-3\n"))
         exact, fine = (excess.excess(d, form(d), plans, references)[0] for form in (forms.exact_form, forms.fine_form))
         self.assertTrue(0 <= fine - exact <= 1)
