@@ -3,8 +3,8 @@ import os
 import re
 from dataclasses import dataclass
 
-# the marks, in seconds of processor time
-PROOF, TESTS, WHOLE = 120, 180, 150 * 60
+# the marks, in seconds of processor time; on a machine that takes more time they are as much longer (`pace`)
+PROOF, TESTS, WHOLE = 120, 180, 220 * 60
 FIRST_ANSWER = "The first answer"
 HEAD = """# What proofs cost
 
@@ -46,26 +46,27 @@ def cell(seconds: float, mark: float) -> str:
     return "" if not seconds else f"**{seconds:.0f}**" if seconds > mark else f"{seconds:.0f}"
 
 
-def row(name: str, cost: Cost) -> str:
+def row(name: str, cost: Cost, pace: float = 1) -> str:
     edits = f"{cost.edits or ''} | {cost.edit_time:.0f}" if cost.edit_time else " | "
-    return f"| `{name}` | {cell(cost.proof, PROOF)} | {cell(cost.tests, TESTS)} | {edits} | {cost.memory:.1f} | {minutes(cost.above)} |"
+    return f"| `{name}` | {cell(cost.proof, PROOF * pace)} | {cell(cost.tests, TESTS * pace)} | {edits} | {cost.memory:.1f} | {minutes(cost.above)} |"
 
 
-def text(kit: str, processors: int, wall: float, costs: dict[str, Cost], chain: tuple[float, list[str]], first: str = "", note: str = "") -> str:
-    """The page. Costs stand in the order of their crates; the chain is its seconds and its crates."""
+def text(kit: str, processors: int, wall: float, costs: dict[str, Cost], chain: tuple[float, list[str]], first: str = "", note: str = "", pace: float = 1) -> str:
+    """The page. Costs stand in the order of their crates; the chain is its seconds and its crates. The machine takes `pace` times the time of the one that the marks are for."""
     proof, tests, edits = (sum(getattr(cost, part) for cost in costs.values()) for part in ("proof", "tests", "edit_time"))
-    beyond = [f"the proof of `{name}`" for name, cost in costs.items() if cost.proof > PROOF] + [f"the tests of `{name}`" for name, cost in costs.items() if cost.tests > TESTS]
+    beyond = [f"the proof of `{name}`" for name, cost in costs.items() if cost.proof > PROOF * pace] + [f"the tests of `{name}`" for name, cost in costs.items() if cost.tests > TESTS * pace]
+    slower = f", {pace:g} times on this machine" if pace != 1 else ""
     lines = [
         f"Processor seconds from nothing, and the most memory of one check in GB, of one run with `{kit}` on a machine with {processors} processors, which ended after {minutes(wall)} minutes."
         + (f" {note}" if note else ""),
         f"The proofs take {minutes(proof)} processor minutes, the tests {minutes(tests)} and the {sum(cost.edits for cost in costs.values())} edits {minutes(edits)}, in which each crate's proof "
-        f"is made once more to begin with: {minutes(proof + tests + edits)} in all, where {minutes(WHOLE)} are the mark.",
+        f"is made once more to begin with: {minutes(proof + tests + edits)} in all, where {minutes(WHOLE)} are the mark{slower}.",
         f"The longest chain of proofs is {chain[0] / 60:.1f} minutes: {', '.join(f'`{name}`' for name in chain[1])}.",
         *([first] if first else []),
-        f"Beyond the mark of {minutes(PROOF)} minutes for a proof or {minutes(TESTS)} for tests, where the number is bold: {', '.join(beyond) or 'none'}. An empty field has no tests or no edits.",
+        f"Beyond the mark of {minutes(PROOF)} minutes for a proof or {minutes(TESTS)} for tests{slower}, where the number is bold: {', '.join(beyond) or 'none'}. An empty field has no tests or no edits.",
         "The last column has the processor minutes that a changed contract or definition of a crate costs, without edits: the proofs and tests of it and of all above it.",
     ]
-    table = ["| Crate | Proof | Tests | Edits | Their time | Memory | A change, minutes |", "|---|---|---|---|---|---|---|", *(row(name, cost) for name, cost in costs.items())]
+    table = ["| Crate | Proof | Tests | Edits | Their time | Memory | A change, minutes |", "|---|---|---|---|---|---|---|", *(row(name, cost, pace) for name, cost in costs.items())]
     return HEAD + "\n" + "\n".join(lines) + "\n\n" + "\n".join(table) + "\n"
 
 

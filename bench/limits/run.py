@@ -9,7 +9,7 @@ states    a million states through `solve`, `serve` and `play`
 turns     a million turns under disturbances
 
 Without a name all of them. Times are those of the processor, of one run each, and memory is the most that the process held. What two commands print of the same states must
-be the same. A million states may take what their file takes, twice; `memory` at the end of a line says how many times it is.
+be the same. A million states may take what their file takes, twice, above what the same command takes for one of them, and disturbances too; `above` at the end of a line says how many times it is.
 """
 from __future__ import annotations
 
@@ -27,7 +27,7 @@ import split_boxes
 
 EXAMPLES = os.path.join(HERE, "..", "..", "examples")
 MILLION = 1_000_000
-MOST_LIST, MOST_SPLIT = 0.05, 70
+MOST_LIST, MOST_SPLIT, MOST_MEMORY = 0.05, 70, 2
 
 
 class Work:
@@ -68,6 +68,11 @@ class Work:
 
 def figures(seconds: float, memory: int) -> str:
     return f"{seconds:.3f} s, {memory / 2**20:.1f} MB"
+
+
+def times_above(took: tuple[float, int], one: tuple[float, int], size: int) -> float:
+    """How many times a file's bytes are the memory of a run above that of a run on one record."""
+    return (took[1] - one[1]) / size
 
 
 def listing(work: Work) -> None:
@@ -114,10 +119,12 @@ def states(work: Work) -> None:
     work.run("list", "controller", "listing")
     work.write("cells", split_boxes.text_of([control.read_controller(work.read("controller"))]))
     work.write("states", b"0\n1\n" * (MILLION // 2))
+    work.write("state", b"0\n")
     for command, file in (("solve", "controller"), ("serve", "cells"), ("play", "listing")):
-        took = work.run(command, file, "states", out=command)
-        same = work.read(command) == work.read("solve")
-        work.tell(same and work.read(command).count(b"\n") == MILLION, f"{command} of a million states, {work.size('states') / 2**20:.1f} MB: {figures(*took)}, memory {took[1] / work.size('states'):.1f} times the file")
+        one, took = work.run(command, file, "state"), work.run(command, file, "states", out=command)
+        well = work.read(command) == work.read("solve") and work.read(command).count(b"\n") == MILLION
+        above = times_above(took, one, work.size("states"))
+        work.tell(well and above <= MOST_MEMORY, f"{command} of a million states, {work.size('states') / 2**20:.1f} MB: {figures(*took)}, above one state's {above:.1f} times the file, mark {MOST_MEMORY}")
 
 
 def turns(work: Work) -> None:
@@ -132,8 +139,12 @@ def turns(work: Work) -> None:
     lines = [",".join(str(min(most, least)) for least in high) + "\n" for most in (9, 0)]
     work.write("shifts", "".join(lines).encode() * (MILLION // 2))
     work.write("start", (",".join(map(str, d.hi)) + "\n").encode())
+    work.write("shift", lines[0].encode())
+    one = work.run("loop", design, "controller", "start", "1", "shift")
     took = work.run("loop", design, "controller", "start", str(MILLION), "shifts")
-    work.tell(work.read("out").count(b"\n") == MILLION, f"loop of a million turns under disturbances, {work.size('shifts') / 2**20:.1f} MB: {figures(*took)}, memory {took[1] / work.size('shifts'):.1f} times the file")
+    above = times_above(took, one, work.size("shifts"))
+    work.tell(work.read("out").count(b"\n") == MILLION and above <= MOST_MEMORY,
+              f"loop of a million turns under disturbances, {work.size('shifts') / 2**20:.1f} MB: {figures(*took)}, above one turn's {above:.1f} times the file, mark {MOST_MEMORY}")
 
 
 LIMITS = {"listing": listing, "cells": cells, "states": states, "turns": turns}
