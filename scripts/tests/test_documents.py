@@ -4,6 +4,9 @@ import re
 import unittest
 
 TOP = pathlib.Path(__file__).resolve().parents[2]
+# The most ways down from one crate, and from all together (`ways_down`).
+MOST_WAYS = 32_000
+ALL_WAYS = 240_000
 WORDS = {"fifteen": 15, "sixteen": 16, "seventeen": 17, "eighteen": 18, "nineteen": 19}
 
 
@@ -23,9 +26,14 @@ def rows_of(text: str, heading: str) -> list[list[str]]:
 
 # ---- the definitions
 def module_path(module: str) -> pathlib.Path:
-    """The file of a module as `Rattle.qp_model.specs.problem.Design`."""
+    """The file of a module as `Rattle.qp_model.specs.problem.Design`, also where a crate passes on another's."""
     crate, *parts = module.split(".")[1:]
-    return TOP.joinpath("crates", crate, *parts).with_suffix(".antt")
+    path = TOP.joinpath("crates", crate, *parts).with_suffix(".antt")
+    lib = TOP / "crates" / crate / parts[0] / "Lib.antt"
+    if not path.exists() and lib.exists():
+        passed = re.search(rf"^pub use (Rattle\.[\w.]+\.{re.escape(parts[-1])})$", lib.read_text(encoding="utf-8"), re.MULTILINE)
+        return module_path(passed[1]) if passed else path
+    return path
 
 
 def cited_by(modules: list[str]) -> set[str]:
@@ -109,6 +117,43 @@ def named_in(rows: list[list[str]]) -> list[tuple[str, set[str]]]:
         parts = own.split(";") if ";" in own else [own] * len(names)
         named += [(name, set(names_in(part)) | set(names_in(shared))) for name, part in zip(names, parts, strict=True)]
     return named
+
+
+def ways_down(crates: dict[str, set[str]]) -> dict[str, int]:
+    """How many ways lead down from each crate, itself among them. The kit sums up a crate's files once for each of those that end at it."""
+    ways: dict[str, int] = {}
+
+    def count(name: str) -> int:
+        if name not in ways:
+            ways[name] = 1 + sum(count(used) for used in crates[name])
+        return ways[name]
+
+    for name in crates:
+        count(name)
+    return ways
+
+
+def texts_of_crate(name: str) -> str:
+    """The code, the specs and the proofs of a crate."""
+    parts = [TOP / "crates" / name / part for part in ("src", "specs", "proofs")]
+    files = [file for part in parts for file in sorted(part.rglob("*")) if file.suffix in (".rt", ".antt")]
+    return "\n".join(file.read_text(encoding="utf-8") for file in files)
+
+
+class CratesFile(unittest.TestCase):
+    crates = crates_of(text_of("crates.txt"))
+
+    def test_each_crate_that_a_line_names_is_used(self):
+        for name, used in self.crates.items():
+            text = texts_of_crate(name)
+            for other in sorted(used):
+                with self.subTest(crate=name, other=other):
+                    self.assertIsNotNone(re.search(rf"\b{other}::|\bRattle\.{other}\.", text), "named, and not used")
+
+    def test_ways_down(self):
+        ways = ways_down(self.crates)
+        self.assertLessEqual(max(ways.values()), MOST_WAYS, max(ways, key=lambda name: ways[name]))
+        self.assertLessEqual(sum(ways.values()), ALL_WAYS)
 
 
 class Architecture(unittest.TestCase):

@@ -62,6 +62,11 @@ class Costs(unittest.TestCase):
         )
         self.assertIn("The longest chain of proofs is 2.5 minutes: `low`, `mid`.\nBeyond the mark of 2 minutes for a proof or 3 for tests, where the number is bold: the proof of `mid`, the tests of", self.written())
 
+    def test_slower_machine(self):
+        text = page.text("kit-1", 4, 600, {"low": page.Cost(200, 370), "high": page.Cost(241)}, (441, ["low", "high"]), pace=2)
+        self.assertEqual(text.split("\n")[-3:-1], ["| `low` | 200 | **370** |  |  | 0.0 | 0 |", "| `high` | **241** |  |  |  | 0.0 | 0 |"])
+        self.assertIn("Beyond the mark of 2 minutes for a proof or 3 for tests, 2 times on this machine, where the number is bold: the proof of `high`, the tests of `low`.", text)
+
     def test_first_answer(self):
         told = page.with_first(self.written(), "The first answer takes 7 minutes.")
         self.assertEqual(told, self.written("The first answer takes 7 minutes."))

@@ -1,117 +1,18 @@
 """Worked designs whose numbers were computed by hand or by another program, and a place to put files."""
 import os
+import sys
 import tempfile
 
 HERE = os.path.dirname(os.path.abspath(__file__))
 TOP = os.path.dirname(os.path.dirname(HERE))
 EXAMPLES = os.path.join(TOP, "examples")
+sys.path.append(os.path.join(TOP, "checks", "rows"))
+import worked_texts
 
-# x+ = x + u from 0 to 1: least slack 1/8, greatest cost 50/64, R 8, K 4
-FIRST = """version = 1
-states = 1
-inputs = 1
-stages = 1
-[plant]
-den = 1
-a = [[1]]
-b = [[1]]
-[cost]
-den = 1
-row_den = 1
-input = [1]
-stage = [[1, 0, 1]]
-final = []
-[limits]
-den = 4
-stage = [[0, 4, 4], [0, -4, 4]]
-final = [[4, 1]]
-[box]
-grid = 0
-lo = [0]
-hi = [1]
-[targets]
-den = 1
-violation = 16
-gap = 1
-"""
-FIRST_POLICY = "1,0\n8,-7\n"
-FIRST_CONTROLLER = """mpc-controller 1
-size 1 1 1 3
-bits 10 0 1 26
-steps 4
-clamp 32768
-words 6
-lo 0
-hi 1
-P 512
-T 0
-W 256 -256 256
-G 1024
-G -1024
-G 1024
-E 0
-E 0
-E 1024
-b 1024 1024 256
-end
-"""
-# its step as a listing, by checks/fuzz/program.py
-with open(os.path.join(EXAMPLES, "first", "listing.txt"), encoding="utf-8") as listing_file:
-    FIRST_LISTING = listing_file.read()
-FIRST_REPORT = """mpc-report 1
-margin 8192 65536
-cost 1
-multiplier 8
-step 1
-steps 4
-bits 10
-width 26
-words 6
-violation 8850854903808 1099511627776
-gap 438095052800 1099511627776
-undercut 70806839230464 1099511627776
-end
-"""
-# and as a lean controller, with the best plans without limits as references: excess 18/64, R 1, K 1
-FIRST_REFERENCE = "1,0\n2,-1\n"
-FIRST_LEAN_CONTROLLER = """mpc-controller 1
-size 1 1 1 3
-bits 6 0 1 16
-steps 1
-clamp 256
-words 6
-lo 0
-hi 1
-P 32
-T 0
-W 16 -16 16
-G 64
-G -64
-G 64
-E 0
-E 0
-E 64
-b 64 64 16
-end
-"""
-FIRST_LEAN_REPORT = """mpc-report 1
-margin 8192 65536
-excess 18432 65536
-multiplier 1
-step 1
-steps 1
-bits 6
-width 16
-words 6
-violation 11150808842240 1099511627776
-gap 311385128960 1099511627776
-undercut 17592186044416 1099511627776
-end
-"""
-FIRST_LEAN_JSON = (
-    '{"bits":"6","excess":"18432","gap":"311385128960","margin":"8192","multiplier":"1","step":"1","steps":"1","undercut":"17592186044416","version":"1",'
-    '"violation":"11150808842240","width":"16","words":"6"}\n'
-)
+FIRST, FIRST_POLICY, FIRST_CONTROLLER, FIRST_REPORT = worked_texts.DESIGN, worked_texts.POLICY, worked_texts.CONTROLLER, worked_texts.REPORT
+FIRST_LISTING, FIRST_REFERENCE = worked_texts.LISTING, worked_texts.REFERENCE
+FIRST_LEAN_CONTROLLER, FIRST_LEAN_REPORT, FIRST_LEAN_JSON = worked_texts.LEAN_CONTROLLER, worked_texts.LEAN_REPORT, worked_texts.LEAN_JSON
+AXIS, AXIS_POLICY = worked_texts.AXIS, worked_texts.AXIS_POLICY
 # the first design with a violation target of 1/10: lean R 2, K 86
 FIRST_TIGHT = FIRST.replace("den = 1\nviolation = 16\ngap = 1\n", "den = 10\nviolation = 1\ngap = 10\n")
 # the first design as one of version 2: the exponent of its first row is lowered from 1 to 0
@@ -139,35 +40,6 @@ limits = {{ den = 1, stage = [[0, 0, 0, 0, 0, 0, 0, 0, 1, 1]], final = [] }}
 box = {{ grid = 0, lo = {[0] * 6}, hi = {[1] * 6} }}
 targets = {{ den = 1, violation = 16, gap = 1 }}
 """
-# an axis that coasts: margin 1, cost 158.75, R 159, step 1, K 20352, f 28, where the stated errors cost 699629521553 over 2^40
-AXIS = """version = 1
-states = 2
-inputs = 1
-stages = 5
-[plant]
-den = 8
-a = [[8, 4], [0, 8]]
-b = [[1], [4]]
-[cost]
-den = 1
-row_den = 1
-input = [1]
-stage = [[1, 0, 0, 1], [0, 1, 0, 1]]
-final = []
-[limits]
-den = 1
-stage = [[0, 0, 1, 4], [0, 0, -1, 4], [1, 0, 0, 8], [-1, 0, 0, 8], [0, 1, 0, 2], [0, -1, 0, 2]]
-final = [[1, 0, 8], [-1, 0, 8], [0, 1, 2], [0, -1, 2]]
-[box]
-grid = 4
-lo = [-64, -16]
-hi = [64, 16]
-[targets]
-den = 16
-violation = 1
-gap = 16
-"""
-AXIS_POLICY = "1,0,0,0,0,0\n" * 4
 # an axis over ten stages with denominators of 2^16, whose `prediction` passes the limit
 FINE_AXIS = AXIS.replace("stages = 5", "stages = 10").replace(
     "den = 8\na = [[8, 4], [0, 8]]\nb = [[1], [4]]", "den = 65536\na = [[65536, 32768], [0, 65536]]\nb = [[8192], [32768]]"
