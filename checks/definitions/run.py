@@ -6,9 +6,9 @@
 The files *.edit beside it hold the changes, one file a module of docs/THEOREM.md: a line `file:` with the module's path from the top, and for each change a line `name:` and then pairs of a line `old:`, a text that
 stands in the module exactly once, and a line `new:`, what stands there in its place. Other lines are read by people alone. NAME is a module, as `Cost`, or a change, as `Cost.term.without_the_lift`.
 
-What is asked are lines alone: those of the changed module's own crate, in its proofs/*Worked*.antt, and those of the crate `trials_definitions`; no body and no other lemma, which may refuse more. COUNT (24) changes are
-tried in one check, each in modules of its own: the changed one, those that cite it, and the lines that cite these. Of each the first refused line is told. The last line counts the changes; the status is 1 where no
-line refused one.
+What is asked are lines alone, those of the crate `trials_definitions` that stand on the changed module's crate and on crates below it; no body and no other lemma, which may refuse more. COUNT (24) changes are tried in
+one check, each in modules of its own: the changed one, those that cite it, and the lines that cite these. Of each the first refused line is told. The last line counts the changes; the status is 1 where no line refused
+one.
 
 Needs `rt` on the path. Where its gate keeps what passed, the libraries below are those that `rt ci trials_definitions` kept on this machine; else they are proved first, in the copy. It takes a quarter of an hour
 of the processor and the time of these proofs, and writes nothing into the repository.
@@ -121,7 +121,7 @@ class Work:
             sys.exit(f"the library {crate.name} isn't proved:\n{ran.stdout[-6000:]}")
 
     def check(self, name: str, texts: dict[str, str], kept: pathlib.Path) -> subprocess.CompletedProcess:
-        """Proves the lines of a crate and of the trials, with these modules beside them, over the kept work."""
+        """Proves the lines that stand on a crate, with these modules beside them, over the kept work."""
         crate = self.crates[name]
         with tempfile.TemporaryDirectory(prefix="definitions-") as room:
             for part in self.rt.rtlib.PARTS:
@@ -136,10 +136,13 @@ class Work:
             return subprocess.run([*self.rt.rtlib.guarded(), self.rt.rtlib.RATTLE, *words], **how)
 
     def trials(self, name: str) -> list[pathlib.Path]:
-        """The files of the trials that stand on no other crate than this one and those below it."""
-        known = {name, "std", TRIALS, *(below.name for below in self.crates[name].below())}
-        files = sorted(pathlib.Path(self.crates[TRIALS].folder, "proofs").glob("*Worked.antt"))
-        return [it for it in files if set(re.findall(r"^use Rattle\.(\w+)", it.read_text(encoding="utf-8"), re.MULTILINE)) <= known]
+        """The files of the trials that stand on no other crate than this one and those below it, and on no other file that does."""
+        known = {name, "std", *(below.name for below in self.crates[name].below())}
+        files = sorted(it for it in pathlib.Path(self.crates[TRIALS].folder, "proofs").glob("*.antt") if it.stem != "Lib")
+        used = {it: re.findall(rf"^use Rattle\.(?:{TRIALS}\.proofs\.)?(\w+)", it.read_text(encoding="utf-8"), re.MULTILINE) for it in files}
+        while left := [it for it in files if not known.union(file.stem for file in files).issuperset(used[it])]:
+            files = [it for it in files if it not in left]
+        return files
 
     def lines_kept(self, name: str) -> pathlib.Path:
         """What is kept of a check of the lines as they stand, which all must hold."""
@@ -149,18 +152,14 @@ class Work:
             self.give(name)
             ran = self.check(name, {}, kept)
             if ran.returncode:
-                sys.exit(f"the lines of {name} and of the trials don't hold as they stand:\n{ran.stdout[-6000:]}")
+                sys.exit(f"the lines that stand on {name} don't hold as they stand:\n{ran.stdout[-6000:]}")
         return kept
 
 
 def leave_lines(folder: pathlib.Path, name: str, trials: list[pathlib.Path], more: dict[str, str]) -> None:
-    """Leaves of a crate's text its definitions, the types that these name, and its worked lines, and puts those of the trials beside them, and the modules of variants."""
-    own = sorted((folder / "proofs").glob("*Worked*.antt"))
-    for it in (folder / "proofs").iterdir():
-        if it.is_dir():
-            shutil.rmtree(it)
-        elif it not in own:
-            it.unlink()
+    """Leaves of a crate's text its definitions and the types that these name, and puts the lines of the trials beside them, and the modules of variants."""
+    shutil.rmtree(folder / "proofs")
+    (folder / "proofs").mkdir()
     for it in trials:
         text = it.read_text(encoding="utf-8").replace(f"Rattle.{TRIALS}.proofs.", f"Rattle.{name}.proofs.")
         (folder / "proofs" / it.name).write_text(text, encoding="utf-8")
@@ -169,7 +168,7 @@ def leave_lines(folder: pathlib.Path, name: str, trials: list[pathlib.Path], mor
     for it in (folder / "src").iterdir():
         if it.stem not in types:
             it.unlink()
-    lines = [f"mod {it.stem}\n" for it in [*own, *trials]] + [f"mod {path[7:-5]}\n" for path in more if re.fullmatch(r"proofs/v\d+\.antt", path)]
+    lines = [f"mod {it.stem}\n" for it in trials] + [f"mod {path[7:-5]}\n" for path in more if re.fullmatch(r"proofs/v\d+\.antt", path)]
     (folder / "proofs" / "Lib.antt").write_text("".join(lines), encoding="utf-8")
     if more:
         with open(folder / "specs" / "Lib.antt", "a", encoding="utf-8") as file:
@@ -189,7 +188,7 @@ class Variants:
         self.work, self.name = work, name
         folder = pathlib.Path(work.crates[name].folder)
         self.specs = {f"Rattle.{name}.specs.{'.'.join(it.relative_to(folder / 'specs').with_suffix('').parts)}": it for it in sorted((folder / "specs").rglob("*.antt"))}
-        self.lines = {f"Rattle.{name}.proofs.{it.stem}": it for it in [*sorted((folder / "proofs").glob("*Worked*.antt")), *work.trials(name)]}
+        self.lines = {f"Rattle.{name}.proofs.{it.stem}": it for it in work.trials(name)}
         texts = {**self.specs, **self.lines}
         self.texts = {it: file.read_text(encoding="utf-8").replace(f"Rattle.{TRIALS}.proofs.", f"Rattle.{name}.proofs.") for it, file in texts.items()}
         self.cited = {it: {other for other in texts if re.search(rf"^use {re.escape(other)}(?!\w)", text, re.MULTILINE)} for it, text in self.texts.items()}
@@ -260,17 +259,17 @@ def main() -> int:
     changes = [it for file in sorted(HERE.glob("*.edit")) for it in changes_in(file) if is_named(it, options.names)]
     if not changes:
         sys.exit("no change has such a name")
-    own, trials, nothing = 0, 0, 0
+    refused, nothing = 0, 0
     with tempfile.TemporaryDirectory(prefix="definitions-") as folder:
         work = Work(tool(), pathlib.Path(folder).resolve())
         for crate in dict.fromkeys(it.crate for it in changes):
             variants, mine = Variants(work, crate), [it for it in changes if it.crate == crate]
             for part in (mine[it : it + options.batch] for it in range(0, len(mine), options.batch)):
                 for change, errors in zip(part, variants.refusals(part)):
-                    first = next((it for it in errors if it.startswith(f"{crate}/")), errors[0] if errors else "")
-                    own, trials, nothing = own + first.startswith(f"{crate}/"), trials + first.startswith(f"{TRIALS}/"), nothing + (not first)
+                    first = errors[0] if errors else ""
+                    refused, nothing = refused + first.startswith(f"{TRIALS}/"), nothing + (not first)
                     print(f"{change.name}: {'refused: ' + first[:200] if first else 'REFUSED BY NO LINE'}", flush=True)
-    print(f"{len(changes)} changes: {own} refused by lines of the crate itself, {trials} by {TRIALS}, {nothing} by no line")
+    print(f"{len(changes)} changes: {refused} refused by a line, {nothing} by none")
     return 1 if nothing else 0
 
 

@@ -1,5 +1,5 @@
 """The independent model of checks/fuzz, on worked designs whose exact numbers are too long, and against the numbers that the prover computes in
-crates/qp_model/proofs/FineWorked.antt and CornersWorked.antt."""
+crates/trials_definitions/proofs/FineWorked.antt and CornersWorked.antt."""
 import os
 import sys
 import unittest

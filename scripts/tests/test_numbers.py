@@ -1,5 +1,5 @@
 """The numbers that the scripts compute anew, against worked rows: those of another program, and those that the prover computes in FineWorked and CornersWorked of
-qp_model."""
+trials_definitions."""
 import os
 import unittest
 from fractions import Fraction

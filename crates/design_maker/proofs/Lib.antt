@@ -8,7 +8,6 @@ pub mod WrittenValues
 pub mod AsciiText
 -- ---- the drawn numbers
 pub mod DrawnNumbers
-mod WorkedDraws
 -- ---- what is read of the texts
 pub mod ReadsLines
 pub mod MadeDocument

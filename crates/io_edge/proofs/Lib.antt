@@ -1,3 +1,1 @@
 pub mod Passing
--- ---- worked counts and bytes
-mod FaultsWorked

@@ -24,7 +24,6 @@ pub mod Magnitudes
 -- ---- the errors of a step
 pub mod StepErrors
 pub mod MachineErrors
-mod WorkedErrors
 -- ---- a step, and a run
 pub mod MachineSteps
 pub mod MachineScales

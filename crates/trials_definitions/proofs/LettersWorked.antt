@@ -1,113 +1,46 @@
--- Which letter of a controller's struct is which number, and which field of the bounds is printed as what.
-use Rattle.std.proofs.Common.{◌≡◌, refl}
+-- Which letter of a controller's struct is which number, and which field of the bounds is printed as what: side by side in lists, those of one type in one.
+use Rattle.std.proofs.Common.{◌≡◌, [], ◌∷◌, refl}
 use Rattle.qp_model.specs.declared.controller_parts.ControllerParts.{ControllerParts}
 use Rattle.qp_model.specs.declared.bounds.Bounds.{Bounds}
-use Rattle.qp_model.specs.machine.Controller.{numbers}
-use Rattle.qp_model.specs.bounds.Printed.{printed}
+use Rattle.qp_model.specs.machine.Controller.{Numbers, numbers}
+use Rattle.qp_model.specs.bounds.Printed.{Printed, printed}
 
 -- ---- a controller
-version : (c : ControllerParts) → (numbers c).version ≡ c.version
-version c = refl
+module _ (c : ControllerParts) where
+  abbrev is : Numbers
+  is = numbers c
 
-states : (c : ControllerParts) → (numbers c).states ≡ c.n
-states c = refl
+  sizes : is.version ∷ is.states ∷ is.inputs ∷ is.stages ∷ is.rows ∷ is.words ∷ [] ≡ c.version ∷ c.n ∷ c.p ∷ c.stages ∷ c.m ∷ c.words ∷ []
+  sizes = refl
 
-inputs : (c : ControllerParts) → (numbers c).inputs ≡ c.p
-inputs c = refl
+  choices : is.fraction_bits ∷ is.grid_bits ∷ is.step_exponent ∷ is.width ∷ is.steps ∷ [] ≡ c.f ∷ c.g ∷ c.s ∷ c.w ∷ c.steps ∷ []
+  choices = refl
 
-stages : (c : ControllerParts) → (numbers c).stages ≡ c.stages
-stages c = refl
+  clamp : is.clamp ≡ c.clamp
+  clamp = refl
 
-rows : (c : ControllerParts) → (numbers c).rows ≡ c.m
-rows c = refl
+  exponents : is.exponents ≡ c.exps.items
+  exponents = refl
 
-fraction_bits : (c : ControllerParts) → (numbers c).fraction_bits ≡ c.f
-fraction_bits c = refl
+  lists : is.low ∷ is.high ∷ is.offsets ∷ is.bounds ∷ [] ≡ c.lo.items ∷ c.hi.items ∷ c.t.items ∷ c.bound.items ∷ []
+  lists = refl
 
-grid_bits : (c : ControllerParts) → (numbers c).grid_bits ≡ c.g
-grid_bits c = refl
-
-step_exponent : (c : ControllerParts) → (numbers c).step_exponent ≡ c.s
-step_exponent c = refl
-
-width : (c : ControllerParts) → (numbers c).width ≡ c.w
-width c = refl
-
-steps : (c : ControllerParts) → (numbers c).steps ≡ c.steps
-steps c = refl
-
-clamp : (c : ControllerParts) → (numbers c).clamp ≡ c.clamp
-clamp c = refl
-
-words : (c : ControllerParts) → (numbers c).words ≡ c.words
-words c = refl
-
-exponents : (c : ControllerParts) → (numbers c).exponents ≡ c.exps.items
-exponents c = refl
-
-low : (c : ControllerParts) → (numbers c).low ≡ c.lo.items
-low c = refl
-
-high : (c : ControllerParts) → (numbers c).high ≡ c.hi.items
-high c = refl
-
-state_gains : (c : ControllerParts) → (numbers c).state_gains ≡ c.p_mat
-state_gains c = refl
-
-offsets : (c : ControllerParts) → (numbers c).offsets ≡ c.t.items
-offsets c = refl
-
-dual_gains : (c : ControllerParts) → (numbers c).dual_gains ≡ c.w_mat
-dual_gains c = refl
-
-plan_rows : (c : ControllerParts) → (numbers c).plan_rows ≡ c.g_mat
-plan_rows c = refl
-
-state_rows : (c : ControllerParts) → (numbers c).state_rows ≡ c.e_mat
-state_rows c = refl
-
-bounds : (c : ControllerParts) → (numbers c).bounds ≡ c.bound.items
-bounds c = refl
+  matrices : is.state_gains ∷ is.dual_gains ∷ is.plan_rows ∷ is.state_rows ∷ [] ≡ c.p_mat ∷ c.w_mat ∷ c.g_mat ∷ c.e_mat ∷ []
+  matrices = refl
 
 -- ---- what is printed
-printed_version : (b : Bounds) → (printed b).version ≡ b.version
-printed_version b = refl
+module _ (b : Bounds) where
+  abbrev line : Printed
+  line = printed b
 
-printed_margin : (b : Bounds) → (printed b).margin ≡ b.margin
-printed_margin b = refl
+  counts : line.version ∷ line.step ∷ line.steps ∷ line.bits ∷ line.width ∷ line.words ∷ [] ≡ b.version ∷ b.step ∷ b.steps ∷ b.bits ∷ b.width ∷ b.words ∷ []
+  counts = refl
 
-printed_lean : (b : Bounds) → (printed b).lean ≡ b.lean
-printed_lean b = refl
+  lean : line.lean ≡ b.lean
+  lean = refl
 
-printed_cost : (b : Bounds) → (printed b).cost ≡ b.cost
-printed_cost b = refl
+  amounts : line.margin ∷ line.cost ∷ line.multiplier ∷ line.violation ∷ line.gap ∷ line.undercut ∷ [] ≡ b.margin ∷ b.cost ∷ b.multiplier ∷ b.violation ∷ b.gap ∷ b.undercut ∷ []
+  amounts = refl
 
-printed_multiplier : (b : Bounds) → (printed b).multiplier ≡ b.multiplier
-printed_multiplier b = refl
-
-printed_step : (b : Bounds) → (printed b).step ≡ b.step
-printed_step b = refl
-
-printed_steps : (b : Bounds) → (printed b).steps ≡ b.steps
-printed_steps b = refl
-
-printed_bits : (b : Bounds) → (printed b).bits ≡ b.bits
-printed_bits b = refl
-
-printed_width : (b : Bounds) → (printed b).width ≡ b.width
-printed_width b = refl
-
-printed_words : (b : Bounds) → (printed b).words ≡ b.words
-printed_words b = refl
-
-printed_violation : (b : Bounds) → (printed b).violation ≡ b.violation
-printed_violation b = refl
-
-printed_row_violations : (b : Bounds) → (printed b).row_violations ≡ b.rows.items
-printed_row_violations b = refl
-
-printed_gap : (b : Bounds) → (printed b).gap ≡ b.gap
-printed_gap b = refl
-
-printed_undercut : (b : Bounds) → (printed b).undercut ≡ b.undercut
-printed_undercut b = refl
+  row_violations : line.row_violations ≡ b.rows.items
+  row_violations = refl

@@ -1,5 +1,8 @@
--- The lines by what they try.
+-- The rows by what they try.
 
+-- ---- the designs, the controllers and the bounds that they try
+mod WorkedDesigns
+mod WorkedControllers
 -- ---- whole numbers, lists and matrices
 mod QuotientsWorked
 mod MatricesWorked
@@ -7,7 +10,20 @@ mod MatricesWorked
 mod RangesWorked
 mod LettersWorked
 mod SizesWorked
--- ---- the problem, the machine and the promise
+-- ---- one design from its corners to its runs
+mod FirstDesignWorked
+-- ---- the problem, its form in enclosures and its corners
 mod ProblemsWorked
+mod FineWorked
+mod CornersWorked
+-- ---- the bounds of lean controllers
+mod ExcessWorked
+mod LeanWorked
+-- ---- the machine, its errors and the promise
 mod RunsWorked
-mod PromisesWorked
+mod StepErrorsWorked
+mod PromiseAtStateWorked
+mod PromiseOverBoxWorked
+-- ---- the counts of files, and drawn designs
+mod FaultsWorked
+mod DrawsWorked

@@ -1,53 +1,16 @@
--- Two designs of two states, one input and two stages, with two rows of each stage and one final row: what is counted, feasible and in its box, and, where no number
--- is 1 by chance and no two counts are the same that could be taken for one another, the states, the cost and the residuals of a plan. These were computed by another program, in fractions.
-use Rattle.std.proofs.Common.{◌≡◌, ℕ, zero, suc, ◌+◌, ℤ, pos, negsuc, List, [], ◌∷◌, map, refl, arith}
+-- What is counted, feasible and in its box of a design whose plant changes little, and, of two where no number is 1 by chance and no two counts are the same that could be
+-- taken for one another, the states, the cost and the residuals of a plan. These were computed by another program, in fractions.
+use Rattle.std.proofs.Common.{◌≡◌, ℕ, zero, suc, ℤ, pos, negsuc, [], ◌∷◌, map, refl, arith}
 use Rattle.integer_algebra.specs.Sums.{at, none, flat}
 use Rattle.qp_model.specs.problem.Design.{Design, CostRow, LimitRow, entries, rows}
 use Rattle.qp_model.specs.problem.Trajectory.{trajectory, lift}
 use Rattle.qp_model.specs.problem.Cost.{cost, cost_scale}
 use Rattle.qp_model.specs.problem.Residual.{residual, residual_scale, slack, IsFeasible}
 use Rattle.qp_model.specs.problem.Box.{IsGridState, corner}
-
-abbrev no_cost : CostRow
-no_cost = record { coefficient = none; target = pos 0; weight = pos 0 }
-
--- asks that the input is at most 3, 4, .. by the row's number
-abbrev stage_row : ℕ → LimitRow
-stage_row r = record { of_state = none; of_input = λ l. pos 1; bound = pos (3 + r) }
-
--- asks that the second coordinate is at most 7
-abbrev final_row : LimitRow
-final_row = record { of_state = at (pos 0 ∷ pos 1 ∷ []); of_input = none; bound = pos 7 }
-
--- x1+ = x1, x2+ = x2 + u, and the cost u^2
-abbrev pub plain : Design
-plain = record {
-  version = 1;
-  states = 2;
-  inputs = 1;
-  stages = 2;
-  plant_denominator = 1;
-  plant_a = flat 2 (pos 1 ∷ pos 0 ∷ pos 0 ∷ pos 1 ∷ []);
-  plant_b = flat 1 (pos 0 ∷ pos 1 ∷ []);
-  cost_denominator = 1;
-  row_denominator = 1;
-  input_weight = λ l. pos 1;
-  stage_costs = 0;
-  stage_cost = λ r. no_cost;
-  final_costs = 0;
-  final_cost = λ r. no_cost;
-  limit_denominator = 1;
-  stage_limits = 2;
-  stage_limit = stage_row;
-  final_limits = 1;
-  final_limit = λ r. final_row;
-  grid = 0;
-  low = at (pos 1 ∷ pos 2 ∷ []);
-  high = at (pos 5 ∷ pos 6 ∷ []);
-}
+use Rattle.trials_definitions.proofs.WorkedDesigns.{two, costing, asking, plain, mixed}
 
 abbrev pub lowest : ℕ → ℤ
-lowest = at (pos 1 ∷ pos 2 ∷ [])
+lowest = at (two (pos 1) (pos 2))
 
 counts : entries plain ∷ rows plain ∷ [] ≡ 2 ∷ 5 ∷ []
 counts = refl
@@ -106,27 +69,21 @@ second_corners : map (λ c. corner plain c 1) (1 ∷ 2 ∷ 3 ∷ 4 ∷ []) ≡ p
 second_corners = refl
 
 -- ---- one row of costs of each stage and two final ones, a plant over 3, states over 2, costs over 2 and 5, limits over 4
-abbrev costing : List ℤ → ℤ → ℤ → CostRow
-costing x target weight = record { coefficient = at x; target = target; weight = weight }
-
 abbrev stage_costs : ℕ → CostRow
-stage_costs zero = costing (pos 4 ∷ negsuc 0 ∷ []) (pos 7) (pos 6)
-stage_costs (suc r) = costing (pos 1 ∷ pos 1 ∷ []) (pos 2) (pos 5)
+stage_costs zero = costing (at (two (pos 4) (negsuc 0))) (pos 7) (pos 6)
+stage_costs (suc r) = costing (at (two (pos 1) (pos 1))) (pos 2) (pos 5)
 
 abbrev final_costs : ℕ → CostRow
-final_costs zero = costing (pos 0 ∷ pos 5 ∷ []) (negsuc 1) (pos 1)
-final_costs (suc r) = costing (pos 2 ∷ pos 1 ∷ []) (pos 3) (pos 4)
-
-abbrev asking : List ℤ → List ℤ → ℤ → LimitRow
-asking x u b = record { of_state = at x; of_input = at u; bound = b }
+final_costs zero = costing (at (two (pos 0) (pos 5))) (negsuc 1) (pos 1)
+final_costs (suc r) = costing (at (two (pos 2) (pos 1))) (pos 3) (pos 4)
 
 abbrev stage_limits : ℕ → LimitRow
-stage_limits zero = asking (pos 1 ∷ pos 2 ∷ []) (negsuc 0 ∷ pos 8 ∷ []) (pos 5)
-stage_limits (suc r) = asking (pos 0 ∷ negsuc 2 ∷ []) (pos 2 ∷ pos 6 ∷ []) (pos 2)
+stage_limits zero = asking (at (two (pos 1) (pos 2))) (at (two (negsuc 0) (pos 8))) (pos 5)
+stage_limits (suc r) = asking (at (two (pos 0) (negsuc 2))) (at (two (pos 2) (pos 6))) (pos 2)
 
 abbrev final_limits : ℕ → LimitRow
-final_limits zero = asking (pos 7 ∷ pos 1 ∷ []) (pos 5 ∷ pos 5 ∷ []) (pos 3)
-final_limits (suc r) = asking (pos 1 ∷ negsuc 0 ∷ []) [] (negsuc 2)
+final_limits zero = asking (at (two (pos 7) (pos 1))) (at (two (pos 5) (pos 5))) (pos 3)
+final_limits (suc r) = asking (at (two (pos 1) (negsuc 0))) none (negsuc 2)
 
 abbrev uneven : Design
 uneven = record plain {
@@ -167,3 +124,37 @@ uneven_cost = refl
 
 uneven_residuals : map (residual uneven (pos 6) state plan) (0 ∷ 1 ∷ 2 ∷ 3 ∷ 4 ∷ []) ≡ negsuc 935 ∷ pos 630 ∷ negsuc 1331 ∷ pos 990 ∷ negsuc 1841 ∷ []
 uneven_residuals = refl
+
+-- ---- two states over 2^2, two inputs, three stages, a plant over 3, costs over 2 and 5, limits over 4, and two rows of each kind
+-- the state 3/4, -5/4, and a plan over 6
+abbrev mixed_state : ℕ → ℤ
+mixed_state = at (two (pos 3) (negsuc 4))
+
+abbrev mixed_plan : ℕ → ℤ
+mixed_plan = at (pos 1 ∷ negsuc 1 ∷ pos 4 ∷ pos 0 ∷ negsuc 2 ∷ pos 5 ∷ [])
+
+mixed_counts : entries mixed ∷ rows mixed ∷ [] ≡ 6 ∷ 8 ∷ []
+mixed_counts = refl
+
+mixed_first_coordinates : map (λ k. trajectory mixed (pos 6) mixed_state mixed_plan k 0) (0 ∷ 1 ∷ 2 ∷ 3 ∷ []) ≡ pos 18 ∷ pos 10 ∷ pos 198 ∷ negsuc 5 ∷ []
+mixed_first_coordinates = refl
+
+mixed_second_coordinates : map (λ k. trajectory mixed (pos 6) mixed_state mixed_plan k 1) (0 ∷ 1 ∷ 2 ∷ 3 ∷ []) ≡ negsuc 29 ∷ pos 130 ∷ negsuc 293 ∷ negsuc 53 ∷ []
+mixed_second_coordinates = refl
+
+mixed_cost : cost mixed (pos 6) mixed_state mixed_plan ≡ pos 410392548
+mixed_cost = refl
+
+mixed_scales : cost_scale mixed ∷ residual_scale mixed ∷ [] ≡ 583200 ∷ 432 ∷ []
+mixed_scales = refl
+
+mixed_residuals : map (residual mixed (pos 6) mixed_state mixed_plan) (0 ∷ 1 ∷ 2 ∷ 3 ∷ 4 ∷ 5 ∷ 6 ∷ 7 ∷ [])
+    ≡ negsuc 6317 ∷ pos 1242 ∷ negsuc 1673 ∷ negsuc 4373 ∷ pos 558 ∷ pos 1026 ∷ negsuc 1337 ∷ pos 1992 ∷ []
+mixed_residuals = refl
+
+-- the four corners, each coordinate of all
+mixed_corners : map (λ c. corner mixed c 0) (1 ∷ 2 ∷ 3 ∷ 4 ∷ []) ≡ negsuc 6 ∷ pos 5 ∷ negsuc 6 ∷ pos 5 ∷ []
+mixed_corners = refl
+
+mixed_second_corners : map (λ c. corner mixed c 1) (1 ∷ 2 ∷ 3 ∷ 4 ∷ []) ≡ pos 2 ∷ pos 2 ∷ pos 9 ∷ pos 9 ∷ []
+mixed_second_corners = refl

@@ -1,40 +1,14 @@
--- Runs of a controller of two states, one input, two stages and three rows, whose steps, rows and entries differ in number: its states, its first steps, and what
--- it is that fits.
+-- Runs of a controller whose steps, rows and entries differ in number: its states, its first steps, and what it is that fits; and the run of one that has an exponent for
+-- each row and both of whose multipliers meet their greatest, with the state that follows it.
 use Rattle.std.proofs.Common.{◌≡◌, ℕ, zero, suc, ◌<◌, ℤ, pos, negsuc, List, [], ◌∷◌, map, length, refl, arith}
 use Rattle.std.specs.Prelude.{All}
 use Rattle.integer_algebra.specs.Sums.{at}
-use Rattle.mat_int.specs.Matrix.{Matrix}
 use Rattle.qp_model.specs.machine.Controller.{Numbers, plan_length}
 use Rattle.qp_model.specs.machine.Machine.{IsInside, IsAdmissible, Iterate, loaded, exponent_of, lowering_of, raised, top_of, entry_sum, plan_of, row_sum, added, start_of, after, run_of, average_denominator, averaged_plan}
+use Rattle.qp_model.specs.machine.Successor.{successor}
 use Rattle.qp_model.specs.machine.ValuesMet.{entry_values, row_values, FitsWidth, StepFits, RunFits}
-
-abbrev matrix : ℕ → List (List ℤ) → Matrix
-matrix breadth lines = record { cols = breadth; rows = lines }
-
-abbrev pub small : Numbers
-small = record {
-  version = 2;
-  states = 2;
-  inputs = 1;
-  stages = 2;
-  rows = 3;
-  fraction_bits = 3;
-  grid_bits = 1;
-  step_exponent = 2;
-  width = 20;
-  steps = 2;
-  clamp = pos 45;
-  words = 9;
-  exponents = 2 ∷ 0 ∷ 1 ∷ [];
-  low = pos 1 ∷ pos 2 ∷ [];
-  high = pos 5 ∷ pos 6 ∷ [];
-  state_gains = matrix 2 ((pos 3 ∷ negsuc 1 ∷ []) ∷ (pos 5 ∷ pos 1 ∷ []) ∷ []);
-  offsets = pos 7 ∷ negsuc 2 ∷ [];
-  dual_gains = matrix 3 ((pos 4 ∷ pos 1 ∷ negsuc 2 ∷ []) ∷ (negsuc 0 ∷ pos 2 ∷ pos 6 ∷ []) ∷ []);
-  plan_rows = matrix 2 ((pos 2 ∷ negsuc 4 ∷ []) ∷ (negsuc 2 ∷ pos 1 ∷ []) ∷ (pos 9 ∷ pos 8 ∷ []) ∷ []);
-  state_rows = matrix 2 ((pos 1 ∷ pos 3 ∷ []) ∷ (pos 6 ∷ negsuc 1 ∷ []) ∷ (pos 0 ∷ pos 4 ∷ []) ∷ []);
-  bounds = negsuc 10 ∷ negsuc 4 ∷ pos 13 ∷ [];
-}
+use Rattle.trials_definitions.proofs.WorkedDesigns.{two, mixed}
+use Rattle.trials_definitions.proofs.WorkedControllers.{small, clamped_controller}
 
 -- ---- states
 inside : (i : ℕ) → i < 2 → IsInside small (pos 5 ∷ pos 2 ∷ []) i
@@ -124,6 +98,36 @@ third_row : row_values small state_of (negsuc 15 ∷ negsuc 11 ∷ []) (pos 0) 2
     ∷ negsuc 239 ∷ negsuc 207 ∷ pos 104 ∷ negsuc 311 ∷ negsuc 38 ∷ negsuc 38 ∷ pos 45 ∷ pos 22
     ∷ pos 0 ∷ []
 third_row = refl
+
+-- ---- three steps until both multipliers meet their greatest. The numbers were computed by another program, in fractions
+clamped_state : loaded clamped_controller (two (negsuc 2) (pos 7)) ≡ two (negsuc 11) (pos 28)
+clamped_state = refl
+
+clamped_tops : map (top_of clamped_controller) (0 ∷ 1 ∷ []) ≡ pos 31 ∷ pos 7 ∷ []
+clamped_tops = refl
+
+clamped_raising : raised clamped_controller (two (pos 22) (pos 7)) ≡ two (pos 22) (pos 28)
+clamped_raising = refl
+
+clamped_first : after clamped_controller (two (negsuc 11) (pos 28)) 1 ≡ record { plan = two (pos 2) (pos 13); multipliers = two (pos 11) (pos 7); sums = two (pos 2) (pos 13) }
+unfolding after
+clamped_first = refl
+
+clamped_second : after clamped_controller (two (negsuc 11) (pos 28)) 2 ≡ record { plan = two (pos 3) (pos 12); multipliers = two (pos 22) (pos 7); sums = two (pos 5) (pos 25) }
+unfolding after
+clamped_second = refl
+
+clamped_third : after clamped_controller (two (negsuc 11) (pos 28)) 3 ≡ record { plan = two (pos 3) (pos 12); multipliers = two (pos 31) (pos 7); sums = two (pos 8) (pos 37) }
+unfolding after
+clamped_third = refl
+
+clamped_over : average_denominator clamped_controller ≡ 48
+clamped_over = refl
+
+-- the next state under the plan 8/48, 37/48, which is 5/9 and -32/3 over 2^2
+clamped_next : successor mixed clamped_controller (two (negsuc 2) (pos 7)) ≡ two (pos 1) (negsuc 10)
+unfolding after
+clamped_next = refl
 
 -- ---- a word of 4 bits
 fits_low : FitsWidth 4 (negsuc 7)

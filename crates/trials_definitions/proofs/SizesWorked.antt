@@ -10,63 +10,33 @@ use Rattle.mat_int.specs.Matrix.{Matrix}
 use Rattle.qp_model.specs.problem.Limits.{most_states, most_stages, most_rows}
 use Rattle.qp_model.specs.problem.Range.{LiesIn, IsNumerator}
 use Rattle.qp_model.specs.machine.Controller.{Numbers, HasShape, IsShaped, IsSized, IsInForm, FitsWord}
+use Rattle.trials_definitions.proofs.WorkedControllers.{matrix, ones, of_sizes}
 
--- ---- controllers of one number in each list
-abbrev matrix : (height breadth : ℕ) → Matrix
-matrix height breadth = record { cols = breadth; rows = replicate height (replicate breadth (pos 1)) }
-
--- of a version, with n states, p inputs, N stages and m rows, and else with the greatest numbers
-abbrev of_sizes : (version n p N m : ℕ) → Numbers
-of_sizes version n p N m = record {
-  version = version;
-  states = n;
-  inputs = p;
-  stages = N;
-  rows = m;
-  fraction_bits = 48;
-  grid_bits = 24;
-  step_exponent = 40;
-  width = 128;
-  steps = 4194304;
-  clamp = pos (2 ^ 126);
-  words = n + m + 2 * (p * N);
-  exponents = replicate m 40;
-  low = replicate n (negsuc 2147483646);
-  high = replicate n (pos 2147483647);
-  state_gains = matrix (p * N) n;
-  offsets = replicate (p * N) (pos 1);
-  dual_gains = matrix (p * N) m;
-  plan_rows = matrix m (p * N);
-  state_rows = matrix m n;
-  bounds = replicate m (pos 1);
-}
-
-has_shape : (height breadth : ℕ) → HasShape (matrix height breadth) height breadth
+-- ---- each list and matrix has its size
+has_shape : (height breadth : ℕ) → HasShape (ones height breadth) height breadth
 has_shape height breadth = record {
   rows = length-replicate height (replicate breadth (pos 1));
   cols = refl;
   each = All-replicate (λ (row : List ℤ). length row ≡ breadth) height (replicate breadth (pos 1)) (length-replicate breadth (pos 1));
 }
 
-shaped : (version n p N m : ℕ) → IsShaped (of_sizes version n p N m)
-shaped version n p N m = record {
-  exponents = length-replicate m 40;
-  low = length-replicate n (negsuc 2147483646);
-  high = length-replicate n (pos 2147483647);
-  state_gains = has_shape (p * N) n;
-  offsets = length-replicate (p * N) (pos 1);
-  dual_gains = has_shape (p * N) m;
-  plan_rows = has_shape m (p * N);
-  state_rows = has_shape m n;
-  bounds = length-replicate m (pos 1);
-}
-
 ordered : (n i : ℕ) → i < n → at (replicate n (negsuc 2147483646)) i ≤ℤ at (replicate n (pos 2147483647)) i
 ordered n i l = rw (get_or-replicate n i (negsuc 2147483646) (pos 0) l) (rw (get_or-replicate n i (pos 2147483647) (pos 0) l) (record { le = tt }))
 
-sized : (version n p N m : ℕ) → LiesIn 1 2 version → LiesIn 1 (most_states version) n → LiesIn 1 3 p → LiesIn 1 (most_stages version) N → LiesIn 1 (most_rows version) m →
-    IsSized (of_sizes version n p N m)
-sized version n p N m hv hn hp hN hm = record {
+-- ---- and may have other exponents, another clamp and another width
+abbrev with_numbers : Numbers → List ℕ → ℤ → ℕ → Numbers
+with_numbers c exponents clamp width = record c { exponents = exponents; clamp = clamp; width = width }
+
+record AreInRange (version m : ℕ) (exponents : List ℕ) (clamp : ℤ) : Type 0 where
+  long : length exponents ≡ m
+  low : All (λ s. s ≤ 40) exponents
+  same : version ≡ 1 → exponents ≡ replicate m 40
+  clamp_low : pos 0 ≤ℤ clamp
+  clamp_high : clamp ≤ℤ pos (2 ^ 126)
+
+sized : (version n p N m : ℕ) (exponents : List ℕ) (clamp : ℤ) (width : ℕ) → LiesIn 1 2 version → LiesIn 1 (most_states version) n → LiesIn 1 3 p → LiesIn 1 (most_stages version) N →
+    LiesIn 1 (most_rows version) m → AreInRange version m exponents clamp → IsSized (with_numbers (of_sizes version n p N m) exponents clamp width)
+sized version n p N m exponents clamp width hv hn hp hN hm h = record {
   version = hv;
   states = hn;
   inputs = hp;
@@ -75,21 +45,42 @@ sized version n p N m hv hn hp hN hm = record {
   grid_bits = omega arith;
   fraction_bits = (omega arith, omega arith);
   step_exponent = omega arith;
-  exponents = All-replicate (λ s. s ≤ 40) m 40 (le_refl 40);
-  same_exponents = λ e. refl;
+  exponents = h.low;
+  same_exponents = h.same;
   steps = (omega arith, omega arith);
-  clamp_low = record { le = tt };
-  clamp_high = record { le = tt };
+  clamp_low = h.clamp_low;
+  clamp_high = h.clamp_high;
   words = refl;
-  shaped = shaped version n p N m;
+  shaped = record {
+    exponents = h.long;
+    low = length-replicate n (negsuc 2147483646);
+    high = length-replicate n (pos 2147483647);
+    state_gains = has_shape (p * N) n;
+    offsets = length-replicate (p * N) (pos 1);
+    dual_gains = has_shape (p * N) m;
+    plan_rows = has_shape m (p * N);
+    state_rows = has_shape m n;
+    bounds = length-replicate m (pos 1);
+  };
   low = All-replicate (λ z. IsNumerator z) n (negsuc 2147483646) (omega arith);
   high = All-replicate (λ z. IsNumerator z) n (pos 2147483647) (omega arith);
   box = ordered n;
 }
 
+-- ---- controllers of all sizes, with the greatest numbers
+greatest_numbers : (version m : ℕ) → AreInRange version m (replicate m 40) (pos (2 ^ 126))
+greatest_numbers version m = record {
+  long = length-replicate m 40;
+  low = All-replicate (λ s. s ≤ 40) m 40 (le_refl 40);
+  same = λ first. refl;
+  clamp_low = record { le = tt };
+  clamp_high = record { le = tt };
+}
+
 in_form : (version n p N m : ℕ) → LiesIn 1 2 version → LiesIn 1 (most_states version) n → LiesIn 1 3 p → LiesIn 1 (most_stages version) N → LiesIn 1 (most_rows version) m →
     IsInForm (of_sizes version n p N m)
-in_form version n p N m hv hn hp hN hm = record { sized = sized version n p N m hv hn hp hN hm; width = (omega arith, omega arith) }
+in_form version n p N m hv hn hp hN hm =
+    record { sized = sized version n p N m (replicate m 40) (pos (2 ^ 126)) 128 hv hn hp hN hm (greatest_numbers version m); width = (omega arith, omega arith) }
 
 -- the greatest of each version, and the least
 first_greatest : IsInForm (of_sizes 1 4 3 20 252)
@@ -105,8 +96,8 @@ least = in_form 1 1 1 1 1 (omega arith, omega arith) (omega arith, omega arith) 
 abbrev some_sizes : Numbers
 some_sizes = of_sizes 2 2 3 5 4
 
-some_sized : IsSized some_sizes
-some_sized = sized 2 2 3 5 4 (omega arith, omega arith) (omega arith, omega arith) (omega arith, omega arith) (omega arith, omega arith) (omega arith, omega arith)
+some_sized : (exponents : List ℕ) (clamp : ℤ) (width : ℕ) → AreInRange 2 4 exponents clamp → IsSized (with_numbers some_sizes exponents clamp width)
+some_sized exponents clamp width = sized 2 2 3 5 4 exponents clamp width (omega arith, omega arith) (omega arith, omega arith) (omega arith, omega arith) (omega arith, omega arith) (omega arith, omega arith)
 
 no_version : IsSized (record some_sizes { version = 0 }) → ⊥
 no_version h = omega (arith, h.version.0)
@@ -163,40 +154,11 @@ great_exponent : IsSized (record some_sizes { exponents = 41 ∷ [] }) → ⊥
 great_exponent h = omega (arith, h.exponents 0 0 (omega arith))
 
 -- a smaller exponent of a row is in range, but not in the first version
-small_exponent : All (λ s. s ≤ 40) (replicate 4 39)
-small_exponent = All-replicate (λ s. s ≤ 40) 4 39 (omega arith)
+small_exponents : AreInRange 2 4 (replicate 4 39) (pos (2 ^ 126))
+small_exponents = record { long = refl; low = All-replicate (λ s. s ≤ 40) 4 39 (omega arith); same = λ e. absurd (omega (arith, e)); clamp_low = record { le = tt }; clamp_high = record { le = tt } }
 
 lowered : IsSized (record some_sizes { exponents = replicate 4 39 })
-lowered = record {
-  version = some_sized.version;
-  states = some_sized.states;
-  inputs = some_sized.inputs;
-  stages = some_sized.stages;
-  rows = some_sized.rows;
-  grid_bits = some_sized.grid_bits;
-  fraction_bits = some_sized.fraction_bits;
-  step_exponent = some_sized.step_exponent;
-  exponents = small_exponent;
-  same_exponents = λ e. absurd (omega (arith, e));
-  steps = some_sized.steps;
-  clamp_low = some_sized.clamp_low;
-  clamp_high = some_sized.clamp_high;
-  words = some_sized.words;
-  shaped = record {
-    exponents = refl;
-    low = some_sized.shaped.low;
-    high = some_sized.shaped.high;
-    state_gains = some_sized.shaped.state_gains;
-    offsets = some_sized.shaped.offsets;
-    dual_gains = some_sized.shaped.dual_gains;
-    plan_rows = some_sized.shaped.plan_rows;
-    state_rows = some_sized.shaped.state_rows;
-    bounds = some_sized.shaped.bounds;
-  };
-  low = some_sized.low;
-  high = some_sized.high;
-  box = some_sized.box;
-}
+lowered = some_sized (replicate 4 39) (pos (2 ^ 126)) 128 small_exponents
 
 lowered_first : IsSized (record some_sizes { version = 1; exponents = replicate 4 39 }) → ⊥
 lowered_first h = omega (arith, ap (λ (xs : List ℕ). slice_index_or xs 0 0) (h.same_exponents refl))
@@ -207,37 +169,11 @@ no_step h = omega (arith, h.steps.0)
 many_steps : IsSized (record some_sizes { steps = 4194305 }) → ⊥
 many_steps h = omega (arith, h.steps.1)
 
+no_clamp : AreInRange 2 4 (replicate 4 40) (pos 0)
+no_clamp = record { long = refl; low = (greatest_numbers 2 4).low; same = λ e. refl; clamp_low = record { le = tt }; clamp_high = record { le = tt } }
+
 clamp_of_0 : IsSized (record some_sizes { clamp = pos 0 })
-clamp_of_0 = record {
-  version = some_sized.version;
-  states = some_sized.states;
-  inputs = some_sized.inputs;
-  stages = some_sized.stages;
-  rows = some_sized.rows;
-  grid_bits = some_sized.grid_bits;
-  fraction_bits = some_sized.fraction_bits;
-  step_exponent = some_sized.step_exponent;
-  exponents = some_sized.exponents;
-  same_exponents = some_sized.same_exponents;
-  steps = some_sized.steps;
-  clamp_low = record { le = tt };
-  clamp_high = record { le = tt };
-  words = some_sized.words;
-  shaped = record {
-    exponents = some_sized.shaped.exponents;
-    low = some_sized.shaped.low;
-    high = some_sized.shaped.high;
-    state_gains = some_sized.shaped.state_gains;
-    offsets = some_sized.shaped.offsets;
-    dual_gains = some_sized.shaped.dual_gains;
-    plan_rows = some_sized.shaped.plan_rows;
-    state_rows = some_sized.shaped.state_rows;
-    bounds = some_sized.shaped.bounds;
-  };
-  low = some_sized.low;
-  high = some_sized.high;
-  box = some_sized.box;
-}
+clamp_of_0 = some_sized (replicate 4 40) (pos 0) 128 no_clamp
 
 clamp_below : IsSized (record some_sizes { clamp = negsuc 0 }) → ⊥
 clamp_below h = h.clamp_low.le
@@ -265,39 +201,7 @@ reversed_of_one_input : IsSized (record some_sizes { inputs = 1; low = pos 0 ∷
 reversed_of_one_input h = (h.box 1 (omega arith)).le
 
 width_of_2 : IsInForm (record some_sizes { width = 2 })
-width_of_2 = record {
-  sized = record {
-    version = some_sized.version;
-    states = some_sized.states;
-    inputs = some_sized.inputs;
-    stages = some_sized.stages;
-    rows = some_sized.rows;
-    grid_bits = some_sized.grid_bits;
-    fraction_bits = some_sized.fraction_bits;
-    step_exponent = some_sized.step_exponent;
-    exponents = some_sized.exponents;
-    same_exponents = some_sized.same_exponents;
-    steps = some_sized.steps;
-    clamp_low = some_sized.clamp_low;
-    clamp_high = some_sized.clamp_high;
-    words = some_sized.words;
-    shaped = record {
-      exponents = some_sized.shaped.exponents;
-      low = some_sized.shaped.low;
-      high = some_sized.shaped.high;
-      state_gains = some_sized.shaped.state_gains;
-      offsets = some_sized.shaped.offsets;
-      dual_gains = some_sized.shaped.dual_gains;
-      plan_rows = some_sized.shaped.plan_rows;
-      state_rows = some_sized.shaped.state_rows;
-      bounds = some_sized.shaped.bounds;
-    };
-    low = some_sized.low;
-    high = some_sized.high;
-    box = some_sized.box;
-  };
-  width = (omega arith, omega arith);
-}
+width_of_2 = record { sized = some_sized (replicate 4 40) (pos (2 ^ 126)) 2 (greatest_numbers 2 4); width = (omega arith, omega arith) }
 
 width_of_1 : IsInForm (record some_sizes { width = 1 }) → ⊥
 width_of_1 h = omega (arith, h.width.0)
@@ -334,7 +238,7 @@ uneven_rows h = omega (arith, h.each 0 [] (omega arith))
 each_fits : (n : ℕ) → All (FitsSigned w128) (replicate n (pos 1))
 each_fits n = All-replicate (FitsSigned w128) n (pos 1) (omega (arith, ints))
 
-matrix_fits : (height breadth : ℕ) → All (All (FitsSigned w128)) (matrix height breadth).rows
+matrix_fits : (height breadth : ℕ) → All (All (FitsSigned w128)) (ones height breadth).rows
 matrix_fits height breadth = All-replicate (All (FitsSigned w128)) height (replicate breadth (pos 1)) (each_fits breadth)
 
 fits_word : (version n p N m : ℕ) → FitsWord (of_sizes version n p N m)
@@ -348,7 +252,7 @@ fits_word version n p N m = record {
 }
 
 abbrev wide : Matrix
-wide = record { cols = 1; rows = (pos (2 ^ 127) ∷ []) ∷ [] }
+wide = matrix 1 ((pos (2 ^ 127) ∷ []) ∷ [])
 
 wide_offset : FitsWord (record some_sizes { offsets = pos (2 ^ 127) ∷ [] }) → ⊥
 wide_offset h = omega (arith, ints, h.offsets 0 (pos 0) (omega arith))

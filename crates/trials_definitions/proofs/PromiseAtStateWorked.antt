@@ -1,25 +1,23 @@
 -- The promise, tried on the worked design and its controller at the state 1: what holds of them with the least numbers that it can hold with, and for
 -- each number what doesn't hold where it is one less. The numbers were worked out by hand.
-use Rattle.std.proofs.Common.{◌≡◌, ℕ, zero, suc, ◌+◌, ◌<◌, ℤ, pos, negsuc, ◌+ℤ◌, ◌*ℤ◌, ◌≤ℤ◌, ◌<ℤ◌, List, [], ◌∷◌, length, ◌-ℤ◌, ◌^◌, refl, sym, arith, Bool, true, false, ◌&&◌, T, neg_ℤ, ◌-◌, All}
+use Rattle.std.proofs.Common.{◌≡◌, ℕ, zero, suc, ◌<◌, ℤ, pos, negsuc, ◌+ℤ◌, ◌*ℤ◌, ◌≤ℤ◌, ◌<ℤ◌, List, [], ◌∷◌, ◌^◌, refl, sym, arith, Bool, true, false, ◌&&◌, T, neg_ℤ, ◌-◌, All}
 use Rattle.integer_algebra.specs.Sums.{at, square}
 use Rattle.std.proofs.lemmas.List.Elements.{All-nil, All-cons, All-get_or}
 use Rattle.std.specs.Prelude.{int_le, int_lt}
 use Rattle.std.specs.Int.Signed.{clash_ℤ}
-use Rattle.integer_algebra.proofs.Expression.{num, nat, ◌⊕◌, ◌⊖◌, ◌⊗◌, minus, ring}
 use Rattle.integer_algebra.proofs.Quoting.{by_ring, quotes}
 use Rattle.integer_algebra.proofs.Certificates.{known_le, known_lt}
 use Rattle.integer_algebra.proofs.OmegaHints.{fact_hint, product_hint, le_by_omega, lt_by_omega}
-use Rattle.qp_model.specs.problem.Design.{Design, rows}
 use Rattle.qp_model.specs.problem.Cost.{cost}
 use Rattle.qp_model.specs.problem.Residual.{residual, IsFeasible}
 use Rattle.qp_model.specs.problem.Box.{IsGridState}
 use Rattle.qp_model.specs.bounds.Choices.{row_violation_bound, violation_bound}
-use Rattle.qp_model.specs.bounds.Certified.{ExceedsAtMost, CostsAtMost, HasFeasible, ExceedsNoRowBy, CostsNoMoreThanFeasible, KeepsBounds, IsCertifiedAt}
-use Rattle.qp_model.specs.bounds.Printed.{Printed}
+use Rattle.qp_model.specs.bounds.Certified.{ExceedsNoRowBy, KeepsBounds, IsCertifiedAt}
 use Rattle.qp_model.specs.machine.Controller.{Numbers}
 use Rattle.qp_model.specs.machine.Machine.{IsAdmissible, IsInside, Iterate, raised, step_of, after, next_multiplier}
 use Rattle.qp_model.specs.machine.ValuesMet.{FitsWidth, entry_values, row_values, StepFits, RunFits}
-use Rattle.qp_model.proofs.WorkedRow.{base, first_controller, third_controller, matrix}
+use Rattle.trials_definitions.proofs.WorkedDesigns.{base, three}
+use Rattle.trials_definitions.proofs.WorkedControllers.{matrix, first_controller, third_controller, least}
 
 -- ---- a word of 26 bits: both ends fit, and one beyond doesn't
 width_low : FitsWidth 26 (negsuc 33554431)
@@ -74,7 +72,7 @@ grid_low : IsGridState base (at (pos 0 ∷ []))
 grid_low zero l = (record { le = tt }, record { le = tt })
 grid_low (suc i) l = absurd (omega (arith, l))
 
-grid_high : IsGridState base (at (pos 1 ∷ []))
+pub grid_high : IsGridState base (at (pos 1 ∷ []))
 grid_high zero l = (record { le = tt }, record { le = tt })
 grid_high (suc i) l = absurd (omega (arith, l))
 
@@ -127,30 +125,8 @@ average = at (negsuc 2223 ∷ [])
 abbrev best : ℕ → ℤ
 best = at (negsuc 2 ∷ [])
 
--- the least numbers that hold: a residual of r / 2^14 is r * 2^26 over 2^40, and 10/16 - 8450560 / 2^24 is 133378867200 over 2^40
-abbrev least : Printed
-least = record {
-  version = 1;
-  margin = pos 8192;
-  lean = false;
-  cost = pos 1;
-  multiplier = pos 8;
-  step = 1;
-  steps = 4;
-  bits = 10;
-  width = 22;
-  words = 6;
-  violation = pos 227633266688;
-  row_violations = negsuc 1696512081919 ∷ negsuc 502511173631 ∷ pos 227633266688 ∷ [];
-  gap = negsuc 133378867199;
-  undercut = pos 133378867200;
-}
-
 best_feasible : IsFeasible base (pos 4) state best
-best_feasible zero l = record { le = tt }
-best_feasible (suc zero) l = record { le = tt }
-best_feasible (suc (suc zero)) l = record { le = tt }
-best_feasible (suc (suc (suc i))) l = absurd (omega (arith, l))
+best_feasible = three _ (record { le = tt }) (record { le = tt }) (record { le = tt })
 
 cost_is : (r : ℤ) (t : ℕ → ℤ) → cost base r state t ≡ square (t 0) +ℤ square (r +ℤ t 0)
 cost_is r t = by_ring (r ∷ t 0 ∷ []) (search quotes depth 60 fits 20000) refl
@@ -183,16 +159,10 @@ numbers_repair r z some h =
     lt_by_omega ρ (search quotes depth 60 fits 20000) (omega (arith, fact_hint more, product_hint more more, fact_hint (known_le ρ h (search quotes depth 60 fits 20000))))
 
 keeps_rows : ExceedsNoRowBy base state (pos 4096) average (at least.row_violations)
-keeps_rows zero l = record { le = tt }
-keeps_rows (suc zero) l = record { le = tt }
-keeps_rows (suc (suc zero)) l = record { le = tt }
-keeps_rows (suc (suc (suc i))) l = absurd (omega (arith, l))
+keeps_rows = three _ (record { le = tt }) (record { le = tt }) (record { le = tt })
 
 keeps_violation : ExceedsNoRowBy base state (pos 4096) average (λ i. least.violation)
-keeps_violation zero l = record { le = tt }
-keeps_violation (suc zero) l = record { le = tt }
-keeps_violation (suc (suc zero)) l = record { le = tt }
-keeps_violation (suc (suc (suc i))) l = absurd (omega (arith, l))
+keeps_violation = three _ (record { le = tt }) (record { le = tt }) (record { le = tt })
 
 keeps : KeepsBounds base least state (pos 4096) average
 keeps = record {
@@ -261,12 +231,6 @@ step_fits made raising entry row sum = record {
     entries : (j : ℕ) → j < 1 → All (FitsWidth 22) (entry_values first_controller (pos 1024 ∷ []) (raised first_controller made.multipliers) j)
     entries zero l = all_fit 22 (entry_values first_controller (pos 1024 ∷ []) (raised first_controller made.multipliers) 0) entry
     entries (suc j) l = absurd (omega (arith, l))
-
-three : (P : ℕ → Type 0) → P 0 → P 1 → P 2 → (i : ℕ) → i < 3 → P i
-three P a b c zero l = a
-three P a b c (suc zero) l = b
-three P a b c (suc (suc zero)) l = c
-three P a b c (suc (suc (suc i))) l = absurd (omega (arith, l))
 
 run_fits : RunFits 22 first_controller (pos 1 ∷ [])
 unfolding after

@@ -1,14 +1,11 @@
 -- The definitions, tried on one small design and its controller, whose numbers were worked out by hand: the plant x+ = x + u, the cost
 -- u^2 + (x+)^2, and the rows u <= 1, -u <= 1 and x+ <= 1/4, at the states 0 and 1.
-use Rattle.std.proofs.Common.{◌≡◌, ℕ, zero, suc, ◌^◌, ◌*◌, ◌+◌, ◌-◌, ℤ, pos, ◌*ℤ◌, negsuc, neg_ℤ, List, [], ◌∷◌, refl, map, length, true}
-use Rattle.integer_algebra.specs.Sums.{at, none}
-use Rattle.mat_int.specs.Matrix.{Matrix}
-use Rattle.qp_model.specs.problem.Design.{Design, CostRow, LimitRow, rows, entries}
+use Rattle.std.proofs.Common.{◌≡◌, ℕ, ◌^◌, ◌*◌, ◌+◌, ◌-◌, pos, ◌*ℤ◌, negsuc, [], ◌∷◌, refl, map, true}
+use Rattle.integer_algebra.specs.Sums.{at}
 use Rattle.qp_model.specs.problem.Trajectory.{trajectory}
-use Rattle.qp_model.specs.problem.Cost.{cost, cost_scale}
-use Rattle.qp_model.specs.problem.Residual.{residual, residual_scale, slack}
+use Rattle.qp_model.specs.problem.Cost.{cost}
+use Rattle.qp_model.specs.problem.Residual.{residual_scale, slack}
 use Rattle.qp_model.specs.problem.Box.{corner}
-use Rattle.qp_model.specs.form.Condensed.{Condensed}
 use Rattle.qp_model.specs.form.Condensing.{condensed_of}
 use Rattle.qp_model.specs.form.Form.{Form}
 use Rattle.qp_model.specs.form.Class.{form_of}
@@ -16,46 +13,10 @@ use Rattle.qp_model.specs.bounds.Errors.{error_sums_of, plan_bound, residual_err
 use Rattle.qp_model.specs.bounds.Choices.{violation_bound, row_violation_bound}
 use Rattle.qp_model.specs.machine.Controller.{Numbers}
 use Rattle.qp_model.specs.machine.Machine.{loaded, after, entry_sum, averaged_plan, average_denominator, raised, top_of}
-use Rattle.qp_model.specs.machine.AbsoluteSums.{greatest_sum, entry_absolute_sum, plan_magnitudes, sum_magnitude}
+use Rattle.qp_model.specs.machine.AbsoluteSums.{greatest_sum, plan_magnitudes, sum_magnitude}
 use Rattle.qp_model.specs.bounds.RealErrors.{gain_residual, has_residual_room, real_gradient, real_plan, real_cost}
-
--- x's only coefficient
-one : ℕ → ℤ
-one j = pos 1
-
-abbrev limit : ℤ → ℤ → ℤ → LimitRow
-limit x u b = record { of_state = λ j. x; of_input = λ l. u; bound = b }
-
--- the two stage rows
-abbrev stage_rows : ℕ → LimitRow
-stage_rows zero = limit (pos 0) (pos 4) (pos 4)
-stage_rows (suc r) = limit (pos 0) (negsuc 3) (pos 4)
-
-abbrev pub base : Design
-base = record {
-  version = 1;
-  states = 1;
-  inputs = 1;
-  stages = 1;
-  plant_denominator = 1;
-  plant_a = λ i j. pos 1;
-  plant_b = λ i l. pos 1;
-  cost_denominator = 1;
-  row_denominator = 1;
-  input_weight = λ l. pos 1;
-  stage_costs = 1;
-  stage_cost = λ r. record { coefficient = λ j. pos 1; target = pos 0; weight = pos 1 };
-  final_costs = 0;
-  final_cost = λ r. record { coefficient = λ j. pos 0; target = pos 0; weight = pos 0 };
-  limit_denominator = 4;
-  stage_limits = 2;
-  stage_limit = stage_rows;
-  final_limits = 1;
-  final_limit = λ r. limit (pos 4) (pos 0) (pos 1);
-  grid = 0;
-  low = λ i. pos 0;
-  high = λ i. pos 1;
-}
+use Rattle.trials_definitions.proofs.WorkedDesigns.{base}
+use Rattle.trials_definitions.proofs.WorkedControllers.{matrix, first_controller, third_controller}
 
 -- ---- corners, slacks and costs: at corner 2, the state 1, the plan -7/8 costs 50/64 and leaves 1/8 to the rows 2 and 3
 corner_two : corner base 2 0 ≡ pos 1
@@ -169,35 +130,7 @@ fine_errors_late = refl
 fine_size : error_size base fine 8 ≡ 94843873012547816
 fine_size = refl
 
--- ---- the controller and its machine
-abbrev pub matrix : ℕ → List (List ℤ) → Matrix
-matrix n lines = record { cols = n; rows = lines }
-
-abbrev pub first_controller : Numbers
-first_controller = record {
-  version = 1;
-  states = 1;
-  inputs = 1;
-  stages = 1;
-  rows = 3;
-  fraction_bits = 10;
-  grid_bits = 0;
-  step_exponent = 1;
-  width = 26;
-  steps = 4;
-  clamp = pos 32768;
-  words = 6;
-  exponents = 1 ∷ 1 ∷ 1 ∷ [];
-  low = pos 0 ∷ [];
-  high = pos 1 ∷ [];
-  state_gains = matrix 1 ((pos 512 ∷ []) ∷ []);
-  offsets = pos 0 ∷ [];
-  dual_gains = matrix 3 ((pos 256 ∷ negsuc 255 ∷ pos 256 ∷ []) ∷ []);
-  plan_rows = matrix 1 ((pos 1024 ∷ []) ∷ (negsuc 1023 ∷ []) ∷ (pos 1024 ∷ []) ∷ []);
-  state_rows = matrix 1 ((pos 0 ∷ []) ∷ (pos 0 ∷ []) ∷ (pos 1024 ∷ []) ∷ []);
-  bounds = pos 1024 ∷ pos 1024 ∷ pos 256 ∷ [];
-}
-
+-- ---- the controller's machine
 -- the entry's absolute sum is 26214400, the greatest of all
 absolute : greatest_sum first_controller ≡ 26214400
 absolute = refl
@@ -252,10 +185,7 @@ lowered_average : averaged_plan lowered_controller (pos 1 ∷ []) ≡ negsuc 222
 unfolding after
 lowered_average = refl
 
--- the third row's is 0, so its multiplier is over 2^10 and is raised to 2^11
-abbrev pub third_controller : Numbers
-third_controller = record first_controller { version = 2; exponents = 1 ∷ 1 ∷ 0 ∷ [] }
-
+-- the third row's is 0
 third_plans : map (λ k. (after third_controller (loaded third_controller (pos 1 ∷ [])) k).plan) (1 ∷ 2 ∷ 3 ∷ 4 ∷ [])
     ≡ (negsuc 511 ∷ []) ∷ (negsuc 575 ∷ []) ∷ (negsuc 623 ∷ []) ∷ (negsuc 659 ∷ []) ∷ []
 unfolding after

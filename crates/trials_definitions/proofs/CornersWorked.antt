@@ -4,13 +4,8 @@ use Rattle.qp_model.specs.problem.Policy.{Plans}
 use Rattle.qp_model.specs.bounds.CornerSizes.{first_reach, corner_reach, fine_corner_slack_size, fine_corner_cost_size}
 use Rattle.qp_model.specs.bounds.FineCorners.{corner_state, corner_input, corner_gap, least_slack, most_row_cost, most_input_cost, enclosed_corners}
 use Rattle.qp_model.specs.bounds.CornerClass.{has_fine_corners, shown, corner_slack_quantity, corner_cost_quantity}
-use Rattle.qp_model.proofs.FineWorked.{third, crossed, around}
-
-abbrev thirds : Plans
-thirds = record {
-  denominators = pos 3 ∷ pos 7 ∷ [];
-  numerators = record { rows = (pos 1 ∷ negsuc 1 ∷ []) ∷ (pos 5 ∷ pos 0 ∷ []) ∷ []; cols = 2 };
-}
+use Rattle.trials_definitions.proofs.WorkedDesigns.{third, crossed, thirds}
+use Rattle.trials_definitions.proofs.FineWorked.{around}
 
 state : corner_state third 2 0 ≡ around (pos 1099511627776) (pos 0)
 state = refl

@@ -2,7 +2,7 @@
 -- u^2 + (x+)^2, and the rows u <= 1, -u <= 1 and x+ <= 1/4, at the states 0 and 1. The design is sound, the controller has its sizes and is made
 -- for it, and the bounds are the worked ones: by the exact form, and by one over 2^40 with radii. That its numbers are a `DesignParts` and keep
 -- its width isn't tried here.
-use Rattle.std.proofs.Common.{◌≡◌, inr, ℕ, zero, suc, ◌+◌, ◌-◌, ◌*◌, ◌^◌, ◌<◌, ◌≤◌, [], ◌∷◌, ℤ, pos, negsuc, ◌+ℤ◌, ◌-ℤ◌, ◌*ℤ◌, neg_ℤ, ◌≤ℤ◌, List, length, unsigned_abs, arith, ap, ◌∙◌, refl}
+use Rattle.std.proofs.Common.{◌≡◌, inr, ℕ, zero, suc, ◌+◌, ◌-◌, ◌*◌, ◌^◌, ◌<◌, ◌≤◌, [], ◌∷◌, ℤ, pos, negsuc, ◌+ℤ◌, ◌-ℤ◌, ◌*ℤ◌, neg_ℤ, ◌≤ℤ◌, length, unsigned_abs, arith, ap, ◌∙◌, refl}
 use Rattle.std.specs.Prelude.{All}
 use Rattle.std.proofs.lemmas.Int.{ints}
 use Rattle.integer_algebra.specs.Sums.{total, image, square, at}
@@ -10,10 +10,8 @@ use Rattle.integer_algebra.specs.Bounds.{IsWithin}
 use Rattle.integer_algebra.specs.Division.{round_of}
 use Rattle.integer_algebra.proofs.OrderLaws.{le_by, square_nonneg_z, mul-le-mul_left_z}
 use Rattle.integer_algebra.proofs.Quoting.{by_ring, quotes}
-use Rattle.mat_int.specs.Matrix.{Matrix, entry_of}
-use Rattle.qp_model.specs.problem.Design.{Design, LimitRow}
+use Rattle.mat_int.specs.Matrix.{entry_of}
 use Rattle.qp_model.specs.problem.Sound.{IsSound}
-use Rattle.qp_model.specs.problem.Box.{IsGridState}
 use Rattle.qp_model.specs.form.Curvature.{AreExponents, curvature, row_change}
 use Rattle.qp_model.specs.form.GoodSolution.{IsGood}
 use Rattle.qp_model.specs.form.Columns.{columns, solve_matrix, solve_column}
@@ -23,74 +21,15 @@ use Rattle.qp_model.specs.form.Form.{Form, IsFormFor, exact_form}
 use Rattle.qp_model.specs.machine.Machine.{exponent_of}
 use Rattle.qp_model.proofs.FormLaws.{exact_form_sound}
 use Rattle.qp_model.specs.form.Condensing.{condensed_of}
-use Rattle.qp_model.specs.machine.Controller.{Numbers, IsShaped, IsSized}
+use Rattle.qp_model.specs.machine.Controller.{IsShaped, IsSized}
 use Rattle.qp_model.specs.bounds.Built.{gain_column, HasSizesOf, IsDerivedFrom}
 use Rattle.qp_model.proofs.CostLaws.{condensing}
 use Rattle.step_error.specs.MachineLaws.{raised_at, plan_at, used_residual, HasErrors}
 use Rattle.step_error.proofs.Slopes.{within_cancel, within_same}
 use Rattle.step_error.proofs.MachineErrors.{errors_by}
-
-abbrev limit : ℤ → ℤ → ℤ → LimitRow
-limit x u b = record { of_state = λ j. x; of_input = λ l. u; bound = b }
-
--- the two stage rows
-abbrev stage_rows : ℕ → LimitRow
-stage_rows zero = limit (pos 0) (pos 4) (pos 4)
-stage_rows (suc r) = limit (pos 0) (negsuc 3) (pos 4)
-
-abbrev base : Design
-base = record {
-  version = 1;
-  states = 1;
-  inputs = 1;
-  stages = 1;
-  plant_denominator = 1;
-  plant_a = λ i j. pos 1;
-  plant_b = λ i l. pos 1;
-  cost_denominator = 1;
-  row_denominator = 1;
-  input_weight = λ l. pos 1;
-  stage_costs = 1;
-  stage_cost = λ r. record { coefficient = λ j. pos 1; target = pos 0; weight = pos 1 };
-  final_costs = 0;
-  final_cost = λ r. record { coefficient = λ j. pos 0; target = pos 0; weight = pos 0 };
-  limit_denominator = 4;
-  stage_limits = 2;
-  stage_limit = stage_rows;
-  final_limits = 1;
-  final_limit = λ r. limit (pos 4) (pos 0) (pos 1);
-  grid = 0;
-  low = λ i. pos 0;
-  high = λ i. pos 1;
-}
-
-abbrev matrix : ℕ → List (List ℤ) → Matrix
-matrix n lines = record { cols = n; rows = lines }
-
-abbrev controller : Numbers
-controller = record {
-  version = 1;
-  states = 1;
-  inputs = 1;
-  stages = 1;
-  rows = 3;
-  fraction_bits = 10;
-  grid_bits = 0;
-  step_exponent = 1;
-  width = 26;
-  steps = 4;
-  clamp = pos 32768;
-  words = 6;
-  exponents = 1 ∷ 1 ∷ 1 ∷ [];
-  low = pos 0 ∷ [];
-  high = pos 1 ∷ [];
-  state_gains = matrix 1 ((pos 512 ∷ []) ∷ []);
-  offsets = pos 0 ∷ [];
-  dual_gains = matrix 3 ((pos 256 ∷ negsuc 255 ∷ pos 256 ∷ []) ∷ []);
-  plan_rows = matrix 1 ((pos 1024 ∷ []) ∷ (negsuc 1023 ∷ []) ∷ (pos 1024 ∷ []) ∷ []);
-  state_rows = matrix 1 ((pos 0 ∷ []) ∷ (pos 0 ∷ []) ∷ (pos 1024 ∷ []) ∷ []);
-  bounds = pos 1024 ∷ pos 1024 ∷ pos 256 ∷ [];
-}
+use Rattle.trials_definitions.proofs.WorkedDesigns.{base, three, three_by_one}
+use Rattle.trials_definitions.proofs.WorkedControllers.{first_controller}
+use Rattle.trials_definitions.proofs.PromiseAtStateWorked.{grid_high}
 
 -- ---- the premises
 sound : IsSound base (input_floor base)
@@ -110,7 +49,7 @@ one_line : (x : ℤ) → All (λ row. length row ≡ 1) ((x ∷ []) ∷ [])
 one_line x zero d h = refl
 one_line x (suc k) d h = absurd (omega arith)
 
-wide_line : All (λ row. length row ≡ 3) controller.dual_gains.rows
+wide_line : All (λ row. length row ≡ 3) first_controller.dual_gains.rows
 wide_line zero d h = refl
 wide_line (suc k) d h = absurd (omega arith)
 
@@ -124,11 +63,11 @@ small_number : (x : ℤ) → unsigned_abs x ≤ 1 → All (λ z. unsigned_abs z 
 small_number x p zero d h = omega (arith, p)
 small_number x p (suc k) d h = absurd (omega arith)
 
-ordered : (i : ℕ) → i < 1 → at controller.low i ≤ℤ at controller.high i
+ordered : (i : ℕ) → i < 1 → at first_controller.low i ≤ℤ at first_controller.high i
 ordered zero h = omega (arith, ints)
 ordered (suc i) h = absurd (omega arith)
 
-shaped : IsShaped controller
+shaped : IsShaped first_controller
 shaped = record {
   exponents = refl;
   low = refl;
@@ -141,13 +80,13 @@ shaped = record {
   bounds = refl;
 }
 
-low_exponents : All (λ s. s ≤ 1) controller.exponents
+low_exponents : All (λ s. s ≤ 1) first_controller.exponents
 low_exponents zero d h = omega arith
 low_exponents (suc zero) d h = omega arith
 low_exponents (suc (suc zero)) d h = omega arith
 low_exponents (suc (suc (suc k))) d h = absurd (omega arith)
 
-sized : IsSized controller
+sized : IsSized first_controller
 sized = record {
   version = (omega arith, omega arith);
   states = (omega arith, omega arith);
@@ -169,19 +108,19 @@ sized = record {
   box = ordered;
 }
 
-same_low : (i : ℕ) → i < 1 → at controller.low i ≡ base.low i
+same_low : (i : ℕ) → i < 1 → at first_controller.low i ≡ base.low i
 same_low zero h = refl
 same_low (suc i) h = absurd (omega arith)
 
-same_high : (i : ℕ) → i < 1 → at controller.high i ≡ base.high i
+same_high : (i : ℕ) → i < 1 → at first_controller.high i ≡ base.high i
 same_high zero h = refl
 same_high (suc i) h = absurd (omega arith)
 
-sizes : HasSizesOf base controller
+sizes : HasSizesOf base first_controller
 sizes = record { states = refl; inputs = refl; stages = refl; rows = refl; grid = refl; low = same_low; high = same_high }
 
 -- the rows change by 4 v, -4 v and 4 v over 4, and Vq(v) is 2 v^2: 3 v^2 is at most 2 * 2 v^2
-exponents : AreExponents base (exponent_of controller) controller.step_exponent
+exponents : AreExponents base (exponent_of first_controller) first_controller.step_exponent
 exponents = record {
   bounded = λ i l. low_exponents i 0 l;
   descent = λ v. le_by (mul-le-mul_left_z (pos 16) (omega (arith, ints)) (square_nonneg_z (v 0))) (closed (v 0));
@@ -190,33 +129,18 @@ exponents = record {
     closed : (x : ℤ) → pos 32 *ℤ curvature base (λ j. x) +ℤ pos 16 *ℤ pos 0 ≡ pos 1 *ℤ total 3 (λ i. pos 1 *ℤ square (row_change base (λ j. x) i)) +ℤ pos 16 *ℤ square x
     closed x = by_ring (x ∷ []) (search quotes depth 90 fits 20000) refl
 
-inside : IsGridState base (at (pos 1 ∷ []))
-inside zero h = (omega (arith, ints), omega (arith, ints))
-inside (suc i) h = absurd (omega arith)
-
 -- ---- the exact form
-exact_plan_rows : (i j : ℕ) → i < 3 → j < 1 → entry_of controller.plan_rows i j ≡ round_of (pos 1024 *ℤ (condensed_of base).by_plan i j) 4
-exact_plan_rows zero zero h l = refl
-exact_plan_rows (suc zero) zero h l = refl
-exact_plan_rows (suc (suc zero)) zero h l = refl
-exact_plan_rows (suc (suc (suc i))) zero h l = absurd (omega arith)
-exact_plan_rows i (suc j) h l = absurd (omega arith)
+exact_plan_rows : (i j : ℕ) → i < 3 → j < 1 → entry_of first_controller.plan_rows i j ≡ round_of (pos 1024 *ℤ (condensed_of base).by_plan i j) 4
+exact_plan_rows = three_by_one _ refl refl refl
 
-exact_state_rows : (i j : ℕ) → i < 3 → j < 1 → entry_of controller.state_rows i j ≡ round_of (pos 1024 *ℤ (condensed_of base).by_state i j) 4
-exact_state_rows zero zero h l = refl
-exact_state_rows (suc zero) zero h l = refl
-exact_state_rows (suc (suc zero)) zero h l = refl
-exact_state_rows (suc (suc (suc i))) zero h l = absurd (omega arith)
-exact_state_rows i (suc j) h l = absurd (omega arith)
+exact_state_rows : (i j : ℕ) → i < 3 → j < 1 → entry_of first_controller.state_rows i j ≡ round_of (pos 1024 *ℤ (condensed_of base).by_state i j) 4
+exact_state_rows = three_by_one _ refl refl refl
 
-exact_bounds : (i : ℕ) → i < 3 → at controller.bounds i ≡ round_of (pos 1024 *ℤ (condensed_of base).bound i) 4
-exact_bounds zero h = refl
-exact_bounds (suc zero) h = refl
-exact_bounds (suc (suc zero)) h = refl
-exact_bounds (suc (suc (suc i))) h = absurd (omega arith)
+exact_bounds : (i : ℕ) → i < 3 → at first_controller.bounds i ≡ round_of (pos 1024 *ℤ (condensed_of base).bound i) 4
+exact_bounds = three _ refl refl refl
 
 -- each gain solves its system: 16 times it is 2^10 times the column's number
-exact_gains : (i j : ℕ) → i < 5 → j < 1 → image 1 (solve_matrix (exact_form base)) (gain_column controller i) j ≡ pos 1024 *ℤ solve_column (exact_form base) i j
+exact_gains : (i j : ℕ) → i < 5 → j < 1 → image 1 (solve_matrix (exact_form base)) (gain_column first_controller i) j ≡ pos 1024 *ℤ solve_column (exact_form base) i j
 exact_gains zero zero h l = refl
 exact_gains (suc zero) zero h l = refl
 exact_gains (suc (suc zero)) zero h l = refl
@@ -229,7 +153,7 @@ exact_diagonal : (j : ℕ) → j < 1 → solve_matrix (exact_form base) j j ≡ 
 exact_diagonal zero l = refl
 exact_diagonal (suc j) l = absurd (omega arith)
 
-exact_good : (i : ℕ) → i < columns (exact_form base) → IsGood 1 (solve_matrix (exact_form base)) 10 (solve_column (exact_form base) i) (gain_column controller i)
+exact_good : (i : ℕ) → i < columns (exact_form base) → IsGood 1 (solve_matrix (exact_form base)) 10 (solve_column (exact_form base) i) (gain_column first_controller i)
 exact_good i h j l = (
   rw (exact_gains i j h l, exact_diagonal j l) (exact (pos 1024 *ℤ solve_column (exact_form base) i j)),
   rw (exact_gains i j h l, exact_diagonal j l) (exact (pos 1024 *ℤ solve_column (exact_form base) i j)),
@@ -238,7 +162,7 @@ exact_good i h j l = (
     exact : (z : ℤ) → (pos 2 *ℤ (z -ℤ z)) ≤ℤ pos 16
     exact z = omega (arith, ints)
 
-exact_made : IsDerivedFrom base (exact_form base) 8 controller
+exact_made : IsDerivedFrom base (exact_form base) 8 first_controller
 exact_made = record {
   sizes = sizes;
   rows = record { plan_rows = exact_plan_rows; state_rows = exact_state_rows; bounds = exact_bounds };
@@ -318,24 +242,13 @@ constant_encloses zero h = apart (negsuc 0) 1 (omega arith)
 constant_encloses (suc j) h = absurd (omega arith)
 
 plan_encloses : (i j : ℕ) → i < 3 → j < 1 → IsWithin (pos (4 * plan_radius i j)) (pos (2 ^ 42) *ℤ (condensed_of base).by_plan i j -ℤ pos 4 *ℤ rounded_plan i j)
-plan_encloses zero zero h l = apart (negsuc 3) 4 (omega arith)
-plan_encloses (suc zero) zero h l = apart (pos 0) 0 (omega arith)
-plan_encloses (suc (suc zero)) zero h l = apart (pos 0) 0 (omega arith)
-plan_encloses (suc (suc (suc i))) zero h l = absurd (omega arith)
-plan_encloses i (suc j) h l = absurd (omega arith)
+plan_encloses = three_by_one _ (apart (negsuc 3) 4 (omega arith)) (apart (pos 0) 0 (omega arith)) (apart (pos 0) 0 (omega arith))
 
 state_encloses : (i j : ℕ) → i < 3 → j < 1 → IsWithin (pos (4 * state_radius i j)) (pos (2 ^ 42) *ℤ (condensed_of base).by_state i j -ℤ pos 4 *ℤ rounded_state i j)
-state_encloses zero zero h l = apart (pos 0) 0 (omega arith)
-state_encloses (suc zero) zero h l = apart (pos 0) 0 (omega arith)
-state_encloses (suc (suc zero)) zero h l = apart (pos 4) 4 (omega arith)
-state_encloses (suc (suc (suc i))) zero h l = absurd (omega arith)
-state_encloses i (suc j) h l = absurd (omega arith)
+state_encloses = three_by_one _ (apart (pos 0) 0 (omega arith)) (apart (pos 0) 0 (omega arith)) (apart (pos 4) 4 (omega arith))
 
 bounds_same : (i : ℕ) → i < 3 → pos (2 ^ 42) *ℤ (condensed_of base).bound i ≡ pos 4 *ℤ rounded_bound i
-bounds_same zero h = refl
-bounds_same (suc zero) h = refl
-bounds_same (suc (suc zero)) h = refl
-bounds_same (suc (suc (suc i))) h = absurd (omega arith)
+bounds_same = three _ refl refl refl
 
 rounded_form : IsFormFor base rounded
 rounded_form = record {
@@ -359,28 +272,17 @@ rounded_form = record {
 }
 
 -- the same gains and rows
-rounded_plan_rows : (i j : ℕ) → i < 3 → j < 1 → entry_of controller.plan_rows i j ≡ round_of (pos 1024 *ℤ rounded_plan i j) (2 ^ 42)
-rounded_plan_rows zero zero h l = refl
-rounded_plan_rows (suc zero) zero h l = refl
-rounded_plan_rows (suc (suc zero)) zero h l = refl
-rounded_plan_rows (suc (suc (suc i))) zero h l = absurd (omega arith)
-rounded_plan_rows i (suc j) h l = absurd (omega arith)
+rounded_plan_rows : (i j : ℕ) → i < 3 → j < 1 → entry_of first_controller.plan_rows i j ≡ round_of (pos 1024 *ℤ rounded_plan i j) (2 ^ 42)
+rounded_plan_rows = three_by_one _ refl refl refl
 
-rounded_state_rows : (i j : ℕ) → i < 3 → j < 1 → entry_of controller.state_rows i j ≡ round_of (pos 1024 *ℤ rounded_state i j) (2 ^ 42)
-rounded_state_rows zero zero h l = refl
-rounded_state_rows (suc zero) zero h l = refl
-rounded_state_rows (suc (suc zero)) zero h l = refl
-rounded_state_rows (suc (suc (suc i))) zero h l = absurd (omega arith)
-rounded_state_rows i (suc j) h l = absurd (omega arith)
+rounded_state_rows : (i j : ℕ) → i < 3 → j < 1 → entry_of first_controller.state_rows i j ≡ round_of (pos 1024 *ℤ rounded_state i j) (2 ^ 42)
+rounded_state_rows = three_by_one _ refl refl refl
 
-rounded_bounds : (i : ℕ) → i < 3 → at controller.bounds i ≡ round_of (pos 1024 *ℤ rounded_bound i) (2 ^ 42)
-rounded_bounds zero h = refl
-rounded_bounds (suc zero) h = refl
-rounded_bounds (suc (suc zero)) h = refl
-rounded_bounds (suc (suc (suc i))) h = absurd (omega arith)
+rounded_bounds : (i : ℕ) → i < 3 → at first_controller.bounds i ≡ round_of (pos 1024 *ℤ rounded_bound i) (2 ^ 42)
+rounded_bounds = three _ refl refl refl
 
 -- each gain misses its system by less than half the diagonal: at most 12288 of 2^44 + 4
-rounded_good : (i : ℕ) → i < columns rounded → IsGood 1 (solve_matrix rounded) 10 (solve_column rounded i) (gain_column controller i)
+rounded_good : (i : ℕ) → i < columns rounded → IsGood 1 (solve_matrix rounded) 10 (solve_column rounded i) (gain_column first_controller i)
 rounded_good zero h zero l = (omega (arith, ints), omega (arith, ints))
 rounded_good (suc zero) h zero l = (omega (arith, ints), omega (arith, ints))
 rounded_good (suc (suc zero)) h zero l = (omega (arith, ints), omega (arith, ints))
@@ -389,7 +291,7 @@ rounded_good (suc (suc (suc (suc zero)))) h zero l = (omega (arith, ints), omega
 rounded_good (suc (suc (suc (suc (suc i))))) h zero l = absurd (omega arith)
 rounded_good i h (suc j) l = absurd (omega arith)
 
-rounded_made : IsDerivedFrom base rounded 8 controller
+rounded_made : IsDerivedFrom base rounded 8 first_controller
 rounded_made = record {
   sizes = sizes;
   rows = record { plan_rows = rounded_plan_rows; state_rows = rounded_state_rows; bounds = rounded_bounds };
@@ -400,15 +302,15 @@ rounded_made = record {
 
 -- ---- the bounds
 -- by the exact form, over 2^11 and 2^10: multipliers up to 16, a plan up to 27, a gradient up to 2^-10 * 104, and residuals up to 2^-11 * 31
-exact_run : (k : ℕ) → HasErrors base (exact_form base) 8 controller (pos 1 ∷ []) k (stated_errors base (exact_form base) 8 10)
-exact_run k = errors_by base (exact_form base) 8 controller (pos 1 ∷ []) sound (condensing base (omega arith)) (exact_form_sound base (input_floor base) sound) exact_made sized refl inside k
+exact_run : (k : ℕ) → HasErrors base (exact_form base) 8 first_controller (pos 1 ∷ []) k (stated_errors base (exact_form base) 8 10)
+exact_run k = errors_by base (exact_form base) 8 first_controller (pos 1 ∷ []) sound (condensing base (omega arith)) (exact_form_sound base (input_floor base) sound) exact_made sized refl grid_high k
 
 module _ (k : ℕ) where
   abbrev plan : ℤ
-  plan = at (plan_at controller (pos 1 ∷ []) k) 0
+  plan = at (plan_at first_controller (pos 1 ∷ []) k) 0
 
   abbrev multiplier : ℕ → ℤ
-  multiplier i = raised_at controller (pos 1 ∷ []) k i
+  multiplier i = raised_at first_controller (pos 1 ∷ []) k i
 
   multipliers_worked : (i : ℕ) → i < 3 → (pos 0 ≤ℤ multiplier i) × (multiplier i ≤ℤ pos 32768)
   multipliers_worked i h = ((exact_run k).multipliers.low i h, (exact_run k).multipliers.high i h)
@@ -432,17 +334,17 @@ module _ (k : ℕ) where
       pos 1 *ℤ pos 1024 *ℤ pos 1 *ℤ pos 1)) ≡ g *ℤ (pos 4 *ℤ w -ℤ (pos 4 *ℤ u +ℤ pos 3072))
   last_row g w u = by_ring (g ∷ w ∷ u ∷ []) (search quotes depth 90 fits 20000) refl
 
-  residual_worked : IsWithin (pos 124) (pos 2 *ℤ (pos 4 *ℤ used_residual controller (pos 1 ∷ []) k 2 -ℤ (pos 4 *ℤ plan +ℤ pos 3072)))
+  residual_worked : IsWithin (pos 124) (pos 2 *ℤ (pos 4 *ℤ used_residual first_controller (pos 1 ∷ []) k 2 -ℤ (pos 4 *ℤ plan +ℤ pos 3072)))
   residual_worked = within_cancel (pos 4) (pos 124) _ (omega (arith, ints))
-      (within_same refl (last_row (pos 8) (used_residual controller (pos 1 ∷ []) k 2) plan ∙ turn (pos 4 *ℤ used_residual controller (pos 1 ∷ []) k 2 -ℤ (pos 4 *ℤ plan +ℤ pos 3072)))
+      (within_same refl (last_row (pos 8) (used_residual first_controller (pos 1 ∷ []) k 2) plan ∙ turn (pos 4 *ℤ used_residual first_controller (pos 1 ∷ []) k 2 -ℤ (pos 4 *ℤ plan +ℤ pos 3072)))
       ((exact_run k).residuals 2 (omega arith)))
     where
       turn : (z : ℤ) → pos 8 *ℤ z ≡ pos 4 *ℤ (pos 2 *ℤ z)
       turn z = by_ring (z ∷ []) (search quotes depth 60 fits 20000) refl
 
   -- by the form with radii: a plan up to 71, a gradient up to 2^-10 * 155 + 2^-40 * 77, and the last residual up to 2^-11 * 75 + 2^-42
-  rounded_errors : HasErrors base rounded 8 controller (pos 1 ∷ []) k (stated_errors base rounded 8 10)
-  rounded_errors = errors_by base rounded 8 controller (pos 1 ∷ []) sound (condensing base (omega arith)) rounded_form rounded_made sized refl inside k
+  rounded_errors : HasErrors base rounded 8 first_controller (pos 1 ∷ []) k (stated_errors base rounded 8 10)
+  rounded_errors = errors_by base rounded 8 first_controller (pos 1 ∷ []) sound (condensing base (omega arith)) rounded_form rounded_made sized refl grid_high k
 
   rounded_plan_worked : unsigned_abs plan ≤ 72704
   rounded_plan_worked = rounded_errors.plan 0 (omega arith)
@@ -450,5 +352,5 @@ module _ (k : ℕ) where
   rounded_gradient_worked : IsWithin (pos (4 * (2 ^ 40 * 310 + 2048 * 77))) (pos (2 ^ 40) *ℤ (pos 4 *ℤ (pos 8 *ℤ plan +ℤ pos 4096 +ℤ multiplier 0 -ℤ multiplier 1 +ℤ multiplier 2)))
   rounded_gradient_worked = within_same refl (ap (λ (z : ℤ). pos (2 ^ 40) *ℤ z) (slant_worked plan (multiplier 0) (multiplier 1) (multiplier 2))) (rounded_errors.gradient 0 (omega arith))
 
-  rounded_residual_worked : IsWithin (pos (4 * (2 ^ 42 * 75 + 2048))) (pos (2 ^ 43) *ℤ (pos 4 *ℤ used_residual controller (pos 1 ∷ []) k 2 -ℤ (pos 4 *ℤ plan +ℤ pos 3072)))
-  rounded_residual_worked = within_same refl (last_row (pos (2 ^ 43)) (used_residual controller (pos 1 ∷ []) k 2) plan) (rounded_errors.residuals 2 (omega arith))
+  rounded_residual_worked : IsWithin (pos (4 * (2 ^ 42 * 75 + 2048))) (pos (2 ^ 43) *ℤ (pos 4 *ℤ used_residual first_controller (pos 1 ∷ []) k 2 -ℤ (pos 4 *ℤ plan +ℤ pos 3072)))
+  rounded_residual_worked = within_same refl (last_row (pos (2 ^ 43)) (used_residual first_controller (pos 1 ∷ []) k 2) plan) (rounded_errors.residuals 2 (omega arith))

@@ -5,8 +5,7 @@ use Rattle.qp_model.specs.problem.Policy.{Plans}
 use Rattle.qp_model.specs.form.Form.{exact_form}
 use Rattle.qp_model.specs.bounds.Excess.{corner_excess, excess_of, excess_size}
 use Rattle.qp_model.specs.form.FineForm.{fine_form}
-use Rattle.qp_model.proofs.WorkedRow.{base}
-use Rattle.qp_model.proofs.FineWorked.{third}
+use Rattle.trials_definitions.proofs.WorkedDesigns.{base, third, thirds}
 
 -- the plan `first` over `over` at the state 0, `second` over `under` at the state 1
 abbrev plans : (over first under second : ℤ) → Plans
@@ -41,12 +40,6 @@ reference_far : excess_of base (exact_form base) policy (plans (pos 1) (pos 5) (
 reference_far = refl
 
 -- ---- the same in enclosures, of the design whose form has radii
-abbrev thirds : Plans
-thirds = record {
-  denominators = pos 3 ∷ pos 7 ∷ [];
-  numerators = record { rows = (pos 1 ∷ negsuc 1 ∷ []) ∷ (pos 5 ∷ pos 0 ∷ []) ∷ []; cols = 2 };
-}
-
 abbrev ninths : Plans
 ninths = record {
   denominators = pos 5 ∷ pos 9 ∷ [];

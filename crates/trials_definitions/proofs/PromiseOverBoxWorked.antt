@@ -1,5 +1,5 @@
 -- The promise at all states of a box: it is empty where the box has none, it says nothing of a state that is shorter or lies outside, and it tells of each other one.
-use Rattle.std.proofs.Common.{◌≡◌, ℕ, ◌*◌, ◌^◌, ◌<◌, ℤ, pos, ◌+ℤ◌, ◌*ℤ◌, ◌≤ℤ◌, ◌<ℤ◌, List, [], ◌∷◌, refl, arith, false}
+use Rattle.std.proofs.Common.{◌≡◌, ℕ, ◌*◌, ◌^◌, ◌<◌, ℤ, pos, ◌+ℤ◌, ◌*ℤ◌, ◌≤ℤ◌, ◌<ℤ◌, List, [], ◌∷◌, refl, arith}
 use Rattle.std.proofs.lemmas.Int.{ints}
 use Rattle.integer_algebra.specs.Sums.{at, square, none}
 use Rattle.qp_model.specs.problem.Design.{Design, rows}
@@ -10,36 +10,23 @@ use Rattle.qp_model.specs.machine.Machine.{run_of}
 use Rattle.qp_model.specs.machine.ValuesMet.{RunFits}
 use Rattle.qp_model.specs.bounds.Printed.{Printed}
 use Rattle.qp_model.specs.bounds.Certified.{HasFeasible, KeepsBounds, IsCertifiedAt, IsCertified}
-use Rattle.trials_definitions.proofs.ProblemsWorked.{plain, box_low}
-use Rattle.trials_definitions.proofs.RunsWorked.{small}
+use Rattle.trials_definitions.proofs.WorkedDesigns.{plain}
+use Rattle.trials_definitions.proofs.WorkedControllers.{small, least}
+use Rattle.trials_definitions.proofs.ProblemsWorked.{box_low}
 
-abbrev bounds : Printed
-bounds = record {
-  version = 1;
-  margin = pos 1;
-  lean = false;
-  cost = pos 2;
-  multiplier = pos 3;
-  step = 4;
-  steps = 2;
-  bits = 5;
-  width = 4;
-  words = 6;
-  violation = pos 7;
-  row_violations = pos 0 ∷ [];
-  gap = pos 8;
-  undercut = pos 9;
-}
+-- of a word of 4 bits
+abbrev narrow : Printed
+narrow = record least { width = 4 }
 
 -- ---- no state lies in this box
 abbrev empty : Design
 empty = record plain { low = at (pos 1 ∷ pos 1 ∷ []); high = none }
 
-certified_nowhere : IsCertified empty small bounds
+certified_nowhere : IsCertified empty small narrow
 certified_nowhere xi l h = absurd (omega (arith, ints, (h 0 (omega arith)).0, (h 0 (omega arith)).1))
 
 -- ---- the loaded state of the lowest corner, 4 and 8 over 8, doesn't fit a word of 4 bits
-certified_not : IsCertified plain small bounds → ⊥
+certified_not : IsCertified plain small narrow → ⊥
 certified_not h = ((h (pos 1 ∷ pos 2 ∷ []) refl box_low).values.state 1 (pos 0) (omega arith)).high.lt
 
 -- ---- what it tells of a state

@@ -1,6 +1,6 @@
 -- What the words of faults say, tried on worked counts and bytes, also what they don't: a count that stays rose only where it is the greatest, and the
 -- whole is no proper part.
-use Rattle.std.proofs.Common.{◌≡◌, ◌⊎◌, inl, inr, ℕ, ◌+◌, ◌<◌, List, [], ◌∷◌, ◌++◌, length, refl, arith, ap, ◌∙◌, length-append}
+use Rattle.std.proofs.Common.{◌≡◌, inl, inr, ℕ, ◌+◌, List, [], ◌∷◌, ◌++◌, length, refl, arith, ap, ◌∙◌, length-append}
 use Rattle.io_edge.specs.Faults.{Rose, NoneFalls, AreCounts, IsProperPrefix, GrowsByPart}
 
 -- ---- counts
