@@ -9,86 +9,50 @@ use qp_model::{Design, Margin, Policy, Quantity};
 use slater_margin::margins;
 use std::alloc::{AllocError, Global};
 use std::test::Fail;
-use trials_worked_designs::{DESIGN, SATELLITE, design};
+use trials_worked_designs::{Changed, DESIGN, SATELLITE, changed_design};
+
+const FIRST: Changed = (DESIGN, &[]);
 
 // The first design with the box 0 .. 0, and with another limit of the state, at 1 and at 5/4.
-const RESTING: &str = "version = 1
-states = 1
-inputs = 1
-stages = 1
-plant = { den = 1, a = [[1]], b = [[1]] }
-cost = { den = 1, row_den = 1, input = [1], stage = [[1, 0, 1]], final = [] }
-limits = { den = 4, stage = [[0, 4, 4], [0, -4, 4]], final = [[4, 1]] }
-box = { grid = 0, lo = [0], hi = [0] }
-targets = { den = 1, violation = 16, gap = 1 }
-";
+const RESTING: Changed = (DESIGN, &[("hi = [1]", "hi = [0]")]);
 
-const TIGHT: &str = "version = 1
-states = 1
-inputs = 1
-stages = 1
-plant = { den = 1, a = [[1]], b = [[1]] }
-cost = { den = 1, row_den = 1, input = [1], stage = [[1, 0, 1]], final = [] }
-limits = { den = 4, stage = [[0, 4, 4], [0, -4, 4], [4, 0, 4]], final = [[4, 1]] }
-box = { grid = 0, lo = [0], hi = [1] }
-targets = { den = 1, violation = 16, gap = 1 }
-";
+const TIGHT: Changed = (DESIGN, &[("[0, -4, 4]]", "[0, -4, 4], [4, 0, 4]]")]);
 
-const WIDER: &str = "version = 1
-states = 1
-inputs = 1
-stages = 1
-plant = { den = 1, a = [[1]], b = [[1]] }
-cost = { den = 1, row_den = 1, input = [1], stage = [[1, 0, 1]], final = [] }
-limits = { den = 4, stage = [[0, 4, 4], [0, -4, 4], [4, 0, 5]], final = [[4, 1]] }
-box = { grid = 0, lo = [0], hi = [1] }
-targets = { den = 1, violation = 16, gap = 1 }
-";
+const WIDER: Changed = (DESIGN, &[("[0, -4, 4]]", "[0, -4, 4], [4, 0, 5]]")]);
 
 // The first design on a finer grid, where a plan over 2^40 makes its corners' costs too long for exact numbers.
-const FINER: &str = "version = 1
-states = 1
-inputs = 1
-stages = 1
-plant = { den = 1, a = [[1]], b = [[1]] }
-cost = { den = 1, row_den = 1, input = [1], stage = [[1, 0, 1]], final = [] }
-limits = { den = 4, stage = [[0, 4, 4], [0, -4, 4]], final = [[4, 1]] }
-box = { grid = 24, lo = [0], hi = [16777216] }
-targets = { den = 1, violation = 16, gap = 1 }
-";
+const FINER: Changed = (
+    DESIGN,
+    &[("grid = 0", "grid = 24"), ("hi = [1]", "hi = [16777216]")],
+);
 
 // The first design over twenty stages, in each of which the state grows beyond any enclosure.
-const GROWING: &str = "version = 1
-states = 1
-inputs = 1
-stages = 20
-plant = { den = 1, a = [[2147483647]], b = [[1]] }
-cost = { den = 1, row_den = 1, input = [1], stage = [[1, 0, 1]], final = [] }
-limits = { den = 4, stage = [[0, 4, 4], [0, -4, 4]], final = [[4, 1]] }
-box = { grid = 0, lo = [0], hi = [1] }
-targets = { den = 1, violation = 16, gap = 1 }
-";
+const GROWING: Changed = (
+    DESIGN,
+    &[
+        ("stages = 1", "stages = 20"),
+        ("a = [[1]]", "a = [[2147483647]]"),
+    ],
+);
+
+const AXIS: Changed = (SATELLITE, &[]);
 
 // The satellite's axis over ten stages and the finest denominator: too long for exact numbers.
-const LONGER: &str = "version = 1
-states = 2
-inputs = 1
-stages = 10
-plant = { den = 65536, a = [[65536, 32768], [0, 65536]], b = [[8192], [32768]] }
-cost = { den = 1, row_den = 1, input = [1], stage = [[1, 0, 0, 1], [0, 1, 0, 1]], final = [] }
-[limits]
-den = 1
-stage = [[0, 0, 1, 4], [0, 0, -1, 4], [1, 0, 0, 16], [-1, 0, 0, 16], [0, 1, 0, 2], [0, -1, 0, 2]]
-final = [[1, 0, 16], [-1, 0, 16], [0, 1, 2], [0, -1, 2]]
-[box]
-grid = 4
-lo = [-64, -16]
-hi = [64, 16]
-[targets]
-den = 1
-violation = 16
-gap = 1
-";
+const LONGER: Changed = (
+    SATELLITE,
+    &[
+        ("stages = 5", "stages = 10"),
+        (
+            "den = 8\na = [[8, 4], [0, 8]]\nb = [[1], [4]]",
+            "den = 65536\na = [[65536, 32768], [0, 65536]]\nb = [[8192], [32768]]",
+        ),
+        (
+            "[1, 0, 0, 8], [-1, 0, 0, 8]",
+            "[1, 0, 0, 16], [-1, 0, 0, 16]",
+        ),
+        ("[1, 0, 8], [-1, 0, 8]", "[1, 0, 16], [-1, 0, 16]"),
+    ],
+);
 
 // A plan for each corner of the first design's box, of the satellite's, of that over ten stages, and of the growing one's.
 const PLANS: &[u8] = b"1,0\n8,-7\n";
@@ -134,25 +98,25 @@ fn is_margin_with(
     is_margin_of(alloc, design, &policy, want)
 }
 
-// The same of a design's text.
+// The same of a changed text.
 fn is_margin(
     alloc: Global,
-    text: &str,
+    changed: Changed,
     plans: &[u8],
     want: &Result<Margin, MarginFault>,
 ) -> Result<bool, Fail> {
-    let design = design(alloc, text)?;
+    let design = changed_design(alloc, changed)?;
     is_margin_with(alloc, &design, plans, want)
 }
 
 // A design, its plans, and the units and the cost of its margin.
-static MARGINS: [(&str, &[u8], i128, i128); 8] = [
-    (DESIGN, PLANS, 8192, 1),
+static MARGINS: [(Changed, &[u8], i128, i128); 8] = [
+    (FIRST, PLANS, 8192, 1),
     // the least margin
-    (DESIGN, b"1,0\n65536,-65535\n", 1, 1),
+    (FIRST, b"1,0\n65536,-65535\n", 1, 1),
     (RESTING, b"1,0\n1,0\n", 16384, 0),
     (WIDER, PLANS, 8192, 1),
-    (SATELLITE, RESTING_PLANS, 65536, 159),
+    (AXIS, RESTING_PLANS, 65536, 159),
     // The corners of these are run in enclosures.
     (
         FINER,
@@ -167,8 +131,8 @@ static MARGINS: [(&str, &[u8], i128, i128); 8] = [
 
 #[test]
 fn corners(rt: HostRuntime) -> Result<(), Fail> {
-    for &(text, plans, units, cost) in &MARGINS {
-        assert!(rt; is_margin(rt.alloc(), text, plans, &Ok(Margin { units, cost }))?);
+    for &(changed, plans, units, cost) in &MARGINS {
+        assert!(rt; is_margin(rt.alloc(), changed, plans, &Ok(Margin { units, cost }))?);
     }
     Ok(())
 }
@@ -189,7 +153,7 @@ fn below_the_least(rt: HostRuntime) -> Result<(), Fail> {
     assert!(rt;
         is_margin(
             rt.alloc(),
-            DESIGN,
+            FIRST,
             b"1,0\n131072,-131071\n",
             &no_margin(2, 2, 4, 524288)
         )?

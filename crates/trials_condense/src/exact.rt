@@ -260,7 +260,7 @@ fn wide_of(alloc: Global, design: &Design) -> Result<Option<Quantity>, Fail> {
 
 // The same of a text, with one part of it in another's place.
 fn wide_with(alloc: Global, text: &str, old: &str, new: &str) -> Result<Option<Quantity>, Fail> {
-    let design = changed_design(alloc, text, old, new)?;
+    let design = changed_design(alloc, (text, &[(old, new)]))?;
     wide_of(alloc, &design)
 }
 

@@ -144,7 +144,7 @@ fn wide_of(alloc: Global, design: &Design) -> Result<Option<Quantity>, Fail> {
 
 // The same of `THIRD`, with one part of its text in another's place.
 fn wide_with(alloc: Global, old: &str, new: &str) -> Result<Option<Quantity>, Fail> {
-    let design = changed_design(alloc, THIRD, old, new)?;
+    let design = changed_design(alloc, (THIRD, &[(old, new)]))?;
     wide_of(alloc, &design)
 }
 

@@ -10,46 +10,13 @@ use policy_file::read_policy;
 use qp_model::{Design, Policy, Quantity};
 use std::alloc::{AllocError, Global};
 use std::test::Fail;
-use trials_worked_designs::{DESIGN, design};
+use trials_worked_designs::{Changed, DESIGN, FINE, FINE_STILL, FORCED, changed_design};
 
-// The first worked design at two stages, over denominators so large that its numbers have radii.
-const FINE: &str = "version = 1
-states = 1
-inputs = 1
-stages = 2
-plant = { den = 1048576, a = [[1048577]], b = [[1048573]] }
-cost = { den = 1, row_den = 1, input = [1], stage = [[1, 0, 1]], final = [] }
-limits = { den = 131072, stage = [[0, 131072, 131072], [0, -131072, 131072]], final = [[131072, 32768]] }
-box = { grid = 0, lo = [0], hi = [1] }
-targets = { den = 1, violation = 16, gap = 16 }
-";
-
-// The same, whose state neither grows nor shrinks.
-const FINE_STILL: &str = "version = 1
-states = 1
-inputs = 1
-stages = 2
-plant = { den = 1048576, a = [[1048576]], b = [[1048576]] }
-cost = { den = 1, row_den = 1, input = [1], stage = [[1, 0, 1]], final = [] }
-limits = { den = 131072, stage = [[0, 131072, 131072], [0, -131072, 131072]], final = [[131072, 32768]] }
-box = { grid = 0, lo = [0], hi = [1] }
-targets = { den = 1, violation = 16, gap = 16 }
-";
-
-// A state that stays 0, and an input that is to be far above what costs nothing.
-const FORCED: &str = "version = 1
-states = 1
-inputs = 1
-stages = 1
-plant = { den = 1, a = [[0]], b = [[0]] }
-cost = { den = 1, row_den = 1, input = [1], stage = [], final = [] }
-limits = { den = 10, stage = [[0, -10, -39]], final = [] }
-box = { grid = 0, lo = [0], hi = [0] }
-targets = { den = 1, violation = 16, gap = 1 }
-";
+const FIRST: Changed = (DESIGN, &[]);
 
 // The motor of the examples.
-const MOTOR: &str = "version = 1
+const MOTOR: Changed = (
+    "version = 1
 states = 2
 inputs = 1
 stages = 4
@@ -58,19 +25,20 @@ cost = { den = 4096, row_den = 1, input = [2054], stage = [[11, -7, 0, 50]], fin
 limits = { den = 2, stage = [[0, 0, 1, 14], [0, 0, -1, 14]], final = [] }
 box = { grid = 6, lo = [-512, -1152], hi = [512, 1152] }
 targets = { den = 1, violation = 1, gap = 40 }
-";
+",
+    &[],
+);
 
 // The first worked design with an input before its own, which weighs 100 and moves nothing.
-const WEIGHED: &str = "version = 1
-states = 1
-inputs = 2
-stages = 1
-plant = { den = 1, a = [[1]], b = [[0, 1]] }
-cost = { den = 1, row_den = 1, input = [100, 1], stage = [[1, 0, 1]], final = [] }
-limits = { den = 4, stage = [[0, 0, 4, 4], [0, 0, -4, 4]], final = [[4, 1]] }
-box = { grid = 0, lo = [0], hi = [1] }
-targets = { den = 1, violation = 16, gap = 1 }
-";
+const WEIGHED: Changed = (
+    DESIGN,
+    &[
+        ("inputs = 1", "inputs = 2"),
+        ("b = [[1]]", "b = [[0, 1]]"),
+        ("input = [1]", "input = [100, 1]"),
+        ("[[0, 4, 4], [0, -4, 4]]", "[[0, 0, 4, 4], [0, 0, -4, 4]]"),
+    ],
+);
 
 const PLANS: &[u8] = b"1,0\n8,-7\n";
 
@@ -126,27 +94,27 @@ fn is_excess_with(
     is_excess_of(alloc, &condensed, design, &policy, &reference, want)
 }
 
-// The same of a design's text.
+// The same of a changed text.
 fn is_excess(
     alloc: Global,
-    text: &str,
+    changed: Changed,
     plans: &[u8],
     references: &[u8],
     want: &Result<i128, ExcessFault>,
 ) -> Result<bool, Fail> {
-    let design = design(alloc, text)?;
+    let design = changed_design(alloc, changed)?;
     is_excess_with(alloc, &design, plans, references, want)
 }
 
 // A design, its plans, reference plans and the excess that they show.
-static EXCESSES: [(&str, &[u8], &[u8], i128); 11] = [
+static EXCESSES: [(Changed, &[u8], &[u8], i128); 11] = [
     // The best plans, and worse ones.
-    (DESIGN, PLANS, b"1,0\n2,-1\n", 18432),
-    (DESIGN, PLANS, b"1,0\n1,-1\n", 51200),
-    (DESIGN, PLANS, b"1,0\n4,-3\n", 26624),
-    (DESIGN, PLANS, b"1,5\n1,-7\n", 5556224),
+    (FIRST, PLANS, b"1,0\n2,-1\n", 18432),
+    (FIRST, PLANS, b"1,0\n1,-1\n", 51200),
+    (FIRST, PLANS, b"1,0\n4,-3\n", 26624),
+    (FIRST, PLANS, b"1,5\n1,-7\n", 5556224),
     // The policy itself: its own gradient alone is counted.
-    (DESIGN, PLANS, PLANS, 36864),
+    (FIRST, PLANS, PLANS, 36864),
     (FINE, FINE_PLANS, b"1,0,0\n5,-3,-1\n", 12904),
     (FINE_STILL, FINE_PLANS, b"1,0,0\n5,-3,-1\n", 12903),
     (WEIGHED, WEIGHED_PLANS, b"1,0,0\n1,0,-1\n", 51200),
@@ -157,8 +125,8 @@ static EXCESSES: [(&str, &[u8], &[u8], i128); 11] = [
 
 #[test]
 fn excesses(rt: HostRuntime) -> Result<(), Fail> {
-    for &(text, plans, references, excess) in &EXCESSES {
-        assert!(rt; is_excess(rt.alloc(), text, plans, references, &Ok(excess))?);
+    for &(changed, plans, references, excess) in &EXCESSES {
+        assert!(rt; is_excess(rt.alloc(), changed, plans, references, &Ok(excess))?);
     }
     Ok(())
 }
@@ -171,7 +139,7 @@ fn too_wide(rt: HostRuntime) -> Result<(), Fail> {
     assert!(rt;
         is_excess(
             rt.alloc(),
-            DESIGN,
+            FIRST,
             PLANS,
             b"1,0\n1,-999999999999999\n",
             &want

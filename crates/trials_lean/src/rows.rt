@@ -9,48 +9,33 @@ use policy_file::read_policy;
 use qp_model::{Bounds, Design, Policy, Quantity};
 use std::alloc::{AllocError, Global};
 use std::test::Fail;
-use trials_worked_designs::{DESIGN, LEAN_CONTROLLER, changed_design, design};
+use trials_worked_designs::{
+    Changed, DESIGN, FINE, FINE_STILL, FORCED, LEAN_CONTROLLER, changed_design, design,
+};
 
-// The first worked design at two stages, over denominators so large that its numbers have radii.
-const FINE: &str = "version = 1
-states = 1
-inputs = 1
-stages = 2
-plant = { den = 1048576, a = [[1048577]], b = [[1048573]] }
-cost = { den = 1, row_den = 1, input = [1], stage = [[1, 0, 1]], final = [] }
-limits = { den = 131072, stage = [[0, 131072, 131072], [0, -131072, 131072]], final = [[131072, 32768]] }
-box = { grid = 0, lo = [0], hi = [1] }
-targets = { den = 1, violation = 16, gap = 1 }
-";
+const WORKED: Changed = (DESIGN, &[]);
 
-// The plan without limits breaks the row by 3.9, which the violation's target lets it.
-const THRESHOLD: &str = "version = 1
-states = 1
-inputs = 1
-stages = 1
-plant = { den = 1, a = [[0]], b = [[0]] }
-cost = { den = 1, row_den = 1, input = [1], stage = [], final = [] }
-limits = { den = 10, stage = [[0, -10, -39]], final = [] }
-box = { grid = 0, lo = [0], hi = [0] }
-targets = { den = 1, violation = 16, gap = 1 }
-";
+// With targets that take more steps.
+const CLOSER: Changed = (
+    DESIGN,
+    &[(
+        "den = 1\nviolation = 16\ngap = 1\n",
+        "den = 10\nviolation = 1\ngap = 10\n",
+    )],
+);
 
 // The first worked design in the second version of the format, in which each row has a step exponent of its own.
-const SECOND: &str = "version = 2
-states = 1
-inputs = 1
-stages = 1
-plant = { den = 1, a = [[1]], b = [[1]] }
-cost = { den = 1, row_den = 1, input = [1], stage = [[1, 0, 1]], final = [] }
-limits = { den = 4, stage = [[0, 4, 4], [0, -4, 4]], final = [[4, 1]] }
-box = { grid = 0, lo = [0], hi = [1] }
-targets = { den = 1, violation = 1, gap = 1 }
-";
+const SECOND: Changed = (
+    DESIGN,
+    &[
+        ("version = 1", "version = 2"),
+        ("violation = 16", "violation = 1"),
+    ],
+);
 
 // What is expected of a controller and its bounds.
 struct Row {
-    // What is changed in the design: the first of these into the second.
-    change: (&'static str, &'static str),
+    design: Changed<'static>,
     policy: &'static [u8],
     reference: &'static [u8],
     // The margin, the excess, R, the violation, the gap and the undercut.
@@ -122,8 +107,8 @@ fn is_row(answer: Result<Made, Refusal>, row: &Row) -> bool {
 }
 
 // Whether those of a design are.
-fn is_row_of(alloc: Global, text: &str, row: &Row) -> Result<bool, Fail> {
-    let design = changed_design(alloc, text, row.change.0, row.change.1)?;
+fn is_row_of(alloc: Global, row: &Row) -> Result<bool, Fail> {
+    let design = changed_design(alloc, row.design)?;
     let answer = lean_of(alloc, &design, row.policy, row.reference)?;
     Ok(is_row(answer, row))
 }
@@ -134,53 +119,47 @@ const BEST: &[u8] = b"1,0\n2,-1\n";
 
 static FIRST: [Row; 3] = [
     Row {
-        change: ("", ""),
+        design: WORKED,
         policy: PLANS,
         reference: BEST,
         bounds: [8192, 18432, 1, 11150808842240, 311385128960, 17592186044416],
         sizes: [1, 1, 6, 16, 6],
         clamp: 256,
-        rows: &[11150808842240, 11150808842240, 11150808842240],
+        rows: &[11150808842240; 3],
     },
     // Targets that take more steps.
     Row {
-        change: (
-            "den = 1\nviolation = 16\ngap = 1\n",
-            "den = 10\nviolation = 1\ngap = 10\n",
-        ),
+        design: CLOSER,
         policy: PLANS,
         reference: BEST,
         bounds: [8192, 18432, 2, 107726302604, 6442582016, 219902325554],
         sizes: [1, 86, 13, 30, 6],
         clamp: 65536,
-        rows: &[107726302604, 107726302604, 107726302604],
+        rows: &[107726302604; 3],
     },
     // Reference plans that show less.
     Row {
-        change: (
-            "den = 1\nviolation = 16\ngap = 1\n",
-            "den = 10\nviolation = 1\ngap = 10\n",
-        ),
+        design: CLOSER,
         policy: PLANS,
         reference: b"1,0\n1,-1\n",
         bounds: [8192, 51200, 4, 107522022222, 8858402816, 439804651108],
         sizes: [1, 171, 14, 33, 6],
         clamp: 262144,
-        rows: &[107522022222, 107522022222, 107522022222],
+        rows: &[107522022222; 3],
     },
 ];
 
 #[test]
 fn first(rt: HostRuntime) -> Result<(), Fail> {
     for row in &FIRST {
-        assert!(rt; is_row_of(rt.alloc(), DESIGN, row)?);
+        assert!(rt; is_row_of(rt.alloc(), row)?);
     }
     Ok(())
 }
 
 // Rows with step exponents of their own.
 static OWN: Row = Row {
-    change: ("", ""),
+    design: SECOND,
     policy: PLANS,
     reference: BEST,
     bounds: [8192, 18432, 1, 1008904595047, 38688260096, 1099511627776],
@@ -191,13 +170,13 @@ static OWN: Row = Row {
 
 #[test]
 fn own_exponents(rt: HostRuntime) -> Result<(), Fail> {
-    assert!(rt; is_row_of(rt.alloc(), SECOND, &OWN)?);
+    assert!(rt; is_row_of(rt.alloc(), &OWN)?);
     Ok(())
 }
 
 // What the violation's target lets the plan break.
 static WITHIN: Row = Row {
-    change: ("", ""),
+    design: FORCED,
     policy: b"100,391\n100,391\n",
     reference: b"1,0\n1,0\n",
     bounds: [
@@ -215,51 +194,36 @@ static WITHIN: Row = Row {
 
 #[test]
 fn threshold(rt: HostRuntime) -> Result<(), Fail> {
-    assert!(rt; is_row_of(rt.alloc(), THRESHOLD, &WITHIN)?);
+    assert!(rt; is_row_of(rt.alloc(), &WITHIN)?);
     Ok(())
 }
 
 // Numbers that have radii, and such whose radii are 0.
 static RADII: [Row; 2] = [
     Row {
-        change: ("", ""),
+        design: FINE,
         policy: b"1,0,0\n8,-7,0\n",
         reference: b"1,0,0\n5,-3,-1\n",
         bounds: [8191, 12904, 1, 11108815470593, 227398385665, 17592186044416],
         sizes: [1, 1, 8, 20, 10],
         clamp: 1024,
-        rows: &[
-            11108815470593,
-            11108815470593,
-            11108815470593,
-            11108815470593,
-            11108815470593,
-        ],
+        rows: &[11108815470593; 5],
     },
     Row {
-        change: (
-            "a = [[1048577]], b = [[1048573]]",
-            "a = [[1048576]], b = [[1048576]]",
-        ),
+        design: FINE_STILL,
         policy: b"1,0,0\n8,-7,0\n",
         reference: b"1,0,0\n5,-3,-1\n",
         bounds: [8192, 12903, 1, 11111684374528, 233136193536, 17592186044416],
         sizes: [1, 1, 8, 20, 10],
         clamp: 1024,
-        rows: &[
-            11111684374528,
-            11111684374528,
-            11111684374528,
-            11111684374528,
-            11111684374528,
-        ],
+        rows: &[11111684374528; 5],
     },
 ];
 
 #[test]
 fn radii(rt: HostRuntime) -> Result<(), Fail> {
     for row in &RADII {
-        assert!(rt; is_row_of(rt.alloc(), FINE, row)?);
+        assert!(rt; is_row_of(rt.alloc(), row)?);
     }
     Ok(())
 }

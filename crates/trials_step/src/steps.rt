@@ -9,7 +9,9 @@ use plant_condense::condense;
 use qp_model::{Design, Quantity};
 use std::alloc::{AllocError, Global};
 use std::test::Fail;
-use trials_worked_designs::{DESIGN, SATELLITE, changed_design, design, has_rows};
+use trials_worked_designs::{
+    Changed, DESIGN, FINE_STILL, LIMITS, SATELLITE, changed_design, changed_text, has_rows,
+};
 
 // 2^126
 const MOST: i128 = 85070591730234615865843651857942052864;
@@ -195,91 +197,96 @@ fn exponents_of(
     answer(curvature(alloc, &condensed))
 }
 
-fn exponents(alloc: Global, text: &str) -> Result<Result<StepExponents, CurvatureFault>, Fail> {
-    let design = design(alloc, text)?;
+fn exponents(
+    alloc: Global,
+    changed: Changed,
+) -> Result<Result<StepExponents, CurvatureFault>, Fail> {
+    let design = changed_design(alloc, changed)?;
     exponents_of(alloc, &design)
 }
 
-// The same with one part of the text in another's place.
-fn exponents_with(
-    alloc: Global,
-    text: &str,
-    old: &str,
-    new: &str,
-) -> Result<Result<StepExponents, CurvatureFault>, Fail> {
-    let design = changed_design(alloc, text, old, new)?;
-    exponents_of(alloc, &design)
-}
+const FIRST: Changed = (DESIGN, &[]);
+
+// With one limit row, which is steep, and which is too steep.
+const STEEP: Changed = (
+    DESIGN,
+    &[(
+        LIMITS,
+        "den = 1\nstage = [[0, 1400000, 1400000]]\nfinal = []",
+    )],
+);
+
+const STEEPER: Changed = (
+    DESIGN,
+    &[(
+        LIMITS,
+        "den = 1\nstage = [[0, 1500000, 1500000]]\nfinal = []",
+    )],
+);
+
+// Two stages, where no matrix is dominant, and the certificate is below the number that needs none.
+const CERTIFIED: Changed = (
+    DESIGN,
+    &[
+        ("stages = 1", "stages = 2"),
+        ("a = [[1]]", "a = [[2]]"),
+        (
+            "stage = [[1, 0, 1]]\nfinal = []",
+            "stage = []\nfinal = [[1, 0, 100]]",
+        ),
+        (
+            LIMITS,
+            "den = 1\nstage = [[0, 1, 1], [0, 1, 2], [0, -1, 1]]\nfinal = []",
+        ),
+    ],
+);
+
+const AXIS: Changed = (SATELLITE, &[]);
 
 // Designs, and their exponents.
-static EXPONENTS: [(&str, StepExponents); 5] = [
-    (DESIGN, StepExponents { s: 1, s1: 1 }),
+static EXPONENTS: [(Changed, StepExponents); 5] = [
+    (FIRST, StepExponents { s: 1, s1: 1 }),
     // the most
     (STEEP, StepExponents { s: 40, s1: 40 }),
     (CERTIFIED, StepExponents { s: 2, s1: 3 }),
-    (SATELLITE, StepExponents { s: 1, s1: 1 }),
-    (FINE, StepExponents { s: 1, s1: 1 }),
+    (AXIS, StepExponents { s: 1, s1: 1 }),
+    // Denominators at their greatest: the matrices of the exact numbers would be above the limit.
+    (FINE_STILL, StepExponents { s: 1, s1: 1 }),
 ];
 
 #[test]
 fn worked_exponents(rt: HostRuntime) -> Result<(), Fail> {
-    for &(text, want) in &EXPONENTS {
-        assert!(rt; exponents(rt.alloc(), text)? == Ok(want));
+    for &(changed, want) in &EXPONENTS {
+        assert!(rt; exponents(rt.alloc(), changed)? == Ok(want));
     }
     Ok(())
 }
 
 #[test]
 fn no_step(rt: HostRuntime) -> Result<(), Fail> {
-    let found = exponents_with(rt.alloc(), STEEP, "1400000, 1400000", "1500000, 1500000")?;
+    let found = exponents(rt.alloc(), STEEPER)?;
     assert!(rt; found == Err(CurvatureFault::NoStep));
     Ok(())
+}
+
+// The same with one part of a text in another's place.
+fn exponents_with(
+    alloc: Global,
+    text: &str,
+    old: &str,
+    new: &str,
+) -> Result<Result<StepExponents, CurvatureFault>, Fail> {
+    exponents(alloc, (text, &[(old, new)]))
 }
 
 // The numbers of the enclosures are above the limit too, by `scripts/common/sizes.py`.
 #[test]
 fn too_wide(rt: HostRuntime) -> Result<(), Fail> {
-    let old = "den = 1, row_den = 1, input = [1], stage = [[1, 0, 1]]";
-    let new = "den = 1048576, row_den = 1, input = [1], stage = [[1, 0, 16777216]]";
+    let old = "den = 1\nrow_den = 1\ninput = [1]\nstage = [[1, 0, 1]]";
+    let new = "den = 1048576\nrow_den = 1\ninput = [1]\nstage = [[1, 0, 16777216]]";
+    let fine = changed_text(rt.alloc(), FINE_STILL)?;
+    let found = exponents_with(rt.alloc(), &fine, old, new)?;
     let quantity = Quantity::Curvature;
-    assert!(rt;
-        exponents_with(rt.alloc(), FINE, old, new)? == Err(CurvatureFault::TooWide { quantity })
-    );
+    assert!(rt; found == Err(CurvatureFault::TooWide { quantity }));
     Ok(())
 }
-
-// The first design with one limit row, which is steep.
-const STEEP: &str = "version = 1
-states = 1
-inputs = 1
-stages = 1
-plant = { den = 1, a = [[1]], b = [[1]] }
-cost = { den = 1, row_den = 1, input = [1], stage = [[1, 0, 1]], final = [] }
-limits = { den = 1, stage = [[0, 1400000, 1400000]], final = [] }
-box = { grid = 0, lo = [0], hi = [1] }
-targets = { den = 1, violation = 16, gap = 16 }
-";
-
-// Two stages, where no matrix is dominant, and the certificate is below the number that needs none.
-const CERTIFIED: &str = "version = 1
-states = 1
-inputs = 1
-stages = 2
-plant = { den = 1, a = [[2]], b = [[1]] }
-cost = { den = 1, row_den = 1, input = [1], stage = [], final = [[1, 0, 100]] }
-limits = { den = 1, stage = [[0, 1, 1], [0, 1, 2], [0, -1, 1]], final = [] }
-box = { grid = 0, lo = [0], hi = [1] }
-targets = { den = 1, violation = 16, gap = 16 }
-";
-
-// Denominators at their greatest: the matrices of the exact numbers would be above the limit.
-const FINE: &str = "version = 1
-states = 1
-inputs = 1
-stages = 2
-plant = { den = 1048576, a = [[1048576]], b = [[1048576]] }
-cost = { den = 1, row_den = 1, input = [1], stage = [[1, 0, 1]], final = [] }
-limits = { den = 131072, stage = [[0, 131072, 131072], [0, -131072, 131072]], final = [[131072, 32768]] }
-box = { grid = 0, lo = [0], hi = [1] }
-targets = { den = 1, violation = 16, gap = 16 }
-";

@@ -5,7 +5,7 @@ use number_text::TextFault;
 use qp_model::DesignParts;
 use std::alloc::{AllocError, Global};
 use std::test::Fail;
-use trials_worked_designs::{DESIGN, changed_design, design};
+use trials_worked_designs::{DESIGN, changed_design, changed_text, design};
 
 // Whether a matrix has this row.
 fn has_row(m: &Mat, i: usize, row: &[i128]) -> bool {
@@ -98,13 +98,8 @@ fn has_sizes(p: &DesignParts, sizes: [usize; 3]) -> bool {
 }
 
 // Whether the first design, with `new` for the first `old`, is one of this version and so many states and stages.
-fn reads_changed(
-    alloc: Global,
-    old: &str,
-    new: &str,
-    sizes: [usize; 3],
-) -> Result<bool, TextFault> {
-    let design = changed_design(alloc, DESIGN, old, new)?;
+fn reads_changed(alloc: Global, old: &str, new: &str, sizes: [usize; 3]) -> Result<bool, Fail> {
+    let design = changed_design(alloc, (DESIGN, &[(old, new)]))?;
     Ok(has_sizes(design.parts(), sizes))
 }
 
@@ -275,9 +270,9 @@ fn fault_of(alloc: Global, bytes: &[u8]) -> Result<Option<TextFault>, AllocError
 }
 
 // The same of the first design with one piece of it replaced.
-fn fault_with(alloc: Global, old: &str, new: &str) -> Result<Option<TextFault>, AllocError> {
-    let text = DESIGN.replacen(alloc, old, new, 1)?;
-    fault_of(alloc, text.as_bytes())
+fn fault_with(alloc: Global, old: &str, new: &str) -> Result<Option<TextFault>, Fail> {
+    let text = changed_text(alloc, (DESIGN, &[(old, new)]))?;
+    Ok(fault_of(alloc, text.as_bytes())?)
 }
 
 #[test]

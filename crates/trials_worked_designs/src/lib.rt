@@ -1,10 +1,12 @@
-//! What the tests share: the texts of the worked designs and their controllers, and how they are read and compared.
+//! What the tests share: the texts of the worked designs and their controllers, and how they are changed, read and compared.
 #![tactic(auto)]
 
+mod changes;
 mod designs;
 mod matrices;
 mod texts;
 
+pub use changes::{Changed, FINE, FINE_STILL, FORCED, HIGH, LIMITS, changed_text};
 pub use designs::{changed_design, design};
 pub use matrices::has_rows;
 pub use texts::{
