@@ -1,5 +1,4 @@
 // What `serve` answers and prints. The lines of `c s` and `c beyond` are worked rows, and all are those of the model of `checks/fuzz/program.py`.
-use crate::texts::{HIGH, LEFT, RIGHT, SECOND, UNSAFE};
 use command_line::{Command, Status, command_of};
 use command_serve::serve;
 use io_edge::Words;
@@ -7,7 +6,7 @@ use std::alloc::{AllocError, Global};
 use std::test::Fail;
 use trials_memory_edge::{MemSink, MemStore};
 use trials_stores::{Fails, NONE, Program, ends_with, tells_rows};
-use trials_worked_designs::{CONTROLLER, LOW};
+use trials_worked_designs::{CONTROLLER, CONTROLLER_OF_TWO, Changed, HIGH, LOW, changed_text};
 
 // `serve` alone.
 struct Serving;
@@ -21,18 +20,42 @@ impl Program for Serving {
     }
 }
 
+// The controller of the first worked design, and that of its state 0 alone.
+const WHOLE: Changed = (CONTROLLER, &[]);
+
+const LOWER: Changed = (LOW, &[]);
+
+// That of its state 1 alone, of version 2 by exponents of its own.
+const SECOND: Changed = (
+    CONTROLLER,
+    &[
+        ("mpc-controller 1", "mpc-controller 2"),
+        ("words 6\n", "words 6\nexps 1 1 0\n"),
+        ("lo 0\n", "lo 1\n"),
+    ],
+);
+
+// A controller of the design's whole box, of which a sum has no room in its width.
+const UNSAFE: Changed = (CONTROLLER, &[("W 256", "W 512")]);
+
+// The controller of two states, with a part of its box.
+const LEFT: Changed = (CONTROLLER_OF_TWO, &[("hi 16 5", "hi -1 5")]);
+
+// And with the other part.
+const RIGHT: Changed = (CONTROLLER_OF_TWO, &[("lo -16 -3", "lo 0 -3")]);
+
 // Texts of cells: a name, the first line, and the controllers. All cells of `over`, `turned` and `three` but the first hold a state that another holds.
-static CELLS: [(&str, &str, [&str; 3]); 10] = [
-    ("c", "mpc-cells 2\n", [LOW, HIGH, ""]),
-    ("over", "mpc-cells 2\n", [LOW, CONTROLLER, ""]),
-    ("turned", "mpc-cells 2\n", [CONTROLLER, LOW, ""]),
-    ("mixed", "mpc-cells 2\n", [LOW, SECOND, ""]),
-    ("three", "mpc-cells 3\n", [LOW, HIGH, CONTROLLER]),
-    ("unsafe", "mpc-cells 3\n", [LOW, HIGH, UNSAFE]),
-    ("unlike", "mpc-cells 2\n", [LOW, LEFT, ""]),
-    ("cut", "mpc-cells 3\n", [LOW, HIGH, ""]),
-    ("more", "mpc-cells 1\n", [LOW, HIGH, ""]),
-    ("pairs", "mpc-cells 2\n", [LEFT, RIGHT, ""]),
+static CELLS: [(&str, &str, &[Changed]); 10] = [
+    ("c", "mpc-cells 2\n", &[LOWER, HIGH]),
+    ("over", "mpc-cells 2\n", &[LOWER, WHOLE]),
+    ("turned", "mpc-cells 2\n", &[WHOLE, LOWER]),
+    ("mixed", "mpc-cells 2\n", &[LOWER, SECOND]),
+    ("three", "mpc-cells 3\n", &[LOWER, HIGH, WHOLE]),
+    ("unsafe", "mpc-cells 3\n", &[LOWER, HIGH, UNSAFE]),
+    ("unlike", "mpc-cells 2\n", &[LOWER, LEFT]),
+    ("cut", "mpc-cells 3\n", &[LOWER, HIGH]),
+    ("more", "mpc-cells 1\n", &[LOWER, HIGH]),
+    ("pairs", "mpc-cells 2\n", &[LEFT, RIGHT]),
 ];
 
 // Files of states.
@@ -71,15 +94,24 @@ serve s s: error 11 controller 1 line 1
 serve c p: error 5 text 2 fields 1
 ";
 
-// Holds a text of cells.
+// A text of cells.
+fn cells_text(alloc: Global, head: &str, cells: &[Changed]) -> Result<String, Fail> {
+    let mut text = String::from_str(alloc, head)?;
+    for &cell in cells {
+        text.push_str(&changed_text(alloc, cell)?)?;
+    }
+    text.push_str("end\n")?;
+    Ok(text)
+}
+
+// Holds it.
 fn hold_cells(
     alloc: Global,
     store: &mut MemStore,
-    file: &(&str, &str, [&str; 3]),
-) -> Result<(), AllocError> {
-    let (name, head, [one, two, three]) = *file;
-    let text = format!(in alloc; "{head}{one}{two}{three}end\n")?;
-    store.hold(name, text.as_bytes())
+    &(name, head, cells): &(&str, &str, &[Changed]),
+) -> Result<(), Fail> {
+    let text = cells_text(alloc, head, cells)?;
+    Ok(store.hold(name, text.as_bytes())?)
 }
 
 // Holds a file of one byte more than one of states may have. One of cells may have more.
@@ -89,7 +121,7 @@ fn hold_large(alloc: Global, store: &mut MemStore) -> Result<(), AllocError> {
 }
 
 // A store with all these files.
-fn given(alloc: Global) -> Result<MemStore, AllocError> {
+fn given(alloc: Global) -> Result<MemStore, Fail> {
     let mut store = MemStore::empty(alloc);
     for file in &CELLS {
         hold_cells(alloc, &mut store, file)?;
@@ -102,9 +134,9 @@ fn given(alloc: Global) -> Result<MemStore, AllocError> {
 }
 
 // Whether each row's arguments tell what they are to.
-fn are_all_right(alloc: Global) -> Result<bool, AllocError> {
+fn are_all_right(alloc: Global) -> Result<bool, Fail> {
     let mut store = given(alloc)?;
-    tells_rows::<Serving>(alloc, &mut store, ANSWERS)
+    Ok(tells_rows::<Serving>(alloc, &mut store, ANSWERS)?)
 }
 
 #[test]
@@ -120,10 +152,10 @@ fn is_cut(
     put: usize,
     line: &str,
     printed: &str,
-) -> Result<bool, AllocError> {
+) -> Result<bool, Fail> {
     let mut store = given(alloc)?;
     let fails = Fails { put, ..NONE };
-    ends_with::<Serving>(alloc, arguments, &mut store, &fails, line, printed)
+    Ok(ends_with::<Serving>(alloc, arguments, &mut store, &fails, line, printed)?)
 }
 
 #[test]
