@@ -1,49 +1,38 @@
--- What code reads of a counted cost row and of a limit row's bound, at the row's place.
-use Rattle.std.proofs.Common.{◌≡◌, ℕ, ◌+◌, ◌-◌, ◌*◌, ◌%◌, ◌<◌, ◌≤◌, ℤ, List, [], length, arith, sym, ◌∙◌, refl, Bool, true, false, if◌then◌else◌, ◌==◌}
-use Rattle.std.specs.Prelude.{Vec}
+-- How many rows a design has, and that its numbers are small.
+use Rattle.std.proofs.Common.{◌≡◌, ℕ, ◌+◌, ◌*◌, ◌^◌, ◌<◌, ◌≤◌, ℤ, pos, ◌*ℤ◌, List, [], length, arith, refl}
+use Rattle.std.specs.Prelude.{Vec, unsigned_abs}
 use Rattle.std.specs.declared.alloc.Global.{Global}
-use Rattle.std.proofs.lemmas.Bool.{lt-ltb, le-ltb}
+use Rattle.std.proofs.lemmas.Int.{ints}
 use Rattle.mat_int.specs.Lines.{lists}
-use Rattle.mat_int.specs.Matrix.{entry_of}
 use Rattle.qp_model.specs.declared.design_parts.DesignParts.{DesignParts}
-use Rattle.qp_model.specs.problem.Design.{CostRow}
-use Rattle.qp_model.specs.problem.Parts.{design_of, cost_row, IsDesign}
-use Rattle.qp_model.specs.problem.Runs.{counted, bound_at}
-use Rattle.qp_model.proofs.CountLaws.{counted_stage, counted_final}
+use Rattle.qp_model.specs.problem.Parts.{design_of, IsDesign}
+use Rattle.qp_model.specs.problem.Runs.{counts, Holds}
+use Rattle.qp_model.proofs.CountLaws.{counted_all}
+use Rattle.qp_model.proofs.TableLaws.{entry_small}
+use Rattle.condensed_form.specs.Costs.{weight_of}
 use Rattle.condensed_form.specs.Lists.{HoldsRows}
-
--- a design has few states
-pub states_room : (p : DesignParts) → IsDesign p → p.states ≤ 6
-states_room p h = few (p.version == 1) p.states h.states.1
-  where
-    few : (b : Bool) (n : ℕ) → n ≤ (if b then 4 else 6) → n ≤ 6
-    few true n h = omega (arith, h)
-    few false n h = h
+use Rattle.condensed_form.proofs.Pushes.{holds_to}
+use Rattle.condensed_form.proofs.RowFacts.{stages_room}
 
 -- no rows yet
 pub no_rows : (vs : List (Vec ℤ Global)) (n : ℕ) (f : ℕ → ℕ → ℤ) → vs ≡ [] → HoldsRows (lists vs) 0 n f
 no_rows vs n f e = rw e (record { long = refl; row = λ k l. absurd (omega arith) })
 
--- ---- a number of a counted cost row
-module _ (p : DesignParts) (f : CostRow → ℤ) (c rows : ℕ) (z : ℤ) (e : rows ≡ length p.stage_cost.rows) where
-  pub stage_number : c < p.stages * rows → z ≡ f (cost_row p.stage_cost p.states (c % rows)) → z ≡ counted (design_of p) (λ k r. f r) c
-  stage_number l h =
-      let below : c < p.stages * length p.stage_cost.rows = rw (← e) l in
-      h ∙ rw e (sym (counted_stage (design_of p) (λ k r. f r) c below))
+-- a design has few counted cost rows
+pub costs_few : (p : DesignParts) → IsDesign p → counts (design_of p) ≤ 372
+costs_few p h = omega (arith, stages_room p h (length p.stage_cost.rows) h.stage_cost.rows.1, h.final_cost.rows.1)
 
-  pub final_number : p.stages * rows ≤ c → z ≡ f (cost_row p.final_cost p.states (c - p.stages * rows)) → z ≡ counted (design_of p) (λ k r. f r) c
-  final_number l h =
-      let above : p.stages * length p.stage_cost.rows ≤ c = rw (← e) l in
-      h ∙ rw e (sym (counted_final (design_of p) (λ k r. f r) c above))
+-- a weight times 1 is small
+pub weight_room : (p : DesignParts) → IsDesign p → (c : ℕ) → c < counts (design_of p) → 1 * unsigned_abs (weight_of (design_of p) c) ≤ 2 ^ 126
+weight_room p h c l = omega (arith, small)
+  where
+    small : unsigned_abs (weight_of (design_of p) c) < 2 ^ 31
+    small = counted_all (design_of p) (λ k r. r.weight) (λ z. unsigned_abs z < 2 ^ 31) (λ k r m o. entry_small p.stage_cost r (p.states + 1) h.stage_cost.numbers o)
+        (λ r o. entry_small p.final_cost r (p.states + 1) h.final_cost.numbers o) c l
 
--- ---- the bound of a limit row
-module _ (p : DesignParts) (i limits : ℕ) (z : ℤ) (e : limits ≡ length p.stage_rows.rows) where
-  pub stage_bound : i < p.stages * limits → z ≡ entry_of p.stage_rows (i % limits) (p.states + p.inputs) → z ≡ bound_at (design_of p) i
-  stage_bound l h =
-      let below : i < p.stages * length p.stage_rows.rows = rw (← e) l in
-      h ∙ rw (lt-ltb i (p.stages * length p.stage_rows.rows) below, e) refl
-
-  pub final_bound : p.stages * limits ≤ i → z ≡ entry_of p.final_rows (i - p.stages * limits) p.states → z ≡ bound_at (design_of p) i
-  final_bound l h =
-      let above : p.stages * length p.stage_rows.rows ≤ i = rw (← e) l in
-      h ∙ rw (le-ltb i (p.stages * length p.stage_rows.rows) above, e) refl
+-- a list of numbers times 1 is one of the numbers
+pub once : (xs : List ℤ) (n : ℕ) (f : ℕ → ℤ) → Holds xs n (λ i. pos 1 *ℤ f i) → Holds xs n f
+once xs n f h = holds_to xs n n (λ i. pos 1 *ℤ f i) f h refl (λ i l. one (f i))
+  where
+    one : (z : ℤ) → pos 1 *ℤ z ≡ z
+    one z = omega (arith, ints)

@@ -1,5 +1,5 @@
 -- Lists that hold the values of functions.
-use Rattle.std.specs.Prelude.{◌≡◌, ℕ, zero, suc, ◌+◌, ◌-◌, ◌*◌, ◌^◌, ◌<◌, ◌≤◌, ℤ, pos, List, [], length, get_or, unsigned_abs}
+use Rattle.std.specs.Prelude.{◌≡◌, ℕ, zero, suc, nat_lt, if◌then◌else◌, ◌+◌, ◌-◌, ◌*◌, ◌%◌, ◌^◌, ◌<◌, ◌≤◌, ℤ, pos, List, [], length, get_or, unsigned_abs}
 use Rattle.integer_algebra.specs.Sums.{at}
 use Rattle.mat_int.specs.Matrix.{Matrix, row_of, entry_of, with_entry}
 use Rattle.integer_algebra.specs.Sizes.{product_size}
@@ -80,3 +80,7 @@ pub record HoldsMatrix (m : Matrix) (height width known : ℕ) (f : ℕ → ℕ 
 abbrev pub with_column : ℕ → Matrix → ℕ → List ℤ → Matrix
 with_column zero m j xs = m
 with_column (suc i) m j xs = with_entry (with_column i m j xs) i j (at xs i)
+
+-- a number of each row, where a stage's rows stand once for each stage and the final rows after them: column j of those, column k of these
+abbrev pub stacked : ℕ → Matrix → ℕ → Matrix → ℕ → ℕ → ℤ
+stacked stages m j last k i = if nat_lt i (stages * length m.rows) then entry_of m (i % length m.rows) j else entry_of last (i - stages * length m.rows) k

@@ -8,6 +8,7 @@ mod fault;
 mod limit;
 mod powers;
 mod squares;
+mod stacked;
 mod sums;
 mod weights;
 
@@ -17,5 +18,6 @@ pub use denominators::{bend_floor, least_input, least_of, square_scale};
 pub use fault::CondenseFault;
 pub use limit::{is_curvature_limited, is_lowering_limited, squares_exponent};
 pub use powers::{last_power, powers_of};
+pub use stacked::{cost_count, limit_count};
 pub use sums::{mixed, product, products_of};
 pub use weights::{scaled_targets, target_at, weights_of};

@@ -1,26 +1,12 @@
 // The weights and targets of the counted cost rows: the stage rows of stage 1, of stage 2 and so on, then the final rows.
 ghost use Rattle.std.specs.Prelude.{◌≡◌, ℕ, ◌*◌, ◌^◌, ◌<◌, ◌≤◌, ◌*ℤ◌, IfOk, unsigned_abs};
 ghost use Rattle.qp_model.specs.problem.Parts.{design_of, IsDesign};
-ghost use Rattle.qp_model.specs.problem.Runs.{counted, counts, Holds};
+ghost use Rattle.qp_model.specs.problem.Runs.{counts, Holds};
 ghost use Rattle.condensed_form.specs.Costs.{weight_of, target_of};
 
+use crate::stacked::{number_at, scaled_numbers};
 use qp_model::DesignParts;
 use std::alloc::{AllocError, Global};
-
-// The weight of counted cost row `c`, over `cost_den`.
-fn weight_at(parts: &DesignParts, c: usize) -> i128
-    requires design { IsDesign parts.now }
-    requires row { c < counts (design_of parts.now) }
-    ensures { result ≡ weight_of (design_of parts.now) c }
-{
-    let rows = parts.stage_cost.rows();
-    let stage_rows = parts.stages * rows;
-    if c < stage_rows {
-        parts.stage_cost.at(c % rows, parts.states + 1)
-    } else {
-        parts.final_cost.at(c - stage_rows, parts.states + 1)
-    }
-}
 
 /// The target of counted cost row `c`, over `row_den`.
 pub fn target_at(parts: &DesignParts, c: usize) -> i128
@@ -28,13 +14,8 @@ pub fn target_at(parts: &DesignParts, c: usize) -> i128
     requires row { c < counts (design_of parts.now) }
     ensures { result ≡ target_of (design_of parts.now) c }
 {
-    let rows = parts.stage_cost.rows();
-    let stage_rows = parts.stages * rows;
-    if c < stage_rows {
-        parts.stage_cost.at(c % rows, parts.states)
-    } else {
-        parts.final_cost.at(c - stage_rows, parts.states)
-    }
+    let n = parts.states;
+    number_at(parts.stages, &parts.stage_cost, n, &parts.final_cost, n, c)
 }
 
 /// The weight of each counted cost row, over `cost_den`.
@@ -42,12 +23,16 @@ pub fn weights_of(alloc: Global, parts: &DesignParts) -> Result<Vec<i128>, Alloc
     requires { IsDesign parts.now }
     ensures { IfOk result (λ v. Holds v.items (counts (design_of parts.now)) (weight_of (design_of parts.now))) }
 {
-    let count = parts.stages * parts.stage_cost.rows() + parts.final_cost.rows();
-    let mut out = Vec::new(alloc);
-    for c in 0..count {
-        out.push(weight_at(parts, c))?;
-    }
-    Ok(out)
+    let w = parts.states + 1;
+    scaled_numbers(
+        alloc,
+        parts.stages,
+        &parts.stage_cost,
+        w,
+        &parts.final_cost,
+        w,
+        1,
+    )
 }
 
 /// The target of each counted cost row, which is over `row_den`, times `scale`.
@@ -60,10 +45,14 @@ pub fn scaled_targets(
     requires fits { (c : ℕ) → c < counts (design_of parts.now) → unsigned_abs scale * unsigned_abs (target_of (design_of parts.now) c) ≤ 2 ^ 126 }
     ensures { IfOk result (λ v. Holds v.items (counts (design_of parts.now)) (λ c. scale *ℤ target_of (design_of parts.now) c)) }
 {
-    let count = parts.stages * parts.stage_cost.rows() + parts.final_cost.rows();
-    let mut out = Vec::new(alloc);
-    for c in 0..count {
-        out.push(scale * target_at(parts, c))?;
-    }
-    Ok(out)
+    let n = parts.states;
+    scaled_numbers(
+        alloc,
+        parts.stages,
+        &parts.stage_cost,
+        n,
+        &parts.final_cost,
+        n,
+        scale,
+    )
 }
