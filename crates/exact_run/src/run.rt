@@ -3,7 +3,7 @@ ghost use Rattle.mat_int.specs.Lines.{lists};
 ghost use Rattle.condensed_form.specs.Lists.{IsRunOfRows};
 
 use crate::states::states_of;
-use condensed_form::{mixed, product};
+use condensed_form::{cost_count, limit_count, mixed, product};
 use qp_model::DesignParts;
 use std::alloc::{AllocError, Global};
 
@@ -96,9 +96,8 @@ impl<'a> Run<'a> {
         ensures { IfOk result (λ v.
             Holds v.items (rows (design_of self.now.parts.now)) (row_at (design_of self.now.parts.now) (at self.now.start.now) (at self.now.plan.now))) }
     {
-        let count = self.parts.stages * self.parts.stage_rows.rows() + self.parts.final_rows.rows();
         let mut out = Vec::new(alloc);
-        for i in 0..count {
+        for i in 0..limit_count(self.parts) {
             out.push(self.row(i))?;
         }
         Ok(out)
@@ -137,9 +136,8 @@ impl<'a> Run<'a> {
         ensures { IfOk result (λ v. Holds v.items (counts (design_of self.now.parts.now))
             (counted (design_of self.now.parts.now) (cost_run (design_of self.now.parts.now) (at self.now.start.now) (at self.now.plan.now)))) }
     {
-        let count = self.parts.stages * self.parts.stage_cost.rows() + self.parts.final_cost.rows();
         let mut out = Vec::new(alloc);
-        for c in 0..count {
+        for c in 0..cost_count(self.parts) {
             out.push(self.cost(c))?;
         }
         Ok(out)
