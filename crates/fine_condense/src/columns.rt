@@ -13,7 +13,7 @@ ghost use Rattle.fine_run.specs.Lists.{HoldsEnclosures};
 ghost use Rattle.fine_condense.specs.Lists.{IsRunOfWholes, HoldsEncMatrix, mids, rads};
 
 use crate::units::{run_of_plan, run_of_state, whole};
-use condensed_form::target_at;
+use condensed_form::{cost_count, limit_count, target_at};
 use enclosure::{Enc, EncMat};
 use fine_run::FineRun;
 use qp_model::DesignParts;
@@ -53,9 +53,8 @@ fn targets(alloc: Global, parts: &DesignParts) -> Result<Vec<Enc>, AllocError>
     requires { IsDesign parts.now }
     ensures { IfOk result (λ v. HoldsEnclosures v.items (counts (design_of parts.now)) (λ c. exactly (counted_row (design_of parts.now) c).target)) }
 {
-    let count = parts.stages * parts.stage_cost.rows() + parts.final_cost.rows();
     let mut out = Vec::new(alloc);
-    for c in 0..count {
+    for c in 0..cost_count(parts) {
         out.push(whole(target_at(parts, c)))?;
     }
     Ok(out)
@@ -110,8 +109,7 @@ pub fn cost_columns(alloc: Global, parts: &DesignParts) -> Result<EncMat, AllocE
         IfOk result (λ m. HoldsEncMatrix m.mid m.rad (counts (design_of parts.now)) width width (fine_costs (design_of parts.now))) }
 {
     let width = parts.stages * parts.inputs + parts.states + 1;
-    let count = parts.stages * parts.stage_cost.rows() + parts.final_cost.rows();
-    let mut mat = EncMat::zero(alloc, count, width)?;
+    let mut mat = EncMat::zero(alloc, cost_count(parts), width)?;
     for j in 0..width {
         put_column(&mut mat, j, cost_column(alloc, parts, j))?;
     }
@@ -127,8 +125,7 @@ pub fn fine_plan_columns(alloc: Global, parts: &DesignParts) -> Result<EncMat, A
         IfOk result (λ m. HoldsEncMatrix m.mid m.rad (rows (design_of parts.now)) width width (fine_by_plan (design_of parts.now))) }
 {
     let width = parts.stages * parts.inputs;
-    let count = parts.stages * parts.stage_rows.rows() + parts.final_rows.rows();
-    let mut mat = EncMat::zero(alloc, count, width)?;
+    let mut mat = EncMat::zero(alloc, limit_count(parts), width)?;
     for j in 0..width {
         put_column(&mut mat, j, limits_of(alloc, run_of_plan(alloc, parts, j)))?;
     }
@@ -143,8 +140,7 @@ pub fn fine_state_columns(alloc: Global, parts: &DesignParts) -> Result<EncMat, 
     ensures { IfOk result (λ m. HoldsEncMatrix m.mid m.rad (rows (design_of parts.now)) parts.now.states parts.now.states
         (fine_by_state (design_of parts.now))) }
 {
-    let count = parts.stages * parts.stage_rows.rows() + parts.final_rows.rows();
-    let mut mat = EncMat::zero(alloc, count, parts.states)?;
+    let mut mat = EncMat::zero(alloc, limit_count(parts), parts.states)?;
     for j in 0..parts.states {
         put_column(&mut mat, j, limits_of(alloc, run_of_state(alloc, parts, j)))?;
     }

@@ -5,6 +5,7 @@ ghost use Rattle.qp_model.specs.problem.Parts.{design_of, IsDesign};
 ghost use Rattle.qp_model.specs.form.FineSizes.{fine_reach, fine_rows_size};
 ghost use Rattle.fine_condense.specs.Numbers.{fine_cost_total};
 
+use condensed_form::limit_count;
 use frac_scaled::limited_product;
 use qp_model::{DesignParts, cost_width, limit_width, limited_area, weight_sum};
 
@@ -27,8 +28,7 @@ pub fn fine_rows_size(parts: &DesignParts, reach: u128) -> Option<u128>
     ensures { SomeIff result (fine_rows_size (design_of parts.now) ≤ 2 ^ 126) (fine_rows_size (design_of parts.now)) }
 {
     let entries = parts.stages * parts.inputs;
-    let rows = parts.stages * parts.stage_rows.rows() + parts.final_rows.rows();
-    let count = ((entries + parts.states + 1) * rows) as u128;
+    let count = ((entries + parts.states + 1) * limit_count(parts)) as u128;
     let entry = limited_product(limit_width(parts), reach)?;
     limited_area(count, entry)
 }

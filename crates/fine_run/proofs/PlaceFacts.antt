@@ -1,5 +1,5 @@
 -- Places in lists of all stages, and counts of rows: small, so that they fit a word.
-use Rattle.std.proofs.Common.{◌≡◌, ℕ, ◌+◌, ◌-◌, ◌*◌, ◌/◌, ◌%◌, ◌<◌, ◌≤◌, List, length, Fits, w64, arith, refl, zero, suc}
+use Rattle.std.proofs.Common.{◌≡◌, ℕ, ◌+◌, ◌-◌, ◌*◌, ◌/◌, ◌%◌, ◌<◌, ◌≤◌, List, length, Fits, w64, arith, zero, suc}
 use Rattle.std.proofs.Math.Nat.{mul-le-mul, mul-le-mul_left, div-lt_iff_lt-mul}
 use Rattle.enclosure.specs.declared.types.Enc.{Enc}
 use Rattle.qp_model.specs.declared.design_parts.DesignParts.{DesignParts}
@@ -59,20 +59,13 @@ in_order a n = omega arith
 pub part_ends : (xs lent : List Enc) (k m n : ℕ) → lent ≡ xs → length xs ≡ m * n → k < m → k * n + n ≤ length lent
 part_ends xs lent k m n e long l = rw (e, long) (stage_inside k m n l)
 
--- ---- rows of all stages, and those of the final one
+-- ---- rows of all stages
 module _ (s r n : ℕ) (few : s ≤ 30) (e : r ≡ n) (l : n ≤ 12) where
   stage_rows_few : s * r ≤ 360
   stage_rows_few = let h : r ≤ 12 = omega (arith, e, l) in omega (arith, mul-le-mul few h)
 
   pub stage_rows_fit : Fits w64 (s * r)
   stage_rows_fit = record { fits = omega (arith, stage_rows_few) }
-
-  pub all_rows_fit : (last m : ℕ) → last ≡ m → m ≤ 12 → Fits w64 (s * r + last)
-  all_rows_fit last m f h = record { fits = omega (arith, stage_rows_few) }
-
--- their sum by the matrices' lengths
-pub all_rows_are : (s r n last m : ℕ) → r ≡ n → last ≡ m → s * r + last ≡ s * n + m
-all_rows_are s r n last m e f = rw (e, f) refl
 
 -- the place of a row of a stage
 module _ (i s r : ℕ) (l : i < s * r) where
@@ -105,7 +98,3 @@ final_inside i s r n m e h l = inside (s * r) (rw e l) h
 -- a row has the numbers of the state, and more
 pub row_long : (n more cols long : ℕ) → long ≡ cols → cols ≡ n + more → n ≤ long
 row_long n more cols long e f = omega arith
-
--- of any row
-pub below_all : (i s r n last m : ℕ) → i < s * r + last → r ≡ n → last ≡ m → i < s * n + m
-below_all i s r n last m l e f = rw (← (all_rows_are s r n last m e f)) l

@@ -2,6 +2,7 @@
 ghost use Rattle.fine_run.specs.Lists.{IsFineRunOf};
 
 use crate::states::next_state;
+use condensed_form::{cost_count, limit_count};
 use enclosure::{Enc, add, combine};
 use qp_model::DesignParts;
 use std::alloc::{AllocError, Global};
@@ -154,9 +155,8 @@ impl<'a> FineRun<'a> {
         ensures { IfOk result (λ v. HoldsEnclosures v.items (counts (design_of self.now.parts.now))
             (fine_cost (design_of self.now.parts.now) (pair_at self.now.start.items) (pair_at self.now.plan.items))) }
     {
-        let count = self.parts.stages * self.parts.stage_cost.rows() + self.parts.final_cost.rows();
         let mut out = Vec::new(alloc);
-        for c in 0..count {
+        for c in 0..cost_count(self.parts) {
             out.push(self.cost(c))?;
         }
         Ok(out)
@@ -168,9 +168,8 @@ impl<'a> FineRun<'a> {
         ensures { IfOk result (λ v. HoldsEnclosures v.items (rows (design_of self.now.parts.now))
             (fine_limit (design_of self.now.parts.now) (pair_at self.now.start.items) (pair_at self.now.plan.items))) }
     {
-        let count = self.parts.stages * self.parts.stage_rows.rows() + self.parts.final_rows.rows();
         let mut out = Vec::new(alloc);
-        for i in 0..count {
+        for i in 0..limit_count(self.parts) {
             out.push(self.limit(i))?;
         }
         Ok(out)

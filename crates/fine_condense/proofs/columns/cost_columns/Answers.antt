@@ -3,8 +3,6 @@ use Rattle.qp_model.specs.problem.Parts.{design_of}
 use Rattle.qp_model.specs.problem.Runs.{counts}
 use Rattle.qp_model.specs.form.FineForm.{fine_costs}
 use Rattle.fine_condense.proofs.ColumnFacts.{enclosures_zero, column_inside, all_columns, entries_fit, states_fit, width_fits, column_rows}
-use Rattle.qp_model.proofs.VersionLaws.{design_stages_le}
-use Rattle.fine_run.proofs.PlaceFacts.{stage_rows_fit, all_rows_fit, all_rows_are}
 use Rattle.fine_condense.proofs.columns.cost_columns.Goals as goal
 
 pub loop-j-preserved : goal.loop-j-preserved
@@ -16,7 +14,7 @@ pub loop-j-init : goal.loop-j-init
 loop-j-init c =
     let p = c.args.parts.now in
     enclosures_zero c.in_ok-mat.mat.mid c.in_ok-mat.mat.rad _ (counts (design_of p)) (p.stages * p.inputs + p.states + 1) (fine_costs (design_of p))
-    (all_rows_are p.stages c.rows.result _ c.rows-2.result _ c.rows.ensures.count c.rows-2.ensures.count) c.in_ok-mat.ensures.mid c.in_ok-mat.ensures.rad
+    c.cost_count.ensures c.in_ok-mat.ensures.mid c.in_ok-mat.ensures.rad
 
 pub put_column-requires-clause-rows : goal.put_column-requires-clause-rows
 put_column-requires-clause-rows c =
@@ -42,12 +40,5 @@ overflow_add-width c = states_fit c.args.parts.now c.requires.design
 pub overflow_add-width-2 : goal.overflow_add-width-2
 overflow_add-width-2 c = width_fits c.args.parts.now c.requires.design
 
-pub overflow_mul-count : goal.overflow_mul-count
-overflow_mul-count c =
-    let p = c.args.parts.now in
-    stage_rows_fit p.stages c.rows.result _ (design_stages_le p c.requires.design) c.rows.ensures.count c.requires.design.stage_cost.rows.1
-
-pub overflow_add-count : goal.overflow_add-count
-overflow_add-count c =
-    let p = c.args.parts.now in
-    all_rows_fit p.stages c.rows.result _ (design_stages_le p c.requires.design) c.rows.ensures.count c.requires.design.stage_cost.rows.1 c.rows-2.result _ c.rows-2.ensures.count c.requires.design.final_cost.rows.1
+pub cost_count-requires : goal.cost_count-requires
+cost_count-requires c = c.requires.design

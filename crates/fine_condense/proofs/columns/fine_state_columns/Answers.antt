@@ -4,8 +4,6 @@ use Rattle.qp_model.specs.problem.Parts.{design_of}
 use Rattle.qp_model.specs.problem.Runs.{unit}
 use Rattle.qp_model.specs.form.FineForm.{fine_by_state}
 use Rattle.fine_condense.proofs.ColumnFacts.{enclosures_zero, column_inside, all_columns, column_rows, limits_fit}
-use Rattle.qp_model.proofs.VersionLaws.{design_stages_le}
-use Rattle.fine_run.proofs.PlaceFacts.{stage_rows_fit, all_rows_fit, all_rows_are}
 use Rattle.fine_condense.proofs.columns.fine_state_columns.Goals as goal
 
 pub limits_of-requires : goal.limits_of-requires
@@ -20,7 +18,7 @@ pub loop-j-init : goal.loop-j-init
 loop-j-init c =
     let p = c.args.parts.now in
     enclosures_zero c.in_ok-mat.mat.mid c.in_ok-mat.mat.rad _ (rows (design_of p)) p.states (fine_by_state (design_of p))
-    (all_rows_are p.stages c.rows.result _ c.rows-2.result _ c.rows.ensures.count c.rows-2.ensures.count) c.in_ok-mat.ensures.mid c.in_ok-mat.ensures.rad
+    c.limit_count.ensures c.in_ok-mat.ensures.mid c.in_ok-mat.ensures.rad
 
 pub put_column-requires-clause-rows : goal.put_column-requires-clause-rows
 put_column-requires-clause-rows c =
@@ -37,12 +35,5 @@ returns c =
     let p = c.args.parts.now in
     all_columns c.loop-j.mat.mid c.loop-j.mat.rad (rows (design_of p)) p.states c.loop-j.j p.states (fine_by_state (design_of p)) c.loop-j.auto.j-end c.loop-j-test.false c.loop-j.invariant
 
-pub overflow_mul-count : goal.overflow_mul-count
-overflow_mul-count c =
-    let p = c.args.parts.now in
-    stage_rows_fit p.stages c.rows.result _ (design_stages_le p c.requires.design) c.rows.ensures.count c.requires.design.stage_rows.rows.1
-
-pub overflow_add-count : goal.overflow_add-count
-overflow_add-count c =
-    let p = c.args.parts.now in
-    all_rows_fit p.stages c.rows.result _ (design_stages_le p c.requires.design) c.rows.ensures.count c.requires.design.stage_rows.rows.1 c.rows-2.result _ c.rows-2.ensures.count c.requires.design.final_rows.rows.1
+pub limit_count-requires : goal.limit_count-requires
+limit_count-requires c = c.requires.design

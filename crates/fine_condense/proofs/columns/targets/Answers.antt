@@ -1,4 +1,4 @@
-use Rattle.std.proofs.Common.{rules, ◌≡◌, ℕ, ◌*◌, ◌^◌, ◌<◌, unsigned_abs, arith, ap, subst, ◌∙◌}
+use Rattle.std.proofs.Common.{rules, ◌≡◌, ℕ, ◌^◌, ◌<◌, unsigned_abs, arith, ap, subst, ◌∙◌}
 use Rattle.std.specs.Int.{w128}
 use mir.Val.{SFits}
 use Rattle.std.proofs.lemmas.Int.{to_z-of_z}
@@ -22,14 +22,14 @@ loop-c-preserved c =
 
 pub returns : goal.returns
 returns c =
-    let e : c.loop-c.c ≡ counts (design_of c.args.parts.now) = omega (arith, ap (λ (n : ℕ). c.args.parts.now.stages * n) c.rows.ensures.count, c.rows-2.ensures.count) in
+    let e : c.loop-c.c ≡ counts (design_of c.args.parts.now) = omega (arith, c.cost_count-c-end.ensures) in
     subst (λ (n : ℕ). HoldsEnclosures c.loop-c.out.items n (λ i. exactly (counted_row (design_of c.args.parts.now) i).target)) e c.loop-c.invariant
 
 pub whole-requires : goal.whole-requires
 whole-requires c =
     let p = c.args.parts.now in
     let f : SFits w128 c.target_at.result = search rules in
-    let inside : c.loop-c.c < counts (design_of p) = omega (arith, ap (λ (n : ℕ). p.stages * n) c.rows.ensures.count, c.rows-2.ensures.count, c.loop-c-test.true) in
+    let inside : c.loop-c.c < counts (design_of p) = rw c.cost_count-c-end.ensures at c.loop-c-test.true in
     let small = counted_all (design_of p) (λ k r. r.target) (λ z. unsigned_abs z < 2 ^ 31)
     (λ k r m l. entry_small p.stage_cost r p.states c.requires.stage_cost.numbers l) (λ r l. entry_small p.final_cost r p.states c.requires.final_cost.numbers l) c.loop-c.c inside in
     rw (to_z-of_z w128 _ f, c.target_at.ensures) (omega (arith, small))

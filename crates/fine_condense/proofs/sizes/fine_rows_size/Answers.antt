@@ -18,7 +18,7 @@ pub returns : goal.returns
 returns c =
     let p = c.args.parts.now in let d = design_of p in
     let P : ℕ → Type 0 = λ z. SomeIff c.limited_area.result (z ≤ 2 ^ 126) z in
-    let count : (entries d + p.states + 1) * (p.stages * c.rows.result + c.rows-2.result) ≡ (entries d + p.states + 1) * rows d = rw (c.rows.ensures.count, c.rows-2.ensures.count) refl in
+    let count : (entries d + p.states + 1) * c.limit_count.result ≡ (entries d + p.states + 1) * rows d = rw c.limit_count.ensures refl in
     subst P (sym (rows_value _ ((entries d + p.states + 1) * rows d) c.in_ok-entry.entry (limit_width d) (fine_reach d p.stages) (fine_reach d p.stages)
     count (c.in_ok-entry.ensures.1 ∙ rw (c.limit_width.ensures, c.requires.reach) refl) refl)) c.limited_area.ensures
 

@@ -1,0 +1,19 @@
+use Rattle.fine_condense.proofs.form.form_of.Goals as goal
+
+pub assembled-requires-clause-design : goal.assembled-requires-clause-design
+assembled-requires-clause-design c = c.requires.design
+
+pub assembled-requires-clause-costs : goal.assembled-requires-clause-costs
+assembled-requires-clause-costs c = c.requires.costs
+
+pub assembled-requires-clause-limits : goal.assembled-requires-clause-limits
+assembled-requires-clause-limits c = c.requires.limits
+
+pub assembled-requires-clause-mids : goal.assembled-requires-clause-mids
+assembled-requires-clause-mids c = c.in_ok-off.ensures.mids
+
+pub assembled-requires-clause-rads : goal.assembled-requires-clause-rads
+assembled-requires-clause-rads c = c.in_ok-off.ensures.rads
+
+pub returns : goal.returns
+returns c = c.assembled.ensures
