@@ -1,79 +1,49 @@
--- Unit lists, and matrices filled by columns.
-use Rattle.std.proofs.Common.{◌≡◌, inl, inr, ◌≢◌, All, ℕ, zero, suc, ◌+◌, ◌*◌, ◌^◌, ◌<◌, ◌≤◌, ℤ, pos, List, [], length, set, replicate, below_more, arith, sym, subst, ◌∙◌, refl}
-use mathlib.Core.Path.{fun_ext}
+-- What runs of small numbers fit, and matrices filled by columns.
+use Rattle.std.proofs.Common.{◌≡◌, inl, inr, ◌≢◌, All, ℕ, zero, suc, ◌+◌, ◌*◌, ◌^◌, ◌<◌, ◌≤◌, ℤ, pos, List, [], length, set, replicate, below_more, unsigned_abs, arith, subst, ◌∙◌, refl}
 use Rattle.std.proofs.lemmas.Bool.{cases_eq}
-use Rattle.std.proofs.lemmas.Bool.Decides.{eqb_tells}
 use Rattle.std.proofs.lemmas.List.Elements.{All-get_or}
 use Rattle.std.proofs.lemmas.List.{length-set, length-replicate, get_or-replicate, get_or-set_other, get_or-set_same}
-use Rattle.integer_algebra.specs.Sums.{at, none}
+use Rattle.integer_algebra.specs.Sums.{at}
 use Rattle.mat_int.specs.Matrix.{Matrix, row_of, entry_of, with_entry, zero_matrix}
 use Rattle.qp_model.specs.declared.design_parts.DesignParts.{DesignParts}
 use Rattle.qp_model.specs.problem.Design.{Design}
 use Rattle.qp_model.specs.problem.Parts.{design_of, IsDesign}
 use Rattle.qp_model.specs.form.Quantities.{growth, cost_width, limit_width, response_size, limit_entry_size}
-use Rattle.qp_model.proofs.QuantityLaws.{growth_bound, narrow_costs, narrow, unit_small}
+use Rattle.qp_model.proofs.QuantityLaws.{growth_bound, narrow_costs, narrow}
 use Rattle.qp_model.proofs.SizeFacts.{some_cost, some_limit}
-use Rattle.qp_model.specs.problem.Runs.{unit, Holds}
+use Rattle.qp_model.specs.problem.Runs.{Holds}
 use Rattle.condensed_form.specs.Lists.{HoldsMatrix, with_column, RowsFit, CostsFit, UnitsFit}
 
+-- a number of a list of zeros
 pub zeros : (n i : ℕ) → at (replicate n (pos 0)) i ≡ pos 0
 zeros zero i = refl
 zeros (suc n) zero = refl
 zeros (suc n) (suc i) = zeros n i
 
--- zeros, as a function
-pub at-zeros : (n : ℕ) → at (replicate n (pos 0)) ≡ none
-at-zeros n = fun_ext (zeros n)
-
-unit_at : (n j i : ℕ) → j < n → at (set (replicate n (pos 0)) j (pos 1)) i ≡ unit j i
-unit_at n j i h = elim (eqb_tells j i) [
-  | inl e ↦ rw (e.0, ← e.1) (get_or-set_same (replicate n (pos 0)) j (pos 1) (pos 0) (omega (arith, length-replicate n (pos 0))))
-  | inr e ↦ rw e.0 (get_or-set_other (replicate n (pos 0)) j i (pos 1) (pos 0) (λ f. e.1 (sym f)) ∙ zeros n i)
-]
-
--- one, and zeros elsewhere
-pub at-unit : (n j : ℕ) → j < n → at (set (replicate n (pos 0)) j (pos 1)) ≡ unit j
-at-unit n j h = fun_ext (λ i. unit_at n j i h)
-
 once : (w z t : ℕ) → w * z ≤ t → w * (1 * z) ≤ t
 once w z t h = omega arith
 
--- what units' rows need
-pub plan_fits : (d : Design) → UnitsFit d → (j : ℕ) → RowsFit d none (unit j)
-plan_fits d f j = record {
+-- what rows need of a state and of a plan whose numbers are 1 at most
+pub units_rows_fit : (d : Design) (x v : ℕ → ℤ) → UnitsFit d → ((i : ℕ) → unsigned_abs (x i) ≤ 1) → ((j : ℕ) → unsigned_abs (v j) ≤ 1) → RowsFit d x v
+units_rows_fit d x v f hx hv = record {
   width = f.width;
   some = f.some;
   narrow = f.narrow;
-  fits = record { alpha = f.alpha; z = 1; growth_bound = f.growth_bound; state = λ i l. (omega arith); plan = λ i l. unit_small j i; fits = omega (arith, f.fits) };
-}
-
-pub state_fits : (d : Design) → UnitsFit d → (j : ℕ) → RowsFit d (unit j) none
-state_fits d f j = record {
-  width = f.width;
-  some = f.some;
-  narrow = f.narrow;
-  fits = record { alpha = f.alpha; z = 1; growth_bound = f.growth_bound; state = λ i l. unit_small j i; plan = λ i l. (omega arith); fits = omega (arith, f.fits) };
+  fits = record { alpha = f.alpha; z = 1; growth_bound = f.growth_bound; state = λ i l. hx i; plan = λ j l. hv j; fits = omega (arith, f.fits) };
 }
 
 -- what units' rows need, where the limits' numbers are within the limit
 pub units_fit : (p : DesignParts) → IsDesign p → limit_entry_size (design_of p) ≤ 2 ^ 126 → UnitsFit (design_of p)
 units_fit p h k = record { width = limit_width (design_of p); alpha = growth (design_of p); some = some_limit p h; narrow = narrow (design_of p); growth_bound = growth_bound (design_of p); fits = k }
 
--- what units' cost rows need
-pub plan_costs_fit : (p : DesignParts) → IsDesign p → response_size (design_of p) ≤ 2 ^ 126 → (j : ℕ) → CostsFit (design_of p) none (unit j)
-plan_costs_fit p h k j = record {
+-- what cost rows need of such a state and plan
+pub units_costs_fit : (p : DesignParts) (x v : ℕ → ℤ) → IsDesign p → response_size (design_of p) ≤ 2 ^ 126 →
+    ((i : ℕ) → unsigned_abs (x i) ≤ 1) → ((j : ℕ) → unsigned_abs (v j) ≤ 1) → CostsFit (design_of p) x v
+units_costs_fit p x v h k hx hv = record {
   width = cost_width (design_of p);
   some = some_cost p h;
   narrow_costs = narrow_costs (design_of p);
-  fits = record { alpha = growth (design_of p); z = 1; growth_bound = growth_bound (design_of p); state = λ i l. (omega arith); plan = λ i l. unit_small j i; fits = once _ _ _ k };
-}
-
-pub state_costs_fit : (p : DesignParts) → IsDesign p → response_size (design_of p) ≤ 2 ^ 126 → (i : ℕ) → CostsFit (design_of p) (unit i) none
-state_costs_fit p h k i = record {
-  width = cost_width (design_of p);
-  some = some_cost p h;
-  narrow_costs = narrow_costs (design_of p);
-  fits = record { alpha = growth (design_of p); z = 1; growth_bound = growth_bound (design_of p); state = λ j l. unit_small i j; plan = λ j l. (omega arith); fits = once _ _ _ k };
+  fits = record { alpha = growth (design_of p); z = 1; growth_bound = growth_bound (design_of p); state = λ i l. hx i; plan = λ j l. hv j; fits = once _ _ _ k };
 }
 
 -- ---- columns

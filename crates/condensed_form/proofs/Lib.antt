@@ -10,7 +10,6 @@ pub mod StateFacts
 pub mod StageFacts
 pub mod RowFacts
 pub mod ColumnFacts
-pub mod UnitFacts
 pub mod CountedFacts
 -- ---- the condensed cost
 pub mod WeighedFacts

@@ -2,7 +2,7 @@
 ghost use Rattle.mat_int.specs.Lines.{lists};
 ghost use Rattle.condensed_form.specs.Costs.{AreCounted};
 
-use crate::counted::{all_plan_costs, state_costs};
+use crate::counted::{all_plan_costs, unit_costs};
 use condensed_form::{product, products_of, scaled_targets, weights_of};
 use mat_int::Mat;
 use qp_model::DesignParts;
@@ -108,7 +108,7 @@ impl<'a> Costs<'a> {
     {
         let mut mat = Mat::zero(alloc, self.plan.len(), self.parts.states)?;
         for i in 0..self.parts.states {
-            let values = state_costs(alloc, self.parts, powers, i)?;
+            let values = unit_costs(alloc, self.parts, powers, false, i)?;
             let column = self.weighed(alloc, &values)?;
             mat.set_column(i, &column);
         }

@@ -8,5 +8,6 @@ mod counted;
 mod form;
 mod limits;
 mod radii;
+mod units;
 
 pub use form::condense_exact;

@@ -5,7 +5,7 @@ ghost use Rattle.qp_model.specs.form.Quantities.{limit_entry_size};
 ghost use Rattle.condensed_form.specs.Lists.{ArePowers};
 ghost use Rattle.condensed_form.specs.Numbers.{AreLimitNumbers};
 
-use crate::columns::{plan_columns, state_columns};
+use crate::columns::columns;
 use condensed_form::{last_power, scaled_bounds};
 use mat_int::Mat;
 use qp_model::DesignParts;
@@ -31,8 +31,8 @@ pub fn limit_numbers(
     requires fits { limit_entry_size (design_of parts.now) ≤ 2 ^ 126 }
     ensures { IfOk result (λ r. AreLimitNumbers (design_of parts.now) r.g r.e r.bound.items) }
 {
-    let g = plan_columns(alloc, parts, powers)?;
-    let e = state_columns(alloc, parts, powers)?;
+    let g = columns(alloc, parts, powers, true)?;
+    let e = columns(alloc, parts, powers, false)?;
     let bound = scaled_bounds(alloc, parts, last_power(parts, powers))?;
     Ok(LimitNumbers { g, e, bound })
 }

@@ -20,17 +20,17 @@ overflow_mul-j-end c =
 pub loop-j-init : goal.loop-j-init
 loop-j-init c = no_rows _ _ _ c.new-out.ensures.items
 
-pub plan_costs-requires-clause-design : goal.plan_costs-requires-clause-design
-plan_costs-requires-clause-design c = c.requires.design
+pub unit_costs-requires-clause-design : goal.unit_costs-requires-clause-design
+unit_costs-requires-clause-design c = c.requires.design
 
-pub plan_costs-requires-clause-powers : goal.plan_costs-requires-clause-powers
-plan_costs-requires-clause-powers c = c.requires.powers
+pub unit_costs-requires-clause-powers : goal.unit_costs-requires-clause-powers
+unit_costs-requires-clause-powers c = c.requires.powers
 
-pub plan_costs-requires-clause-fits : goal.plan_costs-requires-clause-fits
-plan_costs-requires-clause-fits c = c.requires.fits
+pub unit_costs-requires-clause-fits : goal.unit_costs-requires-clause-fits
+unit_costs-requires-clause-fits c = c.requires.fits
 
-pub plan_costs-requires-clause-entry : goal.plan_costs-requires-clause-entry
-plan_costs-requires-clause-entry c = omega (arith, c.loop-j-test.true)
+pub unit_costs-requires-clause-number : goal.unit_costs-requires-clause-number
+unit_costs-requires-clause-number c = omega (arith, c.loop-j-test.true)
 
 pub returns : goal.returns
 returns c =

@@ -12,11 +12,11 @@ use Rattle.exact_condense.proofs.limits.limit_numbers.Goals as goal
 last : (a b : ℕ) → a ≤ b → b ≤ 2 ^ 126 → a ≤ 2 ^ 126
 last a b h k = omega arith
 
-pub plan_columns-requires-clause-fits : goal.plan_columns-requires-clause-fits
-plan_columns-requires-clause-fits c = units_fit c.args.parts.now c.requires.design c.requires.fits
+pub columns-requires-clause-fits : goal.columns-requires-clause-fits
+columns-requires-clause-fits c = units_fit c.args.parts.now c.requires.design c.requires.fits
 
-pub state_columns-requires-clause-fits : goal.state_columns-requires-clause-fits
-state_columns-requires-clause-fits c = units_fit c.args.parts.now c.requires.design c.requires.fits
+pub columns-requires-2-clause-fits : goal.columns-requires-2-clause-fits
+columns-requires-2-clause-fits c = units_fit c.args.parts.now c.requires.design c.requires.fits
 
 pub scaled_bounds-requires-clause-fits : goal.scaled_bounds-requires-clause-fits
 scaled_bounds-requires-clause-fits c =
@@ -33,17 +33,17 @@ returns c =
       bound = rw (to_z-of_z w128 _ f, c.last_power.ensures) at c.in_ok-bound.ensures;
     }
 
-pub plan_columns-requires-clause-design : goal.plan_columns-requires-clause-design
-plan_columns-requires-clause-design c = c.requires.design
+pub columns-requires-clause-design : goal.columns-requires-clause-design
+columns-requires-clause-design c = c.requires.design
 
-pub plan_columns-requires-clause-powers : goal.plan_columns-requires-clause-powers
-plan_columns-requires-clause-powers c = c.requires.powers
+pub columns-requires-clause-powers : goal.columns-requires-clause-powers
+columns-requires-clause-powers c = c.requires.powers
 
-pub state_columns-requires-clause-design : goal.state_columns-requires-clause-design
-state_columns-requires-clause-design c = c.requires.design
+pub columns-requires-2-clause-design : goal.columns-requires-2-clause-design
+columns-requires-2-clause-design c = c.requires.design
 
-pub state_columns-requires-clause-powers : goal.state_columns-requires-clause-powers
-state_columns-requires-clause-powers c = c.requires.powers
+pub columns-requires-2-clause-powers : goal.columns-requires-2-clause-powers
+columns-requires-2-clause-powers c = c.requires.powers
 
 pub scaled_bounds-requires-clause-design : goal.scaled_bounds-requires-clause-design
 scaled_bounds-requires-clause-design c = c.requires.design

@@ -12,8 +12,8 @@ use Rattle.std.specs.declared.alloc.Global.{Global}
 use Rattle.std.proofs.lemmas.List.{length-map}
 use Rattle.exact_condense.proofs.costs.Costs.linear.Goals as goal
 
-pub state_costs-requires-clause-fits : goal.state_costs-requires-clause-fits
-state_costs-requires-clause-fits c = response_room c.args.self.now.parts.now c.args.self.now.made.design c.args.self.now.made.fits
+pub unit_costs-requires-clause-fits : goal.unit_costs-requires-clause-fits
+unit_costs-requires-clause-fits c = response_room c.args.self.now.parts.now c.args.self.now.made.design c.args.self.now.made.fits
 
 pub weighed-requires-clause-small : goal.weighed-requires-clause-small
 weighed-requires-clause-small c =
@@ -39,14 +39,14 @@ loop-i-init c =
     let count : c.len.result ≡ entries (design_of c.args.self.now.parts.now) = omega (arith, c.args.self.now.made.plan.long, length-map c.args.self.now.plan.items (λ (v : Vec ℤ Global). v.items), c.len.ensures) in
     zero_held _ _ _ _ _ _ c.in_ok-mat.ensures count refl
 
-pub state_costs-requires-clause-design : goal.state_costs-requires-clause-design
-state_costs-requires-clause-design c = c.args.self.now.made.design
+pub unit_costs-requires-clause-design : goal.unit_costs-requires-clause-design
+unit_costs-requires-clause-design c = c.args.self.now.made.design
 
-pub state_costs-requires-clause-powers : goal.state_costs-requires-clause-powers
-state_costs-requires-clause-powers c = c.requires
+pub unit_costs-requires-clause-powers : goal.unit_costs-requires-clause-powers
+unit_costs-requires-clause-powers c = c.requires
 
-pub state_costs-requires-clause-state : goal.state_costs-requires-clause-state
-state_costs-requires-clause-state c = omega (arith, c.loop-i-test.true)
+pub unit_costs-requires-clause-number : goal.unit_costs-requires-clause-number
+unit_costs-requires-clause-number c = omega (arith, c.loop-i-test.true)
 
 pub weighed-requires-clause-count : goal.weighed-requires-clause-count
 weighed-requires-clause-count c = ap (λ (xs : List ℤ). length xs) c.deref.ensures.value ∙ c.in_ok-values.ensures.long
