@@ -1,5 +1,5 @@
 -- What code makes of matrices with radii.
-use Rattle.std.proofs.Common.{◌≡◌, ◌≢◌, ◌⊎◌, inl, inr, ℕ, zero, suc, ◌+◌, ◌*◌, ◌<◌, ◌≤◌, ◌^◌, ℤ, pos, ◌+ℤ◌, ◌-ℤ◌, ◌*ℤ◌, ◌≤ℤ◌, ◌<ℤ◌, unsigned_abs, nat_eq, Bool, true, false, if◌then◌else◌, to_z, of_z, lit<, arith, ap, ap₂, sym, ◌∙◌, refl}
+use Rattle.std.proofs.Common.{◌≡◌, ◌≢◌, ◌⊎◌, inl, inr, ℕ, zero, suc, ◌+◌, ◌*◌, ◌<◌, ◌≤◌, ◌^◌, ℤ, pos, ◌+ℤ◌, ◌-ℤ◌, ◌*ℤ◌, ◌≤ℤ◌, ◌<ℤ◌, unsigned_abs, nat_eq, Bool, true, false, if◌then◌else◌, to_z, of_z, FitsSigned, lit<, arith, ap, ap₂, sym, ◌∙◌, refl}
 use Rattle.std.specs.Int.{w128}
 use Rattle.std.proofs.lemmas.Int.{ints, fits_signed_from_abs, to_z_pos, to_z-of_z, unsigned_abs-mul}
 use Rattle.std.proofs.lemmas.Bool.{cases_eq}
@@ -17,24 +17,21 @@ use Rattle.mat_int.specs.Enclosures.{gram_sum, weighted_gram}
 use Rattle.enclosure.proofs.GramLaws.{product_nonneg, product_reach}
 use Rattle.enclosure.proofs.RoomLaws.{inexact_small, same_pair}
 use Rattle.hessian_check.specs.Curvature.{lowered, raised_diagonal}
+use Rattle.hessian_check.specs.Held.{moved, moved_diagonal}
 
 -- ---- a diagonal that is moved
-pub lowered_own : (m : ℕ → ℕ → ℤ) (by : ℕ → ℕ) (i : ℕ) → lowered m by i i ≡ m i i -ℤ pos (by i)
-lowered_own m by i = elim (eqb_tells i i) [ inl e ↦ rw e.0 refl | inr e ↦ absurd (e.1 refl) ]
+pub moved_own : (up : Bool) (m : ℕ → ℕ → ℤ) (by : ℕ → ℕ) (i : ℕ) → moved_diagonal up m by i i ≡ moved up (m i i) (by i)
+moved_own true m by i = elim (eqb_tells i i) [ inl e ↦ rw e.0 refl | inr e ↦ absurd (e.1 refl) ]
+moved_own false m by i = elim (eqb_tells i i) [ inl e ↦ rw e.0 refl | inr e ↦ absurd (e.1 refl) ]
 
-pub lowered_beside : (m : ℕ → ℕ → ℤ) (by : ℕ → ℕ) (i j : ℕ) → j ≢ i → m i j ≡ lowered m by i j
-lowered_beside m by i j h = elim (eqb_tells j i) [ inl e ↦ absurd (h e.1) | inr e ↦ rw e.0 (plain (m i j)) ]
-  where
-    plain : (x : ℤ) → x ≡ x -ℤ pos 0
-    plain x = omega (arith, ints)
-
-pub raised_own : (m : ℕ → ℕ → ℤ) (by : ℕ → ℕ) (i : ℕ) → raised_diagonal m by i i ≡ m i i +ℤ pos (by i)
-raised_own m by i = elim (eqb_tells i i) [ inl e ↦ rw e.0 refl | inr e ↦ absurd (e.1 refl) ]
-
-pub raised_beside : (m : ℕ → ℕ → ℤ) (by : ℕ → ℕ) (i j : ℕ) → j ≢ i → m i j ≡ raised_diagonal m by i j
-raised_beside m by i j h = elim (eqb_tells j i) [ inl e ↦ absurd (h e.1) | inr e ↦ rw e.0 (plain (m i j)) ]
+pub moved_beside : (up : Bool) (m : ℕ → ℕ → ℤ) (by : ℕ → ℕ) (i j : ℕ) → j ≢ i → m i j ≡ moved_diagonal up m by i j
+moved_beside true m by i j h = elim (eqb_tells j i) [ inl e ↦ absurd (h e.1) | inr e ↦ rw e.0 (plain (m i j)) ]
   where
     plain : (x : ℤ) → x ≡ x +ℤ pos 0
+    plain x = omega (arith, ints)
+moved_beside false m by i j h = elim (eqb_tells j i) [ inl e ↦ absurd (h e.1) | inr e ↦ rw e.0 (plain (m i j)) ]
+  where
+    plain : (x : ℤ) → x ≡ x -ℤ pos 0
     plain x = omega (arith, ints)
 
 pub lowered_same : (m w : ℕ → ℕ → ℤ) (a b : ℕ → ℕ) (i j : ℕ) → m i j ≡ w i j → a i ≡ b i → lowered m a i j ≡ lowered w b i j
@@ -52,23 +49,30 @@ raised_none m by i j e = rw e (none (nat_eq j i) (m i j))
     none false x = omega (arith, ints)
 
 -- what code computes of a diagonal entry
-pub lowered_is : (x y : ℤ) (a b : ℕ) → x ≡ y → a ≡ b → unsigned_abs y + b < 2 ^ 127 →
-    to_z w128 (of_z w128 (to_z w128 (of_z w128 x) -ℤ to_z w128 a)) ≡ y -ℤ pos b
-lowered_is x y a b e g h =
-    rw (e, g, to_z-of_z w128 y (fits_signed_from_abs w128 y (omega (arith, h))), to_z_pos w128 b (omega (arith, h)))
-    (to_z-of_z w128 (y -ℤ pos b) (fits_signed_from_abs w128 _ (under y b h)))
-  where
-    under : (y : ℤ) (b : ℕ) → unsigned_abs y + b < 2 ^ 127 → unsigned_abs (y -ℤ pos b) < 2 ^ 127
-    under y b h = omega (arith, ints, h)
+module _ (x : ℤ) (n : ℕ) (h : unsigned_abs x + n < 2 ^ 127) where
+  own_is : to_z w128 (of_z w128 x) ≡ x
+  own_is = to_z-of_z w128 x (fits_signed_from_abs w128 x (omega (arith, h)))
 
-pub raised_is : (x y : ℤ) (a b : ℕ) → x ≡ y → a ≡ b → unsigned_abs y + b < 2 ^ 127 →
-    to_z w128 (of_z w128 (to_z w128 (of_z w128 x) +ℤ to_z w128 a)) ≡ y +ℤ pos b
-raised_is x y a b e g h =
-    rw (e, g, to_z-of_z w128 y (fits_signed_from_abs w128 y (omega (arith, h))), to_z_pos w128 b (omega (arith, h)))
-    (to_z-of_z w128 (y +ℤ pos b) (fits_signed_from_abs w128 _ (under y b h)))
-  where
-    under : (y : ℤ) (b : ℕ) → unsigned_abs y + b < 2 ^ 127 → unsigned_abs (y +ℤ pos b) < 2 ^ 127
-    under y b h = omega (arith, ints, h)
+  by_is : to_z w128 n ≡ pos n
+  by_is = to_z_pos w128 n (omega (arith, h))
+
+  raised_near : unsigned_abs (x +ℤ pos n) < 2 ^ 127
+  raised_near = omega (arith, ints, h)
+
+  lowered_near : unsigned_abs (x -ℤ pos n) < 2 ^ 127
+  lowered_near = omega (arith, ints, h)
+
+  pub raised_fits : FitsSigned w128 (to_z w128 (of_z w128 x) +ℤ to_z w128 n)
+  raised_fits = rw (own_is, by_is) (fits_signed_from_abs w128 _ raised_near)
+
+  pub lowered_fits : FitsSigned w128 (to_z w128 (of_z w128 x) -ℤ to_z w128 n)
+  lowered_fits = rw (own_is, by_is) (fits_signed_from_abs w128 _ lowered_near)
+
+  pub raised_is : to_z w128 (of_z w128 (to_z w128 (of_z w128 x) +ℤ to_z w128 n)) ≡ x +ℤ pos n
+  raised_is = rw (own_is, by_is) (to_z-of_z w128 _ (fits_signed_from_abs w128 _ raised_near))
+
+  pub lowered_is : to_z w128 (of_z w128 (to_z w128 (of_z w128 x) -ℤ to_z w128 n)) ≡ x -ℤ pos n
+  lowered_is = rw (own_is, by_is) (to_z-of_z w128 _ (fits_signed_from_abs w128 _ lowered_near))
 
 -- ---- how far a row reaches
 single_le : (n i b : ℕ) → amount n (λ j. if nat_eq j i then b else 0) ≤ b

@@ -1,16 +1,15 @@
 // The matrices of a condensed form: half the hessian, and the products of the rows' columns. Where the numbers have radii, each diagonal entry of
 // the first is lowered and of the second raised by the radii of its row, so that a difference that is nowhere negative stays so for the exact numbers.
-ghost use Rattle.std.specs.Prelude.{◌≡◌, ◌+◌, ◌<◌, ◌^◌, ℕ, Bool, length, IfOk};
+ghost use Rattle.std.specs.Prelude.{◌≡◌, ◌+◌, ◌<◌, ◌^◌, ℕ, Bool, length, unsigned_abs, IfOk};
 ghost use Rattle.integer_algebra.specs.Sizes.{size};
 ghost use Rattle.mat_int.specs.Matrix.{entry_of, HasEntries};
 ghost use Rattle.mat_int.specs.Enclosures.{HasEnclosures};
 ghost use Rattle.qp_model.specs.declared.design_parts.DesignParts.{DesignParts};
 ghost use Rattle.qp_model.specs.problem.Parts.{design_of};
 ghost use Rattle.condensed_form.specs.Form.{IsFormIn, IsSomeForm};
-ghost use Rattle.hessian_check.specs.Curvature.{lowered, raised_diagonal};
 ghost use Rattle.hessian_check.specs.DesignMatrices.{IsCostMatrix};
 ghost use Rattle.hessian_check.specs.Filling.{HasFirstEnclosures, HasFirstRows};
-ghost use Rattle.hessian_check.specs.Held.{IsMovable};
+ghost use Rattle.hessian_check.specs.Held.{moved, moved_diagonal, IsMovable};
 ghost use Rattle.hessian_check.specs.RowSums.{HaveSumRoom, rounded_sum, sums_matrix};
 ghost use Rattle.hessian_check.specs.Steps.{half_of};
 
@@ -27,7 +26,7 @@ pub fn cost_matrix(alloc: Global, c: &Condensed) -> Result<Mat, AllocError>
 {
     let mut cost = halved(alloc, &c.hess)?;
     let radii = halved(alloc, &c.hess_rad)?;
-    lower_diagonal(&mut cost, &radii);
+    move_diagonal(&mut cost, &radii, false);
     Ok(cost)
 }
 
@@ -42,7 +41,7 @@ pub fn row_matrix(alloc: Global, fine: bool, sums: &EncMat) -> Result<Mat, Alloc
     }
     let made = rounded(alloc, sums)?;
     let mut products = made.mid;
-    raise_diagonal(&mut products, &made.rad);
+    move_diagonal(&mut products, &made.rad, true);
     Ok(products)
 }
 
@@ -83,24 +82,25 @@ fn copied(alloc: Global, mat: &Mat) -> Result<Mat, AllocError>
     Ok(out)
 }
 
-// Lowers each diagonal entry of a square matrix by the absolute values of a row of another.
-fn lower_diagonal(mat: &mut Mat, radii: &Mat)
-    requires { IsMovable mat.old radii.now }
-    ensures { let n = length mat.old.rows in HasEntries n n (lowered (entry_of mat.old) (λ i. size n (entry_of radii.now i))) mat.new }
+// `entry` and `by` together where `up` says so, else what `by` leaves of it.
+fn moved(entry: i128, by: u128, up: bool) -> i128
+    requires { unsigned_abs entry + by < 2 ^ 127 }
+    ensures { result ≡ moved up entry by }
 {
-    for i in 0..mat.rows() {
-        let own = mat.at(i, i) - absolute_sum(radii.row(i)) as i128;
-        mat.set(i, i, own);
+    if up {
+        entry + by as i128
+    } else {
+        entry - by as i128
     }
 }
 
-// Raises each by them.
-fn raise_diagonal(mat: &mut Mat, radii: &Mat)
+// Raises each diagonal entry of a square matrix by the absolute values of a row of another where `up` says so, else lowers it by them.
+fn move_diagonal(mat: &mut Mat, radii: &Mat, up: bool)
     requires { IsMovable mat.old radii.now }
-    ensures { let n = length mat.old.rows in HasEntries n n (raised_diagonal (entry_of mat.old) (λ i. size n (entry_of radii.now i))) mat.new }
+    ensures { let n = length mat.old.rows in HasEntries n n (moved_diagonal up (entry_of mat.old) (λ i. size n (entry_of radii.now i))) mat.new }
 {
     for i in 0..mat.rows() {
-        let own = mat.at(i, i) + absolute_sum(radii.row(i)) as i128;
+        let own = moved(mat.at(i, i), absolute_sum(radii.row(i)), up);
         mat.set(i, i, own);
     }
 }
