@@ -4,11 +4,10 @@ pub mod Rooms
 pub mod Raised
 pub mod RowMoves
 pub mod States
-pub mod NarrowFactors
+pub mod Factors
 pub mod Words
 pub mod Reached
 pub mod WordSums
 pub mod WordRooms
 pub mod WordSpans
-pub mod HalfFactors
 pub mod OneOutside

@@ -1,8 +1,7 @@
 -- A state has at most one first coordinate outside the box.
-use Rattle.std.proofs.Common.{◌≡◌, ◌⊎◌, inl, inr, ℕ, ◌+◌, ◌-◌, ◌<◌, ℤ, List, arith}
+use Rattle.std.proofs.Common.{inl, inr, ℕ, ◌-◌, ◌<◌, ℤ, List, arith}
 use Rattle.std.proofs.lemmas.Bool.{cases_order}
 use Rattle.qp_model.specs.machine.Controller.{Numbers}
-use Rattle.qp_model.specs.machine.Machine.{IsAdmissible}
 use Rattle.fixed_kernel.specs.Outside.{IsFirstOutside}
 use Rattle.fixed_kernel.specs.OneOutside.{OneOutsideLaw}
 

@@ -69,10 +69,6 @@ raised_zeros c =
 pub start_with_raised : (c : Numbers) → with_raised c (start_of c) ≡ start_of c
 start_with_raised c = rw (raised_zeros c) refl
 
--- nor is there in version 1
-pub first_with_raised : (c : Numbers) → IsSized c → c.version ≡ text_version → (made : Iterate) → length made.multipliers ≡ length c.bounds → with_raised c made ≡ made
-first_with_raised c sized first made long = rw (first_raised c sized first made.multipliers (long ∙ sized.shaped.bounds)) refl
-
 -- a step with raised multipliers is the machine's step
 pub step_with_raised : (c : Numbers) (state : List ℤ) (made : Iterate) → length made.multipliers ≡ length c.bounds → raised_step c state (with_raised c made) ≡ with_raised c (step_of c state made)
 step_with_raised c state made long = rw (unraised-raised c made.multipliers long) refl

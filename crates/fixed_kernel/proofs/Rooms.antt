@@ -77,7 +77,3 @@ next_room c state plan old i s h le w v =
     let b = unsigned_abs (at c.bounds i) * 2 ^ c.fraction_bits in
     let mono = ceil_div_mono (unsigned_abs (planned +ℤ own) + b) (unsigned_abs planned + unsigned_abs own + b) (2 ^ c.fraction_bits) (pow_pos c.fraction_bits) (omega (arith, abs-add_le planned own)) in
     omega (arith, mono, next_le c state plan old i le w v, (fit c s).next i h)
-
--- the bits of a plan entry's shift
-pub bits_le : (c : Numbers) → IsController c → c.fraction_bits + c.step_exponent ≤ 88
-bits_le c s = omega (arith, s.form.sized.fraction_bits, s.form.sized.step_exponent)

@@ -6,7 +6,7 @@ use Rattle.std.proofs.lemmas.Nat.{pow_pos, pow_below, one_shl}
 use Rattle.integer_algebra.specs.Division.{floor_of, ceil_div}
 use Rattle.mat_int.specs.Row.{list_dot, abs_dot}
 use Rattle.mat_products.specs.Narrow.{IsNarrow}
-use Rattle.mat_int.proofs.Dots.{abs-add_le, abs-dot_le, dot-take_more, abs_dot-take_suc, abs_dot-take_le, abs_dot_more_le}
+use Rattle.mat_int.proofs.Dots.{abs-add_le, abs-dot_le, dot-take_more, abs_dot_more_le}
 use Rattle.qp_model.proofs.AbsoluteLaws.{abs-neg, abs-floor_le, abs-floor_le_ceil}
 
 -- ---- the loop
@@ -29,9 +29,6 @@ pub ruleset word_dot_steps = (word_product_fits, word_sum_fits, dot-take_more, t
 -- the sum
 pub whole_le : (start : ℤ) (xs ys : List ℤ) → unsigned_abs (start +ℤ list_dot xs ys) ≤ unsigned_abs start + abs_dot xs ys
 whole_le start xs ys = omega (arith, abs-add_le start (list_dot xs ys), abs-dot_le xs ys)
-
-pub word_whole_fits : (start : ℤ) (xs ys : List ℤ) → unsigned_abs start + abs_dot xs ys < 2 ^ 63 → FitsSigned w64 (start +ℤ list_dot xs ys)
-word_whole_fits start xs ys room = fits_signed_from_abs w64 _ (omega (arith, whole_le start xs ys, room))
 
 -- ---- a plan entry
 pub minus_is : (z : ℤ) → pos 0 -ℤ z ≡ neg_ℤ z

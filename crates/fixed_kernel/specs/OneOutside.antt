@@ -1,5 +1,5 @@
 -- A state has at most one first coordinate outside the box, and has none exactly where it lies in the box.
-use Rattle.std.specs.Prelude.{◌≡◌, ℕ, ℤ, List, length}
+use Rattle.std.specs.Prelude.{◌≡◌, ℕ, ℤ, List}
 use Rattle.qp_model.specs.machine.Controller.{Numbers}
 use Rattle.qp_model.specs.machine.Machine.{IsAdmissible}
 use Rattle.fixed_kernel.specs.Outside.{IsFirstOutside}

@@ -8,7 +8,7 @@ use Rattle.mat_int.specs.Row.{list_dot}
 use Rattle.mat_int.specs.Matrix.{row_of}
 use Rattle.qp_model.specs.machine.Controller.{numbers}
 use Rattle.fixed_kernel.proofs.Rooms.{state_long, multipliers_long, dual_room, inner_room, entry_room}
-use Rattle.fixed_kernel.proofs.NarrowFactors.{state_narrow, multipliers_narrow}
+use Rattle.fixed_kernel.proofs.Factors.{state_narrow, multipliers_narrow}
 use Rattle.fixed_kernel.proofs.Floors.{entry_floor}
 use Rattle.fixed_kernel.proofs.step.entry_at.Goals as goal
 

@@ -5,7 +5,7 @@ use Rattle.mat_int.specs.Row.{list_dot}
 use Rattle.mat_int.specs.Matrix.{row_of}
 use Rattle.qp_model.specs.machine.Controller.{numbers}
 use Rattle.fixed_kernel.proofs.Rooms.{state_long, plan_long, planned_room, state_room}
-use Rattle.fixed_kernel.proofs.NarrowFactors.{state_narrow, plan_narrow}
+use Rattle.fixed_kernel.proofs.Factors.{state_narrow, plan_narrow}
 use Rattle.fixed_kernel.proofs.step.row_products.Goals as goal
 
 from_zero : (z : ℤ) → pos 0 +ℤ z ≡ z

@@ -6,7 +6,7 @@ use Rattle.qp_model.specs.machine.Controller.{numbers}
 use Rattle.fixed_kernel.specs.WordForm.{entry_base}
 use Rattle.fixed_kernel.proofs.Rooms.{multipliers_long}
 use Rattle.fixed_kernel.proofs.WordRooms.{entry_word_room, entry_sum_narrow, entry_bases_long, entry_bases_at}
-use Rattle.fixed_kernel.proofs.HalfFactors.{multipliers_half}
+use Rattle.fixed_kernel.proofs.Factors.{multipliers_half}
 use Rattle.fixed_kernel.proofs.word_step.word_entry_at.Goals as goal
 
 pub bounds-bases-j : goal.bounds-bases-j

@@ -6,7 +6,7 @@ use Rattle.qp_model.specs.machine.Controller.{numbers}
 use Rattle.fixed_kernel.specs.WordForm.{row_base}
 use Rattle.fixed_kernel.proofs.Rooms.{plan_long}
 use Rattle.fixed_kernel.proofs.WordRooms.{row_word_room, row_bases_long, row_bases_at, row_sum_is}
-use Rattle.fixed_kernel.proofs.HalfFactors.{plan_half}
+use Rattle.fixed_kernel.proofs.Factors.{plan_half}
 use Rattle.fixed_kernel.proofs.word_step.word_row_sum.Goals as goal
 
 pub bounds-bases-i : goal.bounds-bases-i

@@ -1,5 +1,4 @@
-use Rattle.std.proofs.Common.{ap, subst, ◌∙◌}
-use Rattle.qp_model.specs.machine.Controller.{Numbers}
+use Rattle.std.proofs.Common.{ap, ◌∙◌}
 use Rattle.fixed_kernel.specs.Progress.{Progress}
 use Rattle.fixed_kernel.proofs.States.{told_outside}
 use Rattle.fixed_kernel.proofs.kernel.Kernel.first_outside.Goals as goal
