@@ -3,6 +3,8 @@ pub mod Fits
 pub mod Rooms
 pub mod Raised
 pub mod RowMoves
+pub mod Additions
+pub mod Copies
 pub mod States
 pub mod Factors
 pub mod Words

@@ -1,5 +1,5 @@
 -- What sums of products meet fits words of 64 bits, where the absolute values leave room there.
-use Rattle.std.proofs.Common.{◌≡◌, ℕ, ◌+◌, ◌*◌, ◌%◌, ◌<◌, ◌≤◌, ◌^◌, ℤ, pos, to_z, ap, ◌∙◌, ◌+ℤ◌, ◌-ℤ◌, ◌*ℤ◌, neg_ℤ, List, length, take, get_or, unsigned_abs, FitsSigned, arith}
+use Rattle.std.proofs.Common.{◌≡◌, ℕ, ◌+◌, ◌*◌, ◌%◌, ◌<◌, ◌≤◌, ◌^◌, ℤ, pos, to_z, of_z, ap, refl, ◌∙◌, ◌+ℤ◌, ◌-ℤ◌, ◌*ℤ◌, neg_ℤ, List, length, take, get_or, unsigned_abs, FitsSigned, arith}
 use Rattle.std.specs.Int.{w64}
 use Rattle.std.proofs.lemmas.Int.{ints, unsigned_abs-mul, fits_signed_from_abs, to_z-of_z, to_z_pos}
 use Rattle.std.proofs.lemmas.Nat.{pow_pos, pow_below, one_shl}
@@ -10,11 +10,11 @@ use Rattle.mat_int.proofs.Dots.{abs-add_le, abs-dot_le, dot-take_more, abs_dot_m
 use Rattle.qp_model.proofs.AbsoluteLaws.{abs-neg, abs-floor_le, abs-floor_le_ceil}
 
 -- ---- the loop
-pub word_product_fits : (start : ℤ) (xs ys : List ℤ) (i : ℕ) → i < length xs → i < length ys → unsigned_abs start + abs_dot xs ys < 2 ^ 63 → FitsSigned w64 (get_or xs i (pos 0) *ℤ get_or ys i (pos 0))
+word_product_fits : (start : ℤ) (xs ys : List ℤ) (i : ℕ) → i < length xs → i < length ys → unsigned_abs start + abs_dot xs ys < 2 ^ 63 → FitsSigned w64 (get_or xs i (pos 0) *ℤ get_or ys i (pos 0))
 word_product_fits start xs ys i p q room =
     fits_signed_from_abs w64 _ (omega (arith, unsigned_abs-mul (get_or xs i (pos 0)) (get_or ys i (pos 0)), abs_dot_more_le xs ys i p q, room))
 
-pub word_sum_fits : (start : ℤ) (xs ys : List ℤ) (i : ℕ) → i < length xs → i < length ys → unsigned_abs start + abs_dot xs ys < 2 ^ 63 →
+word_sum_fits : (start : ℤ) (xs ys : List ℤ) (i : ℕ) → i < length xs → i < length ys → unsigned_abs start + abs_dot xs ys < 2 ^ 63 →
     FitsSigned w64 (start +ℤ list_dot (take i xs) (take i ys) +ℤ get_or xs i (pos 0) *ℤ get_or ys i (pos 0))
 word_sum_fits start xs ys i p q room =
     let sum = list_dot (take i xs) (take i ys) in
@@ -22,8 +22,19 @@ word_sum_fits start xs ys i p q room =
     let y = get_or ys i (pos 0) in
     fits_signed_from_abs w64 _ (omega (arith, abs-add_le (start +ℤ sum) (x *ℤ y), abs-add_le start sum, abs-dot_le (take i xs) (take i ys), unsigned_abs-mul x y, abs_dot_more_le xs ys i p q, room))
 
--- what the loop of `word_dot` rests on
-pub ruleset word_dot_steps = (word_product_fits, word_sum_fits, dot-take_more, to_z-of_z)
+-- one more term, of numbers and a sum under other names, as words have them
+pub record WordTerm (s : ℤ) (xs ys : List ℤ) (i : ℕ) (x y sum : ℤ) : Type 0 where
+  pub product : FitsSigned w64 (x *ℤ y)
+  pub whole : FitsSigned w64 (sum +ℤ to_z w64 (of_z w64 (x *ℤ y)))
+  pub next : to_z w64 (of_z w64 (sum +ℤ to_z w64 (of_z w64 (x *ℤ y)))) ≡ s +ℤ list_dot (take (i + 1) xs) (take (i + 1) ys)
+
+pub word_term : (start s : ℤ) (xs ys : List ℤ) (i : ℕ) (x y sum : ℤ) → s ≡ start → x ≡ get_or xs i (pos 0) → y ≡ get_or ys i (pos 0) → sum ≡ s +ℤ list_dot (take i xs) (take i ys) → i < length xs → i < length ys →
+    unsigned_abs start + abs_dot xs ys < 2 ^ 63 → WordTerm s xs ys i x y sum
+word_term start s xs ys i x y sum begun d e f p q room =
+    let product : FitsSigned w64 (x *ℤ y) = rw (d, e) (word_product_fits start xs ys i p q room) in
+    let term : to_z w64 (of_z w64 (x *ℤ y)) ≡ get_or xs i (pos 0) *ℤ get_or ys i (pos 0) = rw (to_z-of_z w64 _ product, d, e) refl in
+    let whole : FitsSigned w64 (sum +ℤ to_z w64 (of_z w64 (x *ℤ y))) = rw (term, f, begun) (word_sum_fits start xs ys i p q room) in
+    record { product = product; whole = whole; next = rw (to_z-of_z w64 _ whole, term, f, dot-take_more xs ys i p q) (omega (arith, ints)) }
 
 -- ---- after the loop
 -- the sum

@@ -9,7 +9,6 @@ ghost use Rattle.fixed_kernel.specs.WordForm.{IsHalf};
 
 // A number and the sum of the products of two lists of one length. Each product and each partial sum fits the word.
 #[inline(always)]
-#[tactic(auto, using(crate::proofs::WordSums::word_dot_steps))]
 pub fn word_dot(start: i64, xs: &[i64], ys: &[i64]) -> i64
     requires lengths { length xs.now ≡ length ys.now }
     requires room { unsigned_abs start + abs_dot xs.now ys.now < 2 ^ 63 }

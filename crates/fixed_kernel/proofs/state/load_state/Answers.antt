@@ -1,11 +1,11 @@
-use Rattle.std.proofs.Common.{◌≡◌, ◌<◌, ◌-◌, ◌^◌, ◌*ℤ◌, length, get_or, pos, arith, rules, FitsSigned, sym, ◌∙◌, ℤ}
+use Rattle.std.proofs.Common.{◌≡◌, ◌-◌, ◌^◌, ◌*ℤ◌, length, get_or, pos, arith, rules, FitsSigned, ap, sym, ◌∙◌, ℤ}
 use Rattle.std.specs.Int.{w128}
 use Rattle.std.proofs.lemmas.Int.{to_z-of_z}
 use Rattle.std.proofs.lemmas.List.{ext_get_or, length-map, get_or-map}
-use Rattle.std.proofs.lemmas.List.Edits.{fill_by_more}
 use Rattle.qp_model.specs.machine.Controller.{numbers}
 use Rattle.qp_model.specs.machine.Machine.{loaded}
 use Rattle.fixed_kernel.proofs.States.{coordinate_fits}
+use Rattle.fixed_kernel.proofs.Copies.{filled_more}
 use Rattle.fixed_kernel.proofs.state.load_state.Goals as goal
 
 pub scaled-requires-clause-fits : goal.scaled-requires-clause-fits
@@ -18,9 +18,10 @@ loop-i-preserved c =
     let i = c.loop-i.i in
     let xs = c.args.state.now in
     let x : FitsSigned w128 (get_or xs i (pos 0)) = search rules in
-    let made : FitsSigned w128 c.scaled.result = search rules in
-    let lt : i < length c.loop-i.out = omega (arith, c.requires.inside.long) in
-    rw (to_z-of_z w128 _ made, c.scaled.ensures, to_z-of_z w128 _ x) (fill_by_more (λ k. get_or xs k (pos 0) *ℤ pos (2 ^ (c.args.c.now.f - c.args.c.now.g))) c.loop-i.out i (pos 0) lt c.loop-i.invariant)
+    let made : FitsSigned w128 c.scaled.result = record { sfits = c.scaled.type_inv } in
+    let power = pos (2 ^ (c.args.c.now.f - c.args.c.now.g)) in
+    filled_more (λ k. get_or xs k (pos 0) *ℤ power) _ i _ (omega (arith, c.requires.inside.long))
+    (to_z-of_z w128 _ made ∙ c.scaled.ensures ∙ ap (λ (z : ℤ). z *ℤ power) (to_z-of_z w128 _ x)) c.loop-i.invariant
 
 pub returns : goal.returns
 returns c =

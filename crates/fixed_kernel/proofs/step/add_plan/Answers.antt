@@ -1,7 +1,16 @@
-use Rattle.std.proofs.Common.{◌+ℤ◌, length, pos, get_or, arith}
-use Rattle.std.proofs.lemmas.List.FromFn.{fill_by_all}
+use Rattle.std.proofs.Common.{rules, arith}
+use Rattle.std.specs.Int.{w128}
+use Rattle.std.proofs.lemmas.Int.{to_z-of_z}
+use Rattle.fixed_kernel.proofs.Additions.{adds_next, all_added}
 use Rattle.fixed_kernel.proofs.step.add_plan.Goals as goal
 
+pub overflow_add-sum : goal.overflow_add-sum
+overflow_add-sum c =
+    (adds_next w128 _ _ _ _ _ _ (omega arith) c.loop-j.invariant (to_z-of_z w128 _ (search rules)) (to_z-of_z w128 _ (search rules)) (omega (arith, c.requires.fit c.loop-j.j (omega arith)))).fits
+
+pub loop-j-preserved : goal.loop-j-preserved
+loop-j-preserved c =
+    (adds_next w128 _ _ _ _ _ _ (omega arith) c.loop-j.invariant (to_z-of_z w128 _ (search rules)) (to_z-of_z w128 _ (search rules)) (omega (arith, c.requires.fit c.loop-j.j (omega arith)))).more
+
 pub returns : goal.returns
-returns c =
-    fill_by_all (λ j. get_or c.args.sums.now j (pos 0) +ℤ get_or c.args.plan.now j (pos 0)) c.loop-j.sums (length c.args.plan.now) (pos 0) (omega arith) (λ k h. c.loop-j.invariant.moved k (omega arith))
+returns c = all_added _ _ _ _ c.loop-j.invariant (omega arith) (omega arith)

@@ -1,40 +1,27 @@
-use Rattle.std.proofs.lemmas.Grind.{common_steps}
 use Rattle.std.proofs.Common.{pos, rules, arith, get_or, FitsSigned}
 use Rattle.std.specs.Int.{w64}
-use Rattle.std.proofs.lemmas.Int.{ints, to_z-of_z}
-use Rattle.mat_int.proofs.Dots.{dot-take_more}
-use Rattle.fixed_kernel.proofs.WordSums.{word_product_fits, word_sum_fits}
+use Rattle.std.proofs.lemmas.Int.{to_z-of_z}
+use Rattle.std.proofs.lemmas.Grind.{common_steps}
+use Rattle.fixed_kernel.proofs.WordSums.{word_term}
 use Rattle.fixed_kernel.proofs.wordwise.word_dot.Goals as goal
-
-pub loop-i-preserved : goal.loop-i-preserved
-loop-i-preserved c =
-    let xs = c.args.xs.now in
-    let ys = c.args.ys.now in
-    let i = c.loop-i.i in
-    let x : FitsSigned w64 (get_or xs i (pos 0)) = search rules in
-    let y : FitsSigned w64 (get_or ys i (pos 0)) = search rules in
-    let product = word_product_fits c.args.start xs ys i (omega arith) (omega arith) c.requires.room in
-    let sum = word_sum_fits c.args.start xs ys i (omega arith) (omega arith) c.requires.room in
-    rw (to_z-of_z w64 _ x, to_z-of_z w64 _ y, to_z-of_z w64 _ product, c.loop-i.invariant, to_z-of_z w64 _ c.ranges.start, to_z-of_z w64 _ sum, dot-take_more xs ys i (omega arith) (omega arith)) (omega (arith, ints))
-
-pub returns : goal.returns
-returns c = grind (arith, common_steps)
 
 pub overflow_mul-sum : goal.overflow_mul-sum
 overflow_mul-sum c =
-    let xs = c.args.xs.now in
-    let ys = c.args.ys.now in
-    let i = c.loop-i.i in
-    let x : FitsSigned w64 (get_or xs i (pos 0)) = search rules in
-    let y : FitsSigned w64 (get_or ys i (pos 0)) = search rules in
-    rw (to_z-of_z w64 _ x, to_z-of_z w64 _ y) (word_product_fits c.args.start xs ys i (omega arith) (omega arith) c.requires.room)
+    let x : FitsSigned w64 (get_or c.args.xs.now c.loop-i.i (pos 0)) = search rules in
+    let y : FitsSigned w64 (get_or c.args.ys.now c.loop-i.i (pos 0)) = search rules in
+    (word_term c.args.start _ c.args.xs.now c.args.ys.now c.loop-i.i _ _ _ (to_z-of_z w64 _ c.ranges.start) (to_z-of_z w64 _ x) (to_z-of_z w64 _ y) c.loop-i.invariant (omega arith) (omega arith) c.requires.room).product
 
 pub overflow_add-sum : goal.overflow_add-sum
 overflow_add-sum c =
-    let xs = c.args.xs.now in
-    let ys = c.args.ys.now in
-    let i = c.loop-i.i in
-    let x : FitsSigned w64 (get_or xs i (pos 0)) = search rules in
-    let y : FitsSigned w64 (get_or ys i (pos 0)) = search rules in
-    let product = word_product_fits c.args.start xs ys i (omega arith) (omega arith) c.requires.room in
-    rw (to_z-of_z w64 _ x, to_z-of_z w64 _ y, to_z-of_z w64 _ product, c.loop-i.invariant, to_z-of_z w64 _ c.ranges.start) (word_sum_fits c.args.start xs ys i (omega arith) (omega arith) c.requires.room)
+    let x : FitsSigned w64 (get_or c.args.xs.now c.loop-i.i (pos 0)) = search rules in
+    let y : FitsSigned w64 (get_or c.args.ys.now c.loop-i.i (pos 0)) = search rules in
+    (word_term c.args.start _ c.args.xs.now c.args.ys.now c.loop-i.i _ _ _ (to_z-of_z w64 _ c.ranges.start) (to_z-of_z w64 _ x) (to_z-of_z w64 _ y) c.loop-i.invariant (omega arith) (omega arith) c.requires.room).whole
+
+pub loop-i-preserved : goal.loop-i-preserved
+loop-i-preserved c =
+    let x : FitsSigned w64 (get_or c.args.xs.now c.loop-i.i (pos 0)) = search rules in
+    let y : FitsSigned w64 (get_or c.args.ys.now c.loop-i.i (pos 0)) = search rules in
+    (word_term c.args.start _ c.args.xs.now c.args.ys.now c.loop-i.i _ _ _ (to_z-of_z w64 _ c.ranges.start) (to_z-of_z w64 _ x) (to_z-of_z w64 _ y) c.loop-i.invariant (omega arith) (omega arith) c.requires.room).next
+
+pub returns : goal.returns
+returns c = grind (arith, common_steps)

@@ -1,8 +1,8 @@
-use Rattle.std.proofs.Common.{◌≡◌, length, pos, ap, subst, ◌∙◌, arith, refl, Option}
+use Rattle.std.proofs.Common.{◌≡◌, length, pos, ap, sym, subst, ◌∙◌, arith, refl, Option}
 use Rattle.std.specs.Prelude.{IfSome}
 use Rattle.std.proofs.lemmas.List.{length-replicate}
 use Rattle.qp_model.specs.machine.Controller.{Numbers, numbers}
-use Rattle.qp_model.specs.machine.Machine.{loaded, start_of}
+use Rattle.qp_model.specs.machine.Machine.{IsAdmissible, loaded, start_of}
 use Rattle.qp_model.specs.machine.AbsoluteSums.{IsController}
 use Rattle.word_region.specs.declared.Span.{Span}
 use Rattle.word_region.specs.Words.{RegionWords}
@@ -16,6 +16,28 @@ use Rattle.fixed_kernel.specs.Progress.{Progress}
 use Rattle.fixed_kernel.proofs.States.{low_inside}
 use Rattle.fixed_kernel.proofs.Reached.{Goes, Stands, reached, seen, written_region, words_first}
 use Rattle.fixed_kernel.proofs.kernel.Kernel.prepare.Goals as goal
+
+pub take_spans-spans-requires : goal.take_spans-spans-requires
+take_spans-spans-requires c = record {
+  sized = c.parts-c.ensures.sound.form.sized;
+  free = ap (λ (w : RegionWords). w.used) c.in_ok-region.ensures;
+  room = omega (arith, ap (λ (w : RegionWords). length w.words) c.in_ok-region.ensures, length-replicate c.parts-c.result.now.words (pos 0));
+}
+
+pub put_start-requires : goal.put_start-requires
+put_start-requires c =
+    let n = numbers c.parts-c.result.now in
+    record {
+      sound = c.parts-c.ensures.sound;
+      inside = subst (IsAdmissible n) (sym c.deref.ensures.value) (low_inside n c.parts-c.ensures.sound.form.sized);
+      long = c.cells_mut.ensures.len ∙ ap (λ (s : Span). s.len) c.all_of.ensures;
+    }
+
+pub has_narrow_factors-narrow-requires : goal.has_narrow_factors-narrow-requires
+has_narrow_factors-narrow-requires c = c.parts-c.ensures.sound.form.sized
+
+pub of-requires : goal.of-requires
+of-requires c = record { sound = c.parts-c.ensures.sound; narrow = c.has_narrow_factors-narrow.ensures.0 }
 
 -- the fields
 abbrev made_kernel : goal.In_ok-words → Option WordMachine → Inside
