@@ -1,5 +1,5 @@
 -- Multipliers raised and lowered again.
-use Rattle.std.proofs.Common.{◌≡◌, ℕ, ◌*◌, ◌^◌, ◌≤◌, ◌<◌, ℤ, pos, ◌+ℤ◌, ◌*ℤ◌, List, length, replicate, unsigned_abs, FitsSigned, arith, ap, sym, refl, ◌∙◌}
+use Rattle.std.proofs.Common.{◌≡◌, ℕ, ◌*◌, ◌^◌, ◌≤◌, ◌<◌, ℤ, pos, ◌+ℤ◌, ◌-ℤ◌, ◌*ℤ◌, List, length, replicate, unsigned_abs, FitsSigned, arith, ap, sym, refl, ◌∙◌}
 use Rattle.std.specs.Int.{w128, int_max, int_min}
 use Rattle.std.proofs.lemmas.Int.{ints, fits_signed_from_abs}
 use Rattle.std.proofs.lemmas.Nat.{pow_pos}
@@ -88,6 +88,22 @@ lowered_within c multiplier i le = omega (arith, abs-floor_le multiplier (2 ^ lo
 pub moved_is : (c : Numbers) (state plan : List ℤ) (old top : ℤ) (i : ℕ) → top ≡ top_of c i →
     int_min top (int_max (old +ℤ floor_of (row_sum c state plan i) (2 ^ c.fraction_bits)) (pos 0)) ≡ next_multiplier c state plan old i
 moved_is c state plan old top i e = ap (λ (z : ℤ). int_min z (int_max (old +ℤ floor_of (row_sum c state plan i) (2 ^ c.fraction_bits)) (pos 0))) e
+
+-- under other names of the greatest, of the one before and of the row's sum
+pub moved_as : (f : ℕ) (top t old o sum s : ℤ) → top ≡ t → old ≡ o → sum ≡ s →
+    int_min top (int_max (old +ℤ floor_of sum (2 ^ f)) (pos 0)) ≡ int_min t (int_max (o +ℤ floor_of s (2 ^ f)) (pos 0))
+moved_as f top t old o sum s a b c = rw (a, b, c) refl
+
+-- a row's sum, under other names of its products and its bound
+pub less_bound_as : (f : ℕ) (row r bound b : ℤ) → row ≡ r → bound ≡ b → row -ℤ bound *ℤ pos (2 ^ f) ≡ r -ℤ b *ℤ pos (2 ^ f)
+less_bound_as f row r bound b d e = rw (d, e) refl
+
+-- a multiple of a power, and a floor by one, under other names
+pub times_as : (z y : ℤ) (k l : ℕ) → z ≡ y → k ≡ l → z *ℤ pos (2 ^ k) ≡ y *ℤ pos (2 ^ l)
+times_as z y k l a b = rw (a, b) refl
+
+pub floor_as : (z y : ℤ) (k l : ℕ) → z ≡ y → k ≡ l → floor_of z (2 ^ k) ≡ floor_of y (2 ^ l)
+floor_as z y k l a b = rw (a, b) refl
 
 -- where no bit is lowered, it moves as it is
 pub moved_unlowered : (c : Numbers) (state plan : List ℤ) (raised : ℤ) (i : ℕ) → lowering_of c i ≡ 0 →

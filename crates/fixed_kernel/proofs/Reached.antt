@@ -67,9 +67,8 @@ sums_room p g lt j h =
     omega (arith, sum, all, (fit c g.sound).sums j h)
 
 -- one more step may be made
-ready : (p : Progress) → Goes p → p.made < p.controller.steps → IsReadyToStep p.controller (loaded p.controller p.state) (with_raised p.controller (iterate_of p))
+ready : (p : Progress) → Goes p → p.made < p.controller.steps → IsReadyToStep p.controller (with_raised p.controller (iterate_of p))
 ready p g lt = record {
-  state_within = state_reached p g;
   multipliers_within = after_multipliers p.controller (loaded p.controller p.state) p.made g.sound.form.sized.clamp_low;
   plan_long = plan_long p;
   sums_long = after_sums_length p.controller (loaded p.controller p.state) p.made;
@@ -83,10 +82,8 @@ state_held p g = state_back p.controller (loaded p.controller p.state) (with_rai
 pub made_held : (p : Progress) → Goes p → made_in p.controller (region_of p).words ≡ with_raised p.controller (iterate_of p)
 made_held p g = made_back p.controller (loaded p.controller p.state) (with_raised p.controller (iterate_of p)) (loaded_long p g) (words_multipliers_long p g) (plan_long p)
 
-pub ready_held : (p : Progress) → Goes p → p.made < p.controller.steps → IsReadyToStep p.controller (state_in p.controller (region_of p).words) (made_in p.controller (region_of p).words)
-ready_held p g lt =
-    subst (λ (s : List ℤ). IsReadyToStep p.controller s (made_in p.controller (region_of p).words)) (sym (state_held p g))
-    (subst (λ (m : Iterate). IsReadyToStep p.controller (loaded p.controller p.state) m) (sym (made_held p g)) (ready p g lt))
+ready_held : (p : Progress) → Goes p → p.made < p.controller.steps → IsReadyToStep p.controller (made_in p.controller (region_of p).words)
+ready_held p g lt = subst (IsReadyToStep p.controller) (sym (made_held p g)) (ready p g lt)
 
 -- the words after one more step
 pub words_after : (p : Progress) → Goes p →
@@ -194,10 +191,10 @@ pub lent_held : (k : Inside) → IsReached k → (s : Span) (lent : List ℤ) (n
 lent_held k r s lent n same e h =
     h ∙ ap (λ (t : Span). slice_range k.region.words t.start (t.start + t.len)) e ∙ lent_whole k.region.words n.words (held_long k r ∙ ap (λ (m : Numbers). m.words) (sym same))
 
-pub ready_lent : (k : Inside) → IsReached k → k.made < k.controller.now.steps → (n : Numbers) (lent : List ℤ) → n ≡ k.controller.now → lent ≡ k.region.words → IsReadyToStep n (state_in n lent) (made_in n lent)
+pub ready_lent : (k : Inside) → IsReached k → k.made < k.controller.now.steps → (n : Numbers) (lent : List ℤ) → n ≡ k.controller.now → lent ≡ k.region.words → IsReadyToStep n (made_in n lent)
 ready_lent k r lt n lent same h =
-    subst (λ (m : Numbers). IsReadyToStep m (state_in m lent) (made_in m lent)) (sym same)
-    (subst (λ (w : List ℤ). IsReadyToStep k.controller.now (state_in k.controller.now w) (made_in k.controller.now w)) (sym (h ∙ ap (λ (w : RegionWords). w.words) r.region)) (ready_held (progress_of k) (goes k r) lt))
+    subst (λ (m : Numbers). IsReadyToStep m (made_in m lent)) (sym same)
+    (subst (λ (w : List ℤ). IsReadyToStep k.controller.now (made_in k.controller.now w)) (sym (h ∙ ap (λ (w : RegionWords). w.words) r.region)) (ready_held (progress_of k) (goes k r) lt))
 
 -- ---- a run in words of 64 bits
 was_lent : (k : Inside) → IsReached k → (lent : List ℤ) → lent ≡ k.region.words → state_in k.controller.now lent ≡ loaded k.controller.now (progress_of k).state

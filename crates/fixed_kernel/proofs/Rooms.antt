@@ -77,3 +77,10 @@ next_room c state plan old i s h le w v =
     let b = unsigned_abs (at c.bounds i) * 2 ^ c.fraction_bits in
     let mono = ceil_div_mono (unsigned_abs (planned +ℤ own) + b) (unsigned_abs planned + unsigned_abs own + b) (2 ^ c.fraction_bits) (pow_pos c.fraction_bits) (omega (arith, abs-add_le planned own)) in
     omega (arith, mono, next_le c state plan old i le w v, (fit c s).next i h)
+
+-- both under other names of the row's products, its bound and the multiplier
+pub move_room : (c : Numbers) (state plan : List ℤ) (row bound old was : ℤ) (i : ℕ) →
+    IsController c → i < length c.bounds → unsigned_abs was ≤ unsigned_abs c.clamp → AreWithin state (state_magnitudes c) → AreWithin plan (plan_magnitudes c) →
+    row ≡ list_dot (row_of c.plan_rows i) plan +ℤ list_dot (row_of c.state_rows i) state → bound ≡ at c.bounds i → old ≡ was →
+    (unsigned_abs row + unsigned_abs bound * 2 ^ c.fraction_bits ≤ 2 ^ 126) × (unsigned_abs old + ceil_div (unsigned_abs row + unsigned_abs bound * 2 ^ c.fraction_bits) (2 ^ c.fraction_bits) ≤ 2 ^ 126)
+move_room c state plan row bound old was i s h le w v d e o = rw (d, e, o) (row_room c state plan i s h w v, next_room c state plan was i s h le w v)

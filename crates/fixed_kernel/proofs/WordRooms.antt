@@ -78,7 +78,7 @@ entry_sum_narrow c state multipliers j s narrow h w v =
 pub row_sum_is : (c : Numbers) (state plan : List ℤ) (i : ℕ) → row_base c state i +ℤ list_dot (row_of c.plan_rows i) plan ≡ row_sum c state plan i
 row_sum_is c state plan i = omega (arith, ints)
 
-pub next_sum_room : (c : Numbers) (state plan : List ℤ) (old : ℤ) (i : ℕ) → IsController c → c.width ≤ 64 → i < length c.bounds →
+next_sum_room : (c : Numbers) (state plan : List ℤ) (old : ℤ) (i : ℕ) → IsController c → c.width ≤ 64 → i < length c.bounds →
     unsigned_abs old ≤ unsigned_abs c.clamp → AreWithin state (state_magnitudes c) → AreWithin plan (plan_magnitudes c) →
     unsigned_abs old + ceil_div (unsigned_abs (row_sum c state plan i)) (2 ^ c.fraction_bits) < 2 ^ 63
 next_sum_room c state plan old i s narrow h le w v =
@@ -86,6 +86,12 @@ next_sum_room c state plan old i s narrow h le w v =
     let below : unsigned_abs (row_sum c state plan i) ≤ parts = subst (λ (z : ℤ). unsigned_abs z ≤ parts) (row_sum_is c state plan i) (whole_le (row_base c state i) (row_of c.plan_rows i) plan) in
     let mono = ceil_div_mono (unsigned_abs (row_sum c state plan i)) parts (2 ^ c.fraction_bits) (pow_pos c.fraction_bits) below in
     omega (arith, mono, next_word_room c state plan old i s narrow h le w v)
+
+-- under other names of the sum and of the multiplier
+pub next_room_as : (c : Numbers) (state plan : List ℤ) (sum old was : ℤ) (i : ℕ) → IsController c → c.width ≤ 64 → i < length c.bounds →
+    unsigned_abs was ≤ unsigned_abs c.clamp → AreWithin state (state_magnitudes c) → AreWithin plan (plan_magnitudes c) → sum ≡ row_sum c state plan i → old ≡ was →
+    unsigned_abs old + ceil_div (unsigned_abs sum) (2 ^ c.fraction_bits) < 2 ^ 63
+next_room_as c state plan sum old was i s narrow h le w v e o = rw (e, o) (next_sum_room c state plan was i s narrow h le w v)
 
 -- ---- the bases of all
 pub entry_bases_long : (c : Numbers) (state : List ℤ) → length (entry_bases c state) ≡ length c.offsets
@@ -137,6 +143,13 @@ entry_base_fits c state j s narrow h w =
     let less = mul-le (unsigned_abs own + t) (2 ^ c.step_exponent) (abs_dot (row_of c.state_gains j) state + t) (2 ^ c.step_exponent) (omega (arith, abs-dot_le (row_of c.state_gains j) state)) (le_refl (2 ^ c.step_exponent)) in
     base_fits own (at c.offsets j) c.fraction_bits c.step_exponent (omega (arith, less, own_scaled_le c state j w, (word_fit c s narrow).entries j h))
 
+-- a sum and a difference under other names
+pub plus_as : (x y a b : ℤ) → x ≡ a → y ≡ b → x +ℤ y ≡ a +ℤ b
+plus_as x y a b d e = rw (d, e)
+
+pub less_as : (x y a b : ℤ) → x ≡ a → y ≡ b → x -ℤ y ≡ a -ℤ b
+less_as x y a b d e = rw (d, e)
+
 -- the same of a row
 pub record RowBaseFits (own b : ℤ) (f : ℕ) : Type 0 where
   pub bound : FitsSigned w128 (b *ℤ pos (2 ^ f))
@@ -166,7 +179,6 @@ pub ready_in_words : (c : Numbers) (state entry_starts row_starts : List ℤ) (k
     AreWithin state (state_magnitudes c) → entry_starts ≡ entry_bases c state → row_starts ≡ row_bases c state → k < c.steps →
     IsReadyInWords c state entry_starts row_starts (with_raised c (after c state k))
 ready_in_words c state entry_starts row_starts k s words w e r lt = record {
-  state_within = w;
   entries = e;
   rows = r;
   multipliers_within = after_multipliers c state k s.form.sized.clamp_low;

@@ -8,7 +8,7 @@ use Rattle.qp_model.specs.machine.Controller.{Numbers}
 use Rattle.qp_model.specs.machine.Machine.{Iterate}
 use Rattle.word_region.specs.Lending.{written_over}
 use Rattle.word_region.proofs.LendingLaws.{written}
-use Rattle.fixed_kernel.specs.Spans.{words_of, state_in, made_in}
+use Rattle.fixed_kernel.specs.Spans.{words_of, made_of, state_in, made_in}
 
 -- ---- cut
 state_seam : (n : ℕ) (xs rest : List ℤ) → length xs ≡ n → take n (xs ++ rest) ≡ xs
@@ -29,6 +29,15 @@ made_back c state made h m p =
       behind_seam (length c.offsets) made.plan made.sums p,
       state_seam (length c.offsets) made.plan made.sums p,
     ) refl
+
+-- what the machine has made, of the parts in which the words are lent
+pub made_lent_in : (c : Numbers) (words behind multipliers last plan sums : List ℤ) (entries : ℕ) → behind ≡ drop c.states words → multipliers ≡ take c.rows behind → last ≡ drop c.rows behind →
+    entries ≡ length c.offsets → plan ≡ take entries last → sums ≡ drop entries last → made_of plan multipliers sums ≡ made_in c words
+made_lent_in c words behind multipliers last plan sums entries b m l e p s = rw (p, s, e, l, m, b) refl
+
+-- and of the same under other names
+pub made_as : (p q l m s t : List ℤ) (made : Iterate) → p ≡ q → l ≡ m → s ≡ t → made_of q m t ≡ made → made_of p l s ≡ made
+made_as p q l m s t made a b c h = rw (a, b, c) h
 
 -- ---- read
 pub at_multipliers : (n m i : ℕ) (state : List ℤ) (made : Iterate) → length state ≡ n → length made.multipliers ≡ m → i < m → at (words_of state made) (n + i) ≡ at made.multipliers i

@@ -1,14 +1,20 @@
--- What one more step asks of a kernel's words.
-use Rattle.std.specs.Prelude.{◌≡◌, ℕ, ◌+◌, ◌^◌, ◌≤◌, ◌<◌, ℤ, List, length, unsigned_abs, slice_index_or}
+-- What one more step asks of a kernel and of its words.
+use Rattle.std.specs.Prelude.{◌≡◌, ℕ, ◌+◌, ◌^◌, ◌≤◌, ◌<◌, ℤ, List, Bool, IsTrue, length, unsigned_abs, slice_index_or}
 use Rattle.integer_algebra.specs.Sums.{at}
 use Rattle.qp_model.specs.machine.Controller.{Numbers}
 use Rattle.qp_model.specs.machine.Machine.{Iterate}
-use Rattle.qp_model.specs.machine.AbsoluteSums.{state_magnitudes, clamp_magnitudes, plan_magnitudes}
+use Rattle.qp_model.specs.machine.AbsoluteSums.{state_magnitudes, clamp_magnitudes, plan_magnitudes, IsController}
 use Rattle.qp_model.specs.machine.Within.{AreWithin}
+use Rattle.fixed_kernel.specs.Factors.{HasNarrowFactors}
 
--- the state and the multipliers, which are raised there, are within their reaches, and the sums leave room for one more plan
-pub record IsReadyToStep (c : Numbers) (state : List ℤ) (made : Iterate) : Type 0 where
-  pub state_within : AreWithin state (state_magnitudes c)
+-- what a step stands on: a controller, whose factors are narrow where it says so, and a state within its reaches
+pub record IsStepSetting (c : Numbers) (told : Bool) (xs : List ℤ) : Type 0 where
+  pub sound : IsController c
+  pub narrow : IsTrue told → HasNarrowFactors c
+  pub state : AreWithin xs (state_magnitudes c)
+
+-- the multipliers, which are raised there, are within their reaches, and the sums leave room for one more plan
+pub record IsReadyToStep (c : Numbers) (made : Iterate) : Type 0 where
   pub multipliers_within : AreWithin made.multipliers (clamp_magnitudes c)
   pub plan_long : length made.plan ≡ length c.offsets
   pub sums_long : length made.sums ≡ length c.offsets

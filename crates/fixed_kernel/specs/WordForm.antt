@@ -6,7 +6,7 @@ use Rattle.mat_int.specs.Row.{list_dot}
 use Rattle.mat_int.specs.Matrix.{row_of}
 use Rattle.qp_model.specs.machine.Controller.{Numbers}
 use Rattle.qp_model.specs.machine.Machine.{Iterate}
-use Rattle.qp_model.specs.machine.AbsoluteSums.{state_magnitudes, clamp_magnitudes, plan_magnitudes}
+use Rattle.qp_model.specs.machine.AbsoluteSums.{clamp_magnitudes, plan_magnitudes}
 use Rattle.qp_model.specs.machine.Within.{AreWithin}
 
 -- what the sum of plan entry j starts from, scaled as it is written; with the multipliers' products it is `entry_sum`
@@ -40,9 +40,8 @@ pub record HasHalfFactors (c : Numbers) : Type 0 where
   pub clamp : IsHalf c.clamp
   pub width : c.width ≤ c.fraction_bits + c.step_exponent + 31
 
--- what one more step asks of a state, its bases and what the machine has made, its multipliers raised
+-- what one more step asks of a state's bases and of what the machine has made, its multipliers raised
 pub record IsReadyInWords (c : Numbers) (state entry_starts row_starts : List ℤ) (made : Iterate) : Type 0 where
-  pub state_within : AreWithin state (state_magnitudes c)
   pub entries : entry_starts ≡ entry_bases c state
   pub rows : row_starts ≡ row_bases c state
   pub multipliers_within : AreWithin made.multipliers (clamp_magnitudes c)

@@ -1,6 +1,8 @@
 -- What runs in words of 64 bits are made with is a controller's.
-use Rattle.std.specs.Prelude.{◌≡◌, IsTrue, length}
+use Rattle.std.specs.Prelude.{◌≡◌, ℤ, List, IsTrue, length}
 use Rattle.qp_model.specs.machine.Controller.{Numbers}
+use Rattle.qp_model.specs.machine.AbsoluteSums.{state_magnitudes, IsController}
+use Rattle.qp_model.specs.machine.Within.{AreWithin}
 use Rattle.fixed_kernel.specs.WordForm.{IsWordSized, HasHalfFactors}
 use Rattle.fixed_kernel.specs.declared.word_machine.WordForm.{WordForm}
 use Rattle.fixed_kernel.specs.declared.word_machine.WordRoom.{WordRoom}
@@ -12,6 +14,13 @@ pub record IsWordFormOf (c : Numbers) (w : WordForm) : Type 0 where
   pub rows : w.rows ≡ c.plan_rows
   pub top : w.top ≡ c.clamp
   pub half : IsTrue w.half → HasHalfFactors c
+
+-- what a step in such words stands on: a controller of such a size, its matrices and its clamp, and a state within its reaches
+pub record IsWordSetting (c : Numbers) (w : WordForm) (xs : List ℤ) : Type 0 where
+  pub sound : IsController c
+  pub sized : IsWordSized c
+  pub form : IsWordFormOf c w
+  pub state : AreWithin xs (state_magnitudes c)
 
 -- a word for each entry and each row
 pub record IsRoomFor (c : Numbers) (r : WordRoom) : Type 0 where

@@ -9,12 +9,11 @@ ghost use Rattle.mat_products.specs.Narrow.{IsNarrow};
 ghost use Rattle.qp_model.specs.problem.Limits.{text_version};
 ghost use Rattle.qp_model.specs.machine.Controller.{numbers};
 ghost use Rattle.qp_model.specs.machine.Machine.{lowering_of, raised, plan_entry, plan_of, row_sum, next_multiplier, next_multipliers, added};
-ghost use Rattle.qp_model.specs.machine.AbsoluteSums.{IsController, clamp_magnitudes, state_magnitudes, plan_magnitudes};
+ghost use Rattle.qp_model.specs.machine.AbsoluteSums.{IsController, clamp_magnitudes, plan_magnitudes};
 ghost use Rattle.qp_model.specs.machine.Within.{AreWithin};
-ghost use Rattle.fixed_kernel.specs.Factors.{HasNarrowFactors};
 ghost use Rattle.fixed_kernel.specs.Raised.{unraised, raised_step};
 ghost use Rattle.fixed_kernel.specs.Spans.{words_of, made_of, state_in, made_in};
-ghost use Rattle.fixed_kernel.specs.Ready.{IsReadyToStep};
+ghost use Rattle.fixed_kernel.specs.Ready.{IsStepSetting, IsReadyToStep};
 
 use crate::entry::{entry_from, multiplier_from, short_shift};
 use crate::narrow::{scaled_by, shifted_by, sum_of_products};
@@ -57,9 +56,7 @@ fn entry_at(
     multipliers: &[i128],
     j: usize,
 ) -> i128
-    requires sound { IsController (numbers c.now) }
-    requires narrow { IsTrue narrow → HasNarrowFactors (numbers c.now) }
-    requires state { AreWithin state.now (state_magnitudes (numbers c.now)) }
+    requires setting { IsStepSetting (numbers c.now) narrow state.now }
     requires multipliers { AreWithin multipliers.now (clamp_magnitudes (numbers c.now)) }
     requires in_range { j < length c.now.t.items }
     ensures { result ≡ plan_entry (numbers c.now) state.now multipliers.now j }
@@ -78,9 +75,7 @@ fn make_plan(
     multipliers: &[i128],
     plan: &mut [i128],
 )
-    requires sound { IsController (numbers c.now) }
-    requires narrow { IsTrue narrow → HasNarrowFactors (numbers c.now) }
-    requires state { AreWithin state.now (state_magnitudes (numbers c.now)) }
+    requires setting { IsStepSetting (numbers c.now) narrow state.now }
     requires multipliers { AreWithin multipliers.now (clamp_magnitudes (numbers c.now)) }
     requires plan { length plan.old ≡ length c.now.t.items }
     ensures value { plan.new ≡ plan_of (numbers c.now) state.now multipliers.now }
@@ -94,9 +89,7 @@ fn make_plan(
 // The sum of a row's products with a plan and with a state, by one running sum. It stays within each of the loops that call it.
 #[inline(always)]
 fn row_products(c: &ControllerParts, narrow: bool, state: &[i128], plan: &[i128], i: usize) -> i128
-    requires sound { IsController (numbers c.now) }
-    requires narrow { IsTrue narrow → HasNarrowFactors (numbers c.now) }
-    requires state { AreWithin state.now (state_magnitudes (numbers c.now)) }
+    requires setting { IsStepSetting (numbers c.now) narrow state.now }
     requires plan { AreWithin plan.now (plan_magnitudes (numbers c.now)) }
     requires in_range { i < length c.now.bound.items }
     ensures { result ≡ list_dot (row_of c.now.g_mat i) plan.now +ℤ list_dot (row_of c.now.e_mat i) state.now }
@@ -116,9 +109,7 @@ fn multiplier_at(
     top: i128,
     i: usize,
 ) -> i128
-    requires sound { IsController (numbers c.now) }
-    requires narrow { IsTrue narrow → HasNarrowFactors (numbers c.now) }
-    requires state { AreWithin state.now (state_magnitudes (numbers c.now)) }
+    requires setting { IsStepSetting (numbers c.now) narrow state.now }
     requires plan { AreWithin plan.now (plan_magnitudes (numbers c.now)) }
     requires old { unsigned_abs old ≤ unsigned_abs c.now.clamp }
     requires in_range { i < length c.now.bound.items }
@@ -137,9 +128,7 @@ fn move_multipliers(
     multipliers: &mut [i128],
 )
     requires first { c.now.version ≡ text_version }
-    requires sound { IsController (numbers c.now) }
-    requires narrow { IsTrue narrow → HasNarrowFactors (numbers c.now) }
-    requires state { AreWithin state.now (state_magnitudes (numbers c.now)) }
+    requires setting { IsStepSetting (numbers c.now) narrow state.now }
     requires plan { AreWithin plan.now (plan_magnitudes (numbers c.now)) }
     requires multipliers { AreWithin multipliers.old (clamp_magnitudes (numbers c.now)) }
     ensures { multipliers.new ≡ next_multipliers (numbers c.now) state.now plan.now multipliers.old }
@@ -161,9 +150,7 @@ fn raised_multiplier_at(
     exps: &[u32],
     i: usize,
 ) -> i128
-    requires sound { IsController (numbers c.now) }
-    requires narrow { IsTrue narrow → HasNarrowFactors (numbers c.now) }
-    requires state { AreWithin state.now (state_magnitudes (numbers c.now)) }
+    requires setting { IsStepSetting (numbers c.now) narrow state.now }
     requires plan { AreWithin plan.now (plan_magnitudes (numbers c.now)) }
     requires raised { unsigned_abs raised ≤ unsigned_abs c.now.clamp }
     requires exps { exps.now ≡ c.now.exps.items }
@@ -193,9 +180,7 @@ fn move_rows(
     plan: &[i128],
     multipliers: &mut [i128],
 )
-    requires sound { IsController (numbers c.now) }
-    requires narrow { IsTrue narrow → HasNarrowFactors (numbers c.now) }
-    requires state { AreWithin state.now (state_magnitudes (numbers c.now)) }
+    requires setting { IsStepSetting (numbers c.now) narrow state.now }
     requires plan { AreWithin plan.now (plan_magnitudes (numbers c.now)) }
     requires multipliers { AreWithin multipliers.old (clamp_magnitudes (numbers c.now)) }
     ensures { multipliers.new ≡ raised (numbers c.now) (next_multipliers (numbers c.now) state.now plan.now (unraised (numbers c.now) multipliers.old)) }
@@ -216,9 +201,7 @@ fn move_raised(
     plan: &[i128],
     multipliers: &mut [i128],
 )
-    requires sound { IsController (numbers c.now) }
-    requires narrow { IsTrue narrow → HasNarrowFactors (numbers c.now) }
-    requires state { AreWithin state.now (state_magnitudes (numbers c.now)) }
+    requires setting { IsStepSetting (numbers c.now) narrow state.now }
     requires plan { AreWithin plan.now (plan_magnitudes (numbers c.now)) }
     requires multipliers { AreWithin multipliers.old (clamp_magnitudes (numbers c.now)) }
     ensures { multipliers.new ≡ raised (numbers c.now) (next_multipliers (numbers c.now) state.now plan.now (unraised (numbers c.now) multipliers.old)) }
@@ -250,9 +233,8 @@ fn make_step(
     plan: &mut [i128],
     sums: &mut [i128],
 )
-    requires sound { IsController (numbers c.now) }
-    requires narrow { IsTrue narrow → HasNarrowFactors (numbers c.now) }
-    requires ready { IsReadyToStep (numbers c.now) state.now (made_of plan.old multipliers.old sums.old) }
+    requires setting { IsStepSetting (numbers c.now) narrow state.now }
+    requires ready { IsReadyToStep (numbers c.now) (made_of plan.old multipliers.old sums.old) }
     ensures { made_of plan.new multipliers.new sums.new ≡ raised_step (numbers c.now) state.now (made_of plan.old multipliers.old sums.old) }
 {
     make_plan(c, narrow, state, multipliers, plan);
@@ -269,10 +251,9 @@ fn make_step(
 // One step of the machine, in its region's words, which are lent in four parts. Where its factors are narrow, `narrow` may say so, and the
 // step is faster.
 pub fn advance(c: &ControllerParts, narrow: bool, words: &mut [i128])
-    requires sound { IsController (numbers c.now) }
-    requires narrow { IsTrue narrow → HasNarrowFactors (numbers c.now) }
+    requires setting { IsStepSetting (numbers c.now) narrow (state_in (numbers c.now) words.old) }
     requires long { length words.old ≡ c.now.words }
-    requires ready { IsReadyToStep (numbers c.now) (state_in (numbers c.now) words.old) (made_in (numbers c.now) words.old) }
+    requires ready { IsReadyToStep (numbers c.now) (made_in (numbers c.now) words.old) }
     ensures { let state = state_in (numbers c.now) words.old in
         words.new ≡ words_of state (raised_step (numbers c.now) state (made_in (numbers c.now) words.old)) }
 {

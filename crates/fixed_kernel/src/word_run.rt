@@ -7,8 +7,7 @@ ghost use Rattle.qp_model.specs.machine.Within.{AreWithin};
 ghost use Rattle.mat_products.specs.Narrow.{IsNarrow};
 ghost use Rattle.fixed_kernel.specs.Raised.{with_raised};
 ghost use Rattle.fixed_kernel.specs.Spans.{words_of, made_of, state_in, made_in};
-ghost use Rattle.fixed_kernel.specs.WordForm.{IsWordSized};
-ghost use Rattle.fixed_kernel.specs.WordMachine.{IsWordFormOf, IsMachineOf};
+ghost use Rattle.fixed_kernel.specs.WordMachine.{IsWordSetting, IsMachineOf};
 
 use crate::word_bases::{put_entry_bases, put_row_bases};
 use crate::word_machine::{WordForm, WordMachine};
@@ -53,10 +52,7 @@ fn finish_in_words(
     plan: &mut [i128],
     sums: &mut [i128],
 )
-    requires sound { IsController (numbers c.now) }
-    requires words { IsWordSized (numbers c.now) }
-    requires form { IsWordFormOf (numbers c.now) form.now }
-    requires state { AreWithin state.now (state_magnitudes (numbers c.now)) }
+    requires setting { IsWordSetting (numbers c.now) form.now state.now }
     requires entry_room { length entry_room.old ≡ length c.now.t.items }
     requires row_room { length row_room.old ≡ length c.now.bound.items }
     requires multiplier_room { length multiplier_room.old ≡ length multipliers.old }

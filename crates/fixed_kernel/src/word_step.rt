@@ -4,12 +4,12 @@ ghost use Rattle.integer_algebra.specs.Division.{floor_of};
 ghost use Rattle.integer_algebra.specs.Sums.{at};
 ghost use Rattle.qp_model.specs.machine.Controller.{numbers};
 ghost use Rattle.qp_model.specs.machine.Machine.{lowering_of, raised, plan_entry, plan_of, row_sum, next_multiplier, next_multipliers, added, after};
-ghost use Rattle.qp_model.specs.machine.AbsoluteSums.{IsController, clamp_magnitudes, state_magnitudes, plan_magnitudes};
+ghost use Rattle.qp_model.specs.machine.AbsoluteSums.{clamp_magnitudes, plan_magnitudes};
 ghost use Rattle.qp_model.specs.machine.Within.{AreWithin};
 ghost use Rattle.fixed_kernel.specs.Raised.{unraised, with_raised, raised_step};
 ghost use Rattle.fixed_kernel.specs.Spans.{made_of};
-ghost use Rattle.fixed_kernel.specs.WordForm.{entry_bases, row_bases, IsWordSized, HasHalfFactors, IsReadyInWords};
-ghost use Rattle.fixed_kernel.specs.WordMachine.{IsWordFormOf};
+ghost use Rattle.fixed_kernel.specs.WordForm.{entry_bases, row_bases, HasHalfFactors, IsReadyInWords};
+ghost use Rattle.fixed_kernel.specs.WordMachine.{IsWordSetting};
 
 use crate::step::{exponents_of, lowering_at};
 use crate::word_machine::WordForm;
@@ -27,11 +27,8 @@ fn word_entry_at(
     multipliers: &[i64],
     j: usize,
 ) -> i64
-    requires sound { IsController (numbers c.now) }
-    requires words { IsWordSized (numbers c.now) }
-    requires form { IsWordFormOf (numbers c.now) form.now }
+    requires setting { IsWordSetting (numbers c.now) form.now state.now }
     requires half { IsTrue half → HasHalfFactors (numbers c.now) }
-    requires state { AreWithin state.now (state_magnitudes (numbers c.now)) }
     requires bases { bases.now ≡ entry_bases (numbers c.now) state.now }
     requires multipliers { AreWithin multipliers.now (clamp_magnitudes (numbers c.now)) }
     requires in_range { j < length c.now.t.items }
@@ -52,11 +49,8 @@ fn word_entries(
     multipliers: &[i64],
     plan: &mut [i64],
 )
-    requires sound { IsController (numbers c.now) }
-    requires words { IsWordSized (numbers c.now) }
-    requires form { IsWordFormOf (numbers c.now) form.now }
+    requires setting { IsWordSetting (numbers c.now) form.now state.now }
     requires half { IsTrue half → HasHalfFactors (numbers c.now) }
-    requires state { AreWithin state.now (state_magnitudes (numbers c.now)) }
     requires bases { bases.now ≡ entry_bases (numbers c.now) state.now }
     requires multipliers { AreWithin multipliers.now (clamp_magnitudes (numbers c.now)) }
     requires plan { length plan.old ≡ length c.now.t.items }
@@ -77,10 +71,7 @@ fn word_plan(
     multipliers: &[i64],
     plan: &mut [i64],
 )
-    requires sound { IsController (numbers c.now) }
-    requires words { IsWordSized (numbers c.now) }
-    requires form { IsWordFormOf (numbers c.now) form.now }
-    requires state { AreWithin state.now (state_magnitudes (numbers c.now)) }
+    requires setting { IsWordSetting (numbers c.now) form.now state.now }
     requires bases { bases.now ≡ entry_bases (numbers c.now) state.now }
     requires multipliers { AreWithin multipliers.now (clamp_magnitudes (numbers c.now)) }
     requires plan { length plan.old ≡ length c.now.t.items }
@@ -104,11 +95,8 @@ fn word_row_sum(
     plan: &[i64],
     i: usize,
 ) -> i64
-    requires sound { IsController (numbers c.now) }
-    requires words { IsWordSized (numbers c.now) }
-    requires form { IsWordFormOf (numbers c.now) form.now }
+    requires setting { IsWordSetting (numbers c.now) form.now state.now }
     requires half { IsTrue half → HasHalfFactors (numbers c.now) }
-    requires state { AreWithin state.now (state_magnitudes (numbers c.now)) }
     requires bases { bases.now ≡ row_bases (numbers c.now) state.now }
     requires plan { AreWithin plan.now (plan_magnitudes (numbers c.now)) }
     requires in_range { i < length c.now.bound.items }
@@ -131,11 +119,8 @@ fn word_multiplier_at(
     exps: &[u32],
     i: usize,
 ) -> i64
-    requires sound { IsController (numbers c.now) }
-    requires words { IsWordSized (numbers c.now) }
-    requires form { IsWordFormOf (numbers c.now) form.now }
+    requires setting { IsWordSetting (numbers c.now) form.now state.now }
     requires half { IsTrue half → HasHalfFactors (numbers c.now) }
-    requires state { AreWithin state.now (state_magnitudes (numbers c.now)) }
     requires bases { bases.now ≡ row_bases (numbers c.now) state.now }
     requires plan { AreWithin plan.now (plan_magnitudes (numbers c.now)) }
     requires raised { unsigned_abs raised ≤ unsigned_abs c.now.clamp }
@@ -166,11 +151,8 @@ fn word_rows(
     plan: &[i64],
     multipliers: &mut [i64],
 )
-    requires sound { IsController (numbers c.now) }
-    requires words { IsWordSized (numbers c.now) }
-    requires form { IsWordFormOf (numbers c.now) form.now }
+    requires setting { IsWordSetting (numbers c.now) form.now state.now }
     requires half { IsTrue half → HasHalfFactors (numbers c.now) }
-    requires state { AreWithin state.now (state_magnitudes (numbers c.now)) }
     requires bases { bases.now ≡ row_bases (numbers c.now) state.now }
     requires plan { AreWithin plan.now (plan_magnitudes (numbers c.now)) }
     requires multipliers { AreWithin multipliers.old (clamp_magnitudes (numbers c.now)) }
@@ -192,10 +174,7 @@ fn word_multipliers(
     plan: &[i64],
     multipliers: &mut [i64],
 )
-    requires sound { IsController (numbers c.now) }
-    requires words { IsWordSized (numbers c.now) }
-    requires form { IsWordFormOf (numbers c.now) form.now }
-    requires state { AreWithin state.now (state_magnitudes (numbers c.now)) }
+    requires setting { IsWordSetting (numbers c.now) form.now state.now }
     requires bases { bases.now ≡ row_bases (numbers c.now) state.now }
     requires plan { AreWithin plan.now (plan_magnitudes (numbers c.now)) }
     requires multipliers { AreWithin multipliers.old (clamp_magnitudes (numbers c.now)) }
@@ -230,9 +209,7 @@ pub fn word_step(
     plan: &mut [i64],
     sums: &mut [i64],
 )
-    requires sound { IsController (numbers c.now) }
-    requires words { IsWordSized (numbers c.now) }
-    requires form { IsWordFormOf (numbers c.now) form.now }
+    requires setting { IsWordSetting (numbers c.now) form.now state.now }
     requires ready { IsReadyInWords (numbers c.now) state.now entry_starts.now row_starts.now (made_of plan.old multipliers.old sums.old) }
     ensures { made_of plan.new multipliers.new sums.new ≡ raised_step (numbers c.now) state.now (made_of plan.old multipliers.old sums.old) }
 {
@@ -253,10 +230,7 @@ pub fn word_steps(
     plan: &mut [i64],
     sums: &mut [i64],
 )
-    requires sound { IsController (numbers c.now) }
-    requires words { IsWordSized (numbers c.now) }
-    requires form { IsWordFormOf (numbers c.now) form.now }
-    requires state { AreWithin state.now (state_magnitudes (numbers c.now)) }
+    requires setting { IsWordSetting (numbers c.now) form.now state.now }
     requires entry_starts { entry_starts.now ≡ entry_bases (numbers c.now) state.now }
     requires row_starts { row_starts.now ≡ row_bases (numbers c.now) state.now }
     requires made { made ≤ c.now.steps }

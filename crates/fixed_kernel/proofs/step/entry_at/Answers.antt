@@ -21,31 +21,31 @@ plus_comm a b = omega (arith, ints)
 -- ---- the multipliers' sum
 pub sum_of_products-dual-requires-clause-lengths : goal.sum_of_products-dual-requires-clause-lengths
 sum_of_products-dual-requires-clause-lengths c =
-    omega (arith, c.row.ensures.len, c.requires.sound.form.sized.shaped.dual_gains.cols, multipliers_long (numbers c.args.c.now) c.args.multipliers.now c.requires.sound c.requires.multipliers)
+    omega (arith, c.row.ensures.len, c.requires.setting.sound.form.sized.shaped.dual_gains.cols, multipliers_long (numbers c.args.c.now) c.args.multipliers.now c.requires.setting.sound c.requires.multipliers)
 
 pub sum_of_products-dual-requires-clause-left : goal.sum_of_products-dual-requires-clause-left
 sum_of_products-dual-requires-clause-left c = λ t.
-    let shaped = c.requires.sound.form.sized.shaped in
-    rw c.row.ensures.value ((c.requires.narrow t).dual_gains c.args.j [] (omega (arith, c.requires.in_range, shaped.offsets, shaped.dual_gains.rows)))
+    let shaped = c.requires.setting.sound.form.sized.shaped in
+    rw c.row.ensures.value ((c.requires.setting.narrow t).dual_gains c.args.j [] (omega (arith, c.requires.in_range, shaped.offsets, shaped.dual_gains.rows)))
 
 pub sum_of_products-dual-requires-clause-right : goal.sum_of_products-dual-requires-clause-right
-sum_of_products-dual-requires-clause-right c = λ t. multipliers_narrow (numbers c.args.c.now) c.args.multipliers.now (c.requires.narrow t) c.requires.multipliers
+sum_of_products-dual-requires-clause-right c = λ t. multipliers_narrow (numbers c.args.c.now) c.args.multipliers.now (c.requires.setting.narrow t) c.requires.multipliers
 
 pub sum_of_products-dual-requires-clause-room : goal.sum_of_products-dual-requires-clause-room
-sum_of_products-dual-requires-clause-room c = rw c.row.ensures.value (omega (arith, dual_room (numbers c.args.c.now) c.args.multipliers.now c.args.j c.requires.sound c.requires.in_range c.requires.multipliers))
+sum_of_products-dual-requires-clause-room c = rw c.row.ensures.value (omega (arith, dual_room (numbers c.args.c.now) c.args.multipliers.now c.args.j c.requires.setting.sound c.requires.in_range c.requires.multipliers))
 
 -- ---- the state's products on top of it
 pub sum_of_products-sum-requires-clause-lengths : goal.sum_of_products-sum-requires-clause-lengths
 sum_of_products-sum-requires-clause-lengths c =
-    omega (arith, c.row-2.ensures.len, c.requires.sound.form.sized.shaped.state_gains.cols, state_long (numbers c.args.c.now) c.args.state.now c.requires.sound c.requires.state)
+    omega (arith, c.row-2.ensures.len, c.requires.setting.sound.form.sized.shaped.state_gains.cols, state_long (numbers c.args.c.now) c.args.state.now c.requires.setting.sound c.requires.setting.state)
 
 pub sum_of_products-sum-requires-clause-left : goal.sum_of_products-sum-requires-clause-left
 sum_of_products-sum-requires-clause-left c = λ t.
-    let shaped = c.requires.sound.form.sized.shaped in
-    rw c.row-2.ensures.value ((c.requires.narrow t).state_gains c.args.j [] (omega (arith, c.requires.in_range, shaped.offsets, shaped.state_gains.rows)))
+    let shaped = c.requires.setting.sound.form.sized.shaped in
+    rw c.row-2.ensures.value ((c.requires.setting.narrow t).state_gains c.args.j [] (omega (arith, c.requires.in_range, shaped.offsets, shaped.state_gains.rows)))
 
 pub sum_of_products-sum-requires-clause-right : goal.sum_of_products-sum-requires-clause-right
-sum_of_products-sum-requires-clause-right c = λ t. state_narrow (numbers c.args.c.now) c.args.state.now c.requires.sound (c.requires.narrow t) c.requires.state
+sum_of_products-sum-requires-clause-right c = λ t. state_narrow (numbers c.args.c.now) c.args.state.now c.requires.setting.sound (c.requires.setting.narrow t) c.requires.setting.state
 
 pub sum_of_products-sum-requires-clause-room : goal.sum_of_products-sum-requires-clause-room
 sum_of_products-sum-requires-clause-room c =
@@ -55,7 +55,7 @@ sum_of_products-sum-requires-clause-room c =
     let shifted : FitsSigned w128 c.short_shift.result = search rules in
     let dual : c.sum_of_products-dual.result ≡ products = rw c.row.ensures.value at c.sum_of_products-dual.ensures ∙ from_zero products in
     rw (to_z-of_z w128 _ shifted, c.short_shift.ensures, to_z-of_z w128 _ made, dual, c.row-2.ensures.value)
-    (inner_room n c.args.state.now c.args.multipliers.now c.args.j c.requires.sound c.requires.in_range c.requires.state c.requires.multipliers)
+    (inner_room n c.args.state.now c.args.multipliers.now c.args.j c.requires.setting.sound c.requires.in_range c.requires.setting.state c.requires.multipliers)
 
 -- ---- the entry
 pub entry_from-requires-clause-fits : goal.entry_from-requires-clause-fits
@@ -69,7 +69,7 @@ entry_from-requires-clause-fits c =
     let read : c.index.result.now ≡ get_or c.args.c.now.t.items c.args.j (pos 0) = get_or_read _ _ _ c.requires.in_range c.index.ensures (pos 0) in
     let dual : c.sum_of_products-dual.result ≡ products = rw c.row.ensures.value at c.sum_of_products-dual.ensures ∙ from_zero products in
     rw (to_z-of_z w128 _ sum, to_z-of_z w128 _ offset, read, c.sum_of_products-sum.ensures, to_z-of_z w128 _ shifted, c.short_shift.ensures, to_z-of_z w128 _ made, dual, c.row-2.ensures.value)
-    (entry_room n c.args.state.now c.args.multipliers.now c.args.j c.requires.sound c.requires.in_range c.requires.state c.requires.multipliers)
+    (entry_room n c.args.state.now c.args.multipliers.now c.args.j c.requires.setting.sound c.requires.in_range c.requires.setting.state c.requires.multipliers)
 
 pub returns : goal.returns
 returns c =

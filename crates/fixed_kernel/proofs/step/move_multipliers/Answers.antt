@@ -14,7 +14,7 @@ use Rattle.fixed_kernel.proofs.step.move_multipliers.Goals as goal
 pub loop-i-preserved : goal.loop-i-preserved
 loop-i-preserved c =
     let n = numbers c.args.c.now in
-    let sized = c.requires.sound.form.sized in
+    let sized = c.requires.setting.sound.form.sized in
     let i = c.loop-i.i in
     let made : FitsSigned w128 c.multiplier_at.result = search rules in
     let old : FitsSigned w128 (get_or c.loop-i.multipliers i (pos 0)) = search rules in
@@ -37,14 +37,11 @@ returns c =
     (length c.args.c.now.bound.items) (pos 0) (omega (arith, c.requires.multipliers.long, length-clamp_reach (numbers c.args.c.now)))
     (λ k h. c.loop-i.invariant.moved k (omega (arith, c.requires.multipliers.long, length-clamp_reach (numbers c.args.c.now))))
 
-pub multiplier_at-requires-clause-old : goal.multiplier_at-requires-clause-old
-multiplier_at-requires-clause-old c =
+pub multiplier_at-requires : goal.multiplier_at-requires
+multiplier_at-requires c =
     let n = numbers c.args.c.now in
     let i = c.loop-i.i in
     let old : FitsSigned w128 (get_or c.loop-i.multipliers i (pos 0)) = search rules in
     let row : i < length n.bounds = omega (arith, c.requires.multipliers.long, length-clamp_reach n) in
     let same = c.loop-i.invariant.others i (omega arith) in
-    rw (to_z-of_z w128 _ old, same) (within_clamp n c.args.multipliers.now i row c.requires.multipliers)
-
-pub multiplier_at-requires-clause-in_range : goal.multiplier_at-requires-clause-in_range
-multiplier_at-requires-clause-in_range c = omega (arith, c.requires.multipliers.long, length-clamp_reach (numbers c.args.c.now))
+    record { setting = c.requires.setting; plan = c.requires.plan; old = rw (to_z-of_z w128 _ old, same) (within_clamp n c.args.multipliers.now i row c.requires.multipliers); in_range = row }

@@ -1,35 +1,24 @@
-use Rattle.std.proofs.Common.{pos, get_or, rules, arith, FitsSigned, refl, ◌∙◌}
+use Rattle.std.proofs.Common.{◌<◌, length, rules, arith, ◌∙◌, FitsSigned}
 use Rattle.std.specs.Int.{w128}
 use Rattle.std.proofs.lemmas.Int.{to_z-of_z}
 use Rattle.qp_model.specs.machine.Controller.{numbers}
-use Rattle.overflow_check.proofs.Sizes.{length-clamp_reach}
-use Rattle.fixed_kernel.proofs.RowMoves.{none_moved, row_moved, row_within, all_moved}
+use Rattle.fixed_kernel.proofs.RowMoves.{row_moved, row_within, rows_long, all_moved}
 use Rattle.fixed_kernel.proofs.step.move_rows.Goals as goal
 
-pub loop-i-init : goal.loop-i-init
-loop-i-init c = none_moved _ _ _ _
+pub exponents_of-exps-requires : goal.exponents_of-exps-requires
+exponents_of-exps-requires c = record { sound = c.requires.setting.sound; rows = rows_long (numbers c.args.c.now) _ c.requires.multipliers }
 
-pub raised_multiplier_at-requires-clause-raised : goal.raised_multiplier_at-requires-clause-raised
-raised_multiplier_at-requires-clause-raised c =
+pub raised_multiplier_at-requires : goal.raised_multiplier_at-requires
+raised_multiplier_at-requires c =
     let n = numbers c.args.c.now in
-    let old : FitsSigned w128 (get_or c.loop-i.multipliers c.loop-i.i (pos 0)) = search rules in
-    rw (to_z-of_z w128 _ old) (row_within n _ _ _ _ _ c.loop-i.invariant (omega (arith, c.requires.multipliers.long, length-clamp_reach n)) c.requires.multipliers)
+    let row : c.loop-i.i < length n.bounds = omega (arith, rows_long n _ c.requires.multipliers) in
+    let raised = row_within n _ _ _ _ _ _ (to_z-of_z w128 _ (search rules)) c.loop-i.invariant row c.requires.multipliers in
+    record { setting = c.requires.setting; plan = c.requires.plan; raised = raised; exps = c.exponents_of-exps.ensures; in_range = row }
 
 pub loop-i-preserved : goal.loop-i-preserved
 loop-i-preserved c =
-    let made : FitsSigned w128 c.raised_multiplier_at.result = search rules in
-    let old : FitsSigned w128 (get_or c.loop-i.multipliers c.loop-i.i (pos 0)) = search rules in
-    let same = c.loop-i.invariant.others c.loop-i.i (omega arith) in
-    rw (to_z-of_z w128 _ made) (row_moved _ _ _ _ _ c.loop-i.i _ (omega arith) c.loop-i.invariant (c.raised_multiplier_at.ensures ∙ rw (to_z-of_z w128 _ old, same) refl))
+    let made : FitsSigned w128 c.raised_multiplier_at.result = record { sfits = c.raised_multiplier_at.type_inv } in
+    row_moved _ _ _ _ _ c.loop-i.i _ _ (omega arith) c.loop-i.invariant (to_z-of_z w128 _ (search rules)) (to_z-of_z w128 _ made ∙ c.raised_multiplier_at.ensures)
 
 pub returns : goal.returns
-returns c =
-    let n = numbers c.args.c.now in
-    let long = length-clamp_reach n in
-    all_moved n _ _ _ c.loop-i.multipliers _ c.loop-i.invariant (omega (arith, c.requires.multipliers.long, long)) (omega (arith, c.requires.multipliers.long, long))
-
-pub exponents_of-exps-requires-clause-rows : goal.exponents_of-exps-requires-clause-rows
-exponents_of-exps-requires-clause-rows c = omega (arith, c.requires.multipliers.long, length-clamp_reach (numbers c.args.c.now))
-
-pub raised_multiplier_at-requires-clause-in_range : goal.raised_multiplier_at-requires-clause-in_range
-raised_multiplier_at-requires-clause-in_range c = omega (arith, c.requires.multipliers.long, length-clamp_reach (numbers c.args.c.now))
+returns c = all_moved _ _ _ _ _ _ c.loop-i.invariant c.requires.multipliers (omega arith) (omega arith)

@@ -1,79 +1,73 @@
-use Rattle.std.proofs.Common.{◌≡◌, pos, rules, FitsSigned, arith, refl}
+use Rattle.std.proofs.Common.{◌≡◌, ◌^◌, ℤ, pos, ◌+ℤ◌, ◌*ℤ◌, List, to_z, of_z, rules, FitsSigned, arith, ap, sym, subst, ◌∙◌}
 use Rattle.std.specs.Int.{w64, w128}
 use Rattle.std.proofs.lemmas.Int.{to_z-of_z}
 use Rattle.std.proofs.lemmas.List.{get_or_read}
 use Rattle.integer_algebra.specs.Sums.{at}
+use Rattle.mat_int.specs.Row.{list_dot}
+use Rattle.mat_int.specs.Matrix.{row_of}
 use Rattle.qp_model.specs.machine.Controller.{numbers}
 use Rattle.fixed_kernel.proofs.Rooms.{state_long}
-use Rattle.fixed_kernel.proofs.WordRooms.{own_word_room, entry_base_fits}
+use Rattle.fixed_kernel.proofs.WordRooms.{BaseFits, own_word_room, entry_base_fits, plus_as}
 use Rattle.fixed_kernel.proofs.word_bases.word_entry_base.Goals as goal
+use Rattle.fixed_kernel.proofs.word_bases.word_entry_base.Goals.{Start, After-short_scaled}
 
-pub dot-own-requires-clause-lengths : goal.dot-own-requires-clause-lengths
-dot-own-requires-clause-lengths c =
-    omega (arith, c.row.ensures.len, c.requires.sound.form.sized.shaped.state_gains.cols, state_long (numbers c.args.c.now) c.args.state.now c.requires.sound c.requires.state)
+-- what the base meets fits
+fits : (c : Start) → BaseFits (list_dot (row_of (numbers c.args.c.now).state_gains c.args.j) c.args.state.now) (at c.args.c.now.t.items c.args.j) c.args.c.now.f c.args.c.now.s
+fits c = entry_base_fits (numbers c.args.c.now) c.args.state.now c.args.j c.requires.sound c.requires.words.width c.requires.in_range c.requires.state
 
-pub dot-own-requires-clause-room : goal.dot-own-requires-clause-room
-dot-own-requires-clause-room c =
-    rw c.row.ensures.value (own_word_room (numbers c.args.c.now) c.args.state.now c.args.j c.requires.sound c.requires.words.width c.requires.in_range c.requires.state)
-
-pub short_scaled-requires-clause-fits : goal.short_scaled-requires-clause-fits
-short_scaled-requires-clause-fits c =
+pub dot-own-requires : goal.dot-own-requires
+dot-own-requires c =
     let n = numbers c.args.c.now in
-    let fits = entry_base_fits n c.args.state.now c.args.j c.requires.sound c.requires.words.width c.requires.in_range c.requires.state in
+    let own = own_word_room n c.args.state.now c.args.j c.requires.sound c.requires.words.width c.requires.in_range c.requires.state in
+    record { lengths = c.row.ensures.len ∙ c.requires.sound.form.sized.shaped.state_gains.cols ∙ sym (state_long n c.args.state.now c.requires.sound c.requires.state); room = rw c.row.ensures.value own }
+
+pub short_scaled-requires : goal.short_scaled-requires
+short_scaled-requires c =
     let offset : FitsSigned w128 c.index.result.now = search rules in
-    let read : c.index.result.now ≡ at n.offsets c.args.j = get_or_read _ _ _ c.requires.in_range c.index.ensures (pos 0) in
-    rw (to_z-of_z w128 _ offset, read) fits.offset
+    let read = to_z-of_z w128 _ offset ∙ get_or_read _ _ _ c.requires.in_range c.index.ensures (pos 0) in
+    record {
+      bits = omega (arith, c.requires.words.bits);
+      fits = subst (λ (z : ℤ). FitsSigned w128 (z *ℤ pos (2 ^ c.args.c.now.f))) (sym read) (fits (goal.at.short_scaled-requires c).Start).offset;
+    }
+
+-- the sum that is scaled
+sum_is : (c : After-short_scaled) → to_z w128 (of_z w128 c.dot-own.result) +ℤ to_z w128 (of_z w128 c.short_scaled.result)
+    ≡ list_dot (row_of (numbers c.args.c.now).state_gains c.args.j) c.args.state.now +ℤ at c.args.c.now.t.items c.args.j *ℤ pos (2 ^ c.args.c.now.f)
+sum_is c =
+    let offset : FitsSigned w128 c.index.result.now = search rules in
+    let own : FitsSigned w128 c.dot-own.result = record { sfits = c.dot-own.type_inv } in
+    let shifted : FitsSigned w128 c.short_scaled.result = record { sfits = c.short_scaled.type_inv } in
+    plus_as _ _ _ _ (to_z-of_z w128 _ own ∙ c.dot-own.ensures ∙ ap (λ (xs : List ℤ). list_dot xs c.args.state.now) c.row.ensures.value)
+    (to_z-of_z w128 _ shifted ∙ c.short_scaled.ensures ∙ ap (λ (z : ℤ). z *ℤ pos (2 ^ c.args.c.now.f)) (to_z-of_z w128 _ offset ∙ get_or_read _ _ _ c.requires.in_range c.index.ensures (pos 0)))
 
 pub overflow_add-own : goal.overflow_add-own
 overflow_add-own c =
-    let n = numbers c.args.c.now in
-    let fits = entry_base_fits n c.args.state.now c.args.j c.requires.sound c.requires.words.width c.requires.in_range c.requires.state in
-    let offset : FitsSigned w128 c.index.result.now = search rules in
-    let read : c.index.result.now ≡ at n.offsets c.args.j = get_or_read _ _ _ c.requires.in_range c.index.ensures (pos 0) in
-    let own : FitsSigned w128 c.dot-own.result = search rules in
-    let shifted : FitsSigned w128 c.short_scaled.result = search rules in
-    rw (to_z-of_z w128 _ own, to_z-of_z w128 _ shifted, c.dot-own.ensures, c.row.ensures.value, c.short_scaled.ensures, to_z-of_z w128 _ offset, read) fits.sum
+    let p = goal.at.overflow_add-own c in
+    subst (FitsSigned w128) (sym (sum_is p.After-short_scaled)) (fits p.Start).sum
 
-pub short_scaled-requires-2-clause-fits : goal.short_scaled-requires-2-clause-fits
-short_scaled-requires-2-clause-fits c =
-    let n = numbers c.args.c.now in
-    let fits = entry_base_fits n c.args.state.now c.args.j c.requires.sound c.requires.words.width c.requires.in_range c.requires.state in
-    let offset : FitsSigned w128 c.index.result.now = search rules in
-    let read : c.index.result.now ≡ at n.offsets c.args.j = get_or_read _ _ _ c.requires.in_range c.index.ensures (pos 0) in
-    let own : FitsSigned w128 c.dot-own.result = search rules in
-    let shifted : FitsSigned w128 c.short_scaled.result = search rules in
-    rw (to_z-of_z w128 _ own, to_z-of_z w128 _ shifted, c.dot-own.ensures, c.row.ensures.value, c.short_scaled.ensures, to_z-of_z w128 _ offset, read, to_z-of_z w128 _ fits.sum) fits.scaled
+pub short_scaled-requires-2 : goal.short_scaled-requires-2
+short_scaled-requires-2 c =
+    let p = goal.at.short_scaled-requires-2 c in
+    let same = sum_is p.After-short_scaled in
+    let sum = subst (FitsSigned w128) (sym same) (fits p.Start).sum in
+    record {
+      bits = omega (arith, c.requires.words.bits);
+      fits = subst (λ (z : ℤ). FitsSigned w128 (z *ℤ pos (2 ^ c.args.c.now.s))) (sym (to_z-of_z w128 _ sum ∙ same)) (fits p.Start).scaled;
+    }
 
 pub overflow_cast-result : goal.overflow_cast-result
 overflow_cast-result c =
-    let n = numbers c.args.c.now in
-    let fits = entry_base_fits n c.args.state.now c.args.j c.requires.sound c.requires.words.width c.requires.in_range c.requires.state in
-    let offset : FitsSigned w128 c.index.result.now = search rules in
-    let read : c.index.result.now ≡ at n.offsets c.args.j = get_or_read _ _ _ c.requires.in_range c.index.ensures (pos 0) in
-    let own : FitsSigned w128 c.dot-own.result = search rules in
-    let shifted : FitsSigned w128 c.short_scaled.result = search rules in
-    let whole : FitsSigned w128 c.short_scaled-2.result = search rules in
-    rw (to_z-of_z w128 _ whole, c.short_scaled-2.ensures, to_z-of_z w128 _ own, to_z-of_z w128 _ shifted, c.dot-own.ensures, c.row.ensures.value, c.short_scaled.ensures, to_z-of_z w128 _ offset, read, to_z-of_z w128 _ fits.sum) fits.word
+    let p = goal.at.overflow_cast-result c in
+    let same = sum_is p.After-short_scaled in
+    let sum = subst (FitsSigned w128) (sym same) (fits p.Start).sum in
+    let whole : FitsSigned w128 c.short_scaled-2.result = record { sfits = c.short_scaled-2.type_inv } in
+    subst (FitsSigned w64) (sym (to_z-of_z w128 _ whole ∙ c.short_scaled-2.ensures ∙ ap (λ (z : ℤ). z *ℤ pos (2 ^ c.args.c.now.s)) (to_z-of_z w128 _ sum ∙ same))) (fits p.Start).word
 
 pub returns : goal.returns
 returns c =
-    let n = numbers c.args.c.now in
-    let fits = entry_base_fits n c.args.state.now c.args.j c.requires.sound c.requires.words.width c.requires.in_range c.requires.state in
-    let offset : FitsSigned w128 c.index.result.now = search rules in
-    let read : c.index.result.now ≡ at n.offsets c.args.j = get_or_read _ _ _ c.requires.in_range c.index.ensures (pos 0) in
-    let own : FitsSigned w128 c.dot-own.result = search rules in
-    let shifted : FitsSigned w128 c.short_scaled.result = search rules in
-    let whole : FitsSigned w128 c.short_scaled-2.result = search rules in
-    rw (
-      to_z-of_z w128 _ whole,
-      c.short_scaled-2.ensures,
-      to_z-of_z w128 _ own,
-      to_z-of_z w128 _ shifted,
-      c.dot-own.ensures,
-      c.row.ensures.value,
-      c.short_scaled.ensures,
-      to_z-of_z w128 _ offset,
-      read,
-      to_z-of_z w128 _ fits.sum,
-      to_z-of_z w64 _ fits.word,
-    ) refl
+    let p = goal.at.returns c in
+    let same = sum_is p.After-short_scaled in
+    let sum = subst (FitsSigned w128) (sym same) (fits p.Start).sum in
+    let whole : FitsSigned w128 c.short_scaled-2.result = record { sfits = c.short_scaled-2.type_inv } in
+    let is = to_z-of_z w128 _ whole ∙ c.short_scaled-2.ensures ∙ ap (λ (z : ℤ). z *ℤ pos (2 ^ c.args.c.now.s)) (to_z-of_z w128 _ sum ∙ same) in
+    to_z-of_z w64 _ (subst (FitsSigned w64) (sym is) (fits p.Start).word) ∙ is

@@ -14,20 +14,20 @@ bounds-bases-j c = rw (c.requires.bases, entry_bases_long (numbers c.args.c.now)
 
 pub row-requires : goal.row-requires
 row-requires c =
-    let shaped = c.requires.sound.form.sized.shaped in
-    rw c.requires.form.gains (omega (arith, shaped.dual_gains.rows, shaped.offsets, c.requires.in_range))
+    let shaped = c.requires.setting.sound.form.sized.shaped in
+    rw c.requires.setting.form.gains (omega (arith, shaped.dual_gains.rows, shaped.offsets, c.requires.in_range))
 
 pub dot-sum-requires-clause-lengths : goal.dot-sum-requires-clause-lengths
 dot-sum-requires-clause-lengths c =
     let n = numbers c.args.c.now in
-    let len = rw c.requires.form.gains at c.row.ensures.len in
-    omega (arith, len, c.requires.sound.form.sized.shaped.dual_gains.cols, multipliers_long n c.args.multipliers.now c.requires.sound c.requires.multipliers)
+    let len = rw c.requires.setting.form.gains at c.row.ensures.len in
+    omega (arith, len, c.requires.setting.sound.form.sized.shaped.dual_gains.cols, multipliers_long n c.args.multipliers.now c.requires.setting.sound c.requires.multipliers)
 
 pub dot-sum-requires-clause-left : goal.dot-sum-requires-clause-left
 dot-sum-requires-clause-left c = λ t.
     let n = numbers c.args.c.now in
-    let shaped = c.requires.sound.form.sized.shaped in
-    let row : c.row.result.now ≡ row_of n.dual_gains c.args.j = rw c.requires.form.gains at c.row.ensures.value in
+    let shaped = c.requires.setting.sound.form.sized.shaped in
+    let row : c.row.result.now ≡ row_of n.dual_gains c.args.j = rw c.requires.setting.form.gains at c.row.ensures.value in
     rw row ((c.requires.half t).dual_gains c.args.j [] (omega (arith, shaped.dual_gains.rows, shaped.offsets, c.requires.in_range)))
 
 pub dot-sum-requires-clause-right : goal.dot-sum-requires-clause-right
@@ -39,9 +39,9 @@ dot-sum-requires-clause-room c =
     let base : FitsSigned w64 (get_or c.args.bases.now c.args.j (pos 0)) = search rules in
     let read : get_or c.args.bases.now c.args.j (pos 0) ≡ entry_base n c.args.state.now c.args.j =
     ap (λ (xs : List ℤ). get_or xs c.args.j (pos 0)) c.requires.bases ∙ entry_bases_at n c.args.state.now c.args.j c.requires.in_range in
-    let row : c.row.result.now ≡ row_of n.dual_gains c.args.j = rw c.requires.form.gains at c.row.ensures.value in
+    let row : c.row.result.now ≡ row_of n.dual_gains c.args.j = rw c.requires.setting.form.gains at c.row.ensures.value in
     rw (to_z-of_z w64 _ base, read, row)
-    (entry_word_room n c.args.state.now c.args.multipliers.now c.args.j c.requires.sound c.requires.words.width c.requires.in_range c.requires.state c.requires.multipliers)
+    (entry_word_room n c.args.state.now c.args.multipliers.now c.args.j c.requires.setting.sound c.requires.setting.sized.width c.requires.in_range c.requires.setting.state c.requires.multipliers)
 
 pub word_entry-requires-clause-room : goal.word_entry-requires-clause-room
 word_entry-requires-clause-room c =
@@ -50,9 +50,9 @@ word_entry-requires-clause-room c =
     let base : FitsSigned w64 (get_or c.args.bases.now c.args.j (pos 0)) = search rules in
     let read : get_or c.args.bases.now c.args.j (pos 0) ≡ entry_base n c.args.state.now c.args.j =
     ap (λ (xs : List ℤ). get_or xs c.args.j (pos 0)) c.requires.bases ∙ entry_bases_at n c.args.state.now c.args.j c.requires.in_range in
-    let row : c.row.result.now ≡ row_of n.dual_gains c.args.j = rw c.requires.form.gains at c.row.ensures.value in
+    let row : c.row.result.now ≡ row_of n.dual_gains c.args.j = rw c.requires.setting.form.gains at c.row.ensures.value in
     rw (to_z-of_z w64 _ sum, c.dot-sum.ensures, to_z-of_z w64 _ base, read, row)
-    (entry_sum_narrow n c.args.state.now c.args.multipliers.now c.args.j c.requires.sound c.requires.words.width c.requires.in_range c.requires.state c.requires.multipliers)
+    (entry_sum_narrow n c.args.state.now c.args.multipliers.now c.args.j c.requires.setting.sound c.requires.setting.sized.width c.requires.in_range c.requires.setting.state c.requires.multipliers)
 
 pub returns : goal.returns
 returns c =
@@ -62,5 +62,5 @@ returns c =
     let base : FitsSigned w64 (get_or c.args.bases.now c.args.j (pos 0)) = search rules in
     let read : get_or c.args.bases.now c.args.j (pos 0) ≡ entry_base n c.args.state.now c.args.j =
     ap (λ (xs : List ℤ). get_or xs c.args.j (pos 0)) c.requires.bases ∙ entry_bases_at n c.args.state.now c.args.j c.requires.in_range in
-    let row : c.row.result.now ≡ row_of n.dual_gains c.args.j = rw c.requires.form.gains at c.row.ensures.value in
+    let row : c.row.result.now ≡ row_of n.dual_gains c.args.j = rw c.requires.setting.form.gains at c.row.ensures.value in
     rw (to_z-of_z w64 _ entry, c.word_entry.ensures, to_z-of_z w64 _ sum, c.dot-sum.ensures, to_z-of_z w64 _ base, read, row) refl

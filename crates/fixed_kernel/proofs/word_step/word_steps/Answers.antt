@@ -13,7 +13,7 @@ word_step-requires-clause-ready c =
     let n = numbers c.args.c.now in
     let state = c.args.state.now in
     subst (λ (m : Iterate). IsReadyInWords n state c.args.entry_starts.now c.args.row_starts.now m) (sym c.loop-k.invariant)
-    (ready_in_words n state c.args.entry_starts.now c.args.row_starts.now c.loop-k.k c.requires.sound c.requires.words c.requires.state c.requires.entry_starts c.requires.row_starts (omega arith))
+    (ready_in_words n state c.args.entry_starts.now c.args.row_starts.now c.loop-k.k c.requires.setting.sound c.requires.setting.sized c.requires.setting.state c.requires.entry_starts c.requires.row_starts (omega arith))
 
 pub loop-k-preserved : goal.loop-k-preserved
 loop-k-preserved c =

@@ -5,7 +5,7 @@ use Rattle.overflow_check.proofs.Runs.{after_suc}
 use Rattle.word_region.specs.declared.Span.{Span}
 use Rattle.fixed_kernel.specs.Factors.{HasNarrowFactors}
 use Rattle.fixed_kernel.specs.Progress.{Progress, iterate_of, progress_of}
-use Rattle.fixed_kernel.proofs.Reached.{Stands, reached, seen, kernel_with, stepped_stands, lent_held, ready_lent}
+use Rattle.fixed_kernel.proofs.Reached.{Stands, reached, seen, kernel_with, stepped_stands, lent_held, state_lent, ready_lent}
 use Rattle.fixed_kernel.proofs.kernel.Kernel.step.Goals as goal
 
 pub advance-requires-clause-ready : goal.advance-requires-clause-ready
@@ -17,11 +17,17 @@ advance-requires-clause-ready c =
     let lent = lent_held k r c.all_of.result c.cells_mut.result.now n c.parts-c.ensures.value c.all_of.ensures c.cells_mut.ensures.value in
     ready_lent k r lt n c.cells_mut.result.now c.parts-c.ensures.value lent
 
-pub advance-requires-clause-sound : goal.advance-requires-clause-sound
-advance-requires-clause-sound c = c.parts-c.ensures.sound
-
-pub advance-requires-clause-narrow : goal.advance-requires-clause-narrow
-advance-requires-clause-narrow c = λ t. subst HasNarrowFactors (sym c.parts-c.ensures.value) (c.self.invariant.narrow t)
+pub advance-requires-clause-setting : goal.advance-requires-clause-setting
+advance-requires-clause-setting c =
+    let k = c.self.inside in
+    let r = c.self.invariant in
+    let n = numbers c.parts-c.result.now in
+    let lent = lent_held k r c.all_of.result c.cells_mut.result.now n c.parts-c.ensures.value c.all_of.ensures c.cells_mut.ensures.value in
+    record {
+      sound = c.parts-c.ensures.sound;
+      narrow = λ t. subst HasNarrowFactors (sym c.parts-c.ensures.value) (r.narrow t);
+      state = state_lent k r n c.cells_mut.result.now c.parts-c.ensures.value lent;
+    }
 
 pub advance-requires-clause-long : goal.advance-requires-clause-long
 advance-requires-clause-long c = c.cells_mut.ensures.len ∙ ap (λ (s : Span). s.len) c.all_of.ensures
