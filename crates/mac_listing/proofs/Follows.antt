@@ -1,14 +1,11 @@
 -- A line can follow where it has its place and its numbers are in range.
-use Rattle.std.proofs.Common.{◌≡◌, inl, inr, ℕ, zero, suc, ◌+◌, ◌-◌, ◌*◌, ◌^◌, ◌<◌, ◌≤◌, ℤ, pos, ◌≤ℤ◌, List, [], ◌∷◌, ◌++◌, length, get_or, take, drop, map, replicate, refl, sym, ap, subst, ◌∙◌, append_assoc, arith}
-use Rattle.std.specs.Prelude.{◌↔◌, ◌⊎◌, All, FitsSigned, codes}
-use Rattle.std.specs.Int.{w128}
+use Rattle.std.proofs.Common.{◌≡◌, inl, inr, ℕ, zero, suc, ◌+◌, ◌-◌, ◌*◌, ◌<◌, ◌≤◌, ℤ, pos, ◌≤ℤ◌, List, [], ◌∷◌, ◌++◌, length, get_or, take, drop, map, replicate, refl, sym, ap, subst, ◌∙◌, append_assoc, arith}
+use Rattle.std.specs.Prelude.{◌↔◌, ◌⊎◌, All, codes}
 use Rattle.std.specs.List.{AllByRecursion}
-use Rattle.std.proofs.lemmas.Int.{ints}
-use Rattle.std.proofs.lemmas.List.{append-nil, get_or_at, get_or_append_left, get_or-append-add, take_at, drop_at, length-append, length-map, length-replicate, length-take-le, take-append-drop, get_or-map}
+use Rattle.std.proofs.lemmas.List.{append-nil, get_or_at, get_or_append_left, get_or-append-add, take_at, length-append, length-map, length-replicate, length-take-le, take-append-drop, get_or-map}
 use Rattle.std.proofs.lemmas.List.Elements.{All-from_recursion, recursion_from_All, All-replicate}
 use Rattle.integer_algebra.specs.Sums.{at}
 use Rattle.qp_model.specs.problem.Range.{LiesIn, IsNumerator}
-use Rattle.qp_model.specs.problem.PartRules.{AreHighs}
 use Rattle.text_lines.specs.Lines.{Keyed, keyed_line, no_line, Fits, line_in, small, place, place_of}
 use Rattle.text_lines.specs.Grammar.{IsBeginning}
 use Rattle.text_lines.proofs.Blocks.{key_is, count_is}

@@ -1,5 +1,5 @@
 -- What is read from the lines of a listing.
-use Rattle.std.proofs.Common.{◌≡◌, ◌∙◌, ℕ, ◌<◌, ◌≤◌, ◌-◌, List, [], ◌∷◌, Result, Ok, length, take, drop, map, refl, sym, ap, subst, arith}
+use Rattle.std.proofs.Common.{◌≡◌, ◌∙◌, ℕ, ◌-◌, List, [], ◌∷◌, Result, Ok, length, take, drop, map, refl, sym, ap, subst}
 use Rattle.std.specs.Prelude.{MatchResult}
 use Rattle.std.specs.Global.{Vec}
 use Rattle.std.proofs.lemmas.List.{length-map, take-map, drop-map}
@@ -13,7 +13,6 @@ use Rattle.mac_listing.specs.FirstLine.{IsBadListingLine}
 use Rattle.mac_listing.specs.Whole.{IsWholeListing}
 use Rattle.mac_listing.specs.Reading.{op_in, body_in, listing_in}
 use Rattle.mac_listing.proofs.Texts.{listing_again, one_listing, are_lines}
-use Rattle.mac_listing.proofs.Follows.{whole_long}
 
 -- the listing whose lines they are
 whole_is : (ls : List Keyed) (w : IsWholeListing ls) → listing_in ls ≡ w.numbers
@@ -24,9 +23,6 @@ whole_listing ls w = subst IsListing (sym (whole_is ls w)) w.listing
 
 pub whole_text : (bytes : List ℕ) (ls : List Keyed) → IsWholeListing ls → bytes ≡ text_of (map spelled ls) → IsListingText bytes (listing_in ls)
 whole_text bytes ls w e = subst (λ (l : Instructions). IsListingText bytes l) (sym (whole_is ls w)) (are_lines.to bytes (record { lines = ls; whole = w; text = e }))
-
-pub lines_long : (lines : List Line) → IsWholeListing (views lines) → 10 ≤ length lines
-lines_long lines w = omega (arith, whole_long (views lines) w, length-map lines view)
 
 -- ---- the instructions of the lines after the head
 ops_seen : (lines : List Line) → map (λ (l : Line). op_in (view l)) lines ≡ map op_in (views lines)

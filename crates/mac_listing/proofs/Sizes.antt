@@ -1,11 +1,11 @@
 -- The text of a controller's listing is no longer than a file may be.
-use Rattle.std.proofs.Common.{◌≡◌, ◌∙◌, ℕ, zero, suc, ◌+◌, ◌*◌, ◌^◌, ◌<◌, ◌≤◌, ℤ, pos, negsuc, List, [], ◌∷◌, ◌++◌, length, map, FitsSigned, ap, subst, arith}
+use Rattle.std.proofs.Common.{◌≡◌, ◌∙◌, ℕ, suc, ◌+◌, ◌*◌, ◌<◌, ◌≤◌, ℤ, pos, negsuc, List, [], ◌∷◌, ◌++◌, length, map, FitsSigned, ap, arith}
 use Rattle.std.specs.Prelude.{All, codes}
 use Rattle.std.specs.Int.{w128}
-use Rattle.std.specs.Fmt.{decimal, signed_decimal}
+use Rattle.std.specs.Fmt.{signed_decimal}
 use Rattle.std.specs.List.{join_with_byte, AllByRecursion}
 use Rattle.std.proofs.lemmas.Fmt.{length-decimal-le_wide}
-use Rattle.std.proofs.lemmas.List.{length-append, length-map}
+use Rattle.std.proofs.lemmas.List.{length-append}
 use Rattle.number_text.specs.Lines.{line_of, text_of}
 use Rattle.text_lines.specs.Lines.{Keyed, keyed_line, no_line, spelled, Fits}
 use Rattle.text_lines.proofs.OneText.{text_append}
@@ -13,9 +13,8 @@ use Rattle.qp_model.specs.machine.Controller.{Numbers}
 use Rattle.qp_model.specs.machine.AbsoluteSums.{IsController}
 use Rattle.mac_listing.specs.declared.instruction.Op.{Op}
 use Rattle.mac_listing.specs.declared.instruction.Op.TheVariants.{Clear, Load, Store, Mac, Con, AddM, Shl, Shr, Neg, Low, Cap}
-use Rattle.mac_listing.specs.Body.{body_of}
 use Rattle.mac_listing.specs.Listing.{Instructions, IsOp, IsListing, listing_of}
-use Rattle.mac_listing.specs.Text.{op_keyed, op_line, head_keyed, head_lines, listing_lines, listing_text, OpFitsWord, IsListingText}
+use Rattle.mac_listing.specs.Text.{op_line, head_keyed, head_lines, listing_text, OpFitsWord, IsListingText}
 use Rattle.mac_listing.proofs.Ranges.{body_short}
 use Rattle.mac_listing.proofs.Texts.{head_good}
 

@@ -1,24 +1,22 @@
 -- The lines of a listing are its text, each of them can be read, and they are those of one listing.
-use Rattle.std.proofs.Common.{◌≡◌, ℕ, zero, suc, ◌+◌, ◌-◌, ◌*◌, ◌^◌, ◌<◌, ◌≤◌, Bool, true, false, ℤ, pos, negsuc, ◌≤ℤ◌, List, [], ◌∷◌, ◌++◌, length, get_or, take, drop, map, FitsSigned, refl, sym, ap, subst, ◌∙◌, append_assoc, arith}
-use Rattle.std.specs.Prelude.{All, codes, if◌then◌else◌, ◌==◌, ◌&&◌}
+use Rattle.std.proofs.Common.{◌≡◌, ℕ, suc, ◌+◌, ◌-◌, ◌*◌, ◌^◌, ◌<◌, ◌≤◌, ℤ, pos, ◌≤ℤ◌, List, [], ◌∷◌, ◌++◌, length, take, map, FitsSigned, refl, sym, ap, subst, ◌∙◌, arith}
+use Rattle.std.specs.Prelude.{All, codes}
 use Rattle.std.specs.Int.{w128}
 use Rattle.std.proofs.lemmas.Bool.Decides.{nat_tests}
 use Rattle.std.proofs.lemmas.Int.{ints}
 use Rattle.std.proofs.lemmas.Nat.{mul-le}
-use Rattle.std.proofs.lemmas.List.{map-append, take_at, drop_at, length-append, length-map}
+use Rattle.std.proofs.lemmas.List.{map-append, take_at, length-append, length-map}
 use Rattle.std.proofs.lemmas.List.Elements.{All-nil, All-cons, All-append, All-from_recursion, All-replicate}
-use Rattle.integer_algebra.specs.Sums.{at}
-use Rattle.qp_model.specs.problem.Range.{IsNumerator}
 use Rattle.number_text.specs.Lines.{text_of}
-use Rattle.text_lines.specs.Lines.{Keyed, keyed_line, IsKeyedLine, spelled, line_in, small}
-use Rattle.text_lines.specs.Grammar.{IsGrammar, IsTextOf}
+use Rattle.text_lines.specs.Lines.{Keyed, keyed_line, IsKeyedLine, spelled, small}
+use Rattle.text_lines.specs.Grammar.{IsGrammar}
 use Rattle.text_lines.proofs.Beginnings.{begins}
 use Rattle.text_lines.proofs.Good.{natural_fits, half_words_fit, quarter_fits, good, good_of}
 use Rattle.text_lines.proofs.OneText.{one_text, no_prefix_of}
 use Rattle.mac_listing.specs.declared.instruction.Op.{Op}
 use Rattle.mac_listing.specs.declared.instruction.Op.TheVariants.{Clear, Load, Store, Mac, Con, AddM, Shl, Shr, Neg, Low, Cap}
 use Rattle.mac_listing.specs.Listing.{Instructions, IsOp, IsListing}
-use Rattle.mac_listing.specs.Text.{op_keyed, op_line, head_keyed, keyed_listing, listing_lines, listing_text, OpFitsWord, IsListingText}
+use Rattle.mac_listing.specs.Text.{op_keyed, op_line, head_keyed, keyed_listing, listing_lines, listing_text, OpFitsWord}
 use Rattle.mac_listing.specs.Whole.{IsWholeListing}
 use Rattle.mac_listing.specs.Reading.{small_in, op_in, body_in, listing_in}
 use Rattle.mac_listing.specs.Laws.{HasOneListing, ListingHasNoPrefix, AreLines}
