@@ -1,15 +1,11 @@
 -- The lines of a controller are its text, and each of them can be read.
-use Rattle.std.proofs.Common.{◌≡◌, ℕ, ◌^◌, ◌<◌, ◌≤◌, Bool, true, false, ltb, ℤ, pos, negsuc, List, [], ◌∷◌, get_or, map, FitsSigned, refl, ap, ◌∙◌, append_assoc, arith}
-use Rattle.std.specs.Prelude.{All, codes, ◌≤ℤ◌, ◌==◌, if◌then◌else◌}
+use Rattle.std.proofs.Common.{◌≡◌, ℕ, ◌^◌, ◌<◌, ◌≤◌, Bool, true, false, ltb, ℤ, pos, List, [], ◌∷◌, get_or, map, FitsSigned, refl, ap, ◌∙◌, append_assoc, arith}
+use Rattle.std.specs.Prelude.{All, codes, ◌==◌, if◌then◌else◌}
 use Rattle.std.specs.Int.{w128}
 use Rattle.std.specs.List.{list_all, AllByRecursion}
 use Rattle.std.proofs.Math.Nat.{mul-le-mul}
-use Rattle.std.proofs.lemmas.Bool.Decides.{nat_tests}
-use Rattle.std.proofs.lemmas.List.Sums.{AllPass-from_list_all}
 use Rattle.std.proofs.lemmas.List.Elements.{All-map, All-from_recursion, recursion_from_All}
-use Rattle.std.proofs.lemmas.Int.{ints}
 use Rattle.mat_int.specs.Matrix.{Matrix}
-use Rattle.qp_model.specs.problem.Range.{IsNumerator}
 use Rattle.number_text.specs.Lines.{line_of, text_of}
 use Rattle.qp_model.specs.machine.Controller.{Numbers, IsInForm, FitsWord}
 use Rattle.qp_model.specs.text.ControllerText.{controller_lines, controller_text}
