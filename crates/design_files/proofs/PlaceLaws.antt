@@ -42,7 +42,8 @@ after_sizes n p v = plant_places n p v ++ after_plant n p v
 abbrev pub first_places : ℕ → ℕ → Values → List Rule
 first_places n p v = size_places v ++ (plant_places n p v ++ cost_places n p v)
 
-in_halves : (a b c d : List Rule) → a ++ (b ++ (c ++ d)) ≡ (a ++ (b ++ c)) ++ d
+-- three lists as one, and what is after them
+pub in_halves : (a b c d : List Rule) → a ++ (b ++ (c ++ d)) ≡ (a ++ (b ++ c)) ++ d
 in_halves a b c d = sym (append_assoc a (b ++ c) d ∙ ap (λ rest. a ++ rest) (append_assoc b c d))
 
 pub halves : (v : Values) → place_rules v ≡ first_places (count_of v.states) (count_of v.inputs) v ++ after_cost (count_of v.states) (count_of v.inputs) v

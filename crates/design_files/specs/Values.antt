@@ -1,5 +1,5 @@
 -- The keys of a design text, in the order of their places, and the values that stand there.
-use Rattle.std.specs.Prelude.{ℕ, List, [], ◌∷◌, codes, All, Contains, Option, IsSome, IfSome}
+use Rattle.std.specs.Prelude.{ℕ, List, [], ◌∷◌, ◌++◌, codes, All, Contains, Option, IsSome, IfSome}
 use Rattle.toml.specs.Data.{Data, Members, no_members, member, get_member}
 use Rattle.qp_model.specs.problem.Rules.{Rule, key}
 use Rattle.design_files.specs.Document.{table_at, value_at}
@@ -89,3 +89,10 @@ box_keys v = key 16 (IsSome v.grid) ∷ key 17 (IsSome v.lo) ∷ key 18 (IsSome 
 
 abbrev pub target_keys : Values → List Rule
 target_keys v = key 19 (IsSome v.target_den) ∷ key 20 (IsSome v.violation) ∷ key 21 (IsSome v.gap) ∷ []
+
+-- before the limits, and from there on
+abbrev pub first_keys : Values → List Rule
+first_keys v = top_keys v ++ (plant_keys v ++ cost_keys v)
+
+abbrev pub last_keys : Values → List Rule
+last_keys v = limit_keys v ++ (box_keys v ++ target_keys v)

@@ -1,5 +1,5 @@
 //! The values at a design text's keys.
-ghost use Rattle.std.specs.Prelude.{◌≡◌, ◌↔◌, ◌≤◌, ◌+◌, ◌∷◌, [], Some, None, IsSome, IfOk, OnOk, IfErr, IsTrue, map, string_bytes};
+ghost use Rattle.std.specs.Prelude.{◌≡◌, ◌↔◌, ◌≤◌, ◌+◌, ◌∷◌, [], Some, None, IsSome, IfOk, IfErr, IsTrue, map, string_bytes};
 ghost use Rattle.std.specs.List.{list_any, list_all};
 ghost use Rattle.std.specs.Str.{bytes_eq};
 ghost use Rattle.std.specs.BTreeMap.{keys};
@@ -7,8 +7,8 @@ ghost use Rattle.toml.specs.Data.{get_member};
 ghost use Rattle.toml.specs.View.{view, table_view};
 ghost use Rattle.qp_model.specs.problem.Rules.{Tests, key};
 ghost use Rattle.design_files.specs.Document.{table_at, value_at};
-ghost use Rattle.design_files.specs.Values.{values_of, HasOnly, top_keys, plant_keys, cost_keys, limit_keys, box_keys, target_keys, further_keys};
-ghost use Rattle.design_files.specs.Keys.{seen, AreTop, ArePlant, AreCost, AreLimitKeys, AreBox, AreTargets};
+ghost use Rattle.design_files.specs.Values.{values_of, HasOnly, top_keys, cost_keys, first_keys, last_keys, further_keys};
+ghost use Rattle.design_files.specs.Keys.{seen, AreTop, AreThree, AreCost, AreFirst, AreLast};
 ghost use Rattle.design_files.specs.Places.{key_rules};
 ghost use Rattle.design_files.specs.DesignText.{Reads};
 
@@ -18,12 +18,28 @@ use toml::{Table, Value};
 /// The values at the keys of a design text, by its tables.
 #[derive(Clone, Copy)]
 pub struct Keys<'a> {
+    pub first: FirstKeys<'a>,
+    pub last: LastKeys<'a>,
+}
+
+/// Those before the limits.
+#[derive(Clone, Copy)]
+pub struct FirstKeys<'a> {
     pub top: TopKeys<'a>,
-    pub plant: PlantKeys<'a>,
+    /// `den`, `a` and `b`.
+    pub plant: ThreeKeys<'a>,
     pub cost: CostKeys<'a>,
-    pub limits: LimitsKeys<'a>,
-    pub box_: BoxKeys<'a>,
-    pub targets: TargetsKeys<'a>,
+}
+
+/// Those from the limits on.
+#[derive(Clone, Copy)]
+pub struct LastKeys<'a> {
+    /// `den`, `stage` and `final`.
+    pub limits: ThreeKeys<'a>,
+    /// `grid`, `lo` and `hi`.
+    pub box_: ThreeKeys<'a>,
+    /// `den`, `violation` and `gap`.
+    pub targets: ThreeKeys<'a>,
 }
 
 #[derive(Clone, Copy)]
@@ -35,61 +51,51 @@ pub struct TopKeys<'a> {
 }
 
 #[derive(Clone, Copy)]
-pub struct PlantKeys<'a> {
-    table: &'a Table,
-    pub den: &'a Value,
-    pub a: &'a Value,
-    pub b: &'a Value,
-}
-
-#[derive(Clone, Copy)]
 pub struct CostKeys<'a> {
-    table: &'a Table,
-    pub den: &'a Value,
-    pub row_den: &'a Value,
-    pub input: &'a Value,
+    /// `den`, `row_den` and `input`.
+    pub scales: ThreeKeys<'a>,
     pub stage: &'a Value,
     pub final_: &'a Value,
 }
 
+/// A table, and the values at three of its keys.
 #[derive(Clone, Copy)]
-pub struct LimitsKeys<'a> {
+pub struct ThreeKeys<'a> {
     table: &'a Table,
-    pub den: &'a Value,
-    pub stage: &'a Value,
-    pub final_: &'a Value,
-}
-
-#[derive(Clone, Copy)]
-pub struct BoxKeys<'a> {
-    table: &'a Table,
-    pub grid: &'a Value,
-    pub lo: &'a Value,
-    pub hi: &'a Value,
-}
-
-#[derive(Clone, Copy)]
-pub struct TargetsKeys<'a> {
-    table: &'a Table,
-    pub den: &'a Value,
-    pub violation: &'a Value,
-    pub gap: &'a Value,
+    pub first: &'a Value,
+    pub second: &'a Value,
+    pub third: &'a Value,
 }
 
 /// The values at all keys, where all stand there and no further one.
 pub fn find_keys(document: &Table) -> Result<Keys<'_>, TextFault>
     ensures { Reads result (λ keys. values_of (table_view document.now) ≡ seen keys) (key_rules (table_view document.now)) }
 {
-    let keys = Keys {
-        top: find_top_keys(document)?,
-        plant: find_plant_keys(document)?,
-        cost: find_cost_keys(document)?,
-        limits: find_limits_keys(document)?,
-        box_: find_box_keys(document)?,
-        targets: find_targets_keys(document)?,
-    };
+    let first = find_first_keys(document)?;
+    let last = find_last_keys(document)?;
+    let keys = Keys { first, last };
     refuse_further_keys(document, &keys)?;
     Ok(keys)
+}
+
+fn find_first_keys(document: &Table) -> Result<FirstKeys<'_>, TextFault>
+    ensures { let seen = table_view document.now in Reads result (AreFirst seen) (first_keys (values_of seen)) }
+{
+    Ok(FirstKeys {
+        top: find_top_keys(document)?,
+        plant: find_three(5, document, "plant", "den", "a", "b")?,
+        cost: find_cost_keys(document)?,
+    })
+}
+
+fn find_last_keys(document: &Table) -> Result<LastKeys<'_>, TextFault>
+    ensures { let seen = table_view document.now in Reads result (AreLast seen) (last_keys (values_of seen)) }
+{
+    Ok(LastKeys {
+        limits: find_three(13, document, "limits", "den", "stage", "final")?,
+        box_: find_three(16, document, "box", "grid", "lo", "hi")?,
+        targets: find_three(19, document, "targets", "den", "violation", "gap")?,
+    })
 }
 
 fn find_top_keys(document: &Table) -> Result<TopKeys<'_>, TextFault>
@@ -103,75 +109,15 @@ fn find_top_keys(document: &Table) -> Result<TopKeys<'_>, TextFault>
     })
 }
 
-fn find_plant_keys(document: &Table) -> Result<PlantKeys<'_>, TextFault>
-    ensures { let seen = table_view document.now in Reads result (ArePlant seen) (plant_keys (values_of seen)) }
-{
-    let found = find_three(5, document, "plant", "den", "a", "b")?;
-    Ok(PlantKeys {
-        table: found.table,
-        den: found.first,
-        a: found.second,
-        b: found.third,
-    })
-}
-
 fn find_cost_keys(document: &Table) -> Result<CostKeys<'_>, TextFault>
     ensures { let seen = table_view document.now in Reads result (AreCost seen) (cost_keys (values_of seen)) }
 {
-    let found = find_three(8, document, "cost", "den", "row_den", "input")?;
+    let scales = find_three(8, document, "cost", "den", "row_den", "input")?;
     Ok(CostKeys {
-        table: found.table,
-        den: found.first,
-        row_den: found.second,
-        input: found.third,
-        stage: find_value(11, found.table, "stage")?,
-        final_: find_value(12, found.table, "final")?,
+        scales,
+        stage: find_value(11, scales.table, "stage")?,
+        final_: find_value(12, scales.table, "final")?,
     })
-}
-
-fn find_limits_keys(document: &Table) -> Result<LimitsKeys<'_>, TextFault>
-    ensures { let seen = table_view document.now in Reads result (AreLimitKeys seen) (limit_keys (values_of seen)) }
-{
-    let found = find_three(13, document, "limits", "den", "stage", "final")?;
-    Ok(LimitsKeys {
-        table: found.table,
-        den: found.first,
-        stage: found.second,
-        final_: found.third,
-    })
-}
-
-fn find_box_keys(document: &Table) -> Result<BoxKeys<'_>, TextFault>
-    ensures { let seen = table_view document.now in Reads result (AreBox seen) (box_keys (values_of seen)) }
-{
-    let found = find_three(16, document, "box", "grid", "lo", "hi")?;
-    Ok(BoxKeys {
-        table: found.table,
-        grid: found.first,
-        lo: found.second,
-        hi: found.third,
-    })
-}
-
-fn find_targets_keys(document: &Table) -> Result<TargetsKeys<'_>, TextFault>
-    ensures { let seen = table_view document.now in Reads result (AreTargets seen) (target_keys (values_of seen)) }
-{
-    let found = find_three(19, document, "targets", "den", "violation", "gap")?;
-    Ok(TargetsKeys {
-        table: found.table,
-        den: found.first,
-        violation: found.second,
-        gap: found.third,
-    })
-}
-
-// A table, and the values at three of its keys.
-#[derive(Clone, Copy)]
-struct ThreeKeys<'a> {
-    table: &'a Table,
-    first: &'a Value,
-    second: &'a Value,
-    third: &'a Value,
 }
 
 // The table of a name and the values at three keys of it, at this place and the two after it.
@@ -185,10 +131,7 @@ fn find_three<'a>(
 ) -> Result<ThreeKeys<'a>, TextFault>
     requires { place ≤ 19 }
     ensures { let seen = table_view document.now in
-        Reads result (λ found. (table_at name.now seen ≡ Some (table_view found.table.now))
-        × (value_at name.now first.now seen ≡ Some (view found.first.now))
-        × (value_at name.now second.now seen ≡ Some (view found.second.now))
-        × (value_at name.now third.now seen ≡ Some (view found.third.now)))
+        Reads result (AreThree name.now first.now second.now third.now seen)
         (key place (IsSome (value_at name.now first.now seen))
         ∷ key (place + 1) (IsSome (value_at name.now second.now seen))
         ∷ key (place + 2) (IsSome (value_at name.now third.now seen)) ∷ []) }
@@ -241,19 +184,16 @@ const TARGETS: &[&str] = &["den", "violation", "gap"];
 
 // The fault where a further key stands at the top, or in one of the tables.
 fn refuse_further_keys(document: &Table, keys: &Keys) -> Result<(), TextFault>
-    requires plant { ArePlant (table_view document.now) keys.now.plant }
-    requires cost { AreCost (table_view document.now) keys.now.cost }
-    requires limits { AreLimitKeys (table_view document.now) keys.now.limits }
-    requires box_ { AreBox (table_view document.now) keys.now.box_ }
-    requires targets { AreTargets (table_view document.now) keys.now.targets }
+    requires first { AreFirst (table_view document.now) keys.now.first }
+    requires last { AreLast (table_view document.now) keys.now.last }
     ensures { Tests result (further_keys (table_view document.now)) }
 {
     let only_known = has_only(document, TOP)
-        & has_only(keys.plant.table, PLANT)
-        & has_only(keys.cost.table, COST)
-        & has_only(keys.limits.table, LIMITS)
-        & has_only(keys.box_.table, BOX)
-        & has_only(keys.targets.table, TARGETS);
+        & has_only(keys.first.plant.table, PLANT)
+        & has_only(keys.first.cost.scales.table, COST)
+        & has_only(keys.last.limits.table, LIMITS)
+        & has_only(keys.last.box_.table, BOX)
+        & has_only(keys.last.targets.table, TARGETS);
     if only_known {
         Ok(())
     } else {

@@ -8,18 +8,15 @@ ghost use Rattle.qp_model.specs.problem.Limits.{last_version, most_states, most_
 ghost use Rattle.qp_model.specs.problem.Parts.{IsDesign, design_numbers};
 ghost use Rattle.qp_model.specs.problem.PartRules.{AreHighs, AreLimits};
 ghost use Rattle.qp_model.specs.problem.Rules.{shape, range};
-ghost use Rattle.design_files.specs.Document.{document_of};
 ghost use Rattle.design_files.specs.Numbers.{IsIntegerList, IsLists, count_of, list_of, lists_of};
 ghost use Rattle.design_files.specs.Keys.{seen};
 ghost use Rattle.design_files.specs.Values.{Values};
-ghost use Rattle.design_files.specs.Places.{count_rules, denominator_rules, positive_rules, table_rules, cost_row_rules, input_rules, final_row_rules, low_rules, high_rules, size_places, plant_places, cost_places, limit_places, box_places, target_places, place_rules};
+ghost use Rattle.design_files.specs.Places.{count_rules, denominator_rules, positive_rules, table_rules, cost_row_rules, input_rules, low_rules, size_places, plant_places, cost_places, limit_places, box_places, target_places, place_rules};
 ghost use Rattle.design_files.specs.Sections.{HasCount, HasDenominator, HasPositive, HasTable, HasCosts, HasInputs, HasLine, HasSizeNumbers, HasPlant, HasCostNumbers, HasLimits, HasBox, HasTargets, HasFirst, HasLast};
 ghost use Rattle.design_files.specs.DesignText.{HasNumbers, Reads, IsDesignText, IsDesignFault};
 
 use crate::document::read_document;
-use crate::keys::{
-    BoxKeys, CostKeys, Keys, LimitsKeys, PlantKeys, TargetsKeys, TopKeys, find_keys,
-};
+use crate::keys::{Keys, find_keys};
 use crate::numbers::{list, lists, number};
 use mat_int::Mat;
 use number_text::TextFault;
@@ -290,7 +287,7 @@ fn read_final_rows(alloc: Global, value: &Value, others: &Mat, n: usize) -> Resu
 fn read_sizes(keys: &Keys) -> Result<Sizes, TextFault>
     ensures { let v = seen keys.now in Reads result (HasSizeNumbers v) (size_places v) }
 {
-    let keys = &keys.top;
+    let keys = &keys.first.top;
     let version = read_count(
         1,
         keys.version,
@@ -308,11 +305,11 @@ fn read_sizes(keys: &Keys) -> Result<Sizes, TextFault>
 fn read_plant(alloc: Global, keys: &Keys, n: usize, p: usize) -> Result<PlantNumbers, TextFault>
     ensures { let v = seen keys.now in Reads result (HasPlant v n p) (plant_places n p v) }
 {
-    let keys = &keys.plant;
+    let keys = &keys.first.plant;
     Ok(PlantNumbers {
-        den: read_denominator(5, keys.den)?,
-        a: read_table(alloc, 6, keys.a, n, n, n)?,
-        b: read_table(alloc, 7, keys.b, n, n, p)?,
+        den: read_denominator(5, keys.first)?,
+        a: read_table(alloc, 6, keys.second, n, n, n)?,
+        b: read_table(alloc, 7, keys.third, n, n, p)?,
     })
 }
 
@@ -320,11 +317,11 @@ fn read_cost(alloc: Global, keys: &Keys, n: usize, p: usize) -> Result<CostNumbe
     requires { n ≤ most_states last_version }
     ensures { let v = seen keys.now in Reads result (HasCostNumbers v n p) (cost_places n p v) }
 {
-    let keys = &keys.cost;
+    let keys = &keys.first.cost;
     Ok(CostNumbers {
-        den: read_denominator(8, keys.den)?,
-        row_den: read_denominator(9, keys.row_den)?,
-        input: read_inputs(alloc, keys.input, p)?,
+        den: read_denominator(8, keys.scales.first)?,
+        row_den: read_denominator(9, keys.scales.second)?,
+        input: read_inputs(alloc, keys.scales.third, p)?,
         stage: read_cost_rows(alloc, 11, keys.stage, n)?,
         final_: read_cost_rows(alloc, 12, keys.final_, n)?,
     })
@@ -335,30 +332,30 @@ fn read_limits(alloc: Global, keys: &Keys, n: usize, p: usize) -> Result<LimitNu
     requires inputs { p ≤ most_inputs last_version }
     ensures { let v = seen keys.now in Reads result (HasLimits v n p) (limit_places n p v) }
 {
-    let keys = &keys.limits;
-    let den = read_denominator(13, keys.den)?;
-    let stage = read_table(alloc, 14, keys.stage, 0, 12, n + p + 1)?;
-    let final_ = read_final_rows(alloc, keys.final_, &stage, n)?;
+    let keys = &keys.last.limits;
+    let den = read_denominator(13, keys.first)?;
+    let stage = read_table(alloc, 14, keys.second, 0, 12, n + p + 1)?;
+    let final_ = read_final_rows(alloc, keys.third, &stage, n)?;
     Ok(LimitNumbers { den, stage, final_ })
 }
 
 fn read_box(alloc: Global, keys: &Keys, n: usize) -> Result<BoxNumbers, TextFault>
     ensures { let v = seen keys.now in Reads result (HasBox v n) (box_places n v) }
 {
-    let keys = &keys.box_;
-    let grid = read_count(16, keys.grid, 0, 24)? as u32;
-    let lo = read_low(alloc, keys.lo, n)?;
-    let hi = read_high(alloc, keys.hi, &lo)?;
+    let keys = &keys.last.box_;
+    let grid = read_count(16, keys.first, 0, 24)? as u32;
+    let lo = read_low(alloc, keys.second, n)?;
+    let hi = read_high(alloc, keys.third, &lo)?;
     Ok(BoxNumbers { grid, lo, hi })
 }
 
 fn read_targets(keys: &Keys) -> Result<TargetNumbers, TextFault>
     ensures { let v = seen keys.now in Reads result (HasTargets v) (target_places v) }
 {
-    let keys = &keys.targets;
+    let keys = &keys.last.targets;
     Ok(TargetNumbers {
-        den: read_denominator(19, keys.den)?,
-        violation: read_positive(20, keys.violation)?,
-        gap: read_positive(21, keys.gap)?,
+        den: read_denominator(19, keys.first)?,
+        violation: read_positive(20, keys.second)?,
+        gap: read_positive(21, keys.third)?,
     })
 }

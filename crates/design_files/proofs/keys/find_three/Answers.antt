@@ -50,10 +50,10 @@ returns c =
         (stands c.args.name.now c.args.first.now m t here _ c.in_ok-find_value.ensures.ok),
         ((stands c.args.name.now c.args.second.now m t here _ c.in_ok-find_value-2.ensures.ok), ((stands c.args.name.now c.args.third.now m t here _ c.in_ok-find_value-3.ensures.ok), tt)),
       ),
-      (
-        here,
-        found c.args.name.now c.args.first.now m t here _ c.in_ok-find_value.ensures.ok,
-        found c.args.name.now c.args.second.now m t here _ c.in_ok-find_value-2.ensures.ok,
-        found c.args.name.now c.args.third.now m t here _ c.in_ok-find_value-3.ensures.ok,
-      ),
+      record {
+        table = here;
+        first = found c.args.name.now c.args.first.now m t here _ c.in_ok-find_value.ensures.ok;
+        second = found c.args.name.now c.args.second.now m t here _ c.in_ok-find_value-2.ensures.ok;
+        third = found c.args.name.now c.args.third.now m t here _ c.in_ok-find_value-3.ensures.ok;
+      },
     )
