@@ -10,7 +10,7 @@ use Rattle.csv.specs.declared.parser.State.{State}
 use Rattle.csv.proofs.ReadFacts.{rows-end, rows-more}
 use Rattle.number_text.specs.declared.text_fault.TextFault.{TextFault}
 use Rattle.number_text.specs.declared.text_fault.TextFault.TheVariants.{Memory}
-use Rattle.policy_file.specs.Records.{RecordRule, HoldsNumbers, IsRecordFault, IsRecordsFault, records_of, record_at, field_room}
+use Rattle.policy_file.specs.Records.{RecordRule, HoldsNumbers, IsRecordFault, IsRecordsFault, IsRowsText, records_of, record_at, field_room}
 use Rattle.policy_file.specs.RecordsLeft.{HasLeft}
 use Rattle.mat_int.specs.Matrix.{Matrix, row_of}
 use Rattle.policy_file.proofs.MatrixFacts.{row_pushed}
@@ -140,3 +140,7 @@ pub read_more : (rule : RecordRule) (width : ℕ) (text : List ℕ) (a b : Rows)
 read_more rule width text a b m new fields zs e r g h =
     let f = row_pushed (λ e xs. HoldsNumbers rule width (record_at (records_of text) e) xs) m new width (length m.rows) zs e (rw (← g.here) h) (record { long = refl; cols = r.cols; each = r.each }) in
     record { left = rw f.long g.left; few = omega (arith, f.long, g.inside); cols = f.cols; each = λ k l. f.each k (rw (← f.long) l) }
+
+-- when all records are read
+pub rows_read : (rule : RecordRule) (width : ℕ) (text : List ℕ) (rows : Rows) (m : Matrix) → length (records_of text) ≤ length m.rows → ReadSoFar rule width text rows m → IsRowsText rule width text m
+rows_read rule width text rows m all r = record { cols = r.cols; rows = omega (arith, r.few); each = λ e l. r.each e (omega arith) }

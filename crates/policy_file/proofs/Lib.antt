@@ -9,6 +9,7 @@ pub mod PlaceFacts
 pub mod LeftFacts
 pub mod TextFacts
 pub mod UniqueFacts
--- ---- the policy
+-- ---- rows, and the policy
 pub mod MatrixFacts
+pub mod HeadedFacts
 pub mod PolicyFacts

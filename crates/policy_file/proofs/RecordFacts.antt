@@ -1,9 +1,9 @@
--- The records of a text: they are those that `csv` reads one by one, and they take room.
-use Rattle.std.proofs.Common.{◌≡◌, ℕ, zero, suc, ◌+◌, ◌-◌, ◌<◌, ◌≤◌, Bool, true, false, List, [], ◌∷◌, ◌++◌, length, Option, Some, None, if◌then◌else◌, refl, ap, arith, length-append}
+-- The records of a text take room.
+use Rattle.std.proofs.Common.{◌≡◌, ℕ, zero, suc, ◌+◌, ◌-◌, ◌<◌, ◌≤◌, Bool, true, false, List, [], ◌∷◌, ◌++◌, length, Option, Some, None, if◌then◌else◌, refl, arith, length-append}
 use Rattle.std.specs.Prelude.{◌==◌, ◌&&◌}
 use Rattle.std.proofs.lemmas.List.Sums.{sum_by-append}
 use Rattle.csv.specs.Machine.{Read, next_record, step, in_field, start_field, start_record, is_end, ends_at_end, after_end, ends_with, is_byte, carriage_return, line_feed, fields_after, field_after}
-use Rattle.csv.specs.Reading.{Reached, AreRecords, default_config, strip_bom, records_from, records_next, is_bom}
+use Rattle.csv.specs.Reading.{default_config, strip_bom, records_from, records_next, is_bom}
 use Rattle.csv.specs.declared.parser.Config.{Config}
 use Rattle.csv.specs.declared.parser.State.{State}
 use Rattle.csv.specs.declared.parser.State.TheVariants as st
@@ -12,14 +12,6 @@ use Rattle.csv.specs.declared.parser.Action.TheVariants as act
 use Rattle.csv.specs.declared.parser.Terminator.{Terminator}
 use Rattle.csv.specs.declared.parser.Terminator.TheVariants as term
 use Rattle.policy_file.specs.Records.{records_of, record_at, field_room}
-
--- ---- records read one by one are those of the function
-pub all_read : (cfg : Config) (n : ℕ) (s s2 : State) (xs ys : List ℕ) (rows : List (List (List ℕ))) → length rows < n →
-    Reached cfg s xs rows s2 ys → next_record cfg s2 [] [] ys ≡ None → records_from cfg n s xs ≡ rows
-unfolding Reached records_from
-all_read cfg zero s s2 xs ys rows h r e = absurd (omega arith)
-all_read cfg (suc n) s s2 xs ys [] h r e = rw (r.0, r.1, e) refl
-all_read cfg (suc n) s s2 xs ys (row ∷ rows) h r e = rw (r.1, r.2) (ap (λ (x : List (List (List ℕ))). r.0.0 ∷ x) (all_read cfg n r.0.1 s2 r.0.2 ys rows (omega arith) r.3 e))
 
 -- ---- a record takes bytes, and leaves the reader at the start of another
 -- an action that ends a record leads to such a start
@@ -108,17 +100,6 @@ record_taken_some cfg s [] p start e = let none : None ≡ Some p = rw start at 
 record_taken_some cfg s (c ∷ rest) p start e = omega (arith, (record_taken cfg s [] [] (c ∷ rest) p e).left)
 
 -- ---- all records
-reached_few : (cfg : Config) (s s2 : State) (xs ys : List ℕ) (rows : List (List (List ℕ))) → ends_at_end s ≡ false → Reached cfg s xs rows s2 ys → length rows ≤ length xs
-unfolding Reached
-reached_few cfg s s2 xs ys [] start r = omega arith
-reached_few cfg s s2 xs ys (row ∷ rows) start r =
-    omega (arith, record_taken_some cfg s xs r.0 start r.1, reached_few cfg r.0.1 s2 r.0.2 ys rows (record_taken cfg s [] [] xs r.0 r.1).start r.3)
-
-pub all_read_text : (text : List ℕ) (rows : List (List (List ℕ))) → AreRecords default_config st.StartRecord (strip_bom text) rows → records_of text ≡ rows
-all_read_text text rows r =
-    all_read default_config _ st.StartRecord r.0 (strip_bom text) r.1 rows
-    (omega (arith, reached_few default_config st.StartRecord r.0 (strip_bom text) r.1 rows refl r.2)) r.2 r.3
-
 -- no more records than bytes, and each with room in them
 record InText (xs : List ℕ) (rows : List (List (List ℕ))) : Type 0 where
   few : length rows ≤ length xs

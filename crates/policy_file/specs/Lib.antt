@@ -4,4 +4,6 @@ pub mod RecordsLeft
 pub mod StatesText
 pub mod PolicyText
 pub mod FaceRule
+pub mod FloorRule
 pub mod Layout
+pub mod HeadedText

@@ -2,6 +2,7 @@
 use Rattle.std.specs.Prelude.{◌≡◌, ◌≢◌, ℕ, ◌+◌, ◌-◌, ◌≤◌, ◌<◌, ℤ, List, [], length, get_or, sum_by}
 use Rattle.csv.specs.Reading.{default_config, strip_bom, records}
 use Rattle.integer_algebra.specs.Sums.{at}
+use Rattle.mat_int.specs.Matrix.{Matrix, row_of}
 use Rattle.number_text.specs.declared.text_fault.TextFault.{TextFault}
 use Rattle.number_text.specs.declared.text_fault.TextFault.TheVariants.{NotToml, Key, Shape, Range, Fields, Number, Count, Memory}
 
@@ -54,6 +55,12 @@ pub record IsRecordsFault (rule : RecordRule) (count : ℕ) (rows : List (List (
   pub inside : index < length rows
   pub before : HoldUpTo rule count rows index
   pub here : IsRecordFault rule count (index + 1) (record_at rows index) fault
+
+-- a matrix has a row for each record of the bytes, of the numbers that it holds
+pub record IsRowsText (rule : RecordRule) (width : ℕ) (bytes : List ℕ) (m : Matrix) : Type 0 where
+  pub cols : m.cols ≡ width
+  pub rows : length m.rows ≡ length (records_of bytes)
+  pub each : (e : ℕ) → e < length (records_of bytes) → HoldsNumbers rule width (record_at (records_of bytes) e) (row_of m e)
 
 -- how many bytes of a text a record takes at least: those of its fields, and one more between two
 abbrev pub field_room : List (List ℕ) → ℕ

@@ -1,12 +1,14 @@
 //! The policy text and the states text: records of whole numbers, read with their first fault.
 #![tactic(auto)]
 
+mod headed;
 mod number;
 mod read;
 mod record;
 mod text;
 
+pub use headed::{Headed, read_headed};
 pub use number::number_field;
-pub use read::{corner_count, read_plans, read_policy, read_states};
+pub use read::{corner_count, read_plans, read_policy, read_rows, read_states};
 pub use record::{Layout, numbers_of};
-pub use text::{all_records, text_records};
+pub use text::all_records;

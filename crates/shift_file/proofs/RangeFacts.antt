@@ -1,9 +1,9 @@
 -- A range of shifts record by record: what its text holds, and that it is right in one way.
-use Rattle.std.proofs.Common.{◌≡◌, ◌≢◌, ◌⊎◌, ℕ, zero, suc, ◌+◌, ◌<◌, ◌≤◌, ◌^◌, ◌==◌, ℤ, pos, negsuc, ◌≤ℤ◌, ◌<ℤ◌, List, [], ◌∷◌, ◌++◌, length, map, replicate, get_or, unsigned_abs, Result, Ok, Err, refl, sym, ap, subst, ◌∙◌, arith, inl, inr, false}
-use Rattle.std.specs.Prelude.{IfOk, IfErr, MatchResult, All}
-use Rattle.std.proofs.lemmas.Bool.{cases_lt, cases_eq, ne_eqb}
+use Rattle.std.proofs.Common.{◌≡◌, ◌≢◌, ◌⊎◌, ℕ, zero, suc, ◌+◌, ◌<◌, ◌≤◌, ◌^◌, ℤ, pos, negsuc, ◌≤ℤ◌, ◌<ℤ◌, List, [], ◌∷◌, ◌++◌, length, map, Result, Ok, Err, refl, sym, ap, ◌∙◌, arith, inl, inr}
+use Rattle.std.specs.Prelude.{IfOk, IfErr, MatchResult}
+use Rattle.std.proofs.lemmas.Bool.{cases_lt}
 use Rattle.std.proofs.lemmas.Int.{ints}
-use Rattle.std.proofs.lemmas.List.{get_or_append_left, get_or_push, get_or_default, get_or-replicate, length_push, ext_get_or}
+use Rattle.std.proofs.lemmas.List.{get_or_append_left, get_or_push, get_or_default, get_or-replicate, length_push}
 use Rattle.integer_algebra.specs.Sums.{at}
 use Rattle.csv.specs.Records.{Row, fields_of}
 use Rattle.mat_int.specs.Matrix.{Matrix, row_of}
@@ -15,8 +15,9 @@ use Rattle.policy_file.specs.Records.{HoldsNumbers, IsRecordFault, records_of, r
 use Rattle.policy_file.proofs.MatrixFacts.{same_matrix}
 use Rattle.policy_file.proofs.TextFacts.{records_count}
 use Rattle.policy_file.proofs.UniqueFacts.{IsFunctional, same_number, same_numbers, wrong_or_right, same_record_fault, both_ways}
-use Rattle.shift_file.specs.ShiftRule.{floor_rule, least_shifts}
-use Rattle.shift_file.specs.RangeText.{range_floors, IsRangeText, HoldsShifts, IsRangeRecordFault, IsRangeCountFault, IsRangeFault, IsShiftRange}
+use Rattle.policy_file.specs.FloorRule.{floor_rule}
+use Rattle.shift_file.specs.ShiftRule.{least_shifts}
+use Rattle.shift_file.specs.RangeText.{range_floors, IsRangeText, HoldsShifts, IsRangeRecordFault, IsRangeFault, IsShiftRange}
 
 -- ---- the records that were read are rows
 pub record AreRead (text : List ℕ) (n : ℕ) (range : Matrix) (i : ℕ) : Type 0 where
@@ -30,10 +31,6 @@ none_read text n range c l = record { long = l; cols = c; each = λ e h. absurd 
 -- the floors rest on the first row where that is there
 same_first : (range new : Matrix) (n e : ℕ) (zs : List ℤ) → new ≡ record range { rows = range.rows ++ zs ∷ [] } → 0 < length range.rows → row_of range 0 ≡ row_of new 0
 same_first range new n e zs is some = rw is (sym (get_or_append_left range.rows (zs ∷ []) [] 0 some))
-
--- and not at all in the first record
-first_floors : (n : ℕ) (low other : List ℤ) (e : ℕ) → e ≡ 0 → range_floors n low e ≡ range_floors n other e
-first_floors n low other e is = rw is refl
 
 floors_kept : (range new : Matrix) (n e : ℕ) (zs : List ℤ) → new ≡ record range { rows = range.rows ++ zs ∷ [] } → e ≤ length range.rows →
     range_floors n (row_of range 0) e ≡ range_floors n (row_of new 0) e

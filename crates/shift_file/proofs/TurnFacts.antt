@@ -1,56 +1,40 @@
 -- Shifts turn by turn, record by record: what their text holds, and that it is right in one way.
-use Rattle.std.proofs.Common.{◌≡◌, ◌≢◌, ◌⊎◌, ℕ, ◌+◌, ◌<◌, ◌≤◌, ◌^◌, ℤ, pos, negsuc, ◌≤ℤ◌, ◌<ℤ◌, List, [], length, map, replicate, get_or, unsigned_abs, Result, Ok, Err, refl, sym, ap, subst, ◌∙◌, arith, inl, inr}
+use Rattle.std.proofs.Common.{◌≡◌, ◌≢◌, ◌⊎◌, ℕ, ◌<◌, ◌^◌, ℤ, pos, negsuc, List, [], length, get_or, unsigned_abs, Result, Ok, Err, sym, ap, subst, ◌∙◌, arith, inl, inr}
 use Rattle.std.specs.Prelude.{IfOk, IfErr, MatchResult}
 use Rattle.std.proofs.lemmas.Bool.{cases_lt}
 use Rattle.std.proofs.lemmas.Int.{ints}
-use Rattle.std.proofs.lemmas.List.{get_or_past, get_or-replicate, length-replicate}
+use Rattle.std.proofs.lemmas.List.{get_or_past, get_or-replicate}
 use Rattle.integer_algebra.specs.Sums.{at}
 use Rattle.mat_int.specs.Matrix.{Matrix, row_of, entry_of}
 use Rattle.number_text.specs.declared.text_fault.TextFault.{TextFault}
 use Rattle.number_text.specs.declared.text_fault.TextFault.TheVariants.{Count, Memory}
-use Rattle.policy_file.specs.Records.{HoldsNumbers, IsRecordFault, IsRecordsFault, records_of, record_at}
+use Rattle.policy_file.specs.Records.{IsRecordsFault, IsRowsText, records_of, record_at}
 use Rattle.policy_file.proofs.MatrixFacts.{same_matrix}
-use Rattle.policy_file.proofs.LeftFacts.{Rows, ReadSoFar}
 use Rattle.policy_file.proofs.UniqueFacts.{IsFunctional, same_number, same_numbers, held_or_wrong, same_first_fault, both_ways}
-use Rattle.shift_file.specs.ShiftRule.{IsShiftFrom, floor_rule, least_shifts}
+use Rattle.policy_file.specs.FloorRule.{IsShiftFrom, floor_rule}
+use Rattle.shift_file.specs.ShiftRule.{least_shifts}
 use Rattle.shift_file.specs.TurnText.{turn_rule, IsShiftsText, IsTurnCountFault, IsShiftsFault}
 
 -- ---- what the text is
--- in the words of what reads a record, whose floors are these
-module _ (n : ℕ) (floors : List ℤ) (is : floors ≡ least_shifts n) where
-  as_many : length floors ≡ n
-  as_many = ap (λ (xs : List ℤ). length xs) is ∙ length-replicate n (negsuc 2147483646)
+-- in the words of what reads the records, whose floors are these
+module _ (text : List ℕ) (n turns : ℕ) (floors : List ℤ) (is : floors ≡ least_shifts n) where
+  rows_are : (m : Matrix) → IsRowsText (floor_rule floors) n text m → IsRowsText (turn_rule n) n text m
+  rows_are m r = subst (λ (xs : List ℤ). IsRowsText (floor_rule xs) n text m) is r
 
-  pub rule_turn : (fields : List (List ℕ)) (zs : List ℤ) → HoldsNumbers (floor_rule floors) (length floors) fields zs → HoldsNumbers (turn_rule n) n fields zs
-  rule_turn fields zs h =
-      let these = subst (λ (k : ℕ). HoldsNumbers (floor_rule floors) k fields zs) as_many h in
-      subst (λ (xs : List ℤ). HoldsNumbers (floor_rule xs) n fields zs) is these
+  pub turns_found : (m : Matrix) → IsRowsText (floor_rule floors) n text m → length m.rows ≡ turns → IsShiftsText text n turns m
+  turns_found m read so =
+      let r = rows_are m read in
+      record { records = sym r.rows ∙ so; rows = so; cols = r.cols; each = λ e l. r.each e (omega (arith, r.rows, so, l)) }
 
-  pub turn_fault : (entry : ℕ) (fields : List (List ℕ)) (fault : TextFault) → (fault ≡ Memory) ⊎ IsRecordFault (floor_rule floors) (length floors) entry fields fault →
-      (fault ≡ Memory) ⊎ IsRecordFault (turn_rule n) n entry fields fault
-  turn_fault entry fields fault h =
-      let these = subst (λ (k : ℕ). (fault ≡ Memory) ⊎ IsRecordFault (floor_rule floors) k entry fields fault) as_many h in
-      subst (λ (xs : List ℤ). (fault ≡ Memory) ⊎ IsRecordFault (floor_rule xs) n entry fields fault) is these
+  pub turn_count : (m : Matrix) → IsRowsText (floor_rule floors) n text m → (k : ℕ) → k ≡ length m.rows → length m.rows ≢ turns → (Count k ≡ Memory) ⊎ IsShiftsFault text n turns (Count k)
+  turn_count m read k s other =
+      let r = rows_are m read in
+      inr (inr (record { each = λ e l. (row_of m e, r.each e l); here = λ q. other (r.rows ∙ q); told = ap Count (s ∙ r.rows) }))
 
--- all records are read
-module _ (text : List ℕ) (n turns : ℕ) (rows : Rows) (m : Matrix) (all : length (records_of text) ≤ length m.rows) (r : ReadSoFar (turn_rule n) n text rows m) where
-  as_records : length m.rows ≡ length (records_of text)
-  as_records = omega (arith, all, r.few)
-
-  pub turns_found : length m.rows ≡ turns → IsShiftsText text n turns m
-  turns_found so = record { records = sym as_records ∙ so; rows = so; cols = r.cols; each = λ e l. r.each e (omega arith) }
-
-  pub turn_count : (k : ℕ) → k ≡ length m.rows → length m.rows ≢ turns → (Count k ≡ Memory) ⊎ IsShiftsFault text n turns (Count k)
-  turn_count k s other = inr (inr (record {
-    each = λ e l. (row_of m e, r.each e (omega (arith, all)));
-    here = λ q. other (as_records ∙ q);
-    told = ap Count (s ∙ as_records);
-  }))
-
--- that of a record is one of the text
-pub either_fault : (text : List ℕ) (n turns : ℕ) (fault : TextFault) → (fault ≡ Memory) ⊎ IsRecordsFault (turn_rule n) n (records_of text) fault → (fault ≡ Memory) ⊎ IsShiftsFault text n turns fault
-either_fault text n turns fault (inl m) = inl m
-either_fault text n turns fault (inr f) = inr (inl f)
+  -- that of a record is one of the text
+  pub record_fault : (fault : TextFault) → (fault ≡ Memory) ⊎ IsRecordsFault (floor_rule floors) n (records_of text) fault → (fault ≡ Memory) ⊎ IsShiftsFault text n turns fault
+  record_fault fault (inl m) = inl m
+  record_fault fault (inr f) = inr (inl (subst (λ (xs : List ℤ). IsRecordsFault (floor_rule xs) n (records_of text) fault) is f))
 
 -- ---- one way
 turn_functional : (n : ℕ) → IsFunctional (turn_rule n)

@@ -2,7 +2,6 @@
 #![tactic(auto)]
 
 mod range;
-mod record;
 mod turns;
 
 pub use range::read_shift_range;

@@ -1,19 +1,22 @@
 // A range of shifts: the least and the greatest of each coordinate.
-ghost use Rattle.std.specs.Prelude.{◌≡◌, ◌⊎◌, ℕ, ◌+◌, ◌≤◌, ◌<◌, ◌^◌, length, IfOk, IfErr, MatchResult};
+ghost use Rattle.std.specs.Prelude.{◌≡◌, ◌⊎◌, ◌+◌, ◌≤◌, ◌<◌, ◌^◌, length, IfOk, IfErr, MatchResult};
 ghost use Rattle.csv.specs.Records.{fields_of};
 ghost use Rattle.mat_int.specs.Matrix.{Matrix, row_of};
 ghost use Rattle.number_text.specs.declared.text_fault.TextFault.{TextFault};
 ghost use Rattle.number_text.specs.declared.text_fault.TextFault.TheVariants.{Memory};
 ghost use Rattle.policy_file.specs.Records.{HoldsNumbers, IsRecordFault, field_room};
-ghost use Rattle.shift_file.specs.ShiftRule.{floor_rule, least_shifts};
+ghost use Rattle.policy_file.specs.FloorRule.{floor_rule};
+ghost use Rattle.shift_file.specs.ShiftRule.{least_shifts};
 ghost use Rattle.shift_file.specs.RangeText.{range_floors, IsRangeText, IsRangeFault, IsShiftRange};
 
-use crate::record::{LEAST, shifts_of};
 use csv::ByteRecord;
 use mat_int::Mat;
 use number_text::TextFault;
-use policy_file::all_records;
+use policy_file::{Layout, all_records, numbers_of};
 use std::alloc::Global;
+
+/// The least shift.
+pub const LEAST: i128 = -2147483647;
 
 /// The range of shifts of a text of two records of `n` numbers each: the least, then the greatest, none of which is below the least of its field. Each is
 /// at most 2147483647 in absolute value. The text has fewer than `2^32` bytes.
@@ -51,7 +54,8 @@ fn next_shifts(
 {
     let count = before.rows();
     let floors = if count == 1 { before.row(0) } else { least };
-    shifts_of(alloc, row, floors, count as u32 + 1)
+    let shifts = Layout::Shifts(floors);
+    numbers_of(alloc, row, shifts, before.cols(), count as u32 + 1)
 }
 
 // The same, said one way.

@@ -5,10 +5,10 @@ ghost use Rattle.number_text.specs.declared.text_fault.TextFault.{TextFault};
 ghost use Rattle.number_text.specs.declared.text_fault.TextFault.TheVariants.{Memory};
 ghost use Rattle.shift_file.specs.TurnText.{IsShiftsText, IsShiftsFault};
 
-use crate::record::{LEAST, shifts_of};
+use crate::range::LEAST;
 use number_text::TextFault;
 use packed_rows::PackedRows;
-use policy_file::text_records;
+use policy_file::{Layout, read_rows};
 use std::alloc::Global;
 
 /// The shifts of a text of a record of `n` numbers for each of `turns` turns, a row each. Each is at most 2147483647 in absolute value. The text has fewer
@@ -42,15 +42,7 @@ fn shifts_in(alloc: Global, bytes: &[u8], n: usize, turns: usize) -> Result<Pack
     ensures fault { IfErr result (λ e. (e ≡ Memory) ⊎ IsShiftsFault bytes.now n turns e) }
 {
     let least = vec![in alloc; LEAST; n]?;
-    let mut shifts = PackedRows::new(alloc, n);
-    for record in text_records(alloc, bytes) {
-        let Ok(record) = record else {
-            return Err(TextFault::Memory);
-        };
-        let entry = shifts.rows() as u32 + 1;
-        let numbers = shifts_of(alloc, &record, &least, entry)?;
-        shifts.push_row(&numbers)?;
-    }
+    let shifts = read_rows(alloc, bytes, Layout::Shifts(&least), n)?;
     let entries = shifts.rows();
     if entries != turns {
         return Err(TextFault::Count {

@@ -3,7 +3,6 @@ use Rattle.std.proofs.Common.{◌≡◌, ◌≢◌, inl, inr, ℕ, ◌+◌, ◌-
 use Rattle.std.specs.Prelude.{IfOk, IfErr, replicate}
 use Rattle.std.proofs.lemmas.Bool.{cases_lt}
 use Rattle.std.proofs.lemmas.List.{get_or-replicate, get_or_past, length-replicate}
-use Rattle.qp_model.specs.problem.Parts.{IsNumeratorList}
 use Rattle.integer_algebra.specs.Sums.{at, none}
 use Rattle.qp_model.specs.problem.Design.{Design}
 use Rattle.stay_check.specs.FaceForms.{Face, FaceNumbers, face_of, input_of_rows, input_of_coordinate, FaceHolds}
@@ -110,12 +109,6 @@ zero_at k i = elim (cases_lt i k) [
 
 pub zeros_are : (k : ℕ) → at (replicate k (pos 0)) ≡ none
 zeros_are k = λ t i. zero_at k i t
-
-pub zeros_small : (k : ℕ) → IsNumeratorList (replicate k (pos 0)) k
-zeros_small k = record {
-  long = length-replicate k (pos 0);
-  numbers = λ i d l. rw (get_or-replicate k i (pos 0) d (omega (arith, length-replicate k (pos 0), l))) (omega arith);
-}
 
 pub unshifted : (d : Design) (excess : ℕ → ℤ) (zeros : List ℤ) (r : Result (Unit {0}) StayFault) → at zeros ≡ none →
     IfOk r (λ _. KeepsInBox d excess (at zeros) (at zeros)) → IfOk r (λ _. KeepsInBox d excess none none)

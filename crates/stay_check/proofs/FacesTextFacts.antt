@@ -1,72 +1,37 @@
 -- A text of faces record by record: what it holds, and that it is right in one way.
-use Rattle.std.proofs.Common.{◌≡◌, ◌≢◌, ◌⊎◌, ℕ, suc, ◌+◌, ◌*◌, ◌<◌, ◌≤◌, ◌==◌, ℤ, pos, List, [], ◌∷◌, ◌++◌, length, map, drop, Result, Ok, Err, sym, ap, subst, ◌∙◌, arith, inl, inr, false}
+use Rattle.std.proofs.Common.{◌≡◌, ◌⊎◌, ℕ, suc, ◌*◌, ◌<◌, ◌==◌, ℤ, pos, List, ◌∷◌, length, drop, Result, Ok, Err, sym, ap, subst, ◌∙◌, arith, inl, inr, false}
 use Rattle.std.specs.Prelude.{IfOk, IfErr, MatchResult}
-use Rattle.std.proofs.lemmas.List.{get_or_append_left, get_or_push, get_or_default, ext_get_or}
+use Rattle.std.proofs.lemmas.List.{get_or_default, ext_get_or}
 use Rattle.std.proofs.lemmas.Bool.{ne_eqb}
 use Rattle.integer_algebra.specs.Sums.{at}
-use Rattle.csv.specs.Records.{Row, fields_of}
-use Rattle.mat_int.specs.Matrix.{Matrix, row_of}
+use Rattle.mat_int.specs.Matrix.{row_of}
 use Rattle.number_text.specs.declared.text_fault.TextFault.{TextFault}
-use Rattle.number_text.specs.declared.text_fault.TextFault.TheVariants.{Count, Memory}
+use Rattle.number_text.specs.declared.text_fault.TextFault.TheVariants.{Memory}
 use Rattle.qp_model.specs.problem.Design.{Design}
-use Rattle.policy_file.specs.Records.{HoldsNumbers, IsRecordsFault, records_of, record_at}
+use Rattle.policy_file.specs.Records.{records_of, record_at}
 use Rattle.policy_file.specs.FaceRule.{face_rule}
-use Rattle.policy_file.proofs.MatrixFacts.{Filled, row_pushed, same_matrix}
-use Rattle.policy_file.proofs.PolicyFacts.{first_and_rest}
-use Rattle.policy_file.proofs.TextFacts.{records_count}
+use Rattle.policy_file.specs.HeadedText.{IsHeadedText, IsHeadedFault}
+use Rattle.policy_file.proofs.MatrixFacts.{same_matrix}
 use Rattle.policy_file.proofs.UniqueFacts.{IsFunctional, same_number, same_numbers, held_or_wrong, same_first_fault, both_ways}
 use Rattle.stay_check.specs.FirstRows.{first_row_count}
 use Rattle.stay_check.specs.FaceForms.{FaceNumbers, faces_of, AreFacesFor}
 use Rattle.stay_check.specs.FacesText.{face_length, IsFacesText, IsFacesTextFault}
 use Rattle.stay_check.specs.declared.faces.Faces.{Faces}
 
--- what each record so far holds
-abbrev pub IsFace : List ℕ → ℕ → List ℤ → ℕ → List ℤ → Type 0
-IsFace text count kappa e xs = HoldsNumbers face_rule (count + 1) (record_at (records_of text) e) (at kappa e ∷ xs)
+-- factors and weights that were read
+pub faces_read : (text : List ℕ) (d : Design) (f : FaceNumbers) (n : ℕ) → n ≡ first_row_count d → IsHeadedText face_rule text n (2 * d.states) f.factors f.weights → IsFacesText text d f
+faces_read text d f n e h =
+    let r = subst (λ k. IsHeadedText face_rule text k (2 * d.states) f.factors f.weights) e h in
+    record { records = r.records; count = r.count; rows = r.rows; cols = r.cols; each = r.each }
 
--- with one more
-pub faces_more : (text : List ℕ) (count i : ℕ) (kappa more : List ℤ) (k : ℤ) (weights new : Matrix) (zs : List ℤ) → more ≡ kappa ++ k ∷ [] → k ≡ at zs 0 → length kappa ≡ i →
-    HoldsNumbers face_rule (count + 1) (record_at (records_of text) i) zs → new ≡ record weights { rows = weights.rows ++ drop 1 zs ∷ [] } →
-    Filled (IsFace text count kappa) weights count i → Filled (IsFace text count more) new count (i + 1)
-faces_more text count i kappa more k weights new zs n f l here e h =
-    row_pushed (IsFace text count more) weights new count i (drop 1 zs) e
-    (rw (n, get_or_push kappa k (pos 0) i l, f, first_and_rest zs (omega (arith, here.numbers))) here)
-    (record {
-      long = h.long;
-      cols = h.cols;
-      each = λ j m. rw (n, get_or_append_left kappa (k ∷ []) (pos 0) j (omega (arith, l))) (h.each j m);
-    })
-
--- all of them
-pub faces_found : (text : List ℕ) (d : Design) (rows : List Row) (f : FaceNumbers) (n i : ℕ) → n ≡ first_row_count d → map fields_of rows ≡ records_of text → length rows ≤ i → length rows ≡ 2 * d.states →
-    Filled (IsFace text n f.factors) f.weights n i → length f.factors ≡ i → i ≤ length rows → IsFacesText text d f
-faces_found text d rows f w i q e l n h k m = by (subst (λ x. Filled (IsFace text x f.factors) f.weights x i) q h)
+-- and the fault of a text that has none
+pub faces_fault : (text : List ℕ) (d : Design) (n : ℕ) (fault : TextFault) → n ≡ first_row_count d → (fault ≡ Memory) ⊎ IsHeadedFault face_rule text n (2 * d.states) fault → (fault ≡ Memory) ⊎ IsFacesTextFault text d fault
+faces_fault text d n fault e (inl memory) = inl memory
+faces_fault text d n fault e (inr told) = inr (by (subst (λ k. IsHeadedFault face_rule text k (2 * d.states) fault) e told))
   where
-    by : Filled (IsFace text (first_row_count d) f.factors) f.weights (first_row_count d) i → IsFacesText text d f
-    by h = record {
-      records = omega (arith, records_count rows text e);
-      count = omega arith;
-      rows = omega (arith, h.long);
-      cols = h.cols;
-      each = λ j o. h.each j (omega arith);
-    }
-
--- too many, or too few
-pub count_fault : (text : List ℕ) (d : Design) (rows : List Row) (n w i : ℕ) (kappa : List ℤ) (weights : Matrix) → w ≡ first_row_count d →
-    map fields_of rows ≡ records_of text → n ≡ length rows → length rows ≤ i → length rows ≢ 2 * d.states →
-    ((e : ℕ) → e < i → HoldsNumbers face_rule (w + 1) (record_at (records_of text) e) (at kappa e ∷ row_of weights e)) →
-    (Count n ≡ Memory) ⊎ IsFacesTextFault text d (Count n)
-count_fault text d rows n w i kappa weights q e s l k h = inr (inr (record {
-  each = λ j o. (at kappa j ∷ row_of weights j, subst (λ x. HoldsNumbers face_rule (x + 1) (record_at (records_of text) j) (at kappa j ∷ row_of weights j)) q (h j (omega (arith, records_count rows text e))));
-  here = λ q. k (records_count rows text e ∙ q);
-  told = ap Count (s ∙ records_count rows text e);
-}))
-
--- that of a record is one of the text
-pub either_fault : (text : List ℕ) (d : Design) (n : ℕ) (fault : TextFault) → n ≡ first_row_count d → (fault ≡ Memory) ⊎ IsRecordsFault face_rule (n + 1) (records_of text) fault →
-    (fault ≡ Memory) ⊎ IsFacesTextFault text d fault
-either_fault text d n fault e (inl m) = inl m
-either_fault text d n fault e (inr f) = inr (inl (subst (λ k. IsRecordsFault face_rule (k + 1) (records_of text) fault) e f))
+    by : IsHeadedFault face_rule text (first_row_count d) (2 * d.states) fault → IsFacesTextFault text d fault
+    by (inl f) = inl f
+    by (inr f) = inr (record { each = f.each; here = f.here; told = f.told })
 
 -- ---- one way
 face_functional : IsFunctional face_rule

@@ -8,9 +8,8 @@ ghost use Rattle.stay_check.specs.FacesText.{IsFacesText, IsFacesTextFault};
 
 use crate::faces::Faces;
 use crate::rows::first_row_count;
-use mat_int::Mat;
 use number_text::TextFault;
-use policy_file::{Layout, all_records, numbers_of};
+use policy_file::{Headed, Layout, read_headed};
 use qp_model::{Design, DesignParts};
 use std::alloc::Global;
 
@@ -43,20 +42,10 @@ fn faces_in(alloc: Global, bytes: &[u8], parts: &DesignParts) -> Result<Faces, T
     ensures fault { IfErr result (λ e. (e ≡ Memory) ⊎ IsFacesTextFault bytes.now (design_of parts.now) e) }
 {
     let weights_of = first_row_count(parts);
-    let records = all_records(alloc, bytes)?;
-    let mut kappa = Vec::new(alloc);
-    let mut weights = Mat::zero(alloc, 0, weights_of)?;
-    for (i, record) in records.iter().enumerate() {
-        let numbers = numbers_of(alloc, record, Layout::Face, weights_of + 1, i as u32 + 1)?;
-        if kappa.push(numbers[0]).is_err() {
-            return Err(TextFault::Memory);
-        }
-        weights.push_row(alloc, &numbers[1..])?;
-    }
-    if records.len() != 2 * parts.states {
-        return Err(TextFault::Count {
-            entries: records.len() as u32,
-        });
-    }
-    Ok(Faces { kappa, weights })
+    let read = read_headed(alloc, bytes, Layout::Face, weights_of, 2 * parts.states)?;
+    let Headed { heads, rows } = read;
+    Ok(Faces {
+        kappa: heads,
+        weights: rows,
+    })
 }
