@@ -5,8 +5,8 @@ use Rattle.integer_algebra.specs.Sums.{at}
 use Rattle.qp_model.specs.problem.Parts.{IsDesign, design_of}
 use Rattle.qp_model.specs.problem.Runs.{Holds}
 use Rattle.qp_model.specs.declared.design_parts.DesignParts.{DesignParts}
-use Rattle.cell_split.specs.Cuts.{part_low, part_high}
-use Rattle.cell_split.specs.Cells.{cuts_of, cell_low, cell_high, AreCutsFor}
+use Rattle.cell_split.specs.Cuts.{part_low}
+use Rattle.cell_split.specs.Cells.{cuts_of, cell_low, AreCutsFor}
 use Rattle.cell_split.specs.Parts.{AreParts, AreSized, AreBelow}
 use Rattle.cell_split.proofs.CellLaws.{part_inside}
 
@@ -25,11 +25,4 @@ pub low_same : (lo : List ℤ) (ls : List (List ℤ)) (xs : List ℤ) (chosen : 
 low_same lo ls xs chosen k m n e q h f = record {
   long = f.long ∙ q;
   is = λ i l. f.is i (omega (arith, l, q)) ∙ ap (λ (j : ℕ). part_low (at lo i) (cuts_of ls i) j) (h.each i (omega (arith, l, q, e)));
-}
-
-pub high_same : (hi : List ℤ) (ls : List (List ℤ)) (xs : List ℤ) (chosen : List ℕ) (k m n : ℕ) → m ≡ length ls → m ≡ n → AreParts ls (k - 1) chosen →
-    Holds xs m (λ i. part_high (at hi i) (cuts_of ls i) (get_or chosen i 0)) → Holds xs n (cell_high (at hi) ls k)
-high_same hi ls xs chosen k m n e q h f = record {
-  long = f.long ∙ q;
-  is = λ i l. f.is i (omega (arith, l, q)) ∙ ap (λ (j : ℕ). part_high (at hi i) (cuts_of ls i) j) (h.each i (omega (arith, l, q, e)));
 }

@@ -15,12 +15,6 @@ pub record PartsUpTo (cuts : List (Vec ℤ Global)) (k rest : ℕ) (parts : List
   pub each : (j : ℕ) → j < i → get_or parts j 0 ≡ part_of (lists cuts) k j
   pub left : (j : ℕ) → part_of (drop i (lists cuts)) rest j ≡ part_of (lists cuts) k (i + j)
 
-pub no_parts : (cuts : List (Vec ℤ Global)) (k : ℕ) (parts : List ℕ) → parts ≡ [] → PartsUpTo cuts k k parts 0
-no_parts cuts k parts e = rw e (record { long = refl; each = λ j l. absurd (omega (arith, l)); left = λ j. ap (part_of (lists cuts) k) (zeros j) })
-  where
-    zeros : (j : ℕ) → j ≡ 0 + j
-    zeros j = omega arith
-
 split_list : (cuts : List (Vec ℤ Global)) (v : Vec ℤ Global) (i : ℕ) → i < length cuts → v ≡ get_or cuts i v → drop i (lists cuts) ≡ v.items ∷ drop (i + 1) (lists cuts)
 split_list cuts v i l e =
     drop_more (lists cuts) i [] (omega (arith, l, length-map cuts (λ (w : Vec ℤ Global). w.items)))

@@ -29,9 +29,6 @@ one_row all m new start i xs is here rows =
     record { cols = more.cols; long = more.long; each = more.each }
 
 -- ---- runs
-pub no_runs : (all : Plans) (number : ℕ) (policies : List Plans) → length policies ≡ 0 → AreRuns all number 0 policies
-no_runs all number policies none = record { count = none; each = λ k d lt. absurd (omega (arith, lt)) }
-
 pub one_run : (all : Plans) (number i : ℕ) (policies more : List Plans) (p : Plans) → more ≡ policies ++ p ∷ [] → IsRun all (i * number) number p → AreRuns all number i policies → AreRuns all number (i + 1) more
 one_run all number i policies more p is here runs = rw is (record {
   count = length_push policies p ∙ ap (λ (n : ℕ). n + 1) runs.count;

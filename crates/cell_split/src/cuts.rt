@@ -1,5 +1,5 @@
 // The cuts of a box.
-ghost use Rattle.std.specs.Prelude.{◌≡◌, ◌≤◌, ◌<◌, length, All, IfOk, IfErr, pos};
+ghost use Rattle.std.specs.Prelude.{◌≡◌, ◌≤◌, ◌<◌, length, All, IfOk, IfErr};
 ghost use Rattle.std.specs.Option.{SomeIff};
 ghost use Rattle.mat_int.specs.Lines.{lists};
 ghost use Rattle.cell_split.specs.Cells.{cell_count};

@@ -5,7 +5,6 @@ ghost use Rattle.mat_int.specs.Lines.{lists};
 ghost use Rattle.qp_model.specs.problem.Parts.{IsDesign, design_of};
 ghost use Rattle.number_text.specs.declared.text_fault.TextFault.{TextFault};
 ghost use Rattle.number_text.specs.declared.text_fault.TextFault.TheVariants.{Memory};
-ghost use Rattle.policy_file.specs.Records.{records_of};
 ghost use Rattle.cell_split.specs.Cells.{AreCutsFor};
 ghost use Rattle.cell_split.specs.CutsText.{IsCutRecordFault, IsCutsText, IsCutsTextFault};
 ghost use Rattle.cell_split.specs.ReadLists.{AreCutsRead};
