@@ -1,16 +1,16 @@
 -- Texts cut into pieces at a byte, and joined again.
-use Rattle.std.proofs.Common.{◌≡◌, ℕ, zero, suc, ◌+◌, ◌^◌, ◌≤◌, ◌<◌, true, false, ℤ, pos, negsuc, List, [], ◌∷◌, ◌++◌, length, get_or, eqb, Ok, map, refl, sym, ap, ◌∙◌, arith, append_assoc, FitsSigned}
-use Rattle.std.specs.Prelude.{All, Result}
+use Rattle.std.proofs.Common.{◌≡◌, ℕ, zero, suc, ◌+◌, ◌≤◌, ◌<◌, true, false, ℤ, pos, negsuc, List, [], ◌∷◌, ◌++◌, get_or, eqb, map, refl, ap, ◌∙◌, arith, append_assoc, FitsSigned}
+use Rattle.std.specs.Prelude.{All}
 use Rattle.std.specs.List.{join_with_byte, slice_split}
 use Rattle.std.specs.Int.{w128}
 use Rattle.std.specs.Fmt.{decimal, signed_decimal}
-use Rattle.std.specs.Str.Parse.{AllDigits, digits_value}
+use Rattle.std.specs.Str.Parse.{AllDigits}
 use Rattle.std.proofs.lemmas.Bool.{ne_eqb}
 use Rattle.std.proofs.lemmas.Str.Parse.{digit_at}
 use Rattle.std.proofs.lemmas.Fmt.{decimal_is_IsNumeral_wide}
 use Rattle.std.proofs.lemmas.List.{get_or_default}
 use Rattle.std.proofs.lemmas.List.Elements.{All-append}
-use Rattle.std.proofs.lemmas.List.Splits.{slice_split_none, slice_split_at, join_with_byte-slice_split}
+use Rattle.std.proofs.lemmas.List.Splits.{slice_split_none, slice_split_at}
 use Rattle.number_text.specs.Lines.{text_of}
 
 -- ---- the bytes of a number
@@ -74,20 +74,7 @@ split_joined c w (v ∷ ws) h k =
 
 -- ---- lines
 
--- a text of lines is its lines and an empty piece, joined by line feeds
-pub text_joined : (ls : List (List ℕ)) → join_with_byte 10 (ls ++ [] ∷ []) ≡ text_of ls
-text_joined [] = refl
-text_joined (l ∷ []) = sym (append_nil_end l)
-  where
-    append_nil_end : (l : List ℕ) → l ++ 10 ∷ [] ++ [] ≡ l ++ 10 ∷ []
-    append_nil_end l = simp append_assoc
-text_joined (l ∷ m ∷ ls) = ap (λ (t : List ℕ). l ++ (10 ∷ t)) (text_joined (m ∷ ls)) ∙ sym (append_assoc l (10 ∷ []) (text_of (m ∷ ls)))
-
--- and is cut into them
+-- a text of lines is cut into them and an empty piece
 pub split_text : (ls : List (List ℕ)) → ArePieces 10 ls → slice_split (λ b. eqb b 10) (text_of ls) ≡ ls ++ [] ∷ []
 split_text [] h = refl
 split_text (l ∷ ls) h = ap (slice_split (λ b. eqb b 10)) (append_assoc l (10 ∷ []) (text_of ls)) ∙ slice_split_at (λ b. eqb b 10) l 10 (text_of ls) h.0 refl ∙ ap (λ (r : List (List ℕ)). l ∷ r) (split_text ls h.1)
-
--- what is cut into lines and an empty piece is the text of the lines
-pub text_of_split : (bytes : List ℕ) (ls : List (List ℕ)) → slice_split (λ b. eqb b 10) bytes ≡ ls ++ [] ∷ [] → bytes ≡ text_of ls
-text_of_split bytes ls e = sym (join_with_byte-slice_split 10 bytes) ∙ ap (join_with_byte 10) e ∙ text_joined ls
