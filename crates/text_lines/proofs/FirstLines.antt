@@ -197,10 +197,3 @@ bad_line_so F G h k bytes l bad = record {
     here = λ b. bad.first.here (begins_so G F k bytes l b);
   };
 }
-
--- two lines are not both the first
-pub one_bad_line : (F : List ℕ → Type 0) (bytes : List ℕ) (k l : ℕ) → IsBadLineOf F bytes k → IsBadLineOf F bytes l → k ≡ l
-one_bad_line F bytes k l a b =
-    let here = lt_of_not-le (λ lt. a.first.here (b.first.before k lt)) in
-    let there = lt_of_not-le (λ lt. b.first.here (a.first.before l lt)) in
-    omega (arith, here, there)

@@ -1,5 +1,5 @@
 -- Lines that can be read: their words and their numbers.
-use Rattle.std.proofs.Common.{◌≡◌, ℕ, ◌^◌, ◌<◌, true, ltb, ℤ, pos, negsuc, List, [], ◌∷◌, get_or, FitsSigned, unsigned_abs, arith}
+use Rattle.std.proofs.Common.{◌≡◌, ℕ, ◌^◌, ◌<◌, true, ltb, ℤ, pos, negsuc, List, get_or, FitsSigned, unsigned_abs, arith}
 use Rattle.std.specs.Prelude.{All, ◌≤ℤ◌}
 use Rattle.std.specs.Int.{w128}
 use Rattle.std.specs.List.{list_all, AllByRecursion}
