@@ -1,8 +1,9 @@
-use Rattle.std.proofs.Common.{◌≡◌, ℤ, List, refl, rules, to_z, of_z}
+use Rattle.std.proofs.Common.{◌≡◌, ℤ, List, ap, ◌∙◌, rules, to_z, of_z}
 use Rattle.std.specs.Int.{w128}
 use mir.Val.{SFits}
 use Rattle.std.proofs.lemmas.Int.{to_z-of_z}
 use Rattle.std.proofs.lemmas.List.Elements.{same_from_all_zip}
+use Rattle.qp_model.specs.problem.Parts.{design_numbers}
 use Rattle.qp_model.specs.declared.design_parts.DesignParts.{DesignParts}
 use Rattle.cell_split.specs.declared.copies.MatPair.{MatPair}
 use Rattle.cell_split.proofs.design.with_box.Goals as goal
@@ -55,56 +56,59 @@ pub new-requires : goal.new-requires
 new-requires c =
     let d = c.requires.design in
     let is = copies (goal.at.new-requires c).In_ok-input_weights in
-    rw (is.plant_den, is.cost_den, is.row_den, is.limit_den, is.target_den, is.violation, is.gap, is.a, is.b, is.stage_cost, is.final_cost, is.stage_rows, is.final_rows)
-    (record {
+    record {
       version = d.version;
       states = d.states;
       inputs = d.inputs;
       stages = d.stages;
-      plant_den = d.plant_den;
-      a = d.a;
-      b = d.b;
-      cost_den = d.cost_den;
-      row_den = d.row_den;
-      stage_cost =
-          d.stage_cost;
-      stage_weights = d.stage_weights;
-      final_cost = d.final_cost;
-      final_weights = d.final_weights;
-      limit_den = d.limit_den;
-      stage_rows = d.stage_rows;
-      final_rows =
-          d.final_rows;
-      some_row = d.some_row;
-      grid = d.grid;
-      target_den = d.target_den;
-      violation = d.violation;
-      gap = d.gap;
+      plant_den = rw is.plant_den d.plant_den;
+      a = rw is.a d.a;
+      b = rw is.b d.b;
+      cost_den = rw is.cost_den d.cost_den;
+      row_den = rw is.row_den d.row_den;
       input_count = rw is.weights_are d.input_count;
-      input_weights =
-          rw is.weights_are d.input_weights;
+      input_weights = rw is.weights_are d.input_weights;
+      stage_cost = rw is.stage_cost d.stage_cost;
+      stage_weights = rw is.stage_cost d.stage_weights;
+      final_cost = rw is.final_cost d.final_cost;
+      final_weights = rw is.final_cost d.final_weights;
+      limit_den = rw is.limit_den d.limit_den;
+      stage_rows = rw is.stage_rows d.stage_rows;
+      final_rows = rw is.final_rows d.final_rows;
+      some_row = rw (is.stage_rows, is.final_rows) d.some_row;
+      grid = d.grid;
       lo = c.requires.right.lo;
       hi = c.requires.right.hi;
       box = c.requires.right.box;
-    })
+      target_den = rw is.target_den d.target_den;
+      violation = rw is.violation d.violation;
+      gap = rw is.gap d.gap;
+    }
 
 pub returns : goal.returns
 returns c =
+    let p = c.args.parts.now in
     let is = copies (goal.at.returns c).In_ok-input_weights in
-    rw (
-      c.new.ensures,
-      is.weights_are,
-      is.plant_den,
-      is.cost_den,
-      is.row_den,
-      is.limit_den,
-      is.target_den,
-      is.violation,
-      is.gap,
-      is.a,
-      is.b,
-      is.stage_cost,
-      is.final_cost,
-      is.stage_rows,
-      is.final_rows,
-    ) refl
+    ap design_numbers c.new.ensures ∙ (λ i. record {
+      version = p.version;
+      states = p.states;
+      inputs = p.inputs;
+      stages = p.stages;
+      plant_den = is.plant_den i;
+      a = is.a i;
+      b = is.b i;
+      cost_den = is.cost_den i;
+      row_den = is.row_den i;
+      input_weights = is.weights_are i;
+      stage_cost = is.stage_cost i;
+      final_cost = is.final_cost i;
+      limit_den = is.limit_den i;
+      stage_rows = is.stage_rows i;
+      final_rows = is.final_rows i;
+      grid = p.grid;
+      lo = c.args.held.lo.items;
+      hi = c.args.held.hi.items;
+      target_den = is.target_den i;
+      violation = is.violation i;
+      gap = is.gap i;
+    })
