@@ -1,5 +1,6 @@
 -- What a run that ends before anything is written has read, and what it tells.
-use Rattle.std.proofs.Common.{◌≡◌, ◌≢◌, inl, inr, ℕ, List, Option, subst}
+use Rattle.std.proofs.Common.{◌≡◌, ◌≢◌, inl, inr, ℕ, List, Option, Result, Ok, Err, subst}
+use Rattle.std.specs.Prelude.{IfErr}
 use Rattle.io_edge.specs.Faults.{Files, Rose, NoneFalls}
 use Rattle.number_text.specs.declared.text_fault.TextFault.{TextFault}
 use Rattle.command_line.specs.Words.{word_of}
@@ -34,7 +35,7 @@ module _ (Calls : Contents → Status → Type 0) (Reaches : Contents → ℕ �
       inr (inr (record { called = called wrong; refusal = refusal_of file Wrong wrong.content s tells wrong.answer.called }))
 
   -- ---- what ends the later files ends them all
-  pub ends_later : (before mid now : List ℕ → ℕ) (s : Status) → NoneFalls before mid → NoneFalls mid now → EndsUnwritten Calls Reaches words held mid now s →
+  ends_later : (before mid now : List ℕ → ℕ) (s : Status) → NoneFalls before mid → NoneFalls mid now → EndsUnwritten Calls Reaches words held mid now s →
       EndsUnwritten Calls Reaches words held before now s
   ends_later before mid now s low high (inl memory) = inl memory
   ends_later before mid now s low high (inr (inl fault)) = inr (inl (record {
@@ -44,6 +45,12 @@ module _ (Calls : Contents → Status → Type 0) (Reaches : Contents → ℕ �
     rose = rose_later _ _ _ (low.each (word_of words fault.file)) (high.each (word_of words fault.file)) fault.rose;
   }))
   ends_later before mid now s low high (inr (inr called)) = inr (inr called)
+
+  -- so it is of an answer that may be an error
+  pub answers_later : {T : Type 0} (r : Result T Status) (before mid now : List ℕ → ℕ) → NoneFalls before mid → NoneFalls mid now → IfErr r (EndsUnwritten Calls Reaches words held mid now) →
+      IfErr r (EndsUnwritten Calls Reaches words held before now)
+  answers_later (Ok x) before mid now low high ends = tt
+  answers_later (Err s) before mid now low high ends = ends_later before mid now s low high ends
 
   -- ---- what it tells
   module _ (before now : List ℕ → ℕ) (s : Status) where

@@ -2,6 +2,7 @@
 pub mod Ends
 pub mod InputEnds
 pub mod Ending
+pub mod TwoTexts
 pub mod Written
 -- ---- the same of the proofs
 pub use Rattle.command_controller.proofs.Making

@@ -2,7 +2,7 @@ use Rattle.std.proofs.Common.{inl, inr}
 use Rattle.qp_model.specs.problem.Parts.{design_of}
 use Rattle.command_line.specs.Limit.{file_limit}
 use Rattle.command_line.specs.Words.{word_of}
-use Rattle.command_line.proofs.Results.{handed, unmet}
+use Rattle.command_line.proofs.Results.{err_same}
 use Rattle.command_files.specs.Texts.{PolicyRight, PolicyWrong}
 use Rattle.command_generate.specs.Inputs.{EndsInputs}
 use Rattle.command_generate.proofs.Ends.{reading_later}
@@ -10,19 +10,9 @@ use Rattle.command_generate.proofs.inputs.read_inputs.Goals as goal
 
 pub returns-in_err-design : goal.returns-in_err-design
 returns-in_err-design g c =
-    let held = g.S.Store.held c.args.store.now in
-    let before = g.S.Store.read_faults c.args.store.now in
-    let now = g.S.Store.read_faults c.read_design_file.new.store in
-    let r = c.from_residual.result in
-    let is = c.from_residual.ensures.1 in
-    record {
-      read = unmet r _ _ is;
-      policy = unmet r _ _ is;
-      ends = handed r (EndsInputs c.args.words.now held before now) c.in_err-design.field-0.0 is (inl (rw c.at.ensures at c.in_err-design.ensures.ends));
-      held = c.read_design_file.ensures.held;
-      reads = c.read_design_file.ensures.reads;
-      writes = c.read_design_file.ensures.writes;
-    }
+    let ends : EndsInputs c.args.words.now (g.S.Store.held c.args.store.now) (g.S.Store.read_faults c.args.store.now) (g.S.Store.read_faults c.read_design_file.new.store) c.in_err-design.field-0.0 =
+    inl (rw c.at.ensures at c.in_err-design.ensures.ends) in
+    rw (err_same _ _ c.from_residual.ensures.1) (assumption (ends, c.in_err-design.ensures))
 
 pub returns-in-Ok-clause-read : goal.returns-in-Ok-clause-read
 returns-in-Ok-clause-read g c = record {
