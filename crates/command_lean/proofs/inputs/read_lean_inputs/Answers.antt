@@ -3,7 +3,7 @@ use Rattle.qp_model.specs.problem.Parts.{design_of}
 use Rattle.qp_model.specs.problem.Policy.{plans_of}
 use Rattle.command_line.specs.Limit.{file_limit}
 use Rattle.command_line.specs.Words.{word_of}
-use Rattle.command_line.proofs.Results.{handed, unmet}
+use Rattle.command_line.proofs.Results.{err_same}
 use Rattle.command_files.specs.Texts.{PolicyRight, PolicyWrong}
 use Rattle.command_generate.proofs.Ends.{reading_later}
 use Rattle.command_lean.specs.Reading.{EndsLeanInputs}
@@ -11,20 +11,8 @@ use Rattle.command_lean.proofs.inputs.read_lean_inputs.Goals as goal
 
 pub returns-in_err-inputs : goal.returns-in_err-inputs
 returns-in_err-inputs g c =
-    let held = g.S.Store.held c.args.store.now in
-    let before = g.S.Store.read_faults c.args.store.now in
-    let now = g.S.Store.read_faults c.read_inputs.new.store in
-    let r = c.from_residual.result in
-    let is = c.from_residual.ensures.1 in
-    record {
-      read = unmet r _ _ is;
-      plans = unmet r _ _ is;
-      references = unmet r _ _ is;
-      ends = handed r (EndsLeanInputs c.args.words.now held before now) c.in_err-inputs.field-0.0 is (inl c.in_err-inputs.ensures.ends);
-      held = c.read_inputs.ensures.held;
-      reads = c.read_inputs.ensures.reads;
-      writes = c.read_inputs.ensures.writes;
-    }
+    let ends : EndsLeanInputs c.args.words.now (g.S.Store.held c.args.store.now) (g.S.Store.read_faults c.args.store.now) (g.S.Store.read_faults c.read_inputs.new.store) c.in_err-inputs.field-0.0 = inl c.in_err-inputs.ensures.ends in
+    rw (err_same _ _ c.from_residual.ensures.1) (assumption (ends, c.in_err-inputs.ensures))
 
 pub returns-in-Ok-clause-read : goal.returns-in-Ok-clause-read
 returns-in-Ok-clause-read g c = record {

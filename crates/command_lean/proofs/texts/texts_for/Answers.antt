@@ -1,33 +1,17 @@
 use Rattle.std.proofs.lemmas.Result.{IfErr-weaker, IfOk-weaker}
 use Rattle.qp_model.specs.problem.Policy.{plans_of}
 use Rattle.command_line.specs.declared.status.Status.TheVariants.{Done}
-use Rattle.command_line.proofs.Results.{handed, unmet}
-use Rattle.command_lean.specs.Reading.{Ends}
+use Rattle.command_line.proofs.Results.{err_same}
 use Rattle.command_lean.proofs.Opening.{inputs_end, all_right, refused_ends}
 use Rattle.command_lean.proofs.texts.texts_for.Goals as goal
 
 pub returns-in_err-read : goal.returns-in_err-read
 returns-in_err-read g c =
-    let words = c.args.words.now in
-    let held = g.S.Store.held c.args.store.now in
-    let before = g.S.Store.read_faults c.args.store.now in
-    let now = g.S.Store.read_faults c.read_lean_inputs.new.store in
-    let r = c.from_residual.result in
-    let is = c.from_residual.ensures.1 in
-    let e = c.in_err-read.field-0.0 in
-    record {
-      texts = unmet r _ _ is;
-      ends = handed r (Ends words held before now) e is (inputs_end words held before now e c.in_err-read.ensures.ends);
-      held = c.read_lean_inputs.ensures.held;
-      reads = c.read_lean_inputs.ensures.reads;
-      writes = c.read_lean_inputs.ensures.writes;
-    }
+    let ends = inputs_end c.args.words.now (g.S.Store.held c.args.store.now) (g.S.Store.read_faults c.args.store.now) (g.S.Store.read_faults c.read_lean_inputs.new.store) _ c.in_err-read.ensures.ends in
+    rw (err_same _ _ c.from_residual.ensures.1) (assumption (ends, c.in_err-read.ensures))
 
-pub texts_of-requires-clause-plans : goal.texts_of-requires-clause-plans
-texts_of-requires-clause-plans g c = c.in_ok-read.ensures.plans
-
-pub texts_of-requires-clause-references : goal.texts_of-requires-clause-references
-texts_of-requires-clause-references g c = c.in_ok-read.ensures.references
+pub texts_of-requires : goal.texts_of-requires
+texts_of-requires g c = assumption (c.in_ok-read.ensures)
 
 pub returns : goal.returns
 returns g c =

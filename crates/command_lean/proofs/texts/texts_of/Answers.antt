@@ -1,20 +1,11 @@
 use Rattle.std.proofs.Common.{inl}
 use Rattle.std.proofs.lemmas.Result.{IfErr-weaker, IfOk-weaker}
-use Rattle.qp_model.specs.problem.Policy.{plans_of}
 use Rattle.qp_model.specs.bounds.Printed.{printed}
-use Rattle.command_line.proofs.Results.{handed, unmet}
-use Rattle.command_lean.specs.Reading.{IsLeanRefusedWith}
+use Rattle.command_line.proofs.Results.{err_same}
 use Rattle.command_lean.proofs.texts.texts_of.Goals as goal
 
 pub returns-in_err-made : goal.returns-in_err-made
-returns-in_err-made c =
-    let r = c.from_residual.result in
-    let is = c.from_residual.ensures.1 in
-    let e = c.in_err-made.field-0.0 in
-    record {
-      texts = unmet r _ _ is;
-      refused = handed r (IsLeanRefusedWith c.args.design.now (plans_of c.args.policy.now) (plans_of c.args.reference.now)) e is c.in_err-made.ensures.refused;
-    }
+returns-in_err-made c = rw (err_same _ _ c.from_residual.ensures.1) (assumption (c.in_err-made.ensures))
 
 pub returns-clause-texts : goal.returns-clause-texts
 returns-clause-texts c =
