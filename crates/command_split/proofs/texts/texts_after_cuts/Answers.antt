@@ -2,28 +2,16 @@ use Rattle.std.proofs.Common.{map}
 use Rattle.std.proofs.lemmas.Result.{IfErr-weaker, IfOk-weaker}
 use Rattle.qp_model.specs.problem.Policy.{plans_of}
 use Rattle.command_line.specs.declared.status.Status.TheVariants.{Done}
-use Rattle.command_line.proofs.Results.{handed, unmet}
-use Rattle.command_split.specs.Reading.{AreSplitRead, EndsSplit}
+use Rattle.command_line.proofs.Results.{err_same}
+use Rattle.command_split.specs.Reading.{AreSplitRead}
 use Rattle.command_split.proofs.Opening.{policies_ends, all_right, refused_ends}
 use Rattle.command_split.proofs.texts.texts_after_cuts.Goals as goal
 
 pub returns-in_err-policies : goal.returns-in_err-policies
 returns-in_err-policies g c =
-    let words = c.args.words.now in
-    let held = g.S.Store.held c.args.store.now in
-    let before = g.S.Store.read_faults c.args.store.now in
-    let now = g.S.Store.read_faults c.read_cell_policies_file.new.store in
-    let r = c.from_residual.result in
-    let is = c.from_residual.ensures.1 in
-    let e = c.in_err-policies.field-0.0 in
-    record {
-      texts = unmet r _ _ is;
-      ends = handed r (EndsSplit words held before now) e is
-          (policies_ends words held c.args.design.now c.requires.design c.args.cuts.now c.requires.cuts before now e (rw (c.at.ensures, c.cells-cells.ensures.value) at c.in_err-policies.ensures.ends));
-      held = c.read_cell_policies_file.ensures.held;
-      reads = c.read_cell_policies_file.ensures.reads;
-      writes = c.read_cell_policies_file.ensures.writes;
-    }
+    let ends = policies_ends c.args.words.now (g.S.Store.held c.args.store.now) c.args.design.now c.requires.design c.args.cuts.now c.requires.cuts (g.S.Store.read_faults c.args.store.now)
+    (g.S.Store.read_faults c.read_cell_policies_file.new.store) _ (rw (c.at.ensures, c.cells-cells.ensures.value) at c.in_err-policies.ensures.ends) in
+    rw (err_same _ _ c.from_residual.ensures.1) (assumption (ends, c.in_err-policies.ensures))
 
 pub returns : goal.returns
 returns g c =
