@@ -1,5 +1,6 @@
 -- What the files make of the answer where one of them ends it.
-use Rattle.std.proofs.Common.{◌≡◌, ◌⊎◌, inl, inr, ℕ, ◌≤◌, Bool, true, false, List, Option, Some, None, refl, sym, subst}
+use Rattle.std.proofs.Common.{◌≡◌, ◌⊎◌, inl, inr, ℕ, ◌≤◌, Bool, true, false, List, Option, Some, None, Result, Ok, Err, refl, sym, subst}
+use Rattle.std.specs.Prelude.{IfErr}
 use Rattle.io_edge.specs.Faults.{Files, NoneFalls}
 use Rattle.mat_int.specs.Matrix.{Matrix}
 use Rattle.qp_model.specs.problem.Design.{Design}
@@ -13,7 +14,7 @@ use Rattle.command_line.specs.Words.{word_of}
 use Rattle.command_line.specs.Limit.{file_limit}
 use Rattle.command_line.specs.Answers.{Contents, IsTold, ForContents, IsAnswer}
 use Rattle.command_line.proofs.Composing.{told_at, told, told_contents, all_told, replace, replaced_told, some_contents, stop, go_on, go_on_whole}
-use Rattle.command_line.proofs.Counts.{rose_later}
+use Rattle.command_line.proofs.Counts.{rose_later, none_falls_twice}
 use Rattle.command_line.specs.declared.status.Status.{Status}
 use Rattle.command_files.specs.Texts.{DesignRight, DesignWrong, ControllerRight, ControllerWrong, StatesRight, StatesWrong, ShiftsRight, ShiftsWrong}
 use Rattle.command_files.specs.Reading.{ReadsController, ReadsStates, IsDesignRead, EndsDesign, IsControllerRead, AreStatesRead, EndsStates}
@@ -87,7 +88,7 @@ module _ (disturbed : Bool) (turns : ℕ) (words : List (List ℕ)) (held : Opti
   refused s called r = record { called = called; done = r.done; memory = r.memory; read = r.read; write = r.write; leaving = r.leaving }
 
   -- ---- what ends the later files ends them all
-  pub ends_later : (before mid now : List ℕ → ℕ) (s : Status) → NoneFalls before mid → NoneFalls mid now → EndsLoops disturbed turns words held mid now s → EndsLoops disturbed turns words held before now s
+  ends_later : (before mid now : List ℕ → ℕ) (s : Status) → NoneFalls before mid → NoneFalls mid now → EndsLoops disturbed turns words held mid now s → EndsLoops disturbed turns words held before now s
   ends_later before mid now s low high (inl memory) = inl memory
   ends_later before mid now s low high (inr (inl fault)) = inr (inl (record {
     file = fault.file;
@@ -96,6 +97,24 @@ module _ (disturbed : Bool) (turns : ℕ) (words : List (List ℕ)) (held : Opti
     rose = rose_later _ _ _ (low.each (word_of words fault.file)) (high.each (word_of words fault.file)) fault.rose;
   }))
   ends_later before mid now s low high (inr (inr called)) = inr (inr called)
+
+  -- What an answer that may be an error ends with, over a longer time, in which no count falls.
+  pub record IsLater {T : Type 0} (r : Result T Status) (reads reads_now writes writes_now : List ℕ → ℕ) : Type 0 where
+    pub ends : IfErr r (EndsLoops disturbed turns words held reads reads_now)
+    pub no_read : NoneFalls reads reads_now
+    pub no_write : NoneFalls writes writes_now
+
+  pub later : {T : Type 0} (r : Result T Status) (reads reads_mid reads_now writes writes_mid writes_now : List ℕ → ℕ) → NoneFalls reads reads_mid → NoneFalls reads_mid reads_now →
+      NoneFalls writes writes_mid → NoneFalls writes_mid writes_now → IfErr r (EndsLoops disturbed turns words held reads_mid reads_now) → IsLater r reads reads_now writes writes_now
+  later r reads reads_mid reads_now writes writes_mid writes_now low high low_write high_write ends = record {
+    ends = go r ends;
+    no_read = none_falls_twice reads reads_mid reads_now low high;
+    no_write = none_falls_twice writes writes_mid writes_now low_write high_write;
+  }
+    where
+      go : {T : Type 0} (a : Result T Status) → IfErr a (EndsLoops disturbed turns words held reads_mid reads_now) → IfErr a (EndsLoops disturbed turns words held reads reads_now)
+      go (Ok x) told = tt
+      go (Err s) told = ends_later reads reads_mid reads_now s low high told
 
   -- ---- the design's file ends it
   pub first_ends : (before now : List ℕ → ℕ) (s : Status) → EndsDesign 1 held (word_of words 1) (before (word_of words 1)) (now (word_of words 1)) s → EndsLoops disturbed turns words held before now s

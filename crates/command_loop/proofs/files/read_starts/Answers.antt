@@ -1,28 +1,15 @@
 use Rattle.std.proofs.Common.{inl, inr}
 use Rattle.command_line.specs.Words.{word_of}
-use Rattle.command_line.proofs.Results.{handed, unmet}
+use Rattle.command_line.proofs.Results.{err_same}
 use Rattle.command_loop.specs.Files.{EndsStarts}
 use Rattle.command_loop.proofs.Opening.{taking_later}
 use Rattle.command_loop.proofs.files.read_starts.Goals as goal
 
 pub returns-in_err-states : goal.returns-in_err-states
 returns-in_err-states g c =
-    let held = g.S.Store.held c.args.store.now in
-    let before = g.S.Store.read_faults c.args.store.now in
-    let now = g.S.Store.read_faults c.read_states_file.new.store in
-    let r = c.from_residual.result in
-    let is = c.from_residual.ensures.1 in
-    let e = c.in_err-states.field-0.0 in
-    record {
-      states = unmet r _ _ is;
-      width = unmet r _ _ is;
-      count = unmet r _ _ is;
-      shifts = unmet r _ _ is;
-      ends = handed r (EndsStarts c.args.disturbed c.args.n c.args.turns c.args.words.now held before now) e is (inl (rw c.at.ensures at c.in_err-states.ensures.ends));
-      held = c.read_states_file.ensures.held;
-      reads = c.read_states_file.ensures.reads;
-      writes = c.read_states_file.ensures.writes;
-    }
+    let ends : EndsStarts c.args.disturbed c.args.n c.args.turns c.args.words.now (g.S.Store.held c.args.store.now) (g.S.Store.read_faults c.args.store.now) (g.S.Store.read_faults c.read_states_file.new.store) c.in_err-states.field-0.0 =
+    inl (rw c.at.ensures at c.in_err-states.ensures.ends) in
+    rw (err_same _ _ c.from_residual.ensures.1) (assumption (ends, c.in_err-states.ensures))
 
 pub returns-in-Ok-clause-states : goal.returns-in-Ok-clause-states
 returns-in-Ok-clause-states g c = rw c.at.ensures at c.in_ok-states.ensures.right
