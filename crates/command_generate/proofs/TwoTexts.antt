@@ -48,16 +48,19 @@ told_both Read held mid new P Q read same each p = go held new read (subst (λ (
 abbrev pub WritingEnds : (first second : ℕ) → Status → Type 0
 WritingEnds first second s = (s ≡ Done) ⊎ ((s ≡ WriteFault first) ⊎ (s ≡ WriteFault second))
 
+-- an answer with a cause is `Done`
 written_done : {first second : ℕ} (s : Status) → WritingEnds first second s → IsCaused s → s ≡ Done
 written_done s (inl done) caused = done
 written_done {first} {second} s (inr (inl cut)) caused = absurd (caused.write first cut)
 written_done {first} {second} s (inr (inr cut)) caused = absurd (caused.write second cut)
 
+-- no read failed
 written_no_read : {first second : ℕ} (s : Status) → WritingEnds first second s → (file : ℕ) → s ≡ ReadFault file → ⊥
 written_no_read s (inl done) file is = cc
 written_no_read s (inr (inl cut)) file is = cc
 written_no_read s (inr (inr cut)) file is = cc
 
+-- something was written, or a write failed
 written_none : {first second : ℕ} (s : Status) → WritingEnds first second s → s ≢ Done → ((file : ℕ) → s ≢ WriteFault file) → ⊥
 written_none s (inl is) done write = done is
 written_none {first} {second} s (inr (inl cut)) done write = write first cut
@@ -67,6 +70,7 @@ written_none {first} {second} s (inr (inr cut)) done write = write second cut
 abbrev pub WriteFaultAt : (first second : ℕ) → List (List ℕ) → Option Files → (Contents → Type 0) → (before now : List ℕ → ℕ) → ℕ → Type 0
 WriteFaultAt first second words held P before now file = ((file ≡ first) ⊎ (file ≡ second)) × ForContents words held P × Rose (before (word_of words file)) (now (word_of words file))
 
+-- where the first or the second write failed, its count rose over the whole command
 write_fault : {first second : ℕ} (words : List (List ℕ)) (held : Option Files) (P : Contents → Type 0) (before mid now : List ℕ → ℕ) (s : Status) →
     ForContents words held P → NoneFalls before mid → NoneFalls mid now → WritingEnds first second s →
     (s ≡ WriteFault first → Rose (mid (word_of words first)) (now (word_of words first))) →

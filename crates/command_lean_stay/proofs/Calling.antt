@@ -1,5 +1,6 @@
 -- What a design with a policy, reference plans, faces and a range call for is one status.
 use Rattle.std.proofs.Common.{◌≡◌, ◌⊎◌, inl, inr, List, ℤ, pos, refl, sym, unsigned_abs, ◌∙◌}
+use Rattle.integer_algebra.specs.Sums.{at}
 use Rattle.mat_int.specs.Matrix.{Matrix}
 use Rattle.qp_model.specs.problem.Parts.{design_of}
 use Rattle.qp_model.specs.problem.Policy.{Plans}
@@ -17,7 +18,7 @@ use Rattle.command_line.specs.Status.{status_of}
 use Rattle.command_line.specs.declared.status.Status.{Status}
 use Rattle.command_line.specs.declared.status.Status.TheVariants.{Done, Memory}
 use Rattle.command_stay.proofs.Generating.Making.{refusal_not_done}
-use Rattle.command_stay.specs.Checking.{AreSmall, IsKept, IsCaught}
+use Rattle.command_stay.specs.Checking.{AreSmall, IsKeptWith, IsCaughtWith}
 use Rattle.command_stay.proofs.Calling.{refused_calls, kept_calls, caught_calls}
 use Rattle.command_lean.specs.Made.{LeanMakingCalls, IsLeanRefusedBy, IsLeanMadeOf, PassesForLean}
 use Rattle.command_lean.specs.Reading as lean
@@ -67,16 +68,13 @@ module _ (p : DesignParts) (plans references : Plans) (c : Numbers) (b : Printed
   one : (xs : List ℤ) → Stated xs → (other : List ℤ) → Stated other → other ≡ xs
   one xs own other stated = one_excess p plans references made.built.made.design made.built.policy other xs stated own
 
-  module _ (faces : FaceNumbers) (range : Matrix) where
-    pub texts_answer : IsKept (design_of p) c.rows (made_lean_excess c b.multiplier errors (violation_target (targets_of p))) faces range →
-        IsAnswer (LeanStayingCalls p plans references faces range) Done
-    texts_answer kept =
-        let own = stated kept.excess kept.holds in
-        kept_calls (IsLeanRefusedBy p plans references) Stated (design_of p) faces range kept.excess own (one kept.excess own) not_refused kept.with
+  module _ (faces : FaceNumbers) (range : Matrix) (excess : List ℤ) (holds : Holds excess c.rows (made_lean_excess c b.multiplier errors (violation_target (targets_of p)))) where
+    own : Stated excess
+    own = stated excess holds
 
-    pub caught_with : (s : Status) → (s ≡ Memory) ⊎ IsCaught (design_of p) c.rows (made_lean_excess c b.multiplier errors (violation_target (targets_of p))) faces range s →
-        IsLeanStayRefusedWith p plans references faces range s
+    pub texts_answer : IsKeptWith (design_of p) (at excess) faces range → IsAnswer (LeanStayingCalls p plans references faces range) Done
+    texts_answer kept = kept_calls (IsLeanRefusedBy p plans references) Stated (design_of p) faces range excess own (one excess own) not_refused kept
+
+    pub caught_with : (s : Status) → (s ≡ Memory) ⊎ IsCaughtWith (design_of p) (at excess) faces range s → IsLeanStayRefusedWith p plans references faces range s
     caught_with s (inl memory) = inl memory
-    caught_with s (inr caught) =
-        let own = stated caught.excess caught.holds in
-        inr (caught_calls (IsLeanRefusedBy p plans references) Stated (design_of p) faces range caught.excess own (one caught.excess own) not_refused s caught.with)
+    caught_with s (inr caught) = inr (caught_calls (IsLeanRefusedBy p plans references) Stated (design_of p) faces range excess own (one excess own) not_refused s caught)

@@ -1,11 +1,11 @@
 -- What is written, and the clauses of the whole.
-use Rattle.std.proofs.Common.{◌≡◌, ◌≢◌, ℕ, ◌<◌, Bool, true, false, if◌then◌else◌, List, ℤ, pos, Option, Some, None, unsigned_abs, subst, arith}
-use Rattle.std.specs.Prelude.{IfSome, IsSomeAnd}
+use Rattle.std.proofs.Common.{◌≡◌, ◌≢◌, ℕ, ◌<◌, Bool, true, false, if◌then◌else◌, List, ℤ, pos, Option, Some, unsigned_abs, sym, arith}
 use Rattle.io_edge.specs.Faults.{Files}
 use Rattle.integer_algebra.specs.Sums.{at}
 use Rattle.mat_int.specs.Matrix.{Matrix, row_of}
 use Rattle.qp_model.specs.problem.Policy.{Plans}
 use Rattle.qp_model.specs.problem.Parts.{design_of}
+use Rattle.qp_model.specs.problem.Runs.{Holds}
 use Rattle.qp_model.specs.machine.Controller.{Numbers}
 use Rattle.qp_model.specs.bounds.Printed.{Printed}
 use Rattle.qp_model.specs.declared.design_parts.DesignParts.{DesignParts}
@@ -13,66 +13,30 @@ use Rattle.stay_check.specs.FaceForms.{FaceNumbers}
 use Rattle.stay_check.proofs.LoopLaws.{loop_under_law}
 use Rattle.command_stay.specs.Generating.Engine.Targets.{targets_of, violation_target}
 use Rattle.command_stay.specs.Generating.Engine.Bounds.{stated_cost}
-use Rattle.command_line.specs.Words.{word_of}
+use Rattle.command_line.specs.Words.{word_of, IsLeanStay}
 use Rattle.command_line.specs.declared.status.Status.TheVariants.{Done}
 use Rattle.command_stay.specs.Generating.Writing.{AreWritten}
-use Rattle.command_stay.specs.Checking.{IsKept}
+use Rattle.command_stay.proofs.Generating.TwoTexts.{MakesTwo}
+use Rattle.command_stay.specs.Checking.{IsKeptWith}
 use Rattle.command_stay.specs.Stay.{KeepsLoops}
 use Rattle.command_stay.proofs.Written.{range_in, no_range, undisturbed}
 use Rattle.command_lean.specs.Made.{IsLeanMadeOf}
+use Rattle.command_lean.specs.Lean.{IsLeanControllerCut, IsLeanReportCut}
 use Rattle.command_lean.specs.Reading.{AreLeanTextsFrom}
 use Rattle.command_lean.proofs.Opening as lean
-use Rattle.command_lean.proofs.Written.{both_written}
+use Rattle.command_lean.proofs.Written.{both_written, first_cut, second_cut}
 use Rattle.command_lean_stay.specs.Excess.{made_lean_excess}
-use Rattle.command_lean_stay.specs.LeanStay.{IsLeanStayed}
+use Rattle.command_lean_stay.specs.LeanStay.{LeanStayCallsFor, IsLeanStayed}
 use Rattle.command_lean_stay.specs.Reading.{AreLeanStayFilesRead, AreLeanTextsUnder}
 use Rattle.command_lean_stay.proofs.Excesses.{covers}
 
 -- ---- the loops of what was made
 pub keeps_loops : (p : DesignParts) (plans references : Plans) (c : Numbers) (b : Printed) (errors : ℤ) (faces : FaceNumbers) (range : Matrix) → IsLeanMadeOf p plans references c b →
     errors ≡ pos (stated_cost (design_of p) (unsigned_abs b.multiplier) c.fraction_bits) →
-    IsKept (design_of p) c.rows (made_lean_excess c b.multiplier errors (violation_target (targets_of p))) faces range → KeepsLoops p c b range
-keeps_loops p plans references c b errors faces range made stated kept start inside shifts turns within =
-    loop_under_law p c b (at kept.excess) (at (row_of range 0)) (at (row_of range 1)) made.built.made.design made.built.made.controller made.built.made.made.sizes made.certified
-    (covers p plans references c b made.built errors stated kept.excess kept.holds) kept.with.keeps start inside shifts turns within
-
--- ---- the files that were told before, and after
-module _ (disturbed : Bool) (words : List (List ℕ)) (text report : List ℕ) where
-  -- what holds of all files holds of those that are told
-  pub carried : (held held1 held2 : Option Files) (Q R : Files → Files → Type 0) → held1 ≡ held → (from : AreLeanTextsUnder disturbed words held text report) →
-      ((files new : Files) → AreLeanStayFilesRead disturbed words (Some files) from.p from.plans from.references from.faces from.range → Q files new → R files new) →
-      IfSome held1 (λ old. IsSomeAnd held2 (Q old)) → IfSome held (λ files. IsSomeAnd held2 (R files))
-  carried held held1 held2 Q R same from each q = go held held2 from.read (subst (λ (o : Option Files). IfSome o (λ old. IsSomeAnd held2 (Q old))) same q)
-    where
-      go : (one two : Option Files) → AreLeanStayFilesRead disturbed words one from.p from.plans from.references from.faces from.range →
-          IfSome one (λ old. IsSomeAnd two (Q old)) → IfSome one (λ files. IsSomeAnd two (R files))
-      go (Some files) (Some new) read q = each files new read q
-      go (Some files) None read q = q
-      go None two read q = tt
-
-  module _ (held : Option Files) (from : AreLeanTextsUnder disturbed words held text report) where
-    -- what `lean` would have been told
-    abbrev pub lean_from : AreLeanTextsFrom words held text report
-    lean_from = record {
-      p = from.p;
-      plans = from.plans;
-      references = from.references;
-      read = from.read.inputs;
-      texts = from.texts.texts;
-      answer = lean.all_right words held from.p from.read.inputs.design from.plans from.read.inputs.policy from.references from.read.inputs.reference Done from.texts.texts.answer;
-    }
-
-    pub stayed : (files new : Files) → AreLeanStayFilesRead disturbed words (Some files) from.p from.plans from.references from.faces from.range → word_of words 5 ≢ word_of words 4 →
-        AreWritten files new (word_of words 4) (word_of words 5) text report → IsLeanStayed disturbed words files new
-    stayed files new read apart written =
-        let here = range_in disturbed 7 words files (design_of from.p).states from.range read.range_taken in
-        record {
-          written = both_written words text report held lean_from files new read.inputs apart written;
-          range = from.range;
-          is_range = here;
-          stays = from.texts.keeps;
-          undisturbed = λ is. undisturbed from.p from.texts.texts.controller from.texts.texts.bounds from.range (no_range disturbed 7 words files (design_of from.p).states from.range is here) from.texts.keeps;
-        }
+    (excess : List ℤ) → Holds excess c.rows (made_lean_excess c b.multiplier errors (violation_target (targets_of p))) → IsKeptWith (design_of p) (at excess) faces range → KeepsLoops p c b range
+keeps_loops p plans references c b errors faces range made stated excess holds kept start inside shifts turns within =
+    loop_under_law p c b (at excess) (at (row_of range 0)) (at (row_of range 1)) made.built.made.design made.built.made.controller made.built.made.made.sizes made.certified
+    (covers p plans references c b made.built errors stated excess holds) kept.keeps start inside shifts turns within
 
 -- ---- the names
 pub seven_names : (disturbed : Bool) (n : ℕ) → n ≡ (if disturbed then 8 else 7) → 6 < n
@@ -82,3 +46,46 @@ seven_names false n is = omega (arith, is)
 pub eighth_name : (disturbed : Bool) (n : ℕ) → n ≡ (if disturbed then 8 else 7) → disturbed ≡ true → 7 < n
 eighth_name true n is disturbed = omega (arith, is)
 eighth_name false n is disturbed = absurd (let never : ⊥ = cc in never)
+
+-- ---- of files that hold what was read, and how they are left
+module _ (disturbed : Bool) (words : List (List ℕ)) (text report : List ℕ) (held : Option Files) (from : AreLeanTextsUnder disturbed words held text report) where
+  -- what `lean` would have been told
+  abbrev pub lean_from : AreLeanTextsFrom words held text report
+  lean_from = record {
+    p = from.p;
+    plans = from.plans;
+    references = from.references;
+    read = from.read.inputs;
+    texts = from.texts.texts;
+    answer = lean.all_right words held from.p from.read.inputs.design from.plans from.read.inputs.policy from.references from.read.inputs.reference Done from.texts.texts.answer;
+  }
+
+  pub stayed : (files new : Files) → AreLeanStayFilesRead disturbed words (Some files) from.p from.plans from.references from.faces from.range → word_of words 5 ≢ word_of words 4 →
+      AreWritten files new (word_of words 4) (word_of words 5) text report → IsLeanStayed disturbed words files new
+  stayed files new read apart written =
+      let here = range_in disturbed 7 words files (design_of from.p).states from.range read.range_taken in
+      record {
+        written = both_written words text report held lean_from files new read.inputs apart written;
+        range = from.range;
+        is_range = here;
+        stays = from.texts.keeps;
+        undisturbed = λ is. undisturbed from.p from.texts.texts.controller from.texts.texts.bounds from.range (no_range disturbed 7 words files (design_of from.p).states from.range is here) from.texts.keeps;
+      }
+
+-- the texts of a design, a policy and reference plans, whose loops stay in the box, for the command that writes them
+pub lean_stay_made : (disturbed : Bool) (words : List (List ℕ)) → IsLeanStay words disturbed → (text report : List ℕ) (held : Option Files) → AreLeanTextsUnder disturbed words held text report →
+    MakesTwo (LeanStayCallsFor disturbed) 4 5 (IsLeanStayed disturbed words) (IsLeanControllerCut words) (IsLeanReportCut words) words held text report
+lean_stay_made disturbed words is text report held from = record {
+  Read = λ o. AreLeanStayFilesRead disturbed words o from.p from.plans from.references from.faces from.range;
+  read = from.read;
+  answer = from.answer;
+  both = λ files new read are. stayed disturbed words text report held from files new read apart are;
+  first_cut = λ files new read cut. first_cut words text report held plain files new read.inputs cut;
+  second_cut = λ files new read cut. second_cut words text report held plain files new read.inputs apart cut;
+}
+  where
+    plain : AreLeanTextsFrom words held text report
+    plain = lean_from disturbed words text report held from
+
+    apart : word_of words 5 ≢ word_of words 4
+    apart e = is.report 4 (omega arith) (omega (arith, seven_names disturbed _ is.count)) (λ k. omega (arith, k)) (sym e)

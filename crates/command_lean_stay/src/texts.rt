@@ -1,57 +1,23 @@
 // The texts that are written, of the files that are read.
-ghost use Rattle.std.specs.Prelude.{◌≡◌, ◌⊎◌, Bool, IfOk, IfErr};
+ghost use Rattle.std.specs.Prelude.{◌≡◌, Bool, IfOk, IfErr};
 ghost use Rattle.io_edge.specs.Faults.{NoneFalls};
-ghost use Rattle.qp_model.specs.problem.Design.{rows};
 ghost use Rattle.qp_model.specs.problem.Parts.{design_of};
 ghost use Rattle.qp_model.specs.problem.Policy.{plans_of, IsPolicyFor};
-ghost use Rattle.qp_model.specs.bounds.Printed.{printed};
-ghost use Rattle.qp_model.specs.text.ControllerText.{IsControllerText};
 ghost use Rattle.stay_check.specs.FaceForms.{faces_of, AreFacesFor};
 ghost use Rattle.shift_file.specs.RangeText.{IsShiftRange};
-ghost use Rattle.command_stay.specs.Generating.Engine.Targets.{targets_of, violation_target};
 ghost use Rattle.command_line.specs.Words.{IsLeanStay};
-ghost use Rattle.command_stay.specs.Generating.Made.{IsReport};
-ghost use Rattle.command_stay.specs.Checking.{AreSmall, IsKept, IsCaught};
 ghost use Rattle.command_lean.specs.Reading.{AreLeanInputsRead};
-ghost use Rattle.command_lean_stay.specs.Excess.{made_lean_excess};
 ghost use Rattle.command_lean_stay.specs.Reading.{AreLeanStayingTexts, AreLeanTextsUnder, IsLeanStayRefusedWith, EndsLeanStaying};
 
-use crate::check::check_lean;
+use crate::excess::lean_excess;
 use command_lean::{LeanInputs, make_lean, read_lean_inputs};
 use command_line::Status;
-use command_stay::{Made, Texts, read_faces_under, texts_made};
+use command_stay::{Texts, read_faces_under, texts_checked};
 use io_edge::{Store, Words};
 use mat_int::Mat;
 use qp_model::{Design, Policy};
 use stay_check::Faces;
 use std::alloc::Global;
-
-// Both texts of what was made, where its loop stays in the box.
-fn texts_checked(
-    alloc: Global,
-    design: &Design,
-    made: &Made,
-    faces: &Faces,
-    range: &Mat,
-    report_name: &str,
-) -> Result<Texts, Status>
-    requires faces { AreFacesFor (design_of design.now) (faces_of faces.now) }
-    requires range { IsShiftRange design.now.states range.now }
-    requires rows { made.now.controller.rows ≡ rows (design_of design.now) }
-    requires small { AreSmall made.now.bounds.multiplier made.now.eps }
-    ensures texts { IfOk result (λ t. IsControllerText t.controller.items made.now.controller
-        × IsReport report_name.now (printed made.now.bounds) t.report.items) }
-    ensures kept { IfOk result (λ _. IsKept (design_of design.now) made.now.controller.rows
-        (made_lean_excess made.now.controller made.now.bounds.multiplier made.now.eps (violation_target (targets_of design.now)))
-        (faces_of faces.now) range.now) }
-    ensures caught { IfErr result (λ e. (e ≡ Status.Memory)
-        ⊎ IsCaught (design_of design.now) made.now.controller.rows
-        (made_lean_excess made.now.controller made.now.bounds.multiplier made.now.eps (violation_target (targets_of design.now)))
-        (faces_of faces.now) range.now e) }
-{
-    check_lean(alloc, design, made, faces, range)?;
-    texts_made(alloc, made, report_name)
-}
 
 // Both texts of a design with a policy and reference plans, where the loop stays in the box; or the status that tells why there are none.
 fn texts_of(
@@ -72,7 +38,8 @@ fn texts_of(
     ensures refused { IfErr result (IsLeanStayRefusedWith design.now (plans_of policy.now) (plans_of reference.now) (faces_of faces.now) range.now) }
 {
     let made = make_lean(alloc, design, policy, reference)?;
-    texts_checked(alloc, design, &made, faces, range, report_name)
+    let excess = lean_excess(alloc, design, &made)?;
+    texts_checked(alloc, design, &made, faces, range, &excess, report_name)
 }
 
 // The texts, after three files were read.

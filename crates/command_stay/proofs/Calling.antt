@@ -28,7 +28,7 @@ use Rattle.command_stay.specs.Excess.{AreStatedExcesses}
 use Rattle.command_stay.specs.Stay.{stay_status, FacesCall, FacedCalls, StayingCalls}
 use Rattle.command_generate.specs.Ending.{IsFaultless}
 use Rattle.command_stay.specs.Reading.{IsRefusedWith}
-use Rattle.command_stay.specs.Checking.{made_excess, IsKeptWith, IsCaughtWith, IsKept, IsCaught}
+use Rattle.command_stay.specs.Checking.{made_excess, IsKeptWith, IsCaughtWith}
 use Rattle.command_stay.proofs.Excesses.{one_excess, own_passes, built_excess}
 
 -- ---- the status of a fault
@@ -127,13 +127,13 @@ module _ (p : DesignParts) (plans : Plans) (faces : FaceNumbers) (range : Matrix
   not_refused : (t : Status) → IsRefusedBy p plans t → ⊥
   not_refused t why = refusal_not_done why.refusal (sym why.is ∙ making.only t (inl why))
 
-  pub texts_answer : IsKept (design_of p) c.rows (made_excess c b.multiplier errors) faces range → IsAnswer (StayingCalls p plans faces range) Done
-  texts_answer kept =
-      let own = stated kept.excess kept.holds in
-      kept_calls (IsRefusedBy p plans) Stated (design_of p) faces range kept.excess own (one kept.excess own) not_refused kept.with
+  module _ (excess : List ℤ) (holds : Holds excess c.rows (made_excess c b.multiplier errors)) where
+    own : Stated excess
+    own = stated excess holds
 
-  pub caught_with : (s : Status) → (s ≡ Memory) ⊎ IsCaught (design_of p) c.rows (made_excess c b.multiplier errors) faces range s → IsRefusedWith p plans faces range s
-  caught_with s (inl memory) = inl memory
-  caught_with s (inr caught) =
-      let own = stated caught.excess caught.holds in
-      inr (caught_calls (IsRefusedBy p plans) Stated (design_of p) faces range caught.excess own (one caught.excess own) not_refused s caught.with)
+    pub texts_answer : IsKeptWith (design_of p) (at excess) faces range → IsAnswer (StayingCalls p plans faces range) Done
+    texts_answer kept = kept_calls (IsRefusedBy p plans) Stated (design_of p) faces range excess own (one excess own) not_refused kept
+
+    pub caught_with : (s : Status) → (s ≡ Memory) ⊎ IsCaughtWith (design_of p) (at excess) faces range s → IsRefusedWith p plans faces range s
+    caught_with s (inl memory) = inl memory
+    caught_with s (inr caught) = inr (caught_calls (IsRefusedBy p plans) Stated (design_of p) faces range excess own (one excess own) not_refused s caught)

@@ -1,9 +1,8 @@
 -- How what was made is checked, on the way.
-use Rattle.std.specs.Prelude.{◌≡◌, ℕ, ◌^◌, ℤ, pos, ◌≤ℤ◌, List, unsigned_abs}
+use Rattle.std.specs.Prelude.{◌≡◌, ℕ, ◌^◌, ℤ, pos, ◌≤ℤ◌, unsigned_abs}
 use Rattle.integer_algebra.specs.Sums.{at}
 use Rattle.mat_int.specs.Matrix.{Matrix, row_of}
 use Rattle.qp_model.specs.problem.Design.{Design}
-use Rattle.qp_model.specs.problem.Runs.{Holds}
 use Rattle.qp_model.specs.bounds.Choices.{row_violation_bound}
 use Rattle.qp_model.specs.machine.Controller.{Numbers}
 use Rattle.qp_model.specs.machine.Machine.{exponent_of}
@@ -36,14 +35,3 @@ pub record IsCaughtWith (d : Design) (excess : ℕ → ℤ) (faces : FaceNumbers
   pub fault : StayFault
   pub found : IsStayFault d excess (at (row_of range 0)) (at (row_of range 1)) faces fault
   pub is : s ≡ stay_status fault
-
--- the same with a list of these numbers, one for each of so many rows
-pub record IsKept (d : Design) (count : ℕ) (most : ℕ → ℤ) (faces : FaceNumbers) (range : Matrix) : Type 0 where
-  pub excess : List ℤ
-  pub holds : Holds excess count most
-  pub with : IsKeptWith d (at excess) faces range
-
-pub record IsCaught (d : Design) (count : ℕ) (most : ℕ → ℤ) (faces : FaceNumbers) (range : Matrix) (s : Status) : Type 0 where
-  pub excess : List ℤ
-  pub holds : Holds excess count most
-  pub with : IsCaughtWith d (at excess) faces range s

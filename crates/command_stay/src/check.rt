@@ -1,5 +1,5 @@
 // Whether the loop of what was made stays in the box.
-ghost use Rattle.std.specs.Prelude.{◌≡◌, ◌⊎◌, length, IfOk, IfErr};
+ghost use Rattle.std.specs.Prelude.{◌≡◌, length, IfOk, IfErr};
 ghost use Rattle.integer_algebra.specs.Sums.{at};
 ghost use Rattle.qp_model.specs.problem.Design.{rows};
 ghost use Rattle.qp_model.specs.problem.Parts.{design_of};
@@ -7,7 +7,7 @@ ghost use Rattle.qp_model.specs.problem.Runs.{Holds};
 ghost use Rattle.stay_check.specs.FaceForms.{faces_of, AreFacesFor};
 ghost use Rattle.shift_file.specs.RangeText.{IsShiftRange};
 ghost use Rattle.command_stay.specs.Stay.{stay_status};
-ghost use Rattle.command_stay.specs.Checking.{AreSmall, made_excess, IsKeptWith, IsCaughtWith, IsKept, IsCaught};
+ghost use Rattle.command_stay.specs.Checking.{AreSmall, made_excess, IsKeptWith, IsCaughtWith};
 
 use command_generate::{Made, row_violations};
 use command_line::Status;
@@ -40,8 +40,8 @@ fn stay_status(fault: StayFault) -> Status
     }
 }
 
-// By how much each row is exceeded at most, over `2^40`, whichever good solutions the controller's gains are.
-fn made_excess(alloc: Global, made: &Made) -> Result<Vec<i128>, AllocError>
+/// By how much each row is exceeded at most, over `2^40`, whichever good solutions the controller's gains are.
+pub fn made_excess(alloc: Global, made: &Made) -> Result<Vec<i128>, AllocError>
     requires { AreSmall made.now.bounds.multiplier made.now.eps }
     ensures { IfOk result (λ v. Holds v.items made.now.controller.rows (made_excess made.now.controller made.now.bounds.multiplier made.now.eps)) }
 {
@@ -74,26 +74,4 @@ pub fn check_under(
         Ok(()) => Ok(()),
         Err(fault) => Err(stay_status(fault)),
     }
-}
-
-/// The same with the excess of a controller that was made.
-pub fn check_made(
-    alloc: Global,
-    design: &Design,
-    made: &Made,
-    faces: &Faces,
-    range: &Mat,
-) -> Result<(), Status>
-    requires faces { AreFacesFor (design_of design.now) (faces_of faces.now) }
-    requires range { IsShiftRange design.now.states range.now }
-    requires rows { made.now.controller.rows ≡ rows (design_of design.now) }
-    requires small { AreSmall made.now.bounds.multiplier made.now.eps }
-    ensures kept { IfOk result (λ _. IsKept (design_of design.now) made.now.controller.rows
-        (made_excess made.now.controller made.now.bounds.multiplier made.now.eps) (faces_of faces.now) range.now) }
-    ensures caught { IfErr result (λ e. (e ≡ Status.Memory)
-        ⊎ IsCaught (design_of design.now) made.now.controller.rows
-        (made_excess made.now.controller made.now.bounds.multiplier made.now.eps) (faces_of faces.now) range.now e) }
-{
-    let excess = made_excess(alloc, made)?;
-    check_under(design, faces, &excess, range)
 }

@@ -6,8 +6,8 @@ mod command;
 mod shifts;
 mod texts;
 
-pub use check::check_under;
 pub use command::stay;
 // What `generate` is made of, of which `stay` is the form with faces, is handed on: a crate above that names fewer others is stamped on fewer paths.
 pub use command_generate::{Made, Texts, row_violations, texts_made, write_texts};
 pub use shifts::{FacesUnder, read_faces_under, take_range};
+pub use texts::texts_checked;

@@ -1,6 +1,7 @@
 // The texts that are written, of the files that are read.
-ghost use Rattle.std.specs.Prelude.{◌≡◌, ◌⊎◌, Bool, IfOk, IfErr};
+ghost use Rattle.std.specs.Prelude.{◌≡◌, ◌⊎◌, Bool, length, IfOk, IfErr};
 ghost use Rattle.io_edge.specs.Faults.{NoneFalls};
+ghost use Rattle.integer_algebra.specs.Sums.{at};
 ghost use Rattle.qp_model.specs.problem.Design.{rows};
 ghost use Rattle.qp_model.specs.problem.Parts.{design_of};
 ghost use Rattle.qp_model.specs.problem.Policy.{plans_of, IsPolicyFor};
@@ -11,10 +12,10 @@ ghost use Rattle.shift_file.specs.RangeText.{IsShiftRange};
 ghost use Rattle.command_line.specs.Words.{IsStay};
 ghost use Rattle.command_generate.specs.Made.{IsReport};
 ghost use Rattle.command_generate.specs.Inputs.{AreInputsRead};
-ghost use Rattle.command_stay.specs.Checking.{AreSmall, made_excess, IsKept, IsCaught};
+ghost use Rattle.command_stay.specs.Checking.{IsKeptWith, IsCaughtWith};
 ghost use Rattle.command_stay.specs.Reading.{AreStayingTexts, AreTextsUnder, IsRefusedWith, EndsStaying};
 
-use crate::check::check_made;
+use crate::check::{check_under, made_excess};
 use crate::shifts::read_faces_under;
 use command_generate::{Made, Texts, make_controller, read_inputs, texts_made};
 use command_line::Status;
@@ -24,28 +25,26 @@ use qp_model::{Design, Policy};
 use stay_check::Faces;
 use std::alloc::Global;
 
-// Both texts of what was made, where its loop stays in the box.
-fn texts_checked(
+/// Both texts of what was made, where the faces show that a turn of its closed loop stays in the box under shifts of this range, each row exceeded by at most
+/// its number of `excess` over `2^40`.
+pub fn texts_checked(
     alloc: Global,
     design: &Design,
     made: &Made,
     faces: &Faces,
     range: &Mat,
+    excess: &[i128],
     report_name: &str,
 ) -> Result<Texts, Status>
     requires faces { AreFacesFor (design_of design.now) (faces_of faces.now) }
     requires range { IsShiftRange design.now.states range.now }
-    requires rows { made.now.controller.rows ≡ rows (design_of design.now) }
-    requires small { AreSmall made.now.bounds.multiplier made.now.eps }
+    requires excess { length excess.now ≡ rows (design_of design.now) }
     ensures texts { IfOk result (λ t. IsControllerText t.controller.items made.now.controller
         × IsReport report_name.now (printed made.now.bounds) t.report.items) }
-    ensures kept { IfOk result (λ _. IsKept (design_of design.now) made.now.controller.rows
-        (made_excess made.now.controller made.now.bounds.multiplier made.now.eps) (faces_of faces.now) range.now) }
-    ensures caught { IfErr result (λ e. (e ≡ Status.Memory)
-        ⊎ IsCaught (design_of design.now) made.now.controller.rows
-        (made_excess made.now.controller made.now.bounds.multiplier made.now.eps) (faces_of faces.now) range.now e) }
+    ensures kept { IfOk result (λ _. IsKeptWith (design_of design.now) (at excess.now) (faces_of faces.now) range.now) }
+    ensures caught { IfErr result (λ e. (e ≡ Status.Memory) ⊎ IsCaughtWith (design_of design.now) (at excess.now) (faces_of faces.now) range.now e) }
 {
-    check_made(alloc, design, made, faces, range)?;
+    check_under(design, faces, excess, range)?;
     texts_made(alloc, made, report_name)
 }
 
@@ -66,7 +65,8 @@ fn texts_of(
     ensures refused { IfErr result (IsRefusedWith design.now (plans_of policy.now) (faces_of faces.now) range.now) }
 {
     let made = make_controller(alloc, design, policy)?;
-    texts_checked(alloc, design, &made, faces, range, report_name)
+    let excess = made_excess(alloc, &made)?;
+    texts_checked(alloc, design, &made, faces, range, &excess, report_name)
 }
 
 // The texts, after two files were read.

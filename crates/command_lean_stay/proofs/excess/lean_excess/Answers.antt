@@ -12,7 +12,7 @@ use Rattle.qp_model.specs.declared.design_parts.DesignParts.{DesignParts}
 use Rattle.command_stay.specs.Generating.Engine.Targets.{targets_of, violation_target}
 use Rattle.command_stay.proofs.Generating.Engine.GenerationFacts.{whole_least}
 use Rattle.command_lean.proofs.LeanEngine.PricedFacts.{below, listed}
-use Rattle.command_lean_stay.proofs.check.lean_excess.Goals as goal
+use Rattle.command_lean_stay.proofs.excess.lean_excess.Goals as goal
 
 pub violation_target-target-requires : goal.violation_target-target-requires
 violation_target-target-requires c = c.parts.ensures.sound

@@ -3,8 +3,8 @@ use Rattle.std.proofs.lemmas.Result.{IfErr-weaker, IfOk-weaker}
 use Rattle.qp_model.specs.problem.Policy.{plans_of}
 use Rattle.stay_check.specs.FaceForms.{faces_of}
 use Rattle.command_line.specs.declared.status.Status.TheVariants.{Done}
-use Rattle.command_line.proofs.Results.{handed, unmet}
-use Rattle.command_lean_stay.specs.Reading.{AreLeanStayFilesRead, EndsLeanStaying}
+use Rattle.command_line.proofs.Results.{err_same}
+use Rattle.command_lean_stay.specs.Reading.{AreLeanStayFilesRead}
 use Rattle.command_lean_stay.proofs.Opening.{under_ends, all_right, refused_ends}
 use Rattle.command_lean_stay.proofs.Written.{seven_names, eighth_name}
 use Rattle.command_lean_stay.proofs.texts.texts_after_inputs.Goals as goal
@@ -17,34 +17,13 @@ read_faces_under-requires-clause-range g c = eighth_name c.args.disturbed _ c.re
 
 pub returns-in_err-under : goal.returns-in_err-under
 returns-in_err-under g c =
-    let words = c.args.words.now in
-    let held = g.S.Store.held c.args.store.now in
-    let before = g.S.Store.read_faults c.args.store.now in
-    let now = g.S.Store.read_faults c.read_faces_under.new.store in
     let inputs = c.args.read.now.inputs in
-    let r = c.from_residual.result in
-    let is = c.from_residual.ensures.1 in
-    let e = c.in_err-under.field-0.0 in
-    record {
-      texts = unmet r _ _ is;
-      ends = handed r (EndsLeanStaying c.args.disturbed words held before now) e is
-          (under_ends c.args.disturbed words held inputs.design (plans_of inputs.policy) (plans_of c.args.read.now.reference) c.requires.read before now e c.in_err-under.ensures.ends);
-      held = c.read_faces_under.ensures.held;
-      reads = c.read_faces_under.ensures.reads;
-      writes = c.read_faces_under.ensures.writes;
-    }
+    let ends = under_ends c.args.disturbed c.args.words.now (g.S.Store.held c.args.store.now) inputs.design (plans_of inputs.policy) (plans_of c.args.read.now.reference) c.requires.read (g.S.Store.read_faults c.args.store.now)
+    (g.S.Store.read_faults c.read_faces_under.new.store) _ c.in_err-under.ensures.ends in
+    rw (err_same _ _ c.from_residual.ensures.1) (assumption (ends, c.in_err-under.ensures))
 
-pub texts_of-requires-clause-plans : goal.texts_of-requires-clause-plans
-texts_of-requires-clause-plans g c = c.requires.plans
-
-pub texts_of-requires-clause-references : goal.texts_of-requires-clause-references
-texts_of-requires-clause-references g c = c.requires.references
-
-pub texts_of-requires-clause-faces : goal.texts_of-requires-clause-faces
-texts_of-requires-clause-faces g c = c.in_ok-under.ensures.faces_sized
-
-pub texts_of-requires-clause-range : goal.texts_of-requires-clause-range
-texts_of-requires-clause-range g c = c.in_ok-under.ensures.range_sized
+pub texts_of-requires : goal.texts_of-requires
+texts_of-requires g c = assumption (c.requires, c.in_ok-under.ensures)
 
 pub returns : goal.returns
 returns g c =

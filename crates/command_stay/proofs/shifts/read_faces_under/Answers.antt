@@ -3,29 +3,16 @@ use Rattle.qp_model.specs.problem.Parts.{design_of}
 use Rattle.qp_model.specs.declared.design_parts.DesignParts.{DesignParts}
 use Rattle.stay_check.specs.FaceForms.{faces_of}
 use Rattle.command_line.specs.Words.{word_of}
-use Rattle.command_line.proofs.Results.{handed, unmet}
+use Rattle.command_line.proofs.Results.{err_same}
 use Rattle.command_stay.specs.Reading.{EndsFacesUnder}
 use Rattle.command_stay.proofs.Opening.{taking_later}
 use Rattle.command_stay.proofs.shifts.read_faces_under.Goals as goal
 
 pub returns-in_err-faces : goal.returns-in_err-faces
 returns-in_err-faces g c =
-    let held = g.S.Store.held c.args.store.now in
-    let before = g.S.Store.read_faults c.args.store.now in
-    let now = g.S.Store.read_faults c.read_faces_file.new.store in
-    let r = c.from_residual.result in
-    let is = c.from_residual.ensures.1 in
-    record {
-      faces = unmet r _ _ is;
-      range = unmet r _ _ is;
-      faces_sized = unmet r _ _ is;
-      range_sized = unmet r _ _ is;
-      ends = handed r (EndsFacesUnder c.args.disturbed (design_of c.args.design.now) c.args.faces_file c.args.range_file c.args.words.now held before now) c.in_err-faces.field-0.0 is
-          (inl (rw c.at.ensures at c.in_err-faces.ensures.ends));
-      held = c.read_faces_file.ensures.held;
-      reads = c.read_faces_file.ensures.reads;
-      writes = c.read_faces_file.ensures.writes;
-    }
+    let ends : EndsFacesUnder c.args.disturbed (design_of c.args.design.now) c.args.faces_file c.args.range_file c.args.words.now (g.S.Store.held c.args.store.now) (g.S.Store.read_faults c.args.store.now)
+    (g.S.Store.read_faults c.read_faces_file.new.store) c.in_err-faces.field-0.0 = inl (rw c.at.ensures at c.in_err-faces.ensures.ends) in
+    rw (err_same _ _ c.from_residual.ensures.1) (assumption (ends, c.in_err-faces.ensures))
 
 pub returns-in-Ok-clause-faces : goal.returns-in-Ok-clause-faces
 returns-in-Ok-clause-faces g c = rw c.at.ensures at c.in_ok-faces.ensures.right
