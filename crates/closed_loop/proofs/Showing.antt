@@ -1,6 +1,6 @@
 -- What the turns of a loop put and show.
-use Rattle.std.proofs.Common.{zero, suc, length, map, get_or, pos, ◌+ℤ◌, ◌≡◌, ◌⊎◌, inl, inr, ℕ, ◌+◌, ◌-◌, ◌<◌, ◌≤◌, ℤ, List, [], ◌++◌, Bool, true, false, Option, Some, None, option_map, Result, Ok}
-use Rattle.std.proofs.Common.{Err, IfErr, IsErrAnd, IsOk, OnOk, IfSome, IsSomeAnd, arith, ap, sym, subst, refl, ◌∙◌, add-one, append_assoc}
+use Rattle.std.proofs.Common.{zero, suc, ◌^◌, length, map, get_or, pos, ◌+ℤ◌, ◌≡◌, ◌⊎◌, inl, inr, ℕ, ◌+◌, ◌-◌, ◌<◌, ◌≤◌, ℤ, List, [], ◌++◌, Bool, true, false, Option, Some, None, option_map, Result, Ok}
+use Rattle.std.proofs.Common.{Err, IfErr, IsErrAnd, IsOk, OnOk, IfSome, IsSomeAnd, arith, ap, sym, subst, refl, zero-le, ◌∙◌, add-one, append_assoc}
 use Rattle.std.specs.Prelude.{◌↔◌, is_some, not}
 use Rattle.std.specs.Option.{SomeIff}
 use Rattle.std.proofs.lemmas.Bool.{cases_lt}
@@ -23,7 +23,7 @@ use Rattle.stay_check.proofs.LoopLaws.{unshifted}
 use Rattle.mat_int.specs.Matrix.{Matrix, entry_of, zero_matrix}
 use Rattle.closed_loop.specs.Under.{states_under, lines_under}
 use Rattle.closed_loop.specs.Answers.{LieInside, LeavesAmong, MayBegin, GrowsByLines, GrowsByFront, lines_of}
-use Rattle.closed_loop.specs.Shows.{TurnShows, LoopShows}
+use Rattle.closed_loop.specs.Shows.{TurnShows, LoopShows, LoopEnds}
 use Rattle.closed_loop.specs.declared.fault.LoopFault.{LoopFault}
 use Rattle.closed_loop.specs.declared.fault.LoopFault.TheVariants.{Memory, TooWide, OutsideBox, WriteFault}
 
@@ -138,7 +138,7 @@ unmet (Ok done) p P e = absurd e
 unmet (Err x) p P e = tt
 
 -- what is said of an error that is known
-pub told : (r : Result (Unit {0}) LoopFault) (p : LoopFault → Type 0) (fault : LoopFault) → IfErr r p → r ≡ Err fault → p fault
+told : (r : Result (Unit {0}) LoopFault) (p : LoopFault → Type 0) (fault : LoopFault) → IfErr r p → r ≡ Err fault → p fault
 told r p fault h is = subst (λ (x : Result (Unit {0}) LoopFault). IfErr x p) is h
 
 -- an error that is known is no other
@@ -163,6 +163,12 @@ pub grows_by_turns : (c : Numbers) (entry : ℕ) (states : ℕ → List ℤ) (tu
 grows_by_turns c entry states turns k None new h s e = tt
 grows_by_turns c entry states turns k (Some o) new h s e =
     subst (λ (n : Option (List ℕ)). IsSomeAnd n (GrowsByLines c states (lines_of c entry states) turns o)) (sym e) (record { done = k; within = h; inside = s; grown = refl })
+
+-- memory that runs out before the first turn
+pub out_before : (c : Numbers) (entry : ℕ) (states : ℕ → List ℤ) (turns : ℕ) (got : Option (List ℕ)) (faults : ℕ) (r : Result (Unit {0}) LoopFault) → IsErrAnd r (λ e. e ≡ Memory) →
+    IfErr r (LoopShows c states (lines_of c entry states) turns got got faults faults)
+out_before c entry states turns got faults r is = given r (LoopShows c states (lines_of c entry states) turns got got faults faults) Memory is
+    (grows_by_turns c entry states turns 0 got got zero-le (inside_none c states) (put_none c entry states got))
 
 front_of : (c : Numbers) (entry : ℕ) (states : ℕ → List ℤ) (turns k : ℕ) (o : List ℕ) (new : Option (List ℕ)) → k < turns → LieInside c states (k + 1) →
     IsSomeAnd new (λ n. GrowsByPart (o ++ lines_of c entry states k) n (loop_line c entry (k + 1) (states k))) → IsSomeAnd new (GrowsByFront c states (lines_of c entry states) turns o)
@@ -244,23 +250,23 @@ pub some_narrow : (o : Option ℕ) (none : Bool) (m n : ℕ) → is_some o ≡ n
 some_narrow None none m n is one h = absurd (let flip = ap not one in let never : ⊥ = cc in never)
 some_narrow (Some x) none m n is one h = h.0
 
-pub wide_or_narrow : (A : Type 0) (m n : ℕ) → m < n → n ≤ m → A
+wide_or_narrow : (A : Type 0) (m n : ℕ) → m < n → n ≤ m → A
 wide_or_narrow A m n lt le = absurd (let never : ⊥ = omega (arith, lt, le) in never)
 
 module _ (r : Result (Unit {0}) LoopFault) (is : r ≡ Err (TooWide Turn)) where
-  pub wide_is : (W : Type 0) → W → (q : Quantity) → (r ≡ Err (TooWide q)) ↔ ((q ≡ Turn) × W)
+  wide_is : (W : Type 0) → W → (q : Quantity) → (r ≡ Err (TooWide q)) ↔ ((q ≡ Turn) × W)
   wide_is W wide q = (λ e. (let same : q ≡ Turn = cc in same, wide), λ h. let e = h.0 in cc)
 
-  pub wide_not_outside : (A : Type 0) (turn coordinate : ℕ) → r ≡ Err (OutsideBox turn coordinate) → A
+  wide_not_outside : (A : Type 0) (turn coordinate : ℕ) → r ≡ Err (OutsideBox turn coordinate) → A
   wide_not_outside A turn coordinate e = absurd (let never : ⊥ = cc in never)
 
-  pub wide_not_failed : (A : Type 0) → r ≡ Err WriteFault → A
+  wide_not_failed : (A : Type 0) → r ≡ Err WriteFault → A
   wide_not_failed A e = absurd (let never : ⊥ = cc in never)
 
-  pub wide_not_memory : (A : Type 0) → r ≡ Err Memory → A
+  wide_not_memory : (A : Type 0) → r ≡ Err Memory → A
   wide_not_memory A e = absurd (let never : ⊥ = cc in never)
 
-pub not_wide : (r : Result (Unit {0}) LoopFault) (p : LoopFault → Type 0) (W : Type 0) → IfErr r p → ((q : Quantity) → p (TooWide q) → ⊥) → (W → ⊥) → (q : Quantity) →
+not_wide : (r : Result (Unit {0}) LoopFault) (p : LoopFault → Type 0) (W : Type 0) → IfErr r p → ((q : Quantity) → p (TooWide q) → ⊥) → (W → ⊥) → (q : Quantity) →
     (r ≡ Err (TooWide q)) ↔ ((q ≡ Turn) × W)
 not_wide r p W h never narrow q = (λ e. absurd (never q (told r p (TooWide q) h e)), λ w. absurd (narrow w.1))
 
@@ -277,7 +283,7 @@ leaves c lines states turns first new before now (Err (OutsideBox t i)) s e turn
 leaves c lines states turns first new before now (Err WriteFault) s e turn coordinate l = inr (inr refl)
 
 -- and where none does and the sink's count didn't rise
-pub stays : (c : Numbers) (lines : ℕ → List ℕ) (states : ℕ → List ℤ) (turns : ℕ) (first new : Option (List ℕ)) (before now : ℕ) (r : Result (Unit {0}) LoopFault) →
+stays : (c : Numbers) (lines : ℕ → List ℕ) (states : ℕ → List ℤ) (turns : ℕ) (first new : Option (List ℕ)) (before now : ℕ) (r : Result (Unit {0}) LoopFault) →
     IfErr r (LoopShows c states lines turns first new before now) → LieInside c states turns → (Rose before now → ⊥) → IsOk r ⊎ (r ≡ Err Memory)
 stays c lines states turns first new before now (Ok done) e s none = inl refl
 stays c lines states turns first new before now (Err Memory) e s none = inr refl
@@ -285,3 +291,46 @@ stays c lines states turns first new before now (Err (TooWide quantity)) e s non
 stays c lines states turns first new before now (Err (OutsideBox t i)) e s none =
     absurd (not_inside c (states e.0.gone) i e.0.outside (s.each e.0.gone (omega (arith, e.0.is, e.0.within))))
 stays c lines states turns first new before now (Err WriteFault) e s none = absurd (none e.1)
+
+-- ---- a loop ends
+module _ (c : Numbers) (states : ℕ → List ℤ) (lines : ℕ → List ℕ) (turns size : ℕ) (first new : Option (List ℕ)) (before now : ℕ) (Untouched : Type 0) where
+  -- before its first turn, where a number may be too wide
+  pub ends_wide : 2 ^ 126 < size → Untouched → LoopEnds c states lines turns size first new before now Untouched (Err (TooWide Turn))
+  ends_wide wide untouched = record {
+    inside = tt;
+    put = tt;
+    wide = wide_is _ refl _ wide;
+    wide_put = λ h. untouched;
+    outside = λ turn coordinate e. wide_not_outside _ refl _ turn coordinate e;
+    outside_put = λ turn coordinate e. wide_not_outside _ refl _ turn coordinate e;
+    quiet = λ coordinate e. untouched;
+    leaves = λ turn coordinate l narrow. wide_or_narrow _ (2 ^ 126) size wide narrow;
+    stays = λ inside narrow. wide_or_narrow _ (2 ^ 126) size wide narrow;
+    failed = λ e. wide_not_failed _ refl _ e;
+    begun = λ e. wide_not_failed _ refl _ e;
+    cut = λ e. wide_not_failed _ refl _ e;
+    memory = λ e. wide_not_memory _ refl _ e;
+  }
+
+  -- with all turns, or with what a turn showed
+  pub ends_so : (r : Result (Unit {0}) LoopFault) → size ≤ 2 ^ 126 → OnOk r (LieInside c states turns) → OnOk r (new ≡ option_map (λ o. o ++ lines turns) first) →
+      IfErr r (LoopShows c states lines turns first new before now) → ((coordinate : ℕ) → r ≡ Err (OutsideBox 1 coordinate) → Untouched) →
+      LoopEnds c states lines turns size first new before now Untouched r
+  ends_so r narrow inside put refused quiet = record {
+    inside = inside;
+    put = put;
+    wide = not_wide r (LoopShows c states lines turns first new before now) _ refused (λ q h. h) (λ w. wide_or_narrow _ (2 ^ 126) size w narrow);
+    wide_put = λ w. wide_or_narrow _ (2 ^ 126) size w narrow;
+    outside = λ turn coordinate e. (shown (OutsideBox turn coordinate) e).0;
+    outside_put = λ turn coordinate e. (shown (OutsideBox turn coordinate) e).1;
+    quiet = quiet;
+    leaves = λ turn coordinate l h. leaves c lines states turns first new before now r inside refused turn coordinate l;
+    stays = λ stay h none. stays c lines states turns first new before now r refused stay none;
+    failed = λ e. (shown WriteFault e).1;
+    begun = λ e. (shown WriteFault e).2;
+    cut = λ e. (shown WriteFault e).0;
+    memory = λ e. shown Memory e;
+  }
+    where
+      shown : (fault : LoopFault) → r ≡ Err fault → LoopShows c states lines turns first new before now fault
+      shown fault e = told r (LoopShows c states lines turns first new before now) fault refused e

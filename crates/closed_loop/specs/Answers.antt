@@ -1,13 +1,10 @@
 -- What a closed loop meets and puts, by its states turn by turn and the lines of its first turns.
 use Rattle.std.specs.Prelude.{◌≡◌, ℕ, zero, suc, ◌+◌, ◌≤◌, ◌<◌, ℤ, List, [], ◌++◌}
-use Rattle.qp_model.specs.problem.Design.{Design}
 use Rattle.qp_model.specs.machine.Controller.{Numbers}
 use Rattle.qp_model.specs.machine.Machine.{IsAdmissible}
 use Rattle.fixed_kernel.specs.Outside.{IsFirstOutside}
-use Rattle.qp_model.specs.machine.Successor.{state_after}
-use Rattle.qp_model.specs.text.LoopLines.{loop_line, loop_text}
+use Rattle.qp_model.specs.text.LoopLines.{loop_line}
 
--- ---- of any states
 -- those of the first turns lie in the box
 pub record LieInside (c : Numbers) (states : ℕ → List ℤ) (turns : ℕ) : Type 0 where
   pub each : (k : ℕ) → k < turns → IsAdmissible c (states k)
@@ -46,19 +43,3 @@ pub record GrowsByFront (c : Numbers) (states : ℕ → List ℤ) (lines : ℕ �
 unfoldable pub lines_of : Numbers → (entry : ℕ) → (states : ℕ → List ℤ) → ℕ → List ℕ
 lines_of c entry states zero = []
 lines_of c entry states (suc k) = lines_of c entry states k ++ loop_line c entry (k + 1) (states k)
-
--- ---- of the loop from a start
-abbrev pub StaysInside : Design → Numbers → (start : List ℤ) → (turns : ℕ) → Type 0
-StaysInside d c start turns = LieInside c (state_after d c start) turns
-
-abbrev pub LeavesAt : Design → Numbers → (start : List ℤ) → (turns turn coordinate : ℕ) → Type 0
-LeavesAt d c start turns turn coordinate = LeavesAmong c (state_after d c start) turns turn coordinate
-
-abbrev pub IsBegun : Design → Numbers → (start : List ℤ) → (turns : ℕ) → Type 0
-IsBegun d c start turns = MayBegin c (state_after d c start) turns
-
-abbrev pub GrowsByTurns : Design → Numbers → (entry : ℕ) → (start : List ℤ) → (turns : ℕ) → (old new : List ℕ) → Type 0
-GrowsByTurns d c entry start turns old new = GrowsByLines c (state_after d c start) (loop_text d c entry start) turns old new
-
-abbrev pub GrowsByPrefix : Design → Numbers → (entry : ℕ) → (start : List ℤ) → (turns : ℕ) → (old new : List ℕ) → Type 0
-GrowsByPrefix d c entry start turns old new = GrowsByFront c (state_after d c start) (loop_text d c entry start) turns old new

@@ -1,14 +1,13 @@
 // A closed loop, turn by turn.
-ghost use Rattle.std.specs.Prelude.{◌≡◌, ℕ, ◌≤◌, ◌<◌, ◌-◌, ◌^◌, ◌↔◌, ◌⊎◌, ◌++◌, length, Err, option_map, OnOk, IsOk, IfErr, IfSome, IsSomeAnd};
-ghost use Rattle.io_edge.specs.Faults.{Rose};
+ghost use Rattle.std.specs.Prelude.{◌≡◌, ℕ, ◌≤◌, ◌<◌, ◌^◌, ◌++◌, length, Err, option_map, OnOk, IfErr};
 ghost use Rattle.qp_model.specs.machine.Machine.{IsAdmissible};
 ghost use Rattle.qp_model.specs.problem.Parts.{design_of};
 ghost use Rattle.qp_model.specs.machine.Successor.{IsFor, state_after};
 ghost use Rattle.qp_model.specs.machine.LoopSize.{turn_size};
 ghost use Rattle.qp_model.specs.text.LoopLines.{loop_line, loop_text};
-ghost use Rattle.closed_loop.specs.Answers.{LieInside, LeavesAmong, MayBegin, GrowsByLines, GrowsByFront, StaysInside, LeavesAt, IsBegun, GrowsByTurns, GrowsByPrefix};
+ghost use Rattle.closed_loop.specs.Answers.{LieInside};
 ghost use Rattle.closed_loop.specs.Under.{AreSmallShifts, states_under, lines_under};
-ghost use Rattle.closed_loop.specs.Shows.{TurnShows, LoopShows};
+ghost use Rattle.closed_loop.specs.Shows.{TurnShows, LoopShows, LoopEnds};
 
 use crate::fault::LoopFault;
 use crate::line::loop_line;
@@ -104,7 +103,7 @@ fn run_unshifted<O: Sink>(
     requires matched { IsFor k.old.controller (design_of design.now) }
     requires narrow { turn_size (design_of design.now) k.old.controller ≤ 2 ^ 126 }
     requires start { length start.now ≡ k.old.controller.states }
-    ensures inside { OnOk result (StaysInside (design_of design.now) k.old.controller start.now turns) }
+    ensures inside { OnOk result (LieInside k.old.controller (state_after (design_of design.now) k.old.controller start.now) turns) }
     ensures put { OnOk result (O.got out.new ≡
         option_map (λ old. old ++ loop_text (design_of design.now) k.old.controller entry start.now turns) (O.got out.old)) }
     ensures refused { IfErr result (LoopShows k.old.controller (state_after (design_of design.now) k.old.controller start.now)
@@ -133,36 +132,10 @@ pub fn run_loop<O: Sink>(
 ) -> Result<(), LoopFault>
     requires matched { IsFor k.old.controller (design_of design.now) }
     requires start { length start.now ≡ k.old.controller.states }
-    // All turns were made.
-    ensures inside { OnOk result (StaysInside (design_of design.now) k.old.controller start.now turns) }
-    ensures put { OnOk result (O.got out.new ≡
-        option_map (λ old. old ++ loop_text (design_of design.now) k.old.controller entry start.now turns) (O.got out.old)) }
-    // The quantity `turn`, before any line.
-    ensures wide { (quantity : Quantity) → (result ≡ Err (LoopFault.TooWide quantity)) ↔
-        ((quantity ≡ Quantity.Turn) × (2 ^ 126 < turn_size (design_of design.now) k.old.controller)) }
-    ensures wide_put { 2 ^ 126 < turn_size (design_of design.now) k.old.controller → out.new ≡ out.old }
-    // A state outside the box.
-    ensures outside { (turn coordinate : ℕ) → result ≡ Err (LoopFault.OutsideBox turn coordinate) →
-        LeavesAt (design_of design.now) k.old.controller start.now turns turn coordinate }
-    ensures outside_put { (turn coordinate : ℕ) → result ≡ Err (LoopFault.OutsideBox turn coordinate) →
-        O.got out.new ≡ option_map (λ old. old ++ loop_text (design_of design.now) k.old.controller entry start.now (turn - 1)) (O.got out.old) }
-    // Where that is the first state, nothing was put.
-    ensures quiet { (coordinate : ℕ) → result ≡ Err (LoopFault.OutsideBox 1 coordinate) → out.new ≡ out.old }
-    ensures leaves { (turn coordinate : ℕ) → LeavesAt (design_of design.now) k.old.controller start.now turns turn coordinate →
-        turn_size (design_of design.now) k.old.controller ≤ 2 ^ 126 →
-        (result ≡ Err (LoopFault.OutsideBox turn coordinate)) ⊎ (result ≡ Err LoopFault.Memory) ⊎ (result ≡ Err LoopFault.WriteFault) }
-    // It doesn't give up.
-    ensures stays { StaysInside (design_of design.now) k.old.controller start.now turns → turn_size (design_of design.now) k.old.controller ≤ 2 ^ 126
-        → ¬ Rose (O.faults out.old) (O.faults out.new) → IsOk result ⊎ (result ≡ Err LoopFault.Memory) }
-    // A fault of the sink.
-    ensures failed { result ≡ Err LoopFault.WriteFault → Rose (O.faults out.old) (O.faults out.new) }
-    ensures begun { result ≡ Err LoopFault.WriteFault → IsBegun (design_of design.now) k.old.controller start.now turns }
-    ensures cut { result ≡ Err LoopFault.WriteFault → IfSome (O.got out.old) (λ old.
-        IsSomeAnd (O.got out.new) (GrowsByPrefix (design_of design.now) k.old.controller entry start.now turns old)) }
+    ensures ends { LoopEnds k.old.controller (state_after (design_of design.now) k.old.controller start.now)
+        (loop_text (design_of design.now) k.old.controller entry start.now) turns (turn_size (design_of design.now) k.old.controller)
+        (O.got out.old) (O.got out.new) (O.faults out.old) (O.faults out.new) (out.new ≡ out.old) result }
     ensures no_fewer { O.faults out.old ≤ O.faults out.new }
-    // Out of memory.
-    ensures memory { result ≡ Err LoopFault.Memory → IfSome (O.got out.old) (λ old.
-        IsSomeAnd (O.got out.new) (GrowsByTurns (design_of design.now) k.old.controller entry start.now turns old)) }
     ensures controller { k.new.controller ≡ k.old.controller }
 {
     if turn_size(design, k.controller()).is_none() {
@@ -189,42 +162,11 @@ pub fn run_loop_under<O: Sink>(
     requires width { shifts.old.rows.cols ≡ k.old.controller.states }
     requires shifts { AreSmallShifts shifts.old.rows }
     requires few { length shifts.old.rows.rows < 2 ^ 32 }
-    // All turns were made.
-    ensures inside { OnOk result
-        (LieInside k.old.controller (states_under (design_of design.now) k.old.controller start.now shifts.old.rows) (length shifts.old.rows.rows)) }
-    ensures put { OnOk result (O.got out.new ≡ option_map
-        (λ old. old ++ lines_under (design_of design.now) k.old.controller entry start.now shifts.old.rows (length shifts.old.rows.rows)) (O.got out.old)) }
-    // The quantity `turn`, before any line.
-    ensures wide { (quantity : Quantity) → (result ≡ Err (LoopFault.TooWide quantity)) ↔
-        ((quantity ≡ Quantity.Turn) × (2 ^ 126 < turn_size (design_of design.now) k.old.controller)) }
-    ensures wide_put { 2 ^ 126 < turn_size (design_of design.now) k.old.controller → out.new ≡ out.old }
-    // A state outside the box.
-    ensures outside { (turn coordinate : ℕ) → result ≡ Err (LoopFault.OutsideBox turn coordinate) → LeavesAmong k.old.controller
-        (states_under (design_of design.now) k.old.controller start.now shifts.old.rows) (length shifts.old.rows.rows) turn coordinate }
-    ensures outside_put { (turn coordinate : ℕ) → result ≡ Err (LoopFault.OutsideBox turn coordinate) → O.got out.new ≡ option_map
-        (λ old. old ++ lines_under (design_of design.now) k.old.controller entry start.now shifts.old.rows (turn - 1)) (O.got out.old) }
-    // Where that is the first state, nothing was put.
-    ensures quiet { (coordinate : ℕ) → result ≡ Err (LoopFault.OutsideBox 1 coordinate) → out.new ≡ out.old }
-    ensures leaves { (turn coordinate : ℕ) → LeavesAmong k.old.controller
-        (states_under (design_of design.now) k.old.controller start.now shifts.old.rows) (length shifts.old.rows.rows) turn coordinate →
-        turn_size (design_of design.now) k.old.controller ≤ 2 ^ 126
-        → (result ≡ Err (LoopFault.OutsideBox turn coordinate)) ⊎ (result ≡ Err LoopFault.Memory) ⊎ (result ≡ Err LoopFault.WriteFault) }
-    // It doesn't give up.
-    ensures stays { LieInside k.old.controller (states_under (design_of design.now) k.old.controller start.now shifts.old.rows) (length shifts.old.rows.rows)
-        → turn_size (design_of design.now) k.old.controller ≤ 2 ^ 126 → ¬ Rose (O.faults out.old) (O.faults out.new)
-        → IsOk result ⊎ (result ≡ Err LoopFault.Memory) }
-    // A fault of the sink.
-    ensures failed { result ≡ Err LoopFault.WriteFault → Rose (O.faults out.old) (O.faults out.new) }
-    ensures begun { result ≡ Err LoopFault.WriteFault
-        → MayBegin k.old.controller (states_under (design_of design.now) k.old.controller start.now shifts.old.rows) (length shifts.old.rows.rows) }
-    ensures cut { result ≡ Err LoopFault.WriteFault → IfSome (O.got out.old) (λ old. IsSomeAnd (O.got out.new)
-        (GrowsByFront k.old.controller (states_under (design_of design.now) k.old.controller start.now shifts.old.rows)
-        (lines_under (design_of design.now) k.old.controller entry start.now shifts.old.rows) (length shifts.old.rows.rows) old)) }
+    ensures ends { LoopEnds k.old.controller (states_under (design_of design.now) k.old.controller start.now shifts.old.rows)
+        (lines_under (design_of design.now) k.old.controller entry start.now shifts.old.rows) (length shifts.old.rows.rows)
+        (turn_size (design_of design.now) k.old.controller)
+        (O.got out.old) (O.got out.new) (O.faults out.old) (O.faults out.new) (out.new ≡ out.old) result }
     ensures no_fewer { O.faults out.old ≤ O.faults out.new }
-    // Out of memory.
-    ensures memory { result ≡ Err LoopFault.Memory → IfSome (O.got out.old) (λ old. IsSomeAnd (O.got out.new)
-        (GrowsByLines k.old.controller (states_under (design_of design.now) k.old.controller start.now shifts.old.rows)
-        (lines_under (design_of design.now) k.old.controller entry start.now shifts.old.rows) (length shifts.old.rows.rows) old)) }
     ensures controller { k.new.controller ≡ k.old.controller }
     ensures rows { shifts.new.rows ≡ shifts.old.rows }
 {

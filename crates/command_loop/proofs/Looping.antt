@@ -10,6 +10,7 @@ use Rattle.qp_model.specs.machine.LoopSize.{turn_size}
 use Rattle.qp_model.specs.declared.quantity.Quantity.{Quantity}
 use Rattle.qp_model.specs.declared.quantity.Quantity.TheVariants.{Turn}
 use Rattle.closed_loop.specs.Answers.{LieInside, LeavesAmong, MayBegin, GrowsByLines, GrowsByFront}
+use Rattle.closed_loop.specs.Shows.{LoopEnds}
 use Rattle.closed_loop.specs.declared.fault.LoopFault.{LoopFault}
 use Rattle.closed_loop.specs.declared.fault.LoopFault.TheVariants as faults
 use Rattle.command_line.proofs.Counts.{rose_later}
@@ -25,28 +26,20 @@ pub narrow : (size : ℕ) (r : Result (Unit {0}) LoopFault) → ((quantity : Qua
 narrow size r wide not = elim (cases_lt (2 ^ 126) size) [ inl lt ↦ absurd (not ((wide Turn).1 (refl, lt))) | inr le ↦ le ]
 
 -- ---- what the loop of a record says
-module _ (d : Design) (c : Numbers) (l : Course) (entry : ℕ) (start : List ℤ) (old new : Option (List ℕ)) where
-  shows : (turns : ℕ) (r : Result (Unit {0}) LoopFault) (fault : LoopFault) → r ≡ Err fault →
-      ((quantity : Quantity) → (r ≡ Err (faults.TooWide quantity)) ↔ ((quantity ≡ Turn) × (2 ^ 126 < turn_size d c))) → (2 ^ 126 < turn_size d c → new ≡ old) →
-      ((turn coordinate : ℕ) → r ≡ Err (faults.OutsideBox turn coordinate) → LeavesAmong c (l.states start) turns turn coordinate) →
-      ((turn coordinate : ℕ) → r ≡ Err (faults.OutsideBox turn coordinate) → new ≡ option_map (λ o. o ++ l.lines entry start (turn - 1)) old) →
-      (r ≡ Err faults.WriteFault → IfSome old (λ o. IsSomeAnd new (GrowsByFront c (l.states start) (l.lines entry start) turns o))) →
-      (r ≡ Err faults.Memory → IfSome old (λ o. IsSomeAnd new (GrowsByLines c (l.states start) (l.lines entry start) turns o))) →
-      (r ≡ Err faults.WriteFault → MayBegin c (l.states start) turns) → RecordShows d c l entry start turns old new fault
-  shows turns r faults.Memory is wide quiet out put cut memory begun = (narrow (turn_size d c) r wide (λ e. cc), memory is)
-  shows turns r (faults.TooWide quantity) is wide quiet out put cut memory begun = let w = (wide quantity).0 is in (w.0, w.1, quiet w.1)
-  shows turns r (faults.OutsideBox turn coordinate) is wide quiet out put cut memory begun = (narrow (turn_size d c) r wide (λ e. cc), out turn coordinate is, put turn coordinate is)
-  shows turns r faults.WriteFault is wide quiet out put cut memory begun = (narrow (turn_size d c) r wide (λ e. cc), cut is, begun is)
+module _ (d : Design) (c : Numbers) (l : Course) (entry : ℕ) (start : List ℤ) (old new : Option (List ℕ)) (before now : ℕ) (Untouched : Type 0) (same : Untouched → new ≡ old)
+    (turns : ℕ) (r : Result (Unit {0}) LoopFault) (ends : LoopEnds c (l.states start) (l.lines entry start) turns (turn_size d c) old new before now Untouched r) where
+  shows : (fault : LoopFault) → r ≡ Err fault → RecordShows d c l entry start turns old new fault
+  shows faults.Memory is = (narrow (turn_size d c) r ends.wide (λ e. cc), ends.memory is)
+  shows (faults.TooWide quantity) is = let w = (ends.wide quantity).0 is in (w.0, w.1, same (ends.wide_put w.1))
+  shows (faults.OutsideBox turn coordinate) is = (narrow (turn_size d c) r ends.wide (λ e. cc), ends.outside turn coordinate is, ends.outside_put turn coordinate is)
+  shows faults.WriteFault is = (narrow (turn_size d c) r ends.wide (λ e. cc), ends.cut is, ends.begun is)
 
-  pub said : (turns : ℕ) (r : Result (Unit {0}) LoopFault) →
-      ((quantity : Quantity) → (r ≡ Err (faults.TooWide quantity)) ↔ ((quantity ≡ Turn) × (2 ^ 126 < turn_size d c))) → (2 ^ 126 < turn_size d c → new ≡ old) →
-      ((turn coordinate : ℕ) → r ≡ Err (faults.OutsideBox turn coordinate) → LeavesAmong c (l.states start) turns turn coordinate) →
-      ((turn coordinate : ℕ) → r ≡ Err (faults.OutsideBox turn coordinate) → new ≡ option_map (λ o. o ++ l.lines entry start (turn - 1)) old) →
-      (r ≡ Err faults.WriteFault → IfSome old (λ o. IsSomeAnd new (GrowsByFront c (l.states start) (l.lines entry start) turns o))) →
-      (r ≡ Err faults.Memory → IfSome old (λ o. IsSomeAnd new (GrowsByLines c (l.states start) (l.lines entry start) turns o))) →
-      (r ≡ Err faults.WriteFault → MayBegin c (l.states start) turns) → IfErr r (RecordShows d c l entry start turns old new)
-  said turns (Ok done) wide quiet out put cut memory begun = tt
-  said turns (Err fault) wide quiet out put cut memory begun = shows turns (Err fault) fault refl wide quiet out put cut memory begun
+  pub said : IfErr r (RecordShows d c l entry start turns old new)
+  said = of r refl
+    where
+      of : (x : Result (Unit {0}) LoopFault) → r ≡ x → IfErr x (RecordShows d c l entry start turns old new)
+      of (Ok done) is = tt
+      of (Err fault) is = shows fault is
 
 module _ (size : ℕ) (r : Result (Unit {0}) LoopFault) (wide : (quantity : Quantity) → (r ≡ Err (faults.TooWide quantity)) ↔ ((quantity ≡ Turn) × (2 ^ 126 < size))) where
   pub ok_narrow : OnOk r (size ≤ 2 ^ 126)

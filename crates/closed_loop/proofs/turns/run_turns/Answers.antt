@@ -1,4 +1,4 @@
-use Rattle.std.proofs.Common.{◌≡◌, ◌+◌, ◌++◌, ◌∙◌, ap, sym, subst, refl, le_refl, le_trans, zero-le, ℕ, ℤ, List, Vec, Global, Err, length, option_map, arith}
+use Rattle.std.proofs.Common.{◌≡◌, ◌+◌, ◌++◌, ◌∙◌, ap, sym, subst, refl, le_refl, le_trans, ℕ, ℤ, List, Vec, Global, Err, length, option_map, arith}
 use Rattle.std.specs.Vec.{with_items}
 use Rattle.std.proofs.lemmas.List.{with_items_is}
 use Rattle.std.proofs.lemmas.List.FromFn.{length-map-range_with_len}
@@ -12,47 +12,35 @@ use Rattle.closed_loop.specs.Answers.{LieInside, lines_of}
 use Rattle.closed_loop.specs.Under.{states_under}
 use Rattle.closed_loop.specs.Shows.{TurnShows, LoopShows}
 use Rattle.closed_loop.specs.declared.fault.LoopFault.TheVariants.{Memory, OutsideBox}
-use Rattle.closed_loop.proofs.Showing.{state_zero, shifted_more, shifted_long, inside_none, inside_more, put_none, put_more, grows_by_turns, given, unmet, other, known, turn_shows}
+use Rattle.closed_loop.proofs.Showing.{state_zero, shifted_more, shifted_long, inside_none, inside_more, put_none, put_more, out_before, given, unmet, other, known, turn_shows}
 use Rattle.closed_loop.proofs.turns.run_turns.Goals as goal
 
 pub returns-in_err-state : goal.returns-in_err-state
 returns-in_err-state g c =
-    let d = design_of c.args.design.now in
-    let n = c.args.k.now.controller in
-    let start = c.args.start.now in
-    let states = states_under d n start c.args.shifts.now.rows in
-    let got = g.O.Sink.got c.args.out.now in
-    let faults = g.O.Sink.faults c.args.out.now in
+    let states = states_under (design_of c.args.design.now) c.args.k.now.controller c.args.start.now c.args.shifts.now.rows in
     let r = c.from_residual.result in
     let is = c.from_residual.ensures.1 in
     record {
       inside = unmet r _ _ is;
       put = unmet r _ _ is;
-      refused = given r (LoopShows n states (lines_of n c.args.entry states) c.args.turns got got faults faults) Memory is
-          (grows_by_turns n c.args.entry states c.args.turns 0 got got zero-le (inside_none n states) (put_none n c.args.entry states got));
+      refused = out_before c.args.k.now.controller c.args.entry states c.args.turns (g.O.Sink.got c.args.out.now) (g.O.Sink.faults c.args.out.now) r is;
       quiet = λ coordinate e. absurd (other r Memory 1 coordinate is (λ same. cc) e);
-      no_fewer = le_refl faults;
+      no_fewer = le_refl (g.O.Sink.faults c.args.out.now);
       controller = refl;
       rows = refl;
     }
 
 pub returns-in_err-next : goal.returns-in_err-next
 returns-in_err-next g c =
-    let d = design_of c.args.design.now in
-    let n = c.args.k.now.controller in
-    let start = c.args.start.now in
-    let states = states_under d n start c.args.shifts.now.rows in
-    let got = g.O.Sink.got c.args.out.now in
-    let faults = g.O.Sink.faults c.args.out.now in
+    let states = states_under (design_of c.args.design.now) c.args.k.now.controller c.args.start.now c.args.shifts.now.rows in
     let r = c.from_residual-in_err-next.result in
     let is = c.from_residual-in_err-next.ensures.1 in
     record {
       inside = unmet r _ _ is;
       put = unmet r _ _ is;
-      refused = given r (LoopShows n states (lines_of n c.args.entry states) c.args.turns got got faults faults) Memory is
-          (grows_by_turns n c.args.entry states c.args.turns 0 got got zero-le (inside_none n states) (put_none n c.args.entry states got));
+      refused = out_before c.args.k.now.controller c.args.entry states c.args.turns (g.O.Sink.got c.args.out.now) (g.O.Sink.faults c.args.out.now) r is;
       quiet = λ coordinate e. absurd (other r Memory 1 coordinate is (λ same. cc) e);
-      no_fewer = le_refl faults;
+      no_fewer = le_refl (g.O.Sink.faults c.args.out.now);
       controller = refl;
       rows = refl;
     }

@@ -21,18 +21,18 @@ returns-in-None g c =
     let old = got c.args.out.now in
     let new = got c.run_loop.new.out in
     let r = c.run_loop.result in
-    let e = c.run_loop.ensures in
+    let ends = c.run_loop.ensures.ends in
     let is : rows_along c.args.shifts.now ≡ None = ap rows_along (let found : c.args.shifts.now ≡ None = search rules in found) in
     record {
-      narrow = ok_narrow (turn_size d n) r e.wide;
-      inside = subst (λ (v : Option Matrix). OnOk r (LieInside n ((course_of d n v).states start) turns)) (sym is) e.inside;
-      put = subst (λ (v : Option Matrix). OnOk r (new ≡ option_map (λ o. o ++ (course_of d n v).lines entry start turns) old)) (sym is) e.put;
+      narrow = ok_narrow (turn_size d n) r ends.wide;
+      inside = subst (λ (v : Option Matrix). OnOk r (LieInside n ((course_of d n v).states start) turns)) (sym is) ends.inside;
+      put = subst (λ (v : Option Matrix). OnOk r (new ≡ option_map (λ o. o ++ (course_of d n v).lines entry start turns) old)) (sym is) ends.put;
       shows = subst (λ (v : Option Matrix). IfErr r (RecordShows d n (course_of d n v) entry start turns old new)) (sym is)
-          (said d n (course_of d n None) entry start old new turns r e.wide (λ w. ap got (e.wide_put w)) e.outside e.outside_put e.cut e.memory e.begun);
-      quiet = said_quietly (turn_size d n) r e.wide c.args.out.now c.run_loop.new.out e.wide_put e.quiet;
-      failed = e.failed;
-      no_fewer = e.no_fewer;
-      controller = e.controller;
+          (said d n (course_of d n None) entry start old new _ _ _ (ap got) turns r ends);
+      quiet = said_quietly (turn_size d n) r ends.wide c.args.out.now c.run_loop.new.out ends.wide_put ends.quiet;
+      failed = ends.failed;
+      no_fewer = c.run_loop.ensures.no_fewer;
+      controller = c.run_loop.ensures.controller;
       shifts = refl;
     }
 
@@ -49,21 +49,21 @@ returns-in-Some g c =
     let old = got c.args.out.now in
     let new = got c.run_loop_under.new.out in
     let r = c.run_loop_under.result in
-    let e = c.run_loop_under.ensures in
+    let ends = c.run_loop_under.ensures.ends in
     let is : rows_along c.args.shifts.now ≡ Some m = ap rows_along (let found : c.args.shifts.now ≡ Some w = search rules in found) in
     let sized : AreRowsFor n.states c.args.turns m = subst (λ (v : Option Matrix). AreShiftsFor n.states c.args.turns v) is c.requires.shifts in
     record {
-      narrow = ok_narrow (turn_size d n) r e.wide;
+      narrow = ok_narrow (turn_size d n) r ends.wide;
       inside = subst (λ (v : Option Matrix). OnOk r (LieInside n ((course_of d n v).states start) c.args.turns)) (sym is)
-          (subst (λ (k : ℕ). OnOk r (LieInside n (l.states start) k)) sized.rows e.inside);
+          (subst (λ (k : ℕ). OnOk r (LieInside n (l.states start) k)) sized.rows ends.inside);
       put = subst (λ (v : Option Matrix). OnOk r (new ≡ option_map (λ o. o ++ (course_of d n v).lines entry start c.args.turns) old)) (sym is)
-          (subst (λ (k : ℕ). OnOk r (new ≡ option_map (λ o. o ++ l.lines entry start k) old)) sized.rows e.put);
+          (subst (λ (k : ℕ). OnOk r (new ≡ option_map (λ o. o ++ l.lines entry start k) old)) sized.rows ends.put);
       shows = subst (λ (v : Option Matrix). IfErr r (RecordShows d n (course_of d n v) entry start c.args.turns old new)) (sym is)
           (subst (λ (k : ℕ). IfErr r (RecordShows d n l entry start k old new)) sized.rows
-          (said d n l entry start old new _ r e.wide (λ w. ap got (e.wide_put w)) e.outside e.outside_put e.cut e.memory e.begun));
-      quiet = said_quietly (turn_size d n) r e.wide c.args.out.now c.run_loop_under.new.out e.wide_put e.quiet;
-      failed = e.failed;
-      no_fewer = e.no_fewer;
-      controller = e.controller;
-      shifts = ap Some e.rows ∙ sym is;
+          (said d n l entry start old new _ _ _ (ap got) _ r ends));
+      quiet = said_quietly (turn_size d n) r ends.wide c.args.out.now c.run_loop_under.new.out ends.wide_put ends.quiet;
+      failed = ends.failed;
+      no_fewer = c.run_loop_under.ensures.no_fewer;
+      controller = c.run_loop_under.ensures.controller;
+      shifts = ap Some c.run_loop_under.ensures.rows ∙ sym is;
     }
