@@ -19,8 +19,8 @@ use Rattle.approx_inverse.specs.Condensed.{IsMatrixOf}
 use Rattle.approx_inverse.specs.DescentSize.{EachWithin, entry_bound, descent_of_column}
 use Rattle.approx_inverse.specs.Inverse.{HasGainSizes, IsSolution, SolvesForm}
 use Rattle.approx_inverse.specs.Fault.{IsFault}
-use Rattle.approx_inverse.specs.declared.fault.SolveFault.{SolveFault}
-use Rattle.approx_inverse.specs.declared.fault.SolveFault.TheVariants.{Memory, TooWide}
+use Rattle.design_refusal.specs.declared.size_fault.SizeFault.{SizeFault}
+use Rattle.design_refusal.specs.declared.size_fault.SizeFault.TheVariants.{Memory, TooWide}
 use Rattle.approx_inverse.specs.declared.inverse.Inverse.{Inverse}
 use Rattle.approx_inverse.proofs.SizeLaws.{all_fit, column_among, column_same}
 
@@ -106,12 +106,12 @@ ok_gives (Ok v) h p = h v p
 ok_gives (Err e) h p = tt
 
 -- a fault tells more
-pub fault_gives : (e : SolveFault) {P Q : Type 0} → (P → Q) → IsFault e P → IsFault e Q
+pub fault_gives : (e : SizeFault) {P Q : Type 0} → (P → Q) → IsFault e P → IsFault e Q
 fault_gives Memory h p = tt
 fault_gives (TooWide q) h p = (p.0, h p.1)
 
 -- what is too wide is refused, unless memory runs out before
-pub refusal_of : {T : Type 0} (r : Result T SolveFault) (n : ℕ) → OnOk r (n ≤ 2 ^ 126) → IfErr r (λ e. IsFault e (2 ^ 126 < n)) → 2 ^ 126 < n →
+pub refusal_of : {T : Type 0} (r : Result T SizeFault) (n : ℕ) → OnOk r (n ≤ 2 ^ 126) → IfErr r (λ e. IsFault e (2 ^ 126 < n)) → 2 ^ 126 < n →
     (r ≡ Err (TooWide Descent)) ⊎ (r ≡ Err Memory)
 refusal_of (Ok v) n fits wide h = absurd (omega (arith, fits, h))
 refusal_of (Err Memory) n fits wide h = inr refl

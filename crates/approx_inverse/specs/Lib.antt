@@ -8,4 +8,3 @@ pub mod Fault
 pub mod Inverse
 pub mod Workspace
 pub mod Laws
-pub mod Refusing

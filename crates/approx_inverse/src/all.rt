@@ -12,18 +12,18 @@ ghost use Rattle.approx_inverse.specs.Fault.{IsFault};
 ghost use Rattle.approx_inverse.specs.Root.{HasRootSizes};
 ghost use Rattle.approx_inverse.specs.Workspace.{IsWorkspace};
 
-use crate::fault::SolveFault;
 use crate::guess::Root;
 use crate::inverse::Inverse;
 use crate::system::matrix_of;
 use crate::workspace::Workspace;
 use condensed_form::Condensed;
+use design_refusal::SizeFault;
 use mat_int::Mat;
 use qp_model::Quantity;
 use std::alloc::Global;
 
 // Solves each column.
-fn solve_form(alloc: Global, c: &Condensed, f: u32) -> Result<Inverse, SolveFault>
+fn solve_form(alloc: Global, c: &Condensed, f: u32) -> Result<Inverse, SizeFault>
     requires solvable { IsSolvable c.now }
     requires bits { f ≤ 48 }
     ensures solved { IfOk result (SolvesForm (held c.now) f) }
@@ -42,7 +42,7 @@ fn solve_in(
     c: &Condensed,
     f: u32,
     work: &mut Workspace,
-) -> Result<Inverse, SolveFault>
+) -> Result<Inverse, SizeFault>
     requires solvable { IsSolvable c.now }
     requires bits { f ≤ 48 }
     requires work { IsWorkspace (held c.now).entries work.old }
@@ -64,7 +64,7 @@ fn solve_from(
     h: &Mat,
     root: &Root,
     work: &mut Workspace,
-) -> Result<Inverse, SolveFault>
+) -> Result<Inverse, SizeFault>
     requires solvable { IsSolvable c.now }
     requires bits { f ≤ 48 }
     requires matrix { IsMatrixOf (held c.now) h.now }
@@ -78,7 +78,7 @@ fn solve_from(
     for i in 0..states + 1 + rows {
         if !work.solve(c, i, f, h, root) {
             drop(found);
-            return Err(SolveFault::TooWide {
+            return Err(SizeFault::TooWide {
                 quantity: Quantity::Descent,
             });
         }
@@ -89,7 +89,7 @@ fn solve_from(
 
 /// Solves all columns of a condensed form at f bits: each becomes a good solution, no entry of which is above its bound. `TooWide`
 /// exactly where the quantity `descent` is above `2^126`.
-pub fn solve_all(alloc: Global, c: &Condensed, f: u32) -> Result<Inverse, SolveFault>
+pub fn solve_all(alloc: Global, c: &Condensed, f: u32) -> Result<Inverse, SizeFault>
     requires form { IsForm c.now }
     requires bits { f ≤ 48 }
 
@@ -100,7 +100,7 @@ pub fn solve_all(alloc: Global, c: &Condensed, f: u32) -> Result<Inverse, SolveF
     // The cause of a refusal; and the other way round, with nothing but out of memory in between.
     ensures wide { IfErr result (λ e. (p : DesignParts) → IsFormOf p c.now → IsFault e (2 ^ 126 < descent_size (form_of (design_of p)) f)) }
     ensures every_refusal { (p : DesignParts) → IsFormOf p c.now → 2 ^ 126 < descent_size (form_of (design_of p)) f
-        → (result ≡ Err (SolveFault.TooWide Descent)) ⊎ (result ≡ Err SolveFault.Memory) }
+        → (result ≡ Err (SizeFault.TooWide Descent)) ⊎ (result ≡ Err SizeFault.Memory) }
 {
     solve_form(alloc, c, f)
 }

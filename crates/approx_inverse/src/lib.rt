@@ -5,7 +5,6 @@ mod all;
 mod bits;
 mod column;
 mod descent;
-mod fault;
 mod guess;
 mod inverse;
 mod laws;
@@ -16,7 +15,6 @@ mod workspace;
 
 pub use all::solve_all;
 pub use column::solve_column;
-pub use fault::SolveFault;
 pub use inverse::Inverse;
 pub use laws::entry_law;
 pub use system::put_column;

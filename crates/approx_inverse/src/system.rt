@@ -10,8 +10,8 @@ ghost use Rattle.approx_inverse.specs.Condensed.{IsSolvable, IsMatrixOf};
 ghost use Rattle.approx_inverse.specs.DescentSize.{greatest_row};
 ghost use Rattle.approx_inverse.specs.Fault.{IsFault};
 
-use crate::fault::SolveFault;
 use condensed_form::Condensed;
+use design_refusal::SizeFault;
 use mat_int::Mat;
 use qp_model::Quantity;
 use std::alloc::Global;
@@ -92,7 +92,7 @@ pub fn put_column(c: &Condensed, i: usize, out: &mut [i128]) -> bool
 }
 
 /// The matrix. `TooWide` where a number of it is above `2^126` in absolute value. `line` is for a row.
-pub fn matrix_of(alloc: Global, c: &Condensed, line: &mut [i128]) -> Result<Mat, SolveFault>
+pub fn matrix_of(alloc: Global, c: &Condensed, line: &mut [i128]) -> Result<Mat, SizeFault>
     requires solvable { IsSolvable c.now }
     requires len { length line.old ≡ (held c.now).entries }
     ensures ok { IfOk result (IsMatrixOf (held c.now)) }
@@ -103,7 +103,7 @@ pub fn matrix_of(alloc: Global, c: &Condensed, line: &mut [i128]) -> Result<Mat,
     for i in 0..entries {
         line.copy_from_slice(c.hess.row(i));
         if !scale(line, c.limit_den) {
-            return Err(SolveFault::TooWide {
+            return Err(SizeFault::TooWide {
                 quantity: Quantity::Descent,
             });
         }

@@ -8,14 +8,14 @@ use Rattle.qp_model.specs.declared.quantity.Quantity.TheVariants.{Prediction, He
 use Rattle.qp_model.specs.problem.Design.{Design}
 use Rattle.qp_model.specs.form.Quantities.{prediction_size, hessian_size, rows_size}
 use Rattle.condensed_form.specs.Fault.{IsFirstWideIn, AreEntrySizes}
-use Rattle.condensed_form.specs.declared.fault.CondenseFault.{CondenseFault}
-use Rattle.condensed_form.specs.declared.fault.CondenseFault.TheVariants.{TooWide, Memory}
+use Rattle.design_refusal.specs.declared.size_fault.SizeFault.{SizeFault}
+use Rattle.design_refusal.specs.declared.size_fault.SizeFault.TheVariants.{TooWide, Memory}
 
 -- neither a quantity nor a value says that memory ran out
-pub wide_has_memory : {T : Type 0} (q : Quantity) → ◌≡◌ {A = Result T CondenseFault} (Err (TooWide q)) (Err Memory) → ⊥
+pub wide_has_memory : {T : Type 0} (q : Quantity) → ◌≡◌ {A = Result T SizeFault} (Err (TooWide q)) (Err Memory) → ⊥
 wide_has_memory q e = cc
 
-pub value_has_memory : {T : Type 0} (v : T) → ◌≡◌ {A = Result T CondenseFault} (Ok v) (Err Memory) → ⊥
+pub value_has_memory : {T : Type 0} (v : T) → ◌≡◌ {A = Result T SizeFault} (Ok v) (Err Memory) → ⊥
 value_has_memory v e = cc
 
 over : (a t : ℕ) → (a ≤ t → ⊥) → t < a
@@ -63,12 +63,12 @@ none_wide d h k l q w = w
 
 -- a fault that names a quantity is given exactly where that is the first
 pub fault_wide : {T : Type 0} (d : Design) (q : Quantity) → ((r : Quantity) → q ≡ r → IsFirstWideIn false d r) → ((r : Quantity) → IsFirstWideIn false d r → q ≡ r) →
-    (r : Quantity) → ◌≡◌ {A = Result T CondenseFault} (Err (TooWide q)) (Err (TooWide r)) ↔ IsFirstWideIn false d r
+    (r : Quantity) → ◌≡◌ {A = Result T SizeFault} (Err (TooWide q)) (Err (TooWide r)) ↔ IsFirstWideIn false d r
 fault_wide d q f g r = ((λ e. (let s : q ≡ r = cc in f r s)), (λ w. ap (λ (x : Quantity). Err (TooWide x)) (g r w)))
 
 -- and a value where none is
 pub value_wide : {T : Type 0} (d : Design) (v : T) → prediction_size d ≤ 2 ^ 126 → hessian_size d ≤ 2 ^ 126 → rows_size d ≤ 2 ^ 126 →
-    (r : Quantity) → ◌≡◌ {A = Result T CondenseFault} (Ok v) (Err (TooWide r)) ↔ IsFirstWideIn false d r
+    (r : Quantity) → ◌≡◌ {A = Result T SizeFault} (Ok v) (Err (TooWide r)) ↔ IsFirstWideIn false d r
 value_wide d v h k l r = ((λ e. cc), (λ w. absurd (none_wide d h k l r w)))
 
 -- ---- the quantities

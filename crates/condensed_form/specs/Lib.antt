@@ -4,4 +4,3 @@ pub mod Lists
 pub mod Costs
 pub mod Fault
 pub mod Numbers
-pub mod Refusing

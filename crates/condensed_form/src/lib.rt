@@ -4,7 +4,6 @@
 mod bounds;
 mod condensed;
 mod denominators;
-mod fault;
 mod limit;
 mod powers;
 mod squares;
@@ -15,7 +14,6 @@ mod weights;
 pub use bounds::scaled_bounds;
 pub use condensed::Condensed;
 pub use denominators::{bend_floor, least_input, least_of, square_scale};
-pub use fault::CondenseFault;
 pub use limit::{is_curvature_limited, is_lowering_limited, squares_exponent};
 pub use powers::{last_power, powers_of};
 pub use stacked::{cost_count, limit_count};

@@ -1,4 +1,3 @@
 pub mod Widest
 pub mod Fault
 pub mod Assembled
-pub mod Refusing

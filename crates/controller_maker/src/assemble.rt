@@ -15,18 +15,18 @@ ghost use Rattle.controller_maker.specs.Widest.{width_size};
 ghost use Rattle.controller_maker.specs.Fault.{IsWidthFault};
 ghost use Rattle.controller_maker.specs.Assembled.{AreRowsOf, HasExponents, IsFrame, AreGains, IsAssembled};
 
-use crate::fault::WidthFault;
 use crate::rounding::{Rows, rounded_rows};
 use crate::widest::widest_gains;
 use approx_inverse::Inverse;
 use condensed_form::Condensed;
+use design_refusal::SizeFault;
 use frac_scaled::shift_left;
 use overflow_check::{Controller, greatest_sum};
 use qp_model::{ControllerParts, Design, DesignParts, Quantity};
 use std::alloc::{AllocError, Global};
 
 // The sum is too wide.
-const WIDE: WidthFault = WidthFault::TooWide {
+const WIDE: SizeFault = SizeFault::TooWide {
     quantity: Quantity::Width,
 };
 
@@ -194,7 +194,7 @@ pub fn controller_of(
     settings: Settings,
     exps: Vec<u32>,
     gains: Inverse,
-) -> Result<Controller, WidthFault>
+) -> Result<Controller, SizeFault>
     requires form { IsFormOf design.now condensed.now }
     requires gains { IsInverseOf (form_of (design_of design.now)) settings.f gains }
     requires room { descent_size (form_of (design_of design.now)) settings.f ≤ 2 ^ 126 }
@@ -216,7 +216,7 @@ pub fn controller_of(
     };
     let Ok(parts) = widest_parts(alloc, design, condensed, settings, clamp, exps) else {
         drop(gains);
-        return Err(WidthFault::Memory);
+        return Err(SizeFault::Memory);
     };
     if greatest_sum(&parts).is_none() {
         drop(parts);

@@ -2,9 +2,7 @@
 #![tactic(auto)]
 
 mod assemble;
-mod fault;
 mod rounding;
 mod widest;
 
 pub use assemble::{Settings, controller_of};
-pub use fault::WidthFault;

@@ -20,29 +20,29 @@ use Rattle.exact_margin.specs.declared.fault.MarginFault.{MarginFault}
 use Rattle.exact_margin.specs.declared.fault.MarginFault.TheVariants.{TooWide as margin_wide, NoMargin as margin_none}
 use Rattle.condensed_form.specs.Fault as condensing
 use Rattle.condensed_form.specs.declared.condensed.Condensed.{Condensed}
-use Rattle.condensed_form.specs.declared.fault.CondenseFault.{CondenseFault}
-use Rattle.condensed_form.specs.declared.fault.CondenseFault.TheVariants.{Memory as condense_memory, TooWide as condense_wide}
+use Rattle.design_refusal.specs.declared.size_fault.SizeFault.{SizeFault}
+use Rattle.design_refusal.specs.declared.size_fault.SizeFault.TheVariants.{Memory as condense_memory, TooWide as condense_wide}
 use Rattle.hessian_check.specs.Refusals as exponents
 use Rattle.hessian_check.specs.declared.fault.StepExponents.{StepExponents}
 use Rattle.hessian_check.specs.declared.fault.CurvatureFault.{CurvatureFault}
 use Rattle.hessian_check.specs.declared.fault.CurvatureFault.TheVariants.{Memory as curvature_memory, TooWide as curvature_wide, NoStep}
 use Rattle.bit_choice.specs.Choice.{IsChoice}
 use Rattle.approx_inverse.specs.Fault.{IsFault}
-use Rattle.approx_inverse.specs.declared.fault.SolveFault.{SolveFault}
-use Rattle.approx_inverse.specs.declared.fault.SolveFault.TheVariants.{Memory as solve_memory, TooWide as solve_wide}
+use Rattle.design_refusal.specs.declared.size_fault.SizeFault.{SizeFault}
+use Rattle.design_refusal.specs.declared.size_fault.SizeFault.TheVariants.{Memory as solve_memory, TooWide as solve_wide}
 use Rattle.design_engine.specs.Targets.{Targets}
 use Rattle.design_engine.specs.Aims.{steps_of, aim_of}
 use Rattle.design_engine.specs.Tests.{IsRefusedFor, PassesForm, IsFormWide, HasFormCause, PassesBits, HasAimCause}
 use Rattle.controller_maker.specs.Widest.{width_size}
 use Rattle.controller_maker.specs.Fault.{IsWidthFault}
 use Rattle.exact_margin.specs.Refusing.{of_margin}
-use Rattle.condensed_form.specs.Refusing.{of_condense}
+use Rattle.design_refusal.specs.Refusing.{of_size}
 use Rattle.hessian_check.specs.Refusing.{of_curvature}
-use Rattle.approx_inverse.specs.Refusing.{of_solve}
-use Rattle.controller_maker.specs.Refusing.{of_width}
+use Rattle.design_refusal.specs.Refusing.{of_size}
+use Rattle.design_refusal.specs.Refusing.{of_size}
 use Rattle.design_engine.specs.Refusals.{PassesMargin, PassesExponent, HasCause, IsRefused, IsTooWide}
-use Rattle.controller_maker.specs.declared.fault.WidthFault.{WidthFault}
-use Rattle.controller_maker.specs.declared.fault.WidthFault.TheVariants.{Memory as width_memory, TooWide as width_wide}
+use Rattle.design_refusal.specs.declared.size_fault.SizeFault.{SizeFault}
+use Rattle.design_refusal.specs.declared.size_fault.SizeFault.TheVariants.{Memory as width_memory, TooWide as width_wide}
 use Rattle.design_refusal.specs.declared.refusal.Refusal.{Refusal}
 use Rattle.design_refusal.specs.declared.refusal.Refusal.TheVariants.{Memory, NoMargin, Curvature, TooManySteps, TooFine, TooWide}
 use Rattle.design_engine.specs.declared.aimed.Aim.{Aim}
@@ -63,11 +63,11 @@ within_limit x fault n h = elim (cases_lt (2 ^ 126) n) [ inl l ↦ absurd (diffe
 
 -- what is condensed has its quantity `prediction` within the limit
 pub condensed_within : (x : Condensed) (quantity : Quantity) (n : ℕ) →
-    (2 ^ 126 < n → ◌≡◌ {A = Result Condensed CondenseFault} (Ok x) (Err (condense_wide quantity)) ⊎ ◌≡◌ {A = Result Condensed CondenseFault} (Ok x) (Err condense_memory)) →
+    (2 ^ 126 < n → ◌≡◌ {A = Result Condensed SizeFault} (Ok x) (Err (condense_wide quantity)) ⊎ ◌≡◌ {A = Result Condensed SizeFault} (Ok x) (Err condense_memory)) →
     n ≤ 2 ^ 126
 condensed_within x quantity n h = elim (cases_lt (2 ^ 126) n) [ inl l ↦ absurd (neither (h l)) | inr l ↦ l ]
   where
-    neither : ◌≡◌ {A = Result Condensed CondenseFault} (Ok x) (Err (condense_wide quantity)) ⊎ ◌≡◌ {A = Result Condensed CondenseFault} (Ok x) (Err condense_memory) → ⊥
+    neither : ◌≡◌ {A = Result Condensed SizeFault} (Ok x) (Err (condense_wide quantity)) ⊎ ◌≡◌ {A = Result Condensed SizeFault} (Ok x) (Err condense_memory) → ⊥
     neither (inl g) = search rules
     neither (inr g) = search rules
 
@@ -88,9 +88,9 @@ module _ (d : Design) where
   form_wide Excess k = absurd k
   form_wide Stay k = absurd k
 
-  pub condense_refused : (r : Result Condensed CondenseFault) (fault : CondenseFault) → r ≡ Err fault →
+  pub condense_refused : (r : Result Condensed SizeFault) (fault : SizeFault) → r ≡ Err fault →
       ((quantity : Quantity) → r ≡ Err (condense_wide quantity) → condensing.IsFirstWideForm d quantity) →
-      (e : Refusal) → e ≡ of_condense fault → IsRefusedFor (HasFormCause d) e
+      (e : Refusal) → e ≡ of_size fault → IsRefusedFor (HasFormCause d) e
   condense_refused r condense_memory is wide e f = inl f
   condense_refused r (condense_wide quantity) is wide e f = rw f (inr (form_wide quantity (wide quantity is)))
 
@@ -119,14 +119,14 @@ module _ (d : Design) (a : Aim) (s : ℕ) where
       (e : Refusal) → e ≡ TooFine eps → HasAimCause d a s e
   choice_refused sums eps few size k fine is e j = rw j (few, (size, (rw k at fine, rw k at is)))
 
-  pub solve_refused : (f : ℕ) → PassesBits d a s f → (fault : SolveFault) → IsFault fault (2 ^ 126 < descent_size (form_of d) f) →
-      (e : Refusal) → e ≡ of_solve fault → IsRefusedFor (HasAimCause d a s) e
+  pub solve_refused : (f : ℕ) → PassesBits d a s f → (fault : SizeFault) → IsFault fault (2 ^ 126 < descent_size (form_of d) f) →
+      (e : Refusal) → e ≡ of_size fault → IsRefusedFor (HasAimCause d a s) e
   solve_refused f passes solve_memory h e j = inl j
   solve_refused f passes (solve_wide quantity) h e j = rw (j, h.0) (inr (f, passes, h.1))
 
   pub width_refused : (f k : ℕ) → PassesBits d a s f → descent_size (form_of d) f ≤ 2 ^ 126 → k ≡ steps_of a s →
-      (fault : WidthFault) → IsWidthFault fault (2 ^ 126 < width_size d (unsigned_abs a.r) s k f) →
-      (e : Refusal) → e ≡ of_width fault → IsRefusedFor (HasAimCause d a s) e
+      (fault : SizeFault) → IsWidthFault fault (2 ^ 126 < width_size d (unsigned_abs a.r) s k f) →
+      (e : Refusal) → e ≡ of_size fault → IsRefusedFor (HasAimCause d a s) e
   width_refused f k passes size i width_memory h e j = inl j
   width_refused f k passes size i (width_wide quantity) h e j = rw (j, h.0) (inr (f, passes, (size, rw i at h.1)))
 

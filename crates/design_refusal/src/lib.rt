@@ -2,7 +2,9 @@
 #![tactic(auto)]
 
 mod refusal;
+mod size_fault;
 mod words;
 
 pub use refusal::Refusal;
+pub use size_fault::SizeFault;
 pub use words::refusal_words;

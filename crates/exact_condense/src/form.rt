@@ -9,9 +9,8 @@ ghost use Rattle.condensed_form.specs.Numbers.{AreCostNumbers, AreLimitNumbers};
 use crate::cost_form::{CostNumbers, cost_numbers};
 use crate::limits::{LimitNumbers, limit_numbers};
 use crate::radii::no_radii;
-use condensed_form::{
-    CondenseFault, Condensed, bend_floor, last_power, least_input, powers_of, square_scale,
-};
+use condensed_form::{Condensed, bend_floor, last_power, least_input, powers_of, square_scale};
+use design_refusal::SizeFault;
 use qp_model::{Design, DesignParts, Quantity, hessian_size, prediction_size, rows_size};
 use std::alloc::{AllocError, Global};
 
@@ -23,24 +22,24 @@ struct Sizes {
 }
 
 // The quantities, or the first of `prediction`, `hessian` and `rows` that is above its limit.
-fn sizes_of(parts: &DesignParts) -> Result<Sizes, CondenseFault>
+fn sizes_of(parts: &DesignParts) -> Result<Sizes, SizeFault>
     requires { IsDesign parts.now }
     ensures sizes { IfOk result (λ sizes. AreEntrySizes (design_of parts.now) sizes.cost sizes.limit) }
-    ensures wide { (quantity : Quantity) → (result ≡ Err (CondenseFault.TooWide quantity)) ↔ IsFirstWideIn false (design_of parts.now) quantity }
-    ensures memory { result ≢ Err CondenseFault.Memory }
+    ensures wide { (quantity : Quantity) → (result ≡ Err (SizeFault.TooWide quantity)) ↔ IsFirstWideIn false (design_of parts.now) quantity }
+    ensures memory { result ≢ Err SizeFault.Memory }
 {
     if prediction_size(parts).is_none() {
-        return Err(CondenseFault::TooWide {
+        return Err(SizeFault::TooWide {
             quantity: Quantity::Prediction,
         });
     }
     let Some(cost) = hessian_size(parts) else {
-        return Err(CondenseFault::TooWide {
+        return Err(SizeFault::TooWide {
             quantity: Quantity::Hessian,
         });
     };
     let Some(limit) = rows_size(parts) else {
-        return Err(CondenseFault::TooWide {
+        return Err(SizeFault::TooWide {
             quantity: Quantity::Rows,
         });
     };
@@ -111,9 +110,9 @@ fn exact_form(alloc: Global, parts: &DesignParts, sizes: Sizes) -> Result<Conden
 /// The exact condensed form of a design: whole numbers that give the residuals and the cost of every plan at every state, and radii of
 /// 0. It refuses a design of which a quantity of these numbers, `prediction`, `hessian` or `rows`, is above `2^126`, and names the first.
 /// (Substituting the prediction into cost and limits, as in Rawlings, Mayne and Diehl, Model Predictive Control.)
-pub fn condense_exact(alloc: Global, design: &Design) -> Result<Condensed, CondenseFault>
+pub fn condense_exact(alloc: Global, design: &Design) -> Result<Condensed, SizeFault>
     ensures form { IfOk result (λ condensed. IsFormIn false design.now condensed) }
-    ensures wide { (quantity : Quantity) → (result ≡ Err (CondenseFault.TooWide quantity)) ↔ IsFirstWideIn false (design_of design.now) quantity }
+    ensures wide { (quantity : Quantity) → (result ≡ Err (SizeFault.TooWide quantity)) ↔ IsFirstWideIn false (design_of design.now) quantity }
 {
     let parts = design.parts();
     let sizes = sizes_of(parts)?;

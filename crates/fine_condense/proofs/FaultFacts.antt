@@ -4,8 +4,8 @@ use Rattle.qp_model.specs.declared.quantity.Quantity.{Quantity}
 use Rattle.qp_model.specs.declared.quantity.Quantity.TheVariants.{Prediction, Hessian, Rows}
 use Rattle.qp_model.specs.form.Class.{prediction_in, hessian_in, rows_in}
 use Rattle.qp_model.specs.problem.Design.{Design}
-use Rattle.condensed_form.specs.declared.fault.CondenseFault.{CondenseFault}
-use Rattle.condensed_form.specs.declared.fault.CondenseFault.TheVariants.{Memory, TooWide}
+use Rattle.design_refusal.specs.declared.size_fault.SizeFault.{SizeFault}
+use Rattle.design_refusal.specs.declared.size_fault.SizeFault.TheVariants.{Memory, TooWide}
 use Rattle.condensed_form.specs.Fault.{IsFirstWideIn}
 
 both : {a t : ℕ} → a ≤ t → t < a → ⊥
@@ -27,7 +27,7 @@ first_unique d Rows r h k = absurd k
 first_unique d q r h k = absurd h
 
 -- what a refusal is, where some quantity is too wide
-pub refused : (d : Design) (fault : CondenseFault) → ((q : Quantity) → fault ≡ TooWide q → IsFirstWideIn true d q) → (q : Quantity) → IsFirstWideIn true d q →
+pub refused : (d : Design) (fault : SizeFault) → ((q : Quantity) → fault ≡ TooWide q → IsFirstWideIn true d q) → (q : Quantity) → IsFirstWideIn true d q →
     (fault ≡ TooWide q) ⊎ (fault ≡ Memory)
 refused d Memory h q w = inr refl
 refused d (TooWide r) h q w = inl (ap TooWide (first_unique d r q (h r refl) w))
@@ -40,7 +40,7 @@ none_wide d a b e Rows h = both e h.1.1
 none_wide d a b e q h = h
 
 -- a result is one fault alone
-pub same_fault : {T : Type 0} {r : Result T CondenseFault} {x y : CondenseFault} → r ≡ Err x → r ≡ Err y → x ≡ y
+pub same_fault : {T : Type 0} {r : Result T SizeFault} {x y : SizeFault} → r ≡ Err x → r ≡ Err y → x ≡ y
 same_fault h k = cc
 
 -- want of memory is no quantity

@@ -8,12 +8,13 @@ ghost use Rattle.qp_model.specs.form.FineForm.{fine_costs, fine_products, hessia
 ghost use Rattle.qp_model.specs.form.FineSizes.{fine_reach, fine_prediction_size, fine_hessian_size};
 ghost use Rattle.fine_condense.specs.Lists.{HoldsEncMatrix};
 ghost use Rattle.fine_condense.specs.Numbers.{fine_cost_total, AreProducts, IsFineHessian, AreFineCosts};
-ghost use Rattle.condensed_form.specs.declared.fault.CondenseFault.{CondenseFault};
+ghost use Rattle.design_refusal.specs.declared.size_fault.SizeFault.{SizeFault};
 
 use crate::columns::cost_columns;
 use crate::hessian::{constant_numbers, hessian_numbers, linear_numbers};
 use crate::sizes::fine_cost_total;
-use condensed_form::{CondenseFault, weights_of};
+use condensed_form::weights_of;
+use design_refusal::SizeFault;
 use enclosure::{Enc, EncMat, gram};
 use frac_scaled::limited_product;
 use mat_products::MatFault;
@@ -37,31 +38,31 @@ fn weighed_products(
     alloc: Global,
     parts: &DesignParts,
     columns: &EncMat,
-) -> Result<EncMat, CondenseFault>
+) -> Result<EncMat, SizeFault>
     requires design { IsDesign parts.now }
     requires fits { fine_cost_total (design_of parts.now) ≤ 2 ^ 126 }
     requires columns { let width = parts.now.stages * parts.now.inputs + parts.now.states + 1 in
         HoldsEncMatrix columns.now.mid columns.now.rad (counts (design_of parts.now)) width width (fine_costs (design_of parts.now)) }
     ensures value { let width = parts.now.stages * parts.now.inputs + parts.now.states + 1 in
         IfOk result (λ g. HasEnclosures width width (fine_products (design_of parts.now)) g.mid g.rad) }
-    ensures memory { (fault : CondenseFault) → result ≡ Err fault → fault ≡ CondenseFault.Memory }
+    ensures memory { (fault : SizeFault) → result ≡ Err fault → fault ≡ SizeFault.Memory }
 {
     let weights = weights_of(alloc, parts)?;
     match gram(alloc, columns, &weights) {
         Ok(products) => Ok(products),
-        Err(MatFault::Memory) => Err(CondenseFault::Memory),
+        Err(MatFault::Memory) => Err(SizeFault::Memory),
         Err(MatFault::Wide) => unreachable!(),
     }
 }
 
 // Those of the plan's entries, then of the states, and then of the targets.
-fn cost_products(alloc: Global, parts: &DesignParts) -> Result<EncMat, CondenseFault>
+fn cost_products(alloc: Global, parts: &DesignParts) -> Result<EncMat, SizeFault>
     requires design { IsDesign parts.now }
     requires prediction { fine_prediction_size (design_of parts.now) ≤ 2 ^ 126 }
     requires fits { fine_cost_total (design_of parts.now) ≤ 2 ^ 126 }
     ensures value { let width = parts.now.stages * parts.now.inputs + parts.now.states + 1 in
         IfOk result (λ g. HasEnclosures width width (fine_products (design_of parts.now)) g.mid g.rad) }
-    ensures memory { (fault : CondenseFault) → result ≡ Err fault → fault ≡ CondenseFault.Memory }
+    ensures memory { (fault : SizeFault) → result ≡ Err fault → fault ≡ SizeFault.Memory }
 {
     let columns = cost_columns(alloc, parts)?;
     weighed_products(alloc, parts, &columns)
@@ -124,17 +125,17 @@ fn cost_of_products(
     parts: &DesignParts,
     products: &EncMat,
     total: u128,
-) -> Result<FineCosts, CondenseFault>
+) -> Result<FineCosts, SizeFault>
     requires products { AreProducts parts.now products.now.mid products.now.rad }
     requires total { total ≡ fine_cost_total (design_of parts.now) }
     ensures costs { IfOk result (λ c. AreFineCosts parts.now c.hess.mid c.hess.rad c.lin.mid c.lin.rad c.off.items c.radius c.size) }
-    ensures wide { (quantity : Quantity) → result ≡ Err (CondenseFault.TooWide quantity) →
+    ensures wide { (quantity : Quantity) → result ≡ Err (SizeFault.TooWide quantity) →
         (quantity ≡ Quantity.Hessian) × (2 ^ 126 < fine_hessian_size (design_of parts.now)) }
 {
     let hess = hessian_numbers(alloc, parts, products)?;
     let radius = widest_row(parts, &hess);
     let Some(narrow) = limited_product(1 << 86, radius) else {
-        return Err(CondenseFault::TooWide {
+        return Err(SizeFault::TooWide {
             quantity: Quantity::Hessian,
         });
     };
@@ -142,20 +143,16 @@ fn cost_of_products(
 }
 
 /// The condensed cost, or that the quantity `hessian` is above `2^126`. `reach` is how far a response reaches at the last stage.
-pub fn fine_costs(
-    alloc: Global,
-    parts: &DesignParts,
-    reach: u128,
-) -> Result<FineCosts, CondenseFault>
+pub fn fine_costs(alloc: Global, parts: &DesignParts, reach: u128) -> Result<FineCosts, SizeFault>
     requires design { IsDesign parts.now }
     requires reach { reach ≡ fine_reach (design_of parts.now) parts.now.stages }
     requires prediction { fine_prediction_size (design_of parts.now) ≤ 2 ^ 126 }
     ensures costs { IfOk result (λ c. AreFineCosts parts.now c.hess.mid c.hess.rad c.lin.mid c.lin.rad c.off.items c.radius c.size) }
-    ensures wide { (quantity : Quantity) → result ≡ Err (CondenseFault.TooWide quantity) →
+    ensures wide { (quantity : Quantity) → result ≡ Err (SizeFault.TooWide quantity) →
         (quantity ≡ Quantity.Hessian) × (2 ^ 126 < fine_hessian_size (design_of parts.now)) }
 {
     let Some(total) = fine_cost_total(parts, reach) else {
-        return Err(CondenseFault::TooWide {
+        return Err(SizeFault::TooWide {
             quantity: Quantity::Hessian,
         });
     };

@@ -4,7 +4,7 @@ ghost use Rattle.qp_model.specs.declared.quantity.Quantity.{Quantity};
 ghost use Rattle.qp_model.specs.problem.Parts.{design_of, IsDesign};
 ghost use Rattle.qp_model.specs.form.FineForm.{FineLaw};
 ghost use Rattle.qp_model.specs.form.FineSizes.{FineFormLaw, fine_prediction_size};
-ghost use Rattle.condensed_form.specs.declared.fault.CondenseFault.{CondenseFault};
+ghost use Rattle.design_refusal.specs.declared.size_fault.SizeFault.{SizeFault};
 ghost use Rattle.condensed_form.specs.Fault.{IsFirstWideIn};
 ghost use Rattle.condensed_form.specs.Form.{IsFormIn};
 ghost use Rattle.fine_condense.specs.Lists.{mids, rads};
@@ -13,7 +13,8 @@ ghost use Rattle.fine_condense.specs.Numbers.{AreFineCosts, AreFineLimits};
 use crate::costs::{FineCosts, fine_costs};
 use crate::limits::{FineLimits, fine_limits};
 use crate::scales::{bend_floor, brought_weight};
-use condensed_form::{CondenseFault, Condensed, least_of};
+use condensed_form::{Condensed, least_of};
+use design_refusal::SizeFault;
 use enclosure::Enc;
 use fine_run::last_reach;
 use frac_scaled::scaled;
@@ -38,17 +39,17 @@ struct FineNumbers {
 }
 
 // Both, or the first of the quantities `prediction`, `hessian` and `rows` that is above `2^126`.
-fn fine_numbers(alloc: Global, parts: &DesignParts) -> Result<FineNumbers, CondenseFault>
+fn fine_numbers(alloc: Global, parts: &DesignParts) -> Result<FineNumbers, SizeFault>
     requires { IsDesign parts.now }
     ensures costs { IfOk result (λ f.
         AreFineCosts parts.now f.costs.hess.mid f.costs.hess.rad f.costs.lin.mid f.costs.lin.rad f.costs.off.items f.costs.radius f.costs.size) }
     ensures limits { IfOk result (λ f.
         AreFineLimits parts.now f.limits.g.mid f.limits.g.rad f.limits.e.mid f.limits.e.rad f.limits.bound.items f.limits.size) }
     ensures prediction { OnOk result (fine_prediction_size (design_of parts.now) ≤ 2 ^ 126) }
-    ensures wide { (quantity : Quantity) → result ≡ Err (CondenseFault.TooWide quantity) → IsFirstWideIn true (design_of parts.now) quantity }
+    ensures wide { (quantity : Quantity) → result ≡ Err (SizeFault.TooWide quantity) → IsFirstWideIn true (design_of parts.now) quantity }
 {
     let Some(reach) = last_reach(parts, 1 << 40) else {
-        return Err(CondenseFault::TooWide {
+        return Err(SizeFault::TooWide {
             quantity: Quantity::Prediction,
         });
     };
@@ -147,11 +148,11 @@ fn form_of(
 
 /// The condensed form of a design in enclosures. It refuses a design of which a quantity of these numbers, `prediction`, `hessian` or `rows`, is
 /// above `2^126`, and names the first.
-pub fn condense_fine(alloc: Global, design: &Design) -> Result<Condensed, CondenseFault>
+pub fn condense_fine(alloc: Global, design: &Design) -> Result<Condensed, SizeFault>
     ensures form { IfOk result (λ c. IsFormIn true design.now c) }
-    ensures wide { (quantity : Quantity) → result ≡ Err (CondenseFault.TooWide quantity) → IsFirstWideIn true (design_of design.now) quantity }
+    ensures wide { (quantity : Quantity) → result ≡ Err (SizeFault.TooWide quantity) → IsFirstWideIn true (design_of design.now) quantity }
     ensures every_refusal { (quantity : Quantity) → IsFirstWideIn true (design_of design.now) quantity →
-        (result ≡ Err (CondenseFault.TooWide quantity)) ⊎ (result ≡ Err CondenseFault.Memory) }
+        (result ≡ Err (SizeFault.TooWide quantity)) ⊎ (result ≡ Err SizeFault.Memory) }
 {
     let parts = design.parts();
     let numbers = fine_numbers(alloc, parts)?;

@@ -4,11 +4,12 @@ ghost use Rattle.qp_model.specs.declared.quantity.Quantity.{Quantity};
 ghost use Rattle.qp_model.specs.problem.Parts.{design_of, IsDesign};
 ghost use Rattle.qp_model.specs.form.FineSizes.{fine_reach, fine_prediction_size, fine_rows_size};
 ghost use Rattle.fine_condense.specs.Numbers.{AreFineLimits};
-ghost use Rattle.condensed_form.specs.declared.fault.CondenseFault.{CondenseFault};
+ghost use Rattle.design_refusal.specs.declared.size_fault.SizeFault.{SizeFault};
 
 use crate::columns::{fine_plan_columns, fine_state_columns};
 use crate::sizes::fine_rows_size;
-use condensed_form::{CondenseFault, scaled_bounds};
+use condensed_form::scaled_bounds;
+use design_refusal::SizeFault;
 use enclosure::EncMat;
 use qp_model::{DesignParts, Quantity};
 use std::alloc::Global;
@@ -25,20 +26,16 @@ pub struct FineLimits {
 }
 
 /// The condensed limits, or that the quantity `rows` is above `2^126`. `reach` is how far a response reaches at the last stage.
-pub fn fine_limits(
-    alloc: Global,
-    parts: &DesignParts,
-    reach: u128,
-) -> Result<FineLimits, CondenseFault>
+pub fn fine_limits(alloc: Global, parts: &DesignParts, reach: u128) -> Result<FineLimits, SizeFault>
     requires design { IsDesign parts.now }
     requires reach { reach ≡ fine_reach (design_of parts.now) parts.now.stages }
     requires prediction { fine_prediction_size (design_of parts.now) ≤ 2 ^ 126 }
     ensures limits { IfOk result (λ l. AreFineLimits parts.now l.g.mid l.g.rad l.e.mid l.e.rad l.bound.items l.size) }
-    ensures wide { (quantity : Quantity) → result ≡ Err (CondenseFault.TooWide quantity) →
+    ensures wide { (quantity : Quantity) → result ≡ Err (SizeFault.TooWide quantity) →
         (quantity ≡ Quantity.Rows) × (2 ^ 126 < fine_rows_size (design_of parts.now)) }
 {
     let Some(size) = fine_rows_size(parts, reach) else {
-        return Err(CondenseFault::TooWide {
+        return Err(SizeFault::TooWide {
             quantity: Quantity::Rows,
         });
     };

@@ -16,9 +16,9 @@ use Rattle.exact_margin.specs.Corners.{HasCornerRoom, IsFirstShort}
 use Rattle.exact_margin.specs.declared.fault.MarginFault.{MarginFault}
 use Rattle.exact_margin.specs.declared.fault.MarginFault.TheVariants.{TooWide as margin_wide, NoMargin as margin_none}
 use Rattle.plan_excess.specs.Fault.{IsExcessFault}
-use Rattle.plan_excess.specs.Refusing.{of_excess}
-use Rattle.plan_excess.specs.declared.fault.ExcessFault.{ExcessFault}
-use Rattle.plan_excess.specs.declared.fault.ExcessFault.TheVariants.{Memory as excess_memory, TooWide as excess_wide}
+use Rattle.design_refusal.specs.Refusing.{of_size}
+use Rattle.design_refusal.specs.declared.size_fault.SizeFault.{SizeFault}
+use Rattle.design_refusal.specs.declared.size_fault.SizeFault.TheVariants.{Memory as excess_memory, TooWide as excess_wide}
 use Rattle.design_engine.specs.Targets.{Targets, floor_target}
 use Rattle.design_engine.specs.Tests.{IsWide, IsRefusedFor, HasFormCause, HasAimCause}
 use Rattle.design_engine.specs.Refusals.{PassesMargin}
@@ -49,14 +49,14 @@ module _ (d : Design) (t : Targets) (plans references : Plans) where
       (wide_form d (IsTooWideLean d t plans references) (λ k. inr (m, h, k)) (λ k. (m, h, k)) (λ k. (m, h, k)) (λ k. (m, h, k)))
 
   -- ---- the excess
-  pub excess_refused : (units : ℕ) (fault : ExcessFault) → IsExcessFault (policy_excess_size d plans references) fault → (e : Refusal) → e ≡ of_excess fault →
+  pub excess_refused : (units : ℕ) (fault : SizeFault) → IsExcessFault (policy_excess_size d plans references) fault → (e : Refusal) → e ≡ of_size fault →
       IsRefusedFor (HasBoundCause d t plans references units) e
   excess_refused units excess_memory h e f = inl f
   excess_refused units (excess_wide quantity) (inl memory) e f = absurd (search rules)
   excess_refused units (excess_wide quantity) (inr wide) e f = inr (inl (f ∙ named quantity wide.0, wide.1))
     where
       named : (quantity : Quantity) → excess_wide quantity ≡ excess_wide Excess → TooWide quantity ≡ TooWide Excess
-      named quantity e = ap of_excess e
+      named quantity e = ap of_size e
 
   -- ---- the aim
   aim_caused : (m : Margin) (s : ℕ) → PassesBound d t plans references m s → (e : Refusal) → HasAimCause d (aim_at d t plans references m) s e →

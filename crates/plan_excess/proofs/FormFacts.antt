@@ -15,8 +15,8 @@ use Rattle.enclosure.specs.declared.types.Enc.{Enc}
 use Rattle.enclosure.specs.Values.{pair}
 use Rattle.fine_run.specs.Lists.{HoldsEnclosures}
 use Rattle.plan_excess.specs.declared.rows.Row.{Row}
-use Rattle.plan_excess.specs.declared.fault.ExcessFault.{ExcessFault}
-use Rattle.plan_excess.specs.declared.fault.ExcessFault.TheVariants.{TooWide}
+use Rattle.design_refusal.specs.declared.size_fault.SizeFault.{SizeFault}
+use Rattle.design_refusal.specs.declared.size_fault.SizeFault.TheVariants.{TooWide}
 use Rattle.plan_excess.specs.Fault.{IsExcessFault}
 use Rattle.plan_excess.specs.Rows.{line_at, line_size, IsGradientRow, AreGradientRows}
 
@@ -49,19 +49,19 @@ module _ (p : DesignParts) (c : Condensed) (is : IsFormOf p c) (j : ℕ) where
   state_within = omega (arith, sym size_is)
 
   -- ---- a row that may be missing
-  pub row_given : (r : Result Row ExcessFault) (plan state : List Enc) (constant : Option Enc) →
+  pub row_given : (r : Result Row SizeFault) (plan state : List Enc) (constant : Option Enc) →
       HoldsEnclosures plan c.hess.cols (line_at (unsigned_abs c.hess_den) c.hess c.hess_rad j) →
       HoldsEnclosures state c.lin.cols (line_at (unsigned_abs c.hess_den) c.lin c.lin_rad j) → IfSome constant (λ e. pair e ≡ constant_at (held c) j) →
       IfOk r (HasParts plan state constant) → IfOk r (IsGradientRow (design_of p) (held c) j)
   row_given r plan state constant h k l m = IfOk-weaker r _ _ (λ row o. row_is plan state constant h k l row o) m
 
-  pub row_room : (r : Result Row ExcessFault) (plan state : List Enc) (constant : Option Enc) →
+  pub row_room : (r : Result Row SizeFault) (plan state : List Enc) (constant : Option Enc) →
       line_size (unsigned_abs c.hess_den) c.hess c.hess_rad j ≤ 2 ^ 126 → line_size (unsigned_abs c.hess_den) c.lin c.lin_rad j ≤ 2 ^ 126 →
       IsSome constant ↔ (reach (constant_at (held c) j) ≤ 2 ^ 126) → IfOk r (HasParts plan state constant) → OnOk r (number_size (design_of p) (held c) j ≤ 2 ^ 126)
   row_room (Err e) plan state constant h k l m = tt
   row_room (Ok row) plan state constant h k l m = let last = l.0 (subst (λ (o : Option Enc). IsSome o) (sym m.2) refl) in omega (arith, sym size_is, h, k, last)
 
-  pub row_refused : (r : Result Row ExcessFault) (constant : Option Enc) → IsSome constant ↔ (reach (constant_at (held c) j) ≤ 2 ^ 126) →
+  pub row_refused : (r : Result Row SizeFault) (constant : Option Enc) → IsSome constant ↔ (reach (constant_at (held c) j) ≤ 2 ^ 126) →
       IfErr r (λ e. (e ≡ TooWide Excess) × (constant ≡ None)) → IfErr r (IsExcessFault (number_size (design_of p) (held c) j))
   row_refused (Ok row) constant l m = tt
   row_refused (Err e) constant l m = inr (m.0, beyond (λ k. missing (subst (λ (o : Option Enc). IsSome o) m.1 (l.1 k))))

@@ -11,8 +11,8 @@ use Rattle.enclosure.proofs.SumLaws.{combination_reach_is, combination_size, rad
 use Rattle.qp_model.specs.form.Quantities.{greatest}
 use Rattle.qp_model.proofs.SizeFacts.{greatest_more, greatest_term}
 use Rattle.plan_excess.specs.Fault.{IsExcessFault}
-use Rattle.plan_excess.specs.declared.fault.ExcessFault.{ExcessFault}
-use Rattle.plan_excess.specs.declared.fault.ExcessFault.TheVariants.{Memory}
+use Rattle.design_refusal.specs.declared.size_fault.SizeFault.{SizeFault}
+use Rattle.design_refusal.specs.declared.size_fault.SizeFault.TheVariants.{Memory}
 
 -- none where the size is above the limit
 pub none_of : {T : Type 0} (o : Option T) (n : ℕ) → o ≡ None → (n ≤ 2 ^ 126 → ⊥) → IsSome o ↔ (n ≤ 2 ^ 126)
@@ -50,20 +50,20 @@ radius_of x e h = subst (λ (e : Enclosure). pos 0 ≤ℤ e.rad) h x.nonnegative
 
 -- ---- faults
 -- of a part of a size
-pub fault_within : (m n : ℕ) (e : ExcessFault) → m ≤ n → IsExcessFault m e → IsExcessFault n e
+pub fault_within : (m n : ℕ) (e : SizeFault) → m ≤ n → IsExcessFault m e → IsExcessFault n e
 fault_within m n e h (inl f) = inl f
 fault_within m n e h (inr f) = inr (f.0, omega (arith, h, f.1))
 
 -- of a call that is handed on
-pub fault_passed : {T : Type 0} (r : Result T ExcessFault) (x : ExcessFault) (m n : ℕ) → IsErrAnd r (λ y. y ≡ x) → m ≤ n → IsExcessFault m x → IfErr r (IsExcessFault n)
+pub fault_passed : {T : Type 0} (r : Result T SizeFault) (x : SizeFault) (m n : ℕ) → IsErrAnd r (λ y. y ≡ x) → m ≤ n → IsExcessFault m x → IfErr r (IsExcessFault n)
 fault_passed (Ok v) x m n h l f = tt
 fault_passed (Err y) x m n h l f = fault_within m n y l (subst (IsExcessFault m) (sym h) f)
 
-pub memory_passed : {T : Type 0} (r : Result T ExcessFault) (n : ℕ) → IsErrAnd r (λ y. y ≡ Memory) → IfErr r (IsExcessFault n)
+pub memory_passed : {T : Type 0} (r : Result T SizeFault) (n : ℕ) → IsErrAnd r (λ y. y ≡ Memory) → IfErr r (IsExcessFault n)
 memory_passed (Ok v) n h = tt
 memory_passed (Err y) n h = inl h
 
-pub fault_same : (n : ℕ) (e f : ExcessFault) → e ≡ f → IsExcessFault n e → IsExcessFault n f
+pub fault_same : (n : ℕ) (e f : SizeFault) → e ≡ f → IsExcessFault n e → IsExcessFault n f
 fault_same n e f h k = subst (IsExcessFault n) h k
 
 -- ---- greatest numbers

@@ -1,9 +1,9 @@
 -- Why there is no excess.
 use Rattle.std.specs.Prelude.{◌≡◌, ◌⊎◌, ℕ, ◌^◌, ◌<◌}
 use Rattle.qp_model.specs.declared.quantity.Quantity.TheVariants.{Excess}
-use Rattle.plan_excess.specs.declared.fault.ExcessFault.{ExcessFault}
-use Rattle.plan_excess.specs.declared.fault.ExcessFault.TheVariants.{Memory, TooWide}
+use Rattle.design_refusal.specs.declared.size_fault.SizeFault.{SizeFault}
+use Rattle.design_refusal.specs.declared.size_fault.SizeFault.TheVariants.{Memory, TooWide}
 
 -- out of memory, or the quantity of this size is above its limit
-abbrev pub IsExcessFault : (size : ℕ) → ExcessFault → Type 0
+abbrev pub IsExcessFault : (size : ℕ) → SizeFault → Type 0
 IsExcessFault size e = (e ≡ Memory) ⊎ ((e ≡ TooWide Excess) × (2 ^ 126 < size))

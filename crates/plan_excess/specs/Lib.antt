@@ -1,4 +1,3 @@
 pub mod Fault
-pub mod Refusing
 pub mod Rows
 pub mod Slopes

@@ -17,11 +17,12 @@ ghost use Rattle.plan_excess.specs.Slopes.{AreCornerPlans, IsFitting, AreSlopeSu
 ghost use Rattle.plan_excess.specs.Slopes.{excess_by, excess_size_by, corner_size};
 
 use crate::corner::{Corner, corner_of};
-use crate::fault::{ExcessFault, too_wide};
+use crate::fault::too_wide;
 use crate::rows::{Row, rows_of};
 use crate::slope::slope_of;
 use crate::sums::Sums;
 use condensed_form::Condensed;
+use design_refusal::SizeFault;
 use qp_model::{Design, Policy};
 use std::alloc::Global;
 
@@ -67,7 +68,7 @@ fn excess_at(
     policy: &Policy,
     reference: &Policy,
     number: usize,
-) -> Result<i128, ExcessFault>
+) -> Result<i128, SizeFault>
     requires form { IsFormOf design.now condensed.now }
     requires plans { IsPolicyFor (design_of design.now) (plans_of policy.now) }
     requires references { IsPolicyFor (design_of design.now) (plans_of reference.now) }
@@ -100,7 +101,7 @@ pub fn excess(
     design: &Design,
     policy: &Policy,
     reference: &Policy,
-) -> Result<i128, ExcessFault>
+) -> Result<i128, SizeFault>
     requires form { IsFormOf design.now condensed.now }
     requires plans { IsPolicyFor (design_of design.now) (plans_of policy.now) }
     requires references { IsPolicyFor (design_of design.now) (plans_of reference.now) }

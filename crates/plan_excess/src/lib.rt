@@ -11,4 +11,3 @@ mod slope;
 mod sums;
 
 pub use corners::excess;
-pub use fault::ExcessFault;

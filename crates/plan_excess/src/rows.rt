@@ -13,10 +13,11 @@ ghost use Rattle.condensed_form.specs.Form.{held, IsFormOf};
 ghost use Rattle.fine_run.specs.Lists.{HoldsEnclosures};
 ghost use Rattle.plan_excess.specs.Fault.{IsExcessFault};
 ghost use Rattle.plan_excess.specs.Rows.{line_at, line_size, IsGradientRow, AreGradientRows, AreRowsNear};
-ghost use Rattle.plan_excess.specs.declared.fault.ExcessFault.TheVariants.{TooWide as excess_wide};
+ghost use Rattle.design_refusal.specs.declared.size_fault.SizeFault.TheVariants.{TooWide as excess_wide};
 
-use crate::fault::{ExcessFault, too_wide};
+use crate::fault::too_wide;
 use condensed_form::Condensed;
+use design_refusal::SizeFault;
 use enclosure::{Enc, enclose_within};
 use mat_int::Mat;
 use std::alloc::Global;
@@ -40,7 +41,7 @@ fn number(mid: i128, rad: i128, den: i128) -> Option<Enc>
 }
 
 // Midpoints within their radii, all over `den`.
-fn numbers(alloc: Global, mids: &[i128], rads: &[i128], den: i128) -> Result<Vec<Enc>, ExcessFault>
+fn numbers(alloc: Global, mids: &[i128], rads: &[i128], den: i128) -> Result<Vec<Enc>, SizeFault>
     requires lengths { length rads.now ≡ length mids.now }
     requires divisor { pos 1 ≤ℤ den }
     requires radii { (i : ℕ) → i < length mids.now → pos 0 ≤ℤ at rads.now i }
@@ -62,7 +63,7 @@ fn numbers(alloc: Global, mids: &[i128], rads: &[i128], den: i128) -> Result<Vec
 }
 
 // Row `j` of a matrix within that of the radii, all over `den`.
-fn line(alloc: Global, mids: &Mat, rads: &Mat, j: usize, den: i128) -> Result<Vec<Enc>, ExcessFault>
+fn line(alloc: Global, mids: &Mat, rads: &Mat, j: usize, den: i128) -> Result<Vec<Enc>, SizeFault>
     requires rows { length rads.now.rows ≡ length mids.now.rows }
     requires cols { rads.now.cols ≡ mids.now.cols }
     requires row { j < length mids.now.rows }
@@ -76,7 +77,7 @@ fn line(alloc: Global, mids: &Mat, rads: &Mat, j: usize, den: i128) -> Result<Ve
 }
 
 // A row of these numbers, where the constant is none that is too long.
-fn joined(plan: Vec<Enc>, state: Vec<Enc>, constant: Option<Enc>) -> Result<Row, ExcessFault>
+fn joined(plan: Vec<Enc>, state: Vec<Enc>, constant: Option<Enc>) -> Result<Row, SizeFault>
     ensures value { IfOk result (λ row. (row.plan.items ≡ plan.items) × (row.state.items ≡ state.items) × (constant ≡ Some row.constant)) }
     ensures refused { IfErr result (λ e. (e ≡ excess_wide Excess) × (constant ≡ None)) }
 {
@@ -95,7 +96,7 @@ fn joined(plan: Vec<Enc>, state: Vec<Enc>, constant: Option<Enc>) -> Result<Row,
 }
 
 // Row `j`.
-fn row_of(alloc: Global, c: &Condensed, j: usize) -> Result<Row, ExcessFault>
+fn row_of(alloc: Global, c: &Condensed, j: usize) -> Result<Row, SizeFault>
     requires form { (p : DesignParts) × IsFormOf p c.now }
     requires row { j < length c.now.hess.rows }
     ensures value { (p : DesignParts) → IsFormOf p c.now → IfOk result (IsGradientRow (design_of p) (held c.now) j) }
@@ -108,7 +109,7 @@ fn row_of(alloc: Global, c: &Condensed, j: usize) -> Result<Row, ExcessFault>
 }
 
 /// All rows.
-pub(crate) fn rows_of(alloc: Global, c: &Condensed) -> Result<Vec<Row>, ExcessFault>
+pub(crate) fn rows_of(alloc: Global, c: &Condensed) -> Result<Vec<Row>, SizeFault>
     requires { (p : DesignParts) × IsFormOf p c.now }
     ensures value { (p : DesignParts) → IsFormOf p c.now → IfOk result (λ v. AreGradientRows (design_of p) (held c.now) (entries (design_of p)) v.items) }
     ensures room { (p : DesignParts) → IsFormOf p c.now → OnOk result (AreRowsNear (design_of p) (held c.now) (entries (design_of p))) }

@@ -12,8 +12,8 @@ use Rattle.qp_model.specs.problem.Parts.{design_of}
 use Rattle.qp_model.specs.form.Quantities.{prediction_size, hessian_size, rows_size}
 use Rattle.qp_model.specs.form.FineSizes.{exact_curvature_size, is_fine}
 use Rattle.condensed_form.specs.declared.condensed.Condensed.{Condensed}
-use Rattle.condensed_form.specs.declared.fault.CondenseFault.{CondenseFault}
-use Rattle.condensed_form.specs.declared.fault.CondenseFault.TheVariants.{Memory}
+use Rattle.design_refusal.specs.declared.size_fault.SizeFault.{SizeFault}
+use Rattle.design_refusal.specs.declared.size_fault.SizeFault.TheVariants.{Memory}
 use Rattle.condensed_form.specs.Form.{IsFormIn, IsFormOf}
 use Rattle.condensed_form.specs.Fault.{IsFirstWideIn, IsFirstWideForm}
 
@@ -81,9 +81,9 @@ pub exact_held : (p : DesignParts) (form : Option Condensed) (c : Condensed) →
 exact_held p form c is class held = subst (λ (b : Bool). IsFormIn b p c) (sym (class.0 (rw is refl))) (rw is at held)
 
 -- ---- what is refused
-pub out_of_memory : (r : Result Condensed CondenseFault) → IsErrAnd r (λ e. e ≡ Memory) → r ≡ Err Memory
+pub out_of_memory : (r : Result Condensed SizeFault) → IsErrAnd r (λ e. e ≡ Memory) → r ≡ Err Memory
 out_of_memory (Ok x) h = absurd h
-out_of_memory (Err e) h = ap (λ (fault : CondenseFault). Err fault) h
+out_of_memory (Err e) h = ap (λ (fault : SizeFault). Err fault) h
 
 -- no quantity of an exact design's form is above the limit
 pub none_wide : (d : Design) (q : Quantity) → is_fine d ≡ false → IsFirstWideForm d q → ⊥

@@ -7,7 +7,8 @@ ghost use Rattle.qp_model.specs.form.Class.{FormLaw};
 ghost use Rattle.condensed_form.specs.Form.{IsFormIn, IsFormOf};
 ghost use Rattle.condensed_form.specs.Fault.{IsFirstWideForm};
 
-use condensed_form::{CondenseFault, Condensed, is_curvature_limited};
+use condensed_form::{Condensed, is_curvature_limited};
+use design_refusal::SizeFault;
 use exact_condense::condense_exact;
 use fine_condense::condense_fine;
 use qp_model::Design;
@@ -25,19 +26,19 @@ fn exact_form(alloc: Global, design: &Design) -> Result<Option<Condensed>, Alloc
 {
     match condense_exact(alloc, design) {
         Ok(condensed) => Ok(is_curvature_limited(&condensed).then_some(condensed)),
-        Err(CondenseFault::TooWide { .. }) => Ok(None),
-        Err(CondenseFault::Memory) => Err(AllocError),
+        Err(SizeFault::TooWide { .. }) => Ok(None),
+        Err(SizeFault::Memory) => Err(AllocError),
     }
 }
 
 /// The condensed form of a design: exact, or in enclosures where a quantity of the exact one, `prediction`, `hessian`, `rows` or
 /// `curvature`, is above `2^126`. It refuses a design of which a quantity of the enclosures, `prediction`, `hessian` or `rows`, is above that
 /// too, and names the first.
-pub fn condense(alloc: Global, design: &Design) -> Result<Condensed, CondenseFault>
+pub fn condense(alloc: Global, design: &Design) -> Result<Condensed, SizeFault>
     ensures form { IfOk result (λ condensed. IsFormOf design.now condensed) }
-    ensures wide { (quantity : Quantity) → result ≡ Err (CondenseFault.TooWide quantity) → IsFirstWideForm (design_of design.now) quantity }
+    ensures wide { (quantity : Quantity) → result ≡ Err (SizeFault.TooWide quantity) → IsFirstWideForm (design_of design.now) quantity }
     ensures every_refusal { (quantity : Quantity) → IsFirstWideForm (design_of design.now) quantity →
-        (result ≡ Err (CondenseFault.TooWide quantity)) ⊎ (result ≡ Err CondenseFault.Memory) }
+        (result ≡ Err (SizeFault.TooWide quantity)) ⊎ (result ≡ Err SizeFault.Memory) }
 {
     match exact_form(alloc, design)? {
         Some(condensed) => Ok(condensed),

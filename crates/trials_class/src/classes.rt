@@ -1,5 +1,6 @@
 // Expected values are those of bench/condense/classes.py.
-use condensed_form::{CondenseFault, Condensed};
+use condensed_form::Condensed;
+use design_refusal::SizeFault;
 use mat_int::Mat;
 use plant_condense::condense;
 use qp_model::{Design, Quantity};
@@ -104,13 +105,13 @@ fn is_condensed(alloc: Global, written: Written, want: &Answer) -> Result<bool, 
 
 // Whether this is no form, but too wide by this quantity; an error where memory ran out, so that it is taken for no answer.
 fn is_too_wide(
-    found: Result<Condensed, CondenseFault>,
+    found: Result<Condensed, SizeFault>,
     quantity: Quantity,
 ) -> Result<bool, AllocError> {
     match found {
         Ok(_) => Ok(false),
-        Err(CondenseFault::Memory) => Err(AllocError),
-        Err(fault) => Ok(fault == CondenseFault::TooWide { quantity }),
+        Err(SizeFault::Memory) => Err(AllocError),
+        Err(fault) => Ok(fault == SizeFault::TooWide { quantity }),
     }
 }
 

@@ -3,8 +3,9 @@ ghost use Rattle.std.specs.Prelude.{◌≤◌, ◌^◌, pos, ◌≤ℤ◌, IfOk}
 ghost use Rattle.qp_model.specs.problem.Range.{LiesIn};
 
 use approx_inverse::solve_all;
-use controller_maker::{Settings, WidthFault, controller_of};
+use controller_maker::{Settings, controller_of};
 use design_files::read_design;
+use design_refusal::SizeFault;
 use mat_int::Mat;
 use overflow_check::Controller;
 use plant_condense::condense;
@@ -60,7 +61,7 @@ fn controller(
     f: u32,
     steps: u32,
     r: i128,
-) -> Result<Result<Controller, WidthFault>, Fail>
+) -> Result<Result<Controller, SizeFault>, Fail>
     requires bits { LiesIn design.now.grid 48 f }
     requires exponent { s ≤ 40 }
     requires steps { LiesIn 1 (2 ^ 22) steps }
@@ -103,10 +104,10 @@ fn made(alloc: Global, s: u32, f: u32, steps: u32, r: i128) -> Result<Vec<i128>,
 }
 
 // Whether there is no controller, since its sums could be too wide.
-fn is_wide(made: Result<Controller, WidthFault>) -> Result<bool, Fail> {
+fn is_wide(made: Result<Controller, SizeFault>) -> Result<bool, Fail> {
     match made {
-        Err(WidthFault::TooWide { quantity }) => Ok(quantity == Quantity::Width),
-        Err(WidthFault::Memory) => Err(AllocError.into()),
+        Err(SizeFault::TooWide { quantity }) => Ok(quantity == Quantity::Width),
+        Err(SizeFault::Memory) => Err(AllocError.into()),
         Ok(_) => Ok(false),
     }
 }
@@ -140,7 +141,7 @@ fn is_too_wide(alloc: Global, s: u32, f: u32, steps: u32, r: i128) -> Result<boo
 }
 
 // The numbers of a controller that there is.
-fn numbers_of(alloc: Global, made: Result<Controller, WidthFault>) -> Result<Vec<i128>, Fail> {
+fn numbers_of(alloc: Global, made: Result<Controller, SizeFault>) -> Result<Vec<i128>, Fail> {
     let controller = made?;
     numbers(alloc, controller.parts())
 }

@@ -4,7 +4,8 @@ ghost use Rattle.qp_model.specs.problem.Parts.{design_of};
 ghost use Rattle.qp_model.specs.problem.Policy.{plans_of, IsPolicyFor};
 
 use condensed_form::Condensed;
-use plan_excess::{ExcessFault, excess};
+use design_refusal::SizeFault;
+use plan_excess::excess;
 use plant_condense::condense;
 use policy_file::read_policy;
 use qp_model::{Design, Policy, Quantity};
@@ -65,14 +66,14 @@ fn is_excess_of(
     design: &Design,
     policy: &Policy,
     reference: &Policy,
-    want: &Result<i128, ExcessFault>,
+    want: &Result<i128, SizeFault>,
 ) -> Result<bool, Fail>
     requires form { IsFormOf design.now condensed.now }
     requires plans { IsPolicyFor (design_of design.now) (plans_of policy.now) }
     requires references { IsPolicyFor (design_of design.now) (plans_of reference.now) }
 {
     match excess(alloc, condensed, design, policy, reference) {
-        Err(ExcessFault::Memory) => Err(AllocError.into()),
+        Err(SizeFault::Memory) => Err(AllocError.into()),
         found => Ok(found == *want),
     }
 }
@@ -83,7 +84,7 @@ fn is_excess_with(
     design: &Design,
     plans: &[u8],
     references: &[u8],
-    want: &Result<i128, ExcessFault>,
+    want: &Result<i128, SizeFault>,
 ) -> Result<bool, Fail> {
     if plans.len() > 1000 || references.len() > 1000 {
         return Ok(false);
@@ -100,7 +101,7 @@ fn is_excess(
     changed: Changed,
     plans: &[u8],
     references: &[u8],
-    want: &Result<i128, ExcessFault>,
+    want: &Result<i128, SizeFault>,
 ) -> Result<bool, Fail> {
     let design = changed_design(alloc, changed)?;
     is_excess_with(alloc, &design, plans, references, want)
@@ -135,7 +136,7 @@ fn excesses(rt: HostRuntime) -> Result<(), Fail> {
 #[test]
 fn too_wide(rt: HostRuntime) -> Result<(), Fail> {
     let quantity = Quantity::Excess;
-    let want = Err(ExcessFault::TooWide { quantity });
+    let want = Err(SizeFault::TooWide { quantity });
     assert!(rt;
         is_excess(
             rt.alloc(),

@@ -8,18 +8,18 @@ use Rattle.condensed_form.specs.Form.{IsFormOf, held}
 use Rattle.condensed_form.specs.declared.condensed.Condensed.{Condensed}
 use Rattle.approx_inverse.specs.Inverse.{SolvesForm}
 use Rattle.approx_inverse.specs.Fault.{IsFault}
-use Rattle.approx_inverse.specs.declared.fault.SolveFault.{SolveFault}
+use Rattle.design_refusal.specs.declared.size_fault.SizeFault.{SizeFault}
 use Rattle.approx_inverse.specs.declared.inverse.Inverse.{Inverse}
 use Rattle.approx_inverse.proofs.DesignLaws.{solvable_from, descent_equal, inverse_from}
 use Rattle.approx_inverse.proofs.FormLaws.{fault_gives, if_err, if_ok, ok_gives, refusal_of, room_from}
 use Rattle.approx_inverse.proofs.all.solve_all.Goals as goal
 
 -- what the solutions of the numbers say of a design that they are the form of
-fits_for : (r : Result Inverse SolveFault) (p : DesignParts) (c : Condensed) (f : ℕ) → IsFormOf p c → IfOk r (SolvesForm (held c) f) →
+fits_for : (r : Result Inverse SizeFault) (p : DesignParts) (c : Condensed) (f : ℕ) → IsFormOf p c → IfOk r (SolvesForm (held c) f) →
     OnOk r (descent_size (form_of (design_of p)) f ≤ 2 ^ 126)
 fits_for r p c f is = ok_gives r (λ v solves. rw (← (descent_equal p c f is)) (room_from (held c) f v (solvable_from p c is).convex.positive solves))
 
-wide_for : (r : Result Inverse SolveFault) (p : DesignParts) (c : Condensed) (f : ℕ) → IsFormOf p c → IfErr r (λ e. IsFault e (2 ^ 126 < descent_size (held c) f)) →
+wide_for : (r : Result Inverse SizeFault) (p : DesignParts) (c : Condensed) (f : ℕ) → IsFormOf p c → IfErr r (λ e. IsFault e (2 ^ 126 < descent_size (held c) f)) →
     IfErr r (λ e. IsFault e (2 ^ 126 < descent_size (form_of (design_of p)) f))
 wide_for r p c f is = if_err r (λ e. fault_gives e (λ wide. rw (← (descent_equal p c f is)) wide))
 

@@ -2,15 +2,15 @@ use Rattle.std.proofs.Common.{◌≡◌, inl, inr, Err, true, ap, ◌∙◌}
 use Rattle.std.proofs.lemmas.Result.{err_from_is_err_and}
 use Rattle.qp_model.specs.declared.quantity.Quantity.{Quantity}
 use Rattle.qp_model.specs.problem.Parts.{design_of}
-use Rattle.condensed_form.specs.declared.fault.CondenseFault.{CondenseFault}
-use Rattle.condensed_form.specs.declared.fault.CondenseFault.TheVariants.{TooWide}
+use Rattle.design_refusal.specs.declared.size_fault.SizeFault.{SizeFault}
+use Rattle.design_refusal.specs.declared.size_fault.SizeFault.TheVariants.{TooWide}
 use Rattle.condensed_form.specs.Fault.{IsFirstWideIn}
 use Rattle.fine_condense.proofs.FaultFacts.{refused, none_wide, same_fault, memory_apart}
 use Rattle.fine_condense.proofs.form.condense_fine.Goals as goal
 
 pub returns-in_err-numbers-clause-every_refusal : goal.returns-in_err-numbers-clause-every_refusal
 returns-in_err-numbers-clause-every_refusal c = λ q w.
-    let fault : CondenseFault = c.in_err-numbers.field-0.0 in
+    let fault : SizeFault = c.in_err-numbers.field-0.0 in
     let given = err_from_is_err_and c.from_residual.result c.from_residual.ensures.1 in
     let gives : c.from_residual.result ≡ Err fault = given.1 ∙ ap Err given.2 in
     let wide : (r : Quantity) → fault ≡ TooWide r → IsFirstWideIn true (design_of c.args.design.now) r =

@@ -5,7 +5,7 @@ use Rattle.qp_model.specs.problem.Parts.{design_of}
 use Rattle.qp_model.specs.form.Quantities.{prediction_size}
 use Rattle.qp_model.specs.form.FineSizes.{is_fine}
 use Rattle.condensed_form.specs.Form.{IsFormIn}
-use Rattle.condensed_form.specs.declared.fault.CondenseFault.{CondenseFault}
+use Rattle.design_refusal.specs.declared.size_fault.SizeFault.{SizeFault}
 use Rattle.plant_condense.proofs.ClassFacts.{limited_class, wide_class, chosen, kept}
 use Rattle.plant_condense.proofs.choice.exact_form.Goals as goal
 
@@ -23,5 +23,5 @@ returns-in-Ok-clause-class c =
 pub returns-in-Err-TooWide-clause-class : goal.returns-in-Err-TooWide-clause-class
 returns-in-Err-TooWide-clause-class c =
     let d = design_of c.args.design.now in
-    let fine : is_fine d ≡ true = wide_class d c.in-Err-TooWide.field-0-0 ((c.in-Err-TooWide.ensures.wide c.in-Err-TooWide.field-0-0).0 (ap (λ (f : CondenseFault). Err f) c.in-Err-TooWide.field-0-is)) in
+    let fine : is_fine d ≡ true = wide_class d c.in-Err-TooWide.field-0-0 ((c.in-Err-TooWide.ensures.wide c.in-Err-TooWide.field-0-0).0 (ap (λ (f : SizeFault). Err f) c.in-Err-TooWide.field-0-is)) in
     ((λ s. cc), (λ e. cc))
