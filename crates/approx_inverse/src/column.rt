@@ -113,33 +113,10 @@ fn descend(
 }
 
 /// Puts whole numbers X into the words of x so that twice each entry of `h X - 2^f c` is at most the diagonal's entry, in absolute
-/// value: single entries move by whole steps, each of which lowers `X'h X - 2 2^f c'X`. The form of h is at least `floor` times the
-/// sum of the squares. `Wide` exactly where the numbers of a descent might pass `2^126`; then nothing changes. It takes no memory.
+/// value: from a guess, which may be any numbers, single entries move by whole steps, each of which lowers `X'h X - 2 2^f c'X`. The form of h
+/// is at least `floor` times the sum of the squares. `Wide` exactly where the numbers of a descent might pass `2^126`; then nothing changes. It
+/// takes no memory.
 pub fn solve_column(
-    h: &Mat,
-    c: &[i128],
-    floor: i128,
-    f: u32,
-    region: &mut Region,
-    x: &Span,
-) -> Result<(), Wide>
-    requires system { IsSystem h.now (length c.now) floor }
-    requires bits { f ≤ 48 }
-    requires live { IsLive region.old x.now }
-    requires len { x.now.len ≡ length c.now }
-    requires free { length c.now ≤ length region.old.words - region.old.used }
-    ensures good { OnOk result (IsGood (length c.now) (entry_of h.now) f (at c.now) (cells region.new.words x.now.start)) }
-    ensures within { OnOk result (EachWithin (length c.now) (entry_bound (length c.now) (at c.now) floor f) (cells region.new.words x.now.start)) }
-    ensures only { IsOnlyIn region.old region.new x.now }
-    ensures fits { IsOk result ↔ (descent_of_column (length c.now) (entry_of h.now) (at c.now) floor f ≤ 2 ^ 126) }
-    ensures wide { IfErr result (λ e. (e.0 ≡ Descent) × (2 ^ 126 < descent_of_column (length c.now) (entry_of h.now) (at c.now) floor f)) }
-    ensures kept { OnErr result (region.new ≡ region.old) }
-{
-    solve_near(h, c, floor, f, &[], region, x)
-}
-
-// The same from a guess, which may be any numbers.
-pub fn solve_near(
     h: &Mat,
     c: &[i128],
     floor: i128,

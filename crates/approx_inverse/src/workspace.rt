@@ -6,7 +6,7 @@ ghost use Rattle.approx_inverse.specs.Condensed.{IsSolvable, IsMatrixOf};
 ghost use Rattle.approx_inverse.specs.Spans.{cells};
 ghost use Rattle.approx_inverse.specs.Root.{HasRootSizes};
 
-use crate::column::solve_near;
+use crate::column::solve_column;
 use crate::guess::Root;
 use crate::system::put_column;
 use condensed_form::Condensed;
@@ -65,7 +65,7 @@ impl Workspace {
             return false;
         }
         root.guess(h, &self.column, f, &mut self.guess, &mut self.rest);
-        solve_near(
+        solve_column(
             h,
             &self.column,
             c.floor,

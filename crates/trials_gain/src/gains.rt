@@ -28,7 +28,7 @@ fn solve_single(
     let Some(x) = region.take(1) else {
         unreachable!();
     };
-    let found = match solve_column(&matrix, &[c], floor, f, &mut region, &x) {
+    let found = match solve_column(&matrix, &[c], floor, f, &[], &mut region, &x) {
         Ok(()) => Some(region.word(&x, 0)),
         Err(_) => None,
     };

@@ -13,8 +13,8 @@ returns-then-not-put_column-clause-wide c = λ no.
     let wide = rw (ap length c.deref_mut.ensures.value ∙ c.requires.work.column) at (c.if-not-put_column.ensures.wide refl) in
     wide_column (held c.args.c.now) c.args.f c.args.i c.requires.column wide
 
-pub solve_near-requires-clause-system : goal.solve_near-requires-clause-system
-solve_near-requires-clause-system c =
+pub solve_column-requires-clause-system : goal.solve_column-requires-clause-system
+solve_column-requires-clause-system c =
     let fits : FitsSigned w128 c.args.c.now.floor = search rules in
     let long : length c.put_column.new.out ≡ (held c.args.c.now).entries = c.put_column.auto.out ∙ ap length c.deref_mut.ensures.value ∙ c.requires.work.column in
     let column : c.deref-2.result.now ≡ c.put_column.new.out = c.deref-2.ensures.value ∙ filled _ _ _ (c.put_column.auto.out ∙ c.deref_mut.ensures.len) in
@@ -27,12 +27,12 @@ returns-clause-solved c = λ yes.
     let long : length c.put_column.new.out ≡ (held c.args.c.now).entries = c.put_column.auto.out ∙ first in
     let column : c.deref-2.result.now ≡ c.put_column.new.out = c.deref-2.ensures.value ∙ filled _ _ _ (c.put_column.auto.out ∙ c.deref_mut.ensures.len) in
     let is = rw first at (c.if-not-put_column.ensures.done refl) in
-    let good = rw (column, long) at c.solve_near.ensures.good in
-    let within = rw (column, long, to_z-of_z w128 _ fits) at c.solve_near.ensures.within in
-    let room = rw (column, long, to_z-of_z w128 _ fits) at c.solve_near.ensures.fits in
+    let good = rw (column, long) at c.solve_column.ensures.good in
+    let within = rw (column, long, to_z-of_z w128 _ fits) at c.solve_column.ensures.within in
+    let room = rw (column, long, to_z-of_z w128 _ fits) at c.solve_column.ensures.fits in
     let ok = sym c.is_ok.ensures.value ∙ yes in
-    solution_from (held c.args.c.now) c.args.f c.args.i c.args.h.now c.put_column.new.out (cells c.solve_near.new.region.words c.args.self.now.solution.start)
-    c.requires.matrix is (on_ok c.solve_near.result ok good) (on_ok c.solve_near.result ok within) (room.0 ok)
+    solution_from (held c.args.c.now) c.args.f c.args.i c.args.h.now c.put_column.new.out (cells c.solve_column.new.region.words c.args.self.now.solution.start)
+    c.requires.matrix is (on_ok c.solve_column.result ok good) (on_ok c.solve_column.result ok within) (room.0 ok)
 
 pub returns-clause-wide : goal.returns-clause-wide
 returns-clause-wide c = λ no.
@@ -41,7 +41,7 @@ returns-clause-wide c = λ no.
     let long : length c.put_column.new.out ≡ (held c.args.c.now).entries = c.put_column.auto.out ∙ first in
     let column : c.deref-2.result.now ≡ c.put_column.new.out = c.deref-2.ensures.value ∙ filled _ _ _ (c.put_column.auto.out ∙ c.deref_mut.ensures.len) in
     let is = rw first at (c.if-not-put_column.ensures.done refl) in
-    let room = rw (column, long, to_z-of_z w128 _ fits) at c.solve_near.ensures.fits in
+    let room = rw (column, long, to_z-of_z w128 _ fits) at c.solve_column.ensures.fits in
     wide_from (held c.args.c.now) c.args.f c.args.i c.args.h.now c.put_column.new.out c.requires.matrix c.requires.column is
     (not_fit _ _ (sym c.is_ok.ensures.value ∙ no) room.1)
 
@@ -91,24 +91,24 @@ guess-requires-clause-rest_len c =
     let column : c.deref.result.now ≡ c.put_column.new.out = c.deref.ensures.value ∙ filled _ _ _ (c.put_column.auto.out ∙ c.deref_mut.ensures.len) in
     rw (column, long) (ap length c.deref_mut-3.ensures.value ∙ c.requires.work.rest)
 
-pub solve_near-requires-clause-live : goal.solve_near-requires-clause-live
-solve_near-requires-clause-live c = c.requires.work.live
+pub solve_column-requires-clause-live : goal.solve_column-requires-clause-live
+solve_column-requires-clause-live c = c.requires.work.live
 
-pub solve_near-requires-clause-len : goal.solve_near-requires-clause-len
-solve_near-requires-clause-len c =
+pub solve_column-requires-clause-len : goal.solve_column-requires-clause-len
+solve_column-requires-clause-len c =
     let long : length c.put_column.new.out ≡ (held c.args.c.now).entries = c.put_column.auto.out ∙ ap length c.deref_mut.ensures.value ∙ c.requires.work.column in
     let column : c.deref-2.result.now ≡ c.put_column.new.out = c.deref-2.ensures.value ∙ filled _ _ _ (c.put_column.auto.out ∙ c.deref_mut.ensures.len) in
     rw (column, long) c.requires.work.len
 
-pub solve_near-requires-clause-free : goal.solve_near-requires-clause-free
-solve_near-requires-clause-free c =
+pub solve_column-requires-clause-free : goal.solve_column-requires-clause-free
+solve_column-requires-clause-free c =
     let long : length c.put_column.new.out ≡ (held c.args.c.now).entries = c.put_column.auto.out ∙ ap length c.deref_mut.ensures.value ∙ c.requires.work.column in
     let column : c.deref-2.result.now ≡ c.put_column.new.out = c.deref-2.ensures.value ∙ filled _ _ _ (c.put_column.auto.out ∙ c.deref_mut.ensures.len) in
     rw (column, long) c.requires.work.free
 
 pub returns-clause-work : goal.returns-clause-work
 returns-clause-work c =
-    let only = c.solve_near.ensures.only in
+    let only = c.solve_column.ensures.only in
     record {
       column = ap length (filled _ _ _ (c.put_column.auto.out ∙ c.deref_mut.ensures.len)) ∙ c.put_column.auto.out ∙ ap length c.deref_mut.ensures.value ∙ c.requires.work.column;
       guess = ap length (filled _ _ _ (c.guess.auto.x ∙ c.deref_mut-2.ensures.len)) ∙ c.guess.auto.x ∙ ap length c.deref_mut-2.ensures.value ∙ c.requires.work.guess;
