@@ -48,6 +48,12 @@ pub mod frac_scaled {
     pub fn shift_left(v: i128, k: u32) -> Option<i128> {
         v.checked_mul(1i128.checked_shl(k).filter(|it| *it > 0)?)
     }
+    pub fn limited_product(a: u128, b: u128) -> Option<u128> {
+        a.checked_mul(b).filter(|it| *it <= 1 << 126)
+    }
+    pub fn limited_sum(a: u128, b: u128) -> Option<u128> {
+        a.checked_add(b).filter(|it| *it <= 1 << 126)
+    }
 }
 
 pub mod mat_int {
@@ -74,6 +80,11 @@ pub mod mat_int {
         pub fn set(&mut self, i: usize, j: usize, v: i128) {
             self.numbers[i * self.cols + j] = v;
         }
+        pub fn set_column(&mut self, j: usize, numbers: &[i128]) {
+            for i in 0..self.rows {
+                self.set(i, j, numbers[i]);
+            }
+        }
         pub fn row(&self, i: usize) -> &[i128] {
             &self.numbers[i * self.cols..(i + 1) * self.cols]
         }
@@ -93,17 +104,17 @@ pub mod mat_int {
     }
 }
 
-pub mod fault {
+pub mod design_refusal {
     use memory::AllocError;
     use qp_model::Quantity;
     #[derive(Debug)]
-    pub enum SolveFault {
+    pub enum SizeFault {
         Memory,
         TooWide { quantity: Quantity },
     }
-    impl From<AllocError> for SolveFault {
+    impl From<AllocError> for SizeFault {
         fn from(_: AllocError) -> Self {
-            SolveFault::Memory
+            SizeFault::Memory
         }
     }
 }
@@ -115,9 +126,6 @@ pub mod qp_model {
     }
     #[derive(Debug)]
     pub struct Wide(pub Quantity);
-    pub fn limited_product(a: u128, b: u128) -> Option<u128> {
-        a.checked_mul(b).filter(|it| *it <= 1 << 126)
-    }
 }
 
 pub mod condensed_form {
@@ -261,7 +269,8 @@ def rust_of(module):
                 sys.exit(f"rust_copy.py: {old!r} stands {text.count(old)} times in {module}.rt: mend this script")
             text = text.replace(old, new)
     text = without_clauses(text)
-    text = text.replace("std::alloc::", "memory::").replace("#[derive(Debug, Drop)]", "#[derive(Debug)]")
+    text = text.replace("std::alloc::", "memory::")
+    text = re.sub(r"(?m)^ *#\[derive\(Drop\)\]\n", "", text)
     text = re.sub(r"vec!\[in alloc; (.*?); (.*?)\]\?", r"vec![\1; \2]", text)
     text = text.replace("Vec::new(alloc)", "Vec::new()")
     return re.sub(r"(\w+\.push\(.*\))\?;", r"\1;", text)
