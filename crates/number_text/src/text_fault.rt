@@ -2,17 +2,26 @@ ghost use Rattle.std.specs.Prelude.{◌≡◌};
 ghost use Rattle.number_text.specs.declared.text_fault.TextFault.TheVariants.{Memory as text_memory};
 
 use std::alloc::{AllocError, AllocFailed};
+use thiserror::Error;
 
 /// The first fault of a design text, a policy text or a states text. Places are those of the keys, entries and fields count from 1.
-#[derive(Clone, Copy, Debug, PartialEq, Eq)]
+#[derive(Clone, Copy, Debug, PartialEq, Eq, Error)]
 pub enum TextFault {
+    #[error("not toml")]
     NotToml,
+    #[error("key")]
     Key { place: u32 },
+    #[error("shape")]
     Shape { place: u32 },
+    #[error("range")]
     Range { place: u32 },
+    #[error("fields")]
     Fields { entry: u32 },
+    #[error("number")]
     Number { entry: u32, field: u32 },
+    #[error("count")]
     Count { entries: u32 },
+    #[error("memory")]
     Memory,
 }
 

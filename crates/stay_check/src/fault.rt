@@ -1,14 +1,17 @@
 // Why a loop isn't known to stay in the box.
 use qp_model::Quantity;
+use thiserror::Error;
 
 /// Why faces don't show that a loop stays in the box. Entries and inputs are counted from 1.
-#[derive(Clone, Copy)]
+#[derive(Clone, Copy, Debug, PartialEq, Eq, Error)]
 pub enum StayFault {
     /// The quantity is above `2^126`.
+    #[error("too wide")]
     TooWide {
         quantity: Quantity,
     },
     /// This face's rows have together another part of this input than its coordinate has.
+    #[error("unequal")]
     Unequal {
         entry: u32,
         input: u32,
@@ -16,6 +19,7 @@ pub enum StayFault {
         right: i128,
     },
     /// The coordinate may go as far as to this number over `2^grid`, which is beyond the face.
+    #[error("no stay")]
     NoStay {
         entry: u32,
         bound: i128,
