@@ -1,22 +1,14 @@
--- The numbers of the tables together.
+-- The rules of the tables together.
 use Rattle.std.proofs.Common.{◌≡◌, ℕ, pos, List, ◌++◌, Option, Some, refl, sym, ap, ◌∙◌}
 use Rattle.std.proofs.lemmas.List.{append_assoc}
 use Rattle.toml.specs.Data.{Data}
 use Rattle.qp_model.specs.problem.Limits.{most_states, most_inputs, most_stages}
-use Rattle.qp_model.specs.problem.Parts.{IsDesign}
 use Rattle.qp_model.specs.problem.Rules.{Rule}
-use Rattle.qp_model.specs.declared.design_parts.DesignParts.{DesignParts}
 use Rattle.design_files.specs.Numbers.{number_in, count_of}
 use Rattle.design_files.specs.Values.{Values}
 use Rattle.design_files.specs.Places.{count_rules, size_places, plant_places, cost_places, limit_places, box_places, target_places, rules_for, place_rules}
-use Rattle.design_files.specs.DesignText.{HasNumbers}
-use Rattle.design_files.specs.Sections.{HasSizeNumbers, HasPlant, HasCostNumbers, HasLimits, HasBox, HasTargets}
+use Rattle.design_files.specs.Sections.{HasSizeNumbers}
 use Rattle.design_files.specs.declared.places.Sizes.{Sizes}
-use Rattle.design_files.specs.declared.places.PlantNumbers.{PlantNumbers}
-use Rattle.design_files.specs.declared.places.CostNumbers.{CostNumbers}
-use Rattle.design_files.specs.declared.places.LimitNumbers.{LimitNumbers}
-use Rattle.design_files.specs.declared.places.BoxNumbers.{BoxNumbers}
-use Rattle.design_files.specs.declared.places.TargetNumbers.{TargetNumbers}
 
 pub count_is : (value : Option Data) (n : ℕ) → number_in value ≡ Some (pos n) → count_of value ≡ n
 count_is value n is = rw is refl
@@ -61,87 +53,3 @@ inputs_are v s h = count_is v.inputs s.inputs h.inputs.number
 pub place_rules_at : (v : Values) (s : Sizes) → HasSizeNumbers v s → place_rules v ≡ size_places v ++ after_sizes s.states s.inputs v
 unfolding rules_for
 place_rules_at v s h = rw (count_is v.states s.states h.states.number, count_is v.inputs s.inputs h.inputs.number) refl
-
--- ---- the numbers of all tables
-abbrev pub assembled : Sizes → PlantNumbers → CostNumbers → LimitNumbers → BoxNumbers → TargetNumbers → DesignParts
-assembled s plant cost limits box targets = record {
-  version = s.version;
-  states = s.states;
-  inputs = s.inputs;
-  stages = s.stages;
-  plant_den = plant.den;
-  a = plant.a;
-  b = plant.b;
-  cost_den = cost.den;
-  row_den = cost.row_den;
-  input_weights = cost.input;
-  stage_cost = cost.stage;
-  final_cost = cost.final_;
-  limit_den = limits.den;
-  stage_rows = limits.stage;
-  final_rows = limits.final_;
-  grid = box.grid;
-  lo = box.lo;
-  hi = box.hi;
-  target_den = targets.den;
-  violation = targets.violation;
-  gap = targets.gap;
-}
-
-module _ (v : Values) (s : Sizes) (plant : PlantNumbers) (cost : CostNumbers) (limits : LimitNumbers) (box : BoxNumbers) (targets : TargetNumbers)
-    (in_sizes : HasSizeNumbers v s) (in_plant : HasPlant v s.states s.inputs plant) (in_cost : HasCostNumbers v s.states s.inputs cost)
-    (in_limits : HasLimits v s.states s.inputs limits) (in_box : HasBox v s.states box) (in_targets : HasTargets v targets) where
-  pub has_numbers : HasNumbers v (assembled s plant cost limits box targets)
-  has_numbers = record {
-    version = in_sizes.version.number;
-    states = in_sizes.states.number;
-    inputs = in_sizes.inputs.number;
-    stages = in_sizes.stages.number;
-    plant_den = in_plant.den.number;
-    a = in_plant.a.numbers;
-    b = in_plant.b.numbers;
-    cost_den = in_cost.den.number;
-    row_den = in_cost.row_den.number;
-    input = in_cost.input.numbers;
-    stage_cost = in_cost.stage.numbers;
-    final_cost = in_cost.final_.numbers;
-    limit_den = in_limits.den.number;
-    stage_rows = in_limits.stage.numbers;
-    final_rows = in_limits.final_.numbers;
-    grid = in_box.grid.number;
-    lo = in_box.lo.numbers;
-    hi = in_box.hi.numbers;
-    target_den = in_targets.den.number;
-    violation = in_targets.violation.number;
-    gap = in_targets.gap.number;
-  }
-
-  pub is_design : IsDesign (assembled s plant cost limits box targets)
-  is_design = record {
-    version = in_sizes.version.fits;
-    states = in_sizes.states.fits;
-    inputs = in_sizes.inputs.fits;
-    stages = in_sizes.stages.fits;
-    plant_den = in_plant.den.fits;
-    a = in_plant.a.fits;
-    b = in_plant.b.fits;
-    cost_den = in_cost.den.fits;
-    row_den = in_cost.row_den.fits;
-    input_count = in_cost.input.long;
-    input_weights = in_cost.input.fits;
-    stage_cost = in_cost.stage.fits;
-    stage_weights = in_cost.stage.weights;
-    final_cost = in_cost.final_.fits;
-    final_weights = in_cost.final_.weights;
-    limit_den = in_limits.den.fits;
-    stage_rows = in_limits.stage.fits;
-    final_rows = in_limits.final_.fits;
-    some_row = in_limits.some_row;
-    grid = in_box.grid.fits.1;
-    lo = in_box.lo.fits;
-    hi = in_box.hi.fits;
-    box = in_box.box;
-    target_den = in_targets.den.fits;
-    violation = in_targets.violation.fits;
-    gap = in_targets.gap.fits;
-  }
