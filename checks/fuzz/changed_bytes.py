@@ -3,11 +3,13 @@
 
     checks/fuzz/changed_bytes.py
 
-A row for each text that is not refused at the line of its changed byte: the byte's place, counted from 0; the byte that stands there, a space, `-`, `0` or `9`, as
-a number; what is told of the corners' states, with a comma for each line feed but the last. The tests of trials_command hold these rows.
+A row for each thing that is told of a text that is not refused at the line of its changed byte: the places of the changed bytes, counted from 0, each with the byte
+that stands there, a space, `-`, `0` or `9`, as a number; and what is told of the corners' states, with a comma for each line feed but the last. The tests of
+trials_command hold these rows.
 """
 import os
 import sys
+import textwrap
 
 sys.path.insert(0, os.path.dirname(os.path.abspath(__file__)))
 import control
@@ -29,13 +31,16 @@ def corners(text):
 def main():
     with open(EXAMPLE, "rb") as file:
         whole = file.read()
+    places = {}
     for at in range(len(whole)):
         for byte in b" -09":
             text = whole[:at] + bytes([byte]) + whole[at + 1 :]
             said = program.answer(["solve", "c", "s"], {"c": text, "s": corners(text)}.get, None, None)
             told = said.line + b"".join(said.out)
             if told != b"error 11 controller 1 line %d\n" % (1 + whole[:at].count(b"\n")):
-                print(at, byte, told.decode().removesuffix("\n").replace("\n", ","))
+                places.setdefault(told.decode().removesuffix("\n").replace("\n", ","), []).append(f"{at}/{byte}")
+    for told, some in places.items():
+        print(textwrap.fill(" ".join(some), 140, initial_indent=" ", subsequent_indent=" ") + f": {told}")
 
 
 if __name__ == "__main__":
