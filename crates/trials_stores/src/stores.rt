@@ -3,7 +3,7 @@ use io_edge::ReadRefusal;
 use std::alloc::{AllocError, Global};
 use std::test::Fail;
 use trials_memory_edge::MemStore;
-use trials_worked_designs::{CONTROLLER, DESIGN, POLICY, STATES};
+use trials_worked_designs::{CONTROLLER, DESIGN, POLICY, STATES, changed_text};
 
 /// The bytes that are read, written or printed in one run at most, with room for any text of the trials.
 pub const ROOM: usize = 65536;
@@ -85,8 +85,7 @@ pub fn has_lines(
 
 /// A text with one part in place of another.
 pub fn changed(alloc: Global, text: &str, old: &str, new: &str) -> Result<String, Fail> {
-    let (before, after) = text.split_once(old).ok_or("absent")?;
-    Ok(format!(in alloc; "{before}{new}{after}")?)
+    changed_text(alloc, (text, &[(old, new)]))
 }
 
 /// The first worked design with a limit on both sides of the next state, and closer targets.
