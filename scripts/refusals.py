@@ -79,7 +79,7 @@ TEXTS = {
     "trap-input": "State {entry}, shifted up, needs more bits than the words of {file} have. A listing that `list` wrote never does so from a state of its box: the listing was changed.",
     "no-text": "The argument {word} is no UTF-8 text, and the program reads no other: give the file another name.",
     "no-arguments": "The system gave the program no arguments: the machine may have no memory left.",
-    "unbuilt": "The launcher could not build the program: crates/mpc_cli/build.log has the reason.",
+    "unbuilt": "The launcher could not build the program: crates/mpc_cli/build.log, or for generate crates/mpc_generate/build.log, has the reason.",
 }
 
 LEFT = {

@@ -70,6 +70,16 @@ def text(kit: str, processors: int, wall: float, costs: dict[str, Cost], chain: 
     return HEAD + "\n" + "\n".join(lines) + "\n\n" + "\n".join(table) + "\n"
 
 
+def first_answer(first: tuple[float, float], others: tuple[float, float], processors: int, marks: tuple[float, float], pace: float = 1) -> str:
+    """The line of the first answer, in seconds of the processor and by the clock, and of what the first answer of another command takes after it."""
+    slower = f", {pace:g} times on this machine" if pace != 1 else ""
+    return (
+        f"{FIRST_ANSWER} (`./mpc generate` in a fresh clone, with nothing kept on the machine, which proves that command's program) takes {first[0] / 60:.1f} processor minutes and "
+        f"{first[1] / 60:.1f} minutes on {processors} processors, where {minutes(marks[0])} and {minutes(marks[1])} are the marks{slower}; the first of another command, which proves the rest, takes "
+        f"{others[0] / 60:.1f} processor minutes and {others[1] / 60:.1f} minutes more (`bench/gate/run.py --first`)."
+    )
+
+
 def first_line(page: str) -> str:
     """What a page says of the first answer, which another run measures."""
     found = re.search(rf"^{FIRST_ANSWER}.*$", page, re.M)

@@ -1,9 +1,10 @@
 #!/usr/bin/env python3
 """Runs worked examples whose answers were computed by hand, as commands over files, and compares the status, both outputs and every file.
 
-    checks/rows/run.py PROGRAM [--valgrind]
+    checks/rows/run.py PROGRAM [--valgrind] [--only COMMAND]
 
-With --valgrind each runs under valgrind's memory checker, which must have nothing to report: no invalid read or write, no branch on what was never written, no
+With --only these are the rows of one command alone, as for a program that has no other: a row whose words are of another is asked, too, and must be refused as no
+command's. With --valgrind each runs under valgrind's memory checker, which must have nothing to report: no invalid read or write, no branch on what was never written, no
 block that is lost. The rows of fine designs, whose exact numbers pass 2^126, of fine corners, of other faces than the worked ones and of the examples' listings have the
 numbers of the model in ../fuzz.
 """
@@ -22,6 +23,7 @@ from worked_texts import AXIS, AXIS_POLICY, CONTROLLER, DESIGN, JSON, LISTING, P
 
 PROGRAM = os.path.abspath(sys.argv[1])
 VALGRIND = "--valgrind" in sys.argv[2:]
+ONLY = sys.argv[sys.argv.index("--only") + 1] if "--only" in sys.argv[2:-1] else None
 # where the words name the files that a command writes
 OUTPUTS = {"generate": (3, 4), "lean": (4, 5), "stay": (3, 4), "list": (2,), "split": (4, 5)}
 
@@ -346,6 +348,10 @@ def main():
     failed = count = 0
     own = [(name, row, None) for name, row in [*rows(), *fine_rows(), *corner_rows(), *version_rows(), *second_rows(), *lean_rows.rows(), *stay_rows.rows(), *listing_rows.rows(), *split_rows.rows()]]
     for name, row, output in [*own, *full_rows(), *split_rows.full_rows()]:
+        words, files = row[0], row[1]
+        if ONLY and words[:1] != [ONLY]:
+            # (another command's words, which this program hasn't)
+            name, row, output = f"{name}, of another command", (words, files, 2, "", "error 2 usage\n", {}, {}), None
         count += 1
         found = wrong(*row, output=output)
         if found:

@@ -402,18 +402,18 @@ class Launcher(unittest.TestCase):
         got = self.launched("echo there || { echo error 4 write-fault 0 >&2; exit 4; }", "demo", "7", redirected=">&-")
         self.assertEqual((got.returncode, got.stderr.split("\n")[-2]), (4, "error 4 write-fault 0"))
 
-    def built(self, toolchain, kept=()):
-        """What the launcher says where the program isn't there: of the crates `low`, `mpc_cli` above it and `trials`, with a stand-in for the toolchain."""
+    def built(self, toolchain, kept=(), command="solve", name="mpc_cli"):
+        """What the launcher says where no program is there: of the crates `low`, the two programs above it and `trials`, with a stand-in for the toolchain."""
         folder = self.folder("exit 0")
         os.remove(os.path.join(folder, "crates/mpc_cli/out/mpc_cli"))
-        for part in ("crates/low/src", "crates/low/must-fail", "crates/trials/src", "bin", *kept):
+        for part in ("crates/low/src", "crates/low/must-fail", "crates/trials/src", "crates/mpc_generate/src", "bin", *kept):
             os.makedirs(os.path.join(folder, part))
-        for name, text in (("crates.txt", "low:\nmpc_cli: low\ntrials: low\n"), ("HANDLES", "Handles allowed: none.\n"), ("bin/rt", "#!/bin/bash\n" + toolchain)):
-            with open(os.path.join(folder, name), "w") as file:
+        for file_name, text in (("crates.txt", "low:\nmpc_cli: low\nmpc_generate: low\ntrials: low\n"), ("HANDLES", "Handles allowed: none.\n"), ("bin/rt", "#!/bin/bash\n" + toolchain)):
+            with open(os.path.join(folder, file_name), "w") as file:
                 file.write(text)
         os.chmod(os.path.join(folder, "bin", "rt"), 0o755)
         got = subprocess.run(
-            [os.path.join(folder, "mpc"), "solve"],
+            [os.path.join(folder, "mpc"), command],
             capture_output=True,
             text=True,
             env=os.environ | {"PATH": os.path.join(folder, "bin") + ":" + os.environ["PATH"]},
@@ -421,7 +421,8 @@ class Launcher(unittest.TestCase):
         self.assertEqual((got.returncode, got.stdout), (0, "built\n"))
         self.assertIn("mpc: 0 of 2 crates are proved; low\n", got.stderr)
         self.assertIn("mpc: 1 of 2 crates are proved\n", got.stderr)
-        self.assertFalse(os.path.exists(os.path.join(folder, "crates/mpc_cli/build.log.begun")))
+        self.assertFalse(os.path.exists(os.path.join(folder, f"crates/{name}/build.log.begun")))
+        return got.stderr
 
     def test_progress_of_a_build_from_nothing(self):
         """The gate is given the two crates of the program, not that of tests, without their wrong bodies, and the program that it made is taken."""
@@ -444,6 +445,45 @@ echo "== mpc_cli"; echo "logic=proved functions=1"; printf '#!/bin/bash\necho bu
 """,
             kept=["crates/mpc_cli/out/incremental"],
         )
+
+    def test_generate_is_built_alone(self):
+        told = self.built(
+            """
+[ "$*" = ci ] && [ "$(echo crates/*)" = "crates/low crates/mpc_generate" ] && [ "$(sort crates.txt | tr '\n' ' ')" = "low: mpc_generate: low " ] || exit 1
+sleep 1; mkdir -p crates/low/out; sleep 6; echo "== low"; echo "logic=proved functions=1"; sleep 6
+mkdir -p crates/mpc_generate/out; printf '#!/bin/bash\necho built\n' >crates/mpc_generate/out/mpc_generate; chmod +x crates/mpc_generate/out/mpc_generate
+""",
+            command="generate",
+            name="mpc_generate",
+        )
+        self.assertIn("mpc: building the program of generate alone", told)
+
+    def test_which_program_runs(self):
+        """`generate` is the whole program's where that is there, and else its own one's; of the others there is none but the whole one."""
+        folder = self.folder("echo whole")
+        alone = os.path.join(folder, "crates/mpc_generate/out/mpc_generate")
+        os.makedirs(os.path.dirname(alone))
+        with open(alone, "w") as file:
+            file.write("#!/bin/bash\necho alone\n")
+        os.chmod(alone, 0o755)
+        self.assertEqual(self.run_in(folder, "./mpc generate d p c r").stdout, "whole\n")
+        os.makedirs(os.path.join(folder, "bin"))
+        with open(os.path.join(folder, "bin", "rt"), "w") as file:
+            file.write("#!/bin/bash\nexit 1\n")
+        os.chmod(os.path.join(folder, "bin", "rt"), 0o755)
+        os.remove(os.path.join(folder, "crates/mpc_cli/out/mpc_cli"))
+        self.assertEqual(self.run_in(folder, "PATH=$PWD/bin:$PATH ./mpc generate d p c r").stdout, "alone\n")
+        got = self.run_in(folder, "PATH=$PWD/bin:$PATH ./mpc solve c s")
+        self.assertEqual((got.returncode, got.stdout), (98, ""))
+        self.assertIn("crates/mpc_cli/build.log has the reason", got.stderr)
+
+    def test_program_of_changed_sources_is_no_answer(self):
+        """Where a source is newer than the program and can't be proved, nothing is run."""
+        folder = self.folder("echo stale")
+        self.run_in(folder, "mkdir bin; printf '#!/bin/bash\nexit 1\n' > bin/rt; chmod +x bin/rt; sleep 0.1; touch crates/mpc_cli/src/main.rt")
+        for _ in range(2):
+            got = self.run_in(folder, "PATH=$PWD/bin:$PATH ./mpc solve c s")
+            self.assertEqual((got.returncode, got.stdout), (98, ""))
 
     def run_in(self, folder, command, **how):
         """A command of the shell in a folder with the launcher."""
