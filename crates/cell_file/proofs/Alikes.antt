@@ -7,10 +7,10 @@ use Rattle.qp_model.specs.machine.Controller.{Numbers, IsInForm, FitsWord}
 use Rattle.text_lines.specs.Lines.{Keyed, keyed_line, no_line, small, view, views}
 use Rattle.text_lines.specs.declared.line.Line.{Line}
 use Rattle.text_lines.specs.Grammar.{IsBeginning}
-use Rattle.controller_file.specs.Lines.{keyed_lines}
+use Rattle.controller_text.specs.Lines.{keyed_lines}
 use Rattle.controller_file.specs.Following.{IsWhole}
 use Rattle.controller_file.proofs.Blank.{blank, blank_form, blank_fits}
-use Rattle.controller_file.proofs.Blocks.{sizes_small}
+use Rattle.controller_text.proofs.Blocks.{sizes_small}
 use Rattle.controller_file.proofs.Again.{small_is}
 use Rattle.cell_file.specs.Cells.{AreAlike}
 use Rattle.cell_file.specs.Alike.{IsAlikeLine}

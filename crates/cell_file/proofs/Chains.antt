@@ -5,7 +5,7 @@ use Rattle.std.proofs.lemmas.List.{take-append-drop, drop_more, drop_all, length
 use Rattle.qp_model.specs.machine.Controller.{Numbers}
 use Rattle.text_lines.specs.Lines.{Keyed}
 use Rattle.text_lines.specs.Blocks.{chained}
-use Rattle.controller_file.specs.Lines.{keyed_lines}
+use Rattle.controller_text.specs.Lines.{keyed_lines}
 use Rattle.cell_file.specs.Lines.{end_line, rest_lines, cells_lines, lines_before}
 
 -- ---- lists one behind the other

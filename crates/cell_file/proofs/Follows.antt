@@ -10,7 +10,7 @@ use Rattle.qp_model.specs.machine.Controller.{Numbers, IsInForm, FitsWord}
 use Rattle.text_lines.specs.Lines.{Keyed, no_line, line_in, small}
 use Rattle.text_lines.specs.Blocks.{chained}
 use Rattle.text_lines.specs.Grammar.{IsBeginning}
-use Rattle.controller_file.specs.Lines.{keyed_lines}
+use Rattle.controller_text.specs.Lines.{keyed_lines}
 use Rattle.controller_file.specs.Following.{IsWhole}
 use Rattle.controller_file.proofs.Beginnings.{grown}
 use Rattle.controller_file.proofs.Blank.{all_same}

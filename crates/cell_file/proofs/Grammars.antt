@@ -15,10 +15,10 @@ use Rattle.text_lines.specs.Grammar.{IsBeginning, IsGrammar}
 use Rattle.text_lines.proofs.Beginnings.{begins}
 use Rattle.text_lines.proofs.Chained.{all_append, all_chained}
 use Rattle.text_lines.proofs.Good.{natural_fits, good}
-use Rattle.controller_file.specs.Lines.{keyed_lines}
+use Rattle.controller_text.specs.Lines.{keyed_lines}
 use Rattle.controller_file.proofs.Blank.{blank, blank_form, blank_fits, all_same}
-use Rattle.controller_file.proofs.Blocks.{few_lines}
-use Rattle.controller_file.proofs.Texts.{good_lines}
+use Rattle.controller_text.proofs.Blocks.{few_lines}
+use Rattle.controller_text.proofs.Texts.{good_lines}
 use Rattle.cell_file.specs.Cells.{AreAlike, AreCells}
 use Rattle.cell_file.specs.Lines.{head_line, end_line, rest_lines, cells_lines, IsCellsWhole}
 

@@ -3,7 +3,7 @@ use Rattle.std.proofs.Common.{◌≡◌, ℕ, ◌+◌, ◌-◌, ◌<◌, ◌≤�
 use Rattle.std.proofs.lemmas.List.{drop-append-le}
 use Rattle.qp_model.specs.machine.Controller.{Numbers, IsInForm}
 use Rattle.text_lines.specs.Lines.{Keyed}
-use Rattle.controller_file.specs.Lines.{keyed_lines}
+use Rattle.controller_text.specs.Lines.{keyed_lines}
 use Rattle.cell_file.specs.Cells.{AreCells}
 use Rattle.cell_file.specs.Lines.{head_line, end_line, rest_lines, cells_lines, lines_before, IsPlace}
 use Rattle.cell_file.specs.Begins.{BeginsCell, EndsAt}
@@ -11,10 +11,10 @@ use Rattle.cell_file.proofs.Chains.{at_cell, at_end, before_next}
 use Rattle.cell_file.proofs.Alikes.{version_line, size_line}
 use Rattle.controller_file.proofs.Again.{small_is}
 use Rattle.controller_file.proofs.Blank.{blank}
-use Rattle.controller_file.proofs.Blocks.{same_sizes, line_count}
+use Rattle.controller_text.proofs.Blocks.{same_sizes, line_count}
 use Rattle.controller_file.specs.Following.{IsWhole}
-use Rattle.controller_file.specs.Table.{text_table, Says}
-use Rattle.controller_file.specs.declared.table.Sizes.{Sizes}
+use Rattle.controller_text.specs.Table.{text_table, Says}
+use Rattle.controller_text.specs.declared.layout.Sizes.{Sizes}
 use Rattle.integer_algebra.specs.Sums.{at}
 use Rattle.std.proofs.lemmas.List.{length-map, length-drop, take-map, drop-map, take_rest}
 use Rattle.text_lines.specs.Blocks.{total_rows}

@@ -8,9 +8,9 @@ use Rattle.qp_model.specs.machine.Controller.{Numbers, FitsWord}
 use Rattle.qp_model.specs.machine.AbsoluteSums.{IsController}
 use Rattle.text_lines.specs.Lines.{view, views, line_in, small}
 use Rattle.text_lines.specs.declared.line.Line.{Line}
-use Rattle.controller_file.specs.Lines.{keyed_lines}
+use Rattle.controller_text.specs.Lines.{keyed_lines}
 use Rattle.controller_file.specs.Following.{IsWhole}
-use Rattle.controller_file.specs.declared.bad_controller.BadController.{BadController}
+use Rattle.controller_text.specs.declared.bad_controller.BadController.{BadController}
 use Rattle.cell_file.specs.declared.place.Place.{Place}
 use Rattle.cell_file.specs.Begins.{BeginsCell, EndsAt}
 use Rattle.cell_file.specs.Cells.{AreCells, AreAlike}

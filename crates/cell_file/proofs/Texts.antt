@@ -12,13 +12,13 @@ use Rattle.text_lines.specs.Lines.{Keyed, no_line, spelled}
 use Rattle.text_lines.specs.Blocks.{chained, total_rows}
 use Rattle.text_lines.specs.Grammar.{IsTextOf}
 use Rattle.text_lines.proofs.OneText.{text_append, one_text}
-use Rattle.controller_file.specs.Lines.{keyed_lines}
-use Rattle.controller_file.specs.Table.{text_table, sizes_of}
-use Rattle.controller_file.specs.declared.table.Sizes.{Sizes}
-use Rattle.controller_file.specs.declared.bad_controller.BadController.{BadController}
-use Rattle.controller_file.specs.declared.bad_controller.BadController.TheVariants.{Memory, Unsafe, Line}
-use Rattle.controller_file.proofs.Blocks.{same_sizes, line_count}
-use Rattle.controller_file.proofs.Texts.{keyed_text}
+use Rattle.controller_text.specs.Lines.{keyed_lines}
+use Rattle.controller_text.specs.Table.{text_table, sizes_of}
+use Rattle.controller_text.specs.declared.layout.Sizes.{Sizes}
+use Rattle.controller_text.specs.declared.bad_controller.BadController.{BadController}
+use Rattle.controller_text.specs.declared.bad_controller.BadController.TheVariants.{Memory, Unsafe, Line}
+use Rattle.controller_text.proofs.Blocks.{same_sizes, line_count}
+use Rattle.controller_text.proofs.Texts.{keyed_text}
 use Rattle.controller_file.proofs.Uniqueness.{one_choice}
 use Rattle.cell_file.specs.Cells.{AreCells}
 use Rattle.cell_file.specs.Lines.{head_line, end_line, rest_lines, cells_lines, IsCellsWhole}

@@ -2,7 +2,7 @@
 use Rattle.std.specs.Prelude.{◌≡◌, ℕ, ◌<◌, ◌≤◌, List, ◌++◌, Option, MatchOption}
 use Rattle.qp_model.specs.machine.Controller.{Numbers, IsInForm, FitsWord}
 use Rattle.text_lines.specs.Lines.{Keyed}
-use Rattle.controller_file.specs.Lines.{keyed_lines}
+use Rattle.controller_text.specs.Lines.{keyed_lines}
 
 -- they are a part of a controller's lines, or these and more
 pub record BeginsCell (ls : List Keyed) : Type 0 where

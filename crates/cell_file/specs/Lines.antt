@@ -3,7 +3,7 @@ use Rattle.std.specs.Prelude.{◌≡◌, ℕ, suc, ◌+◌, ◌≤◌, ◌<◌, 
 use Rattle.qp_model.specs.machine.Controller.{Numbers}
 use Rattle.text_lines.specs.Lines.{Keyed, keyed_line}
 use Rattle.text_lines.specs.Blocks.{chained}
-use Rattle.controller_file.specs.Lines.{keyed_lines}
+use Rattle.controller_text.specs.Lines.{keyed_lines}
 use Rattle.cell_file.specs.Cells.{AreCells}
 use Rattle.cell_file.specs.declared.place.Place.{Place}
 

@@ -3,9 +3,9 @@ use Rattle.std.specs.Prelude.{◌≡◌, ◌⊎◌, List, All}
 use Rattle.qp_model.specs.machine.Controller.{Numbers, IsInForm}
 use Rattle.qp_model.specs.machine.AbsoluteSums.{IsController}
 use Rattle.text_lines.specs.Lines.{Keyed}
-use Rattle.controller_file.specs.Lines.{keyed_lines}
-use Rattle.controller_file.specs.declared.bad_controller.BadController.{BadController}
-use Rattle.controller_file.specs.declared.bad_controller.BadController.TheVariants.{Memory, Unsafe}
+use Rattle.controller_text.specs.Lines.{keyed_lines}
+use Rattle.controller_text.specs.declared.bad_controller.BadController.{BadController}
+use Rattle.controller_text.specs.declared.bad_controller.BadController.TheVariants.{Memory, Unsafe}
 use Rattle.cell_file.specs.Cells.{AreCells}
 use Rattle.cell_file.specs.Lines.{cells_lines}
 

@@ -4,7 +4,7 @@ ghost use Rattle.integer_algebra.specs.Sums.{at};
 ghost use Rattle.qp_model.specs.problem.Limits.{most_states, most_stages};
 ghost use Rattle.qp_model.specs.machine.Controller.{Numbers, IsInForm};
 ghost use Rattle.text_lines.specs.Lines.{Keyed, views};
-ghost use Rattle.controller_file.specs.Lines.{keyed_lines};
+ghost use Rattle.controller_text.specs.Lines.{keyed_lines};
 ghost use Rattle.cell_file.specs.Alike.{IsAlikeLine};
 
 use qp_model::{most_stages, most_states};

@@ -4,12 +4,13 @@ ghost use Rattle.integer_algebra.specs.Sums.{at};
 ghost use Rattle.qp_model.specs.machine.Controller.{Numbers, IsInForm};
 ghost use Rattle.text_lines.specs.Lines.{Keyed, views, line_in, small};
 ghost use Rattle.text_lines.specs.Grammar.{IsBeginning};
-ghost use Rattle.controller_file.specs.Lines.{keyed_lines};
+ghost use Rattle.controller_text.specs.Lines.{keyed_lines};
 ghost use Rattle.cell_file.specs.Cells.{AreCells};
 ghost use Rattle.cell_file.specs.Lines.{cells_lines, IsCellsWhole, IsPlace};
 ghost use Rattle.cell_file.specs.Begins.{BeginsCell, EndsAt};
 
-use controller_file::{line_count, sizes_in};
+use controller_file::sizes_in;
+use controller_text::line_count;
 use text_lines::{Line, number_in, small};
 
 /// How many cells have all their lines, and the index of the line behind these.

@@ -10,7 +10,8 @@ ghost use Rattle.cell_file.specs.Text.{IsCellsText, IsBadCellsLine, AreUnsafe};
 
 use crate::grammar::CellsGrammar;
 use crate::place::{count_in, end_from};
-use controller_file::{BadController, parts_of};
+use controller_file::parts_of;
+use controller_text::BadController;
 use overflow_check::Controller;
 use std::alloc::{AllocError, Global};
 use text_lines::{Line, lines_in};

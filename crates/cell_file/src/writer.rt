@@ -7,7 +7,7 @@ ghost use Rattle.qp_model.specs.text.ControllerText.{controller_text};
 ghost use Rattle.cell_file.specs.Cells.{AreAlike};
 ghost use Rattle.cell_file.specs.Text.{IsCellsText};
 
-use controller_file::write_controller;
+use controller_text::write_controller;
 use number_text::push_line;
 use overflow_check::Controller;
 use std::alloc::{AllocError, Global};

@@ -1,7 +1,7 @@
 -- What a reader of controllers says of a fault.
 use Rattle.std.proofs.Common.{◌≡◌, ◌⊎◌, inl, inr, ℕ, Ok, Err, refl}
-use Rattle.controller_file.specs.declared.bad_controller.BadController.{BadController}
-use Rattle.controller_file.specs.declared.bad_controller.BadController.TheVariants.{Line, Unsafe, Memory}
+use Rattle.controller_text.specs.declared.bad_controller.BadController.{BadController}
+use Rattle.controller_text.specs.declared.bad_controller.BadController.TheVariants.{Line, Unsafe, Memory}
 use Rattle.command_files.specs.Texts.{IsFaultBy}
 use Rattle.command_files.proofs.Readers.{AreSame}
 

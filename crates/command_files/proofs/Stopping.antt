@@ -1,7 +1,7 @@
 -- A command that a file ends: what the status is, and what it isn't.
 use Rattle.std.proofs.Common.{◌≡◌, ◌≢◌, inl, inr, ℕ, List, Option}
 use Rattle.io_edge.specs.Faults.{Files, Rose}
-use Rattle.controller_file.specs.declared.bad_controller.BadController.{BadController}
+use Rattle.controller_text.specs.declared.bad_controller.BadController.{BadController}
 use Rattle.number_text.specs.declared.text_fault.TextFault.{TextFault}
 use Rattle.command_line.specs.Limit.{file_limit, cells_limit}
 use Rattle.command_line.specs.Answers.{IsFileRefused, IsCaused, IsWrongBy, EndsReading}

@@ -10,8 +10,8 @@ use Rattle.number_text.specs.declared.text_fault.TextFault.{TextFault}
 use Rattle.number_text.specs.declared.text_fault.TextFault.TheVariants.{Memory as no_memory}
 use Rattle.controller_file.specs.FirstLine.{IsBadLine, IsUnsafe}
 use Rattle.cell_file.specs.Text.{IsCellsText, IsBadCellsLine, AreUnsafe}
-use Rattle.controller_file.specs.declared.bad_controller.BadController.{BadController}
-use Rattle.controller_file.specs.declared.bad_controller.BadController.TheVariants.{Line, Unsafe, Memory}
+use Rattle.controller_text.specs.declared.bad_controller.BadController.{BadController}
+use Rattle.controller_text.specs.declared.bad_controller.BadController.TheVariants.{Line, Unsafe, Memory}
 use Rattle.design_files.specs.DesignText.{IsDesignText, IsDesignFault}
 use Rattle.policy_file.specs.PolicyText.{IsPolicyText, IsPolicyFault}
 use Rattle.policy_file.specs.StatesText.{IsStatesText, IsStatesFault}

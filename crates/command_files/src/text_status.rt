@@ -2,7 +2,7 @@
 ghost use Rattle.std.specs.Prelude.{◌≡◌, ◌≢◌, ◌⊎◌};
 
 use command_line::Status;
-use controller_file::BadController;
+use controller_text::BadController;
 use number_text::TextFault;
 
 /// The status that tells of the first fault of the text of the file at a position.

@@ -14,7 +14,7 @@ use crate::inputs::read_inputs;
 use bound_report::{report_json, report_text};
 use command_controller::{Made, make_controller};
 use command_line::{Status, is_json};
-use controller_file::write_controller;
+use controller_text::write_controller;
 use io_edge::{Store, Words};
 use qp_model::{Bounds, Design, Policy};
 use std::alloc::{AllocError, Global};

@@ -6,7 +6,7 @@ ghost use Rattle.design_refusal.specs.Words.{refusal_words};
 ghost use Rattle.command_line.specs.StatusLine.{field_name, fault_words, controller_words, status_words, status_line};
 
 use crate::status::{Field, Status, status_number};
-use controller_file::BadController;
+use controller_text::BadController;
 use design_refusal::{Refusal, refusal_words};
 use number_text::TextFault;
 use std::alloc::{AllocError, Global};

@@ -3,7 +3,7 @@ ghost use Rattle.std.specs.Prelude.{◌≡◌};
 ghost use Rattle.command_line.specs.Status.{refusal_number, status_number, status_of};
 ghost use Rattle.command_line.specs.declared.status.Status.TheVariants.{Memory as no_memory};
 
-use controller_file::BadController;
+use controller_text::BadController;
 use design_refusal::Refusal;
 use number_text::TextFault;
 use std::alloc::AllocError;

@@ -10,9 +10,9 @@ use Rattle.qp_model.specs.problem.Range.{LiesIn}
 use Rattle.qp_model.specs.machine.Controller.{Numbers, HasShape, IsInForm}
 use Rattle.text_lines.specs.Lines.{keyed_line, line_in, small}
 use Rattle.text_lines.specs.Blocks.{row_lines}
-use Rattle.controller_file.specs.Lines.{keyed_exponents, line_blocks}
+use Rattle.controller_text.specs.Lines.{keyed_exponents, line_blocks}
 use Rattle.controller_file.specs.Reading.{numbers_in}
-use Rattle.controller_file.proofs.Texts.{small_form}
+use Rattle.controller_text.proofs.Texts.{small_form}
 
 pub small_is : (n : ℕ) → n < 2 ^ 32 → small (pos n) ≡ n
 small_is n lt = grind (arith, nat_tests)

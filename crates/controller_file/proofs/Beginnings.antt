@@ -8,11 +8,11 @@ use Rattle.text_lines.specs.Lines.{Keyed, no_line, IsKeyedLine, spelled}
 use Rattle.text_lines.specs.Grammar.{IsBeginning, IsGrammar, IsTextOf}
 use Rattle.text_lines.proofs.Beginnings.{begins}
 use Rattle.controller_file.specs.FirstLine.{IsFormText}
-use Rattle.controller_file.specs.Lines.{keyed_lines}
+use Rattle.controller_text.specs.Lines.{keyed_lines}
 use Rattle.controller_file.specs.Following.{IsWhole}
 use Rattle.controller_file.proofs.Blank.{blank, blank_form, blank_fits}
-use Rattle.controller_file.proofs.Blocks.{few_lines}
-use Rattle.controller_file.proofs.Texts.{keyed_text, good_lines}
+use Rattle.controller_text.proofs.Blocks.{few_lines}
+use Rattle.controller_text.proofs.Texts.{keyed_text, good_lines}
 
 -- one line more
 pub grown : (ls : List Keyed) (l : Keyed) (c : Numbers) (more : List Keyed) → IsInForm c → FitsWord c → keyed_lines c ≡ ls ++ (l ∷ more) → IsBeginning IsWhole (ls ++ l ∷ [])

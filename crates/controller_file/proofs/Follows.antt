@@ -7,14 +7,14 @@ use Rattle.std.proofs.lemmas.List.Elements.{All-map}
 use Rattle.integer_algebra.specs.Sums.{at}
 use Rattle.qp_model.specs.problem.Limits.{most_states, most_stages, most_rows}
 use Rattle.qp_model.specs.problem.Range.{LiesIn}
-use Rattle.controller_file.specs.declared.table.Sizes.{Sizes}
+use Rattle.controller_text.specs.declared.layout.Sizes.{Sizes}
 use Rattle.text_lines.specs.Lines.{Keyed, keyed_line, no_line, Fits, line_in, small, Place, place, place_of}
-use Rattle.controller_file.specs.Table.{places, sizes_of, Says}
+use Rattle.controller_text.specs.Table.{places, sizes_of, Says}
 use Rattle.text_lines.specs.Grammar.{IsBeginning}
 use Rattle.controller_file.specs.Following.{IsWhole, IsFrom, AreSizes, AreUpper, word_count, head_blocks, head_block, InRange}
-use Rattle.controller_file.specs.declared.block.Block.{Block}
-use Rattle.controller_file.specs.declared.block.Block.TheVariants.{Version, Size, Bits, Steps, Clamp, Words, Exponents, Low, High}
-use Rattle.controller_file.proofs.Blocks.{sizes_small}
+use Rattle.controller_text.specs.declared.block.Block.{Block}
+use Rattle.controller_text.specs.declared.block.Block.TheVariants.{Version, Size, Bits, Steps, Clamp, Words, Exponents, Low, High}
+use Rattle.controller_text.proofs.Blocks.{sizes_small}
 use Rattle.controller_file.proofs.Again.{small_is}
 use Rattle.controller_file.proofs.Beginnings.{fewer, line_is, last_is, parted, next_is}
 use Rattle.controller_file.proofs.HeadLines.{from_natural, exponent_line, first_lines, list_lines, tail_lines, first_count, up_to, split_at, count_to, version_follows, size_follows, bits_follow}

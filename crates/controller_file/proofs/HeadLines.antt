@@ -10,14 +10,14 @@ use Rattle.integer_algebra.specs.Sums.{at}
 use Rattle.qp_model.specs.problem.Limits.{most_states, most_stages, most_rows}
 use Rattle.qp_model.specs.problem.Range.{LiesIn, IsNumerator}
 use Rattle.qp_model.specs.machine.Controller.{Numbers, plan_length, HasShape, IsInForm, FitsWord}
-use Rattle.controller_file.specs.declared.table.Sizes.{Sizes}
+use Rattle.controller_text.specs.declared.layout.Sizes.{Sizes}
 use Rattle.text_lines.specs.Lines.{Keyed, keyed_line, place, place_of}
 use Rattle.text_lines.specs.Blocks.{row_lines, chained}
-use Rattle.controller_file.specs.Lines.{keyed_exponents, keyed_lines}
+use Rattle.controller_text.specs.Lines.{keyed_exponents, keyed_lines}
 use Rattle.text_lines.specs.Grammar.{IsBeginning}
 use Rattle.controller_file.specs.Following.{IsFrom, AreSizes, AreBits, AreUpper, IsWhole}
 use Rattle.text_lines.proofs.Blocks.{key_is, count_is}
-use Rattle.controller_file.proofs.Blocks.{block_lengths}
+use Rattle.controller_text.proofs.Blocks.{block_lengths}
 use Rattle.controller_file.proofs.Beginnings.{grown, front_is, parted}
 use Rattle.controller_file.proofs.Blank.{same_le, blank, blank_form, blank_fits, all_same}
 

@@ -1,9 +1,6 @@
 -- The lemmas by topic.
 
--- ---- the lines of a controller and its table
-pub mod Blocks
--- ---- the text of a controller, and what is read of it
-pub mod Texts
+-- ---- what is read of a text
 pub mod Again
 pub mod Uniqueness
 -- ---- which line can follow

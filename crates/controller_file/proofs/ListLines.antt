@@ -6,19 +6,19 @@ use Rattle.std.proofs.lemmas.List.{length-map, map-append, nil_from_length, leng
 use Rattle.std.proofs.lemmas.List.Elements.{All-from_recursion, recursion_from_All}
 use Rattle.mat_int.specs.Matrix.{Matrix}
 use Rattle.qp_model.specs.machine.Controller.{Numbers, plan_length, HasShape, IsInForm, FitsWord}
-use Rattle.controller_file.specs.declared.table.Sizes.{Sizes}
+use Rattle.controller_text.specs.declared.layout.Sizes.{Sizes}
 use Rattle.text_lines.specs.Lines.{Keyed, keyed_line, Fits, Place, place, place_of}
 use Rattle.text_lines.specs.Blocks.{row_lines, chained}
-use Rattle.controller_file.specs.Lines.{keyed_lines}
-use Rattle.controller_file.specs.Table.{text_table, places, sizes_of, Says}
+use Rattle.controller_text.specs.Lines.{keyed_lines}
+use Rattle.controller_text.specs.Table.{text_table, places, sizes_of, Says}
 use Rattle.text_lines.specs.Blocks.{spread}
 use Rattle.text_lines.specs.Grammar.{IsBeginning}
 use Rattle.text_lines.proofs.Chained.{all_append, all_parts, map_chained}
 use Rattle.text_lines.proofs.Blocks.{key_is, count_is}
-use Rattle.controller_file.proofs.Blocks.{same_sizes, blocks_placed, lines_placed}
+use Rattle.controller_text.proofs.Blocks.{same_sizes, blocks_placed, lines_placed}
 use Rattle.controller_file.proofs.Beginnings.{grown, line_is, parted}
 use Rattle.controller_file.proofs.HeadLines.{own_head, own_exponents, own_box, resized_form, tail_lines, up_to, split_at, count_to}
-use Rattle.controller_file.proofs.Texts.{good_lines, fits_word}
+use Rattle.controller_text.proofs.Texts.{good_lines, fits_word}
 use Rattle.controller_file.specs.Following.{IsWhole}
 
 -- ---- their places

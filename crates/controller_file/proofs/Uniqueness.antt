@@ -10,16 +10,16 @@ use Rattle.qp_model.specs.text.ControllerText.{IsControllerText}
 use Rattle.number_text.proofs.Pieces.{ArePieces, split_text}
 use Rattle.controller_file.specs.FirstLine.{IsTextInForm}
 use Rattle.controller_file.specs.Laws.{HasOneController, HasNoPrefix}
-use Rattle.controller_file.specs.declared.table.Sizes.{Sizes}
+use Rattle.controller_text.specs.declared.layout.Sizes.{Sizes}
 use Rattle.text_lines.specs.Lines.{Keyed, keyed_line, no_line, spelled, place_of}
-use Rattle.controller_file.specs.Lines.{line_blocks, keyed_lines}
-use Rattle.controller_file.specs.Table.{text_table, places, sizes_of}
+use Rattle.controller_text.specs.Lines.{line_blocks, keyed_lines}
+use Rattle.controller_text.specs.Table.{text_table, places, sizes_of}
 use Rattle.controller_file.specs.Reading.{numbers_in}
 use Rattle.text_lines.proofs.Cuts.{line_pieces}
 use Rattle.text_lines.proofs.OneText.{one_line, one_text, split_more}
 use Rattle.text_lines.proofs.Chained.{one_chain}
-use Rattle.controller_file.proofs.Blocks.{same_sizes, block_lengths, lines_placed}
-use Rattle.controller_file.proofs.Texts.{keyed_text, good_lines}
+use Rattle.controller_text.proofs.Blocks.{same_sizes, block_lengths, lines_placed}
+use Rattle.controller_text.proofs.Texts.{keyed_text, good_lines}
 use Rattle.controller_file.proofs.Again.{numbers_again}
 
 pub pieces_of : (c : Numbers) → IsInForm c → FitsWord c → ArePieces 10 (map spelled (keyed_lines c))

@@ -5,11 +5,11 @@ use Rattle.qp_model.specs.problem.Limits.{text_version, last_version, most_state
 use Rattle.qp_model.specs.problem.Range.{IsNumerator}
 use Rattle.qp_model.specs.problem.PartRules.{AreHighs}
 use Rattle.qp_model.specs.machine.Controller.{Numbers, IsInForm, FitsWord}
-use Rattle.controller_file.specs.declared.block.Block.{Block}
-use Rattle.controller_file.specs.declared.block.Block.TheVariants.{Version, Size, Bits, Steps, Clamp, Words, Exponents, Low, High}
-use Rattle.controller_file.specs.declared.table.Sizes.{Sizes}
+use Rattle.controller_text.specs.declared.block.Block.{Block}
+use Rattle.controller_text.specs.declared.block.Block.TheVariants.{Version, Size, Bits, Steps, Clamp, Words, Exponents, Low, High}
+use Rattle.controller_text.specs.declared.layout.Sizes.{Sizes}
 use Rattle.text_lines.specs.Lines.{Keyed, line_in}
-use Rattle.controller_file.specs.Lines.{keyed_lines}
+use Rattle.controller_text.specs.Lines.{keyed_lines}
 
 -- they are all lines of a text in form
 pub record IsWhole (ls : List Keyed) : Type 0 where

@@ -1,6 +1,3 @@
-pub mod Lines
-pub mod Table
-pub mod BlockPlace
 pub mod Following
 pub mod Reading
 pub mod FirstLine

@@ -1,12 +1,12 @@
 // Which lines can stand after others in a text in form.
 ghost use Rattle.std.specs.Prelude.{◌≡◌, ◌<◌, ◌^◌, ◌↔◌, [], ◌∷◌, ◌++◌, length, All, IsTrue, slice_get};
 ghost use Rattle.text_lines.specs.Lines.{view, views, Fits};
-ghost use Rattle.controller_file.specs.Table.{AreSizesSmall};
+ghost use Rattle.controller_text.specs.Table.{AreSizesSmall};
 ghost use Rattle.text_lines.specs.Grammar.{IsBeginning};
 ghost use Rattle.controller_file.specs.Following.{IsFrom, AreSizes, AreBits, AreUpper, word_count, InRange, head_block, head_blocks, IsWhole};
 
-use crate::block::{BLOCKS, Block};
-use crate::table::{Sizes, place_at, sizes_in};
+use crate::sizes::{place_at, sizes_in};
+use controller_text::{BLOCKS, Block, Sizes};
 use qp_model::range::{are_highs, are_numerators};
 use qp_model::{FIRST_VERSION, LAST_VERSION, MOST_INPUTS, most_rows, most_stages, most_states};
 use text_lines::{Line, has_place, number_at, number_in, numbers_in};

@@ -4,7 +4,7 @@ ghost use Rattle.text_lines.specs.Lines.{view, views};
 ghost use Rattle.controller_file.specs.Following.{IsWhole};
 
 use crate::following::can_follow;
-use crate::table::is_whole;
+use crate::sizes::is_whole;
 use text_lines::{Grammar, Line};
 
 /// The lines of a controller.

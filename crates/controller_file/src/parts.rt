@@ -2,15 +2,15 @@
 ghost use Rattle.std.specs.Prelude.{◌≡◌, ◌<◌, [], IfOk, All, length, map, take, slice_index_or};
 ghost use Rattle.qp_model.specs.machine.Controller.{Numbers, numbers, IsInForm};
 ghost use Rattle.text_lines.specs.Lines.{views, small};
-ghost use Rattle.controller_file.specs.Lines.{line_blocks, keyed_lines};
-ghost use Rattle.controller_file.specs.Table.{text_table, block_at, sizes_of, AreSizesSmall};
+ghost use Rattle.controller_text.specs.Lines.{line_blocks, keyed_lines};
+ghost use Rattle.controller_text.specs.Table.{text_table, block_at, sizes_of, AreSizesSmall};
 ghost use Rattle.text_lines.specs.Blocks.{total_rows};
 ghost use Rattle.controller_file.specs.Following.{IsWhole};
 ghost use Rattle.controller_file.specs.Reading.{list_of_block, matrix_in, IsFront, IsBack};
-ghost use Rattle.controller_file.specs.BlockPlace.{place_in_table};
+ghost use Rattle.controller_text.specs.BlockPlace.{place_in_table};
 
-use crate::block::{Block, place_of};
-use crate::table::{sizes_in, table};
+use crate::sizes::sizes_in;
+use controller_text::{Block, place_of, table};
 use mat_int::Mat;
 use qp_model::{ControllerParts, FIRST_VERSION};
 use std::alloc::{AllocError, Global};

@@ -7,9 +7,9 @@ ghost use Rattle.controller_file.specs.FirstLine.{IsBadLine, IsUnsafe};
 ghost use Rattle.controller_file.specs.Following.{IsWhole};
 ghost use Rattle.text_lines.specs.Lines.{views, spelled};
 
-use crate::bad_controller::BadController;
 use crate::grammar::ControllerGrammar;
 use crate::parts::parts_of;
+use controller_text::BadController;
 use overflow_check::Controller;
 use std::alloc::{AllocError, Global};
 use text_lines::{Line, lines_in};

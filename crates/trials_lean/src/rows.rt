@@ -2,7 +2,7 @@
 ghost use Rattle.qp_model.specs.problem.Parts.{design_of};
 ghost use Rattle.qp_model.specs.problem.Policy.{plans_of, IsPolicyFor};
 
-use controller_file::write_controller;
+use controller_text::write_controller;
 use design_engine::{Made, Refusal};
 use lean_engine::generate_lean;
 use policy_file::read_policy;

@@ -1,6 +1,6 @@
 // The lines that tell of answers, and the commands.
 use command_line::{Command, Field, Status, command_of, is_json, status_line};
-use controller_file::BadController;
+use controller_text::BadController;
 use design_refusal::Refusal;
 use frac_scaled::Frac;
 use io_edge::Words;

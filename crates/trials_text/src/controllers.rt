@@ -1,5 +1,6 @@
 // Texts of controllers.
-use controller_file::{BadController, read_controller, write_controller};
+use controller_file::read_controller;
+use controller_text::{BadController, write_controller};
 use overflow_check::Controller;
 use qp_model::ControllerParts;
 use std::alloc::{AllocError, Global};

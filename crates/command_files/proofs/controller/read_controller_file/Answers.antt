@@ -1,6 +1,6 @@
 use Rattle.std.proofs.Common.{Err, sym, ap}
 use Rattle.controller_file.specs.FirstLine.{IsBadLine, IsUnsafe}
-use Rattle.controller_file.specs.declared.bad_controller.BadController.TheVariants.{Memory as no_space}
+use Rattle.controller_text.specs.declared.bad_controller.BadController.TheVariants.{Memory as no_space}
 use Rattle.command_line.specs.Limit.{file_limit}
 use Rattle.command_line.proofs.Results.{err_same}
 use Rattle.command_line.specs.declared.status.Status.TheVariants.{Controller}

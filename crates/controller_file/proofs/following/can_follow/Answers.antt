@@ -4,7 +4,7 @@ use Rattle.std.proofs.lemmas.Bool.{false≢true}
 use Rattle.std.proofs.lemmas.List.{length-map}
 use Rattle.std.proofs.lemmas.Option.{MatchOption-at_some, MatchOption-at_none}
 use Rattle.text_lines.specs.Lines.{view, views, Place, place, place_of}
-use Rattle.controller_file.specs.Table.{places}
+use Rattle.controller_text.specs.Table.{places}
 use Rattle.controller_file.specs.Following.{IsWhole, InRange, head_block}
 use Rattle.text_lines.proofs.Beginnings.{few_right}
 use Rattle.controller_file.proofs.Beginnings.{grammar}

@@ -2,7 +2,7 @@ use Rattle.std.proofs.Common.{◌∙◌, ap, Option, Some, sym, subst, rules}
 use Rattle.std.specs.Prelude.{◌↔◌, IsTrue}
 use Rattle.integer_algebra.specs.Sums.{at}
 use Rattle.text_lines.specs.Lines.{views}
-use Rattle.controller_file.specs.declared.block.Block.{Block}
+use Rattle.controller_text.specs.declared.block.Block.{Block}
 use Rattle.controller_file.specs.Following.{AreSizes, AreBits, InRange}
 use Rattle.controller_file.proofs.following.is_in_range.Goals as goal
 

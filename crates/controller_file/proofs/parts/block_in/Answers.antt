@@ -1,13 +1,13 @@
 use Rattle.std.proofs.Common.{◌≡◌, ◌∙◌, ◌+◌, ◌<◌, ◌≤◌, ◌^◌, ℕ, List, [], length, get_or, take, refl, ap, arith}
-use Rattle.controller_file.specs.declared.table.Sizes.{Sizes}
+use Rattle.controller_text.specs.declared.layout.Sizes.{Sizes}
 use Rattle.text_lines.specs.declared.line.Line.{Line}
 use Rattle.text_lines.specs.Lines.{views}
 use Rattle.text_lines.specs.Blocks.{Block, Row, blocks_of, total_rows}
 use Rattle.text_lines.proofs.Blocks.{no_row}
-use Rattle.controller_file.specs.Lines.{line_blocks}
-use Rattle.controller_file.specs.Table.{text_table, AreSizesSmall, Says}
+use Rattle.controller_text.specs.Lines.{line_blocks}
+use Rattle.controller_text.specs.Table.{text_table, AreSizesSmall, Says}
 use Rattle.controller_file.specs.Following.{IsWhole}
-use Rattle.controller_file.proofs.Blocks.{said_sizes, row_at, part_is, part_within, few_rows}
+use Rattle.controller_text.proofs.Blocks.{said_sizes, row_at, part_is, part_within, few_rows}
 use Rattle.text_lines.proofs.Beginnings.{begun}
 use Rattle.controller_file.proofs.parts.block_in.Goals as goal
 

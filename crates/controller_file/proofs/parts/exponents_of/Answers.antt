@@ -1,7 +1,7 @@
 use Rattle.std.proofs.Common.{◌≢◌, ◌∙◌, List, map, ap, sym}
-use Rattle.controller_file.specs.declared.table.Sizes.{Sizes}
+use Rattle.controller_text.specs.declared.layout.Sizes.{Sizes}
 use Rattle.text_lines.specs.Lines.{Keyed, views, line_in, small}
-use Rattle.controller_file.proofs.Blocks.{said_sizes, if_ok}
+use Rattle.controller_text.proofs.Blocks.{said_sizes, if_ok}
 use Rattle.controller_file.proofs.Again.{exponents_second}
 use Rattle.controller_file.specs.Following.{IsWhole}
 use Rattle.text_lines.proofs.Beginnings.{begun}

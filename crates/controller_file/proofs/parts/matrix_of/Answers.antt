@@ -1,10 +1,10 @@
 use Rattle.std.proofs.Common.{◌≡◌, ◌∙◌, ℕ, [], List, length, get_or, map, ap, sym, subst}
 use Rattle.std.specs.Prelude.{All}
-use Rattle.controller_file.specs.declared.table.Sizes.{Sizes}
+use Rattle.controller_text.specs.declared.layout.Sizes.{Sizes}
 use Rattle.text_lines.specs.Lines.{Keyed, views}
-use Rattle.controller_file.specs.Table.{block_at, sizes_of}
-use Rattle.controller_file.specs.Lines.{line_blocks}
-use Rattle.controller_file.proofs.Blocks.{said_sizes, row_at, block_breadth, if_ok}
+use Rattle.controller_text.specs.Table.{block_at, sizes_of}
+use Rattle.controller_text.specs.Lines.{line_blocks}
+use Rattle.controller_text.proofs.Blocks.{said_sizes, row_at, block_breadth, if_ok}
 use Rattle.controller_file.specs.Following.{IsWhole}
 use Rattle.text_lines.proofs.Beginnings.{begun}
 use Rattle.controller_file.proofs.parts.matrix_of.Goals as goal

@@ -10,9 +10,9 @@ use Rattle.qp_model.specs.text.ControllerText.{IsControllerText}
 use Rattle.text_lines.specs.declared.line.Line.{Line}
 use Rattle.controller_file.specs.FirstLine.{IsTextInForm, IsBadLine}
 use Rattle.text_lines.specs.Lines.{Keyed, views, spelled}
-use Rattle.controller_file.specs.Lines.{keyed_lines}
+use Rattle.controller_text.specs.Lines.{keyed_lines}
 use Rattle.controller_file.specs.Following.{IsWhole}
-use Rattle.controller_file.proofs.Texts.{keyed_text}
+use Rattle.controller_text.proofs.Texts.{keyed_text}
 use Rattle.controller_file.proofs.Uniqueness.{one_form, in_form}
 use Rattle.controller_file.proofs.reader.read_controller.Goals as goal
 

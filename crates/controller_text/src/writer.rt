@@ -5,12 +5,12 @@ ghost use Rattle.qp_model.specs.machine.Controller.{numbers, IsInForm, FitsWord}
 ghost use Rattle.number_text.specs.Lines.{text_of};
 ghost use Rattle.qp_model.specs.text.ControllerText.{matrix_lines, controller_text, IsControllerText};
 ghost use Rattle.text_lines.specs.Lines.{Fits, spelled};
-ghost use Rattle.controller_file.specs.Lines.{line_blocks};
-ghost use Rattle.controller_file.specs.Table.{text_table, sizes_of};
-ghost use Rattle.controller_file.specs.BlockPlace.{place_in_table};
+ghost use Rattle.controller_text.specs.Lines.{line_blocks};
+ghost use Rattle.controller_text.specs.Table.{text_table, sizes_of};
+ghost use Rattle.controller_text.specs.BlockPlace.{place_in_table};
 
 use crate::block::{BLOCKS, Block, place_of};
-use crate::table::{Sizes, table};
+use crate::layout::{Sizes, table};
 use mat_int::Mat;
 use number_text::push_line;
 use overflow_check::Controller;

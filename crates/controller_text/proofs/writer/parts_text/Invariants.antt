@@ -4,8 +4,8 @@ use Rattle.qp_model.specs.machine.Controller.{numbers}
 use Rattle.number_text.specs.Lines.{text_of}
 use Rattle.text_lines.specs.Lines.{spelled, Fits}
 use Rattle.text_lines.specs.Blocks.{chained}
-use Rattle.controller_file.specs.Lines.{line_blocks}
-use Rattle.controller_file.proofs.writer.parts_text.Given as goal
+use Rattle.controller_text.specs.Lines.{line_blocks}
+use Rattle.controller_text.proofs.writer.parts_text.Given as goal
 
 abbrev pub invariant-loop-block : goal.invariant-loop-block
 invariant-loop-block l = record {

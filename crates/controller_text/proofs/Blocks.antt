@@ -8,13 +8,13 @@ use Rattle.mat_int.specs.Matrix.{Matrix}
 use Rattle.qp_model.specs.problem.Range.{LiesIn}
 use Rattle.qp_model.specs.machine.Controller.{Numbers, HasShape, IsInForm}
 use Rattle.qp_model.proofs.VersionLaws.{states_le, stages_le, limits_le}
-use Rattle.controller_file.specs.declared.table.Sizes.{Sizes}
+use Rattle.controller_text.specs.declared.layout.Sizes.{Sizes}
 use Rattle.text_lines.specs.declared.line.Line.{Line}
 use Rattle.text_lines.specs.Lines.{Keyed, keyed_line, view, views, line_in, Place, place, place_of}
 use Rattle.text_lines.specs.Blocks.{row_lines, chained, blocks_of, Row}
-use Rattle.controller_file.specs.Lines.{line_blocks, keyed_lines}
+use Rattle.controller_text.specs.Lines.{line_blocks, keyed_lines}
 use Rattle.text_lines.specs.Blocks.{Block, block_places, total_rows}
-use Rattle.controller_file.specs.Table.{text_table, places, sizes_of, AreSizesSmall, Says, block_at}
+use Rattle.controller_text.specs.Table.{text_table, places, sizes_of, AreSizesSmall, Says, block_at}
 use Rattle.text_lines.proofs.Chained.{map_chained}
 use Rattle.text_lines.proofs.Blocks.{block_is, rows_more, rows_placed, rows_up_to, lengths_from, spread_length, no_row}
 

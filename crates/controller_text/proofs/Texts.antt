@@ -11,11 +11,11 @@ use Rattle.qp_model.specs.machine.Controller.{Numbers, IsInForm, FitsWord}
 use Rattle.qp_model.specs.text.ControllerText.{controller_lines, controller_text}
 use Rattle.text_lines.specs.Lines.{Keyed, keyed_line, spelled, Fits, IsKeyedLine}
 use Rattle.text_lines.specs.Blocks.{row_lines}
-use Rattle.controller_file.specs.Lines.{line_blocks, keyed_lines}
-use Rattle.controller_file.specs.Table.{AreSizesSmall}
+use Rattle.controller_text.specs.Lines.{line_blocks, keyed_lines}
+use Rattle.controller_text.specs.Table.{AreSizesSmall}
 use Rattle.text_lines.proofs.Chained.{all_chained, all_blocks, map_chained}
 use Rattle.text_lines.proofs.Good.{natural_fits, half_words_fit, quarter_fits, word, good}
-use Rattle.controller_file.proofs.Blocks.{sizes_small}
+use Rattle.controller_text.proofs.Blocks.{sizes_small}
 
 -- ---- the text
 

@@ -1,5 +1,5 @@
 ghost use Rattle.std.specs.Prelude.{◌≡◌};
-ghost use Rattle.controller_file.specs.declared.bad_controller.BadController.TheVariants.{Memory};
+ghost use Rattle.controller_text.specs.declared.bad_controller.BadController.TheVariants.{Memory};
 
 use std::alloc::AllocError;
 use thiserror::Error;

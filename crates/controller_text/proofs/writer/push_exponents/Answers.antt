@@ -1,5 +1,5 @@
 use Rattle.std.proofs.Common.{rules}
-use Rattle.controller_file.proofs.writer.push_exponents.Goals as goal
+use Rattle.controller_text.proofs.writer.push_exponents.Goals as goal
 
 pub returns-clause-text : goal.returns-clause-text
 returns-clause-text c = search rules

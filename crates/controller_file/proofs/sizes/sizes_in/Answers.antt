@@ -1,11 +1,11 @@
 use Rattle.std.proofs.Common.{◌≡◌, ℤ, FitsSigned, to_z, of_z, ap, sym, subst, ◌∙◌, rules}
 use Rattle.std.specs.Int.{w128}
 use Rattle.std.proofs.lemmas.Int.{to_z-of_z}
-use Rattle.controller_file.specs.declared.table.Sizes.{Sizes}
+use Rattle.controller_text.specs.declared.layout.Sizes.{Sizes}
 use Rattle.text_lines.specs.Lines.{views, small}
-use Rattle.controller_file.specs.Table.{Says}
+use Rattle.controller_text.specs.Table.{Says}
 use Rattle.controller_file.proofs.Follows.{sizes_read}
-use Rattle.controller_file.proofs.table.sizes_in.Goals as goal
+use Rattle.controller_file.proofs.sizes.sizes_in.Goals as goal
 
 -- a number as it is read
 read : (x z : ℤ) → FitsSigned w128 x → x ≡ z → small (to_z w128 (of_z w128 x)) ≡ small z

@@ -6,15 +6,15 @@ use Rattle.number_text.specs.Lines.{text_of}
 use Rattle.qp_model.specs.machine.Controller.{numbers}
 use Rattle.text_lines.specs.Lines.{Keyed, spelled, Fits}
 use Rattle.text_lines.specs.Blocks.{chained}
-use Rattle.controller_file.specs.Lines.{line_blocks}
-use Rattle.controller_file.specs.Table.{text_table, block_at, sizes_of}
+use Rattle.controller_text.specs.Lines.{line_blocks}
+use Rattle.controller_text.specs.Table.{text_table, block_at, sizes_of}
 use Rattle.text_lines.proofs.Chained.{chain_more}
-use Rattle.controller_file.proofs.Blocks.{row_at}
+use Rattle.controller_text.proofs.Blocks.{row_at}
 use Rattle.text_lines.proofs.Pushed.{block_pushed}
-use Rattle.controller_file.proofs.Texts.{keyed_text, fits_word}
-use Rattle.controller_file.specs.declared.block.Block.{Block}
-use Rattle.controller_file.specs.BlockPlace.{all_blocks, place_in_table}
-use Rattle.controller_file.proofs.writer.parts_text.Goals as goal
+use Rattle.controller_text.proofs.Texts.{keyed_text, fits_word}
+use Rattle.controller_text.specs.declared.block.Block.{Block}
+use Rattle.controller_text.specs.BlockPlace.{all_blocks, place_in_table}
+use Rattle.controller_text.proofs.writer.parts_text.Goals as goal
 
 -- the blocks are in the order of the table
 in_order : (i : ℕ) (d : Block) → i < 16 → place_in_table (get_or all_blocks i d) ≡ i

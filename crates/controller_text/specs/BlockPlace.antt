@@ -1,7 +1,7 @@
 -- Where a block stands among the others.
 use Rattle.std.specs.Prelude.{ℕ, List, [], ◌∷◌}
-use Rattle.controller_file.specs.declared.block.Block.{Block}
-use Rattle.controller_file.specs.declared.block.Block.TheVariants.{Version, Size, Bits, Steps, Clamp, Words, Exponents, Low, High, StateGains, Offsets, DualGains, PlanRows, StateRows, Bounds, End}
+use Rattle.controller_text.specs.declared.block.Block.{Block}
+use Rattle.controller_text.specs.declared.block.Block.TheVariants.{Version, Size, Bits, Steps, Clamp, Words, Exponents, Low, High, StateGains, Offsets, DualGains, PlanRows, StateRows, Bounds, End}
 
 -- its index in the table
 abbrev pub place_in_table : Block → ℕ

@@ -6,12 +6,12 @@ use Rattle.qp_model.specs.machine.Controller.{Numbers, numbers}
 use Rattle.number_text.specs.Lines.{line_of, text_of}
 use Rattle.text_lines.specs.Lines.{Keyed, keyed_line, spelled, Fits}
 use Rattle.text_lines.specs.Blocks.{row_lines}
-use Rattle.controller_file.specs.Lines.{line_blocks}
-use Rattle.controller_file.specs.Table.{sizes_of, block_at}
-use Rattle.controller_file.proofs.Texts.{spelled_rows}
-use Rattle.controller_file.specs.BlockPlace.{place_in_table}
-use Rattle.controller_file.specs.declared.block.Block.{Block}
-use Rattle.controller_file.proofs.writer.push_block.Goals as goal
+use Rattle.controller_text.specs.Lines.{line_blocks}
+use Rattle.controller_text.specs.Table.{sizes_of, block_at}
+use Rattle.controller_text.proofs.Texts.{spelled_rows}
+use Rattle.controller_text.specs.BlockPlace.{place_in_table}
+use Rattle.controller_text.specs.declared.block.Block.{Block}
+use Rattle.controller_text.proofs.writer.push_block.Goals as goal
 
 -- the lines of the block of rows, whatever its word is called
 rows_are : (n : Numbers) (block : Block) (k : ℕ) (key : List ℕ) (rows : List (List ℤ)) → place_in_table block ≡ k → key ≡ (block_at (sizes_of n) (place_in_table block)).0

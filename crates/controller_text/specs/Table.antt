@@ -1,7 +1,7 @@
 -- Which lines a text has, by its version and its sizes.
 use Rattle.std.specs.Prelude.{◌≡◌, ℕ, ◌-◌, ◌*◌, ◌<◌, ◌≤◌, pos, List, [], ◌∷◌, length, codes, slice_index_or}
 use Rattle.qp_model.specs.machine.Controller.{Numbers}
-use Rattle.controller_file.specs.declared.table.Sizes.{Sizes}
+use Rattle.controller_text.specs.declared.layout.Sizes.{Sizes}
 use Rattle.text_lines.specs.Lines.{Keyed, Place, line_in}
 use Rattle.text_lines.specs.Blocks.{spread, Block}
 

@@ -1,7 +1,7 @@
 use Rattle.std.proofs.Common.{◌<◌, ◌++◌, ◌∷◌, [], length, ap, ◌∙◌, string_bytes, List, ℤ, arith, rules}
 use Rattle.number_text.specs.Lines.{line_of, text_of}
 use Rattle.text_lines.proofs.Pushed.{row_pushed}
-use Rattle.controller_file.proofs.writer.push_rows.Goals as goal
+use Rattle.controller_text.proofs.writer.push_rows.Goals as goal
 
 pub loop-i-preserved : goal.loop-i-preserved
 loop-i-preserved c =

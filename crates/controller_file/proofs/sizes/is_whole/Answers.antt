@@ -3,10 +3,10 @@ use Rattle.std.specs.Prelude.{◌↔◌, IsTrue, is_some, not, MatchOption, slic
 use Rattle.std.proofs.lemmas.Bool.{false≢true}
 use Rattle.std.proofs.lemmas.List.{length-map}
 use Rattle.text_lines.specs.Lines.{view, views, place}
-use Rattle.controller_file.specs.Table.{places}
+use Rattle.controller_text.specs.Table.{places}
 use Rattle.controller_file.specs.Following.{IsWhole}
 use Rattle.controller_file.proofs.Follows.{whole_if, whole_only}
-use Rattle.controller_file.proofs.table.is_whole.Goals as goal
+use Rattle.controller_file.proofs.sizes.is_whole.Goals as goal
 
 none_where : {X : Type 0} (o : Option X) (b : Bool) (A B : Type 0) (P : X → Type 0) → is_some o ≡ not b → MatchOption o A P → (A → B) → ((x : X) → P x → B → ⊥) → IsTrue b ↔ B
 none_where None true A B P e m f g = (λ true. f m, λ b. refl)

@@ -1,6 +1,6 @@
 // The blocks of a controller's lines.
 ghost use Rattle.std.specs.Prelude.{◌≡◌, ◌<◌};
-ghost use Rattle.controller_file.specs.BlockPlace.{place_in_table};
+ghost use Rattle.controller_text.specs.BlockPlace.{place_in_table};
 
 /// A block of lines of one word, in the order of the text.
 #[derive(Clone, Copy)]

@@ -1,0 +1,6 @@
+-- The lemmas by topic.
+
+-- ---- the lines of a controller and its table
+pub mod Blocks
+-- ---- the text of a controller
+pub mod Texts
