@@ -9,7 +9,7 @@ pub mod RecordFacts
 pub mod TextFacts
 pub mod UniqueFacts
 -- ---- the box of a cell, and its design
-pub mod Designs
+pub use Rattle.policy_file.proofs.Designs
 pub mod CellFacts
 pub mod BoxFacts
 pub mod DesignFacts

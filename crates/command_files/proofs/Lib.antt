@@ -1,5 +1,5 @@
 -- designs by their numbers, and files that are read and judged
-pub use Rattle.cell_split.proofs.Designs
+pub use Rattle.policy_file.proofs.Designs
 pub mod Readers
 pub mod Controllers
 -- a command that a file ends

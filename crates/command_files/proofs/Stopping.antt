@@ -3,11 +3,11 @@ use Rattle.std.proofs.Common.{◌≡◌, ◌≢◌, inl, inr, ℕ, List, Option}
 use Rattle.io_edge.specs.Faults.{Files, Rose}
 use Rattle.controller_text.specs.declared.bad_controller.BadController.{BadController}
 use Rattle.number_text.specs.declared.text_fault.TextFault.{TextFault}
-use Rattle.command_line.specs.Limit.{file_limit, cells_limit}
+use Rattle.command_line.specs.Limit.{file_limit}
 use Rattle.command_line.specs.Answers.{IsFileRefused, IsCaused, IsWrongBy, EndsReading}
 use Rattle.command_line.specs.declared.status.Status.{Status}
 use Rattle.command_line.specs.declared.status.Status.TheVariants.{Done, Memory, ReadFault, WriteFault, Text, Controller, Long}
-use Rattle.command_files.specs.Texts.{ControllerWrong, StatesWrong, CellsWrong}
+use Rattle.command_files.specs.Texts.{ControllerWrong, StatesWrong}
 
 -- neither done, nor out of memory, nor a fault
 pub record IsRefusal (s : Status) : Type 0 where
@@ -22,7 +22,7 @@ long_refusal file s is = record { done = λ e. cc; memory = λ e. cc; read = λ 
 text_refusal : (file : ℕ) (fault : TextFault) (s : Status) → s ≡ Text file fault → IsRefusal s
 text_refusal file fault s is = record { done = λ e. cc; memory = λ e. cc; read = λ f e. cc; write = λ f e. cc }
 
-controller_refusal : (file : ℕ) (fault : BadController) (s : Status) → s ≡ Controller file fault → IsRefusal s
+pub controller_refusal : (file : ℕ) (fault : BadController) (s : Status) → s ≡ Controller file fault → IsRefusal s
 controller_refusal file fault s is = record { done = λ e. cc; memory = λ e. cc; read = λ f e. cc; write = λ f e. cc }
 
 -- what a file is refused with
@@ -33,10 +33,6 @@ controller_refused file content s (inr wrong) = controller_refusal file wrong.ri
 pub states_refused : (n file : ℕ) (content : Option (List ℕ)) (s : Status) → IsFileRefused file_limit file (StatesWrong n file) content s → IsRefusal s
 states_refused n file content s (inl long) = long_refusal file s long.is
 states_refused n file content s (inr wrong) = text_refusal file wrong.right.0 s wrong.right.2.1
-
-pub cells_refused : (file : ℕ) (content : Option (List ℕ)) (s : Status) → IsFileRefused cells_limit file (CellsWrong file) content s → IsRefusal s
-cells_refused file content s (inl long) = long_refusal file s long.is
-cells_refused file content s (inr wrong) = controller_refusal file wrong.right.0 s wrong.right.2
 
 -- what a file that ends a command makes of its status
 module _ {X : Type 0} (limit file : ℕ) (Wrong : List ℕ → Status → Type 0) (Right : X → List ℕ → Type 0) (held : Option Files) (name : List ℕ) (before now : ℕ) (s : Status) where

@@ -4,7 +4,7 @@ ghost use Rattle.io_edge.specs.Faults.{NoneFalls};
 ghost use Rattle.command_files.specs.Reading.{IsControllerRead, EndsController};
 
 use crate::bytes::{FILE_LIMIT, read_bytes};
-use crate::text_status::controller_status;
+use crate::statuses::controller_status;
 use command_line::Status;
 use controller_file::read_controller;
 use io_edge::Store;

@@ -4,7 +4,7 @@ ghost use Rattle.io_edge.specs.Faults.{NoneFalls};
 ghost use Rattle.command_files.specs.Reading.{IsDesignRead, EndsDesign};
 
 use crate::bytes::{FILE_LIMIT, read_bytes};
-use crate::text_status::text_status;
+use crate::statuses::text_status;
 use command_line::Status;
 use design_files::read_design;
 use io_edge::Store;

@@ -6,7 +6,7 @@ ghost use Rattle.qp_model.specs.problem.Policy.{plans_of, IsPolicyFor};
 ghost use Rattle.command_files.specs.Reading.{IsPolicyRead, EndsPolicy};
 
 use crate::bytes::{FILE_LIMIT, read_bytes};
-use crate::text_status::text_status;
+use crate::statuses::text_status;
 use command_line::Status;
 use io_edge::Store;
 use policy_file::read_policy;

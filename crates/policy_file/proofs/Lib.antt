@@ -1,5 +1,7 @@
 -- The lemmas by topic.
 
+-- ---- the design that a policy is for
+pub mod Designs
 -- ---- fields and records
 pub mod FieldFacts
 pub mod RecordFacts

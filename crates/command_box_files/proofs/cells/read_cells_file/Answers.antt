@@ -4,10 +4,10 @@ use Rattle.controller_text.specs.declared.bad_controller.BadController.TheVarian
 use Rattle.command_line.specs.Limit.{cells_limit}
 use Rattle.command_line.proofs.Results.{err_same}
 use Rattle.command_line.specs.declared.status.Status.TheVariants.{Controller}
-use Rattle.command_files.specs.Texts.{CellsRight, CellsWrong, IsCellsTextFault}
+use Rattle.command_box_files.specs.Texts.{CellsRight, CellsWrong, IsCellsTextFault}
 use Rattle.command_files.proofs.Readers.{ends_unread, ends_fault, right_text, SaysController, controller_said}
 use Rattle.command_files.proofs.Controllers.{controller_fault, one_fault, no_fault}
-use Rattle.command_files.proofs.cells.read_cells_file.Goals as goal
+use Rattle.command_box_files.proofs.cells.read_cells_file.Goals as goal
 
 pub returns-in_err-bytes-clause-ends : goal.returns-in_err-bytes-clause-ends
 returns-in_err-bytes-clause-ends g c =

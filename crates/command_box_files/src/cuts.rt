@@ -3,11 +3,10 @@ ghost use Rattle.std.specs.Prelude.{◌≡◌, IfOk, IfErr};
 ghost use Rattle.io_edge.specs.Faults.{NoneFalls};
 ghost use Rattle.qp_model.specs.problem.Parts.{design_of};
 ghost use Rattle.cell_split.specs.Cells.{AreCutsFor};
-ghost use Rattle.command_files.specs.Reading.{AreCutListsRead, EndsCuts};
+ghost use Rattle.command_box_files.specs.Reading.{AreCutListsRead, EndsCuts};
 
-use crate::bytes::{FILE_LIMIT, read_bytes};
-use crate::text_status::text_status;
 use cell_split::{Cuts, read_cuts};
+use command_files::{FILE_LIMIT, read_bytes, text_status};
 use command_line::Status;
 use io_edge::Store;
 use qp_model::Design;

@@ -3,10 +3,9 @@ ghost use Rattle.std.specs.Prelude.{◌≡◌, IfOk, IfErr};
 ghost use Rattle.io_edge.specs.Faults.{NoneFalls};
 ghost use Rattle.qp_model.specs.problem.Parts.{design_of};
 ghost use Rattle.stay_check.specs.FaceForms.{faces_of, AreFacesFor};
-ghost use Rattle.command_files.specs.Reading.{AreFacesRead, EndsFaces};
+ghost use Rattle.command_box_files.specs.Reading.{AreFacesRead, EndsFaces};
 
-use crate::bytes::{FILE_LIMIT, read_bytes};
-use crate::text_status::text_status;
+use command_files::{FILE_LIMIT, read_bytes, text_status};
 use command_line::Status;
 use io_edge::Store;
 use qp_model::Design;

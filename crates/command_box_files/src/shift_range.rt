@@ -2,10 +2,9 @@
 ghost use Rattle.std.specs.Prelude.{◌≡◌, IfOk, IfErr};
 ghost use Rattle.io_edge.specs.Faults.{NoneFalls};
 ghost use Rattle.shift_file.specs.RangeText.{IsShiftRange};
-ghost use Rattle.command_files.specs.Reading.{IsRangeRead, EndsRange};
+ghost use Rattle.command_box_files.specs.Reading.{IsRangeRead, EndsRange};
 
-use crate::bytes::{FILE_LIMIT, read_bytes};
-use crate::text_status::text_status;
+use command_files::{FILE_LIMIT, read_bytes, text_status};
 use command_line::Status;
 use io_edge::Store;
 use mat_int::Mat;

@@ -3,11 +3,10 @@ ghost use Rattle.std.specs.Prelude.{◌≡◌, ◌≤◌, length, map, All, IfOk
 ghost use Rattle.io_edge.specs.Faults.{NoneFalls};
 ghost use Rattle.qp_model.specs.problem.Parts.{design_of};
 ghost use Rattle.qp_model.specs.problem.Policy.{plans_of, IsPolicyFor};
-ghost use Rattle.command_files.specs.Reading.{AreCellPoliciesRead, EndsCellPolicies};
+ghost use Rattle.command_box_files.specs.Reading.{AreCellPoliciesRead, EndsCellPolicies};
 
-use crate::bytes::{FILE_LIMIT, read_bytes};
-use crate::text_status::text_status;
 use cell_split::read_cell_policies;
+use command_files::{FILE_LIMIT, read_bytes, text_status};
 use command_line::Status;
 use io_edge::Store;
 use qp_model::{Design, Policy};

@@ -1,10 +1,9 @@
 // A file of shifts turn by turn.
 ghost use Rattle.std.specs.Prelude.{◌≡◌, IfOk, IfErr};
 ghost use Rattle.io_edge.specs.Faults.{NoneFalls};
-ghost use Rattle.command_files.specs.Reading.{AreTurnShiftsRead, EndsTurnShifts};
+ghost use Rattle.command_box_files.specs.Reading.{AreTurnShiftsRead, EndsTurnShifts};
 
-use crate::bytes::{FILE_LIMIT, read_bytes};
-use crate::text_status::text_status;
+use command_files::{FILE_LIMIT, read_bytes, text_status};
 use command_line::Status;
 use io_edge::Store;
 use packed_rows::PackedRows;

@@ -1,11 +1,10 @@
 // A file of cells.
 ghost use Rattle.std.specs.Prelude.{◌≡◌, IfOk, IfErr};
 ghost use Rattle.io_edge.specs.Faults.{NoneFalls};
-ghost use Rattle.command_files.specs.Reading.{AreCellsRead, EndsCells};
+ghost use Rattle.command_box_files.specs.Reading.{AreCellsRead, EndsCells};
 
-use crate::bytes::read_bytes;
-use crate::text_status::controller_status;
 use cell_file::read_cells;
+use command_files::{controller_status, read_bytes};
 use command_line::Status;
 use io_edge::Store;
 use overflow_check::Controller;

@@ -1,0 +1,2 @@
+-- a command that a file of cells ends
+pub mod Stopping

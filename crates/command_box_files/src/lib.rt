@@ -1,0 +1,16 @@
+//! The files of a design's box: its faces, the disturbances of its states, its cuts with the policies of its cells, and the controllers of cells.
+#![tactic(auto)]
+
+mod cell_policies;
+mod cells;
+mod cuts;
+mod faces;
+mod shift_range;
+mod turn_shifts;
+
+pub use cell_policies::read_cell_policies_file;
+pub use cells::{CELLS_LIMIT, read_cells_file};
+pub use cuts::read_cuts_file;
+pub use faces::read_faces_file;
+pub use shift_range::read_range_file;
+pub use turn_shifts::read_shifts_file;
