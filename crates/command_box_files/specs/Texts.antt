@@ -5,7 +5,7 @@ use Rattle.qp_model.specs.problem.Design.{Design}
 use Rattle.qp_model.specs.problem.Policy.{Plans}
 use Rattle.qp_model.specs.machine.Controller.{Numbers}
 use Rattle.number_text.specs.declared.text_fault.TextFault.{TextFault}
-use Rattle.controller_file.specs.declared.bad_controller.BadController.{BadController}
+use Rattle.controller_text.specs.declared.bad_controller.BadController.{BadController}
 use Rattle.cell_file.specs.Text.{IsCellsText, IsBadCellsLine, AreUnsafe}
 use Rattle.stay_check.specs.FaceForms.{FaceNumbers}
 use Rattle.stay_check.specs.FacesText.{IsFacesText, IsFacesTextFault}
