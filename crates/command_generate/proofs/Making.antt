@@ -14,8 +14,8 @@ use Rattle.design_refusal.specs.declared.refusal.Refusal.{Refusal}
 use Rattle.design_refusal.specs.declared.refusal.Refusal.TheVariants as refusals
 use Rattle.command_line.specs.Status.{status_of}
 use Rattle.command_line.specs.Answers.{IsAnswer}
-use Rattle.command_controller.specs.Made.{MakingCalls}
-use Rattle.command_controller.proofs.Passing.{built_passes}
+use Rattle.command_generate.specs.Made.{MakingCalls}
+use Rattle.command_generate.proofs.Passing.{built_passes}
 use Rattle.command_line.specs.declared.status.Status.{Status}
 use Rattle.command_line.specs.declared.status.Status.TheVariants.{Done, Memory, ReadFault, WriteFault}
 

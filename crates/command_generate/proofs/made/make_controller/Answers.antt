@@ -1,8 +1,8 @@
 use Rattle.std.proofs.Common.{refl, sym, ◌∙◌}
 use Rattle.qp_model.specs.problem.Policy.{plans_of}
 use Rattle.qp_model.specs.bounds.Printed.{printed}
-use Rattle.command_controller.proofs.Making.{done_called, refused_called, refusal_not_done}
-use Rattle.command_controller.proofs.made.make_controller.Goals as goal
+use Rattle.command_generate.proofs.Making.{done_called, refused_called, refusal_not_done}
+use Rattle.command_generate.proofs.made.make_controller.Goals as goal
 
 pub returns-in-Ok-clause-called : goal.returns-in-Ok-clause-called
 returns-in-Ok-clause-called c =

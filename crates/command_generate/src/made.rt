@@ -5,7 +5,7 @@ ghost use Rattle.qp_model.specs.problem.Policy.{plans_of, IsPolicyFor};
 ghost use Rattle.qp_model.specs.bounds.Printed.{printed};
 ghost use Rattle.design_engine.specs.Bounds.{printed_multiplier, stated_cost};
 ghost use Rattle.command_line.specs.Answers.{IsAnswer};
-ghost use Rattle.command_controller.specs.Made.{MakingCalls, IsMadeOf};
+ghost use Rattle.command_generate.specs.Made.{MakingCalls, IsMadeOf};
 
 use command_line::Status;
 use design_engine::{Made, generate};

@@ -21,7 +21,7 @@ use Rattle.design_engine.specs.Bounds.{margin_of}
 use Rattle.design_engine.specs.Built.{IsBuilt}
 use Rattle.design_engine.specs.Refusals.{HasCause, PassesMargin, PassesSizes, PassesExponent, PassesAll}
 use Rattle.design_refusal.specs.declared.refusal.Refusal.{Refusal}
-use Rattle.command_controller.specs.Made.{Passes}
+use Rattle.command_generate.specs.Made.{Passes}
 use Rattle.design_refusal.specs.declared.refusal.Refusal.TheVariants.{TooWide}
 
 abbrev pub NoCause : Design → Targets → Plans → Type 0
