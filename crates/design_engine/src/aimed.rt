@@ -13,7 +13,6 @@ ghost use Rattle.design_engine.specs.StepsAndBits.{AreStepsAndBitsOf};
 
 use crate::residuals::real_cost;
 use approx_inverse::solve_all;
-use bit_choice::{Choice, choose_bits};
 use condensed_form::Condensed;
 use controller_maker::{Settings, controller_of};
 use design_refusal::Refusal;
@@ -23,7 +22,7 @@ use overflow_check::Controller;
 use plant_condense::condense;
 use qp_model::{Design, FIRST_VERSION};
 use std::alloc::{AllocError, Global};
-use step_error::{ErrorSums, error_sums};
+use step_error::{Choice, ErrorSums, choose_bits, error_sums};
 
 /// What a controller is made with beside its design: R, which bounds the multipliers; what the steps may leave of the violation, and what the errors of a
 /// step may cost, both over `2^40`.
