@@ -11,6 +11,7 @@ ghost use Rattle.design_engine.specs.Aims.{IsAim, IsSteppedFormOf, IsAimedOf};
 ghost use Rattle.design_engine.specs.Tests.{PassesForm, HasFormCause, PassesAim, HasAimCause, IsRefusedFor};
 ghost use Rattle.design_engine.specs.StepsAndBits.{AreStepsAndBitsOf};
 
+use crate::condensing::condense;
 use crate::residuals::real_cost;
 use approx_inverse::solve_all;
 use condensed_form::Condensed;
@@ -19,7 +20,6 @@ use design_refusal::Refusal;
 use dual_bounds::steps;
 use hessian_check::{curvature, exponents};
 use overflow_check::Controller;
-use plant_condense::condense;
 use qp_model::{Design, FIRST_VERSION};
 use std::alloc::{AllocError, Global};
 use step_error::{Choice, ErrorSums, choose_bits, error_sums};

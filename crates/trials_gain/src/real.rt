@@ -4,7 +4,7 @@ ghost use Rattle.condensed_form.specs.Form.{IsFormOf};
 
 use approx_inverse::solve_all;
 use condensed_form::Condensed;
-use plant_condense::condense;
+use design_engine::condense;
 use qp_model::Design;
 use std::alloc::Global;
 use std::test::Fail;

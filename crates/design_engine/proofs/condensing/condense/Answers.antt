@@ -4,8 +4,8 @@ use Rattle.std.proofs.lemmas.Result.{IfOk-from_err}
 use Rattle.qp_model.specs.problem.Parts.{design_of}
 use Rattle.qp_model.specs.form.FineSizes.{is_fine}
 use Rattle.condensed_form.specs.Form.{IsFormIn}
-use Rattle.plant_condense.proofs.ClassFacts.{none_wide, fine, fine_wide, wide_fine, exact_held, out_of_memory}
-use Rattle.plant_condense.proofs.choice.condense.Goals as goal
+use Rattle.design_engine.proofs.ClassFacts.{none_wide, fine, fine_wide, wide_fine, exact_held, out_of_memory}
+use Rattle.design_engine.proofs.condensing.condense.Goals as goal
 
 -- ---- out of memory
 pub returns-in_err-condensed-clause-form : goal.returns-in_err-condensed-clause-form

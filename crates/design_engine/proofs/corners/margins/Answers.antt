@@ -1,7 +1,7 @@
 use Rattle.std.proofs.Common.{Err, ap, refl, ◌∙◌}
 use Rattle.exact_margin.specs.declared.fault.MarginFault.{MarginFault}
-use Rattle.slater_margin.proofs.CornerFacts.{exact_answer, fine_answer}
-use Rattle.slater_margin.proofs.corners.margins.Goals as goal
+use Rattle.design_engine.proofs.CornerFacts.{exact_answer, fine_answer}
+use Rattle.design_engine.proofs.corners.margins.Goals as goal
 
 -- ---- in enclosures
 pub margins_fine-requires : goal.margins_fine-requires

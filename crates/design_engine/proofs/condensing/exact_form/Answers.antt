@@ -6,8 +6,8 @@ use Rattle.qp_model.specs.form.Quantities.{prediction_size}
 use Rattle.qp_model.specs.form.FineSizes.{is_fine}
 use Rattle.condensed_form.specs.Form.{IsFormIn}
 use Rattle.design_refusal.specs.declared.size_fault.SizeFault.{SizeFault}
-use Rattle.plant_condense.proofs.ClassFacts.{limited_class, wide_class, chosen, kept}
-use Rattle.plant_condense.proofs.choice.exact_form.Goals as goal
+use Rattle.design_engine.proofs.ClassFacts.{limited_class, wide_class, chosen, kept}
+use Rattle.design_engine.proofs.condensing.exact_form.Goals as goal
 
 pub returns-in-Ok-clause-form : goal.returns-in-Ok-clause-form
 returns-in-Ok-clause-form c = kept (λ condensed. IsFormIn false c.args.design.now condensed) _ c.in-Ok.condensed c.then_some.result c.then_some.ensures c.in-Ok.ensures.form
