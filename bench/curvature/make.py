@@ -30,7 +30,7 @@ def rows(m):
 
 MAIN = '''#![tactic(auto)]
 
-use plant_condense::condense;
+use design_engine::condense;
 use hessian_check::curvature;
 use mat_int::Mat;
 use qp_model::{Design, DesignParts};

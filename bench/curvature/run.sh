@@ -69,14 +69,14 @@ needed() {
             count = split(below[crate], names, " ")
             for (i = 1; i <= count; i++) visit(names[i])
         }
-        END { visit("plant_condense"); visit("hessian_check"); for (crate in seen) print crate }' crates.txt
+        END { visit("design_engine"); for (crate in seen) print crate }' crates.txt
 }
 for crate in $(needed); do
     mkdir -p "$work/crates/$crate"
     tar cf - --exclude=out -C "crates/$crate" . | tar xf - -C "$work/crates/$crate"
     grep "^$crate:" crates.txt >>"$work/crates.txt"
 done
-echo "curvature_bench: plant_condense hessian_check mat_int qp_model" >>"$work/crates.txt"
+echo "curvature_bench: design_engine hessian_check mat_int qp_model" >>"$work/crates.txt"
 expected=$(cd "$here" && python3 make.py "$work/crates/curvature_bench")
 
 cd "$work/crates/curvature_bench"

@@ -21,15 +21,15 @@ echo "satellite -" >> "$copy/conditions"
 cd "$copy"
 rt new crates/descent_speed start_io > /dev/null
 rm -f crates/descent_speed/src/clock.rt crates/descent_speed/stdin crates/descent_speed/stdout
-echo "descent_speed: anyhow approx_inverse condensed_form design_files mat_int plant_condense" >> crates.txt
+echo "descent_speed: anyhow approx_inverse condensed_form design_engine design_files mat_int" >> crates.txt
 cat > crates/descent_speed/src/main.rt <<'MAIN'
 #![tactic(auto)]
 
 use anyhow::Error;
 use approx_inverse::{Inverse, solve_all};
-use plant_condense::condense;
-use design_files::read_design;
 use condensed_form::Condensed;
+use design_engine::condense;
+use design_files::read_design;
 use mat_int::Mat;
 use std::fs;
 use std::time::Instant;

@@ -30,7 +30,7 @@ instructions() {
 
 # The instructions of a run on a design text, and of its condensing.
 condensing() {
-    instructions "$1" yes | tr -d , | awk '/PROGRAM TOTALS/ { all = $1 } /:plant_condense::choice::condense / { part = $1 } END { print all, part }'
+    instructions "$1" yes | tr -d , | awk '/PROGRAM TOTALS/ { all = $1 } /:design_engine::condensing::condense / { part = $1 } END { print all, part }'
 }
 
 for example in "$examples"/*/; do

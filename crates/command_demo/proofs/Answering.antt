@@ -4,8 +4,8 @@ use Rattle.qp_model.specs.problem.Policy.{Plans}
 use Rattle.qp_model.specs.problem.Parts.{design_numbers}
 use Rattle.qp_model.specs.declared.design_parts.DesignParts.{DesignParts}
 use Rattle.command_line.specs.Answers.{IsAnswer, IsCaused}
-use Rattle.command_controller.specs.Made.{MakingCalls}
-use Rattle.command_controller.proofs.SameDesign.{making_same}
+use Rattle.command_generate.specs.Made.{MakingCalls}
+use Rattle.command_generate.proofs.SameDesign.{making_same}
 use Rattle.command_demo.specs.Demo.{AreMadeFrom, DemoCalls}
 use Rattle.command_line.specs.declared.status.Status.{Status}
 use Rattle.command_line.specs.declared.status.Status.TheVariants.{Done, Memory, ReadFault, WriteFault}

@@ -13,7 +13,7 @@ use Rattle.qp_model.specs.bounds.Printed.{Printed}
 use Rattle.policy_file.specs.StatesText.{IsStatesText}
 use Rattle.design_maker.specs.Texts.{states_text}
 use Rattle.plan_lines.specs.Inside.{AreInside}
-use Rattle.command_controller.specs.Made.{IsMadeOf}
+use Rattle.command_generate.specs.Made.{IsMadeOf}
 use Rattle.command_demo.specs.Demo.{AreMadeFrom, IsShown}
 
 -- the states are grid states of the design's box

@@ -10,7 +10,7 @@ use Rattle.policy_file.specs.PolicyText.{IsPolicyText}
 use Rattle.design_maker.specs.Texts.{design_text, policy_text, states_text}
 use Rattle.design_maker.specs.MadeParts.{corner_matrix}
 use Rattle.design_maker.specs.MadeLaw.{AreMadeTexts, AreMade, MadeLaw}
-use Rattle.command_controller.proofs.SameDesign.{along}
+use Rattle.command_generate.proofs.SameDesign.{along}
 use Rattle.command_demo.specs.Demo.{demo_stages}
 use Rattle.command_demo.proofs.Answering.{OneOf}
 use Rattle.command_demo.proofs.Inside.{AreInBox}

@@ -14,7 +14,7 @@ use Rattle.policy_file.specs.StatesText.{IsStatesText}
 use Rattle.design_maker.specs.Texts.{design_text, policy_text, states_text}
 use Rattle.plan_lines.specs.Lines.{plan_lines}
 use Rattle.plan_lines.specs.Inside.{AreInside}
-use Rattle.command_controller.specs.Made.{MakingCalls, IsMadeOf}
+use Rattle.command_generate.specs.Made.{MakingCalls, IsMadeOf}
 use Rattle.command_line.specs.declared.status.Status.{Status}
 use Rattle.command_line.specs.declared.status.Status.TheVariants.{Done, Memory, WriteFault}
 

@@ -14,7 +14,7 @@ ghost use Rattle.command_demo.specs.Making.{AreOnlyMade};
 
 use crate::inputs::{Inputs, inputs_of};
 use crate::printing::print_text;
-use command_controller::make_controller;
+use command_generate::make_controller;
 use command_line::Status;
 use io_edge::Sink;
 use std::alloc::Global;

@@ -12,14 +12,14 @@ use Rattle.command_line.proofs.Composing.{stop, go_on, go_on_whole, for_contents
 use Rattle.command_files.specs.Texts.{DesignRight, DesignWrong, PolicyRight, PolicyWrong}
 use Rattle.command_files.specs.Reading.{ReadsPolicy, IsDesignRead, EndsDesign, EndsPolicy}
 use Rattle.command_files.proofs.Designs.{same_design}
-use Rattle.command_controller.specs.Made.{MakingCalls}
+use Rattle.command_generate.specs.Made.{MakingCalls}
 use Rattle.command_generate.specs.Generate.{GenerateCalls, GenerateReaches}
 use Rattle.command_generate.specs.Inputs.{AreInputsRead, EndsInputs}
 use Rattle.command_generate.specs.Writing.{IsAnswered, IsReadFault}
 use Rattle.command_generate.proofs.Ends.{design_tells, policy_tells, tells_fault, tells_not_done, tells_no_write}
 use Rattle.command_line.specs.declared.status.Status.{Status}
 use Rattle.command_line.specs.declared.status.Status.TheVariants.{Done, Memory, ReadFault, WriteFault}
-use Rattle.command_controller.proofs.SameDesign.{making_same}
+use Rattle.command_generate.proofs.SameDesign.{making_same}
 
 -- ---- the answer with another design of the same numbers
 after_same : (policy : Option (List ℕ)) (p q : DesignParts) → design_numbers p ≡ design_numbers q → (s : Status) → ReadsPolicy (design_of p) 2 policy (MakingCalls p) s →

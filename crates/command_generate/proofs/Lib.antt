@@ -1,11 +1,12 @@
--- What reading files ends with, and what is written.
+-- ---- what a design with a policy calls for
+pub mod Passing
+pub mod Making
+pub mod SameDesign
+-- ---- what reading files ends with, and what is written
 pub mod Ends
 pub mod InputEnds
 pub mod Ending
 pub mod TwoTexts
 pub mod Written
--- ---- the same of the proofs
-pub use Rattle.command_controller.proofs.Making
-pub use Rattle.command_controller.proofs.Passing
-pub use Rattle.command_controller.proofs.SameDesign
-pub use Rattle.command_controller.proofs.Engine
+-- ---- the proofs of the commands above rest on the laws of what is made, too
+pub use Rattle.design_engine.proofs as Engine

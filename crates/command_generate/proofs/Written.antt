@@ -10,7 +10,7 @@ use Rattle.command_line.specs.Words.{word_of, IsGenerate}
 use Rattle.command_line.specs.Limit.{file_limit}
 use Rattle.command_line.specs.Answers.{FileHolds}
 use Rattle.command_files.specs.Texts.{DesignRight, PolicyRight}
-use Rattle.command_controller.specs.Made.{IsMadeOf}
+use Rattle.command_generate.specs.Made.{IsMadeOf}
 use Rattle.command_generate.specs.Inputs.{AreInputsRead}
 use Rattle.command_generate.specs.Writing.{AreTextsFor, AreTextsFrom, AreWritten, IsSecondCut, IsAnswered}
 use Rattle.command_generate.specs.Generate.{GenerateCalls, HoldsInputs, IsMadeFrom, IsGenerated, IsControllerCut, IsReportCut}

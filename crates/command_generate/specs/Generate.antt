@@ -8,14 +8,14 @@ use Rattle.qp_model.specs.bounds.Certified.{IsCertified}
 use Rattle.qp_model.specs.text.ControllerText.{IsControllerText}
 use Rattle.qp_model.specs.declared.design_parts.DesignParts.{DesignParts}
 use Rattle.qp_model.specs.bounds.Printed.{Printed}
-use Rattle.command_controller.specs.Engine.Targets.{targets_of, IsWithinTargets}
-use Rattle.command_controller.specs.Engine.Built.{IsBuilt}
+use Rattle.design_engine.specs.Targets.{targets_of, IsWithinTargets}
+use Rattle.design_engine.specs.Built.{IsBuilt}
 use Rattle.command_line.specs.Words.{word_of}
 use Rattle.command_line.specs.Limit.{file_limit}
 use Rattle.command_line.specs.Answers.{FileHolds}
 use Rattle.command_files.specs.Texts.{DesignRight, PolicyRight}
 use Rattle.command_files.specs.Reading.{ReadsDesign, ReadsPolicy}
-use Rattle.command_controller.specs.Made.{MakingCalls, IsReport}
+use Rattle.command_generate.specs.Made.{MakingCalls, IsReport}
 use Rattle.command_line.specs.declared.status.Status.{Status}
 
 -- what the contents of a design's and a policy's file call for

@@ -8,7 +8,7 @@ use Rattle.qp_model.specs.declared.design_parts.DesignParts.{DesignParts}
 use Rattle.qp_model.specs.bounds.Printed.{Printed}
 use Rattle.command_line.specs.Words.{word_of}
 use Rattle.command_line.specs.Answers.{ForContents, IsAnswer}
-use Rattle.command_controller.specs.Made.{IsMadeOf, IsReport}
+use Rattle.command_generate.specs.Made.{IsMadeOf, IsReport}
 use Rattle.command_generate.specs.Generate.{GenerateCalls, GenerateReaches}
 use Rattle.command_generate.specs.Inputs.{AreInputsRead}
 use Rattle.command_line.specs.declared.status.Status.{Status}

@@ -1,12 +1,14 @@
-//! `generate`: a controller and the report of its bounds, from a design and a policy.
+//! `generate`: a controller and the report of its bounds, from a design and a policy, and what is made of them.
 #![tactic(auto)]
 
 mod command;
 mod inputs;
+mod made;
 mod texts;
 
 pub use command::generate;
 // Handed on with `texts_made`, which takes what is made: a crate above that names fewer others is stamped on fewer paths.
-pub use command_controller::{Made, make_controller, row_violations};
+pub use design_engine::{Made, row_violations};
 pub use inputs::{DesignWithPolicy, read_inputs};
+pub use made::make_controller;
 pub use texts::{Texts, texts_made, write_texts};

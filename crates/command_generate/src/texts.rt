@@ -7,14 +7,15 @@ ghost use Rattle.qp_model.specs.bounds.Printed.{printed};
 ghost use Rattle.qp_model.specs.text.ControllerText.{IsControllerText};
 ghost use Rattle.command_line.specs.Words.{IsGenerate};
 ghost use Rattle.command_line.specs.Answers.{IsAnswer, IsCaused};
-ghost use Rattle.command_controller.specs.Made.{MakingCalls, IsReport};
+ghost use Rattle.command_generate.specs.Made.{MakingCalls, IsReport};
 ghost use Rattle.command_generate.specs.Writing.{AreTextsFor, AreTextsFrom, AreWritten, IsAnswered, IsReadFault, IsSecondCut};
 
 use crate::inputs::read_inputs;
+use crate::made::make_controller;
 use bound_report::{report_json, report_text};
-use command_controller::{Made, make_controller};
 use command_line::{Status, is_json};
 use controller_text::write_controller;
+use design_engine::Made;
 use io_edge::{Store, Words};
 use qp_model::{Bounds, Design, Policy};
 use std::alloc::{AllocError, Global};

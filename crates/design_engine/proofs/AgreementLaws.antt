@@ -16,7 +16,7 @@ use Rattle.qp_model.specs.problem.Policy.{Plans}
 use Rattle.qp_model.specs.declared.design_parts.DesignParts.{DesignParts}
 use Rattle.qp_model.specs.bounds.Printed.{Printed}
 use Rattle.overflow_check.specs.Width.{IsWidth}
-use Rattle.bit_choice.specs.Choice.{IsChoice}
+use Rattle.step_error.specs.Choice.{IsChoice}
 use Rattle.controller_maker.proofs.Classes.{entries_are, states_are, rows_are}
 use Rattle.controller_maker.proofs.Tables.{row_long, shape_as, plan_long}
 use Rattle.design_engine.specs.Targets.{Targets, targets_of, half_target, error_limit}

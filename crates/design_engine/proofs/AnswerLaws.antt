@@ -8,11 +8,11 @@ use Rattle.qp_model.specs.machine.Controller.{Numbers}
 use Rattle.qp_model.specs.form.Class.{form_of}
 use Rattle.qp_model.specs.bounds.RealErrors.{real_errors, real_cost}
 use Rattle.qp_model.specs.bounds.Certified.{IsCertified}
-use Rattle.plant_condense.proofs.FormLaws.{form_law}
+use Rattle.design_engine.proofs.FormLaws.{form_law}
 use Rattle.qp_model.specs.declared.design_parts.DesignParts.{DesignParts}
 use Rattle.qp_model.specs.bounds.Printed.{Printed}
 use Rattle.qp_model.specs.declared.bounds.Margin.{Margin}
-use Rattle.real_error.proofs.RealSteps.{carried}
+use Rattle.step_error.proofs.RealSteps.{carried}
 use Rattle.step_error.proofs.MachineRuns.{machine_run}
 use Rattle.design_engine.specs.Targets.{Targets, targets_of, IsWithinTargets}
 use Rattle.design_engine.specs.Aims.{aim_of, IsMadeWith}

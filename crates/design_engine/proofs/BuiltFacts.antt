@@ -8,8 +8,8 @@ use Rattle.qp_model.specs.form.Curvature.{AreExponents}
 use Rattle.qp_model.specs.bounds.Choices.{multiplier_of}
 use Rattle.qp_model.specs.bounds.CornerClass.{IsMargin}
 use Rattle.qp_model.specs.form.Class.{form_of, hessian_quantity}
-use Rattle.plant_condense.proofs.FormLaws.{form_law}
-use Rattle.real_error.proofs.RealCosts as costs
+use Rattle.design_engine.proofs.FormLaws.{form_law}
+use Rattle.step_error.proofs.RealCosts as costs
 use Rattle.qp_model.specs.problem.Design.{Design, rows}
 use Rattle.qp_model.specs.bounds.Built.{IsDerivedFrom}
 use Rattle.qp_model.specs.bounds.RealErrors.{real_cost}

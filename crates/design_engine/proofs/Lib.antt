@@ -1,5 +1,10 @@
 -- The lemmas by topic.
 
+-- ---- which class a design's corners and its form are of, and what they are in each
+pub mod CornerFacts
+pub mod CornerLaws
+pub mod ClassFacts
+pub mod FormLaws
 -- ---- the promise, and the targets
 pub mod TargetLaws
 pub mod PromiseFacts

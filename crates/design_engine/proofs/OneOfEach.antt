@@ -20,7 +20,7 @@ use Rattle.hessian_check.specs.Curvature.{IsFirst, IsChosen, IsDominantAt, HasPa
 use Rattle.hessian_check.specs.Steps.{IsExponentOf, HasNoStep}
 use Rattle.hessian_check.specs.RowExponents.{AreExponentsOf}
 use Rattle.hessian_check.proofs.RowExponentLaws.{one_list_law}
-use Rattle.bit_choice.specs.Choice.{IsChoice}
+use Rattle.step_error.specs.Choice.{IsChoice}
 use Rattle.step_error.proofs.FallingLaws.{epsilon_falls}
 
 -- ---- what the corners' slacks and costs are over

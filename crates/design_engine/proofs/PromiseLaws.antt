@@ -34,7 +34,7 @@ use Rattle.qp_model.specs.bounds.Certified.{ExceedsAtMost, CostsAtMost, HasFeasi
 use Rattle.qp_model.specs.declared.design_parts.DesignParts.{DesignParts}
 use Rattle.qp_model.specs.bounds.Printed.{Printed}
 use Rattle.overflow_check.proofs.ValuesMet.{values_law}
-use Rattle.slater_margin.proofs.CornerLaws.{shown_law}
+use Rattle.design_engine.proofs.CornerLaws.{shown_law}
 use Rattle.dual_bounds.specs.Corners.{KeepsMargin, HasRepair, ExceedsNoMore}
 use Rattle.dual_bounds.proofs.MixLaws.{repair_law, threshold_law}
 use Rattle.dual_bounds.proofs.RowBounds.{row_below}

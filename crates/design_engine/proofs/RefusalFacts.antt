@@ -26,7 +26,7 @@ use Rattle.hessian_check.specs.Refusals as exponents
 use Rattle.hessian_check.specs.declared.fault.StepExponents.{StepExponents}
 use Rattle.hessian_check.specs.declared.fault.CurvatureFault.{CurvatureFault}
 use Rattle.hessian_check.specs.declared.fault.CurvatureFault.TheVariants.{Memory as curvature_memory, TooWide as curvature_wide, NoStep}
-use Rattle.bit_choice.specs.Choice.{IsChoice}
+use Rattle.step_error.specs.Choice.{IsChoice}
 use Rattle.approx_inverse.specs.Fault.{IsFault}
 use Rattle.design_refusal.specs.declared.size_fault.SizeFault.{SizeFault}
 use Rattle.design_refusal.specs.declared.size_fault.SizeFault.TheVariants.{Memory as solve_memory, TooWide as solve_wide}

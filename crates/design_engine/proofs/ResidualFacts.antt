@@ -17,8 +17,8 @@ use Rattle.qp_model.specs.declared.design_parts.DesignParts.{DesignParts}
 use Rattle.condensed_form.specs.Form.{IsFormOf}
 use Rattle.condensed_form.specs.declared.condensed.Condensed.{Condensed}
 use Rattle.step_error.specs.declared.sums.ErrorSums.{ErrorSums}
-use Rattle.real_error.specs.Made.{AreSumsOf, HasGains}
-use Rattle.real_error.proofs.RealCosts as costs
+use Rattle.step_error.specs.Made.{AreSumsOf, HasGains}
+use Rattle.step_error.proofs.RealCosts as costs
 use Rattle.design_engine.specs.Bounds.{margin_of, printed_multiplier, stated_cost}
 use Rattle.controller_maker.specs.Assembled.{IsAssembled}
 use Rattle.design_engine.specs.Residuals.{IsGivenFor}

@@ -15,7 +15,7 @@ use Rattle.overflow_check.specs.Width.{IsWidth}
 use Rattle.condensed_form.specs.Form.{IsFormOf}
 use Rattle.hessian_check.specs.Steps.{IsExponentOf, OfDesign}
 use Rattle.hessian_check.specs.RowExponents.{AreExponentsOf}
-use Rattle.bit_choice.specs.Choice.{IsChoice}
+use Rattle.step_error.specs.Choice.{IsChoice}
 use Rattle.qp_model.specs.declared.bounds.Margin.{Margin}
 use Rattle.qp_model.specs.bounds.Choices.{multiplier_of}
 use Rattle.design_engine.specs.Targets.{Targets, half_target, error_limit}

@@ -4,7 +4,7 @@ use Rattle.qp_model.specs.machine.Controller.{Numbers}
 use Rattle.qp_model.specs.declared.design_parts.DesignParts.{DesignParts}
 use Rattle.condensed_form.specs.declared.condensed.Condensed.{Condensed}
 use Rattle.step_error.specs.declared.sums.ErrorSums.{ErrorSums}
-use Rattle.real_error.specs.Made.{IsMadeFor, IsMade}
+use Rattle.step_error.specs.Made.{IsMadeFor, IsMade}
 
 -- the form c and the sums e are those of the design p with multipliers up to 2 r, and the gains of the controller k solve its systems
 abbrev pub IsGivenFor : DesignParts → ℕ → Condensed → ErrorSums → Numbers → Type 0

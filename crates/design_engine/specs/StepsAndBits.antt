@@ -2,7 +2,7 @@
 use Rattle.std.specs.Prelude.{◌≡◌, pos, unsigned_abs}
 use Rattle.qp_model.specs.problem.Parts.{design_of}
 use Rattle.qp_model.specs.declared.design_parts.DesignParts.{DesignParts}
-use Rattle.real_error.specs.Made.{AreSumsOf}
+use Rattle.step_error.specs.Made.{AreSumsOf}
 use Rattle.design_engine.specs.Aims.{steps_of}
 use Rattle.design_engine.specs.Tests.{PassesBits}
 use Rattle.design_engine.specs.Bounds.{stated_cost}

@@ -11,19 +11,18 @@ ghost use Rattle.design_engine.specs.Aims.{IsAim, IsSteppedFormOf, IsAimedOf};
 ghost use Rattle.design_engine.specs.Tests.{PassesForm, HasFormCause, PassesAim, HasAimCause, IsRefusedFor};
 ghost use Rattle.design_engine.specs.StepsAndBits.{AreStepsAndBitsOf};
 
+use crate::condensing::condense;
 use crate::residuals::real_cost;
 use approx_inverse::solve_all;
-use bit_choice::{Choice, choose_bits};
 use condensed_form::Condensed;
 use controller_maker::{Settings, controller_of};
 use design_refusal::Refusal;
 use dual_bounds::steps;
 use hessian_check::{curvature, exponents};
 use overflow_check::Controller;
-use plant_condense::condense;
 use qp_model::{Design, FIRST_VERSION};
 use std::alloc::{AllocError, Global};
-use step_error::{ErrorSums, error_sums};
+use step_error::{Choice, ErrorSums, choose_bits, error_sums};
 
 /// What a controller is made with beside its design: R, which bounds the multipliers; what the steps may leave of the violation, and what the errors of a
 /// step may cost, both over `2^40`.

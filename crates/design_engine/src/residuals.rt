@@ -13,8 +13,7 @@ use condensed_form::Condensed;
 use frac_scaled::ceil_div;
 use overflow_check::{Controller, plan_sum};
 use qp_model::ControllerParts;
-use real_error::real_epsilon;
-use step_error::ErrorSums;
+use step_error::{ErrorSums, real_epsilon};
 
 // How far the plan's entries lie from 0 at most in a run from a state of the box, rounded up to a whole number.
 fn plan_reach(parts: &ControllerParts) -> i128

@@ -16,8 +16,8 @@ use Rattle.qp_model.specs.bounds.Printed.{Printed}
 use Rattle.qp_model.proofs.SoundLaws.{sound}
 use Rattle.qp_model.proofs.ExcessLaws.{excess_law}
 use Rattle.dual_bounds.specs.Corners.{KeepsExcess}
-use Rattle.plant_condense.proofs.FormLaws.{form_law}
-use Rattle.slater_margin.proofs.CornerLaws.{shown_law}
+use Rattle.design_engine.proofs.FormLaws.{form_law}
+use Rattle.design_engine.proofs.CornerLaws.{shown_law}
 use Rattle.step_error.proofs.MachineRuns.{machine_run}
 use Rattle.design_engine.specs.Targets.{targets_of}
 use Rattle.design_engine.specs.declared.aimed.Aim.{Aim}

@@ -18,12 +18,11 @@ ghost use Rattle.lean_engine.specs.Priced.{IsBoundOf, IsBound, HasBoundCause, Is
 use crate::bounds::{Bound, bounds_of};
 use crate::targets::{floor_target, rest_target, step_target, violation_target};
 use design_engine::{
-    Aim, Aimed, Made, Refusal, SteppedForm, controller_for, gap_target, stepped_form,
+    Aim, Aimed, Made, Refusal, SteppedForm, controller_for, gap_target, margins, stepped_form,
 };
 use dual_bounds::lean_multiplier;
 use plan_excess::excess;
 use qp_model::{Design, DesignParts, Margin, Policy};
-use slater_margin::margins;
 use std::alloc::Global;
 
 // The tests of the corners.

@@ -3,3 +3,9 @@ pub mod Carried
 pub mod Machine
 pub mod MachineLaws
 pub mod ErrorSums
+-- ---- the fraction bits
+pub mod Choice
+-- ---- the errors by the residuals that the gains really leave
+pub mod RealLaws
+pub mod Gains
+pub mod Made

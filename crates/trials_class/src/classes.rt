@@ -1,8 +1,8 @@
 // Expected values are those of bench/condense/classes.py.
 use condensed_form::Condensed;
+use design_engine::condense;
 use design_refusal::SizeFault;
 use mat_int::Mat;
-use plant_condense::condense;
 use qp_model::{Design, Quantity};
 use std::alloc::{AllocError, Global};
 use std::test::Fail;

@@ -2,11 +2,11 @@ ghost use Rattle.std.specs.Prelude.{pos, ◌≤ℤ◌};
 ghost use Rattle.qp_model.specs.problem.Parts.{design_of};
 ghost use Rattle.qp_model.specs.problem.Policy.{plans_of, IsPolicyFor};
 
+use design_engine::margins;
 use exact_margin::MarginFault;
 use frac_scaled::Frac;
 use policy_file::read_policy;
 use qp_model::{Design, Margin, Policy, Quantity};
-use slater_margin::margins;
 use std::alloc::{AllocError, Global};
 use std::test::Fail;
 use trials_worked_designs::{Changed, DESIGN, SATELLITE, changed_design};

@@ -4,11 +4,11 @@ ghost use Rattle.qp_model.specs.problem.Range.{LiesIn};
 
 use approx_inverse::solve_all;
 use controller_maker::{Settings, controller_of};
+use design_engine::condense;
 use design_files::read_design;
 use design_refusal::SizeFault;
 use mat_int::Mat;
 use overflow_check::Controller;
-use plant_condense::condense;
 use qp_model::{ControllerParts, Design, Quantity};
 use std::alloc::{AllocError, Global};
 use std::test::Fail;

@@ -4,9 +4,9 @@ ghost use Rattle.qp_model.specs.problem.Parts.{design_of};
 ghost use Rattle.qp_model.specs.problem.Policy.{plans_of, IsPolicyFor};
 
 use condensed_form::Condensed;
+use design_engine::condense;
 use design_refusal::SizeFault;
 use plan_excess::excess;
-use plant_condense::condense;
 use policy_file::read_policy;
 use qp_model::{Design, Policy, Quantity};
 use std::alloc::{AllocError, Global};

@@ -2,9 +2,8 @@
 ghost use Rattle.step_error.specs.ErrorSums.{AreSums};
 
 use crate::sums::sums;
-use bit_choice::{Choice, TooFine, choose_bits};
 use std::test::Fail;
-use step_error::ErrorSums;
+use step_error::{Choice, ErrorSums, TooFine, choose_bits};
 use trials_worked_designs::DESIGN;
 
 // From how many bits on, the limit, and what is chosen.

@@ -3,8 +3,8 @@ ghost use Rattle.condensed_form.specs.Form.{IsForm};
 
 use approx_inverse::{Inverse, solve_all, solve_column};
 use condensed_form::Condensed;
+use design_engine::condense;
 use mat_int::Mat;
-use plant_condense::condense;
 use qp_model::Design;
 use std::alloc::{AllocError, Global};
 use std::test::Fail;

@@ -4,12 +4,11 @@ ghost use Rattle.condensed_form.specs.Form.{IsFormOf};
 
 use approx_inverse::solve_all;
 use condensed_form::Condensed;
-use plant_condense::condense;
+use design_engine::condense;
 use qp_model::Design;
-use real_error::real_epsilon;
 use std::alloc::Global;
 use std::test::Fail;
-use step_error::error_sums;
+use step_error::{error_sums, real_epsilon};
 use trials_worked_designs::{DESIGN, design};
 
 // What the errors of a step of a design cost with the solutions of its form at so many bits, where no plan entry is above `plan`.

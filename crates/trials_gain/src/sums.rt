@@ -2,7 +2,7 @@
 ghost use Rattle.std.specs.Prelude.{IfOk, pos, ◌≤ℤ◌, ◌^◌};
 ghost use Rattle.step_error.specs.ErrorSums.{AreSums};
 
-use plant_condense::condense;
+use design_engine::condense;
 use qp_model::{Design, Wide};
 use std::alloc::Global;
 use std::test::Fail;

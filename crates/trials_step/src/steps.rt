@@ -3,9 +3,9 @@ ghost use Rattle.std.specs.Prelude.{◌≡◌, ◌<◌, ℕ, length, IsTrue};
 ghost use Rattle.mat_int.specs.Matrix.{entry_of};
 ghost use Rattle.hessian_check.specs.Dominance.{IsSymmetric};
 
+use design_engine::condense;
 use hessian_check::{CurvatureFault, ScaledRoot, StepExponents, check, curvature, root_of};
 use mat_int::Mat;
-use plant_condense::condense;
 use qp_model::{Design, Quantity};
 use std::alloc::{AllocError, Global};
 use std::test::Fail;

@@ -5,7 +5,7 @@ use Rattle.qp_model.specs.bounds.Printed.{printed}
 use Rattle.command_line.specs.Answers.{IsAnswer}
 use Rattle.command_line.specs.declared.status.Status.{Status}
 use Rattle.command_line.specs.declared.status.Status.TheVariants.{Done}
-use Rattle.command_controller.proofs.Making.{refused_no_read, refused_no_write}
+use Rattle.command_generate.proofs.Making.{refused_no_read, refused_no_write}
 use Rattle.command_demo.specs.Demo.{DemoCalls}
 use Rattle.command_demo.proofs.Inside.{inside, shown}
 use Rattle.command_demo.proofs.Answering.{answer_is, refused_is, printed_done, printed_one, printed_no_read, printed_fault}

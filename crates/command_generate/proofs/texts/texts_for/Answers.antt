@@ -2,7 +2,7 @@ use Rattle.std.proofs.lemmas.Result.{IfErr-weaker, IfOk-weaker}
 use Rattle.qp_model.specs.problem.Policy.{plans_of}
 use Rattle.command_line.specs.declared.status.Status.TheVariants.{Done}
 use Rattle.command_line.proofs.Results.{err_same}
-use Rattle.command_controller.proofs.Making.{refused_no_read, refused_no_write}
+use Rattle.command_generate.proofs.Making.{refused_no_read, refused_no_write}
 use Rattle.command_generate.proofs.InputEnds.{inputs_ends, inputs_fault, inputs_not_done, inputs_no_write, making_ends, refused_ends}
 use Rattle.command_generate.proofs.texts.texts_for.Goals as goal
 

@@ -6,7 +6,7 @@ use Rattle.qp_model.specs.form.Class.{form_of}
 use Rattle.qp_model.specs.problem.Parts.{design_of}
 use Rattle.qp_model.specs.machine.Controller.{Numbers, numbers}
 use Rattle.qp_model.specs.bounds.RealErrors.{real_cost}
-use Rattle.real_error.specs.Made.{IsMade, IsMadeFor}
+use Rattle.step_error.specs.Made.{IsMade, IsMadeFor}
 use Rattle.design_engine.proofs.GenerationFacts.{whole_least}
 use Rattle.design_engine.proofs.ResidualFacts.{named, own_gains}
 use Rattle.design_engine.proofs.residuals.real_cost.Goals as goal

@@ -7,7 +7,7 @@ use Rattle.approx_inverse.specs.Inverse.{IsInverseOf}
 use Rattle.approx_inverse.specs.declared.inverse.Inverse.{Inverse}
 use Rattle.condensed_form.specs.declared.condensed.Condensed.{Condensed}
 use Rattle.step_error.specs.declared.sums.ErrorSums.{ErrorSums}
-use Rattle.real_error.specs.Made.{AreSumsOf, IsMade}
+use Rattle.step_error.specs.Made.{AreSumsOf, IsMade}
 use Rattle.trials_gain.proofs.real.cost_with.Goals as goal
 
 -- from what the calls before it answer

@@ -1,8 +1,0 @@
-use Rattle.std.proofs.Common.{◌≡◌, ◌*ℤ◌}
-use Rattle.integer_algebra.specs.Sums.{total}
-use Rattle.mat_int.specs.Matrix.{entry_of}
-use Rattle.real_error.specs.Gains.{gain_at}
-use Rattle.real_error.proofs.gains.Gains.product.Given as goal
-
-abbrev pub invariant-loop-l : goal.invariant-loop-l
-invariant-loop-l l = l.sum ≡ total l.l (λ k. entry_of l.self.c.now.hess l.j k *ℤ gain_at l.self.p_mat.now l.self.t.now l.self.w_mat.now l.i k)

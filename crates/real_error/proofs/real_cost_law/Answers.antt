@@ -1,5 +1,0 @@
-use Rattle.real_error.proofs.RealCosts as laws
-use Rattle.real_error.proofs.real_cost_law.Goals as goal
-
-pub returns : goal.returns
-returns c = laws.cost
