@@ -3,7 +3,7 @@ use Rattle.std.proofs.Common.{◌≡◌, ◌⊎◌, inl, inr, ℕ, Ok, Err, refl
 use Rattle.controller_text.specs.declared.bad_controller.BadController.{BadController}
 use Rattle.controller_text.specs.declared.bad_controller.BadController.TheVariants.{Line, Unsafe, Memory}
 use Rattle.command_files.specs.Texts.{IsFaultBy}
-use Rattle.command_files.proofs.Readers.{AreSame}
+use Rattle.command_design_files.proofs.Readers.{AreSame}
 
 module _ {D : Type 0} (IsBad : ℕ → Type 0) (IsWide : Type 0) where
   -- the fault is that of the bytes

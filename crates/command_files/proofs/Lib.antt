@@ -1,6 +1,4 @@
--- designs by their numbers, and files that are read and judged
-pub use Rattle.policy_file.proofs.Designs
-pub mod Readers
+-- what a reader of controllers says of a fault
 pub mod Controllers
 -- a command that a file ends
 pub mod Stopping

@@ -12,7 +12,8 @@ use Rattle.command_line.specs.declared.status.Status.{Status}
 use Rattle.command_line.specs.declared.status.Status.TheVariants.{Done, Memory, ReadFault, WriteFault}
 use Rattle.command_files.specs.Texts.{StatesRight, StatesWrong}
 use Rattle.command_files.specs.Reading.{ReadsStates, AreStatesRead, EndsStates}
-use Rattle.command_files.proofs.Stopping.{IsRefusal, why_refused, not_done, no_write, its_fault, states_refused}
+use Rattle.command_design_files.proofs.Stopping.{IsRefusal, why_refused, not_done, no_write, its_fault}
+use Rattle.command_files.proofs.Stopping.{states_refused}
 
 -- how the first file is read, how many numbers a state has, what the two call for, which is one answer with a cause, and when a print may have failed
 pub record TwoFiles (X : Type 0) : Type 1 where

@@ -1,43 +1,39 @@
--- How one file is read.
-use Rattle.std.specs.Prelude.{ℕ, List, Option}
+-- How one file is read, of all but designs and policies.
+use Rattle.std.specs.Prelude.{ℕ, ℤ, List, Option}
 use Rattle.io_edge.specs.Faults.{Files}
 use Rattle.mat_int.specs.Matrix.{Matrix}
 use Rattle.qp_model.specs.problem.Design.{Design}
 use Rattle.qp_model.specs.problem.Policy.{Plans}
-use Rattle.qp_model.specs.problem.Parts.{design_numbers}
 use Rattle.qp_model.specs.machine.Controller.{Numbers}
-use Rattle.qp_model.specs.declared.design_parts.DesignParts.{DesignParts}
-use Rattle.command_line.specs.Limit.{file_limit}
+use Rattle.stay_check.specs.FaceForms.{FaceNumbers}
+use Rattle.command_line.specs.Limit.{file_limit, cells_limit}
 use Rattle.command_line.specs.Answers.{ReadsThen, IsRightFor, EndsReading}
 use Rattle.command_line.specs.declared.status.Status.{Status}
-use Rattle.command_files.specs.Texts.{DesignRight, DesignWrong, PolicyRight, PolicyWrong, StatesRight, StatesWrong, ControllerRight, ControllerWrong}
+use Rattle.command_files.specs.Texts.{StatesRight, StatesWrong, ControllerRight, ControllerWrong, FacesRight, FacesWrong, RangeRight, RangeWrong, CutsRight, CutsWrong, CellPoliciesRight, CellPoliciesWrong, CellsRight, CellsWrong, ShiftsRight, ShiftsWrong}
 
 -- ---- what comes after a file, in what a command is called to answer
-abbrev pub ReadsDesign : ℕ → Option (List ℕ) → (DesignParts → Status → Type 0) → Status → Type 0
-ReadsDesign file content After = ReadsThen file_limit file (DesignWrong file) DesignRight content After
-
-abbrev pub ReadsPolicy : Design → ℕ → Option (List ℕ) → (Plans → Status → Type 0) → Status → Type 0
-ReadsPolicy d file content After = ReadsThen file_limit file (PolicyWrong d file) (PolicyRight d) content After
-
 abbrev pub ReadsController : ℕ → Option (List ℕ) → (Numbers → Status → Type 0) → Status → Type 0
 ReadsController file content After = ReadsThen file_limit file (ControllerWrong file) ControllerRight content After
 
 abbrev pub ReadsStates : ℕ → ℕ → Option (List ℕ) → (Matrix → Status → Type 0) → Status → Type 0
 ReadsStates n file content After = ReadsThen file_limit file (StatesWrong n file) (StatesRight n) content After
 
--- ---- what a reader answers; a design is known by its numbers
-abbrev pub IsDesignRead : ℕ → Option Files → (name : List ℕ) → DesignParts → Type 0
-IsDesignRead file held name p = IsRightFor file_limit file (DesignWrong file) DesignRight design_numbers held name p
+abbrev pub ReadsFaces : Design → ℕ → Option (List ℕ) → (FaceNumbers → Status → Type 0) → Status → Type 0
+ReadsFaces d file content After = ReadsThen file_limit file (FacesWrong d file) (FacesRight d) content After
 
-abbrev pub EndsDesign : ℕ → Option Files → (name : List ℕ) → (before now : ℕ) → Status → Type 0
-EndsDesign file held name before now s = EndsReading file_limit file (DesignWrong file) DesignRight held name before now s
+abbrev pub ReadsRange : ℕ → ℕ → Option (List ℕ) → (Matrix → Status → Type 0) → Status → Type 0
+ReadsRange n file content After = ReadsThen file_limit file (RangeWrong n file) (RangeRight n) content After
 
-abbrev pub IsPolicyRead : Design → ℕ → Option Files → (name : List ℕ) → Plans → Type 0
-IsPolicyRead d file held name plans = IsRightFor file_limit file (PolicyWrong d file) (PolicyRight d) (λ x. x) held name plans
+abbrev pub ReadsCuts : Design → ℕ → Option (List ℕ) → (List (List ℤ) → Status → Type 0) → Status → Type 0
+ReadsCuts d file content After = ReadsThen file_limit file (CutsWrong d file) (CutsRight d) content After
 
-abbrev pub EndsPolicy : Design → ℕ → Option Files → (name : List ℕ) → (before now : ℕ) → Status → Type 0
-EndsPolicy d file held name before now s = EndsReading file_limit file (PolicyWrong d file) (PolicyRight d) held name before now s
+abbrev pub ReadsCellPolicies : Design → (cells file : ℕ) → Option (List ℕ) → (List Plans → Status → Type 0) → Status → Type 0
+ReadsCellPolicies d cells file content After = ReadsThen file_limit file (CellPoliciesWrong d cells file) (CellPoliciesRight d cells) content After
 
+abbrev pub ReadsCells : ℕ → Option (List ℕ) → (List Numbers → Status → Type 0) → Status → Type 0
+ReadsCells file content After = ReadsThen cells_limit file (CellsWrong file) CellsRight content After
+
+-- ---- what a reader answers
 abbrev pub IsControllerRead : ℕ → Option Files → (name : List ℕ) → Numbers → Type 0
 IsControllerRead file held name c = IsRightFor file_limit file (ControllerWrong file) ControllerRight (λ x. x) held name c
 
@@ -49,3 +45,43 @@ AreStatesRead n file held name states = IsRightFor file_limit file (StatesWrong 
 
 abbrev pub EndsStates : ℕ → ℕ → Option Files → (name : List ℕ) → (before now : ℕ) → Status → Type 0
 EndsStates n file held name before now s = EndsReading file_limit file (StatesWrong n file) (StatesRight n) held name before now s
+
+abbrev pub AreFacesRead : Design → ℕ → Option Files → (name : List ℕ) → FaceNumbers → Type 0
+AreFacesRead d file held name faces = IsRightFor file_limit file (FacesWrong d file) (FacesRight d) (λ x. x) held name faces
+
+abbrev pub EndsFaces : Design → ℕ → Option Files → (name : List ℕ) → (before now : ℕ) → Status → Type 0
+EndsFaces d file held name before now s = EndsReading file_limit file (FacesWrong d file) (FacesRight d) held name before now s
+
+abbrev pub IsRangeRead : ℕ → ℕ → Option Files → (name : List ℕ) → Matrix → Type 0
+IsRangeRead n file held name range = IsRightFor file_limit file (RangeWrong n file) (RangeRight n) (λ x. x) held name range
+
+abbrev pub EndsRange : ℕ → ℕ → Option Files → (name : List ℕ) → (before now : ℕ) → Status → Type 0
+EndsRange n file held name before now s = EndsReading file_limit file (RangeWrong n file) (RangeRight n) held name before now s
+
+abbrev pub AreCutListsRead : Design → ℕ → Option Files → (name : List ℕ) → List (List ℤ) → Type 0
+AreCutListsRead d file held name cuts = IsRightFor file_limit file (CutsWrong d file) (CutsRight d) (λ x. x) held name cuts
+
+abbrev pub EndsCuts : Design → ℕ → Option Files → (name : List ℕ) → (before now : ℕ) → Status → Type 0
+EndsCuts d file held name before now s = EndsReading file_limit file (CutsWrong d file) (CutsRight d) held name before now s
+
+abbrev pub AreCellPoliciesRead : Design → (cells file : ℕ) → Option Files → (name : List ℕ) → List Plans → Type 0
+AreCellPoliciesRead d cells file held name policies = IsRightFor file_limit file (CellPoliciesWrong d cells file) (CellPoliciesRight d cells) (λ x. x) held name policies
+
+abbrev pub EndsCellPolicies : Design → (cells file : ℕ) → Option Files → (name : List ℕ) → (before now : ℕ) → Status → Type 0
+EndsCellPolicies d cells file held name before now s = EndsReading file_limit file (CellPoliciesWrong d cells file) (CellPoliciesRight d cells) held name before now s
+
+abbrev pub AreCellsRead : ℕ → Option Files → (name : List ℕ) → List Numbers → Type 0
+AreCellsRead file held name cells = IsRightFor cells_limit file (CellsWrong file) CellsRight (λ x. x) held name cells
+
+abbrev pub EndsCells : ℕ → Option Files → (name : List ℕ) → (before now : ℕ) → Status → Type 0
+EndsCells file held name before now s = EndsReading cells_limit file (CellsWrong file) CellsRight held name before now s
+
+-- ---- the shifts of n coordinates after each of so many turns
+abbrev pub ReadsTurnShifts : (n turns file : ℕ) → Option (List ℕ) → (Matrix → Status → Type 0) → Status → Type 0
+ReadsTurnShifts n turns file content After = ReadsThen file_limit file (ShiftsWrong n turns file) (ShiftsRight n turns) content After
+
+abbrev pub AreTurnShiftsRead : (n turns file : ℕ) → Option Files → (name : List ℕ) → Matrix → Type 0
+AreTurnShiftsRead n turns file held name shifts = IsRightFor file_limit file (ShiftsWrong n turns file) (ShiftsRight n turns) (λ x. x) held name shifts
+
+abbrev pub EndsTurnShifts : (n turns file : ℕ) → Option Files → (name : List ℕ) → (before now : ℕ) → Status → Type 0
+EndsTurnShifts n turns file held name before now s = EndsReading file_limit file (ShiftsWrong n turns file) (ShiftsRight n turns) held name before now s

@@ -1,39 +1,25 @@
--- Which bytes are the text of what, and with which status others are refused.
-use Rattle.std.specs.Prelude.{◌≡◌, ◌≢◌, ℕ, List}
+-- Which bytes are the text of what, of all files but designs and policies, and with which status others are refused.
+use Rattle.std.specs.Prelude.{◌≡◌, ℕ, ℤ, List}
 use Rattle.mat_int.specs.Matrix.{Matrix}
 use Rattle.qp_model.specs.problem.Design.{Design}
 use Rattle.qp_model.specs.problem.Policy.{Plans}
 use Rattle.qp_model.specs.machine.Controller.{Numbers}
-use Rattle.qp_model.specs.text.ControllerText.{IsControllerText}
-use Rattle.qp_model.specs.declared.design_parts.DesignParts.{DesignParts}
 use Rattle.number_text.specs.declared.text_fault.TextFault.{TextFault}
-use Rattle.number_text.specs.declared.text_fault.TextFault.TheVariants.{Memory as no_memory}
-use Rattle.controller_file.specs.FirstLine.{IsBadLine, IsUnsafe}
+use Rattle.qp_model.specs.text.ControllerText.{IsControllerText}
 use Rattle.controller_text.specs.declared.bad_controller.BadController.{BadController}
 use Rattle.controller_text.specs.declared.bad_controller.BadController.TheVariants.{Line, Unsafe, Memory}
-use Rattle.design_files.specs.DesignText.{IsDesignText, IsDesignFault}
-use Rattle.policy_file.specs.PolicyText.{IsPolicyText, IsPolicyFault}
+use Rattle.controller_file.specs.FirstLine.{IsBadLine, IsUnsafe}
 use Rattle.policy_file.specs.StatesText.{IsStatesText, IsStatesFault}
+use Rattle.cell_file.specs.Text.{IsCellsText, IsBadCellsLine, AreUnsafe}
+use Rattle.stay_check.specs.FaceForms.{FaceNumbers}
+use Rattle.stay_check.specs.FacesText.{IsFacesText, IsFacesTextFault}
+use Rattle.cell_split.specs.CutsText.{IsCutsText, IsCutsTextFault}
+use Rattle.cell_split.specs.PoliciesText.{ArePolicies, IsPoliciesFault}
+use Rattle.shift_file.specs.RangeText.{IsRangeText, IsRangeFault}
+use Rattle.shift_file.specs.TurnText.{IsShiftsText, IsShiftsFault}
 use Rattle.command_line.specs.declared.status.Status.{Status}
-use Rattle.command_line.specs.declared.status.Status.TheVariants.{Text, Controller}
-
--- the status tells of a text's first fault, which is never that memory ran out, in the file at a position
-abbrev pub TellsFault : ℕ → TextFault → Status → Type 0
-TellsFault file fault s = (fault ≢ no_memory) × (s ≡ Text file fault)
-
--- ---- designs
-abbrev pub DesignRight : DesignParts → List ℕ → Type 0
-DesignRight p bytes = IsDesignText bytes p
-
-abbrev pub DesignWrong : ℕ → List ℕ → Status → Type 0
-DesignWrong file bytes s = (fault : TextFault) × IsDesignFault bytes fault × TellsFault file fault s
-
--- ---- policies for a design
-abbrev pub PolicyRight : Design → Plans → List ℕ → Type 0
-PolicyRight d plans bytes = IsPolicyText bytes d plans
-
-abbrev pub PolicyWrong : Design → ℕ → List ℕ → Status → Type 0
-PolicyWrong d file bytes s = (fault : TextFault) × IsPolicyFault bytes d fault × TellsFault file fault s
+use Rattle.command_line.specs.declared.status.Status.TheVariants.{Controller}
+use Rattle.command_design_files.specs.Texts.{TellsFault}
 
 -- ---- states of n numbers each
 abbrev pub StatesRight : ℕ → Matrix → List ℕ → Type 0
@@ -58,3 +44,49 @@ IsControllerFault bytes fault = IsFaultBy (IsBadLine bytes) (IsUnsafe bytes) fau
 
 abbrev pub ControllerWrong : ℕ → List ℕ → Status → Type 0
 ControllerWrong file bytes s = (fault : BadController) × IsControllerFault bytes fault × (s ≡ Controller file fault)
+
+-- ---- faces for a design
+abbrev pub FacesRight : Design → FaceNumbers → List ℕ → Type 0
+FacesRight d faces bytes = IsFacesText bytes d faces
+
+abbrev pub FacesWrong : Design → ℕ → List ℕ → Status → Type 0
+FacesWrong d file bytes s = (fault : TextFault) × IsFacesTextFault bytes d fault × TellsFault file fault s
+
+-- ---- a range of the shifts of n coordinates
+abbrev pub RangeRight : ℕ → Matrix → List ℕ → Type 0
+RangeRight n range bytes = IsRangeText bytes n range
+
+abbrev pub RangeWrong : ℕ → ℕ → List ℕ → Status → Type 0
+RangeWrong n file bytes s = (fault : TextFault) × IsRangeFault bytes n fault × TellsFault file fault s
+
+-- ---- cuts of a design's box
+abbrev pub CutsRight : Design → List (List ℤ) → List ℕ → Type 0
+CutsRight d cuts bytes = IsCutsText bytes d cuts
+
+abbrev pub CutsWrong : Design → ℕ → List ℕ → Status → Type 0
+CutsWrong d file bytes s = (fault : TextFault) × IsCutsTextFault bytes d fault × TellsFault file fault s
+
+-- ---- the policies of so many cells of a design's box
+abbrev pub CellPoliciesRight : Design → (cells : ℕ) → List Plans → List ℕ → Type 0
+CellPoliciesRight d cells policies bytes = ArePolicies bytes d cells policies
+
+abbrev pub CellPoliciesWrong : Design → (cells file : ℕ) → List ℕ → Status → Type 0
+CellPoliciesWrong d cells file bytes s = (fault : TextFault) × IsPoliciesFault bytes d cells fault × TellsFault file fault s
+
+-- ---- cells
+abbrev pub CellsRight : List Numbers → List ℕ → Type 0
+CellsRight cells bytes = IsCellsText bytes cells
+
+-- why bytes are no text of cells
+abbrev pub IsCellsTextFault : List ℕ → BadController → Type 0
+IsCellsTextFault bytes fault = IsFaultBy (IsBadCellsLine bytes) (AreUnsafe bytes) fault
+
+abbrev pub CellsWrong : ℕ → List ℕ → Status → Type 0
+CellsWrong file bytes s = (fault : BadController) × IsCellsTextFault bytes fault × (s ≡ Controller file fault)
+
+-- ---- shifts of n coordinates after each of so many turns
+abbrev pub ShiftsRight : (n turns : ℕ) → Matrix → List ℕ → Type 0
+ShiftsRight n turns shifts bytes = IsShiftsText bytes n turns shifts
+
+abbrev pub ShiftsWrong : (n turns file : ℕ) → List ℕ → Status → Type 0
+ShiftsWrong n turns file bytes s = (fault : TextFault) × IsShiftsFault bytes n turns fault × TellsFault file fault s

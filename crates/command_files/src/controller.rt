@@ -3,8 +3,7 @@ ghost use Rattle.std.specs.Prelude.{◌≡◌, IfOk, IfErr};
 ghost use Rattle.io_edge.specs.Faults.{NoneFalls};
 ghost use Rattle.command_files.specs.Reading.{IsControllerRead, EndsController};
 
-use crate::bytes::{FILE_LIMIT, read_bytes};
-use crate::statuses::controller_status;
+use command_design_files::{FILE_LIMIT, controller_status, read_bytes};
 use command_line::Status;
 use controller_file::read_controller;
 use io_edge::Store;

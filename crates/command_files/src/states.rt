@@ -3,8 +3,7 @@ ghost use Rattle.std.specs.Prelude.{◌≡◌, ◌<◌, ◌^◌, length, IfOk, I
 ghost use Rattle.io_edge.specs.Faults.{NoneFalls};
 ghost use Rattle.command_files.specs.Reading.{AreStatesRead, EndsStates};
 
-use crate::bytes::{FILE_LIMIT, read_bytes};
-use crate::statuses::text_status;
+use command_design_files::{FILE_LIMIT, read_bytes, text_status};
 use command_line::Status;
 use io_edge::Store;
 use packed_rows::PackedRows;

@@ -6,8 +6,8 @@ use Rattle.number_text.specs.declared.text_fault.TextFault.{TextFault}
 use Rattle.command_line.specs.Limit.{file_limit}
 use Rattle.command_line.specs.Answers.{IsFileRefused, EndsReading}
 use Rattle.command_line.proofs.Counts.{rose_later}
-use Rattle.command_files.specs.Texts.{DesignRight, DesignWrong, PolicyRight, PolicyWrong}
-use Rattle.command_files.specs.Reading.{EndsDesign, EndsPolicy}
+use Rattle.command_design_files.specs.Texts.{DesignRight, DesignWrong, PolicyRight, PolicyWrong}
+use Rattle.command_design_files.specs.Reading.{EndsDesign, EndsPolicy}
 use Rattle.command_line.specs.declared.status.Status.{Status}
 use Rattle.command_line.specs.declared.status.Status.TheVariants.{Done, Memory, ReadFault, WriteFault, Text, Long}
 

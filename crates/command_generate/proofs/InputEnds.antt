@@ -9,9 +9,9 @@ use Rattle.command_line.specs.Words.{word_of}
 use Rattle.command_line.specs.Limit.{file_limit}
 use Rattle.command_line.specs.Answers.{IsTold, ForContents, FileHolds, IsFileRefused, IsAnswer, IsCaused}
 use Rattle.command_line.proofs.Composing.{stop, go_on, go_on_whole, for_contents, some_contents, told_at, told}
-use Rattle.command_files.specs.Texts.{DesignRight, DesignWrong, PolicyRight, PolicyWrong}
-use Rattle.command_files.specs.Reading.{ReadsPolicy, IsDesignRead, EndsDesign, EndsPolicy}
-use Rattle.command_files.proofs.Designs.{same_design}
+use Rattle.command_design_files.specs.Texts.{DesignRight, DesignWrong, PolicyRight, PolicyWrong}
+use Rattle.command_design_files.specs.Reading.{ReadsPolicy, IsDesignRead, EndsDesign, EndsPolicy}
+use Rattle.command_design_files.proofs.Designs.{same_design}
 use Rattle.command_generate.specs.Made.{MakingCalls}
 use Rattle.command_generate.specs.Generate.{GenerateCalls, GenerateReaches}
 use Rattle.command_generate.specs.Inputs.{AreInputsRead, EndsInputs}

@@ -6,7 +6,7 @@ use Rattle.qp_model.specs.problem.Parts.{DesignNumbers, design_numbers, design_o
 use Rattle.qp_model.specs.declared.design_parts.DesignParts.{DesignParts}
 use Rattle.design_engine.specs.Targets.{Targets, targets_of}
 use Rattle.design_engine.specs.Refusals.{HasCause, PassesAll}
-use Rattle.command_files.proofs.Designs.{same_design}
+use Rattle.command_design_files.proofs.Designs.{same_design}
 use Rattle.command_generate.specs.Made.{MakingCalls}
 use Rattle.command_line.specs.declared.status.Status.{Status}
 

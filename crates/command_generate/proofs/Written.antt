@@ -9,7 +9,7 @@ use Rattle.qp_model.specs.bounds.Printed.{Printed}
 use Rattle.command_line.specs.Words.{word_of, IsGenerate}
 use Rattle.command_line.specs.Limit.{file_limit}
 use Rattle.command_line.specs.Answers.{FileHolds}
-use Rattle.command_files.specs.Texts.{DesignRight, PolicyRight}
+use Rattle.command_design_files.specs.Texts.{DesignRight, PolicyRight}
 use Rattle.command_generate.specs.Made.{IsMadeOf}
 use Rattle.command_generate.specs.Inputs.{AreInputsRead}
 use Rattle.command_generate.specs.Writing.{AreTextsFor, AreTextsFrom, AreWritten, IsSecondCut, IsAnswered}

@@ -13,8 +13,8 @@ use Rattle.design_engine.specs.Built.{IsBuilt}
 use Rattle.command_line.specs.Words.{word_of}
 use Rattle.command_line.specs.Limit.{file_limit}
 use Rattle.command_line.specs.Answers.{FileHolds}
-use Rattle.command_files.specs.Texts.{DesignRight, PolicyRight}
-use Rattle.command_files.specs.Reading.{ReadsDesign, ReadsPolicy}
+use Rattle.command_design_files.specs.Texts.{DesignRight, PolicyRight}
+use Rattle.command_design_files.specs.Reading.{ReadsDesign, ReadsPolicy}
 use Rattle.command_generate.specs.Made.{MakingCalls, IsReport}
 use Rattle.command_line.specs.declared.status.Status.{Status}
 

@@ -6,7 +6,7 @@ use Rattle.qp_model.specs.problem.Policy.{Plans}
 use Rattle.qp_model.specs.declared.design_parts.DesignParts.{DesignParts}
 use Rattle.command_line.specs.Words.{word_of}
 use Rattle.command_line.specs.declared.status.Status.{Status}
-use Rattle.command_files.specs.Reading.{IsDesignRead, EndsDesign, IsPolicyRead, EndsPolicy}
+use Rattle.command_design_files.specs.Reading.{IsDesignRead, EndsDesign, IsPolicyRead, EndsPolicy}
 
 -- the first two files hold this design and this policy
 pub record AreInputsRead (words : List (List ℕ)) (held : Option Files) (p : DesignParts) (plans : Plans) : Type 0 where

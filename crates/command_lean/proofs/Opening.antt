@@ -10,9 +10,9 @@ use Rattle.command_line.specs.Limit.{file_limit}
 use Rattle.command_line.specs.Answers.{Contents, FileHolds, IsFileRefused, IsAnswer}
 use Rattle.command_line.proofs.Composing.{told_at, told, for_contents, some_contents, stop, go_on, go_on_whole}
 use Rattle.command_line.specs.declared.status.Status.{Status}
-use Rattle.command_files.specs.Texts.{DesignRight, DesignWrong, PolicyRight, PolicyWrong}
-use Rattle.command_files.specs.Reading.{ReadsPolicy, IsDesignRead, EndsDesign, IsPolicyRead, EndsPolicy}
-use Rattle.command_files.proofs.Designs.{same_design}
+use Rattle.command_design_files.specs.Texts.{DesignRight, DesignWrong, PolicyRight, PolicyWrong}
+use Rattle.command_design_files.specs.Reading.{ReadsPolicy, IsDesignRead, EndsDesign, IsPolicyRead, EndsPolicy}
+use Rattle.command_design_files.proofs.Designs.{same_design}
 use Rattle.command_generate.specs.Generate.{HoldsInputs}
 use Rattle.command_lean.specs.Made.{LeanMakingCalls}
 use Rattle.command_lean.specs.Lean.{LeanCalls, LeanReaches}

@@ -5,7 +5,7 @@ use Rattle.qp_model.specs.problem.Parts.{design_of}
 use Rattle.command_line.specs.Words.{word_of, IsLean}
 use Rattle.command_line.specs.Limit.{file_limit}
 use Rattle.command_line.specs.Answers.{FileHolds}
-use Rattle.command_files.specs.Texts.{PolicyRight}
+use Rattle.command_design_files.specs.Texts.{PolicyRight}
 use Rattle.command_generate.specs.Writing.{AreWritten, IsSecondCut}
 use Rattle.command_generate.proofs.TwoTexts.{MakesTwo, first_stands, kept_or_front}
 use Rattle.command_generate.proofs.Written.{inputs_of}

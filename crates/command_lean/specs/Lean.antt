@@ -10,8 +10,8 @@ use Rattle.qp_model.specs.bounds.Printed.{Printed}
 use Rattle.command_line.specs.Words.{word_of}
 use Rattle.command_line.specs.Limit.{file_limit}
 use Rattle.command_line.specs.Answers.{FileHolds}
-use Rattle.command_files.specs.Texts.{DesignRight, PolicyRight}
-use Rattle.command_files.specs.Reading.{ReadsDesign, ReadsPolicy}
+use Rattle.command_design_files.specs.Texts.{DesignRight, PolicyRight}
+use Rattle.command_design_files.specs.Reading.{ReadsDesign, ReadsPolicy}
 use Rattle.command_generate.specs.Made.{IsReport}
 use Rattle.command_generate.specs.Generate.{HoldsInputs}
 use Rattle.command_lean.specs.Made.{LeanMakingCalls, IsLeanMadeOf}

@@ -11,7 +11,7 @@ use Rattle.command_line.specs.Words.{word_of}
 use Rattle.command_line.specs.Answers.{Contents, ForContents, IsAnswer}
 use Rattle.command_line.specs.declared.status.Status.{Status}
 use Rattle.command_line.specs.declared.status.Status.TheVariants.{Done, Memory}
-use Rattle.command_files.specs.Reading.{IsDesignRead, IsPolicyRead, EndsPolicy}
+use Rattle.command_design_files.specs.Reading.{IsDesignRead, IsPolicyRead, EndsPolicy}
 use Rattle.command_generate.specs.Inputs.{AreInputsRead, EndsInputs}
 use Rattle.command_generate.specs.Ending.{IsFaultless, EndsUnwritten}
 use Rattle.command_generate.specs.Made.{IsReport}

@@ -5,7 +5,7 @@ ghost use Rattle.qp_model.specs.problem.Parts.{design_of};
 ghost use Rattle.qp_model.specs.problem.Policy.{plans_of, IsPolicyFor};
 ghost use Rattle.command_lean.specs.Reading.{AreLeanInputsRead, EndsLeanInputs};
 
-use command_files::read_policy_file;
+use command_design_files::read_policy_file;
 use command_generate::{DesignWithPolicy, read_inputs};
 use command_line::Status;
 use io_edge::{Store, Words};

@@ -14,11 +14,11 @@ use Rattle.command_line.specs.Limit.{file_limit}
 use Rattle.command_line.specs.Answers.{Contents, IsTold, ForContents, FileHolds, IsFileRefused, IsAnswer}
 use Rattle.command_line.proofs.Composing.{told_at, told, told_contents, all_told, replace, replaced_told, some_contents, stop, go_on, go_on_whole}
 use Rattle.command_line.specs.declared.status.Status.{Status}
-use Rattle.command_stay.specs.Files.Texts.{DesignRight, DesignWrong, PolicyRight, PolicyWrong}
-use Rattle.command_stay.specs.BoxFiles.Texts.{FacesRight, FacesWrong, RangeRight, RangeWrong}
-use Rattle.command_stay.specs.Files.Reading.{ReadsPolicy, IsDesignRead, EndsDesign, IsPolicyRead, EndsPolicy}
-use Rattle.command_stay.specs.BoxFiles.Reading.{ReadsFaces, AreFacesRead, EndsFaces}
-use Rattle.command_stay.proofs.Files.Designs.{same_design}
+use Rattle.command_stay.specs.DesignFiles.Texts.{DesignRight, DesignWrong, PolicyRight, PolicyWrong}
+use Rattle.command_stay.specs.Files.Texts.{FacesRight, FacesWrong, RangeRight, RangeWrong}
+use Rattle.command_stay.specs.DesignFiles.Reading.{ReadsPolicy, IsDesignRead, EndsDesign, IsPolicyRead, EndsPolicy}
+use Rattle.command_stay.specs.Files.Reading.{ReadsFaces, AreFacesRead, EndsFaces}
+use Rattle.command_stay.proofs.DesignFiles.Designs.{same_design}
 use Rattle.command_stay.proofs.Generating.SameDesign.{along}
 use Rattle.command_stay.specs.Generating.Generate.{HoldsInputs}
 use Rattle.command_stay.specs.Stay.{FacesCall, ReadsShifts}

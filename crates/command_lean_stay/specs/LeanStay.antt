@@ -13,10 +13,10 @@ use Rattle.command_stay.specs.Generating.Engine.Targets.{targets_of}
 use Rattle.command_line.specs.Limit.{file_limit}
 use Rattle.command_line.specs.Answers.{Contents, FileHolds}
 use Rattle.command_line.specs.declared.status.Status.{Status}
-use Rattle.command_stay.specs.Files.Texts.{DesignRight, PolicyRight}
-use Rattle.command_stay.specs.BoxFiles.Texts.{FacesRight}
-use Rattle.command_stay.specs.Files.Reading.{ReadsDesign, ReadsPolicy}
-use Rattle.command_stay.specs.BoxFiles.Reading.{ReadsFaces}
+use Rattle.command_stay.specs.DesignFiles.Texts.{DesignRight, PolicyRight}
+use Rattle.command_stay.specs.Files.Texts.{FacesRight}
+use Rattle.command_stay.specs.DesignFiles.Reading.{ReadsDesign, ReadsPolicy}
+use Rattle.command_stay.specs.Files.Reading.{ReadsFaces}
 use Rattle.command_stay.specs.Generating.Generate.{HoldsInputs}
 use Rattle.command_stay.specs.Stay.{FacedCalls, ReadsShifts, IsRangeIn, KeepsLoops}
 use Rattle.command_lean.specs.Made.{IsLeanRefusedBy}

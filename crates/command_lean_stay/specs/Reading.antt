@@ -10,7 +10,7 @@ use Rattle.command_line.specs.Words.{word_of}
 use Rattle.command_line.specs.Answers.{ForContents, IsAnswer}
 use Rattle.command_line.specs.declared.status.Status.{Status}
 use Rattle.command_line.specs.declared.status.Status.TheVariants.{Done, Memory}
-use Rattle.command_stay.specs.BoxFiles.Reading.{AreFacesRead}
+use Rattle.command_stay.specs.Files.Reading.{AreFacesRead}
 use Rattle.command_stay.specs.Stay.{KeepsLoops}
 use Rattle.command_stay.specs.Generating.Ending.{IsFaultless, EndsUnwritten}
 use Rattle.command_stay.specs.Reading.{IsRangeTaken}

@@ -14,7 +14,8 @@ use Rattle.command_line.specs.declared.status.Status.{Status}
 use Rattle.command_line.specs.declared.status.Status.TheVariants.{Done, Memory, ReadFault, WriteFault}
 use Rattle.command_files.specs.Texts.{ControllerRight, ControllerWrong}
 use Rattle.command_files.specs.Reading.{IsControllerRead, EndsController}
-use Rattle.command_files.proofs.Stopping.{why_refused, not_done, no_write, its_fault, controller_refused}
+use Rattle.command_design_files.proofs.Stopping.{why_refused, not_done, no_write, its_fault}
+use Rattle.command_files.proofs.Stopping.{controller_refused}
 use Rattle.command_list.specs.Listed.{ListCalls, IsListingFrom, IsListed, IsListingCut}
 
 -- ---- the file ends it

@@ -16,10 +16,12 @@ use Rattle.command_line.specs.Answers.{Contents, IsTold, ForContents, IsAnswer}
 use Rattle.command_line.proofs.Composing.{told_at, told, told_contents, all_told, replace, replaced_told, some_contents, stop, go_on, go_on_whole}
 use Rattle.command_line.proofs.Counts.{rose_later, none_falls_twice}
 use Rattle.command_line.specs.declared.status.Status.{Status}
-use Rattle.command_files.specs.Texts.{DesignRight, DesignWrong, ControllerRight, ControllerWrong, StatesRight, StatesWrong}
-use Rattle.command_box_files.specs.Texts.{ShiftsRight, ShiftsWrong}
-use Rattle.command_files.specs.Reading.{ReadsController, ReadsStates, IsDesignRead, EndsDesign, IsControllerRead, AreStatesRead, EndsStates}
-use Rattle.command_files.proofs.Designs.{same_design}
+use Rattle.command_design_files.specs.Texts.{DesignRight, DesignWrong}
+use Rattle.command_files.specs.Texts.{ControllerRight, ControllerWrong, StatesRight, StatesWrong}
+use Rattle.command_files.specs.Texts.{ShiftsRight, ShiftsWrong}
+use Rattle.command_design_files.specs.Reading.{IsDesignRead, EndsDesign}
+use Rattle.command_files.specs.Reading.{ReadsController, ReadsStates, IsControllerRead, AreStatesRead, EndsStates}
+use Rattle.command_design_files.proofs.Designs.{same_design}
 use Rattle.command_loop.specs.Loop.{IsMismatch, LoopsCall, ReadsLoopShifts, LoopCalls, LoopReaches, HoldsLoopShifts, course_of}
 use Rattle.command_loop.specs.Files.{EndsMatching, AreShiftsTaken, EndsTakingShifts, EndsStarts, IsLoopRefused, EndsLoops}
 use Rattle.command_loop.specs.Printing.{AreRowsFor, AreShiftsFor}

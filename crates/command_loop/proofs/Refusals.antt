@@ -9,8 +9,9 @@ use Rattle.command_line.specs.Answers.{IsFileRefused}
 use Rattle.command_line.specs.declared.status.Field.{Field}
 use Rattle.command_line.specs.declared.status.Status.{Status}
 use Rattle.command_line.specs.declared.status.Status.TheVariants.{Done, Memory, ReadFault, WriteFault, Text, Controller, Long, Mismatch}
-use Rattle.command_files.specs.Texts.{DesignWrong, ControllerWrong, StatesWrong}
-use Rattle.command_box_files.specs.Texts.{ShiftsWrong}
+use Rattle.command_design_files.specs.Texts.{DesignWrong}
+use Rattle.command_files.specs.Texts.{ControllerWrong, StatesWrong}
+use Rattle.command_files.specs.Texts.{ShiftsWrong}
 use Rattle.command_loop.specs.Loop.{IsMismatch, TellsLeaving}
 
 -- neither done, nor out of memory, nor a fault, nor of a state that a loop met

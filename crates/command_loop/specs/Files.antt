@@ -11,8 +11,9 @@ use Rattle.command_line.specs.Words.{word_of}
 use Rattle.command_line.specs.Limit.{file_limit}
 use Rattle.command_line.specs.Answers.{ForContents, IsAnswer, IsWrongBy}
 use Rattle.command_files.specs.Texts.{ControllerRight, ControllerWrong}
-use Rattle.command_files.specs.Reading.{IsDesignRead, IsControllerRead, AreStatesRead, EndsStates}
-use Rattle.command_box_files.specs.Reading.{AreTurnShiftsRead, EndsTurnShifts}
+use Rattle.command_design_files.specs.Reading.{IsDesignRead}
+use Rattle.command_files.specs.Reading.{IsControllerRead, AreStatesRead, EndsStates}
+use Rattle.command_files.specs.Reading.{AreTurnShiftsRead, EndsTurnShifts}
 use Rattle.command_loop.specs.Loop.{IsMismatch, LoopCalls, LoopReaches, TellsLeaving}
 use Rattle.command_line.specs.declared.status.Status.{Status}
 use Rattle.command_line.specs.declared.status.Status.TheVariants.{Done, Memory, ReadFault, WriteFault}

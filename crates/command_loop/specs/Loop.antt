@@ -13,10 +13,12 @@ use Rattle.closed_loop.specs.Answers.{LieInside, LeavesAmong}
 use Rattle.closed_loop.specs.Under.{states_under, lines_under}
 use Rattle.command_line.specs.Limit.{file_limit}
 use Rattle.command_line.specs.Answers.{Contents, FileHolds}
-use Rattle.command_files.specs.Texts.{DesignRight, ControllerRight, StatesRight}
-use Rattle.command_box_files.specs.Texts.{ShiftsRight}
-use Rattle.command_files.specs.Reading.{ReadsDesign, ReadsController, ReadsStates}
-use Rattle.command_box_files.specs.Reading.{ReadsTurnShifts}
+use Rattle.command_design_files.specs.Texts.{DesignRight}
+use Rattle.command_files.specs.Texts.{ControllerRight, StatesRight}
+use Rattle.command_files.specs.Texts.{ShiftsRight}
+use Rattle.command_design_files.specs.Reading.{ReadsDesign}
+use Rattle.command_files.specs.Reading.{ReadsController, ReadsStates}
+use Rattle.command_files.specs.Reading.{ReadsTurnShifts}
 use Rattle.command_line.specs.declared.status.Field.TheVariants.{States, Inputs, Grid}
 use Rattle.command_line.specs.declared.status.Status.{Status}
 use Rattle.command_line.specs.declared.status.Status.TheVariants.{Done, Memory, WriteFault, Refused, OutsideBox, Mismatch}

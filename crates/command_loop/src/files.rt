@@ -4,13 +4,15 @@ ghost use Rattle.io_edge.specs.Faults.{NoneFalls};
 ghost use Rattle.qp_model.specs.problem.Parts.{design_of};
 ghost use Rattle.qp_model.specs.machine.Successor.{IsFor};
 ghost use Rattle.command_line.specs.Words.{word_of, IsLoop};
-ghost use Rattle.command_files.specs.Reading.{IsDesignRead, IsControllerRead, AreStatesRead};
+ghost use Rattle.command_design_files.specs.Reading.{IsDesignRead};
+ghost use Rattle.command_files.specs.Reading.{IsControllerRead, AreStatesRead};
 ghost use Rattle.command_loop.specs.Files.{EndsMatching, AreShiftsTaken, EndsStarts, AreRunsRead, EndsLoops};
 ghost use Rattle.command_loop.specs.Printing.{AreShiftsFor};
 
 use crate::mismatch::mismatch_of;
 use crate::shifts::take_shifts;
-use command_files::{read_controller_file, read_design_file, read_states_file};
+use command_design_files::read_design_file;
+use command_files::{read_controller_file, read_states_file};
 use command_line::Status;
 use io_edge::{Store, Words};
 use overflow_check::Controller;

@@ -4,7 +4,7 @@ ghost use Rattle.io_edge.specs.Faults.{NoneFalls};
 ghost use Rattle.command_line.specs.Words.{word_of, IsLoop};
 ghost use Rattle.command_loop.specs.Files.{AreShiftsTaken, EndsTakingShifts};
 
-use command_box_files::read_shifts_file;
+use command_files::read_shifts_file;
 use command_line::Status;
 use io_edge::{Store, Words};
 use packed_rows::PackedRows;

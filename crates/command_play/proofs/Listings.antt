@@ -9,7 +9,7 @@ use Rattle.mac_listing.specs.declared.bad_listing.BadListing.TheVariants.{Line, 
 use Rattle.command_line.specs.Answers.{EndsReading}
 use Rattle.command_line.specs.declared.status.Status.{Status}
 use Rattle.command_line.specs.declared.status.Status.TheVariants.{Memory, Listing}
-use Rattle.command_files.proofs.Readers.{HeldBytes, AreSame, wrong_bytes}
+use Rattle.command_design_files.proofs.Readers.{HeldBytes, AreSame, wrong_bytes}
 use Rattle.command_play.specs.Texts.{ListingRight, ListingWrong}
 
 module _ {D : Type 0} (limit file : ℕ) (held : Option Files) (name bytes : List ℕ) (known : HeldBytes held name bytes) (short : length bytes ≤ limit) where

@@ -11,7 +11,7 @@ use Rattle.command_line.specs.declared.status.Status.{Status}
 use Rattle.command_line.specs.declared.status.Status.TheVariants.{Done, WriteFault}
 use Rattle.command_files.specs.Texts.{StatesWrong}
 use Rattle.command_files.specs.Reading.{AreStatesRead, EndsStates}
-use Rattle.command_files.proofs.Stopping.{IsRefusal, long_refusal}
+use Rattle.command_design_files.proofs.Stopping.{IsRefusal, long_refusal}
 use Rattle.command_files.proofs.TwoFiles.{TwoFiles, unprinted, both_contents, both_print, both_cut}
 use Rattle.command_play.specs.Texts.{ListingRight, ListingWrong, IsListingRead, EndsListing}
 use Rattle.command_play.specs.Plays.{AreInBox, HaveRunRoom, IsTrapped, PlaysCall}

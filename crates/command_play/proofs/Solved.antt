@@ -23,7 +23,7 @@ use Rattle.command_line.specs.declared.status.Status.{Status}
 use Rattle.command_line.specs.declared.status.Status.TheVariants.{Done, WriteFault}
 use Rattle.command_files.specs.Texts.{StatesRight, StatesWrong}
 use Rattle.command_files.specs.Reading.{AreStatesRead, EndsStates}
-use Rattle.command_files.proofs.Stopping.{why_refused}
+use Rattle.command_design_files.proofs.Stopping.{why_refused}
 use Rattle.command_play.specs.Texts.{ListingRight, ListingWrong, IsListingRead, EndsListing}
 use Rattle.command_play.specs.Plays.{AreInBox, HaveRunRoom, run_line, run_lines}
 use Rattle.command_play.specs.Printing.{PlaysEnd, PlaysPrint, ArePart, AreSome}

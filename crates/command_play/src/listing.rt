@@ -3,7 +3,7 @@ ghost use Rattle.std.specs.Prelude.{◌≡◌, ◌≢◌, ◌⊎◌, ℕ, IfOk, 
 ghost use Rattle.io_edge.specs.Faults.{NoneFalls};
 ghost use Rattle.command_play.specs.Texts.{IsListingRead, EndsListing};
 
-use command_files::{FILE_LIMIT, read_bytes};
+use command_design_files::{FILE_LIMIT, read_bytes};
 use command_line::Status;
 use io_edge::Store;
 use mac_listing::{BadListing, Listing, read_listing};

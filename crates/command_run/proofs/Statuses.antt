@@ -17,8 +17,9 @@ use Rattle.design_refusal.specs.declared.refusal.Refusal.TheVariants as refusals
 use Rattle.command_line.specs.Limit.{file_limit, cells_limit}
 use Rattle.command_line.specs.Status.{status_of}
 use Rattle.command_line.specs.Answers.{Contents, ReadsThen, IsAnswer, ForContents, IsCaused}
-use Rattle.command_files.specs.Texts.{TellsFault, DesignRight, DesignWrong, PolicyRight, PolicyWrong, StatesRight, StatesWrong, ControllerRight, ControllerWrong, IsFaultBy}
-use Rattle.command_box_files.specs.Texts.{FacesRight, FacesWrong, RangeRight, RangeWrong, CutsRight, CutsWrong, CellPoliciesRight, CellPoliciesWrong, CellsRight, CellsWrong, ShiftsRight, ShiftsWrong}
+use Rattle.command_design_files.specs.Texts.{TellsFault, DesignRight, DesignWrong, PolicyRight, PolicyWrong}
+use Rattle.command_files.specs.Texts.{StatesRight, StatesWrong, ControllerRight, ControllerWrong, IsFaultBy}
+use Rattle.command_files.specs.Texts.{FacesRight, FacesWrong, RangeRight, RangeWrong, CutsRight, CutsWrong, CellPoliciesRight, CellPoliciesWrong, CellsRight, CellsWrong, ShiftsRight, ShiftsWrong}
 use Rattle.command_files.specs.Reading.{ReadsStates}
 use Rattle.command_generate.specs.Made.{MakingCalls}
 use Rattle.command_generate.specs.Generate.{GenerateCalls}

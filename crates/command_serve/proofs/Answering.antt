@@ -9,10 +9,10 @@ use Rattle.command_line.specs.Limit.{cells_limit}
 use Rattle.command_line.specs.Answers.{ForContents, IsCaused}
 use Rattle.command_line.specs.declared.status.Status.{Status}
 use Rattle.command_line.specs.declared.status.Status.TheVariants.{Done, WriteFault}
-use Rattle.command_box_files.specs.Texts.{CellsRight, CellsWrong}
+use Rattle.command_files.specs.Texts.{CellsRight, CellsWrong}
 use Rattle.command_files.specs.Reading.{AreStatesRead}
-use Rattle.command_box_files.specs.Reading.{AreCellsRead}
-use Rattle.command_box_files.proofs.Stopping.{cells_refused}
+use Rattle.command_files.specs.Reading.{AreCellsRead}
+use Rattle.command_files.proofs.Stopping.{cells_refused}
 use Rattle.command_files.proofs.TwoFiles.{TwoFiles, unprinted, both_contents, both_print, both_cut}
 use Rattle.command_serve.specs.Served.{cell_states, AreServed}
 use Rattle.command_serve.specs.Unserved.{ServedCall}

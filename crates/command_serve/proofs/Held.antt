@@ -14,7 +14,7 @@ use Rattle.command_line.specs.Answers.{Contents, ForContents, FileHolds, AreTold
 use Rattle.command_line.specs.declared.status.Status.{Status}
 use Rattle.command_line.specs.declared.status.Status.TheVariants.{Done, Memory, WriteFault}
 use Rattle.command_files.specs.Texts.{StatesRight}
-use Rattle.command_box_files.specs.Texts.{CellsRight}
+use Rattle.command_files.specs.Texts.{CellsRight}
 use Rattle.command_serve.specs.Served.{cell_states}
 use Rattle.command_serve.specs.Serve.{ServeCalls, ServePrints, HoldsServed, PrintsServed}
 use Rattle.command_serve.specs.Printing.{AddsAllLines, AddsPartOfLines, AddsSomeLines, AreServedPrinted}

@@ -7,9 +7,9 @@ use Rattle.command_line.specs.Answers.{Contents, FileHolds}
 use Rattle.command_line.specs.declared.status.Status.{Status}
 use Rattle.command_line.specs.declared.status.Status.TheVariants.{Done, Memory, WriteFault}
 use Rattle.command_files.specs.Texts.{StatesRight}
-use Rattle.command_box_files.specs.Texts.{CellsRight}
+use Rattle.command_files.specs.Texts.{CellsRight}
 use Rattle.command_files.specs.Reading.{ReadsStates}
-use Rattle.command_box_files.specs.Reading.{ReadsCells}
+use Rattle.command_files.specs.Reading.{ReadsCells}
 use Rattle.command_serve.specs.Served.{cell_states, AreServed}
 use Rattle.command_serve.specs.Unserved.{ServedCall}
 use Rattle.command_serve.specs.Printing.{AddsAllLines, AddsPartOfLines, AddsSomeLines}

@@ -11,11 +11,11 @@ use Rattle.command_line.specs.Limit.{file_limit}
 use Rattle.command_line.specs.Answers.{Contents, FileHolds, IsFileRefused, IsAnswer}
 use Rattle.command_line.proofs.Composing.{told_at, told, for_contents, some_contents, stop, go_on, go_on_whole}
 use Rattle.command_line.specs.declared.status.Status.{Status}
-use Rattle.command_files.specs.Texts.{DesignRight, DesignWrong}
-use Rattle.command_box_files.specs.Texts.{CutsRight, CutsWrong, CellPoliciesRight, CellPoliciesWrong}
-use Rattle.command_files.specs.Reading.{IsDesignRead, EndsDesign}
-use Rattle.command_box_files.specs.Reading.{ReadsCuts, ReadsCellPolicies, AreCutListsRead, EndsCuts, AreCellPoliciesRead, EndsCellPolicies}
-use Rattle.command_files.proofs.Designs.{same_design}
+use Rattle.command_design_files.specs.Texts.{DesignRight, DesignWrong}
+use Rattle.command_files.specs.Texts.{CutsRight, CutsWrong, CellPoliciesRight, CellPoliciesWrong}
+use Rattle.command_design_files.specs.Reading.{IsDesignRead, EndsDesign}
+use Rattle.command_files.specs.Reading.{ReadsCuts, ReadsCellPolicies, AreCutListsRead, EndsCuts, AreCellPoliciesRead, EndsCellPolicies}
+use Rattle.command_design_files.proofs.Designs.{same_design}
 use Rattle.command_split.specs.Cells.{CellsCall}
 use Rattle.command_split.specs.Split.{SplitCalls, SplitReaches, HoldsCutDesign}
 use Rattle.command_split.specs.Reading.{split_calls, split_reaches, CellsRefuse, AreSplitRead, IsSplitAnswer, EndsSplit}

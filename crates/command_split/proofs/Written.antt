@@ -6,8 +6,8 @@ use Rattle.command_line.specs.Words.{word_of, IsSplit}
 use Rattle.command_line.specs.Limit.{file_limit}
 use Rattle.command_line.specs.Answers.{FileHolds}
 use Rattle.cell_split.specs.Cells.{cell_count}
-use Rattle.command_files.specs.Texts.{DesignRight}
-use Rattle.command_box_files.specs.Texts.{CutsRight, CellPoliciesRight}
+use Rattle.command_design_files.specs.Texts.{DesignRight}
+use Rattle.command_files.specs.Texts.{CutsRight, CellPoliciesRight}
 use Rattle.command_generate.specs.Writing.{AreWritten, IsSecondCut}
 use Rattle.command_generate.proofs.TwoTexts.{MakesTwo, KeptOrFront, first_stands, kept_or_front}
 use Rattle.command_split.specs.Split.{AreSplitOfFiles, IsSplitWritten, IsCellsCut, IsCellsReportCut}

@@ -13,8 +13,8 @@ use Rattle.command_line.specs.Words.{word_of}
 use Rattle.command_line.specs.Answers.{Contents, ForContents, IsAnswer}
 use Rattle.command_line.specs.declared.status.Status.{Status}
 use Rattle.command_line.specs.declared.status.Status.TheVariants.{Done, Memory}
-use Rattle.command_files.specs.Reading.{IsDesignRead}
-use Rattle.command_box_files.specs.Reading.{AreCutListsRead, AreCellPoliciesRead}
+use Rattle.command_design_files.specs.Reading.{IsDesignRead}
+use Rattle.command_files.specs.Reading.{AreCutListsRead, AreCellPoliciesRead}
 use Rattle.command_generate.specs.Ending.{IsFaultless, EndsUnwritten}
 use Rattle.command_split.specs.Cells.{CellsCall}
 use Rattle.command_split.specs.Split.{SplitCalls, SplitReaches, report_texts}

@@ -14,10 +14,10 @@ use Rattle.cell_file.specs.Text.{IsCellsText}
 use Rattle.command_line.specs.Words.{word_of}
 use Rattle.command_line.specs.Limit.{file_limit}
 use Rattle.command_line.specs.Answers.{FileHolds}
-use Rattle.command_files.specs.Texts.{DesignRight}
-use Rattle.command_box_files.specs.Texts.{CutsRight, CellPoliciesRight}
-use Rattle.command_files.specs.Reading.{ReadsDesign}
-use Rattle.command_box_files.specs.Reading.{ReadsCuts, ReadsCellPolicies}
+use Rattle.command_design_files.specs.Texts.{DesignRight}
+use Rattle.command_files.specs.Texts.{CutsRight, CellPoliciesRight}
+use Rattle.command_design_files.specs.Reading.{ReadsDesign}
+use Rattle.command_files.specs.Reading.{ReadsCuts, ReadsCellPolicies}
 use Rattle.command_split.specs.Cells.{CellsCall, HaveCellBoxes, EachIsServed}
 use Rattle.command_line.specs.declared.status.Status.{Status}
 

@@ -4,14 +4,14 @@ ghost use Rattle.io_edge.specs.Faults.{NoneFalls};
 ghost use Rattle.qp_model.specs.problem.Parts.{design_of};
 ghost use Rattle.cell_split.specs.Cells.{AreCutsFor};
 ghost use Rattle.command_line.specs.Words.{word_of, IsSplit};
-ghost use Rattle.command_files.specs.Reading.{IsDesignRead};
-ghost use Rattle.command_box_files.specs.Reading.{AreCutListsRead};
+ghost use Rattle.command_design_files.specs.Reading.{IsDesignRead};
+ghost use Rattle.command_files.specs.Reading.{AreCutListsRead};
 ghost use Rattle.command_split.specs.Reading.{AreSplitTexts, EndsSplit};
 
 use crate::cells::texts_of;
 use cell_split::Cuts;
-use command_box_files::{read_cell_policies_file, read_cuts_file};
-use command_files::read_design_file;
+use command_files::{read_cell_policies_file, read_cuts_file};
+use command_design_files::read_design_file;
 use command_generate::Texts;
 use command_line::Status;
 use io_edge::{Store, Words};

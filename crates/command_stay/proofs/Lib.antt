@@ -4,5 +4,5 @@ pub mod Calling
 pub mod Opening
 pub mod Written
 -- the same of the proofs
-pub use Rattle.command_files.proofs as Files
+pub use Rattle.command_design_files.proofs as DesignFiles
 pub use Rattle.command_generate.proofs as Generating

@@ -14,11 +14,11 @@ use Rattle.command_line.specs.Limit.{file_limit}
 use Rattle.command_line.specs.Answers.{Contents, IsTold, ForContents, FileHolds, IsFileRefused, IsAnswer}
 use Rattle.command_line.proofs.Composing.{told_at, told, told_contents, all_told, replace, replaced_told, some_contents, stop, go_on, go_on_whole}
 use Rattle.command_line.specs.declared.status.Status.{Status}
-use Rattle.command_files.specs.Texts.{DesignRight, DesignWrong, PolicyRight, PolicyWrong}
-use Rattle.command_box_files.specs.Texts.{FacesRight, FacesWrong, RangeRight, RangeWrong}
-use Rattle.command_files.specs.Reading.{ReadsPolicy, IsDesignRead, EndsDesign, IsPolicyRead, EndsPolicy}
-use Rattle.command_box_files.specs.Reading.{ReadsFaces, AreFacesRead, EndsFaces}
-use Rattle.command_files.proofs.Designs.{same_design}
+use Rattle.command_design_files.specs.Texts.{DesignRight, DesignWrong, PolicyRight, PolicyWrong}
+use Rattle.command_files.specs.Texts.{FacesRight, FacesWrong, RangeRight, RangeWrong}
+use Rattle.command_design_files.specs.Reading.{ReadsPolicy, IsDesignRead, EndsDesign, IsPolicyRead, EndsPolicy}
+use Rattle.command_files.specs.Reading.{ReadsFaces, AreFacesRead, EndsFaces}
+use Rattle.command_design_files.proofs.Designs.{same_design}
 use Rattle.command_generate.proofs.SameDesign.{along}
 use Rattle.command_generate.specs.Generate.{HoldsInputs}
 use Rattle.command_generate.specs.Inputs.{AreInputsRead, EndsInputs}

@@ -21,7 +21,7 @@ use Rattle.command_generate.specs.Engine.Bounds.{printed_multiplier, stated_cost
 use Rattle.command_line.specs.Words.{word_of, IsStay}
 use Rattle.command_line.specs.Limit.{file_limit}
 use Rattle.command_line.specs.Answers.{FileHolds}
-use Rattle.command_box_files.specs.Texts.{RangeRight}
+use Rattle.command_files.specs.Texts.{RangeRight}
 use Rattle.command_generate.specs.Made.{IsMadeOf}
 use Rattle.command_generate.specs.Generate.{HoldsInputs, IsControllerCut, IsReportCut}
 use Rattle.command_generate.specs.Writing.{AreWritten, IsSecondCut}

@@ -23,10 +23,10 @@ use Rattle.command_line.specs.Answers.{FileHolds}
 use Rattle.command_line.specs.declared.status.Status.{Status}
 use Rattle.command_line.specs.declared.status.Status.TheVariants.{Done, Refused, Unequal, NoStay}
 use Rattle.design_refusal.specs.declared.refusal.Refusal.TheVariants.{TooWide}
-use Rattle.command_files.specs.Texts.{DesignRight}
-use Rattle.command_box_files.specs.Texts.{FacesRight, RangeRight}
-use Rattle.command_files.specs.Reading.{ReadsDesign, ReadsPolicy}
-use Rattle.command_box_files.specs.Reading.{ReadsFaces, ReadsRange}
+use Rattle.command_design_files.specs.Texts.{DesignRight}
+use Rattle.command_files.specs.Texts.{FacesRight, RangeRight}
+use Rattle.command_design_files.specs.Reading.{ReadsDesign, ReadsPolicy}
+use Rattle.command_files.specs.Reading.{ReadsFaces, ReadsRange}
 use Rattle.command_generate.specs.Made.{IsRefusedBy}
 use Rattle.command_generate.specs.Generate.{HoldsInputs, IsGenerated}
 use Rattle.command_stay.specs.Excess.{AreStatedExcesses}

@@ -4,11 +4,11 @@ ghost use Rattle.io_edge.specs.Faults.{NoneFalls};
 ghost use Rattle.qp_model.specs.problem.Parts.{design_of};
 ghost use Rattle.stay_check.specs.FaceForms.{faces_of, AreFacesFor};
 ghost use Rattle.command_line.specs.Words.{word_of};
-ghost use Rattle.command_box_files.specs.Reading.{AreFacesRead};
+ghost use Rattle.command_files.specs.Reading.{AreFacesRead};
 ghost use Rattle.shift_file.specs.RangeText.{IsShiftRange};
 ghost use Rattle.command_stay.specs.Reading.{IsRangeTaken, EndsTaking, EndsFacesUnder};
 
-use command_box_files::{read_faces_file, read_range_file};
+use command_files::{read_faces_file, read_range_file};
 use command_line::Status;
 use io_edge::{Store, Words};
 use mat_int::Mat;

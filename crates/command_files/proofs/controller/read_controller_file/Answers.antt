@@ -5,7 +5,7 @@ use Rattle.command_line.specs.Limit.{file_limit}
 use Rattle.command_line.proofs.Results.{err_same}
 use Rattle.command_line.specs.declared.status.Status.TheVariants.{Controller}
 use Rattle.command_files.specs.Texts.{ControllerRight, ControllerWrong, IsControllerFault}
-use Rattle.command_files.proofs.Readers.{ends_unread, ends_fault, right_text, SaysController, controller_said}
+use Rattle.command_design_files.proofs.Readers.{ends_unread, ends_fault, right_text, SaysController, controller_said}
 use Rattle.command_files.proofs.Controllers.{controller_fault, one_fault, no_fault}
 use Rattle.command_files.proofs.controller.read_controller_file.Goals as goal
 

@@ -5,7 +5,7 @@ use Rattle.command_line.specs.Limit.{file_limit}
 use Rattle.command_line.proofs.Results.{err_same}
 use Rattle.command_line.specs.declared.status.Status.TheVariants.{Text}
 use Rattle.command_files.specs.Texts.{StatesRight, StatesWrong}
-use Rattle.command_files.proofs.Readers.{ends_unread, ends_fault, right_text, SaysText, text_said}
+use Rattle.command_design_files.proofs.Readers.{ends_unread, ends_fault, right_text, SaysText, text_said}
 use Rattle.command_files.proofs.states.read_states_file.Goals as goal
 
 pub returns-in_err-bytes-clause-ends : goal.returns-in_err-bytes-clause-ends

@@ -3,7 +3,7 @@ use Rattle.qp_model.specs.problem.Parts.{design_of}
 use Rattle.command_line.specs.Limit.{file_limit}
 use Rattle.command_line.specs.Words.{word_of}
 use Rattle.command_line.proofs.Results.{err_same}
-use Rattle.command_files.specs.Texts.{PolicyRight, PolicyWrong}
+use Rattle.command_design_files.specs.Texts.{PolicyRight, PolicyWrong}
 use Rattle.command_generate.specs.Inputs.{EndsInputs}
 use Rattle.command_generate.proofs.Ends.{reading_later}
 use Rattle.command_generate.proofs.inputs.read_inputs.Goals as goal

@@ -2,7 +2,7 @@ use Rattle.std.proofs.Common.{Err, sym, ap}
 use Rattle.mac_listing.specs.declared.bad_listing.BadListing.TheVariants.{Line, Memory as no_listing}
 use Rattle.command_line.specs.Limit.{file_limit}
 use Rattle.command_line.proofs.Results.{err_same}
-use Rattle.command_files.proofs.Readers.{ends_unread, right_bytes, ok_never}
+use Rattle.command_design_files.proofs.Readers.{ends_unread, right_bytes, ok_never}
 use Rattle.command_play.specs.Texts.{ListingRight, ListingWrong}
 use Rattle.command_play.proofs.Listings.{ends_line}
 use Rattle.command_play.proofs.listing.read_listing_file.Goals as goal

@@ -1,2 +1,0 @@
--- a command that a file of cells ends
-pub mod Stopping
