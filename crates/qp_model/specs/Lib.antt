@@ -3,3 +3,4 @@ pub mod form
 pub mod bounds
 pub mod machine
 pub mod text
+pub mod refusal

@@ -1,9 +1,9 @@
 ghost use Rattle.std.specs.Prelude.{◌≡◌};
-ghost use Rattle.design_refusal.specs.declared.size_fault.SizeFault.TheVariants.{Memory as out_of_memory};
-ghost use Rattle.design_refusal.specs.Refusing.{of_size};
+ghost use Rattle.qp_model.specs.declared.size_fault.SizeFault.TheVariants.{Memory as out_of_memory};
+ghost use Rattle.qp_model.specs.refusal.Refusing.{of_size};
 
+use crate::quantity::Quantity;
 use crate::refusal::Refusal;
-use qp_model::Quantity;
 use std::alloc::{AllocError, AllocFailed};
 use thiserror::Error;
 

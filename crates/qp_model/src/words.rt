@@ -2,11 +2,11 @@
 ghost use Rattle.std.specs.Prelude.{◌≡◌, IfOk, string_bytes, codes, [], ◌∷◌};
 ghost use Rattle.std.specs.List.{join_with_byte};
 ghost use Rattle.std.specs.Fmt.{decimal, signed_decimal};
-ghost use Rattle.design_refusal.specs.Words.{quantity_name, refusal_words};
+ghost use Rattle.qp_model.specs.refusal.Words.{quantity_name, refusal_words};
 
+use crate::quantity::Quantity;
 use crate::refusal::Refusal;
 use frac_scaled::Frac;
-use qp_model::Quantity;
 use std::alloc::{AllocError, Global};
 
 // The name of a quantity.

@@ -1,8 +1,8 @@
 ghost use Rattle.std.specs.Prelude.{◌≡◌};
-ghost use Rattle.design_refusal.specs.declared.refusal.Refusal.TheVariants.{Memory as no_memory, TooWide as too_wide};
+ghost use Rattle.qp_model.specs.declared.refusal.Refusal.TheVariants.{Memory as no_memory, TooWide as too_wide};
 
+use crate::quantity::{Quantity, Wide};
 use frac_scaled::Frac;
-use qp_model::{Quantity, Wide};
 use std::alloc::AllocError;
 use thiserror::Error;
 
