@@ -1,3 +1,4 @@
+pub mod method
 pub mod problem
 pub mod form
 pub mod bounds

@@ -1,5 +1,5 @@
 //! The design, the controller and the machine: their types, what makes them right, and the words in which every promise is made;
-//! and why a design with a policy has no controller, and the words that say so.
+//! the laws of an inexact projected dual gradient method; and why a design with a policy has no controller, and the words that say so.
 #![tactic(auto)]
 
 mod bounds;
@@ -9,6 +9,7 @@ mod design;
 mod design_parts;
 mod laws;
 mod limits;
+pub mod method;
 mod part_rules;
 mod policy;
 mod quantity;
